@@ -9,12 +9,8 @@ empty_of-length : (xs : List ℕ) → length xs ≡ 0 → xs ≡ []
 empty_of-length [] h = refl
 empty_of-length (x ∷ xs) h = absurd (omega arith)
 
--- a front that is as long as the whole is the whole
-pub front_as_long : (a b : List ℕ) → length a ≡ length b → IsFront a b → a ≡ b
-front_as_long a b long front =
-    let none : length front.0 ≡ 0 = omega (arith, length-append a front.0, ap length front.1) in
-    sym (append-nil a) ∙ ap (λ rest. a ++ rest) (sym (empty_of-length front.0 none)) ∙ front.1
-
--- of texts of one length none is a proper front of another
+-- of two texts of n bytes none is a proper front of the other
 pub front_of_length : (n : ℕ) (a b : List ℕ) → length a ≡ n → length b ≡ n → IsFront a b → a ≡ b
-front_of_length n a b a_long b_long front = front_as_long a b (a_long ∙ sym b_long) front
+front_of_length n a b a_long b_long front =
+    let none : length front.0 ≡ 0 = omega (arith, length-append a front.0, ap length front.1) in
+    sym (front.1 ∙ ap (λ rest. a ++ rest) (empty_of-length front.0 none) ∙ append-nil a)

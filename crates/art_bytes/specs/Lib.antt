@@ -1,2 +1,4 @@
 pub mod Laws
+pub mod SliceKey
+pub mod StrKey
 pub mod Text

@@ -14,7 +14,7 @@ IsText a = All IsByte a
 
 -- b begins with a, equality included
 abbrev pub IsFront : List ℕ → List ℕ → Type 0
-IsFront a b = (rest : List ℕ) × (a ++ rest ≡ b)
+IsFront a b = (rest : List ℕ) × (b ≡ a ++ rest)
 
 -- the first byte that differs decides, and else a proper front is less
 abbrev pub text_order : List ℕ → List ℕ → Ordering

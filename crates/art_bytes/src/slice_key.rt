@@ -1,0 +1,45 @@
+ghost use Rattle.std.specs.Prelude.{◌≡◌, refl, ⊤};
+
+use crate::bytes::{AsBytes, OrderedBytes};
+
+/// A key that borrows bytes, in place of `[u8]`, which is no type of a value.
+///
+/// Two keys are equal, ordered and hashed by their texts alone.
+#[derive(Clone, Copy, PartialEq, Eq, PartialOrd, Ord, Hash)]
+pub struct SliceKey<'a> {
+    bytes: &'a [u8],
+}
+
+impl<'a> SliceKey<'a> {
+    ghost use Rattle.art_bytes.specs.SliceKey.{slice_key_text};
+
+    /// The key whose text is `bytes`.
+    pub fn new(bytes: &'a [u8]) -> SliceKey<'a>
+        ensures { slice_key_text result ≡ bytes.now }
+    {
+        SliceKey { bytes }
+    }
+
+    /// The bytes that the key was made of.
+    pub fn get(self) -> &'a [u8]
+        ensures { result.now ≡ slice_key_text self.entry }
+    {
+        self.bytes
+    }
+}
+
+impl<'a> AsBytes for SliceKey<'a> {
+    ghost use Rattle.art_bytes.specs.SliceKey.{slice_key_text};
+
+    ghost text = { slice_key_text };
+
+    ghost is_key = { λ _. ⊤ };
+
+    fn as_bytes(&self) -> &[u8] {
+        self.bytes
+    }
+}
+
+impl<'a> OrderedBytes for SliceKey<'a> {
+    ghost ordered = { λ a b _ _. refl };
+}

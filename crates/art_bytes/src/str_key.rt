@@ -1,0 +1,45 @@
+ghost use Rattle.std.specs.Prelude.{◌≡◌, refl, ⊤};
+
+use crate::bytes::{AsBytes, OrderedBytes};
+
+/// A key that borrows a string, in place of `str`, which is no type of a value.
+///
+/// Two keys are equal, ordered and hashed by their texts alone.
+#[derive(Clone, Copy, PartialEq, Eq, PartialOrd, Ord, Hash)]
+pub struct StrKey<'a> {
+    string: &'a str,
+}
+
+impl<'a> StrKey<'a> {
+    ghost use Rattle.art_bytes.specs.StrKey.{str_key_text};
+
+    /// The key whose text is the UTF-8 of `string`.
+    pub fn new(string: &'a str) -> StrKey<'a>
+        ensures { str_key_text result ≡ string.now }
+    {
+        StrKey { string }
+    }
+
+    /// The string that the key was made of.
+    pub fn get(self) -> &'a str
+        ensures { result.now ≡ str_key_text self.entry }
+    {
+        self.string
+    }
+}
+
+impl<'a> AsBytes for StrKey<'a> {
+    ghost use Rattle.art_bytes.specs.StrKey.{str_key_text};
+
+    ghost text = { str_key_text };
+
+    ghost is_key = { λ _. ⊤ };
+
+    fn as_bytes(&self) -> &[u8] {
+        self.string.as_bytes()
+    }
+}
+
+impl<'a> OrderedBytes for StrKey<'a> {
+    ghost ordered = { λ a b _ _. refl };
+}
