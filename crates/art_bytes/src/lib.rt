@@ -8,6 +8,8 @@
 mod bytes;
 mod slice_key;
 mod str_key;
+#[cfg(test)]
+mod tests;
 mod wrappers;
 
 pub use bytes::{AsBytes, NoPrefixesBytes, OrderedBytes};

@@ -1,6 +1,5 @@
-use std::rc::Rc;
-
 use crate::bytes::{AsBytes, NoPrefixesBytes, OrderedBytes};
+use std::rc::Rc;
 
 /// A reference to a key is a key with that key's text.
 impl<T: AsBytes> AsBytes for &T {

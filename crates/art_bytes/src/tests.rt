@@ -1,0 +1,160 @@
+// Each kind of key, as the layers above use it: through its bounds alone.
+ghost use Rattle.std.specs.Prelude.{◌≡◌, ◌↔◌, IsTrue};
+
+use crate::{AsBytes, NoPrefixesBytes, OrderedBytes, SliceKey, StrKey};
+use std::cmp::Ordering;
+use std::hash::{DefaultHasher, Hash, Hasher};
+use std::process::Abort;
+use std::rc::Rc;
+use std::test::Fail;
+
+const HELLO: &[u8] = b"hello world";
+
+fn text_of<K: AsBytes>(key: &K) -> &[u8]
+    ensures { result.now ≡ K.text key.now }
+{
+    key.as_bytes()
+}
+
+// Keys sort as their texts do.
+fn order_of_texts<K: OrderedBytes>(a: &K, b: &K) -> Ordering
+    ensures { result ≡ K.cmp a.now b.now }
+{
+    a.as_bytes().cmp(b.as_bytes())
+}
+
+// No key's text begins another's, so one test tells whether they are the same.
+fn has_front<K: NoPrefixesBytes>(key: &K, front: &K) -> bool
+    ensures { IsTrue result ↔ (K.text key.now ≡ K.text front.now) }
+{
+    key.as_bytes().starts_with(front.as_bytes())
+}
+
+fn hash_of<K: Hash>(key: &K) -> u64 {
+    let mut hasher = DefaultHasher::new();
+    key.hash(&mut hasher);
+    hasher.finish()
+}
+
+// What a key is made of is what it gives back.
+fn string_through_a_key(string: &str) -> &str
+    ensures { result.now ≡ string.now }
+{
+    StrKey::new(string).get()
+}
+
+fn bytes_through_a_key(bytes: &[u8]) -> &[u8]
+    ensures { result.now ≡ bytes.now }
+{
+    SliceKey::new(bytes).get()
+}
+
+// The keys ascend strictly: each two compare as their places do, by themselves and by their texts.
+fn check_ascending<K: OrderedBytes>(rt: &impl Abort, keys: &[K]) {
+    for (i, a) in keys.iter().enumerate() {
+        for (j, b) in keys.iter().enumerate() {
+            assert_eq!(rt; a.cmp(b), i.cmp(&j), "keys {i} and {j}");
+            assert_eq!(rt; order_of_texts(a, b), i.cmp(&j), "texts {i} and {j}");
+            assert_eq!(rt; a == b, i == j, "keys {i} and {j}");
+        }
+    }
+}
+
+// The keys are all different.
+fn check_no_fronts<K: NoPrefixesBytes>(rt: &impl Abort, keys: &[K]) {
+    for (i, a) in keys.iter().enumerate() {
+        for (j, b) in keys.iter().enumerate() {
+            assert_eq!(rt; has_front(a, b), i == j, "keys {i} and {j}");
+        }
+    }
+}
+
+#[test]
+fn various_string_types_as_bytes(rt: HostRuntime) -> Result<(), Fail> {
+    let string = String::from_str(rt.alloc(), "hello world")?;
+    assert_eq!(rt; text_of(&string), HELLO);
+    assert_eq!(rt; text_of(&StrKey::new("hello world")), HELLO);
+    assert_eq!(rt; string_through_a_key("hello world"), "hello world");
+    Ok(())
+}
+
+#[test]
+fn various_wrapper_types_as_bytes(rt: HostRuntime) -> Result<(), Fail> {
+    let slice = SliceKey::new(HELLO);
+    assert_eq!(rt; text_of(&slice), HELLO);
+    assert_eq!(rt; text_of(&&slice), HELLO);
+    assert_eq!(rt; text_of(&Box::new(rt.alloc(), slice)?), HELLO);
+    assert_eq!(rt; text_of(&Rc::new(rt.alloc(), slice)?), HELLO);
+    assert_eq!(rt; bytes_through_a_key(HELLO), HELLO);
+
+    assert_eq!(rt; text_of(b"hello world"), HELLO);
+    assert_eq!(rt; text_of(&HELLO.to_vec(rt.alloc())?), HELLO);
+    Ok(())
+}
+
+#[test]
+fn a_proper_front_is_less_and_else_the_first_byte_that_differs_decides(
+    rt: HostRuntime,
+) -> Result<(), Fail> {
+    let alloc = rt.alloc();
+
+    let strings = ["", "a", "ab", "b", "ba", "\u{7f}", "\u{80}"];
+    check_ascending(&rt, &strings.map(StrKey::new));
+    let mut owned = Vec::new(alloc);
+    for string in strings {
+        owned.push(String::from_str(alloc, string)?)?;
+    }
+    check_ascending(&rt, &owned);
+
+    let slices: [&[u8]; 7] = [&[], &[0], &[0, 0], &[0, 255], &[1], &[127], &[128]];
+    check_ascending(&rt, &slices.map(SliceKey::new));
+    let mut owned = Vec::new(alloc);
+    for slice in slices {
+        owned.push(slice.to_vec(alloc)?)?;
+    }
+    check_ascending(&rt, &owned);
+    Ok(())
+}
+
+#[test]
+fn arrays_of_one_length_ascend_and_none_begins_another(rt: HostRuntime) {
+    let pairs = [[0, 0], [0, 255], [1, 0], [127, 1], [128, 0]];
+    check_ascending(&rt, &pairs);
+    check_no_fronts(&rt, &pairs);
+    check_no_fronts(&rt, &[[0; 0]]);
+}
+
+#[test]
+fn wrapped_keys_compare_as_the_keys(rt: HostRuntime) -> Result<(), Fail> {
+    let alloc = rt.alloc();
+    let (low, high) = ([7, 200], [8, 0]);
+
+    let borrowed = [&low, &high];
+    check_ascending(&rt, &borrowed);
+    check_no_fronts(&rt, &borrowed);
+    let boxed = [Box::new(alloc, low)?, Box::new(alloc, high)?];
+    check_ascending(&rt, &boxed);
+    check_no_fronts(&rt, &boxed);
+    let counted = [Rc::new(alloc, low)?, Rc::new(alloc, high)?];
+    check_ascending(&rt, &counted);
+    check_no_fronts(&rt, &counted);
+    Ok(())
+}
+
+// As Rust's derives on a struct of one field: the hash is that of the string, or of the bytes.
+#[test]
+fn borrowed_keys_hash_as_what_they_borrow(rt: HostRuntime) {
+    assert_eq!(rt;
+        hash_of(&StrKey::new("hello world")),
+        hash_of(&"hello world")
+    );
+    assert_eq!(rt; hash_of(&SliceKey::new(HELLO)), hash_of(&HELLO));
+    assert_ne!(rt;
+        hash_of(&StrKey::new("hello world")),
+        hash_of(&StrKey::new("hello"))
+    );
+    assert_ne!(rt;
+        hash_of(&SliceKey::new(HELLO)),
+        hash_of(&SliceKey::new(b"hello"))
+    );
+}
