@@ -3,30 +3,34 @@ ghost use Rattle.std.specs.String.{string_bytes};
 ghost use Rattle.art_bytes.specs.Laws.{front_of_length};
 ghost use Rattle.art_bytes.specs.Text.{IsFront, text_order};
 
-/// A type whose values are seen as bytes, as the key of an adaptive radix tree is.
+/// A type whose values can be seen as bytes, as the keys of an adaptive radix tree are.
 pub trait AsBytes {
-    /// The text of a key, its bytes.
+    /// The text of a key: its bytes, in order.
     ghost text: { Self → List ℕ };
 
-    /// Which values are keys, so that the laws need to speak of no others.
+    /// Which values are keys. The laws of keys speak of these alone.
     ghost is_key: { Self → Type 0 };
 
-    /// Shows the text of the key. Takes no memory.
+    /// The bytes of the key. Takes no memory.
     fn as_bytes(&self) -> &[u8]
         ensures text { result.now ≡ text self.now }
         ensures key { is_key self.now };
 }
 
-/// A type of keys of which none is a proper front of another: where one key's text begins another's, the two
-/// texts are equal. All keys of such a type can stand in one adaptive radix tree.
+/// A type of keys of which none is a proper front of another, so that all of them fit into one adaptive radix
+/// tree.
 pub trait NoPrefixesBytes: AsBytes {
-    ghost no_prefixes: { (a b : Self) → Self.is_key a → Self.is_key b → IsFront (Self.text a) (Self.text b) → Self.text a ≡ Self.text b };
+    /// Where the text of one key begins that of another, the two texts are equal.
+    ghost no_prefixes: { (a b : Self) → Self.is_key a → Self.is_key b →
+        IsFront (Self.text a) (Self.text b) → Self.text a ≡ Self.text b };
 }
 
-/// A type of keys whose order is that of their texts: the first byte that differs decides, and else a proper
-/// front is less.
+/// A type of keys that are binary-comparable, as Leis, Kemper and Neumann call it (2013): a tree over their bytes
+/// keeps them in their order.
 pub trait OrderedBytes: AsBytes + Ord {
-    ghost ordered: { (a b : Self) → Self.is_key a → Self.is_key b → Self.cmp a b ≡ text_order (Self.text a) (Self.text b) };
+    /// The order of the keys is the order of their texts.
+    ghost ordered: { (a b : Self) → Self.is_key a → Self.is_key b →
+        Self.cmp a b ≡ text_order (Self.text a) (Self.text b) };
 }
 
 /// The text of a string is its UTF-8.

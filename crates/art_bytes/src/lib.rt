@@ -1,8 +1,8 @@
-//! Keys as bytes, for an adaptive radix tree.
+//! Keys as bytes: what an adaptive radix tree asks of its keys, after the crate `blart`.
 //!
-//! A key is a value with a text, the bytes that `AsBytes` shows. `NoPrefixesBytes` and `OrderedBytes` are
-//! laws of a type of keys, proved by each impl: no key's text is a proper front of another's, and `Ord` is the
-//! order of the texts.
+//! A key has a text, the bytes that `AsBytes::as_bytes` shows. Two traits are laws of a type of keys, and each of
+//! their impls is a proof: under `NoPrefixesBytes` no key's text is a proper front of another's, and under
+//! `OrderedBytes` the order of the keys is that of their texts.
 #![tactic(auto)]
 
 mod bytes;

@@ -2,9 +2,7 @@ ghost use Rattle.std.specs.Prelude.{◌≡◌, refl, ⊤};
 
 use crate::bytes::{AsBytes, OrderedBytes};
 
-/// A key that borrows bytes, in place of `[u8]`, which is no type of a value.
-///
-/// Two keys are equal, ordered and hashed by their texts alone.
+/// Borrowed bytes as a key, where blart takes `[u8]`. Keys are equal, ordered and hashed by their texts.
 #[derive(Clone, Copy, PartialEq, Eq, PartialOrd, Ord, Hash)]
 pub struct SliceKey<'a> {
     bytes: &'a [u8],
@@ -36,7 +34,7 @@ impl<'a> AsBytes for SliceKey<'a> {
     ghost is_key = { λ _. ⊤ };
 
     fn as_bytes(&self) -> &[u8] {
-        self.bytes
+        self.get()
     }
 }
 

@@ -2,9 +2,7 @@ ghost use Rattle.std.specs.Prelude.{◌≡◌, refl, ⊤};
 
 use crate::bytes::{AsBytes, OrderedBytes};
 
-/// A key that borrows a string, in place of `str`, which is no type of a value.
-///
-/// Two keys are equal, ordered and hashed by their texts alone.
+/// A borrowed string as a key, where blart takes `str`. Keys are equal, ordered and hashed by their texts.
 #[derive(Clone, Copy, PartialEq, Eq, PartialOrd, Ord, Hash)]
 pub struct StrKey<'a> {
     string: &'a str,
@@ -36,7 +34,7 @@ impl<'a> AsBytes for StrKey<'a> {
     ghost is_key = { λ _. ⊤ };
 
     fn as_bytes(&self) -> &[u8] {
-        self.string.as_bytes()
+        self.get().as_bytes()
     }
 }
 
