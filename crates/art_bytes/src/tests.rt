@@ -1,5 +1,8 @@
 // Each kind of key, as the layers above use it: through its bounds alone.
-ghost use Rattle.std.specs.Prelude.{◌≡◌, ◌↔◌, IsTrue};
+ghost use Rattle.std.specs.Prelude.{◌≡◌, ◌↔◌, IsTrue, fold};
+ghost use Rattle.std.specs.Hash as fed;
+ghost use Rattle.art_bytes.specs.SliceKey.{slice_key_text};
+ghost use Rattle.art_bytes.specs.StrKey.{str_key_text};
 
 use crate::{AsBytes, NoPrefixesBytes, OrderedBytes, SliceKey, StrKey};
 use std::cmp::Ordering;
@@ -23,11 +26,31 @@ fn order_of_texts<K: OrderedBytes>(a: &K, b: &K) -> Ordering
     a.as_bytes().cmp(b.as_bytes())
 }
 
+// Keys are equal where their texts are.
+fn have_one_text<K: OrderedBytes>(a: &K, b: &K) -> bool
+    ensures { result ≡ K.eq a.now b.now }
+{
+    a.as_bytes() == b.as_bytes()
+}
+
 // No key's text begins another's, so one test tells whether they are the same.
 fn has_front<K: NoPrefixesBytes>(key: &K, front: &K) -> bool
     ensures { IsTrue result ↔ (K.text key.now ≡ K.text front.now) }
 {
     key.as_bytes().starts_with(front.as_bytes())
+}
+
+// A key feeds a hasher what its text does.
+fn feed_str_key<H: Hasher>(key: &StrKey, hasher: &mut H)
+    ensures { hasher.new ≡ fold H.write hasher.old (fed.str (str_key_text key.now)) }
+{
+    key.hash(hasher);
+}
+
+fn feed_slice_key<H: Hasher>(key: &SliceKey, hasher: &mut H)
+    ensures { hasher.new ≡ fold H.write hasher.old (fed.slice fed.u8 (slice_key_text key.now)) }
+{
+    key.hash(hasher);
 }
 
 fn hash_of<K: Hash>(key: &K) -> u64 {
@@ -55,7 +78,7 @@ fn check_ascending<K: OrderedBytes>(rt: &impl Abort, keys: &[K]) {
         for (j, b) in keys.iter().enumerate() {
             assert_eq!(rt; a.cmp(b), i.cmp(&j), "keys {i} and {j}");
             assert_eq!(rt; order_of_texts(a, b), i.cmp(&j), "texts {i} and {j}");
-            assert_eq!(rt; a == b, i == j, "keys {i} and {j}");
+            assert_eq!(rt; have_one_text(a, b), i == j, "texts {i} and {j}");
         }
     }
 }
@@ -144,17 +167,11 @@ fn wrapped_keys_compare_as_the_keys(rt: HostRuntime) -> Result<(), Fail> {
 // As Rust's derives on a struct of one field: the hash is that of the string, or of the bytes.
 #[test]
 fn borrowed_keys_hash_as_what_they_borrow(rt: HostRuntime) {
-    assert_eq!(rt;
-        hash_of(&StrKey::new("hello world")),
-        hash_of(&"hello world")
-    );
-    assert_eq!(rt; hash_of(&SliceKey::new(HELLO)), hash_of(&HELLO));
-    assert_ne!(rt;
-        hash_of(&StrKey::new("hello world")),
-        hash_of(&StrKey::new("hello"))
-    );
-    assert_ne!(rt;
-        hash_of(&SliceKey::new(HELLO)),
-        hash_of(&SliceKey::new(b"hello"))
-    );
+    let mut hasher = DefaultHasher::new();
+    feed_str_key(&StrKey::new("hello world"), &mut hasher);
+    assert_eq!(rt; hasher.finish(), hash_of(&"hello world"));
+
+    let mut hasher = DefaultHasher::new();
+    feed_slice_key(&SliceKey::new(HELLO), &mut hasher);
+    assert_eq!(rt; hasher.finish(), hash_of(&HELLO));
 }
