@@ -1,0 +1,27 @@
+-- What a header shows.
+use Rattle.std.specs.Prelude.{◌≡◌, ℕ, ◌<◌, ◌^◌, ◌&&◌, ◌==◌, List, length, min, take, Bool, nat_eq}
+use Rattle.std.specs.Cmp.{IsEquivalence, and_equiv, on_equiv, nat_eq_equiv}
+use Rattle.std.specs.Cmp.Lexicographic.{pointwise, nat_list_eq_equiv}
+
+-- a header: the count of children, the prefix's length in bytes, and the stored front of the prefix
+pub record Header : Type 0 where
+  pub count : ℕ
+  pub prefix_len : ℕ
+  pub stored : List ℕ
+
+-- how many bytes of a prefix of this length a header with that much room stores
+abbrev pub capped : ℕ → ℕ → ℕ
+capped room prefix_len = min prefix_len room
+
+-- a header of count 0 for a prefix of this length, of which these bytes are known
+abbrev pub empty_header : ℕ → List ℕ → ℕ → Header
+empty_header room prefix prefix_len = record { count = 0; prefix_len = prefix_len; stored = take (capped room prefix_len) prefix }
+
+-- two headers show the same count, the same length and the same stored front
+abbrev pub same_header : Header → Header → Bool
+same_header a b = (a.count == b.count) && ((a.prefix_len == b.prefix_len) && pointwise nat_eq a.stored b.stored)
+
+-- being shown the same is an equivalence
+pub same_header_equiv : IsEquivalence same_header
+same_header_equiv =
+    and_equiv (on_equiv (λ h. h.count) nat_eq_equiv) (and_equiv (on_equiv (λ h. h.prefix_len) nat_eq_equiv) (on_equiv (λ h. h.stored) nat_list_eq_equiv))

@@ -1,0 +1,150 @@
+//! The header that every inner node begins with.
+ghost use Rattle.std.specs.Prelude.{◌≡◌, ◌+◌, ◌-◌, ◌^◌, ◌<◌, ◌≤◌, length, min, take, Result};
+ghost use Rattle.std.specs.Cmp.{on_equiv, on_per};
+
+use std::alloc::AllocError;
+use std::marker::Model;
+
+/// The header of an inner node: how many children it has, how long its prefix is in bytes, and
+/// the first bytes of the prefix.
+///
+/// At most `PREFIX_LEN` bytes of the prefix are stored. The rest of a longer prefix is implicit:
+/// any leaf below the node has it in its key (the hybrid of the pessimistic and the optimistic
+/// path compression of Leis, Kemper and Neumann, 2013).
+#[derive(Drop)]
+pub struct Header<const PREFIX_LEN: usize> {
+    num_children: u16,
+    prefix_len: u32,
+    prefix: [u8; PREFIX_LEN],
+}
+
+impl<const PREFIX_LEN: usize> Model for Header<PREFIX_LEN> {
+    ghost use Rattle.std.specs.Prelude.{◌≡◌, ◌^◌, ◌<◌, length, take};
+    ghost use Rattle.art_header.specs.Header.{Header as Shown, capped};
+
+    ghost Value = { Shown };
+
+    ghost view = { λ h. record { count = h.num_children; prefix_len = h.prefix_len; stored = take (capped PREFIX_LEN h.prefix_len) h.prefix } };
+
+    ghost invariant = { λ h. (length h.prefix ≡ PREFIX_LEN) × (h.num_children < 2 ^ 16) × (h.prefix_len < 2 ^ 32) };
+}
+
+impl<const PREFIX_LEN: usize> Header<PREFIX_LEN> {
+    ghost use Rattle.art_header.specs.Header.{capped, empty_header};
+
+    /// A header with no children, for a prefix of `prefix_len` bytes that begins with `prefix`.
+    ///
+    /// `prefix` has to have the bytes that are stored, `min(prefix_len, PREFIX_LEN)` of them, and
+    /// may not be longer than `prefix_len`, which is below 2^32.
+    pub fn new(prefix: &[u8], prefix_len: usize) -> Self
+        requires has_stored_bytes { capped PREFIX_LEN prefix_len ≤ length prefix.now }
+        requires no_longer { length prefix.now ≤ prefix_len }
+        requires fits { prefix_len < 2 ^ 32 }
+        ensures { result ≡ empty_header PREFIX_LEN prefix.now prefix_len }
+    {
+        let capped_len = prefix_len.min(PREFIX_LEN);
+        let mut stored = [0; PREFIX_LEN];
+        stored[..capped_len].copy_from_slice(&prefix[..capped_len]);
+        Header {
+            num_children: 0,
+            prefix_len: prefix_len as u32,
+            prefix: stored,
+        }
+    }
+
+    /// The stored front of the prefix: its first `min(prefix_len, PREFIX_LEN)` bytes.
+    pub fn read_prefix(&self) -> &[u8]
+        ensures stored { result.now ≡ self.now.stored }
+        ensures capped { length result.now ≡ capped PREFIX_LEN self.now.prefix_len }
+    {
+        let bytes = &self.prefix[..];
+        &bytes[..self.capped_prefix_len()]
+    }
+
+    /// The length of the whole prefix in bytes, stored or not. It is below 2^32.
+    pub fn prefix_len(&self) -> usize
+        ensures value { result ≡ self.now.prefix_len }
+        ensures fits { result < 2 ^ 32 }
+    {
+        self.prefix_len as usize
+    }
+
+    /// How many bytes of the prefix are stored: `min(prefix_len, PREFIX_LEN)`.
+    pub fn capped_prefix_len(&self) -> usize
+        ensures value { result ≡ capped PREFIX_LEN self.now.prefix_len }
+        ensures stored { result ≡ length self.now.stored }
+    {
+        (self.prefix_len as usize).min(PREFIX_LEN)
+    }
+
+    /// The count of children. It is below 65536.
+    pub fn num_children(&self) -> usize
+        ensures value { result ≡ self.now.count }
+        ensures fits { result < 2 ^ 16 }
+    {
+        usize::from(self.num_children)
+    }
+
+    /// Counts one child more. The count has to be below 65535.
+    pub fn inc_num_children(&mut self)
+        requires { self.old.count < 65535 }
+        ensures { self.new ≡ record self.old { count = self.old.count + 1 } }
+    {
+        self.num_children += 1;
+    }
+
+    /// Counts one child less. The count has to be above 0.
+    pub fn dec_num_children(&mut self)
+        requires { 0 < self.old.count }
+        ensures { self.new ≡ record self.old { count = self.old.count - 1 } }
+    {
+        self.num_children -= 1;
+    }
+
+    /// Sets the count of children to 0.
+    pub fn reset_num_children(&mut self)
+        ensures { self.new ≡ record self.old { count = 0 } }
+    {
+        self.num_children = 0;
+    }
+}
+
+/// A copy that takes no memory, so it never fails.
+impl<const PREFIX_LEN: usize> Clone for Header<PREFIX_LEN> {
+    ghost use Rattle.std.specs.Prelude.{◌≡◌, ⊤};
+
+    ghost is_clone = { λ h copy. copy ≡ h };
+
+    ghost is_infallible = { λ _. ⊤ };
+
+    fn clone(&self) -> Result<Self, AllocError> {
+        Ok(Header {
+            num_children: self.num_children,
+            prefix_len: self.prefix_len,
+            prefix: self.prefix,
+        })
+    }
+}
+
+/// Two headers are equal where count, prefix length and stored front are. Bytes past the stored
+/// front have no part in it.
+impl<const PREFIX_LEN: usize> PartialEq for Header<PREFIX_LEN> {
+    ghost use Rattle.std.specs.Cmp.{partial_equiv_from_equiv};
+    ghost use Rattle.art_header.specs.Header.{same_header, same_header_equiv};
+
+    ghost eq = { same_header };
+
+    ghost laws = { partial_equiv_from_equiv same_header_equiv };
+
+    fn eq(&self, other: &Self) -> bool {
+        self.num_children == other.num_children
+            && self.prefix_len == other.prefix_len
+            && self.read_prefix() == other.read_prefix()
+    }
+}
+
+impl<const PREFIX_LEN: usize> Eq for Header<PREFIX_LEN> {
+    ghost use Rattle.art_header.specs.Header.{same_header_equiv};
+
+    ghost laws = { same_header_equiv };
+}

@@ -1,0 +1,58 @@
+//! The kinds of nodes.
+ghost use Rattle.std.specs.Prelude.{◌≡◌, ◌≢◌, ◌<◌, ◌↔◌, IsTrue};
+ghost use Rattle.std.specs.Range.{range_inclusive_start, range_inclusive_end, range_inclusive_exhausted};
+ghost use Rattle.art_header.specs.NodeType.{least_children, most_children};
+
+use std::ops::RangeInclusive;
+
+/// The kind of a node: an inner node by how many children it may hold, or a leaf.
+///
+/// The kinds are ordered as they are listed.
+#[derive(Clone, Copy, Debug, PartialEq, Eq, PartialOrd, Ord, Hash)]
+pub enum NodeType {
+    /// Holds 2 to 4 children.
+    Node4,
+    /// Holds 5 to 16 children.
+    Node16,
+    /// Holds 17 to 48 children.
+    Node48,
+    /// Holds 49 to 256 children.
+    Node256,
+    /// Holds a key and a value.
+    Leaf,
+}
+
+impl NodeType {
+    /// How many children a node of this kind holds in a tree, from least to most.
+    ///
+    /// A leaf holds none. The numbers are those of Leis, Kemper and Neumann, "The Adaptive Radix
+    /// Tree" (2013), with the least one above the most of the next smaller kind.
+    pub fn capacity_range(self) -> RangeInclusive<usize>
+        ensures start { range_inclusive_start result ≡ least_children self }
+        ensures end { range_inclusive_end result ≡ most_children self }
+        ensures fresh { ¬ (IsTrue (range_inclusive_exhausted result)) }
+    {
+        match self {
+            NodeType::Node4 => 2..=4,
+            NodeType::Node16 => 5..=16,
+            NodeType::Node48 => 17..=48,
+            NodeType::Node256 => 49..=256,
+            NodeType::Leaf => 0..=0,
+        }
+    }
+
+    /// Whether an inner node of this kind with `num_children` children is to become one of the
+    /// next smaller kind. There is none below `Node4`, so the answer there is false.
+    ///
+    /// A leaf has no such question: it is excluded.
+    pub fn should_shrink_inner_node(self, num_children: usize) -> bool
+        requires { self ≢ NodeType.Leaf }
+        ensures smallest { self ≡ NodeType.Node4 → ¬ (IsTrue result) }
+        ensures below_range { self ≢ NodeType.Node4 → (IsTrue result ↔ (num_children < least_children self)) }
+    {
+        match self {
+            NodeType::Node4 => false,
+            _ => num_children < *self.capacity_range().start(),
+        }
+    }
+}
