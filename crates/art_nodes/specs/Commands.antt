@@ -1,0 +1,62 @@
+-- Child commands as steps of a finite map.
+use Rattle.std.specs.Prelude.{◌+◌, ◌==◌, zero, suc, false, ◌≡◌, ℕ, ◌-◌, ◌<◌, ◌≤◌, ◌&&◌, ◌++◌, Bool, true, List, [], ◌∷◌, Option, Some, None, IsTrue, length, filter, nat_lt, nat_le, if◌then◌else◌, slice_get}
+use Rattle.std.specs.List.{list_any}
+use Rattle.std.specs.declared.ops.Bound.{Bound}
+use Rattle.std.specs.declared.ops.Bound.TheVariants.{Included, Excluded, Unbounded}
+use Rattle.art_nodes.specs.ChildMap.{ChildMap, child_at, with_child, without_child, first_pair, last_pair, pairs_within, are_valid_bounds}
+use Rattle.art_nodes.specs.declared.pointers.OpaqueNodePtr.{OpaqueNodePtr}
+use Rattle.art_nodes.specs.declared.command.ChildCommand.{ChildCommand}
+use Rattle.art_nodes.specs.declared.command.ChildCommand.TheVariants.{Write, Remove, Lookup, Min, Max, Range}
+use Rattle.art_nodes.specs.declared.command.ChildReply.{ChildReply}
+use Rattle.art_nodes.specs.declared.command.ChildReply.TheVariants.{Child, Pair, Pairs, InvalidBounds}
+
+module _ {K V : Type 0} {P : ℕ} where
+  -- what a command is answered
+  abbrev pub reply_to : ChildMap (OpaqueNodePtr K V P) → ChildCommand K V P → ChildReply K V P
+  reply_to children (Write byte child) = Child (child_at children byte)
+  reply_to children (Remove byte) = Child (child_at children byte)
+  reply_to children (Lookup byte) = Child (child_at children byte)
+  reply_to children Min = Pair (first_pair children)
+  reply_to children Max = Pair (last_pair children)
+  reply_to children (Range start end) =
+      if are_valid_bounds start end then Pairs (pairs_within children start end) else InvalidBounds
+
+  -- the children that a command leaves
+  abbrev pub child_map_after : ChildMap (OpaqueNodePtr K V P) → ChildCommand K V P → ChildMap (OpaqueNodePtr K V P)
+  child_map_after children (Write byte child) = with_child children byte child
+  child_map_after children (Remove byte) = without_child children byte
+  child_map_after children (Lookup byte) = children
+  child_map_after children Min = children
+  child_map_after children Max = children
+  child_map_after children (Range start end) = children
+
+  -- the replies to a list of commands, and the children that it leaves
+  abbrev pub run_of : ChildMap (OpaqueNodePtr K V P) → List (ChildCommand K V P) → List (ChildReply K V P) × ChildMap (OpaqueNodePtr K V P)
+  run_of children [] = ([], children)
+  run_of children (command ∷ commands) =
+      let rest = run_of (child_map_after children command) commands in
+      (reply_to children command ∷ rest.0, rest.1)
+
+  -- a write of a new byte is sent only to a node of fewer than sixteen children
+  abbrev pub HasRoomForCommand : ChildMap (OpaqueNodePtr K V P) → ChildCommand K V P → Type 0
+  HasRoomForCommand children (Write byte child) = child_at children byte ≡ None → length children < 16
+  HasRoomForCommand children _ = Unit {0}
+
+  -- the command asks for a range
+  abbrev pub IsRange : ChildCommand K V P → Type 0
+  IsRange (Range start end) = Unit {0}
+  IsRange _ = ⊥
+
+  -- the command writes a child under this byte
+  abbrev pub writes_to : ℕ → ChildCommand K V P → Bool
+  writes_to byte (Write b child) = b == byte
+  writes_to byte _ = false
+
+  -- of so many bytes from the first on, how many the commands write
+  abbrev pub count_written : List (ChildCommand K V P) → ℕ → ℕ → ℕ
+  count_written commands first zero = 0
+  count_written commands first (suc n) = (if list_any (writes_to first) commands then 1 else 0) + count_written commands (suc first) n
+
+  -- how many different bytes the commands write
+  unfoldable pub distinct_writes_of : List (ChildCommand K V P) → ℕ
+  distinct_writes_of commands = count_written commands 0 256

@@ -1,0 +1,38 @@
+-- What contracts see of an inner node, whichever way it keeps its children.
+use Rattle.std.specs.Prelude.{◌≡◌, ℕ, ◌≤◌, List, [], length, map, ◌<◌, IsNone}
+use Rattle.std.specs.List.{zip}
+use Rattle.art_header.specs.Header.{Header, capped}
+use Rattle.art_nodes.specs.ChildMap.{ChildMap, child_at, IsAscending}
+
+-- the prefix's length and stored front, and the child map
+pub record Inner (H : Type 0) : Type 0 where
+  pub prefix_len : ℕ
+  pub stored : List ℕ
+  pub children : ChildMap H
+
+module _ {H : Type 0} where
+  -- the header, whose count is the size of the child map
+  abbrev pub header_of : Inner H → Header
+  header_of node = record { count = length node.children; prefix_len = node.prefix_len; stored = node.stored }
+
+  -- a node with this header's prefix and no children
+  abbrev pub empty_inner : Header → Inner H
+  empty_inner header = record { prefix_len = header.prefix_len; stored = header.stored; children = [] }
+
+  -- the node with other children
+  abbrev pub with_children : Inner H → ChildMap H → Inner H
+  with_children node others = record node { children = others }
+
+  -- the byte is there already, or there is room for one child more
+  abbrev pub HasRoomFor : ℕ → Inner H → ℕ → Type 0
+  HasRoomFor room node byte = IsNone (child_at node.children byte) → length node.children < room
+
+  -- each byte with the child beside it
+  abbrev pub sorted_children : List ℕ → List H → ChildMap H
+  sorted_children bytes children = zip bytes children
+
+  -- bytes ascend, children fit, and the stored front has its length
+  pub record IsInner (room prefix_room : ℕ) (node : Inner H) : Type 0 where
+    pub ascending : IsAscending (map (λ p. p.0) node.children)
+    pub fits : length node.children ≤ room
+    pub capped_prefix : length node.stored ≡ capped prefix_room node.prefix_len

@@ -1,0 +1,6 @@
+pub mod ChildMap
+pub mod AnyInner
+pub mod Commands
+pub mod Inner
+pub mod Leaf
+pub mod Pointers

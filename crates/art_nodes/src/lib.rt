@@ -1,0 +1,25 @@
+//! Nodes of an adaptive radix tree: pointers, inner nodes, leaves, and runs of child commands.
+#![tactic(auto)]
+
+mod any_inner;
+mod bounds;
+mod child_node;
+mod command;
+mod inner_node_sorted;
+mod leaf_node;
+mod node;
+mod pointers;
+mod private;
+mod runs;
+mod sequence;
+
+pub use art_header::{Header, NodeType};
+pub use bounds::valid_range_bounds;
+pub use child_node::ChildNode;
+pub use command::{ChildCommand, ChildPairs, ChildReply};
+pub use inner_node_sorted::{InnerNode4, InnerNode16, InnerNodeSorted};
+pub use leaf_node::LeafNode;
+pub use node::{InnerNodeCommon, Node};
+pub use pointers::{NodePtr, OpaqueNodePtr};
+pub use runs::{Replayed, distinct_writes, replay};
+pub use sequence::Sequence;

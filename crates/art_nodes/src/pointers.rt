@@ -1,0 +1,108 @@
+//! Pointers to nodes: a node kind and a slab key, never an address.
+ghost use Rattle.std.specs.Prelude.{◌≡◌, ◌↔◌, IsTrue, IsSome, IfSome};
+ghost use Rattle.art_nodes.specs.Pointers.{slab_key, node_kind, opaque_key};
+
+use crate::node::Node;
+use art_header::NodeType;
+use std::marker::PhantomData;
+
+/// A pointer to a node of the type `N`: the slab key that the node is kept under.
+#[derive_where(Clone, Copy, PartialEq, Eq)]
+pub struct NodePtr<const PREFIX_LEN: usize, N> {
+    key: usize,
+    node: PhantomData<N>,
+}
+
+/// A pointer to a node of any kind: its kind and the slab key that it is kept under.
+#[derive_where(Clone, Copy, PartialEq, Eq, Hash)]
+pub struct OpaqueNodePtr<K, V, const PREFIX_LEN: usize> {
+    node_type: NodeType,
+    key: usize,
+    leaf: PhantomData<(K, V)>,
+}
+
+impl<const PREFIX_LEN: usize, N> NodePtr<PREFIX_LEN, N> {
+    /// The pointer to the node that is kept under this slab key.
+    pub fn from_key(key: usize) -> Self
+        ensures { slab_key result ≡ key }
+    {
+        NodePtr {
+            key,
+            node: PhantomData,
+        }
+    }
+
+    /// The slab key.
+    pub fn key(self) -> usize
+        ensures { result ≡ slab_key self }
+    {
+        self.key
+    }
+}
+
+impl<const PREFIX_LEN: usize, N: Node<PREFIX_LEN>> NodePtr<PREFIX_LEN, N> {
+    /// The same pointer, with the kind of the node as a part of the value.
+    pub fn to_opaque(self) -> OpaqueNodePtr<N::Key, N::Value, PREFIX_LEN>
+        ensures kind { node_kind result ≡ N.TYPE }
+        ensures key { opaque_key result ≡ slab_key self }
+    {
+        OpaqueNodePtr::new(self)
+    }
+}
+
+impl<K, V, const PREFIX_LEN: usize> OpaqueNodePtr<K, V, PREFIX_LEN> {
+    /// The pointer to a node of any kind that points where this one does.
+    pub fn new<N: Node<PREFIX_LEN, Key = K, Value = V>>(pointer: NodePtr<PREFIX_LEN, N>) -> Self
+        ensures kind { node_kind result ≡ N.TYPE }
+        ensures key { opaque_key result ≡ slab_key pointer }
+    {
+        OpaqueNodePtr {
+            node_type: N::TYPE,
+            key: pointer.key,
+            leaf: PhantomData,
+        }
+    }
+
+    /// Whether the node is of the kind of `N`.
+    pub fn is<N: Node<PREFIX_LEN>>(&self) -> bool
+        ensures { IsTrue result ↔ (node_kind self.now ≡ N.TYPE) }
+    {
+        self.node_type == N::TYPE
+    }
+
+    /// The pointer to a node of the type `N`, where the node is of that kind.
+    pub fn cast<N: Node<PREFIX_LEN>>(self) -> Option<NodePtr<PREFIX_LEN, N>>
+        ensures kind { IsSome result ↔ (node_kind self ≡ N.TYPE) }
+        ensures key { IfSome result (λ pointer. slab_key pointer ≡ opaque_key self) }
+    {
+        if self.is::<N>() {
+            Some(NodePtr::from_key(self.key))
+        } else {
+            None
+        }
+    }
+
+    /// The kind of the node.
+    pub fn node_type(self) -> NodeType
+        ensures { result ≡ node_kind self }
+    {
+        self.node_type
+    }
+}
+
+/// A pointer to the `Node4` under key 0. It only fills places that hold no pointer.
+impl<K, V, const PREFIX_LEN: usize> Default for OpaqueNodePtr<K, V, PREFIX_LEN> {
+    ghost use Rattle.std.specs.Prelude.{◌≡◌};
+    ghost use Rattle.art_header.specs.declared.node_type.NodeType.TheVariants.{Node4};
+    ghost use Rattle.art_nodes.specs.Pointers.{node_kind, opaque_key};
+
+    ghost is_default = { λ p. (node_kind p ≡ Node4) × (opaque_key p ≡ 0) };
+
+    fn default() -> Self {
+        OpaqueNodePtr {
+            node_type: NodeType::Node4,
+            key: 0,
+            leaf: PhantomData,
+        }
+    }
+}
