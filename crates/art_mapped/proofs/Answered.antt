@@ -1,0 +1,11 @@
+-- What an answer that is there exactly where a value is says of that value.
+use Rattle.std.proofs.Common.{◌≡◌, Bool, Option, Some, None, refl}
+use Rattle.std.specs.Prelude.{IsTrue, IfSome, IfNone, is_some, true, false}
+use Rattle.std.proofs.Props.{props}
+use Rattle.std.proofs.Math.Logic.{∥∥₁_elim}
+
+-- the test of an answer that is there exactly where some value fits
+pub some_exactly : {E : Type 0} (P Q : E → Type 0) (answer : Option E) (b : Bool) → b ≡ is_some answer → IfSome answer (λ x. P x × Q x) → IfNone answer ((x : E) → P x → Q x → ⊥)
+    → (IsTrue b → ∥ ((x : E) × P x × Q x) ∥₁) × (∥ ((x : E) × P x × Q x) ∥₁ → IsTrue b)
+some_exactly P Q None b is fits none = rw is (λ yes. let clash : false ≡ true = yes in cc, λ some. absurd (∥∥₁_elim some (hlevel props) (λ of. none of.0 of.1 of.2)))
+some_exactly P Q (Some x) b is fits none = rw is (λ _. ∣ (x, fits.0, fits.1) ∣₁, λ _. refl)

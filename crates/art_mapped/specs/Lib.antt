@@ -1,0 +1,4 @@
+pub mod DigitLaws
+pub mod Mapping
+pub mod NumberLaws
+pub mod Numbers

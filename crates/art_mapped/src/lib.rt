@@ -1,0 +1,14 @@
+//! Values as bytes that keep their order.
+#![tactic(auto)]
+
+mod fixed;
+mod integer;
+mod mapped;
+mod mapping;
+mod signed;
+mod unsigned;
+
+pub use fixed::FixedBytes;
+pub use integer::{Element, IntegerMapping, ToIBE, ToUBE};
+pub use mapped::Mapped;
+pub use mapping::{BytesMapping, NoPrefixesMapping, OrderedMapping};
