@@ -5,6 +5,7 @@ mod fixed;
 mod integer;
 mod mapped;
 mod mapping;
+mod sequence;
 mod signed;
 mod unsigned;
 
