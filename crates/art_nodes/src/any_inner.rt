@@ -32,7 +32,7 @@ macro_rules! with_node {
 impl<K, V, const PREFIX_LEN: usize> AnyInner<K, V, PREFIX_LEN> {
     pub(crate) fn header(&self) -> &Header<PREFIX_LEN>
         ensures header { result.now ≡ header_of (inner_of self.now) }
-        ensures sound { IsInner (most_children (kind_of self.now)) PREFIX_LEN (inner_of self.now) }
+        ensures sound { IsInner (most_children (kind_of self.now)) (inner_of self.now) }
     {
         with_node!(self, node => node.header())
     }
@@ -108,13 +108,15 @@ impl<K, V, const PREFIX_LEN: usize> AnyInner<K, V, PREFIX_LEN> {
 
     /// Whether the node has as many children as its kind holds.
     pub(crate) fn is_full(&self) -> bool
-        ensures { IsTrue result ↔ (length (inner_of self.now).children ≡ most_children (kind_of self.now)) }
+        ensures sound { IsInner (most_children (kind_of self.now)) (inner_of self.now) }
+        ensures value { IsTrue result ↔ (length (inner_of self.now).children ≡ most_children (kind_of self.now)) }
     {
         self.header().num_children() == *self.node_type().capacity_range().end()
     }
 
     /// Whether the node has fewer children than a node of its kind is to have.
     pub(crate) fn is_below_range(&self) -> bool
+        ensures sound { IsInner (most_children (kind_of self.now)) (inner_of self.now) }
         ensures value { IsTrue result ↔ (kind_of self.now ≢ NodeType.Node4 × length (inner_of self.now).children < least_children (kind_of self.now)) }
     {
         self.node_type()
@@ -123,7 +125,8 @@ impl<K, V, const PREFIX_LEN: usize> AnyInner<K, V, PREFIX_LEN> {
 
     /// Makes the node one of the next greater kind, if there is one.
     pub(crate) fn grow(&mut self)
-        requires { kind_of self.old ≡ NodeType.Node4 }
+        requires kind { kind_of self.old ≡ NodeType.Node4 }
+        requires fits { length (inner_of self.old).children ≤ 16 }
         ensures same { inner_of self.new ≡ inner_of self.old }
         ensures kind { kind_of self.new ≡ NodeType.Node16 }
     {

@@ -36,7 +36,7 @@ pub trait InnerNodeCommon<K, V, const PREFIX_LEN: usize>: InnerNodeInit<PREFIX_L
     /// The header.
     fn header(&self) -> &Header<PREFIX_LEN>
         ensures header { result.now ≡ header_of (inner self.now) }
-        ensures sound { IsInner room PREFIX_LEN (inner self.now) };
+        ensures sound { IsInner room (inner self.now) };
 
     /// The most children that the node can hold.
     fn capacity(&self) -> usize

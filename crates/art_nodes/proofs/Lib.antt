@@ -1,0 +1,3 @@
+pub mod ChildMapLemmas
+pub mod KindLemmas
+pub mod SortedLemmas
