@@ -1,3 +1,4 @@
 pub mod Answered
 pub mod Parts
 pub mod Turns
+pub mod Vecs

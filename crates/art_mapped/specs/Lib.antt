@@ -1,4 +1,5 @@
 pub mod DigitLaws
+pub mod Mapped
 pub mod Mapping
 pub mod NumberLaws
 pub mod Numbers

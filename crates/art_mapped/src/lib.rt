@@ -1,6 +1,7 @@
 //! Values as bytes that keep their order.
 #![tactic(auto)]
 
+mod array;
 mod fixed;
 mod integer;
 mod mapped;
@@ -8,6 +9,7 @@ mod mapping;
 mod sequence;
 mod signed;
 mod unsigned;
+mod vector;
 
 pub use fixed::FixedBytes;
 pub use integer::{Element, IntegerMapping, ToIBE, ToUBE};
