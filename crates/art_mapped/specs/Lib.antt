@@ -1,5 +1,6 @@
 pub mod DigitLaws
 pub mod Mapped
+pub mod MappedLaws
 pub mod Mapping
 pub mod NumberLaws
 pub mod Numbers

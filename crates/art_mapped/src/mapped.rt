@@ -56,6 +56,7 @@ impl<B: BytesMapping<D>, D> Mapped<B, D> {
         ensures text { IfOk result (λ mapped. mapped_text mapped ≡ mapped_text self.now) }
     {
         let repr = self.repr.clone()?;
+        let _key = repr.as_bytes();
         Ok(Mapped {
             repr,
             mapping: PhantomData,
@@ -74,4 +75,100 @@ impl<B: BytesMapping<D>, D> AsBytes for Mapped<B, D> {
     fn as_bytes(&self) -> &[u8] {
         self.repr.as_bytes()
     }
+}
+
+/// No text is a proper front of another where the mapping says so.
+impl<B: NoPrefixesMapping<D>, D> NoPrefixesBytes for Mapped<B, D> {
+    ghost use Rattle.art_mapped.specs.MappedLaws.{text_front_is_whole};
+
+    ghost no_prefixes = { λ a b a_some b_some. text_front_is_whole _ _ _ _ B.has_text B.no_prefixes a.repr b.repr a_some b_some };
+}
+
+/// Keys are equal where their bytes are.
+impl<B: BytesMapping<D>, D> PartialEq for Mapped<B, D> {
+    ghost use Rattle.std.specs.Prelude.{nat_eq};
+    ghost use Rattle.std.specs.Ordering.{on};
+    ghost use Rattle.std.specs.Cmp.{partial_equiv_from_equiv};
+    ghost use Rattle.std.specs.Cmp.Lexicographic.{pointwise};
+    ghost use Rattle.std.proofs.lemmas.Cmp.{on_equiv, nat_list_eq_equiv};
+    ghost use Rattle.art_mapped.specs.Mapped.{mapped_text};
+
+    ghost eq = { on mapped_text (pointwise nat_eq) };
+
+    ghost laws = { partial_equiv_from_equiv (on_equiv mapped_text nat_list_eq_equiv) };
+
+    fn eq(&self, other: &Self) -> bool {
+        self.as_bytes() == other.as_bytes()
+    }
+}
+
+impl<B: BytesMapping<D>, D> Eq for Mapped<B, D> {
+    ghost use Rattle.std.proofs.lemmas.Cmp.{on_equiv, nat_list_eq_equiv};
+    ghost use Rattle.art_mapped.specs.Mapped.{mapped_text};
+
+    ghost laws = { on_equiv mapped_text nat_list_eq_equiv };
+}
+
+/// A key is hashed by its bytes.
+impl<B: BytesMapping<D>, D> Hash for Mapped<B, D> {
+    ghost use Rattle.std.proofs.Common.{rules};
+    ghost use Rattle.std.specs.Cmp.Rules.{hashing};
+    ghost use Rattle.std.specs.Hash as fed;
+    ghost use Rattle.art_mapped.specs.Mapped.{mapped_text};
+
+    ghost hash_input = { λ mapped. fed.slice fed.u8 (mapped_text mapped) };
+
+    ghost respects_eq = { Prim.search (hashing, rules) };
+
+    fn hash<H: Hasher>(&self, state: &mut H) {
+        self.as_bytes().hash(state);
+    }
+}
+
+/// Keys of an ordered mapping are in the order of their bytes, which is that of their values.
+impl<B: OrderedMapping<D>, D> Ord for Mapped<B, D> {
+    ghost use Rattle.std.specs.Ordering.{on};
+    ghost use Rattle.std.proofs.Common.{rules};
+    ghost use Rattle.std.specs.Cmp.Rules.{comparing};
+    ghost use Rattle.std.proofs.lemmas.Cmp.{on_total, nat_list_cmp_total};
+    ghost use Rattle.art_bytes.specs.Text.{text_order};
+    ghost use Rattle.art_mapped.specs.Mapped.{mapped_text, HoldsValue};
+
+    ghost cmp = { on mapped_text text_order };
+
+    ghost total = { on_total mapped_text nat_list_cmp_total };
+
+    ghost matches_partial_cmp = { Prim.search (comparing, rules) };
+
+    ghost matches_eq = { Prim.search (comparing, rules) };
+
+    fn cmp(&self, other: &Self) -> Ordering
+        ensures texts { result ≡ text_order (mapped_text self.now) (mapped_text other.now) }
+        ensures values { (x y : D) → HoldsValue self.now x → HoldsValue other.now y → result ≡ B.domain_order x y }
+    {
+        self.as_bytes().cmp(&other.as_bytes())
+    }
+}
+
+impl<B: OrderedMapping<D>, D> PartialOrd for Mapped<B, D> {
+    ghost use Rattle.std.specs.Ordering.{on, as_partial_cmp};
+    ghost use Rattle.std.proofs.Common.{rules};
+    ghost use Rattle.std.specs.Cmp.{partial_order_from_own_ties};
+    ghost use Rattle.std.specs.Cmp.Rules.{comparing};
+    ghost use Rattle.art_bytes.specs.Text.{text_order};
+    ghost use Rattle.art_mapped.specs.Mapped.{mapped_text};
+
+    ghost partial_cmp = { as_partial_cmp (on mapped_text text_order) };
+
+    ghost laws = { partial_order_from_own_ties (Prim.search (comparing, rules)) (Prim.search (comparing, rules)) };
+
+    fn partial_cmp(&self, other: &Self) -> Option<Ordering> {
+        Some(self.cmp(other))
+    }
+}
+
+impl<B: OrderedMapping<D>, D> OrderedBytes for Mapped<B, D> {
+    ghost use Rattle.std.specs.Prelude.{refl};
+
+    ghost ordered = { λ _ _ _ _. refl };
 }
