@@ -1,3 +1,4 @@
+pub mod Addresses
 pub mod DigitLaws
 pub mod Mapped
 pub mod MappedLaws
