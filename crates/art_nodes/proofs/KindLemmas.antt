@@ -65,8 +65,8 @@ module _ {H : Type 0} (kind : NodeType) (children : ChildMap H) (byte : ℕ) (ch
   kept-room below = elim (child_at children byte) as (λ o. child_at children byte ≡ o → kind ≡ kind_for (length (with_child children byte child))) [
     | Some old ↦ λ is. kept-overwrite (rw is refl)
     | None ↦ λ is.
-      let one_more = rw is at (length-with_child {H = H} 0 byte children child ascending) in
-      kind_for-IsOfKind kind (length (with_child children byte child)) (record { inner = of.inner; few = omega (arith, one_more); many = λ differs. omega (arith, one_more, of.many differs) })
+        let one_more = rw is at (length-with_child {H = H} 0 byte children child ascending) in
+        kind_for-IsOfKind kind (length (with_child children byte child)) (record { inner = of.inner; few = omega (arith, one_more); many = λ differs. omega (arith, one_more, of.many differs) })
   ] refl
 
   -- a write of a new byte into a full node asks for the next greater kind

@@ -13,9 +13,9 @@ loop-index-preserved g c =
     let total = pairs_within all c.args.start c.args.end in
     elim c.if-is_within.branch [
       | then-is_within+in_ok-push w ↦
-        rw (w.pairs-is, w.in_ok-push.ensures.items) (kept_step all c.args.start c.args.end c.loop-index.pairs.items total c.loop-index.index _ (slice_get-zip c.args.keys.now c.args.children.now c.loop-index.index _ _ c.requires c.loop-index-test.true) (sym w.if-is_within.ensures) c.loop-index.invariant)
+          rw (w.pairs-is, w.in_ok-push.ensures.items) (kept_step all c.args.start c.args.end c.loop-index.pairs.items total c.loop-index.index _ (slice_get-zip c.args.keys.now c.args.children.now c.loop-index.index _ _ c.requires c.loop-index-test.true) (sym w.if-is_within.ensures) c.loop-index.invariant)
       | else-is_within w ↦
-        rw w.pairs-is (left_step all c.args.start c.args.end c.loop-index.pairs.items total c.loop-index.index _ (slice_get-zip c.args.keys.now c.args.children.now c.loop-index.index 0 (record { node_type = Node4; key = 0; leaf = record {} }) c.requires c.loop-index-test.true) (sym w.if-is_within.ensures) c.loop-index.invariant)
+          rw w.pairs-is (left_step all c.args.start c.args.end c.loop-index.pairs.items total c.loop-index.index _ (slice_get-zip c.args.keys.now c.args.children.now c.loop-index.index 0 (record { node_type = Node4; key = 0; leaf = record {} }) c.requires c.loop-index-test.true) (sym w.if-is_within.ensures) c.loop-index.invariant)
     ]
 
 pub returns : goal.returns
