@@ -1,9 +1,9 @@
-ghost use Rattle.std.specs.Prelude.{◌≡◌, false, refl};
+ghost use Rattle.std.specs.Prelude.{◌≡◌, false, IsTrue, refl};
 ghost use Rattle.std.specs.Ordering.{on};
 ghost use Rattle.std.specs.Net.Addr.{ipv4_octets, ipv6_octets};
 ghost use Rattle.art_bytes.specs.Text.{text_order};
 ghost use Rattle.art_mapped.specs.Mapping.{HasTextOf, kept_by_text};
-ghost use Rattle.art_mapped.specs.Addresses.{IsIpv4, IsIpv6, same_ipv4, same_ipv6, ipv4_front_is_whole, ipv6_front_is_whole};
+ghost use Rattle.art_mapped.specs.Addresses.{AreOctets, IsIpv4, IsIpv6, same_ipv4, same_ipv6, ipv4_front_is_whole, ipv6_front_is_whole};
 
 use std::alloc::{AllocError, Global};
 use std::net::{Ipv4Addr, Ipv6Addr};
@@ -13,6 +13,15 @@ use crate::mapping::{BytesMapping, NoPrefixesMapping, OrderedMapping};
 /// IP addresses as their octets, in order.
 #[derive(Clone, Copy)]
 pub struct ToOctets;
+
+/// Whether an array's bytes are octets, as they always are.
+fn are_octets<const N: usize>(bytes: [u8; N]) -> bool
+    ensures always { IsTrue result }
+    ensures octets { AreOctets N bytes.entry }
+{
+    let _ = bytes;
+    true
+}
 
 /// IPv4 addresses as their four octets, in the order of the first that differs.
 impl BytesMapping<Ipv4Addr> for ToOctets {
@@ -32,7 +41,7 @@ impl BytesMapping<Ipv4Addr> for ToOctets {
 
     ghost are_same = { λ x y. x ≡ y };
 
-    ghost stands_for = { λ octets address. octets ≡ ipv4_octets address };
+    ghost stands_for = { HasTextOf (λ octets. octets) ipv4_octets };
 
     ghost has_text = { λ _ _ _ stands. stands };
 
@@ -48,8 +57,8 @@ impl BytesMapping<Ipv4Addr> for ToOctets {
         Ok(Ipv4Addr::from_octets(bytes))
     }
 
-    fn is_value(_bytes: &[u8; 4]) -> bool {
-        true
+    fn is_value(bytes: &[u8; 4]) -> bool {
+        are_octets(*bytes)
     }
 }
 
@@ -81,7 +90,7 @@ impl BytesMapping<Ipv6Addr> for ToOctets {
 
     ghost are_same = { λ x y. x ≡ y };
 
-    ghost stands_for = { λ octets address. octets ≡ ipv6_octets address };
+    ghost stands_for = { HasTextOf (λ octets. octets) ipv6_octets };
 
     ghost has_text = { λ _ _ _ stands. stands };
 
@@ -97,8 +106,8 @@ impl BytesMapping<Ipv6Addr> for ToOctets {
         Ok(Ipv6Addr::from_octets(bytes))
     }
 
-    fn is_value(_bytes: &[u8; 16]) -> bool {
-        true
+    fn is_value(bytes: &[u8; 16]) -> bool {
+        are_octets(*bytes)
     }
 }
 
