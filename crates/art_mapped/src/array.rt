@@ -1,5 +1,6 @@
 ghost use Rattle.std.specs.Prelude.{◌≡◌, ◌↔◌, true, false, IsTrue, List};
 ghost use Rattle.std.specs.Ordering.{int_cmp, on};
+ghost use Rattle.std.proofs.Common.{ap, refl};
 ghost use Rattle.std.specs.Cmp.Lexicographic.{slice_cmp};
 ghost use Rattle.std.specs.Vec.{vec_items};
 ghost use Rattle.art_mapped.specs.Mapping.{StandsForSome, HasTextOf, kept_by_text};
@@ -53,6 +54,8 @@ impl<E: Element<ToUBE>, const N: usize> BytesMapping<[E; N]> for ToUBE {
 
     ghost has_text = { λ _ _ _ stands. stands };
 
+    ghost one_text = { λ x y same. ap (joined (element_text unsigned_text E.Bytes.WIDTH E.number)) same };
+
     ghost reads_one = { λ _ x y x_in y_in x_text y_text. same_from_joined (unsigned_keep E.Bytes.WIDTH E.has_bytes E.number E.number_decides) x y x_in.1 y_in.1 x_text y_text };
 
     ghost kept_by_text = { λ a b _. kept_by_text (IsArray N (IsElement IsUnsigned E.Bytes.WIDTH E.number)) vec_items (joined (element_text unsigned_text E.Bytes.WIDTH E.number)) a b };
@@ -74,6 +77,8 @@ impl<E: Element<ToUBE>, const N: usize> OrderedMapping<[E; N]> for ToUBE {
     ghost domain_order = { slice_cmp (on E.number int_cmp) };
 
     ghost keeps_order = { λ x y x_in y_in. joined_keep (unsigned_keep E.Bytes.WIDTH E.has_bytes E.number E.number_decides) x y x_in.1 y_in.1 };
+
+    ghost decided_by_text = { λ x y x_in y_in same. same_from_joined (unsigned_keep E.Bytes.WIDTH E.has_bytes E.number E.number_decides) x y x_in.1 y_in.1 refl same };
 }
 
 impl<E: Element<ToUBE>, const N: usize> NoPrefixesMapping<[E; N]> for ToUBE {
@@ -102,6 +107,8 @@ impl<E: Element<ToIBE>, const N: usize> BytesMapping<[E; N]> for ToIBE {
 
     ghost has_text = { λ _ _ _ stands. stands };
 
+    ghost one_text = { λ x y same. ap (joined (element_text signed_text E.Bytes.WIDTH E.number)) same };
+
     ghost reads_one = { λ _ x y x_in y_in x_text y_text. same_from_joined (signed_keep E.Bytes.WIDTH E.has_bytes E.number E.number_decides) x y x_in.1 y_in.1 x_text y_text };
 
     ghost kept_by_text = { λ a b _. kept_by_text (IsArray N (IsElement IsSigned E.Bytes.WIDTH E.number)) vec_items (joined (element_text signed_text E.Bytes.WIDTH E.number)) a b };
@@ -123,6 +130,8 @@ impl<E: Element<ToIBE>, const N: usize> OrderedMapping<[E; N]> for ToIBE {
     ghost domain_order = { slice_cmp (on E.number int_cmp) };
 
     ghost keeps_order = { λ x y x_in y_in. joined_keep (signed_keep E.Bytes.WIDTH E.has_bytes E.number E.number_decides) x y x_in.1 y_in.1 };
+
+    ghost decided_by_text = { λ x y x_in y_in same. same_from_joined (signed_keep E.Bytes.WIDTH E.has_bytes E.number E.number_decides) x y x_in.1 y_in.1 refl same };
 }
 
 impl<E: Element<ToIBE>, const N: usize> NoPrefixesMapping<[E; N]> for ToIBE {

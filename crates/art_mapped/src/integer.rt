@@ -1,4 +1,5 @@
-ghost use Rattle.std.specs.Prelude.{◌≡◌, ◌≢◌, ◌↔◌, ℕ, ℤ, ◌<◌, List, length, true, false, IsTrue, IfSome, IfNone};
+ghost use Rattle.std.specs.Prelude.{◌≡◌, ◌≢◌, ◌↔◌, ℕ, ℤ, ◌<◌, List, length, true, false, IsTrue, IfSome, IfNone, refl};
+ghost use Rattle.std.proofs.Common.{ap};
 ghost use Rattle.std.specs.Ordering.{int_cmp, on};
 ghost use Rattle.art_bytes.specs.Text.{text_order};
 ghost use Rattle.art_mapped.specs.Mapping.{StandsForSome, HasTextOf, kept_by_text};
@@ -28,7 +29,6 @@ pub trait IntegerMapping {
 }
 
 /// Unsigned integers to big endian bytes.
-#[derive(Clone, Copy)]
 pub struct ToUBE;
 
 impl IntegerMapping for ToUBE {
@@ -42,7 +42,6 @@ impl IntegerMapping for ToUBE {
 }
 
 /// Signed integers
-#[derive(Clone, Copy)]
 pub struct ToIBE;
 
 impl IntegerMapping for ToIBE {
@@ -118,6 +117,8 @@ impl<E: Element<ToUBE>> BytesMapping<E> for ToUBE {
 
     ghost has_text = { λ _ _ _ stands. stands };
 
+    ghost one_text = { λ x y same. ap (element_text unsigned_text E.Bytes.WIDTH E.number) same };
+
     ghost reads_one = { λ _ x y x_in y_in x_text y_text. same_from_text (unsigned_keep E.Bytes.WIDTH E.has_bytes E.number E.number_decides) x y x_in y_in x_text y_text };
 
     ghost kept_by_text = { λ a b _. kept_by_text (IsElement IsUnsigned E.Bytes.WIDTH E.number) E.Bytes.text (element_text unsigned_text E.Bytes.WIDTH E.number) a b };
@@ -139,6 +140,8 @@ impl<E: Element<ToUBE>> OrderedMapping<E> for ToUBE {
     ghost domain_order = { on E.number int_cmp };
 
     ghost keeps_order = { (unsigned_keep E.Bytes.WIDTH E.has_bytes E.number E.number_decides).keeps };
+
+    ghost decided_by_text = { λ x y x_in y_in same. same_from_text (unsigned_keep E.Bytes.WIDTH E.has_bytes E.number E.number_decides) x y x_in y_in refl same };
 }
 
 impl<E: Element<ToUBE>> NoPrefixesMapping<E> for ToUBE {
@@ -167,6 +170,8 @@ impl<E: Element<ToIBE>> BytesMapping<E> for ToIBE {
 
     ghost has_text = { λ _ _ _ stands. stands };
 
+    ghost one_text = { λ x y same. ap (element_text signed_text E.Bytes.WIDTH E.number) same };
+
     ghost reads_one = { λ _ x y x_in y_in x_text y_text. same_from_text (signed_keep E.Bytes.WIDTH E.has_bytes E.number E.number_decides) x y x_in y_in x_text y_text };
 
     ghost kept_by_text = { λ a b _. kept_by_text (IsElement IsSigned E.Bytes.WIDTH E.number) E.Bytes.text (element_text signed_text E.Bytes.WIDTH E.number) a b };
@@ -188,6 +193,8 @@ impl<E: Element<ToIBE>> OrderedMapping<E> for ToIBE {
     ghost domain_order = { on E.number int_cmp };
 
     ghost keeps_order = { (signed_keep E.Bytes.WIDTH E.has_bytes E.number E.number_decides).keeps };
+
+    ghost decided_by_text = { λ x y x_in y_in same. same_from_text (signed_keep E.Bytes.WIDTH E.has_bytes E.number E.number_decides) x y x_in y_in refl same };
 }
 
 impl<E: Element<ToIBE>> NoPrefixesMapping<E> for ToIBE {

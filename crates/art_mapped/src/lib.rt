@@ -12,6 +12,9 @@ mod signed;
 mod unsigned;
 mod vector;
 
+#[cfg(test)]
+mod tests;
+
 pub use fixed::FixedBytes;
 pub use integer::{Element, IntegerMapping, ToIBE, ToUBE};
 pub use mapped::Mapped;

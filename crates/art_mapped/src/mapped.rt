@@ -41,6 +41,7 @@ impl<B: BytesMapping<D>, D> Mapped<B, D> {
     /// The value that the key was made of.
     pub fn get(self, alloc: Global) -> Result<D, AllocError>
         ensures value { IfOk result (λ read. HoldsValue self read) }
+        ensures text { IfOk result (λ read. mapped_text self ≡ B.text_of read) }
         ensures inverts { (value : D) → HoldsValue self value → IfOk result (λ read. B.are_same read value) }
         ensures takes_no_memory { B.READ_ALLOCATES ≡ false → IsOk result }
     {

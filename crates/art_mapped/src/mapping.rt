@@ -43,6 +43,7 @@ pub trait BytesMapping<D> {
     fn from_bytes(alloc: Global, bytes: Self::Bytes) -> Result<D, AllocError>
         requires { StandsForSome is_in_domain stands_for bytes }
         ensures stands { IfOk result (λ read. is_in_domain read × stands_for bytes read) }
+        ensures text { IfOk result (λ read. Self.Bytes.text bytes ≡ text_of read) }
         ensures inverts { (value : D) → is_in_domain value → stands_for bytes value → IfOk result (λ read. are_same read value) }
         ensures takes_no_memory { READ_ALLOCATES ≡ false → IsOk result };
 
@@ -53,6 +54,7 @@ pub trait BytesMapping<D> {
     /// The value whose bytes these are, or none.
     fn checked_from_bytes(alloc: Global, bytes: Self::Bytes) -> Result<Option<D>, AllocError>
         ensures some { IfOk result (λ answer. IfSome answer (λ read. is_in_domain read × stands_for bytes read)) }
+        ensures text { IfOk result (λ answer. IfSome answer (λ read. Self.Bytes.text bytes ≡ text_of read)) }
         ensures none { IfOk result (λ answer. IfNone answer (StandsForSome is_in_domain stands_for bytes → ⊥)) }
         ensures takes_no_memory { READ_ALLOCATES ≡ false → IsOk result }
     {
@@ -65,6 +67,8 @@ pub trait BytesMapping<D> {
 
     ghost has_text: { (bytes : Self.Bytes) (value : D) → is_in_domain value → stands_for bytes value → Self.Bytes.text bytes ≡ text_of value };
 
+    ghost one_text: { (x y : D) → are_same x y → text_of x ≡ text_of y };
+
     ghost reads_one: { (bytes : Self.Bytes) (x y : D) → is_in_domain x → is_in_domain y → stands_for bytes x → stands_for bytes y → are_same x y };
 
     ghost kept_by_text: { (a b : Self.Bytes) → Self.Bytes.is_key b → Self.Bytes.text a ≡ Self.Bytes.text b → StandsForSome is_in_domain stands_for a → StandsForSome is_in_domain stands_for b };
@@ -76,6 +80,8 @@ pub trait OrderedMapping<D>: BytesMapping<D> {
     ghost domain_order: { D → D → Ordering };
 
     ghost keeps_order: { (x y : D) → Self.is_in_domain x → Self.is_in_domain y → domain_order x y ≡ text_order (Self.text_of x) (Self.text_of y) };
+
+    ghost decided_by_text: { (x y : D) → Self.is_in_domain x → Self.is_in_domain y → Self.text_of x ≡ Self.text_of y → Self.are_same x y };
 }
 
 /// A mapping of which no value's text is a proper front of another's.

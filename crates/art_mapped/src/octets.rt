@@ -1,5 +1,6 @@
 ghost use Rattle.std.specs.Prelude.{◌≡◌, false, IsTrue, refl};
 ghost use Rattle.std.specs.Ordering.{on};
+ghost use Rattle.std.proofs.Common.{ap};
 ghost use Rattle.std.specs.Net.Addr.{ipv4_octets, ipv6_octets};
 ghost use Rattle.art_bytes.specs.Text.{text_order};
 ghost use Rattle.art_mapped.specs.Mapping.{HasTextOf, kept_by_text};
@@ -11,7 +12,6 @@ use std::net::{Ipv4Addr, Ipv6Addr};
 use crate::mapping::{BytesMapping, NoPrefixesMapping, OrderedMapping};
 
 /// IP addresses as their octets, in order.
-#[derive(Clone, Copy)]
 pub struct ToOctets;
 
 /// Whether an array's bytes are octets, as they always are.
@@ -45,6 +45,8 @@ impl BytesMapping<Ipv4Addr> for ToOctets {
 
     ghost has_text = { λ _ _ _ stands. stands };
 
+    ghost one_text = { λ x y same. ap ipv4_octets same };
+
     ghost reads_one = { λ _ x y _ _. same_ipv4 x y };
 
     ghost kept_by_text = { λ a b _. kept_by_text IsIpv4 (λ octets. octets) ipv4_octets a b };
@@ -66,6 +68,8 @@ impl OrderedMapping<Ipv4Addr> for ToOctets {
     ghost domain_order = { on ipv4_octets text_order };
 
     ghost keeps_order = { λ _ _ _ _. refl };
+
+    ghost decided_by_text = { λ x y _ _ same. same_ipv4 x y refl same };
 }
 
 impl NoPrefixesMapping<Ipv4Addr> for ToOctets {
@@ -94,6 +98,8 @@ impl BytesMapping<Ipv6Addr> for ToOctets {
 
     ghost has_text = { λ _ _ _ stands. stands };
 
+    ghost one_text = { λ x y same. ap ipv6_octets same };
+
     ghost reads_one = { λ _ x y _ _. same_ipv6 x y };
 
     ghost kept_by_text = { λ a b _. kept_by_text IsIpv6 (λ octets. octets) ipv6_octets a b };
@@ -115,6 +121,8 @@ impl OrderedMapping<Ipv6Addr> for ToOctets {
     ghost domain_order = { on ipv6_octets text_order };
 
     ghost keeps_order = { λ _ _ _ _. refl };
+
+    ghost decided_by_text = { λ x y _ _ same. same_ipv6 x y refl same };
 }
 
 impl NoPrefixesMapping<Ipv6Addr> for ToOctets {

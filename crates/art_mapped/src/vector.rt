@@ -1,11 +1,12 @@
 ghost use Rattle.std.specs.Prelude.{◌≡◌, ◌↔◌, true, false, IsTrue, IfOk, List, Vec};
 ghost use Rattle.std.specs.declared.alloc.Global.{Global};
 ghost use Rattle.std.specs.Ordering.{int_cmp, on};
+ghost use Rattle.std.proofs.Common.{ap, refl};
 ghost use Rattle.std.specs.Cmp.Lexicographic.{slice_cmp};
 ghost use Rattle.std.specs.Vec.{vec_items};
 ghost use Rattle.art_mapped.specs.Mapping.{StandsForSome, HasTextOf, kept_by_text};
 ghost use Rattle.art_mapped.specs.Numbers.{IsUnsigned, IsSigned, unsigned_text, signed_text, IsElement, element_text};
-ghost use Rattle.art_mapped.specs.Sequences.{IsVec, vec_text};
+ghost use Rattle.art_mapped.specs.Sequences.{joined, IsVec, vec_text};
 ghost use Rattle.art_mapped.specs.SequenceLaws.{unsigned_keep, signed_keep, same_from_joined, joined_keep};
 
 use std::alloc::{AllocError, Global};
@@ -57,6 +58,8 @@ impl<E: Element<ToUBE>> BytesMapping<Vec<E>> for ToUBE {
 
     ghost has_text = { λ _ _ _ stands. stands };
 
+    ghost one_text = { λ x y same. ap (joined (element_text unsigned_text E.Bytes.WIDTH E.number)) same };
+
     ghost reads_one = { λ _ x y x_in y_in x_text y_text. same_from_joined (unsigned_keep E.Bytes.WIDTH E.has_bytes E.number E.number_decides) x.items y.items x_in y_in x_text y_text };
 
     ghost kept_by_text = { λ a b _. kept_by_text (IsVec (IsElement IsUnsigned E.Bytes.WIDTH E.number)) vec_items (vec_text (element_text unsigned_text E.Bytes.WIDTH E.number)) a b };
@@ -78,6 +81,8 @@ impl<E: Element<ToUBE>> OrderedMapping<Vec<E>> for ToUBE {
     ghost domain_order = { on vec_items (slice_cmp (on E.number int_cmp)) };
 
     ghost keeps_order = { λ x y. joined_keep (unsigned_keep E.Bytes.WIDTH E.has_bytes E.number E.number_decides) x.items y.items };
+
+    ghost decided_by_text = { λ x y x_in y_in same. same_from_joined (unsigned_keep E.Bytes.WIDTH E.has_bytes E.number E.number_decides) x.items y.items x_in y_in refl same };
 }
 
 /// Vectors, in the order of the first element that differs, a shorter front first.
@@ -102,6 +107,8 @@ impl<E: Element<ToIBE>> BytesMapping<Vec<E>> for ToIBE {
 
     ghost has_text = { λ _ _ _ stands. stands };
 
+    ghost one_text = { λ x y same. ap (joined (element_text signed_text E.Bytes.WIDTH E.number)) same };
+
     ghost reads_one = { λ _ x y x_in y_in x_text y_text. same_from_joined (signed_keep E.Bytes.WIDTH E.has_bytes E.number E.number_decides) x.items y.items x_in y_in x_text y_text };
 
     ghost kept_by_text = { λ a b _. kept_by_text (IsVec (IsElement IsSigned E.Bytes.WIDTH E.number)) vec_items (vec_text (element_text signed_text E.Bytes.WIDTH E.number)) a b };
@@ -123,4 +130,6 @@ impl<E: Element<ToIBE>> OrderedMapping<Vec<E>> for ToIBE {
     ghost domain_order = { on vec_items (slice_cmp (on E.number int_cmp)) };
 
     ghost keeps_order = { λ x y. joined_keep (signed_keep E.Bytes.WIDTH E.has_bytes E.number E.number_decides) x.items y.items };
+
+    ghost decided_by_text = { λ x y x_in y_in same. same_from_joined (signed_keep E.Bytes.WIDTH E.has_bytes E.number E.number_decides) x.items y.items x_in y_in refl same };
 }
