@@ -7,20 +7,14 @@ use Rattle.std.specs.declared.ops.Bound.TheVariants.{Included, Excluded, Unbound
 abbrev pub ChildMap : Type 0 → Type 0
 ChildMap H = List (ℕ × H)
 
+-- bytes below 256, each at least `low` and greater than those before it
+abbrev pub IsAscendingFrom : ℕ → List ℕ → Type 0
+IsAscendingFrom low [] = Unit {0}
+IsAscendingFrom low (b ∷ bytes) = (low ≤ b) × (b < 256) × IsAscendingFrom (suc b) bytes
+
 -- bytes, each greater than those before it
 abbrev pub IsAscending : List ℕ → Type 0
-IsAscending [] = Unit {0}
-IsAscending (b ∷ bytes) = (b < 256) × All (λ c. b < c) bytes × IsAscending bytes
-
--- the byte stands at this place
-abbrev pub IsByteAt : List ℕ → ℕ → ℕ → Type 0
-IsByteAt bytes byte place = slice_get bytes place ≡ Some byte
-
--- the byte would go to this place: smaller bytes stand before it, and greater ones from it on
-pub record IsGapFor (bytes : List ℕ) (byte place : ℕ) : Type 0 where
-  pub in_range : place ≤ length bytes
-  pub smaller_before : All (λ b. b < byte) (take place bytes)
-  pub greater_after : All (λ b. byte < b) (drop place bytes)
+IsAscending bytes = IsAscendingFrom 0 bytes
 
 -- the byte is not before the start
 abbrev pub meets_start : Bound ℕ → ℕ → Bool
@@ -48,6 +42,10 @@ abbrev pub AreValidBounds : Bound ℕ → Bound ℕ → Type 0
 AreValidBounds start end = IsTrue (are_valid_bounds start end)
 
 module _ {H : Type 0} where
+  -- the bytes that have a child
+  abbrev pub key_bytes : ChildMap H → List ℕ
+  key_bytes children = map (λ p. p.0) children
+
   -- the child under a byte
   abbrev pub child_at : ChildMap H → ℕ → Option H
   child_at [] byte = None

@@ -1,8 +1,8 @@
 -- What contracts see of an inner node, whichever way it keeps its children.
-use Rattle.std.specs.Prelude.{◌≡◌, ℕ, ◌≤◌, List, [], length, map, ◌<◌, IsNone}
+use Rattle.std.specs.Prelude.{◌≡◌, ℕ, ◌≤◌, List, [], length, ◌<◌, IsNone}
 use Rattle.std.specs.List.{zip}
-use Rattle.art_header.specs.Header.{Header, capped}
-use Rattle.art_nodes.specs.ChildMap.{ChildMap, child_at, IsAscending}
+use Rattle.art_header.specs.Header.{Header}
+use Rattle.art_nodes.specs.ChildMap.{ChildMap, child_at, key_bytes, IsAscending}
 
 -- the prefix's length and stored front, and the child map
 pub record Inner (H : Type 0) : Type 0 where
@@ -31,8 +31,7 @@ module _ {H : Type 0} where
   abbrev pub sorted_children : List ℕ → List H → ChildMap H
   sorted_children bytes children = zip bytes children
 
-  -- bytes ascend, children fit, and the stored front has its length
-  pub record IsInner (room prefix_room : ℕ) (node : Inner H) : Type 0 where
-    pub ascending : IsAscending (map (λ p. p.0) node.children)
+  -- bytes ascend, and the children fit
+  pub record IsInner (room : ℕ) (node : Inner H) : Type 0 where
+    pub ascending : IsAscending (key_bytes node.children)
     pub fits : length node.children ≤ room
-    pub capped_prefix : length node.stored ≡ capped prefix_room node.prefix_len

@@ -4,3 +4,5 @@ pub mod Commands
 pub mod Inner
 pub mod Leaf
 pub mod Pointers
+pub mod SortedNode
+pub mod WritePoint

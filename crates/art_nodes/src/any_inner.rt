@@ -6,12 +6,13 @@ ghost use Rattle.art_nodes.specs.AnyInner.{inner_of, kind_of};
 ghost use Rattle.art_nodes.specs.ChildMap.{child_at, with_child, without_child, first_pair, last_pair, pairs_within};
 ghost use Rattle.art_nodes.specs.Inner.{HasRoomFor, IsInner, header_of, with_children};
 
+use crate::bounds::is_within;
 use crate::inner_node_sorted::{InnerNode4, InnerNode16};
 use crate::node::InnerNodeCommon;
 use crate::pointers::OpaqueNodePtr;
 use art_header::{Header, NodeType};
 use std::alloc::{AllocError, Global};
-use std::ops::{Bound, RangeBounds};
+use std::ops::Bound;
 
 #[derive(Drop)]
 pub(crate) enum AnyInner<K, V, const PREFIX_LEN: usize> {
@@ -32,7 +33,7 @@ macro_rules! with_node {
 impl<K, V, const PREFIX_LEN: usize> AnyInner<K, V, PREFIX_LEN> {
     pub(crate) fn header(&self) -> &Header<PREFIX_LEN>
         ensures header { result.now ≡ header_of (inner_of self.now) }
-        ensures sound { IsInner (most_children (kind_of self.now)) PREFIX_LEN (inner_of self.now) }
+        ensures sound { IsInner (most_children (kind_of self.now)) (inner_of self.now) }
     {
         with_node!(self, node => node.header())
     }
@@ -94,6 +95,7 @@ impl<K, V, const PREFIX_LEN: usize> AnyInner<K, V, PREFIX_LEN> {
     }
 
     /// The pairs within the bounds, in a vector.
+    #[tactic(auto, using(crate::proofs::SortedLemmas::zip_parts))]
     pub(crate) fn pairs_within(
         &self,
         alloc: Global,
@@ -108,13 +110,15 @@ impl<K, V, const PREFIX_LEN: usize> AnyInner<K, V, PREFIX_LEN> {
 
     /// Whether the node has as many children as its kind holds.
     pub(crate) fn is_full(&self) -> bool
-        ensures { IsTrue result ↔ (length (inner_of self.now).children ≡ most_children (kind_of self.now)) }
+        ensures sound { IsInner (most_children (kind_of self.now)) (inner_of self.now) }
+        ensures value { IsTrue result ↔ (length (inner_of self.now).children ≡ most_children (kind_of self.now)) }
     {
         self.header().num_children() == *self.node_type().capacity_range().end()
     }
 
     /// Whether the node has fewer children than a node of its kind is to have.
     pub(crate) fn is_below_range(&self) -> bool
+        ensures sound { IsInner (most_children (kind_of self.now)) (inner_of self.now) }
         ensures value { IsTrue result ↔ (kind_of self.now ≢ NodeType.Node4 × length (inner_of self.now).children < least_children (kind_of self.now)) }
     {
         self.node_type()
@@ -123,7 +127,8 @@ impl<K, V, const PREFIX_LEN: usize> AnyInner<K, V, PREFIX_LEN> {
 
     /// Makes the node one of the next greater kind, if there is one.
     pub(crate) fn grow(&mut self)
-        requires { kind_of self.old ≡ NodeType.Node4 }
+        requires kind { kind_of self.old ≡ NodeType.Node4 }
+        requires fits { length (inner_of self.old).children ≤ 16 }
         ensures same { inner_of self.new ≡ inner_of self.old }
         ensures kind { kind_of self.new ≡ NodeType.Node16 }
     {
@@ -158,7 +163,7 @@ fn collect_within<K, V, const PREFIX_LEN: usize>(
 {
     let mut pairs = Vec::new(alloc);
     for (index, key) in keys.iter().enumerate() {
-        if (start, end).contains(key) {
+        if is_within(start, end, *key) {
             pairs.push((*key, children[index]))?;
         }
     }

@@ -102,7 +102,7 @@ impl<K, V, const PREFIX_LEN: usize> ChildNode<K, V, PREFIX_LEN> {
         ensures written { self.new ≡ with_children self.old (with_child self.old.children byte child) }
     {
         let old_child = self.node.lookup_child(byte);
-        if old_child.is_none() && self.node.is_full() {
+        if self.node.is_full() && old_child.is_none() {
             self.node.grow();
         }
         self.node.write_child(byte, child);

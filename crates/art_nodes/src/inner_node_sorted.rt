@@ -1,6 +1,7 @@
 //! Inner nodes that keep their bytes sorted: `Node4` and `Node16`.
 ghost use Rattle.std.specs.Prelude.{IfOk, IfErr};
-ghost use Rattle.art_nodes.specs.ChildMap.{IsAscending, IsByteAt, IsGapFor};
+ghost use Rattle.art_nodes.specs.ChildMap.{IsAscending};
+ghost use Rattle.art_nodes.specs.WritePoint.{IsByteAt, IsGapFor};
 
 use crate::node::{InnerNodeCommon, Node};
 use crate::pointers::OpaqueNodePtr;
@@ -28,16 +29,15 @@ impl<K, V, const PREFIX_LEN: usize, const SIZE: usize> Sealed
 
 impl<K, V, const PREFIX_LEN: usize, const SIZE: usize> Model
     for InnerNodeSorted<K, V, PREFIX_LEN, SIZE> {
-    ghost use Rattle.std.specs.Prelude.{◌≡◌, ◌<◌, length};
     ghost use Rattle.art_nodes.specs.declared.pointers.OpaqueNodePtr.{OpaqueNodePtr};
     ghost use Rattle.art_nodes.specs.Inner.{Inner, sorted_children};
-    ghost use Rattle.art_nodes.specs.ChildMap.{IsAscending};
+    ghost use Rattle.art_nodes.specs.SortedNode.{IsSortedNode};
 
     ghost Value = { Inner (OpaqueNodePtr K V PREFIX_LEN) };
 
     ghost view = { λ n. record { prefix_len = n.header.prefix_len; stored = n.header.stored; children = sorted_children n.keys.items n.child_pointers.items } };
 
-    ghost invariant = { λ n. (n.header.count ≡ length n.keys.items) × (length n.child_pointers.items ≡ length n.keys.items) × IsAscending n.keys.items };
+    ghost invariant = { λ n. IsSortedNode SIZE n.header n.keys.items n.child_pointers.items };
 }
 
 impl<K, V, const PREFIX_LEN: usize, const SIZE: usize> InnerNodeInit<PREFIX_LEN>

@@ -36,7 +36,7 @@ pub trait InnerNodeCommon<K, V, const PREFIX_LEN: usize>: InnerNodeInit<PREFIX_L
     /// The header.
     fn header(&self) -> &Header<PREFIX_LEN>
         ensures header { result.now ≡ header_of (inner self.now) }
-        ensures sound { IsInner room PREFIX_LEN (inner self.now) };
+        ensures sound { IsInner room (inner self.now) };
 
     /// The most children that the node can hold.
     fn capacity(&self) -> usize
@@ -67,3 +67,6 @@ pub trait InnerNodeCommon<K, V, const PREFIX_LEN: usize>: InnerNodeInit<PREFIX_L
     /// A node begins with no children.
     ghost starts_empty: { (h : Header) → inner (Self.empty_with h) ≡ empty_inner h };
 }
+
+#[cfg(test)]
+mod tests;

@@ -1,0 +1,23 @@
+use Rattle.std.proofs.Common.{rules, arith, ◌≡◌, ap, ◌∙◌, sym, ◌*◌}
+use Rattle.std.proofs.iter.Serving.{serving}
+use Rattle.art_mapped.specs.Numbers.{IsElement, element_text}
+use Rattle.art_mapped.proofs.Parts.{no_rest, size_of_parts, joined_from_parts}
+use Rattle.art_mapped.proofs.Turns.{callable_unchanged, called_at}
+use Rattle.art_mapped.proofs.sequence.array_of.Goals as goal
+
+pub from_fn-requires : goal.from_fn-requires
+from_fn-requires g c =
+    (search rules, callable_unchanged _ _ _ _ _ (λ x q called. search rules) (λ t x u step. grind serving))
+
+pub returns-clause-in_range : goal.returns-clause-in_range
+returns-clause-in_range g c = λ k d below. let called = c.from_fn.ensures.items.at k d (omega arith) in search rules
+
+pub returns-clause-text : goal.returns-clause-text
+returns-clause-text g c =
+    let width = g.E.Bytes.FixedBytes.WIDTH in
+    let number = g.E.Element.number in
+    let text = element_text g.B.IntegerMapping.number_text width number in
+    let is_element = IsElement g.B.IntegerMapping.is_in_range width number in
+    let long = λ (x : g.row.E.Denot). g.B.IntegerMapping.has_width width (number x) in
+    let size = size_of_parts text width long c.args.bytes.now (no_rest text width long is_element c.args.bytes.now c.requires.elements) in
+    joined_from_parts text width long c.from_fn.result c.args.bytes.now (size ∙ ap (λ n. n * width) (c.requires.size ∙ sym c.from_fn.ensures.items.long)) (λ k d below. let called = called_at _ _ (λ x y q called. search rules) c.from_fn.result g.row.N 0 c.from_fn.ensures.items.each k d (omega arith) (omega arith) in search rules)

@@ -1,0 +1,43 @@
+ghost use Rattle.std.specs.Prelude.{◌≡◌, ℕ, length};
+
+use art_bytes::AsBytes;
+
+mod sealed {
+    pub trait Sealed {}
+
+    impl<const N: usize> Sealed for [u8; N] {}
+}
+
+use sealed::Sealed;
+
+/// Bytes of one length, an array `[u8; N]`.
+///
+/// No other type can have it.
+pub trait FixedBytes: AsBytes + Copy + Sealed {
+    /// How many bytes the text of a key has.
+    const WIDTH: usize;
+
+    ghost WIDTH: { ℕ };
+
+    /// The key with this text, which has `WIDTH` bytes.
+    fn from_slice(bytes: &[u8]) -> Self
+        requires { length bytes.now ≡ WIDTH }
+        ensures key { Self.is_key result }
+        ensures text { Self.text result ≡ bytes.now };
+
+    ghost width: { (key : Self) → Self.is_key key → length (Self.text key) ≡ WIDTH };
+}
+
+impl<const N: usize> FixedBytes for [u8; N] {
+    const WIDTH: usize = N;
+
+    ghost WIDTH = { N };
+
+    ghost width = { λ key is_key. is_key };
+
+    fn from_slice(bytes: &[u8]) -> [u8; N] {
+        let mut key = [0; N];
+        key.copy_from_slice(bytes);
+        key
+    }
+}

@@ -1,0 +1,4 @@
+pub mod BoundLemmas
+pub mod ChildMapLemmas
+pub mod KindLemmas
+pub mod SortedLemmas

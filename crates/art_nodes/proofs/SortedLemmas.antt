@@ -1,0 +1,212 @@
+-- Ascending bytes with children beside them, and what an edit at one place does to the child map.
+use Rattle.std.proofs.Common.{◌≡◌, ℕ, zero, suc, ◌+◌, ◌-◌, ◌<◌, ◌≤◌, ◌≢◌, Bool, true, false, not, nat_eq, nat_lt, List, [], ◌∷◌, ◌++◌, length, get_or, set, map, Option, Some, None, Result, Ok, Err, IfOk, IfErr, IsNone, slice_get, refl, sym, ◌∙◌, ap, subst, arith, filter, if◌then◌else◌}
+use Rattle.std.specs.List.{insert, refill, remove, zip}
+use Rattle.std.specs.List.Sorted.{IsSearchInRange, IsBinarySearchResult, IsNonDecreasingBy}
+use Rattle.std.specs.Ordering.{nat_cmp, ordering_index}
+use Rattle.std.proofs.lemmas.Cmp.{ranked}
+use Rattle.std.proofs.lemmas.List.Sorted.{IsNonDecreasingBy-from_default}
+use Rattle.std.proofs.lemmas.List.Edits.{length-insert, length-remove}
+use Rattle.std.proofs.lemmas.Bool.Decides.{nat_tests}
+use Rattle.std.proofs.lemmas.Grind.{common_steps}
+use Rattle.art_nodes.specs.ChildMap.{ChildMap, IsAscendingFrom, IsAscending, child_at, key_bytes, with_child, without_child}
+use Rattle.art_header.specs.Header.{Header}
+use Rattle.art_nodes.specs.Inner.{Inner, HasRoomFor}
+use Rattle.art_nodes.specs.SortedNode.{IsSortedNode}
+use Rattle.art_nodes.specs.WritePoint.{IsByteAt, IsGapFor}
+use Rattle.art_nodes.proofs.ChildMapLemmas.{IsAbove, with_child-front, with_child-same, with_child-later, child_at-front, child_at-same, child_at-later, without_child-front, without_child-same, without_child-later}
+
+-- each ascending byte is at least the least
+pub ascending-low : (low : ℕ) (bytes : List ℕ) → IsAscendingFrom low bytes → (k : ℕ) → k < length bytes → low ≤ get_or bytes k 0
+ascending-low low [] asc k below = absurd (omega arith)
+ascending-low low (b ∷ bytes) asc zero below = asc.0
+ascending-low low (b ∷ bytes) asc (suc k) below = omega (arith, asc.0, ascending-low (suc b) bytes asc.2 k (omega arith))
+
+-- of two places, the later has the greater byte
+pub ascending-rises : (low : ℕ) (bytes : List ℕ) → IsAscendingFrom low bytes → (i j : ℕ) → i < j → j < length bytes → get_or bytes i 0 < get_or bytes j 0
+ascending-rises low [] asc i j lt below = absurd (omega arith)
+ascending-rises low (b ∷ bytes) asc i zero lt below = absurd (omega arith)
+ascending-rises low (b ∷ bytes) asc zero (suc j) lt below = ascending-low (suc b) bytes asc.2 j (omega arith)
+ascending-rises low (b ∷ bytes) asc (suc i) (suc j) lt below = ascending-rises (suc b) bytes asc.2 i j (omega arith) (omega arith)
+
+-- there are at most as many as are left below 256
+pub ascending-length : (low : ℕ) (bytes : List ℕ) → low ≤ 256 → IsAscendingFrom low bytes → length bytes + low ≤ 256
+ascending-length low [] le asc = omega arith
+ascending-length low (b ∷ bytes) le asc = omega (arith, asc.0, ascending-length (suc b) bytes (omega (arith, asc.1)) asc.2)
+
+-- a lower bound may be lowered
+pub ascending-lower : (low lower : ℕ) (bytes : List ℕ) → lower ≤ low → IsAscendingFrom low bytes → IsAscendingFrom lower bytes
+ascending-lower low lower [] le asc = tt
+ascending-lower low lower (b ∷ bytes) le asc = (omega (arith, asc.0), asc.1, asc.2)
+
+module _ (bytes : List ℕ) (asc : IsAscending bytes) (byte : ℕ) where
+  comparisons_rise : IsNonDecreasingBy (λ b. ordering_index (nat_cmp b byte)) bytes
+  comparisons_rise = IsNonDecreasingBy-from_default (λ b. ordering_index (nat_cmp b byte)) bytes 0 (λ i j le in_range.
+      let bytes_rise : get_or bytes i 0 ≤ get_or bytes j 0 = grind (arith, ascending-rises 0 bytes asc i j, λ (same : i ≡ j). ap (λ k. get_or bytes k 0) same) in
+      grind (arith, nat_tests))
+
+  -- a binary search ends at the byte, or at the gap for it
+  pub searched : (r : Result ℕ ℕ) → IsSearchInRange r (length bytes) → IsBinarySearchResult (λ b. nat_cmp b byte) bytes r → record { existing : IfOk r (IsByteAt bytes byte); absent : IfErr r (IsGapFor bytes byte) }
+  searched (Ok at) in_range equal = record { existing = record { in_range = in_range; same = ranked _ byte _ (sym (equal 0)) }; absent = tt }
+  searched (Err at) in_range parted = record {
+    existing = tt;
+    absent = record {
+      in_range = in_range;
+      smaller_before = λ j lt. ranked _ byte _ (sym ((parted comparisons_rise).0 j 0 (omega arith) lt));
+      greater_after = λ j le lt. ranked _ byte _ (sym ((parted comparisons_rise).1 j 0 le lt));
+    };
+  }
+
+-- a gap further on is a gap of the rest
+gap_rest : (b : ℕ) (bytes : List ℕ) (byte place : ℕ) → IsGapFor (b ∷ bytes) byte (suc place) → IsGapFor bytes byte place
+gap_rest b bytes byte place gap = record {
+  in_range = omega (arith, gap.in_range);
+  smaller_before = λ k lt. gap.smaller_before (suc k) (omega arith);
+  greater_after = λ k le lt. gap.greater_after (suc k) (omega arith) (omega arith);
+}
+
+-- a gap in front lies below the first byte
+gap_front : (low b : ℕ) (bytes : List ℕ) (byte : ℕ) → IsGapFor (b ∷ bytes) byte zero → byte < b
+gap_front low b bytes byte gap = gap.greater_after 0 (omega arith) (omega arith)
+
+module _ {H : Type 0} where
+  pub key_bytes-zip : (bytes : List ℕ) (children : List H) → length children ≡ length bytes → key_bytes (zip bytes children) ≡ bytes
+  key_bytes-zip [] children same = refl
+  key_bytes-zip (b ∷ bytes) [] same = absurd (omega arith)
+  key_bytes-zip (b ∷ bytes) (x ∷ children) same = ap (λ rest. b ∷ rest) (key_bytes-zip bytes children (omega arith))
+
+  pub seconds-zip : (bytes : List ℕ) (children : List H) → length children ≡ length bytes → map (λ p. p.1) (zip bytes children) ≡ children
+  seconds-zip [] [] same = refl
+  seconds-zip [] (x ∷ children) same = absurd (omega arith)
+  seconds-zip (b ∷ bytes) [] same = absurd (omega arith)
+  seconds-zip (b ∷ bytes) (x ∷ children) same = ap (λ rest. x ∷ rest) (seconds-zip bytes children (omega arith))
+
+  pub length-zip : (bytes : List ℕ) (children : List H) → length children ≡ length bytes → length (zip bytes children) ≡ length bytes
+  length-zip [] children same = refl
+  length-zip (b ∷ bytes) [] same = absurd (omega arith)
+  length-zip (b ∷ bytes) (x ∷ children) same = let rest = length-zip bytes children (omega arith) in omega (arith, rest)
+
+  pub above-zip : (low : ℕ) (bytes : List ℕ) (children : List H) → length children ≡ length bytes → IsAscendingFrom low bytes → IsAbove low (zip bytes children)
+  above-zip low bytes children same asc = rw (key_bytes-zip bytes children same) asc
+
+  -- the child at a place is the child under the byte there
+  pub child_at-zip : (low : ℕ) (bytes : List ℕ) (children : List H) (byte place : ℕ) → length children ≡ length bytes → IsAscendingFrom low bytes → IsByteAt bytes byte place → child_at (zip bytes children) byte ≡ slice_get children place
+  child_at-zip low [] children byte place same asc at = absurd (omega (arith, at.in_range))
+  child_at-zip low (b ∷ bytes) [] byte place same asc at = absurd (omega arith)
+  child_at-zip low (b ∷ bytes) (x ∷ children) byte zero same asc at = child_at-same b byte x (zip bytes children) at.same
+  child_at-zip low (b ∷ bytes) (x ∷ children) byte (suc place) same asc at =
+      let at_rest : IsByteAt bytes byte place = record { in_range = omega (arith, at.in_range); same = at.same } in
+      let greater : b < byte = omega (arith, ascending-low (suc b) bytes asc.2 place at_rest.in_range, at.same) in
+      rw (child_at-later b byte x (zip bytes children) (λ e. omega arith)) (child_at-zip (suc b) bytes children byte place (omega arith) asc.2 at_rest)
+
+  -- writing over the child at a place writes the child under the byte there
+  pub with_child-zip_set : (low : ℕ) (bytes : List ℕ) (children : List H) (byte place : ℕ) (child : H) → length children ≡ length bytes → IsAscendingFrom low bytes → IsByteAt bytes byte place → with_child (zip bytes children) byte child ≡ zip bytes (set children place child)
+  with_child-zip_set low [] children byte place child same asc at = absurd (omega (arith, at.in_range))
+  with_child-zip_set low (b ∷ bytes) [] byte place child same asc at = absurd (omega arith)
+  with_child-zip_set low (b ∷ bytes) (x ∷ children) byte zero child same asc at = with_child-same b byte x (zip bytes children) child at.same (above-zip (suc b) bytes children (omega arith) asc.2) ∙ ap (λ c. (c, child) ∷ zip bytes children) (sym at.same)
+  with_child-zip_set low (b ∷ bytes) (x ∷ children) byte (suc place) child same asc at =
+      let at_rest : IsByteAt bytes byte place = record { in_range = omega (arith, at.in_range); same = at.same } in
+      let greater : b < byte = omega (arith, ascending-low (suc b) bytes asc.2 place at_rest.in_range, at.same) in
+      rw (with_child-later b byte x (zip bytes children) child greater) (ap (λ rest. (b, x) ∷ rest) (with_child-zip_set (suc b) bytes children byte place child (omega arith) asc.2 at_rest))
+
+  -- taking out a place takes out the byte there
+  pub without_child-zip_remove : (low : ℕ) (bytes : List ℕ) (children : List H) (byte place : ℕ) → length children ≡ length bytes → IsAscendingFrom low bytes → IsByteAt bytes byte place → without_child (zip bytes children) byte ≡ zip (remove bytes place) (remove children place)
+  without_child-zip_remove low [] children byte place same asc at = absurd (omega (arith, at.in_range))
+  without_child-zip_remove low (b ∷ bytes) [] byte place same asc at = absurd (omega arith)
+  without_child-zip_remove low (b ∷ bytes) (x ∷ children) byte zero same asc at = without_child-same b byte x (zip bytes children) at.same (above-zip (suc b) bytes children (omega arith) asc.2)
+  without_child-zip_remove low (b ∷ bytes) (x ∷ children) byte (suc place) same asc at =
+      let at_rest : IsByteAt bytes byte place = record { in_range = omega (arith, at.in_range); same = at.same } in
+      let greater : b < byte = omega (arith, ascending-low (suc b) bytes asc.2 place at_rest.in_range, at.same) in
+      rw (without_child-later b byte x (zip bytes children) (λ e. omega arith)) (ap (λ rest. (b, x) ∷ rest) (without_child-zip_remove (suc b) bytes children byte place (omega arith) asc.2 at_rest))
+
+  -- the pair at a place has the byte and the child there
+  pub slice_get-zip : (bytes : List ℕ) (children : List H) (place byte : ℕ) (child : H) → length children ≡ length bytes → place < length bytes → slice_get (zip bytes children) place ≡ Some (get_or bytes place byte, get_or children place child)
+  slice_get-zip [] children place byte child same below = absurd (omega arith)
+  slice_get-zip (b ∷ bytes) [] place byte child same below = absurd (omega arith)
+  slice_get-zip (b ∷ bytes) (x ∷ children) zero byte child same below = refl
+  slice_get-zip (b ∷ bytes) (x ∷ children) (suc place) byte child same below = slice_get-zip bytes children place byte child (omega arith) (omega arith)
+
+  -- a slice with one element changed, put back where it came from
+  pub refill-set : (children : List H) (place : ℕ) (child : H) → refill (length children) children (set children place child) ≡ set children place child
+  refill-set children place child = grind (arith, common_steps)
+
+  -- a byte that has a gap is not there
+  pub child_at-zip_gap : (low : ℕ) (bytes : List ℕ) (children : List H) (byte place : ℕ) → length children ≡ length bytes → IsAscendingFrom low bytes → IsGapFor bytes byte place → child_at (zip bytes children) byte ≡ None
+  child_at-zip_gap low [] children byte place same asc gap = refl
+  child_at-zip_gap low (b ∷ bytes) [] byte place same asc gap = absurd (omega arith)
+  child_at-zip_gap low (b ∷ bytes) (x ∷ children) byte zero same asc gap =
+      child_at-front b byte ((b, x) ∷ zip bytes children) (gap_front low b bytes byte gap) (omega arith, asc.1, above-zip (suc b) bytes children (omega arith) asc.2)
+  child_at-zip_gap low (b ∷ bytes) (x ∷ children) byte (suc place) same asc gap =
+      let smaller : b < byte = gap.smaller_before 0 (omega arith) in
+      rw (child_at-later b byte x (zip bytes children) (λ e. omega arith)) (child_at-zip_gap (suc b) bytes children byte place (omega arith) asc.2 (gap_rest b bytes byte place gap))
+
+  pub without_child-zip_gap : (low : ℕ) (bytes : List ℕ) (children : List H) (byte place : ℕ) → length children ≡ length bytes → IsAscendingFrom low bytes → IsGapFor bytes byte place → without_child (zip bytes children) byte ≡ zip bytes children
+  without_child-zip_gap low [] children byte place same asc gap = refl
+  without_child-zip_gap low (b ∷ bytes) [] byte place same asc gap = absurd (omega arith)
+  without_child-zip_gap low (b ∷ bytes) (x ∷ children) byte zero same asc gap =
+      without_child-front b byte ((b, x) ∷ zip bytes children) (gap_front low b bytes byte gap) (omega arith, asc.1, above-zip (suc b) bytes children (omega arith) asc.2)
+  without_child-zip_gap low (b ∷ bytes) (x ∷ children) byte (suc place) same asc gap =
+      let smaller : b < byte = gap.smaller_before 0 (omega arith) in
+      rw (without_child-later b byte x (zip bytes children) (λ e. omega arith)) (ap (λ rest. (b, x) ∷ rest) (without_child-zip_gap (suc b) bytes children byte place (omega arith) asc.2 (gap_rest b bytes byte place gap)))
+
+  -- putting byte and child into the gap writes the child under the byte
+  pub with_child-zip_insert : (low : ℕ) (bytes : List ℕ) (children : List H) (byte place : ℕ) (child : H) → length children ≡ length bytes → IsAscendingFrom low bytes → IsGapFor bytes byte place → with_child (zip bytes children) byte child ≡ zip (insert bytes place byte) (insert children place child)
+  with_child-zip_insert low [] [] byte zero child same asc gap = refl
+  with_child-zip_insert low [] (x ∷ children) byte place child same asc gap = absurd (omega arith)
+  with_child-zip_insert low [] [] byte (suc place) child same asc gap = absurd (omega (arith, gap.in_range))
+  with_child-zip_insert low (b ∷ bytes) [] byte place child same asc gap = absurd (omega arith)
+  with_child-zip_insert low (b ∷ bytes) (x ∷ children) byte zero child same asc gap =
+      with_child-front b byte ((b, x) ∷ zip bytes children) child (gap_front low b bytes byte gap) (omega arith, asc.1, above-zip (suc b) bytes children (omega arith) asc.2)
+  with_child-zip_insert low (b ∷ bytes) (x ∷ children) byte (suc place) child same asc gap =
+      let smaller : b < byte = gap.smaller_before 0 (omega arith) in
+      rw (with_child-later b byte x (zip bytes children) child smaller) (ap (λ rest. (b, x) ∷ rest) (with_child-zip_insert (suc b) bytes children byte place child (omega arith) asc.2 (gap_rest b bytes byte place gap)))
+
+-- a byte put into its gap keeps the order
+pub ascending-insert : (low : ℕ) (bytes : List ℕ) (byte place : ℕ) → low ≤ byte → byte < 256 → IsAscendingFrom low bytes → IsGapFor bytes byte place → IsAscendingFrom low (insert bytes place byte)
+ascending-insert low bytes byte zero le fits asc gap = ascending-insert_front low bytes byte le fits asc gap
+  where
+    ascending-insert_front : (low : ℕ) (bytes : List ℕ) (byte : ℕ) → low ≤ byte → byte < 256 → IsAscendingFrom low bytes → IsGapFor bytes byte zero → IsAscendingFrom low (byte ∷ bytes)
+    ascending-insert_front low [] byte le fits asc gap = (le, fits, tt)
+    ascending-insert_front low (b ∷ bytes) byte le fits asc gap = (le, fits, (gap.greater_after 0 (omega arith) (omega arith), asc.1, asc.2))
+ascending-insert low [] byte (suc place) le fits asc gap = absurd (omega (arith, gap.in_range))
+ascending-insert low (b ∷ bytes) byte (suc place) le fits asc gap =
+    let smaller : b < byte = gap.smaller_before 0 (omega arith) in
+    (asc.0, asc.1, ascending-insert (suc b) bytes byte place (omega arith) fits asc.2 (gap_rest b bytes byte place gap))
+
+-- and so does taking one out
+pub ascending-remove : (low : ℕ) (bytes : List ℕ) (place : ℕ) → IsAscendingFrom low bytes → IsAscendingFrom low (remove bytes place)
+ascending-remove low [] zero asc = tt
+ascending-remove low [] (suc place) asc = tt
+ascending-remove low (b ∷ bytes) zero asc = ascending-lower (suc b) low bytes (omega (arith, asc.0)) asc.2
+ascending-remove low (b ∷ bytes) (suc place) asc = (asc.0, asc.1, ascending-remove (suc b) bytes place asc.2)
+
+module _ {H : Type 0} (room : ℕ) (header : Header) (bytes : List ℕ) (children : List H) (sorted : IsSortedNode room header bytes children) (byte place : ℕ) (gap : IsGapFor bytes byte place) where
+  -- a node that has room for a new byte is not full
+  pub not_full : (node : Inner H) → zip bytes children ≡ node.children → HasRoomFor room node byte → length bytes < room
+  not_full node view_is has_room =
+      let absent : child_at node.children byte ≡ None = subst (λ cs. child_at cs byte ≡ None) view_is (child_at-zip_gap 0 bytes children byte place sorted.beside sorted.ascending gap) in
+      let below : length node.children < room = has_room (rw absent refl) in
+      omega (arith, below, ap length view_is, length-zip bytes children sorted.beside)
+
+  -- the fields after byte and child were put into the gap
+  pub sorted-insert : (child : H) → byte < 256 → length bytes < room → (counted : Header) → counted.count ≡ header.count + 1 → IsSortedNode room counted (insert bytes place byte) (insert children place child)
+  sorted-insert child fits below counted one_more = record {
+    counted = omega (arith, one_more, sorted.counted, length-insert bytes place byte gap.in_range);
+    beside = omega (arith, sorted.beside, length-insert bytes place byte gap.in_range, length-insert children place child (omega (arith, gap.in_range, sorted.beside)));
+    fits = omega (arith, length-insert bytes place byte gap.in_range);
+    ascending = ascending-insert 0 bytes byte place (omega arith) fits sorted.ascending gap;
+  }
+
+module _ {H : Type 0} (room : ℕ) (header : Header) (bytes : List ℕ) (children : List H) (sorted : IsSortedNode room header bytes children) (place : ℕ) (in_range : place < length bytes) where
+  -- the fields after byte and child were taken out of a place
+  pub sorted-remove : (counted : Header) → counted.count ≡ header.count - 1 → IsSortedNode room counted (remove bytes place) (remove children place)
+  sorted-remove counted one_less = record {
+    counted = omega (arith, one_less, sorted.counted, length-remove bytes place in_range);
+    beside = omega (arith, sorted.beside, length-remove bytes place in_range, length-remove children place (omega (arith, in_range, sorted.beside)));
+    fits = omega (arith, sorted.fits, length-remove bytes place in_range);
+    ascending = ascending-remove 0 bytes place sorted.ascending;
+  }
+
+-- a child map is its bytes with its children beside them
+pub zip_parts : {H : Type 0} (children : ChildMap H) → zip (map (λ p. p.0) children) (map (λ p. p.1) children) ≡ children
+zip_parts [] = refl
+zip_parts (x ∷ children) = ap (λ rest. x ∷ rest) (zip_parts children)
