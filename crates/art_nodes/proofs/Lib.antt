@@ -1,4 +1,6 @@
 pub mod BoundLemmas
 pub mod ChildMapLemmas
+pub mod IndirectLemmas
 pub mod KindLemmas
 pub mod SortedLemmas
+pub mod TableLemmas

@@ -134,6 +134,10 @@ impl<K, V, const PREFIX_LEN: usize, const SIZE: usize> InnerNodeCommon<K, V, PRE
         SIZE.min(255)
     }
 
+    fn set_prefix(&mut self, header: &Header<PREFIX_LEN>) {
+        self.header.set_prefix(header);
+    }
+
     fn lookup_child(&self, key_fragment: u8) -> Option<OpaqueNodePtr<K, V, PREFIX_LEN>> {
         match self.child_indices[usize::from(key_fragment)] {
             Some(index) => Some(self.child_pointers[usize::from(index)]),

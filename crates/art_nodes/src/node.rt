@@ -1,7 +1,7 @@
 //! What every node and every inner node has.
 ghost use Rattle.std.specs.Prelude.{◌≡◌, ℕ, ◌<◌, ◌-◌, length, Some, None, slice_get};
 ghost use Rattle.art_nodes.specs.ChildMap.{child_at, with_child, without_child};
-ghost use Rattle.art_nodes.specs.Inner.{Inner, HasRoomFor, empty_inner, IsInner, header_of, with_children};
+ghost use Rattle.art_nodes.specs.Inner.{Inner, HasRoomFor, empty_inner, IsInner, header_of, with_children, with_prefix};
 
 use crate::pointers::OpaqueNodePtr;
 use crate::private::{InnerNodeInit, Sealed};
@@ -41,6 +41,11 @@ pub trait InnerNodeCommon<K, V, const PREFIX_LEN: usize>: InnerNodeInit<PREFIX_L
     /// The most children that the node can hold.
     fn capacity(&self) -> usize
         ensures { result ≡ room };
+
+    /// Takes over the prefix of this header: its length and its stored front. The children and
+    /// their count stay.
+    fn set_prefix(&mut self, header: &Header<PREFIX_LEN>)
+        ensures { inner self.new ≡ with_prefix (inner self.old) header.now };
 
     /// The child under the byte, if there is one.
     fn lookup_child(&self, key_fragment: u8) -> Option<OpaqueNodePtr<K, V, PREFIX_LEN>>
