@@ -1,3 +1,6 @@
 pub mod ChildMapLemmas
 pub mod KindLemmas
 pub mod SortedLemmas
+pub mod TableLemmas
+pub mod PairLemmas
+pub mod RangeLemmas

@@ -6,3 +6,5 @@ pub mod Leaf
 pub mod Pointers
 pub mod SortedNode
 pub mod WritePoint
+pub mod ChildIter
+pub mod PairSources

@@ -3,6 +3,7 @@
 
 mod any_inner;
 mod bounds;
+mod child_iter;
 mod child_node;
 mod command;
 mod inner_node_direct;
@@ -13,10 +14,13 @@ mod pointers;
 mod private;
 mod runs;
 mod sequence;
+mod sorted_pairs;
 mod table;
+mod table_pairs;
 
 pub use art_header::{Header, NodeType};
 pub use bounds::valid_range_bounds;
+pub use child_iter::ChildIter;
 pub use child_node::ChildNode;
 pub use command::{ChildCommand, ChildPairs, ChildReply};
 pub use inner_node_direct::InnerNodeDirect;
