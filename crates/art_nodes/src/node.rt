@@ -1,11 +1,13 @@
 //! What every node and every inner node has.
 ghost use Rattle.std.specs.Prelude.{◌≡◌, ℕ, ◌<◌, ◌-◌, length, Some, None, slice_get};
-ghost use Rattle.art_nodes.specs.ChildMap.{child_at, with_child, without_child};
+ghost use Rattle.art_nodes.specs.ChildMap.{child_at, with_child, without_child, pairs_within, AreValidBounds};
 ghost use Rattle.art_nodes.specs.Inner.{Inner, HasRoomFor, empty_inner, IsInner, header_of, with_children};
 
+use crate::child_iter::ChildIter;
 use crate::pointers::OpaqueNodePtr;
 use crate::private::{InnerNodeInit, Sealed};
 use art_header::{Header, NodeType};
+use std::ops::Bound;
 
 /// A node whose kind is known when the program is compiled.
 pub trait Node<const PREFIX_LEN: usize>: Sealed {
@@ -55,6 +57,16 @@ pub trait InnerNodeCommon<K, V, const PREFIX_LEN: usize>: InnerNodeInit<PREFIX_L
     fn remove_child(&mut self, key_fragment: u8) -> Option<OpaqueNodePtr<K, V, PREFIX_LEN>>
         ensures child { result ≡ child_at (inner self.old).children key_fragment }
         ensures removed { inner self.new ≡ with_children (inner self.old) (without_child (inner self.old).children key_fragment) };
+
+    /// The children by ascending byte, each once, from either end.
+    fn iter(&self) -> ChildIter<'_, K, V, PREFIX_LEN>
+        ensures { result ≡ (inner self.now).children };
+
+    /// Those of the children whose byte meets both bounds, which have to be valid:
+    /// [`valid_range_bounds`](crate::valid_range_bounds) is the test.
+    fn range(&self, start: Bound<u8>, end: Bound<u8>) -> ChildIter<'_, K, V, PREFIX_LEN>
+        requires { AreValidBounds start end }
+        ensures { result ≡ pairs_within (inner self.now).children start end };
 
     fn min(&self) -> (u8, OpaqueNodePtr<K, V, PREFIX_LEN>)
         requires { 0 < length (inner self.now).children }
