@@ -3,4 +3,5 @@ pub mod KindLemmas
 pub mod SortedLemmas
 pub mod TableLemmas
 pub mod PairLemmas
+pub mod PrefixLemmas
 pub mod RangeLemmas

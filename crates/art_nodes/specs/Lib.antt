@@ -8,3 +8,4 @@ pub mod SortedNode
 pub mod WritePoint
 pub mod ChildIter
 pub mod PairSources
+pub mod PrefixMatch

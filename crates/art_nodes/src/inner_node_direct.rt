@@ -2,6 +2,10 @@
 use crate::child_iter::ChildIter;
 use crate::node::{InnerNodeCommon, Node};
 use crate::pointers::OpaqueNodePtr;
+use crate::prefix_match::{
+    AttemptOptimisticPrefixMatch, OptimisticMismatch, PessimisticMismatch, PrefixMatch, match_length,
+    match_stored,
+};
 use crate::private::{InnerNodeInit, Sealed};
 use crate::table::{first_place, last_place};
 use art_header::{Header, NodeType};
@@ -140,5 +144,18 @@ impl<K, V, const PREFIX_LEN: usize> InnerNodeCommon<K, V, PREFIX_LEN>
 
     fn max(&self) -> (u8, OpaqueNodePtr<K, V, PREFIX_LEN>) {
         last_place(&self.child_pointers)
+    }
+    fn optimistic_match_prefix(
+        &self,
+        truncated_key: &[u8],
+    ) -> Result<PrefixMatch, OptimisticMismatch> {
+        match_length(&self.header, truncated_key)
+    }
+
+    fn attempt_pessimistic_match_prefix(
+        &self,
+        truncated_key: &[u8],
+    ) -> Result<AttemptOptimisticPrefixMatch, PessimisticMismatch> {
+        match_stored(&self.header, truncated_key)
     }
 }

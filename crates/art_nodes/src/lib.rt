@@ -11,6 +11,7 @@ mod inner_node_sorted;
 mod leaf_node;
 mod node;
 mod pointers;
+mod prefix_match;
 mod private;
 mod runs;
 mod sequence;
@@ -28,5 +29,8 @@ pub use inner_node_sorted::{InnerNode4, InnerNode16, InnerNodeSorted};
 pub use leaf_node::LeafNode;
 pub use node::{InnerNodeCommon, Node};
 pub use pointers::{NodePtr, OpaqueNodePtr};
+pub use prefix_match::{
+    AttemptOptimisticPrefixMatch, OptimisticMismatch, PessimisticMismatch, PrefixMatch,
+};
 pub use runs::{Replayed, distinct_writes, replay};
 pub use sequence::Sequence;
