@@ -12,7 +12,7 @@ use Rattle.std.proofs.lemmas.List.FromFn.{fill_by_all, length-range_with_len}
 use Rattle.std.proofs.lemmas.Bool.{cases_lt}
 use Rattle.art_nodes.specs.ChildMap.{ChildMap, child_at, with_child, without_child, table_children}
 use Rattle.art_nodes.proofs.TableLemmas.{child_at-table, with_child-table, without_child-table}
-use Rattle.art_nodes.specs.IndirectNode.{named_pointer, named_pointers, has_index, lowered_above}
+use Rattle.art_nodes.specs.IndirectNode.{named_pointer, named_pointers, has_index, lowered_above, AreBelow}
 use Rattle.art_nodes.proofs.ChildMapLemmas.{cases_eq, eq-false, lt-true, lt-false}
 
 -- lists, by their optional elements
@@ -106,10 +106,6 @@ named_once-push indices n place once within empty = λ index.
     let counted : counts index (get_or indices place None) ≡ 0 = ap (counts index) empty in
     let all = once index in
     grind (arith, nat_tests, change, counted, all)
-
--- every index is below n
-abbrev pub AreBelow : ℕ → List (Option ℕ) → Type 0
-AreBelow n indices = (place index : ℕ) → place < length indices → get_or indices place None ≡ Some index → index < n
 
 pub below_from_once : (indices : List (Option ℕ)) (n : ℕ) → IsNamedOnce indices n → AreBelow n indices
 below_from_once indices n once = λ place index within filled. named_within indices n place index once within filled

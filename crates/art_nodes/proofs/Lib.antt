@@ -4,3 +4,6 @@ pub mod IndirectLemmas
 pub mod KindLemmas
 pub mod SortedLemmas
 pub mod TableLemmas
+pub mod PairLemmas
+pub mod PrefixLemmas
+pub mod RangeLemmas

@@ -1,5 +1,5 @@
 -- The fields of an indirect node.
-use Rattle.std.specs.Prelude.{◌≡◌, ℕ, ◌≤◌, ◌-◌, ◌==◌, Bool, false, List, length, map, min, count_by, Option, Some, None, nat_lt, slice_get, if◌then◌else◌}
+use Rattle.std.specs.Prelude.{◌≡◌, ℕ, ◌<◌, ◌≤◌, ◌-◌, ◌==◌, Bool, false, List, length, map, min, count_by, Option, Some, None, nat_lt, slice_get, slice_index_or, if◌then◌else◌}
 use Rattle.art_header.specs.Header.{Header}
 
 -- the pointer that an index names
@@ -10,6 +10,10 @@ named_pointer pointers (Some index) = slice_get pointers index
 -- a place for each byte: the pointer that its index names
 abbrev pub named_pointers : {H : Type 0} → List H → List (Option ℕ) → List (Option H)
 named_pointers pointers indices = map (named_pointer pointers) indices
+
+-- each index is below this number
+abbrev pub AreBelow : ℕ → List (Option ℕ) → Type 0
+AreBelow number indices = (place index : ℕ) → place < length indices → slice_index_or indices place None ≡ Some index → index < number
 
 -- the place has this index
 abbrev pub has_index : ℕ → Option ℕ → Bool

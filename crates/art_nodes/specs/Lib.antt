@@ -7,3 +7,6 @@ pub mod Leaf
 pub mod Pointers
 pub mod SortedNode
 pub mod WritePoint
+pub mod ChildIter
+pub mod PairSources
+pub mod PrefixMatch

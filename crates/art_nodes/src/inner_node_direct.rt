@@ -1,10 +1,16 @@
 //! Inner nodes with a place for each byte: `Node256`.
+use crate::child_iter::ChildIter;
 use crate::node::{InnerNodeCommon, Node};
 use crate::pointers::OpaqueNodePtr;
+use crate::prefix_match::{
+    AttemptOptimisticPrefixMatch, OptimisticMismatch, PessimisticMismatch, PrefixMatch, match_length,
+    match_stored,
+};
 use crate::private::{InnerNodeInit, Sealed};
 use crate::table::{first_place, last_place};
 use art_header::{Header, NodeType};
 use std::marker::Model;
+use std::ops::Bound;
 
 /// An inner node for 49 to 256 children, which keeps each under its byte in a table.
 #[derive(Drop)]
@@ -77,7 +83,7 @@ impl<K, V, const PREFIX_LEN: usize> InnerNodeDirect<K, V, PREFIX_LEN> {
 impl<K, V, const PREFIX_LEN: usize> InnerNodeCommon<K, V, PREFIX_LEN>
     for InnerNodeDirect<K, V, PREFIX_LEN> {
     ghost use Rattle.std.specs.Prelude.{◌≡◌, refl};
-    ghost use Rattle.art_nodes.specs.ChildMap.{child_at, with_child, without_child};
+    ghost use Rattle.art_nodes.specs.ChildMap.{child_at, with_child, without_child, pairs_within, AreValidBounds};
     ghost use Rattle.art_nodes.specs.Inner.{HasRoomFor, with_children};
 
     ghost inner = { λ n. n };
@@ -123,11 +129,37 @@ impl<K, V, const PREFIX_LEN: usize> InnerNodeCommon<K, V, PREFIX_LEN>
         removed_child
     }
 
+    fn iter(&self) -> ChildIter<'_, K, V, PREFIX_LEN>
+        ensures { result ≡ self.now.children }
+    {
+        ChildIter::over_table(&self.child_pointers)
+    }
+
+    fn range(&self, start: Bound<u8>, end: Bound<u8>) -> ChildIter<'_, K, V, PREFIX_LEN>
+        requires { AreValidBounds start end }
+        ensures { result ≡ pairs_within self.now.children start end }
+    {
+        ChildIter::over_table_range(&self.child_pointers, start, end)
+    }
+
     fn min(&self) -> (u8, OpaqueNodePtr<K, V, PREFIX_LEN>) {
         first_place(&self.child_pointers)
     }
 
     fn max(&self) -> (u8, OpaqueNodePtr<K, V, PREFIX_LEN>) {
         last_place(&self.child_pointers)
+    }
+    fn optimistic_match_prefix(
+        &self,
+        truncated_key: &[u8],
+    ) -> Result<PrefixMatch, OptimisticMismatch> {
+        match_length(&self.header, truncated_key)
+    }
+
+    fn attempt_pessimistic_match_prefix(
+        &self,
+        truncated_key: &[u8],
+    ) -> Result<AttemptOptimisticPrefixMatch, PessimisticMismatch> {
+        match_stored(&self.header, truncated_key)
     }
 }

@@ -2,13 +2,19 @@
 ghost use Rattle.std.specs.Prelude.{◌≡◌, map};
 ghost use Rattle.art_nodes.specs.IndirectNode.{lowered_above};
 
+use crate::child_iter::ChildIter;
 use crate::node::{InnerNodeCommon, Node};
 use crate::pointers::OpaqueNodePtr;
+use crate::prefix_match::{
+    AttemptOptimisticPrefixMatch, OptimisticMismatch, PessimisticMismatch, PrefixMatch,
+    match_length, match_stored,
+};
 use crate::private::{InnerNodeInit, Sealed};
 use crate::table::{first_place, last_place};
 use arrayvec::ArrayVec;
 use art_header::{Header, NodeType, NonMaxIndex};
 use std::marker::Model;
+use std::ops::Bound;
 
 /// An inner node that keeps, in a table with a place for each byte, the index of the child.
 ///
@@ -116,7 +122,7 @@ fn lowered(place: Option<NonMaxIndex>, taken: NonMaxIndex) -> Option<NonMaxIndex
 impl<K, V, const PREFIX_LEN: usize, const SIZE: usize> InnerNodeCommon<K, V, PREFIX_LEN>
     for InnerNodeIndirect<K, V, PREFIX_LEN, SIZE> {
     ghost use Rattle.std.specs.Prelude.{◌≡◌, refl};
-    ghost use Rattle.art_nodes.specs.ChildMap.{with_child};
+    ghost use Rattle.art_nodes.specs.ChildMap.{with_child, pairs_within, AreValidBounds};
     ghost use Rattle.art_nodes.specs.IndirectNode.{indirect_room};
     ghost use Rattle.art_nodes.specs.Inner.{HasRoomFor, with_children};
 
@@ -170,6 +176,19 @@ impl<K, V, const PREFIX_LEN: usize, const SIZE: usize> InnerNodeCommon<K, V, PRE
         Some(self.child_pointers.remove(usize::from(index)))
     }
 
+    fn iter(&self) -> ChildIter<'_, K, V, PREFIX_LEN>
+        ensures { result ≡ self.now.children }
+    {
+        ChildIter::over_indices(&self.child_indices, &self.child_pointers)
+    }
+
+    fn range(&self, start: Bound<u8>, end: Bound<u8>) -> ChildIter<'_, K, V, PREFIX_LEN>
+        requires { AreValidBounds start end }
+        ensures { result ≡ pairs_within self.now.children start end }
+    {
+        ChildIter::over_indices_range(&self.child_indices, &self.child_pointers, start, end)
+    }
+
     fn min(&self) -> (u8, OpaqueNodePtr<K, V, PREFIX_LEN>) {
         let (byte, index) = first_place(&self.child_indices);
         (byte, self.child_pointers[usize::from(index)])
@@ -178,5 +197,19 @@ impl<K, V, const PREFIX_LEN: usize, const SIZE: usize> InnerNodeCommon<K, V, PRE
     fn max(&self) -> (u8, OpaqueNodePtr<K, V, PREFIX_LEN>) {
         let (byte, index) = last_place(&self.child_indices);
         (byte, self.child_pointers[usize::from(index)])
+    }
+
+    fn optimistic_match_prefix(
+        &self,
+        truncated_key: &[u8],
+    ) -> Result<PrefixMatch, OptimisticMismatch> {
+        match_length(&self.header, truncated_key)
+    }
+
+    fn attempt_pessimistic_match_prefix(
+        &self,
+        truncated_key: &[u8],
+    ) -> Result<AttemptOptimisticPrefixMatch, PessimisticMismatch> {
+        match_stored(&self.header, truncated_key)
     }
 }

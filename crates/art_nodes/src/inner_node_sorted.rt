@@ -3,12 +3,18 @@ ghost use Rattle.std.specs.Prelude.{IfOk, IfErr};
 ghost use Rattle.art_nodes.specs.ChildMap.{IsAscending};
 ghost use Rattle.art_nodes.specs.WritePoint.{IsByteAt, IsGapFor};
 
+use crate::child_iter::ChildIter;
 use crate::node::{InnerNodeCommon, Node};
 use crate::pointers::OpaqueNodePtr;
+use crate::prefix_match::{
+    AttemptOptimisticPrefixMatch, OptimisticMismatch, PessimisticMismatch, PrefixMatch, match_length,
+    match_stored,
+};
 use crate::private::{InnerNodeInit, Sealed};
 use arrayvec::ArrayVec;
 use art_header::{Header, NodeType};
 use std::marker::Model;
+use std::ops::Bound;
 
 /// An inner node that keeps its bytes in ascending order and its children beside them.
 #[derive(Drop)]
@@ -139,7 +145,7 @@ fn find_write_point(keys: &[u8], key_fragment: u8) -> Result<usize, usize>
 impl<K, V, const PREFIX_LEN: usize, const SIZE: usize> InnerNodeCommon<K, V, PREFIX_LEN>
     for InnerNodeSorted<K, V, PREFIX_LEN, SIZE> {
     ghost use Rattle.std.specs.Prelude.{◌≡◌};
-    ghost use Rattle.art_nodes.specs.ChildMap.{with_child};
+    ghost use Rattle.art_nodes.specs.ChildMap.{with_child, pairs_within, AreValidBounds};
     ghost use Rattle.art_nodes.specs.Inner.{HasRoomFor, with_children};
     ghost use Rattle.std.specs.Prelude.{refl};
 
@@ -193,6 +199,19 @@ impl<K, V, const PREFIX_LEN: usize, const SIZE: usize> InnerNodeCommon<K, V, PRE
         }
     }
 
+    fn iter(&self) -> ChildIter<'_, K, V, PREFIX_LEN>
+        ensures { result ≡ self.now.children }
+    {
+        ChildIter::over_sorted(&self.keys, &self.child_pointers)
+    }
+
+    fn range(&self, start: Bound<u8>, end: Bound<u8>) -> ChildIter<'_, K, V, PREFIX_LEN>
+        requires { AreValidBounds start end }
+        ensures { result ≡ pairs_within self.now.children start end }
+    {
+        ChildIter::over_sorted_range(&self.keys, &self.child_pointers, start, end)
+    }
+
     fn min(&self) -> (u8, OpaqueNodePtr<K, V, PREFIX_LEN>) {
         (self.keys[0], self.child_pointers[0])
     }
@@ -200,5 +219,18 @@ impl<K, V, const PREFIX_LEN: usize, const SIZE: usize> InnerNodeCommon<K, V, PRE
     fn max(&self) -> (u8, OpaqueNodePtr<K, V, PREFIX_LEN>) {
         let last = self.keys.len() - 1;
         (self.keys[last], self.child_pointers[last])
+    }
+    fn optimistic_match_prefix(
+        &self,
+        truncated_key: &[u8],
+    ) -> Result<PrefixMatch, OptimisticMismatch> {
+        match_length(&self.header, truncated_key)
+    }
+
+    fn attempt_pessimistic_match_prefix(
+        &self,
+        truncated_key: &[u8],
+    ) -> Result<AttemptOptimisticPrefixMatch, PessimisticMismatch> {
+        match_stored(&self.header, truncated_key)
     }
 }
