@@ -9,3 +9,4 @@ pub mod WritePoint
 pub mod ChildIter
 pub mod PairSources
 pub mod PrefixMatch
+pub mod Builder
