@@ -5,4 +5,5 @@ pub mod SortedLemmas
 pub mod TableLemmas
 pub mod PairLemmas
 pub mod PrefixLemmas
+pub mod PushLemmas
 pub mod RangeLemmas
