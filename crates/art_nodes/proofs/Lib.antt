@@ -1,4 +1,5 @@
 pub mod BoundLemmas
+pub mod BuilderLemmas
 pub mod ChildMapLemmas
 pub mod IndirectLemmas
 pub mod KindLemmas
@@ -6,4 +7,5 @@ pub mod SortedLemmas
 pub mod TableLemmas
 pub mod PairLemmas
 pub mod PrefixLemmas
+pub mod PushLemmas
 pub mod RangeLemmas

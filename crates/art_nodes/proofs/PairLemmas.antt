@@ -1,5 +1,5 @@
 -- The pairs that an iterator over children has left, after one was taken from the back.
-use Rattle.std.proofs.Common.{◌≡◌, ℕ, zero, suc, ◌+◌, ◌-◌, ◌<◌, ◌≤◌, List, [], ◌∷◌, ◌++◌, length, take, get_or, Option, Some, None, refl, sym, ◌∙◌, ap, arith}
+use Rattle.std.proofs.Common.{◌≡◌, ℕ, zero, suc, ◌+◌, ◌-◌, ◌<◌, ◌≤◌, List, [], ◌∷◌, ◌++◌, length, take, get_or, Option, Some, None, Contains, map, slice_get, unwrap_or, option_map, refl, sym, ◌∙◌, ap, subst, arith}
 use Rattle.std.specs.List.{zip}
 use Rattle.std.proofs.lemmas.List.{append-nil, take_more, length-take-le}
 use Rattle.art_nodes.specs.ChildMap.{ChildMap, table_children}
@@ -29,3 +29,16 @@ module _ {H : Type 0} where
       ∙ table-append byte (take place places) (get_or places place d ∷ [])
       ∙ ap (λ x. table_children byte (take place places) ++ table_children (byte + length (take place places)) (x ∷ [])) filled
       ∙ ap (λ n. table_children byte (take place places) ++ (byte + n, child) ∷ []) (length-take-le place places (omega arith))
+
+  -- the child of a pair between others is one of the children
+  pub contains-between : (front back children : ChildMap H) (pair : ℕ × H) → front ++ pair ∷ back ≡ children → Contains (map (λ p. p.1) children) pair.1
+  contains-between front back children pair is = subst (λ all. Contains (map (λ p. p.1) all) pair.1) is (at front)
+    where
+      at : (front : ChildMap H) → Contains (map (λ p. p.1) (front ++ pair ∷ back)) pair.1
+      at [] = (0, omega arith, refl)
+      at (x ∷ front) = let rest = at front in (suc rest.0, omega (arith, rest.1), rest.2)
+
+  -- and so is the first one's
+  pub contains-first : (children : ChildMap H) (pair : ℕ × H) → slice_get children 0 ≡ Some pair → Contains (map (λ p. p.1) children) pair.1
+  contains-first [] pair is = cc
+  contains-first (x ∷ children) pair is = (0, omega arith, ap (λ p. unwrap_or (option_map (λ q. q.1) p) x.1) is)

@@ -10,3 +10,4 @@ pub mod WritePoint
 pub mod ChildIter
 pub mod PairSources
 pub mod PrefixMatch
+pub mod Builder

@@ -89,8 +89,9 @@ impl<K, V, const PREFIX_LEN: usize> Node<PREFIX_LEN> for InnerNode16<K, V, PREFI
 }
 
 impl<K, V, const PREFIX_LEN: usize, const SIZE: usize> InnerNodeSorted<K, V, PREFIX_LEN, SIZE> {
-    ghost use Rattle.std.specs.Prelude.{◌≡◌, ◌≤◌, length, map};
-    ghost use Rattle.art_nodes.specs.Inner.{empty_inner};
+    ghost use Rattle.std.specs.Prelude.{◌≡◌, ◌<◌, ◌≤◌, All, length, map};
+    ghost use Rattle.art_nodes.specs.ChildMap.{key_bytes, with_child};
+    ghost use Rattle.art_nodes.specs.Inner.{empty_inner, with_children};
 
     /// A node with the prefix of this header and no children, whatever the header's count.
     pub(crate) fn from_header(mut header: Header<PREFIX_LEN>) -> Self
@@ -110,6 +111,21 @@ impl<K, V, const PREFIX_LEN: usize, const SIZE: usize> InnerNodeSorted<K, V, PRE
         ensures children { result.1.now ≡ map (λ p. p.1) self.now.children }
     {
         (&self.keys, &self.child_pointers)
+    }
+
+    /// Writes a child under a byte that is above every byte there. The node has to have room for it.
+    pub fn write_child_unchecked(
+        &mut self,
+        key_fragment: u8,
+        child_pointer: OpaqueNodePtr<K, V, PREFIX_LEN>,
+    )
+        requires room { length self.old.children < SIZE }
+        requires above { All (λ byte. byte < key_fragment) (key_bytes self.old.children) }
+        ensures { self.new ≡ with_children self.old (with_child self.old.children key_fragment child_pointer) }
+    {
+        self.keys.push(key_fragment);
+        self.child_pointers.push(child_pointer);
+        self.header.inc_num_children();
     }
 
     /// The same node with room for `NEW_SIZE` children, which have to fit.

@@ -3,6 +3,7 @@
 
 mod any_inner;
 mod bounds;
+mod builder;
 mod child_iter;
 mod child_node;
 mod command;
@@ -23,6 +24,7 @@ mod table_pairs;
 
 pub use art_header::{Header, NodeType, NonMaxIndex, TryFromByteError};
 pub use bounds::valid_range_bounds;
+pub use builder::{BuilderState, HasChild, HasOneChild, InnerNodeBuilder, NoChild};
 pub use child_iter::ChildIter;
 pub use child_node::ChildNode;
 pub use command::{ChildCommand, ChildPairs, ChildReply};

@@ -1,10 +1,12 @@
 //! What every node and every inner node has.
-ghost use Rattle.std.specs.Prelude.{◌≡◌, ℕ, ◌<◌, ◌-◌, List, length, Some, None, Ok, IsOkAnd, slice_get};
+ghost use Rattle.std.specs.Prelude.{◌≡◌, ℕ, ◌<◌, ◌≤◌, ◌^◌, ◌-◌, List, length, map, Contains, Some, None, Ok, IsOkAnd, slice_get};
 ghost use Rattle.art_nodes.specs.ChildMap.{child_at, with_child, without_child, pairs_within, AreValidBounds};
 ghost use Rattle.art_nodes.specs.PrefixMatch.{optimistic_match, cheap_match, IsPrefixOf};
+ghost use Rattle.art_header.specs.Header.{capped, empty_header};
 ghost use Rattle.art_bytes.specs.Text.{IsFront};
 ghost use Rattle.art_nodes.specs.Inner.{Inner, HasRoomFor, empty_inner, IsInner, header_of, with_children, with_prefix};
 
+use crate::builder::{InnerNodeBuilder, NoChild};
 use crate::child_iter::ChildIter;
 use crate::pointers::OpaqueNodePtr;
 use crate::prefix_match::{
@@ -108,6 +110,34 @@ pub trait InnerNodeCommon<K, V, const PREFIX_LEN: usize>: InnerNodeInit<PREFIX_L
     ) -> Result<AttemptOptimisticPrefixMatch, PessimisticMismatch>
         ensures matched { result ≡ cheap_match PREFIX_LEN (inner self.now).prefix_len (inner self.now).stored truncated_key.now }
         ensures passes_every_front { (prefix : List ℕ) → IsPrefixOf (inner self.now) prefix → IsFront prefix truncated_key.now → IsOkAnd result (λ found. found.matched_bytes ≡ length prefix) };
+
+    /// One of the children, a leaf where there is one. Which child it is is open otherwise. The node
+    /// has to have two children or more.
+    final fn any_child_prefer_leaf(&self) -> OpaqueNodePtr<K, V, PREFIX_LEN>
+        requires { 2 ≤ length (inner self.now).children }
+        ensures { Contains (map (λ pair. pair.1) (inner self.now).children) result }
+    {
+        let (_, least) = self.min();
+        for (_, child) in self.iter() {
+            if child.node_type() == NodeType::Leaf {
+                return child;
+            }
+        }
+        least
+    }
+
+    /// A builder of a node with this prefix. It asks what [`Header::new`] asks.
+    final fn builder(
+        prefix: &[u8],
+        prefix_len: usize,
+    ) -> InnerNodeBuilder<K, V, PREFIX_LEN, Self, NoChild>
+        requires has_stored_bytes { capped PREFIX_LEN prefix_len ≤ length prefix.now }
+        requires no_longer { length prefix.now ≤ prefix_len }
+        requires fits { prefix_len < 2 ^ 32 }
+        ensures { inner result ≡ empty_inner (empty_header PREFIX_LEN prefix.now prefix_len) }
+    {
+        InnerNodeBuilder::new(prefix, prefix_len)
+    }
 
     /// A node begins with no children.
     ghost starts_empty: { (h : Header) → inner (Self.empty_with h) ≡ empty_inner h };
