@@ -7,6 +7,8 @@
 
 mod header;
 mod node_type;
+mod non_max_index;
 
 pub use header::Header;
 pub use node_type::NodeType;
+pub use non_max_index::{NonMaxIndex, TryFromByteError};

@@ -1,4 +1,11 @@
 pub mod BoundLemmas
+pub mod BuilderLemmas
 pub mod ChildMapLemmas
+pub mod IndirectLemmas
 pub mod KindLemmas
 pub mod SortedLemmas
+pub mod TableLemmas
+pub mod PairLemmas
+pub mod PrefixLemmas
+pub mod PushLemmas
+pub mod RangeLemmas

@@ -1,8 +1,13 @@
 pub mod ChildMap
 pub mod AnyInner
 pub mod Commands
+pub mod IndirectNode
 pub mod Inner
 pub mod Leaf
 pub mod Pointers
 pub mod SortedNode
 pub mod WritePoint
+pub mod ChildIter
+pub mod PairSources
+pub mod PrefixMatch
+pub mod Builder

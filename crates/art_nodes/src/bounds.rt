@@ -1,8 +1,9 @@
 //! Bounds on key bytes.
-ghost use Rattle.std.specs.Prelude.{◌≡◌, ◌↔◌, ◌&&◌, IsTrue};
+ghost use Rattle.std.specs.Prelude.{◌≡◌, ◌≤◌, ◌↔◌, ◌&&◌, IsTrue};
 ghost use Rattle.art_nodes.specs.ChildMap.{AreValidBounds, meets_start, meets_end};
+ghost use Rattle.art_nodes.specs.PairSources.{first_byte, end_byte};
 
-use std::ops::{Bound, RangeBounds};
+use std::ops::{Bound, Range, RangeBounds};
 
 /// Whether a range of key bytes may have these bounds.
 ///
@@ -25,4 +26,25 @@ pub(crate) fn is_within(start: Bound<u8>, end: Bound<u8>, byte: u8) -> bool
     ensures { result ≡ (meets_start start byte && meets_end end byte) }
 {
     (start, end).contains(&byte)
+}
+
+/// The bytes that meet both bounds, as numbers, so that no bound wraps.
+pub(crate) fn byte_range(start: Bound<u8>, end: Bound<u8>) -> Range<usize>
+    requires { AreValidBounds start end }
+    ensures first { result.start ≡ first_byte start }
+    ensures end { result.end ≡ end_byte end }
+    ensures ordered { result.start ≤ result.end }
+    ensures fits { result.end ≤ 256 }
+{
+    let first = match start {
+        Bound::Included(byte) => usize::from(byte),
+        Bound::Excluded(byte) => usize::from(byte) + 1,
+        Bound::Unbounded => 0,
+    };
+    let end = match end {
+        Bound::Included(byte) => usize::from(byte) + 1,
+        Bound::Excluded(byte) => usize::from(byte),
+        Bound::Unbounded => 256,
+    };
+    first..end
 }

@@ -3,12 +3,18 @@ ghost use Rattle.std.specs.Prelude.{IfOk, IfErr};
 ghost use Rattle.art_nodes.specs.ChildMap.{IsAscending};
 ghost use Rattle.art_nodes.specs.WritePoint.{IsByteAt, IsGapFor};
 
+use crate::child_iter::ChildIter;
 use crate::node::{InnerNodeCommon, Node};
 use crate::pointers::OpaqueNodePtr;
+use crate::prefix_match::{
+    AttemptOptimisticPrefixMatch, OptimisticMismatch, PessimisticMismatch, PrefixMatch, match_length,
+    match_stored,
+};
 use crate::private::{InnerNodeInit, Sealed};
 use arrayvec::ArrayVec;
 use art_header::{Header, NodeType};
 use std::marker::Model;
+use std::ops::Bound;
 
 /// An inner node that keeps its bytes in ascending order and its children beside them.
 #[derive(Drop)]
@@ -83,8 +89,9 @@ impl<K, V, const PREFIX_LEN: usize> Node<PREFIX_LEN> for InnerNode16<K, V, PREFI
 }
 
 impl<K, V, const PREFIX_LEN: usize, const SIZE: usize> InnerNodeSorted<K, V, PREFIX_LEN, SIZE> {
-    ghost use Rattle.std.specs.Prelude.{◌≡◌, ◌≤◌, length, map};
-    ghost use Rattle.art_nodes.specs.Inner.{empty_inner};
+    ghost use Rattle.std.specs.Prelude.{◌≡◌, ◌<◌, ◌≤◌, All, length, map};
+    ghost use Rattle.art_nodes.specs.ChildMap.{key_bytes, with_child};
+    ghost use Rattle.art_nodes.specs.Inner.{empty_inner, with_children};
 
     /// A node with the prefix of this header and no children, whatever the header's count.
     pub(crate) fn from_header(mut header: Header<PREFIX_LEN>) -> Self
@@ -104,6 +111,21 @@ impl<K, V, const PREFIX_LEN: usize, const SIZE: usize> InnerNodeSorted<K, V, PRE
         ensures children { result.1.now ≡ map (λ p. p.1) self.now.children }
     {
         (&self.keys, &self.child_pointers)
+    }
+
+    /// Writes a child under a byte that is above every byte there. The node has to have room for it.
+    pub fn write_child_unchecked(
+        &mut self,
+        key_fragment: u8,
+        child_pointer: OpaqueNodePtr<K, V, PREFIX_LEN>,
+    )
+        requires room { length self.old.children < SIZE }
+        requires above { All (λ byte. byte < key_fragment) (key_bytes self.old.children) }
+        ensures { self.new ≡ with_children self.old (with_child self.old.children key_fragment child_pointer) }
+    {
+        self.keys.push(key_fragment);
+        self.child_pointers.push(child_pointer);
+        self.header.inc_num_children();
     }
 
     /// The same node with room for `NEW_SIZE` children, which have to fit.
@@ -139,7 +161,7 @@ fn find_write_point(keys: &[u8], key_fragment: u8) -> Result<usize, usize>
 impl<K, V, const PREFIX_LEN: usize, const SIZE: usize> InnerNodeCommon<K, V, PREFIX_LEN>
     for InnerNodeSorted<K, V, PREFIX_LEN, SIZE> {
     ghost use Rattle.std.specs.Prelude.{◌≡◌};
-    ghost use Rattle.art_nodes.specs.ChildMap.{with_child};
+    ghost use Rattle.art_nodes.specs.ChildMap.{with_child, pairs_within, AreValidBounds};
     ghost use Rattle.art_nodes.specs.Inner.{HasRoomFor, with_children};
     ghost use Rattle.std.specs.Prelude.{refl};
 
@@ -155,6 +177,10 @@ impl<K, V, const PREFIX_LEN: usize, const SIZE: usize> InnerNodeCommon<K, V, PRE
 
     fn capacity(&self) -> usize {
         SIZE
+    }
+
+    fn set_prefix(&mut self, header: &Header<PREFIX_LEN>) {
+        self.header.set_prefix(header);
     }
 
     fn lookup_child(&self, key_fragment: u8) -> Option<OpaqueNodePtr<K, V, PREFIX_LEN>> {
@@ -189,6 +215,19 @@ impl<K, V, const PREFIX_LEN: usize, const SIZE: usize> InnerNodeCommon<K, V, PRE
         }
     }
 
+    fn iter(&self) -> ChildIter<'_, K, V, PREFIX_LEN>
+        ensures { result ≡ self.now.children }
+    {
+        ChildIter::over_sorted(&self.keys, &self.child_pointers)
+    }
+
+    fn range(&self, start: Bound<u8>, end: Bound<u8>) -> ChildIter<'_, K, V, PREFIX_LEN>
+        requires { AreValidBounds start end }
+        ensures { result ≡ pairs_within self.now.children start end }
+    {
+        ChildIter::over_sorted_range(&self.keys, &self.child_pointers, start, end)
+    }
+
     fn min(&self) -> (u8, OpaqueNodePtr<K, V, PREFIX_LEN>) {
         (self.keys[0], self.child_pointers[0])
     }
@@ -196,5 +235,18 @@ impl<K, V, const PREFIX_LEN: usize, const SIZE: usize> InnerNodeCommon<K, V, PRE
     fn max(&self) -> (u8, OpaqueNodePtr<K, V, PREFIX_LEN>) {
         let last = self.keys.len() - 1;
         (self.keys[last], self.child_pointers[last])
+    }
+    fn optimistic_match_prefix(
+        &self,
+        truncated_key: &[u8],
+    ) -> Result<PrefixMatch, OptimisticMismatch> {
+        match_length(&self.header, truncated_key)
+    }
+
+    fn attempt_pessimistic_match_prefix(
+        &self,
+        truncated_key: &[u8],
+    ) -> Result<AttemptOptimisticPrefixMatch, PessimisticMismatch> {
+        match_stored(&self.header, truncated_key)
     }
 }

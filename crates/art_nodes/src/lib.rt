@@ -3,23 +3,39 @@
 
 mod any_inner;
 mod bounds;
+mod builder;
+mod child_iter;
 mod child_node;
 mod command;
+mod index_pairs;
+mod inner_node_direct;
+mod inner_node_indirect;
 mod inner_node_sorted;
 mod leaf_node;
 mod node;
 mod pointers;
+mod prefix_match;
 mod private;
 mod runs;
 mod sequence;
+mod sorted_pairs;
+mod table;
+mod table_pairs;
 
-pub use art_header::{Header, NodeType};
+pub use art_header::{Header, NodeType, NonMaxIndex, TryFromByteError};
 pub use bounds::valid_range_bounds;
+pub use builder::{BuilderState, HasChild, HasOneChild, InnerNodeBuilder, NoChild};
+pub use child_iter::ChildIter;
 pub use child_node::ChildNode;
 pub use command::{ChildCommand, ChildPairs, ChildReply};
+pub use inner_node_direct::InnerNodeDirect;
+pub use inner_node_indirect::{InnerNode48, InnerNodeIndirect};
 pub use inner_node_sorted::{InnerNode4, InnerNode16, InnerNodeSorted};
 pub use leaf_node::LeafNode;
 pub use node::{InnerNodeCommon, Node};
 pub use pointers::{NodePtr, OpaqueNodePtr};
+pub use prefix_match::{
+    AttemptOptimisticPrefixMatch, OptimisticMismatch, PessimisticMismatch, PrefixMatch,
+};
 pub use runs::{Replayed, distinct_writes, replay};
 pub use sequence::Sequence;

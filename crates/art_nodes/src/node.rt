@@ -1,11 +1,20 @@
 //! What every node and every inner node has.
-ghost use Rattle.std.specs.Prelude.{◌≡◌, ℕ, ◌<◌, ◌-◌, length, Some, None, slice_get};
-ghost use Rattle.art_nodes.specs.ChildMap.{child_at, with_child, without_child};
-ghost use Rattle.art_nodes.specs.Inner.{Inner, HasRoomFor, empty_inner, IsInner, header_of, with_children};
+ghost use Rattle.std.specs.Prelude.{◌≡◌, ℕ, ◌<◌, ◌≤◌, ◌^◌, ◌-◌, List, length, map, Contains, Some, None, Ok, IsOkAnd, slice_get};
+ghost use Rattle.art_nodes.specs.ChildMap.{child_at, with_child, without_child, pairs_within, AreValidBounds};
+ghost use Rattle.art_nodes.specs.PrefixMatch.{optimistic_match, cheap_match, IsPrefixOf};
+ghost use Rattle.art_header.specs.Header.{capped, empty_header};
+ghost use Rattle.art_bytes.specs.Text.{IsFront};
+ghost use Rattle.art_nodes.specs.Inner.{Inner, HasRoomFor, empty_inner, IsInner, header_of, with_children, with_prefix};
 
+use crate::builder::{InnerNodeBuilder, NoChild};
+use crate::child_iter::ChildIter;
 use crate::pointers::OpaqueNodePtr;
+use crate::prefix_match::{
+    AttemptOptimisticPrefixMatch, OptimisticMismatch, PessimisticMismatch, PrefixMatch,
+};
 use crate::private::{InnerNodeInit, Sealed};
 use art_header::{Header, NodeType};
+use std::ops::Bound;
 
 /// A node whose kind is known when the program is compiled.
 pub trait Node<const PREFIX_LEN: usize>: Sealed {
@@ -42,6 +51,11 @@ pub trait InnerNodeCommon<K, V, const PREFIX_LEN: usize>: InnerNodeInit<PREFIX_L
     fn capacity(&self) -> usize
         ensures { result ≡ room };
 
+    /// Takes over the prefix of this header: its length and its stored front. The children and
+    /// their count stay.
+    fn set_prefix(&mut self, header: &Header<PREFIX_LEN>)
+        ensures { inner self.new ≡ with_prefix (inner self.old) header.now };
+
     /// The child under the byte, if there is one.
     fn lookup_child(&self, key_fragment: u8) -> Option<OpaqueNodePtr<K, V, PREFIX_LEN>>
         ensures { result ≡ child_at (inner self.now).children key_fragment };
@@ -56,6 +70,16 @@ pub trait InnerNodeCommon<K, V, const PREFIX_LEN: usize>: InnerNodeInit<PREFIX_L
         ensures child { result ≡ child_at (inner self.old).children key_fragment }
         ensures removed { inner self.new ≡ with_children (inner self.old) (without_child (inner self.old).children key_fragment) };
 
+    /// The children by ascending byte, each once, from either end.
+    fn iter(&self) -> ChildIter<'_, K, V, PREFIX_LEN>
+        ensures { result ≡ (inner self.now).children };
+
+    /// Those of the children whose byte meets both bounds, which have to be valid:
+    /// [`valid_range_bounds`](crate::valid_range_bounds) is the test.
+    fn range(&self, start: Bound<u8>, end: Bound<u8>) -> ChildIter<'_, K, V, PREFIX_LEN>
+        requires { AreValidBounds start end }
+        ensures { result ≡ pairs_within (inner self.now).children start end };
+
     fn min(&self) -> (u8, OpaqueNodePtr<K, V, PREFIX_LEN>)
         requires { 0 < length (inner self.now).children }
         ensures { slice_get (inner self.now).children 0 ≡ Some result };
@@ -63,6 +87,57 @@ pub trait InnerNodeCommon<K, V, const PREFIX_LEN: usize>: InnerNodeInit<PREFIX_L
     fn max(&self) -> (u8, OpaqueNodePtr<K, V, PREFIX_LEN>)
         requires { 0 < length (inner self.now).children }
         ensures { slice_get (inner self.now).children (length (inner self.now).children - 1) ≡ Some result };
+
+    /// Tests whether the rest of a key is long enough for the prefix. No byte is compared.
+    ///
+    /// Answers the length of the prefix, or else that of the rest. Whoever comes to a leaf by this
+    /// match has to compare the leaf's whole key.
+    fn optimistic_match_prefix(
+        &self,
+        truncated_key: &[u8],
+    ) -> Result<PrefixMatch, OptimisticMismatch>
+        ensures matched { result ≡ optimistic_match (inner self.now).prefix_len truncated_key.now }
+        ensures passes_every_front { (prefix : List ℕ) → IsPrefixOf (inner self.now) prefix → IsFront prefix truncated_key.now → IsOkAnd result (λ found. found.matched_bytes ≡ length prefix) };
+
+    /// Compares the rest of a key with the prefix where the node stores all of it, and else only
+    /// tests whether the rest is long enough, as [`InnerNodeCommon::optimistic_match_prefix`].
+    ///
+    /// Answers the length of the prefix, or else how many bytes match, and the prefix's byte that
+    /// the rest lacks or differs in.
+    fn attempt_pessimistic_match_prefix(
+        &self,
+        truncated_key: &[u8],
+    ) -> Result<AttemptOptimisticPrefixMatch, PessimisticMismatch>
+        ensures matched { result ≡ cheap_match PREFIX_LEN (inner self.now).prefix_len (inner self.now).stored truncated_key.now }
+        ensures passes_every_front { (prefix : List ℕ) → IsPrefixOf (inner self.now) prefix → IsFront prefix truncated_key.now → IsOkAnd result (λ found. found.matched_bytes ≡ length prefix) };
+
+    /// One of the children, a leaf where there is one. Which child it is is open otherwise. The node
+    /// has to have two children or more.
+    final fn any_child_prefer_leaf(&self) -> OpaqueNodePtr<K, V, PREFIX_LEN>
+        requires { 2 ≤ length (inner self.now).children }
+        ensures { Contains (map (λ pair. pair.1) (inner self.now).children) result }
+    {
+        let (_, least) = self.min();
+        for (_, child) in self.iter() {
+            if child.node_type() == NodeType::Leaf {
+                return child;
+            }
+        }
+        least
+    }
+
+    /// A builder of a node with this prefix. It asks what [`Header::new`] asks.
+    final fn builder(
+        prefix: &[u8],
+        prefix_len: usize,
+    ) -> InnerNodeBuilder<K, V, PREFIX_LEN, Self, NoChild>
+        requires has_stored_bytes { capped PREFIX_LEN prefix_len ≤ length prefix.now }
+        requires no_longer { length prefix.now ≤ prefix_len }
+        requires fits { prefix_len < 2 ^ 32 }
+        ensures { inner result ≡ empty_inner (empty_header PREFIX_LEN prefix.now prefix_len) }
+    {
+        InnerNodeBuilder::new(prefix, prefix_len)
+    }
 
     /// A node begins with no children.
     ghost starts_empty: { (h : Header) → inner (Self.empty_with h) ≡ empty_inner h };

@@ -1,0 +1,30 @@
+-- What a write leaves of the children of a builder.
+use Rattle.std.proofs.Common.{◌≡◌, ℕ, ◌+◌, ◌<◌, ◌≤◌, length, Option, Some, None, IsNone, sym, ◌∙◌, subst, arith, if◌then◌else◌}
+use Rattle.std.specs.Option.{is_some}
+use Rattle.art_nodes.specs.ChildMap.{ChildMap, IsAscending, child_at, key_bytes, with_child}
+use Rattle.art_nodes.specs.Builder.{AreWritten}
+use Rattle.art_nodes.proofs.ChildMapLemmas.{above-with_child, length-with_child}
+
+counted-up : {H : Type 0} (found : Option H) (before after : ℕ) → after ≡ (if is_some found then before else before + 1) → before ≤ after
+counted-up None before after is = omega arith
+counted-up (Some child) before after is = omega arith
+
+counted-one : {H : Type 0} (found : Option H) (before after : ℕ) → after ≡ (if is_some found then before else before + 1) → IsNone found → after ≡ before + 1
+counted-one None before after is none = is
+counted-one (Some child) before after is none = cc
+
+module _ {H : Type 0} (children after : ChildMap H) (byte : ℕ) (child : H) (fits : byte < 256) (is : after ≡ with_child children byte child) where
+  ascends : IsAscending (key_bytes children) → IsAscending (key_bytes after)
+  ascends asc = subst (λ cs. IsAscending (key_bytes cs)) (sym is) (above-with_child 0 byte children child (omega arith) fits asc)
+
+  -- two or more stay two or more
+  pub written-more : AreWritten (λ n. 2 ≤ n) children → AreWritten (λ n. 2 ≤ n) after
+  written-more was =
+      let up = counted-up (child_at children byte) (length children) (length (with_child children byte child)) (length-with_child 0 byte children child was.ascending) in
+      record { counted = subst (λ cs. 2 ≤ length cs) (sym is) (omega (arith, up, was.counted)); ascending = ascends was.ascending }
+
+  -- one and another are two
+  pub written-second : AreWritten (λ n. n ≡ 1) children → IsNone (child_at children byte) → AreWritten (λ n. 2 ≤ n) after
+  written-second was none =
+      let up = counted-one (child_at children byte) (length children) (length (with_child children byte child)) (length-with_child 0 byte children child was.ascending) none in
+      record { counted = subst (λ cs. 2 ≤ length cs) (sym is) (omega (arith, up, was.counted)); ascending = ascends was.ascending }

@@ -1,0 +1,39 @@
+-- Bytes that two texts have in common from the front on.
+use Rattle.std.proofs.Common.{◌≡◌, ℕ, zero, suc, ◌+◌, ◌<◌, ◌≤◌, nat_eq, List, [], ◌∷◌, ◌++◌, length, refl, sym, ◌∙◌, ap, subst, arith, length-append, Ok, false}
+use Rattle.std.specs.List.{common_prefix_len}
+use Rattle.std.proofs.lemmas.Bool.Decides.{nat_tests}
+use Rattle.art_bytes.specs.Text.{IsFront}
+use Rattle.art_nodes.specs.PrefixMatch.{cheap_match}
+use Rattle.std.proofs.lemmas.List.Sums.{common_prefix_len-le}
+use Rattle.art_nodes.proofs.ChildMapLemmas.{eq-true, lt-false}
+
+-- a text has all its bytes in common with one that it begins
+common-append : (front rest : List ℕ) → common_prefix_len nat_eq front (front ++ rest) ≡ length front
+common-append [] rest = refl
+common-append (x ∷ front) rest = rw (eq-true x x refl) (let behind = common-append front rest in omega (arith, behind))
+
+-- a front of the whole length is the text
+whole_front : (stored prefix : List ℕ) → IsFront stored prefix → length prefix ≡ length stored → prefix ≡ stored
+whole_front [] [] front same = refl
+whole_front [] (x ∷ prefix) front same = absurd (omega arith)
+whole_front (x ∷ stored) prefix (rest, is) same =
+    let none : length rest ≡ 0 = omega (arith, ap length is, length-append (x ∷ stored) rest) in
+    is ∙ behind-none (x ∷ stored) rest none
+  where
+    behind-none : (xs ys : List ℕ) → length ys ≡ 0 → xs ++ ys ≡ xs
+    behind-none [] [] none = refl
+    behind-none [] (y ∷ ys) none = absurd (omega arith)
+    behind-none (x ∷ xs) ys none = ap (λ rest. x ∷ rest) (behind-none xs ys none)
+
+-- the whole stored text is in common with each rest that begins with a prefix that it is a front of
+pub common-whole : (stored prefix rest : List ℕ) → length prefix ≡ length stored → IsFront stored prefix → IsFront prefix rest → common_prefix_len nat_eq stored rest ≡ length stored
+common-whole stored prefix rest same front (behind, is) =
+    let prefix_is : prefix ≡ stored = whole_front stored prefix front same in
+    ap (common_prefix_len nat_eq stored) (is ∙ ap (λ p. p ++ behind) prefix_is) ∙ common-append stored behind
+
+-- where the whole stored prefix is in common, the cheap match says so
+pub whole_match : (room prefix_len : ℕ) (stored rest : List ℕ) (matched : ℕ) → prefix_len ≤ room → matched ≡ common_prefix_len nat_eq stored rest → length stored ≤ matched → cheap_match room prefix_len stored rest ≡ Ok (record { matched_bytes = matched; any_implicit_bytes = false })
+whole_match room prefix_len stored rest matched le is all =
+    let same : common_prefix_len nat_eq stored rest ≡ length stored = omega (arith, is, (common_prefix_len-le nat_eq stored rest).0) in
+    rw (lt-false room prefix_len le, eq-true (common_prefix_len nat_eq stored rest) (length stored) same)
+    (ap (λ n. Ok (record { matched_bytes = n; any_implicit_bytes = false })) (sym is))

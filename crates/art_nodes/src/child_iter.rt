@@ -1,0 +1,163 @@
+//! The iterator over the children of an inner node.
+ghost use Rattle.std.specs.Prelude.{◌≡◌, ◌≤◌, length};
+ghost use Rattle.std.specs.Iterator.{YieldsFirst, YieldsLast, item_count};
+ghost use Rattle.art_nodes.specs.ChildMap.{table_children, pairs_within, IsAscending, AreValidBounds};
+ghost use Rattle.art_nodes.specs.IndirectNode.{named_pointers, AreBelow};
+ghost use Rattle.art_nodes.specs.Inner.{sorted_children};
+
+use crate::bounds::byte_range;
+use crate::index_pairs::IndexPairs;
+use crate::pointers::OpaqueNodePtr;
+use crate::sorted_pairs::{SortedPairs, count_below};
+use crate::table_pairs::TablePairs;
+use art_header::NonMaxIndex;
+use std::iter::FusedIterator;
+use std::marker::Model;
+use std::ops::Bound;
+
+/// The pairs of a byte and the child under it that an inner node has, by ascending byte.
+///
+/// It borrows the node and takes no memory. Each pair comes once, from the front or from the back,
+/// and after the last pair comes `None` for good.
+#[derive(Drop)]
+pub struct ChildIter<'a, K, V, const PREFIX_LEN: usize> {
+    source: Source<'a, K, V, PREFIX_LEN>,
+}
+
+// The ways that inner nodes keep their children.
+#[derive(Drop)]
+enum Source<'a, K, V, const PREFIX_LEN: usize> {
+    Sorted(SortedPairs<'a, K, V, PREFIX_LEN>),
+    Table(TablePairs<'a, K, V, PREFIX_LEN>),
+    Indexed(IndexPairs<'a, K, V, PREFIX_LEN>),
+}
+
+impl<'a, K, V, const PREFIX_LEN: usize> Model for ChildIter<'a, K, V, PREFIX_LEN> {
+    ghost use Rattle.art_nodes.specs.declared.pointers.OpaqueNodePtr.{OpaqueNodePtr};
+    ghost use Rattle.art_nodes.specs.ChildMap.{ChildMap};
+
+    ghost Value = { ChildMap (OpaqueNodePtr K V PREFIX_LEN) };
+
+    ghost use Rattle.art_nodes.specs.ChildIter.{pairs_of};
+
+    ghost view = { λ it. pairs_of it.source };
+}
+
+impl<'a, K, V, const PREFIX_LEN: usize> ChildIter<'a, K, V, PREFIX_LEN> {
+    /// Over ascending bytes with the children beside them.
+    pub(crate) fn over_sorted(
+        keys: &'a [u8],
+        children: &'a [OpaqueNodePtr<K, V, PREFIX_LEN>],
+    ) -> Self
+        requires { length children.now ≡ length keys.now }
+        ensures { result ≡ sorted_children keys.now children.now }
+    {
+        ChildIter {
+            source: Source::Sorted(SortedPairs::new(keys, children)),
+        }
+    }
+
+    /// Over a table with a place for each byte.
+    pub(crate) fn over_table(places: &'a [Option<OpaqueNodePtr<K, V, PREFIX_LEN>>; 256]) -> Self
+        ensures { result ≡ table_children 0 places.now }
+    {
+        ChildIter {
+            source: Source::Table(TablePairs::new(0, &places[..])),
+        }
+    }
+
+    /// Over a table with a place for each byte, which has the index of the child.
+    pub(crate) fn over_indices(
+        indices: &'a [Option<NonMaxIndex>; 256],
+        children: &'a [OpaqueNodePtr<K, V, PREFIX_LEN>],
+    ) -> Self
+        requires { AreBelow (length children.now) indices.now }
+        ensures { result ≡ table_children 0 (named_pointers children.now indices.now) }
+    {
+        ChildIter {
+            source: Source::Indexed(IndexPairs::new(0, &indices[..], children)),
+        }
+    }
+
+    /// Over those of the ascending bytes that meet both bounds, with the children beside them.
+    pub(crate) fn over_sorted_range(
+        keys: &'a [u8],
+        children: &'a [OpaqueNodePtr<K, V, PREFIX_LEN>],
+        start: Bound<u8>,
+        end: Bound<u8>,
+    ) -> Self
+        requires beside { length children.now ≡ length keys.now }
+        requires ascending { IsAscending keys.now }
+        requires valid { AreValidBounds start end }
+        ensures { result ≡ pairs_within (sorted_children keys.now children.now) start end }
+    {
+        let bytes = byte_range(start, end);
+        let from = count_below(keys, bytes.start);
+        let (keys, children) = (&keys[from..], &children[from..]);
+        let kept = count_below(keys, bytes.end);
+        Self::over_sorted(&keys[..kept], &children[..kept])
+    }
+
+    /// Over the places of a table whose bytes meet both bounds.
+    pub(crate) fn over_table_range(
+        places: &'a [Option<OpaqueNodePtr<K, V, PREFIX_LEN>>; 256],
+        start: Bound<u8>,
+        end: Bound<u8>,
+    ) -> Self
+        requires { AreValidBounds start end }
+        ensures { result ≡ pairs_within (table_children 0 places.now) start end }
+    {
+        let bytes = byte_range(start, end);
+        ChildIter {
+            source: Source::Table(TablePairs::new(bytes.start, &places[bytes.start..bytes.end])),
+        }
+    }
+
+    /// Over the places of a table of indices whose bytes meet both bounds.
+    pub(crate) fn over_indices_range(
+        indices: &'a [Option<NonMaxIndex>; 256],
+        children: &'a [OpaqueNodePtr<K, V, PREFIX_LEN>],
+        start: Bound<u8>,
+        end: Bound<u8>,
+    ) -> Self
+        requires named { AreBelow (length children.now) indices.now }
+        requires valid { AreValidBounds start end }
+        ensures { result ≡ pairs_within (table_children 0 (named_pointers children.now indices.now)) start end }
+    {
+        let bytes = byte_range(start, end);
+        let places = &indices[bytes.start..bytes.end];
+        ChildIter {
+            source: Source::Indexed(IndexPairs::new(bytes.start, places, children)),
+        }
+    }
+}
+
+impl<'a, K, V, const PREFIX_LEN: usize> Iterator for ChildIter<'a, K, V, PREFIX_LEN> {
+    type Item = (u8, OpaqueNodePtr<K, V, PREFIX_LEN>);
+
+    ghost next_gives = { YieldsFirst (λ pairs. pairs) };
+
+    ghost remaining = { item_count (λ pairs. pairs) };
+
+    fn next(&mut self) -> Option<(u8, OpaqueNodePtr<K, V, PREFIX_LEN>)> {
+        match &mut self.source {
+            Source::Sorted(pairs) => pairs.next(),
+            Source::Table(pairs) => pairs.next(),
+            Source::Indexed(pairs) => pairs.next(),
+        }
+    }
+}
+
+impl<'a, K, V, const PREFIX_LEN: usize> DoubleEndedIterator for ChildIter<'a, K, V, PREFIX_LEN> {
+    ghost next_back_gives = { YieldsLast (λ pairs. pairs) };
+
+    fn next_back(&mut self) -> Option<(u8, OpaqueNodePtr<K, V, PREFIX_LEN>)> {
+        match &mut self.source {
+            Source::Sorted(pairs) => pairs.next_back(),
+            Source::Table(pairs) => pairs.next_back(),
+            Source::Indexed(pairs) => pairs.next_back(),
+        }
+    }
+}
+
+impl<'a, K, V, const PREFIX_LEN: usize> FusedIterator for ChildIter<'a, K, V, PREFIX_LEN> {}
