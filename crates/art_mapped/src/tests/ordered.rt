@@ -81,3 +81,83 @@ fn test_ordered_signed(rt: HostRuntime) -> Result<(), Fail> {
     ordered_sequences::<ToIBE, isize>(&rt, alloc, [isize::MIN, 0, isize::MAX])?;
     Ok(())
 }
+
+#[test]
+fn test_ordered_non_zero_unsigned(rt: HostRuntime) -> Result<(), Fail> {
+    let alloc = rt.alloc();
+    let middle = NonZeroU8::new(u8::MAX / 2).ok_or("not 0")?;
+    ordered_arrays::<ToUBE, NonZeroU8>(&rt, alloc, [NonZeroU8::MIN, middle, NonZeroU8::MAX])?;
+    let middle = NonZeroU16::new(u16::MAX / 2).ok_or("not 0")?;
+    ordered_arrays::<ToUBE, NonZeroU16>(&rt, alloc, [NonZeroU16::MIN, middle, NonZeroU16::MAX])?;
+    let middle = NonZeroU32::new(u32::MAX / 2).ok_or("not 0")?;
+    ordered_arrays::<ToUBE, NonZeroU32>(&rt, alloc, [NonZeroU32::MIN, middle, NonZeroU32::MAX])?;
+    let middle = NonZeroU64::new(u64::MAX / 2).ok_or("not 0")?;
+    ordered_arrays::<ToUBE, NonZeroU64>(&rt, alloc, [NonZeroU64::MIN, middle, NonZeroU64::MAX])?;
+    let middle = NonZeroU128::new(u128::MAX / 2).ok_or("not 0")?;
+    ordered_arrays::<ToUBE, NonZeroU128>(&rt, alloc, [NonZeroU128::MIN, middle, NonZeroU128::MAX])?;
+    let middle = NonZeroUsize::new(usize::MAX / 2).ok_or("not 0")?;
+    ordered_arrays::<ToUBE, NonZeroUsize>(&rt, alloc, [NonZeroUsize::MIN, middle, NonZeroUsize::MAX])?;
+    Ok(())
+}
+
+#[test]
+fn test_ordered_non_zero_signed(rt: HostRuntime) -> Result<(), Fail> {
+    let alloc = rt.alloc();
+    let one = NonZeroI8::new(1).ok_or("not 0")?;
+    ordered_arrays::<ToIBE, NonZeroI8>(&rt, alloc, [NonZeroI8::MIN, one, NonZeroI8::MAX])?;
+    let one = NonZeroI16::new(1).ok_or("not 0")?;
+    ordered_arrays::<ToIBE, NonZeroI16>(&rt, alloc, [NonZeroI16::MIN, one, NonZeroI16::MAX])?;
+    let one = NonZeroI32::new(1).ok_or("not 0")?;
+    ordered_arrays::<ToIBE, NonZeroI32>(&rt, alloc, [NonZeroI32::MIN, one, NonZeroI32::MAX])?;
+    let one = NonZeroI64::new(1).ok_or("not 0")?;
+    ordered_arrays::<ToIBE, NonZeroI64>(&rt, alloc, [NonZeroI64::MIN, one, NonZeroI64::MAX])?;
+    let one = NonZeroI128::new(1).ok_or("not 0")?;
+    ordered_arrays::<ToIBE, NonZeroI128>(&rt, alloc, [NonZeroI128::MIN, one, NonZeroI128::MAX])?;
+    let one = NonZeroIsize::new(1).ok_or("not 0")?;
+    ordered_arrays::<ToIBE, NonZeroIsize>(&rt, alloc, [NonZeroIsize::MIN, one, NonZeroIsize::MAX])?;
+    Ok(())
+}
+
+#[test]
+fn test_ordered_addresses(rt: HostRuntime) -> Result<(), Fail> {
+    let alloc = rt.alloc();
+    let addresses = [Ipv4Addr::UNSPECIFIED, Ipv4Addr::LOCALHOST, Ipv4Addr::BROADCAST];
+    ordered::<ToOctets, Ipv4Addr>(&rt, alloc, addresses)?;
+    let ones = Ipv6Addr::from_octets([255; 16]);
+    let addresses = [Ipv6Addr::UNSPECIFIED, Ipv6Addr::LOCALHOST, ones];
+    ordered::<ToOctets, Ipv6Addr>(&rt, alloc, addresses)?;
+    Ok(())
+}
+
+/// A value comes back from its own bytes, and 1 is a value like the ends of the range.
+fn comes_back<B: BytesMapping<D>, D: Eq + Copy>(
+    rt: &impl Abort,
+    alloc: Global,
+    values: &[D],
+) -> Result<(), AllocError> {
+    for value in values {
+        let bytes = B::to_bytes(alloc, *value)?;
+        assert!(rt; B::is_value(&bytes));
+        let read = B::checked_from_bytes(alloc, bytes)?;
+        assert!(rt; matches!(&read, Some(same) if *same == *value));
+    }
+    Ok(())
+}
+
+#[test]
+fn every_width_comes_back_from_its_bytes(rt: HostRuntime) -> Result<(), Fail> {
+    let alloc = rt.alloc();
+    comes_back::<ToUBE, u8>(&rt, alloc, &[u8::MIN, 1, u8::MAX])?;
+    comes_back::<ToUBE, u16>(&rt, alloc, &[u16::MIN, 1, u16::MAX])?;
+    comes_back::<ToUBE, u32>(&rt, alloc, &[u32::MIN, 1, u32::MAX])?;
+    comes_back::<ToUBE, u64>(&rt, alloc, &[u64::MIN, 1, u64::MAX])?;
+    comes_back::<ToUBE, u128>(&rt, alloc, &[u128::MIN, 1, u128::MAX])?;
+    comes_back::<ToUBE, usize>(&rt, alloc, &[usize::MIN, 1, usize::MAX])?;
+    comes_back::<ToIBE, i8>(&rt, alloc, &[i8::MIN, -1, 0, 1, i8::MAX])?;
+    comes_back::<ToIBE, i16>(&rt, alloc, &[i16::MIN, -1, 0, 1, i16::MAX])?;
+    comes_back::<ToIBE, i32>(&rt, alloc, &[i32::MIN, -1, 0, 1, i32::MAX])?;
+    comes_back::<ToIBE, i64>(&rt, alloc, &[i64::MIN, -1, 0, 1, i64::MAX])?;
+    comes_back::<ToIBE, i128>(&rt, alloc, &[i128::MIN, -1, 0, 1, i128::MAX])?;
+    comes_back::<ToIBE, isize>(&rt, alloc, &[isize::MIN, -1, 0, 1, isize::MAX])?;
+    Ok(())
+}
