@@ -5,10 +5,11 @@ ghost use Rattle.art_bytes.specs.Text.{text_order};
 ghost use Rattle.art_mapped.specs.Mapping.{StandsForSome, HasTextOf, kept_by_text};
 ghost use Rattle.art_mapped.specs.Numbers.{IsUnsigned, IsSigned, unsigned_text, signed_text, IsElement, element_text};
 ghost use Rattle.art_mapped.specs.NumberLaws.{length-unsigned_text, length-signed_text, unsigned_keeps_size, signed_keeps_size};
-ghost use Rattle.art_mapped.specs.SequenceLaws.{same_from_text, front_is_whole, unsigned_keep, signed_keep};
+ghost use Rattle.art_mapped.specs.SequenceLaws.{elements_keep, same_from_text, front_is_whole};
 
 use art_bytes::AsBytes;
 use std::alloc::{AllocError, Global};
+use std::marker::PhantomData;
 
 use crate::fixed::FixedBytes;
 use crate::mapping::{BytesMapping, NoPrefixesMapping, OrderedMapping};
@@ -95,8 +96,10 @@ fn element_of<B: IntegerMapping, E: Element<B>>(bytes: E::Bytes) -> E
     }
 }
 
-/// Unsigned integers, and those that are not 0, in order of their size.
-impl<E: Element<ToUBE>> BytesMapping<E> for ToUBE {
+/// An integer as its own bytes, as both mappings of integers write one.
+pub struct Single<B: IntegerMapping>(PhantomData<B>);
+
+impl<B: IntegerMapping, E: Element<B>> BytesMapping<E> for Single<B> {
     type Bytes = E::Bytes;
 
     const ALLOCATES: bool = false;
@@ -107,96 +110,43 @@ impl<E: Element<ToUBE>> BytesMapping<E> for ToUBE {
 
     ghost READ_ALLOCATES = { false };
 
-    ghost is_in_domain = { IsElement IsUnsigned E.Bytes.WIDTH E.number };
+    ghost is_in_domain = { IsElement B.is_in_range E.Bytes.WIDTH E.number };
 
-    ghost text_of = { element_text unsigned_text E.Bytes.WIDTH E.number };
+    ghost text_of = { element_text B.number_text E.Bytes.WIDTH E.number };
 
     ghost are_same = { λ x y. x ≡ y };
 
-    ghost stands_for = { HasTextOf E.Bytes.text (element_text unsigned_text E.Bytes.WIDTH E.number) };
+    ghost stands_for = { HasTextOf E.Bytes.text (element_text B.number_text E.Bytes.WIDTH E.number) };
 
     ghost has_text = { λ _ _ _ stands. stands };
 
-    ghost one_text = { λ x y same. ap (element_text unsigned_text E.Bytes.WIDTH E.number) same };
+    ghost one_text = { λ x y same. ap (element_text B.number_text E.Bytes.WIDTH E.number) same };
 
-    ghost reads_one = { λ _ x y x_in y_in x_text y_text. same_from_text (unsigned_keep E.Bytes.WIDTH E.has_bytes E.number E.number_decides) x y x_in y_in x_text y_text };
+    ghost reads_one = { λ _ x y x_in y_in x_text y_text. same_from_text (elements_keep B.is_in_range B.number_text B.has_width B.keeps_size E.Bytes.WIDTH E.has_bytes E.number E.number_decides) x y x_in y_in x_text y_text };
 
-    ghost kept_by_text = { λ a b _. kept_by_text (IsElement IsUnsigned E.Bytes.WIDTH E.number) E.Bytes.text (element_text unsigned_text E.Bytes.WIDTH E.number) a b };
+    ghost kept_by_text = { λ a b _. kept_by_text (IsElement B.is_in_range E.Bytes.WIDTH E.number) E.Bytes.text (element_text B.number_text E.Bytes.WIDTH E.number) a b };
 
     fn to_bytes(_alloc: Global, value: E) -> Result<E::Bytes, AllocError> {
         Ok(value.encode())
     }
 
     fn from_bytes(_alloc: Global, bytes: E::Bytes) -> Result<E, AllocError> {
-        Ok(element_of::<ToUBE, E>(bytes))
+        Ok(element_of::<B, E>(bytes))
     }
 
     fn is_value(bytes: &E::Bytes) -> bool {
-        is_element::<ToUBE, E>(*bytes)
+        is_element::<B, E>(*bytes)
     }
 }
 
-impl<E: Element<ToUBE>> OrderedMapping<E> for ToUBE {
+impl<B: IntegerMapping, E: Element<B>> OrderedMapping<E> for Single<B> {
     ghost domain_order = { on E.number int_cmp };
 
-    ghost keeps_order = { (unsigned_keep E.Bytes.WIDTH E.has_bytes E.number E.number_decides).keeps };
+    ghost keeps_order = { (elements_keep B.is_in_range B.number_text B.has_width B.keeps_size E.Bytes.WIDTH E.has_bytes E.number E.number_decides).keeps };
 
-    ghost decided_by_text = { λ x y x_in y_in same. same_from_text (unsigned_keep E.Bytes.WIDTH E.has_bytes E.number E.number_decides) x y x_in y_in refl same };
+    ghost decided_by_text = { λ x y x_in y_in same. same_from_text (elements_keep B.is_in_range B.number_text B.has_width B.keeps_size E.Bytes.WIDTH E.has_bytes E.number E.number_decides) x y x_in y_in refl same };
 }
 
-impl<E: Element<ToUBE>> NoPrefixesMapping<E> for ToUBE {
-    ghost no_prefixes = { λ x y _ _. front_is_whole (unsigned_keep E.Bytes.WIDTH E.has_bytes E.number E.number_decides) x y };
-}
-
-/// Signed integers, and those that are not 0, in order of their size.
-impl<E: Element<ToIBE>> BytesMapping<E> for ToIBE {
-    type Bytes = E::Bytes;
-
-    const ALLOCATES: bool = false;
-
-    const READ_ALLOCATES: bool = false;
-
-    ghost ALLOCATES = { false };
-
-    ghost READ_ALLOCATES = { false };
-
-    ghost is_in_domain = { IsElement IsSigned E.Bytes.WIDTH E.number };
-
-    ghost text_of = { element_text signed_text E.Bytes.WIDTH E.number };
-
-    ghost are_same = { λ x y. x ≡ y };
-
-    ghost stands_for = { HasTextOf E.Bytes.text (element_text signed_text E.Bytes.WIDTH E.number) };
-
-    ghost has_text = { λ _ _ _ stands. stands };
-
-    ghost one_text = { λ x y same. ap (element_text signed_text E.Bytes.WIDTH E.number) same };
-
-    ghost reads_one = { λ _ x y x_in y_in x_text y_text. same_from_text (signed_keep E.Bytes.WIDTH E.has_bytes E.number E.number_decides) x y x_in y_in x_text y_text };
-
-    ghost kept_by_text = { λ a b _. kept_by_text (IsElement IsSigned E.Bytes.WIDTH E.number) E.Bytes.text (element_text signed_text E.Bytes.WIDTH E.number) a b };
-
-    fn to_bytes(_alloc: Global, value: E) -> Result<E::Bytes, AllocError> {
-        Ok(value.encode())
-    }
-
-    fn from_bytes(_alloc: Global, bytes: E::Bytes) -> Result<E, AllocError> {
-        Ok(element_of::<ToIBE, E>(bytes))
-    }
-
-    fn is_value(bytes: &E::Bytes) -> bool {
-        is_element::<ToIBE, E>(*bytes)
-    }
-}
-
-impl<E: Element<ToIBE>> OrderedMapping<E> for ToIBE {
-    ghost domain_order = { on E.number int_cmp };
-
-    ghost keeps_order = { (signed_keep E.Bytes.WIDTH E.has_bytes E.number E.number_decides).keeps };
-
-    ghost decided_by_text = { λ x y x_in y_in same. same_from_text (signed_keep E.Bytes.WIDTH E.has_bytes E.number E.number_decides) x y x_in y_in refl same };
-}
-
-impl<E: Element<ToIBE>> NoPrefixesMapping<E> for ToIBE {
-    ghost no_prefixes = { λ x y _ _. front_is_whole (signed_keep E.Bytes.WIDTH E.has_bytes E.number E.number_decides) x y };
+impl<B: IntegerMapping, E: Element<B>> NoPrefixesMapping<E> for Single<B> {
+    ghost no_prefixes = { λ x y _ _. front_is_whole (elements_keep B.is_in_range B.number_text B.has_width B.keeps_size E.Bytes.WIDTH E.has_bytes E.number E.number_decides) x y };
 }

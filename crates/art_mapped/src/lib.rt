@@ -2,6 +2,7 @@
 #![tactic(auto)]
 
 mod array;
+mod domain;
 mod fixed;
 mod integer;
 mod mapped;
@@ -16,7 +17,9 @@ mod vector;
 mod tests;
 
 pub use fixed::FixedBytes;
-pub use integer::{Element, IntegerMapping, ToIBE, ToUBE};
+pub use domain::Domain;
+pub use integer::{Element, IntegerMapping, Single, ToIBE, ToUBE};
+pub use sequence::Joined;
 pub use mapped::Mapped;
 pub use mapping::{BytesMapping, NoPrefixesMapping, OrderedMapping};
 pub use octets::ToOctets;

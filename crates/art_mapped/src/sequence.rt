@@ -5,9 +5,13 @@ ghost use Rattle.art_mapped.specs.Sequences.{joined, AreJoined, part};
 use art_bytes::AsBytes;
 use std::alloc::{AllocError, Global};
 use std::array;
+use std::marker::PhantomData;
 
 use crate::fixed::FixedBytes;
 use crate::integer::{Element, IntegerMapping};
+
+/// Several integers as their bytes joined, as both mappings of integers write them.
+pub struct Joined<B: IntegerMapping>(PhantomData<B>);
 
 /// The bytes of the elements, joined.
 pub(crate) fn joined_bytes<B: IntegerMapping, E: Element<B>>(

@@ -6,7 +6,12 @@ ghost use Rattle.art_mapped.specs.NumberLaws.{signed_non_zero_decides};
 
 use std::num::{NonZeroI128, NonZeroI16, NonZeroI32, NonZeroI64, NonZeroI8, NonZeroIsize};
 
-use crate::integer::{Element, ToIBE};
+use crate::domain::Domain;
+use crate::integer::{Element, Single, ToIBE};
+
+impl Domain<ToIBE> for i8 {
+    type Mapping = Single<ToIBE>;
+}
 
 impl Element<ToIBE> for i8 {
     type Bytes = [u8; 1];
@@ -24,6 +29,10 @@ impl Element<ToIBE> for i8 {
     fn decode(bytes: [u8; 1]) -> Option<i8> {
         Some((u8::from_be_bytes(bytes) ^ (1 << 7)).cast_signed())
     }
+}
+
+impl Domain<ToIBE> for NonZeroI8 {
+    type Mapping = Single<ToIBE>;
 }
 
 impl Element<ToIBE> for NonZeroI8 {
@@ -44,6 +53,10 @@ impl Element<ToIBE> for NonZeroI8 {
     }
 }
 
+impl Domain<ToIBE> for i16 {
+    type Mapping = Single<ToIBE>;
+}
+
 impl Element<ToIBE> for i16 {
     type Bytes = [u8; 2];
 
@@ -60,6 +73,10 @@ impl Element<ToIBE> for i16 {
     fn decode(bytes: [u8; 2]) -> Option<i16> {
         Some((u16::from_be_bytes(bytes) ^ (1 << 15)).cast_signed())
     }
+}
+
+impl Domain<ToIBE> for NonZeroI16 {
+    type Mapping = Single<ToIBE>;
 }
 
 impl Element<ToIBE> for NonZeroI16 {
@@ -80,6 +97,10 @@ impl Element<ToIBE> for NonZeroI16 {
     }
 }
 
+impl Domain<ToIBE> for i32 {
+    type Mapping = Single<ToIBE>;
+}
+
 impl Element<ToIBE> for i32 {
     type Bytes = [u8; 4];
 
@@ -96,6 +117,10 @@ impl Element<ToIBE> for i32 {
     fn decode(bytes: [u8; 4]) -> Option<i32> {
         Some((u32::from_be_bytes(bytes) ^ (1 << 31)).cast_signed())
     }
+}
+
+impl Domain<ToIBE> for NonZeroI32 {
+    type Mapping = Single<ToIBE>;
 }
 
 impl Element<ToIBE> for NonZeroI32 {
@@ -116,6 +141,10 @@ impl Element<ToIBE> for NonZeroI32 {
     }
 }
 
+impl Domain<ToIBE> for i64 {
+    type Mapping = Single<ToIBE>;
+}
+
 impl Element<ToIBE> for i64 {
     type Bytes = [u8; 8];
 
@@ -132,6 +161,10 @@ impl Element<ToIBE> for i64 {
     fn decode(bytes: [u8; 8]) -> Option<i64> {
         Some((u64::from_be_bytes(bytes) ^ (1 << 63)).cast_signed())
     }
+}
+
+impl Domain<ToIBE> for NonZeroI64 {
+    type Mapping = Single<ToIBE>;
 }
 
 impl Element<ToIBE> for NonZeroI64 {
@@ -152,6 +185,10 @@ impl Element<ToIBE> for NonZeroI64 {
     }
 }
 
+impl Domain<ToIBE> for i128 {
+    type Mapping = Single<ToIBE>;
+}
+
 impl Element<ToIBE> for i128 {
     type Bytes = [u8; 16];
 
@@ -168,6 +205,10 @@ impl Element<ToIBE> for i128 {
     fn decode(bytes: [u8; 16]) -> Option<i128> {
         Some((u128::from_be_bytes(bytes) ^ (1 << 127)).cast_signed())
     }
+}
+
+impl Domain<ToIBE> for NonZeroI128 {
+    type Mapping = Single<ToIBE>;
 }
 
 impl Element<ToIBE> for NonZeroI128 {
@@ -188,6 +229,10 @@ impl Element<ToIBE> for NonZeroI128 {
     }
 }
 
+impl Domain<ToIBE> for isize {
+    type Mapping = Single<ToIBE>;
+}
+
 impl Element<ToIBE> for isize {
     type Bytes = [u8; 8];
 
@@ -204,6 +249,10 @@ impl Element<ToIBE> for isize {
     fn decode(bytes: [u8; 8]) -> Option<isize> {
         Some((usize::from_be_bytes(bytes) ^ (1 << 63)).cast_signed())
     }
+}
+
+impl Domain<ToIBE> for NonZeroIsize {
+    type Mapping = Single<ToIBE>;
 }
 
 impl Element<ToIBE> for NonZeroIsize {

@@ -6,7 +6,12 @@ ghost use Rattle.art_mapped.specs.NumberLaws.{pos_decides, non_zero_decides};
 
 use std::num::{NonZeroU128, NonZeroU16, NonZeroU32, NonZeroU64, NonZeroU8, NonZeroUsize};
 
-use crate::integer::{Element, ToUBE};
+use crate::domain::Domain;
+use crate::integer::{Element, Single, ToUBE};
+
+impl Domain<ToUBE> for u8 {
+    type Mapping = Single<ToUBE>;
+}
 
 impl Element<ToUBE> for u8 {
     type Bytes = [u8; 1];
@@ -24,6 +29,10 @@ impl Element<ToUBE> for u8 {
     fn decode(bytes: [u8; 1]) -> Option<u8> {
         Some(u8::from_be_bytes(bytes))
     }
+}
+
+impl Domain<ToUBE> for NonZeroU8 {
+    type Mapping = Single<ToUBE>;
 }
 
 impl Element<ToUBE> for NonZeroU8 {
@@ -44,6 +53,10 @@ impl Element<ToUBE> for NonZeroU8 {
     }
 }
 
+impl Domain<ToUBE> for u16 {
+    type Mapping = Single<ToUBE>;
+}
+
 impl Element<ToUBE> for u16 {
     type Bytes = [u8; 2];
 
@@ -60,6 +73,10 @@ impl Element<ToUBE> for u16 {
     fn decode(bytes: [u8; 2]) -> Option<u16> {
         Some(u16::from_be_bytes(bytes))
     }
+}
+
+impl Domain<ToUBE> for NonZeroU16 {
+    type Mapping = Single<ToUBE>;
 }
 
 impl Element<ToUBE> for NonZeroU16 {
@@ -80,6 +97,10 @@ impl Element<ToUBE> for NonZeroU16 {
     }
 }
 
+impl Domain<ToUBE> for u32 {
+    type Mapping = Single<ToUBE>;
+}
+
 impl Element<ToUBE> for u32 {
     type Bytes = [u8; 4];
 
@@ -96,6 +117,10 @@ impl Element<ToUBE> for u32 {
     fn decode(bytes: [u8; 4]) -> Option<u32> {
         Some(u32::from_be_bytes(bytes))
     }
+}
+
+impl Domain<ToUBE> for NonZeroU32 {
+    type Mapping = Single<ToUBE>;
 }
 
 impl Element<ToUBE> for NonZeroU32 {
@@ -116,6 +141,10 @@ impl Element<ToUBE> for NonZeroU32 {
     }
 }
 
+impl Domain<ToUBE> for u64 {
+    type Mapping = Single<ToUBE>;
+}
+
 impl Element<ToUBE> for u64 {
     type Bytes = [u8; 8];
 
@@ -132,6 +161,10 @@ impl Element<ToUBE> for u64 {
     fn decode(bytes: [u8; 8]) -> Option<u64> {
         Some(u64::from_be_bytes(bytes))
     }
+}
+
+impl Domain<ToUBE> for NonZeroU64 {
+    type Mapping = Single<ToUBE>;
 }
 
 impl Element<ToUBE> for NonZeroU64 {
@@ -152,6 +185,10 @@ impl Element<ToUBE> for NonZeroU64 {
     }
 }
 
+impl Domain<ToUBE> for u128 {
+    type Mapping = Single<ToUBE>;
+}
+
 impl Element<ToUBE> for u128 {
     type Bytes = [u8; 16];
 
@@ -168,6 +205,10 @@ impl Element<ToUBE> for u128 {
     fn decode(bytes: [u8; 16]) -> Option<u128> {
         Some(u128::from_be_bytes(bytes))
     }
+}
+
+impl Domain<ToUBE> for NonZeroU128 {
+    type Mapping = Single<ToUBE>;
 }
 
 impl Element<ToUBE> for NonZeroU128 {
@@ -188,6 +229,10 @@ impl Element<ToUBE> for NonZeroU128 {
     }
 }
 
+impl Domain<ToUBE> for usize {
+    type Mapping = Single<ToUBE>;
+}
+
 impl Element<ToUBE> for usize {
     type Bytes = [u8; 8];
 
@@ -204,6 +249,10 @@ impl Element<ToUBE> for usize {
     fn decode(bytes: [u8; 8]) -> Option<usize> {
         Some(usize::from_be_bytes(bytes))
     }
+}
+
+impl Domain<ToUBE> for NonZeroUsize {
+    type Mapping = Single<ToUBE>;
 }
 
 impl Element<ToUBE> for NonZeroUsize {
