@@ -1,24 +1,53 @@
 use super::*;
 
-/// Values are in the order of their keys and of the keys' bytes, and come back.
-fn ordered<B: OrderedMapping<D>, D: Ord + Copy>(
+/// Two values are in the order of their keys and of the keys' bytes, and the first comes back.
+fn compared<B: OrderedMapping<D>, D: Ord + Copy>(
     rt: &impl Abort,
     alloc: Global,
-    values: [D; 3],
+    a: D,
+    b: D,
 ) -> Result<(), AllocError> {
-    for a in &values {
-        for b in &values {
-            let x = Mapped::<B, D>::new(alloc, *a)?;
-            let y = Mapped::<B, D>::new(alloc, *b)?;
-            assert_eq!(rt; x.cmp(&y), a.cmp(b));
-            assert_eq!(rt; x.as_bytes().cmp(&y.as_bytes()), a.cmp(b));
-            assert!(rt; x.get(alloc)? == *a);
-        }
-    }
+    let x = Mapped::<B, D>::new(alloc, a)?;
+    let y = Mapped::<B, D>::new(alloc, b)?;
+    assert_eq!(rt; x.cmp(&y), a.cmp(&b));
+    assert_eq!(rt; x.as_bytes().cmp(&y.as_bytes()), a.cmp(&b));
+    assert!(rt; x.get(alloc)? == a);
     Ok(())
 }
 
-/// The same of numbers, and of arrays of three of them.
+/// The same of vectors.
+fn compared_vectors<B: OrderedMapping<Vec<E>>, E: Ord + Copy>(
+    rt: &impl Abort,
+    alloc: Global,
+    a: &[E],
+    b: &[E],
+) -> Result<(), AllocError> {
+    let x = Mapped::<B, Vec<E>>::new(alloc, a.to_vec(alloc)?)?;
+    let y = Mapped::<B, Vec<E>>::new(alloc, b.to_vec(alloc)?)?;
+    assert_eq!(rt; x.cmp(&y), a.cmp(&b));
+    assert_eq!(rt; x.as_bytes().cmp(&y.as_bytes()), a.cmp(&b));
+    assert!(rt; x.get(alloc)?.as_slice() == a);
+    Ok(())
+}
+
+/// Three values that ascend, in pairs.
+fn ordered<B: OrderedMapping<D>, D: Ord + Copy>(
+    rt: &impl Abort,
+    alloc: Global,
+    low: D,
+    middle: D,
+    high: D,
+) -> Result<(), AllocError> {
+    assert!(rt; low < middle && middle < high);
+    compared::<B, D>(rt, alloc, low, low)?;
+    compared::<B, D>(rt, alloc, low, middle)?;
+    compared::<B, D>(rt, alloc, middle, low)?;
+    compared::<B, D>(rt, alloc, middle, high)?;
+    compared::<B, D>(rt, alloc, high, low)?;
+    compared::<B, D>(rt, alloc, high, high)
+}
+
+/// Numbers, and arrays of three of them.
 fn ordered_arrays<B, E: Ord + Copy>(
     rt: &impl Abort,
     alloc: Global,
@@ -27,15 +56,12 @@ fn ordered_arrays<B, E: Ord + Copy>(
 where
     B: OrderedMapping<E> + OrderedMapping<[E; 3]>,
 {
-    ordered::<B, E>(rt, alloc, [low, middle, high])?;
-    ordered::<B, [E; 3]>(
-        rt,
-        alloc,
-        [[low, low, low], [low, middle, low], [low, middle, high]],
-    )
+    ordered::<B, E>(rt, alloc, low, middle, high)?;
+    let (a, b, c) = ([low, low, low], [low, middle, low], [low, middle, high]);
+    ordered::<B, [E; 3]>(rt, alloc, a, b, c)
 }
 
-/// The same of numbers, of arrays of three of them, and of vectors.
+/// Numbers, arrays of three of them, and vectors.
 fn ordered_sequences<B, E: Ord + Copy>(
     rt: &impl Abort,
     alloc: Global,
@@ -45,17 +71,9 @@ where
     B: OrderedMapping<E> + OrderedMapping<[E; 3]> + OrderedMapping<Vec<E>>,
 {
     ordered_arrays::<B, E>(rt, alloc, [low, middle, high])?;
-    let lists = [[low, low, low], [low, middle, low], [low, middle, high]];
-    for a in &lists {
-        for b in &lists {
-            let x = Mapped::<B, Vec<E>>::new(alloc, a.to_vec(alloc)?)?;
-            let y = Mapped::<B, Vec<E>>::new(alloc, b.to_vec(alloc)?)?;
-            assert_eq!(rt; x.cmp(&y), a.cmp(b));
-            assert_eq!(rt; x.as_bytes().cmp(&y.as_bytes()), a.cmp(b));
-            assert!(rt; x.get(alloc)?.as_slice() == a.as_slice());
-        }
-    }
-    Ok(())
+    compared_vectors::<B, E>(rt, alloc, &[low, low, low], &[low, middle, low])?;
+    compared_vectors::<B, E>(rt, alloc, &[low, middle, high], &[low, middle, low])?;
+    compared_vectors::<B, E>(rt, alloc, &[low, low, low], &[low, middle, high])
 }
 
 #[test]
@@ -121,11 +139,10 @@ fn test_ordered_non_zero_signed(rt: HostRuntime) -> Result<(), Fail> {
 #[test]
 fn test_ordered_addresses(rt: HostRuntime) -> Result<(), Fail> {
     let alloc = rt.alloc();
-    let addresses = [Ipv4Addr::UNSPECIFIED, Ipv4Addr::LOCALHOST, Ipv4Addr::BROADCAST];
-    ordered::<ToOctets, Ipv4Addr>(&rt, alloc, addresses)?;
-    let ones = Ipv6Addr::from_octets([255; 16]);
-    let addresses = [Ipv6Addr::UNSPECIFIED, Ipv6Addr::LOCALHOST, ones];
-    ordered::<ToOctets, Ipv6Addr>(&rt, alloc, addresses)?;
+    let (low, middle) = (Ipv4Addr::UNSPECIFIED, Ipv4Addr::LOCALHOST);
+    ordered::<ToOctets, Ipv4Addr>(&rt, alloc, low, middle, Ipv4Addr::BROADCAST)?;
+    let (low, middle) = (Ipv6Addr::UNSPECIFIED, Ipv6Addr::LOCALHOST);
+    ordered::<ToOctets, Ipv6Addr>(&rt, alloc, low, middle, Ipv6Addr::from_octets([255; 16]))?;
     Ok(())
 }
 
