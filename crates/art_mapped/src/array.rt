@@ -3,17 +3,17 @@ ghost use Rattle.std.specs.Ordering.{int_cmp, on};
 ghost use Rattle.std.proofs.Common.{ap, refl};
 ghost use Rattle.std.specs.Cmp.Lexicographic.{slice_cmp};
 ghost use Rattle.std.specs.Vec.{vec_items};
-ghost use Rattle.art_mapped.specs.Mapping.{StandsForSome, HasTextOf, kept_by_text};
+ghost use Rattle.art_mapped.specs.Mapping.{StandsForSome, HasTextOf};
+ghost use Rattle.art_mapped.specs.MappingLaws.{kept_by_text};
 ghost use Rattle.art_mapped.specs.Numbers.{IsElement, element_text};
 ghost use Rattle.art_mapped.specs.Sequences.{joined, IsArray};
 ghost use Rattle.art_mapped.specs.SequenceLaws.{elements_keep, same_from_joined, joined_keep, joined_front_is_whole};
-
-use std::alloc::{AllocError, Global};
 
 use crate::fixed::FixedBytes;
 use crate::integer::{Element, IntegerMapping};
 use crate::mapping::{BytesMapping, NoPrefixesMapping, OrderedMapping};
 use crate::sequence::{Joined, are_elements, array_of, joined_bytes};
+use std::alloc::{AllocError, Global};
 
 /// Whether the bytes are those of some array of `N` elements.
 fn is_array<B: IntegerMapping, E: Element<B>, const N: usize>(bytes: &Vec<u8>) -> bool
@@ -32,7 +32,7 @@ fn read_array<B: IntegerMapping, E: Element<B>, const N: usize>(bytes: Vec<u8>) 
     array_of::<B, E, N>(&bytes)
 }
 
-/// Arrays, in the order of the first element that differs.
+/// Arrays of just `N` elements, in the order of the first element that differs. Only to write one takes memory.
 impl<B: IntegerMapping, E: Element<B>, const N: usize> BytesMapping<[E; N]> for Joined<B> {
     type Bytes = Vec<u8>;
 

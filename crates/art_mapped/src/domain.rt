@@ -1,14 +1,13 @@
 ghost use Rattle.std.specs.Prelude.{◌≡◌};
 
-use std::alloc::{AllocError, Global};
-
 use crate::integer::{Element, IntegerMapping, Single, ToIBE, ToUBE};
 use crate::mapping::{BytesMapping, NoPrefixesMapping, OrderedMapping};
 use crate::sequence::Joined;
+use std::alloc::{AllocError, Global};
 
-/// What a mapping of integers takes: an integer, or several of them.
+/// What a mapping of integers takes: one integer, or an array or a vector of them.
 pub trait Domain<B: IntegerMapping>: Sized {
-    /// How such a value is written.
+    /// How a value is written: as a `Single` number, or as several `Joined`.
     type Mapping: OrderedMapping<Self>;
 }
 
@@ -20,6 +19,7 @@ impl<B: IntegerMapping, E: Element<B>> Domain<B> for Vec<E> {
     type Mapping = Joined<B>;
 }
 
+/// One unsigned integer or several.
 impl<D: Domain<ToUBE>> BytesMapping<D> for ToUBE {
     type Bytes = <D::Mapping as BytesMapping<D>>::Bytes;
 
@@ -68,6 +68,7 @@ impl<D: Domain<ToUBE>> OrderedMapping<D> for ToUBE {
     ghost decided_by_text = { D.Mapping.decided_by_text };
 }
 
+/// For integers and arrays, whose texts have one length.
 impl<D: Domain<ToUBE>> NoPrefixesMapping<D> for ToUBE
 where
     D::Mapping: NoPrefixesMapping<D>,
@@ -75,6 +76,7 @@ where
     ghost no_prefixes = { D.Mapping.no_prefixes };
 }
 
+/// One signed integer or several.
 impl<D: Domain<ToIBE>> BytesMapping<D> for ToIBE {
     type Bytes = <D::Mapping as BytesMapping<D>>::Bytes;
 
@@ -123,6 +125,7 @@ impl<D: Domain<ToIBE>> OrderedMapping<D> for ToIBE {
     ghost decided_by_text = { D.Mapping.decided_by_text };
 }
 
+/// For integers and arrays, whose texts have one length.
 impl<D: Domain<ToIBE>> NoPrefixesMapping<D> for ToIBE
 where
     D::Mapping: NoPrefixesMapping<D>,

@@ -2,34 +2,37 @@ ghost use Rattle.std.specs.Prelude.{◌≡◌, ◌≢◌, ◌↔◌, ℕ, ℤ, �
 ghost use Rattle.std.proofs.Common.{ap};
 ghost use Rattle.std.specs.Ordering.{int_cmp, on};
 ghost use Rattle.art_bytes.specs.Text.{text_order};
-ghost use Rattle.art_mapped.specs.Mapping.{StandsForSome, HasTextOf, kept_by_text};
+ghost use Rattle.art_mapped.specs.Mapping.{StandsForSome, HasTextOf};
+ghost use Rattle.art_mapped.specs.MappingLaws.{kept_by_text};
 ghost use Rattle.art_mapped.specs.Numbers.{IsUnsigned, IsSigned, unsigned_text, signed_text, IsElement, element_text};
 ghost use Rattle.art_mapped.specs.NumberLaws.{length-unsigned_text, length-signed_text, unsigned_keeps_size, signed_keeps_size};
 ghost use Rattle.art_mapped.specs.SequenceLaws.{elements_keep, same_from_text, front_is_whole};
 
+use crate::fixed::FixedBytes;
+use crate::mapping::{BytesMapping, NoPrefixesMapping, OrderedMapping};
 use art_bytes::AsBytes;
 use std::alloc::{AllocError, Global};
 use std::marker::PhantomData;
 
-use crate::fixed::FixedBytes;
-use crate::mapping::{BytesMapping, NoPrefixesMapping, OrderedMapping};
-
-/// How a mapping writes an integer, at a width in bytes.
+/// How a mapping writes an integer, at a width in bytes. `ToUBE` and `ToIBE` are such mappings.
 pub trait IntegerMapping {
     /// Which numbers a type of that width has.
     ghost is_in_range: { ℕ → ℤ → Type 0 };
 
-    /// The bytes of a number.
+    /// The text of a number at that width.
     ghost number_text: { ℕ → ℤ → List ℕ };
 
-    /// They are as many as the width says.
+    /// It has as many bytes as the width says.
     ghost has_width: { (width : ℕ) (number : ℤ) → length (number_text width number) ≡ width };
 
-    /// They keep the order by size.
+    /// The texts of a width keep the order by size.
     ghost keeps_size: { (width : ℕ) → 0 < width → (x y : ℤ) → is_in_range width x → is_in_range width y → int_cmp x y ≡ text_order (number_text width x) (number_text width y) };
 }
 
-/// Unsigned integers to big endian bytes.
+/// Unsigned integers as their big endian bytes: the digits in base 256 at full width, most significant first.
+///
+/// Its domains are `u8` to `u128`, `usize`, their types of numbers that are not 0, and arrays and vectors of
+/// these, as the elements' bytes joined.
 pub struct ToUBE;
 
 impl IntegerMapping for ToUBE {
@@ -42,7 +45,11 @@ impl IntegerMapping for ToUBE {
     ghost keeps_size = { λ width _. unsigned_keeps_size width };
 }
 
-/// Signed integers
+/// Signed integers as big endian bytes that sort: the digits of the number raised by half of its type's
+/// range, which are those of its two's complement with the top bit flipped.
+///
+/// Its domains are `i8` to `i128`, `isize`, their types of numbers that are not 0, and arrays and vectors of
+/// these, as the elements' bytes joined.
 pub struct ToIBE;
 
 impl IntegerMapping for ToIBE {
@@ -55,24 +62,29 @@ impl IntegerMapping for ToIBE {
     ghost keeps_size = { signed_keeps_size };
 }
 
-/// An integer type
+/// An integer type, or the type of an integer type's numbers that are not 0, under a mapping of integers.
 pub trait Element<B: IntegerMapping>: Copy {
+    /// The bytes of a number, as many as the type has.
     type Bytes: FixedBytes;
 
-    /// The number.
+    /// The number that a value of the type is.
     ghost number: { Self → ℤ };
 
+    /// The bytes of the number.
     fn encode(self) -> Self::Bytes
         ensures key { Self.Bytes.is_key result }
         ensures text { Self.Bytes.text result ≡ B.number_text Self.Bytes.WIDTH (number self) }
         ensures in_range { B.is_in_range Self.Bytes.WIDTH (number self) };
 
+    /// The number whose bytes these are, and `None` exactly where they are no number's of the type.
     fn decode(bytes: Self::Bytes) -> Option<Self>
         ensures some { IfSome result (λ element. B.is_in_range Self.Bytes.WIDTH (number element) × (Self.Bytes.text bytes ≡ B.number_text Self.Bytes.WIDTH (number element))) }
         ensures none { IfNone result ((element : Self) → B.is_in_range Self.Bytes.WIDTH (number element) → Self.Bytes.text bytes ≢ B.number_text Self.Bytes.WIDTH (number element)) };
 
+    /// The type has at least one byte.
     ghost has_bytes: { 0 < Self.Bytes.WIDTH };
 
+    /// A value is decided by its number.
     ghost number_decides: { (x y : Self) → number x ≡ number y → x ≡ y };
 }
 
@@ -96,7 +108,7 @@ fn element_of<B: IntegerMapping, E: Element<B>>(bytes: E::Bytes) -> E
     }
 }
 
-/// An integer as its own bytes, as both mappings of integers write one.
+/// One integer as its bytes, as both mappings of integers write it. The order kept is that by size.
 pub struct Single<B: IntegerMapping>(PhantomData<B>);
 
 impl<B: IntegerMapping, E: Element<B>> BytesMapping<E> for Single<B> {

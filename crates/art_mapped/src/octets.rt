@@ -3,15 +3,16 @@ ghost use Rattle.std.specs.Ordering.{on};
 ghost use Rattle.std.proofs.Common.{ap};
 ghost use Rattle.std.specs.Net.Addr.{ipv4_octets, ipv6_octets};
 ghost use Rattle.art_bytes.specs.Text.{text_order};
-ghost use Rattle.art_mapped.specs.Mapping.{HasTextOf, kept_by_text};
-ghost use Rattle.art_mapped.specs.Addresses.{AreOctets, IsIpv4, IsIpv6, same_ipv4, same_ipv6, ipv4_front_is_whole, ipv6_front_is_whole};
+ghost use Rattle.art_mapped.specs.Mapping.{HasTextOf};
+ghost use Rattle.art_mapped.specs.MappingLaws.{kept_by_text};
+ghost use Rattle.art_mapped.specs.Addresses.{AreOctets, IsIpv4, IsIpv6};
+ghost use Rattle.art_mapped.specs.AddressLaws.{same_ipv4, same_ipv6, ipv4_front_is_whole, ipv6_front_is_whole};
 
+use crate::mapping::{BytesMapping, NoPrefixesMapping, OrderedMapping};
 use std::alloc::{AllocError, Global};
 use std::net::{Ipv4Addr, Ipv6Addr};
 
-use crate::mapping::{BytesMapping, NoPrefixesMapping, OrderedMapping};
-
-/// IP addresses as their octets, in order.
+/// IP addresses, `Ipv4Addr` and `Ipv6Addr`, as their octets in order.
 pub struct ToOctets;
 
 /// Whether an array's bytes are octets, as they always are.

@@ -4,10 +4,9 @@ ghost use Rattle.std.specs.Int.NonZero.{non_zero_i8_get, non_zero_i16_get, non_z
 ghost use Rattle.std.proofs.Common.{rules};
 ghost use Rattle.art_mapped.specs.NumberLaws.{signed_non_zero_decides};
 
-use std::num::{NonZeroI128, NonZeroI16, NonZeroI32, NonZeroI64, NonZeroI8, NonZeroIsize};
-
 use crate::domain::Domain;
 use crate::integer::{Element, Single, ToIBE};
+use std::num::{NonZeroI8, NonZeroI16, NonZeroI32, NonZeroI64, NonZeroI128, NonZeroIsize};
 
 impl Domain<ToIBE> for i8 {
     type Mapping = Single<ToIBE>;

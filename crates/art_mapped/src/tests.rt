@@ -1,3 +1,4 @@
+use crate::{BytesMapping, FixedBytes, Mapped, OrderedMapping, ToIBE, ToOctets, ToUBE};
 use art_bytes::AsBytes;
 use std::alloc::{AllocError, Global};
 use std::cmp::Ordering;
@@ -9,8 +10,6 @@ use std::num::{
 };
 use std::process::Abort;
 use std::test::Fail;
-
-use crate::{BytesMapping, FixedBytes, Mapped, OrderedMapping, ToIBE, ToOctets, ToUBE};
 
 mod ordered;
 
@@ -142,7 +141,10 @@ fn only_sequences_take_memory(rt: HostRuntime) {
     assert!(rt; <ToUBE as BytesMapping<[u8; 3]>>::ALLOCATES);
     assert!(rt; !<ToUBE as BytesMapping<[u8; 3]>>::READ_ALLOCATES);
     assert!(rt; <ToIBE as BytesMapping<Vec<i8>>>::READ_ALLOCATES);
-    assert_eq!(rt; <<ToIBE as BytesMapping<i128>>::Bytes as FixedBytes>::WIDTH, 16);
+    assert_eq!(rt;
+        <<ToIBE as BytesMapping<i128>>::Bytes as FixedBytes>::WIDTH,
+        16
+    );
     assert_eq!(rt; <[u8; 3] as FixedBytes>::from_slice(&[1, 2, 3]), [1, 2, 3]);
 }
 

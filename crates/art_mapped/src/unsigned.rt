@@ -4,10 +4,9 @@ ghost use Rattle.std.specs.Int.NonZero.{non_zero_u8_get, non_zero_u16_get, non_z
 ghost use Rattle.std.proofs.Common.{rules};
 ghost use Rattle.art_mapped.specs.NumberLaws.{pos_decides, non_zero_decides};
 
-use std::num::{NonZeroU128, NonZeroU16, NonZeroU32, NonZeroU64, NonZeroU8, NonZeroUsize};
-
 use crate::domain::Domain;
 use crate::integer::{Element, Single, ToUBE};
+use std::num::{NonZeroU8, NonZeroU16, NonZeroU32, NonZeroU64, NonZeroU128, NonZeroUsize};
 
 impl Domain<ToUBE> for u8 {
     type Mapping = Single<ToUBE>;

@@ -4,17 +4,17 @@ ghost use Rattle.std.specs.Ordering.{int_cmp, on};
 ghost use Rattle.std.proofs.Common.{ap, refl};
 ghost use Rattle.std.specs.Cmp.Lexicographic.{slice_cmp};
 ghost use Rattle.std.specs.Vec.{vec_items};
-ghost use Rattle.art_mapped.specs.Mapping.{StandsForSome, HasTextOf, kept_by_text};
+ghost use Rattle.art_mapped.specs.Mapping.{StandsForSome, HasTextOf};
+ghost use Rattle.art_mapped.specs.MappingLaws.{kept_by_text};
 ghost use Rattle.art_mapped.specs.Numbers.{IsElement, element_text};
 ghost use Rattle.art_mapped.specs.Sequences.{joined, IsVec, vec_text};
 ghost use Rattle.art_mapped.specs.SequenceLaws.{elements_keep, same_from_joined, joined_keep};
-
-use std::alloc::{AllocError, Global};
 
 use crate::fixed::FixedBytes;
 use crate::integer::{Element, IntegerMapping};
 use crate::mapping::{BytesMapping, OrderedMapping};
 use crate::sequence::{Joined, are_elements, joined_bytes, vec_of};
+use std::alloc::{AllocError, Global};
 
 /// Whether the bytes are those of some vector.
 fn is_vec<B: IntegerMapping, E: Element<B>>(bytes: &Vec<u8>) -> bool
@@ -36,7 +36,8 @@ fn read_vec<B: IntegerMapping, E: Element<B>>(
     vec_of::<B, E>(alloc, &bytes)
 }
 
-/// Vectors, in the order of the first element that differs, a shorter front first.
+/// Vectors, in the order of the first element that differs, a shorter front first. The bytes of one may begin
+/// another's, so these keys are not free of prefixes.
 impl<B: IntegerMapping, E: Element<B>> BytesMapping<Vec<E>> for Joined<B> {
     type Bytes = Vec<u8>;
 

@@ -114,7 +114,11 @@ fn test_ordered_non_zero_unsigned(rt: HostRuntime) -> Result<(), Fail> {
     let middle = NonZeroU128::new(u128::MAX / 2).ok_or("not 0")?;
     ordered_arrays::<ToUBE, NonZeroU128>(&rt, alloc, [NonZeroU128::MIN, middle, NonZeroU128::MAX])?;
     let middle = NonZeroUsize::new(usize::MAX / 2).ok_or("not 0")?;
-    ordered_arrays::<ToUBE, NonZeroUsize>(&rt, alloc, [NonZeroUsize::MIN, middle, NonZeroUsize::MAX])?;
+    ordered_arrays::<ToUBE, NonZeroUsize>(
+        &rt,
+        alloc,
+        [NonZeroUsize::MIN, middle, NonZeroUsize::MAX],
+    )?;
     Ok(())
 }
 

@@ -1,4 +1,4 @@
-use Rattle.art_mapped.specs.Addresses.{ipv4_with}
+use Rattle.art_mapped.specs.AddressLaws.{ipv4_with}
 use Rattle.art_mapped.proofs.octets.ToOctetsBytesMappingIpv4Addr.is_value.Goals as goal
 
 pub returns : goal.returns

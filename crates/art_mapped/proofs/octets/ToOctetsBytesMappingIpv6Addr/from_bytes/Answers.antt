@@ -1,8 +1,9 @@
-use Rattle.std.proofs.Common.{◌≡◌, rules, ap, ◌∙◌, sym}
-use Rattle.std.specs.Net.Addr.{ipv6_octets, octets_of}
+use Rattle.std.proofs.Common.{rules, ap, ◌∙◌, sym}
+use Rattle.std.specs.Net.Addr.{octets_of}
 use Rattle.std.proofs.lemmas.List.Elements.{All-from_get_or}
 use Rattle.art_bytes.specs.Text.{IsByte}
-use Rattle.art_mapped.specs.Addresses.{AreOctets, octets_of-segments_of, same_ipv6}
+use Rattle.art_mapped.specs.Addresses.{AreOctets}
+use Rattle.art_mapped.specs.AddressLaws.{octets_of-segments_of, same_ipv6}
 use Rattle.art_mapped.proofs.octets.ToOctetsBytesMappingIpv6Addr.from_bytes.Goals as goal
 
 pub returns-clause-text : goal.returns-clause-text

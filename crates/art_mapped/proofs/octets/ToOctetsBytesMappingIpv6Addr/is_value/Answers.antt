@@ -1,4 +1,4 @@
-use Rattle.art_mapped.specs.Addresses.{ipv6_with}
+use Rattle.art_mapped.specs.AddressLaws.{ipv6_with}
 use Rattle.art_mapped.proofs.octets.ToOctetsBytesMappingIpv6Addr.is_value.Goals as goal
 
 pub returns : goal.returns
