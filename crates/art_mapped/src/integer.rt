@@ -4,8 +4,7 @@ ghost use Rattle.std.specs.Ordering.{int_cmp, on};
 ghost use Rattle.art_bytes.specs.Text.{text_order};
 ghost use Rattle.art_mapped.specs.Mapping.{StandsForSome, HasTextOf};
 ghost use Rattle.art_mapped.specs.MappingLaws.{kept_by_text};
-ghost use Rattle.art_mapped.specs.Numbers.{IsUnsigned, IsSigned, unsigned_text, signed_text, IsElement, element_text};
-ghost use Rattle.art_mapped.specs.NumberLaws.{length-unsigned_text, length-signed_text, unsigned_keeps_size, signed_keeps_size};
+ghost use Rattle.art_mapped.specs.Numbers.{IsElement, element_text};
 ghost use Rattle.art_mapped.specs.SequenceLaws.{elements_keep, same_from_text, front_is_whole};
 
 use crate::fixed::FixedBytes;
@@ -27,39 +26,6 @@ pub trait IntegerMapping {
 
     /// The texts of a width keep the order by size.
     ghost keeps_size: { (width : ℕ) → 0 < width → (x y : ℤ) → is_in_range width x → is_in_range width y → int_cmp x y ≡ text_order (number_text width x) (number_text width y) };
-}
-
-/// Unsigned integers as their big endian bytes: the digits in base 256 at full width, most significant first.
-///
-/// Its domains are `u8` to `u128`, `usize`, their types of numbers that are not 0, and arrays and vectors of
-/// these, as the elements' bytes joined.
-pub struct ToUBE;
-
-impl IntegerMapping for ToUBE {
-    ghost is_in_range = { IsUnsigned };
-
-    ghost number_text = { unsigned_text };
-
-    ghost has_width = { length-unsigned_text };
-
-    ghost keeps_size = { λ width _. unsigned_keeps_size width };
-}
-
-/// Signed integers as big endian bytes that sort: the digits of the number raised by half of its type's
-/// range, which are those of its two's complement with the top bit flipped.
-///
-/// Its domains are `i8` to `i128`, `isize`, their types of numbers that are not 0, and arrays and vectors of
-/// these, as the elements' bytes joined.
-pub struct ToIBE;
-
-impl IntegerMapping for ToIBE {
-    ghost is_in_range = { IsSigned };
-
-    ghost number_text = { signed_text };
-
-    ghost has_width = { length-signed_text };
-
-    ghost keeps_size = { signed_keeps_size };
 }
 
 /// An integer type, or the type of an integer type's numbers that are not 0, under a mapping of integers.

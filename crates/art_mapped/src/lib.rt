@@ -21,8 +21,10 @@ mod vector;
 
 pub use domain::Domain;
 pub use fixed::FixedBytes;
-pub use integer::{Element, IntegerMapping, Single, ToIBE, ToUBE};
+pub use integer::{Element, IntegerMapping, Single};
 pub use mapped::Mapped;
 pub use mapping::{BytesMapping, NoPrefixesMapping, OrderedMapping};
 pub use octets::ToOctets;
 pub use sequence::Joined;
+pub use signed::ToIBE;
+pub use unsigned::ToUBE;
