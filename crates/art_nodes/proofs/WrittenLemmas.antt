@@ -1,19 +1,19 @@
 -- Counts of the bytes that commands write.
-use Rattle.std.proofs.Common.{◌≡◌, ℕ, zero, suc, ◌+◌, ◌<◌, ◌≤◌, ◌≢◌, Bool, true, false, cond, nat_eq, ◌||◌, List, [], ◌∷◌, length, get_or, set, take, replicate, refl, sym, ◌∙◌, ap, subst, arith, inl, inr}
+use Rattle.std.proofs.Common.{◌≡◌, ℕ, zero, suc, ◌+◌, ◌<◌, ◌≤◌, ◌≢◌, Bool, true, false, cond, not, if◌then◌else◌, nat_eq, nat_lt, ◌||◌, List, [], ◌∷◌, ◌++◌, map, filter, length, get_or, set, take, replicate, refl, sym, ◌∙◌, ap, subst, arith, inl, inr}
 use Rattle.std.specs.List.{AllByRecursion, list_any, count_by, range_with_len}
 use Rattle.std.proofs.Math.Bool.{or-true, or-false}
 use Rattle.std.proofs.lemmas.Bool.{cases_lt}
 use Rattle.std.proofs.lemmas.Bool.Decides.{nat_tests}
-use Rattle.std.proofs.lemmas.List.{length-set, get_or-replicate, get_or-set_same, get_or-set_other}
+use Rattle.std.proofs.lemmas.List.{length-set, length-map, get_or-replicate, get_or-set_same, get_or-set_other}
 use Rattle.std.proofs.lemmas.List.FromFn.{length-range_with_len}
-use Rattle.std.proofs.lemmas.List.Folds.{list_any_more}
+use Rattle.std.proofs.lemmas.List.Folds.{list_any_more, list_any_at}
 use Rattle.std.proofs.lemmas.List.Sums.{count_by-le-length, sum_by-cons}
-use Rattle.art_nodes.specs.ChildMap.{IsAscendingFrom}
-use Rattle.art_nodes.specs.Commands.{is_written_by, writes_to, distinct_writes_of}
+use Rattle.art_nodes.specs.ChildMap.{ChildMap, IsAscendingFrom, IsAscending, key_bytes, with_child}
+use Rattle.art_nodes.specs.Commands.{child_map_after, HasRoomForCommand, WritesByte, is_written_by, writes_to, distinct_writes_of}
 use Rattle.art_nodes.specs.declared.command.ChildCommand.{ChildCommand}
 use Rattle.art_nodes.specs.declared.command.ChildCommand.TheVariants.{Write, Remove, Lookup, Min, Max, Range}
 use Rattle.art_nodes.specs.declared.pointers.OpaqueNodePtr.{OpaqueNodePtr}
-use Rattle.art_nodes.proofs.ChildMapLemmas.{cases_eq, eq-true, eq-false}
+use Rattle.art_nodes.proofs.ChildMapLemmas.{cases_eq, eq-true, eq-false, above-with_child, above-without_child, length-with_child}
 
 -- the first number counts, or not
 count_by_first : (p : ℕ → Bool) (low n : ℕ) (b : Bool) → p low ≡ b → count_by p (range_with_len low (suc n)) ≡ cond b 1 0 + count_by p (range_with_len (low + 1) n)
@@ -64,6 +64,25 @@ kept : (a b : Bool) → (b ≡ true → a ≡ true) → (a || b) ≡ a
 kept true b h = refl
 kept false true h = sym (h refl)
 kept false false h = refl
+
+-- what holds of each byte of a child map also holds of those that stay, and of those after a write
+module _ {H : Type 0} (P : ℕ → Type 0) where
+  all-filter : (test : ℕ × H → Bool) (children : ChildMap H) → AllByRecursion P (key_bytes children) → AllByRecursion P (key_bytes (filter test children))
+  all-filter test [] all = tt
+  all-filter test (x ∷ children) all = elim (test x) as (λ v. AllByRecursion P (key_bytes (if v then x ∷ filter test children else filter test children))) [
+    | true ↦ (all.0, all-filter test children all.1)
+    | false ↦ all-filter test children all.1
+  ]
+
+  all-append : (front back : ChildMap H) → AllByRecursion P (key_bytes front) → AllByRecursion P (key_bytes back) → AllByRecursion P (key_bytes (front ++ back))
+  all-append [] back in_front in_back = in_back
+  all-append (x ∷ front) back in_front in_back = (in_front.0, all-append front back in_front.1 in_back)
+
+  all-with_child : (children : ChildMap H) (byte : ℕ) (child : H) → P byte → AllByRecursion P (key_bytes children) → AllByRecursion P (key_bytes (with_child children byte child))
+  all-with_child children byte child here all =
+    all-append (filter (λ p. nat_lt p.0 byte) children) ((byte, child) ∷ filter (λ p. nat_lt byte p.0) children)
+      (all-filter (λ p. nat_lt p.0 byte) children all)
+      (here, all-filter (λ p. nat_lt byte p.0) children all)
 
 module _ {K V : Type 0} {P : ℕ} where
   -- the bytes that the commands write are marked and counted
@@ -133,3 +152,50 @@ module _ {K V : Type 0} {P : ℕ} where
         ];
         counted = ap (λ n. n + 1) before.counted ∙ sym (count_by-one_more (is_written_by (take i commands)) (is_written_by (take (i + 1) commands)) 0 256 byte (omega arith) (omega arith) (sym (before.marked byte fits) ∙ new) here same);
       }
+
+  -- the children's bytes ascend, and the commands write each of them
+  pub record AreWritten (commands : List (ChildCommand K V P)) (children : ChildMap (OpaqueNodePtr K V P)) : Type 0 where
+    pub ascending : IsAscending (key_bytes children)
+    pub written : AllByRecursion (λ b. is_written_by commands b ≡ true) (key_bytes children)
+
+  -- so they are at most as many as the bytes that the commands write
+  length-le-distinct_writes_of : (commands : List (ChildCommand K V P)) (children : ChildMap (OpaqueNodePtr K V P)) → AreWritten commands children → length children ≤ distinct_writes_of commands
+  unfolding distinct_writes_of
+  length-le-distinct_writes_of commands children few =
+    subst (λ n. n ≤ distinct_writes_of commands) (length-map children (λ p. p.0))
+      (length-le-count_by (is_written_by commands) (key_bytes children) 0 256 (omega arith) few.ascending few.written)
+
+  -- and still are after one of the commands
+  written_after : (commands : List (ChildCommand K V P)) (command : ChildCommand K V P) (children : ChildMap (OpaqueNodePtr K V P)) → WritesByte command → ((b : ℕ) → writes_to b command ≡ true → is_written_by commands b ≡ true) → AreWritten commands children → AreWritten commands (child_map_after children command)
+  written_after commands (Write byte child) children fits among before = record {
+    ascending = above-with_child 0 byte children child (omega arith) fits before.ascending;
+    written = all-with_child (λ b. is_written_by commands b ≡ true) children byte child (among byte (eq-true byte byte refl)) before.written;
+  }
+  written_after commands (Remove byte) children fits among before = record {
+    ascending = above-without_child 0 byte children before.ascending;
+    written = all-filter (λ b. is_written_by commands b ≡ true) (λ p. not (nat_eq p.0 byte)) children before.written;
+  }
+  written_after commands (Lookup byte) children fits among before = before
+  written_after commands Min children fits among before = before
+  written_after commands Max children fits among before = before
+  written_after commands (Range start end) children fits among before = before
+
+  -- where the commands write at most sixteen bytes, each finds room
+  has_room : (commands : List (ChildCommand K V P)) (command : ChildCommand K V P) (children : ChildMap (OpaqueNodePtr K V P)) → WritesByte command → ((b : ℕ) → writes_to b command ≡ true → is_written_by commands b ≡ true) → AreWritten commands children → distinct_writes_of commands ≤ 16 → HasRoomForCommand children command
+  has_room commands (Write byte child) children fits among before few = λ absent.
+    let one_more : length (with_child children byte child) ≡ length children + 1 = rw absent at (length-with_child 0 byte children child before.ascending) in
+    omega (arith, one_more, length-le-distinct_writes_of commands (with_child children byte child) (written_after commands (Write byte child) children fits among before))
+  has_room commands (Remove byte) children fits among before few = tt
+  has_room commands (Lookup byte) children fits among before few = tt
+  has_room commands Min children fits among before few = tt
+  has_room commands Max children fits among before few = tt
+  has_room commands (Range start end) children fits among before few = tt
+
+  -- both at a place in the list
+  pub written_more : (commands : List (ChildCommand K V P)) (i : ℕ) (d : ChildCommand K V P) (children : ChildMap (OpaqueNodePtr K V P)) → i < length commands → WritesByte (get_or commands i d) → AreWritten commands children → AreWritten commands (child_map_after children (get_or commands i d))
+  written_more commands i d children inside fits before =
+    written_after commands (get_or commands i d) children fits (λ b passes. list_any_at (writes_to b) commands i d inside passes) before
+
+  pub has_room_more : (commands : List (ChildCommand K V P)) (i : ℕ) (d : ChildCommand K V P) (children : ChildMap (OpaqueNodePtr K V P)) → i < length commands → WritesByte (get_or commands i d) → AreWritten commands children → distinct_writes_of commands ≤ 16 → HasRoomForCommand children (get_or commands i d)
+  has_room_more commands i d children inside fits before few =
+    has_room commands (get_or commands i d) children fits (λ b passes. list_any_at (writes_to b) commands i d inside passes) before few

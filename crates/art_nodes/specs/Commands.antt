@@ -40,6 +40,11 @@ module _ {K V : Type 0} {P : ℕ} where
   HasRoomForCommand children (Write byte child) = child_at children byte ≡ None → length children < 16
   HasRoomForCommand children _ = Unit {0}
 
+  -- what is written is under a byte, a number below 256
+  abbrev pub WritesByte : ChildCommand K V P → Type 0
+  WritesByte (Write byte child) = byte < 256
+  WritesByte _ = Unit {0}
+
   -- the command asks for a range
   abbrev pub IsRange : ChildCommand K V P → Type 0
   IsRange (Range start end) = Unit {0}

@@ -1,6 +1,6 @@
 //! Whole runs of child commands.
 ghost use Rattle.std.specs.Prelude.{◌≡◌, ◌≤◌, [], IfOk};
-ghost use Rattle.art_nodes.specs.Commands.{run_of, distinct_writes_of};
+ghost use Rattle.art_nodes.specs.Commands.{run_of, distinct_writes_of, WritesByte};
 
 use crate::child_node::ChildNode;
 use crate::command::{ChildCommand, ChildReply};
@@ -51,7 +51,17 @@ pub fn replay<K, V, const PREFIX_LEN: usize>(
     let mut node = ChildNode::from_header(header);
     let mut replies = Vec::with_capacity(alloc, commands.len())?;
     for command in commands {
+        know_byte(command);
         replies.push(node.apply(alloc, command)?)?;
     }
     Ok((replies, node))
+}
+
+// The type of a byte says that it is below 256, and a clause does not.
+fn know_byte<K, V, const PREFIX_LEN: usize>(command: &ChildCommand<K, V, PREFIX_LEN>)
+    ensures { WritesByte command.now }
+{
+    if let ChildCommand::Write(byte, _) = command {
+        let _byte = *byte;
+    }
 }
