@@ -1,3 +1,4 @@
+pub mod BoundLemmas
 pub mod ChildMapLemmas
 pub mod KindLemmas
 pub mod SortedLemmas

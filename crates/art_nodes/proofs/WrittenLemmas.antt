@@ -80,7 +80,7 @@ module _ {H : Type 0} (P : ℕ → Type 0) where
 
   all-with_child : (children : ChildMap H) (byte : ℕ) (child : H) → P byte → AllByRecursion P (key_bytes children) → AllByRecursion P (key_bytes (with_child children byte child))
   all-with_child children byte child here all =
-    all-append (filter (λ p. nat_lt p.0 byte) children) ((byte, child) ∷ filter (λ p. nat_lt byte p.0) children)
+      all-append (filter (λ p. nat_lt p.0 byte) children) ((byte, child) ∷ filter (λ p. nat_lt byte p.0) children)
       (all-filter (λ p. nat_lt p.0 byte) children all)
       (here, all-filter (λ p. nat_lt byte p.0) children all)
 
@@ -162,7 +162,7 @@ module _ {K V : Type 0} {P : ℕ} where
   length-le-distinct_writes_of : (commands : List (ChildCommand K V P)) (children : ChildMap (OpaqueNodePtr K V P)) → AreWritten commands children → length children ≤ distinct_writes_of commands
   unfolding distinct_writes_of
   length-le-distinct_writes_of commands children few =
-    subst (λ n. n ≤ distinct_writes_of commands) (length-map children (λ p. p.0))
+      subst (λ n. n ≤ distinct_writes_of commands) (length-map children (λ p. p.0))
       (length-le-count_by (is_written_by commands) (key_bytes children) 0 256 (omega arith) few.ascending few.written)
 
   -- and still are after one of the commands
@@ -183,8 +183,8 @@ module _ {K V : Type 0} {P : ℕ} where
   -- where the commands write at most sixteen bytes, each finds room
   has_room : (commands : List (ChildCommand K V P)) (command : ChildCommand K V P) (children : ChildMap (OpaqueNodePtr K V P)) → WritesByte command → ((b : ℕ) → writes_to b command ≡ true → is_written_by commands b ≡ true) → AreWritten commands children → distinct_writes_of commands ≤ 16 → HasRoomForCommand children command
   has_room commands (Write byte child) children fits among before few = λ absent.
-    let one_more : length (with_child children byte child) ≡ length children + 1 = rw absent at (length-with_child 0 byte children child before.ascending) in
-    omega (arith, one_more, length-le-distinct_writes_of commands (with_child children byte child) (written_after commands (Write byte child) children fits among before))
+      let one_more : length (with_child children byte child) ≡ length children + 1 = rw absent at (length-with_child 0 byte children child before.ascending) in
+      omega (arith, one_more, length-le-distinct_writes_of commands (with_child children byte child) (written_after commands (Write byte child) children fits among before))
   has_room commands (Remove byte) children fits among before few = tt
   has_room commands (Lookup byte) children fits among before few = tt
   has_room commands Min children fits among before few = tt
@@ -194,8 +194,8 @@ module _ {K V : Type 0} {P : ℕ} where
   -- both at a place in the list
   pub written_more : (commands : List (ChildCommand K V P)) (i : ℕ) (d : ChildCommand K V P) (children : ChildMap (OpaqueNodePtr K V P)) → i < length commands → WritesByte (get_or commands i d) → AreWritten commands children → AreWritten commands (child_map_after children (get_or commands i d))
   written_more commands i d children inside fits before =
-    written_after commands (get_or commands i d) children fits (λ b passes. list_any_at (writes_to b) commands i d inside passes) before
+      written_after commands (get_or commands i d) children fits (λ b passes. list_any_at (writes_to b) commands i d inside passes) before
 
   pub has_room_more : (commands : List (ChildCommand K V P)) (i : ℕ) (d : ChildCommand K V P) (children : ChildMap (OpaqueNodePtr K V P)) → i < length commands → WritesByte (get_or commands i d) → AreWritten commands children → distinct_writes_of commands ≤ 16 → HasRoomForCommand children (get_or commands i d)
   has_room_more commands i d children inside fits before few =
-    has_room commands (get_or commands i d) children fits (λ b passes. list_any_at (writes_to b) commands i d inside passes) before few
+      has_room commands (get_or commands i d) children fits (λ b passes. list_any_at (writes_to b) commands i d inside passes) before few

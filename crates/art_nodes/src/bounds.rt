@@ -1,8 +1,8 @@
 //! Bounds on key bytes.
-ghost use Rattle.std.specs.Prelude.{◌≡◌, ◌↔◌, IsTrue};
+ghost use Rattle.std.specs.Prelude.{◌≡◌, ◌↔◌, ◌&&◌, IsTrue};
 ghost use Rattle.art_nodes.specs.ChildMap.{AreValidBounds, meets_start, meets_end};
 
-use std::ops::Bound;
+use std::ops::{Bound, RangeBounds};
 
 /// Whether a range of key bytes may have these bounds.
 ///
@@ -18,4 +18,11 @@ pub fn valid_range_bounds(start: Bound<u8>, end: Bound<u8>) -> bool
         ) => start <= end,
         _ => true,
     }
+}
+
+// Whether the byte meets both bounds.
+pub(crate) fn is_within(start: Bound<u8>, end: Bound<u8>, byte: u8) -> bool
+    ensures { result ≡ (meets_start start byte && meets_end end byte) }
+{
+    (start, end).contains(&byte)
 }

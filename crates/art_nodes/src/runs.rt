@@ -65,3 +65,6 @@ fn know_byte<K, V, const PREFIX_LEN: usize>(command: &ChildCommand<K, V, PREFIX_
         let _byte = *byte;
     }
 }
+
+#[cfg(test)]
+mod tests;
