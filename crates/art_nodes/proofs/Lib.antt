@@ -1,5 +1,6 @@
 pub mod BuilderLemmas
 pub mod ChildMapLemmas
+pub mod ConversionLemmas
 pub mod IndirectLemmas
 pub mod KindLemmas
 pub mod SortedLemmas
