@@ -1,6 +1,7 @@
 -- Which kind holds how many children.
 use Rattle.std.specs.Option.{is_some}
 use Rattle.std.proofs.Common.{true, false, ◌≡◌, ◌≢◌, ℕ, suc, ◌+◌, ◌<◌, ◌≤◌, length, Some, None, IsSome, IsNone, Option, refl, sym, ◌∙◌, ap, subst, inl, inr, ◌⊎◌, if◌then◌else◌, arith}
+use Rattle.std.proofs.lemmas.List.{length-map}
 use Rattle.std.proofs.lemmas.Bool.{cases_lt}
 use Rattle.std.proofs.lemmas.Bool.Decides.{nat_tests}
 use Rattle.art_header.specs.NodeType.{least_children, most_children, grown_kind, shrunk_kind, kind_for}
@@ -77,7 +78,7 @@ pub absent_below : {H : Type 0} (children : ChildMap H) (byte : ℕ) (child : H)
 absent_below {H} children byte child ascending fits absent =
     let one_more = rw absent at (length-with_child {H = H} 0 byte children child ascending) in
     let bytes = ascending-length 0 (key_bytes (with_child children byte child)) (omega arith) (above-with_child {H = H} 0 byte children child (omega arith) fits ascending) in
-    omega (arith, one_more, bytes, length-map (λ (p : ℕ × H). p.0) (with_child children byte child))
+    omega (arith, one_more, bytes, length-map (with_child children byte child) (λ p. p.0))
 
 -- the next greater kind
 pub record Grows (kind : NodeType) : Type 0 where

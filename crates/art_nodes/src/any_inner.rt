@@ -8,7 +8,8 @@ ghost use Rattle.art_nodes.specs.Inner.{HasRoomFor, IsInner, header_of, with_chi
 use crate::inner_node_direct::InnerNodeDirect;
 use crate::inner_node_indirect::InnerNode48;
 use crate::inner_node_sorted::{InnerNode4, InnerNode16};
-use crate::node::{InnerNode, InnerNodeCommon};
+use crate::inner_node::InnerNode;
+use crate::node::InnerNodeCommon;
 use crate::pointers::OpaqueNodePtr;
 use art_header::{Header, NodeType};
 use std::alloc::{AllocError, Global};
