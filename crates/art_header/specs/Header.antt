@@ -17,6 +17,10 @@ capped room prefix_len = min prefix_len room
 abbrev pub empty_header : ℕ → List ℕ → ℕ → Header
 empty_header room prefix prefix_len = record { count = 0; prefix_len = prefix_len; stored = take (capped room prefix_len) prefix }
 
+-- the header with the prefix of another
+abbrev pub with_prefix_of : Header → Header → Header
+with_prefix_of header other = record header { prefix_len = other.prefix_len; stored = other.stored }
+
 -- two headers show the same count, the same length and the same stored front
 abbrev pub same_header : Header → Header → Bool
 same_header a b = (a.count == b.count) && ((a.prefix_len == b.prefix_len) && pointwise nat_eq a.stored b.stored)

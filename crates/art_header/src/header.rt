@@ -30,7 +30,7 @@ impl<const PREFIX_LEN: usize> Model for Header<PREFIX_LEN> {
 }
 
 impl<const PREFIX_LEN: usize> Header<PREFIX_LEN> {
-    ghost use Rattle.art_header.specs.Header.{capped, empty_header};
+    ghost use Rattle.art_header.specs.Header.{capped, empty_header, with_prefix_of};
 
     /// A header with no children, for a prefix of `prefix_len` bytes that begins with `prefix`.
     ///
@@ -83,6 +83,15 @@ impl<const PREFIX_LEN: usize> Header<PREFIX_LEN> {
         ensures fits { result < 2 ^ 16 }
     {
         usize::from(self.num_children)
+    }
+
+    /// Takes over the prefix of another header: its length and its stored front. The count of
+    /// children stays.
+    pub fn set_prefix(&mut self, other: &Header<PREFIX_LEN>)
+        ensures { self.new ≡ with_prefix_of self.old other.now }
+    {
+        self.prefix_len = other.prefix_len;
+        self.prefix = other.prefix;
     }
 
     /// Counts one child more. The count has to be below 65535.
@@ -148,3 +157,6 @@ impl<const PREFIX_LEN: usize> Eq for Header<PREFIX_LEN> {
 
     ghost laws = { same_header_equiv };
 }
+
+#[cfg(test)]
+mod tests;

@@ -1,6 +1,6 @@
 -- What an answer that is there exactly where a value is says of that value.
-use Rattle.std.proofs.Common.{◌≡◌, Bool, Option, Some, None, refl, ap, ◌∙◌}
-use Rattle.std.specs.Prelude.{IsTrue, IfSome, IfNone, is_some, not, true, false}
+use Rattle.std.proofs.Common.{◌≡◌, Bool, Option, Some, None, Result, Ok, Err, refl, ap, ◌∙◌}
+use Rattle.std.specs.Prelude.{IsTrue, IfSome, IfNone, IfOk, is_some, not, true, false}
 use Rattle.std.proofs.Props.{props}
 use Rattle.std.proofs.Math.Logic.{∥∥₁_elim}
 
@@ -19,3 +19,8 @@ if_none P (Some x) b is empty none = let clash : true ≡ false = is ∙ ap not 
 pub if_some : {E : Type 0} (P : E → Type 0) (answer : Option E) (b : Bool) → is_some answer ≡ not b → b ≡ false → IfSome answer P → (x : E) × P x
 if_some P None b is full some = let clash : false ≡ true = is ∙ ap not full in cc
 if_some P (Some x) b is full some = (x, some)
+
+-- what follows from two facts of an answer that is there
+pub if_ok_both : {T F : Type 0} (P Q R : T → Type 0) (answer : Result T F) → IfOk answer P → IfOk answer Q → ((x : T) → P x → Q x → R x) → IfOk answer R
+if_ok_both P Q R (Ok x) p q both = both x p q
+if_ok_both P Q R (Err e) p q both = tt

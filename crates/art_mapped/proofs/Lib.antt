@@ -1,3 +1,5 @@
 pub mod Answered
 pub mod Parts
 pub mod Turns
+pub mod Vecs
+pub mod Flip

@@ -7,11 +7,11 @@ use Rattle.std.proofs.lemmas.List.{append-nil}
 use Rattle.std.proofs.lemmas.Grind.{flat_map-append}
 use Rattle.std.proofs.lemmas.Bool.{cases_lt}
 use Rattle.std.proofs.lemmas.Nat.{mul-le, div-add-mod'}
-use Rattle.std.proofs.Math.Nat.{mul-mod_left}
+use Rattle.std.proofs.Math.Nat.{mul-mod_left, mul-div_cancel}
 use Rattle.std.proofs.Math.Logic.{∥∥₁_map, ∥∥₁_map₂, ∥∥₁_elim}
 use Rattle.std.proofs.Props.{props}
 use Rattle.art_mapped.specs.SequenceLaws.{length-joined}
-use Rattle.art_mapped.specs.Sequences.{joined, AreJoined, part}
+use Rattle.art_mapped.specs.Sequences.{joined, AreJoined, part, IsArray}
 
 -- the bytes are those of some element
 abbrev pub IsPartOfSome : {E : Type 0} → (E → Type 0) → (E → List ℕ) → List ℕ → Type 0
@@ -109,3 +109,15 @@ module _ {E : Type 0} (text : E → List ℕ) (width : ℕ) (long : (x : E) → 
   -- all read
   pub all_read : (xs : List E) (bytes : List ℕ) (n : ℕ) → length bytes ≤ n * width → joined text xs ++ drop (n * width) bytes ≡ bytes → bytes ≡ joined text xs
   all_read xs bytes n size read = sym (rw (drop_all (n * width) bytes size, append-nil) at read)
+
+  -- as many elements as parts
+  pub size_of_array : (is_element : E → Type 0) (n : ℕ) (bytes : List ℕ) → 0 < width → ∥ ((xs : List E) × IsArray n is_element xs × (bytes ≡ joined text xs)) ∥₁ → length bytes / width ≡ n
+  size_of_array is_element n bytes some are =
+      ∥∥₁_elim are (hlevel props) (λ of. rw (ap length of.2 ∙ length-joined text width long of.0, mul-div_cancel (length of.0) some) of.1.0)
+
+  pub joined_from_array : (is_element : E → Type 0) (n : ℕ) (bytes : List ℕ) → ∥ ((xs : List E) × IsArray n is_element xs × (bytes ≡ joined text xs)) ∥₁ → AreJoined is_element text bytes
+  joined_from_array is_element n bytes are = ∥∥₁_map are (λ of. (of.0, of.1.1, of.2))
+
+  pub array_from_joined : (is_element : E → Type 0) (n : ℕ) (bytes : List ℕ) → 0 < width → length bytes / width ≡ n → AreJoined is_element text bytes → ∥ ((xs : List E) × IsArray n is_element xs × (bytes ≡ joined text xs)) ∥₁
+  array_from_joined is_element n bytes some size are =
+      ∥∥₁_map are (λ of. (of.0, (rw (ap length of.2 ∙ length-joined text width long of.0, mul-div_cancel (length of.0) some) at size, of.1), of.2))

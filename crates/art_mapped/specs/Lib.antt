@@ -1,4 +1,7 @@
+pub mod Addresses
 pub mod DigitLaws
+pub mod Mapped
+pub mod MappedLaws
 pub mod Mapping
 pub mod NumberLaws
 pub mod Numbers

@@ -85,10 +85,6 @@ pos_decides m n same = cc
 pub non_zero_decides : {X : Type 0} (value : X → ℕ) (fact : (x : X) → 0 < value x) (make : (n : ℕ) → 0 < n → X) → ((x : X) → make (value x) (fact x) ≡ x) → (x y : X) → pos (value x) ≡ pos (value y) → x ≡ y
 non_zero_decides value fact make back x y same = number_and_fact (λ n. le_prop) value fact make back x y (pos_decides (value x) (value y) same)
 
--- two numbers with the same bytes are one
-pub same_from_text : (is_in_range : ℕ → ℤ → Type 0) (number_text : ℕ → ℤ → List ℕ)
-    → ((width : ℕ) → 0 < width → (y z : ℤ) → is_in_range width y → is_in_range width z → int_cmp y z ≡ text_order (number_text width y) (number_text width z))
-    → (width : ℕ) → 0 < width → (y z : ℤ) → is_in_range width y → is_in_range width z → number_text width y ≡ number_text width z → y ≡ z
-same_from_text is_in_range number_text keeps_size width some y z y_in z_in same =
-    let tied : int_cmp y z ≡ Equal = keeps_size width some y z y_in z_in ∙ rw same (tied_itself nat_list_cmp_total (number_text width z)) in
-    exact_signed y z tied
+-- the same of a signed number
+pub signed_non_zero_decides : {X : Type 0} (value : X → ℤ) (fact : (x : X) → 0 < unsigned_abs (value x)) (make : (z : ℤ) → 0 < unsigned_abs z → X) → ((x : X) → make (value x) (fact x) ≡ x) → (x y : X) → value x ≡ value y → x ≡ y
+signed_non_zero_decides value fact make back x y same = number_and_fact (λ z. le_prop) value fact make back x y same

@@ -1,6 +1,7 @@
 -- The bytes of arrays and vectors.
-use Rattle.std.specs.Prelude.{◌≡◌, ℕ, ◌*◌, List, take, drop, All}
+use Rattle.std.specs.Prelude.{◌≡◌, ℕ, ◌*◌, List, take, drop, length, All, Vec}
 use Rattle.std.specs.List.{flat_map}
+use Rattle.std.specs.Vec.{vec_items}
 
 -- the bytes of the elements, joined
 abbrev pub joined : {E : Type 0} → (E → List ℕ) → List E → List ℕ
@@ -13,3 +14,14 @@ AreJoined {E} is_element text bytes = ∥ ((elements : List E) × All is_element
 -- the part at an index, where each part has that many bytes
 abbrev pub part : ℕ → ℕ → List ℕ → List ℕ
 part width index bytes = take width (drop (index * width) bytes)
+
+-- an array has just so many elements
+abbrev pub IsArray : {E : Type 0} → ℕ → (E → Type 0) → List E → Type 0
+IsArray n is_element elements = (length elements ≡ n) × All is_element elements
+
+-- a vector is seen as its elements
+abbrev pub IsVec : {E A : Type 0} → (E → Type 0) → Vec E A → Type 0
+IsVec is_element elements = All is_element (vec_items elements)
+
+abbrev pub vec_text : {E A : Type 0} → (E → List ℕ) → Vec E A → List ℕ
+vec_text text elements = joined text (vec_items elements)

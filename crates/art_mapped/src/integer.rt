@@ -1,12 +1,10 @@
-ghost use Rattle.std.specs.Prelude.{◌≡◌, ◌≢◌, ◌↔◌, IsTrue, ℕ, ℤ, ◌<◌, List, length, true, false, IfSome, IfNone};
-ghost use Rattle.std.specs.Ordering.{int_cmp};
+ghost use Rattle.std.specs.Prelude.{◌≡◌, ◌≢◌, ◌↔◌, ℕ, ℤ, ◌<◌, List, length, true, false, IsTrue, IfSome, IfNone};
+ghost use Rattle.std.specs.Ordering.{int_cmp, on};
 ghost use Rattle.art_bytes.specs.Text.{text_order};
-ghost use Rattle.art_bytes.specs.Laws.{front_of_length};
 ghost use Rattle.art_mapped.specs.Mapping.{StandsForSome, HasTextOf, kept_by_text};
 ghost use Rattle.art_mapped.specs.Numbers.{IsUnsigned, IsSigned, unsigned_text, signed_text, IsElement, element_text};
-ghost use Rattle.art_mapped.specs.NumberLaws.{length-unsigned_text, length-signed_text, unsigned_keeps_size, signed_keeps_size, same_from_text};
-
-ghost use Rattle.std.proofs.Common.{sym, ◌∙◌};
+ghost use Rattle.art_mapped.specs.NumberLaws.{length-unsigned_text, length-signed_text, unsigned_keeps_size, signed_keeps_size};
+ghost use Rattle.art_mapped.specs.SequenceLaws.{same_from_text, front_is_whole, unsigned_keep, signed_keep};
 
 use art_bytes::AsBytes;
 use std::alloc::{AllocError, Global};
@@ -98,6 +96,7 @@ fn element_of<B: IntegerMapping, E: Element<B>>(bytes: E::Bytes) -> E
     }
 }
 
+/// Unsigned integers, and those that are not 0, in order of their size.
 impl<E: Element<ToUBE>> BytesMapping<E> for ToUBE {
     type Bytes = E::Bytes;
 
@@ -119,7 +118,7 @@ impl<E: Element<ToUBE>> BytesMapping<E> for ToUBE {
 
     ghost has_text = { λ _ _ _ stands. stands };
 
-    ghost reads_one = { λ _ x y x_in y_in x_text y_text. E.number_decides x y (same_from_text IsUnsigned unsigned_text (λ width _. unsigned_keeps_size width) E.Bytes.WIDTH E.has_bytes (E.number x) (E.number y) x_in y_in (sym x_text ∙ y_text)) };
+    ghost reads_one = { λ _ x y x_in y_in x_text y_text. same_from_text (unsigned_keep E.Bytes.WIDTH E.has_bytes E.number E.number_decides) x y x_in y_in x_text y_text };
 
     ghost kept_by_text = { λ a b _. kept_by_text (IsElement IsUnsigned E.Bytes.WIDTH E.number) E.Bytes.text (element_text unsigned_text E.Bytes.WIDTH E.number) a b };
 
@@ -137,11 +136,60 @@ impl<E: Element<ToUBE>> BytesMapping<E> for ToUBE {
 }
 
 impl<E: Element<ToUBE>> OrderedMapping<E> for ToUBE {
-    ghost domain_order = { λ x y. int_cmp (E.number x) (E.number y) };
+    ghost domain_order = { on E.number int_cmp };
 
-    ghost keeps_order = { λ x y. unsigned_keeps_size E.Bytes.WIDTH (E.number x) (E.number y) };
+    ghost keeps_order = { (unsigned_keep E.Bytes.WIDTH E.has_bytes E.number E.number_decides).keeps };
 }
 
 impl<E: Element<ToUBE>> NoPrefixesMapping<E> for ToUBE {
-    ghost no_prefixes = { λ x y _ _. front_of_length E.Bytes.WIDTH (unsigned_text E.Bytes.WIDTH (E.number x)) (unsigned_text E.Bytes.WIDTH (E.number y)) (length-unsigned_text E.Bytes.WIDTH (E.number x)) (length-unsigned_text E.Bytes.WIDTH (E.number y)) };
+    ghost no_prefixes = { λ x y _ _. front_is_whole (unsigned_keep E.Bytes.WIDTH E.has_bytes E.number E.number_decides) x y };
+}
+
+/// Signed integers, and those that are not 0, in order of their size.
+impl<E: Element<ToIBE>> BytesMapping<E> for ToIBE {
+    type Bytes = E::Bytes;
+
+    const ALLOCATES: bool = false;
+
+    const READ_ALLOCATES: bool = false;
+
+    ghost ALLOCATES = { false };
+
+    ghost READ_ALLOCATES = { false };
+
+    ghost is_in_domain = { IsElement IsSigned E.Bytes.WIDTH E.number };
+
+    ghost text_of = { element_text signed_text E.Bytes.WIDTH E.number };
+
+    ghost are_same = { λ x y. x ≡ y };
+
+    ghost stands_for = { HasTextOf E.Bytes.text (element_text signed_text E.Bytes.WIDTH E.number) };
+
+    ghost has_text = { λ _ _ _ stands. stands };
+
+    ghost reads_one = { λ _ x y x_in y_in x_text y_text. same_from_text (signed_keep E.Bytes.WIDTH E.has_bytes E.number E.number_decides) x y x_in y_in x_text y_text };
+
+    ghost kept_by_text = { λ a b _. kept_by_text (IsElement IsSigned E.Bytes.WIDTH E.number) E.Bytes.text (element_text signed_text E.Bytes.WIDTH E.number) a b };
+
+    fn to_bytes(_alloc: Global, value: E) -> Result<E::Bytes, AllocError> {
+        Ok(value.encode())
+    }
+
+    fn from_bytes(_alloc: Global, bytes: E::Bytes) -> Result<E, AllocError> {
+        Ok(element_of::<ToIBE, E>(bytes))
+    }
+
+    fn is_value(bytes: &E::Bytes) -> bool {
+        is_element::<ToIBE, E>(*bytes)
+    }
+}
+
+impl<E: Element<ToIBE>> OrderedMapping<E> for ToIBE {
+    ghost domain_order = { on E.number int_cmp };
+
+    ghost keeps_order = { (signed_keep E.Bytes.WIDTH E.has_bytes E.number E.number_decides).keeps };
+}
+
+impl<E: Element<ToIBE>> NoPrefixesMapping<E> for ToIBE {
+    ghost no_prefixes = { λ x y _ _. front_is_whole (signed_keep E.Bytes.WIDTH E.has_bytes E.number E.number_decides) x y };
 }

@@ -1,11 +1,15 @@
-ghost use Rattle.std.specs.Prelude.{◌≡◌, ℕ, List, Bool, true, false, IsTrue, IsOk, IfOk};
+ghost use Rattle.std.specs.Prelude.{◌≡◌, IsOk, IfOk, false};
 ghost use Rattle.art_mapped.specs.Mapping.{StandsForSome};
 
-use crate::mapping::BytesMapping;
+use art_bytes::{AsBytes, NoPrefixesBytes, OrderedBytes};
 use std::alloc::{AllocError, Global};
+use std::cmp::Ordering;
+use std::hash::{Hash, Hasher};
 use std::marker::PhantomData;
-use art_bytes::AsBytes;
 
+use crate::mapping::{BytesMapping, NoPrefixesMapping, OrderedMapping};
+
+/// A key made of a value: the bytes of the value under a mapping.
 pub struct Mapped<B: BytesMapping<D>, D> {
     repr: B::Bytes,
     mapping: PhantomData<(B, D)>,
@@ -19,28 +23,152 @@ impl<B: BytesMapping<D>, D> Drop for Mapped<B, D> {
 }
 
 impl<B: BytesMapping<D>, D> Mapped<B, D> {
+    ghost use Rattle.art_mapped.specs.Mapped.{mapped_bytes, mapped_text, HoldsValue};
+
+    /// The key of a value.
     pub fn new(alloc: Global, value: D) -> Result<Self, AllocError>
-        ensures stands { IfOk result (λ mapped. B.stands_for mapped.repr value) }
+        ensures value { IfOk result (λ mapped. HoldsValue mapped value) }
+        ensures text { IfOk result (λ mapped. mapped_text mapped ≡ B.text_of value) }
         ensures takes_no_memory { B.ALLOCATES ≡ false → IsOk result }
     {
         let repr = B::to_bytes(alloc, value)?;
-        Ok(Mapped { repr, mapping: PhantomData })
+        Ok(Mapped {
+            repr,
+            mapping: PhantomData,
+        })
     }
 
+    /// The value that the key was made of.
     pub fn get(self, alloc: Global) -> Result<D, AllocError>
-        ensures inverts { (value : D) → B.is_in_domain value → B.stands_for self.repr value → IfOk result (λ read. B.are_same read value) }
+        ensures value { IfOk result (λ read. HoldsValue self read) }
+        ensures inverts { (value : D) → HoldsValue self value → IfOk result (λ read. B.are_same read value) }
         ensures takes_no_memory { B.READ_ALLOCATES ≡ false → IsOk result }
     {
         let Mapped { repr, mapping: _ } = self;
         B::from_bytes(alloc, repr)
     }
+
+    /// The same key again.
+    pub fn clone(&self) -> Result<Self, AllocError>
+    where
+        B::Bytes: Clone,
+        requires { (bytes : B.Bytes) → B.Bytes.is_clone (mapped_bytes self.now) bytes → B.Bytes.text bytes ≡ mapped_text self.now }
+        ensures text { IfOk result (λ mapped. mapped_text mapped ≡ mapped_text self.now) }
+    {
+        let repr = self.repr.clone()?;
+        let _key = repr.as_bytes();
+        Ok(Mapped {
+            repr,
+            mapping: PhantomData,
+        })
+    }
 }
 
+/// The text of the key is that of its value.
 impl<B: BytesMapping<D>, D> AsBytes for Mapped<B, D> {
-    ghost text = { λ m. B.Bytes.text m.repr };
-    ghost is_key = { λ m. StandsForSome B.is_in_domain B.stands_for m.repr };
+    ghost use Rattle.art_mapped.specs.Mapped.{mapped_bytes, mapped_text};
+
+    ghost text = { mapped_text };
+
+    ghost is_key = { λ mapped. StandsForSome B.is_in_domain B.stands_for (mapped_bytes mapped) };
 
     fn as_bytes(&self) -> &[u8] {
         self.repr.as_bytes()
     }
+}
+
+/// No text is a proper front of another where the mapping says so.
+impl<B: NoPrefixesMapping<D>, D> NoPrefixesBytes for Mapped<B, D> {
+    ghost use Rattle.art_mapped.specs.MappedLaws.{text_front_is_whole};
+
+    ghost no_prefixes = { λ a b a_some b_some. text_front_is_whole _ _ _ _ B.has_text B.no_prefixes a.repr b.repr a_some b_some };
+}
+
+/// Keys are equal where their bytes are.
+impl<B: BytesMapping<D>, D> PartialEq for Mapped<B, D> {
+    ghost use Rattle.std.specs.Prelude.{nat_eq};
+    ghost use Rattle.std.specs.Ordering.{on};
+    ghost use Rattle.std.specs.Cmp.{partial_equiv_from_equiv};
+    ghost use Rattle.std.specs.Cmp.Lexicographic.{pointwise};
+    ghost use Rattle.std.proofs.lemmas.Cmp.{on_equiv, nat_list_eq_equiv};
+    ghost use Rattle.art_mapped.specs.Mapped.{mapped_text};
+
+    ghost eq = { on mapped_text (pointwise nat_eq) };
+
+    ghost laws = { partial_equiv_from_equiv (on_equiv mapped_text nat_list_eq_equiv) };
+
+    fn eq(&self, other: &Self) -> bool {
+        self.as_bytes() == other.as_bytes()
+    }
+}
+
+impl<B: BytesMapping<D>, D> Eq for Mapped<B, D> {
+    ghost use Rattle.std.proofs.lemmas.Cmp.{on_equiv, nat_list_eq_equiv};
+    ghost use Rattle.art_mapped.specs.Mapped.{mapped_text};
+
+    ghost laws = { on_equiv mapped_text nat_list_eq_equiv };
+}
+
+/// A key is hashed by its bytes.
+impl<B: BytesMapping<D>, D> Hash for Mapped<B, D> {
+    ghost use Rattle.std.proofs.Common.{rules};
+    ghost use Rattle.std.specs.Cmp.Rules.{hashing};
+    ghost use Rattle.std.specs.Hash as fed;
+    ghost use Rattle.art_mapped.specs.Mapped.{mapped_text};
+
+    ghost hash_input = { λ mapped. fed.slice fed.u8 (mapped_text mapped) };
+
+    ghost respects_eq = { Prim.search (hashing, rules) };
+
+    fn hash<H: Hasher>(&self, state: &mut H) {
+        self.as_bytes().hash(state);
+    }
+}
+
+/// Keys of an ordered mapping are in the order of their bytes, which is that of their values.
+impl<B: OrderedMapping<D>, D> Ord for Mapped<B, D> {
+    ghost use Rattle.std.specs.Ordering.{on};
+    ghost use Rattle.std.proofs.Common.{rules};
+    ghost use Rattle.std.specs.Cmp.Rules.{comparing};
+    ghost use Rattle.std.proofs.lemmas.Cmp.{on_total, nat_list_cmp_total};
+    ghost use Rattle.art_bytes.specs.Text.{text_order};
+    ghost use Rattle.art_mapped.specs.Mapped.{mapped_text, HoldsValue};
+
+    ghost cmp = { on mapped_text text_order };
+
+    ghost total = { on_total mapped_text nat_list_cmp_total };
+
+    ghost matches_partial_cmp = { Prim.search (comparing, rules) };
+
+    ghost matches_eq = { Prim.search (comparing, rules) };
+
+    fn cmp(&self, other: &Self) -> Ordering
+        ensures texts { result ≡ text_order (mapped_text self.now) (mapped_text other.now) }
+        ensures values { (x y : D) → HoldsValue self.now x → HoldsValue other.now y → result ≡ B.domain_order x y }
+    {
+        self.as_bytes().cmp(&other.as_bytes())
+    }
+}
+
+impl<B: OrderedMapping<D>, D> PartialOrd for Mapped<B, D> {
+    ghost use Rattle.std.specs.Ordering.{on, as_partial_cmp};
+    ghost use Rattle.std.proofs.Common.{rules};
+    ghost use Rattle.std.specs.Cmp.{partial_order_from_own_ties};
+    ghost use Rattle.std.specs.Cmp.Rules.{comparing};
+    ghost use Rattle.art_bytes.specs.Text.{text_order};
+    ghost use Rattle.art_mapped.specs.Mapped.{mapped_text};
+
+    ghost partial_cmp = { as_partial_cmp (on mapped_text text_order) };
+
+    ghost laws = { partial_order_from_own_ties (Prim.search (comparing, rules)) (Prim.search (comparing, rules)) };
+
+    fn partial_cmp(&self, other: &Self) -> Option<Ordering> {
+        Some(self.cmp(other))
+    }
+}
+
+impl<B: OrderedMapping<D>, D> OrderedBytes for Mapped<B, D> {
+    ghost use Rattle.std.specs.Prelude.{refl};
+
+    ghost ordered = { λ _ _ _ _. refl };
 }

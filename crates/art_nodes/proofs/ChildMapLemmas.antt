@@ -86,8 +86,8 @@ module _ {H : Type 0} where
     | inr from ↦ elim (cases_lt x.0 byte) [
       | inl after ↦ rw (with_child-later x.0 byte x.1 children child after) (above.0, above.1, above-with_child (suc x.0) byte children child (omega arith) fits above.2)
       | inr upto ↦
-        let same : x.0 ≡ byte = omega arith in
-        rw (with_child-same x.0 byte x.1 children child same above.2) (le, fits, subst (λ b. IsAbove (suc b) children) same above.2)
+          let same : x.0 ≡ byte = omega arith in
+          rw (with_child-same x.0 byte x.1 children child same above.2) (le, fits, subst (λ b. IsAbove (suc b) children) same above.2)
     ]
   ]
 
@@ -107,8 +107,8 @@ module _ {H : Type 0} where
     | inr from ↦ elim (cases_lt x.0 byte) [
       | inl after ↦ rw (with_child-later x.0 byte x.1 children child after, child_at-later x.0 byte x.1 children (λ e. omega arith)) (let rest = length-with_child (suc x.0) byte children child above.2 in grind (arith, nat_tests, rest))
       | inr upto ↦
-        let same : x.0 ≡ byte = omega arith in
-        rw (with_child-same x.0 byte x.1 children child same above.2, child_at-same x.0 byte x.1 children same) refl
+          let same : x.0 ≡ byte = omega arith in
+          rw (with_child-same x.0 byte x.1 children child same above.2, child_at-same x.0 byte x.1 children same) refl
     ]
   ]
 

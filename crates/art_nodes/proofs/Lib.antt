@@ -1,5 +1,7 @@
+pub mod BoundLemmas
 pub mod BuilderLemmas
 pub mod ChildMapLemmas
+pub mod IndirectLemmas
 pub mod KindLemmas
 pub mod SortedLemmas
 pub mod TableLemmas

@@ -23,6 +23,10 @@ module _ {H : Type 0} where
   abbrev pub with_children : Inner H → ChildMap H → Inner H
   with_children node others = record node { children = others }
 
+  -- the node with the prefix of a header
+  abbrev pub with_prefix : Inner H → Header → Inner H
+  with_prefix node header = record node { prefix_len = header.prefix_len; stored = header.stored }
+
   -- the byte is there already, or there is room for one child more
   abbrev pub HasRoomFor : ℕ → Inner H → ℕ → Type 0
   HasRoomFor room node byte = IsNone (child_at node.children byte) → length node.children < room

@@ -6,12 +6,13 @@ ghost use Rattle.art_nodes.specs.AnyInner.{inner_of, kind_of};
 ghost use Rattle.art_nodes.specs.ChildMap.{child_at, with_child, without_child, first_pair, last_pair, pairs_within};
 ghost use Rattle.art_nodes.specs.Inner.{HasRoomFor, IsInner, header_of, with_children};
 
+use crate::bounds::is_within;
 use crate::inner_node_sorted::{InnerNode4, InnerNode16};
 use crate::node::InnerNodeCommon;
 use crate::pointers::OpaqueNodePtr;
 use art_header::{Header, NodeType};
 use std::alloc::{AllocError, Global};
-use std::ops::{Bound, RangeBounds};
+use std::ops::Bound;
 
 #[derive(Drop)]
 pub(crate) enum AnyInner<K, V, const PREFIX_LEN: usize> {
@@ -94,6 +95,7 @@ impl<K, V, const PREFIX_LEN: usize> AnyInner<K, V, PREFIX_LEN> {
     }
 
     /// The pairs within the bounds, in a vector.
+    #[tactic(auto, using(crate::proofs::SortedLemmas::zip_parts))]
     pub(crate) fn pairs_within(
         &self,
         alloc: Global,
@@ -161,7 +163,7 @@ fn collect_within<K, V, const PREFIX_LEN: usize>(
 {
     let mut pairs = Vec::new(alloc);
     for (index, key) in keys.iter().enumerate() {
-        if (start, end).contains(key) {
+        if is_within(start, end, *key) {
             pairs.push((*key, children[index]))?;
         }
     }

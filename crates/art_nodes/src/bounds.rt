@@ -1,9 +1,9 @@
 //! Bounds on key bytes.
-ghost use Rattle.std.specs.Prelude.{◌≡◌, ◌≤◌, ◌↔◌, IsTrue};
-ghost use Rattle.art_nodes.specs.ChildMap.{AreValidBounds};
+ghost use Rattle.std.specs.Prelude.{◌≡◌, ◌≤◌, ◌↔◌, ◌&&◌, IsTrue};
+ghost use Rattle.art_nodes.specs.ChildMap.{AreValidBounds, meets_start, meets_end};
 ghost use Rattle.art_nodes.specs.PairSources.{first_byte, end_byte};
 
-use std::ops::{Bound, Range};
+use std::ops::{Bound, Range, RangeBounds};
 
 /// Whether a range of key bytes may have these bounds.
 ///
@@ -19,6 +19,13 @@ pub fn valid_range_bounds(start: Bound<u8>, end: Bound<u8>) -> bool
         ) => start <= end,
         _ => true,
     }
+}
+
+// Whether the byte meets both bounds.
+pub(crate) fn is_within(start: Bound<u8>, end: Bound<u8>, byte: u8) -> bool
+    ensures { result ≡ (meets_start start byte && meets_end end byte) }
+{
+    (start, end).contains(&byte)
 }
 
 /// The bytes that meet both bounds, as numbers, so that no bound wraps.

@@ -2,12 +2,15 @@
 ghost use Rattle.std.specs.Prelude.{◌≡◌, ◌≤◌, length};
 ghost use Rattle.std.specs.Iterator.{YieldsFirst, YieldsLast, item_count};
 ghost use Rattle.art_nodes.specs.ChildMap.{table_children, pairs_within, IsAscending, AreValidBounds};
+ghost use Rattle.art_nodes.specs.IndirectNode.{named_pointers, AreBelow};
 ghost use Rattle.art_nodes.specs.Inner.{sorted_children};
 
 use crate::bounds::byte_range;
+use crate::index_pairs::IndexPairs;
 use crate::pointers::OpaqueNodePtr;
 use crate::sorted_pairs::{SortedPairs, count_below};
 use crate::table_pairs::TablePairs;
+use art_header::NonMaxIndex;
 use std::iter::FusedIterator;
 use std::marker::Model;
 use std::ops::Bound;
@@ -26,6 +29,7 @@ pub struct ChildIter<'a, K, V, const PREFIX_LEN: usize> {
 enum Source<'a, K, V, const PREFIX_LEN: usize> {
     Sorted(SortedPairs<'a, K, V, PREFIX_LEN>),
     Table(TablePairs<'a, K, V, PREFIX_LEN>),
+    Indexed(IndexPairs<'a, K, V, PREFIX_LEN>),
 }
 
 impl<'a, K, V, const PREFIX_LEN: usize> Model for ChildIter<'a, K, V, PREFIX_LEN> {
@@ -62,6 +66,19 @@ impl<'a, K, V, const PREFIX_LEN: usize> ChildIter<'a, K, V, PREFIX_LEN> {
         }
     }
 
+    /// Over a table with a place for each byte, which has the index of the child.
+    pub(crate) fn over_indices(
+        indices: &'a [Option<NonMaxIndex>; 256],
+        children: &'a [OpaqueNodePtr<K, V, PREFIX_LEN>],
+    ) -> Self
+        requires { AreBelow (length children.now) indices.now }
+        ensures { result ≡ table_children 0 (named_pointers children.now indices.now) }
+    {
+        ChildIter {
+            source: Source::Indexed(IndexPairs::new(0, &indices[..], children)),
+        }
+    }
+
     /// Over those of the ascending bytes that meet both bounds, with the children beside them.
     pub(crate) fn over_sorted_range(
         keys: &'a [u8],
@@ -95,6 +112,24 @@ impl<'a, K, V, const PREFIX_LEN: usize> ChildIter<'a, K, V, PREFIX_LEN> {
             source: Source::Table(TablePairs::new(bytes.start, &places[bytes.start..bytes.end])),
         }
     }
+
+    /// Over the places of a table of indices whose bytes meet both bounds.
+    pub(crate) fn over_indices_range(
+        indices: &'a [Option<NonMaxIndex>; 256],
+        children: &'a [OpaqueNodePtr<K, V, PREFIX_LEN>],
+        start: Bound<u8>,
+        end: Bound<u8>,
+    ) -> Self
+        requires named { AreBelow (length children.now) indices.now }
+        requires valid { AreValidBounds start end }
+        ensures { result ≡ pairs_within (table_children 0 (named_pointers children.now indices.now)) start end }
+    {
+        let bytes = byte_range(start, end);
+        let places = &indices[bytes.start..bytes.end];
+        ChildIter {
+            source: Source::Indexed(IndexPairs::new(bytes.start, places, children)),
+        }
+    }
 }
 
 impl<'a, K, V, const PREFIX_LEN: usize> Iterator for ChildIter<'a, K, V, PREFIX_LEN> {
@@ -108,6 +143,7 @@ impl<'a, K, V, const PREFIX_LEN: usize> Iterator for ChildIter<'a, K, V, PREFIX_
         match &mut self.source {
             Source::Sorted(pairs) => pairs.next(),
             Source::Table(pairs) => pairs.next(),
+            Source::Indexed(pairs) => pairs.next(),
         }
     }
 }
@@ -119,6 +155,7 @@ impl<'a, K, V, const PREFIX_LEN: usize> DoubleEndedIterator for ChildIter<'a, K,
         match &mut self.source {
             Source::Sorted(pairs) => pairs.next_back(),
             Source::Table(pairs) => pairs.next_back(),
+            Source::Indexed(pairs) => pairs.next_back(),
         }
     }
 }

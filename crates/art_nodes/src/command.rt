@@ -4,6 +4,7 @@ use crate::sequence::Sequence;
 use std::ops::Bound;
 
 /// What to do with the children of a node.
+#[derive(Drop)]
 #[derive_where(PartialEq, Eq)]
 pub enum ChildCommand<K, V, const PREFIX_LEN: usize> {
     /// Writes the child under the byte, in place of any that is there.

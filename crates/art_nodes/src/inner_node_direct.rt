@@ -100,6 +100,10 @@ impl<K, V, const PREFIX_LEN: usize> InnerNodeCommon<K, V, PREFIX_LEN>
         256
     }
 
+    fn set_prefix(&mut self, header: &Header<PREFIX_LEN>) {
+        self.header.set_prefix(header);
+    }
+
     fn lookup_child(&self, key_fragment: u8) -> Option<OpaqueNodePtr<K, V, PREFIX_LEN>> {
         self.child_pointers[usize::from(key_fragment)]
     }

@@ -179,6 +179,10 @@ impl<K, V, const PREFIX_LEN: usize, const SIZE: usize> InnerNodeCommon<K, V, PRE
         SIZE
     }
 
+    fn set_prefix(&mut self, header: &Header<PREFIX_LEN>) {
+        self.header.set_prefix(header);
+    }
+
     fn lookup_child(&self, key_fragment: u8) -> Option<OpaqueNodePtr<K, V, PREFIX_LEN>> {
         match find_write_point(&self.keys, key_fragment) {
             Ok(index) => Some(self.child_pointers[index]),

@@ -1,5 +1,7 @@
 //! Leaves: a key, a value and two links.
 ghost use Rattle.std.specs.Prelude.{◌≡◌, None};
+ghost use Rattle.std.specs.Option.{option_map};
+ghost use Rattle.art_nodes.specs.Pointers.{slab_key};
 ghost use Rattle.art_nodes.specs.Leaf.{leaf_key, leaf_value, previous_key, next_key};
 
 use crate::node::Node;
@@ -59,5 +61,33 @@ impl<K, V, const PREFIX_LEN: usize> LeafNode<K, V, PREFIX_LEN> {
         ensures { result.now ≡ leaf_value self.now }
     {
         &self.value
+    }
+
+    /// The leaf before this one in its list, if there is one.
+    pub fn previous(&self) -> Option<NodePtr<PREFIX_LEN, Self>>
+        ensures { option_map slab_key result ≡ previous_key self.now }
+    {
+        Some(NodePtr::from_key(self.previous?))
+    }
+
+    /// The leaf after this one in its list, if there is one.
+    pub fn next(&self) -> Option<NodePtr<PREFIX_LEN, Self>>
+        ensures { option_map slab_key result ≡ next_key self.now }
+    {
+        Some(NodePtr::from_key(self.next?))
+    }
+}
+
+#[cfg(test)]
+mod tests {
+    use super::*;
+
+    #[test]
+    fn begins_with_no_siblings(rt: HostRuntime) {
+        let leaf = LeafNode::<u8, u16, 16>::with_no_siblings(7, 700);
+        assert_eq!(rt; *leaf.key_ref(), 7);
+        assert_eq!(rt; *leaf.value_ref(), 700);
+        assert!(rt; leaf.previous().is_none());
+        assert!(rt; leaf.next().is_none());
     }
 }

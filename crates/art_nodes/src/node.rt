@@ -4,7 +4,7 @@ ghost use Rattle.art_nodes.specs.ChildMap.{child_at, with_child, without_child, 
 ghost use Rattle.art_nodes.specs.PrefixMatch.{optimistic_match, cheap_match, IsPrefixOf};
 ghost use Rattle.art_header.specs.Header.{capped, empty_header};
 ghost use Rattle.art_bytes.specs.Text.{IsFront};
-ghost use Rattle.art_nodes.specs.Inner.{Inner, HasRoomFor, empty_inner, IsInner, header_of, with_children};
+ghost use Rattle.art_nodes.specs.Inner.{Inner, HasRoomFor, empty_inner, IsInner, header_of, with_children, with_prefix};
 
 use crate::builder::{InnerNodeBuilder, NoChild};
 use crate::child_iter::ChildIter;
@@ -50,6 +50,11 @@ pub trait InnerNodeCommon<K, V, const PREFIX_LEN: usize>: InnerNodeInit<PREFIX_L
     /// The most children that the node can hold.
     fn capacity(&self) -> usize
         ensures { result ≡ room };
+
+    /// Takes over the prefix of this header: its length and its stored front. The children and
+    /// their count stay.
+    fn set_prefix(&mut self, header: &Header<PREFIX_LEN>)
+        ensures { inner self.new ≡ with_prefix (inner self.old) header.now };
 
     /// The child under the byte, if there is one.
     fn lookup_child(&self, key_fragment: u8) -> Option<OpaqueNodePtr<K, V, PREFIX_LEN>>
@@ -137,3 +142,6 @@ pub trait InnerNodeCommon<K, V, const PREFIX_LEN: usize>: InnerNodeInit<PREFIX_L
     /// A node begins with no children.
     ghost starts_empty: { (h : Header) → inner (Self.empty_with h) ≡ empty_inner h };
 }
+
+#[cfg(test)]
+mod tests;

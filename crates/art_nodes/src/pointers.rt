@@ -106,3 +106,31 @@ impl<K, V, const PREFIX_LEN: usize> Default for OpaqueNodePtr<K, V, PREFIX_LEN> 
         }
     }
 }
+
+#[cfg(test)]
+mod tests {
+    use super::*;
+    use crate::inner_node_sorted::{InnerNode4, InnerNode16};
+    use crate::leaf_node::LeafNode;
+
+    #[test]
+    fn knows_the_kind_of_its_node(rt: HostRuntime) {
+        let four = NodePtr::<16, InnerNode4<u8, u8, 16>>::from_key(5).to_opaque();
+        let leaf = OpaqueNodePtr::new(NodePtr::<16, LeafNode<u8, u8, 16>>::from_key(6));
+        assert!(rt; four.is::<InnerNode4<u8, u8, 16>>());
+        assert!(rt; !four.is::<InnerNode16<u8, u8, 16>>());
+        assert!(rt; !four.is::<LeafNode<u8, u8, 16>>());
+        assert_eq!(rt; leaf.node_type(), NodeType::Leaf);
+        assert!(rt; leaf.cast::<InnerNode4<u8, u8, 16>>().is_none());
+        assert_eq!(rt;
+            leaf.cast::<LeafNode<u8, u8, 16>>()
+                .map(|pointer| pointer.key()),
+            Some(6)
+        );
+        assert!(rt;
+            OpaqueNodePtr::default()
+                == NodePtr::<16, InnerNode4<u8, u8, 16>>::from_key(0).to_opaque()
+        );
+        assert!(rt; four != leaf);
+    }
+}

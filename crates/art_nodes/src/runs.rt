@@ -55,3 +55,6 @@ pub fn replay<K, V, const PREFIX_LEN: usize>(
     }
     Ok((replies, node))
 }
+
+#[cfg(test)]
+mod tests;

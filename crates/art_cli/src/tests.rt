@@ -1,0 +1,273 @@
+//! Whole runs over a reader and writers in memory.
+use super::*;
+use std::alloc::{AllocError, Global};
+use std::io::{Read, Write};
+use std::process::Abort;
+use std::test::Fail;
+
+fn words(alloc: Global, texts: &[&str]) -> Result<Vec<String>, AllocError> {
+    let mut words = Vec::new(alloc);
+    for text in texts {
+        words.push(String::from_str(alloc, text)?)?;
+    }
+    Ok(words)
+}
+
+// What one run writes to the two writers, and its status.
+#[derive(Clone, Copy)]
+struct Case<'a> {
+    input: &'a [u8],
+    output: &'a str,
+    errors: &'a str,
+    status: u8,
+}
+
+fn check(rt: &impl Abort, alloc: Global, texts: &[&str], case: &Case) -> Result<(), Fail> {
+    let words = words(alloc, texts)?;
+    let mut input = case.input;
+    let mut output = Vec::new(alloc);
+    let mut errors = Vec::new(alloc);
+    let status = run(alloc, &words, &mut input, &mut output, &mut errors);
+    assert_eq!(rt; output.as_slice(), case.output.as_bytes());
+    assert_eq!(rt; errors.as_slice(), case.errors.as_bytes());
+    assert_eq!(rt; status, case.status);
+    Ok(())
+}
+
+// `artnodes replay` answers this input with this output.
+fn answers(rt: &impl Abort, alloc: Global, input: &str, output: &str) -> Result<(), Fail> {
+    let input = input.as_bytes();
+    check(
+        rt,
+        alloc,
+        &["replay"],
+        &Case {
+            input,
+            output,
+            errors: "",
+            status: 0,
+        },
+    )
+}
+
+// `artnodes replay` finds fault with this input and prints no reply.
+fn refuses(rt: &impl Abort, alloc: Global, input: &[u8], errors: &str) -> Result<(), Fail> {
+    check(
+        rt,
+        alloc,
+        &["replay"],
+        &Case {
+            input,
+            output: "",
+            errors,
+            status: 2,
+        },
+    )
+}
+
+#[test]
+fn replies_line_by_line(rt: HostRuntime) -> Result<(), Fail> {
+    let input = "w 3 1\nw 255 2\nw 0 3\nw 85 4\nw 3 9\nmin\nrange e0 e255\nrange e80 i0\n\
+        range e255 i255\nr 7\n";
+    let output = "child none\nchild none\nchild none\nchild none\nchild 1\npair 0 3\n\
+        pairs 3:9 85:4\ninvalid bounds\npairs\nchild none\nnode Node4 4\n";
+    answers(&rt, rt.alloc(), input, output)
+}
+
+#[test]
+fn an_empty_node_answers_none(rt: HostRuntime) -> Result<(), Fail> {
+    answers(&rt, rt.alloc(), "", "node Node4 0\n")?;
+    let input = "min\nmax\nr 0\nl 255\nrange u u\nrange i0 e0\n";
+    let output = "pair none\npair none\nchild none\nchild none\npairs\npairs\nnode Node4 0\n";
+    answers(&rt, rt.alloc(), input, output)
+}
+
+#[test]
+fn bounds_are_included_excluded_or_none(rt: HostRuntime) -> Result<(), Fail> {
+    let input = "w 1 10\nw 2 20\nw 3 30\nrange i1 i3\nrange e1 e3\nrange u i2\nrange e2 u\nmax\n\
+        l 2\nr 2\nl 2\n";
+    let output = "child none\nchild none\nchild none\npairs 1:10 2:20 3:30\npairs 2:20\n\
+        pairs 1:10 2:20\npairs 3:30\npair 3 30\nchild 20\nchild 20\nchild none\nnode Node4 2\n";
+    answers(&rt, rt.alloc(), input, output)
+}
+
+#[test]
+fn seventeen_bytes_are_one_too_many(rt: HostRuntime) -> Result<(), Fail> {
+    let sixteen = "w 0 0\nw 1 1\nw 2 2\nw 3 3\nw 4 4\nw 5 5\nw 6 6\nw 7 7\nw 8 8\nw 9 9\nw 10 10\n\
+        w 11 11\nw 12 12\nw 13 13\nw 14 14\nw 15 15\n";
+    let mut output = String::new(rt.alloc());
+    for _ in 0..16 {
+        output.push_str("child none\n")?;
+    }
+    output.push_str("node Node16 16\n")?;
+    answers(&rt, rt.alloc(), sixteen, output.as_str())?;
+    let mut input = String::from_str(rt.alloc(), sixteen)?;
+    input.push_str("w 16 16\n")?;
+    refuses(
+        &rt,
+        rt.alloc(),
+        input.as_bytes(),
+        "line 17: too many bytes\n",
+    )?;
+    input.push_str("w 17 17\nmin 1\n")?;
+    refuses(
+        &rt,
+        rt.alloc(),
+        input.as_bytes(),
+        "line 17: too many bytes\n",
+    )?;
+    let mut input = String::from_str(rt.alloc(), sixteen)?;
+    input.push_str("min 1\nw 16 16\n")?;
+    refuses(
+        &rt,
+        rt.alloc(),
+        input.as_bytes(),
+        "line 17: wrong number of words\n",
+    )
+}
+
+#[test]
+fn the_first_fault_of_a_line_is_told(rt: HostRuntime) -> Result<(), Fail> {
+    let cases: [(&[u8], &str); 30] = [
+        (b"w 1 1\nw 256 1\n", "line 2: bad number\n"),
+        (b"w 1\n", "line 1: wrong number of words\n"),
+        (b"w  1 1\n", "line 1: wrong number of words\n"),
+        (b"min 1\n", "line 1: wrong number of words\n"),
+        (b"w 1 4294967296\n", "line 1: bad number\n"),
+        (b"w 1 00000000001\n", "line 1: bad number\n"),
+        (b"range u 3\n", "line 1: bad number\n"),
+        (b"range e256 u\n", "line 1: bad number\n"),
+        (b"\n", "line 1: unknown command\n"),
+        (b" min\n", "line 1: unknown command\n"),
+        (b"min\r\n", "line 1: unknown command\n"),
+        (b"min\n\n", "line 2: unknown command\n"),
+        (b"W 1 1\n", "line 1: unknown command\n"),
+        (b"write 1 1\n", "line 1: unknown command\n"),
+        (b"w 1 1 1\n", "line 1: wrong number of words\n"),
+        (b"w x\n", "line 1: wrong number of words\n"),
+        (b"w 1 1 \n", "line 1: wrong number of words\n"),
+        (b"r\n", "line 1: wrong number of words\n"),
+        (b"l 1 1\n", "line 1: wrong number of words\n"),
+        (b"max 1 1 1 1\n", "line 1: wrong number of words\n"),
+        (b"range u\n", "line 1: wrong number of words\n"),
+        (b"r \n", "line 1: bad number\n"),
+        (b"r +1\n", "line 1: bad number\n"),
+        (b"r -1\n", "line 1: bad number\n"),
+        (b"w 1 1\r\n", "line 1: bad number\n"),
+        (b"l \xff\n", "line 1: bad number\n"),
+        (b"range i e1\n", "line 1: bad number\n"),
+        (b"range uu u\n", "line 1: bad number\n"),
+        (b"w x y\nmin 1\nfoo", "line 1: bad number\n"),
+        (b"min\nmax\nfoo", "line 3: unknown command\n"),
+    ];
+    for (input, errors) in cases {
+        refuses(&rt, rt.alloc(), input, errors)?;
+    }
+    Ok(())
+}
+
+#[test]
+fn numbers_may_have_leading_zeros(rt: HostRuntime) -> Result<(), Fail> {
+    answers(&rt, rt.alloc(), "w 01 1", "child none\nnode Node4 1\n")?;
+    let input = "w 0000000255 0000000001\nw 255 4294967295\nrange i0255 u\n";
+    let output = "child none\nchild 1\npairs 255:4294967295\nnode Node4 1\n";
+    answers(&rt, rt.alloc(), input, output)
+}
+
+#[test]
+fn other_words_are_answered_with_the_usage(rt: HostRuntime) -> Result<(), Fail> {
+    let errors = "usage: artnodes replay | artnodes find 0|2|16\n";
+    let case = Case {
+        input: b"w 1",
+        output: "",
+        errors,
+        status: 2,
+    };
+    let lists: [&[&str]; 7] = [
+        &[],
+        &["replay", "replay"],
+        &["Replay"],
+        &["find", "2"],
+        &["find"],
+        &["find", "3"],
+        &[""],
+    ];
+    for texts in lists {
+        check(&rt, rt.alloc(), texts, &case)?;
+    }
+    Ok(())
+}
+
+// Fails at its first read.
+#[derive(Drop)]
+struct FailingReader {}
+
+impl Read for FailingReader {
+    fn read(&mut self, _buf: &mut [u8]) -> io::Result<usize> {
+        Err(io::Error::other("no input"))
+    }
+}
+
+// Takes one byte at its first write, and fails from the second on.
+#[derive(Drop)]
+struct FailingWriter {
+    taken: Option<u8>,
+}
+
+impl Write for FailingWriter {
+    fn write(&mut self, buf: &[u8]) -> io::Result<usize> {
+        if self.taken.is_some() || buf.is_empty() {
+            return Err(io::Error::other("no room"));
+        }
+        self.taken = Some(buf[0]);
+        Ok(1)
+    }
+
+    fn flush(&mut self) -> io::Result<()> {
+        Ok(())
+    }
+}
+
+#[test]
+fn a_failed_read_prints_nothing(rt: HostRuntime) -> Result<(), Fail> {
+    let words = words(rt.alloc(), &["replay"])?;
+    let mut output = Vec::new(rt.alloc());
+    let mut errors = Vec::new(rt.alloc());
+    let status = run(
+        rt.alloc(),
+        &words,
+        &mut FailingReader {},
+        &mut output,
+        &mut errors,
+    );
+    assert_eq!(rt; output.as_slice(), b"".as_slice());
+    assert_eq!(rt; errors.as_slice(), b"device failed\n".as_slice());
+    assert_eq!(rt; status, 1);
+    Ok(())
+}
+
+#[test]
+fn a_failed_write_leaves_a_beginning(rt: HostRuntime) -> Result<(), Fail> {
+    let words = words(rt.alloc(), &["replay"])?;
+    let mut input = b"w 1 1\n".as_slice();
+    let mut output = FailingWriter { taken: None };
+    let mut errors = Vec::new(rt.alloc());
+    let status = run(rt.alloc(), &words, &mut input, &mut output, &mut errors);
+    assert_eq!(rt; output.taken, Some(b'c'));
+    assert_eq!(rt; errors.as_slice(), b"device failed\n".as_slice());
+    assert_eq!(rt; status, 1);
+    Ok(())
+}
+
+#[test]
+fn a_failed_report_changes_no_status(rt: HostRuntime) -> Result<(), Fail> {
+    let words = words(rt.alloc(), &["replay"])?;
+    let mut input = b"w 1".as_slice();
+    let mut output = Vec::new(rt.alloc());
+    let mut errors = FailingWriter { taken: None };
+    let status = run(rt.alloc(), &words, &mut input, &mut output, &mut errors);
+    assert_eq!(rt; output.as_slice(), b"".as_slice());
+    assert_eq!(rt; errors.taken, Some(b'l'));
+    assert_eq!(rt; status, 2);
+    Ok(())
+}

@@ -1,0 +1,113 @@
+ghost use Rattle.std.specs.Prelude.{◌≡◌, false, refl};
+ghost use Rattle.std.specs.Ordering.{on};
+ghost use Rattle.std.specs.Net.Addr.{ipv4_octets, ipv6_octets};
+ghost use Rattle.art_bytes.specs.Text.{text_order};
+ghost use Rattle.art_mapped.specs.Mapping.{HasTextOf, kept_by_text};
+ghost use Rattle.art_mapped.specs.Addresses.{IsIpv4, IsIpv6, same_ipv4, same_ipv6, ipv4_front_is_whole, ipv6_front_is_whole};
+
+use std::alloc::{AllocError, Global};
+use std::net::{Ipv4Addr, Ipv6Addr};
+
+use crate::mapping::{BytesMapping, NoPrefixesMapping, OrderedMapping};
+
+/// IP addresses as their octets, in order.
+#[derive(Clone, Copy)]
+pub struct ToOctets;
+
+/// IPv4 addresses as their four octets, in the order of the first that differs.
+impl BytesMapping<Ipv4Addr> for ToOctets {
+    type Bytes = [u8; 4];
+
+    const ALLOCATES: bool = false;
+
+    const READ_ALLOCATES: bool = false;
+
+    ghost ALLOCATES = { false };
+
+    ghost READ_ALLOCATES = { false };
+
+    ghost is_in_domain = { IsIpv4 };
+
+    ghost text_of = { ipv4_octets };
+
+    ghost are_same = { λ x y. x ≡ y };
+
+    ghost stands_for = { λ octets address. octets ≡ ipv4_octets address };
+
+    ghost has_text = { λ _ _ _ stands. stands };
+
+    ghost reads_one = { λ _ x y _ _. same_ipv4 x y };
+
+    ghost kept_by_text = { λ a b _. kept_by_text IsIpv4 (λ octets. octets) ipv4_octets a b };
+
+    fn to_bytes(_alloc: Global, value: Ipv4Addr) -> Result<[u8; 4], AllocError> {
+        Ok(value.octets())
+    }
+
+    fn from_bytes(_alloc: Global, bytes: [u8; 4]) -> Result<Ipv4Addr, AllocError> {
+        Ok(Ipv4Addr::from_octets(bytes))
+    }
+
+    fn is_value(_bytes: &[u8; 4]) -> bool {
+        true
+    }
+}
+
+impl OrderedMapping<Ipv4Addr> for ToOctets {
+    ghost domain_order = { on ipv4_octets text_order };
+
+    ghost keeps_order = { λ _ _ _ _. refl };
+}
+
+impl NoPrefixesMapping<Ipv4Addr> for ToOctets {
+    ghost no_prefixes = { ipv4_front_is_whole };
+}
+
+/// IPv6 addresses as their sixteen octets, in the order of the first that differs.
+impl BytesMapping<Ipv6Addr> for ToOctets {
+    type Bytes = [u8; 16];
+
+    const ALLOCATES: bool = false;
+
+    const READ_ALLOCATES: bool = false;
+
+    ghost ALLOCATES = { false };
+
+    ghost READ_ALLOCATES = { false };
+
+    ghost is_in_domain = { IsIpv6 };
+
+    ghost text_of = { ipv6_octets };
+
+    ghost are_same = { λ x y. x ≡ y };
+
+    ghost stands_for = { λ octets address. octets ≡ ipv6_octets address };
+
+    ghost has_text = { λ _ _ _ stands. stands };
+
+    ghost reads_one = { λ _ x y _ _. same_ipv6 x y };
+
+    ghost kept_by_text = { λ a b _. kept_by_text IsIpv6 (λ octets. octets) ipv6_octets a b };
+
+    fn to_bytes(_alloc: Global, value: Ipv6Addr) -> Result<[u8; 16], AllocError> {
+        Ok(value.octets())
+    }
+
+    fn from_bytes(_alloc: Global, bytes: [u8; 16]) -> Result<Ipv6Addr, AllocError> {
+        Ok(Ipv6Addr::from_octets(bytes))
+    }
+
+    fn is_value(_bytes: &[u8; 16]) -> bool {
+        true
+    }
+}
+
+impl OrderedMapping<Ipv6Addr> for ToOctets {
+    ghost domain_order = { on ipv6_octets text_order };
+
+    ghost keeps_order = { λ _ _ _ _. refl };
+}
+
+impl NoPrefixesMapping<Ipv6Addr> for ToOctets {
+    ghost no_prefixes = { ipv6_front_is_whole };
+}

@@ -1,0 +1,82 @@
+use Rattle.std.proofs.Common.{◌≡◌, ℕ, ◌+◌, ◌-◌, ◌<◌, ◌≤◌, ◌++◌, ◌∷◌, [], length, get_or, set, drop, map, min, None, Some, refl, sym, ap, ◌∙◌, subst, arith, rules}
+use Rattle.std.proofs.lemmas.List.{get_or_default, length-set, take_at, length_push}
+use Rattle.art_nodes.specs.ChildMap.{child_at, table_children}
+use Rattle.art_nodes.specs.IndirectNode.{named_pointers}
+use Rattle.art_nodes.proofs.IndirectLemmas.{IsNamedOnce, named_within, child_at-unnamed, length-named, named_once-push, room-unnamed, with_child-named, with_child-pushed}
+use Rattle.art_nodes.proofs.inner_node_indirect.InnerNodeIndirectInnerNodeCommon.write_child.Goals as goal
+
+pub offset_bounds-deref_mut-from : goal.offset_bounds-deref_mut-from
+offset_bounds-deref_mut-from g c =
+    let indices = c.self.inside.child_indices in
+    let within : c.from-place.result < length indices = omega (arith, c.self.invariant.places, c.from-place.ensures) in
+    let named = named_within indices _ c.from-place.result c.in-Some.index c.self.invariant.named_once within (get_or_default indices c.from-place.result None _ within ∙ c.in-Some.is) in
+    let small : c.from.result < 255 = omega (arith, named, c.from.ensures, c.self.invariant.fits) in
+    search rules
+
+pub bounds-deref_mut-from : goal.bounds-deref_mut-from
+bounds-deref_mut-from g c =
+    let indices = c.self.inside.child_indices in
+    let within : c.from-place.result < length indices = omega (arith, c.self.invariant.places, c.from-place.ensures) in
+    let named = named_within indices _ c.from-place.result c.in-Some.index c.self.invariant.named_once within (get_or_default indices c.from-place.result None _ within ∙ c.in-Some.is) in
+    rw c.deref_mut.ensures.value (omega (arith, named, c.from.ensures))
+
+pub returns-in-Some : goal.returns-in-Some
+returns-in-Some g c =
+    let pointers = c.self.inside.child_pointers.items in
+    let indices = c.self.inside.child_indices in
+    let within : c.from-place.result < length indices = omega (arith, c.self.invariant.places, c.from-place.ensures) in
+    let at : c.args.key_fragment ≡ 0 + c.from-place.result = omega (arith, c.from-place.ensures) in
+    let filled = get_or_default indices c.from-place.result None _ within ∙ c.in-Some.is in
+    let written = with_child-named pointers indices c.args.key_fragment c.from-place.result at c.self.invariant.places within c.in-Some.index c.args.child_pointer c.self.invariant.named_once filled in
+    let over = set pointers c.in-Some.index c.args.child_pointer in
+    let whole = take_at over (drop (length over) pointers) (length pointers) (simp length-set) in
+    record { written = rw (← c.self.view_is, c.deref_mut.ensures.value, ← c.from.ensures, whole, written) refl }
+
+pub new_unchecked-index-requires : goal.new_unchecked-index-requires
+new_unchecked-index-requires g c =
+    let pointers = c.self.inside.child_pointers.items in
+    let indices = c.self.inside.child_indices in
+    let within : c.from-place.result < length indices = omega (arith, c.self.invariant.places, c.from-place.ensures) in
+    let at : c.args.key_fragment ≡ 0 + c.from-place.result = omega (arith, c.from-place.ensures) in
+    let empty = get_or_default indices c.from-place.result None _ within ∙ c.in-None.is in
+    let room = room-unnamed pointers indices c.args.key_fragment c.from-place.result at c.self.invariant.places within _ c.self.invariant.named_once empty (rw (← c.self.view_is) at c.requires) in
+    omega (arith, room, c.len.ensures.value)
+
+pub push-requires : goal.push-requires
+push-requires g c =
+    let pointers = c.self.inside.child_pointers.items in
+    let indices = c.self.inside.child_indices in
+    let within : c.from-place.result < length indices = omega (arith, c.self.invariant.places, c.from-place.ensures) in
+    let at : c.args.key_fragment ≡ 0 + c.from-place.result = omega (arith, c.from-place.ensures) in
+    let empty = get_or_default indices c.from-place.result None _ within ∙ c.in-None.is in
+    let room = room-unnamed pointers indices c.args.key_fragment c.from-place.result at c.self.invariant.places within _ c.self.invariant.named_once empty (rw (← c.self.view_is) at c.requires) in
+    (search rules, omega (arith, room))
+
+pub invariant_of-self-in-None : goal.invariant_of-self-in-None
+invariant_of-self-in-None g c =
+    let pointers = c.self.inside.child_pointers.items in
+    let indices = c.self.inside.child_indices in
+    let within : c.from-place.result < length indices = omega (arith, c.self.invariant.places, c.from-place.ensures) in
+    let at : c.args.key_fragment ≡ 0 + c.from-place.result = omega (arith, c.from-place.ensures) in
+    let empty = get_or_default indices c.from-place.result None _ within ∙ c.in-None.is in
+    let room = room-unnamed pointers indices c.args.key_fragment c.from-place.result at c.self.invariant.places within _ c.self.invariant.named_once empty (rw (← c.self.view_is) at c.requires) in
+    let index : c.new_unchecked-index.result ≡ length pointers = c.new_unchecked-index.ensures ∙ c.len.ensures.value in
+    let grown : length pointers + 1 ≡ length c.push.new.self.items = sym c.push.ensures.len in
+    let once = named_once-push indices (length pointers) c.from-place.result c.self.invariant.named_once within empty in
+    record {
+      places = simp length-set c.self.invariant.places;
+      counted = rw c.inc_num_children.ensures (omega (arith, c.self.invariant.counted, grown));
+      fits = omega (arith, room, grown);
+      named_once = rw index (subst (IsNamedOnce (set indices c.from-place.result (Some (length pointers)))) grown once);
+    }
+
+pub returns-in-None : goal.returns-in-None
+returns-in-None g c =
+    let pointers = c.self.inside.child_pointers.items in
+    let indices = c.self.inside.child_indices in
+    let within : c.from-place.result < length indices = omega (arith, c.self.invariant.places, c.from-place.ensures) in
+    let at : c.args.key_fragment ≡ 0 + c.from-place.result = omega (arith, c.from-place.ensures) in
+    let empty = get_or_default indices c.from-place.result None _ within ∙ c.in-None.is in
+    let index : c.new_unchecked-index.result ≡ length pointers = c.new_unchecked-index.ensures ∙ c.len.ensures.value in
+    let written = with_child-pushed pointers indices c.args.key_fragment c.from-place.result at c.self.invariant.places within c.args.child_pointer c.self.invariant.named_once in
+    record { written = rw (← c.self.view_is, c.inc_num_children.ensures, c.push.ensures.items, index, written) refl }
