@@ -7,6 +7,7 @@ mod builder;
 mod child_iter;
 mod child_node;
 mod command;
+mod concrete;
 mod index_pairs;
 mod inner_node_direct;
 mod inner_node_indirect;
@@ -28,6 +29,7 @@ pub use builder::{BuilderState, HasChild, HasOneChild, InnerNodeBuilder, NoChild
 pub use child_iter::ChildIter;
 pub use child_node::ChildNode;
 pub use command::{ChildCommand, ChildPairs, ChildReply};
+pub use concrete::{ConcreteInnerNodePtr, ConcreteNodePtr};
 pub use inner_node_direct::InnerNodeDirect;
 pub use inner_node_indirect::{InnerNode48, InnerNodeIndirect};
 pub use inner_node_sorted::{InnerNode4, InnerNode16, InnerNodeSorted};
