@@ -1,9 +1,10 @@
 //! A builder of inner nodes, which hands out none with fewer than two children.
-ghost use Rattle.std.specs.Prelude.{◌≡◌, ◌≤◌, ◌<◌, ◌^◌, length, IsNone};
+ghost use Rattle.std.specs.Prelude.{◌≡◌, ◌≤◌, ◌<◌, ◌^◌, length, All, IsNone};
 ghost use Rattle.art_header.specs.Header.{capped, empty_header};
-ghost use Rattle.art_nodes.specs.ChildMap.{child_at, with_child};
+ghost use Rattle.art_nodes.specs.ChildMap.{child_at, key_bytes, with_child};
 ghost use Rattle.art_nodes.specs.Inner.{HasRoomFor, empty_inner, with_children};
 
+use crate::inner_node_sorted::InnerNode4;
 use crate::node::InnerNodeCommon;
 use crate::pointers::OpaqueNodePtr;
 use crate::private::Sealed;
@@ -162,5 +163,64 @@ impl<K, V, const PREFIX_LEN: usize, N: InnerNodeCommon<K, V, PREFIX_LEN>> InnerN
         ensures two_or_more { 2 ≤ length (N.inner result).children }
     {
         self.node
+    }
+}
+
+impl<K, V, const PREFIX_LEN: usize>
+    InnerNodeBuilder<K, V, PREFIX_LEN, InnerNode4<K, V, PREFIX_LEN>, NoChild> {
+    /// Writes the first child without a search.
+    pub fn write_child_unchecked(
+        mut self,
+        key_byte: u8,
+        child: OpaqueNodePtr<K, V, PREFIX_LEN>,
+    ) -> InnerNodeBuilder<K, V, PREFIX_LEN, InnerNode4<K, V, PREFIX_LEN>, HasOneChild>
+        requires room { length self.children < 4 }
+        requires above { All (λ byte. byte < key_byte) (key_bytes self.children) }
+        ensures { result ≡ with_children self (with_child self.children key_byte child) }
+    {
+        self.node.write_child_unchecked(key_byte, child);
+        InnerNodeBuilder {
+            node: self.node,
+            state: PhantomData,
+        }
+    }
+}
+
+impl<K, V, const PREFIX_LEN: usize>
+    InnerNodeBuilder<K, V, PREFIX_LEN, InnerNode4<K, V, PREFIX_LEN>, HasOneChild> {
+    /// Writes the second child without a search, under a byte above the first one's. The node has to
+    /// have room for it.
+    pub fn write_child_unchecked(
+        mut self,
+        key_byte: u8,
+        child: OpaqueNodePtr<K, V, PREFIX_LEN>,
+    ) -> InnerNodeBuilder<K, V, PREFIX_LEN, InnerNode4<K, V, PREFIX_LEN>, HasChild>
+        requires room { length self.children < 4 }
+        requires above { All (λ byte. byte < key_byte) (key_bytes self.children) }
+        ensures { result ≡ with_children self (with_child self.children key_byte child) }
+    {
+        self.node.write_child_unchecked(key_byte, child);
+        InnerNodeBuilder {
+            node: self.node,
+            state: PhantomData,
+        }
+    }
+}
+
+impl<K, V, const PREFIX_LEN: usize>
+    InnerNodeBuilder<K, V, PREFIX_LEN, InnerNode4<K, V, PREFIX_LEN>, HasChild> {
+    /// Writes one child more without a search, under a byte above every byte there. The node has to
+    /// have room for it.
+    pub fn write_child_unchecked(
+        mut self,
+        key_byte: u8,
+        child: OpaqueNodePtr<K, V, PREFIX_LEN>,
+    ) -> Self
+        requires room { length self.children < 4 }
+        requires above { All (λ byte. byte < key_byte) (key_bytes self.children) }
+        ensures { result ≡ with_children self (with_child self.children key_byte child) }
+    {
+        self.node.write_child_unchecked(key_byte, child);
+        self
     }
 }

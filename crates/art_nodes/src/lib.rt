@@ -7,6 +7,7 @@ mod builder;
 mod child_iter;
 mod child_node;
 mod command;
+mod concrete;
 mod conversions;
 mod index_pairs;
 mod inner_node;
@@ -30,6 +31,7 @@ pub use builder::{BuilderState, HasChild, HasOneChild, InnerNodeBuilder, NoChild
 pub use child_iter::{ChildIter, PairIter};
 pub use child_node::ChildNode;
 pub use command::{ChildCommand, ChildPairs, ChildReply};
+pub use concrete::{ConcreteInnerNodePtr, ConcreteNodePtr};
 pub use inner_node::InnerNode;
 pub use inner_node_direct::InnerNodeDirect;
 pub use inner_node_indirect::{InnerNode48, InnerNodeIndirect};
