@@ -209,3 +209,6 @@ impl<K, V, const PREFIX_LEN: usize>
         self
     }
 }
+
+#[cfg(test)]
+mod tests;

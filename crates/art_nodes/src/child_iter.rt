@@ -161,3 +161,6 @@ impl<'a, K, V, const PREFIX_LEN: usize> DoubleEndedIterator for ChildIter<'a, K,
 }
 
 impl<'a, K, V, const PREFIX_LEN: usize> FusedIterator for ChildIter<'a, K, V, PREFIX_LEN> {}
+
+#[cfg(test)]
+mod tests;
