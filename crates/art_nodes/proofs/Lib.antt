@@ -1,6 +1,7 @@
 pub mod BoundLemmas
 pub mod BuilderLemmas
 pub mod ChildMapLemmas
+pub mod ConversionLemmas
 pub mod IndirectLemmas
 pub mod KindLemmas
 pub mod SortedLemmas

@@ -78,8 +78,13 @@ impl<K, V, const PREFIX_LEN: usize, N: InnerNodeCommon<K, V, PREFIX_LEN>, S: Bui
     ghost invariant = { λ b. AreWritten S.Counts (N.inner b.node).children };
 }
 
-impl<K, V, const PREFIX_LEN: usize, N: InnerNodeCommon<K, V, PREFIX_LEN>>
-    InnerNodeBuilder<K, V, PREFIX_LEN, N, NoChild> {
+impl<K, V, const PREFIX_LEN: usize, N: InnerNodeCommon<K, V, PREFIX_LEN>> InnerNodeBuilder<
+    K,
+    V,
+    PREFIX_LEN,
+    N,
+    NoChild,
+> {
     /// A builder of a node with this prefix. It asks what [`Header::new`](crate::Header::new) asks.
     pub fn new(prefix: &[u8], prefix_len: usize) -> Self
         requires has_stored_bytes { capped PREFIX_LEN prefix_len ≤ length prefix.now }
@@ -110,8 +115,13 @@ impl<K, V, const PREFIX_LEN: usize, N: InnerNodeCommon<K, V, PREFIX_LEN>>
     }
 }
 
-impl<K, V, const PREFIX_LEN: usize, N: InnerNodeCommon<K, V, PREFIX_LEN>>
-    InnerNodeBuilder<K, V, PREFIX_LEN, N, HasOneChild> {
+impl<K, V, const PREFIX_LEN: usize, N: InnerNodeCommon<K, V, PREFIX_LEN>> InnerNodeBuilder<
+    K,
+    V,
+    PREFIX_LEN,
+    N,
+    HasOneChild,
+> {
     /// Writes the second child, under another byte than the first. The node has to have room for it.
     pub fn write_child(
         mut self,
@@ -130,8 +140,13 @@ impl<K, V, const PREFIX_LEN: usize, N: InnerNodeCommon<K, V, PREFIX_LEN>>
     }
 }
 
-impl<K, V, const PREFIX_LEN: usize, N: InnerNodeCommon<K, V, PREFIX_LEN>>
-    InnerNodeBuilder<K, V, PREFIX_LEN, N, HasChild> {
+impl<K, V, const PREFIX_LEN: usize, N: InnerNodeCommon<K, V, PREFIX_LEN>> InnerNodeBuilder<
+    K,
+    V,
+    PREFIX_LEN,
+    N,
+    HasChild,
+> {
     /// Writes one child more, or over the one under this byte. The node has to have room for a new
     /// one.
     pub fn write_child(mut self, key_byte: u8, child: OpaqueNodePtr<K, V, PREFIX_LEN>) -> Self
