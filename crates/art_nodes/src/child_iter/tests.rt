@@ -99,29 +99,83 @@ fn ranges_have_what_meets_both_bounds<N: InnerNodeCommon<u8, u8, 16> + Drop>(rt:
     has(rt, &node, Bound::Included(0), Bound::Included(3), &[0, 3]);
     has(rt, &node, Bound::Excluded(0), Bound::Excluded(3), &[]);
     has(rt, &node, Bound::Included(0), Bound::Included(0), &[0]);
-    has(rt, &node, Bound::Included(0), Bound::Included(255), &[0, 3, 85, 255]);
-    has(rt, &node, Bound::Unbounded, Bound::Unbounded, &[0, 3, 85, 255]);
-    has(rt, &node, Bound::Included(255), Bound::Included(255), &[255]);
-    has(rt, &node, Bound::Unbounded, Bound::Included(86), &[0, 3, 85]);
-    has(rt, &node, Bound::Excluded(0), Bound::Excluded(255), &[3, 85]);
+    has(
+        rt,
+        &node,
+        Bound::Included(0),
+        Bound::Included(255),
+        &[0, 3, 85, 255],
+    );
+    has(
+        rt,
+        &node,
+        Bound::Unbounded,
+        Bound::Unbounded,
+        &[0, 3, 85, 255],
+    );
+    has(
+        rt,
+        &node,
+        Bound::Included(255),
+        Bound::Included(255),
+        &[255],
+    );
+    has(
+        rt,
+        &node,
+        Bound::Unbounded,
+        Bound::Included(86),
+        &[0, 3, 85],
+    );
+    has(
+        rt,
+        &node,
+        Bound::Excluded(0),
+        Bound::Excluded(255),
+        &[3, 85],
+    );
     has(rt, &node, Bound::Excluded(255), Bound::Included(255), &[]);
     has(rt, &node, Bound::Included(255), Bound::Excluded(255), &[]);
 }
 
 fn ranges_end_at_the_ends<N: InnerNodeCommon<u8, u8, 16> + Drop>(rt: &impl Abort) {
     let node: N = second_node(rt);
-    has(rt, &node, Bound::Unbounded, Bound::Included(86), &[2, 3, 85]);
+    has(
+        rt,
+        &node,
+        Bound::Unbounded,
+        Bound::Included(86),
+        &[2, 3, 85],
+    );
     has(rt, &node, Bound::Unbounded, Bound::Included(4), &[2, 3]);
     has(rt, &node, Bound::Unbounded, Bound::Excluded(3), &[2]);
     has(rt, &node, Bound::Unbounded, Bound::Included(2), &[2]);
     has(rt, &node, Bound::Unbounded, Bound::Included(1), &[]);
     has(rt, &node, Bound::Unbounded, Bound::Included(0), &[]);
-    has(rt, &node, Bound::Included(1), Bound::Unbounded, &[2, 3, 85, 254]);
-    has(rt, &node, Bound::Included(3), Bound::Unbounded, &[3, 85, 254]);
+    has(
+        rt,
+        &node,
+        Bound::Included(1),
+        Bound::Unbounded,
+        &[2, 3, 85, 254],
+    );
+    has(
+        rt,
+        &node,
+        Bound::Included(3),
+        Bound::Unbounded,
+        &[3, 85, 254],
+    );
     has(rt, &node, Bound::Excluded(84), Bound::Unbounded, &[85, 254]);
     has(rt, &node, Bound::Included(253), Bound::Unbounded, &[254]);
     has(rt, &node, Bound::Included(255), Bound::Unbounded, &[]);
-    has(rt, &node, Bound::Unbounded, Bound::Included(255), &[2, 3, 85, 254]);
+    has(
+        rt,
+        &node,
+        Bound::Unbounded,
+        Bound::Included(255),
+        &[2, 3, 85, 254],
+    );
     has(rt, &node, Bound::Excluded(255), Bound::Unbounded, &[]);
 }
 
