@@ -44,11 +44,26 @@ impl<K, V, const PREFIX_LEN: usize> ConcreteNodePtr<K, V, PREFIX_LEN> {
         ensures undone { concrete_of result ≡ self }
     {
         match self {
-            ConcreteNodePtr::Node4(pointer) => OpaqueNodePtr::of_kind(NodeType::Node4, pointer.key()),
-            ConcreteNodePtr::Node16(pointer) => OpaqueNodePtr::of_kind(NodeType::Node16, pointer.key()),
-            ConcreteNodePtr::Node48(pointer) => OpaqueNodePtr::of_kind(NodeType::Node48, pointer.key()),
-            ConcreteNodePtr::Node256(pointer) => OpaqueNodePtr::of_kind(NodeType::Node256, pointer.key()),
-            ConcreteNodePtr::LeafNode(pointer) => OpaqueNodePtr::of_kind(NodeType::Leaf, pointer.key()),
+            ConcreteNodePtr::Node4(pointer) => OpaqueNodePtr::of_kind(
+                NodeType::Node4,
+                pointer.key(),
+            ),
+            ConcreteNodePtr::Node16(pointer) => OpaqueNodePtr::of_kind(
+                NodeType::Node16,
+                pointer.key(),
+            ),
+            ConcreteNodePtr::Node48(pointer) => OpaqueNodePtr::of_kind(
+                NodeType::Node48,
+                pointer.key(),
+            ),
+            ConcreteNodePtr::Node256(pointer) => OpaqueNodePtr::of_kind(
+                NodeType::Node256,
+                pointer.key(),
+            ),
+            ConcreteNodePtr::LeafNode(pointer) => OpaqueNodePtr::of_kind(
+                NodeType::Leaf,
+                pointer.key(),
+            ),
         }
     }
 }
@@ -59,10 +74,22 @@ impl<K, V, const PREFIX_LEN: usize> ConcreteInnerNodePtr<K, V, PREFIX_LEN> {
         ensures { result ≡ opaque_of_inner self }
     {
         match self {
-            ConcreteInnerNodePtr::Node4(pointer) => OpaqueNodePtr::of_kind(NodeType::Node4, pointer.key()),
-            ConcreteInnerNodePtr::Node16(pointer) => OpaqueNodePtr::of_kind(NodeType::Node16, pointer.key()),
-            ConcreteInnerNodePtr::Node48(pointer) => OpaqueNodePtr::of_kind(NodeType::Node48, pointer.key()),
-            ConcreteInnerNodePtr::Node256(pointer) => OpaqueNodePtr::of_kind(NodeType::Node256, pointer.key()),
+            ConcreteInnerNodePtr::Node4(pointer) => OpaqueNodePtr::of_kind(
+                NodeType::Node4,
+                pointer.key(),
+            ),
+            ConcreteInnerNodePtr::Node16(pointer) => OpaqueNodePtr::of_kind(
+                NodeType::Node16,
+                pointer.key(),
+            ),
+            ConcreteInnerNodePtr::Node48(pointer) => OpaqueNodePtr::of_kind(
+                NodeType::Node48,
+                pointer.key(),
+            ),
+            ConcreteInnerNodePtr::Node256(pointer) => OpaqueNodePtr::of_kind(
+                NodeType::Node256,
+                pointer.key(),
+            ),
         }
     }
 }
@@ -206,5 +233,31 @@ impl<K, V, const PREFIX_LEN: usize> From<ConcreteInnerNodePtr<K, V, PREFIX_LEN>>
             ConcreteInnerNodePtr::Node48(pointer) => ConcreteNodePtr::Node48(pointer),
             ConcreteInnerNodePtr::Node256(pointer) => ConcreteNodePtr::Node256(pointer),
         }
+    }
+}
+
+#[cfg(test)]
+mod tests {
+    use super::*;
+
+    #[test]
+    fn pointers_go_there_and_back(rt: HostRuntime) {
+        let four = NodePtr::<16, InnerNode4<u8, u8, 16>>::from_key(4);
+        let sixteen = NodePtr::<16, InnerNode16<u8, u8, 16>>::from_key(16);
+        let many = NodePtr::<16, InnerNode48<u8, u8, 16>>::from_key(48);
+        let all = NodePtr::<16, InnerNodeDirect<u8, u8, 16>>::from_key(256);
+        let leaf = NodePtr::<16, LeafNode<u8, u8, 16>>::from_key(1);
+        assert!(rt; four.to_opaque().to_node_ptr().to_opaque() == four.to_opaque());
+        assert!(rt; ConcreteNodePtr::from(four).to_opaque() == four.to_opaque());
+        assert!(rt; ConcreteNodePtr::from(sixteen).to_opaque() == sixteen.to_opaque());
+        assert!(rt; ConcreteNodePtr::from(many).to_opaque() == many.to_opaque());
+        assert!(rt; ConcreteNodePtr::from(all).to_opaque() == all.to_opaque());
+        assert!(rt; ConcreteNodePtr::from(leaf).to_opaque() == leaf.to_opaque());
+        assert!(rt; ConcreteInnerNodePtr::from(four).to_opaque() == four.to_opaque());
+        assert!(rt; ConcreteInnerNodePtr::from(sixteen).to_opaque() == sixteen.to_opaque());
+        assert!(rt; ConcreteInnerNodePtr::from(many).to_opaque() == many.to_opaque());
+        let inner = ConcreteInnerNodePtr::from(all);
+        assert!(rt; inner.to_opaque() == all.to_opaque());
+        assert!(rt; ConcreteNodePtr::from(inner).to_opaque() == all.to_opaque());
     }
 }
