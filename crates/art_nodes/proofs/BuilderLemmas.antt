@@ -1,9 +1,9 @@
 -- What a write leaves of the children of a builder.
-use Rattle.std.proofs.Common.{◌≡◌, ℕ, ◌+◌, ◌<◌, ◌≤◌, length, Option, Some, None, IsNone, sym, ◌∙◌, subst, arith, if◌then◌else◌}
+use Rattle.std.proofs.Common.{◌≡◌, ℕ, ◌+◌, ◌<◌, ◌≤◌, length, List, [], ◌∷◌, suc, All, Option, Some, None, IsNone, refl, sym, ◌∙◌, subst, arith, if◌then◌else◌}
 use Rattle.std.specs.Option.{is_some}
 use Rattle.art_nodes.specs.ChildMap.{ChildMap, IsAscending, child_at, key_bytes, with_child}
 use Rattle.art_nodes.specs.Builder.{AreWritten}
-use Rattle.art_nodes.proofs.ChildMapLemmas.{above-with_child, length-with_child}
+use Rattle.art_nodes.proofs.ChildMapLemmas.{above-with_child, length-with_child, child_at-later}
 
 counted-up : {H : Type 0} (found : Option H) (before after : ℕ) → after ≡ (if is_some found then before else before + 1) → before ≤ after
 counted-up None before after is = omega arith
@@ -28,3 +28,10 @@ module _ {H : Type 0} (children after : ChildMap H) (byte : ℕ) (child : H) (fi
   written-second was none =
       let up = counted-one (child_at children byte) (length children) (length (with_child children byte child)) (length-with_child 0 byte children child was.ascending) none in
       record { counted = subst (λ cs. 2 ≤ length cs) (sym is) (omega (arith, up, was.counted)); ascending = ascends was.ascending }
+
+-- a byte above every byte there is not there
+pub absent-above : {H : Type 0} (children : ChildMap H) (byte : ℕ) → All (λ b. b < byte) (key_bytes children) → IsNone (child_at children byte)
+absent-above [] byte above = refl
+absent-above (x ∷ children) byte above =
+    let less : x.0 < byte = above 0 0 (omega arith) in
+    rw (child_at-later x.0 byte x.1 children (λ e. omega arith)) (absent-above children byte (λ k d below. above (suc k) d (omega arith)))

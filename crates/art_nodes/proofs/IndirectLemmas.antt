@@ -1,13 +1,13 @@
 -- Indices of pointers: what a write and a removal do to the places that they name.
-use Rattle.std.proofs.Common.{◌≡◌, ℕ, zero, suc, ◌+◌, ◌-◌, ◌<◌, ◌≤◌, ◌≢◌, Bool, true, false, cond, List, [], ◌∷◌, ◌++◌, length, get_or, set, map, Option, Some, None, IsNone, slice_get, nat_lt, nat_eq, eqb, eq-eqb, count_by, refl, sym, ◌∙◌, ap, subst, arith, if◌then◌else◌, inl, inr}
-use Rattle.std.specs.List.{remove, sum_by, range_with_len}
+use Rattle.std.proofs.Common.{◌≡◌, ℕ, zero, suc, ◌+◌, ◌-◌, ◌<◌, ◌≤◌, ◌≢◌, Bool, cond, List, [], ◌∷◌, ◌++◌, length, get_or, set, take, drop, map, Option, Some, None, IsNone, slice_get, nat_lt, eqb, eq-eqb, count_by, refl, sym, ◌∙◌, ap, subst, arith, if◌then◌else◌, inl, inr}
+use Rattle.std.specs.List.{remove, range_with_len}
 use Rattle.std.specs.List.Sorted.{IsPermutation}
 use Rattle.std.proofs.lemmas.Bool.Decides.{nat_tests}
-use Rattle.std.proofs.lemmas.List.{ext_get_or, get_or-map, get_or-set_same, get_or-set_other, length-map, length-set, set-get_or}
+use Rattle.std.proofs.lemmas.List.{ext_get_or, get_or-map, get_or-set_same, get_or-set_other, length-map, length-set, set-get_or, map-append, length-drop, length-take, get_or-drop, get_or-take}
 use Rattle.std.proofs.lemmas.List.Sums.{sum_by-cons, sum_by-set, sum_by-remove}
 use Rattle.std.proofs.lemmas.List.Sorted.{IsPermutation-refl, IsPermutation-cons, IsPermutation-remove, IsPermutation-sym, IsPermutation-trans, IsPermutation-map, length_permutation}
 use Rattle.std.specs.Option.{option_map}
-use Rattle.std.proofs.lemmas.Option.{slice_get-get_or, slice_get-map}
+use Rattle.std.proofs.lemmas.Option.{slice_get-get_or, slice_get-map, get_or_from_slice_get}
 use Rattle.std.proofs.lemmas.List.FromFn.{fill_by_all, length-range_with_len}
 use Rattle.std.proofs.lemmas.Bool.{cases_lt}
 use Rattle.art_nodes.specs.ChildMap.{ChildMap, child_at, with_child, without_child, table_children}
@@ -34,7 +34,7 @@ module _ {H : Type 0} where
   slice_get-push_before (y ∷ xs) zero x within = refl
   slice_get-push_before (y ∷ xs) (suc j) x within = slice_get-push_before xs j x (omega arith)
 
-  slice_get-push_at : (xs : List H) (j : ℕ) (x : H) → j ≡ length xs → slice_get (xs ++ x ∷ []) j ≡ Some x
+  pub slice_get-push_at : (xs : List H) (j : ℕ) (x : H) → j ≡ length xs → slice_get (xs ++ x ∷ []) j ≡ Some x
   slice_get-push_at [] zero x at = refl
   slice_get-push_at [] (suc j) x at = absurd (omega arith)
   slice_get-push_at (y ∷ xs) zero x at = absurd (omega arith)
@@ -129,12 +129,12 @@ module _ {H : Type 0} where
   changed_at : (f g : Option ℕ → Option H) (xs ys : List (Option ℕ)) (place : ℕ) (now : Option H) → length ys ≡ length xs → place < length xs → g (get_or ys place None) ≡ now → ((k : ℕ) → k < length xs → k ≢ place → g (get_or ys k None) ≡ f (get_or xs k None)) → map g ys ≡ set (map f xs) place now
   changed_at f g xs ys place now same within here others =
       ext_get_or None (map g ys) (set (map f xs) place now) (simp (length-map, length-set) same) (λ k below.
-          let below_ys : k < length ys = simp length-map at below in
-          let below_xs : k < length xs = omega arith in
-          get_or-map g ys k None None below_ys ∙ elim (cases_eq k place) [
-            | inl at ↦ ap (λ n. g (get_or ys n None)) at ∙ here ∙ sym (get_or-set_same (map f xs) place now None (simp length-map within)) ∙ ap (λ n. get_or (set (map f xs) place now) n None) (sym at)
-            | inr differs ↦ others k below_xs differs ∙ sym (get_or-map f xs k None None below_xs) ∙ sym (get_or-set_other (map f xs) place k now None differs)
-          ])
+      let below_ys : k < length ys = simp length-map at below in
+      let below_xs : k < length xs = omega arith in
+      get_or-map g ys k None None below_ys ∙ elim (cases_eq k place) [
+        | inl at ↦ ap (λ n. g (get_or ys n None)) at ∙ here ∙ sym (get_or-set_same (map f xs) place now None (simp length-map within)) ∙ ap (λ n. get_or (set (map f xs) place now) n None) (sym at)
+        | inr differs ↦ others k below_xs differs ∙ sym (get_or-map f xs k None None below_xs) ∙ sym (get_or-set_other (map f xs) place k now None differs)
+      ])
 
   -- a pointer written over is the child at its place
   pub named-set : (pointers : List H) (indices : List (Option ℕ)) (place index : ℕ) (child : H) → IsNamedOnce indices (length pointers) → place < length indices → get_or indices place None ≡ Some index → named_pointers (set pointers index child) indices ≡ set (named_pointers pointers indices) place (Some child)
@@ -151,7 +151,7 @@ module _ {H : Type 0} where
   named-push pointers indices place child bounded within =
       let here = ap (named_pointer (pointers ++ child ∷ [])) (get_or-set_same indices place (Some (length pointers)) None within) ∙ slice_get-push_at pointers (length pointers) child refl in
       changed_at (named_pointer pointers) (named_pointer (pointers ++ child ∷ [])) indices (set indices place (Some (length pointers))) place (Some child) (simp length-set) within here (λ k below differs.
-          ap (named_pointer (pointers ++ child ∷ [])) (get_or-set_other indices place k (Some (length pointers)) None differs) ∙ others k below (get_or indices k None) refl)
+      ap (named_pointer (pointers ++ child ∷ [])) (get_or-set_other indices place k (Some (length pointers)) None differs) ∙ others k below (get_or indices k None) refl)
     where
       others : (k : ℕ) → k < length indices → (x : Option ℕ) → x ≡ get_or indices k None → named_pointer (pointers ++ child ∷ []) x ≡ named_pointer pointers x
       others k below None is = refl
@@ -164,8 +164,8 @@ module _ {H : Type 0} where
       let short : place < length emptied = simp length-set within in
       let here = ap (named_pointer (remove pointers index)) (get_or-map (lowered_above index) emptied place None None short ∙ ap (lowered_above index) (get_or-set_same indices place None None within)) in
       changed_at (named_pointer pointers) (named_pointer (remove pointers index)) indices (map (lowered_above index) emptied) place None (simp (length-map, length-set)) within here (λ k below differs.
-          let k_short : k < length emptied = simp length-set below in
-          ap (named_pointer (remove pointers index)) (get_or-map (lowered_above index) emptied k None None k_short ∙ ap (lowered_above index) (get_or-set_other indices place k None None differs)) ∙ others k below differs (get_or indices k None) refl)
+      let k_short : k < length emptied = simp length-set below in
+      ap (named_pointer (remove pointers index)) (get_or-map (lowered_above index) emptied k None None k_short ∙ ap (lowered_above index) (get_or-set_other indices place k None None differs)) ∙ others k below differs (get_or indices k None) refl)
     where
       others : (k : ℕ) → k < length indices → k ≢ place → (x : Option ℕ) → x ≡ get_or indices k None → named_pointer (remove pointers index) (lowered_above index x) ≡ named_pointer pointers x
       others k below differs None is = refl
@@ -173,10 +173,10 @@ module _ {H : Type 0} where
           let apart : index ≢ other = λ same. named_apart indices (length pointers) place k index once within below differs filled (sym is ∙ ap Some (sym same)) in
           elim (cases_lt index other) [
             | inl above ↦
-              let at : suc (other - 1) ≡ other = omega arith in
-              ap (λ b. slice_get (remove pointers index) (if b then other - 1 else other)) (lt-true index other above) ∙ slice_get-remove_after pointers index (other - 1) (omega arith) ∙ ap (slice_get pointers) at
+                let at : suc (other - 1) ≡ other = omega arith in
+                ap (λ b. slice_get (remove pointers index) (if b then other - 1 else other)) (lt-true index other above) ∙ slice_get-remove_after pointers index (other - 1) (omega arith) ∙ ap (slice_get pointers) at
             | inr upto ↦
-              ap (λ b. slice_get (remove pointers index) (if b then other - 1 else other)) (lt-false index other upto) ∙ slice_get-remove_before pointers index other (omega arith)
+                ap (λ b. slice_get (remove pointers index) (if b then other - 1 else other)) (lt-false index other upto) ∙ slice_get-remove_before pointers index other (omega arith)
           ]
 
 uses-cons : (index : ℕ) (place : Option ℕ) (indices : List (Option ℕ)) → uses index (place ∷ indices) ≡ counts index place + uses index indices
@@ -205,15 +205,15 @@ named_once-remove indices n place taken once within filled = λ index.
     let gone : uses taken emptied ≡ 0 = let change = uses-set taken indices place None within in let all = once taken in grind (arith, nat_tests, change, counted, all) in
     uses-lowered taken index emptied gone ∙ elim (cases_lt index taken) [
       | inl before ↦
-        let stays : counts index (get_or indices place None) ≡ 0 = ap (counts index) filled ∙ counts-other index taken (λ same. omega arith) in
-        let change = uses-set index indices place None within in
-        let all = once index in
-        ap (λ b. uses (if b then index else suc index) emptied) (lt-true index taken before) ∙ grind (arith, nat_tests, change, stays, all)
+          let stays : counts index (get_or indices place None) ≡ 0 = ap (counts index) filled ∙ counts-other index taken (λ same. omega arith) in
+          let change = uses-set index indices place None within in
+          let all = once index in
+          ap (λ b. uses (if b then index else suc index) emptied) (lt-true index taken before) ∙ grind (arith, nat_tests, change, stays, all)
       | inr from ↦
-        let stays : counts (suc index) (get_or indices place None) ≡ 0 = ap (counts (suc index)) filled ∙ counts-other (suc index) taken (λ same. omega arith) in
-        let change = uses-set (suc index) indices place None within in
-        let all = once (suc index) in
-        ap (λ b. uses (if b then index else suc index) emptied) (lt-false index taken from) ∙ grind (arith, nat_tests, change, stays, all)
+          let stays : counts (suc index) (get_or indices place None) ≡ 0 = ap (counts (suc index)) filled ∙ counts-other (suc index) taken (λ same. omega arith) in
+          let change = uses-set (suc index) indices place None within in
+          let all = once (suc index) in
+          ap (λ b. uses (if b then index else suc index) emptied) (lt-false index taken from) ∙ grind (arith, nat_tests, change, stays, all)
     ]
 
 -- the indices in use, by their bytes
@@ -242,9 +242,9 @@ place_from_times x [] some = absurd (omega arith)
 place_from_times x (y ∷ ys) some = elim (cases_eq y x) [
   | inl same ↦ (0, omega arith, sym same)
   | inr differs ↦
-    let later : 0 < times x ys = omega (arith, times-cons x y ys, ap one_if (eq-false y x differs)) in
-    let found = place_from_times x ys later in
-    (suc found.0, omega (arith, found.1), found.2)
+      let later : 0 < times x ys = omega (arith, times-cons x y ys, ap one_if (eq-false y x differs)) in
+      let found = place_from_times x ys later in
+      (suc found.0, omega (arith, found.1), found.2)
 ]
 
 -- lists that have each number as often are one in another order
@@ -256,9 +256,9 @@ permutation_from_times (x ∷ xs) ys same =
     let found = place_from_times x ys some in
     let moved = IsPermutation-remove ys found.0 x found.1 found.2 in
     let rest = permutation_from_times xs (remove ys found.0) (λ q.
-        let removed = sum_by-remove (λ j. cond (eqb j q) 1 0) ys found.0 x found.1 in
-        let at = ap (λ j. one_if (eqb j q)) found.2 in
-        omega (arith, same q, times-cons q x xs, removed, at)) in
+    let removed = sum_by-remove (λ j. cond (eqb j q) 1 0) ys found.0 x found.1 in
+    let at = ap (λ j. one_if (eqb j q)) found.2 in
+    omega (arith, same q, times-cons q x xs, removed, at)) in
     IsPermutation-trans (x ∷ xs) (x ∷ remove ys found.0) ys (IsPermutation-cons x xs (remove ys found.0) rest) (IsPermutation-sym ys (x ∷ remove ys found.0) moved)
 
 used_permutation : (indices : List (Option ℕ)) (n : ℕ) → IsNamedOnce indices n → IsPermutation (used 0 indices) (range_with_len 0 n)
@@ -303,6 +303,43 @@ module _ {H : Type 0} where
   pair-named pointers indices k byte index d bounded found =
       ap (λ children. slice_get children k) (table-named d pointers 0 indices bounded)
       ∙ slice_get-map (λ p. (p.0, get_or pointers p.1 d)) (table_children 0 indices) k ∙ ap (option_map (λ p. (p.0, get_or pointers p.1 d))) found
+
+module _ {H : Type 0} (pointers : List H) (first : ℕ) (indices : List (Option ℕ)) (bounded : AreBelow (length pointers) indices) where
+  -- no index in use, no child
+  pub none-named : table_children first indices ≡ [] → table_children first (named_pointers pointers indices) ≡ []
+  none-named none = go pointers bounded
+    where
+      go : (others : List H) → AreBelow (length others) indices → table_children first (named_pointers others indices) ≡ []
+      go [] below = table-unnamed first indices
+      go (d ∷ others) below = table-named d (d ∷ others) first indices below ∙ ap (map (λ p. (p.0, get_or (d ∷ others) p.1 d))) none
+
+  -- the first index in use names the first child
+  pub next-named : (byte index next : ℕ) (child : H) (later : List (Option ℕ)) → AreBelow (length pointers) later → table_children first indices ≡ (byte, index) ∷ table_children next later → slice_get pointers index ≡ Some child → table_children first (named_pointers pointers indices) ≡ (byte, child) ∷ table_children next (named_pointers pointers later)
+  next-named byte index next child later below found names =
+      table-named child pointers first indices bounded
+      ∙ ap (map (λ p. (p.0, get_or pointers p.1 child))) found
+      ∙ ap (λ x. (byte, x) ∷ map (λ p. (p.0, get_or pointers p.1 child)) (table_children next later)) (get_or_from_slice_get pointers index child child names)
+      ∙ ap (λ rest. (byte, child) ∷ rest) (sym (table-named child pointers next later below))
+
+  -- and the last the last
+  pub next_back-named : (byte index : ℕ) (child : H) (earlier : List (Option ℕ)) → AreBelow (length pointers) earlier → table_children first indices ≡ table_children first earlier ++ (byte, index) ∷ [] → slice_get pointers index ≡ Some child → table_children first (named_pointers pointers indices) ≡ table_children first (named_pointers pointers earlier) ++ (byte, child) ∷ []
+  next_back-named byte index child earlier below found names =
+      let pair : ℕ × ℕ → ℕ × H = λ p. (p.0, get_or pointers p.1 child) in
+      table-named child pointers first indices bounded
+      ∙ ap (map pair) found ∙ map-append pair (table_children first earlier) ((byte, index) ∷ [])
+      ∙ ap (λ x. map pair (table_children first earlier) ++ (byte, x) ∷ []) (get_or_from_slice_get pointers index child child names)
+      ∙ ap (λ rest. rest ++ (byte, child) ∷ []) (sym (table-named child pointers first earlier below))
+
+-- a part of the indices is below where the whole is
+pub below-drop : (n k : ℕ) (indices : List (Option ℕ)) → AreBelow n indices → AreBelow n (drop k indices)
+below-drop n k indices bounded = λ place index within filled.
+    bounded (k + place) index (let short = length-drop k indices in omega (arith, short)) (sym (get_or-drop k indices place None) ∙ filled)
+
+pub below-take : (n k : ℕ) (indices : List (Option ℕ)) → AreBelow n indices → AreBelow n (take k indices)
+below-take n k indices bounded = λ place index within filled.
+    let short = length-take k indices in
+    let front : place < k = omega (arith, short) in
+    bounded place index (omega (arith, short)) (sym (get_or-take k indices place None front) ∙ filled)
 
 -- as many indices are in use
 pub length-used : (indices : List (Option ℕ)) (n : ℕ) → IsNamedOnce indices n → length (table_children 0 indices) ≡ n

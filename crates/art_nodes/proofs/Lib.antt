@@ -1,6 +1,6 @@
-pub mod BoundLemmas
 pub mod BuilderLemmas
 pub mod ChildMapLemmas
+pub mod ConversionLemmas
 pub mod IndirectLemmas
 pub mod KindLemmas
 pub mod SortedLemmas

@@ -11,7 +11,7 @@ use Rattle.art_nodes.proofs.SortedLemmas.{key_bytes-zip, with_child-zip_insert, 
 module _ {H : Type 0} (room : ℕ) (header : Header) (bytes : List ℕ) (children : List H) (sorted : IsSortedNode room header bytes children) (byte : ℕ) (above : All (λ b. b < byte) (key_bytes (zip bytes children))) where
   -- it goes behind them
   gap_behind : IsGapFor bytes byte (length bytes)
-  gap_behind = 
+  gap_behind =
       let all : All (λ b. b < byte) bytes = subst (All (λ b. b < byte)) (key_bytes-zip bytes children sorted.beside) above in
       record {
         in_range = omega arith;

@@ -79,11 +79,11 @@ module _ {H : Type 0} where
   sorted-take low first end (b ∷ bytes) [] same asc le = absurd (omega arith)
   sorted-take low first end (b ∷ bytes) (x ∷ children) same asc le = elim (cases_lt b end) [
     | inl less ↦
-      rw (below-less end b bytes less, le-true first b (omega (arith, asc.0)), lt-true b end less)
-      (ap (λ rest. (b, x) ∷ rest) (sorted-take (suc b) first end bytes children (omega arith) asc.2 (omega (arith, asc.0))))
+        rw (below-less end b bytes less, le-true first b (omega (arith, asc.0)), lt-true b end less)
+        (ap (λ rest. (b, x) ∷ rest) (sorted-take (suc b) first end bytes children (omega arith) asc.2 (omega (arith, asc.0))))
     | inr from ↦
-      let above : IsAbove b (zip (b ∷ bytes) (x ∷ children)) = above-zip b (b ∷ bytes) (x ∷ children) same (omega arith, asc.1, asc.2) in
-      rw (below-none end b (b ∷ bytes) from (omega arith, asc.1, asc.2)) (between-none b (zip (b ∷ bytes) (x ∷ children)) first end from above)
+        let above : IsAbove b (zip (b ∷ bytes) (x ∷ children)) = above-zip b (b ∷ bytes) (x ∷ children) same (omega arith, asc.1, asc.2) in
+        rw (below-none end b (b ∷ bytes) from (omega arith, asc.1, asc.2)) (between-none b (zip (b ∷ bytes) (x ∷ children)) first end from above)
   ]
 
   -- the pairs between two numbers are a part of the bytes with a part of the children beside it
@@ -92,7 +92,7 @@ module _ {H : Type 0} where
       let from = count_by (λ b. nat_lt b first) bytes in
       rw (later_is, beside_is)
       (sym (sorted-drop 0 first end bytes children same asc
-        ∙ sorted-take first first end (drop from bytes) (drop from children) (simp length-drop (omega arith)) (ascending-drop first 0 bytes asc) (omega arith)))
+      ∙ sorted-take first first end (drop from bytes) (drop from children) (simp length-drop (omega arith)) (ascending-drop first 0 bytes asc) (omega arith)))
 
   -- the places of a table up to a byte
   table-take : (byte first end n : ℕ) (places : List (Option H)) → first ≤ byte → end ≡ byte + n → byte + length places ≤ 256 → pairs_between (table_children byte places) first end ≡ table_children byte (take n places)

@@ -11,3 +11,4 @@ pub mod ChildIter
 pub mod PairSources
 pub mod PrefixMatch
 pub mod Builder
+pub mod ConcretePointers

@@ -1,9 +1,10 @@
 //! A builder of inner nodes, which hands out none with fewer than two children.
-ghost use Rattle.std.specs.Prelude.{◌≡◌, ◌≤◌, ◌<◌, ◌^◌, length, IsNone};
+ghost use Rattle.std.specs.Prelude.{◌≡◌, ◌≤◌, ◌<◌, ◌^◌, length, All, IsNone};
 ghost use Rattle.art_header.specs.Header.{capped, empty_header};
-ghost use Rattle.art_nodes.specs.ChildMap.{child_at, with_child};
+ghost use Rattle.art_nodes.specs.ChildMap.{child_at, key_bytes, with_child};
 ghost use Rattle.art_nodes.specs.Inner.{HasRoomFor, empty_inner, with_children};
 
+use crate::inner_node_sorted::InnerNode4;
 use crate::node::InnerNodeCommon;
 use crate::pointers::OpaqueNodePtr;
 use crate::private::Sealed;
@@ -77,8 +78,13 @@ impl<K, V, const PREFIX_LEN: usize, N: InnerNodeCommon<K, V, PREFIX_LEN>, S: Bui
     ghost invariant = { λ b. AreWritten S.Counts (N.inner b.node).children };
 }
 
-impl<K, V, const PREFIX_LEN: usize, N: InnerNodeCommon<K, V, PREFIX_LEN>>
-    InnerNodeBuilder<K, V, PREFIX_LEN, N, NoChild> {
+impl<K, V, const PREFIX_LEN: usize, N: InnerNodeCommon<K, V, PREFIX_LEN>> InnerNodeBuilder<
+    K,
+    V,
+    PREFIX_LEN,
+    N,
+    NoChild,
+> {
     /// A builder of a node with this prefix. It asks what [`Header::new`](crate::Header::new) asks.
     pub fn new(prefix: &[u8], prefix_len: usize) -> Self
         requires has_stored_bytes { capped PREFIX_LEN prefix_len ≤ length prefix.now }
@@ -109,8 +115,13 @@ impl<K, V, const PREFIX_LEN: usize, N: InnerNodeCommon<K, V, PREFIX_LEN>>
     }
 }
 
-impl<K, V, const PREFIX_LEN: usize, N: InnerNodeCommon<K, V, PREFIX_LEN>>
-    InnerNodeBuilder<K, V, PREFIX_LEN, N, HasOneChild> {
+impl<K, V, const PREFIX_LEN: usize, N: InnerNodeCommon<K, V, PREFIX_LEN>> InnerNodeBuilder<
+    K,
+    V,
+    PREFIX_LEN,
+    N,
+    HasOneChild,
+> {
     /// Writes the second child, under another byte than the first. The node has to have room for it.
     pub fn write_child(
         mut self,
@@ -129,8 +140,13 @@ impl<K, V, const PREFIX_LEN: usize, N: InnerNodeCommon<K, V, PREFIX_LEN>>
     }
 }
 
-impl<K, V, const PREFIX_LEN: usize, N: InnerNodeCommon<K, V, PREFIX_LEN>>
-    InnerNodeBuilder<K, V, PREFIX_LEN, N, HasChild> {
+impl<K, V, const PREFIX_LEN: usize, N: InnerNodeCommon<K, V, PREFIX_LEN>> InnerNodeBuilder<
+    K,
+    V,
+    PREFIX_LEN,
+    N,
+    HasChild,
+> {
     /// Writes one child more, or over the one under this byte. The node has to have room for a new
     /// one.
     pub fn write_child(mut self, key_byte: u8, child: OpaqueNodePtr<K, V, PREFIX_LEN>) -> Self
@@ -149,3 +165,80 @@ impl<K, V, const PREFIX_LEN: usize, N: InnerNodeCommon<K, V, PREFIX_LEN>>
         self.node
     }
 }
+
+impl<K, V, const PREFIX_LEN: usize> InnerNodeBuilder<
+    K,
+    V,
+    PREFIX_LEN,
+    InnerNode4<K, V, PREFIX_LEN>,
+    NoChild,
+> {
+    /// Writes the first child without a search.
+    pub fn write_child_unchecked(
+        mut self,
+        key_byte: u8,
+        child: OpaqueNodePtr<K, V, PREFIX_LEN>,
+    ) -> InnerNodeBuilder<K, V, PREFIX_LEN, InnerNode4<K, V, PREFIX_LEN>, HasOneChild>
+        requires room { length self.children < 4 }
+        requires above { All (λ byte. byte < key_byte) (key_bytes self.children) }
+        ensures { result ≡ with_children self (with_child self.children key_byte child) }
+    {
+        self.node.write_child_unchecked(key_byte, child);
+        InnerNodeBuilder {
+            node: self.node,
+            state: PhantomData,
+        }
+    }
+}
+
+impl<K, V, const PREFIX_LEN: usize> InnerNodeBuilder<
+    K,
+    V,
+    PREFIX_LEN,
+    InnerNode4<K, V, PREFIX_LEN>,
+    HasOneChild,
+> {
+    /// Writes the second child without a search, under a byte above the first one's. The node has to
+    /// have room for it.
+    pub fn write_child_unchecked(
+        mut self,
+        key_byte: u8,
+        child: OpaqueNodePtr<K, V, PREFIX_LEN>,
+    ) -> InnerNodeBuilder<K, V, PREFIX_LEN, InnerNode4<K, V, PREFIX_LEN>, HasChild>
+        requires room { length self.children < 4 }
+        requires above { All (λ byte. byte < key_byte) (key_bytes self.children) }
+        ensures { result ≡ with_children self (with_child self.children key_byte child) }
+    {
+        self.node.write_child_unchecked(key_byte, child);
+        InnerNodeBuilder {
+            node: self.node,
+            state: PhantomData,
+        }
+    }
+}
+
+impl<K, V, const PREFIX_LEN: usize> InnerNodeBuilder<
+    K,
+    V,
+    PREFIX_LEN,
+    InnerNode4<K, V, PREFIX_LEN>,
+    HasChild,
+> {
+    /// Writes one child more without a search, under a byte above every byte there. The node has to
+    /// have room for it.
+    pub fn write_child_unchecked(
+        mut self,
+        key_byte: u8,
+        child: OpaqueNodePtr<K, V, PREFIX_LEN>,
+    ) -> Self
+        requires room { length self.children < 4 }
+        requires above { All (λ byte. byte < key_byte) (key_bytes self.children) }
+        ensures { result ≡ with_children self (with_child self.children key_byte child) }
+    {
+        self.node.write_child_unchecked(key_byte, child);
+        self
+    }
+}
+
+#[cfg(test)]
+mod tests;

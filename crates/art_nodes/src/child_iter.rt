@@ -19,62 +19,64 @@ use std::ops::Bound;
 ///
 /// It borrows the node and takes no memory. Each pair comes once, from the front or from the back,
 /// and after the last pair comes `None` for good.
+pub type ChildIter<'a, K, V, const PREFIX_LEN: usize> = PairIter<
+    'a,
+    OpaqueNodePtr<K, V, PREFIX_LEN>,
+>;
+
+/// Pairs of a byte and what is kept under it, by ascending byte.
+///
+/// It borrows the node and takes no memory. Each pair comes once, from the front or from the back,
+/// and after the last pair comes `None` for good.
 #[derive(Drop)]
-pub struct ChildIter<'a, K, V, const PREFIX_LEN: usize> {
-    source: Source<'a, K, V, PREFIX_LEN>,
+pub struct PairIter<'a, H> {
+    source: Source<'a, H>,
 }
 
 // The ways that inner nodes keep their children.
 #[derive(Drop)]
-enum Source<'a, K, V, const PREFIX_LEN: usize> {
-    Sorted(SortedPairs<'a, K, V, PREFIX_LEN>),
-    Table(TablePairs<'a, K, V, PREFIX_LEN>),
-    Indexed(IndexPairs<'a, K, V, PREFIX_LEN>),
+enum Source<'a, H> {
+    Sorted(SortedPairs<'a, H>),
+    Table(TablePairs<'a, H>),
+    Indexed(IndexPairs<'a, H>),
 }
 
-impl<'a, K, V, const PREFIX_LEN: usize> Model for ChildIter<'a, K, V, PREFIX_LEN> {
-    ghost use Rattle.art_nodes.specs.declared.pointers.OpaqueNodePtr.{OpaqueNodePtr};
+impl<'a, H> Model for PairIter<'a, H> {
     ghost use Rattle.art_nodes.specs.ChildMap.{ChildMap};
 
-    ghost Value = { ChildMap (OpaqueNodePtr K V PREFIX_LEN) };
+    ghost Value = { ChildMap H };
 
     ghost use Rattle.art_nodes.specs.ChildIter.{pairs_of};
 
     ghost view = { λ it. pairs_of it.source };
 }
 
-impl<'a, K, V, const PREFIX_LEN: usize> ChildIter<'a, K, V, PREFIX_LEN> {
+impl<'a, H: Copy> PairIter<'a, H> {
     /// Over ascending bytes with the children beside them.
-    pub(crate) fn over_sorted(
-        keys: &'a [u8],
-        children: &'a [OpaqueNodePtr<K, V, PREFIX_LEN>],
-    ) -> Self
+    pub(crate) fn over_sorted(keys: &'a [u8], children: &'a [H]) -> Self
         requires { length children.now ≡ length keys.now }
         ensures { result ≡ sorted_children keys.now children.now }
     {
-        ChildIter {
+        PairIter {
             source: Source::Sorted(SortedPairs::new(keys, children)),
         }
     }
 
     /// Over a table with a place for each byte.
-    pub(crate) fn over_table(places: &'a [Option<OpaqueNodePtr<K, V, PREFIX_LEN>>; 256]) -> Self
+    pub(crate) fn over_table(places: &'a [Option<H>; 256]) -> Self
         ensures { result ≡ table_children 0 places.now }
     {
-        ChildIter {
+        PairIter {
             source: Source::Table(TablePairs::new(0, &places[..])),
         }
     }
 
     /// Over a table with a place for each byte, which has the index of the child.
-    pub(crate) fn over_indices(
-        indices: &'a [Option<NonMaxIndex>; 256],
-        children: &'a [OpaqueNodePtr<K, V, PREFIX_LEN>],
-    ) -> Self
+    pub(crate) fn over_indices(indices: &'a [Option<NonMaxIndex>; 256], children: &'a [H]) -> Self
         requires { AreBelow (length children.now) indices.now }
         ensures { result ≡ table_children 0 (named_pointers children.now indices.now) }
     {
-        ChildIter {
+        PairIter {
             source: Source::Indexed(IndexPairs::new(0, &indices[..], children)),
         }
     }
@@ -82,7 +84,7 @@ impl<'a, K, V, const PREFIX_LEN: usize> ChildIter<'a, K, V, PREFIX_LEN> {
     /// Over those of the ascending bytes that meet both bounds, with the children beside them.
     pub(crate) fn over_sorted_range(
         keys: &'a [u8],
-        children: &'a [OpaqueNodePtr<K, V, PREFIX_LEN>],
+        children: &'a [H],
         start: Bound<u8>,
         end: Bound<u8>,
     ) -> Self
@@ -100,7 +102,7 @@ impl<'a, K, V, const PREFIX_LEN: usize> ChildIter<'a, K, V, PREFIX_LEN> {
 
     /// Over the places of a table whose bytes meet both bounds.
     pub(crate) fn over_table_range(
-        places: &'a [Option<OpaqueNodePtr<K, V, PREFIX_LEN>>; 256],
+        places: &'a [Option<H>; 256],
         start: Bound<u8>,
         end: Bound<u8>,
     ) -> Self
@@ -108,7 +110,8 @@ impl<'a, K, V, const PREFIX_LEN: usize> ChildIter<'a, K, V, PREFIX_LEN> {
         ensures { result ≡ pairs_within (table_children 0 places.now) start end }
     {
         let bytes = byte_range(start, end);
-        ChildIter {
+        let places = &places[..];
+        PairIter {
             source: Source::Table(TablePairs::new(bytes.start, &places[bytes.start..bytes.end])),
         }
     }
@@ -116,7 +119,7 @@ impl<'a, K, V, const PREFIX_LEN: usize> ChildIter<'a, K, V, PREFIX_LEN> {
     /// Over the places of a table of indices whose bytes meet both bounds.
     pub(crate) fn over_indices_range(
         indices: &'a [Option<NonMaxIndex>; 256],
-        children: &'a [OpaqueNodePtr<K, V, PREFIX_LEN>],
+        children: &'a [H],
         start: Bound<u8>,
         end: Bound<u8>,
     ) -> Self
@@ -125,21 +128,22 @@ impl<'a, K, V, const PREFIX_LEN: usize> ChildIter<'a, K, V, PREFIX_LEN> {
         ensures { result ≡ pairs_within (table_children 0 (named_pointers children.now indices.now)) start end }
     {
         let bytes = byte_range(start, end);
-        let places = &indices[bytes.start..bytes.end];
-        ChildIter {
-            source: Source::Indexed(IndexPairs::new(bytes.start, places, children)),
+        let indices = &indices[..];
+        let indices = &indices[bytes.start..bytes.end];
+        PairIter {
+            source: Source::Indexed(IndexPairs::new(bytes.start, indices, children)),
         }
     }
 }
 
-impl<'a, K, V, const PREFIX_LEN: usize> Iterator for ChildIter<'a, K, V, PREFIX_LEN> {
-    type Item = (u8, OpaqueNodePtr<K, V, PREFIX_LEN>);
+impl<'a, H: Copy> Iterator for PairIter<'a, H> {
+    type Item = (u8, H);
 
     ghost next_gives = { YieldsFirst (λ pairs. pairs) };
 
     ghost remaining = { item_count (λ pairs. pairs) };
 
-    fn next(&mut self) -> Option<(u8, OpaqueNodePtr<K, V, PREFIX_LEN>)> {
+    fn next(&mut self) -> Option<(u8, H)> {
         match &mut self.source {
             Source::Sorted(pairs) => pairs.next(),
             Source::Table(pairs) => pairs.next(),
@@ -148,10 +152,10 @@ impl<'a, K, V, const PREFIX_LEN: usize> Iterator for ChildIter<'a, K, V, PREFIX_
     }
 }
 
-impl<'a, K, V, const PREFIX_LEN: usize> DoubleEndedIterator for ChildIter<'a, K, V, PREFIX_LEN> {
+impl<'a, H: Copy> DoubleEndedIterator for PairIter<'a, H> {
     ghost next_back_gives = { YieldsLast (λ pairs. pairs) };
 
-    fn next_back(&mut self) -> Option<(u8, OpaqueNodePtr<K, V, PREFIX_LEN>)> {
+    fn next_back(&mut self) -> Option<(u8, H)> {
         match &mut self.source {
             Source::Sorted(pairs) => pairs.next_back(),
             Source::Table(pairs) => pairs.next_back(),
@@ -160,4 +164,7 @@ impl<'a, K, V, const PREFIX_LEN: usize> DoubleEndedIterator for ChildIter<'a, K,
     }
 }
 
-impl<'a, K, V, const PREFIX_LEN: usize> FusedIterator for ChildIter<'a, K, V, PREFIX_LEN> {}
+impl<'a, H: Copy> FusedIterator for PairIter<'a, H> {}
+
+#[cfg(test)]
+mod tests;

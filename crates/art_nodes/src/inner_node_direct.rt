@@ -3,8 +3,8 @@ use crate::child_iter::ChildIter;
 use crate::node::{InnerNodeCommon, Node};
 use crate::pointers::OpaqueNodePtr;
 use crate::prefix_match::{
-    AttemptOptimisticPrefixMatch, OptimisticMismatch, PessimisticMismatch, PrefixMatch, match_length,
-    match_stored,
+    AttemptOptimisticPrefixMatch, OptimisticMismatch, PessimisticMismatch, PrefixMatch,
+    match_length, match_stored,
 };
 use crate::private::{InnerNodeInit, Sealed};
 use crate::table::{first_place, last_place};
@@ -35,7 +35,8 @@ impl<K, V, const PREFIX_LEN: usize> Model for InnerNodeDirect<K, V, PREFIX_LEN> 
     ghost invariant = { λ n. (length n.child_pointers ≡ 256) × (n.header.count ≡ length (table_children 0 n.child_pointers)) };
 }
 
-impl<K, V, const PREFIX_LEN: usize> InnerNodeInit<PREFIX_LEN> for InnerNodeDirect<K, V, PREFIX_LEN> {
+impl<K, V, const PREFIX_LEN: usize> InnerNodeInit<PREFIX_LEN>
+    for InnerNodeDirect<K, V, PREFIX_LEN> {
     ghost use Rattle.std.specs.Prelude.{◌≡◌, ◌≤◌, ◌<◌, ◌^◌, length};
     ghost use Rattle.art_header.specs.Header.{capped, empty_header};
     ghost use Rattle.art_nodes.specs.Inner.{empty_inner};
@@ -76,6 +77,16 @@ impl<K, V, const PREFIX_LEN: usize> InnerNodeDirect<K, V, PREFIX_LEN> {
         InnerNodeDirect {
             header,
             child_pointers: [None; 256],
+        }
+    }
+
+    /// A copy, which takes no memory.
+    pub fn clone(&self) -> Self
+        ensures { result ≡ self.now }
+    {
+        InnerNodeDirect {
+            header: self.header.clone().unwrap(),
+            child_pointers: self.child_pointers,
         }
     }
 }
@@ -129,16 +140,11 @@ impl<K, V, const PREFIX_LEN: usize> InnerNodeCommon<K, V, PREFIX_LEN>
         removed_child
     }
 
-    fn iter(&self) -> ChildIter<'_, K, V, PREFIX_LEN>
-        ensures { result ≡ self.now.children }
-    {
+    fn iter(&self) -> ChildIter<'_, K, V, PREFIX_LEN> {
         ChildIter::over_table(&self.child_pointers)
     }
 
-    fn range(&self, start: Bound<u8>, end: Bound<u8>) -> ChildIter<'_, K, V, PREFIX_LEN>
-        requires { AreValidBounds start end }
-        ensures { result ≡ pairs_within self.now.children start end }
-    {
+    fn range(&self, start: Bound<u8>, end: Bound<u8>) -> ChildIter<'_, K, V, PREFIX_LEN> {
         ChildIter::over_table_range(&self.child_pointers, start, end)
     }
 
@@ -149,6 +155,7 @@ impl<K, V, const PREFIX_LEN: usize> InnerNodeCommon<K, V, PREFIX_LEN>
     fn max(&self) -> (u8, OpaqueNodePtr<K, V, PREFIX_LEN>) {
         last_place(&self.child_pointers)
     }
+
     fn optimistic_match_prefix(
         &self,
         truncated_key: &[u8],

@@ -93,6 +93,23 @@ impl<K, V, const PREFIX_LEN: usize, const SIZE: usize> InnerNodeIndirect<K, V, P
         }
     }
 
+    /// A copy, which takes no memory.
+    pub fn clone(&self) -> Self
+        ensures { result ≡ self.now }
+    {
+        let mut child_indices = [None; 256];
+        child_indices.copy_from_slice(&self.child_indices);
+        let mut child_pointers = ArrayVec::new();
+        child_pointers
+            .try_extend_from_slice(&self.child_pointers)
+            .unwrap();
+        InnerNodeIndirect {
+            header: self.header.clone().unwrap(),
+            child_indices,
+            child_pointers,
+        }
+    }
+
     /// The children, each as often as it stands under a byte, in no promised order.
     pub fn initialized_child_pointers(&self) -> &[OpaqueNodePtr<K, V, PREFIX_LEN>]
         ensures { IsPermutation (map (λ p. p.1) self.now.children) result.now }
@@ -176,16 +193,11 @@ impl<K, V, const PREFIX_LEN: usize, const SIZE: usize> InnerNodeCommon<K, V, PRE
         Some(self.child_pointers.remove(usize::from(index)))
     }
 
-    fn iter(&self) -> ChildIter<'_, K, V, PREFIX_LEN>
-        ensures { result ≡ self.now.children }
-    {
+    fn iter(&self) -> ChildIter<'_, K, V, PREFIX_LEN> {
         ChildIter::over_indices(&self.child_indices, &self.child_pointers)
     }
 
-    fn range(&self, start: Bound<u8>, end: Bound<u8>) -> ChildIter<'_, K, V, PREFIX_LEN>
-        requires { AreValidBounds start end }
-        ensures { result ≡ pairs_within self.now.children start end }
-    {
+    fn range(&self, start: Bound<u8>, end: Bound<u8>) -> ChildIter<'_, K, V, PREFIX_LEN> {
         ChildIter::over_indices_range(&self.child_indices, &self.child_pointers, start, end)
     }
 

@@ -7,8 +7,8 @@ use crate::child_iter::ChildIter;
 use crate::node::{InnerNodeCommon, Node};
 use crate::pointers::OpaqueNodePtr;
 use crate::prefix_match::{
-    AttemptOptimisticPrefixMatch, OptimisticMismatch, PessimisticMismatch, PrefixMatch, match_length,
-    match_stored,
+    AttemptOptimisticPrefixMatch, OptimisticMismatch, PessimisticMismatch, PrefixMatch,
+    match_length, match_stored,
 };
 use crate::private::{InnerNodeInit, Sealed};
 use arrayvec::ArrayVec;
@@ -103,6 +103,14 @@ impl<K, V, const PREFIX_LEN: usize, const SIZE: usize> InnerNodeSorted<K, V, PRE
             keys: ArrayVec::new(),
             child_pointers: ArrayVec::new(),
         }
+    }
+
+    /// A copy, which takes no memory.
+    pub fn clone(&self) -> Self
+        ensures { result ≡ self.now }
+    {
+        prove!(self.header().num_children() <= SIZE);
+        self.change_block_size()
     }
 
     /// The bytes in ascending order, and the children beside them.
@@ -215,16 +223,11 @@ impl<K, V, const PREFIX_LEN: usize, const SIZE: usize> InnerNodeCommon<K, V, PRE
         }
     }
 
-    fn iter(&self) -> ChildIter<'_, K, V, PREFIX_LEN>
-        ensures { result ≡ self.now.children }
-    {
+    fn iter(&self) -> ChildIter<'_, K, V, PREFIX_LEN> {
         ChildIter::over_sorted(&self.keys, &self.child_pointers)
     }
 
-    fn range(&self, start: Bound<u8>, end: Bound<u8>) -> ChildIter<'_, K, V, PREFIX_LEN>
-        requires { AreValidBounds start end }
-        ensures { result ≡ pairs_within self.now.children start end }
-    {
+    fn range(&self, start: Bound<u8>, end: Bound<u8>) -> ChildIter<'_, K, V, PREFIX_LEN> {
         ChildIter::over_sorted_range(&self.keys, &self.child_pointers, start, end)
     }
 
@@ -236,6 +239,7 @@ impl<K, V, const PREFIX_LEN: usize, const SIZE: usize> InnerNodeCommon<K, V, PRE
         let last = self.keys.len() - 1;
         (self.keys[last], self.child_pointers[last])
     }
+
     fn optimistic_match_prefix(
         &self,
         truncated_key: &[u8],

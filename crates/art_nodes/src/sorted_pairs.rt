@@ -3,38 +3,36 @@ ghost use Rattle.std.specs.Prelude.{◌≡◌, length, count_by, nat_lt};
 ghost use Rattle.std.specs.Iterator.{YieldsFirst, YieldsLast};
 ghost use Rattle.art_nodes.specs.Inner.{sorted_children};
 
-use crate::pointers::OpaqueNodePtr;
 use std::marker::Model;
 
 /// Bytes, each with the child beside it.
 #[derive(Drop)]
-pub(crate) struct SortedPairs<'a, K, V, const PREFIX_LEN: usize> {
+pub(crate) struct SortedPairs<'a, H> {
     keys: &'a [u8],
-    children: &'a [OpaqueNodePtr<K, V, PREFIX_LEN>],
+    children: &'a [H],
 }
 
-impl<'a, K, V, const PREFIX_LEN: usize> Model for SortedPairs<'a, K, V, PREFIX_LEN> {
+impl<'a, H> Model for SortedPairs<'a, H> {
     ghost use Rattle.std.specs.Prelude.{◌≡◌, length};
-    ghost use Rattle.art_nodes.specs.declared.pointers.OpaqueNodePtr.{OpaqueNodePtr};
     ghost use Rattle.art_nodes.specs.ChildMap.{ChildMap};
     ghost use Rattle.art_nodes.specs.Inner.{sorted_children};
 
-    ghost Value = { ChildMap (OpaqueNodePtr K V PREFIX_LEN) };
+    ghost Value = { ChildMap H };
 
     ghost view = { λ p. sorted_children p.keys.now p.children.now };
 
     ghost invariant = { λ p. length p.children.now ≡ length p.keys.now };
 }
 
-impl<'a, K, V, const PREFIX_LEN: usize> SortedPairs<'a, K, V, PREFIX_LEN> {
-    pub(crate) fn new(keys: &'a [u8], children: &'a [OpaqueNodePtr<K, V, PREFIX_LEN>]) -> Self
+impl<'a, H: Copy> SortedPairs<'a, H> {
+    pub(crate) fn new(keys: &'a [u8], children: &'a [H]) -> Self
         requires { length children.now ≡ length keys.now }
         ensures { result ≡ sorted_children keys.now children.now }
     {
         SortedPairs { keys, children }
     }
 
-    pub(crate) fn next(&mut self) -> Option<(u8, OpaqueNodePtr<K, V, PREFIX_LEN>)>
+    pub(crate) fn next(&mut self) -> Option<(u8, H)>
         ensures { YieldsFirst (λ pairs. pairs) self.old result self.new }
     {
         let (key, keys) = self.keys.split_first()?;
@@ -44,7 +42,7 @@ impl<'a, K, V, const PREFIX_LEN: usize> SortedPairs<'a, K, V, PREFIX_LEN> {
         Some((*key, child))
     }
 
-    pub(crate) fn next_back(&mut self) -> Option<(u8, OpaqueNodePtr<K, V, PREFIX_LEN>)>
+    pub(crate) fn next_back(&mut self) -> Option<(u8, H)>
         ensures { YieldsLast (λ pairs. pairs) self.old result self.new }
     {
         let (key, keys) = self.keys.split_last()?;

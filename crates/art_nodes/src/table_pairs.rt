@@ -3,41 +3,36 @@ ghost use Rattle.std.specs.Prelude.{◌≡◌, ◌+◌, ◌<◌, ◌≤◌, ℕ,
 ghost use Rattle.std.specs.Iterator.{YieldsFirst, YieldsLast};
 ghost use Rattle.art_nodes.specs.ChildMap.{table_children};
 
-use crate::pointers::OpaqueNodePtr;
 use std::marker::Model;
 
 /// Places, each for the byte after that of the place before it, with the children in them.
 #[derive(Drop)]
-pub(crate) struct TablePairs<'a, K, V, const PREFIX_LEN: usize> {
-    places: &'a [Option<OpaqueNodePtr<K, V, PREFIX_LEN>>],
+pub(crate) struct TablePairs<'a, H> {
+    places: &'a [Option<H>],
     // The byte of the first place.
     byte: usize,
 }
 
-impl<'a, K, V, const PREFIX_LEN: usize> Model for TablePairs<'a, K, V, PREFIX_LEN> {
+impl<'a, H> Model for TablePairs<'a, H> {
     ghost use Rattle.std.specs.Prelude.{◌≤◌, ◌+◌, length};
-    ghost use Rattle.art_nodes.specs.declared.pointers.OpaqueNodePtr.{OpaqueNodePtr};
     ghost use Rattle.art_nodes.specs.ChildMap.{ChildMap, table_children};
 
-    ghost Value = { ChildMap (OpaqueNodePtr K V PREFIX_LEN) };
+    ghost Value = { ChildMap H };
 
     ghost view = { λ p. table_children p.byte p.places.now };
 
     ghost invariant = { λ p. p.byte + length p.places.now ≤ 256 };
 }
 
-impl<'a, K, V, const PREFIX_LEN: usize> TablePairs<'a, K, V, PREFIX_LEN> {
-    pub(crate) fn new(
-        byte: usize,
-        places: &'a [Option<OpaqueNodePtr<K, V, PREFIX_LEN>>],
-    ) -> Self
+impl<'a, H: Copy> TablePairs<'a, H> {
+    pub(crate) fn new(byte: usize, places: &'a [Option<H>]) -> Self
         requires { byte + length places.now ≤ 256 }
         ensures { result ≡ table_children byte places.now }
     {
         TablePairs { places, byte }
     }
 
-    pub(crate) fn next(&mut self) -> Option<(u8, OpaqueNodePtr<K, V, PREFIX_LEN>)>
+    pub(crate) fn next(&mut self) -> Option<(u8, H)>
         ensures { YieldsFirst (λ pairs. pairs) self.old result self.new }
     {
         let (place, child) = first_occupied(self.places)?;
@@ -47,7 +42,7 @@ impl<'a, K, V, const PREFIX_LEN: usize> TablePairs<'a, K, V, PREFIX_LEN> {
         Some((byte as u8, child))
     }
 
-    pub(crate) fn next_back(&mut self) -> Option<(u8, OpaqueNodePtr<K, V, PREFIX_LEN>)>
+    pub(crate) fn next_back(&mut self) -> Option<(u8, H)>
         ensures { YieldsLast (λ pairs. pairs) self.old result self.new }
     {
         let (place, child) = last_occupied(self.places)?;

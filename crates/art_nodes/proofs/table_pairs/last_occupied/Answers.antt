@@ -23,7 +23,7 @@ loop-end-preserved g c =
     record {
       in_range = omega arith;
       empty_behind = λ byte.
-        c.loop-end.invariant.empty_behind byte
-        ∙ ap (λ n. table_children byte (take n places)) next
-        ∙ table-drop_empty byte places place None within (get_or_default places place None _ within ∙ c.in_default.is);
+          c.loop-end.invariant.empty_behind byte
+          ∙ ap (λ n. table_children byte (take n places)) next
+          ∙ table-drop_empty byte places place None within (get_or_default places place None _ within ∙ c.in_default.is);
     }

@@ -1,4 +1,4 @@
-use Rattle.std.proofs.Common.{rules, refl, ◌≡◌, ◌+◌, ◌<◌, length, sym, ap, ◌∙◌, arith, true, false}
+use Rattle.std.proofs.Common.{rules, refl, ◌≡◌, ◌+◌, sym, ◌∙◌, arith, true, false}
 use Rattle.std.proofs.lemmas.List.{length-set}
 use Rattle.art_nodes.proofs.TableLemmas.{child_at-table, without_child-table, length-table_emptied}
 use Rattle.art_nodes.proofs.inner_node_direct.InnerNodeDirectInnerNodeCommon.remove_child.Goals as goal
@@ -14,12 +14,12 @@ invariant_of-self g c =
     let table = c.self.inside.child_pointers in
     elim c.if-is_some.branch [
       | then-is_some w ↦
-        let count = length-table_emptied table c.from-place.result true (omega arith) (sym c.is_some.ensures ∙ w.if-is_some.true) in
-        let header = w.dec_num_children.ensures in
-        rw w.self-inside-is (simp length-set (omega arith), rw header (omega (arith, count)))
+          let count = length-table_emptied table c.from-place.result true (omega arith) (sym c.is_some.ensures ∙ w.if-is_some.true) in
+          let header = w.dec_num_children.ensures in
+          rw w.self-inside-is (simp length-set (omega arith), rw header (omega (arith, count)))
       | else-is_some w ↦
-        let count = length-table_emptied table c.from-place.result false (omega arith) (sym c.is_some.ensures ∙ w.if-is_some.false) in
-        rw w.self-inside-is (simp length-set (omega arith), omega (arith, count))
+          let count = length-table_emptied table c.from-place.result false (omega arith) (sym c.is_some.ensures ∙ w.if-is_some.false) in
+          rw w.self-inside-is (simp length-set (omega arith), omega (arith, count))
     ]
 
 pub returns-clause-child : goal.returns-clause-child

@@ -1,4 +1,4 @@
-use Rattle.std.proofs.Common.{rules, ◌≡◌, refl, ℕ, ◌+◌, ◌<◌, ◌≤◌, length, sym, ap, ◌∙◌, arith, not, true, false}
+use Rattle.std.proofs.Common.{rules, ◌≡◌, refl, ◌+◌, ◌<◌, length, ap, ◌∙◌, arith, not, true, false}
 use Rattle.std.proofs.lemmas.List.{length-set}
 use Rattle.art_nodes.proofs.TableLemmas.{length-table, with_child-table, length-table_filled}
 use Rattle.art_nodes.proofs.inner_node_direct.InnerNodeDirectInnerNodeCommon.write_child.Goals as goal
@@ -14,12 +14,12 @@ invariant_of-self g c =
     let within : c.from-place.result < length table = omega arith in
     elim c.if-is_none.branch [
       | then-is_none w ↦
-        let count = length-table_filled table c.from-place.result c.args.child_pointer false within (omega arith) (c.is_none.ensures ∙ ap not w.if-is_none.true) in
-        let header = w.inc_num_children.ensures in
-        rw w.self-inside-is (simp length-set (omega arith), rw header (omega (arith, count)))
+          let count = length-table_filled table c.from-place.result c.args.child_pointer false within (omega arith) (c.is_none.ensures ∙ ap not w.if-is_none.true) in
+          let header = w.inc_num_children.ensures in
+          rw w.self-inside-is (simp length-set (omega arith), rw header (omega (arith, count)))
       | else-is_none w ↦
-        let count = length-table_filled table c.from-place.result c.args.child_pointer true within (omega arith) (c.is_none.ensures ∙ ap not w.if-is_none.false) in
-        rw w.self-inside-is (simp length-set (omega arith), omega (arith, count))
+          let count = length-table_filled table c.from-place.result c.args.child_pointer true within (omega arith) (c.is_none.ensures ∙ ap not w.if-is_none.false) in
+          rw w.self-inside-is (simp length-set (omega arith), omega (arith, count))
     ]
 
 pub returns : goal.returns

@@ -1,15 +1,15 @@
-use Rattle.std.proofs.Common.{◌≡◌, ◌≤◌, length, sym, ◌∙◌, ap, arith}
-use Rattle.art_nodes.specs.ChildMap.{table_children, pairs_within}
-use Rattle.art_nodes.specs.PairSources.{first_byte, end_byte, pairs_between}
+use Rattle.std.proofs.Common.{◌≤◌, length, sym, ◌∙◌, ap, arith}
+use Rattle.art_nodes.specs.ChildMap.{table_children}
+use Rattle.art_nodes.specs.PairSources.{first_byte, pairs_between}
 use Rattle.art_nodes.proofs.RangeLemmas.{within-between, table-between}
 use Rattle.art_nodes.proofs.TableLemmas.{above-table}
-use Rattle.art_nodes.proofs.child_iter.ChildIter.over_table_range.Goals as goal
+use Rattle.art_nodes.proofs.child_iter.PairIter.over_table_range.Goals as goal
 
 pub returns : goal.returns
 returns g c =
     let places = c.args.places.now in
     let bytes = c.byte_range-bytes in
-    let fits : length places ≤ 256 = omega (arith, c.told-places) in
+    let fits : length places ≤ 256 = omega (arith, c.type_inv.places) in
     c.new.ensures
     ∙ table-between bytes.result.start bytes.result.end places bytes.ensures.ordered fits
     ∙ ap (λ n. pairs_between (table_children 0 places) n bytes.result.end) bytes.ensures.first

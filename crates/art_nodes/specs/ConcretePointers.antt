@@ -1,0 +1,49 @@
+-- Pointers by kind, and the kind and slab key that they stand for.
+use Rattle.std.specs.Prelude.{ℕ}
+use Rattle.art_header.specs.declared.node_type.NodeType.{NodeType}
+use Rattle.art_header.specs.declared.node_type.NodeType.TheVariants as kinds
+use Rattle.art_nodes.specs.Pointers.{slab_key, node_kind, opaque_key}
+use Rattle.art_nodes.specs.declared.pointers.NodePtr.{NodePtr}
+use Rattle.art_nodes.specs.declared.pointers.OpaqueNodePtr.{OpaqueNodePtr}
+use Rattle.art_nodes.specs.declared.concrete.ConcreteNodePtr.{ConcreteNodePtr}
+use Rattle.art_nodes.specs.declared.concrete.ConcreteNodePtr.TheVariants.{Node4, Node16, Node48, Node256, LeafNode}
+use Rattle.art_nodes.specs.declared.concrete.ConcreteInnerNodePtr.{ConcreteInnerNodePtr}
+use Rattle.art_nodes.specs.declared.concrete.ConcreteInnerNodePtr.TheVariants as inner
+
+-- the pointer to a node of one type under a slab key
+abbrev pub pointer_to : {P : ℕ} {N : Type 0} → ℕ → NodePtr P N
+pointer_to key = record { key = key; node = record {} }
+
+module _ {K V : Type 0} {P : ℕ} where
+  -- the pointer with this kind and slab key
+  abbrev pub opaque_pointer : NodeType → ℕ → OpaqueNodePtr K V P
+  opaque_pointer kind key = record { node_type = kind; key = key; leaf = record {} }
+
+  -- the kind and slab key of a pointer by kind
+  abbrev pub opaque_of : ConcreteNodePtr K V P → OpaqueNodePtr K V P
+  opaque_of (Node4 pointer) = opaque_pointer kinds.Node4 (slab_key pointer)
+  opaque_of (Node16 pointer) = opaque_pointer kinds.Node16 (slab_key pointer)
+  opaque_of (Node48 pointer) = opaque_pointer kinds.Node48 (slab_key pointer)
+  opaque_of (Node256 pointer) = opaque_pointer kinds.Node256 (slab_key pointer)
+  opaque_of (LeafNode pointer) = opaque_pointer kinds.Leaf (slab_key pointer)
+
+  -- the pointer by kind with a kind and a slab key
+  abbrev pub concrete_pointer : NodeType → ℕ → ConcreteNodePtr K V P
+  concrete_pointer kinds.Node4 key = Node4 (pointer_to key)
+  concrete_pointer kinds.Node16 key = Node16 (pointer_to key)
+  concrete_pointer kinds.Node48 key = Node48 (pointer_to key)
+  concrete_pointer kinds.Node256 key = Node256 (pointer_to key)
+  concrete_pointer kinds.Leaf key = LeafNode (pointer_to key)
+
+  abbrev pub concrete_of : OpaqueNodePtr K V P → ConcreteNodePtr K V P
+  concrete_of pointer = concrete_pointer (node_kind pointer) (opaque_key pointer)
+
+  -- a pointer to an inner node is one to a node
+  abbrev pub any_of_inner : ConcreteInnerNodePtr K V P → ConcreteNodePtr K V P
+  any_of_inner (inner.Node4 pointer) = Node4 pointer
+  any_of_inner (inner.Node16 pointer) = Node16 pointer
+  any_of_inner (inner.Node48 pointer) = Node48 pointer
+  any_of_inner (inner.Node256 pointer) = Node256 pointer
+
+  abbrev pub opaque_of_inner : ConcreteInnerNodePtr K V P → OpaqueNodePtr K V P
+  opaque_of_inner pointer = opaque_of (any_of_inner pointer)
