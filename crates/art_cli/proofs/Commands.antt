@@ -2,7 +2,7 @@
 use Rattle.std.proofs.Common.{◌≡◌, ℕ, List, [], ◌∷◌, ◌++◌, length, refl, arith, append_assoc, append-nil}
 use Rattle.std.specs.Prelude.{Bool, true, false}
 use Rattle.art_nodes.specs.declared.command.ChildCommand.{ChildCommand}
-use Rattle.art_cli.specs.Line.{words_of, lines_of, SayCommand, SayCommands}
+use Rattle.art_cli.specs.Line.{words_of, lines_of, SayCommand, SayCommands, SayNothing}
 
 module _ {K V : Type 0} {P : ℕ} where
   -- before the first line
@@ -18,9 +18,9 @@ module _ {K V : Type 0} {P : ℕ} where
         rw (pushed, append_assoc) (so_far (command ∷ more) is_whole this)
 
     -- a bad line
-    pub say_bad : (line after : List ℕ) → lines_of rest ≡ line ∷ lines_of after → SayCommands all items false
-    say_bad line after cut =
-        let this : SayCommands (lines_of rest) [] false = rw cut refl in
+    pub say_bad : (line after : List ℕ) → lines_of rest ≡ line ∷ lines_of after → SayNothing (words_of line) → SayCommands all items false
+    say_bad line after cut nothing =
+        let this : SayCommands (lines_of rest) [] false = rw cut (refl, nothing) in
         let all_said : SayCommands all (items ++ []) false = so_far [] false this in
         rw append-nil at all_said
 

@@ -1,5 +1,5 @@
 -- What the lines of the input say.
-use Rattle.std.specs.Prelude.{◌≡◌, ℕ, ◌^◌, ◌<◌, ◌≤◌, ◌==◌, List, All, [], ◌∷◌, Bool, false, IsTrue, codes, length, if◌then◌else◌}
+use Rattle.std.specs.Prelude.{◌≡◌, ℕ, ◌^◌, ◌<◌, ◌≤◌, ◌==◌, List, All, [], ◌∷◌, ◌⊎◌, Bool, false, IsTrue, codes, length, if◌then◌else◌}
 use Rattle.std.specs.List.{slice_split}
 use Rattle.std.specs.Int.{IsInRange}
 use Rattle.std.specs.Str.Parse.{digits_value}
@@ -54,9 +54,18 @@ module _ {K V : Type 0} {P : ℕ} where
   SayCommand words Max = words ≡ codes "max" ∷ []
   SayCommand words (Range start end) = (low high : List ℕ) × (words ≡ codes "range" ∷ low ∷ high ∷ []) × IsBound low start × IsBound high end
 
-  -- lines and their commands, one a line, up to the first bad line where there is one
+-- words that say no command
+abbrev pub SayNothing : List (List ℕ) → Type 0
+SayNothing words = (command : ChildCommand (Unit {0}) (Unit {0}) 16) → SayCommand words command → ⊥
+
+-- the name of a command
+abbrev pub IsName : List ℕ → Type 0
+IsName word = (word ≡ codes "w") ⊎ (word ≡ codes "r") ⊎ (word ≡ codes "l") ⊎ (word ≡ codes "min") ⊎ (word ≡ codes "max") ⊎ (word ≡ codes "range")
+
+module _ {K V : Type 0} {P : ℕ} where
+  -- lines and their commands, one a line, up to a line that says none where they are not the whole
   abbrev pub SayCommands : List (List ℕ) → List (ChildCommand K V P) → Bool → Type 0
   SayCommands [] [] is_whole = IsTrue is_whole
   SayCommands (line ∷ lines) (command ∷ commands) is_whole = SayCommand (words_of line) command × SayCommands lines commands is_whole
-  SayCommands (line ∷ lines) [] is_whole = is_whole ≡ false
+  SayCommands (line ∷ lines) [] is_whole = (is_whole ≡ false) × SayNothing (words_of line)
   SayCommands [] (command ∷ commands) is_whole = ⊥

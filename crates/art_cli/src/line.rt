@@ -1,7 +1,8 @@
 //! From lines to commands.
-ghost use Rattle.std.specs.Prelude.{◌≡◌, ◌==◌, ℕ, ◌<◌, ◌↔◌, length, position, [], ◌∷◌, MatchOption, OnErr, All, IsTrue, IfOk, is_none, IfSome, IfNone};
+ghost use Rattle.std.specs.Prelude.{◌≡◌, ◌==◌, ℕ, ◌<◌, ◌↔◌, length, position, [], ◌∷◌, MatchOption, OnErr, IfErr, All, IsTrue, IfOk, is_none, IfSome, IfNone};
 ghost use Rattle.std.specs.Int.{IsInRange};
-ghost use Rattle.art_cli.specs.Line.{IsNumber, IsByte, IsKey, IsBound, SayCommand, SayCommands, words_of, lines_of};
+ghost use Rattle.std.specs.declared.ops.Bound.{Bound};
+ghost use Rattle.art_cli.specs.Line.{IsNumber, IsByte, IsKey, IsBound, SayCommand, SayCommands, SayNothing, IsName, words_of, lines_of};
 ghost use Rattle.art_cli.specs.Words.{AreWords};
 
 use crate::failure::LineFault;
@@ -35,24 +36,33 @@ pub fn parse(alloc: Global, input: &[u8]) -> Result<(Vec<Command>, Option<LineFa
 // The command of a line, without the byte that ends it.
 fn command(line: &[u8]) -> Result<Command, LineFault>
     ensures said { IfOk result (SayCommand (words_of line.now)) }
+    ensures refused { OnErr result (SayNothing (words_of line.now)) }
 {
     match split_words(line) {
-        Words::One(b"min") => Ok(ChildCommand::Min),
-        Words::One(b"max") => Ok(ChildCommand::Max),
-        Words::Two(b"r", byte) => Ok(ChildCommand::Remove(byte_number(byte)?)),
-        Words::Two(b"l", byte) => Ok(ChildCommand::Lookup(byte_number(byte)?)),
-        Words::Three(b"w", byte, key) => {
-            Ok(ChildCommand::Write(byte_number(byte)?, child_of(key_number(key)?)))
-        }
-        Words::Three(b"range", start, end) => Ok(ChildCommand::Range(bound(start)?, bound(end)?)),
-        Words::One(name) | Words::Two(name, _) | Words::Three(name, _, _) | Words::More(name) => {
-            Err(fault_of_count(name))
-        }
+        Words::One(name) => match name {
+            b"min" => Ok(ChildCommand::Min),
+            b"max" => Ok(ChildCommand::Max),
+            _ => Err(fault_of_count(name)),
+        },
+        Words::Two(name, byte) => match name {
+            b"r" => Ok(ChildCommand::Remove(byte_number(byte)?)),
+            b"l" => Ok(ChildCommand::Lookup(byte_number(byte)?)),
+            _ => Err(fault_of_count(name)),
+        },
+        Words::Three(name, first, second) => match name {
+            b"w" => Ok(ChildCommand::Write(byte_number(first)?, child_of(key_number(second)?))),
+            b"range" => Ok(ChildCommand::Range(bound(first)?, bound(second)?)),
+            _ => Err(fault_of_count(name)),
+        },
+        Words::More(name) => Err(fault_of_count(name)),
     }
 }
 
-// What is wrong with a line of this first word and some number of words that no command takes.
-fn fault_of_count(name: &[u8]) -> LineFault {
+// What is wrong with a line of this first word and a number of words that it does not take.
+fn fault_of_count(name: &[u8]) -> LineFault
+    ensures known { result ≡ LineFault.WrongNumberOfWords → IsName name.now }
+    ensures unknown { result ≡ LineFault.UnknownCommand → ¬ (IsName name.now) }
+{
     match name {
         b"w" | b"r" | b"l" | b"min" | b"max" | b"range" => LineFault::WrongNumberOfWords,
         _ => LineFault::UnknownCommand,
@@ -122,6 +132,7 @@ fn end_of_part(bytes: &[u8], end: u8) -> Option<usize>
 // A bound: `i` and a byte's number, which is included, `e` and one, which is excluded, or `u`.
 fn bound(word: &[u8]) -> Result<Bound<u8>, LineFault>
     ensures said { IfOk result (IsBound word.now) }
+    ensures refused { OnErr result ((bound : Bound ℕ) → ¬ (IsBound word.now bound)) }
 {
     match word {
         [b'i', digits @ ..] => Ok(Bound::Included(byte_number(digits)?)),
@@ -134,6 +145,7 @@ fn bound(word: &[u8]) -> Result<Bound<u8>, LineFault>
 fn byte_number(word: &[u8]) -> Result<u8, LineFault>
     ensures said { IfOk result (IsByte word.now) }
     ensures refused { OnErr result ((n : ℕ) → ¬ (IsByte word.now n)) }
+    ensures fault { IfErr result (λ fault. fault ≡ LineFault.BadNumber) }
 {
     number(word)
         .and_then(|number| u8::try_from(number).ok())
@@ -143,6 +155,7 @@ fn byte_number(word: &[u8]) -> Result<u8, LineFault>
 fn key_number(word: &[u8]) -> Result<u32, LineFault>
     ensures said { IfOk result (IsKey word.now) }
     ensures refused { OnErr result ((n : ℕ) → ¬ (IsKey word.now n)) }
+    ensures fault { IfErr result (λ fault. fault ≡ LineFault.BadNumber) }
 {
     number(word)
         .and_then(|number| u32::try_from(number).ok())

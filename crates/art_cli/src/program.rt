@@ -1,9 +1,9 @@
 //! The program over any reader and writers.
-ghost use Rattle.std.specs.Prelude.{◌≡◌, ◌≢◌, ◌≤◌, ◌↔◌, [], length, IsTrue, IfOk, OnOk, IfSome, string_bytes};
+ghost use Rattle.std.specs.Prelude.{◌≡◌, ◌≢◌, ◌≤◌, ◌↔◌, [], length, IsTrue, IfOk, IfErr, OnOk, IfSome, string_bytes};
 ghost use Rattle.std.specs.Io.KnownBytes.{Keeps, Appends};
 ghost use Rattle.art_nodes.specs.Commands.{run_of, distinct_writes_of};
 ghost use Rattle.art_cli.specs.Text.{output_of};
-ghost use Rattle.art_cli.specs.Program.{IsReplay, IsOutput, Prints};
+ghost use Rattle.art_cli.specs.Program.{IsReplay, IsOutput, IsFailure, HasBadLine, Prints};
 
 use crate::failure::Failure;
 use crate::leaf::Command;
@@ -22,6 +22,7 @@ use std::io::{Read, Write};
 /// to `errors`: bad words or a bad line with status 2, before anything is written to `output`;
 /// want of memory or a failed device with status 1, when a beginning of the output may have gone
 /// out. Whether that line could be written changes nothing.
+#[tactic(auto, using(crate::proofs::Failures::bad_line))]
 pub fn run<R: Read, W: Write, E: Write>(
     alloc: Global,
     words: &[String],
@@ -33,6 +34,7 @@ pub fn run<R: Read, W: Write, E: Write>(
     ensures usage { result ≢ 2 → IsReplay words.now }
     ensures answers { result ≡ 0 → IfSome (R.remaining input.old)
         (λ given. Prints given (W.contents output.old) (W.contents output.new)) }
+    ensures refused { result ≡ 2 → IsReplay words.now → IfSome (R.remaining input.old) HasBadLine }
 
     ensures bad_input_prints_nothing { result ≡ 2 → Keeps (W.contents output.old) (W.contents output.new) }
     ensures success_is_quiet { result ≡ 0 → Keeps (E.contents errors.old) (E.contents errors.new) }
@@ -50,6 +52,8 @@ pub fn run<R: Read, W: Write, E: Write>(
 // The whole output.
 fn answer<R: Read>(alloc: Global, words: &[String], input: &mut R) -> Result<String, Failure>
     ensures usage { result ≢ Err Failure.Usage → IsReplay words.now }
+    ensures refused { IfErr result (λ failure. IsReplay words.now → IfSome (R.remaining input.old)
+        (λ given. IsFailure given failure)) }
     ensures text { IfOk result (λ text. IfSome (R.remaining input.old) (λ given. IsOutput given (string_bytes text))) }
 {
     if !is_replay(words) {
@@ -77,7 +81,8 @@ fn is_text(word: &String, text: &str) -> bool
 
 // What the commands of this input are answered. The input is let go before the replies come.
 fn replay_text(alloc: Global, input: Vec<u8>) -> Result<String, Failure>
-    ensures { IfOk result (λ text. IsOutput input.items (string_bytes text)) }
+    ensures text { IfOk result (λ text. IsOutput input.items (string_bytes text)) }
+    ensures refused { IfErr result (IsFailure input.items) }
 {
     let (commands, fault) = parse(alloc, &input)?;
     drop(input);

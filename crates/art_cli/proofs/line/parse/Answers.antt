@@ -9,7 +9,7 @@ loop-rest-init c more is_whole said =
 
 pub returns-in-Err : goal.returns-in-Err
 returns-in-Err c =
-    say_bad (lines_of c.args.input.now) c.loop-rest.commands.items c.loop-rest.rest.now c.loop-rest.invariant c.first_line.result.0.now c.first_line.result.1.now c.first_line.ensures.lines
+    say_bad (lines_of c.args.input.now) c.loop-rest.commands.items c.loop-rest.rest.now c.loop-rest.invariant c.first_line.result.0.now c.first_line.result.1.now c.first_line.ensures.lines c.in-Err.ensures.refused
 
 pub loop-rest-preserved : goal.loop-rest-preserved
 loop-rest-preserved c more is_whole said =
