@@ -5,10 +5,10 @@ ghost use Rattle.art_nodes.specs.AnyInner.{inner_of, kind_of};
 ghost use Rattle.art_nodes.specs.ChildMap.{child_at, with_child, without_child, first_pair, last_pair, pairs_within, AreValidBounds};
 ghost use Rattle.art_nodes.specs.Inner.{HasRoomFor, IsInner, header_of, with_children};
 
+use crate::inner_node::InnerNode;
 use crate::inner_node_direct::InnerNodeDirect;
 use crate::inner_node_indirect::InnerNode48;
 use crate::inner_node_sorted::{InnerNode4, InnerNode16};
-use crate::inner_node::InnerNode;
 use crate::node::InnerNodeCommon;
 use crate::pointers::OpaqueNodePtr;
 use art_header::{Header, NodeType};

@@ -117,3 +117,49 @@ fn answers_each_step_and_moves_between_kinds(rt: HostRuntime) -> Result<(), Fail
     }
     Ok(())
 }
+
+// The kind and the number of children that these commands leave.
+fn left_by(
+    rt: &(impl Abort + AllocGlobal),
+    commands: &[Command],
+) -> Result<(NodeType, usize), Fail> {
+    let (_, node) = run(rt, commands)?;
+    Ok((node.node_type(), node.num_children()))
+}
+
+#[test]
+fn grows_to_256_children_and_shrinks_again(rt: HostRuntime) -> Result<(), Fail> {
+    let mut commands = Vec::new(rt.alloc());
+    for byte in 0..=255u8 {
+        commands.push(Command::Write(byte, leaf(usize::from(byte))))?;
+    }
+    assert_eq!(rt; left_by(&rt, &commands)?, (NodeType::Node256, 256));
+    commands.push(Command::Write(255, leaf(1000)))?;
+    let (replies, node) = run(&rt, &commands)?;
+    assert!(rt; replies.last() == Some(&Reply::Child(Some(leaf(255)))));
+    assert_eq!(rt; node.node_type(), NodeType::Node256);
+    assert_eq!(rt; node.num_children(), 256);
+    for byte in 0..=207u8 {
+        commands.push(Command::Remove(byte))?;
+    }
+    assert_eq!(rt; left_by(&rt, &commands)?, (NodeType::Node48, 48));
+    commands.push(Command::Remove(208))?;
+    assert_eq!(rt; left_by(&rt, &commands)?, (NodeType::Node48, 47));
+    for byte in 209..=255u8 {
+        commands.push(Command::Remove(byte))?;
+    }
+    assert_eq!(rt; left_by(&rt, &commands)?, (NodeType::Node4, 0));
+    Ok(())
+}
+
+#[test]
+fn starts_empty_whatever_the_count(rt: HostRuntime) -> Result<(), Fail> {
+    let mut header = Header::<2>::new(b"abc", 3);
+    header.inc_num_children();
+    let (replies, node) = replay(rt.alloc(), header, &[] as &[Command])?;
+    assert!(rt; replies.is_empty());
+    assert_eq!(rt; node.num_children(), 0);
+    assert_eq!(rt; node.header().prefix_len(), 3);
+    assert_eq!(rt; node.header().read_prefix(), b"ab".as_slice());
+    Ok(())
+}
