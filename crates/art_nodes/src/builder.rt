@@ -166,8 +166,13 @@ impl<K, V, const PREFIX_LEN: usize, N: InnerNodeCommon<K, V, PREFIX_LEN>> InnerN
     }
 }
 
-impl<K, V, const PREFIX_LEN: usize>
-    InnerNodeBuilder<K, V, PREFIX_LEN, InnerNode4<K, V, PREFIX_LEN>, NoChild> {
+impl<K, V, const PREFIX_LEN: usize> InnerNodeBuilder<
+    K,
+    V,
+    PREFIX_LEN,
+    InnerNode4<K, V, PREFIX_LEN>,
+    NoChild,
+> {
     /// Writes the first child without a search.
     pub fn write_child_unchecked(
         mut self,
@@ -186,8 +191,13 @@ impl<K, V, const PREFIX_LEN: usize>
     }
 }
 
-impl<K, V, const PREFIX_LEN: usize>
-    InnerNodeBuilder<K, V, PREFIX_LEN, InnerNode4<K, V, PREFIX_LEN>, HasOneChild> {
+impl<K, V, const PREFIX_LEN: usize> InnerNodeBuilder<
+    K,
+    V,
+    PREFIX_LEN,
+    InnerNode4<K, V, PREFIX_LEN>,
+    HasOneChild,
+> {
     /// Writes the second child without a search, under a byte above the first one's. The node has to
     /// have room for it.
     pub fn write_child_unchecked(
@@ -207,8 +217,13 @@ impl<K, V, const PREFIX_LEN: usize>
     }
 }
 
-impl<K, V, const PREFIX_LEN: usize>
-    InnerNodeBuilder<K, V, PREFIX_LEN, InnerNode4<K, V, PREFIX_LEN>, HasChild> {
+impl<K, V, const PREFIX_LEN: usize> InnerNodeBuilder<
+    K,
+    V,
+    PREFIX_LEN,
+    InnerNode4<K, V, PREFIX_LEN>,
+    HasChild,
+> {
     /// Writes one child more without a search, under a byte above every byte there. The node has to
     /// have room for it.
     pub fn write_child_unchecked(

@@ -44,11 +44,26 @@ impl<K, V, const PREFIX_LEN: usize> ConcreteNodePtr<K, V, PREFIX_LEN> {
         ensures undone { concrete_of result ≡ self }
     {
         match self {
-            ConcreteNodePtr::Node4(pointer) => OpaqueNodePtr::of_kind(NodeType::Node4, pointer.key()),
-            ConcreteNodePtr::Node16(pointer) => OpaqueNodePtr::of_kind(NodeType::Node16, pointer.key()),
-            ConcreteNodePtr::Node48(pointer) => OpaqueNodePtr::of_kind(NodeType::Node48, pointer.key()),
-            ConcreteNodePtr::Node256(pointer) => OpaqueNodePtr::of_kind(NodeType::Node256, pointer.key()),
-            ConcreteNodePtr::LeafNode(pointer) => OpaqueNodePtr::of_kind(NodeType::Leaf, pointer.key()),
+            ConcreteNodePtr::Node4(pointer) => OpaqueNodePtr::of_kind(
+                NodeType::Node4,
+                pointer.key(),
+            ),
+            ConcreteNodePtr::Node16(pointer) => OpaqueNodePtr::of_kind(
+                NodeType::Node16,
+                pointer.key(),
+            ),
+            ConcreteNodePtr::Node48(pointer) => OpaqueNodePtr::of_kind(
+                NodeType::Node48,
+                pointer.key(),
+            ),
+            ConcreteNodePtr::Node256(pointer) => OpaqueNodePtr::of_kind(
+                NodeType::Node256,
+                pointer.key(),
+            ),
+            ConcreteNodePtr::LeafNode(pointer) => OpaqueNodePtr::of_kind(
+                NodeType::Leaf,
+                pointer.key(),
+            ),
         }
     }
 }
@@ -59,10 +74,22 @@ impl<K, V, const PREFIX_LEN: usize> ConcreteInnerNodePtr<K, V, PREFIX_LEN> {
         ensures { result ≡ opaque_of_inner self }
     {
         match self {
-            ConcreteInnerNodePtr::Node4(pointer) => OpaqueNodePtr::of_kind(NodeType::Node4, pointer.key()),
-            ConcreteInnerNodePtr::Node16(pointer) => OpaqueNodePtr::of_kind(NodeType::Node16, pointer.key()),
-            ConcreteInnerNodePtr::Node48(pointer) => OpaqueNodePtr::of_kind(NodeType::Node48, pointer.key()),
-            ConcreteInnerNodePtr::Node256(pointer) => OpaqueNodePtr::of_kind(NodeType::Node256, pointer.key()),
+            ConcreteInnerNodePtr::Node4(pointer) => OpaqueNodePtr::of_kind(
+                NodeType::Node4,
+                pointer.key(),
+            ),
+            ConcreteInnerNodePtr::Node16(pointer) => OpaqueNodePtr::of_kind(
+                NodeType::Node16,
+                pointer.key(),
+            ),
+            ConcreteInnerNodePtr::Node48(pointer) => OpaqueNodePtr::of_kind(
+                NodeType::Node48,
+                pointer.key(),
+            ),
+            ConcreteInnerNodePtr::Node256(pointer) => OpaqueNodePtr::of_kind(
+                NodeType::Node256,
+                pointer.key(),
+            ),
         }
     }
 }
