@@ -1,5 +1,8 @@
--- The exit status of a run that fails.
-use Rattle.std.specs.Prelude.{ℕ}
+-- What a run that fails tells, and its exit status.
+use Rattle.std.specs.Prelude.{ℕ, List, ◌++◌, codes}
+use Rattle.std.specs.Fmt.{decimal}
+use Rattle.art_cli.specs.declared.failure.LineFault.{LineFault}
+use Rattle.art_cli.specs.declared.failure.LineFault.TheVariants.{UnknownCommand, WrongNumberOfWords, BadNumber, TooManyBytes}
 use Rattle.art_cli.specs.declared.failure.Failure.{Failure}
 use Rattle.art_cli.specs.declared.failure.Failure.TheVariants.{Usage, BadLine, OutOfMemory, Device}
 
@@ -9,3 +12,17 @@ status_of Usage = 2
 status_of (BadLine number fault) = 2
 status_of OutOfMemory = 1
 status_of Device = 1
+
+-- what is wrong with a line
+abbrev pub fault_text : LineFault → List ℕ
+fault_text UnknownCommand = codes "unknown command"
+fault_text WrongNumberOfWords = codes "wrong number of words"
+fault_text BadNumber = codes "bad number"
+fault_text TooManyBytes = codes "too many bytes"
+
+-- why there is no answer
+abbrev pub failure_text : Failure → List ℕ
+failure_text Usage = codes "usage: artnodes replay | artnodes find 0|2|16"
+failure_text (BadLine number fault) = codes "line " ++ decimal number ++ codes ": " ++ fault_text fault
+failure_text OutOfMemory = codes "out of memory"
+failure_text Device = codes "device failed"

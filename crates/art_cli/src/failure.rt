@@ -19,6 +19,11 @@ pub enum LineFault {
 }
 
 impl fmt::Display for LineFault {
+    ghost use Rattle.std.specs.Prelude.{Some};
+    ghost use Rattle.art_cli.specs.Failure.{fault_text};
+
+    ghost output = { λ fault. Some (fault_text fault) };
+
     fn fmt<W: fmt::Write>(&self, f: &mut fmt::Formatter<W>) -> fmt::Result {
         match self {
             LineFault::UnknownCommand => write!(f, "unknown command"),
@@ -66,6 +71,11 @@ impl Failure {
 }
 
 impl fmt::Display for Failure {
+    ghost use Rattle.std.specs.Prelude.{Some};
+    ghost use Rattle.art_cli.specs.Failure.{failure_text};
+
+    ghost output = { λ failure. Some (failure_text failure) };
+
     fn fmt<W: fmt::Write>(&self, f: &mut fmt::Formatter<W>) -> fmt::Result {
         match self {
             Failure::Usage => write!(f, "usage: artnodes replay | artnodes find 0|2|16"),
@@ -97,9 +107,15 @@ impl<T: Drop> From<AllocFailed<T>> for Failure {
 }
 
 impl From<io::Error> for Failure {
+    ghost use Rattle.std.specs.Prelude.{◌≡◌, ◌≢◌};
+    ghost use Rattle.std.specs.IoError.{error_kind};
+    ghost use Rattle.std.specs.declared.io.ErrorKind.TheVariants.{OutOfMemory as MemoryKind};
     ghost use Rattle.art_cli.specs.Failure.{status_of};
+    ghost use Rattle.art_cli.specs.declared.failure.Failure.TheVariants.{OutOfMemory, Device};
 
-    ghost from_gives = { λ _ failure. status_of failure ≡ 1 };
+    ghost from_gives = { λ error failure. (status_of failure ≡ 1)
+        × (error_kind error ≡ MemoryKind → failure ≡ OutOfMemory)
+        × (error_kind error ≢ MemoryKind → failure ≡ Device) };
 
     fn from(error: io::Error) -> Failure {
         if error.kind() == io::ErrorKind::OutOfMemory {

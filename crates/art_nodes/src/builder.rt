@@ -239,3 +239,6 @@ impl<K, V, const PREFIX_LEN: usize> InnerNodeBuilder<
         self
     }
 }
+
+#[cfg(test)]
+mod tests;

@@ -115,3 +115,6 @@ pub(crate) fn match_stored<const PREFIX_LEN: usize>(
         })
     }
 }
+
+#[cfg(test)]
+mod tests;

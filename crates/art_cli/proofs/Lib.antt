@@ -1,0 +1,5 @@
+pub mod Commands
+pub mod Failures
+pub mod Numbers
+pub mod Parts
+pub mod Words
