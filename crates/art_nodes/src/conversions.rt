@@ -46,9 +46,9 @@ impl<'a, K, V, const PREFIX_LEN: usize, const SIZE: usize> From<
     ghost from_gives = { λ node direct. direct ≡ node.now };
 
     fn from(node: &'a InnerNodeIndirect<K, V, PREFIX_LEN, SIZE>) -> Self {
-        let mut direct = InnerNodeDirect::from_header(node.header().clone().unwrap());
-        copy_children(node, &mut direct);
-        direct
+        let mut grown = InnerNodeDirect::from_header(node.header().clone().unwrap());
+        copy_children(node, &mut grown);
+        grown
     }
 }
 
@@ -62,9 +62,9 @@ impl<K, V, const PREFIX_LEN: usize, const SIZE: usize> InnerNodeIndirect<K, V, P
         requires { length node.now.children ≤ indirect_room SIZE }
         ensures { result ≡ node.now }
     {
-        let mut indirect = Self::from_header(node.header().clone().unwrap());
-        copy_children(node, &mut indirect);
-        indirect
+        let mut shrunk = Self::from_header(node.header().clone().unwrap());
+        copy_children(node, &mut shrunk);
+        shrunk
     }
 
     /// The same node with an index for each byte. The children have to fit: at most `SIZE` of
@@ -89,9 +89,9 @@ impl<K, V, const PREFIX_LEN: usize, const SIZE: usize> InnerNodeSorted<K, V, PRE
         requires { length node.now.children ≤ SIZE }
         ensures { result ≡ node.now }
     {
-        let mut sorted = Self::from_header(node.header().clone().unwrap());
-        copy_children(node, &mut sorted);
-        sorted
+        let mut smaller = Self::from_header(node.header().clone().unwrap());
+        copy_children(node, &mut smaller);
+        smaller
     }
 
     /// The same node with its bytes sorted. The children have to fit: at most `SIZE` of them.

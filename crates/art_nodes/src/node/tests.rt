@@ -1,6 +1,5 @@
 //! What every kind of inner node does with its children.
 use super::*;
-use crate::inner_node::InnerNode;
 use crate::inner_node_direct::InnerNodeDirect;
 use crate::inner_node_indirect::InnerNode48;
 use crate::inner_node_sorted::{InnerNode4, InnerNode16};
@@ -8,17 +7,22 @@ use crate::leaf_node::LeafNode;
 use crate::pointers::NodePtr;
 use std::process::Abort;
 
-type Leaf = LeafNode<u8, u8, 16>;
+pub(crate) type Leaf = LeafNode<u8, u8, 16>;
 
-type Pointer = OpaqueNodePtr<u8, u8, 16>;
+pub(crate) type Pointer = OpaqueNodePtr<u8, u8, 16>;
 
 // The pointer to the leaf under a slab key.
-fn leaf(key: usize) -> Pointer {
+pub(crate) fn leaf(key: usize) -> Pointer {
     NodePtr::<16, Leaf>::from_key(key).to_opaque()
 }
 
 // A write of a new byte, which there has to be room for.
-fn write<N: InnerNodeCommon<u8, u8, 16>>(rt: &impl Abort, node: &mut N, byte: u8, child: Pointer) {
+pub(crate) fn write<N: InnerNodeCommon<u8, u8, 16>>(
+    rt: &impl Abort,
+    node: &mut N,
+    byte: u8,
+    child: Pointer,
+) {
     assert!(rt;
         node.header().num_children() < node.capacity(),
         "no room for {byte}"
@@ -27,7 +31,7 @@ fn write<N: InnerNodeCommon<u8, u8, 16>>(rt: &impl Abort, node: &mut N, byte: u8
 }
 
 // Bytes 0 to n - 1, where n is the capacity, each with the leaf under the key of its number.
-fn fill<N: InnerNodeCommon<u8, u8, 16>>(rt: &impl Abort, node: &mut N) {
+pub(crate) fn fill<N: InnerNodeCommon<u8, u8, 16>>(rt: &impl Abort, node: &mut N) {
     let last = (node.capacity() - node.capacity().min(1)).min(255) as u8;
     for byte in 0..=last {
         write(rt, node, byte, leaf(usize::from(byte)));
@@ -132,81 +136,4 @@ fn node48_keeps_children(rt: HostRuntime) {
 #[test]
 fn node256_keeps_children(rt: HostRuntime) {
     keeps_children::<InnerNodeDirect<u8, u8, 16>>(&rt, 256);
-}
-
-// A node with these bytes, each with the leaf under the key of its number.
-fn node_of<N: InnerNodeCommon<u8, u8, 16>>(rt: &impl Abort, bytes: &[u8]) -> N {
-    let mut node = N::from_prefix(b"front", 5);
-    for byte in bytes {
-        write(rt, &mut node, *byte, leaf(usize::from(*byte)));
-    }
-    node
-}
-
-// Each byte has its pointer, and the byte that is absent none.
-fn has<N: InnerNodeCommon<u8, u8, 16>>(rt: &impl Abort, node: &N, bytes: &[u8], absent: u8) {
-    for byte in bytes {
-        assert!(rt; node.lookup_child(*byte) == Some(leaf(usize::from(*byte))));
-    }
-    assert!(rt; node.lookup_child(absent) == None);
-    assert_eq!(rt; node.header().num_children(), bytes.len());
-    assert_eq!(rt; node.header().read_prefix(), b"front".as_slice());
-}
-
-const FEW: [u8; 3] = [3, 123, 1];
-
-const EVEN: [u8; 16] = [0, 2, 4, 6, 8, 10, 12, 14, 16, 18, 20, 22, 24, 26, 28, 30];
-
-#[test]
-fn children_stay_where_a_node_grows(rt: HostRuntime) {
-    let node: InnerNode4<u8, u8, 16> = node_of(&rt, &FEW);
-    has(&rt, &node.grow(), &FEW, 4);
-    let node: InnerNode16<u8, u8, 16> = node_of(&rt, &EVEN);
-    assert!(rt; node.is_full());
-    has(&rt, &node.grow(), &EVEN, 1);
-    let node: InnerNode48<u8, u8, 16> = node_of(&rt, &FEW);
-    assert!(rt; !node.is_full());
-    has(&rt, &node.grow(), &FEW, 4);
-}
-
-#[test]
-fn children_stay_where_a_node_shrinks(rt: HostRuntime) {
-    let four = [0, 1, 2, 3];
-    let node: InnerNode16<u8, u8, 16> = node_of(&rt, &four);
-    assert!(rt; node.header().num_children() <= 4);
-    has(&rt, &node.shrink(), &four, 4);
-    let node: InnerNode48<u8, u8, 16> = node_of(&rt, &EVEN);
-    assert!(rt; node.header().num_children() <= 16);
-    has(&rt, &node.shrink(), &EVEN, 1);
-    let mut node: InnerNodeDirect<u8, u8, 16> = node_of(&rt, &[]);
-    for byte in 0..48u8 {
-        write(&rt, &mut node, byte, leaf(usize::from(byte)));
-    }
-    assert!(rt; node.header().num_children() <= 48);
-    let shrunk = node.shrink();
-    for byte in 0..48u8 {
-        assert!(rt; shrunk.lookup_child(byte) == Some(leaf(usize::from(byte))));
-    }
-    assert!(rt; shrunk.lookup_child(48) == None);
-    assert!(rt; shrunk.is_full());
-}
-
-#[test]
-fn a_copy_is_the_same_node(rt: HostRuntime) {
-    let node: InnerNode4<u8, u8, 16> = node_of(&rt, &FEW);
-    has(&rt, &node.clone(), &FEW, 4);
-    let node: InnerNode48<u8, u8, 16> = node_of(&rt, &FEW);
-    has(&rt, &node.clone(), &FEW, 4);
-    let node: InnerNodeDirect<u8, u8, 16> = node_of(&rt, &FEW);
-    has(&rt, &node.clone(), &FEW, 4);
-}
-
-#[test]
-fn a_node_takes_over_a_prefix(rt: HostRuntime) {
-    let mut node: InnerNode4<u8, u8, 16> = node_of(&rt, &FEW);
-    node.set_prefix(&Header::new(b"another", 7));
-    assert_eq!(rt; node.header().read_prefix(), b"another".as_slice());
-    assert_eq!(rt; node.header().prefix_len(), 7);
-    assert_eq!(rt; node.header().num_children(), 3);
-    assert!(rt; node.lookup_child(123) == Some(leaf(123)));
 }
