@@ -7,9 +7,10 @@
 
 mod failure;
 mod leaf;
-mod parse;
+mod line;
 mod print;
 mod program;
+mod room;
 #[cfg(test)]
 mod tests;
 

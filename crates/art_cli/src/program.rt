@@ -1,12 +1,17 @@
 //! The program over any reader and writers.
-ghost use Rattle.std.specs.Prelude.{◌≡◌, ◌≤◌};
-ghost use Rattle.std.specs.Io.KnownBytes.{Keeps};
+ghost use Rattle.std.specs.Prelude.{◌≡◌, ◌≢◌, ◌≤◌, ◌↔◌, [], length, IsTrue, IfOk, OnOk, IfSome, string_bytes};
+ghost use Rattle.std.specs.Io.KnownBytes.{Keeps, Appends};
+ghost use Rattle.art_nodes.specs.Commands.{run_of, distinct_writes_of};
+ghost use Rattle.art_cli.specs.Text.{output_of};
+ghost use Rattle.art_cli.specs.Program.{IsReplay, IsOutput, Prints};
 
 use crate::failure::Failure;
-use crate::leaf::PREFIX_LEN;
-use crate::{parse, print};
+use crate::leaf::Command;
+use crate::line::parse;
+use crate::print::text_of;
+use crate::room::check_room;
 use art_nodes::{Header, replay};
-use std::alloc::Global;
+use std::alloc::{AllocError, Global};
 use std::io;
 use std::io::{Read, Write};
 
@@ -25,6 +30,10 @@ pub fn run<R: Read, W: Write, E: Write>(
     errors: &mut E,
 ) -> u8
     ensures status { result ≤ 2 }
+    ensures usage { result ≢ 2 → IsReplay words.now }
+    ensures answers { result ≡ 0 → IfSome (R.remaining input.old)
+        (λ given. Prints given (W.contents output.old) (W.contents output.new)) }
+
     ensures bad_input_prints_nothing { result ≡ 2 → Keeps (W.contents output.old) (W.contents output.new) }
     ensures success_is_quiet { result ≡ 0 → Keeps (E.contents errors.old) (E.contents errors.new) }
 {
@@ -39,7 +48,10 @@ pub fn run<R: Read, W: Write, E: Write>(
 }
 
 // The whole output.
-fn answer<R: Read>(alloc: Global, words: &[String], input: &mut R) -> Result<String, Failure> {
+fn answer<R: Read>(alloc: Global, words: &[String], input: &mut R) -> Result<String, Failure>
+    ensures usage { result ≢ Err Failure.Usage → IsReplay words.now }
+    ensures text { IfOk result (λ text. IfSome (R.remaining input.old) (λ given. IsOutput given (string_bytes text))) }
+{
     if !is_replay(words) {
         return Err(Failure::Usage);
     }
@@ -48,21 +60,48 @@ fn answer<R: Read>(alloc: Global, words: &[String], input: &mut R) -> Result<Str
     replay_text(alloc, bytes)
 }
 
-// A writer that keeps bytes back is to let them go.
-fn write_out<W: Write>(output: &mut W, text: &[u8]) -> io::Result<()> {
-    output.write_all(text)?;
-    output.flush()
+fn is_replay(words: &[String]) -> bool
+    ensures { IsTrue result ↔ IsReplay words.now }
+{
+    match words {
+        [word] => is_text(word, "replay"),
+        _ => false,
+    }
 }
 
-fn is_replay(words: &[String]) -> bool {
-    words.len() == 1 && words[0].as_str() == "replay"
+fn is_text(word: &String, text: &str) -> bool
+    ensures { IsTrue result ↔ (string_bytes word.now ≡ text.now) }
+{
+    word.as_str() == text
 }
 
 // What the commands of this input are answered. The input is let go before the replies come.
-fn replay_text(alloc: Global, input: Vec<u8>) -> Result<String, Failure> {
-    let commands = parse::commands(alloc, &input)?;
+fn replay_text(alloc: Global, input: Vec<u8>) -> Result<String, Failure>
+    ensures { IfOk result (λ text. IsOutput input.items (string_bytes text)) }
+{
+    let (commands, fault) = parse(alloc, &input)?;
     drop(input);
-    let (replies, node) = replay(alloc, Header::<PREFIX_LEN>::new(b"", 0), &commands)?;
+    check_room(&commands)?;
+    match fault {
+        Some(fault) => Err(Failure::BadLine(commands.len() + 1, fault)),
+        None => Ok(replies_text(alloc, commands)?),
+    }
+}
+
+// A line for each reply to the commands, and one for the node that they leave.
+fn replies_text(alloc: Global, commands: Vec<Command>) -> Result<String, AllocError>
+    requires { distinct_writes_of commands.items ≤ 16 }
+    ensures { IfOk result (λ text. string_bytes text ≡ output_of (run_of [] commands.items).0 (length (run_of [] commands.items).1)) }
+{
+    let (replies, node) = replay(alloc, Header::new(b"", 0), &commands)?;
     drop(commands);
-    Ok(print::text_of(alloc, &replies, &node)?)
+    text_of(alloc, &replies, &node)
+}
+
+// A writer that keeps bytes back is to let them go.
+fn write_out<W: Write>(output: &mut W, text: &[u8]) -> io::Result<()>
+    ensures { OnOk result (Appends (W.contents output.old) (W.contents output.new) text.now) }
+{
+    output.write_all(text)?;
+    output.flush()
 }

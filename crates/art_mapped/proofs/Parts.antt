@@ -1,5 +1,5 @@
 -- The parts of joined elements.
-use Rattle.std.proofs.Common.{◌≡◌, ℕ, zero, suc, ◌+◌, ◌*◌, ◌/◌, ◌%◌, ◌<◌, ◌≤◌, List, [], ◌∷◌, ◌++◌, length, take, drop, get_or, refl, sym, ap, ◌∙◌, inl, inr, append_assoc, arith, length-append, length-drop}
+use Rattle.std.proofs.Common.{◌≡◌, ℕ, zero, suc, ◌+◌, ◌*◌, ◌/◌, ◌%◌, ◌<◌, ◌≤◌, List, [], ◌∷◌, ◌++◌, length, take, drop, get_or, refl, sym, ap, ◌∙◌, inl, inr, append_assoc, arith, length-drop}
 use Rattle.std.specs.Prelude.{All}
 use Rattle.std.proofs.lemmas.List.{take_all, take-append-le, take-append-drop, drop-append-le, drop-drop, drop_all}
 use Rattle.std.proofs.lemmas.List.Elements.{All-nil, All-cons, All-head, All-tail}
@@ -86,9 +86,9 @@ module _ {E : Type 0} (text : E → List ℕ) (width : ℕ) (long : (x : E) → 
   is_part_of_some is_element bytes k some are below =
       let within = part_within k (length bytes) below in
       ∥∥₁_map are (λ of.
-        let size : length bytes ≡ length of.0 * width = ap length of.2 ∙ length-joined text width long of.0 in
-        let found = element_of_part is_element of.0 k of.1 (below_from_size k (length of.0) some (rw size at within)) in
-        (found.0, found.1, ap (part width k) of.2 ∙ found.2))
+      let size : length bytes ≡ length of.0 * width = ap length of.2 ∙ length-joined text width long of.0 in
+      let found = element_of_part is_element of.0 k of.1 (below_from_size k (length of.0) some (rw size at within)) in
+      (found.0, found.1, ap (part width k) of.2 ∙ found.2))
 
   -- joined elements leave no rest
   pub no_rest : (is_element : E → Type 0) (bytes : List ℕ) → AreJoined is_element text bytes → length bytes % width ≡ 0

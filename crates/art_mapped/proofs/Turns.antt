@@ -17,8 +17,8 @@ pub callable_unchanged : {S A P : Type 0} (steps : S → Option A → S → Type
 callable_unchanged {S} {A} {P} steps R Q s p stays callable =
     record {
       at = λ xs t q x u yields folds step.
-        let At : P → Type 0 = λ j. Q j x in
-        subst At (sym (folds_stay R p stays xs q folds)) (callable t x u step)
+          let At : P → Type 0 = λ j. Q j x in
+          subst At (sym (folds_stay R p stays xs q folds)) (callable t x u step);
     }
 
 -- an array made by such a function has at each index what a call there gave

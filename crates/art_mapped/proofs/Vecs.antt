@@ -8,26 +8,28 @@ use Rattle.std.specs.Vec.{vec_items}
 
 -- for a list that is no longer than some vector there is a vector with those items
 pub vec_with : {X Y Z : Type 0} (other : Vec X Z) (items : List Y) → length items ≤ length (vec_items other) → (v : Vec Y Z) × (vec_items v ≡ items)
-vec_with other items fits =
-    (record {
-      ptr = other.ptr;
-      len = length items;
-      cap = other.cap;
-      alloc = other.alloc;
-      items = items;
-      ok = (refl, omega (arith, other.ok.0, other.ok.1));
-      small = other.small;
-    }, refl)
+vec_with other items fits = (
+  record {
+    ptr = other.ptr;
+    len = length items;
+    cap = other.cap;
+    alloc = other.alloc;
+    items = items;
+    ok = (refl, omega (arith, other.ok.0, other.ok.1));
+    small = other.small;
+  },
+  refl,
+)
 
 -- bytes that are some elements', joined, are those of some vector, and the other way round
 pub vec_from_joined : {Z E : Type 0} (text : E → List ℕ) (width : ℕ) → ((x : E) → length (text x) ≡ width) → (is_element : E → Type 0) (bytes : Vec ℕ Z) → 0 < width → AreJoined is_element text (vec_items bytes)
     → ∥ ((v : Vec E Z) × IsVec is_element v × (vec_items bytes ≡ vec_text text v)) ∥₁
 vec_from_joined text width long is_element bytes some are =
     ∥∥₁_map are (λ of.
-      let size : length (vec_items bytes) ≡ length of.0 * width = ap length of.2 ∙ length-joined text width long of.0 in
-      let fits : length of.0 ≤ length (vec_items bytes) = rw size (le-mul_of_pos_right (length of.0) some) in
-      let v = vec_with bytes of.0 fits in
-      (v.0, rw v.1 of.1, rw v.1 of.2))
+    let size : length (vec_items bytes) ≡ length of.0 * width = ap length of.2 ∙ length-joined text width long of.0 in
+    let fits : length of.0 ≤ length (vec_items bytes) = rw size (le-mul_of_pos_right (length of.0) some) in
+    let v = vec_with bytes of.0 fits in
+    (v.0, rw v.1 of.1, rw v.1 of.2))
 
 pub joined_from_vec : {Z E : Type 0} (is_element : E → Type 0) (text : E → List ℕ) (bytes : List ℕ) → ∥ ((v : Vec E Z) × IsVec is_element v × (bytes ≡ vec_text text v)) ∥₁ → AreJoined is_element text bytes
 joined_from_vec is_element text bytes are = ∥∥₁_map are (λ of. (vec_items of.0, of.1, of.2))

@@ -1,18 +1,15 @@
 -- Digits in base 256: their number, their order, and the way back from bytes.
-use Rattle.std.specs.Prelude.{◌≡◌, ℕ, zero, suc, ◌+◌, ◌-◌, ◌*◌, ◌/◌, ◌%◌, ◌^◌, ◌<◌, ◌≤◌, ◌⊎◌, ℤ, pos, List, [], ◌∷◌, length, get_or, refl}
+use Rattle.std.specs.Prelude.{◌≡◌, ℕ, zero, suc, ◌+◌, ◌-◌, ◌*◌, ◌%◌, ◌^◌, ◌<◌, List, [], ◌∷◌, length, get_or, refl}
 use Rattle.std.specs.Int.{byte_at, byte_worth, sum_through}
-use Rattle.std.specs.Ordering.{nat_cmp, ordering_then, MatchOrdering}
-use Rattle.std.specs.declared.cmp.Ordering.{Ordering}
-use Rattle.std.specs.declared.cmp.Ordering.TheVariants.{Less, Equal, Greater}
+use Rattle.std.specs.Ordering.{nat_cmp, ordering_then}
+use Rattle.std.specs.declared.cmp.Ordering.TheVariants.{Equal}
 use Rattle.std.specs.Cmp.{nat_cmp_is}
-use Rattle.std.proofs.Common.{sym, ap, ◌∙◌, arith, pow-suc, mul_comm, inl, inr}
+use Rattle.std.proofs.Common.{sym, ap, ◌∙◌, arith, pow-suc, mul_comm}
 use Rattle.std.proofs.Math.Nat.{pow-le-pow_right, mod-eq_of_lt}
 use Rattle.std.proofs.Math.Arith.{mod-mul}
-use Rattle.std.proofs.lemmas.Bool.Decides.{nat_tests}
-use Rattle.std.proofs.lemmas.Bool.{cases_lt}
 use Rattle.std.proofs.lemmas.Cmp.{by_ranked, ranked}
 use Rattle.std.proofs.lemmas.Nat.{mul-add-lt, row_fits}
-use Rattle.std.proofs.lemmas.Map.Lookups.{CmpEqualImpliesEq, exact_bytes}
+use Rattle.std.proofs.lemmas.Map.Lookups.{exact_bytes}
 use Rattle.art_bytes.specs.Text.{text_order}
 use Rattle.art_mapped.specs.Numbers.{digits}
 
@@ -72,12 +69,12 @@ order_of_two unit a b r s small small' =
     let x = a * unit + r in
     let y = b * unit + s in
     sym (nat_cmp_is x y (ordering_then (nat_cmp a b) (nat_cmp r s)) (by_ranked (a < b) (a ≡ b) (b < a) (nat_cmp a b) (ranked a b (nat_cmp a b) refl)
-        (λ is less. rw is (omega (arith, row_fits a unit b unit less (omega arith))))
-        (λ is same. rw is (by_ranked (r < s) (r ≡ s) (s < r) (nat_cmp r s) (ranked r s (nat_cmp r s) refl)
-            (λ is' less. rw (is', same) (omega arith))
-            (λ is' same'. rw (is', same, same') refl)
-            (λ is' greater. rw (is', same) (omega arith))))
-        (λ is greater. rw is (omega (arith, row_fits b unit a unit greater (omega arith))))))
+    (λ is less. rw is (omega (arith, row_fits a unit b unit less (omega arith))))
+    (λ is same. rw is (by_ranked (r < s) (r ≡ s) (s < r) (nat_cmp r s) (ranked r s (nat_cmp r s) refl)
+    (λ is' less. rw (is', same) (omega arith))
+    (λ is' same'. rw (is', same, same') refl)
+    (λ is' greater. rw (is', same) (omega arith))))
+    (λ is greater. rw is (omega (arith, row_fits b unit a unit greater (omega arith))))))
 
 -- texts of one length have the order of their numbers
 pub text_order-number_of : (ds es : List ℕ) → length ds ≡ length es → AreBytes ds → AreBytes es → text_order ds es ≡ nat_cmp (number_of ds) (number_of es)

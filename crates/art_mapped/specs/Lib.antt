@@ -1,8 +1,9 @@
+pub mod AddressLaws
 pub mod Addresses
 pub mod DigitLaws
 pub mod Mapped
-pub mod MappedLaws
 pub mod Mapping
+pub mod MappingLaws
 pub mod NumberLaws
 pub mod Numbers
 pub mod SequenceLaws

@@ -1,16 +1,14 @@
 -- The bytes of integers have their width and keep their order.
-use Rattle.std.specs.Prelude.{◌≡◌, ℕ, zero, suc, ◌+◌, ◌-◌, ◌*◌, ◌^◌, ◌<◌, ◌≤◌, ℤ, pos, negsuc, ◌+ℤ◌, ◌≤ℤ◌, ◌<ℤ◌, neg_ℤ, unsigned_abs, List, length, refl}
+use Rattle.std.specs.Prelude.{◌≡◌, ℕ, zero, suc, ◌+◌, ◌-◌, ◌*◌, ◌^◌, ◌<◌, ℤ, pos, negsuc, ◌+ℤ◌, ◌<ℤ◌, unsigned_abs, length, refl}
 use Rattle.std.specs.Ordering.{nat_cmp, int_cmp}
-use Rattle.std.specs.declared.cmp.Ordering.TheVariants.{Equal}
 use Rattle.std.specs.Coded.{le_prop}
 use Rattle.std.specs.Cmp.{int_cmp_is, int_ranks}
 use Rattle.std.proofs.Common.{sym, ap, ◌∙◌, subst, arith, pow-suc}
-use Rattle.std.proofs.lemmas.Cmp.{by_ranked, ranked, tied_itself, nat_list_cmp_total}
+use Rattle.std.proofs.lemmas.Cmp.{by_ranked, ranked}
 use Rattle.std.proofs.lemmas.Nat.{pow-add}
 use Rattle.std.proofs.lemmas.Int.{ints}
-use Rattle.std.proofs.lemmas.Map.Lookups.{CmpEqualImpliesEq, exact_signed}
 use Rattle.art_bytes.specs.Text.{text_order}
-use Rattle.art_mapped.specs.Numbers.{digits, IsUnsigned, IsSigned, unsigned_text, signed_text}
+use Rattle.art_mapped.specs.Numbers.{IsUnsigned, IsSigned, unsigned_text, signed_text}
 use Rattle.art_mapped.specs.DigitLaws.{length-digits, text_order-digits}
 
 -- the bits of a width in bytes
@@ -37,9 +35,9 @@ length-signed_text width z = length-unsigned_text width (z +ℤ pos (2 ^ (8 * wi
 order_of_naturals : (m n : ℕ) → nat_cmp m n ≡ int_cmp (pos m) (pos n)
 order_of_naturals m n =
     int_cmp_is (pos m) (pos n) (nat_cmp m n) (by_ranked (m < n) (m ≡ n) (n < m) (nat_cmp m n) (ranked m n (nat_cmp m n) refl)
-        (λ is less. rw is (omega (arith, ints)))
-        (λ is same. rw is (ap pos same))
-        (λ is greater. rw is (omega (arith, ints))))
+    (λ is less. rw is (omega (arith, ints)))
+    (λ is same. rw is (ap pos same))
+    (λ is greater. rw is (omega (arith, ints))))
 
 -- unsigned numbers have the order of their bytes
 pub unsigned_keeps_size : (width : ℕ) (y z : ℤ) → IsUnsigned width y → IsUnsigned width z → int_cmp y z ≡ text_order (unsigned_text width y) (unsigned_text width z)
@@ -61,9 +59,9 @@ raised_is_unsigned width z some z_in =
 order_of_raised : (h y z : ℤ) → int_cmp y z ≡ int_cmp (y +ℤ h) (z +ℤ h)
 order_of_raised h y z =
     int_cmp_is (y +ℤ h) (z +ℤ h) (int_cmp y z) (by_ranked (y <ℤ z) (y ≡ z) (z <ℤ y) (int_cmp y z) (int_ranks y z)
-        (λ is less. rw is (omega (arith, ints)))
-        (λ is same. rw is (ap (λ x. x +ℤ h) same))
-        (λ is greater. rw is (omega (arith, ints))))
+    (λ is less. rw is (omega (arith, ints)))
+    (λ is same. rw is (ap (λ x. x +ℤ h) same))
+    (λ is greater. rw is (omega (arith, ints))))
 
 -- signed numbers have the order of their bytes
 pub signed_keeps_size : (width : ℕ) → 0 < width → (y z : ℤ) → IsSigned width y → IsSigned width z → int_cmp y z ≡ text_order (signed_text width y) (signed_text width z)

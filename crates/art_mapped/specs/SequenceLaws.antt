@@ -1,5 +1,5 @@
 -- Elements of one width, joined: their length and their order.
-use Rattle.std.specs.Prelude.{◌≡◌, ℕ, ℤ, zero, suc, ◌+◌, ◌*◌, ◌<◌, ◌≤◌, List, [], ◌∷◌, ◌++◌, length, All, refl}
+use Rattle.std.specs.Prelude.{◌≡◌, ℕ, ℤ, ◌*◌, ◌<◌, List, [], ◌∷◌, ◌++◌, length, All, refl}
 use Rattle.std.specs.Ordering.{nat_cmp, int_cmp, on, ordering_then}
 use Rattle.std.specs.declared.cmp.Ordering.{Ordering}
 use Rattle.std.specs.declared.cmp.Ordering.TheVariants.{Less, Equal, Greater}
@@ -10,8 +10,7 @@ use Rattle.std.proofs.lemmas.Map.Lookups.{CmpEqualImpliesEq, exact_signed}
 use Rattle.std.proofs.lemmas.Cmp.{tied_itself, nat_list_cmp_total}
 use Rattle.art_bytes.specs.Text.{IsFront, text_order}
 use Rattle.art_bytes.specs.Laws.{front_of_length}
-use Rattle.art_mapped.specs.Numbers.{IsUnsigned, IsSigned, unsigned_text, signed_text, IsElement, element_text}
-use Rattle.art_mapped.specs.NumberLaws.{length-unsigned_text, length-signed_text, unsigned_keeps_size, signed_keeps_size}
+use Rattle.art_mapped.specs.Numbers.{IsElement, element_text}
 use Rattle.art_mapped.specs.Sequences.{joined}
 
 -- the first part that differs decides, where both first parts have one length
@@ -22,7 +21,6 @@ text_order-append (x ∷ a) [] c d long = absurd (omega arith)
 text_order-append (x ∷ a) (y ∷ b) c d long =
     let short : length a ≡ length b = omega arith in
     rw (text_order-append a b c d short) (sym (then_assoc (nat_cmp x y) (text_order a b) (text_order c d)))
-
   where
     then_assoc : (o p q : Ordering) → ordering_then (ordering_then o p) q ≡ ordering_then o (ordering_then p q)
     then_assoc Less p q = refl
@@ -40,13 +38,11 @@ joined_keeps_order : {E : Type 0} (is_element : E → Type 0) (text : E → List
     → (xs ys : List E) → All is_element xs → All is_element ys → slice_cmp order xs ys ≡ text_order (joined text xs) (joined text ys)
 joined_keeps_order is_element text order width some long keeps [] [] x_in y_in = refl
 joined_keeps_order is_element text order width some long keeps [] (y ∷ ys) x_in y_in = sym (above_empty (text y ++ joined text ys) (omega (arith, length-append (text y) (joined text ys), long y)))
-
   where
     above_empty : (bs : List ℕ) → 0 < length bs → text_order [] bs ≡ Less
     above_empty [] more = absurd (omega arith)
     above_empty (b ∷ bs) more = refl
 joined_keeps_order is_element text order width some long keeps (x ∷ xs) [] x_in y_in = sym (below_empty (text x ++ joined text xs) (omega (arith, length-append (text x) (joined text xs), long x)))
-
   where
     below_empty : (bs : List ℕ) → 0 < length bs → text_order bs [] ≡ Greater
     below_empty [] more = absurd (omega arith)
@@ -64,7 +60,6 @@ exact_lists order exact (x ∷ xs) [] tied = cc
 exact_lists order exact (x ∷ xs) (y ∷ ys) tied =
     let both = tied_parts (order x y) (slice_cmp order xs ys) tied in
     rw (exact x y both.0, exact_lists order exact xs ys both.1) refl
-
   where
     tied_parts : (o p : Ordering) → ordering_then o p ≡ Equal → (o ≡ Equal) × (p ≡ Equal)
     tied_parts Less p tied = cc
@@ -90,12 +85,6 @@ elements_keep is_in_range number_text has_width keeps_size width some number dec
       keeps = λ x y. keeps_size width some (number x) (number y);
       exact = λ x y tied. decides x y (exact_signed (number x) (number y) tied);
     }
-
-pub unsigned_keep : {E : Type 0} (width : ℕ) → 0 < width → (number : E → ℤ) → ((x y : E) → number x ≡ number y → x ≡ y) → KeepsOrder (IsElement IsUnsigned width number) (element_text unsigned_text width number) (on number int_cmp) width
-unsigned_keep = elements_keep IsUnsigned unsigned_text length-unsigned_text (λ width _. unsigned_keeps_size width)
-
-pub signed_keep : {E : Type 0} (width : ℕ) → 0 < width → (number : E → ℤ) → ((x y : E) → number x ≡ number y → x ≡ y) → KeepsOrder (IsElement IsSigned width number) (element_text signed_text width number) (on number int_cmp) width
-signed_keep = elements_keep IsSigned signed_text length-signed_text signed_keeps_size
 
 module _ {E : Type 0} {is_element : E → Type 0} {text : E → List ℕ} {order : E → E → Ordering} {width : ℕ} (laws : KeepsOrder is_element text order width) where
   -- two values with the same bytes are one

@@ -1,18 +1,19 @@
 ghost use Rattle.std.specs.Prelude.{◌≡◌, ◌↔◌, true, false, IsTrue, List};
 ghost use Rattle.std.specs.Ordering.{int_cmp, on};
+ghost use Rattle.std.proofs.Common.{ap, refl};
 ghost use Rattle.std.specs.Cmp.Lexicographic.{slice_cmp};
 ghost use Rattle.std.specs.Vec.{vec_items};
-ghost use Rattle.art_mapped.specs.Mapping.{StandsForSome, HasTextOf, kept_by_text};
-ghost use Rattle.art_mapped.specs.Numbers.{IsUnsigned, IsSigned, unsigned_text, signed_text, IsElement, element_text};
+ghost use Rattle.art_mapped.specs.Mapping.{StandsForSome, HasTextOf};
+ghost use Rattle.art_mapped.specs.MappingLaws.{kept_by_text};
+ghost use Rattle.art_mapped.specs.Numbers.{IsElement, element_text};
 ghost use Rattle.art_mapped.specs.Sequences.{joined, IsArray};
-ghost use Rattle.art_mapped.specs.SequenceLaws.{unsigned_keep, signed_keep, same_from_joined, joined_keep, joined_front_is_whole};
-
-use std::alloc::{AllocError, Global};
+ghost use Rattle.art_mapped.specs.SequenceLaws.{elements_keep, same_from_joined, joined_keep, joined_front_is_whole};
 
 use crate::fixed::FixedBytes;
-use crate::integer::{Element, IntegerMapping, ToIBE, ToUBE};
+use crate::integer::{Element, IntegerMapping};
 use crate::mapping::{BytesMapping, NoPrefixesMapping, OrderedMapping};
-use crate::sequence::{are_elements, array_of, joined_bytes};
+use crate::sequence::{Joined, are_elements, array_of, joined_bytes};
+use std::alloc::{AllocError, Global};
 
 /// Whether the bytes are those of some array of `N` elements.
 fn is_array<B: IntegerMapping, E: Element<B>, const N: usize>(bytes: &Vec<u8>) -> bool
@@ -31,8 +32,8 @@ fn read_array<B: IntegerMapping, E: Element<B>, const N: usize>(bytes: Vec<u8>) 
     array_of::<B, E, N>(&bytes)
 }
 
-/// Arrays, in the order of the first element that differs.
-impl<E: Element<ToUBE>, const N: usize> BytesMapping<[E; N]> for ToUBE {
+/// Arrays of just `N` elements, in the order of the first element that differs. Only to write one takes memory.
+impl<B: IntegerMapping, E: Element<B>, const N: usize> BytesMapping<[E; N]> for Joined<B> {
     type Bytes = Vec<u8>;
 
     const ALLOCATES: bool = true;
@@ -43,88 +44,43 @@ impl<E: Element<ToUBE>, const N: usize> BytesMapping<[E; N]> for ToUBE {
 
     ghost READ_ALLOCATES = { false };
 
-    ghost is_in_domain = { IsArray N (IsElement IsUnsigned E.Bytes.WIDTH E.number) };
+    ghost is_in_domain = { IsArray N (IsElement B.is_in_range E.Bytes.WIDTH E.number) };
 
-    ghost text_of = { joined (element_text unsigned_text E.Bytes.WIDTH E.number) };
-
-    ghost are_same = { λ x y. x ≡ y };
-
-    ghost stands_for = { HasTextOf vec_items (joined (element_text unsigned_text E.Bytes.WIDTH E.number)) };
-
-    ghost has_text = { λ _ _ _ stands. stands };
-
-    ghost reads_one = { λ _ x y x_in y_in x_text y_text. same_from_joined (unsigned_keep E.Bytes.WIDTH E.has_bytes E.number E.number_decides) x y x_in.1 y_in.1 x_text y_text };
-
-    ghost kept_by_text = { λ a b _. kept_by_text (IsArray N (IsElement IsUnsigned E.Bytes.WIDTH E.number)) vec_items (joined (element_text unsigned_text E.Bytes.WIDTH E.number)) a b };
-
-    fn to_bytes(alloc: Global, value: [E; N]) -> Result<Vec<u8>, AllocError> {
-        joined_bytes::<ToUBE, E>(alloc, &value)
-    }
-
-    fn from_bytes(_alloc: Global, bytes: Vec<u8>) -> Result<[E; N], AllocError> {
-        Ok(read_array::<ToUBE, E, N>(bytes))
-    }
-
-    fn is_value(bytes: &Vec<u8>) -> bool {
-        is_array::<ToUBE, E, N>(bytes)
-    }
-}
-
-impl<E: Element<ToUBE>, const N: usize> OrderedMapping<[E; N]> for ToUBE {
-    ghost domain_order = { slice_cmp (on E.number int_cmp) };
-
-    ghost keeps_order = { λ x y x_in y_in. joined_keep (unsigned_keep E.Bytes.WIDTH E.has_bytes E.number E.number_decides) x y x_in.1 y_in.1 };
-}
-
-impl<E: Element<ToUBE>, const N: usize> NoPrefixesMapping<[E; N]> for ToUBE {
-    ghost no_prefixes = { λ x y x_in y_in. joined_front_is_whole (unsigned_keep E.Bytes.WIDTH E.has_bytes E.number E.number_decides) N x y x_in.0 y_in.0 };
-}
-
-/// Arrays, in the order of the first element that differs.
-impl<E: Element<ToIBE>, const N: usize> BytesMapping<[E; N]> for ToIBE {
-    type Bytes = Vec<u8>;
-
-    const ALLOCATES: bool = true;
-
-    const READ_ALLOCATES: bool = false;
-
-    ghost ALLOCATES = { true };
-
-    ghost READ_ALLOCATES = { false };
-
-    ghost is_in_domain = { IsArray N (IsElement IsSigned E.Bytes.WIDTH E.number) };
-
-    ghost text_of = { joined (element_text signed_text E.Bytes.WIDTH E.number) };
+    ghost text_of = { joined (element_text B.number_text E.Bytes.WIDTH E.number) };
 
     ghost are_same = { λ x y. x ≡ y };
 
-    ghost stands_for = { HasTextOf vec_items (joined (element_text signed_text E.Bytes.WIDTH E.number)) };
+    ghost stands_for = { HasTextOf vec_items (joined (element_text B.number_text E.Bytes.WIDTH E.number)) };
 
     ghost has_text = { λ _ _ _ stands. stands };
 
-    ghost reads_one = { λ _ x y x_in y_in x_text y_text. same_from_joined (signed_keep E.Bytes.WIDTH E.has_bytes E.number E.number_decides) x y x_in.1 y_in.1 x_text y_text };
+    ghost one_text = { λ x y same. ap (joined (element_text B.number_text E.Bytes.WIDTH E.number)) same };
 
-    ghost kept_by_text = { λ a b _. kept_by_text (IsArray N (IsElement IsSigned E.Bytes.WIDTH E.number)) vec_items (joined (element_text signed_text E.Bytes.WIDTH E.number)) a b };
+    ghost reads_one = { λ _ x y x_in y_in x_text y_text. same_from_joined (elements_keep B.is_in_range B.number_text B.has_width B.keeps_size E.Bytes.WIDTH E.has_bytes E.number E.number_decides) x y x_in.1 y_in.1 x_text y_text };
+
+    ghost kept_by_text = { λ a b _. kept_by_text (IsArray N (IsElement B.is_in_range E.Bytes.WIDTH E.number)) vec_items (joined (element_text B.number_text E.Bytes.WIDTH E.number)) a b };
 
     fn to_bytes(alloc: Global, value: [E; N]) -> Result<Vec<u8>, AllocError> {
-        joined_bytes::<ToIBE, E>(alloc, &value)
+        joined_bytes::<B, E>(alloc, &value)
     }
 
     fn from_bytes(_alloc: Global, bytes: Vec<u8>) -> Result<[E; N], AllocError> {
-        Ok(read_array::<ToIBE, E, N>(bytes))
+        Ok(read_array::<B, E, N>(bytes))
     }
 
     fn is_value(bytes: &Vec<u8>) -> bool {
-        is_array::<ToIBE, E, N>(bytes)
+        is_array::<B, E, N>(bytes)
     }
 }
 
-impl<E: Element<ToIBE>, const N: usize> OrderedMapping<[E; N]> for ToIBE {
+impl<B: IntegerMapping, E: Element<B>, const N: usize> OrderedMapping<[E; N]> for Joined<B> {
     ghost domain_order = { slice_cmp (on E.number int_cmp) };
 
-    ghost keeps_order = { λ x y x_in y_in. joined_keep (signed_keep E.Bytes.WIDTH E.has_bytes E.number E.number_decides) x y x_in.1 y_in.1 };
+    ghost keeps_order = { λ x y x_in y_in. joined_keep (elements_keep B.is_in_range B.number_text B.has_width B.keeps_size E.Bytes.WIDTH E.has_bytes E.number E.number_decides) x y x_in.1 y_in.1 };
+
+    ghost decided_by_text = { λ x y x_in y_in same. same_from_joined (elements_keep B.is_in_range B.number_text B.has_width B.keeps_size E.Bytes.WIDTH E.has_bytes E.number E.number_decides) x y x_in.1 y_in.1 refl same };
 }
 
-impl<E: Element<ToIBE>, const N: usize> NoPrefixesMapping<[E; N]> for ToIBE {
-    ghost no_prefixes = { λ x y x_in y_in. joined_front_is_whole (signed_keep E.Bytes.WIDTH E.has_bytes E.number E.number_decides) N x y x_in.0 y_in.0 };
+impl<B: IntegerMapping, E: Element<B>, const N: usize> NoPrefixesMapping<[E; N]> for Joined<B> {
+    ghost no_prefixes = { λ x y x_in y_in. joined_front_is_whole (elements_keep B.is_in_range B.number_text B.has_width B.keeps_size E.Bytes.WIDTH E.has_bytes E.number E.number_decides) N x y x_in.0 y_in.0 };
 }

@@ -10,21 +10,20 @@ mod sealed {
 
 use sealed::Sealed;
 
-/// Bytes of one length, an array `[u8; N]`.
-///
-/// No other type can have it.
+/// Keys whose texts all have one length. The arrays `[u8; N]` are such keys, and no other type can be.
 pub trait FixedBytes: AsBytes + Copy + Sealed {
     /// How many bytes the text of a key has.
     const WIDTH: usize;
 
     ghost WIDTH: { ℕ };
 
-    /// The key with this text, which has `WIDTH` bytes.
+    /// The key with this text, which has to have `WIDTH` bytes.
     fn from_slice(bytes: &[u8]) -> Self
         requires { length bytes.now ≡ WIDTH }
         ensures key { Self.is_key result }
         ensures text { Self.text result ≡ bytes.now };
 
+    /// The text of a key has that length.
     ghost width: { (key : Self) → Self.is_key key → length (Self.text key) ≡ WIDTH };
 }
 

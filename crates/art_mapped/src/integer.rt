@@ -1,78 +1,56 @@
-ghost use Rattle.std.specs.Prelude.{◌≡◌, ◌≢◌, ◌↔◌, ℕ, ℤ, ◌<◌, List, length, true, false, IsTrue, IfSome, IfNone};
+ghost use Rattle.std.specs.Prelude.{◌≡◌, ◌≢◌, ◌↔◌, ℕ, ℤ, ◌<◌, List, length, true, false, IsTrue, IfSome, IfNone, refl};
+ghost use Rattle.std.proofs.Common.{ap};
 ghost use Rattle.std.specs.Ordering.{int_cmp, on};
 ghost use Rattle.art_bytes.specs.Text.{text_order};
-ghost use Rattle.art_mapped.specs.Mapping.{StandsForSome, HasTextOf, kept_by_text};
-ghost use Rattle.art_mapped.specs.Numbers.{IsUnsigned, IsSigned, unsigned_text, signed_text, IsElement, element_text};
-ghost use Rattle.art_mapped.specs.NumberLaws.{length-unsigned_text, length-signed_text, unsigned_keeps_size, signed_keeps_size};
-ghost use Rattle.art_mapped.specs.SequenceLaws.{same_from_text, front_is_whole, unsigned_keep, signed_keep};
-
-use art_bytes::AsBytes;
-use std::alloc::{AllocError, Global};
+ghost use Rattle.art_mapped.specs.Mapping.{StandsForSome, HasTextOf};
+ghost use Rattle.art_mapped.specs.MappingLaws.{kept_by_text};
+ghost use Rattle.art_mapped.specs.Numbers.{IsElement, element_text};
+ghost use Rattle.art_mapped.specs.SequenceLaws.{elements_keep, same_from_text, front_is_whole};
 
 use crate::fixed::FixedBytes;
 use crate::mapping::{BytesMapping, NoPrefixesMapping, OrderedMapping};
+use art_bytes::AsBytes;
+use std::alloc::{AllocError, Global};
+use std::marker::PhantomData;
 
-/// How a mapping writes an integer, at a width in bytes.
+/// How a mapping writes an integer, at a width in bytes. `ToUBE` and `ToIBE` are such mappings.
 pub trait IntegerMapping {
     /// Which numbers a type of that width has.
     ghost is_in_range: { ℕ → ℤ → Type 0 };
 
-    /// The bytes of a number.
+    /// The text of a number at that width.
     ghost number_text: { ℕ → ℤ → List ℕ };
 
-    /// They are as many as the width says.
+    /// It has as many bytes as the width says.
     ghost has_width: { (width : ℕ) (number : ℤ) → length (number_text width number) ≡ width };
 
-    /// They keep the order by size.
+    /// The texts of a width keep the order by size.
     ghost keeps_size: { (width : ℕ) → 0 < width → (x y : ℤ) → is_in_range width x → is_in_range width y → int_cmp x y ≡ text_order (number_text width x) (number_text width y) };
 }
 
-/// Unsigned integers to big endian bytes.
-#[derive(Clone, Copy)]
-pub struct ToUBE;
-
-impl IntegerMapping for ToUBE {
-    ghost is_in_range = { IsUnsigned };
-
-    ghost number_text = { unsigned_text };
-
-    ghost has_width = { length-unsigned_text };
-
-    ghost keeps_size = { λ width _. unsigned_keeps_size width };
-}
-
-/// Signed integers
-#[derive(Clone, Copy)]
-pub struct ToIBE;
-
-impl IntegerMapping for ToIBE {
-    ghost is_in_range = { IsSigned };
-
-    ghost number_text = { signed_text };
-
-    ghost has_width = { length-signed_text };
-
-    ghost keeps_size = { signed_keeps_size };
-}
-
-/// An integer type
+/// An integer type, or the type of an integer type's numbers that are not 0, under a mapping of integers.
 pub trait Element<B: IntegerMapping>: Copy {
+    /// The bytes of a number, as many as the type has.
     type Bytes: FixedBytes;
 
-    /// The number.
+    /// The number that a value of the type is.
     ghost number: { Self → ℤ };
 
+    /// The bytes of the number.
     fn encode(self) -> Self::Bytes
         ensures key { Self.Bytes.is_key result }
         ensures text { Self.Bytes.text result ≡ B.number_text Self.Bytes.WIDTH (number self) }
         ensures in_range { B.is_in_range Self.Bytes.WIDTH (number self) };
 
+    /// The number whose bytes these are, and `None` exactly where they are no number's of the type.
     fn decode(bytes: Self::Bytes) -> Option<Self>
         ensures some { IfSome result (λ element. B.is_in_range Self.Bytes.WIDTH (number element) × (Self.Bytes.text bytes ≡ B.number_text Self.Bytes.WIDTH (number element))) }
         ensures none { IfNone result ((element : Self) → B.is_in_range Self.Bytes.WIDTH (number element) → Self.Bytes.text bytes ≢ B.number_text Self.Bytes.WIDTH (number element)) };
 
+    /// The type has at least one byte.
     ghost has_bytes: { 0 < Self.Bytes.WIDTH };
 
+    /// A value is decided by its number.
     ghost number_decides: { (x y : Self) → number x ≡ number y → x ≡ y };
 }
 
@@ -96,8 +74,10 @@ fn element_of<B: IntegerMapping, E: Element<B>>(bytes: E::Bytes) -> E
     }
 }
 
-/// Unsigned integers, and those that are not 0, in order of their size.
-impl<E: Element<ToUBE>> BytesMapping<E> for ToUBE {
+/// One integer as its bytes, as both mappings of integers write it. The order kept is that by size.
+pub struct Single<B: IntegerMapping>(PhantomData<B>);
+
+impl<B: IntegerMapping, E: Element<B>> BytesMapping<E> for Single<B> {
     type Bytes = E::Bytes;
 
     const ALLOCATES: bool = false;
@@ -108,88 +88,43 @@ impl<E: Element<ToUBE>> BytesMapping<E> for ToUBE {
 
     ghost READ_ALLOCATES = { false };
 
-    ghost is_in_domain = { IsElement IsUnsigned E.Bytes.WIDTH E.number };
+    ghost is_in_domain = { IsElement B.is_in_range E.Bytes.WIDTH E.number };
 
-    ghost text_of = { element_text unsigned_text E.Bytes.WIDTH E.number };
+    ghost text_of = { element_text B.number_text E.Bytes.WIDTH E.number };
 
     ghost are_same = { λ x y. x ≡ y };
 
-    ghost stands_for = { HasTextOf E.Bytes.text (element_text unsigned_text E.Bytes.WIDTH E.number) };
+    ghost stands_for = { HasTextOf E.Bytes.text (element_text B.number_text E.Bytes.WIDTH E.number) };
 
     ghost has_text = { λ _ _ _ stands. stands };
 
-    ghost reads_one = { λ _ x y x_in y_in x_text y_text. same_from_text (unsigned_keep E.Bytes.WIDTH E.has_bytes E.number E.number_decides) x y x_in y_in x_text y_text };
+    ghost one_text = { λ x y same. ap (element_text B.number_text E.Bytes.WIDTH E.number) same };
 
-    ghost kept_by_text = { λ a b _. kept_by_text (IsElement IsUnsigned E.Bytes.WIDTH E.number) E.Bytes.text (element_text unsigned_text E.Bytes.WIDTH E.number) a b };
+    ghost reads_one = { λ _ x y x_in y_in x_text y_text. same_from_text (elements_keep B.is_in_range B.number_text B.has_width B.keeps_size E.Bytes.WIDTH E.has_bytes E.number E.number_decides) x y x_in y_in x_text y_text };
+
+    ghost kept_by_text = { λ a b _. kept_by_text (IsElement B.is_in_range E.Bytes.WIDTH E.number) E.Bytes.text (element_text B.number_text E.Bytes.WIDTH E.number) a b };
 
     fn to_bytes(_alloc: Global, value: E) -> Result<E::Bytes, AllocError> {
         Ok(value.encode())
     }
 
     fn from_bytes(_alloc: Global, bytes: E::Bytes) -> Result<E, AllocError> {
-        Ok(element_of::<ToUBE, E>(bytes))
+        Ok(element_of::<B, E>(bytes))
     }
 
     fn is_value(bytes: &E::Bytes) -> bool {
-        is_element::<ToUBE, E>(*bytes)
+        is_element::<B, E>(*bytes)
     }
 }
 
-impl<E: Element<ToUBE>> OrderedMapping<E> for ToUBE {
+impl<B: IntegerMapping, E: Element<B>> OrderedMapping<E> for Single<B> {
     ghost domain_order = { on E.number int_cmp };
 
-    ghost keeps_order = { (unsigned_keep E.Bytes.WIDTH E.has_bytes E.number E.number_decides).keeps };
+    ghost keeps_order = { (elements_keep B.is_in_range B.number_text B.has_width B.keeps_size E.Bytes.WIDTH E.has_bytes E.number E.number_decides).keeps };
+
+    ghost decided_by_text = { λ x y x_in y_in same. same_from_text (elements_keep B.is_in_range B.number_text B.has_width B.keeps_size E.Bytes.WIDTH E.has_bytes E.number E.number_decides) x y x_in y_in refl same };
 }
 
-impl<E: Element<ToUBE>> NoPrefixesMapping<E> for ToUBE {
-    ghost no_prefixes = { λ x y _ _. front_is_whole (unsigned_keep E.Bytes.WIDTH E.has_bytes E.number E.number_decides) x y };
-}
-
-/// Signed integers, and those that are not 0, in order of their size.
-impl<E: Element<ToIBE>> BytesMapping<E> for ToIBE {
-    type Bytes = E::Bytes;
-
-    const ALLOCATES: bool = false;
-
-    const READ_ALLOCATES: bool = false;
-
-    ghost ALLOCATES = { false };
-
-    ghost READ_ALLOCATES = { false };
-
-    ghost is_in_domain = { IsElement IsSigned E.Bytes.WIDTH E.number };
-
-    ghost text_of = { element_text signed_text E.Bytes.WIDTH E.number };
-
-    ghost are_same = { λ x y. x ≡ y };
-
-    ghost stands_for = { HasTextOf E.Bytes.text (element_text signed_text E.Bytes.WIDTH E.number) };
-
-    ghost has_text = { λ _ _ _ stands. stands };
-
-    ghost reads_one = { λ _ x y x_in y_in x_text y_text. same_from_text (signed_keep E.Bytes.WIDTH E.has_bytes E.number E.number_decides) x y x_in y_in x_text y_text };
-
-    ghost kept_by_text = { λ a b _. kept_by_text (IsElement IsSigned E.Bytes.WIDTH E.number) E.Bytes.text (element_text signed_text E.Bytes.WIDTH E.number) a b };
-
-    fn to_bytes(_alloc: Global, value: E) -> Result<E::Bytes, AllocError> {
-        Ok(value.encode())
-    }
-
-    fn from_bytes(_alloc: Global, bytes: E::Bytes) -> Result<E, AllocError> {
-        Ok(element_of::<ToIBE, E>(bytes))
-    }
-
-    fn is_value(bytes: &E::Bytes) -> bool {
-        is_element::<ToIBE, E>(*bytes)
-    }
-}
-
-impl<E: Element<ToIBE>> OrderedMapping<E> for ToIBE {
-    ghost domain_order = { on E.number int_cmp };
-
-    ghost keeps_order = { (signed_keep E.Bytes.WIDTH E.has_bytes E.number E.number_decides).keeps };
-}
-
-impl<E: Element<ToIBE>> NoPrefixesMapping<E> for ToIBE {
-    ghost no_prefixes = { λ x y _ _. front_is_whole (signed_keep E.Bytes.WIDTH E.has_bytes E.number E.number_decides) x y };
+impl<B: IntegerMapping, E: Element<B>> NoPrefixesMapping<E> for Single<B> {
+    ghost no_prefixes = { λ x y _ _. front_is_whole (elements_keep B.is_in_range B.number_text B.has_width B.keeps_size E.Bytes.WIDTH E.has_bytes E.number E.number_decides) x y };
 }

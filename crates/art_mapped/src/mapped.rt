@@ -1,15 +1,17 @@
 ghost use Rattle.std.specs.Prelude.{◌≡◌, IsOk, IfOk, false};
 ghost use Rattle.art_mapped.specs.Mapping.{StandsForSome};
 
+use crate::mapping::{BytesMapping, NoPrefixesMapping, OrderedMapping};
 use art_bytes::{AsBytes, NoPrefixesBytes, OrderedBytes};
 use std::alloc::{AllocError, Global};
 use std::cmp::Ordering;
 use std::hash::{Hash, Hasher};
 use std::marker::PhantomData;
 
-use crate::mapping::{BytesMapping, NoPrefixesMapping, OrderedMapping};
-
-/// A key made of a value: the bytes of the value under a mapping.
+/// A key made of a value of `D`: the bytes of the value under the mapping `B`.
+///
+/// Keys are equal, and hashed, by their bytes alone. Under an `OrderedMapping` they are in the order of the
+/// values, which is that of the bytes. The mapping `B` is a type, of which there need be no value.
 pub struct Mapped<B: BytesMapping<D>, D> {
     repr: B::Bytes,
     mapping: PhantomData<(B, D)>,
@@ -18,14 +20,20 @@ pub struct Mapped<B: BytesMapping<D>, D> {
 
 impl<B: BytesMapping<D>, D> Drop for Mapped<B, D> {
     fn drop(self) {
-        let Mapped { repr: _, mapping: _ } = self;
+        let Mapped {
+            repr: _,
+            mapping: _,
+        } = self;
     }
 }
 
 impl<B: BytesMapping<D>, D> Mapped<B, D> {
     ghost use Rattle.art_mapped.specs.Mapped.{mapped_bytes, mapped_text, HoldsValue};
 
-    /// The key of a value.
+    /// The key of a value, with the value's text.
+    ///
+    /// Refuses only for want of memory, and never where `B::ALLOCATES` is false. The value has then been
+    /// dropped.
     pub fn new(alloc: Global, value: D) -> Result<Self, AllocError>
         ensures value { IfOk result (λ mapped. HoldsValue mapped value) }
         ensures text { IfOk result (λ mapped. mapped_text mapped ≡ B.text_of value) }
@@ -39,8 +47,12 @@ impl<B: BytesMapping<D>, D> Mapped<B, D> {
     }
 
     /// The value that the key was made of.
+    ///
+    /// Refuses only for want of memory, and never where `B::READ_ALLOCATES` is false. The key has then been
+    /// dropped.
     pub fn get(self, alloc: Global) -> Result<D, AllocError>
         ensures value { IfOk result (λ read. HoldsValue self read) }
+        ensures text { IfOk result (λ read. mapped_text self ≡ B.text_of read) }
         ensures inverts { (value : D) → HoldsValue self value → IfOk result (λ read. B.are_same read value) }
         ensures takes_no_memory { B.READ_ALLOCATES ≡ false → IsOk result }
     {
@@ -48,7 +60,9 @@ impl<B: BytesMapping<D>, D> Mapped<B, D> {
         B::from_bytes(alloc, repr)
     }
 
-    /// The same key again.
+    /// The same key again. A clone of the key's bytes has to have their text.
+    ///
+    /// Refuses where the clone of the bytes does. The key stays as it was.
     pub fn clone(&self) -> Result<Self, AllocError>
     where
         B::Bytes: Clone,
@@ -77,9 +91,10 @@ impl<B: BytesMapping<D>, D> AsBytes for Mapped<B, D> {
     }
 }
 
-/// No text is a proper front of another where the mapping says so.
+/// No key's text is a proper front of another's where that holds of the mapping's values: integers, addresses
+/// and arrays, and not vectors.
 impl<B: NoPrefixesMapping<D>, D> NoPrefixesBytes for Mapped<B, D> {
-    ghost use Rattle.art_mapped.specs.MappedLaws.{text_front_is_whole};
+    ghost use Rattle.art_mapped.specs.MappingLaws.{text_front_is_whole};
 
     ghost no_prefixes = { λ a b a_some b_some. text_front_is_whole _ _ _ _ B.has_text B.no_prefixes a.repr b.repr a_some b_some };
 }
@@ -125,7 +140,7 @@ impl<B: BytesMapping<D>, D> Hash for Mapped<B, D> {
     }
 }
 
-/// Keys of an ordered mapping are in the order of their bytes, which is that of their values.
+/// Keys of an ordered mapping are in the order of their bytes, which is that of the values.
 impl<B: OrderedMapping<D>, D> Ord for Mapped<B, D> {
     ghost use Rattle.std.specs.Ordering.{on};
     ghost use Rattle.std.proofs.Common.{rules};

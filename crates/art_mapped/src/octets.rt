@@ -1,18 +1,28 @@
-ghost use Rattle.std.specs.Prelude.{◌≡◌, false, refl};
+ghost use Rattle.std.specs.Prelude.{◌≡◌, false, IsTrue, refl};
 ghost use Rattle.std.specs.Ordering.{on};
+ghost use Rattle.std.proofs.Common.{ap};
 ghost use Rattle.std.specs.Net.Addr.{ipv4_octets, ipv6_octets};
 ghost use Rattle.art_bytes.specs.Text.{text_order};
-ghost use Rattle.art_mapped.specs.Mapping.{HasTextOf, kept_by_text};
-ghost use Rattle.art_mapped.specs.Addresses.{IsIpv4, IsIpv6, same_ipv4, same_ipv6, ipv4_front_is_whole, ipv6_front_is_whole};
+ghost use Rattle.art_mapped.specs.Mapping.{HasTextOf};
+ghost use Rattle.art_mapped.specs.MappingLaws.{kept_by_text};
+ghost use Rattle.art_mapped.specs.Addresses.{AreOctets, IsIpv4, IsIpv6};
+ghost use Rattle.art_mapped.specs.AddressLaws.{same_ipv4, same_ipv6, ipv4_front_is_whole, ipv6_front_is_whole};
 
+use crate::mapping::{BytesMapping, NoPrefixesMapping, OrderedMapping};
 use std::alloc::{AllocError, Global};
 use std::net::{Ipv4Addr, Ipv6Addr};
 
-use crate::mapping::{BytesMapping, NoPrefixesMapping, OrderedMapping};
-
-/// IP addresses as their octets, in order.
-#[derive(Clone, Copy)]
+/// IP addresses, `Ipv4Addr` and `Ipv6Addr`, as their octets in order.
 pub struct ToOctets;
+
+/// Whether an array's bytes are octets, as they always are.
+fn are_octets<const N: usize>(bytes: [u8; N]) -> bool
+    ensures always { IsTrue result }
+    ensures octets { AreOctets N bytes.entry }
+{
+    let _ = bytes;
+    true
+}
 
 /// IPv4 addresses as their four octets, in the order of the first that differs.
 impl BytesMapping<Ipv4Addr> for ToOctets {
@@ -32,9 +42,11 @@ impl BytesMapping<Ipv4Addr> for ToOctets {
 
     ghost are_same = { λ x y. x ≡ y };
 
-    ghost stands_for = { λ octets address. octets ≡ ipv4_octets address };
+    ghost stands_for = { HasTextOf (λ octets. octets) ipv4_octets };
 
     ghost has_text = { λ _ _ _ stands. stands };
+
+    ghost one_text = { λ x y same. ap ipv4_octets same };
 
     ghost reads_one = { λ _ x y _ _. same_ipv4 x y };
 
@@ -48,8 +60,8 @@ impl BytesMapping<Ipv4Addr> for ToOctets {
         Ok(Ipv4Addr::from_octets(bytes))
     }
 
-    fn is_value(_bytes: &[u8; 4]) -> bool {
-        true
+    fn is_value(bytes: &[u8; 4]) -> bool {
+        are_octets(*bytes)
     }
 }
 
@@ -57,6 +69,8 @@ impl OrderedMapping<Ipv4Addr> for ToOctets {
     ghost domain_order = { on ipv4_octets text_order };
 
     ghost keeps_order = { λ _ _ _ _. refl };
+
+    ghost decided_by_text = { λ x y _ _ same. same_ipv4 x y refl same };
 }
 
 impl NoPrefixesMapping<Ipv4Addr> for ToOctets {
@@ -81,9 +95,11 @@ impl BytesMapping<Ipv6Addr> for ToOctets {
 
     ghost are_same = { λ x y. x ≡ y };
 
-    ghost stands_for = { λ octets address. octets ≡ ipv6_octets address };
+    ghost stands_for = { HasTextOf (λ octets. octets) ipv6_octets };
 
     ghost has_text = { λ _ _ _ stands. stands };
+
+    ghost one_text = { λ x y same. ap ipv6_octets same };
 
     ghost reads_one = { λ _ x y _ _. same_ipv6 x y };
 
@@ -97,8 +113,8 @@ impl BytesMapping<Ipv6Addr> for ToOctets {
         Ok(Ipv6Addr::from_octets(bytes))
     }
 
-    fn is_value(_bytes: &[u8; 16]) -> bool {
-        true
+    fn is_value(bytes: &[u8; 16]) -> bool {
+        are_octets(*bytes)
     }
 }
 
@@ -106,6 +122,8 @@ impl OrderedMapping<Ipv6Addr> for ToOctets {
     ghost domain_order = { on ipv6_octets text_order };
 
     ghost keeps_order = { λ _ _ _ _. refl };
+
+    ghost decided_by_text = { λ x y _ _ same. same_ipv6 x y refl same };
 }
 
 impl NoPrefixesMapping<Ipv6Addr> for ToOctets {

@@ -2,12 +2,15 @@ ghost use Rattle.std.specs.Prelude.{◌≡◌, ◌≢◌, ◌↔◌, ◌/◌, �
 ghost use Rattle.art_mapped.specs.Numbers.{IsElement, element_text};
 ghost use Rattle.art_mapped.specs.Sequences.{joined, AreJoined, part};
 
+use crate::fixed::FixedBytes;
+use crate::integer::{Element, IntegerMapping};
 use art_bytes::AsBytes;
 use std::alloc::{AllocError, Global};
 use std::array;
+use std::marker::PhantomData;
 
-use crate::fixed::FixedBytes;
-use crate::integer::{Element, IntegerMapping};
+/// Several integers as their bytes joined, as both mappings of integers write arrays and vectors.
+pub struct Joined<B: IntegerMapping>(PhantomData<B>);
 
 /// The bytes of the elements, joined.
 pub(crate) fn joined_bytes<B: IntegerMapping, E: Element<B>>(

@@ -1,19 +1,20 @@
 ghost use Rattle.std.specs.Prelude.{◌≡◌, ◌↔◌, true, false, IsTrue, IfOk, List, Vec};
 ghost use Rattle.std.specs.declared.alloc.Global.{Global};
 ghost use Rattle.std.specs.Ordering.{int_cmp, on};
+ghost use Rattle.std.proofs.Common.{ap, refl};
 ghost use Rattle.std.specs.Cmp.Lexicographic.{slice_cmp};
 ghost use Rattle.std.specs.Vec.{vec_items};
-ghost use Rattle.art_mapped.specs.Mapping.{StandsForSome, HasTextOf, kept_by_text};
-ghost use Rattle.art_mapped.specs.Numbers.{IsUnsigned, IsSigned, unsigned_text, signed_text, IsElement, element_text};
-ghost use Rattle.art_mapped.specs.Sequences.{IsVec, vec_text};
-ghost use Rattle.art_mapped.specs.SequenceLaws.{unsigned_keep, signed_keep, same_from_joined, joined_keep};
-
-use std::alloc::{AllocError, Global};
+ghost use Rattle.art_mapped.specs.Mapping.{StandsForSome, HasTextOf};
+ghost use Rattle.art_mapped.specs.MappingLaws.{kept_by_text};
+ghost use Rattle.art_mapped.specs.Numbers.{IsElement, element_text};
+ghost use Rattle.art_mapped.specs.Sequences.{joined, IsVec, vec_text};
+ghost use Rattle.art_mapped.specs.SequenceLaws.{elements_keep, same_from_joined, joined_keep};
 
 use crate::fixed::FixedBytes;
-use crate::integer::{Element, IntegerMapping, ToIBE, ToUBE};
+use crate::integer::{Element, IntegerMapping};
 use crate::mapping::{BytesMapping, OrderedMapping};
-use crate::sequence::{are_elements, joined_bytes, vec_of};
+use crate::sequence::{Joined, are_elements, joined_bytes, vec_of};
+use std::alloc::{AllocError, Global};
 
 /// Whether the bytes are those of some vector.
 fn is_vec<B: IntegerMapping, E: Element<B>>(bytes: &Vec<u8>) -> bool
@@ -35,8 +36,9 @@ fn read_vec<B: IntegerMapping, E: Element<B>>(
     vec_of::<B, E>(alloc, &bytes)
 }
 
-/// Vectors, in the order of the first element that differs, a shorter front first.
-impl<E: Element<ToUBE>> BytesMapping<Vec<E>> for ToUBE {
+/// Vectors, in the order of the first element that differs, a shorter front first. The bytes of one may begin
+/// another's, so these keys are not free of prefixes.
+impl<B: IntegerMapping, E: Element<B>> BytesMapping<Vec<E>> for Joined<B> {
     type Bytes = Vec<u8>;
 
     const ALLOCATES: bool = true;
@@ -47,80 +49,39 @@ impl<E: Element<ToUBE>> BytesMapping<Vec<E>> for ToUBE {
 
     ghost READ_ALLOCATES = { true };
 
-    ghost is_in_domain = { IsVec (IsElement IsUnsigned E.Bytes.WIDTH E.number) };
+    ghost is_in_domain = { IsVec (IsElement B.is_in_range E.Bytes.WIDTH E.number) };
 
-    ghost text_of = { vec_text (element_text unsigned_text E.Bytes.WIDTH E.number) };
-
-    ghost are_same = { λ x y. vec_items x ≡ vec_items y };
-
-    ghost stands_for = { HasTextOf vec_items (vec_text (element_text unsigned_text E.Bytes.WIDTH E.number)) };
-
-    ghost has_text = { λ _ _ _ stands. stands };
-
-    ghost reads_one = { λ _ x y x_in y_in x_text y_text. same_from_joined (unsigned_keep E.Bytes.WIDTH E.has_bytes E.number E.number_decides) x.items y.items x_in y_in x_text y_text };
-
-    ghost kept_by_text = { λ a b _. kept_by_text (IsVec (IsElement IsUnsigned E.Bytes.WIDTH E.number)) vec_items (vec_text (element_text unsigned_text E.Bytes.WIDTH E.number)) a b };
-
-    fn to_bytes(alloc: Global, value: Vec<E>) -> Result<Vec<u8>, AllocError> {
-        joined_bytes::<ToUBE, E>(alloc, &value)
-    }
-
-    fn from_bytes(alloc: Global, bytes: Vec<u8>) -> Result<Vec<E>, AllocError> {
-        read_vec::<ToUBE, E>(alloc, bytes)
-    }
-
-    fn is_value(bytes: &Vec<u8>) -> bool {
-        is_vec::<ToUBE, E>(bytes)
-    }
-}
-
-impl<E: Element<ToUBE>> OrderedMapping<Vec<E>> for ToUBE {
-    ghost domain_order = { on vec_items (slice_cmp (on E.number int_cmp)) };
-
-    ghost keeps_order = { λ x y. joined_keep (unsigned_keep E.Bytes.WIDTH E.has_bytes E.number E.number_decides) x.items y.items };
-}
-
-/// Vectors, in the order of the first element that differs, a shorter front first.
-impl<E: Element<ToIBE>> BytesMapping<Vec<E>> for ToIBE {
-    type Bytes = Vec<u8>;
-
-    const ALLOCATES: bool = true;
-
-    const READ_ALLOCATES: bool = true;
-
-    ghost ALLOCATES = { true };
-
-    ghost READ_ALLOCATES = { true };
-
-    ghost is_in_domain = { IsVec (IsElement IsSigned E.Bytes.WIDTH E.number) };
-
-    ghost text_of = { vec_text (element_text signed_text E.Bytes.WIDTH E.number) };
+    ghost text_of = { vec_text (element_text B.number_text E.Bytes.WIDTH E.number) };
 
     ghost are_same = { λ x y. vec_items x ≡ vec_items y };
 
-    ghost stands_for = { HasTextOf vec_items (vec_text (element_text signed_text E.Bytes.WIDTH E.number)) };
+    ghost stands_for = { HasTextOf vec_items (vec_text (element_text B.number_text E.Bytes.WIDTH E.number)) };
 
     ghost has_text = { λ _ _ _ stands. stands };
 
-    ghost reads_one = { λ _ x y x_in y_in x_text y_text. same_from_joined (signed_keep E.Bytes.WIDTH E.has_bytes E.number E.number_decides) x.items y.items x_in y_in x_text y_text };
+    ghost one_text = { λ x y same. ap (joined (element_text B.number_text E.Bytes.WIDTH E.number)) same };
 
-    ghost kept_by_text = { λ a b _. kept_by_text (IsVec (IsElement IsSigned E.Bytes.WIDTH E.number)) vec_items (vec_text (element_text signed_text E.Bytes.WIDTH E.number)) a b };
+    ghost reads_one = { λ _ x y x_in y_in x_text y_text. same_from_joined (elements_keep B.is_in_range B.number_text B.has_width B.keeps_size E.Bytes.WIDTH E.has_bytes E.number E.number_decides) x.items y.items x_in y_in x_text y_text };
+
+    ghost kept_by_text = { λ a b _. kept_by_text (IsVec (IsElement B.is_in_range E.Bytes.WIDTH E.number)) vec_items (vec_text (element_text B.number_text E.Bytes.WIDTH E.number)) a b };
 
     fn to_bytes(alloc: Global, value: Vec<E>) -> Result<Vec<u8>, AllocError> {
-        joined_bytes::<ToIBE, E>(alloc, &value)
+        joined_bytes::<B, E>(alloc, &value)
     }
 
     fn from_bytes(alloc: Global, bytes: Vec<u8>) -> Result<Vec<E>, AllocError> {
-        read_vec::<ToIBE, E>(alloc, bytes)
+        read_vec::<B, E>(alloc, bytes)
     }
 
     fn is_value(bytes: &Vec<u8>) -> bool {
-        is_vec::<ToIBE, E>(bytes)
+        is_vec::<B, E>(bytes)
     }
 }
 
-impl<E: Element<ToIBE>> OrderedMapping<Vec<E>> for ToIBE {
+impl<B: IntegerMapping, E: Element<B>> OrderedMapping<Vec<E>> for Joined<B> {
     ghost domain_order = { on vec_items (slice_cmp (on E.number int_cmp)) };
 
-    ghost keeps_order = { λ x y. joined_keep (signed_keep E.Bytes.WIDTH E.has_bytes E.number E.number_decides) x.items y.items };
+    ghost keeps_order = { λ x y. joined_keep (elements_keep B.is_in_range B.number_text B.has_width B.keeps_size E.Bytes.WIDTH E.has_bytes E.number E.number_decides) x.items y.items };
+
+    ghost decided_by_text = { λ x y x_in y_in same. same_from_joined (elements_keep B.is_in_range B.number_text B.has_width B.keeps_size E.Bytes.WIDTH E.has_bytes E.number E.number_decides) x.items y.items x_in y_in refl same };
 }

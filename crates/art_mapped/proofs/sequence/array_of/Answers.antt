@@ -1,4 +1,4 @@
-use Rattle.std.proofs.Common.{rules, arith, ◌≡◌, ap, ◌∙◌, sym, ◌*◌}
+use Rattle.std.proofs.Common.{rules, arith, ap, ◌∙◌, sym, ◌*◌}
 use Rattle.std.proofs.iter.Serving.{serving}
 use Rattle.art_mapped.specs.Numbers.{IsElement, element_text}
 use Rattle.art_mapped.proofs.Parts.{no_rest, size_of_parts, joined_from_parts}

@@ -1,4 +1,4 @@
-use Rattle.std.proofs.Common.{◌≡◌, sym, ◌∙◌}
+use Rattle.std.proofs.Common.{sym, ◌∙◌}
 use Rattle.art_mapped.specs.Numbers.{IsElement, element_text}
 use Rattle.art_mapped.specs.SequenceLaws.{elements_keep, same_from_joined}
 use Rattle.art_mapped.proofs.Answered.{if_ok_both}

@@ -1,6 +1,6 @@
-use Rattle.std.proofs.Common.{rules, ℤ, SFits, sym, ap, ◌∙◌}
+use Rattle.std.proofs.Common.{rules, SFits, sym, ap, ◌∙◌}
 use Rattle.std.proofs.lemmas.Int.{to_z-of_z}
-use Rattle.std.specs.Int.{w128, cast_signed}
+use Rattle.std.specs.Int.{w128}
 use Rattle.art_mapped.specs.Numbers.{digits}
 use Rattle.art_mapped.specs.DigitLaws.{digits-read}
 use Rattle.art_mapped.proofs.Flip.{flipped_back}

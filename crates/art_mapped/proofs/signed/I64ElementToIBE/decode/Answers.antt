@@ -1,6 +1,5 @@
-use Rattle.std.proofs.Common.{rules, ℤ, SFits, w64, sym, ap, ◌∙◌}
+use Rattle.std.proofs.Common.{rules, SFits, w64, sym, ap, ◌∙◌}
 use Rattle.std.proofs.lemmas.Int.{to_z-of_z}
-use Rattle.std.specs.Int.{cast_signed}
 use Rattle.art_mapped.specs.Numbers.{digits}
 use Rattle.art_mapped.specs.DigitLaws.{digits-read}
 use Rattle.art_mapped.proofs.Flip.{flipped_back}

@@ -1,10 +1,14 @@
--- What a law of a mapping says of the keys that hold its values.
+-- What bytes that stand for values take from the laws of the mapping.
 use Rattle.std.specs.Prelude.{◌≡◌, ℕ, List}
 use Rattle.std.proofs.Common.{sym, ◌∙◌}
 use Rattle.std.proofs.Props.{props}
-use Rattle.std.proofs.Math.Logic.{∥∥₁_elim}
+use Rattle.std.proofs.Math.Logic.{∥∥₁_elim, ∥∥₁_map}
 use Rattle.art_bytes.specs.Text.{IsFront}
-use Rattle.art_mapped.specs.Mapping.{StandsForSome}
+use Rattle.art_mapped.specs.Mapping.{StandsForSome, HasTextOf}
+
+-- where bytes stand for what has their text, other bytes with that text stand for some value too
+pub kept_by_text : {B D : Type 0} (is_in_domain : D → Type 0) (text : B → List ℕ) (text_of : D → List ℕ) (a b : B) → text a ≡ text b → StandsForSome is_in_domain (HasTextOf text text_of) a → StandsForSome is_in_domain (HasTextOf text text_of) b
+kept_by_text is_in_domain text text_of a b same some = ∥∥₁_map some (λ of. (of.0, of.1, sym same ∙ of.2))
 
 -- where no value's text is a proper front of another's, none is of bytes that stand for values
 pub text_front_is_whole : {B D : Type 0} (is_in_domain : D → Type 0) (stands_for : B → D → Type 0) (text : B → List ℕ) (text_of : D → List ℕ)
@@ -13,6 +17,6 @@ pub text_front_is_whole : {B D : Type 0} (is_in_domain : D → Type 0) (stands_f
     → (a b : B) → StandsForSome is_in_domain stands_for a → StandsForSome is_in_domain stands_for b → IsFront (text a) (text b) → text a ≡ text b
 text_front_is_whole is_in_domain stands_for text text_of has_text no_prefixes a b a_some b_some front =
     ∥∥₁_elim a_some (hlevel props) (λ x. ∥∥₁_elim b_some (hlevel props) (λ y.
-      let a_text = has_text a x.0 x.1 x.2 in
-      let b_text = has_text b y.0 y.1 y.2 in
-      a_text ∙ no_prefixes x.0 y.0 x.1 y.1 (rw (a_text, b_text) at front) ∙ sym b_text))
+    let a_text = has_text a x.0 x.1 x.2 in
+    let b_text = has_text b y.0 y.1 y.2 in
+    a_text ∙ no_prefixes x.0 y.0 x.1 y.1 (rw (a_text, b_text) at front) ∙ sym b_text))

@@ -1,5 +1,5 @@
 use Rattle.std.proofs.Common.{◌-◌, ◌≤◌, length}
-use Rattle.art_cli.proofs.parse.check_room.Given as goal
+use Rattle.art_cli.proofs.room.check_room.Given as goal
 
 abbrev pub invariant-loop-low : goal.invariant-loop-low
 invariant-loop-low l = l.high ≤ length l.commands

@@ -1,0 +1,62 @@
+-- What the lines of the input say.
+use Rattle.std.specs.Prelude.{◌≡◌, ℕ, ◌^◌, ◌<◌, ◌≤◌, ◌==◌, List, All, [], ◌∷◌, Bool, false, IsTrue, codes, length, if◌then◌else◌}
+use Rattle.std.specs.List.{slice_split}
+use Rattle.std.specs.Int.{IsInRange}
+use Rattle.std.specs.Str.Parse.{digits_value}
+use Rattle.std.specs.declared.ops.Bound.{Bound}
+use Rattle.std.specs.declared.ops.Bound.TheVariants.{Included, Excluded, Unbounded}
+use Rattle.art_nodes.specs.declared.NodeType.TheVariants.{Leaf}
+use Rattle.art_nodes.specs.Pointers.{node_kind, opaque_key}
+use Rattle.art_nodes.specs.declared.command.ChildCommand.{ChildCommand}
+use Rattle.art_nodes.specs.declared.command.ChildCommand.TheVariants.{Write, Remove, Lookup, Min, Max, Range}
+
+-- parts but for a last one that is empty
+abbrev pub without_empty_last : List (List ℕ) → List (List ℕ)
+without_empty_last [] = []
+without_empty_last ([] ∷ []) = []
+without_empty_last (part ∷ parts) = part ∷ without_empty_last parts
+
+-- a line ends at byte 10, and a last line without one counts where it has a byte
+abbrev pub lines_of : List ℕ → List (List ℕ)
+lines_of bytes = without_empty_last (slice_split (λ b. b == 10) bytes)
+
+-- a line is cut at each space
+abbrev pub words_of : List ℕ → List (List ℕ)
+words_of line = slice_split (λ b. b == 32) line
+
+-- one to ten decimal digits that give the number
+pub record IsNumber (word : List ℕ) (number : ℕ) : Type 0 where
+  pub has_digit : 0 < length word
+  pub has_room : length word ≤ 10
+  pub digits : All (IsInRange 48 57) word
+  pub value : digits_value 10 word ≡ number
+
+-- a number below 256, and one below 2^32
+abbrev pub IsByte : List ℕ → ℕ → Type 0
+IsByte word number = IsNumber word number × (number < 256)
+
+abbrev pub IsKey : List ℕ → ℕ → Type 0
+IsKey word number = IsNumber word number × (number < 2 ^ 32)
+
+-- a bound: `i` and a byte that is included, `e` and one that is excluded, or `u`
+abbrev pub IsBound : List ℕ → Bound ℕ → Type 0
+IsBound word (Included byte) = (digits : List ℕ) × (word ≡ 105 ∷ digits) × IsByte digits byte
+IsBound word (Excluded byte) = (digits : List ℕ) × (word ≡ 101 ∷ digits) × IsByte digits byte
+IsBound word Unbounded = word ≡ 117 ∷ []
+
+module _ {K V : Type 0} {P : ℕ} where
+  -- a command, by the words of its line; a child is the pointer to the leaf under its key
+  abbrev pub SayCommand : List (List ℕ) → ChildCommand K V P → Type 0
+  SayCommand words (Write byte child) = (b key : List ℕ) × (words ≡ codes "w" ∷ b ∷ key ∷ []) × IsByte b byte × IsKey key (opaque_key child) × (node_kind child ≡ Leaf)
+  SayCommand words (Remove byte) = (b : List ℕ) × (words ≡ codes "r" ∷ b ∷ []) × IsByte b byte
+  SayCommand words (Lookup byte) = (b : List ℕ) × (words ≡ codes "l" ∷ b ∷ []) × IsByte b byte
+  SayCommand words Min = words ≡ codes "min" ∷ []
+  SayCommand words Max = words ≡ codes "max" ∷ []
+  SayCommand words (Range start end) = (low high : List ℕ) × (words ≡ codes "range" ∷ low ∷ high ∷ []) × IsBound low start × IsBound high end
+
+  -- lines and their commands, one a line, up to the first bad line where there is one
+  abbrev pub SayCommands : List (List ℕ) → List (ChildCommand K V P) → Bool → Type 0
+  SayCommands [] [] is_whole = IsTrue is_whole
+  SayCommands (line ∷ lines) (command ∷ commands) is_whole = SayCommand (words_of line) command × SayCommands lines commands is_whole
+  SayCommands (line ∷ lines) [] is_whole = is_whole ≡ false
+  SayCommands [] (command ∷ commands) is_whole = ⊥
