@@ -1,5 +1,5 @@
 -- Children written one after another by ascending byte.
-use Rattle.std.proofs.Common.{◌≡◌, ℕ, suc, ◌<◌, ◌≤◌, List, [], ◌∷◌, ◌++◌, refl, ◌∙◌, ap, arith}
+use Rattle.std.proofs.Common.{◌≡◌, ℕ, suc, ◌≤◌, [], ◌∷◌, ◌++◌, refl, ◌∙◌, ap, arith}
 use Rattle.art_nodes.specs.ChildMap.{ChildMap, with_child}
 use Rattle.art_nodes.proofs.ChildMapLemmas.{IsAbove, with_child-later}
 

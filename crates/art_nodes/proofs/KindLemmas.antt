@@ -1,17 +1,15 @@
 -- Which kind holds how many children.
-use Rattle.std.proofs.Common.{◌≡◌, ◌≢◌, ℕ, suc, ◌+◌, ◌<◌, ◌≤◌, length, Some, None, IsSome, IsNone, Option, refl, sym, ◌∙◌, ap, subst, inl, inr, ◌⊎◌, if◌then◌else◌, arith}
-use mathlib.Core.Bool.{true≢false}
+use Rattle.std.specs.Option.{is_some}
+use Rattle.std.proofs.Common.{true, false, ◌≡◌, ◌≢◌, ℕ, suc, ◌+◌, ◌<◌, ◌≤◌, length, Some, None, IsSome, IsNone, Option, refl, sym, ◌∙◌, ap, subst, inl, inr, ◌⊎◌, if◌then◌else◌, arith}
+use Rattle.std.proofs.lemmas.List.{length-map}
 use Rattle.std.proofs.lemmas.Bool.{cases_lt}
 use Rattle.std.proofs.lemmas.Bool.Decides.{nat_tests}
-use Rattle.art_header.specs.NodeType.{least_children, most_children, kind_for}
+use Rattle.art_header.specs.NodeType.{least_children, most_children, grown_kind, shrunk_kind, kind_for}
 use Rattle.art_header.specs.declared.node_type.NodeType.{NodeType}
 use Rattle.art_header.specs.declared.node_type.NodeType.TheVariants.{Node4, Node16, Node48, Node256, Leaf}
-use Rattle.art_nodes.specs.ChildMap.{ChildMap, IsAscending, key_bytes, child_at, with_child}
-use Rattle.art_nodes.specs.AnyInner.{kind_of}
-use Rattle.art_nodes.specs.Inner.{Inner}
-use Rattle.art_nodes.specs.declared.any_inner.AnyInner.{AnyInner}
-use Rattle.art_nodes.specs.declared.any_inner.AnyInner.TheVariants.{OfFour, OfSixteen}
-use Rattle.art_nodes.proofs.ChildMapLemmas.{length-with_child}
+use Rattle.art_nodes.specs.ChildMap.{ChildMap, IsAscending, key_bytes, child_at, with_child, without_child}
+use Rattle.art_nodes.proofs.ChildMapLemmas.{above-with_child, length-with_child, length-without_child}
+use Rattle.art_nodes.proofs.SortedLemmas.{ascending-length}
 
 -- an inner node of this kind may have so many children
 pub record IsOfKind (kind : NodeType) (count : ℕ) : Type 0 where
@@ -75,15 +73,54 @@ module _ {H : Type 0} (kind : NodeType) (children : ChildMap H) (byte : ℕ) (ch
       let one_more = rw absent at (length-with_child {H = H} 0 byte children child ascending) in
       kind_for-IsOfKind next (length (with_child children byte child)) (record { inner = inner; few = omega (arith, one_more); many = λ differs. omega (arith, one_more) })
 
--- the kinds that there are
-pub four_or_sixteen : {K V : Type 0} {P : ℕ} (any : AnyInner K V P) → (kind_of any ≡ Node4) ⊎ (kind_of any ≡ Node16)
-four_or_sixteen (OfFour node) = inl refl
-four_or_sixteen (OfSixteen node) = inr refl
+-- a node that lacks a byte has fewer than 256 children
+pub absent_below : {H : Type 0} (children : ChildMap H) (byte : ℕ) (child : H) → IsAscending (key_bytes children) → byte < 256 → IsNone (child_at children byte) → length children < 256
+absent_below {H} children byte child ascending fits absent =
+    let one_more = rw absent at (length-with_child {H = H} 0 byte children child ascending) in
+    let bytes = ascending-length 0 (key_bytes (with_child children byte child)) (omega arith) (above-with_child {H = H} 0 byte children child (omega arith) fits ascending) in
+    omega (arith, one_more, bytes, length-map (with_child children byte child) (λ p. p.0))
 
--- a node that is sent a write of a new byte has fewer than sixteen children
-pub new_byte_below : {H : Type 0} (node : Inner H) (children : ChildMap H) (byte : ℕ) → children ≡ node.children → IsNone (child_at children byte) → (child_at node.children byte ≡ None → length node.children < 16) → length children < 16
-new_byte_below node children byte same absent below = rw same (below (none_of (child_at node.children byte) (rw same at absent)))
-  where
-    none_of : {H : Type 0} (o : Option H) → IsNone o → o ≡ None
-    none_of None h = refl
-    none_of (Some x) h = absurd (true≢false h)
+-- the next greater kind
+pub record Grows (kind : NodeType) : Type 0 where
+  pub inner : grown_kind kind ≢ Leaf
+  pub least : least_children (grown_kind kind) ≡ most_children kind + 1
+  pub most : most_children kind < most_children (grown_kind kind)
+
+pub Grows-kind : (kind : NodeType) → kind ≢ Leaf → kind ≢ Node256 → Grows kind
+Grows-kind Node4 inner smaller = record { inner = λ e. cc; least = refl; most = omega arith }
+Grows-kind Node16 inner smaller = record { inner = λ e. cc; least = refl; most = omega arith }
+Grows-kind Node48 inner smaller = record { inner = λ e. cc; least = refl; most = omega arith }
+Grows-kind Node256 inner smaller = absurd (smaller refl)
+Grows-kind Leaf inner smaller = absurd (inner refl)
+
+-- the next smaller kind
+pub record Shrinks (kind : NodeType) : Type 0 where
+  pub inner : shrunk_kind kind ≢ Leaf
+  pub least : least_children kind ≡ most_children (shrunk_kind kind) + 1
+  pub many : least_children (shrunk_kind kind) ≤ most_children (shrunk_kind kind)
+
+pub Shrinks-kind : (kind : NodeType) → kind ≢ Leaf → kind ≢ Node4 → Shrinks kind
+Shrinks-kind Node4 inner greater = absurd (greater refl)
+Shrinks-kind Node16 inner greater = record { inner = λ e. cc; least = refl; many = omega arith }
+Shrinks-kind Node48 inner greater = record { inner = λ e. cc; least = refl; many = omega arith }
+Shrinks-kind Node256 inner greater = record { inner = λ e. cc; least = refl; many = omega arith }
+Shrinks-kind Leaf inner greater = absurd (inner refl)
+
+-- a removal that leaves a node in its range keeps the kind
+pub kept-remove : (kind : NodeType) (count left : ℕ) → IsOfKind kind count → left ≤ count → (kind ≢ Node4 → least_children kind ≤ left) → kind ≡ kind_for left
+kept-remove kind count left of le many = kind_for-IsOfKind kind left (record { inner = of.inner; few = omega (arith, of.few); many = many })
+
+-- one that leaves it below its range asks for the next smaller kind
+pub shrunk-remove : (kind : NodeType) (count left : ℕ) → IsOfKind kind count → count ≤ left + 1 → kind ≢ Node4 → left < least_children kind → shrunk_kind kind ≡ kind_for left
+shrunk-remove kind count left of le greater below =
+    let shrinks = Shrinks-kind kind of.inner greater in
+    kind_for-IsOfKind (shrunk_kind kind) left (record { inner = shrinks.inner; few = omega (arith, shrinks.least); many = λ differs. omega (arith, shrinks.least, shrinks.many, of.many greater) })
+
+-- a removal takes one child at most
+pub removed_counts : {H : Type 0} (children : ChildMap H) (byte : ℕ) → IsAscending (key_bytes children) → record { few : length (without_child children byte) ≤ length children; many : length children ≤ length (without_child children byte) + 1 }
+removed_counts {H} children byte ascending =
+    let counts = length-without_child {H = H} 0 byte children ascending in
+    elim (is_some (child_at children byte)) as (λ b. length (without_child children byte) + (if b then 1 else 0) ≡ length children → record { few : length (without_child children byte) ≤ length children; many : length children ≤ length (without_child children byte) + 1 }) [
+      | true ↦ λ same. record { few = omega (arith, same); many = omega (arith, same) }
+      | false ↦ λ same. record { few = omega (arith, same); many = omega (arith, same) }
+    ] counts

@@ -1,4 +1,3 @@
-pub mod BoundLemmas
 pub mod BuilderLemmas
 pub mod ChildMapLemmas
 pub mod ConversionLemmas

@@ -205,8 +205,3 @@ module _ {H : Type 0} (room : ℕ) (header : Header) (bytes : List ℕ) (childre
     fits = omega (arith, sorted.fits, length-remove bytes place in_range);
     ascending = ascending-remove 0 bytes place sorted.ascending;
   }
-
--- a child map is its bytes with its children beside them
-pub zip_parts : {H : Type 0} (children : ChildMap H) → zip (map (λ p. p.0) children) (map (λ p. p.1) children) ≡ children
-zip_parts [] = refl
-zip_parts (x ∷ children) = ap (λ rest. x ∷ rest) (zip_parts children)

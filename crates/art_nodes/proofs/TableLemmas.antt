@@ -1,8 +1,7 @@
 -- Tables with a place for each byte, as child maps.
-use Rattle.std.proofs.Common.{◌≡◌, ℕ, zero, suc, ◌+◌, ◌-◌, ◌<◌, ◌≤◌, ◌≢◌, List, [], ◌∷◌, ◌++◌, length, get_or, set, take, drop, map, replicate, Option, Some, None, slice_get, refl, sym, ◌∙◌, ap, arith, add-one, Bool, if◌then◌else◌}
+use Rattle.std.proofs.Common.{◌≡◌, ℕ, zero, suc, ◌+◌, ◌-◌, ◌<◌, ◌≤◌, List, [], ◌∷◌, ◌++◌, length, get_or, set, Option, Some, None, refl, sym, ◌∙◌, ap, arith, Bool, if◌then◌else◌}
 use Rattle.std.specs.Option.{is_some}
-use Rattle.std.proofs.lemmas.List.{append-nil, length-append, length-take, drop_more, take_more}
-use Rattle.art_nodes.specs.ChildMap.{ChildMap, child_at, with_child, without_child, table_children}
+use Rattle.art_nodes.specs.ChildMap.{child_at, with_child, without_child, table_children}
 use Rattle.art_nodes.proofs.ChildMapLemmas.{IsAbove, above-lower, with_child-front, with_child-same, with_child-later, child_at-front, child_at-same, child_at-later, without_child-front, without_child-same, without_child-later, length-with_child, length-without_child}
 
 module _ {H : Type 0} where
@@ -66,43 +65,8 @@ module _ {H : Type 0} where
       let was_there = ap is_some (child_at-table 0 table place place (omega arith) (omega arith)) ∙ is in
       rw (← emptied, ← was_there) counted
 
-  -- a table of empty places has no children
-  pub table-replicate : (first n : ℕ) → table_children {H = H} first (replicate n None) ≡ []
-  table-replicate first zero = refl
-  table-replicate first (suc n) = table-replicate (suc first) n
-
   -- the places of one table after those of another
   pub table-append : (first : ℕ) (front back : List (Option H)) → table_children first (front ++ back) ≡ table_children first front ++ table_children (first + length front) back
   table-append first [] back = ap (λ n. table_children n back) (omega arith)
   table-append first (None ∷ front) back = table-append (suc first) front back ∙ ap (λ n. table_children (suc first) front ++ table_children n back) (omega arith)
   table-append first (Some child ∷ front) back = ap (λ rest. (first, child) ∷ rest) (table-append (suc first) front back ∙ ap (λ n. table_children (suc first) front ++ table_children n back) (omega arith))
-
-  -- from one place on: an empty place adds nothing, a filled one its pair in front
-  pub table-skip : (table : List (Option H)) (place : ℕ) → place < length table → get_or table place None ≡ None → table_children place (drop place table) ≡ table_children (place + 1) (drop (place + 1) table)
-  table-skip table place within empty = rw (drop_more table place None within, empty, add-one) refl
-
-  pub table-found : (table : List (Option H)) (place : ℕ) (child : H) → place < length table → get_or table place None ≡ Some child → table_children place (drop place table) ≡ (place, child) ∷ table_children (place + 1) (drop (place + 1) table)
-  table-found table place child within filled = rw (drop_more table place None within, filled, add-one) refl
-
-  -- up to a place: the same from the other side
-  pub table-skip_back : (table : List (Option H)) (place : ℕ) → place < length table → get_or table place None ≡ None → table_children 0 (take (place + 1) table) ≡ table_children 0 (take place table)
-  table-skip_back table place within empty =
-      ap (table_children 0) (take_more table place None within) ∙ table-append 0 (take place table) (get_or table place None ∷ []) ∙ ap (λ x. table_children 0 (take place table) ++ table_children (0 + length (take place table)) (x ∷ [])) empty ∙ append-nil (table_children 0 (take place table))
-
-  pub table-found_back : (table : List (Option H)) (place : ℕ) (child : H) → place < length table → get_or table place None ≡ Some child → table_children 0 (take (place + 1) table) ≡ table_children 0 (take place table) ++ (place, child) ∷ []
-  table-found_back table place child within filled =
-      let at : 0 + length (take place table) ≡ place = simp length-take (omega arith) in
-      ap (table_children 0) (take_more table place None within) ∙ table-append 0 (take place table) (get_or table place None ∷ []) ∙ ap (λ x. table_children 0 (take place table) ++ table_children (0 + length (take place table)) (x ∷ [])) filled ∙ ap (λ n. table_children 0 (take place table) ++ (n, child) ∷ []) at
-
-  -- what was put behind some pairs is the last
-  at_push : (children : ChildMap H) (pair : ℕ × H) (n : ℕ) → n ≡ length children → slice_get (children ++ pair ∷ []) n ≡ Some pair
-  at_push [] pair zero at = refl
-  at_push [] pair (suc n) at = absurd (omega arith)
-  at_push (x ∷ children) pair zero at = absurd (omega arith)
-  at_push (x ∷ children) pair (suc n) at = at_push children pair n (omega arith)
-
-  -- a filled place with empty ones behind it has the last pair
-  pub table-last : (table : List (Option H)) (place : ℕ) (child : H) → place < length table → get_or table place None ≡ Some child → table_children 0 table ≡ table_children 0 (take (place + 1) table) → slice_get (table_children 0 table) (length (table_children 0 table) - 1) ≡ Some (place, child)
-  table-last table place child within filled empty_behind =
-      let front = table_children 0 (take place table) in
-      rw (empty_behind ∙ table-found_back table place child within filled) (at_push front (place, child) _ (omega (arith, length-append front ((place, child) ∷ []))))

@@ -1,8 +1,6 @@
 -- Child commands as steps of a finite map.
-use Rattle.std.specs.Prelude.{◌+◌, ◌==◌, zero, suc, false, ◌≡◌, ℕ, ◌-◌, ◌<◌, ◌≤◌, ◌&&◌, ◌++◌, Bool, true, List, [], ◌∷◌, Option, Some, None, IsTrue, length, filter, nat_lt, nat_le, if◌then◌else◌, slice_get}
-use Rattle.std.specs.List.{list_any}
-use Rattle.std.specs.declared.ops.Bound.{Bound}
-use Rattle.std.specs.declared.ops.Bound.TheVariants.{Included, Excluded, Unbounded}
+use Rattle.std.specs.Prelude.{◌==◌, false, ◌≡◌, ℕ, ◌<◌, Bool, List, [], ◌∷◌, None, length, if◌then◌else◌}
+use Rattle.std.specs.List.{list_any, count_by, range_with_len}
 use Rattle.art_nodes.specs.ChildMap.{ChildMap, child_at, with_child, without_child, first_pair, last_pair, pairs_within, are_valid_bounds}
 use Rattle.art_nodes.specs.declared.pointers.OpaqueNodePtr.{OpaqueNodePtr}
 use Rattle.art_nodes.specs.declared.command.ChildCommand.{ChildCommand}
@@ -37,26 +35,7 @@ module _ {K V : Type 0} {P : ℕ} where
       let rest = run_of (child_map_after children command) commands in
       (reply_to children command ∷ rest.0, rest.1)
 
-  -- a write of a new byte is sent only to a node of fewer than sixteen children
-  abbrev pub HasRoomForCommand : ChildMap (OpaqueNodePtr K V P) → ChildCommand K V P → Type 0
-  HasRoomForCommand children (Write byte child) = child_at children byte ≡ None → length children < 16
-  HasRoomForCommand children _ = Unit {0}
-
   -- the command asks for a range
   abbrev pub IsRange : ChildCommand K V P → Type 0
   IsRange (Range start end) = Unit {0}
   IsRange _ = ⊥
-
-  -- the command writes a child under this byte
-  abbrev pub writes_to : ℕ → ChildCommand K V P → Bool
-  writes_to byte (Write b child) = b == byte
-  writes_to byte _ = false
-
-  -- of so many bytes from the first on, how many the commands write
-  abbrev pub count_written : List (ChildCommand K V P) → ℕ → ℕ → ℕ
-  count_written commands first zero = 0
-  count_written commands first (suc n) = (if list_any (writes_to first) commands then 1 else 0) + count_written commands (suc first) n
-
-  -- how many different bytes the commands write
-  unfoldable pub distinct_writes_of : List (ChildCommand K V P) → ℕ
-  distinct_writes_of commands = count_written commands 0 256

@@ -1,13 +1,14 @@
 //! An inner node of any kind, which the program picks as it runs.
 ghost use Rattle.std.specs.Prelude.{◌≡◌, ◌≢◌, ◌<◌, ◌≤◌, ◌+◌, ◌↔◌, IsTrue, IsNone, length, IfOk};
-ghost use Rattle.std.specs.List.{zip};
-ghost use Rattle.art_header.specs.NodeType.{least_children, most_children, kind_for};
+ghost use Rattle.art_header.specs.NodeType.{least_children, most_children, grown_kind, shrunk_kind};
 ghost use Rattle.art_nodes.specs.AnyInner.{inner_of, kind_of};
-ghost use Rattle.art_nodes.specs.ChildMap.{child_at, with_child, without_child, first_pair, last_pair, pairs_within};
+ghost use Rattle.art_nodes.specs.ChildMap.{child_at, with_child, without_child, first_pair, last_pair, pairs_within, AreValidBounds};
 ghost use Rattle.art_nodes.specs.Inner.{HasRoomFor, IsInner, header_of, with_children};
 
-use crate::bounds::is_within;
+use crate::inner_node_direct::InnerNodeDirect;
+use crate::inner_node_indirect::InnerNode48;
 use crate::inner_node_sorted::{InnerNode4, InnerNode16};
+use crate::inner_node::InnerNode;
 use crate::node::InnerNodeCommon;
 use crate::pointers::OpaqueNodePtr;
 use art_header::{Header, NodeType};
@@ -18,6 +19,8 @@ use std::ops::Bound;
 pub(crate) enum AnyInner<K, V, const PREFIX_LEN: usize> {
     OfFour(InnerNode4<K, V, PREFIX_LEN>),
     OfSixteen(InnerNode16<K, V, PREFIX_LEN>),
+    OfFortyEight(InnerNode48<K, V, PREFIX_LEN>),
+    OfAll(InnerNodeDirect<K, V, PREFIX_LEN>),
 }
 
 /// Runs an expression on the node, of whichever kind it is.
@@ -26,6 +29,8 @@ macro_rules! with_node {
         match $any {
             AnyInner::OfFour($node) => $run,
             AnyInner::OfSixteen($node) => $run,
+            AnyInner::OfFortyEight($node) => $run,
+            AnyInner::OfAll($node) => $run,
         }
     };
 }
@@ -44,6 +49,8 @@ impl<K, V, const PREFIX_LEN: usize> AnyInner<K, V, PREFIX_LEN> {
         match self {
             AnyInner::OfFour(_) => NodeType::Node4,
             AnyInner::OfSixteen(_) => NodeType::Node16,
+            AnyInner::OfFortyEight(_) => NodeType::Node48,
+            AnyInner::OfAll(_) => NodeType::Node256,
         }
     }
 
@@ -94,18 +101,17 @@ impl<K, V, const PREFIX_LEN: usize> AnyInner<K, V, PREFIX_LEN> {
         Some(with_node!(self, node => node.max()))
     }
 
-    /// The pairs within the bounds, in a vector.
-    #[tactic(auto, using(crate::proofs::SortedLemmas::zip_parts))]
+    /// The pairs within the bounds, which have to be valid, in a vector.
     pub(crate) fn pairs_within(
         &self,
         alloc: Global,
         start: Bound<u8>,
         end: Bound<u8>,
     ) -> Result<Vec<(u8, OpaqueNodePtr<K, V, PREFIX_LEN>)>, AllocError>
+        requires { AreValidBounds start end }
         ensures { IfOk result (λ pairs. pairs.items ≡ pairs_within (inner_of self.now).children start end) }
     {
-        let (keys, children) = with_node!(self, node => node.initialized_portion());
-        collect_within(alloc, keys, children, start, end)
+        with_node!(self, node => node.range(start, end)).collect(alloc)
     }
 
     /// Whether the node has as many children as its kind holds.
@@ -125,47 +131,35 @@ impl<K, V, const PREFIX_LEN: usize> AnyInner<K, V, PREFIX_LEN> {
             .should_shrink_inner_node(self.header().num_children())
     }
 
-    /// Makes the node one of the next greater kind, if there is one.
+    /// Makes the node one of the next greater kind, which there has to be.
     pub(crate) fn grow(&mut self)
-        requires kind { kind_of self.old ≡ NodeType.Node4 }
-        requires fits { length (inner_of self.old).children ≤ 16 }
+        requires { kind_of self.old ≢ NodeType.Node256 }
         ensures same { inner_of self.new ≡ inner_of self.old }
-        ensures kind { kind_of self.new ≡ NodeType.Node16 }
+        ensures kind { kind_of self.new ≡ grown_kind (kind_of self.old) }
     {
-        if let AnyInner::OfFour(node) = self {
-            *self = AnyInner::OfSixteen(node.change_block_size());
-        }
+        let grown = match self {
+            AnyInner::OfFour(node) => AnyInner::OfSixteen(node.grow()),
+            AnyInner::OfSixteen(node) => AnyInner::OfFortyEight(node.grow()),
+            AnyInner::OfFortyEight(node) => AnyInner::OfAll(node.grow()),
+            AnyInner::OfAll(_) => return,
+        };
+        *self = grown;
     }
 
-    /// Makes the node one of the next smaller kind.
+    /// Makes the node one of the next smaller kind, which there has to be and which has to hold the
+    /// children.
     pub(crate) fn shrink(&mut self)
-        requires kind { kind_of self.old ≡ NodeType.Node16 }
-        requires fits { length (inner_of self.old).children ≤ 4 }
+        requires kind { kind_of self.old ≢ NodeType.Node4 }
+        requires fits { length (inner_of self.old).children ≤ most_children (shrunk_kind (kind_of self.old)) }
         ensures same { inner_of self.new ≡ inner_of self.old }
-        ensures kind { kind_of self.new ≡ NodeType.Node4 }
+        ensures kind { kind_of self.new ≡ shrunk_kind (kind_of self.old) }
     {
-        if let AnyInner::OfSixteen(node) = self {
-            *self = AnyInner::OfFour(node.change_block_size());
-        }
+        let shrunk = match self {
+            AnyInner::OfFour(_) => return,
+            AnyInner::OfSixteen(node) => AnyInner::OfFour(node.shrink()),
+            AnyInner::OfFortyEight(node) => AnyInner::OfSixteen(node.shrink()),
+            AnyInner::OfAll(node) => AnyInner::OfFortyEight(node.shrink()),
+        };
+        *self = shrunk;
     }
-}
-
-// The pairs of sorted bytes and the children beside them, within the bounds.
-fn collect_within<K, V, const PREFIX_LEN: usize>(
-    alloc: Global,
-    keys: &[u8],
-    children: &[OpaqueNodePtr<K, V, PREFIX_LEN>],
-    start: Bound<u8>,
-    end: Bound<u8>,
-) -> Result<Vec<(u8, OpaqueNodePtr<K, V, PREFIX_LEN>)>, AllocError>
-    requires { length children.now ≡ length keys.now }
-    ensures { IfOk result (λ pairs. pairs.items ≡ pairs_within (zip keys.now children.now) start end) }
-{
-    let mut pairs = Vec::new(alloc);
-    for (index, key) in keys.iter().enumerate() {
-        if is_within(start, end, *key) {
-            pairs.push((*key, children[index]))?;
-        }
-    }
-    Ok(pairs)
 }

@@ -21,13 +21,6 @@ pub fn valid_range_bounds(start: Bound<u8>, end: Bound<u8>) -> bool
     }
 }
 
-// Whether the byte meets both bounds.
-pub(crate) fn is_within(start: Bound<u8>, end: Bound<u8>, byte: u8) -> bool
-    ensures { result ≡ (meets_start start byte && meets_end end byte) }
-{
-    (start, end).contains(&byte)
-}
-
 /// The bytes that meet both bounds, as numbers, so that no bound wraps.
 pub(crate) fn byte_range(start: Bound<u8>, end: Bound<u8>) -> Range<usize>
     requires { AreValidBounds start end }

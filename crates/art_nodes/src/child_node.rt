@@ -2,7 +2,7 @@
 ghost use Rattle.std.specs.Prelude.{◌≡◌, ◌<◌, ◌≤◌, length, None, IsOk, OnErr, IfOk, OnOk};
 ghost use Rattle.art_header.specs.NodeType.{kind_for};
 ghost use Rattle.art_nodes.specs.ChildMap.{child_at, with_child, without_child, first_pair, last_pair, pairs_within};
-ghost use Rattle.art_nodes.specs.Commands.{reply_to, child_map_after, HasRoomForCommand, IsRange, run_of, distinct_writes_of};
+ghost use Rattle.art_nodes.specs.Commands.{reply_to, child_map_after, IsRange};
 ghost use Rattle.art_nodes.specs.Inner.{header_of, empty_inner, with_children};
 
 use crate::any_inner::AnyInner;
@@ -75,7 +75,6 @@ impl<K, V, const PREFIX_LEN: usize> ChildNode<K, V, PREFIX_LEN> {
         alloc: Global,
         command: &ChildCommand<K, V, PREFIX_LEN>,
     ) -> Result<ChildReply<K, V, PREFIX_LEN>, AllocError>
-        requires { HasRoomForCommand self.old.children command.now }
         ensures reply { IfOk result (λ reply. reply ≡ reply_to self.old.children command.now) }
         ensures children { OnOk result (self.new ≡ with_children self.old (child_map_after self.old.children command.now)) }
         ensures refused_for_range_only { OnErr result (IsRange command.now) }
@@ -97,7 +96,6 @@ impl<K, V, const PREFIX_LEN: usize> ChildNode<K, V, PREFIX_LEN> {
         byte: u8,
         child: OpaqueNodePtr<K, V, PREFIX_LEN>,
     ) -> Option<OpaqueNodePtr<K, V, PREFIX_LEN>>
-        requires { child_at self.old.children byte ≡ None → length self.old.children < 16 }
         ensures old_child { result ≡ child_at self.old.children byte }
         ensures written { self.new ≡ with_children self.old (with_child self.old.children byte child) }
     {
@@ -114,6 +112,8 @@ impl<K, V, const PREFIX_LEN: usize> ChildNode<K, V, PREFIX_LEN> {
         ensures old_child { result ≡ child_at self.old.children byte }
         ensures removed { self.new ≡ with_children self.old (without_child self.old.children byte) }
     {
+        // The bytes ascend, so at most one child goes.
+        let _ = self.node.header();
         let old_child = self.node.remove_child(byte);
         if self.node.is_below_range() {
             self.node.shrink();

@@ -42,5 +42,5 @@ pub use pointers::{NodePtr, OpaqueNodePtr};
 pub use prefix_match::{
     AttemptOptimisticPrefixMatch, OptimisticMismatch, PessimisticMismatch, PrefixMatch,
 };
-pub use runs::{Replayed, distinct_writes, replay};
+pub use runs::{Replayed, replay};
 pub use sequence::Sequence;

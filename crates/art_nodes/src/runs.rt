@@ -1,31 +1,11 @@
 //! Whole runs of child commands.
-ghost use Rattle.std.specs.Prelude.{◌≡◌, ◌≤◌, [], IfOk};
-ghost use Rattle.art_nodes.specs.Commands.{run_of, distinct_writes_of};
+ghost use Rattle.std.specs.Prelude.{◌≡◌, [], IfOk};
+ghost use Rattle.art_nodes.specs.Commands.{run_of};
 
 use crate::child_node::ChildNode;
 use crate::command::{ChildCommand, ChildReply};
 use art_header::Header;
 use std::alloc::{AllocError, Global};
-
-/// How many different bytes the commands write.
-pub fn distinct_writes<K, V, const PREFIX_LEN: usize>(
-    commands: &[ChildCommand<K, V, PREFIX_LEN>],
-) -> usize
-    ensures { result ≡ distinct_writes_of commands.now }
-{
-    let mut is_written = [false; 256];
-    let mut count = 0;
-    for command in commands {
-        if let ChildCommand::Write(byte, _) = command {
-            let byte = *byte as usize;
-            if !is_written[byte] {
-                is_written[byte] = true;
-                count += 1;
-            }
-        }
-    }
-    count
-}
 
 /// What [`replay`] hands out: the reply to each command, and the node that the commands leave.
 pub type Replayed<K, V, const PREFIX_LEN: usize> = (
@@ -36,13 +16,13 @@ pub type Replayed<K, V, const PREFIX_LEN: usize> = (
 /// Applies the commands in order to an empty node with the prefix of `header`, whatever the
 /// header's count, and answers each reply with the node that is left.
 ///
-/// A refusal for want of memory hands out nothing.
+/// The node's kind is the smallest that holds its children ([`ChildNode::node_type`]). A refusal for
+/// want of memory hands out nothing.
 pub fn replay<K, V, const PREFIX_LEN: usize>(
     alloc: Global,
     header: Header<PREFIX_LEN>,
     commands: &[ChildCommand<K, V, PREFIX_LEN>],
 ) -> Result<Replayed<K, V, PREFIX_LEN>, AllocError>
-    requires { distinct_writes_of commands.now ≤ 16 }
     ensures replies { IfOk result (λ run. run.0.items ≡ (run_of [] commands.now).0) }
     ensures children { IfOk result (λ run. run.1.children ≡ (run_of [] commands.now).1) }
     ensures prefix_len { IfOk result (λ run. run.1.prefix_len ≡ header.entry.prefix_len) }

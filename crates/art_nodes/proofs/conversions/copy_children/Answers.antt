@@ -1,4 +1,4 @@
-use Rattle.std.proofs.Common.{◌≡◌, ◌++◌, ◌∷◌, [], sym, ◌∙◌, ap, subst, append_assoc}
+use Rattle.std.proofs.Common.{◌++◌, ◌∷◌, [], sym, ◌∙◌, ap, subst, append_assoc}
 use Rattle.art_nodes.specs.ChildMap.{with_child}
 use Rattle.art_nodes.specs.Inner.{with_children}
 use Rattle.art_nodes.proofs.ChildMapLemmas.{IsAbove}

@@ -1,4 +1,4 @@
-use Rattle.std.proofs.Common.{◌≡◌, ◌<◌, length, get_or, ap, ◌∙◌, arith}
+use Rattle.std.proofs.Common.{◌<◌, length, get_or, ap, arith}
 use Rattle.std.proofs.lemmas.List.Edits.{map_over_more}
 use Rattle.art_nodes.specs.IndirectNode.{lowered_above}
 use Rattle.art_nodes.proofs.inner_node_indirect.lower_above.Goals as goal

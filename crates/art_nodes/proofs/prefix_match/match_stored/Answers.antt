@@ -1,4 +1,4 @@
-use Rattle.std.proofs.Common.{◌≡◌, ◌≤◌, ◌<◌, nat_eq, length, ap, sym, ◌∙◌, arith}
+use Rattle.std.proofs.Common.{◌≡◌, ◌≤◌, nat_eq, length, ap, sym, ◌∙◌, arith}
 use Rattle.std.specs.List.{common_prefix_len}
 use Rattle.art_nodes.proofs.PrefixLemmas.{common-whole, whole_match}
 use Rattle.art_nodes.proofs.prefix_match.match_stored.Goals as goal

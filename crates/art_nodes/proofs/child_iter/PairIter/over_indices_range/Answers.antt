@@ -1,8 +1,8 @@
-use Rattle.std.proofs.Common.{◌≡◌, ◌≤◌, ◌+◌, ◌-◌, length, take, drop, map, sym, ◌∙◌, ap, arith}
+use Rattle.std.proofs.Common.{◌≤◌, ◌-◌, length, take, drop, sym, ◌∙◌, ap, arith}
 use Rattle.std.proofs.lemmas.List.{length-map, take-map, drop-map}
-use Rattle.art_nodes.specs.ChildMap.{table_children, pairs_within}
+use Rattle.art_nodes.specs.ChildMap.{table_children}
 use Rattle.art_nodes.specs.IndirectNode.{named_pointer, named_pointers}
-use Rattle.art_nodes.specs.PairSources.{first_byte, end_byte, pairs_between}
+use Rattle.art_nodes.specs.PairSources.{first_byte, pairs_between}
 use Rattle.art_nodes.proofs.RangeLemmas.{within-between, table-between}
 use Rattle.art_nodes.proofs.TableLemmas.{above-table}
 use Rattle.art_nodes.proofs.child_iter.PairIter.over_indices_range.Goals as goal

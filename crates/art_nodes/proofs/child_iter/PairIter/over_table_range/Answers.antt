@@ -1,6 +1,6 @@
-use Rattle.std.proofs.Common.{◌≡◌, ◌≤◌, length, sym, ◌∙◌, ap, arith}
-use Rattle.art_nodes.specs.ChildMap.{table_children, pairs_within}
-use Rattle.art_nodes.specs.PairSources.{first_byte, end_byte, pairs_between}
+use Rattle.std.proofs.Common.{◌≤◌, length, sym, ◌∙◌, ap, arith}
+use Rattle.art_nodes.specs.ChildMap.{table_children}
+use Rattle.art_nodes.specs.PairSources.{first_byte, pairs_between}
 use Rattle.art_nodes.proofs.RangeLemmas.{within-between, table-between}
 use Rattle.art_nodes.proofs.TableLemmas.{above-table}
 use Rattle.art_nodes.proofs.child_iter.PairIter.over_table_range.Goals as goal

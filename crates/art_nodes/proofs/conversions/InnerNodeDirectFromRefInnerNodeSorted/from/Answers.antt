@@ -1,4 +1,4 @@
-use Rattle.std.proofs.Common.{ℕ, arith}
+use Rattle.std.proofs.Common.{arith}
 use Rattle.std.proofs.lemmas.List.{length-map}
 use Rattle.art_nodes.specs.ChildMap.{key_bytes}
 use Rattle.art_nodes.proofs.SortedLemmas.{ascending-length}

@@ -1,4 +1,4 @@
-use Rattle.std.proofs.Common.{◌≡◌, ◌+◌, ◌<◌, ◌≤◌, length, drop, take, slice_get, sym, ◌∙◌, ap, arith, rules}
+use Rattle.std.proofs.Common.{◌+◌, ◌<◌, length, drop, slice_get, ap, arith}
 use Rattle.std.proofs.lemmas.List.{length-drop, take_rest}
 use Rattle.art_nodes.proofs.IndirectLemmas.{none-named, next-named, below-drop, used_below}
 use Rattle.art_nodes.proofs.index_pairs.IndexPairs.next.Goals as goal

@@ -1,4 +1,4 @@
-use Rattle.std.proofs.Common.{◌≡◌, ◌+◌, ◌<◌, ◌≤◌, length, drop, take, slice_get, refl, sym, ◌∙◌, ap, arith, rules}
+use Rattle.std.proofs.Common.{length, take, slice_get, refl, ◌∙◌, ap, arith}
 use Rattle.std.proofs.lemmas.List.{length-take}
 use Rattle.art_nodes.specs.ChildMap.{table_children}
 use Rattle.art_nodes.proofs.IndirectLemmas.{none-named, next_back-named, below-take, used_below, slice_get-push_at}

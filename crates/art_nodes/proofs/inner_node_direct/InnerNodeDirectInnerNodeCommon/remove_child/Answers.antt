@@ -1,4 +1,4 @@
-use Rattle.std.proofs.Common.{rules, refl, ◌≡◌, ◌+◌, ◌<◌, length, sym, ap, ◌∙◌, arith, true, false}
+use Rattle.std.proofs.Common.{rules, refl, ◌≡◌, ◌+◌, sym, ◌∙◌, arith, true, false}
 use Rattle.std.proofs.lemmas.List.{length-set}
 use Rattle.art_nodes.proofs.TableLemmas.{child_at-table, without_child-table, length-table_emptied}
 use Rattle.art_nodes.proofs.inner_node_direct.InnerNodeDirectInnerNodeCommon.remove_child.Goals as goal

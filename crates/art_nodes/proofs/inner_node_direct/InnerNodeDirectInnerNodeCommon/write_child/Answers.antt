@@ -1,4 +1,4 @@
-use Rattle.std.proofs.Common.{rules, ◌≡◌, refl, ℕ, ◌+◌, ◌<◌, ◌≤◌, length, sym, ap, ◌∙◌, arith, not, true, false}
+use Rattle.std.proofs.Common.{rules, ◌≡◌, refl, ◌+◌, ◌<◌, length, ap, ◌∙◌, arith, not, true, false}
 use Rattle.std.proofs.lemmas.List.{length-set}
 use Rattle.art_nodes.proofs.TableLemmas.{length-table, with_child-table, length-table_filled}
 use Rattle.art_nodes.proofs.inner_node_direct.InnerNodeDirectInnerNodeCommon.write_child.Goals as goal

@@ -1,4 +1,4 @@
-use Rattle.std.proofs.Common.{refl, sym, ◌∙◌, ◌≡◌, length, arith}
+use Rattle.std.proofs.Common.{refl, arith}
 use Rattle.std.proofs.lemmas.List.{length-map}
 use Rattle.art_nodes.proofs.TableLemmas.{above-table}
 use Rattle.art_nodes.proofs.IndirectLemmas.{length-named}

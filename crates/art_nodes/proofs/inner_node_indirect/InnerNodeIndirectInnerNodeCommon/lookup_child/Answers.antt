@@ -1,4 +1,4 @@
-use Rattle.std.proofs.Common.{◌≡◌, ◌+◌, ◌<◌, length, get_or, None, Some, sym, ◌∙◌, arith, rules}
+use Rattle.std.proofs.Common.{◌≡◌, ◌+◌, ◌<◌, length, None, sym, ◌∙◌, arith, rules}
 use Rattle.std.proofs.lemmas.List.{get_or_default}
 use Rattle.art_nodes.proofs.IndirectLemmas.{named_within, child_at-named, child_at-unnamed}
 use Rattle.art_nodes.proofs.inner_node_indirect.InnerNodeIndirectInnerNodeCommon.lookup_child.Goals as goal

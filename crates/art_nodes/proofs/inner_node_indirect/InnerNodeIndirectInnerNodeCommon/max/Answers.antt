@@ -1,5 +1,4 @@
-use Rattle.std.proofs.Common.{◌≡◌, ◌<◌, ◌-◌, length, Some, slice_get, arith, rules}
-use Rattle.art_nodes.specs.ChildMap.{table_children}
+use Rattle.std.proofs.Common.{◌<◌, ◌-◌, length, arith, rules}
 use Rattle.art_nodes.proofs.IndirectLemmas.{below_from_once, length-named, length-used, pair-named, used_below}
 use Rattle.art_nodes.proofs.inner_node_indirect.InnerNodeIndirectInnerNodeCommon.max.Goals as goal
 

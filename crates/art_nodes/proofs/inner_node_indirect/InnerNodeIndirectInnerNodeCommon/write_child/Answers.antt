@@ -1,8 +1,6 @@
-use Rattle.std.proofs.Common.{◌≡◌, ℕ, ◌+◌, ◌-◌, ◌<◌, ◌≤◌, ◌++◌, ◌∷◌, [], length, get_or, set, drop, map, min, None, Some, refl, sym, ap, ◌∙◌, subst, arith, rules}
-use Rattle.std.proofs.lemmas.List.{get_or_default, length-set, take_at, length_push}
-use Rattle.art_nodes.specs.ChildMap.{child_at, table_children}
-use Rattle.art_nodes.specs.IndirectNode.{named_pointers}
-use Rattle.art_nodes.proofs.IndirectLemmas.{IsNamedOnce, named_within, child_at-unnamed, length-named, named_once-push, room-unnamed, with_child-named, with_child-pushed}
+use Rattle.std.proofs.Common.{◌≡◌, ◌+◌, ◌<◌, length, set, drop, None, Some, refl, sym, ◌∙◌, subst, arith, rules}
+use Rattle.std.proofs.lemmas.List.{get_or_default, length-set, take_at}
+use Rattle.art_nodes.proofs.IndirectLemmas.{IsNamedOnce, named_within, named_once-push, room-unnamed, with_child-named, with_child-pushed}
 use Rattle.art_nodes.proofs.inner_node_indirect.InnerNodeIndirectInnerNodeCommon.write_child.Goals as goal
 
 pub offset_bounds-deref_mut-from : goal.offset_bounds-deref_mut-from
