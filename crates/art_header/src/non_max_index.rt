@@ -135,3 +135,6 @@ impl fmt::Display for TryFromByteError {
 }
 
 impl Error for TryFromByteError {}
+
+#[cfg(test)]
+mod tests;

@@ -6,6 +6,7 @@ use crate::inner_node_direct::InnerNodeDirect;
 use crate::inner_node_indirect::InnerNode48;
 use crate::inner_node_sorted::{InnerNode4, InnerNode16};
 use crate::node::{InnerNodeCommon, Node};
+use art_header::NodeType;
 
 /// An inner node of one of the four kinds, with the kinds next to it.
 pub trait InnerNode<const PREFIX_LEN: usize>: Node<PREFIX_LEN>
@@ -51,7 +52,7 @@ impl<K, V, const PREFIX_LEN: usize> InnerNode<PREFIX_LEN> for InnerNode4<K, V, P
     }
 
     fn is_full(&self) -> bool {
-        self.header().num_children() == self.capacity()
+        self.header().num_children() == *NodeType::Node4.capacity_range().end()
     }
 }
 
@@ -70,7 +71,7 @@ impl<K, V, const PREFIX_LEN: usize> InnerNode<PREFIX_LEN> for InnerNode16<K, V, 
     }
 
     fn is_full(&self) -> bool {
-        self.header().num_children() == self.capacity()
+        self.header().num_children() == *NodeType::Node16.capacity_range().end()
     }
 }
 
@@ -88,7 +89,7 @@ impl<K, V, const PREFIX_LEN: usize> InnerNode<PREFIX_LEN> for InnerNode48<K, V, 
     }
 
     fn is_full(&self) -> bool {
-        self.header().num_children() == self.capacity()
+        self.header().num_children() == *NodeType::Node48.capacity_range().end()
     }
 }
 
@@ -106,6 +107,9 @@ impl<K, V, const PREFIX_LEN: usize> InnerNode<PREFIX_LEN> for InnerNodeDirect<K,
     }
 
     fn is_full(&self) -> bool {
-        self.header().num_children() == self.capacity()
+        self.header().num_children() == *NodeType::Node256.capacity_range().end()
     }
 }
+
+#[cfg(test)]
+mod tests;

@@ -144,4 +144,4 @@ pub trait InnerNodeCommon<K, V, const PREFIX_LEN: usize>: InnerNodeInit<PREFIX_L
 }
 
 #[cfg(test)]
-mod tests;
+pub(crate) mod tests;

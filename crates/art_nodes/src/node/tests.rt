@@ -1,21 +1,28 @@
 //! What every kind of inner node does with its children.
 use super::*;
+use crate::inner_node_direct::InnerNodeDirect;
+use crate::inner_node_indirect::InnerNode48;
 use crate::inner_node_sorted::{InnerNode4, InnerNode16};
 use crate::leaf_node::LeafNode;
 use crate::pointers::NodePtr;
 use std::process::Abort;
 
-type Leaf = LeafNode<u8, u8, 16>;
+pub(crate) type Leaf = LeafNode<u8, u8, 16>;
 
-type Pointer = OpaqueNodePtr<u8, u8, 16>;
+pub(crate) type Pointer = OpaqueNodePtr<u8, u8, 16>;
 
 // The pointer to the leaf under a slab key.
-fn leaf(key: usize) -> Pointer {
+pub(crate) fn leaf(key: usize) -> Pointer {
     NodePtr::<16, Leaf>::from_key(key).to_opaque()
 }
 
 // A write of a new byte, which there has to be room for.
-fn write<N: InnerNodeCommon<u8, u8, 16>>(rt: &impl Abort, node: &mut N, byte: u8, child: Pointer) {
+pub(crate) fn write<N: InnerNodeCommon<u8, u8, 16>>(
+    rt: &impl Abort,
+    node: &mut N,
+    byte: u8,
+    child: Pointer,
+) {
     assert!(rt;
         node.header().num_children() < node.capacity(),
         "no room for {byte}"
@@ -24,7 +31,7 @@ fn write<N: InnerNodeCommon<u8, u8, 16>>(rt: &impl Abort, node: &mut N, byte: u8
 }
 
 // Bytes 0 to n - 1, where n is the capacity, each with the leaf under the key of its number.
-fn fill<N: InnerNodeCommon<u8, u8, 16>>(rt: &impl Abort, node: &mut N) {
+pub(crate) fn fill<N: InnerNodeCommon<u8, u8, 16>>(rt: &impl Abort, node: &mut N) {
     let last = (node.capacity() - node.capacity().min(1)).min(255) as u8;
     for byte in 0..=last {
         write(rt, node, byte, leaf(usize::from(byte)));
@@ -119,4 +126,14 @@ fn node4_keeps_children(rt: HostRuntime) {
 #[test]
 fn node16_keeps_children(rt: HostRuntime) {
     keeps_children::<InnerNode16<u8, u8, 16>>(&rt, 16);
+}
+
+#[test]
+fn node48_keeps_children(rt: HostRuntime) {
+    keeps_children::<InnerNode48<u8, u8, 16>>(&rt, 48);
+}
+
+#[test]
+fn node256_keeps_children(rt: HostRuntime) {
+    keeps_children::<InnerNodeDirect<u8, u8, 16>>(&rt, 256);
 }
