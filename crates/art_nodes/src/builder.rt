@@ -102,12 +102,12 @@ impl<K, V, const PREFIX_LEN: usize, N: InnerNodeCommon<K, V, PREFIX_LEN>> InnerN
     pub fn write_child(
         mut self,
         key_byte: u8,
-        child: OpaqueNodePtr<K, V, PREFIX_LEN>,
+        first_child: OpaqueNodePtr<K, V, PREFIX_LEN>,
     ) -> InnerNodeBuilder<K, V, PREFIX_LEN, N, HasOneChild>
         requires { HasRoomFor N.room (N.inner self) key_byte }
-        ensures { N.inner result ≡ with_children (N.inner self) (with_child (N.inner self).children key_byte child) }
+        ensures { N.inner result ≡ with_children (N.inner self) (with_child (N.inner self).children key_byte first_child) }
     {
-        self.node.write_child(key_byte, child);
+        self.node.write_child(key_byte, first_child);
         InnerNodeBuilder {
             node: self.node,
             state: PhantomData,
@@ -126,13 +126,13 @@ impl<K, V, const PREFIX_LEN: usize, N: InnerNodeCommon<K, V, PREFIX_LEN>> InnerN
     pub fn write_child(
         mut self,
         key_byte: u8,
-        child: OpaqueNodePtr<K, V, PREFIX_LEN>,
+        second_child: OpaqueNodePtr<K, V, PREFIX_LEN>,
     ) -> InnerNodeBuilder<K, V, PREFIX_LEN, N, HasChild>
         requires room { HasRoomFor N.room (N.inner self) key_byte }
         requires differs { IsNone (child_at (N.inner self).children key_byte) }
-        ensures { N.inner result ≡ with_children (N.inner self) (with_child (N.inner self).children key_byte child) }
+        ensures { N.inner result ≡ with_children (N.inner self) (with_child (N.inner self).children key_byte second_child) }
     {
-        self.node.write_child(key_byte, child);
+        self.node.write_child(key_byte, second_child);
         InnerNodeBuilder {
             node: self.node,
             state: PhantomData,
@@ -162,7 +162,8 @@ impl<K, V, const PREFIX_LEN: usize, N: InnerNodeCommon<K, V, PREFIX_LEN>> InnerN
         ensures node { result ≡ self }
         ensures two_or_more { 2 ≤ length (N.inner result).children }
     {
-        self.node
+        let InnerNodeBuilder { node, state: _ } = self;
+        node
     }
 }
 
@@ -177,13 +178,13 @@ impl<K, V, const PREFIX_LEN: usize> InnerNodeBuilder<
     pub fn write_child_unchecked(
         mut self,
         key_byte: u8,
-        child: OpaqueNodePtr<K, V, PREFIX_LEN>,
+        first_child: OpaqueNodePtr<K, V, PREFIX_LEN>,
     ) -> InnerNodeBuilder<K, V, PREFIX_LEN, InnerNode4<K, V, PREFIX_LEN>, HasOneChild>
         requires room { length self.children < 4 }
         requires above { All (λ byte. byte < key_byte) (key_bytes self.children) }
-        ensures { result ≡ with_children self (with_child self.children key_byte child) }
+        ensures { result ≡ with_children self (with_child self.children key_byte first_child) }
     {
-        self.node.write_child_unchecked(key_byte, child);
+        self.node.write_child_unchecked(key_byte, first_child);
         InnerNodeBuilder {
             node: self.node,
             state: PhantomData,
@@ -203,13 +204,13 @@ impl<K, V, const PREFIX_LEN: usize> InnerNodeBuilder<
     pub fn write_child_unchecked(
         mut self,
         key_byte: u8,
-        child: OpaqueNodePtr<K, V, PREFIX_LEN>,
+        second_child: OpaqueNodePtr<K, V, PREFIX_LEN>,
     ) -> InnerNodeBuilder<K, V, PREFIX_LEN, InnerNode4<K, V, PREFIX_LEN>, HasChild>
         requires room { length self.children < 4 }
         requires above { All (λ byte. byte < key_byte) (key_bytes self.children) }
-        ensures { result ≡ with_children self (with_child self.children key_byte child) }
+        ensures { result ≡ with_children self (with_child self.children key_byte second_child) }
     {
-        self.node.write_child_unchecked(key_byte, child);
+        self.node.write_child_unchecked(key_byte, second_child);
         InnerNodeBuilder {
             node: self.node,
             state: PhantomData,

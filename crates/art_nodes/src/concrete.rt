@@ -43,28 +43,14 @@ impl<K, V, const PREFIX_LEN: usize> ConcreteNodePtr<K, V, PREFIX_LEN> {
         ensures pointer { result ≡ opaque_of self }
         ensures undone { concrete_of result ≡ self }
     {
-        match self {
-            ConcreteNodePtr::Node4(pointer) => OpaqueNodePtr::of_kind(
-                NodeType::Node4,
-                pointer.key(),
-            ),
-            ConcreteNodePtr::Node16(pointer) => OpaqueNodePtr::of_kind(
-                NodeType::Node16,
-                pointer.key(),
-            ),
-            ConcreteNodePtr::Node48(pointer) => OpaqueNodePtr::of_kind(
-                NodeType::Node48,
-                pointer.key(),
-            ),
-            ConcreteNodePtr::Node256(pointer) => OpaqueNodePtr::of_kind(
-                NodeType::Node256,
-                pointer.key(),
-            ),
-            ConcreteNodePtr::LeafNode(pointer) => OpaqueNodePtr::of_kind(
-                NodeType::Leaf,
-                pointer.key(),
-            ),
-        }
+        let (node_type, key) = match self {
+            ConcreteNodePtr::Node4(pointer) => (NodeType::Node4, pointer.key()),
+            ConcreteNodePtr::Node16(pointer) => (NodeType::Node16, pointer.key()),
+            ConcreteNodePtr::Node48(pointer) => (NodeType::Node48, pointer.key()),
+            ConcreteNodePtr::Node256(pointer) => (NodeType::Node256, pointer.key()),
+            ConcreteNodePtr::LeafNode(pointer) => (NodeType::Leaf, pointer.key()),
+        };
+        OpaqueNodePtr::of_kind(node_type, key)
     }
 }
 
@@ -73,24 +59,13 @@ impl<K, V, const PREFIX_LEN: usize> ConcreteInnerNodePtr<K, V, PREFIX_LEN> {
     pub fn to_opaque(self) -> OpaqueNodePtr<K, V, PREFIX_LEN>
         ensures { result ≡ opaque_of_inner self }
     {
-        match self {
-            ConcreteInnerNodePtr::Node4(pointer) => OpaqueNodePtr::of_kind(
-                NodeType::Node4,
-                pointer.key(),
-            ),
-            ConcreteInnerNodePtr::Node16(pointer) => OpaqueNodePtr::of_kind(
-                NodeType::Node16,
-                pointer.key(),
-            ),
-            ConcreteInnerNodePtr::Node48(pointer) => OpaqueNodePtr::of_kind(
-                NodeType::Node48,
-                pointer.key(),
-            ),
-            ConcreteInnerNodePtr::Node256(pointer) => OpaqueNodePtr::of_kind(
-                NodeType::Node256,
-                pointer.key(),
-            ),
-        }
+        let (node_type, key) = match self {
+            ConcreteInnerNodePtr::Node4(pointer) => (NodeType::Node4, pointer.key()),
+            ConcreteInnerNodePtr::Node16(pointer) => (NodeType::Node16, pointer.key()),
+            ConcreteInnerNodePtr::Node48(pointer) => (NodeType::Node48, pointer.key()),
+            ConcreteInnerNodePtr::Node256(pointer) => (NodeType::Node256, pointer.key()),
+        };
+        OpaqueNodePtr::of_kind(node_type, key)
     }
 }
 

@@ -7,4 +7,4 @@ pub invariant_of-result : goal.invariant_of-result
 invariant_of-result g c =
     let written = ap (λ node. node.children) c.write_child.ensures.written in
     let differs = subst (λ node. IsNone (child_at (g.N.InnerNodeCommon.inner node).children c.args.key_byte)) (sym c.self.view_is) c.requires.differs in
-    written-second _ _ c.args.key_byte c.args.child c.ranges.key_byte.fits written c.self.invariant differs
+    written-second _ _ c.args.key_byte c.args.second_child c.ranges.key_byte.fits written c.self.invariant differs
