@@ -2,7 +2,7 @@
 use Rattle.std.specs.Prelude.{ℕ, List, ◌++◌, codes}
 use Rattle.std.specs.Fmt.{decimal}
 use Rattle.art_cli.specs.declared.failure.LineFault.{LineFault}
-use Rattle.art_cli.specs.declared.failure.LineFault.TheVariants.{UnknownCommand, WrongNumberOfWords, BadNumber, TooManyBytes}
+use Rattle.art_cli.specs.declared.failure.LineFault.TheVariants.{UnknownCommand, WrongNumberOfWords, BadNumber}
 use Rattle.art_cli.specs.declared.failure.Failure.{Failure}
 use Rattle.art_cli.specs.declared.failure.Failure.TheVariants.{Usage, BadLine, OutOfMemory, Device}
 
@@ -18,7 +18,6 @@ abbrev pub fault_text : LineFault → List ℕ
 fault_text UnknownCommand = codes "unknown command"
 fault_text WrongNumberOfWords = codes "wrong number of words"
 fault_text BadNumber = codes "bad number"
-fault_text TooManyBytes = codes "too many bytes"
 
 -- why there is no answer
 abbrev pub failure_text : Failure → List ℕ

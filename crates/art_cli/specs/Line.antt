@@ -62,6 +62,11 @@ SayNothing words = (command : ChildCommand (Unit {0}) (Unit {0}) 16) → SayComm
 abbrev pub IsName : List ℕ → Type 0
 IsName word = (word ≡ codes "w") ⊎ (word ≡ codes "r") ⊎ (word ≡ codes "l") ⊎ (word ≡ codes "min") ⊎ (word ≡ codes "max") ⊎ (word ≡ codes "range")
 
+-- the first word is the name of a command
+abbrev pub BeginWithName : List (List ℕ) → Type 0
+BeginWithName [] = ⊥
+BeginWithName (name ∷ others) = IsName name
+
 module _ {K V : Type 0} {P : ℕ} where
   -- lines and their commands, one a line, up to a line that says none where they are not the whole
   abbrev pub SayCommands : List (List ℕ) → List (ChildCommand K V P) → Bool → Type 0

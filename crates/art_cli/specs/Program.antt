@@ -1,7 +1,7 @@
 -- What the program prints for an input.
-use Rattle.std.specs.Prelude.{◌≡◌, ℕ, List, [], ◌∷◌, Option, String, Bool, true, false, ◌+◌, ◌<◌, ◌⊎◌, map, codes, length, string_bytes}
+use Rattle.std.specs.Prelude.{◌≡◌, ℕ, List, [], ◌∷◌, Option, String, true, false, ◌+◌, map, codes, length, string_bytes}
 use Rattle.std.specs.Io.KnownBytes.{Appends}
-use Rattle.art_nodes.specs.Commands.{run_of, distinct_writes_of}
+use Rattle.art_nodes.specs.Commands.{run_of}
 use Rattle.art_nodes.specs.declared.command.ChildCommand.{ChildCommand}
 use Rattle.art_cli.specs.declared.failure.LineFault.{LineFault}
 use Rattle.art_cli.specs.declared.failure.Failure.{Failure}
@@ -23,12 +23,12 @@ IsOutput input output =
 abbrev pub Prints : List ℕ → Option (List ℕ) → Option (List ℕ) → Type 0
 Prints input old new = (output : List ℕ) × IsOutput input output × Appends old new output
 
--- the failures of an input: a line of this number says no command, or brings a seventeenth different byte
+-- the failures of an input: the line of this number is the first that says no command
 abbrev pub IsFailure : List ℕ → Failure → Type 0
 IsFailure input Usage = ⊥
 IsFailure input (BadLine number fault) =
-    (commands : List (ChildCommand (Unit {0}) (Unit {0}) 16)) × (is_whole : Bool) × SayCommands (lines_of input) commands is_whole
-    × (((is_whole ≡ false) × (number ≡ length commands + 1)) ⊎ (16 < distinct_writes_of commands))
+    (commands : List (ChildCommand (Unit {0}) (Unit {0}) 16)) × SayCommands (lines_of input) commands false
+    × (number ≡ length commands + 1)
 IsFailure input OutOfMemory = Unit {0}
 IsFailure input Device = Unit {0}
 

@@ -14,8 +14,6 @@ pub enum LineFault {
     WrongNumberOfWords,
     /// A number or a bound is not one, or is out of its range.
     BadNumber,
-    /// The line brings one byte more than the node has room for.
-    TooManyBytes,
 }
 
 impl fmt::Display for LineFault {
@@ -29,7 +27,6 @@ impl fmt::Display for LineFault {
             LineFault::UnknownCommand => write!(f, "unknown command"),
             LineFault::WrongNumberOfWords => write!(f, "wrong number of words"),
             LineFault::BadNumber => write!(f, "bad number"),
-            LineFault::TooManyBytes => write!(f, "too many bytes"),
         }
     }
 }

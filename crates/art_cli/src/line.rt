@@ -1,8 +1,8 @@
 //! From lines to commands.
-ghost use Rattle.std.specs.Prelude.{◌≡◌, ◌==◌, ℕ, ◌<◌, ◌↔◌, length, position, [], ◌∷◌, MatchOption, OnErr, IfErr, All, IsTrue, IfOk, is_none, IfSome, IfNone};
+ghost use Rattle.std.specs.Prelude.{◌≡◌, ◌≢◌, ◌==◌, ℕ, ◌<◌, ◌↔◌, length, position, [], ◌∷◌, MatchOption, OnErr, IfErr, All, IsTrue, IfOk, is_none, IfSome, IfNone};
 ghost use Rattle.std.specs.Int.{IsInRange};
 ghost use Rattle.std.specs.declared.ops.Bound.{Bound};
-ghost use Rattle.art_cli.specs.Line.{IsNumber, IsByte, IsKey, IsBound, SayCommand, SayCommands, SayNothing, IsName, words_of, lines_of};
+ghost use Rattle.art_cli.specs.Line.{IsNumber, IsByte, IsKey, IsBound, SayCommand, SayCommands, SayNothing, IsName, BeginWithName, words_of, lines_of};
 ghost use Rattle.art_cli.specs.Words.{AreWords};
 
 use crate::failure::LineFault;
@@ -37,6 +37,8 @@ pub fn parse(alloc: Global, input: &[u8]) -> Result<(Vec<Command>, Option<LineFa
 fn command(line: &[u8]) -> Result<Command, LineFault>
     ensures said { IfOk result (SayCommand (words_of line.now)) }
     ensures refused { OnErr result (SayNothing (words_of line.now)) }
+    ensures unknown { result ≡ Err LineFault.UnknownCommand → ¬ (BeginWithName (words_of line.now)) }
+    ensures known { result ≡ Err LineFault.WrongNumberOfWords → BeginWithName (words_of line.now) }
 {
     match split_words(line) {
         Words::One(name) => match name {
@@ -60,6 +62,7 @@ fn command(line: &[u8]) -> Result<Command, LineFault>
 
 // What is wrong with a line of this first word and a number of words that it does not take.
 fn fault_of_count(name: &[u8]) -> LineFault
+    ensures fault { result ≢ LineFault.BadNumber }
     ensures known { result ≡ LineFault.WrongNumberOfWords → IsName name.now }
     ensures unknown { result ≡ LineFault.UnknownCommand → ¬ (IsName name.now) }
 {
@@ -133,6 +136,7 @@ fn end_of_part(bytes: &[u8], end: u8) -> Option<usize>
 fn bound(word: &[u8]) -> Result<Bound<u8>, LineFault>
     ensures said { IfOk result (IsBound word.now) }
     ensures refused { OnErr result ((bound : Bound ℕ) → ¬ (IsBound word.now bound)) }
+    ensures fault { IfErr result (λ fault. fault ≡ LineFault.BadNumber) }
 {
     match word {
         [b'i', digits @ ..] => Ok(Bound::Included(byte_number(digits)?)),

@@ -10,7 +10,6 @@ mod leaf;
 mod line;
 mod print;
 mod program;
-mod room;
 #[cfg(test)]
 mod tests;
 

@@ -1,7 +1,7 @@
 //! The program over any reader and writers.
 ghost use Rattle.std.specs.Prelude.{◌≡◌, ◌≢◌, ◌≤◌, ◌↔◌, [], length, IsTrue, IfOk, IfErr, OnOk, IfSome, string_bytes};
 ghost use Rattle.std.specs.Io.KnownBytes.{Keeps, Appends};
-ghost use Rattle.art_nodes.specs.Commands.{run_of, distinct_writes_of};
+ghost use Rattle.art_nodes.specs.Commands.{run_of};
 ghost use Rattle.art_cli.specs.Text.{output_of};
 ghost use Rattle.art_cli.specs.Program.{IsReplay, IsOutput, IsFailure, HasBadLine, Prints};
 
@@ -9,7 +9,6 @@ use crate::failure::Failure;
 use crate::leaf::Command;
 use crate::line::parse;
 use crate::print::text_of;
-use crate::room::check_room;
 use art_nodes::{Header, replay};
 use std::alloc::{AllocError, Global};
 use std::io;
@@ -86,7 +85,6 @@ fn replay_text(alloc: Global, input: Vec<u8>) -> Result<String, Failure>
 {
     let (commands, fault) = parse(alloc, &input)?;
     drop(input);
-    check_room(&commands)?;
     match fault {
         Some(fault) => Err(Failure::BadLine(commands.len() + 1, fault)),
         None => Ok(replies_text(alloc, commands)?),
@@ -95,7 +93,6 @@ fn replay_text(alloc: Global, input: Vec<u8>) -> Result<String, Failure>
 
 // A line for each reply to the commands, and one for the node that they leave.
 fn replies_text(alloc: Global, commands: Vec<Command>) -> Result<String, AllocError>
-    requires { distinct_writes_of commands.items ≤ 16 }
     ensures { IfOk result (λ text. string_bytes text ≡ output_of (run_of [] commands.items).0 (length (run_of [] commands.items).1)) }
 {
     let (replies, node) = replay(alloc, Header::new(b"", 0), &commands)?;

@@ -91,39 +91,49 @@ fn bounds_are_included_excluded_or_none(rt: HostRuntime) -> Result<(), Fail> {
     answers(&rt, rt.alloc(), input, output)
 }
 
-#[test]
-fn seventeen_bytes_are_one_too_many(rt: HostRuntime) -> Result<(), Fail> {
-    let sixteen = "w 0 0\nw 1 1\nw 2 2\nw 3 3\nw 4 4\nw 5 5\nw 6 6\nw 7 7\nw 8 8\nw 9 9\nw 10 10\n\
-        w 11 11\nw 12 12\nw 13 13\nw 14 14\nw 15 15\n";
-    let mut output = String::new(rt.alloc());
-    for _ in 0..16 {
-        output.push_str("child none\n")?;
+// The lines that write the bytes below `count` in turn.
+fn writes_below(alloc: Global, count: usize) -> Result<String, AllocError> {
+    let mut lines = String::new(alloc);
+    for byte in 0..count {
+        writeln!(lines, "w {byte} {byte}")?;
     }
-    output.push_str("node Node16 16\n")?;
-    answers(&rt, rt.alloc(), sixteen, output.as_str())?;
-    let mut input = String::from_str(rt.alloc(), sixteen)?;
-    input.push_str("w 16 16\n")?;
-    refuses(
-        &rt,
-        rt.alloc(),
-        input.as_bytes(),
-        "line 17: too many bytes\n",
-    )?;
-    input.push_str("w 17 17\nmin 1\n")?;
-    refuses(
-        &rt,
-        rt.alloc(),
-        input.as_bytes(),
-        "line 17: too many bytes\n",
-    )?;
-    let mut input = String::from_str(rt.alloc(), sixteen)?;
-    input.push_str("min 1\nw 16 16\n")?;
-    refuses(
-        &rt,
-        rt.alloc(),
-        input.as_bytes(),
-        "line 17: wrong number of words\n",
-    )
+    Ok(lines)
+}
+
+// So many answers that no child was there.
+fn nones(alloc: Global, count: usize) -> Result<String, AllocError> {
+    let mut lines = String::new(alloc);
+    for _ in 0..count {
+        lines.push_str("child none\n")?;
+    }
+    Ok(lines)
+}
+
+#[test]
+fn the_node_grows_with_its_children(rt: HostRuntime) -> Result<(), Fail> {
+    let kinds = [
+        (4, "node Node4 4\n"),
+        (16, "node Node16 16\n"),
+        (17, "node Node48 17\n"),
+        (48, "node Node48 48\n"),
+        (256, "node Node256 256\n"),
+    ];
+    for (count, node) in kinds {
+        let input = writes_below(rt.alloc(), count)?;
+        let mut output = nones(rt.alloc(), count)?;
+        output.push_str(node)?;
+        answers(&rt, rt.alloc(), input.as_str(), output.as_str())?;
+    }
+    Ok(())
+}
+
+#[test]
+fn the_node_shrinks_with_its_children(rt: HostRuntime) -> Result<(), Fail> {
+    let mut input = writes_below(rt.alloc(), 17)?;
+    input.push_str("r 0\n")?;
+    let mut output = nones(rt.alloc(), 17)?;
+    output.push_str("child 0\nnode Node16 16\n")?;
+    answers(&rt, rt.alloc(), input.as_str(), output.as_str())
 }
 
 #[test]
