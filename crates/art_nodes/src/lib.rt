@@ -9,6 +9,8 @@ mod child_node;
 mod command;
 mod concrete;
 mod conversions;
+#[cfg(test)]
+mod fixtures;
 mod index_pairs;
 mod inner_node;
 mod inner_node_direct;

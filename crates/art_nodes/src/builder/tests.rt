@@ -1,21 +1,14 @@
 //! Nodes of each kind, built child by child.
 use super::*;
+use crate::fixtures::leaf;
 use crate::inner_node_direct::InnerNodeDirect;
 use crate::inner_node_indirect::InnerNode48;
 use crate::inner_node_sorted::InnerNode16;
-use crate::leaf_node::LeafNode;
 use crate::pointers::NodePtr;
 use art_header::NodeType;
 use std::process::Abort;
 
-type Leaf = LeafNode<u8, u8, 16>;
-
 type Pointer = OpaqueNodePtr<u8, u8, 16>;
-
-// The pointer to the leaf under a slab key.
-fn leaf(key: usize) -> Pointer {
-    NodePtr::<16, Leaf>::from_key(key).to_opaque()
-}
 
 // The pointer to the small node under a slab key.
 fn small_node(key: usize) -> Pointer {

@@ -1,22 +1,15 @@
 //! The children of each kind of node, in order and within bounds.
 use crate::bounds::valid_range_bounds;
+use crate::fixtures::leaf;
 use crate::inner_node_direct::InnerNodeDirect;
 use crate::inner_node_indirect::InnerNode48;
 use crate::inner_node_sorted::{InnerNode4, InnerNode16};
-use crate::leaf_node::LeafNode;
 use crate::node::InnerNodeCommon;
-use crate::pointers::{NodePtr, OpaqueNodePtr};
+use crate::pointers::OpaqueNodePtr;
 use std::ops::Bound;
 use std::process::Abort;
 
-type Leaf = LeafNode<u8, u8, 16>;
-
 type Pointer = OpaqueNodePtr<u8, u8, 16>;
-
-// The pointer to the leaf under a slab key.
-fn leaf(key: usize) -> Pointer {
-    NodePtr::<16, Leaf>::from_key(key).to_opaque()
-}
 
 // Writes each byte with the leaf beside it, in this order.
 fn node_of<N: InnerNodeCommon<u8, u8, 16> + Drop>(rt: &impl Abort, pairs: &[(u8, usize)]) -> N {

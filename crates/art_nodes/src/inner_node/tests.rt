@@ -1,8 +1,9 @@
 //! How nodes become another kind, and another representation.
 use super::*;
+use crate::fixtures::leaf;
 use crate::inner_node_indirect::InnerNodeIndirect;
 use crate::inner_node_sorted::InnerNodeSorted;
-use crate::node::tests::{fill, leaf, write};
+use crate::node::tests::{fill, write};
 use crate::private::InnerNodeInit;
 use art_header::Header;
 use std::process::Abort;

@@ -1,20 +1,12 @@
 //! What every kind of inner node does with its children.
 use super::*;
+use crate::fixtures::leaf;
 use crate::inner_node_direct::InnerNodeDirect;
 use crate::inner_node_indirect::InnerNode48;
 use crate::inner_node_sorted::{InnerNode4, InnerNode16};
-use crate::leaf_node::LeafNode;
-use crate::pointers::NodePtr;
 use std::process::Abort;
 
-pub(crate) type Leaf = LeafNode<u8, u8, 16>;
-
 pub(crate) type Pointer = OpaqueNodePtr<u8, u8, 16>;
-
-// The pointer to the leaf under a slab key.
-pub(crate) fn leaf(key: usize) -> Pointer {
-    NodePtr::<16, Leaf>::from_key(key).to_opaque()
-}
 
 // A write of a new byte, which there has to be room for.
 pub(crate) fn write<N: InnerNodeCommon<u8, u8, 16>>(

@@ -1,14 +1,8 @@
 //! Prefixes that a node stores in part, and wholly.
 use super::*;
+use crate::fixtures::leaf;
 use crate::inner_node_sorted::InnerNode4;
-use crate::leaf_node::LeafNode;
 use crate::node::InnerNodeCommon;
-use crate::pointers::{NodePtr, OpaqueNodePtr};
-
-// The pointer to the leaf under a slab key.
-fn leaf<const PREFIX_LEN: usize>(key: usize) -> OpaqueNodePtr<u8, u8, PREFIX_LEN> {
-    NodePtr::<PREFIX_LEN, LeafNode<u8, u8, PREFIX_LEN>>::from_key(key).to_opaque()
-}
 
 #[test]
 fn implicit_bytes_are_passed_over(rt: HostRuntime) {

@@ -1,23 +1,15 @@
 //! Whole runs, at the steps that a reader would try by hand.
 use super::*;
-use crate::command::{ChildPairs, ChildReply};
-use crate::leaf_node::LeafNode;
-use crate::pointers::{NodePtr, OpaqueNodePtr};
+use crate::command::ChildReply;
+use crate::fixtures::leaf;
 use art_header::NodeType;
 use std::ops::Bound;
 use std::process::Abort;
 use std::test::Fail;
 
-type Pointer = OpaqueNodePtr<u8, u8, 2>;
-
 type Command = ChildCommand<u8, u8, 2>;
 
 type Reply = ChildReply<u8, u8, 2>;
-
-// The pointer to the leaf under a slab key.
-fn leaf(key: usize) -> Pointer {
-    NodePtr::<2, LeafNode<u8, u8, 2>>::from_key(key).to_opaque()
-}
 
 // The replies to these commands, and the node that they leave.
 fn run(
