@@ -1,6 +1,6 @@
 -- What `parse` says of the texts that are numbers.
 use Rattle.std.proofs.Common.{◌≡◌, ℕ, suc, ◌<◌, ◌^◌, List, ◌∷◌, length, arith, ◌∙◌, ap}
-use Rattle.std.specs.Prelude.{All, Result, Ok, Err, Option, None, Some, IfNone, MatchResult}
+use Rattle.std.specs.Prelude.{All, Result, Ok, Err, IfNone}
 use Rattle.std.specs.Result.{result_ok}
 use Rattle.std.proofs.lemmas.List.Elements.{All-nil, All-head, All-cons}
 use Rattle.std.specs.Int.{IsInRange}

@@ -1,5 +1,5 @@
 -- What the lines of the input say.
-use Rattle.std.specs.Prelude.{◌≡◌, ℕ, ◌^◌, ◌<◌, ◌≤◌, ◌==◌, List, All, [], ◌∷◌, ◌⊎◌, Bool, false, IsTrue, codes, length, if◌then◌else◌}
+use Rattle.std.specs.Prelude.{◌≡◌, ℕ, ◌^◌, ◌<◌, ◌≤◌, ◌==◌, List, All, [], ◌∷◌, ◌⊎◌, Bool, false, IsTrue, codes, length}
 use Rattle.std.specs.List.{slice_split}
 use Rattle.std.specs.Int.{IsInRange}
 use Rattle.std.specs.Str.Parse.{digits_value}
