@@ -67,7 +67,7 @@ impl<K, V, const PREFIX_LEN: usize> OpaqueNodePtr<K, V, PREFIX_LEN> {
     pub fn is<N: Node<PREFIX_LEN>>(&self) -> bool
         ensures { IsTrue result ↔ (node_kind self.now ≡ N.TYPE) }
     {
-        self.node_type == N::TYPE
+        N::TYPE == self.node_type
     }
 
     /// The pointer to a node of the type `N`, where the node is of that kind.
