@@ -11,6 +11,7 @@ use std::num::{
 use std::process::Abort;
 use std::test::Fail;
 
+mod callers;
 mod ordered;
 
 /// The key of a value has these bytes.
