@@ -127,6 +127,7 @@ fn lower_above(indices: &mut [Option<NonMaxIndex>; 256], taken: NonMaxIndex)
     }
 }
 
+/// The index at a place, after the one that is taken out.
 fn lowered(place: Option<NonMaxIndex>, taken: NonMaxIndex) -> Option<NonMaxIndex>
     ensures { result ≡ lowered_above taken place }
 {
