@@ -70,7 +70,8 @@ impl<B: BytesMapping<D>, D> Mapped<B, D> {
         ensures text { IfOk result (λ mapped. mapped_text mapped ≡ mapped_text self.now) }
     {
         let repr = self.repr.clone()?;
-        let _key = repr.as_bytes();
+        // To read its bytes shows that the clone is a key too.
+        let _text = repr.as_bytes();
         Ok(Mapped {
             repr,
             mapping: PhantomData,

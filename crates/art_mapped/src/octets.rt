@@ -15,7 +15,8 @@ use std::net::{Ipv4Addr, Ipv6Addr};
 /// IP addresses, `Ipv4Addr` and `Ipv6Addr`, as their octets in order.
 pub struct ToOctets;
 
-/// Whether an array's bytes are octets, as they always are.
+/// Whether an array's bytes are octets, as they always are. By value, since its caller holds a reference, which
+/// tells nothing of the elements' range.
 fn are_octets<const N: usize>(bytes: [u8; N]) -> bool
     ensures always { IsTrue result }
     ensures octets { AreOctets N bytes.entry }
