@@ -1,5 +1,5 @@
 -- What a header shows.
-use Rattle.std.specs.Prelude.{◌≡◌, ℕ, ◌<◌, ◌^◌, ◌&&◌, ◌==◌, List, length, min, take, Bool, nat_eq}
+use Rattle.std.specs.Prelude.{ℕ, ◌&&◌, ◌==◌, List, min, take, Bool, nat_eq}
 use Rattle.std.specs.Cmp.{IsEquivalence, and_equiv, on_equiv, nat_eq_equiv}
 use Rattle.std.specs.Cmp.Lexicographic.{pointwise, nat_list_eq_equiv}
 

@@ -1,5 +1,5 @@
 -- The kinds of nodes, by how many children they hold.
-use Rattle.std.specs.Prelude.{ℕ, ◌<◌, if◌then◌else◌, nat_le}
+use Rattle.std.specs.Prelude.{ℕ, if◌then◌else◌, nat_le}
 use Rattle.art_header.specs.declared.node_type.NodeType.{NodeType}
 use Rattle.art_header.specs.declared.node_type.NodeType.TheVariants.{Node4, Node16, Node48, Node256, Leaf}
 

@@ -1,7 +1,6 @@
 -- Bytes that two texts have in common from the front on.
-use Rattle.std.proofs.Common.{◌≡◌, ℕ, zero, suc, ◌+◌, ◌<◌, ◌≤◌, nat_eq, List, [], ◌∷◌, ◌++◌, length, refl, sym, ◌∙◌, ap, subst, arith, length-append, Ok, false}
+use Rattle.std.proofs.Common.{◌≡◌, ℕ, ◌≤◌, nat_eq, List, [], ◌∷◌, ◌++◌, length, refl, sym, ◌∙◌, ap, arith, length-append, Ok, false}
 use Rattle.std.specs.List.{common_prefix_len}
-use Rattle.std.proofs.lemmas.Bool.Decides.{nat_tests}
 use Rattle.art_bytes.specs.Text.{IsFront}
 use Rattle.art_nodes.specs.PrefixMatch.{cheap_match}
 use Rattle.std.proofs.lemmas.List.Sums.{common_prefix_len-le}

@@ -1,9 +1,9 @@
 -- A byte above all others, put at the end of ascending bytes.
-use Rattle.std.proofs.Common.{◌≡◌, ℕ, ◌+◌, ◌<◌, ◌≤◌, All, List, [], ◌∷◌, ◌++◌, length, get_or, sym, ◌∙◌, ap, subst, arith}
+use Rattle.std.proofs.Common.{◌≡◌, ℕ, ◌+◌, ◌<◌, All, List, [], ◌∷◌, ◌++◌, length, sym, ◌∙◌, ap, subst, arith}
 use Rattle.std.specs.List.{insert, zip}
 use Rattle.std.proofs.lemmas.List.Edits.{insert_end}
 use Rattle.art_header.specs.Header.{Header}
-use Rattle.art_nodes.specs.ChildMap.{IsAscending, key_bytes, with_child}
+use Rattle.art_nodes.specs.ChildMap.{key_bytes, with_child}
 use Rattle.art_nodes.specs.SortedNode.{IsSortedNode}
 use Rattle.art_nodes.specs.WritePoint.{IsGapFor}
 use Rattle.art_nodes.proofs.SortedLemmas.{key_bytes-zip, with_child-zip_insert, sorted-insert}

@@ -1,5 +1,5 @@
 -- Tables with a place for each byte, as child maps.
-use Rattle.std.proofs.Common.{◌≡◌, ℕ, zero, suc, ◌+◌, ◌-◌, ◌<◌, ◌≤◌, List, [], ◌∷◌, ◌++◌, length, get_or, set, Option, Some, None, refl, sym, ◌∙◌, ap, arith, Bool, if◌then◌else◌}
+use Rattle.std.proofs.Common.{◌≡◌, ℕ, zero, suc, ◌+◌, ◌<◌, ◌≤◌, List, [], ◌∷◌, ◌++◌, length, get_or, set, Option, Some, None, refl, sym, ◌∙◌, ap, arith, Bool, if◌then◌else◌}
 use Rattle.std.specs.Option.{is_some}
 use Rattle.art_nodes.specs.ChildMap.{child_at, with_child, without_child, table_children}
 use Rattle.art_nodes.proofs.ChildMapLemmas.{IsAbove, above-lower, with_child-front, with_child-same, with_child-later, child_at-front, child_at-same, child_at-later, without_child-front, without_child-same, without_child-later, length-with_child, length-without_child}

@@ -1,5 +1,5 @@
 -- The children of an inner node, as a finite map from bytes.
-use Rattle.std.specs.Prelude.{suc, ◌-◌, ◌&&◌, true, IsTrue, nat_le, ◌≡◌, ℕ, ◌<◌, ◌++◌, ◌==◌, Bool, not, List, [], ◌∷◌, Option, Some, None, All, filter, map, nat_lt, if◌then◌else◌, slice_get, ◌≤◌, length, take, drop}
+use Rattle.std.specs.Prelude.{suc, ◌-◌, ◌&&◌, true, IsTrue, nat_le, ℕ, ◌<◌, ◌++◌, ◌==◌, Bool, not, List, [], ◌∷◌, Option, Some, None, filter, map, nat_lt, if◌then◌else◌, slice_get, ◌≤◌, length}
 use Rattle.std.specs.declared.ops.Bound.{Bound}
 use Rattle.std.specs.declared.ops.Bound.TheVariants.{Included, Excluded, Unbounded}
 

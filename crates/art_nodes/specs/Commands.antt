@@ -1,6 +1,5 @@
 -- Child commands as steps of a finite map.
-use Rattle.std.specs.Prelude.{◌==◌, false, ◌≡◌, ℕ, ◌<◌, Bool, List, [], ◌∷◌, None, length, if◌then◌else◌}
-use Rattle.std.specs.List.{list_any, count_by, range_with_len}
+use Rattle.std.specs.Prelude.{ℕ, List, [], ◌∷◌, if◌then◌else◌}
 use Rattle.art_nodes.specs.ChildMap.{ChildMap, child_at, with_child, without_child, first_pair, last_pair, pairs_within, are_valid_bounds}
 use Rattle.art_nodes.specs.declared.pointers.OpaqueNodePtr.{OpaqueNodePtr}
 use Rattle.art_nodes.specs.declared.command.ChildCommand.{ChildCommand}

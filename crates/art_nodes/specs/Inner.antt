@@ -1,5 +1,5 @@
 -- What contracts see of an inner node, whichever way it keeps its children.
-use Rattle.std.specs.Prelude.{◌≡◌, ℕ, ◌≤◌, List, [], length, ◌<◌, IsNone}
+use Rattle.std.specs.Prelude.{ℕ, ◌≤◌, List, [], length, ◌<◌, IsNone}
 use Rattle.std.specs.List.{zip}
 use Rattle.art_header.specs.Header.{Header}
 use Rattle.art_nodes.specs.ChildMap.{ChildMap, child_at, key_bytes, IsAscending}

@@ -1,5 +1,5 @@
 -- The cheap matches of a node's prefix against what is left of a key.
-use Rattle.std.specs.Prelude.{◌≡◌, ℕ, ◌==◌, List, length, Option, None, Result, Ok, Err, true, false, nat_eq, nat_le, nat_lt, slice_get, if◌then◌else◌}
+use Rattle.std.specs.Prelude.{◌≡◌, ℕ, ◌==◌, List, length, None, Result, Ok, Err, true, false, nat_eq, nat_le, nat_lt, slice_get, if◌then◌else◌}
 use Rattle.std.specs.List.{common_prefix_len}
 use Rattle.art_bytes.specs.Text.{IsFront}
 use Rattle.art_header.specs.Header.{Header}

@@ -114,7 +114,7 @@ impl<K, V, const PREFIX_LEN: usize, const SIZE: usize> InnerNodeIndirect<K, V, P
     pub fn initialized_child_pointers(&self) -> &[OpaqueNodePtr<K, V, PREFIX_LEN>]
         ensures { IsPermutation (map (λ p. p.1) self.now.children) result.now }
     {
-        &self.child_pointers
+        self.child_pointers.as_slice()
     }
 }
 

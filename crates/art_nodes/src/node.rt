@@ -34,15 +34,20 @@ pub trait Node<const PREFIX_LEN: usize>: Sealed {
 }
 
 /// What every inner node does, whichever way it keeps its children.
+///
+/// Contracts see a node as the length and the stored front of its prefix and a finite map from bytes
+/// to children. No call takes memory.
 pub trait InnerNodeCommon<K, V, const PREFIX_LEN: usize>: InnerNodeInit<PREFIX_LEN> {
     ghost use Rattle.art_nodes.specs.declared.pointers.OpaqueNodePtr.{OpaqueNodePtr};
     ghost use Rattle.art_header.specs.Header.{Header};
 
+    /// The prefix and the child map.
     ghost inner: { Self → Inner (OpaqueNodePtr K V PREFIX_LEN) };
 
+    /// The most children that fit.
     ghost room: { ℕ };
 
-    /// The header.
+    /// The header. Its count is the number of children.
     fn header(&self) -> &Header<PREFIX_LEN>
         ensures header { result.now ≡ header_of (inner self.now) }
         ensures sound { IsInner room (inner self.now) };
@@ -60,12 +65,14 @@ pub trait InnerNodeCommon<K, V, const PREFIX_LEN: usize>: InnerNodeInit<PREFIX_L
     fn lookup_child(&self, key_fragment: u8) -> Option<OpaqueNodePtr<K, V, PREFIX_LEN>>
         ensures { result ≡ child_at (inner self.now).children key_fragment };
 
-    /// Writes the child under the byte.
+    /// Writes the child under the byte, in place of any that is there. Only a new byte asks for
+    /// room: there have to be fewer children than [`InnerNodeCommon::capacity`].
     fn write_child(&mut self, key_fragment: u8, child_pointer: OpaqueNodePtr<K, V, PREFIX_LEN>)
         requires { HasRoomFor room (inner self.old) key_fragment }
         ensures written { inner self.new ≡ with_children (inner self.old) (with_child (inner self.old).children key_fragment child_pointer) };
 
-    /// Removes and answers the child under the byte.
+    /// Removes the child under the byte and answers it, or changes nothing where there is none. It
+    /// may leave one child or none.
     fn remove_child(&mut self, key_fragment: u8) -> Option<OpaqueNodePtr<K, V, PREFIX_LEN>>
         ensures child { result ≡ child_at (inner self.old).children key_fragment }
         ensures removed { inner self.new ≡ with_children (inner self.old) (without_child (inner self.old).children key_fragment) };
@@ -80,10 +87,12 @@ pub trait InnerNodeCommon<K, V, const PREFIX_LEN: usize>: InnerNodeInit<PREFIX_L
         requires { AreValidBounds start end }
         ensures { result ≡ pairs_within (inner self.now).children start end };
 
+    /// The least byte with its child. There has to be a child.
     fn min(&self) -> (u8, OpaqueNodePtr<K, V, PREFIX_LEN>)
         requires { 0 < length (inner self.now).children }
         ensures { slice_get (inner self.now).children 0 ≡ Some result };
 
+    /// The greatest byte with its child. There has to be a child.
     fn max(&self) -> (u8, OpaqueNodePtr<K, V, PREFIX_LEN>)
         requires { 0 < length (inner self.now).children }
         ensures { slice_get (inner self.now).children (length (inner self.now).children - 1) ≡ Some result };

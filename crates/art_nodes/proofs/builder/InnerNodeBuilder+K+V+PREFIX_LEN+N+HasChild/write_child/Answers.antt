@@ -1,4 +1,4 @@
-use Rattle.std.proofs.Common.{sym, ap}
+use Rattle.std.proofs.Common.{ap}
 use Rattle.art_nodes.proofs.BuilderLemmas.{written-more}
 use Rattle.art_nodes.proofs.builder.InnerNodeBuilder+K+V+PREFIX_LEN+N+HasChild.write_child.Goals as goal
 

@@ -1,7 +1,7 @@
-use Rattle.std.proofs.Common.{◌≡◌, ◌-◌, length, take, drop, sym, ◌∙◌, ap, arith}
+use Rattle.std.proofs.Common.{◌-◌, length, take, drop, sym, ◌∙◌, ap}
 use Rattle.std.proofs.lemmas.List.{take_rest}
 use Rattle.std.specs.List.{zip}
-use Rattle.art_nodes.specs.PairSources.{first_byte, end_byte, pairs_between}
+use Rattle.art_nodes.specs.PairSources.{first_byte, pairs_between}
 use Rattle.art_nodes.proofs.RangeLemmas.{within-between, sorted-between}
 use Rattle.art_nodes.proofs.SortedLemmas.{above-zip}
 use Rattle.art_nodes.proofs.child_iter.PairIter.over_sorted_range.Goals as goal

@@ -1,4 +1,4 @@
-use Rattle.std.proofs.Common.{rules, arith, length, ap, ◌≡◌}
+use Rattle.std.proofs.Common.{length}
 use Rattle.art_nodes.specs.AnyInner.{inner_of, kind_of}
 use Rattle.art_nodes.specs.ChildMap.{without_child}
 use Rattle.art_nodes.proofs.KindLemmas.{IsOfKind, IsOfKind-smallest, removed_counts, shrunk-remove}

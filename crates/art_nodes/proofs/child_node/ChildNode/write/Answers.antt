@@ -1,5 +1,5 @@
 use mathlib.Core.Bool.{true≢false}
-use Rattle.std.proofs.Common.{rules, arith, ◌≡◌, ◌≢◌, ◌<◌, length, not, ap, sym, ◌∙◌}
+use Rattle.std.proofs.Common.{rules, arith, ◌≡◌, ◌≢◌, length, not, ap, sym, ◌∙◌}
 use Rattle.std.specs.Option.{is_some}
 use Rattle.art_header.specs.NodeType.{most_children, grown_kind}
 use Rattle.art_header.specs.declared.node_type.NodeType.TheVariants.{Node256}

@@ -1,4 +1,4 @@
-use Rattle.std.proofs.Common.{◌≡◌, ◌<◌, ◌≤◌, All, length, arith, rules, ap, subst, sym, ◌∙◌}
+use Rattle.std.proofs.Common.{◌<◌, All, length, arith, rules, ap, subst, sym}
 use Rattle.art_nodes.specs.ChildMap.{key_bytes}
 use Rattle.art_nodes.proofs.SortedLemmas.{ascending-length, length-zip}
 use Rattle.art_nodes.proofs.PushLemmas.{with_child-push, sorted-push}

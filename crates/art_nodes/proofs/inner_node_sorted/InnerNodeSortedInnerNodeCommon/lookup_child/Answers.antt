@@ -1,4 +1,4 @@
-use Rattle.std.proofs.Common.{◌<◌, length, arith, sym, ◌∙◌}
+use Rattle.std.proofs.Common.{◌<◌, length, arith, sym}
 use Rattle.std.proofs.lemmas.Option.{slice_get-get_or}
 use Rattle.art_nodes.proofs.SortedLemmas.{child_at-zip, child_at-zip_gap}
 use Rattle.art_nodes.proofs.inner_node_sorted.InnerNodeSortedInnerNodeCommon.lookup_child.Goals as goal

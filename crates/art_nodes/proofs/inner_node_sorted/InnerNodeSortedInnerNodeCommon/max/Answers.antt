@@ -1,4 +1,4 @@
-use Rattle.std.proofs.Common.{◌≡◌, ◌-◌, ◌<◌, length, arith, ap, rules}
+use Rattle.std.proofs.Common.{◌<◌, length, arith, ap}
 use Rattle.art_nodes.proofs.SortedLemmas.{length-zip, slice_get-zip}
 use Rattle.art_nodes.proofs.inner_node_sorted.InnerNodeSortedInnerNodeCommon.max.Goals as goal
 

@@ -1,6 +1,4 @@
-use Rattle.std.proofs.Common.{◌≡◌, ◌<◌, ◌≤◌, length, arith, rules, ap, subst, sym, ◌∙◌}
-use Rattle.std.specs.List.{zip}
-use Rattle.art_nodes.specs.WritePoint.{IsByteAt, IsGapFor}
+use Rattle.std.proofs.Common.{arith, rules, ap, sym}
 use Rattle.art_nodes.proofs.SortedLemmas.{ascending-length, not_full, sorted-insert, refill-set, with_child-zip_set, with_child-zip_insert}
 use Rattle.art_nodes.proofs.inner_node_sorted.InnerNodeSortedInnerNodeCommon.write_child.Goals as goal
 
