@@ -129,27 +129,58 @@ impl<K, V, const PREFIX_LEN: usize> Default for OpaqueNodePtr<K, V, PREFIX_LEN> 
 #[cfg(test)]
 mod tests {
     use super::*;
+    use crate::fixtures::leaf;
+    use crate::inner_node_direct::InnerNodeDirect;
+    use crate::inner_node_indirect::InnerNode48;
     use crate::inner_node_sorted::{InnerNode4, InnerNode16};
     use crate::leaf_node::LeafNode;
+    use std::process::Abort;
+
+    type Pointer = OpaqueNodePtr<u8, u8, 16>;
+
+    // Of the five kinds, the pointer is of the one at this place alone.
+    fn is_one_kind(rt: &impl Abort, pointer: Pointer, place: usize) {
+        let kinds = [
+            pointer.is::<InnerNode4<u8, u8, 16>>(),
+            pointer.is::<InnerNode16<u8, u8, 16>>(),
+            pointer.is::<InnerNode48<u8, u8, 16>>(),
+            pointer.is::<InnerNodeDirect<u8, u8, 16>>(),
+            pointer.is::<LeafNode<u8, u8, 16>>(),
+        ];
+        for (kind, is_kind) in kinds.into_iter().enumerate() {
+            assert_eq!(rt; is_kind, kind == place, "kind {kind}");
+        }
+    }
 
     #[test]
     fn knows_the_kind_of_its_node(rt: HostRuntime) {
         let four = NodePtr::<16, InnerNode4<u8, u8, 16>>::from_key(5).to_opaque();
-        let leaf = OpaqueNodePtr::new(NodePtr::<16, LeafNode<u8, u8, 16>>::from_key(6));
-        assert!(rt; four.is::<InnerNode4<u8, u8, 16>>());
-        assert!(rt; !four.is::<InnerNode16<u8, u8, 16>>());
-        assert!(rt; !four.is::<LeafNode<u8, u8, 16>>());
-        assert_eq!(rt; leaf.node_type(), NodeType::Leaf);
-        assert!(rt; leaf.cast::<InnerNode4<u8, u8, 16>>().is_none());
+        is_one_kind(&rt, four, 0);
+        let sixteen = NodePtr::<16, InnerNode16<u8, u8, 16>>::from_key(5);
+        is_one_kind(&rt, sixteen.to_opaque(), 1);
+        let many = NodePtr::<16, InnerNode48<u8, u8, 16>>::from_key(5);
+        is_one_kind(&rt, many.to_opaque(), 2);
+        let all = NodePtr::<16, InnerNodeDirect<u8, u8, 16>>::from_key(5);
+        is_one_kind(&rt, all.to_opaque(), 3);
+        is_one_kind(&rt, leaf(5), 4);
+        assert!(rt; four != leaf(5));
+        assert!(rt; four != sixteen.to_opaque());
+        assert!(rt; four == NodePtr::<16, InnerNode4<u8, u8, 16>>::from_key(5).to_opaque());
+    }
+
+    #[test]
+    fn is_cast_to_its_own_kind_alone(rt: HostRuntime) {
+        let pointer: Pointer = leaf(6);
+        assert_eq!(rt; pointer.node_type(), NodeType::Leaf);
+        assert!(rt; pointer.cast::<InnerNode4<u8, u8, 16>>().is_none());
         assert_eq!(rt;
-            leaf.cast::<LeafNode<u8, u8, 16>>()
-                .map(|pointer| pointer.key()),
+            pointer
+                .cast::<LeafNode<u8, u8, 16>>()
+                .map(|leaf| leaf.key()),
             Some(6)
         );
         assert!(rt;
-            OpaqueNodePtr::default()
-                == NodePtr::<16, InnerNode4<u8, u8, 16>>::from_key(0).to_opaque()
+            Pointer::default() == NodePtr::<16, InnerNode4<u8, u8, 16>>::from_key(0).to_opaque()
         );
-        assert!(rt; four != leaf);
     }
 }
