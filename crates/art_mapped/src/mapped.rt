@@ -62,12 +62,14 @@ impl<B: BytesMapping<D>, D> Mapped<B, D> {
 
     /// The same key again. A clone of the key's bytes has to have their text.
     ///
-    /// Refuses where the clone of the bytes does. The key stays as it was.
+    /// Refuses where the clone of the bytes does, and never where that takes no memory, as of arrays. The key
+    /// stays as it was.
     pub fn clone(&self) -> Result<Self, AllocError>
     where
         B::Bytes: Clone,
         requires { (bytes : B.Bytes) → B.Bytes.is_clone (mapped_bytes self.now) bytes → B.Bytes.text bytes ≡ mapped_text self.now }
         ensures text { IfOk result (λ mapped. mapped_text mapped ≡ mapped_text self.now) }
+        ensures takes_no_memory { B.Bytes.is_infallible (mapped_bytes self.now) → IsOk result }
     {
         let repr = self.repr.clone()?;
         // To read its bytes shows that the clone is a key too.

@@ -1,4 +1,4 @@
-ghost use Rattle.std.specs.Prelude.{◌≡◌, ◌↔◌, ℕ, List, Bool, false, IsTrue, IsOk, IfOk, IfSome, IfNone};
+ghost use Rattle.std.specs.Prelude.{◌≡◌, ◌↔◌, ℕ, List, Bool, false, IsTrue, IsOk, IfOk, OnErr, IfSome, IfNone};
 ghost use Rattle.std.specs.declared.cmp.Ordering.{Ordering};
 ghost use Rattle.art_bytes.specs.Text.{IsFront, text_order};
 ghost use Rattle.art_mapped.specs.Mapping.{StandsForSome};
@@ -54,11 +54,13 @@ pub trait BytesMapping<D> {
     fn is_value(bytes: &Self::Bytes) -> bool
         ensures { IsTrue result ↔ StandsForSome is_in_domain stands_for bytes.now };
 
-    /// The value whose bytes these are, and `None` exactly where `is_value` is false.
+    /// The value whose bytes these are, and `None` exactly where `is_value` is false: only a value can be
+    /// refused for want of memory.
     fn checked_from_bytes(alloc: Global, bytes: Self::Bytes) -> Result<Option<D>, AllocError>
         ensures some { IfOk result (λ answer. IfSome answer (λ read. is_in_domain read × stands_for bytes read)) }
         ensures text { IfOk result (λ answer. IfSome answer (λ read. Self.Bytes.text bytes ≡ text_of read)) }
         ensures none { IfOk result (λ answer. IfNone answer (StandsForSome is_in_domain stands_for bytes → ⊥)) }
+        ensures refused_for_a_value_only { OnErr result (StandsForSome is_in_domain stands_for bytes) }
         ensures takes_no_memory { READ_ALLOCATES ≡ false → IsOk result }
     {
         if Self::is_value(&bytes) {

@@ -1,4 +1,6 @@
-use crate::{BytesMapping, FixedBytes, Mapped, OrderedMapping, ToIBE, ToOctets, ToUBE};
+use crate::{
+    BytesMapping, FixedBytes, Mapped, NoPrefixesMapping, OrderedMapping, ToIBE, ToOctets, ToUBE,
+};
 use art_bytes::AsBytes;
 use std::alloc::{AllocError, Global};
 use std::cmp::Ordering;
@@ -131,6 +133,27 @@ fn bytes_of_no_value_are_refused(rt: HostRuntime) -> Result<(), Fail> {
     let bytes: Vec<u8> = vec![in alloc; 7, 1]?;
     let read = <ToUBE as BytesMapping<[NonZeroU8; 2]>>::checked_from_bytes(alloc, bytes)?;
     assert!(rt; matches!(&read, Some([first, last]) if first.get() == 7 && last.get() == 1));
+    Ok(())
+}
+
+#[test]
+fn sequences_come_back_from_their_bytes(rt: HostRuntime) -> Result<(), Fail> {
+    let alloc = rt.alloc();
+    let bytes = <ToUBE as BytesMapping<Vec<u16>>>::to_bytes(alloc, vec![in alloc; 258, 3]?)?;
+    assert_eq!(rt; bytes.as_slice(), [1, 2, 0, 3].as_slice());
+    assert!(rt; <ToUBE as BytesMapping<Vec<u16>>>::is_value(&bytes));
+    let read = <ToUBE as BytesMapping<Vec<u16>>>::from_bytes(alloc, bytes)?;
+    assert_eq!(rt; read.as_slice(), [258, 3].as_slice());
+    let bytes: Vec<u8> = vec![in alloc; 1, 2, 0, 3]?;
+    let read = <ToUBE as BytesMapping<Vec<u16>>>::checked_from_bytes(alloc, bytes)?;
+    assert!(rt; matches!(&read, Some(numbers) if numbers.as_slice() == [258, 3].as_slice()));
+    let bytes = <ToIBE as BytesMapping<[i16; 2]>>::to_bytes(alloc, [-1, 0])?;
+    assert_eq!(rt; bytes.as_slice(), [127, 255, 128, 0].as_slice());
+    assert!(rt; <ToIBE as BytesMapping<[i16; 2]>>::is_value(&bytes));
+    assert_eq!(rt;
+        <ToIBE as BytesMapping<[i16; 2]>>::from_bytes(alloc, bytes)?,
+        [-1, 0]
+    );
     Ok(())
 }
 

@@ -8,6 +8,7 @@ ghost use Rattle.art_mapped.specs.Numbers.{digits, signed_text};
 ghost use Rattle.art_mapped.specs.Sequences.{joined};
 
 use super::*;
+use art_bytes::{NoPrefixesBytes, OrderedBytes};
 
 /// The key of a port is its two digits in base 256, and is always made.
 fn port(alloc: Global, number: u16) -> Result<Mapped<ToUBE, u16>, AllocError>
@@ -44,6 +45,26 @@ fn there_and_back(alloc: Global, number: u64) -> Result<u64, AllocError>
     ensures { result ≡ Ok number }
 {
     Mapped::<ToUBE, u64>::new(alloc, number)?.get(alloc)
+}
+
+/// Keys sort as their texts do.
+fn order_of_texts<K: OrderedBytes>(a: &K, b: &K) -> Ordering
+    ensures { result ≡ K.cmp a.now b.now }
+{
+    a.as_bytes().cmp(b.as_bytes())
+}
+
+/// Of keys of which none begins another, whether one begins the other.
+fn has_front<K: NoPrefixesBytes>(key: &K, front: &K) -> bool {
+    key.as_bytes().starts_with(front.as_bytes())
+}
+
+/// Two keys that ascend, and of which none begins the other.
+fn ascend<K: OrderedBytes + NoPrefixesBytes>(rt: &impl Abort, less: &K, more: &K) {
+    assert_eq!(rt; order_of_texts(less, more), Ordering::Less);
+    assert_eq!(rt; order_of_texts(more, less), Ordering::Greater);
+    assert!(rt; !has_front(more, less) && !has_front(less, more));
+    assert!(rt; has_front(less, less));
 }
 
 /// A mapping of one's own: a key as it stands.
@@ -108,5 +129,38 @@ fn callers_name_their_types(rt: HostRuntime) -> Result<(), Fail> {
     let key = Mapped::<Same, [u8; 2]>::new(alloc, [7, 8])?;
     assert_eq!(rt; key.as_bytes(), [7, 8].as_slice());
     assert_eq!(rt; key.get(alloc)?, [7, 8]);
+    Ok(())
+}
+
+/// The keys of two values that ascend.
+fn keys_ascend<B, D: Drop>(
+    rt: &impl Abort,
+    alloc: Global,
+    less: D,
+    more: D,
+) -> Result<(), AllocError>
+where
+    B: OrderedMapping<D> + NoPrefixesMapping<D>,
+{
+    let less = Mapped::<B, D>::new(alloc, less)?;
+    let more = Mapped::<B, D>::new(alloc, more)?;
+    ascend(rt, &less, &more);
+    Ok(())
+}
+
+#[test]
+fn keys_are_in_order_and_none_begins_another(rt: HostRuntime) -> Result<(), Fail> {
+    let alloc = rt.alloc();
+    keys_ascend::<ToUBE, u16>(&rt, alloc, 1, 256)?;
+    keys_ascend::<ToIBE, i128>(&rt, alloc, -1, 0)?;
+    keys_ascend::<ToUBE, NonZeroU64>(&rt, alloc, NonZeroU64::MIN, NonZeroU64::MAX)?;
+    keys_ascend::<ToIBE, NonZeroIsize>(&rt, alloc, NonZeroIsize::MIN, NonZeroIsize::MAX)?;
+    keys_ascend::<ToUBE, [u8; 3]>(&rt, alloc, [1, 2, 3], [1, 3, 0])?;
+    keys_ascend::<ToIBE, [i64; 2]>(&rt, alloc, [-1, 5], [0, -5])?;
+    keys_ascend::<ToOctets, Ipv4Addr>(&rt, alloc, Ipv4Addr::LOCALHOST, Ipv4Addr::BROADCAST)?;
+    keys_ascend::<ToOctets, Ipv6Addr>(&rt, alloc, Ipv6Addr::UNSPECIFIED, Ipv6Addr::LOCALHOST)?;
+    let front = Mapped::<ToIBE, Vec<i8>>::new(alloc, vec![in alloc; 7]?)?;
+    let whole = Mapped::<ToIBE, Vec<i8>>::new(alloc, vec![in alloc; 7, 7]?)?;
+    assert_eq!(rt; order_of_texts(&front, &whole), Ordering::Less);
     Ok(())
 }

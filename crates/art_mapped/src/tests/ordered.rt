@@ -72,6 +72,7 @@ where
 {
     ordered_arrays::<B, E>(rt, alloc, [low, middle, high])?;
     compared_vectors::<B, E>(rt, alloc, &[low, low, low], &[low, middle, low])?;
+    compared_vectors::<B, E>(rt, alloc, &[low, middle, low], &[low, middle, high])?;
     compared_vectors::<B, E>(rt, alloc, &[low, middle, high], &[low, middle, low])?;
     compared_vectors::<B, E>(rt, alloc, &[low, low, low], &[low, middle, high])
 }
