@@ -1,5 +1,5 @@
 -- The fields of an indirect node.
-use Rattle.std.specs.Prelude.{◌≡◌, ℕ, ◌<◌, ◌≤◌, ◌-◌, ◌==◌, Bool, false, List, length, map, min, count_by, Option, Some, None, nat_lt, slice_get, slice_index_or, if◌then◌else◌}
+use Rattle.std.specs.Prelude.{◌≡◌, ℕ, ◌<◌, ◌≤◌, ◌-◌, ◌==◌, Bool, false, List, length, map, count_by, Option, Some, None, nat_lt, slice_get, slice_index_or, if◌then◌else◌}
 use Rattle.art_header.specs.Header.{Header}
 
 -- the pointer that an index names
@@ -24,10 +24,6 @@ has_index index (Some other) = other == index
 abbrev pub lowered_above : ℕ → Option ℕ → Option ℕ
 lowered_above index None = None
 lowered_above index (Some other) = Some (if nat_lt index other then other - 1 else other)
-
--- the most children of a node with this many places: 255 is no index
-abbrev pub indirect_room : ℕ → ℕ
-indirect_room places = min places 255
 
 -- there is a place for each byte, the header counts the pointers, which fit, and each pointer has its index at one place
 pub record IsIndirectNode {H : Type 0} (room : ℕ) (header : Header) (indices : List (Option ℕ)) (pointers : List H) : Type 0 where

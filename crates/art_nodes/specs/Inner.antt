@@ -1,5 +1,5 @@
 -- What contracts see of an inner node, whichever way it keeps its children.
-use Rattle.std.specs.Prelude.{ℕ, ◌≤◌, List, [], length, ◌<◌, IsNone}
+use Rattle.std.specs.Prelude.{ℕ, ◌≤◌, List, [], length, ◌<◌, min, IsNone}
 use Rattle.std.specs.List.{zip}
 use Rattle.art_header.specs.Header.{Header}
 use Rattle.art_nodes.specs.ChildMap.{ChildMap, child_at, key_bytes, IsAscending}
@@ -9,6 +9,10 @@ pub record Inner (H : Type 0) : Type 0 where
   pub prefix_len : ℕ
   pub stored : List ℕ
   pub children : ChildMap H
+
+-- the most children of an indirect node with this many places: 255 is no index
+abbrev pub indirect_room : ℕ → ℕ
+indirect_room places = min places 255
 
 module _ {H : Type 0} where
   -- the header, whose count is the size of the child map

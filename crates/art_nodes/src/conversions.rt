@@ -54,7 +54,7 @@ impl<'a, K, V, const PREFIX_LEN: usize, const SIZE: usize> From<
 
 impl<K, V, const PREFIX_LEN: usize, const SIZE: usize> InnerNodeIndirect<K, V, PREFIX_LEN, SIZE> {
     ghost use Rattle.std.specs.Prelude.{◌≡◌, ◌≤◌, length};
-    ghost use Rattle.art_nodes.specs.IndirectNode.{indirect_room};
+    ghost use Rattle.art_nodes.specs.Inner.{indirect_room};
 
     /// The same node with an index for each byte. The children have to fit: at most `SIZE` of
     /// them, and at most 255.

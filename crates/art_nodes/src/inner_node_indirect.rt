@@ -35,9 +35,9 @@ impl<K, V, const PREFIX_LEN: usize, const SIZE: usize> Sealed
 impl<K, V, const PREFIX_LEN: usize, const SIZE: usize> Model
     for InnerNodeIndirect<K, V, PREFIX_LEN, SIZE> {
     ghost use Rattle.art_nodes.specs.declared.pointers.OpaqueNodePtr.{OpaqueNodePtr};
-    ghost use Rattle.art_nodes.specs.Inner.{Inner};
+    ghost use Rattle.art_nodes.specs.Inner.{Inner, indirect_room};
     ghost use Rattle.art_nodes.specs.ChildMap.{table_children};
-    ghost use Rattle.art_nodes.specs.IndirectNode.{named_pointers, indirect_room, IsIndirectNode};
+    ghost use Rattle.art_nodes.specs.IndirectNode.{named_pointers, IsIndirectNode};
 
     ghost Value = { Inner (OpaqueNodePtr K V PREFIX_LEN) };
 
@@ -141,8 +141,7 @@ impl<K, V, const PREFIX_LEN: usize, const SIZE: usize> InnerNodeCommon<K, V, PRE
     for InnerNodeIndirect<K, V, PREFIX_LEN, SIZE> {
     ghost use Rattle.std.specs.Prelude.{◌≡◌, refl};
     ghost use Rattle.art_nodes.specs.ChildMap.{with_child, pairs_within, AreValidBounds};
-    ghost use Rattle.art_nodes.specs.IndirectNode.{indirect_room};
-    ghost use Rattle.art_nodes.specs.Inner.{HasRoomFor, with_children};
+    ghost use Rattle.art_nodes.specs.Inner.{HasRoomFor, indirect_room, with_children};
 
     ghost inner = { λ n. n };
 

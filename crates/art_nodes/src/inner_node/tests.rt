@@ -3,20 +3,18 @@ use super::*;
 use crate::fixtures::leaf;
 use crate::inner_node_indirect::InnerNodeIndirect;
 use crate::inner_node_sorted::InnerNodeSorted;
-use crate::node::tests::{fill, write};
+use crate::node::tests::{fill_from, write};
 use crate::private::InnerNodeInit;
 use art_header::Header;
 use std::process::Abort;
 
-// Each byte has the leaf under the key of its number, and byte 4 has none where it is not listed.
+// Each byte has the leaf under the key of its number, and the others have none.
 fn has_children<N: InnerNodeCommon<u8, u8, 16>>(rt: &impl Abort, node: &N, bytes: &[u8]) {
     assert_eq!(rt; node.header().num_children(), bytes.len());
     assert_eq!(rt; node.header().read_prefix(), b"prefix".as_slice());
-    for byte in bytes {
-        assert!(rt; node.lookup_child(*byte) == Some(leaf(usize::from(*byte))));
-    }
-    if !bytes.contains(&4) {
-        assert!(rt; node.lookup_child(4) == None);
+    for byte in 0..=255u8 {
+        let child = bytes.contains(&byte).then_some(leaf(usize::from(byte)));
+        assert!(rt; node.lookup_child(byte) == child, "under {byte}");
     }
 }
 
@@ -77,24 +75,52 @@ fn node256_shrinks(rt: HostRuntime) {
     has_children(&rt, &node.shrink(), &BYTES);
 }
 
-fn is_full_until_a_child_goes<N>(rt: &impl Abort)
+// A node with children under 0 and 1 is full once it has one under each byte below its capacity.
+fn is_full_until_a_child_goes<N>(rt: &impl Abort, mut node: N)
 where
     N: InnerNode<16, Key = u8, Value = u8> + InnerNodeCommon<u8, u8, 16> + Drop,
 {
-    let mut node = N::from_prefix(b"prefix", 6);
     assert!(rt; !node.is_full());
-    fill(rt, &mut node);
+    fill_from(rt, &mut node, 2);
     assert!(rt; node.is_full());
     node.remove_child(0);
     assert!(rt; !node.is_full());
 }
 
 #[test]
-fn each_kind_is_full_at_its_greatest_count(rt: HostRuntime) {
-    is_full_until_a_child_goes::<InnerNode4<u8, u8, 16>>(&rt);
-    is_full_until_a_child_goes::<InnerNode16<u8, u8, 16>>(&rt);
-    is_full_until_a_child_goes::<InnerNode48<u8, u8, 16>>(&rt);
-    is_full_until_a_child_goes::<InnerNodeDirect<u8, u8, 16>>(&rt);
+fn node4_is_full_with_4_children(rt: HostRuntime) {
+    let node = InnerNode4::<u8, u8, 16>::builder(b"prefix", 6)
+        .write_child(0, leaf(0))
+        .write_child(1, leaf(1))
+        .build();
+    is_full_until_a_child_goes(&rt, node);
+}
+
+#[test]
+fn node16_is_full_with_16_children(rt: HostRuntime) {
+    let node = InnerNode16::<u8, u8, 16>::builder(b"prefix", 6)
+        .write_child(0, leaf(0))
+        .write_child(1, leaf(1))
+        .build();
+    is_full_until_a_child_goes(&rt, node);
+}
+
+#[test]
+fn node48_is_full_with_48_children(rt: HostRuntime) {
+    let node = InnerNode48::<u8, u8, 16>::builder(b"prefix", 6)
+        .write_child(0, leaf(0))
+        .write_child(1, leaf(1))
+        .build();
+    is_full_until_a_child_goes(&rt, node);
+}
+
+#[test]
+fn node256_is_full_with_256_children(rt: HostRuntime) {
+    let node = InnerNodeDirect::<u8, u8, 16>::builder(b"prefix", 6)
+        .write_child(0, leaf(0))
+        .write_child(1, leaf(1))
+        .build();
+    is_full_until_a_child_goes(&rt, node);
 }
 
 #[test]

@@ -24,8 +24,13 @@ pub(crate) fn write<N: InnerNodeCommon<u8, u8, 16>>(
 
 // Bytes 0 to n - 1, where n is the capacity, each with the leaf under the key of its number.
 pub(crate) fn fill<N: InnerNodeCommon<u8, u8, 16>>(rt: &impl Abort, node: &mut N) {
+    fill_from(rt, node, 0);
+}
+
+// The same of a node that has the bytes below the first already.
+pub(crate) fn fill_from<N: InnerNodeCommon<u8, u8, 16>>(rt: &impl Abort, node: &mut N, first: u8) {
     let last = (node.capacity() - node.capacity().min(1)).min(255) as u8;
-    for byte in 0..=last {
+    for byte in first..=last {
         write(rt, node, byte, leaf(usize::from(byte)));
     }
 }
