@@ -1,4 +1,4 @@
--- What the laws of the key types rest on.
+-- What the laws of the key types rest on. No public clause cites this.
 use Rattle.std.specs.Prelude.{◌≡◌, ℕ, List, ◌++◌, length}
 use Rattle.std.proofs.Common.{sym, ap, ◌∙◌, arith, length-append}
 use Rattle.std.proofs.lemmas.List.{append-nil, nil_from_length}

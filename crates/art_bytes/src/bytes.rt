@@ -1,7 +1,7 @@
 ghost use Rattle.std.specs.Prelude.{◌≡◌, ℕ, List, length, refl, ⊤};
 ghost use Rattle.std.specs.String.{string_bytes};
 ghost use Rattle.art_bytes.specs.Laws.{front_of_length};
-ghost use Rattle.art_bytes.specs.Text.{IsFront, text_order};
+ghost use Rattle.art_bytes.specs.Text.{IsFront, IsText, text_order};
 
 /// A type whose values can be seen as bytes, as the keys of an adaptive radix tree are.
 pub trait AsBytes {
@@ -14,6 +14,7 @@ pub trait AsBytes {
     /// The bytes of the key. Takes no memory.
     fn as_bytes(&self) -> &[u8]
         ensures text { result.now ≡ text self.now }
+        ensures bytes { IsText (text self.now) }
         ensures key { is_key self.now };
 }
 
@@ -40,7 +41,8 @@ impl AsBytes for String {
     ghost is_key = { λ _. ⊤ };
 
     fn as_bytes(&self) -> &[u8] {
-        self.as_bytes()
+        let bytes = self.as_bytes();
+        bytes
     }
 }
 
@@ -70,7 +72,8 @@ impl<const N: usize> AsBytes for [u8; N] {
     ghost is_key = { λ a. length a ≡ N };
 
     fn as_bytes(&self) -> &[u8] {
-        &self[..]
+        let bytes = self.as_slice();
+        bytes
     }
 }
 

@@ -6,6 +6,7 @@
 #![tactic(auto)]
 
 mod bytes;
+mod c_string_key;
 mod slice_key;
 mod str_key;
 #[cfg(test)]
@@ -13,5 +14,6 @@ mod tests;
 mod wrappers;
 
 pub use bytes::{AsBytes, NoPrefixesBytes, OrderedBytes};
+pub use c_string_key::{CStringKey, CStringKeyError};
 pub use slice_key::SliceKey;
 pub use str_key::StrKey;

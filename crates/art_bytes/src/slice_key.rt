@@ -34,7 +34,8 @@ impl<'a> AsBytes for SliceKey<'a> {
     ghost is_key = { λ _. ⊤ };
 
     fn as_bytes(&self) -> &[u8] {
-        self.get()
+        let bytes = self.get();
+        bytes
     }
 }
 

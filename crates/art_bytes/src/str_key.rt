@@ -34,7 +34,8 @@ impl<'a> AsBytes for StrKey<'a> {
     ghost is_key = { λ _. ⊤ };
 
     fn as_bytes(&self) -> &[u8] {
-        self.get().as_bytes()
+        let bytes = self.get().as_bytes();
+        bytes
     }
 }
 

@@ -1,30 +1,25 @@
 // Each kind of key, as the layers above use it: through its bounds alone.
 ghost use Rattle.std.specs.Prelude.{◌≡◌, ◌↔◌, IsTrue, fold};
 ghost use Rattle.std.specs.Hash as fed;
+ghost use Rattle.art_bytes.specs.CStringKey.{c_string_key_text};
 ghost use Rattle.art_bytes.specs.SliceKey.{slice_key_text};
 ghost use Rattle.art_bytes.specs.StrKey.{str_key_text};
 
-use crate::{AsBytes, NoPrefixesBytes, OrderedBytes, SliceKey, StrKey};
+use crate::{
+    AsBytes, CStringKey, CStringKeyError, NoPrefixesBytes, OrderedBytes, SliceKey, StrKey,
+};
+use std::alloc::Global;
 use std::cmp::Ordering;
 use std::hash::{DefaultHasher, Hash, Hasher};
 use std::process::Abort;
 use std::rc::Rc;
 use std::test::Fail;
 
+mod using;
+
+use using::{order_of_texts, text_of};
+
 const HELLO: &[u8] = b"hello world";
-
-fn text_of<K: AsBytes>(key: &K) -> &[u8]
-    ensures { result.now ≡ K.text key.now }
-{
-    key.as_bytes()
-}
-
-// Keys sort as their texts do.
-fn order_of_texts<K: OrderedBytes>(a: &K, b: &K) -> Ordering
-    ensures { result ≡ K.cmp a.now b.now }
-{
-    a.as_bytes().cmp(b.as_bytes())
-}
 
 // Keys are equal where their texts are.
 fn have_one_text<K: OrderedBytes>(a: &K, b: &K) -> bool
@@ -49,6 +44,12 @@ fn feed_str_key<H: Hasher>(key: &StrKey, hasher: &mut H)
 
 fn feed_slice_key<H: Hasher>(key: &SliceKey, hasher: &mut H)
     ensures { hasher.new ≡ fold H.write hasher.old (fed.slice fed.u8 (slice_key_text key.now)) }
+{
+    key.hash(hasher);
+}
+
+fn feed_c_string_key<H: Hasher>(key: &CStringKey, hasher: &mut H)
+    ensures { hasher.new ≡ fold H.write hasher.old (fed.slice fed.u8 (c_string_key_text key.now)) }
 {
     key.hash(hasher);
 }
@@ -98,6 +99,10 @@ fn various_string_types_as_bytes(rt: HostRuntime) -> Result<(), Fail> {
     assert_eq!(rt; text_of(&string), HELLO);
     assert_eq!(rt; text_of(&StrKey::new("hello world")), HELLO);
     assert_eq!(rt; string_through_a_key("hello world"), "hello world");
+    assert_eq!(rt;
+        text_of(&c_string(rt.alloc(), HELLO)?),
+        b"hello world\0".as_slice()
+    );
     Ok(())
 }
 
@@ -174,4 +179,50 @@ fn borrowed_keys_hash_as_what_they_borrow(rt: HostRuntime) {
     let mut hasher = DefaultHasher::new();
     feed_slice_key(&SliceKey::new(HELLO), &mut hasher);
     assert_eq!(rt; hasher.finish(), hash_of(&HELLO));
+}
+
+fn c_string(alloc: Global, bytes: &[u8]) -> Result<CStringKey, Fail> {
+    match CStringKey::new(bytes.to_vec(alloc)?) {
+        Ok(key) => Ok(key),
+        Err(refusal) => Err(refusal)?,
+    }
+}
+
+// The bytes are refused for a zero, the first one at that place, and come back.
+fn check_zero_at(rt: &impl Abort, alloc: Global, bytes: &[u8], first: usize) -> Result<(), Fail> {
+    let Err(
+        CStringKeyError::InteriorZero {
+            position,
+            bytes: back,
+        },
+    ) = CStringKey::new(bytes.to_vec(alloc)?)
+    else {
+        panic!(rt; "no zero was found");
+    };
+    assert_eq!(rt; position, first);
+    assert_eq!(rt; back.as_slice(), bytes);
+    Ok(())
+}
+
+#[test]
+fn c_strings_have_one_zero_the_last(rt: HostRuntime) -> Result<(), Fail> {
+    let alloc = rt.alloc();
+    let texts: [&[u8]; 6] = [b"", b"a", b"ab", b"b", b"\x7f", b"\xff"];
+    let mut keys = Vec::new(alloc);
+    for text in texts {
+        keys.push(c_string(alloc, text)?)?;
+    }
+    check_ascending(&rt, &keys);
+    check_no_fronts(&rt, &keys);
+    let long = vec![in alloc; 7; 1000]?;
+    assert_eq!(rt; text_of(&c_string(alloc, &long)?).len(), 1001);
+
+    check_zero_at(&rt, alloc, &[1, 0, 2, 0], 1)?;
+    check_zero_at(&rt, alloc, &[0, 1], 0)?;
+    check_zero_at(&rt, alloc, &[1, 1, 1, 0], 3)?;
+
+    let mut hasher = DefaultHasher::new();
+    feed_c_string_key(&c_string(alloc, b"ab")?, &mut hasher);
+    assert_eq!(rt; hasher.finish(), hash_of(&b"ab\0".as_slice()));
+    Ok(())
 }

@@ -1,0 +1,80 @@
+ghost use Rattle.std.specs.Prelude.{◌≡◌, [], ◌∷◌, ◌++◌, IfOk, IfErr, OnOk, refl};
+ghost use Rattle.art_bytes.specs.CString.{IsCString, HasNoZero};
+ghost use Rattle.art_bytes.specs.CStringLaws.{c_string_front_is_whole};
+
+use crate::bytes::{AsBytes, NoPrefixesBytes, OrderedBytes};
+use std::error::Error;
+use std::fmt;
+
+/// A C string as a key, where blart takes `CStr` and `CString`: bytes of which none is zero, and a zero byte
+/// behind them, so that no key begins another. Keys are equal, ordered and hashed by their texts.
+#[derive(Drop, PartialEq, Eq, PartialOrd, Ord, Hash)]
+pub struct CStringKey {
+    bytes: Vec<u8>,
+    ghost ended: { IsCString bytes.items },
+}
+
+impl CStringKey {
+    ghost use Rattle.art_bytes.specs.CStringKey.{c_string_key_text, IsRefusalOf};
+
+    /// The key whose text is `bytes` and a zero byte, which is appended through the vector's own allocator.
+    ///
+    /// Refuses bytes with a zero among them, before it takes memory, and otherwise want of memory. The bytes come
+    /// back as they were.
+    pub fn new(mut bytes: Vec<u8>) -> Result<CStringKey, CStringKeyError>
+        ensures text { IfOk result (λ key. c_string_key_text key ≡ bytes.items ++ 0 ∷ []) }
+        ensures no_zero { OnOk result (HasNoZero bytes.items) }
+        ensures refused { IfErr result (IsRefusalOf bytes.items) }
+    {
+        if let Some(position) = bytes.iter().position(|byte| *byte == 0) {
+            return Err(CStringKeyError::InteriorZero { position, bytes });
+        }
+        if bytes.push(0).is_err() {
+            return Err(CStringKeyError::OutOfMemory { bytes });
+        }
+        Ok(CStringKey { bytes })
+    }
+}
+
+impl AsBytes for CStringKey {
+    ghost use Rattle.art_bytes.specs.CStringKey.{c_string_key_text};
+
+    ghost text = { c_string_key_text };
+
+    ghost is_key = { λ key. IsCString (c_string_key_text key) };
+
+    fn as_bytes(&self) -> &[u8] {
+        let bytes = self.bytes.as_slice();
+        bytes
+    }
+}
+
+impl NoPrefixesBytes for CStringKey {
+    ghost no_prefixes = { λ a b. c_string_front_is_whole a.bytes.items b.bytes.items };
+}
+
+impl OrderedBytes for CStringKey {
+    ghost ordered = { λ a b _ _. refl };
+}
+
+/// Why `CStringKey::new` refuses bytes, which it hands back.
+#[derive(Debug, Drop)]
+pub enum CStringKeyError {
+    /// A zero stands among the bytes, the first one at `position`.
+    InteriorZero { position: usize, bytes: Vec<u8> },
+    /// No zero stands among the bytes, and there was no memory for the one behind them.
+    OutOfMemory { bytes: Vec<u8> },
+}
+
+impl fmt::Display for CStringKeyError {
+    fn fmt<W: fmt::Write>(&self, f: &mut fmt::Formatter<W>) -> fmt::Result {
+        match self {
+            CStringKeyError::InteriorZero { position, .. } => {
+                write!(f, "zero byte at position {position}")
+            }
+            CStringKeyError::OutOfMemory { .. } => write!(f, "out of memory"),
+        }
+    }
+}
+
+impl Error for CStringKeyError {}
