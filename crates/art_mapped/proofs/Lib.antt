@@ -1,5 +1,7 @@
 pub mod Answered
+pub mod Cuts
+pub mod Flip
+pub mod Pairs
 pub mod Parts
 pub mod Turns
 pub mod Vecs
-pub mod Flip

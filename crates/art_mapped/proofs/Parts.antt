@@ -10,6 +10,8 @@ use Rattle.std.proofs.lemmas.Nat.{mul-le, div-add-mod'}
 use Rattle.std.proofs.Math.Nat.{mul-mod_left, mul-div_cancel}
 use Rattle.std.proofs.Math.Logic.{∥∥₁_map, ∥∥₁_map₂, ∥∥₁_elim}
 use Rattle.std.proofs.Props.{props}
+use Rattle.std.specs.declared.cmp.Ordering.{Ordering}
+use Rattle.art_mapped.specs.Elements.{KeepsOrder}
 use Rattle.art_mapped.specs.SequenceLaws.{length-joined}
 use Rattle.art_mapped.specs.Sequences.{joined, AreJoined, part, IsArray}
 
@@ -17,7 +19,7 @@ use Rattle.art_mapped.specs.Sequences.{joined, AreJoined, part, IsArray}
 abbrev pub IsPartOfSome : {E : Type 0} → (E → Type 0) → (E → List ℕ) → List ℕ → Type 0
 IsPartOfSome {E} is_element text bytes = ∥ ((x : E) × is_element x × (bytes ≡ text x)) ∥₁
 
-module _ {E : Type 0} (text : E → List ℕ) (width : ℕ) (long : (x : E) → length (text x) ≡ width) where
+module _ {E : Type 0} {is_element : E → Type 0} {text : E → List ℕ} {order : E → E → Ordering} {width : ℕ} (laws : KeepsOrder is_element text order width) where
   -- the first bytes, and those after them
   first_part : (bytes : List ℕ) → part width 0 bytes ≡ take width bytes
   first_part bytes =
@@ -29,18 +31,13 @@ module _ {E : Type 0} (text : E → List ℕ) (width : ℕ) (long : (x : E) → 
       let more : suc k * width ≡ width + k * width = omega arith in
       rw (more, drop-drop (k * width) width bytes) refl
 
-  take_first : (x : E) (rest : List ℕ) → take width (text x ++ rest) ≡ text x
-  take_first x rest = take-append-le width (text x) rest (omega (arith, long x)) ∙ take_all width (text x) (omega (arith, long x))
+  take_first : (x : E) (rest : List ℕ) → is_element x → take width (text x ++ rest) ≡ text x
+  take_first x rest x_in = let long = laws.long x x_in in take-append-le width (text x) rest (omega arith) ∙ take_all width (text x) (omega arith)
 
-  drop_first : (x : E) (rest : List ℕ) → drop width (text x ++ rest) ≡ rest
-  drop_first x rest = drop-append-le width (text x) rest (omega (arith, long x)) ∙ ap (λ front. front ++ rest) (drop_all width (text x) (omega (arith, long x)))
-
-  -- the part at an index of joined elements is the element there
-  pub part-joined : (xs : List E) (k : ℕ) (d : E) → k < length xs → part width k (joined text xs) ≡ text (get_or xs k d)
-  part-joined [] k d below = absurd (omega arith)
-  part-joined (x ∷ xs) zero d below = first_part (joined text (x ∷ xs)) ∙ take_first x (joined text xs)
-  part-joined (x ∷ xs) (suc k) d below =
-      later_part k (joined text (x ∷ xs)) ∙ ap (part width k) (drop_first x (joined text xs)) ∙ part-joined xs k d (omega arith)
+  drop_first : (x : E) (rest : List ℕ) → is_element x → drop width (text x ++ rest) ≡ rest
+  drop_first x rest x_in =
+      let long = laws.long x x_in in
+      drop-append-le width (text x) rest (omega arith) ∙ ap (λ front. front ++ rest) (drop_all width (text x) (omega arith))
 
   shorter : (n : ℕ) (bytes : List ℕ) → length bytes ≡ suc n * width → length (drop width bytes) ≡ n * width
   shorter n bytes size = omega (arith, length-drop width bytes)
@@ -55,11 +52,11 @@ module _ {E : Type 0} (text : E → List ℕ) (width : ℕ) (long : (x : E) → 
       sym (take-append-drop width bytes) ∙ rw (first, rest) refl
 
   -- bytes each of whose parts is some element's are some elements', joined
-  pub are_joined_from_parts : (is_element : E → Type 0) (n : ℕ) (bytes : List ℕ) → length bytes ≡ n * width → ((k : ℕ) → k < n → IsPartOfSome is_element text (part width k bytes)) → AreJoined is_element text bytes
-  are_joined_from_parts is_element zero [] size parts = ∣ ([], All-nil is_element, refl) ∣₁
-  are_joined_from_parts is_element zero (b ∷ bytes) size parts = absurd (omega arith)
-  are_joined_from_parts is_element (suc n) bytes size parts =
-      let rest = are_joined_from_parts is_element n (drop width bytes) (shorter n bytes size) (λ k below. rw (← later_part k bytes) (parts (suc k) (omega arith))) in
+  pub are_joined_from_parts : (n : ℕ) (bytes : List ℕ) → length bytes ≡ n * width → ((k : ℕ) → k < n → IsPartOfSome is_element text (part width k bytes)) → AreJoined is_element text bytes
+  are_joined_from_parts zero [] size parts = ∣ ([], All-nil is_element, refl) ∣₁
+  are_joined_from_parts zero (b ∷ bytes) size parts = absurd (omega arith)
+  are_joined_from_parts (suc n) bytes size parts =
+      let rest = are_joined_from_parts n (drop width bytes) (shorter n bytes size) (λ k below. rw (← later_part k bytes) (parts (suc k) (omega arith))) in
       ∥∥₁_map₂ (parts 0 (omega arith)) rest (λ first others. (
         first.0 ∷ others.0,
         All-cons is_element first.0 others.0 first.1 others.1,
@@ -67,12 +64,14 @@ module _ {E : Type 0} (text : E → List ℕ) (width : ℕ) (long : (x : E) → 
       ))
 
   -- each part of joined elements is some element's
-  element_of_part : (is_element : E → Type 0) (xs : List E) (k : ℕ) → All is_element xs → k < length xs → (x : E) × is_element x × (part width k (joined text xs) ≡ text x)
-  element_of_part is_element [] k all below = absurd (omega arith)
-  element_of_part is_element (x ∷ xs) zero all below = (x, All-head is_element x xs all, first_part (joined text (x ∷ xs)) ∙ take_first x (joined text xs))
-  element_of_part is_element (x ∷ xs) (suc k) all below =
-      let later = element_of_part is_element xs k (All-tail is_element x xs all) (omega arith) in
-      (later.0, later.1, later_part k (joined text (x ∷ xs)) ∙ ap (part width k) (drop_first x (joined text xs)) ∙ later.2)
+  element_of_part : (xs : List E) (k : ℕ) → All is_element xs → k < length xs → (x : E) × is_element x × (part width k (joined text xs) ≡ text x)
+  element_of_part [] k all below = absurd (omega arith)
+  element_of_part (x ∷ xs) zero all below =
+      let first = All-head is_element x xs all in
+      (x, first, first_part (joined text (x ∷ xs)) ∙ take_first x (joined text xs) first)
+  element_of_part (x ∷ xs) (suc k) all below =
+      let later = element_of_part xs k (All-tail is_element x xs all) (omega arith) in
+      (later.0, later.1, later_part k (joined text (x ∷ xs)) ∙ ap (part width k) (drop_first x (joined text xs) (All-head is_element x xs all)) ∙ later.2)
 
   -- a part that ends within n parts is one of them
   below_from_size : (k n : ℕ) → 0 < width → (k + 1) * width ≤ n * width → k < n
@@ -82,25 +81,26 @@ module _ {E : Type 0} (text : E → List ℕ) (width : ℕ) (long : (x : E) → 
   part_within k size below =
       omega (arith, mul-le (k + 1) width (size / width) width (omega arith) (omega arith), div-add-mod' size width)
 
-  pub is_part_of_some : (is_element : E → Type 0) (bytes : List ℕ) (k : ℕ) → 0 < width → AreJoined is_element text bytes → k < length bytes / width → IsPartOfSome is_element text (part width k bytes)
-  is_part_of_some is_element bytes k some are below =
+  pub is_part_of_some : (bytes : List ℕ) (k : ℕ) → AreJoined is_element text bytes → k < length bytes / width → IsPartOfSome is_element text (part width k bytes)
+  is_part_of_some bytes k are below =
       let within = part_within k (length bytes) below in
       ∥∥₁_map are (λ of.
-      let size : length bytes ≡ length of.0 * width = ap length of.2 ∙ length-joined text width long of.0 in
-      let found = element_of_part is_element of.0 k of.1 (below_from_size k (length of.0) some (rw size at within)) in
+      let size : length bytes ≡ length of.0 * width = ap length of.2 ∙ length-joined laws of.0 of.1 in
+      let found = element_of_part of.0 k of.1 (below_from_size k (length of.0) laws.some (rw size at within)) in
       (found.0, found.1, ap (part width k) of.2 ∙ found.2))
 
   -- joined elements leave no rest
-  pub no_rest : (is_element : E → Type 0) (bytes : List ℕ) → AreJoined is_element text bytes → length bytes % width ≡ 0
-  no_rest is_element bytes are =
-      ∥∥₁_elim are (hlevel props) (λ of. rw (ap length of.2 ∙ length-joined text width long of.0) (mul-mod_left (length of.0) width))
+  pub no_rest : (bytes : List ℕ) → AreJoined is_element text bytes → length bytes % width ≡ 0
+  no_rest bytes are =
+      ∥∥₁_elim are (hlevel props) (λ of. rw (ap length of.2 ∙ length-joined laws of.0 of.1) (mul-mod_left (length of.0) width))
 
   -- joined elements are as long as their parts
   pub size_of_parts : (bytes : List ℕ) → length bytes % width ≡ 0 → length bytes ≡ length bytes / width * width
   size_of_parts bytes none = omega (arith, div-add-mod' (length bytes) width)
 
   -- one more element read
-  pub one_more_read : (xs : List E) (x : E) (bytes : List ℕ) (k : ℕ) → joined text xs ++ drop (k * width) bytes ≡ bytes → part width k bytes ≡ text x → joined text (xs ++ x ∷ []) ++ drop ((k + 1) * width) bytes ≡ bytes
+  pub one_more_read : (xs : List E) (x : E) (bytes : List ℕ) (k : ℕ) → joined text xs ++ drop (k * width) bytes ≡ bytes → part width k bytes ≡ text x
+      → joined text (xs ++ x ∷ []) ++ drop ((k + 1) * width) bytes ≡ bytes
   one_more_read xs x bytes k before here =
       let on : (k + 1) * width ≡ k * width + width = omega arith in
       let single : joined text (x ∷ []) ≡ text x = append-nil (text x) in
@@ -111,13 +111,13 @@ module _ {E : Type 0} (text : E → List ℕ) (width : ℕ) (long : (x : E) → 
   all_read xs bytes n size read = sym (rw (drop_all (n * width) bytes size, append-nil) at read)
 
   -- as many elements as parts
-  pub size_of_array : (is_element : E → Type 0) (n : ℕ) (bytes : List ℕ) → 0 < width → ∥ ((xs : List E) × IsArray n is_element xs × (bytes ≡ joined text xs)) ∥₁ → length bytes / width ≡ n
-  size_of_array is_element n bytes some are =
-      ∥∥₁_elim are (hlevel props) (λ of. rw (ap length of.2 ∙ length-joined text width long of.0, mul-div_cancel (length of.0) some) of.1.0)
+  pub size_of_array : (n : ℕ) (bytes : List ℕ) → ∥ ((xs : List E) × IsArray n is_element xs × (bytes ≡ joined text xs)) ∥₁ → length bytes / width ≡ n
+  size_of_array n bytes are =
+      ∥∥₁_elim are (hlevel props) (λ of. rw (ap length of.2 ∙ length-joined laws of.0 of.1.1, mul-div_cancel (length of.0) laws.some) of.1.0)
 
-  pub joined_from_array : (is_element : E → Type 0) (n : ℕ) (bytes : List ℕ) → ∥ ((xs : List E) × IsArray n is_element xs × (bytes ≡ joined text xs)) ∥₁ → AreJoined is_element text bytes
-  joined_from_array is_element n bytes are = ∥∥₁_map are (λ of. (of.0, of.1.1, of.2))
+  pub joined_from_array : (n : ℕ) (bytes : List ℕ) → ∥ ((xs : List E) × IsArray n is_element xs × (bytes ≡ joined text xs)) ∥₁ → AreJoined is_element text bytes
+  joined_from_array n bytes are = ∥∥₁_map are (λ of. (of.0, of.1.1, of.2))
 
-  pub array_from_joined : (is_element : E → Type 0) (n : ℕ) (bytes : List ℕ) → 0 < width → length bytes / width ≡ n → AreJoined is_element text bytes → ∥ ((xs : List E) × IsArray n is_element xs × (bytes ≡ joined text xs)) ∥₁
-  array_from_joined is_element n bytes some size are =
-      ∥∥₁_map are (λ of. (of.0, (rw (ap length of.2 ∙ length-joined text width long of.0, mul-div_cancel (length of.0) some) at size, of.1), of.2))
+  pub array_from_joined : (n : ℕ) (bytes : List ℕ) → length bytes / width ≡ n → AreJoined is_element text bytes → ∥ ((xs : List E) × IsArray n is_element xs × (bytes ≡ joined text xs)) ∥₁
+  array_from_joined n bytes size are =
+      ∥∥₁_map are (λ of. (of.0, (rw (ap length of.2 ∙ length-joined laws of.0 of.1, mul-div_cancel (length of.0) laws.some) at size, of.1), of.2))

@@ -13,7 +13,8 @@ folds_stay {P} R p stays (x ∷ xs) q folds =
     folds_stay R p stays xs q (subst From (stays x folds.0 folds.1) folds.2)
 
 -- what may be called at each item, and is as it was afterwards, may be called at each turn
-pub callable_unchanged : {S A P : Type 0} (steps : S → Option A → S → Type 0) (R : P → A → P → Type 0) (Q : P → A → Type 0) (s : S) (p : P) → ((x : A) (q : P) → R p x q → q ≡ p) → ((t : S) (x : A) (u : S) → steps t (Some x) u → Q p x) → CallableAtEachTurn steps R Q s p
+pub callable_unchanged : {S A P : Type 0} (steps : S → Option A → S → Type 0) (R : P → A → P → Type 0) (Q : P → A → Type 0) (s : S) (p : P)
+    → ((x : A) (q : P) → R p x q → q ≡ p) → ((t : S) (x : A) (u : S) → steps t (Some x) u → Q p x) → CallableAtEachTurn steps R Q s p
 callable_unchanged {S} {A} {P} steps R Q s p stays callable =
     record {
       at = λ xs t q x u yields folds step.
@@ -22,7 +23,8 @@ callable_unchanged {S} {A} {P} steps R Q s p stays callable =
     }
 
 -- an array made by such a function has at each index what a call there gave
-pub called_at : {F B : Type 0} (g : Mut F (ℕ × Unit {0}) B) (f : F) → ((x : ℕ) (y : B) (q : F) → Called g f (x, tt) y q → q ≡ f) → (ys : List B) (n i : ℕ) → IsFromFnResultFrom g f ys i n → (k : ℕ) (d : B) → i ≤ k → k < i + n → (q : F) × Called g f (k, tt) (get_or ys k d) q
+pub called_at : {F B : Type 0} (g : Mut F (ℕ × Unit {0}) B) (f : F) → ((x : ℕ) (y : B) (q : F) → Called g f (x, tt) y q → q ≡ f)
+    → (ys : List B) (n i : ℕ) → IsFromFnResultFrom g f ys i n → (k : ℕ) (d : B) → i ≤ k → k < i + n → (q : F) × Called g f (k, tt) (get_or ys k d) q
 called_at g f stays ys zero i made k d from below = absurd (omega arith)
 called_at {F} {B} g f stays ys (suc n) i (q, y, here, called, rest) k d from below =
     let Made : F → Type 0 = λ p. IsFromFnResultFrom g p ys (i + 1) n in

@@ -1,15 +1,17 @@
--- An address and its octets decide each other.
+-- An address and its octets decide each other, and their order. No public clause cites this.
 use Rattle.std.specs.Prelude.{◌≡◌, ℕ, zero, suc, ◌+◌, ◌*◌, ◌/◌, ◌%◌, List, [], ◌∷◌, length, All, refl}
+use Rattle.std.specs.Ordering.{nat_cmp, on}
 use Rattle.std.specs.Net.Addr.{ipv4_octets, ipv6_segments, ipv6_octets, octets_of, segments_of}
 use Rattle.std.specs.declared.net.Ipv4Addr.{Ipv4Addr}
 use Rattle.std.specs.declared.net.Ipv6Addr.{Ipv6Addr}
-use Rattle.std.proofs.Common.{sym, ap, ◌∙◌, arith}
+use Rattle.std.proofs.Common.{sym, ap, ◌∙◌, arith, rules}
+use Rattle.std.proofs.lemmas.Map.Lookups.{exact_bytes}
 use Rattle.std.proofs.lemmas.List.Elements.{All-head, All-tail}
 use Rattle.std.proofs.lemmas.Nat.{div-mul-add, mod-mul-add}
-use Rattle.art_bytes.specs.Text.{IsByte, IsFront}
-use Rattle.art_bytes.specs.Laws.{front_of_length}
-use Rattle.art_mapped.specs.Addresses.{AreOctets, IsIpv4, IsIpv6}
-use Rattle.art_mapped.specs.Mapping.{StandsForSome, HasTextOf}
+use Rattle.art_bytes.specs.Text.{IsByte, text_order}
+use Rattle.art_mapped.specs.Addresses.{IsIpv4, IsIpv6}
+use Rattle.art_mapped.specs.DigitLaws.{order_of_two, then_assoc}
+use Rattle.art_mapped.specs.Elements.{KeepsOrder}
 
 -- addresses of the same octets are one
 pub same_ipv4 : (x y : Ipv4Addr) {bytes : List ℕ} → bytes ≡ ipv4_octets x → bytes ≡ ipv4_octets y → x ≡ y
@@ -29,13 +31,6 @@ same_ipv6 x y x_text y_text =
     let make : List ℕ → Ipv6Addr = λ segments. record { segments = segments } in
     ap make (sym (segments_of-octets_of (ipv6_segments x)) ∙ ap segments_of (sym x_text ∙ y_text) ∙ segments_of-octets_of (ipv6_segments y))
 
--- the octets of no address are a proper front of another's
-pub ipv4_front_is_whole : (x y : Ipv4Addr) → IsIpv4 x → IsIpv4 y → IsFront (ipv4_octets x) (ipv4_octets y) → ipv4_octets x ≡ ipv4_octets y
-ipv4_front_is_whole x y x_in y_in = front_of_length 4 (ipv4_octets x) (ipv4_octets y) x_in.0 y_in.0
-
-pub ipv6_front_is_whole : (x y : Ipv6Addr) → IsIpv6 x → IsIpv6 y → IsFront (ipv6_octets x) (ipv6_octets y) → ipv6_octets x ≡ ipv6_octets y
-ipv6_front_is_whole x y x_in y_in = front_of_length 16 (ipv6_octets x) (ipv6_octets y) x_in.0 y_in.0
-
 -- octets joined to segments come apart again
 pub octets_of-segments_of : (n : ℕ) (octets : List ℕ) → length octets ≡ 2 * n → All IsByte octets → octets_of (segments_of octets) ≡ octets
 octets_of-segments_of n [] long bytes = refl
@@ -46,11 +41,34 @@ octets_of-segments_of (suc n) (a ∷ b ∷ octets) long bytes =
     let rest = octets_of-segments_of n octets (omega arith) (All-tail IsByte b octets (All-tail IsByte a (b ∷ octets) bytes)) in
     rw (div-mul-add a 256 b low, mod-mul-add a 256 b low, rest) refl
 
--- octets are those of some address
-pub ipv4_with : (octets : List ℕ) → AreOctets 4 octets → StandsForSome IsIpv4 (HasTextOf (λ bytes. bytes) ipv4_octets) octets
-ipv4_with octets are = ∣ (record { octets = octets }, are, refl) ∣₁
+-- addresses of four octets sort as their octets do
+pub ipv4_keep : KeepsOrder IsIpv4 ipv4_octets (on ipv4_octets text_order) 4
+ipv4_keep =
+    record {
+      some = search rules;
+      long = λ x x_in. x_in.0;
+      keeps = λ x y x_in y_in. refl;
+      exact = λ x y tied. same_ipv4 x y refl (exact_bytes (ipv4_octets x) (ipv4_octets y) tied);
+    }
 
-pub ipv6_with : (octets : List ℕ) → AreOctets 16 octets → StandsForSome IsIpv6 (HasTextOf (λ bytes. bytes) ipv6_octets) octets
-ipv6_with octets are =
-    let back = octets_of-segments_of 8 octets are.0 are.1 in
-    ∣ (record { segments = segments_of octets }, rw back are, sym back) ∣₁
+-- segments compare as their octets do
+order_of_segments : (xs ys : List ℕ) → text_order xs ys ≡ text_order (octets_of xs) (octets_of ys)
+order_of_segments [] [] = refl
+order_of_segments [] (y ∷ ys) = refl
+order_of_segments (x ∷ xs) [] = refl
+order_of_segments (x ∷ xs) (y ∷ ys) =
+    let whole_x : x / 256 * 256 + x % 256 ≡ x = omega arith in
+    let whole_y : y / 256 * 256 + y % 256 ≡ y = omega arith in
+    let first = order_of_two 256 (x / 256) (y / 256) (x % 256) (y % 256) (omega arith) (omega arith) in
+    let rest = order_of_segments xs ys in
+    rw (rw (whole_x, whole_y) at first, rest) (then_assoc (nat_cmp (x / 256) (y / 256)) (nat_cmp (x % 256) (y % 256)) (text_order (octets_of xs) (octets_of ys)))
+
+-- and so do addresses of sixteen octets, of which std compares the segments
+pub ipv6_keep : KeepsOrder IsIpv6 ipv6_octets (on ipv6_segments text_order) 16
+ipv6_keep =
+    record {
+      some = search rules;
+      long = λ x x_in. x_in.0;
+      keeps = λ x y x_in y_in. order_of_segments (ipv6_segments x) (ipv6_segments y);
+      exact = λ x y tied. same_ipv6 x y refl (ap octets_of (exact_bytes (ipv6_segments x) (ipv6_segments y) tied));
+    }

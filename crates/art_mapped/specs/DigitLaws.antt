@@ -1,8 +1,9 @@
--- Digits in base 256: their number, their order, and the way back from bytes.
+-- Digits in base 256: their number, their order, and the way back from bytes. No public clause cites this.
 use Rattle.std.specs.Prelude.{◌≡◌, ℕ, zero, suc, ◌+◌, ◌-◌, ◌*◌, ◌%◌, ◌^◌, ◌<◌, List, [], ◌∷◌, length, get_or, refl}
 use Rattle.std.specs.Int.{byte_at, byte_worth, sum_through}
 use Rattle.std.specs.Ordering.{nat_cmp, ordering_then}
-use Rattle.std.specs.declared.cmp.Ordering.TheVariants.{Equal}
+use Rattle.std.specs.declared.cmp.Ordering.{Ordering}
+use Rattle.std.specs.declared.cmp.Ordering.TheVariants.{Less, Equal, Greater}
 use Rattle.std.specs.Cmp.{nat_cmp_is}
 use Rattle.std.proofs.Common.{sym, ap, ◌∙◌, arith, pow-suc, mul_comm}
 use Rattle.std.proofs.Math.Nat.{pow-le-pow_right, mod-eq_of_lt}
@@ -63,8 +64,14 @@ number_of-low (suc k) n = rw (length-digits k n, number_of-low k n) (digit_on k 
 pub number_of-digits : (width n : ℕ) → n < 256 ^ width → number_of (digits width n) ≡ n
 number_of-digits width n fits = number_of-low width n ∙ mod-eq_of_lt fits
 
+-- three orders in turn
+pub then_assoc : (o p q : Ordering) → ordering_then (ordering_then o p) q ≡ ordering_then o (ordering_then p q)
+then_assoc Less p q = refl
+then_assoc Equal p q = refl
+then_assoc Greater p q = refl
+
 -- a number that is made of two digits in a base, the greater first, has the order of those digits
-order_of_two : (unit a b r s : ℕ) → r < unit → s < unit → nat_cmp (a * unit + r) (b * unit + s) ≡ ordering_then (nat_cmp a b) (nat_cmp r s)
+pub order_of_two : (unit a b r s : ℕ) → r < unit → s < unit → nat_cmp (a * unit + r) (b * unit + s) ≡ ordering_then (nat_cmp a b) (nat_cmp r s)
 order_of_two unit a b r s small small' =
     let x = a * unit + r in
     let y = b * unit + s in
@@ -91,7 +98,8 @@ text_order-number_of (d ∷ ds) (e ∷ es) long d_bytes e_bytes =
 -- the digits at a width have the order of the numbers
 pub text_order-digits : (width m n : ℕ) → m < 256 ^ width → n < 256 ^ width → text_order (digits width m) (digits width n) ≡ nat_cmp m n
 text_order-digits width m n m_fits n_fits =
-    rw (text_order-number_of (digits width m) (digits width n) (length-digits width m ∙ sym (length-digits width n)) (AreBytes-digits width m) (AreBytes-digits width n), number_of-digits width m m_fits, number_of-digits width n n_fits) refl
+    let long = length-digits width m ∙ sym (length-digits width n) in
+    rw (text_order-number_of (digits width m) (digits width n) long (AreBytes-digits width m) (AreBytes-digits width n), number_of-digits width m m_fits, number_of-digits width n n_fits) refl
 
 -- texts that stand for one number at one width are one
 same_from_number : (ds es : List ℕ) → length ds ≡ length es → AreBytes ds → AreBytes es → number_of ds ≡ number_of es → ds ≡ es
@@ -121,7 +129,8 @@ number_of-sum zero (d ∷ e ∷ ds) long = absurd (omega arith)
 number_of-sum (suc k) [] long = absurd (omega arith)
 number_of-sum (suc k) (d ∷ ds) long =
     let short : length ds ≡ suc k = omega arith in
-    let rest = same_sum (λ i. byte_worth (suc k - suc i) (get_or ds i 0)) (λ i. byte_worth (k - i) (get_or ds i 0)) (λ i. ap (λ j. byte_worth j (get_or ds i 0)) (omega arith)) k ∙ number_of-sum k ds short in
+    let shifted = same_sum (λ i. byte_worth (suc k - suc i) (get_or ds i 0)) (λ i. byte_worth (k - i) (get_or ds i 0)) (λ i. ap (λ j. byte_worth j (get_or ds i 0)) (omega arith)) k in
+    let rest = shifted ∙ number_of-sum k ds short in
     let whole : suc k - 0 ≡ suc k = omega arith in
     rw (sum_from_first (λ i. byte_worth (suc k - i) (get_or (d ∷ ds) i 0)) k, rest, short, whole) refl
 

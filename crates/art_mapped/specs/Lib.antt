@@ -1,6 +1,7 @@
 pub mod AddressLaws
 pub mod Addresses
 pub mod DigitLaws
+pub mod Elements
 pub mod Mapped
 pub mod Mapping
 pub mod MappingLaws
@@ -8,3 +9,5 @@ pub mod NumberLaws
 pub mod Numbers
 pub mod SequenceLaws
 pub mod Sequences
+pub mod TupleLaws
+pub mod Tuples

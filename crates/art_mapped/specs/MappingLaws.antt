@@ -1,4 +1,4 @@
--- What bytes that stand for values take from the laws of the mapping.
+-- What bytes that stand for values take from the laws of the mapping. No public clause cites this.
 use Rattle.std.specs.Prelude.{◌≡◌, ℕ, List}
 use Rattle.std.proofs.Common.{sym, ◌∙◌}
 use Rattle.std.proofs.Props.{props}
@@ -7,7 +7,8 @@ use Rattle.art_bytes.specs.Text.{IsFront}
 use Rattle.art_mapped.specs.Mapping.{StandsForSome, HasTextOf}
 
 -- where bytes stand for what has their text, other bytes with that text stand for some value too
-pub kept_by_text : {B D : Type 0} (is_in_domain : D → Type 0) (text : B → List ℕ) (text_of : D → List ℕ) (a b : B) → text a ≡ text b → StandsForSome is_in_domain (HasTextOf text text_of) a → StandsForSome is_in_domain (HasTextOf text text_of) b
+pub kept_by_text : {B D : Type 0} (is_in_domain : D → Type 0) (text : B → List ℕ) (text_of : D → List ℕ) (a b : B) → text a ≡ text b
+    → StandsForSome is_in_domain (HasTextOf text text_of) a → StandsForSome is_in_domain (HasTextOf text text_of) b
 kept_by_text is_in_domain text text_of a b same some = ∥∥₁_map some (λ of. (of.0, of.1, sym same ∙ of.2))
 
 -- where no value's text is a proper front of another's, none is of bytes that stand for values

@@ -25,6 +25,10 @@ pub trait FixedBytes: AsBytes + Copy + Sealed {
 
     /// The text of a key has that length.
     ghost width: { (key : Self) → Self.is_key key → length (Self.text key) ≡ WIDTH };
+
+    /// Keys with one text are one.
+    ghost one_key: { (a b : Self) → Self.is_key a → Self.is_key b →
+        Self.text a ≡ Self.text b → a ≡ b };
 }
 
 impl<const N: usize> FixedBytes for [u8; N] {
@@ -33,6 +37,8 @@ impl<const N: usize> FixedBytes for [u8; N] {
     ghost WIDTH = { N };
 
     ghost width = { λ key is_key. is_key };
+
+    ghost one_key = { λ a b _ _ same. same };
 
     fn from_slice(bytes: &[u8]) -> [u8; N] {
         let mut key = [0; N];

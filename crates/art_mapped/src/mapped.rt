@@ -53,22 +53,30 @@ impl<B: BytesMapping<D>, D> Mapped<B, D> {
     pub fn get(self, alloc: Global) -> Result<D, AllocError>
         ensures value { IfOk result (λ read. HoldsValue self read) }
         ensures text { IfOk result (λ read. mapped_text self ≡ B.text_of read) }
-        ensures inverts { (value : D) → HoldsValue self value → IfOk result (λ read. B.are_same read value) }
+        ensures inverts { (value : D) → HoldsValue self value →
+            IfOk result (λ read. B.are_same read value) }
         ensures takes_no_memory { B.READ_ALLOCATES ≡ false → IsOk result }
     {
         let Mapped { repr, mapping: _ } = self;
         B::from_bytes(alloc, repr)
     }
 
-    /// The same key again. A clone of the key's bytes has to have their text.
+    /// The same key again, which holds the same value wherever each clone of the bytes stands for it. A clone
+    /// of the key's bytes has to have their text.
     ///
     /// Refuses where the clone of the bytes does, and never where that takes no memory, as of arrays. The key
     /// stays as it was.
     pub fn clone(&self) -> Result<Self, AllocError>
     where
         B::Bytes: Clone,
-        requires { (bytes : B.Bytes) → B.Bytes.is_clone (mapped_bytes self.now) bytes → B.Bytes.text bytes ≡ mapped_text self.now }
+        requires { (bytes : B.Bytes) → B.Bytes.is_clone (mapped_bytes self.now) bytes →
+            B.Bytes.text bytes ≡ mapped_text self.now }
+        ensures bytes { IfOk result (λ mapped.
+            B.Bytes.is_clone (mapped_bytes self.now) (mapped_bytes mapped)) }
         ensures text { IfOk result (λ mapped. mapped_text mapped ≡ mapped_text self.now) }
+        ensures value { (value : D) → HoldsValue self.now value →
+            ((bytes : B.Bytes) → B.Bytes.is_clone (mapped_bytes self.now) bytes → B.stands_for bytes value) →
+            IfOk result (λ mapped. HoldsValue mapped value) }
         ensures takes_no_memory { B.Bytes.is_infallible (mapped_bytes self.now) → IsOk result }
     {
         let repr = self.repr.clone()?;
@@ -94,8 +102,8 @@ impl<B: BytesMapping<D>, D> AsBytes for Mapped<B, D> {
     }
 }
 
-/// No key's text is a proper front of another's where that holds of the mapping's values: integers, addresses
-/// and arrays, and not vectors.
+/// No key's text is a proper front of another's where that holds of the mapping's values: integers, addresses,
+/// arrays, tuples, and keys as they stand where it holds of these, and not vectors.
 impl<B: NoPrefixesMapping<D>, D> NoPrefixesBytes for Mapped<B, D> {
     ghost use Rattle.art_mapped.specs.MappingLaws.{text_front_is_whole};
 
@@ -144,7 +152,7 @@ impl<B: BytesMapping<D>, D> Hash for Mapped<B, D> {
 }
 
 /// Keys of an ordered mapping are in the order of their bytes, which is that of the values.
-impl<B: OrderedMapping<D>, D> Ord for Mapped<B, D> {
+impl<B: OrderedMapping<D>, D: Ord> Ord for Mapped<B, D> {
     ghost use Rattle.std.specs.Ordering.{on};
     ghost use Rattle.std.proofs.Common.{rules};
     ghost use Rattle.std.specs.Cmp.Rules.{comparing};
@@ -162,13 +170,14 @@ impl<B: OrderedMapping<D>, D> Ord for Mapped<B, D> {
 
     fn cmp(&self, other: &Self) -> Ordering
         ensures texts { result ≡ text_order (mapped_text self.now) (mapped_text other.now) }
-        ensures values { (x y : D) → HoldsValue self.now x → HoldsValue other.now y → result ≡ B.domain_order x y }
+        ensures values { (x y : D) → HoldsValue self.now x → HoldsValue other.now y →
+            result ≡ D.cmp x y }
     {
         self.as_bytes().cmp(&other.as_bytes())
     }
 }
 
-impl<B: OrderedMapping<D>, D> PartialOrd for Mapped<B, D> {
+impl<B: OrderedMapping<D>, D: Ord> PartialOrd for Mapped<B, D> {
     ghost use Rattle.std.specs.Ordering.{on, as_partial_cmp};
     ghost use Rattle.std.proofs.Common.{rules};
     ghost use Rattle.std.specs.Cmp.{partial_order_from_own_ties};
@@ -185,7 +194,7 @@ impl<B: OrderedMapping<D>, D> PartialOrd for Mapped<B, D> {
     }
 }
 
-impl<B: OrderedMapping<D>, D> OrderedBytes for Mapped<B, D> {
+impl<B: OrderedMapping<D>, D: Ord> OrderedBytes for Mapped<B, D> {
     ghost use Rattle.std.specs.Prelude.{refl};
 
     ghost ordered = { λ _ _ _ _. refl };

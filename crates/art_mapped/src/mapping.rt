@@ -1,5 +1,4 @@
 ghost use Rattle.std.specs.Prelude.{◌≡◌, ◌↔◌, ℕ, List, Bool, false, IsTrue, IsOk, IfOk, OnErr, IfSome, IfNone};
-ghost use Rattle.std.specs.declared.cmp.Ordering.{Ordering};
 ghost use Rattle.art_bytes.specs.Text.{IsFront, text_order};
 ghost use Rattle.art_mapped.specs.Mapping.{StandsForSome};
 
@@ -47,7 +46,8 @@ pub trait BytesMapping<D> {
         requires { StandsForSome is_in_domain stands_for bytes }
         ensures stands { IfOk result (λ read. is_in_domain read × stands_for bytes read) }
         ensures text { IfOk result (λ read. Self.Bytes.text bytes ≡ text_of read) }
-        ensures inverts { (value : D) → is_in_domain value → stands_for bytes value → IfOk result (λ read. are_same read value) }
+        ensures inverts { (value : D) → is_in_domain value → stands_for bytes value →
+            IfOk result (λ read. are_same read value) }
         ensures takes_no_memory { READ_ALLOCATES ≡ false → IsOk result };
 
     /// Whether these are the bytes of some value. Takes no memory.
@@ -57,9 +57,12 @@ pub trait BytesMapping<D> {
     /// The value whose bytes these are, and `None` exactly where `is_value` is false: only a value can be
     /// refused for want of memory.
     fn checked_from_bytes(alloc: Global, bytes: Self::Bytes) -> Result<Option<D>, AllocError>
-        ensures some { IfOk result (λ answer. IfSome answer (λ read. is_in_domain read × stands_for bytes read)) }
-        ensures text { IfOk result (λ answer. IfSome answer (λ read. Self.Bytes.text bytes ≡ text_of read)) }
-        ensures none { IfOk result (λ answer. IfNone answer (StandsForSome is_in_domain stands_for bytes → ⊥)) }
+        ensures some { IfOk result (λ answer.
+            IfSome answer (λ read. is_in_domain read × stands_for bytes read)) }
+        ensures text { IfOk result (λ answer.
+            IfSome answer (λ read. Self.Bytes.text bytes ≡ text_of read)) }
+        ensures none { IfOk result (λ answer.
+            IfNone answer (StandsForSome is_in_domain stands_for bytes → ⊥)) }
         ensures refused_for_a_value_only { OnErr result (StandsForSome is_in_domain stands_for bytes) }
         ensures takes_no_memory { READ_ALLOCATES ≡ false → IsOk result }
     {
@@ -71,32 +74,36 @@ pub trait BytesMapping<D> {
     }
 
     /// The bytes of a value have its text.
-    ghost has_text: { (bytes : Self.Bytes) (value : D) → is_in_domain value → stands_for bytes value → Self.Bytes.text bytes ≡ text_of value };
+    ghost has_text: { (bytes : Self.Bytes) (value : D) → is_in_domain value →
+        stands_for bytes value → Self.Bytes.text bytes ≡ text_of value };
 
     /// One value has one text.
     ghost one_text: { (x y : D) → are_same x y → text_of x ≡ text_of y };
 
     /// Bytes are those of one value at most.
-    ghost reads_one: { (bytes : Self.Bytes) (x y : D) → is_in_domain x → is_in_domain y → stands_for bytes x → stands_for bytes y → are_same x y };
+    ghost reads_one: { (bytes : Self.Bytes) (x y : D) → is_in_domain x → is_in_domain y →
+        stands_for bytes x → stands_for bytes y → are_same x y };
 
     /// Whether bytes are some value's turns on their text.
-    ghost kept_by_text: { (a b : Self.Bytes) → Self.Bytes.is_key b → Self.Bytes.text a ≡ Self.Bytes.text b → StandsForSome is_in_domain stands_for a → StandsForSome is_in_domain stands_for b };
+    ghost kept_by_text: { (a b : Self.Bytes) → Self.Bytes.is_key b →
+        Self.Bytes.text a ≡ Self.Bytes.text b →
+        StandsForSome is_in_domain stands_for a → StandsForSome is_in_domain stands_for b };
 }
 
-/// A mapping whose texts keep an order of the values, which its law names.
-pub trait OrderedMapping<D>: BytesMapping<D> {
-    /// The order of the values that the texts keep.
-    ghost domain_order: { D → D → Ordering };
-
+/// A mapping whose texts keep the order of the domain.
+pub trait OrderedMapping<D: Ord>: BytesMapping<D> {
     /// Two values compare as their texts do.
-    ghost keeps_order: { (x y : D) → Self.is_in_domain x → Self.is_in_domain y → domain_order x y ≡ text_order (Self.text_of x) (Self.text_of y) };
+    ghost keeps_order: { (x y : D) → Self.is_in_domain x → Self.is_in_domain y →
+        D.cmp x y ≡ text_order (Self.text_of x) (Self.text_of y) };
 
     /// Values with one text are one.
-    ghost decided_by_text: { (x y : D) → Self.is_in_domain x → Self.is_in_domain y → Self.text_of x ≡ Self.text_of y → Self.are_same x y };
+    ghost decided_by_text: { (x y : D) → Self.is_in_domain x → Self.is_in_domain y →
+        Self.text_of x ≡ Self.text_of y → Self.are_same x y };
 }
 
 /// A mapping of which no value's text is a proper front of another's.
 pub trait NoPrefixesMapping<D>: BytesMapping<D> {
     /// A text that begins another is that text.
-    ghost no_prefixes: { (x y : D) → Self.is_in_domain x → Self.is_in_domain y → IsFront (Self.text_of x) (Self.text_of y) → Self.text_of x ≡ Self.text_of y };
+    ghost no_prefixes: { (x y : D) → Self.is_in_domain x → Self.is_in_domain y →
+        IsFront (Self.text_of x) (Self.text_of y) → Self.text_of x ≡ Self.text_of y };
 }

@@ -1,5 +1,7 @@
 use crate::{
-    BytesMapping, FixedBytes, Mapped, NoPrefixesMapping, OrderedMapping, ToIBE, ToOctets, ToUBE,
+    BytesMapping, ConcatTuple, Element, FixedBytes, Identity, IntegerForm, Mapped,
+    NoPrefixesMapping, OrderedMapping, Signed, Single, ToBigEndian, ToIBE, ToOctets, ToUBE,
+    Unsigned,
 };
 use art_bytes::AsBytes;
 use std::alloc::{AllocError, Global};
@@ -15,6 +17,8 @@ use std::test::Fail;
 
 mod callers;
 mod ordered;
+mod tuples;
+mod using;
 
 /// The key of a value has these bytes.
 fn written<B: BytesMapping<D>, D>(
@@ -158,12 +162,42 @@ fn sequences_come_back_from_their_bytes(rt: HostRuntime) -> Result<(), Fail> {
 }
 
 #[test]
-fn only_sequences_take_memory(rt: HostRuntime) {
+fn long_sequences_come_back(rt: HostRuntime) -> Result<(), Fail> {
+    let alloc = rt.alloc();
+    let mut numbers = Vec::new(alloc);
+    for number in 0..1000u16 {
+        numbers.push(number)?;
+    }
+    let key = Mapped::<ToUBE, Vec<u16>>::new(alloc, numbers.clone()?)?;
+    assert_eq!(rt; key.as_bytes().len(), 2000);
+    assert_eq!(rt; &key.as_bytes()[1996..], [3, 230, 3, 231].as_slice());
+    let again = key.clone()?;
+    assert!(rt; again.get(alloc)? == numbers);
+    let read = <ToUBE as BytesMapping<Vec<u16>>>::checked_from_bytes(
+        alloc,
+        vec![in alloc; 7; 600]?,
+    )?;
+    assert!(rt; matches!(&read, Some(read) if read.len() == 300 && read[299] == 1799));
+    let key = Mapped::<ToIBE, [i32; 300]>::new(alloc, [-1; 300])?;
+    assert_eq!(rt; key.as_bytes().len(), 1200);
+    assert_eq!(rt; &key.as_bytes()[1196..], [127, 255, 255, 255].as_slice());
+    assert_eq!(rt; key.get(alloc)?, [-1; 300]);
+    Ok(())
+}
+
+#[test]
+fn only_sequences_and_tuples_take_memory(rt: HostRuntime) {
     assert!(rt; !<ToUBE as BytesMapping<u64>>::ALLOCATES);
-    assert!(rt; !<ToIBE as BytesMapping<i64>>::READ_ALLOCATES);
+    assert!(rt; !<ToIBE as BytesMapping<NonZeroI64>>::READ_ALLOCATES);
     assert!(rt; !<ToOctets as BytesMapping<Ipv4Addr>>::ALLOCATES);
+    assert!(rt; !<ToOctets as BytesMapping<Ipv6Addr>>::READ_ALLOCATES);
     assert!(rt; <ToUBE as BytesMapping<[u8; 3]>>::ALLOCATES);
     assert!(rt; !<ToUBE as BytesMapping<[u8; 3]>>::READ_ALLOCATES);
+    assert!(rt; !<Identity as BytesMapping<Vec<u8>>>::ALLOCATES);
+    assert!(rt; !<Identity as BytesMapping<Vec<u8>>>::READ_ALLOCATES);
+    assert!(rt; <ConcatTuple<(ToUBE, ToIBE)> as BytesMapping<(u8, i8)>>::ALLOCATES);
+    assert!(rt; !<ConcatTuple<(ToUBE, ToIBE)> as BytesMapping<(u8, i8)>>::READ_ALLOCATES);
+    assert!(rt; <ToIBE as BytesMapping<Vec<i8>>>::ALLOCATES);
     assert!(rt; <ToIBE as BytesMapping<Vec<i8>>>::READ_ALLOCATES);
     assert_eq!(rt;
         <<ToIBE as BytesMapping<i128>>::Bytes as FixedBytes>::WIDTH,

@@ -1,101 +1,38 @@
-// The mapping of unsigned integers, and the types that it takes.
-ghost use Rattle.std.specs.Prelude.{pos, refl};
-ghost use Rattle.std.specs.Int.NonZero.{non_zero_u8_get, non_zero_u16_get, non_zero_u32_get, non_zero_u64_get, non_zero_u128_get, non_zero_usize_get};
+ghost use Rattle.std.specs.Prelude.{refl};
+ghost use Rattle.std.specs.Int.NonZero.{non_zero_u8_get, non_zero_u16_get, non_zero_u32_get};
+ghost use Rattle.std.specs.Int.NonZero.{non_zero_u64_get, non_zero_u128_get, non_zero_usize_get};
 ghost use Rattle.std.proofs.Common.{rules};
-ghost use Rattle.art_mapped.specs.Numbers.{IsUnsigned, unsigned_text};
-ghost use Rattle.art_mapped.specs.NumberLaws.{length-unsigned_text, unsigned_keeps_size, pos_decides, non_zero_decides};
+ghost use Rattle.art_mapped.specs.Numbers.{digits, IsUnsigned};
+ghost use Rattle.art_mapped.specs.NumberLaws.{unsigned_keep, keep_of, unsigned_decides};
 
-use crate::domain::Domain;
-use crate::integer::{Element, IntegerMapping, Single};
-use crate::mapping::{BytesMapping, NoPrefixesMapping, OrderedMapping};
-use std::alloc::{AllocError, Global};
+use crate::element::{Element, Single};
+use crate::sequence::IntegerForm;
+use crate::written::{Domain, ToBigEndian};
 use std::num::{NonZeroU8, NonZeroU16, NonZeroU32, NonZeroU64, NonZeroU128, NonZeroUsize};
 
-/// Unsigned integers as their big endian bytes: the digits in base 256 at full width, most significant first.
+/// The form of unsigned integers: the digits in base 256 at full width, most significant first.
+pub struct Unsigned;
+
+impl IntegerForm for Unsigned {}
+
+/// Unsigned integers as their big endian bytes.
 ///
 /// Its domains are `u8` to `u128`, `usize`, their types of numbers that are not 0, and arrays and vectors of
 /// these, as the elements' bytes joined.
-pub struct ToUBE;
+pub type ToUBE = ToBigEndian<Unsigned>;
 
-impl IntegerMapping for ToUBE {
-    ghost is_in_range = { IsUnsigned };
-
-    ghost number_text = { unsigned_text };
-
-    ghost has_width = { length-unsigned_text };
-
-    ghost keeps_size = { λ width _. unsigned_keeps_size width };
+impl Domain<Unsigned> for u8 {
+    type Mapping = Single<Unsigned>;
 }
 
-/// One unsigned integer or several.
-impl<D: Domain<ToUBE>> BytesMapping<D> for ToUBE {
-    type Bytes = <D::Mapping as BytesMapping<D>>::Bytes;
-
-    const ALLOCATES: bool = <D::Mapping as BytesMapping<D>>::ALLOCATES;
-
-    const READ_ALLOCATES: bool = <D::Mapping as BytesMapping<D>>::READ_ALLOCATES;
-
-    ghost ALLOCATES = { D.Mapping.ALLOCATES };
-
-    ghost READ_ALLOCATES = { D.Mapping.READ_ALLOCATES };
-
-    ghost is_in_domain = { D.Mapping.is_in_domain };
-
-    ghost text_of = { D.Mapping.text_of };
-
-    ghost are_same = { D.Mapping.are_same };
-
-    ghost stands_for = { D.Mapping.stands_for };
-
-    ghost has_text = { D.Mapping.has_text };
-
-    ghost one_text = { D.Mapping.one_text };
-
-    ghost reads_one = { D.Mapping.reads_one };
-
-    ghost kept_by_text = { D.Mapping.kept_by_text };
-
-    fn to_bytes(alloc: Global, value: D) -> Result<Self::Bytes, AllocError> {
-        D::Mapping::to_bytes(alloc, value)
-    }
-
-    fn from_bytes(alloc: Global, bytes: Self::Bytes) -> Result<D, AllocError> {
-        D::Mapping::from_bytes(alloc, bytes)
-    }
-
-    fn is_value(bytes: &Self::Bytes) -> bool {
-        D::Mapping::is_value(bytes)
-    }
-}
-
-impl<D: Domain<ToUBE>> OrderedMapping<D> for ToUBE {
-    ghost domain_order = { D.Mapping.domain_order };
-
-    ghost keeps_order = { D.Mapping.keeps_order };
-
-    ghost decided_by_text = { D.Mapping.decided_by_text };
-}
-
-/// For integers and arrays, whose texts have one length.
-impl<D: Domain<ToUBE>> NoPrefixesMapping<D> for ToUBE
-where
-    D::Mapping: NoPrefixesMapping<D>,
-{
-    ghost no_prefixes = { D.Mapping.no_prefixes };
-}
-
-impl Domain<ToUBE> for u8 {
-    type Mapping = Single<ToUBE>;
-}
-
-impl Element<ToUBE> for u8 {
+impl Element<Unsigned> for u8 {
     type Bytes = [u8; 1];
 
-    ghost number = { pos };
+    ghost is_in_range = { IsUnsigned 1 };
 
-    ghost has_bytes = { Prim.search rules };
+    ghost text_of = { digits 1 };
 
-    ghost number_decides = { pos_decides };
+    ghost keeps = { unsigned_keep 1 (Prim.search rules) };
 
     fn encode(self) -> [u8; 1] {
         u8::to_be_bytes(self)
@@ -106,18 +43,18 @@ impl Element<ToUBE> for u8 {
     }
 }
 
-impl Domain<ToUBE> for NonZeroU8 {
-    type Mapping = Single<ToUBE>;
+impl Domain<Unsigned> for NonZeroU8 {
+    type Mapping = Single<Unsigned>;
 }
 
-impl Element<ToUBE> for NonZeroU8 {
+impl Element<Unsigned> for NonZeroU8 {
     type Bytes = [u8; 1];
 
-    ghost number = { λ n. pos (non_zero_u8_get n) };
+    ghost is_in_range = { λ n. IsUnsigned 1 (non_zero_u8_get n) };
 
-    ghost has_bytes = { Prim.search rules };
+    ghost text_of = { λ n. digits 1 (non_zero_u8_get n) };
 
-    ghost number_decides = { non_zero_decides non_zero_u8_get (λ n. n.ok) (λ value ok. record { value = value; ok = ok }) (λ _. refl) };
+    ghost keeps = { keep_of (unsigned_keep 1 (Prim.search rules)) non_zero_u8_get (unsigned_decides non_zero_u8_get (λ n. n.ok) (λ value ok. record { value = value; ok = ok }) (λ _. refl)) };
 
     fn encode(self) -> [u8; 1] {
         u8::encode(self.get())
@@ -128,18 +65,18 @@ impl Element<ToUBE> for NonZeroU8 {
     }
 }
 
-impl Domain<ToUBE> for u16 {
-    type Mapping = Single<ToUBE>;
+impl Domain<Unsigned> for u16 {
+    type Mapping = Single<Unsigned>;
 }
 
-impl Element<ToUBE> for u16 {
+impl Element<Unsigned> for u16 {
     type Bytes = [u8; 2];
 
-    ghost number = { pos };
+    ghost is_in_range = { IsUnsigned 2 };
 
-    ghost has_bytes = { Prim.search rules };
+    ghost text_of = { digits 2 };
 
-    ghost number_decides = { pos_decides };
+    ghost keeps = { unsigned_keep 2 (Prim.search rules) };
 
     fn encode(self) -> [u8; 2] {
         u16::to_be_bytes(self)
@@ -150,18 +87,18 @@ impl Element<ToUBE> for u16 {
     }
 }
 
-impl Domain<ToUBE> for NonZeroU16 {
-    type Mapping = Single<ToUBE>;
+impl Domain<Unsigned> for NonZeroU16 {
+    type Mapping = Single<Unsigned>;
 }
 
-impl Element<ToUBE> for NonZeroU16 {
+impl Element<Unsigned> for NonZeroU16 {
     type Bytes = [u8; 2];
 
-    ghost number = { λ n. pos (non_zero_u16_get n) };
+    ghost is_in_range = { λ n. IsUnsigned 2 (non_zero_u16_get n) };
 
-    ghost has_bytes = { Prim.search rules };
+    ghost text_of = { λ n. digits 2 (non_zero_u16_get n) };
 
-    ghost number_decides = { non_zero_decides non_zero_u16_get (λ n. n.ok) (λ value ok. record { value = value; ok = ok }) (λ _. refl) };
+    ghost keeps = { keep_of (unsigned_keep 2 (Prim.search rules)) non_zero_u16_get (unsigned_decides non_zero_u16_get (λ n. n.ok) (λ value ok. record { value = value; ok = ok }) (λ _. refl)) };
 
     fn encode(self) -> [u8; 2] {
         u16::encode(self.get())
@@ -172,18 +109,18 @@ impl Element<ToUBE> for NonZeroU16 {
     }
 }
 
-impl Domain<ToUBE> for u32 {
-    type Mapping = Single<ToUBE>;
+impl Domain<Unsigned> for u32 {
+    type Mapping = Single<Unsigned>;
 }
 
-impl Element<ToUBE> for u32 {
+impl Element<Unsigned> for u32 {
     type Bytes = [u8; 4];
 
-    ghost number = { pos };
+    ghost is_in_range = { IsUnsigned 4 };
 
-    ghost has_bytes = { Prim.search rules };
+    ghost text_of = { digits 4 };
 
-    ghost number_decides = { pos_decides };
+    ghost keeps = { unsigned_keep 4 (Prim.search rules) };
 
     fn encode(self) -> [u8; 4] {
         u32::to_be_bytes(self)
@@ -194,18 +131,18 @@ impl Element<ToUBE> for u32 {
     }
 }
 
-impl Domain<ToUBE> for NonZeroU32 {
-    type Mapping = Single<ToUBE>;
+impl Domain<Unsigned> for NonZeroU32 {
+    type Mapping = Single<Unsigned>;
 }
 
-impl Element<ToUBE> for NonZeroU32 {
+impl Element<Unsigned> for NonZeroU32 {
     type Bytes = [u8; 4];
 
-    ghost number = { λ n. pos (non_zero_u32_get n) };
+    ghost is_in_range = { λ n. IsUnsigned 4 (non_zero_u32_get n) };
 
-    ghost has_bytes = { Prim.search rules };
+    ghost text_of = { λ n. digits 4 (non_zero_u32_get n) };
 
-    ghost number_decides = { non_zero_decides non_zero_u32_get (λ n. n.ok) (λ value ok. record { value = value; ok = ok }) (λ _. refl) };
+    ghost keeps = { keep_of (unsigned_keep 4 (Prim.search rules)) non_zero_u32_get (unsigned_decides non_zero_u32_get (λ n. n.ok) (λ value ok. record { value = value; ok = ok }) (λ _. refl)) };
 
     fn encode(self) -> [u8; 4] {
         u32::encode(self.get())
@@ -216,18 +153,18 @@ impl Element<ToUBE> for NonZeroU32 {
     }
 }
 
-impl Domain<ToUBE> for u64 {
-    type Mapping = Single<ToUBE>;
+impl Domain<Unsigned> for u64 {
+    type Mapping = Single<Unsigned>;
 }
 
-impl Element<ToUBE> for u64 {
+impl Element<Unsigned> for u64 {
     type Bytes = [u8; 8];
 
-    ghost number = { pos };
+    ghost is_in_range = { IsUnsigned 8 };
 
-    ghost has_bytes = { Prim.search rules };
+    ghost text_of = { digits 8 };
 
-    ghost number_decides = { pos_decides };
+    ghost keeps = { unsigned_keep 8 (Prim.search rules) };
 
     fn encode(self) -> [u8; 8] {
         u64::to_be_bytes(self)
@@ -238,18 +175,18 @@ impl Element<ToUBE> for u64 {
     }
 }
 
-impl Domain<ToUBE> for NonZeroU64 {
-    type Mapping = Single<ToUBE>;
+impl Domain<Unsigned> for NonZeroU64 {
+    type Mapping = Single<Unsigned>;
 }
 
-impl Element<ToUBE> for NonZeroU64 {
+impl Element<Unsigned> for NonZeroU64 {
     type Bytes = [u8; 8];
 
-    ghost number = { λ n. pos (non_zero_u64_get n) };
+    ghost is_in_range = { λ n. IsUnsigned 8 (non_zero_u64_get n) };
 
-    ghost has_bytes = { Prim.search rules };
+    ghost text_of = { λ n. digits 8 (non_zero_u64_get n) };
 
-    ghost number_decides = { non_zero_decides non_zero_u64_get (λ n. n.ok) (λ value ok. record { value = value; ok = ok }) (λ _. refl) };
+    ghost keeps = { keep_of (unsigned_keep 8 (Prim.search rules)) non_zero_u64_get (unsigned_decides non_zero_u64_get (λ n. n.ok) (λ value ok. record { value = value; ok = ok }) (λ _. refl)) };
 
     fn encode(self) -> [u8; 8] {
         u64::encode(self.get())
@@ -260,18 +197,18 @@ impl Element<ToUBE> for NonZeroU64 {
     }
 }
 
-impl Domain<ToUBE> for u128 {
-    type Mapping = Single<ToUBE>;
+impl Domain<Unsigned> for u128 {
+    type Mapping = Single<Unsigned>;
 }
 
-impl Element<ToUBE> for u128 {
+impl Element<Unsigned> for u128 {
     type Bytes = [u8; 16];
 
-    ghost number = { pos };
+    ghost is_in_range = { IsUnsigned 16 };
 
-    ghost has_bytes = { Prim.search rules };
+    ghost text_of = { digits 16 };
 
-    ghost number_decides = { pos_decides };
+    ghost keeps = { unsigned_keep 16 (Prim.search rules) };
 
     fn encode(self) -> [u8; 16] {
         u128::to_be_bytes(self)
@@ -282,18 +219,18 @@ impl Element<ToUBE> for u128 {
     }
 }
 
-impl Domain<ToUBE> for NonZeroU128 {
-    type Mapping = Single<ToUBE>;
+impl Domain<Unsigned> for NonZeroU128 {
+    type Mapping = Single<Unsigned>;
 }
 
-impl Element<ToUBE> for NonZeroU128 {
+impl Element<Unsigned> for NonZeroU128 {
     type Bytes = [u8; 16];
 
-    ghost number = { λ n. pos (non_zero_u128_get n) };
+    ghost is_in_range = { λ n. IsUnsigned 16 (non_zero_u128_get n) };
 
-    ghost has_bytes = { Prim.search rules };
+    ghost text_of = { λ n. digits 16 (non_zero_u128_get n) };
 
-    ghost number_decides = { non_zero_decides non_zero_u128_get (λ n. n.ok) (λ value ok. record { value = value; ok = ok }) (λ _. refl) };
+    ghost keeps = { keep_of (unsigned_keep 16 (Prim.search rules)) non_zero_u128_get (unsigned_decides non_zero_u128_get (λ n. n.ok) (λ value ok. record { value = value; ok = ok }) (λ _. refl)) };
 
     fn encode(self) -> [u8; 16] {
         u128::encode(self.get())
@@ -304,18 +241,18 @@ impl Element<ToUBE> for NonZeroU128 {
     }
 }
 
-impl Domain<ToUBE> for usize {
-    type Mapping = Single<ToUBE>;
+impl Domain<Unsigned> for usize {
+    type Mapping = Single<Unsigned>;
 }
 
-impl Element<ToUBE> for usize {
+impl Element<Unsigned> for usize {
     type Bytes = [u8; 8];
 
-    ghost number = { pos };
+    ghost is_in_range = { IsUnsigned 8 };
 
-    ghost has_bytes = { Prim.search rules };
+    ghost text_of = { digits 8 };
 
-    ghost number_decides = { pos_decides };
+    ghost keeps = { unsigned_keep 8 (Prim.search rules) };
 
     fn encode(self) -> [u8; 8] {
         usize::to_be_bytes(self)
@@ -326,18 +263,18 @@ impl Element<ToUBE> for usize {
     }
 }
 
-impl Domain<ToUBE> for NonZeroUsize {
-    type Mapping = Single<ToUBE>;
+impl Domain<Unsigned> for NonZeroUsize {
+    type Mapping = Single<Unsigned>;
 }
 
-impl Element<ToUBE> for NonZeroUsize {
+impl Element<Unsigned> for NonZeroUsize {
     type Bytes = [u8; 8];
 
-    ghost number = { λ n. pos (non_zero_usize_get n) };
+    ghost is_in_range = { λ n. IsUnsigned 8 (non_zero_usize_get n) };
 
-    ghost has_bytes = { Prim.search rules };
+    ghost text_of = { λ n. digits 8 (non_zero_usize_get n) };
 
-    ghost number_decides = { non_zero_decides non_zero_usize_get (λ n. n.ok) (λ value ok. record { value = value; ok = ok }) (λ _. refl) };
+    ghost keeps = { keep_of (unsigned_keep 8 (Prim.search rules)) non_zero_usize_get (unsigned_decides non_zero_usize_get (λ n. n.ok) (λ value ok. record { value = value; ok = ok }) (λ _. refl)) };
 
     fn encode(self) -> [u8; 8] {
         usize::encode(self.get())

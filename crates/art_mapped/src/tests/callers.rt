@@ -1,22 +1,15 @@
 // What a caller learns from the contracts, at types that it names.
-ghost use Rattle.std.specs.Prelude.{◌≡◌, ℤ, IsOk, IfOk, refl, false};
+ghost use Rattle.std.specs.Prelude.{◌≡◌, ℕ, ℤ, IsOk, IfOk, Vec, fold};
+ghost use Rattle.std.specs.declared.alloc.Global.{Global};
+ghost use Rattle.std.specs.Hash as fed;
 ghost use Rattle.std.specs.Ordering.{int_cmp};
 ghost use Rattle.std.specs.Net.Addr.{ipv4_octets};
-ghost use Rattle.std.proofs.Math.Logic.{∥∥₁_map};
 ghost use Rattle.art_mapped.specs.Mapped.{mapped_text, HoldsValue};
-ghost use Rattle.art_mapped.specs.Numbers.{digits, signed_text};
+ghost use Rattle.art_mapped.specs.Numbers.{signed_text};
 ghost use Rattle.art_mapped.specs.Sequences.{joined};
 
 use super::*;
 use art_bytes::{NoPrefixesBytes, OrderedBytes};
-
-/// The key of a port is its two digits in base 256, and is always made.
-fn port(alloc: Global, number: u16) -> Result<Mapped<ToUBE, u16>, AllocError>
-    ensures text { IfOk result (λ key. mapped_text key ≡ digits 2 number) }
-    ensures always { IsOk result }
-{
-    Mapped::new(alloc, number)
-}
 
 /// The key of an address is its octets, and is always made.
 fn host(alloc: Global, address: Ipv4Addr) -> Result<Mapped<ToOctets, Ipv4Addr>, AllocError>
@@ -40,11 +33,140 @@ fn by_size(a: &Mapped<ToIBE, i32>, b: &Mapped<ToIBE, i32>) -> Ordering
     a.cmp(b)
 }
 
-/// What was written comes back.
-fn there_and_back(alloc: Global, number: u64) -> Result<u64, AllocError>
-    ensures { result ≡ Ok number }
+/// Keys compare as the values do.
+fn compared<B: OrderedMapping<D>, D: Ord + Drop>(
+    alloc: Global,
+    a: D,
+    b: D,
+) -> Result<Ordering, AllocError>
+    ensures { IfOk result (λ order. order ≡ D.cmp a b) }
 {
-    Mapped::<ToUBE, u64>::new(alloc, number)?.get(alloc)
+    Ok(Mapped::<B, D>::new(alloc, a)?.cmp(&Mapped::<B, D>::new(alloc, b)?))
+}
+
+/// An integer or an address comes back as it went in, and no call refuses.
+fn element_back<F, E: Element<F>>(alloc: Global, value: E) -> Result<E, AllocError>
+    ensures value { IfOk result (λ read. read ≡ value) }
+    ensures always { IsOk result }
+{
+    Mapped::<Single<F>, E>::new(alloc, value)?.get(alloc)
+}
+
+fn unsigned_back(alloc: Global, value: u64) -> Result<u64, AllocError>
+    ensures value { IfOk result (λ read. read ≡ value) }
+    ensures always { IsOk result }
+{
+    Mapped::<ToUBE, u64>::new(alloc, value)?.get(alloc)
+}
+
+fn non_zero_back(alloc: Global, value: NonZeroU32) -> Result<NonZeroU32, AllocError>
+    ensures value { IfOk result (λ read. read ≡ value) }
+    ensures always { IsOk result }
+{
+    Mapped::<ToUBE, NonZeroU32>::new(alloc, value)?.get(alloc)
+}
+
+fn signed_back(alloc: Global, value: i64) -> Result<i64, AllocError>
+    ensures value { IfOk result (λ read. read ≡ value) }
+    ensures always { IsOk result }
+{
+    Mapped::<ToIBE, i64>::new(alloc, value)?.get(alloc)
+}
+
+fn signed_non_zero_back(alloc: Global, value: NonZeroI8) -> Result<NonZeroI8, AllocError>
+    ensures value { IfOk result (λ read. read ≡ value) }
+    ensures always { IsOk result }
+{
+    Mapped::<ToIBE, NonZeroI8>::new(alloc, value)?.get(alloc)
+}
+
+fn ipv4_back(alloc: Global, value: Ipv4Addr) -> Result<Ipv4Addr, AllocError>
+    ensures value { IfOk result (λ read. read ≡ value) }
+    ensures always { IsOk result }
+{
+    Mapped::<ToOctets, Ipv4Addr>::new(alloc, value)?.get(alloc)
+}
+
+fn ipv6_back(alloc: Global, value: Ipv6Addr) -> Result<Ipv6Addr, AllocError>
+    ensures value { IfOk result (λ read. read ≡ value) }
+    ensures always { IsOk result }
+{
+    Mapped::<ToOctets, Ipv6Addr>::new(alloc, value)?.get(alloc)
+}
+
+/// To ask bytes for an integer or an address refuses nothing.
+fn element_asked<F, E: Element<F>>(alloc: Global, bytes: E::Bytes) -> Result<Option<E>, AllocError>
+    ensures { IsOk result }
+{
+    <Single<F> as BytesMapping<E>>::checked_from_bytes(alloc, bytes)
+}
+
+fn ipv6_asked(alloc: Global, bytes: [u8; 16]) -> Result<Option<Ipv6Addr>, AllocError>
+    ensures { IsOk result }
+{
+    <ToOctets as BytesMapping<Ipv6Addr>>::checked_from_bytes(alloc, bytes)
+}
+
+/// An array comes back as it went in.
+fn array_back<F: IntegerForm, E: Element<F>, const N: usize>(
+    alloc: Global,
+    value: [E; N],
+) -> Result<[E; N], AllocError>
+    ensures { IfOk result (λ read. read ≡ value) }
+{
+    Mapped::<ToBigEndian<F>, [E; N]>::new(alloc, value)?.get(alloc)
+}
+
+/// To get the array of a key refuses nothing, nor does to ask bytes for one.
+fn array_of_key<F: IntegerForm, E: Element<F>, const N: usize>(
+    alloc: Global,
+    key: Mapped<ToBigEndian<F>, [E; N]>,
+) -> Result<[E; N], AllocError>
+    ensures { IsOk result }
+{
+    key.get(alloc)
+}
+
+fn array_asked<F: IntegerForm, E: Element<F>, const N: usize>(
+    alloc: Global,
+    bytes: Vec<u8>,
+) -> Result<Option<[E; N]>, AllocError>
+    ensures { IsOk result }
+{
+    <ToBigEndian<F> as BytesMapping<[E; N]>>::checked_from_bytes(alloc, bytes)
+}
+
+/// The elements of a vector come back as they went in.
+fn vector_back<F: IntegerForm, E: Element<F>>(
+    alloc: Global,
+    value: Vec<E>,
+) -> Result<Vec<E>, AllocError>
+    ensures { IfOk result (λ read. read.items ≡ value.items) }
+{
+    Mapped::<ToBigEndian<F>, Vec<E>>::new(alloc, value)?.get(alloc)
+}
+
+/// A clone holds the value that the key holds. Of an array's bytes it is always made.
+fn port_again(key: &Mapped<ToUBE, u16>) -> Result<Mapped<ToUBE, u16>, AllocError>
+    ensures value { (port : ℕ) → HoldsValue key.now port →
+        IfOk result (λ again. HoldsValue again port) }
+    ensures always { IsOk result }
+{
+    key.clone()
+}
+
+fn path_again(key: &Mapped<ToIBE, Vec<i16>>) -> Result<Mapped<ToIBE, Vec<i16>>, AllocError>
+    ensures { (steps : Vec ℤ Global) → HoldsValue key.now steps →
+        IfOk result (λ again. HoldsValue again steps) }
+{
+    key.clone()
+}
+
+/// A key feeds a hasher what its bytes do.
+fn feed<B: BytesMapping<D>, D, H: Hasher>(key: &Mapped<B, D>, hasher: &mut H)
+    ensures { hasher.new ≡ fold H.write hasher.old (fed.slice fed.u8 (mapped_text key.now)) }
+{
+    key.hash(hasher);
 }
 
 /// Keys sort as their texts do.
@@ -67,73 +189,48 @@ fn ascend<K: OrderedBytes + NoPrefixesBytes>(rt: &impl Abort, less: &K, more: &K
     assert!(rt; has_front(less, less));
 }
 
-/// A mapping of one's own: a key as it stands.
-struct Same;
-
-impl<D: AsBytes + Drop> BytesMapping<D> for Same {
-    type Bytes = D;
-
-    const ALLOCATES: bool = false;
-
-    const READ_ALLOCATES: bool = false;
-
-    ghost ALLOCATES = { false };
-
-    ghost READ_ALLOCATES = { false };
-
-    ghost is_in_domain = { D.is_key };
-
-    ghost text_of = { D.text };
-
-    ghost are_same = { λ x y. x ≡ y };
-
-    ghost stands_for = { λ bytes value. value ≡ bytes };
-
-    ghost has_text = { λ _ _ _ stands. Prim.cc };
-
-    ghost one_text = { λ x y same. Prim.cc };
-
-    ghost reads_one = { λ _ x y _ _ x_stands y_stands. Prim.cc };
-
-    ghost kept_by_text = { λ a b is_key _ some. ∥∥₁_map some (λ _. (b, is_key, refl)) };
-
-    fn to_bytes(_alloc: Global, value: D) -> Result<D, AllocError> {
-        let _text = value.as_bytes();
-        Ok(value)
-    }
-
-    fn from_bytes(_alloc: Global, bytes: D) -> Result<D, AllocError> {
-        let _text = bytes.as_bytes();
-        Ok(bytes)
-    }
-
-    fn is_value(bytes: &D) -> bool {
-        let _text = bytes.as_bytes();
-        true
-    }
-}
-
 #[test]
 fn callers_name_their_types(rt: HostRuntime) -> Result<(), Fail> {
     let alloc = rt.alloc();
-    assert_eq!(rt; port(alloc, 443)?.as_bytes(), [1, 187].as_slice());
     assert_eq!(rt;
         host(alloc, Ipv4Addr::LOCALHOST)?.as_bytes(),
         [127, 0, 0, 1].as_slice()
     );
     let steps = path(alloc, vec![in alloc; -1, 1]?)?;
     assert_eq!(rt; steps.as_bytes(), [127, 255, 128, 1].as_slice());
+    assert!(rt; path_again(&steps)? == steps);
     let (less, more) = (Mapped::new(alloc, -3)?, Mapped::new(alloc, 2)?);
     assert_eq!(rt; by_size(&less, &more), Ordering::Less);
-    assert_eq!(rt; there_and_back(alloc, 1 << 40)?, 1 << 40);
-    let key = Mapped::<Same, [u8; 2]>::new(alloc, [7, 8])?;
-    assert_eq!(rt; key.as_bytes(), [7, 8].as_slice());
-    assert_eq!(rt; key.get(alloc)?, [7, 8]);
+    assert_eq!(rt; compared::<ToUBE, u8>(alloc, 7, 6)?, Ordering::Greater);
+    assert_eq!(rt; element_back::<Unsigned, u64>(alloc, 1 << 40)?, 1 << 40);
+    assert_eq!(rt; unsigned_back(alloc, u64::MAX)?, u64::MAX);
+    assert_eq!(rt; non_zero_back(alloc, NonZeroU32::MIN)?, NonZeroU32::MIN);
+    assert_eq!(rt; signed_back(alloc, -1)?, -1);
+    assert_eq!(rt;
+        signed_non_zero_back(alloc, NonZeroI8::MIN)?,
+        NonZeroI8::MIN
+    );
+    assert_eq!(rt; ipv4_back(alloc, Ipv4Addr::LOCALHOST)?, Ipv4Addr::LOCALHOST);
+    assert_eq!(rt; ipv6_back(alloc, Ipv6Addr::LOCALHOST)?, Ipv6Addr::LOCALHOST);
+    assert_eq!(rt; element_asked::<Signed, i8>(alloc, [129])?, Some(1));
+    assert_eq!(rt; ipv6_asked(alloc, [0; 16])?, Some(Ipv6Addr::UNSPECIFIED));
+    assert_eq!(rt; array_back::<Signed, i8, 2>(alloc, [3, -3])?, [3, -3]);
+    let key = Mapped::new(alloc, [5u32, 6])?;
+    assert_eq!(rt; array_of_key::<Unsigned, u32, 2>(alloc, key)?, [5, 6]);
+    let bytes = vec![in alloc; 9, 8]?;
+    assert_eq!(rt; array_asked::<Unsigned, u8, 2>(alloc, bytes)?, Some([9, 8]));
+    let back = vector_back::<Unsigned, u16>(alloc, vec![in alloc; 258]?)?;
+    assert_eq!(rt; back.as_slice(), [258].as_slice());
+    let port = Mapped::new(alloc, 443)?;
+    assert!(rt; port_again(&port)? == port);
+    let mut hasher = DefaultHasher::new();
+    feed(&port, &mut hasher);
+    assert_eq!(rt; hasher.finish(), hash_of(&[1u8, 187].as_slice()));
     Ok(())
 }
 
 /// The keys of two values that ascend.
-fn keys_ascend<B, D: Drop>(
+fn keys_ascend<B, D: Ord + Drop>(
     rt: &impl Abort,
     alloc: Global,
     less: D,

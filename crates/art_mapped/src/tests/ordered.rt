@@ -80,8 +80,8 @@ where
 #[test]
 fn test_ordered_unsigned(rt: HostRuntime) -> Result<(), Fail> {
     let alloc = rt.alloc();
-    ordered_sequences::<ToUBE, u8>(&rt, alloc, [u8::MIN, u8::MAX / 2, u8::MAX])?;
     ordered_sequences::<ToUBE, u16>(&rt, alloc, [u16::MIN, u16::MAX / 2, u16::MAX])?;
+    ordered_sequences::<ToUBE, u8>(&rt, alloc, [u8::MIN, u8::MAX / 2, u8::MAX])?;
     ordered_sequences::<ToUBE, u32>(&rt, alloc, [u32::MIN, u32::MAX / 2, u32::MAX])?;
     ordered_sequences::<ToUBE, u64>(&rt, alloc, [u64::MIN, u64::MAX / 2, u64::MAX])?;
     ordered_sequences::<ToUBE, u128>(&rt, alloc, [u128::MIN, u128::MAX / 2, u128::MAX])?;
@@ -148,38 +148,5 @@ fn test_ordered_addresses(rt: HostRuntime) -> Result<(), Fail> {
     ordered::<ToOctets, Ipv4Addr>(&rt, alloc, low, middle, Ipv4Addr::BROADCAST)?;
     let (low, middle) = (Ipv6Addr::UNSPECIFIED, Ipv6Addr::LOCALHOST);
     ordered::<ToOctets, Ipv6Addr>(&rt, alloc, low, middle, Ipv6Addr::from_octets([255; 16]))?;
-    Ok(())
-}
-
-/// A value comes back from its own bytes, and 1 is a value like the ends of the range.
-fn comes_back<B: BytesMapping<D>, D: Eq + Copy>(
-    rt: &impl Abort,
-    alloc: Global,
-    values: &[D],
-) -> Result<(), AllocError> {
-    for value in values {
-        let bytes = B::to_bytes(alloc, *value)?;
-        assert!(rt; B::is_value(&bytes));
-        let read = B::checked_from_bytes(alloc, bytes)?;
-        assert!(rt; matches!(&read, Some(same) if *same == *value));
-    }
-    Ok(())
-}
-
-#[test]
-fn every_width_comes_back_from_its_bytes(rt: HostRuntime) -> Result<(), Fail> {
-    let alloc = rt.alloc();
-    comes_back::<ToUBE, u8>(&rt, alloc, &[u8::MIN, 1, u8::MAX])?;
-    comes_back::<ToUBE, u16>(&rt, alloc, &[u16::MIN, 1, u16::MAX])?;
-    comes_back::<ToUBE, u32>(&rt, alloc, &[u32::MIN, 1, u32::MAX])?;
-    comes_back::<ToUBE, u64>(&rt, alloc, &[u64::MIN, 1, u64::MAX])?;
-    comes_back::<ToUBE, u128>(&rt, alloc, &[u128::MIN, 1, u128::MAX])?;
-    comes_back::<ToUBE, usize>(&rt, alloc, &[usize::MIN, 1, usize::MAX])?;
-    comes_back::<ToIBE, i8>(&rt, alloc, &[i8::MIN, -1, 0, 1, i8::MAX])?;
-    comes_back::<ToIBE, i16>(&rt, alloc, &[i16::MIN, -1, 0, 1, i16::MAX])?;
-    comes_back::<ToIBE, i32>(&rt, alloc, &[i32::MIN, -1, 0, 1, i32::MAX])?;
-    comes_back::<ToIBE, i64>(&rt, alloc, &[i64::MIN, -1, 0, 1, i64::MAX])?;
-    comes_back::<ToIBE, i128>(&rt, alloc, &[i128::MIN, -1, 0, 1, i128::MAX])?;
-    comes_back::<ToIBE, isize>(&rt, alloc, &[isize::MIN, -1, 0, 1, isize::MAX])?;
     Ok(())
 }

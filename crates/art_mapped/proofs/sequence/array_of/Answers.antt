@@ -1,6 +1,5 @@
 use Rattle.std.proofs.Common.{rules, arith, ap, ◌∙◌, sym, ◌*◌}
 use Rattle.std.proofs.iter.Serving.{serving}
-use Rattle.art_mapped.specs.Numbers.{IsElement, element_text}
 use Rattle.art_mapped.proofs.Parts.{no_rest, size_of_parts, joined_from_parts}
 use Rattle.art_mapped.proofs.Turns.{callable_unchanged, called_at}
 use Rattle.art_mapped.proofs.sequence.array_of.Goals as goal
@@ -15,9 +14,8 @@ returns-clause-in_range g c = λ k d below. let called = c.from_fn.ensures.items
 pub returns-clause-text : goal.returns-clause-text
 returns-clause-text g c =
     let width = g.E.Bytes.FixedBytes.WIDTH in
-    let number = g.E.Element.number in
-    let text = element_text g.B.IntegerMapping.number_text width number in
-    let is_element = IsElement g.B.IntegerMapping.is_in_range width number in
-    let long = λ (x : g.row.E.Denot). g.B.IntegerMapping.has_width width (number x) in
-    let size = size_of_parts text width long c.args.bytes.now (no_rest text width long is_element c.args.bytes.now c.requires.elements) in
-    joined_from_parts text width long c.from_fn.result c.args.bytes.now (size ∙ ap (λ n. n * width) (c.requires.size ∙ sym c.from_fn.ensures.items.long)) (λ k d below. let called = called_at _ _ (λ x y q called. search rules) c.from_fn.result g.row.N 0 c.from_fn.ensures.items.each k d (omega arith) (omega arith) in search rules)
+    let laws = g.met.E.Element.keeps in
+    let size = size_of_parts laws c.args.bytes.now (no_rest laws c.args.bytes.now c.requires.elements) in
+    let all = size ∙ ap (λ n. n * width) (c.requires.size ∙ sym c.from_fn.ensures.items.long) in
+    joined_from_parts laws c.from_fn.result c.args.bytes.now all (λ k d below.
+    let called = called_at _ _ (λ x y q called. search rules) c.from_fn.result g.row.N 0 c.from_fn.ensures.items.each k d (omega arith) (omega arith) in search rules)

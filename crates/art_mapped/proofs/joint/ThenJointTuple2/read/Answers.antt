@@ -1,0 +1,32 @@
+use Rattle.std.proofs.Common.{◌≡◌, length, arith}
+use Rattle.art_mapped.specs.TupleLaws.{part_laws}
+use Rattle.art_mapped.proofs.Cuts.{cut, long_enough}
+use Rattle.art_mapped.proofs.joint.ThenJointTuple2.read.Goals as goal
+
+pub overflow_sub-bytes : goal.overflow_sub-bytes
+overflow_sub-bytes g c =
+    let front = g.met.F.Joint.laws in
+    let last = part_laws g.K.FixedBytes.WIDTH g.met.M.BytesMapping.has_text g.met.K.FixedBytes.one_key g.met.M.BytesMapping.reads_one in
+    omega (arith, long_enough front last c.args.bytes.now c.requires, c.WIDTH.ensures)
+
+pub read-requires : goal.read-requires
+read-requires g c =
+    let front = g.met.F.Joint.laws in
+    let last = part_laws g.K.FixedBytes.WIDTH g.met.M.BytesMapping.has_text g.met.K.FixedBytes.one_key g.met.M.BytesMapping.reads_one in
+    let x = c.split_at.result.0.now in
+    let y = c.split_at.result.1.now in
+    let same = c.split_at.ensures.by_index.0 in
+    let long : length y ≡ g.K.FixedBytes.WIDTH = omega (arith, c.split_at.ensures.back_len, c.WIDTH.ensures, long_enough front last c.args.bytes.now c.requires) in
+    let sides = cut front last c.args.bytes.now x y c.requires same long in
+    sides.0
+
+pub read_part-requires : goal.read_part-requires
+read_part-requires g c =
+    let front = g.met.F.Joint.laws in
+    let last = part_laws g.K.FixedBytes.WIDTH g.met.M.BytesMapping.has_text g.met.K.FixedBytes.one_key g.met.M.BytesMapping.reads_one in
+    let x = c.split_at.result.0.now in
+    let y = c.split_at.result.1.now in
+    let same = c.split_at.ensures.by_index.0 in
+    let long : length y ≡ g.K.FixedBytes.WIDTH = omega (arith, c.split_at.ensures.back_len, c.WIDTH.ensures, long_enough front last c.args.bytes.now c.requires) in
+    let sides = cut front last c.args.bytes.now x y c.requires same long in
+    sides.1

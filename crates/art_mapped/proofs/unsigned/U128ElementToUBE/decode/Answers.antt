@@ -1,8 +1,0 @@
-use Rattle.std.proofs.Common.{rules, arith, sym}
-use Rattle.std.proofs.lemmas.Int.{ints}
-use Rattle.art_mapped.specs.DigitLaws.{digits-read}
-use Rattle.art_mapped.proofs.unsigned.U128ElementToUBE.decode.Goals as goal
-
-pub returns-clause-some : goal.returns-clause-some
-returns-clause-some c =
-    ((omega (arith, ints), omega (arith, ints)), sym (digits-read 15 c.args.bytes c.from_be_bytes.result (search rules) (search rules) c.from_be_bytes.ensures))

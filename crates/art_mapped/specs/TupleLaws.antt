@@ -1,0 +1,102 @@
+-- The parts of a tuple, joined, come apart again, and keep their order. No public clause cites this.
+use Rattle.std.specs.Prelude.{◌≡◌, ℕ, ◌+◌, List, [], ◌∷◌, ◌++◌, length, refl}
+use Rattle.std.specs.Ordering.{ordering_then}
+use Rattle.std.specs.declared.cmp.Ordering.{Ordering}
+use Rattle.std.proofs.Common.{sym, ap, ◌∙◌, subst, arith, length-append}
+use Rattle.art_bytes.specs.Text.{IsFront}
+use Rattle.art_bytes.specs.Laws.{front_of_length}
+use Rattle.art_mapped.specs.Mapping.{StandsForSome}
+use Rattle.art_mapped.specs.SequenceLaws.{text_order-append}
+use Rattle.art_mapped.specs.Tuples.{IsPart, IsTextOf, Both, both_texts, AreSameBoth, StandsForBoth, TextLaws, OrderLaws}
+
+-- two texts that are joined come apart where the first one ends
+append_split : (a b c d : List ℕ) → length a ≡ length c → a ++ b ≡ c ++ d → (a ≡ c) × (b ≡ d)
+append_split [] b [] d long same = (refl, same)
+append_split [] b (y ∷ c) d long same = absurd (omega arith)
+append_split (x ∷ a) b [] d long same = absurd (omega arith)
+append_split (x ∷ a) b (y ∷ c) d long same =
+    let first : x ≡ y = cc in
+    let later : a ++ b ≡ c ++ d = cc in
+    let rest = append_split a b c d (omega arith) later in
+    (rw (first, rest.0) refl, rest.1)
+
+-- a key with the text that stands for a part's value stands for it
+pub key_stands : {K D : Type 0} {is_key : K → Type 0} {text : K → List ℕ} (stands_for : K → D → Type 0) → ((a b : K) → is_key a → is_key b → text a ≡ text b → a ≡ b)
+    → (key : K) (given : List ℕ) (value : D) → is_key key → text key ≡ given → IsTextOf is_key text stands_for given value → stands_for key value
+key_stands {K} stands_for one_key key given value is same of =
+    let At : K → Type 0 = λ k. stands_for k value in
+    subst At (one_key of.0 key of.1 is (of.2 ∙ sym same)) of.3
+
+-- the laws of one part
+pub part_laws : {K D : Type 0} {is_key : K → Type 0} {text : K → List ℕ} {is_in_domain : D → Type 0} {text_of : D → List ℕ} {stands_for : K → D → Type 0} {are_same : D → D → Type 0} (width : ℕ)
+    → ((bytes : K) (value : D) → is_in_domain value → stands_for bytes value → text bytes ≡ text_of value)
+    → ((a b : K) → is_key a → is_key b → text a ≡ text b → a ≡ b)
+    → ((bytes : K) (x y : D) → is_in_domain x → is_in_domain y → stands_for bytes x → stands_for bytes y → are_same x y)
+    → TextLaws (IsPart is_in_domain text_of width) text_of (IsTextOf is_key text stands_for) are_same width
+part_laws {stands_for = stands_for} width has_text one_key reads_one =
+    record {
+      has_text = λ given value v_in of. sym of.2 ∙ has_text of.0 value v_in.0 of.3;
+      long = λ value v_in. v_in.1;
+      reads_one = λ given x y x_in y_in x_of y_of. reads_one x_of.0 x y x_in.0 y_in.0 x_of.3 (key_stands stands_for one_key x_of.0 given y x_of.1 x_of.2 y_of);
+    }
+
+module _ {A B : Type 0} {front_in : A → Type 0} {front_text : A → List ℕ} {front_stands : List ℕ → A → Type 0} {front_same : A → A → Type 0} {front_width : ℕ}
+    {last_in : B → Type 0} {last_text : B → List ℕ} {last_stands : List ℕ → B → Type 0} {last_same : B → B → Type 0} {last_width : ℕ}
+    (front : TextLaws front_in front_text front_stands front_same front_width) (last : TextLaws last_in last_text last_stands last_same last_width) where
+  -- a text that is cut before the last part stands for the parts
+  pub split_both : (text x y : List ℕ) (value : A × B) → last_in value.1 → StandsForBoth front_stands last_stands text value → text ≡ x ++ y → length y ≡ last_width
+      → front_stands x value.0 × last_stands y value.1
+  split_both text x y value v_in of same long =
+      let of_long : length of.1 ≡ last_width = ap length (last.has_text of.1 value.1 v_in of.4) ∙ last.long value.1 v_in in
+      let all : of.0 ++ of.1 ≡ x ++ y = sym of.2 ∙ same in
+      let size : length (of.0 ++ of.1) ≡ length (x ++ y) = ap length all in
+      let front_long : length of.0 ≡ length x = omega (arith, length-append of.0 of.1, length-append x y, size, of_long, long) in
+      let both = append_split of.0 of.1 x y front_long all in
+      let Front : List ℕ → Type 0 = λ a. front_stands a value.0 in
+      let Last : List ℕ → Type 0 = λ b. last_stands b value.1 in
+      (subst Front both.0 of.3, subst Last both.1 of.4)
+
+  -- the last part of a text that stands for the parts
+  pub last_long : (text : List ℕ) (value : A × B) → last_in value.1 → (of : StandsForBoth front_stands last_stands text value) → length of.1 ≡ last_width
+  last_long text value v_in of = ap length (last.has_text of.1 value.1 v_in of.4) ∙ last.long value.1 v_in
+
+  -- the laws of all parts
+  pub both_laws : TextLaws (Both front_in last_in) (both_texts front_text last_text) (StandsForBoth front_stands last_stands) (AreSameBoth front_same last_same) (front_width + last_width)
+  both_laws =
+      record {
+        has_text = λ text value v_in of. of.2 ∙ rw (front.has_text of.0 value.0 v_in.0 of.3, last.has_text of.1 value.1 v_in.1 of.4) refl;
+        long = λ value v_in.
+            let first = front.long value.0 v_in.0 in
+            let later = last.long value.1 v_in.1 in
+            omega (arith, length-append (front_text value.0) (last_text value.1), first, later);
+        reads_one = λ text x y x_in y_in x_of y_of.
+            let y_too = split_both text x_of.0 x_of.1 y y_in.1 y_of x_of.2 (last_long text x x_in.1 x_of) in
+            (front.reads_one x_of.0 x.0 y.0 x_in.0 y_in.0 x_of.3 y_too.0, last.reads_one x_of.1 x.1 y.1 x_in.1 y_in.1 x_of.4 y_too.1);
+      }
+
+  -- the first part that differs decides
+  pub both_order : {front_order : A → A → Ordering} {last_order : B → B → Ordering} → OrderLaws front_in front_text front_same front_order → OrderLaws last_in last_text last_same last_order
+      → OrderLaws (Both front_in last_in) (both_texts front_text last_text) (AreSameBoth front_same last_same) (λ x y. ordering_then (front_order x.0 y.0) (last_order x.1 y.1))
+  both_order front_laws last_laws =
+      record {
+        keeps = λ x y x_in y_in.
+            let first = front_laws.keeps x.0 y.0 x_in.0 y_in.0 in
+            let later = last_laws.keeps x.1 y.1 x_in.1 y_in.1 in
+            rw (text_order-append (front_text x.0) (front_text y.0) (last_text x.1) (last_text y.1) (front.long x.0 x_in.0 ∙ sym (front.long y.0 y_in.0)), ← first, ← later) refl;
+        decided = λ x y x_in y_in same.
+            let both = append_split (front_text x.0) (last_text x.1) (front_text y.0) (last_text y.1) (front.long x.0 x_in.0 ∙ sym (front.long y.0 y_in.0)) same in
+            (front_laws.decided x.0 y.0 x_in.0 y_in.0 both.0, last_laws.decided x.1 y.1 x_in.1 y_in.1 both.1);
+      }
+
+-- of two texts of one width none is a proper front of the other
+pub wide_front_is_whole : {D : Type 0} {is_in_domain : D → Type 0} {text_of : D → List ℕ} {stands_for : List ℕ → D → Type 0} {are_same : D → D → Type 0} {width : ℕ}
+    → TextLaws is_in_domain text_of stands_for are_same width → (x y : D) → is_in_domain x → is_in_domain y → IsFront (text_of x) (text_of y) → text_of x ≡ text_of y
+wide_front_is_whole {text_of = text_of} {width = width} laws x y x_in y_in = front_of_length width (text_of x) (text_of y) (laws.long x x_in) (laws.long y y_in)
+
+-- texts alone tell whether bytes are some tuple's
+pub kept_by_items : {D N : Type 0} (nested : D → N) (is_in_domain : N → Type 0) (stands_for : List ℕ → N → Type 0) (a b : List ℕ) → a ≡ b
+    → StandsForSome (λ value. is_in_domain (nested value)) (λ text value. stands_for text (nested value)) a
+    → StandsForSome (λ value. is_in_domain (nested value)) (λ text value. stands_for text (nested value)) b
+kept_by_items nested is_in_domain stands_for a b same some =
+    let At : List ℕ → Type 0 = StandsForSome (λ value. is_in_domain (nested value)) (λ text value. stands_for text (nested value)) in
+    subst At same some

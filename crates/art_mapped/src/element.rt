@@ -1,0 +1,95 @@
+ghost use Rattle.std.specs.Prelude.{◌≡◌, ◌≢◌, ℕ, List, false, IfSome, IfNone, refl};
+ghost use Rattle.std.proofs.Common.{ap};
+ghost use Rattle.art_mapped.specs.Elements.{KeepsOrder};
+ghost use Rattle.art_mapped.specs.Mapping.{HasTextOf};
+ghost use Rattle.art_mapped.specs.MappingLaws.{kept_by_text};
+ghost use Rattle.art_mapped.specs.SequenceLaws.{same_from_text, front_is_whole};
+
+use crate::fixed::FixedBytes;
+use crate::mapping::{BytesMapping, NoPrefixesMapping, OrderedMapping};
+use std::alloc::{AllocError, Global};
+use std::marker::PhantomData;
+
+/// A type whose values have, in the form `F`, bytes of one width that sort as the values do.
+pub trait Element<F>: Copy + Ord {
+    /// The bytes of a value.
+    type Bytes: FixedBytes;
+
+    /// Which values the type has, as 0 to 65535 are those of `u16`.
+    ghost is_in_range: { Self → Type 0 };
+
+    /// The text of a value.
+    ghost text_of: { Self → List ℕ };
+
+    /// The bytes of a value.
+    fn encode(self) -> Self::Bytes
+        ensures key { Self.Bytes.is_key result }
+        ensures text { Self.Bytes.text result ≡ text_of self }
+        ensures in_range { is_in_range self };
+
+    /// The value whose bytes these are, and `None` exactly where they are no value's.
+    fn decode(bytes: Self::Bytes) -> Option<Self>
+        ensures some { IfSome result (λ value.
+            is_in_range value × (Self.Bytes.text bytes ≡ text_of value)) }
+        ensures none { IfNone result ((value : Self) → is_in_range value →
+            Self.Bytes.text bytes ≢ text_of value) };
+
+    /// The texts have the width of the bytes, and the order of the values.
+    ghost keeps: { KeepsOrder is_in_range text_of Self.cmp Self.Bytes.WIDTH };
+}
+
+/// One element as its bytes.
+pub struct Single<F>(PhantomData<F>);
+
+impl<F, E: Element<F>> BytesMapping<E> for Single<F> {
+    type Bytes = E::Bytes;
+
+    const ALLOCATES: bool = false;
+
+    const READ_ALLOCATES: bool = false;
+
+    ghost ALLOCATES = { false };
+
+    ghost READ_ALLOCATES = { false };
+
+    ghost is_in_domain = { E.is_in_range };
+
+    ghost text_of = { E.text_of };
+
+    ghost are_same = { λ x y. x ≡ y };
+
+    ghost stands_for = { HasTextOf E.Bytes.text E.text_of };
+
+    ghost has_text = { λ _ _ _ stands. stands };
+
+    ghost one_text = { λ x y same. ap E.text_of same };
+
+    ghost reads_one = { λ _ x y x_in y_in x_text y_text. same_from_text E.keeps x y x_in y_in x_text y_text };
+
+    ghost kept_by_text = { λ a b _. kept_by_text E.is_in_range E.Bytes.text E.text_of a b };
+
+    fn to_bytes(_alloc: Global, value: E) -> Result<E::Bytes, AllocError> {
+        Ok(value.encode())
+    }
+
+    fn from_bytes(_alloc: Global, bytes: E::Bytes) -> Result<E, AllocError> {
+        match E::decode(bytes) {
+            Some(value) => Ok(value),
+            None => unreachable!(),
+        }
+    }
+
+    fn is_value(bytes: &E::Bytes) -> bool {
+        E::decode(*bytes).is_some()
+    }
+}
+
+impl<F, E: Element<F>> OrderedMapping<E> for Single<F> {
+    ghost keeps_order = { E.keeps.keeps };
+
+    ghost decided_by_text = { λ x y x_in y_in same. same_from_text E.keeps x y x_in y_in refl same };
+}
+
+impl<F, E: Element<F>> NoPrefixesMapping<E> for Single<F> {
+    ghost no_prefixes = { front_is_whole E.keeps };
+}

@@ -1,0 +1,60 @@
+ghost use Rattle.std.specs.Prelude.{◌≡◌, false, refl};
+ghost use Rattle.std.proofs.Math.Logic.{∥∥₁_map};
+
+use crate::mapping::{BytesMapping, NoPrefixesMapping};
+use art_bytes::{AsBytes, NoPrefixesBytes};
+use std::alloc::{AllocError, Global};
+
+/// Keys as they stand. What comes back is the very key that went in.
+///
+/// It keeps no order, since the order of its domain need not be that of the texts.
+#[derive(Debug)]
+pub struct Identity;
+
+impl<D: AsBytes + Drop> BytesMapping<D> for Identity {
+    type Bytes = D;
+
+    const ALLOCATES: bool = false;
+
+    const READ_ALLOCATES: bool = false;
+
+    ghost ALLOCATES = { false };
+
+    ghost READ_ALLOCATES = { false };
+
+    ghost is_in_domain = { D.is_key };
+
+    ghost text_of = { D.text };
+
+    ghost are_same = { λ x y. x ≡ y };
+
+    ghost stands_for = { λ bytes value. value ≡ bytes };
+
+    ghost has_text = { λ _ _ _ stands. Prim.cc };
+
+    ghost one_text = { λ x y same. Prim.cc };
+
+    ghost reads_one = { λ _ x y _ _ x_stands y_stands. Prim.cc };
+
+    ghost kept_by_text = { λ a b is_key _ some. ∥∥₁_map some (λ _. (b, is_key, refl)) };
+
+    fn to_bytes(_alloc: Global, value: D) -> Result<D, AllocError> {
+        // To read its bytes shows that the value is a key.
+        let _text = value.as_bytes();
+        Ok(value)
+    }
+
+    fn from_bytes(_alloc: Global, bytes: D) -> Result<D, AllocError> {
+        let _text = bytes.as_bytes();
+        Ok(bytes)
+    }
+
+    fn is_value(bytes: &D) -> bool {
+        let _text = bytes.as_bytes();
+        true
+    }
+}
+
+impl<D: NoPrefixesBytes + Drop> NoPrefixesMapping<D> for Identity {
+    ghost no_prefixes = { D.no_prefixes };
+}

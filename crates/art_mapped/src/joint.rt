@@ -1,0 +1,171 @@
+// Parts of fixed width, one behind the other, as tuples are written.
+ghost use Rattle.std.specs.Prelude.{◌≡◌, ◌↔◌, ◌++◌, ◌+◌, ◌||◌, ℕ, List, Bool, false, IsTrue, IsOk, OnOk, IfOk};
+ghost use Rattle.art_mapped.specs.Mapping.{StandsForSome};
+ghost use Rattle.art_mapped.specs.Tuples.{IsPart, IsTextOf, Both, both_texts, AreSameBoth, StandsForBoth, TextLaws, OrderLaws};
+ghost use Rattle.art_mapped.specs.TupleLaws.{part_laws, both_laws, both_order};
+
+use crate::fixed::FixedBytes;
+use crate::mapping::{BytesMapping, OrderedMapping};
+use crate::part::{is_part, read_part, write_part};
+use std::alloc::{AllocError, Global};
+use std::marker::PhantomData;
+
+/// Mappings of fixed width, whose bytes are joined: the parts of a tuple, held in pairs from the first on.
+pub trait Joint<D> {
+    /// Whether `read` takes memory. Where it takes none it never refuses.
+    const READ_ALLOCATES: bool;
+
+    ghost READ_ALLOCATES: { Bool };
+
+    /// How many bytes all parts have.
+    ghost width: { ℕ };
+
+    ghost is_in_domain: { D → Type 0 };
+
+    ghost text_of: { D → List ℕ };
+
+    ghost are_same: { D → D → Type 0 };
+
+    /// The text is that of bytes that stand for the value.
+    ghost stands_for: { List ℕ → D → Type 0 };
+
+    /// How many bytes all parts have, to make room for them.
+    fn room() -> usize;
+
+    /// Writes the bytes of the parts behind those that are there.
+    fn write(alloc: Global, value: D, bytes: &mut Vec<u8>) -> Result<(), AllocError>
+        ensures text { OnOk result (bytes.new.items ≡ bytes.old.items ++ text_of value) }
+        ensures in_domain { OnOk result (is_in_domain value) }
+        ensures stands { OnOk result (stands_for (text_of value) value) };
+
+    /// Whether the bytes are those of some value.
+    fn is_value(bytes: &[u8]) -> bool
+        ensures { IsTrue result ↔ StandsForSome is_in_domain stands_for bytes.now };
+
+    /// The value whose bytes these are.
+    fn read(alloc: Global, bytes: &[u8]) -> Result<D, AllocError>
+        requires { StandsForSome is_in_domain stands_for bytes.now }
+        ensures in_domain { IfOk result is_in_domain }
+        ensures stands { IfOk result (stands_for bytes.now) }
+        ensures inverts { (value : D) → is_in_domain value → stands_for bytes.now value →
+            IfOk result (λ read. are_same read value) }
+        ensures takes_no_memory { READ_ALLOCATES ≡ false → IsOk result };
+
+    /// One value has one text.
+    ghost one_text: { (x y : D) → are_same x y → text_of x ≡ text_of y };
+
+    /// A text stands for one value at most, and all texts have one width.
+    ghost laws: { TextLaws is_in_domain text_of stands_for are_same width };
+}
+
+/// Parts whose texts keep the order of their values.
+pub trait OrderedJoint<D: Ord>: Joint<D> {
+    /// Two values compare as their texts do.
+    ghost order: { OrderLaws Self.is_in_domain Self.text_of Self.are_same D.cmp };
+}
+
+/// The first part.
+pub struct First<M>(PhantomData<M>);
+
+impl<D, K: FixedBytes, M: BytesMapping<D, Bytes = K>> Joint<D> for First<M> {
+    const READ_ALLOCATES: bool = M::READ_ALLOCATES;
+
+    ghost READ_ALLOCATES = { M.READ_ALLOCATES };
+
+    ghost width = { K.WIDTH };
+
+    ghost is_in_domain = { IsPart M.is_in_domain M.text_of K.WIDTH };
+
+    ghost text_of = { M.text_of };
+
+    ghost are_same = { M.are_same };
+
+    ghost stands_for = { IsTextOf K.is_key K.text M.stands_for };
+
+    ghost one_text = { M.one_text };
+
+    ghost laws = { part_laws K.WIDTH M.has_text K.one_key M.reads_one };
+
+    fn room() -> usize {
+        K::WIDTH
+    }
+
+    fn write(alloc: Global, value: D, bytes: &mut Vec<u8>) -> Result<(), AllocError> {
+        write_part::<D, K, M>(alloc, value, bytes)
+    }
+
+    fn is_value(bytes: &[u8]) -> bool {
+        is_part::<D, K, M>(bytes)
+    }
+
+    fn read(alloc: Global, bytes: &[u8]) -> Result<D, AllocError> {
+        read_part::<D, K, M>(alloc, bytes)
+    }
+}
+
+impl<D: Ord, K: FixedBytes, M: OrderedMapping<D, Bytes = K>> OrderedJoint<D> for First<M> {
+    ghost order = { record {
+      keeps = λ x y x_in y_in. M.keeps_order x y x_in.0 y_in.0;
+      decided = λ x y x_in y_in. M.decided_by_text x y x_in.0 y_in.0;
+    } };
+}
+
+/// The parts `F`, and one more behind them.
+pub struct Then<F, M>(PhantomData<(F, M)>);
+
+impl<A: Drop, B: Drop, F: Joint<A>, K: FixedBytes, M: BytesMapping<B, Bytes = K>> Joint<(A, B)>
+    for Then<F, M> {
+    const READ_ALLOCATES: bool = F::READ_ALLOCATES || M::READ_ALLOCATES;
+
+    ghost READ_ALLOCATES = { F.READ_ALLOCATES || M.READ_ALLOCATES };
+
+    ghost width = { F.width + K.WIDTH };
+
+    ghost is_in_domain = { Both F.is_in_domain (IsPart M.is_in_domain M.text_of K.WIDTH) };
+
+    ghost text_of = { both_texts F.text_of M.text_of };
+
+    ghost are_same = { AreSameBoth F.are_same M.are_same };
+
+    ghost stands_for = { StandsForBoth F.stands_for (IsTextOf K.is_key K.text M.stands_for) };
+
+    ghost one_text = { λ x y same. Prim.rw (F.one_text x.0 y.0 same.0, M.one_text x.1 y.1 same.1) Prim.cc };
+
+    ghost laws = { both_laws F.laws (part_laws K.WIDTH M.has_text K.one_key M.reads_one) };
+
+    fn room() -> usize {
+        F::room().saturating_add(K::WIDTH)
+    }
+
+    fn write(alloc: Global, value: (A, B), bytes: &mut Vec<u8>) -> Result<(), AllocError> {
+        let (front, last) = value;
+        F::write(alloc, front, bytes)?;
+        write_part::<B, K, M>(alloc, last, bytes)
+    }
+
+    fn is_value(bytes: &[u8]) -> bool {
+        if bytes.len() < K::WIDTH {
+            return false;
+        }
+        let (front, last) = bytes.split_at(bytes.len() - K::WIDTH);
+        F::is_value(front) && is_part::<B, K, M>(last)
+    }
+
+    fn read(alloc: Global, bytes: &[u8]) -> Result<(A, B), AllocError> {
+        let (front, last) = bytes.split_at(bytes.len() - K::WIDTH);
+        let value = F::read(alloc, front)?;
+        Ok((value, read_part::<B, K, M>(alloc, last)?))
+    }
+}
+
+impl<A: Ord + Drop, B: Ord + Drop, F, K, M> OrderedJoint<(A, B)> for Then<F, M>
+where
+    F: OrderedJoint<A>,
+    K: FixedBytes,
+    M: OrderedMapping<B, Bytes = K>,
+{
+    ghost order = { both_order F.laws (part_laws K.WIDTH M.has_text K.one_key M.reads_one) F.order (record {
+      keeps = λ x y x_in y_in. M.keeps_order x y x_in.0 y_in.0;
+      decided = λ x y x_in y_in. M.decided_by_text x y x_in.0 y_in.0;
+    }) };
+}

@@ -1,0 +1,132 @@
+// Composite keys, and keys as they stand.
+ghost use Rattle.std.specs.Prelude.{◌≡◌, ◌++◌, IsOk, IfOk};
+ghost use Rattle.std.specs.Net.Addr.{ipv4_octets};
+ghost use Rattle.art_mapped.specs.Mapped.{mapped_text};
+ghost use Rattle.art_mapped.specs.Numbers.{signed_text};
+
+use super::*;
+
+type Route = ConcatTuple<(ToOctets, ToIBE)>;
+
+/// The key of an address and a number has the octets, and then the number's bytes.
+fn route(
+    alloc: Global,
+    to: Ipv4Addr,
+    cost: i32,
+) -> Result<Mapped<Route, (Ipv4Addr, i32)>, AllocError>
+    ensures { IfOk result (λ key. mapped_text key ≡ ipv4_octets to ++ signed_text 4 cost) }
+{
+    Mapped::new(alloc, (to, cost))
+}
+
+/// Both parts come back as they went in.
+fn host_back(alloc: Global, host: Ipv4Addr, port: u16) -> Result<(Ipv4Addr, u16), AllocError>
+    ensures { IfOk result (λ read. (read.0 ≡ host) × (read.1 ≡ port)) }
+{
+    Mapped::<ConcatTuple<(ToOctets, ToUBE)>, (Ipv4Addr, u16)>::new(alloc, (host, port))?.get(alloc)
+}
+
+/// To read the parts of a key refuses nothing.
+fn route_of(
+    alloc: Global,
+    key: Mapped<Route, (Ipv4Addr, i32)>,
+) -> Result<(Ipv4Addr, i32), AllocError>
+    ensures { IsOk result }
+{
+    key.get(alloc)
+}
+
+/// A key that stands for itself comes back, the very key, and nothing refuses.
+fn key_back<D: AsBytes + Drop>(alloc: Global, key: D) -> Result<D, AllocError>
+    ensures same { IfOk result (λ read. read ≡ key) }
+    ensures always { IsOk result }
+{
+    Mapped::<Identity, D>::new(alloc, key)?.get(alloc)
+}
+
+/// Two keys compare as the tuples, and none begins the other.
+fn ascend<B, D>(rt: &impl Abort, alloc: Global, less: D, more: D) -> Result<(), AllocError>
+where
+    B: OrderedMapping<D> + NoPrefixesMapping<D>,
+    D: Ord + Copy,
+{
+    let less_key = Mapped::<B, D>::new(alloc, less)?;
+    let more_key = Mapped::<B, D>::new(alloc, more)?;
+    assert_eq!(rt; less.cmp(&more), Ordering::Less);
+    assert_eq!(rt; less_key.cmp(&more_key), Ordering::Less);
+    assert!(rt; less_key.as_bytes() < more_key.as_bytes());
+    assert!(rt; !more_key.as_bytes().starts_with(less_key.as_bytes()));
+    assert!(rt; less_key.get(alloc)? == less);
+    Ok(())
+}
+
+#[test]
+fn copy_tuple_as_bytes(rt: HostRuntime) -> Result<(), Fail> {
+    let alloc = rt.alloc();
+    let key = Mapped::<ConcatTuple<(Identity, Identity)>, ([u8; 5], [u8; 5])>::new(
+        alloc,
+        ([0; 5], [10; 5]),
+    )?;
+    assert_eq!(rt;
+        key.as_bytes(),
+        [0, 0, 0, 0, 0, 10, 10, 10, 10, 10].as_slice()
+    );
+    let key = Mapped::<ConcatTuple<(Identity, Identity)>, ([u8; 3], [u8; 2])>::new(
+        alloc,
+        (*b"aaa", *b"bb"),
+    )?;
+    assert_eq!(rt; key.as_bytes(), b"aaabb".as_slice());
+    let value = NonZeroI16::new(256).expect(&rt, "256 is not 0");
+    let key = Mapped::<ConcatTuple<(ToIBE, ToOctets)>, (NonZeroI16, Ipv4Addr)>::new(
+        alloc,
+        (value, Ipv4Addr::LOCALHOST),
+    )?;
+    assert_eq!(rt; key.as_bytes(), [129, 0, 127, 0, 0, 1].as_slice());
+    let key = route(alloc, Ipv4Addr::UNSPECIFIED, -212)?;
+    assert_eq!(rt; key.as_bytes(), [0, 0, 0, 0, 127, 255, 255, 44].as_slice());
+    assert!(rt; route_of(alloc, key)? == (Ipv4Addr::UNSPECIFIED, -212));
+    assert!(rt; host_back(alloc, Ipv4Addr::LOCALHOST, 7)? == (Ipv4Addr::LOCALHOST, 7));
+    let text: Vec<u8> = vec![in alloc; 7; 1000]?;
+    assert_eq!(rt; key_back(alloc, text)?.len(), 1000);
+    Ok(())
+}
+
+#[test]
+fn concat_tuple_ord_matches_tuple_ord(rt: HostRuntime) -> Result<(), Fail> {
+    type By = ConcatTuple<(ToOctets, ToIBE, ToOctets)>;
+    let alloc = rt.alloc();
+    let (none, here) = (Ipv4Addr::UNSPECIFIED, Ipv4Addr::LOCALHOST);
+    let (low, high) = (Ipv6Addr::UNSPECIFIED, Ipv6Addr::LOCALHOST);
+    let tuples = [
+        (none, -212i32, low),
+        (none, -212, high),
+        (none, 212, high),
+        (here, 212, high),
+    ];
+    ascend::<By, (Ipv4Addr, i32, Ipv6Addr)>(&rt, alloc, tuples[0], tuples[1])?;
+    ascend::<By, (Ipv4Addr, i32, Ipv6Addr)>(&rt, alloc, tuples[1], tuples[2])?;
+    ascend::<By, (Ipv4Addr, i32, Ipv6Addr)>(&rt, alloc, tuples[2], tuples[3])?;
+    type Four = ConcatTuple<(ToUBE, ToUBE, ToUBE, ToUBE)>;
+    ascend::<Four, (u8, u8, u8, u8)>(&rt, alloc, (1, 2, 3, 255), (1, 2, 4, 0))?;
+    type Five = ConcatTuple<(ToUBE, ToUBE, ToUBE, ToUBE, ToIBE)>;
+    ascend::<Five, (u8, u16, u8, u8, i8)>(&rt, alloc, (1, 2, 3, 4, -1), (1, 2, 3, 4, 0))?;
+    type Six = ConcatTuple<(ToUBE, ToUBE, ToUBE, ToUBE, ToIBE, ToUBE)>;
+    ascend::<Six, (u8, u16, u8, u8, i8, u8)>(&rt, alloc, (1, 2, 3, 4, 5, 6), (1, 2, 3, 4, 5, 7))?;
+    Ok(())
+}
+
+#[test]
+fn bytes_of_no_tuple_are_refused(rt: HostRuntime) -> Result<(), Fail> {
+    let alloc = rt.alloc();
+    type By = ConcatTuple<(ToUBE, ToUBE)>;
+    refused::<By, (u8, NonZeroU16)>(&rt, alloc, vec![in alloc; 7, 0, 0]?)?;
+    refused::<By, (NonZeroU16, u8)>(&rt, alloc, vec![in alloc; 0, 0, 7]?)?;
+    refused::<By, (u8, u16)>(&rt, alloc, vec![in alloc; 7, 0]?)?;
+    refused::<By, (u8, u16)>(&rt, alloc, vec![in alloc; 7, 0, 0, 0]?)?;
+    let read = <By as BytesMapping<(u8, u16)>>::checked_from_bytes(
+        alloc,
+        vec![in alloc; 7, 1, 0]?,
+    )?;
+    assert_eq!(rt; read, Some((7, 256)));
+    Ok(())
+}

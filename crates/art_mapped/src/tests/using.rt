@@ -1,0 +1,40 @@
+// How a crate uses this one: keys of ports, which no call refuses.
+ghost use Rattle.std.specs.Prelude.{◌≡◌, ℕ, IsOk, IfOk};
+ghost use Rattle.std.specs.Ordering.{nat_cmp};
+ghost use Rattle.art_mapped.specs.Mapped.{mapped_text, HoldsValue};
+ghost use Rattle.art_mapped.specs.Numbers.{digits};
+
+use super::*;
+
+/// The key of a port is its two bytes, the higher one first.
+fn key_of(alloc: Global, port: u16) -> Result<Mapped<ToUBE, u16>, AllocError>
+    ensures text { IfOk result (λ key. mapped_text key ≡ digits 2 port) }
+    ensures always { IsOk result }
+{
+    Mapped::new(alloc, port)
+}
+
+/// The port of a key is the one that it was made of.
+fn port_of(alloc: Global, key: Mapped<ToUBE, u16>) -> Result<u16, AllocError>
+    ensures port { (port : ℕ) → HoldsValue key port → IfOk result (λ read. read ≡ port) }
+    ensures always { IsOk result }
+{
+    key.get(alloc)
+}
+
+/// Keys are in the order of the ports.
+fn compare(a: &Mapped<ToUBE, u16>, b: &Mapped<ToUBE, u16>) -> Ordering
+    ensures { (x y : ℕ) → HoldsValue a.now x → HoldsValue b.now y → result ≡ nat_cmp x y }
+{
+    a.cmp(b)
+}
+
+#[test]
+fn ports_are_keys(rt: HostRuntime) -> Result<(), Fail> {
+    let alloc = rt.alloc();
+    let (http, https) = (key_of(alloc, 80)?, key_of(alloc, 443)?);
+    assert_eq!(rt; https.as_bytes(), [1, 187].as_slice());
+    assert_eq!(rt; compare(&http, &https), Ordering::Less);
+    assert_eq!(rt; port_of(alloc, https)?, 443);
+    Ok(())
+}

@@ -1,0 +1,254 @@
+ghost use Rattle.std.specs.Prelude.{◌≡◌, true, refl};
+ghost use Rattle.std.specs.Vec.{vec_items};
+ghost use Rattle.std.proofs.Common.{◌∙◌};
+ghost use Rattle.art_mapped.specs.TupleLaws.{kept_by_items, wide_front_is_whole};
+
+use crate::joint::{First, Joint, OrderedJoint, Then};
+use crate::mapping::{BytesMapping, NoPrefixesMapping, OrderedMapping};
+use std::alloc::{AllocError, Global};
+use std::marker::PhantomData;
+
+/// Tuples of two to six values, as their bytes joined: `ConcatTuple<(M0, M1)>` maps the first value by `M0` and
+/// the second by `M1`.
+///
+/// Each part has bytes of a fixed width, so that no tuple's text begins another's. Where every part keeps an
+/// order, the first part that differs decides.
+pub struct ConcatTuple<T>(PhantomData<T>);
+
+/// Two to six mappings, for the parts of a tuple.
+pub trait TupleMappings {
+    /// The same mappings, one behind the other.
+    type Joint;
+}
+
+/// A tuple of two to six values, which is held in pairs as `((A, B), C)` too.
+pub trait TupleValues: Sized {
+    /// The values in pairs.
+    type Pairs;
+
+    ghost in_pairs: { Self → Self.Pairs };
+
+    ghost flat: { Self.Pairs → Self };
+
+    /// The values of the tuple, in pairs.
+    fn pair_up(self) -> Self::Pairs
+        ensures { result ≡ in_pairs self };
+
+    /// The tuple of the values.
+    fn flatten(value: Self::Pairs) -> Self
+        ensures { result ≡ flat value };
+
+    /// To pair up undoes to flatten.
+    ghost pairs_flat: { (value : Self.Pairs) → in_pairs (flat value) ≡ value };
+}
+
+/// A tuple that compares as its pairs do.
+pub trait OrderedTuple<P: Ord>: TupleValues<Pairs = P> + Ord {
+    ghost same_order: { (x y : Self) → Self.cmp x y ≡ P.cmp (Self.in_pairs x) (Self.in_pairs y) };
+}
+
+/// To write a tuple takes memory, and to read one where to read a part does.
+impl<D, P, J, T> BytesMapping<D> for ConcatTuple<T>
+where
+    D: TupleValues<Pairs = P> + Drop,
+    J: Joint<P>,
+    T: TupleMappings<Joint = J>,
+{
+    type Bytes = Vec<u8>;
+
+    const ALLOCATES: bool = true;
+
+    const READ_ALLOCATES: bool = J::READ_ALLOCATES;
+
+    ghost ALLOCATES = { true };
+
+    ghost READ_ALLOCATES = { J.READ_ALLOCATES };
+
+    ghost is_in_domain = { λ value. J.is_in_domain (D.in_pairs value) };
+
+    ghost text_of = { λ value. J.text_of (D.in_pairs value) };
+
+    ghost are_same = { λ x y. J.are_same (D.in_pairs x) (D.in_pairs y) };
+
+    ghost stands_for = { λ bytes value. J.stands_for (vec_items bytes) (D.in_pairs value) };
+
+    ghost has_text = { λ bytes value. J.laws.has_text (vec_items bytes) (D.in_pairs value) };
+
+    ghost one_text = { λ x y. J.one_text (D.in_pairs x) (D.in_pairs y) };
+
+    ghost reads_one = { λ bytes x y. J.laws.reads_one (vec_items bytes) (D.in_pairs x) (D.in_pairs y) };
+
+    ghost kept_by_text = { λ a b _. kept_by_items D.in_pairs J.is_in_domain J.stands_for (vec_items a) (vec_items b) };
+
+    fn to_bytes(alloc: Global, value: D) -> Result<Vec<u8>, AllocError> {
+        let mut bytes = Vec::with_capacity(alloc, J::room())?;
+        J::write(alloc, value.pair_up(), &mut bytes)?;
+        Ok(bytes)
+    }
+
+    fn from_bytes(alloc: Global, bytes: Vec<u8>) -> Result<D, AllocError> {
+        Ok(D::flatten(J::read(alloc, &bytes)?))
+    }
+
+    fn is_value(bytes: &Vec<u8>) -> bool {
+        J::is_value(bytes)
+    }
+}
+
+impl<D, P, J, T> OrderedMapping<D> for ConcatTuple<T>
+where
+    D: OrderedTuple<P> + TupleValues<Pairs = P> + Drop,
+    P: Ord,
+    J: OrderedJoint<P>,
+    T: TupleMappings<Joint = J>,
+{
+    ghost keeps_order = { λ x y x_in y_in. D.same_order x y ∙ J.order.keeps (D.in_pairs x) (D.in_pairs y) x_in y_in };
+
+    ghost decided_by_text = { λ x y. J.order.decided (D.in_pairs x) (D.in_pairs y) };
+}
+
+impl<D, P, J, T> NoPrefixesMapping<D> for ConcatTuple<T>
+where
+    D: TupleValues<Pairs = P> + Drop,
+    J: Joint<P>,
+    T: TupleMappings<Joint = J>,
+{
+    ghost no_prefixes = { λ x y. wide_front_is_whole J.laws (D.in_pairs x) (D.in_pairs y) };
+}
+
+impl<M0, M1> TupleMappings for (M0, M1) {
+    type Joint = Then<First<M0>, M1>;
+}
+
+impl<A, B> TupleValues for (A, B) {
+    type Pairs = (A, B);
+
+    ghost in_pairs = { λ value. value };
+
+    ghost flat = { λ value. value };
+
+    ghost pairs_flat = { λ _. refl };
+
+    fn pair_up(self) -> (A, B) {
+        let (a, b) = self;
+        (a, b)
+    }
+
+    fn flatten((a, b): (A, B)) -> (A, B) {
+        (a, b)
+    }
+}
+
+impl<A: Ord, B: Ord> OrderedTuple<(A, B)> for (A, B) {
+    ghost same_order = { λ _ _. refl };
+}
+
+impl<M0, M1, M2> TupleMappings for (M0, M1, M2) {
+    type Joint = Then<Then<First<M0>, M1>, M2>;
+}
+
+impl<A, B, C> TupleValues for (A, B, C) {
+    type Pairs = ((A, B), C);
+
+    ghost in_pairs = { λ value. ((value.0, value.1), value.2) };
+
+    ghost flat = { λ value. (value.0.0, value.0.1, value.1) };
+
+    ghost pairs_flat = { λ _. refl };
+
+    fn pair_up(self) -> ((A, B), C) {
+        let (a, b, c) = self;
+        ((a, b), c)
+    }
+
+    fn flatten(((a, b), c): ((A, B), C)) -> (A, B, C) {
+        (a, b, c)
+    }
+}
+
+impl<A: Ord, B: Ord, C: Ord> OrderedTuple<((A, B), C)> for (A, B, C) {
+    ghost same_order = { λ _ _. refl };
+}
+
+impl<M0, M1, M2, M3> TupleMappings for (M0, M1, M2, M3) {
+    type Joint = Then<Then<Then<First<M0>, M1>, M2>, M3>;
+}
+
+impl<A, B, C, D> TupleValues for (A, B, C, D) {
+    type Pairs = (((A, B), C), D);
+
+    ghost in_pairs = { λ value. (((value.0, value.1), value.2), value.3) };
+
+    ghost flat = { λ value. (value.0.0.0, value.0.0.1, value.0.1, value.1) };
+
+    ghost pairs_flat = { λ _. refl };
+
+    fn pair_up(self) -> (((A, B), C), D) {
+        let (a, b, c, d) = self;
+        (((a, b), c), d)
+    }
+
+    fn flatten((((a, b), c), d): (((A, B), C), D)) -> (A, B, C, D) {
+        (a, b, c, d)
+    }
+}
+
+impl<A: Ord, B: Ord, C: Ord, D: Ord> OrderedTuple<(((A, B), C), D)> for (A, B, C, D) {
+    ghost same_order = { λ _ _. refl };
+}
+
+impl<M0, M1, M2, M3, M4> TupleMappings for (M0, M1, M2, M3, M4) {
+    type Joint = Then<Then<Then<Then<First<M0>, M1>, M2>, M3>, M4>;
+}
+
+impl<A, B, C, D, E> TupleValues for (A, B, C, D, E) {
+    type Pairs = ((((A, B), C), D), E);
+
+    ghost in_pairs = { λ value. ((((value.0, value.1), value.2), value.3), value.4) };
+
+    ghost flat = { λ value. (value.0.0.0.0, value.0.0.0.1, value.0.0.1, value.0.1, value.1) };
+
+    ghost pairs_flat = { λ _. refl };
+
+    fn pair_up(self) -> ((((A, B), C), D), E) {
+        let (a, b, c, d, e) = self;
+        ((((a, b), c), d), e)
+    }
+
+    fn flatten(((((a, b), c), d), e): ((((A, B), C), D), E)) -> (A, B, C, D, E) {
+        (a, b, c, d, e)
+    }
+}
+
+impl<A: Ord, B: Ord, C: Ord, D: Ord, E: Ord> OrderedTuple<((((A, B), C), D), E)>
+    for (A, B, C, D, E) {
+    ghost same_order = { λ _ _. refl };
+}
+
+impl<M0, M1, M2, M3, M4, M5> TupleMappings for (M0, M1, M2, M3, M4, M5) {
+    type Joint = Then<Then<Then<Then<Then<First<M0>, M1>, M2>, M3>, M4>, M5>;
+}
+
+impl<A, B, C, D, E, F> TupleValues for (A, B, C, D, E, F) {
+    type Pairs = (((((A, B), C), D), E), F);
+
+    ghost in_pairs = { λ value. (((((value.0, value.1), value.2), value.3), value.4), value.5) };
+
+    ghost flat = { λ value. (value.0.0.0.0.0, value.0.0.0.0.1, value.0.0.0.1, value.0.0.1, value.0.1, value.1) };
+
+    ghost pairs_flat = { λ _. refl };
+
+    fn pair_up(self) -> (((((A, B), C), D), E), F) {
+        let (a, b, c, d, e, f) = self;
+        (((((a, b), c), d), e), f)
+    }
+
+    fn flatten((((((a, b), c), d), e), f): (((((A, B), C), D), E), F)) -> (A, B, C, D, E, F) {
+        (a, b, c, d, e, f)
+    }
+}
+
+impl<A: Ord, B: Ord, C: Ord, D: Ord, E: Ord, F: Ord> OrderedTuple<(((((A, B), C), D), E), F)>
+    for (A, B, C, D, E, F) {
+    ghost same_order = { λ _ _. refl };
+}
