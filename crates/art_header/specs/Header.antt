@@ -1,5 +1,5 @@
 -- What a header shows.
-use Rattle.std.specs.Prelude.{ℕ, ◌&&◌, ◌==◌, List, min, take, Bool, nat_eq}
+use Rattle.std.specs.Prelude.{◌≡◌, ℕ, ◌+◌, ◌-◌, ◌&&◌, ◌==◌, List, ◌++◌, min, take, drop, length, Bool, nat_eq}
 use Rattle.std.specs.Cmp.{IsEquivalence, and_equiv, on_equiv, nat_eq_equiv}
 use Rattle.std.specs.Cmp.Lexicographic.{pointwise, nat_list_eq_equiv}
 
@@ -20,6 +20,26 @@ empty_header room prefix prefix_len = record { count = 0; prefix_len = prefix_le
 -- the header with the prefix of another
 abbrev pub with_prefix_of : Header → Header → Header
 with_prefix_of header other = record header { prefix_len = other.prefix_len; stored = other.stored }
+
+-- the header without the first bytes of its prefix, where the whole prefix is stored
+abbrev pub without_front : Header → ℕ → Header
+without_front header len = record header { prefix_len = header.prefix_len - len; stored = drop len header.stored }
+
+-- the header with a prefix longer by this many bytes, which begin with these
+abbrev pub with_more : ℕ → Header → List ℕ → ℕ → Header
+with_more room header more len =
+    record header {
+      prefix_len = header.prefix_len + len;
+      stored = take (capped room (header.prefix_len + len)) (header.stored ++ more);
+    }
+
+-- the header with a prefix of this length, of which these bytes are known
+abbrev pub with_prefix : ℕ → Header → List ℕ → ℕ → Header
+with_prefix room header prefix len = record header { prefix_len = len; stored = take (capped room len) prefix }
+
+-- the header stands for this prefix: it has its length, and its stored front begins it
+abbrev pub StandsFor : ℕ → Header → List ℕ → Type 0
+StandsFor room header prefix = header ≡ with_prefix room header prefix (length prefix)
 
 -- two headers show the same count, the same length and the same stored front
 abbrev pub same_header : Header → Header → Bool

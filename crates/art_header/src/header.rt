@@ -1,5 +1,5 @@
 //! The header that every inner node begins with.
-ghost use Rattle.std.specs.Prelude.{◌≡◌, ◌+◌, ◌-◌, ◌^◌, ◌<◌, ◌≤◌, length, min, take, Result};
+ghost use Rattle.std.specs.Prelude.{◌≡◌, ℕ, ◌+◌, ◌-◌, ◌^◌, ◌<◌, ◌≤◌, List, [], ◌++◌, length, min, take, drop, Result};
 ghost use Rattle.std.specs.Cmp.{on_equiv, on_per};
 
 use std::alloc::AllocError;
@@ -30,7 +30,7 @@ impl<const PREFIX_LEN: usize> Model for Header<PREFIX_LEN> {
 }
 
 impl<const PREFIX_LEN: usize> Header<PREFIX_LEN> {
-    ghost use Rattle.art_header.specs.Header.{capped, empty_header, with_prefix_of};
+    ghost use Rattle.art_header.specs.Header.{capped, empty_header, with_prefix_of, without_front, with_more, with_prefix, StandsFor};
 
     /// A header with no children, for a prefix of `prefix_len` bytes that begins with `prefix`.
     ///
@@ -88,10 +88,76 @@ impl<const PREFIX_LEN: usize> Header<PREFIX_LEN> {
     /// Takes over the prefix of another header: its length and its stored front. The count of
     /// children stays.
     pub fn set_prefix(&mut self, other: &Header<PREFIX_LEN>)
-        ensures { self.new ≡ with_prefix_of self.old other.now }
+        ensures prefix { self.new ≡ with_prefix_of self.old other.now }
+        ensures capped { length self.new.stored ≡ capped PREFIX_LEN self.new.prefix_len }
     {
         self.prefix_len = other.prefix_len;
         self.prefix = other.prefix;
+    }
+
+    /// Drops the first `len` bytes of the prefix. The rest of the stored bytes moves to the front.
+    ///
+    /// The whole prefix has to be stored, unless `len` is 0, and it has at least `len` bytes.
+    pub fn ltrim_by(&mut self, len: usize)
+        requires wholly_stored { 0 < len → self.old.prefix_len ≤ PREFIX_LEN }
+        requires within { len ≤ self.old.prefix_len }
+        ensures { self.new ≡ without_front self.old len }
+    {
+        self.prefix_len = (self.prefix_len() - len) as u32;
+        let end = len + self.capped_prefix_len();
+        self.prefix.copy_within(len..end, 0);
+    }
+
+    /// Empties the prefix. It answers the bytes that were stored, the length that the prefix had,
+    /// and how many of its bytes were stored: of the array that many have a meaning, the others
+    /// none.
+    pub fn clear_prefix(&mut self) -> ([u8; PREFIX_LEN], usize, usize)
+        ensures cleared { self.new ≡ record self.old { prefix_len = 0; stored = [] } }
+        ensures bytes { take result.2 result.0 ≡ self.old.stored }
+        ensures len { result.1 ≡ self.old.prefix_len }
+        ensures capped_len { result.2 ≡ capped PREFIX_LEN self.old.prefix_len }
+    {
+        let len = self.prefix_len();
+        let capped_len = self.capped_prefix_len();
+        self.prefix_len = 0;
+        (self.prefix, len, capped_len)
+    }
+
+    /// Appends `len` bytes to the prefix, of which `new` has the first.
+    ///
+    /// `new` has to have the bytes that are stored: `len` of them, or as many as there is room
+    /// for. The length of the whole prefix stays below 2^32.
+    pub fn push_prefix(&mut self, new: &[u8], len: usize)
+        requires has_stored_bytes { min len (PREFIX_LEN - capped PREFIX_LEN self.old.prefix_len) ≤ length new.now }
+        requires fits { self.old.prefix_len + len < 2 ^ 32 }
+        ensures { self.new ≡ with_more PREFIX_LEN self.old new.now len }
+    {
+        let start = self.capped_prefix_len();
+        self.prefix_len = (self.prefix_len() + len) as u32;
+        let end = self.capped_prefix_len();
+        let bytes = &mut self.prefix[..];
+        bytes[start..end].copy_from_slice(&new[..end - start]);
+    }
+
+    /// Drops the first `len` bytes of the prefix, and stores as much of the rest as there is room
+    /// for. The bytes are those of a key of a leaf below, where `depth` bytes lie before the
+    /// prefix.
+    ///
+    /// The prefix has at least `len` bytes, and the key has every byte that is to be stored.
+    pub fn ltrim_by_with_leaf(&mut self, len: usize, depth: usize, leaf_key: &[u8])
+        requires within { len ≤ self.old.prefix_len }
+        requires has_stored_bytes { depth + len + capped PREFIX_LEN (self.old.prefix_len - len) ≤ length leaf_key.now }
+        ensures trimmed { self.new ≡ with_prefix PREFIX_LEN self.old (drop (depth + len) leaf_key.now) (self.old.prefix_len - len) }
+        ensures stands { (path prefix rest : List ℕ) →
+            length path ≡ depth → leaf_key.now ≡ path ++ prefix ++ rest →
+            StandsFor PREFIX_LEN self.old prefix →
+            StandsFor PREFIX_LEN self.new (drop len prefix) }
+    {
+        self.prefix_len = (self.prefix_len() - len) as u32;
+        let capped_len = self.capped_prefix_len();
+        let start = depth + len;
+        let bytes = &mut self.prefix[..];
+        bytes[0..capped_len].copy_from_slice(&leaf_key[start..start + capped_len]);
     }
 
     /// Counts one child more. The count has to be below 65535.
@@ -112,7 +178,8 @@ impl<const PREFIX_LEN: usize> Header<PREFIX_LEN> {
 
     /// Sets the count of children to 0.
     pub fn reset_num_children(&mut self)
-        ensures { self.new ≡ record self.old { count = 0 } }
+        ensures count { self.new ≡ record self.old { count = 0 } }
+        ensures capped { length self.new.stored ≡ capped PREFIX_LEN self.new.prefix_len }
     {
         self.num_children = 0;
     }

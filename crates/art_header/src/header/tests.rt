@@ -46,3 +46,46 @@ fn is_equal_by_what_it_shows(rt: HostRuntime) -> Result<(), Fail> {
     assert!(rt; header != counted);
     Ok(())
 }
+
+#[test]
+fn is_trimmed_from_the_left(rt: HostRuntime) {
+    let mut header = Header::<16>::new(&[1, 2, 3, 4, 5, 6, 7, 8], 8);
+    header.ltrim_by(0);
+    assert_eq!(rt; header.read_prefix(), [1, 2, 3, 4, 5, 6, 7, 8].as_slice());
+    assert_eq!(rt; header.prefix_len(), 8);
+    header.ltrim_by(3);
+    assert_eq!(rt; header.read_prefix(), [4, 5, 6, 7, 8].as_slice());
+    assert_eq!(rt; header.prefix_len(), 5);
+    header.ltrim_by(1);
+    assert_eq!(rt; header.read_prefix(), [5, 6, 7, 8].as_slice());
+    assert_eq!(rt; header.prefix_len(), 4);
+    header.ltrim_by(4);
+    assert!(rt; header.read_prefix().is_empty());
+    assert_eq!(rt; header.prefix_len(), 0);
+
+    // The bytes that are not stored come from the key of a leaf below.
+    let mut header = Header::<2>::new(b"abcd", 4);
+    header.ltrim_by_with_leaf(1, 1, b"xabcdz");
+    assert_eq!(rt; header.read_prefix(), b"bc".as_slice());
+    assert_eq!(rt; header.prefix_len(), 3);
+    let mut header = Header::<2>::new(b"abcd", 4);
+    header.ltrim_by_with_leaf(4, 1, b"xabcdz");
+    assert!(rt; header.read_prefix().is_empty());
+    assert_eq!(rt; header.prefix_len(), 0);
+}
+
+#[test]
+fn takes_more_prefix_and_gives_it_up(rt: HostRuntime) {
+    let mut header = Header::<2>::new(b"abcd", 4);
+    header.push_prefix(b"ef", 2);
+    assert_eq!(rt; header.read_prefix(), b"ab".as_slice());
+    assert_eq!(rt; header.prefix_len(), 6);
+    let (bytes, len, capped_len) = header.clear_prefix();
+    assert_eq!(rt; bytes.as_slice(), b"ab".as_slice());
+    assert_eq!(rt; (len, capped_len), (6, 2));
+    assert!(rt; header.read_prefix().is_empty());
+    assert_eq!(rt; header.prefix_len(), 0);
+    header.push_prefix(b"g", 1);
+    assert_eq!(rt; header.read_prefix(), b"g".as_slice());
+    assert_eq!(rt; header.prefix_len(), 1);
+}
