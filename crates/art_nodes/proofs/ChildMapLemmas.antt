@@ -1,9 +1,9 @@
 -- Child maps: what a write, a removal and a look-up do at the front and further on.
-use Rattle.std.proofs.Common.{◌≡◌, ℕ, suc, ◌+◌, ◌<◌, ◌≤◌, ◌≢◌, true, false, nat_eq, nat_lt, [], ◌∷◌, length, Some, None, refl, ap, subst, arith, filter, if◌then◌else◌, inl, inr, ◌⊎◌}
+use Rattle.std.proofs.Common.{◌≡◌, ℕ, zero, suc, ◌+◌, ◌<◌, ◌≤◌, ◌≢◌, true, false, nat_eq, nat_lt, List, [], ◌∷◌, length, get_or, Some, None, refl, ap, subst, arith, filter, if◌then◌else◌, inl, inr, ◌⊎◌}
 use Rattle.std.proofs.lemmas.Bool.{cases_lt}
 use Rattle.std.specs.Option.{is_some}
 use Rattle.std.proofs.lemmas.Bool.Decides.{nat_tests}
-use Rattle.art_nodes.specs.ChildMap.{ChildMap, IsAscendingFrom, child_at, with_child, without_child, key_bytes}
+use Rattle.art_nodes.specs.ChildMap.{ChildMap, IsAscending, IsAscendingFrom, child_at, with_child, without_child, key_bytes}
 
 -- the tests of two numbers, computed
 pub lt-true : (a b : ℕ) → a < b → nat_lt a b ≡ true
@@ -24,6 +24,24 @@ cases_eq a b = elim (cases_lt a b) [
   | inl below ↦ inr (λ e. omega arith)
   | inr from ↦ elim (cases_lt b a) [ inl above ↦ inr (λ e. omega arith) | inr upto ↦ inl (omega arith) ]
 ]
+
+-- each ascending byte is at least the least
+pub ascending-low : (low : ℕ) (bytes : List ℕ) → IsAscendingFrom low bytes → (k : ℕ) → k < length bytes → low ≤ get_or bytes k 0
+ascending-low low [] asc k below = absurd (omega arith)
+ascending-low low (b ∷ bytes) asc zero below = asc.0
+ascending-low low (b ∷ bytes) asc (suc k) below = omega (arith, asc.0, ascending-low (suc b) bytes asc.2 k (omega arith))
+
+-- of two places, the later has the greater byte
+pub ascending-rises : (low : ℕ) (bytes : List ℕ) → IsAscendingFrom low bytes → (i j : ℕ) → i < j → j < length bytes → get_or bytes i 0 < get_or bytes j 0
+ascending-rises low [] asc i j lt below = absurd (omega arith)
+ascending-rises low (b ∷ bytes) asc i zero lt below = absurd (omega arith)
+ascending-rises low (b ∷ bytes) asc zero (suc j) lt below = ascending-low (suc b) bytes asc.2 j (omega arith)
+ascending-rises low (b ∷ bytes) asc (suc i) (suc j) lt below = ascending-rises (suc b) bytes asc.2 i j (omega arith) (omega arith)
+
+-- there are at most as many as are left below 256
+pub ascending-length : (low : ℕ) (bytes : List ℕ) → low ≤ 256 → IsAscendingFrom low bytes → length bytes + low ≤ 256
+ascending-length low [] le asc = omega arith
+ascending-length low (b ∷ bytes) le asc = omega (arith, asc.0, ascending-length (suc b) bytes (omega (arith, asc.1)) asc.2)
 
 module _ {H : Type 0} where
   -- the children's bytes ascend from low on

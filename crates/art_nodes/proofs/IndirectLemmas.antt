@@ -1,58 +1,24 @@
 -- Indices of pointers: what a write and a removal do to the places that they name.
 use Rattle.std.proofs.Common.{◌≡◌, ℕ, zero, suc, ◌+◌, ◌-◌, ◌<◌, ◌≤◌, ◌≢◌, Bool, cond, List, [], ◌∷◌, ◌++◌, length, get_or, set, take, drop, map, Option, Some, None, IsNone, slice_get, nat_lt, eqb, eq-eqb, count_by, refl, sym, ◌∙◌, ap, subst, arith, if◌then◌else◌, inl, inr}
-use Rattle.std.specs.List.{remove, range_with_len}
+use Rattle.std.specs.List.{remove, swap_remove, range_with_len}
 use Rattle.std.specs.List.Sorted.{IsPermutation}
 use Rattle.std.proofs.lemmas.Bool.Decides.{nat_tests}
-use Rattle.std.proofs.lemmas.List.{ext_get_or, get_or-map, get_or-set_same, get_or-set_other, length-map, length-set, set-get_or, map-append, length-drop, length-take, get_or-drop, get_or-take}
+use Rattle.std.proofs.lemmas.List.{ext_get_or, get_or-map, get_or_default, get_or_append_left, length-append, get_or-set_same, get_or-set_other, length-map, length-set, set-get_or, map-append, length-drop, length-take, get_or-drop, get_or-take}
 use Rattle.std.proofs.lemmas.List.Sums.{sum_by-cons, sum_by-set, sum_by-remove}
 use Rattle.std.proofs.lemmas.List.Sorted.{IsPermutation-refl, IsPermutation-cons, IsPermutation-remove, IsPermutation-sym, IsPermutation-trans, IsPermutation-map, length_permutation}
 use Rattle.std.specs.Option.{option_map}
 use Rattle.std.proofs.lemmas.Option.{slice_get-get_or, slice_get-map, get_or_from_slice_get}
 use Rattle.std.proofs.lemmas.List.FromFn.{fill_by_all, length-range_with_len}
 use Rattle.std.proofs.lemmas.Bool.{cases_lt}
+use Rattle.std.proofs.Math.Seq.{get_or-append_seam}
 use Rattle.art_nodes.specs.ChildMap.{ChildMap, child_at, with_child, without_child, table_children}
 use Rattle.art_nodes.proofs.TableLemmas.{child_at-table, with_child-table, without_child-table}
-use Rattle.art_nodes.specs.IndirectNode.{named_pointer, named_pointers, has_index, lowered_above, AreBelow}
+use Rattle.art_header.specs.Header.{Header}
+use Rattle.art_nodes.specs.Inner.{IsInner, inner_with}
+use Rattle.art_nodes.specs.IndirectNode.{named_pointer, named_pointers, has_index, AreBelow, AreKept, IsIndirectNode}
+use Rattle.art_nodes.proofs.ListLemmas.{slice_get-set_same, slice_get-set_other, slice_get-push_before, slice_get-push_at, length-swap_remove, slice_get-swap_remove_at, slice_get-swap_remove_other, one_if, times, times-cons, times-range, permutation_from_times}
+use Rattle.art_nodes.proofs.ChildMapLaws.{sound_removed}
 use Rattle.art_nodes.proofs.ChildMapLemmas.{cases_eq, eq-false, lt-true, lt-false}
-
--- lists, by their optional elements
-module _ {H : Type 0} where
-  slice_get-set_same : (xs : List H) (i : ℕ) (x : H) → i < length xs → slice_get (set xs i x) i ≡ Some x
-  slice_get-set_same [] i x within = absurd (omega arith)
-  slice_get-set_same (y ∷ xs) zero x within = refl
-  slice_get-set_same (y ∷ xs) (suc i) x within = slice_get-set_same xs i x (omega arith)
-
-  slice_get-set_other : (xs : List H) (i j : ℕ) (x : H) → i ≢ j → slice_get (set xs i x) j ≡ slice_get xs j
-  slice_get-set_other [] i j x differs = refl
-  slice_get-set_other (y ∷ xs) zero zero x differs = absurd (differs refl)
-  slice_get-set_other (y ∷ xs) zero (suc j) x differs = refl
-  slice_get-set_other (y ∷ xs) (suc i) zero x differs = refl
-  slice_get-set_other (y ∷ xs) (suc i) (suc j) x differs = slice_get-set_other xs i j x (λ e. differs (ap suc e))
-
-  slice_get-push_before : (xs : List H) (j : ℕ) (x : H) → j < length xs → slice_get (xs ++ x ∷ []) j ≡ slice_get xs j
-  slice_get-push_before [] j x within = absurd (omega arith)
-  slice_get-push_before (y ∷ xs) zero x within = refl
-  slice_get-push_before (y ∷ xs) (suc j) x within = slice_get-push_before xs j x (omega arith)
-
-  pub slice_get-push_at : (xs : List H) (j : ℕ) (x : H) → j ≡ length xs → slice_get (xs ++ x ∷ []) j ≡ Some x
-  slice_get-push_at [] zero x at = refl
-  slice_get-push_at [] (suc j) x at = absurd (omega arith)
-  slice_get-push_at (y ∷ xs) zero x at = absurd (omega arith)
-  slice_get-push_at (y ∷ xs) (suc j) x at = slice_get-push_at xs j x (omega arith)
-
-  slice_get-remove_before : (xs : List H) (i j : ℕ) → j < i → slice_get (remove xs i) j ≡ slice_get xs j
-  slice_get-remove_before [] zero j before = refl
-  slice_get-remove_before [] (suc i) j before = refl
-  slice_get-remove_before (y ∷ xs) zero j before = absurd (omega arith)
-  slice_get-remove_before (y ∷ xs) (suc i) zero before = refl
-  slice_get-remove_before (y ∷ xs) (suc i) (suc j) before = slice_get-remove_before xs i j (omega arith)
-
-  slice_get-remove_after : (xs : List H) (i j : ℕ) → i ≤ j → slice_get (remove xs i) j ≡ slice_get xs (suc j)
-  slice_get-remove_after [] zero j after = refl
-  slice_get-remove_after [] (suc i) j after = refl
-  slice_get-remove_after (y ∷ xs) zero j after = refl
-  slice_get-remove_after (y ∷ xs) (suc i) zero after = absurd (omega arith)
-  slice_get-remove_after (y ∷ xs) (suc i) (suc j) after = slice_get-remove_after xs i j (omega arith)
 
 -- how many places have an index
 abbrev uses : ℕ → List (Option ℕ) → ℕ
@@ -66,9 +32,14 @@ counts index place = cond (has_index index place) 1 0
 abbrev pub IsNamedOnce : List (Option ℕ) → ℕ → Type 0
 IsNamedOnce indices n = (index : ℕ) → uses index indices ≡ (if nat_lt index n then 1 else 0)
 
--- 1 or 0, by a test
-abbrev one_if : Bool → ℕ
-one_if b = cond b 1 0
+-- the index, if there is one
+abbrev option_or : Option ℕ → ℕ → ℕ
+option_or None d = d
+option_or (Some index) d = index
+
+-- the indices where a pointer is taken out, and the last one, which this byte has, takes its place
+abbrev pub moved_to : List (Option ℕ) → ℕ → ℕ → ℕ → List (Option ℕ)
+moved_to indices place index last = set (set indices last (Some index)) place None
 
 counts-same : (index : ℕ) → counts index (Some index) ≡ 1
 counts-same index = ap one_if (eq-eqb index index refl)
@@ -157,109 +128,126 @@ module _ {H : Type 0} where
       others k below None is = refl
       others k below (Some other) is = slice_get-push_before pointers other child (bounded k other below (sym is))
 
-  -- a pointer taken out, its place emptied and the indices above it lowered
-  pub named-remove : (pointers : List H) (indices : List (Option ℕ)) (place index : ℕ) → IsNamedOnce indices (length pointers) → place < length indices → get_or indices place None ≡ Some index → named_pointers (remove pointers index) (map (lowered_above index) (set indices place None)) ≡ set (named_pointers pointers indices) place None
-  named-remove pointers indices place index once within filled =
-      let emptied = set indices place None in
-      let short : place < length emptied = simp length-set within in
-      let here = ap (named_pointer (remove pointers index)) (get_or-map (lowered_above index) emptied place None None short ∙ ap (lowered_above index) (get_or-set_same indices place None None within)) in
-      changed_at (named_pointer pointers) (named_pointer (remove pointers index)) indices (map (lowered_above index) emptied) place None (simp (length-map, length-set)) within here (λ k below differs.
-      let k_short : k < length emptied = simp length-set below in
-      ap (named_pointer (remove pointers index)) (get_or-map (lowered_above index) emptied k None None k_short ∙ ap (lowered_above index) (get_or-set_other indices place k None None differs)) ∙ others k below differs (get_or indices k None) refl)
+  -- a pointer taken out: the last one takes its place, under the byte that it had
+  pub named-moved : (pointers : List H) (indices : List (Option ℕ)) (place index last : ℕ) (d : H) → IsNamedOnce indices (length pointers) → place < length indices → last < length indices → get_or indices place None ≡ Some index → get_or indices last None ≡ Some (length pointers - 1) → named_pointers (swap_remove pointers index d) (moved_to indices place index last) ≡ set (named_pointers pointers indices) place None
+  named-moved pointers indices place index last d once within last_within filled last_filled =
+      let less = swap_remove pointers index d in
+      let lent = set indices last (Some index) in
+      let short : place < length lent = simp length-set within in
+      let here = ap (named_pointer less) (get_or-set_same lent place None None short) in
+      changed_at (named_pointer pointers) (named_pointer less) indices (moved_to indices place index last) place None (simp length-set) within here (λ k below differs.
+      ap (named_pointer less) (get_or-set_other lent place k None None differs) ∙ others k below differs)
     where
-      others : (k : ℕ) → k < length indices → k ≢ place → (x : Option ℕ) → x ≡ get_or indices k None → named_pointer (remove pointers index) (lowered_above index x) ≡ named_pointer pointers x
-      others k below differs None is = refl
-      others k below differs (Some other) is =
-          let apart : index ≢ other = λ same. named_apart indices (length pointers) place k index once within below differs filled (sym is ∙ ap Some (sym same)) in
-          elim (cases_lt index other) [
-            | inl above ↦
-                let at : suc (other - 1) ≡ other = omega arith in
-                ap (λ b. slice_get (remove pointers index) (if b then other - 1 else other)) (lt-true index other above) ∙ slice_get-remove_after pointers index (other - 1) (omega arith) ∙ ap (slice_get pointers) at
-            | inr upto ↦
-                ap (λ b. slice_get (remove pointers index) (if b then other - 1 else other)) (lt-false index other upto) ∙ slice_get-remove_before pointers index other (omega arith)
-          ]
+      stays : (k : ℕ) → k < length indices → k ≢ place → k ≢ last → (x : Option ℕ) → x ≡ get_or indices k None → named_pointer (swap_remove pointers index d) x ≡ named_pointer pointers x
+      stays k below differs apart None is = refl
+      stays k below differs apart (Some other) is =
+          let bound = named_within indices (length pointers) k other once below (sym is) in
+          let first : index ≢ other = λ same. named_apart indices (length pointers) place k index once within below differs filled (sym is ∙ ap Some (sym same)) in
+          let second : length pointers - 1 ≢ other = λ same. named_apart indices (length pointers) last k (length pointers - 1) once last_within below apart last_filled (sym is ∙ ap Some (sym same)) in
+          slice_get-swap_remove_other pointers index other d (omega (arith, bound, second)) first
+
+      others : (k : ℕ) → k < length indices → k ≢ place → named_pointer (swap_remove pointers index d) (get_or (set indices last (Some index)) k None) ≡ named_pointer pointers (get_or indices k None)
+      others k below differs = elim (cases_eq k last) [
+        | inl same ↦
+            let bound = named_within indices (length pointers) place index once within filled in
+            let first : length pointers - 1 ≢ index = λ e. named_apart indices (length pointers) place k index once within below differs filled (ap (λ n. get_or indices n None) same ∙ last_filled ∙ ap Some e) in
+            ap (λ n. named_pointer (swap_remove pointers index d) (get_or (set indices last (Some index)) n None)) same
+            ∙ ap (named_pointer (swap_remove pointers index d)) (get_or-set_same indices last (Some index) None last_within)
+            ∙ slice_get-swap_remove_at pointers index d (omega (arith, bound, first))
+            ∙ sym (ap (λ n. named_pointer pointers (get_or indices n None)) same ∙ ap (named_pointer pointers) last_filled)
+        | inr apart ↦
+            ap (named_pointer (swap_remove pointers index d)) (get_or-set_other indices last k (Some index) None apart)
+            ∙ stays k below differs apart (get_or indices k None) refl
+      ]
 
 uses-cons : (index : ℕ) (place : Option ℕ) (indices : List (Option ℕ)) → uses index (place ∷ indices) ≡ counts index place + uses index indices
 uses-cons index place indices = sum_by-cons (counts index) place indices
 
-counts-lowered : (taken index : ℕ) (place : Option ℕ) → counts taken place ≡ 0 → counts index (lowered_above taken place) ≡ counts (if nat_lt index taken then index else suc index) place
-counts-lowered taken index None gone = refl
-counts-lowered taken index (Some other) gone = grind (arith, nat_tests)
+-- an index and its pointer taken out: the last pointer has that index now
+pub named_once-moved : (indices : List (Option ℕ)) (n place index last : ℕ) → IsNamedOnce indices n → place < length indices → last < length indices → get_or indices place None ≡ Some index → get_or indices last None ≡ Some (n - 1) → IsNamedOnce (moved_to indices place index last) (n - 1)
+named_once-moved indices n place index last once within last_within filled last_filled = λ other.
+    let lent = set indices last (Some index) in
+    let bound = named_within indices n place index once within filled in
+    let still : get_or lent place None ≡ Some index = elim (cases_eq place last) [
+      | inl same ↦ ap (λ k. get_or lent k None) same ∙ get_or-set_same indices last (Some index) None last_within
+      | inr apart ↦ get_or-set_other indices last place (Some index) None apart ∙ filled
+    ] in
+    let first = uses-set other indices last (Some index) last_within in
+    let second = uses-set other lent place None (simp length-set within) in
+    let from = ap (counts other) last_filled in
+    let to = ap (counts other) still in
+    let all = once other in
+    grind (arith, nat_tests, first, second, from, to, all, bound)
 
-uses-lowered : (taken index : ℕ) (indices : List (Option ℕ)) → uses taken indices ≡ 0 → uses index (map (lowered_above taken) indices) ≡ uses (if nat_lt index taken then index else suc index) indices
-uses-lowered taken index [] gone = refl
-uses-lowered taken index (place ∷ indices) gone =
-    let split = sym (uses-cons taken place indices) ∙ gone in
-    let here = counts-lowered taken index place (omega (arith, split)) in
-    let rest = uses-lowered taken index indices (omega (arith, split)) in
-    uses-cons index (lowered_above taken place) (map (lowered_above taken) indices)
-    ∙ ap (λ n. n + uses index (map (lowered_above taken) indices)) here ∙ ap (λ n. counts (if nat_lt index taken then index else suc index) place + n) rest
-    ∙ sym (uses-cons (if nat_lt index taken then index else suc index) place indices)
+-- a place that has an index is there
+filled_within : (indices : List (Option ℕ)) (place index : ℕ) → get_or indices place None ≡ Some index → place < length indices
+filled_within [] place index filled = cc
+filled_within (x ∷ indices) zero index filled = omega arith
+filled_within (x ∷ indices) (suc place) index filled = omega (arith, filled_within indices place index filled)
 
--- an index and its pointer taken out
-pub named_once-remove : (indices : List (Option ℕ)) (n place taken : ℕ) → IsNamedOnce indices n → place < length indices → get_or indices place None ≡ Some taken → IsNamedOnce (map (lowered_above taken) (set indices place None)) (n - 1)
-named_once-remove indices n place taken once within filled = λ index.
-    let emptied = set indices place None in
-    let below = named_within indices n place taken once within filled in
-    let counted : counts taken (get_or indices place None) ≡ 1 = ap (counts taken) filled ∙ counts-same taken in
-    let gone : uses taken emptied ≡ 0 = let change = uses-set taken indices place None within in let all = once taken in grind (arith, nat_tests, change, counted, all) in
-    uses-lowered taken index emptied gone ∙ elim (cases_lt index taken) [
-      | inl before ↦
-          let stays : counts index (get_or indices place None) ≡ 0 = ap (counts index) filled ∙ counts-other index taken (λ same. omega arith) in
-          let change = uses-set index indices place None within in
-          let all = once index in
-          ap (λ b. uses (if b then index else suc index) emptied) (lt-true index taken before) ∙ grind (arith, nat_tests, change, stays, all)
-      | inr from ↦
-          let stays : counts (suc index) (get_or indices place None) ≡ 0 = ap (counts (suc index)) filled ∙ counts-other (suc index) taken (λ same. omega arith) in
-          let change = uses-set (suc index) indices place None within in
-          let all = once (suc index) in
-          ap (λ b. uses (if b then index else suc index) emptied) (lt-false index taken from) ∙ grind (arith, nat_tests, change, stays, all)
+-- the byte of the last pointer has the last index
+pub kept-last : (indices : List (Option ℕ)) (bytes : List ℕ) → 0 < length bytes → AreKept indices bytes → get_or indices (get_or bytes (length bytes - 1) 0) None ≡ Some (length bytes - 1)
+kept-last indices bytes some kept = kept (length bytes - 1) (omega arith)
+
+-- the bytes beside the pointers are moved with them
+pub kept-moved : (indices : List (Option ℕ)) (bytes : List ℕ) (place index d : ℕ) → AreKept indices bytes → place < length indices → index < length bytes → get_or indices place None ≡ Some index → AreKept (moved_to indices place index (get_or bytes (length bytes - 1) 0)) (swap_remove bytes index d)
+kept-moved indices bytes place index d kept within bound filled = λ other below.
+    let last = get_or bytes (length bytes - 1) 0 in
+    let over = set bytes index (get_or bytes (length bytes - 1) d) in
+    let last_filled = kept-last indices bytes (omega arith) kept in
+    let last_within = filled_within indices last (length bytes - 1) last_filled in
+    let short : other < length bytes - 1 = omega (arith, below, length-take (length bytes - 1) over, length-set {A = ℕ}) in
+    let lent = set indices last (Some index) in
+    let byte : get_or (swap_remove bytes index d) other 0 ≡ get_or over other 0 = get_or-take (length bytes - 1) over other 0 short in
+    elim (cases_eq index other) [
+      | inl same ↦
+          let moved : get_or over other 0 ≡ last = ap (λ k. get_or over k 0) (sym same) ∙ get_or-set_same bytes index (get_or bytes (length bytes - 1) d) 0 bound ∙ get_or_default bytes (length bytes - 1) d 0 (omega arith) in
+          let apart : last ≢ place = λ e.
+          let ends : Some (length bytes - 1) ≡ Some index = sym last_filled ∙ ap (λ k. get_or indices k None) e ∙ filled in
+          let is : length bytes - 1 ≡ index = ap (λ o. option_or o 0) ends in
+          omega arith in
+          ap (λ k. get_or (set lent place None) k None) (byte ∙ moved)
+          ∙ get_or-set_other lent place last None None apart
+          ∙ get_or-set_same indices last (Some index) None last_within
+          ∙ ap Some same
+      | inr differs ↦
+          let b = get_or bytes other 0 in
+          let stays : get_or over other 0 ≡ b = get_or-set_other bytes index other (get_or bytes (length bytes - 1) d) 0 (λ e. differs (sym e)) in
+          let had : get_or indices b None ≡ Some other = kept other (omega arith) in
+          let apart : b ≢ place = λ e. differs (ap (λ o. option_or o 0) (sym filled ∙ ap (λ k. get_or indices k None) (sym e) ∙ had)) in
+          let before : b ≢ last = λ e.
+          let is : length bytes - 1 ≡ other = ap (λ o. option_or o 0) (sym last_filled ∙ ap (λ k. get_or indices k None) (sym e) ∙ had) in
+          omega arith in
+          ap (λ k. get_or (set lent place None) k None) (byte ∙ stays)
+          ∙ get_or-set_other lent place b None None apart
+          ∙ get_or-set_other indices last b (Some index) None before
+          ∙ had
     ]
+
+-- and a byte put behind the others has the next index
+pub kept-push : (indices : List (Option ℕ)) (bytes : List ℕ) (place : ℕ) → AreKept indices bytes → place < length indices → get_or indices place None ≡ None → AreKept (set indices place (Some (length bytes))) (bytes ++ place ∷ [])
+kept-push indices bytes place kept within empty = λ other below. elim (cases_lt other (length bytes)) [
+  | inl before ↦
+      let b = get_or bytes other 0 in
+      let had : get_or indices b None ≡ Some other = kept other before in
+      let apart : b ≢ place = λ e. let wrong : Some other ≡ None = sym had ∙ ap (λ k. get_or indices k None) e ∙ empty in absurd (cc) in
+      ap (λ k. get_or (set indices place (Some (length bytes))) k None) (get_or_append_left bytes (place ∷ []) 0 other before)
+      ∙ get_or-set_other indices place b (Some (length bytes)) None apart ∙ had
+  | inr from ↦
+      let at : length bytes ≡ other = omega (arith, below, length-append bytes (place ∷ [])) in
+      ap (λ k. get_or (set indices place (Some (length bytes))) (get_or (bytes ++ place ∷ []) k 0) None) (sym at)
+      ∙ ap (λ k. get_or (set indices place (Some (length bytes))) k None) (get_or-append_seam bytes place [] 0)
+      ∙ get_or-set_same indices place (Some (length bytes)) None within ∙ ap Some at
+]
 
 -- the indices in use, by their bytes
 abbrev used : ℕ → List (Option ℕ) → List ℕ
 used first indices = map (λ p. p.1) (table_children first indices)
 
--- how often a number is in a list
-abbrev times : ℕ → List ℕ → ℕ
-times q xs = count_by (λ j. eqb j q) xs
-
-times-cons : (q x : ℕ) (xs : List ℕ) → times q (x ∷ xs) ≡ cond (eqb x q) 1 0 + times q xs
-times-cons q x xs = sum_by-cons (λ j. cond (eqb j q) 1 0) x xs
-
 times-used : (first q : ℕ) (indices : List (Option ℕ)) → times q (used first indices) ≡ uses q indices
 times-used first q [] = refl
 times-used first q (None ∷ indices) = omega (arith, times-used (suc first) q indices, uses-cons q None indices)
 times-used first q (Some index ∷ indices) = times-cons q index (used (suc first) indices) ∙ ap (λ n. cond (eqb index q) 1 0 + n) (times-used (suc first) q indices) ∙ sym (uses-cons q (Some index) indices)
-
-times-range : (a n q : ℕ) → times q (range_with_len a n) ≡ (if nat_lt q a then 0 else (if nat_lt q (a + n) then 1 else 0))
-times-range a zero q = grind (arith, nat_tests)
-times-range a (suc n) q = let rest = times-range (a + 1) n q in times-cons q a (range_with_len (a + 1) n) ∙ grind (arith, nat_tests, rest)
-
--- a number that is in a list has a place there
-place_from_times : (x : ℕ) (ys : List ℕ) → 0 < times x ys → (i : ℕ) × (i < length ys) × (x ≡ get_or ys i x)
-place_from_times x [] some = absurd (omega arith)
-place_from_times x (y ∷ ys) some = elim (cases_eq y x) [
-  | inl same ↦ (0, omega arith, sym same)
-  | inr differs ↦
-      let later : 0 < times x ys = omega (arith, times-cons x y ys, ap one_if (eq-false y x differs)) in
-      let found = place_from_times x ys later in
-      (suc found.0, omega (arith, found.1), found.2)
-]
-
--- lists that have each number as often are one in another order
-permutation_from_times : (xs ys : List ℕ) → ((q : ℕ) → times q xs ≡ times q ys) → IsPermutation xs ys
-permutation_from_times [] [] same = IsPermutation-refl []
-permutation_from_times [] (y ∷ ys) same = absurd (omega (arith, same y, times-cons y y ys, ap one_if (eq-eqb y y refl)))
-permutation_from_times (x ∷ xs) ys same =
-    let some : 0 < times x ys = omega (arith, same x, times-cons x x xs, ap one_if (eq-eqb x x refl)) in
-    let found = place_from_times x ys some in
-    let moved = IsPermutation-remove ys found.0 x found.1 found.2 in
-    let rest = permutation_from_times xs (remove ys found.0) (λ q.
-    let removed = sum_by-remove (λ j. cond (eqb j q) 1 0) ys found.0 x found.1 in
-    let at = ap (λ j. one_if (eqb j q)) found.2 in
-    omega (arith, same q, times-cons q x xs, removed, at)) in
-    IsPermutation-trans (x ∷ xs) (x ∷ remove ys found.0) ys (IsPermutation-cons x xs (remove ys found.0) rest) (IsPermutation-sym ys (x ∷ remove ys found.0) moved)
 
 used_permutation : (indices : List (Option ℕ)) (n : ℕ) → IsNamedOnce indices n → IsPermutation (used 0 indices) (range_with_len 0 n)
 used_permutation indices n once = permutation_from_times (used 0 indices) (range_with_len 0 n) (λ q. let named = once q in let ranged = times-range 0 n q in times-used 0 q indices ∙ grind (arith, nat_tests, named, ranged))
@@ -380,10 +368,10 @@ module _ {H : Type 0} (pointers : List H) (indices : List (Option ℕ)) (byte pl
       ∙ ap (table_children 0) (sym (named-push pointers indices place child (below_from_once indices (length pointers) once) within))
 
   -- a pointer taken out with its index takes out the byte
-  pub without_child-named : (index : ℕ) → IsNamedOnce indices (length pointers) → get_or indices place None ≡ Some index → without_child (table_children 0 (named_pointers pointers indices)) byte ≡ table_children 0 (named_pointers (remove pointers index) (map (lowered_above index) (set indices place None)))
-  without_child-named index once filled =
+  pub without_child-moved : (index last : ℕ) (d : H) → IsNamedOnce indices (length pointers) → last < length indices → get_or indices place None ≡ Some index → get_or indices last None ≡ Some (length pointers - 1) → without_child (table_children 0 (named_pointers pointers indices)) byte ≡ table_children 0 (named_pointers (swap_remove pointers index d) (moved_to indices place index last))
+  without_child-moved index last d once last_within filled last_filled =
       without_child-table 0 (named_pointers pointers indices) byte place at named_fits
-      ∙ ap (table_children 0) (sym (named-remove pointers indices place index once within filled))
+      ∙ ap (table_children 0) (sym (named-moved pointers indices place index last d once within last_within filled last_filled))
 
   -- a byte with no index is not there
   pub without_child-unnamed : get_or indices place None ≡ None → without_child (table_children 0 (named_pointers pointers indices)) byte ≡ table_children 0 (named_pointers pointers indices)
@@ -398,3 +386,53 @@ module _ {H : Type 0} (pointers : List H) (indices : List (Option ℕ)) (byte pl
       let absent = child_at-unnamed pointers indices byte place at within (omega arith) empty in
       let left = asks (rw absent refl) in
       omega (arith, left, length-named pointers indices once)
+
+-- the header counts the pointers
+pub pointers_counted : {H : Type 0} {prefix_room room : ℕ} {header : Header} {indices : List (Option ℕ)} {bytes : List ℕ} {pointers : List H} → IsIndirectNode prefix_room room header indices bytes pointers → header.count ≡ length pointers
+pointers_counted {indices = indices} {pointers = pointers} indirect = indirect.counted ∙ length-named pointers indices indirect.named_once
+
+-- fields that name each pointer once, and whose children are sound
+pub indirect_fields : {H : Type 0} (prefix_room room : ℕ) (header : Header) (indices : List (Option ℕ)) (bytes : List ℕ) (pointers : List H) → length indices ≡ 256 → header.count ≡ length pointers → length pointers ≤ room → IsNamedOnce indices (length pointers) → length bytes ≡ length pointers → AreKept indices bytes → IsInner prefix_room room (inner_with header (table_children 0 (named_pointers pointers indices))) → IsIndirectNode prefix_room room header indices bytes pointers
+indirect_fields prefix_room room header indices bytes pointers places counted fits once beside kept sound = record {
+  places = places;
+  counted = counted ∙ sym (length-named pointers indices once);
+  fits = fits;
+  named_once = once;
+  beside = beside;
+  kept = kept;
+  sound = sound;
+}
+
+-- a pointer taken out, and the last one moved into its place
+module _ {H : Type 0} {prefix_room room : ℕ} {header : Header} {indices : List (Option ℕ)} {bytes : List ℕ} {pointers : List H} (node : IsIndirectNode prefix_room room header indices bytes pointers) (byte place index : ℕ) (e : H) (at : byte ≡ 0 + place) (within : place < length indices) (filled : get_or indices place None ≡ Some index) where
+  abbrev last_byte : ℕ
+  last_byte = get_or bytes (length bytes - 1) 0
+
+  taken_within : index < length pointers
+  taken_within = named_within indices (length pointers) place index node.named_once within filled
+
+  last_index : get_or indices last_byte None ≡ Some (length bytes - 1)
+  last_index = kept-last indices bytes (omega (arith, taken_within, node.beside)) node.kept
+
+  last_filled : get_or indices last_byte None ≡ Some (length pointers - 1)
+  last_filled = last_index ∙ ap (λ n. Some (n - 1)) node.beside
+
+  last_within : last_byte < length indices
+  last_within = filled_within indices last_byte (length bytes - 1) last_index
+
+  -- takes out the byte
+  pub without_child-last : without_child (table_children 0 (named_pointers pointers indices)) byte ≡ table_children 0 (named_pointers (swap_remove pointers index e) (moved_to indices place index last_byte))
+  without_child-last = without_child-moved pointers indices byte place at node.places within index last_byte e node.named_once last_within filled last_filled
+
+  -- and leaves fields of a node
+  pub indirect_removed : (d : ℕ) → IsIndirectNode prefix_room room (record header { count = header.count - 1 }) (moved_to indices place index last_byte) (swap_remove bytes index d) (swap_remove pointers index e)
+  indirect_removed d =
+      let fewer : length (swap_remove pointers index e) ≡ length pointers - 1 = length-swap_remove pointers index e in
+      indirect_fields prefix_room room (record header { count = header.count - 1 }) _ _ _
+      (simp length-set node.places)
+      (omega (arith, pointers_counted node, fewer))
+      (omega (arith, node.fits, fewer))
+      (subst (IsNamedOnce (moved_to indices place index last_byte)) (sym fewer) (named_once-moved indices (length pointers) place index last_byte node.named_once within last_within filled last_filled))
+      (omega (arith, node.beside, fewer, length-swap_remove bytes index d))
+      (kept-moved indices bytes place index d node.kept within (omega (arith, taken_within, node.beside)) filled)
+      (subst (λ cs. IsInner prefix_room room (inner_with header cs)) without_child-last (sound_removed prefix_room room (inner_with header (table_children 0 (named_pointers pointers indices))) byte node.sound))

@@ -9,7 +9,7 @@ use Rattle.art_header.specs.declared.node_type.NodeType.{NodeType}
 use Rattle.art_header.specs.declared.node_type.NodeType.TheVariants.{Node4, Node16, Node48, Node256, Leaf}
 use Rattle.art_nodes.specs.ChildMap.{ChildMap, IsAscending, key_bytes, child_at, with_child, without_child}
 use Rattle.art_nodes.proofs.ChildMapLemmas.{above-with_child, length-with_child, length-without_child}
-use Rattle.art_nodes.proofs.SortedLemmas.{ascending-length}
+use Rattle.art_nodes.proofs.ChildMapLemmas.{ascending-length}
 
 -- an inner node of this kind may have so many children
 pub record IsOfKind (kind : NodeType) (count : ℕ) : Type 0 where

@@ -1,11 +1,15 @@
-pub mod BuilderLemmas
-pub mod ChildMapLemmas
-pub mod ConversionLemmas
-pub mod IndirectLemmas
-pub mod KindLemmas
-pub mod SortedLemmas
-pub mod TableLemmas
-pub mod PairLemmas
-pub mod PrefixLemmas
-pub mod PushLemmas
-pub mod RangeLemmas
+mod BuilderLemmas
+pub mod ChildMapLaws
+mod ChildMapLemmas
+mod ConversionLemmas
+mod DirectLemmas
+mod IndirectLemmas
+mod ListLemmas
+pub mod KindLaws
+mod KindLemmas
+mod SortedLemmas
+mod TableLemmas
+mod PairLemmas
+mod PrefixLemmas
+mod PushLemmas
+mod RangeLemmas

@@ -8,7 +8,7 @@ use Rattle.art_nodes.specs.SortedNode.{IsSortedNode}
 use Rattle.art_nodes.specs.WritePoint.{IsGapFor}
 use Rattle.art_nodes.proofs.SortedLemmas.{key_bytes-zip, with_child-zip_insert, sorted-insert}
 
-module _ {H : Type 0} (room : ℕ) (header : Header) (bytes : List ℕ) (children : List H) (sorted : IsSortedNode room header bytes children) (byte : ℕ) (above : All (λ b. b < byte) (key_bytes (zip bytes children))) where
+module _ {H : Type 0} (prefix_room room : ℕ) (header : Header) (bytes : List ℕ) (children : List H) (sorted : IsSortedNode prefix_room room header bytes children) (byte : ℕ) (above : All (λ b. b < byte) (key_bytes (zip bytes children))) where
   -- it goes behind them
   gap_behind : IsGapFor bytes byte (length bytes)
   gap_behind =
@@ -33,8 +33,8 @@ module _ {H : Type 0} (room : ℕ) (header : Header) (bytes : List ℕ) (childre
       ∙ ap (λ cs. zip (bytes ++ byte ∷ []) cs) (children_pushed child)
 
   -- and the fields are sorted as before
-  pub sorted-push : (child : H) → byte < 256 → length bytes < room → (counted : Header) → counted.count ≡ header.count + 1 → IsSortedNode room counted (bytes ++ byte ∷ []) (children ++ child ∷ [])
+  pub sorted-push : (child : H) → byte < 256 → length bytes < room → (counted : Header) → counted ≡ record header { count = header.count + 1 } → IsSortedNode prefix_room room counted (bytes ++ byte ∷ []) (children ++ child ∷ [])
   sorted-push child fits below counted one_more =
-      let inserted = sorted-insert room header bytes children sorted byte (length bytes) gap_behind child fits below counted one_more in
-      subst (λ cs. IsSortedNode room counted (bytes ++ byte ∷ []) cs) (children_pushed child)
-      (subst (λ bs. IsSortedNode room counted bs (insert children (length bytes) child)) bytes_pushed inserted)
+      let inserted = sorted-insert prefix_room room header bytes children sorted byte (length bytes) gap_behind child fits below counted one_more in
+      subst (λ cs. IsSortedNode prefix_room room counted (bytes ++ byte ∷ []) cs) (children_pushed child)
+      (subst (λ bs. IsSortedNode prefix_room room counted bs (insert children (length bytes) child)) bytes_pushed inserted)

@@ -5,38 +5,17 @@ use Rattle.std.specs.List.Sorted.{IsSearchInRange, IsBinarySearchResult, IsNonDe
 use Rattle.std.specs.Ordering.{nat_cmp, ordering_index}
 use Rattle.std.proofs.lemmas.Cmp.{ranked}
 use Rattle.std.proofs.lemmas.List.Sorted.{IsNonDecreasingBy-from_default}
+use Rattle.std.proofs.lemmas.List.{length-set}
 use Rattle.std.proofs.lemmas.List.Edits.{length-insert, length-remove}
 use Rattle.std.proofs.lemmas.Bool.Decides.{nat_tests}
 use Rattle.std.proofs.lemmas.Grind.{common_steps}
 use Rattle.art_nodes.specs.ChildMap.{IsAscendingFrom, IsAscending, child_at, key_bytes, with_child, without_child}
 use Rattle.art_header.specs.Header.{Header}
-use Rattle.art_nodes.specs.Inner.{Inner, HasRoomFor}
+use Rattle.art_nodes.specs.Inner.{Inner, HasRoomFor, IsInner, inner_with}
 use Rattle.art_nodes.specs.SortedNode.{IsSortedNode}
 use Rattle.art_nodes.specs.WritePoint.{IsByteAt, IsGapFor}
-use Rattle.art_nodes.proofs.ChildMapLemmas.{IsAbove, with_child-front, with_child-same, with_child-later, child_at-front, child_at-same, child_at-later, without_child-front, without_child-same, without_child-later}
-
--- each ascending byte is at least the least
-pub ascending-low : (low : ℕ) (bytes : List ℕ) → IsAscendingFrom low bytes → (k : ℕ) → k < length bytes → low ≤ get_or bytes k 0
-ascending-low low [] asc k below = absurd (omega arith)
-ascending-low low (b ∷ bytes) asc zero below = asc.0
-ascending-low low (b ∷ bytes) asc (suc k) below = omega (arith, asc.0, ascending-low (suc b) bytes asc.2 k (omega arith))
-
--- of two places, the later has the greater byte
-pub ascending-rises : (low : ℕ) (bytes : List ℕ) → IsAscendingFrom low bytes → (i j : ℕ) → i < j → j < length bytes → get_or bytes i 0 < get_or bytes j 0
-ascending-rises low [] asc i j lt below = absurd (omega arith)
-ascending-rises low (b ∷ bytes) asc i zero lt below = absurd (omega arith)
-ascending-rises low (b ∷ bytes) asc zero (suc j) lt below = ascending-low (suc b) bytes asc.2 j (omega arith)
-ascending-rises low (b ∷ bytes) asc (suc i) (suc j) lt below = ascending-rises (suc b) bytes asc.2 i j (omega arith) (omega arith)
-
--- there are at most as many as are left below 256
-pub ascending-length : (low : ℕ) (bytes : List ℕ) → low ≤ 256 → IsAscendingFrom low bytes → length bytes + low ≤ 256
-ascending-length low [] le asc = omega arith
-ascending-length low (b ∷ bytes) le asc = omega (arith, asc.0, ascending-length (suc b) bytes (omega (arith, asc.1)) asc.2)
-
--- a lower bound may be lowered
-pub ascending-lower : (low lower : ℕ) (bytes : List ℕ) → lower ≤ low → IsAscendingFrom low bytes → IsAscendingFrom lower bytes
-ascending-lower low lower [] le asc = tt
-ascending-lower low lower (b ∷ bytes) le asc = (omega (arith, asc.0), asc.1, asc.2)
+use Rattle.art_nodes.proofs.ChildMapLaws.{sound_written, sound_removed}
+use Rattle.art_nodes.proofs.ChildMapLemmas.{IsAbove, ascending-low, ascending-rises, ascending-length, with_child-front, with_child-same, with_child-later, child_at-front, child_at-same, child_at-later, without_child-front, without_child-same, without_child-later}
 
 module _ (bytes : List ℕ) (asc : IsAscending bytes) (byte : ℕ) where
   comparisons_rise : IsNonDecreasingBy (λ b. ordering_index (nat_cmp b byte)) bytes
@@ -160,26 +139,26 @@ module _ {H : Type 0} where
       let smaller : b < byte = gap.smaller_before 0 (omega arith) in
       rw (with_child-later b byte x (zip bytes children) child smaller) (ap (λ rest. (b, x) ∷ rest) (with_child-zip_insert (suc b) bytes children byte place child (omega arith) asc.2 (gap_rest b bytes byte place gap)))
 
--- a byte put into its gap keeps the order
-pub ascending-insert : (low : ℕ) (bytes : List ℕ) (byte place : ℕ) → low ≤ byte → byte < 256 → IsAscendingFrom low bytes → IsGapFor bytes byte place → IsAscendingFrom low (insert bytes place byte)
-ascending-insert low bytes byte zero le fits asc gap = ascending-insert_front low bytes byte le fits asc gap
-  where
-    ascending-insert_front : (low : ℕ) (bytes : List ℕ) (byte : ℕ) → low ≤ byte → byte < 256 → IsAscendingFrom low bytes → IsGapFor bytes byte zero → IsAscendingFrom low (byte ∷ bytes)
-    ascending-insert_front low [] byte le fits asc gap = (le, fits, tt)
-    ascending-insert_front low (b ∷ bytes) byte le fits asc gap = (le, fits, (gap.greater_after 0 (omega arith) (omega arith), asc.1, asc.2))
-ascending-insert low [] byte (suc place) le fits asc gap = absurd (omega (arith, gap.in_range))
-ascending-insert low (b ∷ bytes) byte (suc place) le fits asc gap =
-    let smaller : b < byte = gap.smaller_before 0 (omega arith) in
-    (asc.0, asc.1, ascending-insert (suc b) bytes byte place (omega arith) fits asc.2 (gap_rest b bytes byte place gap))
+module _ {H : Type 0} {prefix_room room : ℕ} {header : Header} {bytes : List ℕ} {children : List H} (sorted : IsSortedNode prefix_room room header bytes children) where
+  pub bytes_counted : header.count ≡ length bytes
+  bytes_counted = sorted.counted ∙ length-zip bytes children sorted.beside
 
--- and so does taking one out
-pub ascending-remove : (low : ℕ) (bytes : List ℕ) (place : ℕ) → IsAscendingFrom low bytes → IsAscendingFrom low (remove bytes place)
-ascending-remove low [] zero asc = tt
-ascending-remove low [] (suc place) asc = tt
-ascending-remove low (b ∷ bytes) zero asc = ascending-lower (suc b) low bytes (omega (arith, asc.0)) asc.2
-ascending-remove low (b ∷ bytes) (suc place) asc = (asc.0, asc.1, ascending-remove (suc b) bytes place asc.2)
+  pub bytes_fit : length bytes ≤ room
+  bytes_fit = omega (arith, sorted.sound.fits, length-zip bytes children sorted.beside)
 
-module _ {H : Type 0} (room : ℕ) (header : Header) (bytes : List ℕ) (children : List H) (sorted : IsSortedNode room header bytes children) (byte place : ℕ) (gap : IsGapFor bytes byte place) where
+  pub count_fits : header.count ≤ 256
+  count_fits = omega (arith, bytes_counted, ascending-length 0 bytes (omega arith) sorted.ascending)
+
+-- fields with as many children as bytes, whose pairs are sound
+fields_sorted : {H : Type 0} (prefix_room room : ℕ) (header : Header) (bytes : List ℕ) (children : List H) → header.count ≡ length bytes → length children ≡ length bytes → IsInner prefix_room room (inner_with header (zip bytes children)) → IsSortedNode prefix_room room header bytes children
+fields_sorted prefix_room room header bytes children counted beside sound = record {
+  ascending = subst IsAscending (key_bytes-zip bytes children beside) sound.ascending;
+  beside = beside;
+  counted = counted ∙ sym (length-zip bytes children beside);
+  sound = sound;
+}
+
+module _ {H : Type 0} (prefix_room room : ℕ) (header : Header) (bytes : List ℕ) (children : List H) (sorted : IsSortedNode prefix_room room header bytes children) (byte place : ℕ) (gap : IsGapFor bytes byte place) where
   -- a node that has room for a new byte is not full
   pub not_full : (node : Inner H) → zip bytes children ≡ node.children → HasRoomFor room node byte → length bytes < room
   not_full node view_is has_room =
@@ -188,20 +167,23 @@ module _ {H : Type 0} (room : ℕ) (header : Header) (bytes : List ℕ) (childre
       omega (arith, below, ap length view_is, length-zip bytes children sorted.beside)
 
   -- the fields after byte and child were put into the gap
-  pub sorted-insert : (child : H) → byte < 256 → length bytes < room → (counted : Header) → counted.count ≡ header.count + 1 → IsSortedNode room counted (insert bytes place byte) (insert children place child)
-  sorted-insert child fits below counted one_more = record {
-    counted = omega (arith, one_more, sorted.counted, length-insert bytes place byte gap.in_range);
-    beside = omega (arith, sorted.beside, length-insert bytes place byte gap.in_range, length-insert children place child (omega (arith, gap.in_range, sorted.beside)));
-    fits = omega (arith, length-insert bytes place byte gap.in_range);
-    ascending = ascending-insert 0 bytes byte place (omega arith) fits sorted.ascending gap;
-  }
+  pub sorted-insert : (child : H) → byte < 256 → length bytes < room → (counted : Header) → counted ≡ record header { count = header.count + 1 } → IsSortedNode prefix_room room counted (insert bytes place byte) (insert children place child)
+  sorted-insert child fits below counted one_more =
+      let longer = length-insert bytes place byte gap.in_range in
+      let node : Inner H = inner_with header (zip bytes children) in
+      let sound = subst (λ cs. IsInner prefix_room room (inner_with header cs)) (with_child-zip_insert 0 bytes children byte place child sorted.beside sorted.ascending gap) (sound_written prefix_room room node byte child sorted.sound fits (λ _. omega (arith, below, length-zip bytes children sorted.beside))) in
+      rw one_more (fields_sorted prefix_room room (record header { count = header.count + 1 }) (insert bytes place byte) (insert children place child) (omega (arith, bytes_counted sorted, longer)) (omega (arith, sorted.beside, longer, length-insert children place child (omega (arith, gap.in_range, sorted.beside)))) sound)
 
-module _ {H : Type 0} (room : ℕ) (header : Header) (bytes : List ℕ) (children : List H) (sorted : IsSortedNode room header bytes children) (place : ℕ) (in_range : place < length bytes) where
-  -- the fields after byte and child were taken out of a place
-  pub sorted-remove : (counted : Header) → counted.count ≡ header.count - 1 → IsSortedNode room counted (remove bytes place) (remove children place)
-  sorted-remove counted one_less = record {
-    counted = omega (arith, one_less, sorted.counted, length-remove bytes place in_range);
-    beside = omega (arith, sorted.beside, length-remove bytes place in_range, length-remove children place (omega (arith, in_range, sorted.beside)));
-    fits = omega (arith, sorted.fits, length-remove bytes place in_range);
-    ascending = ascending-remove 0 bytes place sorted.ascending;
-  }
+module _ {H : Type 0} (prefix_room room : ℕ) (header : Header) (bytes : List ℕ) (children : List H) (sorted : IsSortedNode prefix_room room header bytes children) (byte place : ℕ) (at : IsByteAt bytes byte place) where
+  -- the fields after the child at the byte's place was written over
+  pub sorted-set : (child : H) → byte < 256 → HasRoomFor room (inner_with header (zip bytes children)) byte → IsSortedNode prefix_room room header bytes (set children place child)
+  sorted-set child fits has_room =
+      let sound = subst (λ cs. IsInner prefix_room room (inner_with header cs)) (with_child-zip_set 0 bytes children byte place child sorted.beside sorted.ascending at) (sound_written prefix_room room (inner_with header (zip bytes children)) byte child sorted.sound fits has_room) in
+      fields_sorted prefix_room room header bytes (set children place child) (bytes_counted sorted) (simp length-set sorted.beside) sound
+
+  -- the fields after byte and child were taken out of their place
+  pub sorted-remove : (counted : Header) → counted ≡ record header { count = header.count - 1 } → IsSortedNode prefix_room room counted (remove bytes place) (remove children place)
+  sorted-remove counted one_less =
+      let shorter = length-remove bytes place at.in_range in
+      let sound = subst (λ cs. IsInner prefix_room room (inner_with header cs)) (without_child-zip_remove 0 bytes children byte place sorted.beside sorted.ascending at) (sound_removed prefix_room room (inner_with header (zip bytes children)) byte sorted.sound) in
+      rw one_less (fields_sorted prefix_room room (record header { count = header.count - 1 }) (remove bytes place) (remove children place) (omega (arith, bytes_counted sorted, shorter)) (omega (arith, sorted.beside, shorter, length-remove children place (omega (arith, at.in_range, sorted.beside)))) sound)

@@ -1,12 +1,12 @@
--- A node that moves between the kinds, as one inner node.
+-- A node that moves between the kinds, as one inner node. No public clause cites these words.
 use Rattle.std.specs.Prelude.{◌≡◌, ℕ, length}
 use Rattle.art_header.specs.NodeType.{kind_for}
 use Rattle.art_header.specs.declared.node_type.NodeType.{NodeType}
 use Rattle.art_header.specs.declared.node_type.NodeType.TheVariants.{Node4, Node16, Node48, Node256}
 use Rattle.art_nodes.specs.Inner.{Inner}
 use Rattle.art_nodes.specs.declared.pointers.OpaqueNodePtr.{OpaqueNodePtr}
-use Rattle.art_nodes.specs.declared.any_inner.AnyInner.{AnyInner}
-use Rattle.art_nodes.specs.declared.any_inner.AnyInner.TheVariants.{OfFour, OfSixteen, OfFortyEight, OfAll}
+use Rattle.art_nodes.specs.declared.commands.any_inner.AnyInner.{AnyInner}
+use Rattle.art_nodes.specs.declared.commands.any_inner.AnyInner.TheVariants.{OfFour, OfSixteen, OfFortyEight, OfAll}
 
 module _ {K V : Type 0} {P : ℕ} where
   -- the inner node, whichever kind keeps it

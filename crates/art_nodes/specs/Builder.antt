@@ -1,4 +1,4 @@
--- The children that a builder has written.
+-- The children that a builder has written. No public clause cites these words.
 use Rattle.std.specs.Prelude.{ℕ, length}
 use Rattle.art_nodes.specs.ChildMap.{ChildMap, IsAscending, key_bytes}
 

@@ -1,7 +1,7 @@
--- The pairs that an iterator over children has left.
+-- The pairs that an iterator over children has left. No public clause cites these words.
 use Rattle.art_nodes.specs.ChildMap.{ChildMap}
-use Rattle.art_nodes.specs.declared.child_iter.Source.{Source}
-use Rattle.art_nodes.specs.declared.child_iter.Source.TheVariants.{Sorted, Table, Indexed}
+use Rattle.art_nodes.specs.declared.iteration.child_iter.Source.{Source}
+use Rattle.art_nodes.specs.declared.iteration.child_iter.Source.TheVariants.{Sorted, Table, Indexed}
 
 module _ {H : Type 0} where
   -- the pairs left, whichever way the node keeps them

@@ -1,11 +1,11 @@
 -- Child commands as steps of a finite map.
 use Rattle.std.specs.Prelude.{ℕ, List, [], ◌∷◌, if◌then◌else◌}
-use Rattle.art_nodes.specs.ChildMap.{ChildMap, child_at, with_child, without_child, first_pair, last_pair, pairs_within, are_valid_bounds}
+use Rattle.art_nodes.specs.ChildMap.{ChildMap, child_at, with_child, without_child, first_pair, last_pair, pairs_within, are_valid_bounds, AreValidBounds}
 use Rattle.art_nodes.specs.declared.pointers.OpaqueNodePtr.{OpaqueNodePtr}
-use Rattle.art_nodes.specs.declared.command.ChildCommand.{ChildCommand}
-use Rattle.art_nodes.specs.declared.command.ChildCommand.TheVariants.{Write, Remove, Lookup, Min, Max, Range}
-use Rattle.art_nodes.specs.declared.command.ChildReply.{ChildReply}
-use Rattle.art_nodes.specs.declared.command.ChildReply.TheVariants.{Child, Pair, Pairs, InvalidBounds}
+use Rattle.art_nodes.specs.declared.commands.command.ChildCommand.{ChildCommand}
+use Rattle.art_nodes.specs.declared.commands.command.ChildCommand.TheVariants.{Write, Remove, Lookup, Min, Max, Range}
+use Rattle.art_nodes.specs.declared.commands.command.ChildReply.{ChildReply}
+use Rattle.art_nodes.specs.declared.commands.command.ChildReply.TheVariants.{Child, Pair, Pairs, InvalidBounds}
 
 module _ {K V : Type 0} {P : ℕ} where
   -- what a command is answered
@@ -19,7 +19,8 @@ module _ {K V : Type 0} {P : ℕ} where
       if are_valid_bounds start end then Pairs (pairs_within children start end) else InvalidBounds
 
   -- the children that a command leaves
-  abbrev pub child_map_after : ChildMap (OpaqueNodePtr K V P) → ChildCommand K V P → ChildMap (OpaqueNodePtr K V P)
+  abbrev pub child_map_after : ChildMap (OpaqueNodePtr K V P) → ChildCommand K V P →
+      ChildMap (OpaqueNodePtr K V P)
   child_map_after children (Write byte child) = with_child children byte child
   child_map_after children (Remove byte) = without_child children byte
   child_map_after children (Lookup byte) = children
@@ -28,13 +29,14 @@ module _ {K V : Type 0} {P : ℕ} where
   child_map_after children (Range start end) = children
 
   -- the replies to a list of commands, and the children that it leaves
-  abbrev pub run_of : ChildMap (OpaqueNodePtr K V P) → List (ChildCommand K V P) → List (ChildReply K V P) × ChildMap (OpaqueNodePtr K V P)
+  abbrev pub run_of : ChildMap (OpaqueNodePtr K V P) → List (ChildCommand K V P) →
+      List (ChildReply K V P) × ChildMap (OpaqueNodePtr K V P)
   run_of children [] = ([], children)
   run_of children (command ∷ commands) =
       let rest = run_of (child_map_after children command) commands in
       (reply_to children command ∷ rest.0, rest.1)
 
-  -- the command asks for a range
-  abbrev pub IsRange : ChildCommand K V P → Type 0
-  IsRange (Range start end) = Unit {0}
-  IsRange _ = ⊥
+  -- the command asks for pairs within valid bounds, whose list takes memory
+  abbrev pub TakesMemory : ChildCommand K V P → Type 0
+  TakesMemory (Range start end) = AreValidBounds start end
+  TakesMemory _ = ⊥

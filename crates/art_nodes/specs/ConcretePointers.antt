@@ -2,23 +2,14 @@
 use Rattle.std.specs.Prelude.{ℕ}
 use Rattle.art_header.specs.declared.node_type.NodeType.{NodeType}
 use Rattle.art_header.specs.declared.node_type.NodeType.TheVariants as kinds
-use Rattle.art_nodes.specs.Pointers.{slab_key, node_kind, opaque_key}
-use Rattle.art_nodes.specs.declared.pointers.NodePtr.{NodePtr}
+use Rattle.art_nodes.specs.Pointers.{slab_key, node_kind, opaque_key, opaque_pointer, pointer_to}
 use Rattle.art_nodes.specs.declared.pointers.OpaqueNodePtr.{OpaqueNodePtr}
-use Rattle.art_nodes.specs.declared.concrete.ConcreteNodePtr.{ConcreteNodePtr}
-use Rattle.art_nodes.specs.declared.concrete.ConcreteNodePtr.TheVariants.{Node4, Node16, Node48, Node256, LeafNode}
-use Rattle.art_nodes.specs.declared.concrete.ConcreteInnerNodePtr.{ConcreteInnerNodePtr}
-use Rattle.art_nodes.specs.declared.concrete.ConcreteInnerNodePtr.TheVariants as inner
-
--- the pointer to a node of one type under a slab key
-abbrev pub pointer_to : {P : ℕ} {N : Type 0} → ℕ → NodePtr P N
-pointer_to key = record { key = key; node = record {} }
+use Rattle.art_nodes.specs.declared.pointers.concrete.ConcreteNodePtr.{ConcreteNodePtr}
+use Rattle.art_nodes.specs.declared.pointers.concrete.ConcreteNodePtr.TheVariants.{Node4, Node16, Node48, Node256, LeafNode}
+use Rattle.art_nodes.specs.declared.pointers.concrete.ConcreteInnerNodePtr.{ConcreteInnerNodePtr}
+use Rattle.art_nodes.specs.declared.pointers.concrete.ConcreteInnerNodePtr.TheVariants as inner
 
 module _ {K V : Type 0} {P : ℕ} where
-  -- the pointer with this kind and slab key
-  abbrev pub opaque_pointer : NodeType → ℕ → OpaqueNodePtr K V P
-  opaque_pointer kind key = record { node_type = kind; key = key; leaf = record {} }
-
   -- the kind and slab key of a pointer by kind
   abbrev pub opaque_of : ConcreteNodePtr K V P → OpaqueNodePtr K V P
   opaque_of (Node4 pointer) = opaque_pointer kinds.Node4 (slab_key pointer)

@@ -1,8 +1,8 @@
 -- What contracts see of an inner node, whichever way it keeps its children.
-use Rattle.std.specs.Prelude.{ℕ, ◌≤◌, List, [], length, ◌<◌, min, IsNone}
+use Rattle.std.specs.Prelude.{◌≡◌, ℕ, ◌≤◌, List, [], length, ◌<◌, min, IsNone}
 use Rattle.std.specs.List.{zip}
-use Rattle.art_header.specs.Header.{Header}
-use Rattle.art_nodes.specs.ChildMap.{ChildMap, child_at, key_bytes, IsAscending}
+use Rattle.art_header.specs.Header.{Header, capped}
+use Rattle.art_nodes.specs.ChildMap.{ChildMap, child_at, with_child, without_child, key_bytes, IsAscending}
 
 -- the prefix's length and stored front, and the child map
 pub record Inner (H : Type 0) : Type 0 where
@@ -17,15 +17,29 @@ indirect_room places = min places 255
 module _ {H : Type 0} where
   -- the header, whose count is the size of the child map
   abbrev pub header_of : Inner H → Header
-  header_of node = record { count = length node.children; prefix_len = node.prefix_len; stored = node.stored }
+  header_of node =
+      record { count = length node.children; prefix_len = node.prefix_len; stored = node.stored }
+
+  -- a node with this header's prefix and these children
+  abbrev pub inner_with : Header → ChildMap H → Inner H
+  inner_with header children =
+      record { prefix_len = header.prefix_len; stored = header.stored; children = children }
 
   -- a node with this header's prefix and no children
   abbrev pub empty_inner : Header → Inner H
-  empty_inner header = record { prefix_len = header.prefix_len; stored = header.stored; children = [] }
+  empty_inner header = inner_with header []
 
   -- the node with other children
   abbrev pub with_children : Inner H → ChildMap H → Inner H
   with_children node others = record node { children = others }
+
+  -- the node with this child under the byte, and any other byte as before
+  abbrev pub node_with_child : Inner H → ℕ → H → Inner H
+  node_with_child node byte child = with_children node (with_child node.children byte child)
+
+  -- the node without the byte
+  abbrev pub node_without_child : Inner H → ℕ → Inner H
+  node_without_child node byte = with_children node (without_child node.children byte)
 
   -- the node with the prefix of a header
   abbrev pub with_prefix : Inner H → Header → Inner H
@@ -39,7 +53,8 @@ module _ {H : Type 0} where
   abbrev pub sorted_children : List ℕ → List H → ChildMap H
   sorted_children bytes children = zip bytes children
 
-  -- bytes ascend, and the children fit
-  pub record IsInner (room : ℕ) (node : Inner H) : Type 0 where
+  -- bytes ascend, the children fit, and of the prefix as much is stored as there is room for
+  pub record IsInner (prefix_room room : ℕ) (node : Inner H) : Type 0 where
     pub ascending : IsAscending (key_bytes node.children)
     pub fits : length node.children ≤ room
+    pub capped_front : length node.stored ≡ capped prefix_room node.prefix_len

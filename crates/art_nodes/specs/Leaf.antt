@@ -1,6 +1,8 @@
 -- What a leaf shows: its key, its value, and the slab keys of its neighbours.
 use Rattle.std.specs.Prelude.{ℕ, Option}
+use Rattle.std.specs.Borrow.{RattleType, MutBor, Fml, Lends}
 use Rattle.art_nodes.specs.declared.leaf_node.LeafNode.{LeafNode}
+use Rattle.art_nodes.specs.contracts.leaf_node.LeafNode.{the_row}
 
 module _ {K V : Type 0} {P : ℕ} where
   abbrev pub leaf_key : LeafNode K V P → K
@@ -14,3 +16,15 @@ module _ {K V : Type 0} {P : ℕ} where
 
   abbrev pub next_key : LeafNode K V P → Option ℕ
   next_key leaf = leaf.next
+
+  -- the leaf with another value
+  abbrev pub with_value : LeafNode K V P → V → LeafNode K V P
+  with_value leaf value = record leaf { value = value }
+
+  -- the leaf with other neighbours
+  abbrev pub with_links : LeafNode K V P → Option ℕ → Option ℕ → LeafNode K V P
+  with_links leaf previous next = record leaf { previous = previous; next = next }
+
+-- a leaf ends with the value that is left behind the reference
+abbrev pub LendsValue : (K V P : RattleType) → MutBor (the_row K V P).Denot → MutBor V.Denot → Fml
+LendsValue K V P leaf value = Lends (the_row K V P) V leaf value (with_value leaf.now)

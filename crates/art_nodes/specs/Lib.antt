@@ -1,6 +1,7 @@
 pub mod ChildMap
 pub mod AnyInner
 pub mod Commands
+pub mod DirectNode
 pub mod IndirectNode
 pub mod Inner
 pub mod Leaf

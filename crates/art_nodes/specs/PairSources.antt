@@ -1,4 +1,4 @@
--- Bounds on bytes as numbers, and the pairs between two numbers.
+-- Bounds on bytes as numbers, and the pairs between two numbers. No public clause cites these words.
 use Rattle.std.specs.Prelude.{◌+◌, ℕ, ◌&&◌, filter, nat_le, nat_lt}
 use Rattle.std.specs.declared.ops.Bound.{Bound}
 use Rattle.std.specs.declared.ops.Bound.TheVariants.{Included, Excluded, Unbounded}

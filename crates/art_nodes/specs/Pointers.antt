@@ -15,3 +15,11 @@ node_kind pointer = pointer.node_type
 -- its slab key
 abbrev pub opaque_key : {K V : Type 0} {P : ℕ} → OpaqueNodePtr K V P → ℕ
 opaque_key pointer = pointer.key
+
+-- the pointer to a node of one type under a slab key
+abbrev pub pointer_to : {P : ℕ} {N : Type 0} → ℕ → NodePtr P N
+pointer_to key = record { key = key; node = record {} }
+
+-- the pointer with this kind and slab key
+abbrev pub opaque_pointer : {K V : Type 0} {P : ℕ} → NodeType → ℕ → OpaqueNodePtr K V P
+opaque_pointer kind key = record { node_type = kind; key = key; leaf = record {} }

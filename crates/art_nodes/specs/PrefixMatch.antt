@@ -4,10 +4,10 @@ use Rattle.std.specs.List.{common_prefix_len}
 use Rattle.art_bytes.specs.Text.{IsFront}
 use Rattle.art_header.specs.Header.{Header}
 use Rattle.art_nodes.specs.Inner.{Inner, header_of}
-use Rattle.art_nodes.specs.declared.prefix_match.PrefixMatch.{PrefixMatch}
-use Rattle.art_nodes.specs.declared.prefix_match.OptimisticMismatch.{OptimisticMismatch}
-use Rattle.art_nodes.specs.declared.prefix_match.AttemptOptimisticPrefixMatch.{AttemptOptimisticPrefixMatch}
-use Rattle.art_nodes.specs.declared.prefix_match.PessimisticMismatch.{PessimisticMismatch}
+use Rattle.art_nodes.specs.declared.inner_nodes.prefix_match.PrefixMatch.{PrefixMatch}
+use Rattle.art_nodes.specs.declared.inner_nodes.prefix_match.OptimisticMismatch.{OptimisticMismatch}
+use Rattle.art_nodes.specs.declared.inner_nodes.prefix_match.AttemptOptimisticPrefixMatch.{AttemptOptimisticPrefixMatch}
+use Rattle.art_nodes.specs.declared.inner_nodes.prefix_match.PessimisticMismatch.{PessimisticMismatch}
 
 -- by lengths alone: the rest is at least as long as the prefix, or is too short
 abbrev pub optimistic_match : ℕ → List ℕ → Result PrefixMatch OptimisticMismatch

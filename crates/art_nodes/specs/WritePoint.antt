@@ -1,4 +1,4 @@
--- Where a byte stands among ascending bytes, or where it would go.
+-- Where a byte stands among ascending bytes, or where it would go. No public clause cites these words.
 use Rattle.std.specs.Prelude.{◌≡◌, ℕ, ◌<◌, ◌≤◌, List, length, slice_index}
 
 -- the byte stands at this place

@@ -1,8 +1,38 @@
 //! What the tests share.
+use crate::inner_nodes::node::InnerNodeCommon;
 use crate::leaf_node::LeafNode;
 use crate::pointers::{NodePtr, OpaqueNodePtr};
+use crate::sealed::InThisCrate;
+use std::process::Abort;
+
+pub(crate) type Pointer = OpaqueNodePtr<u8, u8, 16>;
 
 /// The pointer to the leaf under a slab key.
 pub(crate) fn leaf<const PREFIX_LEN: usize>(key: usize) -> OpaqueNodePtr<u8, u8, PREFIX_LEN> {
     NodePtr::<PREFIX_LEN, LeafNode<u8, u8, PREFIX_LEN>>::from_key(key).to_opaque()
+}
+
+/// Writes the leaf with this key under a new byte, which there has to be room for.
+pub(crate) fn write<N: InnerNodeCommon<u8, u8, 16>>(
+    rt: &impl Abort,
+    node: &mut N,
+    byte: u8,
+    key: usize,
+) {
+    assert!(rt; node.num_children() < node.capacity(), "no room for {byte}");
+    node.write_child(byte, leaf(key));
+}
+
+/// A node with this prefix, of at most 16 bytes, and the leaf beside each byte, written in this order.
+pub(crate) fn node_of<N: InnerNodeCommon<u8, u8, 16> + Drop>(
+    rt: &impl Abort,
+    prefix: &[u8],
+    pairs: &[(u8, usize)],
+) -> N {
+    assert!(rt; prefix.len() <= 16);
+    let mut node = N::from_prefix(InThisCrate(()), prefix, prefix.len());
+    for (byte, key) in pairs {
+        write(rt, &mut node, *byte, *key);
+    }
+    node
 }

@@ -1,14 +1,18 @@
 //! Leaves: a key, a value and two links.
-ghost use Rattle.std.specs.Prelude.{◌≡◌, None};
+ghost use Rattle.std.specs.Prelude.{◌≡◌, ◌↔◌, None, IsTrue, IsOk, IfOk};
 ghost use Rattle.std.specs.Option.{option_map};
+ghost use Rattle.std.specs.Borrow.{sem};
+ghost use Rattle.art_bytes.specs.Text.{IsFront, text_order};
 ghost use Rattle.art_nodes.specs.Pointers.{slab_key};
-ghost use Rattle.art_nodes.specs.Leaf.{leaf_key, leaf_value, previous_key, next_key};
+ghost use Rattle.art_nodes.specs.Leaf.{leaf_key, leaf_value, previous_key, next_key, with_links, LendsValue};
 
-use crate::node::Node;
+use crate::inner_nodes::node::Node;
 use crate::pointers::NodePtr;
-use crate::private::Sealed;
+use crate::sealed::Sealed;
+use art_bytes::AsBytes;
 use art_header::NodeType;
-use std::marker::PhantomData;
+use std::alloc::AllocError;
+use std::cmp::Ordering;
 
 /// A leaf: a key, a value, and the slab keys of the leaves before and after it in the list.
 #[derive(Drop)]
@@ -63,6 +67,106 @@ impl<K, V, const PREFIX_LEN: usize> LeafNode<K, V, PREFIX_LEN> {
         &self.value
     }
 
+    /// The value, to be written. The key and the links stay.
+    pub fn value_mut(&mut self) -> &mut V
+        ensures* writes_back { sem 𝓛 (LendsValue K.row V.row PREFIX_LEN.row self.entry result) }
+        ensures value { result.now ≡ leaf_value self.old }
+    {
+        &mut self.value
+    }
+
+    /// The key and the value.
+    pub fn entry_ref(&self) -> (&K, &V)
+        ensures key { result.0.now ≡ leaf_key self.now }
+        ensures value { result.1.now ≡ leaf_value self.now }
+    {
+        (&self.key, &self.value)
+    }
+
+    /// The key and the value, to be written. The links stay.
+    ///
+    /// Whoever changes the text of a key that a tree or a list holds keeps the tree well-formed
+    /// and the list in order.
+    pub fn entry_mut(&mut self) -> (&mut K, &mut V)
+        ensures key { result.0.now ≡ leaf_key self.old }
+        ensures value { result.1.now ≡ leaf_value self.old }
+    {
+        (&mut self.key, &mut self.value)
+    }
+
+    /// The key, and the value to be written. The key and the links stay.
+    pub fn key_ref_value_mut(&mut self) -> (&K, &mut V)
+        ensures* writes_back { sem 𝓛 (LendsValue K.row V.row PREFIX_LEN.row self.entry result.1) }
+        ensures key { result.0.now ≡ leaf_key self.old }
+        ensures value { result.1.now ≡ leaf_value self.old }
+    {
+        (&self.key, &mut self.value)
+    }
+
+    /// Takes the leaf apart into its key and its value.
+    pub fn into_entry(self) -> (K, V)
+        ensures key { result.0 ≡ leaf_key self }
+        ensures value { result.1 ≡ leaf_value self }
+    {
+        let LeafNode {
+            key,
+            value,
+            previous: _,
+            next: _,
+        } = self;
+        (key, value)
+    }
+
+    /// Whether the bytes of the key are just these.
+    pub fn matches_full_key(&self, possible_key: &[u8]) -> bool
+    where
+        K: AsBytes,
+        ensures { IsTrue result ↔ (K.text (leaf_key self.now) ≡ possible_key.now) }
+    {
+        self.key.as_bytes() == possible_key
+    }
+
+    /// How the bytes of the key compare with these: the first byte that differs decides, and else
+    /// the shorter text is less.
+    pub fn compare_full_key(&self, possible_key: &[u8]) -> Ordering
+    where
+        K: AsBytes,
+        ensures { result ≡ text_order (K.text (leaf_key self.now)) possible_key.now }
+    {
+        self.key.as_bytes().cmp(possible_key)
+    }
+
+    /// Whether the bytes of the key begin with these.
+    pub fn starts_with(&self, key: &[u8]) -> bool
+    where
+        K: AsBytes,
+        ensures { IsTrue result ↔ IsFront key.now (K.text (leaf_key self.now)) }
+    {
+        self.key.as_bytes().starts_with(key)
+    }
+
+    /// A leaf with clones of the key and of the value that no list holds. Where clones equal what
+    /// they are clones of, it is this leaf without its links.
+    ///
+    /// It takes the memory that the two clones take. Where there is none for one of them, nothing
+    /// is handed out.
+    pub fn clone_without_siblings(&self) -> Result<Self, AllocError>
+    where
+        K: Clone + Drop,
+        V: Clone,
+        ensures key { IfOk result (λ copy. K.is_clone (leaf_key self.now) (leaf_key copy)) }
+        ensures value { IfOk result (λ copy. V.is_clone (leaf_value self.now) (leaf_value copy)) }
+        ensures unlinked { IfOk result (λ copy. copy ≡ with_links copy None None) }
+        ensures equal { ((key : K) → K.is_clone (leaf_key self.now) key → key ≡ leaf_key self.now) →
+            ((value : V) → V.is_clone (leaf_value self.now) value → value ≡ leaf_value self.now) →
+            IfOk result (λ copy. copy ≡ with_links self.now None None) }
+        ensures takes_no_memory { K.is_infallible (leaf_key self.now) → V.is_infallible (leaf_value self.now) → IsOk result }
+    {
+        let key = self.key.clone()?;
+        let value = self.value.clone()?;
+        Ok(LeafNode::with_no_siblings(key, value))
+    }
+
     /// The leaf before this one in its list, if there is one.
     pub fn previous(&self) -> Option<NodePtr<PREFIX_LEN, Self>>
         ensures { option_map slab_key result ≡ previous_key self.now }
@@ -76,18 +180,27 @@ impl<K, V, const PREFIX_LEN: usize> LeafNode<K, V, PREFIX_LEN> {
     {
         Some(NodePtr::from_key(self.next?))
     }
+
+    /// Makes these leaves the neighbours of this one, `None` at an end of the list. The key and the
+    /// value stay, and no other leaf is changed.
+    pub fn set_links(
+        &mut self,
+        previous: Option<NodePtr<PREFIX_LEN, Self>>,
+        next: Option<NodePtr<PREFIX_LEN, Self>>,
+    )
+        ensures { self.new ≡ with_links self.old (option_map slab_key previous) (option_map slab_key next) }
+    {
+        self.previous = key_of(previous);
+        self.next = key_of(next);
+    }
+}
+
+/// The slab key that a link keeps.
+fn key_of<const PREFIX_LEN: usize, N>(leaf: Option<NodePtr<PREFIX_LEN, N>>) -> Option<usize>
+    ensures { result ≡ option_map slab_key leaf }
+{
+    Some(leaf?.key())
 }
 
 #[cfg(test)]
-mod tests {
-    use super::*;
-
-    #[test]
-    fn begins_with_no_siblings(rt: HostRuntime) {
-        let leaf = LeafNode::<u8, u16, 16>::with_no_siblings(7, 700);
-        assert_eq!(rt; *leaf.key_ref(), 7);
-        assert_eq!(rt; *leaf.value_ref(), 700);
-        assert!(rt; leaf.previous().is_none());
-        assert!(rt; leaf.next().is_none());
-    }
-}
+mod tests;

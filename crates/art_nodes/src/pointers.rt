@@ -1,14 +1,17 @@
 //! Pointers to nodes: a node kind and a slab key, never an address.
 ghost use Rattle.std.specs.Prelude.{◌≡◌, ◌↔◌, IsTrue, IsSome, IfSome};
-ghost use Rattle.art_nodes.specs.Pointers.{slab_key, node_kind, opaque_key};
+ghost use Rattle.art_nodes.specs.Pointers.{slab_key, node_kind, opaque_key, opaque_pointer};
 
-use crate::node::Node;
+use crate::inner_nodes::node::Node;
 use art_header::NodeType;
 use std::marker::PhantomData;
+
+pub(crate) mod concrete;
 
 /// A pointer to a node of the type `N`: the slab key that the node is kept under.
 #[derive_where(Clone, Copy, PartialEq, Eq)]
 pub struct NodePtr<const PREFIX_LEN: usize, N> {
+    // The slab key.
     key: usize,
     node: PhantomData<N>,
 }
@@ -17,6 +20,7 @@ pub struct NodePtr<const PREFIX_LEN: usize, N> {
 #[derive_where(Clone, Copy, PartialEq, Eq, Hash)]
 pub struct OpaqueNodePtr<K, V, const PREFIX_LEN: usize> {
     node_type: NodeType,
+    // The slab key, in the slab of that kind.
     key: usize,
     leaf: PhantomData<(K, V)>,
 }
@@ -43,8 +47,7 @@ impl<const PREFIX_LEN: usize, N> NodePtr<PREFIX_LEN, N> {
 impl<const PREFIX_LEN: usize, N: Node<PREFIX_LEN>> NodePtr<PREFIX_LEN, N> {
     /// The same pointer, with the kind of the node as a part of the value.
     pub fn to_opaque(self) -> OpaqueNodePtr<N::Key, N::Value, PREFIX_LEN>
-        ensures kind { node_kind result ≡ N.TYPE }
-        ensures key { opaque_key result ≡ slab_key self }
+        ensures { result ≡ opaque_pointer N.TYPE (slab_key self) }
     {
         OpaqueNodePtr::new(self)
     }
@@ -53,8 +56,7 @@ impl<const PREFIX_LEN: usize, N: Node<PREFIX_LEN>> NodePtr<PREFIX_LEN, N> {
 impl<K, V, const PREFIX_LEN: usize> OpaqueNodePtr<K, V, PREFIX_LEN> {
     /// The pointer to a node of any kind that points where this one does.
     pub fn new<N: Node<PREFIX_LEN, Key = K, Value = V>>(pointer: NodePtr<PREFIX_LEN, N>) -> Self
-        ensures kind { node_kind result ≡ N.TYPE }
-        ensures key { opaque_key result ≡ slab_key pointer }
+        ensures { result ≡ opaque_pointer N.TYPE (slab_key pointer) }
     {
         OpaqueNodePtr {
             node_type: N::TYPE,
@@ -84,8 +86,7 @@ impl<K, V, const PREFIX_LEN: usize> OpaqueNodePtr<K, V, PREFIX_LEN> {
 
     // The pointer to a node of this kind under this slab key.
     pub(crate) fn of_kind(node_type: NodeType, key: usize) -> Self
-        ensures kind { node_kind result ≡ node_type }
-        ensures key { opaque_key result ≡ key }
+        ensures { result ≡ opaque_pointer node_type key }
     {
         OpaqueNodePtr {
             node_type,
@@ -129,14 +130,13 @@ impl<K, V, const PREFIX_LEN: usize> Default for OpaqueNodePtr<K, V, PREFIX_LEN> 
 #[cfg(test)]
 mod tests {
     use super::*;
-    use crate::fixtures::leaf;
-    use crate::inner_node_direct::InnerNodeDirect;
-    use crate::inner_node_indirect::InnerNode48;
-    use crate::inner_node_sorted::{InnerNode4, InnerNode16};
+    use crate::fixtures::{Pointer, leaf};
+    use crate::inner_nodes::inner_node_direct::InnerNodeDirect;
+    use crate::inner_nodes::inner_node_indirect::InnerNode48;
+    use crate::inner_nodes::inner_node_sorted::{InnerNode4, InnerNode16};
     use crate::leaf_node::LeafNode;
+    use std::hash::{DefaultHasher, Hash, Hasher};
     use std::process::Abort;
-
-    type Pointer = OpaqueNodePtr<u8, u8, 16>;
 
     // Of the five kinds, the pointer is of the one at this place alone.
     fn is_one_kind(rt: &impl Abort, pointer: Pointer, place: usize) {
@@ -152,10 +152,17 @@ mod tests {
         }
     }
 
+    // What a pointer feeds a hasher comes to one number.
+    fn hash_of(pointer: Pointer) -> u64 {
+        let mut hasher = DefaultHasher::new();
+        pointer.hash(&mut hasher);
+        hasher.finish()
+    }
+
     #[test]
     fn knows_the_kind_of_its_node(rt: HostRuntime) {
-        let four = NodePtr::<16, InnerNode4<u8, u8, 16>>::from_key(5).to_opaque();
-        is_one_kind(&rt, four, 0);
+        let four = NodePtr::<16, InnerNode4<u8, u8, 16>>::from_key(5);
+        is_one_kind(&rt, four.to_opaque(), 0);
         let sixteen = NodePtr::<16, InnerNode16<u8, u8, 16>>::from_key(5);
         is_one_kind(&rt, sixteen.to_opaque(), 1);
         let many = NodePtr::<16, InnerNode48<u8, u8, 16>>::from_key(5);
@@ -163,22 +170,17 @@ mod tests {
         let all = NodePtr::<16, InnerNodeDirect<u8, u8, 16>>::from_key(5);
         is_one_kind(&rt, all.to_opaque(), 3);
         is_one_kind(&rt, leaf(5), 4);
-        assert!(rt; four != leaf(5));
-        assert!(rt; four != sixteen.to_opaque());
-        assert!(rt; four == NodePtr::<16, InnerNode4<u8, u8, 16>>::from_key(5).to_opaque());
-    }
-
-    #[test]
-    fn is_cast_to_its_own_kind_alone(rt: HostRuntime) {
-        let pointer: Pointer = leaf(6);
-        assert_eq!(rt; pointer.node_type(), NodeType::Leaf);
-        assert!(rt; pointer.cast::<InnerNode4<u8, u8, 16>>().is_none());
-        assert_eq!(rt;
-            pointer
-                .cast::<LeafNode<u8, u8, 16>>()
-                .map(|leaf| leaf.key()),
-            Some(6)
-        );
+        assert!(rt; four.to_opaque() != leaf(5));
+        assert!(rt; four.to_opaque() != sixteen.to_opaque());
+        assert!(rt; four == NodePtr::from_key(5));
+        assert!(rt; four != NodePtr::from_key(6));
+        assert_eq!(rt; hash_of(leaf(5)), hash_of(leaf(5)));
+        assert!(rt; hash_of(leaf(5)) != hash_of(leaf(6)));
+        assert!(rt; hash_of(leaf(5)) != hash_of(four.to_opaque()));
+        assert_eq!(rt; leaf::<16>(6).node_type(), NodeType::Leaf);
+        assert!(rt; leaf::<16>(6).cast::<InnerNode4<u8, u8, 16>>().is_none());
+        let cast = leaf::<16>(6).cast::<LeafNode<u8, u8, 16>>();
+        assert_eq!(rt; cast.map(|leaf| leaf.key()), Some(6));
         assert!(rt;
             Pointer::default() == NodePtr::<16, InnerNode4<u8, u8, 16>>::from_key(0).to_opaque()
         );

@@ -1,0 +1,69 @@
+use mathlib.Core.Bool.{true≢false}
+use Rattle.std.proofs.Common.{rules, arith, ◌≡◌, ◌≢◌, length, not, ap, sym, ◌∙◌}
+use Rattle.std.specs.Option.{is_some}
+use Rattle.art_header.specs.NodeType.{most_children, grown_kind}
+use Rattle.art_header.specs.declared.node_type.NodeType.TheVariants.{Node256}
+use Rattle.art_nodes.specs.AnyInner.{inner_of, kind_of}
+use Rattle.art_nodes.proofs.KindLemmas.{IsOfKind, IsOfKind-smallest, Grows-kind, kept-overwrite, kept-room, grown, absent_below}
+use Rattle.art_nodes.proofs.commands.child_node.ChildNode.write.Goals as goal
+use Rattle.art_nodes.proofs.commands.child_node.ChildNode.write.Goals.{then-is_full+then-is_none, else-is_full, else-is_full-via-then-is_full+else-is_none, else-is_full-via-else-is_full}
+
+pub grow-requires : goal.grow-requires
+grow-requires g c =
+    let any = c.self.inside.node in
+    let children = (inner_of any).children in
+    let absent = ap is_some (sym c.lookup_child-old_child.ensures) ∙ (c.is_none.ensures ∙ ap not c.if-is_none.true) in
+    let full : length children ≡ most_children (kind_of any) = c.is_full.ensures.value.0 c.if-is_full.true in
+    let below = absent_below children c.args.byte c.args.child c.is_full.ensures.sound.ascending c.ranges.byte.fits absent in
+    (search rules, λ e. (let most = ap most_children e in omega (arith, below, full, most)))
+
+pub write_child-requires : goal.write_child-requires
+write_child-requires g c =
+    let any = c.self.inside.node in
+    let children = (inner_of any).children in
+    let sound = c.is_full.ensures.sound in
+    let there = ap is_some (sym c.lookup_child-old_child.ensures) in (
+      search rules,
+      (
+        search rules,
+        elim c.if-is_full.branch [
+          | then-is_full+then-is_none w ↦
+              let absent = there ∙ (w.is_none.ensures ∙ ap not w.if-is_none.true) in
+              let full : length children ≡ most_children (kind_of any) = c.is_full.ensures.value.0 w.if-is_full.true in
+              let below = absent_below children c.args.byte c.args.child sound.ascending c.ranges.byte.fits absent in
+              let smaller : kind_of any ≢ Node256 = λ e. (let most = ap most_children e in omega (arith, below, full, most)) in
+              let of : IsOfKind (kind_of any) (length children) = IsOfKind-smallest _ _ c.self.invariant sound.fits in
+              let grows = Grows-kind (kind_of any) of.inner smaller in
+              rw (w.self-inside-is, w.grow.ensures.kind, w.grow.ensures.same) (λ _. omega (arith, full, grows.most))
+          | else-is_full w ↦ rw w.self-inside-is (elim w.else-is_full.branch [
+            | else-is_full-via-then-is_full+else-is_none v ↦ λ absent. (let some = there ∙ (v.is_none.ensures ∙ ap not v.if-is_none.false) in absurd (true≢false (sym some ∙ absent)))
+            | else-is_full-via-else-is_full v ↦
+                let not_full : length children ≢ most_children (kind_of any) = λ full. (let yes = c.is_full.ensures.value.1 full in let no = v.if-is_full.false in cc) in
+                λ _. omega (arith, sound.fits)
+          ])
+        ],
+      ),
+    )
+
+pub invariant_of-self : goal.invariant_of-self
+invariant_of-self g c =
+    let any = c.self.inside.node in
+    let children = (inner_of any).children in
+    let sound = c.is_full.ensures.sound in
+    let of : IsOfKind (kind_of any) (length children) = IsOfKind-smallest _ _ c.self.invariant sound.fits in
+    let there = ap is_some (sym c.lookup_child-old_child.ensures) in
+    rw (c.write_child.ensures.kind, c.write_child.ensures.written) (elim c.if-is_full.branch [
+      | then-is_full+then-is_none w ↦
+          let absent = there ∙ (w.is_none.ensures ∙ ap not w.if-is_none.true) in
+          let full : length children ≡ most_children (kind_of any) = c.is_full.ensures.value.0 w.if-is_full.true in
+          let below = absent_below children c.args.byte c.args.child sound.ascending c.ranges.byte.fits absent in
+          let smaller : kind_of any ≢ Node256 = λ e. (let most = ap most_children e in omega (arith, below, full, most)) in
+          let grows = Grows-kind (kind_of any) of.inner smaller in
+          rw (w.self-inside-is, w.grow.ensures.kind, w.grow.ensures.same) (grown (kind_of any) children c.args.byte c.args.child sound.ascending of (grown_kind (kind_of any)) grows.inner full grows.least grows.most absent)
+      | else-is_full w ↦ rw w.self-inside-is (elim w.else-is_full.branch [
+        | else-is_full-via-then-is_full+else-is_none v ↦ kept-overwrite (kind_of any) children c.args.byte c.args.child sound.ascending of (there ∙ (v.is_none.ensures ∙ ap not v.if-is_none.false))
+        | else-is_full-via-else-is_full v ↦
+            let not_full : length children ≢ most_children (kind_of any) = λ full. (let yes = c.is_full.ensures.value.1 full in let no = v.if-is_full.false in cc) in
+            kept-room (kind_of any) children c.args.byte c.args.child sound.ascending of (omega (arith, sound.fits))
+      ])
+    ])

@@ -1,5 +1,0 @@
-use Rattle.art_nodes.proofs.IndirectLemmas.{below_from_once}
-use Rattle.art_nodes.proofs.inner_node_indirect.InnerNodeIndirectInnerNodeCommon.range.Goals as goal
-
-pub over_indices_range-requires-clause-named : goal.over_indices_range-requires-clause-named
-over_indices_range-requires-clause-named g c = rw c.deref.ensures.0 (below_from_once _ _ c.self.invariant.named_once)

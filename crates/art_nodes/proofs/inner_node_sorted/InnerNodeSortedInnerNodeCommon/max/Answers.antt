@@ -1,9 +1,0 @@
-use Rattle.std.proofs.Common.{◌<◌, length, arith, ap}
-use Rattle.art_nodes.proofs.SortedLemmas.{length-zip, slice_get-zip}
-use Rattle.art_nodes.proofs.inner_node_sorted.InnerNodeSortedInnerNodeCommon.max.Goals as goal
-
-pub returns : goal.returns
-returns g c =
-    let count = length-zip _ _ c.self.invariant.beside in
-    let some : 0 < length c.self.inside.keys.items = omega (arith, c.requires, ap (λ n. length n.children) c.self.view_is, count) in
-    rw (← c.self.view_is, c.deref.ensures.0, c.deref-2.ensures.0, c.len-last.ensures.value, count) (slice_get-zip _ _ _ _ _ c.self.invariant.beside (omega arith))

@@ -1,0 +1,11 @@
+use Rattle.std.proofs.Common.{nat_eq, drop, arith}
+use Rattle.std.proofs.lemmas.List.{length-drop}
+use Rattle.std.proofs.lemmas.List.Sums.{common_prefix_len-le}
+use Rattle.art_nodes.proofs.inner_nodes.prefix_match.common_front_len.Goals as goal
+
+pub returns : goal.returns
+returns c =
+    let a = drop c.loop-place.place c.args.a.now in
+    let b = drop c.loop-place.place c.args.b.now in
+    let le = common_prefix_len-le nat_eq a b in
+    omega (arith, c.loop-place.invariant, le, length-drop c.loop-place.place c.args.a.now, length-drop c.loop-place.place c.args.b.now, c.min-shorter.ensures)

@@ -1,0 +1,24 @@
+use Rattle.std.proofs.Common.{◌-◌, length, take, drop, sym, ◌∙◌, ap}
+use Rattle.std.proofs.lemmas.List.{take_rest}
+use Rattle.std.specs.List.{zip}
+use Rattle.art_nodes.specs.PairSources.{first_byte, pairs_between}
+use Rattle.art_nodes.proofs.RangeLemmas.{within-between, sorted-between}
+use Rattle.art_nodes.proofs.SortedLemmas.{above-zip}
+use Rattle.art_nodes.proofs.iteration.child_iter.PairIter.over_sorted_range.Goals as goal
+
+pub returns : goal.returns
+returns g c =
+    let keys = c.args.keys.now in
+    let children = c.args.children.now in
+    let bytes = c.byte_range-bytes in
+    let from = c.count_below-from.result in
+    let later = take (length keys - from) (drop from keys) in
+    let beside = take (length children - from) (drop from children) in
+    c.over_sorted.ensures
+    ∙ ap (λ n. zip (take n later) (take n beside)) c.count_below-kept.ensures
+    ∙ sorted-between bytes.result.start bytes.result.end keys children c.requires.beside c.requires.ascending later beside
+    (take_rest keys from ∙ ap (λ n. drop n keys) c.count_below-from.ensures)
+    (take_rest children from ∙ ap (λ n. drop n children) c.count_below-from.ensures)
+    ∙ ap (λ n. pairs_between (zip keys children) n bytes.result.end) bytes.ensures.first
+    ∙ ap (λ n. pairs_between (zip keys children) (first_byte c.args.start) n) bytes.ensures.end
+    ∙ sym (within-between 0 (zip keys children) c.args.start c.args.end (above-zip 0 keys children c.requires.beside c.requires.ascending))

@@ -1,0 +1,177 @@
+//! An inner node of any kind, which the program picks as it runs.
+ghost use Rattle.std.specs.Prelude.{◌≡◌, ◌≢◌, ◌<◌, ◌≤◌, ◌+◌, ◌↔◌, IsTrue, IsNone, length, IfOk};
+ghost use Rattle.art_header.specs.NodeType.{least_children, most_children, grown_kind, shrunk_kind};
+ghost use Rattle.art_nodes.specs.AnyInner.{inner_of, kind_of};
+ghost use Rattle.art_nodes.specs.ChildMap.{child_at, first_pair, last_pair, pairs_within, AreValidBounds};
+ghost use Rattle.art_nodes.specs.Inner.{HasRoomFor, IsInner, header_of, node_with_child, node_without_child};
+
+use crate::inner_nodes::inner_node::InnerNode;
+use crate::inner_nodes::inner_node_direct::InnerNodeDirect;
+use crate::inner_nodes::inner_node_indirect::InnerNode48;
+use crate::inner_nodes::inner_node_sorted::{InnerNode4, InnerNode16};
+use crate::inner_nodes::node::InnerNodeCommon;
+use crate::pointers::OpaqueNodePtr;
+use art_header::{Header, NodeType};
+use std::alloc::{AllocError, Global};
+use std::ops::Bound;
+
+#[derive(Drop)]
+pub(crate) enum AnyInner<K, V, const PREFIX_LEN: usize> {
+    OfFour(InnerNode4<K, V, PREFIX_LEN>),
+    OfSixteen(InnerNode16<K, V, PREFIX_LEN>),
+    OfFortyEight(InnerNode48<K, V, PREFIX_LEN>),
+    OfAll(InnerNodeDirect<K, V, PREFIX_LEN>),
+}
+
+/// Runs an expression on the node, of whichever kind it is.
+macro_rules! with_node {
+    ($any:expr, $node:ident => $run:expr) => {
+        match $any {
+            AnyInner::OfFour($node) => $run,
+            AnyInner::OfSixteen($node) => $run,
+            AnyInner::OfFortyEight($node) => $run,
+            AnyInner::OfAll($node) => $run,
+        }
+    };
+}
+
+impl<K, V, const PREFIX_LEN: usize> AnyInner<K, V, PREFIX_LEN> {
+    pub(crate) fn header(&self) -> &Header<PREFIX_LEN>
+        ensures header { result.now ≡ header_of (inner_of self.now) }
+        ensures sound { IsInner PREFIX_LEN (most_children (kind_of self.now)) (inner_of self.now) }
+    {
+        with_node!(self, node => node.header())
+    }
+
+    pub(crate) fn num_children(&self) -> usize
+        ensures count { result ≡ length (inner_of self.now).children }
+        ensures sound { IsInner PREFIX_LEN (most_children (kind_of self.now)) (inner_of self.now) }
+    {
+        with_node!(self, node => node.num_children())
+    }
+
+    pub(crate) fn node_type(&self) -> NodeType
+        ensures { result ≡ kind_of self.now }
+    {
+        match self {
+            AnyInner::OfFour(_) => NodeType::Node4,
+            AnyInner::OfSixteen(_) => NodeType::Node16,
+            AnyInner::OfFortyEight(_) => NodeType::Node48,
+            AnyInner::OfAll(_) => NodeType::Node256,
+        }
+    }
+
+    pub(crate) fn lookup_child(&self, key_fragment: u8) -> Option<OpaqueNodePtr<K, V, PREFIX_LEN>>
+        ensures { result ≡ child_at (inner_of self.now).children key_fragment }
+    {
+        with_node!(self, node => node.lookup_child(key_fragment))
+    }
+
+    pub(crate) fn write_child(
+        &mut self,
+        key_fragment: u8,
+        child_pointer: OpaqueNodePtr<K, V, PREFIX_LEN>,
+    )
+        requires { HasRoomFor (most_children (kind_of self.old)) (inner_of self.old) key_fragment }
+        ensures written { inner_of self.new ≡ node_with_child (inner_of self.old) key_fragment child_pointer }
+        ensures kind { kind_of self.new ≡ kind_of self.old }
+    {
+        with_node!(self, node => node.write_child(key_fragment, child_pointer))
+    }
+
+    pub(crate) fn remove_child(
+        &mut self,
+        key_fragment: u8,
+    ) -> Option<OpaqueNodePtr<K, V, PREFIX_LEN>>
+        ensures child { result ≡ child_at (inner_of self.old).children key_fragment }
+        ensures removed { inner_of self.new ≡ node_without_child (inner_of self.old) key_fragment }
+        ensures sound { IsInner PREFIX_LEN (most_children (kind_of self.old)) (inner_of self.old) }
+        ensures kind { kind_of self.new ≡ kind_of self.old }
+    {
+        with_node!(self, node => node.remove_child(key_fragment))
+    }
+
+    pub(crate) fn min(&self) -> Option<(u8, OpaqueNodePtr<K, V, PREFIX_LEN>)>
+        ensures { result ≡ first_pair (inner_of self.now).children }
+    {
+        if self.num_children() == 0 {
+            return None;
+        }
+        Some(with_node!(self, node => node.min()))
+    }
+
+    pub(crate) fn max(&self) -> Option<(u8, OpaqueNodePtr<K, V, PREFIX_LEN>)>
+        ensures { result ≡ last_pair (inner_of self.now).children }
+    {
+        if self.num_children() == 0 {
+            return None;
+        }
+        Some(with_node!(self, node => node.max()))
+    }
+
+    /// The pairs within the bounds, which have to be valid, in a vector.
+    pub(crate) fn pairs_within(
+        &self,
+        alloc: Global,
+        start: Bound<u8>,
+        end: Bound<u8>,
+    ) -> Result<Vec<(u8, OpaqueNodePtr<K, V, PREFIX_LEN>)>, AllocError>
+        requires { AreValidBounds start end }
+        ensures { let children = (inner_of self.now).children in
+            IfOk result (λ pairs. pairs.items ≡ pairs_within children start end) }
+    {
+        with_node!(self, node => node.range(start, end)).collect(alloc)
+    }
+
+    /// Whether the node has as many children as its kind holds.
+    pub(crate) fn is_full(&self) -> bool
+        ensures sound { IsInner PREFIX_LEN (most_children (kind_of self.now)) (inner_of self.now) }
+        ensures value { let count = length (inner_of self.now).children in
+            IsTrue result ↔ (count ≡ most_children (kind_of self.now)) }
+    {
+        self.num_children() == *self.node_type().capacity_range().end()
+    }
+
+    /// Whether the node has fewer children than a node of its kind is to have.
+    pub(crate) fn is_below_range(&self) -> bool
+        ensures sound { IsInner PREFIX_LEN (most_children (kind_of self.now)) (inner_of self.now) }
+        ensures value { let kind = kind_of self.now in let count = length (inner_of self.now).children in
+            IsTrue result ↔ (kind ≢ NodeType.Node4 × count < least_children kind) }
+    {
+        self.node_type()
+            .should_shrink_inner_node(self.num_children())
+    }
+
+    /// Makes the node one of the next greater kind, which there has to be.
+    pub(crate) fn grow(&mut self)
+        requires { kind_of self.old ≢ NodeType.Node256 }
+        ensures same { inner_of self.new ≡ inner_of self.old }
+        ensures kind { kind_of self.new ≡ grown_kind (kind_of self.old) }
+    {
+        let grown = match self {
+            AnyInner::OfFour(node) => AnyInner::OfSixteen(node.grow()),
+            AnyInner::OfSixteen(node) => AnyInner::OfFortyEight(node.grow()),
+            AnyInner::OfFortyEight(node) => AnyInner::OfAll(node.grow()),
+            AnyInner::OfAll(_) => return,
+        };
+        *self = grown;
+    }
+
+    /// Makes the node one of the next smaller kind, which there has to be and which has to hold the
+    /// children.
+    pub(crate) fn shrink(&mut self)
+        requires kind { kind_of self.old ≢ NodeType.Node4 }
+        requires fits { let count = length (inner_of self.old).children in
+            count ≤ most_children (shrunk_kind (kind_of self.old)) }
+        ensures same { inner_of self.new ≡ inner_of self.old }
+        ensures kind { kind_of self.new ≡ shrunk_kind (kind_of self.old) }
+    {
+        let shrunk = match self {
+            AnyInner::OfFour(_) => return,
+            AnyInner::OfSixteen(node) => AnyInner::OfFour(node.shrink()),
+            AnyInner::OfFortyEight(node) => AnyInner::OfSixteen(node.shrink()),
+            AnyInner::OfAll(node) => AnyInner::OfFortyEight(node.shrink()),
+        };
+        *self = shrunk;
+    }
+}

@@ -1,0 +1,40 @@
+//! Whole runs of child commands.
+ghost use Rattle.std.specs.Prelude.{◌≡◌, [], IfOk};
+ghost use Rattle.art_nodes.specs.Commands.{run_of};
+
+use crate::commands::child_node::ChildNode;
+use crate::commands::command::{ChildCommand, ChildReply};
+use art_header::Header;
+use std::alloc::{AllocError, Global};
+
+/// What [`replay`] hands out: the reply to each command, and the node that the commands leave.
+pub type Replayed<K, V, const PREFIX_LEN: usize> = (
+    Vec<ChildReply<K, V, PREFIX_LEN>>,
+    ChildNode<K, V, PREFIX_LEN>,
+);
+
+/// Applies the commands in order to an empty node with the prefix of `header`, whatever the
+/// header's count, and answers each reply with the node that is left.
+///
+/// The node's kind is the smallest that holds its children ([`ChildNode::node_type`]). A refusal for
+/// want of memory hands out nothing.
+pub fn replay<K, V, const PREFIX_LEN: usize>(
+    alloc: Global,
+    header: Header<PREFIX_LEN>,
+    commands: &[ChildCommand<K, V, PREFIX_LEN>],
+) -> Result<Replayed<K, V, PREFIX_LEN>, AllocError>
+    ensures replies { IfOk result (λ run. run.0.items ≡ (run_of [] commands.now).0) }
+    ensures children { IfOk result (λ run. run.1.children ≡ (run_of [] commands.now).1) }
+    ensures prefix_len { IfOk result (λ run. run.1.prefix_len ≡ header.entry.prefix_len) }
+    ensures stored { IfOk result (λ run. run.1.stored ≡ header.entry.stored) }
+{
+    let mut node = ChildNode::from_header(header);
+    let mut replies = Vec::with_capacity(alloc, commands.len())?;
+    for command in commands {
+        replies.push(node.apply(alloc, command)?)?;
+    }
+    Ok((replies, node))
+}
+
+#[cfg(test)]
+mod tests;

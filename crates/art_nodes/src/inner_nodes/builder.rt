@@ -1,0 +1,250 @@
+//! A builder of inner nodes, which hands out none with fewer than two children.
+ghost use Rattle.std.specs.Prelude.{◌≡◌, ◌≤◌, ◌<◌, ◌^◌, length, All, IsNone};
+ghost use Rattle.art_header.specs.Header.{capped, empty_header};
+ghost use Rattle.art_nodes.specs.Builder.{AreWritten};
+ghost use Rattle.art_nodes.specs.ChildMap.{child_at, key_bytes};
+ghost use Rattle.art_nodes.specs.Inner.{HasRoomFor, empty_inner, node_with_child};
+
+use crate::inner_nodes::inner_node_sorted::InnerNode4;
+use crate::inner_nodes::node::InnerNodeCommon;
+use crate::pointers::OpaqueNodePtr;
+use crate::sealed::{InThisCrate, Sealed};
+use std::marker::{Model, PhantomData};
+
+/// How many children a builder's node has so far.
+pub trait BuilderState: Sealed {
+    ghost use Rattle.std.specs.Prelude.{ℕ};
+
+    /// A node in this state has so many children.
+    ghost Counts: { ℕ → Type 0 };
+}
+
+/// No child has been written.
+#[derive(Drop)]
+pub struct NoChild;
+
+impl Sealed for NoChild {}
+
+impl BuilderState for NoChild {
+    ghost use Rattle.std.specs.Prelude.{◌≡◌};
+
+    ghost Counts = { λ n. n ≡ 0 };
+}
+
+/// One child has been written.
+#[derive(Drop)]
+pub struct HasOneChild;
+
+impl Sealed for HasOneChild {}
+
+impl BuilderState for HasOneChild {
+    ghost use Rattle.std.specs.Prelude.{◌≡◌};
+
+    ghost Counts = { λ n. n ≡ 1 };
+}
+
+/// Two children or more have been written.
+#[derive(Drop)]
+pub struct HasChild;
+
+impl Sealed for HasChild {}
+
+impl BuilderState for HasChild {
+    ghost use Rattle.std.specs.Prelude.{◌≤◌};
+
+    ghost Counts = { λ n. 2 ≤ n };
+}
+
+/// Builds an inner node of the type `N`. Only a node of two children or more can be built.
+#[derive(Drop)]
+pub struct InnerNodeBuilder<
+    K,
+    V,
+    const PREFIX_LEN: usize,
+    N: InnerNodeCommon<K, V, PREFIX_LEN>,
+    S: BuilderState = NoChild,
+> {
+    node: N,
+    state: PhantomData<(K, V, S)>,
+}
+
+impl<K, V, const PREFIX_LEN: usize, N: InnerNodeCommon<K, V, PREFIX_LEN>, S: BuilderState> Model
+    for InnerNodeBuilder<K, V, PREFIX_LEN, N, S> {
+    ghost use Rattle.art_nodes.specs.Builder.{AreWritten};
+
+    ghost Value = { N };
+
+    ghost view = { λ b. b.node };
+
+    ghost invariant = { λ b. AreWritten S.Counts (N.inner b.node).children };
+}
+
+impl<
+    K,
+    V,
+    const PREFIX_LEN: usize,
+    N: InnerNodeCommon<K, V, PREFIX_LEN>,
+    S: BuilderState,
+> InnerNodeBuilder<K, V, PREFIX_LEN, N, S> {
+    // The builder of a node with so many children as the state says.
+    fn with_node(node: N) -> Self
+        requires { AreWritten S.Counts (N.inner node).children }
+        ensures { result ≡ node }
+    {
+        InnerNodeBuilder {
+            node,
+            state: PhantomData,
+        }
+    }
+}
+
+impl<K, V, const PREFIX_LEN: usize, N: InnerNodeCommon<K, V, PREFIX_LEN>> InnerNodeBuilder<
+    K,
+    V,
+    PREFIX_LEN,
+    N,
+    NoChild,
+> {
+    /// A builder of a node with this prefix. It asks what [`Header::new`](crate::Header::new) asks.
+    pub fn new(prefix: &[u8], prefix_len: usize) -> Self
+        requires has_stored_bytes { capped PREFIX_LEN prefix_len ≤ length prefix.now }
+        requires no_longer { length prefix.now ≤ prefix_len }
+        requires fits { prefix_len < 2 ^ 32 }
+        ensures { N.inner result ≡ empty_inner (empty_header PREFIX_LEN prefix.now prefix_len) }
+    {
+        Self::with_node(N::from_prefix(InThisCrate(()), prefix, prefix_len))
+    }
+
+    /// Writes the first child. The node has to have room for it.
+    pub fn write_child(
+        mut self,
+        key_byte: u8,
+        first_child: OpaqueNodePtr<K, V, PREFIX_LEN>,
+    ) -> InnerNodeBuilder<K, V, PREFIX_LEN, N, HasOneChild>
+        requires { HasRoomFor N.room (N.inner self) key_byte }
+        ensures { N.inner result ≡ node_with_child (N.inner self) key_byte first_child }
+    {
+        self.node.write_child(key_byte, first_child);
+        InnerNodeBuilder::with_node(self.node)
+    }
+}
+
+impl<K, V, const PREFIX_LEN: usize, N: InnerNodeCommon<K, V, PREFIX_LEN>> InnerNodeBuilder<
+    K,
+    V,
+    PREFIX_LEN,
+    N,
+    HasOneChild,
+> {
+    /// Writes the second child, under another byte than the first. The node has to have room for it.
+    pub fn write_child(
+        mut self,
+        key_byte: u8,
+        second_child: OpaqueNodePtr<K, V, PREFIX_LEN>,
+    ) -> InnerNodeBuilder<K, V, PREFIX_LEN, N, HasChild>
+        requires room { HasRoomFor N.room (N.inner self) key_byte }
+        requires differs { IsNone (child_at (N.inner self).children key_byte) }
+        ensures { N.inner result ≡ node_with_child (N.inner self) key_byte second_child }
+    {
+        self.node.write_child(key_byte, second_child);
+        InnerNodeBuilder::with_node(self.node)
+    }
+}
+
+impl<K, V, const PREFIX_LEN: usize, N: InnerNodeCommon<K, V, PREFIX_LEN>> InnerNodeBuilder<
+    K,
+    V,
+    PREFIX_LEN,
+    N,
+    HasChild,
+> {
+    /// Writes one child more, or over the one under this byte. The node has to have room for a new
+    /// one.
+    pub fn write_child(mut self, key_byte: u8, child: OpaqueNodePtr<K, V, PREFIX_LEN>) -> Self
+        requires { HasRoomFor N.room (N.inner self) key_byte }
+        ensures { N.inner result ≡ node_with_child (N.inner self) key_byte child }
+    {
+        self.node.write_child(key_byte, child);
+        self
+    }
+
+    /// The node, which has two children or more.
+    pub fn build(self) -> N
+        ensures node { result ≡ self }
+        ensures two_or_more { 2 ≤ length (N.inner result).children }
+    {
+        let InnerNodeBuilder { node, state: _ } = self;
+        node
+    }
+}
+
+impl<K, V, const PREFIX_LEN: usize> InnerNodeBuilder<
+    K,
+    V,
+    PREFIX_LEN,
+    InnerNode4<K, V, PREFIX_LEN>,
+    NoChild,
+> {
+    /// Writes the first child without a search.
+    pub fn write_child_unchecked(
+        mut self,
+        key_byte: u8,
+        first_child: OpaqueNodePtr<K, V, PREFIX_LEN>,
+    ) -> InnerNodeBuilder<K, V, PREFIX_LEN, InnerNode4<K, V, PREFIX_LEN>, HasOneChild>
+        requires room { length self.children < 4 }
+        requires above { All (λ byte. byte < key_byte) (key_bytes self.children) }
+        ensures { result ≡ node_with_child self key_byte first_child }
+    {
+        self.node.write_child_unchecked(key_byte, first_child);
+        InnerNodeBuilder::with_node(self.node)
+    }
+}
+
+impl<K, V, const PREFIX_LEN: usize> InnerNodeBuilder<
+    K,
+    V,
+    PREFIX_LEN,
+    InnerNode4<K, V, PREFIX_LEN>,
+    HasOneChild,
+> {
+    /// Writes the second child without a search, under a byte above the first one's. The node has to
+    /// have room for it.
+    pub fn write_child_unchecked(
+        mut self,
+        key_byte: u8,
+        second_child: OpaqueNodePtr<K, V, PREFIX_LEN>,
+    ) -> InnerNodeBuilder<K, V, PREFIX_LEN, InnerNode4<K, V, PREFIX_LEN>, HasChild>
+        requires room { length self.children < 4 }
+        requires above { All (λ byte. byte < key_byte) (key_bytes self.children) }
+        ensures { result ≡ node_with_child self key_byte second_child }
+    {
+        self.node.write_child_unchecked(key_byte, second_child);
+        InnerNodeBuilder::with_node(self.node)
+    }
+}
+
+impl<K, V, const PREFIX_LEN: usize> InnerNodeBuilder<
+    K,
+    V,
+    PREFIX_LEN,
+    InnerNode4<K, V, PREFIX_LEN>,
+    HasChild,
+> {
+    /// Writes one child more without a search, under a byte above every byte there. The node has to
+    /// have room for it.
+    pub fn write_child_unchecked(
+        mut self,
+        key_byte: u8,
+        child: OpaqueNodePtr<K, V, PREFIX_LEN>,
+    ) -> Self
+        requires room { length self.children < 4 }
+        requires above { All (λ byte. byte < key_byte) (key_bytes self.children) }
+        ensures { result ≡ node_with_child self key_byte child }
+    {
+        self.node.write_child_unchecked(key_byte, child);
+        self
+    }
+}
+
+#[cfg(test)]
+mod tests;

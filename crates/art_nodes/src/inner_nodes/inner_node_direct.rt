@@ -1,0 +1,183 @@
+//! Inner nodes with a place for each byte: `Node256`.
+use crate::inner_nodes::node::{InnerNodeCommon, Node};
+use crate::inner_nodes::prefix_match::{
+    AttemptOptimisticPrefixMatch, OptimisticMismatch, PessimisticMismatch, PrefixMatch,
+    match_length, match_stored,
+};
+use crate::iteration::child_iter::ChildIter;
+use crate::iteration::table::{first_place, last_place};
+use crate::pointers::OpaqueNodePtr;
+use crate::sealed::{InThisCrate, InnerNodeInit, Sealed};
+use art_header::{Header, NodeType};
+use std::marker::Model;
+use std::ops::Bound;
+
+/// An inner node for 49 to 256 children, which keeps each under its byte in a table.
+#[derive(Drop)]
+pub struct InnerNodeDirect<K, V, const PREFIX_LEN: usize> {
+    header: Header<PREFIX_LEN>,
+    child_pointers: [Option<OpaqueNodePtr<K, V, PREFIX_LEN>>; 256],
+}
+
+impl<K, V, const PREFIX_LEN: usize> Sealed for InnerNodeDirect<K, V, PREFIX_LEN> {}
+
+impl<K, V, const PREFIX_LEN: usize> Model for InnerNodeDirect<K, V, PREFIX_LEN> {
+    ghost use Rattle.art_nodes.specs.declared.pointers.OpaqueNodePtr.{OpaqueNodePtr};
+    ghost use Rattle.art_nodes.specs.Inner.{Inner, inner_with};
+    ghost use Rattle.art_nodes.specs.ChildMap.{table_children};
+    ghost use Rattle.art_nodes.specs.DirectNode.{IsDirectNode};
+
+    ghost Value = { Inner (OpaqueNodePtr K V PREFIX_LEN) };
+
+    ghost view = { λ n. inner_with n.header (table_children 0 n.child_pointers) };
+
+    ghost invariant = { λ n. IsDirectNode PREFIX_LEN n.header n.child_pointers };
+}
+
+impl<K, V, const PREFIX_LEN: usize> InnerNodeInit<PREFIX_LEN>
+    for InnerNodeDirect<K, V, PREFIX_LEN> {
+    ghost use Rattle.std.specs.Prelude.{◌≡◌, ◌≤◌, ◌<◌, ◌^◌, length};
+    ghost use Rattle.art_header.specs.Header.{capped, empty_header};
+    ghost use Rattle.art_nodes.specs.Inner.{empty_inner};
+
+    ghost empty_with = { empty_inner };
+
+    fn from_prefix(_caller: InThisCrate, prefix: &[u8], prefix_len: usize) -> Self
+        requires has_stored_bytes { capped PREFIX_LEN prefix_len ≤ length prefix.now }
+        requires no_longer { length prefix.now ≤ prefix_len }
+        requires fits { prefix_len < 2 ^ 32 }
+        ensures { result ≡ empty_inner (empty_header PREFIX_LEN prefix.now prefix_len) }
+    {
+        Self::from_header(Header::new(prefix, prefix_len))
+    }
+}
+
+impl<K, V, const PREFIX_LEN: usize> Node<PREFIX_LEN> for InnerNodeDirect<K, V, PREFIX_LEN> {
+    ghost use Rattle.art_header.specs.declared.node_type.NodeType.TheVariants.{Node256};
+
+    const TYPE: NodeType = NodeType::Node256;
+
+    ghost TYPE = { Node256 };
+
+    type Key = K;
+
+    type Value = V;
+}
+
+impl<K, V, const PREFIX_LEN: usize> InnerNodeDirect<K, V, PREFIX_LEN> {
+    ghost use Rattle.std.specs.Prelude.{◌≡◌};
+    ghost use Rattle.art_nodes.specs.Inner.{empty_inner};
+
+    /// A node with the prefix of this header and no children, whatever the header's count.
+    pub(crate) fn from_header(mut header: Header<PREFIX_LEN>) -> Self
+        ensures { result ≡ empty_inner header.entry }
+    {
+        header.reset_num_children();
+        InnerNodeDirect {
+            header,
+            child_pointers: [None; 256],
+        }
+    }
+
+    /// A copy, which takes no memory.
+    pub fn clone(&self) -> Self
+        ensures { result ≡ self.now }
+    {
+        InnerNodeDirect {
+            header: self.header.clone().unwrap(),
+            child_pointers: self.child_pointers,
+        }
+    }
+}
+
+impl<K, V, const PREFIX_LEN: usize> InnerNodeCommon<K, V, PREFIX_LEN>
+    for InnerNodeDirect<K, V, PREFIX_LEN> {
+    ghost use Rattle.std.specs.Prelude.{◌≡◌, refl};
+    ghost use Rattle.art_nodes.specs.ChildMap.{child_at, with_child, without_child, pairs_within, AreValidBounds};
+    ghost use Rattle.art_nodes.specs.Inner.{HasRoomFor, node_with_child};
+
+    ghost inner = { λ n. n };
+
+    ghost room = { 256 };
+
+    ghost starts_empty = { λ _. refl };
+
+    fn header(&self) -> &Header<PREFIX_LEN> {
+        &self.header
+    }
+
+    fn num_children(&self) -> usize {
+        self.header.num_children()
+    }
+
+    fn prefix_len(&self) -> usize {
+        self.header.prefix_len()
+    }
+
+    fn stored_prefix(&self) -> &[u8] {
+        self.header.read_prefix()
+    }
+
+    fn capacity(&self) -> usize {
+        256
+    }
+
+    fn set_prefix(&mut self, header: &Header<PREFIX_LEN>) {
+        self.header.set_prefix(header);
+    }
+
+    fn lookup_child(&self, key_fragment: u8) -> Option<OpaqueNodePtr<K, V, PREFIX_LEN>> {
+        self.child_pointers[usize::from(key_fragment)]
+    }
+
+    fn write_child(&mut self, key_fragment: u8, child_pointer: OpaqueNodePtr<K, V, PREFIX_LEN>)
+        requires { HasRoomFor 256 self.old key_fragment }
+        ensures written { self.new ≡ node_with_child self.old key_fragment child_pointer }
+    {
+        let place = usize::from(key_fragment);
+        if self.child_pointers[place].is_none() {
+            self.header.inc_num_children();
+        }
+        self.child_pointers[place] = Some(child_pointer);
+    }
+
+    fn remove_child(&mut self, key_fragment: u8) -> Option<OpaqueNodePtr<K, V, PREFIX_LEN>> {
+        let place = usize::from(key_fragment);
+        let removed_child = self.child_pointers[place];
+        if removed_child.is_some() {
+            self.header.dec_num_children();
+        }
+        self.child_pointers[place] = None;
+        removed_child
+    }
+
+    fn iter(&self) -> ChildIter<'_, K, V, PREFIX_LEN> {
+        ChildIter::over_table(&self.child_pointers)
+    }
+
+    fn range(&self, start: Bound<u8>, end: Bound<u8>) -> ChildIter<'_, K, V, PREFIX_LEN> {
+        ChildIter::over_table_range(&self.child_pointers, start, end)
+    }
+
+    fn min(&self) -> (u8, OpaqueNodePtr<K, V, PREFIX_LEN>) {
+        first_place(&self.child_pointers)
+    }
+
+    fn max(&self) -> (u8, OpaqueNodePtr<K, V, PREFIX_LEN>) {
+        last_place(&self.child_pointers)
+    }
+
+    fn optimistic_match_prefix(
+        &self,
+        truncated_key: &[u8],
+    ) -> Result<PrefixMatch, OptimisticMismatch> {
+        match_length(&self.header, truncated_key)
+    }
+
+    fn attempt_pessimistic_match_prefix(
+        &self,
+        truncated_key: &[u8],
+    ) -> Result<AttemptOptimisticPrefixMatch, PessimisticMismatch> {
+        match_stored(&self.header, truncated_key)
+    }
+}

@@ -1,0 +1,231 @@
+//! Inner nodes with an index for each byte: `Node48`.
+use crate::inner_nodes::node::{InnerNodeCommon, Node};
+use crate::inner_nodes::prefix_match::{
+    AttemptOptimisticPrefixMatch, OptimisticMismatch, PessimisticMismatch, PrefixMatch,
+    match_length, match_stored,
+};
+use crate::iteration::child_iter::ChildIter;
+use crate::iteration::table::{first_place, last_place};
+use crate::pointers::OpaqueNodePtr;
+use crate::sealed::{InThisCrate, InnerNodeInit, Sealed};
+use arrayvec::ArrayVec;
+use art_header::{Header, NodeType, NonMaxIndex};
+use std::marker::Model;
+use std::ops::Bound;
+
+/// An inner node that keeps, in a table with a place for each byte, the index of the child.
+///
+/// It has room for `SIZE` children, and for no more than 255, since 255 is no [`NonMaxIndex`].
+#[derive(Drop)]
+pub struct InnerNodeIndirect<K, V, const PREFIX_LEN: usize, const SIZE: usize> {
+    header: Header<PREFIX_LEN>,
+    child_indices: [Option<NonMaxIndex>; 256],
+    // The byte of each pointer, beside it.
+    keys: ArrayVec<u8, SIZE>,
+    child_pointers: ArrayVec<OpaqueNodePtr<K, V, PREFIX_LEN>, SIZE>,
+}
+
+/// An indirect node for 17 to 48 children.
+pub type InnerNode48<K, V, const PREFIX_LEN: usize> = InnerNodeIndirect<K, V, PREFIX_LEN, 48>;
+
+impl<K, V, const PREFIX_LEN: usize, const SIZE: usize> Sealed
+    for InnerNodeIndirect<K, V, PREFIX_LEN, SIZE> {}
+
+impl<K, V, const PREFIX_LEN: usize, const SIZE: usize> Model
+    for InnerNodeIndirect<K, V, PREFIX_LEN, SIZE> {
+    ghost use Rattle.art_nodes.specs.declared.pointers.OpaqueNodePtr.{OpaqueNodePtr};
+    ghost use Rattle.art_nodes.specs.Inner.{Inner, indirect_room, inner_with};
+    ghost use Rattle.art_nodes.specs.ChildMap.{table_children};
+    ghost use Rattle.art_nodes.specs.IndirectNode.{named_pointers, IsIndirectNode};
+
+    ghost Value = { Inner (OpaqueNodePtr K V PREFIX_LEN) };
+
+    ghost view = { λ n. inner_with n.header (table_children 0 (named_pointers n.child_pointers.items n.child_indices)) };
+
+    ghost invariant = { λ n. IsIndirectNode PREFIX_LEN (indirect_room SIZE) n.header n.child_indices n.keys.items n.child_pointers.items };
+}
+
+impl<K, V, const PREFIX_LEN: usize, const SIZE: usize> InnerNodeInit<PREFIX_LEN>
+    for InnerNodeIndirect<K, V, PREFIX_LEN, SIZE> {
+    ghost use Rattle.std.specs.Prelude.{◌≡◌, ◌≤◌, ◌<◌, ◌^◌, length};
+    ghost use Rattle.art_header.specs.Header.{capped, empty_header};
+    ghost use Rattle.art_nodes.specs.Inner.{empty_inner};
+
+    ghost empty_with = { empty_inner };
+
+    fn from_prefix(_caller: InThisCrate, prefix: &[u8], prefix_len: usize) -> Self
+        requires has_stored_bytes { capped PREFIX_LEN prefix_len ≤ length prefix.now }
+        requires no_longer { length prefix.now ≤ prefix_len }
+        requires fits { prefix_len < 2 ^ 32 }
+        ensures { result ≡ empty_inner (empty_header PREFIX_LEN prefix.now prefix_len) }
+    {
+        Self::from_header(Header::new(prefix, prefix_len))
+    }
+}
+
+impl<K, V, const PREFIX_LEN: usize> Node<PREFIX_LEN> for InnerNode48<K, V, PREFIX_LEN> {
+    ghost use Rattle.art_header.specs.declared.node_type.NodeType.TheVariants.{Node48};
+
+    const TYPE: NodeType = NodeType::Node48;
+
+    ghost TYPE = { Node48 };
+
+    type Key = K;
+
+    type Value = V;
+}
+
+impl<K, V, const PREFIX_LEN: usize, const SIZE: usize> InnerNodeIndirect<K, V, PREFIX_LEN, SIZE> {
+    ghost use Rattle.std.specs.Prelude.{◌≡◌, map};
+    ghost use Rattle.std.specs.List.Sorted.{IsPermutation};
+    ghost use Rattle.art_nodes.specs.Inner.{empty_inner};
+
+    /// A node with the prefix of this header and no children, whatever the header's count.
+    pub(crate) fn from_header(mut header: Header<PREFIX_LEN>) -> Self
+        ensures { result ≡ empty_inner header.entry }
+    {
+        header.reset_num_children();
+        InnerNodeIndirect {
+            header,
+            child_indices: [None; 256],
+            keys: ArrayVec::new(),
+            child_pointers: ArrayVec::new(),
+        }
+    }
+
+    /// A copy, which takes no memory.
+    pub fn clone(&self) -> Self
+        ensures { result ≡ self.now }
+    {
+        let mut child_indices = [None; 256];
+        child_indices.copy_from_slice(&self.child_indices);
+        let mut keys = ArrayVec::new();
+        keys.try_extend_from_slice(&self.keys).unwrap();
+        let mut child_pointers = ArrayVec::new();
+        child_pointers
+            .try_extend_from_slice(&self.child_pointers)
+            .unwrap();
+        InnerNodeIndirect {
+            header: self.header.clone().unwrap(),
+            child_indices,
+            keys,
+            child_pointers,
+        }
+    }
+
+    /// The children, each as often as it stands under a byte, in no promised order.
+    pub fn initialized_child_pointers(&self) -> &[OpaqueNodePtr<K, V, PREFIX_LEN>]
+        ensures { IsPermutation (map (λ p. p.1) self.now.children) result.now }
+    {
+        self.child_pointers.as_slice()
+    }
+}
+
+impl<K, V, const PREFIX_LEN: usize, const SIZE: usize> InnerNodeCommon<K, V, PREFIX_LEN>
+    for InnerNodeIndirect<K, V, PREFIX_LEN, SIZE> {
+    ghost use Rattle.std.specs.Prelude.{◌≡◌, refl};
+    ghost use Rattle.art_nodes.specs.ChildMap.{pairs_within, AreValidBounds};
+    ghost use Rattle.art_nodes.specs.Inner.{HasRoomFor, indirect_room, node_with_child};
+
+    ghost inner = { λ n. n };
+
+    ghost room = { indirect_room SIZE };
+
+    ghost starts_empty = { λ _. refl };
+
+    fn header(&self) -> &Header<PREFIX_LEN> {
+        &self.header
+    }
+
+    fn num_children(&self) -> usize {
+        self.header.num_children()
+    }
+
+    fn prefix_len(&self) -> usize {
+        self.header.prefix_len()
+    }
+
+    fn stored_prefix(&self) -> &[u8] {
+        self.header.read_prefix()
+    }
+
+    fn capacity(&self) -> usize {
+        SIZE.min(255)
+    }
+
+    fn set_prefix(&mut self, header: &Header<PREFIX_LEN>) {
+        self.header.set_prefix(header);
+    }
+
+    fn lookup_child(&self, key_fragment: u8) -> Option<OpaqueNodePtr<K, V, PREFIX_LEN>> {
+        match self.child_indices[usize::from(key_fragment)] {
+            Some(index) => Some(self.child_pointers[usize::from(index)]),
+            None => None,
+        }
+    }
+
+    fn write_child(&mut self, key_fragment: u8, child_pointer: OpaqueNodePtr<K, V, PREFIX_LEN>)
+        requires { HasRoomFor (indirect_room SIZE) self.old key_fragment }
+        ensures written { self.new ≡ node_with_child self.old key_fragment child_pointer }
+    {
+        let place = usize::from(key_fragment);
+        match self.child_indices[place] {
+            Some(index) => self.child_pointers[usize::from(index)] = child_pointer,
+            None => {
+                let index = NonMaxIndex::new_unchecked(self.child_pointers.len() as u8);
+                self.child_indices[place] = Some(index);
+                self.keys.push(key_fragment);
+                self.child_pointers.push(child_pointer);
+                self.header.inc_num_children();
+            }
+        }
+    }
+
+    fn remove_child(&mut self, key_fragment: u8) -> Option<OpaqueNodePtr<K, V, PREFIX_LEN>> {
+        let place = usize::from(key_fragment);
+        let index = self.child_indices[place]?;
+        let freed = usize::from(index);
+        // The last pointer moves into the freed place, so its byte has that index now.
+        let moved_key = self.keys[self.keys.len() - 1];
+        self.child_indices[usize::from(moved_key)] = Some(index);
+        self.child_indices[place] = None;
+        self.keys.swap_remove(freed);
+        self.header.dec_num_children();
+        Some(self.child_pointers.swap_remove(freed))
+    }
+
+    fn iter(&self) -> ChildIter<'_, K, V, PREFIX_LEN> {
+        ChildIter::over_indices(&self.child_indices, &self.child_pointers)
+    }
+
+    fn range(&self, start: Bound<u8>, end: Bound<u8>) -> ChildIter<'_, K, V, PREFIX_LEN> {
+        ChildIter::over_indices_range(&self.child_indices, &self.child_pointers, start, end)
+    }
+
+    fn min(&self) -> (u8, OpaqueNodePtr<K, V, PREFIX_LEN>) {
+        let (byte, index) = first_place(&self.child_indices);
+        (byte, self.child_pointers[usize::from(index)])
+    }
+
+    fn max(&self) -> (u8, OpaqueNodePtr<K, V, PREFIX_LEN>) {
+        let (byte, index) = last_place(&self.child_indices);
+        (byte, self.child_pointers[usize::from(index)])
+    }
+
+    fn optimistic_match_prefix(
+        &self,
+        truncated_key: &[u8],
+    ) -> Result<PrefixMatch, OptimisticMismatch> {
+        match_length(&self.header, truncated_key)
+    }
+
+    fn attempt_pessimistic_match_prefix(
+        &self,
+        truncated_key: &[u8],
+    ) -> Result<AttemptOptimisticPrefixMatch, PessimisticMismatch> {
+        match_stored(&self.header, truncated_key)
+    }
+}
+
+#[cfg(test)]
+mod tests;

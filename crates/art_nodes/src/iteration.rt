@@ -1,0 +1,7 @@
+//! The children of an inner node in order: the iterator, what it goes over, and its bounds.
+pub(crate) mod bounds;
+pub(crate) mod child_iter;
+pub(crate) mod index_pairs;
+pub(crate) mod sorted_pairs;
+pub(crate) mod table;
+pub(crate) mod table_pairs;

@@ -1,0 +1,170 @@
+//! The iterator over the children of an inner node.
+ghost use Rattle.std.specs.Prelude.{◌≡◌, ◌≤◌, length};
+ghost use Rattle.std.specs.Iterator.{YieldsFirst, YieldsLast, item_count};
+ghost use Rattle.art_nodes.specs.ChildMap.{table_children, pairs_within, IsAscending, AreValidBounds};
+ghost use Rattle.art_nodes.specs.IndirectNode.{named_pointers, AreBelow};
+ghost use Rattle.art_nodes.specs.Inner.{sorted_children};
+
+use crate::iteration::bounds::byte_range;
+use crate::iteration::index_pairs::IndexPairs;
+use crate::iteration::sorted_pairs::{SortedPairs, count_below};
+use crate::iteration::table_pairs::TablePairs;
+use crate::pointers::OpaqueNodePtr;
+use art_header::NonMaxIndex;
+use std::iter::FusedIterator;
+use std::marker::Model;
+use std::ops::Bound;
+
+/// The pairs of a byte and the child under it that an inner node has, by ascending byte.
+///
+/// It borrows the node and takes no memory. Each pair comes once, from the front or from the back,
+/// and after the last pair comes `None` for good.
+pub type ChildIter<'a, K, V, const PREFIX_LEN: usize> = PairIter<
+    'a,
+    OpaqueNodePtr<K, V, PREFIX_LEN>,
+>;
+
+/// Pairs of a byte and what is kept under it, by ascending byte.
+///
+/// It borrows the node and takes no memory. Each pair comes once, from the front or from the back,
+/// and after the last pair comes `None` for good.
+#[derive(Drop)]
+pub struct PairIter<'a, H> {
+    source: Source<'a, H>,
+}
+
+// The ways that inner nodes keep their children.
+#[derive(Drop)]
+enum Source<'a, H> {
+    Sorted(SortedPairs<'a, H>),
+    Table(TablePairs<'a, H>),
+    Indexed(IndexPairs<'a, H>),
+}
+
+impl<'a, H> Model for PairIter<'a, H> {
+    ghost use Rattle.art_nodes.specs.ChildMap.{ChildMap};
+
+    ghost Value = { ChildMap H };
+
+    ghost use Rattle.art_nodes.specs.ChildIter.{pairs_of};
+
+    ghost view = { λ it. pairs_of it.source };
+}
+
+impl<'a, H: Copy> PairIter<'a, H> {
+    /// Over ascending bytes with the children beside them.
+    pub(crate) fn over_sorted(keys: &'a [u8], children: &'a [H]) -> Self
+        requires { length children.now ≡ length keys.now }
+        ensures { result ≡ sorted_children keys.now children.now }
+    {
+        PairIter {
+            source: Source::Sorted(SortedPairs::new(keys, children)),
+        }
+    }
+
+    /// Over a table with a place for each byte.
+    pub(crate) fn over_table(places: &'a [Option<H>; 256]) -> Self
+        ensures { result ≡ table_children 0 places.now }
+    {
+        PairIter {
+            source: Source::Table(TablePairs::new(0, &places[..])),
+        }
+    }
+
+    /// Over a table with a place for each byte, which has the index of the child.
+    pub(crate) fn over_indices(indices: &'a [Option<NonMaxIndex>; 256], children: &'a [H]) -> Self
+        requires { AreBelow (length children.now) indices.now }
+        ensures { result ≡ table_children 0 (named_pointers children.now indices.now) }
+    {
+        PairIter {
+            source: Source::Indexed(IndexPairs::new(0, &indices[..], children)),
+        }
+    }
+
+    /// Over those of the ascending bytes that meet both bounds, with the children beside them.
+    pub(crate) fn over_sorted_range(
+        keys: &'a [u8],
+        children: &'a [H],
+        start: Bound<u8>,
+        end: Bound<u8>,
+    ) -> Self
+        requires beside { length children.now ≡ length keys.now }
+        requires ascending { IsAscending keys.now }
+        requires valid { AreValidBounds start end }
+        ensures { result ≡ pairs_within (sorted_children keys.now children.now) start end }
+    {
+        let bytes = byte_range(start, end);
+        let from = count_below(keys, bytes.start);
+        let (keys, children) = (&keys[from..], &children[from..]);
+        let kept = count_below(keys, bytes.end);
+        Self::over_sorted(&keys[..kept], &children[..kept])
+    }
+
+    /// Over the places of a table whose bytes meet both bounds.
+    pub(crate) fn over_table_range(
+        places: &'a [Option<H>; 256],
+        start: Bound<u8>,
+        end: Bound<u8>,
+    ) -> Self
+        requires { AreValidBounds start end }
+        ensures { result ≡ pairs_within (table_children 0 places.now) start end }
+    {
+        let bytes = byte_range(start, end);
+        let places = &places[..];
+        PairIter {
+            source: Source::Table(TablePairs::new(bytes.start, &places[bytes.start..bytes.end])),
+        }
+    }
+
+    /// Over the places of a table of indices whose bytes meet both bounds.
+    pub(crate) fn over_indices_range(
+        indices: &'a [Option<NonMaxIndex>; 256],
+        children: &'a [H],
+        start: Bound<u8>,
+        end: Bound<u8>,
+    ) -> Self
+        requires named { AreBelow (length children.now) indices.now }
+        requires valid { AreValidBounds start end }
+        ensures { result ≡ pairs_within (table_children 0 (named_pointers children.now indices.now)) start end }
+    {
+        let bytes = byte_range(start, end);
+        let indices = &indices[..];
+        let indices = &indices[bytes.start..bytes.end];
+        PairIter {
+            source: Source::Indexed(IndexPairs::new(bytes.start, indices, children)),
+        }
+    }
+}
+
+impl<'a, H: Copy> Iterator for PairIter<'a, H> {
+    type Item = (u8, H);
+
+    ghost next_gives = { YieldsFirst (λ pairs. pairs) };
+
+    ghost remaining = { item_count (λ pairs. pairs) };
+
+    fn next(&mut self) -> Option<(u8, H)> {
+        match &mut self.source {
+            Source::Sorted(pairs) => pairs.next(),
+            Source::Table(pairs) => pairs.next(),
+            Source::Indexed(pairs) => pairs.next(),
+        }
+    }
+}
+
+impl<'a, H: Copy> DoubleEndedIterator for PairIter<'a, H> {
+    ghost next_back_gives = { YieldsLast (λ pairs. pairs) };
+
+    fn next_back(&mut self) -> Option<(u8, H)> {
+        match &mut self.source {
+            Source::Sorted(pairs) => pairs.next_back(),
+            Source::Table(pairs) => pairs.next_back(),
+            Source::Indexed(pairs) => pairs.next_back(),
+        }
+    }
+}
+
+impl<'a, H: Copy> FusedIterator for PairIter<'a, H> {}
+
+#[cfg(test)]
+mod tests;
