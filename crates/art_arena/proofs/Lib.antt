@@ -1,0 +1,11 @@
+pub mod ArenaLemmas
+pub mod LeafLemmas
+pub mod LinkedLists
+pub mod MatchLemmas
+pub mod PlaceLemmas
+pub mod PlantLemmas
+pub mod ReadLemmas
+pub mod TextLemmas
+pub mod TreeLemmas
+pub mod WayLemmas
+pub mod LeafTexts

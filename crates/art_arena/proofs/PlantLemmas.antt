@@ -1,0 +1,72 @@
+-- Trees that tests put together by hand.
+use Rattle.std.proofs.Common.{◌≡◌, ◌≢◌, ◌∙◌, ℕ, suc, ◌<◌, ◌≤◌, ◌^◌, List, [], ◌∷◌, ◌++◌, length, take, refl, sym, ap, subst, rules, arith, nat_lt}
+use Rattle.std.proofs.lemmas.Bool.Decides.{nat_tests}
+use Rattle.art_bytes.specs.Text.{IsFront}
+use Rattle.art_header.specs.Header.{capped, empty_header}
+use Rattle.art_nodes.specs.ChildMap.{ChildMap, with_child}
+use Rattle.art_nodes.specs.Inner as nodes
+use Rattle.art_nodes.specs.Leaf.{leaf_key}
+use Rattle.art_nodes.specs.declared.pointers.OpaqueNodePtr.{OpaqueNodePtr}
+use Rattle.art_nodes.specs.declared.leaf_node.LeafNode.{LeafNode}
+use Rattle.art_arena.specs.Arena.{ArenaOf, held, Nothing, HeldInner, HeldLeaf, Changes}
+use Rattle.art_arena.specs.Standing.{NodeStands, StandsUnder, TreeAt, TreeUnder, leaf_text}
+use Rattle.art_arena.specs.Trees.{Tree, Leaf, Inner, Branches, NoBranch, Branch, branch_roots, root_of, IsSound}
+use Rattle.art_arena.proofs.PlaceLemmas.{stands-beside, all-beside}
+
+-- two children written one after the other
+pub two_children : {H : Type 0} (low high : ℕ) (first second : H) → low < high → with_child (with_child [] low first) high second ≡ (low, first) ∷ (high, second) ∷ []
+two_children low high first second ascend = grind (arith, nat_tests)
+
+module _ {K V : Type 0} {P : ℕ} (text : K → List ℕ) (old new : ArenaOf K V P) (pointer : OpaqueNodePtr K V P) (was_free : held old pointer ≡ Nothing) where
+  -- a leaf that is put into an arena is a tree
+  pub leaf_planted : (leaf : LeafNode K V P) (path : List ℕ) → Changes old new pointer (HeldLeaf leaf) → IsFront path (leaf_text text leaf) → length (leaf_text text leaf) < 2 ^ 64 → (found : TreeAt text new pointer) × (found.path ≡ path)
+  leaf_planted leaf path changes begins short =
+      (record { tree = Leaf pointer (leaf_text text leaf); path = path; at_root = refl; stands = (leaf, changes.changed, refl); sound = (begins, short) }, refl)
+
+  -- so is a node over trees
+  pub node_planted : (node : nodes.Inner (OpaqueNodePtr K V P)) (depth : ℕ) (under : TreeUnder text old node depth) → Changes old new pointer (HeldInner node) → (found : TreeAt text new pointer) × (found.path ≡ under.path)
+  node_planted node depth under changes = by_tree under.tree under.stands under.sound
+    where
+      by_tree : (tree : Tree (OpaqueNodePtr K V P)) → StandsUnder P (leaf_text text) (held old) node tree → IsSound under.path tree → (found : TreeAt text new pointer) × (found.path ≡ under.path)
+      by_tree (Leaf p x) stands sound = absurd stands
+      by_tree (Inner p prefix branches) (shows, stand) sound = (
+        record {
+          tree = Inner pointer prefix branches;
+          path = under.path;
+          at_root = refl;
+          stands = (node, changes.changed, shows, all-beside P (leaf_text text) (held old) (held new) pointer was_free changes.others branches stand);
+          sound = sound;
+        },
+        refl,
+      )
+
+  -- what stood stands
+  pub others_planted : (now : _) → Changes old new pointer now → (other : OpaqueNodePtr K V P) (found : TreeAt text old other) → (again : TreeAt text new other) × (again.path ≡ found.path)
+  others_planted now changes other found =
+      (record { tree = found.tree; path = found.path; at_root = found.at_root; stands = stands-beside P (leaf_text text) (held old) (held new) pointer was_free changes.others found.tree found.stands; sound = found.sound }, refl)
+
+-- a node with this prefix and these two children
+abbrev pub pair_node : {H : Type 0} → ℕ → List ℕ → ℕ × H → ℕ × H → nodes.Inner H
+pair_node room prefix low high = record { prefix_len = length prefix; stored = take (capped room (length prefix)) prefix; children = low ∷ high ∷ [] }
+
+-- it is what a builder gives
+pub built_pair : {H : Type 0} (room : ℕ) (prefix : List ℕ) (low high : ℕ × H) (a b c d : nodes.Inner H) → low.0 < high.0 → a ≡ nodes.empty_inner (empty_header room prefix (length prefix)) → b ≡ nodes.with_children a (with_child a.children low.0 low.1) → c ≡ nodes.with_children b (with_child b.children high.0 high.1) → d ≡ c → d ≡ pair_node room prefix low high
+built_pair room prefix low high a b c d ascend a_is b_is c_is d_is =
+    d_is ∙ c_is ∙ ap (λ n. nodes.with_children n (with_child n.children high.0 high.1)) (b_is ∙ ap (λ n. nodes.with_children n (with_child n.children low.0 low.1)) a_is)
+    ∙ ap (λ children. record { prefix_len = length prefix; stored = take (capped room (length prefix)) prefix; children = children }) (two_children low.0 high.0 low.1 high.1 ascend)
+
+-- two trees under what follows a path and a prefix make the tree of a node
+pub forked : {K V : Type 0} {P : ℕ} (text : K → List ℕ) (arena : ArenaOf K V P) (path prefix : List ℕ) (low high : ℕ × OpaqueNodePtr K V P) → low.0 < high.0 → high.0 < 256
+    → (a : TreeAt text arena low.1) → a.path ≡ (path ++ prefix) ++ low.0 ∷ [] → (b : TreeAt text arena high.1) → b.path ≡ (path ++ prefix) ++ high.0 ∷ [] → (depth : ℕ) → depth ≡ length path → (under : TreeUnder text arena (pair_node P prefix low high) depth) × (under.path ≡ path)
+forked {P = P} text arena path prefix low high ascend byte a a_path b b_path depth deep =
+    let branches : Branches (OpaqueNodePtr _ _ P) = Branch low.0 a.tree (Branch high.0 b.tree NoBranch) in
+    let roots : low ∷ high ∷ [] ≡ branch_roots branches = ap (λ r. (low.0, r) ∷ high ∷ []) (sym a.at_root) ∙ ap (λ r. (low.0, root_of a.tree) ∷ (high.0, r) ∷ []) (sym b.at_root) in (
+      record {
+        tree = Inner low.1 prefix branches;
+        path = path;
+        stands = (record { prefix_len = refl; stored = refl; children = roots }, (a.stands, (b.stands, tt)));
+        sound = (omega arith, (omega arith, omega (arith, ascend, byte), (omega (arith, ascend), byte, tt)), (subst (λ p. IsSound p a.tree) a_path a.sound, (subst (λ p. IsSound p b.tree) b_path b.sound, tt)));
+        deep = sym deep;
+      },
+      refl,
+    )

@@ -1,0 +1,44 @@
+-- The leaf that a node's whole prefix is read from.
+use Rattle.std.proofs.Common.{◌≡◌, ◌≢◌, ◌∙◌, ℕ, List, Some, sym, subst}
+use Rattle.art_header.specs.declared.node_type.NodeType.TheVariants.{Leaf}
+use Rattle.art_nodes.specs.ChildMap.{first_pair}
+use Rattle.art_nodes.specs.Inner as nodes
+use Rattle.art_nodes.specs.Pointers.{slab_key, opaque_pointer}
+use Rattle.art_nodes.specs.declared.pointers.NodePtr.{NodePtr}
+use Rattle.art_nodes.specs.declared.pointers.OpaqueNodePtr.{OpaqueNodePtr}
+use Rattle.art_nodes.specs.declared.leaf_node.LeafNode.{LeafNode}
+use Rattle.art_arena.specs.Arena.{ArenaOf, held, Nothing, HeldLeaf}
+use Rattle.art_arena.specs.Standing.{TreeAt, TreeUnder, leaf_text, IsLeafOf}
+use Rattle.art_arena.proofs.WayLemmas.{IsOnWay, IsOnWay-under, IsCut, IsCut-leaf, leaf-is-held, leaf-text}
+
+module _ {K V : Type 0} {P : ℕ} (text : K → List ℕ) (arena : ArenaOf K V P) (node : nodes.Inner (OpaqueNodePtr K V P)) (depth : ℕ) (least : ℕ × OpaqueNodePtr K V P) (first : first_pair node.children ≡ Some least) where
+  way_to_child : (below : TreeUnder text arena node depth) → IsOnWay P (leaf_text text) (held arena) below.tree least.1 0
+  way_to_child below = IsOnWay-under P (leaf_text text) (held arena) node below.tree below.path least.0 least.1 below.stands below.sound first
+
+  -- the tree under the least byte
+  pub child_tree : TreeUnder text arena node depth → TreeAt text arena least.1
+  child_tree below = let on = way_to_child below in record { tree = on.part; path = on.path; at_root = on.at_root; stands = on.stands; sound = on.sound }
+
+  module _ (pointer : NodePtr P (LeafNode K V P)) (below_child : (found : TreeAt text arena least.1) → IsLeafOf found.tree pointer) where
+    leaf_of_part : (below : TreeUnder text arena node depth) → IsLeafOf (way_to_child below).part pointer
+    unfolding child_tree
+    leaf_of_part below = below_child (child_tree below)
+
+    -- a leaf of it is one of the node's tree
+    pub leaf_below : (below : TreeUnder text arena node depth) → IsLeafOf below.tree pointer
+    leaf_below below = let leaf = leaf_of_part below in (leaf.0, (way_to_child below).within (opaque_pointer Leaf (slab_key pointer), leaf.0) leaf.1)
+
+    pub leaf_taken : TreeUnder text arena node depth → held arena (opaque_pointer Leaf (slab_key pointer)) ≢ Nothing
+    leaf_taken below =
+        let on = way_to_child below in
+        let leaf = leaf_of_part below in
+        leaf-is-held P (leaf_text text) (held arena) on.part (opaque_pointer Leaf (slab_key pointer)) leaf.0 on.stands leaf.1
+
+    -- its text has the prefix
+    pub prefix_in_leaf : (below : TreeUnder text arena node depth) (value : LeafNode K V P) (n : ℕ) (bytes : List ℕ) → held arena (opaque_pointer Leaf (slab_key pointer)) ≡ HeldLeaf value → bytes ≡ leaf_text text value → n ≡ node.prefix_len → IsCut P (leaf_text text) (held arena) depth n bytes below.tree
+    prefix_in_leaf below value n bytes holds read long =
+        let on = way_to_child below in
+        let at = opaque_pointer Leaf (slab_key pointer) in
+        let leaf = leaf_of_part below in
+        let same = leaf-text P (leaf_text text) (held arena) on.part at leaf.0 value on.stands leaf.1 holds in
+        subst (λ z. IsCut P (leaf_text text) (held arena) depth n z below.tree) (sym (read ∙ same)) (IsCut-leaf P (leaf_text text) (held arena) node below.tree below.path depth n at leaf.0 below.stands below.sound below.deep long (on.within (at, leaf.0) leaf.1))

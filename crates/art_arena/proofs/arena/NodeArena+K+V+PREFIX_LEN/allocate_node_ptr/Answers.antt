@@ -1,0 +1,8 @@
+use Rattle.std.proofs.Common.{Some, sym}
+use Rattle.art_arena.proofs.ArenaLemmas.{Changes-called}
+use Rattle.art_arena.proofs.arena.NodeArena+K+V+PREFIX_LEN.allocate_node_ptr.Goals as goal
+
+pub returns-in-Ok-clause-added : goal.returns-in-Ok-clause-added
+returns-in-Ok-clause-added g c =
+    let laws = g.met.N.ArenaNode in
+    Changes-called g.N.Node.TYPE g.N.Shelved.slab_of g.N.Shelved.with_slab g.N.ArenaNode.held_as laws.held_in_slab laws.slab_written laws.others_kept _ _ _ _ _ (Some c.args.node) c.slab_mut.ensures.value (sym c.from_key.ensures) c.in-Ok.ensures.updates

@@ -1,0 +1,26 @@
+use Rattle.std.proofs.Common.{◌≡◌, ◌∙◌, Some, None, arith, sym, subst, ap, ◌≤◌, ◌-◌}
+use Rattle.slab.specs.Slab.{get, slab_len}
+use Rattle.art_arena.specs.Arena.{slab_room, held_option}
+use Rattle.art_arena.proofs.ArenaLemmas.{Changes-called, room-written}
+use Rattle.art_arena.proofs.arena.NodeArena+K+V+PREFIX_LEN.deallocate_node_ptr.Goals as goal
+
+pub returns-clause-removed : goal.returns-clause-removed
+returns-clause-removed g c =
+    let laws = g.met.N.ArenaNode in
+    Changes-called g.N.Node.TYPE g.N.Shelved.slab_of g.N.Shelved.with_slab g.N.ArenaNode.held_as laws.held_in_slab laws.slab_written laws.others_kept _ _ _ _ _ None c.slab_mut.ensures.value c.key.ensures c.remove.ensures.updates
+
+pub returns-clause-room : goal.returns-clause-room
+returns-clause-room g c =
+    let laws = g.met.N.ArenaNode in
+    let before = laws.room_of_slab c.args.self.now in
+    let after = room-written g.N.Node.TYPE g.N.Shelved.slab_of g.N.Shelved.with_slab g.N.ArenaNode.held_as laws.held_in_slab laws.slab_written laws.others_kept laws.room_of_slab laws.other_room c.args.self.now c.remove.new.self in
+    let lent = ap slab_room c.slab_mut.ensures.value in
+    let len = c.remove.ensures.len in
+    let capacity = c.remove.ensures.capacity in
+    omega arith
+
+pub returns-clause-node : goal.returns-clause-node
+returns-clause-node g c =
+    let key = c.args.ptr.key in
+    let found : get (g.N.Shelved.slab_of c.args.self.now) key ≡ Some c.remove.result = sym (ap (λ s. get s key) c.slab_mut.ensures.value) ∙ sym (ap (get c.slab_mut.result.now) c.key.ensures) ∙ c.remove.ensures.value in
+    g.met.N.ArenaNode.held_in_slab c.args.self.now key ∙ ap (held_option g.N.ArenaNode.held_as) found

@@ -1,0 +1,10 @@
+use Rattle.std.proofs.Common.{◌∙◌, ap}
+use Rattle.slab.specs.Slab.{get}
+use Rattle.art_arena.proofs.ArenaLemmas.{SameNodes-written}
+use Rattle.art_arena.proofs.arena.NodeArena+K+V+PREFIX_LEN.reserve_slots.Goals as goal
+
+pub returns-clause-nodes_kept : goal.returns-clause-nodes_kept
+returns-clause-nodes_kept g c =
+    let laws = g.met.N.ArenaNode in
+    SameNodes-written g.N.Node.TYPE g.N.Shelved.slab_of g.N.Shelved.with_slab g.N.ArenaNode.held_as laws.held_in_slab laws.slab_written laws.others_kept c.args.self.now c.reserve.new.self
+    (λ key. ap (λ s. get s key) c.reserve.ensures.rest_kept ∙ ap (λ s. get s key) c.slab_mut.ensures.value)

@@ -1,0 +1,12 @@
+use Rattle.std.proofs.Common.{◌≡◌, ◌≢◌, ◌∙◌, IsTrue, true, false, sym, rules}
+use Rattle.art_nodes.specs.Pointers.{slab_key}
+use Rattle.art_arena.specs.Links.{HoldsLeaf, IsKnit, previous_at, next_at}
+use Rattle.art_arena.proofs.leaf_links.LeafNodeLeafLinks.is_knit.Goals as goal
+use Rattle.art_arena.proofs.leaf_links.LeafNodeLeafLinks.is_knit.Goals.{then-holds, else-holds}
+
+pub returns-then-previous_is_knit : goal.returns-then-previous_is_knit
+returns-then-previous_is_knit g c = elim c.if-holds.branch [
+  | then-holds w ↦
+      (λ named. record { held = c.holds.ensures.0 w.if-holds.true; previous = w.previous_is_knit.ensures.0 (sym w.value-is ∙ c.if-previous_is_knit.true); next = c.next_is_knit.ensures.0 named }, λ knit. c.next_is_knit.ensures.1 knit.next)
+  | else-holds w ↦ absurd (let e : false ≡ true = sym w.if-holds.false ∙ sym w.value-is ∙ c.if-previous_is_knit.true in cc)
+]

@@ -1,0 +1,23 @@
+use Rattle.std.proofs.Common.{◌≡◌, ◌≢◌, ◌∙◌, ◌⊎◌, Some, None, refl, sym, ap, subst, inl, inr, rules}
+use Rattle.std.specs.Option.{ForSome, option_map}
+use Rattle.art_nodes.specs.Pointers.{slab_key}
+use Rattle.art_arena.specs.Links.{HoldsLeaf, IsKnit, StandsBetween, Joins, TakesPlace, previous_at, next_at}
+use Rattle.art_arena.proofs.LeafLemmas.{HoldsLeaf-previous, HoldsLeaf-next, Joins-at, Spells-removed, own_links}
+use Rattle.art_arena.proofs.leaf_links.LeafNodeLeafLinks.remove_self.Goals as goal
+
+pub join-requires : goal.join-requires
+join-requires g c =
+    let arena = c.args.arena.now in
+    let this = slab_key c.args.this in
+    let before_held : ForSome c.previous_of-before.result (λ leaf. HoldsLeaf arena (slab_key leaf)) = λ leaf named. HoldsLeaf-next arena (slab_key leaf) this (c.requires.previous (slab_key leaf) (sym c.previous_of-before.ensures ∙ ap (option_map slab_key) named)) in
+    let after_held : ForSome c.next_of-after.result (λ leaf. HoldsLeaf arena (slab_key leaf)) = λ leaf named. HoldsLeaf-previous arena (slab_key leaf) this (c.requires.next (slab_key leaf) (sym c.next_of-after.ensures ∙ ap (option_map slab_key) named)) in
+    search rules
+
+pub returns-clause-removed : goal.returns-clause-removed
+returns-clause-removed g c = Joins-at c.args.arena.now c.join.new.arena _ _ _ _ c.previous_of-before.ensures c.next_of-after.ensures c.join.ensures.joined
+
+pub returns-clause-spelled : goal.returns-clause-spelled
+returns-clause-spelled g c = λ before after spells. Spells-removed c.args.arena.now c.join.new.arena before after (slab_key c.args.this) (Joins-at c.args.arena.now c.join.new.arena _ _ _ _ c.previous_of-before.ensures c.next_of-after.ensures c.join.ensures.joined) c.join.ensures.contents spells
+
+pub returns-clause-own_links : goal.returns-clause-own_links
+returns-clause-own_links g c = own_links c.args.arena.now c.join.new.arena (slab_key c.args.this) c.requires (Joins-at c.args.arena.now c.join.new.arena _ _ _ _ c.previous_of-before.ensures c.next_of-after.ensures c.join.ensures.joined)

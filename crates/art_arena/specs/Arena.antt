@@ -1,0 +1,101 @@
+-- What contracts see of an arena.
+use Rattle.std.specs.Prelude.{◌≡◌, ◌≢◌, ℕ, ◌-◌, Option, Some, None}
+use Rattle.slab.specs.Slab.{Slab, get, slab_len, with_value}
+use Rattle.art_header.specs.declared.node_type.NodeType.{NodeType}
+use Rattle.art_header.specs.declared.node_type.NodeType.TheVariants.{Node4, Node16, Node48, Node256, Leaf}
+use Rattle.art_header.specs.Header.{Header}
+use Rattle.art_nodes.specs.Inner.{Inner, header_of}
+use Rattle.art_nodes.specs.Pointers.{node_kind, opaque_key}
+use Rattle.art_nodes.specs.declared.pointers.OpaqueNodePtr.{OpaqueNodePtr}
+use Rattle.art_nodes.specs.declared.leaf_node.LeafNode.{LeafNode}
+
+-- the nodes of each kind, by slab key
+pub record Shelves (A B C D L : Type 0) : Type 0 where
+  pub node4 : Slab A
+  pub node16 : Slab B
+  pub node48 : Slab C
+  pub node256 : Slab D
+  pub leaf : Slab L
+
+-- those of an arena
+abbrev pub Arena : Type 0 → Type 0 → Type 0
+Arena H L = Shelves (Inner H) (Inner H) (Inner H) (Inner H) L
+
+-- what stands at a pointer
+pub data Held (H L : Type 0) : Type 0 where
+  Nothing : Held H L
+  HeldInner : Inner H → Held H L
+  HeldLeaf : L → Held H L
+
+-- how many more values a slab takes with no memory
+abbrev pub slab_room : {T : Type 0} → Slab T → ℕ
+slab_room slab = slab.capacity - slab_len slab
+
+module _ {H L : Type 0} where
+  -- how many more nodes of a kind an arena takes with no memory
+  abbrev pub room : Arena H L → NodeType → ℕ
+  room arena Node4 = slab_room arena.node4
+  room arena Node16 = slab_room arena.node16
+  room arena Node48 = slab_room arena.node48
+  room arena Node256 = slab_room arena.node256
+  room arena Leaf = slab_room arena.leaf
+
+  -- every kind has the room that it had
+  abbrev pub SameRoom : Arena H L → Arena H L → Type 0
+  SameRoom old new = (kind : NodeType) → room new kind ≡ room old kind
+
+  -- every kind but this one has the room that it had
+  abbrev pub SameOtherRoom : Arena H L → Arena H L → NodeType → Type 0
+  SameOtherRoom old new kind = (other : NodeType) → other ≢ kind → room new other ≡ room old other
+
+  abbrev pub held_inner : Option (Inner H) → Held H L
+  held_inner None = Nothing
+  held_inner (Some node) = HeldInner node
+
+  abbrev pub held_leaf : Option L → Held H L
+  held_leaf None = Nothing
+  held_leaf (Some leaf) = HeldLeaf leaf
+
+  -- what is held of a kind under a slab key
+  abbrev pub held_under : Arena H L → NodeType → ℕ → Held H L
+  held_under arena Node4 key = held_inner (get arena.node4 key)
+  held_under arena Node16 key = held_inner (get arena.node16 key)
+  held_under arena Node48 key = held_inner (get arena.node48 key)
+  held_under arena Node256 key = held_inner (get arena.node256 key)
+  held_under arena Leaf key = held_leaf (get arena.leaf key)
+
+  -- what is held, as a value or nothing of a node's own type
+  abbrev pub held_option : {N : Type 0} → (N → Held H L) → Option N → Held H L
+  held_option held_as None = Nothing
+  held_option held_as (Some node) = held_as node
+
+  -- the header of an inner node
+  abbrev pub held_header : Held H L → Option Header
+  held_header Nothing = None
+  held_header (HeldInner node) = Some (header_of node)
+  held_header (HeldLeaf leaf) = None
+
+abbrev pub ArenaOf : Type 0 → Type 0 → ℕ → Type 0
+ArenaOf K V P = Arena (OpaqueNodePtr K V P) (LeafNode K V P)
+
+module _ {K V : Type 0} {P : ℕ} where
+  -- the pointer to a node of this kind under this slab key
+  abbrev pub pointer_to : NodeType → ℕ → OpaqueNodePtr K V P
+  pointer_to kind key = record { node_type = kind; key = key; leaf = record {} }
+
+  -- what is held at a pointer
+  abbrev pub held : ArenaOf K V P → OpaqueNodePtr K V P → Held (OpaqueNodePtr K V P) (LeafNode K V P)
+  held arena pointer = held_under arena (node_kind pointer) (opaque_key pointer)
+
+  -- at this pointer stands this now, and at every other pointer what stood there
+  pub record Changes (old new : ArenaOf K V P) (at : OpaqueNodePtr K V P) (now : Held (OpaqueNodePtr K V P) (LeafNode K V P)) : Type 0 where
+    pub changed : held new at ≡ now
+    pub others : (pointer : OpaqueNodePtr K V P) → pointer ≢ at → held new pointer ≡ held old pointer
+
+  -- every pointer holds what it held
+  abbrev pub SameNodes : ArenaOf K V P → ArenaOf K V P → Type 0
+  SameNodes old new = (pointer : OpaqueNodePtr K V P) → held new pointer ≡ held old pointer
+
+  -- the arena with this node in place of the one under a slab key
+  abbrev pub with_node : {N : Type 0} → (ArenaOf K V P → Slab N) → (ArenaOf K V P → Slab N → ArenaOf K V P) → ArenaOf K V P → ℕ → N → ArenaOf K V P
+  with_node slab_of with_slab arena key node = with_slab arena (with_value (slab_of arena) key node)

@@ -1,0 +1,10 @@
+pub mod Arena
+pub mod FullPrefix
+pub mod Lending
+pub mod Links
+pub mod Reader
+pub mod ReaderValue
+pub mod Relinking
+pub mod SharedFront
+pub mod Standing
+pub mod Trees

@@ -1,0 +1,17 @@
+-- What a reader shows.
+use Rattle.std.specs.Prelude.{ℕ}
+use Rattle.art_nodes.specs.Inner.{Inner}
+use Rattle.art_nodes.specs.declared.pointers.OpaqueNodePtr.{OpaqueNodePtr}
+use Rattle.art_nodes.specs.declared.leaf_node.LeafNode as leaf
+use Rattle.art_arena.specs.Arena.{Held, HeldInner, HeldLeaf}
+use Rattle.art_arena.specs.declared.reader.AnyRef.{AnyRef}
+use Rattle.art_arena.specs.declared.reader.AnyRef.TheVariants.{Node4, Node16, Node48, Node256, LeafNode}
+
+module _ {K V : Type 0} {P : ℕ} where
+  -- the node behind a reference
+  abbrev pub shown : AnyRef (Inner (OpaqueNodePtr K V P)) (Inner (OpaqueNodePtr K V P)) (Inner (OpaqueNodePtr K V P)) (Inner (OpaqueNodePtr K V P)) (leaf.LeafNode K V P) → Held (OpaqueNodePtr K V P) (leaf.LeafNode K V P)
+  shown (Node4 node) = HeldInner node.now
+  shown (Node16 node) = HeldInner node.now
+  shown (Node48 node) = HeldInner node.now
+  shown (Node256 node) = HeldInner node.now
+  shown (LeafNode leaf) = HeldLeaf leaf.now

@@ -1,0 +1,524 @@
+//! The arena: five slabs, one for each kind of node.
+ghost use Rattle.std.specs.Prelude.{◌≡◌, ◌≢◌, ◌↔◌, ◌+◌, ◌<◌, ◌≤◌, IsTrue, Some, IfOk, IfErr, OnOk, OnErr, IsOk};
+ghost use Rattle.std.specs.Borrow.{Lends, sem};
+ghost use Rattle.std.specs.Option.{option_copied, option_map};
+ghost use Rattle.slab.specs.Slab.{get, ContainsKey};
+ghost use Rattle.art_header.specs.declared.node_type.NodeType.TheVariants as NodeType;
+ghost use Rattle.art_nodes.specs.Inner.{with_prefix};
+ghost use Rattle.art_nodes.specs.Leaf.{leaf_key, leaf_value, with_value};
+ghost use Rattle.art_nodes.specs.Pointers.{slab_key, node_kind};
+ghost use Rattle.art_arena.specs.Links.{HoldsLeaf, leaf_at, with_value_at};
+ghost use Rattle.art_arena.specs.Reader.{shown};
+ghost use Rattle.art_arena.specs.Lending.{slab_row, LendsNode, LendsValue};
+ghost use Rattle.art_arena.specs.Arena.{held, held_option, pointer_to, Nothing, HeldInner, HeldLeaf, held_header, Changes, SameNodes, room, SameRoom, SameOtherRoom, with_node};
+
+use crate::reader::{AnyRef, NodeRef};
+use art_nodes::{
+    ConcreteNodePtr, Header, InnerNode4, InnerNode16, InnerNode48, InnerNodeCommon,
+    InnerNodeDirect, LeafNode, Node, NodePtr, NodeType, OpaqueNodePtr,
+};
+use slab::Slab;
+use std::alloc::{AllocError, Global};
+use std::marker::Model;
+use std::mem;
+
+/// Five slabs. Callers name it [`NodeArena`].
+#[derive(Drop)]
+pub struct Slabs<A, B, C, D, L> {
+    node4: Slab<A>,
+    node16: Slab<B>,
+    node48: Slab<C>,
+    node256: Slab<D>,
+    leaf: Slab<L>,
+}
+
+impl<A, B, C, D, L> Model for Slabs<A, B, C, D, L> {
+    ghost use Rattle.art_arena.specs.Arena.{Shelves};
+
+    ghost Value = { Shelves A B C D L };
+
+    ghost view = { λ a. record { node4 = a.node4; node16 = a.node16; node48 = a.node48; node256 = a.node256; leaf = a.leaf } };
+}
+
+/// The nodes of trees, kept by kind under slab keys.
+///
+/// Contracts see what is held at each pointer, and for each kind its room: how many more nodes of
+/// the kind are allocated with no memory. A call changes at most the entry that it names. Only
+/// `allocate_node_ptr` and `reserve` take memory.
+///
+/// The type names the nodes, so that whoever has an arena knows that they fit in memory.
+pub type NodeArena<K, V, const PREFIX_LEN: usize> = Slabs<
+    InnerNode4<K, V, PREFIX_LEN>,
+    InnerNode16<K, V, PREFIX_LEN>,
+    InnerNode48<K, V, PREFIX_LEN>,
+    InnerNodeDirect<K, V, PREFIX_LEN>,
+    LeafNode<K, V, PREFIX_LEN>,
+>;
+
+/// A node that is kept in one slab of an arena.
+pub trait Shelved<A>: Sized {
+    ghost use Rattle.slab.specs.Slab.{Slab as Slots};
+
+    ghost slab_of: { A → Slots Self };
+
+    ghost with_slab: { A → Slots Self → A };
+
+    fn slab(arena: &A) -> &Slab<Self>
+        ensures { result.now ≡ slab_of arena.now };
+
+    fn slab_mut(arena: &mut A) -> &mut Slab<Self>
+        ensures* writes_back { sem 𝓛 (Lends A.row (slab_row Self.row) arena.entry result (with_slab arena.entry.now)) }
+        ensures value { result.now ≡ slab_of arena.old };
+}
+
+/// A node that an arena keeps: the four kinds of inner nodes and the leaf. No other type can be one,
+/// since no other is a [`Node`].
+pub trait ArenaNode<K, V, const PREFIX_LEN: usize>: Node<PREFIX_LEN, Key = K, Value = V>
+    + Shelved<NodeArena<K, V, PREFIX_LEN>> {
+    ghost use Rattle.std.specs.Prelude.{◌≡◌, ◌≢◌, ◌↔◌, ℕ};
+    ghost use Rattle.slab.specs.Slab.{Slab as Slots, get, ContainsKey};
+    ghost use Rattle.art_arena.specs.Arena.{ArenaOf, Held, Nothing, held_under, held_option, room, slab_room, SameOtherRoom};
+    ghost use Rattle.art_nodes.specs.declared.pointers.OpaqueNodePtr.{OpaqueNodePtr};
+    ghost use Rattle.art_nodes.specs.declared.leaf_node.LeafNode.{LeafNode};
+    ghost use Rattle.art_header.specs.declared.node_type.NodeType.{NodeType};
+
+    ghost held_as: { Self → Held (OpaqueNodePtr K V PREFIX_LEN) (LeafNode K V PREFIX_LEN) };
+
+    ghost held_in_slab: { (arena : ArenaOf K V PREFIX_LEN) (key : ℕ) → held_under arena Self.TYPE key ≡ held_option held_as (get (Self.slab_of arena) key) };
+
+    ghost slab_written: { (arena : ArenaOf K V PREFIX_LEN) (slots : Slots Self) → Self.slab_of (Self.with_slab arena slots) ≡ slots };
+
+    ghost held_where_contained: { (arena : ArenaOf K V PREFIX_LEN) (key : ℕ) → ContainsKey (Self.slab_of arena) key ↔ (held_under arena Self.TYPE key ≢ Nothing) };
+
+    ghost room_of_slab: { (arena : ArenaOf K V PREFIX_LEN) → room arena Self.TYPE ≡ slab_room (Self.slab_of arena) };
+
+    ghost other_room: { (arena : ArenaOf K V PREFIX_LEN) (slots : Slots Self) → SameOtherRoom arena (Self.with_slab arena slots) Self.TYPE };
+
+    ghost others_kept: { (arena : ArenaOf K V PREFIX_LEN) (slots : Slots Self) (kind : NodeType) (key : ℕ) → kind ≢ Self.TYPE → held_under (Self.with_slab arena slots) kind key ≡ held_under arena kind key };
+}
+
+impl<K, V, const PREFIX_LEN: usize> Shelved<NodeArena<K, V, PREFIX_LEN>>
+    for InnerNode4<K, V, PREFIX_LEN> {
+    ghost slab_of = { λ a. a.node4 };
+
+    ghost with_slab = { λ a s. record a { node4 = s } };
+
+    fn slab(arena: &NodeArena<K, V, PREFIX_LEN>) -> &Slab<Self> {
+        &arena.node4
+    }
+
+    fn slab_mut(arena: &mut NodeArena<K, V, PREFIX_LEN>) -> &mut Slab<Self> {
+        &mut arena.node4
+    }
+}
+
+impl<K, V, const PREFIX_LEN: usize> ArenaNode<K, V, PREFIX_LEN> for InnerNode4<K, V, PREFIX_LEN> {
+    ghost use Rattle.art_arena.specs.Arena.{HeldInner};
+    ghost use Rattle.std.proofs.Common.{rules};
+
+    ghost held_as = { HeldInner };
+
+    ghost held_where_contained = { Prim.search rules };
+
+    ghost held_in_slab = { Prim.search rules };
+
+    ghost slab_written = { Prim.search rules };
+
+    ghost room_of_slab = { Prim.search rules };
+
+    ghost other_room = { Prim.search rules };
+
+    ghost others_kept = { Prim.search rules };
+}
+
+impl<K, V, const PREFIX_LEN: usize> Shelved<NodeArena<K, V, PREFIX_LEN>>
+    for InnerNode16<K, V, PREFIX_LEN> {
+    ghost slab_of = { λ a. a.node16 };
+
+    ghost with_slab = { λ a s. record a { node16 = s } };
+
+    fn slab(arena: &NodeArena<K, V, PREFIX_LEN>) -> &Slab<Self> {
+        &arena.node16
+    }
+
+    fn slab_mut(arena: &mut NodeArena<K, V, PREFIX_LEN>) -> &mut Slab<Self> {
+        &mut arena.node16
+    }
+}
+
+impl<K, V, const PREFIX_LEN: usize> ArenaNode<K, V, PREFIX_LEN> for InnerNode16<K, V, PREFIX_LEN> {
+    ghost use Rattle.art_arena.specs.Arena.{HeldInner};
+    ghost use Rattle.std.proofs.Common.{rules};
+
+    ghost held_as = { HeldInner };
+
+    ghost held_where_contained = { Prim.search rules };
+
+    ghost held_in_slab = { Prim.search rules };
+
+    ghost slab_written = { Prim.search rules };
+
+    ghost room_of_slab = { Prim.search rules };
+
+    ghost other_room = { Prim.search rules };
+
+    ghost others_kept = { Prim.search rules };
+}
+
+impl<K, V, const PREFIX_LEN: usize> Shelved<NodeArena<K, V, PREFIX_LEN>>
+    for InnerNode48<K, V, PREFIX_LEN> {
+    ghost slab_of = { λ a. a.node48 };
+
+    ghost with_slab = { λ a s. record a { node48 = s } };
+
+    fn slab(arena: &NodeArena<K, V, PREFIX_LEN>) -> &Slab<Self> {
+        &arena.node48
+    }
+
+    fn slab_mut(arena: &mut NodeArena<K, V, PREFIX_LEN>) -> &mut Slab<Self> {
+        &mut arena.node48
+    }
+}
+
+impl<K, V, const PREFIX_LEN: usize> ArenaNode<K, V, PREFIX_LEN> for InnerNode48<K, V, PREFIX_LEN> {
+    ghost use Rattle.art_arena.specs.Arena.{HeldInner};
+    ghost use Rattle.std.proofs.Common.{rules};
+
+    ghost held_as = { HeldInner };
+
+    ghost held_where_contained = { Prim.search rules };
+
+    ghost held_in_slab = { Prim.search rules };
+
+    ghost slab_written = { Prim.search rules };
+
+    ghost room_of_slab = { Prim.search rules };
+
+    ghost other_room = { Prim.search rules };
+
+    ghost others_kept = { Prim.search rules };
+}
+
+impl<K, V, const PREFIX_LEN: usize> Shelved<NodeArena<K, V, PREFIX_LEN>>
+    for InnerNodeDirect<K, V, PREFIX_LEN> {
+    ghost slab_of = { λ a. a.node256 };
+
+    ghost with_slab = { λ a s. record a { node256 = s } };
+
+    fn slab(arena: &NodeArena<K, V, PREFIX_LEN>) -> &Slab<Self> {
+        &arena.node256
+    }
+
+    fn slab_mut(arena: &mut NodeArena<K, V, PREFIX_LEN>) -> &mut Slab<Self> {
+        &mut arena.node256
+    }
+}
+
+impl<K, V, const PREFIX_LEN: usize> ArenaNode<K, V, PREFIX_LEN>
+    for InnerNodeDirect<K, V, PREFIX_LEN> {
+    ghost use Rattle.art_arena.specs.Arena.{HeldInner};
+    ghost use Rattle.std.proofs.Common.{rules};
+
+    ghost held_as = { HeldInner };
+
+    ghost held_where_contained = { Prim.search rules };
+
+    ghost held_in_slab = { Prim.search rules };
+
+    ghost slab_written = { Prim.search rules };
+
+    ghost room_of_slab = { Prim.search rules };
+
+    ghost other_room = { Prim.search rules };
+
+    ghost others_kept = { Prim.search rules };
+}
+
+impl<K, V, const PREFIX_LEN: usize> Shelved<NodeArena<K, V, PREFIX_LEN>>
+    for LeafNode<K, V, PREFIX_LEN> {
+    ghost slab_of = { λ a. a.leaf };
+
+    ghost with_slab = { λ a s. record a { leaf = s } };
+
+    fn slab(arena: &NodeArena<K, V, PREFIX_LEN>) -> &Slab<Self> {
+        &arena.leaf
+    }
+
+    fn slab_mut(arena: &mut NodeArena<K, V, PREFIX_LEN>) -> &mut Slab<Self> {
+        &mut arena.leaf
+    }
+}
+
+impl<K, V, const PREFIX_LEN: usize> ArenaNode<K, V, PREFIX_LEN> for LeafNode<K, V, PREFIX_LEN> {
+    ghost use Rattle.art_arena.specs.Arena.{HeldLeaf};
+    ghost use Rattle.std.proofs.Common.{rules};
+
+    ghost held_as = { HeldLeaf };
+
+    ghost held_where_contained = { Prim.search rules };
+
+    ghost held_in_slab = { Prim.search rules };
+
+    ghost slab_written = { Prim.search rules };
+
+    ghost room_of_slab = { Prim.search rules };
+
+    ghost other_room = { Prim.search rules };
+
+    ghost others_kept = { Prim.search rules };
+}
+
+impl<K, V, const PREFIX_LEN: usize> NodeArena<K, V, PREFIX_LEN> {
+    /// An arena that holds nothing.
+    pub fn new(alloc: Global) -> Self
+        ensures { (pointer : _) → held result pointer ≡ Nothing }
+    {
+        Slabs {
+            node4: Slab::new(alloc),
+            node16: Slab::new(alloc),
+            node48: Slab::new(alloc),
+            node256: Slab::new(alloc),
+            leaf: Slab::new(alloc),
+        }
+    }
+
+    /// Whether a node of this type is held at the pointer.
+    pub fn holds<N: ArenaNode<K, V, PREFIX_LEN>>(&self, ptr: NodePtr<PREFIX_LEN, N>) -> bool
+        ensures { IsTrue result ↔ (held self.now (pointer_to N.TYPE (slab_key ptr)) ≢ Nothing) }
+    {
+        N::slab(self).contains(ptr.key())
+    }
+
+    /// The node at the pointer, which has to be held.
+    pub fn as_ref<N: ArenaNode<K, V, PREFIX_LEN>>(&self, ptr: NodePtr<PREFIX_LEN, N>) -> &N
+        requires { held self.now (pointer_to N.TYPE (slab_key ptr)) ≢ Nothing }
+        ensures { held self.now (pointer_to N.TYPE (slab_key ptr)) ≡ N.held_as result.now }
+    {
+        N::slab(self).get(ptr.key()).unwrap()
+    }
+
+    // The node, if the pointer is held.
+    pub(crate) fn get<N: ArenaNode<K, V, PREFIX_LEN>>(
+        &self,
+        ptr: NodePtr<PREFIX_LEN, N>,
+    ) -> Option<&N>
+        ensures { held self.now (pointer_to N.TYPE (slab_key ptr)) ≡ held_option N.held_as (option_copied result) }
+    {
+        N::slab(self).get(ptr.key())
+    }
+
+    /// Keeps the node, and answers the pointer that it is held at from now on.
+    ///
+    /// Takes no memory where there is room for the kind: [`NodeArena::reserve`] makes it. Refused
+    /// for want of memory, the node comes back and every node is as before.
+    pub fn allocate_node_ptr<N: ArenaNode<K, V, PREFIX_LEN>>(
+        &mut self,
+        node: N,
+    ) -> Result<NodePtr<PREFIX_LEN, N>, (AllocError, N)>
+        ensures was_free { IfOk result (λ ptr. held self.old (pointer_to N.TYPE (slab_key ptr)) ≡ Nothing) }
+        ensures added { IfOk result (λ ptr. Changes self.old self.new (pointer_to N.TYPE (slab_key ptr)) (N.held_as node)) }
+        ensures room { OnOk result (room self.old N.TYPE ≤ room self.new N.TYPE + 1) }
+        ensures other_room { SameOtherRoom self.old self.new N.TYPE }
+        ensures succeeds { 0 < room self.old N.TYPE → IsOk result }
+        ensures nodes_kept { OnErr result (SameNodes self.old self.new) }
+        ensures node_back { IfErr result (λ fault. fault.1 ≡ node) }
+    {
+        match N::slab_mut(self).insert(node) {
+            Ok(key) => Ok(NodePtr::from_key(key)),
+            Err(failed) => Err((AllocError, failed.value)),
+        }
+    }
+
+    /// Makes room for `additional` more nodes of the kind: so many allocations of the kind then
+    /// succeed. Refused for want of memory, every node and the room of the other kinds are as before.
+    pub fn reserve(&mut self, kind: NodeType, additional: usize) -> Result<(), AllocError>
+        ensures room { OnOk result (additional ≤ room self.new kind) }
+        ensures nodes_kept { SameNodes self.old self.new }
+        ensures other_room { SameOtherRoom self.old self.new kind }
+    {
+        match kind {
+            NodeType::Node4 => self.reserve_slots::<InnerNode4<K, V, PREFIX_LEN>>(additional),
+            NodeType::Node16 => self.reserve_slots::<InnerNode16<K, V, PREFIX_LEN>>(additional),
+            NodeType::Node48 => self.reserve_slots::<InnerNode48<K, V, PREFIX_LEN>>(additional),
+            NodeType::Node256 => {
+                self.reserve_slots::<InnerNodeDirect<K, V, PREFIX_LEN>>(additional)
+            }
+            NodeType::Leaf => self.reserve_slots::<LeafNode<K, V, PREFIX_LEN>>(additional),
+        }
+    }
+
+    fn reserve_slots<N: ArenaNode<K, V, PREFIX_LEN>>(
+        &mut self,
+        additional: usize,
+    ) -> Result<(), AllocError>
+        ensures room { OnOk result (additional ≤ room self.new N.TYPE) }
+        ensures nodes_kept { SameNodes self.old self.new }
+        ensures other_room { SameOtherRoom self.old self.new N.TYPE }
+    {
+        N::slab_mut(self).reserve(additional)
+    }
+
+    /// Hands out the node at the pointer, which has to be held and is not any more. Takes no memory.
+    pub fn deallocate_node_ptr<N: ArenaNode<K, V, PREFIX_LEN>>(
+        &mut self,
+        ptr: NodePtr<PREFIX_LEN, N>,
+    ) -> N
+        requires { held self.old (pointer_to N.TYPE (slab_key ptr)) ≢ Nothing }
+        ensures node { held self.old (pointer_to N.TYPE (slab_key ptr)) ≡ N.held_as result }
+        ensures removed { Changes self.old self.new (pointer_to N.TYPE (slab_key ptr)) Nothing }
+        ensures room { room self.old N.TYPE ≤ room self.new N.TYPE }
+        ensures other_room { SameOtherRoom self.old self.new N.TYPE }
+    {
+        N::slab_mut(self).remove(ptr.key())
+    }
+
+    /// The node, to be changed in place. The arena ends with what is left there, and every other
+    /// node and the room of every kind are as before. The pointer has to be held.
+    pub fn as_mut<N: ArenaNode<K, V, PREFIX_LEN>>(&mut self, ptr: NodePtr<PREFIX_LEN, N>) -> &mut N
+        requires { held self.old (pointer_to N.TYPE (slab_key ptr)) ≢ Nothing }
+        ensures* writes_back { sem 𝓛 (LendsNode K.row V.row PREFIX_LEN.row N.row N.slab_of N.with_slab self.entry (slab_key ptr) result) }
+        ensures node { held self.old (pointer_to N.TYPE (slab_key ptr)) ≡ N.held_as result.now }
+        ensures changes { (now : _) → Changes self.old (with_node N.slab_of N.with_slab self.old (slab_key ptr) now) (pointer_to N.TYPE (slab_key ptr)) (N.held_as now) }
+        ensures room { (now : _) → SameRoom self.old (with_node N.slab_of N.with_slab self.old (slab_key ptr) now) }
+    {
+        N::slab_mut(self).get_mut(ptr.key()).unwrap()
+    }
+
+    /// Puts the node in the place of the one that is held, which it answers. The pointer has to be
+    /// held. Takes no memory.
+    pub fn replace<N: ArenaNode<K, V, PREFIX_LEN>>(
+        &mut self,
+        ptr: NodePtr<PREFIX_LEN, N>,
+        node: N,
+    ) -> N
+        requires { held self.old (pointer_to N.TYPE (slab_key ptr)) ≢ Nothing }
+        ensures replaced_node { held self.old (pointer_to N.TYPE (slab_key ptr)) ≡ N.held_as result }
+        ensures replaced { Changes self.old self.new (pointer_to N.TYPE (slab_key ptr)) (N.held_as node) }
+        ensures room { SameRoom self.old self.new }
+    {
+        mem::replace(self.as_mut(ptr), node)
+    }
+
+    /// The key and the value of a leaf, which has to be held.
+    pub fn as_key_value_ref(&self, ptr: NodePtr<PREFIX_LEN, LeafNode<K, V, PREFIX_LEN>>) -> (&K, &V)
+        requires { HoldsLeaf self.now (slab_key ptr) }
+        ensures key { option_map leaf_key (leaf_at self.now (slab_key ptr)) ≡ Some result.0.now }
+        ensures value { option_map leaf_value (leaf_at self.now (slab_key ptr)) ≡ Some result.1.now }
+    {
+        self.as_ref(ptr).entry_ref()
+    }
+
+    /// The key of a leaf, and its value to be changed in place. The leaf has to be held. The arena
+    /// ends with the value that is left there. The leaf's links and every other node are as before.
+    pub fn as_key_ref_value_mut(
+        &mut self,
+        ptr: NodePtr<PREFIX_LEN, LeafNode<K, V, PREFIX_LEN>>,
+    ) -> (&K, &mut V)
+        requires { HoldsLeaf self.old (slab_key ptr) }
+        ensures* writes_back { sem 𝓛 (LendsValue K.row V.row PREFIX_LEN.row self.entry (slab_key ptr) result.1) }
+        ensures key { option_map leaf_key (leaf_at self.old (slab_key ptr)) ≡ Some result.0.now }
+        ensures value { option_map leaf_value (leaf_at self.old (slab_key ptr)) ≡ Some result.1.now }
+        ensures changes { (leaf value : _) → leaf_at self.old (slab_key ptr) ≡ Some leaf → Changes self.old (with_value_at self.old (slab_key ptr) value) (pointer_to NodeType.Leaf (slab_key ptr)) (HeldLeaf (with_value leaf value)) }
+        ensures room { (value : _) → SameRoom self.old (with_value_at self.old (slab_key ptr) value) }
+    {
+        self.as_mut(ptr).key_ref_value_mut()
+    }
+
+    /// The key of a leaf, which has to be held.
+    pub fn as_key_ref(&self, ptr: NodePtr<PREFIX_LEN, LeafNode<K, V, PREFIX_LEN>>) -> &K
+        requires { HoldsLeaf self.now (slab_key ptr) }
+        ensures { option_map leaf_key (leaf_at self.now (slab_key ptr)) ≡ Some result.now }
+    {
+        self.as_ref(ptr).key_ref()
+    }
+
+    /// The value of a leaf, which has to be held.
+    pub fn as_value_ref(&self, ptr: NodePtr<PREFIX_LEN, LeafNode<K, V, PREFIX_LEN>>) -> &V
+        requires { HoldsLeaf self.now (slab_key ptr) }
+        ensures { option_map leaf_value (leaf_at self.now (slab_key ptr)) ≡ Some result.now }
+    {
+        self.as_ref(ptr).value_ref()
+    }
+
+    /// The value of a leaf, to be changed in place. The leaf has to be held. The arena ends with the
+    /// value that is left there. The leaf's key and links and every other node are as before.
+    pub fn as_value_mut(&mut self, ptr: NodePtr<PREFIX_LEN, LeafNode<K, V, PREFIX_LEN>>) -> &mut V
+        requires { HoldsLeaf self.old (slab_key ptr) }
+        ensures* writes_back { sem 𝓛 (LendsValue K.row V.row PREFIX_LEN.row self.entry (slab_key ptr) result) }
+        ensures value { option_map leaf_value (leaf_at self.old (slab_key ptr)) ≡ Some result.now }
+        ensures changes { (leaf value : _) → leaf_at self.old (slab_key ptr) ≡ Some leaf → Changes self.old (with_value_at self.old (slab_key ptr) value) (pointer_to NodeType.Leaf (slab_key ptr)) (HeldLeaf (with_value leaf value)) }
+        ensures room { (value : _) → SameRoom self.old (with_value_at self.old (slab_key ptr) value) }
+    {
+        self.as_mut(ptr).value_mut()
+    }
+
+    /// The header of an inner node, or None for a leaf. The pointer has to be held.
+    pub fn header(&self, pointer: OpaqueNodePtr<K, V, PREFIX_LEN>) -> Option<&Header<PREFIX_LEN>>
+        requires { held self.now pointer ≢ Nothing }
+        ensures { option_copied result ≡ held_header (held self.now pointer) }
+    {
+        match pointer.to_node_ptr() {
+            ConcreteNodePtr::Node4(node) => Some(self.as_ref(node).header()),
+            ConcreteNodePtr::Node16(node) => Some(self.as_ref(node).header()),
+            ConcreteNodePtr::Node48(node) => Some(self.as_ref(node).header()),
+            ConcreteNodePtr::Node256(node) => Some(self.as_ref(node).header()),
+            ConcreteNodePtr::LeafNode(_) => None,
+        }
+    }
+
+    /// Gives an inner node the prefix of this header: its length and its stored front. The children
+    /// and every other node stay. The pointer has to be held and no leaf's.
+    pub fn set_prefix(
+        &mut self,
+        pointer: OpaqueNodePtr<K, V, PREFIX_LEN>,
+        header: &Header<PREFIX_LEN>,
+    )
+        requires held { held self.old pointer ≢ Nothing }
+        requires inner { node_kind pointer ≢ NodeType.Leaf }
+        ensures prefix { (node : _) → held self.old pointer ≡ HeldInner node → Changes self.old self.new pointer (HeldInner (with_prefix node header.now)) }
+        ensures room { SameRoom self.old self.new }
+    {
+        match pointer.to_node_ptr() {
+            ConcreteNodePtr::Node4(node) => self.as_mut(node).set_prefix(header),
+            ConcreteNodePtr::Node16(node) => self.as_mut(node).set_prefix(header),
+            ConcreteNodePtr::Node48(node) => self.as_mut(node).set_prefix(header),
+            ConcreteNodePtr::Node256(node) => self.as_mut(node).set_prefix(header),
+            ConcreteNodePtr::LeafNode(_) => unreachable!(),
+        }
+    }
+
+    /// Whether a node of the pointer's kind is held there.
+    pub fn holds_opaque(&self, ptr: OpaqueNodePtr<K, V, PREFIX_LEN>) -> bool
+        ensures { IsTrue result ↔ (held self.now ptr ≢ Nothing) }
+    {
+        match ptr.to_node_ptr() {
+            ConcreteNodePtr::Node4(node) => self.node4.contains(node.key()),
+            ConcreteNodePtr::Node16(node) => self.node16.contains(node.key()),
+            ConcreteNodePtr::Node48(node) => self.node48.contains(node.key()),
+            ConcreteNodePtr::Node256(node) => self.node256.contains(node.key()),
+            ConcreteNodePtr::LeafNode(leaf) => self.leaf.contains(leaf.key()),
+        }
+    }
+
+    // The node at a pointer.
+    pub(crate) fn node_ref(
+        &self,
+        pointer: OpaqueNodePtr<K, V, PREFIX_LEN>,
+    ) -> NodeRef<'_, K, V, PREFIX_LEN>
+        requires { held self.now pointer ≢ Nothing }
+        ensures node { held self.now pointer ≡ shown result }
+    {
+        match pointer.to_node_ptr() {
+            ConcreteNodePtr::Node4(node) => AnyRef::Node4(self.node4.get(node.key()).unwrap()),
+            ConcreteNodePtr::Node16(node) => AnyRef::Node16(self.node16.get(node.key()).unwrap()),
+            ConcreteNodePtr::Node48(node) => AnyRef::Node48(self.node48.get(node.key()).unwrap()),
+            ConcreteNodePtr::Node256(node) => AnyRef::Node256(
+                self.node256.get(node.key()).unwrap(),
+            ),
+            ConcreteNodePtr::LeafNode(leaf) => AnyRef::LeafNode(self.leaf.get(leaf.key()).unwrap()),
+        }
+    }
+}
+
+#[cfg(test)]
+mod tests;

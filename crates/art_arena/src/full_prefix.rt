@@ -1,0 +1,191 @@
+//! The whole prefix of an inner node, however few of its bytes the node stores.
+ghost use Rattle.std.specs.Prelude.{◌≡◌, ◌≢◌, ◌↔◌, ◌<◌, ◌≤◌, ◌++◌, ◌∷◌, ℕ, List, length, drop, All, Some, None, Ok, IsOk, IsSome, IfSome, IfOk, IfErr};
+ghost use Rattle.std.specs.declared.cmp.Ordering.TheVariants.{Equal};
+ghost use Rattle.art_bytes.specs.Text.{IsFront};
+ghost use Rattle.art_header.specs.declared.node_type.NodeType.TheVariants.{Leaf};
+ghost use Rattle.art_nodes.specs.ChildMap.{first_pair};
+ghost use Rattle.art_nodes.specs.Inner.{Inner};
+ghost use Rattle.art_nodes.specs.Pointers.{slab_key, opaque_pointer};
+ghost use Rattle.art_arena.specs.Arena.{held, HeldInner, Nothing};
+ghost use Rattle.art_arena.specs.FullPrefix.{match_of, LieOnSide};
+ghost use Rattle.art_arena.specs.SharedFront.{IsSharedFrom, full_match};
+ghost use Rattle.art_arena.specs.Standing.{IsLeafOf, TreeAt, TreeUnder};
+ghost use Rattle.art_arena.specs.Trees.{texts};
+
+use crate::arena::NodeArena;
+use art_bytes::AsBytes;
+use art_nodes::{
+    ConcreteNodePtr, InnerNodeCommon, LeafNode, NodePtr, OpaqueNodePtr, PrefixMatch,
+    common_front_len,
+};
+use std::cmp::Ordering;
+
+/// The whole prefix of a node, and the leaf below whose key it was read from where the node does
+/// not store all of it.
+pub type NodePrefix<'a, K, V, const PREFIX_LEN: usize> = (
+    &'a [u8],
+    Option<NodePtr<PREFIX_LEN, LeafNode<K, V, PREFIX_LEN>>>,
+);
+
+/// The key differs from the whole prefix, or ends inside it.
+#[derive_where(Clone, Copy)]
+pub struct ExplicitMismatch<K, V, const PREFIX_LEN: usize> {
+    /// How many bytes were matched.
+    pub matched_bytes: usize,
+    /// The prefix's byte that the key lacks or differs in.
+    pub prefix_byte: u8,
+    /// The leaf that the prefix was read from, where the node does not store all of it.
+    pub leaf_ptr: Option<NodePtr<PREFIX_LEN, LeafNode<K, V, PREFIX_LEN>>>,
+    /// The order of the prefix against the part of the key beside it. It is never `Equal`.
+    pub node_prefix_comparison_to_search_key_segment: Ordering,
+}
+
+/// An inner node whose whole prefix can be read, with the arena that holds the nodes below it.
+///
+/// A node stores at most `PREFIX_LEN` bytes of its prefix. Where the prefix is longer, its bytes are
+/// those that the keys of all leaves below share, and are read from the key of one of them.
+pub trait FullPrefix<K: AsBytes, V, const PREFIX_LEN: usize>: InnerNodeCommon<K, V, PREFIX_LEN> {
+    /// The whole prefix of the node: what the keys of all leaves below share from `depth` on, where
+    /// `depth` is the number of bytes on the path to the node. It comes with the leaf that it was
+    /// read from, where it is longer than `PREFIX_LEN`: which one of the leaves below is open.
+    ///
+    /// Where the node stores all of its prefix, that is answered, with no leaf. Else the nodes below
+    /// have to stand in the arena, sound under a path of `depth` bytes, and the way goes down to one
+    /// leaf. Takes no memory.
+    final fn read_full_prefix<'a>(
+        &'a self,
+        arena: &'a NodeArena<K, V, PREFIX_LEN>,
+        depth: usize,
+    ) -> NodePrefix<'a, K, V, PREFIX_LEN>
+        requires tree { PREFIX_LEN < (Self.inner self.now).prefix_len →
+            TreeUnder K.text arena.now (Self.inner self.now) depth }
+        ensures shared { (below : TreeUnder K.text arena.now (Self.inner self.now) depth) →
+            IsSharedFrom depth (texts below.tree) result.0.now }
+        ensures length { length result.0.now ≡ (Self.inner self.now).prefix_len }
+        ensures leaf_where_longer { IsSome result.1 ↔ (PREFIX_LEN < length result.0.now) }
+        ensures leaf_below { (below : TreeUnder K.text arena.now (Self.inner self.now) depth) →
+            IfSome result.1 (IsLeafOf below.tree) }
+        ensures stored { (Self.inner self.now).prefix_len ≤ PREFIX_LEN →
+            result.0.now ≡ (Self.inner self.now).stored }
+    {
+        let prefix_len = self.prefix_len();
+        if prefix_len <= PREFIX_LEN {
+            return (self.stored_prefix(), None);
+        }
+        let (_, child) = self.min();
+        let leaf = some_leaf_below(arena, child);
+        let text = arena.as_ref(leaf).key_ref().as_bytes();
+        (&text[depth..depth + prefix_len], Some(leaf))
+    }
+
+    /// Compares the whole prefix of the node with what is left of the key after `depth` bytes, the
+    /// number of bytes on the path to the node and at most those of the key.
+    ///
+    /// Answers the length of the prefix where that rest begins with it. Else it answers how many
+    /// bytes match, the prefix's byte after them, and the order of the prefix against as many bytes
+    /// of the rest. Where the key begins with the path to the node, every key below lies on that
+    /// side of it. What has to stand in the arena is what
+    /// [`FullPrefix::read_full_prefix`] asks. Takes no memory.
+    final fn match_full_prefix(
+        &self,
+        arena: &NodeArena<K, V, PREFIX_LEN>,
+        key: &[u8],
+        depth: usize,
+    ) -> Result<PrefixMatch, ExplicitMismatch<K, V, PREFIX_LEN>>
+        requires depth { depth ≤ length key.now }
+        requires tree { PREFIX_LEN < (Self.inner self.now).prefix_len →
+            TreeUnder K.text arena.now (Self.inner self.now) depth }
+        ensures matched { (below : TreeUnder K.text arena.now (Self.inner self.now) depth) (shared : List ℕ) →
+            IsSharedFrom depth (texts below.tree) shared →
+            match_of result ≡ full_match shared (drop depth key.now) }
+        ensures leaf_where_longer { (below : TreeUnder K.text arena.now (Self.inner self.now) depth)
+            (shared : List ℕ) → IsSharedFrom depth (texts below.tree) shared →
+            IfErr result (λ mismatch. IsSome mismatch.leaf_ptr ↔ (PREFIX_LEN < length shared)) }
+        ensures leaf_below { (below : TreeUnder K.text arena.now (Self.inner self.now) depth) →
+            IfErr result (λ mismatch. IfSome mismatch.leaf_ptr (IsLeafOf below.tree)) }
+        ensures side { (below : TreeUnder K.text arena.now (Self.inner self.now) depth) →
+            IsFront below.path key.now → IfErr result (λ mismatch. LieOnSide
+            mismatch.node_prefix_comparison_to_search_key_segment key.now (texts below.tree)) }
+        ensures begun { (below : TreeUnder K.text arena.now (Self.inner self.now) depth) (shared : List ℕ) →
+            IsSharedFrom depth (texts below.tree) shared → IsFront below.path key.now →
+            IsOk result → All (IsFront (below.path ++ shared)) (key.now ∷ texts below.tree) }
+        ensures never_equal { IfErr result (λ mismatch.
+            mismatch.node_prefix_comparison_to_search_key_segment ≢ Equal) }
+        ensures stored { (Self.inner self.now).prefix_len ≤ PREFIX_LEN →
+            match_of result ≡ full_match (Self.inner self.now).stored (drop depth key.now) }
+        ensures no_leaf_where_stored { (Self.inner self.now).prefix_len ≤ PREFIX_LEN →
+            IfErr result (λ mismatch. mismatch.leaf_ptr ≡ None) }
+    {
+        let (prefix, leaf_ptr) = self.read_full_prefix(arena, depth);
+        let rest = &key[depth..];
+        let matched_bytes = common_front_len(prefix, rest);
+        if matched_bytes == prefix.len() {
+            return Ok(PrefixMatch { matched_bytes });
+        }
+        let segment = &rest[..prefix.len().min(rest.len())];
+        Err(ExplicitMismatch {
+            matched_bytes,
+            prefix_byte: prefix[matched_bytes],
+            leaf_ptr,
+            node_prefix_comparison_to_search_key_segment: prefix.cmp(segment),
+        })
+    }
+}
+
+impl<K: AsBytes, V, const PREFIX_LEN: usize, N: InnerNodeCommon<K, V, PREFIX_LEN>> FullPrefix<
+    K,
+    V,
+    PREFIX_LEN,
+> for N {}
+
+// Some leaf of the tree that stands at this pointer. Each step makes the path longer, and a leaf's
+// text, which is longer still, is shorter than 2^64.
+fn some_leaf_below<K: AsBytes, V, const PREFIX_LEN: usize>(
+    arena: &NodeArena<K, V, PREFIX_LEN>,
+    pointer: OpaqueNodePtr<K, V, PREFIX_LEN>,
+) -> NodePtr<PREFIX_LEN, LeafNode<K, V, PREFIX_LEN>>
+    requires tree { TreeAt K.text arena.now pointer }
+    ensures { (found : TreeAt K.text arena.now pointer) → IsLeafOf found.tree result }
+{
+    let mut at = pointer;
+    let mut passed: usize = 0;
+    'way: loop {
+        match step_down(arena, at) {
+            Ok(child) => {
+                at = child;
+                passed += 1;
+            }
+            Err(leaf) => {
+                return leaf;
+            }
+        }
+    }
+}
+
+// The child under the least byte of the inner node at this pointer, or the leaf that is there.
+fn step_down<K, V, const PREFIX_LEN: usize>(
+    arena: &NodeArena<K, V, PREFIX_LEN>,
+    pointer: OpaqueNodePtr<K, V, PREFIX_LEN>,
+) -> Result<OpaqueNodePtr<K, V, PREFIX_LEN>, NodePtr<PREFIX_LEN, LeafNode<K, V, PREFIX_LEN>>>
+    requires held { held arena.now pointer ≢ Nothing }
+    requires has_child { (node : Inner _) → held arena.now pointer ≡ HeldInner node →
+        0 < length node.children }
+    ensures child { IfOk result (λ child. (node : Inner _) × (byte : ℕ) ×
+        (held arena.now pointer ≡ HeldInner node) ×
+        (first_pair node.children ≡ Some (byte, child))) }
+    ensures leaf { IfErr result (λ leaf. pointer ≡ opaque_pointer Leaf (slab_key leaf)) }
+{
+    let least = match pointer.to_node_ptr() {
+        ConcreteNodePtr::Node4(node) => arena.as_ref(node).min(),
+        ConcreteNodePtr::Node16(node) => arena.as_ref(node).min(),
+        ConcreteNodePtr::Node48(node) => arena.as_ref(node).min(),
+        ConcreteNodePtr::Node256(node) => arena.as_ref(node).min(),
+        ConcreteNodePtr::LeafNode(leaf) => {
+            return Err(leaf);
+        }
+    };
+    Ok(least.1)
+}
+
+#[cfg(test)]
+mod tests;

@@ -1,0 +1,74 @@
+//! What holds of every tree. The functions do no work: the contract of each is a law.
+//!
+//! A tree is seen as plain data, a leaf with its pointer and its text or an inner node with its
+//! pointer, its prefix and its branches by ascending byte. It is sound under a path where every
+//! leaf's text begins with the way to it and every inner node has two branches or more, and it
+//! stands in an arena where each of its pointers holds its node.
+ghost use Rattle.std.specs.Prelude.{◌≡◌, ◌≤◌, ◌++◌, ℕ, List, length, AllPairs};
+ghost use Rattle.std.specs.declared.cmp.Ordering.TheVariants.{Less};
+ghost use Rattle.art_bytes.specs.Text.{IsFront, text_order};
+ghost use Rattle.art_nodes.specs.ChildMap.{IsAscending, key_bytes};
+ghost use Rattle.art_nodes.specs.declared.pointers.OpaqueNodePtr.{OpaqueNodePtr};
+ghost use Rattle.art_arena.specs.Arena.{ArenaOf, HeldInner, Nothing, Changes, held};
+ghost use Rattle.art_arena.specs.Links.{AreDistinct};
+ghost use Rattle.art_arena.specs.SharedFront.{IsSharedFront, IsSharedFrom};
+ghost use Rattle.art_arena.specs.Standing.{NodeStands, StandsIn, AllStandIn};
+ghost use Rattle.art_arena.specs.Trees.{Tree, Inner, Branches, branch_roots, texts, places, IsSound, AreSound, SameButPointers};
+
+use art_bytes::AsBytes;
+
+/// The path to an inner node and its prefix are what the texts of all leaves below share.
+pub fn path_and_prefix_are_shared<H>()
+    ensures { (path prefix : List ℕ) (pointer : H) (branches : Branches H) →
+        IsSound path (Inner pointer prefix branches) →
+        IsSharedFront (texts (Inner pointer prefix branches)) (path ++ prefix) }
+{}
+
+/// The texts of a sound tree ascend strictly, from left to right.
+pub fn texts_ascend<H>()
+    ensures { (path : List ℕ) (tree : Tree H) → IsSound path tree →
+        AllPairs (λ a b. text_order a b ≡ Less) (texts tree) }
+{}
+
+/// No text of a sound tree begins another.
+pub fn no_text_begins_another<H>()
+    ensures { (path : List ℕ) (tree : Tree H) → IsSound path tree →
+        AllPairs (λ a b. (¬ IsFront a b) × (¬ IsFront b a)) (texts tree) }
+{}
+
+/// Each pointer of a sound tree that stands in an arena is at one place of it.
+pub fn each_pointer_is_at_one_place<K: AsBytes, V, const PREFIX_LEN: usize>()
+    ensures { (arena : ArenaOf K V PREFIX_LEN) (path : List ℕ) (tree : _) →
+        StandsIn K.text arena tree → IsSound path tree → AreDistinct (places tree) }
+{}
+
+/// Trees that are the same but for their pointers have the same texts, and so share the same bytes
+/// from each depth on. The pointers may be those of arenas of different `PREFIX_LEN`.
+pub fn same_trees_have_the_same_texts<H, L>()
+    ensures texts { (tree : Tree H) (other : Tree L) → SameButPointers tree other →
+        texts tree ≡ texts other }
+    ensures shared { (tree : Tree H) (other : Tree L) (depth : ℕ) (shared : List ℕ) →
+        SameButPointers tree other → IsSharedFrom depth (texts tree) shared →
+        IsSharedFrom depth (texts other) shared }
+{}
+
+/// A node over sound trees that stand makes, once allocated, a tree that stands and is sound.
+pub fn an_allocated_node_makes_a_tree<K: AsBytes, V, const PREFIX_LEN: usize>()
+    ensures stands { (old new : ArenaOf K V PREFIX_LEN) (pointer : _) (node : _) (prefix : List ℕ)
+        (branches : _) → held old pointer ≡ Nothing → Changes old new pointer (HeldInner node) →
+        NodeStands PREFIX_LEN node prefix branches → AllStandIn K.text old branches →
+        StandsIn K.text new (Inner pointer prefix branches) }
+    ensures sound { (pointer : OpaqueNodePtr K V PREFIX_LEN) (path prefix : List ℕ) (branches : _) →
+        2 ≤ length (branch_roots branches) → IsAscending (key_bytes (branch_roots branches)) →
+        AreSound (path ++ prefix) branches → IsSound path (Inner pointer prefix branches) }
+{}
+
+/// To allocate leaves every tree standing that stood.
+pub fn allocating_leaves_trees_standing<K: AsBytes, V, const PREFIX_LEN: usize>()
+    ensures tree { (old new : ArenaOf K V PREFIX_LEN) (pointer : _) (now : _) (tree : _) →
+        held old pointer ≡ Nothing → Changes old new pointer now →
+        StandsIn K.text old tree → StandsIn K.text new tree }
+    ensures branches { (old new : ArenaOf K V PREFIX_LEN) (pointer : _) (now : _) (branches : _) →
+        held old pointer ≡ Nothing → Changes old new pointer now →
+        AllStandIn K.text old branches → AllStandIn K.text new branches }
+{}

@@ -1,0 +1,314 @@
+//! The list of leaves: each one names the leaf before it and the leaf after it.
+ghost use Rattle.std.specs.Prelude.{◌≡◌, ◌≢◌, ◌↔◌, List, ◌∷◌, ◌++◌, IsTrue, Some, None, false, not};
+ghost use Rattle.std.specs.Option.{ForSome, option_map};
+ghost use Rattle.std.specs.declared.cmp.Ordering.TheVariants.{Less};
+ghost use Rattle.art_bytes.specs.Text.{text_order};
+ghost use Rattle.art_nodes.specs.Pointers.{slab_key};
+ghost use Rattle.art_arena.specs.Arena.{SameRoom};
+ghost use Rattle.art_arena.specs.Links.{Spells, HoldsLeaf, IsUnlinked, IsKnit, SameButLinks, Joins, StandsBetween, TakesPlace, previous_at, next_at, text_at};
+ghost use Rattle.art_arena.specs.Relinking.{SetsNext, SetsPrevious};
+
+use crate::arena::NodeArena;
+use art_bytes::AsBytes;
+use art_nodes::{LeafNode, NodePtr};
+
+/// The calls that put leaves into a list and take them out of it.
+///
+/// A leaf is knit where it is held and each neighbour that it names is held and names it back on
+/// that side. No call changes a key, a value, an inner node, or a leaf but the named ones and their
+/// neighbours. None takes memory.
+pub trait LeafLinks<K: AsBytes, V, const PREFIX_LEN: usize>: Sized {
+    /// Places `this` right after `sibling` in the sibling's list.
+    ///
+    /// `this` has to be held, unlinked and another leaf than the sibling. The sibling has to be knit,
+    /// and the text of `this` above the sibling's.
+    fn insert_after(
+        arena: &mut NodeArena<K, V, PREFIX_LEN>,
+        this: NodePtr<PREFIX_LEN, Self>,
+        sibling: NodePtr<PREFIX_LEN, Self>,
+    )
+        requires held { HoldsLeaf arena.old (slab_key this) }
+        requires unlinked { IsUnlinked arena.old (slab_key this) }
+        requires apart { slab_key this ≢ slab_key sibling }
+        requires sibling_knit { IsKnit arena.old (slab_key sibling) }
+        requires above { text_order (text_at K.text arena.old (slab_key sibling)) (text_at K.text arena.old (slab_key this)) ≡ Less }
+        ensures placed { StandsBetween arena.old arena.new (Some (slab_key sibling)) (slab_key this) (next_at arena.old (slab_key sibling)) }
+        ensures spelled { (before after : List _) → Spells arena.old (before ++ slab_key sibling ∷ after) → Spells arena.new (before ++ slab_key sibling ∷ slab_key this ∷ after) }
+        ensures contents { SameButLinks arena.old arena.new }
+        ensures room { SameRoom arena.old arena.new };
+
+    /// Places `this` right before `sibling` in the sibling's list.
+    ///
+    /// `this` has to be held, unlinked and another leaf than the sibling. The sibling has to be knit,
+    /// and the text of `this` below the sibling's.
+    fn insert_before(
+        arena: &mut NodeArena<K, V, PREFIX_LEN>,
+        this: NodePtr<PREFIX_LEN, Self>,
+        sibling: NodePtr<PREFIX_LEN, Self>,
+    )
+        requires held { HoldsLeaf arena.old (slab_key this) }
+        requires unlinked { IsUnlinked arena.old (slab_key this) }
+        requires apart { slab_key this ≢ slab_key sibling }
+        requires sibling_knit { IsKnit arena.old (slab_key sibling) }
+        requires below { text_order (text_at K.text arena.old (slab_key this)) (text_at K.text arena.old (slab_key sibling)) ≡ Less }
+        ensures placed { StandsBetween arena.old arena.new (previous_at arena.old (slab_key sibling)) (slab_key this) (Some (slab_key sibling)) }
+        ensures spelled { (before after : List _) → Spells arena.old (before ++ slab_key sibling ∷ after) → Spells arena.new (before ++ slab_key this ∷ slab_key sibling ∷ after) }
+        ensures contents { SameButLinks arena.old arena.new }
+        ensures room { SameRoom arena.old arena.new };
+
+    /// Gives `this` the place of `old` in its list. The old leaf is unlinked afterwards, and is still held.
+    ///
+    /// `this` has to be held, unlinked and another leaf than the old one, which has to be knit.
+    /// Without `force` the texts of the two have to be equal. With it, the order of the list rests
+    /// on the caller.
+    fn replace(
+        arena: &mut NodeArena<K, V, PREFIX_LEN>,
+        this: NodePtr<PREFIX_LEN, Self>,
+        old: NodePtr<PREFIX_LEN, Self>,
+        force: bool,
+    )
+        requires held { HoldsLeaf arena.old (slab_key this) }
+        requires unlinked { IsUnlinked arena.old (slab_key this) }
+        requires apart { slab_key this ≢ slab_key old }
+        requires old_knit { IsKnit arena.old (slab_key old) }
+        requires same_text { force ≡ false → text_at K.text arena.old (slab_key this) ≡ text_at K.text arena.old (slab_key old) }
+        ensures replaced { TakesPlace arena.old arena.new (slab_key old) (slab_key this) }
+        ensures spelled { (before after : List _) → Spells arena.old (before ++ slab_key old ∷ after) → Spells arena.new (before ++ slab_key this ∷ after) }
+        ensures contents { SameButLinks arena.old arena.new }
+        ensures room { SameRoom arena.old arena.new };
+
+    /// Takes `this`, which has to be knit, out of its list. Its own links stay as they are.
+    fn remove_self(arena: &mut NodeArena<K, V, PREFIX_LEN>, this: NodePtr<PREFIX_LEN, Self>)
+        requires { IsKnit arena.old (slab_key this) }
+        ensures removed { Joins arena.old arena.new (previous_at arena.old (slab_key this)) (next_at arena.old (slab_key this)) }
+        ensures spelled { (before after : List _) → Spells arena.old (before ++ slab_key this ∷ after) → Spells arena.new (before ++ after) }
+        ensures own_links { (previous_at arena.new (slab_key this) ≡ previous_at arena.old (slab_key this)) × (next_at arena.new (slab_key this) ≡ next_at arena.old (slab_key this)) }
+        ensures contents { SameButLinks arena.old arena.new }
+        ensures room { SameRoom arena.old arena.new };
+
+    /// Whether the leaf, which has to be held, names a neighbour.
+    fn is_linked(arena: &NodeArena<K, V, PREFIX_LEN>, this: NodePtr<PREFIX_LEN, Self>) -> bool
+        requires { HoldsLeaf arena.now (slab_key this) }
+        ensures { IsTrue (not result) ↔ IsUnlinked arena.now (slab_key this) };
+
+    /// Whether the leaf is held, and each neighbour that it names is held and names it back on that
+    /// side.
+    fn is_knit(arena: &NodeArena<K, V, PREFIX_LEN>, this: NodePtr<PREFIX_LEN, Self>) -> bool
+        ensures { IsTrue result ↔ IsKnit arena.now (slab_key this) };
+}
+
+impl<K: AsBytes, V, const PREFIX_LEN: usize> LeafLinks<K, V, PREFIX_LEN>
+    for LeafNode<K, V, PREFIX_LEN> {
+    fn insert_after(
+        arena: &mut NodeArena<K, V, PREFIX_LEN>,
+        this: NodePtr<PREFIX_LEN, Self>,
+        sibling: NodePtr<PREFIX_LEN, Self>,
+    )
+        requires held { HoldsLeaf arena.old (slab_key this) }
+        requires unlinked { IsUnlinked arena.old (slab_key this) }
+        requires apart { slab_key this ≢ slab_key sibling }
+        requires sibling_knit { IsKnit arena.old (slab_key sibling) }
+        requires above { text_order (text_at K.text arena.old (slab_key sibling)) (text_at K.text arena.old (slab_key this)) ≡ Less }
+        ensures placed { StandsBetween arena.old arena.new (Some (slab_key sibling)) (slab_key this) (next_at arena.old (slab_key sibling)) }
+        ensures spelled { (before after : List _) → Spells arena.old (before ++ slab_key sibling ∷ after) → Spells arena.new (before ++ slab_key sibling ∷ slab_key this ∷ after) }
+        ensures contents { SameButLinks arena.old arena.new }
+        ensures room { SameRoom arena.old arena.new }
+    {
+        let after = next_of(arena, sibling);
+        place(arena, Some(sibling), this, after);
+    }
+
+    fn insert_before(
+        arena: &mut NodeArena<K, V, PREFIX_LEN>,
+        this: NodePtr<PREFIX_LEN, Self>,
+        sibling: NodePtr<PREFIX_LEN, Self>,
+    )
+        requires held { HoldsLeaf arena.old (slab_key this) }
+        requires unlinked { IsUnlinked arena.old (slab_key this) }
+        requires apart { slab_key this ≢ slab_key sibling }
+        requires sibling_knit { IsKnit arena.old (slab_key sibling) }
+        requires below { text_order (text_at K.text arena.old (slab_key this)) (text_at K.text arena.old (slab_key sibling)) ≡ Less }
+        ensures placed { StandsBetween arena.old arena.new (previous_at arena.old (slab_key sibling)) (slab_key this) (Some (slab_key sibling)) }
+        ensures spelled { (before after : List _) → Spells arena.old (before ++ slab_key sibling ∷ after) → Spells arena.new (before ++ slab_key this ∷ slab_key sibling ∷ after) }
+        ensures contents { SameButLinks arena.old arena.new }
+        ensures room { SameRoom arena.old arena.new }
+    {
+        let before = previous_of(arena, sibling);
+        place(arena, before, this, Some(sibling));
+    }
+
+    fn replace(
+        arena: &mut NodeArena<K, V, PREFIX_LEN>,
+        this: NodePtr<PREFIX_LEN, Self>,
+        old: NodePtr<PREFIX_LEN, Self>,
+        force: bool,
+    )
+        requires held { HoldsLeaf arena.old (slab_key this) }
+        requires unlinked { IsUnlinked arena.old (slab_key this) }
+        requires apart { slab_key this ≢ slab_key old }
+        requires old_knit { IsKnit arena.old (slab_key old) }
+        requires same_text { force ≡ false → text_at K.text arena.old (slab_key this) ≡ text_at K.text arena.old (slab_key old) }
+        ensures replaced { TakesPlace arena.old arena.new (slab_key old) (slab_key this) }
+        ensures spelled { (before after : List _) → Spells arena.old (before ++ slab_key old ∷ after) → Spells arena.new (before ++ slab_key this ∷ after) }
+        ensures contents { SameButLinks arena.old arena.new }
+        ensures room { SameRoom arena.old arena.new }
+    {
+        let before = previous_of(arena, old);
+        let after = next_of(arena, old);
+        place(arena, before, this, after);
+        join(arena, None, Some(old));
+        join(arena, Some(old), None);
+    }
+
+    fn remove_self(arena: &mut NodeArena<K, V, PREFIX_LEN>, this: NodePtr<PREFIX_LEN, Self>)
+        requires { IsKnit arena.old (slab_key this) }
+        ensures removed { Joins arena.old arena.new (previous_at arena.old (slab_key this)) (next_at arena.old (slab_key this)) }
+        ensures spelled { (before after : List _) → Spells arena.old (before ++ slab_key this ∷ after) → Spells arena.new (before ++ after) }
+        ensures own_links { (previous_at arena.new (slab_key this) ≡ previous_at arena.old (slab_key this)) × (next_at arena.new (slab_key this) ≡ next_at arena.old (slab_key this)) }
+        ensures contents { SameButLinks arena.old arena.new }
+        ensures room { SameRoom arena.old arena.new }
+    {
+        let before = previous_of(arena, this);
+        let after = next_of(arena, this);
+        join(arena, before, after);
+    }
+
+    fn is_linked(arena: &NodeArena<K, V, PREFIX_LEN>, this: NodePtr<PREFIX_LEN, Self>) -> bool
+        requires { HoldsLeaf arena.now (slab_key this) }
+        ensures { IsTrue (not result) ↔ IsUnlinked arena.now (slab_key this) }
+    {
+        let leaf = arena.as_ref(this);
+        leaf.previous().is_some() || leaf.next().is_some()
+    }
+
+    fn is_knit(arena: &NodeArena<K, V, PREFIX_LEN>, this: NodePtr<PREFIX_LEN, Self>) -> bool
+        ensures { IsTrue result ↔ IsKnit arena.now (slab_key this) }
+    {
+        arena.holds(this) && previous_is_knit(arena, this) && next_is_knit(arena, this)
+    }
+}
+
+fn previous_of<K, V, const PREFIX_LEN: usize>(
+    arena: &NodeArena<K, V, PREFIX_LEN>,
+    leaf: NodePtr<PREFIX_LEN, LeafNode<K, V, PREFIX_LEN>>,
+) -> Option<NodePtr<PREFIX_LEN, LeafNode<K, V, PREFIX_LEN>>>
+    ensures { option_map slab_key result ≡ previous_at arena.now (slab_key leaf) }
+{
+    arena.get(leaf)?.previous()
+}
+
+fn next_of<K, V, const PREFIX_LEN: usize>(
+    arena: &NodeArena<K, V, PREFIX_LEN>,
+    leaf: NodePtr<PREFIX_LEN, LeafNode<K, V, PREFIX_LEN>>,
+) -> Option<NodePtr<PREFIX_LEN, LeafNode<K, V, PREFIX_LEN>>>
+    ensures { option_map slab_key result ≡ next_at arena.now (slab_key leaf) }
+{
+    arena.get(leaf)?.next()
+}
+
+fn previous_is_knit<K, V, const PREFIX_LEN: usize>(
+    arena: &NodeArena<K, V, PREFIX_LEN>,
+    this: NodePtr<PREFIX_LEN, LeafNode<K, V, PREFIX_LEN>>,
+) -> bool
+    ensures { IsTrue result ↔ ((other : _) → previous_at arena.now (slab_key this) ≡ Some other → next_at arena.now other ≡ Some (slab_key this)) }
+{
+    match previous_of(arena, this) {
+        Some(before) => is_named(next_of(arena, before), this),
+        None => true,
+    }
+}
+
+fn next_is_knit<K, V, const PREFIX_LEN: usize>(
+    arena: &NodeArena<K, V, PREFIX_LEN>,
+    this: NodePtr<PREFIX_LEN, LeafNode<K, V, PREFIX_LEN>>,
+) -> bool
+    ensures { IsTrue result ↔ ((other : _) → next_at arena.now (slab_key this) ≡ Some other → previous_at arena.now other ≡ Some (slab_key this)) }
+{
+    match next_of(arena, this) {
+        Some(after) => is_named(previous_of(arena, after), this),
+        None => true,
+    }
+}
+
+fn is_named<K, V, const PREFIX_LEN: usize>(
+    link: Option<NodePtr<PREFIX_LEN, LeafNode<K, V, PREFIX_LEN>>>,
+    leaf: NodePtr<PREFIX_LEN, LeafNode<K, V, PREFIX_LEN>>,
+) -> bool
+    ensures { IsTrue result ↔ (option_map slab_key link ≡ Some (slab_key leaf)) }
+{
+    match link {
+        Some(link) => link.key() == leaf.key(),
+        None => false,
+    }
+}
+
+// Places a leaf between these two, where they are leaves.
+fn place<K, V, const PREFIX_LEN: usize>(
+    arena: &mut NodeArena<K, V, PREFIX_LEN>,
+    before: Option<NodePtr<PREFIX_LEN, LeafNode<K, V, PREFIX_LEN>>>,
+    this: NodePtr<PREFIX_LEN, LeafNode<K, V, PREFIX_LEN>>,
+    after: Option<NodePtr<PREFIX_LEN, LeafNode<K, V, PREFIX_LEN>>>,
+)
+    requires before_held { ForSome before (λ leaf. HoldsLeaf arena.old (slab_key leaf)) }
+    requires held { HoldsLeaf arena.old (slab_key this) }
+    requires after_held { ForSome after (λ leaf. HoldsLeaf arena.old (slab_key leaf)) }
+    requires apart_from_before { option_map slab_key before ≢ Some (slab_key this) }
+    requires apart_from_after { option_map slab_key after ≢ Some (slab_key this) }
+    ensures placed { StandsBetween arena.old arena.new (option_map slab_key before) (slab_key this) (option_map slab_key after) }
+    ensures contents { SameButLinks arena.old arena.new }
+    ensures room { SameRoom arena.old arena.new }
+{
+    join(arena, before, Some(this));
+    join(arena, Some(this), after);
+}
+
+// Makes these two neighbours, where they are leaves.
+fn join<K, V, const PREFIX_LEN: usize>(
+    arena: &mut NodeArena<K, V, PREFIX_LEN>,
+    before: Option<NodePtr<PREFIX_LEN, LeafNode<K, V, PREFIX_LEN>>>,
+    after: Option<NodePtr<PREFIX_LEN, LeafNode<K, V, PREFIX_LEN>>>,
+)
+    requires before_held { ForSome before (λ leaf. HoldsLeaf arena.old (slab_key leaf)) }
+    requires after_held { ForSome after (λ leaf. HoldsLeaf arena.old (slab_key leaf)) }
+    ensures joined { Joins arena.old arena.new (option_map slab_key before) (option_map slab_key after) }
+    ensures contents { SameButLinks arena.old arena.new }
+    ensures room { SameRoom arena.old arena.new }
+{
+    set_next(arena, before, after);
+    set_previous(arena, after, before);
+}
+
+fn set_next<K, V, const PREFIX_LEN: usize>(
+    arena: &mut NodeArena<K, V, PREFIX_LEN>,
+    leaf: Option<NodePtr<PREFIX_LEN, LeafNode<K, V, PREFIX_LEN>>>,
+    next: Option<NodePtr<PREFIX_LEN, LeafNode<K, V, PREFIX_LEN>>>,
+)
+    requires held { ForSome leaf (λ leaf. HoldsLeaf arena.old (slab_key leaf)) }
+    ensures set { SetsNext arena.old arena.new (option_map slab_key leaf) (option_map slab_key next) }
+    ensures room { SameRoom arena.old arena.new }
+{
+    if let Some(leaf) = leaf {
+        let leaf = arena.as_mut(leaf);
+        let previous = leaf.previous();
+        leaf.set_links(previous, next);
+    }
+}
+
+fn set_previous<K, V, const PREFIX_LEN: usize>(
+    arena: &mut NodeArena<K, V, PREFIX_LEN>,
+    leaf: Option<NodePtr<PREFIX_LEN, LeafNode<K, V, PREFIX_LEN>>>,
+    previous: Option<NodePtr<PREFIX_LEN, LeafNode<K, V, PREFIX_LEN>>>,
+)
+    requires held { ForSome leaf (λ leaf. HoldsLeaf arena.old (slab_key leaf)) }
+    ensures set { SetsPrevious arena.old arena.new (option_map slab_key leaf) (option_map slab_key previous) }
+    ensures room { SameRoom arena.old arena.new }
+{
+    if let Some(leaf) = leaf {
+        let leaf = arena.as_mut(leaf);
+        let next = leaf.next();
+        leaf.set_links(previous, next);
+    }
+}
+
+#[cfg(test)]
+mod tests;

@@ -1,0 +1,13 @@
+//! An arena of nodes, the list of its leaves, trees over it, and full prefixes.
+#![tactic(auto)]
+
+mod arena;
+mod full_prefix;
+pub mod laws;
+mod leaf_links;
+mod reader;
+
+pub use arena::{ArenaNode, NodeArena};
+pub use full_prefix::{ExplicitMismatch, FullPrefix, NodePrefix};
+pub use leaf_links::LeafLinks;
+pub use reader::{AnyRef, ArenaReader, NodeRef};

@@ -1,0 +1,80 @@
+//! A reader: a way to the nodes of an arena that counts how often it is used.
+ghost use Rattle.std.specs.Prelude.{◌≡◌, ◌≢◌, ◌<◌, ◌+◌};
+ghost use Rattle.art_arena.specs.Arena.{held, Nothing};
+ghost use Rattle.art_arena.specs.Reader.{shown};
+
+use crate::arena::NodeArena;
+use art_nodes::{InnerNode4, InnerNode16, InnerNode48, InnerNodeDirect, LeafNode, OpaqueNodePtr};
+use std::marker::Model;
+
+/// A reference to a node of one of five types.
+#[derive_where(Clone, Copy)]
+pub enum AnyRef<'a, A, B, C, D, L> {
+    Node4(&'a A),
+    Node16(&'a B),
+    Node48(&'a C),
+    Node256(&'a D),
+    LeafNode(&'a L),
+}
+
+/// A node of any kind, as a reader lends it: a reference for as long as the arena stands.
+pub type NodeRef<'a, K, V, const PREFIX_LEN: usize> = AnyRef<
+    'a,
+    InnerNode4<K, V, PREFIX_LEN>,
+    InnerNode16<K, V, PREFIX_LEN>,
+    InnerNode48<K, V, PREFIX_LEN>,
+    InnerNodeDirect<K, V, PREFIX_LEN>,
+    LeafNode<K, V, PREFIX_LEN>,
+>;
+
+/// A borrowed arena and a budget: how many more looks at it are allowed.
+#[derive(Drop)]
+pub struct Reader<'a, A> {
+    arena: &'a A,
+    budget: usize,
+}
+
+impl<'a, A> Model for Reader<'a, A> {
+    ghost use Rattle.art_arena.specs.ReaderValue.{Reader as Shown};
+
+    ghost Value = { Shown A };
+
+    ghost view = { λ r. record { arena = r.arena.now; budget = r.budget } };
+}
+
+/// The one way of a search to the nodes of an arena. It counts the looks: each costs one of the
+/// budget that it began with, and there is no other way through it to the arena.
+pub type ArenaReader<'a, K, V, const PREFIX_LEN: usize> = Reader<'a, NodeArena<K, V, PREFIX_LEN>>;
+
+impl<'a, K, V, const PREFIX_LEN: usize> ArenaReader<'a, K, V, PREFIX_LEN> {
+    /// A reader of the arena that may look `budget` times.
+    pub fn with_budget(arena: &'a NodeArena<K, V, PREFIX_LEN>, budget: usize) -> Self
+        ensures arena { result.arena ≡ arena.now }
+        ensures budget { result.budget ≡ budget }
+    {
+        Reader { arena, budget }
+    }
+
+    /// How many looks are left.
+    pub fn remaining(&self) -> usize
+        ensures { result ≡ self.now.budget }
+    {
+        self.budget
+    }
+
+    /// The node at this pointer, which the arena has to hold. The budget has to be above 0, and is one
+    /// less afterwards.
+    pub fn look(
+        &mut self,
+        pointer: OpaqueNodePtr<K, V, PREFIX_LEN>,
+    ) -> NodeRef<'a, K, V, PREFIX_LEN>
+        requires held { held self.old.arena pointer ≢ Nothing }
+        requires budget { 0 < self.old.budget }
+        ensures node { held self.old.arena pointer ≡ shown result }
+        ensures counted { self.new.budget + 1 ≡ self.old.budget }
+        ensures same_arena { self.new.arena ≡ self.old.arena }
+    {
+        self.budget -= 1;
+        self.arena.node_ref(pointer)
+    }
+}
