@@ -1,0 +1,74 @@
+-- Children written in their order, and the memory that a builder takes.
+use Rattle.std.proofs.Common.{◌≡◌, ◌∙◌, ℕ, zero, suc, ◌+◌, ◌-◌, ◌*◌, ◌%◌, ◌<◌, ◌≤◌, ◌^◌, max, true, false, nat_lt, nat_eq, List, [], ◌∷◌, length, take, get_or, Option, Some, None, IsNone, refl, sym, ap, subst, arith}
+use Rattle.std.proofs.lemmas.Bool.Decides.{nat_tests}
+use Rattle.std.proofs.lemmas.List.{length-take-le}
+use Rattle.art_nodes.specs.ChildMap.{ChildMap, IsAscendingFrom, IsAscending, key_bytes, child_at, with_child}
+use Rattle.art_nodes.specs.Inner.{Inner, HasRoomFor, with_children}
+use Rattle.art_tree.specs.Raising.{node_of}
+use mir.Syntax.{Ty}
+use prog.Memory.{size, align, up, pad}
+use prog.Align.{align_size, align_pos, dv→, dv_self, dv_zero, dv_one}
+
+lt-true : (a b : ℕ) → a < b → nat_lt a b ≡ true
+lt-true a b h = grind (arith, nat_tests)
+
+lt-false : (a b : ℕ) → b ≤ a → nat_lt a b ≡ false
+lt-false a b h = grind (arith, nat_tests)
+
+eq-false : (a b : ℕ) → a < b → nat_eq a b ≡ false
+eq-false a b h = grind (arith, nat_tests)
+
+module _ {H : Type 0} where
+  at-least : (low : ℕ) (xs : ChildMap H) (i : ℕ) (d : ℕ × H) → IsAscendingFrom low (key_bytes xs) → i < length xs → low ≤ (get_or xs i d).0
+  at-least low [] i d asc lt = absurd (omega arith)
+  at-least low (x ∷ xs) zero d asc lt = asc.0
+  at-least low (x ∷ xs) (suc i) d asc lt = let rest = at-least (suc x.0) xs i d asc.2 (omega arith) in omega (arith, rest, asc.0)
+
+  -- a byte above those before it goes to the end
+  written : (low : ℕ) (xs : ChildMap H) (i : ℕ) (d : ℕ × H) → IsAscendingFrom low (key_bytes xs) → i < length xs → with_child (take i xs) (get_or xs i d).0 (get_or xs i d).1 ≡ take (suc i) xs
+  written low [] i d asc lt = absurd (omega arith)
+  written low (x ∷ xs) zero d asc lt = refl
+  written low (x ∷ xs) (suc i) d asc lt =
+      let above : x.0 < (get_or xs i d).0 = at-least (suc x.0) xs i d asc.2 (omega arith) in
+      rw (lt-true x.0 (get_or xs i d).0 above, lt-false (get_or xs i d).0 x.0 (omega arith)) (ap (λ rest. x ∷ rest) (written (suc x.0) xs i d asc.2 (omega arith)))
+
+  -- and was not there
+  absent : (low : ℕ) (xs : ChildMap H) (i : ℕ) (d : ℕ × H) → IsAscendingFrom low (key_bytes xs) → i < length xs → child_at (take i xs) (get_or xs i d).0 ≡ None
+  absent low [] i d asc lt = absurd (omega arith)
+  absent low (x ∷ xs) zero d asc lt = refl
+  absent low (x ∷ xs) (suc i) d asc lt =
+      let above : x.0 < (get_or xs i d).0 = at-least (suc x.0) xs i d asc.2 (omega arith) in
+      rw (eq-false x.0 (get_or xs i d).0 above) (absent (suc x.0) xs i d asc.2 (omega arith))
+
+  none-is : (o : Option H) → o ≡ None → IsNone o
+  none-is None e = refl
+  none-is (Some x) e = absurd (cc)
+
+  module _ (room : ℕ) (prefix : List ℕ) (xs : ChildMap H) (asc : IsAscending (key_bytes xs)) (node : Inner H) (i : ℕ) (is : node ≡ node_of room prefix (take i xs)) (lt : i < length xs) (d : ℕ × H) where
+    pub has-room : (most : ℕ) → length xs ≤ most → HasRoomFor most node (get_or xs i d).0
+    has-room most fits = λ _. let long : length node.children ≡ i = ap (λ n. length n.children) is ∙ length-take-le i xs (omega (arith, lt)) in omega (arith, long, lt, fits)
+
+    pub is-new : IsNone (child_at node.children (get_or xs i d).0)
+    is-new = none-is (child_at node.children (get_or xs i d).0) (ap (λ n. child_at n.children (get_or xs i d).0) is ∙ absent 0 xs i d asc lt)
+
+    pub written-node : (next : Inner H) (after : ℕ) → after ≡ i + 1 → next ≡ with_children node (with_child node.children (get_or xs i d).0 (get_or xs i d).1) → next ≡ node_of room prefix (take after xs)
+    written-node next after more e = let end : suc i ≡ after = omega (arith, more) in e ∙ ap (λ n. with_children n (with_child n.children (get_or xs i d).0 (get_or xs i d).1)) is ∙ ap (node_of room prefix) (written 0 xs i d asc lt) ∙ ap (λ n. node_of room prefix (take n xs)) end
+
+no-pad : (k n : ℕ) → n % k ≡ 0 → pad k n ≡ 0
+no-pad k n e = let whole : k - 0 ≡ k = omega arith in ap (λ r. (k - r) % k) e ∙ ap (λ r. r % k) whole ∙ dv→ k k (dv_self k)
+
+up-same : (k n : ℕ) → n % k ≡ 0 → up k n ≡ n
+up-same k n e = let none : n + 0 ≡ n = omega arith in ap (λ p. n + p) (no-pad k n e) ∙ none
+
+-- a builder takes no more memory than its node
+pub builder-fits : (τ : Ty) → size τ < 2 ^ 63 → up (max (align τ) 1) (up 1 (up (align τ) 0 + size τ) + 0) < 2 ^ 63
+builder-fits τ small =
+    let start = up-same (align τ) 0 (dv→ (align τ) 0 (dv_zero (align τ))) in
+    let field : up (align τ) 0 + size τ ≡ size τ = omega (arith, start) in
+    let tail = up-same 1 (size τ) (dv→ 1 (size τ) (dv_one (size τ))) in
+    let end : up 1 (size τ) + 0 ≡ size τ = omega (arith, tail) in
+    let aligned : max (align τ) 1 ≡ align τ = omega (arith, align_pos τ) in
+    let total : up (max (align τ) 1) (up 1 (up (align τ) 0 + size τ) + 0) ≡ size τ =
+    ap (λ z. up (max (align τ) 1) (up 1 z + 0)) field ∙ ap (λ z. up (max (align τ) 1) z) end ∙ ap (λ k. up k (size τ)) aligned ∙ up-same (align τ) (size τ) (dv→ (align τ) (size τ) (align_size τ)) in
+    let Small : ℕ → Type 0 = λ n. n < 2 ^ 63 in
+    subst Small (sym total) small

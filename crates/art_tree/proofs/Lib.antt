@@ -1,0 +1,13 @@
+pub mod DescentLemmas
+pub mod OnlyWayLemmas
+pub mod PathLemmas
+pub mod ScanLemmas
+pub mod WayLemmas
+pub mod BranchLemmas
+pub mod ChildLemmas
+pub mod Leading
+pub mod Linking
+pub mod Loaded
+pub mod Planning
+pub mod RefusalLemmas
+pub mod Rising

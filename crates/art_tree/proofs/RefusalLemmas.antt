@@ -1,0 +1,103 @@
+-- Entries of which none has a fault.
+use Rattle.std.proofs.Common.{◌≡◌, ◌∙◌, ℕ, zero, suc, ◌+◌, ◌<◌, ◌≤◌, ◌^◌, Bool, true, false, List, [], ◌∷◌, length, take, Option, Some, None, if◌then◌else◌, refl, ap, inl, inr, arith, nat_le, nat_lt, nat_eq, ◌==◌}
+use Rattle.std.specs.declared.cmp.Ordering.{Ordering}
+use Rattle.std.specs.declared.cmp.Ordering.TheVariants.{Less, Equal, Greater}
+use Rattle.std.specs.List.{starts_with}
+use Rattle.std.proofs.lemmas.Bool.{cases_lt}
+use Rattle.std.proofs.lemmas.Bool.Decides.{nat_tests, eqb_tells}
+use Rattle.art_bytes.specs.Text.{text_order}
+use Rattle.art_tree.specs.Plan.{text_at, IsFork, Forks, AreLoadable}
+use Rattle.art_tree.specs.Refusals.{IsDue, IsRefusal, fault_at, fault_between}
+use Rattle.std.specs.Ordering.{is_lt}
+use Rattle.art_tree.specs.declared.loading.check.LoadRefusal.{LoadRefusal}
+use Rattle.art_tree.specs.declared.loading.check.LoadRefusal.TheVariants.{Empty, KeyTooLong, NotAscending, Prefix, OutOfMemory}
+
+le-true : (a b : ℕ) → a ≤ b → nat_le a b ≡ true
+le-true a b h = grind (arith, nat_tests)
+
+le-false : (a b : ℕ) → b < a → nat_le a b ≡ false
+le-false a b h = grind (arith, nat_tests)
+
+lt-true : (a b : ℕ) → a < b → nat_lt a b ≡ true
+lt-true a b h = grind (arith, nat_tests)
+
+eq-true : (a b : ℕ) → a ≡ b → nat_eq a b ≡ true
+eq-true a b h = grind (arith, nat_tests)
+
+lt-false : (a b : ℕ) → b ≤ a → nat_lt a b ≡ false
+lt-false a b h = grind (arith, nat_tests)
+
+fork-later : (x y : ℕ) (a b : List ℕ) → x ≡ y → Forks a b → Forks (x ∷ a) (y ∷ b)
+fork-later x y a b same (at, fork) = (suc at, record { in_first = omega (arith, fork.in_first); in_second = omega (arith, fork.in_second); shared = ap (λ z. z ∷ take at a) same ∙ ap (λ rest. y ∷ rest) fork.shared; less = fork.less })
+
+-- a text that is less than another, and none of its fronts, parts from it
+forks : (a b : List ℕ) → text_order a b ≡ Less → starts_with nat_eq b a ≡ false → Forks a b
+forks [] [] less apart = absurd (cc)
+forks [] (y ∷ b) less apart = absurd (cc)
+forks (x ∷ a) [] less apart = absurd (cc)
+forks (x ∷ a) (y ∷ b) less apart = elim (cases_lt x y) [
+  | inl below ↦ (0, record { in_first = omega arith; in_second = omega arith; shared = refl; less = below })
+  | inr past ↦ elim (eqb_tells x y) [
+    | inl same ↦
+        let less_later : text_order a b ≡ Less = rw (lt-false x y past, same.0) at less in
+        let apart_later : starts_with nat_eq b a ≡ false = rw same.0 at apart in
+        fork-later x y a b same.1 (forks a b less_later apart_later)
+    | inr differ ↦ let wrong : Greater ≡ Less = rw (lt-false x y past, differ.0) at less in absurd (cc)
+  ]
+]
+
+between : (i : ℕ) (text next : List ℕ) (order : Ordering) (front : Bool) → text_order text next ≡ order → starts_with nat_eq next text ≡ front → fault_between i text next ≡ None → Forks text next
+between i text next Less false is apart none = forks text next is apart
+between i text next Less true is apart none = absurd (let wrong : Some _ ≡ None = rw (is, apart) at none in cc)
+between i text next Equal front is apart none = absurd (let wrong : Some _ ≡ None = rw is at none in cc)
+between i text next Greater front is apart none = absurd (let wrong : Some _ ≡ None = rw is at none in cc)
+
+-- entries without a fault are short, and each parts from the next
+pub loadable : (texts : List (List ℕ)) → ((i : ℕ) → i < length texts → fault_at texts i ≡ None) → AreLoadable texts
+loadable texts none = record { short = is_short; fork = parts }
+  where
+    is_short : (i : ℕ) → i < length texts → length (text_at texts i) < 2 ^ 32
+    is_short i within = elim (cases_lt (length (text_at texts i)) (2 ^ 32)) [
+      | inl short ↦ short
+      | inr long ↦ absurd (let wrong : Some _ ≡ None = rw (le-true (2 ^ 32) (length (text_at texts i)) long) at (none i within) in cc)
+    ]
+
+    parts : (i : ℕ) → i + 1 < length texts → Forks (text_at texts i) (text_at texts (i + 1))
+    parts i within =
+        let at_next : fault_between i (text_at texts i) (text_at texts (i + 1)) ≡ None = rw (le-false (2 ^ 32) (length (text_at texts i)) (is_short i (omega (arith, within))), le-false (length texts) (i + 1) within) at (none i (omega (arith, within))) in
+        between i (text_at texts i) (text_at texts (i + 1)) _ _ refl refl at_next
+
+-- no entry is refused for want of memory
+no-memory : (b : Bool) (x y : Option LoadRefusal) → (x ≡ Some OutOfMemory → ⊥) → (y ≡ Some OutOfMemory → ⊥) → (if b then x else y) ≡ Some OutOfMemory → ⊥
+no-memory true x y first second e = first e
+no-memory false x y first second e = second e
+
+never-memory : (texts : List (List ℕ)) (i : ℕ) → fault_at texts i ≡ Some OutOfMemory → ⊥
+never-memory texts i =
+    no-memory (nat_le (2 ^ 32) (length (text_at texts i))) (Some (KeyTooLong i)) _ (λ e. cc)
+    (no-memory (nat_le (length texts) (i + 1)) None _ (λ e. cc)
+    (no-memory (is_lt (text_order (text_at texts i) (text_at texts (i + 1)))) _ (Some (NotAscending i))
+    (no-memory (starts_with nat_eq (text_at texts (i + 1)) (text_at texts i)) (Some (Prefix i)) None (λ e. cc) (λ e. cc)) (λ e. cc)))
+
+-- a fault that was found is due
+pub due : (texts : List (List ℕ)) (refusal : LoadRefusal) → IsRefusal texts refusal → IsDue texts refusal
+due texts Empty h = h
+due texts (KeyTooLong i) h = h
+due texts (NotAscending i) h = h
+due texts (Prefix i) h = h
+due [] OutOfMemory h = absurd (cc)
+due (text ∷ texts) OutOfMemory h = absurd (never-memory (text ∷ texts) h.0 h.2)
+
+-- a text that parts from another upwards is less
+pub forks-less : (a b : List ℕ) (at : ℕ) → IsFork a b at → text_order a b ≡ Less
+forks-less [] b at fork = absurd (omega (arith, fork.in_first))
+forks-less (x ∷ a) [] at fork = absurd (omega (arith, fork.in_second))
+forks-less (x ∷ a) (y ∷ b) zero fork = let below : nat_lt x y ≡ true = lt-true x y fork.less in rw below refl
+forks-less (x ∷ a) (y ∷ b) (suc at) fork =
+    let same : x ≡ y = (let both = fork.shared in cc) in
+    let rest : take at a ≡ take at b = (let both = fork.shared in cc) in
+    rw (lt-false x y (omega (arith, same)), eq-true x y same) (forks-less a b at (record { in_first = omega (arith, fork.in_first); in_second = omega (arith, fork.in_second); shared = rest; less = fork.less }))
+
+pub not-none : (n : ℕ) (none : Bool) → none ≡ (n == 0) → none ≡ false → 0 < n
+not-none zero none is never = absurd (cc)
+not-none (suc n) none is never = omega arith

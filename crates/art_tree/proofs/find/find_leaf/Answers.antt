@@ -1,0 +1,111 @@
+use Rattle.std.proofs.Common.{length, ◌+◌, ◌≡◌, ◌∙◌, ◌∷◌, ◌++◌, [], ℕ, sym, ap, subst, refl, arith}
+use Rattle.std.proofs.lemmas.Option.{get_or_from_slice_get}
+use Rattle.art_nodes.specs.Pointers.{slab_key, opaque_key}
+use Rattle.art_nodes.specs.declared.pointers.OpaqueNodePtr.{OpaqueNodePtr as PointerTo}
+use Rattle.art_arena.specs.Arena.{held}
+use Rattle.art_arena.specs.Standing.{leaf_text}
+use Rattle.art_tree.specs.Search.{IsWay}
+use Rattle.art_tree.specs.Paths.{StandsFor}
+use Rattle.art_tree.proofs.WayLemmas.{here-start, here-only-way, here-leaf, here-nowhere-scan, here-nowhere-met, here-on, leaf-kind, still-held, leaf-pointer-is, told, told-on, told-nowhere, told-later, at-some, leaf-hit, leaf-miss, not-true}
+use Rattle.art_tree.proofs.find.find_leaf.Goals as goal
+
+pub way-init : goal.way-init
+way-init g c = record {
+  within = omega arith;
+  looks = omega (arith, c.requires.budget);
+  same_arena = refl;
+  here = λ tree is. here-start g.K.AsBytes.text c.args.reader.now.arena tree c.args.key.now c.args.root c.default-search.result c.args.reader.now.budget is c.default-search.ensures;
+}
+
+pub returns-then-matches_full_key : goal.returns-then-matches_full_key
+returns-then-matches_full_key g c =
+    let text = g.K.AsBytes.text in
+    let arena = c.args.reader.now.arena in
+    let holds = ap (λ a. held a c.way.at) (sym c.way.invariant.same_arena) ∙ c.in-LeafNode.ensures.node in
+    let key_is = at-some (λ leaf. slab_key leaf ≡ opaque_key c.way.at) c.cast.result c.unwrap.result c.unwrap.ensures c.cast.ensures.key in
+    let pointer = leaf-pointer-is c.way.at c.unwrap.result (leaf-kind arena _ _ c.in-LeafNode.leaf.now holds) key_is in
+    let hit = c.matches_full_key.ensures.0 c.if-matches_full_key.true in
+    record {
+      answer = λ tree is.
+          let at = here-leaf text arena tree c.args.key.now c.way.at c.way.depth c.way.search _ _ (c.way.invariant.here tree is) c.in-LeafNode.leaf.now holds in
+          leaf-hit _ _ (leaf_text text c.in-LeafNode.leaf.now) _ at.same_scan hit ∙ ap (λ h. (h, c.args.key.now) ∷ []) (sym pointer);
+      path = λ tree is.
+          let here = c.way.invariant.here tree is in
+          let at = here-leaf text arena tree c.args.key.now c.way.at c.way.depth c.way.search _ _ here c.in-LeafNode.leaf.now holds in
+          (here.steps, (subst (IsWay tree here.steps) (sym pointer) at.way, λ others way. here-only-way text arena tree c.args.root is here.steps others c.way.at at.way (subst (IsWay tree others) pointer way)), (c.finish.ensures here.steps).0 here.remembered);
+      looks = λ tree is.
+          let here = c.way.invariant.here tree is in
+          let at = here-leaf text arena tree c.args.key.now c.way.at c.way.depth c.way.search _ _ here c.in-LeafNode.leaf.now holds in
+          omega (arith, here.counted, at.looks, c.look-node.ensures.counted);
+      looks_bounded = λ tree is.
+          let here = c.way.invariant.here tree is in
+          let at = here-leaf text arena tree c.args.key.now c.way.at c.way.depth c.way.search _ _ here c.in-LeafNode.leaf.now holds in
+          omega (arith, here.few, at.looks, c.way.invariant.within);
+      looks_of_found = λ tree is steps way.
+          let here = c.way.invariant.here tree is in
+          let at = here-leaf text arena tree c.args.key.now c.way.at c.way.depth c.way.search _ _ here c.in-LeafNode.leaf.now holds in
+          at.looks ∙ ap (λ all. length all + 1) (sym (here-only-way text arena tree c.args.root is here.steps steps c.way.at at.way (subst (IsWay tree steps) pointer way)));
+      same_arena = c.look-node.ensures.same_arena ∙ c.way.invariant.same_arena;
+      held = still-held _ arena c.way.at c.unwrap.result c.in-LeafNode.leaf.now (c.look-node.ensures.same_arena ∙ c.way.invariant.same_arena) pointer holds;
+    }
+
+pub returns-else-matches_full_key : goal.returns-else-matches_full_key
+returns-else-matches_full_key g c =
+    let text = g.K.AsBytes.text in
+    let arena = c.args.reader.now.arena in
+    let holds = ap (λ a. held a c.way.at) (sym c.way.invariant.same_arena) ∙ c.in-LeafNode.ensures.node in
+    record {
+      answer = λ tree is.
+          let at = here-leaf text arena tree c.args.key.now c.way.at c.way.depth c.way.search _ _ (c.way.invariant.here tree is) c.in-LeafNode.leaf.now holds in
+          leaf-miss _ _ (leaf_text text c.in-LeafNode.leaf.now) _ at.same_scan (λ same. not-true c.matches_full_key.result c.if-matches_full_key.false (c.matches_full_key.ensures.1 same));
+      path = λ tree is. tt;
+      looks = λ tree is.
+          let here = c.way.invariant.here tree is in
+          let at = here-leaf text arena tree c.args.key.now c.way.at c.way.depth c.way.search _ _ here c.in-LeafNode.leaf.now holds in
+          omega (arith, here.counted, at.looks, c.look-node.ensures.counted);
+      looks_bounded = λ tree is.
+          let here = c.way.invariant.here tree is in
+          let at = here-leaf text arena tree c.args.key.now c.way.at c.way.depth c.way.search _ _ here c.in-LeafNode.leaf.now holds in
+          omega (arith, here.few, at.looks, c.way.invariant.within);
+      looks_of_found = λ tree is. tt;
+      same_arena = c.look-node.ensures.same_arena ∙ c.way.invariant.same_arena;
+      held = tt;
+    }
+
+pub returns-in_default-next_child : goal.returns-in_default-next_child
+returns-in_default-next_child g c =
+    let text = g.K.AsBytes.text in
+    let arena = c.args.reader.now.arena in
+    let t = told arena c.way.reader.arena c.args.key.now c.way.at c.way.depth c.next_child.result c.way.invariant.same_arena c.look-node.result c.look-node.ensures.node c.in_default.not-LeafNode c.next_child.ensures.on c.next_child.ensures.nowhere in
+    let nowhere = told-nowhere _ _ _ _ _ t c.in_default-next_child.is in
+    record {
+      answer = λ tree is. here-nowhere-scan text arena tree c.args.key.now c.way.at c.way.depth c.way.search _ _ (c.way.invariant.here tree is) t.node t.is nowhere;
+      path = λ tree is. tt;
+      looks = λ tree is.
+          let here = c.way.invariant.here tree is in
+          let met = here-nowhere-met text arena tree c.args.key.now c.way.at c.way.depth c.way.search _ _ here t.node t.is nowhere in
+          omega (arith, here.counted, met, c.look-node.ensures.counted);
+      looks_bounded = λ tree is.
+          let here = c.way.invariant.here tree is in
+          let met = here-nowhere-met text arena tree c.args.key.now c.way.at c.way.depth c.way.search _ _ here t.node t.is nowhere in
+          omega (arith, here.few, met, c.way.invariant.within);
+      looks_of_found = λ tree is. tt;
+      same_arena = c.look-node.ensures.same_arena ∙ c.way.invariant.same_arena;
+      held = tt;
+    }
+
+pub way-preserved : goal.way-preserved
+way-preserved g c =
+    let text = g.K.AsBytes.text in
+    let arena = c.args.reader.now.arena in
+    let t = told arena c.way.reader.arena c.args.key.now c.way.at c.way.depth c.next_child.result c.way.invariant.same_arena c.look-node.result c.look-node.ensures.node c.in_default.not-LeafNode c.next_child.ensures.on c.next_child.ensures.nowhere in
+    let next : ℕ × PointerTo g.row.K.Denot g.row.V.Denot g.row.PREFIX_LEN = (c.in-Some.place, c.in-Some.child) in
+    let later = told-later _ _ _ _ _ t next c.in-Some.is in
+    record {
+      within = omega (arith, c.in-Some.ensures.within);
+      looks = omega (arith, later, c.look-node.ensures.counted, c.way.invariant.looks);
+      same_arena = c.look-node.ensures.same_arena ∙ c.way.invariant.same_arena;
+      here = λ tree is. here-on text arena tree c.args.key.now c.way.at c.way.depth c.way.search _ _ (c.way.invariant.here tree is) t.node t.is next (told-on _ _ _ _ _ t next c.in-Some.is) c.visit_inner_node.new.self
+          (λ steps byte there stands. subst (λ b. StandsFor c.visit_inner_node.new.self (steps ++ (c.way.at, b) ∷ [])) (get_or_from_slice_get c.args.key.now c.in-Some.place byte 0 there) (c.visit_inner_node.ensures steps stands))
+          c.look-node.new.self.budget c.look-node.ensures.counted;
+    }

@@ -1,0 +1,9 @@
+use Rattle.std.proofs.Common.{arith}
+use Rattle.std.proofs.lemmas.List.{length-map}
+use Rattle.art_tree.proofs.RefusalLemmas.{not-none}
+use Rattle.art_tree.proofs.loading.check.refusal_of.Goals as goal
+
+pub returns-clause-no_fault : goal.returns-clause-no_fault
+returns-clause-no_fault g c =
+    let count = length-map c.args.entries.now (λ entry. g.K.AsBytes.text entry.0) in
+    (omega (arith, count, not-none _ _ c.is_empty.ensures c.if-is_empty.false), λ i within. c.loop-index.invariant i (omega (arith, within, c.loop-index-test.false, count)))

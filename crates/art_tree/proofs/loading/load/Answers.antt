@@ -1,0 +1,86 @@
+use Rattle.std.proofs.Common.{◌≡◌, ◌∙◌, ◌<◌, ◌≤◌, length, ap, sym, subst, arith, rules, lit<}
+use Rattle.std.proofs.lemmas.List.{length-map}
+use Rattle.art_tree.specs.Plan.{AreLoadable, IsPlanOf, texts_of}
+use Rattle.art_tree.specs.Refusals.{HaveNoFault, IsDue}
+use Rattle.art_tree.proofs.RefusalLemmas.{due, loadable}
+use Rattle.art_tree.proofs.Loaded.{loaded-same}
+use Rattle.art_tree.proofs.loading.load.Goals as goal
+
+pub prepare-requires : goal.prepare-requires
+prepare-requires g c =
+    let text_of = λ (entry : g.row.K.Denot × g.row.V.Denot). g.K.AsBytes.text entry.0 in
+    let fine = subst (λ entries. HaveNoFault (texts_of g.K.AsBytes.text entries)) (c.deref.ensures.value ∙ sym c.deref-2.ensures.value) c.in_default.ensures.no_fault in (
+      search rules,
+      (
+        search rules,
+        (
+          search rules,
+          (
+            search rules,
+            (
+              search rules,
+              (
+                lit< tt,
+                (omega (arith, fine.0, length-map c.deref-2.result.now text_of), loadable (texts_of g.K.AsBytes.text c.deref-2.result.now) fine.1),
+              ),
+            ),
+          ),
+        ),
+      ),
+    )
+
+pub make-requires : goal.make-requires
+make-requires g c =
+    let entries = c.args.entries.items in
+    let fine = subst (λ entries. HaveNoFault (texts_of g.K.AsBytes.text entries)) c.deref.ensures.value c.in_default.ensures.no_fault in
+    let plan = subst (λ entries. IsPlanOf (texts_of g.K.AsBytes.text entries) c.in-Ok.prepared.steps.items) c.deref-2.ensures.value c.in-Ok.ensures.plan in
+    let count = c.deref-2.ensures.len in (
+      search rules,
+      (
+        search rules,
+        (
+          search rules,
+          (
+            search rules,
+            (
+              search rules,
+              (
+                lit< tt,
+                (
+                  lit< tt,
+                  (
+                    loadable (texts_of g.K.AsBytes.text entries) fine.1,
+                    (
+                      plan,
+                      (
+                        c.in-Ok.ensures.leaves.0,
+                        (
+                          omega (arith, count, c.in-Ok.ensures.leaves.1),
+                          (
+                            c.in-Ok.ensures.pending.0,
+                            (
+                              omega (arith, count, c.in-Ok.ensures.pending.1),
+                              (c.in-Ok.ensures.room, omega (arith, count, c.in-Ok.ensures.leaf_room)),
+                            ),
+                          ),
+                        ),
+                      ),
+                    ),
+                  ),
+                ),
+              ),
+            ),
+          ),
+        ),
+      ),
+    )
+
+pub returns-in-Ok-clause-loaded : goal.returns-in-Ok-clause-loaded
+returns-in-Ok-clause-loaded g c =
+    (c.make.ensures.0, loaded-same g.K.AsBytes.text c.args.arena.now c.prepare.new.arena c.make.new.arena c.args.entries.items c.make.result c.make.ensures.0 c.prepare.ensures.nodes_kept c.make.ensures.1)
+
+pub returns-in-Ok-clause-no_fault : goal.returns-in-Ok-clause-no_fault
+returns-in-Ok-clause-no_fault g c = subst (λ entries. HaveNoFault (texts_of g.K.AsBytes.text entries)) c.deref.ensures.value c.in_default.ensures.no_fault
+
+pub returns-in-Err-clause-refusal_due : goal.returns-in-Err-clause-refusal_due
+returns-in-Err-clause-refusal_due g c = subst (λ entries. HaveNoFault (texts_of g.K.AsBytes.text entries)) c.deref.ensures.value c.in_default.ensures.no_fault

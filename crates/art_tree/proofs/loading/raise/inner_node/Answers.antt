@@ -1,0 +1,60 @@
+use Rattle.std.proofs.Common.{◌≡◌, ◌∙◌, ◌+◌, rules, arith, lit<, take, refl, ap}
+use Rattle.std.proofs.lemmas.List.{take_all}
+use Rattle.art_tree.specs.Raising.{node_of}
+use Rattle.art_tree.proofs.ChildLemmas.{builder-fits, has-room, is-new, written-node}
+use Rattle.art_tree.proofs.loading.raise.inner_node.Goals as goal
+
+pub builder-requires : goal.builder-requires
+builder-requires g c = (builder-fits _ c.requires.memory, (omega arith, (omega arith, c.requires.short)))
+
+pub write_child-first-requires : goal.write_child-first-requires
+write_child-first-requires g c = (
+  builder-fits _ c.requires.memory,
+  (
+    lit< tt,
+    (
+      builder-fits _ c.requires.memory,
+      has-room g.row.PREFIX_LEN c.args.prefix.now c.args.children.now c.requires.ascending (g.N.InnerNodeCommon.inner c.builder.result) 0 c.builder.ensures (omega (arith, c.requires.two)) _ _ c.requires.fits,
+    ),
+  ),
+)
+
+pub write_child-builder-requires : goal.write_child-builder-requires
+write_child-builder-requires g c =
+    let first = written-node g.row.PREFIX_LEN c.args.prefix.now c.args.children.now c.requires.ascending (g.N.InnerNodeCommon.inner c.builder.result) 0 c.builder.ensures (omega (arith, c.requires.two)) _ (g.N.InnerNodeCommon.inner c.write_child-first.result) 1 refl c.write_child-first.ensures in (
+      builder-fits _ c.requires.memory,
+      (
+        lit< tt,
+        (
+          builder-fits _ c.requires.memory,
+          (
+            has-room g.row.PREFIX_LEN c.args.prefix.now c.args.children.now c.requires.ascending (g.N.InnerNodeCommon.inner c.write_child-first.result) 1 first (omega (arith, c.requires.two)) _ _ c.requires.fits,
+            is-new g.row.PREFIX_LEN c.args.prefix.now c.args.children.now c.requires.ascending (g.N.InnerNodeCommon.inner c.write_child-first.result) 1 first (omega (arith, c.requires.two)) _,
+          ),
+        ),
+      ),
+    )
+
+pub write_child-builder-requires-in-loop-i : goal.write_child-builder-requires-in-loop-i
+write_child-builder-requires-in-loop-i g c = (
+  builder-fits _ c.requires.memory,
+  (
+    lit< tt,
+    has-room g.row.PREFIX_LEN c.args.prefix.now c.args.children.now c.requires.ascending (g.N.InnerNodeCommon.inner c.loop-i.builder) c.loop-i.i c.loop-i.invariant c.loop-i-test.true _ _ c.requires.fits,
+  ),
+)
+
+pub build-requires : goal.build-requires
+build-requires g c = builder-fits _ c.requires.memory
+
+pub loop-i-init : goal.loop-i-init
+loop-i-init g c =
+    let first = written-node g.row.PREFIX_LEN c.args.prefix.now c.args.children.now c.requires.ascending (g.N.InnerNodeCommon.inner c.builder.result) 0 c.builder.ensures (omega (arith, c.requires.two)) _ (g.N.InnerNodeCommon.inner c.write_child-first.result) 1 refl c.write_child-first.ensures in
+    written-node g.row.PREFIX_LEN c.args.prefix.now c.args.children.now c.requires.ascending (g.N.InnerNodeCommon.inner c.write_child-first.result) 1 first (omega (arith, c.requires.two)) _ (g.N.InnerNodeCommon.inner c.write_child-builder.result) 2 refl c.write_child-builder.ensures
+
+pub loop-i-preserved : goal.loop-i-preserved
+loop-i-preserved g c =
+    written-node g.row.PREFIX_LEN c.args.prefix.now c.args.children.now c.requires.ascending (g.N.InnerNodeCommon.inner c.loop-i.builder) c.loop-i.i c.loop-i.invariant c.loop-i-test.true _ (g.N.InnerNodeCommon.inner c.write_child-builder-in-loop-i.result) (c.loop-i.i + 1) refl c.write_child-builder-in-loop-i.ensures
+
+pub returns : goal.returns
+returns g c = ap g.N.InnerNodeCommon.inner c.build.ensures.node ∙ c.loop-i.invariant ∙ ap (node_of g.row.PREFIX_LEN c.args.prefix.now) (take_all c.loop-i.i c.args.children.now (omega (arith, c.loop-i-test.false)))

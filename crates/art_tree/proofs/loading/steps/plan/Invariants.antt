@@ -1,0 +1,21 @@
+use Rattle.std.proofs.Common.{◌≡◌, ◌≤◌, ◌<◌, length}
+use Rattle.art_tree.specs.Plan.{IsPlanOf, texts_of, text_at}
+use Rattle.art_tree.proofs.Planning.{IsPlanned, IsClosing, Parts}
+use Rattle.art_tree.proofs.loading.steps.plan.Given as goal
+
+-- a plan of the entries so far, and at the end of all of them
+abbrev pub invariant-loop-i : goal.invariant-loop-i
+invariant-loop-i g l = record {
+  before_next : l.i < length l.entries → IsPlanned (texts_of g.K.AsBytes.text l.entries) l.i l.top l.open.items l.steps.items;
+  after_last : l.i ≡ length l.entries → IsPlanOf (texts_of g.K.AsBytes.text l.entries) l.steps.items;
+}
+
+abbrev pub invariant-closing : goal.invariant-closing
+invariant-closing g l = record {
+  is_text : l.text ≡ text_at (texts_of g.K.AsBytes.text l.entries) l.i;
+  parts : Parts (texts_of g.K.AsBytes.text l.entries) l.i l.text l.shared;
+  finished : IsClosing (texts_of g.K.AsBytes.text l.entries) l.i l.text l.shared l.top l.open.items l.steps.items;
+}
+
+abbrev pub decreases-closing : goal.decreases-closing
+decreases-closing g l = length l.open.items

@@ -1,0 +1,40 @@
+-- What a load leaves.
+use Rattle.std.specs.Prelude.{◌≡◌, ℕ, List, [], ◌∷◌, map}
+use Rattle.art_nodes.specs.Leaf.{leaf_key, leaf_value}
+use Rattle.art_nodes.specs.Pointers.{opaque_key, slab_key}
+use Rattle.art_nodes.specs.declared.pointers.NodePtr.{NodePtr}
+use Rattle.art_nodes.specs.declared.pointers.OpaqueNodePtr.{OpaqueNodePtr}
+use Rattle.art_nodes.specs.declared.leaf_node.LeafNode.{LeafNode}
+use Rattle.art_arena.specs.Arena.{ArenaOf, HeldLeaf, held}
+use Rattle.art_arena.specs.Links.{Spells}
+use Rattle.art_arena.specs.Standing.{IsTreeIn}
+use Rattle.art_arena.specs.Trees.{Tree, leaves, places}
+use Rattle.art_tree.specs.Raising.{IsSnug, Adds, leaf_pointer}
+
+module _ {K V : Type 0} {P : ℕ} where
+  -- these pointers hold leaves with these entries, one each
+  abbrev pub HoldEntries : ArenaOf K V P → List (OpaqueNodePtr K V P) → List (K × V) → Type 0
+  HoldEntries arena [] [] = Unit {0}
+  HoldEntries arena [] (entry ∷ entries) = ⊥
+  HoldEntries arena (pointer ∷ pointers) [] = ⊥
+  HoldEntries arena (pointer ∷ pointers) (entry ∷ entries) =
+      ((leaf : LeafNode K V P) × (held arena pointer ≡ HeldLeaf leaf) × (leaf_key leaf ≡ entry.0) × (leaf_value leaf ≡ entry.1))
+      × HoldEntries arena pointers entries
+
+  -- these new leaves hold the entries, are linked in their order, and are all that is new
+  pub record AreLinked (old new : ArenaOf K V P) (entries : List (K × V)) (leaves : List (NodePtr P (LeafNode K V P))) : Type 0 where
+    pub hold : HoldEntries new (map leaf_pointer leaves) entries
+    pub spelled : Spells new (map slab_key leaves)
+    pub adds : Adds old new (map leaf_pointer leaves)
+
+  -- the pointers of a tree's leaves from left to right
+  abbrev pub leaf_pointers : Tree (OpaqueNodePtr K V P) → List (OpaqueNodePtr K V P)
+  leaf_pointers tree = map (λ leaf. leaf.0) (leaves tree)
+
+  -- a well-formed, snug tree stands in the arena, its leaves hold the entries and are linked in their order, and its nodes are all that is new
+  pub record IsLoaded (text : K → List ℕ) (old new : ArenaOf K V P) (entries : List (K × V)) (root : OpaqueNodePtr K V P) (tree : Tree (OpaqueNodePtr K V P)) : Type 0 where
+    pub is_tree : IsTreeIn text new root tree
+    pub snug : IsSnug tree
+    pub hold : HoldEntries new (leaf_pointers tree) entries
+    pub spelled : Spells new (map opaque_key (leaf_pointers tree))
+    pub adds : Adds old new (places tree)

@@ -1,0 +1,26 @@
+-- The steps of a way through a tree, and the path that is kept of them.
+use Rattle.std.specs.Prelude.{◌≡◌, ℕ, List, [], ◌∷◌}
+use Rattle.art_nodes.specs.declared.pointers.OpaqueNodePtr.{OpaqueNodePtr}
+use Rattle.art_tree.specs.declared.path.TreePath.{TreePath}
+use Rattle.art_tree.specs.declared.path.TreePath.TheVariants.{Root, ChildOfRoot, Normal}
+use Rattle.art_tree.specs.declared.path.TreePathSearch.{TreePathSearch}
+
+-- inner nodes from the root down, each with the byte that is taken from it
+abbrev pub Steps : Type 0 → Type 0 → ℕ → Type 0
+Steps K V P = List (OpaqueNodePtr K V P × ℕ)
+
+module _ {K V : Type 0} {P : ℕ} where
+  -- the root for no step, the child of the root for one, and else the last two steps
+  abbrev pub path_of : Steps K V P → TreePath K V P
+  path_of [] = Root
+  path_of ((parent, byte) ∷ []) = ChildOfRoot parent byte
+  path_of ((grandparent, parent_byte) ∷ (parent, byte) ∷ []) = Normal grandparent parent_byte parent byte
+  path_of (_ ∷ parent ∷ child ∷ steps) = path_of (parent ∷ child ∷ steps)
+
+  -- what a search would answer, were it to finish
+  abbrev pub finished : TreePathSearch K V P → TreePath K V P
+  finished search = search.path
+
+  -- a search stands for the steps whose path it would answer
+  abbrev pub StandsFor : TreePathSearch K V P → Steps K V P → Type 0
+  StandsFor search steps = finished search ≡ path_of steps

@@ -1,0 +1,113 @@
+//! Search: the leaf with a key, by one look at each node on the way to it.
+ghost use Rattle.std.specs.Prelude.{◌≡◌, ◌≢◌, ◌<◌, ◌≤◌, ◌+◌, length, IfSome, IfNone};
+ghost use Rattle.art_arena.specs.Arena.{held, Nothing};
+ghost use Rattle.art_arena.specs.Reader.{shown};
+ghost use Rattle.art_tree.specs.Descent.{LeadsOn, LeadsNowhere, LeadsOnFrom, LeadsNowhereFrom};
+ghost use Rattle.art_tree.specs.Paths.{Steps};
+ghost use Rattle.art_tree.specs.Search.{HasTree, EachTree, scan, found, met, IsWay, IsPathTo, leaf_pointer};
+
+use crate::path::{TreePath, TreePathSearch};
+use art_arena::{AnyRef, ArenaReader, NodeRef};
+use art_bytes::AsBytes;
+use art_nodes::{InnerNodeCommon, LeafNode, NodePtr, OpaqueNodePtr};
+
+// The place in the key of the byte that leads on from the node, and the child under that byte.
+fn step<K, V, const PREFIX_LEN: usize, N: InnerNodeCommon<K, V, PREFIX_LEN>>(
+    node: &N,
+    key: &[u8],
+    depth: usize,
+) -> Option<(usize, OpaqueNodePtr<K, V, PREFIX_LEN>)>
+    requires { depth ≤ length key.now }
+    ensures on { IfSome result (LeadsOn PREFIX_LEN (N.inner node.now) key.now depth) }
+    ensures within { IfSome result (λ (place, child). place < length key.now) }
+    ensures nowhere { IfNone result (LeadsNowhere PREFIX_LEN (N.inner node.now) key.now depth) }
+{
+    let Ok(matched) = node.attempt_pessimistic_match_prefix(&key[depth..]) else {
+        return None;
+    };
+    let place = depth + matched.matched_bytes;
+    if place >= key.len() {
+        return None;
+    }
+    let child = node.lookup_child(key[place])?;
+    Some((place, child))
+}
+
+// The same for a node of any kind. No child of a leaf has the key.
+fn next_child<K, V, const PREFIX_LEN: usize>(
+    node: NodeRef<'_, K, V, PREFIX_LEN>,
+    key: &[u8],
+    depth: usize,
+) -> Option<(usize, OpaqueNodePtr<K, V, PREFIX_LEN>)>
+    requires { depth ≤ length key.now }
+    ensures on { IfSome result (LeadsOnFrom PREFIX_LEN (shown node.entry) key.now depth) }
+    ensures within { IfSome result (λ (place, child). place < length key.now) }
+    ensures nowhere { IfNone result (LeadsNowhereFrom PREFIX_LEN (shown node.entry) key.now depth) }
+{
+    match node {
+        AnyRef::Node4(node) => step(node, key, depth),
+        AnyRef::Node16(node) => step(node, key, depth),
+        AnyRef::Node48(node) => step(node, key, depth),
+        AnyRef::Node256(node) => step(node, key, depth),
+        AnyRef::LeafNode(_) => None,
+    }
+}
+
+/// The leaf with this key in the tree at `root`, with its path, or None where no leaf has the key:
+/// what a scan of all leaves finds.
+///
+/// The search looks at the nodes on the way and at no other. At an inner node it compares the key
+/// with the prefix where the node stores all of it, and else passes over as many bytes; so at the
+/// leaf it compares the whole key.
+///
+/// A well-formed tree has to stand at `root` in the reader's arena, as the one that a load answers,
+/// and the budget has to be at least the key's length and one. Each node costs one look, and no
+/// memory is taken.
+pub fn find_leaf<K: AsBytes, V, const PREFIX_LEN: usize>(
+    reader: &mut ArenaReader<'_, K, V, PREFIX_LEN>,
+    root: OpaqueNodePtr<K, V, PREFIX_LEN>,
+    key: &[u8],
+) -> Option<
+    (
+        NodePtr<PREFIX_LEN, LeafNode<K, V, PREFIX_LEN>>,
+        TreePath<K, V, PREFIX_LEN>,
+    ),
+>
+    requires tree { HasTree K.text reader.old.arena root }
+    requires budget { length key.now + 1 ≤ reader.old.budget }
+    ensures answer { EachTree K.text reader.old.arena root (λ tree.
+        scan tree key.now ≡ found result key.now) }
+    ensures path { EachTree K.text reader.old.arena root (λ tree.
+        IfSome result (λ (leaf, path). IsPathTo tree (leaf_pointer leaf) path)) }
+    ensures looks { EachTree K.text reader.old.arena root (λ tree.
+        reader.new.budget + length (met PREFIX_LEN tree key.now) ≡ reader.old.budget) }
+    ensures looks_bounded { EachTree K.text reader.old.arena root (λ tree.
+        length (met PREFIX_LEN tree key.now) ≤ length key.now + 1) }
+    ensures looks_of_found { EachTree K.text reader.old.arena root (λ tree.
+        IfSome result (λ (leaf, path). (steps : Steps K V PREFIX_LEN) →
+        IsWay tree steps (leaf_pointer leaf) →
+        length (met PREFIX_LEN tree key.now) ≡ length steps + 1)) }
+    ensures same_arena { reader.new.arena ≡ reader.old.arena }
+    ensures held { IfSome result (λ (leaf, path).
+        held reader.new.arena (leaf_pointer leaf) ≢ Nothing) }
+{
+    let mut search = TreePathSearch::default();
+    let mut at = root;
+    let mut depth = 0;
+    'way: loop {
+        let node = reader.look(at);
+        if let AnyRef::LeafNode(leaf) = node {
+            return if leaf.matches_full_key(key) {
+                Some((at.cast().unwrap(), search.finish()))
+            } else {
+                None
+            };
+        }
+        let Some((place, child)) = next_child(node, key, depth) else {
+            return None;
+        };
+        search.visit_inner_node(at, key[place]);
+        depth = place + 1;
+        at = child;
+    }
+}

@@ -1,0 +1,28 @@
+//! Trees over an arena of nodes: their paths, load and search.
+//!
+//! The crate has every public name of the crates below it, so that whoever uses trees names it alone.
+#![tactic(auto)]
+
+mod find;
+mod loading;
+mod path;
+
+pub use art_arena::{AnyRef, ArenaNode, ArenaReader, NodeArena, NodeRef};
+pub use art_bytes::{
+    AsBytes, CStringKey, CStringKeyError, NoPrefixesBytes, OrderedBytes, SliceKey, StrKey,
+};
+pub use art_mapped::{
+    BytesMapping, Domain, Element, FixedBytes, IntegerForm, Joined, Mapped, NoPrefixesMapping,
+    Octets, OrderedMapping, Signed, Single, ToBigEndian, ToIBE, ToOctets, ToUBE, Unsigned,
+};
+pub use art_nodes::{
+    AttemptOptimisticPrefixMatch, BuilderState, ChildCommand, ChildIter, ChildNode, ChildPairs,
+    ChildReply, ConcreteInnerNodePtr, ConcreteNodePtr, HasChild, HasOneChild, Header, InnerNode,
+    InnerNode4, InnerNode16, InnerNode48, InnerNodeBuilder, InnerNodeCommon, InnerNodeDirect,
+    InnerNodeIndirect, InnerNodeSorted, LeafNode, NoChild, Node, NodePtr, NodeType, NonMaxIndex,
+    OpaqueNodePtr, OptimisticMismatch, PairIter, PessimisticMismatch, PrefixMatch, Replayed,
+    Sequence, TryFromByteError, replay, valid_range_bounds,
+};
+pub use find::find_leaf;
+pub use loading::{LoadFault, LoadRefusal, load};
+pub use path::{TreePath, TreePathSearch};

@@ -1,0 +1,61 @@
+//! What refuses entries.
+ghost use Rattle.std.specs.Prelude.{◌≡◌, ◌<◌, length, IfSome, IfNone};
+ghost use Rattle.art_tree.specs.Plan.{texts_of};
+ghost use Rattle.art_tree.specs.Refusals.{HaveNoFault, IsRefusal, fault_at};
+
+use art_bytes::AsBytes;
+use std::cmp::Ordering;
+
+/// Why [`load`](crate::load) refuses entries. An index counts entries from 0.
+#[derive(Clone, Copy, PartialEq, Eq)]
+pub enum LoadRefusal {
+    /// There are no entries.
+    Empty,
+    /// The key of this entry has 2^32 bytes or more.
+    KeyTooLong(usize),
+    /// The key of this entry is not below the next one's.
+    NotAscending(usize),
+    /// The key of this entry is a proper front of the next one's.
+    Prefix(usize),
+    /// Memory was refused. Nothing is wrong with the entries.
+    OutOfMemory,
+}
+
+// What refuses the entry at an index, if anything does.
+fn fault_of<K: AsBytes, V>(entries: &[(K, V)], index: usize) -> Option<LoadRefusal>
+    requires { index < length entries.now }
+    ensures { result ≡ fault_at (texts_of K.text entries.now) index }
+{
+    let text = entries[index].0.as_bytes();
+    if text.len() >= 1 << 32 {
+        return Some(LoadRefusal::KeyTooLong(index));
+    }
+    if index + 1 == entries.len() {
+        return None;
+    }
+    let next = entries[index + 1].0.as_bytes();
+    if text.cmp(next) != Ordering::Less {
+        Some(LoadRefusal::NotAscending(index))
+    } else if next.starts_with(text) {
+        Some(LoadRefusal::Prefix(index))
+    } else {
+        None
+    }
+}
+
+// What refuses the entries, if anything does: no entry, or else the first fault.
+pub(crate) fn refusal_of<K: AsBytes, V>(entries: &[(K, V)]) -> Option<LoadRefusal>
+    ensures refused { IfSome result (IsRefusal (texts_of K.text entries.now)) }
+    ensures no_fault { IfNone result (HaveNoFault (texts_of K.text entries.now)) }
+{
+    if entries.is_empty() {
+        return Some(LoadRefusal::Empty);
+    }
+    for index in 0..entries.len() {
+        let fault = fault_of(entries, index);
+        if fault.is_some() {
+            return fault;
+        }
+    }
+    None
+}

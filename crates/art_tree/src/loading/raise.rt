@@ -1,0 +1,152 @@
+//! From a plan to nodes.
+ghost use Rattle.std.specs.Prelude.{◌≡◌, ◌≢◌, ℕ, ◌<◌, ◌≤◌, ◌-◌, ◌^◌, [], List, length, take, drop, vec_capacity};
+ghost use Rattle.std.specs.Mem.{FitsInMemory};
+ghost use Rattle.art_header.specs.NodeType.{kind_for};
+ghost use Rattle.art_header.specs.declared.node_type.NodeType.TheVariants as NodeType;
+ghost use Rattle.art_nodes.specs.ChildMap.{IsAscending, key_bytes};
+ghost use Rattle.art_nodes.specs.Pointers.{slab_key};
+ghost use Rattle.art_nodes.specs.declared.pointers.OpaqueNodePtr.{OpaqueNodePtr as Pointer};
+ghost use Rattle.art_arena.specs.Arena.{room, HeldInner, Nothing};
+ghost use Rattle.art_arena.specs.Links.{HoldsLeaf, text_at};
+ghost use Rattle.art_arena.specs.Trees.{Tree};
+ghost use Rattle.art_tree.specs.Plan as Plan;
+ghost use Rattle.art_tree.specs.Plan.{IsPlanOf, needed};
+ghost use Rattle.art_tree.specs.Raising.{node_of, IsPlaced, IsRaised, HoldLeaves, leaf_texts};
+
+use crate::loading::steps::Step;
+use art_arena::{ArenaNode, NodeArena};
+use art_bytes::AsBytes;
+use art_nodes::{
+    InnerNode4, InnerNode16, InnerNode48, InnerNodeCommon, InnerNodeDirect, LeafNode, Node,
+    NodePtr, OpaqueNodePtr,
+};
+
+// The inner node with this prefix and these children.
+fn inner_node<K, V, const PREFIX_LEN: usize, N: InnerNodeCommon<K, V, PREFIX_LEN>>(
+    prefix: &[u8],
+    children: &[(u8, OpaqueNodePtr<K, V, PREFIX_LEN>)],
+) -> N
+    requires memory { FitsInMemory N.row }
+    requires short { length prefix.now < 2 ^ 32 }
+    requires two { 2 ≤ length children.now }
+    requires fits { length children.now ≤ N.room }
+    requires ascending { IsAscending (key_bytes children.now) }
+    ensures { N.inner result ≡ node_of PREFIX_LEN prefix.now children.now }
+{
+    let (byte, child) = children[0];
+    let first = N::builder(prefix, prefix.len()).write_child(byte, child);
+    let (byte, child) = children[1];
+    let mut builder = first.write_child(byte, child);
+    for i in 2..children.len() {
+        let (byte, child) = children[i];
+        builder = builder.write_child(byte, child);
+    }
+    builder.build()
+}
+
+// Places the inner node of one type whose prefix the leaf's text has from `start` to `end`.
+fn place_as<
+    K: AsBytes,
+    V,
+    const PREFIX_LEN: usize,
+    N: InnerNodeCommon<K, V, PREFIX_LEN>
+        + ArenaNode<K, V, PREFIX_LEN>
+        + Node<PREFIX_LEN, Key = K, Value = V>,
+>(
+    arena: &mut NodeArena<K, V, PREFIX_LEN>,
+    leaf: NodePtr<PREFIX_LEN, LeafNode<K, V, PREFIX_LEN>>,
+    start: usize,
+    end: usize,
+    children: &[(u8, OpaqueNodePtr<K, V, PREFIX_LEN>)],
+) -> OpaqueNodePtr<K, V, PREFIX_LEN>
+    requires memory { FitsInMemory N.row }
+    requires shown { (node : N) → N.held_as node ≡ HeldInner (N.inner node) }
+    requires held { HoldsLeaf arena.old (slab_key leaf) }
+    requires ordered { start ≤ end }
+    requires within { end ≤ length (text_at K.text arena.old (slab_key leaf)) }
+    requires short { end < 2 ^ 32 }
+    requires two { 2 ≤ length children.now }
+    requires fits { length children.now ≤ N.room }
+    requires ascending { IsAscending (key_bytes children.now) }
+    requires room { 0 < room arena.old N.TYPE }
+    ensures { IsPlaced arena.old arena.new N.TYPE (node_of PREFIX_LEN (take (end - start) (drop start (text_at K.text arena.old (slab_key leaf)))) children.now) result }
+{
+    let text = arena.as_ref(leaf).key_ref().as_bytes();
+    let node: N = inner_node(&text[start..end], children);
+    arena.allocate_node_ptr(node).unwrap().to_opaque()
+}
+
+// Places the inner node of the smallest kind.
+#[inline(never)]
+fn place<K: AsBytes, V, const PREFIX_LEN: usize>(
+    arena: &mut NodeArena<K, V, PREFIX_LEN>,
+    leaf: NodePtr<PREFIX_LEN, LeafNode<K, V, PREFIX_LEN>>,
+    start: usize,
+    end: usize,
+    children: &[(u8, OpaqueNodePtr<K, V, PREFIX_LEN>)],
+) -> OpaqueNodePtr<K, V, PREFIX_LEN>
+    requires held { HoldsLeaf arena.old (slab_key leaf) }
+    requires ordered { start ≤ end }
+    requires within { end ≤ length (text_at K.text arena.old (slab_key leaf)) }
+    requires short { end < 2 ^ 32 }
+    requires two { 2 ≤ length children.now }
+    requires few { length children.now ≤ 256 }
+    requires ascending { IsAscending (key_bytes children.now) }
+    requires room { 0 < room arena.old (kind_for (length children.now)) }
+    ensures { IsPlaced arena.old arena.new (kind_for (length children.now)) (node_of PREFIX_LEN (take (end - start) (drop start (text_at K.text arena.old (slab_key leaf)))) children.now) result }
+{
+    match children.len() {
+        0..=4 => place_as::<K, V, PREFIX_LEN, InnerNode4<K, V, PREFIX_LEN>>(
+            arena, leaf, start, end, children,
+        ),
+        5..=16 => place_as::<K, V, PREFIX_LEN, InnerNode16<K, V, PREFIX_LEN>>(
+            arena, leaf, start, end, children,
+        ),
+        17..=48 => place_as::<K, V, PREFIX_LEN, InnerNode48<K, V, PREFIX_LEN>>(
+            arena, leaf, start, end, children,
+        ),
+        _ => place_as::<K, V, PREFIX_LEN, InnerNodeDirect<K, V, PREFIX_LEN>>(
+            arena, leaf, start, end, children,
+        ),
+    }
+}
+
+/// Makes the inner nodes of a plan over these leaves, and answers the root. `pending` is working
+/// memory, with room for as many trees as there are leaves.
+pub(crate) fn raise<K: AsBytes, V, const PREFIX_LEN: usize>(
+    arena: &mut NodeArena<K, V, PREFIX_LEN>,
+    leaves: &[NodePtr<PREFIX_LEN, LeafNode<K, V, PREFIX_LEN>>],
+    steps: &[Step],
+    mut pending: Vec<(u8, OpaqueNodePtr<K, V, PREFIX_LEN>)>,
+) -> OpaqueNodePtr<K, V, PREFIX_LEN>
+    requires held { HoldLeaves arena.old leaves.now }
+    requires short { (i : ℕ) → length (Plan.text_at (leaf_texts K.text arena.old leaves.now) i) < 2 ^ 32 }
+    requires plan { IsPlanOf (leaf_texts K.text arena.old leaves.now) steps.now }
+    requires room { (kind : _) → kind ≢ NodeType.Leaf → needed kind steps.now ≤ room arena.old kind }
+    requires none_pending { pending.items ≡ [] }
+    requires memory { length leaves.now ≤ vec_capacity pending }
+    ensures { (tree : Tree (Pointer K V PREFIX_LEN)) × IsRaised K.text arena.old arena.new leaves.now result tree }
+{
+    let mut next = 0;
+    for step in steps {
+        match *step {
+            Step::Leaf { byte } => {
+                pending.push_reserved((byte, leaves[next].to_opaque()));
+                next += 1;
+            }
+            Step::Inner {
+                byte,
+                start,
+                end,
+                children,
+            } => {
+                let below = pending.len() - children;
+                let node = place(arena, leaves[next - 1], start, end, &pending[below..]);
+                pending.truncate(below);
+                pending.push_reserved((byte, node));
+            }
+        }
+    }
+    let (_, root) = pending[0];
+    root
+}

@@ -1,0 +1,133 @@
+//! The plan of a tree: the steps that make it, each node after its children.
+ghost use Rattle.std.specs.Prelude.{◌≡◌, ◌+◌, ◌<◌, ◌≤◌, List, ◌∷◌, length, IfOk};
+ghost use Rattle.art_tree.specs.Plan.{IsFork, Forks, AreLoadable, IsPlanOf, byte_before, needed, texts_of};
+
+use art_bytes::AsBytes;
+use art_nodes::NodeType;
+use std::alloc::{AllocError, Global};
+
+/// A step of a plan. It makes a tree and leaves it under a byte, after the trees that earlier steps
+/// made and no node has taken yet.
+#[derive(Clone, Copy)]
+pub(crate) enum Step {
+    /// Takes the next leaf.
+    Leaf {
+        byte: u8,
+    },
+    /// Makes a node over the last `children` trees. Bytes `start` to `end` of each text below are
+    /// its prefix.
+    Inner {
+        byte: u8,
+        start: usize,
+        end: usize,
+        children: usize,
+    },
+}
+
+// A node that may get further children: so many bytes lead to each of them.
+#[derive(Clone, Copy)]
+struct Open {
+    path: usize,
+    children: usize,
+}
+
+// How many bytes the texts share. The first one's next byte is less.
+fn fork(text: &[u8], next: &[u8]) -> usize
+    requires { Forks text.now next.now }
+    ensures { IsFork text.now next.now result }
+{
+    let mut at = 0;
+    while text[at] == next[at] {
+        at += 1;
+    }
+    at
+}
+
+// The byte that leads to what begins at `place`, 0 for the root.
+fn byte_to(text: &[u8], place: usize) -> u8
+    requires { place ≤ length text.now }
+    ensures { result ≡ byte_before text.now place }
+{
+    if place == 0 { 0 } else { text[place - 1] }
+}
+
+/// The steps that make the tree of these entries, whose texts ascend and none of which begins the
+/// next.
+///
+/// One pass over the entries with a stack of the nodes on the path to the last leaf: where two
+/// neighbours part, the nodes further down are finished.
+pub(crate) fn plan<K: AsBytes, V>(
+    alloc: Global,
+    entries: &[(K, V)],
+) -> Result<Vec<Step>, AllocError>
+    requires some { 0 < length entries.now }
+    requires loadable { AreLoadable (texts_of K.text entries.now) }
+    ensures { IfOk result (λ steps. IsPlanOf (texts_of K.text entries.now) steps.items) }
+{
+    let mut steps = Vec::with_capacity(alloc, entries.len())?;
+    let mut open = Vec::new(alloc);
+    let mut top = Open {
+        path: 0,
+        children: 0,
+    };
+    for i in 0..entries.len() {
+        let text = entries[i].0.as_bytes();
+        let shared = if i + 1 < entries.len() {
+            fork(text, entries[i + 1].0.as_bytes()) + 1
+        } else {
+            0
+        };
+        let leaf_byte = byte_to(text, shared.max(top.path));
+        steps.push(Step::Leaf { byte: leaf_byte })?;
+        'closing: while shared < top.path {
+            let below: Open = open.pop().unwrap();
+            let start = shared.max(below.path);
+            let byte = byte_to(text, start);
+            steps.push(Step::Inner {
+                byte,
+                start,
+                end: top.path - 1,
+                children: top.children + 1,
+            })?;
+            top = below;
+        }
+        if top.path < shared {
+            open.push(top)?;
+            top = Open {
+                path: shared,
+                children: 0,
+            };
+        }
+        top.children += 1;
+    }
+    Ok(steps)
+}
+
+// How many nodes of a kind a step makes: one or none.
+fn nodes_made(step: Step, kind: NodeType) -> usize
+    ensures one { result ≤ 1 }
+    ensures added { (others : List _) → needed kind (step ∷ others) ≡ result + needed kind others }
+{
+    match step {
+        Step::Leaf { .. } => 0,
+        Step::Inner { children, .. } => {
+            let range = kind.capacity_range();
+            if *range.start() <= children && children <= *range.end() {
+                1
+            } else {
+                0
+            }
+        }
+    }
+}
+
+/// How many nodes of a kind the steps make.
+pub(crate) fn count_nodes(steps: &[Step], kind: NodeType) -> usize
+    ensures { result ≡ needed kind steps.now }
+{
+    let mut count = 0;
+    for step in steps {
+        count += nodes_made(*step, kind);
+    }
+    count
+}

@@ -1,0 +1,135 @@
+//! Paths: the last two nodes on the way to a leaf.
+ghost use Rattle.std.specs.Prelude.{◌≡◌, ◌↔◌, [], ◌∷◌, ◌++◌};
+ghost use Rattle.art_tree.specs.Paths.{Steps, path_of, StandsFor};
+
+use art_nodes::OpaqueNodePtr;
+
+/// Where a leaf hangs in its tree: the inner nodes above it, as far as two of them, each with the
+/// byte that was taken from it.
+#[derive_where(Clone, Copy)]
+pub enum TreePath<K, V, const PREFIX_LEN: usize> {
+    /// The leaf is the root.
+    Root,
+    /// The leaf is a child of the root.
+    ChildOfRoot {
+        /// The root.
+        parent: OpaqueNodePtr<K, V, PREFIX_LEN>,
+        /// The byte of the leaf in the root.
+        child_key_byte: u8,
+    },
+    /// The leaf has a parent and a grandparent.
+    Normal {
+        /// The grandparent.
+        grandparent: OpaqueNodePtr<K, V, PREFIX_LEN>,
+        /// The byte of the parent in the grandparent.
+        parent_key_byte: u8,
+        /// The parent.
+        parent: OpaqueNodePtr<K, V, PREFIX_LEN>,
+        /// The byte of the leaf in the parent.
+        child_key_byte: u8,
+    },
+}
+
+/// Remembers the last two inner nodes that a search visits, each with the byte taken from it.
+#[derive(Drop)]
+pub struct TreePathSearch<K, V, const PREFIX_LEN: usize> {
+    path: TreePath<K, V, PREFIX_LEN>,
+}
+
+/// A search that has visited no node.
+impl<K, V, const PREFIX_LEN: usize> Default for TreePathSearch<K, V, PREFIX_LEN> {
+    ghost use Rattle.std.specs.Prelude.{[]};
+    ghost use Rattle.art_tree.specs.Paths.{StandsFor};
+
+    ghost is_default = { λ search. StandsFor search [] };
+
+    fn default() -> Self {
+        TreePathSearch {
+            path: TreePath::Root,
+        }
+    }
+}
+
+impl<K, V, const PREFIX_LEN: usize> TreePathSearch<K, V, PREFIX_LEN> {
+    /// Visits an inner node and takes this byte from it.
+    pub fn visit_inner_node(&mut self, inner_node: OpaqueNodePtr<K, V, PREFIX_LEN>, key_byte: u8)
+        ensures { (steps : Steps K V PREFIX_LEN) → StandsFor self.old steps → StandsFor self.new (steps ++ (inner_node, key_byte) ∷ []) }
+    {
+        self.path = match self.path {
+            TreePath::Root => TreePath::ChildOfRoot {
+                parent: inner_node,
+                child_key_byte: key_byte,
+            },
+            TreePath::ChildOfRoot {
+                parent,
+                child_key_byte,
+            }
+            | TreePath::Normal {
+                parent,
+                child_key_byte,
+                ..
+            } => TreePath::Normal {
+                grandparent: parent,
+                parent_key_byte: child_key_byte,
+                parent: inner_node,
+                child_key_byte: key_byte,
+            },
+        };
+    }
+
+    /// The path that the visits make.
+    pub fn finish(self) -> TreePath<K, V, PREFIX_LEN>
+        ensures { (steps : Steps K V PREFIX_LEN) → StandsFor self steps ↔ (result ≡ path_of steps) }
+    {
+        self.path
+    }
+}
+
+#[cfg(test)]
+mod tests {
+    use super::*;
+    use art_nodes::{InnerNode4, NodePtr};
+
+    type Pointer = OpaqueNodePtr<u8, u8, 16>;
+
+    fn node(key: usize) -> Pointer {
+        NodePtr::<16, InnerNode4<u8, u8, 16>>::from_key(key).to_opaque()
+    }
+
+    // Where the leaf hangs, as the pairs above it from the leaf on.
+    fn above(path: TreePath<u8, u8, 16>) -> (Option<(Pointer, u8)>, Option<(Pointer, u8)>) {
+        match path {
+            TreePath::Root => (None, None),
+            TreePath::ChildOfRoot {
+                parent,
+                child_key_byte,
+            } => (Some((parent, child_key_byte)), None),
+            TreePath::Normal {
+                grandparent,
+                parent_key_byte,
+                parent,
+                child_key_byte,
+            } => (
+                Some((parent, child_key_byte)),
+                Some((grandparent, parent_key_byte)),
+            ),
+        }
+    }
+
+    #[test]
+    fn remembers_the_last_two_nodes(rt: HostRuntime) {
+        let none = TreePathSearch::default();
+        assert!(rt; above(none.finish()) == (None, None));
+        let mut visits = TreePathSearch::default();
+        visits.visit_inner_node(node(1), 97);
+        visits.visit_inner_node(node(2), 98);
+        visits.visit_inner_node(node(3), 99);
+        let path = visits.finish();
+        let same = path;
+        assert!(rt; above(path) == (Some((node(3), 99)), Some((node(2), 98))));
+        assert!(rt; above(same) == above(path));
+        let mut one = TreePathSearch::default();
+        one.visit_inner_node(node(7), 255);
+        assert!(rt; above(one.finish()) == (Some((node(7), 255)), None));
+    }
+}
