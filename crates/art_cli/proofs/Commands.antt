@@ -1,8 +1,9 @@
 -- Commands that lines say, one after another.
 use Rattle.std.proofs.Common.{◌≡◌, ℕ, List, [], ◌∷◌, ◌++◌, length, refl, arith, append_assoc, append-nil}
 use Rattle.std.specs.Prelude.{Bool, true, false}
-use Rattle.art_nodes.specs.declared.command.ChildCommand.{ChildCommand}
-use Rattle.art_cli.specs.Line.{words_of, lines_of, SayCommand, SayCommands, SayNothing}
+use Rattle.art_nodes.specs.declared.ChildCommand.{ChildCommand}
+use Rattle.art_cli.specs.Lines.{words_of, lines_of}
+use Rattle.art_cli.specs.Command.{SayCommand, SayCommands, SayNothing}
 
 module _ {K V : Type 0} {P : ℕ} where
   -- before the first line
@@ -31,7 +32,7 @@ module _ {K V : Type 0} {P : ℕ} where
         let all_said : SayCommands all (items ++ []) true = so_far [] true this in
         rw append-nil at all_said
 
--- a text of no length is empty
-pub empty_text : (bytes : List ℕ) → length bytes ≡ 0 → bytes ≡ []
-empty_text [] none = refl
-empty_text (b ∷ bytes) none = absurd (omega arith)
+-- a list of no length is empty
+pub empty_list : {X : Type 0} (items : List X) → length items ≡ 0 → items ≡ []
+empty_list [] none = refl
+empty_list (x ∷ items) none = absurd (omega arith)

@@ -1,13 +1,8 @@
--- What statuses say of failures.
-use Rattle.std.proofs.Common.{◌≡◌, ℕ, List, arith}
-use Rattle.art_cli.specs.declared.failure.Failure.{Failure}
-use Rattle.art_cli.specs.declared.failure.Failure.TheVariants.{Usage, BadLine, OutOfMemory, Device}
-use Rattle.art_cli.specs.Failure.{status_of}
-use Rattle.art_cli.specs.Program.{IsFailure, HasBadLine}
+-- What a failed run has written.
+use Rattle.std.proofs.Common.{ℕ, List, inr}
+use Rattle.std.specs.Prelude.{Option, String}
+use Rattle.art_cli.specs.Program.{IsAsked, AppendsBeginning, PrintsBeginning}
 
--- an input that is given up with status 2 has a bad line
-pub bad_line : (input : List ℕ) (failure : Failure) → status_of failure ≡ 2 → IsFailure input failure → HasBadLine input
-bad_line input Usage two is = absurd is
-bad_line input (BadLine number fault) two is = (number, fault, is)
-bad_line input OutOfMemory two is = absurd (omega arith)
-bad_line input Device two is = absurd (omega arith)
+-- a beginning of the output that is asked for is written
+pub is_beginning : {A : Type 0} (words : List (String A)) (input output : List ℕ) (old new : Option (List ℕ)) → IsAsked words input output → AppendsBeginning old new output → PrintsBeginning words input old new
+is_beginning words input output old new is wrote = inr (output, is, wrote)

@@ -2,4 +2,8 @@ pub mod Commands
 pub mod Failures
 pub mod Numbers
 pub mod Parts
-pub mod Words
+pub mod Writes
+pub mod Parsing
+pub mod Finding
+pub mod Loaded
+pub mod Refusals

@@ -9,7 +9,7 @@ use Rattle.std.specs.Str.Parse.{digits_value, ParsesUnsigned}
 use Rattle.std.proofs.lemmas.Str.{IsUtf8-from_ascii}
 use Rattle.std.proofs.lemmas.Fmt.{IsAscii-from_digits}
 use Rattle.std.proofs.lemmas.Str.Parse.{IsNumeralModel, IsDigitsTest, numerals_by_value, parse_gives, digits_value_short}
-use Rattle.art_cli.specs.Line.{IsNumber}
+use Rattle.art_cli.specs.Command.{IsNumber}
 
 digits_test : IsDigitsTest (All (IsInRange 48 57))
 digits_test = record {

@@ -7,10 +7,10 @@ use Rattle.std.proofs.Math.Seq.{take-length}
 use Rattle.std.proofs.lemmas.List.Splits.{slice_split_none, slice_split_first, length-slice_split}
 use Rattle.std.proofs.lemmas.List.Sums.{fails_before_first, position_or_len_is}
 use Rattle.std.proofs.lemmas.List.Quantifiers.{position-Some}
-use Rattle.art_cli.specs.Line.{words_of, lines_of, without_empty_last}
+use Rattle.art_cli.specs.Lines.{words_of, lines_of, without_empty_last}
 
 -- all that comes from a place on
-rest_whole : (k : ℕ) (xs : List ℕ) → take (length xs - k) (drop k xs) ≡ drop k xs
+pub rest_whole : (k : ℕ) (xs : List ℕ) → take (length xs - k) (drop k xs) ≡ drop k xs
 rest_whole k xs = rw (← length-drop k xs) (take-length (drop k xs))
 
 module _ (c : ℕ) (bytes : List ℕ) where

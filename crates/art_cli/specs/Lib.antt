@@ -1,5 +1,10 @@
 pub mod Failure
-pub mod Text
-pub mod Line
+pub mod Lines
+pub mod Command
 pub mod Words
+pub mod Request
+pub mod Find
+pub mod Answer
+pub mod Refused
+pub mod Reply
 pub mod Program

@@ -1,37 +1,88 @@
--- What the program prints for an input.
-use Rattle.std.specs.Prelude.{◌≡◌, ℕ, List, [], ◌∷◌, Option, String, true, false, ◌+◌, map, codes, length, string_bytes}
-use Rattle.std.specs.Io.KnownBytes.{Appends}
+-- What the program prints for an input, and why it gives one up.
+use Rattle.std.specs.Prelude.{◌≡◌, ℕ, List, [], Option, String, None, Some, true, false, ◌+◌, ◌⊎◌, take, length}
+use Rattle.std.specs.Io.KnownBytes.{Keeps, Appends}
+use Rattle.art_bytes.specs.declared.slice_key.SliceKey.{SliceKey}
 use Rattle.art_nodes.specs.Commands.{run_of}
-use Rattle.art_nodes.specs.declared.command.ChildCommand.{ChildCommand}
+use Rattle.art_nodes.specs.declared.ChildCommand.{ChildCommand}
 use Rattle.art_cli.specs.declared.failure.LineFault.{LineFault}
 use Rattle.art_cli.specs.declared.failure.Failure.{Failure}
-use Rattle.art_cli.specs.declared.failure.Failure.TheVariants.{Usage, BadLine, OutOfMemory, Device}
-use Rattle.art_cli.specs.Line.{lines_of, SayCommands}
-use Rattle.art_cli.specs.Text.{output_of}
-
--- the one word `replay`
-abbrev pub IsReplay : {A : Type 0} → List (String A) → Type 0
-IsReplay words = map string_bytes words ≡ codes "replay" ∷ []
+use Rattle.art_cli.specs.declared.failure.Failure.TheVariants.{BadLine, OutOfMemory, Device}
+use Rattle.art_cli.specs.declared.request.Request.{Request}
+use Rattle.art_cli.specs.declared.request.Request.TheVariants.{Replay, Find0, Find2, Find16}
+use Rattle.art_cli.specs.Failure.{status_of}
+use Rattle.art_cli.specs.Lines.{lines_of}
+use Rattle.art_cli.specs.Request.{AskFor}
+use Rattle.art_cli.specs.Command.{SayCommands}
+use Rattle.art_cli.specs.Reply.{output_of}
+use Rattle.art_cli.specs.Find.{lines_for, AreLinesFor}
+use Rattle.art_cli.specs.Answer.{AnswersFrom}
+use Rattle.art_cli.specs.Refused.{IsRefused}
 
 -- every line says a command, and the output is a line for each reply to them, from no children on, and one for the node that is left
-abbrev pub IsOutput : List ℕ → List ℕ → Type 0
-IsOutput input output =
+abbrev pub IsReplayOutput : List ℕ → List ℕ → Type 0
+IsReplayOutput input output =
     (commands : List (ChildCommand (Unit {0}) (Unit {0}) 16)) × SayCommands (lines_of input) commands true
     × (output ≡ output_of (run_of [] commands).0 (length (run_of [] commands).1))
 
--- that output, and nothing else, is written
-abbrev pub Prints : List ℕ → Option (List ℕ) → Option (List ℕ) → Type 0
-Prints input old new = (output : List ℕ) × IsOutput input output × Appends old new output
+-- the lines are those of entries and then of queries, and the output is a line for each query, with the answer of the scan of the entries
+abbrev pub IsFindOutput : ℕ → List ℕ → List ℕ → Type 0
+IsFindOutput room input output =
+    (entries queries : List (List ℕ)) × (lines_of input ≡ lines_for entries queries)
+    × AnswersFrom SliceKey room entries queries output
 
--- the failures of an input: the line of this number is the first that says no command
-abbrev pub IsFailure : List ℕ → Failure → Type 0
-IsFailure input Usage = ⊥
-IsFailure input (BadLine number fault) =
+-- the output of an input
+abbrev pub IsOutput : Request → List ℕ → List ℕ → Type 0
+IsOutput Replay = IsReplayOutput
+IsOutput Find0 = IsFindOutput 0
+IsOutput Find2 = IsFindOutput 2
+IsOutput Find16 = IsFindOutput 16
+
+-- the failures of an input of `replay`: the line of this number is the first that says no command
+abbrev pub IsReplayFailure : List ℕ → Failure → Type 0
+IsReplayFailure input (BadLine number fault) =
     (commands : List (ChildCommand (Unit {0}) (Unit {0}) 16)) × SayCommands (lines_of input) commands false
     × (number ≡ length commands + 1)
-IsFailure input OutOfMemory = Unit {0}
-IsFailure input Device = Unit {0}
+IsReplayFailure input OutOfMemory = Unit {0}
+IsReplayFailure input Device = Unit {0}
+IsReplayFailure input _ = ⊥
 
--- a line is bad
-abbrev pub HasBadLine : List ℕ → Type 0
-HasBadLine input = (number : ℕ) × (fault : LineFault) × IsFailure input (BadLine number fault)
+-- the first wrong line of an input of `find`, or what its entries are refused for
+abbrev pub IsWrongInput : List ℕ → Failure → Type 0
+IsWrongInput input failure =
+    (entries queries : List (List ℕ)) × (((fault : LineFault) × AreLinesFor (lines_of input) entries queries (Some fault)
+    × (failure ≡ BadLine (length entries + length queries + 1) fault))
+    ⊎ (AreLinesFor (lines_of input) entries queries None × IsRefused entries failure))
+
+-- the failures of an input of `find`
+abbrev pub IsFindFailure : List ℕ → Failure → Type 0
+IsFindFailure input OutOfMemory = Unit {0}
+IsFindFailure input Device = Unit {0}
+IsFindFailure input failure = IsWrongInput input failure
+
+-- the failures of an input
+abbrev pub IsFailure : Request → List ℕ → Failure → Type 0
+IsFailure Replay = IsReplayFailure
+IsFailure _ = IsFindFailure
+
+module _ {A : Type 0} where
+  -- the output that the words ask for
+  abbrev pub IsAsked : List (String A) → List ℕ → List ℕ → Type 0
+  IsAsked words input output = (request : Request) × AskFor words request × IsOutput request input output
+
+  -- that output, and nothing else, is written
+  abbrev pub Prints : List (String A) → List ℕ → Option (List ℕ) → Option (List ℕ) → Type 0
+  Prints words input old new = (output : List ℕ) × IsAsked words input output × Appends old new output
+
+  -- the input is given up for a fault of its own
+  abbrev pub IsBad : List (String A) → List ℕ → Type 0
+  IsBad words input =
+      (request : Request) × AskFor words request × (failure : Failure) × (status_of failure ≡ 2) × IsFailure request input failure
+
+-- a beginning of the text, and nothing else, is written
+abbrev pub AppendsBeginning : Option (List ℕ) → Option (List ℕ) → List ℕ → Type 0
+AppendsBeginning old new text = (count : ℕ) × Appends old new (take count text)
+
+-- nothing is written, or a beginning of the output that the words ask for
+abbrev pub PrintsBeginning : {A : Type 0} → List (String A) → List ℕ → Option (List ℕ) → Option (List ℕ) → Type 0
+PrintsBeginning words input old new =
+    Keeps old new ⊎ ((output : List ℕ) × IsAsked words input output × AppendsBeginning old new output)

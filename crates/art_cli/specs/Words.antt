@@ -1,7 +1,7 @@
 -- The words of a line, as far as a command may have them.
 use Rattle.std.specs.Prelude.{◌≡◌, ℕ, ◌≤◌, List, [], ◌∷◌, length}
-use Rattle.art_cli.specs.declared.line.Words.{Words}
-use Rattle.art_cli.specs.declared.line.Words.TheVariants.{One, Two, Three, More}
+use Rattle.art_cli.specs.declared.replay.parse.Words.{Words}
+use Rattle.art_cli.specs.declared.replay.parse.Words.TheVariants.{One, Two, Three, More}
 
 -- one to three words as they are, or the first of four or more
 abbrev pub AreWords : List (List ℕ) → Words → Type 0

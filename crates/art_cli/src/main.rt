@@ -6,10 +6,11 @@
 #![tactic(auto)]
 
 mod failure;
-mod leaf;
-mod line;
-mod print;
+mod find;
+mod lines;
 mod program;
+mod replay;
+mod request;
 #[cfg(test)]
 mod tests;
 

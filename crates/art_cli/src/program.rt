@@ -1,27 +1,32 @@
 //! The program over any reader and writers.
-ghost use Rattle.std.specs.Prelude.{◌≡◌, ◌≢◌, ◌≤◌, ◌↔◌, [], length, IsTrue, IfOk, IfErr, OnOk, IfSome, string_bytes};
-ghost use Rattle.std.specs.Io.KnownBytes.{Keeps, Appends};
-ghost use Rattle.art_nodes.specs.Commands.{run_of};
-ghost use Rattle.art_cli.specs.Text.{output_of};
-ghost use Rattle.art_cli.specs.Program.{IsReplay, IsOutput, IsFailure, HasBadLine, Prints};
+ghost use Rattle.std.specs.Prelude.{◌≡◌, ◌≢◌, ◌≤◌, ◌↔◌, IsTrue, IfOk, IfErr, OnOk, OnErr, IfSome, string_bytes};
+ghost use Rattle.std.specs.Io.KnownBytes.{Keeps, Appends, IsAtEnd};
+ghost use Rattle.art_cli.specs.Failure.{status_of};
+ghost use Rattle.art_cli.specs.Request.{AreTaken};
+ghost use Rattle.art_cli.specs.Program.{IsOutput, IsFailure, IsAsked, IsBad};
+ghost use Rattle.art_cli.specs.Program.{Prints, PrintsBeginning, AppendsBeginning};
 
 use crate::failure::Failure;
-use crate::leaf::Command;
-use crate::line::parse;
-use crate::print::text_of;
-use art_nodes::{Header, replay};
-use std::alloc::{AllocError, Global};
+use crate::find::find_text;
+use crate::replay::replay_text;
+use crate::request::{Request, request_of};
+use art_tree::NodeArena;
+use std::alloc::Global;
 use std::io;
 use std::io::{Read, Write};
 
 /// Runs the program on the words that follow its name, and answers its exit status.
 ///
-/// `replay` reads child commands, one a line, to the end of `input`, and writes a line for each
-/// reply and one for the node that is left to `output`, with status 0. A failure writes its line
-/// to `errors`: bad words or a bad line with status 2, before anything is written to `output`;
-/// want of memory or a failed device with status 1, when a beginning of the output may have gone
-/// out. Whether that line could be written changes nothing.
-#[tactic(auto, using(crate::proofs::Failures::bad_line))]
+/// The words are looked at first: bad ones read nothing. Then `input` is read to its end. `replay`
+/// reads child commands, one a line, and writes a line for each reply and one for the node that is
+/// left; `find` reads entries and queries, one a line, and writes a line for each query. They
+/// write to `output`, with status 0.
+///
+/// A failure writes its line to `errors`: bad words or bad input with status 2, before anything is
+/// written to `output`; want of memory or a failed device with status 1, when a beginning of the
+/// output may have gone out, and nothing else. Whether the line on `errors` could be written
+/// changes nothing.
+#[tactic(auto, using(crate::proofs::Failures::is_beginning))]
 pub fn run<R: Read, W: Write, E: Write>(
     alloc: Global,
     words: &[String],
@@ -30,13 +35,24 @@ pub fn run<R: Read, W: Write, E: Write>(
     errors: &mut E,
 ) -> u8
     ensures status { result ≤ 2 }
-    ensures usage { result ≢ 2 → IsReplay words.now }
-    ensures answers { result ≡ 0 → IfSome (R.remaining input.old)
-        (λ given. Prints given (W.contents output.old) (W.contents output.new)) }
-    ensures refused { result ≡ 2 → IsReplay words.now → IfSome (R.remaining input.old) HasBadLine }
 
-    ensures bad_input_prints_nothing { result ≡ 2 → Keeps (W.contents output.old) (W.contents output.new) }
-    ensures success_is_quiet { result ≡ 0 → Keeps (E.contents errors.old) (E.contents errors.new) }
+    // The words come before the input.
+    ensures usage { result ≢ 2 → AreTaken words.now }
+    ensures bad_words_read_nothing { ¬ (AreTaken words.now) → input.new ≡ input.old }
+    ensures reads_to_the_end { AreTaken words.now → result ≢ 1 → IsAtEnd (R.remaining input.new) }
+
+    // What each status means.
+    ensures answers { result ≡ 0 → IfSome (R.remaining input.old)
+        (λ given. Prints words.now given (W.contents output.old) (W.contents output.new)) }
+    ensures failed_run_prints_a_beginning { result ≡ 1 → IfSome (R.remaining input.old)
+        (λ given. PrintsBeginning words.now given (W.contents output.old) (W.contents output.new)) }
+    ensures refused { result ≡ 2 → AreTaken words.now →
+        IfSome (R.remaining input.old) (IsBad words.now) }
+
+    ensures bad_input_prints_nothing { result ≡ 2 →
+        Keeps (W.contents output.old) (W.contents output.new) }
+    ensures success_is_quiet { result ≡ 0 →
+        Keeps (E.contents errors.old) (E.contents errors.new) }
 {
     let text = match answer(alloc, words, input) {
         Ok(text) => text,
@@ -50,60 +66,57 @@ pub fn run<R: Read, W: Write, E: Write>(
 
 // The whole output.
 fn answer<R: Read>(alloc: Global, words: &[String], input: &mut R) -> Result<String, Failure>
-    ensures usage { result ≢ Err Failure.Usage → IsReplay words.now }
-    ensures refused { IfErr result (λ failure. IsReplay words.now → IfSome (R.remaining input.old)
-        (λ given. IsFailure given failure)) }
-    ensures text { IfOk result (λ text. IfSome (R.remaining input.old) (λ given. IsOutput given (string_bytes text))) }
+    ensures usage { result ≢ Err Failure.Usage → AreTaken words.now }
+    ensures unread { ¬ (AreTaken words.now) → input.new ≡ input.old }
+    ensures read_where_good { OnOk result (IsAtEnd (R.remaining input.new)) }
+    ensures read_where_bad { IfErr result (λ failure. AreTaken words.now →
+        status_of failure ≡ 2 → IsAtEnd (R.remaining input.new)) }
+    ensures refused { IfErr result (λ failure. AreTaken words.now → status_of failure ≡ 2 →
+        IfSome (R.remaining input.old) (IsBad words.now)) }
+    ensures text { IfOk result (λ text. IfSome (R.remaining input.old)
+        (λ given. IsAsked words.now given (string_bytes text))) }
 {
-    if !is_replay(words) {
+    let Some(request) = request_of(words) else {
         return Err(Failure::Usage);
-    }
+    };
     let mut bytes = Vec::new(alloc);
     input.read_to_end(&mut bytes)?;
-    replay_text(alloc, bytes)
+    requested_text(alloc, request, bytes)
 }
 
-fn is_replay(words: &[String]) -> bool
-    ensures { IsTrue result ↔ IsReplay words.now }
+// What is asked for, of this input.
+fn requested_text(alloc: Global, request: Request, input: Vec<u8>) -> Result<String, Failure>
+    ensures text { IfOk result (λ text. IsOutput request input.items (string_bytes text)) }
+    ensures refused { IfErr result (IsFailure request input.items) }
 {
-    match words {
-        [word] => is_text(word, "replay"),
-        _ => false,
+    match request {
+        Request::Replay => replay_text(alloc, input),
+        Request::Find0 => find_text(alloc, &mut NodeArena::<_, _, 0>::new(alloc), &input),
+        Request::Find2 => find_text(alloc, &mut NodeArena::<_, _, 2>::new(alloc), &input),
+        Request::Find16 => find_text(alloc, &mut NodeArena::<_, _, 16>::new(alloc), &input),
     }
 }
 
-fn is_text(word: &String, text: &str) -> bool
-    ensures { IsTrue result ↔ (string_bytes word.now ≡ text.now) }
-{
-    word.as_str() == text
-}
-
-// What the commands of this input are answered. The input is let go before the replies come.
-fn replay_text(alloc: Global, input: Vec<u8>) -> Result<String, Failure>
-    ensures text { IfOk result (λ text. IsOutput input.items (string_bytes text)) }
-    ensures refused { IfErr result (IsFailure input.items) }
-{
-    let (commands, fault) = parse(alloc, &input)?;
-    drop(input);
-    match fault {
-        Some(fault) => Err(Failure::BadLine(commands.len() + 1, fault)),
-        None => Ok(replies_text(alloc, commands)?),
-    }
-}
-
-// A line for each reply to the commands, and one for the node that they leave.
-fn replies_text(alloc: Global, commands: Vec<Command>) -> Result<String, AllocError>
-    ensures { IfOk result (λ text. string_bytes text ≡ output_of (run_of [] commands.items).0 (length (run_of [] commands.items).1)) }
-{
-    let (replies, node) = replay(alloc, Header::new(b"", 0), &commands)?;
-    drop(commands);
-    text_of(alloc, &replies, &node)
-}
-
-// A writer that keeps bytes back is to let them go.
+// Writes the text, and has a writer that keeps bytes back let them go. Unlike `write_all` it says
+// what a failure leaves.
+#[tactic(auto, using(crate::proofs::Writes::appends_more, crate::proofs::Writes::appends_whole))]
 fn write_out<W: Write>(output: &mut W, text: &[u8]) -> io::Result<()>
-    ensures { OnOk result (Appends (W.contents output.old) (W.contents output.new) text.now) }
+    ensures whole { OnOk result
+        (Appends (W.contents output.old) (W.contents output.new) text.now) }
+    ensures beginning { OnErr result
+        (AppendsBeginning (W.contents output.old) (W.contents output.new) text.now) }
 {
-    output.write_all(text)?;
-    output.flush()
+    let mut written = 0;
+    for _ in 0..u64::MAX {
+        if written >= text.len() {
+            return output.flush();
+        }
+        match output.write(&text[written..]) {
+            Ok(0) => return Err(io::Error::from(io::ErrorKind::WriteZero)),
+            Ok(count) => written += count,
+            Err(error) if error.kind() == io::ErrorKind::Interrupted => {}
+            Err(error) => return Err(error),
+        }
+    }
+    Err(io::Error::from(io::ErrorKind::Interrupted))
 }

@@ -1,9 +1,13 @@
 //! Whole runs over a reader and writers in memory.
+mod find;
+
 use super::*;
 use std::alloc::{AllocError, Global};
 use std::io::{Read, Write};
 use std::process::Abort;
 use std::test::Fail;
+
+const USAGE: &str = "usage: artnodes replay | artnodes find 0|2|16\n";
 
 fn words(alloc: Global, texts: &[&str]) -> Result<Vec<String>, AllocError> {
     let mut words = Vec::new(alloc);
@@ -34,35 +38,24 @@ fn check(rt: &impl Abort, alloc: Global, texts: &[&str], case: &Case) -> Result<
     Ok(())
 }
 
+fn outcome<'a>(input: &'a [u8], output: &'a str, errors: &'a str, status: u8) -> Case<'a> {
+    Case {
+        input,
+        output,
+        errors,
+        status,
+    }
+}
+
 // `artnodes replay` answers this input with this output.
 fn answers(rt: &impl Abort, alloc: Global, input: &str, output: &str) -> Result<(), Fail> {
     let input = input.as_bytes();
-    check(
-        rt,
-        alloc,
-        &["replay"],
-        &Case {
-            input,
-            output,
-            errors: "",
-            status: 0,
-        },
-    )
+    check(rt, alloc, &["replay"], &outcome(input, output, "", 0))
 }
 
 // `artnodes replay` finds fault with this input and prints no reply.
 fn refuses(rt: &impl Abort, alloc: Global, input: &[u8], errors: &str) -> Result<(), Fail> {
-    check(
-        rt,
-        alloc,
-        &["replay"],
-        &Case {
-            input,
-            output: "",
-            errors,
-            status: 2,
-        },
-    )
+    check(rt, alloc, &["replay"], &outcome(input, "", errors, 2))
 }
 
 #[test]
@@ -186,20 +179,16 @@ fn numbers_may_have_leading_zeros(rt: HostRuntime) -> Result<(), Fail> {
 
 #[test]
 fn other_words_are_answered_with_the_usage(rt: HostRuntime) -> Result<(), Fail> {
-    let errors = "usage: artnodes replay | artnodes find 0|2|16\n";
-    let case = Case {
-        input: b"w 1",
-        output: "",
-        errors,
-        status: 2,
-    };
-    let lists: [&[&str]; 7] = [
+    let case = outcome(b"w 1", "", USAGE, 2);
+    let lists: [&[&str]; 9] = [
         &[],
         &["replay", "replay"],
         &["Replay"],
-        &["find", "2"],
         &["find"],
         &["find", "3"],
+        &["find", "02"],
+        &["find", "2", "2"],
+        &["replay", "2"],
         &[""],
     ];
     for texts in lists {
@@ -208,64 +197,96 @@ fn other_words_are_answered_with_the_usage(rt: HostRuntime) -> Result<(), Fail> 
     Ok(())
 }
 
-// Fails at its first read.
+// Gives one byte, and fails at its second read.
 #[derive(Drop)]
-struct FailingReader {}
+struct FailingReader {
+    has_given: bool,
+}
 
 impl Read for FailingReader {
-    fn read(&mut self, _buf: &mut [u8]) -> io::Result<usize> {
-        Err(io::Error::other("no input"))
+    fn read(&mut self, buf: &mut [u8]) -> io::Result<usize> {
+        if self.has_given || buf.is_empty() {
+            return Err(io::Error::other("no input"));
+        }
+        self.has_given = true;
+        buf[0] = b'w';
+        Ok(1)
     }
 }
 
-// Takes one byte at its first write, and fails from the second on.
+// Takes one byte a write, as long as there is room.
 #[derive(Drop)]
-struct FailingWriter {
-    taken: Option<u8>,
+struct NarrowWriter {
+    taken: Vec<u8>,
+    room: usize,
+    can_flush: bool,
 }
 
-impl Write for FailingWriter {
+impl Write for NarrowWriter {
     fn write(&mut self, buf: &[u8]) -> io::Result<usize> {
-        if self.taken.is_some() || buf.is_empty() {
+        if self.taken.len() >= self.room || buf.is_empty() {
             return Err(io::Error::other("no room"));
         }
-        self.taken = Some(buf[0]);
+        self.taken.push(buf[0])?;
         Ok(1)
     }
 
     fn flush(&mut self) -> io::Result<()> {
-        Ok(())
+        if self.can_flush {
+            Ok(())
+        } else {
+            Err(io::Error::other("no flush"))
+        }
     }
 }
 
 #[test]
 fn a_failed_read_prints_nothing(rt: HostRuntime) -> Result<(), Fail> {
-    let words = words(rt.alloc(), &["replay"])?;
-    let mut output = Vec::new(rt.alloc());
-    let mut errors = Vec::new(rt.alloc());
-    let status = run(
-        rt.alloc(),
-        &words,
-        &mut FailingReader {},
-        &mut output,
-        &mut errors,
-    );
-    assert_eq!(rt; output.as_slice(), b"".as_slice());
-    assert_eq!(rt; errors.as_slice(), b"device failed\n".as_slice());
-    assert_eq!(rt; status, 1);
+    let cases: [(&[&str], &str, u8); 2] = [
+        (&["replay"], "device failed\n", 1),
+        (&["replay", "replay"], USAGE, 2),
+    ];
+    for (texts, told, wanted) in cases {
+        let words = words(rt.alloc(), texts)?;
+        let mut input = FailingReader { has_given: false };
+        let mut output = Vec::new(rt.alloc());
+        let mut errors = Vec::new(rt.alloc());
+        let status = run(rt.alloc(), &words, &mut input, &mut output, &mut errors);
+        assert_eq!(rt; output.as_slice(), b"".as_slice());
+        assert_eq!(rt; errors.as_slice(), told.as_bytes());
+        assert_eq!(rt; status, wanted);
+    }
     Ok(())
 }
 
 #[test]
-fn a_failed_write_leaves_a_beginning(rt: HostRuntime) -> Result<(), Fail> {
-    let words = words(rt.alloc(), &["replay"])?;
-    let mut input = b"w 1 1\n".as_slice();
-    let mut output = FailingWriter { taken: None };
-    let mut errors = Vec::new(rt.alloc());
-    let status = run(rt.alloc(), &words, &mut input, &mut output, &mut errors);
-    assert_eq!(rt; output.taken, Some(b'c'));
-    assert_eq!(rt; errors.as_slice(), b"device failed\n".as_slice());
-    assert_eq!(rt; status, 1);
+fn a_failed_write_or_flush_has_status_one(rt: HostRuntime) -> Result<(), Fail> {
+    // the room of the output, whether it can flush, what it takes, the errors, the status
+    let cases: [(usize, bool, &str, &str, u8); 3] = [
+        (100, true, "child none\nnode Node4 1\n", "", 0),
+        (
+            100,
+            false,
+            "child none\nnode Node4 1\n",
+            "device failed\n",
+            1,
+        ),
+        (7, true, "child n", "device failed\n", 1),
+    ];
+    for (room, can_flush, taken, told, wanted) in cases {
+        let words = words(rt.alloc(), &["replay"])?;
+        let mut input = b"w 1 1\n".as_slice();
+        let mut output = NarrowWriter {
+            taken: Vec::new(rt.alloc()),
+            room,
+            can_flush,
+        };
+        let mut errors = Vec::new(rt.alloc());
+        let status = run(rt.alloc(), &words, &mut input, &mut output, &mut errors);
+        assert_eq!(rt; output.taken.as_slice(), taken.as_bytes());
+        assert_eq!(rt; errors.as_slice(), told.as_bytes());
+        assert_eq!(rt; status, wanted);
+    }
     Ok(())
 }
 
@@ -274,10 +295,14 @@ fn a_failed_report_changes_no_status(rt: HostRuntime) -> Result<(), Fail> {
     let words = words(rt.alloc(), &["replay"])?;
     let mut input = b"w 1".as_slice();
     let mut output = Vec::new(rt.alloc());
-    let mut errors = FailingWriter { taken: None };
+    let mut errors = NarrowWriter {
+        taken: Vec::new(rt.alloc()),
+        room: 4,
+        can_flush: true,
+    };
     let status = run(rt.alloc(), &words, &mut input, &mut output, &mut errors);
     assert_eq!(rt; output.as_slice(), b"".as_slice());
-    assert_eq!(rt; errors.taken, Some(b'l'));
+    assert_eq!(rt; errors.taken.as_slice(), b"line".as_slice());
     assert_eq!(rt; status, 2);
     Ok(())
 }

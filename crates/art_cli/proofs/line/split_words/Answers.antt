@@ -1,6 +1,0 @@
-use Rattle.art_cli.proofs.Parts.{more_words}
-use Rattle.art_cli.proofs.line.split_words.Goals as goal
-
-pub returns-in-Some-rest-2 : goal.returns-in-Some-rest-2
-returns-in-Some-rest-2 c =
-    more_words c.args.line.now c.first_word.result.0.now c.first_word-2.result.0.now c.first_word-3.result.0.now c.in-Some.rest.now c.in-Some-rest.rest.now c.in-Some-rest-2.field-0.now (rw c.in-Some.is at c.first_word.ensures) (rw c.in-Some-rest.is at c.first_word-2.ensures) (rw c.in-Some-rest-2.is at c.first_word-3.ensures)

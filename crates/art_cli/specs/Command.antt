@@ -1,0 +1,69 @@
+-- What the lines of `replay` say.
+use Rattle.std.specs.Prelude.{◌≡◌, ℕ, ◌^◌, ◌<◌, ◌≤◌, List, All, [], ◌∷◌, ◌⊎◌, Bool, false, IsTrue, codes, length}
+use Rattle.std.specs.Int.{IsInRange}
+use Rattle.std.specs.Str.Parse.{digits_value}
+use Rattle.std.specs.declared.ops.Bound.{Bound}
+use Rattle.std.specs.declared.ops.Bound.TheVariants.{Included, Excluded, Unbounded}
+use Rattle.art_cli.specs.Lines.{words_of}
+use Rattle.art_nodes.specs.declared.NodeType.TheVariants.{Leaf}
+use Rattle.art_nodes.specs.Pointers.{node_kind, opaque_key}
+use Rattle.art_nodes.specs.declared.ChildCommand.{ChildCommand}
+use Rattle.art_nodes.specs.declared.ChildCommand.TheVariants.{Write, Remove, Lookup, Min, Max, Range}
+
+-- one to ten decimal digits that give the number
+pub record IsNumber (word : List ℕ) (number : ℕ) : Type 0 where
+  pub has_digit : 0 < length word
+  pub has_room : length word ≤ 10
+  pub digits : All (IsInRange 48 57) word
+  pub value : digits_value 10 word ≡ number
+
+-- a number below 256, and one below 2^32
+abbrev pub IsByte : List ℕ → ℕ → Type 0
+IsByte word number = IsNumber word number × (number < 256)
+
+abbrev pub IsKey : List ℕ → ℕ → Type 0
+IsKey word number = IsNumber word number × (number < 2 ^ 32)
+
+-- a bound: `i` and a byte that is included, `e` and one that is excluded, or `u`
+abbrev pub IsBound : List ℕ → Bound ℕ → Type 0
+IsBound word (Included byte) = (digits : List ℕ) × (word ≡ 105 ∷ digits) × IsByte digits byte
+IsBound word (Excluded byte) = (digits : List ℕ) × (word ≡ 101 ∷ digits) × IsByte digits byte
+IsBound word Unbounded = word ≡ 117 ∷ []
+
+module _ {K V : Type 0} {P : ℕ} where
+  -- a command, by the words of its line; a child is the pointer to the leaf under its key
+  abbrev pub SayCommand : List (List ℕ) → ChildCommand K V P → Type 0
+  SayCommand words (Write byte child) = (b key : List ℕ) × (words ≡ codes "w" ∷ b ∷ key ∷ []) × IsByte b byte × IsKey key (opaque_key child) × (node_kind child ≡ Leaf)
+  SayCommand words (Remove byte) = (b : List ℕ) × (words ≡ codes "r" ∷ b ∷ []) × IsByte b byte
+  SayCommand words (Lookup byte) = (b : List ℕ) × (words ≡ codes "l" ∷ b ∷ []) × IsByte b byte
+  SayCommand words Min = words ≡ codes "min" ∷ []
+  SayCommand words Max = words ≡ codes "max" ∷ []
+  SayCommand words (Range start end) = (low high : List ℕ) × (words ≡ codes "range" ∷ low ∷ high ∷ []) × IsBound low start × IsBound high end
+
+-- words that say no command
+abbrev pub SayNothing : List (List ℕ) → Type 0
+SayNothing words = (command : ChildCommand (Unit {0}) (Unit {0}) 16) → SayCommand words command → ⊥
+
+-- the name of a command
+abbrev pub IsName : List ℕ → Type 0
+IsName word = (word ≡ codes "w") ⊎ (word ≡ codes "r") ⊎ (word ≡ codes "l") ⊎ (word ≡ codes "min") ⊎ (word ≡ codes "max") ⊎ (word ≡ codes "range")
+
+-- the first word is the name of a command
+abbrev pub BeginWithName : List (List ℕ) → Type 0
+BeginWithName [] = ⊥
+BeginWithName (name ∷ others) = IsName name
+
+-- the name of a command, and as many words after it as the command takes
+abbrev pub HaveTheirNumber : List (List ℕ) → Type 0
+HaveTheirNumber (name ∷ []) = (name ≡ codes "min") ⊎ (name ≡ codes "max")
+HaveTheirNumber (name ∷ byte ∷ []) = (name ≡ codes "r") ⊎ (name ≡ codes "l")
+HaveTheirNumber (name ∷ first ∷ second ∷ []) = (name ≡ codes "w") ⊎ (name ≡ codes "range")
+HaveTheirNumber words = ⊥
+
+module _ {K V : Type 0} {P : ℕ} where
+  -- lines and their commands, one a line, up to a line that says none where they are not the whole
+  abbrev pub SayCommands : List (List ℕ) → List (ChildCommand K V P) → Bool → Type 0
+  SayCommands [] [] is_whole = IsTrue is_whole
+  SayCommands (line ∷ lines) (command ∷ commands) is_whole = SayCommand (words_of line) command × SayCommands lines commands is_whole
+  SayCommands (line ∷ lines) [] is_whole = (is_whole ≡ false) × SayNothing (words_of line)
+  SayCommands [] (command ∷ commands) is_whole = ⊥

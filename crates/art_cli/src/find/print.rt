@@ -1,0 +1,47 @@
+//! From the answers of `find` to lines.
+ghost use Rattle.std.specs.Prelude.{◌≡◌, ◌++◌, OnOk, string_bytes};
+ghost use Rattle.art_cli.specs.Lines.{line};
+ghost use Rattle.art_cli.specs.Answer.{answer_text};
+
+use art_tree::TreePath;
+use std::alloc::AllocError;
+use std::fmt;
+
+/// The line that answers a query: the number of the entry that is found and where its leaf hangs,
+/// or none, and how many nodes were looked at.
+pub fn print_answer<K, V, const PREFIX_LEN: usize>(
+    text: &mut String,
+    answer: Option<(usize, TreePath<K, V, PREFIX_LEN>)>,
+    reads: usize,
+) -> Result<(), AllocError>
+    ensures { OnOk result
+        (string_bytes text.new ≡ string_bytes text.old ++ line (answer_text answer reads)) }
+{
+    match answer {
+        None => writeln!(text, "none reads {reads}"),
+        Some((number, path)) => writeln!(text, "found {number} {} reads {reads}", Shown(path)),
+    }
+}
+
+// Where a leaf hangs, as a line shows it: by the bytes taken on the way.
+#[derive_where(Clone, Copy)]
+struct Shown<K, V, const PREFIX_LEN: usize>(TreePath<K, V, PREFIX_LEN>);
+
+impl<K, V, const PREFIX_LEN: usize> fmt::Display for Shown<K, V, PREFIX_LEN> {
+    ghost use Rattle.std.specs.Prelude.{Some};
+    ghost use Rattle.art_cli.specs.Answer.{path_text};
+
+    ghost output = { λ shown. Some (path_text shown.0) };
+
+    fn fmt<W: fmt::Write>(&self, f: &mut fmt::Formatter<W>) -> fmt::Result {
+        match self.0 {
+            TreePath::Root => write!(f, "root"),
+            TreePath::ChildOfRoot { child_key_byte, .. } => write!(f, "child {child_key_byte}"),
+            TreePath::Normal {
+                parent_key_byte,
+                child_key_byte,
+                ..
+            } => write!(f, "normal {parent_key_byte} {child_key_byte}"),
+        }
+    }
+}

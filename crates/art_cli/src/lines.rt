@@ -1,0 +1,24 @@
+//! Lines of the input, of both programs.
+ghost use Rattle.std.specs.Prelude.{◌≡◌, ◌==◌, ◌<◌, ◌∷◌, length, position, IfSome};
+ghost use Rattle.art_cli.specs.Lines.{lines_of};
+
+// The first line, and what comes after the byte that ends it.
+#[tactic(auto, using(crate::proofs::Parts::lines_cut, crate::proofs::Parts::lines_alone))]
+pub fn first_line(bytes: &[u8]) -> (&[u8], &[u8])
+    requires { 0 < length bytes.now }
+    ensures lines { lines_of bytes.now ≡ result.0.now ∷ lines_of result.1.now }
+    ensures shorter { length result.1.now < length bytes.now }
+{
+    match end_of_part(bytes, b'\n') {
+        Some(end) => (&bytes[..end], &bytes[end + 1..]),
+        None => (bytes, &[]),
+    }
+}
+
+// The place of the first such byte.
+pub fn end_of_part(bytes: &[u8], end: u8) -> Option<usize>
+    ensures place { result ≡ position (λ b. b == end) bytes.now }
+    ensures within { IfSome result (λ at. at < length bytes.now) }
+{
+    bytes.iter().position(|byte| *byte == end)
+}

@@ -1,0 +1,39 @@
+//! `artnodes replay`: child commands in, replies out.
+ghost use Rattle.std.specs.Prelude.{◌≡◌, [], length, IfOk, IfErr, string_bytes};
+ghost use Rattle.art_nodes.specs.Commands.{run_of};
+ghost use Rattle.art_cli.specs.Reply.{output_of};
+ghost use Rattle.art_cli.specs.Program.{IsReplayOutput, IsReplayFailure};
+
+mod command;
+mod parse;
+mod print;
+
+use crate::failure::Failure;
+use crate::replay::command::Command;
+use crate::replay::parse::parse;
+use crate::replay::print::text_of;
+use art_tree::{Header, replay};
+use std::alloc::{AllocError, Global};
+
+/// What the commands of this input are answered. The input is let go before the replies come.
+pub fn replay_text(alloc: Global, input: Vec<u8>) -> Result<String, Failure>
+    ensures text { IfOk result (λ text. IsReplayOutput input.items (string_bytes text)) }
+    ensures refused { IfErr result (IsReplayFailure input.items) }
+{
+    let (commands, fault) = parse(alloc, &input)?;
+    drop(input);
+    match fault {
+        Some(fault) => Err(Failure::BadLine(commands.len() + 1, fault)),
+        None => Ok(replies_text(alloc, commands)?),
+    }
+}
+
+// A line for each reply to the commands, and one for the node that they leave.
+fn replies_text(alloc: Global, commands: Vec<Command>) -> Result<String, AllocError>
+    ensures { IfOk result (λ text. string_bytes text
+        ≡ output_of (run_of [] commands.items).0 (length (run_of [] commands.items).1)) }
+{
+    let (replies, node) = replay(alloc, Header::new(b"", 0), &commands)?;
+    drop(commands);
+    text_of(alloc, &replies, &node)
+}

@@ -1,0 +1,49 @@
+//! The nodes that the program works with: children are leaf pointers, and no leaf is ever made.
+ghost use Rattle.std.specs.Prelude.{◌≡◌};
+ghost use Rattle.art_nodes.specs.Pointers.{node_kind, opaque_key};
+
+use art_tree::{ChildCommand, ChildNode, ChildReply, LeafNode, NodePtr, NodeType, OpaqueNodePtr};
+use std::fmt;
+
+/// How many bytes of a prefix a node stores.
+pub const PREFIX_LEN: usize = 16;
+
+/// A command that a line gives.
+pub type Command = ChildCommand<(), (), PREFIX_LEN>;
+
+/// A reply that a line is printed for.
+pub type Reply = ChildReply<(), (), PREFIX_LEN>;
+
+/// The node that the commands work.
+pub type Node = ChildNode<(), (), PREFIX_LEN>;
+
+/// A child.
+pub type Child = OpaqueNodePtr<(), (), PREFIX_LEN>;
+
+type Leaf = LeafNode<(), (), PREFIX_LEN>;
+
+/// The child that a number in a line stands for: the pointer to the leaf under that key.
+pub fn child_of(key: u32) -> Child
+    ensures kind { node_kind result ≡ NodeType.Leaf }
+    ensures key { opaque_key result ≡ key }
+{
+    NodePtr::<PREFIX_LEN, Leaf>::from_key(key as usize).to_opaque()
+}
+
+/// A child as a line shows it: by the key of its leaf.
+#[derive(Clone, Copy)]
+pub struct Shown(pub Child);
+
+impl fmt::Display for Shown {
+    ghost use Rattle.std.specs.Prelude.{Some};
+    ghost use Rattle.art_cli.specs.Reply.{child_text};
+
+    ghost output = { λ shown. Some (child_text shown.0) };
+
+    fn fmt<W: fmt::Write>(&self, f: &mut fmt::Formatter<W>) -> fmt::Result {
+        match self.0.cast::<Leaf>() {
+            Some(leaf) => write!(f, "{}", leaf.key()),
+            None => write!(f, "none"),
+        }
+    }
+}

@@ -1,0 +1,175 @@
+//! From the lines of `replay` to its commands.
+ghost use Rattle.std.specs.Prelude.{◌≡◌, ◌≢◌, ◌==◌, ℕ, ◌<◌, ◌↔◌, length, position, [], ◌∷◌, MatchOption, OnErr, IfErr, All, IsTrue, IfOk, is_none, IfSome, IfNone};
+ghost use Rattle.std.specs.Int.{IsInRange};
+ghost use Rattle.std.specs.declared.ops.Bound.{Bound};
+ghost use Rattle.art_cli.specs.Lines.{lines_of, words_of};
+ghost use Rattle.art_cli.specs.Command.{IsNumber, IsByte, IsKey, IsBound, SayCommand, SayCommands, SayNothing};
+ghost use Rattle.art_cli.specs.Command.{IsName, BeginWithName, HaveTheirNumber};
+ghost use Rattle.art_cli.specs.Words.{AreWords};
+
+use crate::failure::LineFault;
+use crate::lines::{end_of_part, first_line};
+use crate::replay::command::{Command, child_of};
+use art_tree::ChildCommand;
+use std::alloc::{AllocError, Global};
+use std::ops::Bound;
+use std::str;
+
+/// The commands of the lines up to the first bad one, one a line, and what is wrong with that
+/// one. A line ends at byte 10, and a last line without one counts where it has a byte.
+///
+/// A refusal is for want of memory.
+pub fn parse(alloc: Global, input: &[u8]) -> Result<(Vec<Command>, Option<LineFault>), AllocError>
+    ensures { IfOk result (λ parsed.
+        SayCommands (lines_of input.now) parsed.0.items (is_none parsed.1)) }
+{
+    let lines = input.iter().filter(|byte| **byte == b'\n').count() + 1;
+    let mut commands = Vec::with_capacity(alloc, lines)?;
+    let mut rest = input;
+    while !rest.is_empty() {
+        let (line, after) = first_line(rest);
+        match command(line) {
+            Ok(command) => commands.push(command)?,
+            Err(fault) => return Ok((commands, Some(fault))),
+        }
+        rest = after;
+    }
+    Ok((commands, None))
+}
+
+// The command of a line, without the byte that ends it.
+fn command(line: &[u8]) -> Result<Command, LineFault>
+    ensures said { IfOk result (SayCommand (words_of line.now)) }
+    ensures refused { OnErr result (SayNothing (words_of line.now)) }
+    ensures unknown { result ≡ Err LineFault.UnknownCommand → ¬ (BeginWithName (words_of line.now)) }
+    ensures known { result ≡ Err LineFault.WrongNumberOfWords → BeginWithName (words_of line.now) }
+    ensures miscounted { result ≡ Err LineFault.WrongNumberOfWords
+        → ¬ (HaveTheirNumber (words_of line.now)) }
+    ensures counted { result ≡ Err LineFault.BadNumber → HaveTheirNumber (words_of line.now) }
+{
+    match split_words(line) {
+        Words::One(name) => match name {
+            b"min" => Ok(ChildCommand::Min),
+            b"max" => Ok(ChildCommand::Max),
+            _ => Err(fault_of_count(name)),
+        },
+        Words::Two(name, byte) => match name {
+            b"r" => Ok(ChildCommand::Remove(byte_number(byte)?)),
+            b"l" => Ok(ChildCommand::Lookup(byte_number(byte)?)),
+            _ => Err(fault_of_count(name)),
+        },
+        Words::Three(name, first, second) => match name {
+            b"w" => Ok(ChildCommand::Write(byte_number(first)?, child_of(key_number(second)?))),
+            b"range" => Ok(ChildCommand::Range(bound(first)?, bound(second)?)),
+            _ => Err(fault_of_count(name)),
+        },
+        Words::More(name) => Err(fault_of_count(name)),
+    }
+}
+
+// What is wrong with a line of this first word and a number of words that it does not take.
+fn fault_of_count(name: &[u8]) -> LineFault
+    ensures fault { result ≢ LineFault.BadNumber }
+    ensures known { result ≡ LineFault.WrongNumberOfWords → IsName name.now }
+    ensures unknown { result ≡ LineFault.UnknownCommand → ¬ (IsName name.now) }
+{
+    match name {
+        b"w" | b"r" | b"l" | b"min" | b"max" | b"range" => LineFault::WrongNumberOfWords,
+        _ => LineFault::UnknownCommand,
+    }
+}
+
+// The words of a line, as far as a command may have them.
+#[derive(Clone, Copy)]
+enum Words<'a> {
+    One(&'a [u8]),
+    Two(&'a [u8], &'a [u8]),
+    Three(&'a [u8], &'a [u8], &'a [u8]),
+    // The first of four words or more.
+    More(&'a [u8]),
+}
+
+fn split_words(line: &[u8]) -> Words<'_>
+    ensures { AreWords (words_of line.now) result }
+{
+    let (first, rest) = first_word(line);
+    let Some(rest) = rest else {
+        return Words::One(first);
+    };
+    let (second, rest) = first_word(rest);
+    let Some(rest) = rest else {
+        return Words::Two(first, second);
+    };
+    let (third, rest) = first_word(rest);
+    match rest {
+        None => Words::Three(first, second, third),
+        Some(_) => Words::More(first),
+    }
+}
+
+// The first word, and what comes after the space that ends it, if one does.
+#[tactic(auto, using(crate::proofs::Parts::words_cut, crate::proofs::Parts::words_alone))]
+fn first_word(line: &[u8]) -> (&[u8], Option<&[u8]>)
+    ensures { MatchOption result.1 (words_of line.now ≡ result.0.now ∷ [])
+        (λ rest. words_of line.now ≡ result.0.now ∷ words_of rest.now) }
+{
+    match end_of_part(line, b' ') {
+        Some(end) => (&line[..end], Some(&line[end + 1..])),
+        None => (line, None),
+    }
+}
+
+// A bound: `i` and a byte's number, which is included, `e` and one, which is excluded, or `u`.
+fn bound(word: &[u8]) -> Result<Bound<u8>, LineFault>
+    ensures said { IfOk result (IsBound word.now) }
+    ensures refused { OnErr result ((bound : Bound ℕ) → ¬ (IsBound word.now bound)) }
+    ensures fault { IfErr result (λ fault. fault ≡ LineFault.BadNumber) }
+{
+    match word {
+        [b'i', digits @ ..] => Ok(Bound::Included(byte_number(digits)?)),
+        [b'e', digits @ ..] => Ok(Bound::Excluded(byte_number(digits)?)),
+        [b'u'] => Ok(Bound::Unbounded),
+        _ => Err(LineFault::BadNumber),
+    }
+}
+
+fn byte_number(word: &[u8]) -> Result<u8, LineFault>
+    ensures said { IfOk result (IsByte word.now) }
+    ensures refused { OnErr result ((n : ℕ) → ¬ (IsByte word.now n)) }
+    ensures fault { IfErr result (λ fault. fault ≡ LineFault.BadNumber) }
+{
+    number(word)
+        .and_then(|number| u8::try_from(number).ok())
+        .ok_or(LineFault::BadNumber)
+}
+
+fn key_number(word: &[u8]) -> Result<u32, LineFault>
+    ensures said { IfOk result (IsKey word.now) }
+    ensures refused { OnErr result ((n : ℕ) → ¬ (IsKey word.now n)) }
+    ensures fault { IfErr result (λ fault. fault ≡ LineFault.BadNumber) }
+{
+    number(word)
+        .and_then(|number| u32::try_from(number).ok())
+        .ok_or(LineFault::BadNumber)
+}
+
+// The number that one to ten decimal digits give.
+#[tactic(auto, using(crate::proofs::Numbers::number_is_text, crate::proofs::Numbers::refused_number))]
+fn number(word: &[u8]) -> Option<u64>
+    ensures value { IfSome result (λ n. IsNumber word.now n) }
+    ensures none { IfNone result ((n : ℕ) → ¬ (IsNumber word.now n)) }
+{
+    if word.is_empty() || word.len() > 10 || !are_digits(word) {
+        return None;
+    }
+    let Ok(digits) = str::from_utf8(word) else {
+        return None;
+    };
+    digits.parse().ok()
+}
+
+fn are_digits(word: &[u8]) -> bool
+    ensures { IsTrue result ↔ All (IsInRange 48 57) word.now }
+{
+    word.iter().all(|byte| byte.is_ascii_digit())
+}
