@@ -1,0 +1,37 @@
+"""What both benches measure of a run of the program: seconds, output and peak memory."""
+
+import pathlib
+import subprocess
+import time
+
+LAUNCHER = pathlib.Path(__file__).resolve().parent.parent / "artnodes"
+
+
+def build():
+    """Has the launcher build the program, so that no run is timed with it."""
+    subprocess.run([LAUNCHER, "replay"], input=b"", stdout=subprocess.DEVNULL, check=True)
+
+
+def seconds_of_run(words, given_path):
+    """How long one run of the program takes."""
+    with open(given_path, "rb") as given:
+        start = time.perf_counter()
+        subprocess.run([LAUNCHER, *words], stdin=given, stdout=subprocess.DEVNULL, check=True)
+        return time.perf_counter() - start
+
+
+def output_and_peak(words, given_path):
+    """What the program writes, and its peak memory in bytes.
+
+    The program takes no memory once it writes, and it cannot end before its output is read. So
+    its peak is looked up when the first byte has come.
+    """
+    with open(given_path, "rb") as given:
+        with subprocess.Popen(
+            [LAUNCHER, *words], stdin=given, stdout=subprocess.PIPE, bufsize=0
+        ) as child:
+            first = child.stdout.read(1)
+            status = pathlib.Path(f"/proc/{child.pid}/status").read_text()
+            output = first + child.stdout.read()
+    peak = next(line.split()[1] for line in status.splitlines() if line.startswith("VmHWM:"))
+    return output, int(peak) * 1024
