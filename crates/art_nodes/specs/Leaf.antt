@@ -1,6 +1,6 @@
 -- What a leaf shows: its key, its value, and the slab keys of its neighbours.
 use Rattle.std.specs.Prelude.{ℕ, Option}
-use Rattle.std.specs.Borrow.{RattleType, MutBor, Fml, Lends}
+use Rattle.std.specs.Borrow.{RattleType, MutBor, Fml, Lends, LendsBoth}
 use Rattle.art_nodes.specs.declared.leaf_node.LeafNode.{LeafNode}
 use Rattle.art_nodes.specs.contracts.leaf_node.LeafNode.{the_row}
 
@@ -21,6 +21,10 @@ module _ {K V : Type 0} {P : ℕ} where
   abbrev pub with_value : LeafNode K V P → V → LeafNode K V P
   with_value leaf value = record leaf { value = value }
 
+  -- the leaf with another key and another value
+  abbrev pub with_entry : LeafNode K V P → K → V → LeafNode K V P
+  with_entry leaf key value = record leaf { key = key; value = value }
+
   -- the leaf with other neighbours
   abbrev pub with_links : LeafNode K V P → Option ℕ → Option ℕ → LeafNode K V P
   with_links leaf previous next = record leaf { previous = previous; next = next }
@@ -28,3 +32,7 @@ module _ {K V : Type 0} {P : ℕ} where
 -- a leaf ends with the value that is left behind the reference
 abbrev pub LendsValue : (K V P : RattleType) → MutBor (the_row K V P).Denot → MutBor V.Denot → Fml
 LendsValue K V P leaf value = Lends (the_row K V P) V leaf value (with_value leaf.now)
+
+-- a leaf ends with the key and the value that are left behind the two references
+abbrev pub LendsEntry : (K V P : RattleType) → MutBor (the_row K V P).Denot → MutBor K.Denot × MutBor V.Denot → Fml
+LendsEntry K V P leaf entry = LendsBoth (the_row K V P) K V leaf entry (with_entry leaf.now)

@@ -4,7 +4,7 @@ ghost use Rattle.std.specs.Option.{option_map};
 ghost use Rattle.std.specs.Borrow.{sem};
 ghost use Rattle.art_bytes.specs.Text.{IsFront, text_order};
 ghost use Rattle.art_nodes.specs.Pointers.{slab_key};
-ghost use Rattle.art_nodes.specs.Leaf.{leaf_key, leaf_value, previous_key, next_key, with_links, LendsValue};
+ghost use Rattle.art_nodes.specs.Leaf.{leaf_key, leaf_value, previous_key, next_key, with_links, LendsValue, LendsEntry};
 
 use crate::inner_nodes::node::Node;
 use crate::pointers::NodePtr;
@@ -88,6 +88,7 @@ impl<K, V, const PREFIX_LEN: usize> LeafNode<K, V, PREFIX_LEN> {
     /// Whoever changes the text of a key that a tree or a list holds keeps the tree well-formed
     /// and the list in order.
     pub fn entry_mut(&mut self) -> (&mut K, &mut V)
+        ensures* writes_back { sem 𝓛 (LendsEntry K.row V.row PREFIX_LEN.row self.entry result) }
         ensures key { result.0.now ≡ leaf_key self.old }
         ensures value { result.1.now ≡ leaf_value self.old }
     {
