@@ -18,24 +18,24 @@ pub record IsNumber (word : List ℕ) (number : ℕ) : Type 0 where
   pub value : digits_value 10 word ≡ number
 
 -- a number below 256, and one below 2^32
-abbrev pub IsByte : List ℕ → ℕ → Type 0
-IsByte word number = IsNumber word number × (number < 256)
+abbrev pub IsByteNumber : List ℕ → ℕ → Type 0
+IsByteNumber word number = IsNumber word number × (number < 256)
 
 abbrev pub IsKey : List ℕ → ℕ → Type 0
 IsKey word number = IsNumber word number × (number < 2 ^ 32)
 
 -- a bound: `i` and a byte that is included, `e` and one that is excluded, or `u`
 abbrev pub IsBound : List ℕ → Bound ℕ → Type 0
-IsBound word (Included byte) = (digits : List ℕ) × (word ≡ 105 ∷ digits) × IsByte digits byte
-IsBound word (Excluded byte) = (digits : List ℕ) × (word ≡ 101 ∷ digits) × IsByte digits byte
+IsBound word (Included byte) = (digits : List ℕ) × (word ≡ 105 ∷ digits) × IsByteNumber digits byte
+IsBound word (Excluded byte) = (digits : List ℕ) × (word ≡ 101 ∷ digits) × IsByteNumber digits byte
 IsBound word Unbounded = word ≡ 117 ∷ []
 
 module _ {K V : Type 0} {P : ℕ} where
   -- a command, by the words of its line; a child is the pointer to the leaf under its key
   abbrev pub SayCommand : List (List ℕ) → ChildCommand K V P → Type 0
-  SayCommand words (Write byte child) = (b key : List ℕ) × (words ≡ codes "w" ∷ b ∷ key ∷ []) × IsByte b byte × IsKey key (opaque_key child) × (node_kind child ≡ Leaf)
-  SayCommand words (Remove byte) = (b : List ℕ) × (words ≡ codes "r" ∷ b ∷ []) × IsByte b byte
-  SayCommand words (Lookup byte) = (b : List ℕ) × (words ≡ codes "l" ∷ b ∷ []) × IsByte b byte
+  SayCommand words (Write byte child) = (b key : List ℕ) × (words ≡ codes "w" ∷ b ∷ key ∷ []) × IsByteNumber b byte × IsKey key (opaque_key child) × (node_kind child ≡ Leaf)
+  SayCommand words (Remove byte) = (b : List ℕ) × (words ≡ codes "r" ∷ b ∷ []) × IsByteNumber b byte
+  SayCommand words (Lookup byte) = (b : List ℕ) × (words ≡ codes "l" ∷ b ∷ []) × IsByteNumber b byte
   SayCommand words Min = words ≡ codes "min" ∷ []
   SayCommand words Max = words ≡ codes "max" ∷ []
   SayCommand words (Range start end) = (low high : List ℕ) × (words ≡ codes "range" ∷ low ∷ high ∷ []) × IsBound low start × IsBound high end

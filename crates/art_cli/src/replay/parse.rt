@@ -3,7 +3,7 @@ ghost use Rattle.std.specs.Prelude.{◌≡◌, ◌≢◌, ◌==◌, ℕ, ◌<◌
 ghost use Rattle.std.specs.Int.{IsInRange};
 ghost use Rattle.std.specs.declared.ops.Bound.{Bound};
 ghost use Rattle.art_cli.specs.Lines.{lines_of, words_of};
-ghost use Rattle.art_cli.specs.Command.{IsNumber, IsByte, IsKey, IsBound, SayCommand, SayCommands, SayNothing};
+ghost use Rattle.art_cli.specs.Command.{IsNumber, IsByteNumber, IsKey, IsBound, SayCommand, SayCommands, SayNothing};
 ghost use Rattle.art_cli.specs.Command.{IsName, BeginWithName, HaveTheirNumber};
 ghost use Rattle.art_cli.specs.Words.{AreWords};
 
@@ -134,8 +134,8 @@ fn bound(word: &[u8]) -> Result<Bound<u8>, LineFault>
 }
 
 fn byte_number(word: &[u8]) -> Result<u8, LineFault>
-    ensures said { IfOk result (IsByte word.now) }
-    ensures refused { OnErr result ((n : ℕ) → ¬ (IsByte word.now n)) }
+    ensures said { IfOk result (IsByteNumber word.now) }
+    ensures refused { OnErr result ((n : ℕ) → ¬ (IsByteNumber word.now n)) }
     ensures fault { IfErr result (λ fault. fault ≡ LineFault.BadNumber) }
 {
     number(word)
