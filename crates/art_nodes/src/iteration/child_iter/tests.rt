@@ -29,14 +29,11 @@ fn goes_both_ways<N: InnerNodeCommon<u8, u8, 16> + Drop>(rt: &impl Abort) {
     assert!(rt; pairs.next_back() == None);
     assert!(rt; pairs.next() == None);
     let mut pairs = node.iter();
-    for place in [0, 3, 1, 2] {
-        let pair = if place < 2 {
-            pairs.next()
-        } else {
-            pairs.next_back()
-        };
-        assert!(rt; pair == Some(sorted[place]));
-    }
+    let [first, second, third, fourth] = sorted;
+    assert!(rt; pairs.next() == Some(first));
+    assert!(rt; pairs.next_back() == Some(fourth));
+    assert!(rt; pairs.next() == Some(second));
+    assert!(rt; pairs.next_back() == Some(third));
     assert!(rt; pairs.next() == None);
     assert!(rt; pairs.next_back() == None);
 }
