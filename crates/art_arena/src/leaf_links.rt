@@ -31,9 +31,13 @@ pub trait LeafLinks<K: AsBytes, V, const PREFIX_LEN: usize>: Sized {
         requires unlinked { IsUnlinked arena.old (slab_key this) }
         requires apart { slab_key this ≢ slab_key sibling }
         requires sibling_knit { IsKnit arena.old (slab_key sibling) }
-        requires above { text_order (text_at K.text arena.old (slab_key sibling)) (text_at K.text arena.old (slab_key this)) ≡ Less }
-        ensures placed { StandsBetween arena.old arena.new (Some (slab_key sibling)) (slab_key this) (next_at arena.old (slab_key sibling)) }
-        ensures spelled { (before after : List _) → Spells arena.old (before ++ slab_key sibling ∷ after) → Spells arena.new (before ++ slab_key sibling ∷ slab_key this ∷ after) }
+        requires above { text_order (text_at K.text arena.old (slab_key sibling))
+            (text_at K.text arena.old (slab_key this)) ≡ Less }
+        ensures placed { StandsBetween arena.old arena.new (Some (slab_key sibling)) (slab_key this)
+            (next_at arena.old (slab_key sibling)) }
+        ensures spelled { (before after : List _) →
+            Spells arena.old (before ++ slab_key sibling ∷ after) →
+            Spells arena.new (before ++ slab_key sibling ∷ slab_key this ∷ after) }
         ensures contents { SameButLinks arena.old arena.new }
         ensures room { SameRoom arena.old arena.new };
 
@@ -50,9 +54,13 @@ pub trait LeafLinks<K: AsBytes, V, const PREFIX_LEN: usize>: Sized {
         requires unlinked { IsUnlinked arena.old (slab_key this) }
         requires apart { slab_key this ≢ slab_key sibling }
         requires sibling_knit { IsKnit arena.old (slab_key sibling) }
-        requires below { text_order (text_at K.text arena.old (slab_key this)) (text_at K.text arena.old (slab_key sibling)) ≡ Less }
-        ensures placed { StandsBetween arena.old arena.new (previous_at arena.old (slab_key sibling)) (slab_key this) (Some (slab_key sibling)) }
-        ensures spelled { (before after : List _) → Spells arena.old (before ++ slab_key sibling ∷ after) → Spells arena.new (before ++ slab_key this ∷ slab_key sibling ∷ after) }
+        requires below { text_order (text_at K.text arena.old (slab_key this))
+            (text_at K.text arena.old (slab_key sibling)) ≡ Less }
+        ensures placed { StandsBetween arena.old arena.new
+            (previous_at arena.old (slab_key sibling)) (slab_key this) (Some (slab_key sibling)) }
+        ensures spelled { (before after : List _) →
+            Spells arena.old (before ++ slab_key sibling ∷ after) →
+            Spells arena.new (before ++ slab_key this ∷ slab_key sibling ∷ after) }
         ensures contents { SameButLinks arena.old arena.new }
         ensures room { SameRoom arena.old arena.new };
 
@@ -71,18 +79,25 @@ pub trait LeafLinks<K: AsBytes, V, const PREFIX_LEN: usize>: Sized {
         requires unlinked { IsUnlinked arena.old (slab_key this) }
         requires apart { slab_key this ≢ slab_key old }
         requires old_knit { IsKnit arena.old (slab_key old) }
-        requires same_text { force ≡ false → text_at K.text arena.old (slab_key this) ≡ text_at K.text arena.old (slab_key old) }
+        requires same_text { force ≡ false →
+            text_at K.text arena.old (slab_key this) ≡ text_at K.text arena.old (slab_key old) }
         ensures replaced { TakesPlace arena.old arena.new (slab_key old) (slab_key this) }
-        ensures spelled { (before after : List _) → Spells arena.old (before ++ slab_key old ∷ after) → Spells arena.new (before ++ slab_key this ∷ after) }
+        ensures spelled { (before after : List _) →
+            Spells arena.old (before ++ slab_key old ∷ after) →
+            Spells arena.new (before ++ slab_key this ∷ after) }
         ensures contents { SameButLinks arena.old arena.new }
         ensures room { SameRoom arena.old arena.new };
 
     /// Takes `this`, which has to be knit, out of its list. Its own links stay as they are.
     fn remove_self(arena: &mut NodeArena<K, V, PREFIX_LEN>, this: NodePtr<PREFIX_LEN, Self>)
         requires { IsKnit arena.old (slab_key this) }
-        ensures removed { Joins arena.old arena.new (previous_at arena.old (slab_key this)) (next_at arena.old (slab_key this)) }
-        ensures spelled { (before after : List _) → Spells arena.old (before ++ slab_key this ∷ after) → Spells arena.new (before ++ after) }
-        ensures own_links { (previous_at arena.new (slab_key this) ≡ previous_at arena.old (slab_key this)) × (next_at arena.new (slab_key this) ≡ next_at arena.old (slab_key this)) }
+        ensures removed { Joins arena.old arena.new (previous_at arena.old (slab_key this))
+            (next_at arena.old (slab_key this)) }
+        ensures spelled { (before after : List _) →
+            Spells arena.old (before ++ slab_key this ∷ after) →
+            Spells arena.new (before ++ after) }
+        ensures own_links { (previous_at arena.new (slab_key this) ≡ previous_at arena.old (slab_key this))
+            × (next_at arena.new (slab_key this) ≡ next_at arena.old (slab_key this)) }
         ensures contents { SameButLinks arena.old arena.new }
         ensures room { SameRoom arena.old arena.new };
 
@@ -108,9 +123,13 @@ impl<K: AsBytes, V, const PREFIX_LEN: usize> LeafLinks<K, V, PREFIX_LEN>
         requires unlinked { IsUnlinked arena.old (slab_key this) }
         requires apart { slab_key this ≢ slab_key sibling }
         requires sibling_knit { IsKnit arena.old (slab_key sibling) }
-        requires above { text_order (text_at K.text arena.old (slab_key sibling)) (text_at K.text arena.old (slab_key this)) ≡ Less }
-        ensures placed { StandsBetween arena.old arena.new (Some (slab_key sibling)) (slab_key this) (next_at arena.old (slab_key sibling)) }
-        ensures spelled { (before after : List _) → Spells arena.old (before ++ slab_key sibling ∷ after) → Spells arena.new (before ++ slab_key sibling ∷ slab_key this ∷ after) }
+        requires above { text_order (text_at K.text arena.old (slab_key sibling))
+            (text_at K.text arena.old (slab_key this)) ≡ Less }
+        ensures placed { StandsBetween arena.old arena.new (Some (slab_key sibling)) (slab_key this)
+            (next_at arena.old (slab_key sibling)) }
+        ensures spelled { (before after : List _) →
+            Spells arena.old (before ++ slab_key sibling ∷ after) →
+            Spells arena.new (before ++ slab_key sibling ∷ slab_key this ∷ after) }
         ensures contents { SameButLinks arena.old arena.new }
         ensures room { SameRoom arena.old arena.new }
     {
@@ -127,9 +146,13 @@ impl<K: AsBytes, V, const PREFIX_LEN: usize> LeafLinks<K, V, PREFIX_LEN>
         requires unlinked { IsUnlinked arena.old (slab_key this) }
         requires apart { slab_key this ≢ slab_key sibling }
         requires sibling_knit { IsKnit arena.old (slab_key sibling) }
-        requires below { text_order (text_at K.text arena.old (slab_key this)) (text_at K.text arena.old (slab_key sibling)) ≡ Less }
-        ensures placed { StandsBetween arena.old arena.new (previous_at arena.old (slab_key sibling)) (slab_key this) (Some (slab_key sibling)) }
-        ensures spelled { (before after : List _) → Spells arena.old (before ++ slab_key sibling ∷ after) → Spells arena.new (before ++ slab_key this ∷ slab_key sibling ∷ after) }
+        requires below { text_order (text_at K.text arena.old (slab_key this))
+            (text_at K.text arena.old (slab_key sibling)) ≡ Less }
+        ensures placed { StandsBetween arena.old arena.new
+            (previous_at arena.old (slab_key sibling)) (slab_key this) (Some (slab_key sibling)) }
+        ensures spelled { (before after : List _) →
+            Spells arena.old (before ++ slab_key sibling ∷ after) →
+            Spells arena.new (before ++ slab_key this ∷ slab_key sibling ∷ after) }
         ensures contents { SameButLinks arena.old arena.new }
         ensures room { SameRoom arena.old arena.new }
     {
@@ -147,9 +170,12 @@ impl<K: AsBytes, V, const PREFIX_LEN: usize> LeafLinks<K, V, PREFIX_LEN>
         requires unlinked { IsUnlinked arena.old (slab_key this) }
         requires apart { slab_key this ≢ slab_key old }
         requires old_knit { IsKnit arena.old (slab_key old) }
-        requires same_text { force ≡ false → text_at K.text arena.old (slab_key this) ≡ text_at K.text arena.old (slab_key old) }
+        requires same_text { force ≡ false →
+            text_at K.text arena.old (slab_key this) ≡ text_at K.text arena.old (slab_key old) }
         ensures replaced { TakesPlace arena.old arena.new (slab_key old) (slab_key this) }
-        ensures spelled { (before after : List _) → Spells arena.old (before ++ slab_key old ∷ after) → Spells arena.new (before ++ slab_key this ∷ after) }
+        ensures spelled { (before after : List _) →
+            Spells arena.old (before ++ slab_key old ∷ after) →
+            Spells arena.new (before ++ slab_key this ∷ after) }
         ensures contents { SameButLinks arena.old arena.new }
         ensures room { SameRoom arena.old arena.new }
     {
@@ -162,9 +188,13 @@ impl<K: AsBytes, V, const PREFIX_LEN: usize> LeafLinks<K, V, PREFIX_LEN>
 
     fn remove_self(arena: &mut NodeArena<K, V, PREFIX_LEN>, this: NodePtr<PREFIX_LEN, Self>)
         requires { IsKnit arena.old (slab_key this) }
-        ensures removed { Joins arena.old arena.new (previous_at arena.old (slab_key this)) (next_at arena.old (slab_key this)) }
-        ensures spelled { (before after : List _) → Spells arena.old (before ++ slab_key this ∷ after) → Spells arena.new (before ++ after) }
-        ensures own_links { (previous_at arena.new (slab_key this) ≡ previous_at arena.old (slab_key this)) × (next_at arena.new (slab_key this) ≡ next_at arena.old (slab_key this)) }
+        ensures removed { Joins arena.old arena.new (previous_at arena.old (slab_key this))
+            (next_at arena.old (slab_key this)) }
+        ensures spelled { (before after : List _) →
+            Spells arena.old (before ++ slab_key this ∷ after) →
+            Spells arena.new (before ++ after) }
+        ensures own_links { (previous_at arena.new (slab_key this) ≡ previous_at arena.old (slab_key this))
+            × (next_at arena.new (slab_key this) ≡ next_at arena.old (slab_key this)) }
         ensures contents { SameButLinks arena.old arena.new }
         ensures room { SameRoom arena.old arena.new }
     {
@@ -210,7 +240,9 @@ fn previous_is_knit<K, V, const PREFIX_LEN: usize>(
     arena: &NodeArena<K, V, PREFIX_LEN>,
     this: NodePtr<PREFIX_LEN, LeafNode<K, V, PREFIX_LEN>>,
 ) -> bool
-    ensures { IsTrue result ↔ ((other : _) → previous_at arena.now (slab_key this) ≡ Some other → next_at arena.now other ≡ Some (slab_key this)) }
+    ensures { IsTrue result ↔
+        ((other : _) → previous_at arena.now (slab_key this) ≡ Some other →
+        next_at arena.now other ≡ Some (slab_key this)) }
 {
     match previous_of(arena, this) {
         Some(before) => is_named(next_of(arena, before), this),
@@ -222,7 +254,9 @@ fn next_is_knit<K, V, const PREFIX_LEN: usize>(
     arena: &NodeArena<K, V, PREFIX_LEN>,
     this: NodePtr<PREFIX_LEN, LeafNode<K, V, PREFIX_LEN>>,
 ) -> bool
-    ensures { IsTrue result ↔ ((other : _) → next_at arena.now (slab_key this) ≡ Some other → previous_at arena.now other ≡ Some (slab_key this)) }
+    ensures { IsTrue result ↔
+        ((other : _) → next_at arena.now (slab_key this) ≡ Some other →
+        previous_at arena.now other ≡ Some (slab_key this)) }
 {
     match next_of(arena, this) {
         Some(after) => is_named(previous_of(arena, after), this),
@@ -254,7 +288,8 @@ fn place<K, V, const PREFIX_LEN: usize>(
     requires after_held { ForSome after (λ leaf. HoldsLeaf arena.old (slab_key leaf)) }
     requires apart_from_before { option_map slab_key before ≢ Some (slab_key this) }
     requires apart_from_after { option_map slab_key after ≢ Some (slab_key this) }
-    ensures placed { StandsBetween arena.old arena.new (option_map slab_key before) (slab_key this) (option_map slab_key after) }
+    ensures placed { StandsBetween arena.old arena.new (option_map slab_key before) (slab_key this)
+        (option_map slab_key after) }
     ensures contents { SameButLinks arena.old arena.new }
     ensures room { SameRoom arena.old arena.new }
 {
@@ -270,7 +305,8 @@ fn join<K, V, const PREFIX_LEN: usize>(
 )
     requires before_held { ForSome before (λ leaf. HoldsLeaf arena.old (slab_key leaf)) }
     requires after_held { ForSome after (λ leaf. HoldsLeaf arena.old (slab_key leaf)) }
-    ensures joined { Joins arena.old arena.new (option_map slab_key before) (option_map slab_key after) }
+    ensures joined { Joins arena.old arena.new (option_map slab_key before)
+        (option_map slab_key after) }
     ensures contents { SameButLinks arena.old arena.new }
     ensures room { SameRoom arena.old arena.new }
 {
@@ -284,7 +320,8 @@ fn set_next<K, V, const PREFIX_LEN: usize>(
     next: Option<NodePtr<PREFIX_LEN, LeafNode<K, V, PREFIX_LEN>>>,
 )
     requires held { ForSome leaf (λ leaf. HoldsLeaf arena.old (slab_key leaf)) }
-    ensures set { SetsNext arena.old arena.new (option_map slab_key leaf) (option_map slab_key next) }
+    ensures set { SetsNext arena.old arena.new (option_map slab_key leaf)
+        (option_map slab_key next) }
     ensures room { SameRoom arena.old arena.new }
 {
     if let Some(leaf) = leaf {
@@ -300,7 +337,8 @@ fn set_previous<K, V, const PREFIX_LEN: usize>(
     previous: Option<NodePtr<PREFIX_LEN, LeafNode<K, V, PREFIX_LEN>>>,
 )
     requires held { ForSome leaf (λ leaf. HoldsLeaf arena.old (slab_key leaf)) }
-    ensures set { SetsPrevious arena.old arena.new (option_map slab_key leaf) (option_map slab_key previous) }
+    ensures set { SetsPrevious arena.old arena.new (option_map slab_key leaf)
+        (option_map slab_key previous) }
     ensures room { SameRoom arena.old arena.new }
 {
     if let Some(leaf) = leaf {
