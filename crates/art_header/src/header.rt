@@ -147,7 +147,8 @@ impl<const PREFIX_LEN: usize> Header<PREFIX_LEN> {
     pub fn ltrim_by_with_leaf(&mut self, len: usize, depth: usize, leaf_key: &[u8])
         requires within { len ≤ self.old.prefix_len }
         requires has_stored_bytes { depth + len + capped PREFIX_LEN (self.old.prefix_len - len) ≤ length leaf_key.now }
-        ensures trimmed { self.new ≡ with_prefix PREFIX_LEN self.old (drop (depth + len) leaf_key.now) (self.old.prefix_len - len) }
+        ensures trimmed { self.new ≡ with_prefix PREFIX_LEN self.old
+            (drop (depth + len) leaf_key.now) (self.old.prefix_len - len) }
         ensures stands { (path prefix rest : List ℕ) →
             length path ≡ depth → leaf_key.now ≡ path ++ prefix ++ rest →
             StandsFor PREFIX_LEN self.old prefix →

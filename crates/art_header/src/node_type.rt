@@ -48,7 +48,8 @@ impl NodeType {
     pub fn should_shrink_inner_node(self, num_children: usize) -> bool
         requires { self ≢ NodeType.Leaf }
         ensures smallest { self ≡ NodeType.Node4 → ¬ (IsTrue result) }
-        ensures below_range { self ≢ NodeType.Node4 → (IsTrue result ↔ (num_children < least_children self)) }
+        ensures below_range { self ≢ NodeType.Node4 →
+            (IsTrue result ↔ (num_children < least_children self)) }
     {
         match self {
             NodeType::Node4 => false,

@@ -161,7 +161,8 @@ impl<K, V, const PREFIX_LEN: usize> LeafNode<K, V, PREFIX_LEN> {
         ensures equal { ((key : K) → K.is_clone (leaf_key self.now) key → key ≡ leaf_key self.now) →
             ((value : V) → V.is_clone (leaf_value self.now) value → value ≡ leaf_value self.now) →
             IfOk result (λ copy. copy ≡ with_links self.now None None) }
-        ensures takes_no_memory { K.is_infallible (leaf_key self.now) → V.is_infallible (leaf_value self.now) → IsOk result }
+        ensures takes_no_memory { K.is_infallible (leaf_key self.now) →
+            V.is_infallible (leaf_value self.now) → IsOk result }
     {
         let key = self.key.clone()?;
         let value = self.value.clone()?;
@@ -189,7 +190,8 @@ impl<K, V, const PREFIX_LEN: usize> LeafNode<K, V, PREFIX_LEN> {
         previous: Option<NodePtr<PREFIX_LEN, Self>>,
         next: Option<NodePtr<PREFIX_LEN, Self>>,
     )
-        ensures { self.new ≡ with_links self.old (option_map slab_key previous) (option_map slab_key next) }
+        ensures { self.new ≡ with_links self.old (option_map slab_key previous)
+            (option_map slab_key next) }
     {
         self.previous = key_of(previous);
         self.next = key_of(next);

@@ -41,7 +41,8 @@ pub fn parse(alloc: Global, input: &[u8]) -> Result<(Vec<Command>, Option<LineFa
 fn command(line: &[u8]) -> Result<Command, LineFault>
     ensures said { IfOk result (SayCommand (words_of line.now)) }
     ensures refused { OnErr result (SayNothing (words_of line.now)) }
-    ensures unknown { result ≡ Err LineFault.UnknownCommand → ¬ (BeginWithName (words_of line.now)) }
+    ensures unknown { result ≡ Err LineFault.UnknownCommand →
+        ¬ (BeginWithName (words_of line.now)) }
     ensures known { result ≡ Err LineFault.WrongNumberOfWords → BeginWithName (words_of line.now) }
     ensures miscounted { result ≡ Err LineFault.WrongNumberOfWords
         → ¬ (HaveTheirNumber (words_of line.now)) }
