@@ -1,4 +1,5 @@
 use super::*;
+use art_nodes::InnerNode;
 use std::process::Abort;
 use std::test::Fail;
 
@@ -9,6 +10,14 @@ type Arena = NodeArena<Key, u16, 16>;
 type Leaf = LeafNode<Key, u16, 16>;
 
 type Pointer = OpaqueNodePtr<Key, u16, 16>;
+
+const KINDS: [NodeType; 5] = [
+    NodeType::Node4,
+    NodeType::Node16,
+    NodeType::Node48,
+    NodeType::Node256,
+    NodeType::Leaf,
+];
 
 fn put<N: ArenaNode<Key, u16, 16> + Drop>(
     rt: &impl Abort,
@@ -114,13 +123,7 @@ fn makes_every_call_at_each_kind(rt: HostRuntime) {
 #[test]
 fn allocates_three_leaves_where_there_is_room_for_three(rt: HostRuntime) -> Result<(), Fail> {
     let mut arena = Arena::new(rt.alloc());
-    for kind in [
-        NodeType::Node4,
-        NodeType::Node16,
-        NodeType::Node48,
-        NodeType::Node256,
-        NodeType::Leaf,
-    ] {
+    for kind in KINDS {
         arena.reserve(kind, 3)?;
     }
     let first = put(&rt, &mut arena, Leaf::with_no_siblings([1], 1));
@@ -135,4 +138,75 @@ fn allocates_three_leaves_where_there_is_room_for_three(rt: HostRuntime) -> Resu
     assert!(rt; !arena.holds(second));
     assert!(rt; arena.holds(third));
     Ok(())
+}
+
+// The node under each index has a prefix of so many bytes, or is a leaf of that key.
+fn check_entries(rt: &impl Abort, arena: &Arena, entries: &[Pointer]) {
+    for (index, pointer) in entries.iter().enumerate() {
+        assert!(rt; arena.holds_opaque(*pointer));
+        let length = match pointer.cast::<Leaf>() {
+            Some(leaf) => {
+                assert!(rt; arena.holds(leaf));
+                usize::from(arena.as_key_ref(leaf)[0])
+            }
+            None => arena
+                .header(*pointer)
+                .map_or(0, |header| header.prefix_len()),
+        };
+        assert_eq!(rt; length, index);
+    }
+}
+
+// Puts a node beside these entries. Where memory is refused they stand, and the node goes in again.
+fn put_beside<N: ArenaNode<Key, u16, 16> + Drop>(
+    rt: &impl Abort,
+    arena: &mut Arena,
+    entries: &[Pointer],
+    node: N,
+) -> Pointer {
+    match arena.allocate_node_ptr(node) {
+        Ok(ptr) => ptr.to_opaque(),
+        Err((AllocError, node)) => {
+            check_entries(rt, arena, entries);
+            put(rt, arena, node).to_opaque()
+        }
+    }
+}
+
+// Two nodes of each kind.
+fn fill(rt: &impl Abort, arena: &mut Arena) -> [Pointer; 10] {
+    let child = NodePtr::<16, Leaf>::from_key(9).to_opaque();
+    let mut entries = [child; 10];
+    for index in 0..10u8 {
+        let place = usize::from(index);
+        let four = InnerNode4::builder(&[7; 10][..place], place)
+            .write_child(3, child)
+            .write_child(5, child)
+            .build();
+        let before = &entries[..place];
+        entries[place] = match index % 5 {
+            0 => put_beside(rt, arena, before, four),
+            1 => put_beside(rt, arena, before, four.grow()),
+            2 => put_beside(rt, arena, before, four.grow().grow()),
+            3 => put_beside(rt, arena, before, four.grow().grow().grow()),
+            _ => put_beside(rt, arena, before, Leaf::with_no_siblings([index], 0)),
+        };
+    }
+    entries
+}
+
+#[test]
+fn keeps_every_entry_where_a_growth_is_refused(rt: HostRuntime) {
+    let mut arena = Arena::new(rt.alloc());
+    let entries = fill(&rt, &mut arena);
+    check_entries(&rt, &arena, &entries);
+    for kind in KINDS {
+        assert!(rt; arena.reserve(kind, usize::MAX).is_err());
+        check_entries(&rt, &arena, &entries);
+        if arena.reserve(kind, 9).is_err() {
+            check_entries(&rt, &arena, &entries);
+            assert!(rt; arena.reserve(kind, 9).is_ok());
+        }
+        check_entries(&rt, &arena, &entries);
+    }
 }

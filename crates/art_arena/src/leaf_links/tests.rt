@@ -2,6 +2,8 @@ use super::*;
 use std::cmp::Ordering;
 use std::process::Abort;
 
+mod using;
+
 type Key = [u8; 1];
 
 type Arena = NodeArena<Key, u8, 16>;
