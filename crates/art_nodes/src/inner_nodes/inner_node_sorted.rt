@@ -165,7 +165,11 @@ fn find_write_point(keys: &[u8], key_fragment: u8) -> Result<usize, usize>
     ensures existing { IfOk result (IsByteAt keys.now key_fragment) }
     ensures absent { IfErr result (IsGapFor keys.now key_fragment) }
 {
-    keys.binary_search(&key_fragment)
+    match keys.iter().position(|key| *key >= key_fragment) {
+        Some(place) if keys[place] == key_fragment => Ok(place),
+        Some(place) => Err(place),
+        None => Err(keys.len()),
+    }
 }
 
 impl<K, V, const PREFIX_LEN: usize, const SIZE: usize> InnerNodeCommon<K, V, PREFIX_LEN>
