@@ -3,6 +3,7 @@ pub mod ChildMapLaws
 mod ChildMapLemmas
 mod ConversionLemmas
 mod DirectLemmas
+mod IndexTableLemmas
 mod IndirectLemmas
 mod ListLemmas
 pub mod KindLaws
