@@ -244,7 +244,7 @@ kept-push indices bytes place kept within empty = λ other below. elim (cases_lt
 abbrev used : ℕ → List (Option ℕ) → List ℕ
 used first indices = map (λ p. p.1) (table_children first indices)
 
-times-used : (first q : ℕ) (indices : List (Option ℕ)) → times q (used first indices) ≡ uses q indices
+pub times-used : (first q : ℕ) (indices : List (Option ℕ)) → times q (used first indices) ≡ uses q indices
 times-used first q [] = refl
 times-used first q (None ∷ indices) = omega (arith, times-used (suc first) q indices, uses-cons q None indices)
 times-used first q (Some index ∷ indices) = times-cons q index (used (suc first) indices) ∙ ap (λ n. cond (eqb index q) 1 0 + n) (times-used (suc first) q indices) ∙ sym (uses-cons q (Some index) indices)
@@ -263,7 +263,7 @@ module _ {H : Type 0} where
       ap (λ x. table_children first (x ∷ named_pointers pointers indices)) named ∙ ap (λ children. (first, get_or pointers index d) ∷ children) rest
 
   -- with no pointers there are no children
-  table-unnamed : (first : ℕ) (indices : List (Option ℕ)) → table_children {H = H} first (named_pointers [] indices) ≡ []
+  pub table-unnamed : (first : ℕ) (indices : List (Option ℕ)) → table_children {H = H} first (named_pointers [] indices) ≡ []
   table-unnamed first [] = refl
   table-unnamed first (None ∷ indices) = table-unnamed (suc first) indices
   table-unnamed first (Some index ∷ indices) = table-unnamed (suc first) indices

@@ -11,6 +11,7 @@ mod KindLemmas
 mod SortedLemmas
 mod TableLemmas
 mod PairLemmas
+mod PlaceLemmas
 mod PrefixLemmas
 mod PushLemmas
 mod RangeLemmas

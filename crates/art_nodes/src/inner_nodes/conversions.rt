@@ -86,7 +86,8 @@ impl<K, V, const PREFIX_LEN: usize, const SIZE: usize> InnerNodeIndirect<K, V, P
         requires { length node.now.children ≤ indirect_room SIZE }
         ensures { result ≡ node.now }
     {
-        converted(node)
+        let (bytes, children) = node.initialized_portion();
+        Self::from_ascending(node.header(), bytes, children)
     }
 }
 

@@ -1,6 +1,7 @@
 //! The table of an indirect node: an index, or none, for each byte.
-ghost use Rattle.std.specs.Prelude.{◌≡◌, ◌<◌, length, map, replicate, slice_index_or, slice_set, None, Some};
-ghost use Rattle.art_nodes.specs.ChildMap.{first_pair, last_pair, table_children};
+ghost use Rattle.std.specs.Prelude.{◌≡◌, ◌<◌, ◌≤◌, length, map, replicate, slice_index_or, slice_set, None, Some};
+ghost use Rattle.std.specs.List.{range_with_len, zip};
+ghost use Rattle.art_nodes.specs.ChildMap.{first_pair, last_pair, table_children, IsAscending};
 ghost use Rattle.art_nodes.specs.IndexTable.{index_of};
 
 use crate::iteration::index_pairs::{first_index, last_index};
@@ -33,6 +34,21 @@ impl IndexTable {
         IndexTable {
             places: [u8::MAX; 256],
         }
+    }
+
+    /// The table in which each of these bytes has its place among them as its index. They ascend, and
+    /// there are at most 255 of them.
+    pub(crate) fn of_places(bytes: &[u8]) -> Self
+        requires ascending { IsAscending bytes.now }
+        requires fit { length bytes.now ≤ 255 }
+        ensures pairs { table_children 0 result ≡ zip bytes.now (range_with_len 0 (length bytes.now)) }
+        ensures all_bytes { length result ≡ 256 }
+    {
+        let mut table = Self::new();
+        for (place, byte) in bytes.iter().enumerate() {
+            table.set(*byte, NonMaxIndex::new_unchecked(place as u8));
+        }
+        table
     }
 
     /// A copy, which takes no memory.

@@ -76,9 +76,9 @@ impl<K, V, const PREFIX_LEN: usize> Node<PREFIX_LEN> for InnerNode48<K, V, PREFI
 }
 
 impl<K, V, const PREFIX_LEN: usize, const SIZE: usize> InnerNodeIndirect<K, V, PREFIX_LEN, SIZE> {
-    ghost use Rattle.std.specs.Prelude.{◌≡◌, map};
+    ghost use Rattle.std.specs.Prelude.{◌≡◌, length, map};
     ghost use Rattle.std.specs.List.Sorted.{IsPermutation};
-    ghost use Rattle.art_nodes.specs.Inner.{empty_inner};
+    ghost use Rattle.art_nodes.specs.Inner.{empty_inner, indirect_room, inner_with, sorted_children, IsInner};
 
     /// A node with the prefix of this header and no children, whatever the header's count.
     pub(crate) fn from_header(mut header: Header<PREFIX_LEN>) -> Self
@@ -90,6 +90,29 @@ impl<K, V, const PREFIX_LEN: usize, const SIZE: usize> InnerNodeIndirect<K, V, P
             child_indices: IndexTable::new(),
             keys: ArrayVec::new(),
             child_pointers: ArrayVec::new(),
+        }
+    }
+
+    /// The node with this header and a child beside each of the bytes, which ascend and fit.
+    pub(crate) fn from_ascending(
+        header: &Header<PREFIX_LEN>,
+        bytes: &[u8],
+        children: &[OpaqueNodePtr<K, V, PREFIX_LEN>],
+    ) -> Self
+        requires beside { length children.now ≡ length bytes.now }
+        requires counted { header.now.count ≡ length bytes.now }
+        requires sound { IsInner PREFIX_LEN (indirect_room SIZE) (inner_with header.now (sorted_children bytes.now children.now)) }
+        ensures { result ≡ inner_with header.now (sorted_children bytes.now children.now) }
+    {
+        let mut keys = ArrayVec::new();
+        keys.try_extend_from_slice(bytes).unwrap();
+        let mut child_pointers = ArrayVec::new();
+        child_pointers.try_extend_from_slice(children).unwrap();
+        InnerNodeIndirect {
+            header: header.clone().unwrap(),
+            child_indices: IndexTable::of_places(bytes),
+            keys,
+            child_pointers,
         }
     }
 
