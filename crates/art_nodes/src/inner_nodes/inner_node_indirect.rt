@@ -6,6 +6,7 @@ use crate::inner_nodes::prefix_match::{
     match_length, match_stored,
 };
 use crate::iteration::child_iter::ChildIter;
+use crate::iteration::index_pairs::IndexPairs;
 use crate::pointers::OpaqueNodePtr;
 use crate::sealed::{InThisCrate, InnerNodeInit, Sealed};
 use arrayvec::ArrayVec;
@@ -114,6 +115,15 @@ impl<K, V, const PREFIX_LEN: usize, const SIZE: usize> InnerNodeIndirect<K, V, P
             keys,
             child_pointers,
         }
+    }
+
+    /// The children by ascending byte, as [`InnerNodeCommon::iter`] has them.
+    #[inline]
+    pub(crate) fn pairs(&self) -> IndexPairs<'_, OpaqueNodePtr<K, V, PREFIX_LEN>>
+        ensures pairs { result ≡ self.now.children }
+        ensures sound { IsInner PREFIX_LEN (indirect_room SIZE) self.now }
+    {
+        IndexPairs::new(0, self.child_indices.places(), &self.child_pointers)
     }
 
     /// A copy, which takes no memory.

@@ -1,6 +1,6 @@
 //! The pairs of a table of 256 indices that an iterator has left.
 ghost use Rattle.std.specs.Prelude.{◌≡◌, ◌+◌, ◌<◌, ◌≤◌, ℕ, length, map, slice_get, Some, [], ◌∷◌, ◌++◌, drop, take, IfNone, IfSome};
-ghost use Rattle.std.specs.Iterator.{YieldsFirst, YieldsLast};
+ghost use Rattle.std.specs.Iterator.{YieldsFirst, YieldsLast, item_count};
 ghost use Rattle.art_nodes.specs.ChildMap.{table_children};
 ghost use Rattle.art_nodes.specs.IndexTable.{index_of};
 ghost use Rattle.art_nodes.specs.IndirectNode.{named_pointers, AreBelow};
@@ -43,7 +43,9 @@ impl<'a, H: Copy> IndexPairs<'a, H> {
         }
     }
 
-    pub(crate) fn next(&mut self) -> Option<(u8, H)>
+    /// Takes the first pair.
+    #[inline]
+    fn pop_first(&mut self) -> Option<(u8, H)>
         ensures { YieldsFirst (λ pairs. pairs) self.old result self.new }
     {
         let (place, index) = first_index(self.places)?;
@@ -54,13 +56,37 @@ impl<'a, H: Copy> IndexPairs<'a, H> {
         Some((byte as u8, child))
     }
 
-    pub(crate) fn next_back(&mut self) -> Option<(u8, H)>
+    /// Takes the last pair.
+    #[inline]
+    fn pop_last(&mut self) -> Option<(u8, H)>
         ensures { YieldsLast (λ pairs. pairs) self.old result self.new }
     {
         let (place, index) = last_index(self.places)?;
         let child = named_child(self.children, index);
         self.places = &self.places[..place];
         Some(((self.byte + place) as u8, child))
+    }
+}
+
+impl<'a, H: Copy> Iterator for IndexPairs<'a, H> {
+    type Item = (u8, H);
+
+    ghost next_gives = { YieldsFirst (λ pairs. pairs) };
+
+    ghost remaining = { item_count (λ pairs. pairs) };
+
+    #[inline]
+    fn next(&mut self) -> Option<(u8, H)> {
+        self.pop_first()
+    }
+}
+
+impl<'a, H: Copy> DoubleEndedIterator for IndexPairs<'a, H> {
+    ghost next_back_gives = { YieldsLast (λ pairs. pairs) };
+
+    #[inline]
+    fn next_back(&mut self) -> Option<(u8, H)> {
+        self.pop_last()
     }
 }
 

@@ -5,7 +5,7 @@ use Rattle.art_nodes.specs.IndexTable.{index_of}
 use Rattle.art_nodes.specs.IndirectNode.{AreBelow}
 use Rattle.art_nodes.proofs.IndirectLemmas.{none-named, next_back-named, below-take, used_below}
 use Rattle.art_nodes.proofs.ListLemmas.{slice_get-push_at}
-use Rattle.art_nodes.proofs.iteration.index_pairs.IndexPairs.next_back.Goals as goal
+use Rattle.art_nodes.proofs.iteration.index_pairs.IndexPairs.pop_last.Goals as goal
 
 pub returns-in_err-place : goal.returns-in_err-place
 returns-in_err-place g c =

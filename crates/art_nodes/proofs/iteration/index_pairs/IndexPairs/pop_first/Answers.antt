@@ -3,7 +3,7 @@ use Rattle.std.proofs.lemmas.List.{drop-map, length-drop, take_rest}
 use Rattle.art_nodes.specs.IndexTable.{index_of}
 use Rattle.art_nodes.specs.IndirectNode.{AreBelow}
 use Rattle.art_nodes.proofs.IndirectLemmas.{none-named, next-named, below-drop, used_below}
-use Rattle.art_nodes.proofs.iteration.index_pairs.IndexPairs.next.Goals as goal
+use Rattle.art_nodes.proofs.iteration.index_pairs.IndexPairs.pop_first.Goals as goal
 
 pub returns-in_err-place : goal.returns-in_err-place
 returns-in_err-place g c =
