@@ -1,5 +1,6 @@
 //! Inner nodes with an index for each byte: `Node48`.
 use crate::inner_nodes::index_table::IndexTable;
+use crate::inner_nodes::inner_node_sorted::copy_of;
 use crate::inner_nodes::node::{InnerNodeCommon, Node};
 use crate::inner_nodes::prefix_match::{
     AttemptOptimisticPrefixMatch, OptimisticMismatch, PessimisticMismatch, PrefixMatch,
@@ -105,15 +106,11 @@ impl<K, V, const PREFIX_LEN: usize, const SIZE: usize> InnerNodeIndirect<K, V, P
         requires sound { IsInner PREFIX_LEN (indirect_room SIZE) (inner_with header.now (sorted_children bytes.now children.now)) }
         ensures { result ≡ inner_with header.now (sorted_children bytes.now children.now) }
     {
-        let mut keys = ArrayVec::new();
-        keys.try_extend_from_slice(bytes).unwrap();
-        let mut child_pointers = ArrayVec::new();
-        child_pointers.try_extend_from_slice(children).unwrap();
         InnerNodeIndirect {
             header: header.clone().unwrap(),
             child_indices: IndexTable::of_places(bytes),
-            keys,
-            child_pointers,
+            keys: copy_of(bytes),
+            child_pointers: copy_of(children),
         }
     }
 
@@ -130,17 +127,11 @@ impl<K, V, const PREFIX_LEN: usize, const SIZE: usize> InnerNodeIndirect<K, V, P
     pub fn clone(&self) -> Self
         ensures { result ≡ self.now }
     {
-        let mut keys = ArrayVec::new();
-        keys.try_extend_from_slice(&self.keys).unwrap();
-        let mut child_pointers = ArrayVec::new();
-        child_pointers
-            .try_extend_from_slice(&self.child_pointers)
-            .unwrap();
         InnerNodeIndirect {
             header: self.header.clone().unwrap(),
             child_indices: self.child_indices.clone(),
-            keys,
-            child_pointers,
+            keys: copy_of(&self.keys),
+            child_pointers: copy_of(&self.child_pointers),
         }
     }
 
