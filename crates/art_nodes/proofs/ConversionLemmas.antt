@@ -1,6 +1,7 @@
 -- Children written one after another by ascending byte.
-use Rattle.std.proofs.Common.{◌≡◌, ℕ, suc, ◌≤◌, [], ◌∷◌, ◌++◌, refl, ◌∙◌, ap, arith}
-use Rattle.art_nodes.specs.ChildMap.{ChildMap, with_child}
+use Rattle.std.proofs.Common.{◌≡◌, ℕ, suc, ◌<◌, ◌≤◌, All, [], ◌∷◌, ◌++◌, refl, ◌∙◌, ap, arith}
+use Rattle.std.proofs.lemmas.List.Elements.{All-nil, All-cons}
+use Rattle.art_nodes.specs.ChildMap.{ChildMap, key_bytes, with_child}
 use Rattle.art_nodes.proofs.ChildMapLemmas.{IsAbove, with_child-later}
 
 module _ {H : Type 0} where
@@ -15,3 +16,9 @@ module _ {H : Type 0} where
   with_child-behind low (x ∷ front) byte child later above =
       with_child-later x.0 byte x.1 front child (low_before (suc x.0) front byte child later above.2)
       ∙ ap (λ rest. x ∷ rest) (with_child-behind (suc x.0) front byte child later above.2)
+
+  -- and it is above theirs
+  pub above_before : (low : ℕ) (front : ChildMap H) (byte : ℕ) (child : H) (later : ChildMap H) → IsAbove low (front ++ (byte, child) ∷ later) → All (λ b. b < byte) (key_bytes front)
+  above_before low [] byte child later above = All-nil (λ b. b < byte)
+  above_before low (x ∷ front) byte child later above =
+      All-cons (λ b. b < byte) x.0 (key_bytes front) (omega (arith, low_before (suc x.0) front byte child later above.2)) (above_before (suc x.0) front byte child later above.2)

@@ -86,15 +86,15 @@ module _ {H : Type 0} where
   at_place pointers indices place within = get_or-map (named_pointer pointers) indices place None None within
 
   -- the child under a byte is the pointer that its index names
-  pub child_at-named : (pointers : List H) (indices : List (Option ℕ)) (byte place index : ℕ) (d : H) → byte ≡ 0 + place → place < length indices → length indices ≤ 256 → get_or indices place None ≡ Some index → index < length pointers → child_at (table_children 0 (named_pointers pointers indices)) byte ≡ Some (get_or pointers index d)
-  child_at-named pointers indices byte place index d at within fits filled named =
-      child_at-table 0 (named_pointers pointers indices) byte place at (simp length-map (omega arith))
-      ∙ at_place pointers indices place within ∙ ap (named_pointer pointers) filled ∙ slice_get-get_or pointers index d named
+  pub child_at-named : (pointers : List H) (indices : List (Option ℕ)) (byte index : ℕ) (d : H) → byte < length indices → length indices ≤ 256 → get_or indices byte None ≡ Some index → index < length pointers → child_at (table_children 0 (named_pointers pointers indices)) byte ≡ Some (get_or pointers index d)
+  child_at-named pointers indices byte index d within fits filled named =
+      child_at-table 0 (named_pointers pointers indices) byte byte (omega arith) (simp length-map (omega arith))
+      ∙ at_place pointers indices byte within ∙ ap (named_pointer pointers) filled ∙ slice_get-get_or pointers index d named
 
-  pub child_at-unnamed : (pointers : List H) (indices : List (Option ℕ)) (byte place : ℕ) → byte ≡ 0 + place → place < length indices → length indices ≤ 256 → get_or indices place None ≡ None → child_at (table_children 0 (named_pointers pointers indices)) byte ≡ None
-  child_at-unnamed pointers indices byte place at within fits empty =
-      child_at-table 0 (named_pointers pointers indices) byte place at (simp length-map (omega arith))
-      ∙ at_place pointers indices place within ∙ ap (named_pointer pointers) empty
+  pub child_at-unnamed : (pointers : List H) (indices : List (Option ℕ)) (byte : ℕ) → byte < length indices → length indices ≤ 256 → get_or indices byte None ≡ None → child_at (table_children 0 (named_pointers pointers indices)) byte ≡ None
+  child_at-unnamed pointers indices byte within fits empty =
+      child_at-table 0 (named_pointers pointers indices) byte byte (omega arith) (simp length-map (omega arith))
+      ∙ at_place pointers indices byte within ∙ ap (named_pointer pointers) empty
 
   -- tables that differ at one place
   changed_at : (f g : Option ℕ → Option H) (xs ys : List (Option ℕ)) (place : ℕ) (now : Option H) → length ys ≡ length xs → place < length xs → g (get_or ys place None) ≡ now → ((k : ℕ) → k < length xs → k ≢ place → g (get_or ys k None) ≡ f (get_or xs k None)) → map g ys ≡ set (map f xs) place now
@@ -244,7 +244,7 @@ kept-push indices bytes place kept within empty = λ other below. elim (cases_lt
 abbrev used : ℕ → List (Option ℕ) → List ℕ
 used first indices = map (λ p. p.1) (table_children first indices)
 
-times-used : (first q : ℕ) (indices : List (Option ℕ)) → times q (used first indices) ≡ uses q indices
+pub times-used : (first q : ℕ) (indices : List (Option ℕ)) → times q (used first indices) ≡ uses q indices
 times-used first q [] = refl
 times-used first q (None ∷ indices) = omega (arith, times-used (suc first) q indices, uses-cons q None indices)
 times-used first q (Some index ∷ indices) = times-cons q index (used (suc first) indices) ∙ ap (λ n. cond (eqb index q) 1 0 + n) (times-used (suc first) q indices) ∙ sym (uses-cons q (Some index) indices)
@@ -263,7 +263,7 @@ module _ {H : Type 0} where
       ap (λ x. table_children first (x ∷ named_pointers pointers indices)) named ∙ ap (λ children. (first, get_or pointers index d) ∷ children) rest
 
   -- with no pointers there are no children
-  table-unnamed : (first : ℕ) (indices : List (Option ℕ)) → table_children {H = H} first (named_pointers [] indices) ≡ []
+  pub table-unnamed : (first : ℕ) (indices : List (Option ℕ)) → table_children {H = H} first (named_pointers [] indices) ≡ []
   table-unnamed first [] = refl
   table-unnamed first (None ∷ indices) = table-unnamed (suc first) indices
   table-unnamed first (Some index ∷ indices) = table-unnamed (suc first) indices
@@ -348,42 +348,42 @@ used_below n first (Some other ∷ indices) zero byte index bounded found =
     omega (arith, bounded 0 other (omega arith) refl)
 used_below n first (Some other ∷ indices) (suc k) byte index bounded found = used_below n (suc first) indices k byte index (λ place other within filled. bounded (suc place) other (omega arith) filled) found
 
-module _ {H : Type 0} (pointers : List H) (indices : List (Option ℕ)) (byte place : ℕ) (at : byte ≡ 0 + place) (places : length indices ≡ 256) (within : place < length indices) where
+module _ {H : Type 0} (pointers : List H) (indices : List (Option ℕ)) (byte : ℕ) (places : length indices ≡ 256) (within : byte < length indices) where
   named_fits : 0 + length (named_pointers pointers indices) ≤ 256
   named_fits = simp length-map (omega arith)
 
-  named_within_table : place < length (named_pointers pointers indices)
+  named_within_table : byte < length (named_pointers pointers indices)
   named_within_table = simp length-map within
 
   -- a pointer written over is written under the byte
-  pub with_child-named : (index : ℕ) (child : H) → IsNamedOnce indices (length pointers) → get_or indices place None ≡ Some index → with_child (table_children 0 (named_pointers pointers indices)) byte child ≡ table_children 0 (named_pointers (set pointers index child) indices)
+  pub with_child-named : (index : ℕ) (child : H) → IsNamedOnce indices (length pointers) → get_or indices byte None ≡ Some index → with_child (table_children 0 (named_pointers pointers indices)) byte child ≡ table_children 0 (named_pointers (set pointers index child) indices)
   with_child-named index child once filled =
-      with_child-table 0 (named_pointers pointers indices) byte place child at named_within_table named_fits
-      ∙ ap (table_children 0) (sym (named-set pointers indices place index child once within filled))
+      with_child-table 0 (named_pointers pointers indices) byte byte child (omega arith) named_within_table named_fits
+      ∙ ap (table_children 0) (sym (named-set pointers indices byte index child once within filled))
 
   -- a pointer put behind the others, with its index, is written under the byte
-  pub with_child-pushed : (child : H) → IsNamedOnce indices (length pointers) → with_child (table_children 0 (named_pointers pointers indices)) byte child ≡ table_children 0 (named_pointers (pointers ++ child ∷ []) (set indices place (Some (length pointers))))
+  pub with_child-pushed : (child : H) → IsNamedOnce indices (length pointers) → with_child (table_children 0 (named_pointers pointers indices)) byte child ≡ table_children 0 (named_pointers (pointers ++ child ∷ []) (set indices byte (Some (length pointers))))
   with_child-pushed child once =
-      with_child-table 0 (named_pointers pointers indices) byte place child at named_within_table named_fits
-      ∙ ap (table_children 0) (sym (named-push pointers indices place child (below_from_once indices (length pointers) once) within))
+      with_child-table 0 (named_pointers pointers indices) byte byte child (omega arith) named_within_table named_fits
+      ∙ ap (table_children 0) (sym (named-push pointers indices byte child (below_from_once indices (length pointers) once) within))
 
   -- a pointer taken out with its index takes out the byte
-  pub without_child-moved : (index last : ℕ) (d : H) → IsNamedOnce indices (length pointers) → last < length indices → get_or indices place None ≡ Some index → get_or indices last None ≡ Some (length pointers - 1) → without_child (table_children 0 (named_pointers pointers indices)) byte ≡ table_children 0 (named_pointers (swap_remove pointers index d) (moved_to indices place index last))
+  pub without_child-moved : (index last : ℕ) (d : H) → IsNamedOnce indices (length pointers) → last < length indices → get_or indices byte None ≡ Some index → get_or indices last None ≡ Some (length pointers - 1) → without_child (table_children 0 (named_pointers pointers indices)) byte ≡ table_children 0 (named_pointers (swap_remove pointers index d) (moved_to indices byte index last))
   without_child-moved index last d once last_within filled last_filled =
-      without_child-table 0 (named_pointers pointers indices) byte place at named_fits
-      ∙ ap (table_children 0) (sym (named-moved pointers indices place index last d once within last_within filled last_filled))
+      without_child-table 0 (named_pointers pointers indices) byte byte (omega arith) named_fits
+      ∙ ap (table_children 0) (sym (named-moved pointers indices byte index last d once within last_within filled last_filled))
 
   -- a byte with no index is not there
-  pub without_child-unnamed : get_or indices place None ≡ None → without_child (table_children 0 (named_pointers pointers indices)) byte ≡ table_children 0 (named_pointers pointers indices)
+  pub without_child-unnamed : get_or indices byte None ≡ None → without_child (table_children 0 (named_pointers pointers indices)) byte ≡ table_children 0 (named_pointers pointers indices)
   without_child-unnamed empty =
-      let nothing = at_place pointers indices place within ∙ ap (named_pointer pointers) empty in
-      without_child-table 0 (named_pointers pointers indices) byte place at named_fits
-      ∙ ap (λ x. table_children 0 (set (named_pointers pointers indices) place x)) (sym nothing) ∙ ap (table_children 0) (set-get_or (named_pointers pointers indices) place None)
+      let nothing = at_place pointers indices byte within ∙ ap (named_pointer pointers) empty in
+      without_child-table 0 (named_pointers pointers indices) byte byte (omega arith) named_fits
+      ∙ ap (λ x. table_children 0 (set (named_pointers pointers indices) byte x)) (sym nothing) ∙ ap (table_children 0) (set-get_or (named_pointers pointers indices) byte None)
 
   -- a byte with no index has room, where the node has room for it
-  pub room-unnamed : (room : ℕ) → IsNamedOnce indices (length pointers) → get_or indices place None ≡ None → (IsNone (child_at (table_children 0 (named_pointers pointers indices)) byte) → length (table_children 0 (named_pointers pointers indices)) < room) → length pointers < room
+  pub room-unnamed : (room : ℕ) → IsNamedOnce indices (length pointers) → get_or indices byte None ≡ None → (IsNone (child_at (table_children 0 (named_pointers pointers indices)) byte) → length (table_children 0 (named_pointers pointers indices)) < room) → length pointers < room
   room-unnamed room once empty asks =
-      let absent = child_at-unnamed pointers indices byte place at within (omega arith) empty in
+      let absent = child_at-unnamed pointers indices byte within (omega arith) empty in
       let left = asks (rw absent refl) in
       omega (arith, left, length-named pointers indices once)
 
@@ -404,12 +404,12 @@ indirect_fields prefix_room room header indices bytes pointers places counted fi
 }
 
 -- a pointer taken out, and the last one moved into its place
-module _ {H : Type 0} {prefix_room room : ℕ} {header : Header} {indices : List (Option ℕ)} {bytes : List ℕ} {pointers : List H} (node : IsIndirectNode prefix_room room header indices bytes pointers) (byte place index : ℕ) (e : H) (at : byte ≡ 0 + place) (within : place < length indices) (filled : get_or indices place None ≡ Some index) where
+module _ {H : Type 0} {prefix_room room : ℕ} {header : Header} {indices : List (Option ℕ)} {bytes : List ℕ} {pointers : List H} (node : IsIndirectNode prefix_room room header indices bytes pointers) (byte index : ℕ) (e : H) (within : byte < length indices) (filled : get_or indices byte None ≡ Some index) where
   abbrev last_byte : ℕ
   last_byte = get_or bytes (length bytes - 1) 0
 
   taken_within : index < length pointers
-  taken_within = named_within indices (length pointers) place index node.named_once within filled
+  taken_within = named_within indices (length pointers) byte index node.named_once within filled
 
   last_index : get_or indices last_byte None ≡ Some (length bytes - 1)
   last_index = kept-last indices bytes (omega (arith, taken_within, node.beside)) node.kept
@@ -421,18 +421,18 @@ module _ {H : Type 0} {prefix_room room : ℕ} {header : Header} {indices : List
   last_within = filled_within indices last_byte (length bytes - 1) last_index
 
   -- takes out the byte
-  pub without_child-last : without_child (table_children 0 (named_pointers pointers indices)) byte ≡ table_children 0 (named_pointers (swap_remove pointers index e) (moved_to indices place index last_byte))
-  without_child-last = without_child-moved pointers indices byte place at node.places within index last_byte e node.named_once last_within filled last_filled
+  pub without_child-last : without_child (table_children 0 (named_pointers pointers indices)) byte ≡ table_children 0 (named_pointers (swap_remove pointers index e) (moved_to indices byte index last_byte))
+  without_child-last = without_child-moved pointers indices byte node.places within index last_byte e node.named_once last_within filled last_filled
 
   -- and leaves fields of a node
-  pub indirect_removed : (d : ℕ) → IsIndirectNode prefix_room room (record header { count = header.count - 1 }) (moved_to indices place index last_byte) (swap_remove bytes index d) (swap_remove pointers index e)
+  pub indirect_removed : (d : ℕ) → IsIndirectNode prefix_room room (record header { count = header.count - 1 }) (moved_to indices byte index last_byte) (swap_remove bytes index d) (swap_remove pointers index e)
   indirect_removed d =
       let fewer : length (swap_remove pointers index e) ≡ length pointers - 1 = length-swap_remove pointers index e in
       indirect_fields prefix_room room (record header { count = header.count - 1 }) _ _ _
       (simp length-set node.places)
       (omega (arith, pointers_counted node, fewer))
       (omega (arith, node.fits, fewer))
-      (subst (IsNamedOnce (moved_to indices place index last_byte)) (sym fewer) (named_once-moved indices (length pointers) place index last_byte node.named_once within last_within filled last_filled))
+      (subst (IsNamedOnce (moved_to indices byte index last_byte)) (sym fewer) (named_once-moved indices (length pointers) byte index last_byte node.named_once within last_within filled last_filled))
       (omega (arith, node.beside, fewer, length-swap_remove bytes index d))
-      (kept-moved indices bytes place index d node.kept within (omega (arith, taken_within, node.beside)) filled)
+      (kept-moved indices bytes byte index d node.kept within (omega (arith, taken_within, node.beside)) filled)
       (subst (λ cs. IsInner prefix_room room (inner_with header cs)) without_child-last (sound_removed prefix_room room (inner_with header (table_children 0 (named_pointers pointers indices))) byte node.sound))

@@ -3,6 +3,7 @@ pub mod ChildMapLaws
 mod ChildMapLemmas
 mod ConversionLemmas
 mod DirectLemmas
+mod IndexTableLemmas
 mod IndirectLemmas
 mod ListLemmas
 pub mod KindLaws
@@ -10,6 +11,7 @@ mod KindLemmas
 mod SortedLemmas
 mod TableLemmas
 mod PairLemmas
+mod PlaceLemmas
 mod PrefixLemmas
 mod PushLemmas
 mod RangeLemmas

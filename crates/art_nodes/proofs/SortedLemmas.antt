@@ -17,23 +17,13 @@ use Rattle.art_nodes.specs.WritePoint.{IsByteAt, IsGapFor}
 use Rattle.art_nodes.proofs.ChildMapLaws.{sound_written, sound_removed}
 use Rattle.art_nodes.proofs.ChildMapLemmas.{IsAbove, ascending-low, ascending-rises, ascending-length, with_child-front, with_child-same, with_child-later, child_at-front, child_at-same, child_at-later, without_child-front, without_child-same, without_child-later}
 
-module _ (bytes : List ℕ) (asc : IsAscending bytes) (byte : ℕ) where
-  comparisons_rise : IsNonDecreasingBy (λ b. ordering_index (nat_cmp b byte)) bytes
-  comparisons_rise = IsNonDecreasingBy-from_default (λ b. ordering_index (nat_cmp b byte)) bytes 0 (λ i j le in_range.
-      let bytes_rise : get_or bytes i 0 ≤ get_or bytes j 0 = grind (arith, ascending-rises 0 bytes asc i j, λ (same : i ≡ j). ap (λ k. get_or bytes k 0) same) in
-      grind (arith, nat_tests))
-
-  -- a binary search ends at the byte, or at the gap for it
-  pub searched : (r : Result ℕ ℕ) → IsSearchInRange r (length bytes) → IsBinarySearchResult (λ b. nat_cmp b byte) bytes r → record { existing : IfOk r (IsByteAt bytes byte); absent : IfErr r (IsGapFor bytes byte) }
-  searched (Ok at) in_range equal = record { existing = record { in_range = in_range; same = ranked _ byte _ (sym (equal 0)) }; absent = tt }
-  searched (Err at) in_range parted = record {
-    existing = tt;
-    absent = record {
-      in_range = in_range;
-      smaller_before = λ j lt. ranked _ byte _ (sym ((parted comparisons_rise).0 j 0 (omega arith) lt));
-      greater_after = λ j le lt. ranked _ byte _ (sym ((parted comparisons_rise).1 j 0 le lt));
-    };
-  }
+-- behind smaller bytes, a place whose byte is greater is the gap
+pub gap_at : (bytes : List ℕ) (byte place : ℕ) → IsAscending bytes → place < length bytes → byte < get_or bytes place 0 → ((k : ℕ) → k < place → get_or bytes k 0 < byte) → IsGapFor bytes byte place
+gap_at bytes byte place asc within greater smaller = record {
+  in_range = omega arith;
+  smaller_before = smaller;
+  greater_after = λ k le lt. grind (arith, ascending-rises 0 bytes asc place k, λ (same : place ≡ k). ap (λ n. get_or bytes n 0) same);
+}
 
 -- a gap further on is a gap of the rest
 gap_rest : (b : ℕ) (bytes : List ℕ) (byte place : ℕ) → IsGapFor (b ∷ bytes) byte (suc place) → IsGapFor bytes byte place

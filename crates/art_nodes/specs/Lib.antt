@@ -2,6 +2,7 @@ pub mod ChildMap
 pub mod AnyInner
 pub mod Commands
 pub mod DirectNode
+pub mod IndexTable
 pub mod IndirectNode
 pub mod Inner
 pub mod Leaf

@@ -2,6 +2,7 @@
 //! shrinks.
 pub(crate) mod builder;
 pub(crate) mod conversions;
+pub(crate) mod index_table;
 pub(crate) mod inner_node;
 pub(crate) mod inner_node_direct;
 pub(crate) mod inner_node_indirect;

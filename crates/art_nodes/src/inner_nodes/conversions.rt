@@ -58,11 +58,22 @@ impl<'a, K, V, const PREFIX_LEN: usize, const SIZE: usize> From<
 
     ghost from_gives = { λ node direct. direct ≡ node.now };
 
-    #[tactic(auto, using(crate::proofs::ChildMapLaws::length_ascending))]
     fn from(node: &'a InnerNodeIndirect<K, V, PREFIX_LEN, SIZE>) -> Self {
-        prove!(node.num_children() <= 256);
-        converted(node)
+        direct_from_indirect(node)
     }
+}
+
+// The same node with a place for each byte.
+fn direct_from_indirect<K, V, const PREFIX_LEN: usize, const SIZE: usize>(
+    node: &InnerNodeIndirect<K, V, PREFIX_LEN, SIZE>,
+) -> InnerNodeDirect<K, V, PREFIX_LEN>
+    ensures { result ≡ node.now }
+{
+    let mut direct = InnerNodeDirect::from_header(node.header().clone().unwrap());
+    for (byte, child) in node.pairs() {
+        direct.write_child(byte, child);
+    }
+    direct
 }
 
 impl<K, V, const PREFIX_LEN: usize, const SIZE: usize> InnerNodeIndirect<K, V, PREFIX_LEN, SIZE> {
@@ -86,7 +97,8 @@ impl<K, V, const PREFIX_LEN: usize, const SIZE: usize> InnerNodeIndirect<K, V, P
         requires { length node.now.children ≤ indirect_room SIZE }
         ensures { result ≡ node.now }
     {
-        converted(node)
+        let (bytes, children) = node.initialized_portion();
+        Self::from_ascending(node.header(), bytes, children)
     }
 }
 
@@ -108,6 +120,10 @@ impl<K, V, const PREFIX_LEN: usize, const SIZE: usize> InnerNodeSorted<K, V, PRE
         requires { length node.now.children ≤ SIZE }
         ensures { result ≡ node.now }
     {
-        converted(node)
+        let mut sorted = Self::from_header(node.header().clone().unwrap());
+        for (byte, child) in node.pairs() {
+            sorted.write_child_unchecked(byte, child);
+        }
+        sorted
     }
 }

@@ -1,11 +1,13 @@
 //! Inner nodes with an index for each byte: `Node48`.
+use crate::inner_nodes::index_table::IndexTable;
+use crate::inner_nodes::inner_node_sorted::copy_of;
 use crate::inner_nodes::node::{InnerNodeCommon, Node};
 use crate::inner_nodes::prefix_match::{
     AttemptOptimisticPrefixMatch, OptimisticMismatch, PessimisticMismatch, PrefixMatch,
     match_length, match_stored,
 };
 use crate::iteration::child_iter::ChildIter;
-use crate::iteration::table::{first_place, last_place};
+use crate::iteration::index_pairs::IndexPairs;
 use crate::pointers::OpaqueNodePtr;
 use crate::sealed::{InThisCrate, InnerNodeInit, Sealed};
 use arrayvec::ArrayVec;
@@ -19,7 +21,7 @@ use std::ops::Bound;
 #[derive(Drop)]
 pub struct InnerNodeIndirect<K, V, const PREFIX_LEN: usize, const SIZE: usize> {
     header: Header<PREFIX_LEN>,
-    child_indices: [Option<NonMaxIndex>; 256],
+    child_indices: IndexTable,
     // The byte of each pointer, beside it.
     keys: ArrayVec<u8, SIZE>,
     child_pointers: ArrayVec<OpaqueNodePtr<K, V, PREFIX_LEN>, SIZE>,
@@ -76,9 +78,9 @@ impl<K, V, const PREFIX_LEN: usize> Node<PREFIX_LEN> for InnerNode48<K, V, PREFI
 }
 
 impl<K, V, const PREFIX_LEN: usize, const SIZE: usize> InnerNodeIndirect<K, V, PREFIX_LEN, SIZE> {
-    ghost use Rattle.std.specs.Prelude.{◌≡◌, map};
+    ghost use Rattle.std.specs.Prelude.{◌≡◌, length, map};
     ghost use Rattle.std.specs.List.Sorted.{IsPermutation};
-    ghost use Rattle.art_nodes.specs.Inner.{empty_inner};
+    ghost use Rattle.art_nodes.specs.Inner.{empty_inner, indirect_room, inner_with, sorted_children, IsInner};
 
     /// A node with the prefix of this header and no children, whatever the header's count.
     pub(crate) fn from_header(mut header: Header<PREFIX_LEN>) -> Self
@@ -87,29 +89,49 @@ impl<K, V, const PREFIX_LEN: usize, const SIZE: usize> InnerNodeIndirect<K, V, P
         header.reset_num_children();
         InnerNodeIndirect {
             header,
-            child_indices: [None; 256],
+            child_indices: IndexTable::new(),
             keys: ArrayVec::new(),
             child_pointers: ArrayVec::new(),
         }
+    }
+
+    /// The node with this header and a child beside each of the bytes, which ascend and fit.
+    pub(crate) fn from_ascending(
+        header: &Header<PREFIX_LEN>,
+        bytes: &[u8],
+        children: &[OpaqueNodePtr<K, V, PREFIX_LEN>],
+    ) -> Self
+        requires beside { length children.now ≡ length bytes.now }
+        requires counted { header.now.count ≡ length bytes.now }
+        requires sound { IsInner PREFIX_LEN (indirect_room SIZE) (inner_with header.now (sorted_children bytes.now children.now)) }
+        ensures { result ≡ inner_with header.now (sorted_children bytes.now children.now) }
+    {
+        InnerNodeIndirect {
+            header: header.clone().unwrap(),
+            child_indices: IndexTable::of_places(bytes),
+            keys: copy_of(bytes),
+            child_pointers: copy_of(children),
+        }
+    }
+
+    /// The children by ascending byte, as [`InnerNodeCommon::iter`] has them.
+    #[inline]
+    pub(crate) fn pairs(&self) -> IndexPairs<'_, OpaqueNodePtr<K, V, PREFIX_LEN>>
+        ensures pairs { result ≡ self.now.children }
+        ensures sound { IsInner PREFIX_LEN (indirect_room SIZE) self.now }
+    {
+        IndexPairs::new(0, self.child_indices.places(), &self.child_pointers)
     }
 
     /// A copy, which takes no memory.
     pub fn clone(&self) -> Self
         ensures { result ≡ self.now }
     {
-        let mut child_indices = [None; 256];
-        child_indices.copy_from_slice(&self.child_indices);
-        let mut keys = ArrayVec::new();
-        keys.try_extend_from_slice(&self.keys).unwrap();
-        let mut child_pointers = ArrayVec::new();
-        child_pointers
-            .try_extend_from_slice(&self.child_pointers)
-            .unwrap();
         InnerNodeIndirect {
             header: self.header.clone().unwrap(),
-            child_indices,
-            keys,
-            child_pointers,
+            child_indices: self.child_indices.clone(),
+            keys: copy_of(&self.keys),
+            child_pointers: copy_of(&self.child_pointers),
         }
     }
 
@@ -158,7 +180,7 @@ impl<K, V, const PREFIX_LEN: usize, const SIZE: usize> InnerNodeCommon<K, V, PRE
     }
 
     fn lookup_child(&self, key_fragment: u8) -> Option<OpaqueNodePtr<K, V, PREFIX_LEN>> {
-        match self.child_indices[usize::from(key_fragment)] {
+        match self.child_indices.get(key_fragment) {
             Some(index) => Some(self.child_pointers[usize::from(index)]),
             None => None,
         }
@@ -168,12 +190,11 @@ impl<K, V, const PREFIX_LEN: usize, const SIZE: usize> InnerNodeCommon<K, V, PRE
         requires { HasRoomFor (indirect_room SIZE) self.old key_fragment }
         ensures written { self.new ≡ node_with_child self.old key_fragment child_pointer }
     {
-        let place = usize::from(key_fragment);
-        match self.child_indices[place] {
+        match self.child_indices.get(key_fragment) {
             Some(index) => self.child_pointers[usize::from(index)] = child_pointer,
             None => {
                 let index = NonMaxIndex::new_unchecked(self.child_pointers.len() as u8);
-                self.child_indices[place] = Some(index);
+                self.child_indices.set(key_fragment, index);
                 self.keys.push(key_fragment);
                 self.child_pointers.push(child_pointer);
                 self.header.inc_num_children();
@@ -182,13 +203,12 @@ impl<K, V, const PREFIX_LEN: usize, const SIZE: usize> InnerNodeCommon<K, V, PRE
     }
 
     fn remove_child(&mut self, key_fragment: u8) -> Option<OpaqueNodePtr<K, V, PREFIX_LEN>> {
-        let place = usize::from(key_fragment);
-        let index = self.child_indices[place]?;
+        let index = self.child_indices.get(key_fragment)?;
         let freed = usize::from(index);
         // The last pointer moves into the freed place, so its byte has that index now.
         let moved_key = self.keys[self.keys.len() - 1];
-        self.child_indices[usize::from(moved_key)] = Some(index);
-        self.child_indices[place] = None;
+        self.child_indices.set(moved_key, index);
+        self.child_indices.clear(key_fragment);
         self.keys.swap_remove(freed);
         self.header.dec_num_children();
         Some(self.child_pointers.swap_remove(freed))
@@ -203,12 +223,12 @@ impl<K, V, const PREFIX_LEN: usize, const SIZE: usize> InnerNodeCommon<K, V, PRE
     }
 
     fn min(&self) -> (u8, OpaqueNodePtr<K, V, PREFIX_LEN>) {
-        let (byte, index) = first_place(&self.child_indices);
+        let (byte, index) = self.child_indices.first();
         (byte, self.child_pointers[usize::from(index)])
     }
 
     fn max(&self) -> (u8, OpaqueNodePtr<K, V, PREFIX_LEN>) {
-        let (byte, index) = last_place(&self.child_indices);
+        let (byte, index) = self.child_indices.last();
         (byte, self.child_pointers[usize::from(index)])
     }
 

@@ -1,5 +1,5 @@
 //! Inner nodes that keep their bytes sorted: `Node4` and `Node16`.
-ghost use Rattle.std.specs.Prelude.{IfOk, IfErr};
+ghost use Rattle.std.specs.Prelude.{◌≡◌, ◌≤◌, IfOk, IfErr, length};
 ghost use Rattle.art_nodes.specs.ChildMap.{IsAscending};
 ghost use Rattle.art_nodes.specs.WritePoint.{IsByteAt, IsGapFor};
 
@@ -145,18 +145,23 @@ impl<K, V, const PREFIX_LEN: usize, const SIZE: usize> InnerNodeSorted<K, V, PRE
         requires { length self.now.children ≤ NEW_SIZE }
         ensures { result ≡ self.now }
     {
-        let mut keys = ArrayVec::new();
-        keys.try_extend_from_slice(&self.keys).unwrap();
-        let mut child_pointers = ArrayVec::new();
-        child_pointers
-            .try_extend_from_slice(&self.child_pointers)
-            .unwrap();
         InnerNodeSorted {
             header: self.header.clone().unwrap(),
-            keys,
-            child_pointers,
+            keys: copy_of(&self.keys),
+            child_pointers: copy_of(&self.child_pointers),
         }
     }
+}
+
+/// A copy of these items, which have to fit.
+#[inline]
+pub(crate) fn copy_of<T: Copy + Default, const SIZE: usize>(items: &[T]) -> ArrayVec<T, SIZE>
+    requires { length items.now ≤ SIZE }
+    ensures { result.items ≡ items.now }
+{
+    let mut copy = ArrayVec::new();
+    copy.try_extend_from_slice(items).unwrap();
+    copy
 }
 
 /// Where a byte stands among ascending bytes, or where it would go.
@@ -165,7 +170,11 @@ fn find_write_point(keys: &[u8], key_fragment: u8) -> Result<usize, usize>
     ensures existing { IfOk result (IsByteAt keys.now key_fragment) }
     ensures absent { IfErr result (IsGapFor keys.now key_fragment) }
 {
-    keys.binary_search(&key_fragment)
+    match keys.iter().position(|key| *key >= key_fragment) {
+        Some(place) if keys[place] == key_fragment => Ok(place),
+        Some(place) => Err(place),
+        None => Err(keys.len()),
+    }
 }
 
 impl<K, V, const PREFIX_LEN: usize, const SIZE: usize> InnerNodeCommon<K, V, PREFIX_LEN>

@@ -5,12 +5,12 @@ ghost use Rattle.art_nodes.specs.ChildMap.{table_children, pairs_within, IsAscen
 ghost use Rattle.art_nodes.specs.IndirectNode.{named_pointers, AreBelow};
 ghost use Rattle.art_nodes.specs.Inner.{sorted_children};
 
+use crate::inner_nodes::index_table::IndexTable;
 use crate::iteration::bounds::byte_range;
 use crate::iteration::index_pairs::IndexPairs;
 use crate::iteration::sorted_pairs::{SortedPairs, count_below};
 use crate::iteration::table_pairs::TablePairs;
 use crate::pointers::OpaqueNodePtr;
-use art_header::NonMaxIndex;
 use std::iter::FusedIterator;
 use std::marker::Model;
 use std::ops::Bound;
@@ -72,12 +72,12 @@ impl<'a, H: Copy> PairIter<'a, H> {
     }
 
     /// Over a table with a place for each byte, which has the index of the child.
-    pub(crate) fn over_indices(indices: &'a [Option<NonMaxIndex>; 256], children: &'a [H]) -> Self
+    pub(crate) fn over_indices(indices: &'a IndexTable, children: &'a [H]) -> Self
         requires { AreBelow (length children.now) indices.now }
         ensures { result ≡ table_children 0 (named_pointers children.now indices.now) }
     {
         PairIter {
-            source: Source::Indexed(IndexPairs::new(0, &indices[..], children)),
+            source: Source::Indexed(IndexPairs::new(0, indices.places(), children)),
         }
     }
 
@@ -118,7 +118,7 @@ impl<'a, H: Copy> PairIter<'a, H> {
 
     /// Over the places of a table of indices whose bytes meet both bounds.
     pub(crate) fn over_indices_range(
-        indices: &'a [Option<NonMaxIndex>; 256],
+        indices: &'a IndexTable,
         children: &'a [H],
         start: Bound<u8>,
         end: Bound<u8>,
@@ -128,10 +128,9 @@ impl<'a, H: Copy> PairIter<'a, H> {
         ensures { result ≡ pairs_within (table_children 0 (named_pointers children.now indices.now)) start end }
     {
         let bytes = byte_range(start, end);
-        let indices = &indices[..];
-        let indices = &indices[bytes.start..bytes.end];
+        let places = &indices.places()[bytes.start..bytes.end];
         PairIter {
-            source: Source::Indexed(IndexPairs::new(bytes.start, indices, children)),
+            source: Source::Indexed(IndexPairs::new(bytes.start, places, children)),
         }
     }
 }

@@ -2,21 +2,21 @@ use Rattle.std.proofs.Common.{◌<◌, ◌-◌, length, arith, rules}
 use Rattle.art_nodes.proofs.IndirectLemmas.{below_from_once, length-named, length-used, pair-named, used_below}
 use Rattle.art_nodes.proofs.inner_nodes.inner_node_indirect.InnerNodeIndirectInnerNodeCommon.max.Goals as goal
 
-pub last_place-byte-requires-clause-not_empty : goal.last_place-byte-requires-clause-not_empty
-last_place-byte-requires-clause-not_empty g c =
+pub last-byte-requires : goal.last-byte-requires
+last-byte-requires g c =
     let once = c.self.invariant.named_once in
     let some = rw (← c.self.view_is) at c.requires in
     omega (arith, some, length-named c.self.inside.child_pointers.items c.self.inside.child_indices once, length-used c.self.inside.child_indices _ once)
 
 pub offset_bounds-deref-from : goal.offset_bounds-deref-from
 offset_bounds-deref-from g c =
-    let named = used_below _ 0 c.self.inside.child_indices _ _ c.last_place-byte.result.1 (below_from_once _ _ c.self.invariant.named_once) c.last_place-byte.ensures in
+    let named = used_below _ 0 c.self.inside.child_indices _ _ c.last-byte.result.1 (below_from_once _ _ c.self.invariant.named_once) c.last-byte.ensures in
     let small : c.from.result < 255 = omega (arith, named, c.from.ensures, c.self.invariant.fits) in
     search rules
 
 pub bounds-deref-from : goal.bounds-deref-from
 bounds-deref-from g c =
-    let named = used_below _ 0 c.self.inside.child_indices _ _ c.last_place-byte.result.1 (below_from_once _ _ c.self.invariant.named_once) c.last_place-byte.ensures in
+    let named = used_below _ 0 c.self.inside.child_indices _ _ c.last-byte.result.1 (below_from_once _ _ c.self.invariant.named_once) c.last-byte.ensures in
     rw c.deref.ensures.0 (omega (arith, named, c.from.ensures))
 
 pub returns-clause-pair : goal.returns-clause-pair
@@ -24,5 +24,5 @@ returns-clause-pair g c =
     let pointers = c.self.inside.child_pointers.items in
     let indices = c.self.inside.child_indices in
     let once = c.self.invariant.named_once in
-    let found = rw (length-used indices _ once) at c.last_place-byte.ensures in
+    let found = rw (length-used indices _ once) at c.last-byte.ensures in
     rw (← c.self.view_is, c.deref.ensures.0, ← c.from.ensures, length-named pointers indices once) (pair-named pointers indices (length pointers - 1) _ _ _ (below_from_once _ _ once) found)

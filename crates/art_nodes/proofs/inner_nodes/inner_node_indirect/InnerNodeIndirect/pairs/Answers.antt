@@ -1,0 +1,5 @@
+use Rattle.art_nodes.proofs.IndirectLemmas.{below_from_once}
+use Rattle.art_nodes.proofs.inner_nodes.inner_node_indirect.InnerNodeIndirect.pairs.Goals as goal
+
+pub new-requires-clause-named : goal.new-requires-clause-named
+new-requires-clause-named g c = rw (c.deref.ensures.0, c.places.ensures.indices) (below_from_once _ _ c.self.invariant.named_once)

@@ -1,0 +1,9 @@
+use Rattle.std.proofs.Common.{◌≡◌, ◌+◌, ℕ, drop, map}
+use Rattle.art_nodes.specs.ChildMap.{table_children}
+use Rattle.art_nodes.specs.IndexTable.{index_of}
+use Rattle.art_nodes.proofs.iteration.index_pairs.first_index.Given as goal
+
+-- the places so far have no index
+abbrev pub invariant-loop-place : goal.invariant-loop-place
+invariant-loop-place l =
+    (byte : ℕ) → table_children byte (map index_of l.places) ≡ table_children (byte + l.place) (map index_of (drop l.place l.places))

@@ -1,0 +1,29 @@
+use Rattle.std.proofs.Common.{◌≡◌, ◌+◌, ◌-◌, ◌<◌, ◌∙◌, ap, map, take, length, arith}
+use Rattle.art_nodes.specs.ChildMap.{table_children}
+use Rattle.art_nodes.specs.IndexTable.{index_of}
+use Rattle.art_nodes.proofs.IndexTableLemmas.{index_below, index_none, drop_last_place, take_last_place}
+use Rattle.art_nodes.proofs.iteration.index_pairs.last_index.Goals as goal
+
+pub returns-in-Some-clause-found : goal.returns-in-Some-clause-found
+returns-in-Some-clause-found c = λ byte.
+    let places = c.args.places.now in
+    let place = c.loop-end.end - 1 in
+    let within : place < length places = omega arith in
+    let next : c.loop-end.end ≡ place + 1 = omega arith in
+    c.loop-end.invariant.empty_behind byte
+    ∙ ap (λ n. table_children byte (map index_of (take n places))) next
+    ∙ take_last_place byte places place within c.in-Some.index (rw c.in-Some.ensures.1 (index_below _ c.in-Some.ensures.0))
+
+pub loop-end-preserved : goal.loop-end-preserved
+loop-end-preserved c =
+    let places = c.args.places.now in
+    let place = c.loop-end.end - 1 in
+    let within : place < length places = omega arith in
+    let next : c.loop-end.end ≡ place + 1 = omega arith in
+    record {
+      in_range = omega arith;
+      empty_behind = λ byte.
+          c.loop-end.invariant.empty_behind byte
+          ∙ ap (λ n. table_children byte (map index_of (take n places))) next
+          ∙ drop_last_place byte places place within (index_none _ (let above = c.in_default.ensures in grind arith));
+    }
