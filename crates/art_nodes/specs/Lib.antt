@@ -1,3 +1,4 @@
+pub mod ByteSet
 pub mod ChildMap
 pub mod AnyInner
 pub mod Commands
@@ -9,6 +10,7 @@ pub mod Pointers
 pub mod SortedNode
 pub mod WritePoint
 pub mod ChildIter
+pub mod ChildTable
 pub mod PairSources
 pub mod PrefixMatch
 pub mod Builder
