@@ -1,6 +1,8 @@
 mod BuilderLemmas
+mod ByteSetLemmas
 pub mod ChildMapLaws
 mod ChildMapLemmas
+mod ChildTableLemmas
 mod ConversionLemmas
 mod DirectLemmas
 mod IndexTableLemmas

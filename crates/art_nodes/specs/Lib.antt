@@ -1,3 +1,4 @@
+pub mod ByteSet
 pub mod ChildMap
 pub mod AnyInner
 pub mod Commands
@@ -10,6 +11,7 @@ pub mod Pointers
 pub mod SortedNode
 pub mod WritePoint
 pub mod ChildIter
+pub mod ChildTable
 pub mod PairSources
 pub mod PrefixMatch
 pub mod Builder

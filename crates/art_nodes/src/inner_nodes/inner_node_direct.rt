@@ -1,11 +1,11 @@
 //! Inner nodes with a place for each byte: `Node256`.
+use crate::inner_nodes::child_table::ChildTable;
 use crate::inner_nodes::node::{InnerNodeCommon, Node};
 use crate::inner_nodes::prefix_match::{
     AttemptOptimisticPrefixMatch, OptimisticMismatch, PessimisticMismatch, PrefixMatch,
     match_length, match_stored,
 };
 use crate::iteration::child_iter::ChildIter;
-use crate::iteration::table::{first_place, last_place};
 use crate::pointers::OpaqueNodePtr;
 use crate::sealed::{InThisCrate, InnerNodeInit, Sealed};
 use art_header::{Header, NodeType};
@@ -16,7 +16,7 @@ use std::ops::Bound;
 #[derive(Drop)]
 pub struct InnerNodeDirect<K, V, const PREFIX_LEN: usize> {
     header: Header<PREFIX_LEN>,
-    child_pointers: [Option<OpaqueNodePtr<K, V, PREFIX_LEN>>; 256],
+    child_pointers: ChildTable<OpaqueNodePtr<K, V, PREFIX_LEN>>,
 }
 
 impl<K, V, const PREFIX_LEN: usize> Sealed for InnerNodeDirect<K, V, PREFIX_LEN> {}
@@ -75,7 +75,7 @@ impl<K, V, const PREFIX_LEN: usize> InnerNodeDirect<K, V, PREFIX_LEN> {
         header.reset_num_children();
         InnerNodeDirect {
             header,
-            child_pointers: [None; 256],
+            child_pointers: ChildTable::new(OpaqueNodePtr::default()),
         }
     }
 
@@ -85,7 +85,7 @@ impl<K, V, const PREFIX_LEN: usize> InnerNodeDirect<K, V, PREFIX_LEN> {
     {
         InnerNodeDirect {
             header: self.header.clone().unwrap(),
-            child_pointers: self.child_pointers,
+            child_pointers: self.child_pointers.clone(),
         }
     }
 }
@@ -127,27 +127,25 @@ impl<K, V, const PREFIX_LEN: usize> InnerNodeCommon<K, V, PREFIX_LEN>
     }
 
     fn lookup_child(&self, key_fragment: u8) -> Option<OpaqueNodePtr<K, V, PREFIX_LEN>> {
-        self.child_pointers[usize::from(key_fragment)]
+        self.child_pointers.child(key_fragment)
     }
 
     fn write_child(&mut self, key_fragment: u8, child_pointer: OpaqueNodePtr<K, V, PREFIX_LEN>)
         requires { HasRoomFor 256 self.old key_fragment }
         ensures written { self.new ≡ node_with_child self.old key_fragment child_pointer }
     {
-        let place = usize::from(key_fragment);
-        if self.child_pointers[place].is_none() {
+        if self.child_pointers.child(key_fragment).is_none() {
             self.header.inc_num_children();
         }
-        self.child_pointers[place] = Some(child_pointer);
+        self.child_pointers.fill(key_fragment, child_pointer);
     }
 
     fn remove_child(&mut self, key_fragment: u8) -> Option<OpaqueNodePtr<K, V, PREFIX_LEN>> {
-        let place = usize::from(key_fragment);
-        let removed_child = self.child_pointers[place];
+        let removed_child = self.child_pointers.child(key_fragment);
         if removed_child.is_some() {
             self.header.dec_num_children();
         }
-        self.child_pointers[place] = None;
+        self.child_pointers.clear(key_fragment);
         removed_child
     }
 
@@ -160,11 +158,11 @@ impl<K, V, const PREFIX_LEN: usize> InnerNodeCommon<K, V, PREFIX_LEN>
     }
 
     fn min(&self) -> (u8, OpaqueNodePtr<K, V, PREFIX_LEN>) {
-        first_place(&self.child_pointers)
+        self.child_pointers.pairs().next().unwrap()
     }
 
     fn max(&self) -> (u8, OpaqueNodePtr<K, V, PREFIX_LEN>) {
-        last_place(&self.child_pointers)
+        self.child_pointers.pairs().next_back().unwrap()
     }
 
     fn optimistic_match_prefix(
@@ -181,3 +179,6 @@ impl<K, V, const PREFIX_LEN: usize> InnerNodeCommon<K, V, PREFIX_LEN>
         match_stored(&self.header, truncated_key)
     }
 }
+
+#[cfg(test)]
+mod tests;

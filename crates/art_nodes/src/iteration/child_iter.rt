@@ -5,6 +5,7 @@ ghost use Rattle.art_nodes.specs.ChildMap.{table_children, pairs_within, IsAscen
 ghost use Rattle.art_nodes.specs.IndirectNode.{named_pointers, AreBelow};
 ghost use Rattle.art_nodes.specs.Inner.{sorted_children};
 
+use crate::inner_nodes::child_table::ChildTable;
 use crate::inner_nodes::index_table::IndexTable;
 use crate::iteration::bounds::byte_range;
 use crate::iteration::index_pairs::IndexPairs;
@@ -63,11 +64,11 @@ impl<'a, H: Copy> PairIter<'a, H> {
     }
 
     /// Over a table with a place for each byte.
-    pub(crate) fn over_table(places: &'a [Option<H>; 256]) -> Self
-        ensures { result ≡ table_children 0 places.now }
+    pub(crate) fn over_table(table: &'a ChildTable<H>) -> Self
+        ensures { result ≡ table_children 0 table.now }
     {
         PairIter {
-            source: Source::Table(TablePairs::new(0, &places[..])),
+            source: Source::Table(table.pairs()),
         }
     }
 
@@ -102,17 +103,15 @@ impl<'a, H: Copy> PairIter<'a, H> {
 
     /// Over the places of a table whose bytes meet both bounds.
     pub(crate) fn over_table_range(
-        places: &'a [Option<H>; 256],
+        table: &'a ChildTable<H>,
         start: Bound<u8>,
         end: Bound<u8>,
     ) -> Self
         requires { AreValidBounds start end }
-        ensures { result ≡ pairs_within (table_children 0 places.now) start end }
+        ensures { result ≡ pairs_within (table_children 0 table.now) start end }
     {
-        let bytes = byte_range(start, end);
-        let places = &places[..];
         PairIter {
-            source: Source::Table(TablePairs::new(bytes.start, &places[bytes.start..bytes.end])),
+            source: Source::Table(table.pairs_within(byte_range(start, end))),
         }
     }
 

@@ -2,52 +2,107 @@
 ghost use Rattle.std.specs.Prelude.{◌≡◌, ◌+◌, ◌<◌, ◌≤◌, ℕ, length, [], ◌∷◌, ◌++◌, drop, take, IfNone, IfSome};
 ghost use Rattle.std.specs.Iterator.{YieldsFirst, YieldsLast};
 ghost use Rattle.art_nodes.specs.ChildMap.{table_children};
+ghost use Rattle.art_nodes.specs.ChildTable.{filled_within};
 
+use crate::inner_nodes::byte_set::ByteSet;
 use std::marker::Model;
+use std::ops::Range;
 
-/// Places, each for the byte after that of the place before it, with the children in them.
+/// Those of 256 children that a set of bytes says are there and that stand under a range of bytes.
 #[derive(Drop)]
 pub(crate) struct TablePairs<'a, H> {
-    places: &'a [Option<H>],
-    // The byte of the first place.
-    byte: usize,
+    filled: &'a ByteSet,
+    children: &'a [H],
+    start: usize,
+    end: usize,
 }
 
 impl<'a, H> Model for TablePairs<'a, H> {
-    ghost use Rattle.std.specs.Prelude.{◌≤◌, ◌+◌, length};
-    ghost use Rattle.art_nodes.specs.ChildMap.{ChildMap, table_children};
+    ghost use Rattle.std.specs.Prelude.{◌≡◌, ◌≤◌, length};
+    ghost use Rattle.art_nodes.specs.ChildMap.{ChildMap};
+    ghost use Rattle.art_nodes.specs.ChildTable.{filled_within};
 
     ghost Value = { ChildMap H };
 
-    ghost view = { λ p. table_children p.byte p.places.now };
+    ghost view = { λ p. filled_within p.filled.now.words p.children.now p.start p.end };
 
-    ghost invariant = { λ p. p.byte + length p.places.now ≤ 256 };
+    ghost invariant = { λ p. (length p.children.now ≡ 256) × (p.end ≤ 256) };
 }
 
 impl<'a, H: Copy> TablePairs<'a, H> {
-    pub(crate) fn new(byte: usize, places: &'a [Option<H>]) -> Self
-        requires { byte + length places.now ≤ 256 }
-        ensures { result ≡ table_children byte places.now }
+    pub(crate) fn new(filled: &'a ByteSet, children: &'a [H], bytes: Range<usize>) -> Self
+        requires all_places { length children.now ≡ 256 }
+        requires fits { bytes.end ≤ 256 }
+        ensures { result ≡ filled_within filled.now.words children.now bytes.start bytes.end }
     {
-        TablePairs { places, byte }
+        TablePairs {
+            filled,
+            children,
+            start: bytes.start,
+            end: bytes.end,
+        }
     }
 
     pub(crate) fn next(&mut self) -> Option<(u8, H)>
         ensures { YieldsFirst (λ pairs. pairs) self.old result self.new }
     {
-        let (place, child) = first_occupied(self.places)?;
-        let byte = self.byte + place;
-        self.places = &self.places[place + 1..];
-        self.byte = byte + 1;
-        Some((byte as u8, child))
+        let (byte, child) = first_within(self.filled, self.children, self.start, self.end)?;
+        self.start = usize::from(byte) + 1;
+        Some((byte, child))
     }
 
     pub(crate) fn next_back(&mut self) -> Option<(u8, H)>
         ensures { YieldsLast (λ pairs. pairs) self.old result self.new }
     {
-        let (place, child) = last_occupied(self.places)?;
-        self.places = &self.places[..place];
-        Some(((self.byte + place) as u8, child))
+        let (byte, child) = last_within(self.filled, self.children, self.start, self.end)?;
+        self.end = usize::from(byte);
+        Some((byte, child))
+    }
+}
+
+// The first child from one byte on, below another, with its byte.
+fn first_within<H: Copy>(
+    filled: &ByteSet,
+    children: &[H],
+    from: usize,
+    end: usize,
+) -> Option<(u8, H)>
+    requires all_places { length children.now ≡ 256 }
+    requires fits { end ≤ 256 }
+    ensures in_range { IfSome result (λ pair. (from ≤ pair.0) × (pair.0 < end)) }
+    ensures found { IfSome result (λ pair. filled_within filled.now.words children.now from end
+        ≡ pair ∷ filled_within filled.now.words children.now (pair.0 + 1) end) }
+    ensures none { IfNone result (filled_within filled.now.words children.now from end ≡ []) }
+{
+    let byte = filled.first_from(from)?;
+    let place = usize::from(byte);
+    if place < end {
+        Some((byte, children[place]))
+    } else {
+        None
+    }
+}
+
+// The last child from one byte on, below another, with its byte.
+fn last_within<H: Copy>(
+    filled: &ByteSet,
+    children: &[H],
+    from: usize,
+    end: usize,
+) -> Option<(u8, H)>
+    requires all_places { length children.now ≡ 256 }
+    requires fits { end ≤ 256 }
+    ensures in_range { IfSome result (λ pair. (from ≤ pair.0) × (pair.0 < end)) }
+    ensures found { IfSome result (λ pair. filled_within filled.now.words children.now from end
+        ≡ filled_within filled.now.words children.now from pair.0 ++ pair ∷ []) }
+    ensures none { IfNone result (filled_within filled.now.words children.now from end ≡ []) }
+{
+    let byte = filled.last_before(end)?;
+    let place = usize::from(byte);
+    if from <= place {
+        Some((byte, children[place]))
+    } else {
+        None
     }
 }
 

@@ -7,10 +7,10 @@ use Rattle.art_nodes.proofs.iteration.child_iter.PairIter.over_table_range.Goals
 
 pub returns : goal.returns
 returns g c =
-    let places = c.args.places.now in
-    let bytes = c.byte_range-bytes in
-    let fits : length places ≤ 256 = omega (arith, c.type_inv.places) in
-    c.new.ensures
+    let places = c.args.table.now in
+    let bytes = c.byte_range in
+    let fits : length places ≤ 256 = omega (arith, c.pairs_within.ensures.all_places) in
+    c.pairs_within.ensures.within
     ∙ table-between bytes.result.start bytes.result.end places bytes.ensures.ordered fits
     ∙ ap (λ n. pairs_between (table_children 0 places) n bytes.result.end) bytes.ensures.first
     ∙ ap (λ n. pairs_between (table_children 0 places) (first_byte c.args.start) n) bytes.ensures.end
