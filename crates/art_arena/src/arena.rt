@@ -67,7 +67,8 @@ pub trait Shelved<A>: Sized {
         ensures { result.now ≡ slab_of arena.now };
 
     fn slab_mut(arena: &mut A) -> &mut Slab<Self>
-        ensures* writes_back { sem 𝓛 (Lends A.row (slab_row Self.row) arena.entry result (with_slab arena.entry.now)) }
+        ensures* writes_back { sem 𝓛
+            (Lends A.row (slab_row Self.row) arena.entry result (with_slab arena.entry.now)) }
         ensures value { result.now ≡ slab_of arena.old };
 }
 
@@ -84,17 +85,24 @@ pub trait ArenaNode<K, V, const PREFIX_LEN: usize>: Node<PREFIX_LEN, Key = K, Va
 
     ghost held_as: { Self → Held (OpaqueNodePtr K V PREFIX_LEN) (LeafNode K V PREFIX_LEN) };
 
-    ghost held_in_slab: { (arena : ArenaOf K V PREFIX_LEN) (key : ℕ) → held_under arena Self.TYPE key ≡ held_option held_as (get (Self.slab_of arena) key) };
+    ghost held_in_slab: { (arena : ArenaOf K V PREFIX_LEN) (key : ℕ) →
+        held_under arena Self.TYPE key ≡ held_option held_as (get (Self.slab_of arena) key) };
 
-    ghost slab_written: { (arena : ArenaOf K V PREFIX_LEN) (slots : Slots Self) → Self.slab_of (Self.with_slab arena slots) ≡ slots };
+    ghost slab_written: { (arena : ArenaOf K V PREFIX_LEN) (slots : Slots Self) →
+        Self.slab_of (Self.with_slab arena slots) ≡ slots };
 
-    ghost held_where_contained: { (arena : ArenaOf K V PREFIX_LEN) (key : ℕ) → ContainsKey (Self.slab_of arena) key ↔ (held_under arena Self.TYPE key ≢ Nothing) };
+    ghost held_where_contained: { (arena : ArenaOf K V PREFIX_LEN) (key : ℕ) →
+        ContainsKey (Self.slab_of arena) key ↔ (held_under arena Self.TYPE key ≢ Nothing) };
 
-    ghost room_of_slab: { (arena : ArenaOf K V PREFIX_LEN) → room arena Self.TYPE ≡ slab_room (Self.slab_of arena) };
+    ghost room_of_slab: { (arena : ArenaOf K V PREFIX_LEN) →
+        room arena Self.TYPE ≡ slab_room (Self.slab_of arena) };
 
-    ghost other_room: { (arena : ArenaOf K V PREFIX_LEN) (slots : Slots Self) → SameOtherRoom arena (Self.with_slab arena slots) Self.TYPE };
+    ghost other_room: { (arena : ArenaOf K V PREFIX_LEN) (slots : Slots Self) →
+        SameOtherRoom arena (Self.with_slab arena slots) Self.TYPE };
 
-    ghost others_kept: { (arena : ArenaOf K V PREFIX_LEN) (slots : Slots Self) (kind : NodeType) (key : ℕ) → kind ≢ Self.TYPE → held_under (Self.with_slab arena slots) kind key ≡ held_under arena kind key };
+    ghost others_kept: { (arena : ArenaOf K V PREFIX_LEN) (slots : Slots Self) (kind : NodeType) (key : ℕ) →
+        kind ≢ Self.TYPE →
+        held_under (Self.with_slab arena slots) kind key ≡ held_under arena kind key };
 }
 
 impl<K, V, const PREFIX_LEN: usize> Shelved<NodeArena<K, V, PREFIX_LEN>>
@@ -302,7 +310,8 @@ impl<K, V, const PREFIX_LEN: usize> NodeArena<K, V, PREFIX_LEN> {
         &self,
         ptr: NodePtr<PREFIX_LEN, N>,
     ) -> Option<&N>
-        ensures { held self.now (pointer_to N.TYPE (slab_key ptr)) ≡ held_option N.held_as (option_copied result) }
+        ensures { held self.now (pointer_to N.TYPE (slab_key ptr)) ≡ held_option N.held_as
+            (option_copied result) }
     {
         N::slab(self).get(ptr.key())
     }
@@ -315,8 +324,10 @@ impl<K, V, const PREFIX_LEN: usize> NodeArena<K, V, PREFIX_LEN> {
         &mut self,
         node: N,
     ) -> Result<NodePtr<PREFIX_LEN, N>, (AllocError, N)>
-        ensures was_free { IfOk result (λ ptr. held self.old (pointer_to N.TYPE (slab_key ptr)) ≡ Nothing) }
-        ensures added { IfOk result (λ ptr. Changes self.old self.new (pointer_to N.TYPE (slab_key ptr)) (N.held_as node)) }
+        ensures was_free { IfOk result
+            (λ ptr. held self.old (pointer_to N.TYPE (slab_key ptr)) ≡ Nothing) }
+        ensures added { IfOk result
+            (λ ptr. Changes self.old self.new (pointer_to N.TYPE (slab_key ptr)) (N.held_as node)) }
         ensures room { OnOk result (room self.old N.TYPE ≤ room self.new N.TYPE + 1) }
         ensures other_room { SameOtherRoom self.old self.new N.TYPE }
         ensures succeeds { 0 < room self.old N.TYPE → IsOk result }
@@ -376,10 +387,15 @@ impl<K, V, const PREFIX_LEN: usize> NodeArena<K, V, PREFIX_LEN> {
     /// node and the room of every kind are as before. The pointer has to be held.
     pub fn as_mut<N: ArenaNode<K, V, PREFIX_LEN>>(&mut self, ptr: NodePtr<PREFIX_LEN, N>) -> &mut N
         requires { held self.old (pointer_to N.TYPE (slab_key ptr)) ≢ Nothing }
-        ensures* writes_back { sem 𝓛 (LendsNode K.row V.row PREFIX_LEN.row N.row N.slab_of N.with_slab self.entry (slab_key ptr) result) }
+        ensures* writes_back { sem 𝓛
+            (LendsNode K.row V.row PREFIX_LEN.row N.row N.slab_of N.with_slab self.entry
+            (slab_key ptr) result) }
         ensures node { held self.old (pointer_to N.TYPE (slab_key ptr)) ≡ N.held_as result.now }
-        ensures changes { (now : _) → Changes self.old (with_node N.slab_of N.with_slab self.old (slab_key ptr) now) (pointer_to N.TYPE (slab_key ptr)) (N.held_as now) }
-        ensures room { (now : _) → SameRoom self.old (with_node N.slab_of N.with_slab self.old (slab_key ptr) now) }
+        ensures changes { (now : _) →
+            Changes self.old (with_node N.slab_of N.with_slab self.old (slab_key ptr) now)
+            (pointer_to N.TYPE (slab_key ptr)) (N.held_as now) }
+        ensures room { (now : _) →
+            SameRoom self.old (with_node N.slab_of N.with_slab self.old (slab_key ptr) now) }
     {
         N::slab_mut(self).get_mut(ptr.key()).unwrap()
     }
@@ -392,8 +408,10 @@ impl<K, V, const PREFIX_LEN: usize> NodeArena<K, V, PREFIX_LEN> {
         node: N,
     ) -> N
         requires { held self.old (pointer_to N.TYPE (slab_key ptr)) ≢ Nothing }
-        ensures replaced_node { held self.old (pointer_to N.TYPE (slab_key ptr)) ≡ N.held_as result }
-        ensures replaced { Changes self.old self.new (pointer_to N.TYPE (slab_key ptr)) (N.held_as node) }
+        ensures replaced_node { held self.old (pointer_to N.TYPE (slab_key ptr))
+            ≡ N.held_as result }
+        ensures replaced { Changes self.old self.new (pointer_to N.TYPE (slab_key ptr))
+            (N.held_as node) }
         ensures room { SameRoom self.old self.new }
     {
         mem::replace(self.as_mut(ptr), node)
@@ -403,7 +421,8 @@ impl<K, V, const PREFIX_LEN: usize> NodeArena<K, V, PREFIX_LEN> {
     pub fn as_key_value_ref(&self, ptr: NodePtr<PREFIX_LEN, LeafNode<K, V, PREFIX_LEN>>) -> (&K, &V)
         requires { HoldsLeaf self.now (slab_key ptr) }
         ensures key { option_map leaf_key (leaf_at self.now (slab_key ptr)) ≡ Some result.0.now }
-        ensures value { option_map leaf_value (leaf_at self.now (slab_key ptr)) ≡ Some result.1.now }
+        ensures value { option_map leaf_value (leaf_at self.now (slab_key ptr))
+            ≡ Some result.1.now }
     {
         self.as_ref(ptr).entry_ref()
     }
@@ -415,11 +434,17 @@ impl<K, V, const PREFIX_LEN: usize> NodeArena<K, V, PREFIX_LEN> {
         ptr: NodePtr<PREFIX_LEN, LeafNode<K, V, PREFIX_LEN>>,
     ) -> (&K, &mut V)
         requires { HoldsLeaf self.old (slab_key ptr) }
-        ensures* writes_back { sem 𝓛 (LendsValue K.row V.row PREFIX_LEN.row self.entry (slab_key ptr) result.1) }
+        ensures* writes_back { sem 𝓛
+            (LendsValue K.row V.row PREFIX_LEN.row self.entry (slab_key ptr) result.1) }
         ensures key { option_map leaf_key (leaf_at self.old (slab_key ptr)) ≡ Some result.0.now }
-        ensures value { option_map leaf_value (leaf_at self.old (slab_key ptr)) ≡ Some result.1.now }
-        ensures changes { (leaf value : _) → leaf_at self.old (slab_key ptr) ≡ Some leaf → Changes self.old (with_value_at self.old (slab_key ptr) value) (pointer_to NodeType.Leaf (slab_key ptr)) (HeldLeaf (with_value leaf value)) }
-        ensures room { (value : _) → SameRoom self.old (with_value_at self.old (slab_key ptr) value) }
+        ensures value { option_map leaf_value (leaf_at self.old (slab_key ptr))
+            ≡ Some result.1.now }
+        ensures changes { (leaf value : _) →
+            leaf_at self.old (slab_key ptr) ≡ Some leaf →
+            Changes self.old (with_value_at self.old (slab_key ptr) value)
+            (pointer_to NodeType.Leaf (slab_key ptr)) (HeldLeaf (with_value leaf value)) }
+        ensures room { (value : _) →
+            SameRoom self.old (with_value_at self.old (slab_key ptr) value) }
     {
         self.as_mut(ptr).key_ref_value_mut()
     }
@@ -444,10 +469,15 @@ impl<K, V, const PREFIX_LEN: usize> NodeArena<K, V, PREFIX_LEN> {
     /// value that is left there. The leaf's key and links and every other node are as before.
     pub fn as_value_mut(&mut self, ptr: NodePtr<PREFIX_LEN, LeafNode<K, V, PREFIX_LEN>>) -> &mut V
         requires { HoldsLeaf self.old (slab_key ptr) }
-        ensures* writes_back { sem 𝓛 (LendsValue K.row V.row PREFIX_LEN.row self.entry (slab_key ptr) result) }
+        ensures* writes_back { sem 𝓛
+            (LendsValue K.row V.row PREFIX_LEN.row self.entry (slab_key ptr) result) }
         ensures value { option_map leaf_value (leaf_at self.old (slab_key ptr)) ≡ Some result.now }
-        ensures changes { (leaf value : _) → leaf_at self.old (slab_key ptr) ≡ Some leaf → Changes self.old (with_value_at self.old (slab_key ptr) value) (pointer_to NodeType.Leaf (slab_key ptr)) (HeldLeaf (with_value leaf value)) }
-        ensures room { (value : _) → SameRoom self.old (with_value_at self.old (slab_key ptr) value) }
+        ensures changes { (leaf value : _) →
+            leaf_at self.old (slab_key ptr) ≡ Some leaf →
+            Changes self.old (with_value_at self.old (slab_key ptr) value)
+            (pointer_to NodeType.Leaf (slab_key ptr)) (HeldLeaf (with_value leaf value)) }
+        ensures room { (value : _) →
+            SameRoom self.old (with_value_at self.old (slab_key ptr) value) }
     {
         self.as_mut(ptr).value_mut()
     }
@@ -475,7 +505,9 @@ impl<K, V, const PREFIX_LEN: usize> NodeArena<K, V, PREFIX_LEN> {
     )
         requires held { held self.old pointer ≢ Nothing }
         requires inner { node_kind pointer ≢ NodeType.Leaf }
-        ensures prefix { (node : _) → held self.old pointer ≡ HeldInner node → Changes self.old self.new pointer (HeldInner (with_prefix node header.now)) }
+        ensures prefix { (node : _) →
+            held self.old pointer ≡ HeldInner node →
+            Changes self.old self.new pointer (HeldInner (with_prefix node header.now)) }
         ensures room { SameRoom self.old self.new }
     {
         match pointer.to_node_ptr() {
