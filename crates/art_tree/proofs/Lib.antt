@@ -11,3 +11,4 @@ pub mod Loaded
 pub mod Planning
 pub mod RefusalLemmas
 pub mod Rising
+pub mod TreeLemmas

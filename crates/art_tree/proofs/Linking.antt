@@ -19,8 +19,9 @@ use Rattle.art_arena.specs.Arena.{ArenaOf, Held, HeldInner, HeldLeaf, Nothing, h
 use Rattle.art_arena.specs.Links.{AreDistinct, HoldsLeaf, IsKnit, IsUnlinked, SameButLinks, StandsBetween, Spells, SpellsAfter, leaf_at, next_at, previous_at, text_at}
 use Rattle.art_tree.specs.Plan.{texts_of}
 use Rattle.art_tree.specs.Plan as plan
-use Rattle.art_tree.specs.Raising.{Adds, leaf_pointer, leaf_texts}
-use Rattle.art_tree.specs.Loading.{HoldEntries, AreLinked}
+use Rattle.art_tree.specs.Raising.{leaf_texts}
+use Rattle.art_tree.specs.Search.{leaf_pointer}
+use Rattle.art_tree.specs.Loading.{HoldEntries, AreLinked, Adds}
 use Rattle.art_tree.proofs.Rising.{adds-more, leaf-of, text-held, take-get}
 
 module _ {K V : Type 0} {P : ℕ} where

@@ -10,7 +10,8 @@ use Rattle.art_arena.specs.Arena.{ArenaOf, Nothing, SameNodes}
 use Rattle.art_arena.specs.Links.{Spells}
 use Rattle.art_arena.specs.Trees.{Tree}
 use Rattle.art_tree.specs.Plan.{AreLoadable, text_at}
-use Rattle.art_tree.specs.Raising.{IsRaised, leaf_pairs, leaf_pointer}
+use Rattle.art_tree.specs.Raising.{IsRaised, leaf_pairs}
+use Rattle.art_tree.specs.Search.{leaf_pointer}
 use Rattle.art_tree.specs.Loading.{AreLinked, HoldEntries, IsLoaded, leaf_pointers}
 use Rattle.art_tree.proofs.Linking.{Hold-kept, Spells-kept}
 

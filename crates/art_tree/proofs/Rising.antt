@@ -22,7 +22,9 @@ use Rattle.art_arena.specs.Links.{HoldsLeaf, leaf_at, text_at}
 use Rattle.art_arena.specs.Standing.{Stands, AllStand, StandsIn, AllStandIn, leaf_text}
 use Rattle.art_arena.specs.Trees.{Tree, Leaf, Inner, Branches, NoBranch, Branch, root_of, branch_roots, leaves, branch_leaves, places, branch_places, IsSound, IsWellFormed}
 use Rattle.art_tree.specs.Plan.{join, one_branch, needed}
-use Rattle.art_tree.specs.Raising.{node_of, IsPlaced, IsSnug, AreSnug, Adds, leaf_pointer, leaf_pairs, leaf_texts}
+use Rattle.art_tree.specs.Loading.{IsSnug, AreSnug, Adds}
+use Rattle.art_tree.specs.Raising.{node_of, IsPlaced, leaf_pairs, leaf_texts}
+use Rattle.art_tree.specs.Search.{leaf_pointer}
 use Rattle.art_tree.specs.declared.loading.steps.Step.{Step}
 use Rattle.art_tree.specs.declared.loading.steps.Step.TheVariants as step
 use Rattle.art_tree.proofs.BranchLemmas.{roots-join, leaves-join, places-join}

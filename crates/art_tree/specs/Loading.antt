@@ -1,17 +1,36 @@
 -- What a load leaves.
-use Rattle.std.specs.Prelude.{◌≡◌, ℕ, List, [], ◌∷◌, map}
+use Rattle.std.specs.Prelude.{◌≡◌, ◌≢◌, ℕ, List, [], ◌∷◌, length, map}
+use Rattle.std.specs.List.{Contains}
+use Rattle.art_header.specs.NodeType.{kind_for}
 use Rattle.art_nodes.specs.Leaf.{leaf_key, leaf_value}
-use Rattle.art_nodes.specs.Pointers.{opaque_key, slab_key}
+use Rattle.art_nodes.specs.Pointers.{node_kind, opaque_key, slab_key}
 use Rattle.art_nodes.specs.declared.pointers.NodePtr.{NodePtr}
 use Rattle.art_nodes.specs.declared.pointers.OpaqueNodePtr.{OpaqueNodePtr}
 use Rattle.art_nodes.specs.declared.leaf_node.LeafNode.{LeafNode}
-use Rattle.art_arena.specs.Arena.{ArenaOf, HeldLeaf, held}
+use Rattle.art_arena.specs.Arena.{ArenaOf, HeldLeaf, Nothing, held}
 use Rattle.art_arena.specs.Links.{Spells}
 use Rattle.art_arena.specs.Standing.{IsTreeIn}
-use Rattle.art_arena.specs.Trees.{Tree, leaves, places}
-use Rattle.art_tree.specs.Raising.{IsSnug, Adds, leaf_pointer}
+use Rattle.art_arena.specs.Trees.{Tree, Leaf, Inner, Branches, NoBranch, Branch, branch_roots, leaves, places}
+use Rattle.art_tree.specs.Search.{leaf_pointer}
 
 module _ {K V : Type 0} {P : ℕ} where
+  abbrev mutual
+    -- every inner node is of the smallest kind that holds its branches
+    pub IsSnug : Tree (OpaqueNodePtr K V P) → Type 0
+    IsSnug (Leaf pointer text) = Unit {0}
+    IsSnug (Inner pointer prefix branches) = (node_kind pointer ≡ kind_for (length (branch_roots branches))) × AreSnug branches
+
+    pub AreSnug : Branches (OpaqueNodePtr K V P) → Type 0
+    AreSnug NoBranch = Unit {0}
+    AreSnug (Branch byte tree others) = IsSnug tree × AreSnug others
+
+  -- an arena holds what it held, and besides it just nodes at these places, of which it held none
+  pub record Adds (old new : ArenaOf K V P) (added : List (OpaqueNodePtr K V P)) : Type 0 where
+    pub kept : (pointer : OpaqueNodePtr K V P) → held old pointer ≢ Nothing → held new pointer ≡ held old pointer
+    pub were_free : (pointer : OpaqueNodePtr K V P) → Contains added pointer → held old pointer ≡ Nothing
+    pub are_held : (pointer : OpaqueNodePtr K V P) → Contains added pointer → held new pointer ≢ Nothing
+    pub no_others : (pointer : OpaqueNodePtr K V P) → held old pointer ≡ Nothing → held new pointer ≢ Nothing → Contains added pointer
+
   -- these pointers hold leaves with these entries, one each
   abbrev pub HoldEntries : ArenaOf K V P → List (OpaqueNodePtr K V P) → List (K × V) → Type 0
   HoldEntries arena [] [] = Unit {0}

@@ -1,43 +1,25 @@
 -- Trees on their way from a plan into an arena.
 use Rattle.std.specs.Prelude.{◌≡◌, ◌≢◌, ℕ, ◌+◌, ◌<◌, ◌≤◌, List, map, length, take, slice_index_or}
-use Rattle.std.specs.List.{Contains}
 use Rattle.art_header.specs.Header.{capped}
-use Rattle.art_header.specs.NodeType.{kind_for}
 use Rattle.art_header.specs.declared.node_type.NodeType.{NodeType}
-use Rattle.art_header.specs.declared.node_type.NodeType.TheVariants as kinds
 use Rattle.art_nodes.specs.ChildMap.{ChildMap}
 use Rattle.art_nodes.specs.Inner as nodes
 use Rattle.art_nodes.specs.Pointers.{slab_key, node_kind}
 use Rattle.art_nodes.specs.declared.pointers.NodePtr.{NodePtr}
 use Rattle.art_nodes.specs.declared.pointers.OpaqueNodePtr.{OpaqueNodePtr}
 use Rattle.art_nodes.specs.declared.leaf_node.LeafNode.{LeafNode}
-use Rattle.art_arena.specs.Arena.{ArenaOf, Held, HeldInner, Nothing, held, pointer_to, room, SameOtherRoom, Changes}
+use Rattle.art_arena.specs.Arena.{ArenaOf, HeldInner, Nothing, held, room, SameOtherRoom, Changes}
 use Rattle.art_arena.specs.Links.{HoldsLeaf, text_at}
 use Rattle.art_arena.specs.Standing.{StandsIn}
-use Rattle.art_arena.specs.Trees.{Tree, Leaf, Inner, Branches, NoBranch, Branch, root_of, branch_roots, leaves, places, IsWellFormed}
+use Rattle.art_arena.specs.Trees.{Tree, root_of, leaves, places, IsWellFormed}
+use Rattle.art_tree.specs.Loading.{IsSnug, Adds}
+use Rattle.art_tree.specs.Search.{leaf_pointer}
 
 -- the node with this prefix and these children
 abbrev pub node_of : {H : Type 0} → ℕ → List ℕ → ChildMap H → nodes.Inner H
 node_of room prefix children = record { prefix_len = length prefix; stored = take (capped room (length prefix)) prefix; children = children }
 
 module _ {K V : Type 0} {P : ℕ} where
-  abbrev mutual
-    -- every inner node is of the smallest kind that holds its branches
-    pub IsSnug : Tree (OpaqueNodePtr K V P) → Type 0
-    IsSnug (Leaf pointer text) = Unit {0}
-    IsSnug (Inner pointer prefix branches) = (node_kind pointer ≡ kind_for (length (branch_roots branches))) × AreSnug branches
-
-    pub AreSnug : Branches (OpaqueNodePtr K V P) → Type 0
-    AreSnug NoBranch = Unit {0}
-    AreSnug (Branch byte tree others) = IsSnug tree × AreSnug others
-
-  -- an arena holds what it held, and besides it just nodes at these places, of which it held none
-  pub record Adds (old new : ArenaOf K V P) (added : List (OpaqueNodePtr K V P)) : Type 0 where
-    pub kept : (pointer : OpaqueNodePtr K V P) → held old pointer ≢ Nothing → held new pointer ≡ held old pointer
-    pub were_free : (pointer : OpaqueNodePtr K V P) → Contains added pointer → held old pointer ≡ Nothing
-    pub are_held : (pointer : OpaqueNodePtr K V P) → Contains added pointer → held new pointer ≢ Nothing
-    pub no_others : (pointer : OpaqueNodePtr K V P) → held old pointer ≡ Nothing → held new pointer ≢ Nothing → Contains added pointer
-
   -- a new node of this kind stands at a place that was free
   pub record IsPlaced (old new : ArenaOf K V P) (kind : NodeType) (node : nodes.Inner (OpaqueNodePtr K V P)) (at : OpaqueNodePtr K V P) : Type 0 where
     pub is_kind : node_kind at ≡ kind
@@ -45,10 +27,6 @@ module _ {K V : Type 0} {P : ℕ} where
     pub changes : Changes old new at (HeldInner node)
     pub room : room old kind ≤ room new kind + 1
     pub other_room : SameOtherRoom old new kind
-
-  -- the pointer to a leaf
-  abbrev pub leaf_pointer : NodePtr P (LeafNode K V P) → OpaqueNodePtr K V P
-  leaf_pointer leaf = pointer_to kinds.Leaf (slab_key leaf)
 
   -- each of these leaves is held
   abbrev pub HoldLeaves : ArenaOf K V P → List (NodePtr P (LeafNode K V P)) → Type 0

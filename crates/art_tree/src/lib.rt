@@ -6,14 +6,20 @@
 mod find;
 mod loading;
 mod path;
+#[cfg(test)]
+mod tests;
 
-pub use art_arena::{AnyRef, ArenaNode, ArenaReader, NodeArena, NodeRef};
+pub use art_arena::{
+    AnyRef, ArenaNode, ArenaReader, ExplicitMismatch, FullPrefix, LeafLinks, NodeArena, NodePrefix,
+    NodeRef, laws,
+};
 pub use art_bytes::{
     AsBytes, CStringKey, CStringKeyError, NoPrefixesBytes, OrderedBytes, SliceKey, StrKey,
 };
 pub use art_mapped::{
-    BytesMapping, Domain, Element, FixedBytes, IntegerForm, Joined, Mapped, NoPrefixesMapping,
-    Octets, OrderedMapping, Signed, Single, ToBigEndian, ToIBE, ToOctets, ToUBE, Unsigned,
+    BytesMapping, ConcatTuple, Domain, Element, First, FixedBytes, Identity, IntegerForm, Joined,
+    Joint, Mapped, NoPrefixesMapping, Octets, OrderedJoint, OrderedMapping, OrderedTuple, Signed,
+    Single, Then, ToBigEndian, ToIBE, ToOctets, ToUBE, TupleMappings, TupleValues, Unsigned,
 };
 pub use art_nodes::{
     AttemptOptimisticPrefixMatch, BuilderState, ChildCommand, ChildIter, ChildNode, ChildPairs,
@@ -21,7 +27,7 @@ pub use art_nodes::{
     InnerNode4, InnerNode16, InnerNode48, InnerNodeBuilder, InnerNodeCommon, InnerNodeDirect,
     InnerNodeIndirect, InnerNodeSorted, LeafNode, NoChild, Node, NodePtr, NodeType, NonMaxIndex,
     OpaqueNodePtr, OptimisticMismatch, PairIter, PessimisticMismatch, PrefixMatch, Replayed,
-    Sequence, TryFromByteError, replay, valid_range_bounds,
+    Sequence, TryFromByteError, common_front_len, replay, valid_range_bounds,
 };
 pub use find::find_leaf;
 pub use loading::{LoadFault, LoadRefusal, load};

@@ -9,7 +9,8 @@ use Rattle.art_arena.specs.Arena.{held, Nothing, room}
 use Rattle.art_arena.specs.Links.{HoldsLeaf, text_at}
 use Rattle.art_tree.specs.declared.loading.steps.Step.{Step}
 use Rattle.art_tree.specs.declared.loading.steps.Step.TheVariants as step
-use Rattle.art_tree.specs.Raising.{leaf_pairs, leaf_pointer, leaf_texts}
+use Rattle.art_tree.specs.Raising.{leaf_pairs, leaf_texts}
+use Rattle.art_tree.specs.Search.{leaf_pointer}
 use Rattle.art_tree.specs.Plan.{Spans}
 use Rattle.art_tree.proofs.Leading.{plan-leads}
 use Rattle.art_tree.proofs.Rising.{IsRising, leaf-within, inner-within, few-pending, rising-none, texts-of-pairs, pair-there, pointer-there, leaf-there, text-kept, pairs-count, rise-leaf, rise-inner-called, rise-ready, risen, texts-there, some-same, last-part}

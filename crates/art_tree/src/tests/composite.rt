@@ -1,0 +1,64 @@
+// Keys of two parts, and C strings.
+use super::Answer::{Child, Normal, Nothing};
+use super::*;
+use std::net::Ipv4Addr;
+
+type Route = Mapped<ConcatTuple<(ToOctets, ToIBE)>, (Ipv4Addr, i32)>;
+
+fn route(alloc: Global, to: Ipv4Addr, cost: i32) -> Result<Route, AllocError> {
+    Mapped::new(alloc, (to, cost))
+}
+
+#[test]
+fn an_address_and_a_number_are_found(rt: HostRuntime) -> Result<(), Fail> {
+    let alloc = rt.alloc();
+    let (any, here) = (Ipv4Addr::UNSPECIFIED, Ipv4Addr::LOCALHOST);
+    let mut keys = Vec::new(alloc);
+    for (to, cost) in [(any, -212), (any, 212), (here, 212)] {
+        keys.push(route(alloc, to, cost)?)?;
+    }
+    let mut arena = NodeArena::<Route, usize, 2>::new(alloc);
+    let root = load_all(alloc, &mut arena, keys)?;
+    let second = route(alloc, any, 212)?;
+    let third = route(alloc, here, 212)?;
+    let missing = route(alloc, any, 213)?;
+    let rows: [Row; 3] = [
+        (second.as_bytes(), Normal(1, 0, 128), 3),
+        (third.as_bytes(), Child(2, 127), 2),
+        (missing.as_bytes(), Nothing, 3),
+    ];
+    check(&rt, &arena, root, &rows);
+    Ok(())
+}
+
+fn c_string(alloc: Global, text: &[u8]) -> Result<CStringKey, AllocError> {
+    let mut bytes = Vec::new(alloc);
+    bytes.extend_from_slice(text)?;
+    CStringKey::new(bytes).map_err(|_| AllocError)
+}
+
+#[test]
+fn a_c_string_begins_no_other(rt: HostRuntime) -> Result<(), Fail> {
+    let alloc = rt.alloc();
+    let keys = vec![in alloc; c_string(alloc, b"a")?, c_string(alloc, b"ab")?]?;
+    let mut arena = NodeArena::<CStringKey, usize, 2>::new(alloc);
+    let root = load_all(alloc, &mut arena, keys)?;
+    let rows: [Row; 2] = [(b"ab\0", Child(1, b'b'), 2), (b"ab", Nothing, 2)];
+    check(&rt, &arena, root, &rows);
+    Ok(())
+}
+
+#[test]
+fn a_string_may_begin_another(rt: HostRuntime) -> Result<(), Fail> {
+    let alloc = rt.alloc();
+    let mut entries = Vec::new(alloc);
+    for (number, text) in ["a", "ab"].iter().enumerate() {
+        entries.push((String::from_str(alloc, text)?, number))?;
+    }
+    let mut arena = NodeArena::<String, usize, 2>::new(alloc);
+    let Err(fault) = load(alloc, &mut arena, entries) else {
+        panic!(rt; "loaded");
+    };
+    assert!(rt; fault.refusal == LoadRefusal::Prefix(0));
+    Ok(())
+}

@@ -1,0 +1,82 @@
+// The matches of a root with a key: the cheap one, and the one with the whole prefix.
+ghost use Rattle.art_tree.specs.Search.{HasTree};
+
+use super::*;
+use std::cmp::Ordering;
+
+// The length of the prefix and whether some of it was passed over, or how many bytes match and the
+// prefix's byte after them.
+type Cheap = Result<(usize, bool), (usize, Option<u8>)>;
+
+// The length of the prefix, or how many bytes match, the prefix's byte after them, and the order of
+// the prefix against the key.
+type Full = Result<usize, (usize, u8, Ordering)>;
+
+// The root, a Node4, matches the key so, and names a leaf where it does not store its whole prefix.
+fn check_match<K: AsBytes, const PREFIX_LEN: usize>(
+    rt: &impl Abort,
+    arena: &NodeArena<K, usize, PREFIX_LEN>,
+    root: OpaqueNodePtr<K, usize, PREFIX_LEN>,
+    key: &[u8],
+    cheap: Cheap,
+    full: Full,
+)
+    requires { HasTree K.text arena.now root }
+{
+    let mut reader = ArenaReader::with_budget(arena, 1);
+    let AnyRef::Node4(node) = reader.look(root) else {
+        panic!(rt; "no Node4");
+    };
+    let matched = match node.attempt_pessimistic_match_prefix(key) {
+        Ok(found) => Ok((found.matched_bytes, found.any_implicit_bytes)),
+        Err(mismatch) => Err((mismatch.matched_bytes, mismatch.prefix_byte)),
+    };
+    assert!(rt; matched == cheap);
+    let is_stored = node.prefix_len() <= PREFIX_LEN;
+    let matched = match node.match_full_prefix(arena, key, 0) {
+        Ok(found) => Ok(found.matched_bytes),
+        Err(mismatch) => {
+            assert!(rt; mismatch.leaf_ptr.is_none() == is_stored);
+            let order = mismatch.node_prefix_comparison_to_search_key_segment;
+            Err((mismatch.matched_bytes, mismatch.prefix_byte, order))
+        }
+    };
+    assert!(rt; matched == full);
+}
+
+// The root over two leaves with a prefix of three bytes matches these keys so.
+fn check_matches<const PREFIX_LEN: usize>(
+    rt: &impl Abort,
+    alloc: Global,
+    mut arena: NodeArena<[u8; 4], usize, PREFIX_LEN>,
+    rows: &[(&[u8], Cheap, Full)],
+) -> Result<(), AllocError> {
+    let root = load_all(alloc, &mut arena, vec![in alloc; *b"abc1", *b"abc2"]?)?;
+    for (key, cheap, full) in rows {
+        check_match(rt, &arena, root, key, *cheap, *full);
+    }
+    Ok(())
+}
+
+#[test]
+fn a_root_matches_stored_bytes_alone_or_all(rt: HostRuntime) -> Result<(), Fail> {
+    let alloc = rt.alloc();
+    let rows: [(&[u8], Cheap, Full); 4] = [
+        (b"xyz", Ok((3, true)), Err((0, b'a', Ordering::Less))),
+        (b"ab", Err((2, None)), Err((2, b'c', Ordering::Greater))),
+        (b"b", Err((1, None)), Err((0, b'a', Ordering::Less))),
+        (b"abc", Ok((3, true)), Ok(3)),
+    ];
+    check_matches::<0>(&rt, alloc, NodeArena::new(alloc), &rows)?;
+    check_matches::<2>(&rt, alloc, NodeArena::new(alloc), &rows)?;
+    let rows: [(&[u8], Cheap, Full); 2] = [
+        (
+            b"abd2",
+            Err((2, Some(b'c'))),
+            Err((2, b'c', Ordering::Less)),
+        ),
+        (b"abc", Ok((3, false)), Ok(3)),
+    ];
+    check_matches::<16>(&rt, alloc, NodeArena::new(alloc), &rows)?;
+    Ok(())
+}

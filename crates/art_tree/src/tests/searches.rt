@@ -1,0 +1,171 @@
+// Searches, whatever the nodes store of their prefixes.
+use super::Answer::{Child, Normal, Nothing, Root};
+use super::*;
+
+// The keys are answered so in the tree of these texts.
+fn check_texts<'a, const PREFIX_LEN: usize>(
+    rt: &impl Abort,
+    alloc: Global,
+    mut arena: NodeArena<SliceKey<'a>, usize, PREFIX_LEN>,
+    texts: &[&'a [u8]],
+    rows: &[Row],
+) -> Result<(), AllocError> {
+    let root = load_texts(alloc, &mut arena, texts)?;
+    check(rt, &arena, root, rows);
+    Ok(())
+}
+
+// The same for each of three lengths.
+fn check_always(
+    rt: &impl Abort,
+    alloc: Global,
+    texts: &[&[u8]],
+    rows: &[Row],
+) -> Result<(), AllocError> {
+    check_texts::<0>(rt, alloc, NodeArena::new(alloc), texts, rows)?;
+    check_texts::<2>(rt, alloc, NodeArena::new(alloc), texts, rows)?;
+    check_texts::<16>(rt, alloc, NodeArena::new(alloc), texts, rows)
+}
+
+#[test]
+fn a_prefix_is_compared_where_all_of_it_is_stored(rt: HostRuntime) -> Result<(), Fail> {
+    let alloc = rt.alloc();
+    let texts: [&[u8]; 2] = [b"abc1", b"abc2"];
+    let rows: [Row; 5] = [
+        (b"abc2", Child(1, b'2'), 2),
+        (b"abd2", Nothing, 2),
+        (b"abc", Nothing, 1),
+        (b"", Nothing, 1),
+        (b"abc22", Nothing, 2),
+    ];
+    check_texts::<2>(&rt, alloc, NodeArena::new(alloc), &texts, &rows)?;
+    let rows: [Row; 1] = [(b"abd2", Nothing, 1)];
+    check_texts::<16>(&rt, alloc, NodeArena::new(alloc), &texts, &rows)?;
+    Ok(())
+}
+
+#[test]
+fn paths_end_at_the_leaf(rt: HostRuntime) -> Result<(), Fail> {
+    let texts: [&[u8]; 3] = [b"a1x", b"a1y", b"b"];
+    let rows: [Row; 2] = [
+        (b"a1y", Normal(1, b'a', b'y'), 3),
+        (b"b", Child(2, b'b'), 2),
+    ];
+    check_always(&rt, rt.alloc(), &texts, &rows)?;
+    let texts: [&[u8]; 3] = [b"aa", b"ab", b"b"];
+    let rows: [Row; 1] = [(b"ab", Normal(1, b'a', b'b'), 3)];
+    check_always(&rt, rt.alloc(), &texts, &rows)?;
+    let texts: [&[u8]; 1] = [b""];
+    let rows: [Row; 2] = [(b"", Root(0), 1), (b"a", Nothing, 1)];
+    check_always(&rt, rt.alloc(), &texts, &rows)?;
+    Ok(())
+}
+
+#[test]
+fn nested_keys_are_found(rt: HostRuntime) -> Result<(), Fail> {
+    let texts: [&[u8]; 5] = [b"aaaa", b"aaab", b"aab", b"ab", b"b"];
+    let rows: [Row; 5] = [
+        (b"aaaa", Normal(0, b'a', b'a'), 5),
+        (b"aaab", Normal(1, b'a', b'b'), 5),
+        (b"b", Child(4, b'b'), 2),
+        (b"aaac", Nothing, 4),
+        (b"aaa", Nothing, 4),
+    ];
+    check_always(&rt, rt.alloc(), &texts, &rows)?;
+    Ok(())
+}
+
+#[test]
+fn the_first_and_the_last_byte_lead_on(rt: HostRuntime) -> Result<(), Fail> {
+    let texts: [&[u8]; 3] = [&[0], &[255, 0], &[255, 255]];
+    let rows: [Row; 4] = [
+        (&[255, 255], Normal(2, 255, 255), 3),
+        (&[0], Child(0, 0), 2),
+        (&[255], Nothing, 2),
+        (&[], Nothing, 1),
+    ];
+    check_always(&rt, rt.alloc(), &texts, &rows)?;
+    Ok(())
+}
+
+#[test]
+fn the_greatest_of_all_bytes_is_found(rt: HostRuntime) -> Result<(), Fail> {
+    let alloc = rt.alloc();
+    let mut keys = Vec::new(alloc);
+    for byte in 0..=255u8 {
+        keys.push([byte])?;
+    }
+    let mut arena = NodeArena::<[u8; 1], usize, 0>::new(alloc);
+    let root = load_all(alloc, &mut arena, keys)?;
+    let rows: [Row; 1] = [(&[255], Child(255, 255), 2)];
+    check(&rt, &arena, root, &rows);
+    Ok(())
+}
+
+#[test]
+fn trees_of_one_arena_stay(rt: HostRuntime) -> Result<(), Fail> {
+    let alloc = rt.alloc();
+    let mut arena = NodeArena::<SliceKey, usize, 2>::new(alloc);
+    let texts: [&[u8]; 3] = [b"abc1", b"abc2", b"b"];
+    let first = load_texts(alloc, &mut arena, &texts)?;
+    let texts: [&[u8]; 3] = [b"abc2", b"abd", b"c"];
+    let second = load_texts(alloc, &mut arena, &texts)?;
+    assert!(rt; first != second);
+    let rows: [Row; 2] = [(b"abc2", Normal(1, b'a', b'2'), 3), (b"c", Nothing, 1)];
+    check(&rt, &arena, first, &rows);
+    let rows: [Row; 2] = [(b"abc2", Normal(0, b'a', b'c'), 3), (b"b", Nothing, 1)];
+    check(&rt, &arena, second, &rows);
+    Ok(())
+}
+
+// 200 times `a`, and then each shorter run of `a` with a `b` after it.
+fn nested_200_deep(alloc: Global) -> Result<Vec<Vec<u8>>, AllocError> {
+    let mut keys = Vec::new(alloc);
+    keys.push(vec![in alloc; b'a'; 200]?)?;
+    for less in 1..201 {
+        let mut key = vec![in alloc; b'a'; 200 - less]?;
+        key.push(b'b')?;
+        keys.push(key)?;
+    }
+    Ok(keys)
+}
+
+fn check_nested_200_deep<const PREFIX_LEN: usize>(
+    rt: &impl Abort,
+    alloc: Global,
+    mut arena: NodeArena<Vec<u8>, usize, PREFIX_LEN>,
+) -> Result<(), AllocError> {
+    let root = load_all(alloc, &mut arena, nested_200_deep(alloc)?)?;
+    let rows: [Row; 2] = [
+        (&[b'a'; 200], Normal(0, b'a', b'a'), 201),
+        (b"ab", Normal(199, b'a', b'b'), 3),
+    ];
+    check(rt, &arena, root, &rows);
+    Ok(())
+}
+
+#[test]
+fn keys_nested_200_deep_are_found(rt: HostRuntime) -> Result<(), Fail> {
+    let alloc = rt.alloc();
+    check_nested_200_deep::<0>(&rt, alloc, NodeArena::new(alloc))?;
+    check_nested_200_deep::<2>(&rt, alloc, NodeArena::new(alloc))?;
+    check_nested_200_deep::<16>(&rt, alloc, NodeArena::new(alloc))?;
+    Ok(())
+}
+
+// Each key ends a level above the one before it.
+#[test]
+fn ten_thousand_levels_take_no_stack(rt: HostRuntime) -> Result<(), Fail> {
+    let alloc = rt.alloc();
+    let mut bytes = vec![in alloc; b'a'; 10_000]?;
+    bytes.push(b'b')?;
+    let mut keys = Vec::new(alloc);
+    for start in 0..bytes.len() {
+        keys.push(SliceKey::new(&bytes[start..]))?;
+    }
+    let mut arena = NodeArena::<SliceKey, usize, 16>::new(alloc);
+    let root = load_all(alloc, &mut arena, keys)?;
+    let rows: [Row; 1] = [(&bytes, Normal(0, b'a', b'a'), 10_001)];
+    check(&rt, &arena, root, &rows);
+    Ok(())
+}
