@@ -53,9 +53,12 @@ pub fn load<K: AsBytes, V, const PREFIX_LEN: usize>(
     arena: &mut NodeArena<K, V, PREFIX_LEN>,
     entries: Vec<(K, V)>,
 ) -> Result<OpaqueNodePtr<K, V, PREFIX_LEN>, LoadFault<K, V>>
-    ensures loaded { IfOk result (λ root. (tree : Tree (Pointer K V PREFIX_LEN)) × IsLoaded K.text arena.old arena.new entries.items root tree) }
+    ensures loaded { IfOk result
+        (λ root. (tree : Tree (Pointer K V PREFIX_LEN))
+        × IsLoaded K.text arena.old arena.new entries.items root tree) }
     ensures no_fault { OnOk result (HaveNoFault (texts_of K.text entries.items)) }
-    ensures refusal_due { IfErr result (λ fault. IsDue (texts_of K.text entries.items) fault.refusal) }
+    ensures refusal_due { IfErr result
+        (λ fault. IsDue (texts_of K.text entries.items) fault.refusal) }
     ensures entries_back { IfErr result (λ fault. fault.entries ≡ entries) }
     ensures nodes_kept { OnErr result (SameNodes arena.old arena.new) }
 {
@@ -81,9 +84,12 @@ fn prepare<K: AsBytes, V, const PREFIX_LEN: usize>(
     requires loadable { AreLoadable (texts_of K.text entries.now) }
     ensures nodes_kept { SameNodes arena.old arena.new }
     ensures plan { IfOk result (λ p. IsPlanOf (texts_of K.text entries.now) p.steps.items) }
-    ensures leaves { IfOk result (λ p. (p.leaves.items ≡ []) × (length entries.now ≤ vec_capacity p.leaves)) }
-    ensures pending { IfOk result (λ p. (p.pending.items ≡ []) × (length entries.now ≤ vec_capacity p.pending)) }
-    ensures room { IfOk result (λ p. (kind : _) → kind ≢ NodeType.Leaf → needed kind p.steps.items ≤ room arena.new kind) }
+    ensures leaves { IfOk result
+        (λ p. (p.leaves.items ≡ []) × (length entries.now ≤ vec_capacity p.leaves)) }
+    ensures pending { IfOk result
+        (λ p. (p.pending.items ≡ []) × (length entries.now ≤ vec_capacity p.pending)) }
+    ensures room { IfOk result
+        (λ p. (kind : _) → kind ≢ NodeType.Leaf → needed kind p.steps.items ≤ room arena.new kind) }
     ensures leaf_room { OnOk result (length entries.now ≤ room arena.new NodeType.Leaf) }
 {
     let steps = plan(alloc, entries)?;
@@ -104,7 +110,8 @@ fn reserve_nodes<K: AsBytes, V, const PREFIX_LEN: usize>(
     steps: &[Step],
 ) -> Result<(), AllocError>
     ensures nodes_kept { SameNodes arena.old arena.new }
-    ensures room { OnOk result ((kind : _) → kind ≢ NodeType.Leaf → needed kind steps.now ≤ room arena.new kind) }
+    ensures room { OnOk result
+        ((kind : _) → kind ≢ NodeType.Leaf → needed kind steps.now ≤ room arena.new kind) }
     ensures leaf_room { room arena.new NodeType.Leaf ≡ room arena.old NodeType.Leaf }
 {
     arena.reserve(NodeType::Node4, count_nodes(steps, NodeType::Node4))?;
@@ -125,9 +132,11 @@ fn make<K: AsBytes, V, const PREFIX_LEN: usize>(
     requires leaves { vec_len entries ≤ vec_capacity prepared.leaves }
     requires no_pending { prepared.pending.items ≡ [] }
     requires pending { vec_len entries ≤ vec_capacity prepared.pending }
-    requires room { (kind : _) → kind ≢ NodeType.Leaf → needed kind prepared.steps.items ≤ room arena.old kind }
+    requires room { (kind : _) → kind ≢ NodeType.Leaf →
+        needed kind prepared.steps.items ≤ room arena.old kind }
     requires leaf_room { vec_len entries ≤ room arena.old NodeType.Leaf }
-    ensures { (tree : Tree (Pointer K V PREFIX_LEN)) × IsLoaded K.text arena.old arena.new entries.items result tree }
+    ensures { (tree : Tree (Pointer K V PREFIX_LEN))
+        × IsLoaded K.text arena.old arena.new entries.items result tree }
 {
     let Prepared {
         steps,

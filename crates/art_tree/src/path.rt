@@ -53,7 +53,8 @@ impl<K, V, const PREFIX_LEN: usize> Default for TreePathSearch<K, V, PREFIX_LEN>
 impl<K, V, const PREFIX_LEN: usize> TreePathSearch<K, V, PREFIX_LEN> {
     /// Visits an inner node and takes this byte from it.
     pub fn visit_inner_node(&mut self, inner_node: OpaqueNodePtr<K, V, PREFIX_LEN>, key_byte: u8)
-        ensures { (steps : Steps K V PREFIX_LEN) → StandsFor self.old steps → StandsFor self.new (steps ++ (inner_node, key_byte) ∷ []) }
+        ensures { (steps : Steps K V PREFIX_LEN) → StandsFor self.old steps →
+            StandsFor self.new (steps ++ (inner_node, key_byte) ∷ []) }
     {
         self.path = match self.path {
             TreePath::Root => TreePath::ChildOfRoot {

@@ -69,7 +69,10 @@ fn place_as<
     requires fits { length children.now ≤ N.room }
     requires ascending { IsAscending (key_bytes children.now) }
     requires room { 0 < room arena.old N.TYPE }
-    ensures { IsPlaced arena.old arena.new N.TYPE (node_of PREFIX_LEN (take (end - start) (drop start (text_at K.text arena.old (slab_key leaf)))) children.now) result }
+    ensures { IsPlaced arena.old arena.new N.TYPE
+        (node_of PREFIX_LEN
+        (take (end - start) (drop start (text_at K.text arena.old (slab_key leaf)))) children.now)
+        result }
 {
     let text = arena.as_ref(leaf).key_ref().as_bytes();
     let node: N = inner_node(&text[start..end], children);
@@ -93,7 +96,10 @@ fn place<K: AsBytes, V, const PREFIX_LEN: usize>(
     requires few { length children.now ≤ 256 }
     requires ascending { IsAscending (key_bytes children.now) }
     requires room { 0 < room arena.old (kind_for (length children.now)) }
-    ensures { IsPlaced arena.old arena.new (kind_for (length children.now)) (node_of PREFIX_LEN (take (end - start) (drop start (text_at K.text arena.old (slab_key leaf)))) children.now) result }
+    ensures { IsPlaced arena.old arena.new (kind_for (length children.now))
+        (node_of PREFIX_LEN
+        (take (end - start) (drop start (text_at K.text arena.old (slab_key leaf)))) children.now)
+        result }
 {
     match children.len() {
         0..=4 => place_as::<K, V, PREFIX_LEN, InnerNode4<K, V, PREFIX_LEN>>(
@@ -120,12 +126,15 @@ pub(crate) fn raise<K: AsBytes, V, const PREFIX_LEN: usize>(
     mut pending: Vec<(u8, OpaqueNodePtr<K, V, PREFIX_LEN>)>,
 ) -> OpaqueNodePtr<K, V, PREFIX_LEN>
     requires held { HoldLeaves arena.old leaves.now }
-    requires short { (i : ℕ) → length (Plan.text_at (leaf_texts K.text arena.old leaves.now) i) < 2 ^ 32 }
+    requires short { (i : ℕ) →
+        length (Plan.text_at (leaf_texts K.text arena.old leaves.now) i) < 2 ^ 32 }
     requires plan { IsPlanOf (leaf_texts K.text arena.old leaves.now) steps.now }
-    requires room { (kind : _) → kind ≢ NodeType.Leaf → needed kind steps.now ≤ room arena.old kind }
+    requires room { (kind : _) → kind ≢ NodeType.Leaf →
+        needed kind steps.now ≤ room arena.old kind }
     requires none_pending { pending.items ≡ [] }
     requires memory { length leaves.now ≤ vec_capacity pending }
-    ensures { (tree : Tree (Pointer K V PREFIX_LEN)) × IsRaised K.text arena.old arena.new leaves.now result tree }
+    ensures { (tree : Tree (Pointer K V PREFIX_LEN))
+        × IsRaised K.text arena.old arena.new leaves.now result tree }
 {
     let mut next = 0;
     for step in steps {
