@@ -1,11 +1,11 @@
 -- Indices of pointers: what a write and a removal do to the places that they name.
-use Rattle.std.proofs.Common.{◌≡◌, ℕ, zero, suc, ◌+◌, ◌-◌, ◌<◌, ◌≤◌, ◌≢◌, Bool, cond, List, [], ◌∷◌, ◌++◌, length, get_or, set, take, drop, map, Option, Some, None, IsNone, slice_get, nat_lt, eqb, eq-eqb, count_by, refl, sym, ◌∙◌, ap, subst, arith, if◌then◌else◌, inl, inr}
-use Rattle.std.specs.List.{remove, swap_remove, range_with_len}
+use Rattle.std.proofs.Common.{◌≡◌, ℕ, zero, suc, ◌+◌, ◌-◌, ◌<◌, ◌≤◌, ◌≢◌, cond, List, [], ◌∷◌, ◌++◌, length, get_or, set, take, drop, map, Option, Some, None, IsNone, slice_get, nat_lt, eqb, eq-eqb, count_by, refl, sym, ◌∙◌, ap, subst, arith, if◌then◌else◌, inl, inr}
+use Rattle.std.specs.List.{swap_remove, range_with_len}
 use Rattle.std.specs.List.Sorted.{IsPermutation}
 use Rattle.std.proofs.lemmas.Bool.Decides.{nat_tests}
 use Rattle.std.proofs.lemmas.List.{ext_get_or, get_or-map, get_or_default, get_or_append_left, length-append, get_or-set_same, get_or-set_other, length-map, length-set, set-get_or, map-append, length-drop, length-take, get_or-drop, get_or-take}
-use Rattle.std.proofs.lemmas.List.Sums.{sum_by-cons, sum_by-set, sum_by-remove}
-use Rattle.std.proofs.lemmas.List.Sorted.{IsPermutation-refl, IsPermutation-cons, IsPermutation-remove, IsPermutation-sym, IsPermutation-trans, IsPermutation-map, length_permutation}
+use Rattle.std.proofs.lemmas.List.Sums.{sum_by-cons, sum_by-set}
+use Rattle.std.proofs.lemmas.List.Sorted.{IsPermutation-refl, IsPermutation-map, length_permutation}
 use Rattle.std.specs.Option.{option_map}
 use Rattle.std.proofs.lemmas.Option.{slice_get-get_or, slice_get-map, get_or_from_slice_get}
 use Rattle.std.proofs.lemmas.List.FromFn.{fill_by_all, length-range_with_len}
@@ -18,7 +18,7 @@ use Rattle.art_nodes.specs.Inner.{IsInner, inner_with}
 use Rattle.art_nodes.specs.IndirectNode.{named_pointer, named_pointers, has_index, AreBelow, AreKept, IsIndirectNode}
 use Rattle.art_nodes.proofs.ListLemmas.{slice_get-set_same, slice_get-set_other, slice_get-push_before, slice_get-push_at, length-swap_remove, slice_get-swap_remove_at, slice_get-swap_remove_other, one_if, times, times-cons, times-range, permutation_from_times}
 use Rattle.art_nodes.proofs.ChildMapLaws.{sound_removed}
-use Rattle.art_nodes.proofs.ChildMapLemmas.{cases_eq, eq-false, lt-true, lt-false}
+use Rattle.art_nodes.proofs.ChildMapLemmas.{cases_eq, eq-false}
 
 -- how many places have an index
 abbrev uses : ℕ → List (Option ℕ) → ℕ

@@ -1,4 +1,4 @@
-use Rattle.std.proofs.Common.{rules, arith}
+use Rattle.std.proofs.Common.{rules}
 use Rattle.art_nodes.proofs.SortedLemmas.{gap_at}
 use Rattle.art_nodes.proofs.inner_nodes.inner_node_sorted.find_write_point.Goals as goal
 

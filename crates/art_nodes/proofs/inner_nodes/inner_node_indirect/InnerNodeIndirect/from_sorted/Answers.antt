@@ -1,7 +1,6 @@
-use Rattle.std.proofs.Common.{rules, length, ap, ◌∙◌, sym, subst, arith}
-use Rattle.std.specs.List.{zip}
+use Rattle.std.proofs.Common.{rules, ◌∙◌}
 use Rattle.std.proofs.lemmas.List.{length-map}
-use Rattle.art_nodes.specs.Inner.{IsInner, indirect_room, inner_with}
+use Rattle.art_nodes.specs.Inner.{IsInner, indirect_room}
 use Rattle.art_nodes.proofs.PlaceLemmas.{zip-parts}
 use Rattle.art_nodes.proofs.inner_nodes.inner_node_indirect.InnerNodeIndirect.from_sorted.Goals as goal
 

@@ -1,4 +1,4 @@
-use Rattle.std.proofs.Common.{◌≡◌, ◌+◌, ◌<◌, length, None, sym, ◌∙◌, arith, rules}
+use Rattle.std.proofs.Common.{◌<◌, length, sym, arith, rules}
 use Rattle.art_nodes.proofs.IndirectLemmas.{named_within, child_at-named, child_at-unnamed}
 use Rattle.art_nodes.proofs.inner_nodes.inner_node_indirect.InnerNodeIndirectInnerNodeCommon.lookup_child.Goals as goal
 

@@ -1,4 +1,4 @@
-use Rattle.std.proofs.Common.{◌≡◌, ◌+◌, ◌-◌, ◌<◌, length, get_or, None, Some, refl, sym, ap, ◌∙◌, arith, rules}
+use Rattle.std.proofs.Common.{◌<◌, length, get_or, Some, refl, sym, ap, ◌∙◌, arith, rules}
 use Rattle.art_nodes.proofs.IndirectLemmas.{pointers_counted, named_within, child_at-named, child_at-unnamed, without_child-unnamed, indirect_removed, without_child-last}
 use Rattle.art_nodes.proofs.inner_nodes.inner_node_indirect.InnerNodeIndirectInnerNodeCommon.remove_child.Goals as goal
 

@@ -1,8 +1,8 @@
-use Rattle.std.proofs.Common.{◌≡◌, ◌+◌, ◌<◌, length, set, drop, None, Some, [], ◌∷◌, ◌++◌, refl, sym, ◌∙◌, subst, arith, rules}
+use Rattle.std.proofs.Common.{◌≡◌, ◌+◌, ◌<◌, length, set, drop, Some, refl, sym, ◌∙◌, subst, arith, rules}
 use Rattle.std.proofs.lemmas.List.{length-set, take_at}
 use Rattle.art_nodes.specs.ChildMap.{table_children}
 use Rattle.art_nodes.specs.Inner.{IsInner, indirect_room, inner_with}
-use Rattle.art_nodes.specs.IndirectNode.{named_pointers, AreKept}
+use Rattle.art_nodes.specs.IndirectNode.{named_pointers}
 use Rattle.art_nodes.proofs.ChildMapLaws.{sound_written}
 use Rattle.art_nodes.proofs.IndirectLemmas.{indirect_fields, pointers_counted, IsNamedOnce, named_within, named_once-push, kept-push, room-unnamed, with_child-named, with_child-pushed}
 use Rattle.art_nodes.proofs.inner_nodes.inner_node_indirect.InnerNodeIndirectInnerNodeCommon.write_child.Goals as goal

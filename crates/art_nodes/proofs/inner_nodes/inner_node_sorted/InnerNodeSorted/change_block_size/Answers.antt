@@ -1,4 +1,4 @@
-use Rattle.std.proofs.Common.{length, arith, ap, rules}
+use Rattle.std.proofs.Common.{length, arith, ap}
 use Rattle.art_nodes.proofs.SortedLemmas.{length-zip}
 use Rattle.art_nodes.proofs.inner_nodes.inner_node_sorted.InnerNodeSorted.change_block_size.Goals as goal
 

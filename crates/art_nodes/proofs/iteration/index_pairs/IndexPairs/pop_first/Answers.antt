@@ -1,4 +1,4 @@
-use Rattle.std.proofs.Common.{◌+◌, ◌<◌, length, map, drop, slice_get, sym, ap, subst, arith}
+use Rattle.std.proofs.Common.{◌+◌, ◌<◌, length, map, drop, slice_get, ap, subst, arith}
 use Rattle.std.proofs.lemmas.List.{drop-map, length-drop, take_rest}
 use Rattle.art_nodes.specs.IndexTable.{index_of}
 use Rattle.art_nodes.specs.IndirectNode.{AreBelow}
