@@ -1,5 +1,5 @@
 -- Ascending bytes with children beside them, and what an edit at one place does to the child map.
-use Rattle.std.proofs.Common.{◌≡◌, ℕ, zero, suc, ◌+◌, ◌-◌, ◌<◌, ◌≤◌, List, [], ◌∷◌, length, get_or, set, map, Some, None, slice_get, refl, sym, ◌∙◌, ap, subst, arith}
+use Rattle.std.proofs.Common.{◌≡◌, ℕ, zero, suc, ◌+◌, ◌-◌, ◌<◌, ◌≤◌, ◌≢◌, List, [], ◌∷◌, length, get_or, set, map, Some, None, slice_get, refl, sym, ◌∙◌, ap, subst, arith}
 use Rattle.std.specs.List.{insert, refill, remove, zip}
 use Rattle.std.proofs.lemmas.List.{length-set}
 use Rattle.std.proofs.lemmas.List.Edits.{length-insert, length-remove}
@@ -61,6 +61,14 @@ module _ {H : Type 0} where
       let at_rest : IsByteAt bytes byte place = record { in_range = omega (arith, at.in_range); same = at.same } in
       let greater : b < byte = omega (arith, ascending-low (suc b) bytes asc.2 place at_rest.in_range, at.same) in
       rw (child_at-later b byte x (zip bytes children) (λ e. omega arith)) (child_at-zip (suc b) bytes children byte place (omega arith) asc.2 at_rest)
+
+  -- and a byte at no place has none
+  pub child_at-zip_absent : (bytes : List ℕ) (children : List H) (byte : ℕ) → length children ≡ length bytes → ((k : ℕ) → k < length bytes → get_or bytes k 0 ≢ byte) → child_at (zip bytes children) byte ≡ None
+  child_at-zip_absent [] children byte same absent = refl
+  child_at-zip_absent (b ∷ bytes) [] byte same absent = absurd (omega arith)
+  child_at-zip_absent (b ∷ bytes) (x ∷ children) byte same absent =
+      child_at-later b byte x (zip bytes children) (absent 0 (omega arith))
+      ∙ child_at-zip_absent bytes children byte (omega arith) (λ k below. absent (suc k) (omega arith))
 
   -- writing over the child at a place writes the child under the byte there
   pub with_child-zip_set : (low : ℕ) (bytes : List ℕ) (children : List H) (byte place : ℕ) (child : H) → length children ≡ length bytes → IsAscendingFrom low bytes → IsByteAt bytes byte place → with_child (zip bytes children) byte child ≡ zip bytes (set children place child)

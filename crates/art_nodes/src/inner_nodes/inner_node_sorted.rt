@@ -1,5 +1,5 @@
 //! Inner nodes that keep their bytes sorted: `Node4` and `Node16`.
-ghost use Rattle.std.specs.Prelude.{◌≡◌, ◌≤◌, IfOk, IfErr, length};
+ghost use Rattle.std.specs.Prelude.{◌≡◌, ◌≢◌, ℕ, ◌<◌, ◌≤◌, IfOk, IfErr, IfSome, IfNone, length, slice_index};
 ghost use Rattle.art_nodes.specs.ChildMap.{IsAscending};
 ghost use Rattle.art_nodes.specs.WritePoint.{IsByteAt, IsGapFor};
 
@@ -164,6 +164,14 @@ pub(crate) fn copy_of<T: Copy + Default, const SIZE: usize>(items: &[T]) -> Arra
     copy
 }
 
+/// Where a byte stands among others, if it does.
+fn place_of(keys: &[u8], key_fragment: u8) -> Option<usize>
+    ensures found { IfSome result (IsByteAt keys.now key_fragment) }
+    ensures absent { IfNone result ((k : ℕ) → k < length keys.now → slice_index keys.now k ≢ key_fragment) }
+{
+    keys.iter().position(|key| *key == key_fragment)
+}
+
 /// Where a byte stands among ascending bytes, or where it would go.
 fn find_write_point(keys: &[u8], key_fragment: u8) -> Result<usize, usize>
     requires { IsAscending keys.now }
@@ -215,9 +223,9 @@ impl<K, V, const PREFIX_LEN: usize, const SIZE: usize> InnerNodeCommon<K, V, PRE
     }
 
     fn lookup_child(&self, key_fragment: u8) -> Option<OpaqueNodePtr<K, V, PREFIX_LEN>> {
-        match find_write_point(&self.keys, key_fragment) {
-            Ok(index) => Some(self.child_pointers[index]),
-            Err(_) => None,
+        match place_of(&self.keys, key_fragment) {
+            Some(index) => Some(self.child_pointers[index]),
+            None => None,
         }
     }
 
