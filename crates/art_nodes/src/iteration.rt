@@ -3,5 +3,4 @@ pub(crate) mod bounds;
 pub(crate) mod child_iter;
 pub(crate) mod index_pairs;
 pub(crate) mod sorted_pairs;
-pub(crate) mod table;
 pub(crate) mod table_pairs;

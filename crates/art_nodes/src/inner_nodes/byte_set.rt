@@ -16,6 +16,7 @@ impl ByteSet {
         ByteSet { words: [0; 4] }
     }
 
+    #[inline]
     pub(crate) fn contains(&self, byte: u8) -> bool
         ensures { result ≡ has_byte self.now.words byte }
     {
@@ -23,6 +24,7 @@ impl ByteSet {
         (self.words[byte / 64] >> (byte % 64)) & 1 == 1
     }
 
+    #[inline]
     pub(crate) fn insert(&mut self, byte: u8)
         ensures added { has_byte self.new.words byte ≡ true }
         ensures others_kept { (other : ℕ) → other ≢ byte → has_byte self.new.words other ≡ has_byte self.old.words other }
@@ -31,6 +33,7 @@ impl ByteSet {
         self.words[byte / 64] |= 1 << (byte % 64);
     }
 
+    #[inline]
     pub(crate) fn remove(&mut self, byte: u8)
         ensures removed { has_byte self.new.words byte ≡ false }
         ensures others_kept { (other : ℕ) → other ≢ byte → has_byte self.new.words other ≡ has_byte self.old.words other }
@@ -40,6 +43,7 @@ impl ByteSet {
     }
 
     /// The first byte that is not before `from`.
+    #[inline]
     pub(crate) fn first_from(&self, from: usize) -> Option<u8>
         ensures found { IfSome result (λ byte. (from ≤ byte) × (has_byte self.now.words byte ≡ true)) }
         ensures first { IfSome result (λ byte. HasNoByte self.now.words from byte) }
@@ -55,6 +59,7 @@ impl ByteSet {
     }
 
     /// The last byte below `end`.
+    #[inline]
     pub(crate) fn last_before(&self, end: usize) -> Option<u8>
         requires { end ≤ 256 }
         ensures found { IfSome result (λ byte. (byte < end) × (has_byte self.now.words byte ≡ true)) }
@@ -74,6 +79,7 @@ impl ByteSet {
 }
 
 // The lowest set bit that is not below `from`.
+#[inline]
 fn first_bit(word: u64, from: usize) -> Option<usize>
     requires { from < 64 }
     ensures found { IfSome result (λ bit. (from ≤ bit) × (bit < 64) × (bit_at word bit ≡ 1)) }
@@ -89,6 +95,7 @@ fn first_bit(word: u64, from: usize) -> Option<usize>
 }
 
 // The highest set bit below `end`.
+#[inline]
 fn last_bit(word: u64, end: usize) -> Option<usize>
     requires { (0 < end) × (end ≤ 64) }
     ensures found { IfSome result (λ bit. (bit < end) × (bit_at word bit ≡ 1)) }

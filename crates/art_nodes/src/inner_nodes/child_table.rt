@@ -47,6 +47,7 @@ impl<H: Copy> ChildTable<H> {
         }
     }
 
+    #[inline]
     pub(crate) fn child(&self, byte: u8) -> Option<H>
         ensures { result ≡ get_or self.now byte None }
     {
@@ -57,6 +58,7 @@ impl<H: Copy> ChildTable<H> {
         }
     }
 
+    #[inline]
     pub(crate) fn fill(&mut self, byte: u8, child: H)
         ensures { self.new ≡ set self.old byte (Some child) }
     {
@@ -64,6 +66,7 @@ impl<H: Copy> ChildTable<H> {
         self.children[usize::from(byte)] = child;
     }
 
+    #[inline]
     pub(crate) fn clear(&mut self, byte: u8)
         ensures { self.new ≡ set self.old byte None }
     {
@@ -71,6 +74,7 @@ impl<H: Copy> ChildTable<H> {
     }
 
     /// The children with their bytes.
+    #[inline]
     pub(crate) fn pairs(&self) -> TablePairs<'_, H>
         ensures { result ≡ table_children 0 self.now }
     {

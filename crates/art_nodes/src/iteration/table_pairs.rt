@@ -1,7 +1,6 @@
 //! The pairs of a table of 256 places that an iterator has left.
-ghost use Rattle.std.specs.Prelude.{◌≡◌, ◌+◌, ◌<◌, ◌≤◌, ℕ, length, [], ◌∷◌, ◌++◌, drop, take, IfNone, IfSome};
+ghost use Rattle.std.specs.Prelude.{◌≡◌, ◌+◌, ◌<◌, ◌≤◌, length, [], ◌∷◌, ◌++◌, IfNone, IfSome};
 ghost use Rattle.std.specs.Iterator.{YieldsFirst, YieldsLast};
-ghost use Rattle.art_nodes.specs.ChildMap.{table_children};
 ghost use Rattle.art_nodes.specs.ChildTable.{filled_within};
 
 use crate::inner_nodes::byte_set::ByteSet;
@@ -30,6 +29,7 @@ impl<'a, H> Model for TablePairs<'a, H> {
 }
 
 impl<'a, H: Copy> TablePairs<'a, H> {
+    #[inline]
     pub(crate) fn new(filled: &'a ByteSet, children: &'a [H], bytes: Range<usize>) -> Self
         requires all_places { length children.now ≡ 256 }
         requires fits { bytes.end ≤ 256 }
@@ -43,6 +43,7 @@ impl<'a, H: Copy> TablePairs<'a, H> {
         }
     }
 
+    #[inline]
     pub(crate) fn next(&mut self) -> Option<(u8, H)>
         ensures { YieldsFirst (λ pairs. pairs) self.old result self.new }
     {
@@ -51,6 +52,7 @@ impl<'a, H: Copy> TablePairs<'a, H> {
         Some((byte, child))
     }
 
+    #[inline]
     pub(crate) fn next_back(&mut self) -> Option<(u8, H)>
         ensures { YieldsLast (λ pairs. pairs) self.old result self.new }
     {
@@ -61,6 +63,7 @@ impl<'a, H: Copy> TablePairs<'a, H> {
 }
 
 // The first child from one byte on, below another, with its byte.
+#[inline]
 fn first_within<H: Copy>(
     filled: &ByteSet,
     children: &[H],
@@ -84,6 +87,7 @@ fn first_within<H: Copy>(
 }
 
 // The last child from one byte on, below another, with its byte.
+#[inline]
 fn last_within<H: Copy>(
     filled: &ByteSet,
     children: &[H],
@@ -104,38 +108,4 @@ fn last_within<H: Copy>(
     } else {
         None
     }
-}
-
-/// The first place that is not empty, and what is in it.
-pub(crate) fn first_occupied<T: Copy>(places: &[Option<T>]) -> Option<(usize, T)>
-    ensures in_range { IfSome result (λ found. found.0 < length places.now) }
-    ensures found { IfSome result (λ found. (byte : ℕ) →
-        table_children byte places.now ≡
-        (byte + found.0, found.1) ∷ table_children (byte + found.0 + 1) (drop (found.0 + 1) places.now)) }
-    ensures empty { IfNone result ((byte : ℕ) → table_children byte places.now ≡ []) }
-{
-    for (place, child) in places.iter().enumerate() {
-        if let Some(child) = *child {
-            return Some((place, child));
-        }
-    }
-    None
-}
-
-/// The last place that is not empty, and what is in it.
-pub(crate) fn last_occupied<T: Copy>(places: &[Option<T>]) -> Option<(usize, T)>
-    ensures in_range { IfSome result (λ found. found.0 < length places.now) }
-    ensures found { IfSome result (λ found. (byte : ℕ) →
-        table_children byte places.now ≡
-        table_children byte (take found.0 places.now) ++ (byte + found.0, found.1) ∷ []) }
-    ensures empty { IfNone result ((byte : ℕ) → table_children byte places.now ≡ []) }
-{
-    let mut end = places.len();
-    while end > 0 {
-        end -= 1;
-        if let Some(child) = places[end] {
-            return Some((end, child));
-        }
-    }
-    None
 }
