@@ -49,6 +49,10 @@ impl ByteSet {
         ensures first { IfSome result (λ byte. HasNoByte self.now.words from byte) }
         ensures none { IfNone result (HasNoByte self.now.words from 256) }
     {
+        // Where bytes stand side by side this is the next one.
+        if from < 256 && self.contains(from as u8) {
+            return Some(from as u8);
+        }
         for index in from / 64..4 {
             let start = 64 * index;
             if let Some(bit) = first_bit(self.words[index], from.saturating_sub(start)) {
