@@ -1,6 +1,7 @@
 //! The words of bits of a direct node, which no contract states.
 use super::*;
 use crate::fixtures::{leaf, node_of};
+use crate::iteration::bounds::valid_range_bounds;
 use std::ops::Bound::{Excluded, Included, Unbounded};
 use std::process::Abort;
 
@@ -8,6 +9,7 @@ type Node = InnerNodeDirect<u8, u8, 16>;
 
 // The bytes that the range has, from the front and from the back. The leaf under a byte has it as key.
 fn has(rt: &impl Abort, node: &Node, start: Bound<u8>, end: Bound<u8>, bytes: &[u8]) {
+    assert!(rt; valid_range_bounds(start, end));
     let mut pairs = node.range(start, end);
     for byte in bytes {
         assert!(rt;
