@@ -53,6 +53,7 @@ fn a_bit_is_set_where_a_child_stands(rt: HostRuntime) {
     assert!(rt; node.remove_child(63) == Some(leaf(63)));
     assert!(rt; node.remove_child(192) == Some(leaf(192)));
     assert!(rt; node.remove_child(192) == None);
+    assert!(rt; node.num_children() == 4);
     assert!(rt; node.min() == (64, leaf(64)));
     assert!(rt; node.max() == (191, leaf(191)));
     let ends = (1 << 63) + 1;
@@ -70,6 +71,7 @@ fn the_first_and_the_last_byte_have_a_bit(rt: HostRuntime) {
     let copy = node.clone();
     assert!(rt; node.remove_child(255) == Some(leaf(255)));
     assert!(rt; node.remove_child(200) == Some(leaf(200)));
+    assert!(rt; node.num_children() == 1);
     assert!(rt; node.max() == (0, leaf(0)));
     has(&rt, &copy, Unbounded, Unbounded, &[0, 200, 255]);
 }
