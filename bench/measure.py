@@ -1,5 +1,6 @@
 """What both benches measure of a run of the program: seconds, output and peak memory."""
 
+import fcntl
 import pathlib
 import subprocess
 import time
@@ -23,13 +24,14 @@ def seconds_of_run(words, given_path):
 def output_and_peak(words, given_path):
     """What the program writes, and its peak memory in bytes.
 
-    The program takes no memory once it writes, and it cannot end before its output is read. So
-    its peak is looked up when the first byte has come.
+    The program takes no memory once it writes, and it cannot end before its output is read, since
+    the pipe holds less. So its peak is looked up when the first byte has come.
     """
     with open(given_path, "rb") as given:
         with subprocess.Popen(
             [LAUNCHER, *words], stdin=given, stdout=subprocess.PIPE, bufsize=0
         ) as child:
+            fcntl.fcntl(child.stdout, fcntl.F_SETPIPE_SZ, 4096)
             first = child.stdout.read(1)
             status = pathlib.Path(f"/proc/{child.pid}/status").read_text()
             output = first + child.stdout.read()
