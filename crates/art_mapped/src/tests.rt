@@ -189,6 +189,11 @@ fn long_sequences_come_back(rt: HostRuntime) -> Result<(), Fail> {
 fn only_sequences_and_tuples_take_memory(rt: HostRuntime) {
     assert!(rt; !<ToUBE as BytesMapping<u64>>::ALLOCATES);
     assert!(rt; !<ToIBE as BytesMapping<NonZeroI64>>::READ_ALLOCATES);
+    assert!(rt; !<ToIBE as BytesMapping<NonZeroI32>>::ALLOCATES);
+    assert!(rt; !<ToIBE as BytesMapping<NonZeroI128>>::ALLOCATES);
+    assert!(rt; !<ToUBE as BytesMapping<NonZeroU64>>::ALLOCATES);
+    assert!(rt; !<ToUBE as BytesMapping<NonZeroU128>>::ALLOCATES);
+    assert!(rt; !<ToUBE as BytesMapping<NonZeroUsize>>::ALLOCATES);
     assert!(rt; !<ToOctets as BytesMapping<Ipv4Addr>>::ALLOCATES);
     assert!(rt; !<ToOctets as BytesMapping<Ipv6Addr>>::READ_ALLOCATES);
     assert!(rt; <ToUBE as BytesMapping<[u8; 3]>>::ALLOCATES);

@@ -249,13 +249,9 @@ where
 fn keys_are_in_order_and_none_begins_another(rt: HostRuntime) -> Result<(), Fail> {
     let alloc = rt.alloc();
     keys_ascend::<ToUBE, u16>(&rt, alloc, 1, 256)?;
-    keys_ascend::<ToIBE, i128>(&rt, alloc, -1, 0)?;
-    keys_ascend::<ToUBE, NonZeroU64>(&rt, alloc, NonZeroU64::MIN, NonZeroU64::MAX)?;
     keys_ascend::<ToIBE, NonZeroIsize>(&rt, alloc, NonZeroIsize::MIN, NonZeroIsize::MAX)?;
     keys_ascend::<ToUBE, [u8; 3]>(&rt, alloc, [1, 2, 3], [1, 3, 0])?;
-    keys_ascend::<ToIBE, [i64; 2]>(&rt, alloc, [-1, 5], [0, -5])?;
     keys_ascend::<ToOctets, Ipv4Addr>(&rt, alloc, Ipv4Addr::LOCALHOST, Ipv4Addr::BROADCAST)?;
-    keys_ascend::<ToOctets, Ipv6Addr>(&rt, alloc, Ipv6Addr::UNSPECIFIED, Ipv6Addr::LOCALHOST)?;
     let front = Mapped::<ToIBE, Vec<i8>>::new(alloc, vec![in alloc; 7]?)?;
     let whole = Mapped::<ToIBE, Vec<i8>>::new(alloc, vec![in alloc; 7, 7]?)?;
     assert_eq!(rt; order_of_texts(&front, &whole), Ordering::Less);

@@ -88,6 +88,10 @@ fn copy_tuple_as_bytes(rt: HostRuntime) -> Result<(), Fail> {
     assert!(rt; host_back(alloc, Ipv4Addr::LOCALHOST, 7)? == (Ipv4Addr::LOCALHOST, 7));
     let text: Vec<u8> = vec![in alloc; 7; 1000]?;
     assert_eq!(rt; key_back(alloc, text)?.len(), 1000);
+    type Four = ConcatTuple<(ToUBE, ToUBE, ToUBE, ToUBE)>;
+    written::<Four, (u8, u8, u8, u8)>(&rt, alloc, (1, 2, 3, 255), &[1, 2, 3, 255])?;
+    type Five = ConcatTuple<(ToUBE, ToUBE, ToUBE, ToUBE, ToIBE)>;
+    written::<Five, (u8, u16, u8, u8, i8)>(&rt, alloc, (1, 2, 3, 4, -1), &[1, 0, 2, 3, 4, 127])?;
     Ok(())
 }
 
@@ -103,13 +107,9 @@ fn concat_tuple_ord_matches_tuple_ord(rt: HostRuntime) -> Result<(), Fail> {
         (none, 212, high),
         (here, 212, high),
     ];
-    ascend::<By, (Ipv4Addr, i32, Ipv6Addr)>(&rt, alloc, tuples[0], tuples[1])?;
-    ascend::<By, (Ipv4Addr, i32, Ipv6Addr)>(&rt, alloc, tuples[1], tuples[2])?;
-    ascend::<By, (Ipv4Addr, i32, Ipv6Addr)>(&rt, alloc, tuples[2], tuples[3])?;
-    type Four = ConcatTuple<(ToUBE, ToUBE, ToUBE, ToUBE)>;
-    ascend::<Four, (u8, u8, u8, u8)>(&rt, alloc, (1, 2, 3, 255), (1, 2, 4, 0))?;
-    type Five = ConcatTuple<(ToUBE, ToUBE, ToUBE, ToUBE, ToIBE)>;
-    ascend::<Five, (u8, u16, u8, u8, i8)>(&rt, alloc, (1, 2, 3, 4, -1), (1, 2, 3, 4, 0))?;
+    for place in 0..3 {
+        ascend::<By, (Ipv4Addr, i32, Ipv6Addr)>(&rt, alloc, tuples[place], tuples[place + 1])?;
+    }
     type Six = ConcatTuple<(ToUBE, ToUBE, ToUBE, ToUBE, ToIBE, ToUBE)>;
     ascend::<Six, (u8, u16, u8, u8, i8, u8)>(&rt, alloc, (1, 2, 3, 4, 5, 6), (1, 2, 3, 4, 5, 7))?;
     Ok(())
