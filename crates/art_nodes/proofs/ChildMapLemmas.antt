@@ -3,7 +3,7 @@ use Rattle.std.proofs.Common.{◌≡◌, ℕ, zero, suc, ◌+◌, ◌<◌, ◌�
 use Rattle.std.proofs.lemmas.Bool.{cases_lt}
 use Rattle.std.specs.Option.{is_some}
 use Rattle.std.proofs.lemmas.Bool.Decides.{nat_tests}
-use Rattle.art_nodes.specs.ChildMap.{ChildMap, IsAscending, IsAscendingFrom, child_at, with_child, without_child, key_bytes}
+use Rattle.art_nodes.specs.ChildMap.{ChildMap, IsAscendingFrom, child_at, with_child, without_child, key_bytes}
 
 -- the tests of two numbers, computed
 pub lt-true : (a b : ℕ) → a < b → nat_lt a b ≡ true

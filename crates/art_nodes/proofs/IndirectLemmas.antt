@@ -1,5 +1,5 @@
 -- Indices of pointers: what a write and a removal do to the places that they name.
-use Rattle.std.proofs.Common.{◌≡◌, ℕ, zero, suc, ◌+◌, ◌-◌, ◌<◌, ◌≤◌, ◌≢◌, cond, List, [], ◌∷◌, ◌++◌, length, get_or, set, take, drop, map, Option, Some, None, IsNone, slice_get, nat_lt, eqb, eq-eqb, count_by, refl, sym, ◌∙◌, ap, subst, arith, if◌then◌else◌, inl, inr}
+use Rattle.std.proofs.Common.{◌≡◌, ℕ, zero, suc, ◌+◌, ◌-◌, ◌<◌, ◌≤◌, ◌≢◌, cond, List, [], ◌∷◌, ◌++◌, length, get_or, set, take, drop, map, Option, Some, None, slice_get, nat_lt, eqb, eq-eqb, count_by, refl, sym, ◌∙◌, ap, subst, arith, if◌then◌else◌, inl, inr}
 use Rattle.std.specs.List.{swap_remove, range_with_len}
 use Rattle.std.specs.List.Sorted.{IsPermutation}
 use Rattle.std.proofs.lemmas.Bool.Decides.{nat_tests}
@@ -95,6 +95,17 @@ module _ {H : Type 0} where
   child_at-unnamed pointers indices byte within fits empty =
       child_at-table 0 (named_pointers pointers indices) byte byte (omega arith) (simp length-map (omega arith))
       ∙ at_place pointers indices byte within ∙ ap (named_pointer pointers) empty
+
+  -- a byte with no child has no index
+  pub unnamed-absent : (pointers : List H) (indices : List (Option ℕ)) (byte : ℕ) (d : H) → IsNamedOnce indices (length pointers) → byte < length indices → length indices ≤ 256 → child_at (table_children 0 (named_pointers pointers indices)) byte ≡ None → get_or indices byte None ≡ None
+  unnamed-absent pointers indices byte d once within fits absent = at_index (get_or indices byte None) refl
+    where
+      at_index : (x : Option ℕ) → x ≡ get_or indices byte None → get_or indices byte None ≡ None
+      at_index None is = sym is
+      at_index (Some index) is =
+          let found = child_at-named pointers indices byte index d within fits (sym is) (named_within indices (length pointers) byte index once within (sym is)) in
+          let wrong = sym found ∙ absent in
+          cc
 
   -- tables that differ at one place
   changed_at : (f g : Option ℕ → Option H) (xs ys : List (Option ℕ)) (place : ℕ) (now : Option H) → length ys ≡ length xs → place < length xs → g (get_or ys place None) ≡ now → ((k : ℕ) → k < length xs → k ≢ place → g (get_or ys k None) ≡ f (get_or xs k None)) → map g ys ≡ set (map f xs) place now
@@ -379,13 +390,6 @@ module _ {H : Type 0} (pointers : List H) (indices : List (Option ℕ)) (byte : 
       let nothing = at_place pointers indices byte within ∙ ap (named_pointer pointers) empty in
       without_child-table 0 (named_pointers pointers indices) byte byte (omega arith) named_fits
       ∙ ap (λ x. table_children 0 (set (named_pointers pointers indices) byte x)) (sym nothing) ∙ ap (table_children 0) (set-get_or (named_pointers pointers indices) byte None)
-
-  -- a byte with no index has room, where the node has room for it
-  pub room-unnamed : (room : ℕ) → IsNamedOnce indices (length pointers) → get_or indices byte None ≡ None → (IsNone (child_at (table_children 0 (named_pointers pointers indices)) byte) → length (table_children 0 (named_pointers pointers indices)) < room) → length pointers < room
-  room-unnamed room once empty asks =
-      let absent = child_at-unnamed pointers indices byte within (omega arith) empty in
-      let left = asks (rw absent refl) in
-      omega (arith, left, length-named pointers indices once)
 
 -- the header counts the pointers
 pub pointers_counted : {H : Type 0} {prefix_room room : ℕ} {header : Header} {indices : List (Option ℕ)} {bytes : List ℕ} {pointers : List H} → IsIndirectNode prefix_room room header indices bytes pointers → header.count ≡ length pointers

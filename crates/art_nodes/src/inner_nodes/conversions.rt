@@ -1,39 +1,10 @@
 //! The same node in another representation.
-ghost use Rattle.std.specs.Prelude.{◌≡◌, ◌≤◌, [], length};
-ghost use Rattle.art_nodes.specs.Inner.{with_children};
+ghost use Rattle.std.specs.Prelude.{◌≡◌};
 
 use crate::inner_nodes::inner_node_direct::InnerNodeDirect;
 use crate::inner_nodes::inner_node_indirect::InnerNodeIndirect;
 use crate::inner_nodes::inner_node_sorted::InnerNodeSorted;
 use crate::inner_nodes::node::InnerNodeCommon;
-use crate::sealed::InThisCrate;
-
-// Copies each child of one node once into another, which has none.
-fn copy_children<K, V, const PREFIX_LEN: usize, S, T>(source: &S, target: &mut T)
-where
-    S: InnerNodeCommon<K, V, PREFIX_LEN>,
-    T: InnerNodeCommon<K, V, PREFIX_LEN>,
-    requires empty { (T.inner target.old).children ≡ [] }
-    requires fits { length (S.inner source.now).children ≤ T.room }
-    ensures { T.inner target.new ≡ with_children (T.inner target.old) (S.inner source.now).children }
-{
-    for (byte, child) in source.iter() {
-        target.write_child(byte, child);
-    }
-}
-
-// The same node in another representation, which the children have to fit.
-fn converted<K, V, const PREFIX_LEN: usize, S, T>(source: &S) -> T
-where
-    S: InnerNodeCommon<K, V, PREFIX_LEN>,
-    T: InnerNodeCommon<K, V, PREFIX_LEN>,
-    requires { length (S.inner source.now).children ≤ T.room }
-    ensures { T.inner result ≡ S.inner source.now }
-{
-    let mut target = T::from_prefix(InThisCrate(()), source.stored_prefix(), source.prefix_len());
-    copy_children(source, &mut target);
-    target
-}
 
 /// The same node with a place for each byte.
 impl<'a, K, V, const PREFIX_LEN: usize, const SIZE: usize> From<
@@ -43,11 +14,22 @@ impl<'a, K, V, const PREFIX_LEN: usize, const SIZE: usize> From<
 
     ghost from_gives = { λ node direct. direct ≡ node.now };
 
-    #[tactic(auto, using(crate::proofs::ChildMapLaws::length_ascending))]
     fn from(node: &'a InnerNodeSorted<K, V, PREFIX_LEN, SIZE>) -> Self {
-        prove!(node.num_children() <= 256);
-        converted(node)
+        direct_from_sorted(node)
     }
+}
+
+// The same node with a place for each byte.
+fn direct_from_sorted<K, V, const PREFIX_LEN: usize, const SIZE: usize>(
+    node: &InnerNodeSorted<K, V, PREFIX_LEN, SIZE>,
+) -> InnerNodeDirect<K, V, PREFIX_LEN>
+    ensures { result ≡ node.now }
+{
+    let mut direct = InnerNodeDirect::from_header(node.header().clone().unwrap());
+    for (byte, child) in node.iter() {
+        direct.write_child(byte, child);
+    }
+    direct
 }
 
 /// The same node with a place for each byte.
@@ -86,7 +68,11 @@ impl<K, V, const PREFIX_LEN: usize, const SIZE: usize> InnerNodeIndirect<K, V, P
         requires { length node.now.children ≤ indirect_room SIZE }
         ensures { result ≡ node.now }
     {
-        converted(node)
+        let mut indirect = Self::from_header(node.header().clone().unwrap());
+        for (byte, child) in node.pairs() {
+            indirect.add_child(byte, child);
+        }
+        indirect
     }
 
     /// The same node with an index for each byte. The children have to fit: at most `SIZE` of
@@ -110,7 +96,11 @@ impl<K, V, const PREFIX_LEN: usize, const SIZE: usize> InnerNodeSorted<K, V, PRE
         requires { length node.now.children ≤ SIZE }
         ensures { result ≡ node.now }
     {
-        converted(node)
+        let mut sorted = Self::from_header(node.header().clone().unwrap());
+        for (byte, child) in node.pairs() {
+            sorted.write_child_unchecked(byte, child);
+        }
+        sorted
     }
 
     /// The same node with its bytes sorted. The children have to fit: at most `SIZE` of them.

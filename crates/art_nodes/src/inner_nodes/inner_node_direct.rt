@@ -6,6 +6,7 @@ use crate::inner_nodes::prefix_match::{
     match_length, match_stored,
 };
 use crate::iteration::child_iter::ChildIter;
+use crate::iteration::table_pairs::TablePairs;
 use crate::pointers::OpaqueNodePtr;
 use crate::sealed::{InThisCrate, InnerNodeInit, Sealed};
 use art_header::{Header, NodeType};
@@ -66,7 +67,7 @@ impl<K, V, const PREFIX_LEN: usize> Node<PREFIX_LEN> for InnerNodeDirect<K, V, P
 
 impl<K, V, const PREFIX_LEN: usize> InnerNodeDirect<K, V, PREFIX_LEN> {
     ghost use Rattle.std.specs.Prelude.{◌≡◌};
-    ghost use Rattle.art_nodes.specs.Inner.{empty_inner};
+    ghost use Rattle.art_nodes.specs.Inner.{empty_inner, IsInner};
 
     /// A node with the prefix of this header and no children, whatever the header's count.
     pub(crate) fn from_header(mut header: Header<PREFIX_LEN>) -> Self
@@ -77,6 +78,15 @@ impl<K, V, const PREFIX_LEN: usize> InnerNodeDirect<K, V, PREFIX_LEN> {
             header,
             child_pointers: ChildTable::new(OpaqueNodePtr::default()),
         }
+    }
+
+    /// The children by ascending byte, as [`InnerNodeCommon::iter`] has them.
+    #[inline]
+    pub(crate) fn pairs(&self) -> TablePairs<'_, OpaqueNodePtr<K, V, PREFIX_LEN>>
+        ensures pairs { result ≡ self.now.children }
+        ensures sound { IsInner PREFIX_LEN 256 self.now }
+    {
+        self.child_pointers.pairs()
     }
 
     /// A copy, which takes no memory.

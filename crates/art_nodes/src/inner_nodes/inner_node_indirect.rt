@@ -78,9 +78,10 @@ impl<K, V, const PREFIX_LEN: usize> Node<PREFIX_LEN> for InnerNode48<K, V, PREFI
 }
 
 impl<K, V, const PREFIX_LEN: usize, const SIZE: usize> InnerNodeIndirect<K, V, PREFIX_LEN, SIZE> {
-    ghost use Rattle.std.specs.Prelude.{◌≡◌, length, map};
+    ghost use Rattle.std.specs.Prelude.{◌≡◌, ◌<◌, None, length, map};
     ghost use Rattle.std.specs.List.Sorted.{IsPermutation};
-    ghost use Rattle.art_nodes.specs.Inner.{empty_inner, indirect_room, inner_with, sorted_children, IsInner};
+    ghost use Rattle.art_nodes.specs.ChildMap.{child_at};
+    ghost use Rattle.art_nodes.specs.Inner.{empty_inner, indirect_room, inner_with, node_with_child, sorted_children, IsInner};
 
     /// A node with the prefix of this header and no children, whatever the header's count.
     pub(crate) fn from_header(mut header: Header<PREFIX_LEN>) -> Self
@@ -121,6 +122,24 @@ impl<K, V, const PREFIX_LEN: usize, const SIZE: usize> InnerNodeIndirect<K, V, P
         ensures sound { IsInner PREFIX_LEN (indirect_room SIZE) self.now }
     {
         IndexPairs::new(0, self.child_indices.places(), &self.child_pointers)
+    }
+
+    /// Writes a child under a byte that has none, behind the other children. The node has to have
+    /// room for it.
+    pub(crate) fn add_child(
+        &mut self,
+        key_fragment: u8,
+        child_pointer: OpaqueNodePtr<K, V, PREFIX_LEN>,
+    )
+        requires absent { child_at self.old.children key_fragment ≡ None }
+        requires room { length self.old.children < indirect_room SIZE }
+        ensures { self.new ≡ node_with_child self.old key_fragment child_pointer }
+    {
+        let index = NonMaxIndex::new_unchecked(self.child_pointers.len() as u8);
+        self.child_indices.set(key_fragment, index);
+        self.keys.push(key_fragment);
+        self.child_pointers.push(child_pointer);
+        self.header.inc_num_children();
     }
 
     /// A copy, which takes no memory.
@@ -192,13 +211,7 @@ impl<K, V, const PREFIX_LEN: usize, const SIZE: usize> InnerNodeCommon<K, V, PRE
     {
         match self.child_indices.get(key_fragment) {
             Some(index) => self.child_pointers[usize::from(index)] = child_pointer,
-            None => {
-                let index = NonMaxIndex::new_unchecked(self.child_pointers.len() as u8);
-                self.child_indices.set(key_fragment, index);
-                self.keys.push(key_fragment);
-                self.child_pointers.push(child_pointer);
-                self.header.inc_num_children();
-            }
+            None => self.add_child(key_fragment, child_pointer),
         }
     }
 

@@ -1,6 +1,6 @@
 //! The pairs of a table of 256 places that an iterator has left.
 ghost use Rattle.std.specs.Prelude.{◌≡◌, ◌+◌, ◌<◌, ◌≤◌, length, [], ◌∷◌, ◌++◌, IfNone, IfSome};
-ghost use Rattle.std.specs.Iterator.{YieldsFirst, YieldsLast};
+ghost use Rattle.std.specs.Iterator.{YieldsFirst, YieldsLast, item_count};
 ghost use Rattle.art_nodes.specs.ChildTable.{filled_within};
 
 use crate::inner_nodes::byte_set::ByteSet;
@@ -42,20 +42,28 @@ impl<'a, H: Copy> TablePairs<'a, H> {
             end: bytes.end,
         }
     }
+}
+
+impl<'a, H: Copy> Iterator for TablePairs<'a, H> {
+    type Item = (u8, H);
+
+    ghost next_gives = { YieldsFirst (λ pairs. pairs) };
+
+    ghost remaining = { item_count (λ pairs. pairs) };
 
     #[inline]
-    pub(crate) fn next(&mut self) -> Option<(u8, H)>
-        ensures { YieldsFirst (λ pairs. pairs) self.old result self.new }
-    {
+    fn next(&mut self) -> Option<(u8, H)> {
         let (byte, child) = first_within(self.filled, self.children, self.start, self.end)?;
         self.start = usize::from(byte) + 1;
         Some((byte, child))
     }
+}
+
+impl<'a, H: Copy> DoubleEndedIterator for TablePairs<'a, H> {
+    ghost next_back_gives = { YieldsLast (λ pairs. pairs) };
 
     #[inline]
-    pub(crate) fn next_back(&mut self) -> Option<(u8, H)>
-        ensures { YieldsLast (λ pairs. pairs) self.old result self.new }
-    {
+    fn next_back(&mut self) -> Option<(u8, H)> {
         let (byte, child) = last_within(self.filled, self.children, self.start, self.end)?;
         self.end = usize::from(byte);
         Some((byte, child))

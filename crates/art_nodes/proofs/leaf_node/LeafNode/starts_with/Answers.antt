@@ -1,5 +1,5 @@
 -- The test says whether the bytes are a front of the key's text.
-use Rattle.std.proofs.Common.{◌≡◌, ◌++◌, drop, length, sym, ap, ◌∙◌}
+use Rattle.std.proofs.Common.{◌≡◌, drop, length, sym, ◌∙◌}
 use Rattle.std.proofs.lemmas.Bool.Decides.{Decides-eqb}
 use Rattle.std.proofs.lemmas.Slice.Eq.{starts_is}
 use Rattle.art_nodes.proofs.leaf_node.LeafNode.starts_with.Goals as goal
