@@ -1,5 +1,5 @@
 -- A write to one slab of an arena, as its callers see it.
-use Rattle.std.proofs.Common.{cond, is_some, ◌-◌, ◌≡◌, ◌≢◌, ◌⊎◌, ◌∙◌, ℕ, zero, suc, Option, Some, None, refl, sym, ap, subst, inl, inr, rules, arith}
+use Rattle.std.proofs.Common.{cond, is_some, ◌-◌, ◌≡◌, ◌≢◌, ◌⊎◌, ◌∙◌, ℕ, zero, suc, Option, Some, None, refl, sym, ap, subst, inl, inr, arith}
 use Rattle.std.proofs.lemmas.Bool.{cases_eq}
 use Rattle.slab.specs.Slab.{Slab, get, slab_len, with_value, ContainsKey, Updates}
 use Rattle.slab.proofs.SlabLemmas.{ContainsKey-within}
@@ -9,7 +9,7 @@ use Rattle.art_header.specs.declared.node_type.NodeType.TheVariants.{Node4, Node
 use Rattle.art_nodes.specs.Pointers.{node_kind, opaque_key}
 use Rattle.art_nodes.specs.declared.pointers.OpaqueNodePtr.{OpaqueNodePtr}
 use Rattle.art_nodes.specs.declared.leaf_node.LeafNode.{LeafNode}
-use Rattle.art_arena.specs.Arena.{ArenaOf, Held, Nothing, held_under, held_option, pointer_to, Changes, SameNodes, room, slab_room, SameRoom, SameOtherRoom}
+use Rattle.art_arena.specs.Arena.{ArenaOf, Held, held_under, held_option, pointer_to, Changes, SameNodes, room, slab_room, SameRoom, SameOtherRoom}
 
 place : NodeType → ℕ
 place Node4 = 0

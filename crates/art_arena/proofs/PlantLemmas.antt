@@ -1,15 +1,14 @@
 -- Trees that tests put together by hand.
-use Rattle.std.proofs.Common.{◌≡◌, ◌≢◌, ◌∙◌, ℕ, suc, ◌<◌, ◌≤◌, ◌^◌, List, [], ◌∷◌, ◌++◌, length, take, refl, sym, ap, subst, rules, arith, nat_lt}
+use Rattle.std.proofs.Common.{◌≡◌, ◌∙◌, ℕ, ◌<◌, ◌^◌, List, [], ◌∷◌, ◌++◌, length, take, refl, sym, ap, subst, arith}
 use Rattle.std.proofs.lemmas.Bool.Decides.{nat_tests}
 use Rattle.art_bytes.specs.Text.{IsFront}
 use Rattle.art_header.specs.Header.{capped, empty_header}
-use Rattle.art_nodes.specs.ChildMap.{ChildMap, with_child}
+use Rattle.art_nodes.specs.ChildMap.{with_child}
 use Rattle.art_nodes.specs.Inner as nodes
-use Rattle.art_nodes.specs.Leaf.{leaf_key}
 use Rattle.art_nodes.specs.declared.pointers.OpaqueNodePtr.{OpaqueNodePtr}
 use Rattle.art_nodes.specs.declared.leaf_node.LeafNode.{LeafNode}
 use Rattle.art_arena.specs.Arena.{ArenaOf, held, Nothing, HeldInner, HeldLeaf, Changes}
-use Rattle.art_arena.specs.Standing.{NodeStands, StandsUnder, TreeAt, TreeUnder, leaf_text}
+use Rattle.art_arena.specs.Standing.{StandsUnder, TreeAt, TreeUnder, leaf_text}
 use Rattle.art_arena.specs.Trees.{Tree, Leaf, Inner, Branches, NoBranch, Branch, branch_roots, root_of, IsSound}
 use Rattle.art_arena.proofs.PlaceLemmas.{stands-beside, all-beside}
 

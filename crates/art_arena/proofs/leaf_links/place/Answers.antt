@@ -1,6 +1,5 @@
-use Rattle.std.proofs.Common.{◌∙◌, Some, sym, rules}
+use Rattle.std.proofs.Common.{◌∙◌, rules}
 use Rattle.std.specs.Option.{ForSome}
-use Rattle.std.proofs.lemmas.Option.{same_Some}
 use Rattle.art_nodes.specs.Pointers.{slab_key}
 use Rattle.art_arena.specs.Links.{HoldsLeaf}
 use Rattle.art_arena.proofs.LeafLemmas.{StandsBetween-joined, SameButLinks-trans, HoldsLeaf-kept}

@@ -1,8 +1,8 @@
-use Rattle.std.proofs.Common.{◌≡◌, ◌∙◌, Some, None, refl, sym, ap}
+use Rattle.std.proofs.Common.{◌≡◌, ◌∙◌, Some, ap}
 use Rattle.std.specs.Option.{option_map}
 use Rattle.art_nodes.specs.Pointers.{slab_key}
 use Rattle.art_nodes.specs.Leaf.{leaf_key, leaf_value, previous_key, next_key}
-use Rattle.art_arena.specs.Links.{leaf_at, previous_at, next_at}
+use Rattle.art_arena.specs.Links.{leaf_at}
 use Rattle.art_arena.proofs.LeafLemmas.{SetsPrevious-written, SetsPrevious-some, SetsPrevious-none, held_leaf-same}
 use Rattle.art_arena.proofs.leaf_links.set_previous.Goals as goal
 

@@ -1,7 +1,7 @@
 use Rattle.std.proofs.Common.{◌≡◌, ◌∙◌, Some, refl, sym, ap, subst}
 use Rattle.std.specs.Option.{option_map}
 use Rattle.art_header.specs.declared.node_type.NodeType.TheVariants as kinds
-use Rattle.art_nodes.specs.Leaf.{leaf_key, leaf_value, with_value}
+use Rattle.art_nodes.specs.Leaf.{leaf_value, with_value}
 use Rattle.art_arena.specs.Arena.{HeldLeaf, pointer_to, Changes, SameRoom}
 use Rattle.art_arena.specs.Links.{leaf_at}
 use Rattle.art_arena.proofs.LeafLemmas.{held_leaf-same, with_value_at-found}

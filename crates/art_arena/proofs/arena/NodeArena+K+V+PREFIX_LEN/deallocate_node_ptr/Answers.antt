@@ -1,5 +1,5 @@
-use Rattle.std.proofs.Common.{◌≡◌, ◌∙◌, Some, None, arith, sym, subst, ap, ◌≤◌, ◌-◌}
-use Rattle.slab.specs.Slab.{get, slab_len}
+use Rattle.std.proofs.Common.{◌≡◌, ◌∙◌, Some, None, arith, sym, ap, ◌-◌}
+use Rattle.slab.specs.Slab.{get}
 use Rattle.art_arena.specs.Arena.{slab_room, held_option}
 use Rattle.art_arena.proofs.ArenaLemmas.{Changes-called, room-written}
 use Rattle.art_arena.proofs.arena.NodeArena+K+V+PREFIX_LEN.deallocate_node_ptr.Goals as goal

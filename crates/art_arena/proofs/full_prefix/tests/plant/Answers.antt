@@ -1,4 +1,4 @@
-use Rattle.std.proofs.Common.{◌≡◌, ◌∙◌, ap, sym, subst}
+use Rattle.std.proofs.Common.{◌≡◌, sym, subst}
 use Rattle.art_arena.specs.Standing.{TreeAt}
 use Rattle.art_arena.proofs.PlantLemmas.{node_planted, others_planted}
 use Rattle.art_arena.proofs.full_prefix.tests.plant.Goals as goal

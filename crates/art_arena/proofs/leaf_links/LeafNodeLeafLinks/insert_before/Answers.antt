@@ -1,7 +1,7 @@
-use Rattle.std.proofs.Common.{◌≡◌, ◌≢◌, ◌∙◌, Some, refl, sym, ap, rules}
+use Rattle.std.proofs.Common.{◌≢◌, ◌∙◌, Some, refl, sym, ap, rules}
 use Rattle.std.specs.Option.{ForSome, option_map}
 use Rattle.art_nodes.specs.Pointers.{slab_key}
-use Rattle.art_arena.specs.Links.{HoldsLeaf, previous_at, next_at}
+use Rattle.art_arena.specs.Links.{HoldsLeaf}
 use Rattle.art_arena.proofs.LeafLemmas.{apart-from_previous, HoldsLeaf-next, Spells-placed_before, StandsBetween-at}
 use Rattle.art_arena.proofs.leaf_links.LeafNodeLeafLinks.insert_before.Goals as goal
 

@@ -1,6 +1,4 @@
-use Rattle.std.proofs.Common.{◌≡◌, ◌≢◌, ◌∙◌, IsTrue, true, false, sym, rules}
-use Rattle.art_nodes.specs.Pointers.{slab_key}
-use Rattle.art_arena.specs.Links.{HoldsLeaf, IsKnit, previous_at, next_at}
+use Rattle.std.proofs.Common.{◌≡◌, ◌∙◌, true, false, sym}
 use Rattle.art_arena.proofs.leaf_links.LeafNodeLeafLinks.is_knit.Goals as goal
 use Rattle.art_arena.proofs.leaf_links.LeafNodeLeafLinks.is_knit.Goals.{then-holds, else-holds}
 
