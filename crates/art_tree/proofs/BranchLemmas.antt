@@ -2,7 +2,7 @@
 use Rattle.std.proofs.Common.{◌≡◌, ◌∙◌, ℕ, suc, ◌+◌, ◌<◌, ◌≤◌, List, [], ◌∷◌, ◌++◌, length, length-append, map, refl, sym, ap, subst, arith, append_assoc}
 use Rattle.std.proofs.lemmas.List.{map-append}
 use Rattle.art_nodes.specs.ChildMap.{IsAscendingFrom, key_bytes}
-use Rattle.art_arena.specs.Trees.{Tree, Leaf, Inner, Branches, NoBranch, Branch, branch_roots, root_of, branch_leaves, branch_places, leaves, places, AreSound}
+use Rattle.art_arena.specs.Trees.{Tree, Branches, NoBranch, Branch, branch_roots, root_of, branch_leaves, branch_places, leaves, places, AreSound}
 use Rattle.art_tree.specs.Plan.{join, one_branch, steps_of, branch_steps, BranchesSpan}
 
 module _ {H : Type 0} where

@@ -1,5 +1,5 @@
 -- Children written in their order, and the memory that a builder takes.
-use Rattle.std.proofs.Common.{◌≡◌, ◌∙◌, ℕ, zero, suc, ◌+◌, ◌-◌, ◌*◌, ◌%◌, ◌<◌, ◌≤◌, ◌^◌, max, true, false, nat_lt, nat_eq, List, [], ◌∷◌, length, take, get_or, Option, Some, None, IsNone, refl, sym, ap, subst, arith}
+use Rattle.std.proofs.Common.{◌≡◌, ◌∙◌, ℕ, zero, suc, ◌+◌, ◌-◌, ◌%◌, ◌<◌, ◌≤◌, ◌^◌, max, true, false, nat_lt, nat_eq, List, [], ◌∷◌, length, take, get_or, Option, Some, None, IsNone, refl, sym, ap, subst, arith}
 use Rattle.std.proofs.lemmas.Bool.Decides.{nat_tests}
 use Rattle.std.proofs.lemmas.List.{length-take-le}
 use Rattle.art_nodes.specs.ChildMap.{ChildMap, IsAscendingFrom, IsAscending, key_bytes, child_at, with_child}

@@ -1,11 +1,10 @@
 -- A plan leads from the trees that are made to a whole one.
-use Rattle.std.proofs.Common.{◌≡◌, ◌∙◌, ℕ, zero, suc, ◌+◌, ◌-◌, ◌<◌, ◌≤◌, ◌^◌, List, [], ◌∷◌, ◌++◌, length, length-append, map, take, drop, get_or, slice_get, Option, Some, None, refl, sym, ap, subst, arith, append_assoc}
+use Rattle.std.proofs.Common.{◌≡◌, ◌∙◌, ℕ, zero, suc, ◌+◌, ◌-◌, ◌<◌, ◌≤◌, ◌^◌, List, [], ◌∷◌, ◌++◌, length, length-append, map, take, drop, slice_get, Some, refl, sym, ap, subst, arith, append_assoc}
 use Rattle.std.proofs.lemmas.List.{length-map, append-nil, take_at, drop_at}
-use Rattle.std.proofs.lemmas.Option.{slice_get_within}
 use Rattle.art_bytes.specs.Text.{IsFront}
 use Rattle.art_nodes.specs.ChildMap.{IsAscending, key_bytes}
 use Rattle.art_arena.specs.Trees.{Tree, Leaf, Inner, Branches, NoBranch, Branch, branch_roots, IsSound, AreSound, IsWellFormed}
-use Rattle.art_tree.specs.Plan.{join, one_branch, steps_of, branch_steps, Spans, BranchesSpan, text_at, IsPlanOf}
+use Rattle.art_tree.specs.Plan.{join, one_branch, steps_of, branch_steps, Spans, BranchesSpan, text_at}
 use Rattle.art_tree.specs.declared.loading.steps.Step.{Step}
 use Rattle.art_tree.specs.declared.loading.steps.Step.TheVariants as step
 

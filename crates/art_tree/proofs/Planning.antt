@@ -3,14 +3,14 @@ use Rattle.std.proofs.Common.{◌≡◌, ◌∙◌, ℕ, zero, suc, ◌+◌, ◌
 use Rattle.std.proofs.lemmas.List.{append-nil, take-take, take-append-drop, take_more, length-take-le, get_or-take, get_or_past, length-map}
 use Rattle.std.proofs.lemmas.Bool.{cases_lt}
 use Rattle.std.proofs.lemmas.Bool.Decides.{nat_tests}
-use Rattle.art_bytes.specs.Text.{IsFront, IsText}
+use Rattle.art_bytes.specs.Text.{IsText}
 use Rattle.art_nodes.specs.ChildMap.{IsAscending, key_bytes}
-use Rattle.art_arena.specs.Trees.{Tree, Leaf, Inner, Branches, NoBranch, Branch, branch_roots, IsSound, AreSound}
+use Rattle.art_arena.specs.Trees.{Tree, Leaf, Inner, Branches, branch_roots, IsSound, AreSound}
 use Rattle.art_tree.specs.Plan.{join, one_branch, steps_of, branch_steps, Spans, BranchesSpan, IsFork, text_at, byte_before, IsPlanOf}
 use Rattle.art_tree.specs.declared.loading.steps.Open.{Open}
 use Rattle.art_tree.specs.declared.loading.steps.Step.{Step}
 use Rattle.art_tree.specs.declared.loading.steps.Step.TheVariants as step
-use Rattle.art_tree.proofs.BranchLemmas.{roots-join, steps-join, sound-join, span-join, bytes-join, count-one, AscendBelow, low-below, ascending-last, below-last, last-same}
+use Rattle.art_tree.proofs.BranchLemmas.{steps-join, sound-join, span-join, bytes-join, count-one, AscendBelow, low-below, ascending-last, below-last, last-same}
 
 abbrev pub Shape : Type 0
 Shape = Tree (Unit {0})

@@ -2,8 +2,7 @@
 use Rattle.std.proofs.Common.{◌≡◌, ◌∙◌, ℕ, List, [], refl, sym, ap, subst}
 use Rattle.art_nodes.specs.Inner as nodes
 use Rattle.art_nodes.specs.declared.pointers.OpaqueNodePtr.{OpaqueNodePtr}
-use Rattle.art_nodes.specs.declared.leaf_node.LeafNode.{LeafNode}
-use Rattle.art_arena.specs.Arena.{ArenaOf, Held, HeldInner, HeldLeaf, held}
+use Rattle.art_arena.specs.Arena.{ArenaOf, HeldInner, HeldLeaf, held}
 use Rattle.art_arena.specs.Standing.{IsTreeIn, NodeStands, TreeUnder}
 use Rattle.art_arena.specs.Trees.{Tree, Leaf, Inner}
 use Rattle.art_tree.specs.Loading.{IsLoaded}

@@ -1,8 +1,8 @@
-use Rattle.std.proofs.Common.{◌≡◌, ◌∙◌, ◌<◌, ◌≤◌, length, ap, sym, subst, arith, rules, lit<}
+use Rattle.std.proofs.Common.{◌∙◌, ◌<◌, length, sym, subst, arith, rules, lit<}
 use Rattle.std.proofs.lemmas.List.{length-map}
-use Rattle.art_tree.specs.Plan.{AreLoadable, IsPlanOf, texts_of}
-use Rattle.art_tree.specs.Refusals.{HaveNoFault, IsDue}
-use Rattle.art_tree.proofs.RefusalLemmas.{due, loadable}
+use Rattle.art_tree.specs.Plan.{IsPlanOf, texts_of}
+use Rattle.art_tree.specs.Refusals.{HaveNoFault}
+use Rattle.art_tree.proofs.RefusalLemmas.{loadable}
 use Rattle.art_tree.proofs.Loaded.{loaded-same}
 use Rattle.art_tree.proofs.loading.load.Goals as goal
 

@@ -1,6 +1,4 @@
-use Rattle.std.proofs.Common.{◌≡◌, ◌≢◌, ◌∙◌, ◌<◌, ◌≤◌, ◌^◌, ℕ, length, ap, sym, subst, arith, rules, lit<}
-use Rattle.art_header.specs.declared.node_type.NodeType.{NodeType}
-use Rattle.art_header.specs.declared.node_type.NodeType.TheVariants.{Leaf}
+use Rattle.std.proofs.Common.{◌<◌, ◌^◌, ℕ, length, ap, sym, subst, arith, rules, lit<}
 use Rattle.art_arena.specs.Arena.{room}
 use Rattle.art_tree.specs.Plan.{IsPlanOf, needed, text_at, texts_of}
 use Rattle.art_tree.specs.Loading.{AreLinked}

@@ -1,5 +1,5 @@
-use Rattle.std.proofs.Common.{◌≡◌, ◌≢◌, ◌≤◌, ◌∙◌, arith}
-use Rattle.art_header.specs.declared.node_type.NodeType.TheVariants.{Node4, Node16, Node48, Node256, Leaf}
+use Rattle.std.proofs.Common.{◌∙◌, arith}
+use Rattle.art_header.specs.declared.node_type.NodeType.TheVariants.{Node4, Node16, Node48, Leaf}
 use Rattle.art_arena.specs.Arena.{room}
 use Rattle.art_tree.specs.Plan.{needed}
 use Rattle.art_tree.proofs.Rising.{each-kind, on-ok-then}

@@ -1,14 +1,11 @@
-use Rattle.std.proofs.Common.{◌≡◌, ◌≢◌, ◌∙◌, ℕ, ◌+◌, ◌-◌, ◌≤◌, List, [], ◌∷◌, ◌++◌, length, length-append, take, slice_get, Option, Some, sym, ap, subst, arith, rules, refl, lit<, append_assoc}
+use Rattle.std.proofs.Common.{◌≡◌, ◌∙◌, ◌+◌, ◌-◌, ◌≤◌, [], ◌∷◌, ◌++◌, length, length-append, take, slice_get, Some, sym, ap, subst, arith, rules, refl, lit<, append_assoc}
 use Rattle.std.specs.Option.{option_copied, option_to_list}
 use Rattle.std.specs.Vec.Iter.{into_iter_items}
-use Rattle.std.specs.declared.cmp.Ordering.TheVariants.{Less}
 use Rattle.art_header.specs.declared.node_type.NodeType.TheVariants.{Leaf}
-use Rattle.art_bytes.specs.Text.{text_order}
 use Rattle.art_nodes.specs.Pointers.{slab_key}
 use Rattle.art_arena.specs.Arena.{held, pointer_to, room, Nothing, HeldLeaf, Changes}
-use Rattle.art_arena.specs.Links.{text_at}
 use Rattle.art_tree.specs.Loading.{AreLinked}
-use Rattle.art_tree.proofs.Linking.{IsLinking, none-linked, allocated, first-linked, next-linked, unlinked, sibling-knit, two-texts, last-split, none-left, less-same}
+use Rattle.art_tree.proofs.Linking.{none-linked, allocated, first-linked, next-linked, unlinked, sibling-knit, two-texts, last-split, none-left, less-same}
 use Rattle.art_tree.proofs.RefusalLemmas.{forks-less}
 use Rattle.art_tree.proofs.Rising.{if-ok, on-ok}
 use Rattle.art_tree.proofs.loading.leaves.link_leaves.Goals as goal

@@ -1,4 +1,4 @@
-use Rattle.std.proofs.Common.{◌≡◌, ◌∙◌, ◌+◌, rules, arith, lit<, take, refl, ap}
+use Rattle.std.proofs.Common.{◌∙◌, ◌+◌, arith, lit<, refl, ap}
 use Rattle.std.proofs.lemmas.List.{take_all}
 use Rattle.art_tree.specs.Raising.{node_of}
 use Rattle.art_tree.proofs.ChildLemmas.{builder-fits, has-room, is-new, written-node}

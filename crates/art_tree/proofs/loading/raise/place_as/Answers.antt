@@ -1,7 +1,6 @@
-use Rattle.std.proofs.Common.{◌≡◌, ◌∙◌, ℕ, ◌+◌, ◌-◌, ◌≤◌, take, drop, ap, sym, subst}
+use Rattle.std.proofs.Common.{◌≡◌, ◌∙◌, ◌+◌, ◌-◌, ◌≤◌, take, drop, ap, sym, subst}
 use Rattle.art_nodes.specs.Pointers.{slab_key, node_kind, opaque_key}
 use Rattle.art_arena.specs.Arena.{held, pointer_to, Nothing, HeldInner, Changes, room}
-use Rattle.art_arena.specs.Links.{text_at}
 use Rattle.art_tree.specs.Raising.{node_of}
 use Rattle.art_tree.proofs.Rising.{placed, text-held, if-ok, on-ok}
 use Rattle.art_tree.proofs.loading.raise.place_as.Goals as goal

@@ -1,19 +1,19 @@
-use Rattle.std.proofs.Common.{◌≡◌, ◌≢◌, ◌∙◌, ℕ, ◌+◌, ◌-◌, ◌<◌, ◌≤◌, List, [], ◌∷◌, ◌++◌, length, map, take, drop, get_or, slice_get, Some, ap, sym, subst, arith, rules, refl, lit<, vec_capacity, ◌^◌}
-use Rattle.std.proofs.lemmas.List.{length-map, drop_more}
+use Rattle.std.proofs.Common.{◌≡◌, ◌∙◌, ◌+◌, ◌-◌, ◌<◌, [], ◌∷◌, ◌++◌, length, map, take, drop, get_or, ap, sym, subst, arith, rules, lit<, vec_capacity, ◌^◌}
+use Rattle.std.proofs.lemmas.List.{drop_more}
 use Rattle.art_header.specs.NodeType.{kind_for}
 use Rattle.art_nodes.specs.ChildMap.{IsAscending, key_bytes}
 use Rattle.art_nodes.specs.Pointers.{slab_key}
 use Rattle.art_nodes.specs.declared.pointers.NodePtr.{NodePtr}
 use Rattle.art_nodes.specs.declared.leaf_node.LeafNode.{LeafNode}
-use Rattle.art_arena.specs.Arena.{held, Nothing, room}
-use Rattle.art_arena.specs.Links.{HoldsLeaf, text_at}
+use Rattle.art_arena.specs.Arena.{held, room}
+use Rattle.art_arena.specs.Links.{text_at}
 use Rattle.art_tree.specs.declared.loading.steps.Step.{Step}
 use Rattle.art_tree.specs.declared.loading.steps.Step.TheVariants as step
-use Rattle.art_tree.specs.Raising.{leaf_pairs, leaf_texts}
+use Rattle.art_tree.specs.Raising.{leaf_pairs}
 use Rattle.art_tree.specs.Search.{leaf_pointer}
 use Rattle.art_tree.specs.Plan.{Spans}
 use Rattle.art_tree.proofs.Leading.{plan-leads}
-use Rattle.art_tree.proofs.Rising.{IsRising, leaf-within, inner-within, few-pending, rising-none, texts-of-pairs, pair-there, pointer-there, leaf-there, text-kept, pairs-count, rise-leaf, rise-inner-called, rise-ready, risen, texts-there, some-same, last-part}
+use Rattle.art_tree.proofs.Rising.{IsRising, leaf-within, inner-within, few-pending, rising-none, texts-of-pairs, pair-there, pointer-there, leaf-there, text-kept, pairs-count, rise-leaf, rise-inner-called, rise-ready, texts-there, some-same, last-part}
 use Rattle.art_tree.proofs.loading.raise.raise.Goals as goal
 use Rattle.art_tree.proofs.loading.raise.raise.Goals.{in-Leaf, in-Inner}
 

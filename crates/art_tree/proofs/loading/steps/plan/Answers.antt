@@ -1,11 +1,11 @@
-use Rattle.std.proofs.Common.{◌≡◌, ◌∙◌, ◌<◌, ◌≤◌, ℕ, ◌+◌, ◌^◌, length, List, [], ◌∷◌, ◌++◌, Option, Some, max, get_or, sym, ap, subst, arith, refl}
+use Rattle.std.proofs.Common.{◌≡◌, ◌∙◌, ◌<◌, ℕ, ◌+◌, ◌^◌, length, List, [], ◌∷◌, ◌++◌, max, get_or, sym, ap, subst, arith, refl}
 use Rattle.std.specs.Option.{option_to_list}
 use Rattle.std.proofs.lemmas.List.{length-map}
-use Rattle.art_tree.specs.Plan.{IsFork, Forks, IsPlanOf, byte_before, texts_of, text_at}
+use Rattle.art_tree.specs.Plan.{Forks, byte_before, texts_of, text_at}
 use Rattle.art_tree.specs.declared.loading.steps.Open.{Open}
 use Rattle.art_tree.specs.declared.loading.steps.Step.{Step}
 use Rattle.art_tree.specs.declared.loading.steps.Step.TheVariants as step
-use Rattle.art_tree.proofs.Planning.{IsPlanned, IsClosing, Parts, entry-text, bytes-at, planned-path, planned-none, parts-between, parts-last, closing-leaf, closing-some, closing-below, closing-node-called, closing-count, hang-new, hang-last, closed}
+use Rattle.art_tree.proofs.Planning.{IsPlanned, IsClosing, Parts, entry-text, bytes-at, planned-path, parts-between, parts-last, closing-leaf, closing-some, closing-below, closing-node-called, closing-count, hang-new, hang-last, closed}
 use Rattle.art_tree.proofs.loading.steps.plan.Goals as goal
 use Rattle.art_tree.proofs.loading.steps.plan.Goals.{then-i-entries, else-i-entries, then-top-shared+in_ok-push-3, else-top-shared}
 

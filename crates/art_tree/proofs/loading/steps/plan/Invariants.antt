@@ -1,4 +1,4 @@
-use Rattle.std.proofs.Common.{◌≡◌, ◌≤◌, ◌<◌, length}
+use Rattle.std.proofs.Common.{◌≡◌, ◌<◌, length}
 use Rattle.art_tree.specs.Plan.{IsPlanOf, texts_of, text_at}
 use Rattle.art_tree.proofs.Planning.{IsPlanned, IsClosing, Parts}
 use Rattle.art_tree.proofs.loading.steps.plan.Given as goal
