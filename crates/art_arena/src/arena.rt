@@ -342,8 +342,11 @@ impl<K, V, const PREFIX_LEN: usize> NodeArena<K, V, PREFIX_LEN> {
 
     /// Makes room for `additional` more nodes of the kind: so many allocations of the kind then
     /// succeed. Refused for want of memory, every node and the room of the other kinds are as before.
+    /// Where there is such room already, nothing is refused, and no room is given up.
     pub fn reserve(&mut self, kind: NodeType, additional: usize) -> Result<(), AllocError>
         ensures room { OnOk result (additional ≤ room self.new kind) }
+        ensures succeeds { additional ≤ room self.old kind → IsOk result }
+        ensures no_less_room { room self.old kind ≤ room self.new kind }
         ensures nodes_kept { SameNodes self.old self.new }
         ensures other_room { SameOtherRoom self.old self.new kind }
     {
@@ -363,9 +366,14 @@ impl<K, V, const PREFIX_LEN: usize> NodeArena<K, V, PREFIX_LEN> {
         additional: usize,
     ) -> Result<(), AllocError>
         ensures room { OnOk result (additional ≤ room self.new N.TYPE) }
+        ensures succeeds { additional ≤ room self.old N.TYPE → IsOk result }
+        ensures no_less_room { room self.old N.TYPE ≤ room self.new N.TYPE }
         ensures nodes_kept { SameNodes self.old self.new }
         ensures other_room { SameOtherRoom self.old self.new N.TYPE }
     {
+        if additional == 0 {
+            return Ok(());
+        }
         N::slab_mut(self).reserve(additional)
     }
 

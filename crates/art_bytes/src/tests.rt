@@ -226,3 +226,20 @@ fn c_strings_have_one_zero_the_last(rt: HostRuntime) -> Result<(), Fail> {
     assert_eq!(rt; hasher.finish(), hash_of(&b"ab\0".as_slice()));
     Ok(())
 }
+
+// Where there is no memory for the zero, the bytes come back, and make a key then.
+#[test]
+fn a_refused_zero_gives_the_bytes_back(rt: HostRuntime) {
+    let Ok(bytes) = HELLO.to_vec(rt.alloc()) else {
+        return;
+    };
+    let key = match CStringKey::new(bytes) {
+        Ok(key) => key,
+        Err(CStringKeyError::InteriorZero { .. }) => panic!(&rt; "there is no zero"),
+        Err(CStringKeyError::OutOfMemory { bytes }) => {
+            assert_eq!(&rt; bytes.as_slice(), HELLO);
+            CStringKey::new(bytes).expect(&rt, "memory was refused once")
+        }
+    };
+    assert_eq!(&rt; text_of(&key), b"hello world\0".as_slice());
+}

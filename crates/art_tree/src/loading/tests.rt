@@ -52,18 +52,63 @@ fn the_lowest_entry_at_fault_is_told(rt: HostRuntime) -> Result<(), Fail> {
     Ok(())
 }
 
-// Memory may be refused at each growth, and the entries come back from a load then.
-#[test]
-fn refused_memory_gives_the_entries_back(rt: HostRuntime) -> Result<(), Fail> {
-    let cases: [&[&str]; 3] = [&["a1x", "a1y", "b"], &["aa", "ab", "b"], &[""]];
-    let alloc = rt.alloc();
-    let mut arena = NodeArena::<StrKey, usize, 2>::new(alloc);
-    for texts in cases {
-        if let Err(fault) = load(alloc, &mut arena, numbered(alloc, texts)?) {
-            check_fault(&rt, &fault, LoadRefusal::OutOfMemory, texts);
-        }
+type Small = NodeArena<[u8; 3], usize, 2>;
+
+type SmallRoot = OpaqueNodePtr<[u8; 3], usize, 2>;
+
+fn numbered_bytes(alloc: Global, keys: &[[u8; 3]]) -> Result<Vec<([u8; 3], usize)>, AllocError> {
+    let mut entries = Vec::new(alloc);
+    for (number, key) in keys.iter().enumerate() {
+        entries.push((*key, number))?;
     }
-    Ok(())
+    Ok(entries)
+}
+
+// Loads entries of these keys, if there is memory for them. A load that is refused memory gives them
+// back, and the next one takes them.
+fn load_at_last(
+    rt: &impl Abort,
+    alloc: Global,
+    arena: &mut Small,
+    keys: &[[u8; 3]],
+) -> Option<SmallRoot> {
+    let Ok(entries) = numbered_bytes(alloc, keys) else {
+        return None;
+    };
+    let fault = match load(alloc, arena, entries) {
+        Ok(root) => return Some(root),
+        Err(fault) => fault,
+    };
+    assert!(rt; fault.refusal == LoadRefusal::OutOfMemory);
+    assert_eq!(rt; fault.entries.len(), keys.len());
+    for (number, (entry, key)) in fault.entries.iter().zip(keys).enumerate() {
+        assert!(rt; entry.0 == *key && entry.1 == number);
+    }
+    let Ok(root) = load(alloc, arena, fault.entries) else {
+        panic!(rt; "refused twice");
+    };
+    Some(root)
+}
+
+fn check_root(rt: &impl Abort, arena: &Small, root: SmallRoot, children: usize) {
+    assert!(rt; arena.holds_opaque(root));
+    let count = arena.header(root).map_or(0, |header| header.num_children());
+    assert_eq!(rt; count, children);
+}
+
+#[test]
+fn refused_memory_gives_the_entries_back(rt: HostRuntime) {
+    let alloc = rt.alloc();
+    let mut arena = Small::new(alloc);
+    let Some(low) = load_at_last(&rt, alloc, &mut arena, &[*b"aa0", *b"ab0", *b"b00"]) else {
+        return;
+    };
+    check_root(&rt, &arena, low, 2);
+    let keys = [*b"a1x", *b"a1y", *b"b00", *b"c00", *b"d00", *b"e00"];
+    if let Some(high) = load_at_last(&rt, alloc, &mut arena, &keys) {
+        check_root(&rt, &arena, high, 5);
+    }
+    check_root(&rt, &arena, low, 2);
 }
 
 // The kind of the root over so many keys of one byte, and how many children it has.

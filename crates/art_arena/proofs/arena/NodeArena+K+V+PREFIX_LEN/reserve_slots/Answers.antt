@@ -1,5 +1,6 @@
-use Rattle.std.proofs.Common.{◌∙◌, ap}
+use Rattle.std.proofs.Common.{◌∙◌, ◌≤◌, ap, arith}
 use Rattle.slab.specs.Slab.{get}
+use Rattle.art_arena.specs.Arena.{slab_room}
 use Rattle.art_arena.proofs.ArenaLemmas.{SameNodes-written}
 use Rattle.art_arena.proofs.arena.NodeArena+K+V+PREFIX_LEN.reserve_slots.Goals as goal
 
@@ -8,3 +9,9 @@ returns-clause-nodes_kept g c =
     let laws = g.met.N.ArenaNode in
     SameNodes-written g.N.Node.TYPE g.N.Shelved.slab_of g.N.Shelved.with_slab g.N.ArenaNode.held_as laws.held_in_slab laws.slab_written laws.others_kept c.args.self.now c.reserve.new.self
     (λ key. ap (λ s. get s key) c.reserve.ensures.rest_kept ∙ ap (λ s. get s key) c.slab_mut.ensures.value)
+
+pub returns-clause-succeeds : goal.returns-clause-succeeds
+returns-clause-succeeds g c = λ asks.
+    let laws = g.met.N.ArenaNode in
+    let bound : c.args.additional ≤ slab_room c.slab_mut.result.now = rw (c.slab_mut.ensures.value, ← laws.room_of_slab c.args.self.now) asks in
+    c.reserve.ensures.succeeds (omega (arith, bound))
