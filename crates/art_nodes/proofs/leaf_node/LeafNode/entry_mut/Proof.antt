@@ -8,7 +8,7 @@ use seplogic.Ra.Ura.{Ura}
 use base.Fraction.{full_share}
 use base.Fml.{Fml, GName, Lft, Share, ftrue, fsep, flft, fobs, fbor}
 use base.Logic.{SProp, ent, sep, ex, emp, wand, all_e, apply∗}
-use mir.Syntax.{Fn, Kind, a_type, a_number, named, Args}
+use mir.Syntax.{Fn, Kind, a_type, a_number, named}
 use mir.MapTy.{inst_fn}
 use mir.Val.{Val, vptr, vstruct, vcons, vnil}
 use prog.Memory.{up, align, size}
@@ -16,7 +16,7 @@ use contract.Monad.{fact, fact_i}
 use contract.Running.{tables}
 use types.Logic.{Logic, sem}
 use types.Kit.{‵, raw, ◌⊛◌, some, later, ◌$◌, ◌∵◌, !, qed, by, move, keep, split, split3, join, fsplit, fsplit3, fjoin, fjoin3}
-use types.Kit.{fpack, feq_i, pick, use0, use1, use2, use3, await, updating, now, show, group, done}
+use types.Kit.{fpack, feq_i, pick, use0, use1, use3, await, updating, now, show, group, done}
 use types.Run.{addr, stop, fld, enter, no_more, and_then, returns}
 use types.Part.{agg}
 use types.ByLocal.{alloc_all, pass_all, free_all, look_at, get, through, sets}
