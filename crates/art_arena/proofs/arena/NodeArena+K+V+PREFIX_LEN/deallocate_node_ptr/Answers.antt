@@ -1,4 +1,4 @@
-use Rattle.std.proofs.Common.{◌≡◌, ◌∙◌, Some, None, arith, sym, ap, ◌-◌}
+use Rattle.std.proofs.Common.{◌≡◌, ◌∙◌, Some, None, arith, sym, ap}
 use Rattle.slab.specs.Slab.{get}
 use Rattle.art_arena.specs.Arena.{slab_room, held_option}
 use Rattle.art_arena.proofs.ArenaLemmas.{Changes-called, room-written}

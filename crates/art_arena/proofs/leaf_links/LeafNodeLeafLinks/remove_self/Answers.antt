@@ -1,7 +1,7 @@
 use Rattle.std.proofs.Common.{◌∙◌, sym, ap, rules}
 use Rattle.std.specs.Option.{ForSome, option_map}
 use Rattle.art_nodes.specs.Pointers.{slab_key}
-use Rattle.art_arena.specs.Links.{HoldsLeaf, Joins}
+use Rattle.art_arena.specs.Links.{HoldsLeaf}
 use Rattle.art_arena.proofs.LeafLemmas.{HoldsLeaf-previous, HoldsLeaf-next, Joins-at, Spells-removed, own_links}
 use Rattle.art_arena.proofs.leaf_links.LeafNodeLeafLinks.remove_self.Goals as goal
 

@@ -1,7 +1,7 @@
 use Rattle.std.proofs.Common.{◌≢◌, ◌∙◌, Some, sym, ap, rules}
 use Rattle.std.specs.Option.{ForSome, option_map}
 use Rattle.art_nodes.specs.Pointers.{slab_key}
-use Rattle.art_arena.specs.Links.{HoldsLeaf, StandsBetween, TakesPlace}
+use Rattle.art_arena.specs.Links.{HoldsLeaf}
 use Rattle.art_arena.proofs.LeafLemmas.{apart-from_next, apart-from_previous, HoldsLeaf-previous, HoldsLeaf-next, HoldsLeaf-kept, StandsBetween-at, TakesPlace-joined, SameButLinks-trans, Spells-replaced}
 use Rattle.art_arena.proofs.leaf_links.LeafNodeLeafLinks.replace.Goals as goal
 
