@@ -1,5 +1,5 @@
 -- Branches, one list after the other.
-use Rattle.std.proofs.Common.{◌≡◌, ◌∙◌, ℕ, suc, ◌+◌, ◌<◌, ◌≤◌, List, [], ◌∷◌, ◌++◌, length, length-append, map, refl, sym, ap, subst, arith, append_assoc}
+use Rattle.std.proofs.Common.{◌≡◌, ◌∙◌, ℕ, suc, ◌+◌, ◌<◌, ◌≤◌, List, [], ◌∷◌, ◌++◌, length, length-append, refl, sym, ap, subst, arith, append_assoc}
 use Rattle.std.proofs.lemmas.List.{map-append}
 use Rattle.art_nodes.specs.ChildMap.{IsAscendingFrom, key_bytes}
 use Rattle.art_arena.specs.Trees.{Tree, Branches, NoBranch, Branch, branch_roots, root_of, branch_leaves, branch_places, leaves, places, AreSound}

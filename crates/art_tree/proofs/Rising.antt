@@ -23,7 +23,7 @@ use Rattle.art_arena.specs.Standing.{StandsIn, AllStandIn, leaf_text}
 use Rattle.art_arena.specs.Trees.{Tree, Leaf, Inner, Branches, NoBranch, Branch, root_of, branch_roots, leaves, branch_leaves, places, branch_places, IsWellFormed}
 use Rattle.art_tree.specs.Plan.{join, one_branch, needed}
 use Rattle.art_tree.specs.Loading.{IsSnug, AreSnug, Adds}
-use Rattle.art_tree.specs.Raising.{node_of, IsPlaced, leaf_pairs, leaf_texts}
+use Rattle.art_tree.specs.Raising.{node_of, IsPlaced, HoldLeaves, leaf_pairs, leaf_texts}
 use Rattle.art_tree.specs.Search.{leaf_pointer}
 use Rattle.art_tree.specs.declared.loading.steps.Step.{Step}
 use Rattle.art_tree.specs.declared.loading.steps.Step.TheVariants as step
@@ -463,6 +463,63 @@ module _ {K V : Type 0} {P : ℕ} (text : K → List ℕ) (old : ArenaOf K V P) 
   pub pairs-count : (of : List (NodePtr P (LeafNode K V P))) → length (leaf_pairs text old of) ≡ length of
   pairs-count [] = refl
   pairs-count (leaf ∷ of) = ap suc (pairs-count of)
+
+-- what the next step finds, over the leaves themselves
+module _ {K V : Type 0} {P : ℕ} (text : K → List ℕ) (old : ArenaOf K V P) (of : List (NodePtr P (LeafNode K V P))) where
+  abbrev Rising : ArenaOf K V P → ℕ → List (ℕ × OpaqueNodePtr K V P) → List Step → Type 0
+  Rising now next pending steps = IsRising text (leaf_pairs text old of) (map leaf_pointer of) old now next pending steps
+
+  at_step : (now : ArenaOf K V P) (next : ℕ) (pending : List (ℕ × OpaqueNodePtr K V P)) (steps : List Step) (index : ℕ) (d this : Step) → index < length steps → get_or steps index d ≡ this → Rising now next pending (drop index steps) → Rising now next pending (this ∷ drop (index + 1) steps)
+  at_step now next pending steps index d this inside is rising = subst (Rising now next pending) (drop_more steps index d inside ∙ ap (λ s. s ∷ drop (index + 1) steps) is) rising
+
+  pub at_leaf : (now : ArenaOf K V P) (next : ℕ) (pending : List (ℕ × OpaqueNodePtr K V P)) (steps : List Step) (index : ℕ) (d : Step) (byte : ℕ) → index < length steps → get_or steps index d ≡ step.Leaf byte → Rising now next pending (drop index steps)
+      → record {
+        rising : Rising now next pending (step.Leaf byte ∷ drop (index + 1) steps);
+        inside : next < length of;
+        few : length pending ≤ next;
+      }
+  at_leaf now next pending steps index d byte below is before =
+      let rising = at_step now next pending steps index d (step.Leaf byte) below is before in
+      record {
+        rising = rising;
+        inside = omega (arith, leaf-within text _ _ old now next byte pending _ rising, pairs-count text old of);
+        few = few-pending text _ _ old now next pending _ rising;
+      }
+
+  -- the last leaf that is below the node has the text that the step is about
+  pub at_inner : (now : ArenaOf K V P) (next : ℕ) (pending : List (ℕ × OpaqueNodePtr K V P)) (steps : List Step) (index : ℕ) (d : Step) (byte start end children : ℕ) → index < length steps → get_or steps index d ≡ step.Inner byte start end children → Rising now next pending (drop index steps) → HoldLeaves old of
+      → record {
+        rising : Rising now next pending (step.Inner byte start end children ∷ drop (index + 1) steps);
+        some : 0 < next;
+        inside : next - 1 < length of;
+        few : length pending ≤ next;
+        ready : IsReady text (leaf_pairs text old of) (map leaf_pointer of) now rising.leads.0.1 pending start end children;
+        last : (leaf : NodePtr P (LeafNode K V P)) → record {
+          is_held : HoldsLeaf now (slab_key (get_or of (next - 1) leaf));
+          before : get_or (leaf_texts text old of) (next - 1) [] ≡ rising.leads.0.1;
+          now : text_at text now (slab_key (get_or of (next - 1) leaf)) ≡ rising.leads.0.1;
+        };
+      }
+  at_inner now next pending steps index d byte start end children below is before leaves_held =
+      let rising = at_step now next pending steps index d (step.Inner byte start end children) below is before in
+      let within = inner-within text _ _ old now next byte start end children pending _ rising in
+      let inside : next - 1 < length of = omega (arith, within.1, pairs-count text old of) in
+      record {
+        rising = rising;
+        some = within.0;
+        inside = inside;
+        few = few-pending text _ _ old now next pending _ rising;
+        ready = rise-ready text _ _ old now next byte start end children pending _ rising;
+        last = λ leaf.
+            let key = slab_key (get_or of (next - 1) leaf) in
+            let same : text_at text old key ≡ rising.leads.0.1 = ap (λ p. p.1) (some-same _ _ (sym (pair-there text old of (next - 1) leaf inside) ∙ rising.leads.2)) in
+            let kept = text-kept text old now key (leaves_held (next - 1) leaf inside) rising.kept in
+            record {
+              is_held = kept.0;
+              before = texts-there text old of (next - 1) leaf inside ∙ same;
+              now = kept.1 ∙ same;
+            };
+      }
 
 module _ {K V : Type 0} {P : ℕ} {old new : ArenaOf K V P} {node : nodes.Inner (OpaqueNodePtr K V P)} {at : OpaqueNodePtr K V P} where
   pub placed-kind : (kind other : NodeType) → other ≡ kind → IsPlaced old new kind node at → IsPlaced old new other node at

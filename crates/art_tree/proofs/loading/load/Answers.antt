@@ -1,4 +1,4 @@
-use Rattle.std.proofs.Common.{◌∙◌, ◌<◌, length, sym, subst, arith, rules, lit<}
+use Rattle.std.proofs.Common.{◌∙◌, sym, subst, arith, rules, lit<}
 use Rattle.std.proofs.lemmas.List.{length-map}
 use Rattle.art_tree.specs.Plan.{IsPlanOf, texts_of}
 use Rattle.art_tree.specs.Refusals.{HaveNoFault}

@@ -1,5 +1,4 @@
 use Rattle.std.proofs.Common.{◌<◌, ◌^◌, ℕ, length, ap, sym, subst, arith, rules, lit<}
-use Rattle.art_arena.specs.Arena.{room}
 use Rattle.art_tree.specs.Plan.{IsPlanOf, needed, text_at, texts_of}
 use Rattle.art_tree.specs.Loading.{AreLinked}
 use Rattle.art_tree.proofs.Linking.{hold-held, hold-texts, hold-count}
