@@ -13,7 +13,7 @@ use Rattle.art_nodes.specs.declared.leaf_node.LeafNode.{LeafNode}
 use Rattle.art_arena.specs.Arena.{ArenaOf, Held, Nothing, HeldInner, HeldLeaf, held_leaf, held, pointer_to, Changes}
 use Rattle.art_arena.specs.Links.{leaf_at, previous_at, next_at, Spells, SpellsAfter, HoldsLeaf, IsUnlinked, IsKnit, SameButLinks, Joins, StandsBetween, TakesPlace, with_value_at}
 use Rattle.art_arena.specs.Relinking.{SetsNext, SetsPrevious}
-use Rattle.art_arena.proofs.LinkedLists.{first_or, last_or, last_or-push, last_or-each, first_or-each, first_or-slice_get, Linked, Linked-last, Linked-split, Linked-exchanged, unlinked_is_apart, Each-append, Each-split, Each-weaker, Distinct-from, AreDistinct-from, Distinct-insert, Distinct-remove}
+use Rattle.art_arena.proofs.LinkedLists.{first_or, last_or, last_or-push, last_or-each, first_or-each, first_or-slice_get, Linked, Linked-split, Linked-exchanged, unlinked_is_apart, Each-append, Each-split, Each-weaker, Distinct-from, AreDistinct-from, Distinct-insert, Distinct-remove}
 
 none_differs : (k : ℕ) → None ≢ Some k
 none_differs k = λ same. cc
@@ -197,25 +197,6 @@ module _ {K V : Type 0} {P : ℕ} where
 
   Held-kept : (old new : ArenaOf K V P) (keys : List ℕ) → SameButLinks old new → AllByRecursion (HoldsLeaf old) keys → AllByRecursion (HoldsLeaf new) keys
   Held-kept old new keys same held = Each-weaker (HoldsLeaf old) (HoldsLeaf new) (λ key holds. HoldsLeaf-kept old new key same holds) keys held
-
-  -- each leaf of a list that links spell is knit
-  pub Spells-knit : (arena : ArenaOf K V P) (before after : List ℕ) (key : ℕ) → Spells arena (before ++ key ∷ after) → IsKnit arena key
-  Spells-knit arena before after key spells =
-      let parts = Linked-split (next_at arena) (previous_at arena) None before (key ∷ after) None (Linked-from arena None (before ++ key ∷ after) spells.spelled) in
-      let held = Each-split (HoldsLeaf arena) before (key ∷ after) (Held-from arena None (before ++ key ∷ after) spells.spelled) in
-      record {
-        held = held.1.0;
-        previous = λ other named. last_next before (Some key) other parts.0 (sym parts.1.0 ∙ named);
-        next = λ other named. first_previous after key other parts.1.2 (sym parts.1.1 ∙ named);
-      }
-    where
-      last_next : (xs : List ℕ) (end : Option ℕ) (other : ℕ) → Linked (next_at arena) (previous_at arena) None xs end → last_or None xs ≡ Some other → next_at arena other ≡ end
-      last_next [] end other linked last = cc
-      last_next (x ∷ xs) end other linked last = Linked-last (next_at arena) (previous_at arena) None x xs end other linked last
-
-      first_previous : (xs : List ℕ) (start other : ℕ) → Linked (next_at arena) (previous_at arena) (Some start) xs None → first_or xs None ≡ Some other → previous_at arena other ≡ Some start
-      first_previous [] start other linked first = cc
-      first_previous (x ∷ xs) start other linked first = ap (previous_at arena) (sym (same_Some _ _ first)) ∙ linked.0
 
   -- a list goes on being spelled where none of its leaves changed
   pub Spells-kept : (old new : ArenaOf K V P) (keys : List ℕ) → AllByRecursion (λ key. leaf_at new key ≡ leaf_at old key) keys → Spells old keys → Spells new keys

@@ -1,11 +1,10 @@
-pub mod ArenaLemmas
-pub mod LeafLemmas
-pub mod LinkedLists
-pub mod MatchLemmas
-pub mod PlaceLemmas
-pub mod PlantLemmas
-pub mod ReadLemmas
-pub mod TextLemmas
-pub mod TreeLemmas
-pub mod WayLemmas
-pub mod LeafTexts
+mod ArenaLemmas
+mod LeafLemmas
+mod LinkedLists
+mod MatchLemmas
+mod PlaceLemmas
+mod PlantLemmas
+mod ReadLemmas
+mod TextLemmas
+mod TreeLemmas
+mod WayLemmas

@@ -120,11 +120,6 @@ module _ (next previous : ℕ → Option ℕ) where
   Linked-append before (x ∷ xs) ys after front back =
       (front.0, front.1 ∙ sym (first_or-append xs ys after), Linked-append (Some x) xs ys after front.2 back)
 
-  -- the last names what comes after the list
-  pub Linked-last : (before : Option ℕ) (x : ℕ) (xs : List ℕ) (after : Option ℕ) (k : ℕ) → Linked next previous before (x ∷ xs) after → last_or (Some x) xs ≡ Some k → next k ≡ after
-  Linked-last before x [] after k linked last = ap next (sym (same_Some _ _ last)) ∙ linked.1
-  Linked-last before x (y ∷ ys) after k linked last = Linked-last (Some x) y ys after k linked.2 last
-
   -- whoever stands before another has a next
   pub next-of_front : (before : Option ℕ) (xs : List ℕ) (last : ℕ) → Linked next previous before xs (Some last) → AllByRecursion (λ k. next k ≢ None) xs
   next-of_front before [] last linked = tt

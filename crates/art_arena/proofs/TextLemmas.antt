@@ -15,9 +15,6 @@ use Rattle.art_bytes.specs.Text.{IsFront, text_order}
 pub front-itself : (a : List ℕ) → IsFront a a
 front-itself a = ([], sym (append-nil a))
 
-pub front-trans : (a b c : List ℕ) → IsFront a b → IsFront b c → IsFront a c
-front-trans a b c (r, b_is) (s, c_is) = (r ++ s, c_is ∙ ap (λ z. z ++ s) b_is ∙ append_assoc a r s)
-
 -- what a longer text begins, its front begins
 pub front-shorter : (a b text : List ℕ) → IsFront (a ++ b) text → IsFront a text
 front-shorter a b text (rest, is) = (b ++ rest, is ∙ append_assoc a b rest)

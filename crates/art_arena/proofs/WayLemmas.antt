@@ -60,10 +60,6 @@ module _ {H L : Type 0} (room : ℕ) (text_of : L → List ℕ) (held_at : H →
     pub deep : passed ≤ length path
     pub within : (leaf : H × List ℕ) → Contains (leaves part) leaf → Contains (leaves whole) leaf
 
-  -- it begins at the root
-  pub IsOnWay-start : (whole : Tree H) (at : H) (path : List ℕ) → root_of whole ≡ at → Stands room text_of held_at whole → IsSound path whole → IsOnWay whole at 0
-  IsOnWay-start whole at path at_root stands sound = record { part = whole; path = path; at_root = at_root; stands = stands; sound = sound; deep = omega arith; within = λ leaf in_part. in_part }
-
   -- no way is as long as a text may be
   pub IsOnWay-fits : (whole : Tree H) (at : H) (passed : ℕ) → IsOnWay whole at passed → passed < 2 ^ 64
   IsOnWay-fits whole at passed on = omega (arith, on.deep, path-fits on.path on.part on.sound)
@@ -139,11 +135,6 @@ module _ {H L : Type 0} (room : ℕ) (text_of : L → List ℕ) (held_at : H →
   IsOnWay-under node (Inner pointer prefix branches) path byte child (shows, stand) sound first =
       let below = IsFirst-child (path ++ prefix) branches byte child sound.2 stand (ap first_pair (sym shows.children) ∙ first) in
       record { part = below.tree; path = (path ++ prefix) ++ below.byte ∷ []; at_root = below.at_root; stands = below.stands; sound = below.sound; deep = omega arith; within = below.within }
-
-  -- a node of a tree has a child
-  pub has_child-under : (node : nodes.Inner H) (whole : Tree H) (path : List ℕ) → StandsUnder room text_of held_at node whole → IsSound path whole → 0 < length node.children
-  has_child-under node (Leaf pointer text) path stands sound = absurd stands
-  has_child-under node (Inner pointer prefix branches) path (shows, stand) sound = omega (arith, sound.0, ap length shows.children)
 
   -- what holds of each text holds of a leaf's
   pub of_leaf : (P : List ℕ → Type 0) (tree : Tree H) (pointer : H) (text : List ℕ) → All P (texts tree) → Contains (leaves tree) (pointer, text) → P text

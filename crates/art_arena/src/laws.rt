@@ -1,4 +1,4 @@
-//! What holds of every tree. The functions do no work: the contract of each is a law.
+//! What holds of every tree and every list. The functions do no work: the contract of each is a law.
 //!
 //! A tree is seen as plain data, a leaf with its pointer and its text or an inner node with its
 //! pointer, its prefix and its branches by ascending byte. It is sound under a path where every
@@ -10,7 +10,7 @@ ghost use Rattle.art_bytes.specs.Text.{IsFront, text_order};
 ghost use Rattle.art_nodes.specs.ChildMap.{IsAscending, key_bytes};
 ghost use Rattle.art_nodes.specs.declared.pointers.OpaqueNodePtr.{OpaqueNodePtr};
 ghost use Rattle.art_arena.specs.Arena.{ArenaOf, HeldInner, Nothing, Changes, held};
-ghost use Rattle.art_arena.specs.Links.{AreDistinct};
+ghost use Rattle.art_arena.specs.Links.{AreDistinct, Spells};
 ghost use Rattle.art_arena.specs.SharedFront.{IsSharedFront, IsSharedFrom};
 ghost use Rattle.art_arena.specs.Standing.{NodeStands, StandsIn, AllStandIn};
 ghost use Rattle.art_arena.specs.Trees.{Tree, Inner, Branches, branch_roots, texts, places, IsSound, AreSound, SameButPointers};
@@ -71,4 +71,11 @@ pub fn allocating_leaves_trees_standing<K: AsBytes, V, const PREFIX_LEN: usize>(
     ensures branches { (old new : ArenaOf K V PREFIX_LEN) (pointer : _) (now : _) (branches : _) →
         held old pointer ≡ Nothing → Changes old new pointer now →
         AllStandIn K.text old branches → AllStandIn K.text new branches }
+{}
+
+/// To allocate keeps every list of leaves that links spell.
+pub fn allocating_keeps_lists_spelled<K, V, const PREFIX_LEN: usize>()
+    ensures { (old new : ArenaOf K V PREFIX_LEN) (pointer : _) (now : _) (keys : List ℕ) →
+        held old pointer ≡ Nothing → Changes old new pointer now →
+        Spells old keys → Spells new keys }
 {}

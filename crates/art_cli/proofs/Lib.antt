@@ -1,9 +1,9 @@
-pub mod Commands
-pub mod Failures
-pub mod Numbers
-pub mod Parts
-pub mod Writes
-pub mod Parsing
-pub mod Finding
-pub mod Loaded
-pub mod Refusals
+mod Commands
+mod Failures
+mod Numbers
+mod Parts
+mod Writes
+mod Parsing
+mod Finding
+mod Loaded
+mod Refusals

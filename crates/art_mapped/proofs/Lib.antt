@@ -1,7 +1,7 @@
-pub mod Answered
-pub mod Cuts
-pub mod Flip
-pub mod Pairs
-pub mod Parts
-pub mod Turns
-pub mod Vecs
+mod Answered
+mod Cuts
+mod Flip
+mod Pairs
+mod Parts
+mod Turns
+mod Vecs

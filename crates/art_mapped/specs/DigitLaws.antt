@@ -134,9 +134,6 @@ number_of-sum (suc k) (d ∷ ds) long =
     let whole : suc k - 0 ≡ suc k = omega arith in
     rw (sum_from_first (λ i. byte_worth (suc k - i) (get_or (d ∷ ds) i 0)) k, rest, short, whole) refl
 
--- the number that std reads from as many bytes as the width has lies below its range's end, and has these bytes as its digits
-pub number_below : (k : ℕ) (ds : List ℕ) (n : ℕ) → length ds ≡ suc k → AreBytes ds → n ≡ sum_through (λ i. byte_worth (k - i) (get_or ds i 0)) k → n < 256 ^ suc k
-number_below k ds n long bytes read = rw (read ∙ number_of-sum k ds long, ← long) (number_of_below ds bytes)
-
+-- the number that std reads from as many bytes as the width has has these bytes as its digits
 pub digits-read : (k : ℕ) (ds : List ℕ) (n : ℕ) → length ds ≡ suc k → AreBytes ds → n ≡ sum_through (λ i. byte_worth (k - i) (get_or ds i 0)) k → digits (suc k) n ≡ ds
 digits-read k ds n long bytes read = rw (read ∙ number_of-sum k ds long) (digits-number_of (suc k) ds long bytes)

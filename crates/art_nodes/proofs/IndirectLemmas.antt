@@ -18,7 +18,7 @@ use Rattle.art_nodes.specs.Inner.{IsInner, inner_with}
 use Rattle.art_nodes.specs.IndirectNode.{named_pointer, named_pointers, has_index, AreBelow, AreKept, IsIndirectNode}
 use Rattle.art_nodes.proofs.ListLemmas.{slice_get-set_same, slice_get-set_other, slice_get-push_before, slice_get-push_at, length-swap_remove, slice_get-swap_remove_at, slice_get-swap_remove_other, one_if, times, times-cons, times-range, permutation_from_times}
 use Rattle.art_nodes.proofs.ChildMapLaws.{sound_removed}
-use Rattle.art_nodes.proofs.ChildMapLemmas.{cases_eq, eq-false}
+use Rattle.art_nodes.proofs.ChildMapLemmas.{cases_eq}
 
 -- how many places have an index
 abbrev uses : ℕ → List (Option ℕ) → ℕ
@@ -43,9 +43,6 @@ moved_to indices place index last = set (set indices last (Some index)) place No
 
 counts-same : (index : ℕ) → counts index (Some index) ≡ 1
 counts-same index = ap one_if (eq-eqb index index refl)
-
-counts-other : (index other : ℕ) → other ≢ index → counts index (Some other) ≡ 0
-counts-other index other differs = ap one_if (eq-false other index differs)
 
 uses-set : (index : ℕ) (indices : List (Option ℕ)) (place : ℕ) (now : Option ℕ) → place < length indices → uses index (set indices place now) + counts index (get_or indices place None) ≡ uses index indices + counts index now
 uses-set index indices place now within = sum_by-set (counts index) indices place now None within

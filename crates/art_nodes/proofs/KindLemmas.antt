@@ -106,10 +106,6 @@ Shrinks-kind Node48 inner greater = record { inner = λ e. cc; least = refl; man
 Shrinks-kind Node256 inner greater = record { inner = λ e. cc; least = refl; many = omega arith }
 Shrinks-kind Leaf inner greater = absurd (inner refl)
 
--- a removal that leaves a node in its range keeps the kind
-pub kept-remove : (kind : NodeType) (count left : ℕ) → IsOfKind kind count → left ≤ count → (kind ≢ Node4 → least_children kind ≤ left) → kind ≡ kind_for left
-kept-remove kind count left of le many = kind_for-IsOfKind kind left (record { inner = of.inner; few = omega (arith, of.few); many = many })
-
 -- one that leaves it below its range asks for the next smaller kind
 pub shrunk-remove : (kind : NodeType) (count left : ℕ) → IsOfKind kind count → count ≤ left + 1 → kind ≢ Node4 → left < least_children kind → shrunk_kind kind ≡ kind_for left
 shrunk-remove kind count left of le greater below =

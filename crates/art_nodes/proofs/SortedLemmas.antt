@@ -136,9 +136,6 @@ module _ {H : Type 0} {prefix_room room : ℕ} {header : Header} {bytes : List �
   pub bytes_counted : header.count ≡ length bytes
   bytes_counted = sorted.counted ∙ length-zip bytes children sorted.beside
 
-  pub bytes_fit : length bytes ≤ room
-  bytes_fit = omega (arith, sorted.sound.fits, length-zip bytes children sorted.beside)
-
   pub count_fits : header.count ≤ 256
   count_fits = omega (arith, bytes_counted, ascending-length 0 bytes (omega arith) sorted.ascending)
 

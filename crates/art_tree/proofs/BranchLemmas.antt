@@ -53,10 +53,6 @@ pub below-last : (low : ℕ) (bytes : List ℕ) (byte top : ℕ) → AscendBelow
 below-last low [] byte top h lt = (h, omega (arith, lt))
 below-last low (x ∷ bytes) byte top h lt = (h.0, below-last (suc x) bytes byte top h.1 lt)
 
-pub below-more : (low : ℕ) (bytes : List ℕ) (byte top : ℕ) → AscendBelow low bytes byte → byte ≤ top → AscendBelow low bytes top
-below-more low [] byte top h le = omega (arith, h, le)
-below-more low (x ∷ bytes) byte top h le = (h.0, below-more (suc x) bytes byte top h.1 le)
-
 -- lists that end with one element each are equal where their fronts and their ends are
 pub last-same : {A : Type 0} (xs ys : List A) (x y : A) → xs ++ x ∷ [] ≡ ys ++ y ∷ [] → (xs ≡ ys) × (x ≡ y)
 last-same [] [] x y e = (refl, cc)

@@ -1,14 +1,14 @@
-pub mod DescentLemmas
-pub mod OnlyWayLemmas
-pub mod PathLemmas
-pub mod ScanLemmas
-pub mod WayLemmas
-pub mod BranchLemmas
-pub mod ChildLemmas
-pub mod Leading
-pub mod Linking
-pub mod Loaded
-pub mod Planning
-pub mod RefusalLemmas
-pub mod Rising
-pub mod TreeLemmas
+mod DescentLemmas
+mod OnlyWayLemmas
+mod PathLemmas
+mod ScanLemmas
+mod WayLemmas
+mod BranchLemmas
+mod ChildLemmas
+mod Leading
+mod Linking
+mod Loaded
+mod Planning
+mod RefusalLemmas
+mod Rising
+mod TreeLemmas

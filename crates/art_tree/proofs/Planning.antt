@@ -117,10 +117,6 @@ open-path text (f ∷ fs) h = omega (arith, h.0.within)
 pub planned-path : (texts : List (List ℕ)) (i : ℕ) (top : Open) (xs : List Open) (steps : List Step) → IsPlanned texts i top xs steps → top.path ≤ length (text_at texts i)
 planned-path texts i top xs steps p = omega (arith, top-path p.frames xs top p.opened, open-path (text_at texts i) p.frames p.are_open)
 
--- before the first text
-pub planned-none : (texts : List (List ℕ)) → IsPlanned texts 0 (record { path = 0; children = 0 }) [] []
-planned-none texts = record { frames = []; opened = refl; spans = refl; are_open = tt; in_order = refl }
-
 pub parts-between : (texts : List (List ℕ)) (i : ℕ) (text next : List ℕ) (at : ℕ) → i + 1 < length texts → next ≡ text_at texts (i + 1) → IsFork text next at → Parts texts i text (at + 1)
 parts-between texts i text next at lt is_next fork = record {
   between = λ _. (at, refl, subst (λ t. IsFork text t at) is_next fork);

@@ -4,7 +4,7 @@ use Rattle.std.specs.Option.{option_map_or}
 use Rattle.std.specs.List.{Contains}
 use Rattle.std.proofs.lemmas.Bool.{cases_lt, cases_eq}
 use Rattle.std.proofs.lemmas.Bool.Decides.{nat_tests}
-use Rattle.std.proofs.lemmas.List.{length-map, append-nil, take_at, drop_at, drop_more, take_more, take_rest, drop_all, take_all}
+use Rattle.std.proofs.lemmas.List.{length-map, append-nil, take_at, drop_at, drop_more, take_more, take_rest}
 use Rattle.std.proofs.lemmas.Option.{slice_get_within, get_or_from_slice_get}
 use Rattle.std.proofs.lemmas.List.Elements.{Contains-append_left, Contains-append_right, Contains-append_cases, Contains-push_cases, Contains-push}
 use Rattle.art_header.specs.NodeType.{kind_for, least_children, most_children}
@@ -20,9 +20,9 @@ use Rattle.art_nodes.specs.declared.leaf_node.LeafNode.{LeafNode}
 use Rattle.art_arena.specs.Arena.{ArenaOf, Held, HeldInner, HeldLeaf, Nothing, held, held_leaf, pointer_to, room, SameOtherRoom, Changes}
 use Rattle.art_arena.specs.Links.{HoldsLeaf, leaf_at, text_at}
 use Rattle.art_arena.specs.Standing.{StandsIn, AllStandIn, leaf_text}
-use Rattle.art_arena.specs.Trees.{Tree, Leaf, Inner, Branches, NoBranch, Branch, root_of, branch_roots, leaves, branch_leaves, places, branch_places, IsWellFormed}
+use Rattle.art_arena.specs.Trees.{Tree, Leaf, Inner, Branches, NoBranch, Branch, branch_roots, branch_leaves, branch_places}
 use Rattle.art_tree.specs.Plan.{join, one_branch, needed}
-use Rattle.art_tree.specs.Loading.{IsSnug, AreSnug, Adds}
+use Rattle.art_tree.specs.Loading.{AreSnug, Adds}
 use Rattle.art_tree.specs.Raising.{node_of, IsPlaced, HoldLeaves, leaf_pairs, leaf_texts}
 use Rattle.art_tree.specs.Search.{leaf_pointer}
 use Rattle.art_tree.specs.declared.loading.steps.Step.{Step}
@@ -392,26 +392,6 @@ module _ {K V : Type 0} {P : ℕ} (text : K → List ℕ) (pairs : List (OpaqueN
       rise-inner old now new next byte start end children pending after steps at r
       (subst (λ t. IsPlaced now new (kind_for (length (drop (length pending - children) pending))) (node_of P (take (end - start) (drop start t)) (drop (length pending - children) pending)) at) is_last
       (subst (λ k. IsPlaced now new (kind_for (length k)) (node_of P (take (end - start) (drop start last)) k) at) is_kids p)) is_after
-
-  -- no step is left
-  pub risen : (old now : ArenaOf K V P) (next : ℕ) (pending : List (ℕ × OpaqueNodePtr K V P)) → length pointers ≡ length pairs → IsRising old now next pending []
-      → (0 < length pending) × ((d : ℕ × OpaqueNodePtr K V P) → (tree : Tree (OpaqueNodePtr K V P)) × (root_of tree ≡ (get_or pending 0 d).1) × StandsIn text now tree × IsWellFormed tree × IsSnug tree × (leaves tree ≡ pairs) × ((before : ArenaOf K V P) → Adds before old pointers → Adds before now (places tree)))
-  risen old now next pending long r =
-      let tree = r.leads.2 in
-      let one : r.stack ≡ one_branch r.leads.1 tree = r.leads.3 in
-      let made : pending ≡ (r.leads.1, root_of tree) ∷ [] = sym r.roots ∙ ap branch_roots one in
-      let all : drop next pointers ≡ [] = drop_all next pointers (omega (arith, long, r.leads.0)) in (
-        omega (arith, ap length made),
-        λ d. (
-          tree,
-          ap (λ p. (get_or p 0 d).1) (sym made),
-          (subst (AllStandIn text now) one r.stands).0,
-          r.leads.4,
-          (subst AreSnug one r.snug).0,
-          sym (append-nil (leaves tree)) ∙ ap branch_leaves (sym one) ∙ r.in_order ∙ take_all next pairs (omega (arith, r.leads.0)),
-          λ before a. subst (Adds before now) (ap (λ z. branch_places r.stack ++ z) all ∙ append-nil (branch_places r.stack) ∙ ap branch_places one ∙ append-nil (places tree)) (r.adds before a),
-        ),
-      )
 
   -- the next leaf is there, and so is the last one
   pub leaf-within : (old now : ArenaOf K V P) (next byte : ℕ) (pending : List (ℕ × OpaqueNodePtr K V P)) (steps : List Step) → IsRising old now next pending (step.Leaf byte ∷ steps) → next < length pairs

@@ -24,8 +24,6 @@ use Rattle.art_tree.specs.declared.path.TreePathSearch.{TreePathSearch}
 use Rattle.art_tree.specs.Descent.{LeadsOn, LeadsNowhere, LeadsOnFrom, LeadsNowhereFrom}
 use Rattle.art_tree.specs.Paths.{Steps, StandsFor}
 use Rattle.art_tree.specs.Search.{scan, met, IsWay, leaf_pointer}
-use Rattle.art_arena.proofs.PlaceLemmas.{places-distinct}
-use Rattle.art_tree.proofs.OnlyWayLemmas.{one-way}
 use Rattle.art_tree.proofs.DescentLemmas.{front-goes}
 use Rattle.art_tree.proofs.ScanLemmas.{scan-nowhere, met-nowhere, branching, other-text, text-itself}
 
@@ -70,23 +68,11 @@ module _ {K V : Type 0} {P : ℕ} where
   pub leaf-pointer-is : (at : OpaqueNodePtr K V P) (leaf : NodePtr P (LeafNode K V P)) → node_kind at ≡ kinds.Leaf → slab_key leaf ≡ opaque_key at → leaf_pointer leaf ≡ at
   leaf-pointer-is at leaf kind key = λ i. record { node_type = sym kind i; key = key i; leaf = record {} }
 
--- ways to one pointer of a well-formed tree that stands are one
-pub here-only-way : {K V : Type 0} {P : ℕ} (text : K → List ℕ) (arena : ArenaOf K V P) (tree : Tree (OpaqueNodePtr K V P)) (root : OpaqueNodePtr K V P) → IsTreeIn text arena root tree → (steps others : Steps K V P) (pointer : OpaqueNodePtr K V P) → IsWay tree steps pointer → IsWay tree others pointer → others ≡ steps
-here-only-way {K} {V} {P} text arena tree root is steps others pointer way way_too = one-way tree (places-distinct P (leaf_text text) (held arena) [] tree is.sound is.stands) steps others pointer way way_too
-
 module _ {K V : Type 0} {P : ℕ} (text : K → List ℕ) (arena : ArenaOf K V P) (whole : Tree (OpaqueNodePtr K V P)) (key : List ℕ) where
   pub here-start : (root : OpaqueNodePtr K V P) (search : TreePathSearch K V P) (budget : ℕ) → IsTreeIn text arena root whole → StandsFor search [] → IsHere text arena whole key root 0 search budget budget
   here-start root search budget is empty = record { part = whole; path = []; steps = []; at_root = is.at_root; stands = is.stands; sound = is.sound; deep = refl; same_scan = refl; same_met = omega arith; way_on = λ more pointer way. way; remembered = empty; counted = omega arith; few = omega arith }
 
   module _ (at : OpaqueNodePtr K V P) (depth : ℕ) (search : TreePathSearch K V P) (budget left : ℕ) (here : IsHere text arena whole key at depth search budget left) where
-    -- something is held where a search is
-    pub here-held : held arena at ≢ Nothing
-    here-held nothing = by_part here.part here.at_root here.stands
-      where
-        by_part : (part : Tree (OpaqueNodePtr K V P)) → root_of part ≡ at → StandsIn text arena part → ⊥
-        by_part (Leaf pointer x) root (leaf, holds, has) = let one : HeldLeaf leaf ≡ Nothing = sym holds ∙ ap (held arena) root ∙ nothing in absurd (cc)
-        by_part (Inner pointer prefix branches) root (node, holds, shows, stand) = let one : HeldInner node ≡ Nothing = sym holds ∙ ap (held arena) root ∙ nothing in absurd (cc)
-
     -- the search is at a leaf
     pub record AtLeaf (leaf : LeafNode K V P) : Type 0 where
       pub same_scan : scan whole key ≡ (if pointwise nat_eq (leaf_text text leaf) key then (at, leaf_text text leaf) ∷ [] else [])

@@ -6,7 +6,8 @@ use Rattle.art_arena.specs.Arena.{held}
 use Rattle.art_arena.specs.Standing.{leaf_text}
 use Rattle.art_tree.specs.Search.{IsWay}
 use Rattle.art_tree.specs.Paths.{StandsFor}
-use Rattle.art_tree.proofs.WayLemmas.{here-start, here-only-way, here-leaf, here-nowhere-scan, here-nowhere-met, here-on, leaf-kind, still-held, leaf-pointer-is, told, told-on, told-nowhere, told-later, at-some, leaf-hit, leaf-miss, not-true}
+use Rattle.art_tree.proofs.OnlyWayLemmas.{one-way}
+use Rattle.art_tree.proofs.WayLemmas.{here-start, here-leaf, here-nowhere-scan, here-nowhere-met, here-on, leaf-kind, still-held, leaf-pointer-is, told, told-on, told-nowhere, told-later, at-some, leaf-hit, leaf-miss, not-true}
 use Rattle.art_tree.proofs.find.find_leaf.Goals as goal
 
 pub way-init : goal.way-init
@@ -32,7 +33,7 @@ returns-then-matches_full_key g c =
       path = λ tree is.
           let here = c.way.invariant.here tree is in
           let at = here-leaf text arena tree c.args.key.now c.way.at c.way.depth c.way.search _ _ here c.in-LeafNode.leaf.now holds in
-          (here.steps, (subst (IsWay tree here.steps) (sym pointer) at.way, λ others way. here-only-way text arena tree c.args.root is here.steps others c.way.at at.way (subst (IsWay tree others) pointer way)), (c.finish.ensures here.steps).0 here.remembered);
+          (here.steps, (subst (IsWay tree here.steps) (sym pointer) at.way, λ others way. one-way tree (c.each_pointer_is_at_one_place.ensures arena [] tree is.stands is.sound) here.steps others c.way.at at.way (subst (IsWay tree others) pointer way)), (c.finish.ensures here.steps).0 here.remembered);
       looks = λ tree is.
           let here = c.way.invariant.here tree is in
           let at = here-leaf text arena tree c.args.key.now c.way.at c.way.depth c.way.search _ _ here c.in-LeafNode.leaf.now holds in
@@ -44,7 +45,7 @@ returns-then-matches_full_key g c =
       looks_of_found = λ tree is steps way.
           let here = c.way.invariant.here tree is in
           let at = here-leaf text arena tree c.args.key.now c.way.at c.way.depth c.way.search _ _ here c.in-LeafNode.leaf.now holds in
-          at.looks ∙ ap (λ all. length all + 1) (sym (here-only-way text arena tree c.args.root is here.steps steps c.way.at at.way (subst (IsWay tree steps) pointer way)));
+          at.looks ∙ ap (λ all. length all + 1) (sym (one-way tree (c.each_pointer_is_at_one_place.ensures arena [] tree is.stands is.sound) here.steps steps c.way.at at.way (subst (IsWay tree steps) pointer way)));
       same_arena = c.look-node.ensures.same_arena ∙ c.way.invariant.same_arena;
       held = still-held _ arena c.way.at c.unwrap.result c.in-LeafNode.leaf.now (c.look-node.ensures.same_arena ∙ c.way.invariant.same_arena) pointer holds;
     }
