@@ -3,7 +3,6 @@ ghost use Rattle.std.specs.Prelude.{◌≡◌, ◌==◌, ◌<◌, ◌∷◌, len
 ghost use Rattle.art_cli.specs.Lines.{lines_of};
 
 // The first line, and what comes after the byte that ends it.
-#[tactic(auto, using(crate::proofs::Parts::lines_cut, crate::proofs::Parts::lines_alone))]
 pub fn first_line(bytes: &[u8]) -> (&[u8], &[u8])
     requires { 0 < length bytes.now }
     ensures lines { lines_of bytes.now ≡ result.0.now ∷ lines_of result.1.now }

@@ -109,7 +109,6 @@ fn split_words(line: &[u8]) -> Words<'_>
 }
 
 // The first word, and what comes after the space that ends it, if one does.
-#[tactic(auto, using(crate::proofs::Parts::words_cut, crate::proofs::Parts::words_alone))]
 fn first_word(line: &[u8]) -> (&[u8], Option<&[u8]>)
     ensures { MatchOption result.1 (words_of line.now ≡ result.0.now ∷ [])
         (λ rest. words_of line.now ≡ result.0.now ∷ words_of rest.now) }

@@ -25,3 +25,9 @@ returns-in-Some g c tree stands holds =
       },
       reads,
     )
+
+pub returns-in-None : goal.returns-in-None
+returns-in-None g c tree stands holds =
+    let here : IsTreeIn g.K.AsBytes.text c.with_budget-reader.result.arena c.args.root tree = rw c.with_budget-reader.ensures.arena stands in
+    let looks = c.in-None.ensures.looks tree here in
+    (c.in-None.ensures.answer tree here, omega (arith, looks, c.with_budget-reader.ensures.budget, c.remaining.ensures))
