@@ -1,4 +1,4 @@
--- A tree in an arena: beside what is loaded, and at the node of its root.
+-- A tree in an arena, beside what is loaded.
 use Rattle.std.proofs.Common.{ℕ, List}
 use Rattle.art_nodes.specs.declared.pointers.OpaqueNodePtr.{OpaqueNodePtr}
 use Rattle.art_arena.specs.Arena.{ArenaOf}
