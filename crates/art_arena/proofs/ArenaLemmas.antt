@@ -9,36 +9,8 @@ use Rattle.art_header.specs.declared.node_type.NodeType.TheVariants.{Node4, Node
 use Rattle.art_nodes.specs.Pointers.{node_kind, opaque_key}
 use Rattle.art_nodes.specs.declared.pointers.OpaqueNodePtr.{OpaqueNodePtr}
 use Rattle.art_nodes.specs.declared.leaf_node.LeafNode.{LeafNode}
+use Rattle.art_nodes.proofs.KindLaws.{same_or_differ}
 use Rattle.art_arena.specs.Arena.{ArenaOf, Held, held_under, held_option, pointer_to, Changes, SameNodes, room, slab_room, SameRoom, SameOtherRoom}
-
-place : NodeType → ℕ
-place Node4 = 0
-place Node16 = 1
-place Node48 = 2
-place Node256 = 3
-place Leaf = 4
-
-of_place : ℕ → NodeType
-of_place zero = Node4
-of_place (suc zero) = Node16
-of_place (suc (suc zero)) = Node48
-of_place (suc (suc (suc zero))) = Node256
-of_place (suc (suc (suc (suc n)))) = Leaf
-
-of_place-place : (kind : NodeType) → of_place (place kind) ≡ kind
-unfolding place of_place
-of_place-place Node4 = refl
-of_place-place Node16 = refl
-of_place-place Node48 = refl
-of_place-place Node256 = refl
-of_place-place Leaf = refl
-
--- two kinds are one or differ
-pub cases_kind : (a b : NodeType) → (a ≡ b) ⊎ (a ≢ b)
-cases_kind a b = elim (cases_eq (place a) (place b)) [
-  | inl same ↦ inl (sym (of_place-place a) ∙ ap of_place same ∙ of_place-place b)
-  | inr differ ↦ inr (λ same. differ (ap place same))
-]
 
 -- a value in the place of another takes no room
 pub slab_room-with_value : {T : Type 0} (slab : Slab T) (key : ℕ) (value : T) → ContainsKey slab key → slab_room (with_value slab key value) ≡ slab_room slab
@@ -54,7 +26,7 @@ module _ {K V : Type 0} {P : ℕ} {N : Type 0} (kind : NodeType) (slab_of : Aren
   pub Changes-written : (arena : ArenaOf K V P) (slots : Slab N) (key : ℕ) (slot : Option N) → Updates (slab_of arena) slots key slot → Changes arena (with_slab arena slots) (pointer_to kind key) (held_option held_as slot)
   Changes-written arena slots key slot updates = record {
     changed = held_in_slab (with_slab arena slots) key ∙ ap (λ s. held_option held_as (get s key)) (slab_written arena slots) ∙ ap (held_option held_as) updates.changed;
-    others = λ pointer other. elim (cases_kind (node_kind pointer) kind) [
+    others = λ pointer other. elim (same_or_differ (node_kind pointer) kind) [
       | inr differ ↦ others_kept arena slots _ _ differ
       | inl same ↦ let key_differs : opaque_key pointer ≢ key = λ same_key. other (λ i. record { node_type = same i; key = same_key i; leaf = record {} }) in
           ap (λ k. held_under (with_slab arena slots) k (opaque_key pointer)) same ∙ held_in_slab (with_slab arena slots) (opaque_key pointer) ∙ ap (λ s. held_option held_as (get s (opaque_key pointer))) (slab_written arena slots) ∙ ap (held_option held_as) (updates.others _ key_differs) ∙ sym (held_in_slab arena (opaque_key pointer)) ∙ sym (ap (λ k. held_under arena k (opaque_key pointer)) same)
@@ -68,7 +40,7 @@ module _ {K V : Type 0} {P : ℕ} {N : Type 0} (kind : NodeType) (slab_of : Aren
 
   -- a slab that gives the same value under each key changes no node
   pub SameNodes-written : (arena : ArenaOf K V P) (slots : Slab N) → ((key : ℕ) → get slots key ≡ get (slab_of arena) key) → SameNodes arena (with_slab arena slots)
-  SameNodes-written arena slots kept = λ pointer. elim (cases_kind (node_kind pointer) kind) [
+  SameNodes-written arena slots kept = λ pointer. elim (same_or_differ (node_kind pointer) kind) [
     | inr differ ↦ others_kept arena slots _ _ differ
     | inl same ↦ let key = opaque_key pointer in
         ap (λ k. held_under (with_slab arena slots) k key) same ∙ held_in_slab (with_slab arena slots) key ∙ ap (λ s. held_option held_as (get s key)) (slab_written arena slots) ∙ ap (held_option held_as) (kept key) ∙ sym (held_in_slab arena key) ∙ sym (ap (λ k. held_under arena k key) same)
@@ -81,7 +53,7 @@ module _ {K V : Type 0} {P : ℕ} {N : Type 0} (kind : NodeType) (slab_of : Aren
 
     -- a node in the place of another changes no room
     pub SameRoom-with_value : (arena : ArenaOf K V P) (key : ℕ) (node : N) → ContainsKey (slab_of arena) key → SameRoom arena (with_slab arena (with_value (slab_of arena) key node))
-    SameRoom-with_value arena key node within = λ other. elim (cases_kind other kind) [
+    SameRoom-with_value arena key node within = λ other. elim (same_or_differ other kind) [
       | inr differ ↦ other_room arena _ other differ
       | inl same ↦ subst (λ k. room (with_slab arena (with_value (slab_of arena) key node)) k ≡ room arena k) (sym same)
           (room-written arena (with_value (slab_of arena) key node) ∙ slab_room-with_value (slab_of arena) key node within ∙ sym (room_of_slab arena))

@@ -16,13 +16,6 @@ abbrev first_child : {H : Type 0} → H → ChildMap H → H
 first_child default [] = default
 first_child default (pair ∷ others) = pair.1
 
--- what holds of a joined list holds of its parts
-All-left : {A : Type 0} (P : A → Type 0) (xs ys : List A) → All P (xs ++ ys) → All P xs
-All-left P xs ys all k d inside = subst P (get_or-append xs ys d k inside) (all k d (omega (arith, length-append xs ys)))
-
-All-right : {A : Type 0} (P : A → Type 0) (xs ys : List A) → All P (xs ++ ys) → All P ys
-All-right P xs ys all k d inside = subst P (get_or-append-add xs ys k d) (all (length xs + k) d (omega (arith, length-append xs ys)))
-
 AreDistinct-append : {A : Type 0} (xs ys : List A) → AreDistinct xs → AreDistinct ys → All (λ x. All (λ y. y ≢ x) ys) xs → AreDistinct (xs ++ ys)
 AreDistinct-append [] ys left right across = right
 AreDistinct-append (x ∷ xs) ys left right across =
@@ -165,38 +158,26 @@ module _ {H L : Type 0} (room : ℕ) (text_of : L → List ℕ) where
           (λ x placed. All-weaker (IsPlacedOn path (suc byte) (length (branch_texts others))) (λ y. y ≢ x) (λ y on. places-apart path byte (length (texts tree)) (length (branch_texts others)) x y placed on) (branch_places others) (branch_places-placed path others (suc byte) sound.1 ascend.2 stand.1))
           (places tree) (places-placed (path ++ byte ∷ []) tree sound.0 stand.0))
 
-    mutual
-      -- each pointer of a tree that stands is held
-      pub places-held : (tree : Tree H) → Stands room text_of held_at tree → All (λ pointer. held_at pointer ≢ Nothing) (places tree)
-      places-held (Leaf pointer text) (leaf, holds, has) =
-          All-cons (λ p. held_at p ≢ Nothing) pointer [] (λ free. let one : HeldLeaf leaf ≡ Nothing = sym holds ∙ free in absurd (cc)) (All-nil (λ p. held_at p ≢ Nothing))
-      places-held (Inner pointer prefix branches) (node, holds, shows, stand) =
-          All-cons (λ p. held_at p ≢ Nothing) pointer (branch_places branches) (λ free. let one : HeldInner node ≡ Nothing = sym holds ∙ free in absurd (cc)) (branch_places-held branches stand)
-
-      pub branch_places-held : (branches : Branches H) → AllStand room text_of held_at branches → All (λ pointer. held_at pointer ≢ Nothing) (branch_places branches)
-      branch_places-held NoBranch stand = All-nil (λ p. held_at p ≢ Nothing)
-      branch_places-held (Branch byte tree others) (stands, stand) = All-append (λ p. held_at p ≢ Nothing) (places tree) (branch_places others) (places-held tree stands) (branch_places-held others stand)
-
   module _ (held_before held_after : H → Held H L) where
-    mutual
-      -- a tree stands as long as what its pointers hold stays
-      pub stands-kept : (tree : Tree H) → All (λ pointer. held_after pointer ≡ held_before pointer) (places tree) → Stands room text_of held_before tree → Stands room text_of held_after tree
-      stands-kept (Leaf pointer text) kept (leaf, holds, has) = (leaf, All-head (λ p. held_after p ≡ held_before p) pointer [] kept ∙ holds, has)
-      stands-kept (Inner pointer prefix branches) kept (node, holds, shows, stand) =
-          (node, All-head (λ p. held_after p ≡ held_before p) pointer (branch_places branches) kept ∙ holds, shows, all-kept branches (All-tail (λ p. held_after p ≡ held_before p) pointer (branch_places branches) kept) stand)
+    module _ (kept : (pointer : H) → held_before pointer ≢ Nothing → held_after pointer ≡ held_before pointer) where
+      mutual
+        -- a tree stands on where all that was held is held as before
+        pub stands-on : (tree : Tree H) → Stands room text_of held_before tree → Stands room text_of held_after tree
+        stands-on (Leaf pointer text) (leaf, holds, has) = (leaf, kept pointer (λ free. let one : HeldLeaf leaf ≡ Nothing = sym holds ∙ free in absurd (cc)) ∙ holds, has)
+        stands-on (Inner pointer prefix branches) (node, holds, shows, stand) =
+            (node, kept pointer (λ free. let one : HeldInner node ≡ Nothing = sym holds ∙ free in absurd (cc)) ∙ holds, shows, all-stand-on branches stand)
 
-      pub all-kept : (branches : Branches H) → All (λ pointer. held_after pointer ≡ held_before pointer) (branch_places branches) → AllStand room text_of held_before branches → AllStand room text_of held_after branches
-      all-kept NoBranch kept stand = tt
-      all-kept (Branch byte tree others) kept (stands, stand) =
-          (stands-kept tree (All-left (λ p. held_after p ≡ held_before p) (places tree) (branch_places others) kept) stands, all-kept others (All-right (λ p. held_after p ≡ held_before p) (places tree) (branch_places others) kept) stand)
+        pub all-stand-on : (branches : Branches H) → AllStand room text_of held_before branches → AllStand room text_of held_after branches
+        all-stand-on NoBranch stand = tt
+        all-stand-on (Branch byte tree others) (stands, stand) = (stands-on tree stands, all-stand-on others stand)
 
     module _ (free : H) (was_free : held_before free ≡ Nothing) (others : (pointer : H) → pointer ≢ free → held_after pointer ≡ held_before pointer) where
-      others-kept : (all : List H) → All (λ pointer. held_before pointer ≢ Nothing) all → All (λ pointer. held_after pointer ≡ held_before pointer) all
-      others-kept all are_held = All-weaker (λ p. held_before p ≢ Nothing) (λ p. held_after p ≡ held_before p) (λ p is_held. others p (λ same. is_held (ap held_before same ∙ was_free))) all are_held
+      kept-beside : (pointer : H) → held_before pointer ≢ Nothing → held_after pointer ≡ held_before pointer
+      kept-beside pointer is_held = others pointer (λ same. is_held (ap held_before same ∙ was_free))
 
-      -- a tree stands on where something is put at a pointer that held nothing
+      -- so it does where something is put at a pointer that held nothing
       pub stands-beside : (tree : Tree H) → Stands room text_of held_before tree → Stands room text_of held_after tree
-      stands-beside tree stands = stands-kept tree (others-kept (places tree) (places-held held_before tree stands)) stands
+      stands-beside tree stands = stands-on kept-beside tree stands
 
       pub all-beside : (branches : Branches H) → AllStand room text_of held_before branches → AllStand room text_of held_after branches
-      all-beside branches stand = all-kept branches (others-kept (branch_places branches) (branch_places-held held_before branches stand)) stand
+      all-beside branches stand = all-stand-on kept-beside branches stand

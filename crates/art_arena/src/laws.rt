@@ -4,7 +4,7 @@
 //! pointer, its prefix and its branches by ascending byte. It is sound under a path where every
 //! leaf's text begins with the way to it and every inner node has two branches or more, and it
 //! stands in an arena where each of its pointers holds its node.
-ghost use Rattle.std.specs.Prelude.{◌≡◌, ◌≤◌, ◌++◌, ℕ, List, length, AllPairs};
+ghost use Rattle.std.specs.Prelude.{◌≡◌, ◌≢◌, ◌≤◌, ◌++◌, ℕ, List, length, AllPairs};
 ghost use Rattle.std.specs.declared.cmp.Ordering.TheVariants.{Less};
 ghost use Rattle.art_bytes.specs.Text.{IsFront, text_order};
 ghost use Rattle.art_nodes.specs.ChildMap.{IsAscending, key_bytes};
@@ -61,6 +61,13 @@ pub fn an_allocated_node_makes_a_tree<K: AsBytes, V, const PREFIX_LEN: usize>()
     ensures sound { (pointer : OpaqueNodePtr K V PREFIX_LEN) (path prefix : List ℕ) (branches : _) →
         2 ≤ length (branch_roots branches) → IsAscending (key_bytes (branch_roots branches)) →
         AreSound (path ++ prefix) branches → IsSound path (Inner pointer prefix branches) }
+{}
+
+/// A tree stands on in an arena that holds all that was held, as it was held.
+pub fn trees_stand_where_all_is_kept<K: AsBytes, V, const PREFIX_LEN: usize>()
+    ensures { (old new : ArenaOf K V PREFIX_LEN) (tree : _) →
+        ((pointer : _) → held old pointer ≢ Nothing → held new pointer ≡ held old pointer) →
+        StandsIn K.text old tree → StandsIn K.text new tree }
 {}
 
 /// To allocate leaves every tree standing that stood.

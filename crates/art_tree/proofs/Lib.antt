@@ -11,4 +11,3 @@ mod Loaded
 mod Planning
 mod RefusalLemmas
 mod Rising
-mod TreeLemmas

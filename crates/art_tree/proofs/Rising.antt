@@ -17,9 +17,10 @@ use Rattle.art_nodes.specs.Pointers.{node_kind, opaque_key, slab_key}
 use Rattle.art_nodes.specs.declared.pointers.NodePtr.{NodePtr}
 use Rattle.art_nodes.specs.declared.pointers.OpaqueNodePtr.{OpaqueNodePtr}
 use Rattle.art_nodes.specs.declared.leaf_node.LeafNode.{LeafNode}
+use Rattle.art_nodes.proofs.KindLaws.{same_or_differ}
 use Rattle.art_arena.specs.Arena.{ArenaOf, Held, HeldInner, HeldLeaf, Nothing, held, held_leaf, pointer_to, room, SameOtherRoom, Changes}
 use Rattle.art_arena.specs.Links.{HoldsLeaf, leaf_at, text_at}
-use Rattle.art_arena.specs.Standing.{StandsIn, AllStandIn, leaf_text}
+use Rattle.art_arena.specs.Standing.{NodeStands, StandsIn, AllStandIn, leaf_text}
 use Rattle.art_arena.specs.Trees.{Tree, Leaf, Inner, Branches, NoBranch, Branch, branch_roots, branch_leaves, branch_places}
 use Rattle.art_tree.specs.Plan.{join, one_branch, needed}
 use Rattle.art_tree.specs.Loading.{AreSnug, Adds}
@@ -29,35 +30,6 @@ use Rattle.art_tree.specs.declared.loading.steps.Step.{Step}
 use Rattle.art_tree.specs.declared.loading.steps.Step.TheVariants as step
 use Rattle.art_tree.proofs.BranchLemmas.{roots-join, leaves-join, places-join}
 use Rattle.art_tree.proofs.Leading.{Leads, Takes}
-
--- two kinds are one or differ
-number_of : NodeType → ℕ
-number_of kinds.Node4 = 0
-number_of kinds.Node16 = 1
-number_of kinds.Node48 = 2
-number_of kinds.Node256 = 3
-number_of kinds.Leaf = 4
-
-kind_of : ℕ → NodeType
-kind_of zero = kinds.Node4
-kind_of (suc zero) = kinds.Node16
-kind_of (suc (suc zero)) = kinds.Node48
-kind_of (suc (suc (suc zero))) = kinds.Node256
-kind_of (suc (suc (suc (suc n)))) = kinds.Leaf
-
-kind_of-number_of : (kind : NodeType) → kind_of (number_of kind) ≡ kind
-unfolding kind_of number_of
-kind_of-number_of kinds.Node4 = refl
-kind_of-number_of kinds.Node16 = refl
-kind_of-number_of kinds.Node48 = refl
-kind_of-number_of kinds.Node256 = refl
-kind_of-number_of kinds.Leaf = refl
-
-pub cases_kind : (a b : NodeType) → (a ≡ b) ⊎ (a ≢ b)
-cases_kind a b = elim (cases_eq (number_of a) (number_of b)) [
-  | inl same ↦ inl (sym (kind_of-number_of a) ∙ ap kind_of same ∙ kind_of-number_of b)
-  | inr differ ↦ inr (λ same. differ (ap number_of same))
-]
 
 le-true : (a b : ℕ) → a ≤ b → nat_le a b ≡ true
 le-true a b h = grind (arith, nat_tests)
@@ -117,7 +89,7 @@ no-less false n = omega arith
 module _ {K V : Type 0} {P : ℕ} where
   -- two pointers are one or differ
   pub cases_pointer : (a b : OpaqueNodePtr K V P) → (a ≡ b) ⊎ (a ≢ b)
-  cases_pointer a b = elim (cases_kind (node_kind a) (node_kind b)) [
+  cases_pointer a b = elim (same_or_differ (node_kind a) (node_kind b)) [
     | inr differ ↦ inr (λ same. differ (ap node_kind same))
     | inl kind ↦ elim (cases_eq (opaque_key a) (opaque_key b)) [
       | inr differ ↦ inr (λ same. differ (ap opaque_key same))
@@ -150,17 +122,6 @@ module _ {K V : Type 0} {P : ℕ} where
   placed old new kind key node at is_kind is_key free changes rooms others =
       let same : pointer_to kind key ≡ at = λ i. record { node_type = (sym is_kind) i; key = (sym is_key) i; leaf = record {} } in
       record { is_kind = is_kind; was_free = subst (λ p. held old p ≡ Nothing) same free; changes = subst (λ p. Changes old new p (HeldInner node)) same changes; room = rooms; other_room = others }
-
-  module _ (text : K → List ℕ) (old new : ArenaOf K V P) (kept : (pointer : OpaqueNodePtr K V P) → held old pointer ≢ Nothing → held new pointer ≡ held old pointer) where
-    mutual
-      -- what stands goes on to stand
-      pub stands-kept : (tree : Tree (OpaqueNodePtr K V P)) → StandsIn text old tree → StandsIn text new tree
-      stands-kept (Leaf pointer x) (leaf, is_held, is_text) = (leaf, kept pointer (subst (λ h. h ≢ Nothing) (sym is_held) (λ e. cc)) ∙ is_held, is_text)
-      stands-kept (Inner pointer prefix branches) (node, is_held, shows, stand) = (node, kept pointer (subst (λ h. h ≢ Nothing) (sym is_held) (λ e. cc)) ∙ is_held, shows, all-stand-kept branches stand)
-
-      pub all-stand-kept : (branches : Branches (OpaqueNodePtr K V P)) → AllStandIn text old branches → AllStandIn text new branches
-      all-stand-kept NoBranch stand = tt
-      all-stand-kept (Branch byte tree others) stand = (stands-kept tree stand.0, all-stand-kept others stand.1)
 
   module _ (text : K → List ℕ) (arena : ArenaOf K V P) where
     stand-join : (a b : Branches (OpaqueNodePtr K V P)) → AllStandIn text arena a → AllStandIn text arena b → AllStandIn text arena (join a b)
@@ -338,11 +299,20 @@ module _ {K V : Type 0} {P : ℕ} (text : K → List ℕ) (pairs : List (OpaqueN
   pub rise-ready : (old now : ArenaOf K V P) (next byte start end children : ℕ) (pending : List (ℕ × OpaqueNodePtr K V P)) (steps : List Step) (r : IsRising old now next pending (step.Inner byte start end children ∷ steps)) → IsReady now r.leads.0.1 pending start end children
   rise-ready old now next byte start end children pending steps r = ready now r.leads.0.1 r.stack pending byte start end children steps r.roots r.leads.3 r.rooms
 
+  -- what the laws of the arena say of an allocation
+  abbrev pub LeavesStanding : Type 0
+  LeavesStanding = (old new : ArenaOf K V P) (pointer : OpaqueNodePtr K V P) (now : Held (OpaqueNodePtr K V P) (LeafNode K V P)) (branches : Branches (OpaqueNodePtr K V P)) → held old pointer ≡ Nothing → Changes old new pointer now
+      → AllStandIn text old branches → AllStandIn text new branches
+
+  abbrev pub MakesTree : Type 0
+  MakesTree = (old new : ArenaOf K V P) (pointer : OpaqueNodePtr K V P) (node : nodes.Inner (OpaqueNodePtr K V P)) (prefix : List ℕ) (branches : Branches (OpaqueNodePtr K V P)) → held old pointer ≡ Nothing → Changes old new pointer (HeldInner node)
+      → NodeStands P node prefix branches → AllStandIn text old branches → StandsIn text new (Inner pointer prefix branches)
+
   -- a node is made
   pub rise-inner : (old now new : ArenaOf K V P) (next byte start end children : ℕ) (pending after : List (ℕ × OpaqueNodePtr K V P)) (steps : List Step) (at : OpaqueNodePtr K V P) (r : IsRising old now next pending (step.Inner byte start end children ∷ steps))
       → IsPlaced now new (kind_for (length (drop (length pending - children) pending))) (node_of P (take (end - start) (drop start r.leads.0.1)) (drop (length pending - children) pending)) at
-      → after ≡ take (length pending - children) pending ++ (byte, at) ∷ [] → IsRising old new next after steps
-  rise-inner old now new next byte start end children pending after steps at r p is_after =
+      → after ≡ take (length pending - children) pending ++ (byte, at) ∷ [] → LeavesStanding → MakesTree → IsRising old new next after steps
+  rise-inner old now new next byte start end children pending after steps at r p is_after leaves_standing makes_tree =
       let t = r.leads.3 in
       let prefix = take (end - start) (drop start r.leads.0.1) in
       let split : pending ≡ branch_roots t.front ++ branch_roots t.branches = sym r.roots ∙ ap branch_roots t.splits ∙ roots-join t.front t.branches in
@@ -367,7 +337,8 @@ module _ {K V : Type 0} {P : ℕ} (text : K → List ℕ) (pairs : List (OpaqueN
         stack = join t.front one;
         roots = roots-join t.front one ∙ ap (λ z. z ++ (byte, at) ∷ []) (sym others) ∙ sym is_after;
         leads = r.leads.4 at;
-        stands = stand-join text new t.front one (all-stand-kept text now new keeps t.front stood.0) ((node_of P prefix (branch_roots t.branches), q.changes.changed, record { prefix_len = refl; stored = refl; children = refl }, all-stand-kept text now new keeps t.branches stood.1), tt);
+        stands = stand-join text new t.front one (leaves_standing now new at _ t.front q.was_free q.changes stood.0)
+            (makes_tree now new at (node_of P prefix (branch_roots t.branches)) prefix t.branches q.was_free q.changes (record { prefix_len = refl; stored = refl; children = refl }) stood.1, tt);
         snug = snug-join t.front one snugs.0 ((q.is_kind, snugs.1), tt);
         in_order = same_leaves ∙ r.in_order;
         kept = λ pointer was. let first = r.kept pointer was in keeps pointer (subst (λ h. h ≢ Nothing) (sym first) was) ∙ first;
@@ -376,7 +347,7 @@ module _ {K V : Type 0} {P : ℕ} (text : K → List ℕ) (pairs : List (OpaqueN
             (more-new (branch_places t.front) (branch_places t.branches) rest at ys shape)
             (λ pointer inside. more-old (branch_places t.front) (branch_places t.branches) rest at pointer xs ys shape_before shape inside);
         few = omega (arith, r.few, ap length r.roots, total, t.counted, t.two, ap length (roots-join t.front one), length-append (branch_roots t.front) ((byte, at) ∷ []));
-        rooms = λ kind inner. elim (cases_kind kind (kind_for (length (branch_roots t.branches)))) [
+        rooms = λ kind inner. elim (same_or_differ kind (kind_for (length (branch_roots t.branches)))) [
           | inr differ ↦ omega (arith, q.other_room kind differ, r.rooms kind inner, no-less (is_needed kind children) (needed kind steps))
           | inl same ↦
               let own = one-more (is_needed kind children) (needed kind steps) (ap (λ k. is_needed k children) (same ∙ ap kind_for t.counted) ∙ needed-own children (omega (arith, t.two, t.counted)) (ready now r.leads.0.1 r.stack pending byte start end children steps r.roots t r.rooms).few) in
@@ -387,11 +358,11 @@ module _ {K V : Type 0} {P : ℕ} (text : K → List ℕ) (pairs : List (OpaqueN
   -- the same as the code calls it
   pub rise-inner-called : (old now new : ArenaOf K V P) (next byte start end children : ℕ) (pending after kids : List (ℕ × OpaqueNodePtr K V P)) (last : List ℕ) (steps : List Step) (at : OpaqueNodePtr K V P) (r : IsRising old now next pending (step.Inner byte start end children ∷ steps))
       → kids ≡ drop (length pending - children) pending → last ≡ r.leads.0.1 → IsPlaced now new (kind_for (length kids)) (node_of P (take (end - start) (drop start last)) kids) at
-      → after ≡ take (length pending - children) pending ++ (byte, at) ∷ [] → IsRising old new next after steps
-  rise-inner-called old now new next byte start end children pending after kids last steps at r is_kids is_last p is_after =
+      → after ≡ take (length pending - children) pending ++ (byte, at) ∷ [] → LeavesStanding → MakesTree → IsRising old new next after steps
+  rise-inner-called old now new next byte start end children pending after kids last steps at r is_kids is_last p is_after leaves_standing makes_tree =
       rise-inner old now new next byte start end children pending after steps at r
       (subst (λ t. IsPlaced now new (kind_for (length (drop (length pending - children) pending))) (node_of P (take (end - start) (drop start t)) (drop (length pending - children) pending)) at) is_last
-      (subst (λ k. IsPlaced now new (kind_for (length k)) (node_of P (take (end - start) (drop start last)) k) at) is_kids p)) is_after
+      (subst (λ k. IsPlaced now new (kind_for (length k)) (node_of P (take (end - start) (drop start last)) k) at) is_kids p)) is_after leaves_standing makes_tree
 
   -- the next leaf is there, and so is the last one
   pub leaf-within : (old now : ArenaOf K V P) (next byte : ℕ) (pending : List (ℕ × OpaqueNodePtr K V P)) (steps : List Step) → IsRising old now next pending (step.Leaf byte ∷ steps) → next < length pairs

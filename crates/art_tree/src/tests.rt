@@ -22,6 +22,7 @@ fn load_all<K: AsBytes + Drop, const PREFIX_LEN: usize>(
     ensures kept { IfOk result (λ _. (root : _) → HasTree K.text arena.old root →
         HasTree K.text arena.new root) }
 {
+    laws::trees_stand_where_all_is_kept::<K, usize, PREFIX_LEN>();
     let mut entries = Vec::new(alloc);
     for (number, key) in keys.into_iter().enumerate() {
         entries.push((key, number))?;

@@ -2,6 +2,7 @@ ghost use Rattle.std.specs.Prelude.{◌≡◌, ◌++◌, ◌∷◌, [], ℕ, Lis
 ghost use Rattle.art_arena.specs.Standing.{TreeAt, TreeUnder};
 
 use super::*;
+use crate::laws::{allocating_leaves_trees_standing, an_allocated_node_makes_a_tree};
 use art_nodes::InnerNode4;
 use std::alloc::{AllocError, Global};
 use std::process::Abort;
@@ -22,6 +23,7 @@ fn plant_leaf<const PREFIX_LEN: usize>(
         (found : TreeAt ⟦<Vec<u8> as AsBytes>⟧.text arena.old pointer) →
         (again : TreeAt ⟦<Vec<u8> as AsBytes>⟧.text arena.new pointer) × (again.path ≡ found.path)) }
 {
+    allocating_leaves_trees_standing::<Vec<u8>, u8, PREFIX_LEN>();
     let mut key = Vec::new(alloc);
     key.extend_from_slice(path)?;
     key.extend_from_slice(prefix)?;
@@ -45,6 +47,8 @@ fn plant<K: AsBytes + Drop, const PREFIX_LEN: usize>(
     ensures kept { IfOk result (λ _. (pointer : _) (found : TreeAt K.text arena.old pointer) →
         (again : TreeAt K.text arena.new pointer) × (again.path ≡ found.path)) }
 {
+    an_allocated_node_makes_a_tree::<K, u8, PREFIX_LEN>();
+    allocating_leaves_trees_standing::<K, u8, PREFIX_LEN>();
     match arena.allocate_node_ptr(node) {
         Ok(pointer) => Ok(pointer.to_opaque()),
         Err(_) => Err(AllocError),

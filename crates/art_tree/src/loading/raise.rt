@@ -14,6 +14,7 @@ ghost use Rattle.art_tree.specs.Plan.{IsPlanOf, needed};
 ghost use Rattle.art_tree.specs.Raising.{node_of, IsPlaced, IsRaised, HoldLeaves, leaf_texts};
 
 use crate::loading::steps::Step;
+use art_arena::laws::{allocating_leaves_trees_standing, an_allocated_node_makes_a_tree};
 use art_arena::{ArenaNode, NodeArena};
 use art_bytes::AsBytes;
 use art_nodes::{
@@ -136,6 +137,8 @@ pub(crate) fn raise<K: AsBytes, V, const PREFIX_LEN: usize>(
     ensures { (tree : Tree (Pointer K V PREFIX_LEN))
         × IsRaised K.text arena.old arena.new leaves.now result tree }
 {
+    allocating_leaves_trees_standing::<K, V, PREFIX_LEN>();
+    an_allocated_node_makes_a_tree::<K, V, PREFIX_LEN>();
     let mut next = 0;
     for step in steps {
         match *step {

@@ -5,9 +5,11 @@ use Rattle.art_arena.proofs.full_prefix.tests.plant.Goals as goal
 
 pub returns-in-Ok-clause-planted : goal.returns-in-Ok-clause-planted
 returns-in-Ok-clause-planted g c = λ depth under.
+    let ok = c.in-Ok.ensures in
     subst (λ p. (found : TreeAt g.K.AsBytes.text c.allocate_node_ptr.new.self p) × (found.path ≡ under.path)) (sym c.to_opaque.ensures)
-    (node_planted g.K.AsBytes.text c.args.arena.now c.allocate_node_ptr.new.self _ c.in-Ok.ensures.was_free c.args.node depth under c.in-Ok.ensures.added)
+    (node_planted g.K.AsBytes.text c.args.arena.now c.allocate_node_ptr.new.self _ c.args.node depth under (λ prefix branches. c.an_allocated_node_makes_a_tree.ensures.stands _ _ _ c.args.node prefix branches ok.was_free ok.added))
 
 pub returns-in-Ok-clause-kept : goal.returns-in-Ok-clause-kept
 returns-in-Ok-clause-kept g c = λ pointer found.
-    others_planted g.K.AsBytes.text c.args.arena.now c.allocate_node_ptr.new.self _ c.in-Ok.ensures.was_free _ c.in-Ok.ensures.added pointer found
+    let ok = c.in-Ok.ensures in
+    others_planted g.K.AsBytes.text c.args.arena.now c.allocate_node_ptr.new.self (λ tree. c.allocating_leaves_trees_standing.ensures.tree _ _ _ _ tree ok.was_free ok.added) pointer found
