@@ -3,7 +3,6 @@ mod LeafLemmas
 mod LinkedLists
 mod MatchLemmas
 mod PlaceLemmas
-mod PlantLemmas
 mod ReadLemmas
 mod TextLemmas
 mod TreeLemmas

@@ -559,6 +559,3 @@ impl<K, V, const PREFIX_LEN: usize> NodeArena<K, V, PREFIX_LEN> {
         }
     }
 }
-
-#[cfg(test)]
-mod tests;

@@ -186,6 +186,3 @@ fn step_down<K, V, const PREFIX_LEN: usize>(
     };
     Ok(least.1)
 }
-
-#[cfg(test)]
-mod tests;

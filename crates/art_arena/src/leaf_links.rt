@@ -347,6 +347,3 @@ fn set_previous<K, V, const PREFIX_LEN: usize>(
         leaf.set_links(previous, next);
     }
 }
-
-#[cfg(test)]
-mod tests;

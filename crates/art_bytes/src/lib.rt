@@ -9,8 +9,6 @@ mod bytes;
 mod c_string_key;
 mod slice_key;
 mod str_key;
-#[cfg(test)]
-mod tests;
 mod wrappers;
 
 pub use bytes::{AsBytes, NoPrefixesBytes, OrderedBytes};

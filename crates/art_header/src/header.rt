@@ -225,6 +225,3 @@ impl<const PREFIX_LEN: usize> Eq for Header<PREFIX_LEN> {
 
     ghost laws = { same_header_equiv };
 }
-
-#[cfg(test)]
-mod tests;

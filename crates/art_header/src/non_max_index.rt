@@ -135,6 +135,3 @@ impl fmt::Display for TryFromByteError {
 }
 
 impl Error for TryFromByteError {}
-
-#[cfg(test)]
-mod tests;

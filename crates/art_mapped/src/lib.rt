@@ -17,8 +17,6 @@ mod octets;
 mod part;
 mod sequence;
 mod signed;
-#[cfg(test)]
-mod tests;
 mod tuple;
 mod unsigned;
 mod vector;

@@ -204,6 +204,3 @@ fn key_of<const PREFIX_LEN: usize, N>(leaf: Option<NodePtr<PREFIX_LEN, N>>) -> O
 {
     Some(leaf?.key())
 }
-
-#[cfg(test)]
-mod tests;

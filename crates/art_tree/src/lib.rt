@@ -6,8 +6,6 @@
 mod find;
 mod loading;
 mod path;
-#[cfg(test)]
-mod tests;
 
 pub use art_arena::{
     AnyRef, ArenaNode, ArenaReader, ExplicitMismatch, FullPrefix, LeafLinks, NodeArena, NodePrefix,

@@ -146,6 +146,3 @@ fn make<K: AsBytes, V, const PREFIX_LEN: usize>(
     link_leaves(arena, entries, &mut leaves);
     raise(arena, &leaves, &steps, pending)
 }
-
-#[cfg(test)]
-mod tests;

@@ -35,6 +35,3 @@ pub fn replay<K, V, const PREFIX_LEN: usize>(
     }
     Ok((replies, node))
 }
-
-#[cfg(test)]
-mod tests;

@@ -245,6 +245,3 @@ impl<K, V, const PREFIX_LEN: usize> InnerNodeBuilder<
         self
     }
 }
-
-#[cfg(test)]
-mod tests;

@@ -181,6 +181,3 @@ impl<K, V, const PREFIX_LEN: usize> InnerNode<PREFIX_LEN> for InnerNodeDirect<K,
         self.num_children() == *NodeType::Node256.capacity_range().end()
     }
 }
-
-#[cfg(test)]
-mod tests;

@@ -189,6 +189,3 @@ impl<K, V, const PREFIX_LEN: usize> InnerNodeCommon<K, V, PREFIX_LEN>
         match_stored(&self.header, truncated_key)
     }
 }
-
-#[cfg(test)]
-mod tests;

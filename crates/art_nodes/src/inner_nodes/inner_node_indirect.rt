@@ -259,6 +259,3 @@ impl<K, V, const PREFIX_LEN: usize, const SIZE: usize> InnerNodeCommon<K, V, PRE
         match_stored(&self.header, truncated_key)
     }
 }
-
-#[cfg(test)]
-mod tests;

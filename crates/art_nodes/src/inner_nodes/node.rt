@@ -180,6 +180,3 @@ pub trait InnerNodeCommon<K, V, const PREFIX_LEN: usize>: InnerNodeInit<PREFIX_L
     /// A node begins with no children.
     ghost starts_empty: { (h : Header) → inner (Self.empty_with h) ≡ empty_inner h };
 }
-
-#[cfg(test)]
-pub(crate) mod tests;

@@ -124,6 +124,3 @@ pub(crate) fn match_stored<const PREFIX_LEN: usize>(
         })
     }
 }
-
-#[cfg(test)]
-mod tests;

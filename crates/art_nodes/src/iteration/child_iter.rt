@@ -163,6 +163,3 @@ impl<'a, H: Copy> DoubleEndedIterator for PairIter<'a, H> {
 }
 
 impl<'a, H: Copy> FusedIterator for PairIter<'a, H> {}
-
-#[cfg(test)]
-mod tests;

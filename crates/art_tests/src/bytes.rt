@@ -1,0 +1,245 @@
+// Each kind of key, as the layers above use it: through its bounds alone.
+ghost use Rattle.std.specs.Prelude.{◌≡◌, ◌↔◌, IsTrue, fold};
+ghost use Rattle.std.specs.Hash as fed;
+ghost use Rattle.art_bytes.specs.CStringKey.{c_string_key_text};
+ghost use Rattle.art_bytes.specs.SliceKey.{slice_key_text};
+ghost use Rattle.art_bytes.specs.StrKey.{str_key_text};
+
+use art_bytes::{
+    AsBytes, CStringKey, CStringKeyError, NoPrefixesBytes, OrderedBytes, SliceKey, StrKey,
+};
+use std::alloc::Global;
+use std::cmp::Ordering;
+use std::hash::{DefaultHasher, Hash, Hasher};
+use std::process::Abort;
+use std::rc::Rc;
+use std::test::Fail;
+
+mod using;
+
+use using::{order_of_texts, text_of};
+
+const HELLO: &[u8] = b"hello world";
+
+// Keys are equal where their texts are.
+fn have_one_text<K: OrderedBytes>(a: &K, b: &K) -> bool
+    ensures { result ≡ K.eq a.now b.now }
+{
+    a.as_bytes() == b.as_bytes()
+}
+
+// No key's text begins another's, so one test tells whether they are the same.
+fn has_front<K: NoPrefixesBytes>(key: &K, front: &K) -> bool
+    ensures { IsTrue result ↔ (K.text key.now ≡ K.text front.now) }
+{
+    key.as_bytes().starts_with(front.as_bytes())
+}
+
+// A key feeds a hasher what its text does.
+fn feed_str_key<H: Hasher>(key: &StrKey, hasher: &mut H)
+    ensures { hasher.new ≡ fold H.write hasher.old (fed.str (str_key_text key.now)) }
+{
+    key.hash(hasher);
+}
+
+fn feed_slice_key<H: Hasher>(key: &SliceKey, hasher: &mut H)
+    ensures { hasher.new ≡ fold H.write hasher.old (fed.slice fed.u8 (slice_key_text key.now)) }
+{
+    key.hash(hasher);
+}
+
+fn feed_c_string_key<H: Hasher>(key: &CStringKey, hasher: &mut H)
+    ensures { hasher.new ≡ fold H.write hasher.old (fed.slice fed.u8 (c_string_key_text key.now)) }
+{
+    key.hash(hasher);
+}
+
+fn hash_of<K: Hash>(key: &K) -> u64 {
+    let mut hasher = DefaultHasher::new();
+    key.hash(&mut hasher);
+    hasher.finish()
+}
+
+// What a key is made of is what it gives back.
+fn string_through_a_key(string: &str) -> &str
+    ensures { result.now ≡ string.now }
+{
+    StrKey::new(string).get()
+}
+
+fn bytes_through_a_key(bytes: &[u8]) -> &[u8]
+    ensures { result.now ≡ bytes.now }
+{
+    SliceKey::new(bytes).get()
+}
+
+// The keys ascend strictly: each two compare as their places do, by themselves and by their texts.
+fn check_ascending<K: OrderedBytes>(rt: &impl Abort, keys: &[K]) {
+    for (i, a) in keys.iter().enumerate() {
+        for (j, b) in keys.iter().enumerate() {
+            assert_eq!(rt; a.cmp(b), i.cmp(&j), "keys {i} and {j}");
+            assert_eq!(rt; order_of_texts(a, b), i.cmp(&j), "texts {i} and {j}");
+            assert_eq!(rt; have_one_text(a, b), i == j, "texts {i} and {j}");
+        }
+    }
+}
+
+// The keys are all different.
+fn check_no_fronts<K: NoPrefixesBytes>(rt: &impl Abort, keys: &[K]) {
+    for (i, a) in keys.iter().enumerate() {
+        for (j, b) in keys.iter().enumerate() {
+            assert_eq!(rt; has_front(a, b), i == j, "keys {i} and {j}");
+        }
+    }
+}
+
+#[test]
+fn various_string_types_as_bytes(rt: HostRuntime) -> Result<(), Fail> {
+    let string = String::from_str(rt.alloc(), "hello world")?;
+    assert_eq!(rt; text_of(&string), HELLO);
+    assert_eq!(rt; text_of(&StrKey::new("hello world")), HELLO);
+    assert_eq!(rt; string_through_a_key("hello world"), "hello world");
+    assert_eq!(rt;
+        text_of(&c_string(rt.alloc(), HELLO)?),
+        b"hello world\0".as_slice()
+    );
+    Ok(())
+}
+
+#[test]
+fn various_wrapper_types_as_bytes(rt: HostRuntime) -> Result<(), Fail> {
+    let slice = SliceKey::new(HELLO);
+    assert_eq!(rt; text_of(&slice), HELLO);
+    assert_eq!(rt; text_of(&&slice), HELLO);
+    assert_eq!(rt; text_of(&Box::new(rt.alloc(), slice)?), HELLO);
+    assert_eq!(rt; text_of(&Rc::new(rt.alloc(), slice)?), HELLO);
+    assert_eq!(rt; bytes_through_a_key(HELLO), HELLO);
+
+    assert_eq!(rt; text_of(b"hello world"), HELLO);
+    assert_eq!(rt; text_of(&HELLO.to_vec(rt.alloc())?), HELLO);
+    Ok(())
+}
+
+#[test]
+fn a_proper_front_is_less_and_else_the_first_byte_that_differs_decides(
+    rt: HostRuntime,
+) -> Result<(), Fail> {
+    let alloc = rt.alloc();
+
+    let strings = ["", "a", "ab", "b", "ba", "\u{7f}", "\u{80}"];
+    check_ascending(&rt, &strings.map(StrKey::new));
+    let mut owned = Vec::new(alloc);
+    for string in strings {
+        owned.push(String::from_str(alloc, string)?)?;
+    }
+    check_ascending(&rt, &owned);
+
+    let slices: [&[u8]; 7] = [&[], &[0], &[0, 0], &[0, 255], &[1], &[127], &[128]];
+    check_ascending(&rt, &slices.map(SliceKey::new));
+    let mut owned = Vec::new(alloc);
+    for slice in slices {
+        owned.push(slice.to_vec(alloc)?)?;
+    }
+    check_ascending(&rt, &owned);
+    Ok(())
+}
+
+#[test]
+fn arrays_of_one_length_ascend_and_none_begins_another(rt: HostRuntime) {
+    let pairs = [[0, 0], [0, 255], [1, 0], [127, 1], [128, 0]];
+    check_ascending(&rt, &pairs);
+    check_no_fronts(&rt, &pairs);
+    check_no_fronts(&rt, &[[0; 0]]);
+}
+
+#[test]
+fn wrapped_keys_compare_as_the_keys(rt: HostRuntime) -> Result<(), Fail> {
+    let alloc = rt.alloc();
+    let (low, high) = ([7, 200], [8, 0]);
+
+    let borrowed = [&low, &high];
+    check_ascending(&rt, &borrowed);
+    check_no_fronts(&rt, &borrowed);
+    let boxed = [Box::new(alloc, low)?, Box::new(alloc, high)?];
+    check_ascending(&rt, &boxed);
+    check_no_fronts(&rt, &boxed);
+    let counted = [Rc::new(alloc, low)?, Rc::new(alloc, high)?];
+    check_ascending(&rt, &counted);
+    check_no_fronts(&rt, &counted);
+    Ok(())
+}
+
+// As Rust's derives on a struct of one field: the hash is that of the string, or of the bytes.
+#[test]
+fn borrowed_keys_hash_as_what_they_borrow(rt: HostRuntime) {
+    let mut hasher = DefaultHasher::new();
+    feed_str_key(&StrKey::new("hello world"), &mut hasher);
+    assert_eq!(rt; hasher.finish(), hash_of(&"hello world"));
+
+    let mut hasher = DefaultHasher::new();
+    feed_slice_key(&SliceKey::new(HELLO), &mut hasher);
+    assert_eq!(rt; hasher.finish(), hash_of(&HELLO));
+}
+
+fn c_string(alloc: Global, bytes: &[u8]) -> Result<CStringKey, Fail> {
+    match CStringKey::new(bytes.to_vec(alloc)?) {
+        Ok(key) => Ok(key),
+        Err(refusal) => Err(refusal)?,
+    }
+}
+
+// The bytes are refused for a zero, the first one at that place, and come back.
+fn check_zero_at(rt: &impl Abort, alloc: Global, bytes: &[u8], first: usize) -> Result<(), Fail> {
+    let Err(
+        CStringKeyError::InteriorZero {
+            position,
+            bytes: back,
+        },
+    ) = CStringKey::new(bytes.to_vec(alloc)?)
+    else {
+        panic!(rt; "no zero was found");
+    };
+    assert_eq!(rt; position, first);
+    assert_eq!(rt; back.as_slice(), bytes);
+    Ok(())
+}
+
+#[test]
+fn c_strings_have_one_zero_the_last(rt: HostRuntime) -> Result<(), Fail> {
+    let alloc = rt.alloc();
+    let texts: [&[u8]; 6] = [b"", b"a", b"ab", b"b", b"\x7f", b"\xff"];
+    let mut keys = Vec::new(alloc);
+    for text in texts {
+        keys.push(c_string(alloc, text)?)?;
+    }
+    check_ascending(&rt, &keys);
+    check_no_fronts(&rt, &keys);
+    let long = vec![in alloc; 7; 1000]?;
+    assert_eq!(rt; text_of(&c_string(alloc, &long)?).len(), 1001);
+
+    check_zero_at(&rt, alloc, &[1, 0, 2, 0], 1)?;
+    check_zero_at(&rt, alloc, &[0, 1], 0)?;
+    check_zero_at(&rt, alloc, &[1, 1, 1, 0], 3)?;
+
+    let mut hasher = DefaultHasher::new();
+    feed_c_string_key(&c_string(alloc, b"ab")?, &mut hasher);
+    assert_eq!(rt; hasher.finish(), hash_of(&b"ab\0".as_slice()));
+    Ok(())
+}
+
+// Where there is no memory for the zero, the bytes come back, and make a key then.
+#[test]
+fn a_refused_zero_gives_the_bytes_back(rt: HostRuntime) {
+    let Ok(bytes) = HELLO.to_vec(rt.alloc()) else {
+        return;
+    };
+    let key = match CStringKey::new(bytes) {
+        Ok(key) => key,
+        Err(CStringKeyError::InteriorZero { .. }) => panic!(&rt; "there is no zero"),
+        Err(CStringKeyError::OutOfMemory { bytes }) => {
+            assert_eq!(&rt; bytes.as_slice(), HELLO);
+            CStringKey::new(bytes).expect(&rt, "memory was refused once")
+        }
+    };
+    assert_eq!(&rt; text_of(&key), b"hello world\0".as_slice());
+}

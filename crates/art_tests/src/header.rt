@@ -1,0 +1,4 @@
+//! Headers, kinds of nodes, and indices.
+mod node_type;
+mod non_max_index;
+mod prefix;

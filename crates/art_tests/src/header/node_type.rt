@@ -1,0 +1,50 @@
+//! Which kind holds how many children.
+use art_header::NodeType;
+
+#[test]
+fn shrinks_below_its_range(rt: HostRuntime) {
+    for (kind, num_children, want) in [
+        (NodeType::Node4, 0, false),
+        (NodeType::Node16, 4, true),
+        (NodeType::Node16, 5, false),
+        (NodeType::Node48, 16, true),
+        (NodeType::Node48, 17, false),
+        (NodeType::Node256, 48, true),
+        (NodeType::Node256, 49, false),
+    ] {
+        if kind != NodeType::Leaf {
+            assert_eq!(rt;
+                kind.should_shrink_inner_node(num_children),
+                want,
+                "{kind:?} {num_children}"
+            );
+        }
+    }
+}
+
+#[test]
+fn holds_the_children_of_its_range(rt: HostRuntime) {
+    for (kind, least, most) in [
+        (NodeType::Node4, 2, 4),
+        (NodeType::Node16, 5, 16),
+        (NodeType::Node48, 17, 48),
+        (NodeType::Node256, 49, 256),
+        (NodeType::Leaf, 0, 0),
+    ] {
+        assert_eq!(rt; *kind.capacity_range().start(), least, "{kind:?}");
+        assert_eq!(rt; *kind.capacity_range().end(), most, "{kind:?}");
+    }
+}
+
+#[test]
+fn is_ordered_as_listed(rt: HostRuntime) {
+    let kinds = [
+        NodeType::Node4,
+        NodeType::Node16,
+        NodeType::Node48,
+        NodeType::Node256,
+        NodeType::Leaf,
+    ];
+    assert!(rt; kinds.is_sorted());
+    assert!(rt; NodeType::Node4 < NodeType::Leaf);
+}

@@ -1,0 +1,92 @@
+//! The prefix of a header, and how many children it counts.
+use art_header::Header;
+use std::test::Fail;
+
+#[test]
+fn stores_as_much_of_the_prefix_as_there_is_room_for(rt: HostRuntime) {
+    let header = Header::<2>::new(b"abcd", 4);
+    assert_eq!(rt; header.read_prefix(), b"ab".as_slice());
+    assert_eq!(rt; header.prefix_len(), 4);
+    assert_eq!(rt; header.capped_prefix_len(), 2);
+
+    let header = Header::<0>::new(b"abc", 3);
+    assert!(rt; header.read_prefix().is_empty());
+    assert_eq!(rt; header.prefix_len(), 3);
+    assert_eq!(rt; header.capped_prefix_len(), 0);
+
+    let header = Header::<16>::new(&[1, 2, 3, 4, 5, 6, 7, 8], 8);
+    assert_eq!(rt; header.read_prefix(), [1, 2, 3, 4, 5, 6, 7, 8].as_slice());
+    assert_eq!(rt; header.prefix_len(), 8);
+    assert_eq!(rt; header.capped_prefix_len(), 8);
+}
+
+#[test]
+fn counts_children(rt: HostRuntime) {
+    let mut header = Header::<16>::new(b"", 0);
+    assert_eq!(rt; header.num_children(), 0);
+    header.inc_num_children();
+    header.inc_num_children();
+    header.inc_num_children();
+    assert_eq!(rt; header.num_children(), 3);
+    header.dec_num_children();
+    assert_eq!(rt; header.num_children(), 2);
+    header.reset_num_children();
+    assert_eq!(rt; header.num_children(), 0);
+}
+
+#[test]
+fn is_equal_by_what_it_shows(rt: HostRuntime) -> Result<(), Fail> {
+    let header = Header::<2>::new(b"abc", 4);
+    // The third byte is not stored, so it is not seen.
+    assert!(rt; header == Header::<2>::new(b"abx", 4));
+    assert!(rt; header != Header::<2>::new(b"xb", 4));
+    assert!(rt; header != Header::<2>::new(b"abc", 3));
+    let mut counted = header.clone()?;
+    assert!(rt; header == counted);
+    counted.inc_num_children();
+    assert!(rt; header != counted);
+    Ok(())
+}
+
+#[test]
+fn is_trimmed_from_the_left(rt: HostRuntime) {
+    let mut header = Header::<16>::new(&[1, 2, 3, 4, 5, 6, 7, 8], 8);
+    header.ltrim_by(0);
+    assert_eq!(rt; header.read_prefix(), [1, 2, 3, 4, 5, 6, 7, 8].as_slice());
+    assert_eq!(rt; header.prefix_len(), 8);
+    header.ltrim_by(3);
+    assert_eq!(rt; header.read_prefix(), [4, 5, 6, 7, 8].as_slice());
+    assert_eq!(rt; header.prefix_len(), 5);
+    header.ltrim_by(1);
+    assert_eq!(rt; header.read_prefix(), [5, 6, 7, 8].as_slice());
+    assert_eq!(rt; header.prefix_len(), 4);
+    header.ltrim_by(4);
+    assert!(rt; header.read_prefix().is_empty());
+    assert_eq!(rt; header.prefix_len(), 0);
+
+    // The bytes that are not stored come from the key of a leaf below.
+    let mut header = Header::<2>::new(b"abcd", 4);
+    header.ltrim_by_with_leaf(1, 1, b"xabcdz");
+    assert_eq!(rt; header.read_prefix(), b"bc".as_slice());
+    assert_eq!(rt; header.prefix_len(), 3);
+    let mut header = Header::<2>::new(b"abcd", 4);
+    header.ltrim_by_with_leaf(4, 1, b"xabcdz");
+    assert!(rt; header.read_prefix().is_empty());
+    assert_eq!(rt; header.prefix_len(), 0);
+}
+
+#[test]
+fn takes_more_prefix_and_gives_it_up(rt: HostRuntime) {
+    let mut header = Header::<2>::new(b"abcd", 4);
+    header.push_prefix(b"ef", 2);
+    assert_eq!(rt; header.read_prefix(), b"ab".as_slice());
+    assert_eq!(rt; header.prefix_len(), 6);
+    let (bytes, len, capped_len) = header.clear_prefix();
+    assert_eq!(rt; bytes.as_slice(), b"ab".as_slice());
+    assert_eq!(rt; (len, capped_len), (6, 2));
+    assert!(rt; header.read_prefix().is_empty());
+    assert_eq!(rt; header.prefix_len(), 0);
+    header.push_prefix(b"g", 1);
+    assert_eq!(rt; header.read_prefix(), b"g".as_slice());
+    assert_eq!(rt; header.prefix_len(), 1);
+}

@@ -1,0 +1,20 @@
+//! Tests of the library crates: their public names alone, called as another crate calls them.
+//!
+//! They stand in a crate of their own, as in the folder `tests/` of a Rust package, since a crate with
+//! tests is proved once more with them. What they pin is what no contract says: worked examples with
+//! values from outside, printed texts, each public call once, each generic impl at a concrete type.
+//! The files `using.rt` and `callers.rt` show how a crate uses each layer.
+#![tactic(auto)]
+
+#[cfg(test)]
+mod arena;
+#[cfg(test)]
+mod bytes;
+#[cfg(test)]
+mod header;
+#[cfg(test)]
+mod mapped;
+#[cfg(test)]
+mod nodes;
+#[cfg(test)]
+mod tree;

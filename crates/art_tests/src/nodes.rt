@@ -1,0 +1,14 @@
+//! Nodes of each kind, pointers to them, and runs of child commands.
+mod builder;
+mod callers;
+mod concrete;
+mod conversions;
+mod direct;
+mod each_kind;
+mod fixtures;
+mod indirect;
+mod iteration;
+mod leaf_node;
+mod pointers;
+mod prefix_match;
+mod replay;

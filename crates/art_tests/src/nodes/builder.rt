@@ -1,0 +1,76 @@
+//! Nodes of each kind, built child by child.
+use super::fixtures::{Pointer, leaf};
+use art_nodes::{
+    InnerNode4, InnerNode16, InnerNode48, InnerNodeCommon, InnerNodeDirect, NodePtr, NodeType,
+};
+use std::process::Abort;
+
+// The pointer to the small node under a slab key.
+fn small_node(key: usize) -> Pointer {
+    NodePtr::<16, InnerNode4<u8, u8, 16>>::from_key(key).to_opaque()
+}
+
+fn has_what_was_written<N: InnerNodeCommon<u8, u8, 16>>(rt: &impl Abort, node: &N) {
+    assert_eq!(rt; node.stored_prefix(), b"prefix".as_slice());
+    assert_eq!(rt; node.num_children(), 3);
+    for (byte, child) in [
+        (0, Some(leaf(7))),
+        (1, Some(leaf(8))),
+        (200, Some(leaf(10))),
+        (2, None),
+    ] {
+        assert!(rt; node.lookup_child(byte) == child);
+    }
+}
+
+#[test]
+fn each_kind_is_built(rt: HostRuntime) {
+    let small = InnerNode4::<u8, u8, 16>::builder(b"prefix", 6)
+        .write_child(1, leaf(8))
+        .write_child(0, leaf(7))
+        .write_child(200, leaf(9))
+        .write_child(200, leaf(10))
+        .build();
+    has_what_was_written(&rt, &small);
+    let sixteen = InnerNode16::<u8, u8, 16>::builder(b"prefix", 6)
+        .write_child(1, leaf(8))
+        .write_child(0, leaf(7))
+        .write_child(200, leaf(10))
+        .build();
+    has_what_was_written(&rt, &sixteen);
+    let many = InnerNode48::<u8, u8, 16>::builder(b"prefix", 6)
+        .write_child(1, leaf(8))
+        .write_child(0, leaf(7))
+        .write_child(200, leaf(10))
+        .build();
+    has_what_was_written(&rt, &many);
+    let all = InnerNodeDirect::<u8, u8, 16>::builder(b"prefix", 6)
+        .write_child(1, leaf(8))
+        .write_child(0, leaf(7))
+        .write_child(200, leaf(10))
+        .build();
+    has_what_was_written(&rt, &all);
+    let unsearched = InnerNode4::<u8, u8, 16>::builder(b"prefix", 6)
+        .write_child_unchecked(0, leaf(7))
+        .write_child_unchecked(1, leaf(8))
+        .write_child_unchecked(200, leaf(10))
+        .build();
+    has_what_was_written(&rt, &unsearched);
+    let (bytes, children) = unsearched.initialized_portion();
+    assert_eq!(rt; bytes, [0, 1, 200].as_slice());
+    assert!(rt; children.len() == 3 && children[2] == leaf(10));
+}
+
+#[test]
+fn some_child_is_a_leaf_where_there_is_one(rt: HostRuntime) {
+    let node = InnerNode4::<u8, u8, 16>::builder(&[], 0)
+        .write_child(1, small_node(1))
+        .write_child(2, leaf(2))
+        .build();
+    assert!(rt; node.any_child_prefer_leaf() == leaf(2));
+    let node = InnerNode4::<u8, u8, 16>::builder(&[], 0)
+        .write_child(1, small_node(1))
+        .write_child(2, small_node(2))
+        .build();
+    assert_eq!(rt; node.any_child_prefer_leaf().node_type(), NodeType::Node4);
+}

@@ -1,0 +1,136 @@
+//! What another crate does with nodes, by their bounds alone: each of these is proved from the clauses
+//! and laws of the bounds, for every `PREFIX_LEN`, with no lemma but the public laws.
+ghost use Rattle.std.specs.Prelude.{◌≡◌, ◌≢◌, ◌+◌, ◌<◌, ◌≤◌, length, Some, None, IfSome, IfNone, IsSome, IsTrue};
+ghost use Rattle.art_header.specs.Header.{capped};
+ghost use Rattle.art_header.specs.NodeType.{most_children, shrunk_kind};
+ghost use Rattle.art_nodes.specs.ChildMap.{child_at};
+ghost use Rattle.art_nodes.specs.Inner.{HasRoomFor, node_with_child};
+ghost use Rattle.art_nodes.specs.Pointers.{opaque_pointer};
+
+use art_nodes::{InnerNode, InnerNodeCommon, Node, NodePtr, OpaqueNodePtr};
+
+// What is written is found.
+#[tactic(auto, using(art_nodes::proofs::ChildMapLaws::child_at_written))]
+fn write_then_look_up<K, V, const PREFIX_LEN: usize, N: InnerNodeCommon<K, V, PREFIX_LEN>>(
+    node: &mut N,
+    byte: u8,
+    child: OpaqueNodePtr<K, V, PREFIX_LEN>,
+) -> Option<OpaqueNodePtr<K, V, PREFIX_LEN>>
+    requires { HasRoomFor N.room (N.inner node.old) byte }
+    ensures { result ≡ Some child }
+{
+    node.write_child(byte, child);
+    node.lookup_child(byte)
+}
+
+// Every other byte keeps its child.
+#[tactic(auto, using(art_nodes::proofs::ChildMapLaws::child_at_removed_other))]
+fn remove_then_look_up_another<K, V, const PREFIX_LEN: usize, N: InnerNodeCommon<K, V, PREFIX_LEN>>(
+    node: &mut N,
+    byte: u8,
+    other: u8,
+) -> Option<OpaqueNodePtr<K, V, PREFIX_LEN>>
+    requires { other ≢ byte }
+    ensures { result ≡ child_at (N.inner node.old).children other }
+{
+    node.remove_child(byte);
+    node.lookup_child(other)
+}
+
+// A node that is not full takes one child more.
+fn write_where_there_is_room<const PREFIX_LEN: usize, N: InnerNode<PREFIX_LEN>>(
+    node: &mut N,
+    byte: u8,
+    child: OpaqueNodePtr<N::Key, N::Value, PREFIX_LEN>,
+) -> bool
+    ensures { IsTrue result → N.inner node.new ≡ node_with_child (N.inner node.old) byte child }
+{
+    if node.is_full() {
+        return false;
+    }
+    node.write_child(byte, child);
+    true
+}
+
+// A node that is full grows, and then takes one child more.
+fn grow_then_write<const PREFIX_LEN: usize, N: InnerNode<PREFIX_LEN>>(
+    node: &N,
+    byte: u8,
+    child: OpaqueNodePtr<N::Key, N::Value, PREFIX_LEN>,
+) -> N::GrownNode
+    ensures { N.GrownNode.inner result ≡ node_with_child (N.inner node.now) byte child }
+{
+    let mut grown = node.grow();
+    grown.write_child(byte, child);
+    grown
+}
+
+// The children of a node of the next smaller kind fit into it.
+fn shrink_where_they_fit<const PREFIX_LEN: usize, N: InnerNode<PREFIX_LEN>>(
+    node: &N,
+) -> N::ShrunkNode
+    requires { length (N.inner node.now).children ≤ most_children (shrunk_kind N.TYPE) }
+    ensures { N.ShrunkNode.inner result ≡ N.inner node.now }
+{
+    node.shrink()
+}
+
+// A node has no more children than its kind holds.
+fn count<const PREFIX_LEN: usize, N: InnerNode<PREFIX_LEN>>(node: &N) -> usize
+    ensures { result ≤ most_children N.TYPE }
+{
+    node.num_children()
+}
+
+// The stored front and the length of the whole prefix.
+fn read_the_prefix<K, V, const PREFIX_LEN: usize, N: InnerNodeCommon<K, V, PREFIX_LEN>>(
+    node: &N,
+) -> (&[u8], usize)
+    ensures front { result.0.now ≡ (N.inner node.now).stored }
+    ensures whole { result.1 ≡ (N.inner node.now).prefix_len }
+    ensures capped { length result.0.now ≡ capped PREFIX_LEN result.1 }
+{
+    (node.stored_prefix(), node.prefix_len())
+}
+
+// Past a prefix that a key passes, and the byte after it.
+fn step<K, V, const PREFIX_LEN: usize, N: InnerNodeCommon<K, V, PREFIX_LEN>>(
+    node: &N,
+    key: &[u8],
+    depth: usize,
+) -> Option<(usize, OpaqueNodePtr<K, V, PREFIX_LEN>)>
+    requires { depth ≤ length key.now }
+    ensures past { IfSome result (λ next. next.0 ≡ depth + (N.inner node.now).prefix_len + 1) }
+    ensures within { IfSome result (λ next. next.0 ≤ length key.now) }
+{
+    let Ok(matched) = node.attempt_pessimistic_match_prefix(&key[depth..]) else {
+        return None;
+    };
+    let end = depth + matched.matched_bytes;
+    if end >= key.len() {
+        return None;
+    }
+    let child = node.lookup_child(key[end])?;
+    Some((end + 1, child))
+}
+
+// The least byte has the child that comes with it.
+#[tactic(auto, using(art_nodes::proofs::ChildMapLaws::child_at_first))]
+fn look_up_the_least<K, V, const PREFIX_LEN: usize, N: InnerNodeCommon<K, V, PREFIX_LEN>>(
+    node: &N,
+) -> Option<OpaqueNodePtr<K, V, PREFIX_LEN>>
+    requires { 0 < length (N.inner node.now).children }
+    ensures { IsSome result }
+{
+    let (byte, _) = node.min();
+    node.lookup_child(byte)
+}
+
+// The pointer with a kind and a slab key.
+fn points_to<const PREFIX_LEN: usize, N: Node<PREFIX_LEN>>(
+    key: usize,
+) -> OpaqueNodePtr<N::Key, N::Value, PREFIX_LEN>
+    ensures { result ≡ opaque_pointer N.TYPE key }
+{
+    NodePtr::<PREFIX_LEN, N>::from_key(key).to_opaque()
+}

@@ -1,0 +1,119 @@
+//! The children of each kind of node, in order and within bounds.
+ghost use Rattle.std.specs.Prelude.{◌≤◌};
+ghost use Rattle.std.specs.Mem.{FitsInMemory};
+
+use super::fixtures::{Pointer, leaf, node_of};
+use art_nodes::{
+    InnerNode4, InnerNode16, InnerNode48, InnerNodeCommon, InnerNodeDirect, valid_range_bounds,
+};
+use std::iter::FusedIterator;
+use std::ops::Bound::{self, Excluded, Included, Unbounded};
+use std::process::Abort;
+
+fn is_fused<I: FusedIterator>(_iter: &I) {}
+
+// Up, down, and from both ends in turn; after the last pair comes none for good.
+fn goes_both_ways<N: InnerNodeCommon<u8, u8, 16> + Drop>(rt: &impl Abort)
+    requires memory { FitsInMemory N.row }
+    requires room { 2 ≤ N.room }
+{
+    let node: N = node_of(rt, &[], &[(3, 1), (255, 2), (0, 3), (85, 4)]);
+    let sorted: [(u8, Pointer); 4] = [(0, leaf(3)), (3, leaf(1)), (85, leaf(4)), (255, leaf(2))];
+    let mut pairs = node.iter();
+    is_fused(&pairs);
+    for pair in &sorted {
+        assert!(rt; pairs.next() == Some(*pair));
+    }
+    assert!(rt; pairs.next() == None);
+    assert!(rt; pairs.next_back() == None);
+    let mut pairs = node.iter();
+    for pair in sorted.iter().rev() {
+        assert!(rt; pairs.next_back() == Some(*pair));
+    }
+    assert!(rt; pairs.next_back() == None);
+    assert!(rt; pairs.next() == None);
+    let mut pairs = node.iter();
+    let [first, second, third, fourth] = sorted;
+    assert!(rt; pairs.next() == Some(first));
+    assert!(rt; pairs.next_back() == Some(fourth));
+    assert!(rt; pairs.next() == Some(second));
+    assert!(rt; pairs.next_back() == Some(third));
+    assert!(rt; pairs.next() == None);
+    assert!(rt; pairs.next_back() == None);
+}
+
+// The range has these bytes, and no others, from the front and from the back.
+fn has<N: InnerNodeCommon<u8, u8, 16>>(
+    rt: &impl Abort,
+    node: &N,
+    start: Bound<u8>,
+    end: Bound<u8>,
+    bytes: &[u8],
+) {
+    assert!(rt; valid_range_bounds(start, end));
+    let mut pairs = node.range(start, end);
+    for byte in bytes {
+        assert!(rt; pairs.next() == node.lookup_child(*byte).map(|child| (*byte, child)));
+    }
+    assert!(rt; pairs.next() == None);
+    let mut pairs = node.range(start, end);
+    for byte in bytes.iter().rev() {
+        assert!(rt; pairs.next_back() == node.lookup_child(*byte).map(|child| (*byte, child)));
+    }
+    assert!(rt; pairs.next_back() == None);
+}
+
+const FIRST_RANGES: [(Bound<u8>, Bound<u8>, &[u8]); 10] = [
+    (Included(0), Included(3), &[0, 3]),
+    (Excluded(0), Excluded(3), &[]),
+    (Included(0), Included(0), &[0]),
+    (Included(0), Included(255), &[0, 3, 85, 255]),
+    (Unbounded, Unbounded, &[0, 3, 85, 255]),
+    (Included(255), Included(255), &[255]),
+    (Unbounded, Included(86), &[0, 3, 85]),
+    (Excluded(0), Excluded(255), &[3, 85]),
+    (Excluded(255), Included(255), &[]),
+    (Included(255), Excluded(255), &[]),
+];
+
+const SECOND_RANGES: [(Bound<u8>, Bound<u8>, &[u8]); 13] = [
+    (Unbounded, Included(86), &[2, 3, 85]),
+    (Unbounded, Included(4), &[2, 3]),
+    (Unbounded, Excluded(3), &[2]),
+    (Unbounded, Included(2), &[2]),
+    (Unbounded, Included(1), &[]),
+    (Unbounded, Included(0), &[]),
+    (Included(1), Unbounded, &[2, 3, 85, 254]),
+    (Included(3), Unbounded, &[3, 85, 254]),
+    (Excluded(84), Unbounded, &[85, 254]),
+    (Included(253), Unbounded, &[254]),
+    (Included(255), Unbounded, &[]),
+    (Unbounded, Included(255), &[2, 3, 85, 254]),
+    (Excluded(255), Unbounded, &[]),
+];
+
+fn iterates<N: InnerNodeCommon<u8, u8, 16> + Drop>(rt: &impl Abort)
+    requires memory { FitsInMemory N.row }
+    requires room { 2 ≤ N.room }
+{
+    goes_both_ways::<N>(rt);
+    let first: N = node_of(rt, &[], &[(3, 1), (255, 2), (0, 3), (85, 4)]);
+    for (start, end, bytes) in FIRST_RANGES {
+        has(rt, &first, start, end, bytes);
+    }
+    let second: N = node_of(rt, &[], &[(3, 1), (254, 2), (2, 3), (85, 4)]);
+    for (start, end, bytes) in SECOND_RANGES {
+        has(rt, &second, start, end, bytes);
+    }
+}
+
+#[test]
+fn each_kind_iterates(rt: HostRuntime) {
+    iterates::<InnerNode4<u8, u8, 16>>(&rt);
+    iterates::<InnerNode16<u8, u8, 16>>(&rt);
+    iterates::<InnerNode48<u8, u8, 16>>(&rt);
+    iterates::<InnerNodeDirect<u8, u8, 16>>(&rt);
+    assert!(rt; !valid_range_bounds(Excluded(80), Excluded(80)));
+    assert!(rt; !valid_range_bounds(Excluded(80), Included(0)));
+    assert!(rt; valid_range_bounds(Excluded(80), Included(80)));
+}

@@ -1,0 +1,196 @@
+//! Whole runs, at the steps that a reader would try by hand.
+use super::fixtures::leaf;
+use art_nodes::{ChildCommand, ChildNode, ChildReply, Header, NodeType, Sequence, replay};
+use std::ops::Bound;
+use std::process::Abort;
+use std::test::Fail;
+
+type Command = ChildCommand<u8, u8, 2>;
+
+type Reply = ChildReply<u8, u8, 2>;
+
+// The replies to these commands, and the node that they leave.
+fn run(
+    rt: &(impl Abort + AllocGlobal),
+    commands: &[Command],
+) -> Result<(Vec<Reply>, ChildNode<u8, u8, 2>), Fail> {
+    Ok(replay(rt.alloc(), Header::new(b"", 0), commands)?)
+}
+
+#[test]
+fn answers_each_step_and_moves_between_kinds(rt: HostRuntime) -> Result<(), Fail> {
+    let steps: [(Command, Reply, NodeType, usize); 15] = [
+        (
+            Command::Write(0, leaf(1)),
+            Reply::Child(None),
+            NodeType::Node4,
+            1,
+        ),
+        (
+            Command::Write(1, leaf(2)),
+            Reply::Child(None),
+            NodeType::Node4,
+            2,
+        ),
+        (
+            Command::Write(2, leaf(3)),
+            Reply::Child(None),
+            NodeType::Node4,
+            3,
+        ),
+        (
+            Command::Write(3, leaf(4)),
+            Reply::Child(None),
+            NodeType::Node4,
+            4,
+        ),
+        (
+            Command::Write(3, leaf(5)),
+            Reply::Child(Some(leaf(4))),
+            NodeType::Node4,
+            4,
+        ),
+        (
+            Command::Write(4, leaf(6)),
+            Reply::Child(None),
+            NodeType::Node16,
+            5,
+        ),
+        (
+            Command::Remove(0),
+            Reply::Child(Some(leaf(1))),
+            NodeType::Node4,
+            4,
+        ),
+        (Command::Remove(9), Reply::Child(None), NodeType::Node4, 4),
+        (
+            Command::Range(Bound::Excluded(1), Bound::Excluded(1)),
+            Reply::InvalidBounds,
+            NodeType::Node4,
+            4,
+        ),
+        (
+            Command::Remove(1),
+            Reply::Child(Some(leaf(2))),
+            NodeType::Node4,
+            3,
+        ),
+        (
+            Command::Remove(2),
+            Reply::Child(Some(leaf(3))),
+            NodeType::Node4,
+            2,
+        ),
+        (
+            Command::Remove(3),
+            Reply::Child(Some(leaf(5))),
+            NodeType::Node4,
+            1,
+        ),
+        (
+            Command::Remove(4),
+            Reply::Child(Some(leaf(6))),
+            NodeType::Node4,
+            0,
+        ),
+        (Command::Min, Reply::Pair(None), NodeType::Node4, 0),
+        (Command::Lookup(3), Reply::Child(None), NodeType::Node4, 0),
+    ];
+    let mut commands = Vec::new(rt.alloc());
+    for (index, (command, reply, kind, count)) in steps.into_iter().enumerate() {
+        commands.push(command)?;
+        let (replies, node) = run(&rt, &commands)?;
+        assert_eq!(rt; replies.len(), index + 1);
+        assert!(rt; replies[index] == reply, "at step {index}");
+        assert_eq!(rt; node.node_type(), kind, "at step {index}");
+        assert_eq!(rt; node.num_children(), count, "at step {index}");
+    }
+    Ok(())
+}
+
+// Each command with ample memory, one after another, with its answer.
+#[test]
+fn apply_answers_each_command(rt: HostRuntime) -> Result<(), Fail> {
+    let mut node = ChildNode::from_header(Header::<2>::new(b"", 0));
+    for byte in 0..=200u8 {
+        let written = node.apply(rt.alloc(), &Command::Write(byte, leaf(usize::from(byte))))?;
+        assert!(rt; written == Reply::Child(None));
+    }
+    let mut within = Vec::new(rt.alloc());
+    for byte in 100..=200u8 {
+        within.push((byte, leaf(usize::from(byte))))?;
+    }
+    let pairs = Sequence::from_vec(within);
+    let steps: [(Command, Reply); 9] = [
+        (Command::Lookup(7), Reply::Child(Some(leaf(7)))),
+        (Command::Lookup(201), Reply::Child(None)),
+        (Command::Min, Reply::Pair(Some((0, leaf(0))))),
+        (Command::Max, Reply::Pair(Some((200, leaf(200))))),
+        (
+            Command::Range(Bound::Included(100), Bound::Excluded(255)),
+            Reply::Pairs(pairs),
+        ),
+        (
+            Command::Range(Bound::Included(3), Bound::Excluded(2)),
+            Reply::InvalidBounds,
+        ),
+        (Command::Remove(200), Reply::Child(Some(leaf(200)))),
+        (Command::Max, Reply::Pair(Some((199, leaf(199))))),
+        (Command::Write(0, leaf(9)), Reply::Child(Some(leaf(0)))),
+    ];
+    for (index, (command, reply)) in steps.into_iter().enumerate() {
+        assert!(rt;
+            node.apply(rt.alloc(), &command)? == reply,
+            "at step {index}"
+        );
+    }
+    assert!(rt; Command::Remove(3) == Command::Remove(3));
+    assert!(rt; Command::Remove(3) != Command::Lookup(3));
+    Ok(())
+}
+
+// The kind and the number of children that these commands leave.
+fn left_by(
+    rt: &(impl Abort + AllocGlobal),
+    commands: &[Command],
+) -> Result<(NodeType, usize), Fail> {
+    let (_, node) = run(rt, commands)?;
+    Ok((node.node_type(), node.num_children()))
+}
+
+#[test]
+fn grows_to_256_children_and_shrinks_again(rt: HostRuntime) -> Result<(), Fail> {
+    let mut commands = Vec::new(rt.alloc());
+    for byte in 0..=255u8 {
+        commands.push(Command::Write(byte, leaf(usize::from(byte))))?;
+    }
+    assert_eq!(rt; left_by(&rt, &commands)?, (NodeType::Node256, 256));
+    commands.push(Command::Write(255, leaf(1000)))?;
+    let (replies, node) = run(&rt, &commands)?;
+    assert!(rt; replies.last() == Some(&Reply::Child(Some(leaf(255)))));
+    assert_eq!(rt; node.node_type(), NodeType::Node256);
+    assert_eq!(rt; node.num_children(), 256);
+    for byte in 0..=207u8 {
+        commands.push(Command::Remove(byte))?;
+    }
+    assert_eq!(rt; left_by(&rt, &commands)?, (NodeType::Node48, 48));
+    commands.push(Command::Remove(208))?;
+    assert_eq!(rt; left_by(&rt, &commands)?, (NodeType::Node48, 47));
+    for byte in 209..=255u8 {
+        commands.push(Command::Remove(byte))?;
+    }
+    assert_eq!(rt; left_by(&rt, &commands)?, (NodeType::Node4, 0));
+    Ok(())
+}
+
+#[test]
+fn starts_empty_whatever_the_count(rt: HostRuntime) -> Result<(), Fail> {
+    let mut header = Header::<2>::new(b"abc", 3);
+    header.inc_num_children();
+    let (replies, node) = replay(rt.alloc(), header, &[] as &[Command])?;
+    assert!(rt; replies.is_empty());
+    assert_eq!(rt; node.num_children(), 0);
+    assert_eq!(rt; node.header().prefix_len(), 3);
+    assert_eq!(rt; node.header().read_prefix(), b"ab".as_slice());
+    Ok(())
+}

@@ -1,0 +1,111 @@
+//! Trees from `load`, and what is answered about them.
+mod composite;
+mod loading;
+mod matches;
+mod path;
+mod searches;
+mod using;
+
+ghost use Rattle.std.specs.Prelude.{IfOk};
+ghost use Rattle.art_tree.specs.Search.{HasTree};
+
+use art_tree::{
+    AnyRef, ArenaReader, AsBytes, CStringKey, ConcatTuple, FullPrefix, InnerNodeCommon,
+    LoadRefusal, Mapped, NodeArena, OpaqueNodePtr, SliceKey, ToIBE, ToOctets, TreePath, find_leaf,
+    laws, load,
+};
+use std::alloc::{AllocError, Global};
+use std::process::Abort;
+use std::test::Fail;
+
+// Loads the keys with their numbers as values. A tree that stood stands.
+fn load_all<K: AsBytes + Drop, const PREFIX_LEN: usize>(
+    alloc: Global,
+    arena: &mut NodeArena<K, usize, PREFIX_LEN>,
+    keys: Vec<K>,
+) -> Result<OpaqueNodePtr<K, usize, PREFIX_LEN>, AllocError>
+    ensures loaded { IfOk result (λ root. HasTree K.text arena.new root) }
+    ensures kept { IfOk result (λ _. (root : _) → HasTree K.text arena.old root →
+        HasTree K.text arena.new root) }
+{
+    laws::trees_stand_where_all_is_kept::<K, usize, PREFIX_LEN>();
+    let mut entries = Vec::new(alloc);
+    for (number, key) in keys.into_iter().enumerate() {
+        entries.push((key, number))?;
+    }
+    let Ok(root) = load(alloc, arena, entries) else {
+        return Err(AllocError);
+    };
+    Ok(root)
+}
+
+// The same for these texts.
+fn load_texts<'a, const PREFIX_LEN: usize>(
+    alloc: Global,
+    arena: &mut NodeArena<SliceKey<'a>, usize, PREFIX_LEN>,
+    texts: &[&'a [u8]],
+) -> Result<OpaqueNodePtr<SliceKey<'a>, usize, PREFIX_LEN>, AllocError>
+    ensures loaded { IfOk result (λ root. HasTree ⟦<SliceKey<'a> as AsBytes>⟧.text arena.new root) }
+    ensures kept { IfOk result (λ _. (root : _) → HasTree ⟦<SliceKey<'a> as AsBytes>⟧.text arena.old root →
+        HasTree ⟦<SliceKey<'a> as AsBytes>⟧.text arena.new root) }
+{
+    let mut keys = Vec::new(alloc);
+    for text in texts {
+        keys.push(SliceKey::new(text))?;
+    }
+    load_all(alloc, arena, keys)
+}
+
+// The number of the entry that is found, and the bytes of its path from the grandparent on.
+#[derive(Clone, Copy, PartialEq)]
+enum Answer {
+    Nothing,
+    Root(usize),
+    Child(usize, u8),
+    Normal(usize, u8, u8),
+}
+
+// A key, what a search for it answers, and how many looks that takes.
+type Row<'a> = (&'a [u8], Answer, usize);
+
+// The answer to a search for the key, and how many looks it takes.
+fn search<K: AsBytes, const PREFIX_LEN: usize>(
+    arena: &NodeArena<K, usize, PREFIX_LEN>,
+    root: OpaqueNodePtr<K, usize, PREFIX_LEN>,
+    key: &[u8],
+) -> (Answer, usize)
+    requires { HasTree K.text arena.now root }
+{
+    let budget = key.len() + 1;
+    let mut reader = ArenaReader::with_budget(arena, budget);
+    let found = find_leaf(&mut reader, root, key);
+    let looks = budget - reader.remaining();
+    let Some((leaf, path)) = found else {
+        return (Answer::Nothing, looks);
+    };
+    let number = *arena.as_ref(leaf).value_ref();
+    let answer = match path {
+        TreePath::Root => Answer::Root(number),
+        TreePath::ChildOfRoot { child_key_byte, .. } => Answer::Child(number, child_key_byte),
+        TreePath::Normal {
+            parent_key_byte,
+            child_key_byte,
+            ..
+        } => Answer::Normal(number, parent_key_byte, child_key_byte),
+    };
+    (answer, looks)
+}
+
+// Each of these keys is answered so.
+fn check<K: AsBytes, const PREFIX_LEN: usize>(
+    rt: &impl Abort,
+    arena: &NodeArena<K, usize, PREFIX_LEN>,
+    root: OpaqueNodePtr<K, usize, PREFIX_LEN>,
+    rows: &[Row],
+)
+    requires { HasTree K.text arena.now root }
+{
+    for (key, answer, looks) in rows {
+        assert!(rt; search(arena, root, key) == (*answer, *looks));
+    }
+}

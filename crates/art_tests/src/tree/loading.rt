@@ -1,0 +1,178 @@
+//! What is refused, and what a load leaves.
+use art_tree::{
+    AnyRef, ArenaReader, InnerNodeCommon, LeafNode, LoadFault, LoadRefusal, NodeArena, NodeType,
+    OpaqueNodePtr, StrKey, load,
+};
+use std::alloc::{AllocError, Global};
+use std::process::Abort;
+use std::test::Fail;
+
+fn numbered<'a>(alloc: Global, texts: &[&'a str]) -> Result<Vec<(StrKey<'a>, usize)>, AllocError> {
+    let mut entries = Vec::new(alloc);
+    for (number, text) in texts.iter().enumerate() {
+        entries.push((StrKey::new(text), number))?;
+    }
+    Ok(entries)
+}
+
+// The fault refuses with this, and has the entries of these texts in their order.
+fn check_fault(
+    rt: &impl Abort,
+    fault: &LoadFault<StrKey, usize>,
+    refusal: LoadRefusal,
+    texts: &[&str],
+) {
+    assert!(rt; fault.refusal == refusal);
+    assert_eq!(rt; fault.entries.len(), texts.len());
+    for (number, (entry, text)) in fault.entries.iter().zip(texts).enumerate() {
+        assert!(rt; entry.0.get() == *text);
+        assert!(rt; entry.1 == number);
+    }
+}
+
+#[test]
+fn the_lowest_entry_at_fault_is_told(rt: HostRuntime) -> Result<(), Fail> {
+    let cases: [(&[&str], LoadRefusal); 8] = [
+        (&[], LoadRefusal::Empty),
+        (&["a", "a"], LoadRefusal::NotAscending(0)),
+        (&["b", "a"], LoadRefusal::NotAscending(0)),
+        (&["a", "ab"], LoadRefusal::Prefix(0)),
+        (&["", "a"], LoadRefusal::Prefix(0)),
+        (&["a", "b", "b", "a"], LoadRefusal::NotAscending(1)),
+        (&["b", "a", "ab"], LoadRefusal::NotAscending(0)),
+        (&["a", "ab", "aa"], LoadRefusal::Prefix(0)),
+    ];
+    let alloc = rt.alloc();
+    let mut arena = NodeArena::<StrKey, usize, 2>::new(alloc);
+    for (texts, refusal) in cases {
+        let Err(fault) = load(alloc, &mut arena, numbered(alloc, texts)?) else {
+            panic!(rt; "loaded");
+        };
+        check_fault(&rt, &fault, refusal, texts);
+    }
+    Ok(())
+}
+
+type Small = NodeArena<[u8; 3], usize, 2>;
+
+type SmallRoot = OpaqueNodePtr<[u8; 3], usize, 2>;
+
+fn numbered_bytes(alloc: Global, keys: &[[u8; 3]]) -> Result<Vec<([u8; 3], usize)>, AllocError> {
+    let mut entries = Vec::new(alloc);
+    for (number, key) in keys.iter().enumerate() {
+        entries.push((*key, number))?;
+    }
+    Ok(entries)
+}
+
+// Loads entries of these keys, if there is memory for them. A load that is refused memory gives them
+// back, and the next one takes them.
+fn load_at_last(
+    rt: &impl Abort,
+    alloc: Global,
+    arena: &mut Small,
+    keys: &[[u8; 3]],
+) -> Option<SmallRoot> {
+    let Ok(entries) = numbered_bytes(alloc, keys) else {
+        return None;
+    };
+    let fault = match load(alloc, arena, entries) {
+        Ok(root) => return Some(root),
+        Err(fault) => fault,
+    };
+    assert!(rt; fault.refusal == LoadRefusal::OutOfMemory);
+    assert_eq!(rt; fault.entries.len(), keys.len());
+    for (number, (entry, key)) in fault.entries.iter().zip(keys).enumerate() {
+        assert!(rt; entry.0 == *key && entry.1 == number);
+    }
+    let Ok(root) = load(alloc, arena, fault.entries) else {
+        panic!(rt; "refused twice");
+    };
+    Some(root)
+}
+
+fn check_root(rt: &impl Abort, arena: &Small, root: SmallRoot, children: usize) {
+    assert!(rt; arena.holds_opaque(root));
+    let count = arena.header(root).map_or(0, |header| header.num_children());
+    assert_eq!(rt; count, children);
+}
+
+#[test]
+fn refused_memory_gives_the_entries_back(rt: HostRuntime) {
+    let alloc = rt.alloc();
+    let mut arena = Small::new(alloc);
+    let Some(low) = load_at_last(&rt, alloc, &mut arena, &[*b"aa0", *b"ab0", *b"b00"]) else {
+        return;
+    };
+    check_root(&rt, &arena, low, 2);
+    let keys = [*b"a1x", *b"a1y", *b"b00", *b"c00", *b"d00", *b"e00"];
+    if let Some(high) = load_at_last(&rt, alloc, &mut arena, &keys) {
+        check_root(&rt, &arena, high, 5);
+    }
+    check_root(&rt, &arena, low, 2);
+}
+
+// The kind of the root over so many keys of one byte, and how many children it has.
+fn root_over(
+    rt: &impl Abort,
+    alloc: Global,
+    count: usize,
+) -> Result<(NodeType, usize), AllocError> {
+    let mut entries = Vec::new(alloc);
+    for byte in (0..=255u8).take(count) {
+        entries.push(([byte], byte))?;
+    }
+    let mut arena = NodeArena::<[u8; 1], u8, 0>::new(alloc);
+    let Ok(root) = load(alloc, &mut arena, entries) else {
+        return Err(AllocError);
+    };
+    assert!(rt; arena.holds_opaque(root));
+    let children = arena.header(root).map_or(0, |header| header.num_children());
+    Ok((root.node_type(), children))
+}
+
+#[test]
+fn each_node_is_of_the_smallest_kind(rt: HostRuntime) -> Result<(), Fail> {
+    let cases = [
+        (1, NodeType::Leaf, 0),
+        (2, NodeType::Node4, 2),
+        (4, NodeType::Node4, 4),
+        (5, NodeType::Node16, 5),
+        (16, NodeType::Node16, 16),
+        (17, NodeType::Node48, 17),
+        (48, NodeType::Node48, 48),
+        (49, NodeType::Node256, 49),
+        (256, NodeType::Node256, 256),
+    ];
+    for (count, kind, children) in cases {
+        assert!(rt; root_over(&rt, rt.alloc(), count)? == (kind, children));
+    }
+    Ok(())
+}
+
+#[test]
+fn leaves_are_linked_below_what_they_share(rt: HostRuntime) -> Result<(), Fail> {
+    let alloc = rt.alloc();
+    let mut arena = NodeArena::<[u8; 4], usize, 2>::new(alloc);
+    let entries = vec![in alloc; (*b"abc1", 0), (*b"abc2", 1)]?;
+    let Ok(root) = load(alloc, &mut arena, entries) else {
+        return Err(AllocError.into());
+    };
+    let mut reader = ArenaReader::with_budget(&arena, 3);
+    let AnyRef::Node4(node) = reader.look(root) else {
+        panic!(rt; "no Node4");
+    };
+    assert_eq!(rt; node.prefix_len(), 3);
+    assert_eq!(rt; node.stored_prefix(), b"ab".as_slice());
+    assert_eq!(rt; node.num_children(), 2);
+    let (low, high) = (node.min(), node.max());
+    assert!(rt; (low.0, high.0) == (b'1', b'2'));
+    let (Some(first), Some(second)) = (low.1.cast::<LeafNode<_, _, 2>>(), high.1.cast()) else {
+        panic!(rt; "no leaves");
+    };
+    assert!(rt; arena.holds(first) && arena.holds(second));
+    let (first_leaf, second_leaf) = (arena.as_ref(first), arena.as_ref(second));
+    assert!(rt; (first_leaf.previous(), first_leaf.next()) == (None, Some(second)));
+    assert!(rt; (second_leaf.previous(), second_leaf.next()) == (Some(first), None));
+    Ok(())
+}
