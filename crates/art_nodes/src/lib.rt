@@ -10,6 +10,7 @@
 //! `inner_nodes` has the traits, the three representations and the builder, `iteration` what goes over
 //! children in order, `commands` child commands and runs of them.
 #![tactic(auto)]
+
 mod commands;
 mod inner_nodes;
 mod iteration;
