@@ -1,8 +1,7 @@
 -- Where the pointers of standing trees stand.
 use Rattle.std.proofs.Common.{◌≡◌, ◌≢◌, ◌∙◌, ℕ, suc, ◌+◌, ◌<◌, ◌≤◌, List, [], ◌∷◌, ◌++◌, length, length-append, map, get_or, All, refl, sym, ap, subst, arith}
-use Rattle.std.proofs.lemmas.List.{map-append, get_or-append-add}
+use Rattle.std.proofs.lemmas.List.{map-append}
 use Rattle.std.proofs.lemmas.List.Elements.{All-nil, All-cons, All-head, All-tail, All-append, All-weaker}
-use Rattle.std.proofs.Math.ListN.{get_or-append}
 use Rattle.art_bytes.specs.Text.{IsFront}
 use Rattle.art_nodes.specs.ChildMap.{ChildMap, IsAscendingFrom, key_bytes}
 use Rattle.art_arena.specs.Arena.{Held, Nothing, HeldInner, HeldLeaf}

@@ -1,3 +1,4 @@
+pub mod BuilderLaws
 mod BuilderLemmas
 mod ByteSetLemmas
 pub mod ChildMapLaws

@@ -1,3 +1,4 @@
+//! Values as keys: their bytes, their order, and what is read back.
 use art_bytes::AsBytes;
 use art_mapped::{
     BytesMapping, ConcatTuple, Element, FixedBytes, Identity, IntegerForm, Mapped,

@@ -1,13 +1,10 @@
--- Children written in their order, and the memory that a builder takes.
-use Rattle.std.proofs.Common.{◌≡◌, ◌∙◌, ℕ, zero, suc, ◌+◌, ◌-◌, ◌%◌, ◌<◌, ◌≤◌, ◌^◌, max, true, false, nat_lt, nat_eq, List, [], ◌∷◌, length, take, get_or, Option, Some, None, IsNone, refl, sym, ap, subst, arith}
+-- Children written in their order.
+use Rattle.std.proofs.Common.{◌≡◌, ◌∙◌, ℕ, zero, suc, ◌+◌, ◌<◌, ◌≤◌, true, false, nat_lt, nat_eq, List, [], ◌∷◌, length, take, get_or, Option, Some, None, IsNone, refl, ap, arith}
 use Rattle.std.proofs.lemmas.Bool.Decides.{nat_tests}
 use Rattle.std.proofs.lemmas.List.{length-take-le}
 use Rattle.art_nodes.specs.ChildMap.{ChildMap, IsAscendingFrom, IsAscending, key_bytes, child_at, with_child}
 use Rattle.art_nodes.specs.Inner.{Inner, HasRoomFor, with_children}
 use Rattle.art_tree.specs.Raising.{node_of}
-use mir.Syntax.{Ty}
-use prog.Memory.{size, align, up, pad}
-use prog.Align.{align_size, align_pos, dv→, dv_self, dv_zero, dv_one}
 
 lt-true : (a b : ℕ) → a < b → nat_lt a b ≡ true
 lt-true a b h = grind (arith, nat_tests)
@@ -53,22 +50,3 @@ module _ {H : Type 0} where
 
     pub written-node : (next : Inner H) (after : ℕ) → after ≡ i + 1 → next ≡ with_children node (with_child node.children (get_or xs i d).0 (get_or xs i d).1) → next ≡ node_of room prefix (take after xs)
     written-node next after more e = let end : suc i ≡ after = omega (arith, more) in e ∙ ap (λ n. with_children n (with_child n.children (get_or xs i d).0 (get_or xs i d).1)) is ∙ ap (node_of room prefix) (written 0 xs i d asc lt) ∙ ap (λ n. node_of room prefix (take n xs)) end
-
-no-pad : (k n : ℕ) → n % k ≡ 0 → pad k n ≡ 0
-no-pad k n e = let whole : k - 0 ≡ k = omega arith in ap (λ r. (k - r) % k) e ∙ ap (λ r. r % k) whole ∙ dv→ k k (dv_self k)
-
-up-same : (k n : ℕ) → n % k ≡ 0 → up k n ≡ n
-up-same k n e = let none : n + 0 ≡ n = omega arith in ap (λ p. n + p) (no-pad k n e) ∙ none
-
--- a builder takes no more memory than its node
-pub builder-fits : (τ : Ty) → size τ < 2 ^ 63 → up (max (align τ) 1) (up 1 (up (align τ) 0 + size τ) + 0) < 2 ^ 63
-builder-fits τ small =
-    let start = up-same (align τ) 0 (dv→ (align τ) 0 (dv_zero (align τ))) in
-    let field : up (align τ) 0 + size τ ≡ size τ = omega (arith, start) in
-    let tail = up-same 1 (size τ) (dv→ 1 (size τ) (dv_one (size τ))) in
-    let end : up 1 (size τ) + 0 ≡ size τ = omega (arith, tail) in
-    let aligned : max (align τ) 1 ≡ align τ = omega (arith, align_pos τ) in
-    let total : up (max (align τ) 1) (up 1 (up (align τ) 0 + size τ) + 0) ≡ size τ =
-    ap (λ z. up (max (align τ) 1) (up 1 z + 0)) field ∙ ap (λ z. up (max (align τ) 1) z) end ∙ ap (λ k. up k (size τ)) aligned ∙ up-same (align τ) (size τ) (dv→ (align τ) (size τ) (align_size τ)) in
-    let Small : ℕ → Type 0 = λ n. n < 2 ^ 63 in
-    subst Small (sym total) small

@@ -21,7 +21,7 @@ use Rattle.art_nodes.proofs.KindLaws.{same_or_differ}
 use Rattle.art_arena.specs.Arena.{ArenaOf, Held, HeldInner, HeldLeaf, Nothing, held, held_leaf, pointer_to, room, SameOtherRoom, Changes}
 use Rattle.art_arena.specs.Links.{HoldsLeaf, leaf_at, text_at}
 use Rattle.art_arena.specs.Standing.{NodeStands, StandsIn, AllStandIn, leaf_text}
-use Rattle.art_arena.specs.Trees.{Tree, Leaf, Inner, Branches, NoBranch, Branch, branch_roots, branch_leaves, branch_places}
+use Rattle.art_arena.specs.Trees.{Leaf, Inner, Branches, NoBranch, Branch, branch_roots, branch_leaves, branch_places}
 use Rattle.art_tree.specs.Plan.{join, one_branch, needed}
 use Rattle.art_tree.specs.Loading.{AreSnug, Adds}
 use Rattle.art_tree.specs.Raising.{node_of, IsPlaced, HoldLeaves, leaf_pairs, leaf_texts}

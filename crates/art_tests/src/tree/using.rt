@@ -1,4 +1,4 @@
-// How a crate uses this one: values that are loaded once and read by key.
+// How a crate uses `art_tree`: values that are loaded once and read by key.
 ghost use Rattle.std.specs.Prelude.{◌≡◌, ◌↔◌, [], IsNone, IfSome};
 ghost use Rattle.art_tree.specs.Search.{HasTree, EachTree, scan};
 

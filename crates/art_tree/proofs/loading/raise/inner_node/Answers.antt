@@ -1,19 +1,20 @@
 use Rattle.std.proofs.Common.{◌∙◌, ◌+◌, arith, lit<, refl, ap}
 use Rattle.std.proofs.lemmas.List.{take_all}
 use Rattle.art_tree.specs.Raising.{node_of}
-use Rattle.art_tree.proofs.ChildLemmas.{builder-fits, has-room, is-new, written-node}
+use Rattle.art_nodes.proofs.BuilderLaws.{builder_fits}
+use Rattle.art_tree.proofs.ChildLemmas.{has-room, is-new, written-node}
 use Rattle.art_tree.proofs.loading.raise.inner_node.Goals as goal
 
 pub builder-requires : goal.builder-requires
-builder-requires g c = (builder-fits _ c.requires.memory, (omega arith, (omega arith, c.requires.short)))
+builder-requires g c = (builder_fits _ c.requires.memory, (omega arith, (omega arith, c.requires.short)))
 
 pub write_child-first-requires : goal.write_child-first-requires
 write_child-first-requires g c = (
-  builder-fits _ c.requires.memory,
+  builder_fits _ c.requires.memory,
   (
     lit< tt,
     (
-      builder-fits _ c.requires.memory,
+      builder_fits _ c.requires.memory,
       has-room g.row.PREFIX_LEN c.args.prefix.now c.args.children.now c.requires.ascending (g.N.InnerNodeCommon.inner c.builder.result) 0 c.builder.ensures (omega (arith, c.requires.two)) _ _ c.requires.fits,
     ),
   ),
@@ -22,11 +23,11 @@ write_child-first-requires g c = (
 pub write_child-builder-requires : goal.write_child-builder-requires
 write_child-builder-requires g c =
     let first = written-node g.row.PREFIX_LEN c.args.prefix.now c.args.children.now c.requires.ascending (g.N.InnerNodeCommon.inner c.builder.result) 0 c.builder.ensures (omega (arith, c.requires.two)) _ (g.N.InnerNodeCommon.inner c.write_child-first.result) 1 refl c.write_child-first.ensures in (
-      builder-fits _ c.requires.memory,
+      builder_fits _ c.requires.memory,
       (
         lit< tt,
         (
-          builder-fits _ c.requires.memory,
+          builder_fits _ c.requires.memory,
           (
             has-room g.row.PREFIX_LEN c.args.prefix.now c.args.children.now c.requires.ascending (g.N.InnerNodeCommon.inner c.write_child-first.result) 1 first (omega (arith, c.requires.two)) _ _ c.requires.fits,
             is-new g.row.PREFIX_LEN c.args.prefix.now c.args.children.now c.requires.ascending (g.N.InnerNodeCommon.inner c.write_child-first.result) 1 first (omega (arith, c.requires.two)) _,
@@ -37,7 +38,7 @@ write_child-builder-requires g c =
 
 pub write_child-builder-requires-in-loop-i : goal.write_child-builder-requires-in-loop-i
 write_child-builder-requires-in-loop-i g c = (
-  builder-fits _ c.requires.memory,
+  builder_fits _ c.requires.memory,
   (
     lit< tt,
     has-room g.row.PREFIX_LEN c.args.prefix.now c.args.children.now c.requires.ascending (g.N.InnerNodeCommon.inner c.loop-i.builder) c.loop-i.i c.loop-i.invariant c.loop-i-test.true _ _ c.requires.fits,
@@ -45,7 +46,7 @@ write_child-builder-requires-in-loop-i g c = (
 )
 
 pub build-requires : goal.build-requires
-build-requires g c = builder-fits _ c.requires.memory
+build-requires g c = builder_fits _ c.requires.memory
 
 pub loop-i-init : goal.loop-i-init
 loop-i-init g c =
