@@ -7,7 +7,7 @@ use Rattle.art_nodes.specs.ChildMap.{with_child}
 use Rattle.art_nodes.specs.Inner as nodes
 use Rattle.art_nodes.specs.declared.pointers.OpaqueNodePtr.{OpaqueNodePtr}
 use Rattle.art_nodes.specs.declared.leaf_node.LeafNode.{LeafNode}
-use Rattle.art_arena.specs.Arena.{ArenaOf, held, Nothing, HeldInner, HeldLeaf, Changes}
+use Rattle.art_arena.specs.Arena.{ArenaOf, held, HeldLeaf, Changes}
 use Rattle.art_arena.specs.Standing.{NodeStands, StandsIn, AllStandIn, StandsUnder, TreeAt, TreeUnder, leaf_text}
 use Rattle.art_arena.specs.Trees.{Tree, Leaf, Inner, Branches, NoBranch, Branch, branch_roots, root_of, IsSound}
 
