@@ -28,7 +28,7 @@ fn has(rt: &impl Abort, node: &Node, start: Bound<u8>, end: Bound<u8>, bytes: &[
 }
 
 #[test]
-fn a_bit_is_set_where_a_child_stands(rt: HostRuntime) {
+fn children_stand_on_both_sides_of_each_border(rt: HostRuntime) {
     let pairs = [
         (63, 63),
         (64, 64),
@@ -59,7 +59,7 @@ fn a_bit_is_set_where_a_child_stands(rt: HostRuntime) {
 }
 
 #[test]
-fn the_first_and_the_last_byte_have_a_bit(rt: HostRuntime) {
+fn the_first_and_the_last_byte_have_a_child(rt: HostRuntime) {
     let mut node: Node = node_of(&rt, &[], &[(255, 255), (0, 0), (200, 200)]);
     has(&rt, &node, Included(0), Included(255), &[0, 200, 255]);
     has(&rt, &node, Excluded(200), Unbounded, &[255]);
