@@ -1,0 +1,15 @@
+use Rattle.std.proofs.Common.{arith}
+use Rattle.art_cli.proofs.Failures.{keeps_itself, nothing_printed}
+use Rattle.art_cli.proofs.program.run.Goals as goal
+
+pub returns-in-Err-clause-failed_run_prints_a_beginning : goal.returns-in-Err-clause-failed_run_prints_a_beginning
+returns-in-Err-clause-failed_run_prints_a_beginning g c _ = nothing_printed c.args.words.now (g.R.Read.remaining c.args.input.now) (g.W.Write.contents c.args.output.now)
+
+pub returns-in-Err-clause-bad_input_prints_nothing : goal.returns-in-Err-clause-bad_input_prints_nothing
+returns-in-Err-clause-bad_input_prints_nothing g c _ = keeps_itself (g.W.Write.contents c.args.output.now)
+
+pub returns-in-Ok-write_out-clause-success_is_quiet : goal.returns-in-Ok-write_out-clause-success_is_quiet
+returns-in-Ok-write_out-clause-success_is_quiet g c _ = keeps_itself (g.E.Write.contents c.args.errors.now)
+
+pub returns-clause-answers : goal.returns-clause-answers
+returns-clause-answers g c zero = absurd (omega (arith, zero, c.report-in-Err-write_out.ensures, c.from.ensures.0))
