@@ -5,7 +5,7 @@ mod concrete;
 mod conversions;
 mod direct;
 mod each_kind;
-mod fixtures;
+pub(crate) mod fixtures;
 mod indirect;
 mod iteration;
 mod leaf_node;

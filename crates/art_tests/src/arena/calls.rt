@@ -1,4 +1,6 @@
 //! Every call of the arena, and what stands where one is refused.
+use super::put;
+use crate::nodes::fixtures::pair;
 use art_arena::{ArenaNode, NodeArena};
 use art_nodes::{
     Header, InnerNode, InnerNode4, InnerNode16, InnerNode48, InnerNodeCommon, InnerNodeDirect,
@@ -23,17 +25,6 @@ const KINDS: [NodeType; 5] = [
     NodeType::Node256,
     NodeType::Leaf,
 ];
-
-fn put<N: ArenaNode<Key, u16, 16> + Drop>(
-    rt: &impl Abort,
-    arena: &mut Arena,
-    node: N,
-) -> NodePtr<16, N> {
-    match arena.allocate_node_ptr(node) {
-        Ok(ptr) => ptr,
-        Err(_) => panic!(rt; "an allocation was refused"),
-    }
-}
 
 fn check_header(rt: &impl Abort, arena: &Arena, pointer: Pointer, length: Option<usize>) {
     assert!(rt; arena.holds_opaque(pointer));
@@ -72,50 +63,39 @@ fn check_inner<N: ArenaNode<Key, u16, 16> + InnerNodeCommon<Key, u16, 16> + Drop
     assert!(rt; !arena.holds_opaque(pointer));
 }
 
-#[test]
-fn makes_every_call_at_each_kind(rt: HostRuntime) {
-    let mut arena = Arena::new(rt.alloc());
-    let child = NodePtr::<16, Leaf>::from_key(9).to_opaque();
-    let four = InnerNode4::builder(b"ab", 2)
-        .write_child(3, child)
-        .write_child(5, child)
-        .build();
-    let copy = four.clone();
-    check_inner(&rt, &mut arena, four, copy);
-    let sixteen = InnerNode16::builder(b"ab", 2)
-        .write_child(3, child)
-        .write_child(5, child)
-        .build();
-    let copy = sixteen.clone();
-    check_inner(&rt, &mut arena, sixteen, copy);
-    let many = InnerNode48::builder(b"ab", 2)
-        .write_child(3, child)
-        .write_child(5, child)
-        .build();
-    let copy = many.clone();
-    check_inner(&rt, &mut arena, many, copy);
-    let all = InnerNodeDirect::builder(b"ab", 2)
-        .write_child(3, child)
-        .write_child(5, child)
-        .build();
-    let copy = all.clone();
-    check_inner(&rt, &mut arena, all, copy);
+// A pointer for nodes to hold, which nothing follows.
+fn child() -> Pointer {
+    NodePtr::<16, Leaf>::from_key(9).to_opaque()
+}
 
-    let ptr = put(&rt, &mut arena, Leaf::with_no_siblings([7], 700));
-    check_header(&rt, &arena, ptr.to_opaque(), None);
+// Reads and writes the value of a leaf.
+fn check_value(rt: &impl Abort, arena: &mut Arena, ptr: NodePtr<16, Leaf>) {
     assert!(rt; arena.holds(ptr));
     *arena.as_value_mut(ptr) = 701;
     assert!(rt; arena.holds(ptr));
     assert_eq!(rt; *arena.as_value_ref(ptr), 701);
+    *arena.as_mut(ptr).value_mut() = 8;
+    assert!(rt; arena.holds(ptr));
+    assert_eq!(rt; *arena.as_ref(ptr).value_ref(), 8);
+}
+
+// Reads the key, 7, and makes it the value.
+fn check_key_and_value(rt: &impl Abort, arena: &mut Arena, ptr: NodePtr<16, Leaf>) {
+    assert!(rt; arena.holds(ptr));
     let (key, value) = arena.as_key_ref_value_mut(ptr);
     *value = u16::from(key[0]);
     assert!(rt; arena.holds(ptr));
     let (key, value) = arena.as_key_value_ref(ptr);
     assert_eq!(rt; key[0], 7);
     assert_eq!(rt; *value, 7);
-    *arena.as_mut(ptr).value_mut() = 8;
+}
+
+fn check_leaf(rt: &impl Abort, arena: &mut Arena) {
+    let ptr = put(rt, arena, Leaf::with_no_siblings([7], 700));
+    check_header(rt, arena, ptr.to_opaque(), None);
+    check_key_and_value(rt, arena, ptr);
+    check_value(rt, arena, ptr);
     assert!(rt; arena.holds(ptr));
-    assert_eq!(rt; *arena.as_ref(ptr).value_ref(), 8);
     let old = arena.replace(ptr, Leaf::with_no_siblings([6], 600));
     assert_eq!(rt; *old.value_ref(), 8);
     assert!(rt; arena.holds(ptr));
@@ -123,6 +103,20 @@ fn makes_every_call_at_each_kind(rt: HostRuntime) {
     let leaf = arena.deallocate_node_ptr(ptr);
     assert_eq!(rt; *leaf.value_ref(), 600);
     assert!(rt; !arena.holds(ptr));
+}
+
+#[test]
+fn makes_every_call_at_each_kind(rt: HostRuntime) {
+    let mut arena = Arena::new(rt.alloc());
+    let four: InnerNode4<Key, u16, 16> = pair(&rt, b"ab", child());
+    check_inner(&rt, &mut arena, four.clone(), four);
+    let sixteen: InnerNode16<Key, u16, 16> = pair(&rt, b"ab", child());
+    check_inner(&rt, &mut arena, sixteen.clone(), sixteen);
+    let many: InnerNode48<Key, u16, 16> = pair(&rt, b"ab", child());
+    check_inner(&rt, &mut arena, many.clone(), many);
+    let all: InnerNodeDirect<Key, u16, 16> = pair(&rt, b"ab", child());
+    check_inner(&rt, &mut arena, all.clone(), all);
+    check_leaf(&rt, &mut arena);
 }
 
 #[test]
@@ -180,13 +174,12 @@ fn put_beside<N: ArenaNode<Key, u16, 16> + Drop>(
 
 // Two nodes of each kind.
 fn fill(rt: &impl Abort, arena: &mut Arena) -> [Pointer; 10] {
-    let child = NodePtr::<16, Leaf>::from_key(9).to_opaque();
-    let mut entries = [child; 10];
+    let mut entries = [child(); 10];
     for index in 0..10u8 {
         let place = usize::from(index);
         let four = InnerNode4::builder(&[7; 10][..place], place)
-            .write_child(3, child)
-            .write_child(5, child)
+            .write_child(3, child())
+            .write_child(5, child())
             .build();
         let before = &entries[..place];
         entries[place] = match index % 5 {

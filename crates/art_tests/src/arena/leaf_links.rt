@@ -1,4 +1,5 @@
 //! Leaves linked and taken out by hand.
+use super::put;
 use art_arena::{ArenaNode, LeafLinks, NodeArena};
 use art_bytes::AsBytes;
 use art_nodes::{LeafNode, NodePtr};
@@ -15,11 +16,8 @@ type Leaf = LeafNode<Key, u8, 16>;
 
 type Pointer = NodePtr<16, Leaf>;
 
-fn put(rt: &impl Abort, arena: &mut Arena, key: u8) -> Pointer {
-    match arena.allocate_node_ptr(Leaf::with_no_siblings([key], key)) {
-        Ok(ptr) => ptr,
-        Err(_) => panic!(rt; "an allocation was refused"),
-    }
+fn put_leaf(rt: &impl Abort, arena: &mut Arena, key: u8) -> Pointer {
+    put(rt, arena, Leaf::with_no_siblings([key], key))
 }
 
 fn insert_after(rt: &impl Abort, arena: &mut Arena, this: Pointer, sibling: Pointer) {
@@ -47,6 +45,29 @@ fn remove_self(rt: &impl Abort, arena: &mut Arena, this: Pointer) {
     Leaf::remove_self(arena, this);
 }
 
+fn replace(rt: &impl Abort, arena: &mut Arena, this: Pointer, old: Pointer) {
+    assert!(rt; arena.holds(this));
+    assert!(rt; !Leaf::is_linked(arena, this));
+    assert!(rt; this != old);
+    assert!(rt; Leaf::is_knit(arena, old));
+    Leaf::replace(arena, this, old, true);
+}
+
+// A leaf that was taken out still names its neighbours.
+fn check_removed(
+    rt: &impl Abort,
+    arena: &Arena,
+    leaf: Pointer,
+    previous: Option<Pointer>,
+    next: Option<Pointer>,
+) {
+    assert!(rt; arena.holds(leaf));
+    assert!(rt; Leaf::is_linked(arena, leaf));
+    assert!(rt; !Leaf::is_knit(arena, leaf));
+    assert!(rt; arena.as_ref(leaf).previous() == previous);
+    assert!(rt; arena.as_ref(leaf).next() == next);
+}
+
 // From this leaf on, the list has these leaves, and each of them names its neighbours.
 fn check_list(rt: &impl Abort, arena: &Arena, leaves: &[Pointer]) {
     let mut previous = None;
@@ -65,10 +86,10 @@ fn check_list(rt: &impl Abort, arena: &Arena, leaves: &[Pointer]) {
 #[test]
 fn removes_and_replaces_leaves_of_a_list(rt: HostRuntime) {
     let mut arena = Arena::new(rt.alloc());
-    let a = put(&rt, &mut arena, b'a');
-    let b = put(&rt, &mut arena, b'b');
-    let c = put(&rt, &mut arena, b'c');
-    let d = put(&rt, &mut arena, b'd');
+    let a = put_leaf(&rt, &mut arena, b'a');
+    let b = put_leaf(&rt, &mut arena, b'b');
+    let c = put_leaf(&rt, &mut arena, b'c');
+    let d = put_leaf(&rt, &mut arena, b'd');
     insert_after(&rt, &mut arena, c, a);
     check_list(&rt, &arena, &[a, c]);
     insert_after(&rt, &mut arena, b, a);
@@ -76,17 +97,9 @@ fn removes_and_replaces_leaves_of_a_list(rt: HostRuntime) {
 
     remove_self(&rt, &mut arena, b);
     check_list(&rt, &arena, &[a, c]);
-    assert!(rt; arena.holds(b));
-    assert!(rt; Leaf::is_linked(&arena, b));
-    assert!(rt; !Leaf::is_knit(&arena, b));
-    assert!(rt; arena.as_ref(b).previous() == Some(a));
-    assert!(rt; arena.as_ref(b).next() == Some(c));
+    check_removed(&rt, &arena, b, Some(a), Some(c));
 
-    assert!(rt; arena.holds(d));
-    assert!(rt; !Leaf::is_linked(&arena, d));
-    assert!(rt; d != c);
-    assert!(rt; Leaf::is_knit(&arena, c));
-    Leaf::replace(&mut arena, d, c, true);
+    replace(&rt, &mut arena, d, c);
     check_list(&rt, &arena, &[a, d]);
     assert!(rt; arena.holds(c));
     assert!(rt; !Leaf::is_linked(&arena, c));
@@ -95,9 +108,9 @@ fn removes_and_replaces_leaves_of_a_list(rt: HostRuntime) {
 #[test]
 fn inserts_on_either_side(rt: HostRuntime) {
     let mut arena = Arena::new(rt.alloc());
-    let a = put(&rt, &mut arena, b'a');
-    let b = put(&rt, &mut arena, b'b');
-    let c = put(&rt, &mut arena, b'c');
+    let a = put_leaf(&rt, &mut arena, b'a');
+    let b = put_leaf(&rt, &mut arena, b'b');
+    let c = put_leaf(&rt, &mut arena, b'c');
     insert_before(&rt, &mut arena, a, b);
     check_list(&rt, &arena, &[a, b]);
     insert_after(&rt, &mut arena, c, b);

@@ -23,6 +23,22 @@ pub(crate) fn write<N: InnerNodeCommon<u8, u8, 16>>(
     node.write_child(byte, leaf(key));
 }
 
+/// A node with this prefix, of at most 16 bytes, and this child under each of the bytes 3 and 5.
+pub(crate) fn pair<K, V, N: InnerNodeCommon<K, V, 16> + Drop>(
+    rt: &impl Abort,
+    prefix: &[u8],
+    child: OpaqueNodePtr<K, V, 16>,
+) -> N
+    requires memory { FitsInMemory N.row }
+    requires room { 2 ≤ N.room }
+{
+    assert!(rt; prefix.len() <= 16);
+    N::builder(prefix, prefix.len())
+        .write_child(3, child)
+        .write_child(5, child)
+        .build()
+}
+
 /// A node with this prefix, of at most 16 bytes, and the leaf beside each byte, written in this order.
 pub(crate) fn node_of<N: InnerNodeCommon<u8, u8, 16> + Drop>(
     rt: &impl Abort,
@@ -32,13 +48,9 @@ pub(crate) fn node_of<N: InnerNodeCommon<u8, u8, 16> + Drop>(
     requires memory { FitsInMemory N.row }
     requires room { 2 ≤ N.room }
 {
-    assert!(rt; prefix.len() <= 16);
-    let mut node = N::builder(prefix, prefix.len())
-        .write_child(0, leaf(0))
-        .write_child(1, leaf(1))
-        .build();
-    node.remove_child(0);
-    node.remove_child(1);
+    let mut node: N = pair(rt, prefix, leaf(0));
+    node.remove_child(3);
+    node.remove_child(5);
     for (byte, key) in pairs {
         write(rt, &mut node, *byte, *key);
     }

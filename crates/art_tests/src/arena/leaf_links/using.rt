@@ -26,7 +26,7 @@ fn push_back<K: AsBytes, V, const PREFIX_LEN: usize>(
 
 // A new leaf at the end of the list.
 fn append(rt: &impl Abort, arena: &mut Arena, last: Pointer, key: u8) -> Pointer {
-    let this = put(rt, arena, key);
+    let this = put_leaf(rt, arena, key);
     assert!(rt; arena.holds(this));
     assert!(rt; !Leaf::is_linked(arena, this));
     assert!(rt; this != last);
@@ -40,7 +40,7 @@ fn append(rt: &impl Abort, arena: &mut Arena, last: Pointer, key: u8) -> Pointer
 #[test]
 fn walks_three_leaves_in_order(rt: HostRuntime) {
     let mut arena = Arena::new(rt.alloc());
-    let first = put(&rt, &mut arena, b'a');
+    let first = put_leaf(&rt, &mut arena, b'a');
     let second = append(&rt, &mut arena, first, b'b');
     append(&rt, &mut arena, second, b'c');
     let mut next = Some(first);
