@@ -11,6 +11,17 @@ use std::cmp::Ordering;
 use std::process::Abort;
 use std::test::Fail;
 
+// A path, a prefix and one byte.
+fn join(alloc: Global, path: &[u8], prefix: &[u8], byte: u8) -> Result<Vec<u8>, AllocError>
+    ensures { IfOk result (λ key. key.items ≡ (path.now ++ prefix.now) ++ byte ∷ []) }
+{
+    let mut key = Vec::new(alloc);
+    key.extend_from_slice(path)?;
+    key.extend_from_slice(prefix)?;
+    key.push(byte)?;
+    Ok(key)
+}
+
 // A leaf whose key is a path, a prefix and one byte. What stood before stands.
 fn plant_leaf<const PREFIX_LEN: usize>(
     alloc: Global,
@@ -27,10 +38,7 @@ fn plant_leaf<const PREFIX_LEN: usize>(
         (again : TreeAt ⟦<Vec<u8> as AsBytes>⟧.text arena.new pointer) × (again.path ≡ found.path)) }
 {
     allocating_leaves_trees_standing::<Vec<u8>, u8, PREFIX_LEN>();
-    let mut key = Vec::new(alloc);
-    key.extend_from_slice(path)?;
-    key.extend_from_slice(prefix)?;
-    key.push(byte)?;
+    let key = join(alloc, path, prefix, byte)?;
     let leaf = LeafNode::with_no_siblings(key, 0);
     let _text = leaf.key_ref().as_bytes();
     let Ok(pointer) = arena.allocate_node_ptr(leaf) else {
@@ -101,6 +109,27 @@ fn fork_of_leaves<const PREFIX_LEN: usize>(
     Ok(fork(rt, arena, path, prefix, (low, first), (high, second)))
 }
 
+// A node under this path with this prefix, over the tree of a node and a leaf beside it.
+fn fork_over<const PREFIX_LEN: usize>(
+    rt: &impl Abort,
+    alloc: Global,
+    arena: &mut NodeArena<Vec<u8>, u8, PREFIX_LEN>,
+    node: InnerNode4<Vec<u8>, u8, PREFIX_LEN>,
+    path: &[u8],
+    prefix: &[u8],
+    low: u8,
+    high: u8,
+) -> Result<InnerNode4<Vec<u8>, u8, PREFIX_LEN>, AllocError>
+    ensures { (depth : ℕ) (below : TreeUnder ⟦<Vec<u8> as AsBytes>⟧.text arena.old node.entry depth) →
+        below.path ≡ (path.now ++ prefix.now) ++ low ∷ [] →
+        IfOk result (λ over. (under : TreeUnder ⟦<Vec<u8> as AsBytes>⟧.text arena.new over (length path.now)) ×
+        (under.path ≡ path.now)) }
+{
+    let first = plant(arena, node)?;
+    let second = plant_leaf(alloc, arena, path, prefix, high)?;
+    Ok(fork(rt, arena, path, prefix, (low, first), (high, second)))
+}
+
 // The full match answers this, and a leaf only where the node does not store its whole prefix.
 fn expect_match<K: AsBytes, const PREFIX_LEN: usize>(
     rt: &impl Abort,
@@ -114,18 +143,15 @@ fn expect_match<K: AsBytes, const PREFIX_LEN: usize>(
     requires { TreeUnder K.text arena.now node.now depth }
 {
     assert!(rt; depth <= key.len());
-    match node.match_full_prefix(arena, key, depth) {
-        Ok(matched) => {
-            assert_eq!(rt; matched.matched_bytes, matched_bytes);
-            assert!(rt; parting.is_none());
-        }
+    let answer = match node.match_full_prefix(arena, key, depth) {
+        Ok(matched) => (matched.matched_bytes, None),
         Err(mismatch) => {
-            let order = mismatch.node_prefix_comparison_to_search_key_segment;
-            assert_eq!(rt; mismatch.matched_bytes, matched_bytes);
-            assert!(rt; parting == Some((mismatch.prefix_byte, order)));
             assert!(rt; mismatch.leaf_ptr.is_some() == (PREFIX_LEN < node.prefix_len()));
+            let order = mismatch.node_prefix_comparison_to_search_key_segment;
+            (mismatch.matched_bytes, Some((mismatch.prefix_byte, order)))
         }
-    }
+    };
+    assert!(rt; answer == (matched_bytes, parting));
 }
 
 // The whole prefix is read as this, from a leaf only where the node does not store all of it.
@@ -195,9 +221,7 @@ fn three_nodes_deep<const PREFIX_LEN: usize>(
     arena: &mut NodeArena<Vec<u8>, u8, PREFIX_LEN>,
 ) -> Result<(), AllocError> {
     let bottom = fork_of_leaves(rt, alloc, arena, b"abcdefgh", b"ijk", b'l', b'm')?;
-    let lowest = plant(arena, bottom)?;
-    let leaf = plant_leaf(alloc, arena, b"abcd", b"efg", b'z')?;
-    let middle = fork(rt, arena, b"abcd", b"efg", (b'h', lowest), (b'z', leaf));
+    let middle = fork_over(rt, alloc, arena, bottom, b"abcd", b"efg", b'h', b'z')?;
     expect_prefix(rt, arena, &middle, 4, b"efg");
     expect_match(
         rt,
@@ -208,9 +232,7 @@ fn three_nodes_deep<const PREFIX_LEN: usize>(
         2,
         Some((103, Ordering::Less)),
     );
-    let low = plant(arena, middle)?;
-    let other = plant_leaf(alloc, arena, b"", b"abc", b'z')?;
-    let top = fork(rt, arena, b"", b"abc", (b'd', low), (b'z', other));
+    let top = fork_over(rt, alloc, arena, middle, b"", b"abc", b'd', b'z')?;
     expect_prefix(rt, arena, &top, 0, b"abc");
     expect_match(rt, arena, &top, 0, b"abcdefghijkl", 3, None);
     Ok(())

@@ -1,5 +1,4 @@
 use Rattle.std.proofs.Common.{◌≡◌, ◌<◌, ◌∙◌, ◌^◌, ◌++◌, ◌∷◌, [], length, ap, sym, subst, arith}
-use Rattle.std.proofs.lemmas.Grind.{common_steps}
 use Rattle.std.proofs.lemmas.List.{append-nil}
 use Rattle.art_bytes.specs.Text.{IsFront}
 use Rattle.art_arena.specs.Standing.{TreeAt, leaf_text}
@@ -10,7 +9,7 @@ pub returns-clause-planted : goal.returns-clause-planted
 returns-clause-planted g c =
     let leaf = c.with_no_siblings-leaf.result in
     let lead = (c.args.path.now ++ c.args.prefix.now) ++ c.args.byte ∷ [] in
-    let read : leaf_text (λ k. k.items) leaf ≡ lead = ap (λ k. k.items) c.with_no_siblings-leaf.ensures.key ∙ first_of (cc, grind (arith, common_steps)) in
+    let read : leaf_text (λ k. k.items) leaf ≡ lead = ap (λ k. k.items) c.with_no_siblings-leaf.ensures.key ∙ c.in_ok-key.ensures in
     let bytes = c.as_bytes-text.ensures.text ∙ ap (λ k. k.items) c.key_ref.ensures in
     let short : length (leaf_text (λ k. k.items) leaf) < 2 ^ 64 = omega (arith, ap length bytes) in
     subst (λ p. (found : TreeAt (λ k. k.items) c.allocate_node_ptr.new.self p) × (found.path ≡ lead)) (sym c.to_opaque.ensures)
