@@ -1,7 +1,7 @@
 //! What is refused, and what a load leaves.
 use art_tree::{
-    AnyRef, ArenaReader, InnerNodeCommon, LeafNode, LoadFault, LoadRefusal, NodeArena, NodeType,
-    OpaqueNodePtr, StrKey, load,
+    AnyRef, ArenaReader, InnerNode4, InnerNodeCommon, LeafNode, LoadFault, LoadRefusal, NodeArena,
+    NodePtr, NodeType, OpaqueNodePtr, StrKey, load,
 };
 use std::alloc::{AllocError, Global};
 use std::process::Abort;
@@ -150,6 +150,39 @@ fn each_node_is_of_the_smallest_kind(rt: HostRuntime) -> Result<(), Fail> {
     Ok(())
 }
 
+type SharedLeaf = LeafNode<[u8; 4], usize, 2>;
+
+type SharedLeafPtr = NodePtr<2, SharedLeaf>;
+
+// The two leaves below a node that has `abc` as its prefix.
+fn leaves_below(
+    rt: &impl Abort,
+    node: &InnerNode4<[u8; 4], usize, 2>,
+) -> (SharedLeafPtr, SharedLeafPtr) {
+    assert_eq!(rt; node.prefix_len(), 3);
+    assert_eq!(rt; node.stored_prefix(), b"ab".as_slice());
+    assert_eq!(rt; node.num_children(), 2);
+    let (low, high) = (node.min(), node.max());
+    assert!(rt; (low.0, high.0) == (b'1', b'2'));
+    let (Some(first), Some(second)) = (low.1.cast(), high.1.cast()) else {
+        panic!(rt; "no leaves");
+    };
+    (first, second)
+}
+
+// The two leaves are a list.
+fn check_linked(
+    rt: &impl Abort,
+    arena: &NodeArena<[u8; 4], usize, 2>,
+    first: SharedLeafPtr,
+    second: SharedLeafPtr,
+) {
+    assert!(rt; arena.holds(first) && arena.holds(second));
+    let (first_leaf, second_leaf) = (arena.as_ref(first), arena.as_ref(second));
+    assert!(rt; (first_leaf.previous(), first_leaf.next()) == (None, Some(second)));
+    assert!(rt; (second_leaf.previous(), second_leaf.next()) == (Some(first), None));
+}
+
 #[test]
 fn leaves_are_linked_below_what_they_share(rt: HostRuntime) -> Result<(), Fail> {
     let alloc = rt.alloc();
@@ -162,17 +195,7 @@ fn leaves_are_linked_below_what_they_share(rt: HostRuntime) -> Result<(), Fail> 
     let AnyRef::Node4(node) = reader.look(root) else {
         panic!(rt; "no Node4");
     };
-    assert_eq!(rt; node.prefix_len(), 3);
-    assert_eq!(rt; node.stored_prefix(), b"ab".as_slice());
-    assert_eq!(rt; node.num_children(), 2);
-    let (low, high) = (node.min(), node.max());
-    assert!(rt; (low.0, high.0) == (b'1', b'2'));
-    let (Some(first), Some(second)) = (low.1.cast::<LeafNode<_, _, 2>>(), high.1.cast()) else {
-        panic!(rt; "no leaves");
-    };
-    assert!(rt; arena.holds(first) && arena.holds(second));
-    let (first_leaf, second_leaf) = (arena.as_ref(first), arena.as_ref(second));
-    assert!(rt; (first_leaf.previous(), first_leaf.next()) == (None, Some(second)));
-    assert!(rt; (second_leaf.previous(), second_leaf.next()) == (Some(first), None));
+    let (first, second) = leaves_below(&rt, node);
+    check_linked(&rt, &arena, first, second);
     Ok(())
 }
