@@ -75,31 +75,34 @@ fn arrays_and_vectors_are_joined(rt: HostRuntime) -> Result<(), Fail> {
     Ok(())
 }
 
+/// The keys of the vectors have these bytes, and ascend.
+fn vectors_ascend<B: OrderedMapping<Vec<E>>, E: Ord + Copy>(
+    rt: &impl Abort,
+    alloc: Global,
+    vectors: &[&[E]],
+    texts: &[&[u8]],
+) -> Result<(), AllocError> {
+    let mut before: Option<Mapped<B, Vec<E>>> = None;
+    for (numbers, text) in vectors.iter().zip(texts.iter()) {
+        let key = Mapped::<B, Vec<E>>::new(alloc, numbers.to_vec(alloc)?)?;
+        assert_eq!(rt; key.as_bytes(), *text);
+        if let Some(less) = &before {
+            assert!(rt; *less < key);
+        }
+        before = Some(key);
+    }
+    Ok(())
+}
+
 #[test]
 fn vectors_ascend_with_their_bytes(rt: HostRuntime) -> Result<(), Fail> {
     let alloc = rt.alloc();
     let unsigned: [&[u16]; 4] = [&[], &[0], &[0, 0], &[1]];
     let texts: [&[u8]; 4] = [&[], &[0, 0], &[0, 0, 0, 0], &[0, 1]];
-    let mut before: Option<Mapped<ToUBE, Vec<u16>>> = None;
-    for (numbers, text) in unsigned.iter().zip(texts.iter()) {
-        let key = Mapped::<ToUBE, Vec<u16>>::new(alloc, numbers.to_vec(alloc)?)?;
-        assert_eq!(rt; key.as_bytes(), *text);
-        if let Some(less) = &before {
-            assert!(rt; *less < key);
-        }
-        before = Some(key);
-    }
+    vectors_ascend::<ToUBE, u16>(&rt, alloc, &unsigned, &texts)?;
     let signed: [&[i8]; 4] = [&[-128], &[-1], &[-1, 0], &[0]];
     let texts: [&[u8]; 4] = [&[0], &[127], &[127, 128], &[128]];
-    let mut before: Option<Mapped<ToIBE, Vec<i8>>> = None;
-    for (numbers, text) in signed.iter().zip(texts.iter()) {
-        let key = Mapped::<ToIBE, Vec<i8>>::new(alloc, numbers.to_vec(alloc)?)?;
-        assert_eq!(rt; key.as_bytes(), *text);
-        if let Some(less) = &before {
-            assert!(rt; *less < key);
-        }
-        before = Some(key);
-    }
+    vectors_ascend::<ToIBE, i8>(&rt, alloc, &signed, &texts)?;
     Ok(())
 }
 
@@ -142,16 +145,28 @@ fn bytes_of_no_value_are_refused(rt: HostRuntime) -> Result<(), Fail> {
 }
 
 #[test]
-fn sequences_come_back_from_their_bytes(rt: HostRuntime) -> Result<(), Fail> {
+fn vectors_come_back_from_their_bytes(rt: HostRuntime) -> Result<(), Fail> {
     let alloc = rt.alloc();
     let bytes = <ToUBE as BytesMapping<Vec<u16>>>::to_bytes(alloc, vec![in alloc; 258, 3]?)?;
     assert_eq!(rt; bytes.as_slice(), [1, 2, 0, 3].as_slice());
     assert!(rt; <ToUBE as BytesMapping<Vec<u16>>>::is_value(&bytes));
     let read = <ToUBE as BytesMapping<Vec<u16>>>::from_bytes(alloc, bytes)?;
     assert_eq!(rt; read.as_slice(), [258, 3].as_slice());
+    Ok(())
+}
+
+#[test]
+fn bytes_are_read_as_a_vector(rt: HostRuntime) -> Result<(), Fail> {
+    let alloc = rt.alloc();
     let bytes: Vec<u8> = vec![in alloc; 1, 2, 0, 3]?;
     let read = <ToUBE as BytesMapping<Vec<u16>>>::checked_from_bytes(alloc, bytes)?;
     assert!(rt; matches!(&read, Some(numbers) if numbers.as_slice() == [258, 3].as_slice()));
+    Ok(())
+}
+
+#[test]
+fn arrays_come_back_from_their_bytes(rt: HostRuntime) -> Result<(), Fail> {
+    let alloc = rt.alloc();
     let bytes = <ToIBE as BytesMapping<[i16; 2]>>::to_bytes(alloc, [-1, 0])?;
     assert_eq!(rt; bytes.as_slice(), [127, 255, 128, 0].as_slice());
     assert!(rt; <ToIBE as BytesMapping<[i16; 2]>>::is_value(&bytes));
@@ -163,7 +178,7 @@ fn sequences_come_back_from_their_bytes(rt: HostRuntime) -> Result<(), Fail> {
 }
 
 #[test]
-fn long_sequences_come_back(rt: HostRuntime) -> Result<(), Fail> {
+fn long_vectors_come_back(rt: HostRuntime) -> Result<(), Fail> {
     let alloc = rt.alloc();
     let mut numbers = Vec::new(alloc);
     for number in 0..1000u16 {
@@ -174,11 +189,23 @@ fn long_sequences_come_back(rt: HostRuntime) -> Result<(), Fail> {
     assert_eq!(rt; &key.as_bytes()[1996..], [3, 230, 3, 231].as_slice());
     let again = key.clone()?;
     assert!(rt; again.get(alloc)? == numbers);
+    Ok(())
+}
+
+#[test]
+fn many_bytes_are_read_as_a_vector(rt: HostRuntime) -> Result<(), Fail> {
+    let alloc = rt.alloc();
     let read = <ToUBE as BytesMapping<Vec<u16>>>::checked_from_bytes(
         alloc,
         vec![in alloc; 7; 600]?,
     )?;
     assert!(rt; matches!(&read, Some(read) if read.len() == 300 && read[299] == 1799));
+    Ok(())
+}
+
+#[test]
+fn long_arrays_come_back(rt: HostRuntime) -> Result<(), Fail> {
+    let alloc = rt.alloc();
     let key = Mapped::<ToIBE, [i32; 300]>::new(alloc, [-1; 300])?;
     assert_eq!(rt; key.as_bytes().len(), 1200);
     assert_eq!(rt; &key.as_bytes()[1196..], [127, 255, 255, 255].as_slice());
@@ -223,12 +250,25 @@ fn keys_are_equal_and_hash_by_their_bytes(rt: HostRuntime) -> Result<(), Fail> {
     let alloc = rt.alloc();
     let key = Mapped::<ToUBE, u16>::new(alloc, 443)?;
     let same = key.clone()?;
-    let other = Mapped::<ToUBE, u16>::new(alloc, 444)?;
     assert!(rt; key == same);
-    assert!(rt; key != other);
     assert_eq!(rt; hash_of(&key), hash_of(&same));
     assert_eq!(rt; hash_of(&key), hash_of(&[1u8, 187].as_slice()));
+    Ok(())
+}
+
+#[test]
+fn keys_of_other_bytes_differ(rt: HostRuntime) -> Result<(), Fail> {
+    let alloc = rt.alloc();
+    let key = Mapped::<ToUBE, u16>::new(alloc, 443)?;
+    let other = Mapped::<ToUBE, u16>::new(alloc, 444)?;
+    assert!(rt; key != other);
     assert_eq!(rt; key.partial_cmp(&other), Some(Ordering::Less));
+    Ok(())
+}
+
+#[test]
+fn a_clone_holds_the_vector(rt: HostRuntime) -> Result<(), Fail> {
+    let alloc = rt.alloc();
     let long = Mapped::<ToIBE, Vec<i32>>::new(alloc, vec![in alloc; -1, 2]?)?;
     let again = long.clone()?;
     assert!(rt; long == again);

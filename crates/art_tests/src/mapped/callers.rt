@@ -190,7 +190,7 @@ fn ascend<K: OrderedBytes + NoPrefixesBytes>(rt: &impl Abort, less: &K, more: &K
 }
 
 #[test]
-fn callers_name_their_types(rt: HostRuntime) -> Result<(), Fail> {
+fn callers_make_and_compare_keys(rt: HostRuntime) -> Result<(), Fail> {
     let alloc = rt.alloc();
     assert_eq!(rt;
         host(alloc, Ipv4Addr::LOCALHOST)?.as_bytes(),
@@ -202,6 +202,12 @@ fn callers_name_their_types(rt: HostRuntime) -> Result<(), Fail> {
     let (less, more) = (Mapped::new(alloc, -3)?, Mapped::new(alloc, 2)?);
     assert_eq!(rt; by_size(&less, &more), Ordering::Less);
     assert_eq!(rt; compared::<ToUBE, u8>(alloc, 7, 6)?, Ordering::Greater);
+    Ok(())
+}
+
+#[test]
+fn callers_get_integers_back(rt: HostRuntime) -> Result<(), Fail> {
+    let alloc = rt.alloc();
     assert_eq!(rt; element_back::<Unsigned, u64>(alloc, 1 << 40)?, 1 << 40);
     assert_eq!(rt; unsigned_back(alloc, u64::MAX)?, u64::MAX);
     assert_eq!(rt; non_zero_back(alloc, NonZeroU32::MIN)?, NonZeroU32::MIN);
@@ -210,10 +216,22 @@ fn callers_name_their_types(rt: HostRuntime) -> Result<(), Fail> {
         signed_non_zero_back(alloc, NonZeroI8::MIN)?,
         NonZeroI8::MIN
     );
+    assert_eq!(rt; element_asked::<Signed, i8>(alloc, [129])?, Some(1));
+    Ok(())
+}
+
+#[test]
+fn callers_get_addresses_back(rt: HostRuntime) -> Result<(), Fail> {
+    let alloc = rt.alloc();
     assert_eq!(rt; ipv4_back(alloc, Ipv4Addr::LOCALHOST)?, Ipv4Addr::LOCALHOST);
     assert_eq!(rt; ipv6_back(alloc, Ipv6Addr::LOCALHOST)?, Ipv6Addr::LOCALHOST);
-    assert_eq!(rt; element_asked::<Signed, i8>(alloc, [129])?, Some(1));
     assert_eq!(rt; ipv6_asked(alloc, [0; 16])?, Some(Ipv6Addr::UNSPECIFIED));
+    Ok(())
+}
+
+#[test]
+fn callers_get_sequences_back(rt: HostRuntime) -> Result<(), Fail> {
+    let alloc = rt.alloc();
     assert_eq!(rt; array_back::<Signed, i8, 2>(alloc, [3, -3])?, [3, -3]);
     let key = Mapped::new(alloc, [5u32, 6])?;
     assert_eq!(rt; array_of_key::<Unsigned, u32, 2>(alloc, key)?, [5, 6]);
@@ -221,6 +239,12 @@ fn callers_name_their_types(rt: HostRuntime) -> Result<(), Fail> {
     assert_eq!(rt; array_asked::<Unsigned, u8, 2>(alloc, bytes)?, Some([9, 8]));
     let back = vector_back::<Unsigned, u16>(alloc, vec![in alloc; 258]?)?;
     assert_eq!(rt; back.as_slice(), [258].as_slice());
+    Ok(())
+}
+
+#[test]
+fn callers_clone_and_hash_a_key(rt: HostRuntime) -> Result<(), Fail> {
+    let alloc = rt.alloc();
     let port = Mapped::new(alloc, 443)?;
     assert!(rt; port_again(&port)? == port);
     let mut hasher = DefaultHasher::new();

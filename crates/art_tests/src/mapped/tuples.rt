@@ -63,31 +63,34 @@ where
 #[test]
 fn copy_tuple_as_bytes(rt: HostRuntime) -> Result<(), Fail> {
     let alloc = rt.alloc();
-    let key = Mapped::<ConcatTuple<(Identity, Identity)>, ([u8; 5], [u8; 5])>::new(
-        alloc,
-        ([0; 5], [10; 5]),
-    )?;
-    assert_eq!(rt;
-        key.as_bytes(),
-        [0, 0, 0, 0, 0, 10, 10, 10, 10, 10].as_slice()
+    type Pair = ConcatTuple<(Identity, Identity)>;
+    let text = [0, 0, 0, 0, 0, 10, 10, 10, 10, 10];
+    written::<Pair, ([u8; 5], [u8; 5])>(&rt, alloc, ([0; 5], [10; 5]), &text)?;
+    written::<Pair, ([u8; 3], [u8; 2])>(&rt, alloc, (*b"aaa", *b"bb"), b"aaabb")?;
+    type Mixed = ConcatTuple<(ToIBE, ToOctets)>;
+    let value = (
+        NonZeroI16::new(256).expect(&rt, "256 is not 0"),
+        Ipv4Addr::LOCALHOST,
     );
-    let key = Mapped::<ConcatTuple<(Identity, Identity)>, ([u8; 3], [u8; 2])>::new(
-        alloc,
-        (*b"aaa", *b"bb"),
-    )?;
-    assert_eq!(rt; key.as_bytes(), b"aaabb".as_slice());
-    let value = NonZeroI16::new(256).expect(&rt, "256 is not 0");
-    let key = Mapped::<ConcatTuple<(ToIBE, ToOctets)>, (NonZeroI16, Ipv4Addr)>::new(
-        alloc,
-        (value, Ipv4Addr::LOCALHOST),
-    )?;
-    assert_eq!(rt; key.as_bytes(), [129, 0, 127, 0, 0, 1].as_slice());
+    written::<Mixed, (NonZeroI16, Ipv4Addr)>(&rt, alloc, value, &[129, 0, 127, 0, 0, 1])?;
+    Ok(())
+}
+
+#[test]
+fn parts_come_back(rt: HostRuntime) -> Result<(), Fail> {
+    let alloc = rt.alloc();
     let key = route(alloc, Ipv4Addr::UNSPECIFIED, -212)?;
     assert_eq!(rt; key.as_bytes(), [0, 0, 0, 0, 127, 255, 255, 44].as_slice());
     assert!(rt; route_of(alloc, key)? == (Ipv4Addr::UNSPECIFIED, -212));
     assert!(rt; host_back(alloc, Ipv4Addr::LOCALHOST, 7)? == (Ipv4Addr::LOCALHOST, 7));
     let text: Vec<u8> = vec![in alloc; 7; 1000]?;
     assert_eq!(rt; key_back(alloc, text)?.len(), 1000);
+    Ok(())
+}
+
+#[test]
+fn long_tuples_as_bytes(rt: HostRuntime) -> Result<(), Fail> {
+    let alloc = rt.alloc();
     type Four = ConcatTuple<(ToUBE, ToUBE, ToUBE, ToUBE)>;
     written::<Four, (u8, u8, u8, u8)>(&rt, alloc, (1, 2, 3, 255), &[1, 2, 3, 255])?;
     type Five = ConcatTuple<(ToUBE, ToUBE, ToUBE, ToUBE, ToIBE)>;
