@@ -1,22 +1,31 @@
 //! The prefix of a header, and how many children it counts.
 use art_header::Header;
+use std::process::Abort;
 use std::test::Fail;
+
+// These bytes are stored of a prefix of this length.
+fn check_prefix<const PREFIX_LEN: usize>(
+    rt: &impl Abort,
+    header: &Header<PREFIX_LEN>,
+    stored: &[u8],
+    length: usize,
+) {
+    assert_eq!(rt; header.read_prefix(), stored);
+    assert_eq!(rt; header.prefix_len(), length);
+}
 
 #[test]
 fn stores_as_much_of_the_prefix_as_there_is_room_for(rt: HostRuntime) {
     let header = Header::<2>::new(b"abcd", 4);
-    assert_eq!(rt; header.read_prefix(), b"ab".as_slice());
-    assert_eq!(rt; header.prefix_len(), 4);
+    check_prefix(&rt, &header, b"ab", 4);
     assert_eq!(rt; header.capped_prefix_len(), 2);
 
     let header = Header::<0>::new(b"abc", 3);
-    assert!(rt; header.read_prefix().is_empty());
-    assert_eq!(rt; header.prefix_len(), 3);
+    check_prefix(&rt, &header, b"", 3);
     assert_eq!(rt; header.capped_prefix_len(), 0);
 
     let header = Header::<16>::new(&[1, 2, 3, 4, 5, 6, 7, 8], 8);
-    assert_eq!(rt; header.read_prefix(), [1, 2, 3, 4, 5, 6, 7, 8].as_slice());
-    assert_eq!(rt; header.prefix_len(), 8);
+    check_prefix(&rt, &header, &[1, 2, 3, 4, 5, 6, 7, 8], 8);
     assert_eq!(rt; header.capped_prefix_len(), 8);
 }
 
@@ -52,41 +61,35 @@ fn is_equal_by_what_it_shows(rt: HostRuntime) -> Result<(), Fail> {
 fn is_trimmed_from_the_left(rt: HostRuntime) {
     let mut header = Header::<16>::new(&[1, 2, 3, 4, 5, 6, 7, 8], 8);
     header.ltrim_by(0);
-    assert_eq!(rt; header.read_prefix(), [1, 2, 3, 4, 5, 6, 7, 8].as_slice());
-    assert_eq!(rt; header.prefix_len(), 8);
+    check_prefix(&rt, &header, &[1, 2, 3, 4, 5, 6, 7, 8], 8);
     header.ltrim_by(3);
-    assert_eq!(rt; header.read_prefix(), [4, 5, 6, 7, 8].as_slice());
-    assert_eq!(rt; header.prefix_len(), 5);
+    check_prefix(&rt, &header, &[4, 5, 6, 7, 8], 5);
     header.ltrim_by(1);
-    assert_eq!(rt; header.read_prefix(), [5, 6, 7, 8].as_slice());
-    assert_eq!(rt; header.prefix_len(), 4);
+    check_prefix(&rt, &header, &[5, 6, 7, 8], 4);
     header.ltrim_by(4);
-    assert!(rt; header.read_prefix().is_empty());
-    assert_eq!(rt; header.prefix_len(), 0);
+    check_prefix(&rt, &header, &[], 0);
+}
 
-    // The bytes that are not stored come from the key of a leaf below.
+// The bytes that are not stored come from the key of a leaf below.
+#[test]
+fn is_trimmed_from_the_left_with_a_leaf(rt: HostRuntime) {
     let mut header = Header::<2>::new(b"abcd", 4);
     header.ltrim_by_with_leaf(1, 1, b"xabcdz");
-    assert_eq!(rt; header.read_prefix(), b"bc".as_slice());
-    assert_eq!(rt; header.prefix_len(), 3);
+    check_prefix(&rt, &header, b"bc", 3);
     let mut header = Header::<2>::new(b"abcd", 4);
     header.ltrim_by_with_leaf(4, 1, b"xabcdz");
-    assert!(rt; header.read_prefix().is_empty());
-    assert_eq!(rt; header.prefix_len(), 0);
+    check_prefix(&rt, &header, b"", 0);
 }
 
 #[test]
 fn takes_more_prefix_and_gives_it_up(rt: HostRuntime) {
     let mut header = Header::<2>::new(b"abcd", 4);
     header.push_prefix(b"ef", 2);
-    assert_eq!(rt; header.read_prefix(), b"ab".as_slice());
-    assert_eq!(rt; header.prefix_len(), 6);
+    check_prefix(&rt, &header, b"ab", 6);
     let (bytes, len, capped_len) = header.clear_prefix();
     assert_eq!(rt; bytes.as_slice(), b"ab".as_slice());
     assert_eq!(rt; (len, capped_len), (6, 2));
-    assert!(rt; header.read_prefix().is_empty());
-    assert_eq!(rt; header.prefix_len(), 0);
+    check_prefix(&rt, &header, b"", 0);
     header.push_prefix(b"g", 1);
-    assert_eq!(rt; header.read_prefix(), b"g".as_slice());
-    assert_eq!(rt; header.prefix_len(), 1);
+    check_prefix(&rt, &header, b"g", 1);
 }
