@@ -22,16 +22,30 @@ fn check_text(rt: &impl Abort, leaf: &StringLeaf) {
     }
 }
 
+type Link = Option<NodePtr<16, StringLeaf>>;
+
+fn check_leaf(
+    rt: &impl Abort,
+    leaf: &StringLeaf,
+    text: &str,
+    value: u16,
+    previous: Link,
+    next: Link,
+) {
+    assert_eq!(rt; leaf.key_ref().as_str(), text);
+    assert_eq!(rt; *leaf.value_ref(), value);
+    assert!(rt; leaf.previous() == previous);
+    assert!(rt; leaf.next() == next);
+}
+
 #[test]
 fn keeps_a_key_a_value_and_two_links(rt: HostRuntime) -> Result<(), Fail> {
     let mut leaf = StringLeaf::with_no_siblings(String::from_str(rt.alloc(), "ab")?, 700);
-    assert_eq!(rt; leaf.key_ref().as_str(), "ab");
-    assert_eq!(rt; *leaf.value_ref(), 700);
-    assert!(rt; leaf.previous().is_none());
-    assert!(rt; leaf.next().is_none());
+    check_leaf(&rt, &leaf, "ab", 700, None, None);
     check_text(&rt, &leaf);
 
-    leaf.set_links(Some(NodePtr::from_key(4)), Some(NodePtr::from_key(6)));
+    let (previous, next) = (Some(NodePtr::from_key(4)), Some(NodePtr::from_key(6)));
+    leaf.set_links(previous, next);
     *leaf.value_mut() = 701;
     let (key, value) = leaf.entry_mut();
     key.push('c')?;
@@ -39,14 +53,8 @@ fn keeps_a_key_a_value_and_two_links(rt: HostRuntime) -> Result<(), Fail> {
     let (key, value) = leaf.entry_ref();
     assert_eq!(rt; key.as_str(), "abc");
     assert_eq!(rt; *value, 702);
-    assert!(rt; leaf.previous() == Some(NodePtr::from_key(4)));
-    assert!(rt; leaf.next() == Some(NodePtr::from_key(6)));
-
-    let copy = leaf.clone_without_siblings()?;
-    assert_eq!(rt; copy.key_ref().as_str(), "abc");
-    assert_eq!(rt; *copy.value_ref(), 702);
-    assert!(rt; copy.previous().is_none());
-    assert!(rt; copy.next().is_none());
+    check_leaf(&rt, &leaf, "abc", 702, previous, next);
+    check_leaf(&rt, &leaf.clone_without_siblings()?, "abc", 702, None, None);
     let (key, value) = leaf.into_entry();
     assert_eq!(rt; key.as_str(), "abc");
     assert_eq!(rt; value, 702);
