@@ -1,8 +1,14 @@
 use Rattle.std.proofs.Common.{◌≡◌, ◌≤◌, nat_eq, length, ap, sym, ◌∙◌, arith}
 use Rattle.std.specs.List.{common_prefix_len}
+use Rattle.std.proofs.lemmas.Bool.Decides.{nat_tests}
 use Rattle.std.proofs.lemmas.List.Sums.{common_prefix_len-le}
 use Rattle.art_nodes.proofs.PrefixLemmas.{common-whole, whole_match}
 use Rattle.art_nodes.proofs.inner_nodes.prefix_match.match_stored.Goals as goal
+
+pub returns-then-prefix_len-clause-matched : goal.returns-then-prefix_len-clause-matched
+returns-then-prefix_len-clause-matched g c =
+    let found = c.in_ok-matched_bytes.ensures in
+    grind (arith, nat_tests, found.whole, found.within, c.prefix_len.ensures.value)
 
 pub returns-then-matched_bytes-prefix-clause-passes_every_front : goal.returns-then-matched_bytes-prefix-clause-passes_every_front
 returns-then-matched_bytes-prefix-clause-passes_every_front g c = λ prefix shown begins.
