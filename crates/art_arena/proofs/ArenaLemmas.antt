@@ -1,14 +1,16 @@
 -- A write to one slab of an arena, as its callers see it.
-use Rattle.std.proofs.Common.{cond, is_some, ◌-◌, ◌≡◌, ◌≢◌, ◌∙◌, ℕ, Option, Some, None, sym, ap, subst, inl, inr, arith}
-use Rattle.slab.specs.Slab.{Slab, get, slab_len, with_value, ContainsKey, Updates}
+use Rattle.std.proofs.Common.{cond, is_some, ◌-◌, ◌≡◌, ◌≢◌, ◌∙◌, ℕ, Option, Some, None, sym, ap, subst, inl, inr, arith, rules, ◌≤◌, Result, Ok, Err, OnOk}
+use Rattle.slab.specs.Slab.{Slab, get, slab_len, with_value, ContainsKey, HasRoomFor, Updates}
 use Rattle.slab.proofs.SlabLemmas.{ContainsKey-within}
 use Rattle.std.proofs.lemmas.List.Sums.{sum_by-set}
 use Rattle.art_header.specs.declared.node_type.NodeType.{NodeType}
+use Rattle.art_header.specs.Header.{Header}
+use Rattle.art_nodes.specs.Inner.{Inner, with_prefix}
 use Rattle.art_nodes.specs.Pointers.{node_kind, opaque_key}
 use Rattle.art_nodes.specs.declared.pointers.OpaqueNodePtr.{OpaqueNodePtr}
 use Rattle.art_nodes.specs.declared.leaf_node.LeafNode.{LeafNode}
 use Rattle.art_nodes.proofs.KindLaws.{same_or_differ}
-use Rattle.art_arena.specs.Arena.{ArenaOf, Held, held_under, held_option, pointer_to, Changes, SameNodes, room, slab_room, SameRoom, SameOtherRoom}
+use Rattle.art_arena.specs.Arena.{ArenaOf, Held, HeldInner, held, held_under, held_option, pointer_to, Changes, SameNodes, room, slab_room, SameRoom, SameOtherRoom}
 
 -- a value in the place of another takes no room
 pub slab_room-with_value : {T : Type 0} (slab : Slab T) (key : ℕ) (value : T) → ContainsKey slab key → slab_room (with_value slab key value) ≡ slab_room slab
@@ -56,3 +58,14 @@ module _ {K V : Type 0} {P : ℕ} {N : Type 0} (kind : NodeType) (slab_of : Aren
       | inl same ↦ subst (λ k. room (with_slab arena (with_value (slab_of arena) key node)) k ≡ room arena k) (sym same)
           (room-written arena (with_value (slab_of arena) key node) ∙ slab_room-with_value (slab_of arena) key node within ∙ sym (room_of_slab arena))
     ]
+
+-- the node at a pointer, changed to have another prefix, as the pointer's caller names it
+pub Changes-prefix : {K V : Type 0} {P : ℕ} {old new : ArenaOf K V P} {at pointer : OpaqueNodePtr K V P} {there now node : Inner (OpaqueNodePtr K V P)} (header : Header) → at ≡ pointer → held old at ≡ HeldInner there → now ≡ with_prefix there header → Changes old new at (HeldInner now) → held old pointer ≡ HeldInner node → Changes old new pointer (HeldInner (with_prefix node header))
+Changes-prefix {old = old} {new = new} {at = at} {there = there} {node = node} header same held_there made changes is =
+    let same_node : there ≡ node = search rules in
+    subst (λ p. Changes old new p (HeldInner (with_prefix node header))) same (subst (λ n. Changes old new at (HeldInner n)) (made ∙ ap (λ n. with_prefix n header) same_node) changes)
+
+-- room made in a slab is room of the arena for the kind
+pub made_room : {T E : Type 0} (result : Result Unit E) (slab : Slab T) (additional : ℕ) → OnOk result (HasRoomFor slab additional) → OnOk result (additional ≤ slab_room slab)
+made_room (Ok _) slab additional fits = omega (arith, fits)
+made_room (Err _) slab additional fits = tt

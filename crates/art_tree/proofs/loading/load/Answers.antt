@@ -1,4 +1,4 @@
-use Rattle.std.proofs.Common.{◌∙◌, sym, subst, arith, rules, lit<}
+use Rattle.std.proofs.Common.{◌∙◌, refl, sym, subst, arith, rules, lit<}
 use Rattle.std.proofs.lemmas.List.{length-map}
 use Rattle.art_tree.specs.Plan.{IsPlanOf, texts_of}
 use Rattle.art_tree.specs.Refusals.{HaveNoFault}
@@ -84,3 +84,9 @@ returns-in-Ok-clause-no_fault g c = subst (λ entries. HaveNoFault (texts_of g.K
 
 pub returns-in-Err-clause-refusal_due : goal.returns-in-Err-clause-refusal_due
 returns-in-Err-clause-refusal_due g c = subst (λ entries. HaveNoFault (texts_of g.K.AsBytes.text entries)) c.deref.ensures.value c.in_default.ensures.no_fault
+
+pub returns-in-Some-clause-entries_back : goal.returns-in-Some-clause-entries_back
+returns-in-Some-clause-entries_back g c = refl
+
+pub returns-in-Some-clause-nodes_kept : goal.returns-in-Some-clause-nodes_kept
+returns-in-Some-clause-nodes_kept g c = λ _. refl

@@ -1,7 +1,7 @@
 use Rattle.std.proofs.Common.{◌∙◌, ◌≤◌, ap, arith}
 use Rattle.slab.specs.Slab.{get}
 use Rattle.art_arena.specs.Arena.{slab_room}
-use Rattle.art_arena.proofs.ArenaLemmas.{SameNodes-written}
+use Rattle.art_arena.proofs.ArenaLemmas.{SameNodes-written, made_room, room-written}
 use Rattle.art_arena.proofs.arena.NodeArena+K+V+PREFIX_LEN.reserve_slots.Goals as goal
 
 pub returns-clause-nodes_kept : goal.returns-clause-nodes_kept
@@ -15,3 +15,8 @@ returns-clause-succeeds g c = λ asks.
     let laws = g.met.N.ArenaNode in
     let bound : c.args.additional ≤ slab_room c.slab_mut.result.now = rw (c.slab_mut.ensures.value, ← laws.room_of_slab c.args.self.now) asks in
     c.reserve.ensures.succeeds (omega (arith, bound))
+
+pub returns-clause-room : goal.returns-clause-room
+returns-clause-room g c =
+    let laws = g.met.N.ArenaNode in
+    rw (room-written g.N.Node.TYPE g.N.Shelved.slab_of g.N.Shelved.with_slab g.N.ArenaNode.held_as laws.held_in_slab laws.slab_written laws.others_kept laws.room_of_slab laws.other_room c.args.self.now c.reserve.new.self) (made_room c.reserve.result c.reserve.new.self c.args.additional c.reserve.ensures.room)

@@ -45,3 +45,9 @@ returns-clause-shared g c = λ below.
 pub returns-clause-leaf_below : goal.returns-clause-leaf_below
 returns-clause-leaf_below g c = λ below.
     leaf_below g.K.AsBytes.text c.args.arena.now (g.Self.InnerNodeCommon.inner c.args.self.now) c.args.depth c.min.result c.min.ensures.pair c.some_leaf_below-leaf.result c.some_leaf_below-leaf.ensures below
+
+pub returns-then-prefix_len-clause-leaf_below : goal.returns-then-prefix_len-clause-leaf_below
+returns-then-prefix_len-clause-leaf_below g c = λ _. tt
+
+pub returns-then-prefix_len-clause-leaf_where_longer : goal.returns-then-prefix_len-clause-leaf_where_longer
+returns-then-prefix_len-clause-leaf_where_longer g c = (λ no. cc, λ longer. absurd (omega (arith, longer, c.if-prefix_len.true, c.prefix_len-prefix_len.ensures.value, c.stored_prefix.ensures.capped)))
