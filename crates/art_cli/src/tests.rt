@@ -242,13 +242,15 @@ impl Write for NarrowWriter {
 
 #[test]
 fn a_failed_read_prints_nothing(rt: HostRuntime) -> Result<(), Fail> {
-    let cases: [(&[&str], &str, u8); 2] = [
-        (&["replay"], "device failed\n", 1),
-        (&["replay", "replay"], USAGE, 2),
+    // whether the reader fails at once, the words, the errors, the status
+    let cases: [(bool, &[&str], &str, u8); 3] = [
+        (false, &["replay"], "device failed\n", 1),
+        (true, &["replay"], "device failed\n", 1),
+        (false, &["replay", "replay"], USAGE, 2),
     ];
-    for (texts, told, wanted) in cases {
+    for (has_given, texts, told, wanted) in cases {
         let words = words(rt.alloc(), texts)?;
-        let mut input = FailingReader { has_given: false };
+        let mut input = FailingReader { has_given };
         let mut output = Vec::new(rt.alloc());
         let mut errors = Vec::new(rt.alloc());
         let status = run(rt.alloc(), &words, &mut input, &mut output, &mut errors);
@@ -262,7 +264,7 @@ fn a_failed_read_prints_nothing(rt: HostRuntime) -> Result<(), Fail> {
 #[test]
 fn a_failed_write_or_flush_has_status_one(rt: HostRuntime) -> Result<(), Fail> {
     // the room of the output, whether it can flush, what it takes, the errors, the status
-    let cases: [(usize, bool, &str, &str, u8); 3] = [
+    let cases: [(usize, bool, &str, &str, u8); 4] = [
         (100, true, "child none\nnode Node4 1\n", "", 0),
         (
             100,
@@ -272,6 +274,7 @@ fn a_failed_write_or_flush_has_status_one(rt: HostRuntime) -> Result<(), Fail> {
             1,
         ),
         (7, true, "child n", "device failed\n", 1),
+        (1, true, "c", "device failed\n", 1),
     ];
     for (room, can_flush, taken, told, wanted) in cases {
         let words = words(rt.alloc(), &["replay"])?;

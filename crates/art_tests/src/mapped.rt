@@ -18,6 +18,7 @@ use std::test::Fail;
 
 mod callers;
 mod ordered;
+mod refusals;
 mod tuples;
 mod using;
 

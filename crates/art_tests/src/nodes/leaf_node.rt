@@ -1,5 +1,6 @@
 //! What a leaf keeps, and how it compares its key.
 use art_nodes::{LeafNode, NodePtr};
+use std::alloc::AllocError;
 use std::cmp::Ordering;
 use std::process::Abort;
 use std::test::Fail;
@@ -59,4 +60,38 @@ fn keeps_a_key_a_value_and_two_links(rt: HostRuntime) -> Result<(), Fail> {
     assert_eq!(rt; key.as_str(), "abc");
     assert_eq!(rt; value, 702);
     Ok(())
+}
+
+type Texts = LeafNode<String, String, 16>;
+
+fn check_texts(rt: &impl Abort, leaf: &Texts, previous: Option<NodePtr<16, Texts>>) {
+    let (key, value) = leaf.entry_ref();
+    assert_eq!(rt; key.as_str(), "ab");
+    assert_eq!(rt; value.as_str(), "cd");
+    assert!(rt; leaf.previous() == previous);
+    assert!(rt; leaf.next().is_none());
+}
+
+// Where the clone of the key or of the value is refused memory, the leaf stands.
+#[test]
+fn a_refused_clone_leaves_the_leaf(rt: HostRuntime) {
+    let (Ok(key), Ok(value)) = (
+        String::from_str(rt.alloc(), "ab"),
+        String::from_str(rt.alloc(), "cd"),
+    ) else {
+        return;
+    };
+    let mut leaf = Texts::with_no_siblings(key, value);
+    let previous = Some(NodePtr::from_key(4));
+    leaf.set_links(previous, None);
+    let copy = match leaf.clone_without_siblings() {
+        Ok(copy) => copy,
+        Err(AllocError) => {
+            check_texts(&rt, &leaf, previous);
+            leaf.clone_without_siblings()
+                .expect(&rt, "memory was refused once")
+        }
+    };
+    check_texts(&rt, &copy, None);
+    check_texts(&rt, &leaf, previous);
 }

@@ -1,6 +1,7 @@
 //! Whole runs, at the steps that a reader would try by hand.
 use super::fixtures::leaf;
 use art_nodes::{ChildCommand, ChildNode, ChildReply, Header, NodeType, Sequence, replay};
+use std::alloc::AllocError;
 use std::ops::Bound;
 use std::process::Abort;
 use std::test::Fail;
@@ -193,4 +194,60 @@ fn starts_empty_whatever_the_count(rt: HostRuntime) -> Result<(), Fail> {
     assert_eq!(rt; node.header().prefix_len(), 3);
     assert_eq!(rt; node.header().read_prefix(), b"ab".as_slice());
     Ok(())
+}
+
+// The pairs of a reply are the leaves of these bytes, each under its byte.
+fn check_leaves(rt: &impl Abort, reply: &Reply, bytes: &[u8]) {
+    let Reply::Pairs(pairs) = reply else {
+        panic!(rt; "the bounds are valid");
+    };
+    assert_eq!(rt; pairs.as_slice().len(), bytes.len());
+    for (pair, byte) in pairs.as_slice().iter().zip(bytes) {
+        assert!(rt; *pair == (*byte, leaf(usize::from(*byte))));
+    }
+}
+
+// Where the pairs are refused memory the node stands, and the next call has them.
+#[test]
+fn a_refused_range_leaves_the_node(rt: HostRuntime) {
+    let alloc = rt.alloc();
+    let mut node = ChildNode::from_header(Header::<2>::new(b"", 0));
+    for byte in 0..9u8 {
+        let written = node.apply(alloc, &Command::Write(byte, leaf(usize::from(byte))));
+        assert!(&rt; written.is_ok());
+    }
+    let range = Command::Range(Bound::Excluded(2), Bound::Unbounded);
+    let reply = match node.apply(alloc, &range) {
+        Ok(reply) => reply,
+        Err(AllocError) => {
+            assert_eq!(&rt; node.num_children(), 9);
+            node.apply(alloc, &range)
+                .expect(&rt, "memory was refused once")
+        }
+    };
+    check_leaves(&rt, &reply, &[3, 4, 5, 6, 7, 8]);
+}
+
+// A run that is refused memory answers nothing, and the next one everything.
+#[test]
+fn a_refused_run_is_answered_by_the_next(rt: HostRuntime) {
+    let commands = [
+        Command::Write(1, leaf(1)),
+        Command::Write(2, leaf(2)),
+        Command::Write(1, leaf(3)),
+        Command::Range(Bound::Excluded(1), Bound::Unbounded),
+        Command::Remove(1),
+    ];
+    let header = || Header::<2>::new(b"", 0);
+    let (replies, node) = match replay(rt.alloc(), header(), &commands) {
+        Ok(answer) => answer,
+        Err(AllocError) => {
+            replay(rt.alloc(), header(), &commands).expect(&rt, "memory was refused once")
+        }
+    };
+    assert_eq!(&rt; replies.len(), 5);
+    assert!(&rt; replies[2] == Reply::Child(Some(leaf(1))));
+    check_leaves(&rt, &replies[3], &[2]);
+    assert!(&rt; replies[4] == Reply::Child(Some(leaf(3))));
+    assert_eq!(&rt; node.num_children(), 1);
 }

@@ -53,6 +53,20 @@ fn the_lowest_entry_at_fault_is_told(rt: HostRuntime) -> Result<(), Fail> {
     Ok(())
 }
 
+// A fault of the entries is told where there is no memory for a tree.
+#[test]
+fn a_fault_is_told_before_memory_is_taken(rt: HostRuntime) {
+    let alloc = rt.alloc();
+    let Ok(entries) = numbered(alloc, &["a", "ab"]) else {
+        return;
+    };
+    let mut arena = NodeArena::<StrKey, usize, 2>::new(alloc);
+    let Err(fault) = load(alloc, &mut arena, entries) else {
+        panic!(&rt; "loaded");
+    };
+    check_fault(&rt, &fault, LoadRefusal::Prefix(0), &["a", "ab"]);
+}
+
 type Small = NodeArena<[u8; 3], usize, 2>;
 
 type SmallRoot = OpaqueNodePtr<[u8; 3], usize, 2>;
