@@ -6,10 +6,10 @@ use Rattle.art_nodes.specs.ChildMap.{ChildMap, IsAscendingFrom, IsAscending, key
 use Rattle.art_nodes.specs.Inner.{Inner, HasRoomFor, with_children}
 use Rattle.art_tree.specs.Raising.{node_of}
 
-lt-true : (a b : ℕ) → a < b → nat_lt a b ≡ true
+pub lt-true : (a b : ℕ) → a < b → nat_lt a b ≡ true
 lt-true a b h = grind (arith, nat_tests)
 
-lt-false : (a b : ℕ) → b ≤ a → nat_lt a b ≡ false
+pub lt-false : (a b : ℕ) → b ≤ a → nat_lt a b ≡ false
 lt-false a b h = grind (arith, nat_tests)
 
 eq-false : (a b : ℕ) → a < b → nat_eq a b ≡ false

@@ -5,9 +5,12 @@ mod ScanLemmas
 mod WayLemmas
 mod BranchLemmas
 mod ChildLemmas
+mod ClashLemmas
+mod Exchanging
 mod Leading
 mod Linking
 mod Loaded
+mod OneTree
 mod Planning
 mod RefusalLemmas
 mod Rising

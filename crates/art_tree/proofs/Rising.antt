@@ -124,19 +124,19 @@ module _ {K V : Type 0} {P : ℕ} where
       record { is_kind = is_kind; was_free = subst (λ p. held old p ≡ Nothing) same free; changes = subst (λ p. Changes old new p (HeldInner node)) same changes; room = rooms; other_room = others }
 
   module _ (text : K → List ℕ) (arena : ArenaOf K V P) where
-    stand-join : (a b : Branches (OpaqueNodePtr K V P)) → AllStandIn text arena a → AllStandIn text arena b → AllStandIn text arena (join a b)
+    pub stand-join : (a b : Branches (OpaqueNodePtr K V P)) → AllStandIn text arena a → AllStandIn text arena b → AllStandIn text arena (join a b)
     stand-join NoBranch b first second = second
     stand-join (Branch byte tree others) b first second = (first.0, stand-join others b first.1 second)
 
-    stand-split : (a b : Branches (OpaqueNodePtr K V P)) → AllStandIn text arena (join a b) → AllStandIn text arena a × AllStandIn text arena b
+    pub stand-split : (a b : Branches (OpaqueNodePtr K V P)) → AllStandIn text arena (join a b) → AllStandIn text arena a × AllStandIn text arena b
     stand-split NoBranch b both = (tt, both)
     stand-split (Branch byte tree others) b both = let rest = stand-split others b both.1 in ((both.0, rest.0), rest.1)
 
-  snug-join : (a b : Branches (OpaqueNodePtr K V P)) → AreSnug a → AreSnug b → AreSnug (join a b)
+  pub snug-join : (a b : Branches (OpaqueNodePtr K V P)) → AreSnug a → AreSnug b → AreSnug (join a b)
   snug-join NoBranch b first second = second
   snug-join (Branch byte tree others) b first second = (first.0, snug-join others b first.1 second)
 
-  snug-split : (a b : Branches (OpaqueNodePtr K V P)) → AreSnug (join a b) → AreSnug a × AreSnug b
+  pub snug-split : (a b : Branches (OpaqueNodePtr K V P)) → AreSnug (join a b) → AreSnug a × AreSnug b
   snug-split NoBranch b both = (tt, both)
   snug-split (Branch byte tree others) b both = let rest = snug-split others b both.1 in ((both.0, rest.0), rest.1)
 

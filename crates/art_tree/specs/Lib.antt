@@ -1,4 +1,6 @@
+pub mod Contexts
 pub mod Descent
+pub mod Dictionary
 pub mod Paths
 pub mod Search
 pub mod Loading

@@ -4,12 +4,13 @@
 #![tactic(auto)]
 
 mod find;
+pub mod laws;
 mod loading;
 mod path;
 
 pub use art_arena::{
     AnyRef, ArenaNode, ArenaReader, ExplicitMismatch, FullPrefix, LeafLinks, NodeArena, NodePrefix,
-    NodeRef, laws,
+    NodeRef,
 };
 pub use art_bytes::{
     AsBytes, CStringKey, CStringKeyError, NoPrefixesBytes, OrderedBytes, SliceKey, StrKey,

@@ -1,0 +1,57 @@
+//! What holds of every tree: the laws of `art_arena`, and those of a tree that changes. The functions
+//! do no work: the contract of each is a law.
+//!
+//! A context is a tree with one subtree left out. With a subtree in that place it is a tree.
+ghost use Rattle.std.specs.Prelude.{◌≡◌, ℕ, ◌++◌, List, All, map};
+ghost use Rattle.art_nodes.specs.declared.pointers.OpaqueNodePtr.{OpaqueNodePtr as Pointer};
+ghost use Rattle.art_arena.specs.Arena.{ArenaOf};
+ghost use Rattle.art_arena.specs.Standing.{StandsIn};
+ghost use Rattle.art_arena.specs.Trees.{Tree, leaves, texts, IsSound, IsWellFormed, SameButPointers};
+ghost use Rattle.art_tree.specs.Contexts.{Context, plug, path_to, leaves_before, leaves_after, IsExchanged};
+ghost use Rattle.art_tree.specs.Dictionary.{Clashes};
+ghost use Rattle.art_tree.specs.Loading.{IsSnug};
+
+pub use art_arena::laws::{
+    allocating_keeps_lists_spelled, allocating_leaves_trees_standing,
+    an_allocated_node_makes_a_tree, each_pointer_is_at_one_place, no_text_begins_another,
+    path_and_prefix_are_shared, same_trees_have_the_same_texts, texts_ascend,
+    trees_stand_where_all_is_kept,
+};
+use art_bytes::{AsBytes, NoPrefixesBytes};
+
+/// Two trees that are sound under one path and have the same texts are the same but for their
+/// pointers. So texts have one tree, whichever calls made it, and `load` makes that one.
+pub fn the_same_texts_make_the_same_tree<H, L>()
+    ensures { (path : List ℕ) (tree : Tree H) (other : Tree L) → IsSound path tree →
+        IsSound path other → texts tree ≡ texts other → SameButPointers tree other }
+{
+    path_and_prefix_are_shared::<H>();
+    path_and_prefix_are_shared::<L>();
+}
+
+/// A subtree of a tree may be exchanged for one that is sound under the same path. The whole is then
+/// well-formed, its leaves are those of before with the part exchanged, and it is snug where both
+/// were. It stands where the new part stands, the part's parent has it under the old one's byte, and
+/// all else of the tree is as before, but for the links of leaves.
+pub fn a_subtree_may_be_exchanged<K: AsBytes, V, const PREFIX_LEN: usize>()
+    ensures part { (context : Context (Pointer K V PREFIX_LEN)) (part : _) →
+        IsWellFormed (plug context part) → IsSound (path_to context) part }
+    ensures sound { (context : Context (Pointer K V PREFIX_LEN)) (part now : _) →
+        IsWellFormed (plug context part) → IsSound (path_to context) now →
+        IsWellFormed (plug context now) }
+    ensures leaves { (context : Context (Pointer K V PREFIX_LEN)) (part : _) →
+        leaves (plug context part) ≡ leaves_before context ++ (leaves part ++ leaves_after context) }
+    ensures snug { (context : Context (Pointer K V PREFIX_LEN)) (part now : _) →
+        IsSnug (plug context part) → IsSnug now → IsSnug (plug context now) }
+    ensures stands { (old new : ArenaOf K V PREFIX_LEN) (context : _) (part now : _) →
+        IsWellFormed (plug context part) → IsExchanged old new K.text context part now →
+        StandsIn K.text new (plug context now) }
+{
+    each_pointer_is_at_one_place::<K, V, PREFIX_LEN>();
+}
+
+/// Keys of a type of which none is a proper front of another never clash, so one tree holds them all.
+pub fn keys_without_prefixes_never_clash<K: NoPrefixesBytes>()
+    ensures { (keys : List K) (key : K) → All K.is_key keys → K.is_key key →
+        ¬ Clashes (map K.text keys) (K.text key) }
+{}
