@@ -6,6 +6,7 @@ mod WayLemmas
 mod BranchLemmas
 mod ChildLemmas
 mod ClashLemmas
+mod DictionaryLemmas
 mod Exchanging
 mod Leading
 mod Linking

@@ -12,7 +12,7 @@ use Rattle.art_tree.specs.Search.{scan, met, met_below, goes_to, IsWay, IsWayUnd
 use Rattle.art_tree.proofs.DescentLemmas.{goes-byte}
 
 -- a text is another or not, as the test says
-same-text : (a b : List ℕ) → pointwise nat_eq a b ≡ true → a ≡ b
+pub same-text : (a b : List ℕ) → pointwise nat_eq a b ≡ true → a ≡ b
 same-text [] [] h = refl
 same-text [] (y ∷ b) h = absurd (cc)
 same-text (x ∷ a) [] h = absurd (cc)

@@ -1,6 +1,21 @@
--- Texts that no tree holds together.
-use Rattle.std.specs.Prelude.{◌≢◌, ◌⊎◌, ℕ, List, Contains}
+-- A dictionary: the entry with each text. And texts that no tree holds together.
+use Rattle.std.specs.Prelude.{◌≢◌, ◌⊎◌, ℕ, List, [], ◌∷◌, Contains, Option, Some, None, nat_eq, if◌then◌else◌}
+use Rattle.std.specs.Cmp.Lexicographic.{pointwise}
 use Rattle.art_bytes.specs.Text.{IsFront}
+use Rattle.art_nodes.specs.Leaf.{leaf_key, leaf_value}
+use Rattle.art_nodes.specs.declared.leaf_node.LeafNode.{LeafNode}
+use Rattle.art_arena.specs.Arena.{ArenaOf}
+
+module _ {K V : Type 0} {P : ℕ} (text : K → List ℕ) where
+  -- key and value of the first of these leaves whose key has the text
+  abbrev pub entry_among : List (Option (LeafNode K V P)) → List ℕ → Option (K × V)
+  entry_among [] x = None
+  entry_among (None ∷ slots) x = entry_among slots x
+  entry_among (Some leaf ∷ slots) x = if pointwise nat_eq (text (leaf_key leaf)) x then Some (leaf_key leaf, leaf_value leaf) else entry_among slots x
+
+  -- the dictionary of an arena: the entry with this text that its leaves hold
+  abbrev pub entry_at : ArenaOf K V P → List ℕ → Option (K × V)
+  entry_at arena x = entry_among arena.leaf.slots x
 
 -- b begins with a, and is longer
 abbrev pub IsProperFront : List ℕ → List ℕ → Type 0

@@ -1,3 +1,4 @@
+pub mod Art
 pub mod Contexts
 pub mod Descent
 pub mod Dictionary

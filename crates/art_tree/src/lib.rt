@@ -7,6 +7,7 @@ mod find;
 pub mod laws;
 mod loading;
 mod path;
+mod tree;
 
 pub use art_arena::{
     AnyRef, ArenaNode, ArenaReader, ExplicitMismatch, FullPrefix, LeafLinks, NodeArena, NodePrefix,
@@ -31,3 +32,4 @@ pub use art_nodes::{
 pub use find::find_leaf;
 pub use loading::{LoadFault, LoadRefusal, load};
 pub use path::{TreePath, TreePathSearch};
+pub use tree::{ArtTree, HoldsOneTree, Rooted};

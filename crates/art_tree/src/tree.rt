@@ -1,0 +1,124 @@
+//! A tree with its arena, as one value.
+ghost use Rattle.std.specs.Prelude.{◌≡◌, ◌≢◌, ℕ, List, All, Contains, Some, None, IfOk, IfErr, OnOk};
+ghost use Rattle.std.specs.Option.{option_copied, option_map};
+ghost use Rattle.art_tree.specs.Art.{IsArt};
+ghost use Rattle.art_tree.specs.Dictionary.{entry_at};
+ghost use Rattle.art_tree.specs.Plan.{texts_of};
+ghost use Rattle.art_tree.specs.Refusals.{HaveNoFault, IsDue};
+
+use crate::find::find_leaf;
+use crate::laws::no_text_begins_another;
+use crate::loading::{LoadFault, load};
+use art_arena::{ArenaReader, NodeArena};
+use art_bytes::AsBytes;
+use art_nodes::OpaqueNodePtr;
+use std::alloc::Global;
+use std::marker::Model;
+
+/// What contracts ask of an arena and the root of its tree, if it has one.
+pub trait HoldsOneTree<R>: Sized {
+    ghost use Rattle.std.specs.Prelude.{Option};
+
+    ghost holds_one_tree: { Self → Option R → Type 0 };
+}
+
+impl<K: AsBytes, V, const PREFIX_LEN: usize> HoldsOneTree<OpaqueNodePtr<K, V, PREFIX_LEN>>
+    for NodeArena<K, V, PREFIX_LEN> {
+    ghost use Rattle.art_tree.specs.Art.{IsArt};
+
+    ghost holds_one_tree = { λ arena root. IsArt K.text arena root };
+}
+
+/// An arena and the root of its one tree. Callers name it [`ArtTree`].
+#[derive(Drop)]
+pub struct Rooted<A: HoldsOneTree<R>, R> {
+    arena: A,
+    root: Option<R>,
+}
+
+impl<A: HoldsOneTree<R>, R> Model for Rooted<A, R> {
+    ghost use Rattle.art_tree.specs.Art.{Art};
+
+    ghost Value = { Art A R };
+
+    ghost view = { λ a. record { arena = a.arena; root = a.root } };
+
+    ghost invariant = { λ a. A.holds_one_tree a.arena a.root };
+}
+
+/// A tree with its arena: a dictionary, which has at most one entry for each text.
+///
+/// Contracts see the arena and the root. The dictionary is what the arena's leaves hold
+/// (`entry_at`). The arena holds one tree and nothing else: well-formed, each inner node of the
+/// smallest kind that holds its children, the leaves linked in the order of their texts.
+///
+/// The type names the nodes, as [`NodeArena`] does.
+pub type ArtTree<K, V, const PREFIX_LEN: usize> = Rooted<
+    NodeArena<K, V, PREFIX_LEN>,
+    OpaqueNodePtr<K, V, PREFIX_LEN>,
+>;
+
+impl<K: AsBytes, V, const PREFIX_LEN: usize> ArtTree<K, V, PREFIX_LEN> {
+    /// A tree with no entries. Takes no memory.
+    pub fn new(alloc: Global) -> Self
+        ensures no_entry { (key : List ℕ) → entry_at K.text result.arena key ≡ None }
+        ensures no_root { result.root ≡ None }
+    {
+        Rooted {
+            arena: NodeArena::new(alloc),
+            root: None,
+        }
+    }
+
+    /// The value of the entry with this text, or None where there is none. It looks at one node more
+    /// than the key has bytes at most, and takes no memory.
+    pub fn get(&self, key: &[u8]) -> Option<&V>
+        ensures { option_copied result
+            ≡ option_map (λ entry. entry.1) (entry_at K.text self.now.arena key.now) }
+    {
+        no_text_begins_another::<OpaqueNodePtr<K, V, PREFIX_LEN>>();
+        let root = self.root?;
+        let mut reader = ArenaReader::with_budget(&self.arena, key.len() + 1);
+        let (leaf, _) = find_leaf(&mut reader, root, key)?;
+        Some(self.arena.as_value_ref(leaf))
+    }
+
+    /// The arena of the nodes.
+    pub fn arena(&self) -> &NodeArena<K, V, PREFIX_LEN>
+        ensures arena { result.now ≡ self.now.arena }
+        ensures one_tree { IsArt K.text self.now.arena self.now.root }
+    {
+        &self.arena
+    }
+
+    /// The root, or None where there is no entry.
+    pub fn root(&self) -> Option<OpaqueNodePtr<K, V, PREFIX_LEN>>
+        ensures root { result ≡ self.now.root }
+        ensures one_tree { IsArt K.text self.now.arena self.now.root }
+    {
+        self.root
+    }
+}
+
+impl<K: AsBytes + Drop, V: Drop, const PREFIX_LEN: usize> ArtTree<K, V, PREFIX_LEN> {
+    /// A tree of these entries, whose keys have to ascend and of which none may be a front of
+    /// another. Else, and where there is no memory, they come back as [`load`] gives them back.
+    pub fn load(alloc: Global, entries: Vec<(K, V)>) -> Result<Self, LoadFault<K, V>>
+        ensures entries { IfOk result (λ tree. All
+            (λ entry. entry_at K.text tree.arena (K.text entry.0) ≡ Some entry) entries.items) }
+        ensures no_others { IfOk result (λ tree. (key : List ℕ) →
+            entry_at K.text tree.arena key ≢ None → Contains (texts_of K.text entries.items) key) }
+        ensures no_fault { OnOk result (HaveNoFault (texts_of K.text entries.items)) }
+        ensures refusal_due { IfErr result
+            (λ fault. IsDue (texts_of K.text entries.items) fault.refusal) }
+        ensures entries_back { IfErr result (λ fault. fault.entries ≡ entries) }
+    {
+        no_text_begins_another::<OpaqueNodePtr<K, V, PREFIX_LEN>>();
+        let mut arena = NodeArena::new(alloc);
+        let root = load(alloc, &mut arena, entries)?;
+        Ok(Rooted {
+            arena,
+            root: Some(root),
+        })
+    }
+}
