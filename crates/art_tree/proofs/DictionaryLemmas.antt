@@ -1,11 +1,16 @@
 -- The dictionary of an arena that holds one tree.
-use Rattle.std.proofs.Common.{Bor, filter, ◌<◌, length, ◌≢◌, ◌≡◌, ◌∙◌, ℕ, zero, suc, Bool, true, false, List, [], ◌∷◌, map, get_or, AllPairs, Contains, Option, Some, None, slice_index_or, nat_eq, refl, sym, ap, subst, inl, inr, arith, append-nil}
+use Rattle.std.proofs.Common.{Bor, filter, ◌<◌, length, ◌≢◌, ◌≡◌, ◌∙◌, ℕ, zero, suc, Bool, true, false, List, [], ◌∷◌, map, get_or, AllPairs, Contains, Option, Some, None, slice_index_or, nat_eq, refl, sym, ap, subst, inl, inr, arith, append-nil, ◌++◌, IfSome, IfNone}
 use Rattle.std.specs.Cmp.Lexicographic.{pointwise}
+use Rattle.std.specs.Cmp.{nat_cmp_is}
+use Rattle.std.specs.Cmp.Lexicographic.{nat_list_cmp_total}
+use Rattle.std.specs.Ordering.{ordering_reverse}
 use Rattle.std.specs.Option.{option_copied, option_map}
+use Rattle.std.specs.declared.cmp.Ordering.TheVariants.{Less, Equal, Greater}
 use Rattle.std.proofs.lemmas.List.{length-map}
+use Rattle.std.proofs.lemmas.Option.{same_Some}
 use Rattle.std.proofs.lemmas.List.Elements.{Contains-append_left, Contains-append_right, Contains-append_cases}
 use Rattle.art_header.specs.declared.node_type.NodeType.TheVariants as kinds
-use Rattle.art_bytes.specs.Text.{IsFront}
+use Rattle.art_bytes.specs.Text.{IsFront, text_order}
 use Rattle.art_nodes.specs.Inner as nodes
 use Rattle.art_nodes.specs.Leaf.{leaf_key, leaf_value}
 use Rattle.art_nodes.specs.Pointers.{node_kind, opaque_key, slab_key}
@@ -18,6 +23,9 @@ use Rattle.art_arena.specs.Standing.{StandsIn, AllStandIn}
 use Rattle.art_arena.specs.Trees.{Tree, Leaf, Inner, Branches, NoBranch, Branch, leaves, branch_leaves, texts, places, branch_places}
 use Rattle.art_tree.specs.Art.{IsAlone}
 use Rattle.art_tree.specs.Dictionary.{entry_among, entry_at}
+use Rattle.art_tree.specs.Ends.{IsAtEnd, IsWithin}
+use Rattle.art_tree.specs.declared.ends.End.{End}
+use Rattle.art_tree.specs.declared.ends.End.TheVariants.{First, Last}
 use Rattle.art_tree.specs.Loading.{HoldEntries, IsLoaded, leaf_pointers}
 use Rattle.art_tree.specs.Plan.{texts_of}
 use Rattle.art_tree.specs.Search.{scan, leaf_pointer}
@@ -284,3 +292,69 @@ module _ {K V : Type 0} {P : ℕ} (text : K → List ℕ) (arena : ArenaOf K V P
 -- what is answered where there is no entry
 pub nothing-got : {K V : Type 0} (result : Option (Bor V)) (entry : Option (K × V)) → result ≡ None → entry ≡ None → option_copied result ≡ option_map (λ (e : K × V). e.1) entry
 nothing-got result entry none no_entry = ap option_copied none ∙ sym (ap (option_map (λ (e : _ × _). e.1)) no_entry)
+
+-- the entry at an end
+module _ {H : Type 0} (R : List ℕ → List ℕ → Type 0) where
+  after-first : (y : H × List ℕ) (ys : List (H × List ℕ)) (q : H) (z : List ℕ) → AllPairs R (map (λ pair. pair.1) (y ∷ ys)) → Contains ys (q, z) → R y.1 z
+  after-first y ys q z pairs (k, inside, is) =
+      subst (R y.1) (at-map (λ pair. pair.1) ys k (q, z) ∙ ap (λ pair. pair.1) is) (pairs 0 (suc k) z (omega arith) (omega (arith, inside, length-map ys (λ pair. pair.1))))
+
+  before-last : (others : List (H × List ℕ)) (p : H) (x : List ℕ) (q : H) (z : List ℕ) → AllPairs R (map (λ pair. pair.1) (others ++ (p, x) ∷ [])) → Contains others (q, z) → R z x
+  before-last [] p x q z pairs (k, inside, is) = absurd (omega (arith, inside))
+  before-last (y ∷ ys) p x q z pairs inside = elim (Contains-append_cases (y ∷ []) ys (q, z) inside) [
+    | inl here ↦ subst (λ t. R t x) (ap (λ pair. pair.1) (the-one y (q, z) here)) (after-first y (ys ++ (p, x) ∷ []) p x pairs (Contains-append_right ys ((p, x) ∷ []) (p, x) (0, omega arith, refl)))
+    | inr later ↦ before-last ys p x q z (λ i j d before within. pairs (suc i) (suc j) d (omega (arith, before)) (omega (arith, within))) later
+  ]
+
+itself : (x : List ℕ) → text_order x x ≡ Equal
+itself [] = refl
+itself (n ∷ x) = rw (sym (nat_cmp_is n n Equal refl)) (itself x)
+
+pub within-end : {H : Type 0} (end : End) (all : List (H × List ℕ)) (p : H) (at_end : IsAtEnd end all p) → AllPairs (λ a b. text_order a b ≡ Less) (map (λ pair. pair.1) all) → (q : H) (z : List ℕ) → Contains all (q, z) → IsWithin end at_end.0 z
+within-end First all p (x, others, is) ascend q z inside = elim (Contains-append_cases ((p, x) ∷ []) others (q, z) (subst (λ l. Contains l (q, z)) is inside)) [
+  | inl here ↦ λ greater. let one = sym (itself x) ∙ ap (text_order x) (ap (λ pair. pair.1) (the-one (p, x) (q, z) here)) ∙ greater in absurd (cc)
+  | inr later ↦ λ greater. let less = after-first (λ a b. text_order a b ≡ Less) (p, x) others q z (subst (λ l. AllPairs (λ a b. text_order a b ≡ Less) (map (λ pair. pair.1) l)) is ascend) later in absurd (cc)
+]
+within-end Last all p (x, others, is) ascend q z inside = elim (Contains-append_cases others ((p, x) ∷ []) (q, z) (subst (λ l. Contains l (q, z)) is inside)) [
+  | inl earlier ↦ λ less. let before = before-last (λ a b. text_order a b ≡ Less) others p x q z (subst (λ l. AllPairs (λ a b. text_order a b ≡ Less) (map (λ pair. pair.1) l)) is ascend) earlier in let greater : text_order x z ≡ Greater = nat_list_cmp_total.antisymm x z ∙ ap ordering_reverse before in absurd (cc)
+  | inr here ↦ λ less. let one = sym (itself x) ∙ ap (text_order x) (ap (λ pair. pair.1) (the-one (p, x) (q, z) here)) ∙ less in absurd (cc)
+]
+
+pub end-in : {H : Type 0} (end : End) (all : List (H × List ℕ)) (p : H) (at_end : IsAtEnd end all p) → Contains all (p, at_end.0)
+end-in First all p (x, others, is) = subst (λ l. Contains l (p, x)) (sym is) (0, omega arith, refl)
+end-in Last all p (x, others, is) = subst (λ l. Contains l (p, x)) (sym is) (Contains-append_right others ((p, x) ∷ []) (p, x) (0, omega arith, refl))
+
+module _ {K V : Type 0} {P : ℕ} (text : K → List ℕ) (arena : ArenaOf K V P) (end : End) (root : OpaqueNodePtr K V P) (tree : Tree (OpaqueNodePtr K V P)) (alone : IsAlone text arena root tree) (leaf : NodePtr P (LeafNode K V P)) (at_end : IsAtEnd end (leaves tree) (leaf_pointer leaf)) where
+  -- the leaf at an end is held, with its text
+  pub end-held : (node : LeafNode K V P) × (leaf_at arena (slab_key leaf) ≡ Some node) × (text (leaf_key node) ≡ at_end.0)
+  end-held = let there = leaf-held-in text arena tree alone.is_tree.stands (leaf_pointer leaf) at_end.0 (end-in end (leaves tree) (leaf_pointer leaf) at_end) in (there.0, leaf-of (leaf_at arena (slab_key leaf)) there.0 there.1, there.2)
+
+  module _ (key : K) (value : V) (is_key : option_map leaf_key (leaf_at arena (slab_key leaf)) ≡ Some key) (is_value : option_map leaf_value (leaf_at arena (slab_key leaf)) ≡ Some value) where
+    key-is : leaf_key end-held.0 ≡ key
+    key-is = same_Some (leaf_key end-held.0) key (sym (ap (option_map leaf_key) end-held.1) ∙ is_key)
+
+    value-is : leaf_value end-held.0 ≡ value
+    value-is = same_Some (leaf_value end-held.0) value (sym (ap (option_map leaf_value) end-held.1) ∙ is_value)
+
+    pub end-entry : AreApart (texts tree) → entry_at text arena (text key) ≡ Some (key, value)
+    end-entry apart = ap (λ k. entry_at text arena (text k)) (sym key-is) ∙ entry-of-leaf text arena root tree alone apart (slab_key leaf) end-held.0 end-held.1 ∙ ap Some (λ i. (key-is i, value-is i))
+
+    pub end-within : AllPairs (λ a b. text_order a b ≡ Less) (texts tree) → (other : List ℕ) → entry_at text arena other ≢ None → IsWithin end (text key) other
+    end-within ascend other some = by_entry (entry_at text arena other) refl
+      where
+        by_entry : (o : Option (K × V)) → entry_at text arena other ≡ o → IsWithin end (text key) other
+        by_entry None none = absurd (some none)
+        by_entry (Some entry) found =
+            let has = leaf-of-entry text arena root tree alone other entry found in
+            subst (λ t. IsWithin end t other) (sym end-held.2 ∙ ap text key-is) (within-end end (leaves tree) (leaf_pointer leaf) at_end ascend has.pointer other has.inside)
+
+pub if-some-none : {X : Type 0} (o : Option X) (Q : X → Type 0) → o ≡ None → IfSome o Q
+if-some-none None Q none = tt
+if-some-none (Some x) Q none = absurd (cc)
+
+pub if-none : {X : Type 0} (o : Option X) (Q : Type 0) → Q → IfNone o Q
+if-none None Q holds = holds
+if-none (Some x) Q holds = tt
+
+pub slot-held : {K V : Type 0} {P : ℕ} (arena : ArenaOf K V P) (key : ℕ) (leaf : LeafNode K V P) → leaf_at arena key ≡ Some leaf → held arena (pointer_to kinds.Leaf key) ≢ Nothing
+slot-held arena key leaf is none = let wrong : HeldLeaf leaf ≡ Nothing = sym (ap held_leaf is) ∙ none in absurd (cc)

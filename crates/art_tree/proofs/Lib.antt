@@ -7,6 +7,7 @@ mod BranchLemmas
 mod ChildLemmas
 mod ClashLemmas
 mod DictionaryLemmas
+mod EndLemmas
 mod Exchanging
 mod Leading
 mod Linking

@@ -109,7 +109,7 @@ module _ {K V : Type 0} {P : ℕ} where
   leaf-of None leaf e = absurd (cc)
   leaf-of (Some other) leaf e = cc
 
-  leaf-held : (o : Option (LeafNode K V P)) → held_leaf {H = OpaqueNodePtr K V P} o ≢ Nothing → (leaf : LeafNode K V P) × (o ≡ Some leaf)
+  pub leaf-held : (o : Option (LeafNode K V P)) → held_leaf {H = OpaqueNodePtr K V P} o ≢ Nothing → (leaf : LeafNode K V P) × (o ≡ Some leaf)
   leaf-held None h = absurd (h refl)
   leaf-held (Some leaf) h = (leaf, refl)
 

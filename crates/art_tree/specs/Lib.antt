@@ -4,6 +4,7 @@ pub mod Descent
 pub mod Dictionary
 pub mod Paths
 pub mod Search
+pub mod Ends
 pub mod Loading
 pub mod Plan
 pub mod Raising

@@ -3,6 +3,7 @@
 //! The crate has every public name of the crates below it, so that whoever uses trees names it alone.
 #![tactic(auto)]
 
+mod ends;
 mod find;
 pub mod laws;
 mod loading;

@@ -1,13 +1,17 @@
 //! A tree with its arena, as one value.
-ghost use Rattle.std.specs.Prelude.{◌≡◌, ◌≢◌, ℕ, List, All, Contains, Some, None, IfOk, IfErr, OnOk};
+ghost use Rattle.std.specs.Prelude.{◌≡◌, ◌≢◌, ℕ, List, All, Contains, Some, None, IfSome, IfNone, IfOk, IfErr, OnOk};
+ghost use Rattle.std.specs.declared.cmp.Ordering.TheVariants.{Less, Greater};
 ghost use Rattle.std.specs.Option.{option_copied, option_map};
+ghost use Rattle.art_bytes.specs.Text.{text_order};
 ghost use Rattle.art_tree.specs.Art.{IsArt};
 ghost use Rattle.art_tree.specs.Dictionary.{entry_at};
+ghost use Rattle.art_tree.specs.Ends.{IsWithin};
 ghost use Rattle.art_tree.specs.Plan.{texts_of};
 ghost use Rattle.art_tree.specs.Refusals.{HaveNoFault, IsDue};
 
+use crate::ends::{End, end_leaf};
 use crate::find::find_leaf;
-use crate::laws::no_text_begins_another;
+use crate::laws::{no_text_begins_another, texts_ascend};
 use crate::loading::{LoadFault, load};
 use art_arena::{ArenaReader, NodeArena};
 use art_bytes::AsBytes;
@@ -81,6 +85,47 @@ impl<K: AsBytes, V, const PREFIX_LEN: usize> ArtTree<K, V, PREFIX_LEN> {
         let mut reader = ArenaReader::with_budget(&self.arena, key.len() + 1);
         let (leaf, _) = find_leaf(&mut reader, root, key)?;
         Some(self.arena.as_value_ref(leaf))
+    }
+
+    /// Key and value of the entry with the least text, or None where there is no entry. Takes time
+    /// linear in the longest text, and no memory.
+    pub fn first(&self) -> Option<(&K, &V)>
+        ensures entry { IfSome result (λ (key, value).
+            entry_at K.text self.now.arena (K.text key.now) ≡ Some (key.now, value.now)) }
+        ensures least { IfSome result (λ (key, value). (other : List ℕ) →
+            entry_at K.text self.now.arena other ≢ None →
+            text_order (K.text key.now) other ≢ Greater) }
+        ensures none { IfNone result ((key : List ℕ) → entry_at K.text self.now.arena key ≡ None) }
+    {
+        self.end_entry(End::First)
+    }
+
+    /// Key and value of the entry with the greatest text, or None where there is no entry. Takes time
+    /// linear in the longest text, and no memory.
+    pub fn last(&self) -> Option<(&K, &V)>
+        ensures entry { IfSome result (λ (key, value).
+            entry_at K.text self.now.arena (K.text key.now) ≡ Some (key.now, value.now)) }
+        ensures greatest { IfSome result (λ (key, value). (other : List ℕ) →
+            entry_at K.text self.now.arena other ≢ None →
+            text_order (K.text key.now) other ≢ Less) }
+        ensures none { IfNone result ((key : List ℕ) → entry_at K.text self.now.arena key ≡ None) }
+    {
+        self.end_entry(End::Last)
+    }
+
+    // The entry at one end.
+    fn end_entry(&self, end: End) -> Option<(&K, &V)>
+        ensures entry { IfSome result (λ (key, value).
+            entry_at K.text self.now.arena (K.text key.now) ≡ Some (key.now, value.now)) }
+        ensures at_end { IfSome result (λ (key, value). (other : List ℕ) →
+            entry_at K.text self.now.arena other ≢ None → IsWithin end (K.text key.now) other) }
+        ensures none { IfNone result ((key : List ℕ) → entry_at K.text self.now.arena key ≡ None) }
+    {
+        no_text_begins_another::<OpaqueNodePtr<K, V, PREFIX_LEN>>();
+        texts_ascend::<OpaqueNodePtr<K, V, PREFIX_LEN>>();
+        let root = self.root?;
+        let leaf = end_leaf(&self.arena, root, end);
+        Some(self.arena.as_key_value_ref(leaf))
     }
 
     /// The arena of the nodes.

@@ -1,0 +1,85 @@
+//! The first and the last leaf of a tree.
+ghost use Rattle.std.specs.Prelude.{◌≡◌, ◌≢◌, ◌<◌, ℕ, length, Some, IfOk, IfErr};
+ghost use Rattle.art_nodes.specs.Inner.{Inner};
+ghost use Rattle.art_arena.specs.Arena.{held, HeldInner, Nothing};
+ghost use Rattle.art_arena.specs.Standing.{TreeAt};
+ghost use Rattle.art_arena.specs.Trees.{leaves};
+ghost use Rattle.art_tree.specs.Ends.{end_pair, IsAtEnd};
+ghost use Rattle.art_tree.specs.Search.{leaf_pointer};
+
+use art_arena::NodeArena;
+use art_bytes::AsBytes;
+use art_nodes::{ConcreteNodePtr, InnerNodeCommon, LeafNode, NodePtr, OpaqueNodePtr};
+
+/// One end of the leaves of a tree.
+#[derive(Clone, Copy)]
+pub(crate) enum End {
+    /// Where the least text is.
+    First,
+    /// Where the greatest text is.
+    Last,
+}
+
+// The child under the least byte, or under the greatest.
+fn end_child<K, V, const PREFIX_LEN: usize, N: InnerNodeCommon<K, V, PREFIX_LEN>>(
+    node: &N,
+    end: End,
+) -> OpaqueNodePtr<K, V, PREFIX_LEN>
+    requires { 0 < length (N.inner node.now).children }
+    ensures { (byte : ℕ) × (end_pair end (N.inner node.now).children ≡ Some (byte, result)) }
+{
+    let (_, child) = match end {
+        End::First => node.min(),
+        End::Last => node.max(),
+    };
+    child
+}
+
+// The same for the inner node at this pointer, or the leaf that is there.
+fn step_to_end<K, V, const PREFIX_LEN: usize>(
+    arena: &NodeArena<K, V, PREFIX_LEN>,
+    pointer: OpaqueNodePtr<K, V, PREFIX_LEN>,
+    end: End,
+) -> Result<OpaqueNodePtr<K, V, PREFIX_LEN>, NodePtr<PREFIX_LEN, LeafNode<K, V, PREFIX_LEN>>>
+    requires held { held arena.now pointer ≢ Nothing }
+    requires has_child { (node : Inner _) → held arena.now pointer ≡ HeldInner node →
+        0 < length node.children }
+    ensures child { IfOk result (λ child. (node : Inner _) × (byte : ℕ) ×
+        (held arena.now pointer ≡ HeldInner node) ×
+        (end_pair end node.children ≡ Some (byte, child))) }
+    ensures leaf { IfErr result (λ leaf. pointer ≡ leaf_pointer leaf) }
+{
+    match pointer.to_node_ptr() {
+        ConcreteNodePtr::Node4(node) => Ok(end_child(arena.as_ref(node), end)),
+        ConcreteNodePtr::Node16(node) => Ok(end_child(arena.as_ref(node), end)),
+        ConcreteNodePtr::Node48(node) => Ok(end_child(arena.as_ref(node), end)),
+        ConcreteNodePtr::Node256(node) => Ok(end_child(arena.as_ref(node), end)),
+        ConcreteNodePtr::LeafNode(leaf) => Err(leaf),
+    }
+}
+
+/// The first or the last leaf of the tree that stands at this pointer. Each step makes the path
+/// longer, and a leaf's text, which is longer still, is shorter than 2^64.
+pub(crate) fn end_leaf<K: AsBytes, V, const PREFIX_LEN: usize>(
+    arena: &NodeArena<K, V, PREFIX_LEN>,
+    pointer: OpaqueNodePtr<K, V, PREFIX_LEN>,
+    end: End,
+) -> NodePtr<PREFIX_LEN, LeafNode<K, V, PREFIX_LEN>>
+    requires tree { TreeAt K.text arena.now pointer }
+    ensures { (found : TreeAt K.text arena.now pointer) →
+        IsAtEnd end (leaves found.tree) (leaf_pointer result) }
+{
+    let mut at = pointer;
+    let mut passed: usize = 0;
+    'way: loop {
+        match step_to_end(arena, at, end) {
+            Ok(child) => {
+                at = child;
+                passed += 1;
+            }
+            Err(leaf) => {
+                return leaf;
+            }
+        }
+    }
+}
