@@ -1,5 +1,6 @@
 //! Trees from `load`, and what is answered about them.
 mod composite;
+mod dictionary;
 mod loading;
 mod matches;
 mod path;
@@ -10,7 +11,7 @@ ghost use Rattle.std.specs.Prelude.{IfOk};
 ghost use Rattle.art_tree.specs.Search.{HasTree};
 
 use art_tree::{
-    AnyRef, ArenaReader, AsBytes, CStringKey, ConcatTuple, FullPrefix, InnerNodeCommon,
+    AnyRef, ArenaReader, ArtTree, AsBytes, CStringKey, ConcatTuple, FullPrefix, InnerNodeCommon,
     LoadRefusal, Mapped, NodeArena, OpaqueNodePtr, SliceKey, ToIBE, ToOctets, TreePath, find_leaf,
     laws, load,
 };

@@ -1,5 +1,5 @@
 -- A dictionary: the entry with each text. And texts that no tree holds together.
-use Rattle.std.specs.Prelude.{◌≢◌, ◌⊎◌, ℕ, List, [], ◌∷◌, Contains, Option, Some, None, nat_eq, if◌then◌else◌}
+use Rattle.std.specs.Prelude.{◌≡◌, ◌≢◌, ◌⊎◌, ℕ, List, [], ◌∷◌, Contains, Option, Some, None, nat_eq, if◌then◌else◌}
 use Rattle.std.specs.Cmp.Lexicographic.{pointwise}
 use Rattle.art_bytes.specs.Text.{IsFront}
 use Rattle.art_nodes.specs.Leaf.{leaf_key, leaf_value}
@@ -16,6 +16,18 @@ module _ {K V : Type 0} {P : ℕ} (text : K → List ℕ) where
   -- the dictionary of an arena: the entry with this text that its leaves hold
   abbrev pub entry_at : ArenaOf K V P → List ℕ → Option (K × V)
   entry_at arena x = entry_among arena.leaf.slots x
+
+  -- this is the entry with its key's text
+  abbrev pub IsEntry : ArenaOf K V P → K × V → Type 0
+  IsEntry arena entry = entry_at arena (text entry.0) ≡ Some entry
+
+  -- some entry has this text
+  abbrev pub HasEntry : ArenaOf K V P → List ℕ → Type 0
+  HasEntry arena x = entry_at arena x ≢ None
+
+  -- no text has an entry
+  abbrev pub IsEmpty : ArenaOf K V P → Type 0
+  IsEmpty arena = (x : List ℕ) → entry_at arena x ≡ None
 
 -- b begins with a, and is longer
 abbrev pub IsProperFront : List ℕ → List ℕ → Type 0

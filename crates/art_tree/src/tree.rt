@@ -4,7 +4,7 @@ ghost use Rattle.std.specs.declared.cmp.Ordering.TheVariants.{Less, Greater};
 ghost use Rattle.std.specs.Option.{option_copied, option_map};
 ghost use Rattle.art_bytes.specs.Text.{text_order};
 ghost use Rattle.art_tree.specs.Art.{IsArt};
-ghost use Rattle.art_tree.specs.Dictionary.{entry_at};
+ghost use Rattle.art_tree.specs.Dictionary.{entry_at, IsEntry, HasEntry, IsEmpty};
 ghost use Rattle.art_tree.specs.Ends.{IsWithin};
 ghost use Rattle.art_tree.specs.Plan.{texts_of};
 ghost use Rattle.art_tree.specs.Refusals.{HaveNoFault, IsDue};
@@ -65,7 +65,7 @@ pub type ArtTree<K, V, const PREFIX_LEN: usize> = Rooted<
 impl<K: AsBytes, V, const PREFIX_LEN: usize> ArtTree<K, V, PREFIX_LEN> {
     /// A tree with no entries. Takes no memory.
     pub fn new(alloc: Global) -> Self
-        ensures no_entry { (key : List ℕ) → entry_at K.text result.arena key ≡ None }
+        ensures no_entry { IsEmpty K.text result.arena }
         ensures no_root { result.root ≡ None }
     {
         Rooted {
@@ -90,12 +90,11 @@ impl<K: AsBytes, V, const PREFIX_LEN: usize> ArtTree<K, V, PREFIX_LEN> {
     /// Key and value of the entry with the least text, or None where there is no entry. Takes time
     /// linear in the longest text, and no memory.
     pub fn first(&self) -> Option<(&K, &V)>
-        ensures entry { IfSome result (λ (key, value).
-            entry_at K.text self.now.arena (K.text key.now) ≡ Some (key.now, value.now)) }
+        ensures entry { IfSome result
+            (λ (key, value). IsEntry K.text self.now.arena (key.now, value.now)) }
         ensures least { IfSome result (λ (key, value). (other : List ℕ) →
-            entry_at K.text self.now.arena other ≢ None →
-            text_order (K.text key.now) other ≢ Greater) }
-        ensures none { IfNone result ((key : List ℕ) → entry_at K.text self.now.arena key ≡ None) }
+            HasEntry K.text self.now.arena other → text_order (K.text key.now) other ≢ Greater) }
+        ensures none { IfNone result (IsEmpty K.text self.now.arena) }
     {
         self.end_entry(End::First)
     }
@@ -103,23 +102,22 @@ impl<K: AsBytes, V, const PREFIX_LEN: usize> ArtTree<K, V, PREFIX_LEN> {
     /// Key and value of the entry with the greatest text, or None where there is no entry. Takes time
     /// linear in the longest text, and no memory.
     pub fn last(&self) -> Option<(&K, &V)>
-        ensures entry { IfSome result (λ (key, value).
-            entry_at K.text self.now.arena (K.text key.now) ≡ Some (key.now, value.now)) }
+        ensures entry { IfSome result
+            (λ (key, value). IsEntry K.text self.now.arena (key.now, value.now)) }
         ensures greatest { IfSome result (λ (key, value). (other : List ℕ) →
-            entry_at K.text self.now.arena other ≢ None →
-            text_order (K.text key.now) other ≢ Less) }
-        ensures none { IfNone result ((key : List ℕ) → entry_at K.text self.now.arena key ≡ None) }
+            HasEntry K.text self.now.arena other → text_order (K.text key.now) other ≢ Less) }
+        ensures none { IfNone result (IsEmpty K.text self.now.arena) }
     {
         self.end_entry(End::Last)
     }
 
     // The entry at one end.
     fn end_entry(&self, end: End) -> Option<(&K, &V)>
-        ensures entry { IfSome result (λ (key, value).
-            entry_at K.text self.now.arena (K.text key.now) ≡ Some (key.now, value.now)) }
+        ensures entry { IfSome result
+            (λ (key, value). IsEntry K.text self.now.arena (key.now, value.now)) }
         ensures at_end { IfSome result (λ (key, value). (other : List ℕ) →
-            entry_at K.text self.now.arena other ≢ None → IsWithin end (K.text key.now) other) }
-        ensures none { IfNone result ((key : List ℕ) → entry_at K.text self.now.arena key ≡ None) }
+            HasEntry K.text self.now.arena other → IsWithin end (K.text key.now) other) }
+        ensures none { IfNone result (IsEmpty K.text self.now.arena) }
     {
         no_text_begins_another::<OpaqueNodePtr<K, V, PREFIX_LEN>>();
         texts_ascend::<OpaqueNodePtr<K, V, PREFIX_LEN>>();
@@ -149,10 +147,9 @@ impl<K: AsBytes + Drop, V: Drop, const PREFIX_LEN: usize> ArtTree<K, V, PREFIX_L
     /// A tree of these entries, whose keys have to ascend and of which none may be a front of
     /// another. Else, and where there is no memory, they come back as [`load`] gives them back.
     pub fn load(alloc: Global, entries: Vec<(K, V)>) -> Result<Self, LoadFault<K, V>>
-        ensures entries { IfOk result (λ tree. All
-            (λ entry. entry_at K.text tree.arena (K.text entry.0) ≡ Some entry) entries.items) }
+        ensures entries { IfOk result (λ tree. All (IsEntry K.text tree.arena) entries.items) }
         ensures no_others { IfOk result (λ tree. (key : List ℕ) →
-            entry_at K.text tree.arena key ≢ None → Contains (texts_of K.text entries.items) key) }
+            HasEntry K.text tree.arena key → Contains (texts_of K.text entries.items) key) }
         ensures no_fault { OnOk result (HaveNoFault (texts_of K.text entries.items)) }
         ensures refusal_due { IfErr result
             (λ fault. IsDue (texts_of K.text entries.items) fault.refusal) }
