@@ -157,10 +157,12 @@ impl<K: AsBytes + Drop, V: Drop, const PREFIX_LEN: usize> ArtTree<K, V, PREFIX_L
     {
         no_text_begins_another::<OpaqueNodePtr<K, V, PREFIX_LEN>>();
         let mut arena = NodeArena::new(alloc);
-        let root = load(alloc, &mut arena, entries)?;
-        Ok(Rooted {
-            arena,
-            root: Some(root),
-        })
+        match load(alloc, &mut arena, entries) {
+            Ok(root) => Ok(Rooted {
+                arena,
+                root: Some(root),
+            }),
+            Err(fault) => Err(fault),
+        }
     }
 }

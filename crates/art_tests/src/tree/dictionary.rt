@@ -22,12 +22,11 @@ fn shown<'a>(entry: Option<(&SliceKey<'a>, &usize)>) -> Option<(&'a [u8], usize)
     Some((key.get(), *number))
 }
 
-// Five texts of which the first three share two bytes.
-fn entries_are_read<const PREFIX_LEN: usize>(
+// A tree of `aaaa`, `aaab`, `aab`, `ab` and `b`.
+fn check_entries<const PREFIX_LEN: usize>(
     rt: &impl Abort,
-    alloc: Global,
-) -> Result<(), AllocError> {
-    let tree = tree_of::<PREFIX_LEN>(alloc, &[b"aaaa", b"aaab", b"aab", b"ab", b"b"])?;
+    tree: &ArtTree<SliceKey, usize, PREFIX_LEN>,
+) {
     assert!(rt; tree.get(b"aaaa") == Some(&0));
     assert!(rt; tree.get(b"aaab") == Some(&1));
     assert!(rt; tree.get(b"ab") == Some(&3));
@@ -41,14 +40,15 @@ fn entries_are_read<const PREFIX_LEN: usize>(
         panic!(rt; "no root");
     };
     assert!(rt; tree.arena().holds_opaque(root));
-    Ok(())
 }
 
 #[test]
 fn entries_are_read_by_text(rt: HostRuntime) -> Result<(), Fail> {
-    entries_are_read::<0>(&rt, rt.alloc())?;
-    entries_are_read::<2>(&rt, rt.alloc())?;
-    entries_are_read::<16>(&rt, rt.alloc())?;
+    let alloc = rt.alloc();
+    let texts: [&[u8]; 5] = [b"aaaa", b"aaab", b"aab", b"ab", b"b"];
+    check_entries(&rt, &tree_of::<0>(alloc, &texts)?);
+    check_entries(&rt, &tree_of::<2>(alloc, &texts)?);
+    check_entries(&rt, &tree_of::<16>(alloc, &texts)?);
     Ok(())
 }
 
