@@ -11,7 +11,6 @@ use Rattle.std.proofs.lemmas.Option.{same_Some}
 use Rattle.std.proofs.lemmas.List.Elements.{Contains-append_left, Contains-append_right, Contains-append_cases}
 use Rattle.art_header.specs.declared.node_type.NodeType.TheVariants as kinds
 use Rattle.art_bytes.specs.Text.{IsFront, text_order}
-use Rattle.art_nodes.specs.Inner as nodes
 use Rattle.art_nodes.specs.Leaf.{leaf_key, leaf_value}
 use Rattle.art_nodes.specs.Pointers.{node_kind, opaque_key, slab_key}
 use Rattle.art_nodes.specs.declared.pointers.NodePtr.{NodePtr}

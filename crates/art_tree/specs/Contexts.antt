@@ -6,7 +6,7 @@ use Rattle.art_nodes.specs.declared.pointers.OpaqueNodePtr.{OpaqueNodePtr}
 use Rattle.art_nodes.specs.declared.leaf_node.LeafNode.{LeafNode}
 use Rattle.art_arena.specs.Arena.{ArenaOf, HeldInner, HeldLeaf, held}
 use Rattle.art_arena.specs.Standing.{StandsIn}
-use Rattle.art_arena.specs.Trees.{Tree, Inner, Branches, Branch, leaves, branch_leaves, places, root_of}
+use Rattle.art_arena.specs.Trees.{Tree, Inner, Branches, Branch, branch_leaves, places, root_of}
 use Rattle.art_tree.specs.Plan.{join}
 
 -- the subtree is all there is; or an inner node has it under a byte, between other branches, and the rest is around that node
