@@ -294,7 +294,7 @@ nothing-got result entry none no_entry = ap option_copied none ∙ sym (ap (opti
 
 -- the entry at an end
 module _ {H : Type 0} (R : List ℕ → List ℕ → Type 0) where
-  after-first : (y : H × List ℕ) (ys : List (H × List ℕ)) (q : H) (z : List ℕ) → AllPairs R (map (λ pair. pair.1) (y ∷ ys)) → Contains ys (q, z) → R y.1 z
+  pub after-first : (y : H × List ℕ) (ys : List (H × List ℕ)) (q : H) (z : List ℕ) → AllPairs R (map (λ pair. pair.1) (y ∷ ys)) → Contains ys (q, z) → R y.1 z
   after-first y ys q z pairs (k, inside, is) =
       subst (R y.1) (at-map (λ pair. pair.1) ys k (q, z) ∙ ap (λ pair. pair.1) is) (pairs 0 (suc k) z (omega arith) (omega (arith, inside, length-map ys (λ pair. pair.1))))
 

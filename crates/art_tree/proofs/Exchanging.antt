@@ -18,7 +18,7 @@ use Rattle.art_tree.proofs.BranchLemmas.{roots-join, leaves-join, places-join, b
 use Rattle.art_tree.proofs.ChildLemmas.{lt-true, lt-false}
 use Rattle.art_tree.proofs.Rising.{stand-join, stand-split, snug-join, snug-split}
 
-sound-split : {H : Type 0} (path : List ℕ) (a b : Branches H) → AreSound path (join a b) → AreSound path a × AreSound path b
+pub sound-split : {H : Type 0} (path : List ℕ) (a b : Branches H) → AreSound path (join a b) → AreSound path a × AreSound path b
 sound-split path NoBranch b both = (tt, both)
 sound-split path (Branch byte tree others) b both = let rest = sound-split path others b both.1 in ((both.0, rest.0), rest.1)
 
@@ -27,11 +27,11 @@ before-byte : {H : Type 0} (low : ℕ) (front : ChildMap H) (byte : ℕ) (child 
 before-byte low [] byte child back ascend = ascend.0
 before-byte low (x ∷ front) byte child back ascend = omega (arith, ascend.0, before-byte (suc x.0) front byte child back ascend.2)
 
-none-below : {H : Type 0} (low byte : ℕ) (back : ChildMap H) → byte < low → IsAscendingFrom low (key_bytes back) → filter (λ p. nat_lt p.0 byte) back ≡ []
+pub none-below : {H : Type 0} (low byte : ℕ) (back : ChildMap H) → byte < low → IsAscendingFrom low (key_bytes back) → filter (λ p. nat_lt p.0 byte) back ≡ []
 none-below low byte [] below ascend = refl
 none-below low byte (x ∷ back) below ascend = rw (lt-false x.0 byte (omega (arith, below, ascend.0))) (none-below (suc x.0) byte back (omega (arith, below, ascend.0)) ascend.2)
 
-all-above : {H : Type 0} (low byte : ℕ) (back : ChildMap H) → byte < low → IsAscendingFrom low (key_bytes back) → filter (λ p. nat_lt byte p.0) back ≡ back
+pub all-above : {H : Type 0} (low byte : ℕ) (back : ChildMap H) → byte < low → IsAscendingFrom low (key_bytes back) → filter (λ p. nat_lt byte p.0) back ≡ back
 all-above low byte [] below ascend = refl
 all-above low byte (x ∷ back) below ascend = rw (lt-true byte x.0 (omega (arith, below, ascend.0))) (ap (λ rest. x ∷ rest) (all-above (suc x.0) byte back (omega (arith, below, ascend.0)) ascend.2))
 
@@ -85,7 +85,7 @@ pub the-one : {A : Type 0} (x q : A) → Contains (x ∷ []) q → x ≡ q
 the-one x q (zero, inside, is) = is
 the-one x q (suc k, inside, is) = absurd (omega (arith, inside))
 
-AreDistinct-split : {A : Type 0} (xs ys : List A) → AreDistinct (xs ++ ys) → AreDistinct xs × AreDistinct ys × ((q : A) → Contains xs q → Contains ys q → ⊥)
+pub AreDistinct-split : {A : Type 0} (xs ys : List A) → AreDistinct (xs ++ ys) → AreDistinct xs × AreDistinct ys × ((q : A) → Contains xs q → Contains ys q → ⊥)
 AreDistinct-split [] ys distinct = (tt, distinct, λ q (k, inside, is) other. omega (arith, inside))
 AreDistinct-split (x ∷ xs) ys distinct =
     let rest = AreDistinct-split xs ys distinct.1 in (
@@ -99,31 +99,31 @@ AreDistinct-split (x ∷ xs) ys distinct =
 
 module _ {H : Type 0} where
   -- the pointers of all that is around the place
-  abbrev places_around : Context H → List H
+  abbrev pub places_around : Context H → List H
   places_around Whole = []
   places_around (Under above pointer prefix before byte after) = pointer ∷ (branch_places before ++ (branch_places after ++ places_around above))
 
-  places-node : (pointer : H) (prefix : List ℕ) (before : Branches H) (byte : ℕ) (tree : Tree H) (after : Branches H) → places (Inner pointer prefix (join before (Branch byte tree after))) ≡ pointer ∷ (branch_places before ++ (places tree ++ branch_places after))
+  pub places-node : (pointer : H) (prefix : List ℕ) (before : Branches H) (byte : ℕ) (tree : Tree H) (after : Branches H) → places (Inner pointer prefix (join before (Branch byte tree after))) ≡ pointer ∷ (branch_places before ++ (places tree ++ branch_places after))
   places-node pointer prefix before byte tree after = ap (λ rest. pointer ∷ rest) (places-join before (Branch byte tree after))
 
-  distinct-part : (context : Context H) (tree : Tree H) → AreDistinct (places (plug context tree)) → AreDistinct (places tree)
+  pub distinct-part : (context : Context H) (tree : Tree H) → AreDistinct (places (plug context tree)) → AreDistinct (places tree)
   distinct-part Whole tree distinct = distinct
   distinct-part (Under above pointer prefix before byte after) tree distinct =
       let node = subst AreDistinct (places-node pointer prefix before byte tree after) (distinct-part above (Inner pointer prefix (join before (Branch byte tree after))) distinct) in
       (AreDistinct-split (places tree) (branch_places after) (AreDistinct-split (branch_places before) (places tree ++ branch_places after) node.1).1).0
 
-  in-part : (context : Context H) (tree : Tree H) (q : H) → Contains (places tree) q → Contains (places (plug context tree)) q
+  pub in-part : (context : Context H) (tree : Tree H) (q : H) → Contains (places tree) q → Contains (places (plug context tree)) q
   in-part Whole tree q inside = inside
   in-part (Under above pointer prefix before byte after) tree q inside =
       in-part above (Inner pointer prefix (join before (Branch byte tree after))) q (subst (λ all. Contains all q) (sym (places-node pointer prefix before byte tree after))
       (Contains-append_right (pointer ∷ branch_places before) (places tree ++ branch_places after) q (Contains-append_left (places tree) (branch_places after) q inside)))
 
   -- what is around the place is in the whole tree and not in the part
-  record IsAround (context : Context H) (tree : Tree H) (q : H) : Type 0 where
+  pub record IsAround (context : Context H) (tree : Tree H) (q : H) : Type 0 where
     pub inside : Contains (places (plug context tree)) q
     pub outside : Contains (places tree) q → ⊥
 
-  around : (context : Context H) (tree : Tree H) (q : H) → AreDistinct (places (plug context tree)) → Contains (places_around context) q → IsAround context tree q
+  pub around : (context : Context H) (tree : Tree H) (q : H) → AreDistinct (places (plug context tree)) → Contains (places_around context) q → IsAround context tree q
   around Whole tree q distinct (k, inside, is) = absurd (omega (arith, inside))
   around (Under above pointer prefix before byte after) tree q distinct inside =
       let whole = Inner pointer prefix (join before (Branch byte tree after)) in
@@ -175,18 +175,18 @@ module _ {K V : Type 0} {P : ℕ} where
 module _ {K V : Type 0} {P : ℕ} (text : K → List ℕ) (old new : ArenaOf K V P) where
   mutual
     -- a tree stands on where each of its pointers holds what it held, but for links
-    kept-tree : (tree : Tree (OpaqueNodePtr K V P)) → StandsIn text old tree → ((q : OpaqueNodePtr K V P) → Contains (places tree) q → KeepsAt old new q) → StandsIn text new tree
+    pub kept-tree : (tree : Tree (OpaqueNodePtr K V P)) → StandsIn text old tree → ((q : OpaqueNodePtr K V P) → Contains (places tree) q → KeepsAt old new q) → StandsIn text new tree
     kept-tree (Leaf pointer x) (leaf, holds, has) keeps =
         let now = (keeps pointer (0, omega arith, refl)).leaf leaf holds in (now.0, now.1, ap text now.2 ∙ has)
     kept-tree (Inner pointer prefix branches) (node, holds, shows, stand) keeps =
         (node, (keeps pointer (0, omega arith, refl)).inner node holds, shows, kept-branches branches stand (λ q inside. keeps q (Contains-append_right (pointer ∷ []) (branch_places branches) q inside)))
 
-    kept-branches : (branches : Branches (OpaqueNodePtr K V P)) → AllStandIn text old branches → ((q : OpaqueNodePtr K V P) → Contains (branch_places branches) q → KeepsAt old new q) → AllStandIn text new branches
+    pub kept-branches : (branches : Branches (OpaqueNodePtr K V P)) → AllStandIn text old branches → ((q : OpaqueNodePtr K V P) → Contains (branch_places branches) q → KeepsAt old new q) → AllStandIn text new branches
     kept-branches NoBranch stand keeps = tt
     kept-branches (Branch byte tree others) (stands, stand) keeps =
         (kept-tree tree stands (λ q inside. keeps q (Contains-append_left (places tree) (branch_places others) q inside)), kept-branches others stand (λ q inside. keeps q (Contains-append_right (places tree) (branch_places others) q inside)))
 
-  stands-part : (context : Context (OpaqueNodePtr K V P)) (tree : Tree (OpaqueNodePtr K V P)) → StandsIn text old (plug context tree) → StandsIn text old tree
+  pub stands-part : (context : Context (OpaqueNodePtr K V P)) (tree : Tree (OpaqueNodePtr K V P)) → StandsIn text old (plug context tree) → StandsIn text old tree
   stands-part Whole tree stands = stands
   stands-part (Under above pointer prefix before byte after) tree stands =
       (stand-split text old before (Branch byte tree after) (stands-part above (Inner pointer prefix (join before (Branch byte tree after))) stands).3).1.0

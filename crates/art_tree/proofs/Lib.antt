@@ -16,3 +16,15 @@ mod OneTree
 mod Planning
 mod RefusalLemmas
 mod Rising
+mod HangLemmas
+mod InsertLemmas
+mod Growing
+mod TakingLemmas
+mod Adding
+mod LinkLemmas
+mod NodeLemmas
+mod PlaceLemmas
+mod Gaps
+mod AddingChild
+mod AddingFork
+mod EntryLemmas

@@ -9,3 +9,8 @@ pub mod Loading
 pub mod Plan
 pub mod Raising
 pub mod Refusals
+pub mod Edits
+pub mod Places
+pub mod Taking
+pub mod Inserting
+pub mod Hanging

@@ -5,6 +5,7 @@
 
 mod ends;
 mod find;
+mod insert;
 pub mod laws;
 mod loading;
 mod path;
@@ -31,6 +32,7 @@ pub use art_nodes::{
     Sequence, TryFromByteError, common_front_len, replay, valid_range_bounds,
 };
 pub use find::find_leaf;
+pub use insert::{InsertFault, InsertRefusal};
 pub use loading::{LoadFault, LoadRefusal, load};
 pub use path::{TreePath, TreePathSearch};
 pub use tree::{ArtTree, HoldsOneTree, Rooted};

@@ -46,7 +46,7 @@ fn inner_node<K, V, const PREFIX_LEN: usize, N: InnerNodeCommon<K, V, PREFIX_LEN
 }
 
 // Places the inner node of one type whose prefix the leaf's text has from `start` to `end`.
-fn place_as<
+pub(crate) fn place_as<
     K: AsBytes,
     V,
     const PREFIX_LEN: usize,

@@ -1,0 +1,340 @@
+-- A leaf more in a tree: what the steps of an insert leave.
+use Rattle.std.proofs.Common.{◌≡◌, ◌≢◌, ◌⊎◌, ◌∙◌, ℕ, ◌<◌, ◌^◌, ◌==◌, Bool, true, false, if◌then◌else◌, List, [], ◌∷◌, ◌++◌, length, map, Contains, Option, Some, None, refl, sym, ap, subst, inl, inr, arith, append_assoc}
+use Rattle.std.proofs.lemmas.Bool.Decides.{nat_tests}
+use Rattle.std.proofs.lemmas.List.{map-append}
+use Rattle.std.proofs.lemmas.List.Elements.{Contains-append_cases}
+use Rattle.art_bytes.specs.Text.{IsFront}
+use Rattle.art_header.specs.declared.node_type.NodeType.TheVariants as kinds
+use Rattle.art_nodes.specs.ChildMap.{ChildMap, child_at}
+use Rattle.art_nodes.specs.Inner as nodes
+use Rattle.art_nodes.specs.Pointers.{opaque_key}
+use Rattle.art_nodes.specs.declared.pointers.OpaqueNodePtr.{OpaqueNodePtr}
+use Rattle.art_nodes.specs.declared.leaf_node.LeafNode.{LeafNode}
+use Rattle.art_arena.specs.Arena.{ArenaOf, Held, HeldInner, HeldLeaf, Nothing, held, held_leaf, pointer_to, SameNodes}
+use Rattle.art_arena.specs.Links.{AreDistinct, Spells, SpellsAfter, leaf_at}
+use Rattle.art_arena.specs.Standing.{NodeStands, StandsIn, AllStandIn}
+use Rattle.art_arena.specs.Trees.{Tree, Leaf, Inner, Branches, NoBranch, Branch, leaves, branch_leaves, texts, places, branch_places, branch_roots, root_of}
+use Rattle.art_tree.specs.Art.{IsAlone}
+use Rattle.art_tree.specs.Contexts.{Context, Whole, Under, plug, path_to, leaves_before, leaves_after, parent, Adopts, KeepsAt, IsExchanged}
+use Rattle.art_tree.specs.Dictionary.{entry_at}
+use Rattle.art_tree.specs.Edits.{HoldsEntry, StaysAt}
+use Rattle.art_tree.specs.Hanging.{CanHang, IsHung}
+use Rattle.art_tree.specs.Inserting.{IsEntered}
+use Rattle.art_tree.specs.Loading.{IsSnug, leaf_pointers}
+use Rattle.art_tree.specs.Places.{above}
+use Rattle.art_tree.specs.Plan.{join}
+use Rattle.art_tree.specs.Taking.{HasPlace, with_leaf}
+use Rattle.art_tree.proofs.BranchLemmas.{roots-join}
+use Rattle.art_tree.proofs.DictionaryLemmas.{AreApart, held-entry, leaf-held-in}
+use Rattle.art_tree.proofs.Exchanging.{the-one, in-part, around, stands-part, leaves-plug}
+use Rattle.art_tree.proofs.Growing.{alone-grown, entries-but, entries-same, leaf-stays, leaf-was, root-under}
+use Rattle.art_tree.proofs.Rising.{cases_pointer, leaf-of, stand-join}
+use Rattle.art_tree.proofs.TakingLemmas.{in-taken, leaves-taken, taken-sound}
+
+module _ {K V : Type 0} {P : ℕ} (text : K → List ℕ) (arena : ArenaOf K V P) where
+  mutual
+    -- the places of a tree that stands hold nodes
+    pub place-held : (tree : Tree (OpaqueNodePtr K V P)) → StandsIn text arena tree → (q : OpaqueNodePtr K V P) → Contains (places tree) q → held arena q ≢ Nothing
+    place-held (Leaf pointer x) (leaf, holds, has) q inside = λ none. let wrong : HeldLeaf leaf ≡ Nothing = sym holds ∙ ap (held arena) (the-one pointer q inside) ∙ none in absurd (cc)
+    place-held (Inner pointer prefix branches) (node, holds, shows, stand) q inside = elim (Contains-append_cases (pointer ∷ []) (branch_places branches) q inside) [
+      | inl here ↦ λ none. let wrong : HeldInner node ≡ Nothing = sym holds ∙ ap (held arena) (the-one pointer q here) ∙ none in absurd (cc)
+      | inr below ↦ branch-place-held branches stand q below
+    ]
+
+    pub branch-place-held : (branches : Branches (OpaqueNodePtr K V P)) → AllStandIn text arena branches → (q : OpaqueNodePtr K V P) → Contains (branch_places branches) q → held arena q ≢ Nothing
+    branch-place-held NoBranch stand q (k, inside, is) = absurd (omega (arith, inside))
+    branch-place-held (Branch byte tree others) (stands, stand) q inside = elim (Contains-append_cases (places tree) (branch_places others) q inside) [
+      | inl here ↦ place-held tree stands q here
+      | inr later ↦ branch-place-held others stand q later
+    ]
+
+-- the root of a tree is one of its places
+pub root-place : {H : Type 0} (tree : Tree H) → Contains (places tree) (root_of tree)
+root-place (Leaf pointer x) = (0, omega arith, refl)
+root-place (Inner pointer prefix branches) = (0, omega arith, refl)
+
+module _ {K V : Type 0} {P : ℕ} where
+  -- the parent of a place is an inner node outside of the subtree there
+  pub record IsAbove (text : K → List ℕ) (arena : ArenaOf K V P) (part : Tree (OpaqueNodePtr K V P)) (pointer : OpaqueNodePtr K V P) : Type 0 where
+    pub node : nodes.Inner (OpaqueNodePtr K V P)
+    pub is : held arena pointer ≡ HeldInner node
+    pub outside : Contains (places part) pointer → ⊥
+
+  pub parent-above : (text : K → List ℕ) (arena : ArenaOf K V P) (context : Context (OpaqueNodePtr K V P)) (part : Tree (OpaqueNodePtr K V P)) → StandsIn text arena (plug context part) → AreDistinct (places (plug context part)) → (pointer : OpaqueNodePtr K V P) → parent context ≡ Some pointer → IsAbove text arena part pointer
+  parent-above text arena Whole part stands distinct pointer is = absurd (cc)
+  parent-above text arena (Under higher p prefix before byte after) part stands distinct pointer is =
+      let (node, holds, shows, stand) = stands-part text arena arena higher (Inner p prefix (join before (Branch byte part after))) stands in
+      let same : p ≡ pointer = cc in
+      record {
+        node = node;
+        is = ap (held arena) (sym same) ∙ holds;
+        outside = λ inside. (around (Under higher p prefix before byte after) part p distinct (0, omega arith, refl)).outside (subst (Contains (places part)) (sym same) inside);
+      }
+
+  -- what hanging a node in the place of a subtree leaves
+  pub record HangsAt (old new last : ArenaOf K V P) (context : Context (OpaqueNodePtr K V P)) (top root : OpaqueNodePtr K V P) (part : Tree (OpaqueNodePtr K V P)) : Type 0 where
+    pub adopted : Adopts old last context top
+    pub others : (p : OpaqueNodePtr K V P) → parent context ≢ Some p → held last p ≡ held new p
+    pub at_root : (now : Tree (OpaqueNodePtr K V P)) → root_of now ≡ top → root_of (plug context now) ≡ root
+
+  pub hangs-at : (text : K → List ℕ) (old new last : ArenaOf K V P) (context : Context (OpaqueNodePtr K V P)) (part : Tree (OpaqueNodePtr K V P)) (top root root_now : OpaqueNodePtr K V P) → StandsIn text old (plug context part) → root_of (plug context part) ≡ root
+      → ((p : OpaqueNodePtr K V P) → parent context ≡ Some p → held new p ≡ held old p) → IsHung new last (above context) top root root_now → HangsAt old new last context top root_now part
+  hangs-at text old new last Whole part top root root_now stands at_root kept (same, is) = record { adopted = tt; others = λ p differ. same p; at_root = λ now top_is. top_is ∙ sym is }
+  hangs-at text old new last (Under higher p prefix before byte after) part top root root_now stands at_root kept (is, written) =
+      let (node, holds, shows, stand) = stands-part text old old higher (Inner p prefix (join before (Branch byte part after))) stands in
+      record {
+        adopted = λ own own_is. (written own (kept p refl ∙ own_is)).changed;
+        others = λ q differ. (written node (kept p refl ∙ holds)).others q (λ same. differ (ap Some (sym same)));
+        at_root = λ now top_is. root-under higher p prefix before byte after part now ∙ at_root ∙ sym is;
+      }
+
+-- a node hangs where it hung in an arena that keeps the parent
+there-at : {H : Type 0} (xs : ChildMap H) (byte : ℕ) (child : H) (ys : ChildMap H) → child_at (xs ++ (byte, child) ∷ ys) byte ≢ None
+there-at [] byte child ys = by_test (byte == byte) (grind (arith, nat_tests))
+  where
+    by_test : (test : Bool) → test ≡ true → (if test then Some child else child_at ys byte) ≢ None
+    by_test true is = λ none. absurd (cc)
+    by_test false is = absurd (cc)
+there-at (x ∷ xs) byte child ys = by_test (x.0 == byte) (there-at xs byte child ys)
+  where
+    by_test : (test : Bool) → child_at (xs ++ (byte, child) ∷ ys) byte ≢ None → (if test then Some x.1 else child_at (xs ++ (byte, child) ∷ ys) byte) ≢ None
+    by_test true rest = λ none. absurd (cc)
+    by_test false rest = rest
+
+can-hang-at : {K V : Type 0} {P : ℕ} (text : K → List ℕ) (old new : ArenaOf K V P) (context : Context (OpaqueNodePtr K V P)) (part : Tree (OpaqueNodePtr K V P)) → StandsIn text old (plug context part) → ((p : OpaqueNodePtr K V P) → parent context ≡ Some p → held new p ≡ held old p) → CanHang new (above context)
+can-hang-at text old new Whole part stands kept = tt
+can-hang-at text old new (Under higher p prefix before byte after) part stands kept =
+    let (node, holds, shows, stand) = stands-part text old old higher (Inner p prefix (join before (Branch byte part after))) stands in
+    (node, kept p refl ∙ holds, subst (λ children. child_at children byte ≢ None) (sym (shows.children ∙ roots-join before (Branch byte part after))) (there-at (branch_roots before) byte (root_of part) (branch_roots after)))
+
+-- the leaves of the whole, where those of the part are on both sides of a gap, and with a leaf in the gap
+pub leaves-parted : {H : Type 0} (context : Context H) (part : Tree H) (before after : Branches H) → leaves part ≡ branch_leaves before ++ branch_leaves after → leaves (plug context part) ≡ (leaves_before context ++ branch_leaves before) ++ (branch_leaves after ++ leaves_after context)
+leaves-parted context part before after same =
+    leaves-plug context part
+    ∙ ap (λ all. leaves_before context ++ (all ++ leaves_after context)) same
+    ∙ ap (λ all. leaves_before context ++ all) (append_assoc (branch_leaves before) (branch_leaves after) (leaves_after context))
+    ∙ sym (append_assoc (leaves_before context) (branch_leaves before) (branch_leaves after ++ leaves_after context))
+
+pub leaves-filled : {H : Type 0} (context : Context H) (prefix : List ℕ) (top : H) (before : Branches H) (byte : ℕ) (leaf : H) (x : List ℕ) (after : Branches H) → leaves (plug context (with_leaf top prefix before byte leaf x after)) ≡ (leaves_before context ++ branch_leaves before) ++ (leaf, x) ∷ (branch_leaves after ++ leaves_after context)
+leaves-filled context prefix top before byte leaf x after =
+    leaves-plug context (with_leaf top prefix before byte leaf x after)
+    ∙ ap (λ all. leaves_before context ++ (all ++ leaves_after context)) (leaves-taken prefix top before byte leaf x after)
+    ∙ ap (λ all. leaves_before context ++ all) (append_assoc (branch_leaves before) ((leaf, x) ∷ branch_leaves after) (leaves_after context))
+    ∙ sym (append_assoc (leaves_before context) (branch_leaves before) ((leaf, x) ∷ (branch_leaves after ++ leaves_after context)))
+
+-- the steps of an insert: from the first arena to the next a leaf is linked, from there to the third the node at the place is changed, and then a node is hung there
+module _ {K V : Type 0} {P : ℕ} (text : K → List ℕ) (old linked new : ArenaOf K V P) (context : Context (OpaqueNodePtr K V P)) (part : Tree (OpaqueNodePtr K V P)) (root leaf top : OpaqueNodePtr K V P) (key : K) (value : V) where
+  pub record AreSteps : Type 0 where
+    pub stood : StandsIn text old (plug context part)
+    pub was_root : root_of (plug context part) ≡ root
+    pub distinct : AreDistinct (places (plug context part))
+    pub free : held old leaf ≡ Nothing
+    pub entry : HoldsEntry linked leaf key value
+    pub stays : (p : OpaqueNodePtr K V P) → p ≢ leaf → StaysAt old linked p
+    pub top_was : ((top ≡ root_of part) × ((node : nodes.Inner (OpaqueNodePtr K V P)) × (held old top ≡ HeldInner node))) ⊎ (held linked top ≡ Nothing)
+    pub same : (p : OpaqueNodePtr K V P) → p ≢ top → (p ≡ root_of part → (l : LeafNode K V P) × (held linked p ≡ HeldLeaf l)) → held new p ≡ held linked p
+
+  module _ (steps : AreSteps) where
+    held-case : (h : Held (OpaqueNodePtr K V P) (LeafNode K V P)) → (h ≡ Nothing) ⊎ (((node : nodes.Inner (OpaqueNodePtr K V P)) × (h ≡ HeldInner node)) ⊎ ((l : LeafNode K V P) × (h ≡ HeldLeaf l)))
+    held-case Nothing = inl refl
+    held-case (HeldInner node) = inr (inl (node, refl))
+    held-case (HeldLeaf l) = inr (inr (l, refl))
+
+    not-leaf : (p : OpaqueNodePtr K V P) → held old p ≢ Nothing → p ≢ leaf
+    not-leaf p was same = was (ap (held old) same ∙ steps.free)
+
+    -- what was held is held on in the next arena
+    held-on : (p : OpaqueNodePtr K V P) → held old p ≢ Nothing → held linked p ≢ Nothing
+    held-on p was none = elim (held-case (held old p)) [
+      | inl free ↦ was free
+      | inr (inl (node, is)) ↦ (let wrong : HeldInner node ≡ Nothing = sym ((steps.stays p (not-leaf p was)).keeps.inner node is) ∙ none in absurd (cc))
+      | inr (inr (l, is)) ↦ (let now = (steps.stays p (not-leaf p was)).keeps.leaf l is in let wrong : HeldLeaf now.0 ≡ Nothing = sym now.1 ∙ none in absurd (cc))
+    ]
+
+    not-top : (p : OpaqueNodePtr K V P) → held old p ≢ Nothing → p ≢ root_of part → p ≢ top
+    not-top p was differ same = elim steps.top_was [ inl at ↦ differ (same ∙ at.0) | inr free ↦ held-on p was (ap (held linked) same ∙ free) ]
+
+    part-root : held old (root_of part) ≢ Nothing
+    part-root = place-held text old (plug context part) steps.stood (root_of part) (in-part context part (root_of part) (root-place part))
+
+    not-parent : (p : OpaqueNodePtr K V P) → Contains (places part) p → parent context ≢ Some p
+    not-parent p inside is = (parent-above text old context part steps.stood steps.distinct p is).outside inside
+
+    not-parent-held : (p : OpaqueNodePtr K V P) (l : LeafNode K V P) → held old p ≡ HeldLeaf l → parent context ≢ Some p
+    not-parent-held p l is above_it =
+        let at = parent-above text old context part steps.stood steps.distinct p above_it in
+        let wrong : HeldLeaf l ≡ HeldInner at.node = sym is ∙ at.is in absurd (cc)
+
+    parent-kept : (p : OpaqueNodePtr K V P) → parent context ≡ Some p → held new p ≡ held old p
+    parent-kept p is =
+        let at = parent-above text old context part steps.stood steps.distinct p is in
+        let was : held old p ≢ Nothing = λ none. (let wrong : HeldInner at.node ≡ Nothing = sym at.is ∙ none in absurd (cc)) in
+        let other : p ≢ root_of part = λ same. at.outside (subst (Contains (places part)) (sym same) (root-place part)) in
+        steps.same p (not-top p was other) (λ same. absurd (other same)) ∙ (steps.stays p (not-leaf p was)).keeps.inner at.node at.is ∙ sym at.is
+
+    pub can-hang : CanHang new (above context)
+    can-hang = can-hang-at text old new context part steps.stood parent-kept
+
+    module _ (last : ArenaOf K V P) (root_now : OpaqueNodePtr K V P) (hung : IsHung new last (above context) top root root_now) where
+      hangs : HangsAt old new last context top root_now part
+      hangs = hangs-at text old new last context part top root root_now steps.stood steps.was_root parent-kept hung
+
+      -- what is held outside of the place, or is a leaf, is kept to the end
+      last-same : (p : OpaqueNodePtr K V P) → p ≢ top → (p ≡ root_of part → (l : LeafNode K V P) × (held linked p ≡ HeldLeaf l)) → parent context ≢ Some p → held last p ≡ held linked p
+      last-same p other leaf_there away = hangs.others p away ∙ steps.same p other leaf_there
+
+      -- what is in the old part is as the change of the node left it
+      pub last-others : (p : OpaqueNodePtr K V P) → Contains (places part) p → held last p ≡ held new p
+      last-others p inside = hangs.others p (not-parent p inside)
+
+      keeps-last : (p : OpaqueNodePtr K V P) → p ≢ leaf → held last p ≡ held linked p → KeepsAt old last p
+      keeps-last p other same =
+          let keeps = (steps.stays p other).keeps in
+          record { inner = λ node is. same ∙ keeps.inner node is; leaf = λ l is. let now = keeps.leaf l is in (now.0, same ∙ now.1, now.2, now.3) }
+
+      pub others-kept : (p : OpaqueNodePtr K V P) → held old p ≢ Nothing → p ≢ root_of part → parent context ≢ Some p → KeepsAt old last p
+      others-kept p was other away = keeps-last p (not-leaf p was) (last-same p (not-top p was other) (λ same. absurd (other same)) away)
+
+      pub below-kept : (p : OpaqueNodePtr K V P) → Contains (places part) p → p ≢ root_of part → KeepsAt old last p
+      below-kept p inside other = others-kept p (place-held text old (plug context part) steps.stood p (in-part context part p inside)) other (not-parent p inside)
+
+      leaf-there : (p : OpaqueNodePtr K V P) (l : LeafNode K V P) → held old p ≡ HeldLeaf l → held old p ≢ Nothing
+      leaf-there p l is none = let wrong : HeldLeaf l ≡ Nothing = sym is ∙ none in absurd (cc)
+
+      leaf-not-top : (p : OpaqueNodePtr K V P) (l : LeafNode K V P) → held old p ≡ HeldLeaf l → p ≢ top
+      leaf-not-top p l is same = elim steps.top_was [
+        | inl (at, (node, inner)) ↦ (let wrong : HeldLeaf l ≡ HeldInner node = sym is ∙ ap (held old) same ∙ inner in absurd (cc))
+        | inr free ↦ held-on p (leaf-there p l is) (ap (held linked) same ∙ free)
+      ]
+
+      leaf-last-same : (p : OpaqueNodePtr K V P) (l : LeafNode K V P) → held old p ≡ HeldLeaf l → held last p ≡ held linked p
+      leaf-last-same p l is =
+          let now = (steps.stays p (not-leaf p (leaf-there p l is))).keeps.leaf l is in last-same p (leaf-not-top p l is) (λ same. (now.0, now.1)) (not-parent-held p l is)
+
+      pub leaves-kept : (p : OpaqueNodePtr K V P) (l : LeafNode K V P) → held old p ≡ HeldLeaf l → KeepsAt old last p
+      leaves-kept p l is = keeps-last p (not-leaf p (leaf-there p l is)) (leaf-last-same p l is)
+
+      -- the new leaf is held to the end, and so is the changed node
+      parent-held : (p : OpaqueNodePtr K V P) → parent context ≡ Some p → held old p ≢ Nothing
+      parent-held p is none = let at = parent-above text old context part steps.stood steps.distinct p is in let wrong : HeldInner at.node ≡ Nothing = sym at.is ∙ none in absurd (cc)
+
+      new-not-top : leaf ≢ top
+      new-not-top same = elim steps.top_was [
+        | inl at ↦ part-root (ap (held old) (sym at.0 ∙ sym same) ∙ steps.free)
+        | inr free ↦ (let wrong : HeldLeaf steps.entry.leaf ≡ Nothing = sym steps.entry.is_held ∙ ap (held linked) same ∙ free in absurd (cc))
+      ]
+
+      leaf-last : held last leaf ≡ HeldLeaf steps.entry.leaf
+      leaf-last = last-same leaf new-not-top (λ same. absurd (part-root (ap (held old) (sym same) ∙ steps.free))) (λ is. parent-held leaf is steps.free) ∙ steps.entry.is_held
+
+      pub top-last : held last top ≡ held new top
+      top-last = hangs.others top (λ is. elim steps.top_was [
+        | inl at ↦ not-parent top (subst (Contains (places part)) (sym at.0) (root-place part)) is
+        | inr free ↦ held-on top (parent-held top is) free
+      ])
+
+      fresh-last : (p : OpaqueNodePtr K V P) → held last p ≢ Nothing → held old p ≡ Nothing → (p ≡ top) ⊎ (p ≡ leaf)
+      fresh-last p is free = elim (cases_pointer p top) [
+        | inl at ↦ inl at
+        | inr other ↦ elim (cases_pointer p leaf) [
+          | inl new ↦ inr new
+          | inr differ ↦ absurd (is (last-same p other (λ same. absurd (part-root (ap (held old) (sym same) ∙ free))) (λ above_it. parent-held p above_it free) ∙ (steps.stays p differ).nothing free))
+        ]
+      ]
+
+      -- lists of leaves are spelled on to the end
+      leaf-at-last : (k : ℕ) (l : LeafNode K V P) → leaf_at linked k ≡ Some l → leaf_at last k ≡ Some l
+      leaf-at-last k l at = leaf-of (leaf_at last k) l (elim (cases_pointer (pointer_to kinds.Leaf k) leaf) [
+        | inl same ↦
+            let one : HeldLeaf steps.entry.leaf ≡ HeldLeaf l = sym steps.entry.is_held ∙ ap (held linked) (sym same) ∙ ap held_leaf at in
+            ap (held last) same ∙ leaf-last ∙ one
+        | inr differ ↦ elim (held-case (held old (pointer_to kinds.Leaf k))) [
+          | inl free ↦ absurd (let wrong : HeldLeaf l ≡ Nothing = sym (ap held_leaf at) ∙ (steps.stays (pointer_to kinds.Leaf k) differ).nothing free in cc)
+          | inr (inl (node, is)) ↦ absurd (let wrong : HeldLeaf l ≡ HeldInner node = sym (ap held_leaf at) ∙ (steps.stays (pointer_to kinds.Leaf k) differ).keeps.inner node is in cc)
+          | inr (inr (was, is)) ↦ leaf-last-same (pointer_to kinds.Leaf k) was is ∙ ap held_leaf at
+        ]
+      ])
+
+      spells-on : (before : Option ℕ) (keys : List ℕ) → SpellsAfter linked before keys → SpellsAfter last before keys
+      spells-on before [] spelled = tt
+      spells-on before (k ∷ keys) ((l, at, previous, next), rest) = ((l, leaf-at-last k l at, previous, next), spells-on (Some k) keys rest)
+
+      -- the leaf has its place in the tree
+      module _ (prefix : List ℕ) (before after : Branches (OpaqueNodePtr K V P)) (byte : ℕ) where
+        abbrev taken : Tree (OpaqueNodePtr K V P)
+        taken = with_leaf top prefix before byte leaf (text key) after
+
+        pub record HasTaken : Type 0 where
+          pub place : HasPlace (path_to context) prefix before byte after
+          pub leads : IsFront ((path_to context ++ prefix) ++ byte ∷ []) (text key)
+          pub short : length (text key) < 2 ^ 64
+          pub node : nodes.Inner (OpaqueNodePtr K V P)
+          pub is_held : held new top ≡ HeldInner node
+          pub shows : NodeStands P node prefix (join before (Branch byte (Leaf leaf (text key)) after))
+          pub stand_before : AllStandIn text last before
+          pub stand_after : AllStandIn text last after
+          pub same_leaves : leaves part ≡ branch_leaves before ++ branch_leaves after
+          pub spelled : Spells linked (map opaque_key (map (λ l. l.0) (leaves_before context ++ branch_leaves before)) ++ opaque_key leaf ∷ map opaque_key (map (λ l. l.0) (branch_leaves after ++ leaves_after context)))
+          pub gone : (p : OpaqueNodePtr K V P) → Contains (places part) p → Contains (places (with_leaf top prefix before byte leaf (text key) after)) p ⊎ (held last p ≡ Nothing)
+          pub snug : IsSnug (with_leaf top prefix before byte leaf (text key) after)
+
+        module _ (has : HasTaken) where
+          abbrev left : List (OpaqueNodePtr K V P × List ℕ)
+          left = leaves_before context ++ branch_leaves before
+
+          abbrev right : List (OpaqueNodePtr K V P × List ℕ)
+          right = branch_leaves after ++ leaves_after context
+
+          old-leaves : leaves (plug context part) ≡ left ++ right
+          old-leaves = leaves-parted context part before after has.same_leaves
+
+          new-leaves : leaves (plug context taken) ≡ left ++ (leaf, text key) ∷ right
+          new-leaves = leaves-filled context prefix top before byte leaf (text key) after
+
+          keys-now : map opaque_key (leaf_pointers (plug context taken)) ≡ map opaque_key (map (λ l. l.0) left) ++ opaque_key leaf ∷ map opaque_key (map (λ l. l.0) right)
+          keys-now = ap (λ all. map opaque_key (map (λ l. l.0) all)) new-leaves ∙ ap (map opaque_key) (map-append (λ l. l.0) left ((leaf, text key) ∷ right)) ∙ map-append opaque_key (map (λ l. l.0) left) (leaf ∷ map (λ l. l.0) right)
+
+          taken-stands : StandsIn text last taken
+          taken-stands = (
+            has.node,
+            top-last ∙ has.is_held,
+            has.shows,
+            stand-join text last before (Branch byte (Leaf leaf (text key)) after) has.stand_before ((steps.entry.leaf, leaf-last, ap text steps.entry.key), has.stand_after),
+          )
+
+          exchanged : IsExchanged old last text context part taken
+          exchanged = record {
+            stood = steps.stood;
+            stands = taken-stands;
+            adopted = hangs.adopted;
+            others = λ p inside outside away. others-kept p (place-held text old (plug context part) steps.stood p inside) (λ same. outside (subst (Contains (places part)) (sym same) (root-place part))) away;
+          }
+
+          pub added-alone : IsAlone text old root (plug context part) → IsAlone text last root_now (plug context taken)
+          added-alone alone =
+              let whole = alone-grown text old last root context part taken alone steps.distinct exchanged
+              (taken-sound (path_to context) prefix top before byte leaf (text key) after has.place has.leads has.short)
+              has.snug
+              (subst (Spells last) (sym keys-now) (record { distinct = has.spelled.distinct; spelled = spells-on None _ has.spelled.spelled }))
+              (λ p is free. in-taken prefix top before byte leaf (text key) after p (elim (fresh-last p is free) [ inl at ↦ inl at | inr new ↦ inr (inl new) ]))
+              has.gone in
+              subst (λ r. IsAlone text last r (plug context taken)) (hangs.at_root taken refl) whole
+
+          pub added-entered : (alone : IsAlone text old root (plug context part)) → AreApart (texts (plug context part)) → AreApart (texts (plug context taken)) → IsEntered text old last key value
+          added-entered alone apart new_apart =
+              let now = added-alone alone in
+              let keeps : (p : OpaqueNodePtr K V P) (x : List ℕ) → Contains (leaves (plug context part)) (p, x) → KeepsAt old last p =
+              λ p x inside. let there = leaf-held-in text old (plug context part) alone.is_tree.stands p x inside in leaves-kept p there.0 there.1 in
+              record {
+                entry = ap (λ k. entry_at text last (text k)) (sym steps.entry.key) ∙ held-entry text last root_now (plug context taken) now new_apart leaf steps.entry.leaf leaf-last ∙ ap Some (λ i. (steps.entry.key i, steps.entry.value i));
+                others = entries-but text old last root root_now (plug context part) (plug context taken) alone now apart new_apart (text key)
+                    (λ p x inside differ. let was = leaf-was left right leaf (text key) (plug context part) (plug context taken) old-leaves new-leaves p x inside differ in (was, keeps p x was))
+                    (λ p x inside differ. (leaf-stays left right leaf (text key) (plug context part) (plug context taken) old-leaves new-leaves p x inside, keeps p x inside));
+              }
+
+-- where the first step only made room, what is entered after it is entered after all
+pub entered-from : {K V : Type 0} {P : ℕ} (text : K → List ℕ) (old reserved last : ArenaOf K V P) (key : K) (value : V) (root : OpaqueNodePtr K V P) (tree : Tree (OpaqueNodePtr K V P)) → IsAlone text old root tree → IsAlone text reserved root tree → AreApart (texts tree) → SameNodes old reserved
+    → IsEntered text reserved last key value → IsEntered text old last key value
+entered-from text old reserved last key value root tree alone again apart same entered =
+    let keeps : (p : OpaqueNodePtr _ _ _) → KeepsAt old reserved p = λ p. record { inner = λ node is. same p ∙ is; leaf = λ l is. (l, same p ∙ is, refl, refl) } in
+    record { entry = entered.entry; others = λ x differ. entered.others x differ ∙ entries-same text old reserved root root tree tree alone again apart apart (λ p y inside. (inside, keeps p)) (λ p y inside. (inside, keeps p)) x }

@@ -1,0 +1,108 @@
+use Rattle.std.proofs.Common.{rules, ◌<◌, ◌^◌, length, Contains, [], sym, ap, subst, arith}
+use Rattle.art_nodes.specs.Pointers.{slab_key}
+use Rattle.art_arena.specs.Links.{HoldsLeaf}
+use Rattle.art_arena.specs.Trees.{Tree, leaves, texts}
+use Rattle.art_tree.specs.Art.{IsArt, IsAlone}
+use Rattle.art_tree.specs.Dictionary.{Clashes}
+use Rattle.art_tree.specs.Places.{LacksChild, Parts}
+use Rattle.art_tree.specs.Search.{leaf_pointer}
+use Rattle.art_tree.proofs.EntryLemmas.{answered, apart-new, child-apart, clash-entry, empty-new, empty-stays, entries-stay, fork-apart, leaf-is-held, no-clash}
+use Rattle.art_tree.proofs.insert.insert_entry.Goals as goal
+
+pub returns-in_default : goal.returns-in_default
+returns-in_default g c =
+    let text = g.K.AsBytes.text in
+    let old = c.args.arena.now in
+    let new = c.insert_first.new.arena in
+    let first = c.insert_first.ensures in
+    let nothing = subst (IsArt text old) c.in_default.is c.requires.art in
+    let is_new = empty-new text old nothing (text c.args.key) (omega (arith, c.if-as_bytes.false, ap length c.as_bytes.ensures.text)) in
+    let is = answered text old new c.args.key c.args.value c.insert_first.result first.art first.entered first.entry_back first.nodes_kept is_new (λ same. empty-stays text old new same nothing) c.answer.result c.answer.ensures.added c.answer.ensures.refused in
+    record { art = is.art; replaced = is.replaced; entered = is.entered; no_refusal = is.no_refusal; refusal_due = is.refusal_due; entry_back = is.entry_back; same_entries = is.same_entries; nodes_kept = is.nodes_kept }
+
+pub replace_entry-requires : goal.replace_entry-requires
+replace_entry-requires g c =
+    let text = g.K.AsBytes.text in
+    let arena = c.args.arena.now in
+    let art = subst (IsArt text arena) c.in-Some.is c.requires.art in
+    let inside = c.in-Present.ensures art.0 art.1.is_tree in
+    let is_held : HoldsLeaf arena (slab_key c.in-Present.leaf) = leaf-is-held text arena c.in-Some.root art.0 art.1 (leaf_pointer c.in-Present.leaf) _ inside in
+    search rules
+
+pub returns-in-Present : goal.returns-in-Present
+returns-in-Present g c =
+    let text = g.K.AsBytes.text in
+    let arena = c.args.arena.now in
+    let art = subst (IsArt text arena) c.in-Some.is c.requires.art in
+    let apart = c.no_text_begins_another.ensures [] art.0 art.1.is_tree.sound in
+    let inside = subst (λ key. Contains (leaves art.0) (leaf_pointer c.in-Present.leaf, key)) c.as_bytes-2.ensures.text (c.in-Present.ensures art.0 art.1.is_tree) in
+    let now = c.replace_entry.ensures c.in-Some.root art.0 art.1 inside in
+    record {
+      art = (art.0, now.0);
+      replaced = sym now.2;
+      entered = now.1;
+      no_refusal = (omega (arith, c.if-as_bytes.false, ap length c.as_bytes.ensures.text), no-clash text arena c.in-Some.root art.0 art.1 apart (leaf_pointer c.in-Present.leaf) (text c.args.key) inside);
+      refusal_due = tt;
+      entry_back = tt;
+      same_entries = tt;
+      nodes_kept = tt;
+    }
+
+pub returns-in-Clash-clause-refusal_due : goal.returns-in-Clash-clause-refusal_due
+returns-in-Clash-clause-refusal_due g c =
+    let text = g.K.AsBytes.text in
+    let arena = c.args.arena.now in
+    let art = subst (IsArt text arena) c.in-Some.is c.requires.art in
+    let apart = c.no_text_begins_another.ensures [] art.0 art.1.is_tree.sound in
+    let clash = subst (Clashes (texts art.0)) c.as_bytes-2.ensures.text (c.in-Clash.ensures art.0 art.1.is_tree) in
+    (omega (arith, c.if-as_bytes.false, ap length c.as_bytes.ensures.text), clash-entry text arena c.in-Some.root art.0 art.1 apart (text c.args.key) clash)
+
+pub insert_child-requires : goal.insert_child-requires
+insert_child-requires g c =
+    let text = g.K.AsBytes.text in
+    let arena = c.args.arena.now in
+    let art = subst (IsArt text arena) c.in-Some.is c.requires.art in
+    let short : length (text c.args.key) < 2 ^ 32 = omega (arith, c.if-as_bytes.false, ap length c.as_bytes.ensures.text) in
+    let place : (tree : Tree _) × IsAlone text arena c.in-Some.root tree × LacksChild tree (text c.args.key) c.in-Child.spot c.in-Child.byte =
+    (art.0, art.1, subst (λ key. LacksChild art.0 key c.in-Child.spot c.in-Child.byte) c.as_bytes-2.ensures.text (c.in-Child.ensures art.0 art.1.is_tree)) in
+    search rules
+
+pub returns-in-Child : goal.returns-in-Child
+returns-in-Child g c =
+    let text = g.K.AsBytes.text in
+    let key = text c.args.key in
+    let old = c.args.arena.now in
+    let new = c.insert_child.new.arena in
+    let child = c.insert_child.ensures in
+    let law = c.no_text_begins_another.ensures [] in
+    let art = subst (IsArt text old) c.in-Some.is c.requires.art in
+    let short : length key < 2 ^ 32 = omega (arith, c.if-as_bytes.false, ap length c.as_bytes.ensures.text) in
+    let lacks = subst (λ x. LacksChild art.0 x c.in-Child.spot c.in-Child.byte) c.as_bytes-2.ensures.text (c.in-Child.ensures art.0 art.1.is_tree) in
+    let is_new = apart-new text old c.in-Some.root art.0 art.1 key short (child-apart law art.0 art.1.is_tree.sound key short c.in-Child.spot c.in-Child.byte lacks) in
+    let is = answered text old new c.args.key c.args.value c.insert_child.result child.art child.entered child.entry_back child.nodes_kept is_new (λ same. entries-stay text old new same c.in-Some.root art.0 art.1 (law art.0 art.1.is_tree.sound)) c.answer-in-Child.result c.answer-in-Child.ensures.added c.answer-in-Child.ensures.refused in
+    record { art = is.art; replaced = is.replaced; entered = is.entered; no_refusal = is.no_refusal; refusal_due = is.refusal_due; entry_back = is.entry_back; same_entries = is.same_entries; nodes_kept = is.nodes_kept }
+
+pub insert_fork-requires : goal.insert_fork-requires
+insert_fork-requires g c =
+    let text = g.K.AsBytes.text in
+    let arena = c.args.arena.now in
+    let art = subst (IsArt text arena) c.in-Some.is c.requires.art in
+    let short : length (text c.args.key) < 2 ^ 32 = omega (arith, c.if-as_bytes.false, ap length c.as_bytes.ensures.text) in
+    let place : (tree : Tree _) × IsAlone text arena c.in-Some.root tree × Parts tree (text c.args.key) c.in-Fork.spot c.in-Fork.fork =
+    (art.0, art.1, subst (λ key. Parts art.0 key c.in-Fork.spot c.in-Fork.fork) c.as_bytes-2.ensures.text (c.in-Fork.ensures art.0 art.1.is_tree)) in
+    search rules
+
+pub returns-in-Fork : goal.returns-in-Fork
+returns-in-Fork g c =
+    let text = g.K.AsBytes.text in
+    let key = text c.args.key in
+    let old = c.args.arena.now in
+    let new = c.insert_fork.new.arena in
+    let fork = c.insert_fork.ensures in
+    let law = c.no_text_begins_another.ensures [] in
+    let art = subst (IsArt text old) c.in-Some.is c.requires.art in
+    let short : length key < 2 ^ 32 = omega (arith, c.if-as_bytes.false, ap length c.as_bytes.ensures.text) in
+    let parts = subst (λ x. Parts art.0 x c.in-Fork.spot c.in-Fork.fork) c.as_bytes-2.ensures.text (c.in-Fork.ensures art.0 art.1.is_tree) in
+    let is_new = apart-new text old c.in-Some.root art.0 art.1 key short (fork-apart law art.0 art.1.is_tree.sound key short c.in-Fork.spot c.in-Fork.fork parts) in
+    let is = answered text old new c.args.key c.args.value c.insert_fork.result fork.art fork.entered fork.entry_back fork.nodes_kept is_new (λ same. entries-stay text old new same c.in-Some.root art.0 art.1 (law art.0 art.1.is_tree.sound)) c.answer-in-Fork.result c.answer-in-Fork.ensures.added c.answer-in-Fork.ensures.refused in
+    record { art = is.art; replaced = is.replaced; entered = is.entered; no_refusal = is.no_refusal; refusal_due = is.refusal_due; entry_back = is.entry_back; same_entries = is.same_entries; nodes_kept = is.nodes_kept }

@@ -1,0 +1,22 @@
+use Rattle.std.proofs.Common.{[], sym, subst}
+use Rattle.art_arena.specs.Trees.{Leaf}
+use Rattle.art_tree.specs.Art.{IsAlone}
+use Rattle.art_tree.specs.Search.{leaf_pointer}
+use Rattle.art_tree.proofs.InsertLemmas.{first-alone, first-entered}
+use Rattle.art_tree.proofs.insert.insert_first.Goals as goal
+
+pub returns-in-Ok-clause-art : goal.returns-in-Ok-clause-art
+returns-in-Ok-clause-art g c =
+    let text = g.K.AsBytes.text in
+    let leaf = c.with_no_siblings in
+    let alone = first-alone text c.args.arena.now c.allocate_node_ptr.new.self c.args.key c.args.value c.requires.empty c.in-Ok.leaf leaf.result c.in-Ok.ensures.added leaf.ensures.key leaf.ensures.value c.requires.short leaf.ensures.previous leaf.ensures.next in
+    (Leaf (leaf_pointer c.in-Ok.leaf) (text c.args.key), subst (λ root. IsAlone text c.allocate_node_ptr.new.self root (Leaf (leaf_pointer c.in-Ok.leaf) (text c.args.key))) (sym c.to_opaque.ensures) alone)
+
+pub returns-in-Ok-clause-entered : goal.returns-in-Ok-clause-entered
+returns-in-Ok-clause-entered g c =
+    let text = g.K.AsBytes.text in
+    let old = c.args.arena.now in
+    let new = c.allocate_node_ptr.new.self in
+    let leaf = c.with_no_siblings in
+    let alone = first-alone text old new c.args.key c.args.value c.requires.empty c.in-Ok.leaf leaf.result c.in-Ok.ensures.added leaf.ensures.key leaf.ensures.value c.requires.short leaf.ensures.previous leaf.ensures.next in
+    first-entered text old new c.args.key c.args.value c.requires.empty c.in-Ok.leaf leaf.result c.in-Ok.ensures.added leaf.ensures.key leaf.ensures.value alone (c.no_text_begins_another.ensures [] (Leaf (leaf_pointer c.in-Ok.leaf) (text c.args.key)) alone.is_tree.sound)

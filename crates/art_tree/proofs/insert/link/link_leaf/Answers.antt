@@ -1,0 +1,161 @@
+use Rattle.std.proofs.Common.{◌≡◌, ◌∙◌, ◌++◌, subst, rules, lit<}
+use Rattle.art_header.specs.declared.node_type.NodeType.TheVariants.{Leaf}
+use Rattle.art_nodes.specs.Pointers.{slab_key}
+use Rattle.art_arena.specs.Arena.{held, pointer_to, Nothing, HeldLeaf, Changes}
+use Rattle.art_arena.specs.Links.{text_at}
+use Rattle.art_tree.specs.declared.ends.End.TheVariants.{First, Last}
+use Rattle.art_tree.specs.Edits.{IsBeside, LiesBeside}
+use Rattle.art_tree.proofs.LinkLemmas.{new-held, new-unlinked, new-apart, sibling-knit, still-spelled, new-text, sibling-text, entry-held, others-stay, spelled-before, spelled-after}
+use Rattle.art_tree.proofs.Linking.{less-same}
+use Rattle.art_tree.proofs.Rising.{if-ok}
+use Rattle.art_tree.proofs.insert.link.link_leaf.Goals as goal
+
+pub insert_before-requires : goal.insert_before-requires
+insert_before-requires g c =
+    let old = c.args.arena.now in
+    let now = c.allocate_node_ptr.new.self in
+    let leaf = c.with_no_siblings.result in
+    let this = slab_key c.unwrap-leaf.result in
+    let free = if-ok (λ ptr. held old (pointer_to Leaf (slab_key ptr)) ≡ Nothing) c.allocate_node_ptr.result c.unwrap-leaf.result c.unwrap-leaf.ensures c.allocate_node_ptr.ensures.was_free in
+    let changes = if-ok (λ ptr. Changes old now (pointer_to Leaf (slab_key ptr)) (HeldLeaf leaf)) c.allocate_node_ptr.result c.unwrap-leaf.result c.unwrap-leaf.ensures c.allocate_node_ptr.ensures.added in
+    let sibling = slab_key c.args.sibling in
+    let order : LiesBeside First (g.K.AsBytes.text c.args.key) (text_at g.K.AsBytes.text old sibling) = subst (λ end. LiesBeside end (g.K.AsBytes.text c.args.key) (text_at g.K.AsBytes.text old sibling)) c.in-First.is c.requires.order in (
+      search rules,
+      (
+        search rules,
+        (
+          search rules,
+          (
+            search rules,
+            (
+              search rules,
+              (
+                lit< tt,
+                (
+                  new-held old now this leaf free changes,
+                  (
+                    new-unlinked old now this leaf free changes c.with_no_siblings.ensures.previous c.with_no_siblings.ensures.next,
+                    (
+                      new-apart old now this leaf free changes c.args.end sibling c.requires.gap,
+                      (
+                        sibling-knit old now this leaf free changes c.args.end sibling c.requires.gap,
+                        less-same _ _ _ _ (new-text old now this leaf free changes g.K.AsBytes.text c.args.key c.with_no_siblings.ensures.key) (sibling-text old now this leaf free changes g.K.AsBytes.text c.args.end sibling c.requires.gap) order,
+                      ),
+                    ),
+                  ),
+                ),
+              ),
+            ),
+          ),
+        ),
+      ),
+    )
+
+pub returns-in-First-clause-entry : goal.returns-in-First-clause-entry
+returns-in-First-clause-entry g c =
+    let old = c.args.arena.now in
+    let now = c.allocate_node_ptr.new.self in
+    let leaf = c.with_no_siblings.result in
+    let this = slab_key c.unwrap-leaf.result in
+    let free = if-ok (λ ptr. held old (pointer_to Leaf (slab_key ptr)) ≡ Nothing) c.allocate_node_ptr.result c.unwrap-leaf.result c.unwrap-leaf.ensures c.allocate_node_ptr.ensures.was_free in
+    let changes = if-ok (λ ptr. Changes old now (pointer_to Leaf (slab_key ptr)) (HeldLeaf leaf)) c.allocate_node_ptr.result c.unwrap-leaf.result c.unwrap-leaf.ensures c.allocate_node_ptr.ensures.added in
+    entry-held old now this leaf free changes c.insert_before.new.arena c.insert_before.ensures.contents c.args.key c.args.value c.with_no_siblings.ensures.key c.with_no_siblings.ensures.value
+
+pub returns-in-First-clause-spelled : goal.returns-in-First-clause-spelled
+returns-in-First-clause-spelled g c =
+    let old = c.args.arena.now in
+    let now = c.allocate_node_ptr.new.self in
+    let leaf = c.with_no_siblings.result in
+    let this = slab_key c.unwrap-leaf.result in
+    let free = if-ok (λ ptr. held old (pointer_to Leaf (slab_key ptr)) ≡ Nothing) c.allocate_node_ptr.result c.unwrap-leaf.result c.unwrap-leaf.ensures c.allocate_node_ptr.ensures.was_free in
+    let changes = if-ok (λ ptr. Changes old now (pointer_to Leaf (slab_key ptr)) (HeldLeaf leaf)) c.allocate_node_ptr.result c.unwrap-leaf.result c.unwrap-leaf.ensures c.allocate_node_ptr.ensures.added in
+    λ left right spelled beside.
+    spelled-before now c.insert_before.new.arena this (slab_key c.args.sibling) left right c.insert_before.ensures.spelled (still-spelled old now this leaf free changes (left ++ right) spelled) (subst (λ end. IsBeside end left right (slab_key c.args.sibling)) c.in-First.is beside)
+
+pub returns-in-First-clause-others : goal.returns-in-First-clause-others
+returns-in-First-clause-others g c =
+    let old = c.args.arena.now in
+    let now = c.allocate_node_ptr.new.self in
+    let leaf = c.with_no_siblings.result in
+    let this = slab_key c.unwrap-leaf.result in
+    let free = if-ok (λ ptr. held old (pointer_to Leaf (slab_key ptr)) ≡ Nothing) c.allocate_node_ptr.result c.unwrap-leaf.result c.unwrap-leaf.ensures c.allocate_node_ptr.ensures.was_free in
+    let changes = if-ok (λ ptr. Changes old now (pointer_to Leaf (slab_key ptr)) (HeldLeaf leaf)) c.allocate_node_ptr.result c.unwrap-leaf.result c.unwrap-leaf.ensures c.allocate_node_ptr.ensures.added in
+    others-stay old now this leaf free changes c.insert_before.new.arena c.insert_before.ensures.contents
+
+pub returns-in-First-clause-other_room : goal.returns-in-First-clause-other_room
+returns-in-First-clause-other_room g c = λ other differ. c.insert_before.ensures.room other ∙ c.allocate_node_ptr.ensures.other_room other differ
+
+pub insert_after-requires : goal.insert_after-requires
+insert_after-requires g c =
+    let old = c.args.arena.now in
+    let now = c.allocate_node_ptr.new.self in
+    let leaf = c.with_no_siblings.result in
+    let this = slab_key c.unwrap-leaf.result in
+    let free = if-ok (λ ptr. held old (pointer_to Leaf (slab_key ptr)) ≡ Nothing) c.allocate_node_ptr.result c.unwrap-leaf.result c.unwrap-leaf.ensures c.allocate_node_ptr.ensures.was_free in
+    let changes = if-ok (λ ptr. Changes old now (pointer_to Leaf (slab_key ptr)) (HeldLeaf leaf)) c.allocate_node_ptr.result c.unwrap-leaf.result c.unwrap-leaf.ensures c.allocate_node_ptr.ensures.added in
+    let sibling = slab_key c.args.sibling in
+    let order : LiesBeside Last (g.K.AsBytes.text c.args.key) (text_at g.K.AsBytes.text old sibling) = subst (λ end. LiesBeside end (g.K.AsBytes.text c.args.key) (text_at g.K.AsBytes.text old sibling)) c.in-Last.is c.requires.order in (
+      search rules,
+      (
+        search rules,
+        (
+          search rules,
+          (
+            search rules,
+            (
+              search rules,
+              (
+                lit< tt,
+                (
+                  new-held old now this leaf free changes,
+                  (
+                    new-unlinked old now this leaf free changes c.with_no_siblings.ensures.previous c.with_no_siblings.ensures.next,
+                    (
+                      new-apart old now this leaf free changes c.args.end sibling c.requires.gap,
+                      (
+                        sibling-knit old now this leaf free changes c.args.end sibling c.requires.gap,
+                        less-same _ _ _ _ (sibling-text old now this leaf free changes g.K.AsBytes.text c.args.end sibling c.requires.gap) (new-text old now this leaf free changes g.K.AsBytes.text c.args.key c.with_no_siblings.ensures.key) order,
+                      ),
+                    ),
+                  ),
+                ),
+              ),
+            ),
+          ),
+        ),
+      ),
+    )
+
+pub returns-in-Last-clause-entry : goal.returns-in-Last-clause-entry
+returns-in-Last-clause-entry g c =
+    let old = c.args.arena.now in
+    let now = c.allocate_node_ptr.new.self in
+    let leaf = c.with_no_siblings.result in
+    let this = slab_key c.unwrap-leaf.result in
+    let free = if-ok (λ ptr. held old (pointer_to Leaf (slab_key ptr)) ≡ Nothing) c.allocate_node_ptr.result c.unwrap-leaf.result c.unwrap-leaf.ensures c.allocate_node_ptr.ensures.was_free in
+    let changes = if-ok (λ ptr. Changes old now (pointer_to Leaf (slab_key ptr)) (HeldLeaf leaf)) c.allocate_node_ptr.result c.unwrap-leaf.result c.unwrap-leaf.ensures c.allocate_node_ptr.ensures.added in
+    entry-held old now this leaf free changes c.insert_after.new.arena c.insert_after.ensures.contents c.args.key c.args.value c.with_no_siblings.ensures.key c.with_no_siblings.ensures.value
+
+pub returns-in-Last-clause-spelled : goal.returns-in-Last-clause-spelled
+returns-in-Last-clause-spelled g c =
+    let old = c.args.arena.now in
+    let now = c.allocate_node_ptr.new.self in
+    let leaf = c.with_no_siblings.result in
+    let this = slab_key c.unwrap-leaf.result in
+    let free = if-ok (λ ptr. held old (pointer_to Leaf (slab_key ptr)) ≡ Nothing) c.allocate_node_ptr.result c.unwrap-leaf.result c.unwrap-leaf.ensures c.allocate_node_ptr.ensures.was_free in
+    let changes = if-ok (λ ptr. Changes old now (pointer_to Leaf (slab_key ptr)) (HeldLeaf leaf)) c.allocate_node_ptr.result c.unwrap-leaf.result c.unwrap-leaf.ensures c.allocate_node_ptr.ensures.added in
+    λ left right spelled beside.
+    spelled-after now c.insert_after.new.arena this (slab_key c.args.sibling) left right c.insert_after.ensures.spelled (still-spelled old now this leaf free changes (left ++ right) spelled) (subst (λ end. IsBeside end left right (slab_key c.args.sibling)) c.in-Last.is beside)
+
+pub returns-in-Last-clause-others : goal.returns-in-Last-clause-others
+returns-in-Last-clause-others g c =
+    let old = c.args.arena.now in
+    let now = c.allocate_node_ptr.new.self in
+    let leaf = c.with_no_siblings.result in
+    let this = slab_key c.unwrap-leaf.result in
+    let free = if-ok (λ ptr. held old (pointer_to Leaf (slab_key ptr)) ≡ Nothing) c.allocate_node_ptr.result c.unwrap-leaf.result c.unwrap-leaf.ensures c.allocate_node_ptr.ensures.was_free in
+    let changes = if-ok (λ ptr. Changes old now (pointer_to Leaf (slab_key ptr)) (HeldLeaf leaf)) c.allocate_node_ptr.result c.unwrap-leaf.result c.unwrap-leaf.ensures c.allocate_node_ptr.ensures.added in
+    others-stay old now this leaf free changes c.insert_after.new.arena c.insert_after.ensures.contents
+
+pub returns-in-Last-clause-other_room : goal.returns-in-Last-clause-other_room
+returns-in-Last-clause-other_room g c = λ other differ. c.insert_after.ensures.room other ∙ c.allocate_node_ptr.ensures.other_room other differ

@@ -1,0 +1,31 @@
+use Rattle.std.proofs.Common.{◌∙◌, [], Some, ap, sym}
+use Rattle.art_nodes.specs.Leaf.{leaf_key, leaf_value, previous_key, next_key}
+use Rattle.art_tree.specs.Search.{leaf_pointer}
+use Rattle.art_tree.proofs.DictionaryLemmas.{leaf-held-in}
+use Rattle.art_tree.proofs.InsertLemmas.{one-leaf, replaced-alone, replaced-entered, replaced-was}
+use Rattle.art_tree.proofs.insert.replace_entry.Goals as goal
+
+pub returns : goal.returns
+returns g c = λ root tree alone inside.
+    let text = g.K.AsBytes.text in
+    let old = c.args.arena.now in
+    let new = c.replace.new.self in
+    let at = leaf_pointer c.args.leaf in
+    let apart = c.no_text_begins_another.ensures [] tree alone.is_tree.sound in
+    let was = c.replace.result in
+    let now = c.set_links.new.self in
+    let is = c.replace.ensures.replaced_node in
+    let links = c.set_links.ensures in
+    let changes = c.replace.ensures.replaced in
+    let there = leaf-held-in text old tree alone.is_tree.stands at (text c.args.key) inside in
+    let same_text = ap (λ l. text (leaf_key l)) (one-leaf _ was there.0 is there.1) ∙ there.2 in
+    let before = one-leaf _ c.as_ref-old.result.now was c.as_ref-old.ensures is in
+    let is_key = ap leaf_key links ∙ c.with_no_siblings-new.ensures.key in
+    let is_value = ap leaf_value links ∙ c.with_no_siblings-new.ensures.value in
+    let same_previous = ap previous_key links ∙ c.previous-previous.ensures ∙ ap previous_key before in
+    let same_next = ap next_key links ∙ c.next-next.ensures ∙ ap next_key before in
+    (
+      replaced-alone text old new c.args.key c.args.value at was now is changes is_key is_value same_text same_previous same_next root tree alone,
+      replaced-entered text old new c.args.key c.args.value at was now is changes is_key is_value same_text same_previous same_next root tree alone apart inside,
+      replaced-was text old new c.args.key c.args.value at was now is changes is_key is_value root tree alone apart same_text ∙ ap Some (λ i. (sym c.into_entry.ensures.key i, sym c.into_entry.ensures.value i)),
+    )

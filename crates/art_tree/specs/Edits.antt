@@ -1,0 +1,75 @@
+-- What the steps of an insert do to an arena. No public clause cites it.
+use Rattle.std.specs.Prelude.{◌≡◌, ◌≢◌, ◌⊎◌, ℕ, ◌<◌, List, ◌++◌, length, take}
+use Rattle.art_header.specs.Header.{capped}
+use Rattle.art_header.specs.NodeType.{most_children, grown_kind}
+use Rattle.std.specs.declared.cmp.Ordering.TheVariants.{Less}
+use Rattle.art_bytes.specs.Text.{text_order}
+use Rattle.art_nodes.specs.ChildMap.{child_at}
+use Rattle.art_nodes.specs.Inner.{Inner, node_with_child}
+use Rattle.art_nodes.specs.Leaf.{leaf_key, leaf_value}
+use Rattle.art_nodes.specs.Pointers.{node_kind}
+use Rattle.art_nodes.specs.declared.pointers.OpaqueNodePtr.{OpaqueNodePtr}
+use Rattle.art_nodes.specs.declared.leaf_node.LeafNode.{LeafNode}
+use Rattle.art_arena.specs.Arena.{ArenaOf, HeldInner, HeldLeaf, Nothing, held, room, Changes}
+use Rattle.art_arena.specs.Links.{Spells}
+use Rattle.art_tree.specs.Contexts.{KeepsAt}
+use Rattle.art_tree.specs.Ends.{put_at}
+use Rattle.art_tree.specs.declared.ends.End.{End}
+use Rattle.art_tree.specs.declared.ends.End.TheVariants.{First, Last}
+
+-- a member stands beside a gap of a list: the first one right of it, or the last one left of it
+abbrev pub IsBeside : {A : Type 0} → End → List A → List A → A → Type 0
+IsBeside First left right member = (others : List _) × (right ≡ put_at First member others)
+IsBeside Last left right member = (others : List _) × (left ≡ put_at Last member others)
+
+-- a new text lies on the side of another where it is to stand: before the first one right of the gap, or after the last one left of it
+abbrev pub LiesBeside : End → List ℕ → List ℕ → Type 0
+LiesBeside First text other = text_order text other ≡ Less
+LiesBeside Last text other = text_order other text ≡ Less
+
+-- the node with a prefix of which it stores as much as there is room for
+abbrev pub node_with_prefix : {H : Type 0} → ℕ → Inner H → List ℕ → Inner H
+node_with_prefix room node prefix = record node { prefix_len = length prefix; stored = take (capped room (length prefix)) prefix }
+
+module _ {K V : Type 0} {P : ℕ} where
+  -- the links spell a list with a gap beside this leaf
+  pub record HasGap (arena : ArenaOf K V P) (end : End) (sibling : ℕ) : Type 0 where
+    pub left : List ℕ
+    pub right : List ℕ
+    pub spelled : Spells arena (left ++ right)
+    pub beside : IsBeside end left right sibling
+
+  -- the pointer holds what it held, but for the links of a leaf
+  pub record StaysAt (old new : ArenaOf K V P) (pointer : OpaqueNodePtr K V P) : Type 0 where
+    pub nothing : held old pointer ≡ Nothing → held new pointer ≡ Nothing
+    pub keeps : KeepsAt old new pointer
+
+  -- a leaf with this key and this value stands at the pointer
+  pub record HoldsEntry (arena : ArenaOf K V P) (pointer : OpaqueNodePtr K V P) (k : K) (v : V) : Type 0 where
+    pub leaf : LeafNode K V P
+    pub is_held : held arena pointer ≡ HeldLeaf leaf
+    pub key : leaf_key leaf ≡ k
+    pub value : leaf_value leaf ≡ v
+
+  -- where the inner node at the pointer is full, there is room for one of the next kind
+  abbrev pub HasRoomToGrow : ArenaOf K V P → OpaqueNodePtr K V P → Type 0
+  HasRoomToGrow arena pointer = (node : Inner (OpaqueNodePtr K V P)) → held arena pointer ≡ HeldInner node → length node.children ≡ most_children (node_kind pointer) → 0 < room arena (grown_kind (node_kind pointer))
+
+  -- the node is written in its place
+  pub record IsWritten (old new : ArenaOf K V P) (pointer : OpaqueNodePtr K V P) (node now : Inner (OpaqueNodePtr K V P)) (at : OpaqueNodePtr K V P) : Type 0 where
+    pub few : length node.children < most_children (node_kind pointer)
+    pub same : at ≡ pointer
+    pub changes : Changes old new pointer (HeldInner now)
+
+  -- the node, which was full, is written to a new place as one of the next kind, and its old place is free
+  pub record IsMoved (old new : ArenaOf K V P) (pointer : OpaqueNodePtr K V P) (node now : Inner (OpaqueNodePtr K V P)) (at : OpaqueNodePtr K V P) : Type 0 where
+    pub full : length node.children ≡ most_children (node_kind pointer)
+    pub kind : node_kind at ≡ grown_kind (node_kind pointer)
+    pub was_free : held old at ≡ Nothing
+    pub is_held : held new at ≡ HeldInner now
+    pub is_free : held new pointer ≡ Nothing
+    pub others : (other : OpaqueNodePtr K V P) → other ≢ at → other ≢ pointer → held new other ≡ held old other
+
+  -- the inner node has one child more, at its place or at a new one
+  abbrev pub HasOneMore : ArenaOf K V P → ArenaOf K V P → OpaqueNodePtr K V P → Inner (OpaqueNodePtr K V P) → Inner (OpaqueNodePtr K V P) → OpaqueNodePtr K V P → Type 0
+  HasOneMore old new pointer node now at = IsWritten old new pointer node now at ⊎ IsMoved old new pointer node now at

@@ -1,0 +1,68 @@
+-- Where a text belongs in a tree. No public clause cites it.
+use Rattle.std.specs.Prelude.{◌≡◌, ◌≢◌, ℕ, ◌≤◌, List, [], ◌∷◌, ◌++◌, length, take, Contains, Option, Some, None, slice_get}
+use Rattle.art_bytes.specs.Text.{IsFront}
+use Rattle.art_nodes.specs.ChildMap.{child_at}
+use Rattle.art_nodes.specs.declared.pointers.OpaqueNodePtr.{OpaqueNodePtr}
+use Rattle.art_arena.specs.Arena.{ArenaOf}
+use Rattle.art_arena.specs.Standing.{StandsIn}
+use Rattle.art_arena.specs.Trees.{Tree, Leaf, Inner, Branches, branch_roots, root_of, leaves, texts, IsWellFormed}
+use Rattle.art_tree.specs.Contexts.{Context, Whole, Under, plug, path_to}
+use Rattle.art_tree.specs.Dictionary.{Clashes}
+use Rattle.art_tree.specs.Search.{leaf_pointer}
+use Rattle.art_tree.specs.declared.insert.place.Fork.{Fork}
+use Rattle.art_tree.specs.declared.insert.place.Place.{Place}
+use Rattle.art_tree.specs.declared.insert.place.Place.TheVariants as places
+use Rattle.art_tree.specs.declared.insert.place.Spot.{Spot}
+
+module _ {H : Type 0} where
+  -- the node above the place, with the byte of the place
+  abbrev pub above : Context H → Option (H × ℕ)
+  above Whole = None
+  above (Under rest pointer prefix before byte after) = Some (pointer, byte)
+
+  -- the bytes that the top of a tree tells of its texts, where this is the path to it
+  abbrev pub reach : List ℕ → Tree H → List ℕ
+  reach path (Leaf pointer text) = text
+  reach path (Inner pointer prefix branches) = path ++ prefix
+
+module _ {K V : Type 0} {P : ℕ} (tree : Tree (OpaqueNodePtr K V P)) (key : List ℕ) (spot : Spot K V P) where
+  -- the key leads to this node of the tree, which hangs under this parent
+  pub record IsSpot : Type 0 where
+    pub context : Context (OpaqueNodePtr K V P)
+    pub part : Tree (OpaqueNodePtr K V P)
+    pub whole : plug context part ≡ tree
+    pub at_root : root_of part ≡ spot.node
+    pub leads : IsFront (path_to context) key
+    pub deep : length (path_to context) ≡ spot.depth
+    pub hangs : above context ≡ spot.parent
+
+  -- the key leads past all of the inner node's prefix, and there is no branch under its next byte
+  pub record LacksChild (byte : ℕ) : Type 0 where
+    pub at : IsSpot
+    pub prefix : List ℕ
+    pub branches : Branches (OpaqueNodePtr K V P)
+    pub part : at.part ≡ Inner spot.node prefix branches
+    pub leads : IsFront ((path_to at.context ++ prefix) ++ byte ∷ []) key
+    pub absent : child_at (branch_roots branches) byte ≡ None
+
+  -- at this index the key has another byte than all texts at the node, which it is like before
+  pub record Parts (fork : Fork) : Type 0 where
+    pub at : IsSpot
+    pub later : spot.depth ≤ fork.index
+    pub byte : slice_get key fork.index ≡ Some fork.byte
+    pub node : IsFront (take fork.index key ++ fork.node_byte ∷ []) (reach (path_to at.context) at.part)
+    pub differ : fork.byte ≢ fork.node_byte
+
+-- the key leads to this node of a well-formed tree that stands in an arena
+pub record IsSpotIn {K V : Type 0} {P : ℕ} (text : K → List ℕ) (arena : ArenaOf K V P) (tree : Tree (OpaqueNodePtr K V P)) (key : List ℕ) (spot : Spot K V P) : Type 0 where
+  pub stands : StandsIn text arena tree
+  pub sound : IsWellFormed tree
+  pub at : IsSpot tree key spot
+
+module _ {K V : Type 0} {P : ℕ} (tree : Tree (OpaqueNodePtr K V P)) (key : List ℕ) where
+  -- the key belongs to this place of the tree
+  abbrev pub Belongs : Place K V P → Type 0
+  Belongs (places.Present leaf) = Contains (leaves tree) (leaf_pointer leaf, key)
+  Belongs places.Clash = Clashes (texts tree) key
+  Belongs (places.Child spot byte) = LacksChild tree key spot byte
+  Belongs (places.Fork spot fork) = Parts tree key spot fork

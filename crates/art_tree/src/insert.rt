@@ -1,0 +1,324 @@
+//! An entry more in a tree, or another one in the place of one.
+ghost use Rattle.std.specs.Prelude.{◌≡◌, ◌≢◌, ◌<◌, ◌^◌, ℕ, nat_lt, if◌then◌else◌, length, Contains, Some, None, Ok, Err, IfOk, IfErr, OnOk, OnErr};
+ghost use Rattle.std.specs.Option.{option_map};
+ghost use Rattle.std.specs.declared.ops.Bound.TheVariants.{Excluded, Unbounded};
+ghost use Rattle.art_header.specs.declared.node_type.NodeType.TheVariants.{Leaf, Node4};
+ghost use Rattle.art_nodes.specs.ChildMap.{first_pair, pairs_within};
+ghost use Rattle.art_nodes.specs.Inner.{Inner};
+ghost use Rattle.art_nodes.specs.Pointers.{slab_key};
+ghost use Rattle.art_arena.specs.Arena.{held, HeldInner, Nothing, room, SameNodes};
+ghost use Rattle.art_arena.specs.Links.{HoldsLeaf};
+ghost use Rattle.art_arena.specs.Trees.{leaves, branch_leaves};
+ghost use Rattle.art_tree.specs.Art.{IsArt, IsAlone};
+ghost use Rattle.art_tree.specs.Dictionary.{entry_at};
+ghost use Rattle.art_tree.specs.Edits.{HasRoomToGrow};
+ghost use Rattle.art_tree.specs.Hanging.{CanHang, HasPlaceAt, IsHung, StandsBeside};
+ghost use Rattle.art_tree.specs.Inserting.{IsEntered, IsRefused, MayEnter, SameEntries};
+ghost use Rattle.art_tree.specs.Places.{LacksChild, Parts};
+ghost use Rattle.art_tree.specs.Search.{leaf_pointer};
+ghost use Rattle.art_tree.specs.declared.ends.End.TheVariants.{First, Last};
+ghost use Rattle.art_tree.specs.declared.insert.InsertRefusal.TheVariants.{OutOfMemory};
+
+pub(crate) mod link;
+pub(crate) mod node;
+pub(crate) mod place;
+
+use crate::ends::{End, end_leaf};
+use crate::insert::link::link_leaf;
+use crate::insert::node::{add_child, fork_node, reserve_growth, trim, write_child};
+use crate::insert::place::{Fork, Place, Spot, find_place};
+use crate::laws::{each_pointer_is_at_one_place, no_text_begins_another, texts_ascend};
+use art_arena::NodeArena;
+use art_bytes::AsBytes;
+use art_nodes::{
+    ConcreteNodePtr, InnerNodeCommon, LeafNode, NodePtr, NodeType, OpaqueNodePtr,
+};
+use std::alloc::AllocError;
+use std::ops::Bound;
+
+/// Why [`ArtTree::insert`](crate::ArtTree::insert) refuses an entry.
+#[derive(Clone, Copy, PartialEq, Eq)]
+pub enum InsertRefusal {
+    /// The key has 2^32 bytes or more.
+    KeyTooLong,
+    /// The key is a proper front of one that is there, or one that is there of the key.
+    Prefix,
+    /// Memory was refused. Nothing is wrong with the key, and no entry has its text.
+    OutOfMemory,
+}
+
+/// An entry that was refused, and why.
+pub struct InsertFault<K, V> {
+    /// What refused it.
+    pub refusal: InsertRefusal,
+    /// The key.
+    pub key: K,
+    /// The value.
+    pub value: V,
+}
+
+/// Makes a tree of one leaf in an arena that holds nothing, and answers the root. Where memory is
+/// refused, the entry comes back.
+pub(crate) fn insert_first<K: AsBytes, V, const PREFIX_LEN: usize>(
+    arena: &mut NodeArena<K, V, PREFIX_LEN>,
+    key: K,
+    value: V,
+) -> Result<OpaqueNodePtr<K, V, PREFIX_LEN>, (K, V)>
+    requires empty { IsArt K.text arena.old None }
+    requires short { length (K.text key) < 2 ^ 32 }
+    ensures art { IfOk result (λ root. IsArt K.text arena.new (Some root)) }
+    ensures entered { OnOk result (IsEntered K.text arena.old arena.new key value) }
+    ensures entry_back { IfErr result (λ entry. entry ≡ (key, value)) }
+    ensures nodes_kept { OnErr result (SameNodes arena.old arena.new) }
+{
+    no_text_begins_another::<OpaqueNodePtr<K, V, PREFIX_LEN>>();
+    match arena.allocate_node_ptr(LeafNode::with_no_siblings(key, value)) {
+        Ok(leaf) => Ok(leaf.to_opaque()),
+        Err((_, leaf)) => Err(leaf.into_entry()),
+    }
+}
+
+/// Puts the entry in the place of that of a leaf with its text, which it answers.
+pub(crate) fn replace_entry<K: AsBytes, V, const PREFIX_LEN: usize>(
+    arena: &mut NodeArena<K, V, PREFIX_LEN>,
+    leaf: NodePtr<PREFIX_LEN, LeafNode<K, V, PREFIX_LEN>>,
+    key: K,
+    value: V,
+) -> (K, V)
+    requires { HoldsLeaf arena.old (slab_key leaf) }
+    ensures { (root : _) (tree : _) → IsAlone K.text arena.old root tree →
+        Contains (leaves tree) (leaf_pointer leaf, K.text key) →
+        IsAlone K.text arena.new root tree × IsEntered K.text arena.old arena.new key value ×
+        (entry_at K.text arena.old (K.text key) ≡ Some result) }
+{
+    no_text_begins_another::<OpaqueNodePtr<K, V, PREFIX_LEN>>();
+    let old = arena.as_ref(leaf);
+    let (previous, next) = (old.previous(), old.next());
+    let mut new = LeafNode::with_no_siblings(key, value);
+    new.set_links(previous, next);
+    arena.replace(leaf, new).into_entry()
+}
+
+// The child of the inner node under the least byte above this one.
+fn child_above_in<K, V, const PREFIX_LEN: usize, N: InnerNodeCommon<K, V, PREFIX_LEN>>(
+    node: &N,
+    byte: u8,
+) -> Option<OpaqueNodePtr<K, V, PREFIX_LEN>>
+    ensures { result ≡ option_map (λ pair. pair.1)
+        (first_pair (pairs_within (N.inner node.now).children (Excluded byte) Unbounded)) }
+{
+    let (_, child) = node.range(Bound::Excluded(byte), Bound::Unbounded).next()?;
+    Some(child)
+}
+
+// The same for the inner node at this pointer. A leaf has none.
+fn child_above<K, V, const PREFIX_LEN: usize>(
+    arena: &NodeArena<K, V, PREFIX_LEN>,
+    pointer: OpaqueNodePtr<K, V, PREFIX_LEN>,
+    byte: u8,
+) -> Option<OpaqueNodePtr<K, V, PREFIX_LEN>>
+    requires { held arena.now pointer ≢ Nothing }
+    ensures { (node : Inner _) → held arena.now pointer ≡ HeldInner node → result ≡ option_map
+        (λ pair. pair.1) (first_pair (pairs_within node.children (Excluded byte) Unbounded)) }
+{
+    match pointer.to_node_ptr() {
+        ConcreteNodePtr::Node4(node) => child_above_in(arena.as_ref(node), byte),
+        ConcreteNodePtr::Node16(node) => child_above_in(arena.as_ref(node), byte),
+        ConcreteNodePtr::Node48(node) => child_above_in(arena.as_ref(node), byte),
+        ConcreteNodePtr::Node256(node) => child_above_in(arena.as_ref(node), byte),
+        ConcreteNodePtr::LeafNode(_) => None,
+    }
+}
+
+// The leaf beside the place of a child under the byte: the first one after it, or else the last one
+// before it.
+fn leaf_beside<K: AsBytes, V, const PREFIX_LEN: usize>(
+    arena: &NodeArena<K, V, PREFIX_LEN>,
+    pointer: OpaqueNodePtr<K, V, PREFIX_LEN>,
+    byte: u8,
+) -> (NodePtr<PREFIX_LEN, LeafNode<K, V, PREFIX_LEN>>, End)
+    requires { HasPlaceAt K.text arena.now pointer byte }
+    ensures { (place : HasPlaceAt K.text arena.now pointer byte) → StandsBeside result.1
+        (branch_leaves place.before) (branch_leaves place.after) (leaf_pointer result.0) }
+{
+    match child_above(arena, pointer, byte) {
+        Some(child) => (end_leaf(arena, child, End::First), End::First),
+        None => (end_leaf(arena, pointer, End::Last), End::Last),
+    }
+}
+
+// Hangs a node where another one hung, under its parent or as the root. Answers the root.
+fn hang<K, V, const PREFIX_LEN: usize>(
+    arena: &mut NodeArena<K, V, PREFIX_LEN>,
+    root: OpaqueNodePtr<K, V, PREFIX_LEN>,
+    parent: Option<(OpaqueNodePtr<K, V, PREFIX_LEN>, u8)>,
+    node: OpaqueNodePtr<K, V, PREFIX_LEN>,
+) -> OpaqueNodePtr<K, V, PREFIX_LEN>
+    requires { CanHang arena.old parent }
+    ensures { IsHung arena.old arena.new parent node root result }
+{
+    let Some((parent, byte)) = parent else {
+        return node;
+    };
+    write_child(arena, parent, byte, node);
+    root
+}
+
+fn reserve_for_child<K, V, const PREFIX_LEN: usize>(
+    arena: &mut NodeArena<K, V, PREFIX_LEN>,
+    pointer: OpaqueNodePtr<K, V, PREFIX_LEN>,
+) -> Result<(), AllocError>
+    requires { held arena.old pointer ≢ Nothing }
+    ensures leaf_room { OnOk result (0 < room arena.new Leaf) }
+    ensures room { OnOk result (HasRoomToGrow arena.new pointer) }
+    ensures nodes_kept { SameNodes arena.old arena.new }
+{
+    arena.reserve(NodeType::Leaf, 1)?;
+    reserve_growth(arena, pointer)
+}
+
+fn reserve_for_fork<K, V, const PREFIX_LEN: usize>(
+    arena: &mut NodeArena<K, V, PREFIX_LEN>,
+) -> Result<(), AllocError>
+    ensures leaf_room { OnOk result (0 < room arena.new Leaf) }
+    ensures node_room { OnOk result (0 < room arena.new Node4) }
+    ensures nodes_kept { SameNodes arena.old arena.new }
+{
+    arena.reserve(NodeType::Leaf, 1)?;
+    arena.reserve(NodeType::Node4, 1)
+}
+
+/// Hangs a new leaf under a byte of an inner node that has no child there. Answers the root. Where
+/// memory is refused, the entry comes back.
+pub(crate) fn insert_child<K: AsBytes, V, const PREFIX_LEN: usize>(
+    arena: &mut NodeArena<K, V, PREFIX_LEN>,
+    root: OpaqueNodePtr<K, V, PREFIX_LEN>,
+    spot: Spot<K, V, PREFIX_LEN>,
+    byte: u8,
+    key: K,
+    value: V,
+) -> Result<OpaqueNodePtr<K, V, PREFIX_LEN>, (K, V)>
+    requires short { length (K.text key) < 2 ^ 32 }
+    requires place { (tree : _) × IsAlone K.text arena.old root tree ×
+        LacksChild tree (K.text key) spot byte }
+    ensures art { IfOk result (λ root. IsArt K.text arena.new (Some root)) }
+    ensures entered { OnOk result (IsEntered K.text arena.old arena.new key value) }
+    ensures entry_back { IfErr result (λ entry. entry ≡ (key, value)) }
+    ensures nodes_kept { OnErr result (SameNodes arena.old arena.new) }
+{
+    no_text_begins_another::<OpaqueNodePtr<K, V, PREFIX_LEN>>();
+    texts_ascend::<OpaqueNodePtr<K, V, PREFIX_LEN>>();
+    each_pointer_is_at_one_place::<K, V, PREFIX_LEN>();
+    if reserve_for_child(arena, spot.node).is_err() {
+        return Err((key, value));
+    }
+    let (sibling, end) = leaf_beside(arena, spot.node, byte);
+    let leaf = link_leaf(arena, key, value, sibling, end);
+    let node = add_child(arena, spot.node, byte, leaf.to_opaque());
+    Ok(hang(arena, root, spot.parent, node))
+}
+
+// The end of the leaves below a node that is beside a key which parts from them.
+fn near_end(fork: Fork) -> End
+    ensures end { result ≡ (if nat_lt fork.byte fork.node_byte then First else Last) }
+    ensures bytes { (fork.byte < 256) × (fork.node_byte < 256) }
+{
+    if fork.byte < fork.node_byte {
+        End::First
+    } else {
+        End::Last
+    }
+}
+
+/// Hangs a new leaf and the node that its key parts from under a new node. Answers the root. Where
+/// memory is refused, the entry comes back.
+pub(crate) fn insert_fork<K: AsBytes, V, const PREFIX_LEN: usize>(
+    arena: &mut NodeArena<K, V, PREFIX_LEN>,
+    root: OpaqueNodePtr<K, V, PREFIX_LEN>,
+    spot: Spot<K, V, PREFIX_LEN>,
+    fork: Fork,
+    key: K,
+    value: V,
+) -> Result<OpaqueNodePtr<K, V, PREFIX_LEN>, (K, V)>
+    requires short { length (K.text key) < 2 ^ 32 }
+    requires place { (tree : _) × IsAlone K.text arena.old root tree ×
+        Parts tree (K.text key) spot fork }
+    ensures art { IfOk result (λ root. IsArt K.text arena.new (Some root)) }
+    ensures entered { OnOk result (IsEntered K.text arena.old arena.new key value) }
+    ensures entry_back { IfErr result (λ entry. entry ≡ (key, value)) }
+    ensures nodes_kept { OnErr result (SameNodes arena.old arena.new) }
+{
+    no_text_begins_another::<OpaqueNodePtr<K, V, PREFIX_LEN>>();
+    texts_ascend::<OpaqueNodePtr<K, V, PREFIX_LEN>>();
+    each_pointer_is_at_one_place::<K, V, PREFIX_LEN>();
+    if reserve_for_fork(arena).is_err() {
+        return Err((key, value));
+    }
+    let end = near_end(fork);
+    let sibling = end_leaf(arena, spot.node, end);
+    let leaf = link_leaf(arena, key, value, sibling, end);
+    trim(arena, spot.node, spot.depth, fork.index + 1 - spot.depth, sibling);
+    let node = fork_node(arena, leaf, spot.node, spot.depth, fork);
+    Ok(hang(arena, root, spot.parent, node))
+}
+
+// What the insert of a new text answers: the root, and that no entry was replaced.
+fn answer<K, V, const PREFIX_LEN: usize>(
+    added: Result<OpaqueNodePtr<K, V, PREFIX_LEN>, (K, V)>,
+) -> Result<(OpaqueNodePtr<K, V, PREFIX_LEN>, Option<(K, V)>), InsertFault<K, V>>
+    ensures added { (root : _) → added ≡ Ok root → result ≡ Ok (root, None) }
+    ensures refused { (key value : _) → added ≡ Err (key, value) →
+        result ≡ Err (record { refusal = OutOfMemory; key = key; value = value }) }
+{
+    match added {
+        Ok(root) => Ok((root, None)),
+        Err((key, value)) => Err(InsertFault {
+            refusal: InsertRefusal::OutOfMemory,
+            key,
+            value,
+        }),
+    }
+}
+
+/// Adds an entry to the tree that an arena holds, or replaces the one with its text, and answers the
+/// root and the entry that was there. What is refused comes back.
+pub(crate) fn insert_entry<K: AsBytes, V, const PREFIX_LEN: usize>(
+    arena: &mut NodeArena<K, V, PREFIX_LEN>,
+    root: Option<OpaqueNodePtr<K, V, PREFIX_LEN>>,
+    key: K,
+    value: V,
+) -> Result<(OpaqueNodePtr<K, V, PREFIX_LEN>, Option<(K, V)>), InsertFault<K, V>>
+    requires art { IsArt K.text arena.old root }
+    ensures art { IfOk result (λ (root, before). IsArt K.text arena.new (Some root)) }
+    ensures replaced { IfOk result
+        (λ (root, before). before ≡ entry_at K.text arena.old (K.text key)) }
+    ensures entered { OnOk result (IsEntered K.text arena.old arena.new key value) }
+    ensures no_refusal { OnOk result (MayEnter K.text arena.old (K.text key)) }
+    ensures refusal_due { IfErr result
+        (λ fault. IsRefused K.text arena.old (K.text key) fault.refusal) }
+    ensures entry_back { IfErr result (λ fault. (fault.key ≡ key) × (fault.value ≡ value)) }
+    ensures same_entries { OnErr result (SameEntries K.text arena.old arena.new) }
+    ensures nodes_kept { OnErr result (SameNodes arena.old arena.new) }
+{
+    no_text_begins_another::<OpaqueNodePtr<K, V, PREFIX_LEN>>();
+    if key.as_bytes().len() >= 1 << 32 {
+        return Err(InsertFault {
+            refusal: InsertRefusal::KeyTooLong,
+            key,
+            value,
+        });
+    }
+    let Some(root) = root else {
+        return answer(insert_first(arena, key, value));
+    };
+    match find_place(arena, root, key.as_bytes()) {
+        Place::Present(leaf) => Ok((root, Some(replace_entry(arena, leaf, key, value)))),
+        Place::Clash => Err(InsertFault {
+            refusal: InsertRefusal::Prefix,
+            key,
+            value,
+        }),
+        Place::Child { spot, byte } => answer(insert_child(arena, root, spot, byte, key, value)),
+        Place::Fork { spot, fork } => answer(insert_fork(arena, root, spot, fork, key, value)),
+    }
+}

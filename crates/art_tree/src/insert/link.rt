@@ -1,0 +1,44 @@
+//! A new leaf beside another.
+ghost use Rattle.std.specs.Prelude.{◌≡◌, ◌≢◌, ◌<◌, ◌++◌, ◌∷◌, ℕ, List};
+ghost use Rattle.art_header.specs.declared.node_type.NodeType.TheVariants.{Leaf};
+ghost use Rattle.art_nodes.specs.Pointers.{slab_key};
+ghost use Rattle.art_arena.specs.Arena.{held, room, Nothing, SameOtherRoom};
+ghost use Rattle.art_arena.specs.Links.{Spells, text_at};
+ghost use Rattle.art_tree.specs.Edits.{HasGap, HoldsEntry, IsBeside, LiesBeside, StaysAt};
+ghost use Rattle.art_tree.specs.Search.{leaf_pointer};
+
+use crate::ends::End;
+use art_arena::{LeafLinks, NodeArena};
+use art_bytes::AsBytes;
+use art_nodes::{LeafNode, NodePtr};
+
+/// Keeps the entry in a new leaf, linked before the sibling where that is the first one right of
+/// its place, and else after it. There has to be room for a leaf.
+pub(crate) fn link_leaf<K: AsBytes, V, const PREFIX_LEN: usize>(
+    arena: &mut NodeArena<K, V, PREFIX_LEN>,
+    key: K,
+    value: V,
+    sibling: NodePtr<PREFIX_LEN, LeafNode<K, V, PREFIX_LEN>>,
+    end: End,
+) -> NodePtr<PREFIX_LEN, LeafNode<K, V, PREFIX_LEN>>
+    requires room { 0 < room arena.old Leaf }
+    requires gap { HasGap arena.old end (slab_key sibling) }
+    requires order { LiesBeside end (K.text key) (text_at K.text arena.old (slab_key sibling)) }
+    ensures was_free { held arena.old (leaf_pointer result) ≡ Nothing }
+    ensures entry { HoldsEntry arena.new (leaf_pointer result) key value }
+    ensures spelled { (left right : List ℕ) → Spells arena.old (left ++ right) →
+        IsBeside end left right (slab_key sibling) →
+        Spells arena.new (left ++ slab_key result ∷ right) }
+    ensures others { (pointer : _) → pointer ≢ leaf_pointer result →
+        StaysAt arena.old arena.new pointer }
+    ensures other_room { SameOtherRoom arena.old arena.new Leaf }
+{
+    let leaf = arena
+        .allocate_node_ptr(LeafNode::with_no_siblings(key, value))
+        .unwrap();
+    match end {
+        End::First => LeafNode::insert_before(arena, leaf, sibling),
+        End::Last => LeafNode::insert_after(arena, leaf, sibling),
+    }
+    leaf
+}

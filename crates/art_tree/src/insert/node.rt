@@ -1,0 +1,225 @@
+//! What an insert does to inner nodes.
+ghost use Rattle.std.specs.Prelude.{◌≡◌, ◌≢◌, ◌↔◌, ◌<◌, ◌≤◌, ◌+◌, ◌-◌, ◌^◌, ◌++◌, ℕ, List, length, take, drop, None, OnOk, IsTrue};
+ghost use Rattle.art_header.specs.Header.{StandsFor};
+ghost use Rattle.art_header.specs.NodeType.{most_children, grown_kind};
+ghost use Rattle.art_header.specs.declared.node_type.NodeType.TheVariants.{Leaf, Node4};
+ghost use Rattle.art_nodes.specs.ChildMap.{child_at};
+ghost use Rattle.art_nodes.specs.Inner.{Inner, HasRoomFor, header_of, node_with_child};
+ghost use Rattle.art_nodes.specs.Pointers.{node_kind, slab_key};
+ghost use Rattle.art_arena.specs.Arena.{held, HeldInner, Nothing, pointer_to, room, Changes, SameNodes, SameRoom};
+ghost use Rattle.art_arena.specs.Links.{HoldsLeaf, text_at};
+ghost use Rattle.art_tree.specs.Edits.{HasOneMore, HasRoomToGrow, IsMoved, node_with_prefix};
+ghost use Rattle.art_tree.specs.Raising.{node_of, IsPlaced};
+ghost use Rattle.art_tree.specs.Search.{leaf_pointer};
+ghost use Rattle.art_tree.specs.Taking.{two_children};
+
+use crate::insert::place::Fork;
+use crate::loading::raise::place_as;
+use art_arena::{ArenaNode, NodeArena};
+use art_bytes::AsBytes;
+use art_nodes::{
+    ConcreteNodePtr, InnerNode, InnerNode4, InnerNodeCommon, LeafNode, Node, NodePtr, NodeType,
+    OpaqueNodePtr,
+};
+use std::alloc::AllocError;
+
+/// Writes the child under the byte of the inner node at the pointer.
+pub(crate) fn write_child<K, V, const PREFIX_LEN: usize>(
+    arena: &mut NodeArena<K, V, PREFIX_LEN>,
+    pointer: OpaqueNodePtr<K, V, PREFIX_LEN>,
+    byte: u8,
+    child: OpaqueNodePtr<K, V, PREFIX_LEN>,
+)
+    requires held { held arena.old pointer ≢ Nothing }
+    requires inner { node_kind pointer ≢ Leaf }
+    requires has_room { (node : Inner _) → held arena.old pointer ≡ HeldInner node →
+        HasRoomFor (most_children (node_kind pointer)) node byte }
+    ensures { (node : Inner _) → held arena.old pointer ≡ HeldInner node →
+        Changes arena.old arena.new pointer (HeldInner (node_with_child node byte child)) }
+{
+    match pointer.to_node_ptr() {
+        ConcreteNodePtr::Node4(node) => arena.as_mut(node).write_child(byte, child),
+        ConcreteNodePtr::Node16(node) => arena.as_mut(node).write_child(byte, child),
+        ConcreteNodePtr::Node48(node) => arena.as_mut(node).write_child(byte, child),
+        ConcreteNodePtr::Node256(node) => arena.as_mut(node).write_child(byte, child),
+        ConcreteNodePtr::LeafNode(_) => unreachable!(),
+    }
+}
+
+// Whether the inner node at the pointer is full. A leaf is not.
+fn is_full<K, V, const PREFIX_LEN: usize>(
+    arena: &NodeArena<K, V, PREFIX_LEN>,
+    pointer: OpaqueNodePtr<K, V, PREFIX_LEN>,
+) -> bool
+    requires { held arena.now pointer ≢ Nothing }
+    ensures full { (node : Inner _) → held arena.now pointer ≡ HeldInner node →
+        IsTrue result ↔ (length node.children ≡ most_children (node_kind pointer)) }
+    ensures has_room { (node : Inner _) → held arena.now pointer ≡ HeldInner node →
+        ¬ (IsTrue result) → length node.children < most_children (node_kind pointer) }
+{
+    match pointer.to_node_ptr() {
+        ConcreteNodePtr::Node4(node) => arena.as_ref(node).is_full(),
+        ConcreteNodePtr::Node16(node) => arena.as_ref(node).is_full(),
+        ConcreteNodePtr::Node48(node) => arena.as_ref(node).is_full(),
+        ConcreteNodePtr::Node256(node) => arena.as_ref(node).is_full(),
+        ConcreteNodePtr::LeafNode(_) => false,
+    }
+}
+
+/// Makes room for the node that a full inner node grows to.
+pub(crate) fn reserve_growth<K, V, const PREFIX_LEN: usize>(
+    arena: &mut NodeArena<K, V, PREFIX_LEN>,
+    pointer: OpaqueNodePtr<K, V, PREFIX_LEN>,
+) -> Result<(), AllocError>
+    requires { held arena.old pointer ≢ Nothing }
+    ensures room { OnOk result (HasRoomToGrow arena.new pointer) }
+    ensures nodes_kept { SameNodes arena.old arena.new }
+    ensures leaf_room { room arena.old Leaf ≤ room arena.new Leaf }
+{
+    if !is_full(arena, pointer) {
+        return Ok(());
+    }
+    let grown = match pointer.node_type() {
+        NodeType::Node4 => NodeType::Node16,
+        NodeType::Node16 => NodeType::Node48,
+        NodeType::Node48 | NodeType::Node256 | NodeType::Leaf => NodeType::Node256,
+    };
+    arena.reserve(grown, 1)
+}
+
+// Puts this node, with a child more, in the place of the one at the pointer, which is given up.
+fn move_to<
+    K,
+    V,
+    const PREFIX_LEN: usize,
+    N: ArenaNode<K, V, PREFIX_LEN> + Drop,
+    G: InnerNodeCommon<K, V, PREFIX_LEN>
+        + ArenaNode<K, V, PREFIX_LEN>
+        + Node<PREFIX_LEN, Key = K, Value = V>,
+>(
+    arena: &mut NodeArena<K, V, PREFIX_LEN>,
+    pointer: NodePtr<PREFIX_LEN, N>,
+    mut grown: G,
+    byte: u8,
+    child: OpaqueNodePtr<K, V, PREFIX_LEN>,
+) -> OpaqueNodePtr<K, V, PREFIX_LEN>
+    requires shown { (node : G) → G.held_as node ≡ HeldInner (G.inner node) }
+    requires kind { G.TYPE ≡ grown_kind N.TYPE }
+    requires held { held arena.old (pointer_to N.TYPE (slab_key pointer)) ≢ Nothing }
+    requires full { length (G.inner grown).children ≡ most_children N.TYPE }
+    requires has_room { HasRoomFor G.room (G.inner grown) byte }
+    requires room { 0 < room arena.old G.TYPE }
+    ensures { IsMoved arena.old arena.new (pointer_to N.TYPE (slab_key pointer))
+        (G.inner grown) (node_with_child (G.inner grown) byte child) result }
+{
+    grown.write_child(byte, child);
+    let grown = arena.allocate_node_ptr(grown).unwrap();
+    arena.deallocate_node_ptr(pointer);
+    grown.to_opaque()
+}
+
+/// Gives the inner node at the pointer a child more. A full node is replaced by one of the next
+/// kind, for which there has to be room. Answers where the node is.
+pub(crate) fn add_child<K, V, const PREFIX_LEN: usize>(
+    arena: &mut NodeArena<K, V, PREFIX_LEN>,
+    pointer: OpaqueNodePtr<K, V, PREFIX_LEN>,
+    byte: u8,
+    child: OpaqueNodePtr<K, V, PREFIX_LEN>,
+) -> OpaqueNodePtr<K, V, PREFIX_LEN>
+    requires held { held arena.old pointer ≢ Nothing }
+    requires inner { node_kind pointer ≢ Leaf }
+    requires absent { (node : Inner _) → held arena.old pointer ≡ HeldInner node →
+        child_at node.children byte ≡ None }
+    requires room { HasRoomToGrow arena.old pointer }
+    ensures { (node : Inner _) → held arena.old pointer ≡ HeldInner node →
+        HasOneMore arena.old arena.new pointer node (node_with_child node byte child) result }
+{
+    if !is_full(arena, pointer) {
+        write_child(arena, pointer, byte, child);
+        return pointer;
+    }
+    match pointer.to_node_ptr() {
+        ConcreteNodePtr::Node4(node) => {
+            let grown = arena.as_ref(node).grow();
+            move_to(arena, node, grown, byte, child)
+        }
+        ConcreteNodePtr::Node16(node) => {
+            let grown = arena.as_ref(node).grow();
+            move_to(arena, node, grown, byte, child)
+        }
+        ConcreteNodePtr::Node48(node) => {
+            let grown = arena.as_ref(node).grow();
+            move_to(arena, node, grown, byte, child)
+        }
+        // A node of 256 children has one under every byte.
+        ConcreteNodePtr::Node256(node) => {
+            prove!(arena.as_ref(node).num_children() < 256);
+            unreachable!()
+        }
+        ConcreteNodePtr::LeafNode(_) => unreachable!(),
+    }
+}
+
+/// Drops the first bytes of the prefix of an inner node under a path of `depth` bytes; a leaf stays
+/// as it is. What the node can store of the rest is read from the key of a leaf below.
+pub(crate) fn trim<K: AsBytes, V, const PREFIX_LEN: usize>(
+    arena: &mut NodeArena<K, V, PREFIX_LEN>,
+    pointer: OpaqueNodePtr<K, V, PREFIX_LEN>,
+    depth: usize,
+    len: usize,
+    leaf: NodePtr<PREFIX_LEN, LeafNode<K, V, PREFIX_LEN>>,
+)
+    requires held { held arena.old pointer ≢ Nothing }
+    requires leaf_held { HoldsLeaf arena.old (slab_key leaf) }
+    requires within { (node : Inner _) → held arena.old pointer ≡ HeldInner node →
+        len ≤ node.prefix_len }
+    requires text { (node : Inner _) → held arena.old pointer ≡ HeldInner node →
+        depth + node.prefix_len ≤ length (text_at K.text arena.old (slab_key leaf)) }
+    ensures leaf { node_kind pointer ≡ Leaf → SameNodes arena.old arena.new }
+    ensures trimmed { (node : Inner _) (path prefix rest : List ℕ) →
+        held arena.old pointer ≡ HeldInner node → length path ≡ depth →
+        text_at K.text arena.old (slab_key leaf) ≡ path ++ prefix ++ rest →
+        StandsFor PREFIX_LEN (header_of node) prefix →
+        Changes arena.old arena.new pointer
+        (HeldInner (node_with_prefix PREFIX_LEN node (drop len prefix))) }
+    ensures room { SameRoom arena.old arena.new }
+{
+    let Some(header) = arena.header(pointer) else {
+        return;
+    };
+    let mut header = header.clone().unwrap();
+    header.ltrim_by_with_leaf(len, depth, arena.as_key_ref(leaf).as_bytes());
+    arena.set_prefix(pointer, &header);
+}
+
+/// Makes the node over a new leaf and the node that the leaf's key parts from at `index`, where
+/// `depth` bytes lead to that node. There has to be room for it.
+pub(crate) fn fork_node<K: AsBytes, V, const PREFIX_LEN: usize>(
+    arena: &mut NodeArena<K, V, PREFIX_LEN>,
+    leaf: NodePtr<PREFIX_LEN, LeafNode<K, V, PREFIX_LEN>>,
+    node: OpaqueNodePtr<K, V, PREFIX_LEN>,
+    depth: usize,
+    fork: Fork,
+) -> OpaqueNodePtr<K, V, PREFIX_LEN>
+    requires held { HoldsLeaf arena.old (slab_key leaf) }
+    requires ordered { depth ≤ fork.index }
+    requires within { fork.index ≤ length (text_at K.text arena.old (slab_key leaf)) }
+    requires short { fork.index < 2 ^ 32 }
+    requires differ { fork.byte ≢ fork.node_byte }
+    requires room { 0 < room arena.old Node4 }
+    ensures { IsPlaced arena.old arena.new Node4
+        (node_of PREFIX_LEN
+        (take (fork.index - depth) (drop depth (text_at K.text arena.old (slab_key leaf))))
+        (two_children fork.byte (leaf_pointer leaf) fork.node_byte node)) result }
+{
+    let child = (fork.byte, leaf.to_opaque());
+    let other = (fork.node_byte, node);
+    let children = if fork.byte < fork.node_byte {
+        [child, other]
+    } else {
+        [other, child]
+    };
+    place_as::<K, V, PREFIX_LEN, InnerNode4<K, V, PREFIX_LEN>>(
+        arena, leaf, depth, fork.index, &children,
+    )
+}

@@ -1,0 +1,172 @@
+//! Where a text belongs in a tree.
+ghost use Rattle.std.specs.Prelude.{◌≡◌, ◌<◌, IfOk, IfErr};
+ghost use Rattle.art_arena.specs.Arena.{held, HeldInner};
+ghost use Rattle.art_tree.specs.Places.{Belongs, IsSpotIn};
+ghost use Rattle.art_tree.specs.Search.{HasTree, EachTree, leaf_pointer};
+
+use art_arena::laws::path_and_prefix_are_shared;
+use art_arena::{FullPrefix, NodeArena};
+use art_bytes::AsBytes;
+use art_nodes::{
+    ConcreteNodePtr, InnerNodeCommon, LeafNode, NodePtr, OpaqueNodePtr, common_front_len,
+};
+
+/// A node of a tree: how many bytes lead to it, and the inner node that it hangs under, with the byte.
+#[derive_where(Clone, Copy)]
+pub(crate) struct Spot<K, V, const PREFIX_LEN: usize> {
+    pub(crate) node: OpaqueNodePtr<K, V, PREFIX_LEN>,
+    pub(crate) depth: usize,
+    pub(crate) parent: Option<(OpaqueNodePtr<K, V, PREFIX_LEN>, u8)>,
+}
+
+/// The index in a key where it parts from the texts below a node, with its byte there and theirs.
+#[derive(Clone, Copy)]
+pub(crate) struct Fork {
+    pub(crate) index: usize,
+    pub(crate) byte: u8,
+    pub(crate) node_byte: u8,
+}
+
+/// Where a text belongs in a tree.
+#[derive_where(Clone, Copy)]
+pub(crate) enum Place<K, V, const PREFIX_LEN: usize> {
+    /// A leaf has the text.
+    Present(NodePtr<PREFIX_LEN, LeafNode<K, V, PREFIX_LEN>>),
+    /// The text begins one in the tree, or one in the tree begins it.
+    Clash,
+    /// An inner node has no child under the next byte.
+    Child {
+        spot: Spot<K, V, PREFIX_LEN>,
+        byte: u8,
+    },
+    /// The text parts from those at a leaf, or inside the prefix of an inner node.
+    Fork {
+        spot: Spot<K, V, PREFIX_LEN>,
+        fork: Fork,
+    },
+}
+
+// The spot of the child of this inner node that the key goes on to, or else where the key belongs.
+fn step<K: AsBytes, V, const PREFIX_LEN: usize, N: InnerNodeCommon<K, V, PREFIX_LEN>>(
+    arena: &NodeArena<K, V, PREFIX_LEN>,
+    node: &N,
+    spot: Spot<K, V, PREFIX_LEN>,
+    key: &[u8],
+) -> Result<Spot<K, V, PREFIX_LEN>, Place<K, V, PREFIX_LEN>>
+    requires held { held arena.now spot.node ≡ HeldInner (N.inner node.now) }
+    requires spot { (tree : _) × IsSpotIn K.text arena.now tree key.now spot }
+    ensures on { (tree : _) → IsSpotIn K.text arena.now tree key.now spot →
+        IfOk result (IsSpotIn K.text arena.now tree key.now) }
+    ensures deeper { IfOk result (λ next. spot.depth < next.depth) }
+    ensures place { (tree : _) → IsSpotIn K.text arena.now tree key.now spot →
+        IfErr result (Belongs tree key.now) }
+{
+    // By this law a full match compares the key with the prefix that the tree has for the node.
+    path_and_prefix_are_shared::<OpaqueNodePtr<K, V, PREFIX_LEN>>();
+    let matched = match node.match_full_prefix(arena, key, spot.depth) {
+        Ok(matched) => matched,
+        Err(mismatch) => {
+            let index = spot.depth + mismatch.matched_bytes;
+            if index == key.len() {
+                return Err(Place::Clash);
+            }
+            let fork = Fork {
+                index,
+                byte: key[index],
+                node_byte: mismatch.prefix_byte,
+            };
+            return Err(Place::Fork { spot, fork });
+        }
+    };
+    let index = spot.depth + matched.matched_bytes;
+    if index == key.len() {
+        return Err(Place::Clash);
+    }
+    let byte = key[index];
+    match node.lookup_child(byte) {
+        Some(child) => Ok(Spot {
+            node: child,
+            depth: index + 1,
+            parent: Some((spot.node, byte)),
+        }),
+        None => Err(Place::Child { spot, byte }),
+    }
+}
+
+// The same for a node of any kind.
+fn next_spot<K: AsBytes, V, const PREFIX_LEN: usize>(
+    arena: &NodeArena<K, V, PREFIX_LEN>,
+    spot: Spot<K, V, PREFIX_LEN>,
+    key: &[u8],
+) -> Result<Spot<K, V, PREFIX_LEN>, Place<K, V, PREFIX_LEN>>
+    requires { (tree : _) × IsSpotIn K.text arena.now tree key.now spot }
+    ensures on { (tree : _) → IsSpotIn K.text arena.now tree key.now spot →
+        IfOk result (IsSpotIn K.text arena.now tree key.now) }
+    ensures deeper { IfOk result (λ next. spot.depth < next.depth) }
+    ensures place { (tree : _) → IsSpotIn K.text arena.now tree key.now spot →
+        IfErr result (Belongs tree key.now) }
+{
+    match spot.node.to_node_ptr() {
+        ConcreteNodePtr::Node4(node) => step(arena, arena.as_ref(node), spot, key),
+        ConcreteNodePtr::Node16(node) => step(arena, arena.as_ref(node), spot, key),
+        ConcreteNodePtr::Node48(node) => step(arena, arena.as_ref(node), spot, key),
+        ConcreteNodePtr::Node256(node) => step(arena, arena.as_ref(node), spot, key),
+        ConcreteNodePtr::LeafNode(leaf) => Err(place_at_leaf(arena, leaf, spot, key)),
+    }
+}
+
+// Where a key belongs that leads to this leaf.
+fn place_at_leaf<K: AsBytes, V, const PREFIX_LEN: usize>(
+    arena: &NodeArena<K, V, PREFIX_LEN>,
+    leaf: NodePtr<PREFIX_LEN, LeafNode<K, V, PREFIX_LEN>>,
+    spot: Spot<K, V, PREFIX_LEN>,
+    key: &[u8],
+) -> Place<K, V, PREFIX_LEN>
+    requires leaf { spot.node ≡ leaf_pointer leaf }
+    requires spot { (tree : _) × IsSpotIn K.text arena.now tree key.now spot }
+    ensures { (tree : _) → IsSpotIn K.text arena.now tree key.now spot →
+        Belongs tree key.now result }
+{
+    let node = arena.as_ref(leaf);
+    if node.matches_full_key(key) {
+        return Place::Present(leaf);
+    }
+    let text = node.key_ref().as_bytes();
+    let depth = spot.depth;
+    let index = depth + common_front_len(&text[depth..], &key[depth..]);
+    if index == text.len() || index == key.len() {
+        return Place::Clash;
+    }
+    let fork = Fork {
+        index,
+        byte: key[index],
+        node_byte: text[index],
+    };
+    Place::Fork { spot, fork }
+}
+
+/// Where the key belongs in the tree at `root`. Takes no memory.
+pub(crate) fn find_place<K: AsBytes, V, const PREFIX_LEN: usize>(
+    arena: &NodeArena<K, V, PREFIX_LEN>,
+    root: OpaqueNodePtr<K, V, PREFIX_LEN>,
+    key: &[u8],
+) -> Place<K, V, PREFIX_LEN>
+    requires tree { HasTree K.text arena.now root }
+    ensures { EachTree K.text arena.now root (λ tree. Belongs tree key.now result) }
+{
+    let mut spot = Spot {
+        node: root,
+        depth: 0,
+        parent: None,
+    };
+    'way: loop {
+        match next_spot(arena, spot, key) {
+            Ok(next) => {
+                spot = next;
+            }
+            Err(place) => {
+                return place;
+            }
+        }
+    }
+}
