@@ -1,8 +1,6 @@
 -- A leaf more under a node that has no child under its byte.
-use Rattle.std.proofs.Common.{◌≡◌, ◌≢◌, ◌⊎◌, ◌∙◌, ℕ, ◌+◌, ◌<◌, ◌≤◌, ◌^◌, List, [], ◌∷◌, ◌++◌, length, map, All, AllPairs, Contains, Some, None, refl, sym, ap, subst, inl, inr, arith}
+use Rattle.std.proofs.Common.{◌≡◌, ◌≢◌, ◌∙◌, ℕ, ◌+◌, ◌<◌, ◌^◌, List, [], ◌∷◌, ◌++◌, length, Contains, Some, None, refl, sym, ap, subst, inl, inr, arith}
 use Rattle.std.proofs.lemmas.List.Elements.{All-contains, Contains-append_left, Contains-append_right, Contains-append_cases}
-use Rattle.std.specs.declared.cmp.Ordering.TheVariants.{Less}
-use Rattle.art_bytes.specs.Text.{IsFront, text_order}
 use Rattle.art_header.specs.NodeType.{kind_for, most_children, grown_kind}
 use Rattle.art_header.specs.declared.node_type.NodeType.{NodeType}
 use Rattle.art_header.specs.declared.node_type.NodeType.TheVariants as kinds
@@ -11,14 +9,13 @@ use Rattle.art_nodes.specs.ChildMap.{IsAscending, key_bytes, child_at, with_chil
 use Rattle.art_nodes.specs.Inner as nodes
 use Rattle.art_nodes.specs.Pointers.{node_kind, opaque_key}
 use Rattle.art_nodes.specs.declared.pointers.OpaqueNodePtr.{OpaqueNodePtr}
-use Rattle.art_nodes.specs.declared.leaf_node.LeafNode.{LeafNode}
-use Rattle.art_arena.specs.Arena.{ArenaOf, HeldInner, HeldLeaf, Nothing, held, pointer_to, room, SameOtherRoom}
+use Rattle.art_arena.specs.Arena.{ArenaOf, HeldInner, HeldLeaf, Nothing, held, pointer_to, SameOtherRoom}
 use Rattle.art_arena.specs.Links.{AreDistinct, Spells}
 use Rattle.art_arena.specs.Standing.{NodeStands, StandsIn, AllStandIn}
-use Rattle.art_arena.specs.Trees.{Tree, Inner, Branches, branch_roots, leaves, branch_leaves, texts, places, branch_places, IsSound}
+use Rattle.art_arena.specs.Trees.{Tree, Inner, branch_roots, leaves, branch_leaves, texts, places, branch_places, IsSound}
 use Rattle.art_tree.specs.Art.{IsAlone, IsArt}
-use Rattle.art_tree.specs.Contexts.{Context, plug, path_to, leaves_before, leaves_after, parent, KeepsAt}
-use Rattle.art_tree.specs.Edits.{IsBeside, HoldsEntry, HasOneMore, HasRoomToGrow, IsMoved, IsWritten, StaysAt}
+use Rattle.art_tree.specs.Contexts.{Context, plug, path_to, leaves_before, leaves_after, KeepsAt}
+use Rattle.art_tree.specs.Edits.{IsBeside, HoldsEntry, HasOneMore, HasRoomToGrow, StaysAt}
 use Rattle.art_tree.specs.Hanging.{CanHang, HasPlaceAt, IsHung, StandsBeside}
 use Rattle.art_tree.specs.Inserting.{IsEntered}
 use Rattle.art_tree.specs.Loading.{IsSnug, AreSnug}
@@ -34,7 +31,7 @@ use Rattle.art_tree.proofs.Exchanging.{the-one, distinct-part, kept-branches, so
 use Rattle.art_tree.proofs.Gaps.{beside-key, keys_of, spelled-parts}
 use Rattle.art_tree.proofs.HangLemmas.{inner-kind, one-inner}
 use Rattle.art_tree.proofs.NodeLemmas.{few-where-absent}
-use Rattle.art_tree.proofs.Rising.{cases_pointer, snug-split, stand-split}
+use Rattle.art_tree.proofs.Rising.{snug-split, stand-split}
 use Rattle.art_tree.proofs.TakingLemmas.{HasChildPlace, child-place, in-taken, kind-grows, kind-stays, snug-taken}
 
 -- the next kind of an inner node is no leaf's

@@ -1,9 +1,8 @@
 -- A leaf more beside a node that its key parts from, under a new node.
-use Rattle.std.proofs.Common.{◌≡◌, ◌≢◌, ◌⊎◌, ◌∙◌, ℕ, ◌+◌, ◌-◌, ◌<◌, ◌≤◌, ◌^◌, Bool, true, false, nat_lt, if◌then◌else◌, List, [], ◌∷◌, ◌++◌, length, length-append, map, take, drop, All, AllPairs, Contains, Some, None, refl, sym, ap, subst, inl, inr, arith, append_assoc, append-nil}
+use Rattle.std.proofs.Common.{◌≡◌, ◌≢◌, ◌∙◌, ℕ, ◌+◌, ◌-◌, ◌<◌, ◌≤◌, ◌^◌, Bool, true, false, nat_lt, if◌then◌else◌, List, [], ◌∷◌, ◌++◌, length, length-append, take, drop, All, Contains, Some, refl, sym, ap, subst, inl, inr, arith, append-nil}
 use Rattle.std.proofs.lemmas.Option.{slice_get_within}
-use Rattle.std.proofs.lemmas.List.Elements.{All-contains, Contains-append_left, Contains-append_right, Contains-append_cases}
-use Rattle.std.specs.declared.cmp.Ordering.TheVariants.{Less}
-use Rattle.art_bytes.specs.Text.{IsFront, text_order}
+use Rattle.std.proofs.lemmas.List.Elements.{All-contains, Contains-append_right, Contains-append_cases}
+use Rattle.art_bytes.specs.Text.{IsFront}
 use Rattle.art_header.specs.Header.{StandsFor, capped}
 use Rattle.art_header.specs.NodeType.{kind_for}
 use Rattle.art_header.specs.declared.node_type.NodeType.TheVariants as kinds
@@ -13,19 +12,18 @@ use Rattle.art_nodes.specs.Leaf.{leaf_key}
 use Rattle.art_nodes.specs.Pointers.{node_kind, opaque_key}
 use Rattle.art_nodes.specs.declared.pointers.OpaqueNodePtr.{OpaqueNodePtr}
 use Rattle.art_nodes.specs.declared.leaf_node.LeafNode.{LeafNode}
-use Rattle.art_arena.specs.Arena.{ArenaOf, Held, HeldInner, HeldLeaf, Nothing, held, pointer_to, room, Changes, SameNodes, SameOtherRoom, SameRoom}
+use Rattle.art_arena.specs.Arena.{ArenaOf, Held, HeldInner, HeldLeaf, Nothing, held, pointer_to, Changes, SameNodes}
 use Rattle.art_arena.specs.Links.{AreDistinct, HoldsLeaf, Spells, text_at}
 use Rattle.art_arena.specs.Standing.{NodeStands, StandsIn, AllStandIn, TreeAt}
 use Rattle.art_arena.specs.Trees.{Tree, Leaf, Inner, Branches, NoBranch, Branch, branch_roots, root_of, leaves, branch_leaves, texts, places, branch_places, IsSound, AreSound}
 use Rattle.art_tree.specs.Art.{IsAlone, IsArt}
-use Rattle.art_tree.specs.Contexts.{Context, plug, path_to, leaves_before, leaves_after, parent, KeepsAt}
+use Rattle.art_tree.specs.Contexts.{Context, plug, path_to, leaves_before, leaves_after}
 use Rattle.art_tree.specs.Edits.{HoldsEntry, IsBeside, StaysAt, node_with_prefix}
 use Rattle.art_tree.specs.Ends.{IsAtEnd}
 use Rattle.art_tree.specs.Hanging.{CanHang, IsHung, StandsBeside}
 use Rattle.art_tree.specs.Inserting.{IsEntered}
-use Rattle.art_tree.specs.Loading.{IsSnug}
 use Rattle.art_tree.specs.Places.{above, Parts}
-use Rattle.art_tree.specs.Plan.{join, one_branch}
+use Rattle.art_tree.specs.Plan.{one_branch}
 use Rattle.art_tree.specs.Raising.{IsPlaced, node_of}
 use Rattle.art_tree.specs.Taking.{without_front, with_leaf, branches_left, branches_right, two_children}
 use Rattle.art_tree.specs.declared.ends.End.{End}
@@ -34,11 +32,10 @@ use Rattle.art_tree.specs.declared.insert.place.Fork.{Fork}
 use Rattle.art_tree.specs.declared.insert.place.Spot.{Spot}
 use Rattle.art_tree.proofs.Adding.{root-place, AreSteps, HasTaken, added-alone, added-entered, below-kept, can-hang, last-others, leaves-kept, place-held}
 use Rattle.art_tree.proofs.BranchLemmas.{leaves-join}
-use Rattle.art_tree.proofs.ChildLemmas.{lt-true, lt-false}
 use Rattle.art_tree.proofs.DictionaryLemmas.{AreApart, leaf-held-in}
-use Rattle.art_tree.proofs.Exchanging.{the-one, distinct-part, in-part, kept-branches, sound-part, snug-part, stands-part}
+use Rattle.art_tree.proofs.Exchanging.{the-one, distinct-part, kept-branches, sound-part, snug-part, stands-part}
 use Rattle.art_tree.proofs.Gaps.{beside-key, keys_of, spelled-parts}
-use Rattle.art_tree.proofs.HangLemmas.{inner-kind, one-inner}
+use Rattle.art_tree.proofs.HangLemmas.{one-inner}
 use Rattle.art_tree.proofs.Rising.{cases_pointer, text-held}
 use Rattle.art_tree.proofs.ScanLemmas.{front-shorter}
 use Rattle.art_tree.proofs.TakingLemmas.{HasForkPlace, fork-place, in-taken, leaves-sides, leaves-trimmed, places-sides, places-trimmed, snug-sides, snug-taken, snug-trimmed, both-sides}
@@ -227,8 +224,7 @@ module _ {K V : Type 0} {P : ℕ} (text : K → List ℕ) (old : ArenaOf K V P) 
                   others = λ p there. elim (cases_pointer p spot.node) [ inr differ ↦ changes.others p differ | inl same ↦ (let l = there same in let wrong : HeldInner node ≡ HeldLeaf l.0 = sym is ∙ ap (held linked) (sym same) ∙ l.1 in absurd (cc)) ];
                   is_held = λ none. (let wrong : HeldInner (node_with_prefix P node (drop (fork.index + 1 - spot.depth) inner.prefix)) ≡ Nothing = sym changes.changed ∙ none in absurd (cc));
                   inner = λ own own_is.
-                      let one = one-inner (held linked spot.node) node own is own_is in
-                      (
+                      let one = one-inner (held linked spot.node) node own is own_is in (
                         node_with_prefix P node (drop (fork.index + 1 - spot.depth) inner.prefix),
                         changes.changed,
                         λ prefix branches same.
@@ -309,14 +305,13 @@ module _ {K V : Type 0} {P : ℕ} (text : K → List ℕ) (old : ArenaOf K V P) 
                       let now = is-trimmed.inner own (linked-inner own (ap (held old) (sym root_is) ∙ holds)) in
                       let other : spot.node ≢ top = λ at_top. linked-held (ap (held linked) at_top ∙ top-free) in
                       let inside : Contains (places part_there) pointer = subst (λ t. Contains (places t) pointer) (sym same) (0, omega arith, refl) in
-                      let apart : All (λ q. q ≢ pointer) (branch_places branches) = (subst (λ t. AreDistinct (places t)) same (distinct-part around_it part_there distinct-there)).0 in
-                      (
+                      let apart : All (λ q. q ≢ pointer) (branch_places branches) = (subst (λ t. AreDistinct (places t)) same (distinct-part around_it part_there distinct-there)).0 in (
                         now.0,
                         last-others text old linked new around_it part_there root leaf top key value fork-steps last root_now hung-there pointer inside ∙ ap (held new) root_is ∙ placed.changes.others spot.node other ∙ now.1,
                         now.2 prefix branches (same ∙ ap (λ p. Inner p prefix branches) root_is),
                         kept-branches text old last branches stand (λ q below. below-kept text old linked new around_it part_there root leaf top key value fork-steps last root_now hung-there q
-                        (subst (λ t. Contains (places t) q) (sym same) (Contains-append_right (pointer ∷ []) (branch_places branches) q below))
-                        (λ at_root. All-contains (λ other. other ≢ pointer) (branch_places branches) q apart below (at_root ∙ ap root_of same))),
+                            (subst (λ t. Contains (places t) q) (sym same) (Contains-append_right (pointer ∷ []) (branch_places branches) q below))
+                            (λ at_root. All-contains (λ other. other ≢ pointer) (branch_places branches) q apart below (at_root ∙ ap root_of same))),
                       )
 
               sides-stand : AllStandIn text last left_there × AllStandIn text last right_there
@@ -343,7 +338,7 @@ module _ {K V : Type 0} {P : ℕ} (text : K → List ℕ) (old : ArenaOf K V P) 
                 spelled = spelled-there;
                 gone = λ p inside. inl (in-taken shared_there top left_there fork.byte leaf (text key) right_there p (inr (inr (subst (λ all. Contains all p) (sym (places-sides fork.byte fork.node_byte trimmed_there ∙ places-trimmed len_there part_there)) inside))));
                 snug = (let sides = snug-sides fork.byte fork.node_byte trimmed_there (snug-trimmed len_there part_there (snug-part around_it part_there alone-there.snug)) in
-                snug-taken top shared_there left_there fork.byte leaf (text key) right_there (placed.is_kind ∙ ap (λ b. kind_for (length (branch_roots b) + 1)) (sym (both-sides fork.byte fork.node_byte trimmed_there))) sides.0 sides.1);
+                    snug-taken top shared_there left_there fork.byte leaf (text key) right_there (placed.is_kind ∙ ap (λ b. kind_for (length (branch_roots b) + 1)) (sym (both-sides fork.byte fork.node_byte trimmed_there))) sides.0 sides.1);
               }
 
               alone-last : IsAlone text last root_now (plug around_it (with_leaf top shared_there left_there fork.byte leaf (text key) right_there))

@@ -15,7 +15,6 @@ use Rattle.art_tree.specs.Art.{IsAlone}
 use Rattle.art_tree.specs.Contexts.{Context, plug, path_to, leaves_before, leaves_after}
 use Rattle.art_tree.specs.Edits.{HasGap, IsBeside, LiesBeside}
 use Rattle.art_tree.specs.Hanging.{StandsBeside}
-use Rattle.art_tree.specs.Loading.{leaf_pointers}
 use Rattle.art_tree.specs.Taking.{HasPlace, with_leaf}
 use Rattle.art_tree.specs.declared.ends.End.{End}
 use Rattle.art_tree.specs.declared.ends.End.TheVariants.{First, Last}

@@ -2,7 +2,6 @@
 use Rattle.std.proofs.Common.{◌≡◌, ◌≢◌, ◌∙◌, ℕ, List, [], ◌∷◌, ◌++◌, Option, Some, None, IsNone, Result, Ok, Err, OnOk, Bool, false, sym, ap, subst, refl, append-nil}
 use Rattle.std.proofs.lemmas.Option.{same_Some}
 use Rattle.art_header.specs.NodeType.{most_children}
-use Rattle.art_header.specs.declared.node_type.NodeType.{NodeType}
 use Rattle.art_header.specs.declared.node_type.NodeType.TheVariants as kinds
 use Rattle.std.specs.Option.{option_map}
 use Rattle.std.specs.Result.{is_err}

@@ -1,18 +1,16 @@
 -- The first entry of a tree, and an entry in the place of another.
-use Rattle.std.proofs.Common.{◌≡◌, ◌≢◌, ◌∙◌, ℕ, length, suc, ◌<◌, ◌^◌, List, [], ◌∷◌, map, Contains, Option, Some, None, slice_get, inl, inr, refl, sym, ap, subst, arith}
-use Rattle.std.specs.Option.{option_map}
-use Rattle.std.proofs.lemmas.List.Elements.{Contains-append_left, Contains-append_right}
+use Rattle.std.proofs.Common.{◌≡◌, ◌≢◌, ◌∙◌, ℕ, length, ◌<◌, ◌^◌, List, [], ◌∷◌, Contains, Option, Some, None, inl, inr, refl, sym, ap, arith}
 use Rattle.art_header.specs.declared.node_type.NodeType.TheVariants as kinds
 use Rattle.art_nodes.specs.Inner as nodes
-use Rattle.art_nodes.specs.Leaf.{leaf_key, leaf_value, previous_key, next_key, with_links}
-use Rattle.art_nodes.specs.Pointers.{opaque_key, slab_key}
+use Rattle.art_nodes.specs.Leaf.{leaf_key, leaf_value, previous_key, next_key}
+use Rattle.art_nodes.specs.Pointers.{slab_key}
 use Rattle.art_nodes.specs.declared.pointers.NodePtr.{NodePtr}
 use Rattle.art_nodes.specs.declared.pointers.OpaqueNodePtr.{OpaqueNodePtr}
 use Rattle.art_nodes.specs.declared.leaf_node.LeafNode.{LeafNode}
 use Rattle.art_arena.specs.Arena.{ArenaOf, Held, HeldInner, HeldLeaf, Nothing, held, held_leaf, pointer_to, Changes}
-use Rattle.art_arena.specs.Links.{Spells, SpellsAfter, leaf_at}
+use Rattle.art_arena.specs.Links.{SpellsAfter, leaf_at}
 use Rattle.art_arena.specs.Standing.{StandsIn, AllStandIn}
-use Rattle.art_arena.specs.Trees.{Tree, Leaf, Inner, Branches, NoBranch, Branch, leaves, texts, places, branch_places}
+use Rattle.art_arena.specs.Trees.{Tree, Leaf, Inner, Branches, NoBranch, Branch, leaves, texts}
 use Rattle.art_tree.specs.Art.{IsAlone}
 use Rattle.art_tree.specs.Contexts.{KeepsAt}
 use Rattle.art_tree.specs.Dictionary.{entry_at}
@@ -111,8 +109,8 @@ module _ {K V : Type 0} {P : ℕ} (text : K → List ℕ) (old new : ArenaOf K V
         let keeps : (q : OpaqueNodePtr K V P) (x : List ℕ) → Contains (leaves tree) (q, x) → x ≢ text key → Contains (leaves tree) (q, x) × KeepsAt old new q =
         λ q x there differ.
         let other : q ≢ at = λ same.
-            let leaf = leaf-held-in text old tree alone.is_tree.stands q x there in
-            differ (sym leaf.2 ∙ ap (λ l. text (leaf_key l)) (one-leaf (held old at) leaf.0 was (ap (held old) (sym same) ∙ leaf.1) is) ∙ same_text) in
+        let leaf = leaf-held-in text old tree alone.is_tree.stands q x there in
+        differ (sym leaf.2 ∙ ap (λ l. text (leaf_key l)) (one-leaf (held old at) leaf.0 was (ap (held old) (sym same) ∙ leaf.1) is) ∙ same_text) in
         (there, record { inner = λ node holds. changes.others q other ∙ holds; leaf = λ leaf holds. (leaf, changes.others q other ∙ holds, refl, refl) }) in
         record {
           entry = ap (λ k. entry_at text new (text k)) (sym is_key) ∙ held-entry text new root tree after apart at now changes.changed ∙ ap Some (λ i. (is_key i, is_value i));

@@ -1,5 +1,5 @@
 -- Inner nodes that take a child more, or another prefix.
-use Rattle.std.proofs.Common.{◌≡◌, ◌≢◌, ◌∙◌, ℕ, ◌+◌, ◌<◌, ◌≤◌, List, [], ◌∷◌, length, Option, Some, None, IsNone, refl, sym, ap, subst, inl, inr, arith}
+use Rattle.std.proofs.Common.{◌≡◌, ◌≢◌, ◌∙◌, ℕ, ◌<◌, ◌≤◌, List, [], ◌∷◌, length, Option, Some, None, IsNone, refl, sym, ap, subst, inr}
 use Rattle.std.specs.Option.{option_map, option_map_or}
 use Rattle.art_header.specs.Header.{Header}
 use Rattle.art_header.specs.NodeType.{most_children, grown_kind}

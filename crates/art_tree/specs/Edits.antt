@@ -4,8 +4,7 @@ use Rattle.art_header.specs.Header.{capped}
 use Rattle.art_header.specs.NodeType.{most_children, grown_kind}
 use Rattle.std.specs.declared.cmp.Ordering.TheVariants.{Less}
 use Rattle.art_bytes.specs.Text.{text_order}
-use Rattle.art_nodes.specs.ChildMap.{child_at}
-use Rattle.art_nodes.specs.Inner.{Inner, node_with_child}
+use Rattle.art_nodes.specs.Inner.{Inner}
 use Rattle.art_nodes.specs.Leaf.{leaf_key, leaf_value}
 use Rattle.art_nodes.specs.Pointers.{node_kind}
 use Rattle.art_nodes.specs.declared.pointers.OpaqueNodePtr.{OpaqueNodePtr}

@@ -30,9 +30,7 @@ use crate::insert::place::{Fork, Place, Spot, find_place};
 use crate::laws::{each_pointer_is_at_one_place, no_text_begins_another, texts_ascend};
 use art_arena::NodeArena;
 use art_bytes::AsBytes;
-use art_nodes::{
-    ConcreteNodePtr, InnerNodeCommon, LeafNode, NodePtr, NodeType, OpaqueNodePtr,
-};
+use art_nodes::{ConcreteNodePtr, InnerNodeCommon, LeafNode, NodePtr, NodeType, OpaqueNodePtr};
 use std::alloc::AllocError;
 use std::ops::Bound;
 
@@ -257,7 +255,13 @@ pub(crate) fn insert_fork<K: AsBytes, V, const PREFIX_LEN: usize>(
     let end = near_end(fork);
     let sibling = end_leaf(arena, spot.node, end);
     let leaf = link_leaf(arena, key, value, sibling, end);
-    trim(arena, spot.node, spot.depth, fork.index + 1 - spot.depth, sibling);
+    trim(
+        arena,
+        spot.node,
+        spot.depth,
+        fork.index + 1 - spot.depth,
+        sibling,
+    );
     let node = fork_node(arena, leaf, spot.node, spot.depth, fork);
     Ok(hang(arena, root, spot.parent, node))
 }

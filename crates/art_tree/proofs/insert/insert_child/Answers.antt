@@ -1,4 +1,4 @@
-use Rattle.std.proofs.Common.{◌≡◌, ◌≢◌, ◌<◌, ◌∙◌, [], None, sym, ap, subst, rules, arith}
+use Rattle.std.proofs.Common.{◌≡◌, ◌≢◌, ◌<◌, [], None, subst, rules, arith}
 use Rattle.art_header.specs.declared.node_type.NodeType.TheVariants.{Leaf}
 use Rattle.art_nodes.specs.ChildMap.{child_at}
 use Rattle.art_nodes.specs.Inner.{Inner}
@@ -6,7 +6,7 @@ use Rattle.art_nodes.specs.Pointers.{node_kind, slab_key}
 use Rattle.art_arena.specs.Arena.{held, HeldInner, Nothing, room}
 use Rattle.art_arena.specs.Links.{text_at}
 use Rattle.art_tree.specs.Edits.{HasGap, HasRoomToGrow, LiesBeside}
-use Rattle.art_tree.specs.Hanging.{CanHang, HasPlaceAt, IsHung}
+use Rattle.art_tree.specs.Hanging.{CanHang, HasPlaceAt}
 use Rattle.art_tree.specs.Search.{leaf_pointer}
 use Rattle.art_arena.specs.Trees.{Inner as InnerTree}
 use Rattle.art_tree.proofs.AddingChild.{ChildAdded, child-art, child-entered, child-hangs, alone-there, gap-there, leaves-there, linked-absent, linked-held, linked-room, place-there, there-held, there-inner}

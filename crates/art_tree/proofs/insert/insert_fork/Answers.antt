@@ -1,4 +1,4 @@
-use Rattle.std.proofs.Common.{◌≡◌, ◌≢◌, ◌<◌, ◌≤◌, ◌∙◌, ◌+◌, ◌-◌, ◌^◌, [], length, ap, sym, subst, rules, arith, refl}
+use Rattle.std.proofs.Common.{◌≡◌, ◌≢◌, ◌<◌, ◌≤◌, ◌∙◌, ◌+◌, ◌-◌, ◌^◌, [], length, sym, subst, rules, arith, refl}
 use Rattle.std.proofs.lemmas.Option.{slice_get_within}
 use Rattle.art_header.specs.declared.node_type.NodeType.TheVariants.{Leaf, Node4}
 use Rattle.art_nodes.specs.Inner.{Inner}
@@ -12,7 +12,7 @@ use Rattle.art_tree.specs.Ends.{IsAtEnd}
 use Rattle.art_tree.specs.Hanging.{CanHang}
 use Rattle.art_tree.specs.Search.{leaf_pointer}
 use Rattle.art_tree.proofs.Adding.{entered-from}
-use Rattle.art_tree.proofs.AddingFork.{alone-there, beside-tree, fork-art, fork-entered, fork-hangs, fork-there, index-within, leaves-there, left_there, len_there, linked-held, new-leaf-held, part_there, right_there, shared_there, sibling-held, text-there, tree-there, within-there}
+use Rattle.art_tree.proofs.AddingFork.{alone-there, beside-tree, fork-art, fork-entered, fork-hangs, fork-there, index-within, leaves-there, left_there, len_there, linked-held, new-leaf-held, right_there, shared_there, sibling-held, text-there, tree-there, within-there}
 use Rattle.art_tree.proofs.Gaps.{gap, lies}
 use Rattle.art_tree.proofs.Growing.{alone-same}
 use Rattle.art_tree.proofs.HangLemmas.{ok-then}

@@ -1,4 +1,4 @@
-use Rattle.std.proofs.Common.{◌∙◌, rules}
+use Rattle.std.proofs.Common.{rules}
 use Rattle.art_arena.specs.Standing.{TreeAt}
 use Rattle.art_tree.specs.Search.{leaf_pointer}
 use Rattle.art_tree.proofs.HangLemmas.{first-after, none-after, at-first, at-node, beside-first, beside-last}

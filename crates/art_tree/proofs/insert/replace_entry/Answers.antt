@@ -23,8 +23,7 @@ returns g c = λ root tree alone inside.
     let is_key = ap leaf_key links ∙ c.with_no_siblings-new.ensures.key in
     let is_value = ap leaf_value links ∙ c.with_no_siblings-new.ensures.value in
     let same_previous = ap previous_key links ∙ c.previous-previous.ensures ∙ ap previous_key before in
-    let same_next = ap next_key links ∙ c.next-next.ensures ∙ ap next_key before in
-    (
+    let same_next = ap next_key links ∙ c.next-next.ensures ∙ ap next_key before in (
       replaced-alone text old new c.args.key c.args.value at was now is changes is_key is_value same_text same_previous same_next root tree alone,
       replaced-entered text old new c.args.key c.args.value at was now is changes is_key is_value same_text same_previous same_next root tree alone apart inside,
       replaced-was text old new c.args.key c.args.value at was now is changes is_key is_value root tree alone apart same_text ∙ ap Some (λ i. (sym c.into_entry.ensures.key i, sym c.into_entry.ensures.value i)),
