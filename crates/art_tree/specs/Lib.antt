@@ -14,3 +14,5 @@ pub mod Places
 pub mod Taking
 pub mod Inserting
 pub mod Hanging
+pub mod Cuts
+pub mod Dropping

@@ -9,6 +9,7 @@ mod insert;
 pub mod laws;
 mod loading;
 mod path;
+mod remove;
 mod tree;
 
 pub use art_arena::{

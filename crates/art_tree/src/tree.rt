@@ -1,19 +1,18 @@
 //! A tree with its arena, as one value.
-ghost use Rattle.std.specs.Prelude.{◌≡◌, ◌≢◌, ℕ, List, All, Contains, Some, None, IfSome, IfNone, IfOk, IfErr, OnOk, OnErr};
+ghost use Rattle.std.specs.Prelude.{◌≡◌, ◌≢◌, ℕ, List, All, Contains, Some, None, IfSome, IfNone, IfOk, IfErr, OnOk};
 ghost use Rattle.std.specs.declared.cmp.Ordering.TheVariants.{Less, Greater};
 ghost use Rattle.std.specs.Option.{option_copied, option_map};
 ghost use Rattle.art_bytes.specs.Text.{text_order};
 ghost use Rattle.art_tree.specs.Art.{IsArt};
 ghost use Rattle.art_tree.specs.Dictionary.{entry_at, IsEntry, HasEntry, IsEmpty};
-ghost use Rattle.art_arena.specs.Arena.{SameNodes};
 ghost use Rattle.art_tree.specs.Ends.{IsWithin};
-ghost use Rattle.art_tree.specs.Inserting.{IsRefused, MayEnter, SameEntries};
 ghost use Rattle.art_tree.specs.Plan.{texts_of};
 ghost use Rattle.art_tree.specs.Refusals.{HaveNoFault, IsDue};
 
+mod changes;
+
 use crate::ends::{End, end_leaf};
 use crate::find::find_leaf;
-use crate::insert::{InsertFault, insert_entry};
 use crate::laws::{no_text_begins_another, texts_ascend};
 use crate::loading::{LoadFault, load};
 use art_arena::{ArenaReader, NodeArena};
@@ -143,37 +142,6 @@ impl<K: AsBytes, V, const PREFIX_LEN: usize> ArtTree<K, V, PREFIX_LEN> {
         ensures one_tree { IsArt K.text self.now.arena self.now.root }
     {
         self.root
-    }
-}
-
-impl<K: AsBytes, V, const PREFIX_LEN: usize> ArtTree<K, V, PREFIX_LEN> {
-    /// Adds an entry. Where there is one with the key's text, its key and its value are replaced and
-    /// come back.
-    ///
-    /// Refused, for the first of these that holds: a key of 2^32 bytes or more, a key that is a proper
-    /// front of one that is there or the reverse, and want of memory, which is met only where the
-    /// text has no entry. Then key and value come back, and the tree is as before.
-    pub fn insert(&mut self, key: K, value: V) -> Result<Option<(K, V)>, InsertFault<K, V>>
-        ensures replaced { IfOk result
-            (λ before. before ≡ entry_at K.text self.old.arena (K.text key)) }
-        ensures entry { OnOk result (IsEntry K.text self.new.arena (key, value)) }
-        ensures others { OnOk result ((other : List ℕ) → other ≢ K.text key →
-            entry_at K.text self.new.arena other ≡ entry_at K.text self.old.arena other) }
-        ensures no_refusal { OnOk result (MayEnter K.text self.old.arena (K.text key)) }
-        ensures refusal_due { IfErr result
-            (λ fault. IsRefused K.text self.old.arena (K.text key) fault.refusal) }
-        ensures entry_back { IfErr result (λ fault. (fault.key ≡ key) × (fault.value ≡ value)) }
-        ensures same_entries { OnErr result (SameEntries K.text self.old.arena self.new.arena) }
-        ensures nodes_kept { OnErr result (SameNodes self.old.arena self.new.arena) }
-        ensures root_kept { OnErr result (self.new.root ≡ self.old.root) }
-    {
-        match insert_entry(&mut self.arena, self.root, key, value) {
-            Ok((root, before)) => {
-                self.root = Some(root);
-                Ok(before)
-            }
-            Err(fault) => Err(fault),
-        }
     }
 }
 

@@ -1,0 +1,3 @@
+//! An entry less in a tree.
+
+pub(crate) mod node;

@@ -1,0 +1,36 @@
+//! The calls that change a tree.
+ghost use Rattle.std.specs.Prelude.{◌≡◌, ◌≢◌, ℕ, List, IfOk, IfErr, OnOk, OnErr};
+ghost use Rattle.art_arena.specs.Arena.{SameNodes};
+ghost use Rattle.art_tree.specs.Dictionary.{entry_at, IsEntry};
+ghost use Rattle.art_tree.specs.Inserting.{IsRefused, MayEnter, SameEntries};
+
+use crate::insert::{InsertFault, insert_entry};
+use crate::tree::ArtTree;
+use art_bytes::AsBytes;
+
+impl<K: AsBytes, V, const PREFIX_LEN: usize> ArtTree<K, V, PREFIX_LEN> {
+    /// Adds an entry. Where there is one with the key's text, its key and its value are replaced and
+    /// come back.
+    ///
+    /// Refused, for the first of these that holds: a key of 2^32 bytes or more, a key that is a proper
+    /// front of one that is there or the reverse, and want of memory, which is met only where the
+    /// text has no entry. Then key and value come back, and the tree is as before.
+    pub fn insert(&mut self, key: K, value: V) -> Result<Option<(K, V)>, InsertFault<K, V>>
+        ensures replaced { IfOk result
+            (λ before. before ≡ entry_at K.text self.old.arena (K.text key)) }
+        ensures entry { OnOk result (IsEntry K.text self.new.arena (key, value)) }
+        ensures others { OnOk result ((other : List ℕ) → other ≢ K.text key →
+            entry_at K.text self.new.arena other ≡ entry_at K.text self.old.arena other) }
+        ensures no_refusal { OnOk result (MayEnter K.text self.old.arena (K.text key)) }
+        ensures refusal_due { IfErr result
+            (λ fault. IsRefused K.text self.old.arena (K.text key) fault.refusal) }
+        ensures entry_back { IfErr result (λ fault. (fault.key ≡ key) × (fault.value ≡ value)) }
+        ensures same_entries { OnErr result (SameEntries K.text self.old.arena self.new.arena) }
+        ensures nodes_kept { OnErr result (SameNodes self.old.arena self.new.arena) }
+        ensures root_kept { OnErr result (self.new.root ≡ self.old.root) }
+    {
+        let (root, before) = insert_entry(&mut self.arena, self.root, key, value)?;
+        self.root = Some(root);
+        Ok(before)
+    }
+}
