@@ -1,4 +1,5 @@
 //! Trees from `load`, and what is answered about them.
+mod changes;
 mod composite;
 mod dictionary;
 mod loading;

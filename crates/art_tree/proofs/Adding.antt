@@ -1,8 +1,8 @@
 -- A leaf more in a tree: what the steps of an insert leave.
-use Rattle.std.proofs.Common.{◌≡◌, ◌≢◌, ◌⊎◌, ◌∙◌, ℕ, ◌<◌, ◌^◌, ◌==◌, Bool, true, false, if◌then◌else◌, List, [], ◌∷◌, ◌++◌, length, map, Contains, Option, Some, None, refl, sym, ap, subst, inl, inr, arith, append_assoc}
+use Rattle.std.proofs.Common.{◌≡◌, ◌≢◌, ◌⊎◌, ◌∙◌, ℕ, ◌<◌, ◌^◌, ◌==◌, Bool, true, false, if◌then◌else◌, List, [], ◌∷◌, ◌++◌, length, map, All, Contains, Option, Some, None, refl, sym, ap, subst, inl, inr, arith, append_assoc}
 use Rattle.std.proofs.lemmas.Bool.Decides.{nat_tests}
 use Rattle.std.proofs.lemmas.List.{map-append}
-use Rattle.std.proofs.lemmas.List.Elements.{Contains-append_cases}
+use Rattle.std.proofs.lemmas.List.Elements.{All-append, All-cons, Contains-append_cases}
 use Rattle.art_bytes.specs.Text.{IsFront}
 use Rattle.art_header.specs.declared.node_type.NodeType.TheVariants as kinds
 use Rattle.art_nodes.specs.ChildMap.{ChildMap, child_at}
@@ -13,7 +13,7 @@ use Rattle.art_nodes.specs.declared.leaf_node.LeafNode.{LeafNode}
 use Rattle.art_arena.specs.Arena.{ArenaOf, Held, HeldInner, HeldLeaf, Nothing, held, held_leaf, pointer_to, SameNodes}
 use Rattle.art_arena.specs.Links.{AreDistinct, Spells, SpellsAfter, leaf_at}
 use Rattle.art_arena.specs.Standing.{NodeStands, StandsIn, AllStandIn}
-use Rattle.art_arena.specs.Trees.{Tree, Leaf, Inner, Branches, NoBranch, Branch, leaves, branch_leaves, texts, places, branch_places, branch_roots, root_of}
+use Rattle.art_arena.specs.Trees.{Tree, Leaf, Inner, Branches, NoBranch, Branch, leaves, branch_leaves, texts, branch_texts, places, branch_places, branch_roots, root_of}
 use Rattle.art_tree.specs.Art.{IsAlone}
 use Rattle.art_tree.specs.Contexts.{Context, Whole, Under, plug, path_to, leaves_before, leaves_after, parent, Adopts, KeepsAt, IsExchanged}
 use Rattle.art_tree.specs.Dictionary.{entry_at}
@@ -27,7 +27,8 @@ use Rattle.art_tree.specs.Taking.{HasPlace, with_leaf}
 use Rattle.art_tree.proofs.BranchLemmas.{roots-join}
 use Rattle.art_tree.proofs.DictionaryLemmas.{AreApart, held-entry, leaf-held-in}
 use Rattle.art_tree.proofs.Exchanging.{the-one, in-part, around, stands-part, leaves-plug}
-use Rattle.art_tree.proofs.Growing.{alone-grown, entries-but, entries-same, leaf-stays, leaf-was, root-under}
+use Rattle.art_tree.proofs.Growing.{alone-grown, entries-but, entries-same, leaf-stays, leaf-was, root-under, texts-part}
+use Rattle.art_tree.proofs.OnlyWayLemmas.{All-left, All-right}
 use Rattle.art_tree.proofs.Rising.{cases_pointer, leaf-of, stand-join}
 use Rattle.art_tree.proofs.TakingLemmas.{in-taken, leaves-taken, taken-sound}
 
@@ -101,7 +102,7 @@ there-at (x ∷ xs) byte child ys = by_test (x.0 == byte) (there-at xs byte chil
     by_test true rest = λ none. absurd (cc)
     by_test false rest = rest
 
-can-hang-at : {K V : Type 0} {P : ℕ} (text : K → List ℕ) (old new : ArenaOf K V P) (context : Context (OpaqueNodePtr K V P)) (part : Tree (OpaqueNodePtr K V P)) → StandsIn text old (plug context part) → ((p : OpaqueNodePtr K V P) → parent context ≡ Some p → held new p ≡ held old p) → CanHang new (above context)
+pub can-hang-at : {K V : Type 0} {P : ℕ} (text : K → List ℕ) (old new : ArenaOf K V P) (context : Context (OpaqueNodePtr K V P)) (part : Tree (OpaqueNodePtr K V P)) → StandsIn text old (plug context part) → ((p : OpaqueNodePtr K V P) → parent context ≡ Some p → held new p ≡ held old p) → CanHang new (above context)
 can-hang-at text old new Whole part stands kept = tt
 can-hang-at text old new (Under higher p prefix before byte after) part stands kept =
     let (node, holds, shows, stand) = stands-part text old old higher (Inner p prefix (join before (Branch byte part after))) stands in
@@ -121,6 +122,15 @@ leaves-filled context prefix top before byte leaf x after =
     ∙ ap (λ all. leaves_before context ++ (all ++ leaves_after context)) (leaves-taken prefix top before byte leaf x after)
     ∙ ap (λ all. leaves_before context ++ all) (append_assoc (branch_leaves before) ((leaf, x) ∷ branch_leaves after) (leaves_after context))
     ∙ sym (append_assoc (leaves_before context) (branch_leaves before) ((leaf, x) ∷ (branch_leaves after ++ leaves_after context)))
+
+-- what is true of the new text and of each text around the gap is true of each there with the leaf
+texts-filled : {H : Type 0} (P : List ℕ → Type 0) (part : Tree H) (prefix : List ℕ) (top : H) (before : Branches H) (byte : ℕ) (leaf : H) (x : List ℕ) (after : Branches H) → leaves part ≡ branch_leaves before ++ branch_leaves after → All P (texts part) → P x → All P (texts (with_leaf top prefix before byte leaf x after))
+texts-filled P part prefix top before byte leaf x after same each new =
+    let left = branch_texts before in
+    let right = branch_texts after in
+    let parted = subst (All P) (ap (map (λ l. l.1)) same ∙ map-append (λ l. l.1) (branch_leaves before) (branch_leaves after)) each in
+    let filled = ap (map (λ l. l.1)) (leaves-taken prefix top before byte leaf x after) ∙ map-append (λ l. l.1) (branch_leaves before) ((leaf, x) ∷ branch_leaves after) in
+    subst (All P) (sym filled) (All-append P left (x ∷ right) (All-left P left right parted) (All-cons P x right new (All-right P left right parted)))
 
 -- the steps of an insert: from the first arena to the next a leaf is linked, from there to the third the node at the place is changed, and then a node is hung there
 module _ {K V : Type 0} {P : ℕ} (text : K → List ℕ) (old linked new : ArenaOf K V P) (context : Context (OpaqueNodePtr K V P)) (part : Tree (OpaqueNodePtr K V P)) (root leaf top : OpaqueNodePtr K V P) (key : K) (value : V) where
@@ -267,7 +277,7 @@ module _ {K V : Type 0} {P : ℕ} (text : K → List ℕ) (old linked new : Aren
         pub record HasTaken : Type 0 where
           pub place : HasPlace (path_to context) prefix before byte after
           pub leads : IsFront ((path_to context ++ prefix) ++ byte ∷ []) (text key)
-          pub short : length (text key) < 2 ^ 64
+          pub short : length (text key) < 2 ^ 32
           pub node : nodes.Inner (OpaqueNodePtr K V P)
           pub is_held : held new top ≡ HeldInner node
           pub shows : NodeStands P node prefix (join before (Branch byte (Leaf leaf (text key)) after))
@@ -313,8 +323,9 @@ module _ {K V : Type 0} {P : ℕ} (text : K → List ℕ) (old linked new : Aren
           pub added-alone : IsAlone text old root (plug context part) → IsAlone text last root_now (plug context taken)
           added-alone alone =
               let whole = alone-grown text old last root context part taken alone steps.distinct exchanged
-              (taken-sound (path_to context) prefix top before byte leaf (text key) after has.place has.leads has.short)
+              (taken-sound (path_to context) prefix top before byte leaf (text key) after has.place has.leads (omega (arith, has.short)))
               has.snug
+              (texts-filled (λ x. length x < 2 ^ 32) part prefix top before byte leaf (text key) after has.same_leaves (texts-part (λ x. length x < 2 ^ 32) context part alone.short) has.short)
               (subst (Spells last) (sym keys-now) (record { distinct = has.spelled.distinct; spelled = spells-on None _ has.spelled.spelled }))
               (λ p is free. in-taken prefix top before byte leaf (text key) after p (elim (fresh-last p is free) [ inl at ↦ inl at | inr new ↦ inr (inl new) ]))
               has.gone in

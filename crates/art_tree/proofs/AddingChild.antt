@@ -1,5 +1,5 @@
 -- A leaf more under a node that has no child under its byte.
-use Rattle.std.proofs.Common.{◌≡◌, ◌≢◌, ◌∙◌, ℕ, ◌+◌, ◌<◌, ◌^◌, List, [], ◌∷◌, ◌++◌, length, Contains, Some, None, refl, sym, ap, subst, inl, inr, arith}
+use Rattle.std.proofs.Common.{◌≡◌, ◌≢◌, ◌∙◌, ℕ, ◌+◌, ◌<◌, ◌^◌, List, [], ◌∷◌, ◌++◌, length, Contains, Some, None, refl, sym, ap, subst, inl, inr}
 use Rattle.std.proofs.lemmas.List.Elements.{All-contains, Contains-append_left, Contains-append_right, Contains-append_cases}
 use Rattle.art_header.specs.NodeType.{kind_for, most_children, grown_kind}
 use Rattle.art_header.specs.declared.node_type.NodeType.{NodeType}
@@ -153,7 +153,7 @@ module _ {K V : Type 0} {P : ℕ} (text : K → List ℕ) (old : ArenaOf K V P) 
       child-taken last root_now hung short spelled = record {
         place = gap-there.place;
         leads = lacks.leads;
-        short = omega (arith, short);
+        short = short;
         node = nodes.node_with_child node-is byte leaf;
         is_held = top-held;
         shows = record {

@@ -328,7 +328,7 @@ module _ {K V : Type 0} {P : ℕ} (text : K → List ℕ) (old : ArenaOf K V P) 
               taken-there = record {
                 place = fork-there.place;
                 leads = fork-there.leads;
-                short = omega (arith, short);
+                short = short;
                 node = node_of P shared_there (two_children fork.byte leaf fork.node_byte spot.node);
                 is_held = placed.changes.changed ∙ ap (λ s. HeldInner (node_of P s (two_children fork.byte leaf fork.node_byte spot.node))) shared-is;
                 shows = record { prefix_len = refl; stored = refl; children = ap (two_children fork.byte leaf fork.node_byte) (sym parts.at.at_root) ∙ fork-there.written leaf (text key) };

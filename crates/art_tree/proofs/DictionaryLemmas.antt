@@ -1,5 +1,5 @@
 -- The dictionary of an arena that holds one tree.
-use Rattle.std.proofs.Common.{Bor, filter, ◌<◌, length, ◌≢◌, ◌≡◌, ◌∙◌, ℕ, zero, suc, Bool, true, false, List, [], ◌∷◌, map, get_or, AllPairs, Contains, Option, Some, None, slice_index_or, nat_eq, refl, sym, ap, subst, inl, inr, arith, append-nil, ◌++◌, IfSome, IfNone}
+use Rattle.std.proofs.Common.{Bor, filter, ◌<◌, ◌^◌, length, ◌≢◌, ◌≡◌, ◌∙◌, ℕ, zero, suc, Bool, true, false, List, [], ◌∷◌, map, get_or, All, AllPairs, Contains, Option, Some, None, slice_index_or, nat_eq, refl, sym, ap, subst, inl, inr, arith, append-nil, ◌++◌, IfSome, IfNone}
 use Rattle.std.specs.Cmp.Lexicographic.{pointwise}
 use Rattle.std.specs.Cmp.{nat_cmp_is}
 use Rattle.std.specs.Cmp.Lexicographic.{nat_list_cmp_total}
@@ -8,7 +8,7 @@ use Rattle.std.specs.Option.{option_copied, option_map}
 use Rattle.std.specs.declared.cmp.Ordering.TheVariants.{Less, Equal, Greater}
 use Rattle.std.proofs.lemmas.List.{length-map}
 use Rattle.std.proofs.lemmas.Option.{same_Some}
-use Rattle.std.proofs.lemmas.List.Elements.{Contains-append_left, Contains-append_right, Contains-append_cases}
+use Rattle.std.proofs.lemmas.List.Elements.{All-contains, All-map, Contains-get_or, Contains-append_left, Contains-append_right, Contains-append_cases}
 use Rattle.art_header.specs.declared.node_type.NodeType.TheVariants as kinds
 use Rattle.art_bytes.specs.Text.{IsFront, text_order}
 use Rattle.art_nodes.specs.Leaf.{leaf_key, leaf_value}
@@ -268,10 +268,19 @@ module _ {K V : Type 0} {P : ℕ} (text : K → List ℕ) (arena : ArenaOf K V P
   entry-held (p ∷ pointers) (entry ∷ entries) hold zero d inside = record { pointer = p; leaf = hold.0.0; is_held = hold.0.1; key = hold.0.2; value = hold.0.3 }
   entry-held (p ∷ pointers) (entry ∷ entries) hold (suc k) d inside = entry-held pointers entries hold.1 k d (omega (arith, inside))
 
-  module _ (old : ArenaOf K V P) (free : (pointer : OpaqueNodePtr K V P) → held old pointer ≡ Nothing) (entries : List (K × V)) (root : OpaqueNodePtr K V P) (tree : Tree (OpaqueNodePtr K V P)) (is : IsLoaded text old arena entries root tree) where
+  module _ (old : ArenaOf K V P) (free : (pointer : OpaqueNodePtr K V P) → held old pointer ≡ Nothing) (entries : List (K × V)) (root : OpaqueNodePtr K V P) (tree : Tree (OpaqueNodePtr K V P)) (is : IsLoaded text old arena entries root tree) (short : All (λ x. length x < 2 ^ 32) (texts_of text entries)) where
+    -- a text of the tree is that of an entry, and so is short
+    short-there : All (λ x. length x < 2 ^ 32) (texts tree)
+    short-there = All-map (λ x. length x < 2 ^ 32) (λ (pair : OpaqueNodePtr K V P × List ℕ). pair.1) (leaves tree) (λ k d inside.
+        let pair = get_or (leaves tree) k d in
+        let there = Contains-get_or (leaves tree) k d inside in
+        let leaf = leaf-held-in text arena tree is.is_tree.stands pair.0 pair.1 there in
+        let entry = text-of-held (leaf_pointers tree) entries pair.0 leaf.0 is.hold (in-map (λ pair. pair.0) (leaves tree) pair there) leaf.1 in
+        subst (λ x. length x < 2 ^ 32) leaf.2 (All-contains (λ x. length x < 2 ^ 32) (texts_of text entries) (text (leaf_key leaf.0)) short entry))
+
     -- what is loaded into an empty arena is alone there
     pub alone-loaded : IsAlone text arena root tree
-    alone-loaded = record { is_tree = is.is_tree; snug = is.snug; spelled = is.spelled; no_others = λ pointer is_held. is.adds.no_others pointer (free pointer) is_held }
+    alone-loaded = record { is_tree = is.is_tree; snug = is.snug; short = short-there; spelled = is.spelled; no_others = λ pointer is_held. is.adds.no_others pointer (free pointer) is_held }
 
     -- and the dictionary is that of the entries
     pub loaded-entry : AreApart (texts tree) → (k : ℕ) (d : K × V) → k < length entries → entry_at text arena (text (get_or entries k d).0) ≡ Some (get_or entries k d)

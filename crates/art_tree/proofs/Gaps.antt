@@ -39,7 +39,7 @@ abbrev pub keys_of : {K V : Type 0} {P : ℕ} → List (OpaqueNodePtr K V P × L
 keys_of all = map opaque_key (map (λ leaf. leaf.0) all)
 
 module _ {K V : Type 0} {P : ℕ} where
-  keys-append : (a b : List (OpaqueNodePtr K V P × List ℕ)) → keys_of (a ++ b) ≡ keys_of a ++ keys_of b
+  pub keys-append : (a b : List (OpaqueNodePtr K V P × List ℕ)) → keys_of (a ++ b) ≡ keys_of a ++ keys_of b
   keys-append a b = ap (map opaque_key) (map-append (λ leaf. leaf.0) a b) ∙ map-append opaque_key (map (λ leaf. leaf.0) a) (map (λ leaf. leaf.0) b)
 
   keys-beside : (end : End) (left right : List (OpaqueNodePtr K V P × List ℕ)) (p : OpaqueNodePtr K V P) (x : List ℕ) → IsBeside end left right (p, x) → IsBeside end (keys_of left) (keys_of right) (opaque_key p)

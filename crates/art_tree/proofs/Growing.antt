@@ -1,19 +1,21 @@
 -- A tree that is alone in its arena, after a part of it was exchanged, and its dictionary.
-use Rattle.std.proofs.Common.{◌≡◌, ◌≢◌, ◌⊎◌, ◌∙◌, ℕ, List, [], ◌∷◌, ◌++◌, map, Contains, Option, Some, None, refl, sym, ap, subst, inl, inr}
-use Rattle.std.proofs.lemmas.List.Elements.{Contains-append_left, Contains-append_right, Contains-append_cases}
+use Rattle.std.proofs.Common.{◌≡◌, ◌≢◌, ◌⊎◌, ◌∙◌, ℕ, ◌<◌, ◌^◌, List, [], ◌∷◌, ◌++◌, length, map, All, Contains, Option, Some, None, refl, sym, ap, subst, inl, inr}
+use Rattle.std.proofs.lemmas.List.{map-append}
+use Rattle.std.proofs.lemmas.List.Elements.{All-append, Contains-append_left, Contains-append_right, Contains-append_cases}
 use Rattle.art_nodes.specs.Pointers.{opaque_key}
 use Rattle.art_nodes.specs.declared.pointers.OpaqueNodePtr.{OpaqueNodePtr}
 use Rattle.art_arena.specs.Arena.{ArenaOf, Nothing, held}
 use Rattle.art_arena.specs.Links.{AreDistinct, Spells}
 use Rattle.art_arena.specs.Trees.{Tree, Inner, Branches, Branch, leaves, texts, places, branch_places, root_of, IsSound}
 use Rattle.art_tree.specs.Art.{IsAlone, IsArt}
-use Rattle.art_tree.specs.Contexts.{Context, Whole, Under, plug, path_to, KeepsAt, IsExchanged}
+use Rattle.art_tree.specs.Contexts.{Context, Whole, Under, plug, path_to, leaves_before, leaves_after, KeepsAt, IsExchanged}
 use Rattle.art_tree.specs.Dictionary.{entry_at}
 use Rattle.art_tree.specs.Loading.{IsSnug, leaf_pointers}
 use Rattle.art_tree.specs.Plan.{join}
 use Rattle.art_tree.proofs.DictionaryLemmas.{AreApart, leaf-held-in, leaf-of-entry, held-entry}
-use Rattle.art_tree.proofs.Exchanging.{the-one, places-node, in-part, kept-tree, snug-whole, sound-whole, stands-whole}
+use Rattle.art_tree.proofs.Exchanging.{the-one, places-node, in-part, kept-tree, leaves-plug, snug-whole, sound-whole, stands-whole}
 use Rattle.art_tree.proofs.Linking.{Spells-kept}
+use Rattle.art_tree.proofs.OnlyWayLemmas.{All-left, All-right}
 use Rattle.art_tree.proofs.Rising.{cases_held}
 
 module _ {H : Type 0} where
@@ -48,6 +50,27 @@ module _ {H : Type 0} where
         ]
       ]
 
+  -- the texts of the whole are those of the part between the others
+  texts-plug : (context : Context H) (part : Tree H) → texts (plug context part) ≡ map (λ l. l.1) (leaves_before context) ++ (texts part ++ map (λ l. l.1) (leaves_after context))
+  texts-plug context part =
+      ap (map (λ l. l.1)) (leaves-plug context part) ∙ map-append (λ l. l.1) (leaves_before context) (leaves part ++ leaves_after context)
+      ∙ ap (λ rest. map (λ l. l.1) (leaves_before context) ++ rest) (map-append (λ l. l.1) (leaves part) (leaves_after context))
+
+  -- what is true of each text of the whole is so of each of the part
+  pub texts-part : (P : List ℕ → Type 0) (context : Context H) (part : Tree H) → All P (texts (plug context part)) → All P (texts part)
+  texts-part P context part each =
+      let after = map (λ (l : H × List ℕ). l.1) (leaves_after context) in
+      All-left P (texts part) after (All-right P (map (λ l. l.1) (leaves_before context)) (texts part ++ after) (subst (All P) (texts-plug context part) each))
+
+  -- and stays so where it is true of each of the new part
+  pub texts-grown : (P : List ℕ → Type 0) (context : Context H) (part now : Tree H) → All P (texts (plug context part)) → All P (texts now) → All P (texts (plug context now))
+  texts-grown P context part now each new =
+      let before = map (λ (l : H × List ℕ). l.1) (leaves_before context) in
+      let after = map (λ (l : H × List ℕ). l.1) (leaves_after context) in
+      let all = subst (All P) (texts-plug context part) each in
+      subst (All P) (sym (texts-plug context now))
+      (All-append P before (texts now ++ after) (All-left P before (texts part ++ after) all) (All-append P (texts now) after new (All-right P (texts part) after (All-right P before (texts part ++ after) all))))
+
   -- where the leaves are those that were and one more, the others are the same
   module _ (left right : List (H × List ℕ)) (added : H) (text : List ℕ) (tree now : Tree H) (old_leaves : leaves tree ≡ left ++ right) (new_leaves : leaves now ≡ left ++ (added, text) ∷ right) where
     pub leaf-stays : (p : H) (x : List ℕ) → Contains (leaves tree) (p, x) → Contains (leaves now) (p, x)
@@ -68,17 +91,18 @@ module _ {H : Type 0} where
 module _ {K V : Type 0} {P : ℕ} (text : K → List ℕ) (old new : ArenaOf K V P) where
   -- a tree whose part is exchanged is alone, where all that is new stands in the new part, and what was in the old part and is not in the new one is gone
   pub alone-grown : (root : OpaqueNodePtr K V P) (context : Context (OpaqueNodePtr K V P)) (part now : Tree (OpaqueNodePtr K V P)) → IsAlone text old root (plug context part) → AreDistinct (places (plug context part)) → IsExchanged old new text context part now
-      → IsSound (path_to context) now → IsSnug now → Spells new (map opaque_key (leaf_pointers (plug context now)))
+      → IsSound (path_to context) now → IsSnug now → All (λ x. length x < 2 ^ 32) (texts now) → Spells new (map opaque_key (leaf_pointers (plug context now)))
       → ((p : OpaqueNodePtr K V P) → held new p ≢ Nothing → held old p ≡ Nothing → Contains (places now) p)
       → ((p : OpaqueNodePtr K V P) → Contains (places part) p → Contains (places now) p ⊎ (held new p ≡ Nothing))
       → IsAlone text new (root_of (plug context now)) (plug context now)
-  alone-grown root context part now alone distinct exchanged sound snug spelled fresh gone = record {
+  alone-grown root context part now alone distinct exchanged sound snug short spelled fresh gone = record {
     is_tree = record {
       at_root = refl;
       stands = stands-whole text old new context part now alone.is_tree.sound distinct exchanged;
       sound = sound-whole context part now alone.is_tree.sound sound;
     };
     snug = snug-whole context part now alone.snug snug;
+    short = texts-grown (λ x. length x < 2 ^ 32) context part now alone.short short;
     spelled = spelled;
     no_others = λ p is_held. elim (cases_held (held old p)) [
       | inl free ↦ in-part context now p (fresh p is_held free)
@@ -98,6 +122,7 @@ module _ {K V : Type 0} {P : ℕ} (text : K → List ℕ) (old new : ArenaOf K V
     alone-same root tree alone = record {
       is_tree = record { at_root = alone.is_tree.at_root; stands = kept-tree text old new tree alone.is_tree.stands (λ q inside. keeps-same q); sound = alone.is_tree.sound };
       snug = alone.snug;
+      short = alone.short;
       spelled = Spells-kept old new (λ p was. same p) (map opaque_key (leaf_pointers tree)) alone.spelled;
       no_others = λ p is_held. alone.no_others p (λ none. is_held (same p ∙ none));
     }

@@ -1,5 +1,6 @@
 -- The first entry of a tree, and an entry in the place of another.
 use Rattle.std.proofs.Common.{◌≡◌, ◌≢◌, ◌∙◌, ℕ, length, ◌<◌, ◌^◌, List, [], ◌∷◌, Contains, Option, Some, None, inl, inr, refl, sym, ap, arith}
+use Rattle.std.proofs.lemmas.List.Elements.{All-cons, All-nil}
 use Rattle.art_header.specs.declared.node_type.NodeType.TheVariants as kinds
 use Rattle.art_nodes.specs.Inner as nodes
 use Rattle.art_nodes.specs.Leaf.{leaf_key, leaf_value, previous_key, next_key}
@@ -35,6 +36,7 @@ module _ {K V : Type 0} {P : ℕ} (text : K → List ℕ) (old new : ArenaOf K V
     first-alone short no_previous no_next = record {
       is_tree = record { at_root = refl; stands = (leaf, changes.changed, ap text is_key); sound = ((text key, refl), omega (arith, short)) };
       snug = tt;
+      short = All-cons (λ x. length x < 2 ^ 32) (text key) [] short (All-nil (λ x. length x < 2 ^ 32));
       spelled = record { distinct = ((λ k d inside. absurd (omega (arith, inside))), tt); spelled = ((leaf, leaf-of (leaf_at new (slab_key at)) leaf changes.changed, no_previous, no_next), tt) };
       no_others = λ pointer is_held. elim (cases_pointer pointer (leaf_pointer at)) [
         | inl same ↦ (0, omega arith, sym same)
@@ -96,6 +98,7 @@ module _ {K V : Type 0} {P : ℕ} (text : K → List ℕ) (old new : ArenaOf K V
     replaced-alone root tree alone = record {
       is_tree = record { at_root = alone.is_tree.at_root; stands = text-tree text old new keeps-text tree alone.is_tree.stands; sound = alone.is_tree.sound };
       snug = alone.snug;
+      short = alone.short;
       spelled = record { distinct = alone.spelled.distinct; spelled = text-spells text old new keeps-text None _ alone.spelled.spelled };
       no_others = λ q is_held. alone.no_others q (λ none. elim (cases_pointer q at) [
         | inl same ↦ (let wrong : HeldLeaf was ≡ Nothing = sym is ∙ ap (held old) (sym same) ∙ none in absurd (cc))

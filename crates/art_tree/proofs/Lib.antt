@@ -28,3 +28,4 @@ mod Gaps
 mod AddingChild
 mod AddingFork
 mod EntryLemmas
+mod Cutting

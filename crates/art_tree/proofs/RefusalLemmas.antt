@@ -1,13 +1,14 @@
 -- Entries of which none has a fault.
-use Rattle.std.proofs.Common.{◌≡◌, ◌∙◌, ℕ, zero, suc, ◌+◌, ◌<◌, ◌≤◌, ◌^◌, Bool, true, false, List, [], ◌∷◌, length, take, Option, Some, None, if◌then◌else◌, refl, ap, inl, inr, arith, nat_le, nat_lt, nat_eq, ◌==◌}
+use Rattle.std.proofs.Common.{◌≡◌, ◌∙◌, ℕ, zero, suc, ◌+◌, ◌<◌, ◌≤◌, ◌^◌, Bool, true, false, List, [], ◌∷◌, length, take, All, Option, Some, None, if◌then◌else◌, refl, ap, inl, inr, arith, nat_le, nat_lt, nat_eq, ◌==◌}
 use Rattle.std.specs.declared.cmp.Ordering.{Ordering}
 use Rattle.std.specs.declared.cmp.Ordering.TheVariants.{Less, Equal, Greater}
 use Rattle.std.specs.List.{starts_with}
 use Rattle.std.proofs.lemmas.Bool.{cases_lt}
 use Rattle.std.proofs.lemmas.Bool.Decides.{nat_tests, eqb_tells}
+use Rattle.std.proofs.lemmas.List.Elements.{All-from_get_or}
 use Rattle.art_bytes.specs.Text.{text_order}
 use Rattle.art_tree.specs.Plan.{text_at, IsFork, Forks, AreLoadable}
-use Rattle.art_tree.specs.Refusals.{IsDue, IsRefusal, fault_at, fault_between}
+use Rattle.art_tree.specs.Refusals.{HaveNoFault, IsDue, IsRefusal, fault_at, fault_between}
 use Rattle.std.specs.Ordering.{is_lt}
 use Rattle.art_tree.specs.declared.loading.check.LoadRefusal.{LoadRefusal}
 use Rattle.art_tree.specs.declared.loading.check.LoadRefusal.TheVariants.{Empty, KeyTooLong, NotAscending, Prefix, OutOfMemory}
@@ -66,6 +67,10 @@ loadable texts none = record { short = is_short; fork = parts }
     parts i within =
         let at_next : fault_between i (text_at texts i) (text_at texts (i + 1)) ≡ None = rw (le-false (2 ^ 32) (length (text_at texts i)) (is_short i (omega (arith, within))), le-false (length texts) (i + 1) within) at (none i (omega (arith, within))) in
         between i (text_at texts i) (text_at texts (i + 1)) _ _ refl refl at_next
+
+-- so every text of them is short
+pub each-short : (texts : List (List ℕ)) → HaveNoFault texts → All (λ x. length x < 2 ^ 32) texts
+each-short texts fine = let fits = loadable texts fine.1 in All-from_get_or (λ x. length x < 2 ^ 32) texts [] fits.short
 
 -- no entry is refused for want of memory
 no-memory : (b : Bool) (x y : Option LoadRefusal) → (x ≡ Some OutOfMemory → ⊥) → (y ≡ Some OutOfMemory → ⊥) → (if b then x else y) ≡ Some OutOfMemory → ⊥

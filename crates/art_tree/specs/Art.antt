@@ -1,11 +1,11 @@
 -- What contracts see of a tree with its arena, and what is true of every one.
-use Rattle.std.specs.Prelude.{◌≡◌, ◌≢◌, ℕ, List, map, Contains, Option, Some, None}
+use Rattle.std.specs.Prelude.{◌≡◌, ◌≢◌, ℕ, ◌<◌, ◌^◌, List, length, map, All, Contains, Option, Some, None}
 use Rattle.art_nodes.specs.Pointers.{opaque_key}
 use Rattle.art_nodes.specs.declared.pointers.OpaqueNodePtr.{OpaqueNodePtr}
 use Rattle.art_arena.specs.Arena.{ArenaOf, Nothing, held}
 use Rattle.art_arena.specs.Links.{Spells}
 use Rattle.art_arena.specs.Standing.{IsTreeIn}
-use Rattle.art_arena.specs.Trees.{Tree, places}
+use Rattle.art_arena.specs.Trees.{Tree, places, texts}
 use Rattle.art_tree.specs.Loading.{IsSnug, leaf_pointers}
 
 -- an arena and the root of its tree, if it has one
@@ -14,10 +14,11 @@ pub record Art (A R : Type 0) : Type 0 where
   pub root : Option R
 
 module _ {K V : Type 0} {P : ℕ} (text : K → List ℕ) (arena : ArenaOf K V P) where
-  -- a well-formed, snug tree stands at the root, its leaves are linked in their order, and the arena holds nothing else
+  -- a well-formed, snug tree stands at the root, each text has fewer than 2^32 bytes, its leaves are linked in their order, and the arena holds nothing else
   pub record IsAlone (root : OpaqueNodePtr K V P) (tree : Tree (OpaqueNodePtr K V P)) : Type 0 where
     pub is_tree : IsTreeIn text arena root tree
     pub snug : IsSnug tree
+    pub short : All (λ x. length x < 2 ^ 32) (texts tree)
     pub spelled : Spells arena (map opaque_key (leaf_pointers tree))
     pub no_others : (pointer : OpaqueNodePtr K V P) → held arena pointer ≢ Nothing → Contains (places tree) pointer
 

@@ -16,3 +16,4 @@ pub mod Inserting
 pub mod Hanging
 pub mod Cuts
 pub mod Dropping
+pub mod Removing

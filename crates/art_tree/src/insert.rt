@@ -145,8 +145,8 @@ fn leaf_beside<K: AsBytes, V, const PREFIX_LEN: usize>(
     }
 }
 
-// Hangs a node where another one hung, under its parent or as the root. Answers the root.
-fn hang<K, V, const PREFIX_LEN: usize>(
+/// Hangs a node where another one hung, under its parent or as the root. Answers the root.
+pub(crate) fn hang<K, V, const PREFIX_LEN: usize>(
     arena: &mut NodeArena<K, V, PREFIX_LEN>,
     root: OpaqueNodePtr<K, V, PREFIX_LEN>,
     parent: Option<(OpaqueNodePtr<K, V, PREFIX_LEN>, u8)>,

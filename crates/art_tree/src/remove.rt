@@ -1,3 +1,186 @@
 //! An entry less in a tree.
+ghost use Rattle.std.specs.Prelude.{◌≡◌, ◌≢◌, ◌≤◌, ◌++◌, ◌∷◌, ℕ, List, length, Some, None, IfOk, OnOk, OnErr, IfSome, IfNone};
+ghost use Rattle.art_nodes.specs.Inner.{Inner};
+ghost use Rattle.art_nodes.specs.Leaf.{leaf_key, leaf_value};
+ghost use Rattle.art_nodes.specs.Pointers.{slab_key};
+ghost use Rattle.art_arena.specs.Arena.{held, HeldInner, HeldLeaf, Nothing, SameNodes, room};
+ghost use Rattle.art_arena.specs.Links.{Spells};
+ghost use Rattle.art_arena.specs.Trees.{Leaf as LeafTree};
+ghost use Rattle.art_tree.specs.Art.{IsAlone, IsArt};
+ghost use Rattle.art_tree.specs.Dictionary.{entry_at};
+ghost use Rattle.art_tree.specs.Dropping.{HangsUnder};
+ghost use Rattle.art_tree.specs.Edits.{StaysAt};
+ghost use Rattle.art_tree.specs.Removing.{IsLeft, IsRemoved, NeedsSmallerNode};
+ghost use Rattle.art_tree.specs.Search.{leaf_pointer};
 
 pub(crate) mod node;
+
+use crate::find::find_leaf;
+use crate::insert::hang;
+use crate::laws::{each_pointer_is_at_one_place, no_text_begins_another};
+use crate::path::TreePath;
+use crate::remove::node::{
+    give_up, join_prefix, num_children, other_child, reserve_shrink, take_child,
+};
+use art_arena::{ArenaReader, LeafLinks, NodeArena};
+use art_bytes::AsBytes;
+use art_nodes::{LeafNode, NodePtr, OpaqueNodePtr};
+use std::alloc::AllocError;
+
+// Takes a leaf out of its list and out of the arena, and answers its entry.
+fn take_leaf<K: AsBytes, V, const PREFIX_LEN: usize>(
+    arena: &mut NodeArena<K, V, PREFIX_LEN>,
+    leaf: NodePtr<PREFIX_LEN, LeafNode<K, V, PREFIX_LEN>>,
+) -> (K, V)
+    requires listed { (left right : List ℕ) × Spells arena.old (left ++ slab_key leaf ∷ right) }
+    ensures entry { (node : _) → held arena.old (leaf_pointer leaf) ≡ HeldLeaf node →
+        result ≡ (leaf_key node, leaf_value node) }
+    ensures gone { held arena.new (leaf_pointer leaf) ≡ Nothing }
+    ensures spelled { (left right : List ℕ) → Spells arena.old (left ++ slab_key leaf ∷ right) →
+        Spells arena.new (left ++ right) }
+    ensures others { (pointer : _) → pointer ≢ leaf_pointer leaf →
+        StaysAt arena.old arena.new pointer }
+    ensures room { (kind : _) → room arena.old kind ≤ room arena.new kind }
+{
+    LeafNode::remove_self(arena, leaf);
+    arena.deallocate_node_ptr(leaf).into_entry()
+}
+
+// Takes the only leaf of a tree.
+fn remove_root<K: AsBytes, V, const PREFIX_LEN: usize>(
+    arena: &mut NodeArena<K, V, PREFIX_LEN>,
+    leaf: NodePtr<PREFIX_LEN, LeafNode<K, V, PREFIX_LEN>>,
+) -> (K, V)
+    requires { (root : _) (text : List ℕ) × IsAlone K.text arena.old root
+        (LeafTree (leaf_pointer leaf) text) }
+    ensures { (root : _) (text : List ℕ) →
+        IsAlone K.text arena.old root (LeafTree (leaf_pointer leaf) text) →
+        IsArt K.text arena.new None × IsLeft K.text arena.old arena.new text ×
+        (entry_at K.text arena.old text ≡ Some result) }
+{
+    no_text_begins_another::<OpaqueNodePtr<K, V, PREFIX_LEN>>();
+    take_leaf(arena, leaf)
+}
+
+// Takes a leaf from a node of more than two children. Answers the root and the entry.
+fn remove_from_many<K: AsBytes, V, const PREFIX_LEN: usize>(
+    arena: &mut NodeArena<K, V, PREFIX_LEN>,
+    root: OpaqueNodePtr<K, V, PREFIX_LEN>,
+    above: Option<(OpaqueNodePtr<K, V, PREFIX_LEN>, u8)>,
+    parent: OpaqueNodePtr<K, V, PREFIX_LEN>,
+    byte: u8,
+    leaf: NodePtr<PREFIX_LEN, LeafNode<K, V, PREFIX_LEN>>,
+) -> Result<(OpaqueNodePtr<K, V, PREFIX_LEN>, (K, V)), AllocError>
+    requires place { (tree : _) × IsAlone K.text arena.old root tree ×
+        HangsUnder tree (leaf_pointer leaf) parent byte above }
+    requires many { (node : Inner _) → held arena.old parent ≡ HeldInner node →
+        length node.children ≢ 2 }
+    ensures removed { (tree : _) → IsAlone K.text arena.old root tree →
+        (hangs : HangsUnder tree (leaf_pointer leaf) parent byte above) →
+        IfOk result (λ (root, entry). IsRemoved K.text arena.old arena.new hangs.text root entry) }
+    ensures refused { (tree : _) → IsAlone K.text arena.old root tree →
+        (hangs : HangsUnder tree (leaf_pointer leaf) parent byte above) →
+        OnErr result (NeedsSmallerNode K.text arena.old hangs.text) }
+    ensures nodes_kept { OnErr result (SameNodes arena.old arena.new) }
+{
+    no_text_begins_another::<OpaqueNodePtr<K, V, PREFIX_LEN>>();
+    each_pointer_is_at_one_place::<K, V, PREFIX_LEN>();
+    reserve_shrink(arena, parent)?;
+    let entry = take_leaf(arena, leaf);
+    let node = take_child(arena, parent, byte);
+    Ok((hang(arena, root, above, node), entry))
+}
+
+// Takes a leaf from a node of two children, whose other child takes the node's place. Answers the root
+// and the entry.
+fn remove_from_two<K: AsBytes, V, const PREFIX_LEN: usize>(
+    arena: &mut NodeArena<K, V, PREFIX_LEN>,
+    root: OpaqueNodePtr<K, V, PREFIX_LEN>,
+    above: Option<(OpaqueNodePtr<K, V, PREFIX_LEN>, u8)>,
+    parent: OpaqueNodePtr<K, V, PREFIX_LEN>,
+    byte: u8,
+    leaf: NodePtr<PREFIX_LEN, LeafNode<K, V, PREFIX_LEN>>,
+) -> (OpaqueNodePtr<K, V, PREFIX_LEN>, (K, V))
+    requires place { (tree : _) × IsAlone K.text arena.old root tree ×
+        HangsUnder tree (leaf_pointer leaf) parent byte above }
+    requires two { (node : Inner _) → held arena.old parent ≡ HeldInner node →
+        length node.children ≡ 2 }
+    ensures { (tree : _) → IsAlone K.text arena.old root tree →
+        (hangs : HangsUnder tree (leaf_pointer leaf) parent byte above) →
+        IsRemoved K.text arena.old arena.new hangs.text result.0 result.1 }
+{
+    no_text_begins_another::<OpaqueNodePtr<K, V, PREFIX_LEN>>();
+    each_pointer_is_at_one_place::<K, V, PREFIX_LEN>();
+    let entry = take_leaf(arena, leaf);
+    let (other_byte, child) = other_child(arena, parent, byte);
+    join_prefix(arena, parent, other_byte, child);
+    give_up(arena, parent);
+    (hang(arena, root, above, child), entry)
+}
+
+// Takes a leaf from the inner node that it hangs in. Answers the root and the entry.
+fn remove_from<K: AsBytes, V, const PREFIX_LEN: usize>(
+    arena: &mut NodeArena<K, V, PREFIX_LEN>,
+    root: OpaqueNodePtr<K, V, PREFIX_LEN>,
+    above: Option<(OpaqueNodePtr<K, V, PREFIX_LEN>, u8)>,
+    parent: OpaqueNodePtr<K, V, PREFIX_LEN>,
+    byte: u8,
+    leaf: NodePtr<PREFIX_LEN, LeafNode<K, V, PREFIX_LEN>>,
+) -> Result<(OpaqueNodePtr<K, V, PREFIX_LEN>, (K, V)), AllocError>
+    requires { (tree : _) × IsAlone K.text arena.old root tree ×
+        HangsUnder tree (leaf_pointer leaf) parent byte above }
+    ensures removed { (tree : _) → IsAlone K.text arena.old root tree →
+        (hangs : HangsUnder tree (leaf_pointer leaf) parent byte above) →
+        IfOk result (λ (root, entry). IsRemoved K.text arena.old arena.new hangs.text root entry) }
+    ensures refused { (tree : _) → IsAlone K.text arena.old root tree →
+        (hangs : HangsUnder tree (leaf_pointer leaf) parent byte above) →
+        OnErr result (NeedsSmallerNode K.text arena.old hangs.text) }
+    ensures nodes_kept { OnErr result (SameNodes arena.old arena.new) }
+{
+    if num_children(arena, parent) == 2 {
+        Ok(remove_from_two(arena, root, above, parent, byte, leaf))
+    } else {
+        remove_from_many(arena, root, above, parent, byte, leaf)
+    }
+}
+
+/// Takes the entry with this text from the tree that an arena holds, if there is one, and answers the
+/// root that is left, if there is one, and the entry.
+pub(crate) fn remove_entry<K: AsBytes, V, const PREFIX_LEN: usize>(
+    arena: &mut NodeArena<K, V, PREFIX_LEN>,
+    root: OpaqueNodePtr<K, V, PREFIX_LEN>,
+    key: &[u8],
+) -> Result<Option<(Option<OpaqueNodePtr<K, V, PREFIX_LEN>>, (K, V))>, AllocError>
+    requires art { IsArt K.text arena.old (Some root) }
+    ensures removed { IfOk result (λ removed. IfSome removed (λ (root, entry).
+        IsArt K.text arena.new root × IsLeft K.text arena.old arena.new key.now ×
+        (entry_at K.text arena.old key.now ≡ Some entry))) }
+    ensures absent { IfOk result (λ removed.
+        IfNone removed (entry_at K.text arena.old key.now ≡ None)) }
+    ensures absent_kept { IfOk result (λ removed. IfNone removed (arena.new ≡ arena.old)) }
+    ensures refused { OnErr result (NeedsSmallerNode K.text arena.old key.now) }
+    ensures nodes_kept { OnErr result (SameNodes arena.old arena.new) }
+{
+    no_text_begins_another::<OpaqueNodePtr<K, V, PREFIX_LEN>>();
+    let mut reader = ArenaReader::with_budget(arena, key.len() + 1);
+    let Some((leaf, path)) = find_leaf(&mut reader, root, key) else {
+        return Ok(None);
+    };
+    let (above, parent, byte) = match path {
+        TreePath::Root => {
+            return Ok(Some((None, remove_root(arena, leaf))));
+        }
+        TreePath::ChildOfRoot {
+            parent,
+            child_key_byte,
+        } => (None, parent, child_key_byte),
+        TreePath::Normal {
+            grandparent,
+            parent_key_byte,
+            parent,
+            child_key_byte,
+        } => (Some((grandparent, parent_key_byte)), parent, child_key_byte),
+    };
+    let (root, entry) = remove_from(arena, root, above, parent, byte, leaf)?;
+    Ok(Some((Some(root), entry)))
+}

@@ -1,12 +1,15 @@
 //! The calls that change a tree.
-ghost use Rattle.std.specs.Prelude.{◌≡◌, ◌≢◌, ℕ, List, IfOk, IfErr, OnOk, OnErr};
+ghost use Rattle.std.specs.Prelude.{◌≡◌, ◌≢◌, ℕ, List, None, IfOk, IfErr, OnOk, OnErr};
 ghost use Rattle.art_arena.specs.Arena.{SameNodes};
 ghost use Rattle.art_tree.specs.Dictionary.{entry_at, IsEntry};
 ghost use Rattle.art_tree.specs.Inserting.{IsRefused, MayEnter, SameEntries};
+ghost use Rattle.art_tree.specs.Removing.{NeedsSmallerNode};
 
 use crate::insert::{InsertFault, insert_entry};
+use crate::remove::remove_entry;
 use crate::tree::ArtTree;
 use art_bytes::AsBytes;
+use std::alloc::AllocError;
 
 impl<K: AsBytes, V, const PREFIX_LEN: usize> ArtTree<K, V, PREFIX_LEN> {
     /// Adds an entry. Where there is one with the key's text, its key and its value are replaced and
@@ -32,5 +35,29 @@ impl<K: AsBytes, V, const PREFIX_LEN: usize> ArtTree<K, V, PREFIX_LEN> {
         let (root, before) = insert_entry(&mut self.arena, self.root, key, value)?;
         self.root = Some(root);
         Ok(before)
+    }
+
+    /// Takes out the entry with this text, if there is one, and answers it.
+    ///
+    /// Memory is asked for only where the entry's leaf hangs in an inner node of 5, 17 or 49 children,
+    /// since a node of a smaller kind takes its place. Where that is refused, the tree is as before.
+    pub fn remove(&mut self, key: &[u8]) -> Result<Option<(K, V)>, AllocError>
+        ensures removed { IfOk result (λ entry. entry ≡ entry_at K.text self.old.arena key.now) }
+        ensures gone { OnOk result (entry_at K.text self.new.arena key.now ≡ None) }
+        ensures others { OnOk result ((other : List ℕ) → other ≢ key.now →
+            entry_at K.text self.new.arena other ≡ entry_at K.text self.old.arena other) }
+        ensures refused { OnErr result (NeedsSmallerNode K.text self.old.arena key.now) }
+        ensures same_entries { OnErr result (SameEntries K.text self.old.arena self.new.arena) }
+        ensures nodes_kept { OnErr result (SameNodes self.old.arena self.new.arena) }
+        ensures root_kept { OnErr result (self.new.root ≡ self.old.root) }
+    {
+        let Some(root) = self.root else {
+            return Ok(None);
+        };
+        let Some((root, entry)) = remove_entry(&mut self.arena, root, key)? else {
+            return Ok(None);
+        };
+        self.root = root;
+        Ok(Some(entry))
     }
 }

@@ -1,20 +1,26 @@
 use Rattle.std.proofs.Common.{[]}
+use Rattle.art_tree.specs.Plan.{texts_of}
 use Rattle.art_tree.proofs.DictionaryLemmas.{alone-loaded, loaded-entry, loaded-text}
+use Rattle.art_tree.proofs.RefusalLemmas.{each-short}
 use Rattle.art_tree.proofs.tree.ArtTree+K+V+PREFIX_LEN.load.Goals as goal
 
 pub invariant_of-result : goal.invariant_of-result
 invariant_of-result g c =
-    let loaded = c.in-Ok.ensures.loaded in (loaded.0, alone-loaded g.K.AsBytes.text c.load.new.arena c.new-arena.result c.new-arena.ensures c.args.entries.items c.in-Ok.root loaded.0 loaded.1)
+    let loaded = c.in-Ok.ensures.loaded in
+    let short = each-short (texts_of g.K.AsBytes.text c.args.entries.items) c.in-Ok.ensures.no_fault in
+    (loaded.0, alone-loaded g.K.AsBytes.text c.load.new.arena c.new-arena.result c.new-arena.ensures c.args.entries.items c.in-Ok.root loaded.0 loaded.1 short)
 
 pub returns-in-Ok-clause-entries : goal.returns-in-Ok-clause-entries
 returns-in-Ok-clause-entries g c =
     let loaded = c.in-Ok.ensures.loaded in
-    loaded-entry g.K.AsBytes.text c.load.new.arena c.new-arena.result c.new-arena.ensures c.args.entries.items c.in-Ok.root loaded.0 loaded.1 (c.no_text_begins_another.ensures [] loaded.0 loaded.1.is_tree.sound)
+    let short = each-short (texts_of g.K.AsBytes.text c.args.entries.items) c.in-Ok.ensures.no_fault in
+    loaded-entry g.K.AsBytes.text c.load.new.arena c.new-arena.result c.new-arena.ensures c.args.entries.items c.in-Ok.root loaded.0 loaded.1 short (c.no_text_begins_another.ensures [] loaded.0 loaded.1.is_tree.sound)
 
 pub returns-in-Ok-clause-no_others : goal.returns-in-Ok-clause-no_others
 returns-in-Ok-clause-no_others g c =
     let loaded = c.in-Ok.ensures.loaded in
-    loaded-text g.K.AsBytes.text c.load.new.arena c.new-arena.result c.new-arena.ensures c.args.entries.items c.in-Ok.root loaded.0 loaded.1
+    let short = each-short (texts_of g.K.AsBytes.text c.args.entries.items) c.in-Ok.ensures.no_fault in
+    loaded-text g.K.AsBytes.text c.load.new.arena c.new-arena.result c.new-arena.ensures c.args.entries.items c.in-Ok.root loaded.0 loaded.1 short
 
 pub returns-in-Err-clause-no_fault : goal.returns-in-Err-clause-no_fault
 returns-in-Err-clause-no_fault g c = tt

@@ -1,0 +1,34 @@
+-- What a removal answers and leaves.
+use Rattle.std.specs.Prelude.{◌≡◌, ◌≢◌, ◌⊎◌, ℕ, List, Contains, Some, None, length}
+use Rattle.art_nodes.specs.Inner.{Inner}
+use Rattle.art_nodes.specs.Leaf.{leaf_key}
+use Rattle.art_nodes.specs.declared.pointers.OpaqueNodePtr.{OpaqueNodePtr}
+use Rattle.art_nodes.specs.declared.leaf_node.LeafNode.{LeafNode}
+use Rattle.art_arena.specs.Arena.{ArenaOf, HeldInner, HeldLeaf, held}
+use Rattle.art_tree.specs.Art.{IsArt}
+use Rattle.art_tree.specs.Dictionary.{entry_at}
+
+module _ {K V : Type 0} {P : ℕ} (text : K → List ℕ) where
+  -- a leaf has this text, and the inner node that it hangs in has 5, 17 or 49 children: without it the node is of a smaller kind
+  pub record NeedsSmallerNode (arena : ArenaOf K V P) (x : List ℕ) : Type 0 where
+    pub pointer : OpaqueNodePtr K V P
+    pub leaf : LeafNode K V P
+    pub is_held : held arena pointer ≡ HeldLeaf leaf
+    pub has_text : text (leaf_key leaf) ≡ x
+    pub parent : OpaqueNodePtr K V P
+    pub node : Inner (OpaqueNodePtr K V P)
+    pub parent_held : held arena parent ≡ HeldInner node
+    pub byte : ℕ
+    pub hangs : Contains node.children (byte, pointer)
+    pub count : (length node.children ≡ 5) ⊎ ((length node.children ≡ 17) ⊎ (length node.children ≡ 49))
+
+  -- the text has no entry now, and every other text the entry that it had
+  pub record IsLeft (old new : ArenaOf K V P) (x : List ℕ) : Type 0 where
+    pub gone : entry_at text new x ≡ None
+    pub others : (y : List ℕ) → y ≢ x → entry_at text new y ≡ entry_at text old y
+
+  -- a tree stands at this root that has all entries but that of the text, which is this one
+  pub record IsRemoved (old new : ArenaOf K V P) (x : List ℕ) (root : OpaqueNodePtr K V P) (entry : K × V) : Type 0 where
+    pub art : IsArt text new (Some root)
+    pub left : IsLeft old new x
+    pub was : entry_at text old x ≡ Some entry
