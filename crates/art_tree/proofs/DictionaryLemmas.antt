@@ -134,7 +134,7 @@ in-map : {A B : Type 0} (f : A → B) (xs : List A) (x : A) → Contains xs x �
 in-map f xs x (k, inside, is) = (k, omega (arith, inside, length-map xs f), at-map f xs k x ∙ ap f is)
 
 module _ {H : Type 0} where
-  not-later : (y : H × List ℕ) (ys : List (H × List ℕ)) (p q : H) (x : List ℕ) → AreApart (map (λ pair. pair.1) (y ∷ ys)) → y ≡ (p, x) → Contains ys (q, x) → ⊥
+  pub not-later : (y : H × List ℕ) (ys : List (H × List ℕ)) (p q : H) (x : List ℕ) → AreApart (map (λ pair. pair.1) (y ∷ ys)) → y ≡ (p, x) → Contains ys (q, x) → ⊥
   not-later y ys p q x apart here (k, inside, is) =
       let first : y.1 ≡ x = ap (λ pair. pair.1) here in
       let later : get_or (map (λ pair. pair.1) ys) k x ≡ x = at-map (λ pair. pair.1) ys k (q, x) ∙ ap (λ pair. pair.1) is in

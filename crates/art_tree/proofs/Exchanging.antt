@@ -23,7 +23,7 @@ sound-split path NoBranch b both = (tt, both)
 sound-split path (Branch byte tree others) b both = let rest = sound-split path others b both.1 in ((both.0, rest.0), rest.1)
 
 -- a child under a byte that is there already takes the place of the one before it
-before-byte : {H : Type 0} (low : ℕ) (front : ChildMap H) (byte : ℕ) (child : H) (back : ChildMap H) → IsAscendingFrom low (key_bytes (front ++ (byte, child) ∷ back)) → low ≤ byte
+pub before-byte : {H : Type 0} (low : ℕ) (front : ChildMap H) (byte : ℕ) (child : H) (back : ChildMap H) → IsAscendingFrom low (key_bytes (front ++ (byte, child) ∷ back)) → low ≤ byte
 before-byte low [] byte child back ascend = ascend.0
 before-byte low (x ∷ front) byte child back ascend = omega (arith, ascend.0, before-byte (suc x.0) front byte child back ascend.2)
 

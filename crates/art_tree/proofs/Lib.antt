@@ -29,3 +29,5 @@ mod AddingChild
 mod AddingFork
 mod EntryLemmas
 mod Cutting
+mod WayContexts
+mod DroppingLemmas

@@ -149,7 +149,7 @@ abbrev pub AreShared : Type 0 → Type 0
 AreShared H = (path prefix : List ℕ) (pointer : H) (branches : Branches H) → IsSound path (Inner pointer prefix branches) → IsSharedFront (texts (Inner pointer prefix branches)) (path ++ prefix)
 
 -- one of these texts begins with the path
-record HasText (path : List ℕ) (all : List (List ℕ)) : Type 0 where
+pub record HasText (path : List ℕ) (all : List (List ℕ)) : Type 0 where
   pub text : List ℕ
   pub inside : Contains all text
   pub begins : IsFront path text
@@ -181,7 +181,7 @@ module _ {H : Type 0} where
         }
 
     -- and so have branches, where it goes on by a byte
-    branch-text : (path : List ℕ) (branches : Branches H) → 0 < length (branch_roots branches) → AreSound path branches → (byte : ℕ) × HasText (path ++ byte ∷ []) (branch_texts branches)
+    pub branch-text : (path : List ℕ) (branches : Branches H) → 0 < length (branch_roots branches) → AreSound path branches → (byte : ℕ) × HasText (path ++ byte ∷ []) (branch_texts branches)
     branch-text path NoBranch some sound = absurd (omega (arith, some))
     branch-text path (Branch byte tree others) some sound =
         let first = some-text (path ++ byte ∷ []) tree sound.0 in (

@@ -26,7 +26,7 @@ use Rattle.art_tree.proofs.DictionaryLemmas.{after-first}
 use Rattle.art_tree.proofs.Exchanging.{the-one, sound-split, none-below, all-above}
 use Rattle.art_tree.proofs.Rising.{snug-join, take-get, kind-4, kind-16, kind-48, kind-256}
 
-eq-true : (a b : ℕ) → a ≡ b → (a == b) ≡ true
+pub eq-true : (a b : ℕ) → a ≡ b → (a == b) ≡ true
 eq-true a b e = grind (arith, nat_tests)
 
 eq-false : (a b : ℕ) → a < b → (a == b) ≡ false
