@@ -7,7 +7,7 @@ use Rattle.art_nodes.specs.Inner as nodes
 use Rattle.art_nodes.specs.Leaf.{leaf_key}
 use Rattle.art_nodes.specs.declared.pointers.OpaqueNodePtr.{OpaqueNodePtr}
 use Rattle.art_nodes.specs.declared.leaf_node.LeafNode.{LeafNode}
-use Rattle.art_arena.specs.Arena.{ArenaOf, Held, HeldInner, HeldLeaf, Nothing, held, held_leaf, pointer_to}
+use Rattle.art_arena.specs.Arena.{ArenaOf, Held, HeldInner, HeldLeaf, Nothing, held, held_leaf, pointer_to, SameNodes}
 use Rattle.art_arena.specs.Links.{AreDistinct, Spells, SpellsAfter, leaf_at}
 use Rattle.art_arena.specs.Standing.{StandsIn}
 use Rattle.art_arena.specs.Trees.{Tree, leaves, places, root_of, texts, IsSound}
@@ -18,11 +18,12 @@ use Rattle.art_tree.specs.Edits.{StaysAt}
 use Rattle.art_tree.specs.Hanging.{CanHang, IsHung}
 use Rattle.art_tree.specs.Loading.{IsSnug}
 use Rattle.art_tree.specs.Places.{above}
+use Rattle.art_tree.specs.Removing.{IsRemoved}
 use Rattle.art_tree.proofs.Adding.{HangsAt, can-hang-at, hangs-at, parent-above, place-held, root-place}
 use Rattle.art_tree.proofs.DictionaryLemmas.{AreApart, leaf-held-in}
 use Rattle.art_tree.proofs.Exchanging.{in-part, leaves-plug}
 use Rattle.art_tree.proofs.Gaps.{keys_of, keys-append}
-use Rattle.art_tree.proofs.Growing.{alone-grown, entries-but, leaf-stays, leaf-was, texts-part}
+use Rattle.art_tree.proofs.Growing.{alone-grown, entries-but, entries-same, leaf-stays, leaf-was, texts-part}
 use Rattle.art_tree.proofs.InsertLemmas.{one-leaf}
 use Rattle.art_tree.proofs.OnlyWayLemmas.{All-left, All-right}
 use Rattle.art_tree.proofs.Rising.{cases_pointer, leaf-of}
@@ -217,3 +218,11 @@ module _ {K V : Type 0} {P : ℕ} (text : K → List ℕ) (old cut new : ArenaOf
               entries-but text old last root root_now (plug context part) (plug context now) alone (cut-alone alone) apart apart_now x
               (λ p y inside differ. let was = leaf-stays left right leaf x (plug context now) (plug context part) whole-is whole-was p y inside in (was, keeps p y was differ))
               (λ p y inside differ. (leaf-was left right leaf x (plug context now) (plug context part) whole-is whole-was p y inside differ, keeps p y inside differ))
+
+-- where the first step only made room, what is removed after it is removed after all
+pub removed-from : {K V : Type 0} {P : ℕ} (text : K → List ℕ) (old reserved last : ArenaOf K V P) (x : List ℕ) (root_now : OpaqueNodePtr K V P) (entry : K × V) (root : OpaqueNodePtr K V P) (tree : Tree (OpaqueNodePtr K V P)) → IsAlone text old root tree → IsAlone text reserved root tree → AreApart (texts tree) → SameNodes old reserved
+    → IsRemoved text reserved last x root_now entry → IsRemoved text old last x root_now entry
+removed-from text old reserved last x root_now entry root tree alone again apart same removed =
+    let keeps : (p : OpaqueNodePtr _ _ _) → KeepsAt old reserved p = λ p. record { inner = λ node is. same p ∙ is; leaf = λ l is. (l, same p ∙ is, refl, refl) } in
+    let entries = entries-same text old reserved root root tree tree alone again apart apart (λ p y inside. (inside, keeps p)) (λ p y inside. (inside, keeps p)) in
+    record { art = removed.art; left = record { gone = removed.left.gone; others = λ y differ. removed.left.others y differ ∙ entries y }; was = sym (entries x) ∙ removed.was }

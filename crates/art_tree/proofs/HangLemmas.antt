@@ -1,5 +1,5 @@
 -- Where a node hangs, and what stands beside it.
-use Rattle.std.proofs.Common.{◌≡◌, ◌≢◌, ◌∙◌, ℕ, List, [], ◌∷◌, ◌++◌, Option, Some, None, IsNone, Result, Ok, Err, OnOk, Bool, false, sym, ap, subst, refl, append-nil}
+use Rattle.std.proofs.Common.{◌≡◌, ◌≢◌, ◌∙◌, ℕ, List, [], ◌∷◌, ◌++◌, Option, Some, None, IsNone, Result, Ok, Err, OnOk, OnErr, Bool, false, sym, ap, subst, refl, append-nil}
 use Rattle.std.proofs.lemmas.Option.{same_Some}
 use Rattle.art_header.specs.NodeType.{most_children}
 use Rattle.art_header.specs.declared.node_type.NodeType.TheVariants as kinds
@@ -64,6 +64,10 @@ module _ {K V : Type 0} {P : ℕ} where
             let same : node ≡ own = one-inner (held arena parent) node own here is_own in
             there-already (child_at own.children byte) _ (λ none. some (ap (child_at node.children) (ap (λ pair. pair.1) one) ∙ ap (λ n. child_at n.children byte) same ∙ none));
       }
+
+pub always-err : {T E : Type 0} (r : Result T E) (Q : Type 0) → Q → OnErr r Q
+always-err (Ok x) Q holds = tt
+always-err (Err e) Q holds = holds
 
 -- what holds where a result is Ok holds where it is no error
 pub ok-then : {T E : Type 0} (r : Result T E) (Q : Type 0) {test : Bool} → test ≡ is_err r → test ≡ false → OnOk r Q → Q

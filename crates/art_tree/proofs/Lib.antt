@@ -31,3 +31,4 @@ mod EntryLemmas
 mod Cutting
 mod WayContexts
 mod DroppingLemmas
+mod CuttingMany
