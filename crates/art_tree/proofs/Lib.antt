@@ -32,3 +32,4 @@ mod Cutting
 mod WayContexts
 mod DroppingLemmas
 mod CuttingMany
+mod CutLemmas

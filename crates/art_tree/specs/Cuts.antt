@@ -1,6 +1,7 @@
 -- What the steps of a removal do to an arena. No public clause cites it.
 use Rattle.std.specs.Prelude.{◌≡◌, ◌≢◌, ◌⊎◌, ℕ, ◌<◌, length}
 use Rattle.art_header.specs.NodeType.{least_children, shrunk_kind}
+use Rattle.art_header.specs.declared.node_type.NodeType.{NodeType}
 use Rattle.art_nodes.specs.Inner.{Inner}
 use Rattle.art_nodes.specs.Pointers.{node_kind}
 use Rattle.art_nodes.specs.declared.pointers.OpaqueNodePtr.{OpaqueNodePtr}
@@ -21,6 +22,14 @@ module _ {K V : Type 0} {P : ℕ} where
   pub record IsShrunk (old new : ArenaOf K V P) (pointer : OpaqueNodePtr K V P) (node now : Inner (OpaqueNodePtr K V P)) (at : OpaqueNodePtr K V P) : Type 0 where
     pub least : length node.children ≡ least_children (node_kind pointer)
     pub kind : node_kind at ≡ shrunk_kind (node_kind pointer)
+    pub was_free : held old at ≡ Nothing
+    pub is_held : held new at ≡ HeldInner now
+    pub is_free : held new pointer ≡ Nothing
+    pub others : (other : OpaqueNodePtr K V P) → other ≢ at → other ≢ pointer → held new other ≡ held old other
+
+  -- the node at a pointer is given up for this one, which stands at a new place as one of this kind
+  pub record IsReplaced (old new : ArenaOf K V P) (pointer : OpaqueNodePtr K V P) (shrunk : NodeType) (now : Inner (OpaqueNodePtr K V P)) (at : OpaqueNodePtr K V P) : Type 0 where
+    pub kind : node_kind at ≡ shrunk
     pub was_free : held old at ≡ Nothing
     pub is_held : held new at ≡ HeldInner now
     pub is_free : held new pointer ≡ Nothing

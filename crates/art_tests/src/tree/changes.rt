@@ -37,6 +37,21 @@ fn check_clash<'a>(rt: &impl Abort, tree: &mut Keys<'a>, text: &'a [u8]) {
     assert!(rt; fault.key.get() == text && fault.value == 9);
 }
 
+// Takes out a text with its number.
+fn check_removed<'a>(
+    rt: &impl Abort,
+    tree: &mut Keys<'a>,
+    text: &[u8],
+    number: usize,
+) -> Result<(), AllocError> {
+    let Some((key, was)) = tree.remove(text)? else {
+        panic!(rt; "absent");
+    };
+    assert!(rt; key.get() == text && was == number);
+    assert!(rt; tree.get(text).is_none());
+    Ok(())
+}
+
 // The child under the least byte.
 fn least_child<'a>(rt: &impl Abort, arena: &Nodes<'a>, pointer: Pointer<'a>) -> Pointer<'a> {
     assert!(rt; arena.holds_opaque(pointer));
@@ -195,30 +210,90 @@ fn a_text_that_parts_inside_a_prefix_makes_a_node(rt: HostRuntime) -> Result<(),
     assert!(&rt; child_of(&rt, tree.arena(), root, 100).node_type() == NodeType::Leaf);
     check_texts(&rt, &tree, &[(b"abc1", 0), (b"abc2", 1), (b"abd", 2)]);
     check_clash(&rt, &mut tree, b"ab");
+
+    check_removed(&rt, &mut tree, b"abd", 2)?;
+    let root = root_of(&rt, &tree);
+    check_inner(&rt, tree.arena(), root, NodeType::Node4, 3, b"ab", 2);
+    check_texts(&rt, &tree, &[(b"abc1", 0), (b"abc2", 1)]);
+    assert!(&rt; child_of(&rt, tree.arena(), root, 49).node_type() == NodeType::Leaf);
+    assert!(&rt; child_of(&rt, tree.arena(), root, 50).node_type() == NodeType::Leaf);
     Ok(())
 }
 
-// The kind of the root over so many keys of one byte, put in one by one, and how many children it has.
 #[test]
-fn a_full_node_grows(rt: HostRuntime) -> Result<(), Fail> {
+fn a_node_of_one_child_goes(rt: HostRuntime) -> Result<(), Fail> {
+    let mut tree = Keys::new(rt.alloc());
+    add(&rt, &mut tree, b"abcde1", 0)?;
+    add(&rt, &mut tree, b"abcde2", 1)?;
+    add(&rt, &mut tree, b"abz", 2)?;
+    check_removed(&rt, &mut tree, b"abz", 2)?;
+    let root = root_of(&rt, &tree);
+    check_inner(&rt, tree.arena(), root, NodeType::Node4, 5, b"ab", 2);
+    check_texts(&rt, &tree, &[(b"abcde1", 0), (b"abcde2", 1)]);
+    check_removed(&rt, &mut tree, b"abcde1", 0)?;
+    assert!(&rt; root_of(&rt, &tree).node_type() == NodeType::Leaf);
+    check_texts(&rt, &tree, &[(b"abcde2", 1)]);
+    Ok(())
+}
+
+#[test]
+fn a_tree_is_emptied_and_filled_again(rt: HostRuntime) -> Result<(), Fail> {
+    let mut tree = Keys::new(rt.alloc());
+    let texts: [&[u8]; 5] = [&[0], &[1], &[2], &[3], &[4]];
+    for (number, text) in texts.iter().enumerate() {
+        add(&rt, &mut tree, text, number)?;
+    }
+    check_removed(&rt, &mut tree, &[0], 0)?;
+    check_inner(
+        &rt,
+        tree.arena(),
+        root_of(&rt, &tree),
+        NodeType::Node4,
+        0,
+        b"",
+        4,
+    );
+    assert!(&rt; tree.remove(&[9])?.is_none());
+    for number in 1..5 {
+        check_removed(&rt, &mut tree, texts[number], number)?;
+    }
+    assert!(&rt; tree.root().is_none() && tree.first().is_none());
+    assert!(&rt; tree.remove(&[4])?.is_none());
+    add(&rt, &mut tree, &[7], 7)?;
+    assert!(&rt; root_of(&rt, &tree).node_type() == NodeType::Leaf);
+    Ok(())
+}
+
+// The kind of a root over so many keys of one byte.
+fn kind_over(count: usize) -> Option<NodeType> {
+    match count {
+        0 => None,
+        1 => Some(NodeType::Leaf),
+        2..=4 => Some(NodeType::Node4),
+        5..=16 => Some(NodeType::Node16),
+        17..=48 => Some(NodeType::Node48),
+        _ => Some(NodeType::Node256),
+    }
+}
+
+#[test]
+fn nodes_grow_and_shrink(rt: HostRuntime) -> Result<(), Fail> {
     let mut tree = ArtTree::<[u8; 1], u8, 0>::new(rt.alloc());
     for step in 0..=255u8 {
-        let byte = step.wrapping_mul(7);
-        let Ok(before) = tree.insert([byte], step) else {
+        let Ok(before) = tree.insert([step.wrapping_mul(7)], step) else {
             return Err(AllocError.into());
         };
         assert!(rt; before.is_none());
-        let kind = match step {
-            0 => NodeType::Leaf,
-            1..=3 => NodeType::Node4,
-            4..=15 => NodeType::Node16,
-            16..=47 => NodeType::Node48,
-            48..=255 => NodeType::Node256,
-        };
-        assert!(rt; tree.root().map(|root| root.node_type()) == Some(kind));
+        assert!(rt; tree.root().map(|root| root.node_type()) == kind_over(usize::from(step) + 1));
     }
     for step in 0..=255u8 {
         assert!(rt; tree.get(&[step.wrapping_mul(7)]) == Some(&step));
+    }
+    for step in 0..=255u8 {
+        let byte = step.wrapping_mul(11);
+        assert!(rt; tree.remove(&[byte])?.is_some());
+        assert!(rt; tree.get(&[byte]).is_none());
+        assert!(rt; tree.root().map(|root| root.node_type()) == kind_over(255 - usize::from(step)));
     }
     Ok(())
 }
@@ -263,4 +338,22 @@ fn a_refused_insert_leaves_the_tree(rt: HostRuntime) {
         add_at_last(&rt, &mut tree, text, &entries[..number]);
     }
     check_texts(&rt, &tree, &entries);
+}
+
+// Takes out a text, where there is memory. Where that is refused, the tree is as before, and a second
+// removal takes the entry.
+#[test]
+fn a_refused_removal_leaves_the_tree(rt: HostRuntime) {
+    let mut tree = Keys::new(rt.alloc());
+    let entries: [(&[u8], usize); 5] = [(b"a", 0), (b"b", 1), (b"c", 2), (b"d", 3), (b"e", 4)];
+    for (text, number) in entries {
+        if tree.insert(SliceKey::new(text), number).is_err() {
+            return;
+        }
+    }
+    if tree.remove(b"c").is_err() {
+        check_texts(&rt, &tree, &entries);
+        assert!(&rt; tree.remove(b"c").is_ok());
+    }
+    check_texts(&rt, &tree, &[(b"a", 0), (b"b", 1), (b"d", 3), (b"e", 4)]);
 }

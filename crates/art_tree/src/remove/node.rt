@@ -1,13 +1,13 @@
 //! What a removal does to inner nodes.
-ghost use Rattle.std.specs.Prelude.{◌≡◌, ◌≢◌, ◌<◌, ◌≤◌, ◌+◌, ◌^◌, ◌++◌, ◌∷◌, ℕ, List, length, Some, None, OnOk, OnErr};
+ghost use Rattle.std.specs.Prelude.{◌≡◌, ◌≢◌, ◌<◌, ◌≤◌, ◌+◌, ◌^◌, ◌++◌, ◌∷◌, ◌↔◌, ℕ, List, length, Some, None, OnOk, OnErr, IsTrue};
 ghost use Rattle.art_header.specs.Header.{StandsFor};
 ghost use Rattle.art_header.specs.NodeType.{least_children};
 ghost use Rattle.art_header.specs.declared.node_type.NodeType.TheVariants.{Leaf};
 ghost use Rattle.art_nodes.specs.ChildMap.{child_at, first_pair, without_child};
 ghost use Rattle.art_nodes.specs.Inner.{Inner, header_of, node_without_child};
-ghost use Rattle.art_nodes.specs.Pointers.{node_kind};
-ghost use Rattle.art_arena.specs.Arena.{held, HeldInner, Nothing, Changes, SameNodes};
-ghost use Rattle.art_tree.specs.Cuts.{HasOneLess, HasRoomToShrink};
+ghost use Rattle.art_nodes.specs.Pointers.{node_kind, slab_key};
+ghost use Rattle.art_arena.specs.Arena.{held, HeldInner, Nothing, pointer_to, room, Changes, SameNodes, SameRoom};
+ghost use Rattle.art_tree.specs.Cuts.{HasOneLess, HasRoomToShrink, IsReplaced};
 ghost use Rattle.art_tree.specs.Edits.{node_with_prefix};
 
 use art_arena::{ArenaNode, NodeArena};
@@ -29,6 +29,35 @@ pub(crate) fn num_children<K, V, const PREFIX_LEN: usize>(
     arena.header(pointer).unwrap().num_children()
 }
 
+// Whether the inner node at the pointer has the fewest children of its kind.
+fn has_fewest<K, V, const PREFIX_LEN: usize>(
+    arena: &NodeArena<K, V, PREFIX_LEN>,
+    pointer: OpaqueNodePtr<K, V, PREFIX_LEN>,
+) -> bool
+    requires held { held arena.now pointer ≢ Nothing }
+    requires inner { node_kind pointer ≢ Leaf }
+    ensures { (node : Inner _) → held arena.now pointer ≡ HeldInner node →
+        IsTrue result ↔ (length node.children ≡ least_children (node_kind pointer)) }
+{
+    num_children(arena, pointer) == *pointer.node_type().capacity_range().start()
+}
+
+// The least byte of the node that is not this one, with its child.
+fn least_other<K, V, const PREFIX_LEN: usize, N: InnerNodeCommon<K, V, PREFIX_LEN>>(
+    node: &N,
+    byte: u8,
+) -> (u8, OpaqueNodePtr<K, V, PREFIX_LEN>)
+    requires { 2 ≤ length (N.inner node.now).children }
+    ensures { first_pair (without_child (N.inner node.now).children byte) ≡ Some result }
+{
+    let mut children = node.iter();
+    let (least, child) = children.next().unwrap();
+    if least != byte {
+        return (least, child);
+    }
+    children.next().unwrap()
+}
+
 /// The least byte of the inner node at the pointer that is not this one, with its child.
 pub(crate) fn other_child<K, V, const PREFIX_LEN: usize>(
     arena: &NodeArena<K, V, PREFIX_LEN>,
@@ -42,7 +71,13 @@ pub(crate) fn other_child<K, V, const PREFIX_LEN: usize>(
     ensures { (node : Inner _) → held arena.now pointer ≡ HeldInner node →
         first_pair (without_child node.children byte) ≡ Some result }
 {
-    (0, pointer)
+    match pointer.to_node_ptr() {
+        ConcreteNodePtr::Node4(node) => least_other(arena.as_ref(node), byte),
+        ConcreteNodePtr::Node16(node) => least_other(arena.as_ref(node), byte),
+        ConcreteNodePtr::Node48(node) => least_other(arena.as_ref(node), byte),
+        ConcreteNodePtr::Node256(node) => least_other(arena.as_ref(node), byte),
+        ConcreteNodePtr::LeafNode(_) => unreachable!(),
+    }
 }
 
 /// Makes room for the node that an inner node with the fewest children of its kind shrinks to.
@@ -57,7 +92,71 @@ pub(crate) fn reserve_shrink<K, V, const PREFIX_LEN: usize>(
         (2 < length node.children) × (length node.children ≡ least_children (node_kind pointer))) }
     ensures nodes_kept { SameNodes arena.old arena.new }
 {
-    Ok(())
+    let shrunk = match pointer.node_type() {
+        NodeType::Node16 => NodeType::Node4,
+        NodeType::Node48 => NodeType::Node16,
+        NodeType::Node256 => NodeType::Node48,
+        // The fewest of the smallest kind are two.
+        NodeType::Node4 | NodeType::Leaf => return Ok(()),
+    };
+    if !has_fewest(arena, pointer) {
+        return Ok(());
+    }
+    arena.reserve(shrunk, 1)
+}
+
+// Takes the child under the byte from the inner node at the pointer, in its place.
+fn cut_child<K, V, const PREFIX_LEN: usize>(
+    arena: &mut NodeArena<K, V, PREFIX_LEN>,
+    pointer: OpaqueNodePtr<K, V, PREFIX_LEN>,
+    byte: u8,
+)
+    requires held { held arena.old pointer ≢ Nothing }
+    requires inner { node_kind pointer ≢ Leaf }
+    ensures cut { (node : Inner _) → held arena.old pointer ≡ HeldInner node →
+        Changes arena.old arena.new pointer (HeldInner (node_without_child node byte)) }
+    ensures room { SameRoom arena.old arena.new }
+{
+    match pointer.to_node_ptr() {
+        ConcreteNodePtr::Node4(node) => {
+            arena.as_mut(node).remove_child(byte);
+        }
+        ConcreteNodePtr::Node16(node) => {
+            arena.as_mut(node).remove_child(byte);
+        }
+        ConcreteNodePtr::Node48(node) => {
+            arena.as_mut(node).remove_child(byte);
+        }
+        ConcreteNodePtr::Node256(node) => {
+            arena.as_mut(node).remove_child(byte);
+        }
+        ConcreteNodePtr::LeafNode(_) => unreachable!(),
+    }
+}
+
+// Gives up the node at the pointer for this one of another kind, and answers where that is.
+fn replace_node<
+    K,
+    V,
+    const PREFIX_LEN: usize,
+    N: ArenaNode<K, V, PREFIX_LEN> + Drop,
+    S: InnerNodeCommon<K, V, PREFIX_LEN>
+        + ArenaNode<K, V, PREFIX_LEN>
+        + Node<PREFIX_LEN, Key = K, Value = V>,
+>(
+    arena: &mut NodeArena<K, V, PREFIX_LEN>,
+    pointer: NodePtr<PREFIX_LEN, N>,
+    shrunk: S,
+) -> OpaqueNodePtr<K, V, PREFIX_LEN>
+    requires shown { (node : S) → S.held_as node ≡ HeldInner (S.inner node) }
+    requires held { held arena.old (pointer_to N.TYPE (slab_key pointer)) ≢ Nothing }
+    requires room { 0 < room arena.old S.TYPE }
+    ensures { IsReplaced arena.old arena.new (pointer_to N.TYPE (slab_key pointer))
+        S.TYPE (S.inner shrunk) result }
+{
+    let shrunk = arena.allocate_node_ptr(shrunk).unwrap();
+    arena.deallocate_node_ptr(pointer);
+    shrunk.to_opaque()
 }
 
 /// Takes the child under the byte from the inner node at the pointer, which has more than two
@@ -78,7 +177,27 @@ pub(crate) fn take_child<K, V, const PREFIX_LEN: usize>(
     ensures { (node : Inner _) → held arena.old pointer ≡ HeldInner node →
         HasOneLess arena.old arena.new pointer node (node_without_child node byte) result }
 {
-    pointer
+    let fewest = has_fewest(arena, pointer);
+    cut_child(arena, pointer, byte);
+    if !fewest {
+        return pointer;
+    }
+    match pointer.to_node_ptr() {
+        ConcreteNodePtr::Node16(node) => {
+            let shrunk = arena.as_ref(node).shrink();
+            replace_node(arena, node, shrunk)
+        }
+        ConcreteNodePtr::Node48(node) => {
+            let shrunk = arena.as_ref(node).shrink();
+            replace_node(arena, node, shrunk)
+        }
+        ConcreteNodePtr::Node256(node) => {
+            let shrunk = arena.as_ref(node).shrink();
+            replace_node(arena, node, shrunk)
+        }
+        // The fewest of the smallest kind are two.
+        ConcreteNodePtr::Node4(_) | ConcreteNodePtr::LeafNode(_) => unreachable!(),
+    }
 }
 
 /// Gives the child of an inner node the node's prefix and the byte before its own prefix; a leaf stays
