@@ -129,9 +129,9 @@ module _ {K V : Type 0} {P : ℕ} (text : K → List ℕ) (old cut new : ArenaOf
       fresh-last p is free = elim (cases_pointer p top) [
         | inl same ↦ same
         | inr differ ↦ absurd (is (
-          hangs.others p (λ above_it. parent-held p above_it free) ∙ steps.same p differ (λ same. part-held (root_of part) (root-place part) (ap (held old) (sym same) ∙ free))
-          ∙ (steps.stays p (λ same. part-held leaf steps.inside (ap (held old) (sym same) ∙ free))).nothing free
-        ))
+            hangs.others p (λ above_it. parent-held p above_it free) ∙ steps.same p differ (λ same. part-held (root_of part) (root-place part) (ap (held old) (sym same) ∙ free))
+            ∙ (steps.stays p (λ same. part-held leaf steps.inside (ap (held old) (sym same) ∙ free))).nothing free
+            ))
       ]
 
       -- lists of leaves are spelled on to the end

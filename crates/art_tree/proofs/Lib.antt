@@ -33,3 +33,5 @@ mod WayContexts
 mod DroppingLemmas
 mod CuttingMany
 mod CutLemmas
+mod CuttingTwo
+mod RemovalLemmas

@@ -46,6 +46,7 @@ pub enum InsertRefusal {
 }
 
 /// An entry that was refused, and why.
+#[derive(Drop)]
 pub struct InsertFault<K, V> {
     /// What refused it.
     pub refusal: InsertRefusal,

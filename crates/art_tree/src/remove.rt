@@ -51,7 +51,7 @@ fn remove_root<K: AsBytes, V, const PREFIX_LEN: usize>(
     arena: &mut NodeArena<K, V, PREFIX_LEN>,
     leaf: NodePtr<PREFIX_LEN, LeafNode<K, V, PREFIX_LEN>>,
 ) -> (K, V)
-    requires { (root : _) (text : List ℕ) × IsAlone K.text arena.old root
+    requires { (root : _) × (text : List ℕ) × IsAlone K.text arena.old root
         (LeafTree (leaf_pointer leaf) text) }
     ensures { (root : _) (text : List ℕ) →
         IsAlone K.text arena.old root (LeafTree (leaf_pointer leaf) text) →

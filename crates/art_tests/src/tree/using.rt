@@ -1,5 +1,6 @@
 // How a crate uses `art_tree`: values that are loaded once and read by key.
-ghost use Rattle.std.specs.Prelude.{◌≡◌, ◌↔◌, [], IsNone, IfSome};
+ghost use Rattle.std.specs.Prelude.{◌≡◌, ◌↔◌, [], None, IsNone, IsTrue, IfSome};
+ghost use Rattle.art_tree.specs.Dictionary.{entry_at, IsEntry};
 ghost use Rattle.art_tree.specs.Search.{HasTree, EachTree, scan};
 
 use super::*;
@@ -40,5 +41,39 @@ fn metals_are_read_by_name(rt: HostRuntime) -> Result<(), Fail> {
     let root = table(alloc, &mut arena, entries).ok_or("not loaded")?;
     assert!(rt; value_of(&arena, root, b"iron") == Some(&26));
     assert!(rt; value_of(&arena, root, b"iro").is_none());
+    Ok(())
+}
+
+/// Puts a value under a key. Where that is answered, the key's text has this entry.
+fn put<K: AsBytes + Drop, V: Drop, const PREFIX_LEN: usize>(
+    tree: &mut ArtTree<K, V, PREFIX_LEN>,
+    key: K,
+    value: V,
+) -> bool
+    ensures { IsTrue result → IsEntry K.text tree.new.arena (key, value) }
+{
+    tree.insert(key, value).is_ok()
+}
+
+/// Takes a key out. Where that is answered, its text has no entry.
+fn forget<K: AsBytes + Drop, V: Drop, const PREFIX_LEN: usize>(
+    tree: &mut ArtTree<K, V, PREFIX_LEN>,
+    key: &[u8],
+) -> bool
+    ensures { IsTrue result → (entry_at K.text tree.new.arena key.now ≡ None) }
+{
+    tree.remove(key).is_ok()
+}
+
+#[test]
+fn a_metal_comes_and_goes(rt: HostRuntime) -> Result<(), Fail> {
+    let alloc = rt.alloc();
+    let mut tree = ArtTree::<String, u8, 16>::new(alloc);
+    if !put(&mut tree, String::from_str(alloc, "iron")?, 26) {
+        return Err(AllocError.into());
+    }
+    assert!(rt; tree.get(b"iron") == Some(&26));
+    assert!(rt; forget(&mut tree, b"iron"));
+    assert!(rt; tree.get(b"iron").is_none());
     Ok(())
 }

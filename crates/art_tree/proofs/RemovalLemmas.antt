@@ -1,0 +1,120 @@
+-- A leaf that is taken out of its list and out of its arena.
+use Rattle.std.proofs.Common.{◌≡◌, ◌≢◌, ◌∙◌, ℕ, suc, ◌<◌, ◌≤◌, List, [], ◌∷◌, ◌++◌, All, Contains, Option, Some, None, refl, sym, ap, subst, inl, inr, arith}
+use Rattle.std.proofs.lemmas.List.Elements.{All-cons, All-contains, All-head, All-tail, Contains-append_right}
+use Rattle.art_header.specs.declared.node_type.NodeType.{NodeType}
+use Rattle.art_header.specs.declared.node_type.NodeType.TheVariants as kinds
+use Rattle.art_nodes.specs.Inner as nodes
+use Rattle.art_nodes.specs.Leaf.{leaf_key, leaf_value}
+use Rattle.art_nodes.specs.Pointers.{node_kind, opaque_key}
+use Rattle.art_nodes.specs.declared.pointers.OpaqueNodePtr.{OpaqueNodePtr}
+use Rattle.art_nodes.specs.declared.leaf_node.LeafNode.{LeafNode}
+use Rattle.art_arena.specs.Arena.{ArenaOf, HeldInner, HeldLeaf, Nothing, held, held_leaf, pointer_to, room, Changes, SameRoom, SameOtherRoom}
+use Rattle.art_arena.specs.Links.{AreDistinct, HoldsLeaf, IsKnit, SameButLinks, Spells, SpellsAfter, leaf_at}
+use Rattle.art_arena.specs.Standing.{StandsIn}
+use Rattle.art_arena.specs.Trees.{Tree, Leaf, Inner, Branch, leaves, texts}
+use Rattle.art_tree.specs.Art.{IsAlone, IsArt}
+use Rattle.art_tree.specs.Dictionary.{entry_at}
+use Rattle.art_tree.specs.Dropping.{HangsUnder}
+use Rattle.art_tree.specs.Edits.{StaysAt}
+use Rattle.art_tree.specs.Plan.{join}
+use Rattle.art_tree.specs.Removing.{IsLeft}
+use Rattle.art_tree.proofs.DictionaryLemmas.{AreApart, empty-entry, held-entry, leaf-held-in, leaf-of-entry}
+use Rattle.art_tree.proofs.Exchanging.{stands-part, the-one}
+use Rattle.art_tree.proofs.InsertLemmas.{one-leaf}
+use Rattle.art_tree.proofs.Rising.{cases_held, cases_pointer, leaf-of}
+use Rattle.art_tree.proofs.WayLemmas.{leaf-kind}
+
+-- the others of a list of different members are not the one between them
+apart-from : {A : Type 0} (front : List A) (this : A) (back : List A) → AreDistinct (front ++ this ∷ back) → All (λ other. other ≢ this) (front ++ back)
+apart-from [] this back distinct = distinct.0
+apart-from (first ∷ front) this back distinct =
+    let differ : this ≢ first = All-contains (λ other. other ≢ first) (front ++ this ∷ back) this distinct.0 (Contains-append_right front (this ∷ back) this (0, omega arith, refl)) in
+    All-cons (λ other. other ≢ this) first (front ++ back) (λ same. differ (sym same)) (apart-from front this back distinct.1)
+
+-- a leaf is taken out of its list, and then out of the arena
+module _ {K V : Type 0} {P : ℕ} (old linked : ArenaOf K V P) (this : ℕ) (same : SameButLinks old linked) where
+  -- it is still held when it is out of its list
+  pub still-held : IsKnit old this → HoldsLeaf linked this
+  still-held knit none = by_slot (leaf_at old this) refl
+    where
+      by_slot : (o : Option (LeafNode K V P)) → leaf_at old this ≡ o → ⊥
+      by_slot None is = knit.held (ap held_leaf is)
+      by_slot (Some leaf) is = let wrong : HeldLeaf (same.leaf this leaf is).0 ≡ Nothing = sym (ap held_leaf (same.leaf this leaf is).1) ∙ none in absurd (cc)
+
+  -- its entry is the one that it had
+  pub taken-entry : (taken was : LeafNode K V P) → held linked (pointer_to kinds.Leaf this) ≡ HeldLeaf taken → held old (pointer_to kinds.Leaf this) ≡ HeldLeaf was → (entry : K × V) → entry.0 ≡ leaf_key taken → entry.1 ≡ leaf_value taken → entry ≡ (leaf_key was, leaf_value was)
+  taken-entry taken was is had entry key value =
+      let after = same.leaf this was (leaf-of (leaf_at old this) was had) in
+      let one : taken ≡ after.0 = one-leaf (held linked (pointer_to kinds.Leaf this)) taken after.0 is (ap held_leaf after.1) in
+      λ i. ((key ∙ ap leaf_key one ∙ after.2) i, (value ∙ ap leaf_value one ∙ after.3) i)
+
+  module _ (new : ArenaOf K V P) (changes : Changes linked new (pointer_to kinds.Leaf this) Nothing) where
+    -- a list without the leaf is spelled on
+    spells-without : (before : Option ℕ) (keys : List ℕ) → All (λ other. other ≢ this) keys → SpellsAfter linked before keys → SpellsAfter new before keys
+    spells-without before [] apart spelled = tt
+    spells-without before (key ∷ keys) apart ((leaf, at, previous, next), rest) =
+        let other : pointer_to {K = K} {V = V} {P = P} kinds.Leaf key ≢ pointer_to kinds.Leaf this = λ one. All-head (λ k. k ≢ this) key keys apart (ap opaque_key one) in
+        ((leaf, leaf-of (leaf_at new key) leaf (changes.others (pointer_to kinds.Leaf key) other ∙ ap held_leaf at), previous, next), spells-without (Some key) keys (All-tail (λ k. k ≢ this) key keys apart) rest)
+
+    pub left-spelled : (left right : List ℕ) → Spells old (left ++ this ∷ right) → Spells linked (left ++ right) → Spells new (left ++ right)
+    left-spelled left right was is = record { distinct = is.distinct; spelled = spells-without None (left ++ right) (apart-from left this right was.distinct) is.spelled }
+
+    -- all else stays
+    pub others-left : (pointer : OpaqueNodePtr K V P) → pointer ≢ pointer_to kinds.Leaf this → StaysAt old new pointer
+    others-left pointer differ =
+        let stays = changes.others pointer differ in
+        record {
+          nothing = λ none. stays ∙ same.nothing pointer none;
+          keeps = record {
+            inner = λ node is. stays ∙ same.inner pointer node is;
+            leaf = λ other is.
+                let kind = leaf-kind old (node_kind pointer) (opaque_key pointer) other is in
+                let place : pointer_to kinds.Leaf (opaque_key pointer) ≡ pointer = λ i. record { node_type = (sym kind) i; key = opaque_key pointer; leaf = record {} } in
+                let after = same.leaf (opaque_key pointer) other (leaf-of (leaf_at old (opaque_key pointer)) other (ap (held old) place ∙ is)) in
+                (after.0, stays ∙ ap (held linked) (sym place) ∙ ap held_leaf after.1, after.2, after.3);
+          };
+        }
+
+-- no kind has less room, where a leaf is given up
+module _ {K V : Type 0} {P : ℕ} (old linked new : ArenaOf K V P) where
+  pub no-less-room : SameRoom old linked → room linked kinds.Leaf ≤ room new kinds.Leaf → SameOtherRoom linked new kinds.Leaf → (kind : NodeType) → room old kind ≤ room new kind
+  no-less-room stays leaf others kinds.Node4 = omega (arith, stays kinds.Node4, others kinds.Node4 (λ e. cc))
+  no-less-room stays leaf others kinds.Node16 = omega (arith, stays kinds.Node16, others kinds.Node16 (λ e. cc))
+  no-less-room stays leaf others kinds.Node48 = omega (arith, stays kinds.Node48, others kinds.Node48 (λ e. cc))
+  no-less-room stays leaf others kinds.Node256 = omega (arith, stays kinds.Node256, others kinds.Node256 (λ e. cc))
+  no-less-room stays leaf others kinds.Leaf = omega (arith, stays kinds.Leaf, leaf)
+
+-- the entry of a leaf's text is what the leaf holds
+pub entry-was : {K V : Type 0} {P : ℕ} (text : K → List ℕ) (arena : ArenaOf K V P) (root : OpaqueNodePtr K V P) (tree : Tree (OpaqueNodePtr K V P)) → IsAlone text arena root tree → AreApart (texts tree) → (at : OpaqueNodePtr K V P) (x : List ℕ) → Contains (leaves tree) (at, x)
+    → (entry : K × V) → ((leaf : LeafNode K V P) → held arena at ≡ HeldLeaf leaf → entry ≡ (leaf_key leaf, leaf_value leaf)) → entry_at text arena x ≡ Some entry
+entry-was text arena root tree alone apart at x inside entry is =
+    let (leaf, there, has) = leaf-held-in text arena tree alone.is_tree.stands at x inside in
+    ap (entry_at text arena) (sym has) ∙ held-entry text arena root tree alone apart at leaf there ∙ ap Some (sym (is leaf there))
+
+-- the only leaf of a tree is gone, and nothing was added
+module _ {K V : Type 0} {P : ℕ} (text : K → List ℕ) (old new : ArenaOf K V P) (root at : OpaqueNodePtr K V P) (x : List ℕ) (alone : IsAlone text old root (Leaf at x)) (gone : held new at ≡ Nothing) (others : (p : OpaqueNodePtr K V P) → p ≢ at → StaysAt old new p) where
+  pub root-empty : IsArt text new None
+  root-empty p = elim (cases_pointer p at) [
+    | inl same ↦ ap (held new) same ∙ gone
+    | inr differ ↦ elim (cases_held (held old p)) [
+      | inl none ↦ (others p differ).nothing none
+      | inr was ↦ absurd (differ (sym (the-one at p (alone.no_others p was))))
+    ]
+  ]
+
+  pub root-left : IsLeft text old new x
+  root-left = record { gone = empty-entry text new root-empty x; others = λ y differ. empty-entry text new root-empty y ∙ sym (by_entry y differ (entry_at text old y) refl) }
+    where
+      by_entry : (y : List ℕ) → y ≢ x → (o : Option (K × V)) → entry_at text old y ≡ o → entry_at text old y ≡ None
+      by_entry y differ None is = is
+      by_entry y differ (Some entry) is =
+          let found = leaf-of-entry text old root (Leaf at x) alone y entry is in
+          absurd (differ (sym (ap (λ pair. pair.1) (the-one (at, x) (found.pointer, y) found.inside))))
+
+-- the node that a leaf hangs in is held
+pub parent-there : {K V : Type 0} {P : ℕ} (text : K → List ℕ) (arena : ArenaOf K V P) (root : OpaqueNodePtr K V P) (tree : Tree (OpaqueNodePtr K V P)) → IsAlone text arena root tree → (pointer parent : OpaqueNodePtr K V P) (byte : ℕ) (higher : Option (OpaqueNodePtr K V P × ℕ))
+    → HangsUnder tree pointer parent byte higher → (node : nodes.Inner (OpaqueNodePtr K V P)) × (held arena parent ≡ HeldInner node)
+parent-there text arena root tree alone pointer parent byte higher hangs =
+    let part = Inner parent hangs.prefix (join hangs.before (Branch byte (Leaf pointer hangs.text) hangs.after)) in
+    let stands = stands-part text arena arena hangs.upper part (subst (StandsIn text arena) (sym hangs.whole) alone.is_tree.stands) in
+    (stands.0, stands.1)

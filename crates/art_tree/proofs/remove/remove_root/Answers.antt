@@ -1,0 +1,26 @@
+use Rattle.std.proofs.Common.{rules, ◌++◌, ◌∷◌, ℕ, List, [], refl, arith}
+use Rattle.art_nodes.specs.Pointers.{slab_key}
+use Rattle.art_arena.specs.Links.{Spells}
+use Rattle.art_arena.specs.Trees.{Leaf}
+use Rattle.art_tree.specs.Search.{leaf_pointer}
+use Rattle.art_tree.proofs.RemovalLemmas.{entry-was, root-empty, root-left}
+use Rattle.art_tree.proofs.remove.remove_root.Goals as goal
+
+pub take_leaf-requires : goal.take_leaf-requires
+take_leaf-requires g c =
+    let alone = c.requires.2 in
+    let listed : (left right : List ℕ) × Spells c.args.arena.now (left ++ slab_key c.args.leaf ∷ right) = ([], [], alone.spelled) in
+    search rules
+
+pub returns : goal.returns
+returns g c = λ root text_is alone.
+    let text = g.K.AsBytes.text in
+    let old = c.args.arena.now in
+    let new = c.take_leaf.new.arena in
+    let at = leaf_pointer c.args.leaf in
+    let taken = c.take_leaf.ensures in
+    let apart = c.no_text_begins_another.ensures [] (Leaf at text_is) alone.is_tree.sound in (
+      root-empty text old new root at text_is alone taken.gone taken.others,
+      root-left text old new root at text_is alone taken.gone taken.others,
+      entry-was text old root (Leaf at text_is) alone apart at text_is (0, omega arith, refl) c.take_leaf.result taken.entry,
+    )
