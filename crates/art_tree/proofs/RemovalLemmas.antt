@@ -1,27 +1,34 @@
--- A leaf that is taken out of its list and out of its arena.
-use Rattle.std.proofs.Common.{◌≡◌, ◌≢◌, ◌∙◌, ℕ, suc, ◌<◌, ◌≤◌, List, [], ◌∷◌, ◌++◌, All, Contains, Option, Some, None, refl, sym, ap, subst, inl, inr, arith}
+-- A leaf that a search finds, and that is taken out of its list and out of its arena.
+use Rattle.std.proofs.Common.{◌≡◌, ◌≢◌, ◌∙◌, ℕ, ◌≤◌, List, [], ◌∷◌, ◌++◌, All, Contains, Option, Some, None, Result, Ok, Err, OnErr, IfSome, refl, sym, ap, subst, inl, inr, arith}
 use Rattle.std.proofs.lemmas.List.Elements.{All-cons, All-contains, All-head, All-tail, Contains-append_right}
+use Rattle.std.proofs.lemmas.Option.{same_Some}
 use Rattle.art_header.specs.declared.node_type.NodeType.{NodeType}
 use Rattle.art_header.specs.declared.node_type.NodeType.TheVariants as kinds
 use Rattle.art_nodes.specs.Inner as nodes
 use Rattle.art_nodes.specs.Leaf.{leaf_key, leaf_value}
 use Rattle.art_nodes.specs.Pointers.{node_kind, opaque_key}
+use Rattle.art_nodes.specs.declared.pointers.NodePtr.{NodePtr}
 use Rattle.art_nodes.specs.declared.pointers.OpaqueNodePtr.{OpaqueNodePtr}
 use Rattle.art_nodes.specs.declared.leaf_node.LeafNode.{LeafNode}
 use Rattle.art_arena.specs.Arena.{ArenaOf, HeldInner, HeldLeaf, Nothing, held, held_leaf, pointer_to, room, Changes, SameRoom, SameOtherRoom}
 use Rattle.art_arena.specs.Links.{AreDistinct, HoldsLeaf, IsKnit, SameButLinks, Spells, SpellsAfter, leaf_at}
-use Rattle.art_arena.specs.Standing.{StandsIn}
+use Rattle.art_arena.specs.Standing.{IsTreeIn, StandsIn}
 use Rattle.art_arena.specs.Trees.{Tree, Leaf, Inner, Branch, leaves, texts}
 use Rattle.art_tree.specs.Art.{IsAlone, IsArt}
+use Rattle.art_tree.specs.Contexts.{Under, leaves_before, leaves_after}
 use Rattle.art_tree.specs.Dictionary.{entry_at}
 use Rattle.art_tree.specs.Dropping.{HangsUnder}
 use Rattle.art_tree.specs.Edits.{StaysAt}
 use Rattle.art_tree.specs.Plan.{join}
 use Rattle.art_tree.specs.Removing.{IsLeft}
-use Rattle.art_tree.proofs.DictionaryLemmas.{AreApart, empty-entry, held-entry, leaf-held-in, leaf-of-entry}
-use Rattle.art_tree.proofs.Exchanging.{stands-part, the-one}
+use Rattle.art_tree.specs.Search.{EachTree, IsPathTo, leaf_pointer, scan}
+use Rattle.art_tree.specs.declared.path.TreePath.{TreePath}
+use Rattle.art_tree.specs.declared.path.TreePath.TheVariants.{ChildOfRoot, Normal}
+use Rattle.art_tree.proofs.DictionaryLemmas.{AreApart, empty-entry, held-entry, leaf-held-in, leaf-of-entry, scan-in}
+use Rattle.art_tree.proofs.Exchanging.{leaves-plug, stands-part, the-one}
 use Rattle.art_tree.proofs.InsertLemmas.{one-leaf}
 use Rattle.art_tree.proofs.Rising.{cases_held, cases_pointer, leaf-of}
+use Rattle.art_tree.proofs.WayContexts.{leaf-child, leaf-normal}
 use Rattle.art_tree.proofs.WayLemmas.{leaf-kind}
 
 -- the others of a list of different members are not the one between them
@@ -118,3 +125,48 @@ parent-there text arena root tree alone pointer parent byte higher hangs =
     let part = Inner parent hangs.prefix (join hangs.before (Branch byte (Leaf pointer hangs.text) hangs.after)) in
     let stands = stands-part text arena arena hangs.upper part (subst (StandsIn text arena) (sym hangs.whole) alone.is_tree.stands) in
     (stands.0, stands.1)
+
+-- the path leads to the leaf at the pointer, which has the key and no other text
+pub record IsFound {K V : Type 0} {P : ℕ} (tree : Tree (OpaqueNodePtr K V P)) (pointer : OpaqueNodePtr K V P) (key : List ℕ) (path : TreePath K V P) : Type 0 where
+  pub way : IsPathTo tree pointer path
+  pub has : (x : List ℕ) → Contains (leaves tree) (pointer, x) → x ≡ key
+
+-- so it is with what a search finds in the arena that it reads
+pub is-found : {K V : Type 0} {P : ℕ} (text : K → List ℕ) (arena seen : ArenaOf K V P) → seen ≡ arena → (root : OpaqueNodePtr K V P) (tree : Tree (OpaqueNodePtr K V P)) → IsTreeIn text arena root tree → (leaf : NodePtr P (LeafNode K V P)) (path : TreePath K V P) (key : List ℕ)
+    → EachTree text seen root (λ tree. scan tree key ≡ (leaf_pointer leaf, key) ∷ []) → EachTree text seen root (λ tree. IsPathTo tree (leaf_pointer leaf) path) → IsFound tree (leaf_pointer leaf) key path
+is-found text arena seen same root tree is leaf path key answer way =
+    let at = leaf_pointer leaf in
+    let read = subst (λ a. IsTreeIn text a root tree) (sym same) is in
+    let inside : Contains (leaves tree) (at, key) = scan-in (leaves tree) at key (subst (λ all. Contains all (at, key)) (sym (answer tree read)) (0, omega arith, refl)) in
+    record {
+      way = way tree read;
+      has = λ x there.
+          let (one, holds, has) = leaf-held-in text arena tree is.stands at x there in
+          let (other, here, had) = leaf-held-in text arena tree is.stands at key inside in
+          sym has ∙ ap (λ l. text (leaf_key l)) (one-leaf (held arena at) one other holds here) ∙ had;
+    }
+
+-- a leaf that hangs in a tree is one of its leaves
+pub hangs-in : {H : Type 0} (tree : Tree H) (pointer parent : H) (byte : ℕ) (higher : Option (H × ℕ)) (hangs : HangsUnder tree pointer parent byte higher) → Contains (leaves tree) (pointer, hangs.text)
+hangs-in tree pointer parent byte higher hangs =
+    let place = Under hangs.upper parent hangs.prefix hangs.before byte hangs.after in
+    let leaf : _ × List ℕ = (pointer, hangs.text) in
+    subst (λ t. Contains (leaves t) leaf) hangs.whole (subst (λ all. Contains all leaf) (sym (leaves-plug place (Leaf pointer hangs.text)))
+    (Contains-append_right (leaves_before place) (leaf ∷ leaves_after place) leaf (0, omega arith, refl)))
+
+-- where a leaf hangs, by the path to it
+module _ {K V : Type 0} {P : ℕ} (tree : Tree (OpaqueNodePtr K V P)) (pointer : OpaqueNodePtr K V P) (path : TreePath K V P) (way : IsPathTo tree pointer path) (above : Option (OpaqueNodePtr K V P × ℕ) × OpaqueNodePtr K V P × ℕ) where
+  pub hangs-child : (parent : OpaqueNodePtr K V P) (byte : ℕ) → path ≡ ChildOfRoot parent byte → above ≡ (None, parent, byte) → HangsUnder tree pointer above.1 above.2 above.0
+  hangs-child parent byte is same = subst (λ a. HangsUnder tree pointer a.1 a.2 a.0) (sym same) (leaf-child tree pointer parent byte (subst (IsPathTo tree pointer) is way))
+
+  pub hangs-normal : (grandparent : OpaqueNodePtr K V P) (parent_byte : ℕ) (parent : OpaqueNodePtr K V P) (byte : ℕ) → path ≡ Normal grandparent parent_byte parent byte → above ≡ (Some (grandparent, parent_byte), parent, byte) → HangsUnder tree pointer above.1 above.2 above.0
+  hangs-normal grandparent parent_byte parent byte is same = subst (λ a. HangsUnder tree pointer a.1 a.2 a.0) (sym same) (leaf-normal tree pointer grandparent parent_byte parent byte (subst (IsPathTo tree pointer) is way))
+
+-- what holds anyway
+pub always-err : {T E : Type 0} (r : Result T E) (Q : Type 0) → Q → OnErr r Q
+always-err (Ok x) Q holds = tt
+always-err (Err e) Q holds = holds
+
+pub if-some : {X : Type 0} (o : Option X) (Q : X → Type 0) (x : X) → o ≡ Some x → IfSome o Q → Q x
+if-some None Q x is holds = absurd (cc)
+if-some (Some y) Q x is holds = subst Q (same_Some y x is) holds

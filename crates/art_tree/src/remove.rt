@@ -10,6 +10,7 @@ ghost use Rattle.art_tree.specs.Art.{IsAlone, IsArt};
 ghost use Rattle.art_tree.specs.Dictionary.{entry_at};
 ghost use Rattle.art_tree.specs.Dropping.{HangsUnder};
 ghost use Rattle.art_tree.specs.Edits.{StaysAt};
+ghost use Rattle.art_tree.specs.Inserting.{SameEntries};
 ghost use Rattle.art_tree.specs.Removing.{IsLeft, IsRemoved, NeedsSmallerNode};
 ghost use Rattle.art_tree.specs.Search.{leaf_pointer};
 
@@ -159,6 +160,7 @@ pub(crate) fn remove_entry<K: AsBytes, V, const PREFIX_LEN: usize>(
         IfNone removed (entry_at K.text arena.old key.now ≡ None)) }
     ensures absent_kept { IfOk result (λ removed. IfNone removed (arena.new ≡ arena.old)) }
     ensures refused { OnErr result (NeedsSmallerNode K.text arena.old key.now) }
+    ensures same_entries { OnErr result (SameEntries K.text arena.old arena.new) }
     ensures nodes_kept { OnErr result (SameNodes arena.old arena.new) }
 {
     no_text_begins_another::<OpaqueNodePtr<K, V, PREFIX_LEN>>();

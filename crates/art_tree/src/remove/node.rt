@@ -230,6 +230,17 @@ pub(crate) fn join_prefix<K, V, const PREFIX_LEN: usize>(
     arena.set_prefix(child, &joined);
 }
 
+// Gives up a node of one type.
+fn give_up_node<K, V, const PREFIX_LEN: usize, N: ArenaNode<K, V, PREFIX_LEN> + Drop>(
+    arena: &mut NodeArena<K, V, PREFIX_LEN>,
+    node: NodePtr<PREFIX_LEN, N>,
+)
+    requires { held arena.old (pointer_to N.TYPE (slab_key node)) ≢ Nothing }
+    ensures { Changes arena.old arena.new (pointer_to N.TYPE (slab_key node)) Nothing }
+{
+    arena.deallocate_node_ptr(node);
+}
+
 /// Gives up the inner node at the pointer.
 pub(crate) fn give_up<K, V, const PREFIX_LEN: usize>(
     arena: &mut NodeArena<K, V, PREFIX_LEN>,
@@ -240,18 +251,10 @@ pub(crate) fn give_up<K, V, const PREFIX_LEN: usize>(
     ensures { Changes arena.old arena.new pointer Nothing }
 {
     match pointer.to_node_ptr() {
-        ConcreteNodePtr::Node4(node) => {
-            arena.deallocate_node_ptr(node);
-        }
-        ConcreteNodePtr::Node16(node) => {
-            arena.deallocate_node_ptr(node);
-        }
-        ConcreteNodePtr::Node48(node) => {
-            arena.deallocate_node_ptr(node);
-        }
-        ConcreteNodePtr::Node256(node) => {
-            arena.deallocate_node_ptr(node);
-        }
+        ConcreteNodePtr::Node4(node) => give_up_node(arena, node),
+        ConcreteNodePtr::Node16(node) => give_up_node(arena, node),
+        ConcreteNodePtr::Node48(node) => give_up_node(arena, node),
+        ConcreteNodePtr::Node256(node) => give_up_node(arena, node),
         ConcreteNodePtr::LeafNode(_) => unreachable!(),
     }
 }

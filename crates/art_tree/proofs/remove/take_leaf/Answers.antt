@@ -1,4 +1,4 @@
-use Rattle.std.proofs.Common.{rules, ◌++◌, ◌∷◌}
+use Rattle.std.proofs.Common.{rules}
 use Rattle.art_nodes.specs.Pointers.{slab_key}
 use Rattle.art_arena.specs.Links.{HoldsLeaf, IsKnit}
 use Rattle.art_tree.proofs.LinkLemmas.{knit-member}

@@ -1,0 +1,96 @@
+use Rattle.std.proofs.Common.{rules, ◌∙◌, ℕ, List, [], Contains, arith, refl, ap, sym, subst}
+use Rattle.art_arena.specs.Standing.{IsTreeIn}
+use Rattle.art_arena.specs.Trees.{Tree, Leaf, leaves}
+use Rattle.art_tree.specs.Art.{IsAlone}
+use Rattle.art_tree.specs.Dictionary.{entry_at}
+use Rattle.art_tree.specs.Dropping.{HangsUnder}
+use Rattle.art_tree.specs.Removing.{IsLeft, NeedsSmallerNode}
+use Rattle.art_tree.specs.Search.{IsPathTo, leaf_pointer}
+use Rattle.art_tree.proofs.DictionaryLemmas.{no-entry}
+use Rattle.art_tree.proofs.EntryLemmas.{entries-stay}
+use Rattle.art_tree.proofs.RemovalLemmas.{always-err, hangs-child, hangs-in, hangs-normal, is-found}
+use Rattle.art_tree.proofs.WayContexts.{leaf-root}
+use Rattle.art_tree.proofs.remove.remove_entry.Goals.{in-ChildOfRoot, in-Normal}
+use Rattle.art_tree.proofs.remove.remove_entry.Goals as goal
+
+pub returns-in_default-clause-absent : goal.returns-in_default-clause-absent
+returns-in_default-clause-absent g c =
+    let text = g.K.AsBytes.text in
+    let arena = c.args.arena.now in
+    let (tree, alone) = c.requires.art in
+    let read = subst (λ seen. IsTreeIn text seen c.args.root tree) (sym c.with_budget-reader.ensures.arena) alone.is_tree in
+    no-entry text arena c.args.root tree alone c.args.key.now (c.in_default.ensures.answer tree read)
+
+pub remove_root-requires : goal.remove_root-requires
+remove_root-requires g c =
+    let text = g.K.AsBytes.text in
+    let arena = c.args.arena.now in
+    let at = leaf_pointer c.in-Some.leaf in
+    let (tree, alone) = c.requires.art in
+    let found = is-found text arena c.with_budget-reader.result.arena c.with_budget-reader.ensures.arena c.args.root tree alone.is_tree c.in-Some.leaf c.in-Some.path c.args.key.now c.in-Some.ensures.answer c.in-Some.ensures.path in
+    let (x, is) = leaf-root tree at (subst (IsPathTo tree at) c.in-Root.is found.way) in
+    let only : (root : _) × (x : List ℕ) × IsAlone text arena root (Leaf at x) = (c.args.root, x, subst (IsAlone text arena c.args.root) is alone) in
+    search rules
+
+pub returns-in-Root-clause-removed : goal.returns-in-Root-clause-removed
+returns-in-Root-clause-removed g c =
+    let text = g.K.AsBytes.text in
+    let arena = c.args.arena.now in
+    let at = leaf_pointer c.in-Some.leaf in
+    let (tree, alone) = c.requires.art in
+    let found = is-found text arena c.with_budget-reader.result.arena c.with_budget-reader.ensures.arena c.args.root tree alone.is_tree c.in-Some.leaf c.in-Some.path c.args.key.now c.in-Some.ensures.answer c.in-Some.ensures.path in
+    let (x, is) = leaf-root tree at (subst (IsPathTo tree at) c.in-Root.is found.way) in
+    let same = found.has x (subst (λ t. Contains (leaves t) (at, x)) (sym is) (0, omega arith, refl)) in
+    let done = c.remove_root.ensures c.args.root x (subst (IsAlone text arena c.args.root) is alone) in
+    (done.0, subst (IsLeft text arena c.remove_root.new.arena) same done.1, ap (entry_at text arena) (sym same) ∙ done.2)
+
+pub remove_from-requires : goal.remove_from-requires
+remove_from-requires g c =
+    let text = g.K.AsBytes.text in
+    let arena = c.args.arena.now in
+    let at = leaf_pointer c.in-Some.leaf in
+    let above = c.match-path.above in
+    let (tree, alone) = c.requires.art in
+    let found = is-found text arena c.with_budget-reader.result.arena c.with_budget-reader.ensures.arena c.args.root tree alone.is_tree c.in-Some.leaf c.in-Some.path c.args.key.now c.in-Some.ensures.answer c.in-Some.ensures.path in
+    let hangs : HangsUnder tree at above.1 above.2 above.0 = elim c.match-path.branch [
+      | in-ChildOfRoot w ↦ hangs-child tree at c.in-Some.path found.way above w.in-ChildOfRoot.parent w.in-ChildOfRoot.child_key_byte w.in-ChildOfRoot.is w.above-is
+      | in-Normal w ↦ hangs-normal tree at c.in-Some.path found.way above w.in-Normal.grandparent w.in-Normal.parent_key_byte w.in-Normal.parent w.in-Normal.child_key_byte w.in-Normal.is w.above-is
+    ] in
+    let place : (tree : Tree _) × IsAlone text arena c.args.root tree × HangsUnder tree at above.1 above.2 above.0 = (tree, alone, hangs) in
+    search rules
+
+pub returns-in_err-root-clause-refused : goal.returns-in_err-root-clause-refused
+returns-in_err-root-clause-refused g c =
+    let text = g.K.AsBytes.text in
+    let arena = c.args.arena.now in
+    let at = leaf_pointer c.in-Some.leaf in
+    let above = c.match-path.above in
+    let (tree, alone) = c.requires.art in
+    let found = is-found text arena c.with_budget-reader.result.arena c.with_budget-reader.ensures.arena c.args.root tree alone.is_tree c.in-Some.leaf c.in-Some.path c.args.key.now c.in-Some.ensures.answer c.in-Some.ensures.path in
+    let hangs : HangsUnder tree at above.1 above.2 above.0 = elim c.match-path.branch [
+      | in-ChildOfRoot w ↦ hangs-child tree at c.in-Some.path found.way above w.in-ChildOfRoot.parent w.in-ChildOfRoot.child_key_byte w.in-ChildOfRoot.is w.above-is
+      | in-Normal w ↦ hangs-normal tree at c.in-Some.path found.way above w.in-Normal.grandparent w.in-Normal.parent_key_byte w.in-Normal.parent w.in-Normal.child_key_byte w.in-Normal.is w.above-is
+    ] in
+    let same = found.has hangs.text (hangs-in tree at above.1 above.2 above.0 hangs) in
+    always-err c.from_residual.result _ (subst (NeedsSmallerNode text arena) same (c.in_err-root.ensures.refused tree alone hangs))
+
+pub returns-in_err-root-clause-same_entries : goal.returns-in_err-root-clause-same_entries
+returns-in_err-root-clause-same_entries g c =
+    let (tree, alone) = c.requires.art in
+    always-err c.from_residual.result _ (entries-stay g.K.AsBytes.text c.args.arena.now c.remove_from.new.arena c.in_err-root.ensures.nodes_kept c.args.root tree alone (c.no_text_begins_another.ensures [] tree alone.is_tree.sound))
+
+pub returns-clause-removed : goal.returns-clause-removed
+returns-clause-removed g c =
+    let text = g.K.AsBytes.text in
+    let arena = c.args.arena.now in
+    let at = leaf_pointer c.in-Some.leaf in
+    let above = c.match-path.above in
+    let (tree, alone) = c.requires.art in
+    let found = is-found text arena c.with_budget-reader.result.arena c.with_budget-reader.ensures.arena c.args.root tree alone.is_tree c.in-Some.leaf c.in-Some.path c.args.key.now c.in-Some.ensures.answer c.in-Some.ensures.path in
+    let hangs : HangsUnder tree at above.1 above.2 above.0 = elim c.match-path.branch [
+      | in-ChildOfRoot w ↦ hangs-child tree at c.in-Some.path found.way above w.in-ChildOfRoot.parent w.in-ChildOfRoot.child_key_byte w.in-ChildOfRoot.is w.above-is
+      | in-Normal w ↦ hangs-normal tree at c.in-Some.path found.way above w.in-Normal.grandparent w.in-Normal.parent_key_byte w.in-Normal.parent w.in-Normal.child_key_byte w.in-Normal.is w.above-is
+    ] in
+    let same = found.has hangs.text (hangs-in tree at above.1 above.2 above.0 hangs) in
+    let done = c.in_ok-root.ensures.removed tree alone hangs in
+    (done.art, subst (IsLeft text arena c.remove_from.new.arena) same done.left, ap (entry_at text arena) (sym same) ∙ done.was)

@@ -1,0 +1,32 @@
+use Rattle.std.proofs.Common.{◌≡◌, ◌∙◌, Some, ap, sym, subst}
+use Rattle.art_tree.specs.Art.{IsArt}
+use Rattle.art_tree.specs.Dictionary.{entry_at}
+use Rattle.art_tree.specs.Removing.{IsLeft}
+use Rattle.art_tree.proofs.DictionaryLemmas.{empty-entry}
+use Rattle.art_tree.proofs.Growing.{art-same}
+use Rattle.art_tree.proofs.RemovalLemmas.{if-some}
+use Rattle.art_tree.proofs.tree.changes.ArtTree+K+V+PREFIX_LEN.remove.Goals as goal
+
+pub returns-in_default-clause-removed : goal.returns-in_default-clause-removed
+returns-in_default-clause-removed g c =
+    let text = g.K.AsBytes.text in
+    let nothing = subst (IsArt text c.self.inside.arena) c.in_default.is c.self.invariant in
+    sym (empty-entry text c.self.inside.arena nothing c.args.key.now) ∙ ap (λ seen. entry_at text seen.arena c.args.key.now) c.self.view_is
+
+pub returns-in_default-clause-gone : goal.returns-in_default-clause-gone
+returns-in_default-clause-gone g c =
+    let text = g.K.AsBytes.text in
+    let nothing = subst (IsArt text c.self.inside.arena) c.in_default.is c.self.invariant in
+    ap (λ seen. entry_at text seen.arena c.args.key.now) (sym c.self.view_is) ∙ empty-entry text c.self.inside.arena nothing c.args.key.now
+
+pub invariant_of-self : goal.invariant_of-self
+invariant_of-self g c = art-same g.K.AsBytes.text c.self.inside.arena c.remove_entry.new.arena c.in_err-root.ensures.nodes_kept c.self.inside.root c.self.invariant
+
+pub returns-clause-others : goal.returns-clause-others
+returns-clause-others g c = λ other differ.
+    let text = g.K.AsBytes.text in
+    let old = c.self.inside.arena in
+    let new = c.remove_entry.new.arena in
+    let key = c.args.key.now in
+    let done = if-some c.in_ok-root.field-0 (λ pair. IsArt text new pair.0 × IsLeft text old new key × (entry_at text old key ≡ Some pair.1)) (c.in-Some-2.root, c.in-Some-2.entry) c.in-Some-2.is c.in_ok-root.ensures.removed in
+    done.1.others other differ ∙ ap (λ seen. entry_at text seen.arena other) c.self.view_is
