@@ -132,6 +132,21 @@ texts-filled P part prefix top before byte leaf x after same each new =
     let filled = ap (map (λ l. l.1)) (leaves-taken prefix top before byte leaf x after) ∙ map-append (λ l. l.1) (branch_leaves before) ((leaf, x) ∷ branch_leaves after) in
     subst (All P) (sym filled) (All-append P left (x ∷ right) (All-left P left right parted) (All-cons P x right new (All-right P left right parted)))
 
+module _ {K V : Type 0} {P : ℕ} where
+  -- a place is free, or it holds an inner node or a leaf
+  pub held-case : (h : Held (OpaqueNodePtr K V P) (LeafNode K V P)) → (h ≡ Nothing) ⊎ (((node : nodes.Inner (OpaqueNodePtr K V P)) × (h ≡ HeldInner node)) ⊎ ((l : LeafNode K V P) × (h ≡ HeldLeaf l)))
+  held-case Nothing = inl refl
+  held-case (HeldInner node) = inr (inl (node, refl))
+  held-case (HeldLeaf l) = inr (inr (l, refl))
+
+  -- what is held stays held
+  pub held-on : (old new : ArenaOf K V P) (p : OpaqueNodePtr K V P) → StaysAt old new p → held old p ≢ Nothing → held new p ≢ Nothing
+  held-on old new p stays was none = elim (held-case (held old p)) [
+    | inl free ↦ was free
+    | inr (inl (node, is)) ↦ (let wrong : HeldInner node ≡ Nothing = sym (stays.keeps.inner node is) ∙ none in absurd (cc))
+    | inr (inr (l, is)) ↦ (let now = stays.keeps.leaf l is in let wrong : HeldLeaf now.0 ≡ Nothing = sym now.1 ∙ none in absurd (cc))
+  ]
+
 -- the steps of an insert: from the first arena to the next a leaf is linked, from there to the third the node at the place is changed, and then a node is hung there
 module _ {K V : Type 0} {P : ℕ} (text : K → List ℕ) (old linked new : ArenaOf K V P) (context : Context (OpaqueNodePtr K V P)) (part : Tree (OpaqueNodePtr K V P)) (root leaf top : OpaqueNodePtr K V P) (key : K) (value : V) where
   pub record AreSteps : Type 0 where
@@ -145,24 +160,11 @@ module _ {K V : Type 0} {P : ℕ} (text : K → List ℕ) (old linked new : Aren
     pub same : (p : OpaqueNodePtr K V P) → p ≢ top → (p ≡ root_of part → (l : LeafNode K V P) × (held linked p ≡ HeldLeaf l)) → held new p ≡ held linked p
 
   module _ (steps : AreSteps) where
-    held-case : (h : Held (OpaqueNodePtr K V P) (LeafNode K V P)) → (h ≡ Nothing) ⊎ (((node : nodes.Inner (OpaqueNodePtr K V P)) × (h ≡ HeldInner node)) ⊎ ((l : LeafNode K V P) × (h ≡ HeldLeaf l)))
-    held-case Nothing = inl refl
-    held-case (HeldInner node) = inr (inl (node, refl))
-    held-case (HeldLeaf l) = inr (inr (l, refl))
-
     not-leaf : (p : OpaqueNodePtr K V P) → held old p ≢ Nothing → p ≢ leaf
     not-leaf p was same = was (ap (held old) same ∙ steps.free)
 
-    -- what was held is held on in the next arena
-    held-on : (p : OpaqueNodePtr K V P) → held old p ≢ Nothing → held linked p ≢ Nothing
-    held-on p was none = elim (held-case (held old p)) [
-      | inl free ↦ was free
-      | inr (inl (node, is)) ↦ (let wrong : HeldInner node ≡ Nothing = sym ((steps.stays p (not-leaf p was)).keeps.inner node is) ∙ none in absurd (cc))
-      | inr (inr (l, is)) ↦ (let now = (steps.stays p (not-leaf p was)).keeps.leaf l is in let wrong : HeldLeaf now.0 ≡ Nothing = sym now.1 ∙ none in absurd (cc))
-    ]
-
     not-top : (p : OpaqueNodePtr K V P) → held old p ≢ Nothing → p ≢ root_of part → p ≢ top
-    not-top p was differ same = elim steps.top_was [ inl at ↦ differ (same ∙ at.0) | inr free ↦ held-on p was (ap (held linked) same ∙ free) ]
+    not-top p was differ same = elim steps.top_was [ inl at ↦ differ (same ∙ at.0) | inr free ↦ held-on old linked p (steps.stays p (not-leaf p was)) was (ap (held linked) same ∙ free) ]
 
     part-root : held old (root_of part) ≢ Nothing
     part-root = place-held text old (plug context part) steps.stood (root_of part) (in-part context part (root_of part) (root-place part))
@@ -214,7 +216,7 @@ module _ {K V : Type 0} {P : ℕ} (text : K → List ℕ) (old linked new : Aren
       leaf-not-top : (p : OpaqueNodePtr K V P) (l : LeafNode K V P) → held old p ≡ HeldLeaf l → p ≢ top
       leaf-not-top p l is same = elim steps.top_was [
         | inl (at, (node, inner)) ↦ (let wrong : HeldLeaf l ≡ HeldInner node = sym is ∙ ap (held old) same ∙ inner in absurd (cc))
-        | inr free ↦ held-on p (leaf-there p l is) (ap (held linked) same ∙ free)
+        | inr free ↦ held-on old linked p (steps.stays p (not-leaf p (leaf-there p l is))) (leaf-there p l is) (ap (held linked) same ∙ free)
       ]
 
       leaf-last-same : (p : OpaqueNodePtr K V P) (l : LeafNode K V P) → held old p ≡ HeldLeaf l → held last p ≡ held linked p
@@ -240,7 +242,7 @@ module _ {K V : Type 0} {P : ℕ} (text : K → List ℕ) (old linked new : Aren
       pub top-last : held last top ≡ held new top
       top-last = hangs.others top (λ is. elim steps.top_was [
         | inl at ↦ not-parent top (subst (Contains (places part)) (sym at.0) (root-place part)) is
-        | inr free ↦ held-on top (parent-held top is) free
+        | inr free ↦ held-on old linked top (steps.stays top (not-leaf top (parent-held top is))) (parent-held top is) free
       ])
 
       fresh-last : (p : OpaqueNodePtr K V P) → held last p ≢ Nothing → held old p ≡ Nothing → (p ≡ top) ⊎ (p ≡ leaf)

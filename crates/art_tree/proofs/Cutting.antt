@@ -3,11 +3,10 @@ use Rattle.std.proofs.Common.{◌≡◌, ◌≢◌, ◌⊎◌, ◌∙◌, ℕ, �
 use Rattle.std.proofs.lemmas.List.{map-append}
 use Rattle.std.proofs.lemmas.List.Elements.{All-append, All-tail, Contains-append_right}
 use Rattle.art_header.specs.declared.node_type.NodeType.TheVariants as kinds
-use Rattle.art_nodes.specs.Inner as nodes
 use Rattle.art_nodes.specs.Leaf.{leaf_key}
 use Rattle.art_nodes.specs.declared.pointers.OpaqueNodePtr.{OpaqueNodePtr}
 use Rattle.art_nodes.specs.declared.leaf_node.LeafNode.{LeafNode}
-use Rattle.art_arena.specs.Arena.{ArenaOf, Held, HeldInner, HeldLeaf, Nothing, held, held_leaf, pointer_to, SameNodes}
+use Rattle.art_arena.specs.Arena.{ArenaOf, HeldInner, HeldLeaf, Nothing, held, held_leaf, pointer_to, SameNodes}
 use Rattle.art_arena.specs.Links.{AreDistinct, Spells, SpellsAfter, leaf_at}
 use Rattle.art_arena.specs.Standing.{StandsIn}
 use Rattle.art_arena.specs.Trees.{Tree, leaves, places, root_of, texts, IsSound}
@@ -19,7 +18,7 @@ use Rattle.art_tree.specs.Hanging.{CanHang, IsHung}
 use Rattle.art_tree.specs.Loading.{IsSnug}
 use Rattle.art_tree.specs.Places.{above}
 use Rattle.art_tree.specs.Removing.{IsRemoved}
-use Rattle.art_tree.proofs.Adding.{HangsAt, can-hang-at, hangs-at, parent-above, place-held, root-place}
+use Rattle.art_tree.proofs.Adding.{HangsAt, can-hang-at, hangs-at, held-case, held-on, parent-above, place-held, root-place}
 use Rattle.art_tree.proofs.DictionaryLemmas.{AreApart, leaf-held-in}
 use Rattle.art_tree.proofs.Exchanging.{in-part, leaves-plug}
 use Rattle.art_tree.proofs.Gaps.{keys_of, keys-append}
@@ -44,19 +43,6 @@ module _ {K V : Type 0} {P : ℕ} (text : K → List ℕ) (old cut new : ArenaOf
     pub same : (p : OpaqueNodePtr K V P) → p ≢ top → p ≢ root_of part → held new p ≡ held cut p
 
   module _ (steps : AreCuts) where
-    held-case : (h : Held (OpaqueNodePtr K V P) (LeafNode K V P)) → (h ≡ Nothing) ⊎ (((node : nodes.Inner (OpaqueNodePtr K V P)) × (h ≡ HeldInner node)) ⊎ ((l : LeafNode K V P) × (h ≡ HeldLeaf l)))
-    held-case Nothing = inl refl
-    held-case (HeldInner node) = inr (inl (node, refl))
-    held-case (HeldLeaf l) = inr (inr (l, refl))
-
-    -- what was held and is not the leaf is held on in the next arena
-    held-on : (p : OpaqueNodePtr K V P) → p ≢ leaf → held old p ≢ Nothing → held cut p ≢ Nothing
-    held-on p other was none = elim (held-case (held old p)) [
-      | inl free ↦ was free
-      | inr (inl (node, is)) ↦ (let wrong : HeldInner node ≡ Nothing = sym ((steps.stays p other).keeps.inner node is) ∙ none in absurd (cc))
-      | inr (inr (l, is)) ↦ (let now = (steps.stays p other).keeps.leaf l is in let wrong : HeldLeaf now.0 ≡ Nothing = sym now.1 ∙ none in absurd (cc))
-    ]
-
     part-held : (p : OpaqueNodePtr K V P) → Contains (places part) p → held old p ≢ Nothing
     part-held p inside = place-held text old (plug context part) steps.stood p (in-part context part p inside)
 
@@ -66,7 +52,7 @@ module _ {K V : Type 0} {P : ℕ} (text : K → List ℕ) (old cut new : ArenaOf
     outside-top : (p : OpaqueNodePtr K V P) → held old p ≢ Nothing → (Contains (places part) p → ⊥) → p ≢ top
     outside-top p was outside same = elim steps.top_was [
       | inl inside ↦ outside (subst (Contains (places part)) (sym same) inside)
-      | inr free ↦ held-on p (outside-not p was outside) was (ap (held cut) same ∙ free)
+      | inr free ↦ held-on old cut p (steps.stays p (outside-not p was outside)) was (ap (held cut) same ∙ free)
     ]
 
     outside-node : (p : OpaqueNodePtr K V P) → (Contains (places part) p → ⊥) → p ≢ root_of part
@@ -110,7 +96,7 @@ module _ {K V : Type 0} {P : ℕ} (text : K → List ℕ) (old cut new : ArenaOf
       pub top-last : held last top ≡ held new top
       top-last = hangs.others top (λ is. elim steps.top_was [
         | inl inside ↦ not-parent top inside is
-        | inr free ↦ (let at = parent-above text old context part steps.stood steps.distinct top is in held-on top steps.other (parent-held top is) free)
+        | inr free ↦ held-on old cut top (steps.stays top steps.other) (parent-held top is) free
       ])
 
       leaf-same : (p : OpaqueNodePtr K V P) (l : LeafNode K V P) → held old p ≡ HeldLeaf l → p ≢ leaf → held last p ≡ held cut p

@@ -1,7 +1,7 @@
 -- A leaf less below a node of two children, whose other child takes the node's place.
 use Rattle.std.proofs.Common.{◌≡◌, ◌≢◌, ◌⊎◌, ◌∙◌, ℕ, ◌+◌, ◌<◌, ◌≤◌, ◌^◌, List, [], ◌∷◌, ◌++◌, length, map, take, All, Contains, Option, Some, refl, sym, ap, subst, inl, inr, arith}
 use Rattle.std.proofs.lemmas.List.{map-append}
-use Rattle.std.proofs.lemmas.List.Elements.{All-append, All-contains, All-tail, Contains-append_cases, Contains-append_left, Contains-append_right}
+use Rattle.std.proofs.lemmas.List.Elements.{All-append, All-contains, All-tail, Contains-append_right}
 use Rattle.std.proofs.lemmas.Option.{same_Some}
 use Rattle.art_header.specs.Header.{StandsFor, capped}
 use Rattle.art_header.specs.declared.node_type.NodeType.TheVariants as kinds
@@ -17,8 +17,7 @@ use Rattle.art_arena.specs.Links.{AreDistinct, Spells}
 use Rattle.art_arena.specs.Standing.{NodeStands, StandsIn, AllStandIn}
 use Rattle.art_arena.specs.Trees.{Tree, Leaf, Inner, Branches, Branch, root_of, branch_leaves, texts, places, branch_places, branch_roots, IsSound, AreSound}
 use Rattle.art_tree.specs.Art.{IsAlone}
-use Rattle.art_tree.specs.Contexts.{plug, path_to, leaves_before, leaves_after}
-use Rattle.art_tree.specs.Dictionary.{entry_at}
+use Rattle.art_tree.specs.Contexts.{plug, path_to}
 use Rattle.art_tree.specs.Dropping.{HangsUnder, with_front}
 use Rattle.art_tree.specs.Edits.{StaysAt, node_with_prefix}
 use Rattle.art_tree.specs.Hanging.{CanHang, IsHung}
@@ -26,16 +25,15 @@ use Rattle.art_tree.specs.Loading.{IsSnug, AreSnug}
 use Rattle.art_tree.specs.Places.{above}
 use Rattle.art_tree.specs.Plan.{join}
 use Rattle.art_tree.specs.Removing.{IsRemoved}
-use Rattle.art_tree.proofs.Adding.{leaves-filled, place-held, root-place}
+use Rattle.art_tree.proofs.Adding.{held-on, place-held, root-place}
 use Rattle.art_tree.proofs.Cutting.{AreCuts, HasDropped, can-hang, cut-alone, cut-others, inside-kept, last-inside, leaves-kept, top-last, whole-is, whole-was}
-use Rattle.art_tree.proofs.DictionaryLemmas.{AreApart, held-entry}
-use Rattle.art_tree.proofs.DroppingLemmas.{HasOneLeft, dropped-count, dropped-roots, gone-entry, joined-short, joined-sound, leaves-joined, left-snug, left-sound, one-leaves, one-left, one-places, places-joined, root-joined, snug-joined}
-use Rattle.art_tree.proofs.Exchanging.{AreDistinct-split, distinct-part, kept-branches, places-node, snug-part, sound-part, stands-part, the-one}
-use Rattle.art_tree.proofs.Gaps.{keys_of, keys-append}
+use Rattle.art_tree.proofs.DictionaryLemmas.{AreApart}
+use Rattle.art_tree.proofs.DroppingLemmas.{HasOneLeft, dropped-roots, gone-entry, joined-short, joined-sound, leaves-joined, left-snug, left-sound, one-leaves, one-left, one-places, places-joined, root-joined, snug-joined}
+use Rattle.art_tree.proofs.Exchanging.{kept-branches}
 use Rattle.art_tree.proofs.Growing.{texts-part}
-use Rattle.art_tree.proofs.HangLemmas.{inner-held, inner-kind, one-inner}
+use Rattle.art_tree.proofs.HangLemmas.{inner-held, one-inner}
+use Rattle.art_tree.proofs.LeafPlaces.{IsOther, LeafPlace, is-other, left_there, part_there, place-cases, right_there}
 use Rattle.art_tree.proofs.OnlyWayLemmas.{All-left, All-right}
-use Rattle.art_tree.proofs.Rising.{stand-join, stand-split}
 use Rattle.art_tree.proofs.TakingLemmas.{leaves-taken}
 use Rattle.art_tree.proofs.WayLemmas.{leaf-kind}
 
@@ -43,67 +41,12 @@ use Rattle.art_tree.proofs.WayLemmas.{leaf-kind}
 stands-for : {H : Type 0} (room : ℕ) (node : nodes.Inner H) (prefix : List ℕ) (branches : Branches H) → NodeStands room node prefix branches → StandsFor room (header_of node) prefix
 stands-for room node prefix branches shows = λ i. record { count = length node.children; prefix_len = shows.prefix_len i; stored = shows.stored i }
 
-module _ {K V : Type 0} {P : ℕ} where
-  -- what is held stays held
-  held-on : (old new : ArenaOf K V P) (p : OpaqueNodePtr K V P) → StaysAt old new p → held old p ≢ Nothing → held new p ≢ Nothing
-  held-on old new p stays was none = by_held (held old p) refl
-    where
-      by_held : (h : Held (OpaqueNodePtr K V P) (LeafNode K V P)) → held old p ≡ h → ⊥
-      by_held Nothing is = was is
-      by_held (HeldInner node) is = let wrong : HeldInner node ≡ Nothing = sym (stays.keeps.inner node is) ∙ none in absurd (cc)
-      by_held (HeldLeaf l) is = let now = stays.keeps.leaf l is in let wrong : HeldLeaf now.0 ≡ Nothing = sym now.1 ∙ none in absurd (cc)
-
-module _ {K V : Type 0} {P : ℕ} (text : K → List ℕ) (old : ArenaOf K V P) (root leaf parent : OpaqueNodePtr K V P) (byte : ℕ) (higher : Option (OpaqueNodePtr K V P × ℕ)) (tree : Tree (OpaqueNodePtr K V P)) (alone : IsAlone text old root tree) (hangs : HangsUnder tree leaf parent byte higher) where
+module _ {K V : Type 0} {P : ℕ} {text : K → List ℕ} {old : ArenaOf K V P} {root leaf parent : OpaqueNodePtr K V P} {byte : ℕ} {higher : Option (OpaqueNodePtr K V P × ℕ)} {tree : Tree (OpaqueNodePtr K V P)} {hangs : HangsUnder tree leaf parent byte higher} (place : LeafPlace text old root hangs) where
   abbrev leaf_there : Tree (OpaqueNodePtr K V P)
   leaf_there = Leaf leaf hangs.text
 
-  abbrev part_there : Tree (OpaqueNodePtr K V P)
-  part_there = Inner parent hangs.prefix (join hangs.before (Branch byte leaf_there hangs.after))
-
-  abbrev left_there : List (OpaqueNodePtr K V P × List ℕ)
-  left_there = leaves_before hangs.upper ++ branch_leaves hangs.before
-
-  abbrev right_there : List (OpaqueNodePtr K V P × List ℕ)
-  right_there = branch_leaves hangs.after ++ leaves_after hangs.upper
-
-  -- the slab keys of the leaves left and right of the leaf
-  abbrev pub left_keys : List ℕ
-  left_keys = keys_of left_there
-
-  abbrev pub right_keys : List ℕ
-  right_keys = keys_of right_there
-
-  -- the node that the leaf hangs in is a part of the whole
-  alone-there : IsAlone text old root (plug hangs.upper part_there)
-  alone-there = subst (IsAlone text old root) (sym hangs.whole) alone
-
-  stands-there : StandsIn text old part_there
-  stands-there = stands-part text old old hangs.upper part_there alone-there.is_tree.stands
-
-  sound-there : IsSound (path_to hangs.upper) part_there
-  sound-there = sound-part hangs.upper part_there alone-there.is_tree.sound
-
-  -- the links spell the leaf between the others
-  pub listed-there : Spells old (left_keys ++ opaque_key leaf ∷ right_keys)
-  listed-there =
-      subst (Spells old) (ap keys_of (leaves-filled hangs.upper hangs.prefix parent hangs.before byte leaf hangs.text hangs.after) ∙ keys-append left_there ((leaf, hangs.text) ∷ right_there)) alone-there.spelled
-
-  -- a leaf with the text is held at the pointer
-  leaf-was : (l : LeafNode K V P) × (held old leaf ≡ HeldLeaf l) × (text (leaf_key l) ≡ hangs.text)
-  leaf-was = (stand-split text old hangs.before (Branch byte leaf_there hangs.after) stands-there.3).1.0
-
-  -- and its parent is an inner node, so that the two differ
-  parent-no-leaf : (l : LeafNode K V P) → held old parent ≡ HeldLeaf l → ⊥
-  parent-no-leaf l is = let wrong : HeldInner stands-there.0 ≡ HeldLeaf l = sym stands-there.1 ∙ is in absurd (cc)
-
-  parent-apart : parent ≢ leaf
-  parent-apart same = parent-no-leaf leaf-was.0 (ap (held old) same ∙ leaf-was.1)
-
-  pub parent-kind : node_kind parent ≢ kinds.Leaf
-  parent-kind = inner-kind old parent stands-there.0 stands-there.1
-
   -- what is true of each text of the node is so of each that is left
-  texts-left : (Q : List ℕ → Type 0) → All Q (texts part_there) → All Q (map (λ l. l.1) (branch_leaves hangs.before ++ branch_leaves hangs.after))
+  texts-left : (Q : List ℕ → Type 0) → All Q (texts (part_there hangs)) → All Q (map (λ l. l.1) (branch_leaves hangs.before ++ branch_leaves hangs.after))
   texts-left Q each =
       let of : List (OpaqueNodePtr K V P × List ℕ) → List (List ℕ) = map (λ l. l.1) in
       let lefts = branch_leaves hangs.before in
@@ -111,73 +54,46 @@ module _ {K V : Type 0} {P : ℕ} (text : K → List ℕ) (old : ArenaOf K V P) 
       let all = subst (All Q) (ap of (leaves-taken hangs.prefix parent hangs.before byte leaf hangs.text hangs.after) ∙ map-append (λ l. l.1) lefts ((leaf, hangs.text) ∷ rights)) each in
       subst (All Q) (sym (map-append (λ l. l.1) lefts rights)) (All-append Q (of lefts) (of rights) (All-left Q (of lefts) (hangs.text ∷ of rights) all) (All-tail Q hangs.text (of rights) (All-right Q (of lefts) (hangs.text ∷ of rights) all)))
 
-  -- a place of the node that is neither its own nor the leaf's
-  record IsOther (q : OpaqueNodePtr K V P) : Type 0 where
-    pub inside : Contains (places part_there) q
-    pub not_leaf : q ≢ leaf
-    pub not_parent : q ≢ parent
-
   module _ (one_place : (arena : ArenaOf K V P) (path : List ℕ) (t : Tree (OpaqueNodePtr K V P)) → StandsIn text arena t → IsSound path t → AreDistinct (places t)) where
-    distinct-there : AreDistinct (places (plug hangs.upper part_there))
-    distinct-there = one_place old [] (plug hangs.upper part_there) alone-there.is_tree.stands alone-there.is_tree.sound
-
-    is-other : (q : OpaqueNodePtr K V P) → Contains (branch_places hangs.before ++ branch_places hangs.after) q → IsOther q
-    is-other q inside =
-        let lefts = branch_places hangs.before in
-        let rights = branch_places hangs.after in
-        let same = places-node parent hangs.prefix hangs.before byte leaf_there hangs.after in
-        let apart = subst AreDistinct same (distinct-part hangs.upper part_there distinct-there) in
-        let later = AreDistinct-split lefts (leaf ∷ rights) apart.1 in
-        let other : Contains (lefts ++ leaf ∷ rights) q → q ≢ leaf → IsOther q = λ there differ. record {
-          inside = subst (λ all. Contains all q) (sym same) (Contains-append_right (parent ∷ []) (lefts ++ leaf ∷ rights) q there);
-          not_leaf = differ;
-          not_parent = All-contains (λ p. p ≢ parent) (lefts ++ leaf ∷ rights) q apart.0 there;
-        } in
-        elim (Contains-append_cases lefts rights q inside) [
-          | inl left ↦ other (Contains-append_left lefts (leaf ∷ rights) q left) (λ at_leaf. later.2 q left (0, omega arith, sym at_leaf))
-          | inr right ↦ other (Contains-append_right lefts (leaf ∷ rights) q (Contains-append_right (leaf ∷ []) rights q right)) (All-contains (λ p. p ≢ leaf) rights q later.1.0 right)
-        ]
+    distinct-there : AreDistinct (places (plug hangs.upper (part_there hangs)))
+    distinct-there = one_place old [] (plug hangs.upper (part_there hangs)) place.alone.is_tree.stands place.alone.is_tree.sound
 
     module _ (two : (node : nodes.Inner (OpaqueNodePtr K V P)) → held old parent ≡ HeldInner node → length node.children ≡ 2) where
       -- one branch is left
       one-there : HasOneLeft hangs.before byte leaf_there hangs.after
-      one-there =
-          let (node, holds, shows, stand) = stands-there in
-          one-left hangs.before byte leaf_there hangs.after sound-there.1 (omega (arith, two node holds, ap length shows.children, dropped-count hangs.before byte leaf_there hangs.after))
+      one-there = one-left hangs.before byte leaf_there hangs.after place.sound.1 (omega (arith, two place.node place.is_held, place.count))
 
       abbrev only_there : Tree (OpaqueNodePtr K V P)
       only_there = one-there.only
 
       only-stands : StandsIn text old only_there
-      only-stands =
-          let parts = stand-split text old hangs.before (Branch byte leaf_there hangs.after) stands-there.3 in
-          (subst (AllStandIn text old) one-there.is (stand-join text old hangs.before hangs.after parts.0 parts.1.1)).0
+      only-stands = (subst (AllStandIn text old) one-there.is place.others_stand).0
 
-      only-other : (q : OpaqueNodePtr K V P) → Contains (places only_there) q → IsOther q
-      only-other q inside = is-other q (subst (λ all. Contains all q) (sym (one-places hangs.before hangs.after one-there.other only_there one-there.is)) inside)
+      only-other : (q : OpaqueNodePtr K V P) → Contains (places only_there) q → IsOther hangs q
+      only-other q inside = is-other hangs distinct-there q (subst (λ all. Contains all q) (sym (one-places hangs.before hangs.after one-there.other only_there one-there.is)) inside)
 
       only-distinct : AreDistinct (places only_there)
-      only-distinct = one_place old ((path_to hangs.upper ++ hangs.prefix) ++ one-there.other ∷ []) only_there only-stands (subst (AreSound (path_to hangs.upper ++ hangs.prefix)) one-there.is (left-sound hangs.before byte leaf_there hangs.after (path_to hangs.upper) hangs.prefix parent sound-there)).0
+      only-distinct = one_place old ((path_to hangs.upper ++ hangs.prefix) ++ one-there.other ∷ []) only_there only-stands (subst (AreSound (path_to hangs.upper ++ hangs.prefix)) one-there.is (left-sound hangs.before byte leaf_there hangs.after (path_to hangs.upper) hangs.prefix parent place.sound)).0
 
       -- the arena once the leaf is gone
       module _ (cut : ArenaOf K V P) (gone : held cut leaf ≡ Nothing) (stays : (p : OpaqueNodePtr K V P) → p ≢ leaf → StaysAt old cut p) where
-        parent-cut : held cut parent ≡ HeldInner stands-there.0
-        parent-cut = (stays parent parent-apart).keeps.inner stands-there.0 stands-there.1
+        parent-cut : held cut parent ≡ HeldInner place.node
+        parent-cut = (stays parent place.apart).keeps.inner place.node place.is_held
 
         pub parent-held : held cut parent ≢ Nothing
-        parent-held = inner-held cut parent stands-there.0 parent-cut
+        parent-held = inner-held cut parent place.node parent-cut
 
         pub parent-two : (node : nodes.Inner (OpaqueNodePtr K V P)) → held cut parent ≡ HeldInner node → 2 ≤ length node.children
         parent-two node is =
-            let same = one-inner (held cut parent) stands-there.0 node parent-cut is in
-            omega (arith, two stands-there.0 stands-there.1, ap (λ n. length n.children) same)
+            let same = one-inner (held cut parent) place.node node parent-cut is in
+            omega (arith, two place.node place.is_held, ap (λ n. length n.children) same)
 
         -- the child that is left is the root of the one branch
         module _ (other : ℕ) (child : OpaqueNodePtr K V P) (answer : (node : nodes.Inner (OpaqueNodePtr K V P)) → held cut parent ≡ HeldInner node → first_pair (without_child node.children byte) ≡ Some (other, child)) where
           found-is : ◌≡◌ {A = ℕ × OpaqueNodePtr K V P} (one-there.other, root_of only_there) (other, child)
           found-is =
               same_Some (one-there.other, root_of only_there) (other, child)
-              (sym (ap first_pair (ap (λ all. without_child all byte) stands-there.2.children ∙ dropped-roots hangs.before byte leaf_there hangs.after sound-there.1 ∙ ap branch_roots one-there.is)) ∙ answer stands-there.0 parent-cut)
+              (sym (ap first_pair (ap (λ all. without_child all byte) place.shows.children ∙ dropped-roots hangs.before byte leaf_there hangs.after place.sound.1 ∙ ap branch_roots one-there.is)) ∙ answer place.node parent-cut)
 
           other-is : one-there.other ≡ other
           other-is = ap (λ pair. pair.0) found-is
@@ -185,8 +101,8 @@ module _ {K V : Type 0} {P : ℕ} (text : K → List ℕ) (old : ArenaOf K V P) 
           child-is : root_of only_there ≡ child
           child-is = ap (λ pair. pair.1) found-is
 
-          child-other : IsOther child
-          child-other = subst IsOther child-is (only-other (root_of only_there) (root-place only_there))
+          child-other : IsOther hangs child
+          child-other = subst (IsOther hangs) child-is (only-other (root_of only_there) (root-place only_there))
 
           child-was : held old child ≢ Nothing
           child-was = subst (λ p. held old p ≢ Nothing) child-is (place-held text old only_there only-stands (root_of only_there) (root-place only_there))
@@ -224,11 +140,11 @@ module _ {K V : Type 0} {P : ℕ} (text : K → List ℕ) (old : ArenaOf K V P) 
           pub short-there : (upper lower : nodes.Inner (OpaqueNodePtr K V P)) → held cut parent ≡ HeldInner upper → held cut child ≡ HeldInner lower → upper.prefix_len + (1 + lower.prefix_len) < 2 ^ 32
           short-there upper lower above_is below_is =
               let low = lower-there lower below_is in
-              let same = one-inner (held cut parent) stands-there.0 upper parent-cut above_is in
-              let short = texts-part (λ x. length x < 2 ^ 32) hangs.upper part_there alone-there.short in
+              let same = one-inner (held cut parent) place.node upper parent-cut above_is in
+              let short = texts-part (λ x. length x < 2 ^ 32) hangs.upper (part_there hangs) place.alone.short in
               let each : All (λ x. length x < 2 ^ 32) (texts only_there) = subst (λ all. All (λ x. length x < 2 ^ 32) (map (λ l. l.1) all)) (one-leaves hangs.before hangs.after one-there.other only_there one-there.is) (texts-left (λ x. length x < 2 ^ 32) short) in
-              let fits = joined-short hangs.before byte leaf_there hangs.after (path_to hangs.upper) hangs.prefix parent sound-there one-there.other only_there one-there.is (λ x inside. All-contains (λ y. length y < 2 ^ 32) (texts only_there) x each inside) child low.prefix low.branches low.part in
-              omega (arith, fits, stands-there.2.prefix_len, low.shows.prefix_len, ap (λ n. n.prefix_len) same)
+              let fits = joined-short hangs.before byte leaf_there hangs.after (path_to hangs.upper) hangs.prefix parent place.sound one-there.other only_there one-there.is (λ x inside. All-contains (λ y. length y < 2 ^ 32) (texts only_there) x each inside) child low.prefix low.branches low.part in
+              omega (arith, fits, place.shows.prefix_len, low.shows.prefix_len, ap (λ n. n.prefix_len) same)
 
           -- the arena once the child has the longer prefix
           module _ (joined : ArenaOf K V P) (leaf_same : node_kind child ≡ kinds.Leaf → SameNodes cut joined)
@@ -259,7 +175,7 @@ module _ {K V : Type 0} {P : ℕ} (text : K → List ℕ) (old : ArenaOf K V P) 
                     }
                 by_held (HeldInner node) is =
                     let low = lower-there node is in
-                    let changes = joins stands-there.0 node hangs.prefix low.prefix parent-cut is (stands-for P stands-there.0 hangs.prefix (join hangs.before (Branch byte leaf_there hangs.after)) stands-there.2) (stands-for P node low.prefix low.branches low.shows) in
+                    let changes = joins place.node node hangs.prefix low.prefix parent-cut is (stands-for P place.node hangs.prefix (join hangs.before (Branch byte leaf_there hangs.after)) place.shows) (stands-for P node low.prefix low.branches low.shows) in
                     record {
                       others = changes.others;
                       same_leaf = λ was was_is. let now = keeps.keeps.leaf was was_is in let wrong : HeldLeaf now.0 ≡ HeldInner node = sym now.1 ∙ is in absurd (cc);
@@ -286,23 +202,23 @@ module _ {K V : Type 0} {P : ℕ} (text : K → List ℕ) (old : ArenaOf K V P) 
 
             -- the arena once the node is given up
             module _ (new : ArenaOf K V P) (given : Changes joined new parent Nothing) where
-              two-cuts : AreCuts text old cut new hangs.upper part_there root leaf child
+              two-cuts : AreCuts text old cut new hangs.upper (part_there hangs) root leaf child
               two-cuts = record {
-                stood = alone-there.is_tree.stands;
-                was_root = alone-there.is_tree.at_root;
+                stood = place.alone.is_tree.stands;
+                was_root = place.alone.is_tree.at_root;
                 distinct = distinct-there;
-                inside = subst (λ all. Contains all leaf) (sym (places-node parent hangs.prefix hangs.before byte leaf_there hangs.after)) (Contains-append_right (parent ∷ branch_places hangs.before) (leaf ∷ branch_places hangs.after) leaf (0, omega arith, refl));
+                inside = place.inside;
                 gone = gone;
                 stays = stays;
                 other = child-other.not_leaf;
                 top_was = inl child-other.inside;
                 top_leaf = λ l is. given.others child child-other.not_parent ∙ is-joined.same_leaf l is;
-                node_inner = parent-no-leaf;
+                node_inner = place.no_leaf;
                 same = λ p not_top not_node. given.others p not_node ∙ is-joined.others p not_top;
               }
 
               pub two-hangs : CanHang new higher
-              two-hangs = subst (CanHang new) hangs.hangs (can-hang text old cut new hangs.upper part_there root leaf child two-cuts)
+              two-hangs = subst (CanHang new) hangs.hangs (can-hang text old cut new hangs.upper (part_there hangs) root leaf child two-cuts)
 
               module _ (last : ArenaOf K V P) (root_now : OpaqueNodePtr K V P) (hung : IsHung new last higher child root root_now) (spells : (left right : List ℕ) → Spells old (left ++ opaque_key leaf ∷ right) → Spells cut (left ++ right)) where
                 hung-there : IsHung new last (above hangs.upper) child root root_now
@@ -317,73 +233,65 @@ module _ {K V : Type 0} {P : ℕ} (text : K → List ℕ) (old : ArenaOf K V P) 
                   where
                     by_part : (part : Tree (OpaqueNodePtr K V P)) → only_there ≡ part → StandsIn text old part → StandsIn text last (with_front hangs.prefix one-there.other part)
                     by_part (Leaf pointer x) same (l, holds, has) =
-                        let is_other = subst IsOther (ap root_of same) (only-other (root_of only_there) (root-place only_there)) in
-                        let now = (leaves-kept text old cut new hangs.upper part_there root leaf child two-cuts last root_now hung-there pointer l holds is_other.not_leaf).leaf l holds in
+                        let is_other = subst (IsOther hangs) (ap root_of same) (only-other (root_of only_there) (root-place only_there)) in
+                        let now = (leaves-kept text old cut new hangs.upper (part_there hangs) root leaf child two-cuts last root_now hung-there pointer l holds is_other.not_leaf).leaf l holds in
                         (now.0, now.1, ap text now.2 ∙ has)
                     by_part (Inner pointer prefix branches) same (own, holds, shows, stand) =
                         let root_is : pointer ≡ child = sym (ap root_of same) ∙ child-is in
                         let now = is-joined.inner pointer prefix branches same in
                         let apart : All (λ q. q ≢ pointer) (branch_places branches) = (subst (λ t. AreDistinct (places t)) same only-distinct).0 in (
                           now.0,
-                          ap (held last) root_is ∙ top-last text old cut new hangs.upper part_there root leaf child two-cuts last root_now hung-there ∙ given.others child child-other.not_parent ∙ now.1,
+                          ap (held last) root_is ∙ top-last text old cut new hangs.upper (part_there hangs) root leaf child two-cuts last root_now hung-there ∙ given.others child child-other.not_parent ∙ now.1,
                           now.2,
                           kept-branches text old last branches stand (λ q below.
                               let is_other = only-other q (subst (λ t. Contains (places t) q) (sym same) (Contains-append_right (pointer ∷ []) (branch_places branches) q below)) in
-                              inside-kept text old cut new hangs.upper part_there root leaf child two-cuts last root_now hung-there q is_other.inside is_other.not_leaf
+                              inside-kept text old cut new hangs.upper (part_there hangs) root leaf child two-cuts last root_now hung-there q is_other.inside is_other.not_leaf
                               (λ at_top. All-contains (λ p. p ≢ pointer) (branch_places branches) q apart below (at_top ∙ sym root_is))
                               is_other.not_parent),
                         )
 
                 now-snug : IsSnug now_there
-                now-snug =
-                    let snug = snug-part hangs.upper part_there alone-there.snug in
-                    snug-joined hangs.prefix one-there.other only_there (subst AreSnug one-there.is (left-snug hangs.before byte leaf_there hangs.after snug.1)).0
+                now-snug = snug-joined hangs.prefix one-there.other only_there (subst AreSnug one-there.is (left-snug hangs.before byte leaf_there hangs.after place.snug.1)).0
 
                 -- what was in the node is there still or is gone
-                now-freed : (p : OpaqueNodePtr K V P) → Contains (places part_there) p → Contains (places now_there) p ⊎ (held last p ≡ Nothing)
+                now-freed : (p : OpaqueNodePtr K V P) → Contains (places (part_there hangs)) p → Contains (places now_there) p ⊎ (held last p ≡ Nothing)
                 now-freed p inside =
-                    let lefts = branch_places hangs.before in
-                    let rights = branch_places hangs.after in
-                    let last_is = last-inside text old cut new hangs.upper part_there root leaf child two-cuts last root_now hung-there p inside in
-                    let stay : Contains (lefts ++ rights) p → Contains (places now_there) p = λ there. subst (λ all. Contains all p) (one-places hangs.before hangs.after one-there.other only_there one-there.is ∙ sym (places-joined hangs.prefix one-there.other only_there)) there in
-                    elim (Contains-append_cases (parent ∷ []) (lefts ++ leaf ∷ rights) p (subst (λ all. Contains all p) (places-node parent hangs.prefix hangs.before byte leaf_there hangs.after) inside)) [
-                      | inl here ↦ inr (last_is ∙ ap (held new) (sym (the-one parent p here)) ∙ given.changed)
-                      | inr below ↦ elim (Contains-append_cases lefts (leaf ∷ rights) p below) [
-                        | inl left ↦ inl (stay (Contains-append_left lefts rights p left))
-                        | inr from ↦ elim (Contains-append_cases (leaf ∷ []) rights p from) [
-                          | inr right ↦ inl (stay (Contains-append_right lefts rights p right))
-                          | inl at_leaf ↦ inr (last_is ∙ ap (held new) (sym (the-one leaf p at_leaf)) ∙ two-cuts.same leaf (λ same. child-other.not_leaf (sym same)) (λ same. parent-apart (sym same)) ∙ gone)
-                        ]
+                    let last_is = last-inside text old cut new hangs.upper (part_there hangs) root leaf child two-cuts last root_now hung-there p inside in
+                    elim (place-cases hangs p inside) [
+                      | inl at ↦ inr (last_is ∙ ap (held new) at ∙ given.changed)
+                      | inr rest ↦ elim rest [
+                        | inl own ↦ inr (last_is ∙ ap (held new) own ∙ two-cuts.same leaf (λ same. child-other.not_leaf (sym same)) (λ same. place.apart (sym same)) ∙ gone)
+                        | inr other ↦ inl (subst (λ all. Contains all p) (one-places hangs.before hangs.after one-there.other only_there one-there.is ∙ sym (places-joined hangs.prefix one-there.other only_there)) other)
                       ]
                     ]
 
-                two-dropped : HasDropped text old cut new hangs.upper part_there root leaf child two-cuts last root_now hung-there now_there hangs.text (branch_leaves hangs.before) (branch_leaves hangs.after)
+                two-dropped : HasDropped text old cut new hangs.upper (part_there hangs) root leaf child two-cuts last root_now hung-there now_there hangs.text (branch_leaves hangs.before) (branch_leaves hangs.after)
                 two-dropped = record {
                   at_root = root-joined hangs.prefix one-there.other only_there ∙ child-is;
                   stands = now-stands;
-                  sound = joined-sound hangs.before byte leaf_there hangs.after (path_to hangs.upper) hangs.prefix parent sound-there one-there.other only_there one-there.is;
+                  sound = joined-sound hangs.before byte leaf_there hangs.after (path_to hangs.upper) hangs.prefix parent place.sound one-there.other only_there one-there.is;
                   snug = now-snug;
                   was = leaves-taken hangs.prefix parent hangs.before byte leaf hangs.text hangs.after;
                   is = leaves-joined hangs.prefix one-there.other only_there ∙ sym (one-leaves hangs.before hangs.after one-there.other only_there one-there.is);
-                  spelled = spells left_keys right_keys listed-there;
+                  spelled = spells _ _ place.spelled;
                   freed = now-freed;
                 }
 
                 alone-last : IsAlone text last root_now (plug hangs.upper now_there)
-                alone-last = cut-alone text old cut new hangs.upper part_there root leaf child two-cuts last root_now hung-there now_there hangs.text (branch_leaves hangs.before) (branch_leaves hangs.after) two-dropped alone-there
+                alone-last = cut-alone text old cut new hangs.upper (part_there hangs) root leaf child two-cuts last root_now hung-there now_there hangs.text (branch_leaves hangs.before) (branch_leaves hangs.after) two-dropped place.alone
 
                 -- the tree is left without the leaf, whose entry goes
                 pub two-removed : ((path : List ℕ) (t : Tree (OpaqueNodePtr K V P)) → IsSound path t → AreApart (texts t)) → (entry : K × V) → ((l : LeafNode K V P) → held old leaf ≡ HeldLeaf l → entry ≡ (leaf_key l, leaf_value l)) → IsRemoved text old last hangs.text root_now entry
                 two-removed texts_apart entry entry_is =
-                    let apart = texts_apart [] (plug hangs.upper part_there) alone-there.is_tree.sound in
+                    let apart = texts_apart [] (plug hangs.upper (part_there hangs)) place.alone.is_tree.sound in
                     let apart_now = texts_apart [] (plug hangs.upper now_there) alone-last.is_tree.sound in
                     record {
                       art = (plug hangs.upper now_there, alone-last);
                       left = record {
-                        gone = gone-entry text last root_now (plug hangs.upper now_there) alone-last (plug hangs.upper part_there) apart left_there right_there leaf hangs.text
-                            (whole-was text old cut new hangs.upper part_there root leaf child two-cuts last root_now hung-there now_there hangs.text (branch_leaves hangs.before) (branch_leaves hangs.after) two-dropped)
-                            (whole-is text old cut new hangs.upper part_there root leaf child two-cuts last root_now hung-there now_there hangs.text (branch_leaves hangs.before) (branch_leaves hangs.after) two-dropped);
-                        others = cut-others text old cut new hangs.upper part_there root leaf child two-cuts last root_now hung-there now_there hangs.text (branch_leaves hangs.before) (branch_leaves hangs.after) two-dropped alone-there apart apart_now;
+                        gone = gone-entry text last root_now (plug hangs.upper now_there) alone-last (plug hangs.upper (part_there hangs)) apart (left_there hangs) (right_there hangs) leaf hangs.text
+                            (whole-was text old cut new hangs.upper (part_there hangs) root leaf child two-cuts last root_now hung-there now_there hangs.text (branch_leaves hangs.before) (branch_leaves hangs.after) two-dropped)
+                            (whole-is text old cut new hangs.upper (part_there hangs) root leaf child two-cuts last root_now hung-there now_there hangs.text (branch_leaves hangs.before) (branch_leaves hangs.after) two-dropped);
+                        others = cut-others text old cut new hangs.upper (part_there hangs) root leaf child two-cuts last root_now hung-there now_there hangs.text (branch_leaves hangs.before) (branch_leaves hangs.after) two-dropped place.alone apart apart_now;
                       };
-                      was = ap (entry_at text old) (sym leaf-was.2) ∙ held-entry text old root (plug hangs.upper part_there) alone-there apart leaf leaf-was.0 leaf-was.1 ∙ ap Some (sym (entry_is leaf-was.0 leaf-was.1));
+                      was = place.entry apart ∙ ap Some (sym (entry_is place.own place.own_held));
                     }

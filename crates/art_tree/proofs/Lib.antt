@@ -31,6 +31,7 @@ mod EntryLemmas
 mod Cutting
 mod WayContexts
 mod DroppingLemmas
+mod LeafPlaces
 mod CuttingMany
 mod CutLemmas
 mod CuttingTwo

@@ -1,4 +1,4 @@
-use Rattle.std.proofs.Common.{◌≡◌, ◌≢◌, ◌<◌, ◌≤◌, ◌∙◌, ℕ, List, [], ◌∷◌, ◌++◌, None, length, ap, sym, subst, rules}
+use Rattle.std.proofs.Common.{◌≡◌, ◌≢◌, ◌<◌, ◌≤◌, ◌∙◌, ℕ, List, [], ◌∷◌, ◌++◌, None, length, sym, subst, rules}
 use Rattle.art_header.specs.NodeType.{least_children}
 use Rattle.art_header.specs.declared.node_type.NodeType.TheVariants.{Leaf}
 use Rattle.art_nodes.specs.ChildMap.{child_at}
@@ -9,99 +9,80 @@ use Rattle.art_arena.specs.Links.{Spells}
 use Rattle.art_tree.specs.Cuts.{HasRoomToShrink}
 use Rattle.art_tree.specs.Hanging.{CanHang}
 use Rattle.art_tree.specs.Removing.{IsRemoved, NeedsSmallerNode}
-use Rattle.art_tree.specs.Search.{leaf_pointer}
 use Rattle.art_tree.proofs.Cutting.{removed-from}
-use Rattle.art_tree.proofs.CuttingMany.{alone-there, cut-held, cut-many, cut-room, cut-there, is-cut, is-there, many-hangs, many-removed, needs-smaller, node-is, own-leaf, parent-held, parent-inner, part_there, spelled-there}
+use Rattle.art_tree.proofs.CuttingMany.{cut-held, cut-many, cut-room, cut-there, is-cut, many-hangs, many-removed, needs-smaller}
 use Rattle.art_tree.proofs.Growing.{alone-same}
 use Rattle.art_tree.proofs.HangLemmas.{always-err}
+use Rattle.art_tree.proofs.LeafPlaces.{leaf-place}
 use Rattle.art_tree.proofs.remove.remove_from_many.Goals as goal
 
 pub reserve_shrink-requires : goal.reserve_shrink-requires
 reserve_shrink-requires g c =
-    let text = g.K.AsBytes.text in
     let (tree, alone0, hangs) = c.requires.place in
-    let root = c.args.root in
-    let leaf = leaf_pointer c.args.leaf in
     let parent = c.args.parent in
-    let byte = c.args.byte in
-    let higher = c.args.above in
     let old = c.args.arena.now in
-    let is_held : held old parent ≢ Nothing = parent-held text old root tree leaf parent byte higher alone0 hangs in
-    let is_inner : node_kind parent ≢ Leaf = parent-inner text old root tree leaf parent byte higher alone0 hangs in
+    let is_held : held old parent ≢ Nothing = (leaf-place alone0 hangs).some_held in
+    let is_inner : node_kind parent ≢ Leaf = (leaf-place alone0 hangs).inner in
     search rules
 
 pub take_leaf-entry-requires : goal.take_leaf-entry-requires
 take_leaf-entry-requires g c =
     let text = g.K.AsBytes.text in
     let (tree, alone0, hangs) = c.requires.place in
-    let root = c.args.root in
-    let leaf = leaf_pointer c.args.leaf in
-    let parent = c.args.parent in
-    let byte = c.args.byte in
-    let higher = c.args.above in
     let reserved = c.reserve_shrink.new.arena in
-    let alone = alone-same text c.args.arena.now reserved c.reserve_shrink.ensures.nodes_kept root tree alone0 in
-    let listed : (left right : List ℕ) × Spells reserved (left ++ slab_key c.args.leaf ∷ right) = (_, _, spelled-there text reserved root tree leaf parent byte higher alone hangs) in
+    let alone = alone-same text c.args.arena.now reserved c.reserve_shrink.ensures.nodes_kept c.args.root tree alone0 in
+    let place = leaf-place alone hangs in
+    let listed : (left right : List ℕ) × Spells reserved (left ++ slab_key c.args.leaf ∷ right) = (_, _, place.spelled) in
     search rules
 
 pub take_child-node-requires : goal.take_child-node-requires
 take_child-node-requires g c =
     let text = g.K.AsBytes.text in
     let (tree, alone0, hangs) = c.requires.place in
-    let root = c.args.root in
-    let leaf = leaf_pointer c.args.leaf in
     let parent = c.args.parent in
     let byte = c.args.byte in
-    let higher = c.args.above in
     let reserved = c.reserve_shrink.new.arena in
-    let alone = alone-same text c.args.arena.now reserved c.reserve_shrink.ensures.nodes_kept root tree alone0 in
+    let alone = alone-same text c.args.arena.now reserved c.reserve_shrink.ensures.nodes_kept c.args.root tree alone0 in
+    let place = leaf-place alone hangs in
     let cut = c.take_leaf-entry.new.arena in
-    let many : length (node-is text reserved root tree leaf parent byte higher alone hangs).children ≢ 2 = c.requires.many (node-is text reserved root tree leaf parent byte higher alone hangs) (sym (c.reserve_shrink.ensures.nodes_kept parent) ∙ is-there text reserved root tree leaf parent byte higher alone hangs) in
-    let is_held : held cut parent ≢ Nothing = cut-held text reserved root tree leaf parent byte higher alone hangs cut c.take_leaf-entry.ensures.gone c.take_leaf-entry.ensures.others in
-    let is_inner : node_kind parent ≢ Leaf = parent-inner text reserved root tree leaf parent byte higher alone hangs in
-    let there : (node : Inner _) → held cut parent ≡ HeldInner node → child_at node.children byte ≢ None = cut-there text reserved root tree leaf parent byte higher alone hangs cut c.take_leaf-entry.ensures.gone c.take_leaf-entry.ensures.others in
-    let enough : (node : Inner _) → held cut parent ≡ HeldInner node → (2 < length node.children) × (least_children (node_kind parent) ≤ length node.children) = cut-many text reserved root tree leaf parent byte higher alone hangs cut c.take_leaf-entry.ensures.gone c.take_leaf-entry.ensures.others many in
-    let has_room : HasRoomToShrink cut parent = cut-room text reserved root tree leaf parent byte higher alone hangs cut c.take_leaf-entry.ensures.gone c.take_leaf-entry.ensures.others many c.in_ok-reserve_shrink.ensures.room c.take_leaf-entry.ensures.room in
+    let many : length place.node.children ≢ 2 = c.requires.many place.node (sym (c.reserve_shrink.ensures.nodes_kept parent) ∙ place.is_held) in
+    let is_held : held cut parent ≢ Nothing = cut-held place cut c.take_leaf-entry.ensures.gone c.take_leaf-entry.ensures.others in
+    let is_inner : node_kind parent ≢ Leaf = place.inner in
+    let there : (node : Inner _) → held cut parent ≡ HeldInner node → child_at node.children byte ≢ None = cut-there place cut c.take_leaf-entry.ensures.gone c.take_leaf-entry.ensures.others in
+    let enough : (node : Inner _) → held cut parent ≡ HeldInner node → (2 < length node.children) × (least_children (node_kind parent) ≤ length node.children) = cut-many place cut c.take_leaf-entry.ensures.gone c.take_leaf-entry.ensures.others many in
+    let has_room : HasRoomToShrink cut parent = cut-room place cut c.take_leaf-entry.ensures.gone c.take_leaf-entry.ensures.others many c.in_ok-reserve_shrink.ensures.room c.take_leaf-entry.ensures.room in
     search rules
 
 pub hang-requires : goal.hang-requires
 hang-requires g c =
     let text = g.K.AsBytes.text in
     let (tree, alone0, hangs) = c.requires.place in
-    let root = c.args.root in
-    let leaf = leaf_pointer c.args.leaf in
     let parent = c.args.parent in
-    let byte = c.args.byte in
     let higher = c.args.above in
     let reserved = c.reserve_shrink.new.arena in
-    let alone = alone-same text c.args.arena.now reserved c.reserve_shrink.ensures.nodes_kept root tree alone0 in
+    let alone = alone-same text c.args.arena.now reserved c.reserve_shrink.ensures.nodes_kept c.args.root tree alone0 in
+    let place = leaf-place alone hangs in
     let cut = c.take_leaf-entry.new.arena in
-    let many : length (node-is text reserved root tree leaf parent byte higher alone hangs).children ≢ 2 = c.requires.many (node-is text reserved root tree leaf parent byte higher alone hangs) (sym (c.reserve_shrink.ensures.nodes_kept parent) ∙ is-there text reserved root tree leaf parent byte higher alone hangs) in
+    let many : length place.node.children ≢ 2 = c.requires.many place.node (sym (c.reserve_shrink.ensures.nodes_kept parent) ∙ place.is_held) in
     let new = c.take_child-node.new.arena in
-    let whole = alone-there text reserved root tree leaf parent byte higher alone hangs in
-    let can : CanHang new higher = many-hangs text reserved root tree leaf parent byte higher alone hangs cut c.take_leaf-entry.ensures.gone c.take_leaf-entry.ensures.others many new c.take_child-node.result (c.each_pointer_is_at_one_place.ensures reserved [] _ whole.is_tree.stands whole.is_tree.sound) (c.take_child-node.ensures _ (is-cut text reserved root tree leaf parent byte higher alone hangs cut c.take_leaf-entry.ensures.gone c.take_leaf-entry.ensures.others)) in
+    let can : CanHang new higher = many-hangs place cut c.take_leaf-entry.ensures.gone c.take_leaf-entry.ensures.others many new c.take_child-node.result (c.each_pointer_is_at_one_place.ensures reserved [] _ place.alone.is_tree.stands place.alone.is_tree.sound) (c.take_child-node.ensures _ (is-cut place cut c.take_leaf-entry.ensures.gone c.take_leaf-entry.ensures.others)) in
     search rules
 
 pub returns-clause-removed : goal.returns-clause-removed
 returns-clause-removed g c = λ tree alone0 hangs.
     let text = g.K.AsBytes.text in
-    let root = c.args.root in
-    let leaf = leaf_pointer c.args.leaf in
     let parent = c.args.parent in
-    let byte = c.args.byte in
-    let higher = c.args.above in
     let reserved = c.reserve_shrink.new.arena in
-    let alone = alone-same text c.args.arena.now reserved c.reserve_shrink.ensures.nodes_kept root tree alone0 in
+    let alone = alone-same text c.args.arena.now reserved c.reserve_shrink.ensures.nodes_kept c.args.root tree alone0 in
+    let place = leaf-place alone hangs in
     let cut = c.take_leaf-entry.new.arena in
-    let many : length (node-is text reserved root tree leaf parent byte higher alone hangs).children ≢ 2 = c.requires.many (node-is text reserved root tree leaf parent byte higher alone hangs) (sym (c.reserve_shrink.ensures.nodes_kept parent) ∙ is-there text reserved root tree leaf parent byte higher alone hangs) in
-    let whole = alone-there text reserved root tree leaf parent byte higher alone hangs in
+    let many : length place.node.children ≢ 2 = c.requires.many place.node (sym (c.reserve_shrink.ensures.nodes_kept parent) ∙ place.is_held) in
     let new = c.take_child-node.new.arena in
-    let own = own-leaf text reserved root tree leaf parent byte higher alone hangs in
-    let removed = many-removed text reserved root tree leaf parent byte higher alone hangs cut c.take_leaf-entry.ensures.gone c.take_leaf-entry.ensures.others many new c.take_child-node.result (c.each_pointer_is_at_one_place.ensures reserved [] _ whole.is_tree.stands whole.is_tree.sound) (c.take_child-node.ensures _ (is-cut text reserved root tree leaf parent byte higher alone hangs cut c.take_leaf-entry.ensures.gone c.take_leaf-entry.ensures.others)) c.hang.new.arena c.hang.result c.hang.ensures c.take_leaf-entry.ensures.spelled c.no_text_begins_another.ensures in
-    removed-from text c.args.arena.now reserved c.hang.new.arena hangs.text c.hang.result c.take_leaf-entry.result root tree alone0 alone (c.no_text_begins_another.ensures [] tree alone0.is_tree.sound) c.reserve_shrink.ensures.nodes_kept
-    (subst (IsRemoved text reserved c.hang.new.arena hangs.text c.hang.result) (sym (c.take_leaf-entry.ensures.entry own.0 own.1)) removed)
+    let removed = many-removed place cut c.take_leaf-entry.ensures.gone c.take_leaf-entry.ensures.others many new c.take_child-node.result (c.each_pointer_is_at_one_place.ensures reserved [] _ place.alone.is_tree.stands place.alone.is_tree.sound) (c.take_child-node.ensures _ (is-cut place cut c.take_leaf-entry.ensures.gone c.take_leaf-entry.ensures.others)) c.hang.new.arena c.hang.result c.hang.ensures c.take_leaf-entry.ensures.spelled c.no_text_begins_another.ensures in
+    removed-from text c.args.arena.now reserved c.hang.new.arena hangs.text c.hang.result c.take_leaf-entry.result c.args.root tree alone0 alone (c.no_text_begins_another.ensures [] tree alone0.is_tree.sound) c.reserve_shrink.ensures.nodes_kept
+    (subst (IsRemoved text reserved c.hang.new.arena hangs.text c.hang.result) (sym (c.take_leaf-entry.ensures.entry place.own place.own_held)) removed)
 
 pub returns-in_err-reserve_shrink-clause-refused : goal.returns-in_err-reserve_shrink-clause-refused
 returns-in_err-reserve_shrink-clause-refused g c = λ tree alone hangs.
     always-err c.from_residual.result (NeedsSmallerNode g.K.AsBytes.text c.args.arena.now hangs.text)
-    (needs-smaller g.K.AsBytes.text c.args.arena.now c.args.root tree (leaf_pointer c.args.leaf) c.args.parent c.args.byte c.args.above alone hangs c.in_err-reserve_shrink.ensures.refused)
+    (needs-smaller (leaf-place alone hangs) c.in_err-reserve_shrink.ensures.refused)

@@ -5,89 +5,75 @@ use Rattle.art_nodes.specs.Pointers.{node_kind, slab_key}
 use Rattle.art_arena.specs.Arena.{held, HeldInner, Nothing}
 use Rattle.art_arena.specs.Links.{Spells}
 use Rattle.art_tree.specs.Hanging.{CanHang}
-use Rattle.art_tree.specs.Search.{leaf_pointer}
-use Rattle.art_tree.proofs.CuttingTwo.{child-held, left_keys, listed-there, parent-held, parent-joined, parent-kind, parent-two, right_keys, short-there, two-hangs, two-removed}
+use Rattle.art_tree.proofs.CuttingTwo.{child-held, parent-held, parent-joined, parent-two, short-there, two-hangs, two-removed}
+use Rattle.art_tree.proofs.LeafPlaces.{leaf-place}
 use Rattle.art_tree.proofs.remove.remove_from_two.Goals as goal
 
 pub take_leaf-entry-requires : goal.take_leaf-entry-requires
 take_leaf-entry-requires g c =
-    let text = g.K.AsBytes.text in
     let old = c.args.arena.now in
     let (tree, alone, hangs) = c.requires.place in
-    let leaf = leaf_pointer c.args.leaf in
-    let listed : (left right : List ℕ) × Spells old (left ++ slab_key c.args.leaf ∷ right) = (left_keys text old c.args.root leaf c.args.parent c.args.byte c.args.above tree alone hangs, right_keys text old c.args.root leaf c.args.parent c.args.byte c.args.above tree alone hangs, listed-there text old c.args.root leaf c.args.parent c.args.byte c.args.above tree alone hangs) in
+    let listed : (left right : List ℕ) × Spells old (left ++ slab_key c.args.leaf ∷ right) = (_, _, (leaf-place alone hangs).spelled) in
     search rules
 
 pub other_child-other_byte-requires : goal.other_child-other_byte-requires
 other_child-other_byte-requires g c =
-    let text = g.K.AsBytes.text in
-    let old = c.args.arena.now in
     let (tree, alone, hangs) = c.requires.place in
+    let place = leaf-place alone hangs in
     let parent = c.args.parent in
-    let leaf = leaf_pointer c.args.leaf in
     let cut = c.take_leaf-entry.new.arena in
     let taken = c.take_leaf-entry.ensures in
-    let is_held : held cut parent ≢ Nothing = parent-held text old c.args.root leaf parent c.args.byte c.args.above tree alone hangs c.each_pointer_is_at_one_place.ensures c.requires.two cut taken.gone taken.others in
-    let is_inner : node_kind parent ≢ Leaf = parent-kind text old c.args.root leaf parent c.args.byte c.args.above tree alone hangs in
-    let has_two : (node : Inner _) → held cut parent ≡ HeldInner node → 2 ≤ length node.children = parent-two text old c.args.root leaf parent c.args.byte c.args.above tree alone hangs c.each_pointer_is_at_one_place.ensures c.requires.two cut taken.gone taken.others in
+    let is_held : held cut parent ≢ Nothing = parent-held place c.each_pointer_is_at_one_place.ensures c.requires.two cut taken.gone taken.others in
+    let is_inner : node_kind parent ≢ Leaf = place.inner in
+    let has_two : (node : Inner _) → held cut parent ≡ HeldInner node → 2 ≤ length node.children = parent-two place c.each_pointer_is_at_one_place.ensures c.requires.two cut taken.gone taken.others in
     search rules
 
 pub join_prefix-requires : goal.join_prefix-requires
 join_prefix-requires g c =
-    let text = g.K.AsBytes.text in
-    let old = c.args.arena.now in
     let (tree, alone, hangs) = c.requires.place in
+    let place = leaf-place alone hangs in
     let parent = c.args.parent in
-    let leaf = leaf_pointer c.args.leaf in
     let cut = c.take_leaf-entry.new.arena in
     let taken = c.take_leaf-entry.ensures in
     let (other, child) = c.other_child-other_byte.result in
-    let is_held : held cut parent ≢ Nothing = parent-held text old c.args.root leaf parent c.args.byte c.args.above tree alone hangs c.each_pointer_is_at_one_place.ensures c.requires.two cut taken.gone taken.others in
-    let is_inner : node_kind parent ≢ Leaf = parent-kind text old c.args.root leaf parent c.args.byte c.args.above tree alone hangs in
-    let has_child : held cut child ≢ Nothing = child-held text old c.args.root leaf parent c.args.byte c.args.above tree alone hangs c.each_pointer_is_at_one_place.ensures c.requires.two cut taken.gone taken.others other child c.other_child-other_byte.ensures in
-    let short : (upper lower : Inner _) → held cut parent ≡ HeldInner upper → held cut child ≡ HeldInner lower → upper.prefix_len + (1 + lower.prefix_len) < 2 ^ 32 = short-there text old c.args.root leaf parent c.args.byte c.args.above tree alone hangs c.each_pointer_is_at_one_place.ensures c.requires.two cut taken.gone taken.others other child c.other_child-other_byte.ensures in
+    let is_held : held cut parent ≢ Nothing = parent-held place c.each_pointer_is_at_one_place.ensures c.requires.two cut taken.gone taken.others in
+    let is_inner : node_kind parent ≢ Leaf = place.inner in
+    let has_child : held cut child ≢ Nothing = child-held place c.each_pointer_is_at_one_place.ensures c.requires.two cut taken.gone taken.others other child c.other_child-other_byte.ensures in
+    let short : (upper lower : Inner _) → held cut parent ≡ HeldInner upper → held cut child ≡ HeldInner lower → upper.prefix_len + (1 + lower.prefix_len) < 2 ^ 32 = short-there place c.each_pointer_is_at_one_place.ensures c.requires.two cut taken.gone taken.others other child c.other_child-other_byte.ensures in
     search rules
 
 pub give_up-requires : goal.give_up-requires
 give_up-requires g c =
-    let text = g.K.AsBytes.text in
-    let old = c.args.arena.now in
     let (tree, alone, hangs) = c.requires.place in
+    let place = leaf-place alone hangs in
     let parent = c.args.parent in
-    let leaf = leaf_pointer c.args.leaf in
     let cut = c.take_leaf-entry.new.arena in
     let taken = c.take_leaf-entry.ensures in
     let (other, child) = c.other_child-other_byte.result in
     let joined = c.join_prefix.new.arena in
-    let is_held : held joined parent ≢ Nothing = parent-joined text old c.args.root leaf parent c.args.byte c.args.above tree alone hangs c.each_pointer_is_at_one_place.ensures c.requires.two cut taken.gone taken.others other child c.other_child-other_byte.ensures joined c.join_prefix.ensures.leaf c.join_prefix.ensures.joined in
-    let is_inner : node_kind parent ≢ Leaf = parent-kind text old c.args.root leaf parent c.args.byte c.args.above tree alone hangs in
+    let is_held : held joined parent ≢ Nothing = parent-joined place c.each_pointer_is_at_one_place.ensures c.requires.two cut taken.gone taken.others other child c.other_child-other_byte.ensures joined c.join_prefix.ensures.leaf c.join_prefix.ensures.joined in
+    let is_inner : node_kind parent ≢ Leaf = place.inner in
     search rules
 
 pub hang-requires : goal.hang-requires
 hang-requires g c =
-    let text = g.K.AsBytes.text in
-    let old = c.args.arena.now in
     let (tree, alone, hangs) = c.requires.place in
-    let parent = c.args.parent in
-    let leaf = leaf_pointer c.args.leaf in
+    let place = leaf-place alone hangs in
     let cut = c.take_leaf-entry.new.arena in
     let taken = c.take_leaf-entry.ensures in
     let (other, child) = c.other_child-other_byte.result in
     let joined = c.join_prefix.new.arena in
     let new = c.give_up.new.arena in
-    let can : CanHang new c.args.above = two-hangs text old c.args.root leaf parent c.args.byte c.args.above tree alone hangs c.each_pointer_is_at_one_place.ensures c.requires.two cut taken.gone taken.others other child c.other_child-other_byte.ensures joined c.join_prefix.ensures.leaf c.join_prefix.ensures.joined new c.give_up.ensures in
+    let can : CanHang new c.args.above = two-hangs place c.each_pointer_is_at_one_place.ensures c.requires.two cut taken.gone taken.others other child c.other_child-other_byte.ensures joined c.join_prefix.ensures.leaf c.join_prefix.ensures.joined new c.give_up.ensures in
     search rules
 
 pub returns : goal.returns
 returns g c tree alone hangs =
-    let text = g.K.AsBytes.text in
-    let old = c.args.arena.now in
-    let parent = c.args.parent in
-    let leaf = leaf_pointer c.args.leaf in
+    let place = leaf-place alone hangs in
     let cut = c.take_leaf-entry.new.arena in
     let taken = c.take_leaf-entry.ensures in
     let (other, child) = c.other_child-other_byte.result in
     let joined = c.join_prefix.new.arena in
     let new = c.give_up.new.arena in
-    two-removed text old c.args.root leaf parent c.args.byte c.args.above tree alone hangs c.each_pointer_is_at_one_place.ensures c.requires.two cut taken.gone taken.others other child c.other_child-other_byte.ensures joined c.join_prefix.ensures.leaf c.join_prefix.ensures.joined new c.give_up.ensures
+    two-removed place c.each_pointer_is_at_one_place.ensures c.requires.two cut taken.gone taken.others other child c.other_child-other_byte.ensures joined c.join_prefix.ensures.leaf c.join_prefix.ensures.joined new c.give_up.ensures
     c.hang.new.arena c.hang.result c.hang.ensures taken.spelled c.no_text_begins_another.ensures c.take_leaf-entry.result taken.entry
