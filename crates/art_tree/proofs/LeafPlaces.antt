@@ -43,7 +43,6 @@ module _ {K V : Type 0} {P : ℕ} {leaf parent : OpaqueNodePtr K V P} {byte : �
     pub stands : StandsIn text old (part_there hangs)
     pub sound : IsSound (path_to hangs.upper) (part_there hangs)
     pub snug : IsSnug (part_there hangs)
-
     pub node : nodes.Inner (OpaqueNodePtr K V P)
     pub is_held : held old parent ≡ HeldInner node
     pub shows : NodeStands P node hangs.prefix (join hangs.before (Branch byte (Leaf leaf hangs.text) hangs.after))
@@ -53,7 +52,6 @@ module _ {K V : Type 0} {P : ℕ} {leaf parent : OpaqueNodePtr K V P} {byte : �
     pub inner : node_kind parent ≢ kinds.Leaf
     pub no_leaf : (l : LeafNode K V P) → held old parent ≡ HeldLeaf l → ⊥
     pub apart : parent ≢ leaf
-
     pub own : LeafNode K V P
     pub own_held : held old leaf ≡ HeldLeaf own
     pub own_text : text (leaf_key own) ≡ hangs.text
