@@ -1,71 +1,157 @@
--- What a scan finds, by its number, and the answers to queries in a row.
-use Rattle.std.proofs.Common.{◌≡◌, ◌≢◌, ℕ, suc, ◌+◌, ◌<◌, Bool, true, false, List, [], ◌∷◌, ◌++◌, length, filter, take, Some, slice_get, refl, sym, ap, ◌∙◌, append-nil, add-one, get_or, Bor, Option}
+-- The entries of a tree, command by command, and what the commands print.
+use Rattle.std.proofs.Common.{◌≡◌, ◌≢◌, ◌∙◌, ℕ, ◌+◌, ◌<◌, ◌≤◌, Bool, true, false, List, [], ◌∷◌, ◌++◌, length, map, All, Contains, Option, None, Some, option_map, bytes_eq, refl, sym, ap, arith, append-nil, append_assoc, subst, take, drop, get_or, add-one}
 use Rattle.std.proofs.Math.Seq.{take-suc}
-use Rattle.std.proofs.lemmas.List.{map-append}
-use Rattle.art_cli.specs.Find.{query_texts}
-use Rattle.std.specs.List.{flat_map}
-use Rattle.std.proofs.lemmas.Grind.{flat_map-append}
-use Rattle.art_nodes.specs.Leaf.{leaf_value}
+use Rattle.std.proofs.lemmas.List.{length-append, map-append, take-append-drop}
+use Rattle.std.proofs.lemmas.Bool.Decides.{not_from_Decides}
+use Rattle.std.proofs.lemmas.List.Elements.{All-filter, Contains-get_or}
+use Rattle.std.proofs.lemmas.Map.{update_same, update_other}
+use Rattle.std.proofs.lemmas.Slice.Eq.{bytes_eq-Decides}
+use Rattle.std.specs.Map.{update}
+use Rattle.art_nodes.specs.Leaf.{leaf_key, leaf_value}
 use Rattle.art_nodes.specs.declared.leaf_node.LeafNode.{LeafNode}
 use Rattle.art_nodes.specs.declared.pointers.OpaqueNodePtr.{OpaqueNodePtr}
-use Rattle.art_arena.specs.Arena.{ArenaOf, HeldLeaf, Nothing, held}
-use Rattle.art_arena.specs.Trees.{Tree, leaves}
+use Rattle.art_arena.specs.Arena.{ArenaOf, HeldLeaf, held}
+use Rattle.art_arena.specs.Trees.{Tree, leaves, texts}
+use Rattle.art_tree.specs.Dictionary.{entry_at, HasEntry, IsEmpty, IsEntry}
 use Rattle.art_tree.specs.Search.{scan}
-use Rattle.art_tree.specs.declared.path.TreePath.{TreePath}
-use Rattle.art_cli.specs.Lines.{line}
-use Rattle.art_cli.specs.Answer.{answer_text, IsAnswer, AreAnswers, IsAnswered, HoldsNumbers}
+use Rattle.art_tree.specs.Inserting.{ClashesIn, MayEnter, IsRefused}
+use Rattle.art_tree.specs.declared.insert.InsertRefusal.{InsertRefusal}
+use Rattle.art_tree.specs.declared.insert.InsertRefusal.TheVariants.{KeyTooLong, Prefix, OutOfMemory}
+use Rattle.art_cli.specs.declared.find.command.TreeCommand.{TreeCommand}
+use Rattle.art_cli.specs.declared.find.command.TreeCommand.TheVariants.{Insert, Remove}
+use Rattle.art_cli.specs.declared.failure.Failure.{Failure}
+use Rattle.art_cli.specs.Find.{Entries, no_entries, after, after_all, with_text, IsFrontOfOther, IsAdmitted, AreAdmitted}
+use Rattle.art_cli.specs.Answer.{HasTheTexts, HoldsEntries, IsReply, AreReplies}
+use Rattle.art_cli.specs.Program.{IsEntryFailure, failure_for}
 
--- the one member of a filtered list has a place in the list
-place_of_one : {X : Type 0} (test : X → Bool) (x : X) (xs : List X) → filter test xs ≡ x ∷ [] → (place : ℕ) × (slice_get xs place ≡ Some x)
-place_of_one test x [] one = absurd (cc)
-place_of_one test x (y ∷ xs) one = by_test (test y) refl (λ later. place_of_one test x xs later)
-  where
-    by_test : (t : Bool) → test y ≡ t → (filter test xs ≡ x ∷ [] → (place : ℕ) × (slice_get xs place ≡ Some x)) → (place : ℕ) × (slice_get (y ∷ xs) place ≡ Some x)
-    by_test true is among_others =
-        let first : y ∷ filter test xs ≡ x ∷ [] = rw is at one in
-        (0, ap (λ l. slice_get l 0) first)
-    by_test false is among_others =
-        let later : filter test xs ≡ x ∷ [] = rw is at one in
-        let found = among_others later in
-        (suc found.0, found.1)
+-- the entry that is answered has the number
+pub numbered : {K : Type 0} (o : Option (K × ℕ)) (number : Option ℕ) (key : K) (n : ℕ) → option_map (λ entry. entry.1) o ≡ number → o ≡ Some (key, n) → number ≡ Some n
+numbered o number key n holds is = sym holds ∙ ap (option_map (λ entry. entry.1)) is
 
-module _ {K : Type 0} {P : ℕ} (arena : ArenaOf K ℕ P) (tree : Tree (OpaqueNodePtr K ℕ P)) (holds : HoldsNumbers arena tree) (query : List ℕ) (pointer : OpaqueNodePtr K ℕ P) (scanned : scan tree query ≡ (pointer, query) ∷ []) where
-  -- the leaf that is found is held
-  pub found_is_held : held arena pointer ≢ Nothing
-  found_is_held nothing =
-      let found = place_of_one _ (pointer, query) (leaves tree) scanned in
-      let node = holds found.0 (pointer, query) found.1 in
-      let wrong : HeldLeaf node.0 ≡ Nothing = sym node.1 ∙ nothing in
-      absurd (cc)
+-- what has no number is no entry
+no_entry : {K : Type 0} (o : Option (K × ℕ)) → option_map (λ entry. entry.1) o ≡ None → o ≡ None
+no_entry None none = refl
+no_entry (Some entry) none = absurd (cc)
 
-  -- and its value is its number
-  pub found_by_number : (node : LeafNode K ℕ P) → held arena pointer ≡ HeldLeaf node → slice_get (leaves tree) (leaf_value node) ≡ Some (pointer, query)
-  found_by_number node is =
-      let found = place_of_one _ (pointer, query) (leaves tree) scanned in
-      let other = holds found.0 (pointer, query) found.1 in
-      let both : HeldLeaf other.0 ≡ HeldLeaf node = sym other.1 ∙ is in
-      let same : other.0 ≡ node = cc in
-      let number : leaf_value node ≡ found.0 = ap leaf_value (sym same) ∙ other.2 in
-      rw number found.1
+-- a leaf that a scan finds is one of the tree's
+found_inside : {H : Type 0} (tree : Tree H) (pointer : H) (query : List ℕ) → scan tree query ≡ (pointer, query) ∷ [] → Contains (leaves tree) (pointer, query)
+found_inside tree pointer query one =
+    let all = All-filter _ (Contains (leaves tree)) (leaves tree) (λ k d inside. Contains-get_or (leaves tree) k d inside) in
+    subst (All (Contains (leaves tree))) one all 0 (pointer, query) (omega arith)
 
-module _ {K V : Type 0} {P : ℕ} (tree : Tree (OpaqueNodePtr K V P)) where
-  answers_next : (queries : List (List ℕ)) (answers : List (Option (ℕ × TreePath K V P) × ℕ)) (query : List ℕ) (answer : Option (ℕ × TreePath K V P) × ℕ) → AreAnswers tree queries answers → IsAnswer tree query answer.0 answer.1 → AreAnswers tree (queries ++ query ∷ []) (answers ++ answer ∷ [])
-  answers_next [] [] query answer are is = (is, tt)
-  answers_next [] (a ∷ answers) query answer are is = absurd are
-  answers_next (q ∷ queries) [] query answer are is = absurd are
-  answers_next (q ∷ queries) (a ∷ answers) query answer are is = (are.0, answers_next queries answers query answer are.1 is)
+module _ {K : Type 0} {P : ℕ} (text : K → List ℕ) where
+  -- an arena with no entry
+  pub holds_none : (arena : ArenaOf K ℕ P) → IsEmpty text arena → HoldsEntries text arena no_entries
+  holds_none arena empty x = ap (option_map (λ entry. entry.1)) (empty x)
 
-  -- one query more
-  pub answered_next : (queries more : List (List ℕ)) (old new query : List ℕ) (answer : Option (ℕ × TreePath K V P)) (reads : ℕ) → IsAnswered tree queries old → more ≡ queries ++ query ∷ [] → IsAnswer tree query answer reads → new ≡ old ++ line (answer_text answer reads) → IsAnswered tree more new
-  answered_next queries more old new query answer reads (answers, are, text) longer is printed =
-      let print : Option (ℕ × TreePath K V P) × ℕ → List ℕ = λ a. line (answer_text a.0 a.1) in
-      let alone : flat_map print ((answer, reads) ∷ []) ≡ line (answer_text answer reads) = append-nil (line (answer_text answer reads)) in
-      let output : new ≡ flat_map print (answers ++ (answer, reads) ∷ []) = printed ∙ ap (λ l. l ++ line (answer_text answer reads)) text ∙ ap (λ l. flat_map print answers ++ l) (sym alone) ∙ sym (flat_map-append print answers ((answer, reads) ∷ [])) in
-      (answers ++ (answer, reads) ∷ [], rw longer (answers_next queries answers query (answer, reads) are is), output)
+  -- one text's number is another now
+  module _ (old new : ArenaOf K ℕ P) (number_of : List ℕ → Option ℕ) (key : List ℕ) (number : Option ℕ)
+      (before : (x : List ℕ) → option_map (λ entry. entry.1) (entry_at text old x) ≡ number_of x)
+      (this : option_map (λ entry. entry.1) (entry_at text new key) ≡ number)
+      (others : (x : List ℕ) → x ≢ key → entry_at text new x ≡ entry_at text old x) where
+    holds_changed : (x : List ℕ) → option_map (λ entry. entry.1) (entry_at text new x) ≡ update bytes_eq number_of key number x
+    holds_changed x = by_test (bytes_eq key x) refl
+      where
+        by_test : (t : Bool) → bytes_eq key x ≡ t → option_map (λ entry. entry.1) (entry_at text new x) ≡ update bytes_eq number_of key number x
+        by_test true is =
+            let same : key ≡ x = (bytes_eq-Decides key x).0 is in
+            ap (λ y. option_map (λ entry. entry.1) (entry_at text new y)) (sym same) ∙ this ∙ sym (update_same bytes_eq number_of key number x is)
+        by_test false is =
+            let apart = not_from_Decides (bytes_eq key x) (bytes_eq-Decides key x) is in
+            ap (option_map (λ entry. entry.1)) (others x (λ same. apart (sym same))) ∙ before x ∙ sym (update_other bytes_eq number_of key number x is)
 
-  -- the query at an index more
-  pub answered_at : (queries : List (Bor (List ℕ))) (index : ℕ) (other : Bor (List ℕ)) (old new : List ℕ) (answer : Option (ℕ × TreePath K V P)) (reads : ℕ) → index < length queries → IsAnswered tree (query_texts (take index queries)) old → IsAnswer tree (get_or queries index other).now answer reads → new ≡ old ++ line (answer_text answer reads) → IsAnswered tree (query_texts (take (index + 1) queries)) new
-  answered_at queries index other old new answer reads below before is printed =
-      let cut : take (index + 1) queries ≡ take index queries ++ get_or queries index other ∷ [] = rw add-one (take-suc queries index other below) in
-      let longer : query_texts (take (index + 1) queries) ≡ query_texts (take index queries) ++ (get_or queries index other).now ∷ [] = ap query_texts cut ∙ map-append (λ (query : Bor (List ℕ)). query.now) (take index queries) (get_or queries index other ∷ []) in
-      answered_next (query_texts (take index queries)) (query_texts (take (index + 1) queries)) old new (get_or queries index other).now answer reads before longer is printed
+  module _ (old new : ArenaOf K ℕ P) (entries : Entries) (holds : HoldsEntries text old entries) where
+    -- an entry more, or with another number
+    pub holds_inserted : (key : K) (number : ℕ) → IsEntry text new (key, number) → ((x : List ℕ) → x ≢ text key → entry_at text new x ≡ entry_at text old x) → number ≡ entries.next → HoldsEntries text new (after entries (Insert (text key)))
+    holds_inserted key number entry others next =
+        holds_changed old new entries.number_of (text key) (Some entries.next) holds (ap (option_map (λ e. e.1)) entry ∙ ap Some next) others
+
+    -- an entry less
+    pub holds_removed : (key : List ℕ) → entry_at text new key ≡ None → ((x : List ℕ) → x ≢ key → entry_at text new x ≡ entry_at text old x) → HoldsEntries text new (after entries (Remove key))
+    holds_removed key gone others = holds_changed old new entries.number_of key None holds (ap (option_map (λ e. e.1)) gone) others
+
+  module _ (arena : ArenaOf K ℕ P) (entries : Entries) (holds : HoldsEntries text arena entries) where
+    -- a text has a number where it has an entry
+    has_entry : (x : List ℕ) → entries.number_of x ≢ None → HasEntry text arena x
+    has_entry x some none = some (sym (holds x) ∙ ap (option_map (λ entry. entry.1)) none)
+
+    has_number : (x : List ℕ) → HasEntry text arena x → entries.number_of x ≢ None
+    has_number x some none = some (no_entry (entry_at text arena x) (holds x ∙ none))
+
+    -- so what may enter the arena is admitted
+    pub admitted : (x : List ℕ) → MayEnter text arena x → IsAdmitted entries (Insert x)
+    admitted x may = (may.0, λ front. may.1 (front.0, has_entry front.0 front.1, front.2))
+
+    clashes : (x : List ℕ) → ClashesIn text arena x → IsFrontOfOther entries x
+    clashes x clash = (clash.0, has_number clash.0 clash.1, clash.2)
+
+    -- and its refusals are those of the entries
+    pub refused : (all before others : List (TreeCommand (List ℕ))) (x : List ℕ) (line : ℕ) (refusal : InsertRefusal) (failure : Failure) → all ≡ before ++ Insert x ∷ others → entries ≡ after_all no_entries before → AreAdmitted no_entries before → line ≡ length before + 1 → IsRefused text arena x refusal → failure ≡ failure_for line refusal → IsEntryFailure all failure
+    refused all before others x line KeyTooLong failure is state are count due told = rw told (before, x, others, is, count, are, due)
+    refused all before others x line Prefix failure is state are count due told = rw told (before, x, others, is, count, are, (due.0, rw (← state) (clashes x due.1)))
+    refused all before others x line OutOfMemory failure is state are count due told = rw told tt
+
+    -- the texts with entries are those of a tree that has them
+    pub same_texts : (tree : Tree (OpaqueNodePtr K ℕ P)) → ((x : List ℕ) → (HasEntry text arena x → Contains (texts tree) x) × (Contains (texts tree) x → HasEntry text arena x)) → HasTheTexts entries tree
+    same_texts tree are x = (λ some. (are x).0 (has_entry x some), λ inside. has_number x ((are x).1 inside))
+
+    -- no text has a number in an empty arena
+    pub none_there : IsEmpty text arena → (x : List ℕ) → entries.number_of x ≡ None
+    none_there empty x = sym (holds x) ∙ ap (option_map (λ entry. entry.1)) (empty x)
+
+    -- the leaf that a scan finds has the number of the query's entry
+    pub found_number : (tree : Tree (OpaqueNodePtr K ℕ P)) (pointer : OpaqueNodePtr K ℕ P) (query : List ℕ) (leaf : LeafNode K ℕ P) → (Contains (leaves tree) (pointer, query) → held arena pointer ≡ HeldLeaf leaf → entry_at text arena query ≡ Some (leaf_key leaf, leaf_value leaf)) → scan tree query ≡ (pointer, query) ∷ [] → held arena pointer ≡ HeldLeaf leaf → entries.number_of query ≡ Some (leaf_value leaf)
+    found_number tree pointer query leaf entry one is =
+        sym (holds query) ∙ ap (option_map (λ e. e.1)) (entry (found_inside tree pointer query one) is)
+
+-- one command more
+pub after_one : (entries : Entries) (commands : List (TreeCommand (List ℕ))) (command : TreeCommand (List ℕ)) → after_all entries (commands ++ command ∷ []) ≡ after (after_all entries commands) command
+after_one entries [] command = refl
+after_one entries (c ∷ commands) command = after_one (after entries c) commands command
+
+admitted_one : (entries : Entries) (commands : List (TreeCommand (List ℕ))) (command : TreeCommand (List ℕ)) → AreAdmitted entries commands → IsAdmitted (after_all entries commands) command → AreAdmitted entries (commands ++ command ∷ [])
+admitted_one entries [] command are is = (is, tt)
+admitted_one entries (c ∷ commands) command are is = (are.0, admitted_one (after entries c) commands command are.1 is)
+
+replies_one : (K : Type 0) (P : ℕ) (entries : Entries) (commands : List (TreeCommand (List ℕ))) (command : TreeCommand (List ℕ)) (output first : List ℕ) → AreReplies K P entries commands output → IsReply K P (after_all entries commands) command first → AreReplies K P entries (commands ++ command ∷ []) (output ++ first)
+replies_one K P entries [] command output first none is = (first, [], ap (λ o. o ++ first) none ∙ sym (append-nil first), is, refl)
+replies_one K P entries (c ∷ commands) command output first (one, others, text, reply, are) is =
+    (one, others ++ first, ap (λ o. o ++ first) text ∙ append_assoc one others first, reply, replies_one K P (after entries c) commands command others first are is)
+
+-- what is true after some commands
+pub record SoFar {K : Type 0} {P : ℕ} (text : K → List ℕ) (arena : ArenaOf K ℕ P) (commands : List (TreeCommand (List ℕ))) (next : ℕ) (output : List ℕ) : Type 0 where
+  pub admitted_all : AreAdmitted no_entries commands
+  pub replies : AreReplies K P no_entries commands output
+  pub holds : HoldsEntries text arena (after_all no_entries commands)
+  pub next_is : next ≡ (after_all no_entries commands).next
+  pub few : next ≤ length commands
+
+module _ {K : Type 0} {P : ℕ} (text : K → List ℕ) where
+  -- before the first
+  pub so_far_none : (arena : ArenaOf K ℕ P) (output : List ℕ) → IsEmpty text arena → output ≡ [] → SoFar text arena [] 0 output
+  so_far_none arena output empty none = record { admitted_all = tt; replies = none; holds = holds_none text arena empty; next_is = refl; few = omega arith }
+
+  -- after one more
+  pub so_far_one : (old new : ArenaOf K ℕ P) (commands all : List (TreeCommand (List ℕ))) (command : TreeCommand (List ℕ)) (next more : ℕ) (output first longer : List ℕ) → SoFar text old commands next output → all ≡ commands ++ command ∷ [] → IsAdmitted (after_all no_entries commands) command → IsReply K P (after_all no_entries commands) command first → HoldsEntries text new (after (after_all no_entries commands) command) → more ≡ (after (after_all no_entries commands) command).next → more ≤ next + 1 → longer ≡ output ++ first → SoFar text new all more longer
+  so_far_one old new commands all command next more output first longer before longer_by is reply holds next_is few printed =
+      let state = sym (after_one no_entries commands command) in
+      rw longer_by record {
+        admitted_all = admitted_one no_entries commands command before.admitted_all is;
+        replies = rw printed (replies_one K P no_entries commands command output first before.replies reply);
+        holds = subst (HoldsEntries text new) state holds;
+        next_is = next_is ∙ ap (λ e. e.next) state;
+        few = omega (arith, few, before.few, length-append commands (command ∷ []));
+      }
+
+module _ {K : Type 0} (text : K → List ℕ) where
+  -- the commands up to an index, and the one there
+  pub one_more : (commands : List (TreeCommand K)) (index : ℕ) (item other : TreeCommand K) (command : TreeCommand (List ℕ)) → index < length commands → item ≡ get_or commands index other → with_text text item ≡ command → map (with_text text) (take (index + 1) commands) ≡ map (with_text text) (take index commands) ++ command ∷ []
+  one_more commands index item other command below here is =
+      let cut : take (index + 1) commands ≡ take index commands ++ item ∷ [] = rw (add-one, here) (take-suc commands index other below) in
+      ap (map (with_text text)) cut ∙ map-append (with_text text) (take index commands) (item ∷ []) ∙ ap (λ one. map (with_text text) (take index commands) ++ one ∷ []) is
+
+  -- all of them, with the one at an index
+  pub cut_there : (commands : List (TreeCommand K)) (index : ℕ) (item other : TreeCommand K) (command : TreeCommand (List ℕ)) → index < length commands → item ≡ get_or commands index other → with_text text item ≡ command → map (with_text text) commands ≡ map (with_text text) (take index commands) ++ command ∷ map (with_text text) (drop (index + 1) commands)
+  cut_there commands index item other command below here is =
+      ap (map (with_text text)) (sym (take-append-drop (index + 1) commands)) ∙ map-append (with_text text) (take (index + 1) commands) (drop (index + 1) commands)
+      ∙ ap (λ front. front ++ map (with_text text) (drop (index + 1) commands)) (one_more commands index item other command below here is) ∙ append_assoc (map (with_text text) (take index commands)) (command ∷ []) (map (with_text text) (drop (index + 1) commands))

@@ -3,7 +3,4 @@ mod Failures
 mod Numbers
 mod Parts
 mod Writes
-mod Parsing
 mod Finding
-mod Loaded
-mod Refusals

@@ -1,17 +1,17 @@
 -- What `find` answers, and the lines that it prints.
-use Rattle.std.specs.Prelude.{◌≡◌, ℕ, ◌++◌, List, [], ◌∷◌, Option, None, Some, codes, length, slice_get}
-use Rattle.std.specs.List.{flat_map}
+use Rattle.std.specs.Prelude.{◌≡◌, ◌≢◌, ◌↔◌, ◌⊎◌, ℕ, ◌++◌, List, [], ◌∷◌, Option, None, Some, Contains, option_map, codes, length}
 use Rattle.std.specs.Fmt.{decimal}
-use Rattle.art_nodes.specs.Leaf.{leaf_value}
-use Rattle.art_nodes.specs.declared.leaf_node.LeafNode.{LeafNode}
 use Rattle.art_nodes.specs.declared.pointers.OpaqueNodePtr.{OpaqueNodePtr}
-use Rattle.art_arena.specs.Arena.{ArenaOf, HeldLeaf, held}
-use Rattle.art_arena.specs.Trees.{Tree, leaves, texts, IsWellFormed}
-use Rattle.art_arena.specs.Standing.{IsTreeIn}
+use Rattle.art_arena.specs.Arena.{ArenaOf}
+use Rattle.art_arena.specs.Trees.{Tree, texts, IsWellFormed}
+use Rattle.art_tree.specs.Dictionary.{entry_at}
 use Rattle.art_tree.specs.Search.{scan, met, IsPathTo}
 use Rattle.art_tree.specs.declared.path.TreePath.{TreePath}
 use Rattle.art_tree.specs.declared.path.TreePath.TheVariants.{Root, ChildOfRoot, Normal}
+use Rattle.art_cli.specs.Find.{Entries, after}
 use Rattle.art_cli.specs.Lines.{line}
+use Rattle.art_cli.specs.declared.find.command.TreeCommand.{TreeCommand}
+use Rattle.art_cli.specs.declared.find.command.TreeCommand.TheVariants.{Insert, Remove, Find}
 
 module _ {K V : Type 0} {P : ℕ} where
   -- where a leaf hangs
@@ -27,48 +27,42 @@ module _ {K V : Type 0} {P : ℕ} where
   answer_text (Some answer) reads =
       codes "found " ++ decimal answer.0 ++ codes " " ++ path_text answer.1 ++ codes " reads " ++ decimal reads
 
-  -- the scan of the tree for the query gives the leaf of this number, and this is the path to it
-  pub record IsFound (tree : Tree (OpaqueNodePtr K V P)) (query : List ℕ) (number : ℕ) (path : TreePath K V P) : Type 0 where
-    pub leaf : OpaqueNodePtr K V P
-    pub scanned : scan tree query ≡ (leaf, query) ∷ []
-    pub numbered : slice_get (leaves tree) number ≡ Some (leaf, query)
-    pub hangs : IsPathTo tree leaf path
-
-  -- the answer of the scan, and how many nodes the query meets
-  abbrev pub IsAnswer : Tree (OpaqueNodePtr K V P) → List ℕ → Option (ℕ × TreePath K V P) → ℕ → Type 0
-  IsAnswer tree query None reads = (scan tree query ≡ []) × (reads ≡ length (met P tree query))
-  IsAnswer tree query (Some answer) reads = IsFound tree query answer.0 answer.1 × (reads ≡ length (met P tree query))
-
-  -- an answer for each query, in order
-  abbrev pub AreAnswers : Tree (OpaqueNodePtr K V P) → List (List ℕ) → List (Option (ℕ × TreePath K V P) × ℕ) → Type 0
-  AreAnswers tree [] [] = Unit {0}
-  AreAnswers tree (query ∷ queries) (answer ∷ answers) = IsAnswer tree query answer.0 answer.1 × AreAnswers tree queries answers
-  AreAnswers tree _ _ = ⊥
-
-  -- the output is a line for each query, with its answer
-  abbrev pub IsAnswered : Tree (OpaqueNodePtr K V P) → List (List ℕ) → List ℕ → Type 0
-  IsAnswered tree queries output =
-      (answers : List (Option (ℕ × TreePath K V P) × ℕ)) × AreAnswers tree queries answers
-      × (output ≡ flat_map (λ answer. line (answer_text answer.0 answer.1)) answers)
+-- the number of the entry that is removed, or that there was none
+abbrev pub removal_text : Option ℕ → List ℕ
+removal_text None = codes "absent"
+removal_text (Some number) = codes "removed " ++ decimal number
 
 module _ {K : Type 0} {P : ℕ} where
-  -- every leaf of the tree holds its number
-  abbrev pub HoldsNumbers : ArenaOf K ℕ P → Tree (OpaqueNodePtr K ℕ P) → Type 0
-  HoldsNumbers arena tree =
-      (number : ℕ) (leaf : OpaqueNodePtr K ℕ P × List ℕ) → slice_get (leaves tree) number ≡ Some leaf
-      → (node : LeafNode K ℕ P) × (held arena leaf.0 ≡ HeldLeaf node) × (leaf_value node ≡ number)
+  -- the texts of the tree are those that have an entry
+  abbrev pub HasTheTexts : Entries → Tree (OpaqueNodePtr K ℕ P) → Type 0
+  HasTheTexts entries tree = (text : List ℕ) → (entries.number_of text ≢ None) ↔ Contains (texts tree) text
 
-  -- a well-formed tree whose leaves hold their numbers stands at this pointer
-  abbrev pub HasNumberedTree : (K → List ℕ) → ArenaOf K ℕ P → OpaqueNodePtr K ℕ P → Type 0
-  HasNumberedTree text arena root =
-      (tree : Tree (OpaqueNodePtr K ℕ P)) × IsTreeIn text arena root tree × HoldsNumbers arena tree
+  -- the scan of the tree finds no leaf; or it finds one, to which the path leads, and the number is that of the query's entry
+  abbrev pub IsScanned : Entries → Tree (OpaqueNodePtr K ℕ P) → List ℕ → Option (ℕ × TreePath K ℕ P) → Type 0
+  IsScanned entries tree query None = scan tree query ≡ []
+  IsScanned entries tree query (Some answer) =
+      (leaf : OpaqueNodePtr K ℕ P) × (scan tree query ≡ (leaf, query) ∷ []) × (entries.number_of query ≡ Some answer.0) × IsPathTo tree leaf answer.1
 
-  -- for every such tree
-  abbrev pub EachNumberedTree : (K → List ℕ) → ArenaOf K ℕ P → OpaqueNodePtr K ℕ P → (Tree (OpaqueNodePtr K ℕ P) → Type 0) → Type 0
-  EachNumberedTree text arena root Holds =
-      (tree : Tree (OpaqueNodePtr K ℕ P)) → IsTreeIn text arena root tree → HoldsNumbers arena tree → Holds tree
+  -- without entries nothing is found, and no node looked at; else it is the answer of the scan, and a look at each node that the query meets
+  abbrev pub IsAnswer : Entries → List ℕ → Option (ℕ × TreePath K ℕ P) → ℕ → Type 0
+  IsAnswer entries query answer reads =
+      (((text : List ℕ) → entries.number_of text ≡ None) × (answer ≡ None) × (reads ≡ 0))
+      ⊎ ((tree : Tree (OpaqueNodePtr K ℕ P)) × IsWellFormed tree × HasTheTexts entries tree × IsScanned entries tree query answer × (reads ≡ length (met P tree query)))
 
--- the output answers the queries in a well-formed tree whose leaves have the entries' texts
-abbrev pub AnswersFrom : (K : Type 0) (P : ℕ) → List (List ℕ) → List (List ℕ) → List ℕ → Type 0
-AnswersFrom K P entries queries output =
-    (tree : Tree (OpaqueNodePtr K ℕ P)) × IsWellFormed tree × (texts tree ≡ entries) × IsAnswered tree queries output
+  -- the arena's entries are these, by their numbers
+  abbrev pub HoldsEntries : (K → List ℕ) → ArenaOf K ℕ P → Entries → Type 0
+  HoldsEntries text arena entries = (x : List ℕ) → option_map (λ entry. entry.1) (entry_at text arena x) ≡ entries.number_of x
+
+module _ (K : Type 0) (P : ℕ) where
+  -- what a command prints
+  abbrev pub IsReply : Entries → TreeCommand (List ℕ) → List ℕ → Type 0
+  IsReply entries (Insert key) text = text ≡ []
+  IsReply entries (Remove key) text = text ≡ line (removal_text (entries.number_of key))
+  IsReply entries (Find key) text =
+      (answer : Option (ℕ × TreePath K ℕ P)) × (reads : ℕ) × IsAnswer entries key answer reads × (text ≡ line (answer_text answer reads))
+
+  -- what commands print, one after another
+  abbrev pub AreReplies : Entries → List (TreeCommand (List ℕ)) → List ℕ → Type 0
+  AreReplies entries [] output = output ≡ []
+  AreReplies entries (command ∷ commands) output =
+      (first others : List ℕ) × (output ≡ first ++ others) × IsReply entries command first × AreReplies (after entries command) commands others

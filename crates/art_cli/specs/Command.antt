@@ -1,10 +1,10 @@
 -- What the lines of `replay` say.
-use Rattle.std.specs.Prelude.{◌≡◌, ℕ, ◌^◌, ◌<◌, ◌≤◌, List, All, [], ◌∷◌, ◌⊎◌, Bool, false, IsTrue, codes, length}
+use Rattle.std.specs.Prelude.{◌≡◌, ℕ, ◌^◌, ◌<◌, ◌≤◌, List, All, [], ◌∷◌, ◌⊎◌, Bool, codes, length}
 use Rattle.std.specs.Int.{IsInRange}
 use Rattle.std.specs.Str.Parse.{digits_value}
 use Rattle.std.specs.declared.ops.Bound.{Bound}
 use Rattle.std.specs.declared.ops.Bound.TheVariants.{Included, Excluded, Unbounded}
-use Rattle.art_cli.specs.Lines.{words_of}
+use Rattle.art_cli.specs.Lines.{words_of, SayAll}
 use Rattle.art_nodes.specs.declared.NodeType.TheVariants.{Leaf}
 use Rattle.art_nodes.specs.Pointers.{node_kind, opaque_key}
 use Rattle.art_nodes.specs.declared.ChildCommand.{ChildCommand}
@@ -63,7 +63,4 @@ HaveTheirNumber words = ⊥
 module _ {K V : Type 0} {P : ℕ} where
   -- lines and their commands, one a line, up to a line that says none where they are not the whole
   abbrev pub SayCommands : List (List ℕ) → List (ChildCommand K V P) → Bool → Type 0
-  SayCommands [] [] is_whole = IsTrue is_whole
-  SayCommands (line ∷ lines) (command ∷ commands) is_whole = SayCommand (words_of line) command × SayCommands lines commands is_whole
-  SayCommands (line ∷ lines) [] is_whole = (is_whole ≡ false) × SayNothing (words_of line)
-  SayCommands [] (command ∷ commands) is_whole = ⊥
+  SayCommands = SayAll (λ line. SayCommand (words_of line))

@@ -2,16 +2,14 @@
 use Rattle.std.specs.Prelude.{ℕ, List, ◌++◌, codes}
 use Rattle.std.specs.Fmt.{decimal}
 use Rattle.art_cli.specs.declared.failure.LineFault.{LineFault}
-use Rattle.art_cli.specs.declared.failure.LineFault.TheVariants.{UnknownCommand, WrongNumberOfWords, BadNumber}
-use Rattle.art_cli.specs.declared.failure.LineFault.TheVariants.{EntryAfterQuery, KeyTooLong, NotAscending, StartsWithKeyBefore}
+use Rattle.art_cli.specs.declared.failure.LineFault.TheVariants.{UnknownCommand, WrongNumberOfWords, BadNumber, KeyTooLong, FrontOfOther}
 use Rattle.art_cli.specs.declared.failure.Failure.{Failure}
-use Rattle.art_cli.specs.declared.failure.Failure.TheVariants.{Usage, BadLine, NoEntries, OutOfMemory, Device}
+use Rattle.art_cli.specs.declared.failure.Failure.TheVariants.{Usage, BadLine, OutOfMemory, Device}
 
 -- 2 where the words or the input are at fault, 1 where memory or a device is
 abbrev pub status_of : Failure → ℕ
 status_of Usage = 2
 status_of (BadLine number fault) = 2
-status_of NoEntries = 2
 status_of OutOfMemory = 1
 status_of Device = 1
 
@@ -20,15 +18,12 @@ abbrev pub fault_text : LineFault → List ℕ
 fault_text UnknownCommand = codes "unknown command"
 fault_text WrongNumberOfWords = codes "wrong number of words"
 fault_text BadNumber = codes "bad number"
-fault_text EntryAfterQuery = codes "entry after a query"
 fault_text KeyTooLong = codes "key too long"
-fault_text NotAscending = codes "not ascending"
-fault_text StartsWithKeyBefore = codes "starts with the key before"
+fault_text FrontOfOther = codes "one key is a front of the other"
 
 -- why there is no answer
 abbrev pub failure_text : Failure → List ℕ
 failure_text Usage = codes "usage: artnodes replay | artnodes find 0|2|16"
 failure_text (BadLine number fault) = codes "line " ++ decimal number ++ codes ": " ++ fault_text fault
-failure_text NoEntries = codes "no entries"
 failure_text OutOfMemory = codes "out of memory"
 failure_text Device = codes "device failed"

@@ -1,58 +1,70 @@
--- What the lines of `find` say.
-use Rattle.std.specs.Prelude.{◌≡◌, ◌≢◌, ℕ, ◌+◌, ◌<◌, List, [], ◌∷◌, ◌++◌, Option, None, Some, map, length}
-use denote.Ref.{Bor}
-use Rattle.art_bytes.specs.SliceKey.{slice_key_text}
-use Rattle.art_bytes.specs.declared.slice_key.SliceKey.{SliceKey}
+-- What the lines of `find` say, and which entries there are after them.
+use Rattle.std.specs.Prelude.{◌≡◌, ◌≢◌, ◌⊎◌, ℕ, ◌+◌, ◌<◌, ◌≤◌, ◌^◌, List, [], ◌∷◌, ◌++◌, Option, None, Some, bytes_eq, length}
+use Rattle.std.specs.Map.{update}
+use Rattle.art_tree.specs.Dictionary.{IsProperFront}
 use Rattle.art_cli.specs.declared.failure.LineFault.{LineFault}
-use Rattle.art_cli.specs.declared.failure.LineFault.TheVariants.{UnknownCommand, EntryAfterQuery}
-use Rattle.art_cli.specs.declared.find.parse.Parsed.{Parsed}
-use Rattle.art_cli.specs.declared.find.parse.Said.{Said}
-use Rattle.art_cli.specs.declared.find.parse.Said.TheVariants.{Entry, Query, Nothing}
+use Rattle.art_cli.specs.declared.failure.LineFault.TheVariants.{KeyTooLong, FrontOfOther}
+use Rattle.art_cli.specs.declared.find.command.TreeCommand.{TreeCommand}
+use Rattle.art_cli.specs.declared.find.command.TreeCommand.TheVariants.{Insert, Remove, Find}
 
--- the line of an entry: `+` and its key
-abbrev pub entry_line : List ℕ → List ℕ
-entry_line key = 43 ∷ key
+-- the line of a command: `+`, `-` or `?`, and its key
+abbrev pub command_line : TreeCommand (List ℕ) → List ℕ
+command_line (Insert key) = 43 ∷ key
+command_line (Remove key) = 45 ∷ key
+command_line (Find key) = 63 ∷ key
 
--- the line of a query: `?` and its key
-abbrev pub query_line : List ℕ → List ℕ
-query_line key = 63 ∷ key
+-- a line says a command
+abbrev pub SayTreeCommand : List ℕ → TreeCommand (List ℕ) → Type 0
+SayTreeCommand line command = line ≡ command_line command
 
--- a line says an entry, a query or neither
-abbrev pub IsSaid : List ℕ → Said → Type 0
-IsSaid line (Entry key) = line ≡ entry_line key.now
-IsSaid line (Query key) = line ≡ query_line key.now
-IsSaid line Nothing = (key : List ℕ) → (line ≢ entry_line key) × (line ≢ query_line key)
+-- a command by the text of its key
+abbrev pub with_text : {K : Type 0} → (K → List ℕ) → TreeCommand K → TreeCommand (List ℕ)
+with_text text (Insert key) = Insert (text key)
+with_text text (Remove key) = Remove (text key)
+with_text text (Find key) = Find (text key)
 
--- the lines of entries and then of queries
-abbrev pub lines_for : List (List ℕ) → List (List ℕ) → List (List ℕ)
-lines_for entries queries = map entry_line entries ++ map query_line queries
+-- the number of each text's entry, if it has one, and that of the next entry
+pub record Entries : Type 0 where
+  pub number_of : List ℕ → Option ℕ
+  pub next : ℕ
 
--- what is wrong with a line after these queries
-abbrev pub IsWrongAfter : List (List ℕ) → List ℕ → LineFault → Type 0
-IsWrongAfter queries line UnknownCommand = IsSaid line Nothing
-IsWrongAfter queries line EntryAfterQuery = (0 < length queries) × (key : List ℕ) × (line ≡ entry_line key)
-IsWrongAfter queries line _ = ⊥
+-- no text has an entry
+abbrev pub no_entries : Entries
+no_entries = record { number_of = λ text. None; next = 0 }
 
--- the lines are those of the entries and queries, up to a line that is wrong where there is one
-abbrev pub AreLinesFor : List (List ℕ) → List (List ℕ) → List (List ℕ) → Option LineFault → Type 0
-AreLinesFor lines entries queries None = lines ≡ lines_for entries queries
-AreLinesFor lines entries queries (Some fault) =
-    (bad : List ℕ) × (others : List (List ℕ)) × (lines ≡ lines_for entries queries ++ bad ∷ others) × IsWrongAfter queries bad fault
+-- the entries after a command
+abbrev pub after : Entries → TreeCommand (List ℕ) → Entries
+after entries (Insert key) = record { number_of = update bytes_eq entries.number_of key (Some entries.next); next = entries.next + 1 }
+after entries (Remove key) = record { number_of = update bytes_eq entries.number_of key None; next = entries.next }
+after entries (Find key) = entries
 
--- the entries are numbered one by one
-abbrev pub AreNumberedFrom : {K : Type 0} → ℕ → List (K × ℕ) → Type 0
-AreNumberedFrom first [] = Unit {0}
-AreNumberedFrom first (entry ∷ entries) = (entry.1 ≡ first) × AreNumberedFrom (first + 1) entries
+-- the entries after commands, from these on
+abbrev pub after_all : Entries → List (TreeCommand (List ℕ)) → Entries
+after_all entries [] = entries
+after_all entries (command ∷ commands) = after_all (after entries command) commands
 
--- the texts of the entries' keys
-abbrev pub entry_texts : List (SliceKey × ℕ) → List (List ℕ)
-entry_texts entries = map (λ entry. slice_key_text entry.0) entries
+-- a text that has an entry is a proper front of the key, or the key of it
+abbrev pub IsFrontOfOther : Entries → List ℕ → Type 0
+IsFrontOfOther entries key = (other : List ℕ) × (entries.number_of other ≢ None) × (IsProperFront other key ⊎ IsProperFront key other)
 
--- the queries' texts
-abbrev pub query_texts : List (Bor (List ℕ)) → List (List ℕ)
-query_texts queries = map (λ query. query.now) queries
+-- why an entry with this key is refused beside these
+abbrev pub IsRefused : Entries → List ℕ → LineFault → Type 0
+IsRefused entries key KeyTooLong = 2 ^ 32 ≤ length key
+IsRefused entries key FrontOfOther = (length key < 2 ^ 32) × IsFrontOfOther entries key
+IsRefused entries key _ = ⊥
 
--- what is parsed of lines
-pub record IsParsed (lines : List (List ℕ)) (parsed : Parsed) : Type 0 where
-  pub says : AreLinesFor lines (entry_texts parsed.entries.items) (query_texts parsed.queries.items) parsed.fault
-  pub numbered : AreNumberedFrom 0 parsed.entries.items
+-- a command enters no entry that is refused
+abbrev pub IsAdmitted : Entries → TreeCommand (List ℕ) → Type 0
+IsAdmitted entries (Insert key) = (length key < 2 ^ 32) × (¬ IsFrontOfOther entries key)
+IsAdmitted entries _ = Unit {0}
+
+-- nor does any of these, one after another
+abbrev pub AreAdmitted : Entries → List (TreeCommand (List ℕ)) → Type 0
+AreAdmitted entries [] = Unit {0}
+AreAdmitted entries (command ∷ commands) = IsAdmitted entries command × AreAdmitted (after entries command) commands
+
+-- the first entry that is refused stands in the line of this number
+abbrev pub AreRefused : List (TreeCommand (List ℕ)) → ℕ → LineFault → Type 0
+AreRefused commands number fault =
+    (before : List (TreeCommand (List ℕ))) × (key : List ℕ) × (others : List (TreeCommand (List ℕ))) × (commands ≡ before ++ Insert key ∷ others)
+    × (number ≡ length before + 1) × AreAdmitted no_entries before × IsRefused (after_all no_entries before) key fault

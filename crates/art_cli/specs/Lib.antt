@@ -5,6 +5,5 @@ pub mod Words
 pub mod Request
 pub mod Find
 pub mod Answer
-pub mod Refused
 pub mod Reply
 pub mod Program

@@ -1,5 +1,5 @@
 -- Lines of the input and of the output, of both programs.
-use Rattle.std.specs.Prelude.{ℕ, ◌==◌, List, [], ◌∷◌, ◌++◌}
+use Rattle.std.specs.Prelude.{◌≡◌, ℕ, ◌==◌, List, Bool, false, IsTrue, [], ◌∷◌, ◌++◌}
 use Rattle.std.specs.List.{slice_split}
 
 -- parts but for a last one that is empty
@@ -19,3 +19,11 @@ words_of line = slice_split (λ b. b == 32) line
 -- a line of the output is its bytes and byte 10
 abbrev pub line : List ℕ → List ℕ
 line text = text ++ 10 ∷ []
+
+module _ {C : Type 0} (Say : List ℕ → C → Type 0) where
+  -- lines say commands, one a line, up to a line that says none where they are not the whole
+  abbrev pub SayAll : List (List ℕ) → List C → Bool → Type 0
+  SayAll [] [] is_whole = IsTrue is_whole
+  SayAll (line ∷ lines) (command ∷ commands) is_whole = Say line command × SayAll lines commands is_whole
+  SayAll (line ∷ lines) [] is_whole = (is_whole ≡ false) × ((command : C) → Say line command → ⊥)
+  SayAll [] (command ∷ commands) is_whole = ⊥

@@ -1,22 +1,24 @@
 -- What the program prints for an input, and why it gives one up.
-use Rattle.std.specs.Prelude.{◌≡◌, ℕ, List, [], Option, String, None, Some, true, false, ◌+◌, ◌⊎◌, take, length}
+use Rattle.std.specs.Prelude.{◌≡◌, ℕ, List, [], Option, String, true, false, ◌+◌, ◌⊎◌, take, length}
 use Rattle.std.specs.Io.KnownBytes.{Keeps, Appends}
 use Rattle.art_bytes.specs.declared.slice_key.SliceKey.{SliceKey}
 use Rattle.art_nodes.specs.Commands.{run_of}
 use Rattle.art_nodes.specs.declared.ChildCommand.{ChildCommand}
-use Rattle.art_cli.specs.declared.failure.LineFault.{LineFault}
+use Rattle.art_cli.specs.declared.failure.LineFault.TheVariants.{UnknownCommand, KeyTooLong, FrontOfOther}
 use Rattle.art_cli.specs.declared.failure.Failure.{Failure}
 use Rattle.art_cli.specs.declared.failure.Failure.TheVariants.{BadLine, OutOfMemory, Device}
 use Rattle.art_cli.specs.declared.request.Request.{Request}
 use Rattle.art_cli.specs.declared.request.Request.TheVariants.{Replay, Find0, Find2, Find16}
 use Rattle.art_cli.specs.Failure.{status_of}
-use Rattle.art_cli.specs.Lines.{lines_of}
+use Rattle.art_cli.specs.Lines.{lines_of, SayAll}
 use Rattle.art_cli.specs.Request.{AskFor}
 use Rattle.art_cli.specs.Command.{SayCommands}
 use Rattle.art_cli.specs.Reply.{output_of}
-use Rattle.art_cli.specs.Find.{lines_for, AreLinesFor}
-use Rattle.art_cli.specs.Answer.{AnswersFrom}
-use Rattle.art_cli.specs.Refused.{IsRefused}
+use Rattle.art_cli.specs.Find.{SayTreeCommand, no_entries, AreAdmitted, AreRefused}
+use Rattle.art_cli.specs.Answer.{AreReplies}
+use Rattle.art_cli.specs.declared.find.command.TreeCommand.{TreeCommand}
+use Rattle.art_tree.specs.declared.insert.InsertRefusal.{InsertRefusal}
+use Rattle.art_tree.specs.declared.insert.InsertRefusal.TheVariants as refusals
 
 -- every line says a command, and the output is a line for each reply to them, from no children on, and one for the node that is left
 abbrev pub IsReplayOutput : List ℕ → List ℕ → Type 0
@@ -24,11 +26,11 @@ IsReplayOutput input output =
     (commands : List (ChildCommand (Unit {0}) (Unit {0}) 16)) × SayCommands (lines_of input) commands true
     × (output ≡ output_of (run_of [] commands).0 (length (run_of [] commands).1))
 
--- the lines are those of entries and then of queries, and the output is a line for each query, with the answer of the scan of the entries
+-- every line says a command, no entry is refused, and the output is what the commands print, from no entries on
 abbrev pub IsFindOutput : ℕ → List ℕ → List ℕ → Type 0
 IsFindOutput room input output =
-    (entries queries : List (List ℕ)) × (lines_of input ≡ lines_for entries queries)
-    × AnswersFrom SliceKey room entries queries output
+    (commands : List (TreeCommand (List ℕ))) × SayAll SayTreeCommand (lines_of input) commands true
+    × AreAdmitted no_entries commands × AreReplies SliceKey room no_entries commands output
 
 -- the output of an input
 abbrev pub IsOutput : Request → List ℕ → List ℕ → Type 0
@@ -46,18 +48,29 @@ IsReplayFailure input OutOfMemory = Unit {0}
 IsReplayFailure input Device = Unit {0}
 IsReplayFailure input _ = ⊥
 
--- the first wrong line of an input of `find`, or what its entries are refused for
-abbrev pub IsWrongInput : List ℕ → Failure → Type 0
-IsWrongInput input failure =
-    (entries queries : List (List ℕ)) × (((fault : LineFault) × AreLinesFor (lines_of input) entries queries (Some fault)
-    × (failure ≡ BadLine (length entries + length queries + 1) fault))
-    ⊎ (AreLinesFor (lines_of input) entries queries None × IsRefused entries failure))
+-- the failure that a refusal of the entry in this line is
+abbrev pub failure_for : ℕ → InsertRefusal → Failure
+failure_for line refusals.KeyTooLong = BadLine line KeyTooLong
+failure_for line refusals.Prefix = BadLine line FrontOfOther
+failure_for line refusals.OutOfMemory = OutOfMemory
 
--- the failures of an input of `find`
+-- the failures of commands: the entry in the line of this number is the first that is refused
+abbrev pub IsEntryFailure : List (TreeCommand (List ℕ)) → Failure → Type 0
+IsEntryFailure commands (BadLine number fault) = AreRefused commands number fault
+IsEntryFailure commands OutOfMemory = Unit {0}
+IsEntryFailure commands _ = ⊥
+
+-- the failures of an input of `find`: the line of this number is the first that says no command; or each says one, and the entry there is the first that is refused
 abbrev pub IsFindFailure : List ℕ → Failure → Type 0
+IsFindFailure input (BadLine number UnknownCommand) =
+    (commands : List (TreeCommand (List ℕ))) × SayAll SayTreeCommand (lines_of input) commands false
+    × (number ≡ length commands + 1)
+IsFindFailure input (BadLine number fault) =
+    (commands : List (TreeCommand (List ℕ))) × SayAll SayTreeCommand (lines_of input) commands true
+    × AreRefused commands number fault
 IsFindFailure input OutOfMemory = Unit {0}
 IsFindFailure input Device = Unit {0}
-IsFindFailure input failure = IsWrongInput input failure
+IsFindFailure input _ = ⊥
 
 -- the failures of an input
 abbrev pub IsFailure : Request → List ℕ → Failure → Type 0

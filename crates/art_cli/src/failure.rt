@@ -14,14 +14,10 @@ pub enum LineFault {
     WrongNumberOfWords,
     /// A number or a bound is not one, or is out of its range.
     BadNumber,
-    /// An entry comes after a query.
-    EntryAfterQuery,
     /// An entry's key has 2^32 bytes or more.
     KeyTooLong,
-    /// An entry's key is not above the key before.
-    NotAscending,
-    /// An entry's key begins with the key before.
-    StartsWithKeyBefore,
+    /// An entry's key is a proper front of that of another entry, or the other's of it.
+    FrontOfOther,
 }
 
 impl fmt::Display for LineFault {
@@ -35,10 +31,8 @@ impl fmt::Display for LineFault {
             LineFault::UnknownCommand => write!(f, "unknown command"),
             LineFault::WrongNumberOfWords => write!(f, "wrong number of words"),
             LineFault::BadNumber => write!(f, "bad number"),
-            LineFault::EntryAfterQuery => write!(f, "entry after a query"),
             LineFault::KeyTooLong => write!(f, "key too long"),
-            LineFault::NotAscending => write!(f, "not ascending"),
-            LineFault::StartsWithKeyBefore => write!(f, "starts with the key before"),
+            LineFault::FrontOfOther => write!(f, "one key is a front of the other"),
         }
     }
 }
@@ -50,8 +44,6 @@ pub enum Failure {
     Usage,
     /// The line of this number, from 1, is at fault.
     BadLine(usize, LineFault),
-    /// There is no entry.
-    NoEntries,
     /// Memory was refused.
     OutOfMemory,
     /// A read or a write failed.
@@ -66,7 +58,7 @@ impl Failure {
         ensures { result ≡ status_of self }
     {
         match self {
-            Failure::Usage | Failure::BadLine(_, _) | Failure::NoEntries => 2,
+            Failure::Usage | Failure::BadLine(_, _) => 2,
             Failure::OutOfMemory | Failure::Device => 1,
         }
     }
@@ -91,7 +83,6 @@ impl fmt::Display for Failure {
         match self {
             Failure::Usage => write!(f, "usage: artnodes replay | artnodes find 0|2|16"),
             Failure::BadLine(number, fault) => write!(f, "line {number}: {fault}"),
-            Failure::NoEntries => write!(f, "no entries"),
             Failure::OutOfMemory => write!(f, "out of memory"),
             Failure::Device => write!(f, "device failed"),
         }

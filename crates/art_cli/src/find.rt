@@ -1,73 +1,81 @@
-//! `artnodes find P`: entries and queries in, answers out.
-ghost use Rattle.std.specs.Prelude.{◌≡◌, IfOk, IfErr, string_bytes};
-ghost use Rattle.art_tree.specs.Plan.{texts_of};
-ghost use Rattle.art_cli.specs.Find.{query_texts, AreNumberedFrom};
-ghost use Rattle.art_cli.specs.Answer.{AnswersFrom};
-ghost use Rattle.art_cli.specs.Refused.{IsRefused, failure_for, HasLine};
-ghost use Rattle.art_cli.specs.Program.{IsFindOutput, IsFindFailure};
+//! `artnodes find P`: entries, removals and queries in, answers out.
+ghost use Rattle.std.specs.Prelude.{◌≡◌, map, IfOk, IfErr, OnOk, string_bytes};
+ghost use Rattle.art_bytes.specs.SliceKey.{slice_key_text};
+ghost use Rattle.art_tree.specs.Dictionary.{IsEmpty};
+ghost use Rattle.art_cli.specs.Find.{no_entries, with_text, AreAdmitted};
+ghost use Rattle.art_cli.specs.Answer.{AreReplies};
+ghost use Rattle.art_cli.specs.Program.{IsFindOutput, IsFindFailure, IsEntryFailure, failure_for};
 
 mod answer;
-mod parse;
+mod command;
 mod print;
 
 use crate::failure::{Failure, LineFault};
-use crate::find::answer::answers_text;
-use crate::find::parse::{Parsed, parse};
-use art_tree::{AsBytes, LoadRefusal, NodeArena, SliceKey, load};
+use crate::find::answer::answer;
+use crate::find::command::{TreeCommand, parse};
+use crate::find::print::{print_answer, print_removal};
+use art_tree::{ArtTree, AsBytes, InsertRefusal, SliceKey};
 use std::alloc::Global;
 
-/// What the queries of this input are answered from its entries, which are loaded into the arena.
+/// What the commands of this input print, from no entries on. They are worked in the tree.
 pub fn find_text<'a, const PREFIX_LEN: usize>(
     alloc: Global,
-    arena: &mut NodeArena<SliceKey<'a>, usize, PREFIX_LEN>,
+    tree: &mut ArtTree<SliceKey<'a>, usize, PREFIX_LEN>,
     input: &'a [u8],
 ) -> Result<String, Failure>
+    requires { IsEmpty slice_key_text tree.old.arena }
     ensures text { IfOk result (λ text. IsFindOutput PREFIX_LEN input.now (string_bytes text)) }
     ensures refused { IfErr result (IsFindFailure input.now) }
 {
-    let Parsed {
-        entries,
-        queries,
-        fault,
-    } = parse(alloc, input)?;
-    match fault {
-        Some(fault) => {
-            let number = entries.len() + queries.len() + 1;
-            Err(Failure::BadLine(number, fault))
-        }
-        None => answers_of(alloc, arena, entries, &queries),
+    let (commands, is_whole) = parse(alloc, input)?;
+    if !is_whole {
+        return Err(Failure::BadLine(commands.len() + 1, LineFault::UnknownCommand));
     }
+    replies_text(alloc, tree, &commands)
 }
 
-// The answers to the queries from entries that are numbered from 0.
-#[tactic(auto, using(crate::proofs::Refusals::memory_refused))]
-fn answers_of<K: AsBytes + Drop, const PREFIX_LEN: usize>(
+// What commands print, from no entries on.
+fn replies_text<K: AsBytes + Copy, const PREFIX_LEN: usize>(
     alloc: Global,
-    arena: &mut NodeArena<K, usize, PREFIX_LEN>,
-    entries: Vec<(K, usize)>,
-    queries: &[&[u8]],
+    tree: &mut ArtTree<K, usize, PREFIX_LEN>,
+    commands: &[TreeCommand<K>],
 ) -> Result<String, Failure>
-    requires { AreNumberedFrom 0 entries.items }
-    ensures text { IfOk result (λ text. AnswersFrom K PREFIX_LEN
-        (texts_of K.text entries.items) (query_texts queries.now) (string_bytes text)) }
-    ensures refused { IfErr result (IsRefused (texts_of K.text entries.items)) }
+    requires { IsEmpty K.text tree.old.arena }
+    ensures admitted { OnOk result (AreAdmitted no_entries (map (with_text K.text) commands.now)) }
+    ensures text { IfOk result (λ text. AreReplies K PREFIX_LEN no_entries
+        (map (with_text K.text) commands.now) (string_bytes text)) }
+    ensures refused { IfErr result (IsEntryFailure (map (with_text K.text) commands.now)) }
 {
-    match load(alloc, arena, entries) {
-        Ok(root) => Ok(answers_text(alloc, arena, root, queries)?),
-        Err(fault) => Err(failure_of(fault.refusal)),
+    let mut text = String::new(alloc);
+    let mut line = 0;
+    let mut number = 0;
+    for command in commands {
+        line += 1;
+        match *command {
+            TreeCommand::Insert(key) => match tree.insert(key, number) {
+                Ok(_) => number += 1,
+                Err(fault) => return Err(failure_of(line, fault.refusal)),
+            },
+            TreeCommand::Remove(key) => {
+                let removed = tree.remove(key.as_bytes())?;
+                print_removal(&mut text, removed)?;
+            }
+            TreeCommand::Find(key) => {
+                let (answer, reads) = answer(tree, key.as_bytes());
+                print_answer(&mut text, answer, reads)?;
+            }
+        }
     }
+    Ok(text)
 }
 
-// The failure that a refusal of entries is, by the line of the entry at fault.
-fn failure_of(refusal: LoadRefusal) -> Failure
-    requires { HasLine refusal }
-    ensures { result ≡ failure_for refusal }
+// The failure that a refusal of the entry in this line is.
+fn failure_of(line: usize, refusal: InsertRefusal) -> Failure
+    ensures { result ≡ failure_for line refusal }
 {
     match refusal {
-        LoadRefusal::Empty => Failure::NoEntries,
-        LoadRefusal::KeyTooLong(i) => Failure::BadLine(i + 1, LineFault::KeyTooLong),
-        LoadRefusal::NotAscending(i) => Failure::BadLine(i + 2, LineFault::NotAscending),
-        LoadRefusal::Prefix(i) => Failure::BadLine(i + 2, LineFault::StartsWithKeyBefore),
-        LoadRefusal::OutOfMemory => Failure::OutOfMemory,
+        InsertRefusal::KeyTooLong => Failure::BadLine(line, LineFault::KeyTooLong),
+        InsertRefusal::Prefix => Failure::BadLine(line, LineFault::FrontOfOther),
+        InsertRefusal::OutOfMemory => Failure::OutOfMemory,
     }
 }

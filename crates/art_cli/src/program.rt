@@ -10,7 +10,7 @@ use crate::failure::Failure;
 use crate::find::find_text;
 use crate::replay::replay_text;
 use crate::request::{Request, request_of};
-use art_tree::NodeArena;
+use art_tree::ArtTree;
 use std::alloc::Global;
 use std::io;
 use std::io::{Read, Write};
@@ -19,8 +19,8 @@ use std::io::{Read, Write};
 ///
 /// The words are looked at first: bad ones read nothing. Then `input` is read to its end. `replay`
 /// reads child commands, one a line, and writes a line for each reply and one for the node that is
-/// left; `find` reads entries and queries, one a line, and writes a line for each query. They
-/// write to `output`, with status 0.
+/// left; `find` reads entries, removals and queries, one a line, and writes a line for each removal
+/// and query. They write to `output`, with status 0.
 ///
 /// A failure writes its line to `errors`: bad words or bad input with status 2, before anything is
 /// written to `output`; want of memory or a failed device with status 1, when a beginning of the
@@ -91,9 +91,9 @@ fn requested_text(alloc: Global, request: Request, input: Vec<u8>) -> Result<Str
 {
     match request {
         Request::Replay => replay_text(alloc, input),
-        Request::Find0 => find_text(alloc, &mut NodeArena::<_, _, 0>::new(alloc), &input),
-        Request::Find2 => find_text(alloc, &mut NodeArena::<_, _, 2>::new(alloc), &input),
-        Request::Find16 => find_text(alloc, &mut NodeArena::<_, _, 16>::new(alloc), &input),
+        Request::Find0 => find_text(alloc, &mut ArtTree::<_, _, 0>::new(alloc), &input),
+        Request::Find2 => find_text(alloc, &mut ArtTree::<_, _, 2>::new(alloc), &input),
+        Request::Find16 => find_text(alloc, &mut ArtTree::<_, _, 16>::new(alloc), &input),
     }
 }
 

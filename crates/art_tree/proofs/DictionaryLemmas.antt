@@ -33,6 +33,10 @@ use Rattle.art_tree.proofs.Rising.{leaf-of}
 use Rattle.art_tree.proofs.ScanLemmas.{same-text, text-itself}
 use Rattle.art_tree.proofs.WayLemmas.{leaf-kind}
 
+not-none : {X : Type 0} (o : Option X) (x : X) → o ≡ Some x → o ≡ None → ⊥
+not-none None x some none = absurd (cc)
+not-none (Some y) x some none = absurd (cc)
+
 module _ {K V : Type 0} {P : ℕ} (text : K → List ℕ) where
   -- an entry that is found stands in a slot, and has the text
   pub record IsInSlot (slots : List (Option (LeafNode K V P))) (x : List ℕ) (entry : K × V) : Type 0 where
@@ -134,6 +138,14 @@ in-map : {A B : Type 0} (f : A → B) (xs : List A) (x : A) → Contains xs x �
 in-map f xs x (k, inside, is) = (k, omega (arith, inside, length-map xs f), at-map f xs k x ∙ ap f is)
 
 module _ {H : Type 0} where
+  -- a leaf with each of the texts
+  pub leaf-with : (all : List (H × List ℕ)) (x : List ℕ) → Contains (map (λ leaf. leaf.1) all) x → (p : H) × Contains all (p, x)
+  leaf-with [] x (k, inside, is) = absurd (omega (arith, inside))
+  leaf-with (y ∷ ys) x inside = elim (Contains-append_cases (y.1 ∷ []) (map (λ leaf. leaf.1) ys) x inside) [
+    | inl here ↦ (y.0, (0, omega arith, ap (λ text. (y.0, text)) (the-one y.1 x here)))
+    | inr later ↦ let rest = leaf-with ys x later in (rest.0, Contains-append_right (y ∷ []) ys (rest.0, x) rest.1)
+  ]
+
   pub not-later : (y : H × List ℕ) (ys : List (H × List ℕ)) (p q : H) (x : List ℕ) → AreApart (map (λ pair. pair.1) (y ∷ ys)) → y ≡ (p, x) → Contains ys (q, x) → ⊥
   not-later y ys p q x apart here (k, inside, is) =
       let first : y.1 ≡ x = ap (λ pair. pair.1) here in
@@ -240,6 +252,27 @@ module _ {K V : Type 0} {P : ℕ} (text : K → List ℕ) (arena : ArenaOf K V P
       let kind = leaf-kind arena (node_kind pointer) (opaque_key pointer) leaf is in
       let slot = leaf-of (leaf_at arena (opaque_key pointer)) leaf (sym (ap (λ k. held_under arena k (opaque_key pointer)) kind) ∙ is) in
       entry-of-leaf apart (opaque_key pointer) leaf slot
+
+  -- so a text has an entry where it is one of the tree's
+  pub text-of-entry : (x : List ℕ) → entry_at text arena x ≢ None → Contains (texts tree) x
+  text-of-entry x some = by_entry (entry_at text arena x) refl
+    where
+      by_entry : (o : Option (K × V)) → entry_at text arena x ≡ o → Contains (texts tree) x
+      by_entry None none = absurd (some none)
+      by_entry (Some entry) is = let found = leaf-of-entry x entry is in in-map (λ pair. pair.1) (leaves tree) (found.pointer, x) found.inside
+
+  pub entry-of-text : AreApart (texts tree) → (x : List ℕ) → Contains (texts tree) x → entry_at text arena x ≢ None
+  entry-of-text apart x inside none =
+      let one = leaf-with (leaves tree) x inside in
+      let there = leaf-held-in text arena tree alone.is_tree.stands one.0 x one.1 in
+      not-none (entry_at text arena (text (leaf_key there.0))) (leaf_key there.0, leaf_value there.0) (held-entry apart one.0 there.0 there.1) (ap (entry_at text arena) there.2 ∙ none)
+
+  -- and a leaf of the tree holds the entry of its text
+  pub entry-of-member : AreApart (texts tree) → (pointer : OpaqueNodePtr K V P) (x : List ℕ) (leaf : LeafNode K V P) → Contains (leaves tree) (pointer, x) → held arena pointer ≡ HeldLeaf leaf → entry_at text arena x ≡ Some (leaf_key leaf, leaf_value leaf)
+  entry-of-member apart pointer x leaf inside is =
+      let there = leaf-held-in text arena tree alone.is_tree.stands pointer x inside in
+      let same = one-leaf text (held arena pointer) leaf there.0 is there.1 in
+      ap (entry_at text arena) (sym there.2 ∙ ap (λ l. text (leaf_key l)) (sym same)) ∙ held-entry apart pointer leaf is
 
 module _ {K V : Type 0} {P : ℕ} (text : K → List ℕ) (arena : ArenaOf K V P) where
   -- the texts of entries that leaves hold

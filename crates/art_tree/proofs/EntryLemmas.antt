@@ -18,7 +18,7 @@ use Rattle.art_tree.specs.declared.insert.InsertFault.{InsertFault}
 use Rattle.art_tree.specs.declared.insert.InsertRefusal.TheVariants.{OutOfMemory}
 use Rattle.art_tree.specs.declared.insert.place.Fork.{Fork}
 use Rattle.art_tree.specs.declared.insert.place.Spot.{Spot}
-use Rattle.art_tree.proofs.DictionaryLemmas.{AreApart, after-first, empty-entry, held-entry, leaf-held-in, leaf-of-entry}
+use Rattle.art_tree.proofs.DictionaryLemmas.{AreApart, after-first, empty-entry, held-entry, leaf-held-in, leaf-of-entry, leaf-with}
 use Rattle.art_tree.proofs.Exchanging.{the-one, leaves-plug, sound-part, sound-whole}
 use Rattle.art_tree.proofs.Growing.{alone-same, entries-same}
 use Rattle.art_tree.proofs.Rising.{take-get}
@@ -54,14 +54,6 @@ eq-false : (a b : ℕ) → a ≢ b → (a == b) ≡ false
 eq-false a b differ = grind (arith, nat_tests)
 
 module _ {H : Type 0} where
-  -- a leaf with each of the texts
-  leaf-with : (all : List (H × List ℕ)) (x : List ℕ) → Contains (map (λ leaf. leaf.1) all) x → (p : H) × Contains all (p, x)
-  leaf-with [] x (k, inside, is) = absurd (omega (arith, inside))
-  leaf-with (y ∷ ys) x inside = elim (Contains-append_cases (y.1 ∷ []) (map (λ leaf. leaf.1) ys) x inside) [
-    | inl here ↦ (y.0, (0, omega arith, ap (λ text. (y.0, text)) (the-one y.1 x here)))
-    | inr later ↦ let rest = leaf-with ys x later in (rest.0, Contains-append_right (y ∷ []) ys (rest.0, x) rest.1)
-  ]
-
   -- where no text begins another, a text that begins one of them is that one
   same-front : (all : List (H × List ℕ)) (p q : H) (x y : List ℕ) → AreApart (map (λ leaf. leaf.1) all) → Contains all (p, x) → Contains all (q, y) → IsFront x y → x ≡ y
   same-front [] p q x y apart (k, inside, is) second begins = absurd (omega (arith, inside))

@@ -2,13 +2,15 @@
 //! do no work: the contract of each is a law.
 //!
 //! A context is a tree with one subtree left out. With a subtree in that place it is a tree.
-ghost use Rattle.std.specs.Prelude.{◌≡◌, ℕ, ◌++◌, List, All, map};
+ghost use Rattle.std.specs.Prelude.{◌≡◌, ◌↔◌, ℕ, ◌++◌, List, All, Contains, Some, None, map};
+ghost use Rattle.art_nodes.specs.Leaf.{leaf_key, leaf_value};
 ghost use Rattle.art_nodes.specs.declared.pointers.OpaqueNodePtr.{OpaqueNodePtr as Pointer};
-ghost use Rattle.art_arena.specs.Arena.{ArenaOf};
+ghost use Rattle.art_arena.specs.Arena.{ArenaOf, HeldLeaf, held};
 ghost use Rattle.art_arena.specs.Standing.{StandsIn};
 ghost use Rattle.art_arena.specs.Trees.{Tree, leaves, texts, IsSound, IsWellFormed, SameButPointers};
+ghost use Rattle.art_tree.specs.Art.{IsAlone, IsArt};
 ghost use Rattle.art_tree.specs.Contexts.{Context, plug, path_to, leaves_before, leaves_after, IsExchanged};
-ghost use Rattle.art_tree.specs.Dictionary.{Clashes};
+ghost use Rattle.art_tree.specs.Dictionary.{entry_at, Clashes, HasEntry, IsEmpty};
 ghost use Rattle.art_tree.specs.Loading.{IsSnug};
 
 pub use art_arena::laws::{
@@ -18,6 +20,7 @@ pub use art_arena::laws::{
     trees_stand_where_all_is_kept,
 };
 use art_bytes::{AsBytes, NoPrefixesBytes};
+use art_nodes::OpaqueNodePtr;
 
 /// Two trees that are sound under one path and have the same texts are the same but for their
 /// pointers. So texts have one tree, whichever calls made it, and `load` makes that one.
@@ -55,3 +58,20 @@ pub fn keys_without_prefixes_never_clash<K: NoPrefixesBytes>()
     ensures { (keys : List K) (key : K) → All K.is_key keys → K.is_key key →
         ¬ Clashes (map K.text keys) (K.text key) }
 {}
+
+/// The dictionary of an arena that holds one tree and nothing else is what the tree's leaves hold: a
+/// text has an entry where it is one of the tree's, and each leaf holds the entry of its text.
+/// An arena with no root has no entry.
+pub fn entries_are_what_leaves_hold<K: AsBytes, V, const PREFIX_LEN: usize>()
+    ensures none { (arena : ArenaOf K V PREFIX_LEN) → IsArt K.text arena None →
+        IsEmpty K.text arena }
+    ensures texts { (arena : ArenaOf K V PREFIX_LEN) (root : _) (tree : _) →
+        IsAlone K.text arena root tree → (text : List ℕ) →
+        HasEntry K.text arena text ↔ Contains (texts tree) text }
+    ensures leaves { (arena : ArenaOf K V PREFIX_LEN) (root : _) (tree : _) →
+        IsAlone K.text arena root tree → (pointer : _) (text : _) (leaf : _) →
+        Contains (leaves tree) (pointer, text) → held arena pointer ≡ HeldLeaf leaf →
+        entry_at K.text arena text ≡ Some (leaf_key leaf, leaf_value leaf) }
+{
+    no_text_begins_another::<OpaqueNodePtr<K, V, PREFIX_LEN>>();
+}

@@ -1,7 +1,7 @@
 //! From the answers of `find` to lines.
-ghost use Rattle.std.specs.Prelude.{◌≡◌, ◌++◌, OnOk, string_bytes};
+ghost use Rattle.std.specs.Prelude.{◌≡◌, ◌++◌, OnOk, option_map, string_bytes};
 ghost use Rattle.art_cli.specs.Lines.{line};
-ghost use Rattle.art_cli.specs.Answer.{answer_text};
+ghost use Rattle.art_cli.specs.Answer.{answer_text, removal_text};
 
 use art_tree::TreePath;
 use std::alloc::AllocError;
@@ -20,6 +20,20 @@ pub fn print_answer<K, V, const PREFIX_LEN: usize>(
     match answer {
         None => writeln!(text, "none reads {reads}"),
         Some((number, path)) => writeln!(text, "found {number} {} reads {reads}", Shown(path)),
+    }
+}
+
+/// The line that answers a removal: the number of the entry that is gone, or that there was none.
+pub fn print_removal<K: Copy>(
+    text: &mut String,
+    removed: Option<(K, usize)>,
+) -> Result<(), AllocError>
+    ensures { OnOk result (string_bytes text.new
+        ≡ string_bytes text.old ++ line (removal_text (option_map (λ entry. entry.1) removed))) }
+{
+    match removed {
+        None => writeln!(text, "absent"),
+        Some((_, number)) => writeln!(text, "removed {number}"),
     }
 }
 

@@ -76,22 +76,61 @@ fn a_key_is_any_bytes_but_a_line_feed(rt: HostRuntime) -> Result<(), Fail> {
 }
 
 #[test]
-fn the_first_fault_of_entries_and_queries_is_told(rt: HostRuntime) -> Result<(), Fail> {
-    let cases: [(&[u8], &str); 15] = [
-        (b"+a\n+ab\n", "line 2: starts with the key before\n"),
-        (b"+b\n+a\n", "line 2: not ascending\n"),
-        (b"+a\n+a\n", "line 2: not ascending\n"),
-        (b"+a\n+c\n+b\n+\n", "line 3: not ascending\n"),
-        (b"+\n+a\n", "line 2: starts with the key before\n"),
-        (b"?a\n", "no entries\n"),
-        (b"", "no entries\n"),
-        (b"+a\n?a\n+b\n", "line 3: entry after a query\n"),
-        (b"+b\n+a\nx\n", "line 3: unknown command\n"),
-        (b"?a\n+b\nx\n", "line 2: entry after a query\n"),
+fn entries_come_and_go_between_queries(rt: HostRuntime) -> Result<(), Fail> {
+    let input = "+abd\n+abc2\n+abc1\n?abd\n-abd\n?abc1\n-zz\n?abd\n";
+    let output = "found 0 child 100 reads 2\nremoved 0\nfound 2 child 49 reads 2\nabsent\n\
+        none reads 1\n";
+    finds(&rt, rt.alloc(), &["2"], input, output)?;
+    let rooms = ["0", "2", "16"];
+    finds(&rt, rt.alloc(), &rooms, "+b\n+a\n", "")?;
+    finds(
+        &rt,
+        rt.alloc(),
+        &rooms,
+        "?a\n-a\n",
+        "none reads 0\nabsent\n",
+    )?;
+    finds(
+        &rt,
+        rt.alloc(),
+        &rooms,
+        "+a\n?a\n+b\n",
+        "found 0 root reads 1\n",
+    )?;
+    finds(&rt, rt.alloc(), &rooms, "", "")?;
+    // a key that is there takes the new number, and a front of a key may come once that is gone
+    let input = "+a\n+b\n+a\n?a\n-a\n+ab\n-ab\n+\n";
+    let fault = "line 8: one key is a front of the other\n";
+    check(
+        &rt,
+        rt.alloc(),
+        &["find", "2"],
+        &outcome(input.as_bytes(), "", fault, 2),
+    )?;
+    let input = "+a\n+b\n+a\n?a\n-a\n+ab\n-ab\n-b\n+\n?\n";
+    let output = "found 2 child 97 reads 2\nremoved 2\nremoved 3\nremoved 1\n\
+        found 4 root reads 1\n";
+    finds(&rt, rt.alloc(), &rooms, input, output)
+}
+
+#[test]
+fn the_first_fault_of_lines_and_entries_is_told(rt: HostRuntime) -> Result<(), Fail> {
+    let cases: [(&[u8], &str); 10] = [
+        (b"+a\n+ab\n", "line 2: one key is a front of the other\n"),
+        (
+            b"+ab\n?ab\n+a\n",
+            "line 3: one key is a front of the other\n",
+        ),
+        (
+            b"+a\n+c\n+b\n+\n",
+            "line 4: one key is a front of the other\n",
+        ),
+        (b"+\n-b\n+a\n", "line 3: one key is a front of the other\n"),
+        (b"+a\n+ab\nx\n", "line 3: unknown command\n"),
+        (b"?a\n+b\nx\n", "line 3: unknown command\n"),
         (b"+a\n\n", "line 2: unknown command\n"),
         (b"\n", "line 1: unknown command\n"),
         (b" +a\n", "line 1: unknown command\n"),
-        (b"-a\n", "line 1: unknown command\n"),
         (b"+a\n?a\nw 1 1", "line 3: unknown command\n"),
     ];
     for (input, errors) in cases {

@@ -1,33 +1,43 @@
-use Rattle.std.proofs.Common.{rules, ◌≡◌, length, arith, ◌-◌, ◌+◌}
+use Rattle.std.proofs.Common.{rules, ◌≡◌, ◌≢◌, ◌∙◌, ◌+◌, ◌-◌, Some, length, refl, sym, subst, inl, inr, arith}
+use Rattle.art_arena.specs.Arena.{held, Nothing}
 use Rattle.art_arena.specs.Standing.{IsTreeIn}
+use Rattle.art_tree.specs.Art.{IsArt}
 use Rattle.art_tree.specs.Search.{leaf_pointer, met}
-use Rattle.art_cli.proofs.Finding.{found_is_held, found_by_number}
+use Rattle.art_cli.proofs.Finding.{found_number, none_there, same_texts}
 use Rattle.art_cli.proofs.find.answer.answer.Goals as goal
 
 pub as_ref-requires : goal.as_ref-requires
 as_ref-requires g c =
-    let tree = c.requires.0 in
-    let stands : IsTreeIn g.K.AsBytes.text c.with_budget-reader.result.arena c.args.root tree = rw c.with_budget-reader.ensures.arena c.requires.1 in
-    (search rules, (search rules, (search rules, (search rules, (search rules, (search rules, found_is_held c.args.arena.now tree c.requires.2 c.args.query.now (leaf_pointer c.in-Some.leaf) (c.in-Some.ensures.answer tree stands)))))))
+    let read = c.in-Some-found.ensures.same_arena ∙ c.with_budget-reader.ensures.arena in
+    let is_held = subst (λ arena. held arena (leaf_pointer c.in-Some-found.leaf) ≢ Nothing) read c.in-Some-found.ensures.held in
+    (search rules, (search rules, (search rules, (search rules, (search rules, (search rules, is_held))))))
 
-pub returns-in-Some : goal.returns-in-Some
-returns-in-Some g c tree stands holds =
-    let here : IsTreeIn g.K.AsBytes.text c.with_budget-reader.result.arena c.args.root tree = rw c.with_budget-reader.ensures.arena stands in
-    let scanned = c.in-Some.ensures.answer tree here in
-    let looks = c.in-Some.ensures.looks tree here in
-    let budget = c.with_budget-reader.ensures.budget in
-    let reads : length c.args.query.now + 1 - c.remaining.result ≡ length (met g.row.PREFIX_LEN tree c.args.query.now) = omega (arith, looks, budget, c.remaining.ensures) in (
-      record {
-        leaf = leaf_pointer c.in-Some.leaf;
-        scanned = scanned;
-        numbered = rw c.value_ref-number.ensures (found_by_number c.args.arena.now tree holds c.args.query.now (leaf_pointer c.in-Some.leaf) scanned c.as_ref.result.now c.as_ref.ensures);
-        hangs = c.in-Some.ensures.path tree here;
-      },
-      reads,
-    )
+pub returns-in-Some-found : goal.returns-in-Some-found
+returns-in-Some-found g c = λ entries holds.
+    let text = g.K.AsBytes.text in
+    let alone = subst (IsArt text c.args.tree.now.arena) (sym c.root.ensures.root ∙ c.in-Some.is) c.root.ensures.one_tree in
+    let tree = alone.0 in
+    let read = c.with_budget-reader.ensures.arena ∙ c.arena-arena.ensures.arena in
+    let here : IsTreeIn text c.with_budget-reader.result.arena c.in-Some.root tree = rw read alone.1.is_tree in
+    let scanned = c.in-Some-found.ensures.answer tree here in
+    let looks = c.in-Some-found.ensures.looks tree here in
+    let reads : length c.args.query.now + 1 - c.remaining.result ≡ length (met g.row.PREFIX_LEN tree c.args.query.now) = omega (arith, looks, c.with_budget-reader.ensures.budget, c.remaining.ensures) in
+    let number : entries.number_of c.args.query.now ≡ Some c.value_ref-number.result.now = rw c.value_ref-number.ensures (found_number text c.args.tree.now.arena entries holds tree (leaf_pointer c.in-Some-found.leaf) c.args.query.now c.as_ref.result.now (c.entries_are_what_leaves_hold.ensures.leaves c.args.tree.now.arena c.in-Some.root tree alone.1 (leaf_pointer c.in-Some-found.leaf) c.args.query.now c.as_ref.result.now) scanned (rw (← c.arena-arena.ensures.arena) c.as_ref.ensures)) in
+    inr (tree, alone.1.is_tree.sound, same_texts text c.args.tree.now.arena entries holds tree (c.entries_are_what_leaves_hold.ensures.texts c.args.tree.now.arena c.in-Some.root tree alone.1), (leaf_pointer c.in-Some-found.leaf, scanned, number, c.in-Some-found.ensures.path tree here), reads)
 
 pub returns-in-None : goal.returns-in-None
-returns-in-None g c tree stands holds =
-    let here : IsTreeIn g.K.AsBytes.text c.with_budget-reader.result.arena c.args.root tree = rw c.with_budget-reader.ensures.arena stands in
+returns-in-None g c = λ entries holds.
+    let text = g.K.AsBytes.text in
+    let alone = subst (IsArt text c.args.tree.now.arena) (sym c.root.ensures.root ∙ c.in-Some.is) c.root.ensures.one_tree in
+    let tree = alone.0 in
+    let read = c.with_budget-reader.ensures.arena ∙ c.arena-arena.ensures.arena in
+    let here : IsTreeIn text c.with_budget-reader.result.arena c.in-Some.root tree = rw read alone.1.is_tree in
     let looks = c.in-None.ensures.looks tree here in
-    (c.in-None.ensures.answer tree here, omega (arith, looks, c.with_budget-reader.ensures.budget, c.remaining.ensures))
+    let reads : length c.args.query.now + 1 - c.remaining.result ≡ length (met g.row.PREFIX_LEN tree c.args.query.now) = omega (arith, looks, c.with_budget-reader.ensures.budget, c.remaining.ensures) in
+    inr (tree, alone.1.is_tree.sound, same_texts text c.args.tree.now.arena entries holds tree (c.entries_are_what_leaves_hold.ensures.texts c.args.tree.now.arena c.in-Some.root tree alone.1), c.in-None.ensures.answer tree here, reads)
+
+pub returns-in_default : goal.returns-in_default
+returns-in_default g c = λ entries holds.
+    let text = g.K.AsBytes.text in
+    let nothing = subst (IsArt text c.args.tree.now.arena) (sym c.root.ensures.root ∙ c.in_default.is) c.root.ensures.one_tree in
+    inl (none_there text c.args.tree.now.arena entries holds (c.entries_are_what_leaves_hold.ensures.none c.args.tree.now.arena nothing), refl, refl)
