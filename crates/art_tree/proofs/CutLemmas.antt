@@ -136,46 +136,65 @@ module _ {K V : Type 0} {P : ℕ} where
         others = λ other not_new not_old. given_up.others other not_old ∙ made_there.others other not_new;
       })
 
+  -- a node that is given up for one of a smaller kind, however its pointer is named
+  module _ (old : ArenaOf K V P) {at pointer : OpaqueNodePtr K V P} (same : at ≡ pointer) where
+    pub held-there : held old pointer ≢ Nothing → held old at ≢ Nothing
+    held-there was = subst (λ p. held old p ≢ Nothing) (sym same) was
+
+    pub smaller-room : 0 < room old (shrunk_kind (node_kind pointer)) → 0 < room old (shrunk_kind (node_kind at))
+    smaller-room has = subst (λ p. 0 < room old (shrunk_kind (node_kind p))) (sym same) has
+
+    module _ {there : Inner (OpaqueNodePtr K V P)} (here : held old at ≡ HeldInner there) where
+      pub few-there : ((node : Inner (OpaqueNodePtr K V P)) → held old pointer ≡ HeldInner node → length node.children < least_children (node_kind pointer)) → length there.children < least_children (node_kind at)
+      few-there few = subst (λ p. length there.children < least_children (node_kind p)) (sym same) (few there (ap (held old) (sym same) ∙ here))
+
+      pub replaced-there : {new : ArenaOf K V P} {node shrunk : Inner (OpaqueNodePtr K V P)} {to : OpaqueNodePtr K V P} → shrunk ≡ there → held old pointer ≡ HeldInner node
+          → IsReplaced old new at (shrunk_kind (node_kind at)) shrunk to → IsReplaced old new pointer (shrunk_kind (node_kind pointer)) node to
+      replaced-there {new = new} {node = node} {to = to} shrinks is is_replaced =
+          let one = shrinks ∙ one-inner (held old at) there node here (ap (held old) same ∙ is) in
+          subst (λ p. IsReplaced old new p (shrunk_kind (node_kind p)) node to) same (subst (λ n. IsReplaced old new at (shrunk_kind (node_kind at)) n to) one is_replaced)
+
   -- a node from which a child is taken in its place
   module _ (old mid : ArenaOf K V P) (pointer : OpaqueNodePtr K V P) (byte : ℕ) (was : held old pointer ≢ Nothing) (inner : node_kind pointer ≢ kinds.Leaf)
       (cut : (node : Inner (OpaqueNodePtr K V P)) → held old pointer ≡ HeldInner node → Changes old mid pointer (HeldInner (node_without_child node byte))) where
     before : (node : Inner (OpaqueNodePtr K V P)) × (held old pointer ≡ HeldInner node)
     before = inner-there old pointer was inner
 
-    -- it is held as before, however its pointer is named
-    module _ {at : OpaqueNodePtr K V P} (same : at ≡ pointer) where
-      pub cut-held : held mid at ≢ Nothing
-      cut-held = inner-held mid at _ (ap (held mid) same ∙ (cut before.0 before.1).changed)
+    -- it is held as before
+    pub cut-held : held mid pointer ≢ Nothing
+    cut-held = inner-held mid pointer _ (cut before.0 before.1).changed
 
-      module _ {there : Inner (OpaqueNodePtr K V P)} (here : held mid at ≡ HeldInner there) where
-        cut-there : {node : Inner (OpaqueNodePtr K V P)} → held old pointer ≡ HeldInner node → there ≡ node_without_child node byte
-        cut-there {node = node} is = one-inner (held mid at) there (node_without_child node byte) here (ap (held mid) same ∙ (cut node is).changed)
+    module _ (fewest : (node : Inner (OpaqueNodePtr K V P)) → held old pointer ≡ HeldInner node → length node.children ≡ least_children (node_kind pointer)) where
+      -- of the fewest children of its kind one is gone
+      pub few-left : ((node : Inner (OpaqueNodePtr K V P)) → held old pointer ≡ HeldInner node → child_at node.children byte ≢ None)
+          → (there : Inner (OpaqueNodePtr K V P)) → held mid pointer ≡ HeldInner there → length there.children < least_children (node_kind pointer)
+      few-left has there here =
+          let is_cut = one-inner (held mid pointer) there (node_without_child before.0 byte) here (cut before.0 before.1).changed in
+          omega (arith, fewer before.0.children byte (has before.0 before.1), ap (λ n. length n.children) is_cut, fewest before.0 before.1)
 
-        -- of the fewest children of its kind one is gone
-        pub few-left : ((node : Inner (OpaqueNodePtr K V P)) → held old pointer ≡ HeldInner node → child_at node.children byte ≢ None)
-            → ((node : Inner (OpaqueNodePtr K V P)) → held old pointer ≡ HeldInner node → length node.children ≡ least_children (node_kind pointer)) → length there.children < least_children (node_kind at)
-        few-left has fewest =
-            omega (arith, fewer before.0.children byte (has before.0 before.1), ap (λ n. length n.children) (cut-there before.1), fewest before.0 before.1, ap (λ p. least_children (node_kind p)) same)
-
-        -- and what it shrinks to stands for it
-        pub shrunk-there : ((node : Inner (OpaqueNodePtr K V P)) → held old pointer ≡ HeldInner node → length node.children ≡ least_children (node_kind pointer))
-            → {new : ArenaOf K V P} {node shrunk : Inner (OpaqueNodePtr K V P)} {to : OpaqueNodePtr K V P} → shrunk ≡ there → held old pointer ≡ HeldInner node
-            → IsReplaced mid new at (shrunk_kind (node_kind at)) shrunk to → HasOneLess old new pointer node (node_without_child node byte) to
-        shrunk-there fewest {new = new} {node = node} {to = to} shrinks is moved =
-            let apart : to ≢ pointer = λ one. inner-held mid to there (ap (held mid) (one ∙ sym same) ∙ here) moved.was_free in
-            inr (record {
-              least = fewest node is;
-              kind = moved.kind ∙ ap (λ p. shrunk_kind (node_kind p)) same;
-              was_free = sym ((cut node is).others to apart) ∙ moved.was_free;
-              is_held = moved.is_held ∙ ap HeldInner (shrinks ∙ cut-there is);
-              is_free = ap (held new) (sym same) ∙ moved.is_free;
-              others = λ other not_new not_old. moved.others other not_new (λ one. not_old (one ∙ same)) ∙ (cut node is).others other not_old;
-            })
+      -- the fewest of the smallest kind are two
+      pub not-smallest : ((node : Inner (OpaqueNodePtr K V P)) → held old pointer ≡ HeldInner node → (2 < length node.children) × (least_children (node_kind pointer) ≤ length node.children)) → node_kind pointer ≢ kinds.Node4
+      not-smallest many kind = omega (arith, (many before.0 before.1).0, fewest before.0 before.1, ap least_children kind)
 
       -- there is the room that there was
       pub room-left : HasRoomToShrink old pointer → SameRoom old mid
-          → ((node : Inner (OpaqueNodePtr K V P)) → held old pointer ≡ HeldInner node → (2 < length node.children) × (least_children (node_kind pointer) ≤ length node.children))
-          → ((node : Inner (OpaqueNodePtr K V P)) → held old pointer ≡ HeldInner node → length node.children ≡ least_children (node_kind pointer)) → 0 < room mid (shrunk_kind (node_kind at))
-      room-left rooms same_room many fewest =
+          → ((node : Inner (OpaqueNodePtr K V P)) → held old pointer ≡ HeldInner node → (2 < length node.children) × (least_children (node_kind pointer) ≤ length node.children)) → 0 < room mid (shrunk_kind (node_kind pointer))
+      room-left rooms same_room many =
           let has = rooms before.0 before.1 (many before.0 before.1).0 (fewest before.0 before.1) in
-          subst (λ p. 0 < room mid (shrunk_kind (node_kind p))) (sym same) (omega (arith, has, same_room (shrunk_kind (node_kind pointer))))
+          omega (arith, has, same_room (shrunk_kind (node_kind pointer)))
+
+      -- and what it shrinks to stands for it
+      pub shrunk-left : {new : ArenaOf K V P} {to : OpaqueNodePtr K V P} (node : Inner (OpaqueNodePtr K V P)) → held old pointer ≡ HeldInner node
+          → ((there : Inner (OpaqueNodePtr K V P)) → held mid pointer ≡ HeldInner there → IsReplaced mid new pointer (shrunk_kind (node_kind pointer)) there to) → HasOneLess old new pointer node (node_without_child node byte) to
+      shrunk-left {to = to} node is replaces =
+          let here = (cut node is).changed in
+          let moved = replaces (node_without_child node byte) here in
+          let apart : to ≢ pointer = λ one. inner-held mid to (node_without_child node byte) (ap (held mid) one ∙ here) moved.was_free in
+          inr (record {
+            least = fewest node is;
+            kind = moved.kind;
+            was_free = sym ((cut node is).others to apart) ∙ moved.was_free;
+            is_held = moved.is_held;
+            is_free = moved.is_free;
+            others = λ other not_new not_old. moved.others other not_new not_old ∙ (cut node is).others other not_old;
+          })

@@ -1,5 +1,5 @@
 -- Inner nodes that take a child more, or another prefix.
-use Rattle.std.proofs.Common.{◌≡◌, ◌≢◌, ◌∙◌, ℕ, ◌<◌, ◌≤◌, List, [], ◌∷◌, length, Option, Some, None, IsNone, refl, sym, ap, subst, inr}
+use Rattle.std.proofs.Common.{◌≡◌, ◌≢◌, ◌∙◌, ℕ, ◌<◌, ◌≤◌, List, [], ◌∷◌, length, Option, Some, None, IsNone, refl, sym, ap, subst}
 use Rattle.std.specs.Option.{option_map, option_map_or}
 use Rattle.art_header.specs.Header.{Header}
 use Rattle.art_header.specs.NodeType.{most_children, grown_kind}
@@ -11,7 +11,7 @@ use Rattle.art_nodes.specs.declared.pointers.OpaqueNodePtr.{OpaqueNodePtr}
 use Rattle.art_nodes.specs.declared.leaf_node.LeafNode.{LeafNode}
 use Rattle.art_nodes.proofs.ChildMapLaws.{length_absent}
 use Rattle.art_arena.specs.Arena.{ArenaOf, Held, HeldInner, HeldLeaf, Nothing, held, held_header, room, Changes}
-use Rattle.art_tree.specs.Edits.{HasOneMore, HasRoomToGrow, IsMoved}
+use Rattle.art_tree.specs.Edits.{HasRoomToGrow, IsMoved}
 use Rattle.art_tree.specs.Taking.{two_children}
 use Rattle.art_tree.proofs.ChildLemmas.{lt-true, lt-false}
 
@@ -62,9 +62,9 @@ module _ {K V : Type 0} {P : ℕ} where
     room-there rooms full = subst (λ p. 0 < room arena (grown_kind (node_kind p))) (sym same) (rooms there is-there (subst (λ p. length there.children ≡ most_children (node_kind p)) same full))
 
     pub moved-there : {new : ArenaOf K V P} {node grown : Inner (OpaqueNodePtr K V P)} {to : OpaqueNodePtr K V P} (byte : ℕ) (child : OpaqueNodePtr K V P) → grown ≡ there → held arena pointer ≡ HeldInner node
-        → IsMoved arena new at grown (node_with_child grown byte child) to → HasOneMore arena new pointer node (node_with_child node byte child) to
+        → IsMoved arena new at grown (node_with_child grown byte child) to → IsMoved arena new pointer node (node_with_child node byte child) to
     moved-there {new = new} {node = node} {to = to} byte child grows is is_moved =
-        inr (subst (λ p. IsMoved arena new p node (node_with_child node byte child) to) same (subst (λ n. IsMoved arena new at n (node_with_child n byte child) to) (grows ∙ same-node is) is_moved))
+        subst (λ p. IsMoved arena new p node (node_with_child node byte child) to) same (subst (λ n. IsMoved arena new at n (node_with_child n byte child) to) (grows ∙ same-node is) is_moved)
 
   -- a full node is given up for one of the next kind
   pub moved : (old now new : ArenaOf K V P) (after : Inner (OpaqueNodePtr K V P)) {at grown pointer : OpaqueNodePtr K V P} {node : Inner (OpaqueNodePtr K V P)} → at ≡ grown → length node.children ≡ most_children (node_kind pointer) → node_kind grown ≡ grown_kind (node_kind pointer)

@@ -118,9 +118,10 @@ fn move_to<
     grown.to_opaque()
 }
 
-/// Gives the inner node at the pointer a child more. A full node is replaced by one of the next
-/// kind, for which there has to be room. Answers where the node is.
-pub(crate) fn add_child<K, V, const PREFIX_LEN: usize>(
+// Gives the full inner node at the pointer a child more, in a node of the next kind, for which there
+// has to be room. Kept out of its caller, which would clear the stack for that node each time.
+#[inline(never)]
+fn grow_child<K, V, const PREFIX_LEN: usize>(
     arena: &mut NodeArena<K, V, PREFIX_LEN>,
     pointer: OpaqueNodePtr<K, V, PREFIX_LEN>,
     byte: u8,
@@ -128,16 +129,14 @@ pub(crate) fn add_child<K, V, const PREFIX_LEN: usize>(
 ) -> OpaqueNodePtr<K, V, PREFIX_LEN>
     requires held { held arena.old pointer ≢ Nothing }
     requires inner { node_kind pointer ≢ Leaf }
+    requires full { (node : Inner _) → held arena.old pointer ≡ HeldInner node →
+        length node.children ≡ most_children (node_kind pointer) }
     requires absent { (node : Inner _) → held arena.old pointer ≡ HeldInner node →
         child_at node.children byte ≡ None }
     requires room { HasRoomToGrow arena.old pointer }
     ensures { (node : Inner _) → held arena.old pointer ≡ HeldInner node →
-        HasOneMore arena.old arena.new pointer node (node_with_child node byte child) result }
+        IsMoved arena.old arena.new pointer node (node_with_child node byte child) result }
 {
-    if !is_full(arena, pointer) {
-        write_child(arena, pointer, byte, child);
-        return pointer;
-    }
     match pointer.to_node_ptr() {
         ConcreteNodePtr::Node4(node) => {
             let grown = arena.as_ref(node).grow();
@@ -158,6 +157,29 @@ pub(crate) fn add_child<K, V, const PREFIX_LEN: usize>(
         }
         ConcreteNodePtr::LeafNode(_) => unreachable!(),
     }
+}
+
+/// Gives the inner node at the pointer a child more. A full node is replaced by one of the next
+/// kind, for which there has to be room. Answers where the node is.
+pub(crate) fn add_child<K, V, const PREFIX_LEN: usize>(
+    arena: &mut NodeArena<K, V, PREFIX_LEN>,
+    pointer: OpaqueNodePtr<K, V, PREFIX_LEN>,
+    byte: u8,
+    child: OpaqueNodePtr<K, V, PREFIX_LEN>,
+) -> OpaqueNodePtr<K, V, PREFIX_LEN>
+    requires held { held arena.old pointer ≢ Nothing }
+    requires inner { node_kind pointer ≢ Leaf }
+    requires absent { (node : Inner _) → held arena.old pointer ≡ HeldInner node →
+        child_at node.children byte ≡ None }
+    requires room { HasRoomToGrow arena.old pointer }
+    ensures { (node : Inner _) → held arena.old pointer ≡ HeldInner node →
+        HasOneMore arena.old arena.new pointer node (node_with_child node byte child) result }
+{
+    if is_full(arena, pointer) {
+        return grow_child(arena, pointer, byte, child);
+    }
+    write_child(arena, pointer, byte, child);
+    pointer
 }
 
 /// Drops the first bytes of the prefix of an inner node under a path of `depth` bytes; a leaf stays

@@ -1,8 +1,8 @@
 //! What a removal does to inner nodes.
 ghost use Rattle.std.specs.Prelude.{◌≡◌, ◌≢◌, ◌<◌, ◌≤◌, ◌+◌, ◌^◌, ◌++◌, ◌∷◌, ◌↔◌, ℕ, List, length, Some, None, OnOk, OnErr, IsTrue};
 ghost use Rattle.art_header.specs.Header.{StandsFor};
-ghost use Rattle.art_header.specs.NodeType.{least_children};
-ghost use Rattle.art_header.specs.declared.node_type.NodeType.TheVariants.{Leaf};
+ghost use Rattle.art_header.specs.NodeType.{least_children, shrunk_kind};
+ghost use Rattle.art_header.specs.declared.node_type.NodeType.TheVariants.{Leaf, Node4};
 ghost use Rattle.art_nodes.specs.ChildMap.{child_at, first_pair, without_child};
 ghost use Rattle.art_nodes.specs.Inner.{Inner, header_of, node_without_child};
 ghost use Rattle.art_nodes.specs.Pointers.{node_kind, slab_key};
@@ -159,6 +159,40 @@ fn replace_node<
     shrunk.to_opaque()
 }
 
+// Puts a node of the next smaller kind, for which there has to be room, in the place of the inner node
+// at the pointer, which has too few children for its own. Answers where that is. Kept out of its
+// caller, which would clear the stack for that node each time.
+#[inline(never)]
+fn shrink_node<K, V, const PREFIX_LEN: usize>(
+    arena: &mut NodeArena<K, V, PREFIX_LEN>,
+    pointer: OpaqueNodePtr<K, V, PREFIX_LEN>,
+) -> OpaqueNodePtr<K, V, PREFIX_LEN>
+    requires held { held arena.old pointer ≢ Nothing }
+    requires inner { node_kind pointer ≢ Leaf }
+    requires large { node_kind pointer ≢ Node4 }
+    requires few { (node : Inner _) → held arena.old pointer ≡ HeldInner node →
+        length node.children < least_children (node_kind pointer) }
+    requires room { 0 < room arena.old (shrunk_kind (node_kind pointer)) }
+    ensures { (node : Inner _) → held arena.old pointer ≡ HeldInner node →
+        IsReplaced arena.old arena.new pointer (shrunk_kind (node_kind pointer)) node result }
+{
+    match pointer.to_node_ptr() {
+        ConcreteNodePtr::Node16(node) => {
+            let shrunk = arena.as_ref(node).shrink();
+            replace_node(arena, node, shrunk)
+        }
+        ConcreteNodePtr::Node48(node) => {
+            let shrunk = arena.as_ref(node).shrink();
+            replace_node(arena, node, shrunk)
+        }
+        ConcreteNodePtr::Node256(node) => {
+            let shrunk = arena.as_ref(node).shrink();
+            replace_node(arena, node, shrunk)
+        }
+        ConcreteNodePtr::Node4(_) | ConcreteNodePtr::LeafNode(_) => unreachable!(),
+    }
+}
+
 /// Takes the child under the byte from the inner node at the pointer, which has more than two
 /// children. A node with the fewest children of its kind is replaced by one of the next smaller kind,
 /// for which there has to be room. Answers where the node is.
@@ -179,25 +213,10 @@ pub(crate) fn take_child<K, V, const PREFIX_LEN: usize>(
 {
     let fewest = has_fewest(arena, pointer);
     cut_child(arena, pointer, byte);
-    if !fewest {
-        return pointer;
+    if fewest {
+        return shrink_node(arena, pointer);
     }
-    match pointer.to_node_ptr() {
-        ConcreteNodePtr::Node16(node) => {
-            let shrunk = arena.as_ref(node).shrink();
-            replace_node(arena, node, shrunk)
-        }
-        ConcreteNodePtr::Node48(node) => {
-            let shrunk = arena.as_ref(node).shrink();
-            replace_node(arena, node, shrunk)
-        }
-        ConcreteNodePtr::Node256(node) => {
-            let shrunk = arena.as_ref(node).shrink();
-            replace_node(arena, node, shrunk)
-        }
-        // The fewest of the smallest kind are two.
-        ConcreteNodePtr::Node4(_) | ConcreteNodePtr::LeafNode(_) => unreachable!(),
-    }
+    pointer
 }
 
 /// Gives the child of an inner node the node's prefix and the byte before its own prefix; a leaf stays
