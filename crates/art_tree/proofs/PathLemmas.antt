@@ -3,7 +3,9 @@ use Rattle.std.proofs.Common.{◌≡◌, ◌∙◌, ◌⊎◌, inl, inr, ℕ, []
 use Rattle.art_nodes.specs.declared.pointers.OpaqueNodePtr.{OpaqueNodePtr}
 use Rattle.art_tree.specs.declared.path.TreePath.{TreePath}
 use Rattle.art_tree.specs.declared.path.TreePath.TheVariants.{Root, ChildOfRoot, Normal}
-use Rattle.art_tree.specs.Paths.{Steps, path_of}
+use Rattle.art_tree.specs.declared.path.TreePathSearch.{TreePathSearch}
+use Rattle.art_tree.specs.declared.path.Visited.TheVariants.{NoNode, OneNode, TwoNodes}
+use Rattle.art_tree.specs.Paths.{Steps, path_of, finished, finished_with}
 
 module _ {K V : Type 0} {P : ℕ} where
   -- the path with one step more
@@ -21,8 +23,16 @@ module _ {K V : Type 0} {P : ℕ} where
   pub visit-kept : (steps : Steps K V P) (path after : TreePath K V P) (node : OpaqueNodePtr K V P) (byte : ℕ) → after ≡ visited path node byte → path ≡ path_of steps → after ≡ path_of (steps ++ (node, byte) ∷ [])
   visit-kept steps path after node byte is same = is ∙ ap (λ p. visited p node byte) same ∙ sym (path_of-visit steps node byte)
 
-  pub visited-below : (path : TreePath K V P) (parent : OpaqueNodePtr K V P) (above : ℕ) (node : OpaqueNodePtr K V P) (byte : ℕ) → (path ≡ ChildOfRoot parent above) ⊎ ((grandparent : OpaqueNodePtr K V P) × (higher : ℕ) × path ≡ Normal grandparent higher parent above) → Normal parent above node byte ≡ visited path node byte
-  visited-below path parent above node byte hangs = elim hangs [
-    | inl child ↦ ap (λ p. visited p node byte) (sym child)
-    | inr (grandparent, higher, below) ↦ ap (λ p. visited p node byte) (sym below)
-  ]
+  -- a search that remembers a node more
+  module _ (before after : TreePathSearch K V P) (parents : after.grandparent ≡ before.parent) (bytes : after.parent_key_byte ≡ before.child_key_byte) where
+    pub first-remembered : before.visited ≡ NoNode → after.visited ≡ OneNode → finished after ≡ visited (finished before) after.parent after.child_key_byte
+    first-remembered was is = ap (λ v. finished_with v after) is ∙ sym (ap (λ v. visited (finished_with v before) after.parent after.child_key_byte) was)
+
+    pub more-remembered : (before.visited ≡ OneNode) ⊎ (before.visited ≡ TwoNodes) → after.visited ≡ TwoNodes → finished after ≡ visited (finished before) after.parent after.child_key_byte
+    more-remembered was is =
+        let now : finished after ≡ Normal before.parent before.child_key_byte after.parent after.child_key_byte =
+        ap (λ v. finished_with v after) is ∙ (λ i. Normal (parents i) (bytes i) after.parent after.child_key_byte) in
+        now ∙ sym (elim was [
+          | inl one ↦ ap (λ v. visited (finished_with v before) after.parent after.child_key_byte) one
+          | inr two ↦ ap (λ v. visited (finished_with v before) after.parent after.child_key_byte) two
+        ])

@@ -4,6 +4,8 @@ use Rattle.art_nodes.specs.declared.pointers.OpaqueNodePtr.{OpaqueNodePtr}
 use Rattle.art_tree.specs.declared.path.TreePath.{TreePath}
 use Rattle.art_tree.specs.declared.path.TreePath.TheVariants.{Root, ChildOfRoot, Normal}
 use Rattle.art_tree.specs.declared.path.TreePathSearch.{TreePathSearch}
+use Rattle.art_tree.specs.declared.path.Visited.{Visited}
+use Rattle.art_tree.specs.declared.path.Visited.TheVariants.{NoNode, OneNode, TwoNodes}
 
 -- inner nodes from the root down, each with the byte that is taken from it
 abbrev pub Steps : Type 0 → Type 0 → ℕ → Type 0
@@ -17,9 +19,15 @@ module _ {K V : Type 0} {P : ℕ} where
   path_of ((grandparent, parent_byte) ∷ (parent, byte) ∷ []) = Normal grandparent parent_byte parent byte
   path_of (_ ∷ parent ∷ child ∷ steps) = path_of (parent ∷ child ∷ steps)
 
+  -- what a search would answer that remembers so many of its nodes
+  abbrev pub finished_with : Visited → TreePathSearch K V P → TreePath K V P
+  finished_with NoNode search = Root
+  finished_with OneNode search = ChildOfRoot search.parent search.child_key_byte
+  finished_with TwoNodes search = Normal search.grandparent search.parent_key_byte search.parent search.child_key_byte
+
   -- what a search would answer, were it to finish
   abbrev pub finished : TreePathSearch K V P → TreePath K V P
-  finished search = search.path
+  finished search = finished_with search.visited search
 
   -- a search stands for the steps whose path it would answer
   abbrev pub StandsFor : TreePathSearch K V P → Steps K V P → Type 0

@@ -30,10 +30,24 @@ pub enum TreePath<K, V, const PREFIX_LEN: usize> {
     },
 }
 
+/// How many inner nodes a search remembers.
+#[derive(Clone, Copy)]
+enum Visited {
+    NoNode,
+    OneNode,
+    TwoNodes,
+}
+
 /// Remembers the last two inner nodes that a search visits, each with the byte taken from it.
 #[derive(Drop)]
 pub struct TreePathSearch<K, V, const PREFIX_LEN: usize> {
-    path: TreePath<K, V, PREFIX_LEN>,
+    // Which of the nodes below are visited. A path is made of them at the end alone, since each copy
+    // of one would move its padding too.
+    visited: Visited,
+    grandparent: OpaqueNodePtr<K, V, PREFIX_LEN>,
+    parent_key_byte: u8,
+    parent: OpaqueNodePtr<K, V, PREFIX_LEN>,
+    child_key_byte: u8,
 }
 
 /// A search that has visited no node.
@@ -45,7 +59,11 @@ impl<K, V, const PREFIX_LEN: usize> Default for TreePathSearch<K, V, PREFIX_LEN>
 
     fn default() -> Self {
         TreePathSearch {
-            path: TreePath::Root,
+            visited: Visited::NoNode,
+            grandparent: OpaqueNodePtr::default(),
+            parent_key_byte: 0,
+            parent: OpaqueNodePtr::default(),
+            child_key_byte: 0,
         }
     }
 }
@@ -56,32 +74,32 @@ impl<K, V, const PREFIX_LEN: usize> TreePathSearch<K, V, PREFIX_LEN> {
         ensures { (steps : Steps K V PREFIX_LEN) → StandsFor self.old steps →
             StandsFor self.new (steps ++ (inner_node, key_byte) ∷ []) }
     {
-        self.path = match self.path {
-            TreePath::Root => TreePath::ChildOfRoot {
-                parent: inner_node,
-                child_key_byte: key_byte,
-            },
-            TreePath::ChildOfRoot {
-                parent,
-                child_key_byte,
-            }
-            | TreePath::Normal {
-                parent,
-                child_key_byte,
-                ..
-            } => TreePath::Normal {
-                grandparent: parent,
-                parent_key_byte: child_key_byte,
-                parent: inner_node,
-                child_key_byte: key_byte,
-            },
+        self.visited = match self.visited {
+            Visited::NoNode => Visited::OneNode,
+            Visited::OneNode | Visited::TwoNodes => Visited::TwoNodes,
         };
+        self.grandparent = self.parent;
+        self.parent_key_byte = self.child_key_byte;
+        self.parent = inner_node;
+        self.child_key_byte = key_byte;
     }
 
     /// The path that the visits make.
     pub fn finish(self) -> TreePath<K, V, PREFIX_LEN>
         ensures { (steps : Steps K V PREFIX_LEN) → StandsFor self steps ↔ (result ≡ path_of steps) }
     {
-        self.path
+        match self.visited {
+            Visited::NoNode => TreePath::Root,
+            Visited::OneNode => TreePath::ChildOfRoot {
+                parent: self.parent,
+                child_key_byte: self.child_key_byte,
+            },
+            Visited::TwoNodes => TreePath::Normal {
+                grandparent: self.grandparent,
+                parent_key_byte: self.parent_key_byte,
+                parent: self.parent,
+                child_key_byte: self.child_key_byte,
+            },
+        }
     }
 }
