@@ -1,8 +1,9 @@
-//! The program `artnodes`: child commands on standard input, each reply on standard output.
+//! The program `artnodes`: lines on standard input, answers on standard output.
 //!
-//! `artnodes replay` works the commands over one node of an adaptive radix tree and prints, after
-//! the replies, the kind of the node that is left. [`run`] is the whole program over any reader
-//! and writers; `main` hands it the words and the standard streams.
+//! `artnodes replay` works child commands over one node of an adaptive radix tree and prints, after
+//! the replies, the kind of the node that is left. `artnodes find P` works entries, removals and
+//! queries over one tree. [`run`] is the whole program over any reader and writers; `main` hands it
+//! the words and the standard streams.
 #![tactic(auto)]
 
 mod failure;
