@@ -58,6 +58,10 @@ module _ {K V : Type 0} {P : ℕ} (text : K → List ℕ) where
           let rest = onwards later in
           record { key = suc rest.key; leaf = rest.leaf; at = rest.at; has = rest.has; is = rest.is }
 
+  -- and so it has the text
+  pub text-found : (arena : ArenaOf K V P) (x : List ℕ) (entry : K × V) → entry_at text arena x ≡ Some entry → text entry.0 ≡ x
+  text-found arena x entry found = let slot = entry-from arena.leaf.slots x entry found in ap (λ e. text e.0) (sym slot.is) ∙ slot.has
+
   -- where a slot has a leaf with the text, an entry is found
   pub entry-some : (slots : List (Option (LeafNode K V P))) (key : ℕ) (leaf : LeafNode K V P) → slice_index_or slots key None ≡ Some leaf → (entry : K × V) × (entry_among text slots (text (leaf_key leaf)) ≡ Some entry)
   entry-some [] key leaf at = absurd (cc)

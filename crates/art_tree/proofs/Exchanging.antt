@@ -42,6 +42,10 @@ replaced low (x ∷ front) byte child now back ascend =
     let above = before-byte (suc x.0) front byte child back ascend.2 in
     rw (lt-true x.0 byte (omega (arith, above)), lt-false byte x.0 (omega (arith, above))) (ap (λ rest. x ∷ rest) (replaced (suc x.0) front byte child now back ascend.2))
 
+-- the path of a place, where a path leads to the whole
+place-path : (path above prefix rest : List ℕ) → path ++ ((above ++ prefix) ++ rest) ≡ ((path ++ above) ++ prefix) ++ rest
+place-path path above prefix rest = sym (append_assoc path (above ++ prefix) rest) ∙ ap (λ front. front ++ rest) (sym (append_assoc path above prefix))
+
 module _ {H : Type 0} where
   -- the leaves of the whole are those of the part between the others
   pub leaves-plug : (context : Context H) (tree : Tree H) → leaves (plug context tree) ≡ leaves_before context ++ (leaves tree ++ leaves_after context)
@@ -59,23 +63,32 @@ module _ {H : Type 0} where
   count-same before byte old new after =
       sym (length-map (branch_roots (join before (Branch byte old after))) (λ pair. pair.0)) ∙ ap length (bytes-same before byte old new after) ∙ length-map (branch_roots (join before (Branch byte new after))) (λ pair. pair.0)
 
-  -- a part of a well-formed tree is sound under its path
-  pub sound-part : (context : Context H) (tree : Tree H) → IsWellFormed (plug context tree) → IsSound (path_to context) tree
-  sound-part Whole tree sound = sound
-  sound-part (Under above pointer prefix before byte after) tree sound =
-      let node = sound-part above (Inner pointer prefix (join before (Branch byte tree after))) sound in (sound-split (path_to above ++ prefix) before (Branch byte tree after) node.2).1.0
+  module _ (path : List ℕ) where
+    -- a part of a sound tree is sound under its path
+    pub sound-under : (context : Context H) (tree : Tree H) → IsSound path (plug context tree) → IsSound (path ++ path_to context) tree
+    sound-under Whole tree sound = subst (λ p. IsSound p tree) (sym (append-nil path)) sound
+    sound-under (Under above pointer prefix before byte after) tree sound =
+        let node = sound-under above (Inner pointer prefix (join before (Branch byte tree after))) sound in
+        subst (λ p. IsSound p tree) (sym (place-path path (path_to above) prefix (byte ∷ []))) (sound-split ((path ++ path_to above) ++ prefix) before (Branch byte tree after) node.2).1.0
 
-  -- and what is sound under that path may take its place
+    -- and what is sound under that path may take its place
+    pub sound-exchanged : (context : Context H) (old new : Tree H) → IsSound path (plug context old) → IsSound (path ++ path_to context) new → IsSound path (plug context new)
+    sound-exchanged Whole old new sound new_sound = subst (λ p. IsSound p new) (append-nil path) new_sound
+    sound-exchanged (Under above pointer prefix before byte after) old new sound new_sound =
+        let node = sound-under above (Inner pointer prefix (join before (Branch byte old after))) sound in
+        let parts = sound-split ((path ++ path_to above) ++ prefix) before (Branch byte old after) node.2 in
+        sound-exchanged above (Inner pointer prefix (join before (Branch byte old after))) (Inner pointer prefix (join before (Branch byte new after))) sound (
+          omega (arith, node.0, count-same before byte old new after),
+          subst (IsAscendingFrom 0) (bytes-same before byte old new after) node.1,
+          sound-join ((path ++ path_to above) ++ prefix) before (Branch byte new after) parts.0 (subst (λ p. IsSound p new) (place-path path (path_to above) prefix (byte ∷ [])) new_sound, parts.1.1),
+        )
+
+  -- the same for a well-formed tree
+  pub sound-part : (context : Context H) (tree : Tree H) → IsWellFormed (plug context tree) → IsSound (path_to context) tree
+  sound-part = sound-under []
+
   pub sound-whole : (context : Context H) (old new : Tree H) → IsWellFormed (plug context old) → IsSound (path_to context) new → IsWellFormed (plug context new)
-  sound-whole Whole old new sound new_sound = new_sound
-  sound-whole (Under above pointer prefix before byte after) old new sound new_sound =
-      let node = sound-part above (Inner pointer prefix (join before (Branch byte old after))) sound in
-      let parts = sound-split (path_to above ++ prefix) before (Branch byte old after) node.2 in
-      sound-whole above (Inner pointer prefix (join before (Branch byte old after))) (Inner pointer prefix (join before (Branch byte new after))) sound (
-        omega (arith, node.0, count-same before byte old new after),
-        subst (IsAscendingFrom 0) (bytes-same before byte old new after) node.1,
-        sound-join (path_to above ++ prefix) before (Branch byte new after) parts.0 (new_sound, parts.1.1),
-      )
+  sound-whole = sound-exchanged []
 
 -- the parts of a list of different members are such lists, and have no member in common
 all-left : {A : Type 0} (Q : A → Type 0) (xs ys : List A) → All Q (xs ++ ys) → All Q xs
@@ -221,13 +234,13 @@ module _ {K V : Type 0} {P : ℕ} (text : K → List ℕ) (old new : ArenaOf K V
       (λ q inside. keeps q (Contains-append_right (pointer ∷ branch_places before) (branch_places after ++ places_around above) q (Contains-append_right (branch_places after) (places_around above) q inside)))
 
   -- and one with another root where the node above has taken it up
-  pub stands-whole : (context : Context (OpaqueNodePtr K V P)) (part now : Tree (OpaqueNodePtr K V P)) → IsWellFormed (plug context part) → AreDistinct (places (plug context part)) → IsExchanged old new text context part now → StandsIn text new (plug context now)
-  stands-whole Whole part now sound distinct exchanged = exchanged.stands
-  stands-whole (Under above pointer prefix before byte after) part now sound distinct exchanged =
+  pub stands-whole : (path : List ℕ) (context : Context (OpaqueNodePtr K V P)) (part now : Tree (OpaqueNodePtr K V P)) → IsSound path (plug context part) → AreDistinct (places (plug context part)) → IsExchanged old new text context part now → StandsIn text new (plug context now)
+  stands-whole path Whole part now sound distinct exchanged = exchanged.stands
+  stands-whole path (Under above pointer prefix before byte after) part now sound distinct exchanged =
       let whole = Inner pointer prefix (join before (Branch byte part after)) in
       let same = places-node pointer prefix before byte part after in
       let apart = subst AreDistinct same (distinct-part above whole distinct) in
-      let ascend = (sound-part above whole sound).1 in
+      let ascend = (sound-under path above whole sound).1 in
       let keeps : (q : OpaqueNodePtr K V P) → Contains (places_around (Under above pointer prefix before byte after)) q → q ≢ pointer → KeepsAt old new q =
       λ q inside differ. let is = around (Under above pointer prefix before byte after) part q distinct inside in exchanged.others q is.inside is.outside (λ some. differ (sym (cc))) in
       let beside : (q : OpaqueNodePtr K V P) → Contains (branch_places before ++ (places part ++ branch_places after)) q → q ≢ pointer = λ q inside. All-contains (λ other. other ≢ pointer) (branch_places before ++ (places part ++ branch_places after)) q apart.0 inside in

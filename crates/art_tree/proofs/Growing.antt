@@ -98,7 +98,7 @@ module _ {K V : Type 0} {P : ℕ} (text : K → List ℕ) (old new : ArenaOf K V
   alone-grown root context part now alone distinct exchanged sound snug short spelled fresh gone = record {
     is_tree = record {
       at_root = refl;
-      stands = stands-whole text old new context part now alone.is_tree.sound distinct exchanged;
+      stands = stands-whole text old new [] context part now alone.is_tree.sound distinct exchanged;
       sound = sound-whole context part now alone.is_tree.sound sound;
     };
     snug = snug-whole context part now alone.snug snug;

@@ -18,6 +18,7 @@ mod RefusalLemmas
 mod Rising
 mod HangLemmas
 mod InsertLemmas
+mod KeyLemmas
 mod Growing
 mod TakingLemmas
 mod Adding

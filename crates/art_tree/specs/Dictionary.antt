@@ -25,6 +25,10 @@ module _ {K V : Type 0} {P : ℕ} (text : K → List ℕ) where
   abbrev pub HasEntry : ArenaOf K V P → List ℕ → Type 0
   HasEntry arena x = entry_at arena x ≢ None
 
+  -- the key of each entry is one that the laws of keys speak of
+  abbrev pub HasKeys : (K → Type 0) → ArenaOf K V P → Type 0
+  HasKeys is_key arena = (entry : K × V) → IsEntry arena entry → is_key entry.0
+
   -- no text has an entry
   abbrev pub IsEmpty : ArenaOf K V P → Type 0
   IsEmpty arena = (x : List ℕ) → entry_at arena x ≡ None

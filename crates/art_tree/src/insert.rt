@@ -298,6 +298,7 @@ pub(crate) fn insert_entry<K: AsBytes, V, const PREFIX_LEN: usize>(
     ensures replaced { IfOk result
         (λ (root, before). before ≡ entry_at K.text arena.old (K.text key)) }
     ensures entered { OnOk result (IsEntered K.text arena.old arena.new key value) }
+    ensures is_key { K.is_key key }
     ensures no_refusal { OnOk result (MayEnter K.text arena.old (K.text key)) }
     ensures refusal_due { IfErr result
         (λ fault. IsRefused K.text arena.old (K.text key) fault.refusal) }

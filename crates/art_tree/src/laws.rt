@@ -7,10 +7,11 @@ ghost use Rattle.art_nodes.specs.Leaf.{leaf_key, leaf_value};
 ghost use Rattle.art_nodes.specs.declared.pointers.OpaqueNodePtr.{OpaqueNodePtr as Pointer};
 ghost use Rattle.art_arena.specs.Arena.{ArenaOf, HeldLeaf, held};
 ghost use Rattle.art_arena.specs.Standing.{StandsIn};
-ghost use Rattle.art_arena.specs.Trees.{Tree, leaves, texts, IsSound, IsWellFormed, SameButPointers};
+ghost use Rattle.art_arena.specs.Trees.{Tree, leaves, texts, IsSound, SameButPointers};
 ghost use Rattle.art_tree.specs.Art.{IsAlone, IsArt};
 ghost use Rattle.art_tree.specs.Contexts.{Context, plug, path_to, leaves_before, leaves_after, IsExchanged};
-ghost use Rattle.art_tree.specs.Dictionary.{entry_at, Clashes, HasEntry, IsEmpty};
+ghost use Rattle.art_tree.specs.Dictionary.{entry_at, Clashes, HasEntry, HasKeys, IsEmpty};
+ghost use Rattle.art_tree.specs.Inserting.{ClashesIn};
 ghost use Rattle.art_tree.specs.Loading.{IsSnug};
 
 pub use art_arena::laws::{
@@ -33,30 +34,33 @@ pub fn the_same_texts_make_the_same_tree<H, L>()
 }
 
 /// A subtree of a tree may be exchanged for one that is sound under the same path. The whole is then
-/// well-formed, its leaves are those of before with the part exchanged, and it is snug where both
-/// were. It stands where the new part stands, the part's parent has it under the old one's byte, and
-/// all else of the tree is as before, but for the links of leaves.
+/// sound under the path that it was sound under, its leaves are those of before with the part
+/// exchanged, and it is snug where both were. It stands where the new part stands, the part's parent
+/// has it under the old one's byte, and all else of the tree is as before, but for the links of leaves.
 pub fn a_subtree_may_be_exchanged<K: AsBytes, V, const PREFIX_LEN: usize>()
-    ensures part { (context : Context (Pointer K V PREFIX_LEN)) (part : _) →
-        IsWellFormed (plug context part) → IsSound (path_to context) part }
-    ensures sound { (context : Context (Pointer K V PREFIX_LEN)) (part now : _) →
-        IsWellFormed (plug context part) → IsSound (path_to context) now →
-        IsWellFormed (plug context now) }
+    ensures part { (path : List ℕ) (context : Context (Pointer K V PREFIX_LEN)) (part : _) →
+        IsSound path (plug context part) → IsSound (path ++ path_to context) part }
+    ensures sound { (path : List ℕ) (context : Context (Pointer K V PREFIX_LEN)) (part now : _) →
+        IsSound path (plug context part) → IsSound (path ++ path_to context) now →
+        IsSound path (plug context now) }
     ensures leaves { (context : Context (Pointer K V PREFIX_LEN)) (part : _) →
         leaves (plug context part) ≡ leaves_before context ++ (leaves part ++ leaves_after context) }
     ensures snug { (context : Context (Pointer K V PREFIX_LEN)) (part now : _) →
         IsSnug (plug context part) → IsSnug now → IsSnug (plug context now) }
-    ensures stands { (old new : ArenaOf K V PREFIX_LEN) (context : _) (part now : _) →
-        IsWellFormed (plug context part) → IsExchanged old new K.text context part now →
+    ensures stands { (old new : ArenaOf K V PREFIX_LEN) (path : List ℕ) (context : _) (part now : _) →
+        IsSound path (plug context part) → IsExchanged old new K.text context part now →
         StandsIn K.text new (plug context now) }
 {
     each_pointer_is_at_one_place::<K, V, PREFIX_LEN>();
 }
 
-/// Keys of a type of which none is a proper front of another never clash, so one tree holds them all.
-pub fn keys_without_prefixes_never_clash<K: NoPrefixesBytes>()
-    ensures { (keys : List K) (key : K) → All K.is_key keys → K.is_key key →
+/// Keys of a type of which none is a proper front of another never clash, so one tree holds them all:
+/// no insert refuses one of them as a `Prefix`.
+pub fn keys_without_prefixes_never_clash<K: NoPrefixesBytes, V, const PREFIX_LEN: usize>()
+    ensures keys { (keys : List K) (key : K) → All K.is_key keys → K.is_key key →
         ¬ Clashes (map K.text keys) (K.text key) }
+    ensures entries { (arena : ArenaOf K V PREFIX_LEN) (key : K) →
+        HasKeys K.text K.is_key arena → K.is_key key → ¬ ClashesIn K.text arena (K.text key) }
 {}
 
 /// The dictionary of an arena that holds one tree and nothing else is what the tree's leaves hold: a

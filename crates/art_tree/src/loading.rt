@@ -1,5 +1,5 @@
 //! From ascending entries to a tree.
-ghost use Rattle.std.specs.Prelude.{◌≡◌, ◌≢◌, ◌<◌, ◌≤◌, [], length, vec_len, vec_capacity, IfOk, IfErr, OnOk, OnErr};
+ghost use Rattle.std.specs.Prelude.{◌≡◌, ◌≢◌, ◌<◌, ◌≤◌, [], length, All, vec_len, vec_capacity, IfOk, IfErr, OnOk, OnErr};
 ghost use Rattle.art_header.specs.declared.node_type.NodeType.TheVariants as NodeType;
 ghost use Rattle.art_nodes.specs.declared.pointers.OpaqueNodePtr.{OpaqueNodePtr as Pointer};
 ghost use Rattle.art_arena.specs.Arena.{room, SameNodes};
@@ -57,6 +57,7 @@ pub fn load<K: AsBytes, V, const PREFIX_LEN: usize>(
         (λ root. (tree : Tree (Pointer K V PREFIX_LEN))
         × IsLoaded K.text arena.old arena.new entries.items root tree) }
     ensures no_fault { OnOk result (HaveNoFault (texts_of K.text entries.items)) }
+    ensures keys { OnOk result (All (λ entry. K.is_key entry.0) entries.items) }
     ensures refusal_due { IfErr result
         (λ fault. IsDue (texts_of K.text entries.items) fault.refusal) }
     ensures entries_back { IfErr result (λ fault. fault.entries ≡ entries) }

@@ -4,7 +4,7 @@ ghost use Rattle.std.specs.declared.cmp.Ordering.TheVariants.{Less, Greater};
 ghost use Rattle.std.specs.Option.{option_copied, option_map};
 ghost use Rattle.art_bytes.specs.Text.{text_order};
 ghost use Rattle.art_tree.specs.Art.{IsArt};
-ghost use Rattle.art_tree.specs.Dictionary.{entry_at, IsEntry, HasEntry, IsEmpty};
+ghost use Rattle.art_tree.specs.Dictionary.{entry_at, IsEntry, HasEntry, HasKeys, IsEmpty};
 ghost use Rattle.art_tree.specs.Ends.{IsWithin};
 ghost use Rattle.art_tree.specs.Plan.{texts_of};
 ghost use Rattle.art_tree.specs.Refusals.{HaveNoFault, IsDue};
@@ -31,8 +31,10 @@ pub trait HoldsOneTree<R>: Sized {
 impl<K: AsBytes, V, const PREFIX_LEN: usize> HoldsOneTree<OpaqueNodePtr<K, V, PREFIX_LEN>>
     for NodeArena<K, V, PREFIX_LEN> {
     ghost use Rattle.art_tree.specs.Art.{IsArt};
+    ghost use Rattle.art_tree.specs.Dictionary.{HasKeys};
 
-    ghost holds_one_tree = { λ arena root. IsArt K.text arena root };
+    ghost holds_one_tree = { λ arena root.
+        IsArt K.text arena root × HasKeys K.text K.is_key arena };
 }
 
 /// An arena and the root of its one tree. Callers name it [`ArtTree`].
@@ -132,6 +134,7 @@ impl<K: AsBytes, V, const PREFIX_LEN: usize> ArtTree<K, V, PREFIX_LEN> {
     pub fn arena(&self) -> &NodeArena<K, V, PREFIX_LEN>
         ensures arena { result.now ≡ self.now.arena }
         ensures one_tree { IsArt K.text self.now.arena self.now.root }
+        ensures keys { HasKeys K.text K.is_key self.now.arena }
     {
         &self.arena
     }

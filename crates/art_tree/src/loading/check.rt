@@ -1,5 +1,5 @@
 //! What refuses entries.
-ghost use Rattle.std.specs.Prelude.{◌≡◌, ◌<◌, length, IfSome, IfNone};
+ghost use Rattle.std.specs.Prelude.{◌≡◌, ◌<◌, length, All, IfSome, IfNone, get_or};
 ghost use Rattle.art_tree.specs.Plan.{texts_of};
 ghost use Rattle.art_tree.specs.Refusals.{HaveNoFault, IsRefusal, fault_at};
 
@@ -24,7 +24,8 @@ pub enum LoadRefusal {
 // What refuses the entry at an index, if anything does.
 fn fault_of<K: AsBytes, V>(entries: &[(K, V)], index: usize) -> Option<LoadRefusal>
     requires { index < length entries.now }
-    ensures { result ≡ fault_at (texts_of K.text entries.now) index }
+    ensures fault { result ≡ fault_at (texts_of K.text entries.now) index }
+    ensures key { (other : _) → K.is_key (get_or entries.now index other).0 }
 {
     let text = entries[index].0.as_bytes();
     if text.len() >= 1 << 32 {
@@ -47,6 +48,7 @@ fn fault_of<K: AsBytes, V>(entries: &[(K, V)], index: usize) -> Option<LoadRefus
 pub(crate) fn refusal_of<K: AsBytes, V>(entries: &[(K, V)]) -> Option<LoadRefusal>
     ensures refused { IfSome result (IsRefusal (texts_of K.text entries.now)) }
     ensures no_fault { IfNone result (HaveNoFault (texts_of K.text entries.now)) }
+    ensures keys { IfNone result (All (λ entry. K.is_key entry.0) entries.now) }
 {
     if entries.is_empty() {
         return Some(LoadRefusal::Empty);

@@ -1,4 +1,4 @@
-use Rattle.std.proofs.Common.{◌∙◌, refl, sym, subst, arith, rules, lit<}
+use Rattle.std.proofs.Common.{All, ◌∙◌, refl, sym, subst, arith, rules, lit<}
 use Rattle.std.proofs.lemmas.List.{length-map}
 use Rattle.art_tree.specs.Plan.{IsPlanOf, texts_of}
 use Rattle.art_tree.specs.Refusals.{HaveNoFault}
@@ -90,3 +90,6 @@ returns-in-Some-clause-entries_back g c = refl
 
 pub returns-in-Some-clause-nodes_kept : goal.returns-in-Some-clause-nodes_kept
 returns-in-Some-clause-nodes_kept g c = λ _. refl
+
+pub returns-in-Ok-clause-keys : goal.returns-in-Ok-clause-keys
+returns-in-Ok-clause-keys g c = subst (All (λ entry. g.K.AsBytes.is_key entry.0)) c.deref.ensures.value c.in_default.ensures.keys

@@ -1,8 +1,11 @@
-use Rattle.std.proofs.Common.{◌≡◌, ◌<◌, ℕ, None}
+use Rattle.std.proofs.Common.{◌≡◌, ℕ, ◌<◌, None, get_or}
 use Rattle.art_tree.specs.Plan.{texts_of}
 use Rattle.art_tree.specs.Refusals.{fault_at}
 use Rattle.art_tree.proofs.loading.check.refusal_of.Given as goal
 
--- no entry so far has a fault
+-- the entries so far have no fault, and their keys were read
 abbrev pub invariant-loop-index : goal.invariant-loop-index
-invariant-loop-index g l = (earlier : ℕ) → earlier < l.index → fault_at (texts_of g.K.AsBytes.text l.entries) earlier ≡ None
+invariant-loop-index g l = record {
+  no_fault : (earlier : ℕ) → earlier < l.index → fault_at (texts_of g.K.AsBytes.text l.entries) earlier ≡ None;
+  keys : (earlier : ℕ) (other : g.row.K.Denot × g.row.V.Denot) → earlier < l.index → g.K.AsBytes.is_key (get_or l.entries earlier other).0;
+}

@@ -1,14 +1,21 @@
 use Rattle.std.proofs.Common.{[]}
 use Rattle.art_tree.specs.Plan.{texts_of}
 use Rattle.art_tree.proofs.DictionaryLemmas.{alone-loaded, loaded-entry, loaded-text}
+use Rattle.art_tree.proofs.KeyLemmas.{keys-loaded}
 use Rattle.art_tree.proofs.RefusalLemmas.{each-short}
 use Rattle.art_tree.proofs.tree.ArtTree+K+V+PREFIX_LEN.load.Goals as goal
 
 pub invariant_of-result : goal.invariant_of-result
 invariant_of-result g c =
+    let text = g.K.AsBytes.text in
+    let new = c.load.new.arena in
+    let entries = c.args.entries.items in
     let loaded = c.in-Ok.ensures.loaded in
-    let short = each-short (texts_of g.K.AsBytes.text c.args.entries.items) c.in-Ok.ensures.no_fault in
-    (loaded.0, alone-loaded g.K.AsBytes.text c.load.new.arena c.new-arena.result c.new-arena.ensures c.args.entries.items c.in-Ok.root loaded.0 loaded.1 short)
+    let short = each-short (texts_of text entries) c.in-Ok.ensures.no_fault in
+    let alone = alone-loaded text new c.new-arena.result c.new-arena.ensures entries c.in-Ok.root loaded.0 loaded.1 short in
+    let held = loaded-entry text new c.new-arena.result c.new-arena.ensures entries c.in-Ok.root loaded.0 loaded.1 short (c.no_text_begins_another.ensures [] loaded.0 loaded.1.is_tree.sound) in
+    let no_others = loaded-text text new c.new-arena.result c.new-arena.ensures entries c.in-Ok.root loaded.0 loaded.1 short in
+    ((loaded.0, alone), keys-loaded text g.K.AsBytes.is_key new entries c.in-Ok.ensures.keys held no_others)
 
 pub returns-in-Ok-clause-entries : goal.returns-in-Ok-clause-entries
 returns-in-Ok-clause-entries g c =

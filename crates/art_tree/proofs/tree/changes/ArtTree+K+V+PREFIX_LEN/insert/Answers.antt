@@ -1,10 +1,19 @@
 use Rattle.std.proofs.Common.{◌∙◌, ap}
 use Rattle.art_tree.specs.Dictionary.{entry_at}
 use Rattle.art_tree.proofs.Growing.{art-same}
+use Rattle.art_tree.proofs.KeyLemmas.{keys-entered, keys-same}
 use Rattle.art_tree.proofs.tree.changes.ArtTree+K+V+PREFIX_LEN.insert.Goals as goal
 
 pub invariant_of-self : goal.invariant_of-self
-invariant_of-self g c = art-same g.K.AsBytes.text c.self.inside.arena c.insert_entry.new.arena c.in_err-root.ensures.nodes_kept c.self.inside.root c.self.invariant
+invariant_of-self g c =
+    let text = g.K.AsBytes.text in
+    let old = c.self.inside.arena in
+    let new = c.insert_entry.new.arena in
+    (art-same text old new c.in_err-root.ensures.nodes_kept c.self.inside.root c.self.invariant.0, keys-same text g.K.AsBytes.is_key old new c.self.invariant.1 c.in_err-root.ensures.same_entries)
+
+pub invariant_of-self-2 : goal.invariant_of-self-2
+invariant_of-self-2 g c =
+    (c.in_ok-root.ensures.art, keys-entered g.K.AsBytes.text g.K.AsBytes.is_key c.self.inside.arena c.insert_entry.new.arena c.self.invariant.1 c.args.key c.args.value c.in_ok-root.ensures.entered c.in_ok-root.ensures.is_key)
 
 pub returns-clause-others : goal.returns-clause-others
 returns-clause-others g c = λ other differ. c.in_ok-root.ensures.entered.others other differ ∙ ap (λ seen. entry_at g.K.AsBytes.text seen.arena other) c.self.view_is

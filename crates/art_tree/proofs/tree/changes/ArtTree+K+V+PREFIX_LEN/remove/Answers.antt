@@ -4,23 +4,28 @@ use Rattle.art_tree.specs.Dictionary.{entry_at}
 use Rattle.art_tree.specs.Removing.{IsLeft}
 use Rattle.art_tree.proofs.DictionaryLemmas.{empty-entry}
 use Rattle.art_tree.proofs.Growing.{art-same}
+use Rattle.art_tree.proofs.KeyLemmas.{keys-left, keys-same}
 use Rattle.art_tree.proofs.RemovalLemmas.{if-some}
 use Rattle.art_tree.proofs.tree.changes.ArtTree+K+V+PREFIX_LEN.remove.Goals as goal
 
 pub returns-in_default-clause-removed : goal.returns-in_default-clause-removed
 returns-in_default-clause-removed g c =
     let text = g.K.AsBytes.text in
-    let nothing = subst (IsArt text c.self.inside.arena) c.in_default.is c.self.invariant in
+    let nothing = subst (IsArt text c.self.inside.arena) c.in_default.is c.self.invariant.0 in
     sym (empty-entry text c.self.inside.arena nothing c.args.key.now) ∙ ap (λ seen. entry_at text seen.arena c.args.key.now) c.self.view_is
 
 pub returns-in_default-clause-gone : goal.returns-in_default-clause-gone
 returns-in_default-clause-gone g c =
     let text = g.K.AsBytes.text in
-    let nothing = subst (IsArt text c.self.inside.arena) c.in_default.is c.self.invariant in
+    let nothing = subst (IsArt text c.self.inside.arena) c.in_default.is c.self.invariant.0 in
     ap (λ seen. entry_at text seen.arena c.args.key.now) (sym c.self.view_is) ∙ empty-entry text c.self.inside.arena nothing c.args.key.now
 
 pub invariant_of-self : goal.invariant_of-self
-invariant_of-self g c = art-same g.K.AsBytes.text c.self.inside.arena c.remove_entry.new.arena c.in_err-root.ensures.nodes_kept c.self.inside.root c.self.invariant
+invariant_of-self g c =
+    let text = g.K.AsBytes.text in
+    let old = c.self.inside.arena in
+    let new = c.remove_entry.new.arena in
+    (art-same text old new c.in_err-root.ensures.nodes_kept c.self.inside.root c.self.invariant.0, keys-same text g.K.AsBytes.is_key old new c.self.invariant.1 c.in_err-root.ensures.same_entries)
 
 pub returns-clause-others : goal.returns-clause-others
 returns-clause-others g c = λ other differ.
