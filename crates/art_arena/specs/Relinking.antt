@@ -1,4 +1,4 @@
--- What the steps of a link call do.
+-- What the steps of a link call do. No public clause cites it.
 use Rattle.std.specs.Prelude.{◌≡◌, ◌≢◌, ℕ, Option, Some}
 use Rattle.art_arena.specs.Arena.{ArenaOf}
 use Rattle.art_arena.specs.Links.{leaf_at, previous_at, next_at, SameButLinks}

@@ -10,10 +10,15 @@ use std::marker::Model;
 /// A reference to a node of one of five types.
 #[derive_where(Clone, Copy)]
 pub enum AnyRef<'a, A, B, C, D, L> {
+    /// An inner node of kind `Node4`.
     Node4(&'a A),
+    /// An inner node of kind `Node16`.
     Node16(&'a B),
+    /// An inner node of kind `Node48`.
     Node48(&'a C),
+    /// An inner node of kind `Node256`.
     Node256(&'a D),
+    /// A leaf.
     LeafNode(&'a L),
 }
 

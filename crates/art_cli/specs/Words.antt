@@ -1,4 +1,4 @@
--- The words of a line, as far as a command may have them.
+-- The words of a line, as far as a command may have them. No public clause cites it.
 use Rattle.std.specs.Prelude.{◌≡◌, ℕ, ◌≤◌, List, [], ◌∷◌, length}
 use Rattle.art_cli.specs.declared.replay.parse.Words.{Words}
 use Rattle.art_cli.specs.declared.replay.parse.Words.TheVariants.{One, Two, Three, More}

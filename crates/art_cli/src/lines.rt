@@ -1,4 +1,4 @@
-//! Lines of the input, of both programs.
+//! Lines of the input, for `replay` and for `find`.
 ghost use Rattle.std.specs.Prelude.{◌≡◌, ◌==◌, ◌<◌, ◌∷◌, length, position, IfSome};
 ghost use Rattle.art_cli.specs.Lines.{lines_of};
 

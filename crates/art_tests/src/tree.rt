@@ -1,4 +1,4 @@
-//! Trees from `load`, and what is answered about them.
+//! Trees from `load` and from inserts and removals, and what is answered about them.
 mod changes;
 mod composite;
 mod dictionary;

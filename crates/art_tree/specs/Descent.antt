@@ -1,4 +1,4 @@
--- One step of a search, as the node alone tells it.
+-- One step of a search, as the node alone tells it. No public clause cites it.
 use Rattle.std.specs.Prelude.{◌≡◌, ℕ, ◌+◌, true, List, drop, Some, None, slice_get}
 use Rattle.art_nodes.specs.ChildMap.{child_at}
 use Rattle.art_nodes.specs.Inner.{Inner}

@@ -1,4 +1,4 @@
--- Trees on their way from a plan into an arena.
+-- Trees on their way from a plan into an arena. No public clause cites it.
 use Rattle.std.specs.Prelude.{◌≡◌, ◌≢◌, ℕ, ◌+◌, ◌<◌, ◌≤◌, List, map, length, take, slice_index_or}
 use Rattle.art_header.specs.Header.{capped}
 use Rattle.art_header.specs.declared.node_type.NodeType.{NodeType}

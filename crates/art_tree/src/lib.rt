@@ -1,4 +1,5 @@
-//! Trees over an arena of nodes: their paths, load and search.
+//! Trees over an arena of nodes: paths, load, search, and [`ArtTree`], a tree with its arena under
+//! inserts and removals.
 //!
 //! The crate has every public name of the crates below it, so that whoever uses trees names it alone.
 #![tactic(auto)]

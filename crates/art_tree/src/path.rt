@@ -41,8 +41,8 @@ enum Visited {
 /// Remembers the last two inner nodes that a search visits, each with the byte taken from it.
 #[derive(Drop)]
 pub struct TreePathSearch<K, V, const PREFIX_LEN: usize> {
-    // Which of the nodes below are visited. A path is made of them at the end alone, since each copy
-    // of one would move its padding too.
+    // How many of the two nodes below are visited. Only `finish` makes a path of them: one that were
+    // kept here would be copied whole at each visit, its padding too.
     visited: Visited,
     grandparent: OpaqueNodePtr<K, V, PREFIX_LEN>,
     parent_key_byte: u8,

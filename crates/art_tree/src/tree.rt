@@ -21,10 +21,11 @@ use art_nodes::OpaqueNodePtr;
 use std::alloc::Global;
 use std::marker::Model;
 
-/// What contracts ask of an arena and the root of its tree, if it has one.
+/// What a [`Rooted`] keeps true of its arena and its root. [`NodeArena`] has it.
 pub trait HoldsOneTree<R>: Sized {
     ghost use Rattle.std.specs.Prelude.{Option};
 
+    /// The arena holds the tree at this root, if there is one, and nothing else.
     ghost holds_one_tree: { Self → Option R → Type 0 };
 }
 
@@ -78,8 +79,8 @@ impl<K: AsBytes, V, const PREFIX_LEN: usize> ArtTree<K, V, PREFIX_LEN> {
         }
     }
 
-    /// The value of the entry with this text, or None where there is none. It looks at one node more
-    /// than the key has bytes at most, and takes no memory.
+    /// The value of the entry with this text, or None where there is none. It costs one [`find_leaf`],
+    /// which looks at one node more than the key has bytes at most, and takes no memory.
     pub fn get(&self, key: &[u8]) -> Option<&V>
         ensures { option_copied result
             ≡ option_map (λ entry. entry.1) (entry_at K.text self.now.arena key.now) }
@@ -149,8 +150,11 @@ impl<K: AsBytes, V, const PREFIX_LEN: usize> ArtTree<K, V, PREFIX_LEN> {
 }
 
 impl<K: AsBytes + Drop, V: Drop, const PREFIX_LEN: usize> ArtTree<K, V, PREFIX_LEN> {
-    /// A tree of these entries, whose keys have to ascend and of which none may be a front of
-    /// another. Else, and where there is no memory, they come back as [`load`] gives them back.
+    /// A tree of these entries. There has to be one; their keys have fewer than 2^32 bytes and ascend,
+    /// and none is a front of another. Else, and where memory is refused, they come back as [`load`]
+    /// gives them back.
+    ///
+    /// Takes time linear in the bytes of all keys together.
     pub fn load(alloc: Global, entries: Vec<(K, V)>) -> Result<Self, LoadFault<K, V>>
         ensures entries { IfOk result (λ tree. All (IsEntry K.text tree.arena) entries.items) }
         ensures no_others { IfOk result (λ tree. (key : List ℕ) →

@@ -1,9 +1,12 @@
-// How a crate uses `art_tree`: values that are loaded once and read by key.
-ghost use Rattle.std.specs.Prelude.{◌≡◌, ◌↔◌, [], None, IsNone, IsTrue, IfSome};
+// How a crate uses `art_tree`: values that are loaded once and read by key, and values that are put
+// into a tree and taken out of it.
+ghost use Rattle.std.specs.Prelude.{◌≡◌, ◌≢◌, ◌↔◌, [], None, IsNone, IsTrue, IfSome, IfErr};
 ghost use Rattle.art_tree.specs.Dictionary.{entry_at, IsEntry};
 ghost use Rattle.art_tree.specs.Search.{HasTree, EachTree, scan};
+ghost use Rattle.art_tree.specs.declared.insert.InsertRefusal.TheVariants.{Prefix};
 
 use super::*;
+use art_tree::{InsertFault, InsertRefusal, NoPrefixesBytes};
 
 /// The root of a tree of these entries, where they are in order and memory is found.
 fn table<K: AsBytes + Drop, V: Drop, const PREFIX_LEN: usize>(
@@ -75,5 +78,38 @@ fn a_metal_comes_and_goes(rt: HostRuntime) -> Result<(), Fail> {
     assert!(rt; tree.get(b"iron") == Some(&26));
     assert!(rt; forget(&mut tree, b"iron"));
     assert!(rt; tree.get(b"iron").is_none());
+    Ok(())
+}
+
+/// Puts a value under a key of a type without prefixes. No such key is in another one's way.
+fn put_apart<K: NoPrefixesBytes + Drop, V: Drop, const PREFIX_LEN: usize>(
+    tree: &mut ArtTree<K, V, PREFIX_LEN>,
+    key: K,
+    value: V,
+) -> Result<Option<(K, V)>, InsertFault<K, V>>
+    ensures { IfErr result (λ fault. fault.refusal ≢ Prefix) }
+{
+    laws::keys_without_prefixes_never_clash::<K, V, PREFIX_LEN>();
+    let _ = tree.arena();
+    let _ = key.as_bytes();
+    tree.insert(key, value)
+}
+
+#[test]
+fn addresses_stand_beside_each_other(rt: HostRuntime) -> Result<(), Fail> {
+    let alloc = rt.alloc();
+    let mut tree = ArtTree::<[u8; 4], u16, 2>::new(alloc);
+    for (address, port) in [
+        ([127, 0, 0, 1], 22),
+        ([127, 0, 0, 2], 80),
+        ([127, 0, 0, 1], 443),
+    ] {
+        if let Err(fault) = put_apart(&mut tree, address, port) {
+            assert!(rt; fault.refusal == InsertRefusal::OutOfMemory);
+            return Err(AllocError.into());
+        }
+    }
+    assert!(rt; tree.get(&[127, 0, 0, 1]) == Some(&443));
+    assert!(rt; tree.get(&[127, 0, 0, 2]) == Some(&80));
     Ok(())
 }

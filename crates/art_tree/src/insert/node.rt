@@ -82,6 +82,7 @@ pub(crate) fn reserve_growth<K, V, const PREFIX_LEN: usize>(
     let grown = match pointer.node_type() {
         NodeType::Node4 => NodeType::Node16,
         NodeType::Node16 => NodeType::Node48,
+        // A leaf is never full, and no byte is new to a full Node256.
         NodeType::Node48 | NodeType::Node256 | NodeType::Leaf => NodeType::Node256,
     };
     arena.reserve(grown, 1)

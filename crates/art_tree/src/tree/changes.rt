@@ -18,6 +18,9 @@ impl<K: AsBytes, V, const PREFIX_LEN: usize> ArtTree<K, V, PREFIX_LEN> {
     /// Refused, for the first of these that holds: a key of 2^32 bytes or more, a key that is a proper
     /// front of one that is there or the reverse, and want of memory, which is met only where the
     /// text has no entry. Then key and value come back, and the tree is as before.
+    ///
+    /// It goes down to the key's place, and once more to a leaf beside it. A prefix on the way that is
+    /// longer than `PREFIX_LEN` is read from a leaf below it.
     pub fn insert(&mut self, key: K, value: V) -> Result<Option<(K, V)>, InsertFault<K, V>>
         ensures replaced { IfOk result
             (λ before. before ≡ entry_at K.text self.old.arena (K.text key)) }
@@ -41,6 +44,9 @@ impl<K: AsBytes, V, const PREFIX_LEN: usize> ArtTree<K, V, PREFIX_LEN> {
     ///
     /// Memory is asked for only where the entry's leaf hangs in an inner node of 5, 17 or 49 children,
     /// since a node of a smaller kind takes its place. Where that is refused, the tree is as before.
+    ///
+    /// It looks for the entry as [`get`](Self::get) does. Then it changes the leaf's neighbours and at
+    /// most three inner nodes: the two above the leaf, and the one that takes its parent's place.
     pub fn remove(&mut self, key: &[u8]) -> Result<Option<(K, V)>, AllocError>
         ensures removed { IfOk result (λ entry. entry ≡ entry_at K.text self.old.arena key.now) }
         ensures gone { OnOk result (entry_at K.text self.new.arena key.now ≡ None) }
