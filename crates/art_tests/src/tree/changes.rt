@@ -297,12 +297,42 @@ fn insert_at_last(rt: &impl Abort, tree: &mut ArtTree<[u8; 1], u8, 0>, byte: u8)
 }
 
 #[test]
-fn refused_changes_leave_the_tree(rt: HostRuntime) {
+fn a_refused_insert_leaves_the_tree(rt: HostRuntime) {
     let mut tree = ArtTree::<[u8; 1], u8, 0>::new(rt.alloc());
     for byte in 0..5u8 {
         insert_at_last(&rt, &mut tree, byte);
     }
     check_five(&rt, &tree, 5);
+}
+
+// A tree of five keys, if there is memory for them. Where the load is refused it, they come back, and
+// a second load takes them.
+fn load_at_last(rt: &impl Abort, alloc: Global) -> Option<ArtTree<[u8; 1], u8, 0>> {
+    let mut entries = Vec::new(alloc);
+    for byte in 0..5u8 {
+        if entries.push(([byte], byte)).is_err() {
+            return None;
+        }
+    }
+    let fault = match ArtTree::load(alloc, entries) {
+        Ok(tree) => return Some(tree),
+        Err(fault) => fault,
+    };
+    assert!(rt; fault.refusal == LoadRefusal::OutOfMemory);
+    assert_eq!(rt; fault.entries.len(), 5);
+    let Ok(tree) = ArtTree::load(alloc, fault.entries) else {
+        panic!(rt; "refused twice");
+    };
+    Some(tree)
+}
+
+#[test]
+fn a_refused_removal_leaves_the_tree(rt: HostRuntime) {
+    let Some(mut tree) = load_at_last(&rt, rt.alloc()) else {
+        return;
+    };
+    check_five(&rt, &tree, 5);
+    // The root is a Node16, and the arena has no room for the Node4 that takes its place.
     if tree.remove(&[4]).is_err() {
         check_five(&rt, &tree, 5);
         assert!(rt; tree.remove(&[4]).is_ok());
