@@ -13,3 +13,6 @@ returns-in-Ok-write_out-clause-success_is_quiet g c _ = keeps_itself (g.E.Write.
 
 pub returns-clause-answers : goal.returns-clause-answers
 returns-clause-answers g c zero = absurd (omega (arith, zero, c.report-in-Err-write_out.ensures, c.from.ensures.0))
+
+pub returns-in-Ok-write_out-clause-status : goal.returns-in-Ok-write_out-clause-status
+returns-in-Ok-write_out-clause-status g c = omega arith
