@@ -214,16 +214,30 @@ impl Read for FailingReader {
     }
 }
 
-// Takes one byte a write, as long as there is room.
+// Takes one byte a write, as long as there is room. Every other write is interrupted.
 #[derive(Drop)]
 struct NarrowWriter {
     taken: Vec<u8>,
     room: usize,
     can_flush: bool,
+    is_interrupted: bool,
+}
+
+fn narrow_writer(alloc: Global, room: usize, can_flush: bool) -> NarrowWriter {
+    NarrowWriter {
+        taken: Vec::new(alloc),
+        room,
+        can_flush,
+        is_interrupted: false,
+    }
 }
 
 impl Write for NarrowWriter {
     fn write(&mut self, buf: &[u8]) -> io::Result<usize> {
+        self.is_interrupted = !self.is_interrupted;
+        if self.is_interrupted {
+            return Err(io::Error::from(io::ErrorKind::Interrupted));
+        }
         if self.taken.len() >= self.room || buf.is_empty() {
             return Err(io::Error::other("no room"));
         }
@@ -279,11 +293,7 @@ fn a_failed_write_or_flush_has_status_one(rt: HostRuntime) -> Result<(), Fail> {
     for (room, can_flush, taken, told, wanted) in cases {
         let words = words(rt.alloc(), &["replay"])?;
         let mut input = b"w 1 1\n".as_slice();
-        let mut output = NarrowWriter {
-            taken: Vec::new(rt.alloc()),
-            room,
-            can_flush,
-        };
+        let mut output = narrow_writer(rt.alloc(), room, can_flush);
         let mut errors = Vec::new(rt.alloc());
         let status = run(rt.alloc(), &words, &mut input, &mut output, &mut errors);
         assert_eq!(rt; output.taken.as_slice(), taken.as_bytes());
@@ -294,15 +304,35 @@ fn a_failed_write_or_flush_has_status_one(rt: HostRuntime) -> Result<(), Fail> {
 }
 
 #[test]
+fn a_long_output_goes_out_byte_by_byte(rt: HostRuntime) -> Result<(), Fail> {
+    let words = words(rt.alloc(), &["replay"])?;
+    let mut input = String::new(rt.alloc());
+    for _ in 0..500 {
+        input.push_str("r 0\n")?;
+    }
+    let mut wanted = nones(rt.alloc(), 500)?;
+    wanted.push_str("node Node4 0\n")?;
+    let mut output = narrow_writer(rt.alloc(), wanted.len(), true);
+    let mut errors = Vec::new(rt.alloc());
+    let status = run(
+        rt.alloc(),
+        &words,
+        &mut input.as_bytes(),
+        &mut output,
+        &mut errors,
+    );
+    assert_eq!(rt; output.taken.as_slice(), wanted.as_bytes());
+    assert_eq!(rt; errors.as_slice(), b"".as_slice());
+    assert_eq!(rt; status, 0);
+    Ok(())
+}
+
+#[test]
 fn a_failed_report_changes_no_status(rt: HostRuntime) -> Result<(), Fail> {
     let words = words(rt.alloc(), &["replay"])?;
     let mut input = b"w 1".as_slice();
     let mut output = Vec::new(rt.alloc());
-    let mut errors = NarrowWriter {
-        taken: Vec::new(rt.alloc()),
-        room: 4,
-        can_flush: true,
-    };
+    let mut errors = narrow_writer(rt.alloc(), 4, true);
     let status = run(rt.alloc(), &words, &mut input, &mut output, &mut errors);
     assert_eq!(rt; output.as_slice(), b"".as_slice());
     assert_eq!(rt; errors.taken.as_slice(), b"line".as_slice());
