@@ -4,7 +4,7 @@ use Rattle.art_tree.specs.Dictionary.{entry_at}
 use Rattle.art_tree.specs.Removing.{IsLeft}
 use Rattle.art_tree.proofs.DictionaryLemmas.{empty-entry}
 use Rattle.art_tree.proofs.Growing.{art-same}
-use Rattle.art_tree.proofs.KeyLemmas.{keys-left, keys-same}
+use Rattle.art_tree.proofs.KeyLemmas.{keys-same}
 use Rattle.art_tree.proofs.RemovalLemmas.{if-some}
 use Rattle.art_tree.proofs.tree.changes.ArtTree+K+V+PREFIX_LEN.remove.Goals as goal
 
