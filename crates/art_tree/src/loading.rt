@@ -44,8 +44,9 @@ struct Prepared<K, V, const PREFIX_LEN: usize> {
 /// their order, and above them inner nodes, each of the smallest kind that holds its children.
 ///
 /// No entries at all, and a key of 2^32 bytes or more, are refused too. Refused entries come back as
-/// they were, with every node as it was. The lowest entry at fault decides, and at one entry the fault that [`LoadRefusal`] lists first. Want of memory is answered
-/// only where the entries have no fault, and before any of them is moved.
+/// they were, with every node as it was. The lowest entry at fault decides, and at one entry the
+/// fault that [`LoadRefusal`] lists first. Want of memory is answered only where the entries have no
+/// fault, and before any of them is moved.
 ///
 /// Takes time linear in the bytes of all keys together.
 pub fn load<K: AsBytes, V, const PREFIX_LEN: usize>(

@@ -25,7 +25,8 @@ use std::marker::Model;
 pub trait HoldsOneTree<R>: Sized {
     ghost use Rattle.std.specs.Prelude.{Option};
 
-    /// The arena holds the tree at this root, if there is one, and nothing else.
+    /// The arena holds the tree at this root, if there is one, and nothing else, and the laws of keys
+    /// speak of each of its keys.
     ghost holds_one_tree: { Self → Option R → Type 0 };
 }
 

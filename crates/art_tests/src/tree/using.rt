@@ -90,6 +90,7 @@ fn put_apart<K: NoPrefixesBytes + Drop, V: Drop, const PREFIX_LEN: usize>(
     ensures { IfErr result (λ fault. fault.refusal ≢ Prefix) }
 {
     laws::keys_without_prefixes_never_clash::<K, V, PREFIX_LEN>();
+    // These two tell that the laws of keys speak of the tree's keys, and of this one.
     let _ = tree.arena();
     let _ = key.as_bytes();
     tree.insert(key, value)
