@@ -1,5 +1,7 @@
 -- What a reader shows.
 use Rattle.std.specs.Prelude.{ℕ}
+use Rattle.art_header.specs.declared.node_type.NodeType.{NodeType}
+use Rattle.art_header.specs.declared.node_type.NodeType.TheVariants as kinds
 use Rattle.art_nodes.specs.Inner.{Inner}
 use Rattle.art_nodes.specs.declared.pointers.OpaqueNodePtr.{OpaqueNodePtr}
 use Rattle.art_nodes.specs.declared.leaf_node.LeafNode as leaf
@@ -15,3 +17,11 @@ module _ {K V : Type 0} {P : ℕ} where
   shown (Node48 node) = HeldInner node.now
   shown (Node256 node) = HeldInner node.now
   shown (LeafNode leaf) = HeldLeaf leaf.now
+
+  -- the kind of the node behind a reference
+  abbrev pub shown_kind : AnyRef (Inner (OpaqueNodePtr K V P)) (Inner (OpaqueNodePtr K V P)) (Inner (OpaqueNodePtr K V P)) (Inner (OpaqueNodePtr K V P)) (leaf.LeafNode K V P) → NodeType
+  shown_kind (Node4 node) = kinds.Node4
+  shown_kind (Node16 node) = kinds.Node16
+  shown_kind (Node48 node) = kinds.Node48
+  shown_kind (Node256 node) = kinds.Node256
+  shown_kind (LeafNode leaf) = kinds.Leaf

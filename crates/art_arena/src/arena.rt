@@ -8,7 +8,7 @@ ghost use Rattle.art_nodes.specs.Inner.{with_prefix};
 ghost use Rattle.art_nodes.specs.Leaf.{leaf_key, leaf_value, with_value};
 ghost use Rattle.art_nodes.specs.Pointers.{slab_key, node_kind};
 ghost use Rattle.art_arena.specs.Links.{HoldsLeaf, leaf_at, with_value_at};
-ghost use Rattle.art_arena.specs.Reader.{shown};
+ghost use Rattle.art_arena.specs.Reader.{shown, shown_kind};
 ghost use Rattle.art_arena.specs.Lending.{slab_row, LendsNode, LendsValue};
 ghost use Rattle.art_arena.specs.Arena.{held, held_option, pointer_to, Nothing, HeldInner, HeldLeaf, held_header, Changes, SameNodes, room, SameRoom, SameOtherRoom, with_node};
 
@@ -83,7 +83,11 @@ pub trait ArenaNode<K, V, const PREFIX_LEN: usize>: Node<PREFIX_LEN, Key = K, Va
     ghost use Rattle.art_nodes.specs.declared.leaf_node.LeafNode.{LeafNode};
     ghost use Rattle.art_header.specs.declared.node_type.NodeType.{NodeType};
 
+    /// The node, as contracts see what an arena holds.
     ghost held_as: { Self → Held (OpaqueNodePtr K V PREFIX_LEN) (LeafNode K V PREFIX_LEN) };
+
+    /// What is held is one node.
+    ghost one_node: { (a b : Self) → held_as a ≡ held_as b → a ≡ b };
 
     ghost held_in_slab: { (arena : ArenaOf K V PREFIX_LEN) (key : ℕ) →
         held_under arena Self.TYPE key ≡ held_option held_as (get (Self.slab_of arena) key) };
@@ -126,6 +130,8 @@ impl<K, V, const PREFIX_LEN: usize> ArenaNode<K, V, PREFIX_LEN> for InnerNode4<K
 
     ghost held_as = { HeldInner };
 
+    ghost one_node = { λ a b same. Prim.cc };
+
     ghost held_where_contained = { Prim.search rules };
 
     ghost held_in_slab = { Prim.search rules };
@@ -160,6 +166,8 @@ impl<K, V, const PREFIX_LEN: usize> ArenaNode<K, V, PREFIX_LEN> for InnerNode16<
 
     ghost held_as = { HeldInner };
 
+    ghost one_node = { λ a b same. Prim.cc };
+
     ghost held_where_contained = { Prim.search rules };
 
     ghost held_in_slab = { Prim.search rules };
@@ -193,6 +201,8 @@ impl<K, V, const PREFIX_LEN: usize> ArenaNode<K, V, PREFIX_LEN> for InnerNode48<
     ghost use Rattle.std.proofs.Common.{rules};
 
     ghost held_as = { HeldInner };
+
+    ghost one_node = { λ a b same. Prim.cc };
 
     ghost held_where_contained = { Prim.search rules };
 
@@ -229,6 +239,8 @@ impl<K, V, const PREFIX_LEN: usize> ArenaNode<K, V, PREFIX_LEN>
 
     ghost held_as = { HeldInner };
 
+    ghost one_node = { λ a b same. Prim.cc };
+
     ghost held_where_contained = { Prim.search rules };
 
     ghost held_in_slab = { Prim.search rules };
@@ -262,6 +274,8 @@ impl<K, V, const PREFIX_LEN: usize> ArenaNode<K, V, PREFIX_LEN> for LeafNode<K, 
     ghost use Rattle.std.proofs.Common.{rules};
 
     ghost held_as = { HeldLeaf };
+
+    ghost one_node = { λ a b same. Prim.cc };
 
     ghost held_where_contained = { Prim.search rules };
 
@@ -547,6 +561,7 @@ impl<K, V, const PREFIX_LEN: usize> NodeArena<K, V, PREFIX_LEN> {
     ) -> NodeRef<'_, K, V, PREFIX_LEN>
         requires { held self.now pointer ≢ Nothing }
         ensures node { held self.now pointer ≡ shown result }
+        ensures kind { shown_kind result ≡ node_kind pointer }
     {
         match pointer.to_node_ptr() {
             ConcreteNodePtr::Node4(node) => AnyRef::Node4(self.node4.get(node.key()).unwrap()),

@@ -1,7 +1,8 @@
 //! A reader: a way to the nodes of an arena that counts how often it is used.
 ghost use Rattle.std.specs.Prelude.{◌≡◌, ◌≢◌, ◌<◌, ◌+◌};
 ghost use Rattle.art_arena.specs.Arena.{held, Nothing};
-ghost use Rattle.art_arena.specs.Reader.{shown};
+ghost use Rattle.art_nodes.specs.Pointers.{node_kind};
+ghost use Rattle.art_arena.specs.Reader.{shown, shown_kind};
 
 use crate::arena::NodeArena;
 use art_nodes::{InnerNode4, InnerNode16, InnerNode48, InnerNodeDirect, LeafNode, OpaqueNodePtr};
@@ -76,6 +77,7 @@ impl<'a, K, V, const PREFIX_LEN: usize> ArenaReader<'a, K, V, PREFIX_LEN> {
         requires held { held self.old.arena pointer ≢ Nothing }
         requires budget { 0 < self.old.budget }
         ensures node { held self.old.arena pointer ≡ shown result }
+        ensures kind { shown_kind result ≡ node_kind pointer }
         ensures counted { self.new.budget + 1 ≡ self.old.budget }
         ensures same_arena { self.new.arena ≡ self.old.arena }
     {

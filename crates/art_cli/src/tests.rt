@@ -9,6 +9,11 @@ use std::test::Fail;
 
 const USAGE: &str = "usage: artnodes replay | artnodes find 0|2|16\n";
 
+const COMMANDS: &str = "w 3 1\nw 255 2\nw 0 3\nw 85 4\nw 3 9\nmin\nrange e0 e255\nrange e80 i0\n\
+    range e255 i255\nr 7\n";
+
+const SEARCHES: &str = "+abc1\n+abc2\n?abc2\n?abd2\n?abc\n?\n?abc22\n";
+
 fn words(alloc: Global, texts: &[&str]) -> Result<Vec<String>, AllocError> {
     let mut words = Vec::new(alloc);
     for text in texts {
@@ -32,9 +37,9 @@ fn check(rt: &impl Abort, alloc: Global, texts: &[&str], case: &Case) -> Result<
     let mut output = Vec::new(alloc);
     let mut errors = Vec::new(alloc);
     let status = run(alloc, &words, &mut input, &mut output, &mut errors);
-    assert_eq!(rt; output.as_slice(), case.output.as_bytes());
-    assert_eq!(rt; errors.as_slice(), case.errors.as_bytes());
-    assert_eq!(rt; status, case.status);
+    assert!(rt; output.as_slice() == case.output.as_bytes());
+    assert!(rt; errors.as_slice() == case.errors.as_bytes());
+    assert!(rt; status == case.status);
     Ok(())
 }
 
@@ -60,11 +65,9 @@ fn refuses(rt: &impl Abort, alloc: Global, input: &[u8], errors: &str) -> Result
 
 #[test]
 fn replies_line_by_line(rt: HostRuntime) -> Result<(), Fail> {
-    let input = "w 3 1\nw 255 2\nw 0 3\nw 85 4\nw 3 9\nmin\nrange e0 e255\nrange e80 i0\n\
-        range e255 i255\nr 7\n";
     let output = "child none\nchild none\nchild none\nchild none\nchild 1\npair 0 3\n\
         pairs 3:9 85:4\ninvalid bounds\npairs\nchild none\nnode Node4 4\n";
-    answers(&rt, rt.alloc(), input, output)
+    answers(&rt, rt.alloc(), COMMANDS, output)
 }
 
 #[test]
@@ -214,12 +217,13 @@ impl Read for FailingReader {
     }
 }
 
-// Takes one byte a write, as long as there is room. Every other write is interrupted.
+// Takes one byte a write, as long as there is room. Every other write is interrupted where any is.
 #[derive(Drop)]
 struct NarrowWriter {
     taken: Vec<u8>,
     room: usize,
     can_flush: bool,
+    can_be_interrupted: bool,
     is_interrupted: bool,
 }
 
@@ -228,13 +232,14 @@ fn narrow_writer(alloc: Global, room: usize, can_flush: bool) -> NarrowWriter {
         taken: Vec::new(alloc),
         room,
         can_flush,
+        can_be_interrupted: true,
         is_interrupted: false,
     }
 }
 
 impl Write for NarrowWriter {
     fn write(&mut self, buf: &[u8]) -> io::Result<usize> {
-        self.is_interrupted = !self.is_interrupted;
+        self.is_interrupted = self.can_be_interrupted && !self.is_interrupted;
         if self.is_interrupted {
             return Err(io::Error::from(io::ErrorKind::Interrupted));
         }
@@ -257,9 +262,10 @@ impl Write for NarrowWriter {
 #[test]
 fn a_failed_read_prints_nothing(rt: HostRuntime) -> Result<(), Fail> {
     // whether the reader fails at once, the words, the errors, the status
-    let cases: [(bool, &[&str], &str, u8); 3] = [
+    let cases: [(bool, &[&str], &str, u8); 4] = [
         (false, &["replay"], "device failed\n", 1),
         (true, &["replay"], "device failed\n", 1),
+        (true, &["find", "2"], "device failed\n", 1),
         (false, &["replay", "replay"], USAGE, 2),
     ];
     for (has_given, texts, told, wanted) in cases {
@@ -268,9 +274,9 @@ fn a_failed_read_prints_nothing(rt: HostRuntime) -> Result<(), Fail> {
         let mut output = Vec::new(rt.alloc());
         let mut errors = Vec::new(rt.alloc());
         let status = run(rt.alloc(), &words, &mut input, &mut output, &mut errors);
-        assert_eq!(rt; output.as_slice(), b"".as_slice());
-        assert_eq!(rt; errors.as_slice(), told.as_bytes());
-        assert_eq!(rt; status, wanted);
+        assert!(rt; output.as_slice() == b"".as_slice());
+        assert!(rt; errors.as_slice() == told.as_bytes());
+        assert!(rt; status == wanted);
     }
     Ok(())
 }
@@ -296,9 +302,35 @@ fn a_failed_write_or_flush_has_status_one(rt: HostRuntime) -> Result<(), Fail> {
         let mut output = narrow_writer(rt.alloc(), room, can_flush);
         let mut errors = Vec::new(rt.alloc());
         let status = run(rt.alloc(), &words, &mut input, &mut output, &mut errors);
-        assert_eq!(rt; output.taken.as_slice(), taken.as_bytes());
-        assert_eq!(rt; errors.as_slice(), told.as_bytes());
-        assert_eq!(rt; status, wanted);
+        assert!(rt; output.taken.as_slice() == taken.as_bytes());
+        assert!(rt; errors.as_slice() == told.as_bytes());
+        assert!(rt; status == wanted);
+    }
+    Ok(())
+}
+
+#[test]
+fn a_second_write_may_fail(rt: HostRuntime) -> Result<(), Fail> {
+    // the words, the input, the first byte of the output
+    let cases: [(&[&str], &str, u8); 2] = [
+        (&["replay"], COMMANDS, b'c'),
+        (&["find", "2"], SEARCHES, b'f'),
+    ];
+    for (texts, given, first) in cases {
+        let words = words(rt.alloc(), texts)?;
+        let mut output = narrow_writer(rt.alloc(), 1, true);
+        output.can_be_interrupted = false;
+        let mut errors = Vec::new(rt.alloc());
+        let status = run(
+            rt.alloc(),
+            &words,
+            &mut given.as_bytes(),
+            &mut output,
+            &mut errors,
+        );
+        assert!(rt; output.taken.as_slice() == [first].as_slice());
+        assert!(rt; errors.as_slice() == b"device failed\n".as_slice());
+        assert!(rt; status == 1);
     }
     Ok(())
 }
@@ -321,9 +353,9 @@ fn a_long_output_goes_out_byte_by_byte(rt: HostRuntime) -> Result<(), Fail> {
         &mut output,
         &mut errors,
     );
-    assert_eq!(rt; output.taken.as_slice(), wanted.as_bytes());
-    assert_eq!(rt; errors.as_slice(), b"".as_slice());
-    assert_eq!(rt; status, 0);
+    assert!(rt; output.taken.as_slice() == wanted.as_bytes());
+    assert!(rt; errors.as_slice() == b"".as_slice());
+    assert!(rt; status == 0);
     Ok(())
 }
 
@@ -334,8 +366,8 @@ fn a_failed_report_changes_no_status(rt: HostRuntime) -> Result<(), Fail> {
     let mut output = Vec::new(rt.alloc());
     let mut errors = narrow_writer(rt.alloc(), 4, true);
     let status = run(rt.alloc(), &words, &mut input, &mut output, &mut errors);
-    assert_eq!(rt; output.as_slice(), b"".as_slice());
-    assert_eq!(rt; errors.taken.as_slice(), b"line".as_slice());
-    assert_eq!(rt; status, 2);
+    assert!(rt; output.as_slice() == b"".as_slice());
+    assert!(rt; errors.taken.as_slice() == b"line".as_slice());
+    assert!(rt; status == 2);
     Ok(())
 }

@@ -128,7 +128,8 @@ impl<const PREFIX_LEN: usize> Header<PREFIX_LEN> {
     /// `new` has to have the bytes that are stored: `len` of them, or as many as there is room
     /// for. The length of the whole prefix stays below 2^32.
     pub fn push_prefix(&mut self, new: &[u8], len: usize)
-        requires has_stored_bytes { min len (PREFIX_LEN - capped PREFIX_LEN self.old.prefix_len) ≤ length new.now }
+        requires has_stored_bytes { min len (PREFIX_LEN - capped PREFIX_LEN self.old.prefix_len)
+            ≤ length new.now }
         requires fits { self.old.prefix_len + len < 2 ^ 32 }
         ensures { self.new ≡ with_more PREFIX_LEN self.old new.now len }
     {

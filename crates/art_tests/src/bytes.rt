@@ -77,9 +77,9 @@ fn bytes_through_a_key(bytes: &[u8]) -> &[u8]
 fn check_ascending<K: OrderedBytes>(rt: &impl Abort, keys: &[K]) {
     for (i, a) in keys.iter().enumerate() {
         for (j, b) in keys.iter().enumerate() {
-            assert_eq!(rt; a.cmp(b), i.cmp(&j), "keys {i} and {j}");
-            assert_eq!(rt; order_of_texts(a, b), i.cmp(&j), "texts {i} and {j}");
-            assert_eq!(rt; have_one_text(a, b), i == j, "texts {i} and {j}");
+            assert!(rt; a.cmp(b) == i.cmp(&j), "keys {i} and {j}");
+            assert!(rt; order_of_texts(a, b) == i.cmp(&j), "texts {i} and {j}");
+            assert!(rt; have_one_text(a, b) == (i == j), "texts {i} and {j}");
         }
     }
 }
@@ -88,7 +88,7 @@ fn check_ascending<K: OrderedBytes>(rt: &impl Abort, keys: &[K]) {
 fn check_no_fronts<K: NoPrefixesBytes>(rt: &impl Abort, keys: &[K]) {
     for (i, a) in keys.iter().enumerate() {
         for (j, b) in keys.iter().enumerate() {
-            assert_eq!(rt; has_front(a, b), i == j, "keys {i} and {j}");
+            assert!(rt; has_front(a, b) == (i == j), "keys {i} and {j}");
         }
     }
 }
@@ -96,27 +96,24 @@ fn check_no_fronts<K: NoPrefixesBytes>(rt: &impl Abort, keys: &[K]) {
 #[test]
 fn various_string_types_as_bytes(rt: HostRuntime) -> Result<(), Fail> {
     let string = String::from_str(rt.alloc(), "hello world")?;
-    assert_eq!(rt; text_of(&string), HELLO);
-    assert_eq!(rt; text_of(&StrKey::new("hello world")), HELLO);
-    assert_eq!(rt; string_through_a_key("hello world"), "hello world");
-    assert_eq!(rt;
-        text_of(&c_string(rt.alloc(), HELLO)?),
-        b"hello world\0".as_slice()
-    );
+    assert!(rt; text_of(&string) == HELLO);
+    assert!(rt; text_of(&StrKey::new("hello world")) == HELLO);
+    assert!(rt; string_through_a_key("hello world") == "hello world");
+    assert!(rt; text_of(&c_string(rt.alloc(), HELLO)?) == b"hello world\0".as_slice());
     Ok(())
 }
 
 #[test]
 fn various_wrapper_types_as_bytes(rt: HostRuntime) -> Result<(), Fail> {
     let slice = SliceKey::new(HELLO);
-    assert_eq!(rt; text_of(&slice), HELLO);
-    assert_eq!(rt; text_of(&&slice), HELLO);
-    assert_eq!(rt; text_of(&Box::new(rt.alloc(), slice)?), HELLO);
-    assert_eq!(rt; text_of(&Rc::new(rt.alloc(), slice)?), HELLO);
-    assert_eq!(rt; bytes_through_a_key(HELLO), HELLO);
+    assert!(rt; text_of(&slice) == HELLO);
+    assert!(rt; text_of(&&slice) == HELLO);
+    assert!(rt; text_of(&Box::new(rt.alloc(), slice)?) == HELLO);
+    assert!(rt; text_of(&Rc::new(rt.alloc(), slice)?) == HELLO);
+    assert!(rt; bytes_through_a_key(HELLO) == HELLO);
 
-    assert_eq!(rt; text_of(b"hello world"), HELLO);
-    assert_eq!(rt; text_of(&HELLO.to_vec(rt.alloc())?), HELLO);
+    assert!(rt; text_of(b"hello world") == HELLO);
+    assert!(rt; text_of(&HELLO.to_vec(rt.alloc())?) == HELLO);
     Ok(())
 }
 
@@ -174,11 +171,11 @@ fn wrapped_keys_compare_as_the_keys(rt: HostRuntime) -> Result<(), Fail> {
 fn borrowed_keys_hash_as_what_they_borrow(rt: HostRuntime) {
     let mut hasher = DefaultHasher::new();
     feed_str_key(&StrKey::new("hello world"), &mut hasher);
-    assert_eq!(rt; hasher.finish(), hash_of(&"hello world"));
+    assert!(rt; hasher.finish() == hash_of(&"hello world"));
 
     let mut hasher = DefaultHasher::new();
     feed_slice_key(&SliceKey::new(HELLO), &mut hasher);
-    assert_eq!(rt; hasher.finish(), hash_of(&HELLO));
+    assert!(rt; hasher.finish() == hash_of(&HELLO));
 }
 
 fn c_string(alloc: Global, bytes: &[u8]) -> Result<CStringKey, Fail> {
@@ -199,8 +196,8 @@ fn check_zero_at(rt: &impl Abort, alloc: Global, bytes: &[u8], first: usize) -> 
     else {
         panic!(rt; "no zero was found");
     };
-    assert_eq!(rt; position, first);
-    assert_eq!(rt; back.as_slice(), bytes);
+    assert!(rt; position == first);
+    assert!(rt; back.as_slice() == bytes);
     Ok(())
 }
 
@@ -215,15 +212,19 @@ fn c_strings_have_one_zero_the_last(rt: HostRuntime) -> Result<(), Fail> {
     check_ascending(&rt, &keys);
     check_no_fronts(&rt, &keys);
     let long = vec![in alloc; 7; 1000]?;
-    assert_eq!(rt; text_of(&c_string(alloc, &long)?).len(), 1001);
+    assert!(rt; text_of(&c_string(alloc, &long)?).len() == 1001);
 
     check_zero_at(&rt, alloc, &[1, 0, 2, 0], 1)?;
     check_zero_at(&rt, alloc, &[0, 1], 0)?;
     check_zero_at(&rt, alloc, &[1, 1, 1, 0], 3)?;
+    let Err(refusal) = CStringKey::new(vec![in alloc; 1, 0]?) else {
+        panic!(rt; "no zero was found");
+    };
+    assert!(rt; format!(in alloc; "{refusal}")?.as_str() == "zero byte at position 1");
 
     let mut hasher = DefaultHasher::new();
     feed_c_string_key(&c_string(alloc, b"ab")?, &mut hasher);
-    assert_eq!(rt; hasher.finish(), hash_of(&b"ab\0".as_slice()));
+    assert!(rt; hasher.finish() == hash_of(&b"ab\0".as_slice()));
     Ok(())
 }
 
@@ -237,9 +238,9 @@ fn a_refused_zero_gives_the_bytes_back(rt: HostRuntime) {
         Ok(key) => key,
         Err(CStringKeyError::InteriorZero { .. }) => panic!(&rt; "there is no zero"),
         Err(CStringKeyError::OutOfMemory { bytes }) => {
-            assert_eq!(&rt; bytes.as_slice(), HELLO);
+            assert!(&rt; bytes.as_slice() == HELLO);
             CStringKey::new(bytes).expect(&rt, "memory was refused once")
         }
     };
-    assert_eq!(&rt; text_of(&key), b"hello world\0".as_slice());
+    assert!(&rt; text_of(&key) == b"hello world\0".as_slice());
 }

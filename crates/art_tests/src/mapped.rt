@@ -30,7 +30,7 @@ fn written<B: BytesMapping<D>, D>(
     bytes: &[u8],
 ) -> Result<(), AllocError> {
     let key = Mapped::<B, D>::new(alloc, value)?;
-    assert_eq!(rt; key.as_bytes(), bytes);
+    assert!(rt; key.as_bytes() == bytes);
     Ok(())
 }
 
@@ -86,7 +86,7 @@ fn vectors_ascend<B: OrderedMapping<Vec<E>>, E: Ord + Copy>(
     let mut before: Option<Mapped<B, Vec<E>>> = None;
     for (numbers, text) in vectors.iter().zip(texts.iter()) {
         let key = Mapped::<B, Vec<E>>::new(alloc, numbers.to_vec(alloc)?)?;
-        assert_eq!(rt; key.as_bytes(), *text);
+        assert!(rt; key.as_bytes() == *text);
         if let Some(less) = &before {
             assert!(rt; *less < key);
         }
@@ -112,7 +112,7 @@ fn concat_array_of_signed_integers_ord(rt: HostRuntime) -> Result<(), Fail> {
     let alloc = rt.alloc();
     let more = Mapped::<ToIBE, [i32; 3]>::new(alloc, [-121, 100, 0])?;
     let less = Mapped::<ToIBE, [i32; 3]>::new(alloc, [-121, 100, -1])?;
-    assert_eq!(rt; more.cmp(&less), Ordering::Greater);
+    assert!(rt; more.cmp(&less) == Ordering::Greater);
     assert!(rt; more.as_bytes() > less.as_bytes());
     Ok(())
 }
@@ -149,10 +149,10 @@ fn bytes_of_no_value_are_refused(rt: HostRuntime) -> Result<(), Fail> {
 fn vectors_come_back_from_their_bytes(rt: HostRuntime) -> Result<(), Fail> {
     let alloc = rt.alloc();
     let bytes = <ToUBE as BytesMapping<Vec<u16>>>::to_bytes(alloc, vec![in alloc; 258, 3]?)?;
-    assert_eq!(rt; bytes.as_slice(), [1, 2, 0, 3].as_slice());
+    assert!(rt; bytes.as_slice() == [1, 2, 0, 3].as_slice());
     assert!(rt; <ToUBE as BytesMapping<Vec<u16>>>::is_value(&bytes));
     let read = <ToUBE as BytesMapping<Vec<u16>>>::from_bytes(alloc, bytes)?;
-    assert_eq!(rt; read.as_slice(), [258, 3].as_slice());
+    assert!(rt; read.as_slice() == [258, 3].as_slice());
     Ok(())
 }
 
@@ -169,12 +169,9 @@ fn bytes_are_read_as_a_vector(rt: HostRuntime) -> Result<(), Fail> {
 fn arrays_come_back_from_their_bytes(rt: HostRuntime) -> Result<(), Fail> {
     let alloc = rt.alloc();
     let bytes = <ToIBE as BytesMapping<[i16; 2]>>::to_bytes(alloc, [-1, 0])?;
-    assert_eq!(rt; bytes.as_slice(), [127, 255, 128, 0].as_slice());
+    assert!(rt; bytes.as_slice() == [127, 255, 128, 0].as_slice());
     assert!(rt; <ToIBE as BytesMapping<[i16; 2]>>::is_value(&bytes));
-    assert_eq!(rt;
-        <ToIBE as BytesMapping<[i16; 2]>>::from_bytes(alloc, bytes)?,
-        [-1, 0]
-    );
+    assert!(rt; <ToIBE as BytesMapping<[i16; 2]>>::from_bytes(alloc, bytes)? == [-1, 0]);
     Ok(())
 }
 
@@ -186,8 +183,8 @@ fn long_vectors_come_back(rt: HostRuntime) -> Result<(), Fail> {
         numbers.push(number)?;
     }
     let key = Mapped::<ToUBE, Vec<u16>>::new(alloc, numbers.clone()?)?;
-    assert_eq!(rt; key.as_bytes().len(), 2000);
-    assert_eq!(rt; &key.as_bytes()[1996..], [3, 230, 3, 231].as_slice());
+    assert!(rt; key.as_bytes().len() == 2000);
+    assert!(rt; &key.as_bytes()[1996..] == [3, 230, 3, 231].as_slice());
     let again = key.clone()?;
     assert!(rt; again.get(alloc)? == numbers);
     Ok(())
@@ -208,9 +205,9 @@ fn many_bytes_are_read_as_a_vector(rt: HostRuntime) -> Result<(), Fail> {
 fn long_arrays_come_back(rt: HostRuntime) -> Result<(), Fail> {
     let alloc = rt.alloc();
     let key = Mapped::<ToIBE, [i32; 300]>::new(alloc, [-1; 300])?;
-    assert_eq!(rt; key.as_bytes().len(), 1200);
-    assert_eq!(rt; &key.as_bytes()[1196..], [127, 255, 255, 255].as_slice());
-    assert_eq!(rt; key.get(alloc)?, [-1; 300]);
+    assert!(rt; key.as_bytes().len() == 1200);
+    assert!(rt; &key.as_bytes()[1196..] == [127, 255, 255, 255].as_slice());
+    assert!(rt; key.get(alloc)? == [-1; 300]);
     Ok(())
 }
 
@@ -233,11 +230,8 @@ fn only_sequences_and_tuples_take_memory(rt: HostRuntime) {
     assert!(rt; !<ConcatTuple<(ToUBE, ToIBE)> as BytesMapping<(u8, i8)>>::READ_ALLOCATES);
     assert!(rt; <ToIBE as BytesMapping<Vec<i8>>>::ALLOCATES);
     assert!(rt; <ToIBE as BytesMapping<Vec<i8>>>::READ_ALLOCATES);
-    assert_eq!(rt;
-        <<ToIBE as BytesMapping<i128>>::Bytes as FixedBytes>::WIDTH,
-        16
-    );
-    assert_eq!(rt; <[u8; 3] as FixedBytes>::from_slice(&[1, 2, 3]), [1, 2, 3]);
+    assert!(rt; <<ToIBE as BytesMapping<i128>>::Bytes as FixedBytes>::WIDTH == 16);
+    assert!(rt; <[u8; 3] as FixedBytes>::from_slice(&[1, 2, 3]) == [1, 2, 3]);
 }
 
 fn hash_of<T: Hash>(value: &T) -> u64 {
@@ -252,8 +246,8 @@ fn keys_are_equal_and_hash_by_their_bytes(rt: HostRuntime) -> Result<(), Fail> {
     let key = Mapped::<ToUBE, u16>::new(alloc, 443)?;
     let same = key.clone()?;
     assert!(rt; key == same);
-    assert_eq!(rt; hash_of(&key), hash_of(&same));
-    assert_eq!(rt; hash_of(&key), hash_of(&[1u8, 187].as_slice()));
+    assert!(rt; hash_of(&key) == hash_of(&same));
+    assert!(rt; hash_of(&key) == hash_of(&[1u8, 187].as_slice()));
     Ok(())
 }
 
@@ -263,7 +257,7 @@ fn keys_of_other_bytes_differ(rt: HostRuntime) -> Result<(), Fail> {
     let key = Mapped::<ToUBE, u16>::new(alloc, 443)?;
     let other = Mapped::<ToUBE, u16>::new(alloc, 444)?;
     assert!(rt; key != other);
-    assert_eq!(rt; key.partial_cmp(&other), Some(Ordering::Less));
+    assert!(rt; key.partial_cmp(&other) == Some(Ordering::Less));
     Ok(())
 }
 
@@ -273,6 +267,6 @@ fn a_clone_holds_the_vector(rt: HostRuntime) -> Result<(), Fail> {
     let long = Mapped::<ToIBE, Vec<i32>>::new(alloc, vec![in alloc; -1, 2]?)?;
     let again = long.clone()?;
     assert!(rt; long == again);
-    assert_eq!(rt; again.get(alloc)?.as_slice(), [-1, 2].as_slice());
+    assert!(rt; again.get(alloc)?.as_slice() == [-1, 2].as_slice());
     Ok(())
 }

@@ -170,7 +170,7 @@ module _ {H : Type 0} where
 
   mutual
     -- a sound tree has a text, which begins with the path
-    some-text : (path : List ℕ) (tree : Tree H) → IsSound path tree → HasText path (texts tree)
+    pub some-text : (path : List ℕ) (tree : Tree H) → IsSound path tree → HasText path (texts tree)
     some-text path (Leaf pointer text) sound = record { text = text; inside = (0, omega arith, refl); begins = sound.0 }
     some-text path (Inner pointer prefix branches) sound =
         let some = branch-text (path ++ prefix) branches (omega (arith, sound.0)) sound.2 in

@@ -64,14 +64,22 @@ pub fn keys_without_prefixes_never_clash<K: NoPrefixesBytes, V, const PREFIX_LEN
 {}
 
 /// The dictionary of an arena that holds one tree and nothing else is what the tree's leaves hold: a
-/// text has an entry where it is one of the tree's, and each leaf holds the entry of its text.
-/// An arena with no root has no entry.
+/// text has an entry where it is one of the tree's, and each leaf is held and has the entry of its text.
+/// An arena has an entry exactly where it has a root. The key of an entry has the entry's text.
 pub fn entries_are_what_leaves_hold<K: AsBytes, V, const PREFIX_LEN: usize>()
     ensures none { (arena : ArenaOf K V PREFIX_LEN) → IsArt K.text arena None →
         IsEmpty K.text arena }
+    ensures some { (arena : ArenaOf K V PREFIX_LEN) (root : _) (tree : _) →
+        IsAlone K.text arena root tree → (text : List ℕ) × HasEntry K.text arena text }
+    ensures text { (arena : ArenaOf K V PREFIX_LEN) (text : List ℕ) (entry : _) →
+        entry_at K.text arena text ≡ Some entry → K.text entry.0 ≡ text }
     ensures texts { (arena : ArenaOf K V PREFIX_LEN) (root : _) (tree : _) →
         IsAlone K.text arena root tree → (text : List ℕ) →
         HasEntry K.text arena text ↔ Contains (texts tree) text }
+    ensures held { (arena : ArenaOf K V PREFIX_LEN) (root : _) (tree : _) →
+        IsAlone K.text arena root tree → (pointer : _) (text : _) →
+        Contains (leaves tree) (pointer, text) → (leaf : _) ×
+        (held arena pointer ≡ HeldLeaf leaf) × (K.text (leaf_key leaf) ≡ text) }
     ensures leaves { (arena : ArenaOf K V PREFIX_LEN) (root : _) (tree : _) →
         IsAlone K.text arena root tree → (pointer : _) (text : _) (leaf : _) →
         Contains (leaves tree) (pointer, text) → held arena pointer ≡ HeldLeaf leaf →

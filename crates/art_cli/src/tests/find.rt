@@ -1,5 +1,5 @@
 //! Runs of `artnodes find`.
-use super::{Case, check, outcome};
+use super::{Case, SEARCHES, check, outcome};
 use std::alloc::Global;
 use std::process::Abort;
 use std::test::Fail;
@@ -21,13 +21,12 @@ fn finds(
 
 #[test]
 fn entries_are_found_with_their_paths(rt: HostRuntime) -> Result<(), Fail> {
-    let input = "+abc1\n+abc2\n?abc2\n?abd2\n?abc\n?\n?abc22\n";
     let output =
         "found 1 child 50 reads 2\nnone reads 2\nnone reads 1\nnone reads 1\nnone reads 2\n";
-    finds(&rt, rt.alloc(), &["0", "2"], input, output)?;
+    finds(&rt, rt.alloc(), &["0", "2"], SEARCHES, output)?;
     let output =
         "found 1 child 50 reads 2\nnone reads 1\nnone reads 1\nnone reads 1\nnone reads 2\n";
-    finds(&rt, rt.alloc(), &["16"], input, output)?;
+    finds(&rt, rt.alloc(), &["16"], SEARCHES, output)?;
     let input = "+a1x\n+a1y\n+b\n?a1y\n?b\n?a\n";
     let output = "found 1 normal 97 121 reads 3\nfound 2 child 98 reads 2\nnone reads 2\n";
     finds(&rt, rt.alloc(), &["16"], input, output)?;

@@ -1,5 +1,5 @@
 //! Inner nodes that become one of the next kind.
-ghost use Rattle.std.specs.Prelude.{◌≡◌, ℕ, ◌<◌, ◌≤◌, ◌↔◌, IsTrue, length};
+ghost use Rattle.std.specs.Prelude.{◌≡◌, ◌≢◌, ℕ, ◌<◌, ◌≤◌, ◌↔◌, IsTrue, length};
 ghost use Rattle.art_header.specs.NodeType.{most_children, grown_kind, shrunk_kind};
 ghost use Rattle.art_nodes.specs.Inner.{HasRoomFor};
 
@@ -42,6 +42,9 @@ pub trait InnerNode<const PREFIX_LEN: usize>: Node<PREFIX_LEN>
             IsTrue result ↔ (count ≡ most_children Self.TYPE) }
         ensures has_room { ¬ (IsTrue result) → length (Self.inner self.now).children < Self.room };
 
+    /// The kind is that of an inner node.
+    ghost is_inner: { Self.TYPE ≢ NodeType.Leaf };
+
     /// A node has room for as many children as its kind holds.
     ghost room_of_kind: { Self.room ≡ most_children Self.TYPE };
 
@@ -58,6 +61,8 @@ pub trait InnerNode<const PREFIX_LEN: usize>: Node<PREFIX_LEN>
 
 impl<K, V, const PREFIX_LEN: usize> InnerNode<PREFIX_LEN> for InnerNode4<K, V, PREFIX_LEN> {
     ghost use Rattle.std.specs.Prelude.{refl};
+
+    ghost is_inner = { λ same. Prim.cc };
 
     ghost room_of_kind = { refl };
 
@@ -90,6 +95,8 @@ impl<K, V, const PREFIX_LEN: usize> InnerNode<PREFIX_LEN> for InnerNode4<K, V, P
 impl<K, V, const PREFIX_LEN: usize> InnerNode<PREFIX_LEN> for InnerNode16<K, V, PREFIX_LEN> {
     ghost use Rattle.std.specs.Prelude.{refl};
 
+    ghost is_inner = { λ same. Prim.cc };
+
     ghost room_of_kind = { refl };
 
     ghost grown_type = { refl };
@@ -120,6 +127,8 @@ impl<K, V, const PREFIX_LEN: usize> InnerNode<PREFIX_LEN> for InnerNode16<K, V, 
 
 impl<K, V, const PREFIX_LEN: usize> InnerNode<PREFIX_LEN> for InnerNode48<K, V, PREFIX_LEN> {
     ghost use Rattle.std.specs.Prelude.{refl};
+
+    ghost is_inner = { λ same. Prim.cc };
 
     ghost room_of_kind = { refl };
 
@@ -152,6 +161,8 @@ impl<K, V, const PREFIX_LEN: usize> InnerNode<PREFIX_LEN> for InnerNode48<K, V, 
 
 impl<K, V, const PREFIX_LEN: usize> InnerNode<PREFIX_LEN> for InnerNodeDirect<K, V, PREFIX_LEN> {
     ghost use Rattle.std.specs.Prelude.{refl};
+
+    ghost is_inner = { λ same. Prim.cc };
 
     ghost room_of_kind = { refl };
 

@@ -85,7 +85,8 @@ pub trait InnerNodeCommon<K, V, const PREFIX_LEN: usize>: InnerNodeInit<PREFIX_L
     /// room: there have to be fewer children than [`InnerNodeCommon::capacity`].
     fn write_child(&mut self, key_fragment: u8, child_pointer: OpaqueNodePtr<K, V, PREFIX_LEN>)
         requires { HasRoomFor room (inner self.old) key_fragment }
-        ensures written { inner self.new ≡ node_with_child (inner self.old) key_fragment child_pointer };
+        ensures written { inner self.new ≡
+            node_with_child (inner self.old) key_fragment child_pointer };
 
     /// Removes the child under the byte and answers it, or changes nothing where there is none. It
     /// may leave one child or none.
@@ -149,8 +150,8 @@ pub trait InnerNodeCommon<K, V, const PREFIX_LEN: usize>: InnerNodeInit<PREFIX_L
             IsPrefixOf (inner self.now) prefix → IsFront prefix truncated_key.now →
             IsOkAnd result (λ found. found.matched_bytes ≡ length prefix) };
 
-    /// One of the children, a leaf where there is one. Which child it is is open otherwise. The node
-    /// has to have two children or more.
+    /// One of the children. It takes a leaf where there is one; the contract leaves open which child
+    /// it is. The node has to have two children or more.
     final fn any_child_prefer_leaf(&self) -> OpaqueNodePtr<K, V, PREFIX_LEN>
         requires { 2 ≤ length (inner self.now).children }
         ensures { Contains (map (λ pair. pair.1) (inner self.now).children) result }

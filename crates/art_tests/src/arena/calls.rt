@@ -29,7 +29,7 @@ const KINDS: [NodeType; 5] = [
 fn check_header(rt: &impl Abort, arena: &Arena, pointer: Pointer, length: Option<usize>) {
     assert!(rt; arena.holds_opaque(pointer));
     let header = arena.header(pointer);
-    assert_eq!(rt; header.map(|header| header.prefix_len()), length);
+    assert!(rt; header.map(|header| header.prefix_len()) == length);
 }
 
 // The calls on an inner node of one kind: of the first node, whose place the second one takes.
@@ -49,7 +49,7 @@ fn check_inner<N: ArenaNode<Key, u16, 16> + InnerNodeCommon<Key, u16, 16> + Drop
     assert!(rt; arena.as_ref(ptr).lookup_child(5).is_none());
 
     let old = arena.replace(ptr, second);
-    assert_eq!(rt; old.header().num_children(), 1);
+    assert!(rt; old.header().num_children() == 1);
 
     assert!(rt; arena.holds_opaque(pointer));
     assert!(rt; pointer.node_type() != NodeType::Leaf);
@@ -58,7 +58,7 @@ fn check_inner<N: ArenaNode<Key, u16, 16> + InnerNodeCommon<Key, u16, 16> + Drop
 
     assert!(rt; arena.holds(ptr));
     let node = arena.deallocate_node_ptr(ptr);
-    assert_eq!(rt; node.header().num_children(), 2);
+    assert!(rt; node.header().num_children() == 2);
     assert!(rt; !arena.holds(ptr));
     assert!(rt; !arena.holds_opaque(pointer));
 }
@@ -73,10 +73,10 @@ fn check_value(rt: &impl Abort, arena: &mut Arena, ptr: NodePtr<16, Leaf>) {
     assert!(rt; arena.holds(ptr));
     *arena.as_value_mut(ptr) = 701;
     assert!(rt; arena.holds(ptr));
-    assert_eq!(rt; *arena.as_value_ref(ptr), 701);
+    assert!(rt; *arena.as_value_ref(ptr) == 701);
     *arena.as_mut(ptr).value_mut() = 8;
     assert!(rt; arena.holds(ptr));
-    assert_eq!(rt; *arena.as_ref(ptr).value_ref(), 8);
+    assert!(rt; *arena.as_ref(ptr).value_ref() == 8);
 }
 
 // Reads the key, 7, and makes it the value.
@@ -86,8 +86,8 @@ fn check_key_and_value(rt: &impl Abort, arena: &mut Arena, ptr: NodePtr<16, Leaf
     *value = u16::from(key[0]);
     assert!(rt; arena.holds(ptr));
     let (key, value) = arena.as_key_value_ref(ptr);
-    assert_eq!(rt; key[0], 7);
-    assert_eq!(rt; *value, 7);
+    assert!(rt; key[0] == 7);
+    assert!(rt; *value == 7);
 }
 
 fn check_leaf(rt: &impl Abort, arena: &mut Arena) {
@@ -97,11 +97,11 @@ fn check_leaf(rt: &impl Abort, arena: &mut Arena) {
     check_value(rt, arena, ptr);
     assert!(rt; arena.holds(ptr));
     let old = arena.replace(ptr, Leaf::with_no_siblings([6], 600));
-    assert_eq!(rt; *old.value_ref(), 8);
+    assert!(rt; *old.value_ref() == 8);
     assert!(rt; arena.holds(ptr));
-    assert_eq!(rt; arena.as_key_ref(ptr)[0], 6);
+    assert!(rt; arena.as_key_ref(ptr)[0] == 6);
     let leaf = arena.deallocate_node_ptr(ptr);
-    assert_eq!(rt; *leaf.value_ref(), 600);
+    assert!(rt; *leaf.value_ref() == 600);
     assert!(rt; !arena.holds(ptr));
 }
 
@@ -152,7 +152,7 @@ fn check_entries(rt: &impl Abort, arena: &Arena, entries: &[Pointer]) {
                 .header(*pointer)
                 .map_or(0, |header| header.prefix_len()),
         };
-        assert_eq!(rt; length, index);
+        assert!(rt; length == index);
     }
 }
 

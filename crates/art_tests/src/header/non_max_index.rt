@@ -4,21 +4,21 @@ use std::test::Fail;
 
 #[test]
 fn is_made_of_all_bytes_but_the_last(rt: HostRuntime) {
-    assert_eq!(rt; NonMaxIndex::new(0).map(|index| index.get()), Some(0));
-    assert_eq!(rt; NonMaxIndex::new(19).map(|index| index.get()), Some(19));
-    assert_eq!(rt; NonMaxIndex::new(254).map(|index| index.get()), Some(254));
-    assert_eq!(rt; NonMaxIndex::new(255), None);
-    assert_eq!(rt; NonMaxIndex::new_unchecked(7).get(), 7);
-    assert_eq!(rt; NonMaxIndex::default().get(), 0);
+    assert!(rt; NonMaxIndex::new(0).map(|index| index.get()) == Some(0));
+    assert!(rt; NonMaxIndex::new(19).map(|index| index.get()) == Some(19));
+    assert!(rt; NonMaxIndex::new(254).map(|index| index.get()) == Some(254));
+    assert!(rt; NonMaxIndex::new(255) == None);
+    assert!(rt; NonMaxIndex::new_unchecked(7).get() == 7);
+    assert!(rt; NonMaxIndex::default().get() == 0);
 }
 
 #[test]
 fn converts_from_and_into_numbers(rt: HostRuntime) -> Result<(), Fail> {
-    assert_eq!(rt; u8::from(NonMaxIndex::try_from(0u8)?), 0);
-    assert_eq!(rt; usize::from(NonMaxIndex::try_from(254usize)?), 254);
-    assert_eq!(rt; NonMaxIndex::try_from(255u8), Err(TryFromByteError));
-    assert_eq!(rt; NonMaxIndex::try_from(255usize), Err(TryFromByteError));
-    assert_eq!(rt; NonMaxIndex::try_from(256usize), Err(TryFromByteError));
+    assert!(rt; u8::from(NonMaxIndex::try_from(0u8)?) == 0);
+    assert!(rt; usize::from(NonMaxIndex::try_from(254usize)?) == 254);
+    assert!(rt; NonMaxIndex::try_from(255u8) == Err(TryFromByteError));
+    assert!(rt; NonMaxIndex::try_from(255usize) == Err(TryFromByteError));
+    assert!(rt; NonMaxIndex::try_from(256usize) == Err(TryFromByteError));
     Ok(())
 }
 
@@ -36,9 +36,6 @@ fn is_ordered_by_its_number(rt: HostRuntime) {
 #[test]
 fn says_why_a_number_is_refused(rt: HostRuntime) -> Result<(), Fail> {
     let text = format!(in rt.alloc(); "{}", TryFromByteError)?;
-    assert_eq!(rt;
-        text.as_str(),
-        "out of range integral type conversion attempted"
-    );
+    assert!(rt; text.as_str() == "out of range integral type conversion attempted");
     Ok(())
 }

@@ -10,37 +10,37 @@ fn check_prefix<const PREFIX_LEN: usize>(
     stored: &[u8],
     length: usize,
 ) {
-    assert_eq!(rt; header.read_prefix(), stored);
-    assert_eq!(rt; header.prefix_len(), length);
+    assert!(rt; header.read_prefix() == stored);
+    assert!(rt; header.prefix_len() == length);
 }
 
 #[test]
 fn stores_as_much_of_the_prefix_as_there_is_room_for(rt: HostRuntime) {
     let header = Header::<2>::new(b"abcd", 4);
     check_prefix(&rt, &header, b"ab", 4);
-    assert_eq!(rt; header.capped_prefix_len(), 2);
+    assert!(rt; header.capped_prefix_len() == 2);
 
     let header = Header::<0>::new(b"abc", 3);
     check_prefix(&rt, &header, b"", 3);
-    assert_eq!(rt; header.capped_prefix_len(), 0);
+    assert!(rt; header.capped_prefix_len() == 0);
 
     let header = Header::<16>::new(&[1, 2, 3, 4, 5, 6, 7, 8], 8);
     check_prefix(&rt, &header, &[1, 2, 3, 4, 5, 6, 7, 8], 8);
-    assert_eq!(rt; header.capped_prefix_len(), 8);
+    assert!(rt; header.capped_prefix_len() == 8);
 }
 
 #[test]
 fn counts_children(rt: HostRuntime) {
     let mut header = Header::<16>::new(b"", 0);
-    assert_eq!(rt; header.num_children(), 0);
+    assert!(rt; header.num_children() == 0);
     header.inc_num_children();
     header.inc_num_children();
     header.inc_num_children();
-    assert_eq!(rt; header.num_children(), 3);
+    assert!(rt; header.num_children() == 3);
     header.dec_num_children();
-    assert_eq!(rt; header.num_children(), 2);
+    assert!(rt; header.num_children() == 2);
     header.reset_num_children();
-    assert_eq!(rt; header.num_children(), 0);
+    assert!(rt; header.num_children() == 0);
 }
 
 #[test]
@@ -87,8 +87,8 @@ fn takes_more_prefix_and_gives_it_up(rt: HostRuntime) {
     header.push_prefix(b"ef", 2);
     check_prefix(&rt, &header, b"ab", 6);
     let (bytes, len, capped_len) = header.clear_prefix();
-    assert_eq!(rt; bytes.as_slice(), b"ab".as_slice());
-    assert_eq!(rt; (len, capped_len), (6, 2));
+    assert!(rt; bytes.as_slice() == b"ab".as_slice());
+    assert!(rt; (len, capped_len) == (6, 2));
     check_prefix(&rt, &header, b"", 0);
     header.push_prefix(b"g", 1);
     check_prefix(&rt, &header, b"g", 1);

@@ -10,8 +10,8 @@ fn compared<B: OrderedMapping<D>, D: Ord + Copy>(
 ) -> Result<(), AllocError> {
     let x = Mapped::<B, D>::new(alloc, a)?;
     let y = Mapped::<B, D>::new(alloc, b)?;
-    assert_eq!(rt; x.cmp(&y), a.cmp(&b));
-    assert_eq!(rt; x.as_bytes().cmp(&y.as_bytes()), a.cmp(&b));
+    assert!(rt; x.cmp(&y) == a.cmp(&b));
+    assert!(rt; x.as_bytes().cmp(&y.as_bytes()) == a.cmp(&b));
     assert!(rt; x.get(alloc)? == a);
     Ok(())
 }
@@ -25,8 +25,8 @@ fn compared_vectors<B: OrderedMapping<Vec<E>>, E: Ord + Copy>(
 ) -> Result<(), AllocError> {
     let x = Mapped::<B, Vec<E>>::new(alloc, a.to_vec(alloc)?)?;
     let y = Mapped::<B, Vec<E>>::new(alloc, b.to_vec(alloc)?)?;
-    assert_eq!(rt; x.cmp(&y), a.cmp(&b));
-    assert_eq!(rt; x.as_bytes().cmp(&y.as_bytes()), a.cmp(&b));
+    assert!(rt; x.cmp(&y) == a.cmp(&b));
+    assert!(rt; x.as_bytes().cmp(&y.as_bytes()) == a.cmp(&b));
     assert!(rt; x.get(alloc)?.as_slice() == a);
     Ok(())
 }
@@ -81,38 +81,64 @@ where
 #[test]
 fn test_ordered_unsigned(rt: HostRuntime) -> Result<(), Fail> {
     let alloc = rt.alloc();
-    ordered::<ToUBE, u8>(&rt, alloc, u8::MIN, u8::MAX / 2, u8::MAX)?;
+    ordered_sequences::<ToUBE, u8>(&rt, alloc, [u8::MIN, u8::MAX / 2, u8::MAX])?;
     ordered_sequences::<ToUBE, u16>(&rt, alloc, [u16::MIN, u16::MAX / 2, u16::MAX])?;
-    ordered::<ToUBE, u32>(&rt, alloc, u32::MIN, u32::MAX / 2, u32::MAX)?;
-    ordered::<ToUBE, u64>(&rt, alloc, u64::MIN, u64::MAX / 2, u64::MAX)?;
-    ordered::<ToUBE, u128>(&rt, alloc, u128::MIN, u128::MAX / 2, u128::MAX)?;
-    ordered::<ToUBE, usize>(&rt, alloc, usize::MIN, usize::MAX / 2, usize::MAX)?;
+    ordered_sequences::<ToUBE, u32>(&rt, alloc, [u32::MIN, u32::MAX / 2, u32::MAX])?;
+    ordered_sequences::<ToUBE, u64>(&rt, alloc, [u64::MIN, u64::MAX / 2, u64::MAX])?;
+    ordered_sequences::<ToUBE, u128>(&rt, alloc, [u128::MIN, u128::MAX / 2, u128::MAX])?;
+    ordered_sequences::<ToUBE, usize>(&rt, alloc, [usize::MIN, usize::MAX / 2, usize::MAX])?;
     Ok(())
 }
 
 #[test]
 fn test_ordered_signed(rt: HostRuntime) -> Result<(), Fail> {
     let alloc = rt.alloc();
-    ordered::<ToIBE, i8>(&rt, alloc, i8::MIN, 0, i8::MAX)?;
+    ordered_sequences::<ToIBE, i8>(&rt, alloc, [i8::MIN, 0, i8::MAX])?;
     ordered_sequences::<ToIBE, i16>(&rt, alloc, [i16::MIN, 0, i16::MAX])?;
-    ordered::<ToIBE, i32>(&rt, alloc, i32::MIN, 0, i32::MAX)?;
-    ordered::<ToIBE, i64>(&rt, alloc, i64::MIN, 0, i64::MAX)?;
-    ordered::<ToIBE, i128>(&rt, alloc, i128::MIN, 0, i128::MAX)?;
-    ordered::<ToIBE, isize>(&rt, alloc, isize::MIN, 0, isize::MAX)?;
+    ordered_sequences::<ToIBE, i32>(&rt, alloc, [i32::MIN, 0, i32::MAX])?;
+    ordered_sequences::<ToIBE, i64>(&rt, alloc, [i64::MIN, 0, i64::MAX])?;
+    ordered_sequences::<ToIBE, i128>(&rt, alloc, [i128::MIN, 0, i128::MAX])?;
+    ordered_sequences::<ToIBE, isize>(&rt, alloc, [isize::MIN, 0, isize::MAX])?;
     Ok(())
 }
 
 #[test]
-fn test_ordered_non_zero(rt: HostRuntime) -> Result<(), Fail> {
+fn test_ordered_non_zero_unsigned(rt: HostRuntime) -> Result<(), Fail> {
     let alloc = rt.alloc();
     let middle = NonZeroU8::new(u8::MAX / 2).ok_or("not 0")?;
-    ordered::<ToUBE, NonZeroU8>(&rt, alloc, NonZeroU8::MIN, middle, NonZeroU8::MAX)?;
+    ordered_arrays::<ToUBE, NonZeroU8>(&rt, alloc, [NonZeroU8::MIN, middle, NonZeroU8::MAX])?;
     let middle = NonZeroU16::new(u16::MAX / 2).ok_or("not 0")?;
     ordered_arrays::<ToUBE, NonZeroU16>(&rt, alloc, [NonZeroU16::MIN, middle, NonZeroU16::MAX])?;
+    let middle = NonZeroU32::new(u32::MAX / 2).ok_or("not 0")?;
+    ordered_arrays::<ToUBE, NonZeroU32>(&rt, alloc, [NonZeroU32::MIN, middle, NonZeroU32::MAX])?;
+    let middle = NonZeroU64::new(u64::MAX / 2).ok_or("not 0")?;
+    ordered_arrays::<ToUBE, NonZeroU64>(&rt, alloc, [NonZeroU64::MIN, middle, NonZeroU64::MAX])?;
+    let middle = NonZeroU128::new(u128::MAX / 2).ok_or("not 0")?;
+    ordered_arrays::<ToUBE, NonZeroU128>(&rt, alloc, [NonZeroU128::MIN, middle, NonZeroU128::MAX])?;
+    let middle = NonZeroUsize::new(usize::MAX / 2).ok_or("not 0")?;
+    ordered_arrays::<ToUBE, NonZeroUsize>(
+        &rt,
+        alloc,
+        [NonZeroUsize::MIN, middle, NonZeroUsize::MAX],
+    )?;
+    Ok(())
+}
+
+#[test]
+fn test_ordered_non_zero_signed(rt: HostRuntime) -> Result<(), Fail> {
+    let alloc = rt.alloc();
+    let one = NonZeroI8::new(1).ok_or("not 0")?;
+    ordered_arrays::<ToIBE, NonZeroI8>(&rt, alloc, [NonZeroI8::MIN, one, NonZeroI8::MAX])?;
     let one = NonZeroI16::new(1).ok_or("not 0")?;
     ordered_arrays::<ToIBE, NonZeroI16>(&rt, alloc, [NonZeroI16::MIN, one, NonZeroI16::MAX])?;
+    let one = NonZeroI32::new(1).ok_or("not 0")?;
+    ordered_arrays::<ToIBE, NonZeroI32>(&rt, alloc, [NonZeroI32::MIN, one, NonZeroI32::MAX])?;
+    let one = NonZeroI64::new(1).ok_or("not 0")?;
+    ordered_arrays::<ToIBE, NonZeroI64>(&rt, alloc, [NonZeroI64::MIN, one, NonZeroI64::MAX])?;
+    let one = NonZeroI128::new(1).ok_or("not 0")?;
+    ordered_arrays::<ToIBE, NonZeroI128>(&rt, alloc, [NonZeroI128::MIN, one, NonZeroI128::MAX])?;
     let one = NonZeroIsize::new(1).ok_or("not 0")?;
-    ordered::<ToIBE, NonZeroIsize>(&rt, alloc, NonZeroIsize::MIN, one, NonZeroIsize::MAX)?;
+    ordered_arrays::<ToIBE, NonZeroIsize>(&rt, alloc, [NonZeroIsize::MIN, one, NonZeroIsize::MAX])?;
     Ok(())
 }
 

@@ -38,15 +38,15 @@ fn bytes_looked_at(alloc: Global) -> Result<Option<Vec<u16>>, AllocError> {
 
 // A copy of a key has its bytes. Where it is refused, the key has them still.
 fn check_copy<B: BytesMapping<D, Bytes = Vec<u8>>, D>(rt: &impl Abort, key: &Mapped<B, D>) {
-    assert_eq!(rt; key.as_bytes(), TEXT);
+    assert!(rt; key.as_bytes() == TEXT);
     let copy = match key.clone() {
         Ok(copy) => copy,
         Err(AllocError) => {
-            assert_eq!(rt; key.as_bytes(), TEXT);
+            assert!(rt; key.as_bytes() == TEXT);
             key.clone().expect(rt, "memory was refused once")
         }
     };
-    assert_eq!(rt; copy.as_bytes(), TEXT);
+    assert!(rt; copy.as_bytes() == TEXT);
 }
 
 #[test]

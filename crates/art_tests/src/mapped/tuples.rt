@@ -52,8 +52,8 @@ where
 {
     let less_key = Mapped::<B, D>::new(alloc, less)?;
     let more_key = Mapped::<B, D>::new(alloc, more)?;
-    assert_eq!(rt; less.cmp(&more), Ordering::Less);
-    assert_eq!(rt; less_key.cmp(&more_key), Ordering::Less);
+    assert!(rt; less.cmp(&more) == Ordering::Less);
+    assert!(rt; less_key.cmp(&more_key) == Ordering::Less);
     assert!(rt; less_key.as_bytes() < more_key.as_bytes());
     assert!(rt; !more_key.as_bytes().starts_with(less_key.as_bytes()));
     assert!(rt; less_key.get(alloc)? == less);
@@ -80,11 +80,11 @@ fn copy_tuple_as_bytes(rt: HostRuntime) -> Result<(), Fail> {
 fn parts_come_back(rt: HostRuntime) -> Result<(), Fail> {
     let alloc = rt.alloc();
     let key = route(alloc, Ipv4Addr::UNSPECIFIED, -212)?;
-    assert_eq!(rt; key.as_bytes(), [0, 0, 0, 0, 127, 255, 255, 44].as_slice());
+    assert!(rt; key.as_bytes() == [0, 0, 0, 0, 127, 255, 255, 44].as_slice());
     assert!(rt; route_of(alloc, key)? == (Ipv4Addr::UNSPECIFIED, -212));
     assert!(rt; host_back(alloc, Ipv4Addr::LOCALHOST, 7)? == (Ipv4Addr::LOCALHOST, 7));
     let text: Vec<u8> = vec![in alloc; 7; 1000]?;
-    assert_eq!(rt; key_back(alloc, text)?.len(), 1000);
+    assert!(rt; key_back(alloc, text)?.len() == 1000);
     Ok(())
 }
 
@@ -108,10 +108,7 @@ fn a_refused_tuple_is_joined_by_the_next_call(rt: HostRuntime) {
             route(alloc, Ipv4Addr::LOCALHOST, -212).expect(&rt, "memory was refused once")
         }
     };
-    assert_eq!(rt;
-        key.as_bytes(),
-        [127, 0, 0, 1, 127, 255, 255, 44].as_slice()
-    );
+    assert!(rt; key.as_bytes() == [127, 0, 0, 1, 127, 255, 255, 44].as_slice());
 }
 
 #[test]
@@ -129,6 +126,12 @@ fn concat_tuple_ord_matches_tuple_ord(rt: HostRuntime) -> Result<(), Fail> {
     for place in 0..3 {
         ascend::<By, (Ipv4Addr, i32, Ipv6Addr)>(&rt, alloc, tuples[place], tuples[place + 1])?;
     }
+    type Two = ConcatTuple<(ToUBE, ToIBE)>;
+    ascend::<Two, (u8, i16)>(&rt, alloc, (1, -1), (1, 0))?;
+    type Four = ConcatTuple<(ToUBE, ToUBE, ToUBE, ToUBE)>;
+    ascend::<Four, (u8, u8, u8, u8)>(&rt, alloc, (1, 2, 3, 255), (1, 2, 4, 0))?;
+    type Five = ConcatTuple<(ToUBE, ToUBE, ToUBE, ToUBE, ToIBE)>;
+    ascend::<Five, (u8, u16, u8, u8, i8)>(&rt, alloc, (1, 2, 3, 4, 5), (1, 256, 0, 0, 0))?;
     type Six = ConcatTuple<(ToUBE, ToUBE, ToUBE, ToUBE, ToIBE, ToUBE)>;
     ascend::<Six, (u8, u16, u8, u8, i8, u8)>(&rt, alloc, (1, 2, 3, 4, 5, 6), (1, 2, 3, 4, 5, 7))?;
     Ok(())
@@ -146,6 +149,6 @@ fn bytes_of_no_tuple_are_refused(rt: HostRuntime) -> Result<(), Fail> {
         alloc,
         vec![in alloc; 7, 1, 0]?,
     )?;
-    assert_eq!(rt; read, Some((7, 256)));
+    assert!(rt; read == Some((7, 256)));
     Ok(())
 }

@@ -11,8 +11,8 @@ fn small_node(key: usize) -> Pointer {
 }
 
 fn has_what_was_written<N: InnerNodeCommon<u8, u8, 16>>(rt: &impl Abort, node: &N) {
-    assert_eq!(rt; node.stored_prefix(), b"prefix".as_slice());
-    assert_eq!(rt; node.num_children(), 3);
+    assert!(rt; node.stored_prefix() == b"prefix".as_slice());
+    assert!(rt; node.num_children() == 3);
     for (byte, child) in [
         (0, Some(leaf(7))),
         (1, Some(leaf(8))),
@@ -57,7 +57,7 @@ fn each_kind_is_built(rt: HostRuntime) {
         .build();
     has_what_was_written(&rt, &unsearched);
     let (bytes, children) = unsearched.initialized_portion();
-    assert_eq!(rt; bytes, [0, 1, 200].as_slice());
+    assert!(rt; bytes == [0, 1, 200].as_slice());
     assert!(rt; children.len() == 3 && children[2] == leaf(10));
 }
 
@@ -72,5 +72,5 @@ fn some_child_is_a_leaf_where_there_is_one(rt: HostRuntime) {
         .write_child(1, small_node(1))
         .write_child(2, small_node(2))
         .build();
-    assert_eq!(rt; node.any_child_prefer_leaf().node_type(), NodeType::Node4);
+    assert!(rt; node.any_child_prefer_leaf().node_type() == NodeType::Node4);
 }

@@ -16,10 +16,10 @@ pub(crate) fn fill_from<N: InnerNodeCommon<u8, u8, 16>>(rt: &impl Abort, node: &
 
 // Each byte below n has the leaf under the key of its number, and the others have none.
 pub(crate) fn has_the_first<N: InnerNodeCommon<u8, u8, 16>>(rt: &impl Abort, node: &N, n: usize) {
-    assert_eq!(rt; node.num_children(), n);
-    assert_eq!(rt; node.prefix_len(), 6);
-    assert_eq!(rt; node.stored_prefix(), b"prefix".as_slice());
-    assert_eq!(rt; node.header().read_prefix(), b"prefix".as_slice());
+    assert!(rt; node.num_children() == n);
+    assert!(rt; node.prefix_len() == 6);
+    assert!(rt; node.stored_prefix() == b"prefix".as_slice());
+    assert!(rt; node.header().read_prefix() == b"prefix".as_slice());
     for byte in 0..=255u8 {
         let key = usize::from(byte);
         assert!(rt;
@@ -34,7 +34,7 @@ fn writes_and_removes<N: InnerNodeCommon<u8, u8, 16> + Drop>(rt: &impl Abort, n:
     requires room { 2 ≤ N.room }
 {
     let mut node: N = node_of(rt, b"prefix", &[]);
-    assert_eq!(rt; node.capacity(), n);
+    assert!(rt; node.capacity() == n);
     fill_from(rt, &mut node, 0);
     has_the_first(rt, &node, n);
     // A full node takes a child over one that is there.
@@ -42,14 +42,14 @@ fn writes_and_removes<N: InnerNodeCommon<u8, u8, 16> + Drop>(rt: &impl Abort, n:
     node.write_child(3, leaf(1000));
     assert!(rt; node.lookup_child(3) == Some(leaf(1000)));
     assert!(rt; node.lookup_child(2) == Some(leaf(2)));
-    assert_eq!(rt; node.num_children(), n);
+    assert!(rt; node.num_children() == n);
     node.write_child(3, leaf(3));
     for byte in 0..=255u8 {
         let key = usize::from(byte);
         assert!(rt; node.remove_child(byte) == (key < n).then_some(leaf(key)));
         assert!(rt; node.remove_child(byte) == None);
         assert!(rt; node.lookup_child(byte) == None);
-        assert_eq!(rt; node.num_children(), n.saturating_sub(key + 1));
+        assert!(rt; node.num_children() == n.saturating_sub(key + 1));
     }
 }
 
@@ -74,11 +74,11 @@ fn gives_the_least_and_the_greatest<N: InnerNodeCommon<u8, u8, 16> + Drop>(
         } else {
             n - 1 - taken / 2
         };
-        assert_eq!(rt; usize::from(byte), key);
+        assert!(rt; usize::from(byte) == key);
         assert!(rt; child == leaf(key));
         node.remove_child(byte);
     }
-    assert_eq!(rt; node.num_children(), 0);
+    assert!(rt; node.num_children() == 0);
 }
 
 fn keeps_children<N: InnerNodeCommon<u8, u8, 16> + Drop>(rt: &impl Abort, n: usize)

@@ -42,53 +42,64 @@ fn goes_both_ways<N: InnerNodeCommon<u8, u8, 16> + Drop>(rt: &impl Abort)
     assert!(rt; pairs.next_back() == None);
 }
 
-// The range has these bytes, and no others, from the front and from the back.
+// The range has the leaves under these bytes, and no others, from the front and from the back.
 fn has<N: InnerNodeCommon<u8, u8, 16>>(
     rt: &impl Abort,
     node: &N,
     start: Bound<u8>,
     end: Bound<u8>,
-    bytes: &[u8],
+    written: &[(u8, usize)],
 ) {
     assert!(rt; valid_range_bounds(start, end));
     let mut pairs = node.range(start, end);
-    for byte in bytes {
-        assert!(rt; pairs.next() == node.lookup_child(*byte).map(|child| (*byte, child)));
+    for (byte, key) in written {
+        assert!(rt; pairs.next() == Some((*byte, leaf(*key))));
     }
     assert!(rt; pairs.next() == None);
     let mut pairs = node.range(start, end);
-    for byte in bytes.iter().rev() {
-        assert!(rt; pairs.next_back() == node.lookup_child(*byte).map(|child| (*byte, child)));
+    for (byte, key) in written.iter().rev() {
+        assert!(rt; pairs.next_back() == Some((*byte, leaf(*key))));
     }
     assert!(rt; pairs.next_back() == None);
 }
 
-const FIRST_RANGES: [(Bound<u8>, Bound<u8>, &[u8]); 10] = [
-    (Included(0), Included(3), &[0, 3]),
+// Two bounds, and the bytes between them, each with the key of the leaf under it.
+type Range = (Bound<u8>, Bound<u8>, &'static [(u8, usize)]);
+
+const FIRST_RANGES: [Range; 10] = [
+    (Included(0), Included(3), &[(0, 3), (3, 1)]),
     (Excluded(0), Excluded(3), &[]),
-    (Included(0), Included(0), &[0]),
-    (Included(0), Included(255), &[0, 3, 85, 255]),
-    (Unbounded, Unbounded, &[0, 3, 85, 255]),
-    (Included(255), Included(255), &[255]),
-    (Unbounded, Included(86), &[0, 3, 85]),
-    (Excluded(0), Excluded(255), &[3, 85]),
+    (Included(0), Included(0), &[(0, 3)]),
+    (
+        Included(0),
+        Included(255),
+        &[(0, 3), (3, 1), (85, 4), (255, 2)],
+    ),
+    (Unbounded, Unbounded, &[(0, 3), (3, 1), (85, 4), (255, 2)]),
+    (Included(255), Included(255), &[(255, 2)]),
+    (Unbounded, Included(86), &[(0, 3), (3, 1), (85, 4)]),
+    (Excluded(0), Excluded(255), &[(3, 1), (85, 4)]),
     (Excluded(255), Included(255), &[]),
     (Included(255), Excluded(255), &[]),
 ];
 
-const SECOND_RANGES: [(Bound<u8>, Bound<u8>, &[u8]); 13] = [
-    (Unbounded, Included(86), &[2, 3, 85]),
-    (Unbounded, Included(4), &[2, 3]),
-    (Unbounded, Excluded(3), &[2]),
-    (Unbounded, Included(2), &[2]),
+const SECOND_RANGES: [Range; 13] = [
+    (Unbounded, Included(86), &[(2, 3), (3, 1), (85, 4)]),
+    (Unbounded, Included(4), &[(2, 3), (3, 1)]),
+    (Unbounded, Excluded(3), &[(2, 3)]),
+    (Unbounded, Included(2), &[(2, 3)]),
     (Unbounded, Included(1), &[]),
     (Unbounded, Included(0), &[]),
-    (Included(1), Unbounded, &[2, 3, 85, 254]),
-    (Included(3), Unbounded, &[3, 85, 254]),
-    (Excluded(84), Unbounded, &[85, 254]),
-    (Included(253), Unbounded, &[254]),
+    (Included(1), Unbounded, &[(2, 3), (3, 1), (85, 4), (254, 2)]),
+    (Included(3), Unbounded, &[(3, 1), (85, 4), (254, 2)]),
+    (Excluded(84), Unbounded, &[(85, 4), (254, 2)]),
+    (Included(253), Unbounded, &[(254, 2)]),
     (Included(255), Unbounded, &[]),
-    (Unbounded, Included(255), &[2, 3, 85, 254]),
+    (
+        Unbounded,
+        Included(255),
+        &[(2, 3), (3, 1), (85, 4), (254, 2)],
+    ),
     (Excluded(255), Unbounded, &[]),
 ];
 
@@ -98,12 +109,12 @@ fn iterates<N: InnerNodeCommon<u8, u8, 16> + Drop>(rt: &impl Abort)
 {
     goes_both_ways::<N>(rt);
     let first: N = node_of(rt, &[], &[(3, 1), (255, 2), (0, 3), (85, 4)]);
-    for (start, end, bytes) in FIRST_RANGES {
-        has(rt, &first, start, end, bytes);
+    for (start, end, written) in FIRST_RANGES {
+        has(rt, &first, start, end, written);
     }
     let second: N = node_of(rt, &[], &[(3, 1), (254, 2), (2, 3), (85, 4)]);
-    for (start, end, bytes) in SECOND_RANGES {
-        has(rt, &second, start, end, bytes);
+    for (start, end, written) in SECOND_RANGES {
+        has(rt, &second, start, end, written);
     }
 }
 

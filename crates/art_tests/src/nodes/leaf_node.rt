@@ -17,9 +17,9 @@ fn check_text(rt: &impl Abort, leaf: &StringLeaf) {
         ("b", false, Ordering::Less, false),
     ] {
         let bytes = text.as_bytes();
-        assert_eq!(rt; leaf.matches_full_key(bytes), is_same, "{text}");
-        assert_eq!(rt; leaf.compare_full_key(bytes), order, "{text}");
-        assert_eq!(rt; leaf.starts_with(bytes), is_front, "{text}");
+        assert!(rt; leaf.matches_full_key(bytes) == is_same, "{text}");
+        assert!(rt; leaf.compare_full_key(bytes) == order, "{text}");
+        assert!(rt; leaf.starts_with(bytes) == is_front, "{text}");
     }
 }
 
@@ -33,8 +33,8 @@ fn check_leaf(
     previous: Link,
     next: Link,
 ) {
-    assert_eq!(rt; leaf.key_ref().as_str(), text);
-    assert_eq!(rt; *leaf.value_ref(), value);
+    assert!(rt; leaf.key_ref().as_str() == text);
+    assert!(rt; *leaf.value_ref() == value);
     assert!(rt; leaf.previous() == previous);
     assert!(rt; leaf.next() == next);
 }
@@ -52,13 +52,13 @@ fn keeps_a_key_a_value_and_two_links(rt: HostRuntime) -> Result<(), Fail> {
     key.push('c')?;
     *value += 1;
     let (key, value) = leaf.entry_ref();
-    assert_eq!(rt; key.as_str(), "abc");
-    assert_eq!(rt; *value, 702);
+    assert!(rt; key.as_str() == "abc");
+    assert!(rt; *value == 702);
     check_leaf(&rt, &leaf, "abc", 702, previous, next);
     check_leaf(&rt, &leaf.clone_without_siblings()?, "abc", 702, None, None);
     let (key, value) = leaf.into_entry();
-    assert_eq!(rt; key.as_str(), "abc");
-    assert_eq!(rt; value, 702);
+    assert!(rt; key.as_str() == "abc");
+    assert!(rt; value == 702);
     Ok(())
 }
 
@@ -66,8 +66,8 @@ type Texts = LeafNode<String, String, 16>;
 
 fn check_texts(rt: &impl Abort, leaf: &Texts, previous: Option<NodePtr<16, Texts>>) {
     let (key, value) = leaf.entry_ref();
-    assert_eq!(rt; key.as_str(), "ab");
-    assert_eq!(rt; value.as_str(), "cd");
+    assert!(rt; key.as_str() == "ab");
+    assert!(rt; value.as_str() == "cd");
     assert!(rt; leaf.previous() == previous);
     assert!(rt; leaf.next().is_none());
 }

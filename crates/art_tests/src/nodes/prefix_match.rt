@@ -11,22 +11,22 @@ fn implicit_bytes_are_passed_over(rt: HostRuntime) {
     let found = node
         .attempt_pessimistic_match_prefix(b"xyz")
         .expect(&rt, "as long as the prefix");
-    assert_eq!(rt; found.matched_bytes, 3);
+    assert!(rt; found.matched_bytes == 3);
     assert!(rt; found.any_implicit_bytes);
     let found = node
         .attempt_pessimistic_match_prefix(b"abcd")
         .expect(&rt, "longer than the prefix");
-    assert_eq!(rt; found.matched_bytes, 3);
+    assert!(rt; found.matched_bytes == 3);
     let short = node
         .attempt_pessimistic_match_prefix(b"ab")
         .expect_err(&rt, "shorter than the prefix");
-    assert_eq!(rt; short.matched_bytes, 2);
-    assert_eq!(rt; short.prefix_byte, None);
+    assert!(rt; short.matched_bytes == 2);
+    assert!(rt; short.prefix_byte == None);
     let short = node
         .attempt_pessimistic_match_prefix(b"b")
         .expect_err(&rt, "shorter than the prefix");
-    assert_eq!(rt; short.matched_bytes, 1);
-    assert_eq!(rt; short.prefix_byte, None);
+    assert!(rt; short.matched_bytes == 1);
+    assert!(rt; short.prefix_byte == None);
 }
 
 #[test]
@@ -38,12 +38,12 @@ fn stored_bytes_are_compared(rt: HostRuntime) {
     let differs = node
         .attempt_pessimistic_match_prefix(b"abd2")
         .expect_err(&rt, "another third byte");
-    assert_eq!(rt; differs.matched_bytes, 2);
-    assert_eq!(rt; differs.prefix_byte, Some(99));
+    assert!(rt; differs.matched_bytes == 2);
+    assert!(rt; differs.prefix_byte == Some(99));
     let found = node
         .attempt_pessimistic_match_prefix(b"abc1")
         .expect(&rt, "begins with the prefix");
-    assert_eq!(rt; found.matched_bytes, 3);
+    assert!(rt; found.matched_bytes == 3);
     assert!(rt; !found.any_implicit_bytes);
 }
 
@@ -56,12 +56,12 @@ fn lengths_alone_are_compared(rt: HostRuntime) {
     let found = node
         .optimistic_match_prefix(b"xyz")
         .expect(&rt, "as long as the prefix");
-    assert_eq!(rt; found.matched_bytes, 3);
+    assert!(rt; found.matched_bytes == 3);
     let short = node
         .optimistic_match_prefix(b"ab")
         .expect_err(&rt, "shorter than the prefix");
-    assert_eq!(rt; short.matched_bytes, 2);
+    assert!(rt; short.matched_bytes == 2);
     let short = PessimisticMismatch::from(short);
-    assert_eq!(rt; short.matched_bytes, 2);
-    assert_eq!(rt; short.prefix_byte, None);
+    assert!(rt; short.matched_bytes == 2);
+    assert!(rt; short.prefix_byte == None);
 }

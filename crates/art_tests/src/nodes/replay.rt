@@ -101,10 +101,10 @@ fn answers_each_step_and_moves_between_kinds(rt: HostRuntime) -> Result<(), Fail
     for (index, (command, reply, kind, count)) in steps.into_iter().enumerate() {
         commands.push(command)?;
         let (replies, node) = run(&rt, &commands)?;
-        assert_eq!(rt; replies.len(), index + 1);
+        assert!(rt; replies.len() == index + 1);
         assert!(rt; replies[index] == reply, "at step {index}");
-        assert_eq!(rt; node.node_type(), kind, "at step {index}");
-        assert_eq!(rt; node.num_children(), count, "at step {index}");
+        assert!(rt; node.node_type() == kind, "at step {index}");
+        assert!(rt; node.num_children() == count, "at step {index}");
     }
     Ok(())
 }
@@ -165,22 +165,22 @@ fn grows_to_256_children_and_shrinks_again(rt: HostRuntime) -> Result<(), Fail> 
     for byte in 0..=255u8 {
         commands.push(Command::Write(byte, leaf(usize::from(byte))))?;
     }
-    assert_eq!(rt; left_by(&rt, &commands)?, (NodeType::Node256, 256));
+    assert!(rt; left_by(&rt, &commands)? == (NodeType::Node256, 256));
     commands.push(Command::Write(255, leaf(1000)))?;
     let (replies, node) = run(&rt, &commands)?;
     assert!(rt; replies.last() == Some(&Reply::Child(Some(leaf(255)))));
-    assert_eq!(rt; node.node_type(), NodeType::Node256);
-    assert_eq!(rt; node.num_children(), 256);
+    assert!(rt; node.node_type() == NodeType::Node256);
+    assert!(rt; node.num_children() == 256);
     for byte in 0..=207u8 {
         commands.push(Command::Remove(byte))?;
     }
-    assert_eq!(rt; left_by(&rt, &commands)?, (NodeType::Node48, 48));
+    assert!(rt; left_by(&rt, &commands)? == (NodeType::Node48, 48));
     commands.push(Command::Remove(208))?;
-    assert_eq!(rt; left_by(&rt, &commands)?, (NodeType::Node48, 47));
+    assert!(rt; left_by(&rt, &commands)? == (NodeType::Node48, 47));
     for byte in 209..=255u8 {
         commands.push(Command::Remove(byte))?;
     }
-    assert_eq!(rt; left_by(&rt, &commands)?, (NodeType::Node4, 0));
+    assert!(rt; left_by(&rt, &commands)? == (NodeType::Node4, 0));
     Ok(())
 }
 
@@ -190,9 +190,9 @@ fn starts_empty_whatever_the_count(rt: HostRuntime) -> Result<(), Fail> {
     header.inc_num_children();
     let (replies, node) = replay(rt.alloc(), header, &[] as &[Command])?;
     assert!(rt; replies.is_empty());
-    assert_eq!(rt; node.num_children(), 0);
-    assert_eq!(rt; node.header().prefix_len(), 3);
-    assert_eq!(rt; node.header().read_prefix(), b"ab".as_slice());
+    assert!(rt; node.num_children() == 0);
+    assert!(rt; node.header().prefix_len() == 3);
+    assert!(rt; node.header().read_prefix() == b"ab".as_slice());
     Ok(())
 }
 
@@ -201,7 +201,7 @@ fn check_leaves(rt: &impl Abort, reply: &Reply, bytes: &[u8]) {
     let Reply::Pairs(pairs) = reply else {
         panic!(rt; "the bounds are valid");
     };
-    assert_eq!(rt; pairs.as_slice().len(), bytes.len());
+    assert!(rt; pairs.as_slice().len() == bytes.len());
     for (pair, byte) in pairs.as_slice().iter().zip(bytes) {
         assert!(rt; *pair == (*byte, leaf(usize::from(*byte))));
     }
@@ -220,7 +220,7 @@ fn a_refused_range_leaves_the_node(rt: HostRuntime) {
     let reply = match node.apply(alloc, &range) {
         Ok(reply) => reply,
         Err(AllocError) => {
-            assert_eq!(&rt; node.num_children(), 9);
+            assert!(&rt; node.num_children() == 9);
             node.apply(alloc, &range)
                 .expect(&rt, "memory was refused once")
         }
@@ -245,9 +245,9 @@ fn a_refused_run_is_answered_by_the_next(rt: HostRuntime) {
             replay(rt.alloc(), header(), &commands).expect(&rt, "memory was refused once")
         }
     };
-    assert_eq!(&rt; replies.len(), 5);
+    assert!(&rt; replies.len() == 5);
     assert!(&rt; replies[2] == Reply::Child(Some(leaf(1))));
     check_leaves(&rt, &replies[3], &[2]);
     assert!(&rt; replies[4] == Reply::Child(Some(leaf(3))));
-    assert_eq!(&rt; node.num_children(), 1);
+    assert!(&rt; node.num_children() == 1);
 }

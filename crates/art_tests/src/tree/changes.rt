@@ -132,9 +132,9 @@ fn check_inner(
     let Some(header) = arena.header(pointer) else {
         panic!(rt; "a leaf");
     };
-    assert_eq!(rt; header.prefix_len(), prefix_len);
+    assert!(rt; header.prefix_len() == prefix_len);
     assert!(rt; header.read_prefix() == stored.as_bytes());
-    assert_eq!(rt; header.num_children(), children);
+    assert!(rt; header.num_children() == children);
 }
 
 // The child of a Node4 under a byte.
@@ -319,7 +319,7 @@ fn load_at_last(rt: &impl Abort, alloc: Global) -> Option<ArtTree<[u8; 1], u8, 0
         Err(fault) => fault,
     };
     assert!(rt; fault.refusal == LoadRefusal::OutOfMemory);
-    assert_eq!(rt; fault.entries.len(), 5);
+    assert!(rt; fault.entries.len() == 5);
     let Ok(tree) = ArtTree::load(alloc, fault.entries) else {
         panic!(rt; "refused twice");
     };

@@ -23,7 +23,7 @@ fn check_fault(
     texts: &[&str],
 ) {
     assert!(rt; fault.refusal == refusal);
-    assert_eq!(rt; fault.entries.len(), texts.len());
+    assert!(rt; fault.entries.len() == texts.len());
     for (number, (entry, text)) in fault.entries.iter().zip(texts).enumerate() {
         assert!(rt; entry.0.get() == *text);
         assert!(rt; entry.1 == number);
@@ -95,7 +95,7 @@ fn load_at_last(
         Err(fault) => fault,
     };
     assert!(rt; fault.refusal == LoadRefusal::OutOfMemory);
-    assert_eq!(rt; fault.entries.len(), keys.len());
+    assert!(rt; fault.entries.len() == keys.len());
     for (number, (entry, key)) in fault.entries.iter().zip(keys).enumerate() {
         assert!(rt; entry.0 == *key && entry.1 == number);
     }
@@ -108,7 +108,7 @@ fn load_at_last(
 fn check_root(rt: &impl Abort, arena: &Small, root: SmallRoot, children: usize) {
     assert!(rt; arena.holds_opaque(root));
     let count = arena.header(root).map_or(0, |header| header.num_children());
-    assert_eq!(rt; count, children);
+    assert!(rt; count == children);
 }
 
 #[test]
@@ -173,9 +173,9 @@ fn leaves_below(
     rt: &impl Abort,
     node: &InnerNode4<[u8; 4], usize, 2>,
 ) -> (SharedLeafPtr, SharedLeafPtr) {
-    assert_eq!(rt; node.prefix_len(), 3);
-    assert_eq!(rt; node.stored_prefix(), b"ab".as_slice());
-    assert_eq!(rt; node.num_children(), 2);
+    assert!(rt; node.prefix_len() == 3);
+    assert!(rt; node.stored_prefix() == b"ab".as_slice());
+    assert!(rt; node.num_children() == 2);
     let (low, high) = (node.min(), node.max());
     assert!(rt; (low.0, high.0) == (b'1', b'2'));
     let (Some(first), Some(second)) = (low.1.cast(), high.1.cast()) else {

@@ -1,5 +1,5 @@
 //! The calls that change a tree.
-ghost use Rattle.std.specs.Prelude.{◌≡◌, ◌≢◌, ℕ, List, None, IfOk, IfErr, OnOk, OnErr};
+ghost use Rattle.std.specs.Prelude.{◌≡◌, ◌≢◌, ℕ, List, None, IfNone, IfOk, IfErr, OnOk, OnErr};
 ghost use Rattle.art_arena.specs.Arena.{SameNodes};
 ghost use Rattle.art_tree.specs.Dictionary.{entry_at, IsEntry};
 ghost use Rattle.art_tree.specs.Inserting.{IsRefused, MayEnter, SameEntries};
@@ -40,7 +40,8 @@ impl<K: AsBytes, V, const PREFIX_LEN: usize> ArtTree<K, V, PREFIX_LEN> {
         Ok(before)
     }
 
-    /// Takes out the entry with this text, if there is one, and answers it.
+    /// Takes out the entry with this text, if there is one, and answers it. Where there is none,
+    /// nothing changes.
     ///
     /// Memory is asked for only where the entry's leaf hangs in an inner node of 5, 17 or 49 children,
     /// since a node of a smaller kind takes its place. Where that is refused, the tree is as before.
@@ -49,6 +50,7 @@ impl<K: AsBytes, V, const PREFIX_LEN: usize> ArtTree<K, V, PREFIX_LEN> {
     /// most three inner nodes: the two above the leaf, and the one that takes its parent's place.
     pub fn remove(&mut self, key: &[u8]) -> Result<Option<(K, V)>, AllocError>
         ensures removed { IfOk result (λ entry. entry ≡ entry_at K.text self.old.arena key.now) }
+        ensures absent_kept { IfOk result (λ entry. IfNone entry (self.new ≡ self.old)) }
         ensures gone { OnOk result (entry_at K.text self.new.arena key.now ≡ None) }
         ensures others { OnOk result ((other : List ℕ) → other ≢ key.now →
             entry_at K.text self.new.arena other ≡ entry_at K.text self.old.arena other) }

@@ -49,7 +49,7 @@ fn walks_three_leaves_in_order(rt: HostRuntime) {
             panic!(rt; "the list ends before {key}");
         };
         assert!(rt; arena.holds(leaf));
-        assert_eq!(rt; arena.as_key_ref(leaf)[0], *key);
+        assert!(rt; arena.as_key_ref(leaf)[0] == *key);
         next = arena.as_ref(leaf).next();
     }
     assert!(rt; next.is_none());
