@@ -1,6 +1,7 @@
 //! Inner nodes that become one of the next kind.
 ghost use Rattle.std.specs.Prelude.{◌≡◌, ◌≢◌, ℕ, ◌<◌, ◌≤◌, ◌↔◌, IsTrue, length};
 ghost use Rattle.art_header.specs.NodeType.{most_children, grown_kind, shrunk_kind};
+ghost use Rattle.art_header.specs.declared.node_type.NodeType.TheVariants.{Leaf};
 ghost use Rattle.art_nodes.specs.Inner.{HasRoomFor};
 
 use crate::inner_nodes::inner_node_direct::InnerNodeDirect;
@@ -43,7 +44,7 @@ pub trait InnerNode<const PREFIX_LEN: usize>: Node<PREFIX_LEN>
         ensures has_room { ¬ (IsTrue result) → length (Self.inner self.now).children < Self.room };
 
     /// The kind is that of an inner node.
-    ghost is_inner: { Self.TYPE ≢ NodeType.Leaf };
+    ghost is_inner: { Self.TYPE ≢ Leaf };
 
     /// A node has room for as many children as its kind holds.
     ghost room_of_kind: { Self.room ≡ most_children Self.TYPE };

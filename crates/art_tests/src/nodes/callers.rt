@@ -1,8 +1,9 @@
 //! What another crate does with nodes, by their bounds alone: each of these is proved from the clauses
 //! and laws of the bounds, for every `PREFIX_LEN`, with no lemma but the public laws.
-ghost use Rattle.std.specs.Prelude.{◌≡◌, ◌≢◌, ◌+◌, ◌<◌, ◌≤◌, length, Some, None, IfSome, IfNone, IsSome, IsTrue};
+ghost use Rattle.std.specs.Prelude.{◌≡◌, ◌≢◌, ◌+◌, ◌<◌, ◌≤◌, ◌↔◌, length, Some, None, IfSome, IfNone, IsSome, IsTrue};
 ghost use Rattle.art_header.specs.Header.{capped};
-ghost use Rattle.art_header.specs.NodeType.{most_children, shrunk_kind};
+ghost use Rattle.art_header.specs.NodeType.{least_children, most_children, shrunk_kind};
+ghost use Rattle.art_header.specs.declared.node_type.NodeType.TheVariants.{Node4};
 ghost use Rattle.art_nodes.specs.ChildMap.{child_at};
 ghost use Rattle.art_nodes.specs.Inner.{HasRoomFor, node_with_child};
 ghost use Rattle.art_nodes.specs.Pointers.{opaque_pointer};
@@ -63,6 +64,14 @@ fn grow_then_write<const PREFIX_LEN: usize, N: InnerNode<PREFIX_LEN>>(
     let mut grown = node.grow();
     grown.write_child(byte, child);
     grown
+}
+
+// Whether a node has so few children that it is to become one of the next smaller kind.
+fn has_too_few<const PREFIX_LEN: usize, N: InnerNode<PREFIX_LEN>>(node: &N) -> bool
+    ensures { N.TYPE ≢ Node4 → (IsTrue result ↔
+        (length (N.inner node.now).children < least_children N.TYPE)) }
+{
+    N::TYPE.should_shrink_inner_node(node.num_children())
 }
 
 // The children of a node of the next smaller kind fit into it.

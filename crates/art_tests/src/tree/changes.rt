@@ -1,6 +1,11 @@
 // Trees under inserts and removals: their shape, their list of leaves, and what is refused.
+ghost use Rattle.std.specs.Prelude.{◌≡◌};
+ghost use Rattle.art_tree.specs.Search.{HasTree};
+
+use super::matches::check_match;
 use super::*;
 use art_tree::{ConcreteNodePtr, InsertRefusal, LeafNode, NodePtr, NodeType};
+use std::cmp::Ordering;
 
 type Keys = ArtTree<String, usize, 2>;
 
@@ -89,11 +94,19 @@ fn least_leaf(rt: &impl Abort, arena: &Nodes, root: Pointer) -> Leaf {
     panic!(rt; "too deep")
 }
 
-fn root_of(rt: &impl Abort, tree: &Keys) -> Pointer {
+// The root, where a tree stands.
+fn root_of(rt: &impl Abort, tree: &Keys) -> Pointer
+    ensures { HasTree ⟦<String as AsBytes>⟧.text tree.now.arena result }
+{
     let Some(root) = tree.root() else {
         panic!(rt; "no root");
     };
     root
+}
+
+fn text_of<'a>(entry: Option<(&'a String, &usize)>) -> Option<&'a [u8]> {
+    let (key, _) = entry?;
+    Some(key.as_bytes())
 }
 
 // The leaves of the tree are linked in this order, and each text has its number.
@@ -160,6 +173,8 @@ fn inserted_leaves_are_linked_in_order(rt: HostRuntime) -> Result<(), Fail> {
     }
     let root = root_of(&rt, &tree);
     check_inner(&rt, tree.arena(), root, NodeType::Node16, 0, "", 5);
+    assert!(rt; text_of(tree.first()) == Some(b"a".as_slice()));
+    assert!(rt; text_of(tree.last()) == Some(b"e".as_slice()));
     check_texts(
         &rt,
         &tree,
@@ -217,6 +232,18 @@ fn a_text_comes_and_goes(rt: HostRuntime) -> Result<(), Fail> {
     Ok(())
 }
 
+// The root is over `abcde1` and `abcde2`, and stores two bytes of what they share.
+fn check_joined(rt: &impl Abort, tree: &Keys) {
+    let root = root_of(rt, tree);
+    let rows: [Row; 2] = [
+        (b"abcde2", Answer::Child(1, b'2'), 2),
+        (b"abXde2", Answer::Nothing, 2),
+    ];
+    check(rt, tree.arena(), root, &rows);
+    let full = Err((2, b'c', Ordering::Greater));
+    check_match(rt, tree.arena(), root, b"abXde2", Ok((5, true)), full);
+}
+
 #[test]
 fn a_node_of_one_child_goes(rt: HostRuntime) -> Result<(), Fail> {
     let alloc = rt.alloc();
@@ -228,6 +255,7 @@ fn a_node_of_one_child_goes(rt: HostRuntime) -> Result<(), Fail> {
     let root = root_of(&rt, &tree);
     check_inner(&rt, tree.arena(), root, NodeType::Node4, 5, "ab", 2);
     check_texts(&rt, &tree, &[("abcde1", 0), ("abcde2", 1)]);
+    check_joined(&rt, &tree);
     check_removed(&rt, &mut tree, "abcde1", 0)?;
     assert!(rt; root_of(&rt, &tree).node_type() == NodeType::Leaf);
     check_texts(&rt, &tree, &[("abcde2", 1)]);
@@ -270,6 +298,30 @@ fn nodes_grow_and_shrink(rt: HostRuntime) -> Result<(), Fail> {
         assert!(rt; tree.get(&[byte]).is_none());
         assert!(rt; tree.root().map(|root| root.node_type()) == kind_over(255 - usize::from(step)));
     }
+    Ok(())
+}
+
+#[test]
+fn five_keys_come_and_go(rt: HostRuntime) -> Result<(), Fail> {
+    let mut tree = ArtTree::<[u8; 1], u8, 0>::new(rt.alloc());
+    for byte in 0..5u8 {
+        insert_at_last(&rt, &mut tree, byte);
+    }
+    assert!(rt; tree.remove(&[0])?.is_some());
+    assert!(rt; tree.root().map(|root| root.node_type()) == Some(NodeType::Node4));
+    assert!(rt; tree.remove(&[9])?.is_none());
+    for byte in 0..5u8 {
+        assert!(rt; tree.get(&[byte]).is_some() == (byte > 0));
+    }
+    for byte in 1..5u8 {
+        assert!(rt; tree.remove(&[byte])?.is_some());
+    }
+    assert!(rt; tree.root().is_none() && tree.first().is_none());
+    let Ok(before) = tree.insert([7], 7) else {
+        return Err(AllocError.into());
+    };
+    assert!(rt; before.is_none());
+    assert!(rt; tree.root().map(|root| root.node_type()) == Some(NodeType::Leaf));
     Ok(())
 }
 

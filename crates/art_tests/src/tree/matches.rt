@@ -45,7 +45,7 @@ fn full_match<K: AsBytes, const PREFIX_LEN: usize>(
 }
 
 // The root, a Node4, matches the key so.
-fn check_match<K: AsBytes, const PREFIX_LEN: usize>(
+pub(super) fn check_match<K: AsBytes, const PREFIX_LEN: usize>(
     rt: &impl Abort,
     arena: &NodeArena<K, usize, PREFIX_LEN>,
     root: OpaqueNodePtr<K, usize, PREFIX_LEN>,
