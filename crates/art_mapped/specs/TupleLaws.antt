@@ -32,11 +32,12 @@ pub part_laws : {K D : Type 0} {is_key : K → Type 0} {text : K → List ℕ} {
     → ((bytes : K) (value : D) → is_in_domain value → stands_for bytes value → text bytes ≡ text_of value)
     → ((a b : K) → is_key a → is_key b → text a ≡ text b → a ≡ b)
     → ((bytes : K) (x y : D) → is_in_domain x → is_in_domain y → stands_for bytes x → stands_for bytes y → are_same x y)
-    → TextLaws (IsPart is_in_domain text_of width) text_of (IsTextOf is_key text stands_for) are_same width
+    → TextLaws (IsPart is_in_domain text_of (IsTextOf is_key text stands_for) width) text_of (IsTextOf is_key text stands_for) are_same width
 part_laws {stands_for = stands_for} width has_text one_key reads_one =
     record {
       has_text = λ given value v_in of. sym of.2 ∙ has_text of.0 value v_in.0 of.3;
       long = λ value v_in. v_in.1;
+      stands = λ value v_in. v_in.2;
       reads_one = λ given x y x_in y_in x_of y_of. reads_one x_of.0 x y x_in.0 y_in.0 x_of.3 (key_stands stands_for one_key x_of.0 given y x_of.1 x_of.2 y_of);
     }
 
@@ -69,24 +70,29 @@ module _ {A B : Type 0} {front_in : A → Type 0} {front_text : A → List ℕ} 
             let first = front.long value.0 v_in.0 in
             let later = last.long value.1 v_in.1 in
             omega (arith, length-append (front_text value.0) (last_text value.1), first, later);
+        stands = λ value v_in. (front_text value.0, last_text value.1, refl, front.stands value.0 v_in.0, last.stands value.1 v_in.1);
         reads_one = λ text x y x_in y_in x_of y_of.
             let y_too = split_both text x_of.0 x_of.1 y y_in.1 y_of x_of.2 (last_long text x x_in.1 x_of) in
             (front.reads_one x_of.0 x.0 y.0 x_in.0 y_in.0 x_of.3 y_too.0, last.reads_one x_of.1 x.1 y.1 x_in.1 y_in.1 x_of.4 y_too.1);
       }
 
   -- the first part that differs decides
-  pub both_order : {front_order : A → A → Ordering} {last_order : B → B → Ordering} → OrderLaws front_in front_text front_same front_order → OrderLaws last_in last_text last_same last_order
-      → OrderLaws (Both front_in last_in) (both_texts front_text last_text) (AreSameBoth front_same last_same) (λ x y. ordering_then (front_order x.0 y.0) (last_order x.1 y.1))
+  pub both_order : {front_order : A → A → Ordering} {last_order : B → B → Ordering} → OrderLaws front_in front_text front_order → OrderLaws last_in last_text last_order
+      → OrderLaws (Both front_in last_in) (both_texts front_text last_text) (λ x y. ordering_then (front_order x.0 y.0) (last_order x.1 y.1))
   both_order front_laws last_laws =
       record {
         keeps = λ x y x_in y_in.
             let first = front_laws.keeps x.0 y.0 x_in.0 y_in.0 in
             let later = last_laws.keeps x.1 y.1 x_in.1 y_in.1 in
             rw (text_order-append (front_text x.0) (front_text y.0) (last_text x.1) (last_text y.1) (front.long x.0 x_in.0 ∙ sym (front.long y.0 y_in.0)), ← first, ← later) refl;
-        decided = λ x y x_in y_in same.
-            let both = append_split (front_text x.0) (last_text x.1) (front_text y.0) (last_text y.1) (front.long x.0 x_in.0 ∙ sym (front.long y.0 y_in.0)) same in
-            (front_laws.decided x.0 y.0 x_in.0 y_in.0 both.0, last_laws.decided x.1 y.1 x_in.1 y_in.1 both.1);
       }
+
+-- values with one text are one, since it stands for both
+pub same_from_one_text : {D : Type 0} {is_in_domain : D → Type 0} {text_of : D → List ℕ} {stands_for : List ℕ → D → Type 0} {are_same : D → D → Type 0} {width : ℕ}
+    → TextLaws is_in_domain text_of stands_for are_same width → (x y : D) → is_in_domain x → is_in_domain y → text_of x ≡ text_of y → are_same x y
+same_from_one_text {text_of = text_of} {stands_for = stands_for} laws x y x_in y_in same =
+    let At : List ℕ → Type 0 = λ text. stands_for text y in
+    laws.reads_one (text_of x) x y x_in y_in (laws.stands x x_in) (subst At (sym same) (laws.stands y y_in))
 
 -- of two texts of one width none is a proper front of the other
 pub wide_front_is_whole : {D : Type 0} {is_in_domain : D → Type 0} {text_of : D → List ℕ} {stands_for : List ℕ → D → Type 0} {are_same : D → D → Type 0} {width : ℕ}

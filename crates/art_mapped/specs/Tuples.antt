@@ -3,9 +3,9 @@ use Rattle.std.specs.Prelude.{◌≡◌, ℕ, List, ◌++◌, length}
 use Rattle.std.specs.declared.cmp.Ordering.{Ordering}
 use Rattle.art_bytes.specs.Text.{text_order}
 
--- a part's value is one of the mapping's whose text has the width of the part
-abbrev pub IsPart : {D : Type 0} → (D → Type 0) → (D → List ℕ) → ℕ → D → Type 0
-IsPart is_in_domain text_of width value = is_in_domain value × (length (text_of value) ≡ width)
+-- a part's value is one of the mapping's whose text has the width of the part, and stands for it
+abbrev pub IsPart : {D : Type 0} → (D → Type 0) → (D → List ℕ) → (List ℕ → D → Type 0) → ℕ → D → Type 0
+IsPart is_in_domain text_of stands_for width value = is_in_domain value × (length (text_of value) ≡ width) × stands_for (text_of value) value
 
 -- a text stands for a part's value where the bytes that have it do
 abbrev pub IsTextOf : {K D : Type 0} → (K → Type 0) → (K → List ℕ) → (K → D → Type 0) → List ℕ → D → Type 0
@@ -27,13 +27,13 @@ AreSameBoth front last x y = front x.0 y.0 × last x.1 y.1
 abbrev pub StandsForBoth : {A B : Type 0} → (List ℕ → A → Type 0) → (List ℕ → B → Type 0) → List ℕ → A × B → Type 0
 StandsForBoth front last text value = (a : List ℕ) × (b : List ℕ) × (text ≡ a ++ b) × front a value.0 × last b value.1
 
--- a text stands for one value at most, whose text it is, and all values have texts of one width
+-- a text stands for one value at most, whose text it is, each value's text stands for it, and all values have texts of one width
 pub record TextLaws {D : Type 0} (is_in_domain : D → Type 0) (text_of : D → List ℕ) (stands_for : List ℕ → D → Type 0) (are_same : D → D → Type 0) (width : ℕ) : Type 0 where
   pub has_text : (text : List ℕ) (value : D) → is_in_domain value → stands_for text value → text ≡ text_of value
   pub long : (value : D) → is_in_domain value → length (text_of value) ≡ width
+  pub stands : (value : D) → is_in_domain value → stands_for (text_of value) value
   pub reads_one : (text : List ℕ) (x y : D) → is_in_domain x → is_in_domain y → stands_for text x → stands_for text y → are_same x y
 
--- the texts keep the order of the values, and values with one text are one
-pub record OrderLaws {D : Type 0} (is_in_domain : D → Type 0) (text_of : D → List ℕ) (are_same : D → D → Type 0) (order : D → D → Ordering) : Type 0 where
+-- the texts keep the order of the values
+pub record OrderLaws {D : Type 0} (is_in_domain : D → Type 0) (text_of : D → List ℕ) (order : D → D → Ordering) : Type 0 where
   pub keeps : (x y : D) → is_in_domain x → is_in_domain y → order x y ≡ text_order (text_of x) (text_of y)
-  pub decided : (x y : D) → is_in_domain x → is_in_domain y → text_of x ≡ text_of y → are_same x y

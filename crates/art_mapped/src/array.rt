@@ -8,7 +8,7 @@ ghost use Rattle.art_mapped.specs.SequenceLaws.{same_from_joined, joined_keep, j
 
 use crate::element::Element;
 use crate::fixed::FixedBytes;
-use crate::mapping::{BytesMapping, NoPrefixesMapping, OrderedMapping};
+use crate::mapping::{BytesMapping, InjectiveMapping, NoPrefixesMapping, OrderedMapping};
 use crate::sequence::{Joined, are_elements, array_of, joined_bytes};
 use std::alloc::{AllocError, Global};
 
@@ -53,10 +53,12 @@ impl<F, E: Element<F>, const N: usize> BytesMapping<[E; N]> for Joined<F> {
     }
 }
 
+impl<F, E: Element<F>, const N: usize> InjectiveMapping<[E; N]> for Joined<F> {
+    ghost decided_by_text = { λ x y x_in y_in same. same_from_joined E.keeps x y x_in.1 y_in.1 refl same };
+}
+
 impl<F, E: Element<F>, const N: usize> OrderedMapping<[E; N]> for Joined<F> {
     ghost keeps_order = { λ x y x_in y_in. joined_keep E.keeps x y x_in.1 y_in.1 };
-
-    ghost decided_by_text = { λ x y x_in y_in same. same_from_joined E.keeps x y x_in.1 y_in.1 refl same };
 }
 
 impl<F, E: Element<F>, const N: usize> NoPrefixesMapping<[E; N]> for Joined<F> {

@@ -6,7 +6,7 @@ ghost use Rattle.art_mapped.specs.MappingLaws.{kept_by_text};
 ghost use Rattle.art_mapped.specs.SequenceLaws.{same_from_text, front_is_whole};
 
 use crate::fixed::FixedBytes;
-use crate::mapping::{BytesMapping, NoPrefixesMapping, OrderedMapping};
+use crate::mapping::{BytesMapping, InjectiveMapping, NoPrefixesMapping, OrderedMapping};
 use std::alloc::{AllocError, Global};
 use std::marker::PhantomData;
 
@@ -84,10 +84,12 @@ impl<F, E: Element<F>> BytesMapping<E> for Single<F> {
     }
 }
 
+impl<F, E: Element<F>> InjectiveMapping<E> for Single<F> {
+    ghost decided_by_text = { λ x y x_in y_in same. same_from_text E.keeps x y x_in y_in refl same };
+}
+
 impl<F, E: Element<F>> OrderedMapping<E> for Single<F> {
     ghost keeps_order = { E.keeps.keeps };
-
-    ghost decided_by_text = { λ x y x_in y_in same. same_from_text E.keeps x y x_in y_in refl same };
 }
 
 impl<F, E: Element<F>> NoPrefixesMapping<E> for Single<F> {

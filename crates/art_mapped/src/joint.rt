@@ -54,14 +54,14 @@ pub trait Joint<D> {
     /// One value has one text.
     ghost one_text: { (x y : D) → are_same x y → text_of x ≡ text_of y };
 
-    /// A text stands for one value at most, and all texts have one width.
+    /// A text stands for one value at most, each value's text stands for it, and all texts have one width.
     ghost laws: { TextLaws is_in_domain text_of stands_for are_same width };
 }
 
 /// Parts whose texts keep the order of their values.
 pub trait OrderedJoint<D: Ord>: Joint<D> {
     /// Two values compare as their texts do.
-    ghost order: { OrderLaws Self.is_in_domain Self.text_of Self.are_same D.cmp };
+    ghost order: { OrderLaws Self.is_in_domain Self.text_of D.cmp };
 }
 
 /// The first part.
@@ -74,7 +74,7 @@ impl<D, K: FixedBytes, M: BytesMapping<D, Bytes = K>> Joint<D> for First<M> {
 
     ghost width = { K.WIDTH };
 
-    ghost is_in_domain = { IsPart M.is_in_domain M.text_of K.WIDTH };
+    ghost is_in_domain = { IsPart M.is_in_domain M.text_of (IsTextOf K.is_key K.text M.stands_for) K.WIDTH };
 
     ghost text_of = { M.text_of };
 
@@ -104,10 +104,7 @@ impl<D, K: FixedBytes, M: BytesMapping<D, Bytes = K>> Joint<D> for First<M> {
 }
 
 impl<D: Ord, K: FixedBytes, M: OrderedMapping<D, Bytes = K>> OrderedJoint<D> for First<M> {
-    ghost order = { record {
-      keeps = λ x y x_in y_in. M.keeps_order x y x_in.0 y_in.0;
-      decided = λ x y x_in y_in. M.decided_by_text x y x_in.0 y_in.0;
-    } };
+    ghost order = { record { keeps = λ x y x_in y_in. M.keeps_order x y x_in.0 y_in.0 } };
 }
 
 /// The parts `F`, and one more behind them.
@@ -121,7 +118,7 @@ impl<A: Drop, B: Drop, F: Joint<A>, K: FixedBytes, M: BytesMapping<B, Bytes = K>
 
     ghost width = { F.width + K.WIDTH };
 
-    ghost is_in_domain = { Both F.is_in_domain (IsPart M.is_in_domain M.text_of K.WIDTH) };
+    ghost is_in_domain = { Both F.is_in_domain (IsPart M.is_in_domain M.text_of (IsTextOf K.is_key K.text M.stands_for) K.WIDTH) };
 
     ghost text_of = { both_texts F.text_of M.text_of };
 
@@ -164,8 +161,5 @@ where
     K: FixedBytes,
     M: OrderedMapping<B, Bytes = K>,
 {
-    ghost order = { both_order F.laws (part_laws K.WIDTH M.has_text K.one_key M.reads_one) F.order (record {
-      keeps = λ x y x_in y_in. M.keeps_order x y x_in.0 y_in.0;
-      decided = λ x y x_in y_in. M.decided_by_text x y x_in.0 y_in.0;
-    }) };
+    ghost order = { both_order F.laws (part_laws K.WIDTH M.has_text K.one_key M.reads_one) F.order (record { keeps = λ x y x_in y_in. M.keeps_order x y x_in.0 y_in.0 }) };
 }

@@ -27,7 +27,7 @@ pub use fixed::FixedBytes;
 pub use identity::Identity;
 pub use joint::{First, Joint, OrderedJoint, Then};
 pub use mapped::Mapped;
-pub use mapping::{BytesMapping, NoPrefixesMapping, OrderedMapping};
+pub use mapping::{BytesMapping, InjectiveMapping, NoPrefixesMapping, OrderedMapping};
 pub use octets::{Octets, ToOctets};
 pub use sequence::{IntegerForm, Joined};
 pub use signed::{Signed, ToIBE};

@@ -90,15 +90,18 @@ pub trait BytesMapping<D> {
         StandsForSome is_in_domain stands_for a → StandsForSome is_in_domain stands_for b };
 }
 
-/// A mapping whose texts keep the order of the domain.
-pub trait OrderedMapping<D: Ord>: BytesMapping<D> {
-    /// Two values compare as their texts do.
-    ghost keeps_order: { (x y : D) → Self.is_in_domain x → Self.is_in_domain y →
-        D.cmp x y ≡ text_order (Self.text_of x) (Self.text_of y) };
-
+/// A mapping that gives values that differ texts that differ, as each but `Identity` does.
+pub trait InjectiveMapping<D>: BytesMapping<D> {
     /// Values with one text are one.
     ghost decided_by_text: { (x y : D) → Self.is_in_domain x → Self.is_in_domain y →
         Self.text_of x ≡ Self.text_of y → Self.are_same x y };
+}
+
+/// A mapping whose texts keep the order of the domain.
+pub trait OrderedMapping<D: Ord>: InjectiveMapping<D> {
+    /// Two values compare as their texts do.
+    ghost keeps_order: { (x y : D) → Self.is_in_domain x → Self.is_in_domain y →
+        D.cmp x y ≡ text_order (Self.text_of x) (Self.text_of y) };
 }
 
 /// A mapping of which no value's text is a proper front of another's.

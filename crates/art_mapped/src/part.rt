@@ -9,7 +9,8 @@ use std::alloc::{AllocError, Global};
 
 /// Whether the bytes are those of some value of the part.
 pub(crate) fn is_part<D, K: FixedBytes, M: BytesMapping<D, Bytes = K>>(bytes: &[u8]) -> bool
-    ensures { IsTrue result ↔ StandsForSome (IsPart M.is_in_domain M.text_of K.WIDTH)
+    ensures { IsTrue result ↔ StandsForSome
+        (IsPart M.is_in_domain M.text_of (IsTextOf K.is_key K.text M.stands_for) K.WIDTH)
         (IsTextOf K.is_key K.text M.stands_for) bytes.now }
 {
     bytes.len() == K::WIDTH && M::is_value(&K::from_slice(bytes))
@@ -22,7 +23,8 @@ pub(crate) fn write_part<D, K: FixedBytes, M: BytesMapping<D, Bytes = K>>(
     bytes: &mut Vec<u8>,
 ) -> Result<(), AllocError>
     ensures text { OnOk result (bytes.new.items ≡ bytes.old.items ++ M.text_of value) }
-    ensures in_domain { OnOk result (IsPart M.is_in_domain M.text_of K.WIDTH value) }
+    ensures in_domain { OnOk result (IsPart M.is_in_domain M.text_of
+        (IsTextOf K.is_key K.text M.stands_for) K.WIDTH value) }
     ensures stands { OnOk result (IsTextOf K.is_key K.text M.stands_for (M.text_of value) value) }
 {
     let key = M::to_bytes(alloc, value)?;
@@ -35,9 +37,11 @@ pub(crate) fn read_part<D, K: FixedBytes, M: BytesMapping<D, Bytes = K>>(
     alloc: Global,
     bytes: &[u8],
 ) -> Result<D, AllocError>
-    requires { StandsForSome (IsPart M.is_in_domain M.text_of K.WIDTH)
+    requires { StandsForSome
+        (IsPart M.is_in_domain M.text_of (IsTextOf K.is_key K.text M.stands_for) K.WIDTH)
         (IsTextOf K.is_key K.text M.stands_for) bytes.now }
-    ensures in_domain { IfOk result (IsPart M.is_in_domain M.text_of K.WIDTH) }
+    ensures in_domain { IfOk result (IsPart M.is_in_domain M.text_of
+        (IsTextOf K.is_key K.text M.stands_for) K.WIDTH) }
     ensures stands { IfOk result (IsTextOf K.is_key K.text M.stands_for bytes.now) }
     ensures inverts { (value : D) → M.is_in_domain value →
         IsTextOf K.is_key K.text M.stands_for bytes.now value →

@@ -1,10 +1,10 @@
 ghost use Rattle.std.specs.Prelude.{◌≡◌, true, refl};
 ghost use Rattle.std.specs.Vec.{vec_items};
 ghost use Rattle.std.proofs.Common.{◌∙◌};
-ghost use Rattle.art_mapped.specs.TupleLaws.{kept_by_items, wide_front_is_whole};
+ghost use Rattle.art_mapped.specs.TupleLaws.{kept_by_items, same_from_one_text, wide_front_is_whole};
 
 use crate::joint::{First, Joint, OrderedJoint, Then};
-use crate::mapping::{BytesMapping, NoPrefixesMapping, OrderedMapping};
+use crate::mapping::{BytesMapping, InjectiveMapping, NoPrefixesMapping, OrderedMapping};
 use std::alloc::{AllocError, Global};
 use std::marker::PhantomData;
 
@@ -95,6 +95,15 @@ where
     }
 }
 
+impl<D, P, J, T> InjectiveMapping<D> for ConcatTuple<T>
+where
+    D: TupleValues<Pairs = P> + Drop,
+    J: Joint<P>,
+    T: TupleMappings<Joint = J>,
+{
+    ghost decided_by_text = { λ x y. same_from_one_text J.laws (D.in_pairs x) (D.in_pairs y) };
+}
+
 impl<D, P, J, T> OrderedMapping<D> for ConcatTuple<T>
 where
     D: OrderedTuple<P> + TupleValues<Pairs = P> + Drop,
@@ -103,8 +112,6 @@ where
     T: TupleMappings<Joint = J>,
 {
     ghost keeps_order = { λ x y x_in y_in. D.same_order x y ∙ J.order.keeps (D.in_pairs x) (D.in_pairs y) x_in y_in };
-
-    ghost decided_by_text = { λ x y. J.order.decided (D.in_pairs x) (D.in_pairs y) };
 }
 
 impl<D, P, J, T> NoPrefixesMapping<D> for ConcatTuple<T>

@@ -1,6 +1,6 @@
 // The mappings of integers and addresses: one type over the form of its elements.
 use crate::element::{Element, Single};
-use crate::mapping::{BytesMapping, NoPrefixesMapping, OrderedMapping};
+use crate::mapping::{BytesMapping, InjectiveMapping, NoPrefixesMapping, OrderedMapping};
 use crate::sequence::{IntegerForm, Joined};
 use std::alloc::{AllocError, Global};
 use std::marker::PhantomData;
@@ -63,10 +63,12 @@ impl<F, D: Domain<F>> BytesMapping<D> for ToBigEndian<F> {
     }
 }
 
+impl<F, D: Domain<F>> InjectiveMapping<D> for ToBigEndian<F> {
+    ghost decided_by_text = { D.Mapping.decided_by_text };
+}
+
 impl<F, D: Domain<F>> OrderedMapping<D> for ToBigEndian<F> {
     ghost keeps_order = { D.Mapping.keeps_order };
-
-    ghost decided_by_text = { D.Mapping.decided_by_text };
 }
 
 /// For integers, addresses and arrays, whose texts have one length.

@@ -1,12 +1,15 @@
 // Composite keys, and keys as they stand.
-ghost use Rattle.std.specs.Prelude.{◌≡◌, ◌++◌, IsOk, IfOk};
+ghost use Rattle.std.specs.Prelude.{◌≡◌, ◌↔◌, ◌++◌, ℕ, List, IsTrue, IsOk, IfOk};
 ghost use Rattle.std.specs.Net.Addr.{ipv4_octets};
-ghost use Rattle.art_mapped.specs.Mapped.{mapped_text};
+ghost use Rattle.art_mapped.specs.Mapped.{mapped_text, HoldsValue};
 ghost use Rattle.art_mapped.specs.Numbers.{signed_text};
 
 use super::*;
+use art_mapped::InjectiveMapping;
 
 type Route = ConcatTuple<(ToOctets, ToIBE)>;
+
+type Named = ConcatTuple<(Identity, ToUBE)>;
 
 /// The key of an address and a number has the octets, and then the number's bytes.
 fn route(
@@ -42,6 +45,22 @@ fn key_back<D: AsBytes + Drop>(alloc: Global, key: D) -> Result<D, AllocError>
     ensures always { IsOk result }
 {
     Mapped::<Identity, D>::new(alloc, key)?.get(alloc)
+}
+
+/// Keys are equal exactly where they hold one value.
+fn are_one<B: InjectiveMapping<D>, D>(a: &Mapped<B, D>, b: &Mapped<B, D>) -> bool
+    ensures { (x y : D) → HoldsValue a.now x → HoldsValue b.now y →
+        IsTrue result ↔ B.are_same x y }
+{
+    a == b
+}
+
+/// Of a key that stands for itself and a number, equal keys hold both.
+fn are_one_named(a: &Mapped<Named, ([u8; 3], u16)>, b: &Mapped<Named, ([u8; 3], u16)>) -> bool
+    ensures { (x y : List ℕ × ℕ) → HoldsValue a.now x → HoldsValue b.now y →
+        IsTrue result ↔ ((x.0 ≡ y.0) × (x.1 ≡ y.1)) }
+{
+    are_one(a, b)
 }
 
 /// Two keys compare as the tuples, and none begins the other.
@@ -85,6 +104,16 @@ fn parts_come_back(rt: HostRuntime) -> Result<(), Fail> {
     assert!(rt; host_back(alloc, Ipv4Addr::LOCALHOST, 7)? == (Ipv4Addr::LOCALHOST, 7));
     let text: Vec<u8> = vec![in alloc; 7; 1000]?;
     assert!(rt; key_back(alloc, text)?.len() == 1000);
+    Ok(())
+}
+
+#[test]
+fn equal_keys_hold_one_tuple(rt: HostRuntime) -> Result<(), Fail> {
+    let alloc = rt.alloc();
+    let http = Mapped::<Named, ([u8; 3], u16)>::new(alloc, (*b"web", 80))?;
+    let https = Mapped::<Named, ([u8; 3], u16)>::new(alloc, (*b"web", 443))?;
+    assert!(rt; are_one_named(&http, &http.clone()?));
+    assert!(rt; !are_one_named(&http, &https));
     Ok(())
 }
 

@@ -11,8 +11,9 @@ returns-then-bytes-WIDTH g c =
     let is = c.from_slice.ensures.key in
     let same = c.from_slice.ensures.text in (
       λ yes. ∥∥₁_map (c.is_value.ensures.0 yes) (λ of.
-          let long = sym (ap length (g.met.M.BytesMapping.has_text key of.0 of.1 of.2)) ∙ g.met.K.FixedBytes.width key is in
-          (of.0, (of.1, long), (key, is, same, of.2))),
+          let text = g.met.M.BytesMapping.has_text key of.0 of.1 of.2 in
+          let long = sym (ap length text) ∙ g.met.K.FixedBytes.width key is in
+          (of.0, (of.1, long, (key, is, text, of.2)), (key, is, same, of.2))),
       λ some. c.is_value.ensures.1 (∥∥₁_map some (λ of. (of.0, of.1.0, key_stands g.M.BytesMapping.stands_for g.met.K.FixedBytes.one_key key c.args.bytes.now of.0 is same of.2))),
     )
 
