@@ -32,7 +32,8 @@ pub trait Joint<D> {
     /// How many bytes all parts have, to make room for them.
     fn room() -> usize;
 
-    /// Writes the bytes of the parts behind those that are there.
+    /// Writes the bytes of the parts behind those that are there. Where memory is refused, the value has
+    /// been dropped and some of its bytes may have been written.
     fn write(alloc: Global, value: D, bytes: &mut Vec<u8>) -> Result<(), AllocError>
         ensures text { OnOk result (bytes.new.items ≡ bytes.old.items ++ text_of value) }
         ensures in_domain { OnOk result (is_in_domain value) }
@@ -42,7 +43,8 @@ pub trait Joint<D> {
     fn is_value(bytes: &[u8]) -> bool
         ensures { IsTrue result ↔ StandsForSome is_in_domain stands_for bytes.now };
 
-    /// The value whose bytes these are.
+    /// The value whose bytes these are. There has to be one, which `is_value` tests. Want of memory alone
+    /// refuses it.
     fn read(alloc: Global, bytes: &[u8]) -> Result<D, AllocError>
         requires { StandsForSome is_in_domain stands_for bytes.now }
         ensures in_domain { IfOk result is_in_domain }

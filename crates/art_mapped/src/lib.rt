@@ -3,7 +3,7 @@
 //! A `BytesMapping` gives each value of a domain a text, and gets the value back from bytes with that text.
 //! `ToUBE` and `ToIBE` map integers, and arrays and vectors of them, `ToOctets` IP addresses, `Identity` keys as
 //! they stand, and `ConcatTuple` tuples of two to six parts, as the keys of composite indexes are. A `Mapped` is a
-//! key that holds a value's bytes, so that it compares as the value does.
+//! key that holds a value's bytes, so that under an ordered mapping it compares as the value does.
 #![tactic(auto)]
 
 mod array;
