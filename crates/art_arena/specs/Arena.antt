@@ -56,6 +56,17 @@ module _ {H L : Type 0} where
   held_leaf None = Nothing
   held_leaf (Some leaf) = HeldLeaf leaf
 
+  -- the inner node, or the leaf, that is held, or this other one
+  abbrev pub inner_or : Inner H → Held H L → Inner H
+  inner_or other Nothing = other
+  inner_or other (HeldInner node) = node
+  inner_or other (HeldLeaf leaf) = other
+
+  abbrev pub leaf_or : L → Held H L → L
+  leaf_or other Nothing = other
+  leaf_or other (HeldInner node) = other
+  leaf_or other (HeldLeaf leaf) = leaf
+
   -- what is held of a kind under a slab key
   abbrev pub held_under : Arena H L → NodeType → ℕ → Held H L
   held_under arena Node4 key = held_inner (get arena.node4 key)

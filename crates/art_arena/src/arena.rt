@@ -125,12 +125,12 @@ impl<K, V, const PREFIX_LEN: usize> Shelved<NodeArena<K, V, PREFIX_LEN>>
 }
 
 impl<K, V, const PREFIX_LEN: usize> ArenaNode<K, V, PREFIX_LEN> for InnerNode4<K, V, PREFIX_LEN> {
-    ghost use Rattle.art_arena.specs.Arena.{HeldInner};
-    ghost use Rattle.std.proofs.Common.{rules};
+    ghost use Rattle.art_arena.specs.Arena.{HeldInner, inner_or};
+    ghost use Rattle.std.proofs.Common.{ap, rules};
 
     ghost held_as = { HeldInner };
 
-    ghost one_node = { λ a b same. Prim.cc };
+    ghost one_node = { λ a b same. ap (inner_or a) same };
 
     ghost held_where_contained = { Prim.search rules };
 
@@ -161,12 +161,12 @@ impl<K, V, const PREFIX_LEN: usize> Shelved<NodeArena<K, V, PREFIX_LEN>>
 }
 
 impl<K, V, const PREFIX_LEN: usize> ArenaNode<K, V, PREFIX_LEN> for InnerNode16<K, V, PREFIX_LEN> {
-    ghost use Rattle.art_arena.specs.Arena.{HeldInner};
-    ghost use Rattle.std.proofs.Common.{rules};
+    ghost use Rattle.art_arena.specs.Arena.{HeldInner, inner_or};
+    ghost use Rattle.std.proofs.Common.{ap, rules};
 
     ghost held_as = { HeldInner };
 
-    ghost one_node = { λ a b same. Prim.cc };
+    ghost one_node = { λ a b same. ap (inner_or a) same };
 
     ghost held_where_contained = { Prim.search rules };
 
@@ -197,12 +197,12 @@ impl<K, V, const PREFIX_LEN: usize> Shelved<NodeArena<K, V, PREFIX_LEN>>
 }
 
 impl<K, V, const PREFIX_LEN: usize> ArenaNode<K, V, PREFIX_LEN> for InnerNode48<K, V, PREFIX_LEN> {
-    ghost use Rattle.art_arena.specs.Arena.{HeldInner};
-    ghost use Rattle.std.proofs.Common.{rules};
+    ghost use Rattle.art_arena.specs.Arena.{HeldInner, inner_or};
+    ghost use Rattle.std.proofs.Common.{ap, rules};
 
     ghost held_as = { HeldInner };
 
-    ghost one_node = { λ a b same. Prim.cc };
+    ghost one_node = { λ a b same. ap (inner_or a) same };
 
     ghost held_where_contained = { Prim.search rules };
 
@@ -234,12 +234,12 @@ impl<K, V, const PREFIX_LEN: usize> Shelved<NodeArena<K, V, PREFIX_LEN>>
 
 impl<K, V, const PREFIX_LEN: usize> ArenaNode<K, V, PREFIX_LEN>
     for InnerNodeDirect<K, V, PREFIX_LEN> {
-    ghost use Rattle.art_arena.specs.Arena.{HeldInner};
-    ghost use Rattle.std.proofs.Common.{rules};
+    ghost use Rattle.art_arena.specs.Arena.{HeldInner, inner_or};
+    ghost use Rattle.std.proofs.Common.{ap, rules};
 
     ghost held_as = { HeldInner };
 
-    ghost one_node = { λ a b same. Prim.cc };
+    ghost one_node = { λ a b same. ap (inner_or a) same };
 
     ghost held_where_contained = { Prim.search rules };
 
@@ -270,12 +270,12 @@ impl<K, V, const PREFIX_LEN: usize> Shelved<NodeArena<K, V, PREFIX_LEN>>
 }
 
 impl<K, V, const PREFIX_LEN: usize> ArenaNode<K, V, PREFIX_LEN> for LeafNode<K, V, PREFIX_LEN> {
-    ghost use Rattle.art_arena.specs.Arena.{HeldLeaf};
-    ghost use Rattle.std.proofs.Common.{rules};
+    ghost use Rattle.art_arena.specs.Arena.{HeldLeaf, leaf_or};
+    ghost use Rattle.std.proofs.Common.{ap, rules};
 
     ghost held_as = { HeldLeaf };
 
-    ghost one_node = { λ a b same. Prim.cc };
+    ghost one_node = { λ a b same. ap (leaf_or a) same };
 
     ghost held_where_contained = { Prim.search rules };
 
