@@ -1,6 +1,6 @@
 //! What another crate does with nodes, by their bounds alone: each of these is proved from the clauses
 //! and laws of the bounds, for every `PREFIX_LEN`, with no lemma but the public laws.
-ghost use Rattle.std.specs.Prelude.{◌≡◌, ◌≢◌, ◌+◌, ◌<◌, ◌≤◌, ◌↔◌, length, Some, None, IfSome, IfNone, IsSome, IsTrue};
+ghost use Rattle.std.specs.Prelude.{◌≡◌, ◌≢◌, ◌+◌, ◌<◌, ◌≤◌, ◌↔◌, length, Some, None, IfSome, IsSome, IsTrue};
 ghost use Rattle.art_header.specs.Header.{capped};
 ghost use Rattle.art_header.specs.NodeType.{least_children, most_children, shrunk_kind};
 ghost use Rattle.art_header.specs.declared.node_type.NodeType.TheVariants.{Node4};
