@@ -1,0 +1,5 @@
+use Rattle.std.proofs.Common.{rules}
+use Rattle.art_nodes.proofs.pointers.NodePtr.from_key.Goals as goal
+
+pub returns : goal.returns
+returns g c = search rules
