@@ -1,8 +1,14 @@
-use Rattle.std.proofs.Common.{◌∙◌, ◌≤◌, ap, arith}
+use Rattle.std.proofs.Common.{◌∙◌, ◌≤◌, ap, arith, rules}
 use Rattle.slab.specs.Slab.{get}
 use Rattle.art_arena.specs.Arena.{slab_room}
 use Rattle.art_arena.proofs.ArenaLemmas.{SameNodes-written, made_room, room-written}
 use Rattle.art_arena.proofs.arena.NodeArena+K+V+PREFIX_LEN.reserve_slots.Goals as goal
+
+pub returns-then-additional-eq0-clause-no_less_room : goal.returns-then-additional-eq0-clause-no_less_room
+returns-then-additional-eq0-clause-no_less_room g c = search rules
+
+pub returns-then-additional-eq0-clause-other_room : goal.returns-then-additional-eq0-clause-other_room
+returns-then-additional-eq0-clause-other_room g c = search rules
 
 pub returns-clause-nodes_kept : goal.returns-clause-nodes_kept
 returns-clause-nodes_kept g c =
