@@ -26,7 +26,6 @@ use std::io::{Read, Write};
 /// written to `output`; want of memory or a failed device with status 1, when a beginning of the
 /// output may have gone out, and nothing else. Whether the line on `errors` could be written
 /// changes nothing.
-#[tactic(auto, using(crate::proofs::Failures::is_beginning))]
 pub fn run<R: Read, W: Write, E: Write>(
     alloc: Global,
     words: &[String],

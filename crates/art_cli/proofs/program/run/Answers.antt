@@ -1,5 +1,5 @@
 use Rattle.std.proofs.Common.{arith}
-use Rattle.art_cli.proofs.Failures.{keeps_itself, nothing_printed}
+use Rattle.art_cli.proofs.Failures.{keeps_itself, nothing_printed, beginning_printed}
 use Rattle.art_cli.proofs.program.run.Goals as goal
 
 pub returns-in-Err-clause-failed_run_prints_a_beginning : goal.returns-in-Err-clause-failed_run_prints_a_beginning
@@ -16,3 +16,6 @@ returns-clause-answers g c zero = absurd (omega (arith, zero, c.report-in-Err-wr
 
 pub returns-in-Ok-write_out-clause-status : goal.returns-in-Ok-write_out-clause-status
 returns-in-Ok-write_out-clause-status g c = omega arith
+
+pub returns-clause-failed_run_prints_a_beginning : goal.returns-clause-failed_run_prints_a_beginning
+returns-clause-failed_run_prints_a_beginning g c _ = beginning_printed c.args.words.now (g.R.Read.remaining c.args.input.now) _ c.as_bytes.result.now (g.W.Write.contents c.args.output.now) (g.W.Write.contents c.write_out.new.output) c.in-Ok.ensures.text c.as_bytes.ensures.value c.in-Err-write_out.ensures.beginning
