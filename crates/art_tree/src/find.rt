@@ -64,6 +64,8 @@ fn next_child<K, V, const PREFIX_LEN: usize>(
 /// A well-formed tree has to stand at `root` in the reader's arena, as the one that a load answers,
 /// and the budget has to be at least the key's length and one. Each node costs one look, and no
 /// memory is taken.
+// Inlined, so that a caller that wants no path does not pay for one.
+#[inline(always)]
 pub fn find_leaf<K: AsBytes, V, const PREFIX_LEN: usize>(
     reader: &mut ArenaReader<'_, K, V, PREFIX_LEN>,
     root: OpaqueNodePtr<K, V, PREFIX_LEN>,

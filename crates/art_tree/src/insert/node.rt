@@ -88,7 +88,9 @@ pub(crate) fn reserve_growth<K, V, const PREFIX_LEN: usize>(
     arena.reserve(grown, 1)
 }
 
-// Puts this node, with a child more, in the place of the one at the pointer, which is given up.
+// Puts this node, with a child more, in the place of the one at the pointer, which is given up. Kept
+// out of its caller, whose stack would have the nodes of each kind several times.
+#[inline(never)]
 fn move_to<
     K,
     V,

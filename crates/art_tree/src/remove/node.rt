@@ -134,7 +134,9 @@ fn cut_child<K, V, const PREFIX_LEN: usize>(
     }
 }
 
-// Gives up the node at the pointer for this one of another kind, and answers where that is.
+// Gives up the node at the pointer for this one of another kind, and answers where that is. Kept out
+// of its caller, whose stack would have the nodes of each kind several times.
+#[inline(never)]
 fn replace_node<
     K,
     V,
