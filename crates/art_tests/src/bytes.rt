@@ -221,6 +221,10 @@ fn c_strings_have_one_zero_the_last(rt: HostRuntime) -> Result<(), Fail> {
         panic!(rt; "no zero was found");
     };
     assert!(rt; format!(in alloc; "{refusal}")?.as_str() == "zero byte at position 1");
+    let refusal = CStringKeyError::OutOfMemory {
+        bytes: Vec::new(alloc),
+    };
+    assert!(rt; format!(in alloc; "{refusal}")?.as_str() == "out of memory");
 
     let mut hasher = DefaultHasher::new();
     feed_c_string_key(&c_string(alloc, b"ab")?, &mut hasher);

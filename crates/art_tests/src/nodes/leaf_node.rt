@@ -47,7 +47,10 @@ fn keeps_a_key_a_value_and_two_links(rt: HostRuntime) -> Result<(), Fail> {
 
     let (previous, next) = (Some(NodePtr::from_key(4)), Some(NodePtr::from_key(6)));
     leaf.set_links(previous, next);
-    *leaf.value_mut() = 701;
+    *leaf.value_mut() = 699;
+    let (key, value) = leaf.key_ref_value_mut();
+    assert!(rt; key.as_str() == "ab" && *value == 699);
+    *value = 701;
     let (key, value) = leaf.entry_mut();
     key.push('c')?;
     *value += 1;

@@ -1,6 +1,6 @@
 //! Prefixes that a node stores in part, and wholly.
 use super::fixtures::leaf;
-use art_nodes::{InnerNode4, InnerNodeCommon, PessimisticMismatch};
+use art_nodes::{InnerNode4, InnerNodeCommon, PessimisticMismatch, common_front_len};
 
 #[test]
 fn implicit_bytes_are_passed_over(rt: HostRuntime) {
@@ -64,4 +64,21 @@ fn lengths_alone_are_compared(rt: HostRuntime) {
     let short = PessimisticMismatch::from(short);
     assert!(rt; short.matched_bytes == 2);
     assert!(rt; short.prefix_byte == None);
+}
+
+#[test]
+fn common_fronts_end_where_bytes_differ(rt: HostRuntime) {
+    let long = [7; 40];
+    let other = [7, 7, 7, 8];
+    let rows: [(&[u8], &[u8], usize); 6] = [
+        (b"abd2", b"abc", 2),
+        (b"ab", b"abc", 2),
+        (b"", b"a", 0),
+        (b"b", b"a", 0),
+        (&long, &long, 40),
+        (&long, &other, 3),
+    ];
+    for (a, b, length) in rows {
+        assert!(rt; common_front_len(a, b) == length);
+    }
 }

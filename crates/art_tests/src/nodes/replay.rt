@@ -18,93 +18,80 @@ fn run(
     Ok(replay(rt.alloc(), Header::new(b"", 0), commands)?)
 }
 
+// A run that meets each command, and goes from one kind to the next and back.
+fn steps() -> [Command; 15] {
+    [
+        Command::Write(0, leaf(1)),
+        Command::Write(1, leaf(2)),
+        Command::Write(2, leaf(3)),
+        Command::Write(3, leaf(4)),
+        Command::Write(3, leaf(5)),
+        Command::Write(4, leaf(6)),
+        Command::Remove(0),
+        Command::Remove(9),
+        Command::Range(Bound::Excluded(1), Bound::Excluded(1)),
+        Command::Remove(1),
+        Command::Remove(2),
+        Command::Remove(3),
+        Command::Remove(4),
+        Command::Min,
+        Command::Lookup(3),
+    ]
+}
+
+// What each step is answered.
+fn replies_to_steps() -> [Reply; 15] {
+    [
+        Reply::Child(None),
+        Reply::Child(None),
+        Reply::Child(None),
+        Reply::Child(None),
+        Reply::Child(Some(leaf(4))),
+        Reply::Child(None),
+        Reply::Child(Some(leaf(1))),
+        Reply::Child(None),
+        Reply::InvalidBounds,
+        Reply::Child(Some(leaf(2))),
+        Reply::Child(Some(leaf(3))),
+        Reply::Child(Some(leaf(5))),
+        Reply::Child(Some(leaf(6))),
+        Reply::Pair(None),
+        Reply::Child(None),
+    ]
+}
+
 #[test]
 fn answers_each_step_and_moves_between_kinds(rt: HostRuntime) -> Result<(), Fail> {
-    let steps: [(Command, Reply, NodeType, usize); 15] = [
-        (
-            Command::Write(0, leaf(1)),
-            Reply::Child(None),
-            NodeType::Node4,
-            1,
-        ),
-        (
-            Command::Write(1, leaf(2)),
-            Reply::Child(None),
-            NodeType::Node4,
-            2,
-        ),
-        (
-            Command::Write(2, leaf(3)),
-            Reply::Child(None),
-            NodeType::Node4,
-            3,
-        ),
-        (
-            Command::Write(3, leaf(4)),
-            Reply::Child(None),
-            NodeType::Node4,
-            4,
-        ),
-        (
-            Command::Write(3, leaf(5)),
-            Reply::Child(Some(leaf(4))),
-            NodeType::Node4,
-            4,
-        ),
-        (
-            Command::Write(4, leaf(6)),
-            Reply::Child(None),
-            NodeType::Node16,
-            5,
-        ),
-        (
-            Command::Remove(0),
-            Reply::Child(Some(leaf(1))),
-            NodeType::Node4,
-            4,
-        ),
-        (Command::Remove(9), Reply::Child(None), NodeType::Node4, 4),
-        (
-            Command::Range(Bound::Excluded(1), Bound::Excluded(1)),
-            Reply::InvalidBounds,
-            NodeType::Node4,
-            4,
-        ),
-        (
-            Command::Remove(1),
-            Reply::Child(Some(leaf(2))),
-            NodeType::Node4,
-            3,
-        ),
-        (
-            Command::Remove(2),
-            Reply::Child(Some(leaf(3))),
-            NodeType::Node4,
-            2,
-        ),
-        (
-            Command::Remove(3),
-            Reply::Child(Some(leaf(5))),
-            NodeType::Node4,
-            1,
-        ),
-        (
-            Command::Remove(4),
-            Reply::Child(Some(leaf(6))),
-            NodeType::Node4,
-            0,
-        ),
-        (Command::Min, Reply::Pair(None), NodeType::Node4, 0),
-        (Command::Lookup(3), Reply::Child(None), NodeType::Node4, 0),
+    let left = [
+        (NodeType::Node4, 1),
+        (NodeType::Node4, 2),
+        (NodeType::Node4, 3),
+        (NodeType::Node4, 4),
+        (NodeType::Node4, 4),
+        (NodeType::Node16, 5),
+        (NodeType::Node4, 4),
+        (NodeType::Node4, 4),
+        (NodeType::Node4, 4),
+        (NodeType::Node4, 3),
+        (NodeType::Node4, 2),
+        (NodeType::Node4, 1),
+        (NodeType::Node4, 0),
+        (NodeType::Node4, 0),
+        (NodeType::Node4, 0),
     ];
+    let wanted = replies_to_steps();
     let mut commands = Vec::new(rt.alloc());
-    for (index, (command, reply, kind, count)) in steps.into_iter().enumerate() {
+    for (command, (kind, count)) in steps().into_iter().zip(left) {
         commands.push(command)?;
         let (replies, node) = run(&rt, &commands)?;
-        assert!(rt; replies.len() == index + 1);
-        assert!(rt; replies[index] == reply, "at step {index}");
-        assert!(rt; node.node_type() == kind, "at step {index}");
-        assert!(rt; node.num_children() == count, "at step {index}");
+        assert!(rt; replies.len() == commands.len());
+        assert!(rt;
+            replies
+                .iter()
+                .zip(&wanted)
+                .all(|(reply, other)| reply == other)
+        );
+        assert!(rt; node.node_type() == kind && node.num_children() == count);
     }
     Ok(())
 }
@@ -229,25 +216,42 @@ fn a_refused_range_leaves_the_node(rt: HostRuntime) {
 }
 
 // A run that is refused memory answers nothing, and the next one everything.
+fn run_at_last(
+    rt: &(impl Abort + AllocGlobal),
+    commands: &[Command],
+) -> (Vec<Reply>, ChildNode<u8, u8, 2>) {
+    let header = || Header::<2>::new(b"", 0);
+    match replay(rt.alloc(), header(), commands) {
+        Ok(answer) => answer,
+        Err(AllocError) => {
+            replay(rt.alloc(), header(), commands).expect(rt, "memory was refused once")
+        }
+    }
+}
+
 #[test]
 fn a_refused_run_is_answered_by_the_next(rt: HostRuntime) {
+    let (replies, node) = run_at_last(&rt, &steps());
+    assert!(&rt; replies.as_slice() == replies_to_steps().as_slice());
+    assert!(&rt; node.num_children() == 0);
+
     let commands = [
         Command::Write(1, leaf(1)),
         Command::Write(2, leaf(2)),
-        Command::Write(1, leaf(3)),
         Command::Range(Bound::Excluded(1), Bound::Unbounded),
         Command::Remove(1),
     ];
-    let header = || Header::<2>::new(b"", 0);
-    let (replies, node) = match replay(rt.alloc(), header(), &commands) {
-        Ok(answer) => answer,
-        Err(AllocError) => {
-            replay(rt.alloc(), header(), &commands).expect(&rt, "memory was refused once")
-        }
-    };
-    assert!(&rt; replies.len() == 5);
-    assert!(&rt; replies[2] == Reply::Child(Some(leaf(1))));
-    check_leaves(&rt, &replies[3], &[2]);
-    assert!(&rt; replies[4] == Reply::Child(Some(leaf(3))));
+    let (replies, node) = run_at_last(&rt, &commands);
+    assert!(&rt; replies.len() == 4);
+    check_leaves(&rt, &replies[2], &[2]);
+    assert!(&rt; replies[3] == Reply::Child(Some(leaf(1))));
     assert!(&rt; node.num_children() == 1);
+}
+
+#[test]
+fn a_sequence_gives_its_vector_back(rt: HostRuntime) -> Result<(), Fail> {
+    let numbers = Sequence::from_vec(vec![in rt.alloc(); 3, 1, 2]?);
+    assert!(rt; numbers.as_slice() == [3, 1, 2].as_slice());
+    assert!(rt; numbers.into_vec().as_slice() == [3, 1, 2].as_slice());
+    Ok(())
 }
