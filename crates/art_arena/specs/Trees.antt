@@ -53,7 +53,8 @@ module _ {H : Type 0} where
     branch_places (Branch byte tree others) = places tree ++ branch_places others
 
   abbrev mutual
-    -- every leaf's text begins with the path to it, and every inner node has two branches or more
+    -- every leaf's text begins with the path to it and is shorter than 2 ^ 64, and every inner node
+    -- has two branches or more, their bytes ascending
     pub IsSound : List ℕ → Tree H → Type 0
     IsSound path (Leaf pointer text) = IsFront path text × (length text < 2 ^ 64)
     IsSound path (Inner pointer prefix branches) =
