@@ -114,7 +114,8 @@ fn entries_come_and_go_between_queries(rt: HostRuntime) -> Result<(), Fail> {
 
 #[test]
 fn the_first_fault_of_lines_and_entries_is_told(rt: HostRuntime) -> Result<(), Fail> {
-    let cases: [(&[u8], &str); 10] = [
+    let cases: [(&[u8], &str); 11] = [
+        (b"+b\n+a\nx\n", "line 3: unknown command\n"),
         (b"+a\n+ab\n", "line 2: one key is a front of the other\n"),
         (
             b"+ab\n?ab\n+a\n",

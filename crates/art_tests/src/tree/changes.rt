@@ -304,7 +304,9 @@ fn nodes_grow_and_shrink(rt: HostRuntime) -> Result<(), Fail> {
 fn five_keys_come_and_go(rt: HostRuntime) -> Result<(), Fail> {
     let mut tree = ArtTree::<[u8; 1], u8, 0>::new(rt.alloc());
     for byte in 0..5u8 {
-        insert_at_last(&rt, &mut tree, byte);
+        if tree.insert([byte], byte).is_err() {
+            return Err(AllocError.into());
+        }
     }
     assert!(rt; tree.remove(&[0])?.is_some());
     assert!(rt; tree.root().map(|root| root.node_type()) == Some(NodeType::Node4));
@@ -324,17 +326,33 @@ fn five_keys_come_and_go(rt: HostRuntime) -> Result<(), Fail> {
     Ok(())
 }
 
-// The entries of five keys, and no others.
-fn check_five(rt: &impl Abort, tree: &ArtTree<[u8; 1], u8, 0>, count: u8) {
-    for byte in 0..5u8 {
-        assert!(rt; tree.get(&[byte]).is_some() == (byte < count));
+type Words = ArtTree<[u8; 7], usize, 2>;
+
+// The second parts from the first past a prefix that is not wholly stored, and the third inside it;
+// the sixth is the fifth child of its node, and the last parts from all others at the root.
+const WORDS: [[u8; 7]; 7] = [
+    *b"abcdef1",
+    *b"abcdef2",
+    *b"abcxyz0",
+    *b"abcdef3",
+    *b"abcdef4",
+    *b"abcdef5",
+    *b"zbcdef1",
+];
+
+// The first words have their numbers, and the others no entry.
+fn check_words(rt: &impl Abort, tree: &Words, count: usize) {
+    for (number, word) in WORDS.iter().enumerate() {
+        let value = tree.get(word).copied();
+        assert!(rt; value == if number < count { Some(number) } else { None });
     }
 }
 
-// Inserts a key, if there is memory. Where that is refused, the tree is as before, and a second insert
-// takes the entry.
-fn insert_at_last(rt: &impl Abort, tree: &mut ArtTree<[u8; 1], u8, 0>, byte: u8) {
-    let fault = match tree.insert([byte], byte) {
+// Inserts a word, if there is memory. Where that is refused, the tree is as before, and a second
+// insert takes the entry.
+fn insert_at_last(rt: &impl Abort, tree: &mut Words, word: [u8; 7], number: usize) {
+    let root = tree.root();
+    let fault = match tree.insert(word, number) {
         Ok(before) => {
             assert!(rt; before.is_none());
             return;
@@ -342,25 +360,35 @@ fn insert_at_last(rt: &impl Abort, tree: &mut ArtTree<[u8; 1], u8, 0>, byte: u8)
         Err(fault) => fault,
     };
     assert!(rt; fault.refusal == InsertRefusal::OutOfMemory);
-    assert!(rt; fault.key == [byte] && fault.value == byte);
-    check_five(rt, tree, byte);
+    assert!(rt; fault.key == word && fault.value == number);
+    assert!(rt; tree.root() == root);
+    check_words(rt, tree, number);
     assert!(rt; tree.insert(fault.key, fault.value).is_ok());
 }
 
 #[test]
 fn a_refused_insert_leaves_the_tree(rt: HostRuntime) {
-    let mut tree = ArtTree::<[u8; 1], u8, 0>::new(rt.alloc());
-    for byte in 0..5u8 {
-        insert_at_last(&rt, &mut tree, byte);
+    let mut tree = Words::new(rt.alloc());
+    for (number, word) in WORDS.iter().enumerate() {
+        insert_at_last(&rt, &mut tree, *word, number);
     }
-    check_five(&rt, &tree, 5);
+    check_words(&rt, &tree, WORDS.len());
 }
 
-// A tree of five keys, if there is memory for them. Where the load is refused it, they come back, and
-// a second load takes them.
-fn load_at_last(rt: &impl Abort, alloc: Global) -> Option<ArtTree<[u8; 1], u8, 0>> {
+type Bytes = ArtTree<[u8; 1], u8, 0>;
+
+// The keys of one byte below the end, and no others.
+fn check_bytes(rt: &impl Abort, tree: &Bytes, end: u8) {
+    for byte in 0..=255u8 {
+        assert!(rt; tree.get(&[byte]).is_some() == (byte < end));
+    }
+}
+
+// A tree of the keys of one byte below the end, if there is memory for them. Where the load is refused
+// it, they come back, and a second load takes them.
+fn load_at_last(rt: &impl Abort, alloc: Global, end: u8) -> Option<Bytes> {
     let mut entries = Vec::new(alloc);
-    for byte in 0..5u8 {
+    for byte in 0..end {
         if entries.push(([byte], byte)).is_err() {
             return None;
         }
@@ -370,23 +398,27 @@ fn load_at_last(rt: &impl Abort, alloc: Global) -> Option<ArtTree<[u8; 1], u8, 0
         Err(fault) => fault,
     };
     assert!(rt; fault.refusal == LoadRefusal::OutOfMemory);
-    assert!(rt; fault.entries.len() == 5);
+    assert!(rt; fault.entries.len() == usize::from(end));
     let Ok(tree) = ArtTree::load(alloc, fault.entries) else {
         panic!(rt; "refused twice");
     };
     Some(tree)
 }
 
+// The root of so many children gives way to a node of the next smaller kind, which the arena has no
+// room for yet.
 #[test]
 fn a_refused_removal_leaves_the_tree(rt: HostRuntime) {
-    let Some(mut tree) = load_at_last(&rt, rt.alloc()) else {
-        return;
-    };
-    check_five(&rt, &tree, 5);
-    // The root is a Node16, and the arena has no room for the Node4 that takes its place.
-    if tree.remove(&[4]).is_err() {
-        check_five(&rt, &tree, 5);
-        assert!(rt; tree.remove(&[4]).is_ok());
+    for (end, last) in [(5, 4), (17, 16), (49, 48)] {
+        let Some(mut tree) = load_at_last(&rt, rt.alloc(), end) else {
+            return;
+        };
+        let root = tree.root();
+        if tree.remove(&[last]).is_err() {
+            assert!(&rt; tree.root() == root);
+            check_bytes(&rt, &tree, end);
+            assert!(&rt; tree.remove(&[last]).is_ok());
+        }
+        check_bytes(&rt, &tree, last);
     }
-    check_five(&rt, &tree, 4);
 }

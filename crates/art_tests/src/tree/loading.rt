@@ -1,16 +1,20 @@
 //! What is refused, and what a load leaves.
 use art_tree::{
     AnyRef, ArenaReader, InnerNode4, InnerNodeCommon, LeafNode, LoadFault, LoadRefusal, NodeArena,
-    NodePtr, NodeType, OpaqueNodePtr, StrKey, load,
+    NodePtr, NodeType, OpaqueNodePtr, load,
 };
 use std::alloc::{AllocError, Global};
 use std::process::Abort;
 use std::test::Fail;
 
-fn numbered<'a>(alloc: Global, texts: &[&'a str]) -> Result<Vec<(StrKey<'a>, usize)>, AllocError> {
+type Texts = NodeArena<String, usize, 2>;
+
+type Root = OpaqueNodePtr<String, usize, 2>;
+
+fn numbered(alloc: Global, texts: &[&str]) -> Result<Vec<(String, usize)>, AllocError> {
     let mut entries = Vec::new(alloc);
     for (number, text) in texts.iter().enumerate() {
-        entries.push((StrKey::new(text), number))?;
+        entries.push((String::from_str(alloc, text)?, number))?;
     }
     Ok(entries)
 }
@@ -18,14 +22,14 @@ fn numbered<'a>(alloc: Global, texts: &[&'a str]) -> Result<Vec<(StrKey<'a>, usi
 // The fault refuses with this, and has the entries of these texts in their order.
 fn check_fault(
     rt: &impl Abort,
-    fault: &LoadFault<StrKey, usize>,
+    fault: &LoadFault<String, usize>,
     refusal: LoadRefusal,
     texts: &[&str],
 ) {
     assert!(rt; fault.refusal == refusal);
     assert!(rt; fault.entries.len() == texts.len());
     for (number, (entry, text)) in fault.entries.iter().zip(texts).enumerate() {
-        assert!(rt; entry.0.get() == *text);
+        assert!(rt; entry.0.as_str() == *text);
         assert!(rt; entry.1 == number);
     }
 }
@@ -43,7 +47,7 @@ fn the_lowest_entry_at_fault_is_told(rt: HostRuntime) -> Result<(), Fail> {
         (&["a", "ab", "aa"], LoadRefusal::Prefix(0)),
     ];
     let alloc = rt.alloc();
-    let mut arena = NodeArena::<StrKey, usize, 2>::new(alloc);
+    let mut arena = Texts::new(alloc);
     for (texts, refusal) in cases {
         let Err(fault) = load(alloc, &mut arena, numbered(alloc, texts)?) else {
             panic!(rt; "loaded");
@@ -60,52 +64,31 @@ fn a_fault_is_told_before_memory_is_taken(rt: HostRuntime) {
     let Ok(entries) = numbered(alloc, &["a", "ab"]) else {
         return;
     };
-    let mut arena = NodeArena::<StrKey, usize, 2>::new(alloc);
+    let mut arena = Texts::new(alloc);
     let Err(fault) = load(alloc, &mut arena, entries) else {
         panic!(&rt; "loaded");
     };
     check_fault(&rt, &fault, LoadRefusal::Prefix(0), &["a", "ab"]);
 }
 
-type Small = NodeArena<[u8; 3], usize, 2>;
-
-type SmallRoot = OpaqueNodePtr<[u8; 3], usize, 2>;
-
-fn numbered_bytes(alloc: Global, keys: &[[u8; 3]]) -> Result<Vec<([u8; 3], usize)>, AllocError> {
-    let mut entries = Vec::new(alloc);
-    for (number, key) in keys.iter().enumerate() {
-        entries.push((*key, number))?;
-    }
-    Ok(entries)
-}
-
-// Loads entries of these keys, if there is memory for them. A load that is refused memory gives them
+// Loads entries of these texts, if there is memory for them. A load that is refused memory gives them
 // back, and the next one takes them.
-fn load_at_last(
-    rt: &impl Abort,
-    alloc: Global,
-    arena: &mut Small,
-    keys: &[[u8; 3]],
-) -> Option<SmallRoot> {
-    let Ok(entries) = numbered_bytes(alloc, keys) else {
+fn load_at_last(rt: &impl Abort, alloc: Global, arena: &mut Texts, texts: &[&str]) -> Option<Root> {
+    let Ok(entries) = numbered(alloc, texts) else {
         return None;
     };
     let fault = match load(alloc, arena, entries) {
         Ok(root) => return Some(root),
         Err(fault) => fault,
     };
-    assert!(rt; fault.refusal == LoadRefusal::OutOfMemory);
-    assert!(rt; fault.entries.len() == keys.len());
-    for (number, (entry, key)) in fault.entries.iter().zip(keys).enumerate() {
-        assert!(rt; entry.0 == *key && entry.1 == number);
-    }
+    check_fault(rt, &fault, LoadRefusal::OutOfMemory, texts);
     let Ok(root) = load(alloc, arena, fault.entries) else {
         panic!(rt; "refused twice");
     };
     Some(root)
 }
 
-fn check_root(rt: &impl Abort, arena: &Small, root: SmallRoot, children: usize) {
+fn check_root(rt: &impl Abort, arena: &Texts, root: Root, children: usize) {
     assert!(rt; arena.holds_opaque(root));
     let count = arena.header(root).map_or(0, |header| header.num_children());
     assert!(rt; count == children);
@@ -114,16 +97,22 @@ fn check_root(rt: &impl Abort, arena: &Small, root: SmallRoot, children: usize) 
 #[test]
 fn refused_memory_gives_the_entries_back(rt: HostRuntime) {
     let alloc = rt.alloc();
-    let mut arena = Small::new(alloc);
-    let Some(low) = load_at_last(&rt, alloc, &mut arena, &[*b"aa0", *b"ab0", *b"b00"]) else {
+    let mut arena = Texts::new(alloc);
+    let Some(low) = load_at_last(&rt, alloc, &mut arena, &["aa", "ab", "b"]) else {
         return;
     };
     check_root(&rt, &arena, low, 2);
-    let keys = [*b"a1x", *b"a1y", *b"b00", *b"c00", *b"d00", *b"e00"];
-    if let Some(high) = load_at_last(&rt, alloc, &mut arena, &keys) {
-        check_root(&rt, &arena, high, 5);
+    let rows: [(&[&str], usize); 3] = [
+        (&["a1x", "a1y", "b"], 2),
+        (&[""], 0),
+        (&["a1x", "a1y", "b", "c", "d", "e"], 5),
+    ];
+    for (texts, children) in rows {
+        if let Some(root) = load_at_last(&rt, alloc, &mut arena, texts) {
+            check_root(&rt, &arena, root, children);
+        }
+        check_root(&rt, &arena, low, 2);
     }
-    check_root(&rt, &arena, low, 2);
 }
 
 // The kind of the root over so many keys of one byte, and how many children it has.
