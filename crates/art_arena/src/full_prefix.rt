@@ -15,30 +15,10 @@ ghost use Rattle.art_arena.specs.Trees.{texts};
 use crate::arena::NodeArena;
 use art_bytes::AsBytes;
 use art_nodes::{
-    ConcreteNodePtr, InnerNodeCommon, LeafNode, NodePtr, OpaqueNodePtr, PrefixMatch,
-    common_front_len,
+    ConcreteNodePtr, ExplicitMismatch, InnerNodeCommon, LeafNode, NodePrefix, NodePtr,
+    OpaqueNodePtr, PrefixMatch, common_front_len,
 };
 use std::cmp::Ordering;
-
-/// The whole prefix of a node, and the leaf below whose key it was read from where the node does
-/// not store all of it.
-pub type NodePrefix<'a, K, V, const PREFIX_LEN: usize> = (
-    &'a [u8],
-    Option<NodePtr<PREFIX_LEN, LeafNode<K, V, PREFIX_LEN>>>,
-);
-
-/// The key differs from the whole prefix, or ends inside it.
-#[derive_where(Clone, Copy)]
-pub struct ExplicitMismatch<K, V, const PREFIX_LEN: usize> {
-    /// How many bytes were matched.
-    pub matched_bytes: usize,
-    /// The prefix's byte that the key lacks or differs in.
-    pub prefix_byte: u8,
-    /// The leaf that the prefix was read from, where the node does not store all of it.
-    pub leaf_ptr: Option<NodePtr<PREFIX_LEN, LeafNode<K, V, PREFIX_LEN>>>,
-    /// The order of the prefix against the part of the key beside it. It is never `Equal`.
-    pub node_prefix_comparison_to_search_key_segment: Ordering,
-}
 
 /// An inner node whose whole prefix can be read, with the arena that holds the nodes below it.
 ///

@@ -8,6 +8,7 @@ mod leaf_links;
 mod reader;
 
 pub use arena::{ArenaNode, NodeArena};
-pub use full_prefix::{ExplicitMismatch, FullPrefix, NodePrefix};
+pub use art_nodes::{ExplicitMismatch, NodePrefix};
+pub use full_prefix::FullPrefix;
 pub use leaf_links::LeafLinks;
 pub use reader::{AnyRef, ArenaReader, NodeRef};

@@ -30,8 +30,8 @@ pub use inner_nodes::inner_node_indirect::{InnerNode48, InnerNodeIndirect};
 pub use inner_nodes::inner_node_sorted::{InnerNode4, InnerNode16, InnerNodeSorted};
 pub use inner_nodes::node::{InnerNodeCommon, Node};
 pub use inner_nodes::prefix_match::{
-    AttemptOptimisticPrefixMatch, OptimisticMismatch, PessimisticMismatch, PrefixMatch,
-    common_front_len,
+    AttemptOptimisticPrefixMatch, ExplicitMismatch, NodePrefix, OptimisticMismatch,
+    PessimisticMismatch, PrefixMatch, common_front_len,
 };
 pub use iteration::bounds::valid_range_bounds;
 pub use iteration::child_iter::{ChildIter, PairIter};

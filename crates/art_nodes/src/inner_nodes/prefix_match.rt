@@ -4,7 +4,10 @@ ghost use Rattle.std.specs.List.{common_prefix_len};
 ghost use Rattle.art_bytes.specs.Text.{IsFront};
 ghost use Rattle.art_nodes.specs.PrefixMatch.{optimistic_match, cheap_match, IsPrefixOfHeader};
 
+use crate::leaf_node::LeafNode;
+use crate::pointers::NodePtr;
 use art_header::Header;
+use std::cmp::Ordering;
 
 /// A prefix was matched.
 #[derive(Debug, Drop)]
@@ -37,6 +40,26 @@ pub struct PessimisticMismatch {
     /// The prefix's byte that the key lacks or differs in, where bytes were compared.
     pub prefix_byte: Option<u8>,
 }
+
+/// The key differs from the whole prefix, or ends inside it.
+#[derive_where(Clone, Copy)]
+pub struct ExplicitMismatch<K, V, const PREFIX_LEN: usize> {
+    /// How many bytes were matched.
+    pub matched_bytes: usize,
+    /// The prefix's byte that the key lacks or differs in.
+    pub prefix_byte: u8,
+    /// The leaf that the prefix was read from, where the node does not store all of it.
+    pub leaf_ptr: Option<NodePtr<PREFIX_LEN, LeafNode<K, V, PREFIX_LEN>>>,
+    /// The order of the prefix against the part of the key beside it. It is never `Equal`.
+    pub node_prefix_comparison_to_search_key_segment: Ordering,
+}
+
+/// The whole prefix of a node, and the leaf below whose key it was read from where the node does
+/// not store all of it.
+pub type NodePrefix<'a, K, V, const PREFIX_LEN: usize> = (
+    &'a [u8],
+    Option<NodePtr<PREFIX_LEN, LeafNode<K, V, PREFIX_LEN>>>,
+);
 
 /// No byte was compared.
 impl From<OptimisticMismatch> for PessimisticMismatch {
