@@ -48,20 +48,23 @@ module _ {H L : Type 0} where
   abbrev pub SameOtherRoom : Arena H L → Arena H L → NodeType → Type 0
   SameOtherRoom old new kind = (other : NodeType) → other ≢ kind → room new other ≡ room old other
 
+  -- an inner node, or nothing
   abbrev pub held_inner : Option (Inner H) → Held H L
   held_inner None = Nothing
   held_inner (Some node) = HeldInner node
 
+  -- a leaf, or nothing
   abbrev pub held_leaf : Option L → Held H L
   held_leaf None = Nothing
   held_leaf (Some leaf) = HeldLeaf leaf
 
-  -- the inner node, or the leaf, that is held, or this other one
+  -- the inner node that is held, or this other one
   abbrev pub inner_or : Inner H → Held H L → Inner H
   inner_or other Nothing = other
   inner_or other (HeldInner node) = node
   inner_or other (HeldLeaf leaf) = other
 
+  -- the leaf that is held, or this other one
   abbrev pub leaf_or : L → Held H L → L
   leaf_or other Nothing = other
   leaf_or other (HeldInner node) = other
@@ -86,6 +89,7 @@ module _ {H L : Type 0} where
   held_header (HeldInner node) = Some (header_of node)
   held_header (HeldLeaf leaf) = None
 
+-- what a `NodeArena` shows
 abbrev pub ArenaOf : Type 0 → Type 0 → ℕ → Type 0
 ArenaOf K V P = Arena (OpaqueNodePtr K V P) (LeafNode K V P)
 

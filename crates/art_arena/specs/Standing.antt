@@ -47,6 +47,7 @@ module _ {K V : Type 0} {P : ℕ} (text : K → List ℕ) where
   abbrev pub StandsIn : ArenaOf K V P → Tree (OpaqueNodePtr K V P) → Type 0
   StandsIn arena tree = Stands P leaf_text (held arena) tree
 
+  -- the same of branches
   abbrev pub AllStandIn : ArenaOf K V P → Branches (OpaqueNodePtr K V P) → Type 0
   AllStandIn arena branches = AllStand P leaf_text (held arena) branches
 

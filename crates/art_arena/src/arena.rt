@@ -37,7 +37,13 @@ impl<A, B, C, D, L> Model for Slabs<A, B, C, D, L> {
 
     ghost Value = { Shelves A B C D L };
 
-    ghost view = { λ a. record { node4 = a.node4; node16 = a.node16; node48 = a.node48; node256 = a.node256; leaf = a.leaf } };
+    ghost view = { λ a. record {
+      node4 = a.node4;
+      node16 = a.node16;
+      node48 = a.node48;
+      node256 = a.node256;
+      leaf = a.leaf;
+    } };
 }
 
 /// The nodes of trees, kept by kind under slab keys.
@@ -89,22 +95,29 @@ pub trait ArenaNode<K, V, const PREFIX_LEN: usize>: Node<PREFIX_LEN, Key = K, Va
     /// What is held is one node.
     ghost one_node: { (a b : Self) → held_as a ≡ held_as b → a ≡ b };
 
+    /// What the arena holds under a key of this kind is what the node's slab has there.
     ghost held_in_slab: { (arena : ArenaOf K V PREFIX_LEN) (key : ℕ) →
         held_under arena Self.TYPE key ≡ held_option held_as (get (Self.slab_of arena) key) };
 
+    /// A slab that is written is the one that is read.
     ghost slab_written: { (arena : ArenaOf K V PREFIX_LEN) (slots : Slots Self) →
         Self.slab_of (Self.with_slab arena slots) ≡ slots };
 
+    /// The slab has a key exactly where the arena holds a node there.
     ghost held_where_contained: { (arena : ArenaOf K V PREFIX_LEN) (key : ℕ) →
         ContainsKey (Self.slab_of arena) key ↔ (held_under arena Self.TYPE key ≢ Nothing) };
 
+    /// The room of the kind is that of its slab.
     ghost room_of_slab: { (arena : ArenaOf K V PREFIX_LEN) →
         room arena Self.TYPE ≡ slab_room (Self.slab_of arena) };
 
+    /// A written slab leaves the room of the other kinds.
     ghost other_room: { (arena : ArenaOf K V PREFIX_LEN) (slots : Slots Self) →
         SameOtherRoom arena (Self.with_slab arena slots) Self.TYPE };
 
-    ghost others_kept: { (arena : ArenaOf K V PREFIX_LEN) (slots : Slots Self) (kind : NodeType) (key : ℕ) →
+    /// It leaves what is held of the other kinds.
+    ghost others_kept: { (arena : ArenaOf K V PREFIX_LEN) (slots : Slots Self)
+        (kind : NodeType) (key : ℕ) →
         kind ≢ Self.TYPE →
         held_under (Self.with_slab arena slots) kind key ≡ held_under arena kind key };
 }

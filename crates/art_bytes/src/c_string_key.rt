@@ -61,9 +61,17 @@ impl OrderedBytes for CStringKey {
 #[derive(Debug, Drop)]
 pub enum CStringKeyError {
     /// A zero stands among the bytes, the first one at `position`.
-    InteriorZero { position: usize, bytes: Vec<u8> },
+    InteriorZero {
+        /// The index of that zero, from 0.
+        position: usize,
+        /// The bytes as they were given.
+        bytes: Vec<u8>,
+    },
     /// No zero stands among the bytes, and there was no memory for the one behind them.
-    OutOfMemory { bytes: Vec<u8> },
+    OutOfMemory {
+        /// The bytes as they were given.
+        bytes: Vec<u8>,
+    },
 }
 
 impl fmt::Display for CStringKeyError {

@@ -1,4 +1,4 @@
--- Lines of the input and of the output, of both programs.
+-- Lines of the input and of the output, of both commands.
 use Rattle.std.specs.Prelude.{◌≡◌, ℕ, ◌==◌, List, Bool, false, IsTrue, [], ◌∷◌, ◌++◌}
 use Rattle.std.specs.List.{slice_split}
 

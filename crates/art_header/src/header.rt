@@ -1,6 +1,5 @@
 //! The header that every inner node begins with.
 ghost use Rattle.std.specs.Prelude.{◌≡◌, ℕ, ◌+◌, ◌-◌, ◌^◌, ◌<◌, ◌≤◌, List, [], ◌++◌, length, min, take, drop, Result};
-ghost use Rattle.std.specs.Cmp.{on_equiv, on_per};
 
 use std::alloc::AllocError;
 use std::marker::Model;
@@ -24,9 +23,14 @@ impl<const PREFIX_LEN: usize> Model for Header<PREFIX_LEN> {
 
     ghost Value = { Shown };
 
-    ghost view = { λ h. record { count = h.num_children; prefix_len = h.prefix_len; stored = take (capped PREFIX_LEN h.prefix_len) h.prefix } };
+    ghost view = { λ h. record {
+      count = h.num_children;
+      prefix_len = h.prefix_len;
+      stored = take (capped PREFIX_LEN h.prefix_len) h.prefix;
+    } };
 
-    ghost invariant = { λ h. (length h.prefix ≡ PREFIX_LEN) × (h.num_children < 2 ^ 16) × (h.prefix_len < 2 ^ 32) };
+    ghost invariant = { λ h. (length h.prefix ≡ PREFIX_LEN) ×
+        (h.num_children < 2 ^ 16) × (h.prefix_len < 2 ^ 32) };
 }
 
 impl<const PREFIX_LEN: usize> Header<PREFIX_LEN> {
@@ -147,7 +151,8 @@ impl<const PREFIX_LEN: usize> Header<PREFIX_LEN> {
     /// The prefix has at least `len` bytes, and the key has every byte that is to be stored.
     pub fn ltrim_by_with_leaf(&mut self, len: usize, depth: usize, leaf_key: &[u8])
         requires within { len ≤ self.old.prefix_len }
-        requires has_stored_bytes { depth + len + capped PREFIX_LEN (self.old.prefix_len - len) ≤ length leaf_key.now }
+        requires has_stored_bytes { depth + len + capped PREFIX_LEN (self.old.prefix_len - len) ≤
+            length leaf_key.now }
         ensures trimmed { self.new ≡ with_prefix PREFIX_LEN self.old
             (drop (depth + len) leaf_key.now) (self.old.prefix_len - len) }
         ensures stands { (path prefix rest : List ℕ) →

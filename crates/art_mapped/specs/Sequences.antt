@@ -23,5 +23,6 @@ IsArray n is_element elements = (length elements ≡ n) × All is_element elemen
 abbrev pub IsVec : {E A : Type 0} → (E → Type 0) → Vec E A → Type 0
 IsVec is_element elements = All is_element (vec_items elements)
 
+-- the elements' texts, joined
 abbrev pub vec_text : {E A : Type 0} → (E → List ℕ) → Vec E A → List ℕ
 vec_text text elements = joined text (vec_items elements)

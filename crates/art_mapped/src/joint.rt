@@ -20,10 +20,13 @@ pub trait Joint<D> {
     /// How many bytes all parts have.
     ghost width: { ℕ };
 
+    /// Which values the parts map.
     ghost is_in_domain: { D → Type 0 };
 
+    /// The texts of the parts, joined.
     ghost text_of: { D → List ℕ };
 
+    /// Two values are one, part by part.
     ghost are_same: { D → D → Type 0 };
 
     /// The text is that of bytes that stand for the value.

@@ -55,7 +55,9 @@ impl Element<Signed> for NonZeroI8 {
 
     ghost text_of = { λ n. signed_text 1 (non_zero_i8_get n) };
 
-    ghost keeps = { keep_of (signed_keep 1 (Prim.search rules)) non_zero_i8_get (signed_decides non_zero_i8_get (λ n. n.ok) (λ value ok. record { value = value; ok = ok }) (λ _. refl)) };
+    ghost keeps = { keep_of (signed_keep 1 (Prim.search rules)) non_zero_i8_get
+        (signed_decides non_zero_i8_get (λ n. n.ok)
+        (λ value ok. record { value = value; ok = ok }) (λ _. refl)) };
 
     fn encode(self) -> [u8; 1] {
         i8::encode(self.get())
@@ -99,7 +101,9 @@ impl Element<Signed> for NonZeroI16 {
 
     ghost text_of = { λ n. signed_text 2 (non_zero_i16_get n) };
 
-    ghost keeps = { keep_of (signed_keep 2 (Prim.search rules)) non_zero_i16_get (signed_decides non_zero_i16_get (λ n. n.ok) (λ value ok. record { value = value; ok = ok }) (λ _. refl)) };
+    ghost keeps = { keep_of (signed_keep 2 (Prim.search rules)) non_zero_i16_get
+        (signed_decides non_zero_i16_get (λ n. n.ok)
+        (λ value ok. record { value = value; ok = ok }) (λ _. refl)) };
 
     fn encode(self) -> [u8; 2] {
         i16::encode(self.get())
@@ -143,7 +147,9 @@ impl Element<Signed> for NonZeroI32 {
 
     ghost text_of = { λ n. signed_text 4 (non_zero_i32_get n) };
 
-    ghost keeps = { keep_of (signed_keep 4 (Prim.search rules)) non_zero_i32_get (signed_decides non_zero_i32_get (λ n. n.ok) (λ value ok. record { value = value; ok = ok }) (λ _. refl)) };
+    ghost keeps = { keep_of (signed_keep 4 (Prim.search rules)) non_zero_i32_get
+        (signed_decides non_zero_i32_get (λ n. n.ok)
+        (λ value ok. record { value = value; ok = ok }) (λ _. refl)) };
 
     fn encode(self) -> [u8; 4] {
         i32::encode(self.get())
@@ -187,7 +193,9 @@ impl Element<Signed> for NonZeroI64 {
 
     ghost text_of = { λ n. signed_text 8 (non_zero_i64_get n) };
 
-    ghost keeps = { keep_of (signed_keep 8 (Prim.search rules)) non_zero_i64_get (signed_decides non_zero_i64_get (λ n. n.ok) (λ value ok. record { value = value; ok = ok }) (λ _. refl)) };
+    ghost keeps = { keep_of (signed_keep 8 (Prim.search rules)) non_zero_i64_get
+        (signed_decides non_zero_i64_get (λ n. n.ok)
+        (λ value ok. record { value = value; ok = ok }) (λ _. refl)) };
 
     fn encode(self) -> [u8; 8] {
         i64::encode(self.get())
@@ -231,7 +239,9 @@ impl Element<Signed> for NonZeroI128 {
 
     ghost text_of = { λ n. signed_text 16 (non_zero_i128_get n) };
 
-    ghost keeps = { keep_of (signed_keep 16 (Prim.search rules)) non_zero_i128_get (signed_decides non_zero_i128_get (λ n. n.ok) (λ value ok. record { value = value; ok = ok }) (λ _. refl)) };
+    ghost keeps = { keep_of (signed_keep 16 (Prim.search rules)) non_zero_i128_get
+        (signed_decides non_zero_i128_get (λ n. n.ok)
+        (λ value ok. record { value = value; ok = ok }) (λ _. refl)) };
 
     fn encode(self) -> [u8; 16] {
         i128::encode(self.get())
@@ -275,7 +285,9 @@ impl Element<Signed> for NonZeroIsize {
 
     ghost text_of = { λ n. signed_text 8 (non_zero_isize_get n) };
 
-    ghost keeps = { keep_of (signed_keep 8 (Prim.search rules)) non_zero_isize_get (signed_decides non_zero_isize_get (λ n. n.ok) (λ value ok. record { value = value; ok = ok }) (λ _. refl)) };
+    ghost keeps = { keep_of (signed_keep 8 (Prim.search rules)) non_zero_isize_get
+        (signed_decides non_zero_isize_get (λ n. n.ok)
+        (λ value ok. record { value = value; ok = ok }) (λ _. refl)) };
 
     fn encode(self) -> [u8; 8] {
         isize::encode(self.get())

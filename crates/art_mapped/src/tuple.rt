@@ -26,8 +26,10 @@ pub trait TupleValues: Sized {
     /// The values in pairs.
     type Pairs;
 
+    /// The tuple, held in pairs.
     ghost in_pairs: { Self → Self.Pairs };
 
+    /// The tuple of values in pairs.
     ghost flat: { Self.Pairs → Self };
 
     /// The values of the tuple, in pairs.
@@ -44,6 +46,7 @@ pub trait TupleValues: Sized {
 
 /// A tuple that compares as its pairs do.
 pub trait OrderedTuple<P: Ord>: TupleValues<Pairs = P> + Ord {
+    /// A tuple compares as its pairs do.
     ghost same_order: { (x y : Self) → Self.cmp x y ≡ P.cmp (Self.in_pairs x) (Self.in_pairs y) };
 }
 

@@ -54,7 +54,9 @@ impl Element<Unsigned> for NonZeroU8 {
 
     ghost text_of = { λ n. digits 1 (non_zero_u8_get n) };
 
-    ghost keeps = { keep_of (unsigned_keep 1 (Prim.search rules)) non_zero_u8_get (unsigned_decides non_zero_u8_get (λ n. n.ok) (λ value ok. record { value = value; ok = ok }) (λ _. refl)) };
+    ghost keeps = { keep_of (unsigned_keep 1 (Prim.search rules)) non_zero_u8_get
+        (unsigned_decides non_zero_u8_get (λ n. n.ok)
+        (λ value ok. record { value = value; ok = ok }) (λ _. refl)) };
 
     fn encode(self) -> [u8; 1] {
         u8::encode(self.get())
@@ -98,7 +100,9 @@ impl Element<Unsigned> for NonZeroU16 {
 
     ghost text_of = { λ n. digits 2 (non_zero_u16_get n) };
 
-    ghost keeps = { keep_of (unsigned_keep 2 (Prim.search rules)) non_zero_u16_get (unsigned_decides non_zero_u16_get (λ n. n.ok) (λ value ok. record { value = value; ok = ok }) (λ _. refl)) };
+    ghost keeps = { keep_of (unsigned_keep 2 (Prim.search rules)) non_zero_u16_get
+        (unsigned_decides non_zero_u16_get (λ n. n.ok)
+        (λ value ok. record { value = value; ok = ok }) (λ _. refl)) };
 
     fn encode(self) -> [u8; 2] {
         u16::encode(self.get())
@@ -142,7 +146,9 @@ impl Element<Unsigned> for NonZeroU32 {
 
     ghost text_of = { λ n. digits 4 (non_zero_u32_get n) };
 
-    ghost keeps = { keep_of (unsigned_keep 4 (Prim.search rules)) non_zero_u32_get (unsigned_decides non_zero_u32_get (λ n. n.ok) (λ value ok. record { value = value; ok = ok }) (λ _. refl)) };
+    ghost keeps = { keep_of (unsigned_keep 4 (Prim.search rules)) non_zero_u32_get
+        (unsigned_decides non_zero_u32_get (λ n. n.ok)
+        (λ value ok. record { value = value; ok = ok }) (λ _. refl)) };
 
     fn encode(self) -> [u8; 4] {
         u32::encode(self.get())
@@ -186,7 +192,9 @@ impl Element<Unsigned> for NonZeroU64 {
 
     ghost text_of = { λ n. digits 8 (non_zero_u64_get n) };
 
-    ghost keeps = { keep_of (unsigned_keep 8 (Prim.search rules)) non_zero_u64_get (unsigned_decides non_zero_u64_get (λ n. n.ok) (λ value ok. record { value = value; ok = ok }) (λ _. refl)) };
+    ghost keeps = { keep_of (unsigned_keep 8 (Prim.search rules)) non_zero_u64_get
+        (unsigned_decides non_zero_u64_get (λ n. n.ok)
+        (λ value ok. record { value = value; ok = ok }) (λ _. refl)) };
 
     fn encode(self) -> [u8; 8] {
         u64::encode(self.get())
@@ -230,7 +238,9 @@ impl Element<Unsigned> for NonZeroU128 {
 
     ghost text_of = { λ n. digits 16 (non_zero_u128_get n) };
 
-    ghost keeps = { keep_of (unsigned_keep 16 (Prim.search rules)) non_zero_u128_get (unsigned_decides non_zero_u128_get (λ n. n.ok) (λ value ok. record { value = value; ok = ok }) (λ _. refl)) };
+    ghost keeps = { keep_of (unsigned_keep 16 (Prim.search rules)) non_zero_u128_get
+        (unsigned_decides non_zero_u128_get (λ n. n.ok)
+        (λ value ok. record { value = value; ok = ok }) (λ _. refl)) };
 
     fn encode(self) -> [u8; 16] {
         u128::encode(self.get())
@@ -274,7 +284,9 @@ impl Element<Unsigned> for NonZeroUsize {
 
     ghost text_of = { λ n. digits 8 (non_zero_usize_get n) };
 
-    ghost keeps = { keep_of (unsigned_keep 8 (Prim.search rules)) non_zero_usize_get (unsigned_decides non_zero_usize_get (λ n. n.ok) (λ value ok. record { value = value; ok = ok }) (λ _. refl)) };
+    ghost keeps = { keep_of (unsigned_keep 8 (Prim.search rules)) non_zero_usize_get
+        (unsigned_decides non_zero_usize_get (λ n. n.ok)
+        (λ value ok. record { value = value; ok = ok }) (λ _. refl)) };
 
     fn encode(self) -> [u8; 8] {
         usize::encode(self.get())

@@ -38,6 +38,7 @@ are_valid_bounds Unbounded end = true
 are_valid_bounds (Included start) Unbounded = true
 are_valid_bounds (Excluded start) Unbounded = true
 
+-- a range may have these bounds: they are not both excluded and equal, and the start is not above the end
 abbrev pub AreValidBounds : Bound ℕ → Bound ℕ → Type 0
 AreValidBounds start end = IsTrue (are_valid_bounds start end)
 
@@ -59,10 +60,11 @@ module _ {H : Type 0} where
   abbrev pub without_child : ChildMap H → ℕ → ChildMap H
   without_child children byte = filter (λ p. not (p.0 == byte)) children
 
-  -- the pair of the least byte, and of the greatest
+  -- the pair of the least byte
   abbrev pub first_pair : ChildMap H → Option (ℕ × H)
   first_pair children = slice_get children 0
 
+  -- the pair of the greatest byte
   abbrev pub last_pair : ChildMap H → Option (ℕ × H)
   last_pair children = slice_get children (length children - 1)
 

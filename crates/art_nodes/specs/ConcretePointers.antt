@@ -26,6 +26,7 @@ module _ {K V : Type 0} {P : ℕ} where
   concrete_pointer kinds.Node256 key = Node256 (pointer_to key)
   concrete_pointer kinds.Leaf key = LeafNode (pointer_to key)
 
+  -- the pointer by kind that points where this one does
   abbrev pub concrete_of : OpaqueNodePtr K V P → ConcreteNodePtr K V P
   concrete_of pointer = concrete_pointer (node_kind pointer) (opaque_key pointer)
 
@@ -36,5 +37,6 @@ module _ {K V : Type 0} {P : ℕ} where
   any_of_inner (inner.Node48 pointer) = Node48 pointer
   any_of_inner (inner.Node256 pointer) = Node256 pointer
 
+  -- the pointer that points where this one by kind does
   abbrev pub opaque_of_inner : ConcreteInnerNodePtr K V P → OpaqueNodePtr K V P
   opaque_of_inner pointer = opaque_of (any_of_inner pointer)

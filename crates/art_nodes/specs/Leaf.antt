@@ -5,15 +5,19 @@ use Rattle.art_nodes.specs.declared.leaf_node.LeafNode.{LeafNode}
 use Rattle.art_nodes.specs.contracts.leaf_node.LeafNode.{the_row}
 
 module _ {K V : Type 0} {P : ℕ} where
+  -- the key of a leaf
   abbrev pub leaf_key : LeafNode K V P → K
   leaf_key leaf = leaf.key
 
+  -- its value
   abbrev pub leaf_value : LeafNode K V P → V
   leaf_value leaf = leaf.value
 
+  -- the slab key of the leaf before it, if there is one
   abbrev pub previous_key : LeafNode K V P → Option ℕ
   previous_key leaf = leaf.previous
 
+  -- the slab key of the leaf after it, if there is one
   abbrev pub next_key : LeafNode K V P → Option ℕ
   next_key leaf = leaf.next
 

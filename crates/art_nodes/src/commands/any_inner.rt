@@ -1,5 +1,5 @@
 //! An inner node of any kind, which the program picks as it runs.
-ghost use Rattle.std.specs.Prelude.{◌≡◌, ◌≢◌, ◌<◌, ◌≤◌, ◌+◌, ◌↔◌, IsTrue, IsNone, length, IfOk};
+ghost use Rattle.std.specs.Prelude.{◌≡◌, ◌≢◌, ◌<◌, ◌≤◌, ◌↔◌, IsTrue, length, IfOk};
 ghost use Rattle.art_header.specs.NodeType.{least_children, most_children, grown_kind, shrunk_kind};
 ghost use Rattle.art_nodes.specs.AnyInner.{inner_of, kind_of};
 ghost use Rattle.art_nodes.specs.ChildMap.{child_at, first_pair, last_pair, pairs_within, AreValidBounds};
@@ -73,7 +73,8 @@ impl<K, V, const PREFIX_LEN: usize> AnyInner<K, V, PREFIX_LEN> {
         child_pointer: OpaqueNodePtr<K, V, PREFIX_LEN>,
     )
         requires { HasRoomFor (most_children (kind_of self.old)) (inner_of self.old) key_fragment }
-        ensures written { inner_of self.new ≡ node_with_child (inner_of self.old) key_fragment child_pointer }
+        ensures written { inner_of self.new ≡
+            node_with_child (inner_of self.old) key_fragment child_pointer }
         ensures kind { kind_of self.new ≡ kind_of self.old }
     {
         with_node!(self, node => node.write_child(key_fragment, child_pointer))

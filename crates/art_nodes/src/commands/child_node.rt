@@ -1,7 +1,7 @@
 //! A node that takes child commands and keeps itself the smallest kind that holds its children.
-ghost use Rattle.std.specs.Prelude.{◌≡◌, ◌<◌, ◌≤◌, length, None, IsOk, OnErr, IfOk, OnOk};
+ghost use Rattle.std.specs.Prelude.{◌≡◌, ◌<◌, length, OnErr, IfOk, OnOk};
 ghost use Rattle.art_header.specs.NodeType.{kind_for, most_children};
-ghost use Rattle.art_nodes.specs.ChildMap.{child_at, first_pair, last_pair, pairs_within, AreValidBounds};
+ghost use Rattle.art_nodes.specs.ChildMap.{child_at, pairs_within, AreValidBounds};
 ghost use Rattle.art_nodes.specs.Commands.{reply_to, child_map_after, TakesMemory};
 ghost use Rattle.art_nodes.specs.Inner.{IsInner, header_of, empty_inner, node_with_child, node_without_child, with_children};
 

@@ -27,7 +27,8 @@ impl ByteSet {
     #[inline]
     pub(crate) fn insert(&mut self, byte: u8)
         ensures added { has_byte self.new.words byte ≡ true }
-        ensures others_kept { (other : ℕ) → other ≢ byte → has_byte self.new.words other ≡ has_byte self.old.words other }
+        ensures others_kept { (other : ℕ) → other ≢ byte →
+            has_byte self.new.words other ≡ has_byte self.old.words other }
     {
         let byte = usize::from(byte);
         self.words[byte / 64] |= 1 << (byte % 64);
@@ -36,7 +37,8 @@ impl ByteSet {
     #[inline]
     pub(crate) fn remove(&mut self, byte: u8)
         ensures removed { has_byte self.new.words byte ≡ false }
-        ensures others_kept { (other : ℕ) → other ≢ byte → has_byte self.new.words other ≡ has_byte self.old.words other }
+        ensures others_kept { (other : ℕ) → other ≢ byte →
+            has_byte self.new.words other ≡ has_byte self.old.words other }
     {
         let byte = usize::from(byte);
         self.words[byte / 64] &= !(1 << (byte % 64));

@@ -26,13 +26,14 @@ pub trait InnerNode<const PREFIX_LEN: usize>: Node<PREFIX_LEN>
         + InnerNodeCommon<Self::Key, Self::Value, PREFIX_LEN>;
 
     /// The same node of the next greater kind: prefix and children stay. It has room for a child
-    /// under any byte.
+    /// under any byte. Of a `Node256`, which has no greater kind, it is a copy.
     fn grow(&self) -> Self::GrownNode
         ensures same { Self.GrownNode.inner result ≡ Self.inner self.now }
         ensures has_room { (byte : ℕ) → byte < 256 →
             HasRoomFor Self.GrownNode.room (Self.inner self.now) byte };
 
     /// The same node of the next smaller kind: prefix and children stay. The children have to fit.
+    /// Of a `Node4`, which has no smaller kind, it is a copy.
     fn shrink(&self) -> Self::ShrunkNode
         requires { length (Self.inner self.now).children ≤ Self.ShrunkNode.room }
         ensures { Self.ShrunkNode.inner result ≡ Self.inner self.now };

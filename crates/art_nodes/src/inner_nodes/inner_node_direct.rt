@@ -103,7 +103,6 @@ impl<K, V, const PREFIX_LEN: usize> InnerNodeDirect<K, V, PREFIX_LEN> {
 impl<K, V, const PREFIX_LEN: usize> InnerNodeCommon<K, V, PREFIX_LEN>
     for InnerNodeDirect<K, V, PREFIX_LEN> {
     ghost use Rattle.std.specs.Prelude.{◌≡◌, refl};
-    ghost use Rattle.art_nodes.specs.ChildMap.{child_at, with_child, without_child, pairs_within, AreValidBounds};
     ghost use Rattle.art_nodes.specs.Inner.{HasRoomFor, node_with_child};
 
     ghost inner = { λ n. n };

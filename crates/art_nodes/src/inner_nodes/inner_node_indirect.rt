@@ -42,9 +42,11 @@ impl<K, V, const PREFIX_LEN: usize, const SIZE: usize> Model
 
     ghost Value = { Inner (OpaqueNodePtr K V PREFIX_LEN) };
 
-    ghost view = { λ n. inner_with n.header (table_children 0 (named_pointers n.child_pointers.items n.child_indices)) };
+    ghost view = { λ n. inner_with n.header
+        (table_children 0 (named_pointers n.child_pointers.items n.child_indices)) };
 
-    ghost invariant = { λ n. IsIndirectNode PREFIX_LEN (indirect_room SIZE) n.header n.child_indices n.keys.items n.child_pointers.items };
+    ghost invariant = { λ n. IsIndirectNode PREFIX_LEN (indirect_room SIZE) n.header
+        n.child_indices n.keys.items n.child_pointers.items };
 }
 
 impl<K, V, const PREFIX_LEN: usize, const SIZE: usize> InnerNodeInit<PREFIX_LEN>
@@ -104,7 +106,8 @@ impl<K, V, const PREFIX_LEN: usize, const SIZE: usize> InnerNodeIndirect<K, V, P
     ) -> Self
         requires beside { length children.now ≡ length bytes.now }
         requires counted { header.now.count ≡ length bytes.now }
-        requires sound { IsInner PREFIX_LEN (indirect_room SIZE) (inner_with header.now (sorted_children bytes.now children.now)) }
+        requires sound { IsInner PREFIX_LEN (indirect_room SIZE)
+            (inner_with header.now (sorted_children bytes.now children.now)) }
         ensures { result ≡ inner_with header.now (sorted_children bytes.now children.now) }
     {
         InnerNodeIndirect {
@@ -165,7 +168,6 @@ impl<K, V, const PREFIX_LEN: usize, const SIZE: usize> InnerNodeIndirect<K, V, P
 impl<K, V, const PREFIX_LEN: usize, const SIZE: usize> InnerNodeCommon<K, V, PREFIX_LEN>
     for InnerNodeIndirect<K, V, PREFIX_LEN, SIZE> {
     ghost use Rattle.std.specs.Prelude.{◌≡◌, refl};
-    ghost use Rattle.art_nodes.specs.ChildMap.{pairs_within, AreValidBounds};
     ghost use Rattle.art_nodes.specs.Inner.{HasRoomFor, indirect_room, node_with_child};
 
     ghost inner = { λ n. n };

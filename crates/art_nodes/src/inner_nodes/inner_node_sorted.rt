@@ -167,7 +167,8 @@ pub(crate) fn copy_of<T: Copy + Default, const SIZE: usize>(items: &[T]) -> Arra
 /// Where a byte stands among others, if it does.
 fn place_of(keys: &[u8], key_fragment: u8) -> Option<usize>
     ensures found { IfSome result (IsByteAt keys.now key_fragment) }
-    ensures absent { IfNone result ((k : ℕ) → k < length keys.now → slice_index keys.now k ≢ key_fragment) }
+    ensures absent { IfNone result ((k : ℕ) → k < length keys.now →
+        slice_index keys.now k ≢ key_fragment) }
 {
     keys.iter().position(|key| *key == key_fragment)
 }
@@ -187,10 +188,8 @@ fn find_write_point(keys: &[u8], key_fragment: u8) -> Result<usize, usize>
 
 impl<K, V, const PREFIX_LEN: usize, const SIZE: usize> InnerNodeCommon<K, V, PREFIX_LEN>
     for InnerNodeSorted<K, V, PREFIX_LEN, SIZE> {
-    ghost use Rattle.std.specs.Prelude.{◌≡◌};
-    ghost use Rattle.art_nodes.specs.ChildMap.{pairs_within, AreValidBounds};
+    ghost use Rattle.std.specs.Prelude.{◌≡◌, refl};
     ghost use Rattle.art_nodes.specs.Inner.{HasRoomFor, node_with_child};
-    ghost use Rattle.std.specs.Prelude.{refl};
 
     ghost inner = { λ n. n };
 

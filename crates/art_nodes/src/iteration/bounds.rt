@@ -1,9 +1,9 @@
 //! Bounds on key bytes.
-ghost use Rattle.std.specs.Prelude.{◌≡◌, ◌≤◌, ◌↔◌, ◌&&◌, IsTrue};
-ghost use Rattle.art_nodes.specs.ChildMap.{AreValidBounds, meets_start, meets_end};
+ghost use Rattle.std.specs.Prelude.{◌≡◌, ◌≤◌, ◌↔◌, IsTrue};
+ghost use Rattle.art_nodes.specs.ChildMap.{AreValidBounds};
 ghost use Rattle.art_nodes.specs.PairSources.{first_byte, end_byte};
 
-use std::ops::{Bound, Range, RangeBounds};
+use std::ops::{Bound, Range};
 
 /// Whether a range of key bytes may have these bounds.
 ///

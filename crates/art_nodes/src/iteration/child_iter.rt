@@ -1,5 +1,5 @@
 //! The iterator over the children of an inner node.
-ghost use Rattle.std.specs.Prelude.{◌≡◌, ◌≤◌, length};
+ghost use Rattle.std.specs.Prelude.{◌≡◌, length};
 ghost use Rattle.std.specs.Iterator.{YieldsFirst, YieldsLast, item_count};
 ghost use Rattle.art_nodes.specs.ChildMap.{table_children, pairs_within, IsAscending, AreValidBounds};
 ghost use Rattle.art_nodes.specs.IndirectNode.{named_pointers, AreBelow};
@@ -124,7 +124,8 @@ impl<'a, H: Copy> PairIter<'a, H> {
     ) -> Self
         requires named { AreBelow (length children.now) indices.now }
         requires valid { AreValidBounds start end }
-        ensures { result ≡ pairs_within (table_children 0 (named_pointers children.now indices.now)) start end }
+        ensures { result ≡ pairs_within
+            (table_children 0 (named_pointers children.now indices.now)) start end }
     {
         let bytes = byte_range(start, end);
         let places = &indices.places()[bytes.start..bytes.end];

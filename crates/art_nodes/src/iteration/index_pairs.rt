@@ -25,9 +25,11 @@ impl<'a, H> Model for IndexPairs<'a, H> {
 
     ghost Value = { ChildMap H };
 
-    ghost view = { λ p. table_children p.byte (named_pointers p.children.now (map index_of p.places.now)) };
+    ghost view = { λ p. table_children p.byte
+        (named_pointers p.children.now (map index_of p.places.now)) };
 
-    ghost invariant = { λ p. (p.byte + length p.places.now ≤ 256) × AreBelow (length p.children.now) (map index_of p.places.now) };
+    ghost invariant = { λ p. (p.byte + length p.places.now ≤ 256) ×
+        AreBelow (length p.children.now) (map index_of p.places.now) };
 }
 
 impl<'a, H: Copy> IndexPairs<'a, H> {
