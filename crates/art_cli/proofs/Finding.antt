@@ -40,10 +40,6 @@ found_inside tree pointer query one =
     subst (All (Contains (leaves tree))) one all 0 (pointer, query) (omega arith)
 
 module _ {K : Type 0} {P : ℕ} (text : K → List ℕ) where
-  -- an arena with no entry
-  pub holds_none : (arena : ArenaOf K ℕ P) → IsEmpty text arena → HoldsEntries text arena no_entries
-  holds_none arena empty x = ap (option_map (λ entry. entry.1)) (empty x)
-
   -- one text's number is another now
   module _ (old new : ArenaOf K ℕ P) (number_of : List ℕ → Option ℕ) (key : List ℕ) (number : Option ℕ)
       (before : (x : List ℕ) → option_map (λ entry. entry.1) (entry_at text old x) ≡ number_of x)
@@ -127,10 +123,6 @@ pub record SoFar {K : Type 0} {P : ℕ} (text : K → List ℕ) (arena : ArenaOf
   pub few : next ≤ length commands
 
 module _ {K : Type 0} {P : ℕ} (text : K → List ℕ) where
-  -- before the first
-  pub so_far_none : (arena : ArenaOf K ℕ P) (output : List ℕ) → IsEmpty text arena → output ≡ [] → SoFar text arena [] 0 output
-  so_far_none arena output empty none = record { admitted_all = tt; replies = none; holds = holds_none text arena empty; next_is = refl; few = omega arith }
-
   -- after one more
   pub so_far_one : (old new : ArenaOf K ℕ P) (commands all : List (TreeCommand (List ℕ))) (command : TreeCommand (List ℕ)) (next more : ℕ) (output first longer : List ℕ) → SoFar text old commands next output → all ≡ commands ++ command ∷ [] → IsAdmitted (after_all no_entries commands) command → IsReply K P (after_all no_entries commands) command first → HoldsEntries text new (after (after_all no_entries commands) command) → more ≡ (after (after_all no_entries commands) command).next → more ≤ next + 1 → longer ≡ output ++ first → SoFar text new all more longer
   so_far_one old new commands all command next more output first longer before longer_by is reply holds next_is few printed =

@@ -1,5 +1,4 @@
 //! What a query is answered.
-ghost use Rattle.std.specs.Prelude.{◌≡◌};
 ghost use Rattle.art_cli.specs.Find.{Entries};
 ghost use Rattle.art_cli.specs.Answer.{HoldsEntries, IsAnswer};
 

@@ -1,5 +1,5 @@
 //! Runs of `artnodes find`.
-use super::{Case, SEARCHES, check, outcome};
+use super::{SEARCHES, check, outcome};
 use std::alloc::Global;
 use std::process::Abort;
 use std::test::Fail;
