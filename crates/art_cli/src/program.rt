@@ -59,7 +59,7 @@ pub fn run<R: Read, W: Write, E: Write>(
     };
     match write_out(output, text.as_bytes()) {
         Ok(()) => 0,
-        Err(error) => Failure::from(error).report(errors),
+        Err(_) => Failure::Device.report(errors),
     }
 }
 

@@ -12,7 +12,7 @@ pub returns-in-Ok-write_out-clause-success_is_quiet : goal.returns-in-Ok-write_o
 returns-in-Ok-write_out-clause-success_is_quiet g c _ = keeps_itself (g.E.Write.contents c.args.errors.now)
 
 pub returns-clause-answers : goal.returns-clause-answers
-returns-clause-answers g c zero = absurd (omega (arith, zero, c.report-in-Err-write_out.ensures, c.from.ensures.0))
+returns-clause-answers g c zero = absurd (omega (arith, zero, c.report-in-Err-write_out.ensures))
 
 pub returns-in-Ok-write_out-clause-status : goal.returns-in-Ok-write_out-clause-status
 returns-in-Ok-write_out-clause-status g c = omega arith
