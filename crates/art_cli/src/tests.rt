@@ -379,3 +379,37 @@ fn a_failed_writer_has_what_it_took(rt: HostRuntime) -> Result<(), Fail> {
     }
     Ok(())
 }
+
+// Runs these words where each growth is the run's own, since words and writers have their memory
+// before it. A run that is refused some prints nothing, and the next one answers. Answers whether
+// it was refused.
+fn is_refused(rt: &impl Abort, alloc: Global, texts: &[&str], case: &Case) -> Result<bool, Fail> {
+    let words = words(alloc, texts)?;
+    let mut input = case.input;
+    let mut output = Vec::with_capacity(alloc, 512)?;
+    let mut errors = Vec::with_capacity(alloc, 512)?;
+    let status = run(alloc, &words, &mut input, &mut output, &mut errors);
+    if status != 1 {
+        compare(rt, &output, &errors, status, case);
+        return Ok(false);
+    }
+    let refusal = outcome(case.input, "", "out of memory\n", 1);
+    compare(rt, &output, &errors, status, &refusal);
+    check(rt, alloc, texts, case)?;
+    Ok(true)
+}
+
+#[test]
+fn a_refused_run_prints_nothing(rt: HostRuntime) -> Result<(), Fail> {
+    let cases: [(&[&str], Case); 2] = [
+        (&["replay"], outcome(COMMANDS.as_bytes(), REPLIES, "", 0)),
+        (&["find", "2"], outcome(SEARCHES.as_bytes(), ANSWERS, "", 0)),
+    ];
+    for (texts, case) in cases {
+        if is_refused(&rt, rt.alloc(), texts, &case)? {
+            // this end tells checks/refusals that it was so
+            Err("refused, and all stands")?;
+        }
+    }
+    Ok(())
+}
