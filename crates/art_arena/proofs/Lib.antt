@@ -1,4 +1,5 @@
 mod ArenaLemmas
+mod EndLemmas
 mod LeafLemmas
 mod LinkedLists
 mod MatchLemmas

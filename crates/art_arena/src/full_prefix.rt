@@ -1,23 +1,16 @@
 //! The whole prefix of an inner node, however few of its bytes the node stores.
-ghost use Rattle.std.specs.Prelude.{◌≡◌, ◌≢◌, ◌↔◌, ◌<◌, ◌≤◌, ◌++◌, ◌∷◌, ℕ, List, length, drop, All, Some, None, Ok, IsOk, IsSome, IfSome, IfOk, IfErr};
+ghost use Rattle.std.specs.Prelude.{◌≡◌, ◌≢◌, ◌↔◌, ◌<◌, ◌≤◌, ◌++◌, ◌∷◌, ℕ, List, length, drop, All, None, IsOk, IsSome, IfSome, IfErr};
 ghost use Rattle.std.specs.declared.cmp.Ordering.TheVariants.{Equal};
 ghost use Rattle.art_bytes.specs.Text.{IsFront};
-ghost use Rattle.art_header.specs.declared.node_type.NodeType.TheVariants.{Leaf};
-ghost use Rattle.art_nodes.specs.ChildMap.{first_pair};
-ghost use Rattle.art_nodes.specs.Inner.{Inner};
-ghost use Rattle.art_nodes.specs.Pointers.{slab_key, opaque_pointer};
-ghost use Rattle.art_arena.specs.Arena.{held, HeldInner, Nothing};
 ghost use Rattle.art_arena.specs.FullPrefix.{match_of, LieOnSide};
 ghost use Rattle.art_arena.specs.SharedFront.{IsSharedFrom, full_match};
-ghost use Rattle.art_arena.specs.Standing.{IsLeafOf, TreeAt, TreeUnder};
+ghost use Rattle.art_arena.specs.Standing.{IsLeafOf, TreeUnder};
 ghost use Rattle.art_arena.specs.Trees.{texts};
 
 use crate::arena::NodeArena;
+use crate::ends::{End, end_leaf};
 use art_bytes::AsBytes;
-use art_nodes::{
-    ConcreteNodePtr, ExplicitMismatch, InnerNodeCommon, LeafNode, NodePrefix, NodePtr,
-    OpaqueNodePtr, PrefixMatch, common_front_len,
-};
+use art_nodes::{ExplicitMismatch, InnerNodeCommon, NodePrefix, PrefixMatch, common_front_len};
 use std::cmp::Ordering;
 
 /// An inner node whose whole prefix can be read, with the arena that holds the nodes below it.
@@ -53,7 +46,7 @@ pub trait FullPrefix<K: AsBytes, V, const PREFIX_LEN: usize>: InnerNodeCommon<K,
             return (self.stored_prefix(), None);
         }
         let (_, child) = self.min();
-        let leaf = some_leaf_below(arena, child);
+        let leaf = end_leaf(arena, child, End::First);
         let text = arena.as_ref(leaf).key_ref().as_bytes();
         (&text[depth..depth + prefix_len], Some(leaf))
     }
@@ -117,52 +110,3 @@ impl<K: AsBytes, V, const PREFIX_LEN: usize, N: InnerNodeCommon<K, V, PREFIX_LEN
     V,
     PREFIX_LEN,
 > for N {}
-
-// Some leaf of the tree that stands at this pointer. Each step makes the path longer, and a leaf's
-// text, which is longer still, is shorter than 2^64.
-fn some_leaf_below<K: AsBytes, V, const PREFIX_LEN: usize>(
-    arena: &NodeArena<K, V, PREFIX_LEN>,
-    pointer: OpaqueNodePtr<K, V, PREFIX_LEN>,
-) -> NodePtr<PREFIX_LEN, LeafNode<K, V, PREFIX_LEN>>
-    requires tree { TreeAt K.text arena.now pointer }
-    ensures { (found : TreeAt K.text arena.now pointer) → IsLeafOf found.tree result }
-{
-    let mut at = pointer;
-    let mut passed: usize = 0;
-    'way: loop {
-        match step_down(arena, at) {
-            Ok(child) => {
-                at = child;
-                passed += 1;
-            }
-            Err(leaf) => {
-                return leaf;
-            }
-        }
-    }
-}
-
-// The child under the least byte of the inner node at this pointer, or the leaf that is there.
-fn step_down<K, V, const PREFIX_LEN: usize>(
-    arena: &NodeArena<K, V, PREFIX_LEN>,
-    pointer: OpaqueNodePtr<K, V, PREFIX_LEN>,
-) -> Result<OpaqueNodePtr<K, V, PREFIX_LEN>, NodePtr<PREFIX_LEN, LeafNode<K, V, PREFIX_LEN>>>
-    requires held { held arena.now pointer ≢ Nothing }
-    requires has_child { (node : Inner _) → held arena.now pointer ≡ HeldInner node →
-        0 < length node.children }
-    ensures child { IfOk result (λ child. (node : Inner _) × (byte : ℕ) ×
-        (held arena.now pointer ≡ HeldInner node) ×
-        (first_pair node.children ≡ Some (byte, child))) }
-    ensures leaf { IfErr result (λ leaf. pointer ≡ opaque_pointer Leaf (slab_key leaf)) }
-{
-    let least = match pointer.to_node_ptr() {
-        ConcreteNodePtr::Node4(node) => arena.as_ref(node).min(),
-        ConcreteNodePtr::Node16(node) => arena.as_ref(node).min(),
-        ConcreteNodePtr::Node48(node) => arena.as_ref(node).min(),
-        ConcreteNodePtr::Node256(node) => arena.as_ref(node).min(),
-        ConcreteNodePtr::LeafNode(leaf) => {
-            return Err(leaf);
-        }
-    };
-    Ok(least.1)
-}

@@ -22,7 +22,7 @@ use Rattle.art_tree.specs.Loading.{IsSnug, AreSnug}
 use Rattle.art_tree.specs.Places.{above, LacksChild}
 use Rattle.art_tree.specs.Plan.{join}
 use Rattle.art_tree.specs.Taking.{with_leaf}
-use Rattle.art_tree.specs.declared.ends.End.{End}
+use Rattle.art_arena.specs.declared.ends.End.{End}
 use Rattle.art_tree.specs.declared.insert.place.Spot.{Spot}
 use Rattle.art_tree.proofs.Adding.{AreSteps, HasTaken, added-alone, added-entered, below-kept, can-hang, last-others}
 use Rattle.art_tree.proofs.BranchLemmas.{leaves-join, places-join}

@@ -19,15 +19,15 @@ use Rattle.art_arena.specs.Trees.{Tree, Leaf, Inner, Branches, NoBranch, Branch,
 use Rattle.art_tree.specs.Art.{IsAlone, IsArt}
 use Rattle.art_tree.specs.Contexts.{Context, plug, path_to, leaves_before, leaves_after}
 use Rattle.art_tree.specs.Edits.{HoldsEntry, IsBeside, StaysAt, node_with_prefix}
-use Rattle.art_tree.specs.Ends.{IsAtEnd}
+use Rattle.art_arena.specs.Ends.{IsAtEnd}
 use Rattle.art_tree.specs.Hanging.{CanHang, IsHung, StandsBeside}
 use Rattle.art_tree.specs.Inserting.{IsEntered}
 use Rattle.art_tree.specs.Places.{above, Parts}
 use Rattle.art_tree.specs.Plan.{one_branch}
 use Rattle.art_tree.specs.Raising.{IsPlaced, node_of}
 use Rattle.art_tree.specs.Taking.{without_front, with_leaf, branches_left, branches_right, two_children}
-use Rattle.art_tree.specs.declared.ends.End.{End}
-use Rattle.art_tree.specs.declared.ends.End.TheVariants.{First, Last}
+use Rattle.art_arena.specs.declared.ends.End.{End}
+use Rattle.art_arena.specs.declared.ends.End.TheVariants.{First, Last}
 use Rattle.art_tree.specs.declared.insert.place.Fork.{Fork}
 use Rattle.art_tree.specs.declared.insert.place.Spot.{Spot}
 use Rattle.art_tree.proofs.Adding.{root-place, AreSteps, HasTaken, added-alone, added-entered, below-kept, can-hang, last-others, leaves-kept, place-held}

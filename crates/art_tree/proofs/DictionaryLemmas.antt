@@ -22,9 +22,10 @@ use Rattle.art_arena.specs.Standing.{StandsIn, AllStandIn}
 use Rattle.art_arena.specs.Trees.{Tree, Leaf, Inner, Branches, NoBranch, Branch, leaves, branch_leaves, texts, places, branch_places}
 use Rattle.art_tree.specs.Art.{IsAlone}
 use Rattle.art_tree.specs.Dictionary.{entry_among, entry_at}
-use Rattle.art_tree.specs.Ends.{IsAtEnd, IsWithin}
-use Rattle.art_tree.specs.declared.ends.End.{End}
-use Rattle.art_tree.specs.declared.ends.End.TheVariants.{First, Last}
+use Rattle.art_arena.specs.Ends.{IsAtEnd}
+use Rattle.art_tree.specs.Ends.{IsWithin}
+use Rattle.art_arena.specs.declared.ends.End.{End}
+use Rattle.art_arena.specs.declared.ends.End.TheVariants.{First, Last}
 use Rattle.art_tree.specs.Loading.{HoldEntries, IsLoaded, leaf_pointers}
 use Rattle.art_tree.specs.Plan.{texts_of}
 use Rattle.art_tree.specs.Search.{scan, leaf_pointer}

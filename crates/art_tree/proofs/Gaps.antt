@@ -16,8 +16,8 @@ use Rattle.art_tree.specs.Contexts.{Context, plug, path_to, leaves_before, leave
 use Rattle.art_tree.specs.Edits.{HasGap, IsBeside, LiesBeside}
 use Rattle.art_tree.specs.Hanging.{StandsBeside}
 use Rattle.art_tree.specs.Taking.{HasPlace, with_leaf}
-use Rattle.art_tree.specs.declared.ends.End.{End}
-use Rattle.art_tree.specs.declared.ends.End.TheVariants.{First, Last}
+use Rattle.art_arena.specs.declared.ends.End.{End}
+use Rattle.art_arena.specs.declared.ends.End.TheVariants.{First, Last}
 use Rattle.art_tree.proofs.Adding.{leaves-parted, leaves-filled}
 use Rattle.art_tree.proofs.DictionaryLemmas.{leaf-held-in}
 use Rattle.art_tree.proofs.Exchanging.{sound-whole}

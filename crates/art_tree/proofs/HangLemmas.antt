@@ -15,10 +15,10 @@ use Rattle.art_nodes.specs.declared.leaf_node.LeafNode.{LeafNode}
 use Rattle.art_arena.specs.Arena.{ArenaOf, Held, HeldInner, Nothing, held, held_leaf, held_under}
 use Rattle.art_arena.specs.Standing.{TreeAt, AllStandIn}
 use Rattle.art_arena.specs.Trees.{Tree, Inner, Branches, NoBranch, Branch, leaves, branch_leaves, branch_roots, root_of, AreSound}
-use Rattle.art_tree.specs.Ends.{IsAtEnd}
+use Rattle.art_arena.specs.Ends.{IsAtEnd}
 use Rattle.art_tree.specs.Hanging.{CanHang, HasPlaceAt, StandsBeside}
 use Rattle.art_tree.specs.Plan.{join}
-use Rattle.art_tree.specs.declared.ends.End.TheVariants.{First, Last}
+use Rattle.art_arena.specs.declared.ends.End.TheVariants.{First, Last}
 use Rattle.art_tree.proofs.BranchLemmas.{leaves-join}
 use Rattle.art_tree.proofs.Exchanging.{sound-split}
 use Rattle.art_tree.proofs.Rising.{stand-split}

@@ -7,7 +7,6 @@ mod BranchLemmas
 mod ChildLemmas
 mod ClashLemmas
 mod DictionaryLemmas
-mod EndLemmas
 mod Exchanging
 mod Leading
 mod Linking

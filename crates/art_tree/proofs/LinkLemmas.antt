@@ -9,8 +9,8 @@ use Rattle.art_nodes.specs.declared.leaf_node.LeafNode.{LeafNode}
 use Rattle.art_arena.specs.Arena.{ArenaOf, HeldLeaf, Nothing, held, held_leaf, pointer_to, Changes}
 use Rattle.art_arena.specs.Links.{HoldsLeaf, IsKnit, IsUnlinked, SameButLinks, Spells, SpellsAfter, leaf_at, next_at, previous_at, text_at}
 use Rattle.art_tree.specs.Edits.{HasGap, HoldsEntry, IsBeside, StaysAt}
-use Rattle.art_tree.specs.declared.ends.End.{End}
-use Rattle.art_tree.specs.declared.ends.End.TheVariants.{First, Last}
+use Rattle.art_arena.specs.declared.ends.End.{End}
+use Rattle.art_arena.specs.declared.ends.End.TheVariants.{First, Last}
 use Rattle.art_tree.proofs.Linking.{Spells-kept, kept-at}
 use Rattle.art_tree.proofs.Rising.{leaf-of, text-held, text-kept}
 use Rattle.art_tree.proofs.WayLemmas.{leaf-kind}

@@ -12,9 +12,9 @@ use Rattle.art_nodes.specs.declared.leaf_node.LeafNode.{LeafNode}
 use Rattle.art_arena.specs.Arena.{ArenaOf, HeldInner, HeldLeaf, Nothing, held, room, Changes}
 use Rattle.art_arena.specs.Links.{Spells}
 use Rattle.art_tree.specs.Contexts.{KeepsAt}
-use Rattle.art_tree.specs.Ends.{put_at}
-use Rattle.art_tree.specs.declared.ends.End.{End}
-use Rattle.art_tree.specs.declared.ends.End.TheVariants.{First, Last}
+use Rattle.art_arena.specs.Ends.{put_at}
+use Rattle.art_arena.specs.declared.ends.End.{End}
+use Rattle.art_arena.specs.declared.ends.End.TheVariants.{First, Last}
 
 -- a member stands beside a gap of a list: the first one right of it, or the last one left of it
 abbrev pub IsBeside : {A : Type 0} → End → List A → List A → A → Type 0

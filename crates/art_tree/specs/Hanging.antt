@@ -9,7 +9,7 @@ use Rattle.art_arena.specs.Standing.{StandsIn}
 use Rattle.art_arena.specs.Trees.{Inner, Branches, branch_roots, IsSound}
 use Rattle.art_tree.specs.Edits.{IsBeside}
 use Rattle.art_tree.specs.Plan.{join}
-use Rattle.art_tree.specs.declared.ends.End.{End}
+use Rattle.art_arena.specs.declared.ends.End.{End}
 
 -- the leaf stands beside a gap between these leaves
 abbrev pub StandsBeside : {H : Type 0} → End → List (H × List ℕ) → List (H × List ℕ) → H → Type 0

@@ -16,19 +16,18 @@ ghost use Rattle.art_tree.specs.Hanging.{CanHang, HasPlaceAt, IsHung, StandsBesi
 ghost use Rattle.art_tree.specs.Inserting.{IsEntered, IsRefused, MayEnter, SameEntries};
 ghost use Rattle.art_tree.specs.Places.{LacksChild, Parts};
 ghost use Rattle.art_tree.specs.Search.{leaf_pointer};
-ghost use Rattle.art_tree.specs.declared.ends.End.TheVariants.{First, Last};
+ghost use Rattle.art_arena.specs.declared.ends.End.TheVariants.{First, Last};
 ghost use Rattle.art_tree.specs.declared.insert.InsertRefusal.TheVariants.{OutOfMemory};
 
 pub(crate) mod link;
 pub(crate) mod node;
 pub(crate) mod place;
 
-use crate::ends::{End, end_leaf};
 use crate::insert::link::link_leaf;
 use crate::insert::node::{add_child, fork_node, reserve_growth, trim, write_child};
 use crate::insert::place::{Fork, Place, Spot, find_place};
 use crate::laws::{each_pointer_is_at_one_place, no_text_begins_another, texts_ascend};
-use art_arena::NodeArena;
+use art_arena::{End, NodeArena, end_leaf};
 use art_bytes::AsBytes;
 use art_nodes::{ConcreteNodePtr, InnerNodeCommon, LeafNode, NodePtr, NodeType, OpaqueNodePtr};
 use std::alloc::AllocError;

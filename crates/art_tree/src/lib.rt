@@ -4,7 +4,6 @@
 //! The crate has every public name of the crates below it, so that whoever uses trees names it alone.
 #![tactic(auto)]
 
-mod ends;
 mod find;
 mod insert;
 pub mod laws;
@@ -14,8 +13,8 @@ mod remove;
 mod tree;
 
 pub use art_arena::{
-    AnyRef, ArenaNode, ArenaReader, ExplicitMismatch, FullPrefix, LeafLinks, NodeArena, NodePrefix,
-    NodeRef,
+    AnyRef, ArenaNode, ArenaReader, End, ExplicitMismatch, FullPrefix, LeafLinks, NodeArena,
+    NodePrefix, NodeRef, end_leaf,
 };
 pub use art_bytes::{
     AsBytes, CStringKey, CStringKeyError, NoPrefixesBytes, OrderedBytes, SliceKey, StrKey,

@@ -11,11 +11,10 @@ ghost use Rattle.art_tree.specs.Refusals.{HaveNoFault, IsDue};
 
 mod changes;
 
-use crate::ends::{End, end_leaf};
 use crate::find::find_leaf;
 use crate::laws::{no_text_begins_another, texts_ascend};
 use crate::loading::{LoadFault, load};
-use art_arena::{ArenaReader, NodeArena};
+use art_arena::{ArenaReader, End, NodeArena, end_leaf};
 use art_bytes::AsBytes;
 use art_nodes::OpaqueNodePtr;
 use std::alloc::Global;

@@ -7,8 +7,7 @@ ghost use Rattle.art_arena.specs.Links.{Spells, text_at};
 ghost use Rattle.art_tree.specs.Edits.{HasGap, HoldsEntry, IsBeside, LiesBeside, StaysAt};
 ghost use Rattle.art_tree.specs.Search.{leaf_pointer};
 
-use crate::ends::End;
-use art_arena::{LeafLinks, NodeArena};
+use art_arena::{End, LeafLinks, NodeArena};
 use art_bytes::AsBytes;
 use art_nodes::{LeafNode, NodePtr};
 

@@ -8,7 +8,7 @@ use Rattle.art_arena.specs.Links.{HoldsLeaf, text_at}
 use Rattle.art_arena.specs.Standing.{TreeAt}
 use Rattle.art_arena.specs.Trees.{leaves}
 use Rattle.art_tree.specs.Edits.{HasGap, LiesBeside}
-use Rattle.art_tree.specs.Ends.{IsAtEnd}
+use Rattle.art_arena.specs.Ends.{IsAtEnd}
 use Rattle.art_tree.specs.Hanging.{CanHang}
 use Rattle.art_tree.specs.Search.{leaf_pointer}
 use Rattle.art_tree.proofs.Adding.{entered-from}

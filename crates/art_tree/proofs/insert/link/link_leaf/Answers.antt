@@ -3,7 +3,7 @@ use Rattle.art_header.specs.declared.node_type.NodeType.TheVariants.{Leaf}
 use Rattle.art_nodes.specs.Pointers.{slab_key}
 use Rattle.art_arena.specs.Arena.{held, pointer_to, Nothing, HeldLeaf, Changes}
 use Rattle.art_arena.specs.Links.{text_at}
-use Rattle.art_tree.specs.declared.ends.End.TheVariants.{First, Last}
+use Rattle.art_arena.specs.declared.ends.End.TheVariants.{First, Last}
 use Rattle.art_tree.specs.Edits.{IsBeside, LiesBeside}
 use Rattle.art_tree.proofs.LinkLemmas.{new-held, new-unlinked, new-apart, sibling-knit, still-spelled, new-text, sibling-text, entry-held, others-stay, spelled-before, spelled-after}
 use Rattle.art_tree.proofs.Linking.{less-same}

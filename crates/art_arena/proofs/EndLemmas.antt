@@ -1,36 +1,37 @@
 -- The way to the first or the last leaf of a tree.
-use Rattle.std.proofs.Common.{◌≡◌, ◌≢◌, ◌∙◌, ℕ, suc, ◌+◌, ◌-◌, ◌<◌, ◌≤◌, ◌^◌, List, [], ◌∷◌, ◌++◌, length, length-append, slice_get, Some, refl, sym, ap, subst, arith, append_assoc}
+use Rattle.std.proofs.Common.{◌≡◌, ◌≢◌, ◌∙◌, ℕ, suc, ◌+◌, ◌-◌, ◌<◌, ◌≤◌, ◌^◌, List, [], ◌∷◌, ◌++◌, length, length-append, slice_get, Some, Contains, refl, sym, ap, subst, arith, append_assoc}
+use Rattle.std.proofs.lemmas.List.Elements.{Contains-append_right}
 use Rattle.std.proofs.lemmas.Option.{same_Some}
 use Rattle.art_nodes.specs.ChildMap.{first_pair, last_pair}
 use Rattle.art_nodes.specs.Inner as nodes
 use Rattle.art_nodes.specs.declared.pointers.OpaqueNodePtr.{OpaqueNodePtr}
 use Rattle.art_nodes.specs.declared.leaf_node.LeafNode.{LeafNode}
 use Rattle.art_arena.specs.Arena.{ArenaOf, Nothing, HeldInner, HeldLeaf, held}
-use Rattle.art_arena.specs.Standing.{StandsIn, AllStandIn}
+use Rattle.art_arena.specs.Ends.{put_at, end_pair, IsAtEnd}
+use Rattle.art_arena.specs.Standing.{StandsIn, AllStandIn, StandsUnder, leaf_text}
 use Rattle.art_arena.specs.Trees.{Tree, Leaf, Inner, Branches, NoBranch, Branch, leaves, branch_leaves, branch_roots, root_of, IsSound, AreSound}
-use Rattle.art_tree.specs.Ends.{end_pair, IsAtEnd}
-use Rattle.art_tree.specs.declared.ends.End.{End}
-use Rattle.art_tree.specs.declared.ends.End.TheVariants.{First, Last}
+use Rattle.art_arena.specs.declared.ends.End.{End}
+use Rattle.art_arena.specs.declared.ends.End.TheVariants.{First, Last}
+use Rattle.art_arena.proofs.TreeLemmas.{path-fits}
 
 module _ {H : Type 0} where
-  mutual
-    -- no path in a sound tree is as long as a text may be
-    path-fits : (path : List ℕ) (tree : Tree H) → IsSound path tree → length path < 2 ^ 64
-    path-fits path (Leaf pointer text) sound = omega (arith, ap length sound.0.1, length-append path sound.0.0, sound.1)
-    path-fits path (Inner pointer prefix branches) sound = omega (arith, length-append path prefix, path-fits-branches (path ++ prefix) branches (omega (arith, sound.0)) sound.2)
+  -- this leaf, with its text, is at the end
+  abbrev pub EndsIn : End → List (H × List ℕ) → H × List ℕ → Type 0
+  EndsIn end all leaf = (others : List (H × List ℕ)) × (all ≡ put_at end leaf others)
 
-    path-fits-branches : (path : List ℕ) (branches : Branches H) → 0 < length (branch_roots branches) → AreSound path branches → length path < 2 ^ 64
-    path-fits-branches path NoBranch some sound = absurd (omega (arith, some))
-    path-fits-branches path (Branch byte tree others) some sound = omega (arith, path-fits (path ++ byte ∷ []) tree sound.0, length-append path (byte ∷ []))
+  -- a leaf at an end is one of them
+  pub end-contains : (end : End) (all : List (H × List ℕ)) (leaf : H × List ℕ) → EndsIn end all leaf → Contains all leaf
+  end-contains First all leaf (others, is) = subst (λ ls. Contains ls leaf) (sym is) (0, omega arith, refl)
+  end-contains Last all leaf (others, is) = subst (λ ls. Contains ls leaf) (sym is) (Contains-append_right others (leaf ∷ []) leaf (0, omega arith, refl))
 
-  first-of : (xs ys : List (H × List ℕ)) (p : H) → IsAtEnd First xs p → IsAtEnd First (xs ++ ys) p
-  first-of xs ys p (text, others, is) = (text, others ++ ys, ap (λ all. all ++ ys) is)
+  first-of : (xs ys : List (H × List ℕ)) (leaf : H × List ℕ) → EndsIn First xs leaf → EndsIn First (xs ++ ys) leaf
+  first-of xs ys leaf (others, is) = (others ++ ys, ap (λ all. all ++ ys) is)
 
-  last-of : (xs ys : List (H × List ℕ)) (p : H) → IsAtEnd Last ys p → IsAtEnd Last (xs ++ ys) p
-  last-of xs ys p (text, others, is) = (text, xs ++ others, ap (λ all. xs ++ all) is ∙ sym (append_assoc xs others ((p, text) ∷ [])))
+  last-of : (xs ys : List (H × List ℕ)) (leaf : H × List ℕ) → EndsIn Last ys leaf → EndsIn Last (xs ++ ys) leaf
+  last-of xs ys leaf (others, is) = (xs ++ others, ap (λ all. xs ++ all) is ∙ sym (append_assoc xs others (leaf ∷ [])))
 
-  last-alone : (xs : List (H × List ℕ)) (p : H) → IsAtEnd Last xs p → IsAtEnd Last (xs ++ []) p
-  last-alone xs p (text, others, is) = (text, others, append-none xs ∙ is)
+  last-alone : (xs : List (H × List ℕ)) (leaf : H × List ℕ) → EndsIn Last xs leaf → EndsIn Last (xs ++ []) leaf
+  last-alone xs leaf (others, is) = (others, append-none xs ∙ is)
     where
       append-none : (all : List (H × List ℕ)) → all ++ [] ≡ all
       append-none [] = refl
@@ -43,7 +44,7 @@ module _ {K V : Type 0} {P : ℕ} (text : K → List ℕ) (arena : ArenaOf K V P
     pub at_root : root_of tree ≡ child
     pub stands : StandsIn text arena tree
     pub sound : IsSound (path ++ byte ∷ []) tree
-    pub ends : (p : OpaqueNodePtr K V P) → IsAtEnd end (leaves tree) p → IsAtEnd end (branch_leaves branches) p
+    pub ends : (leaf : OpaqueNodePtr K V P × List ℕ) → EndsIn end (leaves tree) leaf → EndsIn end (branch_leaves branches) leaf
 
 module _ {K V : Type 0} {P : ℕ} (text : K → List ℕ) (arena : ArenaOf K V P) where
   first-branch : (path : List ℕ) (branches : Branches (OpaqueNodePtr K V P)) (byte : ℕ) (child : OpaqueNodePtr K V P) → AllStandIn text arena branches → AreSound path branches → first_pair (branch_roots branches) ≡ Some (byte, child) → EndBranch text arena First path branches byte child
@@ -51,14 +52,14 @@ module _ {K V : Type 0} {P : ℕ} (text : K → List ℕ) (arena : ArenaOf K V P
   first-branch path (Branch b tree others) byte child (stands, stand) sound is =
       let one : (b, root_of tree) ≡ (byte, child) = same_Some (b, root_of tree) (byte, child) is in
       let same : b ≡ byte = ap (λ pair. pair.0) one in
-      record { tree = tree; at_root = ap (λ pair. pair.1) one; stands = stands; sound = subst (λ c. IsSound (path ++ c ∷ []) tree) same sound.0; ends = λ p at. first-of (leaves tree) (branch_leaves others) p at }
+      record { tree = tree; at_root = ap (λ pair. pair.1) one; stands = stands; sound = subst (λ c. IsSound (path ++ c ∷ []) tree) same sound.0; ends = λ leaf at. first-of (leaves tree) (branch_leaves others) leaf at }
 
   last-branch : (path : List ℕ) (branches : Branches (OpaqueNodePtr K V P)) (byte : ℕ) (child : OpaqueNodePtr K V P) → AllStandIn text arena branches → AreSound path branches → last_pair (branch_roots branches) ≡ Some (byte, child) → EndBranch text arena Last path branches byte child
   last-branch path NoBranch byte child stand sound is = absurd (cc)
   last-branch path (Branch b tree NoBranch) byte child (stands, stand) sound is =
       let one : (b, root_of tree) ≡ (byte, child) = same_Some (b, root_of tree) (byte, child) is in
       let same : b ≡ byte = ap (λ pair. pair.0) one in
-      record { tree = tree; at_root = ap (λ pair. pair.1) one; stands = stands; sound = subst (λ c. IsSound (path ++ c ∷ []) tree) same sound.0; ends = λ p at. last-alone (leaves tree) p at }
+      record { tree = tree; at_root = ap (λ pair. pair.1) one; stands = stands; sound = subst (λ c. IsSound (path ++ c ∷ []) tree) same sound.0; ends = λ leaf at. last-alone (leaves tree) leaf at }
   last-branch path (Branch b tree (Branch c other more)) byte child (stands, stand) sound is =
       let roots = branch_roots (Branch c other more) in
       let count : ℕ = length (branch_roots more) in
@@ -67,7 +68,7 @@ module _ {K V : Type 0} {P : ℕ} (text : K → List ℕ) (arena : ArenaOf K V P
       let tail : slice_get ((b, root_of tree) ∷ roots) (suc count) ≡ Some (byte, child) = subst (λ k. slice_get ((b, root_of tree) ∷ roots) k ≡ Some (byte, child)) outer is in
       let later : slice_get roots count ≡ Some (byte, child) = tail in
       let rest = last-branch path (Branch c other more) byte child stand sound.1 (subst (λ k. slice_get roots k ≡ Some (byte, child)) inner later) in
-      record { tree = rest.tree; at_root = rest.at_root; stands = rest.stands; sound = rest.sound; ends = λ p at. last-of (leaves tree) (branch_leaves (Branch c other more)) p (rest.ends p at) }
+      record { tree = rest.tree; at_root = rest.at_root; stands = rest.stands; sound = rest.sound; ends = λ leaf at. last-of (leaves tree) (branch_leaves (Branch c other more)) leaf (rest.ends leaf at) }
 
   end-branch : (end : End) (path : List ℕ) (branches : Branches (OpaqueNodePtr K V P)) (byte : ℕ) (child : OpaqueNodePtr K V P) → AllStandIn text arena branches → AreSound path branches → end_pair end (branch_roots branches) ≡ Some (byte, child) → EndBranch text arena end path branches byte child
   end-branch First path branches byte child stand sound is = first-branch path branches byte child stand sound is
@@ -82,7 +83,7 @@ module _ {K V : Type 0} {P : ℕ} (text : K → List ℕ) (arena : ArenaOf K V P
     pub stands : StandsIn text arena part
     pub sound : IsSound path part
     pub deep : passed ≤ length path
-    pub ends : (p : OpaqueNodePtr K V P) → IsAtEnd end (leaves part) p → IsAtEnd end (leaves whole) p
+    pub ends : (leaf : OpaqueNodePtr K V P × List ℕ) → EndsIn end (leaves part) leaf → EndsIn end (leaves whole) leaf
 
   pub to-end-fits : (at : OpaqueNodePtr K V P) (passed : ℕ) → IsToEnd at passed → passed < 2 ^ 64
   to-end-fits at passed on = omega (arith, on.deep, path-fits on.path on.part on.sound)
@@ -107,7 +108,7 @@ module _ {K V : Type 0} {P : ℕ} (text : K → List ℕ) (arena : ArenaOf K V P
   pub to-end-step : (at : OpaqueNodePtr K V P) (passed : ℕ) (node : nodes.Inner (OpaqueNodePtr K V P)) (byte : ℕ) (child : OpaqueNodePtr K V P) → IsToEnd at passed → held arena at ≡ HeldInner node → end_pair end node.children ≡ Some (byte, child) → IsToEnd child (passed + 1)
   to-end-step at passed node byte child on is pair = by_part on.part on.at_root on.stands on.path on.sound on.deep on.ends
     where
-      by_part : (part : Tree (OpaqueNodePtr K V P)) → root_of part ≡ at → StandsIn text arena part → (path : List ℕ) → IsSound path part → passed ≤ length path → ((p : OpaqueNodePtr K V P) → IsAtEnd end (leaves part) p → IsAtEnd end (leaves whole) p) → IsToEnd child (passed + 1)
+      by_part : (part : Tree (OpaqueNodePtr K V P)) → root_of part ≡ at → StandsIn text arena part → (path : List ℕ) → IsSound path part → passed ≤ length path → ((leaf : OpaqueNodePtr K V P × List ℕ) → EndsIn end (leaves part) leaf → EndsIn end (leaves whole) leaf) → IsToEnd child (passed + 1)
       by_part (Leaf pointer x) root (leaf, holds, has) path sound deep ends = let one : HeldLeaf leaf ≡ HeldInner node = sym holds ∙ ap (held arena) root ∙ is in absurd (cc)
       by_part (Inner pointer prefix branches) root (own, holds, shows, stand) path sound deep ends =
           let one : HeldInner own ≡ HeldInner node = sym holds ∙ ap (held arena) root ∙ is in
@@ -121,17 +122,27 @@ module _ {K V : Type 0} {P : ℕ} (text : K → List ℕ) (arena : ArenaOf K V P
             stands = branch.stands;
             sound = branch.sound;
             deep = omega (arith, deep, length-append (path ++ prefix) (byte ∷ []), length-append path prefix);
-            ends = λ p at_end. ends p (branch.ends p at_end);
+            ends = λ leaf at_end. ends leaf (branch.ends leaf at_end);
           }
 
   -- the leaf that the way ends at is at the end
   pub to-end-leaf : (at : OpaqueNodePtr K V P) (passed : ℕ) (leaf : LeafNode K V P) → IsToEnd at passed → held arena at ≡ HeldLeaf leaf → IsAtEnd end (leaves whole) at
   to-end-leaf at passed leaf on is = by_part on.part on.at_root on.stands on.ends
     where
-      itself : (end : End) (pointer : OpaqueNodePtr K V P) (x : List ℕ) → pointer ≡ at → IsAtEnd end ((pointer, x) ∷ []) at
-      itself First pointer x same = (x, [], ap (λ p. (p, x) ∷ []) same)
-      itself Last pointer x same = (x, [], ap (λ p. (p, x) ∷ []) same)
+      itself : (end : End) (pointer : OpaqueNodePtr K V P) (x : List ℕ) → pointer ≡ at → EndsIn end ((pointer, x) ∷ []) (at, x)
+      itself First pointer x same = ([], ap (λ p. (p, x) ∷ []) same)
+      itself Last pointer x same = ([], ap (λ p. (p, x) ∷ []) same)
 
-      by_part : (part : Tree (OpaqueNodePtr K V P)) → root_of part ≡ at → StandsIn text arena part → ((p : OpaqueNodePtr K V P) → IsAtEnd end (leaves part) p → IsAtEnd end (leaves whole) p) → IsAtEnd end (leaves whole) at
-      by_part (Leaf pointer x) root stands ends = ends at (itself end pointer x root)
+      by_part : (part : Tree (OpaqueNodePtr K V P)) → root_of part ≡ at → StandsIn text arena part → ((leaf : OpaqueNodePtr K V P × List ℕ) → EndsIn end (leaves part) leaf → EndsIn end (leaves whole) leaf) → IsAtEnd end (leaves whole) at
+      by_part (Leaf pointer x) root stands ends = let there = ends (at, x) (itself end pointer x root) in (x, there.0, there.1)
       by_part (Inner pointer prefix branches) root (own, holds, shows, stand) ends = let one : HeldInner own ≡ HeldLeaf leaf = sym holds ∙ ap (held arena) root ∙ is in absurd (cc)
+
+  -- from a node in hand to its child at the end
+  pub to-end-under : (node : nodes.Inner (OpaqueNodePtr K V P)) (path : List ℕ) (byte : ℕ) (child : OpaqueNodePtr K V P) → StandsUnder P (leaf_text text) (held arena) node whole → IsSound path whole → end_pair end node.children ≡ Some (byte, child) → IsToEnd child 0
+  to-end-under node path byte child stands sound pair = by_tree whole stands sound (λ leaf at_end. at_end)
+    where
+      by_tree : (tree : Tree (OpaqueNodePtr K V P)) → StandsUnder P (leaf_text text) (held arena) node tree → IsSound path tree → ((leaf : OpaqueNodePtr K V P × List ℕ) → EndsIn end (leaves tree) leaf → EndsIn end (leaves whole) leaf) → IsToEnd child 0
+      by_tree (Leaf pointer x) stands sound ends = absurd stands
+      by_tree (Inner pointer prefix branches) (shows, stand) sound ends =
+          let branch = end-branch text arena end (path ++ prefix) branches byte child stand sound.2 (subst (λ children. end_pair end children ≡ Some (byte, child)) shows.children pair) in
+          record { part = branch.tree; path = (path ++ prefix) ++ byte ∷ []; at_root = branch.at_root; stands = branch.stands; sound = branch.sound; deep = omega arith; ends = λ leaf at_end. ends leaf (branch.ends leaf at_end) }

@@ -1,19 +1,20 @@
 //! The first and the last leaf of a tree.
 ghost use Rattle.std.specs.Prelude.{◌≡◌, ◌≢◌, ◌<◌, ℕ, length, Some, IfOk, IfErr};
+ghost use Rattle.art_header.specs.declared.node_type.NodeType.TheVariants.{Leaf};
 ghost use Rattle.art_nodes.specs.Inner.{Inner};
+ghost use Rattle.art_nodes.specs.Pointers.{slab_key, opaque_pointer};
 ghost use Rattle.art_arena.specs.Arena.{held, HeldInner, Nothing};
+ghost use Rattle.art_arena.specs.Ends.{end_pair, IsAtEnd};
 ghost use Rattle.art_arena.specs.Standing.{TreeAt};
 ghost use Rattle.art_arena.specs.Trees.{leaves};
-ghost use Rattle.art_tree.specs.Ends.{end_pair, IsAtEnd};
-ghost use Rattle.art_tree.specs.Search.{leaf_pointer};
 
-use art_arena::NodeArena;
+use crate::arena::NodeArena;
 use art_bytes::AsBytes;
 use art_nodes::{ConcreteNodePtr, InnerNodeCommon, LeafNode, NodePtr, OpaqueNodePtr};
 
 /// One end of the leaves of a tree.
 #[derive(Clone, Copy)]
-pub(crate) enum End {
+pub enum End {
     /// Where the least text is.
     First,
     /// Where the greatest text is.
@@ -47,7 +48,7 @@ fn step_to_end<K, V, const PREFIX_LEN: usize>(
     ensures child { IfOk result (λ child. (node : Inner _) × (byte : ℕ) ×
         (held arena.now pointer ≡ HeldInner node) ×
         (end_pair end node.children ≡ Some (byte, child))) }
-    ensures leaf { IfErr result (λ leaf. pointer ≡ leaf_pointer leaf) }
+    ensures leaf { IfErr result (λ leaf. pointer ≡ opaque_pointer Leaf (slab_key leaf)) }
 {
     match pointer.to_node_ptr() {
         ConcreteNodePtr::Node4(node) => Ok(end_child(arena.as_ref(node), end)),
@@ -58,17 +59,21 @@ fn step_to_end<K, V, const PREFIX_LEN: usize>(
     }
 }
 
-/// The first or the last leaf of the tree that stands at this pointer. Each step makes the path
-/// longer, and a leaf's text, which is longer still, is shorter than 2^64.
-pub(crate) fn end_leaf<K: AsBytes, V, const PREFIX_LEN: usize>(
+/// The first leaf, or the last, of the tree that stands at this pointer: the one whose key's text is
+/// the least of the tree, or the greatest.
+///
+/// The tree has to stand in the arena, sound under some path. Takes no memory, and the way down
+/// reads at most one inner node for each byte of that leaf's text.
+pub fn end_leaf<K: AsBytes, V, const PREFIX_LEN: usize>(
     arena: &NodeArena<K, V, PREFIX_LEN>,
     pointer: OpaqueNodePtr<K, V, PREFIX_LEN>,
     end: End,
 ) -> NodePtr<PREFIX_LEN, LeafNode<K, V, PREFIX_LEN>>
     requires tree { TreeAt K.text arena.now pointer }
     ensures { (found : TreeAt K.text arena.now pointer) →
-        IsAtEnd end (leaves found.tree) (leaf_pointer result) }
+        IsAtEnd end (leaves found.tree) (opaque_pointer Leaf (slab_key result)) }
 {
+    // Each step makes the path longer, and a leaf's text, which is longer still, is shorter than 2^64.
     let mut at = pointer;
     let mut passed: usize = 0;
     'way: loop {

@@ -1,7 +1,7 @@
 use Rattle.std.proofs.Common.{◌∙◌, ap, sym, Some}
-use Rattle.art_tree.specs.Ends.{end_pair}
-use Rattle.art_tree.proofs.ends.end_child.Goals.{in-First, in-Last}
-use Rattle.art_tree.proofs.ends.end_child.Goals as goal
+use Rattle.art_arena.specs.Ends.{end_pair}
+use Rattle.art_arena.proofs.ends.end_child.Goals.{in-First, in-Last}
+use Rattle.art_arena.proofs.ends.end_child.Goals as goal
 
 pub returns : goal.returns
 returns g c =

@@ -1,7 +1,7 @@
 use Rattle.std.proofs.Common.{◌-◌, ◌^◌}
 use Rattle.art_arena.specs.Standing.{TreeAt}
-use Rattle.art_tree.proofs.EndLemmas.{IsToEnd}
-use Rattle.art_tree.proofs.ends.end_leaf.Given as goal
+use Rattle.art_arena.proofs.EndLemmas.{IsToEnd}
+use Rattle.art_arena.proofs.ends.end_leaf.Given as goal
 
 -- on the way to the end of each tree that stands at the pointer, as deep as there were steps or deeper
 abbrev pub invariant-way : goal.invariant-way

@@ -1,16 +1,16 @@
 use Rattle.std.proofs.Common.{◌≡◌, ◌≢◌, ◌∙◌, ◌+◌, ◌<◌, length, subst, ap, rules, arith}
+use Rattle.slab.specs.Slab.{get}
 use Rattle.art_nodes.specs.Inner.{Inner}
 use Rattle.art_nodes.specs.Pointers.{slab_key}
-use Rattle.art_arena.specs.Arena.{held, held_leaf, HeldInner, Nothing}
-use Rattle.art_arena.specs.Links.{leaf_at}
+use Rattle.art_arena.specs.Arena.{held, HeldInner, Nothing}
+use Rattle.art_arena.specs.Ends.{IsAtEnd}
 use Rattle.art_arena.specs.Trees.{leaves}
-use Rattle.art_tree.specs.Ends.{IsAtEnd}
-use Rattle.art_tree.proofs.EndLemmas.{to-end-step, to-end-fits, to-end-held, to-end-has_child, to-end-leaf}
-use Rattle.art_tree.proofs.Rising.{leaf-held}
-use Rattle.art_tree.proofs.ends.end_leaf.Goals as goal
+use Rattle.art_arena.proofs.EndLemmas.{to-end-step, to-end-fits, to-end-held, to-end-has_child, to-end-leaf}
+use Rattle.art_arena.proofs.WayLemmas.{held_leaf-some}
+use Rattle.art_arena.proofs.ends.end_leaf.Goals as goal
 
 pub way-init : goal.way-init
-way-init g c = λ found. record { part = found.tree; path = found.path; at_root = found.at_root; stands = found.stands; sound = found.sound; deep = omega arith; ends = λ p at_end. at_end }
+way-init g c = λ found. record { part = found.tree; path = found.path; at_root = found.at_root; stands = found.stands; sound = found.sound; deep = omega arith; ends = λ leaf at_end. at_end }
 
 pub step_to_end-requires : goal.step_to_end-requires
 step_to_end-requires g c =
@@ -41,5 +41,5 @@ returns-in-Err g c = λ found.
     let text = g.K.AsBytes.text in
     let on = c.way.invariant found in
     let at = c.in-Err.ensures.leaf in
-    let value = leaf-held (leaf_at arena (slab_key c.in-Err.leaf)) (λ free. to-end-held text arena c.args.end found.tree c.way.at c.way.passed on (ap (held arena) at ∙ free)) in
-    subst (IsAtEnd c.args.end (leaves found.tree)) at (to-end-leaf text arena c.args.end found.tree c.way.at c.way.passed value.0 on (ap (held arena) at ∙ ap held_leaf value.1))
+    let value = held_leaf-some (get arena.leaf (slab_key c.in-Err.leaf)) (λ free. to-end-held text arena c.args.end found.tree c.way.at c.way.passed on (ap (held arena) at ∙ free)) in
+    subst (IsAtEnd c.args.end (leaves found.tree)) at (to-end-leaf text arena c.args.end found.tree c.way.at c.way.passed value.0 on (ap (held arena) at ∙ value.1))
