@@ -1,19 +1,10 @@
 -- Children written in their order.
-use Rattle.std.proofs.Common.{◌≡◌, ◌∙◌, ℕ, zero, suc, ◌+◌, ◌<◌, ◌≤◌, true, false, nat_lt, nat_eq, List, [], ◌∷◌, length, take, get_or, Option, Some, None, IsNone, refl, ap, arith}
-use Rattle.std.proofs.lemmas.Bool.Decides.{nat_tests}
+use Rattle.std.proofs.Common.{◌≡◌, ◌∙◌, ℕ, zero, suc, ◌+◌, ◌<◌, ◌≤◌, List, [], ◌∷◌, length, take, get_or, Option, Some, None, IsNone, refl, ap, arith}
+use Rattle.std.proofs.lemmas.Bool.{le-ltb, lt-ltb, ne_eqb}
 use Rattle.std.proofs.lemmas.List.{length-take-le}
 use Rattle.art_nodes.specs.ChildMap.{ChildMap, IsAscendingFrom, IsAscending, key_bytes, child_at, with_child}
 use Rattle.art_nodes.specs.Inner.{Inner, HasRoomFor, with_children}
 use Rattle.art_tree.specs.Raising.{node_of}
-
-pub lt-true : (a b : ℕ) → a < b → nat_lt a b ≡ true
-lt-true a b h = grind (arith, nat_tests)
-
-pub lt-false : (a b : ℕ) → b ≤ a → nat_lt a b ≡ false
-lt-false a b h = grind (arith, nat_tests)
-
-eq-false : (a b : ℕ) → a < b → nat_eq a b ≡ false
-eq-false a b h = grind (arith, nat_tests)
 
 module _ {H : Type 0} where
   at-least : (low : ℕ) (xs : ChildMap H) (i : ℕ) (d : ℕ × H) → IsAscendingFrom low (key_bytes xs) → i < length xs → low ≤ (get_or xs i d).0
@@ -27,7 +18,7 @@ module _ {H : Type 0} where
   written low (x ∷ xs) zero d asc lt = refl
   written low (x ∷ xs) (suc i) d asc lt =
       let above : x.0 < (get_or xs i d).0 = at-least (suc x.0) xs i d asc.2 (omega arith) in
-      rw (lt-true x.0 (get_or xs i d).0 above, lt-false (get_or xs i d).0 x.0 (omega arith)) (ap (λ rest. x ∷ rest) (written (suc x.0) xs i d asc.2 (omega arith)))
+      rw (lt-ltb x.0 (get_or xs i d).0 above, le-ltb (get_or xs i d).0 x.0 (omega arith)) (ap (λ rest. x ∷ rest) (written (suc x.0) xs i d asc.2 (omega arith)))
 
   -- and was not there
   absent : (low : ℕ) (xs : ChildMap H) (i : ℕ) (d : ℕ × H) → IsAscendingFrom low (key_bytes xs) → i < length xs → child_at (take i xs) (get_or xs i d).0 ≡ None
@@ -35,7 +26,7 @@ module _ {H : Type 0} where
   absent low (x ∷ xs) zero d asc lt = refl
   absent low (x ∷ xs) (suc i) d asc lt =
       let above : x.0 < (get_or xs i d).0 = at-least (suc x.0) xs i d asc.2 (omega arith) in
-      rw (eq-false x.0 (get_or xs i d).0 above) (absent (suc x.0) xs i d asc.2 (omega arith))
+      rw (ne_eqb x.0 (get_or xs i d).0 (λ same. omega (arith, above, same))) (absent (suc x.0) xs i d asc.2 (omega arith))
 
   none-is : (o : Option H) → o ≡ None → IsNone o
   none-is None e = refl

@@ -1,7 +1,6 @@
 -- Inner nodes that take a child less, or the prefix of the node above.
-use Rattle.std.proofs.Common.{◌≡◌, ◌≢◌, ◌∙◌, ℕ, ◌+◌, ◌-◌, ◌<◌, ◌≤◌, min, List, [], ◌∷◌, ◌++◌, length, length-append, take, Option, Some, None, Result, Ok, Err, OnErr, refl, sym, ap, subst, inl, inr, arith, append_assoc, nat_eq, ◌==◌, ◌↔◌, IsTrue, true, false}
-use Rattle.std.proofs.lemmas.Bool.{cases_eq, cases_lt}
-use Rattle.std.proofs.lemmas.Bool.Decides.{nat_tests}
+use Rattle.std.proofs.Common.{◌≡◌, ◌≢◌, ◌∙◌, ℕ, ◌+◌, ◌-◌, ◌<◌, ◌≤◌, min, List, [], ◌∷◌, ◌++◌, length, length-append, take, Option, Some, None, Result, Ok, Err, OnErr, refl, sym, ap, subst, inl, inr, arith, append_assoc, ◌==◌, ◌↔◌, IsTrue}
+use Rattle.std.proofs.lemmas.Bool.{cases_eq, cases_lt, eq-eqb, eqb-true, ne_eqb}
 use Rattle.std.proofs.Math.Seq.{take-append-add}
 use Rattle.std.proofs.lemmas.List.{take_all, take-take, take-append-le, length-take-le}
 use Rattle.art_header.specs.Header.{Header, capped, with_more, StandsFor}
@@ -30,33 +29,24 @@ less-where-differ least count most differ = elim (cases_lt least count) [
   | inr upto ↦ absurd (differ (omega (arith, most, upto)))
 ]
 
-eq-from : (a b : ℕ) → nat_eq a b ≡ true → a ≡ b
-eq-from a b same = grind (arith, nat_tests)
-
-eq-true : (a b : ℕ) → a ≡ b → nat_eq a b ≡ true
-eq-true a b same = grind (arith, nat_tests)
-
-eq-false : (a b : ℕ) → a ≢ b → nat_eq a b ≡ false
-eq-false a b differ = grind (arith, nat_tests)
-
 -- a test whether a count is the least one
 pub counted : (count start : ℕ) {all least : ℕ} → count ≡ all → start ≡ least → IsTrue (count == start) ↔ (all ≡ least)
-counted count start is from = (λ same. omega (arith, eq-from count start same, is, from), λ e. eq-true count start (omega (arith, is, from)))
+counted count start is from = (λ same. omega (arith, eqb-true count start same, is, from), λ e. eq-eqb count start (omega (arith, is, from)))
 
 -- there are fewer children where one is taken away
 module _ {H : Type 0} where
   no-more : (children : ChildMap H) (byte : ℕ) → length (without_child children byte) ≤ length children
   no-more [] byte = omega arith
   no-more (x ∷ children) byte = elim (cases_eq x.0 byte) [
-    | inl same ↦ rw (eq-true x.0 byte same) (omega (arith, no-more children byte))
-    | inr differ ↦ rw (eq-false x.0 byte differ) (omega (arith, no-more children byte))
+    | inl same ↦ rw (eq-eqb x.0 byte same) (omega (arith, no-more children byte))
+    | inr differ ↦ rw (ne_eqb x.0 byte differ) (omega (arith, no-more children byte))
   ]
 
   pub fewer : (children : ChildMap H) (byte : ℕ) → child_at children byte ≢ None → length (without_child children byte) < length children
   fewer [] byte there = absurd (there refl)
   fewer (x ∷ children) byte there = elim (cases_eq x.0 byte) [
-    | inl same ↦ rw (eq-true x.0 byte same) (omega (arith, no-more children byte))
-    | inr differ ↦ rw (eq-false x.0 byte differ) (omega (arith, fewer children byte (rw (eq-false x.0 byte differ) at there)))
+    | inl same ↦ rw (eq-eqb x.0 byte same) (omega (arith, no-more children byte))
+    | inr differ ↦ rw (ne_eqb x.0 byte differ) (omega (arith, fewer children byte (rw (ne_eqb x.0 byte differ) at there)))
   ]
 
 -- a prefix that is pushed behind another: what is stored begins the whole

@@ -1,8 +1,8 @@
 -- A step is right for every prefix that the node may have.
-use Rattle.std.proofs.Common.{◌≡◌, ◌∙◌, inl, inr, ℕ, zero, suc, ◌+◌, ◌-◌, ◌<◌, ◌≤◌, Bool, true, false, ◌&&◌, ◌||◌, nat_eq, nat_lt, nat_le, List, [], ◌∷◌, ◌++◌, length, length-append, length-take, length-drop, take, drop, Some, None, Result, Ok, Err, slice_get, get_or, refl, sym, ap, subst, arith, append_assoc}
+use Rattle.std.proofs.Common.{◌≡◌, ◌∙◌, inl, inr, ℕ, zero, suc, ◌+◌, ◌-◌, ◌<◌, ◌≤◌, Bool, true, false, ◌||◌, nat_eq, nat_lt, List, [], ◌∷◌, ◌++◌, length, length-append, length-take, length-drop, take, drop, Some, None, Result, Ok, Err, slice_get, get_or, refl, sym, ap, subst, arith, append_assoc}
 use Rattle.std.specs.List.{starts_with, common_prefix_len}
-use Rattle.std.proofs.lemmas.Bool.{cases_lt}
-use Rattle.std.proofs.lemmas.Bool.Decides.{nat_tests, eqb_tells}
+use Rattle.std.proofs.lemmas.Bool.{cases_lt, and_from, and_parts, or_left, or_right, le-leb, le-ltb, lt-ltb}
+use Rattle.std.proofs.lemmas.Bool.Decides.{eqb_tells}
 use Rattle.std.proofs.lemmas.List.{append-nil, nil_from_length, take_rest}
 use Rattle.std.proofs.lemmas.Option.{slice_get_within, slice_get-get_or}
 use Rattle.std.proofs.Math.Seq.{drop-append_seam}
@@ -14,18 +14,6 @@ use Rattle.art_nodes.specs.declared.inner_nodes.prefix_match.AttemptOptimisticPr
 use Rattle.art_nodes.specs.declared.inner_nodes.prefix_match.PessimisticMismatch.{PessimisticMismatch}
 use Rattle.art_tree.specs.Descent.{LeadsOn, LeadsNowhere}
 use Rattle.art_tree.specs.Search.{goes_to}
-
-lt-true : (a b : ℕ) → a < b → nat_lt a b ≡ true
-lt-true a b h = grind (arith, nat_tests)
-
-lt-false : (a b : ℕ) → b ≤ a → nat_lt a b ≡ false
-lt-false a b h = grind (arith, nat_tests)
-
-le-true : (a b : ℕ) → a ≤ b → nat_le a b ≡ true
-le-true a b h = grind (arith, nat_tests)
-
-le-false : (a b : ℕ) → b < a → nat_le a b ≡ false
-le-false a b h = grind (arith, nat_tests)
 
 abbrev Is : Result AttemptOptimisticPrefixMatch PessimisticMismatch → Result AttemptOptimisticPrefixMatch PessimisticMismatch → Type 0
 Is a b = a ≡ b
@@ -57,21 +45,6 @@ begins-front (x ∷ prefix) more = elim (eqb_tells x x) [
   | inr differ ↦ absurd (differ.1 refl)
 ]
 
-both-true : (a b : Bool) → (a && b) ≡ true → (a ≡ true) × (b ≡ true)
-both-true true true h = (refl, refl)
-both-true true false h = absurd (cc)
-both-true false b h = absurd (cc)
-
-and-true : (a b : Bool) → a ≡ true → b ≡ true → (a && b) ≡ true
-and-true a b p q = rw (p, q) refl
-
-or-right : (a b : Bool) → b ≡ true → (a || b) ≡ true
-or-right true b h = refl
-or-right false b h = h
-
-or-left : (a b : Bool) → a ≡ true → (a || b) ≡ true
-or-left a b h = rw h refl
-
 -- the byte that a text begins with
 byte-begins : (rest : List ℕ) (n byte : ℕ) → starts_with nat_eq (drop n rest) (byte ∷ []) ≡ true → slice_get rest n ≡ Some byte
 byte-begins [] zero byte begins = absurd (cc)
@@ -93,12 +66,12 @@ begins-byte (x ∷ rest) (suc n) byte at = begins-byte rest n byte at
 
 -- where a key goes, its byte past the prefix stands
 pub goes-byte : (room : ℕ) (prefix : List ℕ) (byte : ℕ) (rest : List ℕ) → goes_to room prefix byte rest ≡ true → slice_get rest (length prefix) ≡ Some byte
-goes-byte room prefix byte rest goes = byte-begins rest (length prefix) byte (both-true _ _ goes).0
+goes-byte room prefix byte rest goes = byte-begins rest (length prefix) byte (and_parts _ _ goes).0
 
 -- a rest that begins with the prefix and a byte goes to the byte
 pub front-goes : (room : ℕ) (prefix : List ℕ) (byte : ℕ) (rest : List ℕ) → IsFront (prefix ++ byte ∷ []) rest → goes_to room prefix byte rest ≡ true
 front-goes room prefix byte rest (more, is) = subst (λ r. goes_to room prefix byte r ≡ true) (sym (is ∙ append_assoc prefix (byte ∷ []) more))
-    (and-true _ _ (subst (λ r. starts_with nat_eq r (byte ∷ []) ≡ true) (sym (drop-append_seam prefix (byte ∷ more))) (begins-front (byte ∷ []) more)) (or-right _ _ (begins-front prefix (byte ∷ more))))
+    (and_from _ _ (subst (λ r. starts_with nat_eq r (byte ∷ []) ≡ true) (sym (drop-append_seam prefix (byte ∷ more))) (begins-front (byte ∷ []) more)) (or_right _ _ (begins-front prefix (byte ∷ more))))
 
 begins-less : (stored more rest : List ℕ) → starts_with nat_eq rest (stored ++ more) ≡ true → starts_with nat_eq rest stored ≡ true
 begins-less [] more rest begins = refl
@@ -115,16 +88,16 @@ or-second false b untrue h = h
 module _ {H : Type 0} (room : ℕ) (node : Inner H) (rest prefix : List ℕ) (byte : ℕ) (is_prefix : IsPrefixOf node prefix) where
   -- a prefix that is matched whole
   pub matched-goes : (matched : AttemptOptimisticPrefixMatch) → Ok matched ≡ cheap_match room node.prefix_len node.stored rest → matched.matched_bytes ≡ node.prefix_len → slice_get rest node.prefix_len ≡ Some byte → goes_to room prefix byte rest ≡ true
-  matched-goes matched is whole at = and-true _ _ (begins-byte rest (length prefix) byte (subst (λ n. slice_get rest n ≡ Some byte) (sym is_prefix.0) at)) (elim (cases_lt room node.prefix_len) [
-    | inl implicit ↦ or-left _ _ (subst (λ n. nat_lt room n ≡ true) (sym is_prefix.0) (lt-true room node.prefix_len implicit))
-    | inr stored ↦ or-right (nat_lt room (length prefix)) _ (elim (eqb_tells (common_prefix_len nat_eq node.stored rest) (length node.stored)) [
+  matched-goes matched is whole at = and_from _ _ (begins-byte rest (length prefix) byte (subst (λ n. slice_get rest n ≡ Some byte) (sym is_prefix.0) at)) (elim (cases_lt room node.prefix_len) [
+    | inl implicit ↦ or_left _ _ (subst (λ n. nat_lt room n ≡ true) (sym is_prefix.0) (lt-ltb room node.prefix_len implicit))
+    | inr stored ↦ or_right (nat_lt room (length prefix)) _ (elim (eqb_tells (common_prefix_len nat_eq node.stored rest) (length node.stored)) [
       | inl all ↦
-          let same : Is (Ok matched) (Ok (record { matched_bytes = common_prefix_len nat_eq node.stored rest; any_implicit_bytes = false })) = rw (lt-false room node.prefix_len stored, all.0) at is in
+          let same : Is (Ok matched) (Ok (record { matched_bytes = common_prefix_len nat_eq node.stored rest; any_implicit_bytes = false })) = rw (le-ltb room node.prefix_len stored, all.0) at is in
           let bytes : matched ≡ record { matched_bytes = common_prefix_len nat_eq node.stored rest; any_implicit_bytes = false } = cc in
           let count : matched.matched_bytes ≡ common_prefix_len nat_eq node.stored rest = ap (λ m. m.matched_bytes) bytes in
           let as_long : length node.stored ≡ length prefix = sym all.1 ∙ sym count ∙ whole ∙ sym is_prefix.0 in
           subst (λ p. starts_with nat_eq rest p ≡ true) (sym (whole-front node.stored prefix is_prefix.1 as_long)) (begins-matched node.stored rest all.1)
-      | inr part ↦ let wrong : Is (Ok matched) (Err (record { matched_bytes = common_prefix_len nat_eq node.stored rest; prefix_byte = slice_get node.stored (common_prefix_len nat_eq node.stored rest) })) = rw (lt-false room node.prefix_len stored, part.0) at is in absurd (cc)
+      | inr part ↦ let wrong : Is (Ok matched) (Err (record { matched_bytes = common_prefix_len nat_eq node.stored rest; prefix_byte = slice_get node.stored (common_prefix_len nat_eq node.stored rest) })) = rw (le-ltb room node.prefix_len stored, part.0) at is in absurd (cc)
     ])
   ])
     where
@@ -136,12 +109,12 @@ module _ {H : Type 0} (room : ℕ) (node : Inner H) (rest prefix : List ℕ) (by
   mismatched-nowhere mismatch is goes = elim (cases_lt room node.prefix_len) [
     | inl implicit ↦ elim (cases_lt (length rest) node.prefix_len) [
       | inl short ↦ let within = slice_get_within rest (length prefix) byte (goes-byte room prefix byte rest goes) in omega (arith, within, short, is_prefix.0)
-      | inr long ↦ let wrong : Is (Err mismatch) (Ok (record { matched_bytes = node.prefix_len; any_implicit_bytes = true })) = rw (lt-true room node.prefix_len implicit, le-true node.prefix_len (length rest) long) at is in absurd (cc)
+      | inr long ↦ let wrong : Is (Err mismatch) (Ok (record { matched_bytes = node.prefix_len; any_implicit_bytes = true })) = rw (lt-ltb room node.prefix_len implicit, le-leb node.prefix_len (length rest) long) at is in absurd (cc)
     ]
     | inr stored ↦ elim (eqb_tells (common_prefix_len nat_eq node.stored rest) (length node.stored)) [
-      | inl all ↦ let wrong : Is (Err mismatch) (Ok (record { matched_bytes = common_prefix_len nat_eq node.stored rest; any_implicit_bytes = false })) = rw (lt-false room node.prefix_len stored, all.0) at is in absurd (cc)
+      | inl all ↦ let wrong : Is (Err mismatch) (Ok (record { matched_bytes = common_prefix_len nat_eq node.stored rest; any_implicit_bytes = false })) = rw (le-ltb room node.prefix_len stored, all.0) at is in absurd (cc)
       | inr part ↦
-          let begins = or-second _ _ (subst (λ n. nat_lt room n ≡ false) (sym is_prefix.0) (lt-false room node.prefix_len stored)) (both-true _ _ goes).1 in
+          let begins = or-second _ _ (subst (λ n. nat_lt room n ≡ false) (sym is_prefix.0) (le-ltb room node.prefix_len stored)) (and_parts _ _ goes).1 in
           let front = begins-less node.stored is_prefix.1.0 rest (subst (λ p. starts_with nat_eq rest p ≡ true) is_prefix.1.1 begins) in
           part.1 (matched-begins node.stored rest front)
     ]

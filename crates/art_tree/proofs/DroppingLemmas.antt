@@ -1,7 +1,6 @@
 -- A part of a tree without one of its leaves.
-use Rattle.std.proofs.Common.{◌≡◌, ◌≢◌, ◌∙◌, ℕ, suc, ◌+◌, ◌<◌, ◌≤◌, ◌^◌, ◌==◌, false, List, [], ◌∷◌, ◌++◌, length, length-append, map, Contains, Option, Some, None, refl, sym, ap, subst, inl, inr, arith, append_assoc, append-nil}
-use Rattle.std.proofs.lemmas.Bool.{cases_lt}
-use Rattle.std.proofs.lemmas.Bool.Decides.{nat_tests}
+use Rattle.std.proofs.Common.{◌≡◌, ◌≢◌, ◌∙◌, ℕ, suc, ◌+◌, ◌<◌, ◌≤◌, ◌^◌, List, [], ◌∷◌, ◌++◌, length, length-append, map, Contains, Option, Some, None, refl, sym, ap, subst, inl, inr, arith, append_assoc, append-nil}
+use Rattle.std.proofs.lemmas.Bool.{cases_lt, eq-eqb, ne_eqb}
 use Rattle.std.proofs.lemmas.List.Elements.{Contains-append_right, Contains-append_cases}
 use Rattle.art_header.specs.NodeType.{kind_for, least_children, shrunk_kind}
 use Rattle.art_header.specs.declared.node_type.NodeType.{NodeType}
@@ -21,10 +20,6 @@ use Rattle.art_tree.proofs.Exchanging.{before-byte, sound-split, the-one}
 use Rattle.art_tree.proofs.PlaceLemmas.{branch-text}
 use Rattle.art_tree.proofs.Rising.{kind-4, kind-16, kind-48, kind-256, snug-join, snug-split}
 use Rattle.art_tree.proofs.ScanLemmas.{front-shorter}
-use Rattle.art_tree.proofs.TakingLemmas.{eq-true}
-
-differ-false : (a b : ℕ) → a ≢ b → (a == b) ≡ false
-differ-false a b differ = grind (arith, nat_tests)
 
 -- one branch by its count
 record IsOneBranch {H : Type 0} (branches : Branches H) : Type 0 where
@@ -48,21 +43,21 @@ module _ {H : Type 0} where
   kept-after : (low byte : ℕ) (back : ChildMap H) → byte < low → IsAscendingFrom low (key_bytes back) → without_child back byte ≡ back
   kept-after low byte [] below ascend = refl
   kept-after low byte (x ∷ back) below ascend =
-      rw (differ-false x.0 byte (λ same. omega (arith, same, below, ascend.0))) (ap (λ rest. x ∷ rest) (kept-after (suc x.0) byte back (omega (arith, below, ascend.0)) ascend.2))
+      rw (ne_eqb x.0 byte (λ same. omega (arith, same, below, ascend.0))) (ap (λ rest. x ∷ rest) (kept-after (suc x.0) byte back (omega (arith, below, ascend.0)) ascend.2))
 
   -- without a byte the children before and after it are left
   without-one : (low : ℕ) (front : ChildMap H) (byte : ℕ) (child : H) (back : ChildMap H) → IsAscendingFrom low (key_bytes (front ++ (byte, child) ∷ back)) → without_child (front ++ (byte, child) ∷ back) byte ≡ front ++ back
-  without-one low [] byte child back ascend = rw (eq-true byte byte refl) (kept-after (suc byte) byte back (omega arith) ascend.2)
+  without-one low [] byte child back ascend = rw (eq-eqb byte byte refl) (kept-after (suc byte) byte back (omega arith) ascend.2)
   without-one low (x ∷ front) byte child back ascend =
       let above = before-byte (suc x.0) front byte child back ascend.2 in
-      rw (differ-false x.0 byte (λ same. omega (arith, same, above))) (ap (λ rest. x ∷ rest) (without-one (suc x.0) front byte child back ascend.2))
+      rw (ne_eqb x.0 byte (λ same. omega (arith, same, above))) (ap (λ rest. x ∷ rest) (without-one (suc x.0) front byte child back ascend.2))
 
   -- and the child under it is the one between them
   child-between : (low : ℕ) (front : ChildMap H) (byte : ℕ) (child : H) (back : ChildMap H) → IsAscendingFrom low (key_bytes (front ++ (byte, child) ∷ back)) → child_at (front ++ (byte, child) ∷ back) byte ≡ Some child
-  child-between low [] byte child back ascend = rw (eq-true byte byte refl) refl
+  child-between low [] byte child back ascend = rw (eq-eqb byte byte refl) refl
   child-between low (x ∷ front) byte child back ascend =
       let above = before-byte (suc x.0) front byte child back ascend.2 in
-      rw (differ-false x.0 byte (λ same. omega (arith, same, above))) (child-between (suc x.0) front byte child back ascend.2)
+      rw (ne_eqb x.0 byte (λ same. omega (arith, same, above))) (child-between (suc x.0) front byte child back ascend.2)
 
 module _ {H : Type 0} (before : Branches H) (byte : ℕ) (tree : Tree H) (after : Branches H) where
   -- without a branch there is one less
@@ -114,7 +109,7 @@ module _ {H : Type 0} (before : Branches H) (byte : ℕ) (tree : Tree H) (after 
           other = one.byte;
           only = one.tree;
           is = one.is;
-          differ = λ same. (let some : Some (root_of one.tree) ≡ None = rw (eq-true one.byte byte same) at none in absurd (cc));
+          differ = λ same. (let some : Some (root_of one.tree) ≡ None = rw (eq-eqb one.byte byte same) at none in absurd (cc));
           fits = (subst (λ all. IsAscending (key_bytes all)) roots left-ascend).1;
         }
 

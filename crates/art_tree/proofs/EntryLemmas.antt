@@ -1,7 +1,6 @@
 -- What a text that is to be inserted has to do with the entries that are there.
-use Rattle.std.proofs.Common.{◌≡◌, ◌≢◌, ◌⊎◌, ◌∙◌, ℕ, suc, ◌+◌, ◌<◌, ◌^◌, ◌==◌, true, false, List, [], ◌∷◌, ◌++◌, map, length, take, drop, slice_get, Contains, Option, Some, None, Result, Ok, Err, IfOk, IfErr, OnOk, OnErr, refl, sym, ap, subst, inl, inr, arith, append-nil}
-use Rattle.std.proofs.lemmas.Bool.{cases_eq}
-use Rattle.std.proofs.lemmas.Bool.Decides.{nat_tests}
+use Rattle.std.proofs.Common.{◌≡◌, ◌≢◌, ◌⊎◌, ◌∙◌, ℕ, suc, ◌+◌, ◌<◌, ◌^◌, List, [], ◌∷◌, ◌++◌, map, length, take, drop, slice_get, Contains, Option, Some, None, Result, Ok, Err, IfOk, IfErr, OnOk, OnErr, refl, sym, ap, subst, inl, inr, arith, append-nil}
+use Rattle.std.proofs.lemmas.Bool.{cases_eq, eq-eqb, ne_eqb}
 use Rattle.std.proofs.lemmas.List.{take-append-drop}
 use Rattle.std.proofs.lemmas.List.Elements.{Contains-append_right, Contains-append_cases}
 use Rattle.art_bytes.specs.Text.{IsFront}
@@ -46,12 +45,6 @@ front-on a b x (rest, is) begins = front-shorter a rest x (subst (λ all. IsFron
 -- a key begins with its bytes before an index and the one there
 key-on : (key : List ℕ) (index byte : ℕ) → slice_get key index ≡ Some byte → IsFront (take index key ++ byte ∷ []) key
 key-on key index byte is = (drop (index + 1) key, sym (take-append-drop (index + 1) key) ∙ ap (λ front. front ++ drop (index + 1) key) (take-get key index byte is))
-
-eq-true : (a b : ℕ) → a ≡ b → (a == b) ≡ true
-eq-true a b same = grind (arith, nat_tests)
-
-eq-false : (a b : ℕ) → a ≢ b → (a == b) ≡ false
-eq-false a b differ = grind (arith, nat_tests)
 
 module _ {H : Type 0} where
   -- where no text begins another, a text that begins one of them is that one
@@ -100,10 +93,10 @@ module _ {H : Type 0} where
   no-branch-apart : (path : List ℕ) (branches : Branches H) (byte : ℕ) (key : List ℕ) → AreSound path branches → child_at (branch_roots branches) byte ≡ None → IsFront (path ++ byte ∷ []) key → (q : H) (x : List ℕ) → Contains (branch_leaves branches) (q, x) → IsApart x key
   no-branch-apart path NoBranch byte key sound absent leads q x (k, inside, is) = absurd (omega (arith, inside))
   no-branch-apart path (Branch b tree others) byte key sound absent leads q x inside = elim (cases_eq b byte) [
-    | inl same ↦ (let there : Some (root_of tree) ≡ None = rw (eq-true b byte same) at absent in absurd (cc))
+    | inl same ↦ (let there : Some (root_of tree) ≡ None = rw (eq-eqb b byte same) at absent in absurd (cc))
     | inr differ ↦ elim (Contains-append_cases (leaves tree) (branch_leaves others) (q, x) inside) [
       | inl here ↦ parted-apart path b byte x key differ (text-begins (path ++ b ∷ []) tree q x sound.0 here) leads
-      | inr later ↦ no-branch-apart path others byte key sound.1 (rw (eq-false b byte differ) at absent) leads q x later
+      | inr later ↦ no-branch-apart path others byte key sound.1 (rw (ne_eqb b byte differ) at absent) leads q x later
     ]
   ]
 

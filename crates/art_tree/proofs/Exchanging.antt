@@ -1,5 +1,6 @@
 -- One subtree of a tree is exchanged for another.
 use Rattle.std.proofs.Common.{◌≡◌, ◌≢◌, ◌∙◌, ℕ, zero, suc, ◌<◌, ◌≤◌, nat_lt, List, [], ◌∷◌, ◌++◌, length, length-append, filter, All, Contains, refl, sym, ap, subst, inl, inr, arith, append_assoc, append-nil}
+use Rattle.std.proofs.lemmas.Bool.{le-ltb, lt-ltb}
 use Rattle.std.proofs.lemmas.List.{length-map}
 use Rattle.std.proofs.lemmas.List.Elements.{All-contains, Contains-append_left, Contains-append_right, Contains-append_cases}
 use Rattle.std.proofs.Math.ListN.{get_or-append}
@@ -15,7 +16,6 @@ use Rattle.art_tree.specs.Contexts.{Context, Whole, Under, plug, path_to, leaves
 use Rattle.art_tree.specs.Loading.{IsSnug}
 use Rattle.art_tree.specs.Plan.{join}
 use Rattle.art_tree.proofs.BranchLemmas.{roots-join, leaves-join, places-join, bytes-join, sound-join}
-use Rattle.art_tree.proofs.ChildLemmas.{lt-true, lt-false}
 use Rattle.art_tree.proofs.Rising.{stand-join, stand-split, snug-join, snug-split}
 
 pub sound-split : {H : Type 0} (path : List ℕ) (a b : Branches H) → AreSound path (join a b) → AreSound path a × AreSound path b
@@ -29,18 +29,18 @@ before-byte low (x ∷ front) byte child back ascend = omega (arith, ascend.0, b
 
 pub none-below : {H : Type 0} (low byte : ℕ) (back : ChildMap H) → byte < low → IsAscendingFrom low (key_bytes back) → filter (λ p. nat_lt p.0 byte) back ≡ []
 none-below low byte [] below ascend = refl
-none-below low byte (x ∷ back) below ascend = rw (lt-false x.0 byte (omega (arith, below, ascend.0))) (none-below (suc x.0) byte back (omega (arith, below, ascend.0)) ascend.2)
+none-below low byte (x ∷ back) below ascend = rw (le-ltb x.0 byte (omega (arith, below, ascend.0))) (none-below (suc x.0) byte back (omega (arith, below, ascend.0)) ascend.2)
 
 pub all-above : {H : Type 0} (low byte : ℕ) (back : ChildMap H) → byte < low → IsAscendingFrom low (key_bytes back) → filter (λ p. nat_lt byte p.0) back ≡ back
 all-above low byte [] below ascend = refl
-all-above low byte (x ∷ back) below ascend = rw (lt-true byte x.0 (omega (arith, below, ascend.0))) (ap (λ rest. x ∷ rest) (all-above (suc x.0) byte back (omega (arith, below, ascend.0)) ascend.2))
+all-above low byte (x ∷ back) below ascend = rw (lt-ltb byte x.0 (omega (arith, below, ascend.0))) (ap (λ rest. x ∷ rest) (all-above (suc x.0) byte back (omega (arith, below, ascend.0)) ascend.2))
 
 replaced : {H : Type 0} (low : ℕ) (front : ChildMap H) (byte : ℕ) (child now : H) (back : ChildMap H) → IsAscendingFrom low (key_bytes (front ++ (byte, child) ∷ back)) → with_child (front ++ (byte, child) ∷ back) byte now ≡ front ++ (byte, now) ∷ back
 replaced low [] byte child now back ascend =
-    rw (lt-false byte byte (omega arith), none-below (suc byte) byte back (omega arith) ascend.2, all-above (suc byte) byte back (omega arith) ascend.2) refl
+    rw (le-ltb byte byte (omega arith), none-below (suc byte) byte back (omega arith) ascend.2, all-above (suc byte) byte back (omega arith) ascend.2) refl
 replaced low (x ∷ front) byte child now back ascend =
     let above = before-byte (suc x.0) front byte child back ascend.2 in
-    rw (lt-true x.0 byte (omega (arith, above)), lt-false byte x.0 (omega (arith, above))) (ap (λ rest. x ∷ rest) (replaced (suc x.0) front byte child now back ascend.2))
+    rw (lt-ltb x.0 byte (omega (arith, above)), le-ltb byte x.0 (omega (arith, above))) (ap (λ rest. x ∷ rest) (replaced (suc x.0) front byte child now back ascend.2))
 
 -- the path of a place, where a path leads to the whole
 place-path : (path above prefix rest : List ℕ) → path ++ ((above ++ prefix) ++ rest) ≡ ((path ++ above) ++ prefix) ++ rest

@@ -1,5 +1,6 @@
 -- Inner nodes that take a child more, or another prefix.
 use Rattle.std.proofs.Common.{◌≡◌, ◌≢◌, ◌∙◌, ℕ, ◌<◌, ◌≤◌, List, [], ◌∷◌, length, Option, Some, None, IsNone, refl, sym, ap, subst}
+use Rattle.std.proofs.lemmas.Bool.{le-ltb, lt-ltb}
 use Rattle.std.specs.Option.{option_map, option_map_or}
 use Rattle.art_header.specs.Header.{Header}
 use Rattle.art_header.specs.NodeType.{most_children, grown_kind}
@@ -13,15 +14,14 @@ use Rattle.art_nodes.proofs.ChildMapLaws.{length_absent}
 use Rattle.art_arena.specs.Arena.{ArenaOf, Held, HeldInner, HeldLeaf, Nothing, held, held_header, room, Changes}
 use Rattle.art_tree.specs.Edits.{HasRoomToGrow, IsMoved}
 use Rattle.art_tree.specs.Taking.{two_children}
-use Rattle.art_tree.proofs.ChildLemmas.{lt-true, lt-false}
 
 -- two children by ascending byte
 module _ {H : Type 0} (byte : ℕ) (child : H) (other : ℕ) (node : H) where
   pub child-first : byte < other → (byte, child) ∷ (other, node) ∷ [] ≡ two_children byte child other node
-  child-first less = rw (lt-true byte other less) refl
+  child-first less = rw (lt-ltb byte other less) refl
 
   pub child-last : other ≤ byte → (other, node) ∷ (byte, child) ∷ [] ≡ two_children byte child other node
-  child-last most = rw (lt-false byte other most) refl
+  child-last most = rw (le-ltb byte other most) refl
 
 -- a node with no child under a byte has less than 256
 pub few-where-absent : {H : Type 0} (node : Inner H) (byte : ℕ) → byte < 256 → IsAscending (key_bytes node.children) → child_at node.children byte ≡ None → length node.children < 256

@@ -1,10 +1,10 @@
 -- Entries of which none has a fault.
-use Rattle.std.proofs.Common.{◌≡◌, ◌∙◌, ℕ, zero, suc, ◌+◌, ◌<◌, ◌≤◌, ◌^◌, Bool, true, false, List, [], ◌∷◌, length, take, All, Option, Some, None, if◌then◌else◌, refl, ap, inl, inr, arith, nat_le, nat_lt, nat_eq, ◌==◌}
+use Rattle.std.proofs.Common.{◌≡◌, ◌∙◌, ℕ, zero, suc, ◌+◌, ◌<◌, ◌^◌, Bool, true, false, List, [], ◌∷◌, length, take, All, Option, Some, None, if◌then◌else◌, refl, ap, inl, inr, arith, nat_le, nat_lt, nat_eq, ◌==◌}
 use Rattle.std.specs.declared.cmp.Ordering.{Ordering}
 use Rattle.std.specs.declared.cmp.Ordering.TheVariants.{Less, Equal, Greater}
 use Rattle.std.specs.List.{starts_with}
-use Rattle.std.proofs.lemmas.Bool.{cases_lt}
-use Rattle.std.proofs.lemmas.Bool.Decides.{nat_tests, eqb_tells}
+use Rattle.std.proofs.lemmas.Bool.{cases_lt, eq-eqb, le-leb, le-ltb, lt-leb, lt-ltb}
+use Rattle.std.proofs.lemmas.Bool.Decides.{eqb_tells}
 use Rattle.std.proofs.lemmas.List.Elements.{All-from_get_or}
 use Rattle.art_bytes.specs.Text.{text_order}
 use Rattle.art_tree.specs.Plan.{text_at, IsFork, Forks, AreLoadable}
@@ -12,21 +12,6 @@ use Rattle.art_tree.specs.Refusals.{HaveNoFault, IsDue, IsRefusal, fault_at, fau
 use Rattle.std.specs.Ordering.{is_lt}
 use Rattle.art_tree.specs.declared.loading.check.LoadRefusal.{LoadRefusal}
 use Rattle.art_tree.specs.declared.loading.check.LoadRefusal.TheVariants.{Empty, KeyTooLong, NotAscending, Prefix, OutOfMemory}
-
-le-true : (a b : ℕ) → a ≤ b → nat_le a b ≡ true
-le-true a b h = grind (arith, nat_tests)
-
-le-false : (a b : ℕ) → b < a → nat_le a b ≡ false
-le-false a b h = grind (arith, nat_tests)
-
-lt-true : (a b : ℕ) → a < b → nat_lt a b ≡ true
-lt-true a b h = grind (arith, nat_tests)
-
-eq-true : (a b : ℕ) → a ≡ b → nat_eq a b ≡ true
-eq-true a b h = grind (arith, nat_tests)
-
-lt-false : (a b : ℕ) → b ≤ a → nat_lt a b ≡ false
-lt-false a b h = grind (arith, nat_tests)
 
 fork-later : (x y : ℕ) (a b : List ℕ) → x ≡ y → Forks a b → Forks (x ∷ a) (y ∷ b)
 fork-later x y a b same (at, fork) = (suc at, record { in_first = omega (arith, fork.in_first); in_second = omega (arith, fork.in_second); shared = ap (λ z. z ∷ take at a) same ∙ ap (λ rest. y ∷ rest) fork.shared; less = fork.less })
@@ -40,10 +25,10 @@ forks (x ∷ a) (y ∷ b) less apart = elim (cases_lt x y) [
   | inl below ↦ (0, record { in_first = omega arith; in_second = omega arith; shared = refl; less = below })
   | inr past ↦ elim (eqb_tells x y) [
     | inl same ↦
-        let less_later : text_order a b ≡ Less = rw (lt-false x y past, same.0) at less in
+        let less_later : text_order a b ≡ Less = rw (le-ltb x y past, same.0) at less in
         let apart_later : starts_with nat_eq b a ≡ false = rw same.0 at apart in
         fork-later x y a b same.1 (forks a b less_later apart_later)
-    | inr differ ↦ let wrong : Greater ≡ Less = rw (lt-false x y past, differ.0) at less in absurd (cc)
+    | inr differ ↦ let wrong : Greater ≡ Less = rw (le-ltb x y past, differ.0) at less in absurd (cc)
   ]
 ]
 
@@ -60,12 +45,12 @@ loadable texts none = record { short = is_short; fork = parts }
     is_short : (i : ℕ) → i < length texts → length (text_at texts i) < 2 ^ 32
     is_short i within = elim (cases_lt (length (text_at texts i)) (2 ^ 32)) [
       | inl short ↦ short
-      | inr long ↦ absurd (let wrong : Some _ ≡ None = rw (le-true (2 ^ 32) (length (text_at texts i)) long) at (none i within) in cc)
+      | inr long ↦ absurd (let wrong : Some _ ≡ None = rw (le-leb (2 ^ 32) (length (text_at texts i)) long) at (none i within) in cc)
     ]
 
     parts : (i : ℕ) → i + 1 < length texts → Forks (text_at texts i) (text_at texts (i + 1))
     parts i within =
-        let at_next : fault_between i (text_at texts i) (text_at texts (i + 1)) ≡ None = rw (le-false (2 ^ 32) (length (text_at texts i)) (is_short i (omega (arith, within))), le-false (length texts) (i + 1) within) at (none i (omega (arith, within))) in
+        let at_next : fault_between i (text_at texts i) (text_at texts (i + 1)) ≡ None = rw (lt-leb (2 ^ 32) (length (text_at texts i)) (is_short i (omega (arith, within))), lt-leb (length texts) (i + 1) within) at (none i (omega (arith, within))) in
         between i (text_at texts i) (text_at texts (i + 1)) _ _ refl refl at_next
 
 -- so every text of them is short
@@ -97,11 +82,11 @@ due (text ∷ texts) OutOfMemory h = absurd (never-memory (text ∷ texts) h.0 h
 pub forks-less : (a b : List ℕ) (at : ℕ) → IsFork a b at → text_order a b ≡ Less
 forks-less [] b at fork = absurd (omega (arith, fork.in_first))
 forks-less (x ∷ a) [] at fork = absurd (omega (arith, fork.in_second))
-forks-less (x ∷ a) (y ∷ b) zero fork = let below : nat_lt x y ≡ true = lt-true x y fork.less in rw below refl
+forks-less (x ∷ a) (y ∷ b) zero fork = let below : nat_lt x y ≡ true = lt-ltb x y fork.less in rw below refl
 forks-less (x ∷ a) (y ∷ b) (suc at) fork =
     let same : x ≡ y = (let both = fork.shared in cc) in
     let rest : take at a ≡ take at b = (let both = fork.shared in cc) in
-    rw (lt-false x y (omega (arith, same)), eq-true x y same) (forks-less a b at (record { in_first = omega (arith, fork.in_first); in_second = omega (arith, fork.in_second); shared = rest; less = fork.less }))
+    rw (le-ltb x y (omega (arith, same)), eq-eqb x y same) (forks-less a b at (record { in_first = omega (arith, fork.in_first); in_second = omega (arith, fork.in_second); shared = rest; less = fork.less }))
 
 pub not-none : (n : ℕ) (none : Bool) → none ≡ (n == 0) → none ≡ false → 0 < n
 not-none zero none is never = absurd (cc)

@@ -2,8 +2,7 @@
 use Rattle.std.proofs.Common.{◌≡◌, ◌≢◌, ◌⊎◌, ◌∙◌, ℕ, zero, suc, ◌+◌, ◌-◌, ◌<◌, ◌≤◌, Bool, true, false, nat_le, List, [], ◌∷◌, ◌++◌, length, length-append, map, take, drop, get_or, slice_get, Option, Some, None, Result, Ok, Err, IfOk, OnOk, inl, inr, refl, sym, ap, subst, arith, append_assoc, if◌then◌else◌, ◌&&◌}
 use Rattle.std.specs.Option.{option_map_or}
 use Rattle.std.specs.List.{Contains}
-use Rattle.std.proofs.lemmas.Bool.{cases_lt, cases_eq}
-use Rattle.std.proofs.lemmas.Bool.Decides.{nat_tests}
+use Rattle.std.proofs.lemmas.Bool.{cases_lt, cases_eq, and_from, le-leb, lt-leb}
 use Rattle.std.proofs.lemmas.List.{length-map, append-nil, take_at, drop_at, drop_more, take_more, take_rest}
 use Rattle.std.proofs.lemmas.Option.{slice_get_within, get_or_from_slice_get}
 use Rattle.std.proofs.lemmas.List.Elements.{Contains-append_left, Contains-append_right, Contains-append_cases, Contains-push_cases, Contains-push}
@@ -31,40 +30,30 @@ use Rattle.art_tree.specs.declared.loading.steps.Step.TheVariants as step
 use Rattle.art_tree.proofs.BranchLemmas.{roots-join, leaves-join, places-join}
 use Rattle.art_tree.proofs.Leading.{Leads, Takes}
 
-le-true : (a b : ℕ) → a ≤ b → nat_le a b ≡ true
-le-true a b h = grind (arith, nat_tests)
-
-le-false : (a b : ℕ) → b < a → nat_le a b ≡ false
-le-false a b h = grind (arith, nat_tests)
-
 abbrev is_needed : NodeType → ℕ → Bool
 is_needed kind n = nat_le (least_children kind) n && nat_le n (most_children kind)
 
-both-true : (a b : Bool) → a ≡ true → b ≡ true → a && b ≡ true
-both-true true b first second = second
-both-true false b first second = absurd (cc)
-
 pub kind-4 : (n : ℕ) → n ≤ 4 → kind_for n ≡ kinds.Node4
-kind-4 n h = rw (le-true n 4 h) refl
+kind-4 n h = rw (le-leb n 4 h) refl
 
 pub kind-16 : (n : ℕ) → 4 < n → n ≤ 16 → kind_for n ≡ kinds.Node16
-kind-16 n l h = rw (le-false n 4 l, le-true n 16 h) refl
+kind-16 n l h = rw (lt-leb n 4 l, le-leb n 16 h) refl
 
 pub kind-48 : (n : ℕ) → 16 < n → n ≤ 48 → kind_for n ≡ kinds.Node48
-kind-48 n l h = rw (le-false n 4 (omega (arith, l)), le-false n 16 l, le-true n 48 h) refl
+kind-48 n l h = rw (lt-leb n 4 (omega (arith, l)), lt-leb n 16 l, le-leb n 48 h) refl
 
 pub kind-256 : (n : ℕ) → 48 < n → kind_for n ≡ kinds.Node256
-kind-256 n l = rw (le-false n 4 (omega (arith, l)), le-false n 16 (omega (arith, l)), le-false n 48 l) refl
+kind-256 n l = rw (lt-leb n 4 (omega (arith, l)), lt-leb n 16 (omega (arith, l)), lt-leb n 48 l) refl
 
 -- a node is counted under its own kind
 needed-own : (n : ℕ) → 2 ≤ n → n ≤ 256 → is_needed (kind_for n) n ≡ true
 needed-own n two few = elim (cases_lt 4 n) [
-  | inr four ↦ ap (λ k. is_needed k n) (kind-4 n four) ∙ both-true (nat_le 2 n) (nat_le n 4) (le-true 2 n two) (le-true n 4 four)
+  | inr four ↦ ap (λ k. is_needed k n) (kind-4 n four) ∙ and_from (nat_le 2 n) (nat_le n 4) (le-leb 2 n two) (le-leb n 4 four)
   | inl past ↦ elim (cases_lt 16 n) [
-    | inr sixteen ↦ ap (λ k. is_needed k n) (kind-16 n past sixteen) ∙ both-true (nat_le 5 n) (nat_le n 16) (le-true 5 n past) (le-true n 16 sixteen)
+    | inr sixteen ↦ ap (λ k. is_needed k n) (kind-16 n past sixteen) ∙ and_from (nat_le 5 n) (nat_le n 16) (le-leb 5 n past) (le-leb n 16 sixteen)
     | inl more ↦ elim (cases_lt 48 n) [
-      | inr many ↦ ap (λ k. is_needed k n) (kind-48 n more many) ∙ both-true (nat_le 17 n) (nat_le n 48) (le-true 17 n more) (le-true n 48 many)
-      | inl most ↦ ap (λ k. is_needed k n) (kind-256 n most) ∙ both-true (nat_le 49 n) (nat_le n 256) (le-true 49 n most) (le-true n 256 few)
+      | inr many ↦ ap (λ k. is_needed k n) (kind-48 n more many) ∙ and_from (nat_le 17 n) (nat_le n 48) (le-leb 17 n more) (le-leb n 48 many)
+      | inl most ↦ ap (λ k. is_needed k n) (kind-256 n most) ∙ and_from (nat_le 49 n) (nat_le n 256) (le-leb 49 n most) (le-leb n 256 few)
     ]
   ]
 ]

@@ -1,7 +1,7 @@
 -- A part of a tree that takes a leaf more.
-use Rattle.std.proofs.Common.{◌≡◌, ◌≢◌, ◌⊎◌, ◌∙◌, ℕ, zero, suc, ◌+◌, ◌-◌, ◌<◌, ◌≤◌, ◌^◌, ◌==◌, Bool, true, false, ◌&&◌, nat_lt, List, [], ◌∷◌, ◌++◌, length, length-append, map, filter, take, drop, slice_get, AllPairs, Contains, Some, None, refl, sym, ap, subst, inl, inr, arith, append_assoc, append-nil}
-use Rattle.std.proofs.lemmas.Bool.{cases_lt, cases_eq}
-use Rattle.std.proofs.lemmas.Bool.Decides.{nat_tests}
+use Rattle.std.proofs.Common.{◌≡◌, ◌≢◌, ◌⊎◌, ◌∙◌, ℕ, zero, suc, ◌+◌, ◌-◌, ◌<◌, ◌≤◌, ◌^◌, true, ◌&&◌, nat_lt, List, [], ◌∷◌, ◌++◌, length, length-append, map, filter, take, drop, slice_get, AllPairs, Contains, Some, None, refl, sym, ap, subst, inl, inr, arith, append_assoc, append-nil}
+use Rattle.std.proofs.lemmas.Bool.{cases_lt, cases_eq, eq-eqb, le-ltb, lt-ltb, ne_eqb}
+use Rattle.std.proofs.Math.Bool.{and-true}
 use Rattle.std.proofs.lemmas.List.{drop_at, drop-drop, take-append-drop, length-take-le}
 use Rattle.std.proofs.lemmas.List.Elements.{Contains-append_left, Contains-append_right, Contains-append_cases, filter_agree}
 use Rattle.std.proofs.lemmas.Option.{slice_get_within}
@@ -21,20 +21,9 @@ use Rattle.art_tree.specs.Places.{reach}
 use Rattle.art_tree.specs.Plan.{join, one_branch}
 use Rattle.art_tree.specs.Taking.{HasPlace, without_front, with_leaf, branches_left, branches_right, two_children}
 use Rattle.art_tree.proofs.BranchLemmas.{roots-join, leaves-join, places-join, sound-join}
-use Rattle.art_tree.proofs.ChildLemmas.{lt-true, lt-false}
 use Rattle.art_tree.proofs.DictionaryLemmas.{after-first}
 use Rattle.art_tree.proofs.Exchanging.{the-one, sound-split, none-below, all-above}
 use Rattle.art_tree.proofs.Rising.{snug-join, take-get, kind-4, kind-16, kind-48, kind-256}
-
-pub eq-true : (a b : ℕ) → a ≡ b → (a == b) ≡ true
-eq-true a b e = grind (arith, nat_tests)
-
-eq-false : (a b : ℕ) → a < b → (a == b) ≡ false
-eq-false a b h = grind (arith, nat_tests)
-
-and-true : (b : Bool) → (b && true) ≡ b
-and-true true = refl
-and-true false = refl
 
 -- a byte without a branch parts the branches into those of lesser bytes and those of greater ones
 record IsParted {H : Type 0} (low : ℕ) (branches : Branches H) (byte : ℕ) : Type 0 where
@@ -62,8 +51,8 @@ module _ {H : Type 0} where
     after = rest.after;
     same = ap (Branch b tree) rest.same;
     ascending = λ child. (from, fits, rest.ascending child);
-    lesser = rw (lt-true b byte less) (ap (λ more. (b, root_of tree) ∷ more) rest.lesser);
-    greater = rw (lt-false byte b (omega (arith, less))) rest.greater;
+    lesser = rw (lt-ltb b byte less) (ap (λ more. (b, root_of tree) ∷ more) rest.lesser);
+    greater = rw (le-ltb byte b (omega (arith, less))) rest.greater;
   }
 
   -- there is a place between lesser and greater bytes
@@ -81,10 +70,10 @@ module _ {H : Type 0} where
           greater = all-above b byte (branch_roots (Branch b tree others)) less later;
         }
     | inr upto ↦ elim (cases_eq b byte) [
-      | inl same ↦ (let there : Some (root_of tree) ≡ None = rw (eq-true b byte same) at absent in absurd (cc))
+      | inl same ↦ (let there : Some (root_of tree) ≡ None = rw (eq-eqb b byte same) at absent in absurd (cc))
       | inr differs ↦
           let less : b < byte = omega (arith, upto, differs) in
-          parted-past low byte b tree others ascend.0 ascend.1 less (parted (suc b) byte others (omega (arith, less)) fits ascend.2 (rw (eq-false b byte less) at absent))
+          parted-past low byte b tree others ascend.0 ascend.1 less (parted (suc b) byte others (omega (arith, less)) fits ascend.2 (rw (ne_eqb b byte (λ same. omega (arith, less, same))) at absent))
     ]
   ]
 
@@ -169,7 +158,7 @@ module _ {H : Type 0} where
 
   -- the branches left and right of a byte are the one tree
   pub both-sides : (byte other : ℕ) (tree : Tree H) → join (branches_left byte other tree) (branches_right byte other tree) ≡ one_branch other tree
-  both-sides byte other tree = elim (cases_lt byte other) [ inl less ↦ rw (lt-true byte other less) refl | inr upto ↦ rw (lt-false byte other upto) refl ]
+  both-sides byte other tree = elim (cases_lt byte other) [ inl less ↦ rw (lt-ltb byte other less) refl | inr upto ↦ rw (le-ltb byte other upto) refl ]
 
   pub leaves-sides : (byte other : ℕ) (tree : Tree H) → branch_leaves (join (branches_left byte other tree) (branches_right byte other tree)) ≡ leaves tree
   leaves-sides byte other tree = ap branch_leaves (both-sides byte other tree) ∙ append-nil (leaves tree)
@@ -218,15 +207,15 @@ module _ {H : Type 0} where
   -- the bytes of the two children ascend, and the children are those two
   sides-ascend : (byte other : ℕ) (tree : Tree H) (child : H) → byte < 256 → other < 256 → byte ≢ other → IsAscending (key_bytes (branch_roots (branches_left byte other tree) ++ (byte, child) ∷ branch_roots (branches_right byte other tree)))
   sides-ascend byte other tree child fits other_fits differ = elim (cases_lt byte other) [
-    | inl less ↦ rw (lt-true byte other less) (omega arith, fits, (omega (arith, less), other_fits, tt))
-    | inr upto ↦ rw (lt-false byte other upto) (omega arith, other_fits, (omega (arith, upto, differ), fits, tt))
+    | inl less ↦ rw (lt-ltb byte other less) (omega arith, fits, (omega (arith, less), other_fits, tt))
+    | inr upto ↦ rw (le-ltb byte other upto) (omega arith, other_fits, (omega (arith, upto, differ), fits, tt))
   ]
 
   sides-written : (byte other len : ℕ) (part : Tree H) (leaf : H) (text : List ℕ)
       → two_children byte leaf other (root_of part) ≡ branch_roots (join (branches_left byte other (without_front len part)) (Branch byte (Leaf leaf text) (branches_right byte other (without_front len part))))
   sides-written byte other len part leaf text = elim (cases_lt byte other) [
-    | inl less ↦ rw (lt-true byte other less) (ap (λ root. (byte, leaf) ∷ (other, root) ∷ []) (sym (root-trimmed len part)))
-    | inr upto ↦ rw (lt-false byte other upto) (ap (λ root. (other, root) ∷ (byte, leaf) ∷ []) (sym (root-trimmed len part)))
+    | inl less ↦ rw (lt-ltb byte other less) (ap (λ root. (byte, leaf) ∷ (other, root) ∷ []) (sym (root-trimmed len part)))
+    | inr upto ↦ rw (le-ltb byte other upto) (ap (λ root. (other, root) ∷ (byte, leaf) ∷ []) (sym (root-trimmed len part)))
   ]
 
   -- where a key parts from a tree there is a place for it in a new node above the tree
@@ -257,7 +246,7 @@ module _ {K V : Type 0} {P : ℕ} where
   snug-trimmed len (Inner pointer prefix branches) snug = snug
 
   pub snug-sides : (byte other : ℕ) (tree : Tree (OpaqueNodePtr K V P)) → IsSnug tree → AreSnug (branches_left byte other tree) × AreSnug (branches_right byte other tree)
-  snug-sides byte other tree snug = elim (cases_lt byte other) [ inl less ↦ rw (lt-true byte other less) (tt, (snug, tt)) | inr upto ↦ rw (lt-false byte other upto) ((snug, tt), tt) ]
+  snug-sides byte other tree snug = elim (cases_lt byte other) [ inl less ↦ rw (lt-ltb byte other less) (tt, (snug, tt)) | inr upto ↦ rw (le-ltb byte other upto) ((snug, tt), tt) ]
 
   -- the node with a leaf at a place is snug where it is of the kind for one branch more
   pub snug-taken : (pointer : OpaqueNodePtr K V P) (prefix : List ℕ) (before : Branches (OpaqueNodePtr K V P)) (byte : ℕ) (leaf : OpaqueNodePtr K V P) (text : List ℕ) (after : Branches (OpaqueNodePtr K V P)) → node_kind pointer ≡ kind_for (length (branch_roots (join before after)) + 1)
