@@ -22,7 +22,7 @@ use Rattle.art_tree.specs.Plan.{join, one_branch}
 use Rattle.art_tree.specs.Taking.{HasPlace, without_front, with_leaf, branches_left, branches_right, two_children}
 use Rattle.art_tree.proofs.BranchLemmas.{roots-join, leaves-join, places-join, sound-join}
 use Rattle.art_tree.proofs.DictionaryLemmas.{after-first}
-use Rattle.art_tree.proofs.Exchanging.{the-one, sound-split, none-below, all-above}
+use Rattle.art_tree.proofs.Exchanging.{sound-split, none-below, all-above}
 use Rattle.art_tree.proofs.Rising.{snug-join, take-get, kind-4, kind-16, kind-48, kind-256}
 
 -- a byte without a branch parts the branches into those of lesser bytes and those of greater ones
@@ -129,18 +129,6 @@ module _ {H : Type 0} where
     in-taken (inr (inr was)) = elim (Contains-append_cases (branch_places before) (branch_places after) q (subst (λ all. Contains all q) (places-join before after) was)) [
       | inl left ↦ among (Contains-append_left (branch_places before) (leaf ∷ branch_places after) q left)
       | inr right ↦ among (Contains-append_right (branch_places before) (leaf ∷ branch_places after) q (Contains-append_right (leaf ∷ []) (branch_places after) q right))
-    ]
-
-    pub taken-cases : Contains (places (with_leaf pointer prefix before byte leaf text after)) q → (q ≡ pointer) ⊎ ((q ≡ leaf) ⊎ Contains (branch_places (join before after)) q)
-    taken-cases inside = elim (Contains-append_cases (pointer ∷ []) (branch_places (join before (Branch byte (Leaf leaf text) after))) q inside) [
-      | inl here ↦ inl (sym (the-one pointer q here))
-      | inr below ↦ elim (Contains-append_cases (branch_places before) (leaf ∷ branch_places after) q (subst (λ all. Contains all q) (places-join before (Branch byte (Leaf leaf text) after)) below)) [
-        | inl left ↦ inr (inr (subst (λ all. Contains all q) (sym (places-join before after)) (Contains-append_left (branch_places before) (branch_places after) q left)))
-        | inr from ↦ elim (Contains-append_cases (leaf ∷ []) (branch_places after) q from) [
-          | inl new ↦ inr (inl (sym (the-one leaf q new)))
-          | inr right ↦ inr (inr (subst (λ all. Contains all q) (sym (places-join before after)) (Contains-append_right (branch_places before) (branch_places after) q right)))
-        ]
-      ]
     ]
 
   -- a tree without the front of its prefix has the same root, leaves and pointers

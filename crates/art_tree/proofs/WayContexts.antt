@@ -136,12 +136,6 @@ module _ {K V : Type 0} {P : ℕ} where
         hangs = above-before upper pointer b ∙ ap step_before is;
       }
 
-  pub path-child : (context : Context (OpaqueNodePtr K V P)) (parent : OpaqueNodePtr K V P) (byte : ℕ) → path_of (steps_to context) ≡ ChildOfRoot parent byte → IsUnder context parent byte None
-  path-child context parent byte is = path-under context (ChildOfRoot parent byte) parent byte is refl
-
-  pub path-normal : (context : Context (OpaqueNodePtr K V P)) (grandparent : OpaqueNodePtr K V P) (parent_byte : ℕ) (parent : OpaqueNodePtr K V P) (byte : ℕ) → path_of (steps_to context) ≡ Normal grandparent parent_byte parent byte → IsUnder context parent byte (Some (grandparent, parent_byte))
-  path-normal context grandparent parent_byte parent byte is = path-under context (Normal grandparent parent_byte parent byte) parent byte is refl
-
   module _ (tree : Tree (OpaqueNodePtr K V P)) (pointer : OpaqueNodePtr K V P) where
     -- a leaf to which the path has no step is the whole tree
     pub leaf-root : IsPathTo tree pointer Root → (text : List ℕ) × (tree ≡ Leaf pointer text)
