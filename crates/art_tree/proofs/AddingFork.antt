@@ -34,10 +34,10 @@ use Rattle.art_tree.proofs.Adding.{root-place, AreSteps, HasTaken, added-alone, 
 use Rattle.art_tree.proofs.BranchLemmas.{leaves-join}
 use Rattle.art_tree.proofs.DictionaryLemmas.{AreApart, leaf-held-in}
 use Rattle.art_tree.proofs.Exchanging.{the-one, distinct-part, kept-branches, sound-part, snug-part, stands-part}
+use Rattle.art_tree.proofs.FrontLemmas.{front-shorter}
 use Rattle.art_tree.proofs.Gaps.{beside-key, keys_of, spelled-parts}
 use Rattle.art_tree.proofs.HangLemmas.{one-inner}
 use Rattle.art_tree.proofs.Rising.{cases_pointer, text-held}
-use Rattle.art_tree.proofs.ScanLemmas.{front-shorter}
 use Rattle.art_tree.proofs.TakingLemmas.{HasForkPlace, fork-place, in-taken, leaves-sides, leaves-trimmed, places-sides, places-trimmed, snug-sides, snug-taken, snug-trimmed, both-sides}
 use Rattle.art_tree.proofs.WayLemmas.{leaf-kind}
 

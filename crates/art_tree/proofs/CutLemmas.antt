@@ -1,21 +1,21 @@
 -- Inner nodes that take a child less, or the prefix of the node above.
-use Rattle.std.proofs.Common.{◌≡◌, ◌≢◌, ◌∙◌, ℕ, ◌+◌, ◌-◌, ◌<◌, ◌≤◌, min, List, [], ◌∷◌, ◌++◌, length, length-append, take, Option, Some, None, Result, Ok, Err, OnErr, refl, sym, ap, subst, inl, inr, arith, append_assoc, ◌==◌, ◌↔◌, IsTrue}
+use Rattle.std.proofs.Common.{◌≡◌, ◌≢◌, ◌∙◌, ℕ, ◌+◌, ◌-◌, ◌<◌, ◌≤◌, min, List, [], ◌∷◌, ◌++◌, length, length-append, take, None, Result, Ok, Err, OnErr, refl, sym, ap, subst, inl, inr, arith, append_assoc, ◌==◌, ◌↔◌, IsTrue}
 use Rattle.std.proofs.lemmas.Bool.{cases_eq, cases_lt, eq-eqb, eqb-true, ne_eqb}
 use Rattle.std.proofs.Math.Seq.{take-append-add}
 use Rattle.std.proofs.lemmas.List.{take_all, take-take, take-append-le, length-take-le}
 use Rattle.art_header.specs.Header.{Header, capped, with_more, StandsFor}
 use Rattle.art_header.specs.NodeType.{least_children, shrunk_kind}
-use Rattle.art_header.specs.declared.node_type.NodeType.{NodeType}
 use Rattle.art_header.specs.declared.node_type.NodeType.TheVariants as kinds
 use Rattle.art_nodes.specs.ChildMap.{ChildMap, child_at, without_child}
 use Rattle.art_nodes.specs.Inner.{Inner, node_without_child}
 use Rattle.art_nodes.specs.Pointers.{node_kind, opaque_key}
 use Rattle.art_nodes.specs.declared.leaf_node.LeafNode.{LeafNode}
 use Rattle.art_nodes.specs.declared.pointers.OpaqueNodePtr.{OpaqueNodePtr}
-use Rattle.art_arena.specs.Arena.{ArenaOf, Held, HeldInner, HeldLeaf, Nothing, held, held_inner, held_under, room, Changes, SameRoom}
+use Rattle.art_arena.specs.Arena.{ArenaOf, Held, HeldInner, HeldLeaf, Nothing, held, room, Changes, SameRoom}
 use Rattle.art_tree.specs.Cuts.{HasOneLess, HasRoomToShrink, IsReplaced}
 use Rattle.art_tree.proofs.HangLemmas.{inner-held}
 use Rattle.art_tree.proofs.NodeLemmas.{one-inner}
+use Rattle.art_tree.proofs.WayLemmas.{leaf-kind}
 
 -- what always holds, holds on an error
 pub on-err : {T E : Type 0} {Q : Type 0} (answer : Result T E) → Q → OnErr answer Q
@@ -94,17 +94,6 @@ joined-stands size above below front back byte stands_above stands_below =
     subst (StandsFor size (with_more size (with_more size above (byte ∷ []) 1) below.stored below.prefix_len)) (append_assoc front (byte ∷ []) back) both
 
 module _ {K V : Type 0} {P : ℕ} where
-  no-leaf : (node : Option (Inner (OpaqueNodePtr K V P))) (leaf : LeafNode K V P) → held_inner {H = OpaqueNodePtr K V P} {L = LeafNode K V P} node ≡ HeldLeaf leaf → ⊥
-  no-leaf None leaf is = cc
-  no-leaf (Some node) leaf is = cc
-
-  kind-of-leaf : (arena : ArenaOf K V P) (kind : NodeType) (key : ℕ) (leaf : LeafNode K V P) → held_under arena kind key ≡ HeldLeaf leaf → kind ≡ kinds.Leaf
-  kind-of-leaf arena kinds.Node4 key leaf is = absurd (no-leaf _ leaf is)
-  kind-of-leaf arena kinds.Node16 key leaf is = absurd (no-leaf _ leaf is)
-  kind-of-leaf arena kinds.Node48 key leaf is = absurd (no-leaf _ leaf is)
-  kind-of-leaf arena kinds.Node256 key leaf is = absurd (no-leaf _ leaf is)
-  kind-of-leaf arena kinds.Leaf key leaf is = refl
-
   -- what stands at a pointer that is no leaf's is an inner node
   pub inner-there : (arena : ArenaOf K V P) (pointer : OpaqueNodePtr K V P) → held arena pointer ≢ Nothing → node_kind pointer ≢ kinds.Leaf → (node : Inner (OpaqueNodePtr K V P)) × (held arena pointer ≡ HeldInner node)
   inner-there arena pointer was inner = go (held arena pointer) refl
@@ -112,7 +101,7 @@ module _ {K V : Type 0} {P : ℕ} where
       go : (there : Held (OpaqueNodePtr K V P) (LeafNode K V P)) → held arena pointer ≡ there → (node : Inner (OpaqueNodePtr K V P)) × (held arena pointer ≡ HeldInner node)
       go Nothing is = absurd (was is)
       go (HeldInner node) is = (node, is)
-      go (HeldLeaf leaf) is = absurd (inner (kind-of-leaf arena (node_kind pointer) (opaque_key pointer) leaf is))
+      go (HeldLeaf leaf) is = absurd (inner (leaf-kind arena (node_kind pointer) (opaque_key pointer) leaf is))
 
   -- a node is given up for one of another kind
   pub replaced : (old now new : ArenaOf K V P) (after : Inner (OpaqueNodePtr K V P)) {at made pointer : OpaqueNodePtr K V P} → at ≡ made → held old made ≡ Nothing → held old pointer ≢ Nothing

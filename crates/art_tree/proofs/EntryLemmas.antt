@@ -1,7 +1,6 @@
 -- What a text that is to be inserted has to do with the entries that are there.
-use Rattle.std.proofs.Common.{◌≡◌, ◌≢◌, ◌⊎◌, ◌∙◌, ℕ, suc, ◌+◌, ◌<◌, ◌^◌, List, [], ◌∷◌, ◌++◌, map, length, take, drop, slice_get, Contains, Option, Some, None, Result, Ok, Err, IfOk, IfErr, OnOk, OnErr, refl, sym, ap, subst, inl, inr, arith, append-nil}
+use Rattle.std.proofs.Common.{◌≡◌, ◌≢◌, ◌⊎◌, ◌∙◌, ℕ, suc, ◌+◌, ◌<◌, ◌^◌, List, [], ◌∷◌, ◌++◌, map, length, take, Contains, Option, Some, None, Result, Ok, Err, IfOk, IfErr, OnOk, OnErr, refl, sym, ap, subst, inl, inr, arith, append-nil}
 use Rattle.std.proofs.lemmas.Bool.{cases_eq, eq-eqb, ne_eqb}
-use Rattle.std.proofs.lemmas.List.{take-append-drop}
 use Rattle.std.proofs.lemmas.List.Elements.{Contains-append_right, Contains-append_cases}
 use Rattle.art_bytes.specs.Text.{IsFront}
 use Rattle.art_nodes.specs.ChildMap.{child_at}
@@ -19,9 +18,8 @@ use Rattle.art_tree.specs.declared.insert.place.Fork.{Fork}
 use Rattle.art_tree.specs.declared.insert.place.Spot.{Spot}
 use Rattle.art_tree.proofs.DictionaryLemmas.{AreApart, after-first, empty-entry, held-entry, leaf-held-in, leaf-of-entry, leaf-with}
 use Rattle.art_tree.proofs.Exchanging.{the-one, leaves-plug, sound-part, sound-whole}
+use Rattle.art_tree.proofs.FrontLemmas.{front-shorter, front-on, key-on}
 use Rattle.art_tree.proofs.Growing.{alone-same, entries-same}
-use Rattle.art_tree.proofs.Rising.{take-get}
-use Rattle.art_tree.proofs.ScanLemmas.{front-shorter}
 
 -- neither text begins the other
 abbrev pub IsApart : List ℕ → List ℕ → Type 0
@@ -37,14 +35,6 @@ no-front front a b x y differ (r, x_is) (s, y_is) (t, is) = differ (same-byte fr
 
 parted-apart : (front : List ℕ) (a b : ℕ) (x y : List ℕ) → a ≢ b → IsFront (front ++ a ∷ []) x → IsFront (front ++ b ∷ []) y → IsApart x y
 parted-apart front a b x y differ on_x on_y = (no-front front a b x y differ on_x on_y, no-front front b a y x (λ same. differ (sym same)) on_y on_x)
-
--- what begins a front of a text begins the text
-front-on : (a b x : List ℕ) → IsFront a b → IsFront b x → IsFront a x
-front-on a b x (rest, is) begins = front-shorter a rest x (subst (λ all. IsFront all x) is begins)
-
--- a key begins with its bytes before an index and the one there
-key-on : (key : List ℕ) (index byte : ℕ) → slice_get key index ≡ Some byte → IsFront (take index key ++ byte ∷ []) key
-key-on key index byte is = (drop (index + 1) key, sym (take-append-drop (index + 1) key) ∙ ap (λ front. front ++ drop (index + 1) key) (take-get key index byte is))
 
 module _ {H : Type 0} where
   -- where no text begins another, a text that begins one of them is that one

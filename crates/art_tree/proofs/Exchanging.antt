@@ -1,9 +1,8 @@
 -- One subtree of a tree is exchanged for another.
-use Rattle.std.proofs.Common.{◌≡◌, ◌≢◌, ◌∙◌, ℕ, zero, suc, ◌<◌, ◌≤◌, nat_lt, List, [], ◌∷◌, ◌++◌, length, length-append, filter, All, Contains, refl, sym, ap, subst, inl, inr, arith, append_assoc, append-nil}
+use Rattle.std.proofs.Common.{◌≡◌, ◌≢◌, ◌∙◌, ℕ, zero, suc, ◌<◌, ◌≤◌, nat_lt, List, [], ◌∷◌, ◌++◌, length, filter, Contains, refl, sym, ap, subst, inl, inr, arith, append_assoc, append-nil}
 use Rattle.std.proofs.lemmas.Bool.{le-ltb, lt-ltb}
 use Rattle.std.proofs.lemmas.List.{length-map}
 use Rattle.std.proofs.lemmas.List.Elements.{All-contains, Contains-append_left, Contains-append_right, Contains-append_cases}
-use Rattle.std.proofs.Math.ListN.{get_or-append}
 use Rattle.art_header.specs.NodeType.{kind_for}
 use Rattle.art_nodes.specs.ChildMap.{ChildMap, IsAscendingFrom, key_bytes, with_child}
 use Rattle.art_nodes.specs.Inner as nodes
@@ -16,6 +15,7 @@ use Rattle.art_tree.specs.Contexts.{Context, Whole, Under, plug, path_to, leaves
 use Rattle.art_tree.specs.Loading.{IsSnug}
 use Rattle.art_tree.specs.Plan.{join}
 use Rattle.art_tree.proofs.BranchLemmas.{roots-join, leaves-join, places-join, bytes-join, sound-join}
+use Rattle.art_tree.proofs.OnlyWayLemmas.{All-left}
 use Rattle.art_tree.proofs.Rising.{stand-join, stand-split, snug-join, snug-split}
 
 pub sound-split : {H : Type 0} (path : List ℕ) (a b : Branches H) → AreSound path (join a b) → AreSound path a × AreSound path b
@@ -90,19 +90,16 @@ module _ {H : Type 0} where
   pub sound-whole : (context : Context H) (old new : Tree H) → IsWellFormed (plug context old) → IsSound (path_to context) new → IsWellFormed (plug context new)
   sound-whole = sound-exchanged []
 
--- the parts of a list of different members are such lists, and have no member in common
-all-left : {A : Type 0} (Q : A → Type 0) (xs ys : List A) → All Q (xs ++ ys) → All Q xs
-all-left Q xs ys all = λ i d inside. subst Q (get_or-append xs ys d i inside) (all i d (omega (arith, inside, length-append xs ys)))
-
 pub the-one : {A : Type 0} (x q : A) → Contains (x ∷ []) q → x ≡ q
 the-one x q (zero, inside, is) = is
 the-one x q (suc k, inside, is) = absurd (omega (arith, inside))
 
+-- the parts of a list of different members are such lists, and have no member in common
 pub AreDistinct-split : {A : Type 0} (xs ys : List A) → AreDistinct (xs ++ ys) → AreDistinct xs × AreDistinct ys × ((q : A) → Contains xs q → Contains ys q → ⊥)
 AreDistinct-split [] ys distinct = (tt, distinct, λ q (k, inside, is) other. omega (arith, inside))
 AreDistinct-split (x ∷ xs) ys distinct =
     let rest = AreDistinct-split xs ys distinct.1 in (
-      (all-left (λ other. other ≢ x) xs ys distinct.0, rest.0),
+      (All-left (λ other. other ≢ x) xs ys distinct.0, rest.0),
       rest.1,
       λ q first second. elim (Contains-append_cases (x ∷ []) xs q first) [
         | inl here ↦ All-contains (λ other. other ≢ x) (xs ++ ys) q distinct.0 (Contains-append_right xs ys q second) (sym (the-one x q here))

@@ -7,6 +7,7 @@ use Rattle.art_arena.specs.Trees.{Tree, Leaf, Inner, Branches, NoBranch, Branch,
 use Rattle.art_tree.specs.Plan.{join, one_branch, steps_of, branch_steps, Spans, BranchesSpan, text_at}
 use Rattle.art_tree.specs.declared.loading.steps.Step.{Step}
 use Rattle.art_tree.specs.declared.loading.steps.Step.TheVariants as step
+use Rattle.art_tree.proofs.FrontLemmas.{front-shorter}
 
 -- the last trees are the branches of a node with this part of the text as its prefix
 pub record Takes {H : Type 0} (text : List ℕ) (stack : Branches H) (start end children : ℕ) : Type 0 where
@@ -35,9 +36,6 @@ join-none (Branch byte tree others) = ap (Branch byte tree) (join-none others)
 pub join_assoc : {H : Type 0} (a b c : Branches H) → join (join a b) c ≡ join a (join b c)
 join_assoc NoBranch b c = refl
 join_assoc (Branch byte tree others) b c = ap (Branch byte tree) (join_assoc others b c)
-
-front-shorter : (a b text : List ℕ) → IsFront (a ++ b) text → IsFront a text
-front-shorter a b text (rest, is) = (b ++ rest, is ∙ append_assoc a b rest)
 
 -- the last text of a tree, which begins with its path
 record Last (texts : List (List ℕ)) (path : List ℕ) (low high : ℕ) : Type 0 where

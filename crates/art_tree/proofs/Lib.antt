@@ -28,6 +28,7 @@ mod Gaps
 mod AddingChild
 mod AddingFork
 mod EntryLemmas
+mod FrontLemmas
 mod Cutting
 mod WayContexts
 mod DroppingLemmas

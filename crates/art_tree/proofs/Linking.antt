@@ -7,7 +7,6 @@ use Rattle.std.proofs.lemmas.List.Elements.{Contains-append_left, Contains-push_
 use Rattle.std.proofs.lemmas.Option.{slice_get_within, slice_get-get_or}
 use Rattle.std.specs.declared.cmp.Ordering.TheVariants.{Less}
 use Rattle.art_bytes.specs.Text.{text_order}
-use Rattle.art_header.specs.declared.node_type.NodeType.{NodeType}
 use Rattle.art_header.specs.declared.node_type.NodeType.TheVariants as kinds
 use Rattle.art_nodes.specs.Inner as nodes
 use Rattle.art_nodes.specs.Leaf.{leaf_key, leaf_value, previous_key, next_key}
@@ -15,28 +14,18 @@ use Rattle.art_nodes.specs.Pointers.{node_kind, opaque_key, slab_key}
 use Rattle.art_nodes.specs.declared.pointers.NodePtr.{NodePtr}
 use Rattle.art_nodes.specs.declared.pointers.OpaqueNodePtr.{OpaqueNodePtr}
 use Rattle.art_nodes.specs.declared.leaf_node.LeafNode.{LeafNode}
-use Rattle.art_arena.specs.Arena.{ArenaOf, Held, HeldInner, HeldLeaf, Nothing, held, held_inner, held_leaf, held_under, pointer_to, Changes}
+use Rattle.art_arena.specs.Arena.{ArenaOf, Held, HeldInner, HeldLeaf, Nothing, held, held_leaf, pointer_to, Changes}
 use Rattle.art_arena.specs.Links.{HoldsLeaf, IsKnit, IsUnlinked, SameButLinks, StandsBetween, Spells, SpellsAfter, leaf_at, next_at, text_at}
 use Rattle.art_tree.specs.Plan.{texts_of}
 use Rattle.art_tree.specs.Plan as plan
 use Rattle.art_tree.specs.Raising.{leaf_texts}
 use Rattle.art_tree.specs.Search.{leaf_pointer}
 use Rattle.art_tree.specs.Loading.{HoldEntries, AreLinked, Adds}
-use Rattle.art_tree.proofs.Rising.{adds-more, leaf-of, text-held, take-get}
+use Rattle.art_tree.proofs.FrontLemmas.{take-get}
+use Rattle.art_tree.proofs.Rising.{adds-more, leaf-of, text-held}
+use Rattle.art_tree.proofs.WayLemmas.{leaf-kind}
 
 module _ {K V : Type 0} {P : ℕ} where
-  no-leaf : (o : Option (nodes.Inner (OpaqueNodePtr K V P))) (leaf : LeafNode K V P) → held_inner {H = OpaqueNodePtr K V P} {L = LeafNode K V P} o ≡ HeldLeaf leaf → ⊥
-  no-leaf None leaf e = cc
-  no-leaf (Some node) leaf e = cc
-
-  -- only leaves stand where a leaf is held
-  leaf-kind : (arena : ArenaOf K V P) (kind : NodeType) (key : ℕ) (leaf : LeafNode K V P) → held_under arena kind key ≡ HeldLeaf leaf → kind ≡ kinds.Leaf
-  leaf-kind arena kinds.Node4 key leaf e = absurd (no-leaf _ leaf e)
-  leaf-kind arena kinds.Node16 key leaf e = absurd (no-leaf _ leaf e)
-  leaf-kind arena kinds.Node48 key leaf e = absurd (no-leaf _ leaf e)
-  leaf-kind arena kinds.Node256 key leaf e = absurd (no-leaf _ leaf e)
-  leaf-kind arena kinds.Leaf key leaf e = refl
-
   leaf-place : (arena : ArenaOf K V P) (pointer : OpaqueNodePtr K V P) (leaf : LeafNode K V P) → held arena pointer ≡ HeldLeaf leaf → pointer_to kinds.Leaf (opaque_key pointer) ≡ pointer
   leaf-place arena pointer leaf e = let kind = leaf-kind arena (node_kind pointer) (opaque_key pointer) leaf e in λ i. record { node_type = (sym kind) i; key = opaque_key pointer; leaf = record {} }
 

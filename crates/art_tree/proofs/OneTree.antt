@@ -8,7 +8,7 @@ use Rattle.art_bytes.specs.Text.{IsFront}
 use Rattle.art_nodes.specs.ChildMap.{IsAscendingFrom, key_bytes}
 use Rattle.art_arena.specs.SharedFront.{IsSharedFront}
 use Rattle.art_arena.specs.Trees.{Tree, Leaf, Inner, Branches, NoBranch, Branch, leaves, branch_leaves, texts, branch_texts, branch_roots, IsSound, AreSound, SameButPointers, SameBranches}
-use Rattle.art_tree.proofs.ScanLemmas.{front-shorter}
+use Rattle.art_tree.proofs.FrontLemmas.{front-shorter}
 
 -- where members of one sort come before those of another, a list has one such division
 one-division : {X : Type 0} (A B : X → Type 0) → ((x : X) → A x → B x → ⊥) → (xs ys us vs : List X) → xs ++ ys ≡ us ++ vs → All A xs → All B ys → All A us → All B vs → (xs ≡ us) × (ys ≡ vs)

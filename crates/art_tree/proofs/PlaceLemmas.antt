@@ -22,6 +22,7 @@ use Rattle.art_tree.specs.Plan.{join}
 use Rattle.art_tree.specs.declared.insert.place.Spot.{Spot}
 use Rattle.art_tree.proofs.DescentLemmas.{slice_get-drop}
 use Rattle.art_tree.proofs.Exchanging.{leaves-plug, sound-part, stands-part}
+use Rattle.art_tree.proofs.FrontLemmas.{front-on}
 
 -- two texts are alike in so many bytes, and part there unless one ends
 record AreAlike (a b : List ℕ) (n : ℕ) : Type 0 where
@@ -102,10 +103,6 @@ front-byte : (front text : List ℕ) (n byte : ℕ) → length front ≡ n → I
 front-byte front text n byte long (rest, is) at =
     let head = head-is rest byte (sym (at-seam front rest n long) ∙ ap (λ t. slice_get t n) (sym is) ∙ at) in
     (head.0, is ∙ ap (λ z. front ++ z) head.1 ∙ sym (append_assoc front (byte ∷ []) head.0))
-
--- what begins a front of a text begins the text
-front-on : (a b c : List ℕ) → IsFront a b → IsFront b c → IsFront a c
-front-on a b c (r, b_is) (s, c_is) = (r ++ s, c_is ∙ ap (λ z. z ++ s) b_is ∙ append_assoc a r s)
 
 -- a text that is no longer than the front it shares with another begins the other
 whole-front : (front rest text other more : List ℕ) (n : ℕ) → text ≡ front ++ rest → other ≡ front ++ more → length front ≡ n → length text ≤ n → IsFront text other

@@ -3,7 +3,7 @@ use Rattle.std.proofs.Common.{◌≡◌, ◌≢◌, ◌⊎◌, ◌∙◌, ℕ, z
 use Rattle.std.specs.Option.{option_map_or}
 use Rattle.std.specs.List.{Contains}
 use Rattle.std.proofs.lemmas.Bool.{cases_lt, cases_eq, and_from, le-leb, lt-leb}
-use Rattle.std.proofs.lemmas.List.{length-map, append-nil, take_at, drop_at, drop_more, take_more, take_rest}
+use Rattle.std.proofs.lemmas.List.{length-map, append-nil, take_at, drop_at, drop_more, take_rest}
 use Rattle.std.proofs.lemmas.Option.{slice_get_within, get_or_from_slice_get}
 use Rattle.std.proofs.lemmas.List.Elements.{Contains-append_left, Contains-append_right, Contains-append_cases, Contains-push_cases, Contains-push}
 use Rattle.art_header.specs.NodeType.{kind_for, least_children, most_children}
@@ -28,6 +28,7 @@ use Rattle.art_tree.specs.Search.{leaf_pointer}
 use Rattle.art_tree.specs.declared.loading.steps.Step.{Step}
 use Rattle.art_tree.specs.declared.loading.steps.Step.TheVariants as step
 use Rattle.art_tree.proofs.BranchLemmas.{roots-join, leaves-join, places-join}
+use Rattle.art_tree.proofs.FrontLemmas.{take-get}
 use Rattle.art_tree.proofs.Leading.{Leads, Takes}
 
 abbrev is_needed : NodeType → ℕ → Bool
@@ -188,9 +189,6 @@ last-part xs pending n k same is = take_rest xs n ∙ ap (drop n) same ∙ ap (�
 
 pub some-same : {A : Type 0} (a b : A) → Some a ≡ Some b → a ≡ b
 some-same a b e = cc
-
-pub take-get : {A : Type 0} (xs : List A) (i : ℕ) (x : A) → slice_get xs i ≡ Some x → take (i + 1) xs ≡ take i xs ++ x ∷ []
-take-get xs i x e = take_more xs i x (slice_get_within xs i x e) ∙ ap (λ y. take i xs ++ y ∷ []) (get_or_from_slice_get xs i x x e)
 
 drop-get : {A : Type 0} (xs : List A) (i : ℕ) (x : A) → slice_get xs i ≡ Some x → drop i xs ≡ x ∷ drop (i + 1) xs
 drop-get xs i x e = drop_more xs i x (slice_get_within xs i x e) ∙ ap (λ y. y ∷ drop (i + 1) xs) (get_or_from_slice_get xs i x x e)

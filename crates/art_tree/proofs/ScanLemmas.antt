@@ -1,5 +1,5 @@
 -- A search goes to the one branch that can have the key.
-use Rattle.std.proofs.Common.{◌≡◌, ◌∙◌, ℕ, suc, ◌+◌, ◌<◌, Bool, true, false, List, [], ◌∷◌, ◌++◌, length, filter, drop, Some, None, slice_get, refl, sym, ap, subst, inl, inr, arith, nat_eq, append_assoc}
+use Rattle.std.proofs.Common.{◌≡◌, ◌∙◌, ℕ, suc, ◌+◌, ◌<◌, Bool, true, false, List, [], ◌∷◌, ◌++◌, length, filter, drop, Some, None, slice_get, refl, sym, ap, subst, inl, inr, arith, nat_eq}
 use Rattle.std.specs.Cmp.Lexicographic.{pointwise}
 use Rattle.std.proofs.lemmas.Bool.Decides.{eqb_tells}
 use Rattle.std.proofs.lemmas.Bool.{eq-eqb}
@@ -10,6 +10,7 @@ use Rattle.art_nodes.specs.ChildMap.{IsAscendingFrom, key_bytes, child_at}
 use Rattle.art_arena.specs.Trees.{Tree, Leaf, Inner, Branches, NoBranch, Branch, branch_leaves, branch_roots, root_of, IsSound, AreSound}
 use Rattle.art_tree.specs.Search.{scan, met, met_below, goes_to, IsWay, IsWayUnder}
 use Rattle.art_tree.proofs.DescentLemmas.{goes-byte}
+use Rattle.art_tree.proofs.FrontLemmas.{front-shorter}
 
 -- a text is another or not, as the test says
 pub same-text : (a b : List ℕ) → pointwise nat_eq a b ≡ true → a ≡ b
@@ -39,9 +40,6 @@ other-text a b never = by_test (pointwise nat_eq a b) refl
 pub front-byte : (q key : List ℕ) (c b : ℕ) → IsFront (q ++ c ∷ []) key → slice_get key (length q) ≡ Some b → c ≡ b
 front-byte [] key c b (rest, is) at = let e : slice_get (c ∷ rest) 0 ≡ Some b = subst (λ k. slice_get k 0 ≡ Some b) is at in cc
 front-byte (x ∷ q) key c b (rest, is) at = front-byte q ((q ++ c ∷ []) ++ rest) c b (rest, refl) (subst (λ k. slice_get k (length (x ∷ q)) ≡ Some b) is at)
-
-pub front-shorter : (a b key : List ℕ) → IsFront (a ++ b) key → IsFront a key
-front-shorter a b key (rest, is) = (b ++ rest, is ∙ append_assoc a b rest)
 
 module _ {H : Type 0} (key : List ℕ) where
   mutual

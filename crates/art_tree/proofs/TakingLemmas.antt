@@ -2,7 +2,7 @@
 use Rattle.std.proofs.Common.{◌≡◌, ◌≢◌, ◌⊎◌, ◌∙◌, ℕ, zero, suc, ◌+◌, ◌-◌, ◌<◌, ◌≤◌, ◌^◌, true, ◌&&◌, nat_lt, List, [], ◌∷◌, ◌++◌, length, length-append, map, filter, take, drop, slice_get, AllPairs, Contains, Some, None, refl, sym, ap, subst, inl, inr, arith, append_assoc, append-nil}
 use Rattle.std.proofs.lemmas.Bool.{cases_lt, cases_eq, eq-eqb, le-ltb, lt-ltb, ne_eqb}
 use Rattle.std.proofs.Math.Bool.{and-true}
-use Rattle.std.proofs.lemmas.List.{drop_at, drop-drop, take-append-drop, length-take-le}
+use Rattle.std.proofs.lemmas.List.{drop_at, drop-drop, length-take-le}
 use Rattle.std.proofs.lemmas.List.Elements.{Contains-append_left, Contains-append_right, Contains-append_cases, filter_agree}
 use Rattle.std.proofs.lemmas.Option.{slice_get_within}
 use Rattle.std.specs.declared.cmp.Ordering.TheVariants.{Less}
@@ -23,7 +23,8 @@ use Rattle.art_tree.specs.Taking.{HasPlace, without_front, with_leaf, branches_l
 use Rattle.art_tree.proofs.BranchLemmas.{roots-join, leaves-join, places-join, sound-join}
 use Rattle.art_tree.proofs.DictionaryLemmas.{after-first}
 use Rattle.art_tree.proofs.Exchanging.{sound-split, none-below, all-above}
-use Rattle.art_tree.proofs.Rising.{snug-join, take-get, kind-4, kind-16, kind-48, kind-256}
+use Rattle.art_tree.proofs.FrontLemmas.{key-on}
+use Rattle.art_tree.proofs.Rising.{snug-join, kind-4, kind-16, kind-48, kind-256}
 
 -- a byte without a branch parts the branches into those of lesser bytes and those of greater ones
 record IsParted {H : Type 0} (low : ℕ) (branches : Branches H) (byte : ℕ) : Type 0 where
@@ -167,10 +168,6 @@ path-up-to path key index (rest, is) past =
     ∙ sym (take-past path rest (index - length path) index (omega (arith, past)))
     ∙ ap (take index) (sym is)
 
--- a key begins with its bytes before an index and the one there
-goes-on : (key : List ℕ) (index byte : ℕ) → slice_get key index ≡ Some byte → IsFront (take index key ++ byte ∷ []) key
-goes-on key index byte is = (drop (index + 1) key, sym (take-append-drop (index + 1) key) ∙ ap (λ front. front ++ drop (index + 1) key) (take-get key index byte is))
-
 module _ {H : Type 0} where
   -- without the front of its prefix a tree is sound under a longer path
   trimmed-sound : (path front : List ℕ) (len : ℕ) (part : Tree H) → IsSound path part → IsFront front (reach path part) → length path + len ≡ length front → IsSound front (without_front len part)
@@ -222,7 +219,7 @@ module _ {H : Type 0} where
           some = subst (λ all. 1 ≤ length (branch_roots all)) (sym one) (omega arith);
           ascending = λ child. sides-ascend byte node_byte trimmed child fits node_fits differ;
         };
-        leads = subst (λ front. IsFront (front ++ byte ∷ []) key) (sym upto) (goes-on key index byte at);
+        leads = subst (λ front. IsFront (front ++ byte ∷ []) key) (sym upto) (key-on key index byte at);
         written = sides-written byte node_byte (index + 1 - length path) part;
         fits = λ node prefix branches is. trimmed-fits path (take index key ++ node_byte ∷ []) (index + 1 - length path) node prefix branches (subst (λ tree. IsFront (take index key ++ node_byte ∷ []) (reach path tree)) is shares) deep;
       }
