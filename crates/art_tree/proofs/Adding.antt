@@ -27,7 +27,7 @@ use Rattle.art_tree.specs.Taking.{HasPlace, with_leaf}
 use Rattle.art_tree.proofs.BranchLemmas.{roots-join}
 use Rattle.art_tree.proofs.DictionaryLemmas.{AreApart, held-entry, leaf-held-in}
 use Rattle.art_tree.proofs.Exchanging.{the-one, in-part, around, stands-part, leaves-plug}
-use Rattle.art_tree.proofs.Growing.{alone-grown, entries-but, entries-same, leaf-stays, leaf-was, root-under, texts-part}
+use Rattle.art_tree.proofs.Growing.{alone-grown, entries-but, entries-stay, leaf-stays, leaf-was, root-under, texts-part}
 use Rattle.art_tree.proofs.OnlyWayLemmas.{All-left, All-right}
 use Rattle.art_tree.proofs.Rising.{cases_pointer, leaf-of, stand-join}
 use Rattle.art_tree.proofs.TakingLemmas.{in-taken, leaves-taken, taken-sound}
@@ -346,8 +346,7 @@ module _ {K V : Type 0} {P : ℕ} (text : K → List ℕ) (old linked new : Aren
               }
 
 -- where the first step only made room, what is entered after it is entered after all
-pub entered-from : {K V : Type 0} {P : ℕ} (text : K → List ℕ) (old reserved last : ArenaOf K V P) (key : K) (value : V) (root : OpaqueNodePtr K V P) (tree : Tree (OpaqueNodePtr K V P)) → IsAlone text old root tree → IsAlone text reserved root tree → AreApart (texts tree) → SameNodes old reserved
+pub entered-from : {K V : Type 0} {P : ℕ} (text : K → List ℕ) (old reserved last : ArenaOf K V P) (key : K) (value : V) (root : OpaqueNodePtr K V P) (tree : Tree (OpaqueNodePtr K V P)) → IsAlone text old root tree → AreApart (texts tree) → SameNodes old reserved
     → IsEntered text reserved last key value → IsEntered text old last key value
-entered-from text old reserved last key value root tree alone again apart same entered =
-    let keeps : (p : OpaqueNodePtr _ _ _) → KeepsAt old reserved p = λ p. record { inner = λ node is. same p ∙ is; leaf = λ l is. (l, same p ∙ is, refl, refl) } in
-    record { entry = entered.entry; others = λ x differ. entered.others x differ ∙ entries-same text old reserved root root tree tree alone again apart apart (λ p y inside. (inside, keeps p)) (λ p y inside. (inside, keeps p)) x }
+entered-from text old reserved last key value root tree alone apart same entered =
+    record { entry = entered.entry; others = λ x differ. entered.others x differ ∙ entries-stay text old reserved same root tree alone apart x }

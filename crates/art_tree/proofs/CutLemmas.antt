@@ -1,5 +1,5 @@
 -- Inner nodes that take a child less, or the prefix of the node above.
-use Rattle.std.proofs.Common.{◌≡◌, ◌≢◌, ◌∙◌, ℕ, ◌+◌, ◌-◌, ◌<◌, ◌≤◌, min, List, [], ◌∷◌, ◌++◌, length, length-append, take, None, Result, Ok, Err, OnErr, refl, sym, ap, subst, inl, inr, arith, append_assoc, ◌==◌, ◌↔◌, IsTrue}
+use Rattle.std.proofs.Common.{◌≡◌, ◌≢◌, ◌∙◌, ℕ, ◌+◌, ◌-◌, ◌<◌, ◌≤◌, min, List, [], ◌∷◌, ◌++◌, length, length-append, take, None, refl, sym, ap, subst, inl, inr, arith, append_assoc, ◌==◌, ◌↔◌, IsTrue}
 use Rattle.std.proofs.lemmas.Bool.{cases_eq, cases_lt, eq-eqb, eqb-true, ne_eqb}
 use Rattle.std.proofs.Math.Seq.{take-append-add}
 use Rattle.std.proofs.lemmas.List.{take_all, take-take, take-append-le, length-take-le}
@@ -16,11 +16,6 @@ use Rattle.art_tree.specs.Cuts.{HasOneLess, HasRoomToShrink, IsReplaced}
 use Rattle.art_tree.proofs.HangLemmas.{inner-held}
 use Rattle.art_tree.proofs.NodeLemmas.{one-inner}
 use Rattle.art_tree.proofs.WayLemmas.{leaf-kind}
-
--- what always holds, holds on an error
-pub on-err : {T E : Type 0} {Q : Type 0} (answer : Result T E) → Q → OnErr answer Q
-on-err (Ok value) q = tt
-on-err (Err error) q = q
 
 -- what is at most a number and is not it is less
 pub less-where-differ : (least count : ℕ) → least ≤ count → count ≢ least → least < count

@@ -22,7 +22,7 @@ use Rattle.art_tree.proofs.Adding.{HangsAt, can-hang-at, hangs-at, held-case, he
 use Rattle.art_tree.proofs.DictionaryLemmas.{AreApart, leaf-held-in}
 use Rattle.art_tree.proofs.Exchanging.{in-part, leaves-plug}
 use Rattle.art_tree.proofs.Gaps.{keys_of, keys-append}
-use Rattle.art_tree.proofs.Growing.{alone-grown, entries-but, entries-same, leaf-stays, leaf-was, texts-part}
+use Rattle.art_tree.proofs.Growing.{alone-grown, entries-but, entries-stay, leaf-stays, leaf-was, texts-part}
 use Rattle.art_tree.proofs.InsertLemmas.{one-leaf}
 use Rattle.art_tree.proofs.OnlyWayLemmas.{All-left, All-right}
 use Rattle.art_tree.proofs.Rising.{cases_pointer, leaf-of}
@@ -206,9 +206,8 @@ module _ {K V : Type 0} {P : ℕ} (text : K → List ℕ) (old cut new : ArenaOf
               (λ p y inside differ. (leaf-was left right leaf x (plug context now) (plug context part) whole-is whole-was p y inside differ, keeps p y inside differ))
 
 -- where the first step only made room, what is removed after it is removed after all
-pub removed-from : {K V : Type 0} {P : ℕ} (text : K → List ℕ) (old reserved last : ArenaOf K V P) (x : List ℕ) (root_now : OpaqueNodePtr K V P) (entry : K × V) (root : OpaqueNodePtr K V P) (tree : Tree (OpaqueNodePtr K V P)) → IsAlone text old root tree → IsAlone text reserved root tree → AreApart (texts tree) → SameNodes old reserved
+pub removed-from : {K V : Type 0} {P : ℕ} (text : K → List ℕ) (old reserved last : ArenaOf K V P) (x : List ℕ) (root_now : OpaqueNodePtr K V P) (entry : K × V) (root : OpaqueNodePtr K V P) (tree : Tree (OpaqueNodePtr K V P)) → IsAlone text old root tree → AreApart (texts tree) → SameNodes old reserved
     → IsRemoved text reserved last x root_now entry → IsRemoved text old last x root_now entry
-removed-from text old reserved last x root_now entry root tree alone again apart same removed =
-    let keeps : (p : OpaqueNodePtr _ _ _) → KeepsAt old reserved p = λ p. record { inner = λ node is. same p ∙ is; leaf = λ l is. (l, same p ∙ is, refl, refl) } in
-    let entries = entries-same text old reserved root root tree tree alone again apart apart (λ p y inside. (inside, keeps p)) (λ p y inside. (inside, keeps p)) in
+removed-from text old reserved last x root_now entry root tree alone apart same removed =
+    let entries = entries-stay text old reserved same root tree alone apart in
     record { art = removed.art; left = record { gone = removed.left.gone; others = λ y differ. removed.left.others y differ ∙ entries y }; was = sym (entries x) ∙ removed.was }

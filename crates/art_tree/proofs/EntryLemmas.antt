@@ -1,5 +1,5 @@
 -- What a text that is to be inserted has to do with the entries that are there.
-use Rattle.std.proofs.Common.{◌≡◌, ◌≢◌, ◌⊎◌, ◌∙◌, ℕ, suc, ◌+◌, ◌<◌, ◌^◌, List, [], ◌∷◌, ◌++◌, map, length, take, Contains, Option, Some, None, Result, Ok, Err, IfOk, IfErr, OnOk, OnErr, refl, sym, ap, subst, inl, inr, arith, append-nil}
+use Rattle.std.proofs.Common.{◌≡◌, ◌≢◌, ◌⊎◌, ◌∙◌, ℕ, suc, ◌<◌, ◌^◌, List, [], ◌∷◌, ◌++◌, map, length, take, Contains, Option, Some, None, Result, Ok, Err, IfOk, IfErr, OnOk, OnErr, refl, sym, ap, subst, inl, inr, arith, append-nil}
 use Rattle.std.proofs.lemmas.Bool.{cases_eq, eq-eqb, ne_eqb}
 use Rattle.std.proofs.lemmas.List.Elements.{Contains-append_right, Contains-append_cases}
 use Rattle.art_bytes.specs.Text.{IsFront}
@@ -8,7 +8,7 @@ use Rattle.art_nodes.specs.declared.pointers.OpaqueNodePtr.{OpaqueNodePtr}
 use Rattle.art_arena.specs.Arena.{ArenaOf, Nothing, held, SameNodes}
 use Rattle.art_arena.specs.Trees.{Tree, Leaf, Inner, Branches, NoBranch, Branch, branch_roots, root_of, leaves, branch_leaves, texts, IsSound, AreSound, IsWellFormed}
 use Rattle.art_tree.specs.Art.{IsAlone, IsArt}
-use Rattle.art_tree.specs.Contexts.{Context, plug, path_to, leaves_before, leaves_after, KeepsAt}
+use Rattle.art_tree.specs.Contexts.{Context, plug, path_to, leaves_before, leaves_after}
 use Rattle.art_tree.specs.Dictionary.{entry_at, HasEntry, IsProperFront, Clashes}
 use Rattle.art_tree.specs.Inserting.{ClashesIn, IsEntered, IsRefused, MayEnter, SameEntries}
 use Rattle.art_tree.specs.Places.{IsSpot, LacksChild, Parts, reach}
@@ -19,7 +19,6 @@ use Rattle.art_tree.specs.declared.insert.place.Spot.{Spot}
 use Rattle.art_tree.proofs.DictionaryLemmas.{AreApart, after-first, empty-entry, held-entry, leaf-held-in, leaf-of-entry, leaf-with}
 use Rattle.art_tree.proofs.Exchanging.{the-one, leaves-plug, sound-part, sound-whole}
 use Rattle.art_tree.proofs.FrontLemmas.{front-shorter, front-on, key-on}
-use Rattle.art_tree.proofs.Growing.{alone-same, entries-same}
 
 -- neither text begins the other
 abbrev pub IsApart : List ℕ → List ℕ → Type 0
@@ -186,17 +185,10 @@ module _ {K V : Type 0} {P : ℕ} (text : K → List ℕ) (arena : ArenaOf K V P
             let leaf = leaf-of-entry text arena root tree alone key entry is in
             absurd ((apart leaf.pointer key leaf.inside).0 ([], sym (append-nil key)))
 
--- where every pointer holds what it held, every text has the entry that it had
+-- an arena that stays without nodes has no entry before and after
 module _ {K V : Type 0} {P : ℕ} (text : K → List ℕ) (old new : ArenaOf K V P) (same : SameNodes old new) where
   pub empty-stays : ((pointer : OpaqueNodePtr K V P) → held old pointer ≡ Nothing) → SameEntries text old new
   empty-stays nothing x = empty-entry text new (λ p. same p ∙ nothing p) x ∙ sym (empty-entry text old nothing x)
-
-  pub entries-stay : (root : OpaqueNodePtr K V P) (tree : Tree (OpaqueNodePtr K V P)) → IsAlone text old root tree → AreApart (texts tree) → SameEntries text old new
-  entries-stay root tree alone apart =
-      entries-same text old new root root tree tree alone (alone-same text old new same root tree alone) apart apart (λ p x inside. (inside, stays p)) (λ p x inside. (inside, stays p))
-    where
-      stays : (p : OpaqueNodePtr K V P) → KeepsAt old new p
-      stays p = record { inner = λ node is. same p ∙ is; leaf = λ leaf is. (leaf, same p ∙ is, refl, refl) }
 
 -- what an insert of a text without an entry answers
 module _ {K V : Type 0} {P : ℕ} (text : K → List ℕ) (old new : ArenaOf K V P) (key : K) (value : V) where

@@ -4,12 +4,13 @@ use Rattle.std.proofs.lemmas.List.{map-append}
 use Rattle.std.proofs.lemmas.List.Elements.{All-append, Contains-append_left, Contains-append_right, Contains-append_cases}
 use Rattle.art_nodes.specs.Pointers.{opaque_key}
 use Rattle.art_nodes.specs.declared.pointers.OpaqueNodePtr.{OpaqueNodePtr}
-use Rattle.art_arena.specs.Arena.{ArenaOf, Nothing, held}
+use Rattle.art_arena.specs.Arena.{ArenaOf, Nothing, held, SameNodes}
 use Rattle.art_arena.specs.Links.{AreDistinct, Spells}
 use Rattle.art_arena.specs.Trees.{Tree, Inner, Branches, Branch, leaves, texts, places, branch_places, root_of, IsSound}
 use Rattle.art_tree.specs.Art.{IsAlone, IsArt}
 use Rattle.art_tree.specs.Contexts.{Context, Whole, Under, plug, path_to, leaves_before, leaves_after, KeepsAt, IsExchanged}
 use Rattle.art_tree.specs.Dictionary.{entry_at}
+use Rattle.art_tree.specs.Inserting.{SameEntries}
 use Rattle.art_tree.specs.Loading.{IsSnug, leaf_pointers}
 use Rattle.art_tree.specs.Plan.{join}
 use Rattle.art_tree.proofs.DictionaryLemmas.{AreApart, leaf-held-in, leaf-of-entry, held-entry}
@@ -164,3 +165,10 @@ module _ {K V : Type 0} {P : ℕ} (text : K → List ℕ) (old new : ArenaOf K V
     pub entries-but : (but : List ℕ) → ((p : OpaqueNodePtr K V P) (x : List ℕ) → Contains (leaves now) (p, x) → x ≢ but → Contains (leaves tree) (p, x) × KeepsAt old new p)
         → ((p : OpaqueNodePtr K V P) (x : List ℕ) → Contains (leaves tree) (p, x) → x ≢ but → Contains (leaves now) (p, x) × KeepsAt old new p) → (x : List ℕ) → x ≢ but → entry_at text new x ≡ entry_at text old x
     entries-but but back forth x differs = same-entry x (λ p inside. back p x inside differs) (λ p inside. forth p x inside differs)
+
+  -- where every pointer holds what it held, every text has the entry that it had
+  pub entries-stay : SameNodes old new → (root : OpaqueNodePtr K V P) (tree : Tree (OpaqueNodePtr K V P)) → IsAlone text old root tree → AreApart (texts tree) → SameEntries text old new
+  entries-stay same root tree alone apart = entries-same root root tree tree alone (alone-same same root tree alone) apart apart stays stays
+    where
+      stays : (p : OpaqueNodePtr K V P) (x : List ℕ) → Contains (leaves tree) (p, x) → Contains (leaves tree) (p, x) × KeepsAt old new p
+      stays p x inside = (inside, keeps-same same p)

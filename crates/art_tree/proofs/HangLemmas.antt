@@ -65,6 +65,7 @@ module _ {K V : Type 0} {P : ℕ} where
             there-already (child_at own.children byte) _ (λ none. some (ap (child_at node.children) (ap (λ pair. pair.1) one) ∙ ap (λ n. child_at n.children byte) same ∙ none));
       }
 
+-- what always holds, holds on an error
 pub always-err : {T E : Type 0} (r : Result T E) (Q : Type 0) → Q → OnErr r Q
 always-err (Ok x) Q holds = tt
 always-err (Err e) Q holds = holds

@@ -1,5 +1,5 @@
 -- A leaf that a search finds, and that is taken out of its list and out of its arena.
-use Rattle.std.proofs.Common.{◌≡◌, ◌≢◌, ◌∙◌, ℕ, ◌≤◌, List, [], ◌∷◌, ◌++◌, All, Contains, Option, Some, None, Result, Ok, Err, OnErr, IfSome, refl, sym, ap, subst, inl, inr, arith}
+use Rattle.std.proofs.Common.{◌≡◌, ◌≢◌, ◌∙◌, ℕ, ◌≤◌, List, [], ◌∷◌, ◌++◌, All, Contains, Option, Some, None, IfSome, refl, sym, ap, subst, inl, inr, arith}
 use Rattle.std.proofs.lemmas.List.Elements.{All-cons, All-contains, All-head, All-tail, Contains-append_right}
 use Rattle.std.proofs.lemmas.Option.{same_Some}
 use Rattle.art_header.specs.declared.node_type.NodeType.{NodeType}
@@ -161,11 +161,6 @@ module _ {K V : Type 0} {P : ℕ} (tree : Tree (OpaqueNodePtr K V P)) (pointer :
 
   pub hangs-normal : (grandparent : OpaqueNodePtr K V P) (parent_byte : ℕ) (parent : OpaqueNodePtr K V P) (byte : ℕ) → path ≡ Normal grandparent parent_byte parent byte → above ≡ (Some (grandparent, parent_byte), parent, byte) → HangsUnder tree pointer above.1 above.2 above.0
   hangs-normal grandparent parent_byte parent byte is same = subst (λ a. HangsUnder tree pointer a.1 a.2 a.0) (sym same) (leaf-normal tree pointer grandparent parent_byte parent byte (subst (IsPathTo tree pointer) is way))
-
--- what holds anyway
-pub always-err : {T E : Type 0} (r : Result T E) (Q : Type 0) → Q → OnErr r Q
-always-err (Ok x) Q holds = tt
-always-err (Err e) Q holds = holds
 
 pub if-some : {X : Type 0} (o : Option X) (Q : X → Type 0) (x : X) → o ≡ Some x → IfSome o Q → Q x
 if-some None Q x is holds = absurd (cc)

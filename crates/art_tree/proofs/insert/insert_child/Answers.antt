@@ -99,7 +99,7 @@ returns-clause-entered g c =
     let linked = c.link_leaf-leaf.new.arena in
     let alone = alone-same text old reserved c.reserve_for_child.ensures.nodes_kept c.args.root tree alone0 in
     let beside = c.leaf_beside-end.ensures (place-there text reserved c.args.root tree c.args.spot c.args.byte c.args.key c.args.value alone lacks c.ranges.byte.fits) in
-    entered-from text old reserved c.hang.new.arena c.args.key c.args.value c.args.root tree alone0 alone (c.no_text_begins_another.ensures [] tree alone0.is_tree.sound) c.reserve_for_child.ensures.nodes_kept
+    entered-from text old reserved c.hang.new.arena c.args.key c.args.value c.args.root tree alone0 (c.no_text_begins_another.ensures [] tree alone0.is_tree.sound) c.reserve_for_child.ensures.nodes_kept
     (child-entered text reserved c.args.root tree c.args.spot c.args.byte c.args.key c.args.value alone lacks c.ranges.byte.fits linked (leaf_pointer c.link_leaf-leaf.result) c.link_leaf-leaf.ensures.was_free c.link_leaf-leaf.ensures.others c.add_child-node.new.arena c.add_child-node.result c.link_leaf-leaf.ensures.entry c.each_pointer_is_at_one_place.ensures
     (subst (λ child. ChildAdded linked c.add_child-node.new.arena c.args.spot.node c.args.byte child c.add_child-node.result) c.to_opaque.ensures c.add_child-node.ensures)
     c.hang.new.arena c.hang.result c.hang.ensures c.requires.short c.leaf_beside-end.result.1 (slab_key c.leaf_beside-end.result.0) beside c.link_leaf-leaf.ensures.spelled c.no_text_begins_another.ensures)

@@ -6,7 +6,8 @@ use Rattle.art_tree.specs.Art.{IsArt, IsAlone}
 use Rattle.art_tree.specs.Dictionary.{Clashes}
 use Rattle.art_tree.specs.Places.{LacksChild, Parts}
 use Rattle.art_tree.specs.Search.{leaf_pointer}
-use Rattle.art_tree.proofs.EntryLemmas.{answered, apart-new, child-apart, clash-entry, empty-new, empty-stays, entries-stay, fork-apart, leaf-is-held, no-clash}
+use Rattle.art_tree.proofs.EntryLemmas.{answered, apart-new, child-apart, clash-entry, empty-new, empty-stays, fork-apart, leaf-is-held, no-clash}
+use Rattle.art_tree.proofs.Growing.{entries-stay}
 use Rattle.art_tree.proofs.insert.insert_entry.Goals as goal
 
 pub returns-in_default : goal.returns-in_default

@@ -7,8 +7,9 @@ use Rattle.art_tree.specs.Dropping.{HangsUnder}
 use Rattle.art_tree.specs.Removing.{IsLeft, NeedsSmallerNode}
 use Rattle.art_tree.specs.Search.{IsPathTo, leaf_pointer}
 use Rattle.art_tree.proofs.DictionaryLemmas.{no-entry}
-use Rattle.art_tree.proofs.EntryLemmas.{entries-stay}
-use Rattle.art_tree.proofs.RemovalLemmas.{always-err, hangs-child, hangs-in, hangs-normal, is-found}
+use Rattle.art_tree.proofs.Growing.{entries-stay}
+use Rattle.art_tree.proofs.HangLemmas.{always-err}
+use Rattle.art_tree.proofs.RemovalLemmas.{hangs-child, hangs-in, hangs-normal, is-found}
 use Rattle.art_tree.proofs.WayContexts.{leaf-root}
 use Rattle.art_tree.proofs.remove.remove_entry.Goals.{in-ChildOfRoot, in-Normal}
 use Rattle.art_tree.proofs.remove.remove_entry.Goals as goal

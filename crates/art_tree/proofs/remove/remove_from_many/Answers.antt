@@ -79,7 +79,7 @@ returns-clause-removed g c = λ tree alone0 hangs.
     let many : length place.node.children ≢ 2 = c.requires.many place.node (sym (c.reserve_shrink.ensures.nodes_kept parent) ∙ place.is_held) in
     let new = c.take_child-node.new.arena in
     let removed = many-removed place cut c.take_leaf-entry.ensures.gone c.take_leaf-entry.ensures.others many new c.take_child-node.result (c.each_pointer_is_at_one_place.ensures reserved [] _ place.alone.is_tree.stands place.alone.is_tree.sound) (c.take_child-node.ensures _ (is-cut place cut c.take_leaf-entry.ensures.gone c.take_leaf-entry.ensures.others)) c.hang.new.arena c.hang.result c.hang.ensures c.take_leaf-entry.ensures.spelled c.no_text_begins_another.ensures in
-    removed-from text c.args.arena.now reserved c.hang.new.arena hangs.text c.hang.result c.take_leaf-entry.result c.args.root tree alone0 alone (c.no_text_begins_another.ensures [] tree alone0.is_tree.sound) c.reserve_shrink.ensures.nodes_kept
+    removed-from text c.args.arena.now reserved c.hang.new.arena hangs.text c.hang.result c.take_leaf-entry.result c.args.root tree alone0 (c.no_text_begins_another.ensures [] tree alone0.is_tree.sound) c.reserve_shrink.ensures.nodes_kept
     (subst (IsRemoved text reserved c.hang.new.arena hangs.text c.hang.result) (sym (c.take_leaf-entry.ensures.entry place.own place.own_held)) removed)
 
 pub returns-in_err-reserve_shrink-clause-refused : goal.returns-in_err-reserve_shrink-clause-refused

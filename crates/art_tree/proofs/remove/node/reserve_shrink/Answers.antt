@@ -1,7 +1,7 @@
 use Rattle.std.proofs.Common.{◌∙◌, ◌<◌, sym, ap, arith}
 use Rattle.art_header.specs.NodeType.{least_children}
 use Rattle.art_nodes.specs.Pointers.{node_kind}
-use Rattle.art_tree.proofs.CutLemmas.{on-err}
+use Rattle.art_tree.proofs.HangLemmas.{always-err}
 use Rattle.art_tree.proofs.remove.node.reserve_shrink.Goals as goal
 use Rattle.art_tree.proofs.remove.node.reserve_shrink.Goals.{in-Node16, in-Node48, in-Node256}
 
@@ -12,6 +12,6 @@ returns-clause-refused g c =
       | in-Node48 w ↦ omega (arith, ap least_children (sym c.node_type.ensures ∙ w.in-Node48.is))
       | in-Node256 w ↦ omega (arith, ap least_children (sym c.node_type.ensures ∙ w.in-Node256.is))
     ] in
-    on-err c.reserve.result (λ node is.
+    always-err c.reserve.result _ (λ node is.
     let fewest = (c.has_fewest.ensures node is).0 c.if-not-has_fewest.false in
     (omega (arith, many, fewest), fewest))
