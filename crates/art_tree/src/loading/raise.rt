@@ -1,12 +1,12 @@
 //! From a plan to nodes.
-ghost use Rattle.std.specs.Prelude.{◌≡◌, ◌≢◌, ℕ, ◌<◌, ◌≤◌, ◌-◌, ◌^◌, [], List, length, take, drop, vec_capacity};
+ghost use Rattle.std.specs.Prelude.{◌≡◌, ◌≢◌, ℕ, ◌<◌, ◌≤◌, ◌-◌, ◌^◌, [], length, take, drop, vec_capacity};
 ghost use Rattle.std.specs.Mem.{FitsInMemory};
 ghost use Rattle.art_header.specs.NodeType.{kind_for};
 ghost use Rattle.art_header.specs.declared.node_type.NodeType.TheVariants as NodeType;
 ghost use Rattle.art_nodes.specs.ChildMap.{IsAscending, key_bytes};
 ghost use Rattle.art_nodes.specs.Pointers.{slab_key};
 ghost use Rattle.art_nodes.specs.declared.pointers.OpaqueNodePtr.{OpaqueNodePtr as Pointer};
-ghost use Rattle.art_arena.specs.Arena.{room, HeldInner, Nothing};
+ghost use Rattle.art_arena.specs.Arena.{room, HeldInner};
 ghost use Rattle.art_arena.specs.Links.{HoldsLeaf, text_at};
 ghost use Rattle.art_arena.specs.Trees.{Tree};
 ghost use Rattle.art_tree.specs.Plan as Plan;
@@ -75,7 +75,7 @@ pub(crate) fn place_as<
         (take (end - start) (drop start (text_at K.text arena.old (slab_key leaf)))) children.now)
         result }
 {
-    let text = arena.as_ref(leaf).key_ref().as_bytes();
+    let text = arena.as_key_ref(leaf).as_bytes();
     let node: N = inner_node(&text[start..end], children);
     arena.allocate_node_ptr(node).unwrap().to_opaque()
 }

@@ -1,8 +1,10 @@
 use Rattle.std.proofs.Common.{◌≡◌, ◌∙◌, ◌+◌, ◌-◌, ◌≤◌, take, drop, ap, sym, subst}
 use Rattle.art_nodes.specs.Pointers.{slab_key, node_kind, opaque_key}
 use Rattle.art_arena.specs.Arena.{held, pointer_to, Nothing, HeldInner, Changes, room}
+use Rattle.art_arena.specs.Links.{leaf_at}
 use Rattle.art_tree.specs.Raising.{node_of}
-use Rattle.art_tree.proofs.Rising.{placed, text-held, if-ok, on-ok}
+use Rattle.art_tree.proofs.NodeLemmas.{text-of-key}
+use Rattle.art_tree.proofs.Rising.{placed, if-ok, on-ok}
 use Rattle.art_tree.proofs.loading.raise.place_as.Goals as goal
 
 pub returns : goal.returns
@@ -11,7 +13,7 @@ returns g c =
     let new = c.allocate_node_ptr.new.self in
     let kind = g.N.Node.TYPE in
     let answer = c.allocate_node_ptr.result in
-    let text = c.as_bytes-text.ensures.text ∙ ap g.K.AsBytes.text c.key_ref.ensures ∙ sym (text-held g.K.AsBytes.text old (slab_key c.args.leaf) c.as_ref.result.now c.as_ref.ensures) in
+    let text = c.as_bytes-text.ensures.text ∙ sym (text-of-key g.K.AsBytes.text (leaf_at old (slab_key c.args.leaf)) c.as_key_ref.result.now c.as_key_ref.ensures) in
     let node = c.requires.shown c.inner_node-node.result ∙ ap HeldInner (c.inner_node-node.ensures ∙ ap (λ t. node_of g.row.PREFIX_LEN (take (c.args.end - c.args.start) (drop c.args.start t)) c.args.children.now) text) in
     placed old new kind (slab_key c.unwrap.result) _ c.to_opaque.result (ap node_kind c.to_opaque.ensures) (ap opaque_key c.to_opaque.ensures)
     (if-ok (λ ptr. held old (pointer_to kind (slab_key ptr)) ≡ Nothing) answer c.unwrap.result c.unwrap.ensures c.allocate_node_ptr.ensures.was_free)
