@@ -125,15 +125,15 @@ module _ {K V : Type 0} {P : ℕ} (text : K → List ℕ) (old : ArenaOf K V P) 
         free = free;
         entry = entry;
         stays = stays;
-        top_was = elim more [ inl written ↦ inl (written.same, (node-is, ap (held old) written.same ∙ is-there)) | inr moved ↦ inr moved.was_free ];
+        top_was = elim more [ inl written ↦ inl (written.same, (node-is, ap (held old) written.same ∙ is-there)) | inr moved ↦ inr moved.replaced.was_free ];
         same = λ p other leaf_there. elim more [
           | inl written ↦ written.changes.others p (λ same. other (same ∙ sym written.same))
-          | inr moved ↦ moved.others p other (λ same. (let l = leaf_there same in let wrong : HeldInner node-is ≡ HeldLeaf l.0 = sym is-linked ∙ ap (held linked) (sym same) ∙ l.1 in absurd (cc)))
+          | inr moved ↦ moved.replaced.others p other (λ same. (let l = leaf_there same in let wrong : HeldInner node-is ≡ HeldLeaf l.0 = sym is-linked ∙ ap (held linked) (sym same) ∙ l.1 in absurd (cc)))
         ];
       }
 
       top-held : held new top ≡ HeldInner (nodes.node_with_child node-is byte leaf)
-      top-held = elim more [ inl written ↦ ap (held new) written.same ∙ written.changes.changed | inr moved ↦ moved.is_held ]
+      top-held = elim more [ inl written ↦ ap (held new) written.same ∙ written.changes.changed | inr moved ↦ moved.replaced.is_held ]
 
       count : length node-is.children ≡ length (branch_roots (join gap-there.before gap-there.after))
       count = ap length shown-there.children ∙ ap (λ b. length (branch_roots b)) (sym gap-there.same)
@@ -145,7 +145,7 @@ module _ {K V : Type 0} {P : ℕ} (text : K → List ℕ) (old : ArenaOf K V P) 
           let few = few-where-absent node-is byte fits (subst (λ children. IsAscending (key_bytes children)) (sym shown-there.children) sound-there.1) (ap (λ children. child_at children byte) shown-there.children ∙ lacks.absent) in
           elim more [
             | inl written ↦ ap node_kind written.same ∙ kind ∙ sym (kind-stays n (subst (λ k. n < most_children k) kind written.few)) ∙ ap (λ m. kind_for (m + 1)) count
-            | inr moved ↦ moved.kind ∙ ap grown_kind kind ∙ sym (kind-grows n (moved.full ∙ ap most_children kind) few) ∙ ap (λ m. kind_for (m + 1)) count
+            | inr moved ↦ moved.replaced.kind ∙ ap grown_kind kind ∙ sym (kind-grows n (moved.full ∙ ap most_children kind) few) ∙ ap (λ m. kind_for (m + 1)) count
           ]
 
       pub child-taken : (last : ArenaOf K V P) (root_now : OpaqueNodePtr K V P) (hung : IsHung new last (above around_it) top root root_now) (short : length (text key) < 2 ^ 32) (spelled : Spells linked (keys_of (leaves_before around_it ++ branch_leaves gap-there.before) ++ opaque_key leaf ∷ keys_of (branch_leaves gap-there.after ++ leaves_after around_it)))
@@ -168,7 +168,7 @@ module _ {K V : Type 0} {P : ℕ} (text : K → List ℕ) (old : ArenaOf K V P) 
         gone = λ p inside. elim (Contains-append_cases (spot.node ∷ []) (branch_places lacks.branches) p inside) [
           | inl here ↦ elim more [
             | inl written ↦ inl (in-taken lacks.prefix top gap-there.before byte leaf (text key) gap-there.after p (inl (sym (the-one spot.node p here) ∙ sym written.same)))
-            | inr moved ↦ inr (last-others text old linked new around_it node_there root leaf top key value child-steps last root_now hung p inside ∙ ap (held new) (sym (the-one spot.node p here)) ∙ moved.is_free)
+            | inr moved ↦ inr (last-others text old linked new around_it node_there root leaf top key value child-steps last root_now hung p inside ∙ ap (held new) (sym (the-one spot.node p here)) ∙ moved.replaced.is_free)
           ]
           | inr below ↦ inl (in-taken lacks.prefix top gap-there.before byte leaf (text key) gap-there.after p (inr (inr (subst (λ b. Contains (branch_places b) p) (sym gap-there.same) below))))
         ];

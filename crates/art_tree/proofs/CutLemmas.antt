@@ -12,7 +12,8 @@ use Rattle.art_nodes.specs.Pointers.{node_kind, opaque_key}
 use Rattle.art_nodes.specs.declared.leaf_node.LeafNode.{LeafNode}
 use Rattle.art_nodes.specs.declared.pointers.OpaqueNodePtr.{OpaqueNodePtr}
 use Rattle.art_arena.specs.Arena.{ArenaOf, Held, HeldInner, HeldLeaf, Nothing, held, room, Changes, SameRoom}
-use Rattle.art_tree.specs.Cuts.{HasOneLess, HasRoomToShrink, IsReplaced}
+use Rattle.art_tree.specs.Cuts.{HasOneLess, HasRoomToShrink}
+use Rattle.art_tree.specs.Edits.{IsReplaced}
 use Rattle.art_tree.proofs.HangLemmas.{inner-held}
 use Rattle.art_tree.proofs.NodeLemmas.{one-inner}
 use Rattle.art_tree.proofs.WayLemmas.{leaf-kind}
@@ -166,9 +167,11 @@ module _ {K V : Type 0} {P : ℕ} where
           let apart : to ≢ pointer = λ one. inner-held mid to (node_without_child node byte) (ap (held mid) one ∙ here) moved.was_free in
           inr (record {
             least = fewest node is;
-            kind = moved.kind;
-            was_free = sym ((cut node is).others to apart) ∙ moved.was_free;
-            is_held = moved.is_held;
-            is_free = moved.is_free;
-            others = λ other not_new not_old. moved.others other not_new not_old ∙ (cut node is).others other not_old;
+            replaced = record {
+              kind = moved.kind;
+              was_free = sym ((cut node is).others to apart) ∙ moved.was_free;
+              is_held = moved.is_held;
+              is_free = moved.is_free;
+              others = λ other not_new not_old. moved.others other not_new not_old ∙ (cut node is).others other not_old;
+            };
           })

@@ -118,18 +118,18 @@ module _ {K V : Type 0} {P : ℕ} {text : K → List ℕ} {old : ArenaOf K V P} 
       -- the node has a child less, and may be at another place
       module _ (new : ArenaOf K V P) (top : OpaqueNodePtr K V P) (distinct : AreDistinct (places (plug hangs.upper (part_there hangs)))) (less : HasOneLess cut new parent place.node (nodes.node_without_child place.node byte) top) where
         top-held : held new top ≡ HeldInner (nodes.node_without_child place.node byte)
-        top-held = elim less [ inl cutting ↦ ap (held new) cutting.same ∙ cutting.changes.changed | inr shrunk ↦ shrunk.is_held ]
+        top-held = elim less [ inl cutting ↦ ap (held new) cutting.same ∙ cutting.changes.changed | inr shrunk ↦ shrunk.replaced.is_held ]
 
         top-apart : top ≢ leaf
         top-apart same = elim less [
           | inl cutting ↦ place.apart (sym cutting.same ∙ same)
-          | inr shrunk ↦ shrunk-inner (node_kind parent) place.inner (sym shrunk.kind ∙ ap node_kind same ∙ leaf-kind old (node_kind leaf) (opaque_key leaf) place.own place.own_held)
+          | inr shrunk ↦ shrunk-inner (node_kind parent) place.inner (sym shrunk.replaced.kind ∙ ap node_kind same ∙ leaf-kind old (node_kind leaf) (opaque_key leaf) place.own place.own_held)
         ]
 
         top-no-leaf : (l : LeafNode K V P) → held old top ≡ HeldLeaf l → ⊥
         top-no-leaf l is = elim less [
           | inl cutting ↦ (let wrong : HeldInner place.node ≡ HeldLeaf l = sym place.is_held ∙ ap (held old) (sym cutting.same) ∙ is in absurd (cc))
-          | inr shrunk ↦ (let now = (stays top top-apart).keeps.leaf l is in let wrong : HeldLeaf now.0 ≡ Nothing = sym now.1 ∙ shrunk.was_free in absurd (cc))
+          | inr shrunk ↦ (let now = (stays top top-apart).keeps.leaf l is in let wrong : HeldLeaf now.0 ≡ Nothing = sym now.1 ∙ shrunk.replaced.was_free in absurd (cc))
         ]
 
         abbrev many-cuts : AreCuts text old cut new hangs.upper (part_there hangs) root leaf top
@@ -141,10 +141,10 @@ module _ {K V : Type 0} {P : ℕ} {text : K → List ℕ} {old : ArenaOf K V P} 
           gone = gone;
           stays = stays;
           other = top-apart;
-          top_was = elim less [ inl cutting ↦ inl (0, omega arith, sym cutting.same) | inr shrunk ↦ inr shrunk.was_free ];
+          top_was = elim less [ inl cutting ↦ inl (0, omega arith, sym cutting.same) | inr shrunk ↦ inr shrunk.replaced.was_free ];
           top_leaf = λ l is. absurd (top-no-leaf l is);
           node_inner = place.no_leaf;
-          same = λ p not_top not_parent. elim less [ inl cutting ↦ cutting.changes.others p not_parent | inr shrunk ↦ shrunk.others p not_top not_parent ];
+          same = λ p not_top not_parent. elim less [ inl cutting ↦ cutting.changes.others p not_parent | inr shrunk ↦ shrunk.replaced.others p not_top not_parent ];
         }
 
         pub many-hangs : CanHang new higher
@@ -168,7 +168,7 @@ module _ {K V : Type 0} {P : ℕ} {text : K → List ℕ} {old : ArenaOf K V P} 
               let is = is-other hangs distinct q inside in
               inside-kept text old cut new hangs.upper (part_there hangs) root leaf top many-cuts last root_now hung-there q is.inside is.not_leaf (λ same. elim less [
                 | inl cutting ↦ is.not_parent (same ∙ cutting.same)
-                | inr shrunk ↦ held-on old cut q (stays q is.not_leaf) (place-held text old (part_there hangs) place.stands q is.inside) (ap (held cut) same ∙ shrunk.was_free)
+                | inr shrunk ↦ held-on old cut q (stays q is.not_leaf) (place-held text old (part_there hangs) place.stands q is.inside) (ap (held cut) same ∙ shrunk.replaced.was_free)
               ]) is.not_parent in
               kept-branches text old last (join hangs.before hangs.after) place.others_stand (λ q inside. kept q (subst (λ all. Contains all q) (places-join hangs.before hangs.after) inside))
 
@@ -193,7 +193,7 @@ module _ {K V : Type 0} {P : ℕ} {text : K → List ℕ} {old : ArenaOf K V P} 
             freed = λ p inside. elim (place-cases hangs p inside) [
               | inl at ↦ elim less [
                 | inl cutting ↦ inl (0, omega arith, cutting.same ∙ sym at)
-                | inr shrunk ↦ inr (last-inside text old cut new hangs.upper (part_there hangs) root leaf top many-cuts last root_now hung-there p inside ∙ ap (held new) at ∙ shrunk.is_free)
+                | inr shrunk ↦ inr (last-inside text old cut new hangs.upper (part_there hangs) root leaf top many-cuts last root_now hung-there p inside ∙ ap (held new) at ∙ shrunk.replaced.is_free)
               ]
               | inr rest ↦ elim rest [
                 | inl own ↦ inr (ap (held last) own ∙ leaf-last)
@@ -208,7 +208,7 @@ module _ {K V : Type 0} {P : ℕ} {text : K → List ℕ} {old : ArenaOf K V P} 
                   let kind : node_kind parent ≡ kind_for (left + 1) = kind-there ∙ ap kind_for place.count in
                   elim less [
                     | inl cutting ↦ ap node_kind cutting.same ∙ kind-lasts left (node_kind parent) kind (subst (λ m. least_children (node_kind parent) < m) place.count cutting.many)
-                    | inr shrunk ↦ shrunk.kind ∙ kind-shrinks left (node_kind parent) (omega (arith, three, place.count)) kind (sym place.count ∙ shrunk.least)
+                    | inr shrunk ↦ shrunk.replaced.kind ∙ kind-shrinks left (node_kind parent) (omega (arith, three, place.count)) kind (sym place.count ∙ shrunk.least)
                   ]
 
           alone-last : IsAlone text last root_now (plug hangs.upper now_there)

@@ -1,5 +1,5 @@
 -- Inner nodes that take a child more, or another prefix.
-use Rattle.std.proofs.Common.{◌≡◌, ◌≢◌, ◌∙◌, ℕ, ◌<◌, ◌≤◌, List, [], ◌∷◌, length, Option, Some, None, IsNone, refl, sym, ap, subst}
+use Rattle.std.proofs.Common.{◌≡◌, ◌∙◌, ℕ, ◌<◌, ◌≤◌, List, [], ◌∷◌, length, Option, Some, None, IsNone, refl, sym, ap, subst}
 use Rattle.std.proofs.lemmas.Bool.{le-ltb, lt-ltb}
 use Rattle.std.specs.Option.{option_map, option_map_or}
 use Rattle.art_header.specs.Header.{Header}
@@ -11,7 +11,7 @@ use Rattle.art_nodes.specs.Pointers.{node_kind}
 use Rattle.art_nodes.specs.declared.pointers.OpaqueNodePtr.{OpaqueNodePtr}
 use Rattle.art_nodes.specs.declared.leaf_node.LeafNode.{LeafNode}
 use Rattle.art_nodes.proofs.ChildMapLaws.{length_absent}
-use Rattle.art_arena.specs.Arena.{ArenaOf, Held, HeldInner, HeldLeaf, Nothing, held, held_header, room, Changes}
+use Rattle.art_arena.specs.Arena.{ArenaOf, Held, HeldInner, HeldLeaf, Nothing, held, held_header, room}
 use Rattle.art_tree.specs.Edits.{HasRoomToGrow, IsMoved}
 use Rattle.art_tree.specs.Taking.{two_children}
 
@@ -65,16 +65,3 @@ module _ {K V : Type 0} {P : ℕ} where
         → IsMoved arena new at grown (node_with_child grown byte child) to → IsMoved arena new pointer node (node_with_child node byte child) to
     moved-there {new = new} {node = node} {to = to} byte child grows is is_moved =
         subst (λ p. IsMoved arena new p node (node_with_child node byte child) to) same (subst (λ n. IsMoved arena new at n (node_with_child n byte child) to) (grows ∙ same-node is) is_moved)
-
-  -- a full node is given up for one of the next kind
-  pub moved : (old now new : ArenaOf K V P) (after : Inner (OpaqueNodePtr K V P)) {at grown pointer : OpaqueNodePtr K V P} {node : Inner (OpaqueNodePtr K V P)} → at ≡ grown → length node.children ≡ most_children (node_kind pointer) → node_kind grown ≡ grown_kind (node_kind pointer)
-      → held old grown ≡ Nothing → held old pointer ≢ Nothing → Changes old now grown (HeldInner after) → Changes now new pointer Nothing → IsMoved old new pointer node after at
-  moved old now new after {at = at} {grown = grown} {pointer = pointer} {node = node} same full kind free was_held made given_up =
-      subst (λ p. IsMoved old new pointer node after p) (sym same) (record {
-        full = full;
-        kind = kind;
-        was_free = free;
-        is_held = given_up.others grown (λ e. was_held (ap (held old) (sym e) ∙ free)) ∙ made.changed;
-        is_free = given_up.changed;
-        others = λ other not_new not_old. given_up.others other not_old ∙ made.others other not_new;
-      })

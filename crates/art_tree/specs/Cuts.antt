@@ -1,11 +1,11 @@
 -- What the steps of a removal do to an arena. No public clause cites it.
-use Rattle.std.specs.Prelude.{◌≡◌, ◌≢◌, ◌⊎◌, ℕ, ◌<◌, length}
+use Rattle.std.specs.Prelude.{◌≡◌, ◌⊎◌, ℕ, ◌<◌, length}
 use Rattle.art_header.specs.NodeType.{least_children, shrunk_kind}
-use Rattle.art_header.specs.declared.node_type.NodeType.{NodeType}
 use Rattle.art_nodes.specs.Inner.{Inner}
 use Rattle.art_nodes.specs.Pointers.{node_kind}
 use Rattle.art_nodes.specs.declared.pointers.OpaqueNodePtr.{OpaqueNodePtr}
-use Rattle.art_arena.specs.Arena.{ArenaOf, HeldInner, Nothing, held, room, Changes}
+use Rattle.art_arena.specs.Arena.{ArenaOf, HeldInner, held, room, Changes}
+use Rattle.art_tree.specs.Edits.{IsReplaced}
 
 module _ {K V : Type 0} {P : ℕ} where
   -- where the inner node at the pointer has more than two children and the fewest of its kind, there is room for one of the next smaller kind
@@ -18,22 +18,10 @@ module _ {K V : Type 0} {P : ℕ} where
     pub same : at ≡ pointer
     pub changes : Changes old new pointer (HeldInner now)
 
-  -- the node, which had the fewest children of its kind, is written to a new place as one of the next smaller kind, and its old place is free
+  -- the node, which had the fewest children of its kind, is given up for one of the next smaller kind
   pub record IsShrunk (old new : ArenaOf K V P) (pointer : OpaqueNodePtr K V P) (node now : Inner (OpaqueNodePtr K V P)) (at : OpaqueNodePtr K V P) : Type 0 where
     pub least : length node.children ≡ least_children (node_kind pointer)
-    pub kind : node_kind at ≡ shrunk_kind (node_kind pointer)
-    pub was_free : held old at ≡ Nothing
-    pub is_held : held new at ≡ HeldInner now
-    pub is_free : held new pointer ≡ Nothing
-    pub others : (other : OpaqueNodePtr K V P) → other ≢ at → other ≢ pointer → held new other ≡ held old other
-
-  -- the node at a pointer is given up for this one, which stands at a new place as one of this kind
-  pub record IsReplaced (old new : ArenaOf K V P) (pointer : OpaqueNodePtr K V P) (shrunk : NodeType) (now : Inner (OpaqueNodePtr K V P)) (at : OpaqueNodePtr K V P) : Type 0 where
-    pub kind : node_kind at ≡ shrunk
-    pub was_free : held old at ≡ Nothing
-    pub is_held : held new at ≡ HeldInner now
-    pub is_free : held new pointer ≡ Nothing
-    pub others : (other : OpaqueNodePtr K V P) → other ≢ at → other ≢ pointer → held new other ≡ held old other
+    pub replaced : IsReplaced old new pointer (shrunk_kind (node_kind pointer)) now at
 
   -- the inner node has one child less, at its place or at a new one
   abbrev pub HasOneLess : ArenaOf K V P → ArenaOf K V P → OpaqueNodePtr K V P → Inner (OpaqueNodePtr K V P) → Inner (OpaqueNodePtr K V P) → OpaqueNodePtr K V P → Type 0

@@ -2,6 +2,7 @@
 use Rattle.std.specs.Prelude.{◌≡◌, ◌≢◌, ◌⊎◌, ℕ, ◌<◌, List, ◌++◌, length, take}
 use Rattle.art_header.specs.Header.{capped}
 use Rattle.art_header.specs.NodeType.{most_children, grown_kind}
+use Rattle.art_header.specs.declared.node_type.NodeType.{NodeType}
 use Rattle.std.specs.declared.cmp.Ordering.TheVariants.{Less}
 use Rattle.art_bytes.specs.Text.{text_order}
 use Rattle.art_nodes.specs.Inner.{Inner}
@@ -60,14 +61,18 @@ module _ {K V : Type 0} {P : ℕ} where
     pub same : at ≡ pointer
     pub changes : Changes old new pointer (HeldInner now)
 
-  -- the node, which was full, is written to a new place as one of the next kind, and its old place is free
-  pub record IsMoved (old new : ArenaOf K V P) (pointer : OpaqueNodePtr K V P) (node now : Inner (OpaqueNodePtr K V P)) (at : OpaqueNodePtr K V P) : Type 0 where
-    pub full : length node.children ≡ most_children (node_kind pointer)
-    pub kind : node_kind at ≡ grown_kind (node_kind pointer)
+  -- the node at a pointer is given up for this one, which stands at a new place as one of this kind
+  pub record IsReplaced (old new : ArenaOf K V P) (pointer : OpaqueNodePtr K V P) (new_kind : NodeType) (now : Inner (OpaqueNodePtr K V P)) (at : OpaqueNodePtr K V P) : Type 0 where
+    pub kind : node_kind at ≡ new_kind
     pub was_free : held old at ≡ Nothing
     pub is_held : held new at ≡ HeldInner now
     pub is_free : held new pointer ≡ Nothing
     pub others : (other : OpaqueNodePtr K V P) → other ≢ at → other ≢ pointer → held new other ≡ held old other
+
+  -- the node, which was full, is given up for one of the next kind
+  pub record IsMoved (old new : ArenaOf K V P) (pointer : OpaqueNodePtr K V P) (node now : Inner (OpaqueNodePtr K V P)) (at : OpaqueNodePtr K V P) : Type 0 where
+    pub full : length node.children ≡ most_children (node_kind pointer)
+    pub replaced : IsReplaced old new pointer (grown_kind (node_kind pointer)) now at
 
   -- the inner node has one child more, at its place or at a new one
   abbrev pub HasOneMore : ArenaOf K V P → ArenaOf K V P → OpaqueNodePtr K V P → Inner (OpaqueNodePtr K V P) → Inner (OpaqueNodePtr K V P) → OpaqueNodePtr K V P → Type 0

@@ -15,6 +15,7 @@ ghost use Rattle.art_tree.specs.Taking.{two_children};
 
 use crate::insert::place::Fork;
 use crate::loading::raise::place_as;
+use crate::remove::node::replace_node;
 use art_arena::{ArenaNode, NodeArena};
 use art_bytes::AsBytes;
 use art_nodes::{
@@ -116,9 +117,7 @@ fn move_to<
         (G.inner grown) (node_with_child (G.inner grown) byte child) result }
 {
     grown.write_child(byte, child);
-    let grown = arena.allocate_node_ptr(grown).unwrap();
-    arena.deallocate_node_ptr(pointer);
-    grown.to_opaque()
+    replace_node(arena, pointer, grown)
 }
 
 // Gives the full inner node at the pointer a child more, in a node of the next kind, for which there

@@ -7,8 +7,8 @@ ghost use Rattle.art_nodes.specs.ChildMap.{child_at, first_pair, without_child};
 ghost use Rattle.art_nodes.specs.Inner.{Inner, header_of, node_without_child};
 ghost use Rattle.art_nodes.specs.Pointers.{node_kind, slab_key};
 ghost use Rattle.art_arena.specs.Arena.{held, HeldInner, Nothing, pointer_to, room, Changes, SameNodes, SameRoom};
-ghost use Rattle.art_tree.specs.Cuts.{HasOneLess, HasRoomToShrink, IsReplaced};
-ghost use Rattle.art_tree.specs.Edits.{node_with_prefix};
+ghost use Rattle.art_tree.specs.Cuts.{HasOneLess, HasRoomToShrink};
+ghost use Rattle.art_tree.specs.Edits.{IsReplaced, node_with_prefix};
 
 use art_arena::{ArenaNode, NodeArena};
 use art_nodes::{
@@ -134,31 +134,31 @@ fn cut_child<K, V, const PREFIX_LEN: usize>(
     }
 }
 
-// Gives up the node at the pointer for this one of another kind, and answers where that is. Kept out
-// of its caller, whose stack would have the nodes of each kind several times.
+/// Gives up the node at the pointer for this one of another kind, and answers where that is.
+// Kept out of its caller, whose stack would have the nodes of each kind several times.
 #[inline(never)]
-fn replace_node<
+pub(crate) fn replace_node<
     K,
     V,
     const PREFIX_LEN: usize,
     N: ArenaNode<K, V, PREFIX_LEN> + Drop,
-    S: InnerNodeCommon<K, V, PREFIX_LEN>
+    R: InnerNodeCommon<K, V, PREFIX_LEN>
         + ArenaNode<K, V, PREFIX_LEN>
         + Node<PREFIX_LEN, Key = K, Value = V>,
 >(
     arena: &mut NodeArena<K, V, PREFIX_LEN>,
     pointer: NodePtr<PREFIX_LEN, N>,
-    shrunk: S,
+    node: R,
 ) -> OpaqueNodePtr<K, V, PREFIX_LEN>
-    requires shown { (node : S) → S.held_as node ≡ HeldInner (S.inner node) }
+    requires shown { (node : R) → R.held_as node ≡ HeldInner (R.inner node) }
     requires held { held arena.old (pointer_to N.TYPE (slab_key pointer)) ≢ Nothing }
-    requires room { 0 < room arena.old S.TYPE }
+    requires room { 0 < room arena.old R.TYPE }
     ensures { IsReplaced arena.old arena.new (pointer_to N.TYPE (slab_key pointer))
-        S.TYPE (S.inner shrunk) result }
+        R.TYPE (R.inner node) result }
 {
-    let shrunk = arena.allocate_node_ptr(shrunk).unwrap();
+    let placed = arena.allocate_node_ptr(node).unwrap();
     arena.deallocate_node_ptr(pointer);
-    shrunk.to_opaque()
+    placed.to_opaque()
 }
 
 // Puts a node of the next smaller kind, for which there has to be room, in the place of the inner node

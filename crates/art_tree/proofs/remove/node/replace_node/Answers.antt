@@ -10,11 +10,11 @@ pub deallocate_node_ptr-requires : goal.deallocate_node_ptr-requires
 deallocate_node_ptr-requires g c =
     let old = c.args.arena.now in
     let now = c.allocate_node_ptr.new.self in
-    let kind = g.S.Node.TYPE in
-    let at = c.unwrap-shrunk.result in
+    let kind = g.R.Node.TYPE in
+    let at = c.unwrap-placed.result in
     let answer = c.allocate_node_ptr.result in
-    let free = if-ok (λ ptr. held old (pointer_to kind (slab_key ptr)) ≡ Nothing) answer at c.unwrap-shrunk.ensures c.allocate_node_ptr.ensures.was_free in
-    let made = if-ok (λ ptr. Changes old now (pointer_to kind (slab_key ptr)) (g.S.ArenaNode.held_as c.args.shrunk)) answer at c.unwrap-shrunk.ensures c.allocate_node_ptr.ensures.added in
+    let free = if-ok (λ ptr. held old (pointer_to kind (slab_key ptr)) ≡ Nothing) answer at c.unwrap-placed.ensures c.allocate_node_ptr.ensures.was_free in
+    let made = if-ok (λ ptr. Changes old now (pointer_to kind (slab_key ptr)) (g.R.ArenaNode.held_as c.args.node)) answer at c.unwrap-placed.ensures c.allocate_node_ptr.ensures.added in
     let stays = kept-at old now (pointer_to kind (slab_key at)) _ free made (pointer_to g.N.Node.TYPE (slab_key c.args.pointer)) c.requires.held in (
       search rules,
       (
@@ -39,11 +39,11 @@ pub returns : goal.returns
 returns g c =
     let old = c.args.arena.now in
     let now = c.allocate_node_ptr.new.self in
-    let kind = g.S.Node.TYPE in
-    let at = c.unwrap-shrunk.result in
+    let kind = g.R.Node.TYPE in
+    let at = c.unwrap-placed.result in
     let answer = c.allocate_node_ptr.result in
-    replaced old now c.deallocate_node_ptr.new.self (g.S.InnerNodeCommon.inner c.args.shrunk) c.to_opaque.ensures
-    (if-ok (λ ptr. held old (pointer_to kind (slab_key ptr)) ≡ Nothing) answer at c.unwrap-shrunk.ensures c.allocate_node_ptr.ensures.was_free)
+    replaced old now c.deallocate_node_ptr.new.self (g.R.InnerNodeCommon.inner c.args.node) c.to_opaque.ensures
+    (if-ok (λ ptr. held old (pointer_to kind (slab_key ptr)) ≡ Nothing) answer at c.unwrap-placed.ensures c.allocate_node_ptr.ensures.was_free)
     c.requires.held
-    (subst (Changes old now (pointer_to kind (slab_key at))) (c.requires.shown c.args.shrunk) (if-ok (λ ptr. Changes old now (pointer_to kind (slab_key ptr)) (g.S.ArenaNode.held_as c.args.shrunk)) answer at c.unwrap-shrunk.ensures c.allocate_node_ptr.ensures.added))
+    (subst (Changes old now (pointer_to kind (slab_key at))) (c.requires.shown c.args.node) (if-ok (λ ptr. Changes old now (pointer_to kind (slab_key ptr)) (g.R.ArenaNode.held_as c.args.node)) answer at c.unwrap-placed.ensures c.allocate_node_ptr.ensures.added))
     c.deallocate_node_ptr.ensures.removed
