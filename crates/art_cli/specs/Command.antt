@@ -17,10 +17,11 @@ pub record IsNumber (word : List ℕ) (number : ℕ) : Type 0 where
   pub digits : All (IsInRange 48 57) word
   pub value : digits_value 10 word ≡ number
 
--- a number below 256, and one below 2^32
+-- a number below 256
 abbrev pub IsByteNumber : List ℕ → ℕ → Type 0
 IsByteNumber word number = IsNumber word number × (number < 256)
 
+-- such a number below 2^32
 abbrev pub IsKey : List ℕ → ℕ → Type 0
 IsKey word number = IsNumber word number × (number < 2 ^ 32)
 

@@ -24,5 +24,6 @@ module _ {H L : Type 0} (room : ℕ) (at : Held H L) (key : List ℕ) (depth : �
   abbrev pub LeadsOnFrom : ℕ × H → Type 0
   LeadsOnFrom next = (node : Inner H) → at ≡ HeldInner node → LeadsOn room node key depth next
 
+  -- it leads nowhere, from what is held at a pointer
   abbrev pub LeadsNowhereFrom : Type 0
   LeadsNowhereFrom = (node : Inner H) → at ≡ HeldInner node → LeadsNowhere room node key depth

@@ -21,6 +21,7 @@ pub record IsFork (a b : List ℕ) (at : ℕ) : Type 0 where
   pub shared : take at a ≡ take at b
   pub less : slice_index a at < slice_index b at
 
+-- they do at some place
 abbrev pub Forks : List ℕ → List ℕ → Type 0
 Forks a b = (at : ℕ) × IsFork a b at
 

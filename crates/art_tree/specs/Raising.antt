@@ -36,6 +36,7 @@ module _ {K V : Type 0} {P : ℕ} where
   abbrev pub leaf_pairs : (K → List ℕ) → ArenaOf K V P → List (NodePtr P (LeafNode K V P)) → List (OpaqueNodePtr K V P × List ℕ)
   leaf_pairs text arena leaves = map (λ leaf. (leaf_pointer leaf, text_at text arena (slab_key leaf))) leaves
 
+  -- the texts of the leaves
   abbrev pub leaf_texts : (K → List ℕ) → ArenaOf K V P → List (NodePtr P (LeafNode K V P)) → List (List ℕ)
   leaf_texts text arena leaves = map (λ leaf. text_at text arena (slab_key leaf)) leaves
 

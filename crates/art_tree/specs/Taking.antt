@@ -20,10 +20,11 @@ module _ {H : Type 0} where
   abbrev pub with_leaf : H → List ℕ → Branches H → ℕ → H → List ℕ → Branches H → Tree H
   with_leaf pointer prefix before byte leaf text after = Inner pointer prefix (join before (Branch byte (Leaf leaf text) after))
 
-  -- the branches left and right of a byte, where one tree stands under another byte
+  -- the branches left of a byte, where one tree stands under another byte
   abbrev pub branches_left : ℕ → ℕ → Tree H → Branches H
   branches_left byte other tree = if nat_lt byte other then NoBranch else one_branch other tree
 
+  -- the branches right of it
   abbrev pub branches_right : ℕ → ℕ → Tree H → Branches H
   branches_right byte other tree = if nat_lt byte other then one_branch other tree else NoBranch
 
