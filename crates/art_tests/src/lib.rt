@@ -18,3 +18,8 @@ mod mapped;
 mod nodes;
 #[cfg(test)]
 mod tree;
+
+/// How a test ends whose call was refused memory, once all that stands was compared and the next call
+/// was answered. `checks/refusals` looks for it.
+#[cfg(test)]
+const ALL_STANDS: &str = "refused, and all stands";

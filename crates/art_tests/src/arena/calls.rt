@@ -1,5 +1,6 @@
 //! Every call of the arena, and what stands where one is refused.
 use super::put;
+use crate::ALL_STANDS;
 use crate::nodes::fixtures::pair;
 use art_arena::{ArenaNode, NodeArena};
 use art_nodes::{
@@ -139,41 +140,49 @@ fn allocates_three_leaves_where_there_is_room_for_three(rt: HostRuntime) -> Resu
     Ok(())
 }
 
-// The node under each index has a prefix of so many bytes, or is a leaf of that key.
+// The node has a prefix of so many bytes, or is a leaf of that key.
+fn check_entry(rt: &impl Abort, arena: &Arena, pointer: Pointer, index: usize) {
+    assert!(rt; arena.holds_opaque(pointer));
+    let length = match pointer.cast::<Leaf>() {
+        Some(leaf) => {
+            assert!(rt; arena.holds(leaf));
+            usize::from(arena.as_key_ref(leaf)[0])
+        }
+        None => arena
+            .header(pointer)
+            .map_or(0, |header| header.prefix_len()),
+    };
+    assert!(rt; length == index);
+}
+
 fn check_entries(rt: &impl Abort, arena: &Arena, entries: &[Pointer]) {
     for (index, pointer) in entries.iter().enumerate() {
-        assert!(rt; arena.holds_opaque(*pointer));
-        let length = match pointer.cast::<Leaf>() {
-            Some(leaf) => {
-                assert!(rt; arena.holds(leaf));
-                usize::from(arena.as_key_ref(leaf)[0])
-            }
-            None => arena
-                .header(*pointer)
-                .map_or(0, |header| header.prefix_len()),
-        };
-        assert!(rt; length == index);
+        check_entry(rt, arena, *pointer, index);
     }
 }
 
-// Puts a node beside these entries. Where memory is refused they stand, and the node goes in again.
+// Puts a node beside these entries. Where memory is refused they stand, the node goes in again, and the
+// test ends.
 fn put_beside<N: ArenaNode<Key, u16, 16> + Drop>(
     rt: &impl Abort,
     arena: &mut Arena,
     entries: &[Pointer],
     node: N,
-) -> Pointer {
+) -> Result<Pointer, Fail> {
     match arena.allocate_node_ptr(node) {
-        Ok(ptr) => ptr.to_opaque(),
+        Ok(ptr) => Ok(ptr.to_opaque()),
         Err((AllocError, node)) => {
             check_entries(rt, arena, entries);
-            put(rt, arena, node).to_opaque()
+            let pointer = put(rt, arena, node).to_opaque();
+            check_entries(rt, arena, entries);
+            check_entry(rt, arena, pointer, entries.len());
+            Err(ALL_STANDS.into())
         }
     }
 }
 
 // Two nodes of each kind.
-fn fill(rt: &impl Abort, arena: &mut Arena) -> [Pointer; 10] {
+fn fill(rt: &impl Abort, arena: &mut Arena) -> Result<[Pointer; 10], Fail> {
     let mut entries = [child(); 10];
     for index in 0..10u8 {
         let place = usize::from(index);
@@ -183,20 +192,20 @@ fn fill(rt: &impl Abort, arena: &mut Arena) -> [Pointer; 10] {
             .build();
         let before = &entries[..place];
         entries[place] = match index % 5 {
-            0 => put_beside(rt, arena, before, four),
-            1 => put_beside(rt, arena, before, four.grow()),
-            2 => put_beside(rt, arena, before, four.grow().grow()),
-            3 => put_beside(rt, arena, before, four.grow().grow().grow()),
-            _ => put_beside(rt, arena, before, Leaf::with_no_siblings([index], 0)),
+            0 => put_beside(rt, arena, before, four)?,
+            1 => put_beside(rt, arena, before, four.grow())?,
+            2 => put_beside(rt, arena, before, four.grow().grow())?,
+            3 => put_beside(rt, arena, before, four.grow().grow().grow())?,
+            _ => put_beside(rt, arena, before, Leaf::with_no_siblings([index], 0))?,
         };
     }
-    entries
+    Ok(entries)
 }
 
 #[test]
-fn keeps_every_entry_where_a_growth_is_refused(rt: HostRuntime) {
+fn keeps_every_entry_where_a_growth_is_refused(rt: HostRuntime) -> Result<(), Fail> {
     let mut arena = Arena::new(rt.alloc());
-    let entries = fill(&rt, &mut arena);
+    let entries = fill(&rt, &mut arena)?;
     check_entries(&rt, &arena, &entries);
     for kind in KINDS {
         assert!(rt; arena.reserve(kind, usize::MAX).is_err());
@@ -204,7 +213,10 @@ fn keeps_every_entry_where_a_growth_is_refused(rt: HostRuntime) {
         if arena.reserve(kind, 9).is_err() {
             check_entries(&rt, &arena, &entries);
             assert!(rt; arena.reserve(kind, 9).is_ok());
+            check_entries(&rt, &arena, &entries);
+            return Err(ALL_STANDS.into());
         }
         check_entries(&rt, &arena, &entries);
     }
+    Ok(())
 }

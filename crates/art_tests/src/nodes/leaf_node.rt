@@ -1,4 +1,5 @@
 //! What a leaf keeps, and how it compares its key.
+use crate::ALL_STANDS;
 use art_nodes::{LeafNode, NodePtr};
 use std::alloc::AllocError;
 use std::cmp::Ordering;
@@ -77,24 +78,26 @@ fn check_texts(rt: &impl Abort, leaf: &Texts, previous: Option<NodePtr<16, Texts
 
 // Where the clone of the key or of the value is refused memory, the leaf stands.
 #[test]
-fn a_refused_clone_leaves_the_leaf(rt: HostRuntime) {
-    let (Ok(key), Ok(value)) = (
-        String::from_str(rt.alloc(), "ab"),
-        String::from_str(rt.alloc(), "cd"),
-    ) else {
-        return;
-    };
+fn a_refused_clone_leaves_the_leaf(rt: HostRuntime) -> Result<(), Fail> {
+    let key = String::from_str(rt.alloc(), "ab")?;
+    let value = String::from_str(rt.alloc(), "cd")?;
     let mut leaf = Texts::with_no_siblings(key, value);
     let previous = Some(NodePtr::from_key(4));
     leaf.set_links(previous, None);
-    let copy = match leaf.clone_without_siblings() {
-        Ok(copy) => copy,
+    match leaf.clone_without_siblings() {
+        Ok(copy) => {
+            check_texts(&rt, &copy, None);
+            check_texts(&rt, &leaf, previous);
+            Ok(())
+        }
         Err(AllocError) => {
             check_texts(&rt, &leaf, previous);
-            leaf.clone_without_siblings()
-                .expect(&rt, "memory was refused once")
+            let copy = leaf
+                .clone_without_siblings()
+                .expect(&rt, "memory was refused once");
+            check_texts(&rt, &copy, None);
+            check_texts(&rt, &leaf, previous);
+            Err(ALL_STANDS.into())
         }
-    };
-    check_texts(&rt, &copy, None);
-    check_texts(&rt, &leaf, previous);
+    }
 }

@@ -1,5 +1,6 @@
 //! Whole runs, at the steps that a reader would try by hand.
 use super::fixtures::leaf;
+use crate::ALL_STANDS;
 use art_nodes::{ChildCommand, ChildNode, ChildReply, Header, NodeType, Sequence, replay};
 use std::alloc::AllocError;
 use std::ops::Bound;
@@ -60,8 +61,45 @@ fn replies_to_steps() -> [Reply; 15] {
     ]
 }
 
+// What is answered, and the kind and the number of children of the node that is left.
+fn check_answer(
+    rt: &impl Abort,
+    answer: &(Vec<Reply>, ChildNode<u8, u8, 2>),
+    wanted: &[Reply],
+    left: (NodeType, usize),
+) {
+    let (replies, node) = answer;
+    assert!(rt; replies.as_slice() == wanted);
+    assert!(rt; (node.node_type(), node.num_children()) == left);
+}
+
+// These commands are answered so. A run that is refused memory answers nothing, the next one
+// everything, and the test ends.
+fn check_run(
+    rt: &(impl Abort + AllocGlobal),
+    commands: &[Command],
+    wanted: &[Reply],
+    left: (NodeType, usize),
+) -> Result<(), Fail> {
+    let header = || Header::<2>::new(b"", 0);
+    match replay(rt.alloc(), header(), commands) {
+        Ok(answer) => {
+            check_answer(rt, &answer, wanted, left);
+            Ok(())
+        }
+        Err(AllocError) => {
+            let answer = replay(rt.alloc(), header(), commands).expect(
+                rt,
+                "memory was refused once",
+            );
+            check_answer(rt, &answer, wanted, left);
+            Err(ALL_STANDS.into())
+        }
+    }
+}
+
 #[test]
-fn answers_each_step_and_moves_between_kinds(rt: HostRuntime) -> Result<(), Fail> {
+fn a_refused_run_is_answered_by_the_next(rt: HostRuntime) -> Result<(), Fail> {
     let left = [
         (NodeType::Node4, 1),
         (NodeType::Node4, 2),
@@ -79,21 +117,24 @@ fn answers_each_step_and_moves_between_kinds(rt: HostRuntime) -> Result<(), Fail
         (NodeType::Node4, 0),
         (NodeType::Node4, 0),
     ];
-    let wanted = replies_to_steps();
-    let mut commands = Vec::new(rt.alloc());
-    for (command, (kind, count)) in steps().into_iter().zip(left) {
-        commands.push(command)?;
-        let (replies, node) = run(&rt, &commands)?;
-        assert!(rt; replies.len() == commands.len());
-        assert!(rt;
-            replies
-                .iter()
-                .zip(&wanted)
-                .all(|(reply, other)| reply == other)
-        );
-        assert!(rt; node.node_type() == kind && node.num_children() == count);
+    let (commands, wanted) = (steps(), replies_to_steps());
+    for (end, left) in (1..=15).zip(left) {
+        assert!(rt; end <= 15);
+        check_run(&rt, &commands[..end], &wanted[..end], left)?;
     }
-    Ok(())
+    let commands = [
+        Command::Write(1, leaf(1)),
+        Command::Write(2, leaf(2)),
+        Command::Range(Bound::Excluded(1), Bound::Unbounded),
+        Command::Remove(1),
+    ];
+    let wanted = [
+        Reply::Child(None),
+        Reply::Child(None),
+        Reply::Pairs(Sequence::from_vec(vec![in rt.alloc(); (2, leaf(2))]?)),
+        Reply::Child(Some(leaf(1))),
+    ];
+    check_run(&rt, &commands, &wanted, (NodeType::Node4, 1))
 }
 
 // Each command with ample memory, one after another, with its answer.
@@ -196,56 +237,33 @@ fn check_leaves(rt: &impl Abort, reply: &Reply, bytes: &[u8]) {
 
 // Where the pairs are refused memory the node stands, and the next call has them.
 #[test]
-fn a_refused_range_leaves_the_node(rt: HostRuntime) {
+fn a_refused_range_leaves_the_node(rt: HostRuntime) -> Result<(), Fail> {
     let alloc = rt.alloc();
     let mut node = ChildNode::from_header(Header::<2>::new(b"", 0));
     for byte in 0..9u8 {
         let written = node.apply(alloc, &Command::Write(byte, leaf(usize::from(byte))));
-        assert!(&rt; written.is_ok());
+        assert!(rt; written.is_ok());
     }
     let range = Command::Range(Bound::Excluded(2), Bound::Unbounded);
-    let reply = match node.apply(alloc, &range) {
-        Ok(reply) => reply,
-        Err(AllocError) => {
-            assert!(&rt; node.num_children() == 9);
-            node.apply(alloc, &range)
-                .expect(&rt, "memory was refused once")
+    match node.apply(alloc, &range) {
+        Ok(reply) => {
+            check_leaves(&rt, &reply, &[3, 4, 5, 6, 7, 8]);
+            Ok(())
         }
-    };
-    check_leaves(&rt, &reply, &[3, 4, 5, 6, 7, 8]);
-}
-
-// A run that is refused memory answers nothing, and the next one everything.
-fn run_at_last(
-    rt: &(impl Abort + AllocGlobal),
-    commands: &[Command],
-) -> (Vec<Reply>, ChildNode<u8, u8, 2>) {
-    let header = || Header::<2>::new(b"", 0);
-    match replay(rt.alloc(), header(), commands) {
-        Ok(answer) => answer,
         Err(AllocError) => {
-            replay(rt.alloc(), header(), commands).expect(rt, "memory was refused once")
+            assert!(rt; node.num_children() == 9);
+            for byte in 0..9u8 {
+                let child = node.apply(alloc, &Command::Lookup(byte));
+                assert!(rt; child == Ok(Reply::Child(Some(leaf(usize::from(byte))))));
+            }
+            let reply = node
+                .apply(alloc, &range)
+                .expect(&rt, "memory was refused once");
+            check_leaves(&rt, &reply, &[3, 4, 5, 6, 7, 8]);
+            assert!(rt; node.num_children() == 9);
+            Err(ALL_STANDS.into())
         }
     }
-}
-
-#[test]
-fn a_refused_run_is_answered_by_the_next(rt: HostRuntime) {
-    let (replies, node) = run_at_last(&rt, &steps());
-    assert!(&rt; replies.as_slice() == replies_to_steps().as_slice());
-    assert!(&rt; node.num_children() == 0);
-
-    let commands = [
-        Command::Write(1, leaf(1)),
-        Command::Write(2, leaf(2)),
-        Command::Range(Bound::Excluded(1), Bound::Unbounded),
-        Command::Remove(1),
-    ];
-    let (replies, node) = run_at_last(&rt, &commands);
-    assert!(&rt; replies.len() == 4);
-    check_leaves(&rt, &replies[2], &[2]);
-    assert!(&rt; replies[3] == Reply::Child(Some(leaf(1))));
-    assert!(&rt; node.num_children() == 1);
 }
 
 #[test]

@@ -1,4 +1,5 @@
 //! What is refused, and what a load leaves.
+use crate::ALL_STANDS;
 use art_tree::{
     AnyRef, ArenaReader, InnerNode4, InnerNodeCommon, LeafNode, LoadFault, LoadRefusal, NodeArena,
     NodePtr, NodeType, OpaqueNodePtr, load,
@@ -34,6 +35,7 @@ fn check_fault(
     }
 }
 
+// The answer is the same where memory is short: a fault of the entries is told before any is taken.
 #[test]
 fn the_lowest_entry_at_fault_is_told(rt: HostRuntime) -> Result<(), Fail> {
     let cases: [(&[&str], LoadRefusal); 8] = [
@@ -57,62 +59,57 @@ fn the_lowest_entry_at_fault_is_told(rt: HostRuntime) -> Result<(), Fail> {
     Ok(())
 }
 
-// A fault of the entries is told where there is no memory for a tree.
-#[test]
-fn a_fault_is_told_before_memory_is_taken(rt: HostRuntime) {
-    let alloc = rt.alloc();
-    let Ok(entries) = numbered(alloc, &["a", "ab"]) else {
-        return;
-    };
-    let mut arena = Texts::new(alloc);
-    let Err(fault) = load(alloc, &mut arena, entries) else {
-        panic!(&rt; "loaded");
-    };
-    check_fault(&rt, &fault, LoadRefusal::Prefix(0), &["a", "ab"]);
-}
-
-// Loads entries of these texts, if there is memory for them. A load that is refused memory gives them
-// back, and the next one takes them.
-fn load_at_last(rt: &impl Abort, alloc: Global, arena: &mut Texts, texts: &[&str]) -> Option<Root> {
-    let Ok(entries) = numbered(alloc, texts) else {
-        return None;
-    };
-    let fault = match load(alloc, arena, entries) {
-        Ok(root) => return Some(root),
-        Err(fault) => fault,
-    };
-    check_fault(rt, &fault, LoadRefusal::OutOfMemory, texts);
-    let Ok(root) = load(alloc, arena, fault.entries) else {
-        panic!(rt; "refused twice");
-    };
-    Some(root)
-}
-
 fn check_root(rt: &impl Abort, arena: &Texts, root: Root, children: usize) {
     assert!(rt; arena.holds_opaque(root));
     let count = arena.header(root).map_or(0, |header| header.num_children());
     assert!(rt; count == children);
 }
 
+// Loads entries of these texts. A load that is refused memory gives them back, the next one takes them,
+// and the test ends. The roots that stood have two children each, before and after.
+fn load_beside(
+    rt: &impl Abort,
+    alloc: Global,
+    arena: &mut Texts,
+    standing: &[Root],
+    (texts, children): (&[&str], usize),
+) -> Result<Root, Fail> {
+    let fault = match load(alloc, arena, numbered(alloc, texts)?) {
+        Ok(root) => {
+            check_root(rt, arena, root, children);
+            return Ok(root);
+        }
+        Err(fault) => fault,
+    };
+    check_fault(rt, &fault, LoadRefusal::OutOfMemory, texts);
+    for root in standing {
+        check_root(rt, arena, *root, 2);
+    }
+    let Ok(root) = load(alloc, arena, fault.entries) else {
+        panic!(rt; "refused twice");
+    };
+    check_root(rt, arena, root, children);
+    for root in standing {
+        check_root(rt, arena, *root, 2);
+    }
+    Err(ALL_STANDS.into())
+}
+
 #[test]
-fn refused_memory_gives_the_entries_back(rt: HostRuntime) {
+fn refused_memory_gives_the_entries_back(rt: HostRuntime) -> Result<(), Fail> {
     let alloc = rt.alloc();
     let mut arena = Texts::new(alloc);
-    let Some(low) = load_at_last(&rt, alloc, &mut arena, &["aa", "ab", "b"]) else {
-        return;
-    };
-    check_root(&rt, &arena, low, 2);
+    let low = load_beside(&rt, alloc, &mut arena, &[], (&["aa", "ab", "b"], 2))?;
     let rows: [(&[&str], usize); 3] = [
         (&["a1x", "a1y", "b"], 2),
         (&[""], 0),
         (&["a1x", "a1y", "b", "c", "d", "e"], 5),
     ];
-    for (texts, children) in rows {
-        if let Some(root) = load_at_last(&rt, alloc, &mut arena, texts) {
-            check_root(&rt, &arena, root, children);
-        }
+    for row in rows {
+        load_beside(&rt, alloc, &mut arena, &[low], row)?;
         check_root(&rt, &arena, low, 2);
     }
+    Ok(())
 }
 
 // The kind of the root over so many keys of one byte, and how many children it has.
