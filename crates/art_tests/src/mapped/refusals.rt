@@ -1,77 +1,164 @@
-//! Sequences whose memory is refused once: of two calls one is answered, with what both would be.
+//! Sequences and tuples, of which one growth is refused: the next call answers, and the test ends.
 use super::*;
+use crate::ALL_STANDS;
 
-type ArrayKey = Mapped<ToUBE, [u16; 2]>;
+const REFUSED_ONCE: &str = "memory was refused once";
 
-type VectorKey = Mapped<ToUBE, Vec<u16>>;
-
-const TEXT: &[u8] = &[1, 2, 0, 3];
-
-fn array_key(alloc: Global) -> Result<ArrayKey, AllocError> {
-    Mapped::new(alloc, [258, 3])
-}
-
-fn vector_key(alloc: Global) -> Result<VectorKey, AllocError> {
-    Mapped::new(alloc, vec![in alloc; 258, 3]?)
-}
-
-fn array_back(alloc: Global) -> Result<[u16; 2], AllocError> {
-    array_key(alloc)?.get(alloc)
-}
-
-fn vector_back(alloc: Global) -> Result<Vec<u16>, AllocError> {
-    vector_key(alloc)?.get(alloc)
-}
-
-fn read_back<B: BytesMapping<D>, D>(alloc: Global, value: D) -> Result<D, AllocError> {
-    let bytes = B::to_bytes(alloc, value)?;
-    B::from_bytes(alloc, bytes)
-}
-
-fn bytes_read(alloc: Global) -> Result<Vec<u16>, AllocError> {
-    read_back::<ToUBE, Vec<u16>>(alloc, vec![in alloc; 258, 3]?)
-}
-
-fn bytes_looked_at(alloc: Global) -> Result<Option<Vec<u16>>, AllocError> {
-    <ToUBE as BytesMapping<Vec<u16>>>::checked_from_bytes(alloc, TEXT.to_vec(alloc)?)
+// The key of the first of two equal values has these bytes.
+fn check_key<B: BytesMapping<D>, D: Drop>(
+    rt: &impl Abort,
+    alloc: Global,
+    value: D,
+    again: D,
+    text: &[u8],
+) -> Result<Mapped<B, D>, Fail> {
+    match Mapped::<B, D>::new(alloc, value) {
+        Ok(key) => {
+            assert!(rt; key.as_bytes() == text);
+            Ok(key)
+        }
+        Err(AllocError) => {
+            let key = Mapped::<B, D>::new(alloc, again).expect(rt, REFUSED_ONCE);
+            assert!(rt; key.as_bytes() == text);
+            Err(ALL_STANDS.into())
+        }
+    }
 }
 
 // A copy of a key has its bytes. Where it is refused, the key has them still.
-fn check_copy<B: BytesMapping<D, Bytes = Vec<u8>>, D>(rt: &impl Abort, key: &Mapped<B, D>) {
-    assert!(rt; key.as_bytes() == TEXT);
-    let copy = match key.clone() {
-        Ok(copy) => copy,
-        Err(AllocError) => {
-            assert!(rt; key.as_bytes() == TEXT);
-            key.clone().expect(rt, "memory was refused once")
+fn check_copy<B: BytesMapping<D, Bytes = Vec<u8>>, D>(
+    rt: &impl Abort,
+    key: &Mapped<B, D>,
+    text: &[u8],
+) -> Result<(), Fail> {
+    match key.clone() {
+        Ok(copy) => {
+            assert!(rt; copy.as_bytes() == text);
+            Ok(())
         }
-    };
-    assert!(rt; copy.as_bytes() == TEXT);
+        Err(AllocError) => {
+            assert!(rt; key.as_bytes() == text);
+            let copy = key.clone().expect(rt, REFUSED_ONCE);
+            assert!(rt; copy.as_bytes() == text);
+            Err(ALL_STANDS.into())
+        }
+    }
+}
+
+// Both keys hold this value.
+fn check_get<B: BytesMapping<D>, D: PartialEq + Drop>(
+    rt: &impl Abort,
+    alloc: Global,
+    key: Mapped<B, D>,
+    again: Mapped<B, D>,
+    wanted: &D,
+) -> Result<(), Fail> {
+    match key.get(alloc) {
+        Ok(read) => {
+            assert!(rt; read == *wanted);
+            Ok(())
+        }
+        Err(AllocError) => {
+            let read = again.get(alloc).expect(rt, REFUSED_ONCE);
+            assert!(rt; read == *wanted);
+            Err(ALL_STANDS.into())
+        }
+    }
+}
+
+// The first of two equal values is written as these bytes.
+fn check_to_bytes<B: BytesMapping<D, Bytes = Vec<u8>>, D: Drop>(
+    rt: &impl Abort,
+    alloc: Global,
+    value: D,
+    again: D,
+    text: &[u8],
+) -> Result<(), Fail> {
+    match B::to_bytes(alloc, value) {
+        Ok(bytes) => {
+            assert!(rt; bytes.as_slice() == text);
+            Ok(())
+        }
+        Err(AllocError) => {
+            let bytes = B::to_bytes(alloc, again).expect(rt, REFUSED_ONCE);
+            assert!(rt; bytes.as_slice() == text);
+            Err(ALL_STANDS.into())
+        }
+    }
+}
+
+// The first of two equal values comes back from its bytes.
+fn check_from_bytes<B: BytesMapping<D>, D: PartialEq + Drop>(
+    rt: &impl Abort,
+    alloc: Global,
+    value: D,
+    again: D,
+    wanted: &D,
+) -> Result<(), Fail> {
+    let (bytes, same) = (B::to_bytes(alloc, value)?, B::to_bytes(alloc, again)?);
+    match B::from_bytes(alloc, bytes) {
+        Ok(read) => {
+            assert!(rt; read == *wanted);
+            Ok(())
+        }
+        Err(AllocError) => {
+            let read = B::from_bytes(alloc, same).expect(rt, REFUSED_ONCE);
+            assert!(rt; read == *wanted);
+            Err(ALL_STANDS.into())
+        }
+    }
+}
+
+// The bytes are asked for this value.
+fn check_asked<B: BytesMapping<D, Bytes = Vec<u8>>, D: PartialEq + Drop>(
+    rt: &impl Abort,
+    alloc: Global,
+    text: &[u8],
+    wanted: &D,
+) -> Result<(), Fail> {
+    let (bytes, same) = (text.to_vec(alloc)?, text.to_vec(alloc)?);
+    match B::checked_from_bytes(alloc, bytes) {
+        Ok(read) => {
+            assert!(rt; matches!(&read, Some(value) if *value == *wanted));
+            Ok(())
+        }
+        Err(AllocError) => {
+            let read = B::checked_from_bytes(alloc, same).expect(rt, REFUSED_ONCE);
+            assert!(rt; matches!(&read, Some(value) if *value == *wanted));
+            Err(ALL_STANDS.into())
+        }
+    }
+}
+
+// Each call on a value and its bytes, which are these.
+fn check_calls<B: BytesMapping<D, Bytes = Vec<u8>>, D: PartialEq + Drop>(
+    rt: &impl Abort,
+    alloc: Global,
+    value: D,
+    again: D,
+    text: &[u8],
+) -> Result<(), Fail> {
+    let same = Mapped::<B, D>::new(alloc, again)?;
+    let wanted = same.clone()?.get(alloc)?;
+    let key = check_key::<B, D>(rt, alloc, value, same.clone()?.get(alloc)?, text)?;
+    check_copy::<B, D>(rt, &key, text)?;
+    check_get::<B, D>(rt, alloc, key, same.clone()?, &wanted)?;
+    let (first, second) = (same.clone()?.get(alloc)?, same.clone()?.get(alloc)?);
+    check_to_bytes::<B, D>(rt, alloc, first, second, text)?;
+    let (first, second) = (same.clone()?.get(alloc)?, same.get(alloc)?);
+    check_from_bytes::<B, D>(rt, alloc, first, second, &wanted)?;
+    check_asked::<B, D>(rt, alloc, text, &wanted)
 }
 
 #[test]
-fn a_refused_array_is_mapped_and_read_by_the_next_call(rt: HostRuntime) {
+fn a_refused_sequence_is_mapped_and_read_by_the_next_call(rt: HostRuntime) -> Result<(), Fail> {
     let alloc = rt.alloc();
-    let key = array_key(alloc).or(array_key(alloc));
-    check_copy(&rt, &key.expect(&rt, "memory was refused once"));
-    let read = array_back(alloc).or(array_back(alloc));
-    assert!(&rt; read == Ok([258, 3]));
-}
-
-#[test]
-fn a_refused_vector_is_mapped_and_read_by_the_next_call(rt: HostRuntime) {
-    let alloc = rt.alloc();
-    let key = vector_key(alloc).or(vector_key(alloc));
-    check_copy(&rt, &key.expect(&rt, "memory was refused once"));
-    let read = vector_back(alloc).or(vector_back(alloc));
-    assert!(&rt; matches!(&read, Ok(numbers) if numbers.as_slice() == [258, 3].as_slice()));
-}
-
-#[test]
-fn refused_bytes_are_read_by_the_next_call(rt: HostRuntime) {
-    let alloc = rt.alloc();
-    let read = bytes_read(alloc).or(bytes_read(alloc));
-    assert!(&rt; matches!(&read, Ok(numbers) if numbers.as_slice() == [258, 3].as_slice()));
-    let read = bytes_looked_at(alloc).or(bytes_looked_at(alloc));
-    assert!(&rt; matches!(&read, Ok(Some(numbers)) if numbers.as_slice() == [258, 3].as_slice()));
+    let text = [1, 2, 0, 3];
+    check_calls::<ToUBE, [u16; 2]>(&rt, alloc, [258, 3], [258, 3], &text)?;
+    let (value, again) = (vec![in alloc; 258, 3]?, vec![in alloc; 258, 3]?);
+    check_calls::<ToUBE, Vec<u16>>(&rt, alloc, value, again, &text)?;
+    type Route = ConcatTuple<(ToOctets, ToIBE)>;
+    let value = (Ipv4Addr::LOCALHOST, -212);
+    let text = [127, 0, 0, 1, 127, 255, 255, 44];
+    check_calls::<Route, (Ipv4Addr, i32)>(&rt, alloc, value, value, &text)
 }

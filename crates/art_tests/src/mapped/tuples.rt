@@ -127,19 +127,6 @@ fn long_tuples_as_bytes(rt: HostRuntime) -> Result<(), Fail> {
     Ok(())
 }
 
-// Where its memory is refused, the next call makes the key.
-#[test]
-fn a_refused_tuple_is_joined_by_the_next_call(rt: HostRuntime) {
-    let alloc = rt.alloc();
-    let key = match route(alloc, Ipv4Addr::LOCALHOST, -212) {
-        Ok(key) => key,
-        Err(AllocError) => {
-            route(alloc, Ipv4Addr::LOCALHOST, -212).expect(&rt, "memory was refused once")
-        }
-    };
-    assert!(rt; key.as_bytes() == [127, 0, 0, 1, 127, 255, 255, 44].as_slice());
-}
-
 #[test]
 fn concat_tuple_ord_matches_tuple_ord(rt: HostRuntime) -> Result<(), Fail> {
     type By = ConcatTuple<(ToOctets, ToIBE, ToOctets)>;

@@ -3,6 +3,7 @@ ghost use Rattle.art_tree.specs.Search.{HasTree};
 
 use super::matches::check_match;
 use super::*;
+use crate::ALL_STANDS;
 use art_tree::{ConcreteNodePtr, InsertRefusal, LeafNode, NodePtr, NodeType};
 use std::cmp::Ordering;
 
@@ -377,48 +378,82 @@ fn a_refused_insert_leaves_the_tree(rt: HostRuntime) {
 
 type Bytes = ArtTree<[u8; 1], u8, 0>;
 
-// The keys of one byte below the end, and no others.
-fn check_bytes(rt: &impl Abort, tree: &Bytes, end: u8) {
+// The keys of one byte below the end have it as their value, and there are no others.
+fn check_bytes(rt: &impl Abort, tree: &Bytes, end: usize) {
     for byte in 0..=255u8 {
-        assert!(rt; tree.get(&[byte]).is_some() == (byte < end));
+        let value = (usize::from(byte) < end).then_some(byte);
+        assert!(rt; tree.get(&[byte]).copied() == value);
     }
+    assert!(rt; tree.root().map(|root| root.node_type()) == kind_over(end));
 }
 
-// A tree of the keys of one byte below the end, if there is memory for them. Where the load is refused
-// it, they come back, and a second load takes them.
-fn load_at_last(rt: &impl Abort, alloc: Global, end: u8) -> Option<Bytes> {
+// A tree of the keys of one byte below the end. Where the load is refused memory, the entries come back
+// in their order, the next load takes them, and the test ends.
+fn load_bytes(rt: &impl Abort, alloc: Global, end: usize) -> Result<Bytes, Fail> {
     let mut entries = Vec::new(alloc);
-    for byte in 0..end {
-        if entries.push(([byte], byte)).is_err() {
-            return None;
-        }
+    for byte in (0..=255u8).take(end) {
+        entries.push(([byte], byte))?;
     }
     let fault = match ArtTree::load(alloc, entries) {
-        Ok(tree) => return Some(tree),
+        Ok(tree) => return Ok(tree),
         Err(fault) => fault,
     };
     assert!(rt; fault.refusal == LoadRefusal::OutOfMemory);
-    assert!(rt; fault.entries.len() == usize::from(end));
+    assert!(rt; fault.entries.len() == end);
+    for (byte, entry) in (0..=255u8).zip(&fault.entries) {
+        assert!(rt; *entry == ([byte], byte));
+    }
     let Ok(tree) = ArtTree::load(alloc, fault.entries) else {
         panic!(rt; "refused twice");
     };
-    Some(tree)
+    check_bytes(rt, &tree, end);
+    Err(ALL_STANDS.into())
+}
+
+#[test]
+fn a_refused_load_gives_256_entries_back(rt: HostRuntime) -> Result<(), Fail> {
+    let tree = load_bytes(&rt, rt.alloc(), 256)?;
+    check_bytes(&rt, &tree, 256);
+    Ok(())
+}
+
+// The root is full: it gives way to a node of the next larger kind.
+#[test]
+fn a_refused_growth_leaves_the_tree(rt: HostRuntime) -> Result<(), Fail> {
+    for (end, byte) in [(4, 4), (16, 16), (48, 48)] {
+        let mut tree = load_bytes(&rt, rt.alloc(), end)?;
+        let root = tree.root();
+        if let Err(fault) = tree.insert([byte], byte) {
+            assert!(rt; fault.refusal == InsertRefusal::OutOfMemory);
+            assert!(rt; fault.key == [byte] && fault.value == byte);
+            assert!(rt; tree.root() == root);
+            check_bytes(&rt, &tree, end);
+            let again = tree.insert(fault.key, fault.value);
+            assert!(rt; matches!(&again, Ok(None)));
+            check_bytes(&rt, &tree, end + 1);
+            return Err(ALL_STANDS.into());
+        }
+        check_bytes(&rt, &tree, end + 1);
+    }
+    Ok(())
 }
 
 // The root of so many children gives way to a node of the next smaller kind, which the arena has no
 // room for yet.
 #[test]
-fn a_refused_removal_leaves_the_tree(rt: HostRuntime) {
+fn a_refused_removal_leaves_the_tree(rt: HostRuntime) -> Result<(), Fail> {
     for (end, last) in [(5, 4), (17, 16), (49, 48)] {
-        let Some(mut tree) = load_at_last(&rt, rt.alloc(), end) else {
-            return;
-        };
+        let mut tree = load_bytes(&rt, rt.alloc(), end)?;
         let root = tree.root();
         if tree.remove(&[last]).is_err() {
-            assert!(&rt; tree.root() == root);
+            assert!(rt; tree.root() == root);
             check_bytes(&rt, &tree, end);
-            assert!(&rt; tree.remove(&[last]).is_ok());
+            let again = tree.remove(&[last]);
+            assert!(rt; again == Ok(Some(([last], last))));
+            check_bytes(&rt, &tree, usize::from(last));
+            return Err(ALL_STANDS.into());
         }
-        check_bytes(&rt, &tree, last);
+        check_bytes(&rt, &tree, usize::from(last));
     }
+    Ok(())
 }
