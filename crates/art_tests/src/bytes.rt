@@ -95,17 +95,13 @@ fn check_no_fronts<K: NoPrefixesBytes>(rt: &impl Abort, keys: &[K]) {
 }
 
 #[test]
-fn various_string_types_as_bytes(rt: HostRuntime) -> Result<(), Fail> {
+fn various_types_as_bytes(rt: HostRuntime) -> Result<(), Fail> {
     let string = String::from_str(rt.alloc(), "hello world")?;
     assert!(rt; text_of(&string) == HELLO);
     assert!(rt; text_of(&StrKey::new("hello world")) == HELLO);
     assert!(rt; string_through_a_key("hello world") == "hello world");
     assert!(rt; text_of(&c_string(rt.alloc(), HELLO)?) == b"hello world\0".as_slice());
-    Ok(())
-}
 
-#[test]
-fn various_wrapper_types_as_bytes(rt: HostRuntime) -> Result<(), Fail> {
     let slice = SliceKey::new(HELLO);
     assert!(rt; text_of(&slice) == HELLO);
     assert!(rt; text_of(&&slice) == HELLO);
@@ -143,16 +139,13 @@ fn a_proper_front_is_less_and_else_the_first_byte_that_differs_decides(
 }
 
 #[test]
-fn arrays_of_one_length_ascend_and_none_begins_another(rt: HostRuntime) {
+fn arrays_and_wrapped_keys_ascend_and_none_begins_another(rt: HostRuntime) -> Result<(), Fail> {
+    let alloc = rt.alloc();
     let pairs = [[0, 0], [0, 255], [1, 0], [127, 1], [128, 0]];
     check_ascending(&rt, &pairs);
     check_no_fronts(&rt, &pairs);
     check_no_fronts(&rt, &[[0; 0]]);
-}
 
-#[test]
-fn wrapped_keys_compare_as_the_keys(rt: HostRuntime) -> Result<(), Fail> {
-    let alloc = rt.alloc();
     let (low, high) = ([7, 200], [8, 0]);
 
     let borrowed = [&low, &high];

@@ -1,7 +1,6 @@
 //! Nodes of each kind, pointers to them, and runs of child commands.
 mod builder;
 mod callers;
-mod concrete;
 mod conversions;
 mod direct;
 mod each_kind;

@@ -84,7 +84,7 @@ fn check_list(rt: &impl Abort, arena: &Arena, leaves: &[Pointer]) {
 }
 
 #[test]
-fn removes_and_replaces_leaves_of_a_list(rt: HostRuntime) {
+fn inserts_removes_and_replaces_leaves_of_a_list(rt: HostRuntime) {
     let mut arena = Arena::new(rt.alloc());
     let a = put_leaf(&rt, &mut arena, b'a');
     let b = put_leaf(&rt, &mut arena, b'b');
@@ -103,10 +103,7 @@ fn removes_and_replaces_leaves_of_a_list(rt: HostRuntime) {
     check_list(&rt, &arena, &[a, d]);
     assert!(rt; arena.holds(c));
     assert!(rt; !Leaf::is_linked(&arena, c));
-}
 
-#[test]
-fn inserts_on_either_side(rt: HostRuntime) {
     let mut arena = Arena::new(rt.alloc());
     let a = put_leaf(&rt, &mut arena, b'a');
     let b = put_leaf(&rt, &mut arena, b'b');

@@ -2,7 +2,7 @@
 use art_header::NodeType;
 
 #[test]
-fn shrinks_below_its_range(rt: HostRuntime) {
+fn kinds_know_how_many_children_they_hold(rt: HostRuntime) {
     for (kind, num_children, want) in [
         (NodeType::Node4, 0, false),
         (NodeType::Node16, 4, true),
@@ -19,10 +19,7 @@ fn shrinks_below_its_range(rt: HostRuntime) {
             );
         }
     }
-}
 
-#[test]
-fn holds_the_children_of_its_range(rt: HostRuntime) {
     for (kind, least, most) in [
         (NodeType::Node4, 2, 4),
         (NodeType::Node16, 5, 16),
@@ -33,10 +30,7 @@ fn holds_the_children_of_its_range(rt: HostRuntime) {
         assert!(rt; *kind.capacity_range().start() == least, "{kind:?}");
         assert!(rt; *kind.capacity_range().end() == most, "{kind:?}");
     }
-}
 
-#[test]
-fn is_ordered_as_listed(rt: HostRuntime) {
     let kinds = [
         NodeType::Node4,
         NodeType::Node16,

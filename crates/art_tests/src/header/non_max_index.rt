@@ -3,27 +3,20 @@ use art_header::{NonMaxIndex, TryFromByteError};
 use std::test::Fail;
 
 #[test]
-fn is_made_of_all_bytes_but_the_last(rt: HostRuntime) {
+fn indices_are_all_bytes_but_the_last(rt: HostRuntime) -> Result<(), Fail> {
     assert!(rt; NonMaxIndex::new(0).map(|index| index.get()) == Some(0));
     assert!(rt; NonMaxIndex::new(19).map(|index| index.get()) == Some(19));
     assert!(rt; NonMaxIndex::new(254).map(|index| index.get()) == Some(254));
     assert!(rt; NonMaxIndex::new(255) == None);
     assert!(rt; NonMaxIndex::new_unchecked(7).get() == 7);
     assert!(rt; NonMaxIndex::default().get() == 0);
-}
 
-#[test]
-fn converts_from_and_into_numbers(rt: HostRuntime) -> Result<(), Fail> {
     assert!(rt; u8::from(NonMaxIndex::try_from(0u8)?) == 0);
     assert!(rt; usize::from(NonMaxIndex::try_from(254usize)?) == 254);
     assert!(rt; NonMaxIndex::try_from(255u8) == Err(TryFromByteError));
     assert!(rt; NonMaxIndex::try_from(255usize) == Err(TryFromByteError));
     assert!(rt; NonMaxIndex::try_from(256usize) == Err(TryFromByteError));
-    Ok(())
-}
 
-#[test]
-fn is_ordered_by_its_number(rt: HostRuntime) {
     let (zero, one, two) = (
         NonMaxIndex::new_unchecked(0),
         NonMaxIndex::new_unchecked(1),
@@ -31,10 +24,7 @@ fn is_ordered_by_its_number(rt: HostRuntime) {
     );
     assert!(rt; zero < one && one < two && zero < two);
     assert!(rt; zero == NonMaxIndex::default() && one != two);
-}
 
-#[test]
-fn says_why_a_number_is_refused(rt: HostRuntime) -> Result<(), Fail> {
     let text = format!(in rt.alloc(); "{}", TryFromByteError)?;
     assert!(rt; text.as_str() == "out of range integral type conversion attempted");
     Ok(())

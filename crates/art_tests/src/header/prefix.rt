@@ -15,7 +15,7 @@ fn check_prefix<const PREFIX_LEN: usize>(
 }
 
 #[test]
-fn stores_as_much_of_the_prefix_as_there_is_room_for(rt: HostRuntime) {
+fn stores_a_front_of_the_prefix_and_counts_children(rt: HostRuntime) -> Result<(), Fail> {
     let header = Header::<2>::new(b"abcd", 4);
     check_prefix(&rt, &header, b"ab", 4);
     assert!(rt; header.capped_prefix_len() == 2);
@@ -27,10 +27,7 @@ fn stores_as_much_of_the_prefix_as_there_is_room_for(rt: HostRuntime) {
     let header = Header::<16>::new(&[1, 2, 3, 4, 5, 6, 7, 8], 8);
     check_prefix(&rt, &header, &[1, 2, 3, 4, 5, 6, 7, 8], 8);
     assert!(rt; header.capped_prefix_len() == 8);
-}
 
-#[test]
-fn counts_children(rt: HostRuntime) {
     let mut header = Header::<16>::new(b"", 0);
     assert!(rt; header.num_children() == 0);
     header.inc_num_children();
@@ -41,10 +38,7 @@ fn counts_children(rt: HostRuntime) {
     assert!(rt; header.num_children() == 2);
     header.reset_num_children();
     assert!(rt; header.num_children() == 0);
-}
 
-#[test]
-fn is_equal_by_what_it_shows(rt: HostRuntime) -> Result<(), Fail> {
     let header = Header::<2>::new(b"abc", 4);
     // The third byte is not stored, so it is not seen.
     assert!(rt; header == Header::<2>::new(b"abx", 4));
@@ -58,7 +52,7 @@ fn is_equal_by_what_it_shows(rt: HostRuntime) -> Result<(), Fail> {
 }
 
 #[test]
-fn is_trimmed_from_the_left(rt: HostRuntime) {
+fn is_trimmed_and_extended(rt: HostRuntime) {
     let mut header = Header::<16>::new(&[1, 2, 3, 4, 5, 6, 7, 8], 8);
     header.ltrim_by(0);
     check_prefix(&rt, &header, &[1, 2, 3, 4, 5, 6, 7, 8], 8);
@@ -68,21 +62,15 @@ fn is_trimmed_from_the_left(rt: HostRuntime) {
     check_prefix(&rt, &header, &[5, 6, 7, 8], 4);
     header.ltrim_by(4);
     check_prefix(&rt, &header, &[], 0);
-}
 
-// The bytes that are not stored come from the key of a leaf below.
-#[test]
-fn is_trimmed_from_the_left_with_a_leaf(rt: HostRuntime) {
+    // The bytes that are not stored come from the key of a leaf below.
     let mut header = Header::<2>::new(b"abcd", 4);
     header.ltrim_by_with_leaf(1, 1, b"xabcdz");
     check_prefix(&rt, &header, b"bc", 3);
     let mut header = Header::<2>::new(b"abcd", 4);
     header.ltrim_by_with_leaf(4, 1, b"xabcdz");
     check_prefix(&rt, &header, b"", 0);
-}
 
-#[test]
-fn takes_more_prefix_and_gives_it_up(rt: HostRuntime) {
     let mut header = Header::<2>::new(b"abcd", 4);
     header.push_prefix(b"ef", 2);
     check_prefix(&rt, &header, b"ab", 6);

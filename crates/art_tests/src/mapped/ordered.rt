@@ -91,7 +91,7 @@ fn test_ordered_unsigned(rt: HostRuntime) -> Result<(), Fail> {
 }
 
 #[test]
-fn test_ordered_signed(rt: HostRuntime) -> Result<(), Fail> {
+fn test_ordered_signed_and_addresses(rt: HostRuntime) -> Result<(), Fail> {
     let alloc = rt.alloc();
     ordered_sequences::<ToIBE, i8>(&rt, alloc, [i8::MIN, 0, i8::MAX])?;
     ordered_sequences::<ToIBE, i16>(&rt, alloc, [i16::MIN, 0, i16::MAX])?;
@@ -99,6 +99,11 @@ fn test_ordered_signed(rt: HostRuntime) -> Result<(), Fail> {
     ordered_sequences::<ToIBE, i64>(&rt, alloc, [i64::MIN, 0, i64::MAX])?;
     ordered_sequences::<ToIBE, i128>(&rt, alloc, [i128::MIN, 0, i128::MAX])?;
     ordered_sequences::<ToIBE, isize>(&rt, alloc, [isize::MIN, 0, isize::MAX])?;
+
+    let (low, middle) = (Ipv4Addr::UNSPECIFIED, Ipv4Addr::LOCALHOST);
+    ordered::<ToOctets, Ipv4Addr>(&rt, alloc, low, middle, Ipv4Addr::BROADCAST)?;
+    let (low, middle) = (Ipv6Addr::UNSPECIFIED, Ipv6Addr::LOCALHOST);
+    ordered::<ToOctets, Ipv6Addr>(&rt, alloc, low, middle, Ipv6Addr::from_octets([255; 16]))?;
     Ok(())
 }
 
@@ -139,15 +144,5 @@ fn test_ordered_non_zero_signed(rt: HostRuntime) -> Result<(), Fail> {
     ordered_arrays::<ToIBE, NonZeroI128>(&rt, alloc, [NonZeroI128::MIN, one, NonZeroI128::MAX])?;
     let one = NonZeroIsize::new(1).ok_or("not 0")?;
     ordered_arrays::<ToIBE, NonZeroIsize>(&rt, alloc, [NonZeroIsize::MIN, one, NonZeroIsize::MAX])?;
-    Ok(())
-}
-
-#[test]
-fn test_ordered_addresses(rt: HostRuntime) -> Result<(), Fail> {
-    let alloc = rt.alloc();
-    let (low, middle) = (Ipv4Addr::UNSPECIFIED, Ipv4Addr::LOCALHOST);
-    ordered::<ToOctets, Ipv4Addr>(&rt, alloc, low, middle, Ipv4Addr::BROADCAST)?;
-    let (low, middle) = (Ipv6Addr::UNSPECIFIED, Ipv6Addr::LOCALHOST);
-    ordered::<ToOctets, Ipv6Addr>(&rt, alloc, low, middle, Ipv6Addr::from_octets([255; 16]))?;
     Ok(())
 }

@@ -117,6 +117,7 @@ fn check_asked<B: BytesMapping<D, Bytes = Vec<u8>>, D: PartialEq + Drop>(
     wanted: &D,
 ) -> Result<(), Fail> {
     let (bytes, same) = (text.to_vec(alloc)?, text.to_vec(alloc)?);
+    assert!(rt; B::is_value(&bytes));
     match B::checked_from_bytes(alloc, bytes) {
         Ok(read) => {
             assert!(rt; matches!(&read, Some(value) if *value == *wanted));

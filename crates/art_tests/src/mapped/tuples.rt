@@ -92,6 +92,11 @@ fn copy_tuple_as_bytes(rt: HostRuntime) -> Result<(), Fail> {
         Ipv4Addr::LOCALHOST,
     );
     written::<Mixed, (NonZeroI16, Ipv4Addr)>(&rt, alloc, value, &[129, 0, 127, 0, 0, 1])?;
+
+    type Four = ConcatTuple<(ToUBE, ToUBE, ToUBE, ToUBE)>;
+    written::<Four, (u8, u8, u8, u8)>(&rt, alloc, (1, 2, 3, 255), &[1, 2, 3, 255])?;
+    type Five = ConcatTuple<(ToUBE, ToUBE, ToUBE, ToUBE, ToIBE)>;
+    written::<Five, (u8, u16, u8, u8, i8)>(&rt, alloc, (1, 2, 3, 4, -1), &[1, 0, 2, 3, 4, 127])?;
     Ok(())
 }
 
@@ -104,26 +109,11 @@ fn parts_come_back(rt: HostRuntime) -> Result<(), Fail> {
     assert!(rt; host_back(alloc, Ipv4Addr::LOCALHOST, 7)? == (Ipv4Addr::LOCALHOST, 7));
     let text: Vec<u8> = vec![in alloc; 7; 1000]?;
     assert!(rt; key_back(alloc, text)?.len() == 1000);
-    Ok(())
-}
 
-#[test]
-fn equal_keys_hold_one_tuple(rt: HostRuntime) -> Result<(), Fail> {
-    let alloc = rt.alloc();
     let http = Mapped::<Named, ([u8; 3], u16)>::new(alloc, (*b"web", 80))?;
     let https = Mapped::<Named, ([u8; 3], u16)>::new(alloc, (*b"web", 443))?;
     assert!(rt; are_one_named(&http, &http.clone()?));
     assert!(rt; !are_one_named(&http, &https));
-    Ok(())
-}
-
-#[test]
-fn long_tuples_as_bytes(rt: HostRuntime) -> Result<(), Fail> {
-    let alloc = rt.alloc();
-    type Four = ConcatTuple<(ToUBE, ToUBE, ToUBE, ToUBE)>;
-    written::<Four, (u8, u8, u8, u8)>(&rt, alloc, (1, 2, 3, 255), &[1, 2, 3, 255])?;
-    type Five = ConcatTuple<(ToUBE, ToUBE, ToUBE, ToUBE, ToIBE)>;
-    written::<Five, (u8, u16, u8, u8, i8)>(&rt, alloc, (1, 2, 3, 4, -1), &[1, 0, 2, 3, 4, 127])?;
     Ok(())
 }
 

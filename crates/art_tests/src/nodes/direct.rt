@@ -45,6 +45,11 @@ fn children_stand_on_both_sides_of_each_border(rt: HostRuntime) {
         Unbounded,
         &[63, 64, 127, 128, 191, 192],
     );
+    let mut pairs = node.iter();
+    for byte in [192, 191, 128, 127, 64, 63] {
+        assert!(rt; pairs.next_back() == Some((byte, leaf(usize::from(byte)))));
+    }
+    assert!(rt; pairs.next_back() == None);
     has(&rt, &node, Excluded(63), Included(128), &[64, 127, 128]);
     has(&rt, &node, Included(193), Unbounded, &[]);
     has(&rt, &node, Unbounded, Excluded(64), &[63]);
@@ -56,10 +61,7 @@ fn children_stand_on_both_sides_of_each_border(rt: HostRuntime) {
     assert!(rt; node.min() == (64, leaf(64)));
     assert!(rt; node.max() == (191, leaf(191)));
     has(&rt, &node, Unbounded, Unbounded, &[64, 127, 128, 191]);
-}
 
-#[test]
-fn the_first_and_the_last_byte_have_a_child(rt: HostRuntime) {
     let mut node: Node = node_of(&rt, &[], &[(255, 255), (0, 0), (200, 200)]);
     has(&rt, &node, Included(0), Included(255), &[0, 200, 255]);
     has(&rt, &node, Excluded(200), Unbounded, &[255]);

@@ -3,51 +3,6 @@ use super::fixtures::leaf;
 use art_nodes::{InnerNode4, InnerNodeCommon, PessimisticMismatch, common_front_len};
 
 #[test]
-fn implicit_bytes_are_passed_over(rt: HostRuntime) {
-    let node = InnerNode4::<u8, u8, 2>::builder(b"abc", 3)
-        .write_child(49, leaf(1))
-        .write_child(50, leaf(2))
-        .build();
-    let found = node
-        .attempt_pessimistic_match_prefix(b"xyz")
-        .expect(&rt, "as long as the prefix");
-    assert!(rt; found.matched_bytes == 3);
-    assert!(rt; found.any_implicit_bytes);
-    let found = node
-        .attempt_pessimistic_match_prefix(b"abcd")
-        .expect(&rt, "longer than the prefix");
-    assert!(rt; found.matched_bytes == 3);
-    let short = node
-        .attempt_pessimistic_match_prefix(b"ab")
-        .expect_err(&rt, "shorter than the prefix");
-    assert!(rt; short.matched_bytes == 2);
-    assert!(rt; short.prefix_byte == None);
-    let short = node
-        .attempt_pessimistic_match_prefix(b"b")
-        .expect_err(&rt, "shorter than the prefix");
-    assert!(rt; short.matched_bytes == 1);
-    assert!(rt; short.prefix_byte == None);
-}
-
-#[test]
-fn stored_bytes_are_compared(rt: HostRuntime) {
-    let node = InnerNode4::<u8, u8, 16>::builder(b"abc", 3)
-        .write_child(49, leaf(1))
-        .write_child(50, leaf(2))
-        .build();
-    let differs = node
-        .attempt_pessimistic_match_prefix(b"abd2")
-        .expect_err(&rt, "another third byte");
-    assert!(rt; differs.matched_bytes == 2);
-    assert!(rt; differs.prefix_byte == Some(99));
-    let found = node
-        .attempt_pessimistic_match_prefix(b"abc1")
-        .expect(&rt, "begins with the prefix");
-    assert!(rt; found.matched_bytes == 3);
-    assert!(rt; !found.any_implicit_bytes);
-}
-
-#[test]
 fn lengths_alone_are_compared(rt: HostRuntime) {
     let node = InnerNode4::<u8, u8, 16>::builder(b"abc", 3)
         .write_child(49, leaf(1))

@@ -175,6 +175,10 @@ fn apply_answers_each_command(rt: HostRuntime) -> Result<(), Fail> {
     }
     assert!(rt; Command::Remove(3) == Command::Remove(3));
     assert!(rt; Command::Remove(3) != Command::Lookup(3));
+
+    let numbers = Sequence::from_vec(vec![in rt.alloc(); 3, 1, 2]?);
+    assert!(rt; numbers.as_slice() == [3, 1, 2].as_slice());
+    assert!(rt; numbers.into_vec().as_slice() == [3, 1, 2].as_slice());
     Ok(())
 }
 
@@ -209,11 +213,7 @@ fn grows_to_256_children_and_shrinks_again(rt: HostRuntime) -> Result<(), Fail> 
         commands.push(Command::Remove(byte))?;
     }
     assert!(rt; left_by(&rt, &commands)? == (NodeType::Node4, 0));
-    Ok(())
-}
 
-#[test]
-fn starts_empty_whatever_the_count(rt: HostRuntime) -> Result<(), Fail> {
     let mut header = Header::<2>::new(b"abc", 3);
     header.inc_num_children();
     let (replies, node) = replay(rt.alloc(), header, &[] as &[Command])?;
@@ -264,12 +264,4 @@ fn a_refused_range_leaves_the_node(rt: HostRuntime) -> Result<(), Fail> {
             Err(ALL_STANDS.into())
         }
     }
-}
-
-#[test]
-fn a_sequence_gives_its_vector_back(rt: HostRuntime) -> Result<(), Fail> {
-    let numbers = Sequence::from_vec(vec![in rt.alloc(); 3, 1, 2]?);
-    assert!(rt; numbers.as_slice() == [3, 1, 2].as_slice());
-    assert!(rt; numbers.into_vec().as_slice() == [3, 1, 2].as_slice());
-    Ok(())
 }

@@ -210,28 +210,6 @@ fn a_text_that_parts_inside_a_prefix_makes_a_node(rt: HostRuntime) -> Result<(),
     Ok(())
 }
 
-#[test]
-fn a_text_comes_and_goes(rt: HostRuntime) -> Result<(), Fail> {
-    let alloc = rt.alloc();
-    let mut tree = Keys::new(alloc);
-    for (number, text) in ["abc1", "abc2", "abd"].iter().enumerate() {
-        add(&rt, alloc, &mut tree, text, number)?;
-    }
-    let root = root_of(&rt, &tree);
-    check_inner(&rt, tree.arena(), root, NodeType::Node4, 2, "ab", 2);
-    assert!(rt; child_of(&rt, tree.arena(), root, 99).node_type() == NodeType::Node4);
-    assert!(rt; child_of(&rt, tree.arena(), root, 100).node_type() == NodeType::Leaf);
-    check_texts(&rt, &tree, &[("abc1", 0), ("abc2", 1), ("abd", 2)]);
-    check_clash(&rt, alloc, &mut tree, "ab")?;
-    check_removed(&rt, &mut tree, "abd", 2)?;
-    let root = root_of(&rt, &tree);
-    check_inner(&rt, tree.arena(), root, NodeType::Node4, 3, "ab", 2);
-    assert!(rt; child_of(&rt, tree.arena(), root, 49).node_type() == NodeType::Leaf);
-    assert!(rt; child_of(&rt, tree.arena(), root, 50).node_type() == NodeType::Leaf);
-    check_texts(&rt, &tree, &[("abc1", 0), ("abc2", 1)]);
-    Ok(())
-}
-
 // The root is over `abcde1` and `abcde2`, and stores two bytes of what they share.
 fn check_joined(rt: &impl Abort, tree: &Keys) {
     let root = root_of(rt, tree);
@@ -254,8 +232,20 @@ fn a_node_of_one_child_goes(rt: HostRuntime) -> Result<(), Fail> {
     check_removed(&rt, &mut tree, "abz", 2)?;
     let root = root_of(&rt, &tree);
     check_inner(&rt, tree.arena(), root, NodeType::Node4, 5, "ab", 2);
+    assert!(rt; child_of(&rt, tree.arena(), root, 49).node_type() == NodeType::Leaf);
+    assert!(rt; child_of(&rt, tree.arena(), root, 50).node_type() == NodeType::Leaf);
     check_texts(&rt, &tree, &[("abcde1", 0), ("abcde2", 1)]);
     check_joined(&rt, &tree);
+    // The same as of a tree that never had the third text.
+    let mut entries = Vec::new(alloc);
+    for (number, text) in ["abcde1", "abcde2"].iter().enumerate() {
+        entries.push((String::from_str(alloc, text)?, number))?;
+    }
+    let Ok(loaded) = Keys::load(alloc, entries) else {
+        return Err(AllocError.into());
+    };
+    let root = root_of(&rt, &loaded);
+    check_inner(&rt, loaded.arena(), root, NodeType::Node4, 5, "ab", 2);
     check_removed(&rt, &mut tree, "abcde1", 0)?;
     assert!(rt; root_of(&rt, &tree).node_type() == NodeType::Leaf);
     check_texts(&rt, &tree, &[("abcde2", 1)]);
@@ -264,6 +254,28 @@ fn a_node_of_one_child_goes(rt: HostRuntime) -> Result<(), Fail> {
     assert!(rt; tree.remove(b"abz")?.is_none());
     add(&rt, alloc, &mut tree, "7", 7)?;
     assert!(rt; root_of(&rt, &tree).node_type() == NodeType::Leaf);
+    Ok(())
+}
+
+#[test]
+fn a_text_comes_and_goes(rt: HostRuntime) -> Result<(), Fail> {
+    let alloc = rt.alloc();
+    let mut tree = Keys::new(alloc);
+    for (number, text) in ["abc1", "abc2", "abd"].iter().enumerate() {
+        add(&rt, alloc, &mut tree, text, number)?;
+    }
+    let root = root_of(&rt, &tree);
+    check_inner(&rt, tree.arena(), root, NodeType::Node4, 2, "ab", 2);
+    assert!(rt; child_of(&rt, tree.arena(), root, 99).node_type() == NodeType::Node4);
+    assert!(rt; child_of(&rt, tree.arena(), root, 100).node_type() == NodeType::Leaf);
+    check_texts(&rt, &tree, &[("abc1", 0), ("abc2", 1), ("abd", 2)]);
+    check_clash(&rt, alloc, &mut tree, "ab")?;
+    check_removed(&rt, &mut tree, "abd", 2)?;
+    let root = root_of(&rt, &tree);
+    check_inner(&rt, tree.arena(), root, NodeType::Node4, 3, "ab", 2);
+    assert!(rt; child_of(&rt, tree.arena(), root, 49).node_type() == NodeType::Leaf);
+    assert!(rt; child_of(&rt, tree.arena(), root, 50).node_type() == NodeType::Leaf);
+    check_texts(&rt, &tree, &[("abc1", 0), ("abc2", 1)]);
     Ok(())
 }
 
@@ -349,14 +361,20 @@ fn check_words(rt: &impl Abort, tree: &Words, count: usize) {
     }
 }
 
-// Inserts a word, if there is memory. Where that is refused, the tree is as before, and a second
-// insert takes the entry.
-fn insert_at_last(rt: &impl Abort, tree: &mut Words, word: [u8; 7], number: usize) {
+// Inserts a word. Where that is refused memory, the tree is as before, the next insert takes the entry,
+// and the test ends.
+fn insert_word(
+    rt: &impl Abort,
+    tree: &mut Words,
+    word: [u8; 7],
+    number: usize,
+) -> Result<(), Fail> {
+    assert!(rt; number < WORDS.len());
     let root = tree.root();
     let fault = match tree.insert(word, number) {
         Ok(before) => {
             assert!(rt; before.is_none());
-            return;
+            return Ok(());
         }
         Err(fault) => fault,
     };
@@ -364,16 +382,20 @@ fn insert_at_last(rt: &impl Abort, tree: &mut Words, word: [u8; 7], number: usiz
     assert!(rt; fault.key == word && fault.value == number);
     assert!(rt; tree.root() == root);
     check_words(rt, tree, number);
-    assert!(rt; tree.insert(fault.key, fault.value).is_ok());
+    let again = tree.insert(fault.key, fault.value);
+    assert!(rt; matches!(&again, Ok(None)));
+    check_words(rt, tree, number + 1);
+    Err(ALL_STANDS.into())
 }
 
 #[test]
-fn a_refused_insert_leaves_the_tree(rt: HostRuntime) {
+fn a_refused_insert_leaves_the_tree(rt: HostRuntime) -> Result<(), Fail> {
     let mut tree = Words::new(rt.alloc());
     for (number, word) in WORDS.iter().enumerate() {
-        insert_at_last(&rt, &mut tree, *word, number);
+        insert_word(&rt, &mut tree, *word, number)?;
     }
     check_words(&rt, &tree, WORDS.len());
+    Ok(())
 }
 
 type Bytes = ArtTree<[u8; 1], u8, 0>;

@@ -47,18 +47,3 @@ fn a_c_string_begins_no_other(rt: HostRuntime) -> Result<(), Fail> {
     check(&rt, &arena, root, &rows);
     Ok(())
 }
-
-#[test]
-fn a_string_may_begin_another(rt: HostRuntime) -> Result<(), Fail> {
-    let alloc = rt.alloc();
-    let mut entries = Vec::new(alloc);
-    for (number, text) in ["a", "ab"].iter().enumerate() {
-        entries.push((String::from_str(alloc, text)?, number))?;
-    }
-    let mut arena = NodeArena::<String, usize, 2>::new(alloc);
-    let Err(fault) = load(alloc, &mut arena, entries) else {
-        panic!(rt; "loaded");
-    };
-    assert!(rt; fault.refusal == LoadRefusal::Prefix(0));
-    Ok(())
-}

@@ -53,16 +53,13 @@ fn entries_are_read_by_text(rt: HostRuntime) -> Result<(), Fail> {
 }
 
 #[test]
-fn a_new_tree_has_no_entry(rt: HostRuntime) {
+fn a_leaf_alone_is_both_ends(rt: HostRuntime) -> Result<(), Fail> {
     let tree = ArtTree::<SliceKey, usize, 16>::new(rt.alloc());
     assert!(&rt; tree.get(b"").is_none());
     assert!(&rt; tree.first().is_none());
     assert!(&rt; tree.last().is_none());
     assert!(&rt; tree.root().is_none());
-}
 
-#[test]
-fn a_leaf_alone_is_both_ends(rt: HostRuntime) -> Result<(), Fail> {
     let tree = tree_of::<2>(rt.alloc(), &[b""])?;
     assert!(&rt; tree.get(b"") == Some(&0));
     assert!(&rt; tree.get(b"a").is_none());

@@ -80,21 +80,23 @@ fn check_matches<const PREFIX_LEN: usize>(
 #[test]
 fn a_root_matches_stored_bytes_alone_or_all(rt: HostRuntime) -> Result<(), Fail> {
     let alloc = rt.alloc();
-    let rows: [(&[u8], Cheap, Full); 4] = [
+    let rows: [(&[u8], Cheap, Full); 5] = [
         (b"xyz", Ok((3, true)), Err((0, b'a', Ordering::Less))),
         (b"ab", Err((2, None)), Err((2, b'c', Ordering::Greater))),
         (b"b", Err((1, None)), Err((0, b'a', Ordering::Less))),
         (b"abc", Ok((3, true)), Ok(3)),
+        (b"abcd", Ok((3, true)), Ok(3)),
     ];
     check_matches::<0>(&rt, alloc, NodeArena::new(alloc), &rows)?;
     check_matches::<2>(&rt, alloc, NodeArena::new(alloc), &rows)?;
-    let rows: [(&[u8], Cheap, Full); 2] = [
+    let rows: [(&[u8], Cheap, Full); 3] = [
         (
             b"abd2",
             Err((2, Some(b'c'))),
             Err((2, b'c', Ordering::Less)),
         ),
         (b"abc", Ok((3, false)), Ok(3)),
+        (b"abc1", Ok((3, false)), Ok(3)),
     ];
     check_matches::<16>(&rt, alloc, NodeArena::new(alloc), &rows)?;
     Ok(())

@@ -58,11 +58,7 @@ fn paths_end_at_the_leaf(rt: HostRuntime) -> Result<(), Fail> {
     let texts: [&[u8]; 1] = [b""];
     let rows: [Row; 2] = [(b"", Root(0), 1), (b"a", Nothing, 1)];
     check_always(&rt, rt.alloc(), &texts, &rows)?;
-    Ok(())
-}
 
-#[test]
-fn nested_keys_are_found(rt: HostRuntime) -> Result<(), Fail> {
     let texts: [&[u8]; 5] = [b"aaaa", b"aaab", b"aab", b"ab", b"b"];
     let rows: [Row; 5] = [
         (b"aaaa", Normal(0, b'a', b'a'), 5),
@@ -72,11 +68,7 @@ fn nested_keys_are_found(rt: HostRuntime) -> Result<(), Fail> {
         (b"aaa", Nothing, 4),
     ];
     check_always(&rt, rt.alloc(), &texts, &rows)?;
-    Ok(())
-}
 
-#[test]
-fn the_first_and_the_last_byte_lead_on(rt: HostRuntime) -> Result<(), Fail> {
     let texts: [&[u8]; 3] = [&[0], &[255, 0], &[255, 255]];
     let rows: [Row; 4] = [
         (&[255, 255], Normal(2, 255, 255), 3),

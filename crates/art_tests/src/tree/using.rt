@@ -33,20 +33,6 @@ fn value_of<'a, K: AsBytes, V, const PREFIX_LEN: usize>(
     Some(arena.as_value_ref(leaf))
 }
 
-#[test]
-fn metals_are_read_by_name(rt: HostRuntime) -> Result<(), Fail> {
-    let alloc = rt.alloc();
-    let mut entries = Vec::new(alloc);
-    for (name, number) in [("gold", 79), ("iridium", 77), ("iron", 26)] {
-        entries.push((String::from_str(alloc, name)?, number))?;
-    }
-    let mut arena = NodeArena::<String, u8, 16>::new(alloc);
-    let root = table(alloc, &mut arena, entries).ok_or("not loaded")?;
-    assert!(rt; value_of(&arena, root, b"iron") == Some(&26));
-    assert!(rt; value_of(&arena, root, b"iro").is_none());
-    Ok(())
-}
-
 /// Puts a value under a key. Where that is answered, the key's text has this entry.
 fn put<K: AsBytes + Drop, V: Drop, const PREFIX_LEN: usize>(
     tree: &mut ArtTree<K, V, PREFIX_LEN>,
@@ -69,8 +55,17 @@ fn forget<K: AsBytes + Drop, V: Drop, const PREFIX_LEN: usize>(
 }
 
 #[test]
-fn a_metal_comes_and_goes(rt: HostRuntime) -> Result<(), Fail> {
+fn metals_are_read_by_name_and_one_comes_and_goes(rt: HostRuntime) -> Result<(), Fail> {
     let alloc = rt.alloc();
+    let mut entries = Vec::new(alloc);
+    for (name, number) in [("gold", 79), ("iridium", 77), ("iron", 26)] {
+        entries.push((String::from_str(alloc, name)?, number))?;
+    }
+    let mut arena = NodeArena::<String, u8, 16>::new(alloc);
+    let root = table(alloc, &mut arena, entries).ok_or("not loaded")?;
+    assert!(rt; value_of(&arena, root, b"iron") == Some(&26));
+    assert!(rt; value_of(&arena, root, b"iro").is_none());
+
     let mut tree = ArtTree::<String, u8, 16>::new(alloc);
     if !put(&mut tree, String::from_str(alloc, "iron")?, 26) {
         return Err(AllocError.into());
