@@ -3,7 +3,7 @@ ghost use Rattle.std.specs.Prelude.{◌≡◌, ◌++◌, ◌∷◌, [], ℕ, Lis
 ghost use Rattle.art_arena.specs.Standing.{TreeAt, TreeUnder};
 
 use art_arena::laws::{allocating_leaves_trees_standing, an_allocated_node_makes_a_tree};
-use art_arena::{ArenaNode, FullPrefix, NodeArena};
+use art_arena::{FullPrefix, NodeArena};
 use art_bytes::AsBytes;
 use art_nodes::{InnerNode4, InnerNodeCommon, LeafNode, OpaqueNodePtr};
 use std::alloc::{AllocError, Global};
@@ -120,9 +120,11 @@ fn fork_over<const PREFIX_LEN: usize>(
     low: u8,
     high: u8,
 ) -> Result<InnerNode4<Vec<u8>, u8, PREFIX_LEN>, AllocError>
-    ensures { (depth : ℕ) (below : TreeUnder ⟦<Vec<u8> as AsBytes>⟧.text arena.old node.entry depth) →
+    ensures { (depth : ℕ)
+        (below : TreeUnder ⟦<Vec<u8> as AsBytes>⟧.text arena.old node.entry depth) →
         below.path ≡ (path.now ++ prefix.now) ++ low ∷ [] →
-        IfOk result (λ over. (under : TreeUnder ⟦<Vec<u8> as AsBytes>⟧.text arena.new over (length path.now)) ×
+        IfOk result (λ over.
+        (under : TreeUnder ⟦<Vec<u8> as AsBytes>⟧.text arena.new over (length path.now)) ×
         (under.path ≡ path.now)) }
 {
     let first = plant(arena, node)?;

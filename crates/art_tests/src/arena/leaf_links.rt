@@ -1,6 +1,6 @@
 //! Leaves linked and taken out by hand.
 use super::put;
-use art_arena::{ArenaNode, LeafLinks, NodeArena};
+use art_arena::{LeafLinks, NodeArena};
 use art_bytes::AsBytes;
 use art_nodes::{LeafNode, NodePtr};
 use std::cmp::Ordering;

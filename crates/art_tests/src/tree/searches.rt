@@ -1,6 +1,9 @@
 // Searches, whatever the nodes store of their prefixes.
+ghost use Rattle.art_tree.specs.Search.{HasTree};
+
 use super::Answer::{Child, Normal, Nothing, Root};
 use super::*;
+use art_tree::{End, end_leaf};
 
 // The keys are answered so in the tree of these texts.
 fn check_texts<'a, const PREFIX_LEN: usize>(
@@ -159,5 +162,32 @@ fn ten_thousand_levels_take_no_stack(rt: HostRuntime) -> Result<(), Fail> {
     let root = load_all(alloc, &mut arena, keys)?;
     let rows: [Row; 1] = [(&bytes, Normal(0, b'a', b'a'), 10_001)];
     check(&rt, &arena, root, &rows);
+    Ok(())
+}
+
+// The first leaf and the last one of the tree have these numbers.
+fn check_ends<K: AsBytes, const PREFIX_LEN: usize>(
+    rt: &impl Abort,
+    arena: &NodeArena<K, usize, PREFIX_LEN>,
+    root: OpaqueNodePtr<K, usize, PREFIX_LEN>,
+    first: usize,
+    last: usize,
+)
+    requires { HasTree K.text arena.now root }
+{
+    let leaf = end_leaf(arena, root, End::First);
+    assert!(rt; arena.holds(leaf) && *arena.as_value_ref(leaf) == first);
+    let leaf = end_leaf(arena, root, End::Last);
+    assert!(rt; arena.holds(leaf) && *arena.as_value_ref(leaf) == last);
+}
+
+#[test]
+fn a_tree_ends_at_its_first_and_its_last_leaf(rt: HostRuntime) -> Result<(), Fail> {
+    let alloc = rt.alloc();
+    let mut arena = NodeArena::new(alloc);
+    let root = load_texts::<2>(alloc, &mut arena, &[b"abc1", b"abc2", b"b"])?;
+    check_ends(&rt, &arena, root, 0, 2);
+    let root = load_texts::<2>(alloc, &mut arena, &[b""])?;
+    check_ends(&rt, &arena, root, 0, 0);
     Ok(())
 }

@@ -17,7 +17,8 @@ fn push_back<K: AsBytes, V, const PREFIX_LEN: usize>(
     requires unlinked { IsUnlinked arena.old (slab_key this) }
     requires apart { slab_key this ≢ slab_key last }
     requires last_knit { IsKnit arena.old (slab_key last) }
-    requires above { text_order (text_at K.text arena.old (slab_key last)) (text_at K.text arena.old (slab_key this)) ≡ Less }
+    requires above { text_order (text_at K.text arena.old (slab_key last))
+        (text_at K.text arena.old (slab_key this)) ≡ Less }
     ensures { (leaves : List _) → Spells arena.old (leaves ++ slab_key last ∷ []) →
         Spells arena.new (leaves ++ slab_key last ∷ slab_key this ∷ []) }
 {
