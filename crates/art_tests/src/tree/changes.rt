@@ -210,9 +210,22 @@ fn a_text_that_parts_inside_a_prefix_makes_a_node(rt: HostRuntime) -> Result<(),
     Ok(())
 }
 
-// The root is over `abcde1` and `abcde2`, and stores two bytes of what they share.
+// A tree of the two texts that never had another.
+fn pair_loaded(alloc: Global) -> Result<Keys, AllocError> {
+    let first = (String::from_str(alloc, "abcde1")?, 0);
+    let second = (String::from_str(alloc, "abcde2")?, 1);
+    match Keys::load(alloc, vec![in alloc; first, second]?) {
+        Ok(tree) => Ok(tree),
+        Err(_) => Err(AllocError),
+    }
+}
+
+// The root is over `abcde1` and `abcde2`, and stores two bytes of what they share. Its children are
+// leaves.
 fn check_joined(rt: &impl Abort, tree: &Keys) {
     let root = root_of(rt, tree);
+    assert!(rt; child_of(rt, tree.arena(), root, 49).node_type() == NodeType::Leaf);
+    assert!(rt; child_of(rt, tree.arena(), root, 50).node_type() == NodeType::Leaf);
     let rows: [Row; 2] = [
         (b"abcde2", Answer::Child(1, b'2'), 2),
         (b"abXde2", Answer::Nothing, 2),
@@ -232,20 +245,9 @@ fn a_node_of_one_child_goes(rt: HostRuntime) -> Result<(), Fail> {
     check_removed(&rt, &mut tree, "abz", 2)?;
     let root = root_of(&rt, &tree);
     check_inner(&rt, tree.arena(), root, NodeType::Node4, 5, "ab", 2);
-    assert!(rt; child_of(&rt, tree.arena(), root, 49).node_type() == NodeType::Leaf);
-    assert!(rt; child_of(&rt, tree.arena(), root, 50).node_type() == NodeType::Leaf);
     check_texts(&rt, &tree, &[("abcde1", 0), ("abcde2", 1)]);
     check_joined(&rt, &tree);
-    // The same as of a tree that never had the third text.
-    let mut entries = Vec::new(alloc);
-    for (number, text) in ["abcde1", "abcde2"].iter().enumerate() {
-        entries.push((String::from_str(alloc, text)?, number))?;
-    }
-    let Ok(loaded) = Keys::load(alloc, entries) else {
-        return Err(AllocError.into());
-    };
-    let root = root_of(&rt, &loaded);
-    check_inner(&rt, loaded.arena(), root, NodeType::Node4, 5, "ab", 2);
+    check_joined(&rt, &pair_loaded(alloc)?);
     check_removed(&rt, &mut tree, "abcde1", 0)?;
     assert!(rt; root_of(&rt, &tree).node_type() == NodeType::Leaf);
     check_texts(&rt, &tree, &[("abcde2", 1)]);
