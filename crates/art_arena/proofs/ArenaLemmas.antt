@@ -5,7 +5,8 @@ use Rattle.slab.proofs.SlabLemmas.{ContainsKey-within}
 use Rattle.std.proofs.lemmas.List.Sums.{sum_by-set}
 use Rattle.art_header.specs.declared.node_type.NodeType.{NodeType}
 use Rattle.art_header.specs.Header.{Header}
-use Rattle.art_nodes.specs.Inner.{Inner, with_prefix}
+use Rattle.art_header.specs.NodeType.{most_children}
+use Rattle.art_nodes.specs.Inner.{Inner, IsInner, with_prefix}
 use Rattle.art_nodes.specs.Pointers.{node_kind, opaque_key}
 use Rattle.art_nodes.specs.declared.pointers.OpaqueNodePtr.{OpaqueNodePtr}
 use Rattle.art_nodes.specs.declared.leaf_node.LeafNode.{LeafNode}
@@ -64,6 +65,12 @@ pub Changes-prefix : {K V : Type 0} {P : ℕ} {old new : ArenaOf K V P} {at poin
 Changes-prefix {old = old} {new = new} {at = at} {there = there} {node = node} header same held_there made changes is =
     let same_node : there ≡ node = search rules in
     subst (λ p. Changes old new p (HeldInner (with_prefix node header))) same (subst (λ n. Changes old new at (HeldInner n)) (made ∙ ap (λ n. with_prefix n header) same_node) changes)
+
+-- the node at a pointer is sound for the kind of the pointer, as the pointer's caller names it
+pub IsInner-held : {K V : Type 0} {P : ℕ} (arena : ArenaOf K V P) {at pointer : OpaqueNodePtr K V P} {there node : Inner (OpaqueNodePtr K V P)} → at ≡ pointer → held arena at ≡ HeldInner there → IsInner P (most_children (node_kind at)) there → held arena pointer ≡ HeldInner node → IsInner P (most_children (node_kind pointer)) node
+IsInner-held {P = P} arena {at = at} {there = there} {node = node} same held_there sound is =
+    let same_node : there ≡ node = search rules in
+    subst (λ p. IsInner P (most_children (node_kind p)) node) same (subst (IsInner P (most_children (node_kind at))) same_node sound)
 
 -- room made in a slab is room of the arena for the kind
 pub made_room : {T E : Type 0} (result : Result Unit E) (slab : Slab T) (additional : ℕ) → OnOk result (HasRoomFor slab additional) → OnOk result (additional ≤ slab_room slab)

@@ -1,5 +1,7 @@
 mod ArenaLemmas
 mod EndLemmas
+mod KeptLemmas
+mod KnitLemmas
 mod LeafLemmas
 mod LinkedLists
 mod MatchLemmas

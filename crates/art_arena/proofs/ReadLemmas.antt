@@ -1,5 +1,5 @@
 -- The leaf that a node's whole prefix is read from.
-use Rattle.std.proofs.Common.{◌≡◌, ◌≢◌, ◌∙◌, ℕ, List, Some, Contains, sym, subst}
+use Rattle.std.proofs.Common.{◌≡◌, ◌∙◌, ℕ, List, Some, Contains, sym, subst}
 use Rattle.art_header.specs.declared.node_type.NodeType.TheVariants.{Leaf}
 use Rattle.art_nodes.specs.ChildMap.{first_pair}
 use Rattle.art_nodes.specs.Inner as nodes
@@ -7,13 +7,13 @@ use Rattle.art_nodes.specs.Pointers.{slab_key, opaque_pointer}
 use Rattle.art_nodes.specs.declared.pointers.NodePtr.{NodePtr}
 use Rattle.art_nodes.specs.declared.pointers.OpaqueNodePtr.{OpaqueNodePtr}
 use Rattle.art_nodes.specs.declared.leaf_node.LeafNode.{LeafNode}
-use Rattle.art_arena.specs.Arena.{ArenaOf, held, Nothing, HeldLeaf}
+use Rattle.art_arena.specs.Arena.{ArenaOf, held, HeldLeaf}
 use Rattle.art_arena.specs.Ends.{IsAtEnd}
 use Rattle.art_arena.specs.Standing.{TreeAt, TreeUnder, leaf_text, IsLeafOf}
 use Rattle.art_arena.specs.Trees.{leaves}
 use Rattle.art_arena.specs.declared.ends.End.TheVariants.{First}
 use Rattle.art_arena.proofs.EndLemmas.{IsToEnd, end-contains, to-end-under}
-use Rattle.art_arena.proofs.WayLemmas.{IsCut, IsCut-leaf, leaf-is-held, leaf-text}
+use Rattle.art_arena.proofs.WayLemmas.{IsCut, IsCut-leaf, leaf-text}
 
 module _ {K V : Type 0} {P : ℕ} (text : K → List ℕ) (arena : ArenaOf K V P) (node : nodes.Inner (OpaqueNodePtr K V P)) (depth : ℕ) (least : ℕ × OpaqueNodePtr K V P) (first : first_pair node.children ≡ Some least) where
   way_to_child : (below : TreeUnder text arena node depth) → IsToEnd text arena First below.tree least.1 0
@@ -42,12 +42,6 @@ module _ {K V : Type 0} {P : ℕ} (text : K → List ℕ) (arena : ArenaOf K V P
 
     pub leaf_below : (below : TreeUnder text arena node depth) → IsLeafOf below.tree pointer
     leaf_below below = ((end_of_part below).0, leaf_of_whole below)
-
-    pub leaf_taken : TreeUnder text arena node depth → held arena (opaque_pointer Leaf (slab_key pointer)) ≢ Nothing
-    leaf_taken below =
-        let on = way_to_child below in
-        let leaf = leaf_of_part below in
-        leaf-is-held P (leaf_text text) (held arena) on.part (opaque_pointer Leaf (slab_key pointer)) leaf.0 on.stands leaf.1
 
     -- its text has the prefix
     pub prefix_in_leaf : (below : TreeUnder text arena node depth) (value : LeafNode K V P) (n : ℕ) (bytes : List ℕ) → held arena (opaque_pointer Leaf (slab_key pointer)) ≡ HeldLeaf value → bytes ≡ leaf_text text value → n ≡ node.prefix_len → IsCut P (leaf_text text) (held arena) depth n bytes below.tree

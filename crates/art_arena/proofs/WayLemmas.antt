@@ -43,12 +43,6 @@ module _ {H L : Type 0} (room : ℕ) (text_of : L → List ℕ) (held_at : H →
       let same : value ≡ found.0 = cc in
       ap text_of same ∙ found.2
 
-  pub leaf-is-held : (tree : Tree H) (pointer : H) (text : List ℕ) → Stands room text_of held_at tree → Contains (leaves tree) (pointer, text) → held_at pointer ≢ Nothing
-  unfolding LeafHeld
-  leaf-is-held tree pointer text stands in_tree free =
-      let found = All-contains LeafHeld (leaves tree) (pointer, text) (leaves-held tree stands) in_tree in
-      let one : HeldLeaf found.0 ≡ Nothing = sym found.1 ∙ free in absurd (cc)
-
   -- what holds of each text holds of a leaf's
   pub of_leaf : (P : List ℕ → Type 0) (tree : Tree H) (pointer : H) (text : List ℕ) → All P (texts tree) → Contains (leaves tree) (pointer, text) → P text
   of_leaf P tree pointer text all (k, inside, is) =

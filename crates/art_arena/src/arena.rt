@@ -4,7 +4,8 @@ ghost use Rattle.std.specs.Borrow.{Lends, sem};
 ghost use Rattle.std.specs.Option.{option_copied, option_map};
 ghost use Rattle.slab.specs.Slab.{get, ContainsKey};
 ghost use Rattle.art_header.specs.declared.node_type.NodeType.TheVariants as NodeType;
-ghost use Rattle.art_nodes.specs.Inner.{with_prefix};
+ghost use Rattle.art_header.specs.NodeType.{most_children};
+ghost use Rattle.art_nodes.specs.Inner.{IsInner, with_prefix};
 ghost use Rattle.art_nodes.specs.Leaf.{leaf_key, leaf_value, with_value};
 ghost use Rattle.art_nodes.specs.Pointers.{slab_key, node_kind};
 ghost use Rattle.art_arena.specs.Links.{HoldsLeaf, leaf_at, with_value_at};
@@ -520,7 +521,9 @@ impl<K, V, const PREFIX_LEN: usize> NodeArena<K, V, PREFIX_LEN> {
     /// The header of an inner node, or None for a leaf. The pointer has to be held.
     pub fn header(&self, pointer: OpaqueNodePtr<K, V, PREFIX_LEN>) -> Option<&Header<PREFIX_LEN>>
         requires { held self.now pointer ≢ Nothing }
-        ensures { option_copied result ≡ held_header (held self.now pointer) }
+        ensures header { option_copied result ≡ held_header (held self.now pointer) }
+        ensures sound { (node : _) → held self.now pointer ≡ HeldInner node →
+            IsInner PREFIX_LEN (most_children (node_kind pointer)) node }
     {
         match pointer.to_node_ptr() {
             ConcreteNodePtr::Node4(node) => Some(self.as_ref(node).header()),

@@ -5,6 +5,7 @@ ghost use Rattle.art_nodes.specs.Inner.{Inner};
 ghost use Rattle.art_nodes.specs.Pointers.{slab_key, opaque_pointer};
 ghost use Rattle.art_arena.specs.Arena.{held, HeldInner, Nothing};
 ghost use Rattle.art_arena.specs.Ends.{end_pair, IsAtEnd};
+ghost use Rattle.art_arena.specs.Links.{HoldsLeaf};
 ghost use Rattle.art_arena.specs.Standing.{TreeAt};
 ghost use Rattle.art_arena.specs.Trees.{leaves};
 
@@ -70,8 +71,9 @@ pub fn end_leaf<K: AsBytes, V, const PREFIX_LEN: usize>(
     end: End,
 ) -> NodePtr<PREFIX_LEN, LeafNode<K, V, PREFIX_LEN>>
     requires tree { TreeAt K.text arena.now pointer }
-    ensures { (found : TreeAt K.text arena.now pointer) →
+    ensures at_end { (found : TreeAt K.text arena.now pointer) →
         IsAtEnd end (leaves found.tree) (opaque_pointer Leaf (slab_key result)) }
+    ensures held { HoldsLeaf arena.now (slab_key result) }
 {
     // Each step makes the path longer, and a leaf's text, which is longer still, is shorter than 2^64.
     let mut at = pointer;

@@ -1,8 +1,10 @@
 //! The whole prefix of an inner node, however few of its bytes the node stores.
-ghost use Rattle.std.specs.Prelude.{◌≡◌, ◌≢◌, ◌↔◌, ◌<◌, ◌≤◌, ◌++◌, ◌∷◌, ℕ, List, length, drop, All, None, IsOk, IsSome, IfSome, IfErr};
+ghost use Rattle.std.specs.Prelude.{◌≡◌, ◌≢◌, ◌↔◌, ◌<◌, ◌≤◌, ◌+◌, ◌++◌, ◌∷◌, ℕ, List, length, drop, All, None, IsOk, IsSome, IfSome, IfOk, IfErr};
 ghost use Rattle.std.specs.declared.cmp.Ordering.TheVariants.{Equal};
 ghost use Rattle.art_bytes.specs.Text.{IsFront};
+ghost use Rattle.art_nodes.specs.Pointers.{slab_key};
 ghost use Rattle.art_arena.specs.FullPrefix.{match_of, LieOnSide};
+ghost use Rattle.art_arena.specs.Links.{HoldsLeaf};
 ghost use Rattle.art_arena.specs.SharedFront.{IsSharedFrom, full_match};
 ghost use Rattle.art_arena.specs.Standing.{IsLeafOf, TreeUnder};
 ghost use Rattle.art_arena.specs.Trees.{texts};
@@ -38,6 +40,7 @@ pub trait FullPrefix<K: AsBytes, V, const PREFIX_LEN: usize>: InnerNodeCommon<K,
         ensures leaf_where_longer { IsSome result.1 ↔ (PREFIX_LEN < length result.0.now) }
         ensures leaf_below { (below : TreeUnder K.text arena.now (Self.inner self.now) depth) →
             IfSome result.1 (IsLeafOf below.tree) }
+        ensures leaf_held { IfSome result.1 (λ leaf. HoldsLeaf arena.now (slab_key leaf)) }
         ensures stored { (Self.inner self.now).prefix_len ≤ PREFIX_LEN →
             result.0.now ≡ (Self.inner self.now).stored }
     {
@@ -71,11 +74,18 @@ pub trait FullPrefix<K: AsBytes, V, const PREFIX_LEN: usize>: InnerNodeCommon<K,
         ensures matched { (below : TreeUnder K.text arena.now (Self.inner self.now) depth) (shared : List ℕ) →
             IsSharedFrom depth (texts below.tree) shared →
             match_of result ≡ full_match shared (drop depth key.now) }
-        ensures leaf_where_longer { (below : TreeUnder K.text arena.now (Self.inner self.now) depth)
-            (shared : List ℕ) → IsSharedFrom depth (texts below.tree) shared →
-            IfErr result (λ mismatch. IsSome mismatch.leaf_ptr ↔ (PREFIX_LEN < length shared)) }
+        ensures whole { IfOk result (λ found. found.matched_bytes ≡ (Self.inner self.now).prefix_len) }
+        ensures within { IfOk result (λ found. depth + found.matched_bytes ≤ length key.now) }
+        ensures parted { IfErr result (λ mismatch.
+            mismatch.matched_bytes < (Self.inner self.now).prefix_len) }
+        ensures parted_within { IfErr result (λ mismatch.
+            depth + mismatch.matched_bytes ≤ length key.now) }
+        ensures leaf_where_longer { IfErr result (λ mismatch.
+            IsSome mismatch.leaf_ptr ↔ (PREFIX_LEN < (Self.inner self.now).prefix_len)) }
         ensures leaf_below { (below : TreeUnder K.text arena.now (Self.inner self.now) depth) →
             IfErr result (λ mismatch. IfSome mismatch.leaf_ptr (IsLeafOf below.tree)) }
+        ensures leaf_held { IfErr result (λ mismatch.
+            IfSome mismatch.leaf_ptr (λ leaf. HoldsLeaf arena.now (slab_key leaf))) }
         ensures side { (below : TreeUnder K.text arena.now (Self.inner self.now) depth) →
             IsFront below.path key.now → IfErr result (λ mismatch. LieOnSide
             mismatch.node_prefix_comparison_to_search_key_segment key.now (texts below.tree)) }

@@ -4,13 +4,16 @@
 //! pointer, its prefix and its branches by ascending byte. It is sound under a path where every
 //! leaf's text begins with the way to it and every inner node has two branches or more, and it
 //! stands in an arena where each of its pointers holds its node.
-ghost use Rattle.std.specs.Prelude.{◌≡◌, ◌≢◌, ◌≤◌, ◌++◌, ℕ, List, length, AllPairs};
+ghost use Rattle.std.specs.Prelude.{◌≡◌, ◌≢◌, ◌≤◌, ◌++◌, ◌∷◌, ℕ, List, Some, None, length, slice_get, AllPairs};
 ghost use Rattle.std.specs.declared.cmp.Ordering.TheVariants.{Less};
 ghost use Rattle.art_bytes.specs.Text.{IsFront, text_order};
 ghost use Rattle.art_nodes.specs.ChildMap.{IsAscending, key_bytes};
+ghost use Rattle.art_header.specs.declared.node_type.NodeType.TheVariants as NodeType;
+ghost use Rattle.art_nodes.specs.Leaf.{leaf_key, previous_key, next_key};
+ghost use Rattle.art_nodes.specs.Pointers.{node_kind};
 ghost use Rattle.art_nodes.specs.declared.pointers.OpaqueNodePtr.{OpaqueNodePtr};
-ghost use Rattle.art_arena.specs.Arena.{ArenaOf, HeldInner, Nothing, Changes, held};
-ghost use Rattle.art_arena.specs.Links.{AreDistinct, Spells};
+ghost use Rattle.art_arena.specs.Arena.{ArenaOf, HeldInner, HeldLeaf, Nothing, Changes, held, pointer_to};
+ghost use Rattle.art_arena.specs.Links.{AreDistinct, IsKnit, SameButLinks, Spells, leaf_at, next_at, previous_at};
 ghost use Rattle.art_arena.specs.SharedFront.{IsSharedFront, IsSharedFrom};
 ghost use Rattle.art_arena.specs.Standing.{NodeStands, StandsIn, AllStandIn};
 ghost use Rattle.art_arena.specs.Trees.{Tree, Inner, Branches, branch_roots, texts, places, IsSound, AreSound, SameButPointers};
@@ -70,6 +73,18 @@ pub fn trees_stand_where_all_is_kept<K: AsBytes, V, const PREFIX_LEN: usize>()
         StandsIn K.text old tree → StandsIn K.text new tree }
 {}
 
+/// A tree stands on where links of leaves change, and where a leaf is exchanged for one whose key has
+/// the same text, as the one with another value.
+pub fn trees_stand_where_texts_are_kept<K: AsBytes, V, const PREFIX_LEN: usize>()
+    ensures links { (old new : ArenaOf K V PREFIX_LEN) (tree : _) →
+        SameButLinks old new → StandsIn K.text old tree → StandsIn K.text new tree }
+    ensures leaf { (old new : ArenaOf K V PREFIX_LEN) (key : ℕ) (was now : _) (tree : _) →
+        leaf_at old key ≡ Some was →
+        Changes old new (pointer_to NodeType.Leaf key) (HeldLeaf now) →
+        K.text (leaf_key now) ≡ K.text (leaf_key was) →
+        StandsIn K.text old tree → StandsIn K.text new tree }
+{}
+
 /// To allocate leaves every tree standing that stood.
 pub fn allocating_leaves_trees_standing<K: AsBytes, V, const PREFIX_LEN: usize>()
     ensures tree { (old new : ArenaOf K V PREFIX_LEN) (pointer : _) (now : _) (tree : _) →
@@ -85,4 +100,30 @@ pub fn allocating_keeps_lists_spelled<K, V, const PREFIX_LEN: usize>()
     ensures { (old new : ArenaOf K V PREFIX_LEN) (pointer : _) (now : _) (keys : List ℕ) →
         held old pointer ≡ Nothing → Changes old new pointer now →
         Spells old keys → Spells new keys }
+{}
+
+/// A list of leaves is spelled on where an inner node changes, and where a leaf is exchanged for one
+/// that names the same neighbours, as the one with another value.
+pub fn lists_are_spelled_where_links_are_kept<K, V, const PREFIX_LEN: usize>()
+    ensures inner { (old new : ArenaOf K V PREFIX_LEN) (pointer : _) (now : _) (keys : List ℕ) →
+        node_kind pointer ≢ NodeType.Leaf → Changes old new pointer now →
+        Spells old keys → Spells new keys }
+    ensures leaf { (old new : ArenaOf K V PREFIX_LEN) (key : ℕ) (was now : _) (keys : List ℕ) →
+        leaf_at old key ≡ Some was →
+        Changes old new (pointer_to NodeType.Leaf key) (HeldLeaf now) →
+        previous_key now ≡ previous_key was → next_key now ≡ next_key was →
+        Spells old keys → Spells new keys }
+{}
+
+/// Each leaf of a list that links spell is knit, so the calls of `LeafLinks` may be made with it, and
+/// names the leaves beside it in the list.
+pub fn each_leaf_of_a_list_is_knit<K, V, const PREFIX_LEN: usize>()
+    ensures knit { (arena : ArenaOf K V PREFIX_LEN) (before after : List ℕ) (key : ℕ) →
+        Spells arena (before ++ key ∷ after) → IsKnit arena key }
+    ensures next { (arena : ArenaOf K V PREFIX_LEN) (before after : List ℕ) (key : ℕ) →
+        Spells arena (before ++ key ∷ after) → next_at arena key ≡ slice_get after 0 }
+    ensures previous { (arena : ArenaOf K V PREFIX_LEN) (before after : List ℕ) (other key : ℕ) →
+        Spells arena (before ++ other ∷ key ∷ after) → previous_at arena key ≡ Some other }
+    ensures first { (arena : ArenaOf K V PREFIX_LEN) (after : List ℕ) (key : ℕ) →
+        Spells arena (key ∷ after) → previous_at arena key ≡ None }
 {}

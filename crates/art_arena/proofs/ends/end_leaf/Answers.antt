@@ -35,11 +35,16 @@ way-preserved g c = λ found.
     let child = c.in-Ok.ensures.child in
     to-end-step g.K.AsBytes.text c.args.arena.now c.args.end found.tree c.way.at c.way.passed child.0 child.1 c.in-Ok.child (c.way.invariant found) child.2 child.3
 
-pub returns-in-Err : goal.returns-in-Err
-returns-in-Err g c = λ found.
+pub returns-in-Err-clause-at_end : goal.returns-in-Err-clause-at_end
+returns-in-Err-clause-at_end g c = λ found.
     let arena = c.args.arena.now in
     let text = g.K.AsBytes.text in
     let on = c.way.invariant found in
     let at = c.in-Err.ensures.leaf in
     let value = held_leaf-some (get arena.leaf (slab_key c.in-Err.leaf)) (λ free. to-end-held text arena c.args.end found.tree c.way.at c.way.passed on (ap (held arena) at ∙ free)) in
     subst (IsAtEnd c.args.end (leaves found.tree)) at (to-end-leaf text arena c.args.end found.tree c.way.at c.way.passed value.0 on (ap (held arena) at ∙ value.1))
+
+pub returns-in-Err-clause-held : goal.returns-in-Err-clause-held
+returns-in-Err-clause-held g c =
+    let whole = c.requires.tree in
+    subst (λ at. held c.args.arena.now at ≢ Nothing) c.in-Err.ensures.leaf (to-end-held g.K.AsBytes.text c.args.arena.now c.args.end whole.tree c.way.at c.way.passed (c.way.invariant whole))

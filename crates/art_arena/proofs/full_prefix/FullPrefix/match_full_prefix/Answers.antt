@@ -1,4 +1,4 @@
-use Rattle.std.proofs.Common.{◌≡◌, ◌≢◌, ◌<◌, ◌∙◌, ◌↔◌, ◌++◌, refl, IsSome, length, sym, ap, subst, drop, nat_eq, arith}
+use Rattle.std.proofs.Common.{◌≡◌, ◌≢◌, ◌<◌, ◌∙◌, ◌↔◌, ◌++◌, refl, IsSome, length, length-drop, sym, ap, subst, drop, nat_eq, arith}
 use Rattle.std.specs.List.{common_prefix_len}
 use Rattle.std.proofs.lemmas.List.Elements.{All-cons}
 use Rattle.std.proofs.lemmas.List.Sums.{common_prefix_len-le}
@@ -19,6 +19,13 @@ returns-then-matched_bytes-prefix-clause-matched g c = λ below shared is.
     let rest = drop c.args.depth c.args.key.now in
     let same = IsSharedFrom-same c.args.depth (texts below.tree) prefix shared (c.read_full_prefix-leaf_ptr.ensures.shared below) is in
     full_match-whole prefix rest c.common_front_len-matched_bytes.result counted c.if-matched_bytes-prefix.true ∙ ap (λ q. full_match q rest) same
+
+pub returns-then-matched_bytes-prefix-clause-within : goal.returns-then-matched_bytes-prefix-clause-within
+returns-then-matched_bytes-prefix-clause-within g c =
+    let prefix = c.read_full_prefix-leaf_ptr.result.0.now in
+    let counted = counted_in_rest prefix c.args.key.now c.args.depth c.common_front_len-matched_bytes.result c.common_front_len-matched_bytes.ensures in
+    let within = common_prefix_len-le nat_eq prefix (drop c.args.depth c.args.key.now) in
+    omega (arith, within.1, counted, length-drop c.args.depth c.args.key.now, c.requires.depth)
 
 pub returns-then-matched_bytes-prefix-clause-begun : goal.returns-then-matched_bytes-prefix-clause-begun
 returns-then-matched_bytes-prefix-clause-begun g c = λ below shared is begins ok.
@@ -64,10 +71,22 @@ returns-clause-stored g c = λ few.
     full_match-parted prefix rest c.common_front_len-matched_bytes.result _ c.cmp.result counted c.if-matched_bytes-prefix.false refl order ∙ ap (λ q. full_match q rest) (c.read_full_prefix-leaf_ptr.ensures.stored few)
 
 pub returns-clause-leaf_where_longer : goal.returns-clause-leaf_where_longer
-returns-clause-leaf_where_longer g c = λ below shared is.
+returns-clause-leaf_where_longer g c =
+    subst (λ n. IsSome c.read_full_prefix-leaf_ptr.result.1 ↔ (g.row.PREFIX_LEN < n)) c.read_full_prefix-leaf_ptr.ensures.length c.read_full_prefix-leaf_ptr.ensures.leaf_where_longer
+
+pub returns-clause-parted : goal.returns-clause-parted
+returns-clause-parted g c =
     let prefix = c.read_full_prefix-leaf_ptr.result.0.now in
-    let same = IsSharedFrom-same c.args.depth (texts below.tree) prefix shared (c.read_full_prefix-leaf_ptr.ensures.shared below) is in
-    subst (λ q. IsSome c.read_full_prefix-leaf_ptr.result.1 ↔ (g.row.PREFIX_LEN < length q)) same c.read_full_prefix-leaf_ptr.ensures.leaf_where_longer
+    let counted = counted_in_rest prefix c.args.key.now c.args.depth c.common_front_len-matched_bytes.result c.common_front_len-matched_bytes.ensures in
+    let within = common_prefix_len-le nat_eq prefix (drop c.args.depth c.args.key.now) in
+    omega (arith, within.0, counted, c.if-matched_bytes-prefix.false, c.read_full_prefix-leaf_ptr.ensures.length)
+
+pub returns-clause-parted_within : goal.returns-clause-parted_within
+returns-clause-parted_within g c =
+    let prefix = c.read_full_prefix-leaf_ptr.result.0.now in
+    let counted = counted_in_rest prefix c.args.key.now c.args.depth c.common_front_len-matched_bytes.result c.common_front_len-matched_bytes.ensures in
+    let within = common_prefix_len-le nat_eq prefix (drop c.args.depth c.args.key.now) in
+    omega (arith, within.1, counted, length-drop c.args.depth c.args.key.now, c.requires.depth)
 
 pub returns-clause-side : goal.returns-clause-side
 returns-clause-side g c = λ below begins.

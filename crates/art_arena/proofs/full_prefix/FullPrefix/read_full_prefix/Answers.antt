@@ -1,10 +1,8 @@
-use Rattle.std.proofs.Common.{◌≢◌, ◌∙◌, ap, rules, arith}
-use Rattle.art_header.specs.declared.node_type.NodeType.TheVariants.{Leaf}
-use Rattle.art_nodes.specs.Pointers.{slab_key, opaque_pointer}
-use Rattle.art_arena.specs.Arena.{held, Nothing}
+use Rattle.std.proofs.Common.{◌∙◌, ap, rules, arith}
+use Rattle.art_arena.specs.Arena.{held}
 use Rattle.art_arena.specs.Standing.{TreeAt, leaf_text}
 use Rattle.art_arena.proofs.WayLemmas.{IsSharedFrom-stored}
-use Rattle.art_arena.proofs.ReadLemmas.{child_tree, leaf_below, leaf_taken, prefix_in_leaf}
+use Rattle.art_arena.proofs.ReadLemmas.{child_tree, leaf_below, prefix_in_leaf}
 use Rattle.art_arena.proofs.full_prefix.FullPrefix.read_full_prefix.Goals as goal
 
 pub returns-then-prefix_len-clause-shared : goal.returns-then-prefix_len-clause-shared
@@ -19,32 +17,25 @@ end_leaf-leaf-requires g c =
     let at : TreeAt g.K.AsBytes.text c.args.arena.now c.min.result.1 = child_tree g.K.AsBytes.text c.args.arena.now (g.Self.InnerNodeCommon.inner c.args.self.now) c.args.depth c.min.result c.min.ensures.pair below in
     search rules
 
-pub as_ref-requires : goal.as_ref-requires
-as_ref-requires g c =
-    let below = c.requires.tree (omega (arith, c.if-prefix_len.false, c.prefix_len-prefix_len.ensures.value)) in
-    let taken : held c.args.arena.now (opaque_pointer Leaf (slab_key c.end_leaf-leaf.result)) ≢ Nothing =
-    leaf_taken g.K.AsBytes.text c.args.arena.now (g.Self.InnerNodeCommon.inner c.args.self.now) c.args.depth c.min.result c.min.ensures.pair c.end_leaf-leaf.result c.end_leaf-leaf.ensures below in
-    search rules
-
 pub overflow_add-result : goal.overflow_add-result
 overflow_add-result g c =
     let below = c.requires.tree (omega (arith, c.if-prefix_len.false, c.prefix_len-prefix_len.ensures.value)) in
-    let cut = prefix_in_leaf g.K.AsBytes.text c.args.arena.now (g.Self.InnerNodeCommon.inner c.args.self.now) c.args.depth c.min.result c.min.ensures.pair c.end_leaf-leaf.result c.end_leaf-leaf.ensures below c.as_ref.result.now c.prefix_len-prefix_len.result c.as_bytes-text.result.now c.as_ref.ensures (c.as_bytes-text.ensures.text ∙ ap g.K.AsBytes.text c.key_ref.ensures) c.prefix_len-prefix_len.ensures.value in
+    let cut = prefix_in_leaf g.K.AsBytes.text c.args.arena.now (g.Self.InnerNodeCommon.inner c.args.self.now) c.args.depth c.min.result c.min.ensures.pair c.end_leaf-leaf.result c.end_leaf-leaf.ensures.at_end below c.as_ref.result.now c.prefix_len-prefix_len.result c.as_bytes-text.result.now c.as_ref.ensures (c.as_bytes-text.ensures.text ∙ ap g.K.AsBytes.text c.key_ref.ensures) c.prefix_len-prefix_len.ensures.value in
     omega (arith, cut.fits)
 
 pub slice_bounds-result-end : goal.slice_bounds-result-end
 slice_bounds-result-end g c =
     let below = c.requires.tree (omega (arith, c.if-prefix_len.false, c.prefix_len-prefix_len.ensures.value)) in
-    let cut = prefix_in_leaf g.K.AsBytes.text c.args.arena.now (g.Self.InnerNodeCommon.inner c.args.self.now) c.args.depth c.min.result c.min.ensures.pair c.end_leaf-leaf.result c.end_leaf-leaf.ensures below c.as_ref.result.now c.prefix_len-prefix_len.result c.as_bytes-text.result.now c.as_ref.ensures (c.as_bytes-text.ensures.text ∙ ap g.K.AsBytes.text c.key_ref.ensures) c.prefix_len-prefix_len.ensures.value in
+    let cut = prefix_in_leaf g.K.AsBytes.text c.args.arena.now (g.Self.InnerNodeCommon.inner c.args.self.now) c.args.depth c.min.result c.min.ensures.pair c.end_leaf-leaf.result c.end_leaf-leaf.ensures.at_end below c.as_ref.result.now c.prefix_len-prefix_len.result c.as_bytes-text.result.now c.as_ref.ensures (c.as_bytes-text.ensures.text ∙ ap g.K.AsBytes.text c.key_ref.ensures) c.prefix_len-prefix_len.ensures.value in
     omega (arith, cut.fits)
 
 pub returns-clause-shared : goal.returns-clause-shared
 returns-clause-shared g c = λ below.
-    (prefix_in_leaf g.K.AsBytes.text c.args.arena.now (g.Self.InnerNodeCommon.inner c.args.self.now) c.args.depth c.min.result c.min.ensures.pair c.end_leaf-leaf.result c.end_leaf-leaf.ensures below c.as_ref.result.now c.prefix_len-prefix_len.result c.as_bytes-text.result.now c.as_ref.ensures (c.as_bytes-text.ensures.text ∙ ap g.K.AsBytes.text c.key_ref.ensures) c.prefix_len-prefix_len.ensures.value).shared
+    (prefix_in_leaf g.K.AsBytes.text c.args.arena.now (g.Self.InnerNodeCommon.inner c.args.self.now) c.args.depth c.min.result c.min.ensures.pair c.end_leaf-leaf.result c.end_leaf-leaf.ensures.at_end below c.as_ref.result.now c.prefix_len-prefix_len.result c.as_bytes-text.result.now c.as_ref.ensures (c.as_bytes-text.ensures.text ∙ ap g.K.AsBytes.text c.key_ref.ensures) c.prefix_len-prefix_len.ensures.value).shared
 
 pub returns-clause-leaf_below : goal.returns-clause-leaf_below
 returns-clause-leaf_below g c = λ below.
-    leaf_below g.K.AsBytes.text c.args.arena.now (g.Self.InnerNodeCommon.inner c.args.self.now) c.args.depth c.min.result c.min.ensures.pair c.end_leaf-leaf.result c.end_leaf-leaf.ensures below
+    leaf_below g.K.AsBytes.text c.args.arena.now (g.Self.InnerNodeCommon.inner c.args.self.now) c.args.depth c.min.result c.min.ensures.pair c.end_leaf-leaf.result c.end_leaf-leaf.ensures.at_end below
 
 pub returns-then-prefix_len-clause-leaf_below : goal.returns-then-prefix_len-clause-leaf_below
 returns-then-prefix_len-clause-leaf_below g c = λ _. tt
