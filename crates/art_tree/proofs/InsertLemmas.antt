@@ -1,17 +1,15 @@
 -- The first entry of a tree, and an entry in the place of another.
 use Rattle.std.proofs.Common.{◌≡◌, ◌≢◌, ◌∙◌, ℕ, length, ◌<◌, ◌^◌, List, [], ◌∷◌, Contains, Option, Some, None, inl, inr, refl, sym, ap, arith}
 use Rattle.std.proofs.lemmas.List.Elements.{All-cons, All-nil}
-use Rattle.art_header.specs.declared.node_type.NodeType.TheVariants as kinds
-use Rattle.art_nodes.specs.Inner as nodes
 use Rattle.art_nodes.specs.Leaf.{leaf_key, leaf_value, previous_key, next_key}
 use Rattle.art_nodes.specs.Pointers.{slab_key}
 use Rattle.art_nodes.specs.declared.pointers.NodePtr.{NodePtr}
 use Rattle.art_nodes.specs.declared.pointers.OpaqueNodePtr.{OpaqueNodePtr}
 use Rattle.art_nodes.specs.declared.leaf_node.LeafNode.{LeafNode}
-use Rattle.art_arena.specs.Arena.{ArenaOf, Held, HeldInner, HeldLeaf, Nothing, held, held_leaf, pointer_to, Changes}
-use Rattle.art_arena.specs.Links.{SpellsAfter, leaf_at}
-use Rattle.art_arena.specs.Standing.{StandsIn, AllStandIn}
-use Rattle.art_arena.specs.Trees.{Tree, Leaf, Inner, Branches, NoBranch, Branch, leaves, texts}
+use Rattle.art_arena.specs.Arena.{ArenaOf, Held, HeldLeaf, Nothing, held, Changes}
+use Rattle.art_arena.specs.Links.{Spells, leaf_at}
+use Rattle.art_arena.specs.Standing.{StandsIn}
+use Rattle.art_arena.specs.Trees.{Tree, Leaf, leaves, texts}
 use Rattle.art_tree.specs.Art.{IsAlone}
 use Rattle.art_tree.specs.Contexts.{KeepsAt}
 use Rattle.art_tree.specs.Dictionary.{entry_at}
@@ -57,58 +55,24 @@ module _ {K V : Type 0} {P : ℕ} (text : K → List ℕ) (old new : ArenaOf K V
             let one = the-one (leaf_pointer at, text key) (found.pointer, x) found.inside in
             absurd (differ (sym (ap (λ pair. pair.1) one)))
 
-module _ {K V : Type 0} {P : ℕ} (text : K → List ℕ) (old new : ArenaOf K V P) where
-  -- a pointer holds what it held, but for the key and the value of a leaf with the same text
-  pub record KeepsText (pointer : OpaqueNodePtr K V P) : Type 0 where
-    pub inner : (node : nodes.Inner (OpaqueNodePtr K V P)) → held old pointer ≡ HeldInner node → held new pointer ≡ HeldInner node
-    pub leaf : (leaf : LeafNode K V P) → held old pointer ≡ HeldLeaf leaf → (now : LeafNode K V P) × (held new pointer ≡ HeldLeaf now) × (text (leaf_key now) ≡ text (leaf_key leaf)) × (previous_key now ≡ previous_key leaf) × (next_key now ≡ next_key leaf)
-
-  mutual
-    -- where all pointers do so, trees stand on
-    pub text-tree : ((q : OpaqueNodePtr K V P) → KeepsText q) → (tree : Tree (OpaqueNodePtr K V P)) → StandsIn text old tree → StandsIn text new tree
-    text-tree keeps (Leaf pointer x) (leaf, holds, has) = let now = (keeps pointer).leaf leaf holds in (now.0, now.1, now.2 ∙ has)
-    text-tree keeps (Inner pointer prefix branches) (node, holds, shows, stand) = (node, (keeps pointer).inner node holds, shows, text-branches keeps branches stand)
-
-    text-branches : ((q : OpaqueNodePtr K V P) → KeepsText q) → (branches : Branches (OpaqueNodePtr K V P)) → AllStandIn text old branches → AllStandIn text new branches
-    text-branches keeps NoBranch stand = tt
-    text-branches keeps (Branch byte tree others) (stands, stand) = (text-tree keeps tree stands, text-branches keeps others stand)
-
-  -- and lists are spelled on
-  pub text-spells : ((q : OpaqueNodePtr K V P) → KeepsText q) → (before : Option ℕ) (keys : List ℕ) → SpellsAfter old before keys → SpellsAfter new before keys
-  text-spells keeps before [] spelled = tt
-  text-spells keeps before (key ∷ keys) ((leaf, at, previous, next), rest) =
-      let now = (keeps (pointer_to kinds.Leaf key)).leaf leaf (ap held_leaf at) in
-      ((now.0, leaf-of (leaf_at new key) now.0 now.1, now.3 ∙ previous, now.4 ∙ next), text-spells keeps (Some key) keys rest)
-
 -- a leaf with another entry of the same text
 module _ {K V : Type 0} {P : ℕ} (text : K → List ℕ) (old new : ArenaOf K V P) (key : K) (value : V) (at : OpaqueNodePtr K V P) (was now : LeafNode K V P) (is : held old at ≡ HeldLeaf was) (changes : Changes old new at (HeldLeaf now)) (is_key : leaf_key now ≡ key) (is_value : leaf_value now ≡ value) where
-  module _ (same_text : text (leaf_key was) ≡ text key) (same_previous : previous_key now ≡ previous_key was) (same_next : next_key now ≡ next_key was) where
-    keeps-text : (q : OpaqueNodePtr K V P) → KeepsText text old new q
-    keeps-text q = elim (cases_pointer q at) [
-      | inl same ↦ record {
-        inner = λ node holds. absurd (let wrong : HeldLeaf was ≡ HeldInner node = sym is ∙ ap (held old) (sym same) ∙ holds in cc);
-        leaf = λ leaf holds.
-            let one : was ≡ leaf = one-leaf (held old at) was leaf is (ap (held old) (sym same) ∙ holds) in
-            (now, ap (held new) same ∙ changes.changed, ap text is_key ∙ sym same_text ∙ ap (λ l. text (leaf_key l)) one, same_previous ∙ ap previous_key one, same_next ∙ ap next_key one);
-      }
-      | inr differ ↦ record { inner = λ node holds. changes.others q differ ∙ holds; leaf = λ leaf holds. (leaf, changes.others q differ ∙ holds, refl, refl, refl) }
-    ]
-
-    pub replaced-alone : (root : OpaqueNodePtr K V P) (tree : Tree (OpaqueNodePtr K V P)) → IsAlone text old root tree → IsAlone text new root tree
-    replaced-alone root tree alone = record {
-      is_tree = record { at_root = alone.is_tree.at_root; stands = text-tree text old new keeps-text tree alone.is_tree.stands; sound = alone.is_tree.sound };
+  module _ (same_text : text (leaf_key was) ≡ text key) (tree : Tree (OpaqueNodePtr K V P)) (stands_on : StandsIn text old tree → StandsIn text new tree) (spelled_on : (keys : List ℕ) → Spells old keys → Spells new keys) where
+    pub replaced-alone : (root : OpaqueNodePtr K V P) → IsAlone text old root tree → IsAlone text new root tree
+    replaced-alone root alone = record {
+      is_tree = record { at_root = alone.is_tree.at_root; stands = stands_on alone.is_tree.stands; sound = alone.is_tree.sound };
       snug = alone.snug;
       short = alone.short;
-      spelled = record { distinct = alone.spelled.distinct; spelled = text-spells text old new keeps-text None _ alone.spelled.spelled };
+      spelled = spelled_on _ alone.spelled;
       no_others = λ q is_held. alone.no_others q (λ none. elim (cases_pointer q at) [
         | inl same ↦ (let wrong : HeldLeaf was ≡ Nothing = sym is ∙ ap (held old) (sym same) ∙ none in absurd (cc))
         | inr differ ↦ is_held (changes.others q differ ∙ none)
       ]);
     }
 
-    pub replaced-entered : (root : OpaqueNodePtr K V P) (tree : Tree (OpaqueNodePtr K V P)) → (alone : IsAlone text old root tree) → AreApart (texts tree) → Contains (leaves tree) (at, text key) → IsEntered text old new key value
-    replaced-entered root tree alone apart inside =
-        let after = replaced-alone root tree alone in
+    pub replaced-entered : (root : OpaqueNodePtr K V P) → (alone : IsAlone text old root tree) → AreApart (texts tree) → Contains (leaves tree) (at, text key) → IsEntered text old new key value
+    replaced-entered root alone apart inside =
+        let after = replaced-alone root alone in
         let keeps : (q : OpaqueNodePtr K V P) (x : List ℕ) → Contains (leaves tree) (q, x) → x ≢ text key → Contains (leaves tree) (q, x) × KeepsAt old new q =
         λ q x there differ.
         let other : q ≢ at = λ same.

@@ -1,6 +1,7 @@
 mod DescentLemmas
 mod OnlyWayLemmas
 mod PathLemmas
+mod SameKinds
 mod ScanLemmas
 mod WayLemmas
 mod BranchLemmas

@@ -1,5 +1,5 @@
 -- Leaves on their way into a list.
-use Rattle.std.proofs.Common.{◌≡◌, ◌≢◌, ◌⊎◌, ◌∙◌, ℕ, zero, suc, ◌+◌, ◌-◌, ◌<◌, List, [], ◌∷◌, ◌++◌, length, length-append, map, take, get_or, slice_get, Option, Some, None, inl, inr, refl, sym, ap, subst, arith, append_assoc}
+use Rattle.std.proofs.Common.{◌≡◌, ◌≢◌, ◌∙◌, ℕ, zero, suc, ◌+◌, ◌-◌, ◌<◌, List, [], ◌∷◌, ◌++◌, length, length-append, map, take, get_or, slice_get, Option, Some, None, inl, inr, refl, sym, ap, subst, arith, append_assoc}
 use Rattle.std.specs.Option.{option_and_then}
 use Rattle.std.specs.List.{Contains}
 use Rattle.std.proofs.lemmas.List.{map-append, length-map, take_all, get_or_at}
@@ -125,43 +125,12 @@ module _ {K V : Type 0} {P : ℕ} where
           no_others = λ pointer free is_held. a.no_others pointer free (λ none. is_held (same.nothing pointer none));
         }
 
-  -- the last leaf of a list that is spelled
-  pub record LastLeaf (arena : ArenaOf K V P) (before : Option ℕ) (keys : List ℕ) (key : ℕ) : Type 0 where
-    pub leaf : LeafNode K V P
-    pub at_key : leaf_at arena key ≡ Some leaf
-    pub no_next : next_key leaf ≡ None
-    pub named_back : (other : ℕ) → previous_key leaf ≡ Some other → ((before ≡ Some other) × (keys ≡ [])) ⊎ (next_at arena other ≡ Some key)
+  -- what `each_leaf_of_a_list_is_knit` says of an arena
+  abbrev pub AreKnit : ArenaOf K V P → Type 0
+  AreKnit arena = (before after : List ℕ) (key : ℕ) → Spells arena (before ++ key ∷ after) → IsKnit arena key
 
-  last-leaf : (arena : ArenaOf K V P) (before : Option ℕ) (keys : List ℕ) (key : ℕ) → SpellsAfter arena before (keys ++ key ∷ []) → LastLeaf arena before keys key
-  last-leaf arena before [] key h = record { leaf = h.0.0; at_key = h.0.1; no_next = h.0.3; named_back = λ other e. inl (sym h.0.2 ∙ e, refl) }
-  last-leaf arena before (first ∷ []) key h =
-      let l = last-leaf arena (Some first) [] key h.1 in
-      record {
-        leaf = l.leaf;
-        at_key = l.at_key;
-        no_next = l.no_next;
-        named_back = λ other e. elim (l.named_back other e) [
-          | inr named ↦ inr named
-          | inl up ↦ let one : first ≡ other = (let some = up.0 in cc) in inr (subst (λ k. next_at arena k ≡ Some key) one (ap (option_and_then next_key) h.0.1 ∙ h.0.3))
-        ];
-      }
-  last-leaf arena before (first ∷ second ∷ keys) key h =
-      let l = last-leaf arena (Some first) (second ∷ keys) key h.1 in
-      record { leaf = l.leaf; at_key = l.at_key; no_next = l.no_next; named_back = λ other e. elim (l.named_back other e) [ inr named ↦ inr named | inl up ↦ (let never = up.1 in absurd (cc)) ] }
-
-  -- it is knit, and no leaf follows
-  pub knit-last : (arena : ArenaOf K V P) (keys : List ℕ) (key : ℕ) → Spells arena (keys ++ key ∷ []) → IsKnit arena key × (next_at arena key ≡ None)
-  knit-last arena keys key s =
-      let l = last-leaf arena None keys key s.spelled in
-      let none : next_at arena key ≡ None = ap (option_and_then next_key) l.at_key ∙ l.no_next in
-      let there : held arena (pointer_to kinds.Leaf key) ≡ HeldLeaf l.leaf = ap held_leaf l.at_key in (
-        record {
-          held = subst (λ x. x ≢ Nothing) (sym there) (λ e. cc);
-          previous = λ other e. elim (l.named_back other (sym (ap (option_and_then previous_key) l.at_key) ∙ e)) [ inr named ↦ named | inl up ↦ (let never = up.0 in absurd (cc)) ];
-          next = λ other e. absurd (let never : None ≡ Some other = sym none ∙ e in cc);
-        },
-        none,
-      )
+  abbrev pub NameNext : ArenaOf K V P → Type 0
+  NameNext arena = (before after : List ℕ) (key : ℕ) → Spells arena (before ++ key ∷ after) → next_at arena key ≡ slice_get after 0
 
 pub last-split : {A : Type 0} (xs : List A) (x : A) → slice_get xs (length xs - 1) ≡ Some x → xs ≡ take (length xs - 1) xs ++ x ∷ []
 last-split xs x e =
@@ -212,13 +181,13 @@ module _ {K V : Type 0} {P : ℕ} where
   }
 
   -- a leaf that is linked after the last one
-  pub next-linked : (old now new : ArenaOf K V P) (done : List (K × V)) (before front : List (NodePtr P (LeafNode K V P))) (entry : K × V) (this sibling : NodePtr P (LeafNode K V P)) → before ≡ front ++ sibling ∷ [] → IsAllocated old now done before entry this
+  pub next-linked : (old now new : ArenaOf K V P) (done : List (K × V)) (before front : List (NodePtr P (LeafNode K V P))) (entry : K × V) (this sibling : NodePtr P (LeafNode K V P)) → before ≡ front ++ sibling ∷ [] → NameNext now → IsAllocated old now done before entry this
       → SameButLinks now new → StandsBetween now new (Some (slab_key sibling)) (slab_key this) (next_at now (slab_key sibling))
       → ((first last : List ℕ) → Spells now (first ++ slab_key sibling ∷ last) → Spells new (first ++ slab_key sibling ∷ slab_key this ∷ last)) → AreLinked old new (done ++ entry ∷ []) (before ++ this ∷ [])
-  next-linked old now new done before front entry this sibling split a same placed spells =
+  next-linked old now new done before front entry this sibling split name_next a same placed spells =
       let keys = ap (map slab_key) split ∙ map-append slab_key front (sibling ∷ []) in
       let was : Spells now (map slab_key front ++ slab_key sibling ∷ []) = subst (Spells now) keys a.spelled in
-      let knit = knit-last now (map slab_key front) (slab_key sibling) was in
+      let none : next_at now (slab_key sibling) ≡ None = name_next (map slab_key front) [] (slab_key sibling) was in
       let now_keys : map slab_key (before ++ this ∷ []) ≡ map slab_key front ++ slab_key sibling ∷ slab_key this ∷ [] =
       map-append slab_key before (this ∷ []) ∙ ap (λ z. z ++ slab_key this ∷ []) keys ∙ append_assoc (map slab_key front) (slab_key sibling ∷ []) (slab_key this ∷ []) in
       let xs = map leaf_pointer (before ++ this ∷ []) in
@@ -229,7 +198,7 @@ module _ {K V : Type 0} {P : ℕ} where
       record {
         hold = hold-links now new same (before ++ this ∷ []) (done ++ entry ∷ []) a.entries;
         spelled = subst (Spells new) (sym now_keys) (spells (map slab_key front) [] was);
-        adds = adds-links now new same (slab_key this) (slab_key sibling) (λ key not_this not_sibling. placed.other_leaves key not_this (λ e. not_sibling (let back : slab_key sibling ≡ key = cc in sym back)) (λ e. (let never : None ≡ Some key = sym knit.1 ∙ e in cc))) old xs has_this has_sibling a.adds;
+        adds = adds-links now new same (slab_key this) (slab_key sibling) (λ key not_this not_sibling. placed.other_leaves key not_this (λ e. not_sibling (let back : slab_key sibling ≡ key = cc in sym back)) (λ e. (let never : None ≡ Some key = sym none ∙ e in cc))) old xs has_this has_sibling a.adds;
       }
 
   -- what linking it asks
@@ -237,8 +206,8 @@ module _ {K V : Type 0} {P : ℕ} where
   unlinked old now done before entry this a =
       (subst (λ x. x ≢ Nothing) (sym (ap held_leaf a.at_key)) (λ e. cc), (ap (option_and_then previous_key) a.at_key ∙ a.no_previous, ap (option_and_then next_key) a.at_key ∙ a.no_next))
 
-  pub sibling-knit : (old now : ArenaOf K V P) (done : List (K × V)) (before front : List (NodePtr P (LeafNode K V P))) (entry : K × V) (this sibling : NodePtr P (LeafNode K V P)) → before ≡ front ++ sibling ∷ [] → IsAllocated old now done before entry this → IsKnit now (slab_key sibling)
-  sibling-knit old now done before front entry this sibling split a = (knit-last now (map slab_key front) (slab_key sibling) (subst (Spells now) (ap (map slab_key) split ∙ map-append slab_key front (sibling ∷ [])) a.spelled)).0
+  pub sibling-knit : (old now : ArenaOf K V P) (done : List (K × V)) (before front : List (NodePtr P (LeafNode K V P))) (entry : K × V) (this sibling : NodePtr P (LeafNode K V P)) → before ≡ front ++ sibling ∷ [] → AreKnit now → IsAllocated old now done before entry this → IsKnit now (slab_key sibling)
+  sibling-knit old now done before front entry this sibling split knit a = knit (map slab_key front) [] (slab_key sibling) (subst (Spells now) (ap (map slab_key) split ∙ map-append slab_key front (sibling ∷ [])) a.spelled)
 
   -- the texts of the last two leaves are neighbours among those of the entries
   pub two-texts : (text : K → List ℕ) (old now : ArenaOf K V P) (all done left : List (K × V)) (before front : List (NodePtr P (LeafNode K V P))) (entry : K × V) (this sibling : NodePtr P (LeafNode K V P)) → before ≡ front ++ sibling ∷ [] → all ≡ (done ++ entry ∷ []) ++ left → IsAllocated old now done before entry this

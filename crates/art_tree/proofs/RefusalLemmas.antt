@@ -1,5 +1,5 @@
 -- Entries of which none has a fault.
-use Rattle.std.proofs.Common.{◌≡◌, ◌∙◌, ℕ, zero, suc, ◌+◌, ◌<◌, ◌^◌, Bool, true, false, List, [], ◌∷◌, length, take, All, Option, Some, None, if◌then◌else◌, refl, ap, inl, inr, arith, nat_le, nat_lt, nat_eq, ◌==◌}
+use Rattle.std.proofs.Common.{◌≡◌, ◌∙◌, ℕ, zero, suc, ◌+◌, ◌<◌, ◌^◌, Bool, true, false, List, [], ◌∷◌, length, take, All, Some, None, refl, ap, inl, inr, arith, nat_lt, nat_eq, ◌==◌}
 use Rattle.std.specs.declared.cmp.Ordering.{Ordering}
 use Rattle.std.specs.declared.cmp.Ordering.TheVariants.{Less, Equal, Greater}
 use Rattle.std.specs.List.{starts_with}
@@ -8,10 +8,7 @@ use Rattle.std.proofs.lemmas.Bool.Decides.{eqb_tells}
 use Rattle.std.proofs.lemmas.List.Elements.{All-from_get_or}
 use Rattle.art_bytes.specs.Text.{text_order}
 use Rattle.art_tree.specs.Plan.{text_at, IsFork, Forks, AreLoadable}
-use Rattle.art_tree.specs.Refusals.{HaveNoFault, IsDue, IsRefusal, fault_at, fault_between}
-use Rattle.std.specs.Ordering.{is_lt}
-use Rattle.art_tree.specs.declared.loading.check.LoadRefusal.{LoadRefusal}
-use Rattle.art_tree.specs.declared.loading.check.LoadRefusal.TheVariants.{Empty, KeyTooLong, NotAscending, Prefix, OutOfMemory}
+use Rattle.art_tree.specs.Refusals.{HaveNoFault, fault_at, fault_between}
 
 fork-later : (x y : ℕ) (a b : List ℕ) → x ≡ y → Forks a b → Forks (x ∷ a) (y ∷ b)
 fork-later x y a b same (at, fork) = (suc at, record { in_first = omega (arith, fork.in_first); in_second = omega (arith, fork.in_second); shared = ap (λ z. z ∷ take at a) same ∙ ap (λ rest. y ∷ rest) fork.shared; less = fork.less })
@@ -56,27 +53,6 @@ loadable texts none = record { short = is_short; fork = parts }
 -- so every text of them is short
 pub each-short : (texts : List (List ℕ)) → HaveNoFault texts → All (λ x. length x < 2 ^ 32) texts
 each-short texts fine = let fits = loadable texts fine.1 in All-from_get_or (λ x. length x < 2 ^ 32) texts [] fits.short
-
--- no entry is refused for want of memory
-no-memory : (b : Bool) (x y : Option LoadRefusal) → (x ≡ Some OutOfMemory → ⊥) → (y ≡ Some OutOfMemory → ⊥) → (if b then x else y) ≡ Some OutOfMemory → ⊥
-no-memory true x y first second e = first e
-no-memory false x y first second e = second e
-
-never-memory : (texts : List (List ℕ)) (i : ℕ) → fault_at texts i ≡ Some OutOfMemory → ⊥
-never-memory texts i =
-    no-memory (nat_le (2 ^ 32) (length (text_at texts i))) (Some (KeyTooLong i)) _ (λ e. cc)
-    (no-memory (nat_le (length texts) (i + 1)) None _ (λ e. cc)
-    (no-memory (is_lt (text_order (text_at texts i) (text_at texts (i + 1)))) _ (Some (NotAscending i))
-    (no-memory (starts_with nat_eq (text_at texts (i + 1)) (text_at texts i)) (Some (Prefix i)) None (λ e. cc) (λ e. cc)) (λ e. cc)))
-
--- a fault that was found is due
-pub due : (texts : List (List ℕ)) (refusal : LoadRefusal) → IsRefusal texts refusal → IsDue texts refusal
-due texts Empty h = h
-due texts (KeyTooLong i) h = h
-due texts (NotAscending i) h = h
-due texts (Prefix i) h = h
-due [] OutOfMemory h = absurd (cc)
-due (text ∷ texts) OutOfMemory h = absurd (never-memory (text ∷ texts) h.0 h.2)
 
 -- a text that parts from another upwards is less
 pub forks-less : (a b : List ℕ) (at : ℕ) → IsFork a b at → text_order a b ≡ Less

@@ -92,9 +92,6 @@ module _ {K V : Type 0} {P : ℕ} where
   cases_held (HeldInner node) = inr (λ e. cc)
   cases_held (HeldLeaf leaf) = inr (λ e. cc)
 
-  inner-held : (h : Held (OpaqueNodePtr K V P) (LeafNode K V P)) (node : nodes.Inner (OpaqueNodePtr K V P)) → h ≡ HeldInner node → h ≢ Nothing
-  inner-held h node e = λ none. cc
-
   pub leaf-of : (o : Option (LeafNode K V P)) (leaf : LeafNode K V P) → held_leaf {H = OpaqueNodePtr K V P} o ≡ HeldLeaf leaf → o ≡ Some leaf
   leaf-of None leaf e = absurd (cc)
   leaf-of (Some other) leaf e = cc

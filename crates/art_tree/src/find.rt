@@ -57,9 +57,9 @@ fn next_child<K, V, const PREFIX_LEN: usize>(
 /// The leaf with this key in the tree at `root`, with its path, or None where no leaf has the key:
 /// what a scan of all leaves finds.
 ///
-/// The search looks at the nodes on the way and at no other. At an inner node it compares the key
-/// with the prefix where the node stores all of it, and else passes over as many bytes; so at the
-/// leaf it compares the whole key.
+/// The search goes down from node to node, one look at each. At an inner node it compares the key with
+/// the prefix where the node stores all of it, and else passes over as many bytes; so at the leaf it
+/// compares the whole key.
 ///
 /// A well-formed tree has to stand at `root` in the reader's arena, as the one that a load answers,
 /// and the budget has to be at least the key's length and one. Each node costs one look, and no

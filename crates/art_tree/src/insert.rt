@@ -26,7 +26,10 @@ pub(crate) mod place;
 use crate::insert::link::link_leaf;
 use crate::insert::node::{add_child, fork_node, reserve_growth, trim, write_child};
 use crate::insert::place::{Fork, Place, Spot, find_place};
-use crate::laws::{each_pointer_is_at_one_place, no_text_begins_another, texts_ascend};
+use crate::laws::{
+    each_pointer_is_at_one_place, lists_are_spelled_where_links_are_kept, no_text_begins_another,
+    texts_ascend, trees_stand_where_texts_are_kept,
+};
 use art_arena::{End, NodeArena, end_leaf};
 use art_bytes::AsBytes;
 use art_nodes::{ConcreteNodePtr, InnerNodeCommon, LeafNode, NodePtr, NodeType, OpaqueNodePtr};
@@ -90,6 +93,8 @@ pub(crate) fn replace_entry<K: AsBytes, V, const PREFIX_LEN: usize>(
         (entry_at K.text arena.old (K.text key) ≡ Some result) }
 {
     no_text_begins_another::<OpaqueNodePtr<K, V, PREFIX_LEN>>();
+    trees_stand_where_texts_are_kept::<K, V, PREFIX_LEN>();
+    lists_are_spelled_where_links_are_kept::<K, V, PREFIX_LEN>();
     let old = arena.as_ref(leaf);
     let (previous, next) = (old.previous(), old.next());
     let mut new = LeafNode::with_no_siblings(key, value);

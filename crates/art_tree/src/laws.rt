@@ -4,10 +4,11 @@
 //! A context is a tree with one subtree left out. With a subtree in that place it is a tree.
 ghost use Rattle.std.specs.Prelude.{◌≡◌, ◌↔◌, ℕ, ◌++◌, List, All, Contains, Some, None, map};
 ghost use Rattle.art_nodes.specs.Leaf.{leaf_key, leaf_value};
+ghost use Rattle.art_nodes.specs.Pointers.{node_kind};
 ghost use Rattle.art_nodes.specs.declared.pointers.OpaqueNodePtr.{OpaqueNodePtr as Pointer};
 ghost use Rattle.art_arena.specs.Arena.{ArenaOf, HeldLeaf, held};
 ghost use Rattle.art_arena.specs.Standing.{StandsIn};
-ghost use Rattle.art_arena.specs.Trees.{Tree, leaves, texts, IsSound, SameButPointers};
+ghost use Rattle.art_arena.specs.Trees.{Tree, leaves, places, texts, IsSound, SameButPointers};
 ghost use Rattle.art_tree.specs.Art.{IsAlone, IsArt};
 ghost use Rattle.art_tree.specs.Contexts.{Context, plug, path_to, leaves_before, leaves_after, IsExchanged};
 ghost use Rattle.art_tree.specs.Dictionary.{entry_at, Clashes, HasEntry, HasKeys, IsEmpty};
@@ -16,9 +17,10 @@ ghost use Rattle.art_tree.specs.Loading.{IsSnug};
 
 pub use art_arena::laws::{
     allocating_keeps_lists_spelled, allocating_leaves_trees_standing,
-    an_allocated_node_makes_a_tree, each_pointer_is_at_one_place, no_text_begins_another,
-    path_and_prefix_are_shared, same_trees_have_the_same_texts, texts_ascend,
-    trees_stand_where_all_is_kept,
+    an_allocated_node_makes_a_tree, each_leaf_of_a_list_is_knit, each_pointer_is_at_one_place,
+    lists_are_spelled_where_links_are_kept, no_text_begins_another, path_and_prefix_are_shared,
+    same_trees_have_the_same_texts, texts_ascend, trees_stand_where_all_is_kept,
+    trees_stand_where_texts_are_kept,
 };
 use art_bytes::{AsBytes, NoPrefixesBytes};
 use art_nodes::OpaqueNodePtr;
@@ -32,6 +34,16 @@ pub fn the_same_texts_make_the_same_tree<H, L>()
     path_and_prefix_are_shared::<H>();
     path_and_prefix_are_shared::<L>();
 }
+
+/// Two trees that are the same but for their pointers, each snug where it stands, are of the same kinds
+/// node for node. So a tree that inserts and removes made is, pointers aside, the tree that `load` makes
+/// of its entries, and takes the same room.
+pub fn the_same_tree_has_the_same_kinds<K: AsBytes, V, const PREFIX_LEN: usize>()
+    ensures { (arena other_arena : ArenaOf K V PREFIX_LEN) (tree other : _) →
+        StandsIn K.text arena tree → StandsIn K.text other_arena other →
+        IsSnug tree → IsSnug other → SameButPointers tree other →
+        map node_kind (places tree) ≡ map node_kind (places other) }
+{}
 
 /// A subtree of a tree may be exchanged for one that is sound under the same path. The whole is then
 /// sound under the path that it was sound under, its leaves are those of before with the part

@@ -23,6 +23,7 @@ use crate::path::TreePath;
 use crate::remove::node::{
     give_up, join_prefix, num_children, other_child, reserve_shrink, take_child,
 };
+use art_arena::laws::each_leaf_of_a_list_is_knit;
 use art_arena::{ArenaReader, LeafLinks, NodeArena};
 use art_bytes::AsBytes;
 use art_nodes::{LeafNode, NodePtr, OpaqueNodePtr};
@@ -43,6 +44,7 @@ fn take_leaf<K: AsBytes, V, const PREFIX_LEN: usize>(
         StaysAt arena.old arena.new pointer }
     ensures room { (kind : _) → room arena.old kind ≤ room arena.new kind }
 {
+    each_leaf_of_a_list_is_knit::<K, V, PREFIX_LEN>();
     LeafNode::remove_self(arena, leaf);
     arena.deallocate_node_ptr(leaf).into_entry()
 }

@@ -7,6 +7,7 @@ ghost use Rattle.art_arena.specs.Links.{Spells, text_at};
 ghost use Rattle.art_tree.specs.Edits.{HasGap, HoldsEntry, IsBeside, LiesBeside, StaysAt};
 ghost use Rattle.art_tree.specs.Search.{leaf_pointer};
 
+use art_arena::laws::each_leaf_of_a_list_is_knit;
 use art_arena::{End, LeafLinks, NodeArena};
 use art_bytes::AsBytes;
 use art_nodes::{LeafNode, NodePtr};
@@ -32,6 +33,7 @@ pub(crate) fn link_leaf<K: AsBytes, V, const PREFIX_LEN: usize>(
         StaysAt arena.old arena.new pointer }
     ensures other_room { SameOtherRoom arena.old arena.new Leaf }
 {
+    each_leaf_of_a_list_is_knit::<K, V, PREFIX_LEN>();
     let leaf = arena
         .allocate_node_ptr(LeafNode::with_no_siblings(key, value))
         .unwrap();

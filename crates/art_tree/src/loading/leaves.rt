@@ -5,6 +5,7 @@ ghost use Rattle.art_arena.specs.Arena.{room, SameOtherRoom};
 ghost use Rattle.art_tree.specs.Plan.{AreLoadable, texts_of};
 ghost use Rattle.art_tree.specs.Loading.{AreLinked};
 
+use art_arena::laws::each_leaf_of_a_list_is_knit;
 use art_arena::{LeafLinks, NodeArena};
 use art_bytes::AsBytes;
 use art_nodes::{LeafNode, NodePtr};
@@ -22,6 +23,7 @@ pub(crate) fn link_leaves<K: AsBytes, V, const PREFIX_LEN: usize>(
     ensures linked { AreLinked arena.old arena.new entries.items leaves.new.items }
     ensures other_room { SameOtherRoom arena.old arena.new Leaf }
 {
+    each_leaf_of_a_list_is_knit::<K, V, PREFIX_LEN>();
     let mut rest = entries.into_iter();
     'moving: while let Some((key, value)) = rest.next() {
         let leaf = arena

@@ -1,7 +1,7 @@
 //! The calls that change a tree.
 ghost use Rattle.std.specs.Prelude.{◌≡◌, ◌≢◌, ℕ, List, None, IfNone, IfOk, IfErr, OnOk, OnErr};
 ghost use Rattle.art_arena.specs.Arena.{SameNodes};
-ghost use Rattle.art_tree.specs.Dictionary.{entry_at, IsEntry};
+ghost use Rattle.art_tree.specs.Dictionary.{entry_at, HasKeys, IsEntry};
 ghost use Rattle.art_tree.specs.Inserting.{IsRefused, MayEnter, SameEntries};
 ghost use Rattle.art_tree.specs.Removing.{NeedsSmallerNode};
 
@@ -34,6 +34,8 @@ impl<K: AsBytes, V, const PREFIX_LEN: usize> ArtTree<K, V, PREFIX_LEN> {
         ensures same_entries { OnErr result (SameEntries K.text self.old.arena self.new.arena) }
         ensures nodes_kept { OnErr result (SameNodes self.old.arena self.new.arena) }
         ensures root_kept { OnErr result (self.new.root ≡ self.old.root) }
+        ensures is_key { K.is_key key }
+        ensures are_keys { HasKeys K.text K.is_key self.old.arena }
     {
         let (root, before) = insert_entry(&mut self.arena, self.root, key, value)?;
         self.root = Some(root);

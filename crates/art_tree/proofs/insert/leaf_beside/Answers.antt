@@ -21,10 +21,10 @@ returns-in-Some g c = λ place.
     let text = g.K.AsBytes.text in
     let arena = c.args.arena.now in
     let first = first-after text arena c.args.pointer c.args.byte place c.child_above.result c.child_above.ensures c.in-Some.child c.in-Some.is in
-    beside-first text arena c.args.pointer c.args.byte place c.in-Some.child first (leaf_pointer c.end_leaf.result) (c.end_leaf.ensures (at-first text arena c.args.pointer c.args.byte place c.in-Some.child first))
+    beside-first text arena c.args.pointer c.args.byte place c.in-Some.child first (leaf_pointer c.end_leaf.result) (c.end_leaf.ensures.at_end (at-first text arena c.args.pointer c.args.byte place c.in-Some.child first))
 
 pub returns-in-None : goal.returns-in-None
 returns-in-None g c = λ place.
     let text = g.K.AsBytes.text in
     let arena = c.args.arena.now in
-    beside-last text arena c.args.pointer c.args.byte place (none-after text arena c.args.pointer c.args.byte place c.child_above.result c.child_above.ensures c.in-None.is) (leaf_pointer c.end_leaf-in-None.result) (c.end_leaf-in-None.ensures (at-node text arena c.args.pointer c.args.byte place))
+    beside-last text arena c.args.pointer c.args.byte place (none-after text arena c.args.pointer c.args.byte place c.child_above.result c.child_above.ensures c.in-None.is) (leaf_pointer c.end_leaf-in-None.result) (c.end_leaf-in-None.ensures.at_end (at-node text arena c.args.pointer c.args.byte place))

@@ -1,8 +1,11 @@
-use Rattle.std.proofs.Common.{◌∙◌, [], Some, ap, sym}
+use Rattle.std.proofs.Common.{◌∙◌, ℕ, List, [], Some, ap, sym}
 use Rattle.art_nodes.specs.Leaf.{leaf_key, leaf_value, previous_key, next_key}
+use Rattle.art_nodes.specs.Pointers.{slab_key}
+use Rattle.art_arena.specs.Links.{Spells, leaf_at}
 use Rattle.art_tree.specs.Search.{leaf_pointer}
 use Rattle.art_tree.proofs.DictionaryLemmas.{leaf-held-in}
 use Rattle.art_tree.proofs.InsertLemmas.{one-leaf, replaced-alone, replaced-entered, replaced-was}
+use Rattle.art_tree.proofs.Rising.{leaf-of}
 use Rattle.art_tree.proofs.insert.replace_entry.Goals as goal
 
 pub returns : goal.returns
@@ -23,8 +26,12 @@ returns g c = λ root tree alone inside.
     let is_key = ap leaf_key links ∙ c.with_no_siblings-new.ensures.key in
     let is_value = ap leaf_value links ∙ c.with_no_siblings-new.ensures.value in
     let same_previous = ap previous_key links ∙ c.previous-previous.ensures ∙ ap previous_key before in
-    let same_next = ap next_key links ∙ c.next-next.ensures ∙ ap next_key before in (
-      replaced-alone text old new c.args.key c.args.value at was now is changes is_key is_value same_text same_previous same_next root tree alone,
-      replaced-entered text old new c.args.key c.args.value at was now is changes is_key is_value same_text same_previous same_next root tree alone apart inside,
+    let same_next = ap next_key links ∙ c.next-next.ensures ∙ ap next_key before in
+    let key = slab_key c.args.leaf in
+    let found = leaf-of (leaf_at old key) was is in
+    let stands_on = c.trees_stand_where_texts_are_kept.ensures.leaf old new key was now tree found changes (ap text is_key ∙ sym same_text) in
+    let spelled_on : (keys : List ℕ) → Spells old keys → Spells new keys = λ keys. c.lists_are_spelled_where_links_are_kept.ensures.leaf old new key was now keys found changes same_previous same_next in (
+      replaced-alone text old new c.args.key c.args.value at was now is changes is_key is_value same_text tree stands_on spelled_on root alone,
+      replaced-entered text old new c.args.key c.args.value at was now is changes is_key is_value same_text tree stands_on spelled_on root alone apart inside,
       replaced-was text old new c.args.key c.args.value at was now is changes is_key is_value root tree alone apart same_text ∙ ap Some (λ i. (sym c.into_entry.ensures.key i, sym c.into_entry.ensures.value i)),
     )

@@ -36,10 +36,10 @@ insert_before-requires g c =
                   (
                     new-unlinked old now this leaf free changes c.with_no_siblings.ensures.previous c.with_no_siblings.ensures.next,
                     (
-                      new-apart old now this leaf free changes c.args.end sibling c.requires.gap,
+                      new-apart old now this leaf free changes c.args.end sibling (c.each_leaf_of_a_list_is_knit.ensures.knit old) c.requires.gap,
                       (
-                        sibling-knit old now this leaf free changes c.args.end sibling c.requires.gap,
-                        less-same _ _ _ _ (new-text old now this leaf free changes g.K.AsBytes.text c.args.key c.with_no_siblings.ensures.key) (sibling-text old now this leaf free changes g.K.AsBytes.text c.args.end sibling c.requires.gap) order,
+                        sibling-knit old now this leaf free changes c.args.end sibling (c.each_leaf_of_a_list_is_knit.ensures.knit now) c.requires.gap,
+                        less-same _ _ _ _ (new-text old now this leaf free changes g.K.AsBytes.text c.args.key c.with_no_siblings.ensures.key) (sibling-text old now this leaf free changes g.K.AsBytes.text c.args.end sibling (c.each_leaf_of_a_list_is_knit.ensures.knit old) c.requires.gap) order,
                       ),
                     ),
                   ),
@@ -111,10 +111,10 @@ insert_after-requires g c =
                   (
                     new-unlinked old now this leaf free changes c.with_no_siblings.ensures.previous c.with_no_siblings.ensures.next,
                     (
-                      new-apart old now this leaf free changes c.args.end sibling c.requires.gap,
+                      new-apart old now this leaf free changes c.args.end sibling (c.each_leaf_of_a_list_is_knit.ensures.knit old) c.requires.gap,
                       (
-                        sibling-knit old now this leaf free changes c.args.end sibling c.requires.gap,
-                        less-same _ _ _ _ (sibling-text old now this leaf free changes g.K.AsBytes.text c.args.end sibling c.requires.gap) (new-text old now this leaf free changes g.K.AsBytes.text c.args.key c.with_no_siblings.ensures.key) order,
+                        sibling-knit old now this leaf free changes c.args.end sibling (c.each_leaf_of_a_list_is_knit.ensures.knit now) c.requires.gap,
+                        less-same _ _ _ _ (sibling-text old now this leaf free changes g.K.AsBytes.text c.args.end sibling (c.each_leaf_of_a_list_is_knit.ensures.knit old) c.requires.gap) (new-text old now this leaf free changes g.K.AsBytes.text c.args.key c.with_no_siblings.ensures.key) order,
                       ),
                     ),
                   ),

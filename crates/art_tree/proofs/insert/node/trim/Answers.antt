@@ -11,7 +11,7 @@ use Rattle.art_tree.proofs.insert.node.trim.Goals as goal
 pub ltrim_by_with_leaf-requires : goal.ltrim_by_with_leaf-requires
 ltrim_by_with_leaf-requires g c =
     let arena = c.args.arena.now in
-    let there = header-held (held arena c.args.pointer) c.in-Some.header.now (sym (ap option_copied c.in-Some.is) ∙ c.header.ensures) in
+    let there = header-held (held arena c.args.pointer) c.in-Some.header.now (sym (ap option_copied c.in-Some.is) ∙ c.header.ensures.header) in
     let copy = rw c.unwrap-header.ensures at c.clone.ensures.cases in
     let len = ap (λ h. h.prefix_len) (copy ∙ there.2) in
     let text = ap length (text-of-key g.K.AsBytes.text (leaf_at arena (slab_key c.args.leaf)) c.as_key_ref.result.now c.as_key_ref.ensures) in
@@ -23,7 +23,7 @@ ltrim_by_with_leaf-requires g c =
 pub returns-clause-trimmed : goal.returns-clause-trimmed
 returns-clause-trimmed g c = λ node path prefix rest is deep text stands.
     let arena = c.args.arena.now in
-    let there = header-held (held arena c.args.pointer) c.in-Some.header.now (sym (ap option_copied c.in-Some.is) ∙ c.header.ensures) in
+    let there = header-held (held arena c.args.pointer) c.in-Some.header.now (sym (ap option_copied c.in-Some.is) ∙ c.header.ensures.header) in
     let copy = rw c.unwrap-header.ensures at c.clone.ensures.cases in
     let same = one-inner (held arena c.args.pointer) there.0 node there.1 is in
     let header = copy ∙ there.2 ∙ ap header_of same in

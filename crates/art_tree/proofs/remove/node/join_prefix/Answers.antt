@@ -11,8 +11,8 @@ use Rattle.art_tree.proofs.remove.node.join_prefix.Goals as goal
 pub push_prefix-requires : goal.push_prefix-requires
 push_prefix-requires g c =
     let arena = c.args.arena.now in
-    let upper = header-held (held arena c.args.pointer) c.unwrap.result.now (sym (ap option_copied c.unwrap.ensures) ∙ c.header-2.ensures) in
-    let lower = header-held (held arena c.args.child) c.in-Some.lower.now (sym (ap option_copied c.in-Some.is) ∙ c.header.ensures) in
+    let upper = header-held (held arena c.args.pointer) c.unwrap.result.now (sym (ap option_copied c.unwrap.ensures) ∙ c.header-2.ensures.header) in
+    let lower = header-held (held arena c.args.child) c.in-Some.lower.now (sym (ap option_copied c.in-Some.is) ∙ c.header.ensures.header) in
     let copy = rw c.unwrap-joined.ensures at c.clone.ensures.cases in
     let len = ap (λ h. h.prefix_len) (copy ∙ upper.2) in
     let short = c.requires.short upper.0 lower.0 upper.1 lower.1 in
@@ -21,8 +21,8 @@ push_prefix-requires g c =
 pub push_prefix-requires-2 : goal.push_prefix-requires-2
 push_prefix-requires-2 g c =
     let arena = c.args.arena.now in
-    let upper = header-held (held arena c.args.pointer) c.unwrap.result.now (sym (ap option_copied c.unwrap.ensures) ∙ c.header-2.ensures) in
-    let lower = header-held (held arena c.args.child) c.in-Some.lower.now (sym (ap option_copied c.in-Some.is) ∙ c.header.ensures) in
+    let upper = header-held (held arena c.args.pointer) c.unwrap.result.now (sym (ap option_copied c.unwrap.ensures) ∙ c.header-2.ensures.header) in
+    let lower = header-held (held arena c.args.child) c.in-Some.lower.now (sym (ap option_copied c.in-Some.is) ∙ c.header.ensures.header) in
     let copy = rw c.unwrap-joined.ensures at c.clone.ensures.cases in
     let len = ap (λ h. h.prefix_len) (copy ∙ upper.2) in
     let more = ap (λ h. h.prefix_len) c.push_prefix.ensures in
@@ -33,7 +33,7 @@ push_prefix-requires-2 g c =
 pub set_prefix-requires : goal.set_prefix-requires
 set_prefix-requires g c =
     let arena = c.args.arena.now in
-    let lower = header-held (held arena c.args.child) c.in-Some.lower.now (sym (ap option_copied c.in-Some.is) ∙ c.header.ensures) in (
+    let lower = header-held (held arena c.args.child) c.in-Some.lower.now (sym (ap option_copied c.in-Some.is) ∙ c.header.ensures.header) in (
       search rules,
       (
         search rules,
@@ -63,8 +63,8 @@ pub returns-clause-joined : goal.returns-clause-joined
 returns-clause-joined g c = λ upper lower front back up low above below.
     let arena = c.args.arena.now in
     let size = g.row.PREFIX_LEN in
-    let there = header-held (held arena c.args.pointer) c.unwrap.result.now (sym (ap option_copied c.unwrap.ensures) ∙ c.header-2.ensures) in
-    let under = header-held (held arena c.args.child) c.in-Some.lower.now (sym (ap option_copied c.in-Some.is) ∙ c.header.ensures) in
+    let there = header-held (held arena c.args.pointer) c.unwrap.result.now (sym (ap option_copied c.unwrap.ensures) ∙ c.header-2.ensures.header) in
+    let under = header-held (held arena c.args.child) c.in-Some.lower.now (sym (ap option_copied c.in-Some.is) ∙ c.header.ensures.header) in
     let copy = rw c.unwrap-joined.ensures at c.clone.ensures.cases in
     let upper_is = copy ∙ there.2 ∙ ap header_of (one-inner (held arena c.args.pointer) there.0 upper there.1 up) in
     let lower_is = under.2 ∙ ap header_of (one-inner (held arena c.args.child) under.0 lower under.1 low) in

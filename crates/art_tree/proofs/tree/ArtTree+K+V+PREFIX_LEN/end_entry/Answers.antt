@@ -19,7 +19,7 @@ pub as_key_value_ref-requires : goal.as_key_value_ref-requires
 as_key_value_ref-requires g c =
     let text = g.K.AsBytes.text in
     let alone = subst (IsArt text c.self.inside.arena) c.in_ok-root.was c.self.invariant.0 in
-    let at_end = c.end_leaf-leaf.ensures (record { tree = alone.0; path = []; at_root = alone.1.is_tree.at_root; stands = alone.1.is_tree.stands; sound = alone.1.is_tree.sound }) in
+    let at_end = c.end_leaf-leaf.ensures.at_end (record { tree = alone.0; path = []; at_root = alone.1.is_tree.at_root; stands = alone.1.is_tree.stands; sound = alone.1.is_tree.sound }) in
     let there = end-held text c.self.inside.arena c.args.end c.in_ok-root.root alone.0 alone.1 c.end_leaf-leaf.result at_end in
     let is_held = slot-held c.self.inside.arena (slab_key c.end_leaf-leaf.result) there.0 there.1 in
     search rules
@@ -28,7 +28,7 @@ pub returns-clause-entry : goal.returns-clause-entry
 returns-clause-entry g c =
     let text = g.K.AsBytes.text in
     let alone = subst (IsArt text c.self.inside.arena) c.in_ok-root.was c.self.invariant.0 in
-    let at_end = c.end_leaf-leaf.ensures (record { tree = alone.0; path = []; at_root = alone.1.is_tree.at_root; stands = alone.1.is_tree.stands; sound = alone.1.is_tree.sound }) in
+    let at_end = c.end_leaf-leaf.ensures.at_end (record { tree = alone.0; path = []; at_root = alone.1.is_tree.at_root; stands = alone.1.is_tree.stands; sound = alone.1.is_tree.sound }) in
     let key = c.as_key_value_ref.result.0.now in
     ap (λ seen. entry_at text seen.arena (text key)) (sym c.self.view_is)
     ∙ end-entry text c.self.inside.arena c.args.end c.in_ok-root.root alone.0 alone.1 c.end_leaf-leaf.result at_end key c.as_key_value_ref.result.1.now c.as_key_value_ref.ensures.key c.as_key_value_ref.ensures.value
@@ -38,6 +38,6 @@ pub returns-clause-at_end : goal.returns-clause-at_end
 returns-clause-at_end g c = λ other some.
     let text = g.K.AsBytes.text in
     let alone = subst (IsArt text c.self.inside.arena) c.in_ok-root.was c.self.invariant.0 in
-    let at_end = c.end_leaf-leaf.ensures (record { tree = alone.0; path = []; at_root = alone.1.is_tree.at_root; stands = alone.1.is_tree.stands; sound = alone.1.is_tree.sound }) in
+    let at_end = c.end_leaf-leaf.ensures.at_end (record { tree = alone.0; path = []; at_root = alone.1.is_tree.at_root; stands = alone.1.is_tree.stands; sound = alone.1.is_tree.sound }) in
     end-within text c.self.inside.arena c.args.end c.in_ok-root.root alone.0 alone.1 c.end_leaf-leaf.result at_end c.as_key_value_ref.result.0.now c.as_key_value_ref.result.1.now c.as_key_value_ref.ensures.key c.as_key_value_ref.ensures.value
     (c.texts_ascend.ensures [] alone.0 alone.1.is_tree.sound) other (λ none. some (ap (λ seen. entry_at text seen.arena other) (sym c.self.view_is) ∙ none))
