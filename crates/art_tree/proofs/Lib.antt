@@ -1,5 +1,6 @@
 mod DescentLemmas
 mod OnlyWayLemmas
+mod PathLeads
 mod PathLemmas
 mod SameKinds
 mod ScanLemmas

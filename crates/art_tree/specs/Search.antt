@@ -3,14 +3,17 @@ use Rattle.std.specs.Prelude.{◌≡◌, ◌⊎◌, ℕ, ◌+◌, Bool, ◌&&◌
 use Rattle.std.specs.List.{starts_with}
 use Rattle.std.specs.Cmp.Lexicographic.{pointwise}
 use Rattle.art_header.specs.declared.node_type.NodeType.TheVariants as kinds
+use Rattle.art_nodes.specs.ChildMap.{child_at}
+use Rattle.art_nodes.specs.Inner as nodes
 use Rattle.art_nodes.specs.Pointers.{slab_key, opaque_pointer}
 use Rattle.art_nodes.specs.declared.pointers.NodePtr.{NodePtr}
 use Rattle.art_nodes.specs.declared.pointers.OpaqueNodePtr.{OpaqueNodePtr}
 use Rattle.art_nodes.specs.declared.leaf_node.LeafNode.{LeafNode}
-use Rattle.art_arena.specs.Arena.{ArenaOf}
+use Rattle.art_arena.specs.Arena.{ArenaOf, HeldInner, held}
 use Rattle.art_arena.specs.Standing.{IsTreeIn}
 use Rattle.art_arena.specs.Trees.{Tree, Leaf, Inner, Branches, NoBranch, Branch, leaves}
 use Rattle.art_tree.specs.declared.path.TreePath.{TreePath}
+use Rattle.art_tree.specs.declared.path.TreePath.TheVariants.{Root, ChildOfRoot, Normal}
 use Rattle.art_tree.specs.Paths.{Steps, path_of}
 
 -- what is left of a key goes to this byte past the prefix, which it begins with where all of the prefix is stored
@@ -65,6 +68,17 @@ module _ {K V : Type 0} {P : ℕ} where
   -- the path of the one way to a leaf
   abbrev pub IsPathTo : Tree (OpaqueNodePtr K V P) → OpaqueNodePtr K V P → TreePath K V P → Type 0
   IsPathTo tree pointer path = (steps : Steps K V P) × IsOnlyWay tree steps pointer × (path ≡ path_of steps)
+
+  -- the inner node at the parent has this child under the byte
+  abbrev pub HasChildAt : ArenaOf K V P → OpaqueNodePtr K V P → ℕ → OpaqueNodePtr K V P → Type 0
+  HasChildAt arena parent byte child = (node : nodes.Inner (OpaqueNodePtr K V P)) × (held arena parent ≡ HeldInner node) × (child_at node.children byte ≡ Some child)
+
+  -- the path is one from the root to the leaf at this pointer, by the nodes that an arena holds
+  abbrev pub LeadsTo : ArenaOf K V P → OpaqueNodePtr K V P → TreePath K V P → OpaqueNodePtr K V P → Type 0
+  LeadsTo arena root Root leaf = root ≡ leaf
+  LeadsTo arena root (ChildOfRoot parent byte) leaf = (parent ≡ root) × HasChildAt arena parent byte leaf
+  LeadsTo arena root (Normal grandparent parent_byte parent byte) leaf =
+      HasChildAt arena grandparent parent_byte parent × HasChildAt arena parent byte leaf
 
   -- for every well-formed tree that stands at this pointer of an arena
   abbrev pub EachTree : (K → List ℕ) → ArenaOf K V P → OpaqueNodePtr K V P → (Tree (OpaqueNodePtr K V P) → Type 0) → Type 0

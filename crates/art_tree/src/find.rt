@@ -4,7 +4,7 @@ ghost use Rattle.art_arena.specs.Arena.{held, Nothing};
 ghost use Rattle.art_arena.specs.Reader.{shown};
 ghost use Rattle.art_tree.specs.Descent.{LeadsOn, LeadsNowhere, LeadsOnFrom, LeadsNowhereFrom};
 ghost use Rattle.art_tree.specs.Paths.{Steps};
-ghost use Rattle.art_tree.specs.Search.{HasTree, EachTree, scan, found, met, IsWay, IsPathTo, leaf_pointer};
+ghost use Rattle.art_tree.specs.Search.{HasTree, EachTree, scan, found, met, IsWay, IsPathTo, LeadsTo, leaf_pointer};
 
 use crate::path::{TreePath, TreePathSearch};
 use art_arena::laws::each_pointer_is_at_one_place;
@@ -82,6 +82,8 @@ pub fn find_leaf<K: AsBytes, V, const PREFIX_LEN: usize>(
         scan tree key.now ≡ found result key.now) }
     ensures path { EachTree K.text reader.old.arena root (λ tree.
         IfSome result (λ (leaf, path). IsPathTo tree (leaf_pointer leaf) path)) }
+    ensures leads { IfSome result (λ (leaf, path).
+        LeadsTo reader.new.arena root path (leaf_pointer leaf)) }
     ensures looks { EachTree K.text reader.old.arena root (λ tree.
         reader.new.budget + length (met PREFIX_LEN tree key.now) ≡ reader.old.budget) }
     ensures looks_bounded { EachTree K.text reader.old.arena root (λ tree.

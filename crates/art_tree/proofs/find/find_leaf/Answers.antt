@@ -4,9 +4,10 @@ use Rattle.art_nodes.specs.Pointers.{slab_key, opaque_key}
 use Rattle.art_nodes.specs.declared.pointers.OpaqueNodePtr.{OpaqueNodePtr as PointerTo}
 use Rattle.art_arena.specs.Arena.{held}
 use Rattle.art_arena.specs.Standing.{leaf_text}
-use Rattle.art_tree.specs.Search.{IsWay}
-use Rattle.art_tree.specs.Paths.{StandsFor}
+use Rattle.art_tree.specs.Search.{IsWay, LeadsTo, leaf_pointer}
+use Rattle.art_tree.specs.Paths.{StandsFor, path_of}
 use Rattle.art_tree.proofs.OnlyWayLemmas.{one-way}
+use Rattle.art_tree.proofs.PathLeads.{way-leads}
 use Rattle.art_tree.proofs.WayLemmas.{here-start, here-leaf, here-nowhere-scan, here-nowhere-met, here-on, leaf-kind, still-held, leaf-pointer-is, told, told-on, told-nowhere, told-later, at-some, leaf-hit, leaf-miss, not-true}
 use Rattle.art_tree.proofs.find.find_leaf.Goals as goal
 
@@ -34,6 +35,14 @@ returns-then-matches_full_key g c =
           let here = c.way.invariant.here tree is in
           let at = here-leaf text arena tree c.args.key.now c.way.at c.way.depth c.way.search _ _ here c.in-LeafNode.leaf.now holds in
           (here.steps, (subst (IsWay tree here.steps) (sym pointer) at.way, λ others way. one-way tree (c.each_pointer_is_at_one_place.ensures arena [] tree is.stands is.sound) here.steps others c.way.at at.way (subst (IsWay tree others) pointer way)), (c.finish.ensures here.steps).0 here.remembered);
+      leads =
+          let (tree, is) = c.requires.tree in
+          let here = c.way.invariant.here tree is in
+          let at = here-leaf text arena tree c.args.key.now c.way.at c.way.depth c.way.search _ _ here c.in-LeafNode.leaf.now holds in
+          let path_is = (c.finish.ensures here.steps).0 here.remembered in
+          let from_root = subst (λ root. LeadsTo arena root (path_of here.steps) (leaf_pointer c.unwrap.result)) is.at_root (way-leads text arena [] tree here.steps (leaf_pointer c.unwrap.result) is.stands is.sound (subst (IsWay tree here.steps) (sym pointer) at.way)) in
+          subst (λ a. LeadsTo a c.args.root c.finish.result (leaf_pointer c.unwrap.result)) (sym (c.look-node.ensures.same_arena ∙ c.way.invariant.same_arena))
+          (subst (λ path. LeadsTo arena c.args.root path (leaf_pointer c.unwrap.result)) (sym path_is) from_root);
       looks = λ tree is.
           let here = c.way.invariant.here tree is in
           let at = here-leaf text arena tree c.args.key.now c.way.at c.way.depth c.way.search _ _ here c.in-LeafNode.leaf.now holds in
@@ -60,6 +69,7 @@ returns-else-matches_full_key g c =
           let at = here-leaf text arena tree c.args.key.now c.way.at c.way.depth c.way.search _ _ (c.way.invariant.here tree is) c.in-LeafNode.leaf.now holds in
           leaf-miss _ _ (leaf_text text c.in-LeafNode.leaf.now) _ at.same_scan (λ same. not-true c.matches_full_key.result c.if-matches_full_key.false (c.matches_full_key.ensures.1 same));
       path = λ tree is. tt;
+      leads = tt;
       looks = λ tree is.
           let here = c.way.invariant.here tree is in
           let at = here-leaf text arena tree c.args.key.now c.way.at c.way.depth c.way.search _ _ here c.in-LeafNode.leaf.now holds in
@@ -82,6 +92,7 @@ returns-in_default-next_child g c =
     record {
       answer = λ tree is. here-nowhere-scan text arena tree c.args.key.now c.way.at c.way.depth c.way.search _ _ (c.way.invariant.here tree is) t.node t.is nowhere;
       path = λ tree is. tt;
+      leads = tt;
       looks = λ tree is.
           let here = c.way.invariant.here tree is in
           let met = here-nowhere-met text arena tree c.args.key.now c.way.at c.way.depth c.way.search _ _ here t.node t.is nowhere in
