@@ -8,7 +8,6 @@ use crate::inner_nodes::inner_node_direct::InnerNodeDirect;
 use crate::inner_nodes::inner_node_indirect::InnerNode48;
 use crate::inner_nodes::inner_node_sorted::{InnerNode4, InnerNode16};
 use crate::inner_nodes::node::{InnerNodeCommon, Node};
-use art_header::NodeType;
 
 /// An inner node of one of the four kinds, with the kinds next to it.
 pub trait InnerNode<const PREFIX_LEN: usize>: Node<PREFIX_LEN>
@@ -39,10 +38,13 @@ pub trait InnerNode<const PREFIX_LEN: usize>: Node<PREFIX_LEN>
         ensures { Self.ShrunkNode.inner result ≡ Self.inner self.now };
 
     /// Whether the node has as many children as its kind holds.
-    fn is_full(&self) -> bool
+    final fn is_full(&self) -> bool
         ensures full { let count = length (Self.inner self.now).children in
             IsTrue result ↔ (count ≡ most_children Self.TYPE) }
-        ensures has_room { ¬ (IsTrue result) → length (Self.inner self.now).children < Self.room };
+        ensures has_room { ¬ (IsTrue result) → length (Self.inner self.now).children < Self.room }
+    {
+        self.num_children() == self.capacity()
+    }
 
     /// The kind is that of an inner node.
     ghost is_inner: { Self.TYPE ≢ Leaf };
@@ -88,10 +90,6 @@ impl<K, V, const PREFIX_LEN: usize> InnerNode<PREFIX_LEN> for InnerNode4<K, V, P
     fn shrink(&self) -> Self {
         self.clone()
     }
-
-    fn is_full(&self) -> bool {
-        self.num_children() == *NodeType::Node4.capacity_range().end()
-    }
 }
 
 impl<K, V, const PREFIX_LEN: usize> InnerNode<PREFIX_LEN> for InnerNode16<K, V, PREFIX_LEN> {
@@ -120,10 +118,6 @@ impl<K, V, const PREFIX_LEN: usize> InnerNode<PREFIX_LEN> for InnerNode16<K, V, 
 
     fn shrink(&self) -> InnerNode4<K, V, PREFIX_LEN> {
         self.change_block_size()
-    }
-
-    fn is_full(&self) -> bool {
-        self.num_children() == *NodeType::Node16.capacity_range().end()
     }
 }
 
@@ -155,10 +149,6 @@ impl<K, V, const PREFIX_LEN: usize> InnerNode<PREFIX_LEN> for InnerNode48<K, V, 
     fn shrink(&self) -> InnerNode16<K, V, PREFIX_LEN> {
         InnerNode16::from_indirect(self)
     }
-
-    fn is_full(&self) -> bool {
-        self.num_children() == *NodeType::Node48.capacity_range().end()
-    }
 }
 
 impl<K, V, const PREFIX_LEN: usize> InnerNode<PREFIX_LEN> for InnerNodeDirect<K, V, PREFIX_LEN> {
@@ -188,9 +178,5 @@ impl<K, V, const PREFIX_LEN: usize> InnerNode<PREFIX_LEN> for InnerNodeDirect<K,
 
     fn shrink(&self) -> InnerNode48<K, V, PREFIX_LEN> {
         InnerNode48::from_direct(self)
-    }
-
-    fn is_full(&self) -> bool {
-        self.num_children() == *NodeType::Node256.capacity_range().end()
     }
 }

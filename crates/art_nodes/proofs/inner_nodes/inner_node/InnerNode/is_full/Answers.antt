@@ -1,5 +1,5 @@
 use Rattle.std.proofs.Common.{rules}
-use Rattle.art_nodes.proofs.inner_nodes.inner_node.InnerNode48InnerNode.is_full.Goals as goal
+use Rattle.art_nodes.proofs.inner_nodes.inner_node.InnerNode.is_full.Goals as goal
 
 pub returns-clause-full : goal.returns-clause-full
 returns-clause-full g c = search rules
