@@ -17,20 +17,20 @@ use std::ops::Bound;
 
 #[derive(Drop)]
 pub(crate) enum AnyInner<K, V, const PREFIX_LEN: usize> {
-    OfFour(InnerNode4<K, V, PREFIX_LEN>),
-    OfSixteen(InnerNode16<K, V, PREFIX_LEN>),
-    OfFortyEight(InnerNode48<K, V, PREFIX_LEN>),
-    OfAll(InnerNodeDirect<K, V, PREFIX_LEN>),
+    Node4(InnerNode4<K, V, PREFIX_LEN>),
+    Node16(InnerNode16<K, V, PREFIX_LEN>),
+    Node48(InnerNode48<K, V, PREFIX_LEN>),
+    Node256(InnerNodeDirect<K, V, PREFIX_LEN>),
 }
 
 /// Runs an expression on the node, of whichever kind it is.
 macro_rules! with_node {
     ($any:expr, $node:ident => $run:expr) => {
         match $any {
-            AnyInner::OfFour($node) => $run,
-            AnyInner::OfSixteen($node) => $run,
-            AnyInner::OfFortyEight($node) => $run,
-            AnyInner::OfAll($node) => $run,
+            AnyInner::Node4($node) => $run,
+            AnyInner::Node16($node) => $run,
+            AnyInner::Node48($node) => $run,
+            AnyInner::Node256($node) => $run,
         }
     };
 }
@@ -54,10 +54,10 @@ impl<K, V, const PREFIX_LEN: usize> AnyInner<K, V, PREFIX_LEN> {
         ensures { result ≡ kind_of self.now }
     {
         match self {
-            AnyInner::OfFour(_) => NodeType::Node4,
-            AnyInner::OfSixteen(_) => NodeType::Node16,
-            AnyInner::OfFortyEight(_) => NodeType::Node48,
-            AnyInner::OfAll(_) => NodeType::Node256,
+            AnyInner::Node4(_) => NodeType::Node4,
+            AnyInner::Node16(_) => NodeType::Node16,
+            AnyInner::Node48(_) => NodeType::Node48,
+            AnyInner::Node256(_) => NodeType::Node256,
         }
     }
 
@@ -150,10 +150,10 @@ impl<K, V, const PREFIX_LEN: usize> AnyInner<K, V, PREFIX_LEN> {
         ensures kind { kind_of self.new ≡ grown_kind (kind_of self.old) }
     {
         let grown = match self {
-            AnyInner::OfFour(node) => AnyInner::OfSixteen(node.grow()),
-            AnyInner::OfSixteen(node) => AnyInner::OfFortyEight(node.grow()),
-            AnyInner::OfFortyEight(node) => AnyInner::OfAll(node.grow()),
-            AnyInner::OfAll(_) => return,
+            AnyInner::Node4(node) => AnyInner::Node16(node.grow()),
+            AnyInner::Node16(node) => AnyInner::Node48(node.grow()),
+            AnyInner::Node48(node) => AnyInner::Node256(node.grow()),
+            AnyInner::Node256(_) => return,
         };
         *self = grown;
     }
@@ -168,10 +168,10 @@ impl<K, V, const PREFIX_LEN: usize> AnyInner<K, V, PREFIX_LEN> {
         ensures kind { kind_of self.new ≡ shrunk_kind (kind_of self.old) }
     {
         let shrunk = match self {
-            AnyInner::OfFour(_) => return,
-            AnyInner::OfSixteen(node) => AnyInner::OfFour(node.shrink()),
-            AnyInner::OfFortyEight(node) => AnyInner::OfSixteen(node.shrink()),
-            AnyInner::OfAll(node) => AnyInner::OfFortyEight(node.shrink()),
+            AnyInner::Node4(_) => return,
+            AnyInner::Node16(node) => AnyInner::Node4(node.shrink()),
+            AnyInner::Node48(node) => AnyInner::Node16(node.shrink()),
+            AnyInner::Node256(node) => AnyInner::Node48(node.shrink()),
         };
         *self = shrunk;
     }

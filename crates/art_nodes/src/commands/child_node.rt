@@ -41,7 +41,7 @@ impl<K, V, const PREFIX_LEN: usize> ChildNode<K, V, PREFIX_LEN> {
         ensures { result ≡ empty_inner header.entry }
     {
         ChildNode {
-            node: AnyInner::OfFour(InnerNode4::from_header(header)),
+            node: AnyInner::Node4(InnerNode4::from_header(header)),
         }
     }
 
