@@ -153,7 +153,7 @@ impl<K, V, const PREFIX_LEN: usize> AnyInner<K, V, PREFIX_LEN> {
             AnyInner::Node4(node) => AnyInner::Node16(node.grow()),
             AnyInner::Node16(node) => AnyInner::Node48(node.grow()),
             AnyInner::Node48(node) => AnyInner::Node256(node.grow()),
-            AnyInner::Node256(_) => return,
+            AnyInner::Node256(_) => unreachable!(),
         };
         *self = grown;
     }
@@ -168,7 +168,7 @@ impl<K, V, const PREFIX_LEN: usize> AnyInner<K, V, PREFIX_LEN> {
         ensures kind { kind_of self.new ≡ shrunk_kind (kind_of self.old) }
     {
         let shrunk = match self {
-            AnyInner::Node4(_) => return,
+            AnyInner::Node4(_) => unreachable!(),
             AnyInner::Node16(node) => AnyInner::Node4(node.shrink()),
             AnyInner::Node48(node) => AnyInner::Node16(node.shrink()),
             AnyInner::Node256(node) => AnyInner::Node48(node.shrink()),
