@@ -222,10 +222,8 @@ impl<K, V, const PREFIX_LEN: usize, const SIZE: usize> InnerNodeCommon<K, V, PRE
     }
 
     fn lookup_child(&self, key_fragment: u8) -> Option<OpaqueNodePtr<K, V, PREFIX_LEN>> {
-        match place_of(&self.keys, key_fragment) {
-            Some(index) => Some(self.child_pointers[index]),
-            None => None,
-        }
+        let index = place_of(&self.keys, key_fragment)?;
+        Some(self.child_pointers[index])
     }
 
     fn write_child(&mut self, key_fragment: u8, child_pointer: OpaqueNodePtr<K, V, PREFIX_LEN>)
