@@ -123,6 +123,16 @@ pub trait ArenaNode<K, V, const PREFIX_LEN: usize>: Node<PREFIX_LEN, Key = K, Va
         held_under (Self.with_slab arena slots) kind key ≡ held_under arena kind key };
 }
 
+/// The kinds of inner nodes.
+pub trait ArenaInnerNode<K, V, const PREFIX_LEN: usize>: ArenaNode<K, V, PREFIX_LEN>
+    + InnerNodeCommon<K, V, PREFIX_LEN> {
+    ghost use Rattle.std.specs.Prelude.{◌≡◌};
+    ghost use Rattle.art_arena.specs.Arena.{HeldInner};
+
+    /// What an arena holds is the node as the calls of [`InnerNodeCommon`] see it.
+    ghost shown: { (node : Self) → Self.held_as node ≡ HeldInner (Self.inner node) };
+}
+
 impl<K, V, const PREFIX_LEN: usize> Shelved<NodeArena<K, V, PREFIX_LEN>>
     for InnerNode4<K, V, PREFIX_LEN> {
     ghost slab_of = { λ a. a.node4 };
@@ -157,6 +167,13 @@ impl<K, V, const PREFIX_LEN: usize> ArenaNode<K, V, PREFIX_LEN> for InnerNode4<K
     ghost other_room = { Prim.search rules };
 
     ghost others_kept = { Prim.search rules };
+}
+
+impl<K, V, const PREFIX_LEN: usize> ArenaInnerNode<K, V, PREFIX_LEN>
+    for InnerNode4<K, V, PREFIX_LEN> {
+    ghost use Rattle.std.proofs.Common.{refl};
+
+    ghost shown = { λ node. refl };
 }
 
 impl<K, V, const PREFIX_LEN: usize> Shelved<NodeArena<K, V, PREFIX_LEN>>
@@ -195,6 +212,13 @@ impl<K, V, const PREFIX_LEN: usize> ArenaNode<K, V, PREFIX_LEN> for InnerNode16<
     ghost others_kept = { Prim.search rules };
 }
 
+impl<K, V, const PREFIX_LEN: usize> ArenaInnerNode<K, V, PREFIX_LEN>
+    for InnerNode16<K, V, PREFIX_LEN> {
+    ghost use Rattle.std.proofs.Common.{refl};
+
+    ghost shown = { λ node. refl };
+}
+
 impl<K, V, const PREFIX_LEN: usize> Shelved<NodeArena<K, V, PREFIX_LEN>>
     for InnerNode48<K, V, PREFIX_LEN> {
     ghost slab_of = { λ a. a.node48 };
@@ -229,6 +253,13 @@ impl<K, V, const PREFIX_LEN: usize> ArenaNode<K, V, PREFIX_LEN> for InnerNode48<
     ghost other_room = { Prim.search rules };
 
     ghost others_kept = { Prim.search rules };
+}
+
+impl<K, V, const PREFIX_LEN: usize> ArenaInnerNode<K, V, PREFIX_LEN>
+    for InnerNode48<K, V, PREFIX_LEN> {
+    ghost use Rattle.std.proofs.Common.{refl};
+
+    ghost shown = { λ node. refl };
 }
 
 impl<K, V, const PREFIX_LEN: usize> Shelved<NodeArena<K, V, PREFIX_LEN>>
@@ -266,6 +297,13 @@ impl<K, V, const PREFIX_LEN: usize> ArenaNode<K, V, PREFIX_LEN>
     ghost other_room = { Prim.search rules };
 
     ghost others_kept = { Prim.search rules };
+}
+
+impl<K, V, const PREFIX_LEN: usize> ArenaInnerNode<K, V, PREFIX_LEN>
+    for InnerNodeDirect<K, V, PREFIX_LEN> {
+    ghost use Rattle.std.proofs.Common.{refl};
+
+    ghost shown = { λ node. refl };
 }
 
 impl<K, V, const PREFIX_LEN: usize> Shelved<NodeArena<K, V, PREFIX_LEN>>

@@ -8,7 +8,7 @@ pub mod laws;
 mod leaf_links;
 mod reader;
 
-pub use arena::{ArenaNode, NodeArena};
+pub use arena::{ArenaInnerNode, ArenaNode, NodeArena};
 pub use art_nodes::{ExplicitMismatch, NodePrefix};
 pub use ends::{End, end_leaf};
 pub use full_prefix::FullPrefix;

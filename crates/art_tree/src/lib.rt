@@ -13,8 +13,8 @@ mod remove;
 mod tree;
 
 pub use art_arena::{
-    AnyRef, ArenaNode, ArenaReader, End, ExplicitMismatch, FullPrefix, LeafLinks, NodeArena,
-    NodePrefix, NodeRef, end_leaf,
+    AnyRef, ArenaInnerNode, ArenaNode, ArenaReader, End, ExplicitMismatch, FullPrefix, LeafLinks,
+    NodeArena, NodePrefix, NodeRef, end_leaf,
 };
 pub use art_bytes::{
     AsBytes, CStringKey, CStringKeyError, NoPrefixesBytes, OrderedBytes, SliceKey, StrKey,

@@ -16,7 +16,7 @@ ghost use Rattle.art_tree.specs.Taking.{two_children};
 use crate::insert::place::Fork;
 use crate::loading::raise::place_as;
 use crate::remove::node::replace_node;
-use art_arena::{ArenaNode, NodeArena};
+use art_arena::{ArenaInnerNode, ArenaNode, NodeArena};
 use art_bytes::AsBytes;
 use art_nodes::{
     ConcreteNodePtr, InnerNode, InnerNode4, InnerNodeCommon, LeafNode, Node, NodePtr, NodeType,
@@ -97,9 +97,7 @@ fn move_to<
     V,
     const PREFIX_LEN: usize,
     N: ArenaNode<K, V, PREFIX_LEN> + Drop,
-    G: InnerNodeCommon<K, V, PREFIX_LEN>
-        + ArenaNode<K, V, PREFIX_LEN>
-        + Node<PREFIX_LEN, Key = K, Value = V>,
+    G: ArenaInnerNode<K, V, PREFIX_LEN> + Node<PREFIX_LEN, Key = K, Value = V>,
 >(
     arena: &mut NodeArena<K, V, PREFIX_LEN>,
     pointer: NodePtr<PREFIX_LEN, N>,
@@ -107,7 +105,6 @@ fn move_to<
     byte: u8,
     child: OpaqueNodePtr<K, V, PREFIX_LEN>,
 ) -> OpaqueNodePtr<K, V, PREFIX_LEN>
-    requires shown { (node : G) → G.held_as node ≡ HeldInner (G.inner node) }
     requires kind { G.TYPE ≡ grown_kind N.TYPE }
     requires held { held arena.old (pointer_to N.TYPE (slab_key pointer)) ≢ Nothing }
     requires full { length (G.inner grown).children ≡ most_children N.TYPE }

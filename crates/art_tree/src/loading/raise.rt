@@ -6,7 +6,7 @@ ghost use Rattle.art_header.specs.declared.node_type.NodeType.TheVariants as Nod
 ghost use Rattle.art_nodes.specs.ChildMap.{IsAscending, key_bytes};
 ghost use Rattle.art_nodes.specs.Pointers.{slab_key};
 ghost use Rattle.art_nodes.specs.declared.pointers.OpaqueNodePtr.{OpaqueNodePtr as Pointer};
-ghost use Rattle.art_arena.specs.Arena.{room, HeldInner};
+ghost use Rattle.art_arena.specs.Arena.{room};
 ghost use Rattle.art_arena.specs.Links.{HoldsLeaf, text_at};
 ghost use Rattle.art_arena.specs.Trees.{Tree};
 ghost use Rattle.art_tree.specs.Plan as Plan;
@@ -15,7 +15,7 @@ ghost use Rattle.art_tree.specs.Raising.{node_of, IsPlaced, IsRaised, HoldLeaves
 
 use crate::loading::steps::Step;
 use art_arena::laws::{allocating_leaves_trees_standing, an_allocated_node_makes_a_tree};
-use art_arena::{ArenaNode, NodeArena};
+use art_arena::{ArenaInnerNode, NodeArena};
 use art_bytes::AsBytes;
 use art_nodes::{
     InnerNode4, InnerNode16, InnerNode48, InnerNodeCommon, InnerNodeDirect, LeafNode, Node,
@@ -50,9 +50,7 @@ pub(crate) fn place_as<
     K: AsBytes,
     V,
     const PREFIX_LEN: usize,
-    N: InnerNodeCommon<K, V, PREFIX_LEN>
-        + ArenaNode<K, V, PREFIX_LEN>
-        + Node<PREFIX_LEN, Key = K, Value = V>,
+    N: ArenaInnerNode<K, V, PREFIX_LEN> + Node<PREFIX_LEN, Key = K, Value = V>,
 >(
     arena: &mut NodeArena<K, V, PREFIX_LEN>,
     leaf: NodePtr<PREFIX_LEN, LeafNode<K, V, PREFIX_LEN>>,
@@ -61,7 +59,6 @@ pub(crate) fn place_as<
     children: &[(u8, OpaqueNodePtr<K, V, PREFIX_LEN>)],
 ) -> OpaqueNodePtr<K, V, PREFIX_LEN>
     requires memory { FitsInMemory N.row }
-    requires shown { (node : N) → N.held_as node ≡ HeldInner (N.inner node) }
     requires held { HoldsLeaf arena.old (slab_key leaf) }
     requires ordered { start ≤ end }
     requires within { end ≤ length (text_at K.text arena.old (slab_key leaf)) }

@@ -10,7 +10,7 @@ ghost use Rattle.art_arena.specs.Arena.{held, HeldInner, Nothing, pointer_to, ro
 ghost use Rattle.art_tree.specs.Cuts.{HasOneLess, HasRoomToShrink};
 ghost use Rattle.art_tree.specs.Edits.{IsReplaced, node_with_prefix};
 
-use art_arena::{ArenaNode, NodeArena};
+use art_arena::{ArenaInnerNode, ArenaNode, NodeArena};
 use art_nodes::{
     ConcreteNodePtr, InnerNode, InnerNodeCommon, Node, NodePtr, NodeType, OpaqueNodePtr,
 };
@@ -142,15 +142,12 @@ pub(crate) fn replace_node<
     V,
     const PREFIX_LEN: usize,
     N: ArenaNode<K, V, PREFIX_LEN> + Drop,
-    R: InnerNodeCommon<K, V, PREFIX_LEN>
-        + ArenaNode<K, V, PREFIX_LEN>
-        + Node<PREFIX_LEN, Key = K, Value = V>,
+    R: ArenaInnerNode<K, V, PREFIX_LEN> + Node<PREFIX_LEN, Key = K, Value = V>,
 >(
     arena: &mut NodeArena<K, V, PREFIX_LEN>,
     pointer: NodePtr<PREFIX_LEN, N>,
     node: R,
 ) -> OpaqueNodePtr<K, V, PREFIX_LEN>
-    requires shown { (node : R) → R.held_as node ≡ HeldInner (R.inner node) }
     requires held { held arena.old (pointer_to N.TYPE (slab_key pointer)) ≢ Nothing }
     requires room { 0 < room arena.old R.TYPE }
     ensures { IsReplaced arena.old arena.new (pointer_to N.TYPE (slab_key pointer))

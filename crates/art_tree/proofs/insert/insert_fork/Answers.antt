@@ -136,8 +136,8 @@ hang-requires g c =
     let can : CanHang new spot.parent = fork-hangs text reserved root tree spot fork key value alone parts fits node_fits linked (leaf_pointer c.link_leaf-leaf.result) c.link_leaf-leaf.ensures.was_free c.link_leaf-leaf.ensures.others sibling at_end.0 inside c.trim.new.arena c.trim.ensures.leaf c.trim.ensures.trimmed new c.fork_node-node.result c.link_leaf-leaf.ensures.entry (slab_key c.link_leaf-leaf.result) refl c.each_pointer_is_at_one_place.ensures c.fork_node-node.ensures in
     search rules
 
-pub returns-clause-art : goal.returns-clause-art
-returns-clause-art g c =
+pub returns : goal.returns
+returns g c =
     let text = g.K.AsBytes.text in
     let (tree, alone0, parts) = c.requires.place in
     let root = c.args.root in
@@ -154,27 +154,12 @@ returns-clause-art g c =
     let linked = c.link_leaf-leaf.new.arena in
     let inside = end-in end (leaves parts.at.part) (leaf_pointer c.end_leaf-sibling.result) at_end in
     let new = c.fork_node-node.new.arena in
-    fork-art text reserved root tree spot fork key value alone parts fits node_fits linked (leaf_pointer c.link_leaf-leaf.result) c.link_leaf-leaf.ensures.was_free c.link_leaf-leaf.ensures.others sibling at_end.0 inside c.trim.new.arena c.trim.ensures.leaf c.trim.ensures.trimmed new c.fork_node-node.result c.link_leaf-leaf.ensures.entry (slab_key c.link_leaf-leaf.result) refl c.each_pointer_is_at_one_place.ensures c.fork_node-node.ensures
-    c.hang.new.arena c.hang.result c.hang.ensures c.requires.short end at_end c.near_end-end.ensures.end c.link_leaf-leaf.ensures.spelled
-
-pub returns-clause-entered : goal.returns-clause-entered
-returns-clause-entered g c =
-    let text = g.K.AsBytes.text in
-    let (tree, alone0, parts) = c.requires.place in
-    let root = c.args.root in
-    let spot = c.args.spot in
-    let fork = c.args.fork in
-    let key = c.args.key in
-    let value = c.args.value in
-    let reserved = c.reserve_for_fork.new.arena in
-    let alone = alone-same text c.args.arena.now reserved c.reserve_for_fork.ensures.nodes_kept root tree alone0 in
-    let (fits, node_fits) = c.near_end-end.ensures.bytes in
-    let end = c.near_end-end.result in
-    let sibling = slab_key c.end_leaf-sibling.result in
-    let at_end : IsAtEnd end (leaves parts.at.part) (leaf_pointer c.end_leaf-sibling.result) = c.end_leaf-sibling.ensures.at_end (tree-there text reserved root tree spot fork key value alone parts fits node_fits) in
-    let linked = c.link_leaf-leaf.new.arena in
-    let inside = end-in end (leaves parts.at.part) (leaf_pointer c.end_leaf-sibling.result) at_end in
-    let new = c.fork_node-node.new.arena in
-    entered-from text c.args.arena.now reserved c.hang.new.arena key value root tree alone0 (c.no_text_begins_another.ensures [] tree alone0.is_tree.sound) c.reserve_for_fork.ensures.nodes_kept
-    (fork-entered text reserved root tree spot fork key value alone parts fits node_fits linked (leaf_pointer c.link_leaf-leaf.result) c.link_leaf-leaf.ensures.was_free c.link_leaf-leaf.ensures.others sibling at_end.0 inside c.trim.new.arena c.trim.ensures.leaf c.trim.ensures.trimmed new c.fork_node-node.result c.link_leaf-leaf.ensures.entry (slab_key c.link_leaf-leaf.result) refl c.each_pointer_is_at_one_place.ensures c.fork_node-node.ensures
-    c.hang.new.arena c.hang.result c.hang.ensures c.requires.short end at_end c.near_end-end.ensures.end c.link_leaf-leaf.ensures.spelled c.no_text_begins_another.ensures)
+    record {
+      art = fork-art text reserved root tree spot fork key value alone parts fits node_fits linked (leaf_pointer c.link_leaf-leaf.result) c.link_leaf-leaf.ensures.was_free c.link_leaf-leaf.ensures.others sibling at_end.0 inside c.trim.new.arena c.trim.ensures.leaf c.trim.ensures.trimmed new c.fork_node-node.result c.link_leaf-leaf.ensures.entry (slab_key c.link_leaf-leaf.result) refl c.each_pointer_is_at_one_place.ensures c.fork_node-node.ensures
+          c.hang.new.arena c.hang.result c.hang.ensures c.requires.short end at_end c.near_end-end.ensures.end c.link_leaf-leaf.ensures.spelled;
+      entered = entered-from text c.args.arena.now reserved c.hang.new.arena key value root tree alone0 (c.no_text_begins_another.ensures [] tree alone0.is_tree.sound) c.reserve_for_fork.ensures.nodes_kept
+          (fork-entered text reserved root tree spot fork key value alone parts fits node_fits linked (leaf_pointer c.link_leaf-leaf.result) c.link_leaf-leaf.ensures.was_free c.link_leaf-leaf.ensures.others sibling at_end.0 inside c.trim.new.arena c.trim.ensures.leaf c.trim.ensures.trimmed new c.fork_node-node.result c.link_leaf-leaf.ensures.entry (slab_key c.link_leaf-leaf.result) refl c.each_pointer_is_at_one_place.ensures c.fork_node-node.ensures
+          c.hang.new.arena c.hang.result c.hang.ensures c.requires.short end at_end c.near_end-end.ensures.end c.link_leaf-leaf.ensures.spelled c.no_text_begins_another.ensures);
+      entry_back = tt;
+      nodes_kept = tt;
+    }

@@ -51,39 +51,23 @@ insert_before-requires g c =
       ),
     )
 
-pub returns-in-First-clause-entry : goal.returns-in-First-clause-entry
-returns-in-First-clause-entry g c =
+pub returns-in-First : goal.returns-in-First
+returns-in-First g c =
     let old = c.args.arena.now in
     let now = c.allocate_node_ptr.new.self in
+    let new = c.insert_before.new.arena in
     let leaf = c.with_no_siblings.result in
     let this = slab_key c.unwrap-leaf.result in
+    let linked = c.insert_before.ensures in
     let free = if-ok (λ ptr. held old (pointer_to Leaf (slab_key ptr)) ≡ Nothing) c.allocate_node_ptr.result c.unwrap-leaf.result c.unwrap-leaf.ensures c.allocate_node_ptr.ensures.was_free in
     let changes = if-ok (λ ptr. Changes old now (pointer_to Leaf (slab_key ptr)) (HeldLeaf leaf)) c.allocate_node_ptr.result c.unwrap-leaf.result c.unwrap-leaf.ensures c.allocate_node_ptr.ensures.added in
-    entry-held old now this leaf free changes c.insert_before.new.arena c.insert_before.ensures.contents c.args.key c.args.value c.with_no_siblings.ensures.key c.with_no_siblings.ensures.value
-
-pub returns-in-First-clause-spelled : goal.returns-in-First-clause-spelled
-returns-in-First-clause-spelled g c =
-    let old = c.args.arena.now in
-    let now = c.allocate_node_ptr.new.self in
-    let leaf = c.with_no_siblings.result in
-    let this = slab_key c.unwrap-leaf.result in
-    let free = if-ok (λ ptr. held old (pointer_to Leaf (slab_key ptr)) ≡ Nothing) c.allocate_node_ptr.result c.unwrap-leaf.result c.unwrap-leaf.ensures c.allocate_node_ptr.ensures.was_free in
-    let changes = if-ok (λ ptr. Changes old now (pointer_to Leaf (slab_key ptr)) (HeldLeaf leaf)) c.allocate_node_ptr.result c.unwrap-leaf.result c.unwrap-leaf.ensures c.allocate_node_ptr.ensures.added in
-    λ left right spelled beside.
-    spelled-before now c.insert_before.new.arena this (slab_key c.args.sibling) left right c.insert_before.ensures.spelled (still-spelled old now this leaf free changes (left ++ right) spelled) (subst (λ end. IsBeside end left right (slab_key c.args.sibling)) c.in-First.is beside)
-
-pub returns-in-First-clause-others : goal.returns-in-First-clause-others
-returns-in-First-clause-others g c =
-    let old = c.args.arena.now in
-    let now = c.allocate_node_ptr.new.self in
-    let leaf = c.with_no_siblings.result in
-    let this = slab_key c.unwrap-leaf.result in
-    let free = if-ok (λ ptr. held old (pointer_to Leaf (slab_key ptr)) ≡ Nothing) c.allocate_node_ptr.result c.unwrap-leaf.result c.unwrap-leaf.ensures c.allocate_node_ptr.ensures.was_free in
-    let changes = if-ok (λ ptr. Changes old now (pointer_to Leaf (slab_key ptr)) (HeldLeaf leaf)) c.allocate_node_ptr.result c.unwrap-leaf.result c.unwrap-leaf.ensures c.allocate_node_ptr.ensures.added in
-    others-stay old now this leaf free changes c.insert_before.new.arena c.insert_before.ensures.contents
-
-pub returns-in-First-clause-other_room : goal.returns-in-First-clause-other_room
-returns-in-First-clause-other_room g c = λ other differ. c.insert_before.ensures.room other ∙ c.allocate_node_ptr.ensures.other_room other differ
+    record {
+      was_free = free;
+      entry = entry-held old now this leaf free changes new linked.contents c.args.key c.args.value c.with_no_siblings.ensures.key c.with_no_siblings.ensures.value;
+      spelled = λ left right spelled beside. spelled-before now new this (slab_key c.args.sibling) left right linked.spelled (still-spelled old now this leaf free changes (left ++ right) spelled) (subst (λ end. IsBeside end left right (slab_key c.args.sibling)) c.in-First.is beside);
+      others = others-stay old now this leaf free changes new linked.contents;
+      other_room = λ other differ. linked.room other ∙ c.allocate_node_ptr.ensures.other_room other differ;
+    }
 
 pub insert_after-requires : goal.insert_after-requires
 insert_after-requires g c =
@@ -126,36 +110,20 @@ insert_after-requires g c =
       ),
     )
 
-pub returns-in-Last-clause-entry : goal.returns-in-Last-clause-entry
-returns-in-Last-clause-entry g c =
+pub returns-in-Last : goal.returns-in-Last
+returns-in-Last g c =
     let old = c.args.arena.now in
     let now = c.allocate_node_ptr.new.self in
+    let new = c.insert_after.new.arena in
     let leaf = c.with_no_siblings.result in
     let this = slab_key c.unwrap-leaf.result in
+    let linked = c.insert_after.ensures in
     let free = if-ok (λ ptr. held old (pointer_to Leaf (slab_key ptr)) ≡ Nothing) c.allocate_node_ptr.result c.unwrap-leaf.result c.unwrap-leaf.ensures c.allocate_node_ptr.ensures.was_free in
     let changes = if-ok (λ ptr. Changes old now (pointer_to Leaf (slab_key ptr)) (HeldLeaf leaf)) c.allocate_node_ptr.result c.unwrap-leaf.result c.unwrap-leaf.ensures c.allocate_node_ptr.ensures.added in
-    entry-held old now this leaf free changes c.insert_after.new.arena c.insert_after.ensures.contents c.args.key c.args.value c.with_no_siblings.ensures.key c.with_no_siblings.ensures.value
-
-pub returns-in-Last-clause-spelled : goal.returns-in-Last-clause-spelled
-returns-in-Last-clause-spelled g c =
-    let old = c.args.arena.now in
-    let now = c.allocate_node_ptr.new.self in
-    let leaf = c.with_no_siblings.result in
-    let this = slab_key c.unwrap-leaf.result in
-    let free = if-ok (λ ptr. held old (pointer_to Leaf (slab_key ptr)) ≡ Nothing) c.allocate_node_ptr.result c.unwrap-leaf.result c.unwrap-leaf.ensures c.allocate_node_ptr.ensures.was_free in
-    let changes = if-ok (λ ptr. Changes old now (pointer_to Leaf (slab_key ptr)) (HeldLeaf leaf)) c.allocate_node_ptr.result c.unwrap-leaf.result c.unwrap-leaf.ensures c.allocate_node_ptr.ensures.added in
-    λ left right spelled beside.
-    spelled-after now c.insert_after.new.arena this (slab_key c.args.sibling) left right c.insert_after.ensures.spelled (still-spelled old now this leaf free changes (left ++ right) spelled) (subst (λ end. IsBeside end left right (slab_key c.args.sibling)) c.in-Last.is beside)
-
-pub returns-in-Last-clause-others : goal.returns-in-Last-clause-others
-returns-in-Last-clause-others g c =
-    let old = c.args.arena.now in
-    let now = c.allocate_node_ptr.new.self in
-    let leaf = c.with_no_siblings.result in
-    let this = slab_key c.unwrap-leaf.result in
-    let free = if-ok (λ ptr. held old (pointer_to Leaf (slab_key ptr)) ≡ Nothing) c.allocate_node_ptr.result c.unwrap-leaf.result c.unwrap-leaf.ensures c.allocate_node_ptr.ensures.was_free in
-    let changes = if-ok (λ ptr. Changes old now (pointer_to Leaf (slab_key ptr)) (HeldLeaf leaf)) c.allocate_node_ptr.result c.unwrap-leaf.result c.unwrap-leaf.ensures c.allocate_node_ptr.ensures.added in
-    others-stay old now this leaf free changes c.insert_after.new.arena c.insert_after.ensures.contents
-
-pub returns-in-Last-clause-other_room : goal.returns-in-Last-clause-other_room
-returns-in-Last-clause-other_room g c = λ other differ. c.insert_after.ensures.room other ∙ c.allocate_node_ptr.ensures.other_room other differ
+    record {
+      was_free = free;
+      entry = entry-held old now this leaf free changes new linked.contents c.args.key c.args.value c.with_no_siblings.ensures.key c.with_no_siblings.ensures.value;
+      spelled = λ left right spelled beside. spelled-after now new this (slab_key c.args.sibling) left right linked.spelled (still-spelled old now this leaf free changes (left ++ right) spelled) (subst (λ end. IsBeside end left right (slab_key c.args.sibling)) c.in-Last.is beside);
+      others = others-stay old now this leaf free changes new linked.contents;
+      other_room = λ other differ. linked.room other ∙ c.allocate_node_ptr.ensures.other_room other differ;
+    }

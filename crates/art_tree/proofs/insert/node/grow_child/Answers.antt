@@ -25,17 +25,14 @@ move_to-requires g c =
                 (
                   lit< tt,
                   (
-                    λ n. refl,
+                    refl,
                     (
-                      refl,
+                      subst (λ h. h ≢ Nothing) (sym c.as_ref.ensures) (λ e. cc),
                       (
-                        subst (λ h. h ≢ Nothing) (sym c.as_ref.ensures) (λ e. cc),
+                        ap (λ n. length n.children) same ∙ full,
                         (
-                          ap (λ n. length n.children) same ∙ full,
-                          (
-                            subst (λ n. HasRoomFor _ n c.args.byte) (sym same) (c.grow-grown.ensures.has_room c.args.byte c.ranges.byte.fits),
-                            rooms,
-                          ),
+                          subst (λ n. HasRoomFor _ n c.args.byte) (sym same) (c.grow-grown.ensures.has_room c.args.byte c.ranges.byte.fits),
+                          rooms,
                         ),
                       ),
                     ),
@@ -72,17 +69,14 @@ move_to-requires-in-Node16 g c =
                 (
                   lit< tt,
                   (
-                    λ n. refl,
+                    refl,
                     (
-                      refl,
+                      subst (λ h. h ≢ Nothing) (sym c.as_ref-in-Node16.ensures) (λ e. cc),
                       (
-                        subst (λ h. h ≢ Nothing) (sym c.as_ref-in-Node16.ensures) (λ e. cc),
+                        ap (λ n. length n.children) same ∙ full,
                         (
-                          ap (λ n. length n.children) same ∙ full,
-                          (
-                            subst (λ n. HasRoomFor _ n c.args.byte) (sym same) (c.grow-grown-in-Node16.ensures.has_room c.args.byte c.ranges.byte.fits),
-                            rooms,
-                          ),
+                          subst (λ n. HasRoomFor _ n c.args.byte) (sym same) (c.grow-grown-in-Node16.ensures.has_room c.args.byte c.ranges.byte.fits),
+                          rooms,
                         ),
                       ),
                     ),
@@ -119,17 +113,14 @@ move_to-requires-in-Node48 g c =
                 (
                   lit< tt,
                   (
-                    λ n. refl,
+                    refl,
                     (
-                      refl,
+                      subst (λ h. h ≢ Nothing) (sym c.as_ref-in-Node48.ensures) (λ e. cc),
                       (
-                        subst (λ h. h ≢ Nothing) (sym c.as_ref-in-Node48.ensures) (λ e. cc),
+                        ap (λ n. length n.children) same ∙ full,
                         (
-                          ap (λ n. length n.children) same ∙ full,
-                          (
-                            subst (λ n. HasRoomFor _ n c.args.byte) (sym same) (c.grow-grown-in-Node48.ensures.has_room c.args.byte c.ranges.byte.fits),
-                            rooms,
-                          ),
+                          subst (λ n. HasRoomFor _ n c.args.byte) (sym same) (c.grow-grown-in-Node48.ensures.has_room c.args.byte c.ranges.byte.fits),
+                          rooms,
                         ),
                       ),
                     ),

@@ -9,7 +9,7 @@ pub write_child-requires : goal.write_child-requires
 write_child-requires g c = (lit< tt, c.requires.has_room)
 
 pub replace_node-requires : goal.replace_node-requires
-replace_node-requires g c = (search rules, (search rules, (search rules, (search rules, (search rules, (lit< tt, (lit< tt, (c.requires.shown, (c.requires.held, c.requires.room)))))))))
+replace_node-requires g c = (search rules, (search rules, (search rules, (search rules, (search rules, (lit< tt, (lit< tt, (c.requires.held, c.requires.room))))))))
 
 pub returns : goal.returns
 returns g c =

@@ -14,7 +14,7 @@ returns g c =
     let kind = g.N.Node.TYPE in
     let answer = c.allocate_node_ptr.result in
     let text = c.as_bytes-text.ensures.text ∙ sym (text-of-key g.K.AsBytes.text (leaf_at old (slab_key c.args.leaf)) c.as_key_ref.result.now c.as_key_ref.ensures) in
-    let node = c.requires.shown c.inner_node-node.result ∙ ap HeldInner (c.inner_node-node.ensures ∙ ap (λ t. node_of g.row.PREFIX_LEN (take (c.args.end - c.args.start) (drop c.args.start t)) c.args.children.now) text) in
+    let node = g.met.N.ArenaInnerNode.shown c.inner_node-node.result ∙ ap HeldInner (c.inner_node-node.ensures ∙ ap (λ t. node_of g.row.PREFIX_LEN (take (c.args.end - c.args.start) (drop c.args.start t)) c.args.children.now) text) in
     placed old new kind (slab_key c.unwrap.result) _ c.to_opaque.result (ap node_kind c.to_opaque.ensures) (ap opaque_key c.to_opaque.ensures)
     (if-ok (λ ptr. held old (pointer_to kind (slab_key ptr)) ≡ Nothing) answer c.unwrap.result c.unwrap.ensures c.allocate_node_ptr.ensures.was_free)
     (subst (Changes old new (pointer_to kind (slab_key c.unwrap.result))) node (if-ok (λ ptr. Changes old new (pointer_to kind (slab_key ptr)) (g.N.ArenaNode.held_as c.inner_node-node.result)) answer c.unwrap.result c.unwrap.ensures c.allocate_node_ptr.ensures.added))

@@ -45,5 +45,5 @@ returns g c =
     replaced old now c.deallocate_node_ptr.new.self (g.R.InnerNodeCommon.inner c.args.node) c.to_opaque.ensures
     (if-ok (λ ptr. held old (pointer_to kind (slab_key ptr)) ≡ Nothing) answer at c.unwrap-placed.ensures c.allocate_node_ptr.ensures.was_free)
     c.requires.held
-    (subst (Changes old now (pointer_to kind (slab_key at))) (c.requires.shown c.args.node) (if-ok (λ ptr. Changes old now (pointer_to kind (slab_key ptr)) (g.R.ArenaNode.held_as c.args.node)) answer at c.unwrap-placed.ensures c.allocate_node_ptr.ensures.added))
+    (subst (Changes old now (pointer_to kind (slab_key at))) (g.met.R.ArenaInnerNode.shown c.args.node) (if-ok (λ ptr. Changes old now (pointer_to kind (slab_key ptr)) (g.R.ArenaNode.held_as c.args.node)) answer at c.unwrap-placed.ensures c.allocate_node_ptr.ensures.added))
     c.deallocate_node_ptr.ensures.removed

@@ -1,4 +1,4 @@
-use Rattle.std.proofs.Common.{◌∙◌, lit<, rules, refl, sym, ap, inl, inr, arith}
+use Rattle.std.proofs.Common.{◌∙◌, lit<, rules, sym, ap, inl, inr, arith}
 use Rattle.art_nodes.specs.ConcretePointers.{opaque_of}
 use Rattle.art_nodes.specs.Pointers.{node_kind}
 use Rattle.art_tree.proofs.CutLemmas.{held-there, smaller-room, few-there, replaced-there}
@@ -13,7 +13,7 @@ shrink-shrunk-requires g c =
     (search rules, (search rules, omega (arith, few)))
 
 pub replace_node-requires : goal.replace_node-requires
-replace_node-requires g c = (search rules, (search rules, (search rules, (search rules, (search rules, (lit< tt, (lit< tt, (λ node. refl, (held-there c.args.arena.now c.in-Node16.ensures.undone c.requires.held, smaller-room c.args.arena.now c.in-Node16.ensures.undone c.requires.room)))))))))
+replace_node-requires g c = (search rules, (search rules, (search rules, (search rules, (search rules, (lit< tt, (lit< tt, (held-there c.args.arena.now c.in-Node16.ensures.undone c.requires.held, smaller-room c.args.arena.now c.in-Node16.ensures.undone c.requires.room))))))))
 
 pub returns-in-Node16 : goal.returns-in-Node16
 returns-in-Node16 g c = λ node is. replaced-there c.args.arena.now c.in-Node16.ensures.undone c.as_ref.ensures c.shrink-shrunk.ensures is c.replace_node.ensures
@@ -27,7 +27,7 @@ shrink-shrunk-requires-in-Node48 g c =
     (search rules, (search rules, omega (arith, few)))
 
 pub replace_node-requires-in-Node48 : goal.replace_node-requires-in-Node48
-replace_node-requires-in-Node48 g c = (search rules, (search rules, (search rules, (search rules, (search rules, (lit< tt, (lit< tt, (λ node. refl, (held-there c.args.arena.now c.in-Node48.ensures.undone c.requires.held, smaller-room c.args.arena.now c.in-Node48.ensures.undone c.requires.room)))))))))
+replace_node-requires-in-Node48 g c = (search rules, (search rules, (search rules, (search rules, (search rules, (lit< tt, (lit< tt, (held-there c.args.arena.now c.in-Node48.ensures.undone c.requires.held, smaller-room c.args.arena.now c.in-Node48.ensures.undone c.requires.room))))))))
 
 pub returns-in-Node48 : goal.returns-in-Node48
 returns-in-Node48 g c = λ node is. replaced-there c.args.arena.now c.in-Node48.ensures.undone c.as_ref-in-Node48.ensures c.shrink-shrunk-in-Node48.ensures is c.replace_node-in-Node48.ensures
@@ -41,7 +41,7 @@ shrink-shrunk-requires-in-Node256 g c =
     (search rules, (search rules, omega (arith, few)))
 
 pub replace_node-requires-in-Node256 : goal.replace_node-requires-in-Node256
-replace_node-requires-in-Node256 g c = (search rules, (search rules, (search rules, (search rules, (search rules, (lit< tt, (lit< tt, (λ node. refl, (held-there c.args.arena.now c.in-Node256.ensures.undone c.requires.held, smaller-room c.args.arena.now c.in-Node256.ensures.undone c.requires.room)))))))))
+replace_node-requires-in-Node256 g c = (search rules, (search rules, (search rules, (search rules, (search rules, (lit< tt, (lit< tt, (held-there c.args.arena.now c.in-Node256.ensures.undone c.requires.held, smaller-room c.args.arena.now c.in-Node256.ensures.undone c.requires.room))))))))
 
 pub returns-in-Node256 : goal.returns-in-Node256
 returns-in-Node256 g c = λ node is. replaced-there c.args.arena.now c.in-Node256.ensures.undone c.as_ref-in-Node256.ensures c.shrink-shrunk-in-Node256.ensures is c.replace_node-in-Node256.ensures
