@@ -49,22 +49,17 @@ fn command(line: &[u8]) -> Result<Command, LineFault>
     ensures counted { result ≡ Err LineFault.BadNumber → HaveTheirNumber (words_of line.now) }
 {
     match split_words(line) {
-        Words::One(name) => match name {
-            b"min" => Ok(ChildCommand::Min),
-            b"max" => Ok(ChildCommand::Max),
-            _ => Err(fault_of_count(name)),
-        },
-        Words::Two(name, byte) => match name {
-            b"r" => Ok(ChildCommand::Remove(byte_number(byte)?)),
-            b"l" => Ok(ChildCommand::Lookup(byte_number(byte)?)),
-            _ => Err(fault_of_count(name)),
-        },
-        Words::Three(name, first, second) => match name {
-            b"w" => Ok(ChildCommand::Write(byte_number(first)?, child_of(key_number(second)?))),
-            b"range" => Ok(ChildCommand::Range(bound(first)?, bound(second)?)),
-            _ => Err(fault_of_count(name)),
-        },
-        Words::More(name) => Err(fault_of_count(name)),
+        Words::One(b"min") => Ok(ChildCommand::Min),
+        Words::One(b"max") => Ok(ChildCommand::Max),
+        Words::Two(b"r", byte) => Ok(ChildCommand::Remove(byte_number(byte)?)),
+        Words::Two(b"l", byte) => Ok(ChildCommand::Lookup(byte_number(byte)?)),
+        Words::Three(b"w", byte, key) => {
+            Ok(ChildCommand::Write(byte_number(byte)?, child_of(key_number(key)?)))
+        }
+        Words::Three(b"range", start, end) => Ok(ChildCommand::Range(bound(start)?, bound(end)?)),
+        Words::One(name) | Words::Two(name, _) | Words::Three(name, _, _) | Words::More(name) => {
+            Err(fault_of_count(name))
+        }
     }
 }
 
