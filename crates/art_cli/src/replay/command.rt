@@ -3,7 +3,6 @@ ghost use Rattle.std.specs.Prelude.{◌≡◌};
 ghost use Rattle.art_nodes.specs.Pointers.{node_kind, opaque_key};
 
 use art_tree::{ChildCommand, ChildNode, ChildReply, LeafNode, NodePtr, NodeType, OpaqueNodePtr};
-use std::fmt;
 
 /// How many bytes of a prefix a node stores.
 pub const PREFIX_LEN: usize = 16;
@@ -20,7 +19,8 @@ pub type Node = ChildNode<(), (), PREFIX_LEN>;
 /// A child.
 pub type Child = OpaqueNodePtr<(), (), PREFIX_LEN>;
 
-type Leaf = LeafNode<(), (), PREFIX_LEN>;
+/// The leaf that a child points to.
+pub type Leaf = LeafNode<(), (), PREFIX_LEN>;
 
 /// The child that a number in a line stands for: the pointer to the leaf under that key.
 pub fn child_of(key: u32) -> Child
@@ -28,22 +28,4 @@ pub fn child_of(key: u32) -> Child
     ensures key { opaque_key result ≡ key }
 {
     NodePtr::<PREFIX_LEN, Leaf>::from_key(key as usize).to_opaque()
-}
-
-/// A child as a line shows it: by the key of its leaf.
-#[derive(Clone, Copy)]
-pub struct Shown(pub Child);
-
-impl fmt::Display for Shown {
-    ghost use Rattle.std.specs.Prelude.{Some};
-    ghost use Rattle.art_cli.specs.Reply.{child_text};
-
-    ghost output = { λ shown. Some (child_text shown.0) };
-
-    fn fmt<W: fmt::Write>(&self, f: &mut fmt::Formatter<W>) -> fmt::Result {
-        match self.0.cast::<Leaf>() {
-            Some(leaf) => write!(f, "{}", leaf.key()),
-            None => write!(f, "none"),
-        }
-    }
 }

@@ -4,9 +4,10 @@ ghost use Rattle.std.specs.List.{flat_map};
 ghost use Rattle.art_cli.specs.Lines.{line};
 ghost use Rattle.art_cli.specs.Reply.{kind_text, pair_text, reply_text, output_of};
 
-use crate::replay::command::{Child, Node, Reply, Shown};
+use crate::replay::command::{Child, Leaf, Node, Reply};
 use art_tree::{ChildReply, NodeType};
 use std::alloc::{AllocError, Global};
+use std::fmt;
 
 /// A line for each reply, and the line of the node that is left.
 pub fn text_of(alloc: Global, replies: &[Reply], node: &Node) -> Result<String, AllocError>
@@ -61,5 +62,23 @@ fn kind_name(kind: NodeType) -> &'static str
         NodeType::Node48 => "Node48",
         NodeType::Node256 => "Node256",
         NodeType::Leaf => "Leaf",
+    }
+}
+
+// A child as a line shows it: by the key of its leaf.
+#[derive(Clone, Copy)]
+struct Shown(Child);
+
+impl fmt::Display for Shown {
+    ghost use Rattle.std.specs.Prelude.{Some};
+    ghost use Rattle.art_cli.specs.Reply.{child_text};
+
+    ghost output = { λ shown. Some (child_text shown.0) };
+
+    fn fmt<W: fmt::Write>(&self, f: &mut fmt::Formatter<W>) -> fmt::Result {
+        match self.0.cast::<Leaf>() {
+            Some(leaf) => write!(f, "{}", leaf.key()),
+            None => write!(f, "none"),
+        }
     }
 }
