@@ -24,10 +24,6 @@ use Rattle.art_cli.specs.Find.{Entries, no_entries, after, after_all, with_text,
 use Rattle.art_cli.specs.Answer.{HasTheTexts, HoldsEntries, IsReply, AreReplies}
 use Rattle.art_cli.specs.Program.{IsEntryFailure, failure_for}
 
--- the entry that is answered has the number
-pub numbered : {K : Type 0} (o : Option (K × ℕ)) (number : Option ℕ) (key : K) (n : ℕ) → option_map (λ entry. entry.1) o ≡ number → o ≡ Some (key, n) → number ≡ Some n
-numbered o number key n holds is = sym holds ∙ ap (option_map (λ entry. entry.1)) is
-
 -- what has no number is no entry
 no_entry : {K : Type 0} (o : Option (K × ℕ)) → option_map (λ entry. entry.1) o ≡ None → o ≡ None
 no_entry None none = refl
