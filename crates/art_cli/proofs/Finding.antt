@@ -6,14 +6,18 @@ use Rattle.std.proofs.lemmas.Bool.Decides.{not_from_Decides}
 use Rattle.std.proofs.lemmas.List.Elements.{All-filter, Contains-get_or}
 use Rattle.std.proofs.lemmas.Map.{update_same, update_other}
 use Rattle.std.proofs.lemmas.Slice.Eq.{bytes_eq-Decides}
+use Rattle.std.proofs.lemmas.Option.{same_Some}
 use Rattle.std.specs.Map.{update}
 use Rattle.art_nodes.specs.Leaf.{leaf_key, leaf_value}
+use Rattle.art_nodes.specs.Pointers.{slab_key}
 use Rattle.art_nodes.specs.declared.leaf_node.LeafNode.{LeafNode}
+use Rattle.art_nodes.specs.declared.pointers.NodePtr.{NodePtr}
 use Rattle.art_nodes.specs.declared.pointers.OpaqueNodePtr.{OpaqueNodePtr}
-use Rattle.art_arena.specs.Arena.{ArenaOf, HeldLeaf, held}
+use Rattle.art_arena.specs.Arena.{ArenaOf, HeldLeaf, held, held_leaf}
+use Rattle.art_arena.specs.Links.{leaf_at}
 use Rattle.art_arena.specs.Trees.{Tree, leaves, texts}
 use Rattle.art_tree.specs.Dictionary.{entry_at, HasEntry, IsEmpty, IsEntry}
-use Rattle.art_tree.specs.Search.{scan}
+use Rattle.art_tree.specs.Search.{scan, leaf_pointer}
 use Rattle.art_tree.specs.Inserting.{ClashesIn, MayEnter, IsRefused}
 use Rattle.art_tree.specs.declared.insert.InsertRefusal.{InsertRefusal}
 use Rattle.art_tree.specs.declared.insert.InsertRefusal.TheVariants.{KeyTooLong, Prefix, OutOfMemory}
@@ -34,6 +38,11 @@ found_inside : {H : Type 0} (tree : Tree H) (pointer : H) (query : List ℕ) →
 found_inside tree pointer query one =
     let all = All-filter _ (Contains (leaves tree)) (leaves tree) (λ k d inside. Contains-get_or (leaves tree) k d inside) in
     subst (All (Contains (leaves tree))) one all 0 (pointer, query) (omega arith)
+
+-- a slot with a value holds a leaf that has it
+valued_leaf : {K : Type 0} {P : ℕ} (slot : Option (LeafNode K ℕ P)) (number : ℕ) → option_map leaf_value slot ≡ Some number → (leaf : LeafNode K ℕ P) × (held_leaf {H = OpaqueNodePtr K ℕ P} slot ≡ HeldLeaf leaf) × (leaf_value leaf ≡ number)
+valued_leaf None number none = absurd (cc)
+valued_leaf (Some leaf) number is = (leaf, refl, same_Some (leaf_value leaf) number is)
 
 module _ {K : Type 0} {P : ℕ} (text : K → List ℕ) where
   -- one text's number is another now
@@ -92,9 +101,10 @@ module _ {K : Type 0} {P : ℕ} (text : K → List ℕ) where
     none_there empty x = sym (holds x) ∙ ap (option_map (λ entry. entry.1)) (empty x)
 
     -- the leaf that a scan finds has the number of the query's entry
-    pub found_number : (tree : Tree (OpaqueNodePtr K ℕ P)) (pointer : OpaqueNodePtr K ℕ P) (query : List ℕ) (leaf : LeafNode K ℕ P) → (Contains (leaves tree) (pointer, query) → held arena pointer ≡ HeldLeaf leaf → entry_at text arena query ≡ Some (leaf_key leaf, leaf_value leaf)) → scan tree query ≡ (pointer, query) ∷ [] → held arena pointer ≡ HeldLeaf leaf → entries.number_of query ≡ Some (leaf_value leaf)
-    found_number tree pointer query leaf entry one is =
-        sym (holds query) ∙ ap (option_map (λ e. e.1)) (entry (found_inside tree pointer query one) is)
+    pub found_number : (tree : Tree (OpaqueNodePtr K ℕ P)) (leaf : NodePtr P (LeafNode K ℕ P)) (query : List ℕ) (number : ℕ) → ((held_there : LeafNode K ℕ P) → Contains (leaves tree) (leaf_pointer leaf, query) → held arena (leaf_pointer leaf) ≡ HeldLeaf held_there → entry_at text arena query ≡ Some (leaf_key held_there, leaf_value held_there)) → scan tree query ≡ (leaf_pointer leaf, query) ∷ [] → option_map leaf_value (leaf_at arena (slab_key leaf)) ≡ Some number → entries.number_of query ≡ Some number
+    found_number tree leaf query number entry one is =
+        let there = valued_leaf (leaf_at arena (slab_key leaf)) number is in
+        sym (holds query) ∙ ap (option_map (λ e. e.1)) (entry there.0 (found_inside tree (leaf_pointer leaf) query one) there.1) ∙ ap Some there.2
 
 -- one command more
 pub after_one : (entries : Entries) (commands : List (TreeCommand (List ℕ))) (command : TreeCommand (List ℕ)) → after_all entries (commands ++ command ∷ []) ≡ after (after_all entries commands) command

@@ -26,10 +26,7 @@ pub fn answer<K: AsBytes, const PREFIX_LEN: usize>(
     let found = find_leaf(&mut reader, root, query);
     let reads = budget - reader.remaining();
     match found {
-        Some((leaf, path)) => {
-            let number = *arena.as_ref(leaf).value_ref();
-            (Some((number, path)), reads)
-        }
+        Some((leaf, path)) => (Some((*arena.as_value_ref(leaf), path)), reads),
         None => (None, reads),
     }
 }

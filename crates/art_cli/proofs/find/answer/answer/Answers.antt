@@ -6,8 +6,8 @@ use Rattle.art_tree.specs.Search.{leaf_pointer, met}
 use Rattle.art_cli.proofs.Finding.{found_number, none_there, same_texts}
 use Rattle.art_cli.proofs.find.answer.answer.Goals as goal
 
-pub as_ref-requires : goal.as_ref-requires
-as_ref-requires g c =
+pub as_value_ref-requires : goal.as_value_ref-requires
+as_value_ref-requires g c =
     let read = c.in-Some-found.ensures.same_arena ∙ c.with_budget-reader.ensures.arena in
     let is_held = subst (λ arena. held arena (leaf_pointer c.in-Some-found.leaf) ≢ Nothing) read c.in-Some-found.ensures.held in
     (search rules, (search rules, (search rules, (search rules, (search rules, (search rules, is_held))))))
@@ -22,7 +22,7 @@ returns-in-Some-found g c = λ entries holds.
     let scanned = c.in-Some-found.ensures.answer tree here in
     let looks = c.in-Some-found.ensures.looks tree here in
     let reads : length c.args.query.now + 1 - c.remaining.result ≡ length (met g.row.PREFIX_LEN tree c.args.query.now) = omega (arith, looks, c.with_budget-reader.ensures.budget, c.remaining.ensures) in
-    let number : entries.number_of c.args.query.now ≡ Some c.value_ref-number.result.now = rw c.value_ref-number.ensures (found_number text c.args.tree.now.arena entries holds tree (leaf_pointer c.in-Some-found.leaf) c.args.query.now c.as_ref.result.now (c.entries_are_what_leaves_hold.ensures.leaves c.args.tree.now.arena c.in-Some.root tree alone.1 (leaf_pointer c.in-Some-found.leaf) c.args.query.now c.as_ref.result.now) scanned (rw (← c.arena-arena.ensures.arena) c.as_ref.ensures)) in
+    let number : entries.number_of c.args.query.now ≡ Some c.as_value_ref.result.now = found_number text c.args.tree.now.arena entries holds tree c.in-Some-found.leaf c.args.query.now c.as_value_ref.result.now (λ leaf. c.entries_are_what_leaves_hold.ensures.leaves c.args.tree.now.arena c.in-Some.root tree alone.1 (leaf_pointer c.in-Some-found.leaf) c.args.query.now leaf) scanned (rw (← c.arena-arena.ensures.arena) c.as_value_ref.ensures) in
     inr (tree, alone.1.is_tree.sound, same_texts text c.args.tree.now.arena entries holds tree (c.entries_are_what_leaves_hold.ensures.texts c.args.tree.now.arena c.in-Some.root tree alone.1), (leaf_pointer c.in-Some-found.leaf, scanned, number, c.in-Some-found.ensures.path tree here), reads)
 
 pub returns-in-None : goal.returns-in-None
