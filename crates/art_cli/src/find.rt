@@ -47,14 +47,12 @@ fn replies_text<K: AsBytes + Copy, const PREFIX_LEN: usize>(
     ensures refused { IfErr result (IsEntryFailure (map (with_text K.text) commands.now)) }
 {
     let mut text = String::new(alloc);
-    let mut line = 0;
     let mut number = 0;
-    for command in commands {
-        line += 1;
+    for (index, command) in commands.iter().enumerate() {
         match *command {
             TreeCommand::Insert(key) => match tree.insert(key, number) {
                 Ok(_) => number += 1,
-                Err(fault) => return Err(failure_of(line, fault.refusal)),
+                Err(fault) => return Err(failure_of(index + 1, fault.refusal)),
             },
             TreeCommand::Remove(key) => {
                 let removed = tree.remove(key.as_bytes())?;
