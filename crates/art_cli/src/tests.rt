@@ -285,6 +285,11 @@ fn a_failed_read_prints_nothing(rt: HostRuntime) -> Result<(), Fail> {
     Ok(())
 }
 
+// A run whose output fails once this much is written.
+fn cut_off<'a>(input: &'a [u8], output: &'a str) -> Case<'a> {
+    outcome(input, output, "device failed\n", 1)
+}
+
 #[test]
 fn a_failed_writer_has_what_it_took(rt: HostRuntime) -> Result<(), Fail> {
     let mut lines = String::new(rt.alloc());
@@ -300,72 +305,34 @@ fn a_failed_writer_has_what_it_took(rt: HostRuntime) -> Result<(), Fail> {
         kind: ErrorKind::Other,
     };
     let narrow = Limits { room: 7, ..wide };
+    let single = Limits { room: 1, ..wide };
     let unflushed = Limits {
         can_flush: false,
         ..wide
     };
     // no write is interrupted, and the second one fails
     let one = Limits {
-        room: 1,
         can_be_interrupted: false,
-        ..wide
+        ..single
     };
     // the writer had no memory, which is no refusal of the run's own
     let kind = ErrorKind::OutOfMemory;
+    let unflushed_starved = Limits { kind, ..unflushed };
+    let narrow_starved = Limits { kind, ..narrow };
     let write = b"w 1 1\n".as_slice();
     let reply = "child none\nnode Node4 1\n";
-    let failed = "device failed\n";
+    let all = outcome(lines.as_bytes(), replies.as_str(), "", 0);
     // the words, the limits of the output, the room of the errors, what is written
     let rows: [(&[&str], Limits, usize, Case); 10] = [
         (&["replay"], wide, 100, outcome(write, reply, "", 0)),
-        (
-            &["replay"],
-            unflushed,
-            100,
-            outcome(write, reply, failed, 1),
-        ),
-        (
-            &["replay"],
-            Limits { kind, ..unflushed },
-            100,
-            outcome(write, reply, failed, 1),
-        ),
-        (
-            &["replay"],
-            narrow,
-            100,
-            outcome(write, "child n", failed, 1),
-        ),
-        (
-            &["replay"],
-            Limits { kind, ..narrow },
-            100,
-            outcome(write, "child n", failed, 1),
-        ),
-        (
-            &["replay"],
-            Limits { room: 1, ..wide },
-            100,
-            outcome(write, "c", failed, 1),
-        ),
-        (
-            &["replay"],
-            one,
-            100,
-            outcome(COMMANDS.as_bytes(), "c", failed, 1),
-        ),
-        (
-            &["find", "2"],
-            one,
-            100,
-            outcome(SEARCHES.as_bytes(), "f", failed, 1),
-        ),
-        (
-            &["replay"],
-            wide,
-            100,
-            outcome(lines.as_bytes(), replies.as_str(), "", 0),
-        ),
+        (&["replay"], unflushed, 100, cut_off(write, reply)),
+        (&["replay"], unflushed_starved, 100, cut_off(write, reply)),
+        (&["replay"], narrow, 100, cut_off(write, "child n")),
+        (&["replay"], narrow_starved, 100, cut_off(write, "child n")),
+        (&["replay"], single, 100, cut_off(write, "c")),
+        (&["replay"], one, 100, cut_off(COMMANDS.as_bytes(), "c")),
+        (&["find", "2"], one, 100, cut_off(SEARCHES.as_bytes(), "f")),
+        (&["replay"], wide, 100, all),
         // the report fails
         (&["replay"], wide, 4, outcome(b"w 1", "", "line", 2)),
     ];
