@@ -5,7 +5,7 @@ ghost use Rattle.std.specs.declared.ops.Bound.TheVariants.{Excluded, Unbounded};
 ghost use Rattle.art_header.specs.declared.node_type.NodeType.TheVariants.{Leaf, Node4};
 ghost use Rattle.art_nodes.specs.ChildMap.{first_pair, pairs_within};
 ghost use Rattle.art_nodes.specs.Inner.{Inner};
-ghost use Rattle.art_nodes.specs.Pointers.{slab_key};
+ghost use Rattle.art_nodes.specs.Pointers.{node_kind, slab_key};
 ghost use Rattle.art_arena.specs.Arena.{held, HeldInner, Nothing, room, SameNodes};
 ghost use Rattle.art_arena.specs.Links.{HoldsLeaf};
 ghost use Rattle.art_arena.specs.Trees.{leaves, branch_leaves};
@@ -171,7 +171,8 @@ fn reserve_for_child<K, V, const PREFIX_LEN: usize>(
     arena: &mut NodeArena<K, V, PREFIX_LEN>,
     pointer: OpaqueNodePtr<K, V, PREFIX_LEN>,
 ) -> Result<(), AllocError>
-    requires { held arena.old pointer ≢ Nothing }
+    requires held { held arena.old pointer ≢ Nothing }
+    requires inner { node_kind pointer ≢ Leaf }
     ensures leaf_room { OnOk result (0 < room arena.new Leaf) }
     ensures room { OnOk result (HasRoomToGrow arena.new pointer) }
     ensures nodes_kept { SameNodes arena.old arena.new }

@@ -15,7 +15,7 @@ ghost use Rattle.art_tree.specs.Taking.{two_children};
 
 use crate::insert::place::Fork;
 use crate::loading::raise::place_as;
-use crate::remove::node::replace_node;
+use crate::remove::node::{num_children, replace_node};
 use art_arena::{ArenaInnerNode, ArenaNode, NodeArena};
 use art_bytes::AsBytes;
 use art_nodes::{
@@ -47,24 +47,19 @@ pub(crate) fn write_child<K, V, const PREFIX_LEN: usize>(
     }
 }
 
-// Whether the inner node at the pointer is full. A leaf is not.
+// Whether the inner node at the pointer is full.
 fn is_full<K, V, const PREFIX_LEN: usize>(
     arena: &NodeArena<K, V, PREFIX_LEN>,
     pointer: OpaqueNodePtr<K, V, PREFIX_LEN>,
 ) -> bool
-    requires { held arena.now pointer ≢ Nothing }
+    requires held { held arena.now pointer ≢ Nothing }
+    requires inner { node_kind pointer ≢ Leaf }
     ensures full { (node : Inner _) → held arena.now pointer ≡ HeldInner node →
         IsTrue result ↔ (length node.children ≡ most_children (node_kind pointer)) }
     ensures has_room { (node : Inner _) → held arena.now pointer ≡ HeldInner node →
         ¬ (IsTrue result) → length node.children < most_children (node_kind pointer) }
 {
-    match pointer.to_node_ptr() {
-        ConcreteNodePtr::Node4(node) => arena.as_ref(node).is_full(),
-        ConcreteNodePtr::Node16(node) => arena.as_ref(node).is_full(),
-        ConcreteNodePtr::Node48(node) => arena.as_ref(node).is_full(),
-        ConcreteNodePtr::Node256(node) => arena.as_ref(node).is_full(),
-        ConcreteNodePtr::LeafNode(_) => false,
-    }
+    num_children(arena, pointer) == *pointer.node_type().capacity_range().end()
 }
 
 /// Makes room for the node that a full inner node grows to.
@@ -72,7 +67,8 @@ pub(crate) fn reserve_growth<K, V, const PREFIX_LEN: usize>(
     arena: &mut NodeArena<K, V, PREFIX_LEN>,
     pointer: OpaqueNodePtr<K, V, PREFIX_LEN>,
 ) -> Result<(), AllocError>
-    requires { held arena.old pointer ≢ Nothing }
+    requires held { held arena.old pointer ≢ Nothing }
+    requires inner { node_kind pointer ≢ Leaf }
     ensures room { OnOk result (HasRoomToGrow arena.new pointer) }
     ensures nodes_kept { SameNodes arena.old arena.new }
     ensures leaf_room { room arena.old Leaf ≤ room arena.new Leaf }

@@ -1,7 +1,7 @@
 //! What a removal does to inner nodes.
 ghost use Rattle.std.specs.Prelude.{◌≡◌, ◌≢◌, ◌<◌, ◌≤◌, ◌+◌, ◌^◌, ◌++◌, ◌∷◌, ◌↔◌, ℕ, List, length, Some, None, OnOk, OnErr, IsTrue};
 ghost use Rattle.art_header.specs.Header.{StandsFor};
-ghost use Rattle.art_header.specs.NodeType.{least_children, shrunk_kind};
+ghost use Rattle.art_header.specs.NodeType.{least_children, most_children, shrunk_kind};
 ghost use Rattle.art_header.specs.declared.node_type.NodeType.TheVariants.{Leaf, Node4};
 ghost use Rattle.art_nodes.specs.ChildMap.{child_at, first_pair, without_child};
 ghost use Rattle.art_nodes.specs.Inner.{Inner, header_of, node_without_child};
@@ -23,8 +23,10 @@ pub(crate) fn num_children<K, V, const PREFIX_LEN: usize>(
 ) -> usize
     requires held { held arena.now pointer ≢ Nothing }
     requires inner { node_kind pointer ≢ Leaf }
-    ensures { (node : Inner _) → held arena.now pointer ≡ HeldInner node →
+    ensures count { (node : Inner _) → held arena.now pointer ≡ HeldInner node →
         result ≡ length node.children }
+    ensures fits { (node : Inner _) → held arena.now pointer ≡ HeldInner node →
+        result ≤ most_children (node_kind pointer) }
 {
     arena.header(pointer).unwrap().num_children()
 }

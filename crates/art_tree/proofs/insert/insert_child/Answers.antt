@@ -20,6 +20,7 @@ pub reserve_for_child-requires : goal.reserve_for_child-requires
 reserve_for_child-requires g c =
     let (tree, alone, lacks) = c.requires.place in
     let is_held : held c.args.arena.now c.args.spot.node ≢ Nothing = there-held g.K.AsBytes.text c.args.arena.now c.args.root tree c.args.spot c.args.byte c.args.key c.args.value alone lacks c.ranges.byte.fits in
+    let is_inner : node_kind c.args.spot.node ≢ Leaf = there-inner g.K.AsBytes.text c.args.arena.now c.args.root tree c.args.spot c.args.byte c.args.key c.args.value alone lacks c.ranges.byte.fits in
     search rules
 
 pub leaf_beside-end-requires : goal.leaf_beside-end-requires
@@ -78,20 +79,8 @@ hang-requires g c =
     let can : CanHang new c.args.spot.parent = child-hangs text reserved c.args.root tree c.args.spot c.args.byte c.args.key c.args.value alone lacks c.ranges.byte.fits linked (leaf_pointer c.link_leaf-leaf.result) c.link_leaf-leaf.ensures.was_free c.link_leaf-leaf.ensures.others new c.add_child-node.result c.link_leaf-leaf.ensures.entry c.each_pointer_is_at_one_place.ensures (subst (λ child. ChildAdded linked new c.args.spot.node c.args.byte child c.add_child-node.result) c.to_opaque.ensures c.add_child-node.ensures) in
     search rules
 
-pub returns-clause-art : goal.returns-clause-art
-returns-clause-art g c =
-    let text = g.K.AsBytes.text in
-    let (tree, alone0, lacks) = c.requires.place in
-    let reserved = c.reserve_for_child.new.arena in
-    let linked = c.link_leaf-leaf.new.arena in
-    let alone = alone-same text c.args.arena.now reserved c.reserve_for_child.ensures.nodes_kept c.args.root tree alone0 in
-    let beside = c.leaf_beside-end.ensures (place-there text reserved c.args.root tree c.args.spot c.args.byte c.args.key c.args.value alone lacks c.ranges.byte.fits) in
-    child-art text reserved c.args.root tree c.args.spot c.args.byte c.args.key c.args.value alone lacks c.ranges.byte.fits linked (leaf_pointer c.link_leaf-leaf.result) c.link_leaf-leaf.ensures.was_free c.link_leaf-leaf.ensures.others c.add_child-node.new.arena c.add_child-node.result c.link_leaf-leaf.ensures.entry c.each_pointer_is_at_one_place.ensures
-    (subst (λ child. ChildAdded linked c.add_child-node.new.arena c.args.spot.node c.args.byte child c.add_child-node.result) c.to_opaque.ensures c.add_child-node.ensures)
-    c.hang.new.arena c.hang.result c.hang.ensures c.requires.short c.leaf_beside-end.result.1 (slab_key c.leaf_beside-end.result.0) beside c.link_leaf-leaf.ensures.spelled
-
-pub returns-clause-entered : goal.returns-clause-entered
-returns-clause-entered g c =
+pub returns : goal.returns
+returns g c =
     let text = g.K.AsBytes.text in
     let (tree, alone0, lacks) = c.requires.place in
     let old = c.args.arena.now in
@@ -99,7 +88,14 @@ returns-clause-entered g c =
     let linked = c.link_leaf-leaf.new.arena in
     let alone = alone-same text old reserved c.reserve_for_child.ensures.nodes_kept c.args.root tree alone0 in
     let beside = c.leaf_beside-end.ensures (place-there text reserved c.args.root tree c.args.spot c.args.byte c.args.key c.args.value alone lacks c.ranges.byte.fits) in
-    entered-from text old reserved c.hang.new.arena c.args.key c.args.value c.args.root tree alone0 (c.no_text_begins_another.ensures [] tree alone0.is_tree.sound) c.reserve_for_child.ensures.nodes_kept
-    (child-entered text reserved c.args.root tree c.args.spot c.args.byte c.args.key c.args.value alone lacks c.ranges.byte.fits linked (leaf_pointer c.link_leaf-leaf.result) c.link_leaf-leaf.ensures.was_free c.link_leaf-leaf.ensures.others c.add_child-node.new.arena c.add_child-node.result c.link_leaf-leaf.ensures.entry c.each_pointer_is_at_one_place.ensures
-    (subst (λ child. ChildAdded linked c.add_child-node.new.arena c.args.spot.node c.args.byte child c.add_child-node.result) c.to_opaque.ensures c.add_child-node.ensures)
-    c.hang.new.arena c.hang.result c.hang.ensures c.requires.short c.leaf_beside-end.result.1 (slab_key c.leaf_beside-end.result.0) beside c.link_leaf-leaf.ensures.spelled c.no_text_begins_another.ensures)
+    record {
+      art = child-art text reserved c.args.root tree c.args.spot c.args.byte c.args.key c.args.value alone lacks c.ranges.byte.fits linked (leaf_pointer c.link_leaf-leaf.result) c.link_leaf-leaf.ensures.was_free c.link_leaf-leaf.ensures.others c.add_child-node.new.arena c.add_child-node.result c.link_leaf-leaf.ensures.entry c.each_pointer_is_at_one_place.ensures
+          (subst (λ child. ChildAdded linked c.add_child-node.new.arena c.args.spot.node c.args.byte child c.add_child-node.result) c.to_opaque.ensures c.add_child-node.ensures)
+          c.hang.new.arena c.hang.result c.hang.ensures c.requires.short c.leaf_beside-end.result.1 (slab_key c.leaf_beside-end.result.0) beside c.link_leaf-leaf.ensures.spelled;
+      entered = entered-from text old reserved c.hang.new.arena c.args.key c.args.value c.args.root tree alone0 (c.no_text_begins_another.ensures [] tree alone0.is_tree.sound) c.reserve_for_child.ensures.nodes_kept
+          (child-entered text reserved c.args.root tree c.args.spot c.args.byte c.args.key c.args.value alone lacks c.ranges.byte.fits linked (leaf_pointer c.link_leaf-leaf.result) c.link_leaf-leaf.ensures.was_free c.link_leaf-leaf.ensures.others c.add_child-node.new.arena c.add_child-node.result c.link_leaf-leaf.ensures.entry c.each_pointer_is_at_one_place.ensures
+          (subst (λ child. ChildAdded linked c.add_child-node.new.arena c.args.spot.node c.args.byte child c.add_child-node.result) c.to_opaque.ensures c.add_child-node.ensures)
+          c.hang.new.arena c.hang.result c.hang.ensures c.requires.short c.leaf_beside-end.result.1 (slab_key c.leaf_beside-end.result.0) beside c.link_leaf-leaf.ensures.spelled c.no_text_begins_another.ensures);
+      entry_back = tt;
+      nodes_kept = tt;
+    }

@@ -23,11 +23,11 @@ num_children-requires g c =
 pub remove_from_two-requires : goal.remove_from_two-requires
 remove_from_two-requires g c =
     let place : (tree : Tree _) × IsAlone g.K.AsBytes.text c.args.arena.now c.args.root tree × HangsUnder tree (leaf_pointer c.args.leaf) c.args.parent c.args.byte c.args.above = c.requires in
-    let two : (node : Inner _) → held c.args.arena.now c.args.parent ≡ HeldInner node → length node.children ≡ 2 = λ node is. sym (c.num_children.ensures node is) ∙ c.if-num_children-eq2.true in
+    let two : (node : Inner _) → held c.args.arena.now c.args.parent ≡ HeldInner node → length node.children ≡ 2 = λ node is. sym (c.num_children.ensures.count node is) ∙ c.if-num_children-eq2.true in
     search rules
 
 pub remove_from_many-requires : goal.remove_from_many-requires
 remove_from_many-requires g c =
     let place : (tree : Tree _) × IsAlone g.K.AsBytes.text c.args.arena.now c.args.root tree × HangsUnder tree (leaf_pointer c.args.leaf) c.args.parent c.args.byte c.args.above = c.requires in
-    let many : (node : Inner _) → held c.args.arena.now c.args.parent ≡ HeldInner node → length node.children ≢ 2 = λ node is two. c.if-num_children-eq2.false (c.num_children.ensures node is ∙ two) in
+    let many : (node : Inner _) → held c.args.arena.now c.args.parent ≡ HeldInner node → length node.children ≢ 2 = λ node is two. c.if-num_children-eq2.false (c.num_children.ensures.count node is ∙ two) in
     search rules

@@ -4,4 +4,4 @@ use Rattle.art_tree.proofs.CutLemmas.{counted}
 use Rattle.art_tree.proofs.remove.node.has_fewest.Goals as goal
 
 pub returns : goal.returns
-returns g c = λ node is. counted c.num_children.result c.start.result.now (c.num_children.ensures node is) (c.start.ensures ∙ c.capacity_range.ensures.start ∙ ap least_children c.node_type.ensures)
+returns g c = λ node is. counted c.num_children.result c.start.result.now (c.num_children.ensures.count node is) (c.start.ensures ∙ c.capacity_range.ensures.start ∙ ap least_children c.node_type.ensures)
