@@ -12,12 +12,11 @@ fn kinds_know_how_many_children_they_hold(rt: HostRuntime) {
         (NodeType::Node256, 48, true),
         (NodeType::Node256, 49, false),
     ] {
-        if kind != NodeType::Leaf {
-            assert!(rt;
-                kind.should_shrink_inner_node(num_children) == want,
-                "{kind:?} {num_children}"
-            );
-        }
+        assert!(rt; kind != NodeType::Leaf);
+        assert!(rt;
+            kind.should_shrink_inner_node(num_children) == want,
+            "{kind:?} {num_children}"
+        );
     }
 
     for (kind, least, most) in [

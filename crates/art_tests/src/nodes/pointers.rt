@@ -62,8 +62,11 @@ fn pointers_know_their_kind_and_go_there_and_back(rt: HostRuntime) {
     assert!(rt; four.to_opaque().to_node_ptr().to_opaque() == four.to_opaque());
     // A pointer by kind is copied where it is used twice.
     let by_kind = ConcreteNodePtr::from(four);
-    assert!(rt; by_kind.to_opaque() == by_kind.to_opaque());
-    assert!(rt; ConcreteNodePtr::from(four).to_opaque() == four.to_opaque());
+    let copied = by_kind;
+    assert!(rt; by_kind.to_opaque() == four.to_opaque());
+    assert!(rt; copied.to_opaque() == four.to_opaque());
+    let fifth = NodePtr::<16, InnerNode4<u8, u8, 16>>::from_key(5);
+    assert!(rt; copied.to_opaque() != ConcreteNodePtr::from(fifth).to_opaque());
     assert!(rt; ConcreteNodePtr::from(sixteen).to_opaque() == sixteen.to_opaque());
     assert!(rt; ConcreteNodePtr::from(many).to_opaque() == many.to_opaque());
     assert!(rt; ConcreteNodePtr::from(all).to_opaque() == all.to_opaque());

@@ -37,8 +37,9 @@ fn remembers_the_last_two_nodes(rt: HostRuntime) {
     visits.visit_inner_node(node(3), 99);
     let path = visits.finish();
     let same = path;
-    assert!(rt; above(path) == (Some((node(3), 99)), Some((node(2), 98))));
-    assert!(rt; above(same) == above(path));
+    let last_two = (Some((node(3), 99)), Some((node(2), 98)));
+    assert!(rt; above(path) == last_two);
+    assert!(rt; above(same) == last_two);
     let mut one = TreePathSearch::default();
     one.visit_inner_node(node(7), 255);
     assert!(rt; above(one.finish()) == (Some((node(7), 255)), None));
