@@ -15,7 +15,7 @@ use std::process::Abort;
 use std::rc::Rc;
 use std::test::Fail;
 
-mod using;
+pub(crate) mod using;
 
 use using::{order_of_texts, text_of};
 
@@ -29,7 +29,7 @@ fn have_one_text<K: OrderedBytes>(a: &K, b: &K) -> bool
 }
 
 // No key's text begins another's, so one test tells whether they are the same.
-fn has_front<K: NoPrefixesBytes>(key: &K, front: &K) -> bool
+pub(crate) fn has_front<K: NoPrefixesBytes>(key: &K, front: &K) -> bool
     ensures { IsTrue result ↔ (K.text key.now ≡ K.text front.now) }
 {
     key.as_bytes().starts_with(front.as_bytes())

@@ -9,6 +9,8 @@ ghost use Rattle.art_mapped.specs.Numbers.{signed_text};
 ghost use Rattle.art_mapped.specs.Sequences.{joined};
 
 use super::*;
+use crate::bytes::has_front;
+use crate::bytes::using::order_of_texts;
 use art_bytes::{NoPrefixesBytes, OrderedBytes};
 
 /// The key of an address is its octets, and is always made.
@@ -167,18 +169,6 @@ fn feed<B: BytesMapping<D>, D, H: Hasher>(key: &Mapped<B, D>, hasher: &mut H)
     ensures { hasher.new ≡ fold H.write hasher.old (fed.slice fed.u8 (mapped_text key.now)) }
 {
     key.hash(hasher);
-}
-
-/// Keys sort as their texts do.
-fn order_of_texts<K: OrderedBytes>(a: &K, b: &K) -> Ordering
-    ensures { result ≡ K.cmp a.now b.now }
-{
-    a.as_bytes().cmp(b.as_bytes())
-}
-
-/// Of keys of which none begins another, whether one begins the other.
-fn has_front<K: NoPrefixesBytes>(key: &K, front: &K) -> bool {
-    key.as_bytes().starts_with(front.as_bytes())
 }
 
 /// Two keys that ascend, and of which none begins the other.
