@@ -6,6 +6,7 @@ ghost use Rattle.art_bytes.specs.SliceKey.{slice_key_text};
 ghost use Rattle.art_bytes.specs.StrKey.{str_key_text};
 
 use crate::ALL_STANDS;
+use crate::fixtures::{c_string, hash_of};
 use art_bytes::{
     AsBytes, CStringKey, CStringKeyError, NoPrefixesBytes, OrderedBytes, SliceKey, StrKey,
 };
@@ -52,12 +53,6 @@ fn feed_c_string_key<H: Hasher>(key: &CStringKey, hasher: &mut H)
     ensures { hasher.new ≡ fold H.write hasher.old (fed.slice fed.u8 (c_string_key_text key.now)) }
 {
     key.hash(hasher);
-}
-
-fn hash_of<K: Hash>(key: &K) -> u64 {
-    let mut hasher = DefaultHasher::new();
-    key.hash(&mut hasher);
-    hasher.finish()
 }
 
 // What a key is made of is what it gives back.
@@ -169,13 +164,6 @@ fn borrowed_keys_hash_as_what_they_borrow(rt: HostRuntime) {
     let mut hasher = DefaultHasher::new();
     feed_slice_key(&SliceKey::new(HELLO), &mut hasher);
     assert!(rt; hasher.finish() == hash_of(&HELLO));
-}
-
-fn c_string(alloc: Global, bytes: &[u8]) -> Result<CStringKey, Fail> {
-    match CStringKey::new(bytes.to_vec(alloc)?) {
-        Ok(key) => Ok(key),
-        Err(refusal) => Err(refusal)?,
-    }
 }
 
 // The bytes are refused for a zero, the first one at that place, and come back.

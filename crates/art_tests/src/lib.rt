@@ -11,6 +11,8 @@ mod arena;
 #[cfg(test)]
 mod bytes;
 #[cfg(test)]
+mod fixtures;
+#[cfg(test)]
 mod header;
 #[cfg(test)]
 mod mapped;

@@ -7,7 +7,6 @@ use art_mapped::{
 };
 use std::alloc::{AllocError, Global};
 use std::cmp::Ordering;
-use std::hash::{DefaultHasher, Hash, Hasher};
 use std::net::{Ipv4Addr, Ipv6Addr};
 use std::num::{
     NonZeroI8, NonZeroI16, NonZeroI32, NonZeroI64, NonZeroI128, NonZeroIsize, NonZeroU8,
@@ -180,12 +179,6 @@ fn only_sequences_and_tuples_take_memory(rt: HostRuntime) {
     assert!(rt; <ToIBE as BytesMapping<Vec<i8>>>::READ_ALLOCATES);
     assert!(rt; <<ToIBE as BytesMapping<i128>>::Bytes as FixedBytes>::WIDTH == 16);
     assert!(rt; <[u8; 3] as FixedBytes>::from_slice(&[1, 2, 3]) == [1, 2, 3]);
-}
-
-fn hash_of<T: Hash>(value: &T) -> u64 {
-    let mut state = DefaultHasher::new();
-    value.hash(&mut state);
-    state.finish()
 }
 
 #[test]

@@ -11,7 +11,9 @@ ghost use Rattle.art_mapped.specs.Sequences.{joined};
 use super::*;
 use crate::bytes::has_front;
 use crate::bytes::using::order_of_texts;
+use crate::fixtures::hash_of;
 use art_bytes::{NoPrefixesBytes, OrderedBytes};
+use std::hash::{DefaultHasher, Hash, Hasher};
 
 /// The key of an address is its octets, and is always made.
 fn host(alloc: Global, address: Ipv4Addr) -> Result<Mapped<ToOctets, Ipv4Addr>, AllocError>

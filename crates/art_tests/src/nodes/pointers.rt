@@ -1,10 +1,10 @@
 //! Pointers, and the kinds that they know.
 use super::fixtures::{Pointer, leaf};
+use crate::fixtures::hash_of;
 use art_nodes::{
     ConcreteInnerNodePtr, ConcreteNodePtr, InnerNode4, InnerNode16, InnerNode48, InnerNodeDirect,
     LeafNode, NodePtr, NodeType,
 };
-use std::hash::{DefaultHasher, Hash, Hasher};
 use std::process::Abort;
 
 // Of the five kinds, the pointer is of the one at this place alone.
@@ -19,13 +19,6 @@ fn is_one_kind(rt: &impl Abort, pointer: Pointer, place: usize) {
     for (kind, is_kind) in kinds.into_iter().enumerate() {
         assert!(rt; is_kind == (kind == place), "kind {kind}");
     }
-}
-
-// What a pointer feeds a hasher comes to one number.
-fn hash_of(pointer: Pointer) -> u64 {
-    let mut hasher = DefaultHasher::new();
-    pointer.hash(&mut hasher);
-    hasher.finish()
 }
 
 #[test]
@@ -43,9 +36,9 @@ fn pointers_know_their_kind_and_go_there_and_back(rt: HostRuntime) {
     assert!(rt; four.to_opaque() != sixteen.to_opaque());
     assert!(rt; four == NodePtr::from_key(5));
     assert!(rt; four != NodePtr::from_key(6));
-    assert!(rt; hash_of(leaf(5)) == hash_of(leaf(5)));
-    assert!(rt; hash_of(leaf(5)) != hash_of(leaf(6)));
-    assert!(rt; hash_of(leaf(5)) != hash_of(four.to_opaque()));
+    assert!(rt; hash_of(&leaf::<16>(5)) == hash_of(&leaf::<16>(5)));
+    assert!(rt; hash_of(&leaf::<16>(5)) != hash_of(&leaf::<16>(6)));
+    assert!(rt; hash_of(&leaf::<16>(5)) != hash_of(&four.to_opaque()));
     assert!(rt; leaf::<16>(6).node_type() == NodeType::Leaf);
     assert!(rt; leaf::<16>(6).cast::<InnerNode4<u8, u8, 16>>().is_none());
     let cast = leaf::<16>(6).cast::<LeafNode<u8, u8, 16>>();

@@ -1,6 +1,7 @@
 // Keys of two parts, and C strings.
 use super::Answer::{Child, Normal, Nothing};
 use super::*;
+use crate::fixtures::c_string;
 use std::net::Ipv4Addr;
 
 type Route = Mapped<ConcatTuple<(ToOctets, ToIBE)>, (Ipv4Addr, i32)>;
@@ -29,12 +30,6 @@ fn an_address_and_a_number_are_found(rt: HostRuntime) -> Result<(), Fail> {
     ];
     check(&rt, &arena, root, &rows);
     Ok(())
-}
-
-fn c_string(alloc: Global, text: &[u8]) -> Result<CStringKey, AllocError> {
-    let mut bytes = Vec::new(alloc);
-    bytes.extend_from_slice(text)?;
-    CStringKey::new(bytes).map_err(|_| AllocError)
 }
 
 #[test]
