@@ -2,7 +2,8 @@
 ghost use Rattle.std.specs.Prelude.{◌≤◌};
 ghost use Rattle.std.specs.Mem.{FitsInMemory};
 
-use art_nodes::{InnerNodeCommon, LeafNode, NodePtr, OpaqueNodePtr};
+use art_nodes::{InnerNodeCommon, LeafNode, NodePtr, OpaqueNodePtr, valid_range_bounds};
+use std::ops::Bound;
 use std::process::Abort;
 
 pub(crate) type Pointer = OpaqueNodePtr<u8, u8, 16>;
@@ -55,4 +56,25 @@ pub(crate) fn node_of<N: InnerNodeCommon<u8, u8, 16> + Drop>(
         write(rt, &mut node, *byte, *key);
     }
     node
+}
+
+/// The range has the leaf beside each of these bytes, and no others, from the front and from the back.
+pub(crate) fn has_range<N: InnerNodeCommon<u8, u8, 16>>(
+    rt: &impl Abort,
+    node: &N,
+    start: Bound<u8>,
+    end: Bound<u8>,
+    written: &[(u8, usize)],
+) {
+    assert!(rt; valid_range_bounds(start, end));
+    let mut pairs = node.range(start, end);
+    for (byte, key) in written {
+        assert!(rt; pairs.next() == Some((*byte, leaf(*key))), "{byte}");
+    }
+    assert!(rt; pairs.next() == None);
+    let mut pairs = node.range(start, end);
+    for (byte, key) in written.iter().rev() {
+        assert!(rt; pairs.next_back() == Some((*byte, leaf(*key))), "{byte}");
+    }
+    assert!(rt; pairs.next_back() == None);
 }

@@ -2,7 +2,7 @@
 ghost use Rattle.std.specs.Prelude.{◌≤◌};
 ghost use Rattle.std.specs.Mem.{FitsInMemory};
 
-use super::fixtures::{Pointer, leaf, node_of};
+use super::fixtures::{Pointer, has_range, leaf, node_of};
 use art_nodes::{
     InnerNode4, InnerNode16, InnerNode48, InnerNodeCommon, InnerNodeDirect, valid_range_bounds,
 };
@@ -39,27 +39,6 @@ fn goes_both_ways<N: InnerNodeCommon<u8, u8, 16> + Drop>(rt: &impl Abort)
     assert!(rt; pairs.next() == Some(second));
     assert!(rt; pairs.next_back() == Some(third));
     assert!(rt; pairs.next() == None);
-    assert!(rt; pairs.next_back() == None);
-}
-
-// The range has the leaves under these bytes, and no others, from the front and from the back.
-fn has<N: InnerNodeCommon<u8, u8, 16>>(
-    rt: &impl Abort,
-    node: &N,
-    start: Bound<u8>,
-    end: Bound<u8>,
-    written: &[(u8, usize)],
-) {
-    assert!(rt; valid_range_bounds(start, end));
-    let mut pairs = node.range(start, end);
-    for (byte, key) in written {
-        assert!(rt; pairs.next() == Some((*byte, leaf(*key))));
-    }
-    assert!(rt; pairs.next() == None);
-    let mut pairs = node.range(start, end);
-    for (byte, key) in written.iter().rev() {
-        assert!(rt; pairs.next_back() == Some((*byte, leaf(*key))));
-    }
     assert!(rt; pairs.next_back() == None);
 }
 
@@ -110,11 +89,11 @@ fn iterates<N: InnerNodeCommon<u8, u8, 16> + Drop>(rt: &impl Abort)
     goes_both_ways::<N>(rt);
     let first: N = node_of(rt, &[], &[(3, 1), (255, 2), (0, 3), (85, 4)]);
     for (start, end, written) in FIRST_RANGES {
-        has(rt, &first, start, end, written);
+        has_range(rt, &first, start, end, written);
     }
     let second: N = node_of(rt, &[], &[(3, 1), (254, 2), (2, 3), (85, 4)]);
     for (start, end, written) in SECOND_RANGES {
-        has(rt, &second, start, end, written);
+        has_range(rt, &second, start, end, written);
     }
 }
 
