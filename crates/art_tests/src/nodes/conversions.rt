@@ -2,65 +2,46 @@
 ghost use Rattle.std.specs.Prelude.{◌≤◌};
 ghost use Rattle.std.specs.Mem.{FitsInMemory};
 
-use super::each_kind::{fill_from, has_the_first};
-use super::fixtures::{leaf, node_of, write};
+use super::fixtures::{all_bytes, first_of, has_children, leaf, node_of, with_bytes, write_bytes};
 use art_nodes::{
     Header, InnerNode, InnerNode4, InnerNode16, InnerNode48, InnerNodeCommon, InnerNodeDirect,
     InnerNodeIndirect, InnerNodeSorted,
 };
 use std::process::Abort;
 
-// Each byte has the leaf under the key of its number, and the others have none.
-fn has_children<N: InnerNodeCommon<u8, u8, 16>>(rt: &impl Abort, node: &N, bytes: &[u8]) {
-    assert!(rt; node.num_children() == bytes.len());
-    assert!(rt; node.stored_prefix() == b"prefix".as_slice());
-    for byte in 0..=255u8 {
-        let child = bytes.contains(&byte).then_some(leaf(usize::from(byte)));
-        assert!(rt; node.lookup_child(byte) == child, "under {byte}");
-    }
-}
-
-fn with_bytes<N: InnerNodeCommon<u8, u8, 16> + Drop>(rt: &impl Abort, bytes: &[u8]) -> N
-    requires memory { FitsInMemory N.row }
-    requires room { 2 ≤ N.room }
-{
-    let mut node: N = node_of(rt, b"prefix", &[]);
-    for byte in bytes {
-        write(rt, &mut node, *byte, usize::from(*byte));
-    }
-    node
-}
-
 const EVEN: [u8; 16] = [0, 2, 4, 6, 8, 10, 12, 14, 16, 18, 20, 22, 24, 26, 28, 30];
+
+fn nodes_grow(rt: &impl Abort) {
+    let small: InnerNode4<u8, u8, 16> = with_bytes(rt, &[3, 123, 1]);
+    has_children(rt, &small.grow(), &[3, 123, 1]);
+    let full: InnerNode16<u8, u8, 16> = with_bytes(rt, &EVEN);
+    assert!(rt; full.is_full());
+    has_children(rt, &full.grow(), &EVEN);
+    let large: InnerNode48<u8, u8, 16> = with_bytes(rt, &[3, 123, 1]);
+    assert!(rt; !large.is_full());
+    has_children(rt, &large.grow(), &[3, 123, 1]);
+}
+
+fn nodes_shrink(rt: &impl Abort) {
+    let bytes = all_bytes();
+    let first = first_of(rt, &bytes, 4);
+    let node: InnerNode16<u8, u8, 16> = with_bytes(rt, first);
+    assert!(rt; node.num_children() <= 4);
+    has_children(rt, &node.shrink(), first);
+    let first = first_of(rt, &bytes, 16);
+    let node: InnerNode48<u8, u8, 16> = with_bytes(rt, first);
+    assert!(rt; node.num_children() <= 16);
+    has_children(rt, &node.shrink(), first);
+    let first = first_of(rt, &bytes, 48);
+    let node: InnerNodeDirect<u8, u8, 16> = with_bytes(rt, first);
+    assert!(rt; node.num_children() <= 48);
+    has_children(rt, &node.shrink(), first);
+}
 
 #[test]
 fn nodes_grow_and_shrink(rt: HostRuntime) {
-    let small: InnerNode4<u8, u8, 16> = with_bytes(&rt, &[3, 123, 1]);
-    has_children(&rt, &small.grow(), &[3, 123, 1]);
-    let full: InnerNode16<u8, u8, 16> = with_bytes(&rt, &EVEN);
-    assert!(&rt; full.is_full());
-    has_children(&rt, &full.grow(), &EVEN);
-    let large: InnerNode48<u8, u8, 16> = with_bytes(&rt, &[3, 123, 1]);
-    assert!(&rt; !large.is_full());
-    has_children(&rt, &large.grow(), &[3, 123, 1]);
-    let mut node: InnerNode16<u8, u8, 16> = node_of(&rt, b"prefix", &[]);
-    write_up_to(&rt, &mut node, 4);
-    assert!(&rt; node.num_children() <= 4);
-    has_the_first(&rt, &node.shrink(), 4);
-    let mut node: InnerNode48<u8, u8, 16> = node_of(&rt, b"prefix", &[]);
-    write_up_to(&rt, &mut node, 16);
-    assert!(&rt; node.num_children() <= 16);
-    has_the_first(&rt, &node.shrink(), 16);
-    let mut node: InnerNodeDirect<u8, u8, 16> = node_of(&rt, b"prefix", &[]);
-    write_up_to(&rt, &mut node, 48);
-    assert!(&rt; node.num_children() <= 48);
-    has_the_first(&rt, &node.shrink(), 48);
-}
-
-fn write_up_to<N: InnerNodeCommon<u8, u8, 16>>(rt: &impl Abort, node: &mut N, end: u8) {
-    for byte in 0..end {
-        write(rt, node, byte, usize::from(byte));
-    }
+    nodes_grow(&rt);
+    nodes_shrink(&rt);
 }
 
 // A built node with children under 0 and 1 is full once it has one under each byte below its capacity.
@@ -70,9 +51,11 @@ where
     requires memory { FitsInMemory N.row }
     requires room { 2 ≤ N.room }
 {
-    let mut node: N = node_of(rt, b"prefix", &[(0, 0), (1, 1)]);
+    let mut node: N = with_bytes(rt, &[0, 1]);
     assert!(rt; !node.is_full());
-    fill_from(rt, &mut node, 2);
+    let capacity = node.capacity();
+    assert!(rt; 2 <= capacity && capacity <= 256);
+    write_bytes(rt, &mut node, &all_bytes()[2..capacity]);
     assert!(rt; node.is_full());
     node.remove_child(0);
     assert!(rt; !node.is_full());

@@ -58,6 +58,59 @@ pub(crate) fn node_of<N: InnerNodeCommon<u8, u8, 16> + Drop>(
     node
 }
 
+/// Every byte, ascending.
+pub(crate) fn all_bytes() -> [u8; 256] {
+    let mut bytes = [0; 256];
+    for byte in 0..=255u8 {
+        bytes[usize::from(byte)] = byte;
+    }
+    bytes
+}
+
+/// The first of them, so many.
+pub(crate) fn first_of<'a>(rt: &impl Abort, bytes: &'a [u8; 256], count: usize) -> &'a [u8] {
+    assert!(rt; count <= 256);
+    &bytes[..count]
+}
+
+/// Writes the leaf under the key of its number beside each of these bytes, in this order.
+pub(crate) fn write_bytes<N: InnerNodeCommon<u8, u8, 16>>(
+    rt: &impl Abort,
+    node: &mut N,
+    bytes: &[u8],
+) {
+    for byte in bytes {
+        write(rt, node, *byte, usize::from(*byte));
+    }
+}
+
+/// A node with the prefix that [`has_children`] looks for, and these bytes written.
+pub(crate) fn with_bytes<N: InnerNodeCommon<u8, u8, 16> + Drop>(rt: &impl Abort, bytes: &[u8]) -> N
+    requires memory { FitsInMemory N.row }
+    requires room { 2 ≤ N.room }
+{
+    let mut node: N = node_of(rt, b"prefix", &[]);
+    write_bytes(rt, &mut node, bytes);
+    node
+}
+
+/// Each of these bytes has the leaf under the key of its number, and the others have none. The prefix
+/// is `prefix`.
+pub(crate) fn has_children<N: InnerNodeCommon<u8, u8, 16>>(
+    rt: &impl Abort,
+    node: &N,
+    bytes: &[u8],
+) {
+    assert!(rt; node.num_children() == bytes.len());
+    assert!(rt; node.prefix_len() == 6);
+    assert!(rt; node.stored_prefix() == b"prefix".as_slice());
+    assert!(rt; node.header().read_prefix() == b"prefix".as_slice());
+    for byte in 0..=255u8 {
+        let child = bytes.contains(&byte).then_some(leaf(usize::from(byte)));
+        assert!(rt; node.lookup_child(byte) == child, "under {byte}");
+    }
+}
+
 /// The range has the leaf beside each of these bytes, and no others, from the front and from the back.
 pub(crate) fn has_range<N: InnerNodeCommon<u8, u8, 16>>(
     rt: &impl Abort,
