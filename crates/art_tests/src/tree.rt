@@ -12,9 +12,8 @@ ghost use Rattle.std.specs.Prelude.{IfOk};
 ghost use Rattle.art_tree.specs.Search.{HasTree};
 
 use art_tree::{
-    AnyRef, ArenaReader, ArtTree, AsBytes, CStringKey, ConcatTuple, FullPrefix, InnerNodeCommon,
-    LoadRefusal, Mapped, NodeArena, OpaqueNodePtr, SliceKey, ToIBE, ToOctets, TreePath, find_leaf,
-    laws, load,
+    AnyRef, ArenaReader, ArtTree, AsBytes, CStringKey, ConcatTuple, InnerNodeCommon, LoadRefusal,
+    Mapped, NodeArena, OpaqueNodePtr, SliceKey, ToIBE, ToOctets, TreePath, find_leaf, laws, load,
 };
 use std::alloc::{AllocError, Global};
 use std::process::Abort;

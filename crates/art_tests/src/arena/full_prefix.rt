@@ -2,12 +2,13 @@
 ghost use Rattle.std.specs.Prelude.{◌≡◌, ◌++◌, ◌∷◌, [], ℕ, List, length, IfOk};
 ghost use Rattle.art_arena.specs.Standing.{TreeAt, TreeUnder};
 
+use super::{Full, full_match};
 use art_arena::laws::{allocating_leaves_trees_standing, an_allocated_node_makes_a_tree};
 use art_arena::{FullPrefix, NodeArena};
 use art_bytes::AsBytes;
 use art_nodes::{InnerNode4, InnerNodeCommon, LeafNode, OpaqueNodePtr};
 use std::alloc::{AllocError, Global};
-use std::cmp::Ordering;
+use std::cmp::Ordering::{Greater, Less};
 use std::process::Abort;
 use std::test::Fail;
 
@@ -132,28 +133,18 @@ fn fork_over<const PREFIX_LEN: usize>(
     Ok(fork(rt, arena, path, prefix, (low, first), (high, second)))
 }
 
-// The full match answers this, and a leaf only where the node does not store its whole prefix.
+// The full match answers this.
 fn expect_match<K: AsBytes, const PREFIX_LEN: usize>(
     rt: &impl Abort,
     arena: &NodeArena<K, u8, PREFIX_LEN>,
     node: &InnerNode4<K, u8, PREFIX_LEN>,
     depth: usize,
     key: &[u8],
-    matched_bytes: usize,
-    parting: Option<(u8, Ordering)>,
+    answer: Full,
 )
     requires { TreeUnder K.text arena.now node.now depth }
 {
-    assert!(rt; depth <= key.len());
-    let answer = match node.match_full_prefix(arena, key, depth) {
-        Ok(matched) => (matched.matched_bytes, None),
-        Err(mismatch) => {
-            assert!(rt; mismatch.leaf_ptr.is_some() == (PREFIX_LEN < node.prefix_len()));
-            let order = mismatch.node_prefix_comparison_to_search_key_segment;
-            (mismatch.matched_bytes, Some((mismatch.prefix_byte, order)))
-        }
-    };
-    assert!(rt; answer == (matched_bytes, parting));
+    assert!(rt; full_match(rt, arena, node, key, depth) == answer);
 }
 
 // The whole prefix is read as this, from a leaf only where the node does not store all of it.
@@ -178,18 +169,10 @@ fn under_a_path<const PREFIX_LEN: usize>(
 ) -> Result<(), AllocError> {
     let node = fork_of_leaves(rt, alloc, arena, b"x", b"abc", b'1', b'2')?;
     expect_prefix(rt, arena, &node, 1, b"abc");
-    expect_match(rt, arena, &node, 1, b"xabd", 2, Some((99, Ordering::Less)));
-    expect_match(rt, arena, &node, 1, b"x", 0, Some((97, Ordering::Greater)));
-    expect_match(rt, arena, &node, 1, b"xabc1", 3, None);
-    expect_match(
-        rt,
-        arena,
-        &node,
-        1,
-        b"yabb1",
-        2,
-        Some((99, Ordering::Greater)),
-    );
+    expect_match(rt, arena, &node, 1, b"xabd", Err((2, b'c', Less)));
+    expect_match(rt, arena, &node, 1, b"x", Err((0, b'a', Greater)));
+    expect_match(rt, arena, &node, 1, b"xabc1", Ok(3));
+    expect_match(rt, arena, &node, 1, b"yabb1", Err((2, b'c', Greater)));
     Ok(())
 }
 
@@ -199,10 +182,10 @@ fn at_the_root<const PREFIX_LEN: usize>(
     arena: &mut NodeArena<Vec<u8>, u8, PREFIX_LEN>,
 ) -> Result<(), AllocError> {
     let node = fork_of_leaves(rt, alloc, arena, b"", b"abc", b'1', b'2')?;
-    expect_match(rt, arena, &node, 0, b"xyz", 0, Some((97, Ordering::Less)));
-    expect_match(rt, arena, &node, 0, b"ab", 2, Some((99, Ordering::Greater)));
-    expect_match(rt, arena, &node, 0, b"b", 0, Some((97, Ordering::Less)));
-    expect_match(rt, arena, &node, 0, b"abd2", 2, Some((99, Ordering::Less)));
+    expect_match(rt, arena, &node, 0, b"xyz", Err((0, b'a', Less)));
+    expect_match(rt, arena, &node, 0, b"ab", Err((2, b'c', Greater)));
+    expect_match(rt, arena, &node, 0, b"b", Err((0, b'a', Less)));
+    expect_match(rt, arena, &node, 0, b"abd2", Err((2, b'c', Less)));
     Ok(())
 }
 
@@ -225,18 +208,10 @@ fn three_nodes_deep<const PREFIX_LEN: usize>(
     let bottom = fork_of_leaves(rt, alloc, arena, b"abcdefgh", b"ijk", b'l', b'm')?;
     let middle = fork_over(rt, alloc, arena, bottom, b"abcd", b"efg", b'h', b'z')?;
     expect_prefix(rt, arena, &middle, 4, b"efg");
-    expect_match(
-        rt,
-        arena,
-        &middle,
-        4,
-        b"abcdefx",
-        2,
-        Some((103, Ordering::Less)),
-    );
+    expect_match(rt, arena, &middle, 4, b"abcdefx", Err((2, b'g', Less)));
     let top = fork_over(rt, alloc, arena, middle, b"", b"abc", b'd', b'z')?;
     expect_prefix(rt, arena, &top, 0, b"abc");
-    expect_match(rt, arena, &top, 0, b"abcdefghijkl", 3, None);
+    expect_match(rt, arena, &top, 0, b"abcdefghijkl", Ok(3));
     Ok(())
 }
 

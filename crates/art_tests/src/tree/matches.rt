@@ -1,18 +1,14 @@
 // The matches of a root with a key: the cheap one, and the one with the whole prefix.
-ghost use Rattle.art_arena.specs.Standing.{TreeUnder};
 ghost use Rattle.art_tree.specs.Search.{HasTree};
 
 use super::*;
+use crate::arena::{Full, full_match};
 use art_tree::InnerNode4;
 use std::cmp::Ordering;
 
 // The length of the prefix and whether some of it was passed over, or how many bytes match and the
 // prefix's byte after them.
 type Cheap = Result<(usize, bool), (usize, Option<u8>)>;
-
-// The length of the prefix, or how many bytes match, the prefix's byte after them, and the order of
-// the prefix against the key.
-type Full = Result<usize, (usize, u8, Ordering)>;
 
 fn cheap_match<K: AsBytes, const PREFIX_LEN: usize>(
     node: &InnerNode4<K, usize, PREFIX_LEN>,
@@ -21,26 +17,6 @@ fn cheap_match<K: AsBytes, const PREFIX_LEN: usize>(
     match node.attempt_pessimistic_match_prefix(key) {
         Ok(found) => Ok((found.matched_bytes, found.any_implicit_bytes)),
         Err(mismatch) => Err((mismatch.matched_bytes, mismatch.prefix_byte)),
-    }
-}
-
-// It names a leaf where the node does not store its whole prefix.
-fn full_match<K: AsBytes, const PREFIX_LEN: usize>(
-    rt: &impl Abort,
-    arena: &NodeArena<K, usize, PREFIX_LEN>,
-    node: &InnerNode4<K, usize, PREFIX_LEN>,
-    key: &[u8],
-) -> Full
-    requires { TreeUnder K.text arena.now node.now 0 }
-{
-    match node.match_full_prefix(arena, key, 0) {
-        Ok(found) => Ok(found.matched_bytes),
-        Err(mismatch) => {
-            let is_stored = node.prefix_len() <= PREFIX_LEN;
-            assert!(rt; mismatch.leaf_ptr.is_none() == is_stored);
-            let order = mismatch.node_prefix_comparison_to_search_key_segment;
-            Err((mismatch.matched_bytes, mismatch.prefix_byte, order))
-        }
     }
 }
 
@@ -60,7 +36,7 @@ pub(super) fn check_match<K: AsBytes, const PREFIX_LEN: usize>(
         panic!(rt; "no Node4");
     };
     assert!(rt; cheap_match(node, key) == cheap);
-    assert!(rt; full_match(rt, arena, node, key) == full);
+    assert!(rt; full_match(rt, arena, node, key, 0) == full);
 }
 
 // The root over two leaves with a prefix of three bytes matches these keys so.
