@@ -19,6 +19,24 @@ use std::alloc::{AllocError, Global};
 use std::process::Abort;
 use std::test::Fail;
 
+// Each key with its number.
+fn numbered<K: Drop>(alloc: Global, keys: Vec<K>) -> Result<Vec<(K, usize)>, AllocError> {
+    let mut entries = Vec::new(alloc);
+    for (number, key) in keys.into_iter().enumerate() {
+        entries.push((key, number))?;
+    }
+    Ok(entries)
+}
+
+// The texts as keys.
+fn slice_keys<'a>(alloc: Global, texts: &[&'a [u8]]) -> Result<Vec<SliceKey<'a>>, AllocError> {
+    let mut keys = Vec::new(alloc);
+    for text in texts {
+        keys.push(SliceKey::new(text))?;
+    }
+    Ok(keys)
+}
+
 // Loads the keys with their numbers as values. A tree that stood stands.
 fn load_all<K: AsBytes + Drop, const PREFIX_LEN: usize>(
     alloc: Global,
@@ -30,10 +48,7 @@ fn load_all<K: AsBytes + Drop, const PREFIX_LEN: usize>(
         HasTree K.text arena.new root) }
 {
     laws::trees_stand_where_all_is_kept::<K, usize, PREFIX_LEN>();
-    let mut entries = Vec::new(alloc);
-    for (number, key) in keys.into_iter().enumerate() {
-        entries.push((key, number))?;
-    }
+    let entries = numbered(alloc, keys)?;
     let Ok(root) = load(alloc, arena, entries) else {
         return Err(AllocError);
     };
@@ -50,11 +65,7 @@ fn load_texts<'a, const PREFIX_LEN: usize>(
     ensures kept { IfOk result (λ _. (root : _) → HasTree ⟦<SliceKey<'a> as AsBytes>⟧.text arena.old root →
         HasTree ⟦<SliceKey<'a> as AsBytes>⟧.text arena.new root) }
 {
-    let mut keys = Vec::new(alloc);
-    for text in texts {
-        keys.push(SliceKey::new(text))?;
-    }
-    load_all(alloc, arena, keys)
+    load_all(alloc, arena, slice_keys(alloc, texts)?)
 }
 
 // The number of the entry that is found, and the bytes of its path from the grandparent on.

@@ -6,10 +6,7 @@ fn tree_of<'a, const PREFIX_LEN: usize>(
     alloc: Global,
     texts: &[&'a [u8]],
 ) -> Result<ArtTree<SliceKey<'a>, usize, PREFIX_LEN>, AllocError> {
-    let mut entries = Vec::new(alloc);
-    for (number, text) in texts.iter().enumerate() {
-        entries.push((SliceKey::new(text), number))?;
-    }
+    let entries = numbered(alloc, slice_keys(alloc, texts)?)?;
     let Ok(tree) = ArtTree::load(alloc, entries) else {
         return Err(AllocError);
     };

@@ -1,4 +1,5 @@
 //! What is refused, and what a load leaves.
+use super::numbered;
 use crate::ALL_STANDS;
 use art_tree::{
     AnyRef, ArenaReader, InnerNode4, InnerNodeCommon, LeafNode, LoadFault, LoadRefusal, NodeArena,
@@ -12,12 +13,13 @@ type Texts = NodeArena<String, usize, 2>;
 
 type Root = OpaqueNodePtr<String, usize, 2>;
 
-fn numbered(alloc: Global, texts: &[&str]) -> Result<Vec<(String, usize)>, AllocError> {
-    let mut entries = Vec::new(alloc);
-    for (number, text) in texts.iter().enumerate() {
-        entries.push((String::from_str(alloc, text)?, number))?;
+// The texts as keys of their own, each with its number.
+fn entries_of(alloc: Global, texts: &[&str]) -> Result<Vec<(String, usize)>, AllocError> {
+    let mut keys = Vec::new(alloc);
+    for text in texts {
+        keys.push(String::from_str(alloc, text)?)?;
     }
-    Ok(entries)
+    numbered(alloc, keys)
 }
 
 // The fault refuses with this, and has the entries of these texts in their order.
@@ -51,7 +53,7 @@ fn the_lowest_entry_at_fault_is_told(rt: HostRuntime) -> Result<(), Fail> {
     let alloc = rt.alloc();
     let mut arena = Texts::new(alloc);
     for (texts, refusal) in cases {
-        let Err(fault) = load(alloc, &mut arena, numbered(alloc, texts)?) else {
+        let Err(fault) = load(alloc, &mut arena, entries_of(alloc, texts)?) else {
             panic!(rt; "loaded");
         };
         check_fault(&rt, &fault, refusal, texts);
@@ -74,7 +76,7 @@ fn load_beside(
     standing: &[Root],
     (texts, children): (&[&str], usize),
 ) -> Result<Root, Fail> {
-    let fault = match load(alloc, arena, numbered(alloc, texts)?) {
+    let fault = match load(alloc, arena, entries_of(alloc, texts)?) {
         Ok(root) => {
             check_root(rt, arena, root, children);
             return Ok(root);
