@@ -309,35 +309,10 @@ fn nodes_grow_and_shrink(rt: HostRuntime) -> Result<(), Fail> {
     for step in 0..=255u8 {
         let byte = step.wrapping_mul(11);
         assert!(rt; tree.remove(&[byte])?.is_some());
+        assert!(rt; tree.remove(&[byte])?.is_none());
         assert!(rt; tree.get(&[byte]).is_none());
         assert!(rt; tree.root().map(|root| root.node_type()) == kind_over(255 - usize::from(step)));
     }
-    Ok(())
-}
-
-#[test]
-fn five_keys_come_and_go(rt: HostRuntime) -> Result<(), Fail> {
-    let mut tree = ArtTree::<[u8; 1], u8, 0>::new(rt.alloc());
-    for byte in 0..5u8 {
-        if tree.insert([byte], byte).is_err() {
-            return Err(AllocError.into());
-        }
-    }
-    assert!(rt; tree.remove(&[0])?.is_some());
-    assert!(rt; tree.root().map(|root| root.node_type()) == Some(NodeType::Node4));
-    assert!(rt; tree.remove(&[9])?.is_none());
-    for byte in 0..5u8 {
-        assert!(rt; tree.get(&[byte]).is_some() == (byte > 0));
-    }
-    for byte in 1..5u8 {
-        assert!(rt; tree.remove(&[byte])?.is_some());
-    }
-    assert!(rt; tree.root().is_none() && tree.first().is_none());
-    let Ok(before) = tree.insert([7], 7) else {
-        return Err(AllocError.into());
-    };
-    assert!(rt; before.is_none());
-    assert!(rt; tree.root().map(|root| root.node_type()) == Some(NodeType::Leaf));
     Ok(())
 }
 
