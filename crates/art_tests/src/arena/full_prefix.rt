@@ -1,5 +1,5 @@
 //! Whole prefixes of nodes that are put together by hand, whatever they store.
-ghost use Rattle.std.specs.Prelude.{◌≡◌, ◌++◌, ◌∷◌, [], ℕ, List, length, IfOk};
+ghost use Rattle.std.specs.Prelude.{◌≡◌, ◌++◌, ◌∷◌, [], ℕ, length, IfOk};
 ghost use Rattle.art_arena.specs.Standing.{TreeAt, TreeUnder};
 
 use super::{Full, full_match};
