@@ -1,4 +1,4 @@
-// Each kind of key, as the layers above use it: through its bounds alone.
+//! Each kind of key, as the layers above use it: through its bounds alone.
 ghost use Rattle.std.specs.Prelude.{◌≡◌, ◌↔◌, IsTrue, fold};
 ghost use Rattle.std.specs.Hash as fed;
 ghost use Rattle.art_bytes.specs.CStringKey.{c_string_key_text};

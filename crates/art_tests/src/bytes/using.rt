@@ -1,4 +1,4 @@
-// How a crate uses `art_bytes`: through the bounds, with no lemma of it.
+//! How a crate uses `art_bytes`: through the bounds, with no lemma of it.
 ghost use Rattle.std.specs.Prelude.{◌≡◌};
 ghost use Rattle.art_bytes.specs.Text.{IsText};
 

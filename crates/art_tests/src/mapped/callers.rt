@@ -1,4 +1,4 @@
-// What a caller learns from the contracts, at types that it names.
+//! What a caller learns from the contracts, at types that it names.
 ghost use Rattle.std.specs.Prelude.{◌≡◌, ℕ, ℤ, IsOk, IfOk, Vec, fold};
 ghost use Rattle.std.specs.declared.alloc.Global.{Global};
 ghost use Rattle.std.specs.Hash as fed;

@@ -1,4 +1,4 @@
-// Keys of values ascend as the values do.
+//! Keys of values ascend as the values do.
 use super::*;
 
 /// Two values are in the order of their keys and of the keys' bytes, and the first comes back.

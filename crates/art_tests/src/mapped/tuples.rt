@@ -1,4 +1,4 @@
-// Composite keys, and keys as they stand.
+//! Composite keys, and keys as they stand.
 ghost use Rattle.std.specs.Prelude.{◌≡◌, ◌↔◌, ◌++◌, ℕ, List, IsTrue, IsOk, IfOk};
 ghost use Rattle.std.specs.Net.Addr.{ipv4_octets};
 ghost use Rattle.art_mapped.specs.Mapped.{mapped_text, HoldsValue};

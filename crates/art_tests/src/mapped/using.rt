@@ -1,4 +1,4 @@
-// How a crate uses `art_mapped`: keys of ports, which no call refuses.
+//! How a crate uses `art_mapped`: keys of ports, which no call refuses.
 ghost use Rattle.std.specs.Prelude.{◌≡◌, ℕ, IsOk, IfOk};
 ghost use Rattle.std.specs.Ordering.{nat_cmp};
 ghost use Rattle.art_mapped.specs.Mapped.{mapped_text, HoldsValue};

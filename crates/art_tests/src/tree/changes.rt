@@ -1,4 +1,4 @@
-// Trees under inserts and removals: their shape, their list of leaves, and what is refused.
+//! Trees under inserts and removals: their shape, their list of leaves, and what is refused.
 ghost use Rattle.art_tree.specs.Search.{HasTree};
 
 use super::matches::check_match;

@@ -1,4 +1,4 @@
-// Keys of two parts, and C strings.
+//! Keys of two parts, and C strings.
 use super::Answer::{Child, Normal, Nothing};
 use super::*;
 use crate::fixtures::c_string;

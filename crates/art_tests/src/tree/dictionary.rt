@@ -1,4 +1,4 @@
-// A tree with its arena: its entries by key, and its ends.
+//! A tree with its arena: its entries by key, and its ends.
 use super::*;
 
 // The tree of these texts, each with its number.

@@ -1,4 +1,4 @@
-// The matches of a root with a key: the cheap one, and the one with the whole prefix.
+//! The matches of a root with a key: the cheap one, and the one with the whole prefix.
 ghost use Rattle.art_tree.specs.Search.{HasTree};
 
 use super::*;

@@ -1,4 +1,4 @@
-// Searches, whatever the nodes store of their prefixes.
+//! Searches, whatever the nodes store of their prefixes.
 ghost use Rattle.art_tree.specs.Search.{HasTree};
 
 use super::Answer::{Child, Normal, Nothing, Root};

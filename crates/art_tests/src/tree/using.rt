@@ -1,5 +1,5 @@
-// How a crate uses `art_tree`: values that are loaded once and read by key, and values that are put
-// into a tree and taken out of it.
+//! How a crate uses `art_tree`: values that are loaded once and read by key, and values that are put
+//! into a tree and taken out of it.
 ghost use Rattle.std.specs.Prelude.{◌≡◌, ◌≢◌, ◌↔◌, [], None, IsNone, IsTrue, IfSome, IfErr};
 ghost use Rattle.art_tree.specs.Dictionary.{entry_at, IsEntry};
 ghost use Rattle.art_tree.specs.Search.{HasTree, EachTree, scan};

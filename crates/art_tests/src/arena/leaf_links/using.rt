@@ -1,4 +1,4 @@
-// How a crate uses `art_arena`: leaves are linked by ascending key, and walked in that order.
+//! How a crate uses `art_arena`: leaves are linked by ascending key, and walked in that order.
 ghost use Rattle.std.specs.Prelude.{◌≡◌, ◌≢◌, ◌++◌, ◌∷◌, [], List};
 ghost use Rattle.std.specs.declared.cmp.Ordering.TheVariants.{Less};
 ghost use Rattle.art_bytes.specs.Text.{text_order};
