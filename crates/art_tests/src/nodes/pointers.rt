@@ -21,17 +21,16 @@ fn is_one_kind(rt: &impl Abort, pointer: Pointer, place: usize) {
     }
 }
 
-#[test]
-fn pointers_know_their_kind_and_go_there_and_back(rt: HostRuntime) {
+fn know_their_kind(rt: &impl Abort) {
     let four = NodePtr::<16, InnerNode4<u8, u8, 16>>::from_key(5);
-    is_one_kind(&rt, four.to_opaque(), 0);
+    is_one_kind(rt, four.to_opaque(), 0);
     let sixteen = NodePtr::<16, InnerNode16<u8, u8, 16>>::from_key(5);
-    is_one_kind(&rt, sixteen.to_opaque(), 1);
+    is_one_kind(rt, sixteen.to_opaque(), 1);
     let many = NodePtr::<16, InnerNode48<u8, u8, 16>>::from_key(5);
-    is_one_kind(&rt, many.to_opaque(), 2);
+    is_one_kind(rt, many.to_opaque(), 2);
     let all = NodePtr::<16, InnerNodeDirect<u8, u8, 16>>::from_key(5);
-    is_one_kind(&rt, all.to_opaque(), 3);
-    is_one_kind(&rt, leaf(5), 4);
+    is_one_kind(rt, all.to_opaque(), 3);
+    is_one_kind(rt, leaf(5), 4);
     assert!(rt; four.to_opaque() != leaf(5));
     assert!(rt; four.to_opaque() != sixteen.to_opaque());
     assert!(rt; four == NodePtr::from_key(5));
@@ -46,7 +45,9 @@ fn pointers_know_their_kind_and_go_there_and_back(rt: HostRuntime) {
     assert!(rt;
         Pointer::default() == NodePtr::<16, InnerNode4<u8, u8, 16>>::from_key(0).to_opaque()
     );
+}
 
+fn go_there_and_back(rt: &impl Abort) {
     let four = NodePtr::<16, InnerNode4<u8, u8, 16>>::from_key(4);
     let sixteen = NodePtr::<16, InnerNode16<u8, u8, 16>>::from_key(16);
     let many = NodePtr::<16, InnerNode48<u8, u8, 16>>::from_key(48);
@@ -58,8 +59,8 @@ fn pointers_know_their_kind_and_go_there_and_back(rt: HostRuntime) {
     let copied = by_kind;
     assert!(rt; by_kind.to_opaque() == four.to_opaque());
     assert!(rt; copied.to_opaque() == four.to_opaque());
-    let fifth = NodePtr::<16, InnerNode4<u8, u8, 16>>::from_key(5);
-    assert!(rt; copied.to_opaque() != ConcreteNodePtr::from(fifth).to_opaque());
+    let other = NodePtr::<16, InnerNode4<u8, u8, 16>>::from_key(5);
+    assert!(rt; copied.to_opaque() != ConcreteNodePtr::from(other).to_opaque());
     assert!(rt; ConcreteNodePtr::from(sixteen).to_opaque() == sixteen.to_opaque());
     assert!(rt; ConcreteNodePtr::from(many).to_opaque() == many.to_opaque());
     assert!(rt; ConcreteNodePtr::from(all).to_opaque() == all.to_opaque());
@@ -70,4 +71,10 @@ fn pointers_know_their_kind_and_go_there_and_back(rt: HostRuntime) {
     let inner = ConcreteInnerNodePtr::from(all);
     assert!(rt; inner.to_opaque() == all.to_opaque());
     assert!(rt; ConcreteNodePtr::from(inner).to_opaque() == all.to_opaque());
+}
+
+#[test]
+fn pointers_know_their_kind_and_go_there_and_back(rt: HostRuntime) {
+    know_their_kind(&rt);
+    go_there_and_back(&rt);
 }
