@@ -33,6 +33,25 @@ fn value_of<'a, K: AsBytes, V, const PREFIX_LEN: usize>(
     Some(arena.as_value_ref(leaf))
 }
 
+/// Changes the value under a key in place, if the key is there. The tree stands on.
+fn set_value<K: AsBytes, V: Drop, const PREFIX_LEN: usize>(
+    arena: &mut NodeArena<K, V, PREFIX_LEN>,
+    root: OpaqueNodePtr<K, V, PREFIX_LEN>,
+    key: &[u8],
+    value: V,
+) -> bool
+    requires { HasTree K.text arena.old root }
+    ensures { HasTree K.text arena.new root }
+{
+    laws::trees_stand_where_texts_are_kept::<K, V, PREFIX_LEN>();
+    let mut reader = ArenaReader::with_budget(arena, key.len() + 1);
+    let Some((leaf, _)) = find_leaf(&mut reader, root, key) else {
+        return false;
+    };
+    *arena.as_value_mut(leaf) = value;
+    true
+}
+
 /// Puts a value under a key. Where that is answered, the key's text has this entry.
 fn put<K: AsBytes + Drop, V: Drop, const PREFIX_LEN: usize>(
     tree: &mut ArtTree<K, V, PREFIX_LEN>,
@@ -64,6 +83,8 @@ fn metals_are_read_by_name_and_one_comes_and_goes(rt: HostRuntime) -> Result<(),
     let mut arena = NodeArena::<String, u8, 16>::new(alloc);
     let root = table(alloc, &mut arena, entries).ok_or("not loaded")?;
     assert!(rt; value_of(&arena, root, b"iron") == Some(&26));
+    assert!(rt; set_value(&mut arena, root, b"gold", 197));
+    assert!(rt; value_of(&arena, root, b"gold") == Some(&197));
     assert!(rt; value_of(&arena, root, b"iro").is_none());
 
     let mut tree = ArtTree::<String, u8, 16>::new(alloc);
@@ -85,9 +106,6 @@ fn put_apart<K: NoPrefixesBytes + Drop, V: Drop, const PREFIX_LEN: usize>(
     ensures { IfErr result (λ fault. fault.refusal ≢ Prefix) }
 {
     laws::keys_without_prefixes_never_clash::<K, V, PREFIX_LEN>();
-    // These two tell that the laws of keys speak of the tree's keys, and of this one.
-    let _ = tree.arena();
-    let _ = key.as_bytes();
     tree.insert(key, value)
 }
 

@@ -10,5 +10,5 @@ pub returns : goal.returns
 returns g c =
     let text = g.K.AsBytes.text in
     let arena = c.args.tree.now.arena in
-    let free = c.keys_without_prefixes_never_clash.ensures.entries arena c.args.key c.arena.ensures.keys c.as_bytes.ensures.key in
+    let free = c.keys_without_prefixes_never_clash.ensures.entries arena c.args.key c.insert.ensures.are_keys c.insert.ensures.is_key in
     each-error (λ fault. IsRefused text arena (text c.args.key) fault.refusal) _ (λ fault due is. free (subst (IsRefused text arena (text c.args.key)) is due).1) c.insert.result c.insert.ensures.refusal_due
