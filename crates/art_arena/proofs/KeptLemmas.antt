@@ -78,12 +78,15 @@ module _ {K V : Type 0} {P : ℕ} (old new : ArenaOf K V P) where
   module _ (key : ℕ) (was now : LeafNode K V P) (found : leaf_at old key ≡ Some was) (changes : Changes old new (pointer_to kinds.Leaf key) (HeldLeaf now)) (same_previous : previous_key now ≡ previous_key was) (same_next : next_key now ≡ next_key was) where
     spelled_on : (before : Option ℕ) (keys : List ℕ) → SpellsAfter old before keys → SpellsAfter new before keys
     spelled_on before [] spelled = tt
-    spelled_on before (at ∷ keys) ((leaf, there, previous, next), rest) = (elim (cases_eq at key) [
+    spelled_on before (at ∷ keys) ((leaf, there, previous, next), rest) = (
+      elim (cases_eq at key) [
         | inl same ↦
             let one : leaf ≡ was = same_Some _ _ (sym there ∙ ap (leaf_at old) same ∙ found) in
             (now, ap (leaf_at new) same ∙ leaf_at-changed old new key now changes, same_previous ∙ ap previous_key (sym one) ∙ previous, same_next ∙ ap next_key (sym one) ∙ next)
         | inr differ ↦ (leaf, leaf_at-other old new key (HeldLeaf now) changes at differ ∙ there, previous, next)
-      ], spelled_on (Some at) keys rest)
+      ],
+      spelled_on (Some at) keys rest,
+    )
 
     pub spells-exchanged : (keys : List ℕ) → Spells old keys → Spells new keys
     spells-exchanged keys spells = record { distinct = spells.distinct; spelled = spelled_on None keys spells.spelled }
