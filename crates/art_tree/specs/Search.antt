@@ -73,7 +73,8 @@ module _ {K V : Type 0} {P : ℕ} where
   abbrev pub HasChildAt : ArenaOf K V P → OpaqueNodePtr K V P → ℕ → OpaqueNodePtr K V P → Type 0
   HasChildAt arena parent byte child = (node : nodes.Inner (OpaqueNodePtr K V P)) × (held arena parent ≡ HeldInner node) × (child_at node.children byte ≡ Some child)
 
-  -- the path is one from the root to the leaf at this pointer, by the nodes that an arena holds
+  -- the arena holds the path's nodes, each with the one below, the last one with the leaf, under the path's
+  -- byte; a path of one step begins at the root, and one of none is the root itself
   abbrev pub LeadsTo : ArenaOf K V P → OpaqueNodePtr K V P → TreePath K V P → OpaqueNodePtr K V P → Type 0
   LeadsTo arena root Root leaf = root ≡ leaf
   LeadsTo arena root (ChildOfRoot parent byte) leaf = (parent ≡ root) × HasChildAt arena parent byte leaf

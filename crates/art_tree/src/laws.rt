@@ -37,7 +37,7 @@ pub fn the_same_texts_make_the_same_tree<H, L>()
 
 /// Two trees that are the same but for their pointers, each snug where it stands, are of the same kinds
 /// node for node. So a tree that inserts and removes made is, pointers aside, the tree that `load` makes
-/// of its entries, and takes the same room.
+/// of its entries.
 pub fn the_same_tree_has_the_same_kinds<K: AsBytes, V, const PREFIX_LEN: usize>()
     ensures { (arena other_arena : ArenaOf K V PREFIX_LEN) (tree other : _) →
         StandsIn K.text arena tree → StandsIn K.text other_arena other →
