@@ -47,7 +47,7 @@ impl<K, V, const PREFIX_LEN: usize> AnyInner<K, V, PREFIX_LEN> {
         ensures count { result ≡ length (inner_of self.now).children }
         ensures sound { IsInner PREFIX_LEN (most_children (kind_of self.now)) (inner_of self.now) }
     {
-        with_node!(self, node => node.num_children())
+        self.header().num_children()
     }
 
     pub(crate) fn node_type(&self) -> NodeType
