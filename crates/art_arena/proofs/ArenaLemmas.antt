@@ -66,11 +66,11 @@ Changes-prefix {old = old} {new = new} {at = at} {there = there} {node = node} h
     let same_node : there ≡ node = search rules in
     subst (λ p. Changes old new p (HeldInner (with_prefix node header))) same (subst (λ n. Changes old new at (HeldInner n)) (made ∙ ap (λ n. with_prefix n header) same_node) changes)
 
--- the node at a pointer is sound for the kind of the pointer, as the pointer's caller names it
-pub IsInner-held : {K V : Type 0} {P : ℕ} (arena : ArenaOf K V P) {at pointer : OpaqueNodePtr K V P} {there node : Inner (OpaqueNodePtr K V P)} → at ≡ pointer → held arena at ≡ HeldInner there → IsInner P (most_children (node_kind at)) there → held arena pointer ≡ HeldInner node → IsInner P (most_children (node_kind pointer)) node
-IsInner-held {P = P} arena {at = at} {there = there} {node = node} same held_there sound is =
+-- a node that is sound for the kind of its pointer is the one that is held there
+pub IsInner-held : {K V : Type 0} {P : ℕ} (arena : ArenaOf K V P) (pointer : OpaqueNodePtr K V P) {kind : NodeType} {there node : Inner (OpaqueNodePtr K V P)} → kind ≡ node_kind pointer → held arena pointer ≡ HeldInner there → IsInner P (most_children kind) there → held arena pointer ≡ HeldInner node → IsInner P (most_children (node_kind pointer)) node
+IsInner-held {P = P} arena pointer {kind = kind} {there = there} {node = node} same held_there sound is =
     let same_node : there ≡ node = search rules in
-    subst (λ p. IsInner P (most_children (node_kind p)) node) same (subst (IsInner P (most_children (node_kind at))) same_node sound)
+    subst (λ kind. IsInner P (most_children kind) node) same (subst (IsInner P (most_children kind)) same_node sound)
 
 -- room made in a slab is room of the arena for the kind
 pub made_room : {T E : Type 0} (result : Result Unit E) (slab : Slab T) (additional : ℕ) → OnOk result (HasRoomFor slab additional) → OnOk result (additional ≤ slab_room slab)

@@ -563,12 +563,12 @@ impl<K, V, const PREFIX_LEN: usize> NodeArena<K, V, PREFIX_LEN> {
         ensures sound { (node : _) → held self.now pointer ≡ HeldInner node →
             IsInner PREFIX_LEN (most_children (node_kind pointer)) node }
     {
-        match pointer.to_node_ptr() {
-            ConcreteNodePtr::Node4(node) => Some(self.as_ref(node).header()),
-            ConcreteNodePtr::Node16(node) => Some(self.as_ref(node).header()),
-            ConcreteNodePtr::Node48(node) => Some(self.as_ref(node).header()),
-            ConcreteNodePtr::Node256(node) => Some(self.as_ref(node).header()),
-            ConcreteNodePtr::LeafNode(_) => None,
+        match self.node_ref(pointer) {
+            AnyRef::Node4(node) => Some(node.header()),
+            AnyRef::Node16(node) => Some(node.header()),
+            AnyRef::Node48(node) => Some(node.header()),
+            AnyRef::Node256(node) => Some(node.header()),
+            AnyRef::LeafNode(_) => None,
         }
     }
 
@@ -608,8 +608,8 @@ impl<K, V, const PREFIX_LEN: usize> NodeArena<K, V, PREFIX_LEN> {
         }
     }
 
-    // The node at a pointer.
-    pub(crate) fn node_ref(
+    /// The node at a pointer, of whichever kind. The pointer has to be held.
+    pub fn node_ref(
         &self,
         pointer: OpaqueNodePtr<K, V, PREFIX_LEN>,
     ) -> NodeRef<'_, K, V, PREFIX_LEN>

@@ -10,8 +10,9 @@ ghost use Rattle.art_arena.specs.Standing.{TreeAt};
 ghost use Rattle.art_arena.specs.Trees.{leaves};
 
 use crate::arena::NodeArena;
+use crate::reader::AnyRef;
 use art_bytes::AsBytes;
-use art_nodes::{ConcreteNodePtr, InnerNodeCommon, LeafNode, NodePtr, OpaqueNodePtr};
+use art_nodes::{InnerNodeCommon, LeafNode, NodePtr, OpaqueNodePtr};
 
 /// One end of the leaves of a tree.
 #[derive(Clone, Copy)]
@@ -51,12 +52,12 @@ fn step_to_end<K, V, const PREFIX_LEN: usize>(
         (end_pair end node.children ≡ Some (byte, child))) }
     ensures leaf { IfErr result (λ leaf. pointer ≡ opaque_pointer Leaf (slab_key leaf)) }
 {
-    match pointer.to_node_ptr() {
-        ConcreteNodePtr::Node4(node) => Ok(end_child(arena.as_ref(node), end)),
-        ConcreteNodePtr::Node16(node) => Ok(end_child(arena.as_ref(node), end)),
-        ConcreteNodePtr::Node48(node) => Ok(end_child(arena.as_ref(node), end)),
-        ConcreteNodePtr::Node256(node) => Ok(end_child(arena.as_ref(node), end)),
-        ConcreteNodePtr::LeafNode(leaf) => Err(leaf),
+    match arena.node_ref(pointer) {
+        AnyRef::Node4(node) => Ok(end_child(node, end)),
+        AnyRef::Node16(node) => Ok(end_child(node, end)),
+        AnyRef::Node48(node) => Ok(end_child(node, end)),
+        AnyRef::Node256(node) => Ok(end_child(node, end)),
+        AnyRef::LeafNode(_) => Err(pointer.cast().unwrap()),
     }
 }
 
