@@ -5,6 +5,7 @@ use Rattle.std.proofs.Math.Seq.{take-append-add}
 use Rattle.std.proofs.lemmas.List.{take_all, take-take, take-append-le, length-take-le}
 use Rattle.art_header.specs.Header.{Header, capped, with_more, StandsFor}
 use Rattle.art_header.specs.NodeType.{least_children, shrunk_kind}
+use Rattle.art_header.specs.declared.node_type.NodeType.{NodeType}
 use Rattle.art_header.specs.declared.node_type.NodeType.TheVariants as kinds
 use Rattle.art_nodes.specs.ChildMap.{ChildMap, child_at, without_child}
 use Rattle.art_nodes.specs.Inner.{Inner, node_without_child}
@@ -111,23 +112,20 @@ module _ {K V : Type 0} {P : ℕ} where
         others = λ other not_new not_old. given_up.others other not_old ∙ made_there.others other not_new;
       })
 
-  -- a node that is given up for one of a smaller kind, however its pointer is named
-  module _ (old : ArenaOf K V P) {at pointer : OpaqueNodePtr K V P} (same : at ≡ pointer) where
-    pub held-there : held old pointer ≢ Nothing → held old at ≢ Nothing
-    held-there was = subst (λ p. held old p ≢ Nothing) (sym same) was
+  -- a node of a kind that is given up for one of the next smaller kind
+  module _ (old : ArenaOf K V P) (pointer : OpaqueNodePtr K V P) {kind : NodeType} (is_kind : node_kind pointer ≡ kind) where
+    pub smaller-room : 0 < room old (shrunk_kind (node_kind pointer)) → 0 < room old (shrunk_kind kind)
+    smaller-room has = subst (λ kind. 0 < room old (shrunk_kind kind)) is_kind has
 
-    pub smaller-room : 0 < room old (shrunk_kind (node_kind pointer)) → 0 < room old (shrunk_kind (node_kind at))
-    smaller-room has = subst (λ p. 0 < room old (shrunk_kind (node_kind p))) (sym same) has
-
-    module _ {there : Inner (OpaqueNodePtr K V P)} (here : held old at ≡ HeldInner there) where
-      pub few-there : ((node : Inner (OpaqueNodePtr K V P)) → held old pointer ≡ HeldInner node → length node.children < least_children (node_kind pointer)) → length there.children < least_children (node_kind at)
-      few-there few = subst (λ p. length there.children < least_children (node_kind p)) (sym same) (few there (ap (held old) (sym same) ∙ here))
+    module _ {there : Inner (OpaqueNodePtr K V P)} (here : held old pointer ≡ HeldInner there) where
+      pub few-there : ((node : Inner (OpaqueNodePtr K V P)) → held old pointer ≡ HeldInner node → length node.children < least_children (node_kind pointer)) → length there.children < least_children kind
+      few-there few = subst (λ kind. length there.children < least_children kind) is_kind (few there here)
 
       pub replaced-there : {new : ArenaOf K V P} {node shrunk : Inner (OpaqueNodePtr K V P)} {to : OpaqueNodePtr K V P} → shrunk ≡ there → held old pointer ≡ HeldInner node
-          → IsReplaced old new at (shrunk_kind (node_kind at)) shrunk to → IsReplaced old new pointer (shrunk_kind (node_kind pointer)) node to
+          → IsReplaced old new pointer (shrunk_kind kind) shrunk to → IsReplaced old new pointer (shrunk_kind (node_kind pointer)) node to
       replaced-there {new = new} {node = node} {to = to} shrinks is is_replaced =
-          let one = shrinks ∙ one-inner (held old at) there node here (ap (held old) same ∙ is) in
-          subst (λ p. IsReplaced old new p (shrunk_kind (node_kind p)) node to) same (subst (λ n. IsReplaced old new at (shrunk_kind (node_kind at)) n to) one is_replaced)
+          let one = shrinks ∙ one-inner (held old pointer) there node here is in
+          subst (λ kind. IsReplaced old new pointer (shrunk_kind kind) node to) (sym is_kind) (subst (λ n. IsReplaced old new pointer (shrunk_kind kind) n to) one is_replaced)
 
   -- a node from which a child is taken in its place
   module _ (old mid : ArenaOf K V P) (pointer : OpaqueNodePtr K V P) (byte : ℕ) (was : held old pointer ≢ Nothing) (inner : node_kind pointer ≢ kinds.Leaf)

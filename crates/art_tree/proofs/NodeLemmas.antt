@@ -4,6 +4,7 @@ use Rattle.std.proofs.lemmas.Bool.{le-ltb, lt-ltb}
 use Rattle.std.specs.Option.{option_map, option_map_or}
 use Rattle.art_header.specs.Header.{Header}
 use Rattle.art_header.specs.NodeType.{most_children, grown_kind}
+use Rattle.art_header.specs.declared.node_type.NodeType.{NodeType}
 use Rattle.art_nodes.specs.ChildMap.{child_at, IsAscending, key_bytes}
 use Rattle.art_nodes.specs.Inner.{Inner, header_of, node_with_child}
 use Rattle.art_nodes.specs.Leaf.{leaf_key}
@@ -42,26 +43,13 @@ module _ {K V : Type 0} {P : ℕ} where
   text-of-key text None key e = absurd (cc)
   text-of-key text (Some leaf) key e = let same : leaf_key leaf ≡ key = cc in ap text same
 
-  -- the node at a pointer, however the pointer is named
-  module _ (arena : ArenaOf K V P) {at pointer : OpaqueNodePtr K V P} {there : Inner (OpaqueNodePtr K V P)} (same : at ≡ pointer) (here : held arena at ≡ HeldInner there) where
-    pub is-there : held arena pointer ≡ HeldInner there
-    is-there = ap (held arena) (sym same) ∙ here
+  -- a full node of a kind grows to one of the next, for which there is room
+  pub room-of-kind : (arena : ArenaOf K V P) (pointer : OpaqueNodePtr K V P) {kind : NodeType} (there : Inner (OpaqueNodePtr K V P)) → node_kind pointer ≡ kind → held arena pointer ≡ HeldInner there
+      → length there.children ≡ most_children (node_kind pointer) → HasRoomToGrow arena pointer → 0 < room arena (grown_kind kind)
+  room-of-kind arena pointer there is_kind here full rooms = subst (λ kind. 0 < room arena (grown_kind kind)) is_kind (rooms there here full)
 
-    same-node : {node : Inner (OpaqueNodePtr K V P)} → held arena pointer ≡ HeldInner node → there ≡ node
-    same-node {node = node} is = one-inner (held arena pointer) there node is-there is
-
-    -- what is known of a node of a kind is known of the node at the pointer
-    pub at-pointer : {node : Inner (OpaqueNodePtr K V P)} (Q : Inner (OpaqueNodePtr K V P) → ℕ → Type 0) → Q there (most_children (node_kind at)) → held arena pointer ≡ HeldInner node → Q node (most_children (node_kind pointer))
-    at-pointer {node = node} Q known is = subst (λ p. Q node (most_children (node_kind p))) same (subst (λ n. Q n (most_children (node_kind at))) (same-node is) known)
-
-    -- a full node, as its own kind says it
-    pub full-there : ((node : Inner (OpaqueNodePtr K V P)) → held arena pointer ≡ HeldInner node → length node.children ≡ most_children (node_kind pointer)) → length there.children ≡ most_children (node_kind at)
-    full-there full = subst (λ p. length there.children ≡ most_children (node_kind p)) (sym same) (full there is-there)
-
-    pub room-there : HasRoomToGrow arena pointer → length there.children ≡ most_children (node_kind at) → 0 < room arena (grown_kind (node_kind at))
-    room-there rooms full = subst (λ p. 0 < room arena (grown_kind (node_kind p))) (sym same) (rooms there is-there (subst (λ p. length there.children ≡ most_children (node_kind p)) same full))
-
-    pub moved-there : {new : ArenaOf K V P} {node grown : Inner (OpaqueNodePtr K V P)} {to : OpaqueNodePtr K V P} (byte : ℕ) (child : OpaqueNodePtr K V P) → grown ≡ there → held arena pointer ≡ HeldInner node
-        → IsMoved arena new at grown (node_with_child grown byte child) to → IsMoved arena new pointer node (node_with_child node byte child) to
-    moved-there {new = new} {node = node} {to = to} byte child grows is is_moved =
-        subst (λ p. IsMoved arena new p node (node_with_child node byte child) to) same (subst (λ n. IsMoved arena new at n (node_with_child n byte child) to) (grows ∙ same-node is) is_moved)
+  -- the node that grew is the one that was held
+  pub moved-there : (arena new : ArenaOf K V P) (pointer : OpaqueNodePtr K V P) {there node grown : Inner (OpaqueNodePtr K V P)} {to : OpaqueNodePtr K V P} (byte : ℕ) (child : OpaqueNodePtr K V P) → held arena pointer ≡ HeldInner there
+      → grown ≡ there → held arena pointer ≡ HeldInner node → IsMoved arena new pointer grown (node_with_child grown byte child) to → IsMoved arena new pointer node (node_with_child node byte child) to
+  moved-there arena new pointer {there = there} {node = node} {to = to} byte child here grows is is_moved =
+      subst (λ n. IsMoved arena new pointer n (node_with_child n byte child) to) (grows ∙ one-inner (held arena pointer) there node here is) is_moved

@@ -30,9 +30,9 @@ use crate::laws::{
     each_pointer_is_at_one_place, lists_are_spelled_where_links_are_kept, no_text_begins_another,
     texts_ascend, trees_stand_where_texts_are_kept,
 };
-use art_arena::{End, NodeArena, end_leaf};
+use art_arena::{AnyRef, End, NodeArena, end_leaf};
 use art_bytes::AsBytes;
-use art_nodes::{ConcreteNodePtr, InnerNodeCommon, LeafNode, NodePtr, NodeType, OpaqueNodePtr};
+use art_nodes::{InnerNodeCommon, LeafNode, NodePtr, NodeType, OpaqueNodePtr};
 use std::alloc::AllocError;
 use std::ops::Bound;
 
@@ -124,12 +124,12 @@ fn child_above<K, V, const PREFIX_LEN: usize>(
     ensures { (node : Inner _) → held arena.now pointer ≡ HeldInner node → result ≡ option_map
         (λ pair. pair.1) (first_pair (pairs_within node.children (Excluded byte) Unbounded)) }
 {
-    match pointer.to_node_ptr() {
-        ConcreteNodePtr::Node4(node) => child_above_in(arena.as_ref(node), byte),
-        ConcreteNodePtr::Node16(node) => child_above_in(arena.as_ref(node), byte),
-        ConcreteNodePtr::Node48(node) => child_above_in(arena.as_ref(node), byte),
-        ConcreteNodePtr::Node256(node) => child_above_in(arena.as_ref(node), byte),
-        ConcreteNodePtr::LeafNode(_) => None,
+    match arena.node_ref(pointer) {
+        AnyRef::Node4(node) => child_above_in(node, byte),
+        AnyRef::Node16(node) => child_above_in(node, byte),
+        AnyRef::Node48(node) => child_above_in(node, byte),
+        AnyRef::Node256(node) => child_above_in(node, byte),
+        AnyRef::LeafNode(_) => None,
     }
 }
 

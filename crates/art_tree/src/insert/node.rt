@@ -6,7 +6,7 @@ ghost use Rattle.art_header.specs.declared.node_type.NodeType.TheVariants.{Leaf,
 ghost use Rattle.art_nodes.specs.ChildMap.{child_at};
 ghost use Rattle.art_nodes.specs.Inner.{Inner, HasRoomFor, header_of, node_with_child};
 ghost use Rattle.art_nodes.specs.Pointers.{node_kind, slab_key};
-ghost use Rattle.art_arena.specs.Arena.{held, HeldInner, Nothing, pointer_to, room, Changes, SameNodes, SameRoom};
+ghost use Rattle.art_arena.specs.Arena.{held, HeldInner, Nothing, room, Changes, SameNodes, SameRoom};
 ghost use Rattle.art_arena.specs.Links.{HoldsLeaf, text_at};
 ghost use Rattle.art_tree.specs.Edits.{HasOneMore, HasRoomToGrow, IsMoved, node_with_prefix};
 ghost use Rattle.art_tree.specs.Raising.{node_of, IsPlaced};
@@ -16,7 +16,7 @@ ghost use Rattle.art_tree.specs.Taking.{two_children};
 use crate::insert::place::Fork;
 use crate::loading::raise::place_as;
 use crate::remove::node::{num_children, replace_node};
-use art_arena::{ArenaInnerNode, ArenaNode, NodeArena};
+use art_arena::{AnyRef, ArenaInnerNode, NodeArena};
 use art_bytes::AsBytes;
 use art_nodes::{
     ConcreteNodePtr, InnerNode, InnerNode4, InnerNodeCommon, LeafNode, Node, NodePtr, NodeType,
@@ -92,21 +92,21 @@ fn move_to<
     K,
     V,
     const PREFIX_LEN: usize,
-    N: ArenaNode<K, V, PREFIX_LEN> + Drop,
     G: ArenaInnerNode<K, V, PREFIX_LEN> + Node<PREFIX_LEN, Key = K, Value = V>,
 >(
     arena: &mut NodeArena<K, V, PREFIX_LEN>,
-    pointer: NodePtr<PREFIX_LEN, N>,
+    pointer: OpaqueNodePtr<K, V, PREFIX_LEN>,
     mut grown: G,
     byte: u8,
     child: OpaqueNodePtr<K, V, PREFIX_LEN>,
 ) -> OpaqueNodePtr<K, V, PREFIX_LEN>
-    requires kind { G.TYPE ≡ grown_kind N.TYPE }
-    requires held { held arena.old (pointer_to N.TYPE (slab_key pointer)) ≢ Nothing }
-    requires full { length (G.inner grown).children ≡ most_children N.TYPE }
+    requires kind { G.TYPE ≡ grown_kind (node_kind pointer) }
+    requires held { held arena.old pointer ≢ Nothing }
+    requires inner { node_kind pointer ≢ Leaf }
+    requires full { length (G.inner grown).children ≡ most_children (node_kind pointer) }
     requires has_room { HasRoomFor G.room (G.inner grown) byte }
     requires room { 0 < room arena.old G.TYPE }
-    ensures { IsMoved arena.old arena.new (pointer_to N.TYPE (slab_key pointer))
+    ensures { IsMoved arena.old arena.new pointer
         (G.inner grown) (node_with_child (G.inner grown) byte child) result }
 {
     grown.write_child(byte, child);
@@ -132,25 +132,25 @@ fn grow_child<K, V, const PREFIX_LEN: usize>(
     ensures { (node : Inner _) → held arena.old pointer ≡ HeldInner node →
         IsMoved arena.old arena.new pointer node (node_with_child node byte child) result }
 {
-    match pointer.to_node_ptr() {
-        ConcreteNodePtr::Node4(node) => {
-            let grown = arena.as_ref(node).grow();
-            move_to(arena, node, grown, byte, child)
+    match arena.node_ref(pointer) {
+        AnyRef::Node4(node) => {
+            let grown = node.grow();
+            move_to(arena, pointer, grown, byte, child)
         }
-        ConcreteNodePtr::Node16(node) => {
-            let grown = arena.as_ref(node).grow();
-            move_to(arena, node, grown, byte, child)
+        AnyRef::Node16(node) => {
+            let grown = node.grow();
+            move_to(arena, pointer, grown, byte, child)
         }
-        ConcreteNodePtr::Node48(node) => {
-            let grown = arena.as_ref(node).grow();
-            move_to(arena, node, grown, byte, child)
+        AnyRef::Node48(node) => {
+            let grown = node.grow();
+            move_to(arena, pointer, grown, byte, child)
         }
         // A node of 256 children has one under every byte.
-        ConcreteNodePtr::Node256(node) => {
-            prove!(arena.as_ref(node).num_children() < 256);
+        AnyRef::Node256(node) => {
+            prove!(node.num_children() < 256);
             unreachable!()
         }
-        ConcreteNodePtr::LeafNode(_) => unreachable!(),
+        AnyRef::LeafNode(_) => unreachable!(),
     }
 }
 

@@ -5,11 +5,9 @@ ghost use Rattle.art_tree.specs.Places.{Belongs, IsSpotIn};
 ghost use Rattle.art_tree.specs.Search.{HasTree, EachTree, leaf_pointer};
 
 use art_arena::laws::path_and_prefix_are_shared;
-use art_arena::{FullPrefix, NodeArena};
+use art_arena::{AnyRef, FullPrefix, NodeArena};
 use art_bytes::AsBytes;
-use art_nodes::{
-    ConcreteNodePtr, InnerNodeCommon, LeafNode, NodePtr, OpaqueNodePtr, common_front_len,
-};
+use art_nodes::{InnerNodeCommon, LeafNode, NodePtr, OpaqueNodePtr, common_front_len};
 
 /// A node of a tree: how many bytes lead to it, and the inner node that it hangs under, with the byte.
 #[derive_where(Clone, Copy)]
@@ -106,12 +104,12 @@ fn next_spot<K: AsBytes, V, const PREFIX_LEN: usize>(
     ensures place { (tree : _) → IsSpotIn K.text arena.now tree key.now spot →
         IfErr result (Belongs tree key.now) }
 {
-    match spot.node.to_node_ptr() {
-        ConcreteNodePtr::Node4(node) => step(arena, arena.as_ref(node), spot, key),
-        ConcreteNodePtr::Node16(node) => step(arena, arena.as_ref(node), spot, key),
-        ConcreteNodePtr::Node48(node) => step(arena, arena.as_ref(node), spot, key),
-        ConcreteNodePtr::Node256(node) => step(arena, arena.as_ref(node), spot, key),
-        ConcreteNodePtr::LeafNode(leaf) => Err(place_at_leaf(arena, leaf, spot, key)),
+    match arena.node_ref(spot.node) {
+        AnyRef::Node4(node) => step(arena, node, spot, key),
+        AnyRef::Node16(node) => step(arena, node, spot, key),
+        AnyRef::Node48(node) => step(arena, node, spot, key),
+        AnyRef::Node256(node) => step(arena, node, spot, key),
+        AnyRef::LeafNode(_) => Err(place_at_leaf(arena, spot.node.cast().unwrap(), spot, key)),
     }
 }
 

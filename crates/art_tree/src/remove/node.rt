@@ -10,7 +10,7 @@ ghost use Rattle.art_arena.specs.Arena.{held, HeldInner, Nothing, pointer_to, ro
 ghost use Rattle.art_tree.specs.Cuts.{HasOneLess, HasRoomToShrink};
 ghost use Rattle.art_tree.specs.Edits.{IsReplaced, node_with_prefix};
 
-use art_arena::{ArenaInnerNode, ArenaNode, NodeArena};
+use art_arena::{AnyRef, ArenaInnerNode, ArenaNode, NodeArena};
 use art_nodes::{
     ConcreteNodePtr, InnerNode, InnerNodeCommon, Node, NodePtr, NodeType, OpaqueNodePtr,
 };
@@ -73,12 +73,12 @@ pub(crate) fn other_child<K, V, const PREFIX_LEN: usize>(
     ensures { (node : Inner _) → held arena.now pointer ≡ HeldInner node →
         first_pair (without_child node.children byte) ≡ Some result }
 {
-    match pointer.to_node_ptr() {
-        ConcreteNodePtr::Node4(node) => least_other(arena.as_ref(node), byte),
-        ConcreteNodePtr::Node16(node) => least_other(arena.as_ref(node), byte),
-        ConcreteNodePtr::Node48(node) => least_other(arena.as_ref(node), byte),
-        ConcreteNodePtr::Node256(node) => least_other(arena.as_ref(node), byte),
-        ConcreteNodePtr::LeafNode(_) => unreachable!(),
+    match arena.node_ref(pointer) {
+        AnyRef::Node4(node) => least_other(node, byte),
+        AnyRef::Node16(node) => least_other(node, byte),
+        AnyRef::Node48(node) => least_other(node, byte),
+        AnyRef::Node256(node) => least_other(node, byte),
+        AnyRef::LeafNode(_) => unreachable!(),
     }
 }
 
@@ -136,27 +136,26 @@ fn cut_child<K, V, const PREFIX_LEN: usize>(
     }
 }
 
-/// Gives up the node at the pointer for this one of another kind, and answers where that is.
+/// Gives up the inner node at the pointer for this one of another kind, and answers where that is.
 // Kept out of its caller, whose stack would have the nodes of each kind several times.
 #[inline(never)]
 pub(crate) fn replace_node<
     K,
     V,
     const PREFIX_LEN: usize,
-    N: ArenaNode<K, V, PREFIX_LEN> + Drop,
     R: ArenaInnerNode<K, V, PREFIX_LEN> + Node<PREFIX_LEN, Key = K, Value = V>,
 >(
     arena: &mut NodeArena<K, V, PREFIX_LEN>,
-    pointer: NodePtr<PREFIX_LEN, N>,
+    pointer: OpaqueNodePtr<K, V, PREFIX_LEN>,
     node: R,
 ) -> OpaqueNodePtr<K, V, PREFIX_LEN>
-    requires held { held arena.old (pointer_to N.TYPE (slab_key pointer)) ≢ Nothing }
+    requires held { held arena.old pointer ≢ Nothing }
+    requires inner { node_kind pointer ≢ Leaf }
     requires room { 0 < room arena.old R.TYPE }
-    ensures { IsReplaced arena.old arena.new (pointer_to N.TYPE (slab_key pointer))
-        R.TYPE (R.inner node) result }
+    ensures { IsReplaced arena.old arena.new pointer R.TYPE (R.inner node) result }
 {
     let placed = arena.allocate_node_ptr(node).unwrap();
-    arena.deallocate_node_ptr(pointer);
+    give_up(arena, pointer);
     placed.to_opaque()
 }
 
@@ -177,20 +176,20 @@ fn shrink_node<K, V, const PREFIX_LEN: usize>(
     ensures { (node : Inner _) → held arena.old pointer ≡ HeldInner node →
         IsReplaced arena.old arena.new pointer (shrunk_kind (node_kind pointer)) node result }
 {
-    match pointer.to_node_ptr() {
-        ConcreteNodePtr::Node16(node) => {
-            let shrunk = arena.as_ref(node).shrink();
-            replace_node(arena, node, shrunk)
+    match arena.node_ref(pointer) {
+        AnyRef::Node16(node) => {
+            let shrunk = node.shrink();
+            replace_node(arena, pointer, shrunk)
         }
-        ConcreteNodePtr::Node48(node) => {
-            let shrunk = arena.as_ref(node).shrink();
-            replace_node(arena, node, shrunk)
+        AnyRef::Node48(node) => {
+            let shrunk = node.shrink();
+            replace_node(arena, pointer, shrunk)
         }
-        ConcreteNodePtr::Node256(node) => {
-            let shrunk = arena.as_ref(node).shrink();
-            replace_node(arena, node, shrunk)
+        AnyRef::Node256(node) => {
+            let shrunk = node.shrink();
+            replace_node(arena, pointer, shrunk)
         }
-        ConcreteNodePtr::Node4(_) | ConcreteNodePtr::LeafNode(_) => unreachable!(),
+        AnyRef::Node4(_) | AnyRef::LeafNode(_) => unreachable!(),
     }
 }
 

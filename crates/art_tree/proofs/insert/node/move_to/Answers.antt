@@ -1,7 +1,5 @@
 use Rattle.std.proofs.Common.{lit<, rules, subst}
 use Rattle.art_nodes.specs.Inner.{node_with_child}
-use Rattle.art_nodes.specs.Pointers.{slab_key}
-use Rattle.art_arena.specs.Arena.{pointer_to}
 use Rattle.art_tree.specs.Edits.{IsReplaced}
 use Rattle.art_tree.proofs.insert.node.move_to.Goals as goal
 
@@ -9,15 +7,14 @@ pub write_child-requires : goal.write_child-requires
 write_child-requires g c = (lit< tt, c.requires.has_room)
 
 pub replace_node-requires : goal.replace_node-requires
-replace_node-requires g c = (search rules, (search rules, (search rules, (search rules, (search rules, (lit< tt, (lit< tt, (c.requires.held, c.requires.room))))))))
+replace_node-requires g c = search rules
 
 pub returns : goal.returns
 returns g c =
     let old = c.args.arena.now in
     let new = c.replace_node.new.arena in
-    let at = pointer_to g.N.Node.TYPE (slab_key c.args.pointer) in
     let after = node_with_child (g.G.InnerNodeCommon.inner c.args.grown) c.args.byte c.args.child in
     record {
       full = c.requires.full;
-      replaced = subst (λ kind. IsReplaced old new at kind after c.replace_node.result) c.requires.kind (subst (λ node. IsReplaced old new at g.G.Node.TYPE node c.replace_node.result) c.write_child.ensures.written c.replace_node.ensures);
+      replaced = subst (λ kind. IsReplaced old new c.args.pointer kind after c.replace_node.result) c.requires.kind (subst (λ node. IsReplaced old new c.args.pointer g.G.Node.TYPE node c.replace_node.result) c.write_child.ensures.written c.replace_node.ensures);
     }

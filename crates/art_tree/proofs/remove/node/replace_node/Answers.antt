@@ -1,4 +1,4 @@
-use Rattle.std.proofs.Common.{◌≡◌, ◌≢◌, lit<, rules, sym, subst}
+use Rattle.std.proofs.Common.{◌≡◌, ◌≢◌, rules, sym, subst}
 use Rattle.art_nodes.specs.Pointers.{slab_key}
 use Rattle.art_arena.specs.Arena.{held, Nothing, pointer_to, Changes}
 use Rattle.art_tree.proofs.Linking.{kept-at}
@@ -6,8 +6,8 @@ use Rattle.art_tree.proofs.CutLemmas.{replaced}
 use Rattle.art_tree.proofs.Rising.{if-ok}
 use Rattle.art_tree.proofs.remove.node.replace_node.Goals as goal
 
-pub deallocate_node_ptr-requires : goal.deallocate_node_ptr-requires
-deallocate_node_ptr-requires g c =
+pub give_up-requires : goal.give_up-requires
+give_up-requires g c =
     let old = c.args.arena.now in
     let now = c.allocate_node_ptr.new.self in
     let kind = g.R.Node.TYPE in
@@ -15,25 +15,9 @@ deallocate_node_ptr-requires g c =
     let answer = c.allocate_node_ptr.result in
     let free = if-ok (λ ptr. held old (pointer_to kind (slab_key ptr)) ≡ Nothing) answer at c.unwrap-placed.ensures c.allocate_node_ptr.ensures.was_free in
     let made = if-ok (λ ptr. Changes old now (pointer_to kind (slab_key ptr)) (g.R.ArenaNode.held_as c.args.node)) answer at c.unwrap-placed.ensures c.allocate_node_ptr.ensures.added in
-    let stays = kept-at old now (pointer_to kind (slab_key at)) _ free made (pointer_to g.N.Node.TYPE (slab_key c.args.pointer)) c.requires.held in (
-      search rules,
-      (
-        search rules,
-        (
-          search rules,
-          (
-            search rules,
-            (
-              search rules,
-              (
-                lit< tt,
-                subst (λ h. h ≢ Nothing) (sym stays) c.requires.held,
-              ),
-            ),
-          ),
-        ),
-      ),
-    )
+    let stays = kept-at old now (pointer_to kind (slab_key at)) _ free made c.args.pointer c.requires.held in
+    let there : held now c.args.pointer ≢ Nothing = subst (λ h. h ≢ Nothing) (sym stays) c.requires.held in
+    search rules
 
 pub returns : goal.returns
 returns g c =
@@ -42,8 +26,8 @@ returns g c =
     let kind = g.R.Node.TYPE in
     let at = c.unwrap-placed.result in
     let answer = c.allocate_node_ptr.result in
-    replaced old now c.deallocate_node_ptr.new.self (g.R.InnerNodeCommon.inner c.args.node) c.to_opaque.ensures
+    replaced old now c.give_up.new.arena (g.R.InnerNodeCommon.inner c.args.node) c.to_opaque.ensures
     (if-ok (λ ptr. held old (pointer_to kind (slab_key ptr)) ≡ Nothing) answer at c.unwrap-placed.ensures c.allocate_node_ptr.ensures.was_free)
     c.requires.held
     (subst (Changes old now (pointer_to kind (slab_key at))) (g.met.R.ArenaInnerNode.shown c.args.node) (if-ok (λ ptr. Changes old now (pointer_to kind (slab_key ptr)) (g.R.ArenaNode.held_as c.args.node)) answer at c.unwrap-placed.ensures c.allocate_node_ptr.ensures.added))
-    c.deallocate_node_ptr.ensures.removed
+    c.give_up.ensures
