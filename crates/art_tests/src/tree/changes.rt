@@ -4,7 +4,7 @@ ghost use Rattle.art_tree.specs.Search.{HasTree};
 use super::matches::check_match;
 use super::*;
 use crate::ALL_STANDS;
-use art_tree::{ConcreteNodePtr, InsertRefusal, LeafNode, NodePtr, NodeType};
+use art_tree::{InsertRefusal, LeafNode, NodePtr, NodeType};
 use std::cmp::Ordering;
 
 type Keys = ArtTree<String, usize, 2>;
@@ -67,14 +67,12 @@ fn check_removed(
 // The child under the least byte.
 fn least_child(rt: &impl Abort, arena: &Nodes, pointer: Pointer) -> Pointer {
     assert!(rt; arena.holds_opaque(pointer));
-    let (_, child) = match pointer.to_node_ptr() {
-        ConcreteNodePtr::Node4(node) => {
-            let node = arena.as_ref(node);
+    let (_, child) = match arena.node_ref(pointer) {
+        AnyRef::Node4(node) => {
             assert!(rt; node.num_children() > 0);
             node.min()
         }
-        ConcreteNodePtr::Node16(node) => {
-            let node = arena.as_ref(node);
+        AnyRef::Node16(node) => {
             assert!(rt; node.num_children() > 0);
             node.min()
         }
@@ -152,15 +150,13 @@ fn check_inner(
 
 // The child of a Node4 under a byte.
 fn child_of(rt: &impl Abort, arena: &Nodes, pointer: Pointer, byte: u8) -> Pointer {
-    match pointer.to_node_ptr() {
-        ConcreteNodePtr::Node4(node) => {
-            assert!(rt; arena.holds(node));
-            match arena.as_ref(node).lookup_child(byte) {
-                Some(child) => child,
-                None => panic!(rt; "no child"),
-            }
-        }
-        _ => panic!(rt; "no Node4"),
+    assert!(rt; arena.holds_opaque(pointer));
+    let AnyRef::Node4(node) = arena.node_ref(pointer) else {
+        panic!(rt; "no Node4");
+    };
+    match node.lookup_child(byte) {
+        Some(child) => child,
+        None => panic!(rt; "no child"),
     }
 }
 
