@@ -66,7 +66,7 @@ Changes-prefix {old = old} {new = new} {at = at} {there = there} {node = node} h
     let same_node : there ≡ node = search rules in
     subst (λ p. Changes old new p (HeldInner (with_prefix node header))) same (subst (λ n. Changes old new at (HeldInner n)) (made ∙ ap (λ n. with_prefix n header) same_node) changes)
 
--- a node that is sound for the kind of its pointer is the one that is held there
+-- the node that is held at a pointer of a kind is sound for the pointer's own kind
 pub IsInner-held : {K V : Type 0} {P : ℕ} (arena : ArenaOf K V P) (pointer : OpaqueNodePtr K V P) {kind : NodeType} {there node : Inner (OpaqueNodePtr K V P)} → kind ≡ node_kind pointer → held arena pointer ≡ HeldInner there → IsInner P (most_children kind) there → held arena pointer ≡ HeldInner node → IsInner P (most_children (node_kind pointer)) node
 IsInner-held {P = P} arena pointer {kind = kind} {there = there} {node = node} same held_there sound is =
     let same_node : there ≡ node = search rules in
