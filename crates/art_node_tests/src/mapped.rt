@@ -1,0 +1,193 @@
+//! Values as keys: their bytes, their order, and what is read back.
+use art_bytes::AsBytes;
+use art_mapped::{
+    BytesMapping, ConcatTuple, Element, FixedBytes, Identity, IntegerForm, Mapped,
+    NoPrefixesMapping, OrderedMapping, Signed, Single, ToBigEndian, ToIBE, ToOctets, ToUBE,
+    Unsigned,
+};
+use std::alloc::{AllocError, Global};
+use std::cmp::Ordering;
+use std::net::{Ipv4Addr, Ipv6Addr};
+use std::num::{
+    NonZeroI8, NonZeroI16, NonZeroI32, NonZeroI64, NonZeroI128, NonZeroIsize, NonZeroU8,
+    NonZeroU16, NonZeroU32, NonZeroU64, NonZeroU128, NonZeroUsize,
+};
+use std::process::Abort;
+use std::test::Fail;
+
+mod callers;
+mod digits;
+mod ordered;
+mod refusals;
+mod tuples;
+mod using;
+
+/// The key of a value has these bytes.
+fn written<B: BytesMapping<D>, D>(
+    rt: &impl Abort,
+    alloc: Global,
+    value: D,
+    bytes: &[u8],
+) -> Result<(), AllocError> {
+    let key = Mapped::<B, D>::new(alloc, value)?;
+    assert!(rt; key.as_bytes() == bytes);
+    Ok(())
+}
+
+#[test]
+fn numbers_addresses_and_sequences_as_bytes(rt: HostRuntime) -> Result<(), Fail> {
+    let alloc = rt.alloc();
+    written::<ToUBE, u16>(&rt, alloc, 258, &[1, 2])?;
+    written::<ToUBE, u32>(&rt, alloc, 65536, &[0, 1, 0, 0])?;
+    written::<ToUBE, usize>(&rt, alloc, 1, &[0, 0, 0, 0, 0, 0, 0, 1])?;
+    written::<ToIBE, i16>(&rt, alloc, -1, &[127, 255])?;
+    written::<ToIBE, i16>(&rt, alloc, 0, &[128, 0])?;
+    written::<ToIBE, i8>(&rt, alloc, -128, &[0])?;
+    written::<ToIBE, i8>(&rt, alloc, 127, &[255])?;
+    written::<ToIBE, i32>(&rt, alloc, -212, &[127, 255, 255, 44])?;
+    written::<ToIBE, i32>(&rt, alloc, 212, &[128, 0, 0, 212])?;
+    written::<ToIBE, i64>(&rt, alloc, -1, &[127, 255, 255, 255, 255, 255, 255, 255])?;
+    let value = NonZeroI16::new(256).expect(&rt, "256 is not 0");
+    written::<ToIBE, NonZeroI16>(&rt, alloc, value, &[129, 0])?;
+    written::<ToOctets, Ipv4Addr>(&rt, alloc, Ipv4Addr::BROADCAST, &[255, 255, 255, 255])?;
+    let loopback = [0, 0, 0, 0, 0, 0, 0, 0, 0, 0, 0, 0, 0, 0, 0, 1];
+    written::<ToOctets, Ipv6Addr>(&rt, alloc, Ipv6Addr::LOCALHOST, &loopback)?;
+    written::<ToUBE, [u16; 2]>(&rt, alloc, [1, 256], &[0, 1, 1, 0])?;
+    let numbers: Vec<i8> = vec![in alloc; -1, 0, 1]?;
+    written::<ToIBE, Vec<i8>>(&rt, alloc, numbers, &[127, 128, 129])?;
+    Ok(())
+}
+
+/// The keys of the vectors have these bytes, and ascend.
+fn vectors_ascend<B: OrderedMapping<Vec<E>>, E: Ord + Copy>(
+    rt: &impl Abort,
+    alloc: Global,
+    vectors: &[&[E]],
+    texts: &[&[u8]],
+) -> Result<(), AllocError> {
+    let mut before: Option<Mapped<B, Vec<E>>> = None;
+    for (numbers, text) in vectors.iter().zip(texts.iter()) {
+        let key = Mapped::<B, Vec<E>>::new(alloc, numbers.to_vec(alloc)?)?;
+        assert!(rt; key.as_bytes() == *text);
+        if let Some(less) = &before {
+            assert!(rt; *less < key);
+        }
+        before = Some(key);
+    }
+    Ok(())
+}
+
+#[test]
+fn vectors_ascend_with_their_bytes(rt: HostRuntime) -> Result<(), Fail> {
+    let alloc = rt.alloc();
+    let unsigned: [&[u16]; 4] = [&[], &[0], &[0, 0], &[1]];
+    let texts: [&[u8]; 4] = [&[], &[0, 0], &[0, 0, 0, 0], &[0, 1]];
+    vectors_ascend::<ToUBE, u16>(&rt, alloc, &unsigned, &texts)?;
+    let signed: [&[i8]; 4] = [&[-128], &[-1], &[-1, 0], &[0]];
+    let texts: [&[u8]; 4] = [&[0], &[127], &[127, 128], &[128]];
+    vectors_ascend::<ToIBE, i8>(&rt, alloc, &signed, &texts)?;
+    Ok(())
+}
+
+#[test]
+fn concat_array_of_signed_integers_ord(rt: HostRuntime) -> Result<(), Fail> {
+    let alloc = rt.alloc();
+    let more = Mapped::<ToIBE, [i32; 3]>::new(alloc, [-121, 100, 0])?;
+    let less = Mapped::<ToIBE, [i32; 3]>::new(alloc, [-121, 100, -1])?;
+    assert!(rt; more.cmp(&less) == Ordering::Greater);
+    assert!(rt; more.as_bytes() > less.as_bytes());
+    Ok(())
+}
+
+/// No value has these bytes.
+fn refused<B: BytesMapping<D>, D: Drop>(
+    rt: &impl Abort,
+    alloc: Global,
+    bytes: B::Bytes,
+) -> Result<(), AllocError> {
+    assert!(rt; !B::is_value(&bytes));
+    assert!(rt; B::checked_from_bytes(alloc, bytes)?.is_none());
+    Ok(())
+}
+
+#[test]
+fn bytes_of_no_value_are_refused(rt: HostRuntime) -> Result<(), Fail> {
+    let alloc = rt.alloc();
+    refused::<ToUBE, NonZeroU16>(&rt, alloc, [0, 0])?;
+    refused::<ToIBE, NonZeroI8>(&rt, alloc, [128])?;
+    refused::<ToUBE, [u16; 2]>(&rt, alloc, vec![in alloc; 0, 1, 0]?)?;
+    refused::<ToUBE, Vec<u16>>(&rt, alloc, vec![in alloc; 1, 2, 3]?)?;
+    refused::<ToUBE, [NonZeroU8; 2]>(&rt, alloc, vec![in alloc; 7, 0]?)?;
+    let bytes: Vec<u8> = Vec::new(alloc);
+    let read = <ToUBE as BytesMapping<Vec<u16>>>::checked_from_bytes(alloc, bytes)?;
+    assert!(rt; matches!(&read, Some(numbers) if numbers.is_empty()));
+    let bytes: Vec<u8> = vec![in alloc; 7, 1]?;
+    let read = <ToUBE as BytesMapping<[NonZeroU8; 2]>>::checked_from_bytes(alloc, bytes)?;
+    assert!(rt; matches!(&read, Some([first, last]) if first.get() == 7 && last.get() == 1));
+    Ok(())
+}
+
+#[test]
+fn arrays_come_back_from_their_bytes(rt: HostRuntime) -> Result<(), Fail> {
+    let alloc = rt.alloc();
+    let bytes = <ToIBE as BytesMapping<[i16; 2]>>::to_bytes(alloc, [-1, 0])?;
+    assert!(rt; bytes.as_slice() == [127, 255, 128, 0].as_slice());
+    assert!(rt; <ToIBE as BytesMapping<[i16; 2]>>::is_value(&bytes));
+    assert!(rt; <ToIBE as BytesMapping<[i16; 2]>>::from_bytes(alloc, bytes)? == [-1, 0]);
+    Ok(())
+}
+
+#[test]
+fn long_vectors_come_back(rt: HostRuntime) -> Result<(), Fail> {
+    let alloc = rt.alloc();
+    let mut numbers = Vec::new(alloc);
+    for number in 0..1000u16 {
+        numbers.push(number)?;
+    }
+    let key = Mapped::<ToUBE, Vec<u16>>::new(alloc, numbers.clone()?)?;
+    assert!(rt; key.as_bytes().len() == 2000);
+    assert!(rt; &key.as_bytes()[1996..] == [3, 230, 3, 231].as_slice());
+    let again = key.clone()?;
+    assert!(rt; again.get(alloc)? == numbers);
+    let bytes = vec![in alloc; 7; 600]?;
+    let read = <ToUBE as BytesMapping<Vec<u16>>>::checked_from_bytes(alloc, bytes)?;
+    assert!(rt; matches!(&read, Some(read) if read.len() == 300 && read[299] == 1799));
+    Ok(())
+}
+
+#[test]
+fn long_arrays_come_back(rt: HostRuntime) -> Result<(), Fail> {
+    let alloc = rt.alloc();
+    let key = Mapped::<ToIBE, [i32; 300]>::new(alloc, [-1; 300])?;
+    assert!(rt; key.as_bytes().len() == 1200);
+    assert!(rt; &key.as_bytes()[1196..] == [127, 255, 255, 255].as_slice());
+    assert!(rt; key.get(alloc)? == [-1; 300]);
+    Ok(())
+}
+
+#[test]
+fn only_sequences_and_tuples_take_memory(rt: HostRuntime) {
+    assert!(rt; !<ToUBE as BytesMapping<u64>>::ALLOCATES);
+    assert!(rt; !<ToIBE as BytesMapping<NonZeroI128>>::ALLOCATES);
+    assert!(rt; !<ToOctets as BytesMapping<Ipv6Addr>>::READ_ALLOCATES);
+    assert!(rt; <ToUBE as BytesMapping<[u8; 3]>>::ALLOCATES);
+    assert!(rt; !<ToUBE as BytesMapping<[u8; 3]>>::READ_ALLOCATES);
+    assert!(rt; !<Identity as BytesMapping<Vec<u8>>>::ALLOCATES);
+    assert!(rt; !<Identity as BytesMapping<Vec<u8>>>::READ_ALLOCATES);
+    assert!(rt; <ConcatTuple<(ToUBE, ToIBE)> as BytesMapping<(u8, i8)>>::ALLOCATES);
+    assert!(rt; !<ConcatTuple<(ToUBE, ToIBE)> as BytesMapping<(u8, i8)>>::READ_ALLOCATES);
+    assert!(rt; <ToIBE as BytesMapping<Vec<i8>>>::ALLOCATES);
+    assert!(rt; <ToIBE as BytesMapping<Vec<i8>>>::READ_ALLOCATES);
+    assert!(rt; <<ToIBE as BytesMapping<i128>>::Bytes as FixedBytes>::WIDTH == 16);
+    assert!(rt; <[u8; 3] as FixedBytes>::from_slice(&[1, 2, 3]) == [1, 2, 3]);
+}
+
+#[test]
+fn keys_of_other_bytes_differ(rt: HostRuntime) -> Result<(), Fail> {
+    let alloc = rt.alloc();
+    let key = Mapped::<ToUBE, u16>::new(alloc, 443)?;
+    let other = Mapped::<ToUBE, u16>::new(alloc, 444)?;
+    assert!(rt; key != other);
+    assert!(rt; key.partial_cmp(&other) == Some(Ordering::Less));
+    Ok(())
+}

@@ -1,0 +1,223 @@
+//! Every call of the arena, and what stands where one is refused.
+use super::put;
+use crate::ALL_STANDS;
+use art_arena::{ArenaNode, NodeArena};
+use art_nodes::{
+    Header, InnerNode, InnerNode4, InnerNodeCommon, LeafNode, NodePtr, NodeType, OpaqueNodePtr,
+};
+use std::alloc::AllocError;
+use std::process::Abort;
+use std::test::Fail;
+
+type Key = [u8; 1];
+
+type Arena = NodeArena<Key, u16, 16>;
+
+type Leaf = LeafNode<Key, u16, 16>;
+
+type Pointer = OpaqueNodePtr<Key, u16, 16>;
+
+const KINDS: [NodeType; 5] = [
+    NodeType::Node4,
+    NodeType::Node16,
+    NodeType::Node48,
+    NodeType::Node256,
+    NodeType::Leaf,
+];
+
+fn check_header(rt: &impl Abort, arena: &Arena, pointer: Pointer, length: Option<usize>) {
+    assert!(rt; arena.holds_opaque(pointer));
+    let header = arena.header(pointer);
+    assert!(rt; header.map(|header| header.prefix_len()) == length);
+}
+
+// The calls on an inner node of one kind: of the first node, whose place the second one takes.
+fn check_inner<N: ArenaNode<Key, u16, 16> + InnerNodeCommon<Key, u16, 16> + Drop>(
+    rt: &impl Abort,
+    arena: &mut Arena,
+    first: N,
+    second: N,
+) {
+    let ptr = put(rt, arena, first);
+    let pointer = ptr.to_opaque();
+    check_header(rt, arena, pointer, Some(2));
+    assert!(rt; arena.holds(ptr));
+    assert!(rt; arena.as_ref(ptr).lookup_child(5).is_some());
+    arena.as_mut(ptr).remove_child(5);
+    assert!(rt; arena.holds(ptr));
+    assert!(rt; arena.as_ref(ptr).lookup_child(5).is_none());
+
+    let old = arena.replace(ptr, second);
+    assert!(rt; old.header().num_children() == 1);
+
+    assert!(rt; arena.holds_opaque(pointer));
+    assert!(rt; pointer.node_type() != NodeType::Leaf);
+    arena.set_prefix(pointer, &Header::new(b"", 0));
+    check_header(rt, arena, pointer, Some(0));
+
+    assert!(rt; arena.holds(ptr));
+    let node = arena.deallocate_node_ptr(ptr);
+    assert!(rt; node.header().num_children() == 2);
+    assert!(rt; !arena.holds(ptr));
+    assert!(rt; !arena.holds_opaque(pointer));
+}
+
+// A pointer for nodes to hold, which nothing follows.
+fn child() -> Pointer {
+    NodePtr::<16, Leaf>::from_key(9).to_opaque()
+}
+
+// Reads and writes the value of a leaf.
+fn check_value(rt: &impl Abort, arena: &mut Arena, ptr: NodePtr<16, Leaf>) {
+    assert!(rt; arena.holds(ptr));
+    *arena.as_value_mut(ptr) = 701;
+    assert!(rt; arena.holds(ptr));
+    assert!(rt; *arena.as_value_ref(ptr) == 701);
+    *arena.as_mut(ptr).value_mut() = 8;
+    assert!(rt; arena.holds(ptr));
+    assert!(rt; *arena.as_ref(ptr).value_ref() == 8);
+}
+
+// Reads the key, 7, and makes it the value.
+fn check_key_and_value(rt: &impl Abort, arena: &mut Arena, ptr: NodePtr<16, Leaf>) {
+    assert!(rt; arena.holds(ptr));
+    let (key, value) = arena.as_key_ref_value_mut(ptr);
+    *value = u16::from(key[0]);
+    assert!(rt; arena.holds(ptr));
+    let (key, value) = arena.as_key_value_ref(ptr);
+    assert!(rt; key[0] == 7);
+    assert!(rt; *value == 7);
+}
+
+fn check_leaf(rt: &impl Abort, arena: &mut Arena) {
+    let ptr = put(rt, arena, Leaf::with_no_siblings([7], 700));
+    check_header(rt, arena, ptr.to_opaque(), None);
+    check_key_and_value(rt, arena, ptr);
+    check_value(rt, arena, ptr);
+    assert!(rt; arena.holds(ptr));
+    let old = arena.replace(ptr, Leaf::with_no_siblings([6], 600));
+    assert!(rt; *old.value_ref() == 8);
+    assert!(rt; arena.holds(ptr));
+    assert!(rt; arena.as_key_ref(ptr)[0] == 6);
+    let leaf = arena.deallocate_node_ptr(ptr);
+    assert!(rt; *leaf.value_ref() == 600);
+    assert!(rt; !arena.holds(ptr));
+}
+
+#[test]
+fn makes_every_call_at_each_kind(rt: HostRuntime) {
+    let mut arena = Arena::new(rt.alloc());
+    let four = InnerNode4::builder(b"ab", 2)
+        .write_child(3, child())
+        .write_child(5, child())
+        .build();
+    let sixteen = four.grow();
+    let many = sixteen.grow();
+    let all = many.grow();
+    check_inner(&rt, &mut arena, four.clone(), four);
+    check_inner(&rt, &mut arena, sixteen.clone(), sixteen);
+    check_inner(&rt, &mut arena, many.clone(), many);
+    check_inner(&rt, &mut arena, all.clone(), all);
+    check_leaf(&rt, &mut arena);
+}
+
+#[test]
+fn allocates_three_leaves_where_there_is_room_for_three(rt: HostRuntime) -> Result<(), Fail> {
+    let mut arena = Arena::new(rt.alloc());
+    for kind in KINDS {
+        arena.reserve(kind, 3)?;
+    }
+    let first = put(&rt, &mut arena, Leaf::with_no_siblings([1], 1));
+    let second = put(&rt, &mut arena, Leaf::with_no_siblings([2], 2));
+    let third = put(&rt, &mut arena, Leaf::with_no_siblings([3], 3));
+    assert!(rt; first != second);
+    assert!(rt; first != third);
+    assert!(rt; second != third);
+    assert!(rt; arena.holds(second));
+    arena.deallocate_node_ptr(second);
+    assert!(rt; arena.holds(first));
+    assert!(rt; !arena.holds(second));
+    assert!(rt; arena.holds(third));
+    Ok(())
+}
+
+// The node has a prefix of so many bytes, or is a leaf of that key.
+fn check_entry(rt: &impl Abort, arena: &Arena, pointer: Pointer, index: usize) {
+    assert!(rt; arena.holds_opaque(pointer));
+    let length = match pointer.cast::<Leaf>() {
+        Some(leaf) => {
+            assert!(rt; arena.holds(leaf));
+            usize::from(arena.as_key_ref(leaf)[0])
+        }
+        None => arena
+            .header(pointer)
+            .map_or(0, |header| header.prefix_len()),
+    };
+    assert!(rt; length == index);
+}
+
+fn check_entries(rt: &impl Abort, arena: &Arena, entries: &[Pointer]) {
+    for (index, pointer) in entries.iter().enumerate() {
+        check_entry(rt, arena, *pointer, index);
+    }
+}
+
+// Puts a node beside these entries. Where memory is refused they stand, the node goes in again, and the
+// test ends.
+fn put_beside<N: ArenaNode<Key, u16, 16> + Drop>(
+    rt: &impl Abort,
+    arena: &mut Arena,
+    entries: &[Pointer],
+    node: N,
+) -> Result<Pointer, Fail> {
+    match arena.allocate_node_ptr(node) {
+        Ok(ptr) => Ok(ptr.to_opaque()),
+        Err((AllocError, node)) => {
+            check_entries(rt, arena, entries);
+            let pointer = put(rt, arena, node).to_opaque();
+            check_entries(rt, arena, entries);
+            check_entry(rt, arena, pointer, entries.len());
+            Err(ALL_STANDS.into())
+        }
+    }
+}
+
+// Two nodes of each kind.
+fn fill(rt: &impl Abort, arena: &mut Arena) -> Result<[Pointer; 10], Fail> {
+    let mut entries = [child(); 10];
+    for index in 0..10u8 {
+        let place = usize::from(index);
+        let four = InnerNode4::builder(&[7; 10][..place], place)
+            .write_child(3, child())
+            .write_child(5, child())
+            .build();
+        let before = &entries[..place];
+        entries[place] = match index % 5 {
+            0 => put_beside(rt, arena, before, four)?,
+            1 => put_beside(rt, arena, before, four.grow())?,
+            2 => put_beside(rt, arena, before, four.grow().grow())?,
+            3 => put_beside(rt, arena, before, four.grow().grow().grow())?,
+            _ => put_beside(rt, arena, before, Leaf::with_no_siblings([index], 0))?,
+        };
+    }
+    Ok(entries)
+}
+
+#[test]
+fn keeps_every_entry_where_a_growth_is_refused(rt: HostRuntime) -> Result<(), Fail> {
+    let mut arena = Arena::new(rt.alloc());
+    let entries = fill(&rt, &mut arena)?;
+    check_entries(&rt, &arena, &entries);
+    for kind in KINDS {
+        assert!(rt; arena.reserve(kind, usize::MAX).is_err());
+        check_entries(&rt, &arena, &entries);
+        if arena.reserve(kind, 9).is_err() {
+            check_entries(&rt, &arena, &entries);
+            assert!(rt; arena.reserve(kind, 9).is_ok());
+            check_entries(&rt, &arena, &entries);
+            return Err(ALL_STANDS.into());
+        }
+        check_entries(&rt, &arena, &entries);
+    }
+    Ok(())
+}

@@ -1,0 +1,295 @@
+//! Whole prefixes of nodes that are put together by hand, whatever they store.
+ghost use Rattle.std.specs.Prelude.{◌≡◌, ◌≤◌, ◌++◌, ◌∷◌, [], ℕ, length, IfOk};
+ghost use Rattle.art_arena.specs.FullPrefix.{match_of};
+ghost use Rattle.art_arena.specs.Standing.{TreeAt, TreeUnder};
+ghost use Rattle.art_arena.specs.Trees.{SameButPointers};
+
+use super::{Full, full_match};
+use art_arena::laws::{
+    allocating_leaves_trees_standing, an_allocated_node_makes_a_tree,
+    same_trees_have_the_same_texts,
+};
+use art_arena::{FullPrefix, NodeArena};
+use art_bytes::AsBytes;
+use art_nodes::{
+    ExplicitMismatch, InnerNode4, InnerNodeCommon, LeafNode, OpaqueNodePtr, PrefixMatch,
+};
+use std::alloc::{AllocError, Global};
+use std::cmp::Ordering::{Greater, Less};
+use std::process::Abort;
+use std::test::Fail;
+
+/// Nodes of two trees that are the same but for their pointers match a key alike, also where one
+/// stores fewer bytes of its prefix than the other. The leaves that they name may differ.
+fn match_alike<
+    K: AsBytes,
+    V,
+    const P: usize,
+    N: InnerNodeCommon<K, V, P>,
+    L: AsBytes,
+    W,
+    const Q: usize,
+    M: InnerNodeCommon<L, W, Q>,
+>(
+    arena: &NodeArena<K, V, P>,
+    node: &N,
+    other_arena: &NodeArena<L, W, Q>,
+    other: &M,
+    key: &[u8],
+    depth: usize,
+) -> (
+    Result<PrefixMatch, ExplicitMismatch<K, V, P>>,
+    Result<PrefixMatch, ExplicitMismatch<L, W, Q>>,
+)
+    requires depth { depth ≤ length key.now }
+    requires same { (under : TreeUnder K.text arena.now (N.inner node.now) depth)
+        × (other_under : TreeUnder L.text other_arena.now (M.inner other.now) depth)
+        × SameButPointers under.tree other_under.tree }
+    ensures { match_of result.0 ≡ match_of result.1 }
+{
+    same_trees_have_the_same_texts::<OpaqueNodePtr<K, V, P>, OpaqueNodePtr<L, W, Q>>();
+    let (_prefix, _) = node.read_full_prefix(arena, depth);
+    (
+        node.match_full_prefix(arena, key, depth),
+        other.match_full_prefix(other_arena, key, depth),
+    )
+}
+
+// A path, a prefix and one byte.
+fn join(alloc: Global, path: &[u8], prefix: &[u8], byte: u8) -> Result<Vec<u8>, AllocError>
+    ensures { IfOk result (λ key. key.items ≡ (path.now ++ prefix.now) ++ byte ∷ []) }
+{
+    let mut key = Vec::new(alloc);
+    key.extend_from_slice(path)?;
+    key.extend_from_slice(prefix)?;
+    key.push(byte)?;
+    Ok(key)
+}
+
+// A leaf whose key is a path, a prefix and one byte. What stood before stands.
+fn plant_leaf<const PREFIX_LEN: usize>(
+    alloc: Global,
+    arena: &mut NodeArena<Vec<u8>, u8, PREFIX_LEN>,
+    path: &[u8],
+    prefix: &[u8],
+    byte: u8,
+) -> Result<OpaqueNodePtr<Vec<u8>, u8, PREFIX_LEN>, AllocError>
+    ensures planted { IfOk result (λ pointer.
+        (found : TreeAt ⟦<Vec<u8> as AsBytes>⟧.text arena.new pointer) ×
+        (found.path ≡ (path.now ++ prefix.now) ++ byte ∷ [])) }
+    ensures kept { IfOk result (λ _. (pointer : _)
+        (found : TreeAt ⟦<Vec<u8> as AsBytes>⟧.text arena.old pointer) →
+        (again : TreeAt ⟦<Vec<u8> as AsBytes>⟧.text arena.new pointer) × (again.path ≡ found.path)) }
+{
+    allocating_leaves_trees_standing::<Vec<u8>, u8, PREFIX_LEN>();
+    let key = join(alloc, path, prefix, byte)?;
+    let leaf = LeafNode::with_no_siblings(key, 0);
+    let _text = leaf.key_ref().as_bytes();
+    let Ok(pointer) = arena.allocate_node_ptr(leaf) else {
+        return Err(AllocError);
+    };
+    Ok(pointer.to_opaque())
+}
+
+// The node is put where its tree stands. What stood before stands.
+fn plant<K: AsBytes + Drop, const PREFIX_LEN: usize>(
+    arena: &mut NodeArena<K, u8, PREFIX_LEN>,
+    node: InnerNode4<K, u8, PREFIX_LEN>,
+) -> Result<OpaqueNodePtr<K, u8, PREFIX_LEN>, AllocError>
+    ensures planted { (depth : ℕ) (under : TreeUnder K.text arena.old node depth) →
+        IfOk result (λ pointer. (found : TreeAt K.text arena.new pointer) ×
+        (found.path ≡ under.path)) }
+    ensures kept { IfOk result (λ _. (pointer : _) (found : TreeAt K.text arena.old pointer) →
+        (again : TreeAt K.text arena.new pointer) × (again.path ≡ found.path)) }
+{
+    an_allocated_node_makes_a_tree::<K, u8, PREFIX_LEN>();
+    allocating_leaves_trees_standing::<K, u8, PREFIX_LEN>();
+    match arena.allocate_node_ptr(node) {
+        Ok(pointer) => Ok(pointer.to_opaque()),
+        Err(_) => Err(AllocError),
+    }
+}
+
+// A node under this path with this prefix, over two trees under what follows.
+fn fork<K: AsBytes, const PREFIX_LEN: usize>(
+    rt: &impl Abort,
+    arena: &NodeArena<K, u8, PREFIX_LEN>,
+    path: &[u8],
+    prefix: &[u8],
+    low: (u8, OpaqueNodePtr<K, u8, PREFIX_LEN>),
+    high: (u8, OpaqueNodePtr<K, u8, PREFIX_LEN>),
+) -> InnerNode4<K, u8, PREFIX_LEN>
+    ensures { (depth : ℕ) → depth ≡ length path.now →
+        (a : TreeAt K.text arena.now low.1) → a.path ≡ (path.now ++ prefix.now) ++ low.0 ∷ [] →
+        (b : TreeAt K.text arena.now high.1) → b.path ≡ (path.now ++ prefix.now) ++ high.0 ∷ [] →
+        (under : TreeUnder K.text arena.now result depth) × (under.path ≡ path.now) }
+{
+    let (low_byte, low_child) = low;
+    let (high_byte, high_child) = high;
+    assert!(rt; low_byte < high_byte);
+    assert!(rt; prefix.len() < 256);
+    InnerNode4::builder(prefix, prefix.len())
+        .write_child(low_byte, low_child)
+        .write_child(high_byte, high_child)
+        .build()
+}
+
+// A node under this path with this prefix, over two leaves.
+fn fork_of_leaves<const PREFIX_LEN: usize>(
+    rt: &impl Abort,
+    alloc: Global,
+    arena: &mut NodeArena<Vec<u8>, u8, PREFIX_LEN>,
+    path: &[u8],
+    prefix: &[u8],
+    low: u8,
+    high: u8,
+) -> Result<InnerNode4<Vec<u8>, u8, PREFIX_LEN>, AllocError>
+    ensures { IfOk result (λ node.
+        (under : TreeUnder ⟦<Vec<u8> as AsBytes>⟧.text arena.new node (length path.now)) ×
+        (under.path ≡ path.now)) }
+{
+    let first = plant_leaf(alloc, arena, path, prefix, low)?;
+    let second = plant_leaf(alloc, arena, path, prefix, high)?;
+    Ok(fork(rt, arena, path, prefix, (low, first), (high, second)))
+}
+
+// A node under this path with this prefix, over the tree of a node and a leaf beside it.
+fn fork_over<const PREFIX_LEN: usize>(
+    rt: &impl Abort,
+    alloc: Global,
+    arena: &mut NodeArena<Vec<u8>, u8, PREFIX_LEN>,
+    node: InnerNode4<Vec<u8>, u8, PREFIX_LEN>,
+    path: &[u8],
+    prefix: &[u8],
+    low: u8,
+    high: u8,
+) -> Result<InnerNode4<Vec<u8>, u8, PREFIX_LEN>, AllocError>
+    ensures { (depth : ℕ)
+        (below : TreeUnder ⟦<Vec<u8> as AsBytes>⟧.text arena.old node.entry depth) →
+        below.path ≡ (path.now ++ prefix.now) ++ low ∷ [] →
+        IfOk result (λ over.
+        (under : TreeUnder ⟦<Vec<u8> as AsBytes>⟧.text arena.new over (length path.now)) ×
+        (under.path ≡ path.now)) }
+{
+    let first = plant(arena, node)?;
+    let second = plant_leaf(alloc, arena, path, prefix, high)?;
+    Ok(fork(rt, arena, path, prefix, (low, first), (high, second)))
+}
+
+// The full match answers this.
+fn expect_match<K: AsBytes, const PREFIX_LEN: usize>(
+    rt: &impl Abort,
+    arena: &NodeArena<K, u8, PREFIX_LEN>,
+    node: &InnerNode4<K, u8, PREFIX_LEN>,
+    depth: usize,
+    key: &[u8],
+    answer: Full,
+)
+    requires { TreeUnder K.text arena.now node.now depth }
+{
+    assert!(rt; full_match(rt, arena, node, key, depth) == answer);
+}
+
+// The whole prefix is read as this, from a leaf only where the node does not store all of it.
+fn expect_prefix<K: AsBytes, const PREFIX_LEN: usize>(
+    rt: &impl Abort,
+    arena: &NodeArena<K, u8, PREFIX_LEN>,
+    node: &InnerNode4<K, u8, PREFIX_LEN>,
+    depth: usize,
+    expected: &[u8],
+)
+    requires { TreeUnder K.text arena.now node.now depth }
+{
+    let (prefix, leaf) = node.read_full_prefix(arena, depth);
+    assert!(rt; prefix == expected);
+    assert!(rt; leaf.is_some() == (PREFIX_LEN < expected.len()));
+}
+
+fn under_a_path<const PREFIX_LEN: usize>(
+    rt: &impl Abort,
+    alloc: Global,
+    arena: &mut NodeArena<Vec<u8>, u8, PREFIX_LEN>,
+) -> Result<(), AllocError> {
+    let node = fork_of_leaves(rt, alloc, arena, b"x", b"abc", b'1', b'2')?;
+    expect_prefix(rt, arena, &node, 1, b"abc");
+    expect_match(rt, arena, &node, 1, b"xabd", Err((2, b'c', Less)));
+    expect_match(rt, arena, &node, 1, b"x", Err((0, b'a', Greater)));
+    expect_match(rt, arena, &node, 1, b"xabc1", Ok(3));
+    expect_match(rt, arena, &node, 1, b"yabb1", Err((2, b'c', Greater)));
+    Ok(())
+}
+
+fn at_the_root<const PREFIX_LEN: usize>(
+    rt: &impl Abort,
+    alloc: Global,
+    arena: &mut NodeArena<Vec<u8>, u8, PREFIX_LEN>,
+) -> Result<(), AllocError> {
+    let node = fork_of_leaves(rt, alloc, arena, b"", b"abc", b'1', b'2')?;
+    expect_match(rt, arena, &node, 0, b"xyz", Err((0, b'a', Less)));
+    expect_match(rt, arena, &node, 0, b"ab", Err((2, b'c', Greater)));
+    expect_match(rt, arena, &node, 0, b"b", Err((0, b'a', Less)));
+    expect_match(rt, arena, &node, 0, b"abd2", Err((2, b'c', Less)));
+    Ok(())
+}
+
+fn of_length<const PREFIX_LEN: usize>(
+    rt: &impl Abort,
+    alloc: Global,
+    arena: &mut NodeArena<Vec<u8>, u8, PREFIX_LEN>,
+    prefix: &[u8],
+) -> Result<(), AllocError> {
+    let node = fork_of_leaves(rt, alloc, arena, b"p", prefix, 0, 255)?;
+    expect_prefix(rt, arena, &node, 1, prefix);
+    Ok(())
+}
+
+fn three_nodes_deep<const PREFIX_LEN: usize>(
+    rt: &impl Abort,
+    alloc: Global,
+    arena: &mut NodeArena<Vec<u8>, u8, PREFIX_LEN>,
+) -> Result<(), AllocError> {
+    let bottom = fork_of_leaves(rt, alloc, arena, b"abcdefgh", b"ijk", b'l', b'm')?;
+    let middle = fork_over(rt, alloc, arena, bottom, b"abcd", b"efg", b'h', b'z')?;
+    expect_prefix(rt, arena, &middle, 4, b"efg");
+    expect_match(rt, arena, &middle, 4, b"abcdefx", Err((2, b'g', Less)));
+    let top = fork_over(rt, alloc, arena, middle, b"", b"abc", b'd', b'z')?;
+    expect_prefix(rt, arena, &top, 0, b"abc");
+    expect_match(rt, arena, &top, 0, b"abcdefghijkl", Ok(3));
+    Ok(())
+}
+
+fn whole_prefixes<const PREFIX_LEN: usize>(
+    rt: &impl Abort,
+    alloc: Global,
+    mut arena: NodeArena<Vec<u8>, u8, PREFIX_LEN>,
+) -> Result<(), AllocError> {
+    under_a_path(rt, alloc, &mut arena)?;
+    at_the_root(rt, alloc, &mut arena)?;
+    three_nodes_deep(rt, alloc, &mut arena)?;
+    let bytes = [7; 17];
+    if PREFIX_LEN < bytes.len() {
+        of_length(rt, alloc, &mut arena, &bytes[..PREFIX_LEN])?;
+        of_length(rt, alloc, &mut arena, &bytes[..PREFIX_LEN + 1])?;
+    }
+    Ok(())
+}
+
+#[test]
+fn whole_prefixes_whatever_is_stored(rt: HostRuntime) -> Result<(), Fail> {
+    whole_prefixes(
+        &rt,
+        rt.alloc(),
+        NodeArena::<Vec<u8>, u8, 0>::new(rt.alloc()),
+    )?;
+    whole_prefixes(
+        &rt,
+        rt.alloc(),
+        NodeArena::<Vec<u8>, u8, 2>::new(rt.alloc()),
+    )?;
+    whole_prefixes(
+        &rt,
+        rt.alloc(),
+        NodeArena::<Vec<u8>, u8, 16>::new(rt.alloc()),
+    )?;
+    Ok(())
+}
