@@ -1,9 +1,12 @@
 -- A write to one slab of an arena, as its callers see it.
-use Rattle.std.proofs.Common.{cond, is_some, ◌-◌, ◌≡◌, ◌≢◌, ◌∙◌, ℕ, Option, Some, None, sym, ap, subst, inl, inr, arith, rules, ◌≤◌, Result, Ok, Err, OnOk}
+use Rattle.std.proofs.Common.{Bor, MutBor, cond, is_some, IsSome, ◌-◌, ◌≡◌, ◌≢◌, ◌∙◌, ℕ, [], Option, Some, None, sym, ap, subst, refl, inl, inr, arith, rules, ◌≤◌, Result, Ok, Err, OnOk}
+use Rattle.std.specs.Option.{option_copied, option_copied_mut}
+use Rattle.std.specs.Prelude.{slice_index_or}
 use Rattle.slab.specs.Slab.{Slab, get, slab_len, with_value, ContainsKey, HasRoomFor, Updates}
 use Rattle.slab.proofs.SlabLemmas.{ContainsKey-within}
 use Rattle.std.proofs.lemmas.List.Sums.{sum_by-set}
 use Rattle.art_header.specs.declared.node_type.NodeType.{NodeType}
+use Rattle.art_header.specs.declared.node_type.NodeType.TheVariants.{Node4, Node16, Node48, Node256, Leaf}
 use Rattle.art_header.specs.Header.{Header}
 use Rattle.art_header.specs.NodeType.{most_children}
 use Rattle.art_nodes.specs.Inner.{Inner, IsInner, with_prefix}
@@ -11,7 +14,21 @@ use Rattle.art_nodes.specs.Pointers.{node_kind, opaque_key}
 use Rattle.art_nodes.specs.declared.pointers.OpaqueNodePtr.{OpaqueNodePtr}
 use Rattle.art_nodes.specs.declared.leaf_node.LeafNode.{LeafNode}
 use Rattle.art_nodes.proofs.KindLaws.{same_or_differ}
-use Rattle.art_arena.specs.Arena.{ArenaOf, Held, HeldInner, held, held_under, held_option, pointer_to, Changes, SameNodes, room, slab_room, SameRoom, SameOtherRoom}
+use Rattle.art_arena.specs.Arena.{ArenaOf, Held, HeldInner, Nothing, held, held_inner, held_leaf, held_under, held_option, pointer_to, Changes, SameNodes, room, slab_room, SameRoom, SameOtherRoom}
+
+-- a slab lends a value where it has one
+pub IsSome-lent : {T : Type 0} (lent : Option (Bor T)) {slot : Option T} → option_copied lent ≡ slot → IsSome slot → IsSome lent
+IsSome-lent None same within = subst IsSome (sym same) within
+IsSome-lent (Some _) same within = refl
+
+-- the same of a value to be changed
+pub IsSome-lent_mut : {T : Type 0} (lent : Option (MutBor T)) {slot : Option T} → option_copied_mut lent ≡ slot → IsSome slot → IsSome lent
+IsSome-lent_mut None same within = subst IsSome (sym same) within
+IsSome-lent_mut (Some _) same within = refl
+
+-- what a call of a slab reads, as its caller names slab and key
+pub get-called : {T : Type 0} (before slab : Slab T) (at key : ℕ) → before ≡ slab → at ≡ key → get before at ≡ get slab key
+get-called before slab at key lent same = ap (get before) same ∙ ap (λ s. get s key) lent
 
 -- a value in the place of another takes no room
 pub slab_room-with_value : {T : Type 0} (slab : Slab T) (key : ℕ) (value : T) → ContainsKey slab key → slab_room (with_value slab key value) ≡ slab_room slab
@@ -76,3 +93,11 @@ IsInner-held {P = P} arena pointer {kind = kind} {there = there} {node = node} s
 pub made_room : {T E : Type 0} (result : Result Unit E) (slab : Slab T) (additional : ℕ) → OnOk result (HasRoomFor slab additional) → OnOk result (additional ≤ slab_room slab)
 made_room (Ok _) slab additional fits = omega (arith, fits)
 made_room (Err _) slab additional fits = tt
+
+-- five slabs with no slots hold nothing
+pub held-empty : {K V : Type 0} {P : ℕ} (arena : ArenaOf K V P) → arena.node4.slots ≡ [] → arena.node16.slots ≡ [] → arena.node48.slots ≡ [] → arena.node256.slots ≡ [] → arena.leaf.slots ≡ [] → (kind : NodeType) (key : ℕ) → held_under arena kind key ≡ Nothing
+held-empty arena four sixteen many all leaves Node4 key = ap (λ slots. held_inner (slice_index_or slots key None)) four
+held-empty arena four sixteen many all leaves Node16 key = ap (λ slots. held_inner (slice_index_or slots key None)) sixteen
+held-empty arena four sixteen many all leaves Node48 key = ap (λ slots. held_inner (slice_index_or slots key None)) many
+held-empty arena four sixteen many all leaves Node256 key = ap (λ slots. held_inner (slice_index_or slots key None)) all
+held-empty arena four sixteen many all leaves Leaf key = ap (λ slots. held_leaf (slice_index_or slots key None)) leaves

@@ -1,12 +1,14 @@
 -- What a write to the links of a leaf changes, and what becomes of lists of leaves.
 use Rattle.std.proofs.Common.{◌≡◌, ◌≢◌, ◌↔◌, ◌⊎◌, ◌∙◌, ℕ, List, [], ◌∷◌, ◌++◌, Option, Some, None, refl, sym, ap, subst, inl, inr, append_assoc, slice_set}
-use Rattle.std.specs.Option.{option_and_then, option_map}
+use Rattle.std.specs.Option.{ForSome, option_and_then, option_map}
 use Rattle.slab.specs.Slab as slabs
-use Rattle.std.specs.List.{AllByRecursion}
+use Rattle.std.specs.List.{All, AllByRecursion}
+use Rattle.std.proofs.lemmas.List.Elements.{All-head, All-tail}
 use Rattle.std.proofs.lemmas.Bool.{cases_eq}
 use Rattle.std.proofs.lemmas.Option.{same_Some}
 use Rattle.art_header.specs.declared.node_type.NodeType.TheVariants as kinds
-use Rattle.art_nodes.specs.Pointers.{opaque_key}
+use Rattle.art_nodes.specs.Pointers.{opaque_key, slab_key}
+use Rattle.art_nodes.specs.declared.pointers.NodePtr.{NodePtr}
 use Rattle.art_nodes.specs.Leaf.{leaf_key, leaf_value, previous_key, next_key, with_value}
 use Rattle.art_nodes.specs.declared.pointers.OpaqueNodePtr.{OpaqueNodePtr}
 use Rattle.art_nodes.specs.declared.leaf_node.LeafNode.{LeafNode}
@@ -135,6 +137,13 @@ module _ {K V : Type 0} {P : ℕ} where
     other_leaves = λ k differ before_other after_other. second.other_leaves k (some_differs this k differ) after_other ∙ first.other_leaves k before_other (some_differs this k differ);
   }
 
+  -- a leaf that is held, as a leaf that may be there
+  pub ForSome-held : (arena : ArenaOf K V P) (leaf : NodePtr P (LeafNode K V P)) → HoldsLeaf arena (slab_key leaf) → ForSome (Some leaf) (λ l. HoldsLeaf arena (slab_key l))
+  ForSome-held arena leaf held = λ l named. subst (λ p. HoldsLeaf arena (slab_key p)) (same_Some _ _ named) held
+
+  pub ForSome-none : (arena : ArenaOf K V P) → ForSome {T = NodePtr P (LeafNode K V P)} None (λ l. HoldsLeaf arena (slab_key l))
+  ForSome-none arena = λ l named. cc
+
   pub HoldsLeaf-kept : (old new : ArenaOf K V P) (key : ℕ) → SameButLinks old new → HoldsLeaf old key → HoldsLeaf new key
   HoldsLeaf-kept old new key same holds = elim (leaf_there (leaf_at old key)) [
     | inl none ↦ absurd (holds (ap held_leaf none))
@@ -198,6 +207,10 @@ module _ {K V : Type 0} {P : ℕ} where
   Held-kept : (old new : ArenaOf K V P) (keys : List ℕ) → SameButLinks old new → AllByRecursion (HoldsLeaf old) keys → AllByRecursion (HoldsLeaf new) keys
   Held-kept old new keys same held = Each-weaker (HoldsLeaf old) (HoldsLeaf new) (λ key holds. HoldsLeaf-kept old new key same holds) keys held
 
+  kept-leaves : (old new : ArenaOf K V P) (keys : List ℕ) → All (λ key. leaf_at new key ≡ leaf_at old key) keys → AllByRecursion (λ key. leaf_at new key ≡ leaf_at old key) keys
+  kept-leaves old new [] kept = tt
+  kept-leaves old new (key ∷ keys) kept = (All-head (λ k. leaf_at new k ≡ leaf_at old k) key keys kept, kept-leaves old new keys (All-tail (λ k. leaf_at new k ≡ leaf_at old k) key keys kept))
+
   -- a list goes on being spelled where none of its leaves changed
   pub Spells-kept : (old new : ArenaOf K V P) (keys : List ℕ) → AllByRecursion (λ key. leaf_at new key ≡ leaf_at old key) keys → Spells old keys → Spells new keys
   Spells-kept old new keys same spells = record { distinct = spells.distinct; spelled = kept None keys same spells.spelled }
@@ -205,6 +218,9 @@ module _ {K V : Type 0} {P : ℕ} where
       kept : (before : Option ℕ) (keys : List ℕ) → AllByRecursion (λ key. leaf_at new key ≡ leaf_at old key) keys → SpellsAfter old before keys → SpellsAfter new before keys
       kept before [] same spelled = tt
       kept before (key ∷ keys) same spelled = ((spelled.0.0, same.0 ∙ spelled.0.1, spelled.0.2, spelled.0.3), kept (Some key) keys same.1 spelled.1)
+
+  pub Spells-where_kept : (old new : ArenaOf K V P) (keys : List ℕ) → All (λ key. leaf_at new key ≡ leaf_at old key) keys → Spells old keys → Spells new keys
+  Spells-where_kept old new keys kept spells = Spells-kept old new keys (kept-leaves old new keys kept) spells
 
   -- in particular after an allocation
   pub Spells-allocated : (old new : ArenaOf K V P) (pointer : OpaqueNodePtr K V P) (now : Held (OpaqueNodePtr K V P) (LeafNode K V P)) (keys : List ℕ) → held old pointer ≡ Nothing → Changes old new pointer now → Spells old keys → Spells new keys

@@ -1,7 +1,7 @@
 -- Where the pointers of standing trees stand.
-use Rattle.std.proofs.Common.{◌≡◌, ◌≢◌, ◌∙◌, ℕ, suc, ◌+◌, ◌<◌, ◌≤◌, List, [], ◌∷◌, ◌++◌, length, length-append, map, get_or, All, refl, sym, ap, subst, arith}
+use Rattle.std.proofs.Common.{◌≡◌, ◌≢◌, ◌∙◌, ℕ, suc, ◌+◌, ◌<◌, ◌≤◌, List, [], ◌∷◌, ◌++◌, length, length-append, map, get_or, All, Contains, refl, sym, ap, subst, arith}
 use Rattle.std.proofs.lemmas.List.{map-append}
-use Rattle.std.proofs.lemmas.List.Elements.{All-nil, All-cons, All-head, All-tail, All-append, All-weaker}
+use Rattle.std.proofs.lemmas.List.Elements.{Contains-append_left, Contains-append_right, All-nil, All-cons, All-head, All-tail, All-append, All-weaker}
 use Rattle.art_bytes.specs.Text.{IsFront}
 use Rattle.art_nodes.specs.ChildMap.{ChildMap, IsAscendingFrom, key_bytes}
 use Rattle.art_arena.specs.Arena.{Held, Nothing, HeldInner, HeldLeaf}
@@ -169,6 +169,18 @@ module _ {H L : Type 0} (room : ℕ) (text_of : L → List ℕ) where
         pub all-stand-on : (branches : Branches H) → AllStand room text_of held_before branches → AllStand room text_of held_after branches
         all-stand-on NoBranch stand = tt
         all-stand-on (Branch byte tree others) (stands, stand) = (stands-on tree stands, all-stand-on others stand)
+
+    mutual
+      -- a tree stands on where each of its own pointers holds what it held
+      pub stands-where_kept : (tree : Tree H) → ((pointer : H) → Contains (places tree) pointer → held_after pointer ≡ held_before pointer) → Stands room text_of held_before tree → Stands room text_of held_after tree
+      stands-where_kept (Leaf pointer text) kept (leaf, holds, has) = (leaf, kept pointer (0, omega arith, refl) ∙ holds, has)
+      stands-where_kept (Inner pointer prefix branches) kept (node, holds, shows, stand) =
+          (node, kept pointer (0, omega arith, refl) ∙ holds, shows, all-stand-where_kept branches (λ q inside. kept q (Contains-append_right (pointer ∷ []) (branch_places branches) q inside)) stand)
+
+      all-stand-where_kept : (branches : Branches H) → ((pointer : H) → Contains (branch_places branches) pointer → held_after pointer ≡ held_before pointer) → AllStand room text_of held_before branches → AllStand room text_of held_after branches
+      all-stand-where_kept NoBranch kept stand = tt
+      all-stand-where_kept (Branch byte tree others) kept (stands, stand) =
+          (stands-where_kept tree (λ q inside. kept q (Contains-append_left (places tree) (branch_places others) q inside)) stands, all-stand-where_kept others (λ q inside. kept q (Contains-append_right (places tree) (branch_places others) q inside)) stand)
 
     module _ (free : H) (was_free : held_before free ≡ Nothing) (others : (pointer : H) → pointer ≢ free → held_after pointer ≡ held_before pointer) where
       kept-beside : (pointer : H) → held_before pointer ≢ Nothing → held_after pointer ≡ held_before pointer

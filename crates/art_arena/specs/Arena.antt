@@ -58,6 +58,12 @@ module _ {H L : Type 0} where
   held_leaf None = Nothing
   held_leaf (Some leaf) = HeldLeaf leaf
 
+  -- something is held
+  abbrev pub IsSomething : Held H L → Type 0
+  IsSomething Nothing = ⊥
+  IsSomething (HeldInner node) = Unit {0}
+  IsSomething (HeldLeaf leaf) = Unit {0}
+
   -- the inner node that is held, or this other one
   abbrev pub inner_or : Inner H → Held H L → Inner H
   inner_or other Nothing = other

@@ -96,6 +96,9 @@ pub trait ArenaNode<K, V, const PREFIX_LEN: usize>: Node<PREFIX_LEN, Key = K, Va
     /// What is held is one node.
     ghost one_node: { (a b : Self) → held_as a ≡ held_as b → a ≡ b };
 
+    /// What is held is something.
+    ghost is_held: { (node : Self) → held_as node ≢ Nothing };
+
     /// What the arena holds under a key of this kind is what the node's slab has there.
     ghost held_in_slab: { (arena : ArenaOf K V PREFIX_LEN) (key : ℕ) →
         held_under arena Self.TYPE key ≡ held_option held_as (get (Self.slab_of arena) key) };
@@ -149,12 +152,14 @@ impl<K, V, const PREFIX_LEN: usize> Shelved<NodeArena<K, V, PREFIX_LEN>>
 }
 
 impl<K, V, const PREFIX_LEN: usize> ArenaNode<K, V, PREFIX_LEN> for InnerNode4<K, V, PREFIX_LEN> {
-    ghost use Rattle.art_arena.specs.Arena.{HeldInner, inner_or};
-    ghost use Rattle.std.proofs.Common.{ap, rules};
+    ghost use Rattle.art_arena.specs.Arena.{HeldInner, IsSomething, inner_or};
+    ghost use Rattle.std.proofs.Common.{ap, subst, rules};
 
     ghost held_as = { HeldInner };
 
     ghost one_node = { λ a b same. ap (inner_or a) same };
+
+    ghost is_held = { λ node same. subst IsSomething same tt };
 
     ghost held_where_contained = { Prim.search rules };
 
@@ -192,12 +197,14 @@ impl<K, V, const PREFIX_LEN: usize> Shelved<NodeArena<K, V, PREFIX_LEN>>
 }
 
 impl<K, V, const PREFIX_LEN: usize> ArenaNode<K, V, PREFIX_LEN> for InnerNode16<K, V, PREFIX_LEN> {
-    ghost use Rattle.art_arena.specs.Arena.{HeldInner, inner_or};
-    ghost use Rattle.std.proofs.Common.{ap, rules};
+    ghost use Rattle.art_arena.specs.Arena.{HeldInner, IsSomething, inner_or};
+    ghost use Rattle.std.proofs.Common.{ap, subst, rules};
 
     ghost held_as = { HeldInner };
 
     ghost one_node = { λ a b same. ap (inner_or a) same };
+
+    ghost is_held = { λ node same. subst IsSomething same tt };
 
     ghost held_where_contained = { Prim.search rules };
 
@@ -235,12 +242,14 @@ impl<K, V, const PREFIX_LEN: usize> Shelved<NodeArena<K, V, PREFIX_LEN>>
 }
 
 impl<K, V, const PREFIX_LEN: usize> ArenaNode<K, V, PREFIX_LEN> for InnerNode48<K, V, PREFIX_LEN> {
-    ghost use Rattle.art_arena.specs.Arena.{HeldInner, inner_or};
-    ghost use Rattle.std.proofs.Common.{ap, rules};
+    ghost use Rattle.art_arena.specs.Arena.{HeldInner, IsSomething, inner_or};
+    ghost use Rattle.std.proofs.Common.{ap, subst, rules};
 
     ghost held_as = { HeldInner };
 
     ghost one_node = { λ a b same. ap (inner_or a) same };
+
+    ghost is_held = { λ node same. subst IsSomething same tt };
 
     ghost held_where_contained = { Prim.search rules };
 
@@ -279,12 +288,14 @@ impl<K, V, const PREFIX_LEN: usize> Shelved<NodeArena<K, V, PREFIX_LEN>>
 
 impl<K, V, const PREFIX_LEN: usize> ArenaNode<K, V, PREFIX_LEN>
     for InnerNodeDirect<K, V, PREFIX_LEN> {
-    ghost use Rattle.art_arena.specs.Arena.{HeldInner, inner_or};
-    ghost use Rattle.std.proofs.Common.{ap, rules};
+    ghost use Rattle.art_arena.specs.Arena.{HeldInner, IsSomething, inner_or};
+    ghost use Rattle.std.proofs.Common.{ap, subst, rules};
 
     ghost held_as = { HeldInner };
 
     ghost one_node = { λ a b same. ap (inner_or a) same };
+
+    ghost is_held = { λ node same. subst IsSomething same tt };
 
     ghost held_where_contained = { Prim.search rules };
 
@@ -322,12 +333,14 @@ impl<K, V, const PREFIX_LEN: usize> Shelved<NodeArena<K, V, PREFIX_LEN>>
 }
 
 impl<K, V, const PREFIX_LEN: usize> ArenaNode<K, V, PREFIX_LEN> for LeafNode<K, V, PREFIX_LEN> {
-    ghost use Rattle.art_arena.specs.Arena.{HeldLeaf, leaf_or};
-    ghost use Rattle.std.proofs.Common.{ap, rules};
+    ghost use Rattle.art_arena.specs.Arena.{HeldLeaf, IsSomething, leaf_or};
+    ghost use Rattle.std.proofs.Common.{ap, subst, rules};
 
     ghost held_as = { HeldLeaf };
 
     ghost one_node = { λ a b same. ap (leaf_or a) same };
+
+    ghost is_held = { λ node same. subst IsSomething same tt };
 
     ghost held_where_contained = { Prim.search rules };
 
@@ -394,6 +407,8 @@ impl<K, V, const PREFIX_LEN: usize> NodeArena<K, V, PREFIX_LEN> {
             (λ ptr. held self.old (pointer_to N.TYPE (slab_key ptr)) ≡ Nothing) }
         ensures added { IfOk result
             (λ ptr. Changes self.old self.new (pointer_to N.TYPE (slab_key ptr)) (N.held_as node)) }
+        ensures is_held { IfOk result
+            (λ ptr. held self.new (pointer_to N.TYPE (slab_key ptr)) ≢ Nothing) }
         ensures room { OnOk result (room self.old N.TYPE ≤ room self.new N.TYPE + 1) }
         ensures other_room { SameOtherRoom self.old self.new N.TYPE }
         ensures succeeds { 0 < room self.old N.TYPE → IsOk result }
@@ -486,6 +501,7 @@ impl<K, V, const PREFIX_LEN: usize> NodeArena<K, V, PREFIX_LEN> {
             ≡ N.held_as result }
         ensures replaced { Changes self.old self.new (pointer_to N.TYPE (slab_key ptr))
             (N.held_as node) }
+        ensures is_held { held self.new (pointer_to N.TYPE (slab_key ptr)) ≢ Nothing }
         ensures room { SameRoom self.old self.new }
     {
         mem::replace(self.as_mut(ptr), node)

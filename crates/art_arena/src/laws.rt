@@ -4,7 +4,7 @@
 //! pointer, its prefix and its branches by ascending byte. It is sound under a path where every
 //! leaf's text begins with the way to it and every inner node has two branches or more, and it
 //! stands in an arena where each of its pointers holds its node.
-ghost use Rattle.std.specs.Prelude.{◌≡◌, ◌≢◌, ◌≤◌, ◌++◌, ◌∷◌, ℕ, List, Some, None, length, slice_get, AllPairs};
+ghost use Rattle.std.specs.Prelude.{◌≡◌, ◌≢◌, ◌≤◌, ◌++◌, ◌∷◌, ℕ, List, Some, None, length, slice_get, All, AllPairs};
 ghost use Rattle.std.specs.declared.cmp.Ordering.TheVariants.{Less};
 ghost use Rattle.art_bytes.specs.Text.{IsFront, text_order};
 ghost use Rattle.art_nodes.specs.ChildMap.{IsAscending, key_bytes};
@@ -73,6 +73,13 @@ pub fn trees_stand_where_all_is_kept<K: AsBytes, V, const PREFIX_LEN: usize>()
         StandsIn K.text old tree → StandsIn K.text new tree }
 {}
 
+/// A tree stands on where each of its pointers holds what it held, whatever changes elsewhere.
+pub fn trees_stand_where_their_nodes_are_kept<K: AsBytes, V, const PREFIX_LEN: usize>()
+    ensures { (old new : ArenaOf K V PREFIX_LEN) (tree : _) →
+        All (λ pointer. held new pointer ≡ held old pointer) (places tree) →
+        StandsIn K.text old tree → StandsIn K.text new tree }
+{}
+
 /// A tree stands on where links of leaves change, and where a leaf is exchanged for one whose key has
 /// the same text, as the one with another value.
 pub fn trees_stand_where_texts_are_kept<K: AsBytes, V, const PREFIX_LEN: usize>()
@@ -113,6 +120,13 @@ pub fn lists_are_spelled_where_links_are_kept<K, V, const PREFIX_LEN: usize>()
         Changes old new (pointer_to NodeType.Leaf key) (HeldLeaf now) →
         previous_key now ≡ previous_key was → next_key now ≡ next_key was →
         Spells old keys → Spells new keys }
+{}
+
+/// A list of leaves is spelled on where each of its leaves is as it was, whatever changes elsewhere, as
+/// where a leaf is given up that was taken out of the list.
+pub fn lists_are_spelled_where_their_leaves_are_kept<K, V, const PREFIX_LEN: usize>()
+    ensures { (old new : ArenaOf K V PREFIX_LEN) (keys : List ℕ) →
+        All (λ key. leaf_at new key ≡ leaf_at old key) keys → Spells old keys → Spells new keys }
 {}
 
 /// Each leaf of a list that links spell is knit, so the calls of `LeafLinks` may be made with it, and

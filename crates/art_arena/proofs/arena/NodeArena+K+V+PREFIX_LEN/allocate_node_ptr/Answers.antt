@@ -1,6 +1,7 @@
-use Rattle.std.proofs.Common.{◌∙◌, Some, ap, sym}
+use Rattle.std.proofs.Common.{◌∙◌, Some, ap, sym, arith}
 use Rattle.slab.specs.Slab.{get}
-use Rattle.art_arena.proofs.ArenaLemmas.{Changes-called, SameNodes-written}
+use Rattle.art_arena.specs.Arena.{slab_room, held_option}
+use Rattle.art_arena.proofs.ArenaLemmas.{Changes-called, SameNodes-written, get-called, room-written}
 use Rattle.art_arena.proofs.arena.NodeArena+K+V+PREFIX_LEN.allocate_node_ptr.Goals as goal
 
 pub returns-in-Ok-clause-added : goal.returns-in-Ok-clause-added
@@ -13,3 +14,34 @@ returns-in-Err-clause-nodes_kept g c =
     let laws = g.met.N.ArenaNode in
     SameNodes-written g.N.Node.TYPE g.N.Shelved.slab_of g.N.Shelved.with_slab g.N.ArenaNode.held_as laws.held_in_slab laws.slab_written laws.others_kept c.args.self.now c.insert.new.self
     (λ key. ap (λ s. get s key) c.in-Err.ensures.err ∙ ap (λ s. get s key) c.slab_mut.ensures.value)
+
+pub returns-in-Ok-clause-was_free : goal.returns-in-Ok-clause-was_free
+returns-in-Ok-clause-was_free g c =
+    let key = c.from_key.result.key in
+    let vacant = sym (get-called _ _ _ _ c.slab_mut.ensures.value (sym c.from_key.ensures)) ∙ c.in-Ok.ensures.was_vacant in
+    g.met.N.ArenaNode.held_in_slab c.args.self.now key ∙ ap (held_option g.N.ArenaNode.held_as) vacant
+
+pub returns-in-Ok-clause-room : goal.returns-in-Ok-clause-room
+returns-in-Ok-clause-room g c =
+    let laws = g.met.N.ArenaNode in
+    let before = laws.room_of_slab c.args.self.now in
+    let after = room-written g.N.Node.TYPE g.N.Shelved.slab_of g.N.Shelved.with_slab g.N.ArenaNode.held_as laws.held_in_slab laws.slab_written laws.others_kept laws.room_of_slab laws.other_room c.args.self.now c.insert.new.self in
+    let lent = ap slab_room c.slab_mut.ensures.value in
+    let len = c.in-Ok.ensures.len in
+    let capacity = c.in-Ok.ensures.capacity in
+    omega arith
+
+pub returns-in-Ok-clause-other_room : goal.returns-in-Ok-clause-other_room
+returns-in-Ok-clause-other_room g c = g.met.N.ArenaNode.other_room c.args.self.now c.insert.new.self
+
+pub returns-in-Err-clause-succeeds : goal.returns-in-Err-clause-succeeds
+returns-in-Err-clause-succeeds g c = λ some.
+    let room = g.met.N.ArenaNode.room_of_slab c.args.self.now in
+    let lent = ap slab_room c.slab_mut.ensures.value in
+    c.in-Err.ensures.succeeds (omega (arith, some, room, lent))
+
+pub returns-in-Err-clause-other_room : goal.returns-in-Err-clause-other_room
+returns-in-Err-clause-other_room g c = g.met.N.ArenaNode.other_room c.args.self.now c.insert.new.self
+
+pub returns-in-Ok-clause-is_held : goal.returns-in-Ok-clause-is_held
+returns-in-Ok-clause-is_held g c = λ gone. g.N.ArenaNode.is_held c.args.node (sym (returns-in-Ok-clause-added g c).changed ∙ gone)
