@@ -1,4 +1,4 @@
-use Rattle.std.proofs.Common.{◌≡◌, ◌≢◌, ◌∙◌, ◌+◌, ◌<◌, length, subst, ap, rules, arith}
+use Rattle.std.proofs.Common.{◌≡◌, ◌≢◌, ◌∙◌, ◌+◌, ◌<◌, length, subst, ap, arith}
 use Rattle.slab.specs.Slab.{get}
 use Rattle.art_nodes.specs.Inner.{Inner}
 use Rattle.art_nodes.specs.Pointers.{slab_key}
@@ -20,7 +20,7 @@ step_to_end-requires g c =
     let there : held c.args.arena.now c.way.at ≢ Nothing = to-end-held text c.args.arena.now c.args.end whole.tree c.way.at c.way.passed on in
     let has_child : (node : Inner _) → held c.args.arena.now c.way.at ≡ HeldInner node → 0 < length node.children =
     λ node is. to-end-has_child text c.args.arena.now c.args.end whole.tree c.way.at c.way.passed node on is in
-    search rules
+    search
 
 pub overflow_add-passed : goal.overflow_add-passed
 overflow_add-passed g c =

@@ -13,3 +13,6 @@ returns-in-Some g c =
 pub returns-in-None : goal.returns-in-None
 returns-in-None g c =
     (λ _. named_back-none (previous_at c.args.arena.now) (next_at c.args.arena.now) (slab_key c.args.this) (sym c.previous_of.ensures ∙ ap (option_map slab_key) c.in-None.is), λ _. search rules)
+
+pub next_of-requires : goal.next_of-requires
+next_of-requires g c = search

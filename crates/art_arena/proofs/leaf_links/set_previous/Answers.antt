@@ -18,3 +18,6 @@ returns-in-Some-clause-set g c =
 
 pub returns-in_default-clause-set : goal.returns-in_default-clause-set
 returns-in_default-clause-set g c = SetsPrevious-none _ _ _ (ap (option_map slab_key) c.in_default.is)
+
+pub returns-in-Some-clause-room : goal.returns-in-Some-clause-room
+returns-in-Some-clause-room g c = c.as_mut-leaf.ensures.room c.set_links.new.self

@@ -3,7 +3,7 @@ use Rattle.std.specs.Option.{option_copied_mut}
 use Rattle.slab.specs.Slab.{get}
 use Rattle.art_arena.specs.Arena.{held_option}
 use Rattle.slab.proofs.SlabLemmas.{Updates-with_value}
-use Rattle.art_arena.proofs.ArenaLemmas.{Changes-written, SameRoom-with_value}
+use Rattle.art_arena.proofs.ArenaLemmas.{Changes-written, IsSome-lent_mut, SameRoom-with_value, get-called}
 use Rattle.art_arena.proofs.arena.NodeArena+K+V+PREFIX_LEN.as_mut.Goals as goal
 
 pub returns : goal.returns
@@ -19,3 +19,8 @@ returns g c =
         room = λ now. SameRoom-with_value g.N.Node.TYPE g.N.Shelved.slab_of g.N.Shelved.with_slab g.N.ArenaNode.held_as laws.held_in_slab laws.slab_written laws.others_kept laws.room_of_slab laws.other_room c.args.self.now c.args.ptr.key now within;
       },
     )
+
+pub unwrap-requires : goal.unwrap-requires
+unwrap-requires g c =
+    let within = (g.met.N.ArenaNode.held_where_contained c.args.self.now c.args.ptr.key).1 c.requires in
+    IsSome-lent_mut c.get_mut.result (c.get_mut.ensures.value ∙ get-called _ _ _ _ c.slab_mut.ensures.value c.key.ensures) within

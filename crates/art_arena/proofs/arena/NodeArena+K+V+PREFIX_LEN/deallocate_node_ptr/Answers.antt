@@ -1,7 +1,7 @@
-use Rattle.std.proofs.Common.{◌≡◌, ◌∙◌, Some, None, arith, sym, ap}
+use Rattle.std.proofs.Common.{◌≡◌, ◌∙◌, IsSome, Some, None, arith, sym, ap, subst}
 use Rattle.slab.specs.Slab.{get}
 use Rattle.art_arena.specs.Arena.{slab_room, held_option}
-use Rattle.art_arena.proofs.ArenaLemmas.{Changes-called, room-written}
+use Rattle.art_arena.proofs.ArenaLemmas.{Changes-called, get-called, room-written}
 use Rattle.art_arena.proofs.arena.NodeArena+K+V+PREFIX_LEN.deallocate_node_ptr.Goals as goal
 
 pub returns-clause-removed : goal.returns-clause-removed
@@ -24,3 +24,11 @@ returns-clause-node g c =
     let key = c.args.ptr.key in
     let found : get (g.N.Shelved.slab_of c.args.self.now) key ≡ Some c.remove.result = sym (ap (λ s. get s key) c.slab_mut.ensures.value) ∙ sym (ap (get c.slab_mut.result.now) c.key.ensures) ∙ c.remove.ensures.value in
     g.met.N.ArenaNode.held_in_slab c.args.self.now key ∙ ap (held_option g.N.ArenaNode.held_as) found
+
+pub remove-requires : goal.remove-requires
+remove-requires g c =
+    let within = (g.met.N.ArenaNode.held_where_contained c.args.self.now c.args.ptr.key).1 c.requires in
+    subst IsSome (sym (get-called _ _ _ _ c.slab_mut.ensures.value c.key.ensures)) within
+
+pub returns-clause-other_room : goal.returns-clause-other_room
+returns-clause-other_room g c = g.met.N.ArenaNode.other_room c.args.self.now c.remove.new.self

@@ -47,3 +47,6 @@ returns-in-Node256-clause-sound g c = λ node is.
     let there = c.node_ref.ensures.node ∙ ap shown c.in-Node256.is in
     let kind = sym (ap shown_kind c.in-Node256.is) ∙ c.node_ref.ensures.kind in
     IsInner-held c.args.self.now c.args.pointer kind there c.header-in-Node256.ensures.sound is
+
+pub node_ref-requires : goal.node_ref-requires
+node_ref-requires g c = search

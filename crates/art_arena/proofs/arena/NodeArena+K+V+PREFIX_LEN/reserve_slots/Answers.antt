@@ -1,5 +1,5 @@
 use Rattle.std.proofs.Common.{◌∙◌, ◌≤◌, ap, arith, rules}
-use Rattle.slab.specs.Slab.{get}
+use Rattle.slab.specs.Slab.{get, slab_len}
 use Rattle.art_arena.specs.Arena.{slab_room}
 use Rattle.art_arena.proofs.ArenaLemmas.{SameNodes-written, made_room, room-written}
 use Rattle.art_arena.proofs.arena.NodeArena+K+V+PREFIX_LEN.reserve_slots.Goals as goal
@@ -26,3 +26,16 @@ pub returns-clause-room : goal.returns-clause-room
 returns-clause-room g c =
     let laws = g.met.N.ArenaNode in
     rw (room-written g.N.Node.TYPE g.N.Shelved.slab_of g.N.Shelved.with_slab g.N.ArenaNode.held_as laws.held_in_slab laws.slab_written laws.others_kept laws.room_of_slab laws.other_room c.args.self.now c.reserve.new.self) (made_room c.reserve.result c.reserve.new.self c.args.additional c.reserve.ensures.room)
+
+pub returns-clause-no_less_room : goal.returns-clause-no_less_room
+returns-clause-no_less_room g c =
+    let laws = g.met.N.ArenaNode in
+    let before = laws.room_of_slab c.args.self.now in
+    let after = room-written g.N.Node.TYPE g.N.Shelved.slab_of g.N.Shelved.with_slab g.N.ArenaNode.held_as laws.held_in_slab laws.slab_written laws.others_kept laws.room_of_slab laws.other_room c.args.self.now c.reserve.new.self in
+    let lent = ap slab_room c.slab_mut.ensures.value in
+    let len = ap slab_len c.reserve.ensures.rest_kept in
+    let capacity = c.reserve.ensures.capacity in
+    omega arith
+
+pub returns-clause-other_room : goal.returns-clause-other_room
+returns-clause-other_room g c = g.met.N.ArenaNode.other_room c.args.self.now c.reserve.new.self

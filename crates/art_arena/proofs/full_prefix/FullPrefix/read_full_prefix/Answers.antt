@@ -42,3 +42,6 @@ returns-then-prefix_len-clause-leaf_below g c = λ _. tt
 
 pub returns-then-prefix_len-clause-leaf_where_longer : goal.returns-then-prefix_len-clause-leaf_where_longer
 returns-then-prefix_len-clause-leaf_where_longer g c = (λ no. cc, λ longer. absurd (omega (arith, longer, c.if-prefix_len.true, c.prefix_len-prefix_len.ensures.value, c.stored_prefix.ensures.capped)))
+
+pub returns-clause-leaf_held : goal.returns-clause-leaf_held
+returns-clause-leaf_held g c = search

@@ -1,8 +1,9 @@
-use Rattle.std.proofs.Common.{◌≢◌, ◌∙◌, Some, refl, sym, ap, rules}
+use Rattle.std.proofs.Common.{◌≢◌, ◌∙◌, Some, refl, sym, ap}
+use Rattle.std.proofs.lemmas.Option.{same_Some}
 use Rattle.std.specs.Option.{ForSome, option_map}
 use Rattle.art_nodes.specs.Pointers.{slab_key}
 use Rattle.art_arena.specs.Links.{HoldsLeaf}
-use Rattle.art_arena.proofs.LeafLemmas.{apart-from_next, HoldsLeaf-previous, Spells-placed_after, StandsBetween-at}
+use Rattle.art_arena.proofs.LeafLemmas.{ForSome-held, apart-from_next, HoldsLeaf-previous, Spells-placed_after, StandsBetween-at}
 use Rattle.art_arena.proofs.leaf_links.LeafNodeLeafLinks.insert_after.Goals as goal
 
 pub place-requires : goal.place-requires
@@ -13,7 +14,12 @@ place-requires g c =
     let knit = c.requires.sibling_knit in
     let after_held : ForSome c.next_of-after.result (λ leaf. HoldsLeaf arena (slab_key leaf)) = λ leaf named. HoldsLeaf-previous arena (slab_key leaf) sibling (knit.next (slab_key leaf) (sym c.next_of-after.ensures ∙ ap (option_map slab_key) named)) in
     let apart : option_map slab_key c.next_of-after.result ≢ Some this = λ named. apart-from_next arena sibling this knit c.requires.unlinked (sym c.next_of-after.ensures ∙ named) in
-    search rules
+    let before_held = ForSome-held arena c.args.sibling knit.held in
+    let apart_before : Some sibling ≢ Some this = λ same. c.requires.apart (sym (same_Some _ _ same)) in
+    search
 
 pub returns-clause-spelled : goal.returns-clause-spelled
 returns-clause-spelled g c = λ before after spells. Spells-placed_after c.args.arena.now c.place.new.arena before after _ _ (StandsBetween-at _ _ _ _ _ _ _ refl c.next_of-after.ensures c.place.ensures.placed) c.place.ensures.contents c.requires.held c.requires.unlinked c.requires.apart spells
+
+pub returns-clause-room : goal.returns-clause-room
+returns-clause-room g c = search

@@ -1,8 +1,9 @@
-use Rattle.std.proofs.Common.{◌≢◌, ◌∙◌, Some, refl, sym, ap, rules}
+use Rattle.std.proofs.Common.{◌≢◌, ◌∙◌, Some, refl, sym, ap}
+use Rattle.std.proofs.lemmas.Option.{same_Some}
 use Rattle.std.specs.Option.{ForSome, option_map}
 use Rattle.art_nodes.specs.Pointers.{slab_key}
 use Rattle.art_arena.specs.Links.{HoldsLeaf}
-use Rattle.art_arena.proofs.LeafLemmas.{apart-from_previous, HoldsLeaf-next, Spells-placed_before, StandsBetween-at}
+use Rattle.art_arena.proofs.LeafLemmas.{ForSome-held, apart-from_previous, HoldsLeaf-next, Spells-placed_before, StandsBetween-at}
 use Rattle.art_arena.proofs.leaf_links.LeafNodeLeafLinks.insert_before.Goals as goal
 
 pub place-requires : goal.place-requires
@@ -13,7 +14,12 @@ place-requires g c =
     let knit = c.requires.sibling_knit in
     let before_held : ForSome c.previous_of-before.result (λ leaf. HoldsLeaf arena (slab_key leaf)) = λ leaf named. HoldsLeaf-next arena (slab_key leaf) sibling (knit.previous (slab_key leaf) (sym c.previous_of-before.ensures ∙ ap (option_map slab_key) named)) in
     let apart : option_map slab_key c.previous_of-before.result ≢ Some this = λ named. apart-from_previous arena sibling this knit c.requires.unlinked (sym c.previous_of-before.ensures ∙ named) in
-    search rules
+    let after_held = ForSome-held arena c.args.sibling knit.held in
+    let apart_after : Some sibling ≢ Some this = λ same. c.requires.apart (sym (same_Some _ _ same)) in
+    search
 
 pub returns-clause-spelled : goal.returns-clause-spelled
 returns-clause-spelled g c = λ before after spells. Spells-placed_before c.args.arena.now c.place.new.arena before after _ _ (StandsBetween-at _ _ _ _ _ _ _ c.previous_of-before.ensures refl c.place.ensures.placed) c.place.ensures.contents c.requires.held c.requires.unlinked c.requires.apart spells
+
+pub returns-clause-room : goal.returns-clause-room
+returns-clause-room g c = search

@@ -1,4 +1,4 @@
-use Rattle.std.proofs.Common.{◌∙◌, sym, ap, rules}
+use Rattle.std.proofs.Common.{◌∙◌, sym, ap}
 use Rattle.std.specs.Option.{ForSome, option_map}
 use Rattle.art_nodes.specs.Pointers.{slab_key}
 use Rattle.art_arena.specs.Links.{HoldsLeaf}
@@ -11,7 +11,7 @@ join-requires g c =
     let this = slab_key c.args.this in
     let before_held : ForSome c.previous_of-before.result (λ leaf. HoldsLeaf arena (slab_key leaf)) = λ leaf named. HoldsLeaf-next arena (slab_key leaf) this (c.requires.previous (slab_key leaf) (sym c.previous_of-before.ensures ∙ ap (option_map slab_key) named)) in
     let after_held : ForSome c.next_of-after.result (λ leaf. HoldsLeaf arena (slab_key leaf)) = λ leaf named. HoldsLeaf-previous arena (slab_key leaf) this (c.requires.next (slab_key leaf) (sym c.next_of-after.ensures ∙ ap (option_map slab_key) named)) in
-    search rules
+    search
 
 pub returns-clause-removed : goal.returns-clause-removed
 returns-clause-removed g c = Joins-at c.args.arena.now c.join.new.arena _ _ _ _ c.previous_of-before.ensures c.next_of-after.ensures c.join.ensures.joined
@@ -21,3 +21,9 @@ returns-clause-spelled g c = λ before after spells. Spells-removed c.args.arena
 
 pub returns-clause-own_links : goal.returns-clause-own_links
 returns-clause-own_links g c = own_links c.args.arena.now c.join.new.arena (slab_key c.args.this) c.requires (Joins-at c.args.arena.now c.join.new.arena _ _ _ _ c.previous_of-before.ensures c.next_of-after.ensures c.join.ensures.joined)
+
+pub returns-clause-room : goal.returns-clause-room
+returns-clause-room g c = search
+
+pub previous_of-before-requires : goal.previous_of-before-requires
+previous_of-before-requires g c = search

@@ -1,8 +1,8 @@
-use Rattle.std.proofs.Common.{◌≢◌, ◌∙◌, Some, sym, ap, rules}
+use Rattle.std.proofs.Common.{◌≢◌, ◌∙◌, Some, sym, ap}
 use Rattle.std.specs.Option.{ForSome, option_map}
 use Rattle.art_nodes.specs.Pointers.{slab_key}
 use Rattle.art_arena.specs.Links.{HoldsLeaf}
-use Rattle.art_arena.proofs.LeafLemmas.{apart-from_next, apart-from_previous, HoldsLeaf-previous, HoldsLeaf-next, HoldsLeaf-kept, StandsBetween-at, TakesPlace-joined, SameButLinks-trans, Spells-replaced}
+use Rattle.art_arena.proofs.LeafLemmas.{ForSome-held, ForSome-none, apart-from_next, apart-from_previous, HoldsLeaf-previous, HoldsLeaf-next, HoldsLeaf-kept, StandsBetween-at, TakesPlace-joined, SameButLinks-trans, Spells-replaced}
 use Rattle.art_arena.proofs.leaf_links.LeafNodeLeafLinks.replace.Goals as goal
 
 pub place-requires : goal.place-requires
@@ -15,17 +15,19 @@ place-requires g c =
     let after_held : ForSome c.next_of-after.result (λ leaf. HoldsLeaf arena (slab_key leaf)) = λ leaf named. HoldsLeaf-previous arena (slab_key leaf) old (knit.next (slab_key leaf) (sym c.next_of-after.ensures ∙ ap (option_map slab_key) named)) in
     let apart_before : option_map slab_key c.previous_of-before.result ≢ Some this = λ named. apart-from_previous arena old this knit c.requires.unlinked (sym c.previous_of-before.ensures ∙ named) in
     let apart_after : option_map slab_key c.next_of-after.result ≢ Some this = λ named. apart-from_next arena old this knit c.requires.unlinked (sym c.next_of-after.ensures ∙ named) in
-    search rules
+    search
 
 pub join-requires : goal.join-requires
 join-requires g c =
-    let held : HoldsLeaf c.place.new.arena (slab_key c.args.old) = HoldsLeaf-kept c.args.arena.now c.place.new.arena (slab_key c.args.old) c.place.ensures.contents c.requires.old_knit.held in
-    search rules
+    let held = ForSome-held c.place.new.arena c.args.old (HoldsLeaf-kept c.args.arena.now c.place.new.arena (slab_key c.args.old) c.place.ensures.contents c.requires.old_knit.held) in
+    let none = ForSome-none c.place.new.arena in
+    search
 
 pub join-requires-2 : goal.join-requires-2
 join-requires-2 g c =
-    let held : HoldsLeaf c.join.new.arena (slab_key c.args.old) = HoldsLeaf-kept c.args.arena.now c.join.new.arena (slab_key c.args.old) (SameButLinks-trans c.args.arena.now c.place.new.arena c.join.new.arena c.place.ensures.contents c.join.ensures.contents) c.requires.old_knit.held in
-    search rules
+    let held = ForSome-held c.join.new.arena c.args.old (HoldsLeaf-kept c.args.arena.now c.join.new.arena (slab_key c.args.old) (SameButLinks-trans c.args.arena.now c.place.new.arena c.join.new.arena c.place.ensures.contents c.join.ensures.contents) c.requires.old_knit.held) in
+    let none = ForSome-none c.join.new.arena in
+    search
 
 pub returns-clause-replaced : goal.returns-clause-replaced
 returns-clause-replaced g c =
@@ -40,3 +42,9 @@ returns-clause-spelled g c = λ before after spells. Spells-replaced c.args.aren
 
 pub returns-clause-room : goal.returns-clause-room
 returns-clause-room g c = λ kind. c.join-2.ensures.room kind ∙ c.join.ensures.room kind ∙ c.place.ensures.room kind
+
+pub previous_of-before-requires : goal.previous_of-before-requires
+previous_of-before-requires g c = search
+
+pub next_of-after-requires : goal.next_of-after-requires
+next_of-after-requires g c = search
