@@ -84,24 +84,6 @@ impl<K, V, const PREFIX_LEN: usize> OpaqueNodePtr<K, V, PREFIX_LEN> {
         }
     }
 
-    // The pointer to a node of this kind under this slab key.
-    pub(crate) fn of_kind(node_type: NodeType, key: usize) -> Self
-        ensures { result ≡ opaque_pointer node_type key }
-    {
-        OpaqueNodePtr {
-            node_type,
-            key,
-            leaf: PhantomData,
-        }
-    }
-
-    pub(crate) fn slab_key(self) -> usize
-        ensures { result ≡ opaque_key self }
-    {
-        let OpaqueNodePtr { key, .. } = self;
-        key
-    }
-
     /// The kind of the node.
     pub fn node_type(self) -> NodeType
         ensures { result ≡ node_kind self }

@@ -8,6 +8,7 @@ use crate::inner_nodes::inner_node_sorted::{InnerNode4, InnerNode16};
 use crate::leaf_node::LeafNode;
 use crate::pointers::{NodePtr, OpaqueNodePtr};
 use art_header::NodeType;
+use std::marker::PhantomData;
 
 /// A pointer to a node of any kind, by kind.
 #[derive_where(Clone, Copy)]
@@ -50,7 +51,11 @@ impl<K, V, const PREFIX_LEN: usize> ConcreteNodePtr<K, V, PREFIX_LEN> {
             ConcreteNodePtr::Node256(pointer) => (NodeType::Node256, pointer.key()),
             ConcreteNodePtr::LeafNode(pointer) => (NodeType::Leaf, pointer.key()),
         };
-        OpaqueNodePtr::of_kind(node_type, key)
+        OpaqueNodePtr {
+            node_type,
+            key,
+            leaf: PhantomData,
+        }
     }
 }
 
@@ -59,13 +64,7 @@ impl<K, V, const PREFIX_LEN: usize> ConcreteInnerNodePtr<K, V, PREFIX_LEN> {
     pub fn to_opaque(self) -> OpaqueNodePtr<K, V, PREFIX_LEN>
         ensures { result ≡ opaque_of_inner self }
     {
-        let (node_type, key) = match self {
-            ConcreteInnerNodePtr::Node4(pointer) => (NodeType::Node4, pointer.key()),
-            ConcreteInnerNodePtr::Node16(pointer) => (NodeType::Node16, pointer.key()),
-            ConcreteInnerNodePtr::Node48(pointer) => (NodeType::Node48, pointer.key()),
-            ConcreteInnerNodePtr::Node256(pointer) => (NodeType::Node256, pointer.key()),
-        };
-        OpaqueNodePtr::of_kind(node_type, key)
+        ConcreteNodePtr::from(self).to_opaque()
     }
 }
 
@@ -75,8 +74,8 @@ impl<K, V, const PREFIX_LEN: usize> OpaqueNodePtr<K, V, PREFIX_LEN> {
         ensures pointer { result ≡ concrete_of self }
         ensures undone { opaque_of result ≡ self }
     {
-        let key = self.slab_key();
-        match self.node_type() {
+        let key = self.key;
+        match self.node_type {
             NodeType::Node4 => ConcreteNodePtr::Node4(NodePtr::from_key(key)),
             NodeType::Node16 => ConcreteNodePtr::Node16(NodePtr::from_key(key)),
             NodeType::Node48 => ConcreteNodePtr::Node48(NodePtr::from_key(key)),
