@@ -6,9 +6,8 @@ use Rattle.std.proofs.lemmas.Bool.Decides.{nat_tests}
 use Rattle.std.proofs.lemmas.List.{ext_get_or, get_or-map, get_or_default, get_or_append_left, length-append, get_or-set_same, get_or-set_other, length-map, length-set, set-get_or, map-append, length-drop, length-take, get_or-drop, get_or-take}
 use Rattle.std.proofs.lemmas.List.Sums.{sum_by-cons, sum_by-set}
 use Rattle.std.proofs.lemmas.List.Sorted.{IsPermutation-refl, IsPermutation-map, length_permutation}
-use Rattle.std.specs.Option.{option_map}
-use Rattle.std.proofs.lemmas.Option.{slice_get-get_or, slice_get-map, get_or_from_slice_get}
-use Rattle.std.proofs.lemmas.List.FromFn.{fill_by_all, length-range_with_len}
+use Rattle.std.proofs.lemmas.Option.{slice_get-get_or, get_or_from_slice_get}
+use Rattle.std.proofs.lemmas.List.FromFn.{fill_by_all}
 use Rattle.std.proofs.lemmas.Bool.{cases_lt}
 use Rattle.std.proofs.Math.Seq.{get_or-append_seam}
 use Rattle.art_nodes.specs.ChildMap.{ChildMap, child_at, with_child, without_child, table_children}
@@ -294,12 +293,6 @@ module _ {H : Type 0} where
   pub length-named : (pointers : List H) (indices : List (Option ℕ)) → IsNamedOnce indices (length pointers) → length (table_children 0 (named_pointers pointers indices)) ≡ length pointers
   length-named pointers indices once = sym (length_permutation _ _ (named_permutation pointers indices once) ∙ length-map (table_children 0 (named_pointers pointers indices)) (λ (p : ℕ × H). p.1))
 
-  -- the child at a place of the map, by the index there
-  pub pair-named : (pointers : List H) (indices : List (Option ℕ)) (k byte index : ℕ) (d : H) → AreBelow (length pointers) indices → slice_get (table_children 0 indices) k ≡ Some (byte, index) → slice_get (table_children 0 (named_pointers pointers indices)) k ≡ Some (byte, get_or pointers index d)
-  pair-named pointers indices k byte index d bounded found =
-      ap (λ children. slice_get children k) (table-named d pointers 0 indices bounded)
-      ∙ slice_get-map (λ p. (p.0, get_or pointers p.1 d)) (table_children 0 indices) k ∙ ap (option_map (λ p. (p.0, get_or pointers p.1 d))) found
-
 module _ {H : Type 0} (pointers : List H) (first : ℕ) (indices : List (Option ℕ)) (bounded : AreBelow (length pointers) indices) where
   -- no index in use, no child
   pub none-named : table_children first indices ≡ [] → table_children first (named_pointers pointers indices) ≡ []
@@ -336,12 +329,6 @@ below-take n k indices bounded = λ place index within filled.
     let short = length-take k indices in
     let front : place < k = omega (arith, short) in
     bounded place index (omega (arith, short)) (sym (get_or-take k indices place None front) ∙ filled)
-
--- as many indices are in use
-pub length-used : (indices : List (Option ℕ)) (n : ℕ) → IsNamedOnce indices n → length (table_children 0 indices) ≡ n
-length-used indices n once =
-    let same = length_permutation _ _ (used_permutation indices n once) in
-    omega (arith, same, length-map (table_children 0 indices) (λ (p : ℕ × ℕ). p.1), length-range_with_len 0 n)
 
 abbrev second_or : Option (ℕ × ℕ) → ℕ → ℕ
 second_or None d = d

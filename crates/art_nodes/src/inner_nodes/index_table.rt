@@ -1,10 +1,9 @@
 //! The table of an indirect node: an index, or none, for each byte.
-ghost use Rattle.std.specs.Prelude.{◌≡◌, ◌<◌, ◌≤◌, length, map, replicate, slice_index_or, slice_set, None, Some};
+ghost use Rattle.std.specs.Prelude.{◌≡◌, ◌≤◌, length, map, replicate, slice_index_or, slice_set, None, Some};
 ghost use Rattle.std.specs.List.{range_with_len, zip};
-ghost use Rattle.art_nodes.specs.ChildMap.{first_pair, last_pair, table_children, IsAscending};
+ghost use Rattle.art_nodes.specs.ChildMap.{table_children, IsAscending};
 ghost use Rattle.art_nodes.specs.IndexTable.{index_of};
 
-use crate::iteration::index_pairs::{first_index, last_index};
 use art_header::NonMaxIndex;
 use std::marker::Model;
 
@@ -87,23 +86,5 @@ impl IndexTable {
         ensures { self.new ≡ slice_set self.old byte None }
     {
         self.places[usize::from(byte)] = u8::MAX;
-    }
-
-    /// The least byte that has an index, with it. There has to be one.
-    pub(crate) fn first(&self) -> (u8, NonMaxIndex)
-        requires { 0 < length (table_children 0 self.now) }
-        ensures { first_pair (table_children 0 self.now) ≡ Some result }
-    {
-        let (byte, index) = first_index(self.places()).unwrap();
-        (byte as u8, index)
-    }
-
-    /// The greatest byte that has an index, with it. There has to be one.
-    pub(crate) fn last(&self) -> (u8, NonMaxIndex)
-        requires { 0 < length (table_children 0 self.now) }
-        ensures { last_pair (table_children 0 self.now) ≡ Some result }
-    {
-        let (byte, index) = last_index(self.places()).unwrap();
-        (byte as u8, index)
     }
 }

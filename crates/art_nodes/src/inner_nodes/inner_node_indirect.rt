@@ -228,7 +228,7 @@ impl<K, V, const PREFIX_LEN: usize, const SIZE: usize> InnerNodeCommon<K, V, PRE
     }
 
     fn iter(&self) -> ChildIter<'_, K, V, PREFIX_LEN> {
-        ChildIter::over_indices(&self.child_indices, &self.child_pointers)
+        ChildIter::over_indices(self.pairs())
     }
 
     fn range(&self, start: Bound<u8>, end: Bound<u8>) -> ChildIter<'_, K, V, PREFIX_LEN> {
@@ -236,13 +236,11 @@ impl<K, V, const PREFIX_LEN: usize, const SIZE: usize> InnerNodeCommon<K, V, PRE
     }
 
     fn min(&self) -> (u8, OpaqueNodePtr<K, V, PREFIX_LEN>) {
-        let (byte, index) = self.child_indices.first();
-        (byte, self.child_pointers[usize::from(index)])
+        self.pairs().next().unwrap()
     }
 
     fn max(&self) -> (u8, OpaqueNodePtr<K, V, PREFIX_LEN>) {
-        let (byte, index) = self.child_indices.last();
-        (byte, self.child_pointers[usize::from(index)])
+        self.pairs().next_back().unwrap()
     }
 
     fn optimistic_match_prefix(

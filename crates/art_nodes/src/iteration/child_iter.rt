@@ -72,13 +72,12 @@ impl<'a, H: Copy> PairIter<'a, H> {
         }
     }
 
-    /// Over a table with a place for each byte, which has the index of the child.
-    pub(crate) fn over_indices(indices: &'a IndexTable, children: &'a [H]) -> Self
-        requires { AreBelow (length children.now) indices.now }
-        ensures { result ≡ table_children 0 (named_pointers children.now indices.now) }
+    /// Over the pairs of a table that has the index of each child.
+    pub(crate) fn over_indices(pairs: IndexPairs<'a, H>) -> Self
+        ensures { result ≡ pairs.entry }
     {
         PairIter {
-            source: Source::Indexed(IndexPairs::new(0, indices.places(), children)),
+            source: Source::Indexed(pairs),
         }
     }
 

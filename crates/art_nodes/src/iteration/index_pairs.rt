@@ -44,30 +44,6 @@ impl<'a, H: Copy> IndexPairs<'a, H> {
             byte,
         }
     }
-
-    /// Takes the first pair.
-    #[inline]
-    fn pop_first(&mut self) -> Option<(u8, H)>
-        ensures { YieldsFirst (λ pairs. pairs) self.old result self.new }
-    {
-        let (place, index) = first_index(self.places)?;
-        let child = named_child(self.children, index);
-        let byte = self.byte + place;
-        self.places = &self.places[place + 1..];
-        self.byte = byte + 1;
-        Some((byte as u8, child))
-    }
-
-    /// Takes the last pair.
-    #[inline]
-    fn pop_last(&mut self) -> Option<(u8, H)>
-        ensures { YieldsLast (λ pairs. pairs) self.old result self.new }
-    {
-        let (place, index) = last_index(self.places)?;
-        let child = named_child(self.children, index);
-        self.places = &self.places[..place];
-        Some(((self.byte + place) as u8, child))
-    }
 }
 
 impl<'a, H: Copy> Iterator for IndexPairs<'a, H> {
@@ -79,7 +55,12 @@ impl<'a, H: Copy> Iterator for IndexPairs<'a, H> {
 
     #[inline]
     fn next(&mut self) -> Option<(u8, H)> {
-        self.pop_first()
+        let (place, index) = first_index(self.places)?;
+        let child = named_child(self.children, index);
+        let byte = self.byte + place;
+        self.places = &self.places[place + 1..];
+        self.byte = byte + 1;
+        Some((byte as u8, child))
     }
 }
 
@@ -88,7 +69,10 @@ impl<'a, H: Copy> DoubleEndedIterator for IndexPairs<'a, H> {
 
     #[inline]
     fn next_back(&mut self) -> Option<(u8, H)> {
-        self.pop_last()
+        let (place, index) = last_index(self.places)?;
+        let child = named_child(self.children, index);
+        self.places = &self.places[..place];
+        Some(((self.byte + place) as u8, child))
     }
 }
 
@@ -101,7 +85,7 @@ fn named_child<H: Copy>(children: &[H], index: NonMaxIndex) -> H
 }
 
 /// The first place that has an index, with it.
-pub(crate) fn first_index(places: &[u8]) -> Option<(usize, NonMaxIndex)>
+fn first_index(places: &[u8]) -> Option<(usize, NonMaxIndex)>
     ensures in_range { IfSome result (λ found. found.0 < length places.now) }
     ensures found { IfSome result (λ found. (byte : ℕ) →
         table_children byte (map index_of places.now) ≡
@@ -117,7 +101,7 @@ pub(crate) fn first_index(places: &[u8]) -> Option<(usize, NonMaxIndex)>
 }
 
 /// The last place that has an index, with it.
-pub(crate) fn last_index(places: &[u8]) -> Option<(usize, NonMaxIndex)>
+fn last_index(places: &[u8]) -> Option<(usize, NonMaxIndex)>
     ensures in_range { IfSome result (λ found. found.0 < length places.now) }
     ensures found { IfSome result (λ found. (byte : ℕ) →
         table_children byte (map index_of places.now) ≡
