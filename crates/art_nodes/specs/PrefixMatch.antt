@@ -2,8 +2,7 @@
 use Rattle.std.specs.Prelude.{◌≡◌, ℕ, ◌==◌, List, length, None, Result, Ok, Err, true, false, nat_eq, nat_le, nat_lt, slice_get, if◌then◌else◌}
 use Rattle.std.specs.List.{common_prefix_len}
 use Rattle.art_bytes.specs.Text.{IsFront}
-use Rattle.art_header.specs.Header.{Header}
-use Rattle.art_nodes.specs.Inner.{Inner, header_of}
+use Rattle.art_nodes.specs.Inner.{Inner}
 use Rattle.art_nodes.specs.declared.inner_nodes.prefix_match.PrefixMatch.{PrefixMatch}
 use Rattle.art_nodes.specs.declared.inner_nodes.prefix_match.OptimisticMismatch.{OptimisticMismatch}
 use Rattle.art_nodes.specs.declared.inner_nodes.prefix_match.AttemptOptimisticPrefixMatch.{AttemptOptimisticPrefixMatch}
@@ -34,10 +33,6 @@ abbrev pub cheap_match : ℕ → ℕ → List ℕ → List ℕ → Result Attemp
 cheap_match room prefix_len stored rest =
     if nat_lt room prefix_len then implicit_match prefix_len rest else explicit_match stored rest
 
--- a text that the prefix may be, as far as the header knows it
-abbrev pub IsPrefixOfHeader : Header → List ℕ → Type 0
-IsPrefixOfHeader header prefix = (length prefix ≡ header.prefix_len) × IsFront header.stored prefix
-
--- the same of a node
+-- a text that the prefix may be, as far as the node stores it
 abbrev pub IsPrefixOf : {H : Type 0} → Inner H → List ℕ → Type 0
-IsPrefixOf node prefix = IsPrefixOfHeader (header_of node) prefix
+IsPrefixOf node prefix = (length prefix ≡ node.prefix_len) × IsFront node.stored prefix

@@ -1,10 +1,6 @@
 //! Inner nodes with a place for each byte: `Node256`.
 use crate::inner_nodes::child_table::ChildTable;
 use crate::inner_nodes::node::{InnerNodeCommon, Node};
-use crate::inner_nodes::prefix_match::{
-    AttemptOptimisticPrefixMatch, OptimisticMismatch, PessimisticMismatch, PrefixMatch,
-    match_length, match_stored,
-};
 use crate::iteration::child_iter::ChildIter;
 use crate::iteration::table_pairs::TablePairs;
 use crate::pointers::OpaqueNodePtr;
@@ -172,19 +168,5 @@ impl<K, V, const PREFIX_LEN: usize> InnerNodeCommon<K, V, PREFIX_LEN>
 
     fn max(&self) -> (u8, OpaqueNodePtr<K, V, PREFIX_LEN>) {
         self.child_pointers.pairs().next_back().unwrap()
-    }
-
-    fn optimistic_match_prefix(
-        &self,
-        truncated_key: &[u8],
-    ) -> Result<PrefixMatch, OptimisticMismatch> {
-        match_length(&self.header, truncated_key)
-    }
-
-    fn attempt_pessimistic_match_prefix(
-        &self,
-        truncated_key: &[u8],
-    ) -> Result<AttemptOptimisticPrefixMatch, PessimisticMismatch> {
-        match_stored(&self.header, truncated_key)
     }
 }

@@ -2,10 +2,6 @@
 use crate::inner_nodes::index_table::IndexTable;
 use crate::inner_nodes::inner_node_sorted::copy_of;
 use crate::inner_nodes::node::{InnerNodeCommon, Node};
-use crate::inner_nodes::prefix_match::{
-    AttemptOptimisticPrefixMatch, OptimisticMismatch, PessimisticMismatch, PrefixMatch,
-    match_length, match_stored,
-};
 use crate::iteration::child_iter::ChildIter;
 use crate::iteration::index_pairs::IndexPairs;
 use crate::pointers::OpaqueNodePtr;
@@ -241,19 +237,5 @@ impl<K, V, const PREFIX_LEN: usize, const SIZE: usize> InnerNodeCommon<K, V, PRE
 
     fn max(&self) -> (u8, OpaqueNodePtr<K, V, PREFIX_LEN>) {
         self.pairs().next_back().unwrap()
-    }
-
-    fn optimistic_match_prefix(
-        &self,
-        truncated_key: &[u8],
-    ) -> Result<PrefixMatch, OptimisticMismatch> {
-        match_length(&self.header, truncated_key)
-    }
-
-    fn attempt_pessimistic_match_prefix(
-        &self,
-        truncated_key: &[u8],
-    ) -> Result<AttemptOptimisticPrefixMatch, PessimisticMismatch> {
-        match_stored(&self.header, truncated_key)
     }
 }

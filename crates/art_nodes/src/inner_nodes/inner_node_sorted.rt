@@ -4,10 +4,6 @@ ghost use Rattle.art_nodes.specs.ChildMap.{IsAscending};
 ghost use Rattle.art_nodes.specs.WritePoint.{IsByteAt, IsGapFor};
 
 use crate::inner_nodes::node::{InnerNodeCommon, Node};
-use crate::inner_nodes::prefix_match::{
-    AttemptOptimisticPrefixMatch, OptimisticMismatch, PessimisticMismatch, PrefixMatch,
-    match_length, match_stored,
-};
 use crate::iteration::child_iter::ChildIter;
 use crate::pointers::OpaqueNodePtr;
 use crate::sealed::{InThisCrate, InnerNodeInit, Sealed};
@@ -266,19 +262,5 @@ impl<K, V, const PREFIX_LEN: usize, const SIZE: usize> InnerNodeCommon<K, V, PRE
     fn max(&self) -> (u8, OpaqueNodePtr<K, V, PREFIX_LEN>) {
         let last = self.keys.len() - 1;
         (self.keys[last], self.child_pointers[last])
-    }
-
-    fn optimistic_match_prefix(
-        &self,
-        truncated_key: &[u8],
-    ) -> Result<PrefixMatch, OptimisticMismatch> {
-        match_length(&self.header, truncated_key)
-    }
-
-    fn attempt_pessimistic_match_prefix(
-        &self,
-        truncated_key: &[u8],
-    ) -> Result<AttemptOptimisticPrefixMatch, PessimisticMismatch> {
-        match_stored(&self.header, truncated_key)
     }
 }

@@ -9,6 +9,7 @@ ghost use Rattle.art_nodes.specs.Inner.{Inner, HasRoomFor, empty_inner, IsInner,
 use crate::inner_nodes::builder::{InnerNodeBuilder, NoChild};
 use crate::inner_nodes::prefix_match::{
     AttemptOptimisticPrefixMatch, OptimisticMismatch, PessimisticMismatch, PrefixMatch,
+    common_front_len,
 };
 use crate::iteration::child_iter::ChildIter;
 use crate::pointers::OpaqueNodePtr;
@@ -122,7 +123,7 @@ pub trait InnerNodeCommon<K, V, const PREFIX_LEN: usize>: InnerNodeInit<PREFIX_L
     ///
     /// Answers the length of the prefix, or else that of the rest. Whoever comes to a leaf by this
     /// match has to compare the leaf's whole key.
-    fn optimistic_match_prefix(
+    final fn optimistic_match_prefix(
         &self,
         truncated_key: &[u8],
     ) -> Result<PrefixMatch, OptimisticMismatch>
@@ -131,14 +132,26 @@ pub trait InnerNodeCommon<K, V, const PREFIX_LEN: usize>: InnerNodeInit<PREFIX_L
         ensures within { IfOk result (λ found. found.matched_bytes ≤ length truncated_key.now) }
         ensures passes_every_front { (prefix : List ℕ) →
             IsPrefixOf (inner self.now) prefix → IsFront prefix truncated_key.now →
-            IsOkAnd result (λ found. found.matched_bytes ≡ length prefix) };
+            IsOkAnd result (λ found. found.matched_bytes ≡ length prefix) }
+    {
+        let prefix_len = self.prefix_len();
+        if truncated_key.len() < prefix_len {
+            Err(OptimisticMismatch {
+                matched_bytes: truncated_key.len(),
+            })
+        } else {
+            Ok(PrefixMatch {
+                matched_bytes: prefix_len,
+            })
+        }
+    }
 
     /// Compares the rest of a key with the prefix where the node stores all of it, and else only
     /// tests whether the rest is long enough, as [`InnerNodeCommon::optimistic_match_prefix`].
     ///
     /// Answers the length of the prefix, or else how many bytes match, and the prefix's byte that
     /// the rest lacks or differs in.
-    fn attempt_pessimistic_match_prefix(
+    final fn attempt_pessimistic_match_prefix(
         &self,
         truncated_key: &[u8],
     ) -> Result<AttemptOptimisticPrefixMatch, PessimisticMismatch>
@@ -148,7 +161,29 @@ pub trait InnerNodeCommon<K, V, const PREFIX_LEN: usize>: InnerNodeInit<PREFIX_L
         ensures within { IfOk result (λ found. found.matched_bytes ≤ length truncated_key.now) }
         ensures passes_every_front { (prefix : List ℕ) →
             IsPrefixOf (inner self.now) prefix → IsFront prefix truncated_key.now →
-            IsOkAnd result (λ found. found.matched_bytes ≡ length prefix) };
+            IsOkAnd result (λ found. found.matched_bytes ≡ length prefix) }
+    {
+        if PREFIX_LEN < self.prefix_len() {
+            let PrefixMatch { matched_bytes } = self.optimistic_match_prefix(truncated_key)?;
+            return Ok(AttemptOptimisticPrefixMatch {
+                matched_bytes,
+                any_implicit_bytes: true,
+            });
+        }
+        let prefix = self.stored_prefix();
+        let matched_bytes = common_front_len(prefix, truncated_key);
+        if matched_bytes < prefix.len() {
+            Err(PessimisticMismatch {
+                matched_bytes,
+                prefix_byte: Some(prefix[matched_bytes]),
+            })
+        } else {
+            Ok(AttemptOptimisticPrefixMatch {
+                matched_bytes,
+                any_implicit_bytes: false,
+            })
+        }
+    }
 
     /// One of the children. It takes a leaf where there is one; the contract leaves open which child
     /// it is. The node has to have two children or more.

@@ -1,12 +1,9 @@
 //! How much of a node's prefix a key matches.
-ghost use Rattle.std.specs.Prelude.{◌≡◌, ℕ, ◌≤◌, List, length, nat_eq, IfOk, IsOkAnd, Ok};
+ghost use Rattle.std.specs.Prelude.{◌≡◌, nat_eq};
 ghost use Rattle.std.specs.List.{common_prefix_len};
-ghost use Rattle.art_bytes.specs.Text.{IsFront};
-ghost use Rattle.art_nodes.specs.PrefixMatch.{optimistic_match, cheap_match, IsPrefixOfHeader};
 
 use crate::leaf_node::LeafNode;
 use crate::pointers::NodePtr;
-use art_header::Header;
 use std::cmp::Ordering;
 
 /// A prefix was matched.
@@ -87,63 +84,4 @@ pub fn common_front_len(a: &[u8], b: &[u8]) -> usize
         }
     }
     shorter
-}
-
-/// Tests whether the rest of a key is as long as the header's prefix.
-pub(crate) fn match_length<const PREFIX_LEN: usize>(
-    header: &Header<PREFIX_LEN>,
-    rest: &[u8],
-) -> Result<PrefixMatch, OptimisticMismatch>
-    ensures matched { result ≡ optimistic_match header.now.prefix_len rest.now }
-    ensures whole { IfOk result (λ found. found.matched_bytes ≡ header.now.prefix_len) }
-    ensures within { IfOk result (λ found. found.matched_bytes ≤ length rest.now) }
-    ensures passes_every_front { (prefix : List ℕ) →
-        IsPrefixOfHeader header.now prefix → IsFront prefix rest.now →
-        IsOkAnd result (λ found. found.matched_bytes ≡ length prefix) }
-{
-    let prefix_len = header.prefix_len();
-    if rest.len() < prefix_len {
-        Err(OptimisticMismatch {
-            matched_bytes: rest.len(),
-        })
-    } else {
-        Ok(PrefixMatch {
-            matched_bytes: prefix_len,
-        })
-    }
-}
-
-/// Compares the rest of a key with the header's prefix where it is wholly stored, and tests its
-/// length where it is not.
-pub(crate) fn match_stored<const PREFIX_LEN: usize>(
-    header: &Header<PREFIX_LEN>,
-    rest: &[u8],
-) -> Result<AttemptOptimisticPrefixMatch, PessimisticMismatch>
-    ensures matched { result ≡ cheap_match PREFIX_LEN header.now.prefix_len header.now.stored rest.now }
-    ensures whole { IfOk result (λ found. found.matched_bytes ≡ header.now.prefix_len) }
-    ensures within { IfOk result (λ found. found.matched_bytes ≤ length rest.now) }
-    ensures passes_every_front { (prefix : List ℕ) →
-        IsPrefixOfHeader header.now prefix → IsFront prefix rest.now →
-        IsOkAnd result (λ found. found.matched_bytes ≡ length prefix) }
-{
-    if PREFIX_LEN < header.prefix_len() {
-        let PrefixMatch { matched_bytes } = match_length(header, rest)?;
-        return Ok(AttemptOptimisticPrefixMatch {
-            matched_bytes,
-            any_implicit_bytes: true,
-        });
-    }
-    let prefix = header.read_prefix();
-    let matched_bytes = common_front_len(prefix, rest);
-    if matched_bytes < prefix.len() {
-        Err(PessimisticMismatch {
-            matched_bytes,
-            prefix_byte: Some(prefix[matched_bytes]),
-        })
-    } else {
-        Ok(AttemptOptimisticPrefixMatch {
-            matched_bytes,
-            any_implicit_bytes: false,
-        })
-    }
 }
