@@ -2,6 +2,7 @@ mod DescentLemmas
 mod OnlyWayLemmas
 mod PathLeads
 mod PathLemmas
+mod SameEntries
 mod SameKinds
 mod ScanLemmas
 mod WayLemmas

@@ -18,9 +18,10 @@ ghost use Rattle.art_tree.specs.Loading.{IsSnug};
 pub use art_arena::laws::{
     allocating_keeps_lists_spelled, allocating_leaves_trees_standing,
     an_allocated_node_makes_a_tree, each_leaf_of_a_list_is_knit, each_pointer_is_at_one_place,
-    lists_are_spelled_where_links_are_kept, no_text_begins_another, path_and_prefix_are_shared,
-    same_trees_have_the_same_texts, texts_ascend, trees_stand_where_all_is_kept,
-    trees_stand_where_texts_are_kept,
+    lists_are_spelled_where_links_are_kept, lists_are_spelled_where_their_leaves_are_kept,
+    no_text_begins_another, path_and_prefix_are_shared, same_trees_have_the_same_texts,
+    texts_ascend, trees_stand_where_all_is_kept, trees_stand_where_texts_are_kept,
+    trees_stand_where_their_nodes_are_kept,
 };
 use art_bytes::{AsBytes, NoPrefixesBytes};
 use art_nodes::OpaqueNodePtr;
@@ -98,4 +99,21 @@ pub fn entries_are_what_leaves_hold<K: AsBytes, V, const PREFIX_LEN: usize>()
         entry_at K.text arena text ≡ Some (leaf_key leaf, leaf_value leaf) }
 {
     no_text_begins_another::<OpaqueNodePtr<K, V, PREFIX_LEN>>();
+}
+
+/// Two trees with their arenas that have the same texts as entries are the same but for their pointers,
+/// kinds included, whichever calls made them: so each is the tree that `load` makes of its entries.
+pub fn the_same_entries_make_the_same_tree<K: AsBytes, V, const PREFIX_LEN: usize>()
+    ensures { (arena other_arena : ArenaOf K V PREFIX_LEN) (root other_root : _) (tree other : _) →
+        IsAlone K.text arena root tree → IsAlone K.text other_arena other_root other →
+        ((text : List ℕ) → HasEntry K.text arena text ↔ HasEntry K.text other_arena text) →
+        SameButPointers tree other × (map node_kind (places tree) ≡ map node_kind (places other)) }
+{
+    texts_ascend::<OpaqueNodePtr<K, V, PREFIX_LEN>>();
+    the_same_texts_make_the_same_tree::<
+        OpaqueNodePtr<K, V, PREFIX_LEN>,
+        OpaqueNodePtr<K, V, PREFIX_LEN>,
+    >();
+    the_same_tree_has_the_same_kinds::<K, V, PREFIX_LEN>();
+    entries_are_what_leaves_hold::<K, V, PREFIX_LEN>();
 }
