@@ -109,27 +109,12 @@ fn various_types_as_bytes(rt: HostRuntime) -> Result<(), Fail> {
 }
 
 #[test]
-fn a_proper_front_is_less_and_else_the_first_byte_that_differs_decides(
-    rt: HostRuntime,
-) -> Result<(), Fail> {
-    let alloc = rt.alloc();
-
+fn a_proper_front_is_less_and_else_the_first_byte_that_differs_decides(rt: HostRuntime) {
     let strings = ["", "a", "ab", "b", "ba", "\u{7f}", "\u{80}"];
     check_ascending(&rt, &strings.map(StrKey::new));
-    let mut owned = Vec::new(alloc);
-    for string in strings {
-        owned.push(String::from_str(alloc, string)?)?;
-    }
-    check_ascending(&rt, &owned);
 
     let slices: [&[u8]; 7] = [&[], &[0], &[0, 0], &[0, 255], &[1], &[127], &[128]];
     check_ascending(&rt, &slices.map(SliceKey::new));
-    let mut owned = Vec::new(alloc);
-    for slice in slices {
-        owned.push(slice.to_vec(alloc)?)?;
-    }
-    check_ascending(&rt, &owned);
-    Ok(())
 }
 
 #[test]
@@ -196,8 +181,6 @@ fn c_strings_have_one_zero_the_last(rt: HostRuntime) -> Result<(), Fail> {
     assert!(rt; text_of(&c_string(alloc, &long)?).len() == 1001);
 
     check_zero_at(&rt, alloc, &[1, 0, 2, 0], 1)?;
-    check_zero_at(&rt, alloc, &[0, 1], 0)?;
-    check_zero_at(&rt, alloc, &[1, 1, 1, 0], 3)?;
     let Err(refusal) = CStringKey::new(vec![in alloc; 1, 0]?) else {
         panic!(rt; "no zero was found");
     };

@@ -22,7 +22,7 @@ fn finds(
 
 #[test]
 fn queries_and_removals_are_answered(rt: HostRuntime) -> Result<(), Fail> {
-    let cases: [(&[&str], &[u8], &str); 13] = [
+    let cases: [(&[&str], &[u8], &str); 14] = [
         (&["0", "2"], SEARCHES.as_bytes(), ANSWERS),
         (
             &["16"],
@@ -50,6 +50,12 @@ fn queries_and_removals_are_answered(rt: HostRuntime) -> Result<(), Fail> {
             "found 0 child 100 reads 2\nremoved 0\nfound 2 child 49 reads 2\nabsent\n\
                 none reads 1\n",
         ),
+        (
+            ALL,
+            b"+aaaa\n+aaab\n+aab\n+ab\n+b\n?aaaa\n?aaab\n?b\n?aaac\n?aaa\n",
+            "found 0 normal 97 97 reads 5\nfound 1 normal 97 98 reads 5\n\
+                found 4 child 98 reads 2\nnone reads 4\nnone reads 4\n",
+        ),
         (ALL, b"", ""),
         (ALL, b"?a\n", "none reads 0\n"),
         (ALL, b"?a\n-a\n", "none reads 0\nabsent\n"),
@@ -67,29 +73,6 @@ fn queries_and_removals_are_answered(rt: HostRuntime) -> Result<(), Fail> {
         finds(&rt, rt.alloc(), rooms, input, output)?;
     }
     Ok(())
-}
-
-#[test]
-fn entries_nested_200_deep_are_found(rt: HostRuntime) -> Result<(), Fail> {
-    // 200 times `a`, then for each number from 199 down to 0 as many times `a` and a `b`
-    let mut input = String::new(rt.alloc());
-    input.push_str("+")?;
-    for _ in 0..200 {
-        input.push_str("a")?;
-    }
-    for level in 1..=200 {
-        input.push_str("\n+")?;
-        for _ in level..200 {
-            input.push_str("a")?;
-        }
-        input.push_str("b")?;
-    }
-    input.push_str("\n?")?;
-    for _ in 0..200 {
-        input.push_str("a")?;
-    }
-    let output = "found 0 normal 97 97 reads 201\n";
-    finds(&rt, rt.alloc(), ALL, input.as_bytes(), output)
 }
 
 #[test]

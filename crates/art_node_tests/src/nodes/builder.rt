@@ -1,8 +1,6 @@
-//! Nodes of each kind, built child by child.
+//! Nodes built child by child. (`fixtures` builds those of the greater kinds.)
 use super::fixtures::{Pointer, leaf};
-use art_nodes::{
-    InnerNode4, InnerNode16, InnerNode48, InnerNodeCommon, InnerNodeDirect, NodePtr, NodeType,
-};
+use art_nodes::{InnerNode4, InnerNodeCommon, NodePtr, NodeType};
 use std::process::Abort;
 
 // The pointer to the small node under a slab key.
@@ -24,7 +22,7 @@ fn has_what_was_written<N: InnerNodeCommon<u8, u8, 16>>(rt: &impl Abort, node: &
 }
 
 #[test]
-fn each_kind_is_built(rt: HostRuntime) {
+fn a_node_is_built_child_by_child(rt: HostRuntime) {
     let small = InnerNode4::<u8, u8, 16>::builder(b"prefix", 6)
         .write_child(1, leaf(8))
         .write_child(0, leaf(7))
@@ -32,24 +30,6 @@ fn each_kind_is_built(rt: HostRuntime) {
         .write_child(200, leaf(10))
         .build();
     has_what_was_written(&rt, &small);
-    let sixteen = InnerNode16::<u8, u8, 16>::builder(b"prefix", 6)
-        .write_child(1, leaf(8))
-        .write_child(0, leaf(7))
-        .write_child(200, leaf(10))
-        .build();
-    has_what_was_written(&rt, &sixteen);
-    let many = InnerNode48::<u8, u8, 16>::builder(b"prefix", 6)
-        .write_child(1, leaf(8))
-        .write_child(0, leaf(7))
-        .write_child(200, leaf(10))
-        .build();
-    has_what_was_written(&rt, &many);
-    let all = InnerNodeDirect::<u8, u8, 16>::builder(b"prefix", 6)
-        .write_child(1, leaf(8))
-        .write_child(0, leaf(7))
-        .write_child(200, leaf(10))
-        .build();
-    has_what_was_written(&rt, &all);
     let unsearched = InnerNode4::<u8, u8, 16>::builder(b"prefix", 6)
         .write_child_unchecked(0, leaf(7))
         .write_child_unchecked(1, leaf(8))

@@ -96,17 +96,4 @@ fn each_representation_becomes_each_other(rt: HostRuntime) {
     assert!(&rt; indirect.num_children() <= 4);
     has_children(&rt, &InnerNode4::from_indirect(&indirect), &bytes);
     takes_over_a_prefix::<InnerNode4<u8, u8, 16>>(&rt);
-    takes_over_a_prefix::<InnerNode48<u8, u8, 16>>(&rt);
-    takes_over_a_prefix::<InnerNodeDirect<u8, u8, 16>>(&rt);
-}
-
-#[test]
-fn an_indirect_node_has_each_child_once(rt: HostRuntime) {
-    let mut node: InnerNode48<u8, u8, 16> = with_bytes(&rt, &[5, 200, 6, 90]);
-    node.remove_child(200);
-    let children = node.initialized_child_pointers();
-    assert!(rt; children.len() == 3);
-    for byte in [5, 6, 90] {
-        assert!(&rt; children.contains(&leaf(byte)));
-    }
 }

@@ -37,25 +37,7 @@ fn has_children_at_borders(rt: &impl Abort) {
     has_range(rt, &node, Unbounded, Unbounded, &AT_BORDERS[1..5]);
 }
 
-// The first byte, the last one, and one between, each with the key of the leaf under it.
-const AT_ENDS: [(u8, usize); 3] = [(0, 0), (200, 200), (255, 255)];
-
-fn has_children_at_ends(rt: &impl Abort) {
-    let mut node: Node = node_of(rt, &[], &[(255, 255), (0, 0), (200, 200)]);
-    has_range(rt, &node, Included(0), Included(255), &AT_ENDS);
-    has_range(rt, &node, Excluded(200), Unbounded, &AT_ENDS[2..]);
-    has_range(rt, &node, Excluded(0), Excluded(255), &AT_ENDS[1..2]);
-    has_range(rt, &node, Included(1), Excluded(200), &[]);
-    let copy = node.clone();
-    assert!(rt; node.remove_child(255) == Some(leaf(255)));
-    assert!(rt; node.remove_child(200) == Some(leaf(200)));
-    assert!(rt; node.num_children() == 1);
-    assert!(rt; node.max() == (0, leaf(0)));
-    has_range(rt, &copy, Unbounded, Unbounded, &AT_ENDS);
-}
-
 #[test]
 fn children_stand_on_both_sides_of_each_border(rt: HostRuntime) {
     has_children_at_borders(&rt);
-    has_children_at_ends(&rt);
 }

@@ -25,7 +25,7 @@ fn goes_both_ways<N: InnerNodeCommon<u8, u8, 16> + Drop>(rt: &impl Abort)
         assert!(rt; pairs.next() == Some(*pair));
     }
     assert!(rt; pairs.next() == None);
-    assert!(rt; pairs.next_back() == None);
+    assert!(rt; pairs.next() == None);
     let mut pairs = node.iter();
     for pair in sorted.iter().rev() {
         assert!(rt; pairs.next_back() == Some(*pair));

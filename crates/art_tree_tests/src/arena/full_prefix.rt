@@ -5,10 +5,7 @@ ghost use Rattle.art_arena.specs.Standing.{TreeAt, TreeUnder};
 ghost use Rattle.art_arena.specs.Trees.{SameButPointers};
 
 use super::{Full, full_match};
-use art_arena::laws::{
-    allocating_leaves_trees_standing, an_allocated_node_makes_a_tree,
-    same_trees_have_the_same_texts,
-};
+use art_arena::laws::{allocating_leaves_trees_standing, same_trees_have_the_same_texts};
 use art_arena::{FullPrefix, NodeArena};
 use art_bytes::AsBytes;
 use art_nodes::{
@@ -91,25 +88,6 @@ fn plant_leaf<const PREFIX_LEN: usize>(
     Ok(pointer.to_opaque())
 }
 
-// The node is put where its tree stands. What stood before stands.
-fn plant<K: AsBytes + Drop, const PREFIX_LEN: usize>(
-    arena: &mut NodeArena<K, u8, PREFIX_LEN>,
-    node: InnerNode4<K, u8, PREFIX_LEN>,
-) -> Result<OpaqueNodePtr<K, u8, PREFIX_LEN>, AllocError>
-    ensures planted { (depth : ℕ) (under : TreeUnder K.text arena.old node depth) →
-        IfOk result (λ pointer. (found : TreeAt K.text arena.new pointer) ×
-        (found.path ≡ under.path)) }
-    ensures kept { IfOk result (λ _. (pointer : _) (found : TreeAt K.text arena.old pointer) →
-        (again : TreeAt K.text arena.new pointer) × (again.path ≡ found.path)) }
-{
-    an_allocated_node_makes_a_tree::<K, u8, PREFIX_LEN>();
-    allocating_leaves_trees_standing::<K, u8, PREFIX_LEN>();
-    match arena.allocate_node_ptr(node) {
-        Ok(pointer) => Ok(pointer.to_opaque()),
-        Err(_) => Err(AllocError),
-    }
-}
-
 // A node under this path with this prefix, over two trees under what follows.
 fn fork<K: AsBytes, const PREFIX_LEN: usize>(
     rt: &impl Abort,
@@ -149,29 +127,6 @@ fn fork_of_leaves<const PREFIX_LEN: usize>(
         (under.path ≡ path.now)) }
 {
     let first = plant_leaf(alloc, arena, path, prefix, low)?;
-    let second = plant_leaf(alloc, arena, path, prefix, high)?;
-    Ok(fork(rt, arena, path, prefix, (low, first), (high, second)))
-}
-
-// A node under this path with this prefix, over the tree of a node and a leaf beside it.
-fn fork_over<const PREFIX_LEN: usize>(
-    rt: &impl Abort,
-    alloc: Global,
-    arena: &mut NodeArena<Vec<u8>, u8, PREFIX_LEN>,
-    node: InnerNode4<Vec<u8>, u8, PREFIX_LEN>,
-    path: &[u8],
-    prefix: &[u8],
-    low: u8,
-    high: u8,
-) -> Result<InnerNode4<Vec<u8>, u8, PREFIX_LEN>, AllocError>
-    ensures { (depth : ℕ)
-        (below : TreeUnder ⟦<Vec<u8> as AsBytes>⟧.text arena.old node.entry depth) →
-        below.path ≡ (path.now ++ prefix.now) ++ low ∷ [] →
-        IfOk result (λ over.
-        (under : TreeUnder ⟦<Vec<u8> as AsBytes>⟧.text arena.new over (length path.now)) ×
-        (under.path ≡ path.now)) }
-{
-    let first = plant(arena, node)?;
     let second = plant_leaf(alloc, arena, path, prefix, high)?;
     Ok(fork(rt, arena, path, prefix, (low, first), (high, second)))
 }
@@ -232,32 +187,6 @@ fn at_the_root<const PREFIX_LEN: usize>(
     Ok(())
 }
 
-fn of_length<const PREFIX_LEN: usize>(
-    rt: &impl Abort,
-    alloc: Global,
-    arena: &mut NodeArena<Vec<u8>, u8, PREFIX_LEN>,
-    prefix: &[u8],
-) -> Result<(), AllocError> {
-    let node = fork_of_leaves(rt, alloc, arena, b"p", prefix, 0, 255)?;
-    expect_prefix(rt, arena, &node, 1, prefix);
-    Ok(())
-}
-
-fn three_nodes_deep<const PREFIX_LEN: usize>(
-    rt: &impl Abort,
-    alloc: Global,
-    arena: &mut NodeArena<Vec<u8>, u8, PREFIX_LEN>,
-) -> Result<(), AllocError> {
-    let bottom = fork_of_leaves(rt, alloc, arena, b"abcdefgh", b"ijk", b'l', b'm')?;
-    let middle = fork_over(rt, alloc, arena, bottom, b"abcd", b"efg", b'h', b'z')?;
-    expect_prefix(rt, arena, &middle, 4, b"efg");
-    expect_match(rt, arena, &middle, 4, b"abcdefx", Err((2, b'g', Less)));
-    let top = fork_over(rt, alloc, arena, middle, b"", b"abc", b'd', b'z')?;
-    expect_prefix(rt, arena, &top, 0, b"abc");
-    expect_match(rt, arena, &top, 0, b"abcdefghijkl", Ok(3));
-    Ok(())
-}
-
 fn whole_prefixes<const PREFIX_LEN: usize>(
     rt: &impl Abort,
     alloc: Global,
@@ -265,12 +194,6 @@ fn whole_prefixes<const PREFIX_LEN: usize>(
 ) -> Result<(), AllocError> {
     under_a_path(rt, alloc, &mut arena)?;
     at_the_root(rt, alloc, &mut arena)?;
-    three_nodes_deep(rt, alloc, &mut arena)?;
-    let bytes = [7; 17];
-    if PREFIX_LEN < bytes.len() {
-        of_length(rt, alloc, &mut arena, &bytes[..PREFIX_LEN])?;
-        of_length(rt, alloc, &mut arena, &bytes[..PREFIX_LEN + 1])?;
-    }
     Ok(())
 }
 

@@ -249,9 +249,6 @@ fn a_node_of_one_child_goes(rt: HostRuntime) -> Result<(), Fail> {
     check_texts(&rt, &tree, &[("abcde2", 1)]);
     check_removed(&rt, &mut tree, "abcde2", 1)?;
     assert!(rt; tree.root().is_none() && tree.first().is_none());
-    assert!(rt; tree.remove(b"abz")?.is_none());
-    add(&rt, alloc, &mut tree, "7", 7)?;
-    assert!(rt; root_of(&rt, &tree).node_type() == NodeType::Leaf);
     Ok(())
 }
 
@@ -277,38 +274,35 @@ fn a_text_comes_and_goes(rt: HostRuntime) -> Result<(), Fail> {
     Ok(())
 }
 
-// The kind of a root over so many keys of one byte.
-fn kind_over(count: usize) -> Option<NodeType> {
-    match count {
-        0 => None,
-        1 => Some(NodeType::Leaf),
-        2..=4 => Some(NodeType::Node4),
-        5..=16 => Some(NodeType::Node16),
-        17..=48 => Some(NodeType::Node48),
-        _ => Some(NodeType::Node256),
-    }
+type Bytes = ArtTree<[u8; 1], u8, 0>;
+
+fn kind_of(tree: &Bytes) -> Option<NodeType> {
+    tree.root().map(|root| root.node_type())
 }
 
 #[test]
-fn nodes_grow_and_shrink(rt: HostRuntime) -> Result<(), Fail> {
-    let mut tree = ArtTree::<[u8; 1], u8, 0>::new(rt.alloc());
-    for step in 0..=255u8 {
-        let Ok(before) = tree.insert([step.wrapping_mul(7)], step) else {
+fn a_tree_comes_and_goes(rt: HostRuntime) -> Result<(), Fail> {
+    let mut tree = Bytes::new(rt.alloc());
+    assert!(rt; tree.first().is_none() && tree.last().is_none());
+    for byte in 0..5 {
+        let Ok(before) = tree.insert([byte], byte) else {
             return Err(AllocError.into());
         };
         assert!(rt; before.is_none());
-        assert!(rt; tree.root().map(|root| root.node_type()) == kind_over(usize::from(step) + 1));
     }
-    for step in 0..=255u8 {
-        assert!(rt; tree.get(&[step.wrapping_mul(7)]) == Some(&step));
+    assert!(rt; kind_of(&tree) == Some(NodeType::Node16));
+    assert!(rt; tree.remove(&[0])? == Some(([0], 0)));
+    assert!(rt; kind_of(&tree) == Some(NodeType::Node4));
+    assert!(rt; tree.remove(&[9])? == None);
+    for byte in 1..5 {
+        assert!(rt; tree.remove(&[byte])? == Some(([byte], byte)));
     }
-    for step in 0..=255u8 {
-        let byte = step.wrapping_mul(11);
-        assert!(rt; tree.remove(&[byte])?.is_some());
-        assert!(rt; tree.remove(&[byte])?.is_none());
-        assert!(rt; tree.get(&[byte]).is_none());
-        assert!(rt; tree.root().map(|root| root.node_type()) == kind_over(255 - usize::from(step)));
-    }
+    assert!(rt; kind_of(&tree) == None && tree.first().is_none());
+    let Ok(before) = tree.insert([7], 7) else {
+        return Err(AllocError.into());
+    };
+    assert!(rt; before.is_none());
+    assert!(rt; kind_of(&tree) == Some(NodeType::Leaf));
     Ok(())
 }
 
@@ -370,7 +364,17 @@ fn a_refused_insert_leaves_the_tree(rt: HostRuntime) -> Result<(), Fail> {
     Ok(())
 }
 
-type Bytes = ArtTree<[u8; 1], u8, 0>;
+// The kind of a root over so many keys of one byte.
+fn kind_over(count: usize) -> Option<NodeType> {
+    match count {
+        0 => None,
+        1 => Some(NodeType::Leaf),
+        2..=4 => Some(NodeType::Node4),
+        5..=16 => Some(NodeType::Node16),
+        17..=48 => Some(NodeType::Node48),
+        _ => Some(NodeType::Node256),
+    }
+}
 
 // The keys of one byte below the end have it as their value, and there are no others.
 fn check_bytes(rt: &impl Abort, tree: &Bytes, end: usize) {
@@ -378,7 +382,7 @@ fn check_bytes(rt: &impl Abort, tree: &Bytes, end: usize) {
         let value = (usize::from(byte) < end).then_some(byte);
         assert!(rt; tree.get(&[byte]).copied() == value);
     }
-    assert!(rt; tree.root().map(|root| root.node_type()) == kind_over(end));
+    assert!(rt; kind_of(tree) == kind_over(end));
 }
 
 // A tree of the keys of one byte below the end. Where the load is refused memory, the entries come back

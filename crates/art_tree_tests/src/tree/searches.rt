@@ -97,22 +97,6 @@ fn the_greatest_of_all_bytes_is_found(rt: HostRuntime) -> Result<(), Fail> {
     Ok(())
 }
 
-#[test]
-fn trees_of_one_arena_stay(rt: HostRuntime) -> Result<(), Fail> {
-    let alloc = rt.alloc();
-    let mut arena = NodeArena::<SliceKey, usize, 2>::new(alloc);
-    let texts: [&[u8]; 3] = [b"abc1", b"abc2", b"b"];
-    let first = load_texts(alloc, &mut arena, &texts)?;
-    let texts: [&[u8]; 3] = [b"abc2", b"abd", b"c"];
-    let second = load_texts(alloc, &mut arena, &texts)?;
-    assert!(rt; first != second);
-    let rows: [Row; 2] = [(b"abc2", Normal(1, b'a', b'2'), 3), (b"c", Nothing, 1)];
-    check(&rt, &arena, first, &rows);
-    let rows: [Row; 2] = [(b"abc2", Normal(0, b'a', b'c'), 3), (b"b", Nothing, 1)];
-    check(&rt, &arena, second, &rows);
-    Ok(())
-}
-
 // 200 times `a`, and then each shorter run of `a` with a `b` after it.
 fn nested_200_deep(alloc: Global) -> Result<Vec<Vec<u8>>, AllocError> {
     let mut keys = Vec::new(alloc);
@@ -187,7 +171,5 @@ fn a_tree_ends_at_its_first_and_its_last_leaf(rt: HostRuntime) -> Result<(), Fai
     let mut arena = NodeArena::new(alloc);
     let root = load_texts::<2>(alloc, &mut arena, &[b"abc1", b"abc2", b"b"])?;
     check_ends(&rt, &arena, root, 0, 2);
-    let root = load_texts::<2>(alloc, &mut arena, &[b""])?;
-    check_ends(&rt, &arena, root, 0, 0);
     Ok(())
 }
