@@ -1,11 +1,12 @@
 -- The top bit of a number flipped, as two's complement is raised by half of its range, and back.
-use Rattle.std.proofs.Common.{◌≡◌, ℕ, ◌+◌, ◌-◌, ◌*◌, ◌^◌, ◌<◌, ◌≤◌, ℤ, pos, negsuc, SFits, arith, suc, refl, ap, ◌∙◌, inl, inr}
+use Rattle.std.proofs.Common.{◌≡◌, ℕ, ◌+◌, ◌-◌, ◌*◌, ◌^◌, ◌<◌, ◌≤◌, ℤ, pos, negsuc, SFits, List, arith, suc, refl, sym, ap, ◌∙◌, inl, inr}
 use Rattle.std.proofs.lemmas.Bool.{cases_lt, le-ltb}
 use Rattle.std.specs.Prelude.{◌+ℤ◌, ◌≤ℤ◌, ◌<ℤ◌, neg_ℤ, unsigned_abs, bit_xor}
 use Rattle.std.specs.Int.{Width, w8, w16, w32, w64, w128, cast_signed, cast_unsigned}
 use Rattle.std.specs.Int.Bits.{xor_zero_r}
-use Rattle.std.proofs.lemmas.Int.{ints, to_z_pos}
+use Rattle.std.proofs.lemmas.Int.{ints, to_z_pos, to_z-of_z}
 use Rattle.std.proofs.lemmas.Nat.{xor_block, pow_pos}
+use Rattle.art_mapped.specs.Numbers.{digits}
 use mir.Val.{bits, hbits}
 
 -- below half, the bit is set
@@ -68,3 +69,16 @@ flipped_back w n below =
           let here : cast_signed w (bit_xor n half) ≡ pos (n - half) = ap (cast_signed w) at_left ∙ to_z_pos w (n - half) (omega arith) in
           rw here (record { above = omega (arith, ints); below = omega (arith, ints); raised = omega (arith, ints) })
     ]
+
+-- the bytes of a signed number, from its bits
+pub text_of_flipped : (w : Width) (width n : ℕ) (z : ℤ) (bytes : List ℕ) → SFits w z → n ≡ cast_unsigned w (cast_signed w (cast_unsigned w z)) → bytes ≡ digits width (bit_xor n (2 ^ hbits w))
+    → bytes ≡ digits width (unsigned_abs (z +ℤ pos (2 ^ hbits w)))
+text_of_flipped w width n z bytes fits bits_are text =
+    text ∙ ap (digits width) (ap (λ m. bit_xor m (2 ^ hbits w)) (bits_are ∙ ap (cast_unsigned w) (to_z-of_z w z fits)) ∙ flipped w z fits)
+
+-- the number that bits with the top one flipped stand for lies in the signed range, and has their bytes
+pub read_flipped : (w : Width) (width n : ℕ) (z : ℤ) (bytes : List ℕ) → n < 2 ^ bits w → SFits w z → z ≡ cast_signed w (bit_xor n (2 ^ hbits w)) → digits width n ≡ bytes
+    → ((neg_ℤ (pos (2 ^ hbits w)) ≤ℤ cast_signed w (cast_unsigned w z)) × (cast_signed w (cast_unsigned w z) <ℤ pos (2 ^ hbits w))) × (bytes ≡ digits width (unsigned_abs (cast_signed w (cast_unsigned w z) +ℤ pos (2 ^ hbits w))))
+read_flipped w width n z bytes below fits is text =
+    let back = rw (← is) at (flipped_back w n below) in
+    rw (to_z-of_z w z fits) ((back.above, back.below), sym (ap (digits width) back.raised ∙ text))

@@ -1,9 +1,9 @@
 -- The parts of joined elements.
-use Rattle.std.proofs.Common.{◌≡◌, ℕ, zero, suc, ◌+◌, ◌*◌, ◌/◌, ◌%◌, ◌<◌, ◌≤◌, List, [], ◌∷◌, ◌++◌, length, take, drop, get_or, refl, sym, ap, ◌∙◌, inl, inr, append_assoc, arith, length-drop}
+use Rattle.std.proofs.Common.{◌≡◌, ℕ, zero, suc, ◌+◌, ◌-◌, ◌*◌, ◌/◌, ◌%◌, ◌<◌, ◌≤◌, List, [], ◌∷◌, ◌++◌, length, take, drop, get_or, refl, sym, ap, ◌∙◌, inl, inr, append_assoc, arith, length-drop}
 use Rattle.std.specs.Prelude.{All}
 use Rattle.std.proofs.lemmas.List.{take_all, take-append-le, take-append-drop, drop-append-le, drop-drop, drop_all}
 use Rattle.std.proofs.lemmas.List.Elements.{All-nil, All-cons, All-head, All-tail}
-use Rattle.std.proofs.lemmas.List.{append-nil}
+use Rattle.std.proofs.lemmas.List.{append-nil, length-take-le}
 use Rattle.std.proofs.lemmas.Grind.{flat_map-append}
 use Rattle.std.proofs.lemmas.Bool.{cases_lt}
 use Rattle.std.proofs.lemmas.Nat.{mul-le, div-add-mod'}
@@ -80,6 +80,17 @@ module _ {E : Type 0} {is_element : E → Type 0} {text : E → List ℕ} {order
   pub part_within : (k size : ℕ) → k < size / width → (k + 1) * width ≤ size
   part_within k size below =
       omega (arith, mul-le (k + 1) width (size / width) width (omega arith) (omega arith), div-add-mod' size width)
+
+  -- a part as it is taken from a slice, and how long it is
+  pub part_taken : (k first second : ℕ) (bytes : List ℕ) → first ≡ width → second ≡ width → take second (take (length bytes - k * first) (drop (k * first) bytes)) ≡ part width k bytes
+  part_taken k first second bytes first_is second_is =
+      let start = k * width in
+      rw (first_is, second_is) (ap (take width) (take_all (length bytes - start) (drop start bytes) (omega (arith, length-drop start bytes))))
+
+  pub length-part : (k : ℕ) (bytes : List ℕ) → k < length bytes / width → length (part width k bytes) ≡ width
+  length-part k bytes below =
+      let start = k * width in
+      length-take-le width (drop start bytes) (omega (arith, length-drop start bytes, part_within k (length bytes) below))
 
   pub is_part_of_some : (bytes : List ℕ) (k : ℕ) → AreJoined is_element text bytes → k < length bytes / width → IsPartOfSome is_element text (part width k bytes)
   is_part_of_some bytes k are below =

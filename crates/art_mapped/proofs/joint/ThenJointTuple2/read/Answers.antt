@@ -1,5 +1,5 @@
 use Rattle.std.proofs.Common.{◌≡◌, length, arith}
-use Rattle.art_mapped.specs.TupleLaws.{part_laws}
+use Rattle.art_mapped.specs.TupleLaws.{part_laws, split_both}
 use Rattle.art_mapped.proofs.Cuts.{cut, long_enough}
 use Rattle.art_mapped.proofs.joint.ThenJointTuple2.read.Goals as goal
 
@@ -30,3 +30,13 @@ read_part-requires g c =
     let long : length y ≡ g.K.FixedBytes.WIDTH = omega (arith, c.split_at.ensures.back_len, c.WIDTH.ensures, long_enough front last c.args.bytes.now c.requires) in
     let sides = cut front last c.args.bytes.now x y c.requires same long in
     sides.1
+
+pub returns-clause-inverts : goal.returns-clause-inverts
+returns-clause-inverts g c = λ value value_in stands.
+    let front = g.met.F.Joint.laws in
+    let last = part_laws g.K.FixedBytes.WIDTH g.met.M.BytesMapping.has_text g.met.K.FixedBytes.one_key g.met.M.BytesMapping.reads_one in
+    let x = c.split_at.result.0.now in
+    let y = c.split_at.result.1.now in
+    let long : length y ≡ g.K.FixedBytes.WIDTH = omega (arith, c.split_at.ensures.back_len, c.WIDTH.ensures, long_enough front last c.args.bytes.now c.requires) in
+    let sides = split_both front last c.args.bytes.now x y value value_in.1 stands c.split_at.ensures.by_index.0 long in
+    (c.in_ok-value.ensures.inverts value.0 value_in.0 sides.0, c.in_ok-read_part.ensures.inverts value.1 value_in.1.0 sides.1)

@@ -1,0 +1,10 @@
+use Rattle.std.proofs.Common.{rules}
+use Rattle.std.specs.Int.{w8}
+use Rattle.art_mapped.specs.DigitLaws.{digits-read}
+use Rattle.art_mapped.proofs.Flip.{read_flipped}
+use Rattle.art_mapped.proofs.signed.I8ElementSigned.decode.Goals as goal
+
+pub returns-clause-some : goal.returns-clause-some
+returns-clause-some c =
+    let n = c.from_be_bytes.result in
+    read_flipped w8 1 n c.cast_signed.result c.args.bytes c.from_be_bytes.type_inv (search rules) c.cast_signed.ensures (digits-read 0 c.args.bytes n (search rules) (search rules) c.from_be_bytes.ensures)
