@@ -1,5 +1,5 @@
 -- Words of bits, and sets of bytes made of four.
-use Rattle.std.proofs.Common.{◌≡◌, ◌≢◌, ℕ, suc, ◌+◌, ◌-◌, ◌*◌, ◌/◌, ◌%◌, ◌^◌, ◌<◌, ◌≤◌, min, ◌==◌, List, length, get_or, set, sym, ◌∙◌, ap, arith, inl, inr}
+use Rattle.std.proofs.Common.{◌≡◌, ◌≢◌, ℕ, suc, ◌+◌, ◌-◌, ◌*◌, ◌/◌, ◌%◌, ◌^◌, ◌<◌, ◌≤◌, min, ◌==◌, List, length, get_or, set, refl, sym, ◌∙◌, ap, arith, inl, inr}
 use Rattle.std.specs.Int.{bit_at, w64, trailing_zeros}
 use Rattle.std.specs.Int.Bits.{bit_and}
 use Rattle.std.proofs.lemmas.List.{get_or-set_same, get_or-set_other}
@@ -7,7 +7,7 @@ use Rattle.std.proofs.Math.Nat.{pow-suc}
 use Rattle.std.proofs.lemmas.Bool.{cases_lt}
 use Rattle.std.proofs.lemmas.Nat.{and_le_l, le-div, div_below}
 use Rattle.std.proofs.lemmas.Nat.Bits.{bit_at-lt, bit_at_and, bit_at_mask_inside, bit_at_mask_below, bit_at_ones, bit_at_ones_above, bit_at_above, bit_at-zero, ones_shl, ones_shr, bit_at-trailing_zeros}
-use Rattle.art_nodes.specs.ByteSet.{HasNoBit, has_byte}
+use Rattle.art_nodes.specs.ByteSet.{HasNoBit, has_byte, HasNoByte}
 use Rattle.art_nodes.proofs.ChildMapLemmas.{cases_eq}
 
 -- the bits of a word from one place on, and those below one
@@ -96,4 +96,14 @@ has_byte-others words byte word within kept other differs = elim (cases_eq (othe
       ∙ ap (λ b. b == 1) (kept (other % 64) (omega arith) apart)
       ∙ ap (λ n. bit_at (get_or words n 0) (other % 64) == 1) (sym same)
   | inr apart ↦ ap (λ w. bit_at w (other % 64) == 1) (get_or-set_other words (byte / 64) (other / 64) word 0 apart)
+]
+
+-- no byte before a word, and no bit of the word before one of them, is no byte before both
+pub none_through : (words : List ℕ) (from index start bit : ℕ) → HasNoByte words from (64 * index) → start ≡ from - 64 * index → bit < 64 → HasNoBit (get_or words index 0) start bit → HasNoByte words from (64 * index + bit)
+none_through words from index start bit earlier start_is within none byte above below = elim (cases_lt byte (64 * index)) [
+  | inl before ↦ earlier byte above before
+  | inr later ↦
+      let word : byte / 64 ≡ index = omega arith in
+      let place : byte % 64 ≡ byte - 64 * index = omega arith in
+      rw (word, place, none (byte - 64 * index) (omega arith) (omega arith)) refl
 ]

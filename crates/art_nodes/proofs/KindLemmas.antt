@@ -112,6 +112,22 @@ shrunk-remove kind count left of le greater below =
     let shrinks = Shrinks-kind kind of.inner greater in
     kind_for-IsOfKind (shrunk_kind kind) left (record { inner = shrinks.inner; few = omega (arith, shrinks.least); many = λ differs. omega (arith, shrinks.least, shrinks.many, of.many greater) })
 
+-- one that leaves it in its range keeps the kind
+pub kept-remove : (kind : NodeType) (count left : ℕ) → IsOfKind kind count → left ≤ count → (((kind ≢ Node4) × left < least_children kind) → ⊥) → kind ≡ kind_for left
+kept-remove kind count left of le in_range = kind_for-IsOfKind kind left (record {
+  inner = of.inner;
+  few = omega (arith, of.few);
+  many = λ differs. elim (cases_lt left (least_children kind)) [ inl below ↦ absurd (in_range (differs, below)) | inr above ↦ above ];
+})
+
+-- what is below the range of its kind fits the next smaller one
+pub fits-shrunk : (kind : NodeType) (count : ℕ) → kind ≢ Node4 → count < least_children kind → count ≤ most_children (shrunk_kind kind)
+fits-shrunk Node4 count greater below = absurd (greater refl)
+fits-shrunk Node16 count greater below = omega arith
+fits-shrunk Node48 count greater below = omega arith
+fits-shrunk Node256 count greater below = omega arith
+fits-shrunk Leaf count greater below = omega arith
+
 -- a removal takes one child at most
 pub removed_counts : {H : Type 0} (children : ChildMap H) (byte : ℕ) → IsAscending (key_bytes children) → record { few : length (without_child children byte) ≤ length children; many : length children ≤ length (without_child children byte) + 1 }
 removed_counts {H} children byte ascending =

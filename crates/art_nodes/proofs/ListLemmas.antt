@@ -1,5 +1,5 @@
 -- Lists: elements by place after an edit, and lists that have each number as often.
-use Rattle.std.proofs.Common.{◌≡◌, ℕ, zero, suc, ◌+◌, ◌-◌, ◌<◌, ◌≢◌, Bool, cond, List, [], ◌∷◌, ◌++◌, length, get_or, set, take, Some, slice_get, nat_lt, eqb, eq-eqb, count_by, refl, sym, ◌∙◌, ap, arith, if◌then◌else◌, inl, inr}
+use Rattle.std.proofs.Common.{◌≡◌, ℕ, zero, suc, ◌+◌, ◌-◌, ◌<◌, ◌≢◌, Bool, cond, List, [], ◌∷◌, ◌++◌, length, get_or, set, take, Some, None, slice_get, nat_lt, eqb, eq-eqb, count_by, refl, sym, ◌∙◌, ap, arith, if◌then◌else◌, inl, inr}
 use Rattle.std.specs.List.{remove, swap_remove, range_with_len}
 use Rattle.std.specs.List.Sorted.{IsPermutation}
 use Rattle.std.proofs.lemmas.Bool.Decides.{nat_tests}
@@ -11,6 +11,15 @@ use Rattle.art_nodes.proofs.ChildMapLemmas.{cases_eq, eq-false}
 
 -- lists, by their optional elements
 module _ {H : Type 0} where
+  -- a list that is counted with some is not empty, and one that is counted with none has no element
+  pub some_from_count : (xs : List H) {count : ℕ} → count ≡ length xs → count ≢ 0 → 0 < length xs
+  some_from_count [] is some = absurd (some is)
+  some_from_count (x ∷ xs) is some = omega arith
+
+  pub none_from_count : (xs : List H) (place : ℕ) {count : ℕ} → count ≡ length xs → count ≡ 0 → None ≡ slice_get xs place
+  none_from_count [] place is none = refl
+  none_from_count (x ∷ xs) place is none = absurd (omega arith)
+
   pub slice_get-set_same : (xs : List H) (i : ℕ) (x : H) → i < length xs → slice_get (set xs i x) i ≡ Some x
   slice_get-set_same [] i x within = absurd (omega arith)
   slice_get-set_same (y ∷ xs) zero x within = refl

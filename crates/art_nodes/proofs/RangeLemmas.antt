@@ -1,15 +1,15 @@
 -- The pairs within bounds, as parts of sorted bytes and of tables.
-use Rattle.std.proofs.Common.{◌≡◌, ℕ, zero, suc, ◌+◌, ◌-◌, ◌<◌, ◌≤◌, true, false, cond, ◌&&◌, nat_lt, nat_le, List, [], ◌∷◌, length, take, drop, Option, Some, None, refl, sym, ◌∙◌, ap, arith, inl, inr}
+use Rattle.std.proofs.Common.{◌≡◌, ℕ, zero, suc, ◌+◌, ◌-◌, ◌<◌, ◌≤◌, true, false, Bool, cond, ◌&&◌, nat_lt, nat_le, List, [], ◌∷◌, length, take, drop, Option, Some, None, refl, sym, ◌∙◌, ap, arith, inl, inr}
 use Rattle.std.specs.List.{zip, count_by}
 use Rattle.std.specs.declared.ops.Bound.{Bound}
 use Rattle.std.specs.declared.ops.Bound.TheVariants.{Included, Excluded, Unbounded}
 use Rattle.std.proofs.lemmas.Bool.{cases_lt}
 use Rattle.std.proofs.lemmas.Bool.Decides.{nat_tests}
-use Rattle.std.proofs.lemmas.List.Sums.{sum_by-cons}
+use Rattle.std.proofs.lemmas.List.Sums.{sum_by-cons, count_by-le-length}
 use Rattle.art_nodes.specs.ChildMap.{ChildMap, IsAscendingFrom, meets_start, meets_end, pairs_within, table_children}
 use Rattle.art_nodes.specs.PairSources.{first_byte, end_byte, pairs_between}
 use Rattle.art_nodes.proofs.ChildMapLemmas.{IsAbove, lt-true, lt-false}
-use Rattle.std.proofs.lemmas.List.{length-drop}
+use Rattle.std.proofs.lemmas.List.{length-drop, length-take-le, take_rest}
 use Rattle.art_nodes.proofs.SortedLemmas.{above-zip}
 use Rattle.art_nodes.proofs.TableLemmas.{above-table}
 
@@ -117,3 +117,10 @@ module _ {H : Type 0} where
   -- the pairs between two numbers are those of a part of the table
   pub table-between : (first end : ℕ) (places : List (Option H)) → first ≤ end → length places ≤ 256 → table_children first (take (end - first) (drop first places)) ≡ pairs_between (table_children 0 places) first end
   table-between first end places le fits = sym (table-part 0 first end first (end - first) places (omega arith) (omega arith) (omega arith))
+
+-- what lies beside the part of a list that a test counts is as long as the count
+pub length-counted : {X Y : Type 0} (test : X → Bool) (xs : List X) (ys : List Y) (from kept : ℕ) → length ys ≡ length xs → kept ≡ count_by test (take (length xs - from) (drop from xs))
+    → length (take kept (take (length ys - from) (drop from ys))) ≡ kept
+length-counted test xs ys from kept beside is =
+    let later = take (length xs - from) (drop from xs) in
+    length-take-le kept (take (length ys - from) (drop from ys)) (omega (arith, beside, is, count_by-le-length test later, ap length (take_rest xs from), ap length (take_rest ys from), length-drop from xs, length-drop from ys))

@@ -49,6 +49,10 @@ module _ {H : Type 0} where
   length-zip (b ∷ bytes) [] same = absurd (omega arith)
   length-zip (b ∷ bytes) (x ∷ children) same = let rest = length-zip bytes children (omega arith) in omega (arith, rest)
 
+  -- where there are children, there are bytes
+  pub some_bytes : (bytes : List ℕ) (children : List H) (header : Header) (node : Inner H) → length children ≡ length bytes → inner_with header (zip bytes children) ≡ node → 0 < length node.children → 0 < length bytes
+  some_bytes bytes children header node beside is some = omega (arith, length-zip bytes children beside, ap (λ n. length n.children) is, some)
+
   pub above-zip : (low : ℕ) (bytes : List ℕ) (children : List H) → length children ≡ length bytes → IsAscendingFrom low bytes → IsAbove low (zip bytes children)
   above-zip low bytes children same asc = rw (key_bytes-zip bytes children same) asc
 
@@ -177,3 +181,7 @@ module _ {H : Type 0} (prefix_room room : ℕ) (header : Header) (bytes : List �
       let shorter = length-remove bytes place at.in_range in
       let sound = subst (λ cs. IsInner prefix_room room (inner_with header cs)) (without_child-zip_remove 0 bytes children byte place sorted.beside sorted.ascending at) (sound_removed prefix_room room (inner_with header (zip bytes children)) byte sorted.sound) in
       rw one_less (fields_sorted prefix_room room (record header { count = header.count - 1 }) (remove bytes place) (remove children place) (omega (arith, bytes_counted sorted, shorter)) (omega (arith, sorted.beside, shorter, length-remove children place (omega (arith, at.in_range, sorted.beside)))) sound)
+
+-- the place of the last element
+pub last_below : {n : ℕ} → 0 < n → n - 1 < n
+last_below some = omega arith

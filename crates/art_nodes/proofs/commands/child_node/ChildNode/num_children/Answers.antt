@@ -1,5 +1,5 @@
-use Rattle.std.proofs.Common.{rules}
+use Rattle.std.proofs.Common.{rules, length, ap, ◌∙◌}
 use Rattle.art_nodes.proofs.commands.child_node.ChildNode.num_children.Goals as goal
 
 pub returns-clause-count : goal.returns-clause-count
-returns-clause-count g c = search rules
+returns-clause-count g c = c.num_children.ensures.count ∙ ap (λ n. length n.children) c.self.view_is

@@ -1,3 +1,4 @@
+use Rattle.art_nodes.specs.Inner.{node_with_child}
 use mathlib.Core.Bool.{true≢false}
 use Rattle.std.proofs.Common.{rules, arith, ◌≡◌, ◌≢◌, length, not, ap, sym, ◌∙◌}
 use Rattle.std.specs.Option.{is_some}
@@ -67,3 +68,11 @@ invariant_of-self g c =
             kept-room (kind_of any) children c.args.byte c.args.child sound.ascending of (omega (arith, sound.fits))
       ])
     ])
+
+pub returns-clause-written : goal.returns-clause-written
+returns-clause-written g c =
+    let same : inner_of c.if-is_full.self-inside.node ≡ c.args.self.now = elim c.if-is_full.branch [
+      | then-is_full+then-is_none w ↦ ap (λ i. inner_of i.node) w.self-inside-is ∙ (w.grow.ensures.same ∙ c.self.view_is)
+      | else-is_full w ↦ ap (λ i. inner_of i.node) w.self-inside-is ∙ c.self.view_is
+    ] in
+    c.write_child.ensures.written ∙ ap (λ n. node_with_child n c.args.byte c.args.child) same

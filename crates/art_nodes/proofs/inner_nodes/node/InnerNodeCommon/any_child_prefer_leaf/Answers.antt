@@ -1,4 +1,4 @@
-use Rattle.std.proofs.Common.{ap, ◌∙◌, ◌++◌, sym}
+use Rattle.std.proofs.Common.{ap, ◌∙◌, ◌++◌, sym, append_assoc}
 use Rattle.art_nodes.proofs.PairLemmas.{contains-between, contains-first}
 use Rattle.art_nodes.proofs.inner_nodes.node.InnerNodeCommon.any_child_prefer_leaf.Goals as goal
 
@@ -9,3 +9,8 @@ returns-then-eq g c =
 
 pub returns : goal.returns
 returns g c = contains-first (g.Self.InnerNodeCommon.inner c.args.self.now).children c.min.result c.min.ensures.pair
+
+pub loop-child-preserved : goal.loop-child-preserved
+loop-child-preserved g c =
+    let parted = ap (λ rest. c.loop-child.yielded ++ rest) (sym c.in-Some.ensures.steps) ∙ c.loop-child.invariant.parted in
+    record { callable = tt; finite = tt; parted = append_assoc c.loop-child.yielded _ _ ∙ parted }

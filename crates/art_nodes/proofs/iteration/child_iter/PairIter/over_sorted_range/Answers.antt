@@ -1,8 +1,8 @@
-use Rattle.std.proofs.Common.{◌-◌, length, take, drop, sym, ◌∙◌, ap}
+use Rattle.std.proofs.Common.{◌-◌, length, take, drop, sym, ◌∙◌, ap, refl}
 use Rattle.std.proofs.lemmas.List.{take_rest}
 use Rattle.std.specs.List.{zip}
 use Rattle.art_nodes.specs.PairSources.{first_byte, pairs_between}
-use Rattle.art_nodes.proofs.RangeLemmas.{within-between, sorted-between}
+use Rattle.art_nodes.proofs.RangeLemmas.{within-between, sorted-between, length-counted}
 use Rattle.art_nodes.proofs.SortedLemmas.{above-zip}
 use Rattle.art_nodes.proofs.iteration.child_iter.PairIter.over_sorted_range.Goals as goal
 
@@ -22,3 +22,12 @@ returns g c =
     ∙ ap (λ n. pairs_between (zip keys children) n bytes.result.end) bytes.ensures.first
     ∙ ap (λ n. pairs_between (zip keys children) (first_byte c.args.start) n) bytes.ensures.end
     ∙ sym (within-between 0 (zip keys children) c.args.start c.args.end (above-zip 0 keys children c.requires.beside c.requires.ascending))
+
+pub slice_bounds-over_sorted-end : goal.slice_bounds-over_sorted-end
+slice_bounds-over_sorted-end g c = sym (length-counted _ c.args.keys.now c.args.keys.now c.count_below-from.result c.count_below-kept.result refl c.count_below-kept.ensures)
+
+pub slice_bounds-over_sorted-end-2 : goal.slice_bounds-over_sorted-end-2
+slice_bounds-over_sorted-end-2 g c = sym (length-counted _ c.args.keys.now c.args.children.now c.count_below-from.result c.count_below-kept.result c.requires.beside c.count_below-kept.ensures)
+
+pub over_sorted-requires : goal.over_sorted-requires
+over_sorted-requires g c = sym (slice_bounds-over_sorted-end-2 g c) ∙ slice_bounds-over_sorted-end g c
