@@ -12,6 +12,9 @@ lt-true a b h = grind (arith, nat_tests)
 pub lt-false : (a b : ℕ) → b ≤ a → nat_lt a b ≡ false
 lt-false a b h = grind (arith, nat_tests)
 
+pub not_below : {a b : ℕ} → (a < b → ⊥) → b ≤ a
+not_below {a} {b} above = elim (cases_lt a b) [ inl less ↦ absurd (above less) | inr le ↦ le ]
+
 pub eq-false : (a b : ℕ) → a ≢ b → nat_eq a b ≡ false
 eq-false a b h = grind (arith, nat_tests)
 

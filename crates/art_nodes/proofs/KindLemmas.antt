@@ -1,6 +1,6 @@
 -- Which kind holds how many children.
 use Rattle.std.specs.Option.{is_some}
-use Rattle.std.proofs.Common.{true, false, ◌≡◌, ◌≢◌, ℕ, ◌+◌, ◌<◌, ◌≤◌, length, Some, None, IsSome, IsNone, refl, sym, subst, inl, inr, if◌then◌else◌, arith}
+use Rattle.std.proofs.Common.{true, false, ◌≡◌, ◌≢◌, ℕ, ◌+◌, ◌<◌, ◌≤◌, length, Some, None, IsSome, IsNone, refl, ap, sym, subst, inl, inr, if◌then◌else◌, arith}
 use Rattle.std.proofs.lemmas.List.{length-map}
 use Rattle.std.proofs.lemmas.Bool.{cases_lt}
 use Rattle.std.proofs.lemmas.Bool.Decides.{nat_tests}
@@ -79,6 +79,14 @@ absent_below {H} children byte child ascending fits absent =
     let one_more = rw absent at (length-with_child {H = H} 0 byte children child ascending) in
     let bytes = ascending-length 0 (key_bytes (with_child children byte child)) (omega arith) (above-with_child {H = H} 0 byte children child (omega arith) fits ascending) in
     omega (arith, one_more, bytes, length-map (with_child children byte child) (λ p. p.0))
+
+-- a full node of fewer than 256 children is not of the greatest kind
+pub smaller_kind : (kind : NodeType) (count : ℕ) → count ≡ most_children kind → count < 256 → kind ≢ Node256
+smaller_kind kind count full below e = let most = ap most_children e in omega (arith, full, below, most)
+
+-- what fits and does not fill leaves room
+pub room_left : (count most : ℕ) → count ≤ most → count ≢ most → count < most
+room_left count most fits not_full = omega arith
 
 -- the next greater kind
 pub record Grows (kind : NodeType) : Type 0 where

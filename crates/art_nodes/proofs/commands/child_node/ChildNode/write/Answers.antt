@@ -5,7 +5,7 @@ use Rattle.std.specs.Option.{is_some}
 use Rattle.art_header.specs.NodeType.{most_children, grown_kind}
 use Rattle.art_header.specs.declared.node_type.NodeType.TheVariants.{Node256}
 use Rattle.art_nodes.specs.AnyInner.{inner_of, kind_of}
-use Rattle.art_nodes.proofs.KindLemmas.{IsOfKind, IsOfKind-smallest, Grows-kind, kept-overwrite, kept-room, grown, absent_below}
+use Rattle.art_nodes.proofs.KindLemmas.{IsOfKind, IsOfKind-smallest, Grows-kind, kept-overwrite, kept-room, grown, absent_below, smaller_kind, room_left}
 use Rattle.art_nodes.proofs.commands.child_node.ChildNode.write.Goals as goal
 use Rattle.art_nodes.proofs.commands.child_node.ChildNode.write.Goals.{then-is_full+then-is_none, else-is_full, else-is_full-via-then-is_full+else-is_none, else-is_full-via-else-is_full}
 
@@ -16,7 +16,7 @@ grow-requires g c =
     let absent = ap is_some (sym c.lookup_child-old_child.ensures) ∙ (c.is_none.ensures ∙ ap not c.if-is_none.true) in
     let full : length children ≡ most_children (kind_of any) = c.is_full.ensures.value.0 c.if-is_full.true in
     let below = absent_below children c.args.byte c.args.child c.is_full.ensures.sound.ascending c.ranges.byte.fits absent in
-    (search rules, λ e. (let most = ap most_children e in omega (arith, below, full, most)))
+    (search rules, smaller_kind (kind_of any) (length children) full below)
 
 pub write_child-requires : goal.write_child-requires
 write_child-requires g c =
@@ -26,21 +26,21 @@ write_child-requires g c =
     let there = ap is_some (sym c.lookup_child-old_child.ensures) in (
       search rules,
       (
-        search rules,
+        search,
         elim c.if-is_full.branch [
           | then-is_full+then-is_none w ↦
               let absent = there ∙ (w.is_none.ensures ∙ ap not w.if-is_none.true) in
               let full : length children ≡ most_children (kind_of any) = c.is_full.ensures.value.0 w.if-is_full.true in
               let below = absent_below children c.args.byte c.args.child sound.ascending c.ranges.byte.fits absent in
-              let smaller : kind_of any ≢ Node256 = λ e. (let most = ap most_children e in omega (arith, below, full, most)) in
+              let smaller = smaller_kind (kind_of any) (length children) full below in
               let of : IsOfKind (kind_of any) (length children) = IsOfKind-smallest _ _ c.self.invariant sound.fits in
               let grows = Grows-kind (kind_of any) of.inner smaller in
-              rw (w.self-inside-is, w.grow.ensures.kind, w.grow.ensures.same) (λ _. omega (arith, full, grows.most))
+              rw (w.self-inside-is, w.grow.ensures.kind, w.grow.ensures.same) (λ _. rw full grows.most)
           | else-is_full w ↦ rw w.self-inside-is (elim w.else-is_full.branch [
             | else-is_full-via-then-is_full+else-is_none v ↦ λ absent. (let some = there ∙ (v.is_none.ensures ∙ ap not v.if-is_none.false) in absurd (true≢false (sym some ∙ absent)))
             | else-is_full-via-else-is_full v ↦
                 let not_full : length children ≢ most_children (kind_of any) = λ full. (let yes = c.is_full.ensures.value.1 full in let no = v.if-is_full.false in cc) in
-                λ _. omega (arith, sound.fits)
+                λ _. room_left (length children) (most_children (kind_of any)) sound.fits not_full
           ])
         ],
       ),
@@ -58,14 +58,14 @@ invariant_of-self g c =
           let absent = there ∙ (w.is_none.ensures ∙ ap not w.if-is_none.true) in
           let full : length children ≡ most_children (kind_of any) = c.is_full.ensures.value.0 w.if-is_full.true in
           let below = absent_below children c.args.byte c.args.child sound.ascending c.ranges.byte.fits absent in
-          let smaller : kind_of any ≢ Node256 = λ e. (let most = ap most_children e in omega (arith, below, full, most)) in
+          let smaller = smaller_kind (kind_of any) (length children) full below in
           let grows = Grows-kind (kind_of any) of.inner smaller in
           rw (w.self-inside-is, w.grow.ensures.kind, w.grow.ensures.same) (grown (kind_of any) children c.args.byte c.args.child sound.ascending of (grown_kind (kind_of any)) grows.inner full grows.least grows.most absent)
       | else-is_full w ↦ rw w.self-inside-is (elim w.else-is_full.branch [
         | else-is_full-via-then-is_full+else-is_none v ↦ kept-overwrite (kind_of any) children c.args.byte c.args.child sound.ascending of (there ∙ (v.is_none.ensures ∙ ap not v.if-is_none.false))
         | else-is_full-via-else-is_full v ↦
             let not_full : length children ≢ most_children (kind_of any) = λ full. (let yes = c.is_full.ensures.value.1 full in let no = v.if-is_full.false in cc) in
-            kept-room (kind_of any) children c.args.byte c.args.child sound.ascending of (omega (arith, sound.fits))
+            kept-room (kind_of any) children c.args.byte c.args.child sound.ascending of (room_left (length children) (most_children (kind_of any)) sound.fits not_full)
       ])
     ])
 

@@ -1,4 +1,4 @@
-use Rattle.std.proofs.Common.{rules, ◌∙◌}
+use Rattle.std.proofs.Common.{rules, length, sym, ap, ◌∙◌}
 use Rattle.std.proofs.lemmas.List.{length-map}
 use Rattle.art_nodes.specs.Inner.{IsInner, indirect_room}
 use Rattle.art_nodes.proofs.PlaceLemmas.{zip-parts}
@@ -11,18 +11,18 @@ from_ascending-requires g c =
       ascending = c.header.ensures.sound.ascending;
       fits = c.requires;
       capped_front = c.header.ensures.sound.capped_front;
-    } in (
+    } in
+    let bytes = c.initialized_portion.ensures.bytes in
+    let children = c.initialized_portion.ensures.children in
+    let bytes_long = ap length bytes ∙ length-map node.children (λ p. p.0) in (
       search rules,
       (
         search rules,
         (
           search rules,
           (
-            rw (c.initialized_portion.ensures.bytes, c.initialized_portion.ensures.children) (simp length-map (search rules)),
-            (
-              rw (c.initialized_portion.ensures.bytes, c.header.ensures.header) (simp length-map (search rules)),
-              rw (c.initialized_portion.ensures.bytes, c.initialized_portion.ensures.children, c.header.ensures.header, zip-parts) sound,
-            ),
+            ap length children ∙ length-map node.children (λ p. p.1) ∙ sym bytes_long,
+            (ap (λ h. h.count) c.header.ensures.header ∙ sym bytes_long, rw (bytes, children, c.header.ensures.header, zip-parts) sound),
           ),
         ),
       ),
