@@ -13,6 +13,10 @@ counted-one : {H : Type 0} (found : Option H) (before after : ℕ) → after ≡
 counted-one None before after is none = is
 counted-one (Some child) before after is none = cc
 
+absent-none : {H : Type 0} (children : ChildMap H) (byte : ℕ) → length children ≡ 0 → IsNone (child_at children byte)
+absent-none [] byte none = refl
+absent-none (x ∷ children) byte none = absurd (omega arith)
+
 module _ {H : Type 0} (children after : ChildMap H) (byte : ℕ) (child : H) (fits : byte < 256) (is : after ≡ with_child children byte child) where
   ascends : IsAscending (key_bytes children) → IsAscending (key_bytes after)
   ascends asc = subst (λ cs. IsAscending (key_bytes cs)) (sym is) (above-with_child 0 byte children child (omega arith) fits asc)
@@ -22,6 +26,12 @@ module _ {H : Type 0} (children after : ChildMap H) (byte : ℕ) (child : H) (fi
   written-more was =
       let up = counted-up (child_at children byte) (length children) (length (with_child children byte child)) (length-with_child 0 byte children child was.ascending) in
       record { counted = subst (λ cs. 2 ≤ length cs) (sym is) (omega (arith, up, was.counted)); ascending = ascends was.ascending }
+
+  -- a first one is one
+  pub written-first : AreWritten (λ n. n ≡ 0) children → AreWritten (λ n. n ≡ 1) after
+  written-first was =
+      let up = counted-one (child_at children byte) (length children) (length (with_child children byte child)) (length-with_child 0 byte children child was.ascending) (absent-none children byte was.counted) in
+      record { counted = subst (λ cs. length cs ≡ 1) (sym is) (omega (arith, up, was.counted)); ascending = ascends was.ascending }
 
   -- one and another are two
   pub written-second : AreWritten (λ n. n ≡ 1) children → IsNone (child_at children byte) → AreWritten (λ n. 2 ≤ n) after
