@@ -106,7 +106,7 @@ impl<K, V, const PREFIX_LEN: usize, N: InnerNodeCommon<K, V, PREFIX_LEN>> InnerN
     NoChild,
 > {
     /// A builder of a node with this prefix. It asks what [`Header::new`](crate::Header::new) asks.
-    pub fn new(prefix: &[u8], prefix_len: usize) -> Self
+    pub(crate) fn new(prefix: &[u8], prefix_len: usize) -> Self
         requires has_stored_bytes { capped PREFIX_LEN prefix_len ≤ length prefix.now }
         requires no_longer { length prefix.now ≤ prefix_len }
         requires fits { prefix_len < 2 ^ 32 }

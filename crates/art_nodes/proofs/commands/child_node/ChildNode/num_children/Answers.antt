@@ -1,4 +1,4 @@
-use Rattle.std.proofs.Common.{rules, length, ap, ◌∙◌}
+use Rattle.std.proofs.Common.{length, ap, ◌∙◌}
 use Rattle.art_nodes.proofs.commands.child_node.ChildNode.num_children.Goals as goal
 
 pub returns-clause-count : goal.returns-clause-count

@@ -1,9 +1,8 @@
 use Rattle.art_nodes.specs.Inner.{node_with_child}
 use mathlib.Core.Bool.{true≢false}
-use Rattle.std.proofs.Common.{rules, arith, ◌≡◌, ◌≢◌, length, not, ap, sym, ◌∙◌}
+use Rattle.std.proofs.Common.{rules, ◌≡◌, ◌≢◌, length, not, ap, sym, ◌∙◌}
 use Rattle.std.specs.Option.{is_some}
 use Rattle.art_header.specs.NodeType.{most_children, grown_kind}
-use Rattle.art_header.specs.declared.node_type.NodeType.TheVariants.{Node256}
 use Rattle.art_nodes.specs.AnyInner.{inner_of, kind_of}
 use Rattle.art_nodes.proofs.KindLemmas.{IsOfKind, IsOfKind-smallest, Grows-kind, kept-overwrite, kept-room, grown, absent_below, smaller_kind, room_left}
 use Rattle.art_nodes.proofs.commands.child_node.ChildNode.write.Goals as goal
