@@ -1,5 +1,5 @@
 -- A step is right for every prefix that the node may have.
-use Rattle.std.proofs.Common.{◌≡◌, ◌∙◌, inl, inr, ℕ, zero, suc, ◌+◌, ◌-◌, ◌<◌, ◌≤◌, Bool, true, false, ◌||◌, nat_eq, nat_lt, List, [], ◌∷◌, ◌++◌, length, length-append, length-take, length-drop, take, drop, Some, None, Result, Ok, Err, slice_get, get_or, refl, sym, ap, subst, arith, append_assoc}
+use Rattle.std.proofs.Common.{◌≡◌, ◌∙◌, inl, inr, ℕ, zero, suc, ◌+◌, ◌-◌, ◌<◌, ◌≤◌, Bool, true, false, ◌||◌, nat_eq, nat_lt, List, [], ◌∷◌, ◌++◌, length, length-append, length-take, length-drop, take, drop, Option, Some, None, IfSome, IfNone, Result, Ok, Err, slice_get, get_or, refl, sym, ap, subst, arith, append_assoc}
 use Rattle.std.specs.List.{starts_with, common_prefix_len}
 use Rattle.std.proofs.lemmas.Bool.{cases_lt, and_from, and_parts, or_left, or_right, le-leb, le-ltb, lt-ltb}
 use Rattle.std.proofs.lemmas.Bool.Decides.{eqb_tells}
@@ -12,7 +12,8 @@ use Rattle.art_nodes.specs.Inner.{Inner}
 use Rattle.art_nodes.specs.PrefixMatch.{IsPrefixOf, cheap_match}
 use Rattle.art_nodes.specs.declared.inner_nodes.prefix_match.AttemptOptimisticPrefixMatch.{AttemptOptimisticPrefixMatch}
 use Rattle.art_nodes.specs.declared.inner_nodes.prefix_match.PessimisticMismatch.{PessimisticMismatch}
-use Rattle.art_tree.specs.Descent.{LeadsOn, LeadsNowhere}
+use Rattle.art_arena.specs.Arena.{Held, HeldInner}
+use Rattle.art_tree.specs.Descent.{LeadsOn, LeadsNowhere, LeadsOnFrom, LeadsNowhereFrom}
 use Rattle.art_tree.specs.Search.{goes_to}
 
 abbrev Is : Result AttemptOptimisticPrefixMatch PessimisticMismatch → Result AttemptOptimisticPrefixMatch PessimisticMismatch → Type 0
@@ -163,3 +164,16 @@ module _ {H : Type 0} (room : ℕ) (node : Inner H) (key : List ℕ) (depth : �
 -- what is matched of a rest lies within the key
 pub within-key : (key : List ℕ) (depth matched : ℕ) → depth ≤ length key → matched ≤ length (take (length key - depth) (drop depth key)) → depth + matched ≤ length key
 within-key key depth matched within inside = let short : length (take (length key - depth) (drop depth key)) ≡ length key - depth = simp (length-take, length-drop) (omega arith) in omega (arith, within, inside, short)
+
+-- what a node alone tells, told from where it is held
+module _ {H L : Type 0} (room : ℕ) (at : Held H L) (node : Inner H) (key : List ℕ) (depth : ℕ) (here : at ≡ HeldInner node) where
+  one-node : (other : Inner H) → at ≡ HeldInner other → node ≡ other
+  one-node other is = let one : HeldInner node ≡ HeldInner other = sym here ∙ is in cc
+
+  pub leads-on-from : (next : Option (ℕ × H)) → IfSome next (LeadsOn room node key depth) → IfSome next (LeadsOnFrom room at key depth)
+  leads-on-from None on = tt
+  leads-on-from (Some next) on = λ other is. subst (λ n. LeadsOn room n key depth next) (one-node other is) on
+
+  pub leads-nowhere-from : (next : Option (ℕ × H)) → IfNone next (LeadsNowhere room node key depth) → IfNone next (LeadsNowhereFrom room at key depth)
+  leads-nowhere-from None nowhere = λ other is. subst (λ n. LeadsNowhere room n key depth) (one-node other is) nowhere
+  leads-nowhere-from (Some next) nowhere = tt

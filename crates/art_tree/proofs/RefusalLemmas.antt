@@ -1,14 +1,16 @@
 -- Entries of which none has a fault.
-use Rattle.std.proofs.Common.{◌≡◌, ◌∙◌, ℕ, zero, suc, ◌+◌, ◌<◌, ◌^◌, Bool, true, false, List, [], ◌∷◌, length, take, All, Some, None, refl, ap, inl, inr, arith, nat_lt, nat_eq, ◌==◌}
+use Rattle.std.proofs.Common.{◌≡◌, ◌∙◌, ℕ, zero, suc, ◌+◌, ◌<◌, ◌^◌, Bool, true, false, List, [], ◌∷◌, length, take, All, Option, Some, None, IfSome, refl, sym, ap, subst, inl, inr, arith, nat_lt, nat_eq, ◌==◌}
 use Rattle.std.specs.declared.cmp.Ordering.{Ordering}
 use Rattle.std.specs.declared.cmp.Ordering.TheVariants.{Less, Equal, Greater}
 use Rattle.std.specs.List.{starts_with}
+use Rattle.std.specs.Option.{is_some}
 use Rattle.std.proofs.lemmas.Bool.{cases_lt, eq-eqb, le-leb, le-ltb, lt-leb, lt-ltb}
 use Rattle.std.proofs.lemmas.Bool.Decides.{eqb_tells}
 use Rattle.std.proofs.lemmas.List.Elements.{All-from_get_or}
 use Rattle.art_bytes.specs.Text.{text_order}
 use Rattle.art_tree.specs.Plan.{text_at, IsFork, Forks, AreLoadable}
-use Rattle.art_tree.specs.Refusals.{HaveNoFault, fault_at, fault_between}
+use Rattle.art_tree.specs.Refusals.{HaveNoFault, IsRefusal, fault_at, fault_between}
+use Rattle.art_tree.specs.declared.loading.check.LoadRefusal.{LoadRefusal}
 
 fork-later : (x y : ℕ) (a b : List ℕ) → x ≡ y → Forks a b → Forks (x ∷ a) (y ∷ b)
 fork-later x y a b same (at, fork) = (suc at, record { in_first = omega (arith, fork.in_first); in_second = omega (arith, fork.in_second); shared = ap (λ z. z ∷ take at a) same ∙ ap (λ rest. y ∷ rest) fork.shared; less = fork.less })
@@ -67,3 +69,20 @@ forks-less (x ∷ a) (y ∷ b) (suc at) fork =
 pub not-none : (n : ℕ) (none : Bool) → none ≡ (n == 0) → none ≡ false → 0 < n
 not-none zero none is never = absurd (cc)
 not-none (suc n) none is never = omega arith
+
+pub none-there : {T : Type 0} (o : Option T) → false ≡ is_some o → o ≡ None
+none-there None is = refl
+none-there (Some x) is = absurd (cc)
+
+-- what holds below an index and at it holds below the next one
+pub up-to : (P : ℕ → Type 0) (index : ℕ) → ((i : ℕ) → i < index → P i) → P index → (i : ℕ) → i < index + 1 → P i
+up-to P index before here i below = elim (cases_lt i index) [
+  | inl earlier ↦ before i earlier
+  | inr past ↦ subst P (omega (arith, past, below)) here
+]
+
+-- the first fault is the refusal
+pub first-fault : (texts : List (List ℕ)) (index : ℕ) (fault : Option LoadRefusal) → fault ≡ fault_at texts index → index < length texts → ((earlier : ℕ) → earlier < index → fault_at texts earlier ≡ None) → IfSome fault (IsRefusal texts)
+first-fault texts index None is within before = tt
+first-fault [] index (Some refusal) is within before = absurd (omega (arith, within))
+first-fault (text ∷ texts) index (Some refusal) is within before = (index, within, sym is, before)

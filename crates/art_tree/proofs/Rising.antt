@@ -3,7 +3,7 @@ use Rattle.std.proofs.Common.{◌≡◌, ◌≢◌, ◌⊎◌, ◌∙◌, ℕ, z
 use Rattle.std.specs.Option.{option_map_or}
 use Rattle.std.specs.List.{Contains}
 use Rattle.std.proofs.lemmas.Bool.{cases_lt, cases_eq, and_from, le-leb, lt-leb}
-use Rattle.std.proofs.lemmas.List.{length-map, append-nil, take_at, drop_at, drop_more, take_rest}
+use Rattle.std.proofs.lemmas.List.{length-map, append-nil, take_at, drop_at, drop_more, take_rest, drop_all}
 use Rattle.std.proofs.lemmas.Option.{slice_get_within, get_or_from_slice_get}
 use Rattle.std.proofs.lemmas.List.Elements.{Contains-append_left, Contains-append_right, Contains-append_cases, Contains-push_cases, Contains-push}
 use Rattle.art_header.specs.NodeType.{kind_for, least_children, most_children}
@@ -357,6 +357,12 @@ module _ {K V : Type 0} {P : ℕ} (text : K → List ℕ) (pairs : List (OpaqueN
 
   pub few-pending : (old now : ArenaOf K V P) (next : ℕ) (pending : List (ℕ × OpaqueNodePtr K V P)) (steps : List Step) → IsRising old now next pending steps → length pending ≤ next
   few-pending old now next pending steps r = omega (arith, r.few, ap length r.roots)
+
+  -- after the last step one tree is pending
+  pub one-pending : (old now : ArenaOf K V P) (next : ℕ) (pending : List (ℕ × OpaqueNodePtr K V P)) (steps : List Step) (index : ℕ) → length steps ≤ index → IsRising old now next pending (drop index steps) → length pending ≡ 1
+  one-pending old now next pending steps index past r =
+      let done = subst (IsRising old now next pending) (drop_all index steps past) r in
+      ap length (sym done.roots) ∙ ap (λ stack. length (branch_roots stack)) done.leads.3
 
   -- before the first step
   pub rising-none : (old : ArenaOf K V P) (steps : List Step) (pending : List (ℕ × OpaqueNodePtr K V P)) → pending ≡ [] → Leads pairs 0 NoBranch steps → ((kind : NodeType) → kind ≢ kinds.Leaf → needed kind steps ≤ room old kind) → IsRising old old 0 pending steps

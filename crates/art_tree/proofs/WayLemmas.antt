@@ -73,6 +73,14 @@ module _ {K V : Type 0} {P : ℕ} (text : K → List ℕ) (arena : ArenaOf K V P
   here-start root search budget is empty = record { part = whole; path = []; steps = []; at_root = is.at_root; stands = is.stands; sound = is.sound; deep = refl; same_scan = refl; same_met = omega arith; way_on = λ more pointer way. way; remembered = empty; counted = omega arith; few = omega arith }
 
   module _ (at : OpaqueNodePtr K V P) (depth : ℕ) (search : TreePathSearch K V P) (budget left : ℕ) (here : IsHere text arena whole key at depth search budget left) where
+    -- something is held where the search is
+    pub here-held : held arena at ≢ Nothing
+    here-held = by_part here.part here.at_root here.stands
+      where
+        by_part : (part : Tree (OpaqueNodePtr K V P)) → root_of part ≡ at → StandsIn text arena part → held arena at ≢ Nothing
+        by_part (Leaf pointer x) root (leaf, holds, has) none = let wrong : HeldLeaf leaf ≡ Nothing = sym holds ∙ ap (held arena) root ∙ none in absurd (cc)
+        by_part (Inner pointer prefix branches) root (node, holds, shows, stand) none = let wrong : HeldInner node ≡ Nothing = sym holds ∙ ap (held arena) root ∙ none in absurd (cc)
+
     -- the search is at a leaf
     pub record AtLeaf (leaf : LeafNode K V P) : Type 0 where
       pub same_scan : scan whole key ≡ (if pointwise nat_eq (leaf_text text leaf) key then (at, leaf_text text leaf) ∷ [] else [])

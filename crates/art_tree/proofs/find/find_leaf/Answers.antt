@@ -1,14 +1,14 @@
-use Rattle.std.proofs.Common.{length, ◌+◌, ◌≡◌, ◌∙◌, ◌∷◌, ◌++◌, [], ℕ, sym, ap, subst, refl, arith}
+use Rattle.std.proofs.Common.{length, ◌+◌, ◌≡◌, ◌≢◌, ◌∙◌, lit<, ◌∷◌, ◌++◌, [], ℕ, sym, ap, subst, refl, arith}
 use Rattle.std.proofs.lemmas.Option.{get_or_from_slice_get}
 use Rattle.art_nodes.specs.Pointers.{slab_key, opaque_key}
 use Rattle.art_nodes.specs.declared.pointers.OpaqueNodePtr.{OpaqueNodePtr as PointerTo}
-use Rattle.art_arena.specs.Arena.{held}
+use Rattle.art_arena.specs.Arena.{Nothing, held}
 use Rattle.art_arena.specs.Standing.{leaf_text}
 use Rattle.art_tree.specs.Search.{IsWay, LeadsTo, leaf_pointer}
 use Rattle.art_tree.specs.Paths.{StandsFor, path_of}
 use Rattle.art_tree.proofs.OnlyWayLemmas.{one-way}
 use Rattle.art_tree.proofs.PathLeads.{way-leads}
-use Rattle.art_tree.proofs.WayLemmas.{here-start, here-leaf, here-nowhere-scan, here-nowhere-met, here-on, leaf-kind, still-held, leaf-pointer-is, told, told-on, told-nowhere, told-later, at-some, leaf-hit, leaf-miss, not-true}
+use Rattle.art_tree.proofs.WayLemmas.{here-start, here-held, here-leaf, here-nowhere-scan, here-nowhere-met, here-on, leaf-kind, still-held, leaf-pointer-is, told, told-on, told-nowhere, told-later, at-some, leaf-hit, leaf-miss, not-true}
 use Rattle.art_tree.proofs.find.find_leaf.Goals as goal
 
 pub way-init : goal.way-init
@@ -18,6 +18,12 @@ way-init g c = record {
   same_arena = refl;
   here = λ tree is. here-start g.K.AsBytes.text c.args.reader.now.arena tree c.args.key.now c.args.root c.default-search.result c.args.reader.now.budget is c.default-search.ensures;
 }
+
+pub look-node-requires : goal.look-node-requires
+look-node-requires g c =
+    let (tree, is) = c.requires.tree in
+    let there = here-held g.K.AsBytes.text c.args.reader.now.arena tree c.args.key.now c.way.at c.way.depth c.way.search _ _ (c.way.invariant.here tree is) in
+    (search, (search, (search, (search, (search, (lit< tt, (subst (λ a. held a c.way.at ≢ Nothing) (sym c.way.invariant.same_arena) there, omega (arith, c.way.invariant.looks, c.way.invariant.within))))))))
 
 pub returns-then-matches_full_key : goal.returns-then-matches_full_key
 returns-then-matches_full_key g c =

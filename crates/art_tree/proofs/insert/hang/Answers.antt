@@ -1,4 +1,4 @@
-use Rattle.std.proofs.Common.{◌≡◌, ◌≢◌, rules}
+use Rattle.std.proofs.Common.{◌≡◌, ◌≢◌}
 use Rattle.art_header.specs.NodeType.{most_children}
 use Rattle.art_header.specs.declared.node_type.NodeType.TheVariants.{Leaf}
 use Rattle.art_nodes.specs.Inner.{Inner, HasRoomFor}
@@ -14,4 +14,4 @@ write_child-requires g c =
     let is_held : held arena c.in-Some.parent ≢ Nothing = parent.is_held in
     let is_inner : node_kind c.in-Some.parent ≢ Leaf = parent.is_inner in
     let has_room : (node : Inner _) → held arena c.in-Some.parent ≡ HeldInner node → HasRoomFor (most_children (node_kind c.in-Some.parent)) node c.in-Some.byte = parent.has_room in
-    search rules
+    search

@@ -21,7 +21,7 @@ reserve_for_child-requires g c =
     let (tree, alone, lacks) = c.requires.place in
     let is_held : held c.args.arena.now c.args.spot.node ≢ Nothing = there-held g.K.AsBytes.text c.args.arena.now c.args.root tree c.args.spot c.args.byte c.args.key c.args.value alone lacks c.ranges.byte.fits in
     let is_inner : node_kind c.args.spot.node ≢ Leaf = there-inner g.K.AsBytes.text c.args.arena.now c.args.root tree c.args.spot c.args.byte c.args.key c.args.value alone lacks c.ranges.byte.fits in
-    search rules
+    search
 
 pub leaf_beside-end-requires : goal.leaf_beside-end-requires
 leaf_beside-end-requires g c =

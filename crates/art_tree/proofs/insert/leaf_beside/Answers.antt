@@ -1,4 +1,3 @@
-use Rattle.std.proofs.Common.{rules}
 use Rattle.art_arena.specs.Standing.{TreeAt}
 use Rattle.art_tree.specs.Search.{leaf_pointer}
 use Rattle.art_tree.proofs.HangLemmas.{first-after, none-after, at-first, at-node, beside-first, beside-last}
@@ -9,12 +8,12 @@ end_leaf-requires g c =
     let text = g.K.AsBytes.text in
     let arena = c.args.arena.now in
     let found : TreeAt text arena c.in-Some.child = at-first text arena c.args.pointer c.args.byte c.requires c.in-Some.child (first-after text arena c.args.pointer c.args.byte c.requires c.child_above.result c.child_above.ensures c.in-Some.child c.in-Some.is) in
-    search rules
+    search
 
 pub end_leaf-requires-in-None : goal.end_leaf-requires-in-None
 end_leaf-requires-in-None g c =
     let found : TreeAt g.K.AsBytes.text c.args.arena.now c.args.pointer = at-node g.K.AsBytes.text c.args.arena.now c.args.pointer c.args.byte c.requires in
-    search rules
+    search
 
 pub returns-in-Some : goal.returns-in-Some
 returns-in-Some g c = λ place.

@@ -1,4 +1,4 @@
-use Rattle.std.proofs.Common.{◌<◌, ◌^◌, ℕ, length, ap, sym, subst, arith, rules, lit<}
+use Rattle.std.proofs.Common.{◌<◌, ◌^◌, ℕ, length, ap, sym, subst, arith, lit<}
 use Rattle.art_tree.specs.Plan.{IsPlanOf, needed, text_at, texts_of}
 use Rattle.art_tree.specs.Loading.{AreLinked}
 use Rattle.art_tree.proofs.Linking.{hold-held, hold-texts, hold-count}
@@ -16,15 +16,15 @@ raise-requires g c =
     let steps = c.deref-2.ensures.value in
     let short = subst (λ t. (i : ℕ) → length (text_at t i) < 2 ^ 32) (sym texts) (all-short (texts_of text entries) c.requires.loadable) in
     let plan = subst (λ t. IsPlanOf t c.deref-2.result.now) (sym texts) (subst (IsPlanOf (texts_of text entries)) (sym steps) c.requires.plan) in (
-      search rules,
+      search,
       (
-        search rules,
+        search,
         (
-          search rules,
+          search,
           (
-            search rules,
+            search,
             (
-              search rules,
+              search,
               (
                 lit< tt,
                 (

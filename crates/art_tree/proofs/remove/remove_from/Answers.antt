@@ -1,4 +1,4 @@
-use Rattle.std.proofs.Common.{rules, ◌≡◌, ◌≢◌, ◌∙◌, length, sym}
+use Rattle.std.proofs.Common.{◌≡◌, ◌≢◌, ◌∙◌, length, sym}
 use Rattle.art_header.specs.declared.node_type.NodeType.TheVariants as kinds
 use Rattle.art_nodes.specs.Inner.{Inner}
 use Rattle.art_nodes.specs.Pointers.{node_kind}
@@ -18,16 +18,16 @@ num_children-requires g c =
     let (node, there) = parent-there g.K.AsBytes.text arena c.args.root tree alone (leaf_pointer c.args.leaf) c.args.parent c.args.byte c.args.above hangs in
     let is_held : held arena c.args.parent ≢ Nothing = inner-held arena c.args.parent node there in
     let is_inner : node_kind c.args.parent ≢ kinds.Leaf = inner-kind arena c.args.parent node there in
-    search rules
+    search
 
 pub remove_from_two-requires : goal.remove_from_two-requires
 remove_from_two-requires g c =
     let place : (tree : Tree _) × IsAlone g.K.AsBytes.text c.args.arena.now c.args.root tree × HangsUnder tree (leaf_pointer c.args.leaf) c.args.parent c.args.byte c.args.above = c.requires in
     let two : (node : Inner _) → held c.args.arena.now c.args.parent ≡ HeldInner node → length node.children ≡ 2 = λ node is. sym (c.num_children.ensures.count node is) ∙ c.if-num_children-eq2.true in
-    search rules
+    search
 
 pub remove_from_many-requires : goal.remove_from_many-requires
 remove_from_many-requires g c =
     let place : (tree : Tree _) × IsAlone g.K.AsBytes.text c.args.arena.now c.args.root tree × HangsUnder tree (leaf_pointer c.args.leaf) c.args.parent c.args.byte c.args.above = c.requires in
     let many : (node : Inner _) → held c.args.arena.now c.args.parent ≡ HeldInner node → length node.children ≢ 2 = λ node is two. c.if-num_children-eq2.false (c.num_children.ensures.count node is ∙ two) in
-    search rules
+    search

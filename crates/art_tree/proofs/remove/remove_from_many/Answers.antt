@@ -23,7 +23,7 @@ reserve_shrink-requires g c =
     let old = c.args.arena.now in
     let is_held : held old parent ≢ Nothing = (leaf-place alone0 hangs).some_held in
     let is_inner : node_kind parent ≢ Leaf = (leaf-place alone0 hangs).inner in
-    search rules
+    search
 
 pub take_leaf-entry-requires : goal.take_leaf-entry-requires
 take_leaf-entry-requires g c =

@@ -14,7 +14,7 @@ take_leaf-entry-requires g c =
     let old = c.args.arena.now in
     let (tree, alone, hangs) = c.requires.place in
     let listed : (left right : List ℕ) × Spells old (left ++ slab_key c.args.leaf ∷ right) = (_, _, (leaf-place alone hangs).spelled) in
-    search rules
+    search
 
 pub other_child-other_byte-requires : goal.other_child-other_byte-requires
 other_child-other_byte-requires g c =
@@ -26,7 +26,7 @@ other_child-other_byte-requires g c =
     let is_held : held cut parent ≢ Nothing = parent-held place c.each_pointer_is_at_one_place.ensures c.requires.two cut taken.gone taken.others in
     let is_inner : node_kind parent ≢ Leaf = place.inner in
     let has_two : (node : Inner _) → held cut parent ≡ HeldInner node → 2 ≤ length node.children = parent-two place c.each_pointer_is_at_one_place.ensures c.requires.two cut taken.gone taken.others in
-    search rules
+    search
 
 pub join_prefix-requires : goal.join_prefix-requires
 join_prefix-requires g c =

@@ -1,4 +1,4 @@
-use Rattle.std.proofs.Common.{rules, ◌++◌, ◌∷◌, ℕ, List, [], refl, arith}
+use Rattle.std.proofs.Common.{◌++◌, ◌∷◌, ℕ, List, [], refl, arith}
 use Rattle.art_nodes.specs.Pointers.{slab_key}
 use Rattle.art_arena.specs.Links.{Spells}
 use Rattle.art_arena.specs.Trees.{Leaf}
@@ -10,7 +10,7 @@ pub take_leaf-requires : goal.take_leaf-requires
 take_leaf-requires g c =
     let alone = c.requires.2 in
     let listed : (left right : List ℕ) × Spells c.args.arena.now (left ++ slab_key c.args.leaf ∷ right) = ([], [], alone.spelled) in
-    search rules
+    search
 
 pub returns : goal.returns
 returns g c = λ root text_is alone.

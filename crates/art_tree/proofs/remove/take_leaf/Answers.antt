@@ -1,4 +1,3 @@
-use Rattle.std.proofs.Common.{rules}
 use Rattle.art_nodes.specs.Pointers.{slab_key}
 use Rattle.art_arena.specs.Links.{HoldsLeaf, IsKnit}
 use Rattle.art_tree.proofs.RemovalLemmas.{left-spelled, no-less-room, others-left, still-held, taken-entry}
@@ -8,14 +7,14 @@ pub remove_self-requires : goal.remove_self-requires
 remove_self-requires g c =
     let list = c.requires.listed in
     let knit : IsKnit c.args.arena.now (slab_key c.args.leaf) = c.each_leaf_of_a_list_is_knit.ensures.knit c.args.arena.now list.0 list.1 (slab_key c.args.leaf) list.2 in
-    search rules
+    search
 
 pub deallocate_node_ptr-requires : goal.deallocate_node_ptr-requires
 deallocate_node_ptr-requires g c =
     let this = slab_key c.args.leaf in
     let list = c.requires.listed in
     let is_held : HoldsLeaf c.remove_self.new.arena this = still-held c.args.arena.now c.remove_self.new.arena this c.remove_self.ensures.contents (c.each_leaf_of_a_list_is_knit.ensures.knit c.args.arena.now list.0 list.1 this list.2) in
-    search rules
+    search
 
 pub returns-clause-entry : goal.returns-clause-entry
 returns-clause-entry g c = λ node is.

@@ -1,4 +1,4 @@
-use Rattle.std.proofs.Common.{◌≡◌, ◌∙◌, ◌++◌, subst, rules, lit<}
+use Rattle.std.proofs.Common.{◌≡◌, ◌∙◌, ◌++◌, subst, lit<}
 use Rattle.art_header.specs.declared.node_type.NodeType.TheVariants.{Leaf}
 use Rattle.art_nodes.specs.Pointers.{slab_key}
 use Rattle.art_arena.specs.Arena.{held, pointer_to, Nothing, HeldLeaf, Changes}
@@ -20,15 +20,15 @@ insert_before-requires g c =
     let changes = if-ok (λ ptr. Changes old now (pointer_to Leaf (slab_key ptr)) (HeldLeaf leaf)) c.allocate_node_ptr.result c.unwrap-leaf.result c.unwrap-leaf.ensures c.allocate_node_ptr.ensures.added in
     let sibling = slab_key c.args.sibling in
     let order : LiesBeside First (g.K.AsBytes.text c.args.key) (text_at g.K.AsBytes.text old sibling) = subst (λ end. LiesBeside end (g.K.AsBytes.text c.args.key) (text_at g.K.AsBytes.text old sibling)) c.in-First.is c.requires.order in (
-      search rules,
+      search,
       (
-        search rules,
+        search,
         (
-          search rules,
+          search,
           (
-            search rules,
+            search,
             (
-              search rules,
+              search,
               (
                 lit< tt,
                 (
@@ -79,15 +79,15 @@ insert_after-requires g c =
     let changes = if-ok (λ ptr. Changes old now (pointer_to Leaf (slab_key ptr)) (HeldLeaf leaf)) c.allocate_node_ptr.result c.unwrap-leaf.result c.unwrap-leaf.ensures c.allocate_node_ptr.ensures.added in
     let sibling = slab_key c.args.sibling in
     let order : LiesBeside Last (g.K.AsBytes.text c.args.key) (text_at g.K.AsBytes.text old sibling) = subst (λ end. LiesBeside end (g.K.AsBytes.text c.args.key) (text_at g.K.AsBytes.text old sibling)) c.in-Last.is c.requires.order in (
-      search rules,
+      search,
       (
-        search rules,
+        search,
         (
-          search rules,
+          search,
           (
-            search rules,
+            search,
             (
-              search rules,
+              search,
               (
                 lit< tt,
                 (

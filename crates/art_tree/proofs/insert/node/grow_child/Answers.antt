@@ -1,4 +1,4 @@
-use Rattle.std.proofs.Common.{◌≡◌, ◌∙◌, ◌<◌, length, rules, sym, ap, subst, arith}
+use Rattle.std.proofs.Common.{◌≡◌, ◌∙◌, ◌<◌, length, sym, ap, subst, arith}
 use Rattle.art_header.specs.NodeType.{most_children, grown_kind}
 use Rattle.art_header.specs.declared.node_type.NodeType.TheVariants as kinds
 use Rattle.art_nodes.specs.Inner.{HasRoomFor}
@@ -18,7 +18,7 @@ move_to-requires g c =
     let grown_full = ap (λ n. length n.children) same ∙ full in
     let has_room = subst (λ n. HasRoomFor _ n c.args.byte) (sym same) (c.grow-grown.ensures.has_room c.args.byte c.ranges.byte.fits) in
     let has : 0 < room c.args.arena.now kinds.Node16 = room-of-kind c.args.arena.now c.args.pointer _ is_kind there full c.requires.room in
-    search rules
+    search
 
 pub returns-in-Node4 : goal.returns-in-Node4
 returns-in-Node4 g c = λ node is.
@@ -35,7 +35,7 @@ move_to-requires-in-Node16 g c =
     let grown_full = ap (λ n. length n.children) same ∙ full in
     let has_room = subst (λ n. HasRoomFor _ n c.args.byte) (sym same) (c.grow-grown-in-Node16.ensures.has_room c.args.byte c.ranges.byte.fits) in
     let has : 0 < room c.args.arena.now kinds.Node48 = room-of-kind c.args.arena.now c.args.pointer _ is_kind there full c.requires.room in
-    search rules
+    search
 
 pub returns-in-Node16 : goal.returns-in-Node16
 returns-in-Node16 g c = λ node is.
@@ -52,7 +52,7 @@ move_to-requires-in-Node48 g c =
     let grown_full = ap (λ n. length n.children) same ∙ full in
     let has_room = subst (λ n. HasRoomFor _ n c.args.byte) (sym same) (c.grow-grown-in-Node48.ensures.has_room c.args.byte c.ranges.byte.fits) in
     let has : 0 < room c.args.arena.now kinds.Node256 = room-of-kind c.args.arena.now c.args.pointer _ is_kind there full c.requires.room in
-    search rules
+    search
 
 pub returns-in-Node48 : goal.returns-in-Node48
 returns-in-Node48 g c = λ node is.

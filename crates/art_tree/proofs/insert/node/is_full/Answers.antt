@@ -13,3 +13,6 @@ returns-clause-has_room g c = λ node is not_full.
     let most = c.end.ensures ∙ c.capacity_range.ensures.end ∙ ap most_children c.node_type.ensures in
     let differ : length node.children ≢ most_children (node_kind c.args.pointer) = λ same. not_full ((counted c.num_children.result c.end.result.now count most).1 same) in
     omega (arith, differ, count, c.num_children.ensures.fits node is)
+
+pub num_children-requires : goal.num_children-requires
+num_children-requires g c = search

@@ -1,4 +1,4 @@
-use Rattle.std.proofs.Common.{lit<, rules, subst}
+use Rattle.std.proofs.Common.{lit<, subst}
 use Rattle.art_nodes.specs.Inner.{node_with_child}
 use Rattle.art_tree.specs.Edits.{IsReplaced}
 use Rattle.art_tree.proofs.insert.node.move_to.Goals as goal
@@ -7,7 +7,7 @@ pub write_child-requires : goal.write_child-requires
 write_child-requires g c = (lit< tt, c.requires.has_room)
 
 pub replace_node-requires : goal.replace_node-requires
-replace_node-requires g c = search rules
+replace_node-requires g c = search
 
 pub returns : goal.returns
 returns g c =

@@ -1,10 +1,11 @@
-use Rattle.std.proofs.Common.{◌∙◌, length, rules, arith, sym, ap, subst}
+use Rattle.std.proofs.Common.{◌∙◌, length, lit<, rules, arith, sym, ap, subst}
 use Rattle.std.specs.Option.{option_copied}
 use Rattle.art_header.specs.Header.{StandsFor}
 use Rattle.art_nodes.specs.Inner.{header_of, with_prefix}
 use Rattle.art_nodes.specs.Pointers.{slab_key}
 use Rattle.art_arena.specs.Arena.{held, HeldInner, Changes}
 use Rattle.art_arena.specs.Links.{leaf_at}
+use Rattle.art_tree.proofs.HangLemmas.{inner-kind}
 use Rattle.art_tree.proofs.NodeLemmas.{header-held, one-inner, text-of-key}
 use Rattle.art_tree.proofs.insert.node.trim.Goals as goal
 
@@ -19,6 +20,34 @@ ltrim_by_with_leaf-requires g c =
     let within = c.requires.within there.0 there.1 in
     let long = c.requires.text there.0 there.1 in
     (search rules, (omega (arith, len, within), omega (arith, len, within, long, text, bytes)))
+
+pub set_prefix-requires : goal.set_prefix-requires
+set_prefix-requires g c = (
+  search,
+  (
+    search,
+    (
+      search,
+      (
+        search,
+        (
+          search,
+          (
+            lit< tt,
+            (
+              search rules,
+              (
+                c.requires.held,
+                let there = header-held (held c.args.arena.now c.args.pointer) c.in-Some.header.now (sym (ap option_copied c.in-Some.is) ∙ c.header.ensures.header) in
+                    inner-kind c.args.arena.now c.args.pointer there.0 there.1,
+              ),
+            ),
+          ),
+        ),
+      ),
+    ),
+  ),
+)
 
 pub returns-clause-trimmed : goal.returns-clause-trimmed
 returns-clause-trimmed g c = λ node path prefix rest is deep text stands.

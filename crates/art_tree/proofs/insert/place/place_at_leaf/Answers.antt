@@ -1,10 +1,10 @@
-use Rattle.std.proofs.Common.{◌≡◌, ◌≢◌, ◌∙◌, ◌+◌, length, Contains, get_or, sym, ap, subst, inl, inr, rules, arith}
+use Rattle.std.proofs.Common.{◌≡◌, ◌≢◌, ◌∙◌, ◌+◌, length, Contains, get_or, sym, ap, subst, inl, inr, arith}
 use Rattle.art_arena.specs.Arena.{Nothing, held}
 use Rattle.art_arena.specs.Standing.{leaf_text}
 use Rattle.art_arena.specs.Trees.{leaves}
 use Rattle.art_tree.specs.Search.{leaf_pointer}
 use Rattle.art_tree.specs.Places.{Parts}
-use Rattle.art_tree.proofs.PlaceLemmas.{spot-held, at-leaf, leaf-deep, leaf-present, rests-counted, leaf-within, leaf-clash, leaf-parts}
+use Rattle.art_tree.proofs.PlaceLemmas.{depth-within, spot-held, at-leaf, leaf-deep, leaf-present, rests-counted, leaf-within, leaf-clash, leaf-parts}
 use Rattle.art_tree.proofs.WayLemmas.{not-true}
 use Rattle.art_tree.proofs.insert.place.place_at_leaf.Goals.{then-index-text-via-then-index-text, then-index-text-via-else-index-text+then-index-key}
 use Rattle.art_tree.proofs.insert.place.place_at_leaf.Goals as goal
@@ -14,7 +14,7 @@ as_ref-node-requires g c =
     let arena = c.args.arena.now in
     let there : held arena (leaf_pointer c.args.leaf) ≢ Nothing =
     subst (λ pointer. held arena pointer ≢ Nothing) c.requires.leaf (spot-held g.K.AsBytes.text arena c.requires.spot.0 c.args.key.now c.args.spot c.requires.spot.1) in
-    search rules
+    search
 
 pub returns-then-matches_full_key : goal.returns-then-matches_full_key
 returns-then-matches_full_key g c = λ tree is.
@@ -102,3 +102,9 @@ returns g c = λ tree is.
     let parted = leaf-parts text arena tree c.args.key.now c.args.spot is leaf here c.common_front_len.result counted (omega (arith, within.0, c.if-index-text.false, ap length text_is)) (omega (arith, within.1, c.if-index-key.false)) in
     let index = c.args.spot.depth + c.common_front_len.result in
     subst (λ t. Parts tree c.args.key.now c.args.spot (record { index = index; byte = get_or c.args.key.now index 0; node_byte = get_or t index 0 })) (sym text_is) parted
+
+pub slice_bounds-common_front_len-start-2 : goal.slice_bounds-common_front_len-start-2
+slice_bounds-common_front_len-start-2 g c = depth-within g.K.AsBytes.text c.args.arena.now c.requires.spot.0 c.args.key.now c.args.spot c.requires.spot.1
+
+pub slice_bounds-common_front_len-count-2 : goal.slice_bounds-common_front_len-count-2
+slice_bounds-common_front_len-count-2 g c = depth-within g.K.AsBytes.text c.args.arena.now c.requires.spot.0 c.args.key.now c.args.spot c.requires.spot.1

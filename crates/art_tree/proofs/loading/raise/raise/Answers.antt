@@ -10,7 +10,7 @@ use Rattle.art_tree.specs.Raising.{leaf_pairs}
 use Rattle.art_tree.specs.Search.{leaf_pointer}
 use Rattle.art_tree.specs.Plan.{Spans}
 use Rattle.art_tree.proofs.Leading.{plan-leads}
-use Rattle.art_tree.proofs.Rising.{IsRising, at_leaf, at_inner, rising-none, texts-of-pairs, pair-there, pointer-there, leaf-there, rise-leaf, rise-inner-called, last-part}
+use Rattle.art_tree.proofs.Rising.{IsRising, at_leaf, at_inner, rising-none, texts-of-pairs, pair-there, pointer-there, leaf-there, rise-leaf, rise-inner-called, one-pending, last-part}
 use Rattle.art_tree.proofs.loading.raise.raise.Goals as goal
 use Rattle.art_tree.proofs.loading.raise.raise.Goals.{in-Leaf, in-Inner}
 
@@ -63,56 +63,35 @@ bounds-leaves-next-in-Inner g c =
     omega (arith, here.inside, here.some)
 
 pub place-node-requires : goal.place-node-requires
-place-node-requires g c =
-    let d : NodePtr g.row.PREFIX_LEN (LeafNode g.row.K.Denot g.row.V.Denot g.row.PREFIX_LEN) = record { key = 0; node = record {} } in
-    let here = at_inner g.K.AsBytes.text c.args.arena.now c.args.leaves.now _ _ _ _ _ _ _ _ _ _ c.loop-step-test.true c.in-Inner.is c.loop-step.invariant.rising c.requires.held in
-    let last = here.last d in
-    let below : c.len.result - c.in-Inner.children ≡ length c.loop-step.pending.items - c.in-Inner.children = omega (arith, c.len.ensures, c.loop-step.pending.ok.0) in
-    let kids = last-part c.deref.result.now c.loop-step.pending.items (c.len.result - c.in-Inner.children) c.in-Inner.children c.deref.ensures.value below in
-    let short : length here.rising.leads.0.1 < 2 ^ 32 = omega (arith, c.requires.short (c.loop-step.next - 1), ap length last.before) in
-    let long = ap length kids in (
-      search rules,
+place-node-requires g c = (
+  search,
+  (
+    search,
+    (
+      search,
       (
-        search rules,
+        search,
         (
           search rules,
           (
-            search rules,
+            lit< tt,
             (
-              search rules,
-              (
-                lit< tt,
-                (
-                  lit< tt,
-                  (
-                    last.is_held,
-                    (
-                      here.ready.ordered,
-                      (
-                        omega (arith, here.ready.within, ap length last.now),
-                        (
-                          omega (arith, here.ready.within, short),
-                          (
-                            omega (arith, here.ready.two, here.ready.count, long),
-                            (
-                              omega (arith, here.ready.few, here.ready.count, long),
-                              (
-                                subst (λ k. IsAscending (key_bytes k)) (sym kids) here.ready.ascending,
-                                subst (λ n. 0 < room c.loop-step.arena (kind_for n)) (sym (long ∙ here.ready.count)) here.ready.rooms,
-                              ),
-                            ),
-                          ),
-                        ),
-                      ),
-                    ),
-                  ),
-                ),
-              ),
+              lit< tt,
+              let d : NodePtr g.row.PREFIX_LEN (LeafNode g.row.K.Denot g.row.V.Denot g.row.PREFIX_LEN) = record { key = 0; node = record {} } in
+                  let here = at_inner g.K.AsBytes.text c.args.arena.now c.args.leaves.now _ _ _ _ _ _ _ _ _ _ c.loop-step-test.true c.in-Inner.is c.loop-step.invariant.rising c.requires.held in
+                  let last = here.last d in
+                  let below : c.len.result - c.in-Inner.children ≡ length c.loop-step.pending.items - c.in-Inner.children = omega (arith, c.len.ensures, c.loop-step.pending.ok.0) in
+                  let kids = last-part c.deref.result.now c.loop-step.pending.items (c.len.result - c.in-Inner.children) c.in-Inner.children c.deref.ensures.value below in
+                  let short : length here.rising.leads.0.1 < 2 ^ 32 = omega (arith, c.requires.short (c.loop-step.next - 1), ap length last.before) in
+                  let long = ap length kids in
+                  (last.is_held, (here.ready.ordered, (omega (arith, here.ready.within, ap length last.now), (omega (arith, here.ready.within, short), (omega (arith, here.ready.two, here.ready.count, long), (omega (arith, here.ready.few, here.ready.count, long), (subst (λ k. IsAscending (key_bytes k)) (sym kids) here.ready.ascending, subst (λ n. 0 < room c.loop-step.arena (kind_for n)) (sym (long ∙ here.ready.count)) here.ready.rooms))))))),
             ),
           ),
         ),
       ),
-    )
+    ),
+  ),
+)
 
 pub push_reserved-requires-in-Inner : goal.push_reserved-requires-in-Inner
 push_reserved-requires-in-Inner g c =
@@ -154,3 +133,13 @@ loop-step-preserved g c =
             memory = omega (arith, ap vec_capacity w.pending-is, w.push_reserved-in-Inner.ensures.capacity, w.truncate.ensures.capacity, c.loop-step.invariant.memory);
           }
     ]
+
+pub overflow_sub-next : goal.overflow_sub-next
+overflow_sub-next g c =
+    let here = at_inner g.K.AsBytes.text c.args.arena.now c.args.leaves.now _ _ _ _ _ _ _ _ _ _ c.loop-step-test.true c.in-Inner.is c.loop-step.invariant.rising c.requires.held in
+    here.some
+
+pub index-requires : goal.index-requires
+index-requires g c =
+    let one = one-pending g.K.AsBytes.text _ _ c.args.arena.now c.loop-step.arena c.loop-step.next c.loop-step.pending.items c.args.steps.now c.loop-step.step-index c.loop-step-test.false c.loop-step.invariant.rising in
+    omega (arith, one, c.loop-step.pending.ok.0)

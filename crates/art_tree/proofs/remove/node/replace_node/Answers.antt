@@ -1,4 +1,4 @@
-use Rattle.std.proofs.Common.{◌≡◌, ◌≢◌, rules, sym, subst}
+use Rattle.std.proofs.Common.{◌≡◌, ◌≢◌, sym, subst}
 use Rattle.art_nodes.specs.Pointers.{slab_key}
 use Rattle.art_arena.specs.Arena.{held, Nothing, pointer_to, Changes}
 use Rattle.art_tree.proofs.Linking.{kept-at}
@@ -17,7 +17,7 @@ give_up-requires g c =
     let made = if-ok (λ ptr. Changes old now (pointer_to kind (slab_key ptr)) (g.R.ArenaNode.held_as c.args.node)) answer at c.unwrap-placed.ensures c.allocate_node_ptr.ensures.added in
     let stays = kept-at old now (pointer_to kind (slab_key at)) _ free made c.args.pointer c.requires.held in
     let there : held now c.args.pointer ≢ Nothing = subst (λ h. h ≢ Nothing) (sym stays) c.requires.held in
-    search rules
+    search
 
 pub returns : goal.returns
 returns g c =

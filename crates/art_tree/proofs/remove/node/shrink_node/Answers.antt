@@ -1,4 +1,4 @@
-use Rattle.std.proofs.Common.{◌∙◌, ◌<◌, rules, sym, ap, inl, inr, arith}
+use Rattle.std.proofs.Common.{◌∙◌, ◌<◌, sym, ap, inl, inr, arith}
 use Rattle.art_header.specs.declared.node_type.NodeType.TheVariants as kinds
 use Rattle.art_arena.specs.Arena.{room}
 use Rattle.art_arena.specs.Reader.{shown, shown_kind}
@@ -10,13 +10,13 @@ shrink-shrunk-requires g c =
     let there = c.node_ref.ensures.node ∙ ap shown c.in-Node16.is in
     let kind = sym c.node_ref.ensures.kind ∙ ap shown_kind c.in-Node16.is in
     let few = few-there c.args.arena.now c.args.pointer kind there c.requires.few in
-    (search rules, (search rules, omega (arith, few)))
+    (search, (search, omega (arith, few)))
 
 pub replace_node-requires : goal.replace_node-requires
 replace_node-requires g c =
     let kind = sym c.node_ref.ensures.kind ∙ ap shown_kind c.in-Node16.is in
     let has : 0 < room c.args.arena.now kinds.Node4 = smaller-room c.args.arena.now c.args.pointer kind c.requires.room in
-    search rules
+    search
 
 pub returns-in-Node16 : goal.returns-in-Node16
 returns-in-Node16 g c = λ node is.
@@ -29,13 +29,13 @@ shrink-shrunk-requires-in-Node48 g c =
     let there = c.node_ref.ensures.node ∙ ap shown c.in-Node48.is in
     let kind = sym c.node_ref.ensures.kind ∙ ap shown_kind c.in-Node48.is in
     let few = few-there c.args.arena.now c.args.pointer kind there c.requires.few in
-    (search rules, (search rules, omega (arith, few)))
+    (search, (search, omega (arith, few)))
 
 pub replace_node-requires-in-Node48 : goal.replace_node-requires-in-Node48
 replace_node-requires-in-Node48 g c =
     let kind = sym c.node_ref.ensures.kind ∙ ap shown_kind c.in-Node48.is in
     let has : 0 < room c.args.arena.now kinds.Node16 = smaller-room c.args.arena.now c.args.pointer kind c.requires.room in
-    search rules
+    search
 
 pub returns-in-Node48 : goal.returns-in-Node48
 returns-in-Node48 g c = λ node is.
@@ -48,13 +48,13 @@ shrink-shrunk-requires-in-Node256 g c =
     let there = c.node_ref.ensures.node ∙ ap shown c.in-Node256.is in
     let kind = sym c.node_ref.ensures.kind ∙ ap shown_kind c.in-Node256.is in
     let few = few-there c.args.arena.now c.args.pointer kind there c.requires.few in
-    (search rules, (search rules, omega (arith, few)))
+    (search, (search, omega (arith, few)))
 
 pub replace_node-requires-in-Node256 : goal.replace_node-requires-in-Node256
 replace_node-requires-in-Node256 g c =
     let kind = sym c.node_ref.ensures.kind ∙ ap shown_kind c.in-Node256.is in
     let has : 0 < room c.args.arena.now kinds.Node48 = smaller-room c.args.arena.now c.args.pointer kind c.requires.room in
-    search rules
+    search
 
 pub returns-in-Node256 : goal.returns-in-Node256
 returns-in-Node256 g c = λ node is.

@@ -1,9 +1,9 @@
-use Rattle.std.proofs.Common.{rules, arith}
+use Rattle.std.proofs.Common.{arith}
 use Rattle.std.proofs.lemmas.Grind.{common_steps}
 use Rattle.art_tree.proofs.tree.ArtTree+K+V+PREFIX_LEN.root.Goals as goal
 
 pub returns-clause-root : goal.returns-clause-root
-returns-clause-root g c = search rules
+returns-clause-root g c = search
 
 pub returns-clause-one_tree : goal.returns-clause-one_tree
 returns-clause-one_tree g c = grind (arith, common_steps)

@@ -1,0 +1,9 @@
+use Rattle.std.proofs.Common.{◌≢◌, ◌∙◌, lit<, sym, subst}
+use Rattle.art_arena.specs.Arena.{Nothing}
+use Rattle.art_tree.proofs.insert.reserve_for_child.Goals as goal
+
+pub reserve_growth-requires : goal.reserve_growth-requires
+reserve_growth-requires g c = (search, (search, (search, (search, (search, (lit< tt, (subst (λ h. h ≢ Nothing) (sym (c.reserve.ensures.nodes_kept c.args.pointer)) c.requires.held, c.requires.inner)))))))
+
+pub returns-clause-nodes_kept : goal.returns-clause-nodes_kept
+returns-clause-nodes_kept g c = λ pointer. c.reserve_growth.ensures.nodes_kept pointer ∙ c.reserve.ensures.nodes_kept pointer

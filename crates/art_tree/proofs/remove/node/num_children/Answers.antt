@@ -1,0 +1,18 @@
+use Rattle.std.proofs.Common.{◌≡◌, ◌∙◌, ◌≤◌, length, ap, sym, subst}
+use Rattle.std.specs.Option.{option_copied}
+use Rattle.art_header.specs.NodeType.{most_children}
+use Rattle.art_nodes.specs.Pointers.{node_kind}
+use Rattle.art_arena.specs.Arena.{held}
+use Rattle.art_tree.proofs.NodeLemmas.{header-of-held}
+use Rattle.art_tree.proofs.remove.node.num_children.Goals as goal
+
+pub returns-clause-count : goal.returns-clause-count
+returns-clause-count g c = λ node is.
+    let header_is = header-of-held (held c.args.arena.now c.args.pointer) c.unwrap.result.now node (sym (ap option_copied c.unwrap.ensures) ∙ c.header.ensures.header) is in
+    c.num_children.ensures.value ∙ ap (λ h. h.count) header_is
+
+pub returns-clause-fits : goal.returns-clause-fits
+returns-clause-fits g c = λ node is.
+    let header_is = header-of-held (held c.args.arena.now c.args.pointer) c.unwrap.result.now node (sym (ap option_copied c.unwrap.ensures) ∙ c.header.ensures.header) is in
+    let count : c.num_children.result ≡ length node.children = c.num_children.ensures.value ∙ ap (λ h. h.count) header_is in
+    subst (λ n. n ≤ most_children (node_kind c.args.pointer)) (sym count) (c.header.ensures.sound node is).fits

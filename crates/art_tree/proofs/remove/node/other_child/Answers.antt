@@ -1,0 +1,15 @@
+use Rattle.std.proofs.Common.{◌∙◌, lit<, ap}
+use Rattle.art_arena.specs.Reader.{shown}
+use Rattle.art_tree.proofs.remove.node.other_child.Goals as goal
+
+pub least_other-requires : goal.least_other-requires
+least_other-requires g c = (lit< tt, c.requires.two _ (c.node_ref.ensures.node ∙ ap shown c.in-Node4.is))
+
+pub least_other-requires-in-Node16 : goal.least_other-requires-in-Node16
+least_other-requires-in-Node16 g c = (lit< tt, c.requires.two _ (c.node_ref.ensures.node ∙ ap shown c.in-Node16.is))
+
+pub least_other-requires-in-Node48 : goal.least_other-requires-in-Node48
+least_other-requires-in-Node48 g c = (lit< tt, c.requires.two _ (c.node_ref.ensures.node ∙ ap shown c.in-Node48.is))
+
+pub least_other-requires-in-Node256 : goal.least_other-requires-in-Node256
+least_other-requires-in-Node256 g c = (lit< tt, c.requires.two _ (c.node_ref.ensures.node ∙ ap shown c.in-Node256.is))
