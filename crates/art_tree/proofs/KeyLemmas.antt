@@ -1,5 +1,5 @@
 -- Each entry of a dictionary keeps a key that the laws of keys speak of.
-use Rattle.std.proofs.Common.{◌≡◌, ◌≢◌, ◌∙◌, ℕ, Bool, true, false, List, All, Contains, nat_eq, refl, sym, ap, subst}
+use Rattle.std.proofs.Common.{◌≡◌, ◌≢◌, ◌∙◌, ℕ, Bool, true, false, List, None, Some, All, Contains, nat_eq, refl, sym, ap, subst}
 use Rattle.std.specs.Cmp.Lexicographic.{pointwise}
 use Rattle.std.proofs.lemmas.Option.{same_Some}
 use Rattle.std.proofs.lemmas.List.Elements.{All-contains}
@@ -7,6 +7,7 @@ use Rattle.art_arena.specs.Arena.{ArenaOf}
 use Rattle.art_tree.specs.Dictionary.{HasEntry, HasKeys, IsEmpty, IsEntry, entry_at}
 use Rattle.art_tree.specs.Inserting.{IsEntered, SameEntries}
 use Rattle.art_tree.specs.Plan.{texts_of}
+use Rattle.art_tree.specs.Removing.{IsLeft}
 use Rattle.art_tree.proofs.ClashLemmas.{mapped-from}
 use Rattle.art_tree.proofs.ScanLemmas.{same-text, text-itself}
 
@@ -34,3 +35,12 @@ module _ {K V : Type 0} {P : ℕ} (text : K → List ℕ) (is_key : K → Type 0
         by_test false differ =
             let other : text entry.0 ≢ text key = λ same. let itself = subst (λ x. pointwise nat_eq (text entry.0) x ≡ true) same (text-itself (text entry.0)) in absurd (cc) in
             keys entry (sym (entered.others (text entry.0) other) ∙ is)
+
+    pub keys-left : (key : List ℕ) → IsLeft text old new key → HasKeys text is_key new
+    keys-left key left entry is = by_test (pointwise nat_eq (text entry.0) key) refl
+      where
+        by_test : (t : Bool) → pointwise nat_eq (text entry.0) key ≡ t → is_key entry.0
+        by_test true same = absurd (let wrong : None ≡ Some entry = sym left.gone ∙ ap (entry_at text new) (sym (same-text (text entry.0) key same)) ∙ is in cc)
+        by_test false differ =
+            let other : text entry.0 ≢ key = λ same. let itself = subst (λ x. pointwise nat_eq (text entry.0) x ≡ true) same (text-itself (text entry.0)) in absurd (cc) in
+            keys entry (sym (left.others (text entry.0) other) ∙ is)

@@ -1,5 +1,5 @@
 -- Inner nodes that take a child more, or another prefix.
-use Rattle.std.proofs.Common.{◌≡◌, ◌∙◌, ℕ, ◌<◌, ◌≤◌, List, [], ◌∷◌, length, Option, Some, None, IsNone, refl, sym, ap, subst}
+use Rattle.std.proofs.Common.{◌≡◌, ◌≢◌, ◌∙◌, ℕ, ◌<◌, ◌≤◌, ◌^◌, List, [], ◌∷◌, length, Option, Some, None, IsNone, lit<, refl, sym, ap, subst, arith}
 use Rattle.std.proofs.lemmas.Bool.{le-ltb, lt-ltb}
 use Rattle.std.specs.Option.{option_map, option_map_or}
 use Rattle.art_header.specs.Header.{Header}
@@ -15,6 +15,20 @@ use Rattle.art_nodes.proofs.ChildMapLaws.{length_absent}
 use Rattle.art_arena.specs.Arena.{ArenaOf, Changes, Held, HeldInner, HeldLeaf, Nothing, held, held_header, room}
 use Rattle.art_tree.specs.Edits.{HasRoomToGrow, IsMoved}
 use Rattle.art_tree.specs.Taking.{two_children}
+
+-- the sizes in memory of a pointer to a leaf, of a match and of a spot
+pub leaf-pointer-fits : 8 < 2 ^ 63
+leaf-pointer-fits = lit< tt
+
+pub match-fits : 40 < 2 ^ 63
+match-fits = lit< tt
+
+pub spot-fits : 56 < 2 ^ 63
+spot-fits = lit< tt
+
+-- kinds with room for more and more children are apart
+pub kinds-apart : {a b : NodeType} → most_children a < most_children b → a ≢ b
+kinds-apart less same = omega (arith, less, ap most_children same)
 
 -- two children by ascending byte
 module _ {H : Type 0} (byte : ℕ) (child : H) (other : ℕ) (node : H) where

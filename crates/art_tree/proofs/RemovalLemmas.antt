@@ -1,5 +1,5 @@
 -- A leaf that a search finds, and that is taken out of its list and out of its arena.
-use Rattle.std.proofs.Common.{◌≡◌, ◌≢◌, ◌∙◌, ℕ, ◌≤◌, List, [], ◌∷◌, ◌++◌, All, Contains, Option, Some, None, IfSome, refl, sym, ap, subst, inl, inr, arith}
+use Rattle.std.proofs.Common.{◌≡◌, ◌≢◌, ◌∙◌, ℕ, ◌≤◌, List, [], ◌∷◌, ◌++◌, All, Contains, Option, Some, None, IfSome, refl, sym, ap, subst, inl, inr, arith, IfNone}
 use Rattle.std.proofs.lemmas.List.Elements.{All-cons, All-contains, All-head, All-tail, Contains-append_right}
 use Rattle.std.proofs.lemmas.Option.{same_Some}
 use Rattle.art_header.specs.declared.node_type.NodeType.{NodeType}
@@ -165,3 +165,7 @@ module _ {K V : Type 0} {P : ℕ} (tree : Tree (OpaqueNodePtr K V P)) (pointer :
 pub if-some : {X : Type 0} (o : Option X) (Q : X → Type 0) (x : X) → o ≡ Some x → IfSome o Q → Q x
 if-some None Q x is holds = absurd (cc)
 if-some (Some y) Q x is holds = subst Q (same_Some y x is) holds
+
+pub if-none : {X : Type 0} (o : Option X) (Q : Type 0) → o ≡ None → IfNone o Q → Q
+if-none None Q is holds = holds
+if-none (Some y) Q is holds = absurd (cc)

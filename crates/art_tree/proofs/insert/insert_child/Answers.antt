@@ -14,6 +14,7 @@ use Rattle.art_tree.proofs.Gaps.{gap, lies}
 use Rattle.art_tree.proofs.Adding.{entered-from}
 use Rattle.art_tree.proofs.Growing.{alone-same}
 use Rattle.art_tree.proofs.HangLemmas.{ok-then}
+use Rattle.art_tree.proofs.NodeLemmas.{leaf-pointer-fits}
 use Rattle.art_tree.proofs.insert.insert_child.Goals as goal
 
 pub reserve_for_child-requires : goal.reserve_for_child-requires
@@ -29,7 +30,7 @@ leaf_beside-end-requires g c =
     let reserved = c.reserve_for_child.new.arena in
     let alone = alone-same g.K.AsBytes.text c.args.arena.now reserved c.reserve_for_child.ensures.nodes_kept c.args.root tree alone0 in
     let place : HasPlaceAt g.K.AsBytes.text reserved c.args.spot.node c.args.byte = place-there g.K.AsBytes.text reserved c.args.root tree c.args.spot c.args.byte c.args.key c.args.value alone lacks c.ranges.byte.fits in
-    search rules
+    assumption leaf-pointer-fits
 
 pub link_leaf-leaf-requires : goal.link_leaf-leaf-requires
 link_leaf-leaf-requires g c =
@@ -48,7 +49,7 @@ link_leaf-leaf-requires g c =
     let has_room : 0 < room reserved Leaf = ok-then c.reserve_for_child.result (0 < room reserved Leaf) (c.is_err.ensures.value) c.if-is_err.false c.reserve_for_child.ensures.leaf_room in
     let has_gap : HasGap reserved end sibling = gap text reserved root lacks.at.context part there.before there.after whole leaves_are end sibling beside in
     let order : LiesBeside end (text c.args.key) (text_at text reserved sibling) = lies text reserved root lacks.at.context part there.before there.after whole leaves_are end sibling beside lacks.prefix c.args.byte (text c.args.key) there.place lacks.leads (omega (arith, c.requires.short)) c.texts_ascend.ensures in
-    search rules
+    assumption leaf-pointer-fits
 
 pub add_child-node-requires : goal.add_child-node-requires
 add_child-node-requires g c =
@@ -66,7 +67,7 @@ add_child-node-requires g c =
     let is_inner : node_kind node ≢ Leaf = there-inner text reserved c.args.root tree c.args.spot c.args.byte c.args.key c.args.value alone lacks c.ranges.byte.fits in
     let absent : (own : Inner _) → held linked node ≡ HeldInner own → child_at own.children c.args.byte ≡ None = linked-absent text reserved c.args.root tree c.args.spot c.args.byte c.args.key c.args.value alone lacks c.ranges.byte.fits linked leaf free stays in
     let has_room : HasRoomToGrow linked node = linked-room text reserved c.args.root tree c.args.spot c.args.byte c.args.key c.args.value alone lacks c.ranges.byte.fits linked leaf free stays rooms c.link_leaf-leaf.ensures.other_room in
-    search rules
+    assumption leaf-pointer-fits
 
 pub hang-requires : goal.hang-requires
 hang-requires g c =
@@ -77,7 +78,7 @@ hang-requires g c =
     let new = c.add_child-node.new.arena in
     let alone = alone-same text c.args.arena.now reserved c.reserve_for_child.ensures.nodes_kept c.args.root tree alone0 in
     let can : CanHang new c.args.spot.parent = child-hangs text reserved c.args.root tree c.args.spot c.args.byte c.args.key c.args.value alone lacks c.ranges.byte.fits linked (leaf_pointer c.link_leaf-leaf.result) c.link_leaf-leaf.ensures.was_free c.link_leaf-leaf.ensures.others new c.add_child-node.result c.link_leaf-leaf.ensures.entry c.each_pointer_is_at_one_place.ensures (subst (λ child. ChildAdded linked new c.args.spot.node c.args.byte child c.add_child-node.result) c.to_opaque.ensures c.add_child-node.ensures) in
-    search rules
+    assumption leaf-pointer-fits
 
 pub returns : goal.returns
 returns g c =

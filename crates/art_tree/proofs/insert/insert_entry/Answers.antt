@@ -8,6 +8,7 @@ use Rattle.art_tree.specs.Places.{LacksChild, Parts}
 use Rattle.art_tree.specs.Search.{leaf_pointer}
 use Rattle.art_tree.proofs.EntryLemmas.{answered, apart-new, child-apart, clash-entry, empty-new, empty-stays, fork-apart, leaf-is-held, no-clash}
 use Rattle.art_tree.proofs.Growing.{entries-stay}
+use Rattle.art_tree.proofs.NodeLemmas.{leaf-pointer-fits, spot-fits}
 use Rattle.art_tree.proofs.insert.insert_entry.Goals as goal
 
 pub returns-in_default : goal.returns-in_default
@@ -28,7 +29,7 @@ replace_entry-requires g c =
     let art = subst (IsArt text arena) c.in-Some.is c.requires.art in
     let inside = c.in-Present.ensures art.0 art.1.is_tree in
     let is_held : HoldsLeaf arena (slab_key c.in-Present.leaf) = leaf-is-held text arena c.in-Some.root art.0 art.1 (leaf_pointer c.in-Present.leaf) _ inside in
-    search rules
+    assumption (leaf-pointer-fits, spot-fits)
 
 pub returns-in-Present : goal.returns-in-Present
 returns-in-Present g c =
@@ -67,7 +68,7 @@ insert_child-requires g c =
     let short : length (text c.args.key) < 2 ^ 32 = omega (arith, c.if-as_bytes.false, ap length c.as_bytes.ensures.text) in
     let place : (tree : Tree _) × IsAlone text arena c.in-Some.root tree × LacksChild tree (text c.args.key) c.in-Child.spot c.in-Child.byte =
     (art.0, art.1, subst (λ key. LacksChild art.0 key c.in-Child.spot c.in-Child.byte) c.as_bytes-2.ensures.text (c.in-Child.ensures art.0 art.1.is_tree)) in
-    search rules
+    assumption (leaf-pointer-fits, spot-fits)
 
 pub returns-in-Child : goal.returns-in-Child
 returns-in-Child g c =
@@ -92,7 +93,7 @@ insert_fork-requires g c =
     let short : length (text c.args.key) < 2 ^ 32 = omega (arith, c.if-as_bytes.false, ap length c.as_bytes.ensures.text) in
     let place : (tree : Tree _) × IsAlone text arena c.in-Some.root tree × Parts tree (text c.args.key) c.in-Fork.spot c.in-Fork.fork =
     (art.0, art.1, subst (λ key. Parts art.0 key c.in-Fork.spot c.in-Fork.fork) c.as_bytes-2.ensures.text (c.in-Fork.ensures art.0 art.1.is_tree)) in
-    search rules
+    assumption (leaf-pointer-fits, spot-fits)
 
 pub returns-in-Fork : goal.returns-in-Fork
 returns-in-Fork g c =

@@ -17,6 +17,7 @@ use Rattle.art_tree.proofs.Gaps.{gap, lies}
 use Rattle.art_tree.proofs.Growing.{alone-same}
 use Rattle.art_tree.proofs.HangLemmas.{ok-then}
 use Rattle.art_tree.proofs.DictionaryLemmas.{end-in}
+use Rattle.art_tree.proofs.NodeLemmas.{leaf-pointer-fits}
 use Rattle.art_tree.proofs.insert.insert_fork.Goals as goal
 
 pub end_leaf-sibling-requires : goal.end_leaf-sibling-requires
@@ -32,7 +33,7 @@ end_leaf-sibling-requires g c =
     let alone = alone-same text c.args.arena.now reserved c.reserve_for_fork.ensures.nodes_kept root tree alone0 in
     let (fits, node_fits) = c.near_end-end.ensures.bytes in
     let found : TreeAt text reserved spot.node = tree-there text reserved root tree spot fork key value alone parts fits node_fits in
-    search rules
+    assumption leaf-pointer-fits
 
 pub link_leaf-leaf-requires : goal.link_leaf-leaf-requires
 link_leaf-leaf-requires g c =
@@ -58,7 +59,7 @@ link_leaf-leaf-requires g c =
     let has_room : 0 < room reserved Leaf = ok-then c.reserve_for_fork.result (0 < room reserved Leaf) c.is_err.ensures.value c.if-is_err.false c.reserve_for_fork.ensures.leaf_room in
     let has_gap : HasGap reserved end sibling = gap text reserved root parts.at.context parts.at.part before after whole leaves_are end sibling beside in
     let order : LiesBeside end (text key) (text_at text reserved sibling) = lies text reserved root parts.at.context parts.at.part before after whole leaves_are end sibling beside (shared_there text reserved root tree spot fork key value alone parts fits node_fits) fork.byte (text key) place.place place.leads (omega (arith, c.requires.short)) c.texts_ascend.ensures in
-    search rules
+    assumption leaf-pointer-fits
 
 pub overflow_add-fork : goal.overflow_add-fork
 overflow_add-fork g c =
@@ -86,7 +87,7 @@ trim-requires g c =
     let leaf_held : HoldsLeaf linked sibling = sibling-held text reserved root tree spot fork key value alone parts fits node_fits linked (leaf_pointer c.link_leaf-leaf.result) c.link_leaf-leaf.ensures.was_free c.link_leaf-leaf.ensures.others sibling at_end.0 inside in
     let within : (node : Inner _) → held linked spot.node ≡ HeldInner node → fork.index + 1 - spot.depth ≤ node.prefix_len = within-there text reserved root tree spot fork key value alone parts fits node_fits linked (leaf_pointer c.link_leaf-leaf.result) c.link_leaf-leaf.ensures.was_free c.link_leaf-leaf.ensures.others in
     let long : (node : Inner _) → held linked spot.node ≡ HeldInner node → spot.depth + node.prefix_len ≤ length (text_at text linked sibling) = text-there text reserved root tree spot fork key value alone parts fits node_fits linked (leaf_pointer c.link_leaf-leaf.result) c.link_leaf-leaf.ensures.was_free c.link_leaf-leaf.ensures.others sibling at_end.0 inside in
-    search rules
+    assumption leaf-pointer-fits
 
 pub fork_node-node-requires : goal.fork_node-node-requires
 fork_node-node-requires g c =
@@ -113,7 +114,7 @@ fork_node-node-requires g c =
     let differ : fork.byte ≢ fork.node_byte = parts.differ in
     let was_room : 0 < room reserved Node4 = ok-then c.reserve_for_fork.result (0 < room reserved Node4) c.is_err.ensures.value c.if-is_err.false c.reserve_for_fork.ensures.node_room in
     let has_room : 0 < room cut Node4 = subst (λ n. 0 < n) (sym (c.trim.ensures.room Node4 ∙ c.link_leaf-leaf.ensures.other_room Node4 (λ e. cc))) was_room in
-    search rules
+    assumption leaf-pointer-fits
 
 pub hang-requires : goal.hang-requires
 hang-requires g c =
@@ -134,7 +135,7 @@ hang-requires g c =
     let inside = end-in end (leaves parts.at.part) (leaf_pointer c.end_leaf-sibling.result) at_end in
     let new = c.fork_node-node.new.arena in
     let can : CanHang new spot.parent = fork-hangs text reserved root tree spot fork key value alone parts fits node_fits linked (leaf_pointer c.link_leaf-leaf.result) c.link_leaf-leaf.ensures.was_free c.link_leaf-leaf.ensures.others sibling at_end.0 inside c.trim.new.arena c.trim.ensures.leaf c.trim.ensures.trimmed new c.fork_node-node.result c.link_leaf-leaf.ensures.entry (slab_key c.link_leaf-leaf.result) refl c.each_pointer_is_at_one_place.ensures c.fork_node-node.ensures in
-    search rules
+    assumption leaf-pointer-fits
 
 pub returns : goal.returns
 returns g c =

@@ -12,6 +12,7 @@ use Rattle.art_tree.proofs.HangLemmas.{always-err}
 use Rattle.art_tree.proofs.RemovalLemmas.{hangs-child, hangs-in, hangs-normal, is-found}
 use Rattle.art_tree.proofs.WayContexts.{leaf-root}
 use Rattle.art_tree.proofs.remove.remove_entry.Goals.{in-ChildOfRoot, in-Normal}
+use Rattle.art_tree.proofs.NodeLemmas.{leaf-pointer-fits}
 use Rattle.art_tree.proofs.remove.remove_entry.Goals as goal
 
 pub returns-in_default-clause-absent : goal.returns-in_default-clause-absent
@@ -31,7 +32,7 @@ remove_root-requires g c =
     let found = is-found text arena c.with_budget-reader.result.arena c.with_budget-reader.ensures.arena c.args.root tree alone.is_tree c.in-Some.leaf c.in-Some.path c.args.key.now c.in-Some.ensures.answer c.in-Some.ensures.path in
     let (x, is) = leaf-root tree at (subst (IsPathTo tree at) c.in-Root.is found.way) in
     let only : (root : _) × (x : List ℕ) × IsAlone text arena root (Leaf at x) = (c.args.root, x, subst (IsAlone text arena c.args.root) is alone) in
-    search rules
+    assumption leaf-pointer-fits
 
 pub returns-in-Root-clause-removed : goal.returns-in-Root-clause-removed
 returns-in-Root-clause-removed g c =
@@ -58,7 +59,7 @@ remove_from-requires g c =
       | in-Normal w ↦ hangs-normal tree at c.in-Some.path found.way above w.in-Normal.grandparent w.in-Normal.parent_key_byte w.in-Normal.parent w.in-Normal.child_key_byte w.in-Normal.is w.above-is
     ] in
     let place : (tree : Tree _) × IsAlone text arena c.args.root tree × HangsUnder tree at above.1 above.2 above.0 = (tree, alone, hangs) in
-    search rules
+    assumption leaf-pointer-fits
 
 pub returns-in_err-root-clause-refused : goal.returns-in_err-root-clause-refused
 returns-in_err-root-clause-refused g c =

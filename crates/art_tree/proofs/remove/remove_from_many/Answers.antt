@@ -33,7 +33,7 @@ take_leaf-entry-requires g c =
     let alone = alone-same text c.args.arena.now reserved c.reserve_shrink.ensures.nodes_kept c.args.root tree alone0 in
     let place = leaf-place alone hangs in
     let listed : (left right : List ℕ) × Spells reserved (left ++ slab_key c.args.leaf ∷ right) = (_, _, place.spelled) in
-    search rules
+    assumption
 
 pub take_child-node-requires : goal.take_child-node-requires
 take_child-node-requires g c =
@@ -51,7 +51,7 @@ take_child-node-requires g c =
     let there : (node : Inner _) → held cut parent ≡ HeldInner node → child_at node.children byte ≢ None = cut-there place cut c.take_leaf-entry.ensures.gone c.take_leaf-entry.ensures.others in
     let enough : (node : Inner _) → held cut parent ≡ HeldInner node → (2 < length node.children) × (least_children (node_kind parent) ≤ length node.children) = cut-many place cut c.take_leaf-entry.ensures.gone c.take_leaf-entry.ensures.others many in
     let has_room : HasRoomToShrink cut parent = cut-room place cut c.take_leaf-entry.ensures.gone c.take_leaf-entry.ensures.others many c.in_ok-reserve_shrink.ensures.room c.take_leaf-entry.ensures.room in
-    search rules
+    assumption
 
 pub hang-requires : goal.hang-requires
 hang-requires g c =
@@ -66,7 +66,7 @@ hang-requires g c =
     let many : length place.node.children ≢ 2 = c.requires.many place.node (sym (c.reserve_shrink.ensures.nodes_kept parent) ∙ place.is_held) in
     let new = c.take_child-node.new.arena in
     let can : CanHang new higher = many-hangs place cut c.take_leaf-entry.ensures.gone c.take_leaf-entry.ensures.others many new c.take_child-node.result (c.each_pointer_is_at_one_place.ensures reserved [] _ place.alone.is_tree.stands place.alone.is_tree.sound) (c.take_child-node.ensures _ (is-cut place cut c.take_leaf-entry.ensures.gone c.take_leaf-entry.ensures.others)) in
-    search rules
+    assumption
 
 pub returns-clause-removed : goal.returns-clause-removed
 returns-clause-removed g c = λ tree alone0 hangs.

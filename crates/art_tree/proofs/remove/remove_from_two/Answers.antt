@@ -40,7 +40,7 @@ join_prefix-requires g c =
     let is_inner : node_kind parent ≢ Leaf = place.inner in
     let has_child : held cut child ≢ Nothing = child-held place c.each_pointer_is_at_one_place.ensures c.requires.two cut taken.gone taken.others other child c.other_child-other_byte.ensures in
     let short : (upper lower : Inner _) → held cut parent ≡ HeldInner upper → held cut child ≡ HeldInner lower → upper.prefix_len + (1 + lower.prefix_len) < 2 ^ 32 = short-there place c.each_pointer_is_at_one_place.ensures c.requires.two cut taken.gone taken.others other child c.other_child-other_byte.ensures in
-    search rules
+    assumption
 
 pub give_up-requires : goal.give_up-requires
 give_up-requires g c =
@@ -53,7 +53,7 @@ give_up-requires g c =
     let joined = c.join_prefix.new.arena in
     let is_held : held joined parent ≢ Nothing = parent-joined place c.each_pointer_is_at_one_place.ensures c.requires.two cut taken.gone taken.others other child c.other_child-other_byte.ensures joined c.join_prefix.ensures.leaf c.join_prefix.ensures.joined in
     let is_inner : node_kind parent ≢ Leaf = place.inner in
-    search rules
+    assumption
 
 pub hang-requires : goal.hang-requires
 hang-requires g c =
@@ -65,7 +65,7 @@ hang-requires g c =
     let joined = c.join_prefix.new.arena in
     let new = c.give_up.new.arena in
     let can : CanHang new c.args.above = two-hangs place c.each_pointer_is_at_one_place.ensures c.requires.two cut taken.gone taken.others other child c.other_child-other_byte.ensures joined c.join_prefix.ensures.leaf c.join_prefix.ensures.joined new c.give_up.ensures in
-    search rules
+    assumption
 
 pub returns : goal.returns
 returns g c tree alone hangs =

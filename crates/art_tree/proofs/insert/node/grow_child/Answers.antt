@@ -72,3 +72,6 @@ unreachable-requires g c =
     let is_kind = sym c.node_ref.ensures.kind ∙ ap shown_kind c.in-Node256.is in
     let full = c.requires.full _ there ∙ ap most_children is_kind in
     omega (arith, full, c.num_children.ensures.count, c.if-prove.false)
+
+pub unreachable-requires-in-LeafNode : goal.unreachable-requires-in-LeafNode
+unreachable-requires-in-LeafNode g c = c.requires.inner (sym c.node_ref.ensures.kind ∙ ap shown_kind c.in-LeafNode.is)

@@ -1,6 +1,7 @@
 use Rattle.std.proofs.Common.{◌∙◌, ◌<◌, ◌≤◌, length, sym, rules, arith}
 use Rattle.art_arena.specs.Standing.{TreeUnder}
 use Rattle.art_tree.proofs.PlaceLemmas.{depth-within, at-inner, below, node-tells, matched-within, node-clash, node-parts, node-lacks, node-leads}
+use Rattle.art_tree.proofs.NodeLemmas.{match-fits}
 use Rattle.art_tree.proofs.insert.place.step.Goals as goal
 
 pub match_full_prefix-requires : goal.match_full_prefix-requires
@@ -11,7 +12,7 @@ match_full_prefix-requires g c =
     let within : c.args.spot.depth ≤ length c.args.key.now = depth-within text arena c.requires.spot.0 c.args.key.now c.args.spot c.requires.spot.1 in
     let under : g.row.PREFIX_LEN < node.prefix_len → TreeUnder text arena node c.args.spot.depth =
     λ _. below text arena c.requires.spot.0 c.args.key.now c.args.spot c.requires.spot.1 node (at-inner text arena c.requires.spot.0 c.args.key.now c.args.spot c.requires.spot.1 node c.requires.held) in
-    search rules
+    assumption match-fits
 
 pub overflow_add-index : goal.overflow_add-index
 overflow_add-index g c =

@@ -20,60 +20,48 @@ moving-init g c = record {
 }
 
 pub insert_after-requires : goal.insert_after-requires
-insert_after-requires g c =
-    let old = c.args.arena.now in
-    let now = c.moving.arena in
-    let new = c.allocate_node_ptr.new.self in
-    let before = c.moving.leaves.items in
-    let this = c.unwrap-leaf.result in
-    let linking = c.moving.invariant.linking in
-    let entry : g.row.K.Denot × g.row.V.Denot = (c.in-Some.key, c.in-Some.value) in
-    let left = into_iter_items c.next.new.self in
-    let answer = c.allocate_node_ptr.result in
-    let a = allocated old now new linking.done before entry this c.with_no_siblings.result linking.linked
-    (if-ok (λ ptr. held now (pointer_to Leaf (slab_key ptr)) ≡ Nothing) answer this c.unwrap-leaf.ensures c.allocate_node_ptr.ensures.was_free)
-    (if-ok (λ ptr. Changes now new (pointer_to Leaf (slab_key ptr)) (HeldLeaf c.with_no_siblings.result)) answer this c.unwrap-leaf.ensures c.allocate_node_ptr.ensures.added)
-    c.with_no_siblings.ensures.key c.with_no_siblings.ensures.value c.with_no_siblings.ensures.previous c.with_no_siblings.ensures.next in
-    let items = c.next.ensures.items ∙ ap (λ o. option_to_list o ++ left) c.in-Some.is in
-    let whole : c.args.entries.items ≡ (linking.done ++ entry ∷ []) ++ left = linking.split ∙ ap (λ z. linking.done ++ z) items ∙ sym (append_assoc linking.done (entry ∷ []) left) in
-    let sibling = c.in-Some-last.sibling.now in
-    let found : slice_get before (length before - 1) ≡ Some sibling = ap (λ xs. slice_get xs (length xs - 1)) (sym c.deref.ensures.value) ∙ sym c.last.ensures.value ∙ ap option_copied c.in-Some-last.is in
-    let front = take (length before - 1) before in
-    let split = last-split before sibling found in
-    let texts = two-texts g.K.AsBytes.text old new c.args.entries.items linking.done left before front entry this sibling split whole a in
-    let fork = c.requires.loadable.fork (length front) texts.0 in
-    let less = forks-less _ _ fork.0 fork.1 in
-    let free = unlinked old new linking.done before entry this a in (
-      search rules,
+insert_after-requires g c = (
+  assumption,
+  (
+    assumption,
+    (
+      assumption,
       (
-        search rules,
+        assumption,
         (
-          search rules,
+          assumption,
           (
-            search rules,
-            (
-              search rules,
-              (
-                lit< tt,
-                (
-                  free.0,
-                  (
-                    free.1,
-                    (
-                      a.apart front sibling split,
-                      (
-                        sibling-knit old new linking.done before front entry this sibling split (c.each_leaf_of_a_list_is_knit.ensures.knit new) a,
-                        less-same _ _ _ _ texts.1 texts.2 less,
-                      ),
-                    ),
-                  ),
-                ),
-              ),
-            ),
+            lit< tt,
+            let old = c.args.arena.now in
+                let now = c.moving.arena in
+                let new = c.allocate_node_ptr.new.self in
+                let before = c.moving.leaves.items in
+                let this = c.unwrap-leaf.result in
+                let linking = c.moving.invariant.linking in
+                let entry : g.row.K.Denot × g.row.V.Denot = (c.in-Some.key, c.in-Some.value) in
+                let left = into_iter_items c.next.new.self in
+                let answer = c.allocate_node_ptr.result in
+                let a = allocated old now new linking.done before entry this c.with_no_siblings.result linking.linked
+                (if-ok (λ ptr. held now (pointer_to Leaf (slab_key ptr)) ≡ Nothing) answer this c.unwrap-leaf.ensures c.allocate_node_ptr.ensures.was_free)
+                (if-ok (λ ptr. Changes now new (pointer_to Leaf (slab_key ptr)) (HeldLeaf c.with_no_siblings.result)) answer this c.unwrap-leaf.ensures c.allocate_node_ptr.ensures.added)
+                c.with_no_siblings.ensures.key c.with_no_siblings.ensures.value c.with_no_siblings.ensures.previous c.with_no_siblings.ensures.next in
+                let items = c.next.ensures.items ∙ ap (λ o. option_to_list o ++ left) c.in-Some.is in
+                let whole : c.args.entries.items ≡ (linking.done ++ entry ∷ []) ++ left = linking.split ∙ ap (λ z. linking.done ++ z) items ∙ sym (append_assoc linking.done (entry ∷ []) left) in
+                let sibling = c.in-Some-last.sibling.now in
+                let found : slice_get before (length before - 1) ≡ Some sibling = ap (λ xs. slice_get xs (length xs - 1)) (sym c.deref.ensures.value) ∙ sym c.last.ensures.value ∙ ap option_copied c.in-Some-last.is in
+                let front = take (length before - 1) before in
+                let split = last-split before sibling found in
+                let texts = two-texts g.K.AsBytes.text old new c.args.entries.items linking.done left before front entry this sibling split whole a in
+                let fork = c.requires.loadable.fork (length front) texts.0 in
+                let less = forks-less _ _ fork.0 fork.1 in
+                let free = unlinked old new linking.done before entry this a in
+                (free.0, (free.1, (a.apart front sibling split, (sibling-knit old new linking.done before front entry this sibling split (c.each_leaf_of_a_list_is_knit.ensures.knit new) a, less-same _ _ _ _ texts.1 texts.2 less)))),
           ),
         ),
       ),
-    )
+    ),
+  ),
+)
 
 pub moving-preserved : goal.moving-preserved
 moving-preserved g c =

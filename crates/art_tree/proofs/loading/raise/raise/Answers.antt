@@ -72,7 +72,7 @@ place-node-requires g c = (
       (
         search,
         (
-          search rules,
+          assumption,
           (
             lit< tt,
             (

@@ -40,9 +40,9 @@ set_prefix-requires g c =
         (
           search,
           (
-            search rules,
+            assumption,
             (
-              search rules,
+              assumption,
               (
                 lit< tt,
                 (

@@ -1,5 +1,5 @@
-use Rattle.std.proofs.Common.{◌∙◌, lit<, ap}
-use Rattle.art_arena.specs.Reader.{shown}
+use Rattle.std.proofs.Common.{◌∙◌, lit<, sym, ap}
+use Rattle.art_arena.specs.Reader.{shown, shown_kind}
 use Rattle.art_tree.proofs.remove.node.other_child.Goals as goal
 
 pub least_other-requires : goal.least_other-requires
@@ -13,3 +13,6 @@ least_other-requires-in-Node48 g c = (lit< tt, c.requires.two _ (c.node_ref.ensu
 
 pub least_other-requires-in-Node256 : goal.least_other-requires-in-Node256
 least_other-requires-in-Node256 g c = (lit< tt, c.requires.two _ (c.node_ref.ensures.node ∙ ap shown c.in-Node256.is))
+
+pub unreachable-requires : goal.unreachable-requires
+unreachable-requires g c = c.requires.inner (sym c.node_ref.ensures.kind ∙ ap shown_kind c.in-LeafNode.is)

@@ -3,6 +3,7 @@ use Rattle.art_nodes.specs.Pointers.{slab_key}
 use Rattle.art_tree.specs.Art.{IsArt}
 use Rattle.art_tree.specs.Dictionary.{entry_at}
 use Rattle.art_tree.proofs.DictionaryLemmas.{empty-entry, end-held, end-entry, end-within, if-some-none, if-none, slot-held}
+use Rattle.art_tree.proofs.NodeLemmas.{leaf-pointer-fits}
 use Rattle.art_tree.proofs.tree.ArtTree+K+V+PREFIX_LEN.end_entry.Goals as goal
 
 pub returns-in_err-root : goal.returns-in_err-root
@@ -22,7 +23,7 @@ as_key_value_ref-requires g c =
     let at_end = c.end_leaf-leaf.ensures.at_end (record { tree = alone.0; path = []; at_root = alone.1.is_tree.at_root; stands = alone.1.is_tree.stands; sound = alone.1.is_tree.sound }) in
     let there = end-held text c.self.inside.arena c.args.end c.in_ok-root.root alone.0 alone.1 c.end_leaf-leaf.result at_end in
     let is_held = slot-held c.self.inside.arena (slab_key c.end_leaf-leaf.result) there.0 there.1 in
-    search rules
+    assumption leaf-pointer-fits
 
 pub returns-clause-entry : goal.returns-clause-entry
 returns-clause-entry g c =

@@ -1,5 +1,6 @@
-use Rattle.std.proofs.Common.{◌∙◌, ap}
-use Rattle.art_tree.specs.Dictionary.{entry_at}
+use Rattle.std.proofs.Common.{◌∙◌, ap, subst}
+use Rattle.art_tree.specs.Dictionary.{HasKeys, entry_at}
+use Rattle.art_tree.specs.Inserting.{MayEnter}
 use Rattle.art_tree.proofs.Growing.{art-same}
 use Rattle.art_tree.proofs.KeyLemmas.{keys-entered, keys-same}
 use Rattle.art_tree.proofs.tree.changes.ArtTree+K+V+PREFIX_LEN.insert.Goals as goal
@@ -17,3 +18,9 @@ invariant_of-self-2 g c =
 
 pub returns-clause-others : goal.returns-clause-others
 returns-clause-others g c = λ other differ. c.in_ok-root.ensures.entered.others other differ ∙ ap (λ seen. entry_at g.K.AsBytes.text seen.arena other) c.self.view_is
+
+pub returns-clause-are_keys : goal.returns-clause-are_keys
+returns-clause-are_keys g c = subst (λ seen. HasKeys g.K.AsBytes.text g.K.AsBytes.is_key seen.arena) c.self.view_is c.self.invariant.1
+
+pub returns-clause-no_refusal : goal.returns-clause-no_refusal
+returns-clause-no_refusal g c = subst (λ seen. MayEnter g.K.AsBytes.text seen.arena (g.K.AsBytes.text c.args.key)) c.self.view_is c.in_ok-root.ensures.no_refusal

@@ -1,11 +1,11 @@
 use Rattle.std.proofs.Common.{◌≡◌, ◌∙◌, Some, ap, sym, subst}
 use Rattle.art_tree.specs.Art.{IsArt}
-use Rattle.art_tree.specs.Dictionary.{entry_at}
+use Rattle.art_tree.specs.Dictionary.{HasKeys, entry_at}
 use Rattle.art_tree.specs.Removing.{IsLeft}
 use Rattle.art_tree.proofs.DictionaryLemmas.{empty-entry}
 use Rattle.art_tree.proofs.Growing.{art-same}
-use Rattle.art_tree.proofs.KeyLemmas.{keys-same}
-use Rattle.art_tree.proofs.RemovalLemmas.{if-some}
+use Rattle.art_tree.proofs.KeyLemmas.{keys-same, keys-left}
+use Rattle.art_tree.proofs.RemovalLemmas.{if-none, if-some}
 use Rattle.art_tree.proofs.tree.changes.ArtTree+K+V+PREFIX_LEN.remove.Goals as goal
 
 pub returns-in_default-clause-removed : goal.returns-in_default-clause-removed
@@ -35,3 +35,17 @@ returns-clause-others g c = λ other differ.
     let key = c.args.key.now in
     let done = if-some c.in_ok-root.field-0 (λ pair. IsArt text new pair.0 × IsLeft text old new key × (entry_at text old key ≡ Some pair.1)) (c.in-Some-2.root, c.in-Some-2.entry) c.in-Some-2.is c.in_ok-root.ensures.removed in
     done.1.others other differ ∙ ap (λ seen. entry_at text seen.arena other) c.self.view_is
+
+pub invariant_of-self-in_default-2 : goal.invariant_of-self-in_default-2
+invariant_of-self-in_default-2 g c =
+    let same = if-none c.in_ok-root.field-0 (c.remove_entry.new.arena ≡ c.self.inside.arena) c.in_default-2.is c.in_ok-root.ensures.absent_kept in
+    subst (λ arena. IsArt g.K.AsBytes.text arena c.self.inside.root × HasKeys g.K.AsBytes.text g.K.AsBytes.is_key arena) (sym same) c.self.invariant
+
+pub invariant_of-self-2 : goal.invariant_of-self-2
+invariant_of-self-2 g c =
+    let text = g.K.AsBytes.text in
+    let old = c.self.inside.arena in
+    let new = c.remove_entry.new.arena in
+    let key = c.args.key.now in
+    let done = if-some c.in_ok-root.field-0 (λ pair. IsArt text new pair.0 × IsLeft text old new key × (entry_at text old key ≡ Some pair.1)) (c.in-Some-2.root, c.in-Some-2.entry) c.in-Some-2.is c.in_ok-root.ensures.removed in
+    (done.0, keys-left text g.K.AsBytes.is_key old new c.self.invariant.1 key done.1)
