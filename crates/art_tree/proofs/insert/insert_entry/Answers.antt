@@ -1,4 +1,4 @@
-use Rattle.std.proofs.Common.{rules, ◌<◌, ◌^◌, length, Contains, [], sym, ap, subst, arith}
+use Rattle.std.proofs.Common.{◌<◌, ◌^◌, length, Contains, [], sym, ap, subst, arith}
 use Rattle.art_nodes.specs.Pointers.{slab_key}
 use Rattle.art_arena.specs.Links.{HoldsLeaf}
 use Rattle.art_arena.specs.Trees.{Tree, leaves, texts}

@@ -1,4 +1,4 @@
-use Rattle.std.proofs.Common.{rules, ◌∙◌, ℕ, List, [], Contains, arith, refl, ap, sym, subst}
+use Rattle.std.proofs.Common.{◌∙◌, ℕ, List, [], Contains, arith, refl, ap, sym, subst}
 use Rattle.art_arena.specs.Standing.{IsTreeIn}
 use Rattle.art_arena.specs.Trees.{Tree, Leaf, leaves}
 use Rattle.art_tree.specs.Art.{IsAlone}

@@ -1,4 +1,4 @@
-use Rattle.std.proofs.Common.{◌≡◌, ◌≢◌, ◌<◌, ◌≤◌, ◌+◌, ◌^◌, ◌++◌, ◌∷◌, ℕ, List, length, rules}
+use Rattle.std.proofs.Common.{◌≡◌, ◌≢◌, ◌<◌, ◌≤◌, ◌+◌, ◌^◌, ◌++◌, ◌∷◌, ℕ, List, length}
 use Rattle.art_header.specs.declared.node_type.NodeType.TheVariants.{Leaf}
 use Rattle.art_nodes.specs.Inner.{Inner}
 use Rattle.art_nodes.specs.Pointers.{node_kind, slab_key}

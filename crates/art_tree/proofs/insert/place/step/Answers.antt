@@ -1,4 +1,4 @@
-use Rattle.std.proofs.Common.{◌∙◌, ◌<◌, ◌≤◌, length, sym, rules, arith}
+use Rattle.std.proofs.Common.{◌∙◌, ◌<◌, ◌≤◌, length, sym, arith}
 use Rattle.art_arena.specs.Standing.{TreeUnder}
 use Rattle.art_tree.proofs.PlaceLemmas.{depth-within, at-inner, below, node-tells, matched-within, node-clash, node-parts, node-lacks, node-leads}
 use Rattle.art_tree.proofs.NodeLemmas.{match-fits}

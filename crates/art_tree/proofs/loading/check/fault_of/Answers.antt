@@ -1,4 +1,4 @@
-use Rattle.std.proofs.Common.{◌≡◌, ◌∙◌, ◌+◌, ◌<◌, length, true, false, sym, arith}
+use Rattle.std.proofs.Common.{◌∙◌, ◌+◌, ◌<◌, length, true, false, sym, arith}
 use Rattle.std.proofs.lemmas.List.{length-map}
 use Rattle.art_tree.proofs.RefusalLemmas.{text-there, fault-long, fault-order, fault-front}
 use Rattle.art_tree.proofs.loading.check.fault_of.Goals as goal

@@ -1,4 +1,4 @@
-use Rattle.std.proofs.Common.{◌≡◌, ◌∙◌, ◌+◌, ◌-◌, ◌≤◌, [], ◌∷◌, ◌++◌, length, length-append, take, slice_get, Some, sym, ap, subst, arith, rules, refl, lit<, append_assoc}
+use Rattle.std.proofs.Common.{◌≡◌, ◌∙◌, ◌+◌, ◌-◌, ◌≤◌, [], ◌∷◌, ◌++◌, length, length-append, take, slice_get, Some, sym, ap, subst, arith, refl, lit<, append_assoc}
 use Rattle.std.specs.Option.{option_copied, option_to_list}
 use Rattle.std.specs.Vec.Iter.{into_iter_items}
 use Rattle.art_header.specs.declared.node_type.NodeType.TheVariants.{Leaf}

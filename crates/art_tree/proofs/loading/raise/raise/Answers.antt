@@ -1,4 +1,4 @@
-use Rattle.std.proofs.Common.{◌≡◌, ◌∙◌, ◌+◌, ◌-◌, ◌<◌, [], ◌∷◌, ◌++◌, length, map, take, drop, get_or, ap, sym, subst, arith, rules, lit<, vec_capacity, ◌^◌}
+use Rattle.std.proofs.Common.{◌≡◌, ◌∙◌, ◌+◌, ◌-◌, ◌<◌, [], ◌∷◌, ◌++◌, length, map, take, drop, get_or, ap, sym, subst, arith, lit<, vec_capacity, ◌^◌}
 use Rattle.art_header.specs.NodeType.{kind_for}
 use Rattle.art_nodes.specs.ChildMap.{IsAscending, key_bytes}
 use Rattle.art_nodes.specs.Pointers.{slab_key}
