@@ -6,9 +6,6 @@ use Rattle.art_tree.proofs.insert.node.move_to.Goals as goal
 pub write_child-requires : goal.write_child-requires
 write_child-requires g c = (lit< tt, c.requires.has_room)
 
-pub replace_node-requires : goal.replace_node-requires
-replace_node-requires g c = search
-
 pub returns : goal.returns
 returns g c =
     let old = c.args.arena.now in

@@ -1,14 +1,18 @@
-use Rattle.std.proofs.Common.{◌∙◌, sym, arith}
+use Rattle.std.proofs.Common.{◌≡◌, ◌∙◌, ℕ, ◌≤◌, lit<, sym, arith}
 use Rattle.std.proofs.lemmas.Bool.{false≢true}
-use Rattle.art_header.specs.declared.node_type.NodeType.TheVariants.{Leaf}
+use Rattle.art_header.specs.declared.node_type.NodeType.TheVariants.{Leaf, Node16, Node48, Node256}
+use Rattle.art_tree.proofs.NodeLemmas.{kinds-apart}
 use Rattle.art_tree.proofs.insert.node.reserve_growth.Goals as goal
 use Rattle.art_tree.proofs.insert.node.reserve_growth.Goals.{in-Node4, in-Node16, in-Node48}
 
+least : (m n : ℕ) → m ≡ n → n ≤ m
+least m n same = omega (arith, same)
+
 pub returns-clause-leaf_room : goal.returns-clause-leaf_room
 returns-clause-leaf_room g c = elim c.match-node_type.branch [
-  | in-Node4 w ↦ omega (arith, c.reserve.ensures.other_room Leaf (λ e. (let is = w.grown-is in cc)))
-  | in-Node16 w ↦ omega (arith, c.reserve.ensures.other_room Leaf (λ e. (let is = w.grown-is in cc)))
-  | in-Node48 w ↦ omega (arith, c.reserve.ensures.other_room Leaf (λ e. (let is = w.grown-is in cc)))
+  | in-Node4 w ↦ least _ _ (c.reserve.ensures.other_room Leaf (λ e. kinds-apart {a = Leaf} {b = Node16} (lit< tt) (e ∙ w.grown-is)))
+  | in-Node16 w ↦ least _ _ (c.reserve.ensures.other_room Leaf (λ e. kinds-apart {a = Leaf} {b = Node48} (lit< tt) (e ∙ w.grown-is)))
+  | in-Node48 w ↦ least _ _ (c.reserve.ensures.other_room Leaf (λ e. kinds-apart {a = Leaf} {b = Node256} (lit< tt) (e ∙ w.grown-is)))
 ]
 
 pub is_full-requires : goal.is_full-requires
