@@ -3,7 +3,7 @@ use Rattle.std.proofs.Common.{◌≡◌, ◌≢◌, ◌⊎◌, ◌∙◌, ℕ, z
 use Rattle.std.specs.Option.{option_map_or}
 use Rattle.std.specs.List.{Contains}
 use Rattle.std.proofs.lemmas.Bool.{cases_lt, cases_eq, and_from, le-leb, lt-leb}
-use Rattle.std.proofs.lemmas.List.{length-map, append-nil, take_at, drop_at, drop_more, take_rest, drop_all}
+use Rattle.std.proofs.lemmas.List.{length-map, append-nil, take_at, drop_at, drop_more, take_all, take_rest, drop_all}
 use Rattle.std.proofs.lemmas.Option.{slice_get_within, get_or_from_slice_get}
 use Rattle.std.proofs.lemmas.List.Elements.{Contains-append_left, Contains-append_right, Contains-append_cases, Contains-push_cases, Contains-push}
 use Rattle.art_header.specs.NodeType.{kind_for, least_children, most_children}
@@ -20,10 +20,10 @@ use Rattle.art_nodes.proofs.KindLaws.{same_or_differ}
 use Rattle.art_arena.specs.Arena.{ArenaOf, Held, HeldInner, HeldLeaf, Nothing, held, held_leaf, pointer_to, room, SameOtherRoom, Changes}
 use Rattle.art_arena.specs.Links.{HoldsLeaf, leaf_at, text_at}
 use Rattle.art_arena.specs.Standing.{NodeStands, StandsIn, AllStandIn, leaf_text}
-use Rattle.art_arena.specs.Trees.{Leaf, Inner, Branches, NoBranch, Branch, branch_roots, branch_leaves, branch_places}
+use Rattle.art_arena.specs.Trees.{Tree, Leaf, Inner, Branches, NoBranch, Branch, branch_roots, branch_leaves, branch_places, leaves, places, root_of}
 use Rattle.art_tree.specs.Plan.{join, one_branch, needed}
 use Rattle.art_tree.specs.Loading.{AreSnug, Adds}
-use Rattle.art_tree.specs.Raising.{node_of, IsPlaced, HoldLeaves, leaf_pairs, leaf_texts}
+use Rattle.art_tree.specs.Raising.{node_of, IsPlaced, IsRaised, HoldLeaves, leaf_pairs, leaf_texts}
 use Rattle.art_tree.specs.Search.{leaf_pointer}
 use Rattle.art_tree.specs.declared.loading.steps.Step.{Step}
 use Rattle.art_tree.specs.declared.loading.steps.Step.TheVariants as step
@@ -461,6 +461,31 @@ module _ {K V : Type 0} {P : ℕ} (text : K → List ℕ) (old : ArenaOf K V P) 
               now = kept.1 ∙ same;
             };
       }
+
+  -- after the last step the tree of all leaves stands
+  pub risen : (now : ArenaOf K V P) (next : ℕ) (pending : List (ℕ × OpaqueNodePtr K V P)) (steps : List Step) (index : ℕ) (first : ℕ × OpaqueNodePtr K V P) → length steps ≤ index → Rising now next pending (drop index steps)
+      → first ≡ get_or pending 0 first → (tree : Tree (OpaqueNodePtr K V P)) × IsRaised text old now of first.1 tree
+  risen now next pending steps index first past r here =
+      let done = subst (Rising now next pending) (drop_all index steps past) r in
+      let (whole, byte, tree, one, sound) = done.leads in
+      let pairs = leaf_pairs text old of in
+      let pointers = map (leaf_pointer {K = K} {V = V} {P = P}) of in
+      let roots : (byte, root_of tree) ∷ [] ≡ pending = ap branch_roots (sym one) ∙ done.roots in
+      let root_is : (byte, root_of tree) ≡ first = ap (λ xs. get_or xs 0 first) roots ∙ sym here in
+      let none : drop next pointers ≡ [] = drop_all next pointers (omega (arith, whole, pairs-count text old of, length-map of (leaf_pointer {K = K} {V = V} {P = P}))) in
+      let all : branch_places done.stack ++ drop next pointers ≡ places tree =
+      ap (λ stack. branch_places stack ++ drop next pointers) one ∙ ap (λ rest. (places tree ++ []) ++ rest) none ∙ append-nil (places tree ++ []) ∙ append-nil (places tree) in (
+        tree,
+        record {
+          at_root = ap (λ p. p.1) root_is;
+          stands = (subst (AllStandIn text now) one done.stands).0;
+          sound = sound;
+          snug = (subst AreSnug one done.snug).0;
+          in_order = sym (append-nil (leaves tree)) ∙ ap branch_leaves (sym one) ∙ done.in_order ∙ take_all next pairs (omega (arith, whole));
+          kept = done.kept;
+          adds = λ before a. subst (Adds before now) all (done.adds before a);
+        },
+      )
 
 module _ {K V : Type 0} {P : ℕ} {old new : ArenaOf K V P} {node : nodes.Inner (OpaqueNodePtr K V P)} {at : OpaqueNodePtr K V P} where
   pub placed-kind : (kind other : NodeType) → other ≡ kind → IsPlaced old new kind node at → IsPlaced old new other node at

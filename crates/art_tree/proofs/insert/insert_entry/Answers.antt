@@ -1,4 +1,4 @@
-use Rattle.std.proofs.Common.{◌<◌, ◌^◌, length, Contains, [], sym, ap, subst, arith}
+use Rattle.std.proofs.Common.{◌<◌, ◌^◌, length, Contains, [], sym, ap, subst, arith, ◌≤◌}
 use Rattle.art_nodes.specs.Pointers.{slab_key}
 use Rattle.art_arena.specs.Links.{HoldsLeaf}
 use Rattle.art_arena.specs.Trees.{Tree, leaves, texts}
@@ -109,3 +109,6 @@ returns-in-Fork g c =
     let is_new = apart-new text old c.in-Some.root art.0 art.1 key short (fork-apart law art.0 art.1.is_tree.sound key short c.in-Fork.spot c.in-Fork.fork parts) in
     let is = answered text old new c.args.key c.args.value c.insert_fork.result fork.art fork.entered fork.entry_back fork.nodes_kept is_new (λ same. entries-stay text old new same c.in-Some.root art.0 art.1 (law art.0 art.1.is_tree.sound)) c.answer-in-Fork.result c.answer-in-Fork.ensures.added c.answer-in-Fork.ensures.refused in
     record { art = is.art; replaced = is.replaced; entered = is.entered; is_key = c.as_bytes.ensures.key; no_refusal = is.no_refusal; refusal_due = is.refusal_due; entry_back = is.entry_back; same_entries = is.same_entries; nodes_kept = is.nodes_kept }
+
+pub returns-then-as_bytes-clause-refusal_due : goal.returns-then-as_bytes-clause-refusal_due
+returns-then-as_bytes-clause-refusal_due g c = subst (λ text. 2 ^ 32 ≤ length text) c.as_bytes.ensures.text c.if-as_bytes.true

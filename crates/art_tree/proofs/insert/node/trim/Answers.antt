@@ -59,3 +59,9 @@ returns-clause-trimmed g c = λ node path prefix rest is deep text stands.
     let bytes = c.as_bytes.ensures.text ∙ sym (text-of-key g.K.AsBytes.text (leaf_at arena (slab_key c.args.leaf)) c.as_key_ref.result.now c.as_key_ref.ensures) ∙ text in
     let now = c.ltrim_by_with_leaf.ensures.stands path prefix rest deep bytes (subst (λ h. StandsFor g.row.PREFIX_LEN h prefix) (sym header) stands) in
     subst (λ n. Changes arena c.set_prefix.new.self c.args.pointer (HeldInner n)) (ap (with_prefix node) now) (c.set_prefix.ensures.prefix node is)
+
+pub returns-clause-leaf : goal.returns-clause-leaf
+returns-clause-leaf g c = λ leaf.
+    let arena = c.args.arena.now in
+    let there = header-held (held arena c.args.pointer) c.in-Some.header.now (sym (ap option_copied c.in-Some.is) ∙ c.header.ensures.header) in
+    absurd (inner-kind arena c.args.pointer there.0 there.1 leaf)

@@ -1,4 +1,4 @@
-use Rattle.std.proofs.Common.{◌≡◌, ◌∙◌, ◌+◌, ◌-◌, ◌≤◌, take, drop, ap, sym, subst}
+use Rattle.std.proofs.Common.{◌≡◌, ◌∙◌, ◌+◌, ◌-◌, ◌≤◌, take, drop, ap, sym, subst, length, arith}
 use Rattle.art_nodes.specs.Pointers.{slab_key, node_kind, opaque_key}
 use Rattle.art_arena.specs.Arena.{held, pointer_to, Nothing, HeldInner, Changes, room}
 use Rattle.art_arena.specs.Links.{leaf_at}
@@ -20,3 +20,8 @@ returns g c =
     (subst (Changes old new (pointer_to kind (slab_key c.unwrap.result))) node (if-ok (λ ptr. Changes old new (pointer_to kind (slab_key ptr)) (g.N.ArenaNode.held_as c.inner_node-node.result)) answer c.unwrap.result c.unwrap.ensures c.allocate_node_ptr.ensures.added))
     (on-ok (room old kind ≤ room new kind + 1) answer c.unwrap.result c.unwrap.ensures c.allocate_node_ptr.ensures.room)
     c.allocate_node_ptr.ensures.other_room
+
+pub slice_bounds-inner_node-end : goal.slice_bounds-inner_node-end
+slice_bounds-inner_node-end g c =
+    let text = text-of-key g.K.AsBytes.text (leaf_at c.args.arena.now (slab_key c.args.leaf)) c.as_key_ref.result.now c.as_key_ref.ensures in
+    omega (arith, c.requires.within, ap length text, ap length c.as_bytes-text.ensures.text)

@@ -10,7 +10,7 @@ use Rattle.art_tree.specs.Raising.{leaf_pairs}
 use Rattle.art_tree.specs.Search.{leaf_pointer}
 use Rattle.art_tree.specs.Plan.{Spans}
 use Rattle.art_tree.proofs.Leading.{plan-leads}
-use Rattle.art_tree.proofs.Rising.{IsRising, at_leaf, at_inner, rising-none, texts-of-pairs, pair-there, pointer-there, leaf-there, rise-leaf, rise-inner-called, one-pending, last-part}
+use Rattle.art_tree.proofs.Rising.{IsRising, at_leaf, at_inner, rising-none, texts-of-pairs, pair-there, pointer-there, leaf-there, rise-leaf, rise-inner-called, one-pending, last-part, risen}
 use Rattle.art_tree.proofs.loading.raise.raise.Goals as goal
 use Rattle.art_tree.proofs.loading.raise.raise.Goals.{in-Leaf, in-Inner}
 
@@ -143,3 +143,6 @@ pub index-requires : goal.index-requires
 index-requires g c =
     let one = one-pending g.K.AsBytes.text _ _ c.args.arena.now c.loop-step.arena c.loop-step.next c.loop-step.pending.items c.args.steps.now c.loop-step.step-index c.loop-step-test.false c.loop-step.invariant.rising in
     omega (arith, one, c.loop-step.pending.ok.0)
+
+pub returns : goal.returns
+returns g c = risen g.K.AsBytes.text c.args.arena.now c.args.leaves.now c.loop-step.arena c.loop-step.next c.loop-step.pending.items c.args.steps.now c.loop-step.step-index c.index.result.now c.loop-step-test.false c.loop-step.invariant.rising c.index.ensures

@@ -74,3 +74,9 @@ returns-clause-joined g c = λ upper lower front back up low above below.
     let both = c.push_prefix-2.ensures ∙ (λ i. with_more size (first i) (stored i) (len i)) in
     let now = both ∙ joined-stands size (header_of upper) (header_of lower) front back c.args.byte above below in
     subst (λ n. Changes arena c.set_prefix.new.self c.args.child (HeldInner n)) (ap (with_prefix lower) now) (c.set_prefix.ensures.prefix lower low)
+
+pub returns-clause-leaf : goal.returns-clause-leaf
+returns-clause-leaf g c = λ leaf.
+    let arena = c.args.arena.now in
+    let lower = header-held (held arena c.args.child) c.in-Some.lower.now (sym (ap option_copied c.in-Some.is) ∙ c.header.ensures.header) in
+    absurd (inner-kind arena c.args.child lower.0 lower.1 leaf)

@@ -1,4 +1,5 @@
-use Rattle.std.proofs.Common.{◌∙◌, ◌<◌, sym, ap, arith}
+use Rattle.std.proofs.Common.{◌∙◌, ◌<◌, sym, ap, inl, inr, arith}
+use Rattle.std.proofs.lemmas.Bool.{false≢true}
 use Rattle.art_header.specs.NodeType.{least_children}
 use Rattle.art_nodes.specs.Pointers.{node_kind}
 use Rattle.art_tree.proofs.HangLemmas.{always-err}
@@ -15,3 +16,12 @@ returns-clause-refused g c =
     always-err c.reserve.result _ (λ node is.
     let fewest = (c.has_fewest.ensures node is).0 c.if-not-has_fewest.false in
     (omega (arith, many, fewest), fewest))
+
+pub returns-in-Node4-clause-room : goal.returns-in-Node4-clause-room
+returns-in-Node4-clause-room g c = λ node is more fewest. elim c.in-Node4.is [
+  | inl small ↦ absurd (omega (arith, more, fewest, ap least_children (sym c.node_type.ensures ∙ small)))
+  | inr leaf ↦ absurd (c.requires.inner (sym c.node_type.ensures ∙ leaf))
+]
+
+pub returns-then-not-has_fewest-clause-room : goal.returns-then-not-has_fewest-clause-room
+returns-then-not-has_fewest-clause-room g c = λ node is more fewest. absurd (false≢true (sym c.if-not-has_fewest.true ∙ (c.has_fewest.ensures node is).1 fewest))
