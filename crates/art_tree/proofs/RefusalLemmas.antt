@@ -1,11 +1,9 @@
 -- Entries of which none has a fault.
-use Rattle.std.proofs.Common.{◌≡◌, ◌∙◌, ℕ, zero, suc, ◌+◌, ◌<◌, ◌≤◌, ◌^◌, Bool, true, false, List, [], ◌∷◌, length, take, get_or, if◌then◌else◌, not, All, Option, Some, None, IfSome, refl, sym, ap, subst, inl, inr, arith, nat_lt, nat_eq, ◌==◌}
+use Rattle.std.proofs.Common.{◌≡◌, ◌∙◌, ℕ, zero, suc, ◌+◌, ◌<◌, ◌≤◌, ◌^◌, Bool, true, false, List, [], ◌∷◌, length, take, get_or, All, Option, Some, None, IfSome, refl, sym, ap, subst, inl, inr, arith, nat_lt, nat_eq, ◌==◌}
 use Rattle.std.specs.declared.cmp.Ordering.{Ordering}
 use Rattle.std.specs.declared.cmp.Ordering.TheVariants.{Less, Equal, Greater}
 use Rattle.std.specs.List.{starts_with}
-use Rattle.std.specs.Option.{is_some}
-use Rattle.std.specs.Ordering.{ordering_index}
-use Rattle.std.proofs.lemmas.List.{get_or-map}
+use Rattle.std.proofs.lemmas.List.{get_or-map, length-map}
 use Rattle.std.proofs.lemmas.Bool.{cases_lt, eq-eqb, le-leb, le-ltb, lt-leb, lt-ltb}
 use Rattle.std.proofs.lemmas.Bool.Decides.{eqb_tells}
 use Rattle.std.proofs.lemmas.List.Elements.{All-from_get_or}
@@ -13,7 +11,7 @@ use Rattle.art_bytes.specs.Text.{text_order}
 use Rattle.art_tree.specs.Plan.{text_at, texts_of, IsFork, Forks, AreLoadable}
 use Rattle.art_tree.specs.Refusals.{HaveNoFault, IsRefusal, fault_at, fault_between}
 use Rattle.art_tree.specs.declared.loading.check.LoadRefusal.{LoadRefusal}
-use Rattle.art_tree.specs.declared.loading.check.LoadRefusal.TheVariants.{KeyTooLong, NotAscending, Prefix}
+use Rattle.art_tree.specs.declared.loading.check.LoadRefusal.TheVariants.{KeyTooLong}
 
 fork-later : (x y : ℕ) (a b : List ℕ) → x ≡ y → Forks a b → Forks (x ∷ a) (y ∷ b)
 fork-later x y a b same (at, fork) = (suc at, record { in_first = omega (arith, fork.in_first); in_second = omega (arith, fork.in_second); shared = ap (λ z. z ∷ take at a) same ∙ ap (λ rest. y ∷ rest) fork.shared; less = fork.less })
@@ -73,44 +71,17 @@ pub not-none : (n : ℕ) (none : Bool) → none ≡ (n == 0) → none ≡ false 
 not-none zero none is never = absurd (cc)
 not-none (suc n) none is never = omega arith
 
-pub none-there : {T : Type 0} (o : Option T) → false ≡ is_some o → o ≡ None
-none-there None is = refl
-none-there (Some x) is = absurd (cc)
-
--- what holds below an index and at it holds below the next one
-pub up-to : (P : ℕ → Type 0) (index : ℕ) → ((i : ℕ) → i < index → P i) → P index → (i : ℕ) → i < index + 1 → P i
-up-to P index before here i below = elim (cases_lt i index) [
-  | inl earlier ↦ before i earlier
-  | inr past ↦ subst P (omega (arith, past, below)) here
-]
-
 -- the first fault is the refusal
-pub first-fault : (texts : List (List ℕ)) (index : ℕ) (fault : Option LoadRefusal) → fault ≡ fault_at texts index → index < length texts → ((earlier : ℕ) → earlier < index → fault_at texts earlier ≡ None) → IfSome fault (IsRefusal texts)
-first-fault texts index None is within before = tt
-first-fault [] index (Some refusal) is within before = absurd (omega (arith, within))
-first-fault (text ∷ texts) index (Some refusal) is within before = (index, within, sym is, before)
+pub first-fault : {K V : Type 0} (text : K → List ℕ) (entries : List (K × V)) (index : ℕ) (fault : Option LoadRefusal) → fault ≡ fault_at (texts_of text entries) index → index < length entries → ((earlier : ℕ) → earlier < index → fault_at (texts_of text entries) earlier ≡ None)
+    → IfSome fault (IsRefusal (texts_of text entries))
+first-fault text entries index None is within before = tt
+first-fault text [] index (Some refusal) is within before = absurd (omega (arith, within))
+first-fault text (entry ∷ entries) index (Some refusal) is within before = (index, omega (arith, within, length-map entries (λ e. text e.0)), sym is, before)
 
 -- the text of the entry at an index
 pub text-there : {K V : Type 0} (text : K → List ℕ) (entries : List (K × V)) (i : ℕ) (d : K × V) → i < length entries → text_at (texts_of text entries) i ≡ text (get_or entries i d).0
 text-there text entries i d within = get_or-map (λ entry. text entry.0) entries i d [] within
 
--- what the code finds of a text and the next one is the fault
-module _ (texts : List (List ℕ)) (i : ℕ) (text : List ℕ) (is : text ≡ text_at texts i) where
-  pub fault-long : 2 ^ 32 ≤ length text → Some (KeyTooLong i) ≡ fault_at texts i
-  fault-long long = let there : 2 ^ 32 ≤ length (text_at texts i) = subst (λ t. 2 ^ 32 ≤ length t) is long in rw (le-leb (2 ^ 32) (length (text_at texts i)) there) refl
-
-  module _ (next : List ℕ) (is_next : next ≡ text_at texts (i + 1)) (short : length text < 2 ^ 32) (more : i + 1 < length texts) where
-    fault-next : fault_between i text next ≡ fault_at texts i
-    fault-next =
-        let there : length (text_at texts i) < 2 ^ 32 = subst (λ t. length t < 2 ^ 32) is short in
-        rw (lt-leb (2 ^ 32) (length (text_at texts i)) there, lt-leb (length texts) (i + 1) more) (λ j. fault_between i (is j) (is_next j))
-
-    pub fault-order : (order : Ordering) (ne : Bool) → order ≡ text_order text next → ne ≡ not (ordering_index order == 0) → ne ≡ true → Some (NotAscending i) ≡ fault_at texts i
-    fault-order Less ne is_order tells past = absurd (let wrong : false ≡ true = sym tells ∙ past in cc)
-    fault-order Equal ne is_order tells past = let found : fault_between i text next ≡ Some (NotAscending i) = rw (sym is_order) refl in sym found ∙ fault-next
-    fault-order Greater ne is_order tells past = let found : fault_between i text next ≡ Some (NotAscending i) = rw (sym is_order) refl in sym found ∙ fault-next
-
-    pub fault-front : (order : Ordering) (ne front : Bool) → order ≡ text_order text next → ne ≡ not (ordering_index order == 0) → ne ≡ false → front ≡ starts_with nat_eq next text → (if front then Some (Prefix i) else None) ≡ fault_at texts i
-    fault-front Less ne front is_order tells less is_front = let found : fault_between i text next ≡ (if front then Some (Prefix i) else None) = rw (sym is_order, sym is_front) refl in sym found ∙ fault-next
-    fault-front Equal ne front is_order tells less is_front = absurd (let wrong : true ≡ false = sym tells ∙ less in cc)
-    fault-front Greater ne front is_order tells less is_front = absurd (let wrong : true ≡ false = sym tells ∙ less in cc)
+-- a text of 2 ^ 32 bytes or more is at fault
+pub fault-long : (texts : List (List ℕ)) (i : ℕ) (text : List ℕ) → text ≡ text_at texts i → 2 ^ 32 ≤ length text → Some (KeyTooLong i) ≡ fault_at texts i
+fault-long texts i text is long = let there : 2 ^ 32 ≤ length (text_at texts i) = subst (λ t. 2 ^ 32 ≤ length t) is long in rw (le-leb (2 ^ 32) (length (text_at texts i)) there) refl
