@@ -220,6 +220,12 @@ fn keys_are_in_order_and_none_begins_another(rt: HostRuntime) -> Result<(), Fail
     keys_ascend::<ToIBE, NonZeroIsize>(&rt, alloc, NonZeroIsize::MIN, NonZeroIsize::MAX)?;
     keys_ascend::<ToUBE, [u8; 3]>(&rt, alloc, [1, 2, 3], [1, 3, 0])?;
     keys_ascend::<ToOctets, Ipv4Addr>(&rt, alloc, Ipv4Addr::LOCALHOST, Ipv4Addr::BROADCAST)?;
+    Ok(())
+}
+
+#[test]
+fn fronts_are_told_from_keys(rt: HostRuntime) -> Result<(), Fail> {
+    let alloc = rt.alloc();
     let front = Mapped::<ToIBE, Vec<i8>>::new(alloc, vec![in alloc; 7]?)?;
     let whole = Mapped::<ToIBE, Vec<i8>>::new(alloc, vec![in alloc; 7, 7]?)?;
     assert!(rt; order_of_texts(&front, &whole) == Ordering::Less);

@@ -84,6 +84,12 @@ fn test_ordered_unsigned(rt: HostRuntime) -> Result<(), Fail> {
     ordered_sequences::<ToUBE, u8>(&rt, alloc, [u8::MIN, u8::MAX / 2, u8::MAX])?;
     ordered_sequences::<ToUBE, u16>(&rt, alloc, [u16::MIN, u16::MAX / 2, u16::MAX])?;
     ordered_sequences::<ToUBE, u32>(&rt, alloc, [u32::MIN, u32::MAX / 2, u32::MAX])?;
+    Ok(())
+}
+
+#[test]
+fn test_ordered_wide_unsigned(rt: HostRuntime) -> Result<(), Fail> {
+    let alloc = rt.alloc();
     ordered_sequences::<ToUBE, u64>(&rt, alloc, [u64::MIN, u64::MAX / 2, u64::MAX])?;
     ordered_sequences::<ToUBE, u128>(&rt, alloc, [u128::MIN, u128::MAX / 2, u128::MAX])?;
     ordered_sequences::<ToUBE, usize>(&rt, alloc, [usize::MIN, usize::MAX / 2, usize::MAX])?;
@@ -91,15 +97,26 @@ fn test_ordered_unsigned(rt: HostRuntime) -> Result<(), Fail> {
 }
 
 #[test]
-fn test_ordered_signed_and_addresses(rt: HostRuntime) -> Result<(), Fail> {
+fn test_ordered_signed(rt: HostRuntime) -> Result<(), Fail> {
     let alloc = rt.alloc();
     ordered_sequences::<ToIBE, i8>(&rt, alloc, [i8::MIN, 0, i8::MAX])?;
     ordered_sequences::<ToIBE, i16>(&rt, alloc, [i16::MIN, 0, i16::MAX])?;
     ordered_sequences::<ToIBE, i32>(&rt, alloc, [i32::MIN, 0, i32::MAX])?;
+    Ok(())
+}
+
+#[test]
+fn test_ordered_wide_signed(rt: HostRuntime) -> Result<(), Fail> {
+    let alloc = rt.alloc();
     ordered_sequences::<ToIBE, i64>(&rt, alloc, [i64::MIN, 0, i64::MAX])?;
     ordered_sequences::<ToIBE, i128>(&rt, alloc, [i128::MIN, 0, i128::MAX])?;
     ordered_sequences::<ToIBE, isize>(&rt, alloc, [isize::MIN, 0, isize::MAX])?;
+    Ok(())
+}
 
+#[test]
+fn test_ordered_addresses(rt: HostRuntime) -> Result<(), Fail> {
+    let alloc = rt.alloc();
     let (low, middle) = (Ipv4Addr::UNSPECIFIED, Ipv4Addr::LOCALHOST);
     ordered::<ToOctets, Ipv4Addr>(&rt, alloc, low, middle, Ipv4Addr::BROADCAST)?;
     let (low, middle) = (Ipv6Addr::UNSPECIFIED, Ipv6Addr::LOCALHOST);
@@ -116,6 +133,12 @@ fn test_ordered_non_zero_unsigned(rt: HostRuntime) -> Result<(), Fail> {
     ordered_arrays::<ToUBE, NonZeroU16>(&rt, alloc, [NonZeroU16::MIN, middle, NonZeroU16::MAX])?;
     let middle = NonZeroU32::new(u32::MAX / 2).ok_or("not 0")?;
     ordered_arrays::<ToUBE, NonZeroU32>(&rt, alloc, [NonZeroU32::MIN, middle, NonZeroU32::MAX])?;
+    Ok(())
+}
+
+#[test]
+fn test_ordered_wide_non_zero_unsigned(rt: HostRuntime) -> Result<(), Fail> {
+    let alloc = rt.alloc();
     let middle = NonZeroU64::new(u64::MAX / 2).ok_or("not 0")?;
     ordered_arrays::<ToUBE, NonZeroU64>(&rt, alloc, [NonZeroU64::MIN, middle, NonZeroU64::MAX])?;
     let middle = NonZeroU128::new(u128::MAX / 2).ok_or("not 0")?;
@@ -138,6 +161,12 @@ fn test_ordered_non_zero_signed(rt: HostRuntime) -> Result<(), Fail> {
     ordered_arrays::<ToIBE, NonZeroI16>(&rt, alloc, [NonZeroI16::MIN, one, NonZeroI16::MAX])?;
     let one = NonZeroI32::new(1).ok_or("not 0")?;
     ordered_arrays::<ToIBE, NonZeroI32>(&rt, alloc, [NonZeroI32::MIN, one, NonZeroI32::MAX])?;
+    Ok(())
+}
+
+#[test]
+fn test_ordered_wide_non_zero_signed(rt: HostRuntime) -> Result<(), Fail> {
+    let alloc = rt.alloc();
     let one = NonZeroI64::new(1).ok_or("not 0")?;
     ordered_arrays::<ToIBE, NonZeroI64>(&rt, alloc, [NonZeroI64::MIN, one, NonZeroI64::MAX])?;
     let one = NonZeroI128::new(1).ok_or("not 0")?;

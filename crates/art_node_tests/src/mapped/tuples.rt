@@ -127,12 +127,29 @@ fn concat_tuple_ord_matches_tuple_ord(rt: HostRuntime) -> Result<(), Fail> {
     for place in 0..3 {
         ascend::<By, (Ipv4Addr, i32, Ipv6Addr)>(&rt, alloc, tuples[place], tuples[place + 1])?;
     }
+    Ok(())
+}
+
+#[test]
+fn tuples_of_four_parts_are_ordered(rt: HostRuntime) -> Result<(), Fail> {
     type Four = ConcatTuple<(ToUBE, ToUBE, ToUBE, ToUBE)>;
-    ascend::<Four, (u8, u8, u8, u8)>(&rt, alloc, (1, 2, 3, 255), (1, 2, 4, 0))?;
+    ascend::<Four, (u8, u8, u8, u8)>(&rt, rt.alloc(), (1, 2, 3, 255), (1, 2, 4, 0))?;
+    Ok(())
+}
+
+#[test]
+fn tuples_of_five_parts_are_ordered(rt: HostRuntime) -> Result<(), Fail> {
     type Five = ConcatTuple<(ToUBE, ToUBE, ToUBE, ToUBE, ToIBE)>;
-    ascend::<Five, (u8, u16, u8, u8, i8)>(&rt, alloc, (1, 2, 3, 4, 5), (1, 256, 0, 0, 0))?;
+    let (less, more) = ((1, 2, 3, 4, 5), (1, 256, 0, 0, 0));
+    ascend::<Five, (u8, u16, u8, u8, i8)>(&rt, rt.alloc(), less, more)?;
+    Ok(())
+}
+
+#[test]
+fn tuples_of_six_parts_are_ordered(rt: HostRuntime) -> Result<(), Fail> {
     type Six = ConcatTuple<(ToUBE, ToUBE, ToUBE, ToUBE, ToIBE, ToUBE)>;
-    ascend::<Six, (u8, u16, u8, u8, i8, u8)>(&rt, alloc, (1, 2, 3, 4, 5, 6), (1, 2, 3, 4, 5, 7))?;
+    let (less, more) = ((1, 2, 3, 4, 5, 6), (1, 2, 3, 4, 5, 7));
+    ascend::<Six, (u8, u16, u8, u8, i8, u8)>(&rt, rt.alloc(), less, more)?;
     Ok(())
 }
 

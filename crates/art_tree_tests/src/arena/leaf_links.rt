@@ -83,37 +83,48 @@ fn check_list(rt: &impl Abort, arena: &Arena, leaves: &[Pointer]) {
     assert!(rt; next.is_none());
 }
 
+fn change_the_middle_and_the_end(rt: &impl Abort, arena: &mut Arena) {
+    let a = put_leaf(rt, arena, b'a');
+    let b = put_leaf(rt, arena, b'b');
+    let c = put_leaf(rt, arena, b'c');
+    let d = put_leaf(rt, arena, b'd');
+    insert_after(rt, arena, c, a);
+    check_list(rt, arena, &[a, c]);
+    insert_after(rt, arena, b, a);
+    check_list(rt, arena, &[a, b, c]);
+
+    remove_self(rt, arena, b);
+    check_list(rt, arena, &[a, c]);
+    check_removed(rt, arena, b, Some(a), Some(c));
+
+    replace(rt, arena, d, c);
+    check_list(rt, arena, &[a, d]);
+    assert!(rt; arena.holds(c));
+    assert!(rt; !Leaf::is_linked(arena, c));
+}
+
+fn change_the_beginning(rt: &impl Abort, arena: &mut Arena) {
+    let a = put_leaf(rt, arena, b'a');
+    let b = put_leaf(rt, arena, b'b');
+    let c = put_leaf(rt, arena, b'c');
+    insert_before(rt, arena, a, b);
+    check_list(rt, arena, &[a, b]);
+    insert_after(rt, arena, c, b);
+    check_list(rt, arena, &[a, b, c]);
+    remove_self(rt, arena, a);
+    check_list(rt, arena, &[b, c]);
+    assert!(rt; arena.holds(a));
+    assert!(rt; arena.as_ref(a).next() == Some(b));
+}
+
 #[test]
 fn inserts_removes_and_replaces_leaves_of_a_list(rt: HostRuntime) {
     let mut arena = Arena::new(rt.alloc());
-    let a = put_leaf(&rt, &mut arena, b'a');
-    let b = put_leaf(&rt, &mut arena, b'b');
-    let c = put_leaf(&rt, &mut arena, b'c');
-    let d = put_leaf(&rt, &mut arena, b'd');
-    insert_after(&rt, &mut arena, c, a);
-    check_list(&rt, &arena, &[a, c]);
-    insert_after(&rt, &mut arena, b, a);
-    check_list(&rt, &arena, &[a, b, c]);
+    change_the_middle_and_the_end(&rt, &mut arena);
+}
 
-    remove_self(&rt, &mut arena, b);
-    check_list(&rt, &arena, &[a, c]);
-    check_removed(&rt, &arena, b, Some(a), Some(c));
-
-    replace(&rt, &mut arena, d, c);
-    check_list(&rt, &arena, &[a, d]);
-    assert!(rt; arena.holds(c));
-    assert!(rt; !Leaf::is_linked(&arena, c));
-
+#[test]
+fn a_list_begins_with_another_leaf(rt: HostRuntime) {
     let mut arena = Arena::new(rt.alloc());
-    let a = put_leaf(&rt, &mut arena, b'a');
-    let b = put_leaf(&rt, &mut arena, b'b');
-    let c = put_leaf(&rt, &mut arena, b'c');
-    insert_before(&rt, &mut arena, a, b);
-    check_list(&rt, &arena, &[a, b]);
-    insert_after(&rt, &mut arena, c, b);
-    check_list(&rt, &arena, &[a, b, c]);
-    remove_self(&rt, &mut arena, a);
-    check_list(&rt, &arena, &[b, c]);
-    assert!(rt; arena.holds(a));
-    assert!(rt; arena.as_ref(a).next() == Some(b));
+    change_the_beginning(&rt, &mut arena);
 }

@@ -35,6 +35,19 @@ fn add(
     }
 }
 
+// Inserts texts that are not there, each with its place as its number.
+fn add_all(
+    rt: &impl Abort,
+    alloc: Global,
+    tree: &mut Keys,
+    texts: &[&str],
+) -> Result<(), AllocError> {
+    for (number, text) in texts.iter().enumerate() {
+        add(rt, alloc, tree, text, number)?;
+    }
+    Ok(())
+}
+
 fn check_clash(
     rt: &impl Abort,
     alloc: Global,
@@ -160,20 +173,15 @@ fn child_of(rt: &impl Abort, arena: &Nodes, pointer: Pointer, byte: u8) -> Point
     }
 }
 
-#[test]
-fn inserted_leaves_are_linked_in_order(rt: HostRuntime) -> Result<(), Fail> {
-    let alloc = rt.alloc();
-    let mut tree = Keys::new(alloc);
-    for (number, text) in ["b", "a", "d", "c", "e"].iter().enumerate() {
-        add(&rt, alloc, &mut tree, text, number)?;
-    }
-    let root = root_of(&rt, &tree);
-    check_inner(&rt, tree.arena(), root, NodeType::Node16, 0, "", 5);
+fn insert_in_any_order(rt: &impl Abort, alloc: Global, tree: &mut Keys) -> Result<(), AllocError> {
+    add_all(rt, alloc, tree, &["b", "a", "d", "c", "e"])?;
+    let root = root_of(rt, tree);
+    check_inner(rt, tree.arena(), root, NodeType::Node16, 0, "", 5);
     assert!(rt; text_of(tree.first()) == Some(b"a".as_slice()));
     assert!(rt; text_of(tree.last()) == Some(b"e".as_slice()));
     check_texts(
-        &rt,
-        &tree,
+        rt,
+        tree,
         &[("a", 1), ("b", 0), ("c", 3), ("d", 2), ("e", 4)],
     );
     let Ok(Some((key, number))) = tree.insert(String::from_str(alloc, "c")?, 30) else {
@@ -181,28 +189,38 @@ fn inserted_leaves_are_linked_in_order(rt: HostRuntime) -> Result<(), Fail> {
     };
     assert!(rt; key.as_bytes() == b"c".as_slice() && number == 3);
     check_texts(
-        &rt,
-        &tree,
+        rt,
+        tree,
         &[("a", 1), ("b", 0), ("c", 30), ("d", 2), ("e", 4)],
     );
     Ok(())
 }
 
+// A test that keeps its tree and works it itself takes the check ten times as long.
+#[test]
+fn inserted_leaves_are_linked_in_order(rt: HostRuntime) -> Result<(), Fail> {
+    let mut tree = Keys::new(rt.alloc());
+    insert_in_any_order(&rt, rt.alloc(), &mut tree)?;
+    Ok(())
+}
+
+fn part_inside_a_prefix(rt: &impl Abort, alloc: Global, tree: &mut Keys) -> Result<(), AllocError> {
+    add_all(rt, alloc, tree, &["abcdef1", "abcdef2", "abcx"])?;
+    let root = root_of(rt, tree);
+    check_inner(rt, tree.arena(), root, NodeType::Node4, 3, "ab", 2);
+    let lower = child_of(rt, tree.arena(), root, 100);
+    check_inner(rt, tree.arena(), lower, NodeType::Node4, 2, "ef", 2);
+    assert!(rt; child_of(rt, tree.arena(), root, 120).node_type() == NodeType::Leaf);
+    check_clash(rt, alloc, tree, "abcdef")?;
+    check_clash(rt, alloc, tree, "abcdef12")?;
+    check_texts(rt, tree, &[("abcdef1", 0), ("abcdef2", 1), ("abcx", 2)]);
+    Ok(())
+}
+
 #[test]
 fn a_text_that_parts_inside_a_prefix_makes_a_node(rt: HostRuntime) -> Result<(), Fail> {
-    let alloc = rt.alloc();
-    let mut tree = Keys::new(alloc);
-    add(&rt, alloc, &mut tree, "abcdef1", 0)?;
-    add(&rt, alloc, &mut tree, "abcdef2", 1)?;
-    add(&rt, alloc, &mut tree, "abcx", 2)?;
-    let root = root_of(&rt, &tree);
-    check_inner(&rt, tree.arena(), root, NodeType::Node4, 3, "ab", 2);
-    let lower = child_of(&rt, tree.arena(), root, 100);
-    check_inner(&rt, tree.arena(), lower, NodeType::Node4, 2, "ef", 2);
-    assert!(rt; child_of(&rt, tree.arena(), root, 120).node_type() == NodeType::Leaf);
-    check_clash(&rt, alloc, &mut tree, "abcdef")?;
-    check_clash(&rt, alloc, &mut tree, "abcdef12")?;
-    check_texts(&rt, &tree, &[("abcdef1", 0), ("abcdef2", 1), ("abcx", 2)]);
+    let mut tree = Keys::new(rt.alloc());
+    part_inside_a_prefix(&rt, rt.alloc(), &mut tree)?;
     Ok(())
 }
 
@@ -231,46 +249,60 @@ fn check_joined(rt: &impl Abort, tree: &Keys) {
     check_match(rt, tree.arena(), root, b"abXde2", Ok((5, true)), full);
 }
 
-#[test]
-fn a_node_of_one_child_goes(rt: HostRuntime) -> Result<(), Fail> {
-    let alloc = rt.alloc();
-    let mut tree = Keys::new(alloc);
-    for (number, text) in ["abcde1", "abcde2", "abz"].iter().enumerate() {
-        add(&rt, alloc, &mut tree, text, number)?;
-    }
-    check_removed(&rt, &mut tree, "abz", 2)?;
-    let root = root_of(&rt, &tree);
-    check_inner(&rt, tree.arena(), root, NodeType::Node4, 5, "ab", 2);
-    check_texts(&rt, &tree, &[("abcde1", 0), ("abcde2", 1)]);
-    check_joined(&rt, &tree);
-    check_joined(&rt, &pair_loaded(alloc)?);
-    check_removed(&rt, &mut tree, "abcde1", 0)?;
-    assert!(rt; root_of(&rt, &tree).node_type() == NodeType::Leaf);
-    check_texts(&rt, &tree, &[("abcde2", 1)]);
-    check_removed(&rt, &mut tree, "abcde2", 1)?;
+fn remove_down_to_none(rt: &impl Abort, alloc: Global, tree: &mut Keys) -> Result<(), AllocError> {
+    add_all(rt, alloc, tree, &["abcde1", "abcde2", "abz"])?;
+    check_removed(rt, tree, "abz", 2)?;
+    let root = root_of(rt, tree);
+    check_inner(rt, tree.arena(), root, NodeType::Node4, 5, "ab", 2);
+    check_texts(rt, tree, &[("abcde1", 0), ("abcde2", 1)]);
+    check_joined(rt, tree);
+    check_removed(rt, tree, "abcde1", 0)?;
+    assert!(rt; root_of(rt, tree).node_type() == NodeType::Leaf);
+    check_texts(rt, tree, &[("abcde2", 1)]);
+    check_removed(rt, tree, "abcde2", 1)?;
     assert!(rt; tree.root().is_none() && tree.first().is_none());
     Ok(())
 }
 
 #[test]
+fn a_node_of_one_child_goes(rt: HostRuntime) -> Result<(), Fail> {
+    let mut tree = Keys::new(rt.alloc());
+    remove_down_to_none(&rt, rt.alloc(), &mut tree)?;
+    Ok(())
+}
+
+#[test]
+fn a_joined_prefix_is_that_of_a_loaded_tree(rt: HostRuntime) -> Result<(), Fail> {
+    let tree = pair_loaded(rt.alloc())?;
+    check_joined(&rt, &tree);
+    Ok(())
+}
+
+fn put_and_remove_a_branch(
+    rt: &impl Abort,
+    alloc: Global,
+    tree: &mut Keys,
+) -> Result<(), AllocError> {
+    add_all(rt, alloc, tree, &["abc1", "abc2", "abd"])?;
+    let root = root_of(rt, tree);
+    check_inner(rt, tree.arena(), root, NodeType::Node4, 2, "ab", 2);
+    assert!(rt; child_of(rt, tree.arena(), root, 99).node_type() == NodeType::Node4);
+    assert!(rt; child_of(rt, tree.arena(), root, 100).node_type() == NodeType::Leaf);
+    check_texts(rt, tree, &[("abc1", 0), ("abc2", 1), ("abd", 2)]);
+    check_clash(rt, alloc, tree, "ab")?;
+    check_removed(rt, tree, "abd", 2)?;
+    let root = root_of(rt, tree);
+    check_inner(rt, tree.arena(), root, NodeType::Node4, 3, "ab", 2);
+    assert!(rt; child_of(rt, tree.arena(), root, 49).node_type() == NodeType::Leaf);
+    assert!(rt; child_of(rt, tree.arena(), root, 50).node_type() == NodeType::Leaf);
+    check_texts(rt, tree, &[("abc1", 0), ("abc2", 1)]);
+    Ok(())
+}
+
+#[test]
 fn a_text_comes_and_goes(rt: HostRuntime) -> Result<(), Fail> {
-    let alloc = rt.alloc();
-    let mut tree = Keys::new(alloc);
-    for (number, text) in ["abc1", "abc2", "abd"].iter().enumerate() {
-        add(&rt, alloc, &mut tree, text, number)?;
-    }
-    let root = root_of(&rt, &tree);
-    check_inner(&rt, tree.arena(), root, NodeType::Node4, 2, "ab", 2);
-    assert!(rt; child_of(&rt, tree.arena(), root, 99).node_type() == NodeType::Node4);
-    assert!(rt; child_of(&rt, tree.arena(), root, 100).node_type() == NodeType::Leaf);
-    check_texts(&rt, &tree, &[("abc1", 0), ("abc2", 1), ("abd", 2)]);
-    check_clash(&rt, alloc, &mut tree, "ab")?;
-    check_removed(&rt, &mut tree, "abd", 2)?;
-    let root = root_of(&rt, &tree);
-    check_inner(&rt, tree.arena(), root, NodeType::Node4, 3, "ab", 2);
-    assert!(rt; child_of(&rt, tree.arena(), root, 49).node_type() == NodeType::Leaf);
-    assert!(rt; child_of(&rt, tree.arena(), root, 50).node_type() == NodeType::Leaf);
-    check_texts(&rt, &tree, &[("abc1", 0), ("abc2", 1)]);
+    let mut tree = Keys::new(rt.alloc());
+    put_and_remove_a_branch(&rt, rt.alloc(), &mut tree)?;
     Ok(())
 }
 

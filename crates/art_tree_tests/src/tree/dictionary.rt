@@ -39,10 +39,17 @@ fn check_entries<const PREFIX_LEN: usize>(
     assert!(rt; tree.arena().holds_opaque(root));
 }
 
+fn check_loaded<const PREFIX_LEN: usize>(
+    rt: &impl Abort,
+    tree: Result<ArtTree<SliceKey, usize, PREFIX_LEN>, AllocError>,
+) -> Result<(), AllocError> {
+    check_entries(rt, &tree?);
+    Ok(())
+}
+
 #[test]
 fn entries_are_read_by_text(rt: HostRuntime) -> Result<(), Fail> {
-    let alloc = rt.alloc();
     let texts: [&[u8]; 5] = [b"aaaa", b"aaab", b"aab", b"ab", b"b"];
-    check_entries(&rt, &tree_of::<2>(alloc, &texts)?);
+    check_loaded(&rt, tree_of::<2>(rt.alloc(), &texts))?;
     Ok(())
 }
