@@ -1,4 +1,5 @@
-//! Which bytes the wider integers have, by contract: those of the narrower ones are run by `ordered`.
+//! Which bytes the wider integers have, by contract. Other tests compare those of the narrower ones
+//! with worked examples.
 ghost use Rattle.std.specs.Prelude.{◌≡◌};
 ghost use Rattle.std.specs.Int.NonZero.{non_zero_u32_get, non_zero_u64_get, non_zero_u128_get, non_zero_usize_get};
 ghost use Rattle.std.specs.Int.NonZero.{non_zero_i32_get, non_zero_i64_get, non_zero_i128_get, non_zero_isize_get};
@@ -14,6 +15,12 @@ fn u64_bytes(number: u64) -> [u8; 8]
 
 fn u128_bytes(number: u128) -> [u8; 16]
     ensures { result ≡ digits 16 number }
+{
+    number.encode()
+}
+
+fn i128_bytes(number: i128) -> [u8; 16]
+    ensures { result ≡ signed_text 16 number }
 {
     number.encode()
 }
