@@ -1,4 +1,4 @@
-use Rattle.std.proofs.Common.{All, ◌∙◌, refl, sym, subst, arith, lit<}
+use Rattle.std.proofs.Common.{All, ◌∙◌, refl, sym, subst, arith, rules, lit<}
 use Rattle.std.proofs.lemmas.List.{length-map}
 use Rattle.art_tree.specs.Plan.{IsPlanOf, texts_of}
 use Rattle.art_tree.specs.Refusals.{HaveNoFault}
@@ -10,15 +10,15 @@ pub prepare-requires : goal.prepare-requires
 prepare-requires g c =
     let text_of = λ (entry : g.row.K.Denot × g.row.V.Denot). g.K.AsBytes.text entry.0 in
     let fine = subst (λ entries. HaveNoFault (texts_of g.K.AsBytes.text entries)) (c.deref.ensures.value ∙ sym c.deref-2.ensures.value) c.in_default.ensures.no_fault in (
-      search,
+      search rules,
       (
-        search,
+        search rules,
         (
-          search,
+          search rules,
           (
-            search,
+            search rules,
             (
-              search,
+              search rules,
               (
                 lit< tt,
                 (omega (arith, fine.0, length-map c.deref-2.result.now text_of), loadable (texts_of g.K.AsBytes.text c.deref-2.result.now) fine.1),
@@ -35,15 +35,15 @@ make-requires g c =
     let fine = subst (λ entries. HaveNoFault (texts_of g.K.AsBytes.text entries)) c.deref.ensures.value c.in_default.ensures.no_fault in
     let plan = subst (λ entries. IsPlanOf (texts_of g.K.AsBytes.text entries) c.in-Ok.prepared.steps.items) c.deref-2.ensures.value c.in-Ok.ensures.plan in
     let count = c.deref-2.ensures.len in (
-      search,
+      search rules,
       (
-        search,
+        search rules,
         (
-          search,
+          search rules,
           (
-            search,
+            search rules,
             (
-              search,
+              search rules,
               (
                 lit< tt,
                 (

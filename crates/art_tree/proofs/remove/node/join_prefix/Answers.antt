@@ -34,15 +34,15 @@ pub set_prefix-requires : goal.set_prefix-requires
 set_prefix-requires g c =
     let arena = c.args.arena.now in
     let lower = header-held (held arena c.args.child) c.in-Some.lower.now (sym (ap option_copied c.in-Some.is) ∙ c.header.ensures.header) in (
-      search,
+      search rules,
       (
-        search,
+        search rules,
         (
-          search,
+          search rules,
           (
-            assumption,
+            search rules,
             (
-              assumption,
+              search rules,
               (
                 lit< tt,
                 (
