@@ -1,3 +1,4 @@
+//! Keys: the bytes of a value, and the laws of keys without prefixes and of keys in order.
 ghost use Rattle.std.specs.Prelude.{◌≡◌, ℕ, List, length, refl, ⊤};
 ghost use Rattle.std.specs.String.{string_bytes};
 ghost use Rattle.art_bytes.specs.Laws.{front_of_length};

@@ -1,3 +1,4 @@
+//! C strings as keys.
 ghost use Rattle.std.specs.Prelude.{◌≡◌, [], ◌∷◌, ◌++◌, IfOk, IfErr, OnOk, refl};
 ghost use Rattle.art_bytes.specs.CString.{IsCString, HasNoZero};
 ghost use Rattle.art_bytes.specs.CStringLaws.{c_string_front_is_whole};

@@ -1,3 +1,4 @@
+//! Borrowed bytes as keys.
 ghost use Rattle.std.specs.Prelude.{◌≡◌, refl, ⊤};
 
 use crate::bytes::{AsBytes, OrderedBytes};

@@ -1,3 +1,4 @@
+//! Borrowed strings as keys.
 ghost use Rattle.std.specs.Prelude.{◌≡◌, refl, ⊤};
 
 use crate::bytes::{AsBytes, OrderedBytes};

@@ -1,3 +1,4 @@
+//! Keys behind a reference, in a `Box` and in an `Rc`.
 use crate::bytes::{AsBytes, NoPrefixesBytes, OrderedBytes};
 use std::rc::Rc;
 

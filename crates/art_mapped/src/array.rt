@@ -1,3 +1,4 @@
+//! Arrays of integers, as the bytes of their elements joined.
 ghost use Rattle.std.specs.Prelude.{◌≡◌, true, false};
 ghost use Rattle.std.specs.Vec.{vec_items};
 ghost use Rattle.std.proofs.Common.{ap, refl};

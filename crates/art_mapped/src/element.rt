@@ -1,3 +1,4 @@
+//! What integers and addresses share: bytes of one width that sort as the values do.
 ghost use Rattle.std.specs.Prelude.{◌≡◌, ◌≢◌, ℕ, List, false, IfSome, IfNone, refl};
 ghost use Rattle.std.proofs.Common.{ap};
 ghost use Rattle.art_mapped.specs.Elements.{KeepsOrder};

@@ -1,3 +1,4 @@
+//! Keys whose texts have one length.
 ghost use Rattle.std.specs.Prelude.{◌≡◌, ℕ, length};
 
 use art_bytes::AsBytes;

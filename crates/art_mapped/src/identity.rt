@@ -1,3 +1,4 @@
+//! The mapping of keys to themselves.
 ghost use Rattle.std.specs.Prelude.{◌≡◌, false, refl};
 ghost use Rattle.std.proofs.Math.Logic.{∥∥₁_map};
 

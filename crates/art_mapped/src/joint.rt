@@ -1,4 +1,4 @@
-// Parts of fixed width, one behind the other, as tuples are written.
+//! Parts of fixed width, one behind the other, as tuples are written.
 ghost use Rattle.std.specs.Prelude.{◌≡◌, ◌↔◌, ◌++◌, ◌+◌, ◌||◌, ℕ, List, Bool, false, IsTrue, IsOk, OnOk, IfOk};
 ghost use Rattle.art_mapped.specs.Mapping.{StandsForSome};
 ghost use Rattle.art_mapped.specs.Tuples.{IsPart, IsTextOf, Both, both_texts, AreSameBoth, StandsForBoth, TextLaws, OrderLaws};

@@ -1,3 +1,4 @@
+//! A key made of a value by a mapping.
 ghost use Rattle.std.specs.Prelude.{◌≡◌, IsOk, IfOk, false};
 ghost use Rattle.art_mapped.specs.Mapping.{StandsForSome};
 

@@ -1,3 +1,4 @@
+//! Mappings: values as bytes and back, and the laws that they may keep.
 ghost use Rattle.std.specs.Prelude.{◌≡◌, ◌↔◌, ℕ, List, Bool, false, IsTrue, IsOk, IfOk, OnErr, IfSome, IfNone};
 ghost use Rattle.art_bytes.specs.Text.{IsFront, text_order};
 ghost use Rattle.art_mapped.specs.Mapping.{StandsForSome};

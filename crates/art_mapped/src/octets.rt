@@ -1,3 +1,4 @@
+//! IP addresses as bytes.
 ghost use Rattle.std.specs.Net.Addr.{ipv4_octets, ipv6_octets};
 ghost use Rattle.art_mapped.specs.Addresses.{IsIpv4, IsIpv6};
 ghost use Rattle.art_mapped.specs.AddressLaws.{ipv4_keep, ipv6_keep};

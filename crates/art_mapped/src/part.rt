@@ -1,3 +1,4 @@
+//! One part of a tuple: its bytes seen, written and read.
 ghost use Rattle.std.specs.Prelude.{◌≡◌, ◌↔◌, ◌++◌, length, false, IsTrue, IsOk, OnOk, IfOk};
 ghost use Rattle.art_mapped.specs.Mapping.{StandsForSome};
 ghost use Rattle.art_mapped.specs.Tuples.{IsPart, IsTextOf};

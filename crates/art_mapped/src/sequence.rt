@@ -1,3 +1,4 @@
+//! Several integers as their bytes joined: what arrays and vectors share.
 ghost use Rattle.std.specs.Prelude.{◌≡◌, ◌≢◌, ◌↔◌, ◌/◌, ◌<◌, length, All, IsTrue, IfOk, IfSome, IfNone, OnOk};
 ghost use Rattle.art_mapped.specs.Sequences.{joined, AreJoined, part};
 

@@ -1,3 +1,4 @@
+//! Tuples as their bytes joined.
 ghost use Rattle.std.specs.Prelude.{◌≡◌, true, refl};
 ghost use Rattle.std.specs.Vec.{vec_items};
 ghost use Rattle.std.proofs.Common.{◌∙◌};

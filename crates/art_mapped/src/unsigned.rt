@@ -1,3 +1,4 @@
+//! Unsigned integers as bytes.
 ghost use Rattle.std.specs.Prelude.{refl};
 ghost use Rattle.std.specs.Int.NonZero.{non_zero_u8_get, non_zero_u16_get, non_zero_u32_get};
 ghost use Rattle.std.specs.Int.NonZero.{non_zero_u64_get, non_zero_u128_get, non_zero_usize_get};

@@ -1,3 +1,4 @@
+//! Vectors of integers, as the bytes of their elements joined.
 ghost use Rattle.std.specs.Prelude.{◌≡◌, true};
 ghost use Rattle.std.specs.Vec.{vec_items};
 ghost use Rattle.std.proofs.Common.{ap, refl};

@@ -1,4 +1,4 @@
-// The mappings of integers and addresses: one type over the form of its elements.
+//! The mappings of integers and addresses: one type over the form of its elements.
 use crate::element::{Element, Single};
 use crate::mapping::{BytesMapping, InjectiveMapping, NoPrefixesMapping, OrderedMapping};
 use crate::sequence::{IntegerForm, Joined};

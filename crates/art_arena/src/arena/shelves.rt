@@ -1,0 +1,303 @@
+//! What an arena keeps: each kind of node in a slab of its own.
+ghost use Rattle.std.specs.Prelude.{◌≡◌};
+ghost use Rattle.std.specs.Borrow.{Lends, sem};
+ghost use Rattle.art_arena.specs.Lending.{slab_row};
+
+use crate::arena::NodeArena;
+use art_nodes::{
+    InnerNode4, InnerNode16, InnerNode48, InnerNodeCommon, InnerNodeDirect, LeafNode, Node,
+};
+use slab::Slab;
+
+/// A node that is kept in one slab of an arena.
+pub trait Shelved<A>: Sized {
+    ghost use Rattle.slab.specs.Slab.{Slab as Slots};
+
+    ghost slab_of: { A → Slots Self };
+
+    ghost with_slab: { A → Slots Self → A };
+
+    fn slab(arena: &A) -> &Slab<Self>
+        ensures { result.now ≡ slab_of arena.now };
+
+    fn slab_mut(arena: &mut A) -> &mut Slab<Self>
+        ensures* writes_back { sem 𝓛
+            (Lends A.row (slab_row Self.row) arena.entry result (with_slab arena.entry.now)) }
+        ensures value { result.now ≡ slab_of arena.old };
+}
+
+/// A node that an arena keeps: the four kinds of inner nodes and the leaf. No other type can be one,
+/// since no other is a [`Node`].
+pub trait ArenaNode<K, V, const PREFIX_LEN: usize>: Node<PREFIX_LEN, Key = K, Value = V>
+    + Shelved<NodeArena<K, V, PREFIX_LEN>> {
+    ghost use Rattle.std.specs.Prelude.{◌≡◌, ◌≢◌, ◌↔◌, ℕ};
+    ghost use Rattle.slab.specs.Slab.{Slab as Slots, get, ContainsKey};
+    ghost use Rattle.art_arena.specs.Arena.{ArenaOf, Held, Nothing, held_under, held_option, room, slab_room, SameOtherRoom};
+    ghost use Rattle.art_nodes.specs.declared.pointers.OpaqueNodePtr.{OpaqueNodePtr};
+    ghost use Rattle.art_nodes.specs.declared.leaf_node.LeafNode.{LeafNode};
+    ghost use Rattle.art_header.specs.declared.node_type.NodeType.{NodeType};
+
+    /// The node, as contracts see what an arena holds.
+    ghost held_as: { Self → Held (OpaqueNodePtr K V PREFIX_LEN) (LeafNode K V PREFIX_LEN) };
+
+    /// What is held is one node.
+    ghost one_node: { (a b : Self) → held_as a ≡ held_as b → a ≡ b };
+
+    /// What is held is something.
+    ghost is_held: { (node : Self) → held_as node ≢ Nothing };
+
+    /// What the arena holds under a key of this kind is what the node's slab has there.
+    ghost held_in_slab: { (arena : ArenaOf K V PREFIX_LEN) (key : ℕ) →
+        held_under arena Self.TYPE key ≡ held_option held_as (get (Self.slab_of arena) key) };
+
+    /// A slab that is written is the one that is read.
+    ghost slab_written: { (arena : ArenaOf K V PREFIX_LEN) (slots : Slots Self) →
+        Self.slab_of (Self.with_slab arena slots) ≡ slots };
+
+    /// The slab has a key exactly where the arena holds a node there.
+    ghost held_where_contained: { (arena : ArenaOf K V PREFIX_LEN) (key : ℕ) →
+        ContainsKey (Self.slab_of arena) key ↔ (held_under arena Self.TYPE key ≢ Nothing) };
+
+    /// The room of the kind is that of its slab.
+    ghost room_of_slab: { (arena : ArenaOf K V PREFIX_LEN) →
+        room arena Self.TYPE ≡ slab_room (Self.slab_of arena) };
+
+    /// A written slab leaves the room of the other kinds.
+    ghost other_room: { (arena : ArenaOf K V PREFIX_LEN) (slots : Slots Self) →
+        SameOtherRoom arena (Self.with_slab arena slots) Self.TYPE };
+
+    /// It leaves what is held of the other kinds.
+    ghost others_kept: { (arena : ArenaOf K V PREFIX_LEN) (slots : Slots Self)
+        (kind : NodeType) (key : ℕ) →
+        kind ≢ Self.TYPE →
+        held_under (Self.with_slab arena slots) kind key ≡ held_under arena kind key };
+}
+
+/// The kinds of inner nodes.
+pub trait ArenaInnerNode<K, V, const PREFIX_LEN: usize>: ArenaNode<K, V, PREFIX_LEN>
+    + InnerNodeCommon<K, V, PREFIX_LEN> {
+    ghost use Rattle.std.specs.Prelude.{◌≡◌};
+    ghost use Rattle.art_arena.specs.Arena.{HeldInner};
+
+    /// What an arena holds is the node as the calls of [`InnerNodeCommon`] see it.
+    ghost shown: { (node : Self) → Self.held_as node ≡ HeldInner (Self.inner node) };
+}
+
+impl<K, V, const PREFIX_LEN: usize> Shelved<NodeArena<K, V, PREFIX_LEN>>
+    for InnerNode4<K, V, PREFIX_LEN> {
+    ghost slab_of = { λ a. a.node4 };
+
+    ghost with_slab = { λ a s. record a { node4 = s } };
+
+    fn slab(arena: &NodeArena<K, V, PREFIX_LEN>) -> &Slab<Self> {
+        &arena.node4
+    }
+
+    fn slab_mut(arena: &mut NodeArena<K, V, PREFIX_LEN>) -> &mut Slab<Self> {
+        &mut arena.node4
+    }
+}
+
+impl<K, V, const PREFIX_LEN: usize> ArenaNode<K, V, PREFIX_LEN> for InnerNode4<K, V, PREFIX_LEN> {
+    ghost use Rattle.art_arena.specs.Arena.{HeldInner, IsSomething, inner_or};
+    ghost use Rattle.std.proofs.Common.{ap, subst, rules};
+
+    ghost held_as = { HeldInner };
+
+    ghost one_node = { λ a b same. ap (inner_or a) same };
+
+    ghost is_held = { λ node same. subst IsSomething same tt };
+
+    ghost held_where_contained = { Prim.search rules };
+
+    ghost held_in_slab = { Prim.search rules };
+
+    ghost slab_written = { Prim.search rules };
+
+    ghost room_of_slab = { Prim.search rules };
+
+    ghost other_room = { Prim.search rules };
+
+    ghost others_kept = { Prim.search rules };
+}
+
+impl<K, V, const PREFIX_LEN: usize> ArenaInnerNode<K, V, PREFIX_LEN>
+    for InnerNode4<K, V, PREFIX_LEN> {
+    ghost use Rattle.std.proofs.Common.{refl};
+
+    ghost shown = { λ node. refl };
+}
+
+impl<K, V, const PREFIX_LEN: usize> Shelved<NodeArena<K, V, PREFIX_LEN>>
+    for InnerNode16<K, V, PREFIX_LEN> {
+    ghost slab_of = { λ a. a.node16 };
+
+    ghost with_slab = { λ a s. record a { node16 = s } };
+
+    fn slab(arena: &NodeArena<K, V, PREFIX_LEN>) -> &Slab<Self> {
+        &arena.node16
+    }
+
+    fn slab_mut(arena: &mut NodeArena<K, V, PREFIX_LEN>) -> &mut Slab<Self> {
+        &mut arena.node16
+    }
+}
+
+impl<K, V, const PREFIX_LEN: usize> ArenaNode<K, V, PREFIX_LEN> for InnerNode16<K, V, PREFIX_LEN> {
+    ghost use Rattle.art_arena.specs.Arena.{HeldInner, IsSomething, inner_or};
+    ghost use Rattle.std.proofs.Common.{ap, subst, rules};
+
+    ghost held_as = { HeldInner };
+
+    ghost one_node = { λ a b same. ap (inner_or a) same };
+
+    ghost is_held = { λ node same. subst IsSomething same tt };
+
+    ghost held_where_contained = { Prim.search rules };
+
+    ghost held_in_slab = { Prim.search rules };
+
+    ghost slab_written = { Prim.search rules };
+
+    ghost room_of_slab = { Prim.search rules };
+
+    ghost other_room = { Prim.search rules };
+
+    ghost others_kept = { Prim.search rules };
+}
+
+impl<K, V, const PREFIX_LEN: usize> ArenaInnerNode<K, V, PREFIX_LEN>
+    for InnerNode16<K, V, PREFIX_LEN> {
+    ghost use Rattle.std.proofs.Common.{refl};
+
+    ghost shown = { λ node. refl };
+}
+
+impl<K, V, const PREFIX_LEN: usize> Shelved<NodeArena<K, V, PREFIX_LEN>>
+    for InnerNode48<K, V, PREFIX_LEN> {
+    ghost slab_of = { λ a. a.node48 };
+
+    ghost with_slab = { λ a s. record a { node48 = s } };
+
+    fn slab(arena: &NodeArena<K, V, PREFIX_LEN>) -> &Slab<Self> {
+        &arena.node48
+    }
+
+    fn slab_mut(arena: &mut NodeArena<K, V, PREFIX_LEN>) -> &mut Slab<Self> {
+        &mut arena.node48
+    }
+}
+
+impl<K, V, const PREFIX_LEN: usize> ArenaNode<K, V, PREFIX_LEN> for InnerNode48<K, V, PREFIX_LEN> {
+    ghost use Rattle.art_arena.specs.Arena.{HeldInner, IsSomething, inner_or};
+    ghost use Rattle.std.proofs.Common.{ap, subst, rules};
+
+    ghost held_as = { HeldInner };
+
+    ghost one_node = { λ a b same. ap (inner_or a) same };
+
+    ghost is_held = { λ node same. subst IsSomething same tt };
+
+    ghost held_where_contained = { Prim.search rules };
+
+    ghost held_in_slab = { Prim.search rules };
+
+    ghost slab_written = { Prim.search rules };
+
+    ghost room_of_slab = { Prim.search rules };
+
+    ghost other_room = { Prim.search rules };
+
+    ghost others_kept = { Prim.search rules };
+}
+
+impl<K, V, const PREFIX_LEN: usize> ArenaInnerNode<K, V, PREFIX_LEN>
+    for InnerNode48<K, V, PREFIX_LEN> {
+    ghost use Rattle.std.proofs.Common.{refl};
+
+    ghost shown = { λ node. refl };
+}
+
+impl<K, V, const PREFIX_LEN: usize> Shelved<NodeArena<K, V, PREFIX_LEN>>
+    for InnerNodeDirect<K, V, PREFIX_LEN> {
+    ghost slab_of = { λ a. a.node256 };
+
+    ghost with_slab = { λ a s. record a { node256 = s } };
+
+    fn slab(arena: &NodeArena<K, V, PREFIX_LEN>) -> &Slab<Self> {
+        &arena.node256
+    }
+
+    fn slab_mut(arena: &mut NodeArena<K, V, PREFIX_LEN>) -> &mut Slab<Self> {
+        &mut arena.node256
+    }
+}
+
+impl<K, V, const PREFIX_LEN: usize> ArenaNode<K, V, PREFIX_LEN>
+    for InnerNodeDirect<K, V, PREFIX_LEN> {
+    ghost use Rattle.art_arena.specs.Arena.{HeldInner, IsSomething, inner_or};
+    ghost use Rattle.std.proofs.Common.{ap, subst, rules};
+
+    ghost held_as = { HeldInner };
+
+    ghost one_node = { λ a b same. ap (inner_or a) same };
+
+    ghost is_held = { λ node same. subst IsSomething same tt };
+
+    ghost held_where_contained = { Prim.search rules };
+
+    ghost held_in_slab = { Prim.search rules };
+
+    ghost slab_written = { Prim.search rules };
+
+    ghost room_of_slab = { Prim.search rules };
+
+    ghost other_room = { Prim.search rules };
+
+    ghost others_kept = { Prim.search rules };
+}
+
+impl<K, V, const PREFIX_LEN: usize> ArenaInnerNode<K, V, PREFIX_LEN>
+    for InnerNodeDirect<K, V, PREFIX_LEN> {
+    ghost use Rattle.std.proofs.Common.{refl};
+
+    ghost shown = { λ node. refl };
+}
+
+impl<K, V, const PREFIX_LEN: usize> Shelved<NodeArena<K, V, PREFIX_LEN>>
+    for LeafNode<K, V, PREFIX_LEN> {
+    ghost slab_of = { λ a. a.leaf };
+
+    ghost with_slab = { λ a s. record a { leaf = s } };
+
+    fn slab(arena: &NodeArena<K, V, PREFIX_LEN>) -> &Slab<Self> {
+        &arena.leaf
+    }
+
+    fn slab_mut(arena: &mut NodeArena<K, V, PREFIX_LEN>) -> &mut Slab<Self> {
+        &mut arena.leaf
+    }
+}
+
+impl<K, V, const PREFIX_LEN: usize> ArenaNode<K, V, PREFIX_LEN> for LeafNode<K, V, PREFIX_LEN> {
+    ghost use Rattle.art_arena.specs.Arena.{HeldLeaf, IsSomething, leaf_or};
+    ghost use Rattle.std.proofs.Common.{ap, subst, rules};
+
+    ghost held_as = { HeldLeaf };
+
+    ghost one_node = { λ a b same. ap (leaf_or a) same };
+
+    ghost is_held = { λ node same. subst IsSomething same tt };
+
+    ghost held_where_contained = { Prim.search rules };
+
+    ghost held_in_slab = { Prim.search rules };
+
+    ghost slab_written = { Prim.search rules };
+
+    ghost room_of_slab = { Prim.search rules };
+
+    ghost other_room = { Prim.search rules };
+
+    ghost others_kept = { Prim.search rules };
+}
