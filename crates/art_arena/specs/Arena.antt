@@ -118,5 +118,6 @@ module _ {K V : Type 0} {P : ℕ} where
   SameNodes old new = (pointer : OpaqueNodePtr K V P) → held new pointer ≡ held old pointer
 
   -- the arena with this node in place of the one under a slab key
-  abbrev pub with_node : {N : Type 0} → (ArenaOf K V P → Slab N) → (ArenaOf K V P → Slab N → ArenaOf K V P) → ArenaOf K V P → ℕ → N → ArenaOf K V P
+  abbrev pub with_node : {N : Type 0} → (ArenaOf K V P → Slab N) →
+      (ArenaOf K V P → Slab N → ArenaOf K V P) → ArenaOf K V P → ℕ → N → ArenaOf K V P
   with_node slab_of with_slab arena key node = with_slab arena (with_value (slab_of arena) key node)

@@ -11,7 +11,11 @@ use Rattle.art_arena.specs.SharedFront.{Parting}
 abbrev pub match_of : {K V : Type 0} {P : ℕ} → Result PrefixMatch (ExplicitMismatch K V P) → Result ℕ Parting
 match_of (Ok matched) = Ok matched.matched_bytes
 match_of (Err mismatch) =
-    Err (record { equal_bytes = mismatch.matched_bytes; prefix_byte = mismatch.prefix_byte; order = mismatch.node_prefix_comparison_to_search_key_segment })
+    Err (record {
+      equal_bytes = mismatch.matched_bytes;
+      prefix_byte = mismatch.prefix_byte;
+      order = mismatch.node_prefix_comparison_to_search_key_segment;
+    })
 
 -- every text lies on this side of the key: below it or above it
 abbrev pub LieOnSide : Ordering → List ℕ → List (List ℕ) → Type 0

@@ -19,11 +19,15 @@ slab_row T = the_row T global.the_row ghosts
 
 -- the type of an arena, as the logic names it
 abbrev pub arena_row : RattleType → RattleType → RattleType → RattleType
-arena_row K V P = slabs.the_row (sorted.the_row K V P (number 4)) (sorted.the_row K V P (number 16)) (indirect.the_row K V P (number 48)) (direct.the_row K V P) (leaf.the_row K V P)
+arena_row K V P = slabs.the_row (sorted.the_row K V P (number 4)) (sorted.the_row K V P (number 16)) (indirect.the_row K V P (number 48))
+    (direct.the_row K V P) (leaf.the_row K V P)
 
 -- an arena ends with the node that was left behind the reference under this slab key
-abbrev pub LendsNode : (K V P N : RattleType) (slab_of : (arena_row K V P).Denot → Slab N.Denot) (with_slab : (arena_row K V P).Denot → Slab N.Denot → (arena_row K V P).Denot) → MutBor (arena_row K V P).Denot → ℕ → MutBor N.Denot → Fml
-LendsNode K V P N slab_of with_slab a key r = Lends (arena_row K V P) N a r (λ node. with_slab a.now (with_value (slab_of a.now) key node))
+abbrev pub LendsNode : (K V P N : RattleType) (slab_of : (arena_row K V P).Denot → Slab N.Denot)
+    (with_slab : (arena_row K V P).Denot → Slab N.Denot → (arena_row K V P).Denot) →
+    MutBor (arena_row K V P).Denot → ℕ → MutBor N.Denot → Fml
+LendsNode K V P N slab_of with_slab a key r =
+    Lends (arena_row K V P) N a r (λ node. with_slab a.now (with_value (slab_of a.now) key node))
 
 -- an arena ends with the value that was left behind the reference in the leaf under this slab key
 abbrev pub LendsValue : (K V P : RattleType) → MutBor (arena_row K V P).Denot → ℕ → MutBor V.Denot → Fml

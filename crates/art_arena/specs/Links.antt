@@ -56,8 +56,11 @@ module _ {K V : Type 0} {P : ℕ} where
   -- every pointer holds what it held, but for the links of leaves
   pub record SameButLinks (old new : ArenaOf K V P) : Type 0 where
     pub nothing : (pointer : OpaqueNodePtr K V P) → held old pointer ≡ Nothing → held new pointer ≡ Nothing
-    pub inner : (pointer : OpaqueNodePtr K V P) (node : Inner (OpaqueNodePtr K V P)) → held old pointer ≡ HeldInner node → held new pointer ≡ HeldInner node
-    pub leaf : (key : ℕ) (leaf : LeafNode K V P) → leaf_at old key ≡ Some leaf → (now : LeafNode K V P) × (leaf_at new key ≡ Some now) × (leaf_key now ≡ leaf_key leaf) × (leaf_value now ≡ leaf_value leaf)
+    pub inner : (pointer : OpaqueNodePtr K V P) (node : Inner (OpaqueNodePtr K V P)) →
+        held old pointer ≡ HeldInner node → held new pointer ≡ HeldInner node
+    pub leaf : (key : ℕ) (leaf : LeafNode K V P) → leaf_at old key ≡ Some leaf →
+        (now : LeafNode K V P) × (leaf_at new key ≡ Some now) × (leaf_key now ≡ leaf_key leaf)
+        × (leaf_value now ≡ leaf_value leaf)
 
   -- these two, where they are leaves, are neighbours now, and no other link changed
   pub record Joins (old new : ArenaOf K V P) (before after : Option ℕ) : Type 0 where
@@ -84,9 +87,12 @@ module _ {K V : Type 0} {P : ℕ} where
     pub next : next_at new this ≡ next_at old gone
     pub before_next : (key : ℕ) → key ≢ gone → previous_at old gone ≡ Some key → next_at new key ≡ Some this
     pub after_previous : (key : ℕ) → key ≢ gone → next_at old gone ≡ Some key → previous_at new key ≡ Some this
-    pub other_next : (key : ℕ) → key ≢ this → key ≢ gone → previous_at old gone ≢ Some key → next_at new key ≡ next_at old key
-    pub other_previous : (key : ℕ) → key ≢ this → key ≢ gone → next_at old gone ≢ Some key → previous_at new key ≡ previous_at old key
-    pub other_leaves : (key : ℕ) → key ≢ this → key ≢ gone → previous_at old gone ≢ Some key → next_at old gone ≢ Some key → leaf_at new key ≡ leaf_at old key
+    pub other_next : (key : ℕ) → key ≢ this → key ≢ gone → previous_at old gone ≢ Some key →
+        next_at new key ≡ next_at old key
+    pub other_previous : (key : ℕ) → key ≢ this → key ≢ gone → next_at old gone ≢ Some key →
+        previous_at new key ≡ previous_at old key
+    pub other_leaves : (key : ℕ) → key ≢ this → key ≢ gone → previous_at old gone ≢ Some key →
+        next_at old gone ≢ Some key → leaf_at new key ≡ leaf_at old key
 
   -- the text of the leaf under a slab key, empty where there is none
   abbrev pub text_at : (K → List ℕ) → ArenaOf K V P → ℕ → List ℕ
@@ -94,4 +100,6 @@ module _ {K V : Type 0} {P : ℕ} where
 
   -- the arena with another value in the leaf under a slab key
   abbrev pub with_value_at : ArenaOf K V P → ℕ → V → ArenaOf K V P
-  with_value_at arena key value = record arena { leaf = record arena.leaf { slots = slice_set arena.leaf.slots key (option_map (λ leaf. with_value leaf value) (leaf_at arena key)) } }
+  with_value_at arena key value =
+      let changed = option_map (λ leaf. with_value leaf value) (leaf_at arena key) in
+      record arena { leaf = record arena.leaf { slots = slice_set arena.leaf.slots key changed } }

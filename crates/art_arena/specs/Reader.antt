@@ -11,7 +11,8 @@ use Rattle.art_arena.specs.declared.reader.AnyRef.TheVariants.{Node4, Node16, No
 
 module _ {K V : Type 0} {P : ℕ} where
   -- the node behind a reference
-  abbrev pub shown : AnyRef (Inner (OpaqueNodePtr K V P)) (Inner (OpaqueNodePtr K V P)) (Inner (OpaqueNodePtr K V P)) (Inner (OpaqueNodePtr K V P)) (leaf.LeafNode K V P) → Held (OpaqueNodePtr K V P) (leaf.LeafNode K V P)
+  abbrev pub shown : AnyRef (Inner (OpaqueNodePtr K V P)) (Inner (OpaqueNodePtr K V P)) (Inner (OpaqueNodePtr K V P))
+      (Inner (OpaqueNodePtr K V P)) (leaf.LeafNode K V P) → Held (OpaqueNodePtr K V P) (leaf.LeafNode K V P)
   shown (Node4 node) = HeldInner node.now
   shown (Node16 node) = HeldInner node.now
   shown (Node48 node) = HeldInner node.now
@@ -19,7 +20,8 @@ module _ {K V : Type 0} {P : ℕ} where
   shown (LeafNode leaf) = HeldLeaf leaf.now
 
   -- the kind of the node behind a reference
-  abbrev pub shown_kind : AnyRef (Inner (OpaqueNodePtr K V P)) (Inner (OpaqueNodePtr K V P)) (Inner (OpaqueNodePtr K V P)) (Inner (OpaqueNodePtr K V P)) (leaf.LeafNode K V P) → NodeType
+  abbrev pub shown_kind : AnyRef (Inner (OpaqueNodePtr K V P)) (Inner (OpaqueNodePtr K V P)) (Inner (OpaqueNodePtr K V P))
+      (Inner (OpaqueNodePtr K V P)) (leaf.LeafNode K V P) → NodeType
   shown_kind (Node4 node) = kinds.Node4
   shown_kind (Node16 node) = kinds.Node16
   shown_kind (Node48 node) = kinds.Node48

@@ -151,6 +151,7 @@ impl<K, V, const PREFIX_LEN: usize> NodeArena<K, V, PREFIX_LEN> {
         }
     }
 
+    // Makes room for so many more nodes of this type.
     fn reserve_slots<N: ArenaNode<K, V, PREFIX_LEN>>(
         &mut self,
         additional: usize,
@@ -167,7 +168,8 @@ impl<K, V, const PREFIX_LEN: usize> NodeArena<K, V, PREFIX_LEN> {
         N::slab_mut(self).reserve(additional)
     }
 
-    /// Hands out the node at the pointer, which has to be held and is not any more. Takes no memory.
+    /// Takes out the node at the pointer, which has to be held, and leaves nothing there. Takes no
+    /// memory.
     pub fn deallocate_node_ptr<N: ArenaNode<K, V, PREFIX_LEN>>(
         &mut self,
         ptr: NodePtr<PREFIX_LEN, N>,

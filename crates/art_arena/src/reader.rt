@@ -23,7 +23,7 @@ pub enum AnyRef<'a, A, B, C, D, L> {
     LeafNode(&'a L),
 }
 
-/// A node of any kind, as a reader lends it: a reference for as long as the arena stands.
+/// A node of any kind, as an arena or a reader lends it: a reference for as long as the arena stands.
 pub type NodeRef<'a, K, V, const PREFIX_LEN: usize> = AnyRef<
     'a,
     InnerNode4<K, V, PREFIX_LEN>,

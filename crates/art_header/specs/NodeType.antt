@@ -19,7 +19,7 @@ most_children Node48 = 48
 most_children Node256 = 256
 most_children Leaf = 0
 
--- the next greater kind of inner node, if there is one
+-- the next greater kind of inner node, or the kind itself where there is none
 abbrev pub grown_kind : NodeType → NodeType
 grown_kind Node4 = Node16
 grown_kind Node16 = Node48
@@ -27,7 +27,7 @@ grown_kind Node48 = Node256
 grown_kind Node256 = Node256
 grown_kind Leaf = Leaf
 
--- the next smaller kind of inner node, if there is one
+-- the next smaller kind of inner node, or the kind itself where there is none
 abbrev pub shrunk_kind : NodeType → NodeType
 shrunk_kind Node4 = Node4
 shrunk_kind Node16 = Node4

@@ -16,6 +16,7 @@ pub trait FixedBytes: AsBytes + Copy + Sealed {
     /// How many bytes the text of a key has.
     const WIDTH: usize;
 
+    /// The same, for contracts.
     ghost WIDTH: { ℕ };
 
     /// The key with this text, which has to have `WIDTH` bytes.

@@ -46,11 +46,13 @@ impl<D: AsBytes + Drop> BytesMapping<D> for Identity {
     }
 
     fn from_bytes(_alloc: Global, bytes: D) -> Result<D, AllocError> {
+        // As in `to_bytes`.
         let _text = bytes.as_bytes();
         Ok(bytes)
     }
 
     fn is_value(bytes: &D) -> bool {
+        // As in `to_bytes`.
         let _text = bytes.as_bytes();
         true
     }

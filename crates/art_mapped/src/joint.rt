@@ -15,6 +15,7 @@ pub trait Joint<D> {
     /// Whether `read` takes memory. Where it takes none it never refuses.
     const READ_ALLOCATES: bool;
 
+    /// The same, for contracts.
     ghost READ_ALLOCATES: { Bool };
 
     /// How many bytes all parts have.
@@ -32,7 +33,8 @@ pub trait Joint<D> {
     /// The text is that of bytes that stand for the value.
     ghost stands_for: { List ℕ → D → Type 0 };
 
-    /// How many bytes all parts have, to make room for them.
+    /// How many bytes to make room for: those of all parts, and at most `usize::MAX`. A hint alone, of
+    /// which no clause speaks.
     fn room() -> usize;
 
     /// Writes the bytes of the parts behind those that are there. Where memory is refused, the value has

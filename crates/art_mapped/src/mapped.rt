@@ -76,7 +76,8 @@ impl<B: BytesMapping<D>, D> Mapped<B, D> {
             B.Bytes.is_clone (mapped_bytes self.now) (mapped_bytes mapped)) }
         ensures text { IfOk result (λ mapped. mapped_text mapped ≡ mapped_text self.now) }
         ensures value { (value : D) → HoldsValue self.now value →
-            ((bytes : B.Bytes) → B.Bytes.is_clone (mapped_bytes self.now) bytes → B.stands_for bytes value) →
+            ((bytes : B.Bytes) → B.Bytes.is_clone (mapped_bytes self.now) bytes →
+            B.stands_for bytes value) →
             IfOk result (λ mapped. HoldsValue mapped value) }
         ensures takes_no_memory { B.Bytes.is_infallible (mapped_bytes self.now) → IsOk result }
     {
@@ -174,7 +175,7 @@ impl<B: OrderedMapping<D>, D: Ord> Ord for Mapped<B, D> {
         ensures values { (x y : D) → HoldsValue self.now x → HoldsValue other.now y →
             result ≡ D.cmp x y }
     {
-        self.as_bytes().cmp(&other.as_bytes())
+        self.as_bytes().cmp(other.as_bytes())
     }
 }
 

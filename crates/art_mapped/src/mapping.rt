@@ -20,8 +20,10 @@ pub trait BytesMapping<D> {
     /// Whether `from_bytes` and `checked_from_bytes` take memory. Where they take none they never refuse.
     const READ_ALLOCATES: bool;
 
+    /// The same of `ALLOCATES`, for contracts.
     ghost ALLOCATES: { Bool };
 
+    /// The same of `READ_ALLOCATES`, for contracts.
     ghost READ_ALLOCATES: { Bool };
 
     /// Which values are in the domain, as 0 to 65535 are in that of `u16`.
@@ -64,7 +66,8 @@ pub trait BytesMapping<D> {
             IfSome answer (λ read. Self.Bytes.text bytes ≡ text_of read)) }
         ensures none { IfOk result (λ answer.
             IfNone answer (StandsForSome is_in_domain stands_for bytes → ⊥)) }
-        ensures refused_for_a_value_only { OnErr result (StandsForSome is_in_domain stands_for bytes) }
+        ensures refused_for_a_value_only { OnErr result
+            (StandsForSome is_in_domain stands_for bytes) }
         ensures takes_no_memory { READ_ALLOCATES ≡ false → IsOk result }
     {
         if Self::is_value(&bytes) {

@@ -394,6 +394,7 @@ module _ {K V : Type 0} {P : ℕ} (text : K → List ℕ) (arena : ArenaOf K V P
             let has = leaf-of-entry text arena root tree alone other entry found in
             subst (λ t. IsWithin end t other) (sym end-held.2 ∙ ap text key-is) (within-end end (leaves tree) (leaf_pointer leaf) at_end ascend has.pointer other has.inside)
 
+-- where there is no value nothing is told of one, and what holds anyway is told
 pub if-some-none : {X : Type 0} (o : Option X) (Q : X → Type 0) → o ≡ None → IfSome o Q
 if-some-none None Q none = tt
 if-some-none (Some x) Q none = absurd (cc)

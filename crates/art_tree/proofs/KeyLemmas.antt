@@ -22,6 +22,7 @@ module _ {K V : Type 0} {P : ℕ} (text : K → List ℕ) (is_key : K → Type 0
       subst (λ e. is_key e.0) one (All-contains (λ e. is_key e.0) entries from.0 all_keys from.1)
 
   module _ (old new : ArenaOf K V P) (keys : HasKeys text is_key old) where
+    -- entries that are the same, one that comes, one that goes: the keys that are there are keys
     pub keys-same : SameEntries text old new → HasKeys text is_key new
     keys-same same entry is = keys entry (sym (same (text entry.0)) ∙ is)
 

@@ -2,7 +2,7 @@
 use Rattle.std.proofs.Common.{◌≡◌, ◌∙◌, ℕ, zero, suc, ◌+◌, ◌<◌, ◌≤◌, ◌^◌, Bool, true, false, List, [], ◌∷◌, length, take, get_or, All, Option, Some, None, IfSome, refl, sym, ap, subst, inl, inr, arith, nat_lt, nat_eq, ◌==◌}
 use Rattle.std.specs.declared.cmp.Ordering.{Ordering}
 use Rattle.std.specs.declared.cmp.Ordering.TheVariants.{Less, Equal, Greater}
-use Rattle.std.specs.List.{starts_with}
+use Rattle.std.specs.List.{common_prefix_len, starts_with}
 use Rattle.std.proofs.lemmas.List.{get_or-map, length-map}
 use Rattle.std.proofs.lemmas.Bool.{cases_lt, eq-eqb, le-leb, le-ltb, lt-leb, lt-ltb}
 use Rattle.std.proofs.lemmas.Bool.Decides.{eqb_tells}
@@ -66,6 +66,20 @@ forks-less (x ∷ a) (y ∷ b) (suc at) fork =
     let same : x ≡ y = (let both = fork.shared in cc) in
     let rest : take at a ≡ take at b = (let both = fork.shared in cc) in
     rw (le-ltb x y (omega (arith, same)), eq-eqb x y same) (forks-less a b at (record { in_first = omega (arith, fork.in_first); in_second = omega (arith, fork.in_second); shared = rest; less = fork.less }))
+
+-- where it parts is how many bytes the two share
+pub fork-shared : (a b : List ℕ) (at : ℕ) → IsFork a b at → common_prefix_len nat_eq a b ≡ at
+fork-shared [] b at fork = absurd (omega (arith, fork.in_first))
+fork-shared (x ∷ a) [] at fork = absurd (omega (arith, fork.in_second))
+fork-shared (x ∷ a) (y ∷ b) zero fork = elim (eqb_tells x y) [
+  | inl same ↦ absurd (omega (arith, fork.less, same.1))
+  | inr differ ↦ rw differ.0 refl
+]
+fork-shared (x ∷ a) (y ∷ b) (suc at) fork =
+    let same : x ≡ y = (let both = fork.shared in cc) in
+    let rest : take at a ≡ take at b = (let both = fork.shared in cc) in
+    let later = fork-shared a b at (record { in_first = omega (arith, fork.in_first); in_second = omega (arith, fork.in_second); shared = rest; less = fork.less }) in
+    rw (eq-eqb x y same) (omega (arith, later))
 
 pub not-none : (n : ℕ) (none : Bool) → none ≡ (n == 0) → none ≡ false → 0 < n
 not-none zero none is never = absurd (cc)

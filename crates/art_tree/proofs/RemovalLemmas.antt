@@ -162,10 +162,11 @@ module _ {K V : Type 0} {P : ℕ} (tree : Tree (OpaqueNodePtr K V P)) (pointer :
   pub hangs-normal : (grandparent : OpaqueNodePtr K V P) (parent_byte : ℕ) (parent : OpaqueNodePtr K V P) (byte : ℕ) → path ≡ Normal grandparent parent_byte parent byte → above ≡ (Some (grandparent, parent_byte), parent, byte) → HangsUnder tree pointer above.1 above.2 above.0
   hangs-normal grandparent parent_byte parent byte is same = subst (λ a. HangsUnder tree pointer a.1 a.2 a.0) (sym same) (leaf-normal tree pointer grandparent parent_byte parent byte (subst (IsPathTo tree pointer) is way))
 
+-- what an option tells of a value that is there, and where there is none
 pub if-some : {X : Type 0} (o : Option X) (Q : X → Type 0) (x : X) → o ≡ Some x → IfSome o Q → Q x
 if-some None Q x is holds = absurd (cc)
 if-some (Some y) Q x is holds = subst Q (same_Some y x is) holds
 
-pub if-none : {X : Type 0} (o : Option X) (Q : Type 0) → o ≡ None → IfNone o Q → Q
-if-none None Q is holds = holds
-if-none (Some y) Q is holds = absurd (cc)
+pub from-if-none : {X : Type 0} (o : Option X) (Q : Type 0) → o ≡ None → IfNone o Q → Q
+from-if-none None Q is holds = holds
+from-if-none (Some y) Q is holds = absurd (cc)

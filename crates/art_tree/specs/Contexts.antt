@@ -43,18 +43,23 @@ module _ {H : Type 0} where
 module _ {K V : Type 0} {P : ℕ} (old new : ArenaOf K V P) where
   -- this pointer holds what it held, but for the links of a leaf
   pub record KeepsAt (pointer : OpaqueNodePtr K V P) : Type 0 where
-    pub inner : (node : nodes.Inner (OpaqueNodePtr K V P)) → held old pointer ≡ HeldInner node → held new pointer ≡ HeldInner node
-    pub leaf : (leaf : LeafNode K V P) → held old pointer ≡ HeldLeaf leaf → (now : LeafNode K V P) × (held new pointer ≡ HeldLeaf now) × (leaf_key now ≡ leaf_key leaf) × (leaf_value now ≡ leaf_value leaf)
+    pub inner : (node : nodes.Inner (OpaqueNodePtr K V P)) → held old pointer ≡ HeldInner node →
+        held new pointer ≡ HeldInner node
+    pub leaf : (leaf : LeafNode K V P) → held old pointer ≡ HeldLeaf leaf →
+        (now : LeafNode K V P) × (held new pointer ≡ HeldLeaf now) × (leaf_key now ≡ leaf_key leaf)
+        × (leaf_value now ≡ leaf_value leaf)
 
   -- the node above the place has this child under its byte, and is as it was for the rest
   abbrev pub Adopts : Context (OpaqueNodePtr K V P) → OpaqueNodePtr K V P → Type 0
   Adopts Whole child = Unit {0}
   Adopts (Under above pointer prefix before byte after) child =
-      (node : nodes.Inner (OpaqueNodePtr K V P)) → held old pointer ≡ HeldInner node → held new pointer ≡ HeldInner (nodes.node_with_child node byte child)
+      (node : nodes.Inner (OpaqueNodePtr K V P)) → held old pointer ≡ HeldInner node →
+      held new pointer ≡ HeldInner (nodes.node_with_child node byte child)
 
   -- a subtree stands in the place of another in its parent, and all else of the tree is as it was, but for the links of leaves
   pub record IsExchanged (text : K → List ℕ) (context : Context (OpaqueNodePtr K V P)) (part now : Tree (OpaqueNodePtr K V P)) : Type 0 where
     pub stood : StandsIn text old (plug context part)
     pub stands : StandsIn text new now
     pub adopted : Adopts context (root_of now)
-    pub others : (pointer : OpaqueNodePtr K V P) → Contains (places (plug context part)) pointer → ¬ Contains (places part) pointer → parent context ≢ Some pointer → KeepsAt pointer
+    pub others : (pointer : OpaqueNodePtr K V P) → Contains (places (plug context part)) pointer →
+        ¬ Contains (places part) pointer → parent context ≢ Some pointer → KeepsAt pointer

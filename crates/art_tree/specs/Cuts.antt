@@ -10,7 +10,10 @@ use Rattle.art_tree.specs.Edits.{IsReplaced}
 module _ {K V : Type 0} {P : ℕ} where
   -- where the inner node at the pointer has more than two children and the fewest of its kind, there is room for one of the next smaller kind
   abbrev pub HasRoomToShrink : ArenaOf K V P → OpaqueNodePtr K V P → Type 0
-  HasRoomToShrink arena pointer = (node : Inner (OpaqueNodePtr K V P)) → held arena pointer ≡ HeldInner node → 2 < length node.children → length node.children ≡ least_children (node_kind pointer) → 0 < room arena (shrunk_kind (node_kind pointer))
+  HasRoomToShrink arena pointer =
+      (node : Inner (OpaqueNodePtr K V P)) → held arena pointer ≡ HeldInner node →
+      2 < length node.children → length node.children ≡ least_children (node_kind pointer) →
+      0 < room arena (shrunk_kind (node_kind pointer))
 
   -- the node, which had more than the fewest children of its kind, is written in its place
   pub record IsCut (old new : ArenaOf K V P) (pointer : OpaqueNodePtr K V P) (node now : Inner (OpaqueNodePtr K V P)) (at : OpaqueNodePtr K V P) : Type 0 where
@@ -24,5 +27,6 @@ module _ {K V : Type 0} {P : ℕ} where
     pub replaced : IsReplaced old new pointer (shrunk_kind (node_kind pointer)) now at
 
   -- the inner node has one child less, at its place or at a new one
-  abbrev pub HasOneLess : ArenaOf K V P → ArenaOf K V P → OpaqueNodePtr K V P → Inner (OpaqueNodePtr K V P) → Inner (OpaqueNodePtr K V P) → OpaqueNodePtr K V P → Type 0
+  abbrev pub HasOneLess : ArenaOf K V P → ArenaOf K V P → OpaqueNodePtr K V P →
+      Inner (OpaqueNodePtr K V P) → Inner (OpaqueNodePtr K V P) → OpaqueNodePtr K V P → Type 0
   HasOneLess old new pointer node now at = IsCut old new pointer node now at ⊎ IsShrunk old new pointer node now at

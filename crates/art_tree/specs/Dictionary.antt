@@ -11,7 +11,8 @@ module _ {K V : Type 0} {P : ℕ} (text : K → List ℕ) where
   abbrev pub entry_among : List (Option (LeafNode K V P)) → List ℕ → Option (K × V)
   entry_among [] x = None
   entry_among (None ∷ slots) x = entry_among slots x
-  entry_among (Some leaf ∷ slots) x = if pointwise nat_eq (text (leaf_key leaf)) x then Some (leaf_key leaf, leaf_value leaf) else entry_among slots x
+  entry_among (Some leaf ∷ slots) x =
+      if pointwise nat_eq (text (leaf_key leaf)) x then Some (leaf_key leaf, leaf_value leaf) else entry_among slots x
 
   -- the dictionary of an arena: the entry with this text that its leaves hold
   abbrev pub entry_at : ArenaOf K V P → List ℕ → Option (K × V)

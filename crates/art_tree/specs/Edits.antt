@@ -53,7 +53,10 @@ module _ {K V : Type 0} {P : ℕ} where
 
   -- where the inner node at the pointer is full, there is room for one of the next kind
   abbrev pub HasRoomToGrow : ArenaOf K V P → OpaqueNodePtr K V P → Type 0
-  HasRoomToGrow arena pointer = (node : Inner (OpaqueNodePtr K V P)) → held arena pointer ≡ HeldInner node → length node.children ≡ most_children (node_kind pointer) → 0 < room arena (grown_kind (node_kind pointer))
+  HasRoomToGrow arena pointer =
+      (node : Inner (OpaqueNodePtr K V P)) → held arena pointer ≡ HeldInner node →
+      length node.children ≡ most_children (node_kind pointer) →
+      0 < room arena (grown_kind (node_kind pointer))
 
   -- the node is written in its place
   pub record IsWritten (old new : ArenaOf K V P) (pointer : OpaqueNodePtr K V P) (node now : Inner (OpaqueNodePtr K V P)) (at : OpaqueNodePtr K V P) : Type 0 where
@@ -75,5 +78,6 @@ module _ {K V : Type 0} {P : ℕ} where
     pub replaced : IsReplaced old new pointer (grown_kind (node_kind pointer)) now at
 
   -- the inner node has one child more, at its place or at a new one
-  abbrev pub HasOneMore : ArenaOf K V P → ArenaOf K V P → OpaqueNodePtr K V P → Inner (OpaqueNodePtr K V P) → Inner (OpaqueNodePtr K V P) → OpaqueNodePtr K V P → Type 0
+  abbrev pub HasOneMore : ArenaOf K V P → ArenaOf K V P → OpaqueNodePtr K V P →
+      Inner (OpaqueNodePtr K V P) → Inner (OpaqueNodePtr K V P) → OpaqueNodePtr K V P → Type 0
   HasOneMore old new pointer node now at = IsWritten old new pointer node now at ⊎ IsMoved old new pointer node now at

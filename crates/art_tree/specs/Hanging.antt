@@ -29,10 +29,14 @@ module _ {K V : Type 0} {P : ℕ} where
   -- the parent, if there is one, is an inner node with a child under the byte
   abbrev pub CanHang : ArenaOf K V P → Option (OpaqueNodePtr K V P × ℕ) → Type 0
   CanHang arena None = Unit {0}
-  CanHang arena (Some (parent, byte)) = (node : nodes.Inner (OpaqueNodePtr K V P)) × (held arena parent ≡ HeldInner node) × (child_at node.children byte ≢ None)
+  CanHang arena (Some (parent, byte)) =
+      (node : nodes.Inner (OpaqueNodePtr K V P)) × (held arena parent ≡ HeldInner node)
+      × (child_at node.children byte ≢ None)
 
   -- the node is the child of the parent under the byte now; or, where there is no parent, the root
-  abbrev pub IsHung : ArenaOf K V P → ArenaOf K V P → Option (OpaqueNodePtr K V P × ℕ) → OpaqueNodePtr K V P → OpaqueNodePtr K V P → OpaqueNodePtr K V P → Type 0
+  abbrev pub IsHung : ArenaOf K V P → ArenaOf K V P → Option (OpaqueNodePtr K V P × ℕ) →
+      OpaqueNodePtr K V P → OpaqueNodePtr K V P → OpaqueNodePtr K V P → Type 0
   IsHung old new None node root now = SameNodes old new × (now ≡ node)
   IsHung old new (Some (parent, byte)) node root now =
-      (now ≡ root) × ((above : nodes.Inner (OpaqueNodePtr K V P)) → held old parent ≡ HeldInner above → Changes old new parent (HeldInner (nodes.node_with_child above byte node)))
+      (now ≡ root) × ((above : nodes.Inner (OpaqueNodePtr K V P)) → held old parent ≡ HeldInner above →
+      Changes old new parent (HeldInner (nodes.node_with_child above byte node)))

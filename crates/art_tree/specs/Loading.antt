@@ -37,7 +37,8 @@ module _ {K V : Type 0} {P : ℕ} where
   HoldEntries arena [] (entry ∷ entries) = ⊥
   HoldEntries arena (pointer ∷ pointers) [] = ⊥
   HoldEntries arena (pointer ∷ pointers) (entry ∷ entries) =
-      ((leaf : LeafNode K V P) × (held arena pointer ≡ HeldLeaf leaf) × (leaf_key leaf ≡ entry.0) × (leaf_value leaf ≡ entry.1))
+      ((leaf : LeafNode K V P) × (held arena pointer ≡ HeldLeaf leaf)
+      × (leaf_key leaf ≡ entry.0) × (leaf_value leaf ≡ entry.1))
       × HoldEntries arena pointers entries
 
   -- these new leaves hold the entries, are linked in their order, and are all that is new

@@ -30,7 +30,8 @@ module _ {K V : Type 0} {P : ℕ} where
 
   -- each of these leaves is held
   abbrev pub HoldLeaves : ArenaOf K V P → List (NodePtr P (LeafNode K V P)) → Type 0
-  HoldLeaves arena leaves = (i : ℕ) (d : NodePtr P (LeafNode K V P)) → i < length leaves → HoldsLeaf arena (slab_key (slice_index_or leaves i d))
+  HoldLeaves arena leaves =
+      (i : ℕ) (d : NodePtr P (LeafNode K V P)) → i < length leaves → HoldsLeaf arena (slab_key (slice_index_or leaves i d))
 
   -- each leaf with its text
   abbrev pub leaf_pairs : (K → List ℕ) → ArenaOf K V P → List (NodePtr P (LeafNode K V P)) → List (OpaqueNodePtr K V P × List ℕ)

@@ -25,7 +25,8 @@ fault_at texts i =
 abbrev pub IsRefusal : List (List ℕ) → LoadRefusal → Type 0
 IsRefusal [] refusal = refusal ≡ Empty
 IsRefusal texts refusal =
-    (i : ℕ) × (i < length texts) × (fault_at texts i ≡ Some refusal) × ((earlier : ℕ) → earlier < i → fault_at texts earlier ≡ None)
+    (i : ℕ) × (i < length texts) × (fault_at texts i ≡ Some refusal)
+    × ((earlier : ℕ) → earlier < i → fault_at texts earlier ≡ None)
 
 -- there are entries, and none has a fault
 abbrev pub HaveNoFault : List (List ℕ) → Type 0

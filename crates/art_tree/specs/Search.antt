@@ -71,7 +71,9 @@ module _ {K V : Type 0} {P : ℕ} where
 
   -- the inner node at the parent has this child under the byte
   abbrev pub HasChildAt : ArenaOf K V P → OpaqueNodePtr K V P → ℕ → OpaqueNodePtr K V P → Type 0
-  HasChildAt arena parent byte child = (node : nodes.Inner (OpaqueNodePtr K V P)) × (held arena parent ≡ HeldInner node) × (child_at node.children byte ≡ Some child)
+  HasChildAt arena parent byte child =
+      (node : nodes.Inner (OpaqueNodePtr K V P)) × (held arena parent ≡ HeldInner node)
+      × (child_at node.children byte ≡ Some child)
 
   -- the arena holds the path's nodes, each with the one below, the last one with the leaf, under the path's
   -- byte; a path of one step begins at the root, and one of none is the root itself

@@ -37,7 +37,7 @@ use std::alloc::AllocError;
 use std::ops::Bound;
 
 /// Why [`ArtTree::insert`](crate::ArtTree::insert) refuses an entry.
-#[derive(Clone, Copy, PartialEq, Eq)]
+#[derive(Clone, Copy, Debug, PartialEq, Eq)]
 pub enum InsertRefusal {
     /// The key has 2^32 bytes or more.
     KeyTooLong,
@@ -273,7 +273,7 @@ pub(crate) fn insert_fork<K: AsBytes, V, const PREFIX_LEN: usize>(
 }
 
 // What the insert of a new text answers: the root, and that no entry was replaced.
-fn answer<K, V, const PREFIX_LEN: usize>(
+fn newly_added<K, V, const PREFIX_LEN: usize>(
     added: Result<OpaqueNodePtr<K, V, PREFIX_LEN>, (K, V)>,
 ) -> Result<(OpaqueNodePtr<K, V, PREFIX_LEN>, Option<(K, V)>), InsertFault<K, V>>
     ensures added { (root : _) → added ≡ Ok root → result ≡ Ok (root, None) }
@@ -320,7 +320,7 @@ pub(crate) fn insert_entry<K: AsBytes, V, const PREFIX_LEN: usize>(
         });
     }
     let Some(root) = root else {
-        return answer(insert_first(arena, key, value));
+        return newly_added(insert_first(arena, key, value));
     };
     match find_place(arena, root, key.as_bytes()) {
         Place::Present(leaf) => Ok((root, Some(replace_entry(arena, leaf, key, value)))),
@@ -329,7 +329,9 @@ pub(crate) fn insert_entry<K: AsBytes, V, const PREFIX_LEN: usize>(
             key,
             value,
         }),
-        Place::Child { spot, byte } => answer(insert_child(arena, root, spot, byte, key, value)),
-        Place::Fork { spot, fork } => answer(insert_fork(arena, root, spot, fork, key, value)),
+        Place::Child { spot, byte } => newly_added(insert_child(
+            arena, root, spot, byte, key, value,
+        )),
+        Place::Fork { spot, fork } => newly_added(insert_fork(arena, root, spot, fork, key, value)),
     }
 }

@@ -150,9 +150,9 @@ impl<K: AsBytes, V, const PREFIX_LEN: usize> ArtTree<K, V, PREFIX_LEN> {
 }
 
 impl<K: AsBytes + Drop, V: Drop, const PREFIX_LEN: usize> ArtTree<K, V, PREFIX_LEN> {
-    /// A tree of these entries. There has to be one; their keys have fewer than 2^32 bytes and ascend,
-    /// and none is a front of another. Else, and where memory is refused, they come back as [`load`]
-    /// gives them back.
+    /// Makes a tree of these entries. Refused are no entries at all, a key of 2^32 bytes or more, keys
+    /// that do not ascend, and a key that is a front of another; and want of memory. Refused entries
+    /// come back as [`load`] gives them back.
     ///
     /// Takes time linear in the bytes of all keys together.
     pub fn load(alloc: Global, entries: Vec<(K, V)>) -> Result<Self, LoadFault<K, V>>

@@ -13,13 +13,17 @@ use slab::Slab;
 pub trait Shelved<A>: Sized {
     ghost use Rattle.slab.specs.Slab.{Slab as Slots};
 
+    /// The slab of these nodes in an arena.
     ghost slab_of: { A → Slots Self };
 
+    /// The arena with this slab in its place.
     ghost with_slab: { A → Slots Self → A };
 
+    /// The slab of these nodes.
     fn slab(arena: &A) -> &Slab<Self>
         ensures { result.now ≡ slab_of arena.now };
 
+    /// The slab, to be changed in place. The rest of the arena is as before.
     fn slab_mut(arena: &mut A) -> &mut Slab<Self>
         ensures* writes_back { sem 𝓛
             (Lends A.row (slab_row Self.row) arena.entry result (with_slab arena.entry.now)) }

@@ -185,8 +185,8 @@ impl<K, V, const PREFIX_LEN: usize> InnerNodeBuilder<
     InnerNode4<K, V, PREFIX_LEN>,
     NoChild,
 > {
-    /// Writes the first child without a search. The node has to have room for it, as one without
-    /// children has.
+    /// Writes the first child without a search. The node has to have room for it and no byte that is not
+    /// below this one, as a node without children has.
     pub fn write_child_unchecked(
         mut self,
         key_byte: u8,

@@ -52,14 +52,16 @@ pub trait InnerNode<const PREFIX_LEN: usize>: Node<PREFIX_LEN>
     /// A node has room for as many children as its kind holds.
     ghost room_of_kind: { Self.room ≡ most_children Self.TYPE };
 
-    /// A grown node is of the next greater kind, with the room of that kind.
+    /// A grown node is of the next greater kind.
     ghost grown_type: { Self.GrownNode.TYPE ≡ grown_kind Self.TYPE };
 
+    /// It has the room of that kind.
     ghost grown_room: { Self.GrownNode.room ≡ most_children (grown_kind Self.TYPE) };
 
-    /// A shrunk node is of the next smaller kind, with the room of that kind.
+    /// A shrunk node is of the next smaller kind.
     ghost shrunk_type: { Self.ShrunkNode.TYPE ≡ shrunk_kind Self.TYPE };
 
+    /// It has the room of that kind.
     ghost shrunk_room: { Self.ShrunkNode.room ≡ most_children (shrunk_kind Self.TYPE) };
 }
 

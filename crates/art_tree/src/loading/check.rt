@@ -7,7 +7,7 @@ use art_bytes::AsBytes;
 use std::cmp::Ordering;
 
 /// Why [`load`](crate::load) refuses entries. An index counts entries from 0.
-#[derive(Clone, Copy, PartialEq, Eq)]
+#[derive(Clone, Copy, Debug, PartialEq, Eq)]
 pub enum LoadRefusal {
     /// There are no entries.
     Empty,

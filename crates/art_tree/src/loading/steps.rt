@@ -3,7 +3,7 @@ ghost use Rattle.std.specs.Prelude.{◌≡◌, ◌+◌, ◌<◌, ◌≤◌, List
 ghost use Rattle.art_tree.specs.Plan.{IsFork, Forks, AreLoadable, IsPlanOf, byte_before, needed, texts_of};
 
 use art_bytes::AsBytes;
-use art_nodes::NodeType;
+use art_nodes::{NodeType, common_front_len};
 use std::alloc::{AllocError, Global};
 
 /// A step of a plan. It makes a tree and leaves it under a byte, after the trees that earlier steps
@@ -36,11 +36,7 @@ fn fork(text: &[u8], next: &[u8]) -> usize
     requires { Forks text.now next.now }
     ensures { IsFork text.now next.now result }
 {
-    let mut at = 0;
-    while text[at] == next[at] {
-        at += 1;
-    }
-    at
+    common_front_len(text, next)
 }
 
 // The byte that leads to what begins at `place`, 0 for the root.

@@ -19,7 +19,7 @@ returns-in_default g c =
     let first = c.insert_first.ensures in
     let nothing = subst (IsArt text old) c.in_default.is c.requires.art in
     let is_new = empty-new text old nothing (text c.args.key) (omega (arith, c.if-as_bytes.false, ap length c.as_bytes.ensures.text)) in
-    let is = answered text old new c.args.key c.args.value c.insert_first.result first.art first.entered first.entry_back first.nodes_kept is_new (λ same. empty-stays text old new same nothing) c.answer.result c.answer.ensures.added c.answer.ensures.refused in
+    let is = answered text old new c.args.key c.args.value c.insert_first.result first.art first.entered first.entry_back first.nodes_kept is_new (λ same. empty-stays text old new same nothing) c.newly_added.result c.newly_added.ensures.added c.newly_added.ensures.refused in
     record { art = is.art; replaced = is.replaced; entered = is.entered; is_key = c.as_bytes.ensures.key; no_refusal = is.no_refusal; refusal_due = is.refusal_due; entry_back = is.entry_back; same_entries = is.same_entries; nodes_kept = is.nodes_kept }
 
 pub replace_entry-requires : goal.replace_entry-requires
@@ -82,7 +82,7 @@ returns-in-Child g c =
     let short : length key < 2 ^ 32 = omega (arith, c.if-as_bytes.false, ap length c.as_bytes.ensures.text) in
     let lacks = subst (λ x. LacksChild art.0 x c.in-Child.spot c.in-Child.byte) c.as_bytes-2.ensures.text (c.in-Child.ensures art.0 art.1.is_tree) in
     let is_new = apart-new text old c.in-Some.root art.0 art.1 key short (child-apart law art.0 art.1.is_tree.sound key short c.in-Child.spot c.in-Child.byte lacks) in
-    let is = answered text old new c.args.key c.args.value c.insert_child.result child.art child.entered child.entry_back child.nodes_kept is_new (λ same. entries-stay text old new same c.in-Some.root art.0 art.1 (law art.0 art.1.is_tree.sound)) c.answer-in-Child.result c.answer-in-Child.ensures.added c.answer-in-Child.ensures.refused in
+    let is = answered text old new c.args.key c.args.value c.insert_child.result child.art child.entered child.entry_back child.nodes_kept is_new (λ same. entries-stay text old new same c.in-Some.root art.0 art.1 (law art.0 art.1.is_tree.sound)) c.newly_added-in-Child.result c.newly_added-in-Child.ensures.added c.newly_added-in-Child.ensures.refused in
     record { art = is.art; replaced = is.replaced; entered = is.entered; is_key = c.as_bytes.ensures.key; no_refusal = is.no_refusal; refusal_due = is.refusal_due; entry_back = is.entry_back; same_entries = is.same_entries; nodes_kept = is.nodes_kept }
 
 pub insert_fork-requires : goal.insert_fork-requires
@@ -107,7 +107,7 @@ returns-in-Fork g c =
     let short : length key < 2 ^ 32 = omega (arith, c.if-as_bytes.false, ap length c.as_bytes.ensures.text) in
     let parts = subst (λ x. Parts art.0 x c.in-Fork.spot c.in-Fork.fork) c.as_bytes-2.ensures.text (c.in-Fork.ensures art.0 art.1.is_tree) in
     let is_new = apart-new text old c.in-Some.root art.0 art.1 key short (fork-apart law art.0 art.1.is_tree.sound key short c.in-Fork.spot c.in-Fork.fork parts) in
-    let is = answered text old new c.args.key c.args.value c.insert_fork.result fork.art fork.entered fork.entry_back fork.nodes_kept is_new (λ same. entries-stay text old new same c.in-Some.root art.0 art.1 (law art.0 art.1.is_tree.sound)) c.answer-in-Fork.result c.answer-in-Fork.ensures.added c.answer-in-Fork.ensures.refused in
+    let is = answered text old new c.args.key c.args.value c.insert_fork.result fork.art fork.entered fork.entry_back fork.nodes_kept is_new (λ same. entries-stay text old new same c.in-Some.root art.0 art.1 (law art.0 art.1.is_tree.sound)) c.newly_added-in-Fork.result c.newly_added-in-Fork.ensures.added c.newly_added-in-Fork.ensures.refused in
     record { art = is.art; replaced = is.replaced; entered = is.entered; is_key = c.as_bytes.ensures.key; no_refusal = is.no_refusal; refusal_due = is.refusal_due; entry_back = is.entry_back; same_entries = is.same_entries; nodes_kept = is.nodes_kept }
 
 pub returns-then-as_bytes-clause-refusal_due : goal.returns-then-as_bytes-clause-refusal_due

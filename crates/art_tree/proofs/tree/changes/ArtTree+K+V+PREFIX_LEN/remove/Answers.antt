@@ -5,7 +5,7 @@ use Rattle.art_tree.specs.Removing.{IsLeft}
 use Rattle.art_tree.proofs.DictionaryLemmas.{empty-entry}
 use Rattle.art_tree.proofs.Growing.{art-same}
 use Rattle.art_tree.proofs.KeyLemmas.{keys-same, keys-left}
-use Rattle.art_tree.proofs.RemovalLemmas.{if-none, if-some}
+use Rattle.art_tree.proofs.RemovalLemmas.{from-if-none, if-some}
 use Rattle.art_tree.proofs.tree.changes.ArtTree+K+V+PREFIX_LEN.remove.Goals as goal
 
 pub returns-in_default-clause-removed : goal.returns-in_default-clause-removed
@@ -38,7 +38,7 @@ returns-clause-others g c = λ other differ.
 
 pub invariant_of-self-in_default-2 : goal.invariant_of-self-in_default-2
 invariant_of-self-in_default-2 g c =
-    let same = if-none c.in_ok-root.field-0 (c.remove_entry.new.arena ≡ c.self.inside.arena) c.in_default-2.is c.in_ok-root.ensures.absent_kept in
+    let same = from-if-none c.in_ok-root.field-0 (c.remove_entry.new.arena ≡ c.self.inside.arena) c.in_default-2.is c.in_ok-root.ensures.absent_kept in
     subst (λ arena. IsArt g.K.AsBytes.text arena c.self.inside.root × HasKeys g.K.AsBytes.text g.K.AsBytes.is_key arena) (sym same) c.self.invariant
 
 pub invariant_of-self-2 : goal.invariant_of-self-2
