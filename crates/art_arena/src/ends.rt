@@ -76,8 +76,9 @@ pub fn end_leaf<K: AsBytes, V, const PREFIX_LEN: usize>(
         IsAtEnd end (leaves found.tree) (opaque_pointer Leaf (slab_key result)) }
     ensures held { HoldsLeaf arena.now (slab_key result) }
 {
-    // Each step makes the path longer, and a leaf's text, which is longer still, is shorter than 2^64.
     let mut at = pointer;
+    // Counted so that the loop is seen to end: each step makes the path longer, and a leaf's text,
+    // which is longer still, is shorter than 2^64.
     let mut passed: usize = 0;
     'way: loop {
         match step_to_end(arena, at, end) {

@@ -71,10 +71,12 @@ pub trait FullPrefix<K: AsBytes, V, const PREFIX_LEN: usize>: InnerNodeCommon<K,
         requires depth { depth ≤ length key.now }
         requires tree { PREFIX_LEN < (Self.inner self.now).prefix_len →
             TreeUnder K.text arena.now (Self.inner self.now) depth }
-        ensures matched { (below : TreeUnder K.text arena.now (Self.inner self.now) depth) (shared : List ℕ) →
+        ensures matched { (below : TreeUnder K.text arena.now (Self.inner self.now) depth)
+            (shared : List ℕ) →
             IsSharedFrom depth (texts below.tree) shared →
             match_of result ≡ full_match shared (drop depth key.now) }
-        ensures whole { IfOk result (λ found. found.matched_bytes ≡ (Self.inner self.now).prefix_len) }
+        ensures whole { IfOk result (λ found.
+            found.matched_bytes ≡ (Self.inner self.now).prefix_len) }
         ensures within { IfOk result (λ found. depth + found.matched_bytes ≤ length key.now) }
         ensures parted { IfErr result (λ mismatch.
             mismatch.matched_bytes < (Self.inner self.now).prefix_len) }
@@ -89,7 +91,8 @@ pub trait FullPrefix<K: AsBytes, V, const PREFIX_LEN: usize>: InnerNodeCommon<K,
         ensures side { (below : TreeUnder K.text arena.now (Self.inner self.now) depth) →
             IsFront below.path key.now → IfErr result (λ mismatch. LieOnSide
             mismatch.node_prefix_comparison_to_search_key_segment key.now (texts below.tree)) }
-        ensures begun { (below : TreeUnder K.text arena.now (Self.inner self.now) depth) (shared : List ℕ) →
+        ensures begun { (below : TreeUnder K.text arena.now (Self.inner self.now) depth)
+            (shared : List ℕ) →
             IsSharedFrom depth (texts below.tree) shared → IsFront below.path key.now →
             IsOk result → All (IsFront (below.path ++ shared)) (key.now ∷ texts below.tree) }
         ensures never_equal { IfErr result (λ mismatch.

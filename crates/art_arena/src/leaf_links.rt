@@ -218,6 +218,7 @@ impl<K: AsBytes, V, const PREFIX_LEN: usize> LeafLinks<K, V, PREFIX_LEN>
     }
 }
 
+// The leaf that this one names as the previous, if it is held and names one.
 fn previous_of<K, V, const PREFIX_LEN: usize>(
     arena: &NodeArena<K, V, PREFIX_LEN>,
     leaf: NodePtr<PREFIX_LEN, LeafNode<K, V, PREFIX_LEN>>,
@@ -227,6 +228,7 @@ fn previous_of<K, V, const PREFIX_LEN: usize>(
     arena.get(leaf)?.previous()
 }
 
+// The leaf that this one names as the next, if it is held and names one.
 fn next_of<K, V, const PREFIX_LEN: usize>(
     arena: &NodeArena<K, V, PREFIX_LEN>,
     leaf: NodePtr<PREFIX_LEN, LeafNode<K, V, PREFIX_LEN>>,
@@ -236,6 +238,7 @@ fn next_of<K, V, const PREFIX_LEN: usize>(
     arena.get(leaf)?.next()
 }
 
+// Whether the leaf that this one names as the previous names it back, if it names one.
 fn previous_is_knit<K, V, const PREFIX_LEN: usize>(
     arena: &NodeArena<K, V, PREFIX_LEN>,
     this: NodePtr<PREFIX_LEN, LeafNode<K, V, PREFIX_LEN>>,
@@ -250,6 +253,7 @@ fn previous_is_knit<K, V, const PREFIX_LEN: usize>(
     }
 }
 
+// Whether the leaf that this one names as the next names it back, if it names one.
 fn next_is_knit<K, V, const PREFIX_LEN: usize>(
     arena: &NodeArena<K, V, PREFIX_LEN>,
     this: NodePtr<PREFIX_LEN, LeafNode<K, V, PREFIX_LEN>>,
@@ -264,6 +268,7 @@ fn next_is_knit<K, V, const PREFIX_LEN: usize>(
     }
 }
 
+// Whether the link is to this leaf.
 fn is_named<K, V, const PREFIX_LEN: usize>(
     link: Option<NodePtr<PREFIX_LEN, LeafNode<K, V, PREFIX_LEN>>>,
     leaf: NodePtr<PREFIX_LEN, LeafNode<K, V, PREFIX_LEN>>,
@@ -314,6 +319,7 @@ fn join<K, V, const PREFIX_LEN: usize>(
     set_previous(arena, after, before);
 }
 
+// Gives the leaf, where it is one, this next neighbour.
 fn set_next<K, V, const PREFIX_LEN: usize>(
     arena: &mut NodeArena<K, V, PREFIX_LEN>,
     leaf: Option<NodePtr<PREFIX_LEN, LeafNode<K, V, PREFIX_LEN>>>,
@@ -331,6 +337,7 @@ fn set_next<K, V, const PREFIX_LEN: usize>(
     }
 }
 
+// Gives the leaf, where it is one, this previous neighbour.
 fn set_previous<K, V, const PREFIX_LEN: usize>(
     arena: &mut NodeArena<K, V, PREFIX_LEN>,
     leaf: Option<NodePtr<PREFIX_LEN, LeafNode<K, V, PREFIX_LEN>>>,

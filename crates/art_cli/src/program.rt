@@ -48,6 +48,7 @@ pub fn run<R: Read, W: Write, E: Write>(
     ensures refused { result ≡ 2 → AreTaken words.now →
         IfSome (R.remaining input.old) (IsBad words.now) }
 
+    // What is written where nothing is answered, and where all is well.
     ensures bad_input_prints_nothing { result ≡ 2 →
         Keeps (W.contents output.old) (W.contents output.new) }
     ensures success_is_quiet { result ≡ 0 →

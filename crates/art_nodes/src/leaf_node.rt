@@ -198,7 +198,7 @@ impl<K, V, const PREFIX_LEN: usize> LeafNode<K, V, PREFIX_LEN> {
     }
 }
 
-/// The slab key that a link keeps.
+// The slab key that a link keeps.
 fn key_of<const PREFIX_LEN: usize, N>(leaf: Option<NodePtr<PREFIX_LEN, N>>) -> Option<usize>
     ensures { result ≡ option_map slab_key leaf }
 {

@@ -15,6 +15,8 @@ use art_header::{Header, NodeType};
 use std::alloc::{AllocError, Global};
 use std::ops::Bound;
 
+/// An inner node of any kind. Its calls are those of [`InnerNodeCommon`], but `min` and `max` answer
+/// `None` where there is no child.
 #[derive(Drop)]
 pub(crate) enum AnyInner<K, V, const PREFIX_LEN: usize> {
     Node4(InnerNode4<K, V, PREFIX_LEN>),
@@ -23,7 +25,7 @@ pub(crate) enum AnyInner<K, V, const PREFIX_LEN: usize> {
     Node256(InnerNodeDirect<K, V, PREFIX_LEN>),
 }
 
-/// Runs an expression on the node, of whichever kind it is.
+// Runs an expression on the node, of whichever kind it is.
 macro_rules! with_node {
     ($any:expr, $node:ident => $run:expr) => {
         match $any {

@@ -125,6 +125,7 @@ impl<K, V, const PREFIX_LEN: usize> ChildNode<K, V, PREFIX_LEN> {
         old_child
     }
 
+    // Answers the pairs within the bounds, or that the bounds are not valid.
     fn range(
         &self,
         alloc: Global,

@@ -10,12 +10,14 @@ pub(crate) struct ByteSet {
 }
 
 impl ByteSet {
+    /// The set of no byte.
     pub(crate) fn new() -> Self
         ensures { (byte : ℕ) → has_byte result.words byte ≡ false }
     {
         ByteSet { words: [0; 4] }
     }
 
+    /// Whether the byte is one of them.
     #[inline]
     pub(crate) fn contains(&self, byte: u8) -> bool
         ensures { result ≡ has_byte self.now.words byte }
@@ -24,6 +26,7 @@ impl ByteSet {
         (self.words[byte / 64] >> (byte % 64)) & 1 == 1
     }
 
+    /// Adds the byte.
     #[inline]
     pub(crate) fn insert(&mut self, byte: u8)
         ensures added { has_byte self.new.words byte ≡ true }
@@ -34,6 +37,7 @@ impl ByteSet {
         self.words[byte / 64] |= 1 << (byte % 64);
     }
 
+    /// Takes the byte out.
     #[inline]
     pub(crate) fn remove(&mut self, byte: u8)
         ensures removed { has_byte self.new.words byte ≡ false }
@@ -47,7 +51,8 @@ impl ByteSet {
     /// The first byte that is not before `from`.
     #[inline]
     pub(crate) fn first_from(&self, from: usize) -> Option<u8>
-        ensures found { IfSome result (λ byte. (from ≤ byte) × (has_byte self.now.words byte ≡ true)) }
+        ensures found { IfSome result (λ byte.
+            (from ≤ byte) × (has_byte self.now.words byte ≡ true)) }
         ensures first { IfSome result (λ byte. HasNoByte self.now.words from byte) }
         ensures none { IfNone result (HasNoByte self.now.words from 256) }
     {
@@ -68,7 +73,8 @@ impl ByteSet {
     #[inline]
     pub(crate) fn last_before(&self, end: usize) -> Option<u8>
         requires { end ≤ 256 }
-        ensures found { IfSome result (λ byte. (byte < end) × (has_byte self.now.words byte ≡ true)) }
+        ensures found { IfSome result (λ byte.
+            (byte < end) × (has_byte self.now.words byte ≡ true)) }
         ensures last { IfSome result (λ byte. HasNoByte self.now.words (byte + 1) end) }
         ensures none { IfNone result (HasNoByte self.now.words 0 end) }
     {

@@ -38,6 +38,7 @@ impl<H: Copy> ChildTable<H> {
         }
     }
 
+    /// A copy, which takes no memory.
     pub(crate) fn clone(&self) -> Self
         ensures { result ≡ self.now }
     {
@@ -47,6 +48,7 @@ impl<H: Copy> ChildTable<H> {
         }
     }
 
+    /// The child at the place of the byte, if there is one.
     #[inline]
     pub(crate) fn child(&self, byte: u8) -> Option<H>
         ensures { result ≡ get_or self.now byte None }
@@ -58,6 +60,7 @@ impl<H: Copy> ChildTable<H> {
         }
     }
 
+    /// Puts the child at the place of the byte.
     #[inline]
     pub(crate) fn fill(&mut self, byte: u8, child: H)
         ensures { self.new ≡ set self.old byte (Some child) }
@@ -66,6 +69,7 @@ impl<H: Copy> ChildTable<H> {
         self.children[usize::from(byte)] = child;
     }
 
+    /// Leaves the place of the byte empty.
     #[inline]
     pub(crate) fn clear(&mut self, byte: u8)
         ensures { self.new ≡ set self.old byte None }

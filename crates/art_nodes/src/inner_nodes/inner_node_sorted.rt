@@ -113,7 +113,7 @@ impl<K, V, const PREFIX_LEN: usize, const SIZE: usize> InnerNodeSorted<K, V, PRE
 
     /// The bytes in ascending order, and the children beside them.
     pub fn initialized_portion(&self) -> (&[u8], &[OpaqueNodePtr<K, V, PREFIX_LEN>])
-        ensures bytes { result.0.now ≡ map (λ p. p.0) self.now.children }
+        ensures bytes { result.0.now ≡ key_bytes self.now.children }
         ensures children { result.1.now ≡ map (λ p. p.1) self.now.children }
     {
         (&self.keys, &self.child_pointers)
@@ -160,7 +160,7 @@ pub(crate) fn copy_of<T: Copy + Default, const SIZE: usize>(items: &[T]) -> Arra
     copy
 }
 
-/// Where a byte stands among others, if it does.
+// Where a byte stands among others, if it does.
 fn place_of(keys: &[u8], key_fragment: u8) -> Option<usize>
     ensures found { IfSome result (IsByteAt keys.now key_fragment) }
     ensures absent { IfNone result ((k : ℕ) → k < length keys.now →
@@ -169,7 +169,7 @@ fn place_of(keys: &[u8], key_fragment: u8) -> Option<usize>
     keys.iter().position(|key| *key == key_fragment)
 }
 
-/// Where a byte stands among ascending bytes, or where it would go.
+// Where a byte stands among ascending bytes, or where it would go.
 fn find_write_point(keys: &[u8], key_fragment: u8) -> Result<usize, usize>
     requires { IsAscending keys.now }
     ensures existing { IfOk result (IsByteAt keys.now key_fragment) }

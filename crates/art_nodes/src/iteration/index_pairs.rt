@@ -76,7 +76,7 @@ impl<'a, H: Copy> DoubleEndedIterator for IndexPairs<'a, H> {
     }
 }
 
-/// The child that an index names.
+// The child that an index names.
 fn named_child<H: Copy>(children: &[H], index: NonMaxIndex) -> H
     requires { index < length children.now }
     ensures { slice_get children.now index ≡ Some result }
@@ -84,13 +84,14 @@ fn named_child<H: Copy>(children: &[H], index: NonMaxIndex) -> H
     children[usize::from(index)]
 }
 
-/// The first place that has an index, with it.
+// The first place that has an index, with it.
 fn first_index(places: &[u8]) -> Option<(usize, NonMaxIndex)>
     ensures in_range { IfSome result (λ found. found.0 < length places.now) }
     ensures found { IfSome result (λ found. (byte : ℕ) →
-        table_children byte (map index_of places.now) ≡
-        (byte + found.0, found.1) ∷ table_children (byte + found.0 + 1) (map index_of (drop (found.0 + 1) places.now))) }
-    ensures empty { IfNone result ((byte : ℕ) → table_children byte (map index_of places.now) ≡ []) }
+        table_children byte (map index_of places.now) ≡ (byte + found.0, found.1) ∷
+        table_children (byte + found.0 + 1) (map index_of (drop (found.0 + 1) places.now))) }
+    ensures empty { IfNone result ((byte : ℕ) →
+        table_children byte (map index_of places.now) ≡ []) }
 {
     for (place, number) in places.iter().enumerate() {
         if let Some(index) = NonMaxIndex::new(*number) {
@@ -100,13 +101,15 @@ fn first_index(places: &[u8]) -> Option<(usize, NonMaxIndex)>
     None
 }
 
-/// The last place that has an index, with it.
+// The last place that has an index, with it.
 fn last_index(places: &[u8]) -> Option<(usize, NonMaxIndex)>
     ensures in_range { IfSome result (λ found. found.0 < length places.now) }
     ensures found { IfSome result (λ found. (byte : ℕ) →
         table_children byte (map index_of places.now) ≡
-        table_children byte (map index_of (take found.0 places.now)) ++ (byte + found.0, found.1) ∷ []) }
-    ensures empty { IfNone result ((byte : ℕ) → table_children byte (map index_of places.now) ≡ []) }
+        table_children byte (map index_of (take found.0 places.now))
+        ++ (byte + found.0, found.1) ∷ []) }
+    ensures empty { IfNone result ((byte : ℕ) →
+        table_children byte (map index_of places.now) ≡ []) }
 {
     let mut end = places.len();
     while end > 0 {
