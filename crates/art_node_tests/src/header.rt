@@ -1,4 +1,5 @@
 //! Headers, kinds of nodes, and indices.
+mod callers;
 mod node_type;
 mod non_max_index;
 mod prefix;

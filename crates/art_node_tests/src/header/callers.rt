@@ -1,0 +1,72 @@
+//! What a caller learns of headers and indices from their traits, said of the values themselves.
+ghost use Rattle.std.specs.Prelude.{◌≡◌, ◌<◌, IsOk, IfOk};
+ghost use Rattle.std.specs.Result.{OkIff};
+ghost use Rattle.art_header.specs.Header.{same_header};
+
+use art_header::{Header, NonMaxIndex, TryFromByteError};
+use std::alloc::AllocError;
+
+// Headers are equal where count, prefix length and stored front are.
+fn are_equal<const PREFIX_LEN: usize>(a: &Header<PREFIX_LEN>, b: &Header<PREFIX_LEN>) -> bool
+    ensures { result ≡ same_header a.now b.now }
+{
+    a == b
+}
+
+// A copy is the header, and is never refused.
+fn copied<const PREFIX_LEN: usize>(
+    header: &Header<PREFIX_LEN>,
+) -> Result<Header<PREFIX_LEN>, AllocError>
+    ensures same { IfOk result (λ copy. copy ≡ header.now) }
+    ensures always { IsOk result }
+{
+    header.clone()
+}
+
+// An index has its number, at either width.
+fn byte_of(index: NonMaxIndex) -> u8
+    ensures { result ≡ index }
+{
+    u8::from(index)
+}
+
+fn place_of(index: NonMaxIndex) -> usize
+    ensures { result ≡ index }
+{
+    usize::from(index)
+}
+
+// A number below 255 has its index, and no other number has one.
+fn index_of_byte(number: u8) -> Result<NonMaxIndex, TryFromByteError>
+    ensures { OkIff result (number < 255) number }
+{
+    NonMaxIndex::try_from(number)
+}
+
+fn index_of_place(number: usize) -> Result<NonMaxIndex, TryFromByteError>
+    ensures { OkIff result (number < 255) number }
+{
+    NonMaxIndex::try_from(number)
+}
+
+// The first index is where one begins.
+fn first_index() -> NonMaxIndex
+    ensures { result ≡ 0 }
+{
+    NonMaxIndex::default()
+}
+
+#[test]
+fn headers_and_indices_as_a_caller_has_them(rt: HostRuntime) {
+    let mut header = Header::<4>::new(b"abcd", 9);
+    let copy = copied(&header).unwrap();
+    assert!(rt; are_equal(&header, &copy));
+    header.set_prefix(&Header::new(b"abce", 9));
+    assert!(rt; !are_equal(&header, &copy));
+    let index = index_of_byte(254).unwrap();
+    assert!(rt; byte_of(index) == 254 && place_of(index) == 254);
+    assert!(rt; index_of_byte(255).is_err());
+    assert!(rt; index_of_place(254) == Ok(index));
+    assert!(rt; index_of_place(255).is_err() && index_of_place(510).is_err());
+    assert!(rt; byte_of(first_index()) == 0);
+}
