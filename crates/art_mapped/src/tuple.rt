@@ -18,12 +18,19 @@ pub struct ConcatTuple<T>(PhantomData<T>);
 
 /// Two to six mappings, for the parts of a tuple.
 pub trait TupleMappings {
+    /// As many places as there are mappings.
+    type Places;
+
     /// The same mappings, one behind the other.
     type Joint;
 }
 
 /// A tuple of two to six values, which is held in pairs as `((A, B), C)` too.
 pub trait TupleValues: Sized {
+    /// As many places as there are values. By it a pair whose first value is a pair is no tuple of
+    /// three.
+    type Places;
+
     /// The values in pairs.
     type Pairs;
 
@@ -52,11 +59,11 @@ pub trait OrderedTuple<P: Ord>: TupleValues<Pairs = P> + Ord {
 }
 
 /// To write a tuple takes memory, and to read one where to read a part does.
-impl<D, P, J, T> BytesMapping<D> for ConcatTuple<T>
+impl<N, D, P, J, T> BytesMapping<D> for ConcatTuple<T>
 where
-    D: TupleValues<Pairs = P> + Drop,
+    D: TupleValues<Places = N, Pairs = P> + Drop,
     J: Joint<P>,
-    T: TupleMappings<Joint = J>,
+    T: TupleMappings<Places = N, Joint = J>,
 {
     type Bytes = Vec<u8>;
 
@@ -99,39 +106,43 @@ where
     }
 }
 
-impl<D, P, J, T> InjectiveMapping<D> for ConcatTuple<T>
+impl<N, D, P, J, T> InjectiveMapping<D> for ConcatTuple<T>
 where
-    D: TupleValues<Pairs = P> + Drop,
+    D: TupleValues<Places = N, Pairs = P> + Drop,
     J: Joint<P>,
-    T: TupleMappings<Joint = J>,
+    T: TupleMappings<Places = N, Joint = J>,
 {
     ghost decided_by_text = { λ x y. same_from_one_text J.laws (D.in_pairs x) (D.in_pairs y) };
 }
 
-impl<D, P, J, T> OrderedMapping<D> for ConcatTuple<T>
+impl<N, D, P, J, T> OrderedMapping<D> for ConcatTuple<T>
 where
-    D: OrderedTuple<P> + TupleValues<Pairs = P> + Drop,
+    D: OrderedTuple<P> + TupleValues<Places = N, Pairs = P> + Drop,
     P: Ord,
     J: OrderedJoint<P>,
-    T: TupleMappings<Joint = J>,
+    T: TupleMappings<Places = N, Joint = J>,
 {
     ghost keeps_order = { λ x y x_in y_in. D.same_order x y ∙ J.order.keeps (D.in_pairs x) (D.in_pairs y) x_in y_in };
 }
 
-impl<D, P, J, T> NoPrefixesMapping<D> for ConcatTuple<T>
+impl<N, D, P, J, T> NoPrefixesMapping<D> for ConcatTuple<T>
 where
-    D: TupleValues<Pairs = P> + Drop,
+    D: TupleValues<Places = N, Pairs = P> + Drop,
     J: Joint<P>,
-    T: TupleMappings<Joint = J>,
+    T: TupleMappings<Places = N, Joint = J>,
 {
     ghost no_prefixes = { λ x y. wide_front_is_whole J.laws (D.in_pairs x) (D.in_pairs y) };
 }
 
 impl<M0, M1> TupleMappings for (M0, M1) {
+    type Places = [(); 2];
+
     type Joint = Then<First<M0>, M1>;
 }
 
 impl<A, B> TupleValues for (A, B) {
+    type Places = [(); 2];
+
     type Pairs = (A, B);
 
     ghost in_pairs = { λ value. value };
@@ -155,10 +166,14 @@ impl<A: Ord, B: Ord> OrderedTuple<(A, B)> for (A, B) {
 }
 
 impl<M0, M1, M2> TupleMappings for (M0, M1, M2) {
+    type Places = [(); 3];
+
     type Joint = Then<Then<First<M0>, M1>, M2>;
 }
 
 impl<A, B, C> TupleValues for (A, B, C) {
+    type Places = [(); 3];
+
     type Pairs = ((A, B), C);
 
     ghost in_pairs = { λ value. ((value.0, value.1), value.2) };
@@ -182,10 +197,14 @@ impl<A: Ord, B: Ord, C: Ord> OrderedTuple<((A, B), C)> for (A, B, C) {
 }
 
 impl<M0, M1, M2, M3> TupleMappings for (M0, M1, M2, M3) {
+    type Places = [(); 4];
+
     type Joint = Then<Then<Then<First<M0>, M1>, M2>, M3>;
 }
 
 impl<A, B, C, D> TupleValues for (A, B, C, D) {
+    type Places = [(); 4];
+
     type Pairs = (((A, B), C), D);
 
     ghost in_pairs = { λ value. (((value.0, value.1), value.2), value.3) };
@@ -209,10 +228,14 @@ impl<A: Ord, B: Ord, C: Ord, D: Ord> OrderedTuple<(((A, B), C), D)> for (A, B, C
 }
 
 impl<M0, M1, M2, M3, M4> TupleMappings for (M0, M1, M2, M3, M4) {
+    type Places = [(); 5];
+
     type Joint = Then<Then<Then<Then<First<M0>, M1>, M2>, M3>, M4>;
 }
 
 impl<A, B, C, D, E> TupleValues for (A, B, C, D, E) {
+    type Places = [(); 5];
+
     type Pairs = ((((A, B), C), D), E);
 
     ghost in_pairs = { λ value. ((((value.0, value.1), value.2), value.3), value.4) };
@@ -237,10 +260,14 @@ impl<A: Ord, B: Ord, C: Ord, D: Ord, E: Ord> OrderedTuple<((((A, B), C), D), E)>
 }
 
 impl<M0, M1, M2, M3, M4, M5> TupleMappings for (M0, M1, M2, M3, M4, M5) {
+    type Places = [(); 6];
+
     type Joint = Then<Then<Then<Then<Then<First<M0>, M1>, M2>, M3>, M4>, M5>;
 }
 
 impl<A, B, C, D, E, F> TupleValues for (A, B, C, D, E, F) {
+    type Places = [(); 6];
+
     type Pairs = (((((A, B), C), D), E), F);
 
     ghost in_pairs = { λ value. (((((value.0, value.1), value.2), value.3), value.4), value.5) };
