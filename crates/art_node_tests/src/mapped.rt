@@ -115,6 +115,7 @@ fn bytes_of_no_value_are_refused(rt: HostRuntime) -> Result<(), Fail> {
     let alloc = rt.alloc();
     refused::<ToUBE, NonZeroU16>(&rt, alloc, [0, 0])?;
     refused::<ToIBE, NonZeroI8>(&rt, alloc, [128])?;
+    refused::<ToIBE, NonZeroI16>(&rt, alloc, [128, 0])?;
     refused::<ToUBE, [u16; 2]>(&rt, alloc, vec![in alloc; 0, 1, 0]?)?;
     refused::<ToUBE, Vec<u16>>(&rt, alloc, vec![in alloc; 1, 2, 3]?)?;
     refused::<ToUBE, [NonZeroU8; 2]>(&rt, alloc, vec![in alloc; 7, 0]?)?;

@@ -75,6 +75,22 @@ fn queries_and_removals_are_answered(rt: HostRuntime) -> Result<(), Fail> {
     Ok(())
 }
 
+// Each of many entries is there until it is removed.
+#[test]
+fn many_entries_are_entered_and_removed(rt: HostRuntime) -> Result<(), Fail> {
+    let mut input = Vec::new(rt.alloc());
+    let mut output = String::new(rt.alloc());
+    for byte in b'0'..=b'z' {
+        input.extend_from_slice(&[b'+', byte, b'a', b'\n', b'+', byte, b'b', b'\n'])?;
+    }
+    for byte in b'0'..=b'z' {
+        input.extend_from_slice(&[b'-', byte, b'a', b'\n', b'?', byte, b'a', b'\n'])?;
+        let number = 2 * usize::from(byte - b'0');
+        writeln!(output, "removed {number}\nnone reads 2")?;
+    }
+    finds(&rt, rt.alloc(), &["2"], &input, output.as_str())
+}
+
 #[test]
 fn the_first_fault_of_lines_and_entries_is_told(rt: HostRuntime) -> Result<(), Fail> {
     let cases: [(&[u8], &str); 12] = [

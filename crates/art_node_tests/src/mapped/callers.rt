@@ -177,12 +177,14 @@ fn callers_get_values_back(rt: HostRuntime) -> Result<(), Fail> {
     assert!(rt; ipv6_asked(alloc, [0; 16])? == Some(Ipv6Addr::UNSPECIFIED));
 
     assert!(rt; array_back::<Signed, i8, 2>(alloc, [3, -3])? == [3, -3]);
+    assert!(rt; array_back::<Signed, i8, 0>(alloc, [])? == []);
     let key = Mapped::new(alloc, [5u32, 6])?;
     assert!(rt; array_of_key::<Unsigned, u32, 2>(alloc, key)? == [5, 6]);
     let bytes = vec![in alloc; 9, 8]?;
     assert!(rt; array_asked::<Unsigned, u8, 2>(alloc, bytes)? == Some([9, 8]));
     let back = vector_back::<Unsigned, u16>(alloc, vec![in alloc; 258]?)?;
     assert!(rt; back.as_slice() == [258].as_slice());
+    assert!(rt; vector_back::<Unsigned, u16>(alloc, Vec::new(alloc))?.is_empty());
     Ok(())
 }
 

@@ -1,6 +1,7 @@
 //! What another crate does with nodes, by their bounds alone: each of these is proved from the clauses
 //! and laws of the bounds, for every `PREFIX_LEN`, with no lemma but the public laws.
 ghost use Rattle.std.specs.Prelude.{◌≡◌, ◌≢◌, ◌+◌, ◌<◌, ◌≤◌, ◌↔◌, length, Some, None, IfSome, IsSome, IsTrue};
+ghost use Rattle.std.specs.Cmp.Lexicographic.{pointwise};
 ghost use Rattle.art_header.specs.Header.{capped};
 ghost use Rattle.art_header.specs.NodeType.{least_children, most_children, shrunk_kind};
 ghost use Rattle.art_header.specs.declared.node_type.NodeType.TheVariants.{Node4};
@@ -8,7 +9,10 @@ ghost use Rattle.art_nodes.specs.ChildMap.{child_at};
 ghost use Rattle.art_nodes.specs.Inner.{HasRoomFor, node_with_child};
 ghost use Rattle.art_nodes.specs.Pointers.{opaque_pointer};
 
-use art_nodes::{InnerNode, InnerNodeCommon, Node, NodePtr, OpaqueNodePtr};
+use art_nodes::{
+    InnerNode, InnerNodeCommon, Node, NodePtr, OpaqueNodePtr, OptimisticMismatch,
+    PessimisticMismatch, Sequence,
+};
 
 // What is written is found.
 #[tactic(auto, using(art_nodes::proofs::ChildMapLaws::child_at_written))]
@@ -133,6 +137,20 @@ fn look_up_the_least<K, V, const PREFIX_LEN: usize, N: InnerNodeCommon<K, V, PRE
 {
     let (byte, _) = node.min();
     node.lookup_child(byte)
+}
+
+// Sequences are equal where their items are, one by one.
+fn are_equal<T: PartialEq>(a: &Sequence<T>, b: &Sequence<T>) -> bool
+    ensures { result ≡ pointwise T.eq a.now b.now }
+{
+    a == b
+}
+
+// Where lengths alone were compared, no byte is told.
+fn without_a_byte(mismatch: OptimisticMismatch) -> PessimisticMismatch
+    ensures { result ≡ record { matched_bytes = mismatch.matched_bytes; prefix_byte = None } }
+{
+    PessimisticMismatch::from(mismatch)
 }
 
 // The pointer with a kind and a slab key.

@@ -191,6 +191,22 @@ fn left_by(
     Ok((node.node_type(), node.num_children()))
 }
 
+// A range without bounds answers the leaf of each byte.
+fn check_all_leaves(rt: &(impl Abort + AllocGlobal), writes: &[Command]) -> Result<(), Fail> {
+    let mut node = ChildNode::from_header(Header::<2>::new(b"", 0));
+    let mut bytes = Vec::new(rt.alloc());
+    for (byte, write) in (0..=255u8).zip(writes) {
+        node.apply(rt.alloc(), write)?;
+        bytes.push(byte)?;
+    }
+    let reply = node.apply(
+        rt.alloc(),
+        &Command::Range(Bound::Unbounded, Bound::Unbounded),
+    )?;
+    check_leaves(rt, &reply, &bytes);
+    Ok(())
+}
+
 #[test]
 fn grows_to_256_children_and_shrinks_again(rt: HostRuntime) -> Result<(), Fail> {
     let mut commands = Vec::new(rt.alloc());
@@ -198,6 +214,7 @@ fn grows_to_256_children_and_shrinks_again(rt: HostRuntime) -> Result<(), Fail> 
         commands.push(Command::Write(byte, leaf(usize::from(byte))))?;
     }
     assert!(rt; left_by(&rt, &commands)? == (NodeType::Node256, 256));
+    check_all_leaves(&rt, &commands)?;
     commands.push(Command::Write(255, leaf(1000)))?;
     let (replies, node) = run(&rt, &commands)?;
     assert!(rt; replies.last() == Some(&Reply::Child(Some(leaf(255)))));
