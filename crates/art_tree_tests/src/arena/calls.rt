@@ -122,6 +122,7 @@ fn allocates_three_leaves_where_there_is_room_for_three(rt: HostRuntime) -> Resu
     let mut arena = Arena::new(rt.alloc());
     for kind in KINDS {
         arena.reserve(kind, 3)?;
+        arena.reserve(kind, 300)?;
     }
     let first = put(&rt, &mut arena, Leaf::with_no_siblings([1], 1));
     let second = put(&rt, &mut arena, Leaf::with_no_siblings([2], 2));

@@ -338,6 +338,31 @@ fn a_tree_comes_and_goes(rt: HostRuntime) -> Result<(), Fail> {
     Ok(())
 }
 
+type Pairs = ArtTree<[u8; 2], u8, 0>;
+
+// Each byte of a node below the root comes and goes, through every kind of node, with ample memory.
+fn fill_and_empty(rt: &impl Abort, tree: &mut Pairs) -> Result<(), Fail> {
+    for byte in 0..=255u8 {
+        let before = tree.insert([1, byte], byte);
+        assert!(rt; matches!(&before, Ok(None)));
+    }
+    for byte in 0..=255u8 {
+        assert!(rt; tree.get(&[1, byte]).copied() == Some(byte));
+        assert!(rt; tree.remove(&[1, byte])? == Some(([1, byte], byte)));
+    }
+    Ok(())
+}
+
+#[test]
+fn every_byte_comes_and_goes(rt: HostRuntime) -> Result<(), Fail> {
+    let mut tree = Pairs::new(rt.alloc());
+    assert!(rt; matches!(&tree.insert([0, 7], 3), Ok(None)));
+    fill_and_empty(&rt, &mut tree)?;
+    assert!(rt; tree.remove(&[0, 7])? == Some(([0, 7], 3)));
+    assert!(rt; tree.first().is_none());
+    Ok(())
+}
+
 type Words = ArtTree<[u8; 7], usize, 2>;
 
 // The second parts from the first past a prefix that is not wholly stored, and the third inside it;
