@@ -343,8 +343,10 @@ type Pairs = ArtTree<[u8; 2], u8, 0>;
 // Each byte of a node below the root comes and goes, through every kind of node, with ample memory.
 fn fill_and_empty(rt: &impl Abort, tree: &mut Pairs) -> Result<(), Fail> {
     for byte in 0..=255u8 {
-        let before = tree.insert([1, byte], byte);
-        assert!(rt; matches!(&before, Ok(None)));
+        let Ok(before) = tree.insert([1, byte], byte) else {
+            return Err(AllocError.into());
+        };
+        assert!(rt; before.is_none());
     }
     for byte in 0..=255u8 {
         assert!(rt; tree.get(&[1, byte]).copied() == Some(byte));
@@ -356,7 +358,10 @@ fn fill_and_empty(rt: &impl Abort, tree: &mut Pairs) -> Result<(), Fail> {
 #[test]
 fn every_byte_comes_and_goes(rt: HostRuntime) -> Result<(), Fail> {
     let mut tree = Pairs::new(rt.alloc());
-    assert!(rt; matches!(&tree.insert([0, 7], 3), Ok(None)));
+    let Ok(before) = tree.insert([0, 7], 3) else {
+        return Err(AllocError.into());
+    };
+    assert!(rt; before.is_none());
     fill_and_empty(&rt, &mut tree)?;
     assert!(rt; tree.remove(&[0, 7])? == Some(([0, 7], 3)));
     assert!(rt; tree.first().is_none());
