@@ -9,6 +9,7 @@ pub mod Loading
 pub mod Plan
 pub mod Raising
 pub mod Refusals
+pub mod RefusalTexts
 pub mod Edits
 pub mod Places
 pub mod Taking

@@ -12,28 +12,31 @@ ghost use Rattle.art_arena.specs.Trees.{leaves, branch_leaves};
 ghost use Rattle.art_tree.specs.Art.{IsArt, IsAlone};
 ghost use Rattle.art_tree.specs.Dictionary.{entry_at};
 ghost use Rattle.art_tree.specs.Edits.{HasRoomToGrow};
-ghost use Rattle.art_tree.specs.Hanging.{CanHang, HasPlaceAt, IsHung, StandsBeside};
+ghost use Rattle.art_tree.specs.Hanging.{HasPlaceAt, StandsBeside};
 ghost use Rattle.art_tree.specs.Inserting.{IsEntered, IsRefused, MayEnter, SameEntries};
 ghost use Rattle.art_tree.specs.Places.{LacksChild, Parts};
 ghost use Rattle.art_tree.specs.Search.{leaf_pointer};
 ghost use Rattle.art_arena.specs.declared.ends.End.TheVariants.{First, Last};
 ghost use Rattle.art_tree.specs.declared.insert.InsertRefusal.TheVariants.{OutOfMemory};
 
-pub(crate) mod link;
-pub(crate) mod node;
-pub(crate) mod place;
+mod link;
+mod node;
+mod place;
 
 use crate::insert::link::link_leaf;
-use crate::insert::node::{add_child, fork_node, reserve_growth, trim, write_child};
+use crate::insert::node::{add_child, fork_node, reserve_growth, trim};
 use crate::insert::place::{Fork, Place, Spot, find_place};
 use crate::laws::{
     each_pointer_is_at_one_place, lists_are_spelled_where_links_are_kept, no_text_begins_another,
     texts_ascend, trees_stand_where_texts_are_kept,
 };
+use crate::node::hang;
 use art_arena::{AnyRef, End, NodeArena, end_leaf};
 use art_bytes::AsBytes;
 use art_nodes::{InnerNodeCommon, LeafNode, NodePtr, NodeType, OpaqueNodePtr};
 use std::alloc::AllocError;
+use std::error::Error;
+use std::fmt;
 use std::ops::Bound;
 
 /// Why [`ArtTree::insert`](crate::ArtTree::insert) refuses an entry.
@@ -46,6 +49,23 @@ pub enum InsertRefusal {
     /// Memory was refused. Nothing is wrong with the key, and no entry has its text.
     OutOfMemory,
 }
+
+impl fmt::Display for InsertRefusal {
+    ghost use Rattle.std.specs.Prelude.{Some};
+    ghost use Rattle.art_tree.specs.RefusalTexts.{insert_refusal_text};
+
+    ghost output = { λ refusal. Some (insert_refusal_text refusal) };
+
+    fn fmt<W: fmt::Write>(&self, f: &mut fmt::Formatter<W>) -> fmt::Result {
+        match self {
+            InsertRefusal::KeyTooLong => write!(f, "key too long"),
+            InsertRefusal::Prefix => write!(f, "one key is a front of the other"),
+            InsertRefusal::OutOfMemory => write!(f, "out of memory"),
+        }
+    }
+}
+
+impl Error for InsertRefusal {}
 
 /// An entry that was refused, and why.
 #[derive(Drop)]
@@ -148,23 +168,6 @@ fn leaf_beside<K: AsBytes, V, const PREFIX_LEN: usize>(
         Some(child) => (end_leaf(arena, child, End::First), End::First),
         None => (end_leaf(arena, pointer, End::Last), End::Last),
     }
-}
-
-/// Hangs a node where another one hung, under its parent or as the root. Answers the root.
-pub(crate) fn hang<K, V, const PREFIX_LEN: usize>(
-    arena: &mut NodeArena<K, V, PREFIX_LEN>,
-    root: OpaqueNodePtr<K, V, PREFIX_LEN>,
-    parent: Option<(OpaqueNodePtr<K, V, PREFIX_LEN>, u8)>,
-    node: OpaqueNodePtr<K, V, PREFIX_LEN>,
-) -> OpaqueNodePtr<K, V, PREFIX_LEN>
-    requires { CanHang arena.old parent }
-    ensures { IsHung arena.old arena.new parent node root result }
-{
-    let Some((parent, byte)) = parent else {
-        return node;
-    };
-    write_child(arena, parent, byte, node);
-    root
 }
 
 fn reserve_for_child<K, V, const PREFIX_LEN: usize>(

@@ -8,6 +8,7 @@ mod find;
 mod insert;
 pub mod laws;
 mod loading;
+mod node;
 mod path;
 mod remove;
 mod tree;

@@ -10,7 +10,7 @@ ghost use Rattle.art_tree.specs.Loading.{IsLoaded};
 
 mod check;
 mod leaves;
-pub(crate) mod raise;
+mod raise;
 mod steps;
 
 use crate::loading::check::refusal_of;

@@ -14,15 +14,13 @@ ghost use Rattle.art_tree.specs.Inserting.{SameEntries};
 ghost use Rattle.art_tree.specs.Removing.{IsLeft, IsRemoved, NeedsSmallerNode};
 ghost use Rattle.art_tree.specs.Search.{leaf_pointer};
 
-pub(crate) mod node;
+mod node;
 
 use crate::find::find_leaf;
-use crate::insert::hang;
 use crate::laws::{each_pointer_is_at_one_place, no_text_begins_another};
+use crate::node::{give_up, hang, num_children};
 use crate::path::TreePath;
-use crate::remove::node::{
-    give_up, join_prefix, num_children, other_child, reserve_shrink, take_child,
-};
+use crate::remove::node::{join_prefix, other_child, reserve_shrink, take_child};
 use art_arena::laws::each_leaf_of_a_list_is_knit;
 use art_arena::{ArenaReader, LeafLinks, NodeArena};
 use art_bytes::AsBytes;

@@ -14,38 +14,13 @@ ghost use Rattle.art_tree.specs.Search.{leaf_pointer};
 ghost use Rattle.art_tree.specs.Taking.{two_children};
 
 use crate::insert::place::Fork;
-use crate::loading::raise::place_as;
-use crate::remove::node::{num_children, replace_node};
+use crate::node::{num_children, place_as, replace_node, write_child};
 use art_arena::{AnyRef, ArenaInnerNode, NodeArena};
 use art_bytes::AsBytes;
 use art_nodes::{
-    ConcreteNodePtr, InnerNode, InnerNode4, InnerNodeCommon, LeafNode, Node, NodePtr, NodeType,
-    OpaqueNodePtr,
+    InnerNode, InnerNode4, InnerNodeCommon, LeafNode, Node, NodePtr, NodeType, OpaqueNodePtr,
 };
 use std::alloc::AllocError;
-
-/// Writes the child under the byte of the inner node at the pointer.
-pub(crate) fn write_child<K, V, const PREFIX_LEN: usize>(
-    arena: &mut NodeArena<K, V, PREFIX_LEN>,
-    pointer: OpaqueNodePtr<K, V, PREFIX_LEN>,
-    byte: u8,
-    child: OpaqueNodePtr<K, V, PREFIX_LEN>,
-)
-    requires held { held arena.old pointer ≢ Nothing }
-    requires inner { node_kind pointer ≢ Leaf }
-    requires has_room { (node : Inner _) → held arena.old pointer ≡ HeldInner node →
-        HasRoomFor (most_children (node_kind pointer)) node byte }
-    ensures { (node : Inner _) → held arena.old pointer ≡ HeldInner node →
-        Changes arena.old arena.new pointer (HeldInner (node_with_child node byte child)) }
-{
-    match pointer.to_node_ptr() {
-        ConcreteNodePtr::Node4(node) => arena.as_mut(node).write_child(byte, child),
-        ConcreteNodePtr::Node16(node) => arena.as_mut(node).write_child(byte, child),
-        ConcreteNodePtr::Node48(node) => arena.as_mut(node).write_child(byte, child),
-        ConcreteNodePtr::Node256(node) => arena.as_mut(node).write_child(byte, child),
-        ConcreteNodePtr::LeafNode(_) => unreachable!(),
-    }
-}
 
 // Whether the inner node at the pointer is full.
 fn is_full<K, V, const PREFIX_LEN: usize>(

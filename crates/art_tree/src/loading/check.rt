@@ -5,6 +5,8 @@ ghost use Rattle.art_tree.specs.Refusals.{HaveNoFault, IsRefusal, fault_at};
 
 use art_bytes::AsBytes;
 use std::cmp::Ordering;
+use std::error::Error;
+use std::fmt;
 
 /// Why [`load`](crate::load) refuses entries. An index counts entries from 0.
 #[derive(Clone, Copy, Debug, PartialEq, Eq)]
@@ -20,6 +22,29 @@ pub enum LoadRefusal {
     /// Memory was refused. Nothing is wrong with the entries.
     OutOfMemory,
 }
+
+impl fmt::Display for LoadRefusal {
+    ghost use Rattle.std.specs.Prelude.{Some};
+    ghost use Rattle.art_tree.specs.RefusalTexts.{load_refusal_text};
+
+    ghost output = { λ refusal. Some (load_refusal_text refusal) };
+
+    fn fmt<W: fmt::Write>(&self, f: &mut fmt::Formatter<W>) -> fmt::Result {
+        match self {
+            LoadRefusal::Empty => write!(f, "no entries"),
+            LoadRefusal::KeyTooLong(index) => write!(f, "entry {index}: key too long"),
+            LoadRefusal::NotAscending(index) => {
+                write!(f, "entry {index}: key is not below the next one")
+            }
+            LoadRefusal::Prefix(index) => {
+                write!(f, "entry {index}: key is a front of the next one")
+            }
+            LoadRefusal::OutOfMemory => write!(f, "out of memory"),
+        }
+    }
+}
+
+impl Error for LoadRefusal {}
 
 // What refuses the entry at an index, if anything does.
 fn fault_of<K: AsBytes, V>(entries: &[(K, V)], index: usize) -> Option<LoadRefusal>

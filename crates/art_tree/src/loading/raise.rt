@@ -1,6 +1,5 @@
 //! From a plan to nodes.
 ghost use Rattle.std.specs.Prelude.{◌≡◌, ◌≢◌, ℕ, ◌<◌, ◌≤◌, ◌-◌, ◌^◌, [], length, take, drop, vec_capacity};
-ghost use Rattle.std.specs.Mem.{FitsInMemory};
 ghost use Rattle.art_header.specs.NodeType.{kind_for};
 ghost use Rattle.art_header.specs.declared.node_type.NodeType.TheVariants as NodeType;
 ghost use Rattle.art_nodes.specs.ChildMap.{IsAscending, key_bytes};
@@ -14,68 +13,13 @@ ghost use Rattle.art_tree.specs.Plan.{IsPlanOf, needed};
 ghost use Rattle.art_tree.specs.Raising.{node_of, IsPlaced, IsRaised, HoldLeaves, leaf_texts};
 
 use crate::loading::steps::Step;
+use crate::node::place_as;
+use art_arena::NodeArena;
 use art_arena::laws::{allocating_leaves_trees_standing, an_allocated_node_makes_a_tree};
-use art_arena::{ArenaInnerNode, NodeArena};
 use art_bytes::AsBytes;
 use art_nodes::{
-    InnerNode4, InnerNode16, InnerNode48, InnerNodeCommon, InnerNodeDirect, LeafNode, Node,
-    NodePtr, OpaqueNodePtr,
+    InnerNode4, InnerNode16, InnerNode48, InnerNodeDirect, LeafNode, NodePtr, OpaqueNodePtr,
 };
-
-// The inner node with this prefix and these children.
-fn inner_node<K, V, const PREFIX_LEN: usize, N: InnerNodeCommon<K, V, PREFIX_LEN>>(
-    prefix: &[u8],
-    children: &[(u8, OpaqueNodePtr<K, V, PREFIX_LEN>)],
-) -> N
-    requires memory { FitsInMemory N.row }
-    requires short { length prefix.now < 2 ^ 32 }
-    requires two { 2 ≤ length children.now }
-    requires fits { length children.now ≤ N.room }
-    requires ascending { IsAscending (key_bytes children.now) }
-    ensures { N.inner result ≡ node_of PREFIX_LEN prefix.now children.now }
-{
-    let (byte, child) = children[0];
-    let first = N::builder(prefix, prefix.len()).write_child(byte, child);
-    let (byte, child) = children[1];
-    let mut builder = first.write_child(byte, child);
-    for i in 2..children.len() {
-        let (byte, child) = children[i];
-        builder = builder.write_child(byte, child);
-    }
-    builder.build()
-}
-
-// Places the inner node of one type whose prefix the leaf's text has from `start` to `end`.
-pub(crate) fn place_as<
-    K: AsBytes,
-    V,
-    const PREFIX_LEN: usize,
-    N: ArenaInnerNode<K, V, PREFIX_LEN> + Node<PREFIX_LEN, Key = K, Value = V>,
->(
-    arena: &mut NodeArena<K, V, PREFIX_LEN>,
-    leaf: NodePtr<PREFIX_LEN, LeafNode<K, V, PREFIX_LEN>>,
-    start: usize,
-    end: usize,
-    children: &[(u8, OpaqueNodePtr<K, V, PREFIX_LEN>)],
-) -> OpaqueNodePtr<K, V, PREFIX_LEN>
-    requires memory { FitsInMemory N.row }
-    requires held { HoldsLeaf arena.old (slab_key leaf) }
-    requires ordered { start ≤ end }
-    requires within { end ≤ length (text_at K.text arena.old (slab_key leaf)) }
-    requires short { end < 2 ^ 32 }
-    requires two { 2 ≤ length children.now }
-    requires fits { length children.now ≤ N.room }
-    requires ascending { IsAscending (key_bytes children.now) }
-    requires room { 0 < room arena.old N.TYPE }
-    ensures { IsPlaced arena.old arena.new N.TYPE
-        (node_of PREFIX_LEN
-        (take (end - start) (drop start (text_at K.text arena.old (slab_key leaf)))) children.now)
-        result }
-{
-    let text = arena.as_key_ref(leaf).as_bytes();
-    let node: N = inner_node(&text[start..end], children);
-    arena.allocate_node_ptr(node).unwrap().to_opaque()
-}
 
 // Places the inner node of the smallest kind.
 #[inline(never)]

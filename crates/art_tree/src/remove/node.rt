@@ -1,35 +1,19 @@
 //! What a removal does to inner nodes.
 ghost use Rattle.std.specs.Prelude.{◌≡◌, ◌≢◌, ◌<◌, ◌≤◌, ◌+◌, ◌^◌, ◌++◌, ◌∷◌, ◌↔◌, ℕ, List, length, Some, None, OnOk, OnErr, IsTrue};
 ghost use Rattle.art_header.specs.Header.{StandsFor};
-ghost use Rattle.art_header.specs.NodeType.{least_children, most_children, shrunk_kind};
+ghost use Rattle.art_header.specs.NodeType.{least_children, shrunk_kind};
 ghost use Rattle.art_header.specs.declared.node_type.NodeType.TheVariants.{Leaf, Node4};
 ghost use Rattle.art_nodes.specs.ChildMap.{child_at, first_pair, without_child};
 ghost use Rattle.art_nodes.specs.Inner.{Inner, header_of, node_without_child};
-ghost use Rattle.art_nodes.specs.Pointers.{node_kind, slab_key};
-ghost use Rattle.art_arena.specs.Arena.{held, HeldInner, Nothing, pointer_to, room, Changes, SameNodes, SameRoom};
+ghost use Rattle.art_nodes.specs.Pointers.{node_kind};
+ghost use Rattle.art_arena.specs.Arena.{held, HeldInner, Nothing, room, Changes, SameNodes, SameRoom};
 ghost use Rattle.art_tree.specs.Cuts.{HasOneLess, HasRoomToShrink};
 ghost use Rattle.art_tree.specs.Edits.{IsReplaced, node_with_prefix};
 
-use art_arena::{AnyRef, ArenaInnerNode, ArenaNode, NodeArena};
-use art_nodes::{
-    ConcreteNodePtr, InnerNode, InnerNodeCommon, Node, NodePtr, NodeType, OpaqueNodePtr,
-};
+use crate::node::{num_children, replace_node};
+use art_arena::{AnyRef, NodeArena};
+use art_nodes::{ConcreteNodePtr, InnerNode, InnerNodeCommon, NodeType, OpaqueNodePtr};
 use std::alloc::AllocError;
-
-/// How many children the inner node at the pointer has.
-pub(crate) fn num_children<K, V, const PREFIX_LEN: usize>(
-    arena: &NodeArena<K, V, PREFIX_LEN>,
-    pointer: OpaqueNodePtr<K, V, PREFIX_LEN>,
-) -> usize
-    requires held { held arena.now pointer ≢ Nothing }
-    requires inner { node_kind pointer ≢ Leaf }
-    ensures count { (node : Inner _) → held arena.now pointer ≡ HeldInner node →
-        result ≡ length node.children }
-    ensures fits { (node : Inner _) → held arena.now pointer ≡ HeldInner node →
-        result ≤ most_children (node_kind pointer) }
-{
-    arena.header(pointer).unwrap().num_children()
-}
 
 // Whether the inner node at the pointer has the fewest children of its kind.
 fn has_fewest<K, V, const PREFIX_LEN: usize>(
@@ -136,29 +120,6 @@ fn cut_child<K, V, const PREFIX_LEN: usize>(
     }
 }
 
-/// Gives up the inner node at the pointer for this one of another kind, and answers where that is.
-// Kept out of its caller, whose stack would have the nodes of each kind several times.
-#[inline(never)]
-pub(crate) fn replace_node<
-    K,
-    V,
-    const PREFIX_LEN: usize,
-    R: ArenaInnerNode<K, V, PREFIX_LEN> + Node<PREFIX_LEN, Key = K, Value = V>,
->(
-    arena: &mut NodeArena<K, V, PREFIX_LEN>,
-    pointer: OpaqueNodePtr<K, V, PREFIX_LEN>,
-    node: R,
-) -> OpaqueNodePtr<K, V, PREFIX_LEN>
-    requires held { held arena.old pointer ≢ Nothing }
-    requires inner { node_kind pointer ≢ Leaf }
-    requires room { 0 < room arena.old R.TYPE }
-    ensures { IsReplaced arena.old arena.new pointer R.TYPE (R.inner node) result }
-{
-    let placed = arena.allocate_node_ptr(node).unwrap();
-    give_up(arena, pointer);
-    placed.to_opaque()
-}
-
 // Puts a node of the next smaller kind, for which there has to be room, in the place of the inner node
 // at the pointer, which has too few children for its own. Answers where that is. Kept out of its
 // caller, which would clear the stack for that node each time.
@@ -247,33 +208,4 @@ pub(crate) fn join_prefix<K, V, const PREFIX_LEN: usize>(
     joined.push_prefix(&[byte], 1);
     joined.push_prefix(lower.read_prefix(), lower.prefix_len());
     arena.set_prefix(child, &joined);
-}
-
-// Gives up a node of one type.
-fn give_up_node<K, V, const PREFIX_LEN: usize, N: ArenaNode<K, V, PREFIX_LEN> + Drop>(
-    arena: &mut NodeArena<K, V, PREFIX_LEN>,
-    node: NodePtr<PREFIX_LEN, N>,
-)
-    requires { held arena.old (pointer_to N.TYPE (slab_key node)) ≢ Nothing }
-    ensures { Changes arena.old arena.new (pointer_to N.TYPE (slab_key node)) Nothing }
-{
-    arena.deallocate_node_ptr(node);
-}
-
-/// Gives up the inner node at the pointer.
-pub(crate) fn give_up<K, V, const PREFIX_LEN: usize>(
-    arena: &mut NodeArena<K, V, PREFIX_LEN>,
-    pointer: OpaqueNodePtr<K, V, PREFIX_LEN>,
-)
-    requires held { held arena.old pointer ≢ Nothing }
-    requires inner { node_kind pointer ≢ Leaf }
-    ensures { Changes arena.old arena.new pointer Nothing }
-{
-    match pointer.to_node_ptr() {
-        ConcreteNodePtr::Node4(node) => give_up_node(arena, node),
-        ConcreteNodePtr::Node16(node) => give_up_node(arena, node),
-        ConcreteNodePtr::Node48(node) => give_up_node(arena, node),
-        ConcreteNodePtr::Node256(node) => give_up_node(arena, node),
-        ConcreteNodePtr::LeafNode(_) => unreachable!(),
-    }
 }

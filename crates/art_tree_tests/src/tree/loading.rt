@@ -2,8 +2,8 @@
 use super::numbered;
 use crate::ALL_STANDS;
 use art_tree::{
-    AnyRef, ArenaReader, InnerNode4, InnerNodeCommon, LeafNode, LoadFault, LoadRefusal, NodeArena,
-    NodePtr, NodeType, OpaqueNodePtr, load,
+    AnyRef, ArenaReader, InnerNode4, InnerNodeCommon, InsertRefusal, LeafNode, LoadFault,
+    LoadRefusal, NodeArena, NodePtr, NodeType, OpaqueNodePtr, load,
 };
 use std::alloc::{AllocError, Global};
 use std::process::Abort;
@@ -57,6 +57,29 @@ fn the_lowest_entry_at_fault_is_told(rt: HostRuntime) -> Result<(), Fail> {
             panic!(rt; "loaded");
         };
         check_fault(&rt, &fault, refusal, texts);
+    }
+    Ok(())
+}
+
+#[test]
+fn refusals_are_told(rt: HostRuntime) -> Result<(), Fail> {
+    let of_a_load = [
+        (LoadRefusal::Empty, "no entries"),
+        (LoadRefusal::KeyTooLong(0), "entry 0: key too long"),
+        (LoadRefusal::NotAscending(9), "entry 9: key is not below the next one"),
+        (LoadRefusal::Prefix(10), "entry 10: key is a front of the next one"),
+        (LoadRefusal::OutOfMemory, "out of memory"),
+    ];
+    for (refusal, text) in of_a_load {
+        assert!(rt; format!(in rt.alloc(); "{refusal}")?.as_str() == text);
+    }
+    let of_an_insert = [
+        (InsertRefusal::KeyTooLong, "key too long"),
+        (InsertRefusal::Prefix, "one key is a front of the other"),
+        (InsertRefusal::OutOfMemory, "out of memory"),
+    ];
+    for (refusal, text) in of_an_insert {
+        assert!(rt; format!(in rt.alloc(); "{refusal}")?.as_str() == text);
     }
     Ok(())
 }

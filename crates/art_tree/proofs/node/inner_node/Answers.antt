@@ -3,7 +3,7 @@ use Rattle.std.proofs.lemmas.List.{take_all}
 use Rattle.art_tree.specs.Raising.{node_of}
 use Rattle.art_nodes.proofs.BuilderLaws.{builder_fits}
 use Rattle.art_tree.proofs.ChildLemmas.{has-room, is-new, written-node}
-use Rattle.art_tree.proofs.loading.raise.inner_node.Goals as goal
+use Rattle.art_tree.proofs.node.inner_node.Goals as goal
 
 pub builder-requires : goal.builder-requires
 builder-requires g c = (builder_fits _ c.requires.memory, (omega arith, (omega arith, c.requires.short)))

@@ -5,7 +5,7 @@ use Rattle.art_nodes.specs.Inner.{Inner, HasRoomFor}
 use Rattle.art_nodes.specs.Pointers.{node_kind}
 use Rattle.art_arena.specs.Arena.{held, HeldInner, Nothing}
 use Rattle.art_tree.proofs.HangLemmas.{is-parent}
-use Rattle.art_tree.proofs.insert.hang.Goals as goal
+use Rattle.art_tree.proofs.node.hang.Goals as goal
 
 pub write_child-requires : goal.write_child-requires
 write_child-requires g c =

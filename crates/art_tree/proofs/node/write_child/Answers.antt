@@ -2,7 +2,7 @@ use Rattle.std.proofs.Common.{lit<, sym, ap}
 use Rattle.art_nodes.specs.Inner.{node_with_child}
 use Rattle.art_nodes.specs.Pointers.{node_kind}
 use Rattle.art_tree.proofs.NodeLemmas.{room-there, edited-there}
-use Rattle.art_tree.proofs.insert.node.write_child.Goals as goal
+use Rattle.art_tree.proofs.node.write_child.Goals as goal
 
 pub write_child-requires : goal.write_child-requires
 write_child-requires g c = (search, (lit< tt, room-there c.args.arena.now c.args.byte c.in-Node4.ensures.undone c.as_mut.ensures.node c.requires.has_room))

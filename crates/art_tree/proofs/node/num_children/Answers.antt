@@ -4,7 +4,7 @@ use Rattle.art_header.specs.NodeType.{most_children}
 use Rattle.art_nodes.specs.Pointers.{node_kind}
 use Rattle.art_arena.specs.Arena.{held}
 use Rattle.art_tree.proofs.NodeLemmas.{header-of-held}
-use Rattle.art_tree.proofs.remove.node.num_children.Goals as goal
+use Rattle.art_tree.proofs.node.num_children.Goals as goal
 
 pub returns-clause-count : goal.returns-clause-count
 returns-clause-count g c = λ node is.

@@ -4,7 +4,7 @@ use Rattle.art_arena.specs.Arena.{held, Nothing, pointer_to, Changes}
 use Rattle.art_tree.proofs.Linking.{kept-at}
 use Rattle.art_tree.proofs.CutLemmas.{replaced}
 use Rattle.art_tree.proofs.Rising.{if-ok}
-use Rattle.art_tree.proofs.remove.node.replace_node.Goals as goal
+use Rattle.art_tree.proofs.node.replace_node.Goals as goal
 
 pub give_up-requires : goal.give_up-requires
 give_up-requires g c =

@@ -5,7 +5,7 @@ use Rattle.art_arena.specs.Links.{leaf_at}
 use Rattle.art_tree.specs.Raising.{node_of}
 use Rattle.art_tree.proofs.NodeLemmas.{text-of-key}
 use Rattle.art_tree.proofs.Rising.{placed, if-ok, on-ok}
-use Rattle.art_tree.proofs.loading.raise.place_as.Goals as goal
+use Rattle.art_tree.proofs.node.place_as.Goals as goal
 
 pub returns : goal.returns
 returns g c =

@@ -1,0 +1,179 @@
+//! What loads, inserts and removals do to one inner node of an arena.
+ghost use Rattle.std.specs.Prelude.{◌≡◌, ◌≢◌, ◌<◌, ◌≤◌, ◌-◌, ◌^◌, length, take, drop};
+ghost use Rattle.std.specs.Mem.{FitsInMemory};
+ghost use Rattle.art_header.specs.NodeType.{most_children};
+ghost use Rattle.art_header.specs.declared.node_type.NodeType.TheVariants.{Leaf};
+ghost use Rattle.art_nodes.specs.ChildMap.{IsAscending, key_bytes};
+ghost use Rattle.art_nodes.specs.Inner.{Inner, HasRoomFor, node_with_child};
+ghost use Rattle.art_nodes.specs.Pointers.{node_kind, slab_key};
+ghost use Rattle.art_arena.specs.Arena.{held, HeldInner, Nothing, pointer_to, room, Changes};
+ghost use Rattle.art_arena.specs.Links.{HoldsLeaf, text_at};
+ghost use Rattle.art_tree.specs.Edits.{IsReplaced};
+ghost use Rattle.art_tree.specs.Hanging.{CanHang, IsHung};
+ghost use Rattle.art_tree.specs.Raising.{node_of, IsPlaced};
+
+use art_arena::{ArenaInnerNode, ArenaNode, NodeArena};
+use art_bytes::AsBytes;
+use art_nodes::{ConcreteNodePtr, InnerNodeCommon, LeafNode, Node, NodePtr, OpaqueNodePtr};
+
+/// How many children the inner node at the pointer has.
+pub(crate) fn num_children<K, V, const PREFIX_LEN: usize>(
+    arena: &NodeArena<K, V, PREFIX_LEN>,
+    pointer: OpaqueNodePtr<K, V, PREFIX_LEN>,
+) -> usize
+    requires held { held arena.now pointer ≢ Nothing }
+    requires inner { node_kind pointer ≢ Leaf }
+    ensures count { (node : Inner _) → held arena.now pointer ≡ HeldInner node →
+        result ≡ length node.children }
+    ensures fits { (node : Inner _) → held arena.now pointer ≡ HeldInner node →
+        result ≤ most_children (node_kind pointer) }
+{
+    arena.header(pointer).unwrap().num_children()
+}
+
+/// Writes the child under the byte of the inner node at the pointer.
+pub(crate) fn write_child<K, V, const PREFIX_LEN: usize>(
+    arena: &mut NodeArena<K, V, PREFIX_LEN>,
+    pointer: OpaqueNodePtr<K, V, PREFIX_LEN>,
+    byte: u8,
+    child: OpaqueNodePtr<K, V, PREFIX_LEN>,
+)
+    requires held { held arena.old pointer ≢ Nothing }
+    requires inner { node_kind pointer ≢ Leaf }
+    requires has_room { (node : Inner _) → held arena.old pointer ≡ HeldInner node →
+        HasRoomFor (most_children (node_kind pointer)) node byte }
+    ensures { (node : Inner _) → held arena.old pointer ≡ HeldInner node →
+        Changes arena.old arena.new pointer (HeldInner (node_with_child node byte child)) }
+{
+    match pointer.to_node_ptr() {
+        ConcreteNodePtr::Node4(node) => arena.as_mut(node).write_child(byte, child),
+        ConcreteNodePtr::Node16(node) => arena.as_mut(node).write_child(byte, child),
+        ConcreteNodePtr::Node48(node) => arena.as_mut(node).write_child(byte, child),
+        ConcreteNodePtr::Node256(node) => arena.as_mut(node).write_child(byte, child),
+        ConcreteNodePtr::LeafNode(_) => unreachable!(),
+    }
+}
+
+/// Hangs a node where another one hung, under its parent or as the root. Answers the root.
+pub(crate) fn hang<K, V, const PREFIX_LEN: usize>(
+    arena: &mut NodeArena<K, V, PREFIX_LEN>,
+    root: OpaqueNodePtr<K, V, PREFIX_LEN>,
+    parent: Option<(OpaqueNodePtr<K, V, PREFIX_LEN>, u8)>,
+    node: OpaqueNodePtr<K, V, PREFIX_LEN>,
+) -> OpaqueNodePtr<K, V, PREFIX_LEN>
+    requires { CanHang arena.old parent }
+    ensures { IsHung arena.old arena.new parent node root result }
+{
+    let Some((parent, byte)) = parent else {
+        return node;
+    };
+    write_child(arena, parent, byte, node);
+    root
+}
+
+// The inner node with this prefix and these children.
+fn inner_node<K, V, const PREFIX_LEN: usize, N: InnerNodeCommon<K, V, PREFIX_LEN>>(
+    prefix: &[u8],
+    children: &[(u8, OpaqueNodePtr<K, V, PREFIX_LEN>)],
+) -> N
+    requires memory { FitsInMemory N.row }
+    requires short { length prefix.now < 2 ^ 32 }
+    requires two { 2 ≤ length children.now }
+    requires fits { length children.now ≤ N.room }
+    requires ascending { IsAscending (key_bytes children.now) }
+    ensures { N.inner result ≡ node_of PREFIX_LEN prefix.now children.now }
+{
+    let (byte, child) = children[0];
+    let first = N::builder(prefix, prefix.len()).write_child(byte, child);
+    let (byte, child) = children[1];
+    let mut builder = first.write_child(byte, child);
+    for i in 2..children.len() {
+        let (byte, child) = children[i];
+        builder = builder.write_child(byte, child);
+    }
+    builder.build()
+}
+
+// Places the inner node of one type whose prefix the leaf's text has from `start` to `end`.
+pub(crate) fn place_as<
+    K: AsBytes,
+    V,
+    const PREFIX_LEN: usize,
+    N: ArenaInnerNode<K, V, PREFIX_LEN> + Node<PREFIX_LEN, Key = K, Value = V>,
+>(
+    arena: &mut NodeArena<K, V, PREFIX_LEN>,
+    leaf: NodePtr<PREFIX_LEN, LeafNode<K, V, PREFIX_LEN>>,
+    start: usize,
+    end: usize,
+    children: &[(u8, OpaqueNodePtr<K, V, PREFIX_LEN>)],
+) -> OpaqueNodePtr<K, V, PREFIX_LEN>
+    requires memory { FitsInMemory N.row }
+    requires held { HoldsLeaf arena.old (slab_key leaf) }
+    requires ordered { start ≤ end }
+    requires within { end ≤ length (text_at K.text arena.old (slab_key leaf)) }
+    requires short { end < 2 ^ 32 }
+    requires two { 2 ≤ length children.now }
+    requires fits { length children.now ≤ N.room }
+    requires ascending { IsAscending (key_bytes children.now) }
+    requires room { 0 < room arena.old N.TYPE }
+    ensures { IsPlaced arena.old arena.new N.TYPE
+        (node_of PREFIX_LEN
+        (take (end - start) (drop start (text_at K.text arena.old (slab_key leaf)))) children.now)
+        result }
+{
+    let text = arena.as_key_ref(leaf).as_bytes();
+    let node: N = inner_node(&text[start..end], children);
+    arena.allocate_node_ptr(node).unwrap().to_opaque()
+}
+
+// Gives up a node of one type.
+fn give_up_node<K, V, const PREFIX_LEN: usize, N: ArenaNode<K, V, PREFIX_LEN> + Drop>(
+    arena: &mut NodeArena<K, V, PREFIX_LEN>,
+    node: NodePtr<PREFIX_LEN, N>,
+)
+    requires { held arena.old (pointer_to N.TYPE (slab_key node)) ≢ Nothing }
+    ensures { Changes arena.old arena.new (pointer_to N.TYPE (slab_key node)) Nothing }
+{
+    arena.deallocate_node_ptr(node);
+}
+
+/// Gives up the inner node at the pointer.
+pub(crate) fn give_up<K, V, const PREFIX_LEN: usize>(
+    arena: &mut NodeArena<K, V, PREFIX_LEN>,
+    pointer: OpaqueNodePtr<K, V, PREFIX_LEN>,
+)
+    requires held { held arena.old pointer ≢ Nothing }
+    requires inner { node_kind pointer ≢ Leaf }
+    ensures { Changes arena.old arena.new pointer Nothing }
+{
+    match pointer.to_node_ptr() {
+        ConcreteNodePtr::Node4(node) => give_up_node(arena, node),
+        ConcreteNodePtr::Node16(node) => give_up_node(arena, node),
+        ConcreteNodePtr::Node48(node) => give_up_node(arena, node),
+        ConcreteNodePtr::Node256(node) => give_up_node(arena, node),
+        ConcreteNodePtr::LeafNode(_) => unreachable!(),
+    }
+}
+
+/// Gives up the inner node at the pointer for this one of another kind, and answers where that is.
+// Kept out of its caller, whose stack would have the nodes of each kind several times.
+#[inline(never)]
+pub(crate) fn replace_node<
+    K,
+    V,
+    const PREFIX_LEN: usize,
+    R: ArenaInnerNode<K, V, PREFIX_LEN> + Node<PREFIX_LEN, Key = K, Value = V>,
+>(
+    arena: &mut NodeArena<K, V, PREFIX_LEN>,
+    pointer: OpaqueNodePtr<K, V, PREFIX_LEN>,
+    node: R,
+) -> OpaqueNodePtr<K, V, PREFIX_LEN>
+    requires held { held arena.old pointer ≢ Nothing }
+    requires inner { node_kind pointer ≢ Leaf }
+    requires room { 0 < room arena.old R.TYPE }
+    ensures { IsReplaced arena.old arena.new pointer R.TYPE (R.inner node) result }
+{
+    let placed = arena.allocate_node_ptr(node).unwrap();
+    give_up(arena, pointer);
+    placed.to_opaque()
+}
