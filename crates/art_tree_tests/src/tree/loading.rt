@@ -66,8 +66,14 @@ fn refusals_are_told(rt: HostRuntime) -> Result<(), Fail> {
     let of_a_load = [
         (LoadRefusal::Empty, "no entries"),
         (LoadRefusal::KeyTooLong(0), "entry 0: key too long"),
-        (LoadRefusal::NotAscending(9), "entry 9: key is not below the next one"),
-        (LoadRefusal::Prefix(10), "entry 10: key is a front of the next one"),
+        (
+            LoadRefusal::NotAscending(9),
+            "entry 9: key is not below the next one",
+        ),
+        (
+            LoadRefusal::Prefix(10),
+            "entry 10: key is a front of the next one",
+        ),
         (LoadRefusal::OutOfMemory, "out of memory"),
     ];
     for (refusal, text) in of_a_load {
