@@ -42,6 +42,7 @@ impl AsBytes for String {
     ghost is_key = { λ _. ⊤ };
 
     fn as_bytes(&self) -> &[u8] {
+        // Named, here and in the other keys, so that the check knows each item as a byte.
         let bytes = self.as_bytes();
         bytes
     }

@@ -10,11 +10,11 @@ ghost use Rattle.art_mapped.specs.SequenceLaws.{same_from_joined, joined_keep, j
 use crate::element::Element;
 use crate::fixed::FixedBytes;
 use crate::mapping::{BytesMapping, InjectiveMapping, NoPrefixesMapping, OrderedMapping};
-use crate::sequence::{Joined, are_elements, array_of, joined_bytes};
+use crate::sequence::{IntegerForm, Joined, are_elements, array_of, joined_bytes};
 use std::alloc::{AllocError, Global};
 
 /// Arrays of just `N` elements. Only to write one takes memory.
-impl<F, E: Element<F>, const N: usize> BytesMapping<[E; N]> for Joined<F> {
+impl<F: IntegerForm, E: Element<F>, const N: usize> BytesMapping<[E; N]> for Joined<F> {
     type Bytes = Vec<u8>;
 
     const ALLOCATES: bool = true;
@@ -54,14 +54,14 @@ impl<F, E: Element<F>, const N: usize> BytesMapping<[E; N]> for Joined<F> {
     }
 }
 
-impl<F, E: Element<F>, const N: usize> InjectiveMapping<[E; N]> for Joined<F> {
+impl<F: IntegerForm, E: Element<F>, const N: usize> InjectiveMapping<[E; N]> for Joined<F> {
     ghost decided_by_text = { λ x y x_in y_in same. same_from_joined E.keeps x y x_in.1 y_in.1 refl same };
 }
 
-impl<F, E: Element<F>, const N: usize> OrderedMapping<[E; N]> for Joined<F> {
+impl<F: IntegerForm, E: Element<F>, const N: usize> OrderedMapping<[E; N]> for Joined<F> {
     ghost keeps_order = { λ x y x_in y_in. joined_keep E.keeps x y x_in.1 y_in.1 };
 }
 
-impl<F, E: Element<F>, const N: usize> NoPrefixesMapping<[E; N]> for Joined<F> {
+impl<F: IntegerForm, E: Element<F>, const N: usize> NoPrefixesMapping<[E; N]> for Joined<F> {
     ghost no_prefixes = { joined_front_is_whole E.keeps N };
 }

@@ -4,6 +4,7 @@ ghost use Rattle.std.specs.Prelude.{◌≡◌, ℕ, length};
 use art_bytes::AsBytes;
 
 mod sealed {
+    /// No other crate can name this, so none can add an impl.
     pub trait Sealed {}
 
     impl<const N: usize> Sealed for [u8; N] {}

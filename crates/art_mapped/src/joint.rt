@@ -1,5 +1,5 @@
 //! Parts of fixed width, one behind the other, as tuples are written.
-ghost use Rattle.std.specs.Prelude.{◌≡◌, ◌↔◌, ◌++◌, ◌+◌, ◌||◌, ℕ, List, Bool, false, IsTrue, IsOk, OnOk, IfOk};
+ghost use Rattle.std.specs.Prelude.{◌≡◌, ◌↔◌, ◌++◌, ◌+◌, ◌-◌, ◌^◌, ◌||◌, ℕ, List, Bool, false, IsTrue, IsOk, OnOk, IfOk, min};
 ghost use Rattle.art_mapped.specs.Mapping.{StandsForSome};
 ghost use Rattle.art_mapped.specs.Tuples.{IsPart, IsTextOf, Both, both_texts, AreSameBoth, StandsForBoth, TextLaws, OrderLaws};
 ghost use Rattle.art_mapped.specs.TupleLaws.{part_laws, both_laws, both_order};
@@ -33,9 +33,9 @@ pub trait Joint<D> {
     /// The text is that of bytes that stand for the value.
     ghost stands_for: { List ℕ → D → Type 0 };
 
-    /// How many bytes to make room for: those of all parts, and at most `usize::MAX`. A hint alone, of
-    /// which no clause speaks.
-    fn room() -> usize;
+    /// How many bytes to make room for: those of all parts, and at most `usize::MAX`.
+    fn room() -> usize
+        ensures { result ≡ min width (2 ^ 64 - 1) };
 
     /// Writes the bytes of the parts behind those that are there. Where memory is refused, the value has
     /// been dropped and some of its bytes may have been written.

@@ -9,11 +9,11 @@ ghost use Rattle.art_mapped.specs.SequenceLaws.{same_from_joined, joined_keep};
 
 use crate::element::Element;
 use crate::mapping::{BytesMapping, InjectiveMapping, OrderedMapping};
-use crate::sequence::{Joined, are_elements, joined_bytes, vec_of};
+use crate::sequence::{IntegerForm, Joined, are_elements, joined_bytes, vec_of};
 use std::alloc::{AllocError, Global};
 
 /// Vectors, a shorter front first. The bytes of one may begin another's, so these keys are not free of prefixes.
-impl<F, E: Element<F>> BytesMapping<Vec<E>> for Joined<F> {
+impl<F: IntegerForm, E: Element<F>> BytesMapping<Vec<E>> for Joined<F> {
     type Bytes = Vec<u8>;
 
     const ALLOCATES: bool = true;
@@ -53,10 +53,10 @@ impl<F, E: Element<F>> BytesMapping<Vec<E>> for Joined<F> {
     }
 }
 
-impl<F, E: Element<F>> InjectiveMapping<Vec<E>> for Joined<F> {
+impl<F: IntegerForm, E: Element<F>> InjectiveMapping<Vec<E>> for Joined<F> {
     ghost decided_by_text = { λ x y x_in y_in same. same_from_joined E.keeps x.items y.items x_in y_in refl same };
 }
 
-impl<F, E: Element<F>> OrderedMapping<Vec<E>> for Joined<F> {
+impl<F: IntegerForm, E: Element<F>> OrderedMapping<Vec<E>> for Joined<F> {
     ghost keeps_order = { λ x y. joined_keep E.keeps x.items y.items };
 }

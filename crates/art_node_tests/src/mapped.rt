@@ -49,6 +49,10 @@ fn numbers_addresses_and_sequences_as_bytes(rt: HostRuntime) -> Result<(), Fail>
     written::<ToIBE, i64>(&rt, alloc, -1, &[127, 255, 255, 255, 255, 255, 255, 255])?;
     let value = NonZeroI16::new(256).expect(&rt, "256 is not 0");
     written::<ToIBE, NonZeroI16>(&rt, alloc, value, &[129, 0])?;
+    let value = NonZeroI8::new(-1).expect(&rt, "-1 is not 0");
+    written::<ToIBE, NonZeroI8>(&rt, alloc, value, &[127])?;
+    let value = NonZeroU16::new(258).expect(&rt, "258 is not 0");
+    written::<ToUBE, NonZeroU16>(&rt, alloc, value, &[1, 2])?;
     written::<ToOctets, Ipv4Addr>(&rt, alloc, Ipv4Addr::BROADCAST, &[255, 255, 255, 255])?;
     let loopback = [0, 0, 0, 0, 0, 0, 0, 0, 0, 0, 0, 0, 0, 0, 0, 1];
     written::<ToOctets, Ipv6Addr>(&rt, alloc, Ipv6Addr::LOCALHOST, &loopback)?;

@@ -2,12 +2,20 @@
 ghost use Rattle.std.specs.Prelude.{◌≡◌, ◌↔◌, ◌++◌, ℕ, List, IsTrue, IsOk, IfOk};
 ghost use Rattle.std.specs.Net.Addr.{ipv4_octets};
 ghost use Rattle.art_mapped.specs.Mapped.{mapped_text, HoldsValue};
-ghost use Rattle.art_mapped.specs.Numbers.{signed_text};
+ghost use Rattle.art_mapped.specs.Numbers.{digits, signed_text};
 
 use super::*;
 use art_mapped::InjectiveMapping;
 
 type Route = ConcatTuple<(ToOctets, ToIBE)>;
+
+type Priced = ConcatTuple<(ToOctets, ToUBE, ToIBE)>;
+
+type Labelled = ConcatTuple<(ToOctets, ToUBE, ToIBE, Identity)>;
+
+type Counted = ConcatTuple<(ToOctets, ToUBE, ToIBE, ToUBE, ToIBE)>;
+
+type Ranked = ConcatTuple<(ToOctets, ToUBE, ToIBE, Identity, ToUBE, ToIBE)>;
 
 type Named = ConcatTuple<(Identity, ToUBE)>;
 
@@ -20,6 +28,66 @@ fn route(
     ensures { IfOk result (λ key. mapped_text key ≡ ipv4_octets to ++ signed_text 4 cost) }
 {
     Mapped::new(alloc, (to, cost))
+}
+
+/// Of three parts each is worked by the mapping in its own place.
+fn priced(
+    alloc: Global,
+    to: Ipv4Addr,
+    port: u16,
+    cost: i32,
+) -> Result<Mapped<Priced, (Ipv4Addr, u16, i32)>, AllocError>
+    ensures { IfOk result (λ key.
+        mapped_text key ≡ (ipv4_octets to ++ digits 2 port) ++ signed_text 4 cost) }
+{
+    Mapped::new(alloc, (to, port, cost))
+}
+
+/// So is each of four parts.
+fn labelled(
+    alloc: Global,
+    to: Ipv4Addr,
+    port: u16,
+    cost: i32,
+    label: [u8; 3],
+) -> Result<Mapped<Labelled, (Ipv4Addr, u16, i32, [u8; 3])>, AllocError>
+    ensures { IfOk result (λ key.
+        mapped_text key ≡ ((ipv4_octets to ++ digits 2 port) ++ signed_text 4 cost) ++ label) }
+{
+    Mapped::new(alloc, (to, port, cost, label))
+}
+
+/// So is each of five parts.
+fn counted(
+    alloc: Global,
+    to: Ipv4Addr,
+    port: u16,
+    cost: i32,
+    count: u16,
+    rank: i32,
+) -> Result<Mapped<Counted, (Ipv4Addr, u16, i32, u16, i32)>, AllocError>
+    ensures { IfOk result (λ key. mapped_text key ≡
+        (((ipv4_octets to ++ digits 2 port) ++ signed_text 4 cost) ++ digits 2 count)
+        ++ signed_text 4 rank) }
+{
+    Mapped::new(alloc, (to, port, cost, count, rank))
+}
+
+/// So is each of six parts.
+fn ranked(
+    alloc: Global,
+    to: Ipv4Addr,
+    port: u16,
+    cost: i32,
+    label: [u8; 3],
+    count: u64,
+    rank: i8,
+) -> Result<Mapped<Ranked, (Ipv4Addr, u16, i32, [u8; 3], u64, i8)>, AllocError>
+    ensures { IfOk result (λ key. mapped_text key ≡
+        ((((ipv4_octets to ++ digits 2 port) ++ signed_text 4 cost) ++ label) ++ digits 8 count)
+        ++ signed_text 1 rank) }
+{
+    Mapped::new(alloc, (to, port, cost, label, count, rank))
 }
 
 /// Both parts come back as they went in.
@@ -76,6 +144,7 @@ where
     assert!(rt; less_key.as_bytes() < more_key.as_bytes());
     assert!(rt; !more_key.as_bytes().starts_with(less_key.as_bytes()));
     assert!(rt; less_key.get(alloc)? == less);
+    assert!(rt; more_key.get(alloc)? == more);
     Ok(())
 }
 
@@ -92,6 +161,39 @@ fn copy_tuple_as_bytes(rt: HostRuntime) -> Result<(), Fail> {
         Ipv4Addr::LOCALHOST,
     );
     written::<Mixed, (NonZeroI16, Ipv4Addr)>(&rt, alloc, value, &[129, 0, 127, 0, 0, 1])?;
+    Ok(())
+}
+
+#[test]
+fn three_parts_stand_in_their_own_places(rt: HostRuntime) -> Result<(), Fail> {
+    let key = priced(rt.alloc(), Ipv4Addr::LOCALHOST, 258, -1)?;
+    assert!(rt; key.as_bytes() == [127, 0, 0, 1, 1, 2, 127, 255, 255, 255].as_slice());
+    Ok(())
+}
+
+#[test]
+fn four_parts_stand_in_their_own_places(rt: HostRuntime) -> Result<(), Fail> {
+    let text = [127, 0, 0, 1, 1, 2, 127, 255, 255, 255, 119, 101, 98];
+    let key = labelled(rt.alloc(), Ipv4Addr::LOCALHOST, 258, -1, *b"web")?;
+    assert!(rt; key.as_bytes() == text.as_slice());
+    Ok(())
+}
+
+#[test]
+fn five_parts_stand_in_their_own_places(rt: HostRuntime) -> Result<(), Fail> {
+    let text = [127, 0, 0, 1, 1, 2, 127, 255, 255, 255, 0, 7, 128, 0, 0, 212];
+    let key = counted(rt.alloc(), Ipv4Addr::LOCALHOST, 258, -1, 7, 212)?;
+    assert!(rt; key.as_bytes() == text.as_slice());
+    Ok(())
+}
+
+#[test]
+fn six_parts_stand_in_their_own_places(rt: HostRuntime) -> Result<(), Fail> {
+    let text = [
+        127, 0, 0, 1, 1, 2, 127, 255, 255, 255, 119, 101, 98, 0, 0, 0, 0, 0, 0, 0, 1, 0,
+    ];
+    let key = ranked(rt.alloc(), Ipv4Addr::LOCALHOST, 258, -1, *b"web", 1, -128)?;
+    assert!(rt; key.as_bytes() == text.as_slice());
     Ok(())
 }
 
