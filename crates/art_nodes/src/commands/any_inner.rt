@@ -10,6 +10,7 @@ use crate::inner_nodes::inner_node_direct::InnerNodeDirect;
 use crate::inner_nodes::inner_node_indirect::InnerNode48;
 use crate::inner_nodes::inner_node_sorted::{InnerNode4, InnerNode16};
 use crate::inner_nodes::node::InnerNodeCommon;
+use crate::iteration::child_iter::ChildIter;
 use crate::pointers::OpaqueNodePtr;
 use art_header::{Header, NodeType};
 use std::alloc::{AllocError, Global};
@@ -23,6 +24,21 @@ pub(crate) enum AnyInner<K, V, const PREFIX_LEN: usize> {
     Node16(InnerNode16<K, V, PREFIX_LEN>),
     Node48(InnerNode48<K, V, PREFIX_LEN>),
     Node256(InnerNodeDirect<K, V, PREFIX_LEN>),
+}
+
+// The pairs in a vector with room for so many.
+fn gathered<K, V, const PREFIX_LEN: usize>(
+    alloc: Global,
+    pairs: ChildIter<'_, K, V, PREFIX_LEN>,
+    count: usize,
+) -> Result<Vec<(u8, OpaqueNodePtr<K, V, PREFIX_LEN>)>, AllocError>
+    ensures { IfOk result (λ gathered. gathered.items ≡ pairs.entry) }
+{
+    let mut gathered = Vec::with_capacity(alloc, count)?;
+    for pair in pairs {
+        gathered.push(pair)?;
+    }
+    Ok(gathered)
 }
 
 // Runs an expression on the node, of whichever kind it is.
@@ -123,7 +139,8 @@ impl<K, V, const PREFIX_LEN: usize> AnyInner<K, V, PREFIX_LEN> {
         ensures { let children = (inner_of self.now).children in
             IfOk result (λ pairs. pairs.items ≡ pairs_within children start end) }
     {
-        with_node!(self, node => node.range(start, end)).collect(alloc)
+        let pairs = with_node!(self, node => node.range(start, end));
+        gathered(alloc, pairs, self.num_children())
     }
 
     /// Whether the node has as many children as its kind holds.

@@ -170,3 +170,6 @@ impl<K, V, const PREFIX_LEN: usize> InnerNodeCommon<K, V, PREFIX_LEN>
         self.child_pointers.pairs().next_back().unwrap()
     }
 }
+
+#[cfg(test)]
+mod tests;
