@@ -1,7 +1,11 @@
 -- Commands that lines say, one after another.
-use Rattle.std.proofs.Common.{◌≡◌, ℕ, List, [], ◌∷◌, ◌++◌, length, refl, arith, append_assoc, append-nil}
-use Rattle.std.specs.Prelude.{Bool, true, false}
+use Rattle.std.proofs.Common.{◌≡◌, ◌≢◌, ℕ, List, [], ◌∷◌, ◌++◌, length, refl, arith, append_assoc, append-nil, drop, ◌+◌, ◌<◌, get_or, ap, sym, ◌∙◌}
+use Rattle.std.proofs.lemmas.List.{length-append, length-drop, get_or-drop, drop_more}
+use Rattle.std.specs.Prelude.{Bool, true, false, Result, Err}
 use Rattle.art_cli.specs.Lines.{lines_of, SayAll}
+use Rattle.art_cli.specs.Command.{BeginWithName, HaveTheirNumber, IsFaultOf}
+use Rattle.art_cli.specs.declared.failure.LineFault.{LineFault}
+use Rattle.art_cli.specs.declared.failure.LineFault.TheVariants.{UnknownCommand, WrongNumberOfWords, BadNumber, KeyTooLong, FrontOfOther}
 
 module _ {C : Type 0} (Say : List ℕ → C → Type 0) where
   -- before the first line
@@ -34,3 +38,28 @@ module _ {C : Type 0} (Say : List ℕ → C → Type 0) where
 pub empty_list : {X : Type 0} (items : List X) → length items ≡ 0 → items ≡ []
 empty_list [] none = refl
 empty_list (x ∷ items) none = absurd (omega arith)
+
+-- nothing is dropped before the first line
+pub drop_first : {C : Type 0} (lines : List (List ℕ)) (items : List C) → items ≡ [] → drop (length items) lines ≡ lines
+drop_first lines items none = rw none refl
+
+-- a line more is dropped
+pub drop_next : {C : Type 0} (lines others : List (List ℕ)) (line : List ℕ) (items longer : List C) (command : C) → drop (length items) lines ≡ line ∷ others → longer ≡ items ++ command ∷ [] → drop (length longer) lines ≡ others
+drop_next lines others line items longer command cut pushed =
+    let count : length longer ≡ length items + 1 = ap length pushed ∙ length-append items (command ∷ []) in
+    let within : length items < length lines = omega (arith, ap length cut, length-drop (length items) lines) in
+    let parts : line ∷ others ≡ get_or lines (length items) [] ∷ drop (length items + 1) lines = sym cut ∙ drop_more lines (length items) [] within in
+    rw count (sym (ap (drop 1) parts))
+
+-- the line after those that are dropped
+pub line_after : (lines others : List (List ℕ)) (line : List ℕ) (count : ℕ) → drop count lines ≡ line ∷ others → get_or lines count [] ≡ line
+line_after lines others line count cut =
+    ap (λ at. get_or lines at []) (grind arith) ∙ sym (get_or-drop count lines 0 []) ∙ ap (λ rest. get_or rest 0 []) cut
+
+-- a fault of words by what each fault says of them
+pub fault_of : {C : Type 0} (words : List (List ℕ)) (result : Result C LineFault) → (result ≡ Err UnknownCommand → ¬ BeginWithName words) → (result ≡ Err WrongNumberOfWords → BeginWithName words) → (result ≡ Err WrongNumberOfWords → ¬ HaveTheirNumber words) → (result ≡ Err BadNumber → HaveTheirNumber words) → (result ≢ Err KeyTooLong) × (result ≢ Err FrontOfOther) → (fault : LineFault) → result ≡ Err fault → IsFaultOf words fault
+fault_of words result unknown known miscounted counted others UnknownCommand is = unknown is
+fault_of words result unknown known miscounted counted others WrongNumberOfWords is = (known is, miscounted is)
+fault_of words result unknown known miscounted counted others BadNumber is = counted is
+fault_of words result unknown known miscounted counted others KeyTooLong is = others.0 is
+fault_of words result unknown known miscounted counted others FrontOfOther is = others.1 is

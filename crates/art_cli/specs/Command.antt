@@ -1,10 +1,12 @@
 -- What the lines of `replay` say.
-use Rattle.std.specs.Prelude.{◌≡◌, ℕ, ◌^◌, ◌<◌, ◌≤◌, List, All, [], ◌∷◌, ◌⊎◌, Bool, codes, length}
+use Rattle.std.specs.Prelude.{◌≡◌, ℕ, ◌^◌, ◌<◌, ◌≤◌, List, All, [], ◌∷◌, ◌⊎◌, Bool, codes, length, get_or}
 use Rattle.std.specs.Int.{IsInRange}
 use Rattle.std.specs.Str.Parse.{digits_value}
 use Rattle.std.specs.declared.ops.Bound.{Bound}
 use Rattle.std.specs.declared.ops.Bound.TheVariants.{Included, Excluded, Unbounded}
 use Rattle.art_cli.specs.Lines.{words_of, SayAll}
+use Rattle.art_cli.specs.declared.failure.LineFault.{LineFault}
+use Rattle.art_cli.specs.declared.failure.LineFault.TheVariants.{UnknownCommand, WrongNumberOfWords, BadNumber}
 use Rattle.art_nodes.specs.declared.NodeType.TheVariants.{Leaf}
 use Rattle.art_nodes.specs.Pointers.{node_kind, opaque_key}
 use Rattle.art_nodes.specs.declared.ChildCommand.{ChildCommand}
@@ -60,6 +62,17 @@ HaveTheirNumber (name ∷ []) = (name ≡ codes "min") ⊎ (name ≡ codes "max"
 HaveTheirNumber (name ∷ byte ∷ []) = (name ≡ codes "r") ⊎ (name ≡ codes "l")
 HaveTheirNumber (name ∷ first ∷ second ∷ []) = (name ≡ codes "w") ⊎ (name ≡ codes "range")
 HaveTheirNumber words = ⊥
+
+-- what is wrong with words that say no command: their name, or else their number, or else one of the words after the name
+abbrev pub IsFaultOf : List (List ℕ) → LineFault → Type 0
+IsFaultOf words UnknownCommand = ¬ BeginWithName words
+IsFaultOf words WrongNumberOfWords = BeginWithName words × (¬ HaveTheirNumber words)
+IsFaultOf words BadNumber = HaveTheirNumber words
+IsFaultOf words _ = ⊥
+
+-- the line that comes after so many has this fault
+abbrev pub IsFaultAfter : List (List ℕ) → ℕ → LineFault → Type 0
+IsFaultAfter lines count = IsFaultOf (words_of (get_or lines count []))
 
 module _ {K V : Type 0} {P : ℕ} where
   -- lines and their commands, one a line, up to a line that says none where they are not the whole

@@ -1,7 +1,7 @@
 -- What the lines of `find` say, and which entries there are after them.
-use Rattle.std.specs.Prelude.{◌≡◌, ◌≢◌, ◌⊎◌, ℕ, ◌+◌, ◌<◌, ◌≤◌, ◌^◌, List, [], ◌∷◌, ◌++◌, Option, None, Some, bytes_eq, length}
+use Rattle.std.specs.Prelude.{◌≡◌, ◌≢◌, ℕ, ◌+◌, ◌<◌, ◌≤◌, ◌^◌, List, [], ◌∷◌, ◌++◌, Option, None, Some, bytes_eq, length}
 use Rattle.std.specs.Map.{update}
-use Rattle.art_tree.specs.Dictionary.{IsProperFront}
+use Rattle.art_tree.specs.Dictionary.{AreAtOdds}
 use Rattle.art_cli.specs.declared.failure.LineFault.{LineFault}
 use Rattle.art_cli.specs.declared.failure.LineFault.TheVariants.{KeyTooLong, FrontOfOther}
 use Rattle.art_cli.specs.declared.find.command.TreeCommand.{TreeCommand}
@@ -45,13 +45,13 @@ after_all entries (command ∷ commands) = after_all (after entries command) com
 
 -- a text that has an entry is a proper front of the key, or the key of it
 abbrev pub IsFrontOfOther : Entries → List ℕ → Type 0
-IsFrontOfOther entries key = (other : List ℕ) × (entries.number_of other ≢ None) × (IsProperFront other key ⊎ IsProperFront key other)
+IsFrontOfOther entries key = (other : List ℕ) × (entries.number_of other ≢ None) × AreAtOdds other key
 
 -- why an entry with this key is refused beside these
-abbrev pub IsRefused : Entries → List ℕ → LineFault → Type 0
-IsRefused entries key KeyTooLong = 2 ^ 32 ≤ length key
-IsRefused entries key FrontOfOther = (length key < 2 ^ 32) × IsFrontOfOther entries key
-IsRefused entries key _ = ⊥
+abbrev pub IsRefusedLine : Entries → List ℕ → LineFault → Type 0
+IsRefusedLine entries key KeyTooLong = 2 ^ 32 ≤ length key
+IsRefusedLine entries key FrontOfOther = (length key < 2 ^ 32) × IsFrontOfOther entries key
+IsRefusedLine entries key _ = ⊥
 
 -- a command enters no entry that is refused
 abbrev pub IsAdmitted : Entries → TreeCommand (List ℕ) → Type 0
@@ -67,4 +67,4 @@ AreAdmitted entries (command ∷ commands) = IsAdmitted entries command × AreAd
 abbrev pub AreRefused : List (TreeCommand (List ℕ)) → ℕ → LineFault → Type 0
 AreRefused commands number fault =
     (before : List (TreeCommand (List ℕ))) × (key : List ℕ) × (others : List (TreeCommand (List ℕ))) × (commands ≡ before ++ Insert key ∷ others)
-    × (number ≡ length before + 1) × AreAdmitted no_entries before × IsRefused (after_all no_entries before) key fault
+    × (number ≡ length before + 1) × AreAdmitted no_entries before × IsRefusedLine (after_all no_entries before) key fault

@@ -1,18 +1,18 @@
 -- What the program prints for an input, and why it gives one up.
-use Rattle.std.specs.Prelude.{◌≡◌, ℕ, List, [], Option, String, true, false, ◌+◌, ◌⊎◌, take, length}
+use Rattle.std.specs.Prelude.{◌≡◌, ℕ, List, [], Option, String, true, false, ◌+◌, ◌⊎◌, take, length, IfSome}
 use Rattle.std.specs.Io.KnownBytes.{Keeps, Appends}
 use Rattle.art_bytes.specs.declared.slice_key.SliceKey.{SliceKey}
 use Rattle.art_nodes.specs.Commands.{run_of}
 use Rattle.art_nodes.specs.declared.ChildCommand.{ChildCommand}
 use Rattle.art_cli.specs.declared.failure.LineFault.TheVariants.{UnknownCommand, KeyTooLong, FrontOfOther}
 use Rattle.art_cli.specs.declared.failure.Failure.{Failure}
-use Rattle.art_cli.specs.declared.failure.Failure.TheVariants.{BadLine, OutOfMemory, Device}
+use Rattle.art_cli.specs.declared.failure.Failure.TheVariants.{Usage, BadLine, OutOfMemory, Device}
 use Rattle.art_cli.specs.declared.request.Request.{Request}
 use Rattle.art_cli.specs.declared.request.Request.TheVariants.{Replay, Find0, Find2, Find16}
-use Rattle.art_cli.specs.Failure.{status_of}
-use Rattle.art_cli.specs.Lines.{lines_of, SayAll}
-use Rattle.art_cli.specs.Request.{AskFor}
-use Rattle.art_cli.specs.Command.{SayCommands}
+use Rattle.art_cli.specs.Failure.{status_of, failure_text}
+use Rattle.art_cli.specs.Lines.{lines_of, line, SayAll}
+use Rattle.art_cli.specs.Request.{AskFor, AreTaken}
+use Rattle.art_cli.specs.Command.{SayCommands, IsFaultAfter}
 use Rattle.art_cli.specs.Reply.{output_of}
 use Rattle.art_cli.specs.Find.{SayTreeCommand, no_entries, AreAdmitted, AreRefused}
 use Rattle.art_cli.specs.Answer.{AreReplies}
@@ -39,11 +39,11 @@ IsOutput Find0 = IsFindOutput 0
 IsOutput Find2 = IsFindOutput 2
 IsOutput Find16 = IsFindOutput 16
 
--- the failures of an input of `replay`: the line of this number is the first that says no command
+-- the failures of an input of `replay`: the line of this number is the first that says no command, and it has this fault
 abbrev pub IsReplayFailure : List ℕ → Failure → Type 0
 IsReplayFailure input (BadLine number fault) =
     (commands : List (ChildCommand (Unit {0}) (Unit {0}) 16)) × SayCommands (lines_of input) commands false
-    × (number ≡ length commands + 1)
+    × (number ≡ length commands + 1) × IsFaultAfter (lines_of input) (length commands) fault
 IsReplayFailure input OutOfMemory = Unit {0}
 IsReplayFailure input Device = Unit {0}
 IsReplayFailure input _ = ⊥
@@ -77,6 +77,10 @@ abbrev pub IsFailure : Request → List ℕ → Failure → Type 0
 IsFailure Replay = IsReplayFailure
 IsFailure _ = IsFindFailure
 
+-- a beginning of the text, and nothing else, is written
+abbrev pub AppendsBeginning : Option (List ℕ) → Option (List ℕ) → List ℕ → Type 0
+AppendsBeginning old new text = (count : ℕ) × Appends old new (take count text)
+
 module _ {A : Type 0} where
   -- the output that the words ask for
   abbrev pub IsAsked : List (String A) → List ℕ → List ℕ → Type 0
@@ -91,9 +95,15 @@ module _ {A : Type 0} where
   IsBad words input =
       (request : Request) × AskFor words request × (failure : Failure) × (status_of failure ≡ 2) × IsFailure request input failure
 
--- a beginning of the text, and nothing else, is written
-abbrev pub AppendsBeginning : Option (List ℕ) → Option (List ℕ) → List ℕ → Type 0
-AppendsBeginning old new text = (count : ℕ) × Appends old new (take count text)
+  -- the failures that there may be: of bad words, or of the input of good ones
+  abbrev pub IsRunFailure : List (String A) → Option (List ℕ) → Failure → Type 0
+  IsRunFailure words input Usage = ¬ AreTaken words
+  IsRunFailure words input failure = (request : Request) × AskFor words request × IfSome input (λ given. IsFailure request given failure)
+
+  -- a beginning of the line of such a failure, which has this status, and nothing else, is written
+  abbrev pub Tells : List (String A) → Option (List ℕ) → ℕ → Option (List ℕ) → Option (List ℕ) → Type 0
+  Tells words input status old new =
+      (failure : Failure) × (status_of failure ≡ status) × IsRunFailure words input failure × AppendsBeginning old new (line (failure_text failure))
 
 -- nothing is written, or a beginning of the output that the words ask for
 abbrev pub PrintsBeginning : {A : Type 0} → List (String A) → List ℕ → Option (List ℕ) → Option (List ℕ) → Type 0

@@ -1,6 +1,7 @@
 //! What ends a run before its answers are out.
 ghost use Rattle.std.specs.Prelude.{◌≡◌};
 
+use crate::writing::write_line;
 use std::alloc::{AllocError, AllocFailed};
 use std::io::Write;
 use std::{fmt, io};
@@ -51,7 +52,9 @@ pub enum Failure {
 }
 
 impl Failure {
-    ghost use Rattle.art_cli.specs.Failure.{status_of};
+    ghost use Rattle.art_cli.specs.Failure.{status_of, failure_text};
+    ghost use Rattle.art_cli.specs.Lines.{line};
+    ghost use Rattle.art_cli.specs.Program.{AppendsBeginning};
 
     /// The exit status: 2 for bad words or bad input, 1 for want of memory or a failed device.
     pub fn status(self) -> u8
@@ -63,12 +66,14 @@ impl Failure {
         }
     }
 
-    /// Writes the line that tells of the failure, and answers the status. A failed write changes
-    /// nothing of it.
+    /// Writes the line that tells of the failure, as far as the writer takes it, and answers the
+    /// status. A failed write changes nothing of that.
     pub fn report<E: Write>(self, errors: &mut E) -> u8
-        ensures { result ≡ status_of self }
+        ensures status { result ≡ status_of self }
+        ensures told { AppendsBeginning (E.contents errors.old) (E.contents errors.new)
+            (line (failure_text self)) }
     {
-        let _ = writeln!(errors, "{self}");
+        write_line(errors, self);
         self.status()
     }
 }

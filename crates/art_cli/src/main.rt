@@ -14,6 +14,7 @@ mod replay;
 mod request;
 #[cfg(test)]
 mod tests;
+mod writing;
 
 pub use failure::{Failure, LineFault};
 pub use program::run;

@@ -1,18 +1,18 @@
 //! The program over any reader and writers.
-ghost use Rattle.std.specs.Prelude.{◌≡◌, ◌≢◌, ◌≤◌, IfOk, IfErr, OnOk, OnErr, IfSome, string_bytes};
-ghost use Rattle.std.specs.Io.KnownBytes.{Keeps, Appends, IsAtEnd};
+ghost use Rattle.std.specs.Prelude.{◌≡◌, ◌≢◌, ◌≤◌, IfOk, IfErr, OnOk, IfSome, string_bytes};
+ghost use Rattle.std.specs.Io.KnownBytes.{Keeps, IsAtEnd};
 ghost use Rattle.art_cli.specs.Failure.{status_of};
 ghost use Rattle.art_cli.specs.Request.{AreTaken};
-ghost use Rattle.art_cli.specs.Program.{IsOutput, IsFailure, IsAsked, IsBad};
-ghost use Rattle.art_cli.specs.Program.{Prints, PrintsBeginning, AppendsBeginning};
+ghost use Rattle.art_cli.specs.Program.{IsOutput, IsFailure, IsAsked, IsBad, IsRunFailure};
+ghost use Rattle.art_cli.specs.Program.{Prints, PrintsBeginning, Tells};
 
 use crate::failure::Failure;
 use crate::find::find_text;
 use crate::replay::replay_text;
 use crate::request::{Request, request_of};
+use crate::writing::write_out;
 use art_tree::ArtTree;
 use std::alloc::Global;
-use std::io;
 use std::io::{Read, Write};
 
 /// Runs the program on the words that follow its name, and answers its exit status.
@@ -53,6 +53,10 @@ pub fn run<R: Read, W: Write, E: Write>(
         Keeps (W.contents output.old) (W.contents output.new) }
     ensures success_is_quiet { result ≡ 0 →
         Keeps (E.contents errors.old) (E.contents errors.new) }
+
+    // What is told of a failure.
+    ensures told { result ≢ 0 → Tells words.now (R.remaining input.old) result
+        (E.contents errors.old) (E.contents errors.new) }
 {
     let text = match answer(alloc, words, input) {
         Ok(text) => text,
@@ -73,6 +77,7 @@ fn answer<R: Read>(alloc: Global, words: &[String], input: &mut R) -> Result<Str
         status_of failure ≡ 2 → IsAtEnd (R.remaining input.new)) }
     ensures refused { IfErr result (λ failure. AreTaken words.now → status_of failure ≡ 2 →
         IfSome (R.remaining input.old) (IsBad words.now)) }
+    ensures failure { IfErr result (IsRunFailure words.now (R.remaining input.old)) }
     ensures text { IfOk result (λ text. IfSome (R.remaining input.old)
         (λ given. IsAsked words.now given (string_bytes text))) }
 {
@@ -95,28 +100,4 @@ fn requested_text(alloc: Global, request: Request, input: Vec<u8>) -> Result<Str
         Request::Find2 => find_text(alloc, &mut ArtTree::<_, _, 2>::new(alloc), &input),
         Request::Find16 => find_text(alloc, &mut ArtTree::<_, _, 16>::new(alloc), &input),
     }
-}
-
-// Writes the text, and has a writer that keeps bytes back let them go. Unlike `write_all` it says
-// what a failure leaves.
-#[tactic(auto, using(crate::proofs::Writes::appends_more, crate::proofs::Writes::appends_whole))]
-fn write_out<W: Write>(output: &mut W, text: &[u8]) -> io::Result<()>
-    ensures whole { OnOk result
-        (Appends (W.contents output.old) (W.contents output.new) text.now) }
-    ensures beginning { OnErr result
-        (AppendsBeginning (W.contents output.old) (W.contents output.new) text.now) }
-{
-    let mut written = 0;
-    for _ in 0..u64::MAX {
-        if written >= text.len() {
-            return output.flush();
-        }
-        match output.write(&text[written..]) {
-            Ok(0) => return Err(io::Error::from(io::ErrorKind::WriteZero)),
-            Ok(count) => written += count,
-            Err(error) if error.kind() == io::ErrorKind::Interrupted => {}
-            Err(error) => return Err(error),
-        }
-    }
-    Err(io::Error::from(io::ErrorKind::Interrupted))
 }

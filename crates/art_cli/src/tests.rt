@@ -181,6 +181,15 @@ fn the_first_fault_of_a_line_is_told(rt: HostRuntime) -> Result<(), Fail> {
 }
 
 #[test]
+fn the_longest_failure_is_told_whole(rt: HostRuntime) -> Result<(), Fail> {
+    let line = "line 18446744073709551615: one key is a front of the other\n";
+    let mut errors = Vec::new(rt.alloc());
+    let status = Failure::BadLine(usize::MAX, LineFault::FrontOfOther).report(&mut errors);
+    compare(&rt, b"", &errors, status, &outcome(b"", "", line, 2));
+    Ok(())
+}
+
+#[test]
 fn other_words_are_answered_with_the_usage(rt: HostRuntime) -> Result<(), Fail> {
     let case = outcome(b"w 1", "", USAGE, 2);
     let lists: [&[&str]; 9] = [

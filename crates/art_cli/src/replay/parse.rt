@@ -1,10 +1,10 @@
 //! From the lines of `replay` to its commands.
-ghost use Rattle.std.specs.Prelude.{◌≡◌, ◌≢◌, ℕ, ◌↔◌, [], ◌∷◌, MatchOption, OnErr, IfErr, All, IsTrue, IfOk, is_none, IfSome, IfNone};
+ghost use Rattle.std.specs.Prelude.{◌≡◌, ◌≢◌, ℕ, ◌↔◌, [], ◌∷◌, MatchOption, OnErr, IfErr, All, IsTrue, IfOk, is_none, IfSome, IfNone, length};
 ghost use Rattle.std.specs.Int.{IsInRange};
 ghost use Rattle.std.specs.declared.ops.Bound.{Bound};
 ghost use Rattle.art_cli.specs.Lines.{lines_of, words_of};
 ghost use Rattle.art_cli.specs.Command.{IsNumber, IsByteNumber, IsKey, IsBound, SayCommand, SayCommands, SayNothing};
-ghost use Rattle.art_cli.specs.Command.{IsName, BeginWithName, HaveTheirNumber};
+ghost use Rattle.art_cli.specs.Command.{IsName, BeginWithName, HaveTheirNumber, IsFaultAfter};
 ghost use Rattle.art_cli.specs.Words.{AreWords};
 
 use crate::failure::LineFault;
@@ -20,8 +20,10 @@ use std::str;
 ///
 /// A refusal is for want of memory.
 pub fn parse(alloc: Global, input: &[u8]) -> Result<(Vec<Command>, Option<LineFault>), AllocError>
-    ensures { IfOk result (λ parsed.
+    ensures said { IfOk result (λ parsed.
         SayCommands (lines_of input.now) parsed.0.items (is_none parsed.1)) }
+    ensures fault { IfOk result (λ parsed. IfSome parsed.1
+        (IsFaultAfter (lines_of input.now) (length parsed.0.items))) }
 {
     let lines = input.iter().filter(|byte| **byte == b'\n').count() + 1;
     let mut commands = Vec::with_capacity(alloc, lines)?;
@@ -47,6 +49,7 @@ fn command(line: &[u8]) -> Result<Command, LineFault>
     ensures miscounted { result ≡ Err LineFault.WrongNumberOfWords
         → ¬ (HaveTheirNumber (words_of line.now)) }
     ensures counted { result ≡ Err LineFault.BadNumber → HaveTheirNumber (words_of line.now) }
+    ensures no_entry { (result ≢ Err LineFault.KeyTooLong) × (result ≢ Err LineFault.FrontOfOther) }
 {
     match split_words(line) {
         Words::One(b"min") => Ok(ChildCommand::Min),
@@ -65,7 +68,8 @@ fn command(line: &[u8]) -> Result<Command, LineFault>
 
 // What is wrong with a line of this first word and a number of words that it does not take.
 fn fault_of_count(name: &[u8]) -> LineFault
-    ensures fault { result ≢ LineFault.BadNumber }
+    ensures fault { (result ≢ LineFault.BadNumber)
+        × (result ≢ LineFault.KeyTooLong) × (result ≢ LineFault.FrontOfOther) }
     ensures known { result ≡ LineFault.WrongNumberOfWords → IsName name.now }
     ensures unknown { result ≡ LineFault.UnknownCommand → ¬ (IsName name.now) }
 {

@@ -1,6 +1,6 @@
 use Rattle.std.proofs.Common.{take}
 use Rattle.std.specs.Io.KnownBytes.{Appends}
-use Rattle.art_cli.proofs.program.write_out.Given as goal
+use Rattle.art_cli.proofs.writing.write_out.Given as goal
 
 -- what is written so far
 abbrev pub invariant-loop : goal.invariant-loop
