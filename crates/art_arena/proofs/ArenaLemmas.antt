@@ -9,12 +9,12 @@ use Rattle.art_header.specs.declared.node_type.NodeType.{NodeType}
 use Rattle.art_header.specs.declared.node_type.NodeType.TheVariants.{Node4, Node16, Node48, Node256, Leaf}
 use Rattle.art_header.specs.Header.{Header}
 use Rattle.art_header.specs.NodeType.{most_children}
-use Rattle.art_nodes.specs.Inner.{Inner, IsInner, with_prefix}
-use Rattle.art_nodes.specs.Pointers.{node_kind, opaque_key}
+use Rattle.art_nodes.specs.Inner.{Inner, IsInner, node_with_prefix_of}
+use Rattle.art_nodes.specs.Pointers.{node_kind, opaque_key, opaque_pointer}
 use Rattle.art_nodes.specs.declared.pointers.OpaqueNodePtr.{OpaqueNodePtr}
 use Rattle.art_nodes.specs.declared.leaf_node.LeafNode.{LeafNode}
 use Rattle.art_nodes.proofs.KindLaws.{same_or_differ}
-use Rattle.art_arena.specs.Arena.{ArenaOf, Held, HeldInner, Nothing, held, held_inner, held_leaf, held_under, held_option, pointer_to, Changes, SameNodes, room, slab_room, SameRoom, SameOtherRoom}
+use Rattle.art_arena.specs.Arena.{ArenaOf, Held, HeldInner, Nothing, held, held_inner, held_leaf, held_under, held_option, Changes, SameNodes, room, slab_room, SameRoom, SameOtherRoom}
 
 -- a slab lends a value where it has one
 pub IsSome-lent : {T : Type 0} (lent : Option (Bor T)) {slot : Option T} → option_copied lent ≡ slot → IsSome slot → IsSome lent
@@ -41,7 +41,7 @@ module _ {K V : Type 0} {P : ℕ} {N : Type 0} (kind : NodeType) (slab_of : Aren
     (held_in_slab : (arena : ArenaOf K V P) (key : ℕ) → held_under arena kind key ≡ held_option held_as (get (slab_of arena) key))
     (slab_written : (arena : ArenaOf K V P) (slots : Slab N) → slab_of (with_slab arena slots) ≡ slots)
     (others_kept : (arena : ArenaOf K V P) (slots : Slab N) (other : NodeType) (key : ℕ) → other ≢ kind → held_under (with_slab arena slots) other key ≡ held_under arena other key) where
-  pub Changes-written : (arena : ArenaOf K V P) (slots : Slab N) (key : ℕ) (slot : Option N) → Updates (slab_of arena) slots key slot → Changes arena (with_slab arena slots) (pointer_to kind key) (held_option held_as slot)
+  pub Changes-written : (arena : ArenaOf K V P) (slots : Slab N) (key : ℕ) (slot : Option N) → Updates (slab_of arena) slots key slot → Changes arena (with_slab arena slots) (opaque_pointer kind key) (held_option held_as slot)
   Changes-written arena slots key slot updates = record {
     changed = held_in_slab (with_slab arena slots) key ∙ ap (λ s. held_option held_as (get s key)) (slab_written arena slots) ∙ ap (held_option held_as) updates.changed;
     others = λ pointer other. elim (same_or_differ (node_kind pointer) kind) [
@@ -52,9 +52,9 @@ module _ {K V : Type 0} {P : ℕ} {N : Type 0} (kind : NodeType) (slab_of : Aren
   }
 
   -- the same as a call of the slab says it
-  pub Changes-called : (arena : ArenaOf K V P) (before slots : Slab N) (key at : ℕ) (slot : Option N) → before ≡ slab_of arena → key ≡ at → Updates before slots key slot → Changes arena (with_slab arena slots) (pointer_to kind at) (held_option held_as slot)
+  pub Changes-called : (arena : ArenaOf K V P) (before slots : Slab N) (key at : ℕ) (slot : Option N) → before ≡ slab_of arena → key ≡ at → Updates before slots key slot → Changes arena (with_slab arena slots) (opaque_pointer kind at) (held_option held_as slot)
   Changes-called arena before slots key at slot lent same updates =
-      subst (λ k. Changes arena (with_slab arena slots) (pointer_to kind k) (held_option held_as slot)) same (Changes-written arena slots key slot (subst (λ s. Updates s slots key slot) lent updates))
+      subst (λ k. Changes arena (with_slab arena slots) (opaque_pointer kind k) (held_option held_as slot)) same (Changes-written arena slots key slot (subst (λ s. Updates s slots key slot) lent updates))
 
   -- a slab that gives the same value under each key changes no node
   pub SameNodes-written : (arena : ArenaOf K V P) (slots : Slab N) → ((key : ℕ) → get slots key ≡ get (slab_of arena) key) → SameNodes arena (with_slab arena slots)
@@ -78,10 +78,10 @@ module _ {K V : Type 0} {P : ℕ} {N : Type 0} (kind : NodeType) (slab_of : Aren
     ]
 
 -- the node at a pointer, changed to have another prefix, as the pointer's caller names it
-pub Changes-prefix : {K V : Type 0} {P : ℕ} {old new : ArenaOf K V P} {at pointer : OpaqueNodePtr K V P} {there now node : Inner (OpaqueNodePtr K V P)} (header : Header) → at ≡ pointer → held old at ≡ HeldInner there → now ≡ with_prefix there header → Changes old new at (HeldInner now) → held old pointer ≡ HeldInner node → Changes old new pointer (HeldInner (with_prefix node header))
+pub Changes-prefix : {K V : Type 0} {P : ℕ} {old new : ArenaOf K V P} {at pointer : OpaqueNodePtr K V P} {there now node : Inner (OpaqueNodePtr K V P)} (header : Header) → at ≡ pointer → held old at ≡ HeldInner there → now ≡ node_with_prefix_of there header → Changes old new at (HeldInner now) → held old pointer ≡ HeldInner node → Changes old new pointer (HeldInner (node_with_prefix_of node header))
 Changes-prefix {old = old} {new = new} {at = at} {there = there} {node = node} header same held_there made changes is =
     let same_node : there ≡ node = search rules in
-    subst (λ p. Changes old new p (HeldInner (with_prefix node header))) same (subst (λ n. Changes old new at (HeldInner n)) (made ∙ ap (λ n. with_prefix n header) same_node) changes)
+    subst (λ p. Changes old new p (HeldInner (node_with_prefix_of node header))) same (subst (λ n. Changes old new at (HeldInner n)) (made ∙ ap (λ n. node_with_prefix_of n header) same_node) changes)
 
 -- the node that is held at a pointer of a kind is sound for the pointer's own kind
 pub IsInner-held : {K V : Type 0} {P : ℕ} (arena : ArenaOf K V P) (pointer : OpaqueNodePtr K V P) {kind : NodeType} {there node : Inner (OpaqueNodePtr K V P)} → kind ≡ node_kind pointer → held arena pointer ≡ HeldInner there → IsInner P (most_children kind) there → held arena pointer ≡ HeldInner node → IsInner P (most_children (node_kind pointer)) node

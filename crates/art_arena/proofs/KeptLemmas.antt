@@ -7,10 +7,10 @@ use Rattle.art_header.specs.declared.node_type.NodeType.{NodeType}
 use Rattle.art_header.specs.declared.node_type.NodeType.TheVariants as kinds
 use Rattle.art_nodes.specs.Inner as nodes
 use Rattle.art_nodes.specs.Leaf.{leaf_key, previous_key, next_key}
-use Rattle.art_nodes.specs.Pointers.{node_kind, opaque_key}
+use Rattle.art_nodes.specs.Pointers.{node_kind, opaque_key, opaque_pointer}
 use Rattle.art_nodes.specs.declared.pointers.OpaqueNodePtr.{OpaqueNodePtr}
 use Rattle.art_nodes.specs.declared.leaf_node.LeafNode.{LeafNode}
-use Rattle.art_arena.specs.Arena.{ArenaOf, Held, HeldInner, HeldLeaf, held, held_inner, held_leaf, held_under, pointer_to, Changes}
+use Rattle.art_arena.specs.Arena.{ArenaOf, Held, HeldInner, HeldLeaf, held, held_inner, held_leaf, held_under, Changes}
 use Rattle.art_arena.specs.Links.{SameButLinks, Spells, SpellsAfter, leaf_at}
 use Rattle.art_arena.specs.Standing.{StandsIn, AllStandIn}
 use Rattle.art_arena.specs.Trees.{Tree, Leaf, Inner, Branches, NoBranch, Branch}
@@ -29,7 +29,7 @@ module _ {K V : Type 0} {P : ℕ} where
   leaf_kind arena kinds.Leaf key leaf is = refl
 
   -- where a leaf is held, it is held under the pointer's slab key
-  leaf_place : (arena : ArenaOf K V P) (pointer : OpaqueNodePtr K V P) (leaf : LeafNode K V P) → held arena pointer ≡ HeldLeaf leaf → pointer_to kinds.Leaf (opaque_key pointer) ≡ pointer
+  leaf_place : (arena : ArenaOf K V P) (pointer : OpaqueNodePtr K V P) (leaf : LeafNode K V P) → held arena pointer ≡ HeldLeaf leaf → opaque_pointer kinds.Leaf (opaque_key pointer) ≡ pointer
   leaf_place arena pointer leaf is = let kind = leaf_kind arena (node_kind pointer) (opaque_key pointer) leaf is in λ i. record { node_type = (sym kind) i; key = opaque_key pointer; leaf = record {} }
 
   leaf_under : (arena : ArenaOf K V P) (pointer : OpaqueNodePtr K V P) (leaf : LeafNode K V P) → held arena pointer ≡ HeldLeaf leaf → leaf_at arena (opaque_key pointer) ≡ Some leaf
@@ -56,8 +56,8 @@ module _ {K V : Type 0} {P : ℕ} (text : K → List ℕ) (old new : ArenaOf K V
   pub stands-relinked : (tree : Tree (OpaqueNodePtr K V P)) → SameButLinks old new → StandsIn text old tree → StandsIn text new tree
   stands-relinked tree same stands = tree_stands_on (record { inner = same.inner; leaf = λ key leaf found. let now = same.leaf key leaf found in (now.0, now.1, ap text now.2) }) tree stands
 
-  module _ (key : ℕ) (was now : LeafNode K V P) (found : leaf_at old key ≡ Some was) (changes : Changes old new (pointer_to kinds.Leaf key) (HeldLeaf now)) where
-    stood : held old (pointer_to kinds.Leaf key) ≡ HeldLeaf was
+  module _ (key : ℕ) (was now : LeafNode K V P) (found : leaf_at old key ≡ Some was) (changes : Changes old new (opaque_pointer kinds.Leaf key) (HeldLeaf now)) where
+    stood : held old (opaque_pointer kinds.Leaf key) ≡ HeldLeaf was
     stood = ap held_leaf found
 
     pub stands-exchanged : (tree : Tree (OpaqueNodePtr K V P)) → text (leaf_key now) ≡ text (leaf_key was) → StandsIn text old tree → StandsIn text new tree
@@ -75,7 +75,7 @@ module _ {K V : Type 0} {P : ℕ} (text : K → List ℕ) (old new : ArenaOf K V
         }
 
 module _ {K V : Type 0} {P : ℕ} (old new : ArenaOf K V P) where
-  module _ (key : ℕ) (was now : LeafNode K V P) (found : leaf_at old key ≡ Some was) (changes : Changes old new (pointer_to kinds.Leaf key) (HeldLeaf now)) (same_previous : previous_key now ≡ previous_key was) (same_next : next_key now ≡ next_key was) where
+  module _ (key : ℕ) (was now : LeafNode K V P) (found : leaf_at old key ≡ Some was) (changes : Changes old new (opaque_pointer kinds.Leaf key) (HeldLeaf now)) (same_previous : previous_key now ≡ previous_key was) (same_next : next_key now ≡ next_key was) where
     spelled_on : (before : Option ℕ) (keys : List ℕ) → SpellsAfter old before keys → SpellsAfter new before keys
     spelled_on before [] spelled = tt
     spelled_on before (at ∷ keys) ((leaf, there, previous, next), rest) = (
@@ -97,4 +97,4 @@ module _ {K V : Type 0} {P : ℕ} (old new : ArenaOf K V P) where
     where
       all : (keys : List ℕ) → AllByRecursion (λ key. leaf_at new key ≡ leaf_at old key) keys
       all [] = tt
-      all (key ∷ keys) = (held_leaf-same (leaf_at new key) (leaf_at old key) (changes.others (pointer_to kinds.Leaf key) (λ same. inner (sym (ap node_kind same)))), all keys)
+      all (key ∷ keys) = (held_leaf-same (leaf_at new key) (leaf_at old key) (changes.others (opaque_pointer kinds.Leaf key) (λ same. inner (sym (ap node_kind same)))), all keys)

@@ -7,12 +7,12 @@ use Rattle.std.proofs.lemmas.List.Elements.{All-head, All-tail}
 use Rattle.std.proofs.lemmas.Bool.{cases_eq}
 use Rattle.std.proofs.lemmas.Option.{same_Some}
 use Rattle.art_header.specs.declared.node_type.NodeType.TheVariants as kinds
-use Rattle.art_nodes.specs.Pointers.{opaque_key, slab_key}
+use Rattle.art_nodes.specs.Pointers.{opaque_key, slab_key, opaque_pointer}
 use Rattle.art_nodes.specs.declared.pointers.NodePtr.{NodePtr}
 use Rattle.art_nodes.specs.Leaf.{leaf_key, leaf_value, previous_key, next_key, with_value}
 use Rattle.art_nodes.specs.declared.pointers.OpaqueNodePtr.{OpaqueNodePtr}
 use Rattle.art_nodes.specs.declared.leaf_node.LeafNode.{LeafNode}
-use Rattle.art_arena.specs.Arena.{ArenaOf, Held, Nothing, HeldInner, HeldLeaf, held_leaf, held, pointer_to, Changes}
+use Rattle.art_arena.specs.Arena.{ArenaOf, Held, Nothing, HeldInner, HeldLeaf, held_leaf, held, Changes}
 use Rattle.art_arena.specs.Links.{leaf_at, previous_at, next_at, Spells, SpellsAfter, HoldsLeaf, IsUnlinked, IsKnit, SameButLinks, Joins, StandsBetween, TakesPlace, with_value_at}
 use Rattle.art_arena.specs.Relinking.{SetsNext, SetsPrevious}
 use Rattle.art_arena.proofs.LinkedLists.{first_or, last_or, last_or-push, last_or-each, first_or-each, first_or-slice_get, Linked, Linked-split, Linked-exchanged, unlinked_is_apart, Each-append, Each-split, Each-weaker, Distinct-from, AreDistinct-from, Distinct-insert, Distinct-remove}
@@ -46,12 +46,12 @@ module _ {K V : Type 0} {P : ℕ} where
   leaf_there None = inl refl
   leaf_there (Some leaf) = inr (leaf, refl)
 
-  pub leaf_at-changed : (old new : ArenaOf K V P) (key : ℕ) (leaf : LeafNode K V P) → Changes old new (pointer_to kinds.Leaf key) (HeldLeaf leaf) → leaf_at new key ≡ Some leaf
+  pub leaf_at-changed : (old new : ArenaOf K V P) (key : ℕ) (leaf : LeafNode K V P) → Changes old new (opaque_pointer kinds.Leaf key) (HeldLeaf leaf) → leaf_at new key ≡ Some leaf
   leaf_at-changed old new key leaf changes = held_leaf-same (leaf_at new key) (Some leaf) changes.changed
 
-  pub leaf_at-other : (old new : ArenaOf K V P) (key : ℕ) (now : Held (OpaqueNodePtr K V P) (LeafNode K V P)) → Changes old new (pointer_to kinds.Leaf key) now → (other : ℕ) → other ≢ key → leaf_at new other ≡ leaf_at old other
+  pub leaf_at-other : (old new : ArenaOf K V P) (key : ℕ) (now : Held (OpaqueNodePtr K V P) (LeafNode K V P)) → Changes old new (opaque_pointer kinds.Leaf key) now → (other : ℕ) → other ≢ key → leaf_at new other ≡ leaf_at old other
   leaf_at-other old new key now changes other differ =
-      held_leaf-same (leaf_at new other) (leaf_at old other) (changes.others (pointer_to kinds.Leaf other) (λ same. differ (ap opaque_key same)))
+      held_leaf-same (leaf_at new other) (leaf_at old other) (changes.others (opaque_pointer kinds.Leaf other) (λ same. differ (ap opaque_key same)))
 
   pub SameButLinks-refl : (arena : ArenaOf K V P) → SameButLinks arena arena
   SameButLinks-refl arena = record { nothing = λ pointer free. free; inner = λ pointer node held. held; leaf = λ key leaf found. (leaf, found, refl, refl) }
@@ -66,9 +66,9 @@ module _ {K V : Type 0} {P : ℕ} where
         (two.0, two.1, two.2 ∙ one.2, two.3 ∙ one.3);
   }
 
-  SameButLinks-written : (old new : ArenaOf K V P) (key : ℕ) (leaf now : LeafNode K V P) → Changes old new (pointer_to kinds.Leaf key) (HeldLeaf now) → leaf_at old key ≡ Some leaf → leaf_key now ≡ leaf_key leaf → leaf_value now ≡ leaf_value leaf → SameButLinks old new
+  SameButLinks-written : (old new : ArenaOf K V P) (key : ℕ) (leaf now : LeafNode K V P) → Changes old new (opaque_pointer kinds.Leaf key) (HeldLeaf now) → leaf_at old key ≡ Some leaf → leaf_key now ≡ leaf_key leaf → leaf_value now ≡ leaf_value leaf → SameButLinks old new
   SameButLinks-written old new key leaf now changes found same_key same_value =
-      let stood : held old (pointer_to kinds.Leaf key) ≡ HeldLeaf leaf = ap held_leaf found in
+      let stood : held old (opaque_pointer kinds.Leaf key) ≡ HeldLeaf leaf = ap held_leaf found in
       record {
         nothing = λ pointer free. changes.others pointer (λ same. let e : HeldLeaf leaf ≡ Nothing = sym stood ∙ ap (held old) (sym same) ∙ free in cc) ∙ free;
         inner = λ pointer node inner. changes.others pointer (λ same. let e : HeldLeaf leaf ≡ HeldInner node = sym stood ∙ ap (held old) (sym same) ∙ inner in cc) ∙ inner;
@@ -80,7 +80,7 @@ module _ {K V : Type 0} {P : ℕ} where
         ];
       }
 
-  pub SetsNext-written : (old new : ArenaOf K V P) (key : ℕ) (leaf now : LeafNode K V P) (next : Option ℕ) → Changes old new (pointer_to kinds.Leaf key) (HeldLeaf now) → leaf_at old key ≡ Some leaf → leaf_key now ≡ leaf_key leaf → leaf_value now ≡ leaf_value leaf → previous_key now ≡ previous_key leaf → next_key now ≡ next → SetsNext old new (Some key) next
+  pub SetsNext-written : (old new : ArenaOf K V P) (key : ℕ) (leaf now : LeafNode K V P) (next : Option ℕ) → Changes old new (opaque_pointer kinds.Leaf key) (HeldLeaf now) → leaf_at old key ≡ Some leaf → leaf_key now ≡ leaf_key leaf → leaf_value now ≡ leaf_value leaf → previous_key now ≡ previous_key leaf → next_key now ≡ next → SetsNext old new (Some key) next
   SetsNext-written old new key leaf now next changes found same_key same_value same_previous new_next = record {
     set = λ k named. ap (next_at new) (sym (same_Some _ _ named)) ∙ ap (option_and_then next_key) (leaf_at-changed old new key now changes) ∙ new_next;
     other_next = λ k other. ap (option_and_then next_key) (leaf_at-other old new key (HeldLeaf now) changes k (λ same. other (ap Some (sym same))));
@@ -92,7 +92,7 @@ module _ {K V : Type 0} {P : ℕ} where
     contents = SameButLinks-written old new key leaf now changes found same_key same_value;
   }
 
-  pub SetsPrevious-written : (old new : ArenaOf K V P) (key : ℕ) (leaf now : LeafNode K V P) (previous : Option ℕ) → Changes old new (pointer_to kinds.Leaf key) (HeldLeaf now) → leaf_at old key ≡ Some leaf → leaf_key now ≡ leaf_key leaf → leaf_value now ≡ leaf_value leaf → next_key now ≡ next_key leaf → previous_key now ≡ previous → SetsPrevious old new (Some key) previous
+  pub SetsPrevious-written : (old new : ArenaOf K V P) (key : ℕ) (leaf now : LeafNode K V P) (previous : Option ℕ) → Changes old new (opaque_pointer kinds.Leaf key) (HeldLeaf now) → leaf_at old key ≡ Some leaf → leaf_key now ≡ leaf_key leaf → leaf_value now ≡ leaf_value leaf → next_key now ≡ next_key leaf → previous_key now ≡ previous → SetsPrevious old new (Some key) previous
   SetsPrevious-written old new key leaf now previous changes found same_key same_value same_next new_previous = record {
     set = λ k named. ap (previous_at new) (sym (same_Some _ _ named)) ∙ ap (option_and_then previous_key) (leaf_at-changed old new key now changes) ∙ new_previous;
     other_previous = λ k other. ap (option_and_then previous_key) (leaf_at-other old new key (HeldLeaf now) changes k (λ same. other (ap Some (sym same))));
@@ -226,7 +226,7 @@ module _ {K V : Type 0} {P : ℕ} where
   pub Spells-allocated : (old new : ArenaOf K V P) (pointer : OpaqueNodePtr K V P) (now : Held (OpaqueNodePtr K V P) (LeafNode K V P)) (keys : List ℕ) → held old pointer ≡ Nothing → Changes old new pointer now → Spells old keys → Spells new keys
   Spells-allocated old new pointer now keys free changes spells =
       Spells-kept old new keys
-      (Each-weaker (HoldsLeaf old) (λ key. leaf_at new key ≡ leaf_at old key) (λ key holds. held_leaf-same (leaf_at new key) (leaf_at old key) (changes.others (pointer_to kinds.Leaf key) (λ same. holds (ap (held old) same ∙ free)))) keys (Held-from old None keys spells.spelled))
+      (Each-weaker (HoldsLeaf old) (λ key. leaf_at new key ≡ leaf_at old key) (λ key holds. held_leaf-same (leaf_at new key) (leaf_at old key) (changes.others (opaque_pointer kinds.Leaf key) (λ same. holds (ap (held old) same ∙ free)))) keys (Held-from old None keys spells.spelled))
       spells
 
   pub StandsBetween-at : (old new : ArenaOf K V P) (before before' : Option ℕ) (this : ℕ) (after after' : Option ℕ) → before ≡ before' → after ≡ after' → StandsBetween old new before this after → StandsBetween old new before' this after'

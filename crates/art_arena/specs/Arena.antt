@@ -100,10 +100,6 @@ abbrev pub ArenaOf : Type 0 → Type 0 → ℕ → Type 0
 ArenaOf K V P = Arena (OpaqueNodePtr K V P) (LeafNode K V P)
 
 module _ {K V : Type 0} {P : ℕ} where
-  -- the pointer to a node of this kind under this slab key
-  abbrev pub pointer_to : NodeType → ℕ → OpaqueNodePtr K V P
-  pointer_to kind key = record { node_type = kind; key = key; leaf = record {} }
-
   -- what is held at a pointer
   abbrev pub held : ArenaOf K V P → OpaqueNodePtr K V P → Held (OpaqueNodePtr K V P) (LeafNode K V P)
   held arena pointer = held_under arena (node_kind pointer) (opaque_key pointer)

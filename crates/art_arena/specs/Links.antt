@@ -2,12 +2,13 @@
 use Rattle.std.specs.Prelude.{◌≡◌, ◌≢◌, ℕ, List, [], ◌∷◌, Option, Some, None, All, slice_get, slice_set}
 use Rattle.std.specs.Option.{option_and_then, option_map, option_map_or}
 use Rattle.art_header.specs.declared.node_type.NodeType.TheVariants as kinds
+use Rattle.art_nodes.specs.Pointers.{opaque_pointer}
 use Rattle.art_nodes.specs.Inner.{Inner}
 use Rattle.art_nodes.specs.Leaf.{leaf_key, leaf_value, previous_key, next_key, with_value}
 use Rattle.art_nodes.specs.declared.leaf_node.LeafNode.{LeafNode}
 use Rattle.art_nodes.specs.declared.pointers.OpaqueNodePtr.{OpaqueNodePtr}
 use Rattle.slab.specs.Slab.{get}
-use Rattle.art_arena.specs.Arena.{ArenaOf, HeldInner, Nothing, held, pointer_to}
+use Rattle.art_arena.specs.Arena.{ArenaOf, HeldInner, Nothing, held}
 
 -- no member of the list stands in it twice
 abbrev pub AreDistinct : {A : Type 0} → List A → Type 0
@@ -33,7 +34,7 @@ module _ {K V : Type 0} {P : ℕ} where
 
   -- the arena holds a leaf under this slab key
   abbrev pub HoldsLeaf : ArenaOf K V P → ℕ → Type 0
-  HoldsLeaf arena key = held arena (pointer_to kinds.Leaf key) ≢ Nothing
+  HoldsLeaf arena key = held arena (opaque_pointer kinds.Leaf key) ≢ Nothing
 
   -- the leaf before the one under this slab key, if both are there
   abbrev pub previous_at : ArenaOf K V P → ℕ → Option ℕ

@@ -4,13 +4,13 @@ ghost use Rattle.std.specs.Borrow.{sem};
 ghost use Rattle.std.specs.Option.{option_copied, option_map};
 ghost use Rattle.art_header.specs.declared.node_type.NodeType.TheVariants as NodeType;
 ghost use Rattle.art_header.specs.NodeType.{most_children};
-ghost use Rattle.art_nodes.specs.Inner.{IsInner, with_prefix};
+ghost use Rattle.art_nodes.specs.Inner.{IsInner, node_with_prefix_of};
 ghost use Rattle.art_nodes.specs.Leaf.{leaf_key, leaf_value, with_value};
-ghost use Rattle.art_nodes.specs.Pointers.{slab_key, node_kind};
+ghost use Rattle.art_nodes.specs.Pointers.{slab_key, node_kind, opaque_pointer};
 ghost use Rattle.art_arena.specs.Links.{HoldsLeaf, leaf_at, with_value_at};
 ghost use Rattle.art_arena.specs.Reader.{shown, shown_kind};
 ghost use Rattle.art_arena.specs.Lending.{LendsNode, LendsValue};
-ghost use Rattle.art_arena.specs.Arena.{held, held_option, pointer_to, Nothing, HeldInner, HeldLeaf, held_header, Changes, SameNodes, room, SameRoom, SameOtherRoom, with_node};
+ghost use Rattle.art_arena.specs.Arena.{held, held_option, Nothing, HeldInner, HeldLeaf, held_header, Changes, SameNodes, room, SameRoom, SameOtherRoom, with_node};
 
 mod shelves;
 
@@ -65,9 +65,10 @@ pub type NodeArena<K, V, const PREFIX_LEN: usize> = Slabs<
 >;
 
 impl<K, V, const PREFIX_LEN: usize> NodeArena<K, V, PREFIX_LEN> {
-    /// An arena that holds nothing.
+    /// An arena that holds nothing. It takes no memory, and keeps the allocator.
     pub fn new(alloc: Global) -> Self
-        ensures { (pointer : _) → held result pointer ≡ Nothing }
+        ensures empty { (pointer : _) → held result pointer ≡ Nothing }
+        ensures no_room { (kind : NodeType) → room result kind ≡ 0 }
     {
         Slabs {
             node4: Slab::new(alloc),
@@ -80,15 +81,15 @@ impl<K, V, const PREFIX_LEN: usize> NodeArena<K, V, PREFIX_LEN> {
 
     /// Whether a node of this type is held at the pointer.
     pub fn holds<N: ArenaNode<K, V, PREFIX_LEN>>(&self, ptr: NodePtr<PREFIX_LEN, N>) -> bool
-        ensures { IsTrue result ↔ (held self.now (pointer_to N.TYPE (slab_key ptr)) ≢ Nothing) }
+        ensures { IsTrue result ↔ (held self.now (opaque_pointer N.TYPE (slab_key ptr)) ≢ Nothing) }
     {
         N::slab(self).contains(ptr.key())
     }
 
     /// The node at the pointer, which has to be held.
     pub fn as_ref<N: ArenaNode<K, V, PREFIX_LEN>>(&self, ptr: NodePtr<PREFIX_LEN, N>) -> &N
-        requires { held self.now (pointer_to N.TYPE (slab_key ptr)) ≢ Nothing }
-        ensures { held self.now (pointer_to N.TYPE (slab_key ptr)) ≡ N.held_as result.now }
+        requires { held self.now (opaque_pointer N.TYPE (slab_key ptr)) ≢ Nothing }
+        ensures { held self.now (opaque_pointer N.TYPE (slab_key ptr)) ≡ N.held_as result.now }
     {
         N::slab(self).get(ptr.key()).unwrap()
     }
@@ -98,7 +99,7 @@ impl<K, V, const PREFIX_LEN: usize> NodeArena<K, V, PREFIX_LEN> {
         &self,
         ptr: NodePtr<PREFIX_LEN, N>,
     ) -> Option<&N>
-        ensures { held self.now (pointer_to N.TYPE (slab_key ptr)) ≡ held_option N.held_as
+        ensures { held self.now (opaque_pointer N.TYPE (slab_key ptr)) ≡ held_option N.held_as
             (option_copied result) }
     {
         N::slab(self).get(ptr.key())
@@ -113,12 +114,14 @@ impl<K, V, const PREFIX_LEN: usize> NodeArena<K, V, PREFIX_LEN> {
         node: N,
     ) -> Result<NodePtr<PREFIX_LEN, N>, (AllocError, N)>
         ensures was_free { IfOk result
-            (λ ptr. held self.old (pointer_to N.TYPE (slab_key ptr)) ≡ Nothing) }
+            (λ ptr. held self.old (opaque_pointer N.TYPE (slab_key ptr)) ≡ Nothing) }
         ensures added { IfOk result
-            (λ ptr. Changes self.old self.new (pointer_to N.TYPE (slab_key ptr)) (N.held_as node)) }
+            (λ ptr. Changes self.old self.new (opaque_pointer N.TYPE (slab_key ptr)) (N.held_as node)) }
         ensures is_held { IfOk result
-            (λ ptr. held self.new (pointer_to N.TYPE (slab_key ptr)) ≢ Nothing) }
+            (λ ptr. held self.new (opaque_pointer N.TYPE (slab_key ptr)) ≢ Nothing) }
         ensures room { OnOk result (room self.old N.TYPE ≤ room self.new N.TYPE + 1) }
+        ensures takes_no_memory { OnOk result
+            (0 < room self.old N.TYPE → room self.old N.TYPE ≡ room self.new N.TYPE + 1) }
         ensures other_room { SameOtherRoom self.old self.new N.TYPE }
         ensures succeeds { 0 < room self.old N.TYPE → IsOk result }
         ensures nodes_kept { OnErr result (SameNodes self.old self.new) }
@@ -174,10 +177,11 @@ impl<K, V, const PREFIX_LEN: usize> NodeArena<K, V, PREFIX_LEN> {
         &mut self,
         ptr: NodePtr<PREFIX_LEN, N>,
     ) -> N
-        requires { held self.old (pointer_to N.TYPE (slab_key ptr)) ≢ Nothing }
-        ensures node { held self.old (pointer_to N.TYPE (slab_key ptr)) ≡ N.held_as result }
-        ensures removed { Changes self.old self.new (pointer_to N.TYPE (slab_key ptr)) Nothing }
+        requires { held self.old (opaque_pointer N.TYPE (slab_key ptr)) ≢ Nothing }
+        ensures node { held self.old (opaque_pointer N.TYPE (slab_key ptr)) ≡ N.held_as result }
+        ensures removed { Changes self.old self.new (opaque_pointer N.TYPE (slab_key ptr)) Nothing }
         ensures room { room self.old N.TYPE ≤ room self.new N.TYPE }
+        ensures takes_no_memory { room self.new N.TYPE ≤ room self.old N.TYPE + 1 }
         ensures other_room { SameOtherRoom self.old self.new N.TYPE }
     {
         N::slab_mut(self).remove(ptr.key())
@@ -186,14 +190,14 @@ impl<K, V, const PREFIX_LEN: usize> NodeArena<K, V, PREFIX_LEN> {
     /// The node, to be changed in place. The arena ends with what is left there, and every other
     /// node and the room of every kind are as before. The pointer has to be held.
     pub fn as_mut<N: ArenaNode<K, V, PREFIX_LEN>>(&mut self, ptr: NodePtr<PREFIX_LEN, N>) -> &mut N
-        requires { held self.old (pointer_to N.TYPE (slab_key ptr)) ≢ Nothing }
+        requires { held self.old (opaque_pointer N.TYPE (slab_key ptr)) ≢ Nothing }
         ensures* writes_back { sem 𝓛
             (LendsNode K.row V.row PREFIX_LEN.row N.row N.slab_of N.with_slab self.entry
             (slab_key ptr) result) }
-        ensures node { held self.old (pointer_to N.TYPE (slab_key ptr)) ≡ N.held_as result.now }
+        ensures node { held self.old (opaque_pointer N.TYPE (slab_key ptr)) ≡ N.held_as result.now }
         ensures changes { (now : _) →
             Changes self.old (with_node N.slab_of N.with_slab self.old (slab_key ptr) now)
-            (pointer_to N.TYPE (slab_key ptr)) (N.held_as now) }
+            (opaque_pointer N.TYPE (slab_key ptr)) (N.held_as now) }
         ensures room { (now : _) →
             SameRoom self.old (with_node N.slab_of N.with_slab self.old (slab_key ptr) now) }
     {
@@ -207,12 +211,12 @@ impl<K, V, const PREFIX_LEN: usize> NodeArena<K, V, PREFIX_LEN> {
         ptr: NodePtr<PREFIX_LEN, N>,
         node: N,
     ) -> N
-        requires { held self.old (pointer_to N.TYPE (slab_key ptr)) ≢ Nothing }
-        ensures replaced_node { held self.old (pointer_to N.TYPE (slab_key ptr))
+        requires { held self.old (opaque_pointer N.TYPE (slab_key ptr)) ≢ Nothing }
+        ensures replaced_node { held self.old (opaque_pointer N.TYPE (slab_key ptr))
             ≡ N.held_as result }
-        ensures replaced { Changes self.old self.new (pointer_to N.TYPE (slab_key ptr))
+        ensures replaced { Changes self.old self.new (opaque_pointer N.TYPE (slab_key ptr))
             (N.held_as node) }
-        ensures is_held { held self.new (pointer_to N.TYPE (slab_key ptr)) ≢ Nothing }
+        ensures is_held { held self.new (opaque_pointer N.TYPE (slab_key ptr)) ≢ Nothing }
         ensures room { SameRoom self.old self.new }
     {
         mem::replace(self.as_mut(ptr), node)
@@ -243,7 +247,7 @@ impl<K, V, const PREFIX_LEN: usize> NodeArena<K, V, PREFIX_LEN> {
         ensures changes { (leaf value : _) →
             leaf_at self.old (slab_key ptr) ≡ Some leaf →
             Changes self.old (with_value_at self.old (slab_key ptr) value)
-            (pointer_to NodeType.Leaf (slab_key ptr)) (HeldLeaf (with_value leaf value)) }
+            (opaque_pointer NodeType.Leaf (slab_key ptr)) (HeldLeaf (with_value leaf value)) }
         ensures room { (value : _) →
             SameRoom self.old (with_value_at self.old (slab_key ptr) value) }
     {
@@ -276,7 +280,7 @@ impl<K, V, const PREFIX_LEN: usize> NodeArena<K, V, PREFIX_LEN> {
         ensures changes { (leaf value : _) →
             leaf_at self.old (slab_key ptr) ≡ Some leaf →
             Changes self.old (with_value_at self.old (slab_key ptr) value)
-            (pointer_to NodeType.Leaf (slab_key ptr)) (HeldLeaf (with_value leaf value)) }
+            (opaque_pointer NodeType.Leaf (slab_key ptr)) (HeldLeaf (with_value leaf value)) }
         ensures room { (value : _) →
             SameRoom self.old (with_value_at self.old (slab_key ptr) value) }
     {
@@ -310,7 +314,7 @@ impl<K, V, const PREFIX_LEN: usize> NodeArena<K, V, PREFIX_LEN> {
         requires inner { node_kind pointer ≢ NodeType.Leaf }
         ensures prefix { (node : _) →
             held self.old pointer ≡ HeldInner node →
-            Changes self.old self.new pointer (HeldInner (with_prefix node header.now)) }
+            Changes self.old self.new pointer (HeldInner (node_with_prefix_of node header.now)) }
         ensures room { SameRoom self.old self.new }
     {
         match pointer.to_node_ptr() {

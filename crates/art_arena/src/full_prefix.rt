@@ -58,8 +58,9 @@ pub trait FullPrefix<K: AsBytes, V, const PREFIX_LEN: usize>: InnerNodeCommon<K,
     /// number of bytes on the path to the node and at most those of the key.
     ///
     /// Answers the length of the prefix where that rest begins with it. Else it answers how many
-    /// bytes match, the prefix's byte after them, and the order of the prefix against as many bytes
-    /// of the rest. Where the key begins with the path to the node, every key below lies on that
+    /// bytes match, the prefix's byte after them, the order of the prefix against as many bytes of
+    /// the rest, and, where the prefix is longer than `PREFIX_LEN`, a leaf below: which one is open,
+    /// and it is held. Where the key begins with the path to the node, every key below lies on that
     /// side of it. What has to stand in the arena is what
     /// [`FullPrefix::read_full_prefix`] asks. Takes no memory.
     final fn match_full_prefix(

@@ -10,9 +10,9 @@ ghost use Rattle.art_bytes.specs.Text.{IsFront, text_order};
 ghost use Rattle.art_nodes.specs.ChildMap.{IsAscending, key_bytes};
 ghost use Rattle.art_header.specs.declared.node_type.NodeType.TheVariants as NodeType;
 ghost use Rattle.art_nodes.specs.Leaf.{leaf_key, previous_key, next_key};
-ghost use Rattle.art_nodes.specs.Pointers.{node_kind};
+ghost use Rattle.art_nodes.specs.Pointers.{node_kind, opaque_pointer};
 ghost use Rattle.art_nodes.specs.declared.pointers.OpaqueNodePtr.{OpaqueNodePtr};
-ghost use Rattle.art_arena.specs.Arena.{ArenaOf, HeldInner, HeldLeaf, Nothing, Changes, held, pointer_to};
+ghost use Rattle.art_arena.specs.Arena.{ArenaOf, HeldInner, HeldLeaf, Nothing, Changes, held};
 ghost use Rattle.art_arena.specs.Links.{AreDistinct, IsKnit, SameButLinks, Spells, leaf_at, next_at, previous_at};
 ghost use Rattle.art_arena.specs.SharedFront.{IsSharedFront, IsSharedFrom};
 ghost use Rattle.art_arena.specs.Standing.{NodeStands, StandsIn, AllStandIn};
@@ -87,7 +87,7 @@ pub fn trees_stand_where_texts_are_kept<K: AsBytes, V, const PREFIX_LEN: usize>(
         SameButLinks old new → StandsIn K.text old tree → StandsIn K.text new tree }
     ensures leaf { (old new : ArenaOf K V PREFIX_LEN) (key : ℕ) (was now : _) (tree : _) →
         leaf_at old key ≡ Some was →
-        Changes old new (pointer_to NodeType.Leaf key) (HeldLeaf now) →
+        Changes old new (opaque_pointer NodeType.Leaf key) (HeldLeaf now) →
         K.text (leaf_key now) ≡ K.text (leaf_key was) →
         StandsIn K.text old tree → StandsIn K.text new tree }
 {}
@@ -117,7 +117,7 @@ pub fn lists_are_spelled_where_links_are_kept<K, V, const PREFIX_LEN: usize>()
         Spells old keys → Spells new keys }
     ensures leaf { (old new : ArenaOf K V PREFIX_LEN) (key : ℕ) (was now : _) (keys : List ℕ) →
         leaf_at old key ≡ Some was →
-        Changes old new (pointer_to NodeType.Leaf key) (HeldLeaf now) →
+        Changes old new (opaque_pointer NodeType.Leaf key) (HeldLeaf now) →
         previous_key now ≡ previous_key was → next_key now ≡ next_key was →
         Spells old keys → Spells new keys }
 {}

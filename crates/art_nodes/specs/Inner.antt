@@ -42,8 +42,8 @@ module _ {H : Type 0} where
   node_without_child node byte = with_children node (without_child node.children byte)
 
   -- the node with the prefix of a header
-  abbrev pub with_prefix : Inner H → Header → Inner H
-  with_prefix node header = record node { prefix_len = header.prefix_len; stored = header.stored }
+  abbrev pub node_with_prefix_of : Inner H → Header → Inner H
+  node_with_prefix_of node header = record node { prefix_len = header.prefix_len; stored = header.stored }
 
   -- the byte is there already, or there is room for one child more
   abbrev pub HasRoomFor : ℕ → Inner H → ℕ → Type 0

@@ -7,10 +7,10 @@ use Rattle.art_bytes.specs.Text.{IsFront}
 use Rattle.art_header.specs.declared.node_type.NodeType.TheVariants as kinds
 use Rattle.art_nodes.specs.ChildMap.{ChildMap, child_at}
 use Rattle.art_nodes.specs.Inner as nodes
-use Rattle.art_nodes.specs.Pointers.{opaque_key}
+use Rattle.art_nodes.specs.Pointers.{opaque_key, opaque_pointer}
 use Rattle.art_nodes.specs.declared.pointers.OpaqueNodePtr.{OpaqueNodePtr}
 use Rattle.art_nodes.specs.declared.leaf_node.LeafNode.{LeafNode}
-use Rattle.art_arena.specs.Arena.{ArenaOf, Held, HeldInner, HeldLeaf, Nothing, held, held_leaf, pointer_to, SameNodes}
+use Rattle.art_arena.specs.Arena.{ArenaOf, Held, HeldInner, HeldLeaf, Nothing, held, held_leaf, SameNodes}
 use Rattle.art_arena.specs.Links.{AreDistinct, Spells, SpellsAfter, leaf_at}
 use Rattle.art_arena.specs.Standing.{NodeStands, StandsIn, AllStandIn}
 use Rattle.art_arena.specs.Trees.{Tree, Leaf, Inner, Branches, NoBranch, Branch, leaves, branch_leaves, texts, branch_texts, places, branch_places, branch_roots, root_of}
@@ -256,14 +256,14 @@ module _ {K V : Type 0} {P : ℕ} (text : K → List ℕ) (old linked new : Aren
 
       -- lists of leaves are spelled on to the end
       leaf-at-last : (k : ℕ) (l : LeafNode K V P) → leaf_at linked k ≡ Some l → leaf_at last k ≡ Some l
-      leaf-at-last k l at = leaf-of (leaf_at last k) l (elim (cases_pointer (pointer_to kinds.Leaf k) leaf) [
+      leaf-at-last k l at = leaf-of (leaf_at last k) l (elim (cases_pointer (opaque_pointer kinds.Leaf k) leaf) [
         | inl same ↦
             let one : HeldLeaf steps.entry.leaf ≡ HeldLeaf l = sym steps.entry.is_held ∙ ap (held linked) (sym same) ∙ ap held_leaf at in
             ap (held last) same ∙ leaf-last ∙ one
-        | inr differ ↦ elim (held-case (held old (pointer_to kinds.Leaf k))) [
-          | inl free ↦ absurd (let wrong : HeldLeaf l ≡ Nothing = sym (ap held_leaf at) ∙ (steps.stays (pointer_to kinds.Leaf k) differ).nothing free in cc)
-          | inr (inl (node, is)) ↦ absurd (let wrong : HeldLeaf l ≡ HeldInner node = sym (ap held_leaf at) ∙ (steps.stays (pointer_to kinds.Leaf k) differ).keeps.inner node is in cc)
-          | inr (inr (was, is)) ↦ leaf-last-same (pointer_to kinds.Leaf k) was is ∙ ap held_leaf at
+        | inr differ ↦ elim (held-case (held old (opaque_pointer kinds.Leaf k))) [
+          | inl free ↦ absurd (let wrong : HeldLeaf l ≡ Nothing = sym (ap held_leaf at) ∙ (steps.stays (opaque_pointer kinds.Leaf k) differ).nothing free in cc)
+          | inr (inl (node, is)) ↦ absurd (let wrong : HeldLeaf l ≡ HeldInner node = sym (ap held_leaf at) ∙ (steps.stays (opaque_pointer kinds.Leaf k) differ).keeps.inner node is in cc)
+          | inr (inr (was, is)) ↦ leaf-last-same (opaque_pointer kinds.Leaf k) was is ∙ ap held_leaf at
         ]
       ])
 

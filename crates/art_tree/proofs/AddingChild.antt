@@ -7,9 +7,9 @@ use Rattle.art_header.specs.declared.node_type.NodeType.TheVariants as kinds
 use Rattle.std.specs.declared.ops.Bound.TheVariants.{Excluded, Unbounded}
 use Rattle.art_nodes.specs.ChildMap.{IsAscending, key_bytes, child_at, with_child, pairs_within}
 use Rattle.art_nodes.specs.Inner as nodes
-use Rattle.art_nodes.specs.Pointers.{node_kind, opaque_key}
+use Rattle.art_nodes.specs.Pointers.{node_kind, opaque_key, opaque_pointer}
 use Rattle.art_nodes.specs.declared.pointers.OpaqueNodePtr.{OpaqueNodePtr}
-use Rattle.art_arena.specs.Arena.{ArenaOf, HeldInner, HeldLeaf, Nothing, held, pointer_to, SameOtherRoom}
+use Rattle.art_arena.specs.Arena.{ArenaOf, HeldInner, HeldLeaf, Nothing, held, SameOtherRoom}
 use Rattle.art_arena.specs.Links.{AreDistinct, Spells}
 use Rattle.art_arena.specs.Standing.{NodeStands, StandsIn, AllStandIn}
 use Rattle.art_arena.specs.Trees.{Tree, Inner, branch_roots, leaves, branch_leaves, texts, places, branch_places, IsSound}
@@ -204,7 +204,7 @@ module _ {K V : Type 0} {P : ℕ} (text : K → List ℕ) (old : ArenaOf K V P) 
   child-hangs = subst (CanHang new) lacks.at.hangs (can-hang text old linked new lacks.at.context (Inner spot.node lacks.prefix lacks.branches) root leaf top key value steps-there)
 
   module _ (last : ArenaOf K V P) (root_now : OpaqueNodePtr K V P) (hung : IsHung new last spot.parent top root root_now) (short : length (text key) < 2 ^ 32) (end : End) (sibling : ℕ)
-      (beside : StandsBeside end (branch_leaves (gap-there text old root tree spot byte key value alone lacks fits).before) (branch_leaves (gap-there text old root tree spot byte key value alone lacks fits).after) (pointer_to kinds.Leaf sibling))
+      (beside : StandsBeside end (branch_leaves (gap-there text old root tree spot byte key value alone lacks fits).before) (branch_leaves (gap-there text old root tree spot byte key value alone lacks fits).after) (opaque_pointer kinds.Leaf sibling))
       (spells : (left right : List ℕ) → Spells old (left ++ right) → IsBeside end left right sibling → Spells linked (left ++ opaque_key leaf ∷ right)) where
     abbrev there : HasChildPlace (path_to lacks.at.context) lacks.prefix lacks.branches byte
     there = gap-there text old root tree spot byte key value alone lacks fits

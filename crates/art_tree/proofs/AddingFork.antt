@@ -9,10 +9,10 @@ use Rattle.art_header.specs.declared.node_type.NodeType.TheVariants as kinds
 use Rattle.art_nodes.specs.Inner as nodes
 use Rattle.art_nodes.specs.Inner.{header_of}
 use Rattle.art_nodes.specs.Leaf.{leaf_key}
-use Rattle.art_nodes.specs.Pointers.{node_kind, opaque_key}
+use Rattle.art_nodes.specs.Pointers.{node_kind, opaque_key, opaque_pointer}
 use Rattle.art_nodes.specs.declared.pointers.OpaqueNodePtr.{OpaqueNodePtr}
 use Rattle.art_nodes.specs.declared.leaf_node.LeafNode.{LeafNode}
-use Rattle.art_arena.specs.Arena.{ArenaOf, Held, HeldInner, HeldLeaf, Nothing, held, pointer_to, Changes, SameNodes}
+use Rattle.art_arena.specs.Arena.{ArenaOf, Held, HeldInner, HeldLeaf, Nothing, held, Changes, SameNodes}
 use Rattle.art_arena.specs.Links.{AreDistinct, HoldsLeaf, Spells, text_at}
 use Rattle.art_arena.specs.Standing.{NodeStands, StandsIn, AllStandIn, TreeAt}
 use Rattle.art_arena.specs.Trees.{Tree, Leaf, Inner, Branches, NoBranch, Branch, branch_roots, root_of, leaves, branch_leaves, texts, places, branch_places, IsSound, AreSound}
@@ -171,15 +171,15 @@ module _ {K V : Type 0} {P : ℕ} (text : K → List ℕ) (old : ArenaOf K V P) 
         omega (arith, enough, inner.shows.prefix_len, parts.at.deep)
 
     -- a leaf of the part is held on, with its text, which begins with the path and the prefix
-    module _ (sibling : ℕ) (x : List ℕ) (inside : Contains (leaves part_there) (pointer_to kinds.Leaf sibling, x)) where
-      sibling-was : (l : LeafNode K V P) × (held old (pointer_to kinds.Leaf sibling) ≡ HeldLeaf l) × (text (leaf_key l) ≡ x)
-      sibling-was = leaf-held-in text old part_there stands-there (pointer_to kinds.Leaf sibling) x inside
+    module _ (sibling : ℕ) (x : List ℕ) (inside : Contains (leaves part_there) (opaque_pointer kinds.Leaf sibling, x)) where
+      sibling-was : (l : LeafNode K V P) × (held old (opaque_pointer kinds.Leaf sibling) ≡ HeldLeaf l) × (text (leaf_key l) ≡ x)
+      sibling-was = leaf-held-in text old part_there stands-there (opaque_pointer kinds.Leaf sibling) x inside
 
-      sibling-is : (l : LeafNode K V P) × (held linked (pointer_to kinds.Leaf sibling) ≡ HeldLeaf l) × (text (leaf_key l) ≡ x)
+      sibling-is : (l : LeafNode K V P) × (held linked (opaque_pointer kinds.Leaf sibling) ≡ HeldLeaf l) × (text (leaf_key l) ≡ x)
       sibling-is =
           let was = sibling-was in
-          let other : pointer_to kinds.Leaf sibling ≢ leaf = not-new (pointer_to kinds.Leaf sibling) (λ none. let wrong : HeldLeaf was.0 ≡ Nothing = sym was.1 ∙ none in absurd (cc)) in
-          let now = (stays (pointer_to kinds.Leaf sibling) other).keeps.leaf was.0 was.1 in
+          let other : opaque_pointer kinds.Leaf sibling ≢ leaf = not-new (opaque_pointer kinds.Leaf sibling) (λ none. let wrong : HeldLeaf was.0 ≡ Nothing = sym was.1 ∙ none in absurd (cc)) in
+          let now = (stays (opaque_pointer kinds.Leaf sibling) other).keeps.leaf was.0 was.1 in
           (now.0, now.1, ap text now.2 ∙ was.2)
 
       pub sibling-held : HoldsLeaf linked sibling
@@ -192,7 +192,7 @@ module _ {K V : Type 0} {P : ℕ} (text : K → List ℕ) (old : ArenaOf K V P) 
       sibling-begins node is =
           let inner = linked-there node is in
           let sound : IsSound (path_to around_it) (Inner spot.node inner.prefix inner.branches) = subst (IsSound (path_to around_it)) inner.part sound-there in
-          branch-text-begins (path_to around_it ++ inner.prefix) inner.branches sound.2 (pointer_to kinds.Leaf sibling) x (subst (λ t. Contains (leaves t) (pointer_to kinds.Leaf sibling, x)) inner.part inside)
+          branch-text-begins (path_to around_it ++ inner.prefix) inner.branches sound.2 (opaque_pointer kinds.Leaf sibling) x (subst (λ t. Contains (leaves t) (opaque_pointer kinds.Leaf sibling, x)) inner.part inside)
 
       pub text-there : (node : nodes.Inner (OpaqueNodePtr K V P)) → held linked spot.node ≡ HeldInner node → spot.depth + node.prefix_len ≤ length (text_at text linked sibling)
       text-there node is =
@@ -241,7 +241,7 @@ module _ {K V : Type 0} {P : ℕ} (text : K → List ℕ) (old : ArenaOf K V P) 
                 }
 
         -- the new node stands over both
-        module _ (new : ArenaOf K V P) (top : OpaqueNodePtr K V P) (entry : HoldsEntry linked leaf key value) (slot : ℕ) (leaf_is : leaf ≡ pointer_to kinds.Leaf slot) where
+        module _ (new : ArenaOf K V P) (top : OpaqueNodePtr K V P) (entry : HoldsEntry linked leaf key value) (slot : ℕ) (leaf_is : leaf ≡ opaque_pointer kinds.Leaf slot) where
           leaf-apart : leaf ≢ spot.node
           leaf-apart same = there-held (ap (held old) (sym same) ∙ free)
 
@@ -280,13 +280,13 @@ module _ {K V : Type 0} {P : ℕ} (text : K → List ℕ) (old : ArenaOf K V P) 
             pub fork-hangs : CanHang new spot.parent
             fork-hangs = subst (CanHang new) parts.at.hangs (can-hang text old linked new around_it part_there root leaf top key value fork-steps)
 
-            module _ (last : ArenaOf K V P) (root_now : OpaqueNodePtr K V P) (hung : IsHung new last spot.parent top root root_now) (short : length (text key) < 2 ^ 32) (end : End) (at_end : IsAtEnd end (leaves part_there) (pointer_to kinds.Leaf sibling)) (end_is : end ≡ (if nat_lt fork.byte fork.node_byte then First else Last))
+            module _ (last : ArenaOf K V P) (root_now : OpaqueNodePtr K V P) (hung : IsHung new last spot.parent top root root_now) (short : length (text key) < 2 ^ 32) (end : End) (at_end : IsAtEnd end (leaves part_there) (opaque_pointer kinds.Leaf sibling)) (end_is : end ≡ (if nat_lt fork.byte fork.node_byte then First else Last))
                 (spells : (left right : List ℕ) → Spells old (left ++ right) → IsBeside end left right sibling → Spells linked (left ++ opaque_key leaf ∷ right)) where
               hung-there : IsHung new last (above around_it) top root root_now
               hung-there = subst (λ parent. IsHung new last parent top root root_now) (sym parts.at.hangs) hung
 
-              beside-there : StandsBeside end (branch_leaves left_there) (branch_leaves right_there) (pointer_to kinds.Leaf sibling)
-              beside-there = beside-tree fork.byte fork.node_byte len_there part_there end (pointer_to kinds.Leaf sibling) end_is at_end
+              beside-there : StandsBeside end (branch_leaves left_there) (branch_leaves right_there) (opaque_pointer kinds.Leaf sibling)
+              beside-there = beside-tree fork.byte fork.node_byte len_there part_there end (opaque_pointer kinds.Leaf sibling) end_is at_end
 
               spelled-there : Spells linked (keys_of (leaves_before around_it ++ branch_leaves left_there) ++ opaque_key leaf ∷ keys_of (branch_leaves right_there ++ leaves_after around_it))
               spelled-there =

@@ -3,10 +3,11 @@ use Rattle.std.proofs.Common.{◌≡◌, ◌≢◌, ◌⊎◌, ◌∙◌, ℕ, �
 use Rattle.std.proofs.lemmas.List.{map-append}
 use Rattle.std.proofs.lemmas.List.Elements.{All-append, All-tail, Contains-append_right}
 use Rattle.art_header.specs.declared.node_type.NodeType.TheVariants as kinds
+use Rattle.art_nodes.specs.Pointers.{opaque_pointer}
 use Rattle.art_nodes.specs.Leaf.{leaf_key}
 use Rattle.art_nodes.specs.declared.pointers.OpaqueNodePtr.{OpaqueNodePtr}
 use Rattle.art_nodes.specs.declared.leaf_node.LeafNode.{LeafNode}
-use Rattle.art_arena.specs.Arena.{ArenaOf, HeldInner, HeldLeaf, Nothing, held, held_leaf, pointer_to, SameNodes}
+use Rattle.art_arena.specs.Arena.{ArenaOf, HeldInner, HeldLeaf, Nothing, held, held_leaf, SameNodes}
 use Rattle.art_arena.specs.Links.{AreDistinct, Spells, SpellsAfter, leaf_at}
 use Rattle.art_arena.specs.Standing.{StandsIn}
 use Rattle.art_arena.specs.Trees.{Tree, leaves, places, root_of, texts, IsSound}
@@ -123,7 +124,7 @@ module _ {K V : Type 0} {P : ℕ} (text : K → List ℕ) (old cut new : ArenaOf
       -- lists of leaves are spelled on to the end
       leaf-at-last : (k : ℕ) (l : LeafNode K V P) → leaf_at cut k ≡ Some l → leaf_at last k ≡ Some l
       leaf-at-last k l at =
-          let p = pointer_to kinds.Leaf k in
+          let p = opaque_pointer kinds.Leaf k in
           let there : held cut p ≡ HeldLeaf l = ap held_leaf at in
           let other : p ≢ leaf = λ same. (let wrong : HeldLeaf l ≡ Nothing = sym there ∙ ap (held cut) same ∙ steps.gone in absurd (cc)) in
           leaf-of (leaf_at last k) l (elim (held-case (held old p)) [

@@ -12,11 +12,11 @@ use Rattle.std.proofs.lemmas.List.Elements.{All-contains, All-map, Contains-get_
 use Rattle.art_header.specs.declared.node_type.NodeType.TheVariants as kinds
 use Rattle.art_bytes.specs.Text.{IsFront, text_order}
 use Rattle.art_nodes.specs.Leaf.{leaf_key, leaf_value}
-use Rattle.art_nodes.specs.Pointers.{node_kind, opaque_key, slab_key}
+use Rattle.art_nodes.specs.Pointers.{node_kind, opaque_key, slab_key, opaque_pointer}
 use Rattle.art_nodes.specs.declared.pointers.NodePtr.{NodePtr}
 use Rattle.art_nodes.specs.declared.pointers.OpaqueNodePtr.{OpaqueNodePtr}
 use Rattle.art_nodes.specs.declared.leaf_node.LeafNode.{LeafNode}
-use Rattle.art_arena.specs.Arena.{ArenaOf, Held, Nothing, HeldInner, HeldLeaf, held, held_leaf, held_under, pointer_to}
+use Rattle.art_arena.specs.Arena.{ArenaOf, Held, Nothing, HeldInner, HeldLeaf, held, held_leaf, held_under}
 use Rattle.art_arena.specs.Links.{leaf_at}
 use Rattle.art_arena.specs.Standing.{StandsIn, AllStandIn}
 use Rattle.art_arena.specs.Trees.{Tree, Leaf, Inner, Branches, NoBranch, Branch, leaves, branch_leaves, texts, places, branch_places}
@@ -86,7 +86,7 @@ module _ {K V : Type 0} {P : ℕ} (text : K → List ℕ) where
       by_entry None is = is
       by_entry (Some entry) is =
           let slot = entry-from arena.leaf.slots x entry is in
-          let wrong : HeldLeaf slot.leaf ≡ Nothing = sym (ap (held_leaf {H = OpaqueNodePtr K V P}) slot.at) ∙ nothing (pointer_to kinds.Leaf slot.key) in absurd (cc)
+          let wrong : HeldLeaf slot.leaf ≡ Nothing = sym (ap (held_leaf {H = OpaqueNodePtr K V P}) slot.at) ∙ nothing (opaque_pointer kinds.Leaf slot.key) in absurd (cc)
 
   -- a pointer holds one leaf, and then something
   one-leaf : (h : Held (OpaqueNodePtr K V P) (LeafNode K V P)) (a b : LeafNode K V P) → h ≡ HeldLeaf a → h ≡ HeldLeaf b → a ≡ b
@@ -215,7 +215,7 @@ module _ {K V : Type 0} {P : ℕ} (text : K → List ℕ) (arena : ArenaOf K V P
   pub leaf-of-entry : (x : List ℕ) (entry : K × V) → entry_at text arena x ≡ Some entry → IsLeafWith x entry
   leaf-of-entry x entry is =
       let slot = entry-from text arena.leaf.slots x entry is in
-      let pointer = pointer_to {K = K} {V = V} {P = P} kinds.Leaf slot.key in
+      let pointer = opaque_pointer {K = K} {V = V} {P = P} kinds.Leaf slot.key in
       let there : held arena pointer ≡ HeldLeaf slot.leaf = ap held_leaf slot.at in
       let inside = leaf-in text arena tree alone.is_tree.stands pointer slot.leaf (alone.no_others pointer (something text (held arena pointer) slot.leaf there)) there in
       record { pointer = pointer; leaf = slot.leaf; held_there = there; has = slot.has; inside = subst (λ t. Contains (leaves tree) (pointer, t)) slot.has inside; is = slot.is }
@@ -225,7 +225,7 @@ module _ {K V : Type 0} {P : ℕ} (text : K → List ℕ) (arena : ArenaOf K V P
   entry-of-leaf apart key leaf at =
       let some = entry-some text arena.leaf.slots key leaf at in
       let found = leaf-of-entry (text (leaf_key leaf)) some.0 some.1 in
-      let pointer = pointer_to {K = K} {V = V} {P = P} kinds.Leaf key in
+      let pointer = opaque_pointer {K = K} {V = V} {P = P} kinds.Leaf key in
       let there : held arena pointer ≡ HeldLeaf leaf = ap held_leaf at in
       let inside = leaf-in text arena tree alone.is_tree.stands pointer leaf (alone.no_others pointer (something text (held arena pointer) leaf there)) there in
       let one : found.pointer ≡ pointer = one-member (leaves tree) found.pointer pointer (text (leaf_key leaf)) apart found.inside inside in
@@ -403,5 +403,5 @@ pub if-none : {X : Type 0} (o : Option X) (Q : Type 0) → Q → IfNone o Q
 if-none None Q holds = holds
 if-none (Some x) Q holds = tt
 
-pub slot-held : {K V : Type 0} {P : ℕ} (arena : ArenaOf K V P) (key : ℕ) (leaf : LeafNode K V P) → leaf_at arena key ≡ Some leaf → held arena (pointer_to kinds.Leaf key) ≢ Nothing
+pub slot-held : {K V : Type 0} {P : ℕ} (arena : ArenaOf K V P) (key : ℕ) (leaf : LeafNode K V P) → leaf_at arena key ≡ Some leaf → held arena (opaque_pointer kinds.Leaf key) ≢ Nothing
 slot-held arena key leaf is none = let wrong : HeldLeaf leaf ≡ Nothing = sym (ap held_leaf is) ∙ none in absurd (cc)

@@ -6,9 +6,9 @@ use Rattle.std.proofs.lemmas.List.Elements.{Contains-append_left, Contains-appen
 use Rattle.art_bytes.specs.Text.{IsFront, text_order}
 use Rattle.art_header.specs.declared.node_type.NodeType.TheVariants as kinds
 use Rattle.art_nodes.specs.Leaf.{leaf_key}
-use Rattle.art_nodes.specs.Pointers.{opaque_key}
+use Rattle.art_nodes.specs.Pointers.{opaque_key, opaque_pointer}
 use Rattle.art_nodes.specs.declared.pointers.OpaqueNodePtr.{OpaqueNodePtr}
-use Rattle.art_arena.specs.Arena.{ArenaOf, HeldLeaf, held, pointer_to}
+use Rattle.art_arena.specs.Arena.{ArenaOf, HeldLeaf, held}
 use Rattle.art_arena.specs.Links.{Spells, text_at}
 use Rattle.art_arena.specs.Trees.{Tree, Branches, leaves, branch_leaves, texts, IsSound, IsWellFormed}
 use Rattle.art_tree.specs.Art.{IsAlone}
@@ -56,19 +56,19 @@ module _ {K V : Type 0} {P : ℕ} (text : K → List ℕ) (arena : ArenaOf K V P
   pub spelled-parts : Spells arena (keys_of left ++ keys_of right)
   spelled-parts = subst (Spells arena) (ap keys_of (leaves-parted context part before after same_leaves) ∙ keys-append left right) alone.spelled
 
-  module _ (end : End) (key : ℕ) (beside : StandsBeside end (branch_leaves before) (branch_leaves after) (pointer_to kinds.Leaf key)) where
-    wide : IsBeside end left right (pointer_to kinds.Leaf key, beside.0)
-    wide = beside-wide end (leaves_before context) (branch_leaves before) (branch_leaves after) (leaves_after context) (pointer_to kinds.Leaf key, beside.0) beside.1
+  module _ (end : End) (key : ℕ) (beside : StandsBeside end (branch_leaves before) (branch_leaves after) (opaque_pointer kinds.Leaf key)) where
+    wide : IsBeside end left right (opaque_pointer kinds.Leaf key, beside.0)
+    wide = beside-wide end (leaves_before context) (branch_leaves before) (branch_leaves after) (leaves_after context) (opaque_pointer kinds.Leaf key, beside.0) beside.1
 
     pub beside-key : IsBeside end (keys_of left) (keys_of right) key
-    beside-key = keys-beside end left right (pointer_to kinds.Leaf key) beside.0 wide
+    beside-key = keys-beside end left right (opaque_pointer kinds.Leaf key) beside.0 wide
 
     pub gap : HasGap arena end key
     gap = record { left = keys_of left; right = keys_of right; spelled = spelled-parts; beside = beside-key }
 
     -- the leaf that stands there is held, and a new text lies on its side
-    pub sibling : (leaf : _) × (held arena (pointer_to kinds.Leaf key) ≡ HeldLeaf leaf) × (text (leaf_key leaf) ≡ beside.0)
-    sibling = leaf-held-in text arena (plug context part) alone.is_tree.stands (pointer_to kinds.Leaf key) beside.0 (subst (λ all. Contains all (pointer_to kinds.Leaf key, beside.0)) (sym (leaves-parted context part before after same_leaves)) (beside-in end left right (pointer_to kinds.Leaf key, beside.0) wide))
+    pub sibling : (leaf : _) × (held arena (opaque_pointer kinds.Leaf key) ≡ HeldLeaf leaf) × (text (leaf_key leaf) ≡ beside.0)
+    sibling = leaf-held-in text arena (plug context part) alone.is_tree.stands (opaque_pointer kinds.Leaf key) beside.0 (subst (λ all. Contains all (opaque_pointer kinds.Leaf key, beside.0)) (sym (leaves-parted context part before after same_leaves)) (beside-in end left right (opaque_pointer kinds.Leaf key, beside.0) wide))
 
     pub sibling-text : text_at text arena key ≡ beside.0
     sibling-text = text-held text arena key sibling.0 sibling.1 ∙ sibling.2
@@ -79,4 +79,4 @@ module _ {K V : Type 0} {P : ℕ} (text : K → List ℕ) (arena : ArenaOf K V P
         let now = with_leaf root prefix before byte root x after in
         let sound : IsWellFormed (plug context now) = sound-whole context part now alone.is_tree.sound (taken-sound (path_to context) prefix root before byte root x after place leads short) in
         let pairs = subst (λ all. AllPairs (λ a b. text_order a b ≡ Less) (map (λ leaf. leaf.1) all)) (leaves-filled context prefix root before byte root x after) (ascend [] (plug context now) sound) in
-        subst (LiesBeside end x) (sym sibling-text) (beside-less left right root x pairs end (pointer_to kinds.Leaf key) beside.0 wide)
+        subst (LiesBeside end x) (sym sibling-text) (beside-less left right root x pairs end (opaque_pointer kinds.Leaf key) beside.0 wide)

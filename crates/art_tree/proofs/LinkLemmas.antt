@@ -3,10 +3,10 @@ use Rattle.std.proofs.Common.{◌≡◌, ◌≢◌, ◌∙◌, ℕ, List, [], �
 use Rattle.std.specs.Option.{option_and_then}
 use Rattle.art_header.specs.declared.node_type.NodeType.TheVariants as kinds
 use Rattle.art_nodes.specs.Leaf.{leaf_key, leaf_value, previous_key, next_key}
-use Rattle.art_nodes.specs.Pointers.{node_kind, opaque_key}
+use Rattle.art_nodes.specs.Pointers.{node_kind, opaque_key, opaque_pointer}
 use Rattle.art_nodes.specs.declared.pointers.OpaqueNodePtr.{OpaqueNodePtr}
 use Rattle.art_nodes.specs.declared.leaf_node.LeafNode.{LeafNode}
-use Rattle.art_arena.specs.Arena.{ArenaOf, HeldLeaf, Nothing, held, held_leaf, pointer_to, Changes}
+use Rattle.art_arena.specs.Arena.{ArenaOf, HeldLeaf, Nothing, held, held_leaf, Changes}
 use Rattle.art_arena.specs.Links.{HoldsLeaf, IsKnit, IsUnlinked, SameButLinks, Spells, leaf_at, text_at}
 use Rattle.art_tree.specs.Edits.{HasGap, HoldsEntry, IsBeside, StaysAt}
 use Rattle.art_arena.specs.declared.ends.End.{End}
@@ -37,9 +37,9 @@ module _ {K V : Type 0} {P : ℕ} where
       subst (Spells new) (sym (joined (this ∷ right))) (links beside.0 right (subst (Spells now) (joined right) s))
 
 -- a new leaf is allocated, and then linked
-module _ {K V : Type 0} {P : ℕ} (old now : ArenaOf K V P) (this : ℕ) (leaf : LeafNode K V P) (free : held old (pointer_to kinds.Leaf this) ≡ Nothing) (changes : Changes old now (pointer_to kinds.Leaf this) (HeldLeaf leaf)) where
+module _ {K V : Type 0} {P : ℕ} (old now : ArenaOf K V P) (this : ℕ) (leaf : LeafNode K V P) (free : held old (opaque_pointer kinds.Leaf this) ≡ Nothing) (changes : Changes old now (opaque_pointer kinds.Leaf this) (HeldLeaf leaf)) where
   kept : (pointer : OpaqueNodePtr K V P) → held old pointer ≢ Nothing → held now pointer ≡ held old pointer
-  kept = kept-at old now (pointer_to kinds.Leaf this) (HeldLeaf leaf) free changes
+  kept = kept-at old now (opaque_pointer kinds.Leaf this) (HeldLeaf leaf) free changes
 
   new-at : leaf_at now this ≡ Some leaf
   new-at = leaf-of (leaf_at now this) leaf changes.changed
@@ -52,7 +52,7 @@ module _ {K V : Type 0} {P : ℕ} (old now : ArenaOf K V P) (this : ℕ) (leaf :
   new-unlinked no_previous no_next = (ap (option_and_then previous_key) new-at ∙ no_previous, ap (option_and_then next_key) new-at ∙ no_next)
 
   pub new-apart : (end : End) (sibling : ℕ) → AreKnit old → HasGap old end sibling → this ≢ sibling
-  new-apart end sibling knit gap = λ same. (knit-beside old end sibling knit gap).held (ap (λ k. held old (pointer_to kinds.Leaf k)) (sym same) ∙ free)
+  new-apart end sibling knit gap = λ same. (knit-beside old end sibling knit gap).held (ap (λ k. held old (opaque_pointer kinds.Leaf k)) (sym same) ∙ free)
 
   pub sibling-knit : (end : End) (sibling : ℕ) → AreKnit now → HasGap old end sibling → IsKnit now sibling
   sibling-knit end sibling knit gap = knit-beside now end sibling knit (record { left = gap.left; right = gap.right; spelled = Spells-kept old now kept _ gap.spelled; beside = gap.beside })
@@ -68,13 +68,13 @@ module _ {K V : Type 0} {P : ℕ} (old now : ArenaOf K V P) (this : ℕ) (leaf :
 
   module _ (new : ArenaOf K V P) (same : SameButLinks now new) where
     -- the new leaf has its entry
-    pub entry-held : (key : K) (value : V) → leaf_key leaf ≡ key → leaf_value leaf ≡ value → HoldsEntry new (pointer_to kinds.Leaf this) key value
+    pub entry-held : (key : K) (value : V) → leaf_key leaf ≡ key → leaf_value leaf ≡ value → HoldsEntry new (opaque_pointer kinds.Leaf this) key value
     entry-held key value is_key is_value =
         let after = same.leaf this leaf new-at in
         record { leaf = after.0; is_held = ap held_leaf after.1; key = after.2 ∙ is_key; value = after.3 ∙ is_value }
 
     -- and all else stays
-    pub others-stay : (pointer : OpaqueNodePtr K V P) → pointer ≢ pointer_to kinds.Leaf this → StaysAt old new pointer
+    pub others-stay : (pointer : OpaqueNodePtr K V P) → pointer ≢ opaque_pointer kinds.Leaf this → StaysAt old new pointer
     others-stay pointer differ =
         let stays = changes.others pointer differ in
         record {
@@ -83,7 +83,7 @@ module _ {K V : Type 0} {P : ℕ} (old now : ArenaOf K V P) (this : ℕ) (leaf :
             inner = λ node is. same.inner pointer node (stays ∙ is);
             leaf = λ other is.
                 let kind = leaf-kind old (node_kind pointer) (opaque_key pointer) other is in
-                let place : pointer_to kinds.Leaf (opaque_key pointer) ≡ pointer = λ i. record { node_type = (sym kind) i; key = opaque_key pointer; leaf = record {} } in
+                let place : opaque_pointer kinds.Leaf (opaque_key pointer) ≡ pointer = λ i. record { node_type = (sym kind) i; key = opaque_key pointer; leaf = record {} } in
                 let after = same.leaf (opaque_key pointer) other (leaf-of (leaf_at now (opaque_key pointer)) other (ap (held now) place ∙ stays ∙ is)) in
                 (after.0, ap (held new) (sym place) ∙ ap held_leaf after.1, after.2, after.3);
           };

@@ -9,11 +9,11 @@ use Rattle.std.specs.declared.cmp.Ordering.TheVariants.{Less}
 use Rattle.art_bytes.specs.Text.{text_order}
 use Rattle.art_header.specs.declared.node_type.NodeType.TheVariants as kinds
 use Rattle.art_nodes.specs.Leaf.{leaf_key, leaf_value, previous_key, next_key}
-use Rattle.art_nodes.specs.Pointers.{node_kind, opaque_key, slab_key}
+use Rattle.art_nodes.specs.Pointers.{node_kind, opaque_key, slab_key, opaque_pointer}
 use Rattle.art_nodes.specs.declared.pointers.NodePtr.{NodePtr}
 use Rattle.art_nodes.specs.declared.pointers.OpaqueNodePtr.{OpaqueNodePtr}
 use Rattle.art_nodes.specs.declared.leaf_node.LeafNode.{LeafNode}
-use Rattle.art_arena.specs.Arena.{ArenaOf, Held, HeldInner, HeldLeaf, Nothing, held, held_leaf, pointer_to, Changes}
+use Rattle.art_arena.specs.Arena.{ArenaOf, Held, HeldInner, HeldLeaf, Nothing, held, held_leaf, Changes}
 use Rattle.art_arena.specs.Links.{HoldsLeaf, IsKnit, IsUnlinked, SameButLinks, StandsBetween, Spells, SpellsAfter, leaf_at, next_at, text_at}
 use Rattle.art_tree.specs.Plan.{texts_of}
 use Rattle.art_tree.specs.Plan as plan
@@ -25,7 +25,7 @@ use Rattle.art_tree.proofs.Rising.{adds-more, leaf-of, text-held}
 use Rattle.art_tree.proofs.WayLemmas.{leaf-kind}
 
 module _ {K V : Type 0} {P : ℕ} where
-  leaf-place : (arena : ArenaOf K V P) (pointer : OpaqueNodePtr K V P) (leaf : LeafNode K V P) → held arena pointer ≡ HeldLeaf leaf → pointer_to kinds.Leaf (opaque_key pointer) ≡ pointer
+  leaf-place : (arena : ArenaOf K V P) (pointer : OpaqueNodePtr K V P) (leaf : LeafNode K V P) → held arena pointer ≡ HeldLeaf leaf → opaque_pointer kinds.Leaf (opaque_key pointer) ≡ pointer
   leaf-place arena pointer leaf e = let kind = leaf-kind arena (node_kind pointer) (opaque_key pointer) leaf e in λ i. record { node_type = (sym kind) i; key = opaque_key pointer; leaf = record {} }
 
   -- what stays where a free place is taken
@@ -78,8 +78,8 @@ module _ {K V : Type 0} {P : ℕ} where
   spells-kept : (now new : ArenaOf K V P) → ((pointer : OpaqueNodePtr K V P) → held now pointer ≢ Nothing → held new pointer ≡ held now pointer) → (before : Option ℕ) (keys : List ℕ) → SpellsAfter now before keys → SpellsAfter new before keys
   spells-kept now new kept before [] h = tt
   spells-kept now new kept before (key ∷ keys) h =
-      let there : held now (pointer_to kinds.Leaf key) ≡ HeldLeaf h.0.0 = ap held_leaf h.0.1 in
-      let after = kept (pointer_to kinds.Leaf key) (subst (λ x. x ≢ Nothing) (sym there) (λ e. cc)) ∙ there in
+      let there : held now (opaque_pointer kinds.Leaf key) ≡ HeldLeaf h.0.0 = ap held_leaf h.0.1 in
+      let after = kept (opaque_pointer kinds.Leaf key) (subst (λ x. x ≢ Nothing) (sym there) (λ e. cc)) ∙ there in
       ((h.0.0, leaf-of (leaf_at new key) h.0.0 after, h.0.2, h.0.3), spells-kept now new kept (Some key) keys h.1)
 
   pub Spells-kept : (now new : ArenaOf K V P) → ((pointer : OpaqueNodePtr K V P) → held now pointer ≢ Nothing → held new pointer ≡ held now pointer) → (keys : List ℕ) → Spells now keys → Spells new keys
@@ -112,12 +112,12 @@ module _ {K V : Type 0} {P : ℕ} where
             subst (λ x. x ≢ Nothing) (sym (ap (held new) (sym place) ∙ ap held_leaf after.1)) (λ none. cc)
 
     -- links change only in new leaves
-    adds-links : (old : ArenaOf K V P) (xs : List (OpaqueNodePtr K V P)) → Contains xs (pointer_to kinds.Leaf this) → Contains xs (pointer_to kinds.Leaf sibling) → Adds old now xs → Adds old new xs
+    adds-links : (old : ArenaOf K V P) (xs : List (OpaqueNodePtr K V P)) → Contains xs (opaque_pointer kinds.Leaf this) → Contains xs (opaque_pointer kinds.Leaf sibling) → Adds old now xs → Adds old new xs
     adds-links old xs has_this has_sibling a =
-        let apart : (pointer : OpaqueNodePtr K V P) → held old pointer ≢ Nothing → (key : ℕ) → Contains xs (pointer_to kinds.Leaf key) → opaque_key pointer ≡ key → node_kind pointer ≡ kinds.Leaf → ⊥ =
+        let apart : (pointer : OpaqueNodePtr K V P) → held old pointer ≢ Nothing → (key : ℕ) → Contains xs (opaque_pointer kinds.Leaf key) → opaque_key pointer ≡ key → node_kind pointer ≡ kinds.Leaf → ⊥ =
         λ pointer was key has is_key is_kind.
-        let at : pointer_to kinds.Leaf key ≡ pointer = λ i. record { node_type = (sym is_kind) i; key = (sym is_key) i; leaf = record {} } in
-        was (ap (held old) (sym at) ∙ a.were_free (pointer_to kinds.Leaf key) has) in
+        let at : opaque_pointer kinds.Leaf key ≡ pointer = λ i. record { node_type = (sym is_kind) i; key = (sym is_key) i; leaf = record {} } in
+        was (ap (held old) (sym at) ∙ a.were_free (opaque_pointer kinds.Leaf key) has) in
         record {
           kept = λ pointer was. stays pointer (apart pointer was this has_this) (apart pointer was sibling has_sibling) ∙ a.kept pointer was;
           were_free = a.were_free;
@@ -169,7 +169,7 @@ module _ {K V : Type 0} {P : ℕ} where
         no_next = no_next;
         apart = λ front sibling split same.
             let inside : Contains xs (leaf_pointer sibling) = subst (λ z. Contains z (leaf_pointer sibling)) (sym (ap (map leaf_pointer) split ∙ map-append leaf_pointer front (sibling ∷ []))) (Contains-push (map leaf_pointer front) (leaf_pointer sibling)) in
-            l.adds.are_held (leaf_pointer sibling) inside (ap (λ k. held now (pointer_to kinds.Leaf k)) (sym same) ∙ free);
+            l.adds.are_held (leaf_pointer sibling) inside (ap (λ k. held now (opaque_pointer kinds.Leaf k)) (sym same) ∙ free);
       }
 
   -- the first leaf is a list of its own

@@ -6,11 +6,11 @@ use Rattle.art_header.specs.declared.node_type.NodeType.{NodeType}
 use Rattle.art_header.specs.declared.node_type.NodeType.TheVariants as kinds
 use Rattle.art_nodes.specs.Inner as nodes
 use Rattle.art_nodes.specs.Leaf.{leaf_key, leaf_value}
-use Rattle.art_nodes.specs.Pointers.{node_kind, opaque_key}
+use Rattle.art_nodes.specs.Pointers.{node_kind, opaque_key, opaque_pointer}
 use Rattle.art_nodes.specs.declared.pointers.NodePtr.{NodePtr}
 use Rattle.art_nodes.specs.declared.pointers.OpaqueNodePtr.{OpaqueNodePtr}
 use Rattle.art_nodes.specs.declared.leaf_node.LeafNode.{LeafNode}
-use Rattle.art_arena.specs.Arena.{ArenaOf, HeldInner, HeldLeaf, Nothing, held, held_leaf, pointer_to, room, Changes, SameRoom, SameOtherRoom}
+use Rattle.art_arena.specs.Arena.{ArenaOf, HeldInner, HeldLeaf, Nothing, held, held_leaf, room, Changes, SameRoom, SameOtherRoom}
 use Rattle.art_arena.specs.Links.{AreDistinct, HoldsLeaf, IsKnit, SameButLinks, Spells, SpellsAfter, leaf_at}
 use Rattle.art_arena.specs.Standing.{IsTreeIn, StandsIn}
 use Rattle.art_arena.specs.Trees.{Tree, Leaf, Inner, Branch, leaves, texts}
@@ -49,25 +49,25 @@ module _ {K V : Type 0} {P : ℕ} (old linked : ArenaOf K V P) (this : ℕ) (sam
       by_slot (Some leaf) is = let wrong : HeldLeaf (same.leaf this leaf is).0 ≡ Nothing = sym (ap held_leaf (same.leaf this leaf is).1) ∙ none in absurd (cc)
 
   -- its entry is the one that it had
-  pub taken-entry : (taken was : LeafNode K V P) → held linked (pointer_to kinds.Leaf this) ≡ HeldLeaf taken → held old (pointer_to kinds.Leaf this) ≡ HeldLeaf was → (entry : K × V) → entry.0 ≡ leaf_key taken → entry.1 ≡ leaf_value taken → entry ≡ (leaf_key was, leaf_value was)
+  pub taken-entry : (taken was : LeafNode K V P) → held linked (opaque_pointer kinds.Leaf this) ≡ HeldLeaf taken → held old (opaque_pointer kinds.Leaf this) ≡ HeldLeaf was → (entry : K × V) → entry.0 ≡ leaf_key taken → entry.1 ≡ leaf_value taken → entry ≡ (leaf_key was, leaf_value was)
   taken-entry taken was is had entry key value =
       let after = same.leaf this was (leaf-of (leaf_at old this) was had) in
-      let one : taken ≡ after.0 = one-leaf (held linked (pointer_to kinds.Leaf this)) taken after.0 is (ap held_leaf after.1) in
+      let one : taken ≡ after.0 = one-leaf (held linked (opaque_pointer kinds.Leaf this)) taken after.0 is (ap held_leaf after.1) in
       λ i. ((key ∙ ap leaf_key one ∙ after.2) i, (value ∙ ap leaf_value one ∙ after.3) i)
 
-  module _ (new : ArenaOf K V P) (changes : Changes linked new (pointer_to kinds.Leaf this) Nothing) where
+  module _ (new : ArenaOf K V P) (changes : Changes linked new (opaque_pointer kinds.Leaf this) Nothing) where
     -- a list without the leaf is spelled on
     spells-without : (before : Option ℕ) (keys : List ℕ) → All (λ other. other ≢ this) keys → SpellsAfter linked before keys → SpellsAfter new before keys
     spells-without before [] apart spelled = tt
     spells-without before (key ∷ keys) apart ((leaf, at, previous, next), rest) =
-        let other : pointer_to {K = K} {V = V} {P = P} kinds.Leaf key ≢ pointer_to kinds.Leaf this = λ one. All-head (λ k. k ≢ this) key keys apart (ap opaque_key one) in
-        ((leaf, leaf-of (leaf_at new key) leaf (changes.others (pointer_to kinds.Leaf key) other ∙ ap held_leaf at), previous, next), spells-without (Some key) keys (All-tail (λ k. k ≢ this) key keys apart) rest)
+        let other : opaque_pointer {K = K} {V = V} {P = P} kinds.Leaf key ≢ opaque_pointer kinds.Leaf this = λ one. All-head (λ k. k ≢ this) key keys apart (ap opaque_key one) in
+        ((leaf, leaf-of (leaf_at new key) leaf (changes.others (opaque_pointer kinds.Leaf key) other ∙ ap held_leaf at), previous, next), spells-without (Some key) keys (All-tail (λ k. k ≢ this) key keys apart) rest)
 
     pub left-spelled : (left right : List ℕ) → Spells old (left ++ this ∷ right) → Spells linked (left ++ right) → Spells new (left ++ right)
     left-spelled left right was is = record { distinct = is.distinct; spelled = spells-without None (left ++ right) (apart-from left this right was.distinct) is.spelled }
 
     -- all else stays
-    pub others-left : (pointer : OpaqueNodePtr K V P) → pointer ≢ pointer_to kinds.Leaf this → StaysAt old new pointer
+    pub others-left : (pointer : OpaqueNodePtr K V P) → pointer ≢ opaque_pointer kinds.Leaf this → StaysAt old new pointer
     others-left pointer differ =
         let stays = changes.others pointer differ in
         record {
@@ -76,7 +76,7 @@ module _ {K V : Type 0} {P : ℕ} (old linked : ArenaOf K V P) (this : ℕ) (sam
             inner = λ node is. stays ∙ same.inner pointer node is;
             leaf = λ other is.
                 let kind = leaf-kind old (node_kind pointer) (opaque_key pointer) other is in
-                let place : pointer_to kinds.Leaf (opaque_key pointer) ≡ pointer = λ i. record { node_type = (sym kind) i; key = opaque_key pointer; leaf = record {} } in
+                let place : opaque_pointer kinds.Leaf (opaque_key pointer) ≡ pointer = λ i. record { node_type = (sym kind) i; key = opaque_key pointer; leaf = record {} } in
                 let after = same.leaf (opaque_key pointer) other (leaf-of (leaf_at old (opaque_key pointer)) other (ap (held old) place ∙ is)) in
                 (after.0, stays ∙ ap (held linked) (sym place) ∙ ap held_leaf after.1, after.2, after.3);
           };

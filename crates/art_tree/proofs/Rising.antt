@@ -12,12 +12,12 @@ use Rattle.art_header.specs.declared.node_type.NodeType.TheVariants as kinds
 use Rattle.art_nodes.specs.ChildMap.{IsAscending, IsAscendingFrom, key_bytes}
 use Rattle.art_nodes.specs.Inner as nodes
 use Rattle.art_nodes.specs.Leaf.{leaf_key}
-use Rattle.art_nodes.specs.Pointers.{node_kind, opaque_key, slab_key}
+use Rattle.art_nodes.specs.Pointers.{node_kind, opaque_key, slab_key, opaque_pointer}
 use Rattle.art_nodes.specs.declared.pointers.NodePtr.{NodePtr}
 use Rattle.art_nodes.specs.declared.pointers.OpaqueNodePtr.{OpaqueNodePtr}
 use Rattle.art_nodes.specs.declared.leaf_node.LeafNode.{LeafNode}
 use Rattle.art_nodes.proofs.KindLaws.{same_or_differ}
-use Rattle.art_arena.specs.Arena.{ArenaOf, Held, HeldInner, HeldLeaf, Nothing, held, held_leaf, pointer_to, room, SameOtherRoom, Changes}
+use Rattle.art_arena.specs.Arena.{ArenaOf, Held, HeldInner, HeldLeaf, Nothing, held, held_leaf, room, SameOtherRoom, Changes}
 use Rattle.art_arena.specs.Links.{HoldsLeaf, leaf_at, text_at}
 use Rattle.art_arena.specs.Standing.{NodeStands, StandsIn, AllStandIn, leaf_text}
 use Rattle.art_arena.specs.Trees.{Tree, Leaf, Inner, Branches, NoBranch, Branch, branch_roots, branch_leaves, branch_places, leaves, places, root_of}
@@ -100,14 +100,14 @@ module _ {K V : Type 0} {P : ℕ} where
   leaf-held None h = absurd (h refl)
   leaf-held (Some leaf) h = (leaf, refl)
 
-  pub text-held : (text : K → List ℕ) (arena : ArenaOf K V P) (key : ℕ) (leaf : LeafNode K V P) → held arena (pointer_to kinds.Leaf key) ≡ HeldLeaf leaf → text_at text arena key ≡ text (leaf_key leaf)
+  pub text-held : (text : K → List ℕ) (arena : ArenaOf K V P) (key : ℕ) (leaf : LeafNode K V P) → held arena (opaque_pointer kinds.Leaf key) ≡ HeldLeaf leaf → text_at text arena key ≡ text (leaf_key leaf)
   text-held text arena key leaf e = ap (λ o. option_map_or (λ (l : LeafNode K V P). text (leaf_key l)) o []) (leaf-of (leaf_at arena key) leaf e)
 
   -- what an allocation answers
-  pub placed : (old new : ArenaOf K V P) (kind : NodeType) (key : ℕ) (node : nodes.Inner (OpaqueNodePtr K V P)) (at : OpaqueNodePtr K V P) → node_kind at ≡ kind → opaque_key at ≡ key → held old (pointer_to kind key) ≡ Nothing
-      → Changes old new (pointer_to kind key) (HeldInner node) → room old kind ≤ room new kind + 1 → SameOtherRoom old new kind → IsPlaced old new kind node at
+  pub placed : (old new : ArenaOf K V P) (kind : NodeType) (key : ℕ) (node : nodes.Inner (OpaqueNodePtr K V P)) (at : OpaqueNodePtr K V P) → node_kind at ≡ kind → opaque_key at ≡ key → held old (opaque_pointer kind key) ≡ Nothing
+      → Changes old new (opaque_pointer kind key) (HeldInner node) → room old kind ≤ room new kind + 1 → SameOtherRoom old new kind → IsPlaced old new kind node at
   placed old new kind key node at is_kind is_key free changes rooms others =
-      let same : pointer_to kind key ≡ at = λ i. record { node_type = (sym is_kind) i; key = (sym is_key) i; leaf = record {} } in
+      let same : opaque_pointer kind key ≡ at = λ i. record { node_type = (sym is_kind) i; key = (sym is_key) i; leaf = record {} } in
       record { is_kind = is_kind; was_free = subst (λ p. held old p ≡ Nothing) same free; changes = subst (λ p. Changes old new p (HeldInner node)) same changes; room = rooms; other_room = others }
 
   module _ (text : K → List ℕ) (arena : ArenaOf K V P) where
@@ -384,7 +384,7 @@ module _ {K V : Type 0} {P : ℕ} (text : K → List ℕ) (old : ArenaOf K V P) 
   pointer-there (leaf ∷ of) (suc i) d lt = pointer-there of i d (omega arith)
 
   -- the leaf that is held under a key
-  pub leaf-there : (key : ℕ) → HoldsLeaf old key → (leaf : LeafNode K V P) × (held old (pointer_to kinds.Leaf key) ≡ HeldLeaf leaf) × (leaf_text text leaf ≡ text_at text old key)
+  pub leaf-there : (key : ℕ) → HoldsLeaf old key → (leaf : LeafNode K V P) × (held old (opaque_pointer kinds.Leaf key) ≡ HeldLeaf leaf) × (leaf_text text leaf ≡ text_at text old key)
   leaf-there key is_held =
       let found = leaf-held (leaf_at old key) is_held in
       (found.0, ap held_leaf found.1, ap (λ o. option_map_or (λ (l : LeafNode K V P). text (leaf_key l)) o []) (sym found.1))
@@ -393,7 +393,7 @@ module _ {K V : Type 0} {P : ℕ} (text : K → List ℕ) (old : ArenaOf K V P) 
   pub text-kept : (now : ArenaOf K V P) (key : ℕ) → HoldsLeaf old key → ((pointer : OpaqueNodePtr K V P) → held old pointer ≢ Nothing → held now pointer ≡ held old pointer) → HoldsLeaf now key × (text_at text now key ≡ text_at text old key)
   text-kept now key is_held kept =
       let found = leaf-there key is_held in
-      let same = kept (pointer_to kinds.Leaf key) is_held in
+      let same = kept (opaque_pointer kinds.Leaf key) is_held in
       (subst (λ h. h ≢ Nothing) (sym same) is_held, text-held text now key found.0 (same ∙ found.1) ∙ found.2)
 
   pub texts-there : (of : List (NodePtr P (LeafNode K V P))) (i : ℕ) (d : NodePtr P (LeafNode K V P)) → i < length of → get_or (leaf_texts text old of) i [] ≡ text_at text old (slab_key (get_or of i d))

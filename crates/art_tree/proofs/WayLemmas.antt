@@ -22,7 +22,7 @@ use Rattle.art_arena.specs.Standing.{StandsIn, AllStandIn, NodeStands, IsTreeIn,
 use Rattle.art_arena.specs.Trees.{Tree, Leaf, Inner, Branches, IsSound, root_of, branch_roots}
 use Rattle.art_tree.specs.declared.path.TreePathSearch.{TreePathSearch}
 use Rattle.art_tree.specs.Descent.{LeadsOn, LeadsNowhere, LeadsOnFrom, LeadsNowhereFrom}
-use Rattle.art_tree.specs.Paths.{Steps, StandsFor}
+use Rattle.art_tree.specs.Paths.{Steps, HasVisited}
 use Rattle.art_tree.specs.Search.{scan, met, IsWay, leaf_pointer}
 use Rattle.art_tree.proofs.DescentLemmas.{front-goes}
 use Rattle.art_tree.proofs.ScanLemmas.{scan-nowhere, met-nowhere, branching, other-text, text-itself}
@@ -44,7 +44,7 @@ pub record IsHere {K V : Type 0} {P : ℕ} (text : K → List ℕ) (arena : Aren
   pub same_scan : scan whole key ≡ scan part key
   pub same_met : length (met P whole key) ≡ length steps + length (met P part (drop depth key))
   pub way_on : (more : Steps K V P) (pointer : OpaqueNodePtr K V P) → IsWay part more pointer → IsWay whole (steps ++ more) pointer
-  pub remembered : StandsFor search steps
+  pub remembered : HasVisited search steps
   pub counted : left + length steps ≡ budget
   pub few : length steps ≤ depth
 
@@ -69,7 +69,7 @@ module _ {K V : Type 0} {P : ℕ} where
   leaf-pointer-is at leaf kind key = λ i. record { node_type = sym kind i; key = key i; leaf = record {} }
 
 module _ {K V : Type 0} {P : ℕ} (text : K → List ℕ) (arena : ArenaOf K V P) (whole : Tree (OpaqueNodePtr K V P)) (key : List ℕ) where
-  pub here-start : (root : OpaqueNodePtr K V P) (search : TreePathSearch K V P) (budget : ℕ) → IsTreeIn text arena root whole → StandsFor search [] → IsHere text arena whole key root 0 search budget budget
+  pub here-start : (root : OpaqueNodePtr K V P) (search : TreePathSearch K V P) (budget : ℕ) → IsTreeIn text arena root whole → HasVisited search [] → IsHere text arena whole key root 0 search budget budget
   here-start root search budget is empty = record { part = whole; path = []; steps = []; at_root = is.at_root; stands = is.stands; sound = is.sound; deep = refl; same_scan = refl; same_met = omega arith; way_on = λ more pointer way. way; remembered = empty; counted = omega arith; few = omega arith }
 
   module _ (at : OpaqueNodePtr K V P) (depth : ℕ) (search : TreePathSearch K V P) (budget left : ℕ) (here : IsHere text arena whole key at depth search budget left) where
@@ -154,7 +154,7 @@ module _ {K V : Type 0} {P : ℕ} (text : K → List ℕ) (arena : ArenaOf K V P
             let none = met-nowhere P n.prefix (drop depth key) n.branches (λ byte goes. subst (λ c. child_at c byte ≡ None) n.shows.children (nowhere n.prefix byte shown-prefix goes)) in
             n.same_met ∙ ap (λ below. length here.steps + length (at ∷ below)) none
 
-        on-at : (next : ℕ × OpaqueNodePtr K V P) → LeadsOn P node key depth next → (visited : TreePathSearch K V P) → ((steps : Steps K V P) (byte : ℕ) → slice_get key next.0 ≡ Some byte → StandsFor search steps → StandsFor visited (steps ++ (at, byte) ∷ []))
+        on-at : (next : ℕ × OpaqueNodePtr K V P) → LeadsOn P node key depth next → (visited : TreePathSearch K V P) → ((steps : Steps K V P) (byte : ℕ) → slice_get key next.0 ≡ Some byte → HasVisited search steps → HasVisited visited (steps ++ (at, byte) ∷ []))
             → (after : ℕ) → after + 1 ≡ left → IsHere text arena whole key next.1 (next.0 + 1) visited budget after
         on-at next on visited visits after looked =
             let far : length (here.path ++ n.prefix) ≡ depth + length n.prefix = omega (arith, length-append here.path n.prefix, here.deep) in
@@ -185,7 +185,7 @@ module _ {K V : Type 0} {P : ℕ} (text : K → List ℕ) (arena : ArenaOf K V P
       pub here-nowhere-met : LeadsNowhere P node key depth → length (met P whole key) ≡ length here.steps + 1
       here-nowhere-met nowhere = nowhere-met at_node nowhere
 
-      pub here-on : (next : ℕ × OpaqueNodePtr K V P) → LeadsOn P node key depth next → (visited : TreePathSearch K V P) → ((steps : Steps K V P) (byte : ℕ) → slice_get key next.0 ≡ Some byte → StandsFor search steps → StandsFor visited (steps ++ (at, byte) ∷ []))
+      pub here-on : (next : ℕ × OpaqueNodePtr K V P) → LeadsOn P node key depth next → (visited : TreePathSearch K V P) → ((steps : Steps K V P) (byte : ℕ) → slice_get key next.0 ≡ Some byte → HasVisited search steps → HasVisited visited (steps ++ (at, byte) ∷ []))
           → (after : ℕ) → after + 1 ≡ left → IsHere text arena whole key next.1 (next.0 + 1) visited budget after
       here-on next on visited visits after looked = on-at at_node next on visited visits after looked
 

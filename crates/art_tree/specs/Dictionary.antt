@@ -38,6 +38,10 @@ module _ {K V : Type 0} {P : ℕ} (text : K → List ℕ) where
 abbrev pub IsProperFront : List ℕ → List ℕ → Type 0
 IsProperFront a b = IsFront a b × (a ≢ b)
 
+-- one of the two is a proper front of the other
+abbrev pub AreAtOdds : List ℕ → List ℕ → Type 0
+AreAtOdds a b = IsProperFront a b ⊎ IsProperFront b a
+
 -- one of these texts is a proper front of this one, or this one of it
 abbrev pub Clashes : List (List ℕ) → List ℕ → Type 0
-Clashes texts text = (other : List ℕ) × Contains texts other × (IsProperFront other text ⊎ IsProperFront text other)
+Clashes texts text = (other : List ℕ) × Contains texts other × AreAtOdds other text

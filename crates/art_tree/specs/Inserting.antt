@@ -1,14 +1,14 @@
 -- What an insert answers and leaves.
-use Rattle.std.specs.Prelude.{◌≡◌, ◌≢◌, ◌⊎◌, ℕ, ◌<◌, ◌≤◌, ◌^◌, List, length, Some, None}
+use Rattle.std.specs.Prelude.{◌≡◌, ◌≢◌, ℕ, ◌<◌, ◌≤◌, ◌^◌, List, length, Some, None}
 use Rattle.art_arena.specs.Arena.{ArenaOf}
-use Rattle.art_tree.specs.Dictionary.{entry_at, HasEntry, IsProperFront}
+use Rattle.art_tree.specs.Dictionary.{entry_at, HasEntry, AreAtOdds}
 use Rattle.art_tree.specs.declared.insert.InsertRefusal.{InsertRefusal}
 use Rattle.art_tree.specs.declared.insert.InsertRefusal.TheVariants.{KeyTooLong, Prefix, OutOfMemory}
 
 module _ {K V : Type 0} {P : ℕ} (text : K → List ℕ) where
   -- a text that has an entry is a proper front of this one, or this one of it
   abbrev pub ClashesIn : ArenaOf K V P → List ℕ → Type 0
-  ClashesIn arena x = (other : List ℕ) × HasEntry text arena other × (IsProperFront other x ⊎ IsProperFront x other)
+  ClashesIn arena x = (other : List ℕ) × HasEntry text arena other × AreAtOdds other x
 
   -- nothing but want of memory refuses an entry with this text
   abbrev pub MayEnter : ArenaOf K V P → List ℕ → Type 0

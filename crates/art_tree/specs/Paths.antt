@@ -30,5 +30,5 @@ module _ {K V : Type 0} {P : ℕ} where
   finished search = finished_with search.visited search
 
   -- a search stands for the steps whose path it would answer
-  abbrev pub StandsFor : TreePathSearch K V P → Steps K V P → Type 0
-  StandsFor search steps = finished search ≡ path_of steps
+  abbrev pub HasVisited : TreePathSearch K V P → Steps K V P → Type 0
+  HasVisited search steps = finished search ≡ path_of steps

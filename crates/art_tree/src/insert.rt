@@ -6,7 +6,7 @@ ghost use Rattle.art_header.specs.declared.node_type.NodeType.TheVariants.{Leaf,
 ghost use Rattle.art_nodes.specs.ChildMap.{first_pair, pairs_within};
 ghost use Rattle.art_nodes.specs.Inner.{Inner};
 ghost use Rattle.art_nodes.specs.Pointers.{node_kind, slab_key};
-ghost use Rattle.art_arena.specs.Arena.{held, HeldInner, Nothing, room, SameNodes};
+ghost use Rattle.art_arena.specs.Arena.{held, HeldInner, Nothing, room, SameNodes, SameRoom};
 ghost use Rattle.art_arena.specs.Links.{HoldsLeaf};
 ghost use Rattle.art_arena.specs.Trees.{leaves, branch_leaves};
 ghost use Rattle.art_tree.specs.Art.{IsArt, IsAlone};
@@ -107,10 +107,11 @@ pub(crate) fn replace_entry<K: AsBytes, V, const PREFIX_LEN: usize>(
     value: V,
 ) -> (K, V)
     requires { HoldsLeaf arena.old (slab_key leaf) }
-    ensures { (root : _) (tree : _) → IsAlone K.text arena.old root tree →
+    ensures entered { (root : _) (tree : _) → IsAlone K.text arena.old root tree →
         Contains (leaves tree) (leaf_pointer leaf, K.text key) →
         IsAlone K.text arena.new root tree × IsEntered K.text arena.old arena.new key value ×
         (entry_at K.text arena.old (K.text key) ≡ Some result) }
+    ensures takes_no_memory { SameRoom arena.old arena.new }
 {
     no_text_begins_another::<OpaqueNodePtr<K, V, PREFIX_LEN>>();
     trees_stand_where_texts_are_kept::<K, V, PREFIX_LEN>();
@@ -313,6 +314,8 @@ pub(crate) fn insert_entry<K: AsBytes, V, const PREFIX_LEN: usize>(
     ensures entry_back { IfErr result (λ fault. (fault.key ≡ key) × (fault.value ≡ value)) }
     ensures same_entries { OnErr result (SameEntries K.text arena.old arena.new) }
     ensures nodes_kept { OnErr result (SameNodes arena.old arena.new) }
+    ensures takes_no_memory { entry_at K.text arena.old (K.text key) ≢ None →
+        SameRoom arena.old arena.new }
 {
     no_text_begins_another::<OpaqueNodePtr<K, V, PREFIX_LEN>>();
     if key.as_bytes().len() >= 1 << 32 {

@@ -48,7 +48,8 @@ struct Prepared<K, V, const PREFIX_LEN: usize> {
 /// fault that [`LoadRefusal`] lists first. Want of memory is answered only where the entries have no
 /// fault, and before any of them is moved.
 ///
-/// Takes time linear in the bytes of all keys together.
+/// Takes time linear in the bytes of all keys together. The allocator is for working memory, which is
+/// given back before the answer; the nodes take memory of the arena's own.
 pub fn load<K: AsBytes, V, const PREFIX_LEN: usize>(
     alloc: Global,
     arena: &mut NodeArena<K, V, PREFIX_LEN>,

@@ -5,8 +5,8 @@ ghost use Rattle.art_header.specs.NodeType.{most_children};
 ghost use Rattle.art_header.specs.declared.node_type.NodeType.TheVariants.{Leaf};
 ghost use Rattle.art_nodes.specs.ChildMap.{IsAscending, key_bytes};
 ghost use Rattle.art_nodes.specs.Inner.{Inner, HasRoomFor, node_with_child};
-ghost use Rattle.art_nodes.specs.Pointers.{node_kind, slab_key};
-ghost use Rattle.art_arena.specs.Arena.{held, HeldInner, Nothing, pointer_to, room, Changes};
+ghost use Rattle.art_nodes.specs.Pointers.{node_kind, slab_key, opaque_pointer};
+ghost use Rattle.art_arena.specs.Arena.{held, HeldInner, Nothing, room, Changes};
 ghost use Rattle.art_arena.specs.Links.{HoldsLeaf, text_at};
 ghost use Rattle.art_tree.specs.Edits.{IsReplaced};
 ghost use Rattle.art_tree.specs.Hanging.{CanHang, IsHung};
@@ -86,12 +86,12 @@ fn inner_node<K, V, const PREFIX_LEN: usize, N: InnerNodeCommon<K, V, PREFIX_LEN
     let (byte, child) = children[0];
     let first = N::builder(prefix, prefix.len()).write_child(byte, child);
     let (byte, child) = children[1];
-    let mut builder = first.write_child(byte, child);
+    let mut node = first.write_child(byte, child).build();
     for i in 2..children.len() {
         let (byte, child) = children[i];
-        builder = builder.write_child(byte, child);
+        node.write_child(byte, child);
     }
-    builder.build()
+    node
 }
 
 // Places the inner node of one type whose prefix the leaf's text has from `start` to `end`.
@@ -131,8 +131,8 @@ fn give_up_node<K, V, const PREFIX_LEN: usize, N: ArenaNode<K, V, PREFIX_LEN> + 
     arena: &mut NodeArena<K, V, PREFIX_LEN>,
     node: NodePtr<PREFIX_LEN, N>,
 )
-    requires { held arena.old (pointer_to N.TYPE (slab_key node)) ≢ Nothing }
-    ensures { Changes arena.old arena.new (pointer_to N.TYPE (slab_key node)) Nothing }
+    requires { held arena.old (opaque_pointer N.TYPE (slab_key node)) ≢ Nothing }
+    ensures { Changes arena.old arena.new (opaque_pointer N.TYPE (slab_key node)) Nothing }
 {
     arena.deallocate_node_ptr(node);
 }

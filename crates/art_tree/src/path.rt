@@ -1,6 +1,6 @@
 //! Paths: the last two nodes on the way to a leaf.
 ghost use Rattle.std.specs.Prelude.{◌≡◌, ◌↔◌, [], ◌∷◌, ◌++◌};
-ghost use Rattle.art_tree.specs.Paths.{Steps, path_of, StandsFor};
+ghost use Rattle.art_tree.specs.Paths.{Steps, path_of, HasVisited};
 
 use art_nodes::OpaqueNodePtr;
 
@@ -53,9 +53,9 @@ pub struct TreePathSearch<K, V, const PREFIX_LEN: usize> {
 /// A search that has visited no node.
 impl<K, V, const PREFIX_LEN: usize> Default for TreePathSearch<K, V, PREFIX_LEN> {
     ghost use Rattle.std.specs.Prelude.{[]};
-    ghost use Rattle.art_tree.specs.Paths.{StandsFor};
+    ghost use Rattle.art_tree.specs.Paths.{HasVisited};
 
-    ghost is_default = { λ search. StandsFor search [] };
+    ghost is_default = { λ search. HasVisited search [] };
 
     fn default() -> Self {
         TreePathSearch {
@@ -71,8 +71,8 @@ impl<K, V, const PREFIX_LEN: usize> Default for TreePathSearch<K, V, PREFIX_LEN>
 impl<K, V, const PREFIX_LEN: usize> TreePathSearch<K, V, PREFIX_LEN> {
     /// Visits an inner node and takes this byte from it.
     pub fn visit_inner_node(&mut self, inner_node: OpaqueNodePtr<K, V, PREFIX_LEN>, key_byte: u8)
-        ensures { (steps : Steps K V PREFIX_LEN) → StandsFor self.old steps →
-            StandsFor self.new (steps ++ (inner_node, key_byte) ∷ []) }
+        ensures { (steps : Steps K V PREFIX_LEN) → HasVisited self.old steps →
+            HasVisited self.new (steps ++ (inner_node, key_byte) ∷ []) }
     {
         self.visited = match self.visited {
             Visited::NoNode => Visited::OneNode,
@@ -86,7 +86,7 @@ impl<K, V, const PREFIX_LEN: usize> TreePathSearch<K, V, PREFIX_LEN> {
 
     /// The path that the visits make.
     pub fn finish(self) -> TreePath<K, V, PREFIX_LEN>
-        ensures { (steps : Steps K V PREFIX_LEN) → StandsFor self steps ↔ (result ≡ path_of steps) }
+        ensures { (steps : Steps K V PREFIX_LEN) → HasVisited self steps ↔ (result ≡ path_of steps) }
     {
         match self.visited {
             Visited::NoNode => TreePath::Root,

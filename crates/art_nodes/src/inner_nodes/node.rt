@@ -4,7 +4,7 @@ ghost use Rattle.art_nodes.specs.ChildMap.{child_at, first_pair, last_pair, pair
 ghost use Rattle.art_nodes.specs.PrefixMatch.{optimistic_match, cheap_match, IsPrefixOf};
 ghost use Rattle.art_header.specs.Header.{capped, empty_header};
 ghost use Rattle.art_bytes.specs.Text.{IsFront};
-ghost use Rattle.art_nodes.specs.Inner.{Inner, HasRoomFor, empty_inner, IsInner, header_of, node_with_child, node_without_child, with_prefix};
+ghost use Rattle.art_nodes.specs.Inner.{Inner, HasRoomFor, empty_inner, IsInner, header_of, node_with_child, node_without_child, node_with_prefix_of};
 
 use crate::inner_nodes::builder::{InnerNodeBuilder, NoChild};
 use crate::inner_nodes::prefix_match::{
@@ -75,7 +75,7 @@ pub trait InnerNodeCommon<K, V, const PREFIX_LEN: usize>: InnerNodeInit<PREFIX_L
     /// Takes over the prefix of this header: its length and its stored front. The children and
     /// their count stay.
     fn set_prefix(&mut self, header: &Header<PREFIX_LEN>)
-        ensures { inner self.new ≡ with_prefix (inner self.old) header.now };
+        ensures { inner self.new ≡ node_with_prefix_of (inner self.old) header.now };
 
     /// The child under the byte, if there is one.
     fn lookup_child(&self, key_fragment: u8) -> Option<OpaqueNodePtr<K, V, PREFIX_LEN>>

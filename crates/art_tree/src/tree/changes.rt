@@ -1,6 +1,6 @@
 //! The calls that change a tree.
 ghost use Rattle.std.specs.Prelude.{◌≡◌, ◌≢◌, ℕ, List, None, IfNone, IfOk, IfErr, OnOk, OnErr};
-ghost use Rattle.art_arena.specs.Arena.{SameNodes};
+ghost use Rattle.art_arena.specs.Arena.{SameNodes, SameRoom};
 ghost use Rattle.art_tree.specs.Dictionary.{entry_at, HasKeys, IsEntry};
 ghost use Rattle.art_tree.specs.Inserting.{IsRefused, MayEnter, SameEntries};
 ghost use Rattle.art_tree.specs.Removing.{NeedsSmallerNode};
@@ -20,7 +20,8 @@ impl<K: AsBytes, V, const PREFIX_LEN: usize> ArtTree<K, V, PREFIX_LEN> {
     /// text has no entry. Then key and value come back, and the tree is as before.
     ///
     /// It goes down to the key's place, and once more to a leaf beside it. A prefix on the way that is
-    /// longer than `PREFIX_LEN` is read from a leaf below it.
+    /// longer than `PREFIX_LEN` is read from the first leaf below it, which is one more way down: so
+    /// where each node on the way has such a prefix, the nodes read grow with the square of the depth.
     pub fn insert(&mut self, key: K, value: V) -> Result<Option<(K, V)>, InsertFault<K, V>>
         ensures replaced { IfOk result
             (λ before. before ≡ entry_at K.text self.old.arena (K.text key)) }
@@ -34,6 +35,8 @@ impl<K: AsBytes, V, const PREFIX_LEN: usize> ArtTree<K, V, PREFIX_LEN> {
         ensures same_entries { OnErr result (SameEntries K.text self.old.arena self.new.arena) }
         ensures nodes_kept { OnErr result (SameNodes self.old.arena self.new.arena) }
         ensures root_kept { OnErr result (self.new.root ≡ self.old.root) }
+        ensures takes_no_memory { entry_at K.text self.old.arena (K.text key) ≢ None →
+            SameRoom self.old.arena self.new.arena }
         ensures is_key { K.is_key key }
         ensures are_keys { HasKeys K.text K.is_key self.old.arena }
     {

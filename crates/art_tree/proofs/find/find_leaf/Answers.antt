@@ -5,7 +5,7 @@ use Rattle.art_nodes.specs.declared.pointers.OpaqueNodePtr.{OpaqueNodePtr as Poi
 use Rattle.art_arena.specs.Arena.{Nothing, held}
 use Rattle.art_arena.specs.Standing.{leaf_text}
 use Rattle.art_tree.specs.Search.{IsWay, LeadsTo, leaf_pointer}
-use Rattle.art_tree.specs.Paths.{StandsFor, path_of}
+use Rattle.art_tree.specs.Paths.{HasVisited, path_of}
 use Rattle.art_tree.proofs.OnlyWayLemmas.{one-way}
 use Rattle.art_tree.proofs.PathLeads.{way-leads}
 use Rattle.art_tree.proofs.WayLemmas.{here-start, here-held, here-leaf, here-nowhere-scan, here-nowhere-met, here-on, leaf-kind, still-held, leaf-pointer-is, told, told-on, told-nowhere, told-later, at-some, leaf-hit, leaf-miss, not-true}
@@ -124,6 +124,6 @@ way-preserved g c =
       looks = omega (arith, later, c.look-node.ensures.counted, c.way.invariant.looks);
       same_arena = c.look-node.ensures.same_arena ∙ c.way.invariant.same_arena;
       here = λ tree is. here-on text arena tree c.args.key.now c.way.at c.way.depth c.way.search _ _ (c.way.invariant.here tree is) t.node t.is next (told-on _ _ _ _ _ t next c.in-Some.is) c.visit_inner_node.new.self
-          (λ steps byte there stands. subst (λ b. StandsFor c.visit_inner_node.new.self (steps ++ (c.way.at, b) ∷ [])) (get_or_from_slice_get c.args.key.now c.in-Some.place byte 0 there) (c.visit_inner_node.ensures steps stands))
+          (λ steps byte there stands. subst (λ b. HasVisited c.visit_inner_node.new.self (steps ++ (c.way.at, b) ∷ [])) (get_or_from_slice_get c.args.key.now c.in-Some.place byte 0 there) (c.visit_inner_node.ensures steps stands))
           c.look-node.new.self.budget c.look-node.ensures.counted;
     }

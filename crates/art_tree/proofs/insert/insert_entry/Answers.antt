@@ -20,7 +20,7 @@ returns-in_default g c =
     let nothing = subst (IsArt text old) c.in_default.is c.requires.art in
     let is_new = empty-new text old nothing (text c.args.key) (omega (arith, c.if-as_bytes.false, ap length c.as_bytes.ensures.text)) in
     let is = answered text old new c.args.key c.args.value c.insert_first.result first.art first.entered first.entry_back first.nodes_kept is_new (λ same. empty-stays text old new same nothing) c.newly_added.result c.newly_added.ensures.added c.newly_added.ensures.refused in
-    record { art = is.art; replaced = is.replaced; entered = is.entered; is_key = c.as_bytes.ensures.key; no_refusal = is.no_refusal; refusal_due = is.refusal_due; entry_back = is.entry_back; same_entries = is.same_entries; nodes_kept = is.nodes_kept }
+    record { art = is.art; replaced = is.replaced; entered = is.entered; is_key = c.as_bytes.ensures.key; no_refusal = is.no_refusal; refusal_due = is.refusal_due; entry_back = is.entry_back; same_entries = is.same_entries; nodes_kept = is.nodes_kept; takes_no_memory = λ has. absurd (has is_new.1) }
 
 pub replace_entry-requires : goal.replace_entry-requires
 replace_entry-requires g c =
@@ -38,7 +38,7 @@ returns-in-Present g c =
     let art = subst (IsArt text arena) c.in-Some.is c.requires.art in
     let apart = c.no_text_begins_another.ensures [] art.0 art.1.is_tree.sound in
     let inside = subst (λ key. Contains (leaves art.0) (leaf_pointer c.in-Present.leaf, key)) c.as_bytes-2.ensures.text (c.in-Present.ensures art.0 art.1.is_tree) in
-    let now = c.replace_entry.ensures c.in-Some.root art.0 art.1 inside in
+    let now = c.replace_entry.ensures.entered c.in-Some.root art.0 art.1 inside in
     record {
       art = (art.0, now.0);
       replaced = sym now.2;
@@ -49,6 +49,7 @@ returns-in-Present g c =
       entry_back = tt;
       same_entries = tt;
       nodes_kept = tt;
+      takes_no_memory = λ _. c.replace_entry.ensures.takes_no_memory;
     }
 
 pub returns-in-Clash-clause-refusal_due : goal.returns-in-Clash-clause-refusal_due
@@ -83,7 +84,7 @@ returns-in-Child g c =
     let lacks = subst (λ x. LacksChild art.0 x c.in-Child.spot c.in-Child.byte) c.as_bytes-2.ensures.text (c.in-Child.ensures art.0 art.1.is_tree) in
     let is_new = apart-new text old c.in-Some.root art.0 art.1 key short (child-apart law art.0 art.1.is_tree.sound key short c.in-Child.spot c.in-Child.byte lacks) in
     let is = answered text old new c.args.key c.args.value c.insert_child.result child.art child.entered child.entry_back child.nodes_kept is_new (λ same. entries-stay text old new same c.in-Some.root art.0 art.1 (law art.0 art.1.is_tree.sound)) c.newly_added-in-Child.result c.newly_added-in-Child.ensures.added c.newly_added-in-Child.ensures.refused in
-    record { art = is.art; replaced = is.replaced; entered = is.entered; is_key = c.as_bytes.ensures.key; no_refusal = is.no_refusal; refusal_due = is.refusal_due; entry_back = is.entry_back; same_entries = is.same_entries; nodes_kept = is.nodes_kept }
+    record { art = is.art; replaced = is.replaced; entered = is.entered; is_key = c.as_bytes.ensures.key; no_refusal = is.no_refusal; refusal_due = is.refusal_due; entry_back = is.entry_back; same_entries = is.same_entries; nodes_kept = is.nodes_kept; takes_no_memory = λ has. absurd (has is_new.1) }
 
 pub insert_fork-requires : goal.insert_fork-requires
 insert_fork-requires g c =
@@ -108,7 +109,7 @@ returns-in-Fork g c =
     let parts = subst (λ x. Parts art.0 x c.in-Fork.spot c.in-Fork.fork) c.as_bytes-2.ensures.text (c.in-Fork.ensures art.0 art.1.is_tree) in
     let is_new = apart-new text old c.in-Some.root art.0 art.1 key short (fork-apart law art.0 art.1.is_tree.sound key short c.in-Fork.spot c.in-Fork.fork parts) in
     let is = answered text old new c.args.key c.args.value c.insert_fork.result fork.art fork.entered fork.entry_back fork.nodes_kept is_new (λ same. entries-stay text old new same c.in-Some.root art.0 art.1 (law art.0 art.1.is_tree.sound)) c.newly_added-in-Fork.result c.newly_added-in-Fork.ensures.added c.newly_added-in-Fork.ensures.refused in
-    record { art = is.art; replaced = is.replaced; entered = is.entered; is_key = c.as_bytes.ensures.key; no_refusal = is.no_refusal; refusal_due = is.refusal_due; entry_back = is.entry_back; same_entries = is.same_entries; nodes_kept = is.nodes_kept }
+    record { art = is.art; replaced = is.replaced; entered = is.entered; is_key = c.as_bytes.ensures.key; no_refusal = is.no_refusal; refusal_due = is.refusal_due; entry_back = is.entry_back; same_entries = is.same_entries; nodes_kept = is.nodes_kept; takes_no_memory = λ has. absurd (has is_new.1) }
 
 pub returns-then-as_bytes-clause-refusal_due : goal.returns-then-as_bytes-clause-refusal_due
 returns-then-as_bytes-clause-refusal_due g c = subst (λ text. 2 ^ 32 ≤ length text) c.as_bytes.ensures.text c.if-as_bytes.true

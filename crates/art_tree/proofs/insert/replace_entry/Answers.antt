@@ -8,8 +8,8 @@ use Rattle.art_tree.proofs.InsertLemmas.{one-leaf, replaced-alone, replaced-ente
 use Rattle.art_tree.proofs.Rising.{leaf-of}
 use Rattle.art_tree.proofs.insert.replace_entry.Goals as goal
 
-pub returns : goal.returns
-returns g c = λ root tree alone inside.
+pub returns-clause-entered : goal.returns-clause-entered
+returns-clause-entered g c = λ root tree alone inside.
     let text = g.K.AsBytes.text in
     let old = c.args.arena.now in
     let new = c.replace.new.self in

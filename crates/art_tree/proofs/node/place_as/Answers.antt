@@ -1,6 +1,6 @@
 use Rattle.std.proofs.Common.{◌≡◌, ◌∙◌, ◌+◌, ◌-◌, ◌≤◌, take, drop, ap, sym, subst, length, arith}
-use Rattle.art_nodes.specs.Pointers.{slab_key, node_kind, opaque_key}
-use Rattle.art_arena.specs.Arena.{held, pointer_to, Nothing, HeldInner, Changes, room}
+use Rattle.art_nodes.specs.Pointers.{slab_key, node_kind, opaque_key, opaque_pointer}
+use Rattle.art_arena.specs.Arena.{held, Nothing, HeldInner, Changes, room}
 use Rattle.art_arena.specs.Links.{leaf_at}
 use Rattle.art_tree.specs.Raising.{node_of}
 use Rattle.art_tree.proofs.NodeLemmas.{text-of-key}
@@ -16,8 +16,8 @@ returns g c =
     let text = c.as_bytes-text.ensures.text ∙ sym (text-of-key g.K.AsBytes.text (leaf_at old (slab_key c.args.leaf)) c.as_key_ref.result.now c.as_key_ref.ensures) in
     let node = g.met.N.ArenaInnerNode.shown c.inner_node-node.result ∙ ap HeldInner (c.inner_node-node.ensures ∙ ap (λ t. node_of g.row.PREFIX_LEN (take (c.args.end - c.args.start) (drop c.args.start t)) c.args.children.now) text) in
     placed old new kind (slab_key c.unwrap.result) _ c.to_opaque.result (ap node_kind c.to_opaque.ensures) (ap opaque_key c.to_opaque.ensures)
-    (if-ok (λ ptr. held old (pointer_to kind (slab_key ptr)) ≡ Nothing) answer c.unwrap.result c.unwrap.ensures c.allocate_node_ptr.ensures.was_free)
-    (subst (Changes old new (pointer_to kind (slab_key c.unwrap.result))) node (if-ok (λ ptr. Changes old new (pointer_to kind (slab_key ptr)) (g.N.ArenaNode.held_as c.inner_node-node.result)) answer c.unwrap.result c.unwrap.ensures c.allocate_node_ptr.ensures.added))
+    (if-ok (λ ptr. held old (opaque_pointer kind (slab_key ptr)) ≡ Nothing) answer c.unwrap.result c.unwrap.ensures c.allocate_node_ptr.ensures.was_free)
+    (subst (Changes old new (opaque_pointer kind (slab_key c.unwrap.result))) node (if-ok (λ ptr. Changes old new (opaque_pointer kind (slab_key ptr)) (g.N.ArenaNode.held_as c.inner_node-node.result)) answer c.unwrap.result c.unwrap.ensures c.allocate_node_ptr.ensures.added))
     (on-ok (room old kind ≤ room new kind + 1) answer c.unwrap.result c.unwrap.ensures c.allocate_node_ptr.ensures.room)
     c.allocate_node_ptr.ensures.other_room
 

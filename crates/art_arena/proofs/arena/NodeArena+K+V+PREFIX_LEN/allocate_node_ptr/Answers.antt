@@ -45,3 +45,13 @@ returns-in-Err-clause-other_room g c = g.met.N.ArenaNode.other_room c.args.self.
 
 pub returns-in-Ok-clause-is_held : goal.returns-in-Ok-clause-is_held
 returns-in-Ok-clause-is_held g c = λ gone. g.N.ArenaNode.is_held c.args.node (sym (returns-in-Ok-clause-added g c).changed ∙ gone)
+
+pub returns-in-Ok-clause-takes_no_memory : goal.returns-in-Ok-clause-takes_no_memory
+returns-in-Ok-clause-takes_no_memory g c = λ some.
+    let laws = g.met.N.ArenaNode in
+    let before = laws.room_of_slab c.args.self.now in
+    let after = room-written g.N.Node.TYPE g.N.Shelved.slab_of g.N.Shelved.with_slab g.N.ArenaNode.held_as laws.held_in_slab laws.slab_written laws.others_kept laws.room_of_slab laws.other_room c.args.self.now c.insert.new.self in
+    let lent = ap slab_room c.slab_mut.ensures.value in
+    let len = c.in-Ok.ensures.len in
+    let capacity = c.in-Ok.ensures.had_room (omega (arith, some, before, lent)) in
+    omega (arith, some, before, after, lent, len, capacity)

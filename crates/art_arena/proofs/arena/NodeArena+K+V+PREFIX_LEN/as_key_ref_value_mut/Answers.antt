@@ -1,8 +1,9 @@
 use Rattle.std.proofs.Common.{◌≡◌, ◌∙◌, Some, refl, sym, ap, subst}
 use Rattle.std.specs.Option.{option_map}
 use Rattle.art_header.specs.declared.node_type.NodeType.TheVariants as kinds
+use Rattle.art_nodes.specs.Pointers.{opaque_pointer}
 use Rattle.art_nodes.specs.Leaf.{leaf_key, leaf_value, with_value}
-use Rattle.art_arena.specs.Arena.{HeldLeaf, pointer_to, Changes, SameRoom}
+use Rattle.art_arena.specs.Arena.{HeldLeaf, Changes, SameRoom}
 use Rattle.art_arena.specs.Links.{leaf_at}
 use Rattle.art_arena.proofs.LeafLemmas.{held_leaf-same, with_value_at-found}
 use Rattle.art_arena.proofs.arena.NodeArena+K+V+PREFIX_LEN.as_key_ref_value_mut.Goals as goal
@@ -18,7 +19,7 @@ returns g c =
         writes_back = tt;
         key = ap (option_map leaf_key) found ∙ ap Some (sym c.key_ref_value_mut.ensures.key);
         value = ap (option_map leaf_value) found ∙ ap Some (sym c.key_ref_value_mut.ensures.value);
-        changes = λ leaf value there. subst (λ new. Changes arena new (pointer_to kinds.Leaf key) (HeldLeaf (with_value leaf value))) (sym (with_value_at-found arena key leaf value there)) (c.as_mut.ensures.changes (with_value leaf value));
+        changes = λ leaf value there. subst (λ new. Changes arena new (opaque_pointer kinds.Leaf key) (HeldLeaf (with_value leaf value))) (sym (with_value_at-found arena key leaf value there)) (c.as_mut.ensures.changes (with_value leaf value));
         room = λ value. subst (λ new. SameRoom arena new) (sym (with_value_at-found arena key stood value found)) (c.as_mut.ensures.room (with_value stood value));
       },
     )

@@ -32,3 +32,13 @@ remove-requires g c =
 
 pub returns-clause-other_room : goal.returns-clause-other_room
 returns-clause-other_room g c = g.met.N.ArenaNode.other_room c.args.self.now c.remove.new.self
+
+pub returns-clause-takes_no_memory : goal.returns-clause-takes_no_memory
+returns-clause-takes_no_memory g c =
+    let laws = g.met.N.ArenaNode in
+    let before = laws.room_of_slab c.args.self.now in
+    let after = room-written g.N.Node.TYPE g.N.Shelved.slab_of g.N.Shelved.with_slab g.N.ArenaNode.held_as laws.held_in_slab laws.slab_written laws.others_kept laws.room_of_slab laws.other_room c.args.self.now c.remove.new.self in
+    let lent = ap slab_room c.slab_mut.ensures.value in
+    let len = c.remove.ensures.len in
+    let capacity = c.remove.ensures.capacity in
+    omega arith

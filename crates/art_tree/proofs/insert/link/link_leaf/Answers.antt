@@ -1,7 +1,7 @@
 use Rattle.std.proofs.Common.{◌≡◌, ◌∙◌, ◌++◌, subst, lit<}
 use Rattle.art_header.specs.declared.node_type.NodeType.TheVariants.{Leaf}
-use Rattle.art_nodes.specs.Pointers.{slab_key}
-use Rattle.art_arena.specs.Arena.{held, pointer_to, Nothing, HeldLeaf, Changes}
+use Rattle.art_nodes.specs.Pointers.{slab_key, opaque_pointer}
+use Rattle.art_arena.specs.Arena.{held, Nothing, HeldLeaf, Changes}
 use Rattle.art_arena.specs.Links.{text_at}
 use Rattle.art_arena.specs.declared.ends.End.TheVariants.{First, Last}
 use Rattle.art_tree.specs.Edits.{IsBeside, LiesBeside}
@@ -16,8 +16,8 @@ insert_before-requires g c =
     let now = c.allocate_node_ptr.new.self in
     let leaf = c.with_no_siblings.result in
     let this = slab_key c.unwrap-leaf.result in
-    let free = if-ok (λ ptr. held old (pointer_to Leaf (slab_key ptr)) ≡ Nothing) c.allocate_node_ptr.result c.unwrap-leaf.result c.unwrap-leaf.ensures c.allocate_node_ptr.ensures.was_free in
-    let changes = if-ok (λ ptr. Changes old now (pointer_to Leaf (slab_key ptr)) (HeldLeaf leaf)) c.allocate_node_ptr.result c.unwrap-leaf.result c.unwrap-leaf.ensures c.allocate_node_ptr.ensures.added in
+    let free = if-ok (λ ptr. held old (opaque_pointer Leaf (slab_key ptr)) ≡ Nothing) c.allocate_node_ptr.result c.unwrap-leaf.result c.unwrap-leaf.ensures c.allocate_node_ptr.ensures.was_free in
+    let changes = if-ok (λ ptr. Changes old now (opaque_pointer Leaf (slab_key ptr)) (HeldLeaf leaf)) c.allocate_node_ptr.result c.unwrap-leaf.result c.unwrap-leaf.ensures c.allocate_node_ptr.ensures.added in
     let sibling = slab_key c.args.sibling in
     let order : LiesBeside First (g.K.AsBytes.text c.args.key) (text_at g.K.AsBytes.text old sibling) = subst (λ end. LiesBeside end (g.K.AsBytes.text c.args.key) (text_at g.K.AsBytes.text old sibling)) c.in-First.is c.requires.order in (
       search,
@@ -59,8 +59,8 @@ returns-in-First g c =
     let leaf = c.with_no_siblings.result in
     let this = slab_key c.unwrap-leaf.result in
     let linked = c.insert_before.ensures in
-    let free = if-ok (λ ptr. held old (pointer_to Leaf (slab_key ptr)) ≡ Nothing) c.allocate_node_ptr.result c.unwrap-leaf.result c.unwrap-leaf.ensures c.allocate_node_ptr.ensures.was_free in
-    let changes = if-ok (λ ptr. Changes old now (pointer_to Leaf (slab_key ptr)) (HeldLeaf leaf)) c.allocate_node_ptr.result c.unwrap-leaf.result c.unwrap-leaf.ensures c.allocate_node_ptr.ensures.added in
+    let free = if-ok (λ ptr. held old (opaque_pointer Leaf (slab_key ptr)) ≡ Nothing) c.allocate_node_ptr.result c.unwrap-leaf.result c.unwrap-leaf.ensures c.allocate_node_ptr.ensures.was_free in
+    let changes = if-ok (λ ptr. Changes old now (opaque_pointer Leaf (slab_key ptr)) (HeldLeaf leaf)) c.allocate_node_ptr.result c.unwrap-leaf.result c.unwrap-leaf.ensures c.allocate_node_ptr.ensures.added in
     record {
       was_free = free;
       entry = entry-held old now this leaf free changes new linked.contents c.args.key c.args.value c.with_no_siblings.ensures.key c.with_no_siblings.ensures.value;
@@ -75,8 +75,8 @@ insert_after-requires g c =
     let now = c.allocate_node_ptr.new.self in
     let leaf = c.with_no_siblings.result in
     let this = slab_key c.unwrap-leaf.result in
-    let free = if-ok (λ ptr. held old (pointer_to Leaf (slab_key ptr)) ≡ Nothing) c.allocate_node_ptr.result c.unwrap-leaf.result c.unwrap-leaf.ensures c.allocate_node_ptr.ensures.was_free in
-    let changes = if-ok (λ ptr. Changes old now (pointer_to Leaf (slab_key ptr)) (HeldLeaf leaf)) c.allocate_node_ptr.result c.unwrap-leaf.result c.unwrap-leaf.ensures c.allocate_node_ptr.ensures.added in
+    let free = if-ok (λ ptr. held old (opaque_pointer Leaf (slab_key ptr)) ≡ Nothing) c.allocate_node_ptr.result c.unwrap-leaf.result c.unwrap-leaf.ensures c.allocate_node_ptr.ensures.was_free in
+    let changes = if-ok (λ ptr. Changes old now (opaque_pointer Leaf (slab_key ptr)) (HeldLeaf leaf)) c.allocate_node_ptr.result c.unwrap-leaf.result c.unwrap-leaf.ensures c.allocate_node_ptr.ensures.added in
     let sibling = slab_key c.args.sibling in
     let order : LiesBeside Last (g.K.AsBytes.text c.args.key) (text_at g.K.AsBytes.text old sibling) = subst (λ end. LiesBeside end (g.K.AsBytes.text c.args.key) (text_at g.K.AsBytes.text old sibling)) c.in-Last.is c.requires.order in (
       search,
@@ -118,8 +118,8 @@ returns-in-Last g c =
     let leaf = c.with_no_siblings.result in
     let this = slab_key c.unwrap-leaf.result in
     let linked = c.insert_after.ensures in
-    let free = if-ok (λ ptr. held old (pointer_to Leaf (slab_key ptr)) ≡ Nothing) c.allocate_node_ptr.result c.unwrap-leaf.result c.unwrap-leaf.ensures c.allocate_node_ptr.ensures.was_free in
-    let changes = if-ok (λ ptr. Changes old now (pointer_to Leaf (slab_key ptr)) (HeldLeaf leaf)) c.allocate_node_ptr.result c.unwrap-leaf.result c.unwrap-leaf.ensures c.allocate_node_ptr.ensures.added in
+    let free = if-ok (λ ptr. held old (opaque_pointer Leaf (slab_key ptr)) ≡ Nothing) c.allocate_node_ptr.result c.unwrap-leaf.result c.unwrap-leaf.ensures c.allocate_node_ptr.ensures.was_free in
+    let changes = if-ok (λ ptr. Changes old now (opaque_pointer Leaf (slab_key ptr)) (HeldLeaf leaf)) c.allocate_node_ptr.result c.unwrap-leaf.result c.unwrap-leaf.ensures c.allocate_node_ptr.ensures.added in
     record {
       was_free = free;
       entry = entry-held old now this leaf free changes new linked.contents c.args.key c.args.value c.with_no_siblings.ensures.key c.with_no_siblings.ensures.value;

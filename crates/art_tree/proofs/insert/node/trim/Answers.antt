@@ -1,7 +1,7 @@
 use Rattle.std.proofs.Common.{◌∙◌, length, lit<, rules, arith, sym, ap, subst}
 use Rattle.std.specs.Option.{option_copied}
 use Rattle.art_header.specs.Header.{StandsFor}
-use Rattle.art_nodes.specs.Inner.{header_of, with_prefix}
+use Rattle.art_nodes.specs.Inner.{header_of, node_with_prefix_of}
 use Rattle.art_nodes.specs.Pointers.{slab_key}
 use Rattle.art_arena.specs.Arena.{held, HeldInner, Changes}
 use Rattle.art_arena.specs.Links.{leaf_at}
@@ -58,7 +58,7 @@ returns-clause-trimmed g c = λ node path prefix rest is deep text stands.
     let header = copy ∙ there.2 ∙ ap header_of same in
     let bytes = c.as_bytes.ensures.text ∙ sym (text-of-key g.K.AsBytes.text (leaf_at arena (slab_key c.args.leaf)) c.as_key_ref.result.now c.as_key_ref.ensures) ∙ text in
     let now = c.ltrim_by_with_leaf.ensures.stands path prefix rest deep bytes (subst (λ h. StandsFor g.row.PREFIX_LEN h prefix) (sym header) stands) in
-    subst (λ n. Changes arena c.set_prefix.new.self c.args.pointer (HeldInner n)) (ap (with_prefix node) now) (c.set_prefix.ensures.prefix node is)
+    subst (λ n. Changes arena c.set_prefix.new.self c.args.pointer (HeldInner n)) (ap (node_with_prefix_of node) now) (c.set_prefix.ensures.prefix node is)
 
 pub returns-clause-leaf : goal.returns-clause-leaf
 returns-clause-leaf g c = λ leaf.

@@ -2,8 +2,8 @@ use Rattle.std.proofs.Common.{◌≡◌, ◌∙◌, ◌+◌, ◌-◌, ◌≤◌,
 use Rattle.std.specs.Option.{option_copied, option_to_list}
 use Rattle.std.specs.Vec.Iter.{into_iter_items}
 use Rattle.art_header.specs.declared.node_type.NodeType.TheVariants.{Leaf}
-use Rattle.art_nodes.specs.Pointers.{slab_key}
-use Rattle.art_arena.specs.Arena.{held, pointer_to, room, Nothing, HeldLeaf, Changes}
+use Rattle.art_nodes.specs.Pointers.{slab_key, opaque_pointer}
+use Rattle.art_arena.specs.Arena.{held, room, Nothing, HeldLeaf, Changes}
 use Rattle.art_tree.specs.Loading.{AreLinked}
 use Rattle.art_tree.proofs.Linking.{none-linked, allocated, first-linked, next-linked, unlinked, sibling-knit, two-texts, last-split, none-left, less-same}
 use Rattle.art_tree.proofs.RefusalLemmas.{forks-less}
@@ -42,8 +42,8 @@ insert_after-requires g c = (
                 let left = into_iter_items c.next.new.self in
                 let answer = c.allocate_node_ptr.result in
                 let a = allocated old now new linking.done before entry this c.with_no_siblings.result linking.linked
-                (if-ok (λ ptr. held now (pointer_to Leaf (slab_key ptr)) ≡ Nothing) answer this c.unwrap-leaf.ensures c.allocate_node_ptr.ensures.was_free)
-                (if-ok (λ ptr. Changes now new (pointer_to Leaf (slab_key ptr)) (HeldLeaf c.with_no_siblings.result)) answer this c.unwrap-leaf.ensures c.allocate_node_ptr.ensures.added)
+                (if-ok (λ ptr. held now (opaque_pointer Leaf (slab_key ptr)) ≡ Nothing) answer this c.unwrap-leaf.ensures c.allocate_node_ptr.ensures.was_free)
+                (if-ok (λ ptr. Changes now new (opaque_pointer Leaf (slab_key ptr)) (HeldLeaf c.with_no_siblings.result)) answer this c.unwrap-leaf.ensures c.allocate_node_ptr.ensures.added)
                 c.with_no_siblings.ensures.key c.with_no_siblings.ensures.value c.with_no_siblings.ensures.previous c.with_no_siblings.ensures.next in
                 let items = c.next.ensures.items ∙ ap (λ o. option_to_list o ++ left) c.in-Some.is in
                 let whole : c.args.entries.items ≡ (linking.done ++ entry ∷ []) ++ left = linking.split ∙ ap (λ z. linking.done ++ z) items ∙ sym (append_assoc linking.done (entry ∷ []) left) in
@@ -75,8 +75,8 @@ moving-preserved g c =
     let left = into_iter_items c.next.new.self in
     let answer = c.allocate_node_ptr.result in
     let a = allocated old now new linking.done before entry this c.with_no_siblings.result linking.linked
-    (if-ok (λ ptr. held now (pointer_to Leaf (slab_key ptr)) ≡ Nothing) answer this c.unwrap-leaf.ensures c.allocate_node_ptr.ensures.was_free)
-    (if-ok (λ ptr. Changes now new (pointer_to Leaf (slab_key ptr)) (HeldLeaf c.with_no_siblings.result)) answer this c.unwrap-leaf.ensures c.allocate_node_ptr.ensures.added)
+    (if-ok (λ ptr. held now (opaque_pointer Leaf (slab_key ptr)) ≡ Nothing) answer this c.unwrap-leaf.ensures c.allocate_node_ptr.ensures.was_free)
+    (if-ok (λ ptr. Changes now new (opaque_pointer Leaf (slab_key ptr)) (HeldLeaf c.with_no_siblings.result)) answer this c.unwrap-leaf.ensures c.allocate_node_ptr.ensures.added)
     c.with_no_siblings.ensures.key c.with_no_siblings.ensures.value c.with_no_siblings.ensures.previous c.with_no_siblings.ensures.next in
     let items = c.next.ensures.items ∙ ap (λ o. option_to_list o ++ left) c.in-Some.is in
     let whole : c.args.entries.items ≡ (linking.done ++ entry ∷ []) ++ left = linking.split ∙ ap (λ z. linking.done ++ z) items ∙ sym (append_assoc linking.done (entry ∷ []) left) in

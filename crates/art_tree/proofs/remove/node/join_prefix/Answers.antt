@@ -1,7 +1,7 @@
 use Rattle.std.proofs.Common.{◌∙◌, ◌∷◌, [], lit<, rules, arith, sym, ap, subst}
 use Rattle.std.specs.Option.{option_copied}
 use Rattle.art_header.specs.Header.{with_more}
-use Rattle.art_nodes.specs.Inner.{header_of, with_prefix}
+use Rattle.art_nodes.specs.Inner.{header_of, node_with_prefix_of}
 use Rattle.art_arena.specs.Arena.{held, HeldInner, Changes}
 use Rattle.art_tree.proofs.CutLemmas.{joined-stands}
 use Rattle.art_tree.proofs.HangLemmas.{inner-kind}
@@ -73,7 +73,7 @@ returns-clause-joined g c = λ upper lower front back up low above below.
     let first = c.push_prefix.ensures ∙ ap (λ h. with_more size h (c.args.byte ∷ []) 1) upper_is in
     let both = c.push_prefix-2.ensures ∙ (λ i. with_more size (first i) (stored i) (len i)) in
     let now = both ∙ joined-stands size (header_of upper) (header_of lower) front back c.args.byte above below in
-    subst (λ n. Changes arena c.set_prefix.new.self c.args.child (HeldInner n)) (ap (with_prefix lower) now) (c.set_prefix.ensures.prefix lower low)
+    subst (λ n. Changes arena c.set_prefix.new.self c.args.child (HeldInner n)) (ap (node_with_prefix_of lower) now) (c.set_prefix.ensures.prefix lower low)
 
 pub returns-clause-leaf : goal.returns-clause-leaf
 returns-clause-leaf g c = λ leaf.

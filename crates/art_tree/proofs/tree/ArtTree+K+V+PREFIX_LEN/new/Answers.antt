@@ -3,7 +3,7 @@ use Rattle.art_tree.proofs.KeyLemmas.{keys-none}
 use Rattle.art_tree.proofs.tree.ArtTree+K+V+PREFIX_LEN.new.Goals as goal
 
 pub invariant_of-result : goal.invariant_of-result
-invariant_of-result g c = (c.new.ensures, keys-none g.K.AsBytes.text g.K.AsBytes.is_key c.new.result (empty-entry g.K.AsBytes.text c.new.result c.new.ensures))
+invariant_of-result g c = (c.new.ensures.empty, keys-none g.K.AsBytes.text g.K.AsBytes.is_key c.new.result (empty-entry g.K.AsBytes.text c.new.result c.new.ensures.empty))
 
 pub returns-clause-no_entry : goal.returns-clause-no_entry
-returns-clause-no_entry g c = λ key. empty-entry g.K.AsBytes.text c.new.result c.new.ensures key
+returns-clause-no_entry g c = λ key. empty-entry g.K.AsBytes.text c.new.result c.new.ensures.empty key

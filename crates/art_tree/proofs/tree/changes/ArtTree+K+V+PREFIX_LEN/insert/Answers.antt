@@ -1,4 +1,5 @@
-use Rattle.std.proofs.Common.{◌∙◌, ap, subst}
+use Rattle.std.proofs.Common.{◌≢◌, ◌∙◌, None, ap, subst}
+use Rattle.art_arena.specs.Arena.{SameRoom}
 use Rattle.art_tree.specs.Dictionary.{HasKeys, entry_at}
 use Rattle.art_tree.specs.Inserting.{MayEnter}
 use Rattle.art_tree.proofs.Growing.{art-same}
@@ -24,3 +25,6 @@ returns-clause-are_keys g c = subst (λ seen. HasKeys g.K.AsBytes.text g.K.AsByt
 
 pub returns-clause-no_refusal : goal.returns-clause-no_refusal
 returns-clause-no_refusal g c = subst (λ seen. MayEnter g.K.AsBytes.text seen.arena (g.K.AsBytes.text c.args.key)) c.self.view_is c.in_ok-root.ensures.no_refusal
+
+pub returns-clause-takes_no_memory : goal.returns-clause-takes_no_memory
+returns-clause-takes_no_memory g c = subst (λ seen. entry_at g.K.AsBytes.text seen.arena (g.K.AsBytes.text c.args.key) ≢ None → SameRoom seen.arena c.insert_entry.new.arena) c.self.view_is c.insert_entry.ensures.takes_no_memory
