@@ -308,8 +308,15 @@ fn a_text_comes_and_goes(rt: HostRuntime) -> Result<(), Fail> {
 
 type Bytes = ArtTree<[u8; 1], u8, 0>;
 
-fn kind_of(tree: &Bytes) -> Option<NodeType> {
-    tree.root().map(|root| root.node_type())
+// The kind of the root and how many children it has.
+fn root_shape(rt: &impl Abort, tree: &Bytes) -> Option<(NodeType, usize)> {
+    let root = tree.root()?;
+    assert!(rt; tree.arena().holds_opaque(root));
+    let header = tree.arena().header(root);
+    Some((
+        root.node_type(),
+        header.map_or(0, |header| header.num_children()),
+    ))
 }
 
 #[test]
@@ -322,19 +329,19 @@ fn a_tree_comes_and_goes(rt: HostRuntime) -> Result<(), Fail> {
         };
         assert!(rt; before.is_none());
     }
-    assert!(rt; kind_of(&tree) == Some(NodeType::Node16));
+    assert!(rt; root_shape(&rt, &tree) == Some((NodeType::Node16, 5)));
     assert!(rt; tree.remove(&[0])? == Some(([0], 0)));
-    assert!(rt; kind_of(&tree) == Some(NodeType::Node4));
+    assert!(rt; root_shape(&rt, &tree) == Some((NodeType::Node4, 4)));
     assert!(rt; tree.remove(&[9])? == None);
     for byte in 1..5 {
         assert!(rt; tree.remove(&[byte])? == Some(([byte], byte)));
     }
-    assert!(rt; kind_of(&tree) == None && tree.first().is_none());
+    assert!(rt; root_shape(&rt, &tree) == None && tree.first().is_none());
     let Ok(before) = tree.insert([7], 7) else {
         return Err(AllocError.into());
     };
     assert!(rt; before.is_none());
-    assert!(rt; kind_of(&tree) == Some(NodeType::Leaf));
+    assert!(rt; root_shape(&rt, &tree) == Some((NodeType::Leaf, 0)));
     Ok(())
 }
 
@@ -426,16 +433,17 @@ fn a_refused_insert_leaves_the_tree(rt: HostRuntime) -> Result<(), Fail> {
     Ok(())
 }
 
-// The kind of a root over so many keys of one byte.
-fn kind_over(count: usize) -> Option<NodeType> {
-    match count {
-        0 => None,
-        1 => Some(NodeType::Leaf),
-        2..=4 => Some(NodeType::Node4),
-        5..=16 => Some(NodeType::Node16),
-        17..=48 => Some(NodeType::Node48),
-        _ => Some(NodeType::Node256),
-    }
+// The root over so many keys of one byte.
+fn root_shape_over(count: usize) -> Option<(NodeType, usize)> {
+    let kind = match count {
+        0 => return None,
+        1 => return Some((NodeType::Leaf, 0)),
+        2..=4 => NodeType::Node4,
+        5..=16 => NodeType::Node16,
+        17..=48 => NodeType::Node48,
+        _ => NodeType::Node256,
+    };
+    Some((kind, count))
 }
 
 // The keys of one byte below the end have it as their value, and there are no others.
@@ -444,7 +452,7 @@ fn check_bytes(rt: &impl Abort, tree: &Bytes, end: usize) {
         let value = (usize::from(byte) < end).then_some(byte);
         assert!(rt; tree.get(&[byte]).copied() == value);
     }
-    assert!(rt; kind_of(tree) == kind_over(end));
+    assert!(rt; root_shape(rt, tree) == root_shape_over(end));
 }
 
 // A tree of the keys of one byte below the end. Where the load is refused memory, the entries come back

@@ -153,7 +153,7 @@ fn root_over(
     for byte in (0..=255u8).take(count) {
         entries.push(([byte], byte))?;
     }
-    let mut arena = NodeArena::<[u8; 1], u8, 0>::new(alloc);
+    let mut arena = NodeArena::<[u8; 1], u8, 2>::new(alloc);
     let Ok(root) = load(alloc, &mut arena, entries) else {
         return Err(AllocError);
     };

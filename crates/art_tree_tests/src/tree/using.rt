@@ -1,12 +1,16 @@
 //! How a crate uses `art_tree`: values that are loaded once and read by key, and values that are put
 //! into a tree and taken out of it.
-ghost use Rattle.std.specs.Prelude.{◌≡◌, ◌≢◌, ◌↔◌, [], None, IsNone, IsTrue, IfSome, IfErr};
-ghost use Rattle.art_tree.specs.Dictionary.{entry_at, IsEntry};
+ghost use Rattle.std.specs.Prelude.{◌≡◌, ◌≢◌, ◌↔◌, ℕ, List, [], map, Contains, None, IsNone, IsTrue, IfSome, IfErr};
+ghost use Rattle.art_nodes.specs.Pointers.{node_kind};
+ghost use Rattle.art_arena.specs.Trees.{places, SameButPointers};
+ghost use Rattle.art_tree.specs.Art.{IsAlone};
+ghost use Rattle.art_tree.specs.Dictionary.{entry_at, HasEntry, IsEntry};
+ghost use Rattle.art_tree.specs.Plan.{texts_of};
 ghost use Rattle.art_tree.specs.Search.{HasTree, EachTree, scan};
 ghost use Rattle.art_tree.specs.declared.insert.InsertRefusal.TheVariants.{Prefix};
 
 use super::*;
-use art_tree::{InsertFault, InsertRefusal, NoPrefixesBytes};
+use art_tree::{InsertFault, InsertRefusal, NoPrefixesBytes, StrKey};
 
 /// The root of a tree of these entries, where they are in order and memory is found.
 fn table<K: AsBytes + Drop, V: Drop, const PREFIX_LEN: usize>(
@@ -73,6 +77,26 @@ fn forget<K: AsBytes + Drop, V: Drop, const PREFIX_LEN: usize>(
     tree.remove(key).is_ok()
 }
 
+/// What `load` makes of entries. A tree with just their texts, whatever calls made it, is the same but
+/// for pointers, kinds included.
+fn loaded<K: AsBytes + Drop, V: Drop, const PREFIX_LEN: usize>(
+    alloc: Global,
+    tree: &ArtTree<K, V, PREFIX_LEN>,
+    entries: Vec<(K, V)>,
+) -> Option<ArtTree<K, V, PREFIX_LEN>>
+    ensures { ((text : List ℕ) → HasEntry K.text tree.now.arena text ↔
+        Contains (texts_of K.text entries.items) text) →
+        IfSome result (λ loaded. (root other_root : _) (one other : _) →
+        IsAlone K.text tree.now.arena root one → IsAlone K.text loaded.arena other_root other →
+        SameButPointers one other × (map node_kind (places one) ≡ map node_kind (places other))) }
+{
+    laws::the_same_entries_make_the_same_tree::<K, V, PREFIX_LEN>();
+    let Ok(loaded) = ArtTree::load(alloc, entries) else {
+        return None;
+    };
+    Some(loaded)
+}
+
 #[test]
 fn metals_are_read_by_name_and_one_comes_and_goes(rt: HostRuntime) -> Result<(), Fail> {
     let alloc = rt.alloc();
@@ -92,9 +116,60 @@ fn metals_are_read_by_name_and_one_comes_and_goes(rt: HostRuntime) -> Result<(),
         return Err(AllocError.into());
     }
     assert!(rt; tree.get(b"iron") == Some(&26));
+    let entries = vec![in alloc; (String::from_str(alloc, "iron")?, 26)]?;
+    let other = loaded(alloc, &tree, entries).ok_or("not loaded")?;
+    assert!(rt; other.get(b"iron") == Some(&26));
     assert!(rt; forget(&mut tree, b"iron"));
     assert!(rt; tree.get(b"iron").is_none());
     Ok(())
+}
+
+// The first example of the README.
+fn find_one_of_two(rt: &impl Abort, alloc: Global) -> Result<(), Fail> {
+    let mut arena = NodeArena::<StrKey<'_>, u32, 2>::new(alloc);
+    let entries = vec![in alloc; (StrKey::new("abc1"), 10), (StrKey::new("abc2"), 20)]?;
+    let root = load(alloc, &mut arena, entries).map_err(|fault| fault.refusal)?;
+    let mut reader = ArenaReader::with_budget(&arena, 5);
+    let Some((leaf, path)) = find_leaf(&mut reader, root, b"abc2") else {
+        panic!(rt; "not found");
+    };
+    assert!(rt; reader.remaining() == 3);
+    assert!(rt; *arena.as_value_ref(leaf) == 20);
+    let TreePath::ChildOfRoot {
+        parent,
+        child_key_byte,
+    } = path
+    else {
+        panic!(rt; "another path");
+    };
+    assert!(rt; child_key_byte == b'2');
+    Ok(())
+}
+
+// The second one.
+fn change_a_tree(rt: &impl Abort, tree: &mut ArtTree<StrKey<'_>, u32, 2>) -> Result<(), Fail> {
+    let before = tree
+        .insert(StrKey::new("abc1"), 10)
+        .map_err(|fault| fault.refusal)?;
+    assert!(rt; before.is_none());
+    tree.insert(StrKey::new("abc2"), 20)
+        .map_err(|fault| fault.refusal)?;
+    assert!(rt; tree.get(b"abc2") == Some(&20));
+    let Some((key, value)) = tree.first() else {
+        panic!(rt; "no entry");
+    };
+    assert!(rt; key.get() == "abc1" && *value == 10);
+    let Some((key, value)) = tree.remove(b"abc1")? else {
+        panic!(rt; "absent");
+    };
+    assert!(rt; key.get() == "abc1" && value == 10);
+    Ok(())
+}
+
+#[test]
+fn the_first_examples_answer_so(rt: HostRuntime) -> Result<(), Fail> {
+    find_one_of_two(&rt, rt.alloc())?;
+    change_a_tree(&rt, &mut ArtTree::new(rt.alloc()))
 }
 
 /// Puts a value under a key of a type without prefixes. No such key is in another one's way.
