@@ -4,14 +4,15 @@ ghost use Rattle.std.specs.Prelude.{◌≡◌, ◌≢◌, ◌+◌, ◌<◌, ◌�
 ghost use Rattle.std.specs.Cmp.Lexicographic.{pointwise};
 ghost use Rattle.art_header.specs.Header.{capped};
 ghost use Rattle.art_header.specs.NodeType.{least_children, most_children, shrunk_kind};
-ghost use Rattle.art_header.specs.declared.node_type.NodeType.TheVariants.{Node4};
+ghost use Rattle.art_header.specs.declared.node_type.NodeType.TheVariants.{Node4, Node16, Node48, Node256, Leaf};
 ghost use Rattle.art_nodes.specs.ChildMap.{child_at};
 ghost use Rattle.art_nodes.specs.Inner.{HasRoomFor, node_with_child};
-ghost use Rattle.art_nodes.specs.Pointers.{opaque_pointer};
+ghost use Rattle.art_nodes.specs.Pointers.{opaque_pointer, slab_key};
 
 use art_nodes::{
-    InnerNode, InnerNodeCommon, Node, NodePtr, OpaqueNodePtr, OptimisticMismatch,
-    PessimisticMismatch, Sequence,
+    ConcreteInnerNodePtr, ConcreteNodePtr, InnerNode, InnerNode4, InnerNode16, InnerNode48,
+    InnerNodeCommon, InnerNodeDirect, InnerNodeSorted, LeafNode, Node, NodePtr, OpaqueNodePtr,
+    OptimisticMismatch, PessimisticMismatch, Sequence,
 };
 
 // What is written is found.
@@ -160,4 +161,94 @@ fn points_to<const PREFIX_LEN: usize, N: Node<PREFIX_LEN>>(
     ensures { result ≡ opaque_pointer N.TYPE key }
 {
     NodePtr::<PREFIX_LEN, N>::from_key(key).to_opaque()
+}
+
+// A pointer by kind points where the pointer that it is made of does.
+fn node4_by_kind<K, V, const PREFIX_LEN: usize>(
+    pointer: NodePtr<PREFIX_LEN, InnerNode4<K, V, PREFIX_LEN>>,
+) -> OpaqueNodePtr<K, V, PREFIX_LEN>
+    ensures { result ≡ opaque_pointer Node4 (slab_key pointer) }
+{
+    ConcreteNodePtr::from(pointer).to_opaque()
+}
+
+fn node16_by_kind<K, V, const PREFIX_LEN: usize>(
+    pointer: NodePtr<PREFIX_LEN, InnerNode16<K, V, PREFIX_LEN>>,
+) -> OpaqueNodePtr<K, V, PREFIX_LEN>
+    ensures { result ≡ opaque_pointer Node16 (slab_key pointer) }
+{
+    ConcreteNodePtr::from(pointer).to_opaque()
+}
+
+fn node48_by_kind<K, V, const PREFIX_LEN: usize>(
+    pointer: NodePtr<PREFIX_LEN, InnerNode48<K, V, PREFIX_LEN>>,
+) -> OpaqueNodePtr<K, V, PREFIX_LEN>
+    ensures { result ≡ opaque_pointer Node48 (slab_key pointer) }
+{
+    ConcreteNodePtr::from(pointer).to_opaque()
+}
+
+fn node256_by_kind<K, V, const PREFIX_LEN: usize>(
+    pointer: NodePtr<PREFIX_LEN, InnerNodeDirect<K, V, PREFIX_LEN>>,
+) -> OpaqueNodePtr<K, V, PREFIX_LEN>
+    ensures { result ≡ opaque_pointer Node256 (slab_key pointer) }
+{
+    ConcreteNodePtr::from(pointer).to_opaque()
+}
+
+fn leaf_by_kind<K, V, const PREFIX_LEN: usize>(
+    pointer: NodePtr<PREFIX_LEN, LeafNode<K, V, PREFIX_LEN>>,
+) -> OpaqueNodePtr<K, V, PREFIX_LEN>
+    ensures { result ≡ opaque_pointer Leaf (slab_key pointer) }
+{
+    ConcreteNodePtr::from(pointer).to_opaque()
+}
+
+// So does one to an inner node.
+fn inner_node4_by_kind<K, V, const PREFIX_LEN: usize>(
+    pointer: NodePtr<PREFIX_LEN, InnerNode4<K, V, PREFIX_LEN>>,
+) -> OpaqueNodePtr<K, V, PREFIX_LEN>
+    ensures { result ≡ opaque_pointer Node4 (slab_key pointer) }
+{
+    ConcreteInnerNodePtr::from(pointer).to_opaque()
+}
+
+fn inner_node16_by_kind<K, V, const PREFIX_LEN: usize>(
+    pointer: NodePtr<PREFIX_LEN, InnerNode16<K, V, PREFIX_LEN>>,
+) -> OpaqueNodePtr<K, V, PREFIX_LEN>
+    ensures { result ≡ opaque_pointer Node16 (slab_key pointer) }
+{
+    ConcreteInnerNodePtr::from(pointer).to_opaque()
+}
+
+fn inner_node48_by_kind<K, V, const PREFIX_LEN: usize>(
+    pointer: NodePtr<PREFIX_LEN, InnerNode48<K, V, PREFIX_LEN>>,
+) -> OpaqueNodePtr<K, V, PREFIX_LEN>
+    ensures { result ≡ opaque_pointer Node48 (slab_key pointer) }
+{
+    ConcreteInnerNodePtr::from(pointer).to_opaque()
+}
+
+fn inner_node256_by_kind<K, V, const PREFIX_LEN: usize>(
+    pointer: NodePtr<PREFIX_LEN, InnerNodeDirect<K, V, PREFIX_LEN>>,
+) -> OpaqueNodePtr<K, V, PREFIX_LEN>
+    ensures { result ≡ opaque_pointer Node256 (slab_key pointer) }
+{
+    ConcreteInnerNodePtr::from(pointer).to_opaque()
+}
+
+// The default pointer is the one of the first kind and the first key.
+fn default_pointer<K, V, const PREFIX_LEN: usize>() -> OpaqueNodePtr<K, V, PREFIX_LEN>
+    ensures { result ≡ opaque_pointer Node4 0 }
+{
+    OpaqueNodePtr::default()
+}
+
+// A sorted node stays the same node with a place for each byte.
+fn direct_from_sorted<K, V, const PREFIX_LEN: usize, const SIZE: usize>(
+    node: &InnerNodeSorted<K, V, PREFIX_LEN, SIZE>,
+) -> InnerNodeDirect<K, V, PREFIX_LEN>
+    ensures { result ≡ node.now }
+{
+    InnerNodeDirect::from(node)
 }
