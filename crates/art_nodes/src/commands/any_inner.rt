@@ -26,6 +26,15 @@ pub(crate) enum AnyInner<K, V, const PREFIX_LEN: usize> {
     Node256(InnerNodeDirect<K, V, PREFIX_LEN>),
 }
 
+// How many pairs there are: what to make room for, which changes no answer.
+fn count_of<K, V, const PREFIX_LEN: usize>(pairs: ChildIter<'_, K, V, PREFIX_LEN>) -> usize {
+    let mut count: usize = 0;
+    for _ in pairs {
+        count = count.saturating_add(1);
+    }
+    count
+}
+
 // The pairs in a vector with room for so many.
 fn gathered<K, V, const PREFIX_LEN: usize>(
     alloc: Global,
@@ -139,8 +148,9 @@ impl<K, V, const PREFIX_LEN: usize> AnyInner<K, V, PREFIX_LEN> {
         ensures { let children = (inner_of self.now).children in
             IfOk result (λ pairs. pairs.items ≡ pairs_within children start end) }
     {
+        let count = count_of(with_node!(self, node => node.range(start, end)));
         let pairs = with_node!(self, node => node.range(start, end));
-        gathered(alloc, pairs, self.num_children())
+        gathered(alloc, pairs, count)
     }
 
     /// Whether the node has as many children as its kind holds.
