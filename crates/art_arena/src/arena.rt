@@ -94,7 +94,7 @@ impl<K, V, const PREFIX_LEN: usize> NodeArena<K, V, PREFIX_LEN> {
         N::slab(self).get(ptr.key()).unwrap()
     }
 
-    // The node, if the pointer is held.
+    /// The node, if the pointer is held.
     pub(crate) fn get<N: ArenaNode<K, V, PREFIX_LEN>>(
         &self,
         ptr: NodePtr<PREFIX_LEN, N>,
@@ -116,7 +116,8 @@ impl<K, V, const PREFIX_LEN: usize> NodeArena<K, V, PREFIX_LEN> {
         ensures was_free { IfOk result
             (λ ptr. held self.old (opaque_pointer N.TYPE (slab_key ptr)) ≡ Nothing) }
         ensures added { IfOk result
-            (λ ptr. Changes self.old self.new (opaque_pointer N.TYPE (slab_key ptr)) (N.held_as node)) }
+            (λ ptr. Changes self.old self.new (opaque_pointer N.TYPE (slab_key ptr))
+            (N.held_as node)) }
         ensures is_held { IfOk result
             (λ ptr. held self.new (opaque_pointer N.TYPE (slab_key ptr)) ≢ Nothing) }
         ensures room { OnOk result (room self.old N.TYPE ≤ room self.new N.TYPE + 1) }

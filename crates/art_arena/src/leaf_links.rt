@@ -96,8 +96,9 @@ pub trait LeafLinks<K: AsBytes, V, const PREFIX_LEN: usize>: Sized {
         ensures spelled { (before after : List _) →
             Spells arena.old (before ++ slab_key this ∷ after) →
             Spells arena.new (before ++ after) }
-        ensures own_links { (previous_at arena.new (slab_key this) ≡ previous_at arena.old (slab_key this))
-            × (next_at arena.new (slab_key this) ≡ next_at arena.old (slab_key this)) }
+        ensures own_previous { previous_at arena.new (slab_key this)
+            ≡ previous_at arena.old (slab_key this) }
+        ensures own_next { next_at arena.new (slab_key this) ≡ next_at arena.old (slab_key this) }
         ensures contents { SameButLinks arena.old arena.new }
         ensures room { SameRoom arena.old arena.new };
 
@@ -193,8 +194,9 @@ impl<K: AsBytes, V, const PREFIX_LEN: usize> LeafLinks<K, V, PREFIX_LEN>
         ensures spelled { (before after : List _) →
             Spells arena.old (before ++ slab_key this ∷ after) →
             Spells arena.new (before ++ after) }
-        ensures own_links { (previous_at arena.new (slab_key this) ≡ previous_at arena.old (slab_key this))
-            × (next_at arena.new (slab_key this) ≡ next_at arena.old (slab_key this)) }
+        ensures own_previous { previous_at arena.new (slab_key this)
+            ≡ previous_at arena.old (slab_key this) }
+        ensures own_next { next_at arena.new (slab_key this) ≡ next_at arena.old (slab_key this) }
         ensures contents { SameButLinks arena.old arena.new }
         ensures room { SameRoom arena.old arena.new }
     {

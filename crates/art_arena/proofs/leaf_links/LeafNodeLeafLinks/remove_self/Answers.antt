@@ -19,8 +19,11 @@ returns-clause-removed g c = Joins-at c.args.arena.now c.join.new.arena _ _ _ _ 
 pub returns-clause-spelled : goal.returns-clause-spelled
 returns-clause-spelled g c = λ before after spells. Spells-removed c.args.arena.now c.join.new.arena before after (slab_key c.args.this) (Joins-at c.args.arena.now c.join.new.arena _ _ _ _ c.previous_of-before.ensures c.next_of-after.ensures c.join.ensures.joined) c.join.ensures.contents spells
 
-pub returns-clause-own_links : goal.returns-clause-own_links
-returns-clause-own_links g c = own_links c.args.arena.now c.join.new.arena (slab_key c.args.this) c.requires (Joins-at c.args.arena.now c.join.new.arena _ _ _ _ c.previous_of-before.ensures c.next_of-after.ensures c.join.ensures.joined)
+pub returns-clause-own_previous : goal.returns-clause-own_previous
+returns-clause-own_previous g c = (own_links c.args.arena.now c.join.new.arena (slab_key c.args.this) c.requires (Joins-at c.args.arena.now c.join.new.arena _ _ _ _ c.previous_of-before.ensures c.next_of-after.ensures c.join.ensures.joined)).0
+
+pub returns-clause-own_next : goal.returns-clause-own_next
+returns-clause-own_next g c = (own_links c.args.arena.now c.join.new.arena (slab_key c.args.this) c.requires (Joins-at c.args.arena.now c.join.new.arena _ _ _ _ c.previous_of-before.ensures c.next_of-after.ensures c.join.ensures.joined)).1
 
 pub returns-clause-room : goal.returns-clause-room
 returns-clause-room g c = search
