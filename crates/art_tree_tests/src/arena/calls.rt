@@ -105,14 +105,18 @@ fn check_leaf(rt: &impl Abort, arena: &mut Arena) {
 }
 
 #[test]
-fn makes_every_call(rt: HostRuntime) {
+fn each_kind_is_kept_lent_replaced_and_given_up(rt: HostRuntime) {
     let mut arena = Arena::new(rt.alloc());
     let four = InnerNode4::builder(b"ab", 2)
         .write_child(3, child())
         .write_child(5, child())
         .build();
-    let all = four.grow().grow().grow();
+    let sixteen = four.grow();
+    let forty_eight = sixteen.grow();
+    let all = forty_eight.grow();
     check_inner(&rt, &mut arena, four.clone(), four);
+    check_inner(&rt, &mut arena, sixteen.clone(), sixteen);
+    check_inner(&rt, &mut arena, forty_eight.clone(), forty_eight);
     check_inner(&rt, &mut arena, all.clone(), all);
     check_leaf(&rt, &mut arena);
 }

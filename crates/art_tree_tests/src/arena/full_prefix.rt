@@ -45,6 +45,7 @@ fn match_alike<
     ensures { match_of result.0 ≡ match_of result.1 }
 {
     same_trees_have_the_same_texts::<OpaqueNodePtr<K, V, P>, OpaqueNodePtr<L, W, Q>>();
+    // Called for what its clauses tell: there are bytes that all texts below share.
     let (_prefix, _) = node.read_full_prefix(arena, depth);
     (
         node.match_full_prefix(arena, key, depth),
