@@ -215,6 +215,19 @@ fn parts_come_back(rt: HostRuntime) -> Result<(), Fail> {
 }
 
 #[test]
+fn wide_parts_come_back(rt: HostRuntime) -> Result<(), Fail> {
+    let alloc = rt.alloc();
+    let bytes = <Named as BytesMapping<([u8; 300], u16)>>::to_bytes(alloc, ([7; 300], 258))?;
+    assert!(rt; bytes.len() == 302);
+    assert!(rt; &bytes[..300] == [7; 300].as_slice());
+    assert!(rt; &bytes[300..] == [1, 2].as_slice());
+    assert!(rt; <Named as BytesMapping<([u8; 300], u16)>>::is_value(&bytes));
+    let read = <Named as BytesMapping<([u8; 300], u16)>>::from_bytes(alloc, bytes)?;
+    assert!(rt; read == ([7; 300], 258));
+    Ok(())
+}
+
+#[test]
 fn concat_tuple_ord_matches_tuple_ord(rt: HostRuntime) -> Result<(), Fail> {
     type By = ConcatTuple<(ToOctets, ToIBE, ToOctets)>;
     let alloc = rt.alloc();
