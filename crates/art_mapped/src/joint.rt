@@ -6,7 +6,7 @@ ghost use Rattle.art_mapped.specs.TupleLaws.{part_laws, both_laws, both_order};
 
 use crate::fixed::FixedBytes;
 use crate::mapping::{BytesMapping, OrderedMapping};
-use crate::part::{is_part, read_part, write_part};
+use art_bytes::AsBytes;
 use std::alloc::{AllocError, Global};
 use std::marker::PhantomData;
 
@@ -71,10 +71,10 @@ pub trait OrderedJoint<D: Ord>: Joint<D> {
     ghost order: { OrderLaws Self.is_in_domain Self.text_of D.cmp };
 }
 
-/// The first part.
-pub struct First<M>(PhantomData<M>);
+/// One part, by a mapping whose keys have one width.
+pub struct Part<M>(PhantomData<M>);
 
-impl<D, K: FixedBytes, M: BytesMapping<D, Bytes = K>> Joint<D> for First<M> {
+impl<D, K: FixedBytes, M: BytesMapping<D, Bytes = K>> Joint<D> for Part<M> {
     const READ_ALLOCATES: bool = M::READ_ALLOCATES;
 
     ghost READ_ALLOCATES = { M.READ_ALLOCATES };
@@ -98,75 +98,73 @@ impl<D, K: FixedBytes, M: BytesMapping<D, Bytes = K>> Joint<D> for First<M> {
     }
 
     fn write(alloc: Global, value: D, bytes: &mut Vec<u8>) -> Result<(), AllocError> {
-        write_part::<D, K, M>(alloc, value, bytes)
+        let key = M::to_bytes(alloc, value)?;
+        bytes.extend_from_slice(key.as_bytes())?;
+        Ok(())
     }
 
     fn is_value(bytes: &[u8]) -> bool {
-        is_part::<D, K, M>(bytes)
+        bytes.len() == K::WIDTH && M::is_value(&K::from_slice(bytes))
     }
 
     fn read(alloc: Global, bytes: &[u8]) -> Result<D, AllocError> {
-        read_part::<D, K, M>(alloc, bytes)
+        M::from_bytes(alloc, K::from_slice(bytes))
     }
 }
 
-impl<D: Ord, K: FixedBytes, M: OrderedMapping<D, Bytes = K>> OrderedJoint<D> for First<M> {
+impl<D: Ord, K: FixedBytes, M: OrderedMapping<D, Bytes = K>> OrderedJoint<D> for Part<M> {
     ghost order = { record { keeps = λ x y x_in y_in. M.keeps_order x y x_in.0 y_in.0 } };
 }
 
-/// The parts `F`, and one more behind them.
-pub struct Then<F, M>(PhantomData<(F, M)>);
+/// The parts `F`, and those of `L` behind them.
+pub struct Then<F, L>(PhantomData<(F, L)>);
 
-impl<A: Drop, B: Drop, F: Joint<A>, K: FixedBytes, M: BytesMapping<B, Bytes = K>> Joint<(A, B)>
-    for Then<F, M> {
-    const READ_ALLOCATES: bool = F::READ_ALLOCATES || M::READ_ALLOCATES;
+impl<A: Drop, B: Drop, F: Joint<A>, L: Joint<B>> Joint<(A, B)> for Then<F, L> {
+    const READ_ALLOCATES: bool = F::READ_ALLOCATES || L::READ_ALLOCATES;
 
-    ghost READ_ALLOCATES = { F.READ_ALLOCATES || M.READ_ALLOCATES };
+    ghost READ_ALLOCATES = { F.READ_ALLOCATES || L.READ_ALLOCATES };
 
-    ghost width = { F.width + K.WIDTH };
+    ghost width = { F.width + L.width };
 
-    ghost is_in_domain = { Both F.is_in_domain (IsPart M.is_in_domain M.text_of (IsTextOf K.is_key K.text M.stands_for) K.WIDTH) };
+    ghost is_in_domain = { Both F.is_in_domain L.is_in_domain };
 
-    ghost text_of = { both_texts F.text_of M.text_of };
+    ghost text_of = { both_texts F.text_of L.text_of };
 
-    ghost are_same = { AreSameBoth F.are_same M.are_same };
+    ghost are_same = { AreSameBoth F.are_same L.are_same };
 
-    ghost stands_for = { StandsForBoth F.stands_for (IsTextOf K.is_key K.text M.stands_for) };
+    ghost stands_for = { StandsForBoth F.stands_for L.stands_for };
 
-    ghost one_text = { λ x y same. Prim.rw (F.one_text x.0 y.0 same.0, M.one_text x.1 y.1 same.1) Prim.cc };
+    ghost one_text = { λ x y same. Prim.rw (F.one_text x.0 y.0 same.0, L.one_text x.1 y.1 same.1) Prim.cc };
 
-    ghost laws = { both_laws F.laws (part_laws K.WIDTH M.has_text K.one_key M.reads_one) };
+    ghost laws = { both_laws F.laws L.laws };
 
     fn room() -> usize {
-        F::room().saturating_add(K::WIDTH)
+        F::room().saturating_add(L::room())
     }
 
     fn write(alloc: Global, value: (A, B), bytes: &mut Vec<u8>) -> Result<(), AllocError> {
         let (front, last) = value;
         F::write(alloc, front, bytes)?;
-        write_part::<B, K, M>(alloc, last, bytes)
+        L::write(alloc, last, bytes)
     }
 
     fn is_value(bytes: &[u8]) -> bool {
-        if bytes.len() < K::WIDTH {
+        let width = L::room();
+        if bytes.len() < width {
             return false;
         }
-        let (front, last) = bytes.split_at(bytes.len() - K::WIDTH);
-        F::is_value(front) && is_part::<B, K, M>(last)
+        let (front, last) = bytes.split_at(bytes.len() - width);
+        F::is_value(front) && L::is_value(last)
     }
 
     fn read(alloc: Global, bytes: &[u8]) -> Result<(A, B), AllocError> {
-        let (front, last) = bytes.split_at(bytes.len() - K::WIDTH);
+        let (front, last) = bytes.split_at(bytes.len() - L::room());
         let value = F::read(alloc, front)?;
-        Ok((value, read_part::<B, K, M>(alloc, last)?))
+        Ok((value, L::read(alloc, last)?))
     }
 }
 
-impl<A: Ord + Drop, B: Ord + Drop, F, K, M> OrderedJoint<(A, B)> for Then<F, M>
-where
-    F: OrderedJoint<A>,
-    K: FixedBytes,
-    M: OrderedMapping<B, Bytes = K>,
-{
-    ghost order = { both_order F.laws (part_laws K.WIDTH M.has_text K.one_key M.reads_one) F.order (record { keeps = λ x y x_in y_in. M.keeps_order x y x_in.0 y_in.0 }) };
+impl<A: Ord + Drop, B: Ord + Drop, F: OrderedJoint<A>, L: OrderedJoint<B>> OrderedJoint<(A, B)>
+    for Then<F, L> {
+    ghost order = { both_order F.laws L.laws F.order L.order };
 }

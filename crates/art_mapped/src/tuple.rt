@@ -4,7 +4,7 @@ ghost use Rattle.std.specs.Vec.{vec_items};
 ghost use Rattle.std.proofs.Common.{◌∙◌};
 ghost use Rattle.art_mapped.specs.TupleLaws.{kept_by_items, same_from_one_text, wide_front_is_whole};
 
-use crate::joint::{First, Joint, OrderedJoint, Then};
+use crate::joint::{Joint, OrderedJoint, Part, Then};
 use crate::mapping::{BytesMapping, InjectiveMapping, NoPrefixesMapping, OrderedMapping};
 use std::alloc::{AllocError, Global};
 use std::marker::PhantomData;
@@ -137,7 +137,7 @@ where
 impl<M0, M1> TupleMappings for (M0, M1) {
     type Places = [(); 2];
 
-    type Joint = Then<First<M0>, M1>;
+    type Joint = Then<Part<M0>, Part<M1>>;
 }
 
 impl<A, B> TupleValues for (A, B) {
@@ -168,7 +168,7 @@ impl<A: Ord, B: Ord> OrderedTuple<(A, B)> for (A, B) {
 impl<M0, M1, M2> TupleMappings for (M0, M1, M2) {
     type Places = [(); 3];
 
-    type Joint = Then<Then<First<M0>, M1>, M2>;
+    type Joint = Then<Then<Part<M0>, Part<M1>>, Part<M2>>;
 }
 
 impl<A, B, C> TupleValues for (A, B, C) {
@@ -199,7 +199,7 @@ impl<A: Ord, B: Ord, C: Ord> OrderedTuple<((A, B), C)> for (A, B, C) {
 impl<M0, M1, M2, M3> TupleMappings for (M0, M1, M2, M3) {
     type Places = [(); 4];
 
-    type Joint = Then<Then<Then<First<M0>, M1>, M2>, M3>;
+    type Joint = Then<Then<Then<Part<M0>, Part<M1>>, Part<M2>>, Part<M3>>;
 }
 
 impl<A, B, C, D> TupleValues for (A, B, C, D) {
@@ -230,7 +230,7 @@ impl<A: Ord, B: Ord, C: Ord, D: Ord> OrderedTuple<(((A, B), C), D)> for (A, B, C
 impl<M0, M1, M2, M3, M4> TupleMappings for (M0, M1, M2, M3, M4) {
     type Places = [(); 5];
 
-    type Joint = Then<Then<Then<Then<First<M0>, M1>, M2>, M3>, M4>;
+    type Joint = Then<Then<Then<Then<Part<M0>, Part<M1>>, Part<M2>>, Part<M3>>, Part<M4>>;
 }
 
 impl<A, B, C, D, E> TupleValues for (A, B, C, D, E) {
@@ -262,7 +262,10 @@ impl<A: Ord, B: Ord, C: Ord, D: Ord, E: Ord> OrderedTuple<((((A, B), C), D), E)>
 impl<M0, M1, M2, M3, M4, M5> TupleMappings for (M0, M1, M2, M3, M4, M5) {
     type Places = [(); 6];
 
-    type Joint = Then<Then<Then<Then<Then<First<M0>, M1>, M2>, M3>, M4>, M5>;
+    type Joint = Then<
+        Then<Then<Then<Then<Part<M0>, Part<M1>>, Part<M2>>, Part<M3>>, Part<M4>>,
+        Part<M5>,
+    >;
 }
 
 impl<A, B, C, D, E, F> TupleValues for (A, B, C, D, E, F) {

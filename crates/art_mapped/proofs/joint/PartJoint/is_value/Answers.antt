@@ -3,7 +3,7 @@ use Rattle.std.proofs.lemmas.Bool.Decides.{nat_tests}
 use Rattle.std.proofs.Math.Logic.{∥∥₁_map, ∥∥₁_elim}
 use Rattle.std.proofs.Props.{props}
 use Rattle.art_mapped.specs.TupleLaws.{key_stands}
-use Rattle.art_mapped.proofs.part.is_part.Goals as goal
+use Rattle.art_mapped.proofs.joint.PartJoint.is_value.Goals as goal
 
 pub returns-then-bytes-WIDTH : goal.returns-then-bytes-WIDTH
 returns-then-bytes-WIDTH g c =
