@@ -3,5 +3,6 @@ mod Cuts
 mod Flip
 mod Pairs
 mod Parts
+mod ReadBack
 mod Turns
 mod Vecs

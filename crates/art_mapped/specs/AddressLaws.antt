@@ -1,14 +1,12 @@
 -- An address and its octets decide each other, and their order. No public clause cites this.
-use Rattle.std.specs.Prelude.{◌≡◌, ℕ, zero, suc, ◌+◌, ◌*◌, ◌/◌, ◌%◌, List, [], ◌∷◌, length, All, refl}
+use Rattle.std.specs.Prelude.{◌≡◌, ℕ, ◌+◌, ◌*◌, ◌/◌, ◌%◌, List, [], ◌∷◌, refl}
 use Rattle.std.specs.Ordering.{nat_cmp, on}
 use Rattle.std.specs.Net.Addr.{ipv4_octets, ipv6_segments, ipv6_octets, octets_of, segments_of}
 use Rattle.std.specs.declared.net.Ipv4Addr.{Ipv4Addr}
 use Rattle.std.specs.declared.net.Ipv6Addr.{Ipv6Addr}
 use Rattle.std.proofs.Common.{sym, ap, ◌∙◌, arith, rules}
 use Rattle.std.proofs.lemmas.Map.Lookups.{exact_bytes}
-use Rattle.std.proofs.lemmas.List.Elements.{All-head, All-tail}
-use Rattle.std.proofs.lemmas.Nat.{div-mul-add, mod-mul-add}
-use Rattle.art_bytes.specs.Text.{IsByte, text_order}
+use Rattle.art_bytes.specs.Text.{text_order}
 use Rattle.art_mapped.specs.Addresses.{IsIpv4, IsIpv6}
 use Rattle.art_mapped.specs.DigitLaws.{order_of_two, then_assoc}
 use Rattle.art_mapped.specs.Elements.{KeepsOrder}
@@ -30,16 +28,6 @@ pub same_ipv6 : (x y : Ipv6Addr) {bytes : List ℕ} → bytes ≡ ipv6_octets x 
 same_ipv6 x y x_text y_text =
     let make : List ℕ → Ipv6Addr = λ segments. record { segments = segments } in
     ap make (sym (segments_of-octets_of (ipv6_segments x)) ∙ ap segments_of (sym x_text ∙ y_text) ∙ segments_of-octets_of (ipv6_segments y))
-
--- octets joined to segments come apart again
-pub octets_of-segments_of : (n : ℕ) (octets : List ℕ) → length octets ≡ 2 * n → All IsByte octets → octets_of (segments_of octets) ≡ octets
-octets_of-segments_of n [] long bytes = refl
-octets_of-segments_of n (a ∷ []) long bytes = absurd (omega arith)
-octets_of-segments_of zero (a ∷ b ∷ octets) long bytes = absurd (omega arith)
-octets_of-segments_of (suc n) (a ∷ b ∷ octets) long bytes =
-    let low = All-head IsByte b octets (All-tail IsByte a (b ∷ octets) bytes) in
-    let rest = octets_of-segments_of n octets (omega arith) (All-tail IsByte b octets (All-tail IsByte a (b ∷ octets) bytes)) in
-    rw (div-mul-add a 256 b low, mod-mul-add a 256 b low, rest) refl
 
 -- addresses of four octets sort as their octets do
 pub ipv4_keep : KeepsOrder IsIpv4 ipv4_octets (on ipv4_octets text_order) 4

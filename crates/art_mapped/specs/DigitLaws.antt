@@ -1,6 +1,6 @@
--- Digits in base 256: their number, their order, and the way back from bytes. No public clause cites this.
-use Rattle.std.specs.Prelude.{◌≡◌, ℕ, zero, suc, ◌+◌, ◌-◌, ◌*◌, ◌%◌, ◌^◌, ◌<◌, List, [], ◌∷◌, length, get_or, refl}
-use Rattle.std.specs.Int.{byte_at, byte_worth, sum_through}
+-- Digits in base 256: their number and their order. No public clause cites this.
+use Rattle.std.specs.Prelude.{◌≡◌, ℕ, zero, suc, ◌+◌, ◌*◌, ◌%◌, ◌^◌, ◌<◌, List, [], ◌∷◌, length, get_or, refl}
+use Rattle.std.specs.Int.{byte_at}
 use Rattle.std.specs.Ordering.{nat_cmp, ordering_then}
 use Rattle.std.specs.declared.cmp.Ordering.{Ordering}
 use Rattle.std.specs.declared.cmp.Ordering.TheVariants.{Less, Equal, Greater}
@@ -10,7 +10,6 @@ use Rattle.std.proofs.Math.Nat.{pow-le-pow_right, mod-eq_of_lt}
 use Rattle.std.proofs.Math.Arith.{mod-mul}
 use Rattle.std.proofs.lemmas.Cmp.{by_ranked, ranked}
 use Rattle.std.proofs.lemmas.Nat.{mul-add-lt, row_fits}
-use Rattle.std.proofs.lemmas.Map.Lookups.{exact_bytes}
 use Rattle.art_bytes.specs.Text.{text_order}
 use Rattle.art_mapped.specs.Numbers.{digits}
 
@@ -42,7 +41,7 @@ AreBytes-digits zero n i = omega arith
 AreBytes-digits (suc k) n zero = byte_at_below k n
 AreBytes-digits (suc k) n (suc i) = AreBytes-digits k n i
 
-number_of_below : (ds : List ℕ) → AreBytes ds → number_of ds < 256 ^ length ds
+pub number_of_below : (ds : List ℕ) → AreBytes ds → number_of ds < 256 ^ length ds
 number_of_below [] bytes = omega arith
 number_of_below (d ∷ ds) bytes =
     let rest = number_of_below ds (λ i. bytes (suc i)) in
@@ -100,40 +99,3 @@ pub text_order-digits : (width m n : ℕ) → m < 256 ^ width → n < 256 ^ widt
 text_order-digits width m n m_fits n_fits =
     let long = length-digits width m ∙ sym (length-digits width n) in
     rw (text_order-number_of (digits width m) (digits width n) long (AreBytes-digits width m) (AreBytes-digits width n), number_of-digits width m m_fits, number_of-digits width n n_fits) refl
-
--- texts that stand for one number at one width are one
-same_from_number : (ds es : List ℕ) → length ds ≡ length es → AreBytes ds → AreBytes es → number_of ds ≡ number_of es → ds ≡ es
-same_from_number ds es long d_bytes e_bytes same =
-    exact_bytes ds es (text_order-number_of ds es long d_bytes e_bytes ∙ sym (nat_cmp_is (number_of ds) (number_of es) Equal same))
-
--- a text is the digits of its number
-pub digits-number_of : (width : ℕ) (ds : List ℕ) → length ds ≡ width → AreBytes ds → digits width (number_of ds) ≡ ds
-digits-number_of width ds long bytes =
-    let fits : number_of ds < 256 ^ width = rw (← long) (number_of_below ds bytes) in
-    same_from_number (digits width (number_of ds)) ds (length-digits width (number_of ds) ∙ sym long) (AreBytes-digits width (number_of ds)) bytes (number_of-digits width (number_of ds) fits)
-
--- the first term of a sum apart
-sum_from_first : (f : ℕ → ℕ) (k : ℕ) → sum_through f (suc k) ≡ f 0 + sum_through (λ i. f (suc i)) k
-sum_from_first f zero = refl
-sum_from_first f (suc k) = rw (sum_from_first f k) (omega arith)
-
-same_sum : (f g : ℕ → ℕ) → ((i : ℕ) → f i ≡ g i) → (k : ℕ) → sum_through f k ≡ sum_through g k
-same_sum f g same zero = same 0
-same_sum f g same (suc k) = rw (same_sum f g same k, same (suc k)) refl
-
--- what std's `from_be_bytes` sums up is the number of the text
-pub number_of-sum : (k : ℕ) (ds : List ℕ) → length ds ≡ suc k → sum_through (λ i. byte_worth (k - i) (get_or ds i 0)) k ≡ number_of ds
-number_of-sum zero [] long = absurd (omega arith)
-number_of-sum zero (d ∷ []) long = omega arith
-number_of-sum zero (d ∷ e ∷ ds) long = absurd (omega arith)
-number_of-sum (suc k) [] long = absurd (omega arith)
-number_of-sum (suc k) (d ∷ ds) long =
-    let short : length ds ≡ suc k = omega arith in
-    let shifted = same_sum (λ i. byte_worth (suc k - suc i) (get_or ds i 0)) (λ i. byte_worth (k - i) (get_or ds i 0)) (λ i. ap (λ j. byte_worth j (get_or ds i 0)) (omega arith)) k in
-    let rest = shifted ∙ number_of-sum k ds short in
-    let whole : suc k - 0 ≡ suc k = omega arith in
-    rw (sum_from_first (λ i. byte_worth (suc k - i) (get_or (d ∷ ds) i 0)) k, rest, short, whole) refl
-
--- the number that std reads from as many bytes as the width has has these bytes as its digits
-pub digits-read : (k : ℕ) (ds : List ℕ) (n : ℕ) → length ds ≡ suc k → AreBytes ds → n ≡ sum_through (λ i. byte_worth (k - i) (get_or ds i 0)) k → digits (suc k) n ≡ ds
-digits-read k ds n long bytes read = rw (read ∙ number_of-sum k ds long) (digits-number_of (suc k) ds long bytes)

@@ -3,7 +3,7 @@ use Rattle.std.specs.Net.Addr.{octets_of}
 use Rattle.std.proofs.lemmas.List.Elements.{All-from_get_or}
 use Rattle.art_bytes.specs.Text.{IsByte}
 use Rattle.art_mapped.specs.Addresses.{AreOctets}
-use Rattle.art_mapped.specs.AddressLaws.{octets_of-segments_of}
+use Rattle.art_mapped.proofs.ReadBack.{octets_of-segments_of}
 use Rattle.art_mapped.proofs.octets.Ipv6AddrElementOctets.decode.Goals as goal
 
 pub returns-clause-some : goal.returns-clause-some

@@ -1,6 +1,6 @@
 use Rattle.std.proofs.Common.{rules}
 use Rattle.std.specs.Int.{w128}
-use Rattle.art_mapped.specs.DigitLaws.{digits-read}
+use Rattle.art_mapped.proofs.ReadBack.{digits-read}
 use Rattle.art_mapped.proofs.Flip.{read_flipped}
 use Rattle.art_mapped.proofs.signed.I128ElementSigned.decode.Goals as goal
 

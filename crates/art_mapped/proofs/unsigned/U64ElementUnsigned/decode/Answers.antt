@@ -1,5 +1,5 @@
 use Rattle.std.proofs.Common.{rules, arith, sym}
-use Rattle.art_mapped.specs.DigitLaws.{digits-read}
+use Rattle.art_mapped.proofs.ReadBack.{digits-read}
 use Rattle.art_mapped.proofs.unsigned.U64ElementUnsigned.decode.Goals as goal
 
 pub returns-clause-some : goal.returns-clause-some
