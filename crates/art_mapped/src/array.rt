@@ -37,9 +37,11 @@ impl<F: IntegerForm, E: Element<F>, const N: usize> BytesMapping<[E; N]> for Joi
 
     ghost one_text = { λ x y same. ap (joined E.text_of) same };
 
-    ghost reads_one = { λ _ x y x_in y_in x_text y_text. same_from_joined E.keeps x y x_in.1 y_in.1 x_text y_text };
+    ghost reads_one = { λ _ x y x_in y_in x_text y_text.
+        same_from_joined E.keeps x y x_in.1 y_in.1 x_text y_text };
 
-    ghost kept_by_text = { λ a b _. kept_by_text (IsArray N E.is_in_range) vec_items (joined E.text_of) a b };
+    ghost kept_by_text = { λ a b _.
+        kept_by_text (IsArray N E.is_in_range) vec_items (joined E.text_of) a b };
 
     fn to_bytes(alloc: Global, value: [E; N]) -> Result<Vec<u8>, AllocError> {
         joined_bytes::<F, E>(alloc, &value)
@@ -55,7 +57,8 @@ impl<F: IntegerForm, E: Element<F>, const N: usize> BytesMapping<[E; N]> for Joi
 }
 
 impl<F: IntegerForm, E: Element<F>, const N: usize> InjectiveMapping<[E; N]> for Joined<F> {
-    ghost decided_by_text = { λ x y x_in y_in same. same_from_joined E.keeps x y x_in.1 y_in.1 refl same };
+    ghost decided_by_text = { λ x y x_in y_in same.
+        same_from_joined E.keeps x y x_in.1 y_in.1 refl same };
 }
 
 impl<F: IntegerForm, E: Element<F>, const N: usize> OrderedMapping<[E; N]> for Joined<F> {

@@ -65,7 +65,8 @@ impl<F, E: Element<F>> BytesMapping<E> for Single<F> {
 
     ghost one_text = { λ x y same. ap E.text_of same };
 
-    ghost reads_one = { λ _ x y x_in y_in x_text y_text. same_from_text E.keeps x y x_in y_in x_text y_text };
+    ghost reads_one = { λ _ x y x_in y_in x_text y_text.
+        same_from_text E.keeps x y x_in y_in x_text y_text };
 
     ghost kept_by_text = { λ a b _. kept_by_text E.is_in_range E.Bytes.text E.text_of a b };
 
@@ -86,7 +87,8 @@ impl<F, E: Element<F>> BytesMapping<E> for Single<F> {
 }
 
 impl<F, E: Element<F>> InjectiveMapping<E> for Single<F> {
-    ghost decided_by_text = { λ x y x_in y_in same. same_from_text E.keeps x y x_in y_in refl same };
+    ghost decided_by_text = { λ x y x_in y_in same.
+        same_from_text E.keeps x y x_in y_in refl same };
 }
 
 impl<F, E: Element<F>> OrderedMapping<E> for Single<F> {

@@ -81,7 +81,8 @@ impl<D, K: FixedBytes, M: BytesMapping<D, Bytes = K>> Joint<D> for Part<M> {
 
     ghost width = { K.WIDTH };
 
-    ghost is_in_domain = { IsPart M.is_in_domain M.text_of (IsTextOf K.is_key K.text M.stands_for) K.WIDTH };
+    ghost is_in_domain = { IsPart M.is_in_domain M.text_of
+        (IsTextOf K.is_key K.text M.stands_for) K.WIDTH };
 
     ghost text_of = { M.text_of };
 
@@ -134,7 +135,8 @@ impl<A: Drop, B: Drop, F: Joint<A>, L: Joint<B>> Joint<(A, B)> for Then<F, L> {
 
     ghost stands_for = { StandsForBoth F.stands_for L.stands_for };
 
-    ghost one_text = { λ x y same. Prim.rw (F.one_text x.0 y.0 same.0, L.one_text x.1 y.1 same.1) Prim.cc };
+    ghost one_text = { λ x y same.
+        Prim.rw (F.one_text x.0 y.0 same.0, L.one_text x.1 y.1 same.1) Prim.cc };
 
     ghost laws = { both_laws F.laws L.laws };
 

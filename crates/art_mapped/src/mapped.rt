@@ -109,7 +109,8 @@ impl<B: BytesMapping<D>, D> AsBytes for Mapped<B, D> {
 impl<B: NoPrefixesMapping<D>, D> NoPrefixesBytes for Mapped<B, D> {
     ghost use Rattle.art_mapped.specs.MappingLaws.{text_front_is_whole};
 
-    ghost no_prefixes = { λ a b a_some b_some. text_front_is_whole _ _ _ _ B.has_text B.no_prefixes a.repr b.repr a_some b_some };
+    ghost no_prefixes = { λ a b a_some b_some.
+        text_front_is_whole _ _ _ _ B.has_text B.no_prefixes a.repr b.repr a_some b_some };
 }
 
 /// Keys are equal where their bytes are.
@@ -189,7 +190,8 @@ impl<B: OrderedMapping<D>, D: Ord> PartialOrd for Mapped<B, D> {
 
     ghost partial_cmp = { as_partial_cmp (on mapped_text text_order) };
 
-    ghost laws = { partial_order_from_own_ties (Prim.search (comparing, rules)) (Prim.search (comparing, rules)) };
+    ghost laws = { partial_order_from_own_ties
+        (Prim.search (comparing, rules)) (Prim.search (comparing, rules)) };
 
     fn partial_cmp(&self, other: &Self) -> Option<Ordering> {
         Some(self.cmp(other))

@@ -87,9 +87,11 @@ where
 
     ghost one_text = { λ x y. J.one_text (D.in_pairs x) (D.in_pairs y) };
 
-    ghost reads_one = { λ bytes x y. J.laws.reads_one (vec_items bytes) (D.in_pairs x) (D.in_pairs y) };
+    ghost reads_one = { λ bytes x y.
+        J.laws.reads_one (vec_items bytes) (D.in_pairs x) (D.in_pairs y) };
 
-    ghost kept_by_text = { λ a b _. kept_by_items D.in_pairs J.is_in_domain J.stands_for (vec_items a) (vec_items b) };
+    ghost kept_by_text = { λ a b _.
+        kept_by_items D.in_pairs J.is_in_domain J.stands_for (vec_items a) (vec_items b) };
 
     fn to_bytes(alloc: Global, value: D) -> Result<Vec<u8>, AllocError> {
         let mut bytes = Vec::with_capacity(alloc, J::room())?;
@@ -122,7 +124,8 @@ where
     J: OrderedJoint<P>,
     T: TupleMappings<Places = N, Joint = J>,
 {
-    ghost keeps_order = { λ x y x_in y_in. D.same_order x y ∙ J.order.keeps (D.in_pairs x) (D.in_pairs y) x_in y_in };
+    ghost keeps_order = { λ x y x_in y_in.
+        D.same_order x y ∙ J.order.keeps (D.in_pairs x) (D.in_pairs y) x_in y_in };
 }
 
 impl<N, D, P, J, T> NoPrefixesMapping<D> for ConcatTuple<T>
@@ -275,7 +278,8 @@ impl<A, B, C, D, E, F> TupleValues for (A, B, C, D, E, F) {
 
     ghost in_pairs = { λ value. (((((value.0, value.1), value.2), value.3), value.4), value.5) };
 
-    ghost flat = { λ value. (value.0.0.0.0.0, value.0.0.0.0.1, value.0.0.0.1, value.0.0.1, value.0.1, value.1) };
+    ghost flat = { λ value.
+        (value.0.0.0.0.0, value.0.0.0.0.1, value.0.0.0.1, value.0.0.1, value.0.1, value.1) };
 
     ghost pairs_flat = { λ _. refl };
 

@@ -36,9 +36,11 @@ impl<F: IntegerForm, E: Element<F>> BytesMapping<Vec<E>> for Joined<F> {
 
     ghost one_text = { λ x y same. ap (joined E.text_of) same };
 
-    ghost reads_one = { λ _ x y x_in y_in x_text y_text. same_from_joined E.keeps x.items y.items x_in y_in x_text y_text };
+    ghost reads_one = { λ _ x y x_in y_in x_text y_text.
+        same_from_joined E.keeps x.items y.items x_in y_in x_text y_text };
 
-    ghost kept_by_text = { λ a b _. kept_by_text (IsVec E.is_in_range) vec_items (vec_text E.text_of) a b };
+    ghost kept_by_text = { λ a b _.
+        kept_by_text (IsVec E.is_in_range) vec_items (vec_text E.text_of) a b };
 
     fn to_bytes(alloc: Global, value: Vec<E>) -> Result<Vec<u8>, AllocError> {
         joined_bytes::<F, E>(alloc, &value)
@@ -54,7 +56,8 @@ impl<F: IntegerForm, E: Element<F>> BytesMapping<Vec<E>> for Joined<F> {
 }
 
 impl<F: IntegerForm, E: Element<F>> InjectiveMapping<Vec<E>> for Joined<F> {
-    ghost decided_by_text = { λ x y x_in y_in same. same_from_joined E.keeps x.items y.items x_in y_in refl same };
+    ghost decided_by_text = { λ x y x_in y_in same.
+        same_from_joined E.keeps x.items y.items x_in y_in refl same };
 }
 
 impl<F: IntegerForm, E: Element<F>> OrderedMapping<Vec<E>> for Joined<F> {
