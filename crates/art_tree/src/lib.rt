@@ -21,10 +21,9 @@ pub use art_bytes::{
     AsBytes, CStringKey, CStringKeyError, NoPrefixesBytes, OrderedBytes, SliceKey, StrKey,
 };
 pub use art_mapped::{
-    BytesMapping, ConcatTuple, Domain, Element, First, FixedBytes, Identity, InjectiveMapping,
-    IntegerForm, Joined, Joint, Mapped, NoPrefixesMapping, Octets, OrderedJoint, OrderedMapping,
-    OrderedTuple, Signed, Single, Then, ToBigEndian, ToIBE, ToOctets, ToUBE, TupleMappings,
-    TupleValues, Unsigned,
+    BytesMapping, ConcatTuple, Domain, Element, FixedBytes, Identity, InjectiveMapping,
+    IntegerForm, Joined, Mapped, NoPrefixesMapping, Octets, OrderedMapping, OrderedTuple, Signed,
+    Single, ToBigEndian, ToIBE, ToOctets, ToUBE, TupleMappings, TupleValues, Unsigned,
 };
 pub use art_nodes::{
     AttemptOptimisticPrefixMatch, BuilderState, ChildCommand, ChildIter, ChildNode, ChildPairs,
