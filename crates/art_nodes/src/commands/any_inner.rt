@@ -16,23 +16,14 @@ use art_header::{Header, NodeType};
 use std::alloc::{AllocError, Global};
 use std::ops::Bound;
 
-/// An inner node of any kind. Its calls are those of [`InnerNodeCommon`], but `min` and `max` answer
-/// `None` where there is no child.
+/// An inner node of any kind. Its calls are those of [`InnerNodeCommon`], but `min` and `max`
+/// answer `None` where there is no child.
 #[derive(Drop)]
 pub(crate) enum AnyInner<K, V, const PREFIX_LEN: usize> {
     Node4(InnerNode4<K, V, PREFIX_LEN>),
     Node16(InnerNode16<K, V, PREFIX_LEN>),
     Node48(InnerNode48<K, V, PREFIX_LEN>),
     Node256(InnerNodeDirect<K, V, PREFIX_LEN>),
-}
-
-// How many pairs there are: what to make room for, which changes no answer.
-fn count_of<K, V, const PREFIX_LEN: usize>(pairs: ChildIter<'_, K, V, PREFIX_LEN>) -> usize {
-    let mut count: usize = 0;
-    for _ in pairs {
-        count = count.saturating_add(1);
-    }
-    count
 }
 
 // The pairs in a vector with room for so many.
@@ -148,7 +139,9 @@ impl<K, V, const PREFIX_LEN: usize> AnyInner<K, V, PREFIX_LEN> {
         ensures { let children = (inner_of self.now).children in
             IfOk result (λ pairs. pairs.items ≡ pairs_within children start end) }
     {
-        let count = count_of(with_node!(self, node => node.range(start, end)));
+        let counted = with_node!(self, node => node.range(start, end));
+        // What to make room for, which changes no answer.
+        let count = counted.fold(0, |count: usize, _| count.saturating_add(1));
         let pairs = with_node!(self, node => node.range(start, end));
         gathered(alloc, pairs, count)
     }
@@ -165,7 +158,8 @@ impl<K, V, const PREFIX_LEN: usize> AnyInner<K, V, PREFIX_LEN> {
     /// Whether the node has fewer children than a node of its kind is to have.
     pub(crate) fn is_below_range(&self) -> bool
         ensures sound { IsInner PREFIX_LEN (most_children (kind_of self.now)) (inner_of self.now) }
-        ensures value { let kind = kind_of self.now in let count = length (inner_of self.now).children in
+        ensures value { let kind = kind_of self.now in
+            let count = length (inner_of self.now).children in
             IsTrue result ↔ (kind ≢ NodeType.Node4 × count < least_children kind) }
     {
         self.node_type()

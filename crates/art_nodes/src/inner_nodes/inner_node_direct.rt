@@ -9,7 +9,7 @@ use art_header::{Header, NodeType};
 use std::marker::Model;
 use std::ops::Bound;
 
-/// An inner node for 49 to 256 children, which keeps each under its byte in a table.
+/// An inner node for at most 256 children, which keeps each under its byte in a table.
 #[derive(Drop)]
 pub struct InnerNodeDirect<K, V, const PREFIX_LEN: usize> {
     header: Header<PREFIX_LEN>,
@@ -146,12 +146,10 @@ impl<K, V, const PREFIX_LEN: usize> InnerNodeCommon<K, V, PREFIX_LEN>
     }
 
     fn remove_child(&mut self, key_fragment: u8) -> Option<OpaqueNodePtr<K, V, PREFIX_LEN>> {
-        let removed_child = self.child_pointers.child(key_fragment);
-        if removed_child.is_some() {
-            self.header.dec_num_children();
-        }
+        let removed_child = self.child_pointers.child(key_fragment)?;
         self.child_pointers.clear(key_fragment);
-        removed_child
+        self.header.dec_num_children();
+        Some(removed_child)
     }
 
     fn iter(&self) -> ChildIter<'_, K, V, PREFIX_LEN> {

@@ -33,10 +33,12 @@ impl<'a, H> Model for IndexPairs<'a, H> {
 }
 
 impl<'a, H: Copy> IndexPairs<'a, H> {
+    /// The pairs of these places, the first of which is that of the byte.
     pub(crate) fn new(byte: usize, places: &'a [u8], children: &'a [H]) -> Self
         requires fits { byte + length places.now ≤ 256 }
         requires named { AreBelow (length children.now) (map index_of places.now) }
-        ensures { result ≡ table_children byte (named_pointers children.now (map index_of places.now)) }
+        ensures { result ≡
+            table_children byte (named_pointers children.now (map index_of places.now)) }
     {
         IndexPairs {
             places,
@@ -111,11 +113,9 @@ fn last_index(places: &[u8]) -> Option<(usize, NonMaxIndex)>
     ensures empty { IfNone result ((byte : ℕ) →
         table_children byte (map index_of places.now) ≡ []) }
 {
-    let mut end = places.len();
-    while end > 0 {
-        end -= 1;
-        if let Some(index) = NonMaxIndex::new(places[end]) {
-            return Some((end, index));
+    for place in (0..places.len()).rev() {
+        if let Some(index) = NonMaxIndex::new(places[place]) {
+            return Some((place, index));
         }
     }
     None
