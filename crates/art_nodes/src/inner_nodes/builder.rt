@@ -96,6 +96,14 @@ impl<
             state: PhantomData,
         }
     }
+
+    /// The node built so far, which may have fewer than two children: its capacity, count and
+    /// look-ups tell whether the next write's conditions hold.
+    pub fn node(&self) -> &N
+        ensures { result.now ≡ self.now }
+    {
+        &self.node
+    }
 }
 
 impl<K, V, const PREFIX_LEN: usize, N: InnerNodeCommon<K, V, PREFIX_LEN>> InnerNodeBuilder<
@@ -136,7 +144,8 @@ impl<K, V, const PREFIX_LEN: usize, N: InnerNodeCommon<K, V, PREFIX_LEN>> InnerN
     N,
     HasOneChild,
 > {
-    /// Writes the second child, under another byte than the first. The node has to have room for it.
+    /// Writes the second child, under another byte than the first. The node has to have room for
+    /// it.
     pub fn write_child(
         mut self,
         key_byte: u8,
@@ -185,8 +194,8 @@ impl<K, V, const PREFIX_LEN: usize> InnerNodeBuilder<
     InnerNode4<K, V, PREFIX_LEN>,
     NoChild,
 > {
-    /// Writes the first child without a search. The node has to have room for it and no byte that is not
-    /// below this one, as a node without children has.
+    /// Writes the first child without a search. The node has to have room for it and no byte at or
+    /// above this one; a new builder meets the latter always.
     pub fn write_child_unchecked(
         mut self,
         key_byte: u8,
@@ -208,8 +217,8 @@ impl<K, V, const PREFIX_LEN: usize> InnerNodeBuilder<
     InnerNode4<K, V, PREFIX_LEN>,
     HasOneChild,
 > {
-    /// Writes the second child without a search, under a byte above the first one's. The node has to
-    /// have room for it.
+    /// Writes the second child without a search, under a byte above the first one's. The node has
+    /// to have room for it.
     pub fn write_child_unchecked(
         mut self,
         key_byte: u8,
