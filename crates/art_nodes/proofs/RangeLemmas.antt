@@ -1,17 +1,21 @@
 -- The pairs within bounds, as parts of sorted bytes and of tables.
 use Rattle.std.proofs.Common.{◌≡◌, ℕ, zero, suc, ◌+◌, ◌-◌, ◌<◌, ◌≤◌, true, false, Bool, cond, ◌&&◌, nat_lt, nat_le, List, [], ◌∷◌, length, take, drop, Option, Some, None, refl, sym, ◌∙◌, ap, arith, inl, inr}
-use Rattle.std.specs.List.{zip, count_by}
+use Rattle.std.specs.List.{zip, count_by, filter}
 use Rattle.std.specs.declared.ops.Bound.{Bound}
 use Rattle.std.specs.declared.ops.Bound.TheVariants.{Included, Excluded, Unbounded}
 use Rattle.std.proofs.lemmas.Bool.{cases_lt}
 use Rattle.std.proofs.lemmas.Bool.Decides.{nat_tests}
 use Rattle.std.proofs.lemmas.List.Sums.{sum_by-cons, count_by-le-length}
 use Rattle.art_nodes.specs.ChildMap.{ChildMap, IsAscendingFrom, meets_start, meets_end, pairs_within, table_children}
-use Rattle.art_nodes.specs.PairSources.{first_byte, end_byte, pairs_between}
+use Rattle.art_nodes.specs.PairSources.{first_byte, end_byte}
 use Rattle.art_nodes.proofs.ChildMapLemmas.{IsAbove, lt-true, lt-false}
 use Rattle.std.proofs.lemmas.List.{length-drop, length-take-le, take_rest}
 use Rattle.art_nodes.proofs.SortedLemmas.{above-zip}
 use Rattle.art_nodes.proofs.TableLemmas.{above-table}
+
+-- the pairs whose byte is at least the first and below the end
+abbrev pub pairs_between : {H : Type 0} → ChildMap H → ℕ → ℕ → ChildMap H
+pairs_between children first end = filter (λ p. nat_le first p.0 && nat_lt p.0 end) children
 
 le-true : (a b : ℕ) → a ≤ b → nat_le a b ≡ true
 le-true a b h = grind (arith, nat_tests)

@@ -1,5 +1,5 @@
 -- Sets of bytes, as words of 64 bits. No public clause cites these words.
-use Rattle.std.specs.Prelude.{◌≡◌, ℕ, ◌<◌, ◌≤◌, ◌/◌, ◌%◌, ◌==◌, Bool, false, if◌then◌else◌, List, [], ◌∷◌, suc, get_or, Option, Some, None}
+use Rattle.std.specs.Prelude.{◌≡◌, ℕ, ◌<◌, ◌≤◌, ◌/◌, ◌%◌, ◌==◌, Bool, false, if◌then◌else◌, List, [], ◌∷◌, suc, slice_index_or, Option, Some, None}
 use Rattle.std.specs.Int.{bit_at}
 
 -- no bit is set from the first on, below the end
@@ -8,7 +8,7 @@ HasNoBit word first end = (bit : ℕ) → first ≤ bit → bit < end → bit_at
 
 -- the byte's bit is set
 abbrev pub has_byte : List ℕ → ℕ → Bool
-has_byte words byte = bit_at (get_or words (byte / 64) 0) (byte % 64) == 1
+has_byte words byte = bit_at (slice_index_or words (byte / 64) 0) (byte % 64) == 1
 
 -- no byte's bit is set from the first on, below the end
 abbrev pub HasNoByte : List ℕ → ℕ → ℕ → Type 0

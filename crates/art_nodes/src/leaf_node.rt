@@ -85,8 +85,8 @@ impl<K, V, const PREFIX_LEN: usize> LeafNode<K, V, PREFIX_LEN> {
 
     /// The key and the value, to be written. The links stay.
     ///
-    /// Whoever changes the text of a key that a tree or a list holds keeps the tree well-formed
-    /// and the list in order.
+    /// Whoever changes the text of a key that a tree or a list holds has to keep the tree
+    /// well-formed and the list in order.
     pub fn entry_mut(&mut self) -> (&mut K, &mut V)
         ensures* writes_back { sem 𝓛 (LendsEntry K.row V.row PREFIX_LEN.row self.entry result) }
         ensures key { result.0.now ≡ leaf_key self.old }

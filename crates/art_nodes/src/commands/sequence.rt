@@ -41,6 +41,7 @@ impl<T> Sequence<T> {
     }
 }
 
+/// Two sequences are equal where they are as long and their items are, place by place.
 impl<T: PartialEq> PartialEq for Sequence<T> {
     ghost use Rattle.std.specs.Cmp.Lexicographic.{pointwise, lists_per};
 

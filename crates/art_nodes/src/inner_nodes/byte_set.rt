@@ -109,7 +109,8 @@ fn first_bit(word: u64, from: usize) -> Option<usize>
 // The highest set bit below `end`.
 #[inline]
 fn last_bit(word: u64, end: usize) -> Option<usize>
-    requires { (0 < end) × (end ≤ 64) }
+    requires some { 0 < end }
+    requires fits { end ≤ 64 }
     ensures found { IfSome result (λ bit. (bit < end) × (bit_at word bit ≡ 1)) }
     ensures last { IfSome result (λ bit. HasNoBit word (bit + 1) end) }
     ensures none { IfNone result (HasNoBit word 0 end) }

@@ -1,5 +1,5 @@
 //! Tables with a place for each byte and a bit that says whether a child stands there.
-ghost use Rattle.std.specs.Prelude.{◌≡◌, ◌≤◌, length, get_or, set, replicate, Some, None};
+ghost use Rattle.std.specs.Prelude.{◌≡◌, ◌≤◌, length, slice_index_or, slice_set, replicate, Some, None};
 ghost use Rattle.art_nodes.specs.ChildMap.{table_children};
 ghost use Rattle.art_nodes.specs.ChildTable.{children_within};
 
@@ -51,7 +51,7 @@ impl<H: Copy> ChildTable<H> {
     /// The child at the place of the byte, if there is one.
     #[inline]
     pub(crate) fn child(&self, byte: u8) -> Option<H>
-        ensures { result ≡ get_or self.now byte None }
+        ensures { result ≡ slice_index_or self.now byte None }
     {
         if self.filled.contains(byte) {
             Some(self.children[usize::from(byte)])
@@ -63,7 +63,7 @@ impl<H: Copy> ChildTable<H> {
     /// Puts the child at the place of the byte.
     #[inline]
     pub(crate) fn fill(&mut self, byte: u8, child: H)
-        ensures { self.new ≡ set self.old byte (Some child) }
+        ensures { self.new ≡ slice_set self.old byte (Some child) }
     {
         self.filled.insert(byte);
         self.children[usize::from(byte)] = child;
@@ -72,7 +72,7 @@ impl<H: Copy> ChildTable<H> {
     /// Leaves the place of the byte empty.
     #[inline]
     pub(crate) fn clear(&mut self, byte: u8)
-        ensures { self.new ≡ set self.old byte None }
+        ensures { self.new ≡ slice_set self.old byte None }
     {
         self.filled.remove(byte);
     }

@@ -35,12 +35,13 @@ impl IndexTable {
         }
     }
 
-    /// The table in which each of these bytes has its place among them as its index. They ascend, and
-    /// there are at most 255 of them.
+    /// The table in which each of these bytes has its place among them as its index. They ascend,
+    /// and there are at most 255 of them.
     pub(crate) fn of_places(bytes: &[u8]) -> Self
         requires ascending { IsAscending bytes.now }
         requires fit { length bytes.now ≤ 255 }
-        ensures pairs { table_children 0 result ≡ zip bytes.now (range_with_len 0 (length bytes.now)) }
+        ensures pairs { table_children 0 result ≡
+            zip bytes.now (range_with_len 0 (length bytes.now)) }
         ensures all_bytes { length result ≡ 256 }
     {
         let mut table = Self::new();

@@ -23,7 +23,7 @@ pub struct InnerNodeIndirect<K, V, const PREFIX_LEN: usize, const SIZE: usize> {
     child_pointers: ArrayVec<OpaqueNodePtr<K, V, PREFIX_LEN>, SIZE>,
 }
 
-/// An indirect node for 17 to 48 children.
+/// An indirect node for at most 48 children.
 pub type InnerNode48<K, V, const PREFIX_LEN: usize> = InnerNodeIndirect<K, V, PREFIX_LEN, 48>;
 
 impl<K, V, const PREFIX_LEN: usize, const SIZE: usize> Sealed

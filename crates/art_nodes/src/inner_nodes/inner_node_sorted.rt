@@ -22,10 +22,10 @@ pub struct InnerNodeSorted<K, V, const PREFIX_LEN: usize, const SIZE: usize> {
     child_pointers: ArrayVec<OpaqueNodePtr<K, V, PREFIX_LEN>, SIZE>,
 }
 
-/// A sorted node for 2 to 4 children.
+/// A sorted node for at most 4 children.
 pub type InnerNode4<K, V, const PREFIX_LEN: usize> = InnerNodeSorted<K, V, PREFIX_LEN, 4>;
 
-/// A sorted node for 5 to 16 children.
+/// A sorted node for at most 16 children.
 pub type InnerNode16<K, V, const PREFIX_LEN: usize> = InnerNodeSorted<K, V, PREFIX_LEN, 16>;
 
 impl<K, V, const PREFIX_LEN: usize, const SIZE: usize> Sealed
@@ -41,7 +41,8 @@ impl<K, V, const PREFIX_LEN: usize, const SIZE: usize> Model
 
     ghost view = { λ n. inner_with n.header (sorted_children n.keys.items n.child_pointers.items) };
 
-    ghost invariant = { λ n. IsSortedNode PREFIX_LEN SIZE n.header n.keys.items n.child_pointers.items };
+    ghost invariant = { λ n. IsSortedNode PREFIX_LEN SIZE n.header
+        n.keys.items n.child_pointers.items };
 }
 
 impl<K, V, const PREFIX_LEN: usize, const SIZE: usize> InnerNodeInit<PREFIX_LEN>
@@ -119,7 +120,8 @@ impl<K, V, const PREFIX_LEN: usize, const SIZE: usize> InnerNodeSorted<K, V, PRE
         (&self.keys, &self.child_pointers)
     }
 
-    /// Writes a child under a byte that is above every byte there. The node has to have room for it.
+    /// Writes a child under a byte that is above every byte there. The node has to have room for
+    /// it.
     pub fn write_child_unchecked(
         &mut self,
         key_fragment: u8,

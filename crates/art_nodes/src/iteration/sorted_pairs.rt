@@ -25,6 +25,7 @@ impl<'a, H> Model for SortedPairs<'a, H> {
 }
 
 impl<'a, H: Copy> SortedPairs<'a, H> {
+    /// The pairs of these bytes and the children beside them.
     pub(crate) fn new(keys: &'a [u8], children: &'a [H]) -> Self
         requires { length children.now ≡ length keys.now }
         ensures { result ≡ sorted_children keys.now children.now }
@@ -32,6 +33,7 @@ impl<'a, H: Copy> SortedPairs<'a, H> {
         SortedPairs { keys, children }
     }
 
+    /// Takes the first pair.
     pub(crate) fn next(&mut self) -> Option<(u8, H)>
         ensures { YieldsFirst (λ pairs. pairs) self.old result self.new }
     {
@@ -42,6 +44,7 @@ impl<'a, H: Copy> SortedPairs<'a, H> {
         Some((*key, child))
     }
 
+    /// Takes the last pair.
     pub(crate) fn next_back(&mut self) -> Option<(u8, H)>
         ensures { YieldsLast (λ pairs. pairs) self.old result self.new }
     {

@@ -29,6 +29,7 @@ impl<'a, H> Model for TablePairs<'a, H> {
 }
 
 impl<'a, H: Copy> TablePairs<'a, H> {
+    /// The filled places of a range of bytes.
     #[inline]
     pub(crate) fn new(filled: &'a ByteSet, children: &'a [H], bytes: Range<usize>) -> Self
         requires all_places { length children.now ≡ 256 }

@@ -13,13 +13,13 @@ use std::marker::PhantomData;
 /// A pointer to a node of any kind, by kind.
 #[derive_where(Clone, Copy)]
 pub enum ConcreteNodePtr<K, V, const PREFIX_LEN: usize> {
-    /// A pointer to a sorted node for 2 to 4 children.
+    /// A pointer to a sorted node for at most 4 children.
     Node4(NodePtr<PREFIX_LEN, InnerNode4<K, V, PREFIX_LEN>>),
-    /// A pointer to a sorted node for 5 to 16 children.
+    /// A pointer to a sorted node for at most 16 children.
     Node16(NodePtr<PREFIX_LEN, InnerNode16<K, V, PREFIX_LEN>>),
-    /// A pointer to an indirect node for 17 to 48 children.
+    /// A pointer to an indirect node for at most 48 children.
     Node48(NodePtr<PREFIX_LEN, InnerNode48<K, V, PREFIX_LEN>>),
-    /// A pointer to a direct node for 49 to 256 children.
+    /// A pointer to a direct node for at most 256 children.
     Node256(NodePtr<PREFIX_LEN, InnerNodeDirect<K, V, PREFIX_LEN>>),
     /// A pointer to a leaf.
     LeafNode(NodePtr<PREFIX_LEN, LeafNode<K, V, PREFIX_LEN>>),
@@ -28,13 +28,13 @@ pub enum ConcreteNodePtr<K, V, const PREFIX_LEN: usize> {
 /// A pointer to an inner node of any kind, by kind.
 #[derive_where(Clone, Copy)]
 pub enum ConcreteInnerNodePtr<K, V, const PREFIX_LEN: usize> {
-    /// A pointer to a sorted node for 2 to 4 children.
+    /// A pointer to a sorted node for at most 4 children.
     Node4(NodePtr<PREFIX_LEN, InnerNode4<K, V, PREFIX_LEN>>),
-    /// A pointer to a sorted node for 5 to 16 children.
+    /// A pointer to a sorted node for at most 16 children.
     Node16(NodePtr<PREFIX_LEN, InnerNode16<K, V, PREFIX_LEN>>),
-    /// A pointer to an indirect node for 17 to 48 children.
+    /// A pointer to an indirect node for at most 48 children.
     Node48(NodePtr<PREFIX_LEN, InnerNode48<K, V, PREFIX_LEN>>),
-    /// A pointer to a direct node for 49 to 256 children.
+    /// A pointer to a direct node for at most 256 children.
     Node256(NodePtr<PREFIX_LEN, InnerNodeDirect<K, V, PREFIX_LEN>>),
 }
 
@@ -85,6 +85,7 @@ impl<K, V, const PREFIX_LEN: usize> OpaqueNodePtr<K, V, PREFIX_LEN> {
     }
 }
 
+/// The same pointer, as that of a `Node4`.
 impl<K, V, const PREFIX_LEN: usize> From<NodePtr<PREFIX_LEN, InnerNode4<K, V, PREFIX_LEN>>>
     for ConcreteNodePtr<K, V, PREFIX_LEN> {
     ghost use Rattle.std.specs.Prelude.{◌≡◌};
@@ -97,6 +98,7 @@ impl<K, V, const PREFIX_LEN: usize> From<NodePtr<PREFIX_LEN, InnerNode4<K, V, PR
     }
 }
 
+/// The same pointer, as that of a `Node16`.
 impl<K, V, const PREFIX_LEN: usize> From<NodePtr<PREFIX_LEN, InnerNode16<K, V, PREFIX_LEN>>>
     for ConcreteNodePtr<K, V, PREFIX_LEN> {
     ghost use Rattle.std.specs.Prelude.{◌≡◌};
@@ -109,6 +111,7 @@ impl<K, V, const PREFIX_LEN: usize> From<NodePtr<PREFIX_LEN, InnerNode16<K, V, P
     }
 }
 
+/// The same pointer, as that of a `Node48`.
 impl<K, V, const PREFIX_LEN: usize> From<NodePtr<PREFIX_LEN, InnerNode48<K, V, PREFIX_LEN>>>
     for ConcreteNodePtr<K, V, PREFIX_LEN> {
     ghost use Rattle.std.specs.Prelude.{◌≡◌};
@@ -121,6 +124,7 @@ impl<K, V, const PREFIX_LEN: usize> From<NodePtr<PREFIX_LEN, InnerNode48<K, V, P
     }
 }
 
+/// The same pointer, as that of a `Node256`.
 impl<K, V, const PREFIX_LEN: usize> From<NodePtr<PREFIX_LEN, InnerNodeDirect<K, V, PREFIX_LEN>>>
     for ConcreteNodePtr<K, V, PREFIX_LEN> {
     ghost use Rattle.std.specs.Prelude.{◌≡◌};
@@ -133,6 +137,7 @@ impl<K, V, const PREFIX_LEN: usize> From<NodePtr<PREFIX_LEN, InnerNodeDirect<K, 
     }
 }
 
+/// The same pointer, as that of a leaf.
 impl<K, V, const PREFIX_LEN: usize> From<NodePtr<PREFIX_LEN, LeafNode<K, V, PREFIX_LEN>>>
     for ConcreteNodePtr<K, V, PREFIX_LEN> {
     ghost use Rattle.std.specs.Prelude.{◌≡◌};
@@ -145,6 +150,7 @@ impl<K, V, const PREFIX_LEN: usize> From<NodePtr<PREFIX_LEN, LeafNode<K, V, PREF
     }
 }
 
+/// The same pointer, as that of a `Node4`.
 impl<K, V, const PREFIX_LEN: usize> From<NodePtr<PREFIX_LEN, InnerNode4<K, V, PREFIX_LEN>>>
     for ConcreteInnerNodePtr<K, V, PREFIX_LEN> {
     ghost use Rattle.std.specs.Prelude.{◌≡◌};
@@ -157,6 +163,7 @@ impl<K, V, const PREFIX_LEN: usize> From<NodePtr<PREFIX_LEN, InnerNode4<K, V, PR
     }
 }
 
+/// The same pointer, as that of a `Node16`.
 impl<K, V, const PREFIX_LEN: usize> From<NodePtr<PREFIX_LEN, InnerNode16<K, V, PREFIX_LEN>>>
     for ConcreteInnerNodePtr<K, V, PREFIX_LEN> {
     ghost use Rattle.std.specs.Prelude.{◌≡◌};
@@ -169,6 +176,7 @@ impl<K, V, const PREFIX_LEN: usize> From<NodePtr<PREFIX_LEN, InnerNode16<K, V, P
     }
 }
 
+/// The same pointer, as that of a `Node48`.
 impl<K, V, const PREFIX_LEN: usize> From<NodePtr<PREFIX_LEN, InnerNode48<K, V, PREFIX_LEN>>>
     for ConcreteInnerNodePtr<K, V, PREFIX_LEN> {
     ghost use Rattle.std.specs.Prelude.{◌≡◌};
@@ -181,6 +189,7 @@ impl<K, V, const PREFIX_LEN: usize> From<NodePtr<PREFIX_LEN, InnerNode48<K, V, P
     }
 }
 
+/// The same pointer, as that of a `Node256`.
 impl<K, V, const PREFIX_LEN: usize> From<NodePtr<PREFIX_LEN, InnerNodeDirect<K, V, PREFIX_LEN>>>
     for ConcreteInnerNodePtr<K, V, PREFIX_LEN> {
     ghost use Rattle.std.specs.Prelude.{◌≡◌};
@@ -193,6 +202,7 @@ impl<K, V, const PREFIX_LEN: usize> From<NodePtr<PREFIX_LEN, InnerNodeDirect<K, 
     }
 }
 
+/// The same pointer, by the same kind.
 impl<K, V, const PREFIX_LEN: usize> From<ConcreteInnerNodePtr<K, V, PREFIX_LEN>>
     for ConcreteNodePtr<K, V, PREFIX_LEN> {
     ghost use Rattle.std.specs.Prelude.{◌≡◌};

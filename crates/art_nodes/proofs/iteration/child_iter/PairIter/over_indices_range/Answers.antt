@@ -3,9 +3,9 @@ use Rattle.std.proofs.lemmas.List.{length-map, take-map, drop-map}
 use Rattle.art_nodes.specs.ChildMap.{table_children, pairs_within}
 use Rattle.art_nodes.specs.IndexTable.{index_of}
 use Rattle.art_nodes.specs.IndirectNode.{named_pointer, named_pointers, AreBelow}
-use Rattle.art_nodes.specs.PairSources.{first_byte, pairs_between}
+use Rattle.art_nodes.specs.PairSources.{first_byte}
 use Rattle.art_nodes.proofs.IndirectLemmas.{below-drop, below-take}
-use Rattle.art_nodes.proofs.RangeLemmas.{within-between, table-between}
+use Rattle.art_nodes.proofs.RangeLemmas.{pairs_between, within-between, table-between}
 use Rattle.art_nodes.proofs.TableLemmas.{above-table}
 use Rattle.art_nodes.proofs.iteration.child_iter.PairIter.over_indices_range.Goals as goal
 

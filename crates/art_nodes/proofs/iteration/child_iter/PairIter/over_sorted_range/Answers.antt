@@ -1,8 +1,8 @@
 use Rattle.std.proofs.Common.{◌-◌, length, take, drop, sym, ◌∙◌, ap, refl}
 use Rattle.std.proofs.lemmas.List.{take_rest}
 use Rattle.std.specs.List.{zip}
-use Rattle.art_nodes.specs.PairSources.{first_byte, pairs_between}
-use Rattle.art_nodes.proofs.RangeLemmas.{within-between, sorted-between, length-counted}
+use Rattle.art_nodes.specs.PairSources.{first_byte}
+use Rattle.art_nodes.proofs.RangeLemmas.{pairs_between, within-between, sorted-between, length-counted}
 use Rattle.art_nodes.proofs.SortedLemmas.{above-zip}
 use Rattle.art_nodes.proofs.iteration.child_iter.PairIter.over_sorted_range.Goals as goal
 

@@ -1,7 +1,7 @@
 use Rattle.std.proofs.Common.{◌≤◌, length, sym, ◌∙◌, ap, arith}
 use Rattle.art_nodes.specs.ChildMap.{table_children}
-use Rattle.art_nodes.specs.PairSources.{first_byte, pairs_between}
-use Rattle.art_nodes.proofs.RangeLemmas.{within-between, table-between}
+use Rattle.art_nodes.specs.PairSources.{first_byte}
+use Rattle.art_nodes.proofs.RangeLemmas.{pairs_between, within-between, table-between}
 use Rattle.art_nodes.proofs.TableLemmas.{above-table}
 use Rattle.art_nodes.proofs.iteration.child_iter.PairIter.over_table_range.Goals as goal
 
