@@ -42,6 +42,15 @@ fn a_node_is_built_child_by_child(rt: HostRuntime) {
 }
 
 #[test]
+fn a_builder_lends_the_node_built_so_far(rt: HostRuntime) {
+    let builder = InnerNode4::<u8, u8, 16>::builder(b"prefix", 6).write_child(1, leaf(8));
+    let begun = builder.node();
+    assert!(rt; begun.num_children() == 1 && begun.capacity() == 4);
+    assert!(rt; begun.lookup_child(1) == Some(leaf(8)));
+    assert!(rt; begun.lookup_child(0).is_none());
+}
+
+#[test]
 fn some_child_is_a_leaf_where_there_is_one(rt: HostRuntime) {
     let node = InnerNode4::<u8, u8, 16>::builder(&[], 0)
         .write_child(1, small_node(1))

@@ -10,9 +10,9 @@ ghost use Rattle.art_nodes.specs.Inner.{HasRoomFor, node_with_child};
 ghost use Rattle.art_nodes.specs.Pointers.{opaque_pointer, slab_key};
 
 use art_nodes::{
-    ConcreteInnerNodePtr, ConcreteNodePtr, InnerNode, InnerNode4, InnerNode16, InnerNode48,
-    InnerNodeCommon, InnerNodeDirect, InnerNodeSorted, LeafNode, Node, NodePtr, OpaqueNodePtr,
-    OptimisticMismatch, PessimisticMismatch, Sequence,
+    ConcreteInnerNodePtr, ConcreteNodePtr, HasOneChild, InnerNode, InnerNode4, InnerNode16,
+    InnerNode48, InnerNodeBuilder, InnerNodeCommon, InnerNodeDirect, InnerNodeSorted, LeafNode,
+    Node, NodePtr, OpaqueNodePtr, OptimisticMismatch, PessimisticMismatch, Sequence,
 };
 
 // What is written is found.
@@ -56,6 +56,22 @@ fn write_where_there_is_room<const PREFIX_LEN: usize, N: InnerNode<PREFIX_LEN>>(
     }
     node.write_child(byte, child);
     true
+}
+
+// A builder that is handed over takes a second child under another byte, where there is room for it.
+fn write_second<K, V, const PREFIX_LEN: usize, N: InnerNodeCommon<K, V, PREFIX_LEN> + Drop>(
+    builder: InnerNodeBuilder<K, V, PREFIX_LEN, N, HasOneChild>,
+    byte: u8,
+    child: OpaqueNodePtr<K, V, PREFIX_LEN>,
+) -> Option<N>
+    ensures { IfSome result (λ node.
+        N.inner node ≡ node_with_child (N.inner builder) byte child) }
+{
+    let begun = builder.node();
+    if begun.num_children() >= begun.capacity() || begun.lookup_child(byte).is_some() {
+        return None;
+    }
+    Some(builder.write_child(byte, child).build())
 }
 
 // A node that is full grows, and then takes one child more.
