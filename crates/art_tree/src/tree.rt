@@ -3,6 +3,7 @@ ghost use Rattle.std.specs.Prelude.{◌≡◌, ◌≢◌, ℕ, List, All, Contai
 ghost use Rattle.std.specs.declared.cmp.Ordering.TheVariants.{Less, Greater};
 ghost use Rattle.std.specs.Option.{option_copied, option_map};
 ghost use Rattle.art_bytes.specs.Text.{text_order};
+ghost use Rattle.art_arena.specs.Arena.{room};
 ghost use Rattle.art_tree.specs.Art.{IsArt};
 ghost use Rattle.art_tree.specs.Dictionary.{entry_at, IsEntry, HasEntry, HasKeys, IsEmpty};
 ghost use Rattle.art_tree.specs.Ends.{IsWithin};
@@ -72,6 +73,7 @@ impl<K: AsBytes, V, const PREFIX_LEN: usize> ArtTree<K, V, PREFIX_LEN> {
     pub fn new(alloc: Global) -> Self
         ensures no_entry { IsEmpty K.text result.arena }
         ensures no_root { result.root ≡ None }
+        ensures no_room { (kind : _) → room result.arena kind ≡ 0 }
     {
         Rooted {
             arena: NodeArena::new(alloc),
