@@ -81,6 +81,13 @@ module _ {K V : Type 0} {P : ℕ} {text : K → List ℕ} {old : ArenaOf K V P} 
         count = least-counts (node_kind parent) place.inner has.0 has.1;
       }
 
+  -- where no smaller kind is needed, the node has more than the fewest children of its kind
+  pub not-least : length place.node.children ≢ 2 → (¬ NeedsSmallerNode text old hangs.text) → (node : nodes.Inner (OpaqueNodePtr K V P)) → held old parent ≡ HeldInner node → length node.children ≢ least_children (node_kind parent)
+  not-least many enough node is least =
+      enough (needs-smaller (λ other there.
+      let same = ap (λ n. length n.children) (one-inner (held old parent) place.node other place.is_held there) in
+      (omega (arith, same, many, ap length place.shows.children, place.sound.0), ap (λ n. length n.children) (one-inner (held old parent) other node there is) ∙ least)))
+
   -- the node is as it was once the leaf is taken
   module _ (cut : ArenaOf K V P) (gone : held cut leaf ≡ Nothing) (stays : (p : OpaqueNodePtr K V P) → p ≢ leaf → StaysAt old cut p) where
     pub is-cut : held cut parent ≡ HeldInner place.node

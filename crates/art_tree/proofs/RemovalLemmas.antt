@@ -1,9 +1,11 @@
 -- A leaf that a search finds, and that is taken out of its list and out of its arena.
-use Rattle.std.proofs.Common.{◌≡◌, ◌≢◌, ◌∙◌, ℕ, ◌≤◌, List, [], ◌∷◌, ◌++◌, All, Contains, Option, Some, None, IfSome, refl, sym, ap, subst, inl, inr, arith, IfNone}
+use Rattle.std.proofs.Common.{◌≡◌, ◌≢◌, ◌∙◌, ℕ, ◌≤◌, ◌+◌, length, List, [], ◌∷◌, ◌++◌, All, Contains, Option, Some, None, IfSome, refl, sym, ap, subst, inl, inr, arith, IfNone}
 use Rattle.std.proofs.lemmas.List.Elements.{All-cons, All-contains, All-head, All-tail, Contains-append_right}
 use Rattle.std.proofs.lemmas.Option.{same_Some}
 use Rattle.art_header.specs.declared.node_type.NodeType.{NodeType}
 use Rattle.art_header.specs.declared.node_type.NodeType.TheVariants as kinds
+use Rattle.art_header.specs.NodeType.{least_children}
+use Rattle.art_nodes.proofs.KindLaws.{same_or_differ}
 use Rattle.art_nodes.specs.Inner as nodes
 use Rattle.art_nodes.specs.Leaf.{leaf_key, leaf_value}
 use Rattle.art_nodes.specs.Pointers.{node_kind, opaque_key, opaque_pointer}
@@ -17,10 +19,11 @@ use Rattle.art_arena.specs.Trees.{Tree, Leaf, Inner, Branch, leaves, texts}
 use Rattle.art_tree.specs.Art.{IsAlone, IsArt}
 use Rattle.art_tree.specs.Contexts.{Under, leaves_before, leaves_after}
 use Rattle.art_tree.specs.Dictionary.{entry_at}
+use Rattle.art_tree.specs.Cuts.{FreesOne, HasOneLess}
 use Rattle.art_tree.specs.Dropping.{HangsUnder}
 use Rattle.art_tree.specs.Edits.{StaysAt}
 use Rattle.art_tree.specs.Plan.{join}
-use Rattle.art_tree.specs.Removing.{IsLeft}
+use Rattle.art_tree.specs.Removing.{FreesOneEach, IsLeft}
 use Rattle.art_tree.specs.Search.{EachTree, IsPathTo, leaf_pointer, scan}
 use Rattle.art_tree.specs.declared.path.TreePath.{TreePath}
 use Rattle.art_tree.specs.declared.path.TreePath.TheVariants.{ChildOfRoot, Normal}
@@ -90,6 +93,35 @@ module _ {K V : Type 0} {P : ℕ} (old linked new : ArenaOf K V P) where
   no-less-room stays leaf others kinds.Node48 = omega (arith, stays kinds.Node48, others kinds.Node48 (λ e. cc))
   no-less-room stays leaf others kinds.Node256 = omega (arith, stays kinds.Node256, others kinds.Node256 (λ e. cc))
   no-less-room stays leaf others kinds.Leaf = omega (arith, stays kinds.Leaf, leaf)
+
+-- of one kind after the other there is room for one node more at most
+module _ {K V : Type 0} {P : ℕ} where
+  pub frees-after : (old mid new : ArenaOf K V P) (kind : NodeType) → SameRoom old mid → FreesOne mid new kind → FreesOne old new kind
+  frees-after old mid new kind stays frees = record {
+    one_more = omega (arith, stays kind, frees.one_more);
+    others = λ other differ. frees.others other differ ∙ stays other;
+  }
+
+  pub frees-one : (old new : ArenaOf K V P) (kind : NodeType) → FreesOne old new kind → FreesOneEach old new
+  frees-one old new kind frees other = elim (same_or_differ other kind) [
+    | inl same ↦ subst (λ k. room new k ≤ room old k + 1) (sym same) frees.one_more
+    | inr differ ↦ omega (arith, frees.others other differ)
+  ]
+
+  -- a leaf, and then an inner node
+  pub frees-two : (old cut joined new last : ArenaOf K V P) (kind : NodeType) → kind ≢ kinds.Leaf → FreesOne old cut kinds.Leaf → SameRoom cut joined → FreesOne joined new kind → SameRoom new last → FreesOneEach old last
+  frees-two old cut joined new last kind inner leaf stays node ends other = elim (same_or_differ other kinds.Leaf) [
+    | inl same ↦ subst (λ k. room last k ≤ room old k + 1) (sym same) (omega (arith, leaf.one_more, stays kinds.Leaf, node.others kinds.Leaf (λ e. inner (sym e)), ends kinds.Leaf))
+    | inr differ ↦ omega (arith, leaf.others other differ, stays other, frees-one joined new kind node other, ends other)
+  ]
+
+  -- a leaf, where the node that it hung in has more than the fewest children of its kind
+  pub frees-leaf : (old reserved cut new last : ArenaOf K V P) (parent top : OpaqueNodePtr K V P) (node now : nodes.Inner (OpaqueNodePtr K V P)) → SameRoom old reserved → FreesOne reserved cut kinds.Leaf
+      → HasOneLess cut new parent node now top → length node.children ≢ least_children (node_kind parent) → SameRoom new last → FreesOneEach old last
+  frees-leaf old reserved cut new last parent top node now stays leaf less more ends other = elim less [
+    | inl cutting ↦ omega (arith, stays other, frees-one reserved cut kinds.Leaf leaf other, cutting.same_room other, ends other)
+    | inr shrunk ↦ absurd (more shrunk.least)
+  ]
 
 -- the entry of a leaf's text is what the leaf holds
 pub entry-was : {K V : Type 0} {P : ℕ} (text : K → List ℕ) (arena : ArenaOf K V P) (root : OpaqueNodePtr K V P) (tree : Tree (OpaqueNodePtr K V P)) → IsAlone text arena root tree → AreApart (texts tree) → (at : OpaqueNodePtr K V P) (x : List ℕ) → Contains (leaves tree) (at, x)

@@ -1,13 +1,19 @@
 -- What the steps of a removal do to an arena. No public clause cites it.
-use Rattle.std.specs.Prelude.{◌≡◌, ◌⊎◌, ℕ, ◌<◌, length}
+use Rattle.std.specs.Prelude.{◌≡◌, ◌⊎◌, ℕ, ◌<◌, ◌≤◌, ◌+◌, length}
+use Rattle.art_header.specs.declared.node_type.NodeType.{NodeType}
 use Rattle.art_header.specs.NodeType.{least_children, shrunk_kind}
 use Rattle.art_nodes.specs.Inner.{Inner}
 use Rattle.art_nodes.specs.Pointers.{node_kind}
 use Rattle.art_nodes.specs.declared.pointers.OpaqueNodePtr.{OpaqueNodePtr}
-use Rattle.art_arena.specs.Arena.{ArenaOf, HeldInner, held, room, Changes}
+use Rattle.art_arena.specs.Arena.{ArenaOf, HeldInner, held, room, Changes, SameRoom, SameOtherRoom}
 use Rattle.art_tree.specs.Edits.{IsReplaced}
 
 module _ {K V : Type 0} {P : ℕ} where
+  -- of this kind there is room for one node more at most, and of the others as before
+  pub record FreesOne (old new : ArenaOf K V P) (kind : NodeType) : Type 0 where
+    pub one_more : room new kind ≤ room old kind + 1
+    pub others : SameOtherRoom old new kind
+
   -- where the inner node at the pointer has more than two children and the fewest of its kind, there is room for one of the next smaller kind
   abbrev pub HasRoomToShrink : ArenaOf K V P → OpaqueNodePtr K V P → Type 0
   HasRoomToShrink arena pointer =
@@ -20,6 +26,7 @@ module _ {K V : Type 0} {P : ℕ} where
     pub many : least_children (node_kind pointer) < length node.children
     pub same : at ≡ pointer
     pub changes : Changes old new pointer (HeldInner now)
+    pub same_room : SameRoom old new
 
   -- the node, which had the fewest children of its kind, is given up for one of the next smaller kind
   pub record IsShrunk (old new : ArenaOf K V P) (pointer : OpaqueNodePtr K V P) (node now : Inner (OpaqueNodePtr K V P)) (at : OpaqueNodePtr K V P) : Type 0 where

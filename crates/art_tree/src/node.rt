@@ -6,8 +6,9 @@ ghost use Rattle.art_header.specs.declared.node_type.NodeType.TheVariants.{Leaf}
 ghost use Rattle.art_nodes.specs.ChildMap.{IsAscending, key_bytes};
 ghost use Rattle.art_nodes.specs.Inner.{Inner, HasRoomFor, node_with_child};
 ghost use Rattle.art_nodes.specs.Pointers.{node_kind, slab_key, opaque_pointer};
-ghost use Rattle.art_arena.specs.Arena.{held, HeldInner, Nothing, room, Changes};
+ghost use Rattle.art_arena.specs.Arena.{held, HeldInner, Nothing, room, Changes, SameRoom};
 ghost use Rattle.art_arena.specs.Links.{HoldsLeaf, text_at};
+ghost use Rattle.art_tree.specs.Cuts.{FreesOne};
 ghost use Rattle.art_tree.specs.Edits.{IsReplaced};
 ghost use Rattle.art_tree.specs.Hanging.{CanHang, IsHung};
 ghost use Rattle.art_tree.specs.Raising.{node_of, IsPlaced};
@@ -42,8 +43,9 @@ pub(crate) fn write_child<K, V, const PREFIX_LEN: usize>(
     requires inner { node_kind pointer ≢ Leaf }
     requires has_room { (node : Inner _) → held arena.old pointer ≡ HeldInner node →
         HasRoomFor (most_children (node_kind pointer)) node byte }
-    ensures { (node : Inner _) → held arena.old pointer ≡ HeldInner node →
+    ensures written { (node : Inner _) → held arena.old pointer ≡ HeldInner node →
         Changes arena.old arena.new pointer (HeldInner (node_with_child node byte child)) }
+    ensures room { SameRoom arena.old arena.new }
 {
     match pointer.to_node_ptr() {
         ConcreteNodePtr::Node4(node) => arena.as_mut(node).write_child(byte, child),
@@ -62,7 +64,8 @@ pub(crate) fn hang<K, V, const PREFIX_LEN: usize>(
     node: OpaqueNodePtr<K, V, PREFIX_LEN>,
 ) -> OpaqueNodePtr<K, V, PREFIX_LEN>
     requires { CanHang arena.old parent }
-    ensures { IsHung arena.old arena.new parent node root result }
+    ensures hung { IsHung arena.old arena.new parent node root result }
+    ensures room { SameRoom arena.old arena.new }
 {
     let Some((parent, byte)) = parent else {
         return node;
@@ -94,7 +97,7 @@ fn inner_node<K, V, const PREFIX_LEN: usize, N: InnerNodeCommon<K, V, PREFIX_LEN
     node
 }
 
-// Places the inner node of one type whose prefix the leaf's text has from `start` to `end`.
+/// Places the inner node of one type whose prefix the leaf's text has from `start` to `end`.
 pub(crate) fn place_as<
     K: AsBytes,
     V,
@@ -132,7 +135,8 @@ fn give_up_node<K, V, const PREFIX_LEN: usize, N: ArenaNode<K, V, PREFIX_LEN> + 
     node: NodePtr<PREFIX_LEN, N>,
 )
     requires { held arena.old (opaque_pointer N.TYPE (slab_key node)) ≢ Nothing }
-    ensures { Changes arena.old arena.new (opaque_pointer N.TYPE (slab_key node)) Nothing }
+    ensures gone { Changes arena.old arena.new (opaque_pointer N.TYPE (slab_key node)) Nothing }
+    ensures room { FreesOne arena.old arena.new N.TYPE }
 {
     arena.deallocate_node_ptr(node);
 }
@@ -144,7 +148,8 @@ pub(crate) fn give_up<K, V, const PREFIX_LEN: usize>(
 )
     requires held { held arena.old pointer ≢ Nothing }
     requires inner { node_kind pointer ≢ Leaf }
-    ensures { Changes arena.old arena.new pointer Nothing }
+    ensures gone { Changes arena.old arena.new pointer Nothing }
+    ensures room { FreesOne arena.old arena.new (node_kind pointer) }
 {
     match pointer.to_node_ptr() {
         ConcreteNodePtr::Node4(node) => give_up_node(arena, node),

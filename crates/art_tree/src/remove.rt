@@ -1,5 +1,6 @@
 //! An entry less in a tree.
 ghost use Rattle.std.specs.Prelude.{◌≡◌, ◌≢◌, ◌≤◌, ◌++◌, ◌∷◌, ℕ, List, length, Some, None, IfOk, OnErr, IfSome, IfNone};
+ghost use Rattle.art_header.specs.declared.node_type.NodeType.TheVariants as kinds;
 ghost use Rattle.art_nodes.specs.Inner.{Inner};
 ghost use Rattle.art_nodes.specs.Leaf.{leaf_key, leaf_value};
 ghost use Rattle.art_nodes.specs.Pointers.{slab_key};
@@ -7,11 +8,12 @@ ghost use Rattle.art_arena.specs.Arena.{held, HeldInner, HeldLeaf, Nothing, Same
 ghost use Rattle.art_arena.specs.Links.{Spells};
 ghost use Rattle.art_arena.specs.Trees.{Leaf as LeafTree};
 ghost use Rattle.art_tree.specs.Art.{IsAlone, IsArt};
+ghost use Rattle.art_tree.specs.Cuts.{FreesOne};
 ghost use Rattle.art_tree.specs.Dictionary.{entry_at};
 ghost use Rattle.art_tree.specs.Dropping.{HangsUnder};
 ghost use Rattle.art_tree.specs.Edits.{StaysAt};
 ghost use Rattle.art_tree.specs.Inserting.{SameEntries};
-ghost use Rattle.art_tree.specs.Removing.{IsLeft, IsRemoved, NeedsSmallerNode};
+ghost use Rattle.art_tree.specs.Removing.{FreesOneEach, IsLeft, IsRemoved, NeedsSmallerNode};
 ghost use Rattle.art_tree.specs.Search.{leaf_pointer};
 
 mod node;
@@ -41,6 +43,7 @@ fn take_leaf<K: AsBytes, V, const PREFIX_LEN: usize>(
     ensures others { (pointer : _) → pointer ≢ leaf_pointer leaf →
         StaysAt arena.old arena.new pointer }
     ensures room { (kind : _) → room arena.old kind ≤ room arena.new kind }
+    ensures takes_no_memory { FreesOne arena.old arena.new kinds.Leaf }
 {
     each_leaf_of_a_list_is_knit::<K, V, PREFIX_LEN>();
     LeafNode::remove_self(arena, leaf);
@@ -54,10 +57,11 @@ fn remove_root<K: AsBytes, V, const PREFIX_LEN: usize>(
 ) -> (K, V)
     requires { (root : _) × (text : List ℕ) × IsAlone K.text arena.old root
         (LeafTree (leaf_pointer leaf) text) }
-    ensures { (root : _) (text : List ℕ) →
+    ensures removed { (root : _) (text : List ℕ) →
         IsAlone K.text arena.old root (LeafTree (leaf_pointer leaf) text) →
         IsArt K.text arena.new None × IsLeft K.text arena.old arena.new text ×
         (entry_at K.text arena.old text ≡ Some result) }
+    ensures takes_no_memory { FreesOneEach arena.old arena.new }
 {
     no_text_begins_another::<OpaqueNodePtr<K, V, PREFIX_LEN>>();
     take_leaf(arena, leaf)
@@ -83,6 +87,9 @@ fn remove_from_many<K: AsBytes, V, const PREFIX_LEN: usize>(
         (hangs : HangsUnder tree (leaf_pointer leaf) parent byte above) →
         OnErr result (NeedsSmallerNode K.text arena.old hangs.text) }
     ensures nodes_kept { OnErr result (SameNodes arena.old arena.new) }
+    ensures takes_no_memory { (tree : _) → IsAlone K.text arena.old root tree →
+        (hangs : HangsUnder tree (leaf_pointer leaf) parent byte above) →
+        (¬ NeedsSmallerNode K.text arena.old hangs.text) → FreesOneEach arena.old arena.new }
 {
     no_text_begins_another::<OpaqueNodePtr<K, V, PREFIX_LEN>>();
     each_pointer_is_at_one_place::<K, V, PREFIX_LEN>();
@@ -106,9 +113,10 @@ fn remove_from_two<K: AsBytes, V, const PREFIX_LEN: usize>(
         HangsUnder tree (leaf_pointer leaf) parent byte above }
     requires two { (node : Inner _) → held arena.old parent ≡ HeldInner node →
         length node.children ≡ 2 }
-    ensures { (tree : _) → IsAlone K.text arena.old root tree →
+    ensures removed { (tree : _) → IsAlone K.text arena.old root tree →
         (hangs : HangsUnder tree (leaf_pointer leaf) parent byte above) →
         IsRemoved K.text arena.old arena.new hangs.text result.0 result.1 }
+    ensures takes_no_memory { FreesOneEach arena.old arena.new }
 {
     no_text_begins_another::<OpaqueNodePtr<K, V, PREFIX_LEN>>();
     each_pointer_is_at_one_place::<K, V, PREFIX_LEN>();
@@ -137,6 +145,9 @@ fn remove_from<K: AsBytes, V, const PREFIX_LEN: usize>(
         (hangs : HangsUnder tree (leaf_pointer leaf) parent byte above) →
         OnErr result (NeedsSmallerNode K.text arena.old hangs.text) }
     ensures nodes_kept { OnErr result (SameNodes arena.old arena.new) }
+    ensures takes_no_memory { (tree : _) → IsAlone K.text arena.old root tree →
+        (hangs : HangsUnder tree (leaf_pointer leaf) parent byte above) →
+        (¬ NeedsSmallerNode K.text arena.old hangs.text) → FreesOneEach arena.old arena.new }
 {
     if num_children(arena, parent) == 2 {
         Ok(remove_from_two(arena, root, above, parent, byte, leaf))
@@ -162,6 +173,8 @@ pub(crate) fn remove_entry<K: AsBytes, V, const PREFIX_LEN: usize>(
     ensures refused { OnErr result (NeedsSmallerNode K.text arena.old key.now) }
     ensures same_entries { OnErr result (SameEntries K.text arena.old arena.new) }
     ensures nodes_kept { OnErr result (SameNodes arena.old arena.new) }
+    ensures takes_no_memory { (¬ NeedsSmallerNode K.text arena.old key.now) →
+        FreesOneEach arena.old arena.new }
 {
     no_text_begins_another::<OpaqueNodePtr<K, V, PREFIX_LEN>>();
     let mut reader = ArenaReader::with_budget(arena, key.len() + 1);

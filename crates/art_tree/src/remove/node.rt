@@ -77,6 +77,9 @@ pub(crate) fn reserve_shrink<K, V, const PREFIX_LEN: usize>(
     ensures refused { OnErr result ((node : Inner _) → held arena.old pointer ≡ HeldInner node →
         (2 < length node.children) × (length node.children ≡ least_children (node_kind pointer))) }
     ensures nodes_kept { SameNodes arena.old arena.new }
+    ensures takes_no_memory { (node : Inner _) → held arena.old pointer ≡ HeldInner node →
+        length node.children ≢ least_children (node_kind pointer) →
+        SameRoom arena.old arena.new }
 {
     let shrunk = match pointer.node_type() {
         NodeType::Node16 => NodeType::Node4,
@@ -200,6 +203,7 @@ pub(crate) fn join_prefix<K, V, const PREFIX_LEN: usize>(
         StandsFor PREFIX_LEN (header_of upper) front → StandsFor PREFIX_LEN (header_of lower) back →
         Changes arena.old arena.new child
         (HeldInner (node_with_prefix PREFIX_LEN lower (front ++ byte ∷ back))) }
+    ensures room { SameRoom arena.old arena.new }
 {
     let Some(lower) = arena.header(child) else {
         return;

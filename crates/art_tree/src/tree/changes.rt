@@ -3,7 +3,7 @@ ghost use Rattle.std.specs.Prelude.{◌≡◌, ◌≢◌, ℕ, List, None, IfNon
 ghost use Rattle.art_arena.specs.Arena.{SameNodes, SameRoom};
 ghost use Rattle.art_tree.specs.Dictionary.{entry_at, HasKeys, IsEntry};
 ghost use Rattle.art_tree.specs.Inserting.{IsRefused, MayEnter, SameEntries};
-ghost use Rattle.art_tree.specs.Removing.{NeedsSmallerNode};
+ghost use Rattle.art_tree.specs.Removing.{FreesOneEach, NeedsSmallerNode};
 
 use crate::insert::{InsertFault, insert_entry};
 use crate::remove::remove_entry;
@@ -50,6 +50,7 @@ impl<K: AsBytes, V, const PREFIX_LEN: usize> ArtTree<K, V, PREFIX_LEN> {
     ///
     /// Memory is asked for only where the entry's leaf hangs in an inner node of 5, 17 or 49 children,
     /// since a node of a smaller kind takes its place. Where that is refused, the tree is as before.
+    /// Elsewhere of each kind there is room for one node more at most, the one that was given up.
     ///
     /// It looks for the entry as [`get`](Self::get) does. Then it changes the leaf's neighbours and at
     /// most three inner nodes: the two above the leaf, and the one that takes its parent's place.
@@ -63,6 +64,8 @@ impl<K: AsBytes, V, const PREFIX_LEN: usize> ArtTree<K, V, PREFIX_LEN> {
         ensures same_entries { OnErr result (SameEntries K.text self.old.arena self.new.arena) }
         ensures nodes_kept { OnErr result (SameNodes self.old.arena self.new.arena) }
         ensures root_kept { OnErr result (self.new.root ≡ self.old.root) }
+        ensures takes_no_memory { (¬ NeedsSmallerNode K.text self.old.arena key.now) →
+            FreesOneEach self.old.arena self.new.arena }
     {
         let Some(root) = self.root else {
             return Ok(None);

@@ -92,11 +92,11 @@ returns g c =
     record {
       art = child-art text reserved c.args.root tree c.args.spot c.args.byte c.args.key c.args.value alone lacks c.ranges.byte.fits linked (leaf_pointer c.link_leaf-leaf.result) c.link_leaf-leaf.ensures.was_free c.link_leaf-leaf.ensures.others c.add_child-node.new.arena c.add_child-node.result c.link_leaf-leaf.ensures.entry c.each_pointer_is_at_one_place.ensures
           (subst (λ child. ChildAdded linked c.add_child-node.new.arena c.args.spot.node c.args.byte child c.add_child-node.result) c.to_opaque.ensures c.add_child-node.ensures)
-          c.hang.new.arena c.hang.result c.hang.ensures c.requires.short c.leaf_beside-end.result.1 (slab_key c.leaf_beside-end.result.0) beside c.link_leaf-leaf.ensures.spelled;
+          c.hang.new.arena c.hang.result c.hang.ensures.hung c.requires.short c.leaf_beside-end.result.1 (slab_key c.leaf_beside-end.result.0) beside c.link_leaf-leaf.ensures.spelled;
       entered = entered-from text old reserved c.hang.new.arena c.args.key c.args.value c.args.root tree alone0 (c.no_text_begins_another.ensures [] tree alone0.is_tree.sound) c.reserve_for_child.ensures.nodes_kept
           (child-entered text reserved c.args.root tree c.args.spot c.args.byte c.args.key c.args.value alone lacks c.ranges.byte.fits linked (leaf_pointer c.link_leaf-leaf.result) c.link_leaf-leaf.ensures.was_free c.link_leaf-leaf.ensures.others c.add_child-node.new.arena c.add_child-node.result c.link_leaf-leaf.ensures.entry c.each_pointer_is_at_one_place.ensures
           (subst (λ child. ChildAdded linked c.add_child-node.new.arena c.args.spot.node c.args.byte child c.add_child-node.result) c.to_opaque.ensures c.add_child-node.ensures)
-          c.hang.new.arena c.hang.result c.hang.ensures c.requires.short c.leaf_beside-end.result.1 (slab_key c.leaf_beside-end.result.0) beside c.link_leaf-leaf.ensures.spelled c.no_text_begins_another.ensures);
+          c.hang.new.arena c.hang.result c.hang.ensures.hung c.requires.short c.leaf_beside-end.result.1 (slab_key c.leaf_beside-end.result.0) beside c.link_leaf-leaf.ensures.spelled c.no_text_begins_another.ensures);
       entry_back = tt;
       nodes_kept = tt;
     }

@@ -157,10 +157,10 @@ returns g c =
     let new = c.fork_node-node.new.arena in
     record {
       art = fork-art text reserved root tree spot fork key value alone parts fits node_fits linked (leaf_pointer c.link_leaf-leaf.result) c.link_leaf-leaf.ensures.was_free c.link_leaf-leaf.ensures.others sibling at_end.0 inside c.trim.new.arena c.trim.ensures.leaf c.trim.ensures.trimmed new c.fork_node-node.result c.link_leaf-leaf.ensures.entry (slab_key c.link_leaf-leaf.result) refl c.each_pointer_is_at_one_place.ensures c.fork_node-node.ensures
-          c.hang.new.arena c.hang.result c.hang.ensures c.requires.short end at_end c.near_end-end.ensures.end c.link_leaf-leaf.ensures.spelled;
+          c.hang.new.arena c.hang.result c.hang.ensures.hung c.requires.short end at_end c.near_end-end.ensures.end c.link_leaf-leaf.ensures.spelled;
       entered = entered-from text c.args.arena.now reserved c.hang.new.arena key value root tree alone0 (c.no_text_begins_another.ensures [] tree alone0.is_tree.sound) c.reserve_for_fork.ensures.nodes_kept
           (fork-entered text reserved root tree spot fork key value alone parts fits node_fits linked (leaf_pointer c.link_leaf-leaf.result) c.link_leaf-leaf.ensures.was_free c.link_leaf-leaf.ensures.others sibling at_end.0 inside c.trim.new.arena c.trim.ensures.leaf c.trim.ensures.trimmed new c.fork_node-node.result c.link_leaf-leaf.ensures.entry (slab_key c.link_leaf-leaf.result) refl c.each_pointer_is_at_one_place.ensures c.fork_node-node.ensures
-          c.hang.new.arena c.hang.result c.hang.ensures c.requires.short end at_end c.near_end-end.ensures.end c.link_leaf-leaf.ensures.spelled c.no_text_begins_another.ensures);
+          c.hang.new.arena c.hang.result c.hang.ensures.hung c.requires.short end at_end c.near_end-end.ensures.end c.link_leaf-leaf.ensures.spelled c.no_text_begins_another.ensures);
       entry_back = tt;
       nodes_kept = tt;
     }

@@ -30,4 +30,4 @@ returns g c =
     (if-ok (λ ptr. held old (opaque_pointer kind (slab_key ptr)) ≡ Nothing) answer at c.unwrap-placed.ensures c.allocate_node_ptr.ensures.was_free)
     c.requires.held
     (subst (Changes old now (opaque_pointer kind (slab_key at))) (g.met.R.ArenaInnerNode.shown c.args.node) (if-ok (λ ptr. Changes old now (opaque_pointer kind (slab_key ptr)) (g.R.ArenaNode.held_as c.args.node)) answer at c.unwrap-placed.ensures c.allocate_node_ptr.ensures.added))
-    c.give_up.ensures
+    c.give_up.ensures.gone

@@ -43,7 +43,7 @@ returns-in-Root-clause-removed g c =
     let found = is-found text arena c.with_budget-reader.result.arena c.with_budget-reader.ensures.arena c.args.root tree alone.is_tree c.in-Some.leaf c.in-Some.path c.args.key.now c.in-Some.ensures.answer c.in-Some.ensures.path in
     let (x, is) = leaf-root tree at (subst (IsPathTo tree at) c.in-Root.is found.way) in
     let same = found.has x (subst (λ t. Contains (leaves t) (at, x)) (sym is) (0, omega arith, refl)) in
-    let done = c.remove_root.ensures c.args.root x (subst (IsAlone text arena c.args.root) is alone) in
+    let done = c.remove_root.ensures.removed c.args.root x (subst (IsAlone text arena c.args.root) is alone) in
     (done.0, subst (IsLeft text arena c.remove_root.new.arena) same done.1, ap (entry_at text arena) (sym same) ∙ done.2)
 
 pub remove_from-requires : goal.remove_from-requires
@@ -96,3 +96,33 @@ returns-clause-removed g c =
     let same = found.has hangs.text (hangs-in tree at above.1 above.2 above.0 hangs) in
     let done = c.in_ok-root.ensures.removed tree alone hangs in
     (done.art, subst (IsLeft text arena c.remove_from.new.arena) same done.left, ap (entry_at text arena) (sym same) ∙ done.was)
+
+pub returns-in_err-root-clause-takes_no_memory : goal.returns-in_err-root-clause-takes_no_memory
+returns-in_err-root-clause-takes_no_memory g c = λ enough.
+    let text = g.K.AsBytes.text in
+    let arena = c.args.arena.now in
+    let at = leaf_pointer c.in-Some.leaf in
+    let above = c.match-path.above in
+    let (tree, alone) = c.requires.art in
+    let found = is-found text arena c.with_budget-reader.result.arena c.with_budget-reader.ensures.arena c.args.root tree alone.is_tree c.in-Some.leaf c.in-Some.path c.args.key.now c.in-Some.ensures.answer c.in-Some.ensures.path in
+    let hangs : HangsUnder tree at above.1 above.2 above.0 = elim c.match-path.branch [
+      | in-ChildOfRoot w ↦ hangs-child tree at c.in-Some.path found.way above w.in-ChildOfRoot.parent w.in-ChildOfRoot.child_key_byte w.in-ChildOfRoot.is w.above-is
+      | in-Normal w ↦ hangs-normal tree at c.in-Some.path found.way above w.in-Normal.grandparent w.in-Normal.parent_key_byte w.in-Normal.parent w.in-Normal.child_key_byte w.in-Normal.is w.above-is
+    ] in
+    let same = found.has hangs.text (hangs-in tree at above.1 above.2 above.0 hangs) in
+    absurd (enough (subst (NeedsSmallerNode text arena) same (c.in_err-root.ensures.refused tree alone hangs)))
+
+pub returns-clause-takes_no_memory : goal.returns-clause-takes_no_memory
+returns-clause-takes_no_memory g c = λ enough.
+    let text = g.K.AsBytes.text in
+    let arena = c.args.arena.now in
+    let at = leaf_pointer c.in-Some.leaf in
+    let above = c.match-path.above in
+    let (tree, alone) = c.requires.art in
+    let found = is-found text arena c.with_budget-reader.result.arena c.with_budget-reader.ensures.arena c.args.root tree alone.is_tree c.in-Some.leaf c.in-Some.path c.args.key.now c.in-Some.ensures.answer c.in-Some.ensures.path in
+    let hangs : HangsUnder tree at above.1 above.2 above.0 = elim c.match-path.branch [
+      | in-ChildOfRoot w ↦ hangs-child tree at c.in-Some.path found.way above w.in-ChildOfRoot.parent w.in-ChildOfRoot.child_key_byte w.in-ChildOfRoot.is w.above-is
+      | in-Normal w ↦ hangs-normal tree at c.in-Some.path found.way above w.in-Normal.grandparent w.in-Normal.parent_key_byte w.in-Normal.parent w.in-Normal.child_key_byte w.in-Normal.is w.above-is
+    ] in
+    let same = found.has hangs.text (hangs-in tree at above.1 above.2 above.0 hangs) in
+    c.remove_from.ensures.takes_no_memory tree alone hangs (λ needs. enough (subst (NeedsSmallerNode text arena) same needs))

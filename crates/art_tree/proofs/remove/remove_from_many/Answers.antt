@@ -10,10 +10,11 @@ use Rattle.art_tree.specs.Cuts.{HasRoomToShrink}
 use Rattle.art_tree.specs.Hanging.{CanHang}
 use Rattle.art_tree.specs.Removing.{IsRemoved, NeedsSmallerNode}
 use Rattle.art_tree.proofs.Cutting.{removed-from}
-use Rattle.art_tree.proofs.CuttingMany.{cut-held, cut-many, cut-room, cut-there, is-cut, many-hangs, many-removed, needs-smaller}
+use Rattle.art_tree.proofs.CuttingMany.{cut-held, cut-many, cut-room, cut-there, is-cut, many-hangs, many-removed, needs-smaller, not-least}
 use Rattle.art_tree.proofs.Growing.{alone-same}
 use Rattle.art_tree.proofs.HangLemmas.{always-err}
 use Rattle.art_tree.proofs.LeafPlaces.{leaf-place}
+use Rattle.art_tree.proofs.RemovalLemmas.{frees-leaf}
 use Rattle.art_tree.proofs.remove.remove_from_many.Goals as goal
 
 pub reserve_shrink-requires : goal.reserve_shrink-requires
@@ -78,7 +79,7 @@ returns-clause-removed g c = λ tree alone0 hangs.
     let cut = c.take_leaf-entry.new.arena in
     let many : length place.node.children ≢ 2 = c.requires.many place.node (sym (c.reserve_shrink.ensures.nodes_kept parent) ∙ place.is_held) in
     let new = c.take_child-node.new.arena in
-    let removed = many-removed place cut c.take_leaf-entry.ensures.gone c.take_leaf-entry.ensures.others many new c.take_child-node.result (c.each_pointer_is_at_one_place.ensures reserved [] _ place.alone.is_tree.stands place.alone.is_tree.sound) (c.take_child-node.ensures _ (is-cut place cut c.take_leaf-entry.ensures.gone c.take_leaf-entry.ensures.others)) c.hang.new.arena c.hang.result c.hang.ensures c.take_leaf-entry.ensures.spelled c.no_text_begins_another.ensures in
+    let removed = many-removed place cut c.take_leaf-entry.ensures.gone c.take_leaf-entry.ensures.others many new c.take_child-node.result (c.each_pointer_is_at_one_place.ensures reserved [] _ place.alone.is_tree.stands place.alone.is_tree.sound) (c.take_child-node.ensures _ (is-cut place cut c.take_leaf-entry.ensures.gone c.take_leaf-entry.ensures.others)) c.hang.new.arena c.hang.result c.hang.ensures.hung c.take_leaf-entry.ensures.spelled c.no_text_begins_another.ensures in
     removed-from text c.args.arena.now reserved c.hang.new.arena hangs.text c.hang.result c.take_leaf-entry.result c.args.root tree alone0 (c.no_text_begins_another.ensures [] tree alone0.is_tree.sound) c.reserve_shrink.ensures.nodes_kept
     (subst (IsRemoved text reserved c.hang.new.arena hangs.text c.hang.result) (sym (c.take_leaf-entry.ensures.entry place.own place.own_held)) removed)
 
@@ -86,3 +87,22 @@ pub returns-in_err-reserve_shrink-clause-refused : goal.returns-in_err-reserve_s
 returns-in_err-reserve_shrink-clause-refused g c = λ tree alone hangs.
     always-err c.from_residual.result (NeedsSmallerNode g.K.AsBytes.text c.args.arena.now hangs.text)
     (needs-smaller (leaf-place alone hangs) c.in_err-reserve_shrink.ensures.refused)
+
+pub returns-clause-takes_no_memory : goal.returns-clause-takes_no_memory
+returns-clause-takes_no_memory g c = λ tree alone0 hangs enough.
+    let text = g.K.AsBytes.text in
+    let old = c.args.arena.now in
+    let parent = c.args.parent in
+    let kept = c.reserve_shrink.ensures.nodes_kept in
+    let reserved = c.reserve_shrink.new.arena in
+    let place0 = leaf-place alone0 hangs in
+    let place = leaf-place (alone-same text old reserved kept c.args.root tree alone0) hangs in
+    let cut = c.take_leaf-entry.new.arena in
+    let more = not-least place0 (c.requires.many place0.node place0.is_held) enough in
+    frees-leaf old reserved cut c.take_child-node.new.arena c.hang.new.arena parent c.take_child-node.result place.node _
+    (c.reserve_shrink.ensures.takes_no_memory place0.node place0.is_held (more place0.node place0.is_held)) c.take_leaf-entry.ensures.takes_no_memory
+    (c.take_child-node.ensures _ (is-cut place cut c.take_leaf-entry.ensures.gone c.take_leaf-entry.ensures.others)) (more place.node (sym (kept parent) ∙ place.is_held)) c.hang.ensures.room
+
+pub returns-in_err-reserve_shrink-clause-takes_no_memory : goal.returns-in_err-reserve_shrink-clause-takes_no_memory
+returns-in_err-reserve_shrink-clause-takes_no_memory g c = λ tree alone hangs enough.
+    absurd (enough (needs-smaller (leaf-place alone hangs) c.in_err-reserve_shrink.ensures.refused))

@@ -7,6 +7,7 @@ use Rattle.art_arena.specs.Links.{Spells}
 use Rattle.art_tree.specs.Hanging.{CanHang}
 use Rattle.art_tree.proofs.CuttingTwo.{child-held, parent-held, parent-joined, parent-two, short-there, two-hangs, two-removed}
 use Rattle.art_tree.proofs.LeafPlaces.{leaf-place}
+use Rattle.art_tree.proofs.RemovalLemmas.{frees-two}
 use Rattle.art_tree.proofs.remove.remove_from_two.Goals as goal
 
 pub take_leaf-entry-requires : goal.take_leaf-entry-requires
@@ -64,16 +65,21 @@ hang-requires g c =
     let (other, child) = c.other_child-other_byte.result in
     let joined = c.join_prefix.new.arena in
     let new = c.give_up.new.arena in
-    let can : CanHang new c.args.above = two-hangs place c.each_pointer_is_at_one_place.ensures c.requires.two cut taken.gone taken.others other child c.other_child-other_byte.ensures joined c.join_prefix.ensures.leaf c.join_prefix.ensures.joined new c.give_up.ensures in
+    let can : CanHang new c.args.above = two-hangs place c.each_pointer_is_at_one_place.ensures c.requires.two cut taken.gone taken.others other child c.other_child-other_byte.ensures joined c.join_prefix.ensures.leaf c.join_prefix.ensures.joined new c.give_up.ensures.gone in
     assumption
 
-pub returns : goal.returns
-returns g c tree alone hangs =
+pub returns-clause-removed : goal.returns-clause-removed
+returns-clause-removed g c = λ tree alone hangs.
     let place = leaf-place alone hangs in
     let cut = c.take_leaf-entry.new.arena in
     let taken = c.take_leaf-entry.ensures in
     let (other, child) = c.other_child-other_byte.result in
     let joined = c.join_prefix.new.arena in
     let new = c.give_up.new.arena in
-    two-removed place c.each_pointer_is_at_one_place.ensures c.requires.two cut taken.gone taken.others other child c.other_child-other_byte.ensures joined c.join_prefix.ensures.leaf c.join_prefix.ensures.joined new c.give_up.ensures
-    c.hang.new.arena c.hang.result c.hang.ensures taken.spelled c.no_text_begins_another.ensures c.take_leaf-entry.result taken.entry
+    two-removed place c.each_pointer_is_at_one_place.ensures c.requires.two cut taken.gone taken.others other child c.other_child-other_byte.ensures joined c.join_prefix.ensures.leaf c.join_prefix.ensures.joined new c.give_up.ensures.gone
+    c.hang.new.arena c.hang.result c.hang.ensures.hung taken.spelled c.no_text_begins_another.ensures c.take_leaf-entry.result taken.entry
+
+pub returns-clause-takes_no_memory : goal.returns-clause-takes_no_memory
+returns-clause-takes_no_memory g c =
+    let (tree, alone, hangs) = c.requires.place in
+    frees-two c.args.arena.now c.take_leaf-entry.new.arena c.join_prefix.new.arena c.give_up.new.arena c.hang.new.arena (node_kind c.args.parent) (leaf-place alone hangs).inner c.take_leaf-entry.ensures.takes_no_memory c.join_prefix.ensures.room c.give_up.ensures.room c.hang.ensures.room

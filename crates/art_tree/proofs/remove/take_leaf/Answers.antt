@@ -1,6 +1,7 @@
+use Rattle.art_header.specs.declared.node_type.NodeType.TheVariants.{Leaf}
 use Rattle.art_nodes.specs.Pointers.{slab_key}
 use Rattle.art_arena.specs.Links.{HoldsLeaf, IsKnit}
-use Rattle.art_tree.proofs.RemovalLemmas.{left-spelled, no-less-room, others-left, still-held, taken-entry}
+use Rattle.art_tree.proofs.RemovalLemmas.{frees-after, left-spelled, no-less-room, others-left, still-held, taken-entry}
 use Rattle.art_tree.proofs.remove.take_leaf.Goals as goal
 
 pub remove_self-requires : goal.remove_self-requires
@@ -35,3 +36,8 @@ pub returns-clause-room : goal.returns-clause-room
 returns-clause-room g c =
     let taken = c.deallocate_node_ptr in
     no-less-room c.args.arena.now c.remove_self.new.arena taken.new.self c.remove_self.ensures.room taken.ensures.room taken.ensures.other_room
+
+pub returns-clause-takes_no_memory : goal.returns-clause-takes_no_memory
+returns-clause-takes_no_memory g c =
+    let taken = c.deallocate_node_ptr in
+    frees-after c.args.arena.now c.remove_self.new.arena taken.new.self Leaf c.remove_self.ensures.room (record { one_more = taken.ensures.takes_no_memory; others = taken.ensures.other_room })

@@ -15,5 +15,5 @@ returns g c = λ node is.
     inl (record {
       few = c.is_full.ensures.has_room node is (λ full. (let not_full = c.if-is_full.false in cc));
       same = refl;
-      changes = c.write_child.ensures node is;
+      changes = c.write_child.ensures.written node is;
     })

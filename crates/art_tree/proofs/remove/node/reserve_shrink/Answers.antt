@@ -25,3 +25,6 @@ returns-in-Node4-clause-room g c = λ node is more fewest. elim c.in-Node4.is [
 
 pub returns-then-not-has_fewest-clause-room : goal.returns-then-not-has_fewest-clause-room
 returns-then-not-has_fewest-clause-room g c = λ node is more fewest. absurd (false≢true (sym c.if-not-has_fewest.true ∙ (c.has_fewest.ensures node is).1 fewest))
+
+pub returns-clause-takes_no_memory : goal.returns-clause-takes_no_memory
+returns-clause-takes_no_memory g c = λ node is more. absurd (more ((c.has_fewest.ensures node is).0 c.if-not-has_fewest.false))

@@ -17,4 +17,5 @@ returns g c = λ node is.
       many = less-where-differ (least_children (node_kind c.args.pointer)) (length node.children) (c.requires.many node is).1 (λ fewest. (let yes = (c.has_fewest-fewest.ensures node is).1 fewest in let no = c.if-fewest.false in cc));
       same = refl;
       changes = c.cut_child.ensures.cut node is;
+      same_room = c.cut_child.ensures.room;
     })

@@ -1,7 +1,7 @@
 use Rattle.std.proofs.Common.{◌≡◌, ◌∙◌, Some, ap, sym, subst}
 use Rattle.art_tree.specs.Art.{IsArt}
 use Rattle.art_tree.specs.Dictionary.{HasKeys, entry_at}
-use Rattle.art_tree.specs.Removing.{IsLeft}
+use Rattle.art_tree.specs.Removing.{FreesOneEach, IsLeft, NeedsSmallerNode}
 use Rattle.art_tree.proofs.DictionaryLemmas.{empty-entry}
 use Rattle.art_tree.proofs.Growing.{art-same}
 use Rattle.art_tree.proofs.KeyLemmas.{keys-same, keys-left}
@@ -49,3 +49,9 @@ invariant_of-self-2 g c =
     let key = c.args.key.now in
     let done = if-some c.in_ok-root.field-0 (λ pair. IsArt text new pair.0 × IsLeft text old new key × (entry_at text old key ≡ Some pair.1)) (c.in-Some-2.root, c.in-Some-2.entry) c.in-Some-2.is c.in_ok-root.ensures.removed in
     (done.0, keys-left text g.K.AsBytes.is_key old new c.self.invariant.1 key done.1)
+
+pub returns-clause-takes_no_memory : goal.returns-clause-takes_no_memory
+returns-clause-takes_no_memory g c = subst (λ seen. (¬ NeedsSmallerNode g.K.AsBytes.text seen.arena c.args.key.now) → FreesOneEach seen.arena c.remove_entry.new.arena) c.self.view_is c.remove_entry.ensures.takes_no_memory
+
+pub returns-in_err-root-clause-takes_no_memory : goal.returns-in_err-root-clause-takes_no_memory
+returns-in_err-root-clause-takes_no_memory g c = subst (λ seen. (¬ NeedsSmallerNode g.K.AsBytes.text seen.arena c.args.key.now) → FreesOneEach seen.arena c.remove_entry.new.arena) c.self.view_is c.remove_entry.ensures.takes_no_memory
