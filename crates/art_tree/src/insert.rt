@@ -78,9 +78,9 @@ pub struct InsertFault<K, V> {
     pub value: V,
 }
 
-/// Makes a tree of one leaf in an arena that holds nothing, and answers the root. Where memory is
-/// refused, the entry comes back.
-pub(crate) fn insert_first<K: AsBytes, V, const PREFIX_LEN: usize>(
+// Makes a tree of one leaf in an arena that holds nothing, and answers the root. Where memory is
+// refused, the entry comes back.
+fn insert_first<K: AsBytes, V, const PREFIX_LEN: usize>(
     arena: &mut NodeArena<K, V, PREFIX_LEN>,
     key: K,
     value: V,
@@ -99,8 +99,8 @@ pub(crate) fn insert_first<K: AsBytes, V, const PREFIX_LEN: usize>(
     }
 }
 
-/// Puts the entry in the place of that of a leaf with its text, which it answers.
-pub(crate) fn replace_entry<K: AsBytes, V, const PREFIX_LEN: usize>(
+// Puts the entry in the place of that of a leaf with its text, which it answers.
+fn replace_entry<K: AsBytes, V, const PREFIX_LEN: usize>(
     arena: &mut NodeArena<K, V, PREFIX_LEN>,
     leaf: NodePtr<PREFIX_LEN, LeafNode<K, V, PREFIX_LEN>>,
     key: K,
@@ -171,6 +171,7 @@ fn leaf_beside<K: AsBytes, V, const PREFIX_LEN: usize>(
     }
 }
 
+// Makes room for a new leaf, and for the node that the one at the pointer grows to where it is full.
 fn reserve_for_child<K, V, const PREFIX_LEN: usize>(
     arena: &mut NodeArena<K, V, PREFIX_LEN>,
     pointer: OpaqueNodePtr<K, V, PREFIX_LEN>,
@@ -185,6 +186,7 @@ fn reserve_for_child<K, V, const PREFIX_LEN: usize>(
     reserve_growth(arena, pointer)
 }
 
+// Makes room for a new leaf and for the node that it hangs in.
 fn reserve_for_fork<K, V, const PREFIX_LEN: usize>(
     arena: &mut NodeArena<K, V, PREFIX_LEN>,
 ) -> Result<(), AllocError>
@@ -196,9 +198,9 @@ fn reserve_for_fork<K, V, const PREFIX_LEN: usize>(
     arena.reserve(NodeType::Node4, 1)
 }
 
-/// Hangs a new leaf under a byte of an inner node that has no child there. Answers the root. Where
-/// memory is refused, the entry comes back.
-pub(crate) fn insert_child<K: AsBytes, V, const PREFIX_LEN: usize>(
+// Hangs a new leaf under a byte of an inner node that has no child there. Answers the root. Where
+// memory is refused, the entry comes back.
+fn insert_child<K: AsBytes, V, const PREFIX_LEN: usize>(
     arena: &mut NodeArena<K, V, PREFIX_LEN>,
     root: OpaqueNodePtr<K, V, PREFIX_LEN>,
     spot: Spot<K, V, PREFIX_LEN>,
@@ -238,9 +240,9 @@ fn near_end(fork: Fork) -> End
     }
 }
 
-/// Hangs a new leaf and the node that its key parts from under a new node. Answers the root. Where
-/// memory is refused, the entry comes back.
-pub(crate) fn insert_fork<K: AsBytes, V, const PREFIX_LEN: usize>(
+// Hangs a new leaf and the node that its key parts from under a new node. Answers the root. Where
+// memory is refused, the entry comes back.
+fn insert_fork<K: AsBytes, V, const PREFIX_LEN: usize>(
     arena: &mut NodeArena<K, V, PREFIX_LEN>,
     root: OpaqueNodePtr<K, V, PREFIX_LEN>,
     spot: Spot<K, V, PREFIX_LEN>,

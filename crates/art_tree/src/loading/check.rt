@@ -69,7 +69,7 @@ fn fault_of<K: AsBytes, V>(entries: &[(K, V)], index: usize) -> Option<LoadRefus
     }
 }
 
-// What refuses the entries, if anything does: no entry, or else the first fault.
+/// What refuses the entries, if anything does: no entry, or else the first fault.
 pub(crate) fn refusal_of<K: AsBytes, V>(entries: &[(K, V)]) -> Option<LoadRefusal>
     ensures refused { IfSome result (IsRefusal (texts_of K.text entries.now)) }
     ensures no_fault { IfNone result (HaveNoFault (texts_of K.text entries.now)) }
