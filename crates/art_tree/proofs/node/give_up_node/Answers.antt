@@ -4,4 +4,4 @@ pub returns-clause-gone : goal.returns-clause-gone
 returns-clause-gone g c = search
 
 pub returns-clause-room : goal.returns-clause-room
-returns-clause-room g c = record { one_more = c.deallocate_node_ptr.ensures.takes_no_memory; others = c.deallocate_node_ptr.ensures.other_room }
+returns-clause-room g c = search
