@@ -1,5 +1,4 @@
-use Rattle.std.proofs.Common.{rules}
 use Rattle.art_nodes.proofs.inner_nodes.inner_node.InnerNodeDirectInnerNode.shrink.Goals as goal
 
 pub returns : goal.returns
-returns g c = search rules
+returns g c = search

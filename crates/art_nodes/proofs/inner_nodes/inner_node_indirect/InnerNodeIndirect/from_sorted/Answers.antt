@@ -19,7 +19,7 @@ from_ascending-requires g c =
       (
         search rules,
         (
-          search rules,
+          search,
           (
             ap length children ∙ length-map node.children (λ p. p.1) ∙ sym bytes_long,
             (ap (λ h. h.count) c.header.ensures.header ∙ sym bytes_long, rw (bytes, children, c.header.ensures.header, zip-parts) sound),
@@ -31,4 +31,4 @@ from_ascending-requires g c =
 pub returns : goal.returns
 returns g c =
     c.from_ascending.ensures
-    ∙ rw (c.initialized_portion.ensures.bytes, c.initialized_portion.ensures.children, c.header.ensures.header, zip-parts) (search rules)
+    ∙ rw (c.initialized_portion.ensures.bytes, c.initialized_portion.ensures.children, c.header.ensures.header, zip-parts) (search)

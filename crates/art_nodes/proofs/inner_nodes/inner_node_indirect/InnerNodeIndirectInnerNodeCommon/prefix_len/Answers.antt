@@ -1,8 +1,7 @@
-use Rattle.std.proofs.Common.{rules}
 use Rattle.art_nodes.proofs.inner_nodes.inner_node_indirect.InnerNodeIndirectInnerNodeCommon.prefix_len.Goals as goal
 
 pub returns-clause-value : goal.returns-clause-value
-returns-clause-value g c = search rules
+returns-clause-value g c = search
 
 pub returns-clause-fits : goal.returns-clause-fits
-returns-clause-fits g c = search rules
+returns-clause-fits g c = search

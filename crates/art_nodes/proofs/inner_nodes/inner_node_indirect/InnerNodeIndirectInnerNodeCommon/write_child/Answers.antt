@@ -56,9 +56,9 @@ add_child-requires g c =
     let within : c.args.key_fragment < length indices = omega (arith, c.self.invariant.places, c.ranges.key_fragment.fits) in
     let absent = child_at-unnamed pointers indices c.args.key_fragment within (omega (arith, c.self.invariant.places)) (sym c.in-None.ensures) in
     let asks = rw (← c.self.view_is) at c.requires in (
-      search rules,
+      search,
       (
-        search rules,
+        search,
         (
           rw (← c.self.view_is) absent,
           rw (← c.self.view_is) (asks (rw absent refl)),

@@ -1,5 +1,4 @@
-use Rattle.std.proofs.Common.{rules}
 use Rattle.art_nodes.proofs.inner_nodes.prefix_match.PessimisticMismatchFromOptimisticMismatch.from.Goals as goal
 
 pub returns : goal.returns
-returns c = search rules
+returns c = search
