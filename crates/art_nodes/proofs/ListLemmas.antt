@@ -1,9 +1,10 @@
 -- Lists: elements by place after an edit, and lists that have each number as often.
-use Rattle.std.proofs.Common.{◌≡◌, ℕ, zero, suc, ◌+◌, ◌-◌, ◌<◌, ◌≢◌, Bool, cond, List, [], ◌∷◌, ◌++◌, length, get_or, set, take, Some, None, slice_get, nat_lt, eqb, eq-eqb, count_by, refl, sym, ◌∙◌, ap, arith, if◌then◌else◌, inl, inr}
+use Rattle.std.proofs.Common.{◌≡◌, ℕ, zero, suc, ◌+◌, ◌-◌, ◌<◌, ◌≢◌, Bool, cond, List, [], ◌∷◌, ◌++◌, length, get_or, set, take, Option, Some, None, slice_get, nat_lt, eqb, eq-eqb, count_by, refl, sym, ◌∙◌, ap, arith, if◌then◌else◌, inl, inr}
 use Rattle.std.specs.List.{remove, swap_remove, range_with_len}
 use Rattle.std.specs.List.Sorted.{IsPermutation}
+use Rattle.std.specs.Iterator.{YieldsFirst, YieldsLast}
 use Rattle.std.proofs.lemmas.Bool.Decides.{nat_tests}
-use Rattle.std.proofs.lemmas.List.{length-set, length-take}
+use Rattle.std.proofs.lemmas.List.{length-set, length-take, length-append}
 use Rattle.std.proofs.lemmas.List.Sums.{sum_by-cons, sum_by-remove}
 use Rattle.std.proofs.lemmas.List.Sorted.{IsPermutation-refl, IsPermutation-cons, IsPermutation-remove, IsPermutation-sym, IsPermutation-trans}
 use Rattle.std.proofs.lemmas.Option.{slice_get-get_or}
@@ -11,14 +12,20 @@ use Rattle.art_nodes.proofs.ChildMapLemmas.{cases_eq, eq-false}
 
 -- lists, by their optional elements
 module _ {H : Type 0} where
-  -- a list that is counted with some is not empty, and one that is counted with none has no element
-  pub some_from_count : (xs : List H) {count : ℕ} → count ≡ length xs → count ≢ 0 → 0 < length xs
-  some_from_count [] is some = absurd (some is)
-  some_from_count (x ∷ xs) is some = omega arith
+  slice_get-last : (xs : List H) (x : H) → slice_get (xs ++ x ∷ []) (length xs) ≡ Some x
+  slice_get-last [] x = refl
+  slice_get-last (y ∷ xs) x = slice_get-last xs x
 
-  pub none_from_count : (xs : List H) (place : ℕ) {count : ℕ} → count ≡ length xs → count ≡ 0 → None ≡ slice_get xs place
-  none_from_count [] place is none = refl
-  none_from_count (x ∷ xs) place is none = absurd (omega arith)
+  -- what an iterator over a list gives first from the front, and from the back
+  pub first_yielded : (xs : List H) (given : Option H) (left : List H) → YieldsFirst (λ l. l) xs given left → given ≡ slice_get xs 0
+  first_yielded xs None left ends = rw ends.0 refl
+  first_yielded xs (Some x) left is = rw is refl
+
+  pub last_yielded : (xs : List H) (given : Option H) (left : List H) → YieldsLast (λ l. l) xs given left → given ≡ slice_get xs (length xs - 1)
+  last_yielded xs None left ends = rw ends.0 refl
+  last_yielded xs (Some x) left is =
+      let at : length xs - 1 ≡ length left = omega (arith, ap length is, length-append left (x ∷ [])) in
+      rw (at, is) (sym (slice_get-last left x))
 
   pub slice_get-set_same : (xs : List H) (i : ℕ) (x : H) → i < length xs → slice_get (set xs i x) i ≡ Some x
   slice_get-set_same [] i x within = absurd (omega arith)

@@ -110,22 +110,22 @@ impl<K, V, const PREFIX_LEN: usize> AnyInner<K, V, PREFIX_LEN> {
         with_node!(self, node => node.remove_child(key_fragment))
     }
 
+    pub(crate) fn iter(&self) -> ChildIter<'_, K, V, PREFIX_LEN>
+        ensures { result ≡ (inner_of self.now).children }
+    {
+        with_node!(self, node => node.iter())
+    }
+
     pub(crate) fn min(&self) -> Option<(u8, OpaqueNodePtr<K, V, PREFIX_LEN>)>
         ensures { result ≡ first_pair (inner_of self.now).children }
     {
-        if self.num_children() == 0 {
-            return None;
-        }
-        Some(with_node!(self, node => node.min()))
+        self.iter().next()
     }
 
     pub(crate) fn max(&self) -> Option<(u8, OpaqueNodePtr<K, V, PREFIX_LEN>)>
         ensures { result ≡ last_pair (inner_of self.now).children }
     {
-        if self.num_children() == 0 {
-            return None;
-        }
-        Some(with_node!(self, node => node.max()))
+        self.iter().next_back()
     }
 
     /// The pairs within the bounds, which have to be valid, in a vector.
