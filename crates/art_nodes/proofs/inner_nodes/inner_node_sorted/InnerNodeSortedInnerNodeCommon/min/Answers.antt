@@ -10,3 +10,6 @@ returns-clause-pair g c =
 
 pub bounds-deref-0 : goal.bounds-deref-0
 bounds-deref-0 g c = rw c.deref.ensures.0 (some_bytes _ _ c.self.inside.header _ c.self.invariant.beside c.self.view_is c.requires)
+
+pub bounds-deref-0-2 : goal.bounds-deref-0-2
+bounds-deref-0-2 g c = rw (c.deref-2.ensures.0, c.self.invariant.beside) (some_bytes _ _ c.self.inside.header _ c.self.invariant.beside c.self.view_is c.requires)
