@@ -10,13 +10,13 @@ use std::ops::RangeInclusive;
 /// The kinds are ordered as they are listed.
 #[derive(Clone, Copy, Debug, PartialEq, Eq, PartialOrd, Ord, Hash)]
 pub enum NodeType {
-    /// Holds 2 to 4 children.
+    /// Holds at most 4 children; 2 to 4 in a tree.
     Node4,
-    /// Holds 5 to 16 children.
+    /// Holds at most 16 children; 5 to 16 in a tree.
     Node16,
-    /// Holds 17 to 48 children.
+    /// Holds at most 48 children; 17 to 48 in a tree.
     Node48,
-    /// Holds 49 to 256 children.
+    /// Holds at most 256 children; 49 to 256 in a tree.
     Node256,
     /// Holds a key and a value.
     Leaf,
