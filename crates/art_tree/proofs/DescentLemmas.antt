@@ -1,10 +1,11 @@
 -- A step is right for every prefix that the node may have.
-use Rattle.std.proofs.Common.{◌≡◌, ◌∙◌, inl, inr, ℕ, zero, suc, ◌+◌, ◌-◌, ◌<◌, ◌≤◌, Bool, true, false, ◌||◌, nat_eq, nat_lt, List, [], ◌∷◌, ◌++◌, length, length-append, length-take, length-drop, take, drop, Option, Some, None, IfSome, IfNone, Result, Ok, Err, slice_get, get_or, refl, sym, ap, subst, arith, append_assoc}
+use Rattle.std.proofs.Common.{◌≡◌, ◌∙◌, inl, inr, ℕ, zero, suc, ◌+◌, ◌-◌, ◌<◌, ◌≤◌, Bool, true, false, ◌||◌, nat_eq, nat_lt, List, [], ◌∷◌, ◌++◌, length, length-append, length-take, length-drop, take, drop, Option, Some, None, IfSome, IfNone, Result, Ok, Err, IfOk, slice_get, get_or, refl, sym, ap, subst, arith, append_assoc}
+use Rattle.std.specs.Result.{result_ok}
 use Rattle.std.specs.List.{starts_with, common_prefix_len}
 use Rattle.std.proofs.lemmas.Bool.{cases_lt, and_from, and_parts, or_left, or_right, le-leb, le-ltb, lt-ltb}
 use Rattle.std.proofs.lemmas.Bool.Decides.{eqb_tells}
 use Rattle.std.proofs.lemmas.List.{append-nil, nil_from_length, take_rest}
-use Rattle.std.proofs.lemmas.Option.{slice_get_within, slice_get-get_or}
+use Rattle.std.proofs.lemmas.Option.{same_Some, slice_get_within, slice_get-get_or}
 use Rattle.std.proofs.Math.Seq.{drop-append_seam}
 use Rattle.art_bytes.specs.Text.{IsFront}
 use Rattle.art_nodes.specs.ChildMap.{child_at}
@@ -140,30 +141,47 @@ module _ {H : Type 0} (room : ℕ) (node : Inner H) (key : List ℕ) (depth : �
         let inside = slice_get_within (drop depth key) (length prefix) byte (goes-byte room prefix byte (drop depth key) goes) in
         absurd (omega (arith, past, whole, is_prefix.0, inside, length-drop depth key))
 
-    at-place : depth + matched.matched_bytes < length key → slice_get key (depth + matched.matched_bytes) ≡ Some (get_or key (depth + matched.matched_bytes) 0)
-    at-place inside = slice_get-get_or key (depth + matched.matched_bytes) 0 inside
+    module _ (byte : ℕ) (at_place : slice_get key (depth + matched.matched_bytes) ≡ Some byte) where
+      pub step-childless : child_at node.children byte ≡ None → LeadsNowhere room node key depth
+      step-childless none = λ prefix other is_prefix goes.
+          let there : slice_get key (depth + length prefix) ≡ Some other = sym (slice_get-drop key depth (length prefix)) ∙ goes-byte room prefix other (drop depth key) goes in
+          let same_place : depth + matched.matched_bytes ≡ depth + length prefix = omega (arith, whole, is_prefix.0) in
+          let one : Some byte ≡ Some other = sym at_place ∙ ap (slice_get key) same_place ∙ there in
+          let same : byte ≡ other = cc in
+          subst (λ b. child_at node.children b ≡ None) same none
 
-    pub step-childless : depth + matched.matched_bytes < length key → child_at node.children (get_or key (depth + matched.matched_bytes) 0) ≡ None → LeadsNowhere room node key depth
-    step-childless inside none = λ prefix byte is_prefix goes.
-        let there : slice_get key (depth + length prefix) ≡ Some byte = sym (slice_get-drop key depth (length prefix)) ∙ goes-byte room prefix byte (drop depth key) goes in
-        let same_place : depth + matched.matched_bytes ≡ depth + length prefix = omega (arith, whole, is_prefix.0) in
-        let one : Some (get_or key (depth + matched.matched_bytes) 0) ≡ Some byte = sym (at-place inside) ∙ ap (slice_get key) same_place ∙ there in
-        let same : get_or key (depth + matched.matched_bytes) 0 ≡ byte = cc in
-        subst (λ b. child_at node.children b ≡ None) same none
+      pub step-on : (child : H) → child_at node.children byte ≡ Some child → LeadsOn room node key depth (depth + matched.matched_bytes, child)
+      step-on child has = record {
+        byte = byte;
+        place = ap (λ n. depth + n) whole;
+        at_place = at_place;
+        child = has;
+        goes = λ prefix is_prefix. matched-goes room node (drop depth key) prefix byte is_prefix matched (rest-is (λ r. Ok matched ≡ cheap_match room node.prefix_len node.stored r) is) whole
+            (slice_get-drop key depth node.prefix_len ∙ ap (λ n. slice_get key (depth + n)) (sym whole) ∙ at_place);
+      }
 
-    pub step-on : depth + matched.matched_bytes < length key → (child : H) → child_at node.children (get_or key (depth + matched.matched_bytes) 0) ≡ Some child → LeadsOn room node key depth (depth + matched.matched_bytes, child)
-    step-on inside child has = record {
-      byte = get_or key (depth + matched.matched_bytes) 0;
-      place = ap (λ n. depth + n) whole;
-      at_place = at-place inside;
-      child = has;
-      goes = λ prefix is_prefix. matched-goes room node (drop depth key) prefix (get_or key (depth + matched.matched_bytes) 0) is_prefix matched (rest-is (λ r. Ok matched ≡ cheap_match room node.prefix_len node.stored r) is) whole
-          (slice_get-drop key depth node.prefix_len ∙ ap (λ n. slice_get key (depth + n)) (sym whole) ∙ at-place inside);
-    }
+-- what a match answers, told from whether there is one
+module _ (answer : Result AttemptOptimisticPrefixMatch PessimisticMismatch) where
+  pub from-match : (P : AttemptOptimisticPrefixMatch → Type 0) (matched : AttemptOptimisticPrefixMatch) → result_ok answer ≡ Some matched → IfOk answer P → P matched
+  from-match = by_answer answer
+    where
+      by_answer : (r : Result AttemptOptimisticPrefixMatch PessimisticMismatch) (P : AttemptOptimisticPrefixMatch → Type 0) (matched : AttemptOptimisticPrefixMatch) → result_ok r ≡ Some matched → IfOk r P → P matched
+      by_answer (Ok m) P matched is holds = subst P (same_Some m matched is) holds
+      by_answer (Err e) P matched is holds = absurd (cc)
 
--- what is matched of a rest lies within the key
-pub within-key : (key : List ℕ) (depth matched : ℕ) → depth ≤ length key → matched ≤ length (take (length key - depth) (drop depth key)) → depth + matched ≤ length key
-within-key key depth matched within inside = let short : length (take (length key - depth) (drop depth key)) ≡ length key - depth = simp (length-take, length-drop) (omega arith) in omega (arith, within, inside, short)
+  pub is-match : (matched : AttemptOptimisticPrefixMatch) → result_ok answer ≡ Some matched → Is (Ok matched) answer
+  is-match = by_answer answer
+    where
+      by_answer : (r : Result AttemptOptimisticPrefixMatch PessimisticMismatch) (matched : AttemptOptimisticPrefixMatch) → result_ok r ≡ Some matched → Is (Ok matched) r
+      by_answer (Ok m) matched is = ap Ok (sym (same_Some m matched is))
+      by_answer (Err e) matched is = absurd (cc)
+
+  pub is-mismatch : result_ok answer ≡ None → (mismatch : PessimisticMismatch) × Is (Err mismatch) answer
+  is-mismatch = by_answer answer
+    where
+      by_answer : (r : Result AttemptOptimisticPrefixMatch PessimisticMismatch) → result_ok r ≡ None → (mismatch : PessimisticMismatch) × Is (Err mismatch) r
+      by_answer (Ok m) none = absurd (cc)
+      by_answer (Err e) none = (e, refl)
 
 -- what a node alone tells, told from where it is held
 module _ {H L : Type 0} (room : ℕ) (at : Held H L) (node : Inner H) (key : List ℕ) (depth : ℕ) (here : at ≡ HeldInner node) where

@@ -12,7 +12,7 @@ use art_arena::{AnyRef, ArenaReader, NodeRef};
 use art_bytes::AsBytes;
 use art_nodes::{InnerNodeCommon, LeafNode, NodePtr, OpaqueNodePtr};
 
-// The place in the key of the byte that leads on from the node, and the child under that byte.
+// The index in the key of the byte that leads on from the node, and the child under that byte.
 fn step<K, V, const PREFIX_LEN: usize, N: InnerNodeCommon<K, V, PREFIX_LEN>>(
     node: &N,
     key: &[u8],
@@ -20,18 +20,14 @@ fn step<K, V, const PREFIX_LEN: usize, N: InnerNodeCommon<K, V, PREFIX_LEN>>(
 ) -> Option<(usize, OpaqueNodePtr<K, V, PREFIX_LEN>)>
     requires { depth ≤ length key.now }
     ensures on { IfSome result (LeadsOn PREFIX_LEN (N.inner node.now) key.now depth) }
-    ensures within { IfSome result (λ (place, child). place < length key.now) }
+    ensures within { IfSome result (λ (index, child). index < length key.now) }
     ensures nowhere { IfNone result (LeadsNowhere PREFIX_LEN (N.inner node.now) key.now depth) }
 {
-    let Ok(matched) = node.attempt_pessimistic_match_prefix(&key[depth..]) else {
-        return None;
-    };
-    let place = depth + matched.matched_bytes;
-    if place >= key.len() {
-        return None;
-    }
-    let child = node.lookup_child(key[place])?;
-    Some((place, child))
+    let matched = node.attempt_pessimistic_match_prefix(&key[depth..]).ok()?;
+    let index = depth + matched.matched_bytes;
+    let byte = *key.get(index)?;
+    let child = node.lookup_child(byte)?;
+    Some((index, child))
 }
 
 // The same for a node of any kind. No child of a leaf has the key.
@@ -42,7 +38,7 @@ fn next_child<K, V, const PREFIX_LEN: usize>(
 ) -> Option<(usize, OpaqueNodePtr<K, V, PREFIX_LEN>)>
     requires { depth ≤ length key.now }
     ensures on { IfSome result (LeadsOnFrom PREFIX_LEN (shown node.entry) key.now depth) }
-    ensures within { IfSome result (λ (place, child). place < length key.now) }
+    ensures within { IfSome result (λ (index, child). index < length key.now) }
     ensures nowhere { IfNone result (LeadsNowhereFrom PREFIX_LEN (shown node.entry) key.now depth) }
 {
     match node {
@@ -110,11 +106,9 @@ pub fn find_leaf<K: AsBytes, V, const PREFIX_LEN: usize>(
                 None
             };
         }
-        let Some((place, child)) = next_child(node, key, depth) else {
-            return None;
-        };
-        search.visit_inner_node(at, key[place]);
-        depth = place + 1;
+        let (index, child) = next_child(node, key, depth)?;
+        search.visit_inner_node(at, key[index]);
+        depth = index + 1;
         at = child;
     }
 }

@@ -89,13 +89,13 @@ returns-else-matches_full_key g c =
       held = tt;
     }
 
-pub returns-in_default-next_child : goal.returns-in_default-next_child
-returns-in_default-next_child g c =
+pub returns-in_err-index : goal.returns-in_err-index
+returns-in_err-index g c =
     let text = g.K.AsBytes.text in
     let arena = c.args.reader.now.arena in
     let t = told arena c.way.reader.arena c.args.key.now c.way.at c.way.depth c.next_child.result c.way.invariant.same_arena c.look-node.result c.look-node.ensures.node c.in_default.not-LeafNode c.next_child.ensures.on c.next_child.ensures.nowhere in
-    let nowhere = told-nowhere _ _ _ _ _ t c.in_default-next_child.is in
-    record {
+    let nowhere = told-nowhere _ _ _ _ _ t c.in_err-index.was in
+    rw c.from_residual.ensures (record {
       answer = λ tree is. here-nowhere-scan text arena tree c.args.key.now c.way.at c.way.depth c.way.search _ _ (c.way.invariant.here tree is) t.node t.is nowhere;
       path = λ tree is. tt;
       leads = tt;
@@ -110,20 +110,20 @@ returns-in_default-next_child g c =
       looks_of_found = λ tree is. tt;
       same_arena = c.look-node.ensures.same_arena ∙ c.way.invariant.same_arena;
       held = tt;
-    }
+    })
 
 pub way-preserved : goal.way-preserved
 way-preserved g c =
     let text = g.K.AsBytes.text in
     let arena = c.args.reader.now.arena in
     let t = told arena c.way.reader.arena c.args.key.now c.way.at c.way.depth c.next_child.result c.way.invariant.same_arena c.look-node.result c.look-node.ensures.node c.in_default.not-LeafNode c.next_child.ensures.on c.next_child.ensures.nowhere in
-    let next : ℕ × PointerTo g.row.K.Denot g.row.V.Denot g.row.PREFIX_LEN = (c.in-Some.place, c.in-Some.child) in
-    let later = told-later _ _ _ _ _ t next c.in-Some.is in
+    let next : ℕ × PointerTo g.row.K.Denot g.row.V.Denot g.row.PREFIX_LEN = (c.in_ok-index.index, c.in_ok-index.child) in
+    let later = told-later _ _ _ _ _ t next c.in_ok-index.was in
     record {
-      within = omega (arith, c.in-Some.ensures.within);
+      within = omega (arith, c.in_ok-index.ensures.within);
       looks = omega (arith, later, c.look-node.ensures.counted, c.way.invariant.looks);
       same_arena = c.look-node.ensures.same_arena ∙ c.way.invariant.same_arena;
-      here = λ tree is. here-on text arena tree c.args.key.now c.way.at c.way.depth c.way.search _ _ (c.way.invariant.here tree is) t.node t.is next (told-on _ _ _ _ _ t next c.in-Some.is) c.visit_inner_node.new.self
-          (λ steps byte there stands. subst (λ b. HasVisited c.visit_inner_node.new.self (steps ++ (c.way.at, b) ∷ [])) (get_or_from_slice_get c.args.key.now c.in-Some.place byte 0 there) (c.visit_inner_node.ensures steps stands))
+      here = λ tree is. here-on text arena tree c.args.key.now c.way.at c.way.depth c.way.search _ _ (c.way.invariant.here tree is) t.node t.is next (told-on _ _ _ _ _ t next c.in_ok-index.was) c.visit_inner_node.new.self
+          (λ steps byte there stands. subst (λ b. HasVisited c.visit_inner_node.new.self (steps ++ (c.way.at, b) ∷ [])) (get_or_from_slice_get c.args.key.now c.in_ok-index.index byte 0 there) (c.visit_inner_node.ensures steps stands))
           c.look-node.new.self.budget c.look-node.ensures.counted;
     }
