@@ -79,9 +79,8 @@ pub(crate) fn refusal_of<K: AsBytes, V>(entries: &[(K, V)]) -> Option<LoadRefusa
         return Some(LoadRefusal::Empty);
     }
     for index in 0..entries.len() {
-        let fault = fault_of(entries, index);
-        if fault.is_some() {
-            return fault;
+        if let Some(refusal) = fault_of(entries, index) {
+            return Some(refusal);
         }
     }
     None

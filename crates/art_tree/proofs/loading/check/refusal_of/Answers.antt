@@ -1,4 +1,4 @@
-use Rattle.std.proofs.Common.{arith}
+use Rattle.std.proofs.Common.{◌∙◌, Some, arith, sym}
 use Rattle.std.proofs.lemmas.List.{length-map}
 use Rattle.art_tree.proofs.RefusalLemmas.{not-none, first-fault}
 use Rattle.art_tree.proofs.loading.check.refusal_of.Goals as goal
@@ -11,5 +11,5 @@ returns-clause-no_fault g c =
 pub returns-clause-keys : goal.returns-clause-keys
 returns-clause-keys g c = λ i other within. c.loop-index.invariant.keys i other (omega (arith, within, c.loop-index-test.false))
 
-pub returns-then-is_some-clause-refused : goal.returns-then-is_some-clause-refused
-returns-then-is_some-clause-refused g c = search first-fault
+pub returns-in-Some-clause-refused : goal.returns-in-Some-clause-refused
+returns-in-Some-clause-refused g c = first-fault g.K.AsBytes.text c.args.entries.now c.loop-index.index (Some c.in-Some.refusal) (sym c.in-Some.is ∙ c.fault_of.ensures.fault) c.loop-index-test.true c.loop-index.invariant.no_fault
