@@ -1,11 +1,11 @@
 -- A step is right for every prefix that the node may have.
-use Rattle.std.proofs.Common.{◌≡◌, ◌∙◌, inl, inr, ℕ, zero, suc, ◌+◌, ◌-◌, ◌<◌, ◌≤◌, Bool, true, false, ◌||◌, nat_eq, nat_lt, List, [], ◌∷◌, ◌++◌, length, length-append, length-take, length-drop, take, drop, Option, Some, None, IfSome, IfNone, Result, Ok, Err, IfOk, slice_get, get_or, refl, sym, ap, subst, arith, append_assoc}
+use Rattle.std.proofs.Common.{◌≡◌, ◌∙◌, inl, inr, ℕ, zero, suc, ◌+◌, ◌-◌, ◌≤◌, Bool, true, false, ◌||◌, nat_eq, nat_lt, List, [], ◌∷◌, ◌++◌, length, length-append, take, drop, Option, Some, None, IfSome, IfNone, Result, Ok, Err, IfOk, slice_get, refl, sym, ap, subst, arith, append_assoc}
 use Rattle.std.specs.Result.{result_ok}
 use Rattle.std.specs.List.{starts_with, common_prefix_len}
 use Rattle.std.proofs.lemmas.Bool.{cases_lt, and_from, and_parts, or_left, or_right, le-leb, le-ltb, lt-ltb}
 use Rattle.std.proofs.lemmas.Bool.Decides.{eqb_tells}
 use Rattle.std.proofs.lemmas.List.{append-nil, nil_from_length, take_rest}
-use Rattle.std.proofs.lemmas.Option.{same_Some, slice_get_within, slice_get-get_or}
+use Rattle.std.proofs.lemmas.Option.{same_Some, slice_get_within}
 use Rattle.std.proofs.Math.Seq.{drop-append_seam}
 use Rattle.art_bytes.specs.Text.{IsFront}
 use Rattle.art_nodes.specs.ChildMap.{child_at}
@@ -136,11 +136,6 @@ module _ {H : Type 0} (room : ℕ) (node : Inner H) (key : List ℕ) (depth : �
   step-mismatched mismatch is = λ prefix byte is_prefix goes. absurd (mismatched-nowhere room node (drop depth key) prefix byte is_prefix mismatch (rest-is (λ r. Err mismatch ≡ cheap_match room node.prefix_len node.stored r) is) goes)
 
   module _ (matched : AttemptOptimisticPrefixMatch) (is : Ok matched ≡ cheap_match room node.prefix_len node.stored (take (length key - depth) (drop depth key))) (whole : matched.matched_bytes ≡ node.prefix_len) where
-    pub step-past : length key ≤ depth + matched.matched_bytes → LeadsNowhere room node key depth
-    step-past past = λ prefix byte is_prefix goes.
-        let inside = slice_get_within (drop depth key) (length prefix) byte (goes-byte room prefix byte (drop depth key) goes) in
-        absurd (omega (arith, past, whole, is_prefix.0, inside, length-drop depth key))
-
     module _ (byte : ℕ) (at_place : slice_get key (depth + matched.matched_bytes) ≡ Some byte) where
       pub step-childless : child_at node.children byte ≡ None → LeadsNowhere room node key depth
       step-childless none = λ prefix other is_prefix goes.

@@ -18,7 +18,7 @@ returns-in_err-child-clause-nowhere g c =
     let matched = c.in_ok-matched.matched in
     let there = sym c.ok.ensures.value ∙ c.in_ok-matched.was in
     let at = c.in_ok-byte.ensures.lookup in
-    let at_index = slice_get-get_or c.args.key.now (c.args.depth + matched.matched_bytes) c.in_ok-byte.field-0.now (omega (arith, at.0)) ∙ ap Some (sym at.1) in
+    let at_index = slice_get-get_or c.args.key.now (c.args.depth + matched.matched_bytes) c.in_ok-byte.field-0.now (omega arith) ∙ ap Some (sym at.1) in
     where_none c.from_residual-in_err-child.result (step-childless _ _ _ _ c.requires matched (is-match answer.result matched there ∙ answer.ensures.matched) (from-match answer.result _ matched there answer.ensures.whole) _ at_index (sym c.lookup_child.ensures.child ∙ c.in_err-child.was))
 
 pub returns-clause-on : goal.returns-clause-on
@@ -27,5 +27,5 @@ returns-clause-on g c =
     let matched = c.in_ok-matched.matched in
     let there = sym c.ok.ensures.value ∙ c.in_ok-matched.was in
     let at = c.in_ok-byte.ensures.lookup in
-    let at_index = slice_get-get_or c.args.key.now (c.args.depth + matched.matched_bytes) c.in_ok-byte.field-0.now (omega (arith, at.0)) ∙ ap Some (sym at.1) in
+    let at_index = slice_get-get_or c.args.key.now (c.args.depth + matched.matched_bytes) c.in_ok-byte.field-0.now (omega arith) ∙ ap Some (sym at.1) in
     step-on _ _ _ _ c.requires matched (is-match answer.result matched there ∙ answer.ensures.matched) (from-match answer.result _ matched there answer.ensures.whole) _ at_index c.in_ok-child.child (sym c.lookup_child.ensures.child ∙ c.in_ok-child.was)
