@@ -86,17 +86,6 @@ impl<
     N: InnerNodeCommon<K, V, PREFIX_LEN>,
     S: BuilderState,
 > InnerNodeBuilder<K, V, PREFIX_LEN, N, S> {
-    // The builder of a node with so many children as the state says.
-    fn with_node(node: N) -> Self
-        requires { AreWritten S.Counts (N.inner node).children }
-        ensures { result ≡ node }
-    {
-        InnerNodeBuilder {
-            node,
-            state: PhantomData,
-        }
-    }
-
     /// The node built so far, which may have fewer than two children: its capacity, count and
     /// look-ups tell whether the next write's conditions hold.
     pub fn node(&self) -> &N
@@ -120,7 +109,10 @@ impl<K, V, const PREFIX_LEN: usize, N: InnerNodeCommon<K, V, PREFIX_LEN>> InnerN
         requires fits { prefix_len < 2 ^ 32 }
         ensures { N.inner result ≡ empty_inner (empty_header PREFIX_LEN prefix.now prefix_len) }
     {
-        Self::with_node(N::from_prefix(InThisCrate(()), prefix, prefix_len))
+        InnerNodeBuilder {
+            node: N::from_prefix(InThisCrate(()), prefix, prefix_len),
+            state: PhantomData,
+        }
     }
 
     /// Writes the first child. The node has to have room for it.
@@ -133,7 +125,10 @@ impl<K, V, const PREFIX_LEN: usize, N: InnerNodeCommon<K, V, PREFIX_LEN>> InnerN
         ensures { N.inner result ≡ node_with_child (N.inner self) key_byte first_child }
     {
         self.node.write_child(key_byte, first_child);
-        InnerNodeBuilder::with_node(self.node)
+        InnerNodeBuilder {
+            node: self.node,
+            state: PhantomData,
+        }
     }
 }
 
@@ -156,7 +151,10 @@ impl<K, V, const PREFIX_LEN: usize, N: InnerNodeCommon<K, V, PREFIX_LEN>> InnerN
         ensures { N.inner result ≡ node_with_child (N.inner self) key_byte second_child }
     {
         self.node.write_child(key_byte, second_child);
-        InnerNodeBuilder::with_node(self.node)
+        InnerNodeBuilder {
+            node: self.node,
+            state: PhantomData,
+        }
     }
 }
 
@@ -206,7 +204,10 @@ impl<K, V, const PREFIX_LEN: usize> InnerNodeBuilder<
         ensures { result ≡ node_with_child self key_byte first_child }
     {
         self.node.write_child_unchecked(key_byte, first_child);
-        InnerNodeBuilder::with_node(self.node)
+        InnerNodeBuilder {
+            node: self.node,
+            state: PhantomData,
+        }
     }
 }
 
@@ -229,7 +230,10 @@ impl<K, V, const PREFIX_LEN: usize> InnerNodeBuilder<
         ensures { result ≡ node_with_child self key_byte second_child }
     {
         self.node.write_child_unchecked(key_byte, second_child);
-        InnerNodeBuilder::with_node(self.node)
+        InnerNodeBuilder {
+            node: self.node,
+            state: PhantomData,
+        }
     }
 }
 
