@@ -1,7 +1,6 @@
 //! A builder of inner nodes, which hands out none with fewer than two children.
 ghost use Rattle.std.specs.Prelude.{◌≡◌, ◌≤◌, ◌<◌, ◌^◌, length, All, IsNone};
 ghost use Rattle.art_header.specs.Header.{capped, empty_header};
-ghost use Rattle.art_nodes.specs.Builder.{AreWritten};
 ghost use Rattle.art_nodes.specs.ChildMap.{child_at, key_bytes};
 ghost use Rattle.art_nodes.specs.Inner.{HasRoomFor, empty_inner, node_with_child};
 
