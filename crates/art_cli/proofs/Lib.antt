@@ -1,4 +1,4 @@
-mod Commands
+mod LineCommands
 mod Failures
 mod Numbers
 mod Parts

@@ -1,5 +1,5 @@
 -- What the lines of `replay` say.
-use Rattle.std.specs.Prelude.{◌≡◌, ℕ, ◌^◌, ◌<◌, ◌≤◌, List, All, [], ◌∷◌, ◌⊎◌, Bool, codes, length, get_or}
+use Rattle.std.specs.Prelude.{◌≡◌, ℕ, ◌^◌, ◌<◌, ◌≤◌, List, All, [], ◌∷◌, ◌⊎◌, Bool, codes, length, slice_index_or}
 use Rattle.std.specs.Int.{IsInRange}
 use Rattle.std.specs.Str.Parse.{digits_value}
 use Rattle.std.specs.declared.ops.Bound.{Bound}
@@ -23,9 +23,9 @@ pub record IsNumber (word : List ℕ) (number : ℕ) : Type 0 where
 abbrev pub IsByteNumber : List ℕ → ℕ → Type 0
 IsByteNumber word number = IsNumber word number × (number < 256)
 
--- such a number below 2^32
-abbrev pub IsKey : List ℕ → ℕ → Type 0
-IsKey word number = IsNumber word number × (number < 2 ^ 32)
+-- the number of a leaf, below 2^32
+abbrev pub IsLeafNumber : List ℕ → ℕ → Type 0
+IsLeafNumber word number = IsNumber word number × (number < 2 ^ 32)
 
 -- a bound: `i` and a byte that is included, `e` and one that is excluded, or `u`
 abbrev pub IsBound : List ℕ → Bound ℕ → Type 0
@@ -36,7 +36,7 @@ IsBound word Unbounded = word ≡ 117 ∷ []
 module _ {K V : Type 0} {P : ℕ} where
   -- a command, by the words of its line; a child is the pointer to the leaf under its key
   abbrev pub SayCommand : List (List ℕ) → ChildCommand K V P → Type 0
-  SayCommand words (Write byte child) = (b key : List ℕ) × (words ≡ codes "w" ∷ b ∷ key ∷ []) × IsByteNumber b byte × IsKey key (opaque_key child) × (node_kind child ≡ Leaf)
+  SayCommand words (Write byte child) = (b key : List ℕ) × (words ≡ codes "w" ∷ b ∷ key ∷ []) × IsByteNumber b byte × IsLeafNumber key (opaque_key child) × (node_kind child ≡ Leaf)
   SayCommand words (Remove byte) = (b : List ℕ) × (words ≡ codes "r" ∷ b ∷ []) × IsByteNumber b byte
   SayCommand words (Lookup byte) = (b : List ℕ) × (words ≡ codes "l" ∷ b ∷ []) × IsByteNumber b byte
   SayCommand words Min = words ≡ codes "min" ∷ []
@@ -72,7 +72,7 @@ IsFaultOf words _ = ⊥
 
 -- the line that comes after so many has this fault
 abbrev pub IsFaultAfter : List (List ℕ) → ℕ → LineFault → Type 0
-IsFaultAfter lines count = IsFaultOf (words_of (get_or lines count []))
+IsFaultAfter lines count = IsFaultOf (words_of (slice_index_or lines count []))
 
 module _ {K V : Type 0} {P : ℕ} where
   -- lines and their commands, one a line, up to a line that says none where they are not the whole

@@ -1,5 +1,5 @@
 -- Lines of the input and of the output, of both commands.
-use Rattle.std.specs.Prelude.{◌≡◌, ℕ, ◌==◌, List, Bool, false, IsTrue, [], ◌∷◌, ◌++◌}
+use Rattle.std.specs.Prelude.{◌≡◌, ℕ, ◌==◌, List, Bool, false, IsTrue, [], ◌∷◌, ◌++◌, Option, None, Some}
 use Rattle.std.specs.List.{slice_split}
 
 -- parts but for a last one that is empty
@@ -27,3 +27,13 @@ module _ {C : Type 0} (Say : List ℕ → C → Type 0) where
   SayAll (line ∷ lines) (command ∷ commands) is_whole = Say line command × SayAll lines commands is_whole
   SayAll (line ∷ lines) [] is_whole = (is_whole ≡ false) × ((command : C) → Say line command → ⊥)
   SayAll [] (command ∷ commands) is_whole = ⊥
+
+module _ {C F : Type 0} (Say : List ℕ → C → Type 0) (IsAtFault : List ℕ → F → Type 0) where
+  -- lines say commands, one a line, up to the line that has this fault, if one has one. No public clause cites it
+  abbrev pub SayUntil : List (List ℕ) → List C → Option F → Type 0
+  SayUntil [] [] None = Unit {0}
+  SayUntil [] [] (Some fault) = ⊥
+  SayUntil [] (command ∷ commands) fault = ⊥
+  SayUntil (line ∷ lines) [] None = ⊥
+  SayUntil (line ∷ lines) [] (Some fault) = IsAtFault line fault
+  SayUntil (line ∷ lines) (command ∷ commands) fault = Say line command × SayUntil lines commands fault

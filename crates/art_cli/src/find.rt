@@ -27,11 +27,11 @@ pub fn find_text<'a, const PREFIX_LEN: usize>(
     ensures text { IfOk result (λ text. IsFindOutput PREFIX_LEN input.now (string_bytes text)) }
     ensures refused { IfErr result (IsFindFailure input.now) }
 {
-    let (commands, is_whole) = parse(alloc, input)?;
-    if !is_whole {
-        return Err(Failure::BadLine(commands.len() + 1, LineFault::UnknownCommand));
+    let (commands, fault) = parse(alloc, input)?;
+    match fault {
+        Some(fault) => Err(Failure::BadLine(commands.len() + 1, fault)),
+        None => replies_text(alloc, tree, &commands),
     }
-    replies_text(alloc, tree, &commands)
 }
 
 // What commands print, from no entries on.

@@ -6,6 +6,7 @@
 //! the words and the standard streams.
 #![tactic(auto)]
 
+mod commands;
 mod failure;
 mod find;
 mod lines;

@@ -1,10 +1,11 @@
 //! From the lines of `find` to its commands.
-ghost use Rattle.std.specs.Prelude.{ℕ, List, map, IfOk, IfSome, IfNone};
+ghost use Rattle.std.specs.Prelude.{◌≡◌, map, is_none, IfOk, IfSome};
 ghost use Rattle.art_bytes.specs.SliceKey.{slice_key_text};
 ghost use Rattle.art_cli.specs.Lines.{lines_of, SayAll};
 ghost use Rattle.art_cli.specs.Find.{SayTreeCommand, with_text};
 
-use crate::lines::first_line;
+use crate::commands::{LineCommand, commands_of};
+use crate::failure::LineFault;
 use art_tree::SliceKey;
 use std::alloc::{AllocError, Global};
 
@@ -19,40 +20,41 @@ pub enum TreeCommand<K> {
     Find(K),
 }
 
-/// The commands of the lines up to the first that says none, one a line, and whether they are all.
+/// The commands of the lines up to the first that says none, one a line, and what is wrong with
+/// that one: it is no command.
 ///
 /// A refusal is for want of memory.
 pub fn parse(
     alloc: Global,
     input: &[u8],
-) -> Result<(Vec<TreeCommand<SliceKey<'_>>>, bool), AllocError>
-    ensures { IfOk result (λ parsed. SayAll SayTreeCommand (lines_of input.now)
-        (map (with_text slice_key_text) parsed.0.items) parsed.1) }
+) -> Result<(Vec<TreeCommand<SliceKey<'_>>>, Option<LineFault>), AllocError>
+    ensures said { IfOk result (λ parsed. SayAll SayTreeCommand (lines_of input.now)
+        (map (with_text slice_key_text) parsed.0.items) (is_none parsed.1)) }
+    ensures fault { IfOk result (λ parsed. IfSome parsed.1
+        (λ fault. fault ≡ LineFault.UnknownCommand)) }
 {
-    let mut commands = Vec::new(alloc);
-    let mut rest = input;
-    while !rest.is_empty() {
-        let (line, after) = first_line(rest);
-        let Some(command) = command(line) else {
-            return Ok((commands, false));
-        };
-        commands.push(command)?;
-        rest = after;
-    }
-    Ok((commands, true))
+    commands_of(alloc, input)
 }
 
-// What a line says by its first byte.
-fn command(line: &[u8]) -> Option<TreeCommand<SliceKey<'_>>>
-    ensures said { IfSome result (λ command.
-        SayTreeCommand line.now (with_text slice_key_text command)) }
-    ensures unknown { IfNone result ((command : TreeCommand (List ℕ)) →
-        ¬ SayTreeCommand line.now command) }
-{
-    match line {
-        [b'+', key @ ..] => Some(TreeCommand::Insert(SliceKey::new(key))),
-        [b'-', key @ ..] => Some(TreeCommand::Remove(SliceKey::new(key))),
-        [b'?', key @ ..] => Some(TreeCommand::Find(SliceKey::new(key))),
-        _ => None,
+impl<'a> LineCommand<'a> for TreeCommand<SliceKey<'a>> {
+    ghost use Rattle.std.specs.Prelude.{◌≡◌, ℕ, List};
+    ghost use Rattle.art_bytes.specs.SliceKey.{slice_key_text};
+    ghost use Rattle.art_cli.specs.Find.{SayTreeCommand, with_text};
+    ghost use Rattle.art_cli.specs.declared.find.command.TreeCommand.{TreeCommand};
+    ghost use Rattle.art_cli.specs.declared.failure.LineFault.TheVariants.{UnknownCommand};
+
+    ghost says = { λ line command. SayTreeCommand line (with_text slice_key_text command) };
+
+    ghost is_at_fault = { λ line fault. (fault ≡ UnknownCommand)
+        × ((command : TreeCommand (List ℕ)) → ¬ SayTreeCommand line command) };
+
+    // What a line says by its first byte.
+    fn of_line(line: &'a [u8]) -> Result<TreeCommand<SliceKey<'a>>, LineFault> {
+        match line {
+            [b'+', key @ ..] => Ok(TreeCommand::Insert(SliceKey::new(key))),
+            [b'-', key @ ..] => Ok(TreeCommand::Remove(SliceKey::new(key))),
+            [b'?', key @ ..] => Ok(TreeCommand::Find(SliceKey::new(key))),
+            _ => Err(LineFault::UnknownCommand),
+        }
     }
 }

@@ -1,22 +1,22 @@
 //! From the lines of `replay` to its commands.
-ghost use Rattle.std.specs.Prelude.{◌≡◌, ◌≢◌, ℕ, ◌↔◌, [], ◌∷◌, MatchOption, OnErr, IfErr, All, IsTrue, IfOk, is_none, IfSome, IfNone, length};
+ghost use Rattle.std.specs.Prelude.{◌≡◌, ◌≢◌, ℕ, ◌<◌, ◌≤◌, ◌↔◌, [], ◌∷◌, MatchOption, OnErr, IfErr, All, IsTrue, IfOk, is_none, IfSome, IfNone, length};
 ghost use Rattle.std.specs.Int.{IsInRange};
 ghost use Rattle.std.specs.declared.ops.Bound.{Bound};
 ghost use Rattle.art_cli.specs.Lines.{lines_of, words_of};
-ghost use Rattle.art_cli.specs.Command.{IsNumber, IsByteNumber, IsKey, IsBound, SayCommand, SayCommands, SayNothing};
+ghost use Rattle.art_cli.specs.Command.{IsNumber, IsByteNumber, IsLeafNumber, IsBound, SayCommand, SayCommands, SayNothing};
 ghost use Rattle.art_cli.specs.Command.{IsName, BeginWithName, HaveTheirNumber, IsFaultAfter};
 ghost use Rattle.art_cli.specs.Words.{AreWords};
 
+use crate::commands::{LineCommand, commands_of};
 use crate::failure::LineFault;
-use crate::lines::{end_of_part, first_line};
+use crate::lines::end_of_part;
 use crate::replay::command::{Command, child_of};
 use art_tree::ChildCommand;
 use std::alloc::{AllocError, Global};
 use std::ops::Bound;
 use std::str;
 
-/// The commands of the lines up to the first bad one, one a line, and what is wrong with that
-/// one. A line ends at byte 10, and a last line without one counts where it has a byte.
+/// The commands of the lines up to the first bad one, one a line, and what is wrong with that one.
 ///
 /// A refusal is for want of memory.
 pub fn parse(alloc: Global, input: &[u8]) -> Result<(Vec<Command>, Option<LineFault>), AllocError>
@@ -25,18 +25,21 @@ pub fn parse(alloc: Global, input: &[u8]) -> Result<(Vec<Command>, Option<LineFa
     ensures fault { IfOk result (λ parsed. IfSome parsed.1
         (IsFaultAfter (lines_of input.now) (length parsed.0.items))) }
 {
-    let lines = input.iter().filter(|byte| **byte == b'\n').count() + 1;
-    let mut commands = Vec::with_capacity(alloc, lines)?;
-    let mut rest = input;
-    while !rest.is_empty() {
-        let (line, after) = first_line(rest);
-        match command(line) {
-            Ok(command) => commands.push(command)?,
-            Err(fault) => return Ok((commands, Some(fault))),
-        }
-        rest = after;
+    commands_of(alloc, input)
+}
+
+impl LineCommand<'_> for Command {
+    ghost use Rattle.art_cli.specs.Lines.{words_of};
+    ghost use Rattle.art_cli.specs.Command.{SayCommand, SayNothing, IsFaultOf};
+
+    ghost says = { λ line command. SayCommand (words_of line) command };
+
+    ghost is_at_fault = { λ line fault. SayNothing (words_of line)
+        × IsFaultOf (words_of line) fault };
+
+    fn of_line(line: &[u8]) -> Result<Command, LineFault> {
+        command(line)
     }
-    Ok((commands, None))
 }
 
 // The command of a line, without the byte that ends it.
@@ -57,7 +60,8 @@ fn command(line: &[u8]) -> Result<Command, LineFault>
         Words::Two(b"r", byte) => Ok(ChildCommand::Remove(byte_number(byte)?)),
         Words::Two(b"l", byte) => Ok(ChildCommand::Lookup(byte_number(byte)?)),
         Words::Three(b"w", byte, key) => {
-            Ok(ChildCommand::Write(byte_number(byte)?, child_of(key_number(key)?)))
+            let byte = byte_number(byte)?;
+            Ok(ChildCommand::Write(byte, child_of(number_below(key, 1 << 32)? as u32)))
         }
         Words::Three(b"range", start, end) => Ok(ChildCommand::Range(bound(start)?, bound(end)?)),
         Words::One(name) | Words::Two(name, _) | Words::Three(name, _, _) | Words::More(name) => {
@@ -137,34 +141,26 @@ fn byte_number(word: &[u8]) -> Result<u8, LineFault>
     ensures refused { OnErr result ((n : ℕ) → ¬ (IsByteNumber word.now n)) }
     ensures fault { IfErr result (λ fault. fault ≡ LineFault.BadNumber) }
 {
-    number(word)
-        .and_then(|number| u8::try_from(number).ok())
-        .ok_or(LineFault::BadNumber)
+    Ok(number_below(word, 256)? as u8)
 }
 
-fn key_number(word: &[u8]) -> Result<u32, LineFault>
-    ensures said { IfOk result (IsKey word.now) }
-    ensures refused { OnErr result ((n : ℕ) → ¬ (IsKey word.now n)) }
+// The number below a bound that one to ten decimal digits give.
+#[tactic(auto, using(crate::proofs::Numbers::number_is_text, crate::proofs::Numbers::refused_number))]
+fn number_below(word: &[u8], bound: u64) -> Result<u64, LineFault>
+    ensures said { IfOk result (λ n. IsNumber word.now n × (n < bound)) }
+    ensures refused { OnErr result ((n : ℕ) → IsNumber word.now n → bound ≤ n) }
     ensures fault { IfErr result (λ fault. fault ≡ LineFault.BadNumber) }
 {
-    number(word)
-        .and_then(|number| u32::try_from(number).ok())
-        .ok_or(LineFault::BadNumber)
-}
-
-// The number that one to ten decimal digits give.
-#[tactic(auto, using(crate::proofs::Numbers::number_is_text, crate::proofs::Numbers::refused_number))]
-fn number(word: &[u8]) -> Option<u64>
-    ensures value { IfSome result (λ n. IsNumber word.now n) }
-    ensures none { IfNone result ((n : ℕ) → ¬ (IsNumber word.now n)) }
-{
     if word.is_empty() || word.len() > 10 || !are_digits(word) {
-        return None;
+        return Err(LineFault::BadNumber);
     }
     let Ok(digits) = str::from_utf8(word) else {
-        return None;
+        return Err(LineFault::BadNumber);
     };
-    digits.parse().ok()
+    match digits.parse() {
+        Ok(number) if number < bound => Ok(number),
+        _ => Err(LineFault::BadNumber),
+    }
 }
 
 fn are_digits(word: &[u8]) -> bool
