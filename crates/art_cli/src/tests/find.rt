@@ -1,6 +1,6 @@
 //! Runs of `artnodes find`.
 use super::{ANSWERS, SEARCHES, check, outcome};
-use std::alloc::Global;
+use std::alloc::{AllocError, Global};
 use std::process::Abort;
 use std::test::Fail;
 
@@ -75,20 +75,147 @@ fn queries_and_removals_are_answered(rt: HostRuntime) -> Result<(), Fail> {
     Ok(())
 }
 
-// Each of many entries is there until it is removed.
+// Puts in the line of this command, with a key of two parts.
+fn ask(input: &mut Vec<u8>, command: u8, front: &[u8], end: &[u8]) -> Result<(), AllocError> {
+    input.push(command)?;
+    input.extend_from_slice(front)?;
+    input.extend_from_slice(end)?;
+    input.push(b'\n')?;
+    Ok(())
+}
+
+const FRONT: &[u8] = b"forty bytes that begin all of these keys";
+
+// Takes out both entries under this byte, and asks for what is left of them and for one more.
+fn ask_for_pair(input: &mut Vec<u8>, byte: u8) -> Result<(), AllocError> {
+    ask(input, b'-', FRONT, &[byte, b'a'])?;
+    ask(input, b'?', FRONT, &[byte, b'b'])?;
+    ask(input, b'-', FRONT, &[byte, b'b'])?;
+    ask(input, b'?', FRONT, &[byte, b'a'])?;
+    ask(input, b'?', FRONT, b"za")
+}
+
+// The node under a prefix grows to 75 children, nodes of two, and shrinks to none.
 #[test]
 fn many_entries_are_entered_and_removed(rt: HostRuntime) -> Result<(), Fail> {
     let mut input = Vec::new(rt.alloc());
     let mut output = String::new(rt.alloc());
     for byte in b'0'..=b'z' {
-        input.extend_from_slice(&[b'+', byte, b'a', b'\n', b'+', byte, b'b', b'\n'])?;
+        ask(&mut input, b'+', FRONT, &[byte, b'a'])?;
+        ask(&mut input, b'+', FRONT, &[byte, b'b'])?;
     }
-    for byte in b'0'..=b'z' {
-        input.extend_from_slice(&[b'-', byte, b'a', b'\n', b'?', byte, b'a', b'\n'])?;
-        let number = 2 * usize::from(byte - b'0');
-        writeln!(output, "removed {number}\nnone reads 2")?;
+    for byte in b'0'..=b'x' {
+        ask_for_pair(&mut input, byte)?;
+        let first = 2 * usize::from(byte - b'0');
+        let second = first + 1;
+        writeln!(
+            output,
+            "removed {first}\nfound {second} child {byte} reads 2"
+        )?;
+        writeln!(output, "removed {second}\nnone reads 1")?;
+        output.push_str("found 148 normal 122 97 reads 3\n")?;
     }
-    finds(&rt, rt.alloc(), &["2"], &input, output.as_str())
+    ask_for_pair(&mut input, b'y')?;
+    output.push_str("removed 146\nfound 147 child 121 reads 2\nremoved 147\n")?;
+    output.push_str("none reads 2\nfound 148 child 97 reads 2\n")?;
+    ask_for_pair(&mut input, b'z')?;
+    output.push_str("removed 148\nfound 149 root reads 1\nremoved 149\n")?;
+    output.push_str("none reads 0\nnone reads 0\n")?;
+    finds(&rt, rt.alloc(), ALL, &input, output.as_str())
+}
+
+// The lines of this command for 400 keys of 300 bytes.
+fn ask_for_long_keys(input: &mut Vec<u8>, command: u8) -> Result<(), AllocError> {
+    for high in b'a'..=b't' {
+        for low in b'a'..=b't' {
+            ask(input, command, &[high; 200], &[low; 100])?;
+        }
+    }
+    Ok(())
+}
+
+#[test]
+fn entries_with_long_keys_are_entered_and_removed(rt: HostRuntime) -> Result<(), Fail> {
+    let mut input = Vec::new(rt.alloc());
+    let mut output = String::new(rt.alloc());
+    for command in *b"+?-?" {
+        ask_for_long_keys(&mut input, command)?;
+    }
+    for high in b'a'..=b't' {
+        for low in b'a'..=b't' {
+            let number = 20 * usize::from(high - b'a') + usize::from(low - b'a');
+            writeln!(output, "found {number} normal {high} {low} reads 3")?;
+        }
+    }
+    for number in 0..400 {
+        writeln!(output, "removed {number}")?;
+    }
+    for _ in 0..400 {
+        output.push_str("none reads 0\n")?;
+    }
+    finds(&rt, rt.alloc(), ALL, &input, output.as_str())
+}
+
+// Puts in the line of this command, with the key that is so many times `a`, and `b`.
+fn ask_at(input: &mut Vec<u8>, command: u8, level: u8) -> Result<(), AllocError> {
+    input.push(command)?;
+    for _ in 0..level {
+        input.push(b'a')?;
+    }
+    input.extend_from_slice(b"b\n")
+}
+
+// The levels in a mixed order, and the number of the entry with that key.
+fn level_at(place: u8) -> u8 {
+    (77 * usize::from(place) % 200) as u8
+}
+
+fn number_at(level: u8) -> usize {
+    13 * usize::from(level) % 200 + 1
+}
+
+// The answers to the removal of that key, from the last one, and to a query for the longest.
+fn tell_removal(output: &mut String, level: u8) -> Result<(), AllocError> {
+    let number = number_at(level);
+    let path = match level {
+        0 => "root",
+        1 => "child 97",
+        _ => "normal 97 97",
+    };
+    writeln!(
+        output,
+        "removed {number}\nfound 0 {path} reads {}",
+        usize::from(level) + 1
+    )
+}
+
+// Keys that each begin like the longer ones, but for the last byte.
+#[test]
+fn entries_nested_200_deep_are_entered_and_removed(rt: HostRuntime) -> Result<(), Fail> {
+    let longest = &[b'a'; 200];
+    let mut input = Vec::new(rt.alloc());
+    let mut output = String::new(rt.alloc());
+    ask(&mut input, b'+', longest, b"")?;
+    for place in 0..200 {
+        ask_at(&mut input, b'+', level_at(place))?;
+    }
+    for level in 0..200 {
+        ask_at(&mut input, b'?', level)?;
+        let path = if level == 0 { "child" } else { "normal 97" };
+        let number = number_at(level);
+        writeln!(
+            output,
+            "found {number} {path} 98 reads {}",
+            usize::from(level) + 2
+        )?;
+    }
+    for shorter in 0..200 {
+        let level = 199 - shorter;
+        ask_at(&mut input, b'-', level)?;
+        ask(&mut input, b'?', longest, b"")?;
+        tell_removal(&mut output, level)?;
+    }
+    finds(&rt, rt.alloc(), ALL, &input, output.as_str())
 }
 
 #[test]
