@@ -1,5 +1,6 @@
 -- Tables of places that a set of bytes fills, and the children in a part of one.
 use Rattle.std.proofs.Common.{◌≡◌, ◌≢◌, ℕ, zero, suc, ◌+◌, ◌-◌, ◌<◌, ◌≤◌, Bool, true, false, if◌then◌else◌, List, [], ◌∷◌, ◌++◌, length, get_or, set, take, drop, Option, Some, None, slice_get, replicate, refl, sym, ◌∙◌, ap, arith, inl, inr}
+use Rattle.std.specs.Option.{is_some}
 use Rattle.std.proofs.lemmas.List.{length-set, get_or-set_same, get_or-set_other, get_or-replicate, length-replicate, ext_get_or, get_or-drop, length-drop, drop_more, take_all}
 use Rattle.std.proofs.lemmas.Bool.{cases_lt}
 use Rattle.std.proofs.lemmas.Option.{slice_get-get_or}
@@ -38,6 +39,19 @@ module _ {H : Type 0} where
 
   pub marked-empty : (is_marked : ℕ → Bool) (children : List H) (place : ℕ) → is_marked place ≡ false → get_or (marked_places is_marked 0 children) place None ≡ None
   marked-empty is_marked children place unmarked = marked-at is_marked children place ∙ ap (λ b. if b then slice_get children place else None) unmarked
+
+  is_some-if : (b : Bool) (child : H) → b ≡ is_some (if b then Some child else None)
+  is_some-if true child = refl
+  is_some-if false child = refl
+
+  filled-from : (is_marked : ℕ → Bool) (byte : ℕ) (children : List H) (place at : ℕ) → at ≡ byte + place → place < length children → is_marked at ≡ is_some (get_or (marked_places is_marked byte children) place None)
+  filled-from is_marked byte [] place at is within = absurd (omega arith)
+  filled-from is_marked byte (child ∷ children) zero at is within = let same : at ≡ byte = omega arith in ap is_marked same ∙ is_some-if (is_marked byte) child
+  filled-from is_marked byte (child ∷ children) (suc place) at is within = filled-from is_marked (suc byte) children place at (omega arith) (omega arith)
+
+  -- a place has a child exactly where it is marked
+  pub filled-marked : (is_marked : ℕ → Bool) (children : List H) (place : ℕ) → place < length children → is_marked place ≡ is_some (get_or (marked_places is_marked 0 children) place None)
+  filled-marked is_marked children place within = filled-from is_marked 0 children place place (omega arith) within
 
   -- nothing is marked in a table without children
   pub marked-none : (is_marked : ℕ → Bool) (children : List H) → ((byte : ℕ) → is_marked byte ≡ false) → marked_places is_marked 0 children ≡ replicate (length children) None

@@ -1,4 +1,4 @@
--- Sets of bytes, as words of 64 bits. No public clause cites these words.
+-- Sets of bytes, as words of 64 bits. A public clause cites `has_byte` alone.
 use Rattle.std.specs.Prelude.{◌≡◌, ℕ, ◌<◌, ◌≤◌, ◌/◌, ◌%◌, ◌==◌, Bool, false, if◌then◌else◌, List, [], ◌∷◌, suc, slice_index_or, Option, Some, None}
 use Rattle.std.specs.Int.{bit_at}
 

@@ -27,10 +27,12 @@ fn has_children_at_borders(rt: &impl Abort) {
     has_range(rt, &node, Excluded(63), Included(128), &AT_BORDERS[1..4]);
     has_range(rt, &node, Included(193), Unbounded, &[]);
     has_range(rt, &node, Unbounded, Excluded(64), &AT_BORDERS[..1]);
+    assert!(rt; node.filled_words() == [1 << 63, (1 << 63) + 1, (1 << 63) + 1, 1]);
 
     assert!(rt; node.remove_child(63) == Some(leaf(63)));
     assert!(rt; node.remove_child(192) == Some(leaf(192)));
     assert!(rt; node.remove_child(192) == None);
+    assert!(rt; node.filled_words() == [0, (1 << 63) + 1, (1 << 63) + 1, 0]);
     assert!(rt; node.num_children() == 4);
     assert!(rt; node.min() == (64, leaf(64)));
     assert!(rt; node.max() == (191, leaf(191)));

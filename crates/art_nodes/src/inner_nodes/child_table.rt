@@ -1,5 +1,6 @@
 //! Tables with a place for each byte and a bit that says whether a child stands there.
-ghost use Rattle.std.specs.Prelude.{◌≡◌, ◌≤◌, length, slice_index_or, slice_set, replicate, Some, None};
+ghost use Rattle.std.specs.Prelude.{◌≡◌, ℕ, ◌<◌, ◌≤◌, length, slice_index_or, slice_set, replicate, is_some, Some, None};
+ghost use Rattle.art_nodes.specs.ByteSet.{has_byte};
 ghost use Rattle.art_nodes.specs.ChildMap.{table_children};
 ghost use Rattle.art_nodes.specs.ChildTable.{children_within};
 
@@ -11,7 +12,7 @@ use std::ops::Range;
 /// A place for each byte, some of which have a child.
 #[derive(Drop)]
 pub(crate) struct ChildTable<H> {
-    pub(super) filled: ByteSet,
+    filled: ByteSet,
     // Only the places of filled bytes are read.
     children: [H; 256],
 }
@@ -46,6 +47,14 @@ impl<H: Copy> ChildTable<H> {
             filled: self.filled,
             children: self.children,
         }
+    }
+
+    /// Which places have a child, as the words of their bytes' bits.
+    pub(crate) fn filled_words(&self) -> [u64; 4]
+        ensures { (byte : ℕ) → byte < 256 →
+            has_byte result byte ≡ is_some (slice_index_or self.now byte None) }
+    {
+        self.filled.words
     }
 
     /// The child at the place of the byte, if there is one.

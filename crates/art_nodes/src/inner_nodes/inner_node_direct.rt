@@ -62,7 +62,9 @@ impl<K, V, const PREFIX_LEN: usize> Node<PREFIX_LEN> for InnerNodeDirect<K, V, P
 }
 
 impl<K, V, const PREFIX_LEN: usize> InnerNodeDirect<K, V, PREFIX_LEN> {
-    ghost use Rattle.std.specs.Prelude.{◌≡◌};
+    ghost use Rattle.std.specs.Prelude.{◌≡◌, ℕ, ◌<◌, is_some};
+    ghost use Rattle.art_nodes.specs.ByteSet.{has_byte};
+    ghost use Rattle.art_nodes.specs.ChildMap.{child_at};
     ghost use Rattle.art_nodes.specs.Inner.{empty_inner, IsInner};
 
     /// A node with the prefix of this header and no children, whatever the header's count.
@@ -83,6 +85,15 @@ impl<K, V, const PREFIX_LEN: usize> InnerNodeDirect<K, V, PREFIX_LEN> {
         ensures sound { IsInner PREFIX_LEN 256 self.now }
     {
         self.child_pointers.pairs()
+    }
+
+    /// Which bytes have a child, in words of bits: bit `b mod 64` of word `b div 64` is set exactly where
+    /// one stands under the byte `b`. Copied as they are kept, without a look at the children.
+    pub fn filled_words(&self) -> [u64; 4]
+        ensures { (byte : ℕ) → byte < 256 →
+            has_byte result byte ≡ is_some (child_at self.now.children byte) }
+    {
+        self.child_pointers.filled_words()
     }
 
     /// A copy, which takes no memory.
@@ -168,6 +179,3 @@ impl<K, V, const PREFIX_LEN: usize> InnerNodeCommon<K, V, PREFIX_LEN>
         self.child_pointers.pairs().next_back().unwrap()
     }
 }
-
-#[cfg(test)]
-mod tests;
