@@ -14,7 +14,7 @@ use Rattle.art_nodes.specs.declared.leaf_node.LeafNode.{LeafNode}
 use Rattle.art_nodes.proofs.ChildMapLaws.{length_absent}
 use Rattle.art_arena.specs.Arena.{ArenaOf, Changes, Held, HeldInner, HeldLeaf, Nothing, held, held_header, room}
 use Rattle.art_tree.specs.Edits.{HasRoomToGrow, IsMoved}
-use Rattle.art_tree.specs.Taking.{two_children}
+use Rattle.art_tree.specs.Raising.{two_children}
 
 -- the sizes in memory of a pointer to a leaf, of a match and of a spot
 pub leaf-pointer-fits : 8 < 2 ^ 63
@@ -43,8 +43,19 @@ pub few-where-absent : {H : Type 0} (node : Inner H) (byte : ℕ) → byte < 256
 few-where-absent node byte below ascending absent = length_absent node.children byte below ascending (subst IsNone (sym absent) refl)
 
 module _ {K V : Type 0} {P : ℕ} where
+  -- a pointer holds one inner node, or one leaf
   pub one-inner : (h : Held (OpaqueNodePtr K V P) (LeafNode K V P)) (a b : Inner (OpaqueNodePtr K V P)) → h ≡ HeldInner a → h ≡ HeldInner b → a ≡ b
   one-inner h a b first second = cc
+
+  pub one-leaf : (h : Held (OpaqueNodePtr K V P) (LeafNode K V P)) (a b : LeafNode K V P) → h ≡ HeldLeaf a → h ≡ HeldLeaf b → a ≡ b
+  one-leaf h a b first second = cc
+
+  -- and then something
+  pub some-inner : (h : Held (OpaqueNodePtr K V P) (LeafNode K V P)) (a : Inner (OpaqueNodePtr K V P)) → h ≡ HeldInner a → h ≢ Nothing
+  some-inner h a is none = absurd (cc)
+
+  pub some-leaf : (h : Held (OpaqueNodePtr K V P) (LeafNode K V P)) (a : LeafNode K V P) → h ≡ HeldLeaf a → h ≢ Nothing
+  some-leaf h a is none = absurd (cc)
 
   -- the header of an inner node that is held
   pub header-of-held : (h : Held (OpaqueNodePtr K V P) (LeafNode K V P)) (header : Header) (node : Inner (OpaqueNodePtr K V P)) → Some header ≡ held_header h → h ≡ HeldInner node → header ≡ header_of node

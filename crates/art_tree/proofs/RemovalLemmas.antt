@@ -29,7 +29,7 @@ use Rattle.art_tree.specs.declared.path.TreePath.{TreePath}
 use Rattle.art_tree.specs.declared.path.TreePath.TheVariants.{ChildOfRoot, Normal}
 use Rattle.art_tree.proofs.DictionaryLemmas.{AreApart, empty-entry, held-entry, leaf-held-in, leaf-of-entry, scan-in}
 use Rattle.art_tree.proofs.Exchanging.{leaves-plug, stands-part, the-one}
-use Rattle.art_tree.proofs.InsertLemmas.{one-leaf}
+use Rattle.art_tree.proofs.NodeLemmas.{one-leaf}
 use Rattle.art_tree.proofs.Rising.{cases_held, cases_pointer, leaf-of}
 use Rattle.art_tree.proofs.WayContexts.{leaf-child, leaf-normal}
 use Rattle.art_tree.proofs.WayLemmas.{leaf-kind}

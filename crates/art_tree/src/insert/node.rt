@@ -9,9 +9,8 @@ ghost use Rattle.art_nodes.specs.Pointers.{node_kind, slab_key};
 ghost use Rattle.art_arena.specs.Arena.{held, HeldInner, Nothing, room, Changes, SameNodes, SameRoom};
 ghost use Rattle.art_arena.specs.Links.{HoldsLeaf, text_at};
 ghost use Rattle.art_tree.specs.Edits.{HasOneMore, HasRoomToGrow, IsMoved, node_with_prefix};
-ghost use Rattle.art_tree.specs.Raising.{node_of, IsPlaced};
+ghost use Rattle.art_tree.specs.Raising.{node_of, two_children, IsPlaced};
 ghost use Rattle.art_tree.specs.Search.{leaf_pointer};
-ghost use Rattle.art_tree.specs.Taking.{two_children};
 
 use crate::insert::place::Fork;
 use crate::node::{num_children, place_as, replace_node, write_child};
