@@ -1,5 +1,5 @@
 -- The dictionary of an arena that holds one tree.
-use Rattle.std.proofs.Common.{Bor, filter, ◌<◌, ◌^◌, length, ◌≢◌, ◌≡◌, ◌∙◌, ℕ, zero, suc, Bool, true, false, List, [], ◌∷◌, map, get_or, All, AllPairs, Contains, Option, Some, None, slice_index_or, nat_eq, refl, sym, ap, subst, inl, inr, arith, append-nil, ◌++◌, IfSome, IfNone}
+use Rattle.std.proofs.Common.{Bor, filter, ◌<◌, ◌^◌, length, ◌≢◌, ◌≡◌, ◌∙◌, ℕ, zero, suc, Bool, true, false, List, [], ◌∷◌, map, get_or, All, AllPairs, Contains, Option, Some, None, slice_index_or, nat_eq, refl, sym, ap, subst, inl, inr, arith, append-nil, ◌++◌, IfSome}
 use Rattle.std.specs.Cmp.Lexicographic.{pointwise}
 use Rattle.std.specs.Cmp.{nat_cmp_is}
 use Rattle.std.specs.Cmp.Lexicographic.{nat_list_cmp_total}
@@ -388,14 +388,10 @@ module _ {K V : Type 0} {P : ℕ} (text : K → List ℕ) (arena : ArenaOf K V P
             let has = leaf-of-entry text arena root tree alone other entry found in
             subst (λ t. IsWithin end t other) (sym end-held.2 ∙ ap text key-is) (within-end end (leaves tree) (leaf_pointer leaf) at_end ascend has.pointer other has.inside)
 
--- where there is no value nothing is told of one, and what holds anyway is told
+-- where there is no value nothing is told of one
 pub if-some-none : {X : Type 0} (o : Option X) (Q : X → Type 0) → o ≡ None → IfSome o Q
 if-some-none None Q none = tt
 if-some-none (Some x) Q none = absurd (cc)
-
-pub if-none : {X : Type 0} (o : Option X) (Q : Type 0) → Q → IfNone o Q
-if-none None Q holds = holds
-if-none (Some x) Q holds = tt
 
 pub slot-held : {K V : Type 0} {P : ℕ} (arena : ArenaOf K V P) (key : ℕ) (leaf : LeafNode K V P) → leaf_at arena key ≡ Some leaf → held arena (opaque_pointer kinds.Leaf key) ≢ Nothing
 slot-held arena key leaf is none = let wrong : HeldLeaf leaf ≡ Nothing = sym (ap held_leaf is) ∙ none in absurd (cc)

@@ -1,5 +1,5 @@
 -- Inner nodes that take a child more, or another prefix.
-use Rattle.std.proofs.Common.{◌≡◌, ◌≢◌, ◌∙◌, ℕ, ◌<◌, ◌≤◌, ◌^◌, List, [], ◌∷◌, length, Option, Some, None, IsNone, IfSome, lit<, refl, sym, ap, subst, arith}
+use Rattle.std.proofs.Common.{◌≡◌, ◌≢◌, ◌∙◌, ℕ, ◌<◌, ◌≤◌, ◌^◌, List, [], ◌∷◌, length, Option, Some, None, IsNone, IfSome, IfNone, lit<, refl, sym, ap, subst, arith}
 use Rattle.std.proofs.lemmas.Bool.{le-ltb, lt-ltb}
 use Rattle.std.proofs.lemmas.Option.{same_Some}
 use Rattle.std.specs.Option.{option_map, option_map_or}
@@ -47,6 +47,11 @@ few-where-absent node byte below ascending absent = length_absent node.children 
 pub if-some : {X : Type 0} (o : Option X) (Q : X → Type 0) (x : X) → o ≡ Some x → IfSome o Q → Q x
 if-some None Q x is holds = absurd (cc)
 if-some (Some y) Q x is holds = subst Q (same_Some y x is) holds
+
+-- what always holds, holds where there is none
+pub if-none : {X : Type 0} (o : Option X) (Q : Type 0) → Q → IfNone o Q
+if-none None Q holds = holds
+if-none (Some x) Q holds = tt
 
 module _ {K V : Type 0} {P : ℕ} where
   -- a pointer holds one inner node, or one leaf
