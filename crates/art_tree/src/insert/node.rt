@@ -59,7 +59,9 @@ pub(crate) fn reserve_growth<K, V, const PREFIX_LEN: usize>(
     arena.reserve(grown, 1)
 }
 
-// The same node of the next kind with a child more.
+// The same node of the next kind with a child more. Kept out of its caller, whose stack would have the
+// nodes of each kind several times.
+#[inline(never)]
 fn with_child_more<const PREFIX_LEN: usize, N: InnerNode<PREFIX_LEN>>(
     node: &N,
     byte: u8,
