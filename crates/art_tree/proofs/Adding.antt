@@ -1,21 +1,19 @@
 -- A leaf more in a tree: what the steps of an insert leave.
-use Rattle.std.proofs.Common.{◌≡◌, ◌≢◌, ◌⊎◌, ◌∙◌, ℕ, ◌<◌, ◌^◌, ◌==◌, Bool, true, false, if◌then◌else◌, List, [], ◌∷◌, ◌++◌, length, map, All, Contains, Option, Some, None, refl, sym, ap, subst, inl, inr, arith, append_assoc}
-use Rattle.std.proofs.lemmas.Bool.Decides.{nat_tests}
+use Rattle.std.proofs.Common.{◌≡◌, ◌≢◌, ◌⊎◌, ◌∙◌, ℕ, ◌<◌, ◌^◌, List, [], ◌∷◌, ◌++◌, length, map, All, Contains, Some, refl, sym, ap, subst, inl, inr, arith, append_assoc}
 use Rattle.std.proofs.lemmas.List.{map-append}
-use Rattle.std.proofs.lemmas.List.Elements.{All-append, All-cons, Contains-append_cases}
+use Rattle.std.proofs.lemmas.List.Elements.{All-append, All-cons}
 use Rattle.art_bytes.specs.Text.{IsFront}
 use Rattle.art_header.specs.declared.node_type.NodeType.TheVariants as kinds
-use Rattle.art_nodes.specs.ChildMap.{ChildMap, child_at}
 use Rattle.art_nodes.specs.Inner as nodes
 use Rattle.art_nodes.specs.Pointers.{opaque_key, opaque_pointer}
 use Rattle.art_nodes.specs.declared.pointers.OpaqueNodePtr.{OpaqueNodePtr}
 use Rattle.art_nodes.specs.declared.leaf_node.LeafNode.{LeafNode}
-use Rattle.art_arena.specs.Arena.{ArenaOf, Held, HeldInner, HeldLeaf, Nothing, held, held_leaf, SameNodes}
-use Rattle.art_arena.specs.Links.{AreDistinct, Spells, SpellsAfter, leaf_at}
+use Rattle.art_arena.specs.Arena.{ArenaOf, HeldInner, HeldLeaf, Nothing, held, held_leaf, SameNodes}
+use Rattle.art_arena.specs.Links.{AreDistinct, Spells, leaf_at}
 use Rattle.art_arena.specs.Standing.{NodeStands, StandsIn, AllStandIn}
-use Rattle.art_arena.specs.Trees.{Tree, Leaf, Inner, Branches, NoBranch, Branch, leaves, branch_leaves, texts, branch_texts, places, branch_places, branch_roots, root_of}
+use Rattle.art_arena.specs.Trees.{Tree, Leaf, Branches, Branch, leaves, branch_leaves, texts, branch_texts, places, root_of}
 use Rattle.art_tree.specs.Art.{IsAlone}
-use Rattle.art_tree.specs.Contexts.{Context, Whole, Under, plug, path_to, leaves_before, leaves_after, parent, Adopts, KeepsAt, IsExchanged}
+use Rattle.art_tree.specs.Contexts.{Context, plug, path_to, leaves_before, leaves_after, parent, KeepsAt, IsExchanged}
 use Rattle.art_tree.specs.Dictionary.{entry_at}
 use Rattle.art_tree.specs.Edits.{HoldsEntry, StaysAt}
 use Rattle.art_tree.specs.Hanging.{CanHang, IsHung}
@@ -23,90 +21,15 @@ use Rattle.art_tree.specs.Inserting.{IsEntered}
 use Rattle.art_tree.specs.Loading.{IsSnug, leaf_pointers}
 use Rattle.art_tree.specs.Places.{above}
 use Rattle.art_tree.specs.Plan.{join}
-use Rattle.art_tree.specs.Taking.{HasPlace, with_leaf}
-use Rattle.art_tree.proofs.BranchLemmas.{roots-join}
+use Rattle.art_tree.proofs.Changing.{HangsAt, IsAbove, can-hang-at, hangs-at, held-on, keeps-on, leaf-no-parent, parent-above, place-held, root-place, was-leaf}
 use Rattle.art_tree.proofs.DictionaryLemmas.{AreApart, held-entry, leaf-held-in}
-use Rattle.art_tree.proofs.Exchanging.{the-one, in-part, around, stands-part, leaves-plug}
-use Rattle.art_tree.proofs.Growing.{alone-grown, entries-but, entries-stay, leaf-stays, leaf-was, root-under, texts-part}
+use Rattle.art_tree.proofs.Exchanging.{in-part, leaves-plug}
+use Rattle.art_tree.proofs.Growing.{alone-grown, entries-but, entries-stay, leaf-stays, leaf-was, texts-part}
+use Rattle.art_tree.proofs.Linking.{spells-on}
+use Rattle.art_tree.proofs.NodeLemmas.{some-inner, some-leaf}
 use Rattle.art_tree.proofs.OnlyWayLemmas.{All-left, All-right}
 use Rattle.art_tree.proofs.Rising.{cases_pointer, leaf-of, stand-join}
-use Rattle.art_tree.proofs.TakingLemmas.{in-taken, leaves-taken, taken-sound}
-
-module _ {K V : Type 0} {P : ℕ} (text : K → List ℕ) (arena : ArenaOf K V P) where
-  mutual
-    -- the places of a tree that stands hold nodes
-    pub place-held : (tree : Tree (OpaqueNodePtr K V P)) → StandsIn text arena tree → (q : OpaqueNodePtr K V P) → Contains (places tree) q → held arena q ≢ Nothing
-    place-held (Leaf pointer x) (leaf, holds, has) q inside = λ none. let wrong : HeldLeaf leaf ≡ Nothing = sym holds ∙ ap (held arena) (the-one pointer q inside) ∙ none in absurd (cc)
-    place-held (Inner pointer prefix branches) (node, holds, shows, stand) q inside = elim (Contains-append_cases (pointer ∷ []) (branch_places branches) q inside) [
-      | inl here ↦ λ none. let wrong : HeldInner node ≡ Nothing = sym holds ∙ ap (held arena) (the-one pointer q here) ∙ none in absurd (cc)
-      | inr below ↦ branch-place-held branches stand q below
-    ]
-
-    pub branch-place-held : (branches : Branches (OpaqueNodePtr K V P)) → AllStandIn text arena branches → (q : OpaqueNodePtr K V P) → Contains (branch_places branches) q → held arena q ≢ Nothing
-    branch-place-held NoBranch stand q (k, inside, is) = absurd (omega (arith, inside))
-    branch-place-held (Branch byte tree others) (stands, stand) q inside = elim (Contains-append_cases (places tree) (branch_places others) q inside) [
-      | inl here ↦ place-held tree stands q here
-      | inr later ↦ branch-place-held others stand q later
-    ]
-
--- the root of a tree is one of its places
-pub root-place : {H : Type 0} (tree : Tree H) → Contains (places tree) (root_of tree)
-root-place (Leaf pointer x) = (0, omega arith, refl)
-root-place (Inner pointer prefix branches) = (0, omega arith, refl)
-
-module _ {K V : Type 0} {P : ℕ} where
-  -- the parent of a place is an inner node outside of the subtree there
-  pub record IsAbove (text : K → List ℕ) (arena : ArenaOf K V P) (part : Tree (OpaqueNodePtr K V P)) (pointer : OpaqueNodePtr K V P) : Type 0 where
-    pub node : nodes.Inner (OpaqueNodePtr K V P)
-    pub is : held arena pointer ≡ HeldInner node
-    pub outside : Contains (places part) pointer → ⊥
-
-  pub parent-above : (text : K → List ℕ) (arena : ArenaOf K V P) (context : Context (OpaqueNodePtr K V P)) (part : Tree (OpaqueNodePtr K V P)) → StandsIn text arena (plug context part) → AreDistinct (places (plug context part)) → (pointer : OpaqueNodePtr K V P) → parent context ≡ Some pointer → IsAbove text arena part pointer
-  parent-above text arena Whole part stands distinct pointer is = absurd (cc)
-  parent-above text arena (Under higher p prefix before byte after) part stands distinct pointer is =
-      let (node, holds, shows, stand) = stands-part text arena arena higher (Inner p prefix (join before (Branch byte part after))) stands in
-      let same : p ≡ pointer = cc in
-      record {
-        node = node;
-        is = ap (held arena) (sym same) ∙ holds;
-        outside = λ inside. (around (Under higher p prefix before byte after) part p distinct (0, omega arith, refl)).outside (subst (Contains (places part)) (sym same) inside);
-      }
-
-  -- what hanging a node in the place of a subtree leaves
-  pub record HangsAt (old new last : ArenaOf K V P) (context : Context (OpaqueNodePtr K V P)) (top root : OpaqueNodePtr K V P) (part : Tree (OpaqueNodePtr K V P)) : Type 0 where
-    pub adopted : Adopts old last context top
-    pub others : (p : OpaqueNodePtr K V P) → parent context ≢ Some p → held last p ≡ held new p
-    pub at_root : (now : Tree (OpaqueNodePtr K V P)) → root_of now ≡ top → root_of (plug context now) ≡ root
-
-  pub hangs-at : (text : K → List ℕ) (old new last : ArenaOf K V P) (context : Context (OpaqueNodePtr K V P)) (part : Tree (OpaqueNodePtr K V P)) (top root root_now : OpaqueNodePtr K V P) → StandsIn text old (plug context part) → root_of (plug context part) ≡ root
-      → ((p : OpaqueNodePtr K V P) → parent context ≡ Some p → held new p ≡ held old p) → IsHung new last (above context) top root root_now → HangsAt old new last context top root_now part
-  hangs-at text old new last Whole part top root root_now stands at_root kept (same, is) = record { adopted = tt; others = λ p differ. same p; at_root = λ now top_is. top_is ∙ sym is }
-  hangs-at text old new last (Under higher p prefix before byte after) part top root root_now stands at_root kept (is, written) =
-      let (node, holds, shows, stand) = stands-part text old old higher (Inner p prefix (join before (Branch byte part after))) stands in
-      record {
-        adopted = λ own own_is. (written own (kept p refl ∙ own_is)).changed;
-        others = λ q differ. (written node (kept p refl ∙ holds)).others q (λ same. differ (ap Some (sym same)));
-        at_root = λ now top_is. root-under higher p prefix before byte after part now ∙ at_root ∙ sym is;
-      }
-
--- a node hangs where it hung in an arena that keeps the parent
-there-at : {H : Type 0} (xs : ChildMap H) (byte : ℕ) (child : H) (ys : ChildMap H) → child_at (xs ++ (byte, child) ∷ ys) byte ≢ None
-there-at [] byte child ys = by_test (byte == byte) (grind (arith, nat_tests))
-  where
-    by_test : (test : Bool) → test ≡ true → (if test then Some child else child_at ys byte) ≢ None
-    by_test true is = λ none. absurd (cc)
-    by_test false is = absurd (cc)
-there-at (x ∷ xs) byte child ys = by_test (x.0 == byte) (there-at xs byte child ys)
-  where
-    by_test : (test : Bool) → child_at (xs ++ (byte, child) ∷ ys) byte ≢ None → (if test then Some x.1 else child_at (xs ++ (byte, child) ∷ ys) byte) ≢ None
-    by_test true rest = λ none. absurd (cc)
-    by_test false rest = rest
-
-pub can-hang-at : {K V : Type 0} {P : ℕ} (text : K → List ℕ) (old new : ArenaOf K V P) (context : Context (OpaqueNodePtr K V P)) (part : Tree (OpaqueNodePtr K V P)) → StandsIn text old (plug context part) → ((p : OpaqueNodePtr K V P) → parent context ≡ Some p → held new p ≡ held old p) → CanHang new (above context)
-can-hang-at text old new Whole part stands kept = tt
-can-hang-at text old new (Under higher p prefix before byte after) part stands kept =
-    let (node, holds, shows, stand) = stands-part text old old higher (Inner p prefix (join before (Branch byte part after))) stands in
-    (node, kept p refl ∙ holds, subst (λ children. child_at children byte ≢ None) (sym (shows.children ∙ roots-join before (Branch byte part after))) (there-at (branch_roots before) byte (root_of part) (branch_roots after)))
+use Rattle.art_tree.proofs.TakingLemmas.{in-taken, leaves-taken, taken-sound, HasPlace, with_leaf}
 
 -- the leaves of the whole, where those of the part are on both sides of a gap, and with a leaf in the gap
 pub leaves-parted : {H : Type 0} (context : Context H) (part : Tree H) (before after : Branches H) → leaves part ≡ branch_leaves before ++ branch_leaves after → leaves (plug context part) ≡ (leaves_before context ++ branch_leaves before) ++ (branch_leaves after ++ leaves_after context)
@@ -132,21 +55,6 @@ texts-filled P part prefix top before byte leaf x after same each new =
     let filled = ap (map (λ l. l.1)) (leaves-taken prefix top before byte leaf x after) ∙ map-append (λ l. l.1) (branch_leaves before) ((leaf, x) ∷ branch_leaves after) in
     subst (All P) (sym filled) (All-append P left (x ∷ right) (All-left P left right parted) (All-cons P x right new (All-right P left right parted)))
 
-module _ {K V : Type 0} {P : ℕ} where
-  -- a place is free, or it holds an inner node or a leaf
-  pub held-case : (h : Held (OpaqueNodePtr K V P) (LeafNode K V P)) → (h ≡ Nothing) ⊎ (((node : nodes.Inner (OpaqueNodePtr K V P)) × (h ≡ HeldInner node)) ⊎ ((l : LeafNode K V P) × (h ≡ HeldLeaf l)))
-  held-case Nothing = inl refl
-  held-case (HeldInner node) = inr (inl (node, refl))
-  held-case (HeldLeaf l) = inr (inr (l, refl))
-
-  -- what is held stays held
-  pub held-on : (old new : ArenaOf K V P) (p : OpaqueNodePtr K V P) → StaysAt old new p → held old p ≢ Nothing → held new p ≢ Nothing
-  held-on old new p stays was none = elim (held-case (held old p)) [
-    | inl free ↦ was free
-    | inr (inl (node, is)) ↦ (let wrong : HeldInner node ≡ Nothing = sym (stays.keeps.inner node is) ∙ none in absurd (cc))
-    | inr (inr (l, is)) ↦ (let now = stays.keeps.leaf l is in let wrong : HeldLeaf now.0 ≡ Nothing = sym now.1 ∙ none in absurd (cc))
-  ]
-
 -- the steps of an insert: from the first arena to the next a leaf is linked, from there to the third the node at the place is changed, and then a node is hung there
 module _ {K V : Type 0} {P : ℕ} (text : K → List ℕ) (old linked new : ArenaOf K V P) (context : Context (OpaqueNodePtr K V P)) (part : Tree (OpaqueNodePtr K V P)) (root leaf top : OpaqueNodePtr K V P) (key : K) (value : V) where
   pub record AreSteps : Type 0 where
@@ -169,18 +77,19 @@ module _ {K V : Type 0} {P : ℕ} (text : K → List ℕ) (old linked new : Aren
     part-root : held old (root_of part) ≢ Nothing
     part-root = place-held text old (plug context part) steps.stood (root_of part) (in-part context part (root_of part) (root-place part))
 
-    not-parent : (p : OpaqueNodePtr K V P) → Contains (places part) p → parent context ≢ Some p
-    not-parent p inside is = (parent-above text old context part steps.stood steps.distinct p is).outside inside
+    above_it : (p : OpaqueNodePtr K V P) → parent context ≡ Some p → IsAbove text old part p
+    above_it = parent-above text old context part steps.stood steps.distinct
 
-    not-parent-held : (p : OpaqueNodePtr K V P) (l : LeafNode K V P) → held old p ≡ HeldLeaf l → parent context ≢ Some p
-    not-parent-held p l is above_it =
-        let at = parent-above text old context part steps.stood steps.distinct p above_it in
-        let wrong : HeldLeaf l ≡ HeldInner at.node = sym is ∙ at.is in absurd (cc)
+    not-parent : (p : OpaqueNodePtr K V P) → Contains (places part) p → parent context ≢ Some p
+    not-parent p inside is = (above_it p is).outside inside
+
+    parent-held : (p : OpaqueNodePtr K V P) → parent context ≡ Some p → held old p ≢ Nothing
+    parent-held p is = some-inner (held old p) (above_it p is).node (above_it p is).is
 
     parent-kept : (p : OpaqueNodePtr K V P) → parent context ≡ Some p → held new p ≡ held old p
     parent-kept p is =
-        let at = parent-above text old context part steps.stood steps.distinct p is in
-        let was : held old p ≢ Nothing = λ none. (let wrong : HeldInner at.node ≡ Nothing = sym at.is ∙ none in absurd (cc)) in
+        let at = above_it p is in
+        let was = parent-held p is in
         let other : p ≢ root_of part = λ same. at.outside (subst (Contains (places part)) (sym same) (root-place part)) in
         steps.same p (not-top p was other) (λ same. absurd (other same)) ∙ (steps.stays p (not-leaf p was)).keeps.inner at.node at.is ∙ sym at.is
 
@@ -199,37 +108,26 @@ module _ {K V : Type 0} {P : ℕ} (text : K → List ℕ) (old linked new : Aren
       pub last-others : (p : OpaqueNodePtr K V P) → Contains (places part) p → held last p ≡ held new p
       last-others p inside = hangs.others p (not-parent p inside)
 
-      keeps-last : (p : OpaqueNodePtr K V P) → p ≢ leaf → held last p ≡ held linked p → KeepsAt old last p
-      keeps-last p other same =
-          let keeps = (steps.stays p other).keeps in
-          record { inner = λ node is. same ∙ keeps.inner node is; leaf = λ l is. let now = keeps.leaf l is in (now.0, same ∙ now.1, now.2, now.3) }
-
       pub others-kept : (p : OpaqueNodePtr K V P) → held old p ≢ Nothing → p ≢ root_of part → parent context ≢ Some p → KeepsAt old last p
-      others-kept p was other away = keeps-last p (not-leaf p was) (last-same p (not-top p was other) (λ same. absurd (other same)) away)
+      others-kept p was other away = keeps-on old linked last p (steps.stays p (not-leaf p was)) (last-same p (not-top p was other) (λ same. absurd (other same)) away)
 
       pub below-kept : (p : OpaqueNodePtr K V P) → Contains (places part) p → p ≢ root_of part → KeepsAt old last p
       below-kept p inside other = others-kept p (place-held text old (plug context part) steps.stood p (in-part context part p inside)) other (not-parent p inside)
 
-      leaf-there : (p : OpaqueNodePtr K V P) (l : LeafNode K V P) → held old p ≡ HeldLeaf l → held old p ≢ Nothing
-      leaf-there p l is none = let wrong : HeldLeaf l ≡ Nothing = sym is ∙ none in absurd (cc)
-
       leaf-not-top : (p : OpaqueNodePtr K V P) (l : LeafNode K V P) → held old p ≡ HeldLeaf l → p ≢ top
       leaf-not-top p l is same = elim steps.top_was [
         | inl (at, (node, inner)) ↦ (let wrong : HeldLeaf l ≡ HeldInner node = sym is ∙ ap (held old) same ∙ inner in absurd (cc))
-        | inr free ↦ held-on old linked p (steps.stays p (not-leaf p (leaf-there p l is))) (leaf-there p l is) (ap (held linked) same ∙ free)
+        | inr free ↦ held-on old linked p (steps.stays p (not-leaf p (some-leaf (held old p) l is))) (some-leaf (held old p) l is) (ap (held linked) same ∙ free)
       ]
 
       leaf-last-same : (p : OpaqueNodePtr K V P) (l : LeafNode K V P) → held old p ≡ HeldLeaf l → held last p ≡ held linked p
       leaf-last-same p l is =
-          let now = (steps.stays p (not-leaf p (leaf-there p l is))).keeps.leaf l is in last-same p (leaf-not-top p l is) (λ same. (now.0, now.1)) (not-parent-held p l is)
+          let now = (steps.stays p (not-leaf p (some-leaf (held old p) l is))).keeps.leaf l is in last-same p (leaf-not-top p l is) (λ same. (now.0, now.1)) (leaf-no-parent text old context part steps.stood steps.distinct p l is)
 
       pub leaves-kept : (p : OpaqueNodePtr K V P) (l : LeafNode K V P) → held old p ≡ HeldLeaf l → KeepsAt old last p
-      leaves-kept p l is = keeps-last p (not-leaf p (leaf-there p l is)) (leaf-last-same p l is)
+      leaves-kept p l is = keeps-on old linked last p (steps.stays p (not-leaf p (some-leaf (held old p) l is))) (leaf-last-same p l is)
 
       -- the new leaf is held to the end, and so is the changed node
-      parent-held : (p : OpaqueNodePtr K V P) → parent context ≡ Some p → held old p ≢ Nothing
-      parent-held p is none = let at = parent-above text old context part steps.stood steps.distinct p is in let wrong : HeldInner at.node ≡ Nothing = sym at.is ∙ none in absurd (cc)
-
       new-not-top : leaf ≢ top
       new-not-top same = elim steps.top_was [
         | inl at ↦ part-root (ap (held old) (sym at.0 ∙ sym same) ∙ steps.free)
@@ -250,7 +148,7 @@ module _ {K V : Type 0} {P : ℕ} (text : K → List ℕ) (old linked new : Aren
         | inl at ↦ inl at
         | inr other ↦ elim (cases_pointer p leaf) [
           | inl new ↦ inr new
-          | inr differ ↦ absurd (is (last-same p other (λ same. absurd (part-root (ap (held old) (sym same) ∙ free))) (λ above_it. parent-held p above_it free) ∙ (steps.stays p differ).nothing free))
+          | inr differ ↦ absurd (is (last-same p other (λ same. absurd (part-root (ap (held old) (sym same) ∙ free))) (λ is_above. parent-held p is_above free) ∙ (steps.stays p differ).nothing free))
         ]
       ]
 
@@ -260,16 +158,11 @@ module _ {K V : Type 0} {P : ℕ} (text : K → List ℕ) (old linked new : Aren
         | inl same ↦
             let one : HeldLeaf steps.entry.leaf ≡ HeldLeaf l = sym steps.entry.is_held ∙ ap (held linked) (sym same) ∙ ap held_leaf at in
             ap (held last) same ∙ leaf-last ∙ one
-        | inr differ ↦ elim (held-case (held old (opaque_pointer kinds.Leaf k))) [
-          | inl free ↦ absurd (let wrong : HeldLeaf l ≡ Nothing = sym (ap held_leaf at) ∙ (steps.stays (opaque_pointer kinds.Leaf k) differ).nothing free in cc)
-          | inr (inl (node, is)) ↦ absurd (let wrong : HeldLeaf l ≡ HeldInner node = sym (ap held_leaf at) ∙ (steps.stays (opaque_pointer kinds.Leaf k) differ).keeps.inner node is in cc)
-          | inr (inr (was, is)) ↦ leaf-last-same (opaque_pointer kinds.Leaf k) was is ∙ ap held_leaf at
-        ]
+        | inr differ ↦
+            let there : held linked (opaque_pointer kinds.Leaf k) ≡ HeldLeaf l = ap held_leaf at in
+            let (was, is) = was-leaf old linked (opaque_pointer kinds.Leaf k) l (steps.stays (opaque_pointer kinds.Leaf k) differ) there in
+            leaf-last-same (opaque_pointer kinds.Leaf k) was is ∙ there
       ])
-
-      spells-on : (before : Option ℕ) (keys : List ℕ) → SpellsAfter linked before keys → SpellsAfter last before keys
-      spells-on before [] spelled = tt
-      spells-on before (k ∷ keys) ((l, at, previous, next), rest) = ((l, leaf-at-last k l at, previous, next), spells-on (Some k) keys rest)
 
       -- the leaf has its place in the tree
       module _ (prefix : List ℕ) (before after : Branches (OpaqueNodePtr K V P)) (byte : ℕ) where
@@ -328,7 +221,7 @@ module _ {K V : Type 0} {P : ℕ} (text : K → List ℕ) (old linked new : Aren
               (taken-sound (path_to context) prefix top before byte leaf (text key) after has.place has.leads (omega (arith, has.short)))
               has.snug
               (texts-filled (λ x. length x < 2 ^ 32) part prefix top before byte leaf (text key) after has.same_leaves (texts-part (λ x. length x < 2 ^ 32) context part alone.short) has.short)
-              (subst (Spells last) (sym keys-now) (record { distinct = has.spelled.distinct; spelled = spells-on None _ has.spelled.spelled }))
+              (subst (Spells last) (sym keys-now) (spells-on linked last leaf-at-last _ has.spelled))
               (λ p is free. in-taken prefix top before byte leaf (text key) after p (elim (fresh-last p is free) [ inl at ↦ inl at | inr new ↦ inr (inl new) ]))
               has.gone in
               subst (λ r. IsAlone text last r (plug context taken)) (hangs.at_root taken refl) whole

@@ -1,38 +1,40 @@
 -- A leaf more under a node that has no child under its byte.
-use Rattle.std.proofs.Common.{◌≡◌, ◌≢◌, ◌∙◌, ℕ, ◌+◌, ◌<◌, ◌^◌, List, [], ◌∷◌, ◌++◌, length, Contains, Some, None, refl, sym, ap, subst, inl, inr}
+use Rattle.std.proofs.Common.{◌≡◌, ◌≢◌, ◌∙◌, ℕ, ◌+◌, ◌<◌, ◌^◌, List, [], ◌∷◌, ◌++◌, length, AllPairs, Contains, Some, None, refl, sym, ap, subst, inl, inr, arith}
 use Rattle.std.proofs.lemmas.List.Elements.{All-contains, Contains-append_left, Contains-append_right, Contains-append_cases}
 use Rattle.art_header.specs.NodeType.{kind_for, most_children, grown_kind}
 use Rattle.art_header.specs.declared.node_type.NodeType.{NodeType}
 use Rattle.art_header.specs.declared.node_type.NodeType.TheVariants as kinds
+use Rattle.std.specs.declared.cmp.Ordering.TheVariants.{Less}
 use Rattle.std.specs.declared.ops.Bound.TheVariants.{Excluded, Unbounded}
+use Rattle.art_bytes.specs.Text.{text_order}
 use Rattle.art_nodes.specs.ChildMap.{IsAscending, key_bytes, child_at, with_child, pairs_within}
 use Rattle.art_nodes.specs.Inner as nodes
 use Rattle.art_nodes.specs.Pointers.{node_kind, opaque_key, opaque_pointer}
 use Rattle.art_nodes.specs.declared.pointers.OpaqueNodePtr.{OpaqueNodePtr}
-use Rattle.art_arena.specs.Arena.{ArenaOf, HeldInner, HeldLeaf, Nothing, held, SameOtherRoom}
-use Rattle.art_arena.specs.Links.{AreDistinct, Spells}
+use Rattle.art_arena.specs.Arena.{ArenaOf, HeldInner, HeldLeaf, Nothing, held, SameNodes, SameOtherRoom}
+use Rattle.art_arena.specs.Links.{AreDistinct, Spells, text_at}
 use Rattle.art_arena.specs.Standing.{NodeStands, StandsIn, AllStandIn}
 use Rattle.art_arena.specs.Trees.{Tree, Inner, branch_roots, leaves, branch_leaves, texts, places, branch_places, IsSound}
 use Rattle.art_tree.specs.Art.{IsAlone, IsArt}
 use Rattle.art_tree.specs.Contexts.{Context, plug, path_to, leaves_before, leaves_after, KeepsAt}
-use Rattle.art_tree.specs.Edits.{IsBeside, HoldsEntry, HasOneMore, HasRoomToGrow, StaysAt}
+use Rattle.art_tree.specs.Edits.{HasGap, IsBeside, HoldsEntry, HasOneMore, HasRoomToGrow, LiesBeside, StaysAt}
 use Rattle.art_tree.specs.Hanging.{CanHang, HasPlaceAt, IsHung, StandsBeside}
 use Rattle.art_tree.specs.Inserting.{IsEntered}
 use Rattle.art_tree.specs.Loading.{IsSnug, AreSnug}
 use Rattle.art_tree.specs.Places.{above, LacksChild}
 use Rattle.art_tree.specs.Plan.{join}
-use Rattle.art_tree.specs.Taking.{with_leaf}
 use Rattle.art_arena.specs.declared.ends.End.{End}
 use Rattle.art_tree.specs.declared.insert.place.Spot.{Spot}
 use Rattle.art_tree.proofs.Adding.{AreSteps, HasTaken, added-alone, added-entered, below-kept, can-hang, last-others}
 use Rattle.art_tree.proofs.BranchLemmas.{leaves-join, places-join}
 use Rattle.art_tree.proofs.DictionaryLemmas.{AreApart}
 use Rattle.art_tree.proofs.Exchanging.{the-one, distinct-part, kept-branches, sound-part, snug-part, stands-part}
-use Rattle.art_tree.proofs.Gaps.{beside-key, keys_of, spelled-parts}
-use Rattle.art_tree.proofs.HangLemmas.{inner-kind, one-inner}
-use Rattle.art_tree.proofs.NodeLemmas.{few-where-absent}
+use Rattle.art_tree.proofs.Gaps.{beside-key, gap, keys_of, lies, spelled-parts}
+use Rattle.art_tree.proofs.Growing.{alone-same}
+use Rattle.art_tree.proofs.HangLemmas.{inner-kind}
+use Rattle.art_tree.proofs.NodeLemmas.{few-where-absent, one-inner}
 use Rattle.art_tree.proofs.Rising.{snug-split, stand-split}
-use Rattle.art_tree.proofs.TakingLemmas.{HasChildPlace, child-place, in-taken, kind-grows, kind-stays, snug-taken}
+use Rattle.art_tree.proofs.TakingLemmas.{HasChildPlace, child-place, in-taken, kind-grows, kind-stays, snug-taken, with_leaf}
 
 -- the next kind of an inner node is no leaf's
 grown-inner : (kind : NodeType) → kind ≢ kinds.Leaf → grown_kind kind ≢ kinds.Leaf
@@ -42,18 +44,33 @@ grown-inner kinds.Node48 inner = λ e. cc
 grown-inner kinds.Node256 inner = λ e. cc
 grown-inner kinds.Leaf inner = absurd (inner refl)
 
-module _ {K V : Type 0} {P : ℕ} (text : K → List ℕ) (old : ArenaOf K V P) (root : OpaqueNodePtr K V P) (tree : Tree (OpaqueNodePtr K V P)) (spot : Spot K V P) (byte : ℕ) (key : K) (value : V) (alone : IsAlone text old root tree) (lacks : LacksChild tree (text key) spot byte) (fits : byte < 256) where
+-- an inner node of a tree that is alone in an arena has no child under a key's next byte
+pub record ChildSpot {K V : Type 0} {P : ℕ} (text : K → List ℕ) (arena : ArenaOf K V P) (root : OpaqueNodePtr K V P) (spot : Spot K V P) (byte : ℕ) (key : K) : Type 0 where
+  pub tree : Tree (OpaqueNodePtr K V P)
+  pub alone : IsAlone text arena root tree
+  pub lacks : LacksChild tree (text key) spot byte
+  pub fits : byte < 256
+
+-- also once room was made in the arena
+pub child-reserved : {K V : Type 0} {P : ℕ} {text : K → List ℕ} (old reserved : ArenaOf K V P) {root : OpaqueNodePtr K V P} {spot : Spot K V P} {byte : ℕ} {key : K} → (tree : Tree (OpaqueNodePtr K V P)) × IsAlone text old root tree × LacksChild tree (text key) spot byte → SameNodes old reserved
+    → byte < 256 → ChildSpot text reserved root spot byte key
+child-reserved {text = text} old reserved {root = root} (tree, alone, lacks) same fits = record { tree = tree; alone = alone-same text old reserved same root tree alone; lacks = lacks; fits = fits }
+
+module _ {K V : Type 0} {P : ℕ} {text : K → List ℕ} {old : ArenaOf K V P} {root : OpaqueNodePtr K V P} {spot : Spot K V P} {byte : ℕ} {key : K} (child_spot : ChildSpot text old root spot byte key) where
+  abbrev lacks : LacksChild child_spot.tree (text key) spot byte
+  lacks = child_spot.lacks
+
   abbrev pub around_it : Context (OpaqueNodePtr K V P)
   around_it = lacks.at.context
 
   abbrev pub node_there : Tree (OpaqueNodePtr K V P)
   node_there = Inner spot.node lacks.prefix lacks.branches
 
-  pub whole-there : plug around_it node_there ≡ tree
+  whole-there : plug around_it node_there ≡ child_spot.tree
   whole-there = ap (plug around_it) (sym lacks.part) ∙ lacks.at.whole
 
   pub alone-there : IsAlone text old root (plug around_it node_there)
-  alone-there = subst (IsAlone text old root) (sym whole-there) alone
+  alone-there = subst (IsAlone text old root) (sym whole-there) child_spot.alone
 
   pub stands-there : StandsIn text old node_there
   stands-there = stands-part text old old around_it node_there alone-there.is_tree.stands
@@ -65,7 +82,7 @@ module _ {K V : Type 0} {P : ℕ} (text : K → List ℕ) (old : ArenaOf K V P) 
   snug-there = snug-part around_it node_there alone-there.snug
 
   pub gap-there : HasChildPlace (path_to around_it) lacks.prefix lacks.branches byte
-  gap-there = child-place (path_to around_it) lacks.prefix spot.node lacks.branches byte sound-there fits lacks.absent
+  gap-there = child-place (path_to around_it) lacks.prefix spot.node lacks.branches byte sound-there child_spot.fits lacks.absent
 
   abbrev pub place-there : HasPlaceAt text old spot.node byte
   place-there = record {
@@ -80,6 +97,14 @@ module _ {K V : Type 0} {P : ℕ} (text : K → List ℕ) (old : ArenaOf K V P) 
 
   pub leaves-there : leaves node_there ≡ branch_leaves gap-there.before ++ branch_leaves gap-there.after
   leaves-there = ap branch_leaves (sym gap-there.same) ∙ leaves-join gap-there.before gap-there.after
+
+  -- the leaf beside the gap
+  module _ (end : End) (sibling : ℕ) (beside : StandsBeside end (branch_leaves gap-there.before) (branch_leaves gap-there.after) (opaque_pointer kinds.Leaf sibling)) where
+    pub child-gap : HasGap old end sibling
+    child-gap = gap text old root around_it node_there gap-there.before gap-there.after alone-there leaves-there end sibling beside
+
+    pub child-lies : length (text key) < 2 ^ 32 → ((path : List ℕ) (t : Tree (OpaqueNodePtr K V P)) → IsSound path t → AllPairs (λ a b. text_order a b ≡ Less) (texts t)) → LiesBeside end (text key) (text_at text old sibling)
+    child-lies short ascend = lies text old root around_it node_there gap-there.before gap-there.after alone-there leaves-there end sibling beside lacks.prefix byte (text key) gap-there.place lacks.leads (omega (arith, short)) ascend
 
   abbrev pub node-is : nodes.Inner (OpaqueNodePtr K V P)
   node-is = stands-there.0
@@ -116,7 +141,7 @@ module _ {K V : Type 0} {P : ℕ} (text : K → List ℕ) (old : ArenaOf K V P) 
         subst (λ n. 0 < n) (sym (others (grown_kind (node_kind spot.node)) (grown-inner (node_kind spot.node) there-inner))) was
 
     -- the leaf is a child of the node, which may be at another place
-    module _ (new : ArenaOf K V P) (top : OpaqueNodePtr K V P) (entry : HoldsEntry linked leaf key value) (distinct : AreDistinct (places (plug around_it node_there))) (more : HasOneMore linked new spot.node node-is (nodes.node_with_child node-is byte leaf) top) where
+    module _ (new : ArenaOf K V P) (top : OpaqueNodePtr K V P) (value : V) (entry : HoldsEntry linked leaf key value) (distinct : AreDistinct (places (plug around_it node_there))) (more : HasOneMore linked new spot.node node-is (nodes.node_with_child node-is byte leaf) top) where
       pub child-steps : AreSteps text old linked new around_it node_there root leaf top key value
       child-steps = record {
         stood = alone-there.is_tree.stands;
@@ -142,7 +167,7 @@ module _ {K V : Type 0} {P : ℕ} (text : K → List ℕ) (old : ArenaOf K V P) 
       top-kind =
           let n = length node-is.children in
           let kind : node_kind spot.node ≡ kind_for n = snug-there.0 ∙ ap (λ children. kind_for (length children)) (sym shown-there.children) in
-          let few = few-where-absent node-is byte fits (subst (λ children. IsAscending (key_bytes children)) (sym shown-there.children) sound-there.1) (ap (λ children. child_at children byte) shown-there.children ∙ lacks.absent) in
+          let few = few-where-absent node-is byte child_spot.fits (subst (λ children. IsAscending (key_bytes children)) (sym shown-there.children) sound-there.1) (ap (λ children. child_at children byte) shown-there.children ∙ lacks.absent) in
           elim more [
             | inl written ↦ ap node_kind written.same ∙ kind ∙ sym (kind-stays n (subst (λ k. n < most_children k) kind written.few)) ∙ ap (λ m. kind_for (m + 1)) count
             | inr moved ↦ moved.replaced.kind ∙ ap grown_kind kind ∙ sym (kind-grows n (moved.full ∙ ap most_children kind) few) ∙ ap (λ m. kind_for (m + 1)) count
@@ -188,46 +213,58 @@ module _ {K V : Type 0} {P : ℕ} (text : K → List ℕ) (old : ArenaOf K V P) 
 abbrev pub ChildAdded : {K V : Type 0} {P : ℕ} → ArenaOf K V P → ArenaOf K V P → OpaqueNodePtr K V P → ℕ → OpaqueNodePtr K V P → OpaqueNodePtr K V P → Type 0
 ChildAdded linked new pointer byte child top = (node : nodes.Inner (OpaqueNodePtr _ _ _)) → held linked pointer ≡ HeldInner node → HasOneMore linked new pointer node (nodes.node_with_child node byte child) top
 
-module _ {K V : Type 0} {P : ℕ} (text : K → List ℕ) (old : ArenaOf K V P) (root : OpaqueNodePtr K V P) (tree : Tree (OpaqueNodePtr K V P)) (spot : Spot K V P) (byte : ℕ) (key : K) (value : V) (alone : IsAlone text old root tree) (lacks : LacksChild tree (text key) spot byte) (fits : byte < 256)
-    (linked : ArenaOf K V P) (leaf : OpaqueNodePtr K V P) (free : held old leaf ≡ Nothing) (stays : (p : OpaqueNodePtr K V P) → p ≢ leaf → StaysAt old linked p) (new : ArenaOf K V P) (top : OpaqueNodePtr K V P) (entry : HoldsEntry linked leaf key value)
+module _ {K V : Type 0} {P : ℕ} {text : K → List ℕ} {old : ArenaOf K V P} {root : OpaqueNodePtr K V P} {spot : Spot K V P} {byte : ℕ} {key : K} (child_spot : ChildSpot text old root spot byte key)
+    (linked : ArenaOf K V P) (leaf : OpaqueNodePtr K V P) (free : held old leaf ≡ Nothing) (stays : (p : OpaqueNodePtr K V P) → p ≢ leaf → StaysAt old linked p) (new : ArenaOf K V P) (top : OpaqueNodePtr K V P) (value : V) (entry : HoldsEntry linked leaf key value)
     (one_place : (arena : ArenaOf K V P) (path : List ℕ) (t : Tree (OpaqueNodePtr K V P)) → StandsIn text arena t → IsSound path t → AreDistinct (places t)) (added : ChildAdded linked new spot.node byte leaf top) where
-  whole-alone : IsAlone text old root (plug lacks.at.context (Inner spot.node lacks.prefix lacks.branches))
-  whole-alone = alone-there text old root tree spot byte key value alone lacks fits
+  abbrev context : Context (OpaqueNodePtr K V P)
+  context = around_it child_spot
 
-  distinct-there : AreDistinct (places (plug lacks.at.context (Inner spot.node lacks.prefix lacks.branches)))
-  distinct-there = one_place old [] (plug lacks.at.context (Inner spot.node lacks.prefix lacks.branches)) whole-alone.is_tree.stands whole-alone.is_tree.sound
+  abbrev part : Tree (OpaqueNodePtr K V P)
+  part = node_there child_spot
 
-  abbrev steps-there : AreSteps text old linked new lacks.at.context (Inner spot.node lacks.prefix lacks.branches) root leaf top key value
-  steps-there = child-steps text old root tree spot byte key value alone lacks fits linked leaf free stays new top entry distinct-there (added _ (is-linked text old root tree spot byte key value alone lacks fits linked leaf free stays))
+  abbrev prefix : List ℕ
+  prefix = child_spot.lacks.prefix
+
+  abbrev there : HasChildPlace (path_to context) prefix child_spot.lacks.branches byte
+  there = gap-there child_spot
+
+  whole-alone : IsAlone text old root (plug context part)
+  whole-alone = alone-there child_spot
+
+  distinct-there : AreDistinct (places (plug context part))
+  distinct-there = one_place old [] (plug context part) whole-alone.is_tree.stands whole-alone.is_tree.sound
+
+  more-there : HasOneMore linked new spot.node (node-is child_spot) (nodes.node_with_child (node-is child_spot) byte leaf) top
+  more-there = added (node-is child_spot) (is-linked child_spot linked leaf free stays)
+
+  abbrev steps-there : AreSteps text old linked new context part root leaf top key value
+  steps-there = child-steps child_spot linked leaf free stays new top value entry distinct-there more-there
 
   pub child-hangs : CanHang new spot.parent
-  child-hangs = subst (CanHang new) lacks.at.hangs (can-hang text old linked new lacks.at.context (Inner spot.node lacks.prefix lacks.branches) root leaf top key value steps-there)
+  child-hangs = subst (CanHang new) child_spot.lacks.at.hangs (can-hang text old linked new context part root leaf top key value steps-there)
 
-  module _ (last : ArenaOf K V P) (root_now : OpaqueNodePtr K V P) (hung : IsHung new last spot.parent top root root_now) (short : length (text key) < 2 ^ 32) (end : End) (sibling : ℕ)
-      (beside : StandsBeside end (branch_leaves (gap-there text old root tree spot byte key value alone lacks fits).before) (branch_leaves (gap-there text old root tree spot byte key value alone lacks fits).after) (opaque_pointer kinds.Leaf sibling))
+  module _ (last : ArenaOf K V P) (root_now : OpaqueNodePtr K V P) (hung : IsHung new last spot.parent top root root_now) (short : length (text key) < 2 ^ 32) (end : End) (sibling : ℕ) (beside : StandsBeside end (branch_leaves there.before) (branch_leaves there.after) (opaque_pointer kinds.Leaf sibling))
       (spells : (left right : List ℕ) → Spells old (left ++ right) → IsBeside end left right sibling → Spells linked (left ++ opaque_key leaf ∷ right)) where
-    abbrev there : HasChildPlace (path_to lacks.at.context) lacks.prefix lacks.branches byte
-    there = gap-there text old root tree spot byte key value alone lacks fits
+    hung-there : IsHung new last (above context) top root root_now
+    hung-there = subst (λ parent. IsHung new last parent top root root_now) (sym child_spot.lacks.at.hangs) hung
 
-    hung-there : IsHung new last (above lacks.at.context) top root root_now
-    hung-there = subst (λ parent. IsHung new last parent top root root_now) (sym lacks.at.hangs) hung
-
-    spelled-there : Spells linked (keys_of (leaves_before lacks.at.context ++ branch_leaves there.before) ++ opaque_key leaf ∷ keys_of (branch_leaves there.after ++ leaves_after lacks.at.context))
+    spelled-there : Spells linked (keys_of (leaves_before context ++ branch_leaves there.before) ++ opaque_key leaf ∷ keys_of (branch_leaves there.after ++ leaves_after context))
     spelled-there =
-        let same = leaves-there text old root tree spot byte key value alone lacks fits in
-        spells _ _ (spelled-parts text old root lacks.at.context (Inner spot.node lacks.prefix lacks.branches) there.before there.after whole-alone same)
-        (beside-key text old root lacks.at.context (Inner spot.node lacks.prefix lacks.branches) there.before there.after whole-alone same end sibling beside)
+        let same = leaves-there child_spot in
+        spells _ _ (spelled-parts text old root context part there.before there.after whole-alone same) (beside-key text old root context part there.before there.after whole-alone same end sibling beside)
 
-    taken-there : HasTaken text old linked new lacks.at.context (Inner spot.node lacks.prefix lacks.branches) root leaf top key value steps-there last root_now hung-there lacks.prefix there.before there.after byte
-    taken-there = child-taken text old root tree spot byte key value alone lacks fits linked leaf free stays new top entry distinct-there (added _ (is-linked text old root tree spot byte key value alone lacks fits linked leaf free stays)) last root_now hung-there short spelled-there
+    taken-there : HasTaken text old linked new context part root leaf top key value steps-there last root_now hung-there prefix there.before there.after byte
+    taken-there = child-taken child_spot linked leaf free stays new top value entry distinct-there more-there last root_now hung-there short spelled-there
 
-    alone-last : IsAlone text last root_now (plug lacks.at.context (with_leaf top lacks.prefix there.before byte leaf (text key) there.after))
-    alone-last = added-alone text old linked new lacks.at.context (Inner spot.node lacks.prefix lacks.branches) root leaf top key value steps-there last root_now hung-there lacks.prefix there.before there.after byte taken-there whole-alone
+    abbrev whole_now : Tree (OpaqueNodePtr K V P)
+    whole_now = plug context (with_leaf top prefix there.before byte leaf (text key) there.after)
 
-    pub child-art : IsArt text last (Some root_now)
-    child-art = (plug lacks.at.context (with_leaf top lacks.prefix there.before byte leaf (text key) there.after), alone-last)
+    alone-last : IsAlone text last root_now whole_now
+    alone-last = added-alone text old linked new context part root leaf top key value steps-there last root_now hung-there prefix there.before there.after byte taken-there whole-alone
 
-    pub child-entered : ((path : List ℕ) (t : Tree (OpaqueNodePtr K V P)) → IsSound path t → AreApart (texts t)) → IsEntered text old last key value
-    child-entered apart =
-        added-entered text old linked new lacks.at.context (Inner spot.node lacks.prefix lacks.branches) root leaf top key value steps-there last root_now hung-there lacks.prefix there.before there.after byte taken-there whole-alone
-        (apart [] _ whole-alone.is_tree.sound) (apart [] (plug lacks.at.context (with_leaf top lacks.prefix there.before byte leaf (text key) there.after)) alone-last.is_tree.sound)
+    -- the tree has the leaf, and its entries that of the leaf
+    pub child-added : ((path : List ℕ) (t : Tree (OpaqueNodePtr K V P)) → IsSound path t → AreApart (texts t)) → IsArt text last (Some root_now) × IsEntered text old last key value
+    child-added apart = (
+      (whole_now, alone-last),
+      added-entered text old linked new context part root leaf top key value steps-there last root_now hung-there prefix there.before there.after byte taken-there whole-alone (apart [] (plug context part) whole-alone.is_tree.sound) (apart [] whole_now alone-last.is_tree.sound),
+    )

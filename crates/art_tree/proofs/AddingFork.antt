@@ -1,8 +1,9 @@
 -- A leaf more beside a node that its key parts from, under a new node.
-use Rattle.std.proofs.Common.{◌≡◌, ◌≢◌, ◌∙◌, ℕ, ◌+◌, ◌-◌, ◌<◌, ◌≤◌, ◌^◌, Bool, true, false, nat_lt, if◌then◌else◌, List, [], ◌∷◌, ◌++◌, length, length-append, take, drop, All, Contains, Some, refl, sym, ap, subst, inl, inr, arith, append-nil}
+use Rattle.std.proofs.Common.{◌≡◌, ◌≢◌, ◌∙◌, ℕ, ◌+◌, ◌-◌, ◌<◌, ◌≤◌, ◌^◌, Bool, true, false, nat_lt, if◌then◌else◌, List, [], ◌∷◌, ◌++◌, length, length-append, take, drop, All, AllPairs, Contains, Some, refl, sym, ap, subst, inl, inr, arith, append-nil}
 use Rattle.std.proofs.lemmas.Option.{slice_get_within}
 use Rattle.std.proofs.lemmas.List.Elements.{All-contains, Contains-append_right, Contains-append_cases}
-use Rattle.art_bytes.specs.Text.{IsFront}
+use Rattle.std.specs.declared.cmp.Ordering.TheVariants.{Less}
+use Rattle.art_bytes.specs.Text.{IsFront, text_order}
 use Rattle.art_header.specs.Header.{StandsFor, capped}
 use Rattle.art_header.specs.NodeType.{kind_for}
 use Rattle.art_header.specs.declared.node_type.NodeType.TheVariants as kinds
@@ -18,27 +19,27 @@ use Rattle.art_arena.specs.Standing.{NodeStands, StandsIn, AllStandIn, TreeAt}
 use Rattle.art_arena.specs.Trees.{Tree, Leaf, Inner, Branches, NoBranch, Branch, branch_roots, root_of, leaves, branch_leaves, texts, places, branch_places, IsSound, AreSound}
 use Rattle.art_tree.specs.Art.{IsAlone, IsArt}
 use Rattle.art_tree.specs.Contexts.{Context, plug, path_to, leaves_before, leaves_after}
-use Rattle.art_tree.specs.Edits.{HoldsEntry, IsBeside, StaysAt, node_with_prefix}
+use Rattle.art_tree.specs.Edits.{HasGap, HoldsEntry, IsBeside, LiesBeside, StaysAt, node_with_prefix}
 use Rattle.art_arena.specs.Ends.{IsAtEnd}
 use Rattle.art_tree.specs.Hanging.{CanHang, IsHung, StandsBeside}
 use Rattle.art_tree.specs.Inserting.{IsEntered}
 use Rattle.art_tree.specs.Places.{above, Parts}
-use Rattle.art_tree.specs.Plan.{one_branch}
-use Rattle.art_tree.specs.Raising.{IsPlaced, node_of}
-use Rattle.art_tree.specs.Taking.{without_front, with_leaf, branches_left, branches_right, two_children}
+use Rattle.art_tree.specs.Raising.{IsPlaced, node_of, two_children}
 use Rattle.art_arena.specs.declared.ends.End.{End}
 use Rattle.art_arena.specs.declared.ends.End.TheVariants.{First, Last}
 use Rattle.art_tree.specs.declared.insert.place.Fork.{Fork}
 use Rattle.art_tree.specs.declared.insert.place.Spot.{Spot}
-use Rattle.art_tree.proofs.Adding.{root-place, AreSteps, HasTaken, added-alone, added-entered, below-kept, can-hang, last-others, leaves-kept, place-held}
-use Rattle.art_tree.proofs.BranchLemmas.{leaves-join}
-use Rattle.art_tree.proofs.DictionaryLemmas.{AreApart, leaf-held-in}
+use Rattle.art_tree.proofs.Adding.{AreSteps, HasTaken, added-alone, added-entered, below-kept, can-hang, last-others, leaves-kept}
+use Rattle.art_tree.proofs.BranchLemmas.{leaves-join, one_branch}
+use Rattle.art_tree.proofs.Changing.{place-held, root-place}
+use Rattle.art_tree.proofs.DictionaryLemmas.{AreApart, end-in, leaf-held-in}
 use Rattle.art_tree.proofs.Exchanging.{the-one, distinct-part, kept-branches, sound-part, snug-part, stands-part}
 use Rattle.art_tree.proofs.FrontLemmas.{front-shorter}
-use Rattle.art_tree.proofs.Gaps.{beside-key, keys_of, spelled-parts}
-use Rattle.art_tree.proofs.HangLemmas.{one-inner}
+use Rattle.art_tree.proofs.Gaps.{beside-key, gap, keys_of, lies, spelled-parts}
+use Rattle.art_tree.proofs.Growing.{alone-same}
+use Rattle.art_tree.proofs.NodeLemmas.{one-inner}
 use Rattle.art_tree.proofs.Rising.{cases_pointer, text-held}
-use Rattle.art_tree.proofs.TakingLemmas.{HasForkPlace, fork-place, in-taken, leaves-sides, leaves-trimmed, places-sides, places-trimmed, snug-sides, snug-taken, snug-trimmed, both-sides}
+use Rattle.art_tree.proofs.TakingLemmas.{HasForkPlace, fork-place, in-taken, leaves-sides, leaves-trimmed, places-sides, places-trimmed, snug-sides, snug-taken, snug-trimmed, both-sides, without_front, with_leaf, branches_left, branches_right}
 use Rattle.art_tree.proofs.WayLemmas.{leaf-kind}
 
 module _ {H : Type 0} where
@@ -57,7 +58,7 @@ module _ {H : Type 0} where
     ]
 
   -- the leaf at the end of a tree on whose side a byte lies stands beside the gap there
-  pub beside-tree : (byte other len : ℕ) (part : Tree H) (end : End) (p : H) → end ≡ (if nat_lt byte other then First else Last) → IsAtEnd end (leaves part) p
+  beside-tree : (byte other len : ℕ) (part : Tree H) (end : End) (p : H) → end ≡ (if nat_lt byte other then First else Last) → IsAtEnd end (leaves part) p
       → StandsBeside end (branch_leaves (branches_left byte other (without_front len part))) (branch_leaves (branches_right byte other (without_front len part))) p
   beside-tree byte other len part end p is at_end = by_test (nat_lt byte other) refl
     where
@@ -74,7 +75,23 @@ module _ {H : Type 0} where
           let (x, others, at) = subst (λ e. IsAtEnd e (leaves part) p) last at_end in
           subst (λ e. StandsBeside e (branch_leaves (branches_left byte other (without_front len part))) (branch_leaves (branches_right byte other (without_front len part))) p) (sym last) (rw upto (x, (others, alone ∙ at)))
 
-module _ {K V : Type 0} {P : ℕ} (text : K → List ℕ) (old : ArenaOf K V P) (root : OpaqueNodePtr K V P) (tree : Tree (OpaqueNodePtr K V P)) (spot : Spot K V P) (fork : Fork) (key : K) (value : V) (alone : IsAlone text old root tree) (parts : Parts tree (text key) spot fork) (fits : fork.byte < 256) (node_fits : fork.node_byte < 256) where
+-- a key parts from the texts at a spot of a tree that is alone in an arena
+pub record ForkPlace {K V : Type 0} {P : ℕ} (text : K → List ℕ) (arena : ArenaOf K V P) (root : OpaqueNodePtr K V P) (spot : Spot K V P) (fork : Fork) (key : K) : Type 0 where
+  pub tree : Tree (OpaqueNodePtr K V P)
+  pub alone : IsAlone text arena root tree
+  pub parts : Parts tree (text key) spot fork
+  pub fits : fork.byte < 256
+  pub node_fits : fork.node_byte < 256
+
+-- also once room was made in the arena
+pub fork-reserved : {K V : Type 0} {P : ℕ} {text : K → List ℕ} (old reserved : ArenaOf K V P) {root : OpaqueNodePtr K V P} {spot : Spot K V P} {fork : Fork} {key : K} → (tree : Tree (OpaqueNodePtr K V P)) × IsAlone text old root tree × Parts tree (text key) spot fork → SameNodes old reserved
+    → (fork.byte < 256) × (fork.node_byte < 256) → ForkPlace text reserved root spot fork key
+fork-reserved {text = text} old reserved {root = root} (tree, alone, parts) same (fits, node_fits) = record { tree = tree; alone = alone-same text old reserved same root tree alone; parts = parts; fits = fits; node_fits = node_fits }
+
+module _ {K V : Type 0} {P : ℕ} {text : K → List ℕ} {old : ArenaOf K V P} {root : OpaqueNodePtr K V P} {spot : Spot K V P} {fork : Fork} {key : K} (fork_place : ForkPlace text old root spot fork key) where
+  abbrev parts : Parts fork_place.tree (text key) spot fork
+  parts = fork_place.parts
+
   abbrev pub around_it : Context (OpaqueNodePtr K V P)
   around_it = parts.at.context
 
@@ -98,7 +115,7 @@ module _ {K V : Type 0} {P : ℕ} (text : K → List ℕ) (old : ArenaOf K V P) 
   right_there = branches_right fork.byte fork.node_byte trimmed_there
 
   pub alone-there : IsAlone text old root (plug around_it part_there)
-  alone-there = subst (IsAlone text old root) (sym parts.at.whole) alone
+  alone-there = subst (IsAlone text old root) (sym parts.at.whole) fork_place.alone
 
   pub stands-there : StandsIn text old part_there
   stands-there = stands-part text old old around_it part_there alone-there.is_tree.stands
@@ -110,13 +127,25 @@ module _ {K V : Type 0} {P : ℕ} (text : K → List ℕ) (old : ArenaOf K V P) 
   past-there = omega (arith, parts.at.deep, parts.later)
 
   pub fork-there : HasForkPlace (path_to around_it) shared_there (text key) fork.byte fork.node_byte len_there part_there
-  fork-there = fork-place (path_to around_it) part_there (text key) fork.index fork.byte fork.node_byte sound-there parts.at.leads past-there parts.byte fits node_fits parts.differ parts.node
+  fork-there = fork-place (path_to around_it) part_there (text key) fork.index fork.byte fork.node_byte sound-there parts.at.leads past-there parts.byte fork_place.fits fork_place.node_fits parts.differ parts.node
 
   abbrev pub tree-there : TreeAt text old spot.node
   tree-there = record { tree = part_there; path = path_to around_it; at_root = parts.at.at_root; stands = stands-there; sound = sound-there }
 
   pub leaves-there : leaves part_there ≡ branch_leaves left_there ++ branch_leaves right_there
   leaves-there = sym (leaves-trimmed len_there part_there) ∙ sym (leaves-sides fork.byte fork.node_byte trimmed_there) ∙ leaves-join left_there right_there
+
+  -- the leaf on the key's side of the part stands beside the gap for the key
+  module _ (end : End) (sibling : ℕ) (at_end : IsAtEnd end (leaves part_there) (opaque_pointer kinds.Leaf sibling)) (end_is : end ≡ (if nat_lt fork.byte fork.node_byte then First else Last)) where
+    pub beside-there : StandsBeside end (branch_leaves left_there) (branch_leaves right_there) (opaque_pointer kinds.Leaf sibling)
+    beside-there = beside-tree fork.byte fork.node_byte len_there part_there end (opaque_pointer kinds.Leaf sibling) end_is at_end
+
+  module _ (end : End) (sibling : ℕ) (beside : StandsBeside end (branch_leaves left_there) (branch_leaves right_there) (opaque_pointer kinds.Leaf sibling)) where
+    pub gap-there : HasGap old end sibling
+    gap-there = gap text old root around_it part_there left_there right_there alone-there leaves-there end sibling beside
+
+    pub lies-there : length (text key) < 2 ^ 32 → ((path : List ℕ) (t : Tree (OpaqueNodePtr K V P)) → IsSound path t → AllPairs (λ a b. text_order a b ≡ Less) (texts t)) → LiesBeside end (text key) (text_at text old sibling)
+    lies-there short ascend = lies text old root around_it part_there left_there right_there alone-there leaves-there end sibling beside shared_there fork.byte (text key) fork-there.place fork-there.leads (omega (arith, short)) ascend
 
   pub there-held : held old spot.node ≢ Nothing
   there-held = subst (λ p. held old p ≢ Nothing) parts.at.at_root (place-held text old part_there stands-there (root_of part_there) (root-place part_there))
@@ -171,7 +200,13 @@ module _ {K V : Type 0} {P : ℕ} (text : K → List ℕ) (old : ArenaOf K V P) 
         omega (arith, enough, inner.shows.prefix_len, parts.at.deep)
 
     -- a leaf of the part is held on, with its text, which begins with the path and the prefix
-    module _ (sibling : ℕ) (x : List ℕ) (inside : Contains (leaves part_there) (opaque_pointer kinds.Leaf sibling, x)) where
+    module _ (end : End) (sibling : ℕ) (at_end : IsAtEnd end (leaves part_there) (opaque_pointer kinds.Leaf sibling)) where
+      abbrev x : List ℕ
+      x = at_end.0
+
+      inside : Contains (leaves part_there) (opaque_pointer kinds.Leaf sibling, x)
+      inside = end-in end (leaves part_there) (opaque_pointer kinds.Leaf sibling) at_end
+
       sibling-was : (l : LeafNode K V P) × (held old (opaque_pointer kinds.Leaf sibling) ≡ HeldLeaf l) × (text (leaf_key l) ≡ x)
       sibling-was = leaf-held-in text old part_there stands-there (opaque_pointer kinds.Leaf sibling) x inside
 
@@ -241,7 +276,7 @@ module _ {K V : Type 0} {P : ℕ} (text : K → List ℕ) (old : ArenaOf K V P) 
                 }
 
         -- the new node stands over both
-        module _ (new : ArenaOf K V P) (top : OpaqueNodePtr K V P) (entry : HoldsEntry linked leaf key value) (slot : ℕ) (leaf_is : leaf ≡ opaque_pointer kinds.Leaf slot) where
+        module _ (value : V) (entry : HoldsEntry linked leaf key value) (slot : ℕ) (leaf_is : leaf ≡ opaque_pointer kinds.Leaf slot) where
           leaf-apart : leaf ≢ spot.node
           leaf-apart same = there-held (ap (held old) (sym same) ∙ free)
 
@@ -257,7 +292,7 @@ module _ {K V : Type 0} {P : ℕ} (text : K → List ℕ) (old : ArenaOf K V P) 
           pub index-within : fork.index ≤ length (text_at text cut slot)
           index-within = omega (arith, slice_get_within (text key) fork.index fork.byte parts.byte, ap length text-cut)
 
-          module _ (one_place : (arena : ArenaOf K V P) (path : List ℕ) (t : Tree (OpaqueNodePtr K V P)) → StandsIn text arena t → IsSound path t → AreDistinct (places t))
+          module _ (new : ArenaOf K V P) (top : OpaqueNodePtr K V P) (one_place : (arena : ArenaOf K V P) (path : List ℕ) (t : Tree (OpaqueNodePtr K V P)) → StandsIn text arena t → IsSound path t → AreDistinct (places t))
               (placed : IsPlaced cut new kinds.Node4 (node_of P (take (fork.index - spot.depth) (drop spot.depth (text_at text cut slot))) (two_children fork.byte leaf fork.node_byte spot.node)) top) where
             distinct-there : AreDistinct (places (plug around_it part_there))
             distinct-there = one_place old [] (plug around_it part_there) alone-there.is_tree.stands alone-there.is_tree.sound
@@ -280,18 +315,15 @@ module _ {K V : Type 0} {P : ℕ} (text : K → List ℕ) (old : ArenaOf K V P) 
             pub fork-hangs : CanHang new spot.parent
             fork-hangs = subst (CanHang new) parts.at.hangs (can-hang text old linked new around_it part_there root leaf top key value fork-steps)
 
-            module _ (last : ArenaOf K V P) (root_now : OpaqueNodePtr K V P) (hung : IsHung new last spot.parent top root root_now) (short : length (text key) < 2 ^ 32) (end : End) (at_end : IsAtEnd end (leaves part_there) (opaque_pointer kinds.Leaf sibling)) (end_is : end ≡ (if nat_lt fork.byte fork.node_byte then First else Last))
+            module _ (last : ArenaOf K V P) (root_now : OpaqueNodePtr K V P) (hung : IsHung new last spot.parent top root root_now) (short : length (text key) < 2 ^ 32) (end_is : end ≡ (if nat_lt fork.byte fork.node_byte then First else Last))
                 (spells : (left right : List ℕ) → Spells old (left ++ right) → IsBeside end left right sibling → Spells linked (left ++ opaque_key leaf ∷ right)) where
               hung-there : IsHung new last (above around_it) top root root_now
               hung-there = subst (λ parent. IsHung new last parent top root root_now) (sym parts.at.hangs) hung
 
-              beside-there : StandsBeside end (branch_leaves left_there) (branch_leaves right_there) (opaque_pointer kinds.Leaf sibling)
-              beside-there = beside-tree fork.byte fork.node_byte len_there part_there end (opaque_pointer kinds.Leaf sibling) end_is at_end
-
               spelled-there : Spells linked (keys_of (leaves_before around_it ++ branch_leaves left_there) ++ opaque_key leaf ∷ keys_of (branch_leaves right_there ++ leaves_after around_it))
               spelled-there =
                   spells _ _ (spelled-parts text old root around_it part_there left_there right_there alone-there leaves-there)
-                  (beside-key text old root around_it part_there left_there right_there alone-there leaves-there end sibling beside-there)
+                  (beside-key text old root around_it part_there left_there right_there alone-there leaves-there end sibling (beside-there end sibling at_end end_is))
 
               trimmed-stands : StandsIn text last trimmed_there
               trimmed-stands = by_part part_there refl stands-there
@@ -344,10 +376,10 @@ module _ {K V : Type 0} {P : ℕ} (text : K → List ℕ) (old : ArenaOf K V P) 
               alone-last : IsAlone text last root_now (plug around_it (with_leaf top shared_there left_there fork.byte leaf (text key) right_there))
               alone-last = added-alone text old linked new around_it part_there root leaf top key value fork-steps last root_now hung-there shared_there left_there right_there fork.byte taken-there alone-there
 
-              pub fork-art : IsArt text last (Some root_now)
-              fork-art = (plug around_it (with_leaf top shared_there left_there fork.byte leaf (text key) right_there), alone-last)
-
-              pub fork-entered : ((path : List ℕ) (t : Tree (OpaqueNodePtr K V P)) → IsSound path t → AreApart (texts t)) → IsEntered text old last key value
-              fork-entered apart =
-                  added-entered text old linked new around_it part_there root leaf top key value fork-steps last root_now hung-there shared_there left_there right_there fork.byte taken-there alone-there
-                  (apart [] (plug around_it part_there) alone-there.is_tree.sound) (apart [] (plug around_it (with_leaf top shared_there left_there fork.byte leaf (text key) right_there)) alone-last.is_tree.sound)
+              -- the tree has the leaf, and its entries that of the leaf
+              pub fork-added : ((path : List ℕ) (t : Tree (OpaqueNodePtr K V P)) → IsSound path t → AreApart (texts t)) → IsArt text last (Some root_now) × IsEntered text old last key value
+              fork-added apart = (
+                (plug around_it (with_leaf top shared_there left_there fork.byte leaf (text key) right_there), alone-last),
+                added-entered text old linked new around_it part_there root leaf top key value fork-steps last root_now hung-there shared_there left_there right_there fork.byte taken-there alone-there
+                    (apart [] (plug around_it part_there) alone-there.is_tree.sound) (apart [] (plug around_it (with_leaf top shared_there left_there fork.byte leaf (text key) right_there)) alone-last.is_tree.sound),
+              )

@@ -3,9 +3,13 @@ use Rattle.std.proofs.Common.{◌≡◌, ◌∙◌, ℕ, suc, ◌+◌, ◌<◌, 
 use Rattle.std.proofs.lemmas.List.{map-append}
 use Rattle.art_nodes.specs.ChildMap.{IsAscendingFrom, key_bytes}
 use Rattle.art_arena.specs.Trees.{Tree, Branches, NoBranch, Branch, branch_roots, root_of, branch_leaves, branch_places, leaves, places, AreSound}
-use Rattle.art_tree.specs.Plan.{join, one_branch, steps_of, branch_steps, BranchesSpan}
+use Rattle.art_tree.specs.Plan.{join, steps_of, branch_steps, BranchesSpan}
 
 module _ {H : Type 0} where
+  -- one branch alone
+  abbrev pub one_branch : ℕ → Tree H → Branches H
+  one_branch byte tree = Branch byte tree NoBranch
+
   pub roots-join : (a b : Branches H) → branch_roots (join a b) ≡ branch_roots a ++ branch_roots b
   roots-join NoBranch b = refl
   roots-join (Branch byte tree others) b = ap (λ rest. (byte, root_of tree) ∷ rest) (roots-join others b)

@@ -15,8 +15,7 @@ use Rattle.art_nodes.specs.declared.pointers.OpaqueNodePtr.{OpaqueNodePtr}
 use Rattle.art_arena.specs.Arena.{ArenaOf, Held, HeldInner, HeldLeaf, Nothing, held, room, Changes, SameRoom}
 use Rattle.art_tree.specs.Cuts.{HasOneLess, HasRoomToShrink}
 use Rattle.art_tree.specs.Edits.{IsReplaced}
-use Rattle.art_tree.proofs.HangLemmas.{inner-held}
-use Rattle.art_tree.proofs.NodeLemmas.{one-inner}
+use Rattle.art_tree.proofs.NodeLemmas.{one-inner, some-inner}
 use Rattle.art_tree.proofs.WayLemmas.{leaf-kind}
 
 -- what is at most a number and is not it is less
@@ -135,7 +134,7 @@ module _ {K V : Type 0} {P : ℕ} where
 
     -- it is held as before
     pub cut-held : held mid pointer ≢ Nothing
-    cut-held = inner-held mid pointer _ (cut before.0 before.1).changed
+    cut-held = some-inner (held mid pointer) _ (cut before.0 before.1).changed
 
     module _ (fewest : (node : Inner (OpaqueNodePtr K V P)) → held old pointer ≡ HeldInner node → length node.children ≡ least_children (node_kind pointer)) where
       -- of the fewest children of its kind one is gone
@@ -162,7 +161,7 @@ module _ {K V : Type 0} {P : ℕ} where
       shrunk-left {to = to} node is replaces =
           let here = (cut node is).changed in
           let moved = replaces (node_without_child node byte) here in
-          let apart : to ≢ pointer = λ one. inner-held mid to (node_without_child node byte) (ap (held mid) one ∙ here) moved.was_free in
+          let apart : to ≢ pointer = λ one. some-inner (held mid to) (node_without_child node byte) (ap (held mid) one ∙ here) moved.was_free in
           inr (record {
             least = fewest node is;
             replaced = record {

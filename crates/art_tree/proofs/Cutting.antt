@@ -1,5 +1,5 @@
 -- A leaf less in a tree: what the steps of a removal leave.
-use Rattle.std.proofs.Common.{◌≡◌, ◌≢◌, ◌⊎◌, ◌∙◌, ℕ, ◌<◌, ◌^◌, List, [], ◌∷◌, ◌++◌, length, map, All, Contains, Option, Some, None, refl, sym, ap, subst, inl, inr, arith, append_assoc}
+use Rattle.std.proofs.Common.{◌≡◌, ◌≢◌, ◌⊎◌, ◌∙◌, ℕ, ◌<◌, ◌^◌, List, ◌∷◌, ◌++◌, length, map, All, Contains, Some, refl, sym, ap, subst, inl, inr, arith, append_assoc}
 use Rattle.std.proofs.lemmas.List.{map-append}
 use Rattle.std.proofs.lemmas.List.Elements.{All-append, All-tail, Contains-append_right}
 use Rattle.art_header.specs.declared.node_type.NodeType.TheVariants as kinds
@@ -7,8 +7,8 @@ use Rattle.art_nodes.specs.Pointers.{opaque_pointer}
 use Rattle.art_nodes.specs.Leaf.{leaf_key}
 use Rattle.art_nodes.specs.declared.pointers.OpaqueNodePtr.{OpaqueNodePtr}
 use Rattle.art_nodes.specs.declared.leaf_node.LeafNode.{LeafNode}
-use Rattle.art_arena.specs.Arena.{ArenaOf, HeldInner, HeldLeaf, Nothing, held, held_leaf, SameNodes}
-use Rattle.art_arena.specs.Links.{AreDistinct, Spells, SpellsAfter, leaf_at}
+use Rattle.art_arena.specs.Arena.{ArenaOf, HeldLeaf, Nothing, held, held_leaf, SameNodes}
+use Rattle.art_arena.specs.Links.{AreDistinct, Spells, leaf_at}
 use Rattle.art_arena.specs.Standing.{StandsIn}
 use Rattle.art_arena.specs.Trees.{Tree, leaves, places, root_of, texts, IsSound}
 use Rattle.art_tree.specs.Art.{IsAlone}
@@ -19,12 +19,13 @@ use Rattle.art_tree.specs.Hanging.{CanHang, IsHung}
 use Rattle.art_tree.specs.Loading.{IsSnug}
 use Rattle.art_tree.specs.Places.{above}
 use Rattle.art_tree.specs.Removing.{IsRemoved}
-use Rattle.art_tree.proofs.Adding.{HangsAt, can-hang-at, hangs-at, held-case, held-on, parent-above, place-held, root-place}
+use Rattle.art_tree.proofs.Changing.{HangsAt, IsAbove, can-hang-at, hangs-at, held-on, keeps-on, leaf-no-parent, parent-above, place-held, root-place, was-leaf}
 use Rattle.art_tree.proofs.DictionaryLemmas.{AreApart, leaf-held-in}
 use Rattle.art_tree.proofs.Exchanging.{in-part, leaves-plug}
 use Rattle.art_tree.proofs.Gaps.{keys_of, keys-append}
 use Rattle.art_tree.proofs.Growing.{alone-grown, entries-but, entries-stay, leaf-stays, leaf-was, texts-part}
-use Rattle.art_tree.proofs.InsertLemmas.{one-leaf}
+use Rattle.art_tree.proofs.Linking.{spells-on}
+use Rattle.art_tree.proofs.NodeLemmas.{one-leaf, some-inner}
 use Rattle.art_tree.proofs.OnlyWayLemmas.{All-left, All-right}
 use Rattle.art_tree.proofs.Rising.{cases_pointer, leaf-of}
 
@@ -59,15 +60,18 @@ module _ {K V : Type 0} {P : ℕ} (text : K → List ℕ) (old cut new : ArenaOf
     outside-node : (p : OpaqueNodePtr K V P) → (Contains (places part) p → ⊥) → p ≢ root_of part
     outside-node p outside same = outside (subst (Contains (places part)) (sym same) (root-place part))
 
+    above_it : (p : OpaqueNodePtr K V P) → parent context ≡ Some p → IsAbove text old part p
+    above_it = parent-above text old context part steps.stood steps.distinct
+
     not-parent : (p : OpaqueNodePtr K V P) → Contains (places part) p → parent context ≢ Some p
-    not-parent p inside is = (parent-above text old context part steps.stood steps.distinct p is).outside inside
+    not-parent p inside is = (above_it p is).outside inside
 
     parent-held : (p : OpaqueNodePtr K V P) → parent context ≡ Some p → held old p ≢ Nothing
-    parent-held p is none = let at = parent-above text old context part steps.stood steps.distinct p is in let wrong : HeldInner at.node ≡ Nothing = sym at.is ∙ none in absurd (cc)
+    parent-held p is = some-inner (held old p) (above_it p is).node (above_it p is).is
 
     parent-kept : (p : OpaqueNodePtr K V P) → parent context ≡ Some p → held new p ≡ held old p
     parent-kept p is =
-        let at = parent-above text old context part steps.stood steps.distinct p is in
+        let at = above_it p is in
         let was = parent-held p is in
         steps.same p (outside-top p was at.outside) (outside-node p at.outside) ∙ (steps.stays p (outside-not p was at.outside)).keeps.inner at.node at.is ∙ sym at.is
 
@@ -78,18 +82,13 @@ module _ {K V : Type 0} {P : ℕ} (text : K → List ℕ) (old cut new : ArenaOf
       hangs : HangsAt old new last context top root_now part
       hangs = hangs-at text old new last context part top root root_now steps.stood steps.was_root parent-kept hung
 
-      keeps-last : (p : OpaqueNodePtr K V P) → p ≢ leaf → held last p ≡ held cut p → KeepsAt old last p
-      keeps-last p other same =
-          let keeps = (steps.stays p other).keeps in
-          record { inner = λ node is. same ∙ keeps.inner node is; leaf = λ l is. let now = keeps.leaf l is in (now.0, same ∙ now.1, now.2, now.3) }
-
       -- what is outside of the part is kept to the end, but for the parent
       pub outside-kept : (p : OpaqueNodePtr K V P) → held old p ≢ Nothing → (Contains (places part) p → ⊥) → parent context ≢ Some p → KeepsAt old last p
-      outside-kept p was outside away = keeps-last p (outside-not p was outside) (hangs.others p away ∙ steps.same p (outside-top p was outside) (outside-node p outside))
+      outside-kept p was outside away = keeps-on old cut last p (steps.stays p (outside-not p was outside)) (hangs.others p away ∙ steps.same p (outside-top p was outside) (outside-node p outside))
 
       -- and what is in it, but for the leaf, the node above it, and the one that is hung there
       pub inside-kept : (p : OpaqueNodePtr K V P) → Contains (places part) p → p ≢ leaf → p ≢ top → p ≢ root_of part → KeepsAt old last p
-      inside-kept p inside not_leaf not_top not_node = keeps-last p not_leaf (hangs.others p (not-parent p inside) ∙ steps.same p not_top not_node)
+      inside-kept p inside not_leaf not_top not_node = keeps-on old cut last p (steps.stays p not_leaf) (hangs.others p (not-parent p inside) ∙ steps.same p not_top not_node)
 
       pub last-inside : (p : OpaqueNodePtr K V P) → Contains (places part) p → held last p ≡ held new p
       last-inside p inside = hangs.others p (not-parent p inside)
@@ -102,7 +101,7 @@ module _ {K V : Type 0} {P : ℕ} (text : K → List ℕ) (old cut new : ArenaOf
 
       leaf-same : (p : OpaqueNodePtr K V P) (l : LeafNode K V P) → held old p ≡ HeldLeaf l → p ≢ leaf → held last p ≡ held cut p
       leaf-same p l is other =
-          let away : parent context ≢ Some p = λ above_it. let at = parent-above text old context part steps.stood steps.distinct p above_it in let wrong : HeldLeaf l ≡ HeldInner at.node = sym is ∙ at.is in absurd (cc) in
+          let away = leaf-no-parent text old context part steps.stood steps.distinct p l is in
           elim (cases_pointer p top) [
             | inl same ↦ hangs.others p away ∙ ap (held new) same ∙ steps.top_leaf l (ap (held old) (sym same) ∙ is) ∙ ap (held cut) (sym same)
             | inr differ ↦ hangs.others p away ∙ steps.same p differ (λ same. steps.node_inner l (ap (held old) (sym same) ∙ is))
@@ -110,13 +109,13 @@ module _ {K V : Type 0} {P : ℕ} (text : K → List ℕ) (old cut new : ArenaOf
 
       -- every other leaf is kept
       pub leaves-kept : (p : OpaqueNodePtr K V P) (l : LeafNode K V P) → held old p ≡ HeldLeaf l → p ≢ leaf → KeepsAt old last p
-      leaves-kept p l is other = keeps-last p other (leaf-same p l is other)
+      leaves-kept p l is other = keeps-on old cut last p (steps.stays p other) (leaf-same p l is other)
 
       fresh-last : (p : OpaqueNodePtr K V P) → held last p ≢ Nothing → held old p ≡ Nothing → p ≡ top
       fresh-last p is free = elim (cases_pointer p top) [
         | inl same ↦ same
         | inr differ ↦ absurd (is (
-            hangs.others p (λ above_it. parent-held p above_it free) ∙ steps.same p differ (λ same. part-held (root_of part) (root-place part) (ap (held old) (sym same) ∙ free))
+            hangs.others p (λ is_above. parent-held p is_above free) ∙ steps.same p differ (λ same. part-held (root_of part) (root-place part) (ap (held old) (sym same) ∙ free))
             ∙ (steps.stays p (λ same. part-held leaf steps.inside (ap (held old) (sym same) ∙ free))).nothing free
             ))
       ]
@@ -127,15 +126,8 @@ module _ {K V : Type 0} {P : ℕ} (text : K → List ℕ) (old cut new : ArenaOf
           let p = opaque_pointer kinds.Leaf k in
           let there : held cut p ≡ HeldLeaf l = ap held_leaf at in
           let other : p ≢ leaf = λ same. (let wrong : HeldLeaf l ≡ Nothing = sym there ∙ ap (held cut) same ∙ steps.gone in absurd (cc)) in
-          leaf-of (leaf_at last k) l (elim (held-case (held old p)) [
-            | inl free ↦ absurd (let wrong : HeldLeaf l ≡ Nothing = sym there ∙ (steps.stays p other).nothing free in cc)
-            | inr (inl (node, is)) ↦ absurd (let wrong : HeldLeaf l ≡ HeldInner node = sym there ∙ (steps.stays p other).keeps.inner node is in cc)
-            | inr (inr (was, is)) ↦ leaf-same p was is other ∙ there
-          ])
-
-      spells-on : (before : Option ℕ) (keys : List ℕ) → SpellsAfter cut before keys → SpellsAfter last before keys
-      spells-on before [] spelled = tt
-      spells-on before (k ∷ keys) ((l, at, previous, next), rest) = ((l, leaf-at-last k l at, previous, next), spells-on (Some k) keys rest)
+          let (was, is) = was-leaf old cut p l (steps.stays p other) there in
+          leaf-of (leaf_at last k) l (leaf-same p was is other ∙ there)
 
       -- the part without the leaf
       module _ (now : Tree (OpaqueNodePtr K V P)) (x : List ℕ) (lefts rights : List (OpaqueNodePtr K V P × List ℕ)) where
@@ -188,7 +180,7 @@ module _ {K V : Type 0} {P : ℕ} (text : K → List ℕ) (old cut new : ArenaOf
           cut-alone alone =
               let whole = alone-grown text old last root context part now alone steps.distinct exchanged has.sound has.snug
               (fewer-texts (λ y. length y < 2 ^ 32) (texts-part (λ y. length y < 2 ^ 32) context part alone.short))
-              (subst (Spells last) (sym (ap keys_of whole-is ∙ keys-append left right)) (record { distinct = has.spelled.distinct; spelled = spells-on None _ has.spelled.spelled }))
+              (subst (Spells last) (sym (ap keys_of whole-is ∙ keys-append left right)) (spells-on cut last leaf-at-last _ has.spelled))
               (λ p is free. subst (Contains (places now)) (has.at_root ∙ sym (fresh-last p is free)) (root-place now))
               has.freed in
               subst (λ r. IsAlone text last r (plug context now)) (hangs.at_root now has.at_root) whole

@@ -24,14 +24,14 @@ use Rattle.art_tree.specs.Hanging.{CanHang, IsHung}
 use Rattle.art_tree.specs.Places.{above}
 use Rattle.art_tree.specs.Plan.{join}
 use Rattle.art_tree.specs.Removing.{IsRemoved, NeedsSmallerNode}
-use Rattle.art_tree.proofs.Adding.{held-on, place-held}
 use Rattle.art_tree.proofs.BranchLemmas.{leaves-join, places-join, roots-join}
+use Rattle.art_tree.proofs.Changing.{held-on, place-held}
 use Rattle.art_tree.proofs.Cutting.{AreCuts, HasDropped, can-hang, cut-alone, cut-others, inside-kept, last-inside, top-last, whole-is, whole-was}
 use Rattle.art_tree.proofs.DictionaryLemmas.{AreApart}
 use Rattle.art_tree.proofs.DroppingLemmas.{dropped-child, dropped-roots, dropped-sound, gone-entry, kind-lasts, kind-shrinks, left-snug}
 use Rattle.art_tree.proofs.Exchanging.{kept-branches}
-use Rattle.art_tree.proofs.HangLemmas.{inner-held, one-inner}
 use Rattle.art_tree.proofs.LeafPlaces.{LeafPlace, is-other, left_there, part_there, place-cases, right_there}
+use Rattle.art_tree.proofs.NodeLemmas.{one-inner, some-inner}
 use Rattle.art_tree.proofs.Rising.{kind-4, kind-16, kind-48, kind-256}
 use Rattle.art_tree.proofs.TakingLemmas.{leaves-taken}
 use Rattle.art_tree.proofs.WayLemmas.{leaf-kind}
@@ -94,7 +94,7 @@ module _ {K V : Type 0} {P : ℕ} {text : K → List ℕ} {old : ArenaOf K V P} 
     is-cut = (stays parent place.apart).keeps.inner place.node place.is_held
 
     pub cut-held : held cut parent ≢ Nothing
-    cut-held = inner-held cut parent place.node is-cut
+    cut-held = some-inner (held cut parent) place.node is-cut
 
     pub cut-there : (node : nodes.Inner (OpaqueNodePtr K V P)) → held cut parent ≡ HeldInner node → child_at node.children byte ≢ None
     cut-there node is none =

@@ -18,21 +18,21 @@ use Rattle.art_arena.specs.Standing.{NodeStands, StandsIn, AllStandIn}
 use Rattle.art_arena.specs.Trees.{Tree, Leaf, Inner, Branches, Branch, root_of, branch_leaves, texts, places, branch_places, branch_roots, IsSound, AreSound}
 use Rattle.art_tree.specs.Art.{IsAlone}
 use Rattle.art_tree.specs.Contexts.{plug, path_to}
-use Rattle.art_tree.specs.Dropping.{HangsUnder, with_front}
+use Rattle.art_tree.specs.Dropping.{HangsUnder}
 use Rattle.art_tree.specs.Edits.{StaysAt, node_with_prefix}
 use Rattle.art_tree.specs.Hanging.{CanHang, IsHung}
 use Rattle.art_tree.specs.Loading.{IsSnug, AreSnug}
 use Rattle.art_tree.specs.Places.{above}
 use Rattle.art_tree.specs.Plan.{join}
 use Rattle.art_tree.specs.Removing.{IsRemoved}
-use Rattle.art_tree.proofs.Adding.{held-on, place-held, root-place}
+use Rattle.art_tree.proofs.Changing.{held-on, place-held, root-place}
 use Rattle.art_tree.proofs.Cutting.{AreCuts, HasDropped, can-hang, cut-alone, cut-others, inside-kept, last-inside, leaves-kept, top-last, whole-is, whole-was}
 use Rattle.art_tree.proofs.DictionaryLemmas.{AreApart}
-use Rattle.art_tree.proofs.DroppingLemmas.{HasOneLeft, dropped-roots, gone-entry, joined-short, joined-sound, leaves-joined, left-snug, left-sound, one-leaves, one-left, one-places, places-joined, root-joined, snug-joined}
+use Rattle.art_tree.proofs.DroppingLemmas.{HasOneLeft, dropped-roots, gone-entry, joined-short, joined-sound, leaves-joined, left-snug, left-sound, one-leaves, one-left, one-places, places-joined, root-joined, snug-joined, with_front}
 use Rattle.art_tree.proofs.Exchanging.{kept-branches}
 use Rattle.art_tree.proofs.Growing.{texts-part}
-use Rattle.art_tree.proofs.HangLemmas.{inner-held, one-inner}
 use Rattle.art_tree.proofs.LeafPlaces.{IsOther, LeafPlace, is-other, left_there, part_there, place-cases, right_there}
+use Rattle.art_tree.proofs.NodeLemmas.{one-inner, some-inner}
 use Rattle.art_tree.proofs.OnlyWayLemmas.{All-left, All-right}
 use Rattle.art_tree.proofs.TakingLemmas.{leaves-taken}
 use Rattle.art_tree.proofs.WayLemmas.{leaf-kind}
@@ -81,7 +81,7 @@ module _ {K V : Type 0} {P : ℕ} {text : K → List ℕ} {old : ArenaOf K V P} 
         parent-cut = (stays parent place.apart).keeps.inner place.node place.is_held
 
         pub parent-held : held cut parent ≢ Nothing
-        parent-held = inner-held cut parent place.node parent-cut
+        parent-held = some-inner (held cut parent) place.node parent-cut
 
         pub parent-two : (node : nodes.Inner (OpaqueNodePtr K V P)) → held cut parent ≡ HeldInner node → 2 ≤ length node.children
         parent-two node is =

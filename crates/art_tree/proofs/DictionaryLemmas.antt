@@ -1,5 +1,5 @@
 -- The dictionary of an arena that holds one tree.
-use Rattle.std.proofs.Common.{Bor, filter, ◌<◌, ◌^◌, length, ◌≢◌, ◌≡◌, ◌∙◌, ℕ, zero, suc, Bool, true, false, List, [], ◌∷◌, map, get_or, All, AllPairs, Contains, Option, Some, None, slice_index_or, nat_eq, refl, sym, ap, subst, inl, inr, arith, append-nil, ◌++◌, IfSome, IfNone}
+use Rattle.std.proofs.Common.{Bor, filter, ◌<◌, ◌^◌, length, ◌≢◌, ◌≡◌, ◌∙◌, ℕ, zero, suc, Bool, true, false, List, [], ◌∷◌, map, get_or, All, AllPairs, Contains, Option, Some, None, slice_index_or, nat_eq, refl, sym, ap, subst, inl, inr, arith, append-nil, ◌++◌, IfSome}
 use Rattle.std.specs.Cmp.Lexicographic.{pointwise}
 use Rattle.std.specs.Cmp.{nat_cmp_is}
 use Rattle.std.specs.Cmp.Lexicographic.{nat_list_cmp_total}
@@ -16,7 +16,7 @@ use Rattle.art_nodes.specs.Pointers.{node_kind, opaque_key, slab_key, opaque_poi
 use Rattle.art_nodes.specs.declared.pointers.NodePtr.{NodePtr}
 use Rattle.art_nodes.specs.declared.pointers.OpaqueNodePtr.{OpaqueNodePtr}
 use Rattle.art_nodes.specs.declared.leaf_node.LeafNode.{LeafNode}
-use Rattle.art_arena.specs.Arena.{ArenaOf, Held, Nothing, HeldInner, HeldLeaf, held, held_leaf, held_under}
+use Rattle.art_arena.specs.Arena.{ArenaOf, Nothing, HeldInner, HeldLeaf, held, held_leaf, held_under}
 use Rattle.art_arena.specs.Links.{leaf_at}
 use Rattle.art_arena.specs.Standing.{StandsIn, AllStandIn}
 use Rattle.art_arena.specs.Trees.{Tree, Leaf, Inner, Branches, NoBranch, Branch, leaves, branch_leaves, texts, places, branch_places}
@@ -30,6 +30,7 @@ use Rattle.art_tree.specs.Loading.{HoldEntries, IsLoaded, leaf_pointers}
 use Rattle.art_tree.specs.Plan.{texts_of}
 use Rattle.art_tree.specs.Search.{scan, leaf_pointer}
 use Rattle.art_tree.proofs.Exchanging.{the-one}
+use Rattle.art_tree.proofs.NodeLemmas.{one-leaf, some-leaf}
 use Rattle.art_tree.proofs.Rising.{leaf-of}
 use Rattle.art_tree.proofs.ScanLemmas.{same-text, text-itself}
 use Rattle.art_tree.proofs.WayLemmas.{leaf-kind}
@@ -87,13 +88,6 @@ module _ {K V : Type 0} {P : ℕ} (text : K → List ℕ) where
       by_entry (Some entry) is =
           let slot = entry-from arena.leaf.slots x entry is in
           let wrong : HeldLeaf slot.leaf ≡ Nothing = sym (ap (held_leaf {H = OpaqueNodePtr K V P}) slot.at) ∙ nothing (opaque_pointer kinds.Leaf slot.key) in absurd (cc)
-
-  -- a pointer holds one leaf, and then something
-  one-leaf : (h : Held (OpaqueNodePtr K V P) (LeafNode K V P)) (a b : LeafNode K V P) → h ≡ HeldLeaf a → h ≡ HeldLeaf b → a ≡ b
-  one-leaf h a b first second = let one : HeldLeaf a ≡ HeldLeaf b = sym first ∙ second in cc
-
-  something : (h : Held (OpaqueNodePtr K V P) (LeafNode K V P)) (a : LeafNode K V P) → h ≡ HeldLeaf a → h ≢ Nothing
-  something h a is none = let wrong : HeldLeaf a ≡ Nothing = sym is ∙ none in absurd (cc)
 
   module _ (arena : ArenaOf K V P) where
     mutual
@@ -217,7 +211,7 @@ module _ {K V : Type 0} {P : ℕ} (text : K → List ℕ) (arena : ArenaOf K V P
       let slot = entry-from text arena.leaf.slots x entry is in
       let pointer = opaque_pointer {K = K} {V = V} {P = P} kinds.Leaf slot.key in
       let there : held arena pointer ≡ HeldLeaf slot.leaf = ap held_leaf slot.at in
-      let inside = leaf-in text arena tree alone.is_tree.stands pointer slot.leaf (alone.no_others pointer (something text (held arena pointer) slot.leaf there)) there in
+      let inside = leaf-in text arena tree alone.is_tree.stands pointer slot.leaf (alone.no_others pointer (some-leaf (held arena pointer) slot.leaf there)) there in
       record { pointer = pointer; leaf = slot.leaf; held_there = there; has = slot.has; inside = subst (λ t. Contains (leaves tree) (pointer, t)) slot.has inside; is = slot.is }
 
   -- and what a leaf holds the dictionary says
@@ -227,9 +221,9 @@ module _ {K V : Type 0} {P : ℕ} (text : K → List ℕ) (arena : ArenaOf K V P
       let found = leaf-of-entry (text (leaf_key leaf)) some.0 some.1 in
       let pointer = opaque_pointer {K = K} {V = V} {P = P} kinds.Leaf key in
       let there : held arena pointer ≡ HeldLeaf leaf = ap held_leaf at in
-      let inside = leaf-in text arena tree alone.is_tree.stands pointer leaf (alone.no_others pointer (something text (held arena pointer) leaf there)) there in
+      let inside = leaf-in text arena tree alone.is_tree.stands pointer leaf (alone.no_others pointer (some-leaf (held arena pointer) leaf there)) there in
       let one : found.pointer ≡ pointer = one-member (leaves tree) found.pointer pointer (text (leaf_key leaf)) apart found.inside inside in
-      let same = one-leaf text (held arena found.pointer) found.leaf leaf found.held_there (ap (held arena) one ∙ there) in
+      let same = one-leaf (held arena found.pointer) found.leaf leaf found.held_there (ap (held arena) one ∙ there) in
       some.1 ∙ ap Some (sym found.is ∙ ap (λ l. (leaf_key l, leaf_value l)) same)
 
   -- a key of which the tree has no leaf has no entry
@@ -276,7 +270,7 @@ module _ {K V : Type 0} {P : ℕ} (text : K → List ℕ) (arena : ArenaOf K V P
   pub entry-of-member : AreApart (texts tree) → (pointer : OpaqueNodePtr K V P) (x : List ℕ) (leaf : LeafNode K V P) → Contains (leaves tree) (pointer, x) → held arena pointer ≡ HeldLeaf leaf → entry_at text arena x ≡ Some (leaf_key leaf, leaf_value leaf)
   entry-of-member apart pointer x leaf inside is =
       let there = leaf-held-in text arena tree alone.is_tree.stands pointer x inside in
-      let same = one-leaf text (held arena pointer) leaf there.0 is there.1 in
+      let same = one-leaf (held arena pointer) leaf there.0 is there.1 in
       ap (entry_at text arena) (sym there.2 ∙ ap (λ l. text (leaf_key l)) (sym same)) ∙ held-entry apart pointer leaf is
 
 module _ {K V : Type 0} {P : ℕ} (text : K → List ℕ) (arena : ArenaOf K V P) where
@@ -286,7 +280,7 @@ module _ {K V : Type 0} {P : ℕ} (text : K → List ℕ) (arena : ArenaOf K V P
   text-of-held (p ∷ pointers) [] q leaf hold inside there = absurd hold
   text-of-held (p ∷ pointers) (entry ∷ entries) q leaf hold inside there = elim (Contains-append_cases (p ∷ []) pointers q inside) [
     | inl here ↦
-        let same = one-leaf text (held arena p) hold.0.0 leaf hold.0.1 (ap (held arena) (the-one p q here) ∙ there) in
+        let same = one-leaf (held arena p) hold.0.0 leaf hold.0.1 (ap (held arena) (the-one p q here) ∙ there) in
         (0, omega arith, ap text (sym hold.0.2 ∙ ap leaf_key same))
     | inr later ↦ Contains-append_right (text entry.0 ∷ []) (texts_of text entries) (text (leaf_key leaf)) (text-of-held pointers entries q leaf hold.1 later there)
   ]
@@ -394,14 +388,10 @@ module _ {K V : Type 0} {P : ℕ} (text : K → List ℕ) (arena : ArenaOf K V P
             let has = leaf-of-entry text arena root tree alone other entry found in
             subst (λ t. IsWithin end t other) (sym end-held.2 ∙ ap text key-is) (within-end end (leaves tree) (leaf_pointer leaf) at_end ascend has.pointer other has.inside)
 
--- where there is no value nothing is told of one, and what holds anyway is told
+-- where there is no value nothing is told of one
 pub if-some-none : {X : Type 0} (o : Option X) (Q : X → Type 0) → o ≡ None → IfSome o Q
 if-some-none None Q none = tt
 if-some-none (Some x) Q none = absurd (cc)
-
-pub if-none : {X : Type 0} (o : Option X) (Q : Type 0) → Q → IfNone o Q
-if-none None Q holds = holds
-if-none (Some x) Q holds = tt
 
 pub slot-held : {K V : Type 0} {P : ℕ} (arena : ArenaOf K V P) (key : ℕ) (leaf : LeafNode K V P) → leaf_at arena key ≡ Some leaf → held arena (opaque_pointer kinds.Leaf key) ≢ Nothing
 slot-held arena key leaf is none = let wrong : HeldLeaf leaf ≡ Nothing = sym (ap held_leaf is) ∙ none in absurd (cc)

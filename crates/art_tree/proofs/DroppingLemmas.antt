@@ -11,15 +11,19 @@ use Rattle.art_arena.specs.Arena.{ArenaOf}
 use Rattle.art_arena.specs.Trees.{Tree, Leaf, Inner, Branches, NoBranch, Branch, branch_roots, root_of, leaves, branch_leaves, texts, branch_texts, places, branch_places, IsSound, AreSound}
 use Rattle.art_tree.specs.Art.{IsAlone}
 use Rattle.art_tree.specs.Dictionary.{entry_at}
-use Rattle.art_tree.specs.Dropping.{with_front}
 use Rattle.art_tree.specs.Loading.{IsSnug, AreSnug}
-use Rattle.art_tree.specs.Plan.{join, one_branch}
-use Rattle.art_tree.proofs.BranchLemmas.{roots-join, leaves-join, places-join, sound-join}
+use Rattle.art_tree.specs.Plan.{join}
+use Rattle.art_tree.proofs.BranchLemmas.{roots-join, leaves-join, places-join, sound-join, one_branch}
 use Rattle.art_tree.proofs.DictionaryLemmas.{AreApart, leaf-of-entry, not-later}
 use Rattle.art_tree.proofs.Exchanging.{before-byte, sound-split, the-one}
 use Rattle.art_tree.proofs.FrontLemmas.{front-shorter}
 use Rattle.art_tree.proofs.PlaceLemmas.{branch-text}
 use Rattle.art_tree.proofs.Rising.{kind-4, kind-16, kind-48, kind-256, snug-join, snug-split}
+
+-- the tree with these bytes and this byte before its own prefix; a leaf is as it was
+abbrev pub with_front : {H : Type 0} → List ℕ → ℕ → Tree H → Tree H
+with_front upper byte (Leaf pointer text) = Leaf pointer text
+with_front upper byte (Inner pointer lower branches) = Inner pointer (upper ++ byte ∷ lower) branches
 
 -- one branch by its count
 record IsOneBranch {H : Type 0} (branches : Branches H) : Type 0 where

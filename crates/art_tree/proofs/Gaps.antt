@@ -15,14 +15,13 @@ use Rattle.art_tree.specs.Art.{IsAlone}
 use Rattle.art_tree.specs.Contexts.{Context, plug, path_to, leaves_before, leaves_after}
 use Rattle.art_tree.specs.Edits.{HasGap, IsBeside, LiesBeside}
 use Rattle.art_tree.specs.Hanging.{StandsBeside}
-use Rattle.art_tree.specs.Taking.{HasPlace, with_leaf}
 use Rattle.art_arena.specs.declared.ends.End.{End}
 use Rattle.art_arena.specs.declared.ends.End.TheVariants.{First, Last}
 use Rattle.art_tree.proofs.Adding.{leaves-parted, leaves-filled}
 use Rattle.art_tree.proofs.DictionaryLemmas.{leaf-held-in}
 use Rattle.art_tree.proofs.Exchanging.{sound-whole}
 use Rattle.art_tree.proofs.Rising.{text-held}
-use Rattle.art_tree.proofs.TakingLemmas.{beside-less, taken-sound}
+use Rattle.art_tree.proofs.TakingLemmas.{beside-less, taken-sound, HasPlace, with_leaf}
 
 module _ {H : Type 0} where
   -- what stands beside a gap stands there in the longer lists of the whole

@@ -12,7 +12,7 @@ use Rattle.art_nodes.specs.Inner.{HasRoomFor}
 use Rattle.art_nodes.specs.Pointers.{node_kind, opaque_key}
 use Rattle.art_nodes.specs.declared.pointers.OpaqueNodePtr.{OpaqueNodePtr}
 use Rattle.art_nodes.specs.declared.leaf_node.LeafNode.{LeafNode}
-use Rattle.art_arena.specs.Arena.{ArenaOf, Held, HeldInner, Nothing, held, held_leaf, held_under}
+use Rattle.art_arena.specs.Arena.{ArenaOf, HeldInner, Nothing, held, held_leaf, held_under}
 use Rattle.art_arena.specs.Standing.{TreeAt, AllStandIn}
 use Rattle.art_arena.specs.Trees.{Tree, Inner, Branches, NoBranch, Branch, leaves, branch_leaves, branch_roots, root_of, AreSound}
 use Rattle.art_arena.specs.Ends.{IsAtEnd}
@@ -21,6 +21,7 @@ use Rattle.art_tree.specs.Plan.{join}
 use Rattle.art_arena.specs.declared.ends.End.TheVariants.{First, Last}
 use Rattle.art_tree.proofs.BranchLemmas.{leaves-join}
 use Rattle.art_tree.proofs.Exchanging.{sound-split}
+use Rattle.art_tree.proofs.NodeLemmas.{one-inner, some-inner}
 use Rattle.art_tree.proofs.Rising.{stand-split}
 
 pub always-ok : {T E : Type 0} (r : Result T E) (Q : Type 0) → Q → OnOk r Q
@@ -36,17 +37,11 @@ module _ {K V : Type 0} {P : ℕ} where
   pub inner-kind : (arena : ArenaOf K V P) (pointer : OpaqueNodePtr K V P) (node : nodes.Inner (OpaqueNodePtr K V P)) → held arena pointer ≡ HeldInner node → node_kind pointer ≢ kinds.Leaf
   inner-kind arena pointer node is leaf = no-inner _ node (sym (ap (λ kind. held_under arena kind (opaque_key pointer)) leaf) ∙ is)
 
-  pub inner-held : (arena : ArenaOf K V P) (pointer : OpaqueNodePtr K V P) (node : nodes.Inner (OpaqueNodePtr K V P)) → held arena pointer ≡ HeldInner node → held arena pointer ≢ Nothing
-  inner-held arena pointer node is none = let wrong : HeldInner node ≡ Nothing = sym is ∙ none in absurd (cc)
-
   -- a parent under whose byte a child hangs
   pub record IsParent (arena : ArenaOf K V P) (parent : OpaqueNodePtr K V P) (byte : ℕ) : Type 0 where
     pub is_held : held arena parent ≢ Nothing
     pub is_inner : node_kind parent ≢ kinds.Leaf
     pub has_room : (node : nodes.Inner (OpaqueNodePtr K V P)) → held arena parent ≡ HeldInner node → HasRoomFor (most_children (node_kind parent)) node byte
-
-  pub one-inner : (h : Held (OpaqueNodePtr K V P) (LeafNode K V P)) (a b : nodes.Inner (OpaqueNodePtr K V P)) → h ≡ HeldInner a → h ≡ HeldInner b → a ≡ b
-  one-inner h a b first second = let one : HeldInner a ≡ HeldInner b = sym first ∙ second in cc
 
   there-already : (o : Option (OpaqueNodePtr K V P)) (A : Type 0) → o ≢ None → IsNone o → A
   there-already None A some none = absurd (some refl)
@@ -58,7 +53,7 @@ module _ {K V : Type 0} {P : ℕ} where
       let one : (p, b) ≡ (parent, byte) = same_Some (p, b) (parent, byte) is in
       let here : held arena parent ≡ HeldInner node = ap (held arena) (sym (ap (λ pair. pair.0) one)) ∙ holds in
       record {
-        is_held = inner-held arena parent node here;
+        is_held = some-inner (held arena parent) node here;
         is_inner = inner-kind arena parent node here;
         has_room = λ own is_own.
             let same : node ≡ own = one-inner (held arena parent) node own here is_own in

@@ -6,7 +6,7 @@ use Rattle.art_nodes.specs.Pointers.{slab_key}
 use Rattle.art_nodes.specs.declared.pointers.NodePtr.{NodePtr}
 use Rattle.art_nodes.specs.declared.pointers.OpaqueNodePtr.{OpaqueNodePtr}
 use Rattle.art_nodes.specs.declared.leaf_node.LeafNode.{LeafNode}
-use Rattle.art_arena.specs.Arena.{ArenaOf, Held, HeldLeaf, Nothing, held, Changes}
+use Rattle.art_arena.specs.Arena.{ArenaOf, HeldLeaf, Nothing, held, Changes}
 use Rattle.art_arena.specs.Links.{Spells, leaf_at}
 use Rattle.art_arena.specs.Standing.{StandsIn}
 use Rattle.art_arena.specs.Trees.{Tree, Leaf, leaves, texts}
@@ -18,11 +18,8 @@ use Rattle.art_tree.specs.Search.{leaf_pointer}
 use Rattle.art_tree.proofs.DictionaryLemmas.{AreApart, empty-entry, held-entry, leaf-held-in, leaf-of-entry}
 use Rattle.art_tree.proofs.Exchanging.{the-one}
 use Rattle.art_tree.proofs.Growing.{entries-but}
+use Rattle.art_tree.proofs.NodeLemmas.{one-leaf}
 use Rattle.art_tree.proofs.Rising.{cases_pointer, leaf-of}
-
--- a pointer holds one leaf
-pub one-leaf : {K V : Type 0} {P : ℕ} (h : Held (OpaqueNodePtr K V P) (LeafNode K V P)) (a b : LeafNode K V P) → h ≡ HeldLeaf a → h ≡ HeldLeaf b → a ≡ b
-one-leaf h a b first second = let one : HeldLeaf a ≡ HeldLeaf b = sym first ∙ second in cc
 
 module _ {K V : Type 0} {P : ℕ} (text : K → List ℕ) (old new : ArenaOf K V P) (key : K) (value : V) where
   -- a leaf alone in an arena is a tree

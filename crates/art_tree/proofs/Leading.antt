@@ -4,9 +4,10 @@ use Rattle.std.proofs.lemmas.List.{length-map, append-nil, take_at, drop_at}
 use Rattle.art_bytes.specs.Text.{IsFront}
 use Rattle.art_nodes.specs.ChildMap.{IsAscending, key_bytes}
 use Rattle.art_arena.specs.Trees.{Tree, Leaf, Inner, Branches, NoBranch, Branch, branch_roots, IsSound, AreSound, IsWellFormed}
-use Rattle.art_tree.specs.Plan.{join, one_branch, steps_of, branch_steps, Spans, BranchesSpan, text_at}
+use Rattle.art_tree.specs.Plan.{join, steps_of, branch_steps, Spans, BranchesSpan, text_at}
 use Rattle.art_tree.specs.declared.loading.steps.Step.{Step}
 use Rattle.art_tree.specs.declared.loading.steps.Step.TheVariants as step
+use Rattle.art_tree.proofs.BranchLemmas.{one_branch}
 use Rattle.art_tree.proofs.FrontLemmas.{front-shorter}
 
 -- the last trees are the branches of a node with this part of the text as its prefix

@@ -22,7 +22,8 @@ use Rattle.art_tree.proofs.DictionaryLemmas.{AreApart, held-entry}
 use Rattle.art_tree.proofs.DroppingLemmas.{dropped-count}
 use Rattle.art_tree.proofs.Exchanging.{AreDistinct-split, distinct-part, places-node, snug-part, sound-part, stands-part, the-one}
 use Rattle.art_tree.proofs.Gaps.{keys_of, keys-append}
-use Rattle.art_tree.proofs.HangLemmas.{inner-held, inner-kind}
+use Rattle.art_tree.proofs.HangLemmas.{inner-kind}
+use Rattle.art_tree.proofs.NodeLemmas.{some-inner}
 use Rattle.art_tree.proofs.Rising.{stand-join, stand-split}
 
 module _ {K V : Type 0} {P : ℕ} {leaf parent : OpaqueNodePtr K V P} {byte : ℕ} {higher : Option (OpaqueNodePtr K V P × ℕ)} {tree : Tree (OpaqueNodePtr K V P)} where
@@ -79,7 +80,7 @@ module _ {K V : Type 0} {P : ℕ} {leaf parent : OpaqueNodePtr K V P} {byte : �
         shows = shows;
         others_stand = stand-join text old before after left_stand right_stand;
         count = ap length shows.children ∙ dropped-count before byte (Leaf leaf hangs.text) after;
-        some_held = inner-held old parent node is_held;
+        some_held = some-inner (held old parent) node is_held;
         inner = inner-kind old parent node is_held;
         no_leaf = no_leaf;
         apart = λ same. no_leaf own (ap (held old) same ∙ own_held);

@@ -23,6 +23,7 @@ mod InsertLemmas
 mod KeyLemmas
 mod Growing
 mod TakingLemmas
+mod Changing
 mod Adding
 mod LinkLemmas
 mod NodeLemmas

@@ -75,15 +75,18 @@ module _ {K V : Type 0} {P : ℕ} where
   hold-held arena (at ∷ of) (entry ∷ entries) h zero d lt = subst (λ there. there ≢ Nothing) (sym h.0.1) (λ e. cc)
   hold-held arena (at ∷ of) (entry ∷ entries) h (suc i) d lt = hold-held arena of entries h.1 i d (omega arith)
 
-  spells-kept : (now new : ArenaOf K V P) → ((pointer : OpaqueNodePtr K V P) → held now pointer ≢ Nothing → held new pointer ≡ held now pointer) → (before : Option ℕ) (keys : List ℕ) → SpellsAfter now before keys → SpellsAfter new before keys
-  spells-kept now new kept before [] h = tt
-  spells-kept now new kept before (key ∷ keys) h =
-      let there : held now (opaque_pointer kinds.Leaf key) ≡ HeldLeaf h.0.0 = ap held_leaf h.0.1 in
-      let after = kept (opaque_pointer kinds.Leaf key) (subst (λ x. x ≢ Nothing) (sym there) (λ e. cc)) ∙ there in
-      ((h.0.0, leaf-of (leaf_at new key) h.0.0 after, h.0.2, h.0.3), spells-kept now new kept (Some key) keys h.1)
+  spells-after : (now new : ArenaOf K V P) → ((key : ℕ) (leaf : LeafNode K V P) → leaf_at now key ≡ Some leaf → leaf_at new key ≡ Some leaf) → (before : Option ℕ) (keys : List ℕ) → SpellsAfter now before keys → SpellsAfter new before keys
+  spells-after now new kept before [] h = tt
+  spells-after now new kept before (key ∷ keys) ((leaf, at, previous, next), rest) = ((leaf, kept key leaf at, previous, next), spells-after now new kept (Some key) keys rest)
+
+  -- a list is spelled on where its leaves are kept, and so where all nodes are
+  pub spells-on : (now new : ArenaOf K V P) → ((key : ℕ) (leaf : LeafNode K V P) → leaf_at now key ≡ Some leaf → leaf_at new key ≡ Some leaf) → (keys : List ℕ) → Spells now keys → Spells new keys
+  spells-on now new kept keys s = record { distinct = s.distinct; spelled = spells-after now new kept None keys s.spelled }
 
   pub Spells-kept : (now new : ArenaOf K V P) → ((pointer : OpaqueNodePtr K V P) → held now pointer ≢ Nothing → held new pointer ≡ held now pointer) → (keys : List ℕ) → Spells now keys → Spells new keys
-  Spells-kept now new kept keys s = record { distinct = s.distinct; spelled = spells-kept now new kept None keys s.spelled }
+  Spells-kept now new kept = spells-on now new (λ key leaf at.
+      let there : held now (opaque_pointer kinds.Leaf key) ≡ HeldLeaf leaf = ap held_leaf at in
+      leaf-of (leaf_at new key) leaf (kept (opaque_pointer kinds.Leaf key) (subst (λ x. x ≢ Nothing) (sym there) (λ e. cc)) ∙ there))
 
   pub Hold-kept : (now new : ArenaOf K V P) → ((pointer : OpaqueNodePtr K V P) → held now pointer ≢ Nothing → held new pointer ≡ held now pointer) → (pointers : List (OpaqueNodePtr K V P)) (entries : List (K × V)) → HoldEntries now pointers entries → HoldEntries new pointers entries
   Hold-kept = hold-kept

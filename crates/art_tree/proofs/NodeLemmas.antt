@@ -1,6 +1,7 @@
 -- Inner nodes that take a child more, or another prefix.
-use Rattle.std.proofs.Common.{◌≡◌, ◌≢◌, ◌∙◌, ℕ, ◌<◌, ◌≤◌, ◌^◌, List, [], ◌∷◌, length, Option, Some, None, IsNone, lit<, refl, sym, ap, subst, arith}
+use Rattle.std.proofs.Common.{◌≡◌, ◌≢◌, ◌∙◌, ℕ, ◌<◌, ◌≤◌, ◌^◌, List, [], ◌∷◌, length, Option, Some, None, IsNone, IfSome, IfNone, lit<, refl, sym, ap, subst, arith}
 use Rattle.std.proofs.lemmas.Bool.{le-ltb, lt-ltb}
+use Rattle.std.proofs.lemmas.Option.{same_Some}
 use Rattle.std.specs.Option.{option_map, option_map_or}
 use Rattle.art_header.specs.Header.{Header}
 use Rattle.art_header.specs.NodeType.{most_children, grown_kind}
@@ -13,8 +14,8 @@ use Rattle.art_nodes.specs.declared.pointers.OpaqueNodePtr.{OpaqueNodePtr}
 use Rattle.art_nodes.specs.declared.leaf_node.LeafNode.{LeafNode}
 use Rattle.art_nodes.proofs.ChildMapLaws.{length_absent}
 use Rattle.art_arena.specs.Arena.{ArenaOf, Changes, Held, HeldInner, HeldLeaf, Nothing, held, held_header, room}
-use Rattle.art_tree.specs.Edits.{HasRoomToGrow, IsMoved}
-use Rattle.art_tree.specs.Taking.{two_children}
+use Rattle.art_tree.specs.Edits.{HasRoomToGrow, IsMoved, IsReplaced}
+use Rattle.art_tree.specs.Raising.{two_children}
 
 -- the sizes in memory of a pointer to a leaf, of a match and of a spot
 pub leaf-pointer-fits : 8 < 2 ^ 63
@@ -42,9 +43,30 @@ module _ {H : Type 0} (byte : ℕ) (child : H) (other : ℕ) (node : H) where
 pub few-where-absent : {H : Type 0} (node : Inner H) (byte : ℕ) → byte < 256 → IsAscending (key_bytes node.children) → child_at node.children byte ≡ None → length node.children < 256
 few-where-absent node byte below ascending absent = length_absent node.children byte below ascending (subst IsNone (sym absent) refl)
 
+-- what an option tells of a value that is there
+pub if-some : {X : Type 0} (o : Option X) (Q : X → Type 0) (x : X) → o ≡ Some x → IfSome o Q → Q x
+if-some None Q x is holds = absurd (cc)
+if-some (Some y) Q x is holds = subst Q (same_Some y x is) holds
+
+-- what always holds, holds where there is none
+pub if-none : {X : Type 0} (o : Option X) (Q : Type 0) → Q → IfNone o Q
+if-none None Q holds = holds
+if-none (Some x) Q holds = tt
+
 module _ {K V : Type 0} {P : ℕ} where
+  -- a pointer holds one inner node, or one leaf
   pub one-inner : (h : Held (OpaqueNodePtr K V P) (LeafNode K V P)) (a b : Inner (OpaqueNodePtr K V P)) → h ≡ HeldInner a → h ≡ HeldInner b → a ≡ b
   one-inner h a b first second = cc
+
+  pub one-leaf : (h : Held (OpaqueNodePtr K V P) (LeafNode K V P)) (a b : LeafNode K V P) → h ≡ HeldLeaf a → h ≡ HeldLeaf b → a ≡ b
+  one-leaf h a b first second = cc
+
+  -- and then something
+  pub some-inner : (h : Held (OpaqueNodePtr K V P) (LeafNode K V P)) (a : Inner (OpaqueNodePtr K V P)) → h ≡ HeldInner a → h ≢ Nothing
+  some-inner h a is none = absurd (cc)
+
+  pub some-leaf : (h : Held (OpaqueNodePtr K V P) (LeafNode K V P)) (a : LeafNode K V P) → h ≡ HeldLeaf a → h ≢ Nothing
+  some-leaf h a is none = absurd (cc)
 
   -- the header of an inner node that is held
   pub header-of-held : (h : Held (OpaqueNodePtr K V P) (LeafNode K V P)) (header : Header) (node : Inner (OpaqueNodePtr K V P)) → Some header ≡ held_header h → h ≡ HeldInner node → header ≡ header_of node
@@ -78,8 +100,9 @@ module _ {K V : Type 0} {P : ℕ} where
       → length there.children ≡ most_children (node_kind pointer) → HasRoomToGrow arena pointer → 0 < room arena (grown_kind kind)
   room-of-kind arena pointer there is_kind here full rooms = subst (λ kind. 0 < room arena (grown_kind kind)) is_kind (rooms there here full)
 
-  -- the node that grew is the one that was held
-  pub moved-there : (arena new : ArenaOf K V P) (pointer : OpaqueNodePtr K V P) {there node grown : Inner (OpaqueNodePtr K V P)} {to : OpaqueNodePtr K V P} (byte : ℕ) (child : OpaqueNodePtr K V P) → held arena pointer ≡ HeldInner there
-      → grown ≡ there → held arena pointer ≡ HeldInner node → IsMoved arena new pointer grown (node_with_child grown byte child) to → IsMoved arena new pointer node (node_with_child node byte child) to
-  moved-there arena new pointer {there = there} {node = node} {to = to} byte child here grows is is_moved =
-      subst (λ n. IsMoved arena new pointer n (node_with_child n byte child) to) (grows ∙ one-inner (held arena pointer) there node here is) is_moved
+  -- the node that grew is the one that was held, and was put in the place of it
+  pub moved-there : (arena new : ArenaOf K V P) (pointer : OpaqueNodePtr K V P) {kind : NodeType} {there node grown : Inner (OpaqueNodePtr K V P)} {to : OpaqueNodePtr K V P} (placed : Option (OpaqueNodePtr K V P)) (byte : ℕ) (child : OpaqueNodePtr K V P) → node_kind pointer ≡ kind → held arena pointer ≡ HeldInner there → length there.children ≡ most_children (node_kind pointer)
+      → grown ≡ node_with_child there byte child → held arena pointer ≡ HeldInner node → placed ≡ Some to → IfSome placed (IsReplaced arena new pointer (grown_kind kind) grown) → IsMoved arena new pointer node (node_with_child node byte child) to
+  moved-there arena new pointer {kind = kind} {there = there} {node = node} {grown = grown} {to = to} placed byte child is_kind here full grows is at replaced =
+      let now = subst (λ k. IsReplaced arena new pointer (grown_kind k) grown to) (sym is_kind) (if-some placed (IsReplaced arena new pointer (grown_kind kind) grown) to at replaced) in
+      subst (λ n. IsMoved arena new pointer n (node_with_child n byte child) to) (one-inner (held arena pointer) there node here is) (record { full = full; replaced = subst (λ n. IsReplaced arena new pointer (grown_kind (node_kind pointer)) n to) grows now })

@@ -6,11 +6,11 @@ use Rattle.std.proofs.lemmas.Bool.Decides.{nat_tests}
 use Rattle.art_bytes.specs.Text.{IsText}
 use Rattle.art_nodes.specs.ChildMap.{IsAscending, key_bytes}
 use Rattle.art_arena.specs.Trees.{Tree, Leaf, Inner, Branches, branch_roots, IsSound, AreSound}
-use Rattle.art_tree.specs.Plan.{join, one_branch, steps_of, branch_steps, Spans, BranchesSpan, IsFork, text_at, byte_before, IsPlanOf}
+use Rattle.art_tree.specs.Plan.{join, steps_of, branch_steps, Spans, BranchesSpan, IsFork, text_at, byte_before, IsPlanOf}
 use Rattle.art_tree.specs.declared.loading.steps.Open.{Open}
 use Rattle.art_tree.specs.declared.loading.steps.Step.{Step}
 use Rattle.art_tree.specs.declared.loading.steps.Step.TheVariants as step
-use Rattle.art_tree.proofs.BranchLemmas.{steps-join, sound-join, span-join, bytes-join, count-one, AscendBelow, low-below, ascending-last, below-last, last-same}
+use Rattle.art_tree.proofs.BranchLemmas.{steps-join, sound-join, span-join, bytes-join, count-one, AscendBelow, low-below, ascending-last, below-last, last-same, one_branch}
 
 abbrev pub Shape : Type 0
 Shape = Tree (Unit {0})

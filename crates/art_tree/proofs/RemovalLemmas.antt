@@ -1,7 +1,6 @@
 -- A leaf that a search finds, and that is taken out of its list and out of its arena.
-use Rattle.std.proofs.Common.{◌≡◌, ◌≢◌, ◌∙◌, ℕ, ◌≤◌, ◌+◌, length, List, [], ◌∷◌, ◌++◌, All, Contains, Option, Some, None, IfSome, refl, sym, ap, subst, inl, inr, arith, IfNone}
+use Rattle.std.proofs.Common.{◌≡◌, ◌≢◌, ◌∙◌, ℕ, ◌≤◌, ◌+◌, length, List, [], ◌∷◌, ◌++◌, All, Contains, Option, Some, None, refl, sym, ap, subst, inl, inr, arith, IfNone}
 use Rattle.std.proofs.lemmas.List.Elements.{All-cons, All-contains, All-head, All-tail, Contains-append_right}
-use Rattle.std.proofs.lemmas.Option.{same_Some}
 use Rattle.art_header.specs.declared.node_type.NodeType.{NodeType}
 use Rattle.art_header.specs.declared.node_type.NodeType.TheVariants as kinds
 use Rattle.art_header.specs.NodeType.{least_children}
@@ -29,7 +28,7 @@ use Rattle.art_tree.specs.declared.path.TreePath.{TreePath}
 use Rattle.art_tree.specs.declared.path.TreePath.TheVariants.{ChildOfRoot, Normal}
 use Rattle.art_tree.proofs.DictionaryLemmas.{AreApart, empty-entry, held-entry, leaf-held-in, leaf-of-entry, scan-in}
 use Rattle.art_tree.proofs.Exchanging.{leaves-plug, stands-part, the-one}
-use Rattle.art_tree.proofs.InsertLemmas.{one-leaf}
+use Rattle.art_tree.proofs.NodeLemmas.{one-leaf}
 use Rattle.art_tree.proofs.Rising.{cases_held, cases_pointer, leaf-of}
 use Rattle.art_tree.proofs.WayContexts.{leaf-child, leaf-normal}
 use Rattle.art_tree.proofs.WayLemmas.{leaf-kind}
@@ -194,11 +193,7 @@ module _ {K V : Type 0} {P : ℕ} (tree : Tree (OpaqueNodePtr K V P)) (pointer :
   pub hangs-normal : (grandparent : OpaqueNodePtr K V P) (parent_byte : ℕ) (parent : OpaqueNodePtr K V P) (byte : ℕ) → path ≡ Normal grandparent parent_byte parent byte → above ≡ (Some (grandparent, parent_byte), parent, byte) → HangsUnder tree pointer above.1 above.2 above.0
   hangs-normal grandparent parent_byte parent byte is same = subst (λ a. HangsUnder tree pointer a.1 a.2 a.0) (sym same) (leaf-normal tree pointer grandparent parent_byte parent byte (subst (IsPathTo tree pointer) is way))
 
--- what an option tells of a value that is there, and where there is none
-pub if-some : {X : Type 0} (o : Option X) (Q : X → Type 0) (x : X) → o ≡ Some x → IfSome o Q → Q x
-if-some None Q x is holds = absurd (cc)
-if-some (Some y) Q x is holds = subst Q (same_Some y x is) holds
-
+-- what an option tells where there is no value
 pub from-if-none : {X : Type 0} (o : Option X) (Q : Type 0) → o ≡ None → IfNone o Q → Q
 from-if-none None Q is holds = holds
 from-if-none (Some y) Q is holds = absurd (cc)

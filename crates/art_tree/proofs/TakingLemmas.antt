@@ -1,5 +1,5 @@
 -- A part of a tree that takes a leaf more.
-use Rattle.std.proofs.Common.{◌≡◌, ◌≢◌, ◌⊎◌, ◌∙◌, ℕ, zero, suc, ◌+◌, ◌-◌, ◌<◌, ◌≤◌, ◌^◌, true, ◌&&◌, nat_lt, List, [], ◌∷◌, ◌++◌, length, length-append, map, filter, take, drop, slice_get, AllPairs, Contains, Some, None, refl, sym, ap, subst, inl, inr, arith, append_assoc, append-nil}
+use Rattle.std.proofs.Common.{◌≡◌, ◌≢◌, ◌⊎◌, ◌∙◌, ℕ, zero, suc, ◌+◌, ◌-◌, ◌<◌, ◌≤◌, ◌^◌, true, ◌&&◌, nat_lt, if◌then◌else◌, List, [], ◌∷◌, ◌++◌, length, length-append, map, filter, take, drop, slice_get, AllPairs, Contains, Some, None, refl, sym, ap, subst, inl, inr, arith, append_assoc, append-nil}
 use Rattle.std.proofs.lemmas.Bool.{cases_lt, cases_eq, eq-eqb, le-ltb, lt-ltb, ne_eqb}
 use Rattle.std.proofs.Math.Bool.{and-true}
 use Rattle.std.proofs.lemmas.List.{drop_at, drop-drop, length-take-le}
@@ -18,13 +18,37 @@ use Rattle.art_arena.specs.declared.ends.End.{End}
 use Rattle.art_arena.specs.declared.ends.End.TheVariants.{First, Last}
 use Rattle.art_tree.specs.Loading.{IsSnug, AreSnug}
 use Rattle.art_tree.specs.Places.{reach}
-use Rattle.art_tree.specs.Plan.{join, one_branch}
-use Rattle.art_tree.specs.Taking.{HasPlace, without_front, with_leaf, branches_left, branches_right, two_children}
-use Rattle.art_tree.proofs.BranchLemmas.{roots-join, leaves-join, places-join, sound-join}
+use Rattle.art_tree.specs.Plan.{join}
+use Rattle.art_tree.specs.Raising.{two_children}
+use Rattle.art_tree.proofs.BranchLemmas.{roots-join, leaves-join, places-join, sound-join, one_branch}
 use Rattle.art_tree.proofs.DictionaryLemmas.{after-first}
 use Rattle.art_tree.proofs.Exchanging.{sound-split, none-below, all-above}
 use Rattle.art_tree.proofs.FrontLemmas.{key-on}
 use Rattle.art_tree.proofs.Rising.{snug-join, kind-4, kind-16, kind-48, kind-256}
+
+module _ {H : Type 0} where
+  -- the tree without the first bytes of its prefix; a leaf is as it was
+  abbrev pub without_front : ℕ → Tree H → Tree H
+  without_front len (Leaf pointer text) = Leaf pointer text
+  without_front len (Inner pointer prefix branches) = Inner pointer (drop len prefix) branches
+
+  -- between these branches of a node under this path with this prefix there is a place for the byte
+  pub record HasPlace (path prefix : List ℕ) (before : Branches H) (byte : ℕ) (after : Branches H) : Type 0 where
+    pub sound : AreSound (path ++ prefix) (join before after)
+    pub some : 1 ≤ length (branch_roots (join before after))
+    pub ascending : (child : H) → IsAscending (key_bytes (branch_roots before ++ (byte, child) ∷ branch_roots after))
+
+  -- the node with a leaf at that place
+  abbrev pub with_leaf : H → List ℕ → Branches H → ℕ → H → List ℕ → Branches H → Tree H
+  with_leaf pointer prefix before byte leaf text after = Inner pointer prefix (join before (Branch byte (Leaf leaf text) after))
+
+  -- the branches left of a byte, where one tree stands under another byte
+  abbrev pub branches_left : ℕ → ℕ → Tree H → Branches H
+  branches_left byte other tree = if nat_lt byte other then NoBranch else one_branch other tree
+
+  -- the branches right of it
+  abbrev pub branches_right : ℕ → ℕ → Tree H → Branches H
+  branches_right byte other tree = if nat_lt byte other then one_branch other tree else NoBranch
 
 -- a byte without a branch parts the branches into those of lesser bytes and those of greater ones
 record IsParted {H : Type 0} (low : ℕ) (branches : Branches H) (byte : ℕ) : Type 0 where

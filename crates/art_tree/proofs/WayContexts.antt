@@ -4,15 +4,21 @@ use Rattle.std.proofs.lemmas.Option.{same_Some}
 use Rattle.art_nodes.specs.declared.pointers.OpaqueNodePtr.{OpaqueNodePtr}
 use Rattle.art_arena.specs.Trees.{Tree, Leaf, Inner, Branches, NoBranch, Branch}
 use Rattle.art_tree.specs.Contexts.{Context, Whole, Under, plug}
-use Rattle.art_tree.specs.Dropping.{HangsUnder, steps_to}
+use Rattle.art_tree.specs.Dropping.{HangsUnder}
 use Rattle.art_tree.specs.Paths.{path_of}
 use Rattle.art_tree.specs.Places.{above}
-use Rattle.art_tree.specs.Plan.{join, one_branch}
+use Rattle.art_tree.specs.Plan.{join}
 use Rattle.art_tree.specs.Search.{IsWay, IsWayUnder, IsPathTo}
 use Rattle.art_tree.specs.declared.path.TreePath.{TreePath}
 use Rattle.art_tree.specs.declared.path.TreePath.TheVariants.{Root, ChildOfRoot, Normal}
+use Rattle.art_tree.proofs.BranchLemmas.{one_branch}
 use Rattle.art_tree.proofs.Leading.{join_assoc}
 use Rattle.art_tree.proofs.PathLemmas.{path_of-visit, visited}
+
+-- the inner nodes above a place from the root down, each with the byte that is taken from it
+abbrev pub steps_to : {H : Type 0} → Context H → List (H × ℕ)
+steps_to Whole = []
+steps_to (Under above pointer prefix before byte after) = steps_to above ++ (pointer, byte) ∷ []
 
 -- the place of a leaf in a tree, to which these steps lead
 pub record HasLeafAt {H : Type 0} (tree : Tree H) (steps : List (H × ℕ)) (pointer : H) : Type 0 where

@@ -12,7 +12,6 @@ pub mod Refusals
 pub mod RefusalTexts
 pub mod Edits
 pub mod Places
-pub mod Taking
 pub mod Inserting
 pub mod Hanging
 pub mod Cuts

@@ -40,10 +40,6 @@ module _ {H : Type 0} where
   join NoBranch more = more
   join (Branch byte tree others) more = Branch byte tree (join others more)
 
-  -- one branch alone
-  abbrev pub one_branch : ℕ → Tree H → Branches H
-  one_branch byte tree = Branch byte tree NoBranch
-
   abbrev mutual
     -- the steps that make a tree which begins after so many bytes, under a byte
     pub steps_of : ℕ → ℕ → Tree H → List Step

@@ -1,5 +1,5 @@
 -- Trees on their way from a plan into an arena. No public clause cites it.
-use Rattle.std.specs.Prelude.{◌≡◌, ◌≢◌, ℕ, ◌+◌, ◌<◌, ◌≤◌, List, map, length, take, slice_index_or}
+use Rattle.std.specs.Prelude.{◌≡◌, ◌≢◌, ℕ, ◌+◌, ◌<◌, ◌≤◌, List, [], ◌∷◌, map, length, take, slice_index_or, nat_lt, if◌then◌else◌}
 use Rattle.art_header.specs.Header.{capped}
 use Rattle.art_header.specs.declared.node_type.NodeType.{NodeType}
 use Rattle.art_nodes.specs.ChildMap.{ChildMap}
@@ -18,6 +18,11 @@ use Rattle.art_tree.specs.Search.{leaf_pointer}
 -- the node with this prefix and these children
 abbrev pub node_of : {H : Type 0} → ℕ → List ℕ → ChildMap H → nodes.Inner H
 node_of room prefix children = record { prefix_len = length prefix; stored = take (capped room (length prefix)) prefix; children = children }
+
+-- two children by ascending byte
+abbrev pub two_children : {H : Type 0} → ℕ → H → ℕ → H → ChildMap H
+two_children byte child other node =
+    if nat_lt byte other then (byte, child) ∷ (other, node) ∷ [] else (other, node) ∷ (byte, child) ∷ []
 
 module _ {K V : Type 0} {P : ℕ} where
   -- a new node of this kind stands at a place that was free

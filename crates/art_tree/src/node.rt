@@ -1,5 +1,5 @@
 //! What loads, inserts and removals do to one inner node of an arena.
-ghost use Rattle.std.specs.Prelude.{◌≡◌, ◌≢◌, ◌<◌, ◌≤◌, ◌-◌, ◌^◌, length, take, drop};
+ghost use Rattle.std.specs.Prelude.{◌≡◌, ◌≢◌, ◌<◌, ◌≤◌, ◌-◌, ◌^◌, length, take, drop, IfSome, IsSome};
 ghost use Rattle.std.specs.Mem.{FitsInMemory};
 ghost use Rattle.art_header.specs.NodeType.{most_children};
 ghost use Rattle.art_header.specs.declared.node_type.NodeType.TheVariants.{Leaf};
@@ -160,25 +160,29 @@ pub(crate) fn give_up<K, V, const PREFIX_LEN: usize>(
     }
 }
 
-/// Gives up the inner node at the pointer for this one of another kind, and answers where that is.
+/// Gives up the inner node at the pointer for this one of another kind, and answers where that is; or
+/// changes nothing where memory is refused. Takes no memory where there is room for the kind.
 // Kept out of its caller, whose stack would have the nodes of each kind several times.
 #[inline(never)]
 pub(crate) fn replace_node<
     K,
     V,
     const PREFIX_LEN: usize,
-    R: ArenaInnerNode<K, V, PREFIX_LEN> + Node<PREFIX_LEN, Key = K, Value = V>,
+    R: ArenaInnerNode<K, V, PREFIX_LEN> + Node<PREFIX_LEN, Key = K, Value = V> + Drop,
 >(
     arena: &mut NodeArena<K, V, PREFIX_LEN>,
     pointer: OpaqueNodePtr<K, V, PREFIX_LEN>,
     node: R,
-) -> OpaqueNodePtr<K, V, PREFIX_LEN>
+) -> Option<OpaqueNodePtr<K, V, PREFIX_LEN>>
     requires held { held arena.old pointer ≢ Nothing }
     requires inner { node_kind pointer ≢ Leaf }
-    requires room { 0 < room arena.old R.TYPE }
-    ensures { IsReplaced arena.old arena.new pointer R.TYPE (R.inner node) result }
+    ensures replaced { IfSome result
+        (IsReplaced arena.old arena.new pointer R.TYPE (R.inner node)) }
+    ensures succeeds { 0 < room arena.old R.TYPE → IsSome result }
 {
-    let placed = arena.allocate_node_ptr(node).unwrap();
+    let Ok(placed) = arena.allocate_node_ptr(node) else {
+        return None;
+    };
     give_up(arena, pointer);
-    placed.to_opaque()
+    Some(placed.to_opaque())
 }

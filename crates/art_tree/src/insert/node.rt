@@ -4,21 +4,20 @@ ghost use Rattle.art_header.specs.Header.{StandsFor};
 ghost use Rattle.art_header.specs.NodeType.{most_children, grown_kind};
 ghost use Rattle.art_header.specs.declared.node_type.NodeType.TheVariants.{Leaf, Node4};
 ghost use Rattle.art_nodes.specs.ChildMap.{child_at};
-ghost use Rattle.art_nodes.specs.Inner.{Inner, HasRoomFor, header_of, node_with_child};
+ghost use Rattle.art_nodes.specs.Inner.{Inner, header_of, node_with_child};
 ghost use Rattle.art_nodes.specs.Pointers.{node_kind, slab_key};
 ghost use Rattle.art_arena.specs.Arena.{held, HeldInner, Nothing, room, Changes, SameNodes, SameRoom};
 ghost use Rattle.art_arena.specs.Links.{HoldsLeaf, text_at};
 ghost use Rattle.art_tree.specs.Edits.{HasOneMore, HasRoomToGrow, IsMoved, node_with_prefix};
-ghost use Rattle.art_tree.specs.Raising.{node_of, IsPlaced};
+ghost use Rattle.art_tree.specs.Raising.{node_of, two_children, IsPlaced};
 ghost use Rattle.art_tree.specs.Search.{leaf_pointer};
-ghost use Rattle.art_tree.specs.Taking.{two_children};
 
 use crate::insert::place::Fork;
 use crate::node::{num_children, place_as, replace_node, write_child};
-use art_arena::{AnyRef, ArenaInnerNode, NodeArena};
+use art_arena::{AnyRef, NodeArena};
 use art_bytes::AsBytes;
 use art_nodes::{
-    InnerNode, InnerNode4, InnerNodeCommon, LeafNode, Node, NodePtr, NodeType, OpaqueNodePtr,
+    InnerNode, InnerNode4, InnerNodeCommon, LeafNode, NodePtr, NodeType, OpaqueNodePtr,
 };
 use std::alloc::AllocError;
 
@@ -60,32 +59,19 @@ pub(crate) fn reserve_growth<K, V, const PREFIX_LEN: usize>(
     arena.reserve(grown, 1)
 }
 
-// Puts this node, with a child more, in the place of the one at the pointer, which is given up. Kept
-// out of its caller, whose stack would have the nodes of each kind several times.
+// The same node of the next kind with a child more. Kept out of its caller, whose stack would have the
+// nodes of each kind several times.
 #[inline(never)]
-fn move_to<
-    K,
-    V,
-    const PREFIX_LEN: usize,
-    G: ArenaInnerNode<K, V, PREFIX_LEN> + Node<PREFIX_LEN, Key = K, Value = V>,
->(
-    arena: &mut NodeArena<K, V, PREFIX_LEN>,
-    pointer: OpaqueNodePtr<K, V, PREFIX_LEN>,
-    mut grown: G,
+fn with_child_more<const PREFIX_LEN: usize, N: InnerNode<PREFIX_LEN>>(
+    node: &N,
     byte: u8,
-    child: OpaqueNodePtr<K, V, PREFIX_LEN>,
-) -> OpaqueNodePtr<K, V, PREFIX_LEN>
-    requires kind { G.TYPE ≡ grown_kind (node_kind pointer) }
-    requires held { held arena.old pointer ≢ Nothing }
-    requires inner { node_kind pointer ≢ Leaf }
-    requires full { length (G.inner grown).children ≡ most_children (node_kind pointer) }
-    requires has_room { HasRoomFor G.room (G.inner grown) byte }
-    requires room { 0 < room arena.old G.TYPE }
-    ensures { IsMoved arena.old arena.new pointer
-        (G.inner grown) (node_with_child (G.inner grown) byte child) result }
+    child: OpaqueNodePtr<N::Key, N::Value, PREFIX_LEN>,
+) -> N::GrownNode
+    ensures { N.GrownNode.inner result ≡ node_with_child (N.inner node.now) byte child }
 {
+    let mut grown = node.grow();
     grown.write_child(byte, child);
-    replace_node(arena, pointer, grown)
+    grown
 }
 
 // Gives the full inner node at the pointer a child more, in a node of the next kind, for which there
@@ -109,16 +95,16 @@ fn grow_child<K, V, const PREFIX_LEN: usize>(
 {
     match arena.node_ref(pointer) {
         AnyRef::Node4(node) => {
-            let grown = node.grow();
-            move_to(arena, pointer, grown, byte, child)
+            let grown = with_child_more(node, byte, child);
+            replace_node(arena, pointer, grown).unwrap()
         }
         AnyRef::Node16(node) => {
-            let grown = node.grow();
-            move_to(arena, pointer, grown, byte, child)
+            let grown = with_child_more(node, byte, child);
+            replace_node(arena, pointer, grown).unwrap()
         }
         AnyRef::Node48(node) => {
-            let grown = node.grow();
-            move_to(arena, pointer, grown, byte, child)
+            let grown = with_child_more(node, byte, child);
+            replace_node(arena, pointer, grown).unwrap()
         }
         // A node of 256 children has one under every byte.
         AnyRef::Node256(node) => {

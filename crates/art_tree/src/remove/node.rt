@@ -143,15 +143,15 @@ fn shrink_node<K, V, const PREFIX_LEN: usize>(
     match arena.node_ref(pointer) {
         AnyRef::Node16(node) => {
             let shrunk = node.shrink();
-            replace_node(arena, pointer, shrunk)
+            replace_node(arena, pointer, shrunk).unwrap()
         }
         AnyRef::Node48(node) => {
             let shrunk = node.shrink();
-            replace_node(arena, pointer, shrunk)
+            replace_node(arena, pointer, shrunk).unwrap()
         }
         AnyRef::Node256(node) => {
             let shrunk = node.shrink();
-            replace_node(arena, pointer, shrunk)
+            replace_node(arena, pointer, shrunk).unwrap()
         }
         AnyRef::Node4(_) | AnyRef::LeafNode(_) => unreachable!(),
     }

@@ -4,7 +4,8 @@ use Rattle.art_nodes.specs.Pointers.{slab_key}
 use Rattle.art_arena.specs.Links.{Spells, leaf_at}
 use Rattle.art_tree.specs.Search.{leaf_pointer}
 use Rattle.art_tree.proofs.DictionaryLemmas.{leaf-held-in}
-use Rattle.art_tree.proofs.InsertLemmas.{one-leaf, replaced-alone, replaced-entered, replaced-was}
+use Rattle.art_tree.proofs.InsertLemmas.{replaced-alone, replaced-entered, replaced-was}
+use Rattle.art_tree.proofs.NodeLemmas.{one-leaf}
 use Rattle.art_tree.proofs.Rising.{leaf-of}
 use Rattle.art_tree.proofs.insert.replace_entry.Goals as goal
 

@@ -15,3 +15,6 @@ write_child-requires g c =
     let is_inner : node_kind c.in-Some.parent ≢ Leaf = parent.is_inner in
     let has_room : (node : Inner _) → held arena c.in-Some.parent ≡ HeldInner node → HasRoomFor (most_children (node_kind c.in-Some.parent)) node c.in-Some.byte = parent.has_room in
     search
+
+pub returns-clause-room : goal.returns-clause-room
+returns-clause-room g c = c.write_child.ensures.room

@@ -7,7 +7,8 @@ use Rattle.art_arena.specs.Trees.{Tree}
 use Rattle.art_tree.specs.Art.{IsAlone}
 use Rattle.art_tree.specs.Dropping.{HangsUnder}
 use Rattle.art_tree.specs.Search.{leaf_pointer}
-use Rattle.art_tree.proofs.HangLemmas.{inner-held, inner-kind}
+use Rattle.art_tree.proofs.HangLemmas.{inner-kind}
+use Rattle.art_tree.proofs.NodeLemmas.{some-inner}
 use Rattle.art_tree.proofs.RemovalLemmas.{parent-there}
 use Rattle.art_tree.proofs.remove.remove_from.Goals as goal
 
@@ -16,7 +17,7 @@ num_children-requires g c =
     let arena = c.args.arena.now in
     let (tree, alone, hangs) = c.requires in
     let (node, there) = parent-there g.K.AsBytes.text arena c.args.root tree alone (leaf_pointer c.args.leaf) c.args.parent c.args.byte c.args.above hangs in
-    let is_held : held arena c.args.parent ≢ Nothing = inner-held arena c.args.parent node there in
+    let is_held : held arena c.args.parent ≢ Nothing = some-inner (held arena c.args.parent) node there in
     let is_inner : node_kind c.args.parent ≢ kinds.Leaf = inner-kind arena c.args.parent node there in
     search
 

@@ -5,7 +5,8 @@ use Rattle.art_tree.specs.Removing.{FreesOneEach, IsLeft, NeedsSmallerNode}
 use Rattle.art_tree.proofs.DictionaryLemmas.{empty-entry}
 use Rattle.art_tree.proofs.Growing.{art-same}
 use Rattle.art_tree.proofs.KeyLemmas.{keys-same, keys-left}
-use Rattle.art_tree.proofs.RemovalLemmas.{from-if-none, if-some}
+use Rattle.art_tree.proofs.NodeLemmas.{if-some}
+use Rattle.art_tree.proofs.RemovalLemmas.{from-if-none}
 use Rattle.art_tree.proofs.tree.changes.ArtTree+K+V+PREFIX_LEN.remove.Goals as goal
 
 pub returns-in_default-clause-removed : goal.returns-in_default-clause-removed
