@@ -502,9 +502,10 @@ fn a_refused_load_gives_256_entries_back(rt: HostRuntime) -> Result<(), Fail> {
     Ok(())
 }
 
-// Inserts a byte past the end. Where that is refused memory, the tree is as before, the next insert takes
+// Inserts the byte after the last one. Where that is refused memory, the tree is as before, the next insert takes
 // the entry, and the test ends.
-fn grow(rt: &impl Abort, tree: &mut Bytes, end: usize, byte: u8) -> Result<(), Fail> {
+fn grow(rt: &impl Abort, tree: &mut Bytes, byte: u8) -> Result<(), Fail> {
+    let end = usize::from(byte);
     let root = tree.root();
     let fault = match tree.insert([byte], byte) {
         Ok(_) => {
@@ -527,7 +528,7 @@ fn grow(rt: &impl Abort, tree: &mut Bytes, end: usize, byte: u8) -> Result<(), F
 #[test]
 fn a_refused_growth_leaves_the_tree(rt: HostRuntime) -> Result<(), Fail> {
     for (end, byte) in [(4, 4), (16, 16), (48, 48)] {
-        grow(&rt, &mut load_bytes(&rt, rt.alloc(), end)?, end, byte)?;
+        grow(&rt, &mut load_bytes(&rt, rt.alloc(), end)?, byte)?;
     }
     Ok(())
 }
