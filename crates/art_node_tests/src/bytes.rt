@@ -72,9 +72,9 @@ fn bytes_through_a_key(bytes: &[u8]) -> &[u8]
 fn check_ascending<K: OrderedBytes>(rt: &impl Abort, keys: &[K]) {
     for (i, a) in keys.iter().enumerate() {
         for (j, b) in keys.iter().enumerate() {
-            assert!(rt; a.cmp(b) == i.cmp(&j), "keys {i} and {j}");
-            assert!(rt; order_of_texts(a, b) == i.cmp(&j), "texts {i} and {j}");
-            assert!(rt; have_one_text(a, b) == (i == j), "texts {i} and {j}");
+            assert!(rt; a.cmp(b) == i.cmp(&j));
+            assert!(rt; order_of_texts(a, b) == i.cmp(&j));
+            assert!(rt; have_one_text(a, b) == (i == j));
         }
     }
 }
@@ -83,9 +83,15 @@ fn check_ascending<K: OrderedBytes>(rt: &impl Abort, keys: &[K]) {
 fn check_no_fronts<K: NoPrefixesBytes>(rt: &impl Abort, keys: &[K]) {
     for (i, a) in keys.iter().enumerate() {
         for (j, b) in keys.iter().enumerate() {
-            assert!(rt; has_front(a, b) == (i == j), "keys {i} and {j}");
+            assert!(rt; has_front(a, b) == (i == j));
         }
     }
+}
+
+// Both.
+fn check_apart<K: OrderedBytes + NoPrefixesBytes>(rt: &impl Abort, keys: &[K]) {
+    check_ascending(rt, keys);
+    check_no_fronts(rt, keys);
 }
 
 #[test]
@@ -121,21 +127,17 @@ fn a_proper_front_is_less_and_else_the_first_byte_that_differs_decides(rt: HostR
 fn arrays_and_wrapped_keys_ascend_and_none_begins_another(rt: HostRuntime) -> Result<(), Fail> {
     let alloc = rt.alloc();
     let pairs = [[0, 0], [0, 255], [1, 0], [127, 1], [128, 0]];
-    check_ascending(&rt, &pairs);
-    check_no_fronts(&rt, &pairs);
+    check_apart(&rt, &pairs);
     check_no_fronts(&rt, &[[0; 0]]);
 
     let (low, high) = ([7, 200], [8, 0]);
 
     let borrowed = [&low, &high];
-    check_ascending(&rt, &borrowed);
-    check_no_fronts(&rt, &borrowed);
+    check_apart(&rt, &borrowed);
     let boxed = [Box::new(alloc, low)?, Box::new(alloc, high)?];
-    check_ascending(&rt, &boxed);
-    check_no_fronts(&rt, &boxed);
+    check_apart(&rt, &boxed);
     let counted = [Rc::new(alloc, low)?, Rc::new(alloc, high)?];
-    check_ascending(&rt, &counted);
-    check_no_fronts(&rt, &counted);
+    check_apart(&rt, &counted);
     Ok(())
 }
 
@@ -175,8 +177,7 @@ fn c_strings_have_one_zero_the_last(rt: HostRuntime) -> Result<(), Fail> {
     for text in texts {
         keys.push(c_string(alloc, text)?)?;
     }
-    check_ascending(&rt, &keys);
-    check_no_fronts(&rt, &keys);
+    check_apart(&rt, &keys);
     let long = vec![in alloc; 7; 1000]?;
     assert!(rt; text_of(&c_string(alloc, &long)?).len() == 1001);
 

@@ -1,8 +1,8 @@
 //! Values as keys: their bytes, their order, and what is read back.
-use art_bytes::AsBytes;
+use art_bytes::{AsBytes, OrderedBytes};
 use art_mapped::{
-    BytesMapping, ConcatTuple, Element, FixedBytes, Identity, IntegerForm, Mapped,
-    NoPrefixesMapping, OrderedMapping, Signed, Single, ToBigEndian, ToIBE, ToOctets, ToUBE,
+    BytesMapping, ConcatTuple, Domain, Element, FixedBytes, Identity, IntegerForm, Mapped,
+    NoPrefixesMapping, Octets, OrderedMapping, Signed, Single, ToBigEndian, ToIBE, ToOctets, ToUBE,
     Unsigned,
 };
 use std::alloc::{AllocError, Global};
@@ -34,50 +34,83 @@ fn written<B: BytesMapping<D>, D>(
     Ok(())
 }
 
+/// The same of numbers, addresses and sequences, in this form.
+fn written_in<F, D: Domain<F>>(
+    rt: &impl Abort,
+    alloc: Global,
+    value: D,
+    bytes: &[u8],
+) -> Result<(), AllocError> {
+    written::<ToBigEndian<F>, D>(rt, alloc, value, bytes)
+}
+
+fn unsigned_numbers_as_bytes(rt: &impl Abort, alloc: Global) -> Result<(), AllocError> {
+    written_in::<Unsigned, u16>(rt, alloc, 258, &[1, 2])?;
+    written_in::<Unsigned, u32>(rt, alloc, 65536, &[0, 1, 0, 0])?;
+    written_in::<Unsigned, usize>(rt, alloc, 1, &[0, 0, 0, 0, 0, 0, 0, 1])?;
+    let value = NonZeroU16::new(258).expect(rt, "258 is not 0");
+    written_in::<Unsigned, NonZeroU16>(rt, alloc, value, &[1, 2])
+}
+
+fn signed_numbers_as_bytes(rt: &impl Abort, alloc: Global) -> Result<(), AllocError> {
+    for (value, bytes) in [(-1, [127, 255]), (0, [128, 0])] {
+        written_in::<Signed, i16>(rt, alloc, value, &bytes)?;
+    }
+    for (value, byte) in [(-128, 0), (127, 255)] {
+        written_in::<Signed, i8>(rt, alloc, value, &[byte])?;
+    }
+    for (value, bytes) in [(-212, [127, 255, 255, 44]), (212, [128, 0, 0, 212])] {
+        written_in::<Signed, i32>(rt, alloc, value, &bytes)?;
+    }
+    written_in::<Signed, i64>(rt, alloc, -1, &[127, 255, 255, 255, 255, 255, 255, 255])
+}
+
+fn signed_numbers_but_zero_as_bytes(rt: &impl Abort, alloc: Global) -> Result<(), AllocError> {
+    let value = NonZeroI16::new(256).expect(rt, "256 is not 0");
+    written_in::<Signed, NonZeroI16>(rt, alloc, value, &[129, 0])?;
+    let value = NonZeroI8::new(-1).expect(rt, "-1 is not 0");
+    written_in::<Signed, NonZeroI8>(rt, alloc, value, &[127])
+}
+
+fn addresses_and_sequences_as_bytes(rt: &impl Abort, alloc: Global) -> Result<(), AllocError> {
+    written_in::<Octets, Ipv4Addr>(rt, alloc, Ipv4Addr::BROADCAST, &[255, 255, 255, 255])?;
+    let loopback = [0, 0, 0, 0, 0, 0, 0, 0, 0, 0, 0, 0, 0, 0, 0, 1];
+    written_in::<Octets, Ipv6Addr>(rt, alloc, Ipv6Addr::LOCALHOST, &loopback)?;
+    written_in::<Unsigned, [u16; 2]>(rt, alloc, [1, 256], &[0, 1, 1, 0])?;
+    let numbers: Vec<i8> = vec![in alloc; -1, 0, 1]?;
+    written_in::<Signed, Vec<i8>>(rt, alloc, numbers, &[127, 128, 129])
+}
+
 #[test]
 fn numbers_addresses_and_sequences_as_bytes(rt: HostRuntime) -> Result<(), Fail> {
-    let alloc = rt.alloc();
-    written::<ToUBE, u16>(&rt, alloc, 258, &[1, 2])?;
-    written::<ToUBE, u32>(&rt, alloc, 65536, &[0, 1, 0, 0])?;
-    written::<ToUBE, usize>(&rt, alloc, 1, &[0, 0, 0, 0, 0, 0, 0, 1])?;
-    written::<ToIBE, i16>(&rt, alloc, -1, &[127, 255])?;
-    written::<ToIBE, i16>(&rt, alloc, 0, &[128, 0])?;
-    written::<ToIBE, i8>(&rt, alloc, -128, &[0])?;
-    written::<ToIBE, i8>(&rt, alloc, 127, &[255])?;
-    written::<ToIBE, i32>(&rt, alloc, -212, &[127, 255, 255, 44])?;
-    written::<ToIBE, i32>(&rt, alloc, 212, &[128, 0, 0, 212])?;
-    written::<ToIBE, i64>(&rt, alloc, -1, &[127, 255, 255, 255, 255, 255, 255, 255])?;
-    let value = NonZeroI16::new(256).expect(&rt, "256 is not 0");
-    written::<ToIBE, NonZeroI16>(&rt, alloc, value, &[129, 0])?;
-    let value = NonZeroI8::new(-1).expect(&rt, "-1 is not 0");
-    written::<ToIBE, NonZeroI8>(&rt, alloc, value, &[127])?;
-    let value = NonZeroU16::new(258).expect(&rt, "258 is not 0");
-    written::<ToUBE, NonZeroU16>(&rt, alloc, value, &[1, 2])?;
-    written::<ToOctets, Ipv4Addr>(&rt, alloc, Ipv4Addr::BROADCAST, &[255, 255, 255, 255])?;
-    let loopback = [0, 0, 0, 0, 0, 0, 0, 0, 0, 0, 0, 0, 0, 0, 0, 1];
-    written::<ToOctets, Ipv6Addr>(&rt, alloc, Ipv6Addr::LOCALHOST, &loopback)?;
-    written::<ToUBE, [u16; 2]>(&rt, alloc, [1, 256], &[0, 1, 1, 0])?;
-    let numbers: Vec<i8> = vec![in alloc; -1, 0, 1]?;
-    written::<ToIBE, Vec<i8>>(&rt, alloc, numbers, &[127, 128, 129])?;
+    unsigned_numbers_as_bytes(&rt, rt.alloc())?;
+    signed_numbers_as_bytes(&rt, rt.alloc())?;
+    signed_numbers_but_zero_as_bytes(&rt, rt.alloc())?;
+    addresses_and_sequences_as_bytes(&rt, rt.alloc())?;
     Ok(())
 }
 
-/// The keys of the vectors have these bytes, and ascend.
+/// The keys have these bytes, and ascend.
+fn ascend_with_texts<K: OrderedBytes>(rt: &impl Abort, keys: &[K], texts: &[&[u8]]) {
+    assert!(rt; keys.len() == texts.len());
+    for index in 0..keys.len() {
+        assert!(rt; keys[index].as_bytes() == texts[index]);
+        assert!(rt; index == 0 || keys[index - 1] < keys[index]);
+    }
+}
+
+/// So do the keys of these vectors.
 fn vectors_ascend<B: OrderedMapping<Vec<E>>, E: Ord + Copy>(
     rt: &impl Abort,
     alloc: Global,
     vectors: &[&[E]],
     texts: &[&[u8]],
 ) -> Result<(), AllocError> {
-    let mut before: Option<Mapped<B, Vec<E>>> = None;
-    for (numbers, text) in vectors.iter().zip(texts.iter()) {
-        let key = Mapped::<B, Vec<E>>::new(alloc, numbers.to_vec(alloc)?)?;
-        assert!(rt; key.as_bytes() == *text);
-        if let Some(less) = &before {
-            assert!(rt; *less < key);
-        }
-        before = Some(key);
+    let mut keys = Vec::new(alloc);
+    for numbers in vectors {
+        keys.push(Mapped::<B, Vec<E>>::new(alloc, numbers.to_vec(alloc)?)?)?;
     }
+    ascend_with_texts(rt, &keys, texts);
     Ok(())
 }
 
@@ -114,15 +147,46 @@ fn refused<B: BytesMapping<D>, D: Drop>(
     Ok(())
 }
 
+/// The same of numbers, in this form.
+fn refused_number<F, E: Domain<F> + Drop>(
+    rt: &impl Abort,
+    alloc: Global,
+    bytes: <ToBigEndian<F> as BytesMapping<E>>::Bytes,
+) -> Result<(), AllocError> {
+    refused::<ToBigEndian<F>, E>(rt, alloc, bytes)
+}
+
+fn refused_array<F: IntegerForm, E: Element<F>, const N: usize>(
+    rt: &impl Abort,
+    alloc: Global,
+    bytes: &[u8],
+) -> Result<(), AllocError> {
+    refused::<ToBigEndian<F>, [E; N]>(rt, alloc, bytes.to_vec(alloc)?)
+}
+
+fn refused_vector<F: IntegerForm, E: Element<F>>(
+    rt: &impl Abort,
+    alloc: Global,
+    bytes: &[u8],
+) -> Result<(), AllocError> {
+    refused::<ToBigEndian<F>, Vec<E>>(rt, alloc, bytes.to_vec(alloc)?)
+}
+
 #[test]
 fn bytes_of_no_value_are_refused(rt: HostRuntime) -> Result<(), Fail> {
     let alloc = rt.alloc();
-    refused::<ToUBE, NonZeroU16>(&rt, alloc, [0, 0])?;
-    refused::<ToIBE, NonZeroI8>(&rt, alloc, [128])?;
-    refused::<ToIBE, NonZeroI16>(&rt, alloc, [128, 0])?;
-    refused::<ToUBE, [u16; 2]>(&rt, alloc, vec![in alloc; 0, 1, 0]?)?;
-    refused::<ToUBE, Vec<u16>>(&rt, alloc, vec![in alloc; 1, 2, 3]?)?;
-    refused::<ToUBE, [NonZeroU8; 2]>(&rt, alloc, vec![in alloc; 7, 0]?)?;
+    refused_number::<Unsigned, NonZeroU16>(&rt, alloc, [0, 0])?;
+    refused_number::<Signed, NonZeroI8>(&rt, alloc, [128])?;
+    refused_number::<Signed, NonZeroI16>(&rt, alloc, [128, 0])?;
+    refused_array::<Unsigned, u16, 2>(&rt, alloc, &[0, 1, 0])?;
+    refused_vector::<Unsigned, u16>(&rt, alloc, &[1, 2, 3])?;
+    refused_array::<Unsigned, NonZeroU8, 2>(&rt, alloc, &[7, 0])?;
+    Ok(())
+}
+
+#[test]
+fn bytes_of_sequences_are_read(rt: HostRuntime) -> Result<(), Fail> {
+    let alloc = rt.alloc();
     let bytes: Vec<u8> = Vec::new(alloc);
     let read = <ToUBE as BytesMapping<Vec<u16>>>::checked_from_bytes(alloc, bytes)?;
     assert!(rt; matches!(&read, Some(numbers) if numbers.is_empty()));
@@ -154,6 +218,12 @@ fn long_vectors_come_back(rt: HostRuntime) -> Result<(), Fail> {
     assert!(rt; &key.as_bytes()[1996..] == [3, 230, 3, 231].as_slice());
     let again = key.clone()?;
     assert!(rt; again.get(alloc)? == numbers);
+    Ok(())
+}
+
+#[test]
+fn bytes_of_long_vectors_are_read(rt: HostRuntime) -> Result<(), Fail> {
+    let alloc = rt.alloc();
     let bytes = vec![in alloc; 7; 600]?;
     let read = <ToUBE as BytesMapping<Vec<u16>>>::checked_from_bytes(alloc, bytes)?;
     assert!(rt; matches!(&read, Some(read) if read.len() == 300 && read[299] == 1799));

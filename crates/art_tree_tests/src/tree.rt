@@ -121,3 +121,16 @@ fn check<K: AsBytes, const PREFIX_LEN: usize>(
         assert!(rt; search(arena, root, key) == (*answer, *looks));
     }
 }
+
+// Each of these keys is answered so in the tree of `keys`.
+fn check_keys<K: AsBytes + Drop, const PREFIX_LEN: usize>(
+    rt: &impl Abort,
+    alloc: Global,
+    mut arena: NodeArena<K, usize, PREFIX_LEN>,
+    keys: Vec<K>,
+    rows: &[Row],
+) -> Result<(), AllocError> {
+    let root = load_all(alloc, &mut arena, keys)?;
+    check(rt, &arena, root, rows);
+    Ok(())
+}

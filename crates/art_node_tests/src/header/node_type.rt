@@ -25,10 +25,7 @@ fn kinds_know_how_many_children_they_hold(rt: HostRuntime) {
         (NodeType::Node256, 49, false),
     ] {
         assert!(rt; kind != NodeType::Leaf);
-        assert!(rt;
-            kind.should_shrink_inner_node(num_children) == want,
-            "{kind:?} {num_children}"
-        );
+        assert!(rt; kind.should_shrink_inner_node(num_children) == want);
     }
 
     for (kind, least, most) in [
@@ -38,8 +35,8 @@ fn kinds_know_how_many_children_they_hold(rt: HostRuntime) {
         (NodeType::Node256, 49, 256),
         (NodeType::Leaf, 0, 0),
     ] {
-        assert!(rt; *kind.capacity_range().start() == least, "{kind:?}");
-        assert!(rt; *kind.capacity_range().end() == most, "{kind:?}");
+        assert!(rt; *kind.capacity_range().start() == least);
+        assert!(rt; *kind.capacity_range().end() == most);
     }
 
     assert!(rt; kinds_ascend());

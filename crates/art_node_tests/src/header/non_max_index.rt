@@ -12,20 +12,28 @@ fn is_below(a: NonMaxIndex, b: NonMaxIndex) -> bool
 }
 
 #[test]
-fn indices_are_all_bytes_but_the_last(rt: HostRuntime) -> Result<(), Fail> {
-    assert!(rt; NonMaxIndex::new(0).map(|index| index.get()) == Some(0));
-    assert!(rt; NonMaxIndex::new(19).map(|index| index.get()) == Some(19));
-    assert!(rt; NonMaxIndex::new(254).map(|index| index.get()) == Some(254));
+fn indices_are_all_bytes_but_the_last(rt: HostRuntime) {
+    for number in [0, 19, 254] {
+        assert!(rt; NonMaxIndex::new(number).map(|index| index.get()) == Some(number));
+    }
     assert!(rt; NonMaxIndex::new(255) == None);
     assert!(rt; NonMaxIndex::new_unchecked(7).get() == 7);
     assert!(rt; NonMaxIndex::default().get() == 0);
+}
 
+#[test]
+fn numbers_become_indices_and_back(rt: HostRuntime) -> Result<(), Fail> {
     assert!(rt; u8::from(NonMaxIndex::try_from(0u8)?) == 0);
     assert!(rt; usize::from(NonMaxIndex::try_from(254usize)?) == 254);
     assert!(rt; NonMaxIndex::try_from(255u8) == Err(TryFromByteError));
-    assert!(rt; NonMaxIndex::try_from(255usize) == Err(TryFromByteError));
-    assert!(rt; NonMaxIndex::try_from(256usize) == Err(TryFromByteError));
+    for number in [255usize, 256] {
+        assert!(rt; NonMaxIndex::try_from(number) == Err(TryFromByteError));
+    }
+    Ok(())
+}
 
+#[test]
+fn indices_ascend_as_their_numbers(rt: HostRuntime) {
     let (zero, one, two) = (
         NonMaxIndex::new_unchecked(0),
         NonMaxIndex::new_unchecked(1),
@@ -33,7 +41,10 @@ fn indices_are_all_bytes_but_the_last(rt: HostRuntime) -> Result<(), Fail> {
     );
     assert!(rt; is_below(zero, one) && is_below(one, two) && !is_below(two, zero));
     assert!(rt; zero == NonMaxIndex::default() && one != two);
+}
 
+#[test]
+fn a_number_that_is_no_index_is_told(rt: HostRuntime) -> Result<(), Fail> {
     let text = format!(in rt.alloc(); "{}", TryFromByteError)?;
     assert!(rt; text.as_str() == "out of range integral type conversion attempted");
     Ok(())

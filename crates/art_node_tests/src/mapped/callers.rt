@@ -12,7 +12,7 @@ use super::*;
 use crate::bytes::has_front;
 use crate::bytes::using::order_of_texts;
 use crate::fixtures::hash_of;
-use art_bytes::{NoPrefixesBytes, OrderedBytes};
+use art_bytes::NoPrefixesBytes;
 use std::hash::{DefaultHasher, Hash, Hasher};
 
 /// The key of an address is its octets, and is always made.
@@ -154,12 +154,18 @@ fn ascend<K: OrderedBytes + NoPrefixesBytes>(rt: &impl Abort, less: &K, more: &K
 }
 
 #[test]
-fn callers_make_and_compare_keys(rt: HostRuntime) -> Result<(), Fail> {
+fn callers_make_keys(rt: HostRuntime) -> Result<(), Fail> {
     let alloc = rt.alloc();
     assert!(rt; host(alloc, Ipv4Addr::LOCALHOST)?.as_bytes() == [127, 0, 0, 1].as_slice());
     let steps = path(alloc, vec![in alloc; -1, 1]?)?;
     assert!(rt; steps.as_bytes() == [127, 255, 128, 1].as_slice());
     assert!(rt; path_again(&steps)? == steps);
+    Ok(())
+}
+
+#[test]
+fn callers_compare_keys(rt: HostRuntime) -> Result<(), Fail> {
+    let alloc = rt.alloc();
     let (less, more) = (Mapped::new(alloc, -3)?, Mapped::new(alloc, 2)?);
     assert!(rt; by_size(&less, &more) == Ordering::Less);
     assert!(rt; compared::<ToUBE, u8>(alloc, 7, 6)? == Ordering::Greater);
@@ -172,16 +178,26 @@ fn callers_get_values_back(rt: HostRuntime) -> Result<(), Fail> {
     assert!(rt; element_back::<Unsigned, u64>(alloc, 1 << 40)? == 1 << 40);
     assert!(rt; unsigned_back(alloc, u64::MAX)? == u64::MAX);
     assert!(rt; element_asked::<Signed, i8>(alloc, [129])? == Some(1));
-
     assert!(rt; ipv6_back(alloc, Ipv6Addr::LOCALHOST)? == Ipv6Addr::LOCALHOST);
     assert!(rt; ipv6_asked(alloc, [0; 16])? == Some(Ipv6Addr::UNSPECIFIED));
+    Ok(())
+}
 
+#[test]
+fn callers_get_arrays_back(rt: HostRuntime) -> Result<(), Fail> {
+    let alloc = rt.alloc();
     assert!(rt; array_back::<Signed, i8, 2>(alloc, [3, -3])? == [3, -3]);
     assert!(rt; array_back::<Signed, i8, 0>(alloc, [])? == []);
     let key = Mapped::new(alloc, [5u32, 6])?;
     assert!(rt; array_of_key::<Unsigned, u32, 2>(alloc, key)? == [5, 6]);
     let bytes = vec![in alloc; 9, 8]?;
     assert!(rt; array_asked::<Unsigned, u8, 2>(alloc, bytes)? == Some([9, 8]));
+    Ok(())
+}
+
+#[test]
+fn callers_get_vectors_back(rt: HostRuntime) -> Result<(), Fail> {
+    let alloc = rt.alloc();
     let back = vector_back::<Unsigned, u16>(alloc, vec![in alloc; 258]?)?;
     assert!(rt; back.as_slice() == [258].as_slice());
     assert!(rt; vector_back::<Unsigned, u16>(alloc, Vec::new(alloc))?.is_empty());
@@ -225,14 +241,34 @@ fn keys_are_in_order_and_none_begins_another(rt: HostRuntime) -> Result<(), Fail
     Ok(())
 }
 
+/// How the bytes of two values' keys compare.
+fn order_of_bytes<B: OrderedMapping<D>, D: Ord + Drop>(
+    alloc: Global,
+    a: D,
+    b: D,
+) -> Result<Ordering, AllocError> {
+    let a = Mapped::<B, D>::new(alloc, a)?;
+    let b = Mapped::<B, D>::new(alloc, b)?;
+    Ok(order_of_texts(&a, &b))
+}
+
+/// Whether the key that stands for `key` begins with the one that stands for `front`.
+fn begins_with<D: NoPrefixesBytes + Drop>(
+    alloc: Global,
+    key: D,
+    front: D,
+) -> Result<bool, AllocError> {
+    let key = Mapped::<Identity, D>::new(alloc, key)?;
+    let front = Mapped::<Identity, D>::new(alloc, front)?;
+    Ok(has_front(&key, &front))
+}
+
 #[test]
 fn fronts_are_told_from_keys(rt: HostRuntime) -> Result<(), Fail> {
     let alloc = rt.alloc();
-    let front = Mapped::<ToIBE, Vec<i8>>::new(alloc, vec![in alloc; 7]?)?;
-    let whole = Mapped::<ToIBE, Vec<i8>>::new(alloc, vec![in alloc; 7, 7]?)?;
-    assert!(rt; order_of_texts(&front, &whole) == Ordering::Less);
-    let less = Mapped::<Identity, [u8; 2]>::new(alloc, [1, 0])?;
-    let more = Mapped::<Identity, [u8; 2]>::new(alloc, [1, 1])?;
-    assert!(rt; !has_front(&more, &less) && has_front(&less, &less));
+    let (front, whole) = (vec![in alloc; 7]?, vec![in alloc; 7, 7]?);
+    assert!(rt; order_of_bytes::<ToIBE, Vec<i8>>(alloc, front, whole)? == Ordering::Less);
+    assert!(rt; !begins_with(alloc, [1, 1], [1, 0])?);
+    assert!(rt; begins_with(alloc, [1, 0], [1, 0])?);
     Ok(())
 }

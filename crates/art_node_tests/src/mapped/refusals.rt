@@ -109,6 +109,14 @@ fn check_from_bytes<B: BytesMapping<D>, D: PartialEq + Drop>(
     }
 }
 
+// The answer is this value.
+fn is_some_of<D: PartialEq>(answer: &Option<D>, wanted: &D) -> bool {
+    match answer {
+        Some(value) => *value == *wanted,
+        None => false,
+    }
+}
+
 // The bytes are asked for this value.
 fn check_asked<B: BytesMapping<D, Bytes = Vec<u8>>, D: PartialEq + Drop>(
     rt: &impl Abort,
@@ -120,15 +128,23 @@ fn check_asked<B: BytesMapping<D, Bytes = Vec<u8>>, D: PartialEq + Drop>(
     assert!(rt; B::is_value(&bytes));
     match B::checked_from_bytes(alloc, bytes) {
         Ok(read) => {
-            assert!(rt; matches!(&read, Some(value) if *value == *wanted));
+            assert!(rt; is_some_of(&read, wanted));
             Ok(())
         }
         Err(AllocError) => {
             let read = B::checked_from_bytes(alloc, same).expect(rt, REFUSED_ONCE);
-            assert!(rt; matches!(&read, Some(value) if *value == *wanted));
+            assert!(rt; is_some_of(&read, wanted));
             Err(ALL_STANDS.into())
         }
     }
+}
+
+// The value of a key that stays.
+fn value_of<B: BytesMapping<D, Bytes = Vec<u8>>, D>(
+    alloc: Global,
+    key: &Mapped<B, D>,
+) -> Result<D, AllocError> {
+    key.clone()?.get(alloc)
 }
 
 // Each call on a value and its bytes, which are these.
@@ -140,14 +156,24 @@ fn check_calls<B: BytesMapping<D, Bytes = Vec<u8>>, D: PartialEq + Drop>(
     text: &[u8],
 ) -> Result<(), Fail> {
     let same = Mapped::<B, D>::new(alloc, again)?;
-    let wanted = same.clone()?.get(alloc)?;
-    let key = check_key::<B, D>(rt, alloc, value, same.clone()?.get(alloc)?, text)?;
+    let wanted = value_of(alloc, &same)?;
+    let key = check_key::<B, D>(rt, alloc, value, value_of(alloc, &same)?, text)?;
     check_copy::<B, D>(rt, &key, text)?;
     check_get::<B, D>(rt, alloc, key, same.clone()?, &wanted)?;
-    let (first, second) = (same.clone()?.get(alloc)?, same.clone()?.get(alloc)?);
-    check_to_bytes::<B, D>(rt, alloc, first, second, text)?;
-    let (first, second) = (same.clone()?.get(alloc)?, same.get(alloc)?);
-    check_from_bytes::<B, D>(rt, alloc, first, second, &wanted)?;
+    check_to_bytes::<B, D>(
+        rt,
+        alloc,
+        value_of(alloc, &same)?,
+        value_of(alloc, &same)?,
+        text,
+    )?;
+    check_from_bytes::<B, D>(
+        rt,
+        alloc,
+        value_of(alloc, &same)?,
+        same.get(alloc)?,
+        &wanted,
+    )?;
     check_asked::<B, D>(rt, alloc, text, &wanted)
 }
 

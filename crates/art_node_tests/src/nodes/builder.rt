@@ -50,16 +50,17 @@ fn a_builder_lends_the_node_built_so_far(rt: HostRuntime) {
     assert!(rt; begun.lookup_child(0).is_none());
 }
 
+// The child that a node over these two would rather be known by.
+fn preferred(low: Pointer, high: Pointer) -> Pointer {
+    InnerNode4::<u8, u8, 16>::builder(&[], 0)
+        .write_child(1, low)
+        .write_child(2, high)
+        .build()
+        .any_child_prefer_leaf()
+}
+
 #[test]
 fn some_child_is_a_leaf_where_there_is_one(rt: HostRuntime) {
-    let node = InnerNode4::<u8, u8, 16>::builder(&[], 0)
-        .write_child(1, small_node(1))
-        .write_child(2, leaf(2))
-        .build();
-    assert!(rt; node.any_child_prefer_leaf() == leaf(2));
-    let node = InnerNode4::<u8, u8, 16>::builder(&[], 0)
-        .write_child(1, small_node(1))
-        .write_child(2, small_node(2))
-        .build();
-    assert!(rt; node.any_child_prefer_leaf().node_type() == NodeType::Node4);
+    assert!(rt; preferred(small_node(1), leaf(2)) == leaf(2));
+    assert!(rt; preferred(small_node(1), small_node(2)).node_type() == NodeType::Node4);
 }

@@ -6,6 +6,28 @@ use super::fixtures::{all_bytes, first_of, has_children, leaf, node_of, with_byt
 use art_nodes::{InnerNode4, InnerNode16, InnerNode48, InnerNodeCommon, InnerNodeDirect};
 use std::process::Abort;
 
+// A node with a child under the bytes 2 and 3 takes one over that under 3.
+fn takes_a_child_over_another<N: InnerNodeCommon<u8, u8, 16>>(rt: &impl Abort, node: &mut N) {
+    let n = node.num_children();
+    assert!(rt; node.lookup_child(3).is_some());
+    node.write_child(3, leaf(1000));
+    assert!(rt; node.lookup_child(3) == Some(leaf(1000)));
+    assert!(rt; node.lookup_child(2) == Some(leaf(2)));
+    assert!(rt; node.num_children() == n);
+    node.write_child(3, leaf(3));
+}
+
+// A node with the leaf under each of the first n bytes loses one after another.
+fn removes<N: InnerNodeCommon<u8, u8, 16>>(rt: &impl Abort, node: &mut N, n: usize) {
+    for byte in 0..=255u8 {
+        let key = usize::from(byte);
+        assert!(rt; node.remove_child(byte) == (key < n).then_some(leaf(key)));
+        assert!(rt; node.remove_child(byte) == None);
+        assert!(rt; node.lookup_child(byte) == None);
+        assert!(rt; node.num_children() == n.saturating_sub(key + 1));
+    }
+}
+
 // These are the first bytes, as many as the node has room for.
 fn writes_and_removes<N: InnerNodeCommon<u8, u8, 16> + Drop>(rt: &impl Abort, bytes: &[u8])
     requires memory { FitsInMemory N.row }
@@ -15,20 +37,10 @@ fn writes_and_removes<N: InnerNodeCommon<u8, u8, 16> + Drop>(rt: &impl Abort, by
     let mut node: N = with_bytes(rt, bytes);
     assert!(rt; node.capacity() == n);
     has_children(rt, &node, bytes);
-    // A full node takes a child over one that is there.
-    assert!(rt; node.lookup_child(3).is_some());
-    node.write_child(3, leaf(1000));
-    assert!(rt; node.lookup_child(3) == Some(leaf(1000)));
-    assert!(rt; node.lookup_child(2) == Some(leaf(2)));
+    // The node is full, and takes a child over one that is there.
+    takes_a_child_over_another(rt, &mut node);
     assert!(rt; node.num_children() == n);
-    node.write_child(3, leaf(3));
-    for byte in 0..=255u8 {
-        let key = usize::from(byte);
-        assert!(rt; node.remove_child(byte) == (key < n).then_some(leaf(key)));
-        assert!(rt; node.remove_child(byte) == None);
-        assert!(rt; node.lookup_child(byte) == None);
-        assert!(rt; node.num_children() == n.saturating_sub(key + 1));
-    }
+    removes(rt, &mut node, n);
 }
 
 fn gives_the_least_and_the_greatest<N: InnerNodeCommon<u8, u8, 16> + Drop>(

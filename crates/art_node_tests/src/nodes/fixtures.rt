@@ -20,7 +20,7 @@ pub(crate) fn write<N: InnerNodeCommon<u8, u8, 16>>(
     byte: u8,
     key: usize,
 ) {
-    assert!(rt; node.num_children() < node.capacity(), "no room for {byte}");
+    assert!(rt; node.num_children() < node.capacity());
     node.write_child(byte, leaf(key));
 }
 
@@ -107,7 +107,7 @@ pub(crate) fn has_children<N: InnerNodeCommon<u8, u8, 16>>(
     assert!(rt; node.header().read_prefix() == b"prefix".as_slice());
     for byte in 0..=255u8 {
         let child = bytes.contains(&byte).then_some(leaf(usize::from(byte)));
-        assert!(rt; node.lookup_child(byte) == child, "under {byte}");
+        assert!(rt; node.lookup_child(byte) == child);
     }
 }
 
@@ -122,12 +122,12 @@ pub(crate) fn has_range<N: InnerNodeCommon<u8, u8, 16>>(
     assert!(rt; valid_range_bounds(start, end));
     let mut pairs = node.range(start, end);
     for (byte, key) in written {
-        assert!(rt; pairs.next() == Some((*byte, leaf(*key))), "{byte}");
+        assert!(rt; pairs.next() == Some((*byte, leaf(*key))));
     }
     assert!(rt; pairs.next() == None);
     let mut pairs = node.range(start, end);
     for (byte, key) in written.iter().rev() {
-        assert!(rt; pairs.next_back() == Some((*byte, leaf(*key))), "{byte}");
+        assert!(rt; pairs.next_back() == Some((*byte, leaf(*key))));
     }
     assert!(rt; pairs.next_back() == None);
 }

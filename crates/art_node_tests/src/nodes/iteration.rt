@@ -12,6 +12,39 @@ use std::process::Abort;
 
 fn is_fused<I: FusedIterator>(_iter: &I) {}
 
+fn goes_up<N: InnerNodeCommon<u8, u8, 16>>(rt: &impl Abort, node: &N, sorted: &[(u8, Pointer)]) {
+    let mut pairs = node.iter();
+    is_fused(&pairs);
+    for pair in sorted {
+        assert!(rt; pairs.next() == Some(*pair));
+    }
+    assert!(rt; pairs.next() == None);
+    assert!(rt; pairs.next() == None);
+}
+
+fn goes_down<N: InnerNodeCommon<u8, u8, 16>>(rt: &impl Abort, node: &N, sorted: &[(u8, Pointer)]) {
+    let mut pairs = node.iter();
+    for pair in sorted.iter().rev() {
+        assert!(rt; pairs.next_back() == Some(*pair));
+    }
+    assert!(rt; pairs.next_back() == None);
+    assert!(rt; pairs.next() == None);
+}
+
+fn goes_from_both_ends<N: InnerNodeCommon<u8, u8, 16>>(
+    rt: &impl Abort,
+    node: &N,
+    [first, second, third, fourth]: [(u8, Pointer); 4],
+) {
+    let mut pairs = node.iter();
+    assert!(rt; pairs.next() == Some(first));
+    assert!(rt; pairs.next_back() == Some(fourth));
+    assert!(rt; pairs.next() == Some(second));
+    assert!(rt; pairs.next_back() == Some(third));
+    assert!(rt; pairs.next() == None);
+    assert!(rt; pairs.next_back() == None);
+}
+
 // Up, down, and from both ends in turn; after the last pair comes none for good.
 fn goes_both_ways<N: InnerNodeCommon<u8, u8, 16> + Drop>(rt: &impl Abort)
     requires memory { FitsInMemory N.row }
@@ -19,27 +52,9 @@ fn goes_both_ways<N: InnerNodeCommon<u8, u8, 16> + Drop>(rt: &impl Abort)
 {
     let node: N = node_of(rt, &[], &[(3, 1), (255, 2), (0, 3), (85, 4)]);
     let sorted: [(u8, Pointer); 4] = [(0, leaf(3)), (3, leaf(1)), (85, leaf(4)), (255, leaf(2))];
-    let mut pairs = node.iter();
-    is_fused(&pairs);
-    for pair in &sorted {
-        assert!(rt; pairs.next() == Some(*pair));
-    }
-    assert!(rt; pairs.next() == None);
-    assert!(rt; pairs.next() == None);
-    let mut pairs = node.iter();
-    for pair in sorted.iter().rev() {
-        assert!(rt; pairs.next_back() == Some(*pair));
-    }
-    assert!(rt; pairs.next_back() == None);
-    assert!(rt; pairs.next() == None);
-    let mut pairs = node.iter();
-    let [first, second, third, fourth] = sorted;
-    assert!(rt; pairs.next() == Some(first));
-    assert!(rt; pairs.next_back() == Some(fourth));
-    assert!(rt; pairs.next() == Some(second));
-    assert!(rt; pairs.next_back() == Some(third));
-    assert!(rt; pairs.next() == None);
-    assert!(rt; pairs.next_back() == None);
+    goes_up(rt, &node, &sorted);
+    goes_down(rt, &node, &sorted);
+    goes_from_both_ends(rt, &node, sorted);
 }
 
 // Two bounds, and the bytes between them, each with the key of the leaf under it.
@@ -82,19 +97,21 @@ const SECOND_RANGES: [Range; 13] = [
     (Excluded(255), Unbounded, &[]),
 ];
 
+fn has_ranges<N: InnerNodeCommon<u8, u8, 16>>(rt: &impl Abort, node: &N, ranges: &[Range]) {
+    for (start, end, written) in ranges {
+        has_range(rt, node, *start, *end, written);
+    }
+}
+
 fn iterates<N: InnerNodeCommon<u8, u8, 16> + Drop>(rt: &impl Abort)
     requires memory { FitsInMemory N.row }
     requires room { 2 ≤ N.room }
 {
     goes_both_ways::<N>(rt);
     let first: N = node_of(rt, &[], &[(3, 1), (255, 2), (0, 3), (85, 4)]);
-    for (start, end, written) in FIRST_RANGES {
-        has_range(rt, &first, start, end, written);
-    }
+    has_ranges(rt, &first, &FIRST_RANGES);
     let second: N = node_of(rt, &[], &[(3, 1), (254, 2), (2, 3), (85, 4)]);
-    for (start, end, written) in SECOND_RANGES {
-        has_range(rt, &second, start, end, written);
-    }
+    has_ranges(rt, &second, &SECOND_RANGES);
 }
 
 #[test]

@@ -18,9 +18,9 @@ fn check_text(rt: &impl Abort, leaf: &StringLeaf) {
         ("b", false, Ordering::Less, false),
     ] {
         let bytes = text.as_bytes();
-        assert!(rt; leaf.matches_full_key(bytes) == is_same, "{text}");
-        assert!(rt; leaf.compare_full_key(bytes) == order, "{text}");
-        assert!(rt; leaf.starts_with(bytes) == is_front, "{text}");
+        assert!(rt; leaf.matches_full_key(bytes) == is_same);
+        assert!(rt; leaf.compare_full_key(bytes) == order);
+        assert!(rt; leaf.starts_with(bytes) == is_front);
     }
 }
 
@@ -40,13 +40,13 @@ fn check_leaf(
     assert!(rt; leaf.next() == next);
 }
 
-#[test]
-fn keeps_a_key_a_value_and_two_links(rt: HostRuntime) -> Result<(), Fail> {
-    let mut leaf = StringLeaf::with_no_siblings(String::from_str(rt.alloc(), "ab")?, 700);
-    check_leaf(&rt, &leaf, "ab", 700, None, None);
-    check_text(&rt, &leaf);
-
-    let (previous, next) = (Some(NodePtr::from_key(4)), Some(NodePtr::from_key(6)));
+// Links a leaf of `ab`, and makes `c` more of its key and 702 its value.
+fn link_and_change(
+    rt: &impl Abort,
+    leaf: &mut StringLeaf,
+    previous: Link,
+    next: Link,
+) -> Result<(), AllocError> {
     leaf.set_links(previous, next);
     *leaf.value_mut() = 699;
     let (key, value) = leaf.key_ref_value_mut();
@@ -58,7 +58,17 @@ fn keeps_a_key_a_value_and_two_links(rt: HostRuntime) -> Result<(), Fail> {
     let (key, value) = leaf.entry_ref();
     assert!(rt; key.as_str() == "abc");
     assert!(rt; *value == 702);
-    check_leaf(&rt, &leaf, "abc", 702, previous, next);
+    check_leaf(rt, leaf, "abc", 702, previous, next);
+    Ok(())
+}
+
+#[test]
+fn keeps_a_key_a_value_and_two_links(rt: HostRuntime) -> Result<(), Fail> {
+    let mut leaf = StringLeaf::with_no_siblings(String::from_str(rt.alloc(), "ab")?, 700);
+    check_leaf(&rt, &leaf, "ab", 700, None, None);
+    check_text(&rt, &leaf);
+    let (previous, next) = (Some(NodePtr::from_key(4)), Some(NodePtr::from_key(6)));
+    link_and_change(&rt, &mut leaf, previous, next)?;
     check_leaf(&rt, &leaf.clone_without_siblings()?, "abc", 702, None, None);
     let (key, value) = leaf.into_entry();
     assert!(rt; key.as_str() == "abc");

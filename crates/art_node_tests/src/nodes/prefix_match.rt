@@ -1,13 +1,10 @@
 //! Prefixes that a node stores in part, and wholly.
-use super::fixtures::leaf;
+use super::fixtures::{leaf, pair};
 use art_nodes::{InnerNode4, InnerNodeCommon, PessimisticMismatch, common_front_len};
 
 #[test]
 fn lengths_alone_are_compared(rt: HostRuntime) {
-    let node = InnerNode4::<u8, u8, 16>::builder(b"abc", 3)
-        .write_child(49, leaf(1))
-        .write_child(50, leaf(2))
-        .build();
+    let node: InnerNode4<u8, u8, 16> = pair(&rt, b"abc", leaf(1));
     let found = node
         .optimistic_match_prefix(b"xyz")
         .expect(&rt, "as long as the prefix");

@@ -104,9 +104,7 @@ fn check_leaf(rt: &impl Abort, arena: &mut Arena) {
     assert!(rt; !arena.holds(ptr));
 }
 
-#[test]
-fn each_kind_is_kept_lent_replaced_and_given_up(rt: HostRuntime) {
-    let mut arena = Arena::new(rt.alloc());
+fn check_each_kind(rt: &impl Abort, arena: &mut Arena) {
     let four = InnerNode4::builder(b"ab", 2)
         .write_child(3, child())
         .write_child(5, child())
@@ -114,20 +112,29 @@ fn each_kind_is_kept_lent_replaced_and_given_up(rt: HostRuntime) {
     let sixteen = four.grow();
     let forty_eight = sixteen.grow();
     let all = forty_eight.grow();
-    check_inner(&rt, &mut arena, four.clone(), four);
-    check_inner(&rt, &mut arena, sixteen.clone(), sixteen);
-    check_inner(&rt, &mut arena, forty_eight.clone(), forty_eight);
-    check_inner(&rt, &mut arena, all.clone(), all);
-    check_leaf(&rt, &mut arena);
+    check_inner(rt, arena, four.clone(), four);
+    check_inner(rt, arena, sixteen.clone(), sixteen);
+    check_inner(rt, arena, forty_eight.clone(), forty_eight);
+    check_inner(rt, arena, all.clone(), all);
+    check_leaf(rt, arena);
 }
 
 #[test]
-fn reserves_room_of_each_kind(rt: HostRuntime) -> Result<(), Fail> {
-    let mut arena = Arena::new(rt.alloc());
+fn each_kind_is_kept_lent_replaced_and_given_up(rt: HostRuntime) {
+    check_each_kind(&rt, &mut Arena::new(rt.alloc()));
+}
+
+fn reserve_room(arena: &mut Arena) -> Result<(), AllocError> {
     for kind in KINDS {
         arena.reserve(kind, 3)?;
         arena.reserve(kind, 300)?;
     }
+    Ok(())
+}
+
+#[test]
+fn reserves_room_of_each_kind(rt: HostRuntime) -> Result<(), Fail> {
+    reserve_room(&mut Arena::new(rt.alloc()))?;
     Ok(())
 }
 
@@ -164,13 +171,11 @@ fn a_pointer_knows_the_kind_of_its_node(rt: HostRuntime) {
     check_kinds(&rt, &mut Arena::new(rt.alloc()));
 }
 
-#[test]
-fn allocates_three_leaves_where_there_is_room_for_three(rt: HostRuntime) -> Result<(), Fail> {
-    let mut arena = Arena::new(rt.alloc());
+fn allocate_three_leaves(rt: &impl Abort, arena: &mut Arena) -> Result<(), AllocError> {
     arena.reserve(NodeType::Leaf, 3)?;
-    let first = put(&rt, &mut arena, Leaf::with_no_siblings([1], 1));
-    let second = put(&rt, &mut arena, Leaf::with_no_siblings([2], 2));
-    let third = put(&rt, &mut arena, Leaf::with_no_siblings([3], 3));
+    let first = put(rt, arena, Leaf::with_no_siblings([1], 1));
+    let second = put(rt, arena, Leaf::with_no_siblings([2], 2));
+    let third = put(rt, arena, Leaf::with_no_siblings([3], 3));
     assert!(rt; first != second);
     assert!(rt; first != third);
     assert!(rt; second != third);
@@ -179,6 +184,12 @@ fn allocates_three_leaves_where_there_is_room_for_three(rt: HostRuntime) -> Resu
     assert!(rt; arena.holds(first));
     assert!(rt; !arena.holds(second));
     assert!(rt; arena.holds(third));
+    Ok(())
+}
+
+#[test]
+fn allocates_three_leaves_where_there_is_room_for_three(rt: HostRuntime) -> Result<(), Fail> {
+    allocate_three_leaves(&rt, &mut Arena::new(rt.alloc()))?;
     Ok(())
 }
 
@@ -244,21 +255,36 @@ fn fill(rt: &impl Abort, arena: &mut Arena) -> Result<[Pointer; 10], Fail> {
     Ok(entries)
 }
 
-#[test]
-fn keeps_every_entry_where_a_growth_is_refused(rt: HostRuntime) -> Result<(), Fail> {
-    let mut arena = Arena::new(rt.alloc());
-    let entries = fill(&rt, &mut arena)?;
-    check_entries(&rt, &arena, &entries);
+// Reserves room of a kind, more than there is and some. Where that is refused, these entries stand, the
+// next call reserves it, and the test ends.
+fn reserve_beside(
+    rt: &impl Abort,
+    arena: &mut Arena,
+    entries: &[Pointer],
+    kind: NodeType,
+) -> Result<(), Fail> {
+    assert!(rt; arena.reserve(kind, usize::MAX).is_err());
+    check_entries(rt, arena, entries);
+    if arena.reserve(kind, 9).is_err() {
+        check_entries(rt, arena, entries);
+        assert!(rt; arena.reserve(kind, 9).is_ok());
+        check_entries(rt, arena, entries);
+        return Err(ALL_STANDS.into());
+    }
+    check_entries(rt, arena, entries);
+    Ok(())
+}
+
+fn fill_and_reserve(rt: &impl Abort, arena: &mut Arena) -> Result<(), Fail> {
+    let entries = fill(rt, arena)?;
+    check_entries(rt, arena, &entries);
     for kind in KINDS {
-        assert!(rt; arena.reserve(kind, usize::MAX).is_err());
-        check_entries(&rt, &arena, &entries);
-        if arena.reserve(kind, 9).is_err() {
-            check_entries(&rt, &arena, &entries);
-            assert!(rt; arena.reserve(kind, 9).is_ok());
-            check_entries(&rt, &arena, &entries);
-            return Err(ALL_STANDS.into());
-        }
-        check_entries(&rt, &arena, &entries);
+        reserve_beside(rt, arena, &entries, kind)?;
     }
     Ok(())
+}
+
+#[test]
+fn keeps_every_entry_where_a_growth_is_refused(rt: HostRuntime) -> Result<(), Fail> {
+    fill_and_reserve(&rt, &mut Arena::new(rt.alloc()))
 }

@@ -132,59 +132,55 @@ fn fork_of_leaves<const PREFIX_LEN: usize>(
     Ok(fork(rt, arena, path, prefix, (low, first), (high, second)))
 }
 
-// The full match answers this.
-fn expect_match<K: AsBytes, const PREFIX_LEN: usize>(
-    rt: &impl Abort,
-    arena: &NodeArena<K, u8, PREFIX_LEN>,
-    node: &InnerNode4<K, u8, PREFIX_LEN>,
-    depth: usize,
-    key: &[u8],
-    answer: Full,
-)
-    requires { TreeUnder K.text arena.now node.now depth }
-{
-    assert!(rt; full_match(rt, arena, node, key, depth) == answer);
-}
+// A key, and what the full match with it answers.
+type Row = (&'static [u8], Full);
 
-// The whole prefix is read as this, from a leaf only where the node does not store all of it.
-fn expect_prefix<K: AsBytes, const PREFIX_LEN: usize>(
+// Of a node under a path `x` with the prefix `abc`.
+const UNDER_A_PATH: [Row; 4] = [
+    (b"xabd", Err((2, b'c', Less))),
+    (b"x", Err((0, b'a', Greater))),
+    (b"xabc1", Ok(3)),
+    (b"yabb1", Err((2, b'c', Greater))),
+];
+
+// Of a root with that prefix.
+const AT_THE_ROOT: [Row; 4] = [
+    (b"xyz", Err((0, b'a', Less))),
+    (b"ab", Err((2, b'c', Greater))),
+    (b"b", Err((0, b'a', Less))),
+    (b"abd2", Err((2, b'c', Less))),
+];
+
+// The whole prefix is read as this, from a leaf only where the node does not store all of it, and the
+// full matches answer so.
+fn check_prefix<K: AsBytes, const PREFIX_LEN: usize>(
     rt: &impl Abort,
     arena: &NodeArena<K, u8, PREFIX_LEN>,
     node: &InnerNode4<K, u8, PREFIX_LEN>,
     depth: usize,
     expected: &[u8],
+    rows: &[Row],
 )
     requires { TreeUnder K.text arena.now node.now depth }
 {
     let (prefix, leaf) = node.read_full_prefix(arena, depth);
     assert!(rt; prefix == expected);
     assert!(rt; leaf.is_some() == (PREFIX_LEN < expected.len()));
+    for (key, answer) in rows {
+        assert!(rt; full_match(rt, arena, node, key, depth) == *answer);
+    }
 }
 
-fn under_a_path<const PREFIX_LEN: usize>(
+// A node under this path, with the prefix `abc` over two leaves.
+fn check_fork<const PREFIX_LEN: usize>(
     rt: &impl Abort,
     alloc: Global,
     arena: &mut NodeArena<Vec<u8>, u8, PREFIX_LEN>,
+    path: &[u8],
+    rows: &[Row],
 ) -> Result<(), AllocError> {
-    let node = fork_of_leaves(rt, alloc, arena, b"x", b"abc", b'1', b'2')?;
-    expect_prefix(rt, arena, &node, 1, b"abc");
-    expect_match(rt, arena, &node, 1, b"xabd", Err((2, b'c', Less)));
-    expect_match(rt, arena, &node, 1, b"x", Err((0, b'a', Greater)));
-    expect_match(rt, arena, &node, 1, b"xabc1", Ok(3));
-    expect_match(rt, arena, &node, 1, b"yabb1", Err((2, b'c', Greater)));
-    Ok(())
-}
-
-fn at_the_root<const PREFIX_LEN: usize>(
-    rt: &impl Abort,
-    alloc: Global,
-    arena: &mut NodeArena<Vec<u8>, u8, PREFIX_LEN>,
-) -> Result<(), AllocError> {
-    let node = fork_of_leaves(rt, alloc, arena, b"", b"abc", b'1', b'2')?;
-    expect_match(rt, arena, &node, 0, b"xyz", Err((0, b'a', Less)));
-    expect_match(rt, arena, &node, 0, b"ab", Err((2, b'c', Greater)));
-    expect_match(rt, arena, &node, 0, b"b", Err((0, b'a', Less)));
-    expect_match(rt, arena, &node, 0, b"abd2", Err((2, b'c', Less)));
+    let node = fork_of_leaves(rt, alloc, arena, path, b"abc", b'1', b'2')?;
+    check_prefix(rt, arena, &node, path.len(), b"abc", rows);
     Ok(())
 }
 
@@ -193,27 +189,15 @@ fn whole_prefixes<const PREFIX_LEN: usize>(
     alloc: Global,
     mut arena: NodeArena<Vec<u8>, u8, PREFIX_LEN>,
 ) -> Result<(), AllocError> {
-    under_a_path(rt, alloc, &mut arena)?;
-    at_the_root(rt, alloc, &mut arena)?;
-    Ok(())
+    check_fork(rt, alloc, &mut arena, b"x", &UNDER_A_PATH)?;
+    check_fork(rt, alloc, &mut arena, b"", &AT_THE_ROOT)
 }
 
 #[test]
 fn whole_prefixes_whatever_is_stored(rt: HostRuntime) -> Result<(), Fail> {
-    whole_prefixes(
-        &rt,
-        rt.alloc(),
-        NodeArena::<Vec<u8>, u8, 0>::new(rt.alloc()),
-    )?;
-    whole_prefixes(
-        &rt,
-        rt.alloc(),
-        NodeArena::<Vec<u8>, u8, 2>::new(rt.alloc()),
-    )?;
-    whole_prefixes(
-        &rt,
-        rt.alloc(),
-        NodeArena::<Vec<u8>, u8, 16>::new(rt.alloc()),
-    )?;
+    let alloc = rt.alloc();
+    whole_prefixes::<0>(&rt, alloc, NodeArena::new(alloc))?;
+    whole_prefixes::<2>(&rt, alloc, NodeArena::new(alloc))?;
+    whole_prefixes::<16>(&rt, alloc, NodeArena::new(alloc))?;
     Ok(())
 }

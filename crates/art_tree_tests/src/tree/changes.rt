@@ -319,59 +319,73 @@ fn root_shape(rt: &impl Abort, tree: &Bytes) -> Option<(NodeType, usize)> {
     ))
 }
 
-#[test]
-fn a_tree_comes_and_goes(rt: HostRuntime) -> Result<(), Fail> {
-    let mut tree = Bytes::new(rt.alloc());
-    assert!(rt; tree.first().is_none() && tree.last().is_none());
-    for byte in 0..5 {
-        let Ok(before) = tree.insert([byte], byte) else {
-            return Err(AllocError.into());
-        };
-        assert!(rt; before.is_none());
-    }
-    assert!(rt; root_shape(&rt, &tree) == Some((NodeType::Node16, 5)));
-    assert!(rt; tree.remove(&[0])? == Some(([0], 0)));
-    assert!(rt; root_shape(&rt, &tree) == Some((NodeType::Node4, 4)));
-    assert!(rt; tree.remove(&[9])? == None);
-    for byte in 1..5 {
-        assert!(rt; tree.remove(&[byte])? == Some(([byte], byte)));
-    }
-    assert!(rt; root_shape(&rt, &tree) == None && tree.first().is_none());
-    let Ok(before) = tree.insert([7], 7) else {
-        return Err(AllocError.into());
+// Inserts a key that is not there.
+fn add_byte(rt: &impl Abort, tree: &mut Bytes, byte: u8) -> Result<(), AllocError> {
+    let Ok(before) = tree.insert([byte], byte) else {
+        return Err(AllocError);
     };
     assert!(rt; before.is_none());
-    assert!(rt; root_shape(&rt, &tree) == Some((NodeType::Leaf, 0)));
+    Ok(())
+}
+
+fn take_byte(rt: &impl Abort, tree: &mut Bytes, byte: u8) -> Result<(), AllocError> {
+    assert!(rt; tree.remove(&[byte])? == Some(([byte], byte)));
+    Ok(())
+}
+
+fn fill_and_empty_twice(rt: &impl Abort, tree: &mut Bytes) -> Result<(), AllocError> {
+    assert!(rt; tree.first().is_none() && tree.last().is_none());
+    for byte in 0..5 {
+        add_byte(rt, tree, byte)?;
+    }
+    assert!(rt; root_shape(rt, tree) == Some((NodeType::Node16, 5)));
+    take_byte(rt, tree, 0)?;
+    assert!(rt; root_shape(rt, tree) == Some((NodeType::Node4, 4)));
+    assert!(rt; tree.remove(&[9])? == None);
+    for byte in 1..5 {
+        take_byte(rt, tree, byte)?;
+    }
+    assert!(rt; root_shape(rt, tree) == None && tree.first().is_none());
+    add_byte(rt, tree, 7)?;
+    assert!(rt; root_shape(rt, tree) == Some((NodeType::Leaf, 0)));
+    Ok(())
+}
+
+#[test]
+fn a_tree_comes_and_goes(rt: HostRuntime) -> Result<(), Fail> {
+    fill_and_empty_twice(&rt, &mut Bytes::new(rt.alloc()))?;
     Ok(())
 }
 
 type Pairs = ArtTree<[u8; 2], u8, 0>;
 
+// Inserts a key that is not there.
+fn add_pair(rt: &impl Abort, tree: &mut Pairs, key: [u8; 2], value: u8) -> Result<(), AllocError> {
+    let Ok(before) = tree.insert(key, value) else {
+        return Err(AllocError);
+    };
+    assert!(rt; before.is_none());
+    Ok(())
+}
+
 // Each byte of a node below the root comes and goes, through every kind of node, with ample memory.
-fn fill_and_empty(rt: &impl Abort, tree: &mut Pairs) -> Result<(), Fail> {
+fn fill_and_empty(rt: &impl Abort, tree: &mut Pairs) -> Result<(), AllocError> {
+    add_pair(rt, tree, [0, 7], 3)?;
     for byte in 0..=255u8 {
-        let Ok(before) = tree.insert([1, byte], byte) else {
-            return Err(AllocError.into());
-        };
-        assert!(rt; before.is_none());
+        add_pair(rt, tree, [1, byte], byte)?;
     }
     for byte in 0..=255u8 {
         assert!(rt; tree.get(&[1, byte]).copied() == Some(byte));
         assert!(rt; tree.remove(&[1, byte])? == Some(([1, byte], byte)));
     }
+    assert!(rt; tree.remove(&[0, 7])? == Some(([0, 7], 3)));
+    assert!(rt; tree.first().is_none());
     Ok(())
 }
 
 #[test]
 fn every_byte_comes_and_goes(rt: HostRuntime) -> Result<(), Fail> {
-    let mut tree = Pairs::new(rt.alloc());
-    let Ok(before) = tree.insert([0, 7], 3) else {
-        return Err(AllocError.into());
-    };
-    assert!(rt; before.is_none());
-    fill_and_empty(&rt, &mut tree)?;
-    assert!(rt; tree.remove(&[0, 7])? == Some(([0, 7], 3)));
-    assert!(rt; tree.first().is_none());
+    fill_and_empty(&rt, &mut Pairs::new(rt.alloc()))?;
     Ok(())
 }
 
@@ -423,14 +437,17 @@ fn insert_word(
     Err(ALL_STANDS.into())
 }
 
+fn insert_words(rt: &impl Abort, tree: &mut Words) -> Result<(), Fail> {
+    for (number, word) in WORDS.iter().enumerate() {
+        insert_word(rt, tree, *word, number)?;
+    }
+    check_words(rt, tree, WORDS.len());
+    Ok(())
+}
+
 #[test]
 fn a_refused_insert_leaves_the_tree(rt: HostRuntime) -> Result<(), Fail> {
-    let mut tree = Words::new(rt.alloc());
-    for (number, word) in WORDS.iter().enumerate() {
-        insert_word(&rt, &mut tree, *word, number)?;
-    }
-    check_words(&rt, &tree, WORDS.len());
-    Ok(())
+    insert_words(&rt, &mut Words::new(rt.alloc()))
 }
 
 // The root over so many keys of one byte.
@@ -485,24 +502,49 @@ fn a_refused_load_gives_256_entries_back(rt: HostRuntime) -> Result<(), Fail> {
     Ok(())
 }
 
+// Inserts the byte after the last one. Where that is refused memory, the tree is as before, the next insert takes
+// the entry, and the test ends.
+fn grow(rt: &impl Abort, tree: &mut Bytes, byte: u8) -> Result<(), Fail> {
+    let end = usize::from(byte);
+    let root = tree.root();
+    let fault = match tree.insert([byte], byte) {
+        Ok(_) => {
+            check_bytes(rt, tree, end + 1);
+            return Ok(());
+        }
+        Err(fault) => fault,
+    };
+    assert!(rt; fault.refusal == InsertRefusal::OutOfMemory);
+    assert!(rt; fault.key == [byte] && fault.value == byte);
+    assert!(rt; tree.root() == root);
+    check_bytes(rt, tree, end);
+    let again = tree.insert(fault.key, fault.value);
+    assert!(rt; matches!(&again, Ok(None)));
+    check_bytes(rt, tree, end + 1);
+    Err(ALL_STANDS.into())
+}
+
 // The root is full: it gives way to a node of the next larger kind.
 #[test]
 fn a_refused_growth_leaves_the_tree(rt: HostRuntime) -> Result<(), Fail> {
     for (end, byte) in [(4, 4), (16, 16), (48, 48)] {
-        let mut tree = load_bytes(&rt, rt.alloc(), end)?;
-        let root = tree.root();
-        if let Err(fault) = tree.insert([byte], byte) {
-            assert!(rt; fault.refusal == InsertRefusal::OutOfMemory);
-            assert!(rt; fault.key == [byte] && fault.value == byte);
-            assert!(rt; tree.root() == root);
-            check_bytes(&rt, &tree, end);
-            let again = tree.insert(fault.key, fault.value);
-            assert!(rt; matches!(&again, Ok(None)));
-            check_bytes(&rt, &tree, end + 1);
-            return Err(ALL_STANDS.into());
-        }
-        check_bytes(&rt, &tree, end + 1);
+        grow(&rt, &mut load_bytes(&rt, rt.alloc(), end)?, byte)?;
     }
+    Ok(())
+}
+
+// Takes out the last byte. Where that is refused memory, the tree is as before, the next removal takes
+// it out, and the test ends.
+fn shrink(rt: &impl Abort, tree: &mut Bytes, last: u8) -> Result<(), Fail> {
+    let root = tree.root();
+    if tree.remove(&[last]).is_err() {
+        assert!(rt; tree.root() == root);
+        check_bytes(rt, tree, usize::from(last) + 1);
+        assert!(rt; tree.remove(&[last]) == Ok(Some(([last], last))));
+        check_bytes(rt, tree, usize::from(last));
+        return Err(ALL_STANDS.into());
+    }
+    check_bytes(rt, tree, usize::from(last));
     Ok(())
 }
 
@@ -511,17 +553,7 @@ fn a_refused_growth_leaves_the_tree(rt: HostRuntime) -> Result<(), Fail> {
 #[test]
 fn a_refused_removal_leaves_the_tree(rt: HostRuntime) -> Result<(), Fail> {
     for (end, last) in [(5, 4), (17, 16), (49, 48)] {
-        let mut tree = load_bytes(&rt, rt.alloc(), end)?;
-        let root = tree.root();
-        if tree.remove(&[last]).is_err() {
-            assert!(rt; tree.root() == root);
-            check_bytes(&rt, &tree, end);
-            let again = tree.remove(&[last]);
-            assert!(rt; again == Ok(Some(([last], last))));
-            check_bytes(&rt, &tree, usize::from(last));
-            return Err(ALL_STANDS.into());
-        }
-        check_bytes(&rt, &tree, usize::from(last));
+        shrink(&rt, &mut load_bytes(&rt, rt.alloc(), end)?, last)?;
     }
     Ok(())
 }

@@ -17,8 +17,6 @@ fn an_address_and_a_number_are_found(rt: HostRuntime) -> Result<(), Fail> {
     for (to, cost) in [(any, -212), (any, 212), (here, 212)] {
         keys.push(route(alloc, to, cost)?)?;
     }
-    let mut arena = NodeArena::<Route, usize, 2>::new(alloc);
-    let root = load_all(alloc, &mut arena, keys)?;
     let second = route(alloc, any, 212)?;
     let third = route(alloc, here, 212)?;
     let missing = route(alloc, any, 213)?;
@@ -27,7 +25,7 @@ fn an_address_and_a_number_are_found(rt: HostRuntime) -> Result<(), Fail> {
         (third.as_bytes(), Child(2, 127), 2),
         (missing.as_bytes(), Nothing, 3),
     ];
-    check(&rt, &arena, root, &rows);
+    check_keys::<_, 2>(&rt, alloc, NodeArena::new(alloc), keys, &rows)?;
     Ok(())
 }
 
@@ -38,9 +36,7 @@ fn a_c_string_begins_no_other(rt: HostRuntime) -> Result<(), Fail> {
     for bytes in [b"a".as_slice(), b"ab"] {
         keys.push(CStringKey::new(bytes.to_vec(alloc)?)?)?;
     }
-    let mut arena = NodeArena::<CStringKey, usize, 2>::new(alloc);
-    let root = load_all(alloc, &mut arena, keys)?;
     let rows: [Row; 2] = [(b"ab\0", Child(1, b'b'), 2), (b"ab", Nothing, 2)];
-    check(&rt, &arena, root, &rows);
+    check_keys::<_, 2>(&rt, alloc, NodeArena::new(alloc), keys, &rows)?;
     Ok(())
 }

@@ -37,9 +37,22 @@ fn check_fault(
     }
 }
 
-// The answer is the same where memory is short: a fault of the entries is told before any is taken.
-#[test]
-fn the_lowest_entry_at_fault_is_told(rt: HostRuntime) -> Result<(), Fail> {
+// These entries are refused with this.
+fn check_refused(
+    rt: &impl Abort,
+    alloc: Global,
+    arena: &mut Texts,
+    texts: &[&str],
+    refusal: LoadRefusal,
+) -> Result<(), AllocError> {
+    let Err(fault) = load(alloc, arena, entries_of(alloc, texts)?) else {
+        panic!(rt; "loaded");
+    };
+    check_fault(rt, &fault, refusal, texts);
+    Ok(())
+}
+
+fn check_all_refused(rt: &impl Abort, alloc: Global, arena: &mut Texts) -> Result<(), AllocError> {
     let cases: [(&[&str], LoadRefusal); 8] = [
         (&[], LoadRefusal::Empty),
         (&["a", "a"], LoadRefusal::NotAscending(0)),
@@ -50,14 +63,16 @@ fn the_lowest_entry_at_fault_is_told(rt: HostRuntime) -> Result<(), Fail> {
         (&["b", "a", "ab"], LoadRefusal::NotAscending(0)),
         (&["a", "ab", "aa"], LoadRefusal::Prefix(0)),
     ];
-    let alloc = rt.alloc();
-    let mut arena = Texts::new(alloc);
     for (texts, refusal) in cases {
-        let Err(fault) = load(alloc, &mut arena, entries_of(alloc, texts)?) else {
-            panic!(rt; "loaded");
-        };
-        check_fault(&rt, &fault, refusal, texts);
+        check_refused(rt, alloc, arena, texts, refusal)?;
     }
+    Ok(())
+}
+
+// The answer is the same where memory is short: a fault of the entries is told before any is taken.
+#[test]
+fn the_lowest_entry_at_fault_is_told(rt: HostRuntime) -> Result<(), Fail> {
+    check_all_refused(&rt, rt.alloc(), &mut Texts::new(rt.alloc()))?;
     Ok(())
 }
 
@@ -126,35 +141,39 @@ fn load_beside(
     Err(ALL_STANDS.into())
 }
 
-#[test]
-fn refused_memory_gives_the_entries_back(rt: HostRuntime) -> Result<(), Fail> {
-    let alloc = rt.alloc();
-    let mut arena = Texts::new(alloc);
-    let low = load_beside(&rt, alloc, &mut arena, &[], (&["aa", "ab", "b"], 2))?;
+fn load_in_turn(rt: &impl Abort, alloc: Global, arena: &mut Texts) -> Result<(), Fail> {
+    let low = load_beside(rt, alloc, arena, &[], (&["aa", "ab", "b"], 2))?;
     let rows: [(&[&str], usize); 3] = [
         (&["a1x", "a1y", "b"], 2),
         (&[""], 0),
         (&["a1x", "a1y", "b", "c", "d", "e"], 5),
     ];
     for row in rows {
-        load_beside(&rt, alloc, &mut arena, &[low], row)?;
-        check_root(&rt, &arena, low, 2);
+        load_beside(rt, alloc, arena, &[low], row)?;
+        check_root(rt, arena, low, 2);
     }
     Ok(())
 }
+
+#[test]
+fn refused_memory_gives_the_entries_back(rt: HostRuntime) -> Result<(), Fail> {
+    load_in_turn(&rt, rt.alloc(), &mut Texts::new(rt.alloc()))
+}
+
+type Bytes = NodeArena<[u8; 1], u8, 2>;
 
 // The kind of the root over so many keys of one byte, and how many children it has.
 fn root_over(
     rt: &impl Abort,
     alloc: Global,
+    arena: &mut Bytes,
     count: usize,
 ) -> Result<(NodeType, usize), AllocError> {
     let mut entries = Vec::new(alloc);
     for byte in (0..=255u8).take(count) {
         entries.push(([byte], byte))?;
     }
-    let mut arena = NodeArena::<[u8; 1], u8, 2>::new(alloc);
-    let Ok(root) = load(alloc, &mut arena, entries) else {
+    let Ok(root) = load(alloc, arena, entries) else {
         return Err(AllocError);
     };
     assert!(rt; arena.holds_opaque(root));
@@ -176,10 +195,13 @@ fn each_node_is_of_the_smallest_kind(rt: HostRuntime) -> Result<(), Fail> {
         (256, NodeType::Node256, 256),
     ];
     for (count, kind, children) in cases {
-        assert!(rt; root_over(&rt, rt.alloc(), count)? == (kind, children));
+        let root = root_over(&rt, rt.alloc(), &mut Bytes::new(rt.alloc()), count)?;
+        assert!(rt; root == (kind, children));
     }
     Ok(())
 }
+
+type Shared = NodeArena<[u8; 4], usize, 2>;
 
 type SharedLeaf = LeafNode<[u8; 4], usize, 2>;
 
@@ -202,31 +224,29 @@ fn leaves_below(
 }
 
 // The two leaves are a list.
-fn check_linked(
-    rt: &impl Abort,
-    arena: &NodeArena<[u8; 4], usize, 2>,
-    first: SharedLeafPtr,
-    second: SharedLeafPtr,
-) {
+fn check_linked(rt: &impl Abort, arena: &Shared, first: SharedLeafPtr, second: SharedLeafPtr) {
     assert!(rt; arena.holds(first) && arena.holds(second));
     let (first_leaf, second_leaf) = (arena.as_ref(first), arena.as_ref(second));
     assert!(rt; (first_leaf.previous(), first_leaf.next()) == (None, Some(second)));
     assert!(rt; (second_leaf.previous(), second_leaf.next()) == (Some(first), None));
 }
 
-#[test]
-fn leaves_are_linked_below_what_they_share(rt: HostRuntime) -> Result<(), Fail> {
-    let alloc = rt.alloc();
-    let mut arena = NodeArena::<[u8; 4], usize, 2>::new(alloc);
+fn link_two_leaves(rt: &impl Abort, alloc: Global, arena: &mut Shared) -> Result<(), AllocError> {
     let entries = vec![in alloc; (*b"abc1", 0), (*b"abc2", 1)]?;
-    let Ok(root) = load(alloc, &mut arena, entries) else {
-        return Err(AllocError.into());
+    let Ok(root) = load(alloc, arena, entries) else {
+        return Err(AllocError);
     };
-    let mut reader = ArenaReader::with_budget(&arena, 3);
+    let mut reader = ArenaReader::with_budget(arena, 3);
     let AnyRef::Node4(node) = reader.look(root) else {
         panic!(rt; "no Node4");
     };
-    let (first, second) = leaves_below(&rt, node);
-    check_linked(&rt, &arena, first, second);
+    let (first, second) = leaves_below(rt, node);
+    check_linked(rt, arena, first, second);
+    Ok(())
+}
+
+#[test]
+fn leaves_are_linked_below_what_they_share(rt: HostRuntime) -> Result<(), Fail> {
+    link_two_leaves(&rt, rt.alloc(), &mut Shared::new(rt.alloc()))?;
     Ok(())
 }

@@ -9,13 +9,11 @@ use art_tree::{End, end_leaf};
 fn check_texts<'a, const PREFIX_LEN: usize>(
     rt: &impl Abort,
     alloc: Global,
-    mut arena: NodeArena<SliceKey<'a>, usize, PREFIX_LEN>,
+    arena: NodeArena<SliceKey<'a>, usize, PREFIX_LEN>,
     texts: &[&'a [u8]],
     rows: &[Row],
 ) -> Result<(), AllocError> {
-    let root = load_texts(alloc, &mut arena, texts)?;
-    check(rt, &arena, root, rows);
-    Ok(())
+    check_keys(rt, alloc, arena, slice_keys(alloc, texts)?, rows)
 }
 
 // The same for each of three lengths.
@@ -90,10 +88,8 @@ fn the_greatest_of_all_bytes_is_found(rt: HostRuntime) -> Result<(), Fail> {
     for byte in 0..=255u8 {
         keys.push([byte])?;
     }
-    let mut arena = NodeArena::<[u8; 1], usize, 0>::new(alloc);
-    let root = load_all(alloc, &mut arena, keys)?;
     let rows: [Row; 1] = [(&[255], Child(255, 255), 2)];
-    check(&rt, &arena, root, &rows);
+    check_keys::<_, 0>(&rt, alloc, NodeArena::new(alloc), keys, &rows)?;
     Ok(())
 }
 
@@ -112,15 +108,13 @@ fn nested_200_deep(alloc: Global) -> Result<Vec<Vec<u8>>, AllocError> {
 fn check_nested_200_deep<const PREFIX_LEN: usize>(
     rt: &impl Abort,
     alloc: Global,
-    mut arena: NodeArena<Vec<u8>, usize, PREFIX_LEN>,
+    arena: NodeArena<Vec<u8>, usize, PREFIX_LEN>,
 ) -> Result<(), AllocError> {
-    let root = load_all(alloc, &mut arena, nested_200_deep(alloc)?)?;
     let rows: [Row; 2] = [
         (&[b'a'; 200], Normal(0, b'a', b'a'), 201),
         (b"ab", Normal(199, b'a', b'b'), 3),
     ];
-    check(rt, &arena, root, &rows);
-    Ok(())
+    check_keys(rt, alloc, arena, nested_200_deep(alloc)?, &rows)
 }
 
 #[test]
@@ -142,10 +136,8 @@ fn ten_thousand_levels_take_no_stack(rt: HostRuntime) -> Result<(), Fail> {
     for start in 0..bytes.len() {
         keys.push(SliceKey::new(&bytes[start..]))?;
     }
-    let mut arena = NodeArena::<SliceKey, usize, 16>::new(alloc);
-    let root = load_all(alloc, &mut arena, keys)?;
     let rows: [Row; 1] = [(&bytes, Normal(0, b'a', b'a'), 10_001)];
-    check(&rt, &arena, root, &rows);
+    check_keys::<_, 16>(&rt, alloc, NodeArena::new(alloc), keys, &rows)?;
     Ok(())
 }
 
@@ -165,11 +157,18 @@ fn check_ends<K: AsBytes, const PREFIX_LEN: usize>(
     assert!(rt; arena.holds(leaf) && *arena.as_value_ref(leaf) == last);
 }
 
+fn check_ends_of_three<const PREFIX_LEN: usize>(
+    rt: &impl Abort,
+    alloc: Global,
+    arena: &mut NodeArena<SliceKey, usize, PREFIX_LEN>,
+) -> Result<(), AllocError> {
+    let root = load_texts(alloc, arena, &[b"abc1", b"abc2", b"b"])?;
+    check_ends(rt, arena, root, 0, 2);
+    Ok(())
+}
+
 #[test]
 fn a_tree_ends_at_its_first_and_its_last_leaf(rt: HostRuntime) -> Result<(), Fail> {
-    let alloc = rt.alloc();
-    let mut arena = NodeArena::new(alloc);
-    let root = load_texts::<2>(alloc, &mut arena, &[b"abc1", b"abc2", b"b"])?;
-    check_ends(&rt, &arena, root, 0, 2);
+    check_ends_of_three::<2>(&rt, rt.alloc(), &mut NodeArena::new(rt.alloc()))?;
     Ok(())
 }

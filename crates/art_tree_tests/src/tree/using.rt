@@ -97,39 +97,57 @@ fn loaded<K: AsBytes + Drop, V: Drop, const PREFIX_LEN: usize>(
     Some(loaded)
 }
 
-#[test]
-fn metals_are_read_by_name_and_one_comes_and_goes(rt: HostRuntime) -> Result<(), Fail> {
-    let alloc = rt.alloc();
+type Metals = ArtTree<String, u8, 16>;
+
+fn read_metals(
+    rt: &impl Abort,
+    alloc: Global,
+    arena: &mut NodeArena<String, u8, 16>,
+) -> Result<(), Fail> {
     let mut entries = Vec::new(alloc);
     for (name, number) in [("gold", 79), ("iridium", 77), ("iron", 26)] {
         entries.push((String::from_str(alloc, name)?, number))?;
     }
-    let mut arena = NodeArena::<String, u8, 16>::new(alloc);
-    let root = table(alloc, &mut arena, entries).ok_or("not loaded")?;
-    assert!(rt; value_of(&arena, root, b"iron") == Some(&26));
-    assert!(rt; set_value(&mut arena, root, b"gold", 197));
-    assert!(rt; value_of(&arena, root, b"gold") == Some(&197));
-    assert!(rt; value_of(&arena, root, b"iro").is_none());
+    let root = table(alloc, arena, entries).ok_or("not loaded")?;
+    assert!(rt; value_of(arena, root, b"iron") == Some(&26));
+    assert!(rt; set_value(arena, root, b"gold", 197));
+    assert!(rt; value_of(arena, root, b"gold") == Some(&197));
+    assert!(rt; value_of(arena, root, b"iro").is_none());
+    Ok(())
+}
 
-    let mut tree = ArtTree::<String, u8, 16>::new(alloc);
-    if !put(&mut tree, String::from_str(alloc, "iron")?, 26) {
+// The tree of iron alone, loaded while this one stands.
+fn iron_loaded(alloc: Global, tree: &Metals) -> Result<Metals, Fail> {
+    let entries = vec![in alloc; (String::from_str(alloc, "iron")?, 26)]?;
+    Ok(loaded(alloc, tree, entries).ok_or("not loaded")?)
+}
+
+fn put_and_forget_iron(rt: &impl Abort, alloc: Global, tree: &mut Metals) -> Result<(), Fail> {
+    if !put(tree, String::from_str(alloc, "iron")?, 26) {
         return Err(AllocError.into());
     }
     assert!(rt; tree.get(b"iron") == Some(&26));
-    let entries = vec![in alloc; (String::from_str(alloc, "iron")?, 26)]?;
-    let other = loaded(alloc, &tree, entries).ok_or("not loaded")?;
-    assert!(rt; other.get(b"iron") == Some(&26));
-    assert!(rt; forget(&mut tree, b"iron"));
+    assert!(rt; iron_loaded(alloc, tree)?.get(b"iron") == Some(&26));
+    assert!(rt; forget(tree, b"iron"));
     assert!(rt; tree.get(b"iron").is_none());
     Ok(())
 }
 
+#[test]
+fn metals_are_read_by_name_and_one_comes_and_goes(rt: HostRuntime) -> Result<(), Fail> {
+    read_metals(&rt, rt.alloc(), &mut NodeArena::new(rt.alloc()))?;
+    put_and_forget_iron(&rt, rt.alloc(), &mut Metals::new(rt.alloc()))
+}
+
 // The first example of the README.
-fn find_one_of_two(rt: &impl Abort, alloc: Global) -> Result<(), Fail> {
-    let mut arena = NodeArena::<StrKey<'_>, u32, 2>::new(alloc);
+fn find_one_of_two(
+    rt: &impl Abort,
+    alloc: Global,
+    arena: &mut NodeArena<StrKey<'_>, u32, 2>,
+) -> Result<(), Fail> {
     let entries = vec![in alloc; (StrKey::new("abc1"), 10), (StrKey::new("abc2"), 20)]?;
-    let root = load(alloc, &mut arena, entries).map_err(|fault| fault.refusal)?;
-    let mut reader = ArenaReader::with_budget(&arena, 5);
+    let root = load(alloc, arena, entries).map_err(|fault| fault.refusal)?;
+    let mut reader = ArenaReader::with_budget(arena, 5);
     let Some((leaf, path)) = find_leaf(&mut reader, root, b"abc2") else {
         panic!(rt; "not found");
     };
@@ -168,7 +186,7 @@ fn change_a_tree(rt: &impl Abort, tree: &mut ArtTree<StrKey<'_>, u32, 2>) -> Res
 
 #[test]
 fn the_first_examples_answer_so(rt: HostRuntime) -> Result<(), Fail> {
-    find_one_of_two(&rt, rt.alloc())?;
+    find_one_of_two(&rt, rt.alloc(), &mut NodeArena::new(rt.alloc()))?;
     change_a_tree(&rt, &mut ArtTree::new(rt.alloc()))
 }
 
@@ -184,21 +202,24 @@ fn put_apart<K: NoPrefixesBytes + Drop, V: Drop, const PREFIX_LEN: usize>(
     tree.insert(key, value)
 }
 
-#[test]
-fn addresses_stand_beside_each_other(rt: HostRuntime) -> Result<(), Fail> {
-    let alloc = rt.alloc();
-    let mut tree = ArtTree::<[u8; 4], u16, 2>::new(alloc);
+fn put_addresses(rt: &impl Abort, tree: &mut ArtTree<[u8; 4], u16, 2>) -> Result<(), AllocError> {
     for (address, port) in [
         ([127, 0, 0, 1], 22),
         ([127, 0, 0, 2], 80),
         ([127, 0, 0, 1], 443),
     ] {
-        if let Err(fault) = put_apart(&mut tree, address, port) {
+        if let Err(fault) = put_apart(tree, address, port) {
             assert!(rt; fault.refusal == InsertRefusal::OutOfMemory);
-            return Err(AllocError.into());
+            return Err(AllocError);
         }
     }
     assert!(rt; tree.get(&[127, 0, 0, 1]) == Some(&443));
     assert!(rt; tree.get(&[127, 0, 0, 2]) == Some(&80));
+    Ok(())
+}
+
+#[test]
+fn addresses_stand_beside_each_other(rt: HostRuntime) -> Result<(), Fail> {
+    put_addresses(&rt, &mut ArtTree::new(rt.alloc()))?;
     Ok(())
 }

@@ -38,20 +38,28 @@ fn append(rt: &impl Abort, arena: &mut Arena, last: Pointer, key: u8) -> Pointer
     this
 }
 
-#[test]
-fn walks_three_leaves_in_order(rt: HostRuntime) {
-    let mut arena = Arena::new(rt.alloc());
-    let first = put_leaf(&rt, &mut arena, b'a');
-    let second = append(&rt, &mut arena, first, b'b');
-    append(&rt, &mut arena, second, b'c');
+// From this leaf on, the list has these keys.
+fn walk(rt: &impl Abort, arena: &Arena, first: Pointer, keys: &[u8]) {
     let mut next = Some(first);
-    for key in b"abc" {
+    for key in keys {
         let Some(leaf) = next else {
-            panic!(rt; "the list ends before {key}");
+            panic!(rt; "the list ends");
         };
         assert!(rt; arena.holds(leaf));
         assert!(rt; arena.as_key_ref(leaf)[0] == *key);
         next = arena.as_ref(leaf).next();
     }
     assert!(rt; next.is_none());
+}
+
+fn append_and_walk(rt: &impl Abort, arena: &mut Arena) {
+    let first = put_leaf(rt, arena, b'a');
+    let second = append(rt, arena, first, b'b');
+    append(rt, arena, second, b'c');
+    walk(rt, arena, first, b"abc");
+}
+
+#[test]
+fn walks_three_leaves_in_order(rt: HostRuntime) {
+    append_and_walk(&rt, &mut Arena::new(rt.alloc()));
 }
