@@ -156,14 +156,6 @@ fn refused_number<F, E: Domain<F> + Drop>(
     refused::<ToBigEndian<F>, E>(rt, alloc, bytes)
 }
 
-fn refused_array<F: IntegerForm, E: Element<F>, const N: usize>(
-    rt: &impl Abort,
-    alloc: Global,
-    bytes: &[u8],
-) -> Result<(), AllocError> {
-    refused::<ToBigEndian<F>, [E; N]>(rt, alloc, bytes.to_vec(alloc)?)
-}
-
 fn refused_vector<F: IntegerForm, E: Element<F>>(
     rt: &impl Abort,
     alloc: Global,
@@ -178,9 +170,9 @@ fn bytes_of_no_value_are_refused(rt: HostRuntime) -> Result<(), Fail> {
     refused_number::<Unsigned, NonZeroU16>(&rt, alloc, [0, 0])?;
     refused_number::<Signed, NonZeroI8>(&rt, alloc, [128])?;
     refused_number::<Signed, NonZeroI16>(&rt, alloc, [128, 0])?;
-    refused_array::<Unsigned, u16, 2>(&rt, alloc, &[0, 1, 0])?;
+    refused::<ToUBE, [u16; 2]>(&rt, alloc, vec![in alloc; 0, 1, 0]?)?;
     refused_vector::<Unsigned, u16>(&rt, alloc, &[1, 2, 3])?;
-    refused_array::<Unsigned, NonZeroU8, 2>(&rt, alloc, &[7, 0])?;
+    refused::<ToUBE, [NonZeroU8; 2]>(&rt, alloc, vec![in alloc; 7, 0]?)?;
     Ok(())
 }
 

@@ -44,17 +44,12 @@ fn ordered<B: OrderedMapping<D>, D: Ord + Copy>(
     high: D,
 ) -> Result<(), AllocError> {
     assert!(rt; low < middle && middle < high);
-    for (a, b) in [
-        (low, low),
-        (low, middle),
-        (middle, low),
-        (middle, high),
-        (high, low),
-        (high, high),
-    ] {
-        compared::<B, D>(rt, alloc, a, b)?;
-    }
-    Ok(())
+    compared::<B, D>(rt, alloc, low, low)?;
+    compared::<B, D>(rt, alloc, low, middle)?;
+    compared::<B, D>(rt, alloc, middle, low)?;
+    compared::<B, D>(rt, alloc, middle, high)?;
+    compared::<B, D>(rt, alloc, high, low)?;
+    compared::<B, D>(rt, alloc, high, high)
 }
 
 /// Numbers, and arrays of three of them.
