@@ -88,7 +88,7 @@ fn check_no_fronts<K: NoPrefixesBytes>(rt: &impl Abort, keys: &[K]) {
     }
 }
 
-// Both.
+// They ascend, and none begins another.
 fn check_apart<K: OrderedBytes + NoPrefixesBytes>(rt: &impl Abort, keys: &[K]) {
     check_ascending(rt, keys);
     check_no_fronts(rt, keys);

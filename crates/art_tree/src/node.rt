@@ -160,8 +160,8 @@ pub(crate) fn give_up<K, V, const PREFIX_LEN: usize>(
     }
 }
 
-/// Gives up the inner node at the pointer for this one of another kind, and answers where that is; or
-/// changes nothing where memory is refused. Takes no memory where there is room for the kind.
+/// Gives up the inner node at the pointer for this one of another kind, and answers where that is, or
+/// None where memory is refused. It is never refused where there is room for the kind.
 // Kept out of its caller, whose stack would have the nodes of each kind several times.
 #[inline(never)]
 pub(crate) fn replace_node<

@@ -502,8 +502,8 @@ fn a_refused_load_gives_256_entries_back(rt: HostRuntime) -> Result<(), Fail> {
     Ok(())
 }
 
-// Inserts the byte after the last one. Where that is refused memory, the tree is as before, the next insert takes
-// the entry, and the test ends.
+// Inserts the byte after the last one. Where that is refused memory, the tree is as before, the next
+// insert takes the entry, and the test ends.
 fn grow(rt: &impl Abort, tree: &mut Bytes, byte: u8) -> Result<(), Fail> {
     let end = usize::from(byte);
     let root = tree.root();
