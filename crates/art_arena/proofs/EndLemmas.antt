@@ -12,6 +12,7 @@ use Rattle.art_arena.specs.Standing.{StandsIn, AllStandIn, StandsUnder, leaf_tex
 use Rattle.art_arena.specs.Trees.{Tree, Leaf, Inner, Branches, NoBranch, Branch, leaves, branch_leaves, branch_roots, root_of, IsSound, AreSound}
 use Rattle.art_arena.specs.declared.ends.End.{End}
 use Rattle.art_arena.specs.declared.ends.End.TheVariants.{First, Last}
+use Rattle.art_arena.proofs.BelowLemmas.{tree-held}
 use Rattle.art_arena.proofs.TreeLemmas.{path-fits}
 
 module _ {H : Type 0} where
@@ -89,11 +90,7 @@ module _ {K V : Type 0} {P : ℕ} (text : K → List ℕ) (arena : ArenaOf K V P
   to-end-fits at passed on = omega (arith, on.deep, path-fits on.path on.part on.sound)
 
   pub to-end-held : (at : OpaqueNodePtr K V P) (passed : ℕ) → IsToEnd at passed → held arena at ≢ Nothing
-  to-end-held at passed on = by_part on.part on.at_root on.stands
-    where
-      by_part : (part : Tree (OpaqueNodePtr K V P)) → root_of part ≡ at → StandsIn text arena part → held arena at ≢ Nothing
-      by_part (Leaf pointer x) root (leaf, holds, has) free = let one : HeldLeaf leaf ≡ Nothing = sym holds ∙ ap (held arena) root ∙ free in absurd (cc)
-      by_part (Inner pointer prefix branches) root (node, holds, shows, stand) free = let one : HeldInner node ≡ Nothing = sym holds ∙ ap (held arena) root ∙ free in absurd (cc)
+  to-end-held at passed on = tree-held text arena on.part at on.at_root on.stands
 
   pub to-end-has_child : (at : OpaqueNodePtr K V P) (passed : ℕ) (node : nodes.Inner (OpaqueNodePtr K V P)) → IsToEnd at passed → held arena at ≡ HeldInner node → 0 < length node.children
   to-end-has_child at passed node on is = by_part on.part on.at_root on.stands on.path on.sound

@@ -3,35 +3,20 @@ use Rattle.std.proofs.Common.{◌≡◌, ◌≢◌, ◌∙◌, ℕ, List, [], �
 use Rattle.std.specs.List.{AllByRecursion}
 use Rattle.std.proofs.lemmas.Bool.{cases_eq}
 use Rattle.std.proofs.lemmas.Option.{same_Some}
-use Rattle.art_header.specs.declared.node_type.NodeType.{NodeType}
 use Rattle.art_header.specs.declared.node_type.NodeType.TheVariants as kinds
 use Rattle.art_nodes.specs.Inner as nodes
 use Rattle.art_nodes.specs.Leaf.{leaf_key, previous_key, next_key}
 use Rattle.art_nodes.specs.Pointers.{node_kind, opaque_key, opaque_pointer}
 use Rattle.art_nodes.specs.declared.pointers.OpaqueNodePtr.{OpaqueNodePtr}
 use Rattle.art_nodes.specs.declared.leaf_node.LeafNode.{LeafNode}
-use Rattle.art_arena.specs.Arena.{ArenaOf, Held, HeldInner, HeldLeaf, held, held_inner, held_leaf, held_under, Changes}
+use Rattle.art_arena.specs.Arena.{ArenaOf, Held, HeldInner, HeldLeaf, held, held_leaf, Changes}
 use Rattle.art_arena.specs.Links.{SameButLinks, Spells, SpellsAfter, leaf_at}
 use Rattle.art_arena.specs.Standing.{StandsIn, AllStandIn}
 use Rattle.art_arena.specs.Trees.{Tree, Leaf, Inner, Branches, NoBranch, Branch}
+use Rattle.art_arena.proofs.StandingLaws.{leaf_place}
 use Rattle.art_arena.proofs.LeafLemmas.{Spells-kept, held_leaf-same, leaf_at-changed, leaf_at-other}
 
 module _ {K V : Type 0} {P : ℕ} where
-  inner_is_no_leaf : {A : Type 0} (o : Option (nodes.Inner (OpaqueNodePtr K V P))) (leaf : LeafNode K V P) → held_inner o ≡ HeldLeaf leaf → A
-  inner_is_no_leaf None leaf is = absurd (cc)
-  inner_is_no_leaf (Some node) leaf is = absurd (cc)
-
-  leaf_kind : (arena : ArenaOf K V P) (kind : NodeType) (key : ℕ) (leaf : LeafNode K V P) → held_under arena kind key ≡ HeldLeaf leaf → kind ≡ kinds.Leaf
-  leaf_kind arena kinds.Node4 key leaf is = inner_is_no_leaf _ leaf is
-  leaf_kind arena kinds.Node16 key leaf is = inner_is_no_leaf _ leaf is
-  leaf_kind arena kinds.Node48 key leaf is = inner_is_no_leaf _ leaf is
-  leaf_kind arena kinds.Node256 key leaf is = inner_is_no_leaf _ leaf is
-  leaf_kind arena kinds.Leaf key leaf is = refl
-
-  -- where a leaf is held, it is held under the pointer's slab key
-  leaf_place : (arena : ArenaOf K V P) (pointer : OpaqueNodePtr K V P) (leaf : LeafNode K V P) → held arena pointer ≡ HeldLeaf leaf → opaque_pointer kinds.Leaf (opaque_key pointer) ≡ pointer
-  leaf_place arena pointer leaf is = let kind = leaf_kind arena (node_kind pointer) (opaque_key pointer) leaf is in λ i. record { node_type = (sym kind) i; key = opaque_key pointer; leaf = record {} }
-
   leaf_under : (arena : ArenaOf K V P) (pointer : OpaqueNodePtr K V P) (leaf : LeafNode K V P) → held arena pointer ≡ HeldLeaf leaf → leaf_at arena (opaque_key pointer) ≡ Some leaf
   leaf_under arena pointer leaf is = held_leaf-same (leaf_at arena (opaque_key pointer)) (Some leaf) (ap (held arena) (leaf_place arena pointer leaf is) ∙ is)
 

@@ -1,4 +1,5 @@
 mod ArenaLemmas
+mod BelowLemmas
 mod EndLemmas
 mod KeptLemmas
 mod KnitLemmas
@@ -7,6 +8,7 @@ mod LinkedLists
 mod MatchLemmas
 mod PlaceLemmas
 mod ReadLemmas
+pub mod StandingLaws
 mod TextLemmas
 mod TreeLemmas
 mod WayLemmas

@@ -8,7 +8,8 @@ use Rattle.art_arena.specs.Arena.{Held, Nothing, HeldInner, HeldLeaf}
 use Rattle.art_arena.specs.Links.{AreDistinct}
 use Rattle.art_arena.specs.Standing.{Stands, AllStand}
 use Rattle.art_arena.specs.Trees.{Tree, Leaf, Inner, Branches, NoBranch, Branch, root_of, leaves, branch_leaves, texts, branch_texts, branch_roots, places, branch_places, IsSound, AreSound}
-use Rattle.art_arena.proofs.TextLemmas.{front-itself, front-shorter, PartsBefore-apart}
+use Rattle.art_bytes.proofs.FrontLaws.{front-itself, front-shorter}
+use Rattle.art_arena.proofs.TextLemmas.{PartsBefore-apart}
 use Rattle.art_arena.proofs.TreeLemmas.{GoesOn, texts-begin, texts-some, branch_texts-some, parts_before}
 
 abbrev first_child : {H : Type 0} → H → ChildMap H → H

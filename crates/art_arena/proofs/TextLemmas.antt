@@ -1,23 +1,15 @@
 -- Fronts of texts, and texts that part after a common front.
-use Rattle.std.proofs.Common.{◌+◌, nat_eq, drop, length-append, inl, inr, ◌≡◌, ◌∙◌, ℕ, ◌<◌, List, [], ◌∷◌, ◌++◌, length, take, refl, sym, ap, arith, append_assoc}
+use Rattle.std.proofs.Common.{◌+◌, nat_eq, drop, inl, inr, ◌≡◌, ◌∙◌, ℕ, ◌<◌, List, [], ◌∷◌, ◌++◌, length, take, refl, sym, ap, arith, append_assoc}
 use Rattle.std.specs.Ordering.{nat_cmp, ordering_then}
 use Rattle.std.specs.Cmp.{nat_cmp_is}
 use Rattle.std.specs.declared.cmp.Ordering.{Ordering}
 use Rattle.std.specs.declared.cmp.Ordering.TheVariants.{Less, Equal, Greater}
-use Rattle.std.proofs.lemmas.List.{append-nil}
 use Rattle.std.proofs.lemmas.Bool.Decides.{eqb_tells}
 use Rattle.std.proofs.lemmas.Cmp.{by_ranked, ranked}
 use Rattle.std.specs.List.{common_prefix_len}
 use Rattle.art_arena.specs.SharedFront.{IsSharedFrom}
 use Rattle.art_bytes.specs.Text.{IsFront, text_order}
-
--- a text begins itself
-pub front-itself : (a : List ℕ) → IsFront a a
-front-itself a = ([], sym (append-nil a))
-
--- what a longer text begins, its front begins
-pub front-shorter : (a b text : List ℕ) → IsFront (a ++ b) text → IsFront a text
-front-shorter a b text (rest, is) = (b ++ rest, is ∙ append_assoc a b rest)
+use Rattle.art_bytes.proofs.FrontLaws.{front-antisym}
 
 -- what begins two texts that part after q begins q
 pub front_of_both : (o q : List ℕ) (c d : ℕ) (r s t u : List ℕ) → o ++ r ≡ (q ++ c ∷ []) ++ s → o ++ t ≡ (q ++ d ∷ []) ++ u → (c ≡ d → ⊥) → IsFront o q
@@ -78,14 +70,6 @@ text_order-carried [] s rest o never is = absurd (never (sym is))
 text_order-carried (x ∷ q) s [] o never is = is
 text_order-carried (x ∷ q) s (y ∷ rest) o never is =
     carried_by_byte (nat_cmp x y) (text_order q (take (length q) rest)) (text_order (q ++ s) rest) o (text_order-carried q s rest o never) is
-
--- two texts that begin each other are one
-pub front-antisym : (a b : List ℕ) → IsFront a b → IsFront b a → a ≡ b
-front-antisym a b (r, b_is) (s, a_is) = none r (omega (arith, ap length b_is, ap length a_is, length-append a r, length-append b s)) b_is
-  where
-    none : (rest : List ℕ) → length rest ≡ 0 → b ≡ a ++ rest → a ≡ b
-    none [] empty is = sym (is ∙ append-nil a)
-    none (x ∷ rest) empty is = absurd (omega (arith, empty))
 
 -- texts share one thing from a depth on
 pub IsSharedFrom-same : (depth : ℕ) (texts : List (List ℕ)) (p q : List ℕ) → IsSharedFrom depth texts p → IsSharedFrom depth texts q → p ≡ q

@@ -10,7 +10,8 @@ use Rattle.art_bytes.specs.Text.{IsFront, text_order}
 use Rattle.art_nodes.specs.ChildMap.{IsAscendingFrom, key_bytes}
 use Rattle.art_arena.specs.SharedFront.{IsSharedFront}
 use Rattle.art_arena.specs.Trees.{Tree, Leaf, Inner, Branches, NoBranch, Branch, leaves, branch_leaves, texts, branch_texts, branch_roots, IsSound, AreSound, SameButPointers, SameBranches}
-use Rattle.art_arena.proofs.TextLemmas.{front-shorter, front_of_both, PartsBefore, PartsBefore-less, PartsBefore-apart}
+use Rattle.art_bytes.proofs.FrontLaws.{front-shorter}
+use Rattle.art_arena.proofs.TextLemmas.{front_of_both, PartsBefore, PartsBefore-less, PartsBefore-apart}
 
 -- pairs of a joined list are pairs of a part, or cross from the first into the second
 pub AllPairs-append : {X : Type 0} (R : X → X → Type 0) (xs ys : List X) → AllPairs R xs → AllPairs R ys → All (λ x. All (R x) ys) xs → AllPairs R (xs ++ ys)

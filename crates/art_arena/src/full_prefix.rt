@@ -13,7 +13,6 @@ use crate::arena::NodeArena;
 use crate::ends::{End, end_leaf};
 use art_bytes::AsBytes;
 use art_nodes::{ExplicitMismatch, InnerNodeCommon, NodePrefix, PrefixMatch, common_front_len};
-use std::cmp::Ordering;
 
 /// An inner node whose whole prefix can be read, with the arena that holds the nodes below it.
 ///

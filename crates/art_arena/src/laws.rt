@@ -4,18 +4,19 @@
 //! pointer, its prefix and its branches by ascending byte. It is sound under a path where every
 //! leaf's text begins with the way to it and every inner node has two branches or more, and it
 //! stands in an arena where each of its pointers holds its node.
-ghost use Rattle.std.specs.Prelude.{◌≡◌, ◌≢◌, ◌≤◌, ◌++◌, ◌∷◌, ℕ, List, Some, None, length, slice_get, All, AllPairs};
+ghost use Rattle.std.specs.Prelude.{◌≡◌, ◌≢◌, ◌≤◌, ◌++◌, [], ◌∷◌, ℕ, List, Some, None, length, slice_get, All, AllPairs};
 ghost use Rattle.std.specs.declared.cmp.Ordering.TheVariants.{Less};
 ghost use Rattle.art_bytes.specs.Text.{IsFront, text_order};
-ghost use Rattle.art_nodes.specs.ChildMap.{IsAscending, key_bytes};
+ghost use Rattle.art_nodes.specs.ChildMap.{IsAscending, child_at, key_bytes};
 ghost use Rattle.art_header.specs.declared.node_type.NodeType.TheVariants as NodeType;
 ghost use Rattle.art_nodes.specs.Leaf.{leaf_key, previous_key, next_key};
 ghost use Rattle.art_nodes.specs.Pointers.{node_kind, opaque_pointer};
+ghost use Rattle.art_nodes.specs.PrefixMatch.{IsPrefixOf};
 ghost use Rattle.art_nodes.specs.declared.pointers.OpaqueNodePtr.{OpaqueNodePtr};
 ghost use Rattle.art_arena.specs.Arena.{ArenaOf, HeldInner, HeldLeaf, Nothing, Changes, held};
 ghost use Rattle.art_arena.specs.Links.{AreDistinct, IsKnit, SameButLinks, Spells, leaf_at, next_at, previous_at};
 ghost use Rattle.art_arena.specs.SharedFront.{IsSharedFront, IsSharedFrom};
-ghost use Rattle.art_arena.specs.Standing.{NodeStands, StandsIn, AllStandIn};
+ghost use Rattle.art_arena.specs.Standing.{NodeStands, StandsIn, AllStandIn, TreeAt, TreeUnder, IsTreeIn};
 ghost use Rattle.art_arena.specs.Trees.{Tree, Inner, Branches, branch_roots, texts, places, IsSound, AreSound, SameButPointers};
 
 use art_bytes::AsBytes;
@@ -53,6 +54,25 @@ pub fn same_trees_have_the_same_texts<H, L>()
     ensures shared { (tree : Tree H) (other : Tree L) (depth : ℕ) (shared : List ℕ) →
         SameButPointers tree other → IsSharedFrom depth (texts tree) shared →
         IsSharedFrom depth (texts other) shared }
+{}
+
+/// Each node of a tree has a tree, so the calls that ask for one can be made on the way down: the root of
+/// a well-formed tree has it; something is held where a tree stands; if that is an inner node, it has the
+/// tree under the same path, and its child under a byte has one under the path, the prefix and the byte.
+pub fn each_node_of_a_tree_has_a_tree<K: AsBytes, V, const PREFIX_LEN: usize>()
+    ensures root { (arena : ArenaOf K V PREFIX_LEN) (root : _) (tree : _) →
+        IsTreeIn K.text arena root tree → (at : TreeAt K.text arena root) × (at.path ≡ []) }
+    ensures held { (arena : ArenaOf K V PREFIX_LEN) (pointer : _) →
+        TreeAt K.text arena pointer → held arena pointer ≢ Nothing }
+    ensures node { (arena : ArenaOf K V PREFIX_LEN) (pointer : _) (node : _)
+        (at : TreeAt K.text arena pointer) → held arena pointer ≡ HeldInner node →
+        (under : TreeUnder K.text arena node (length at.path)) ×
+        (under.tree ≡ at.tree) × (under.path ≡ at.path) }
+    ensures child { (arena : ArenaOf K V PREFIX_LEN) (pointer child : _) (node : _) (byte : ℕ)
+        (at : TreeAt K.text arena pointer) → held arena pointer ≡ HeldInner node →
+        child_at node.children byte ≡ Some child →
+        (below : TreeAt K.text arena child) × ((prefix : List ℕ) × IsPrefixOf node prefix ×
+        (below.path ≡ (at.path ++ prefix) ++ byte ∷ [])) }
 {}
 
 /// A node over sound trees that stand makes, once allocated, a tree that stands and is sound.

@@ -1,4 +1,9 @@
-//! An arena of nodes, the list of its leaves, trees over it and their ends, and full prefixes.
+//! An arena of nodes, and what is said of trees in it.
+//!
+//! A [`NodeArena`] keeps nodes by kind under slab keys. [`LeafLinks`] links its leaves into a list,
+//! [`ArenaReader`] lends nodes and counts the looks, [`end_leaf`] finds the ends of a tree, and
+//! [`FullPrefix`] reads a whole prefix, however few of its bytes a node stores. [`laws`] has what holds
+//! of every tree and every list.
 #![tactic(auto)]
 
 mod arena;

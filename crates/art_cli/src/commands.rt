@@ -1,5 +1,5 @@
 //! From lines to commands, for `replay` and for `find`.
-ghost use Rattle.std.specs.Prelude.{◌≡◌, ℕ, List, IfOk, IfErr};
+ghost use Rattle.std.specs.Prelude.{ℕ, List, IfOk, IfErr};
 ghost use Rattle.art_cli.specs.Lines.{lines_of, SayUntil};
 
 use crate::failure::LineFault;

@@ -9,7 +9,7 @@ use std::{fmt, io};
 /// What is wrong with a line.
 #[derive(Clone, Copy, Debug, PartialEq, Eq)]
 pub enum LineFault {
-    /// The first word is no command.
+    /// The line begins with no command: no name of `replay`, or none of `+`, `-` and `?` of `find`.
     UnknownCommand,
     /// The command takes more or fewer words.
     WrongNumberOfWords,

@@ -1,4 +1,4 @@
--- The laws of child maps that crates above cite: look-up after a write and after a removal, order, sizes, ends.
+-- Laws of child maps, for proofs of crates above: look-up after a write and after a removal, order, sizes, ends.
 use Rattle.std.proofs.Common.{◌≡◌, ℕ, zero, suc, ◌+◌, ◌-◌, ◌<◌, ◌≤◌, ◌≢◌, nat_lt, [], ◌∷◌, ◌++◌, length, Some, None, IsSome, IsNone, refl, if◌then◌else◌, true, false, sym, ◌∙◌, ap, arith, filter, slice_get, inl, inr}
 use Rattle.std.proofs.lemmas.Bool.{cases_lt}
 use Rattle.std.specs.Option.{is_some}

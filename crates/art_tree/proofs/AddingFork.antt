@@ -34,13 +34,13 @@ use Rattle.art_tree.proofs.BranchLemmas.{leaves-join, one_branch}
 use Rattle.art_tree.proofs.Changing.{place-held, root-place}
 use Rattle.art_tree.proofs.DictionaryLemmas.{AreApart, end-in, leaf-held-in}
 use Rattle.art_tree.proofs.Exchanging.{the-one, distinct-part, kept-branches, sound-part, snug-part, stands-part}
-use Rattle.art_tree.proofs.FrontLemmas.{front-shorter}
+use Rattle.art_bytes.proofs.FrontLaws.{front-shorter}
 use Rattle.art_tree.proofs.Gaps.{beside-key, gap, keys_of, lies, spelled-parts}
 use Rattle.art_tree.proofs.Growing.{alone-same}
 use Rattle.art_tree.proofs.NodeLemmas.{one-inner}
 use Rattle.art_tree.proofs.Rising.{cases_pointer, text-held}
 use Rattle.art_tree.proofs.TakingLemmas.{HasForkPlace, fork-place, in-taken, leaves-sides, leaves-trimmed, places-sides, places-trimmed, snug-sides, snug-taken, snug-trimmed, both-sides, without_front, with_leaf, branches_left, branches_right}
-use Rattle.art_tree.proofs.WayLemmas.{leaf-kind}
+use Rattle.art_arena.proofs.StandingLaws.{leaf_kind}
 
 module _ {H : Type 0} where
   mutual
@@ -249,7 +249,7 @@ module _ {K V : Type 0} {P : ℕ} {text : K → List ℕ} {old : ArenaOf K V P} 
             by_held : (h : Held (OpaqueNodePtr K V P) (LeafNode K V P)) → held linked spot.node ≡ h → IsTrimmed
             by_held Nothing is = absurd (linked-held is)
             by_held (HeldLeaf l) is =
-                let same = leaf_same (leaf-kind linked (node_kind spot.node) (opaque_key spot.node) l is) in
+                let same = leaf_same (leaf_kind linked (node_kind spot.node) (opaque_key spot.node) l is) in
                 record { others = λ p there. same p; is_held = λ none. linked-held (sym (same spot.node) ∙ none); inner = λ node is_inner. absurd (let wrong : HeldLeaf l ≡ HeldInner node = sym is ∙ is_inner in cc) }
             by_held (HeldInner node) is =
                 let inner = linked-there node is in

@@ -16,7 +16,7 @@ use Rattle.art_arena.specs.Arena.{ArenaOf, Held, HeldInner, HeldLeaf, Nothing, h
 use Rattle.art_tree.specs.Cuts.{HasOneLess, HasRoomToShrink}
 use Rattle.art_tree.specs.Edits.{IsReplaced}
 use Rattle.art_tree.proofs.NodeLemmas.{one-inner, some-inner}
-use Rattle.art_tree.proofs.WayLemmas.{leaf-kind}
+use Rattle.art_arena.proofs.StandingLaws.{leaf_kind}
 
 -- what is at most a number and is not it is less
 pub less-where-differ : (least count : ℕ) → least ≤ count → count ≢ least → least < count
@@ -97,7 +97,7 @@ module _ {K V : Type 0} {P : ℕ} where
       go : (there : Held (OpaqueNodePtr K V P) (LeafNode K V P)) → held arena pointer ≡ there → (node : Inner (OpaqueNodePtr K V P)) × (held arena pointer ≡ HeldInner node)
       go Nothing is = absurd (was is)
       go (HeldInner node) is = (node, is)
-      go (HeldLeaf leaf) is = absurd (inner (leaf-kind arena (node_kind pointer) (opaque_key pointer) leaf is))
+      go (HeldLeaf leaf) is = absurd (inner (leaf_kind arena (node_kind pointer) (opaque_key pointer) leaf is))
 
   -- a node is given up for one of another kind
   pub replaced : (old now new : ArenaOf K V P) (after : Inner (OpaqueNodePtr K V P)) {at made pointer : OpaqueNodePtr K V P} → at ≡ made → held old made ≡ Nothing → held old pointer ≢ Nothing

@@ -34,7 +34,7 @@ use Rattle.art_tree.proofs.LeafPlaces.{LeafPlace, is-other, left_there, part_the
 use Rattle.art_tree.proofs.NodeLemmas.{one-inner, some-inner}
 use Rattle.art_tree.proofs.Rising.{kind-4, kind-16, kind-48, kind-256}
 use Rattle.art_tree.proofs.TakingLemmas.{leaves-taken}
-use Rattle.art_tree.proofs.WayLemmas.{leaf-kind}
+use Rattle.art_arena.proofs.StandingLaws.{leaf_kind}
 
 -- the fewest children of the kind for so many are no more
 least-fits : (n : ℕ) → 2 ≤ n → least_children (kind_for n) ≤ n
@@ -130,7 +130,7 @@ module _ {K V : Type 0} {P : ℕ} {text : K → List ℕ} {old : ArenaOf K V P} 
         top-apart : top ≢ leaf
         top-apart same = elim less [
           | inl cutting ↦ place.apart (sym cutting.same ∙ same)
-          | inr shrunk ↦ shrunk-inner (node_kind parent) place.inner (sym shrunk.replaced.kind ∙ ap node_kind same ∙ leaf-kind old (node_kind leaf) (opaque_key leaf) place.own place.own_held)
+          | inr shrunk ↦ shrunk-inner (node_kind parent) place.inner (sym shrunk.replaced.kind ∙ ap node_kind same ∙ leaf_kind old (node_kind leaf) (opaque_key leaf) place.own place.own_held)
         ]
 
         top-no-leaf : (l : LeafNode K V P) → held old top ≡ HeldLeaf l → ⊥

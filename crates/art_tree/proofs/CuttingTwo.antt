@@ -35,7 +35,7 @@ use Rattle.art_tree.proofs.LeafPlaces.{IsOther, LeafPlace, is-other, left_there,
 use Rattle.art_tree.proofs.NodeLemmas.{one-inner, some-inner}
 use Rattle.art_tree.proofs.OnlyWayLemmas.{All-left, All-right}
 use Rattle.art_tree.proofs.TakingLemmas.{leaves-taken}
-use Rattle.art_tree.proofs.WayLemmas.{leaf-kind}
+use Rattle.art_arena.proofs.StandingLaws.{leaf_kind}
 
 -- a node stands for the prefix that it has
 stands-for : {H : Type 0} (room : ℕ) (node : nodes.Inner H) (prefix : List ℕ) (branches : Branches H) → NodeStands room node prefix branches → StandsFor room (header_of node) prefix
@@ -164,7 +164,7 @@ module _ {K V : Type 0} {P : ℕ} {text : K → List ℕ} {old : ArenaOf K V P} 
                 by_held : (h : Held (OpaqueNodePtr K V P) (LeafNode K V P)) → held cut child ≡ h → IsJoined
                 by_held Nothing is = absurd (child-held is)
                 by_held (HeldLeaf l) is =
-                    let same = leaf_same (leaf-kind cut (node_kind child) (opaque_key child) l is) in
+                    let same = leaf_same (leaf_kind cut (node_kind child) (opaque_key child) l is) in
                     record {
                       others = λ p differ. same p;
                       same_leaf = λ was was_is. same child;

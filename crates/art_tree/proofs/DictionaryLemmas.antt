@@ -33,7 +33,7 @@ use Rattle.art_tree.proofs.Exchanging.{the-one}
 use Rattle.art_tree.proofs.NodeLemmas.{one-leaf, some-leaf}
 use Rattle.art_tree.proofs.Rising.{leaf-of}
 use Rattle.art_tree.proofs.ScanLemmas.{same-text, text-itself}
-use Rattle.art_tree.proofs.WayLemmas.{leaf-kind}
+use Rattle.art_arena.proofs.StandingLaws.{leaf_kind}
 
 not-none : {X : Type 0} (o : Option X) (x : X) → o ≡ Some x → o ≡ None → ⊥
 not-none None x some none = absurd (cc)
@@ -248,7 +248,7 @@ module _ {K V : Type 0} {P : ℕ} (text : K → List ℕ) (arena : ArenaOf K V P
   -- an entry that a leaf of the tree holds is that of its text
   pub held-entry : AreApart (texts tree) → (pointer : OpaqueNodePtr K V P) (leaf : LeafNode K V P) → held arena pointer ≡ HeldLeaf leaf → entry_at text arena (text (leaf_key leaf)) ≡ Some (leaf_key leaf, leaf_value leaf)
   held-entry apart pointer leaf is =
-      let kind = leaf-kind arena (node_kind pointer) (opaque_key pointer) leaf is in
+      let kind = leaf_kind arena (node_kind pointer) (opaque_key pointer) leaf is in
       let slot = leaf-of (leaf_at arena (opaque_key pointer)) leaf (sym (ap (λ k. held_under arena k (opaque_key pointer)) kind) ∙ is) in
       entry-of-leaf apart (opaque_key pointer) leaf slot
 

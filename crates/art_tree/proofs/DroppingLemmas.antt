@@ -16,7 +16,7 @@ use Rattle.art_tree.specs.Plan.{join}
 use Rattle.art_tree.proofs.BranchLemmas.{roots-join, leaves-join, places-join, sound-join, one_branch}
 use Rattle.art_tree.proofs.DictionaryLemmas.{AreApart, leaf-of-entry, not-later}
 use Rattle.art_tree.proofs.Exchanging.{before-byte, sound-split, the-one}
-use Rattle.art_tree.proofs.FrontLemmas.{front-shorter}
+use Rattle.art_bytes.proofs.FrontLaws.{front-shorter}
 use Rattle.art_tree.proofs.PlaceLemmas.{branch-text}
 use Rattle.art_tree.proofs.Rising.{kind-4, kind-16, kind-48, kind-256, snug-join, snug-split}
 

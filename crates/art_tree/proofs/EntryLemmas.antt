@@ -18,7 +18,8 @@ use Rattle.art_tree.specs.declared.insert.place.Fork.{Fork}
 use Rattle.art_tree.specs.declared.insert.place.Spot.{Spot}
 use Rattle.art_tree.proofs.DictionaryLemmas.{AreApart, after-first, empty-entry, held-entry, leaf-held-in, leaf-of-entry, leaf-with}
 use Rattle.art_tree.proofs.Exchanging.{the-one, leaves-plug, sound-part, sound-whole}
-use Rattle.art_tree.proofs.FrontLemmas.{front-shorter, front-on, key-on}
+use Rattle.art_bytes.proofs.FrontLaws.{front-shorter, front-on}
+use Rattle.art_tree.proofs.FrontLemmas.{key-on}
 
 -- neither text begins the other
 abbrev pub IsApart : List ℕ → List ℕ → Type 0

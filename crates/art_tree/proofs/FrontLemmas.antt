@@ -1,15 +1,8 @@
 -- Texts that begin with a path.
-use Rattle.std.proofs.Common.{◌≡◌, ◌∙◌, ℕ, ◌+◌, List, [], ◌∷◌, ◌++◌, take, drop, slice_get, Some, sym, ap, append_assoc}
+use Rattle.std.proofs.Common.{◌≡◌, ◌∙◌, ℕ, ◌+◌, List, [], ◌∷◌, ◌++◌, take, drop, slice_get, Some, sym, ap}
 use Rattle.std.proofs.lemmas.List.{take-append-drop, take_more}
 use Rattle.std.proofs.lemmas.Option.{slice_get_within, get_or_from_slice_get}
 use Rattle.art_bytes.specs.Text.{IsFront}
-
-pub front-shorter : (a b text : List ℕ) → IsFront (a ++ b) text → IsFront a text
-front-shorter a b text (rest, is) = (b ++ rest, is ∙ append_assoc a b rest)
-
--- what begins a front of a text begins the text
-pub front-on : (a b c : List ℕ) → IsFront a b → IsFront b c → IsFront a c
-front-on a b c (r, b_is) (s, c_is) = (r ++ s, c_is ∙ ap (λ z. z ++ s) b_is ∙ append_assoc a r s)
 
 pub take-get : {A : Type 0} (xs : List A) (i : ℕ) (x : A) → slice_get xs i ≡ Some x → take (i + 1) xs ≡ take i xs ++ x ∷ []
 take-get xs i x e = take_more xs i x (slice_get_within xs i x e) ∙ ap (λ y. take i xs ++ y ∷ []) (get_or_from_slice_get xs i x x e)

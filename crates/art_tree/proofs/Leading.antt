@@ -8,7 +8,7 @@ use Rattle.art_tree.specs.Plan.{join, steps_of, branch_steps, Spans, BranchesSpa
 use Rattle.art_tree.specs.declared.loading.steps.Step.{Step}
 use Rattle.art_tree.specs.declared.loading.steps.Step.TheVariants as step
 use Rattle.art_tree.proofs.BranchLemmas.{one_branch}
-use Rattle.art_tree.proofs.FrontLemmas.{front-shorter}
+use Rattle.art_bytes.proofs.FrontLaws.{front-shorter}
 
 -- the last trees are the branches of a node with this part of the text as its prefix
 pub record Takes {H : Type 0} (text : List ℕ) (stack : Branches H) (start end children : ℕ) : Type 0 where

@@ -13,7 +13,7 @@ use Rattle.art_arena.specs.declared.ends.End.{End}
 use Rattle.art_arena.specs.declared.ends.End.TheVariants.{First, Last}
 use Rattle.art_tree.proofs.Linking.{AreKnit, Spells-kept, kept-at}
 use Rattle.art_tree.proofs.Rising.{leaf-of, text-held, text-kept}
-use Rattle.art_tree.proofs.WayLemmas.{leaf-kind}
+use Rattle.art_arena.proofs.StandingLaws.{leaf_kind}
 
 module _ {K V : Type 0} {P : ℕ} where
   -- the leaf beside a gap is knit
@@ -82,7 +82,7 @@ module _ {K V : Type 0} {P : ℕ} (old now : ArenaOf K V P) (this : ℕ) (leaf :
           keeps = record {
             inner = λ node is. same.inner pointer node (stays ∙ is);
             leaf = λ other is.
-                let kind = leaf-kind old (node_kind pointer) (opaque_key pointer) other is in
+                let kind = leaf_kind old (node_kind pointer) (opaque_key pointer) other is in
                 let place : opaque_pointer kinds.Leaf (opaque_key pointer) ≡ pointer = λ i. record { node_type = (sym kind) i; key = opaque_key pointer; leaf = record {} } in
                 let after = same.leaf (opaque_key pointer) other (leaf-of (leaf_at now (opaque_key pointer)) other (ap (held now) place ∙ stays ∙ is)) in
                 (after.0, ap (held new) (sym place) ∙ ap held_leaf after.1, after.2, after.3);

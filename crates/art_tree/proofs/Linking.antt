@@ -22,17 +22,15 @@ use Rattle.art_tree.specs.Search.{leaf_pointer}
 use Rattle.art_tree.specs.Loading.{HoldEntries, AreLinked, Adds}
 use Rattle.art_tree.proofs.FrontLemmas.{take-get}
 use Rattle.art_tree.proofs.Rising.{adds-more, leaf-of, text-held}
-use Rattle.art_tree.proofs.WayLemmas.{leaf-kind}
+use Rattle.art_arena.proofs.StandingLaws.{leaf_place}
 
 module _ {K V : Type 0} {P : ℕ} where
-  leaf-place : (arena : ArenaOf K V P) (pointer : OpaqueNodePtr K V P) (leaf : LeafNode K V P) → held arena pointer ≡ HeldLeaf leaf → opaque_pointer kinds.Leaf (opaque_key pointer) ≡ pointer
-  leaf-place arena pointer leaf e = let kind = leaf-kind arena (node_kind pointer) (opaque_key pointer) leaf e in λ i. record { node_type = (sym kind) i; key = opaque_key pointer; leaf = record {} }
-
   -- what stays where a free place is taken
   pub kept-at : (now new : ArenaOf K V P) (at : OpaqueNodePtr K V P) (there : Held (OpaqueNodePtr K V P) (LeafNode K V P)) → held now at ≡ Nothing → Changes now new at there → (pointer : OpaqueNodePtr K V P) → held now pointer ≢ Nothing → held new pointer ≡ held now pointer
   kept-at now new at there free changes pointer was = changes.others pointer (λ same. was (ap (held now) same ∙ free))
 
-  hold-kept : (now new : ArenaOf K V P) → ((pointer : OpaqueNodePtr K V P) → held now pointer ≢ Nothing → held new pointer ≡ held now pointer) → (pointers : List (OpaqueNodePtr K V P)) (entries : List (K × V)) → HoldEntries now pointers entries → HoldEntries new pointers entries
+  -- leaves hold entries on where what is held stays
+  pub hold-kept : (now new : ArenaOf K V P) → ((pointer : OpaqueNodePtr K V P) → held now pointer ≢ Nothing → held new pointer ≡ held now pointer) → (pointers : List (OpaqueNodePtr K V P)) (entries : List (K × V)) → HoldEntries now pointers entries → HoldEntries new pointers entries
   hold-kept now new kept [] [] h = tt
   hold-kept now new kept [] (entry ∷ entries) h = absurd h
   hold-kept now new kept (pointer ∷ pointers) [] h = absurd h
@@ -88,9 +86,6 @@ module _ {K V : Type 0} {P : ℕ} where
       let there : held now (opaque_pointer kinds.Leaf key) ≡ HeldLeaf leaf = ap held_leaf at in
       leaf-of (leaf_at new key) leaf (kept (opaque_pointer kinds.Leaf key) (subst (λ x. x ≢ Nothing) (sym there) (λ e. cc)) ∙ there))
 
-  pub Hold-kept : (now new : ArenaOf K V P) → ((pointer : OpaqueNodePtr K V P) → held now pointer ≢ Nothing → held new pointer ≡ held now pointer) → (pointers : List (OpaqueNodePtr K V P)) (entries : List (K × V)) → HoldEntries now pointers entries → HoldEntries new pointers entries
-  Hold-kept = hold-kept
-
   module _ (now new : ArenaOf K V P) (same : SameButLinks now new) (this sibling : ℕ) (others : (key : ℕ) → key ≢ this → key ≢ sibling → leaf_at new key ≡ leaf_at now key) where
     stays : (pointer : OpaqueNodePtr K V P) → (opaque_key pointer ≡ this → node_kind pointer ≡ kinds.Leaf → ⊥) → (opaque_key pointer ≡ sibling → node_kind pointer ≡ kinds.Leaf → ⊥) → held new pointer ≡ held now pointer
     stays pointer not_this not_sibling = go (held now pointer) refl
@@ -99,7 +94,7 @@ module _ {K V : Type 0} {P : ℕ} where
         go Nothing e = same.nothing pointer e ∙ sym e
         go (HeldInner node) e = same.inner pointer node e ∙ sym e
         go (HeldLeaf leaf) e =
-            let place = leaf-place now pointer leaf e in
+            let place = leaf_place now pointer leaf e in
             let kind = ap node_kind (sym place) in
             ap (held new) (sym place) ∙ ap held_leaf (others (opaque_key pointer) (λ k. not_this k kind) (λ k. not_sibling k kind)) ∙ ap (held now) place
 
@@ -110,7 +105,7 @@ module _ {K V : Type 0} {P : ℕ} where
         go Nothing e = absurd (was e)
         go (HeldInner node) e = subst (λ x. x ≢ Nothing) (sym (same.inner pointer node e)) (λ none. cc)
         go (HeldLeaf leaf) e =
-            let place = leaf-place now pointer leaf e in
+            let place = leaf_place now pointer leaf e in
             let after = same.leaf (opaque_key pointer) leaf (leaf-of (leaf_at now (opaque_key pointer)) leaf (ap (held now) place ∙ e)) in
             subst (λ x. x ≢ Nothing) (sym (ap (held new) (sym place) ∙ ap held_leaf after.1)) (λ none. cc)
 

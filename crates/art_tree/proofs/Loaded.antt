@@ -13,7 +13,7 @@ use Rattle.art_tree.specs.Plan.{AreLoadable, text_at}
 use Rattle.art_tree.specs.Raising.{IsRaised, leaf_pairs}
 use Rattle.art_tree.specs.Search.{leaf_pointer}
 use Rattle.art_tree.specs.Loading.{AreLinked, HoldEntries, IsLoaded, leaf_pointers}
-use Rattle.art_tree.proofs.Linking.{Hold-kept, Spells-kept}
+use Rattle.art_tree.proofs.Linking.{hold-kept, Spells-kept}
 
 -- no text is too long, at any index
 pub all-short : (texts : List (List ℕ)) → AreLoadable texts → (i : ℕ) → length (text_at texts i) < 2 ^ 32
@@ -37,7 +37,7 @@ module _ {K V : Type 0} {P : ℕ} (text : K → List ℕ) (old middle new : Aren
       record {
         is_tree = record { at_root = r.at_root; stands = r.stands; sound = r.sound };
         snug = r.snug;
-        hold = subst (λ p. HoldEntries new p entries) (sym pointers) (Hold-kept middle new r.kept (map leaf_pointer of) entries l.hold);
+        hold = subst (λ p. HoldEntries new p entries) (sym pointers) (hold-kept middle new r.kept (map leaf_pointer of) entries l.hold);
         spelled = subst (Spells new) (sym (ap (map opaque_key) pointers ∙ keys-of of)) (Spells-kept middle new r.kept (map slab_key of) l.spelled);
         adds = r.adds old l.adds;
       }

@@ -8,7 +8,7 @@ use Rattle.art_bytes.specs.Text.{IsFront}
 use Rattle.art_nodes.specs.ChildMap.{IsAscendingFrom, key_bytes}
 use Rattle.art_arena.specs.SharedFront.{IsSharedFront}
 use Rattle.art_arena.specs.Trees.{Tree, Leaf, Inner, Branches, NoBranch, Branch, leaves, branch_leaves, texts, branch_texts, branch_roots, IsSound, AreSound, SameButPointers, SameBranches}
-use Rattle.art_tree.proofs.FrontLemmas.{front-shorter}
+use Rattle.art_bytes.proofs.FrontLaws.{front-antisym, front-shorter}
 
 -- where members of one sort come before those of another, a list has one such division
 one-division : {X : Type 0} (A B : X → Type 0) → ((x : X) → A x → B x → ⊥) → (xs ys us vs : List X) → xs ++ ys ≡ us ++ vs → All A xs → All B ys → All A us → All B vs → (xs ≡ us) × (ys ≡ vs)
@@ -82,14 +82,6 @@ module _ {H : Type 0} (shared : SharesFront H) where
       let itself : All (IsFront text) (branch_texts branches) = subst (All (IsFront text)) (sym is) (All-cons (IsFront text) text [] ([], sym (append-nil text)) (All-nil (IsFront text))) in
       let long : All (λ t. length (path ++ prefix) < length t) (text ∷ []) = subst (All (λ t. length (path ++ prefix) < length t)) is (texts-longer (path ++ prefix) branches sound.2) in
       not-longer (path ++ prefix) text ((shared path prefix pointer branches sound).longest text itself) (All-head (λ t. length (path ++ prefix) < length t) text [] long)
-
--- two texts that begin each other are one
-front-antisym : (a b : List ℕ) → IsFront a b → IsFront b a → a ≡ b
-front-antisym a b (r, b_is) (s, a_is) = none r (omega (arith, ap length b_is, ap length a_is, length-append a r, length-append b s)) b_is
-  where
-    none : (rest : List ℕ) → length rest ≡ 0 → b ≡ a ++ rest → a ≡ b
-    none [] empty is = sym (is ∙ append-nil a)
-    none (x ∷ rest) empty is = absurd (omega (arith, empty))
 
 -- the longest text that all of them share is one
 one-shared : (all : List (List ℕ)) (p q : List ℕ) → IsSharedFront all p → IsSharedFront all q → p ≡ q

@@ -22,7 +22,7 @@ use Rattle.art_tree.specs.Plan.{join}
 use Rattle.art_tree.specs.declared.insert.place.Spot.{Spot}
 use Rattle.art_tree.proofs.DescentLemmas.{slice_get-drop}
 use Rattle.art_tree.proofs.Exchanging.{leaves-plug, sound-part, stands-part}
-use Rattle.art_tree.proofs.FrontLemmas.{front-on}
+use Rattle.art_bytes.proofs.FrontLaws.{front-on}
 
 -- two texts are alike in so many bytes, and part there unless one ends
 record AreAlike (a b : List ℕ) (n : ℕ) : Type 0 where

@@ -31,7 +31,7 @@ use Rattle.art_tree.proofs.Exchanging.{leaves-plug, stands-part, the-one}
 use Rattle.art_tree.proofs.NodeLemmas.{one-leaf}
 use Rattle.art_tree.proofs.Rising.{cases_held, cases_pointer, leaf-of}
 use Rattle.art_tree.proofs.WayContexts.{leaf-child, leaf-normal}
-use Rattle.art_tree.proofs.WayLemmas.{leaf-kind}
+use Rattle.art_arena.proofs.StandingLaws.{leaf_kind}
 
 -- the others of a list of different members are not the one between them
 apart-from : {A : Type 0} (front : List A) (this : A) (back : List A) → AreDistinct (front ++ this ∷ back) → All (λ other. other ≢ this) (front ++ back)
@@ -77,7 +77,7 @@ module _ {K V : Type 0} {P : ℕ} (old linked : ArenaOf K V P) (this : ℕ) (sam
           keeps = record {
             inner = λ node is. stays ∙ same.inner pointer node is;
             leaf = λ other is.
-                let kind = leaf-kind old (node_kind pointer) (opaque_key pointer) other is in
+                let kind = leaf_kind old (node_kind pointer) (opaque_key pointer) other is in
                 let place : opaque_pointer kinds.Leaf (opaque_key pointer) ≡ pointer = λ i. record { node_type = (sym kind) i; key = opaque_key pointer; leaf = record {} } in
                 let after = same.leaf (opaque_key pointer) other (leaf-of (leaf_at old (opaque_key pointer)) other (ap (held old) place ∙ is)) in
                 (after.0, stays ∙ ap (held linked) (sym place) ∙ ap held_leaf after.1, after.2, after.3);

@@ -9,7 +9,7 @@ use Rattle.art_arena.specs.Arena.{ArenaOf}
 use Rattle.art_arena.specs.Standing.{StandsIn, AllStandIn}
 use Rattle.art_arena.specs.Trees.{Tree, Leaf, Inner, Branches, NoBranch, Branch, branch_roots, places, branch_places, SameButPointers, SameBranches}
 use Rattle.art_tree.specs.Loading.{IsSnug, AreSnug}
-use Rattle.art_tree.proofs.WayLemmas.{leaf-kind}
+use Rattle.art_arena.proofs.StandingLaws.{leaf_kind}
 
 module _ {K V : Type 0} {P : ℕ} (text : K → List ℕ) (a b : ArenaOf K V P) where
   same-count : (branches more : Branches (OpaqueNodePtr K V P)) → SameBranches branches more → length (branch_roots branches) ≡ length (branch_roots more)
@@ -24,7 +24,7 @@ module _ {K V : Type 0} {P : ℕ} (text : K → List ℕ) (a b : ArenaOf K V P) 
   mutual
     pub same-kinds : (tree other : Tree (OpaqueNodePtr K V P)) → StandsIn text a tree → StandsIn text b other → IsSnug tree → IsSnug other → SameButPointers tree other → map node_kind (places tree) ≡ map node_kind (places other)
     same-kinds (Leaf pointer x) (Leaf at y) (leaf, holds, has) (other, other_holds, other_has) snug other_snug same =
-        one-more (leaf-kind a (node_kind pointer) (opaque_key pointer) leaf holds ∙ sym (leaf-kind b (node_kind at) (opaque_key at) other other_holds)) refl
+        one-more (leaf_kind a (node_kind pointer) (opaque_key pointer) leaf holds ∙ sym (leaf_kind b (node_kind at) (opaque_key at) other other_holds)) refl
     same-kinds (Leaf pointer x) (Inner at prefix more) stands other_stands snug other_snug same = absurd same
     same-kinds (Inner pointer prefix branches) (Leaf at y) stands other_stands snug other_snug same = absurd same
     same-kinds (Inner pointer prefix branches) (Inner at p more) stands other_stands snug other_snug same =

@@ -10,7 +10,7 @@ use Rattle.art_nodes.specs.ChildMap.{IsAscendingFrom, key_bytes, child_at}
 use Rattle.art_arena.specs.Trees.{Tree, Leaf, Inner, Branches, NoBranch, Branch, branch_leaves, branch_roots, root_of, IsSound, AreSound}
 use Rattle.art_tree.specs.Search.{scan, met, met_below, goes_to, IsWay, IsWayUnder}
 use Rattle.art_tree.proofs.DescentLemmas.{goes-byte}
-use Rattle.art_tree.proofs.FrontLemmas.{front-shorter}
+use Rattle.art_bytes.proofs.FrontLaws.{front-shorter}
 
 -- a text is another or not, as the test says
 pub same-text : (a b : List ℕ) → pointwise nat_eq a b ≡ true → a ≡ b

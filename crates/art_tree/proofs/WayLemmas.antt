@@ -2,24 +2,22 @@
 use Rattle.std.proofs.Common.{Bool, IsTrue, Bor, IfSome, IfNone, ◌≡◌, ◌≢◌, ◌∙◌, ℕ, ◌+◌, ◌≤◌, true, false, List, [], ◌∷◌, ◌++◌, length, length-append, Option, Some, None, slice_get, drop, refl, sym, ap, subst, arith, nat_eq, append_assoc, if◌then◌else◌}
 use Rattle.std.specs.Cmp.Lexicographic.{pointwise}
 use Rattle.std.proofs.Math.Seq.{drop-append_seam}
-use Rattle.std.proofs.lemmas.List.{take-append-drop, drop-drop, append-nil}
+use Rattle.std.proofs.lemmas.List.{drop-drop, append-nil}
 use Rattle.art_bytes.specs.Text.{IsFront}
-use Rattle.art_header.specs.Header.{capped}
-use Rattle.art_header.specs.declared.node_type.NodeType.{NodeType}
 use Rattle.art_header.specs.declared.node_type.NodeType.TheVariants as kinds
 use Rattle.art_nodes.specs.ChildMap.{child_at}
 use Rattle.art_nodes.specs.Inner as nodes
-use Rattle.art_nodes.specs.PrefixMatch.{IsPrefixOf}
 use Rattle.art_nodes.specs.Pointers.{node_kind, opaque_key, slab_key}
 use Rattle.art_nodes.specs.declared.pointers.NodePtr.{NodePtr}
 use Rattle.art_nodes.specs.declared.pointers.OpaqueNodePtr.{OpaqueNodePtr}
 use Rattle.art_nodes.specs.declared.leaf_node.LeafNode.{LeafNode}
-use Rattle.art_arena.specs.Arena.{ArenaOf, Held, Nothing, HeldInner, HeldLeaf, held, held_under, held_inner}
+use Rattle.art_arena.specs.Arena.{ArenaOf, Held, Nothing, HeldInner, HeldLeaf, held}
 use Rattle.art_arena.specs.Reader.{shown}
 use Rattle.art_arena.specs.declared.reader.AnyRef.{AnyRef}
 use Rattle.art_arena.specs.declared.reader.AnyRef.TheVariants as references
 use Rattle.art_arena.specs.Standing.{StandsIn, AllStandIn, NodeStands, IsTreeIn, leaf_text}
 use Rattle.art_arena.specs.Trees.{Tree, Leaf, Inner, Branches, IsSound, root_of, branch_roots}
+use Rattle.art_arena.proofs.StandingLaws.{shown-prefix}
 use Rattle.art_tree.specs.declared.path.TreePathSearch.{TreePathSearch}
 use Rattle.art_tree.specs.Descent.{LeadsOn, LeadsNowhere, LeadsOnFrom, LeadsNowhereFrom}
 use Rattle.art_tree.specs.Paths.{Steps, HasVisited}
@@ -52,18 +50,6 @@ drop-front : (path front key : List ℕ) (depth : ℕ) → length path ≡ depth
 drop-front path front key depth deep (rest, is) = (rest, subst (λ m. drop m key ≡ front ++ rest) deep (ap (drop (length path)) (is ∙ append_assoc path front rest) ∙ drop-append_seam path (front ++ rest)))
 
 module _ {K V : Type 0} {P : ℕ} where
-  inner-no-leaf : {C : Type 0} (node : Option (nodes.Inner (OpaqueNodePtr K V P))) (leaf : LeafNode K V P) → held_inner node ≡ HeldLeaf leaf → C
-  inner-no-leaf None leaf is = absurd (cc)
-  inner-no-leaf (Some node) leaf is = absurd (cc)
-
-  -- only a pointer of the kind of leaves has a leaf
-  pub leaf-kind : (arena : ArenaOf K V P) (kind : NodeType) (key : ℕ) (leaf : LeafNode K V P) → held_under arena kind key ≡ HeldLeaf leaf → kind ≡ kinds.Leaf
-  leaf-kind arena kinds.Node4 key leaf is = inner-no-leaf _ leaf is
-  leaf-kind arena kinds.Node16 key leaf is = inner-no-leaf _ leaf is
-  leaf-kind arena kinds.Node48 key leaf is = inner-no-leaf _ leaf is
-  leaf-kind arena kinds.Node256 key leaf is = inner-no-leaf _ leaf is
-  leaf-kind arena kinds.Leaf key leaf is = refl
-
   -- the pointer to a leaf is the pointer that it was cast from
   pub leaf-pointer-is : (at : OpaqueNodePtr K V P) (leaf : NodePtr P (LeafNode K V P)) → node_kind at ≡ kinds.Leaf → slab_key leaf ≡ opaque_key at → leaf_pointer leaf ≡ at
   leaf-pointer-is at leaf kind key = λ i. record { node_type = sym kind i; key = key i; leaf = record {} }
@@ -137,21 +123,15 @@ module _ {K V : Type 0} {P : ℕ} (text : K → List ℕ) (arena : ArenaOf K V P
               }
 
       module _ (n : AtNode) where
-        -- a text that the prefix of the node may be
-        shown-prefix : IsPrefixOf node n.prefix
-        shown-prefix =
-            let stored = capped P (length n.prefix) in
-            (sym n.shows.prefix_len, (drop stored n.prefix, sym (take-append-drop stored n.prefix) ∙ ap (λ s. s ++ drop stored n.prefix) (sym n.shows.stored)))
-
         nowhere-scan : LeadsNowhere P node key depth → scan whole key ≡ []
         nowhere-scan nowhere = n.same_scan ∙ scan-nowhere key (here.path ++ n.prefix) n.branches n.sound.2 (λ byte front.
             subst (λ c. child_at c byte ≡ None) n.shows.children
-            (nowhere n.prefix byte shown-prefix (front-goes P n.prefix byte (drop depth key)
+            (nowhere n.prefix byte (shown-prefix P node n.prefix n.branches n.shows) (front-goes P n.prefix byte (drop depth key)
             (drop-front here.path (n.prefix ++ byte ∷ []) key depth here.deep (subst (λ f. IsFront f key) (append_assoc here.path n.prefix (byte ∷ [])) front)))))
 
         nowhere-met : LeadsNowhere P node key depth → length (met P whole key) ≡ length here.steps + 1
         nowhere-met nowhere =
-            let none = met-nowhere P n.prefix (drop depth key) n.branches (λ byte goes. subst (λ c. child_at c byte ≡ None) n.shows.children (nowhere n.prefix byte shown-prefix goes)) in
+            let none = met-nowhere P n.prefix (drop depth key) n.branches (λ byte goes. subst (λ c. child_at c byte ≡ None) n.shows.children (nowhere n.prefix byte (shown-prefix P node n.prefix n.branches n.shows) goes)) in
             n.same_met ∙ ap (λ below. length here.steps + length (at ∷ below)) none
 
         on-at : (next : ℕ × OpaqueNodePtr K V P) → LeadsOn P node key depth next → (visited : TreePathSearch K V P) → ((steps : Steps K V P) (byte : ℕ) → slice_get key next.0 ≡ Some byte → HasVisited search steps → HasVisited visited (steps ++ (at, byte) ∷ []))
@@ -161,7 +141,7 @@ module _ {K V : Type 0} {P : ℕ} (text : K → List ℕ) (arena : ArenaOf K V P
             let place : next.0 ≡ length (here.path ++ n.prefix) = omega (arith, on.place, n.shows.prefix_len, far) in
             let at_byte : slice_get key (length (here.path ++ n.prefix)) ≡ Some on.byte = subst (λ m. slice_get key m ≡ Some on.byte) place on.at_place in
             let child : child_at (branch_roots n.branches) on.byte ≡ Some next.1 = subst (λ c. child_at c on.byte ≡ Some next.1) n.shows.children on.child in
-            let b = branching P n.prefix (drop depth key) {Stand = StandsIn text arena} {AllStand = AllStandIn text arena} (λ byte tree others both. both) (here.path ++ n.prefix) key n.branches 0 on.byte next.1 n.sound.2 n.stand n.sound.1 at_byte (on.goes n.prefix shown-prefix) child in
+            let b = branching P n.prefix (drop depth key) {Stand = StandsIn text arena} {AllStand = AllStandIn text arena} (λ byte tree others both. both) (here.path ++ n.prefix) key n.branches 0 on.byte next.1 n.sound.2 n.stand n.sound.1 at_byte (on.goes n.prefix (shown-prefix P node n.prefix n.branches n.shows)) child in
             let rest : drop (length n.prefix + 1) (drop depth key) ≡ drop (next.0 + 1) key = drop-drop (length n.prefix + 1) depth key ∙ ap (λ m. drop m key) (omega (arith, place, far)) in
             record {
               part = b.tree;

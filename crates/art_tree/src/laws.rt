@@ -17,10 +17,11 @@ ghost use Rattle.art_tree.specs.Loading.{IsSnug};
 
 pub use art_arena::laws::{
     allocating_keeps_lists_spelled, allocating_leaves_trees_standing,
-    an_allocated_node_makes_a_tree, each_leaf_of_a_list_is_knit, each_pointer_is_at_one_place,
-    lists_are_spelled_where_links_are_kept, lists_are_spelled_where_their_leaves_are_kept,
-    no_text_begins_another, path_and_prefix_are_shared, same_trees_have_the_same_texts,
-    texts_ascend, trees_stand_where_all_is_kept, trees_stand_where_texts_are_kept,
+    an_allocated_node_makes_a_tree, each_leaf_of_a_list_is_knit, each_node_of_a_tree_has_a_tree,
+    each_pointer_is_at_one_place, lists_are_spelled_where_links_are_kept,
+    lists_are_spelled_where_their_leaves_are_kept, no_text_begins_another,
+    path_and_prefix_are_shared, same_trees_have_the_same_texts, texts_ascend,
+    trees_stand_where_all_is_kept, trees_stand_where_texts_are_kept,
     trees_stand_where_their_nodes_are_kept,
 };
 use art_bytes::{AsBytes, NoPrefixesBytes};
@@ -46,13 +47,16 @@ pub fn the_same_tree_has_the_same_kinds<K: AsBytes, V, const PREFIX_LEN: usize>(
         map node_kind (places tree) ≡ map node_kind (places other) }
 {}
 
-/// A subtree of a tree may be exchanged for one that is sound under the same path. The whole is then
-/// sound under the path that it was sound under, its leaves are those of before with the part
-/// exchanged, and it is snug where both were. It stands where the new part stands, the part's parent
-/// has it under the old one's byte, and all else of the tree is as before, but for the links of leaves.
+/// A subtree of a tree stands where the tree does, and is sound under the path to it. It may be exchanged
+/// for one that is sound under the same path. The whole is then sound under the path that it was sound
+/// under, its leaves are those of before with the part exchanged, and it is snug where both were. It
+/// stands where the new part stands, the part's parent has it under the old one's byte, and all else of
+/// the tree is as before, but for the links of leaves.
 pub fn a_subtree_may_be_exchanged<K: AsBytes, V, const PREFIX_LEN: usize>()
     ensures part { (path : List ℕ) (context : Context (Pointer K V PREFIX_LEN)) (part : _) →
         IsSound path (plug context part) → IsSound (path ++ path_to context) part }
+    ensures part_stands { (arena : ArenaOf K V PREFIX_LEN) (context : _) (part : _) →
+        StandsIn K.text arena (plug context part) → StandsIn K.text arena part }
     ensures sound { (path : List ℕ) (context : Context (Pointer K V PREFIX_LEN)) (part now : _) →
         IsSound path (plug context part) → IsSound (path ++ path_to context) now →
         IsSound path (plug context now) }

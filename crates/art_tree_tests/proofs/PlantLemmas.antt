@@ -7,8 +7,8 @@ use Rattle.art_nodes.specs.ChildMap.{with_child}
 use Rattle.art_nodes.specs.Inner as nodes
 use Rattle.art_nodes.specs.declared.pointers.OpaqueNodePtr.{OpaqueNodePtr}
 use Rattle.art_nodes.specs.declared.leaf_node.LeafNode.{LeafNode}
-use Rattle.art_arena.specs.Arena.{ArenaOf, held, HeldLeaf, Changes}
-use Rattle.art_arena.specs.Standing.{NodeStands, StandsIn, AllStandIn, StandsUnder, TreeAt, TreeUnder, leaf_text}
+use Rattle.art_arena.specs.Arena.{ArenaOf, HeldLeaf, Changes}
+use Rattle.art_arena.specs.Standing.{StandsIn, TreeAt, TreeUnder, leaf_text}
 use Rattle.art_arena.specs.Trees.{Tree, Leaf, Inner, Branches, NoBranch, Branch, branch_roots, root_of, IsSound}
 
 -- two children written one after the other
@@ -20,19 +20,6 @@ module _ {K V : Type 0} {P : ℕ} (text : K → List ℕ) (old new : ArenaOf K V
   pub leaf_planted : (leaf : LeafNode K V P) (path : List ℕ) → Changes old new pointer (HeldLeaf leaf) → IsFront path (leaf_text text leaf) → length (leaf_text text leaf) < 2 ^ 64 → (found : TreeAt text new pointer) × (found.path ≡ path)
   leaf_planted leaf path changes begins short =
       (record { tree = Leaf pointer (leaf_text text leaf); path = path; at_root = refl; stands = (leaf, changes.changed, refl); sound = (begins, short) }, refl)
-
-  -- so is a node over trees
-  pub node_planted : (node : nodes.Inner (OpaqueNodePtr K V P)) (depth : ℕ) (under : TreeUnder text old node depth)
-      → ((prefix : List ℕ) (branches : Branches (OpaqueNodePtr K V P)) → NodeStands P node prefix branches → AllStandIn text old branches → StandsIn text new (Inner pointer prefix branches))
-      → (found : TreeAt text new pointer) × (found.path ≡ under.path)
-  node_planted node depth under makes_tree = by_tree under.tree under.stands under.sound
-    where
-      by_tree : (tree : Tree (OpaqueNodePtr K V P)) → StandsUnder P (leaf_text text) (held old) node tree → IsSound under.path tree → (found : TreeAt text new pointer) × (found.path ≡ under.path)
-      by_tree (Leaf p x) stands sound = absurd stands
-      by_tree (Inner p prefix branches) (shows, stand) sound = (
-        record { tree = Inner pointer prefix branches; path = under.path; at_root = refl; stands = makes_tree prefix branches shows stand; sound = sound },
-        refl,
-      )
 
 -- what stood stands
 pub others_planted : {K V : Type 0} {P : ℕ} (text : K → List ℕ) (old new : ArenaOf K V P) → ((tree : Tree (OpaqueNodePtr K V P)) → StandsIn text old tree → StandsIn text new tree) → (other : OpaqueNodePtr K V P) (found : TreeAt text old other) → (again : TreeAt text new other) × (again.path ≡ found.path)

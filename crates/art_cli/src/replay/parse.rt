@@ -1,9 +1,9 @@
 //! From the lines of `replay` to its commands.
-ghost use Rattle.std.specs.Prelude.{◌≡◌, ◌≢◌, ℕ, ◌<◌, ◌≤◌, ◌↔◌, [], ◌∷◌, MatchOption, OnErr, IfErr, All, IsTrue, IfOk, is_none, IfSome, IfNone, length};
+ghost use Rattle.std.specs.Prelude.{◌≡◌, ◌≢◌, ℕ, ◌<◌, ◌≤◌, ◌↔◌, [], ◌∷◌, MatchOption, OnErr, IfErr, All, IsTrue, IfOk, is_none, IfSome, length};
 ghost use Rattle.std.specs.Int.{IsInRange};
 ghost use Rattle.std.specs.declared.ops.Bound.{Bound};
 ghost use Rattle.art_cli.specs.Lines.{lines_of, words_of};
-ghost use Rattle.art_cli.specs.Command.{IsNumber, IsByteNumber, IsLeafNumber, IsBound, SayCommand, SayCommands, SayNothing};
+ghost use Rattle.art_cli.specs.Command.{IsNumber, IsByteNumber, IsBound, SayCommand, SayCommands, SayNothing};
 ghost use Rattle.art_cli.specs.Command.{IsName, BeginWithName, HaveTheirNumber, IsFaultAfter};
 ghost use Rattle.art_cli.specs.Words.{AreWords};
 

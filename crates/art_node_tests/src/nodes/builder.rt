@@ -42,12 +42,11 @@ fn a_node_is_built_child_by_child(rt: HostRuntime) {
 }
 
 #[test]
-fn a_builder_lends_the_node_built_so_far(rt: HostRuntime) {
+fn a_builder_tells_what_was_written(rt: HostRuntime) {
     let builder = InnerNode4::<u8, u8, 16>::builder(b"prefix", 6).write_child(1, leaf(8));
-    let begun = builder.node();
-    assert!(rt; begun.num_children() == 1 && begun.capacity() == 4);
-    assert!(rt; begun.lookup_child(1) == Some(leaf(8)));
-    assert!(rt; begun.lookup_child(0).is_none());
+    assert!(rt; builder.num_children() == 1 && builder.capacity() == 4);
+    assert!(rt; builder.lookup_child(1) == Some(leaf(8)));
+    assert!(rt; builder.lookup_child(0).is_none());
 }
 
 // The child that a node over these two would rather be known by.

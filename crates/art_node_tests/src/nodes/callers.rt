@@ -67,8 +67,7 @@ fn write_second<K, V, const PREFIX_LEN: usize, N: InnerNodeCommon<K, V, PREFIX_L
     ensures { IfSome result (λ node.
         N.inner node ≡ node_with_child (N.inner builder) byte child) }
 {
-    let begun = builder.node();
-    if begun.num_children() >= begun.capacity() || begun.lookup_child(byte).is_some() {
+    if builder.num_children() >= builder.capacity() || builder.lookup_child(byte).is_some() {
         return None;
     }
     Some(builder.write_child(byte, child).build())

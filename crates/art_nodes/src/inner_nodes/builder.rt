@@ -85,12 +85,26 @@ impl<
     N: InnerNodeCommon<K, V, PREFIX_LEN>,
     S: BuilderState,
 > InnerNodeBuilder<K, V, PREFIX_LEN, N, S> {
-    /// The node built so far, which may have fewer than two children: its capacity, count and
-    /// look-ups tell whether the next write's conditions hold.
-    pub fn node(&self) -> &N
-        ensures { result.now ≡ self.now }
+    /// How many children the node has room for. With the count and the look-ups it tells whether the
+    /// conditions of the next write hold.
+    pub fn capacity(&self) -> usize
+        ensures { result ≡ N.room }
     {
-        &self.node
+        self.node.capacity()
+    }
+
+    /// How many children have been written so far.
+    pub fn num_children(&self) -> usize
+        ensures { result ≡ length (N.inner self.now).children }
+    {
+        self.node.num_children()
+    }
+
+    /// The child that has been written under this byte, if there is one.
+    pub fn lookup_child(&self, key_fragment: u8) -> Option<OpaqueNodePtr<K, V, PREFIX_LEN>>
+        ensures { result ≡ child_at (N.inner self.now).children key_fragment }
+    {
+        self.node.lookup_child(key_fragment)
     }
 }
 

@@ -33,18 +33,11 @@ impl<K, V, const PREFIX_LEN: usize> Model for InnerNodeDirect<K, V, PREFIX_LEN> 
 
 impl<K, V, const PREFIX_LEN: usize> InnerNodeInit<PREFIX_LEN>
     for InnerNodeDirect<K, V, PREFIX_LEN> {
-    ghost use Rattle.std.specs.Prelude.{◌≡◌, ◌≤◌, ◌<◌, ◌^◌, length};
-    ghost use Rattle.art_header.specs.Header.{capped, empty_header};
     ghost use Rattle.art_nodes.specs.Inner.{empty_inner};
 
     ghost empty_with = { empty_inner };
 
-    fn from_prefix(_caller: InThisCrate, prefix: &[u8], prefix_len: usize) -> Self
-        requires has_stored_bytes { capped PREFIX_LEN prefix_len ≤ length prefix.now }
-        requires no_longer { length prefix.now ≤ prefix_len }
-        requires fits { prefix_len < 2 ^ 32 }
-        ensures { result ≡ empty_inner (empty_header PREFIX_LEN prefix.now prefix_len) }
-    {
+    fn from_prefix(_caller: InThisCrate, prefix: &[u8], prefix_len: usize) -> Self {
         Self::from_header(Header::new(prefix, prefix_len))
     }
 }

@@ -47,18 +47,11 @@ impl<K, V, const PREFIX_LEN: usize, const SIZE: usize> Model
 
 impl<K, V, const PREFIX_LEN: usize, const SIZE: usize> InnerNodeInit<PREFIX_LEN>
     for InnerNodeSorted<K, V, PREFIX_LEN, SIZE> {
-    ghost use Rattle.std.specs.Prelude.{◌≡◌, ◌≤◌, ◌<◌, ◌^◌, length};
-    ghost use Rattle.art_header.specs.Header.{capped, empty_header};
     ghost use Rattle.art_nodes.specs.Inner.{empty_inner};
 
     ghost empty_with = { empty_inner };
 
-    fn from_prefix(_caller: InThisCrate, prefix: &[u8], prefix_len: usize) -> Self
-        requires has_stored_bytes { capped PREFIX_LEN prefix_len ≤ length prefix.now }
-        requires no_longer { length prefix.now ≤ prefix_len }
-        requires fits { prefix_len < 2 ^ 32 }
-        ensures { result ≡ empty_inner (empty_header PREFIX_LEN prefix.now prefix_len) }
-    {
+    fn from_prefix(_caller: InThisCrate, prefix: &[u8], prefix_len: usize) -> Self {
         Self::from_header(Header::new(prefix, prefix_len))
     }
 }

@@ -1,7 +1,7 @@
 //! What an insert does to inner nodes.
 ghost use Rattle.std.specs.Prelude.{◌≡◌, ◌≢◌, ◌↔◌, ◌<◌, ◌≤◌, ◌+◌, ◌-◌, ◌^◌, ◌++◌, ℕ, List, length, take, drop, None, OnOk, IsTrue};
 ghost use Rattle.art_header.specs.Header.{StandsFor};
-ghost use Rattle.art_header.specs.NodeType.{most_children, grown_kind};
+ghost use Rattle.art_header.specs.NodeType.{most_children};
 ghost use Rattle.art_header.specs.declared.node_type.NodeType.TheVariants.{Leaf, Node4};
 ghost use Rattle.art_nodes.specs.ChildMap.{child_at};
 ghost use Rattle.art_nodes.specs.Inner.{Inner, header_of, node_with_child};

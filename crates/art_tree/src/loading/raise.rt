@@ -21,7 +21,7 @@ use art_nodes::{
     InnerNode4, InnerNode16, InnerNode48, InnerNodeDirect, LeafNode, NodePtr, OpaqueNodePtr,
 };
 
-// Places the inner node of the smallest kind.
+// Places the inner node of the smallest kind. Never inlined, so that nodes are no locals of `raise`.
 #[inline(never)]
 fn place<K: AsBytes, V, const PREFIX_LEN: usize>(
     arena: &mut NodeArena<K, V, PREFIX_LEN>,

@@ -1,7 +1,9 @@
 //! How a crate uses `art_tree`: values that are loaded once and read by key, and values that are put
 //! into a tree and taken out of it.
-ghost use Rattle.std.specs.Prelude.{◌≡◌, ◌≢◌, ◌↔◌, ℕ, List, [], map, Contains, None, IsNone, IsTrue, IfSome, IfErr};
-ghost use Rattle.art_nodes.specs.Pointers.{node_kind};
+ghost use Rattle.std.specs.Prelude.{◌≡◌, ◌≢◌, ◌≤◌, ◌↔◌, ℕ, List, [], length, map, Contains, None, IsNone, IsTrue, IfSome, IfErr};
+ghost use Rattle.art_nodes.specs.Pointers.{node_kind, opaque_pointer, slab_key};
+ghost use Rattle.art_arena.specs.Links.{HoldsLeaf};
+ghost use Rattle.art_arena.specs.Standing.{TreeAt};
 ghost use Rattle.art_arena.specs.Trees.{places, SameButPointers};
 ghost use Rattle.art_tree.specs.Art.{IsAlone};
 ghost use Rattle.art_tree.specs.Dictionary.{entry_at, HasEntry, IsEntry};
@@ -10,7 +12,10 @@ ghost use Rattle.art_tree.specs.Search.{HasTree, EachTree, scan};
 ghost use Rattle.art_tree.specs.declared.insert.InsertRefusal.TheVariants.{Prefix};
 
 use super::*;
-use art_tree::{InsertFault, InsertRefusal, NoPrefixesBytes, StrKey};
+use art_tree::{
+    ArenaInnerNode, End, FullPrefix, InsertFault, InsertRefusal, LeafNode, NoPrefixesBytes,
+    NodePtr, StrKey, end_leaf,
+};
 
 /// The root of a tree of these entries, where they are in order and memory is found.
 fn table<K: AsBytes + Drop, V: Drop, const PREFIX_LEN: usize>(
@@ -35,6 +40,41 @@ fn value_of<'a, K: AsBytes, V, const PREFIX_LEN: usize>(
     let mut reader = ArenaReader::with_budget(arena, key.len() + 1);
     let (leaf, _) = find_leaf(&mut reader, root, key)?;
     Some(arena.as_value_ref(leaf))
+}
+
+/// The least leaf below the child that a node of a tree has under a byte.
+fn least_below<K: AsBytes, V, const PREFIX_LEN: usize, N: ArenaInnerNode<K, V, PREFIX_LEN>>(
+    arena: &NodeArena<K, V, PREFIX_LEN>,
+    node: NodePtr<PREFIX_LEN, N>,
+    byte: u8,
+) -> Option<NodePtr<PREFIX_LEN, LeafNode<K, V, PREFIX_LEN>>>
+    requires { TreeAt K.text arena.now (opaque_pointer N.TYPE (slab_key node)) }
+    ensures { IfSome result (λ leaf. HoldsLeaf arena.now (slab_key leaf)) }
+{
+    laws::each_node_of_a_tree_has_a_tree::<K, V, PREFIX_LEN>();
+    let child = arena.as_ref(node).lookup_child(byte)?;
+    Some(end_leaf(arena, child, End::First))
+}
+
+/// The index in a key behind the whole prefix of a node of a tree, if the key has that prefix after the
+/// path to the node, which has `depth` bytes.
+fn behind_prefix<K: AsBytes, V, const PREFIX_LEN: usize, N: ArenaInnerNode<K, V, PREFIX_LEN>>(
+    arena: &NodeArena<K, V, PREFIX_LEN>,
+    node: NodePtr<PREFIX_LEN, N>,
+    key: &[u8],
+    depth: usize,
+) -> Option<usize>
+    requires tree { (at : TreeAt K.text arena.now (opaque_pointer N.TYPE (slab_key node))) ×
+        (length at.path ≡ depth) }
+    requires within { depth ≤ length key.now }
+    ensures { IfSome result (λ index. index ≤ length key.now) }
+{
+    laws::each_node_of_a_tree_has_a_tree::<K, V, PREFIX_LEN>();
+    let matched = arena
+        .as_ref(node)
+        .match_full_prefix(arena, key, depth)
+        .ok()?;
+    Some(depth + matched.matched_bytes)
 }
 
 /// Changes the value under a key in place, if the key is there. The tree stands on.
@@ -160,6 +200,7 @@ fn find_one_of_two(
     else {
         panic!(rt; "another path");
     };
+    assert!(rt; parent == root);
     assert!(rt; child_key_byte == b'2');
     Ok(())
 }

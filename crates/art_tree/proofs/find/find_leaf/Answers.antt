@@ -8,7 +8,8 @@ use Rattle.art_tree.specs.Search.{IsWay, LeadsTo, leaf_pointer}
 use Rattle.art_tree.specs.Paths.{HasVisited, path_of}
 use Rattle.art_tree.proofs.OnlyWayLemmas.{one-way}
 use Rattle.art_tree.proofs.PathLeads.{way-leads}
-use Rattle.art_tree.proofs.WayLemmas.{here-start, here-held, here-leaf, here-nowhere-scan, here-nowhere-met, here-on, leaf-kind, still-held, leaf-pointer-is, told, told-on, told-nowhere, told-later, at-some, leaf-hit, leaf-miss, not-true}
+use Rattle.art_arena.proofs.StandingLaws.{leaf_kind}
+use Rattle.art_tree.proofs.WayLemmas.{here-start, here-held, here-leaf, here-nowhere-scan, here-nowhere-met, here-on, still-held, leaf-pointer-is, told, told-on, told-nowhere, told-later, at-some, leaf-hit, leaf-miss, not-true}
 use Rattle.art_tree.proofs.find.find_leaf.Goals as goal
 
 pub way-init : goal.way-init
@@ -31,7 +32,7 @@ returns-then-matches_full_key g c =
     let arena = c.args.reader.now.arena in
     let holds = ap (λ a. held a c.way.at) (sym c.way.invariant.same_arena) ∙ c.in-LeafNode.ensures.node in
     let key_is = at-some (λ leaf. slab_key leaf ≡ opaque_key c.way.at) c.cast.result c.unwrap.result c.unwrap.ensures c.cast.ensures.key in
-    let pointer = leaf-pointer-is c.way.at c.unwrap.result (leaf-kind arena _ _ c.in-LeafNode.leaf.now holds) key_is in
+    let pointer = leaf-pointer-is c.way.at c.unwrap.result (leaf_kind arena _ _ c.in-LeafNode.leaf.now holds) key_is in
     let hit = c.matches_full_key.ensures.0 c.if-matches_full_key.true in
     record {
       answer = λ tree is.

@@ -1,9 +1,12 @@
-use Rattle.art_tree.proofs.Exchanging.{sound-under, sound-exchanged, leaves-plug, snug-whole, stands-whole}
+use Rattle.art_tree.proofs.Exchanging.{sound-under, sound-exchanged, leaves-plug, snug-whole, stands-part, stands-whole}
 use Rattle.art_tree.specs.Contexts.{plug}
 use Rattle.art_tree.proofs.laws.a_subtree_may_be_exchanged.Goals as goal
 
 pub returns-clause-part : goal.returns-clause-part
 returns-clause-part g c = λ path context part sound. sound-under path context part sound
+
+pub returns-clause-part_stands : goal.returns-clause-part_stands
+returns-clause-part_stands g c = λ arena context part stands. stands-part g.K.AsBytes.text arena arena context part stands
 
 pub returns-clause-sound : goal.returns-clause-sound
 returns-clause-sound g c = λ path context part now sound now_sound. sound-exchanged path context part now sound now_sound

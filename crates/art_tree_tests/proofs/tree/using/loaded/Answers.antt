@@ -1,4 +1,4 @@
-use Rattle.std.proofs.Common.{◌≡◌, ◌∙◌, ℕ, List, All, Some, None, sym}
+use Rattle.std.proofs.Common.{◌∙◌, ℕ, List, All, sym}
 use Rattle.std.proofs.lemmas.List.Elements.{All-contains, All-map}
 use Rattle.art_arena.specs.Arena.{ArenaOf}
 use Rattle.art_tree.specs.Dictionary.{HasEntry, IsEntry}

@@ -1,0 +1,61 @@
+-- Trees at the pointers of a tree.
+use Rattle.std.proofs.Common.{◌≡◌, ◌≢◌, ◌∙◌, ℕ, List, [], ◌∷◌, ◌++◌, length, Some, refl, sym, ap, subst, inl, inr}
+use Rattle.std.proofs.lemmas.Bool.Decides.{eqb_tells}
+use Rattle.std.proofs.lemmas.Option.{same_Some}
+use Rattle.art_nodes.specs.ChildMap.{child_at}
+use Rattle.art_nodes.specs.Inner as nodes
+use Rattle.art_nodes.specs.PrefixMatch.{IsPrefixOf}
+use Rattle.art_nodes.specs.declared.pointers.OpaqueNodePtr.{OpaqueNodePtr}
+use Rattle.art_arena.specs.Arena.{ArenaOf, Nothing, HeldInner, HeldLeaf, held}
+use Rattle.art_arena.specs.Standing.{NodeStands, StandsIn, AllStandIn, TreeAt, TreeUnder}
+use Rattle.art_arena.specs.Trees.{Tree, Leaf, Inner, Branches, NoBranch, Branch, branch_roots, root_of, IsSound, AreSound}
+use Rattle.art_arena.proofs.StandingLaws.{shown-prefix}
+
+module _ {K V : Type 0} {P : ℕ} (text : K → List ℕ) (arena : ArenaOf K V P) where
+  -- something is held at the root of a tree that stands
+  pub tree-held : (tree : Tree (OpaqueNodePtr K V P)) (pointer : OpaqueNodePtr K V P) → root_of tree ≡ pointer → StandsIn text arena tree → held arena pointer ≢ Nothing
+  tree-held (Leaf p x) pointer root (leaf, holds, has) free = let one : HeldLeaf leaf ≡ Nothing = sym holds ∙ ap (held arena) root ∙ free in absurd (cc)
+  tree-held (Inner p prefix branches) pointer root (node, holds, shows, stand) free = let one : HeldInner node ≡ Nothing = sym holds ∙ ap (held arena) root ∙ free in absurd (cc)
+
+  -- the tree of the branch under a byte
+  record BranchAt (path : List ℕ) (byte : ℕ) (child : OpaqueNodePtr K V P) : Type 0 where
+    pub tree : Tree (OpaqueNodePtr K V P)
+    pub at_root : root_of tree ≡ child
+    pub stands : StandsIn text arena tree
+    pub sound : IsSound (path ++ byte ∷ []) tree
+
+  branch-at : (path : List ℕ) (branches : Branches (OpaqueNodePtr K V P)) (byte : ℕ) (child : OpaqueNodePtr K V P) → AllStandIn text arena branches → AreSound path branches → child_at (branch_roots branches) byte ≡ Some child → BranchAt path byte child
+  branch-at path NoBranch byte child stand sound is = absurd (cc)
+  branch-at path (Branch b tree others) byte child (stands, stand) sound is = elim (eqb_tells b byte) [
+    | inl same ↦
+        let here : Some (root_of tree) ≡ Some child = rw same.0 at is in
+        record { tree = tree; at_root = same_Some (root_of tree) child here; stands = stands; sound = subst (λ c. IsSound (path ++ c ∷ []) tree) same.1 sound.0 }
+    | inr differ ↦ let later : child_at (branch_roots others) byte ≡ Some child = rw differ.0 at is in branch-at path others byte child stand sound.1 later
+  ]
+
+  module _ (pointer : OpaqueNodePtr K V P) (node : nodes.Inner (OpaqueNodePtr K V P)) (is : held arena pointer ≡ HeldInner node) where
+    -- the node of a tree that stands has that tree, under the same path
+    pub node-under : (at : TreeAt text arena pointer) → (under : TreeUnder text arena node (length at.path)) × (under.tree ≡ at.tree) × (under.path ≡ at.path)
+    node-under at = by_tree at.tree at.at_root at.stands at.sound
+      where
+        by_tree : (tree : Tree (OpaqueNodePtr K V P)) → root_of tree ≡ pointer → StandsIn text arena tree → IsSound at.path tree → (under : TreeUnder text arena node (length at.path)) × (under.tree ≡ tree) × (under.path ≡ at.path)
+        by_tree (Leaf p x) root (leaf, holds, has) sound = let one : HeldLeaf leaf ≡ HeldInner node = sym holds ∙ ap (held arena) root ∙ is in absurd (cc)
+        by_tree (Inner p prefix branches) root (own, holds, shows, stand) sound =
+            let one : HeldInner own ≡ HeldInner node = sym holds ∙ ap (held arena) root ∙ is in
+            let same : own ≡ node = cc in
+            (record { tree = Inner p prefix branches; path = at.path; stands = (subst (λ n. NodeStands P n prefix branches) same shows, stand); sound = sound; deep = refl }, refl, refl)
+
+    -- and its child under a byte has the tree below it, under the path, the prefix and the byte
+    pub child-at-tree : (byte : ℕ) (child : OpaqueNodePtr K V P) (at : TreeAt text arena pointer) → child_at node.children byte ≡ Some child → (below : TreeAt text arena child) × ((prefix : List ℕ) × IsPrefixOf node prefix × (below.path ≡ (at.path ++ prefix) ++ byte ∷ []))
+    child-at-tree byte child at has_child = by_tree at.tree at.at_root at.stands at.sound
+      where
+        by_tree : (tree : Tree (OpaqueNodePtr K V P)) → root_of tree ≡ pointer → StandsIn text arena tree → IsSound at.path tree → (below : TreeAt text arena child) × ((prefix : List ℕ) × IsPrefixOf node prefix × (below.path ≡ (at.path ++ prefix) ++ byte ∷ []))
+        by_tree (Leaf p x) root (leaf, holds, has) sound = let one : HeldLeaf leaf ≡ HeldInner node = sym holds ∙ ap (held arena) root ∙ is in absurd (cc)
+        by_tree (Inner p prefix branches) root (own, holds, shows, stand) sound =
+            let one : HeldInner own ≡ HeldInner node = sym holds ∙ ap (held arena) root ∙ is in
+            let same : own ≡ node = cc in
+            let roots : node.children ≡ branch_roots branches = sym (ap (λ n. n.children) same) ∙ shows.children in
+            let branch = branch-at (at.path ++ prefix) branches byte child stand sound.2 (subst (λ children. child_at children byte ≡ Some child) roots has_child) in (
+              record { tree = branch.tree; path = (at.path ++ prefix) ++ byte ∷ []; at_root = branch.at_root; stands = branch.stands; sound = branch.sound },
+              (prefix, subst (λ n. IsPrefixOf n prefix) same (shown-prefix P own prefix branches shows), refl),
+            )
