@@ -200,7 +200,6 @@ fn find_one_of_two(
     else {
         panic!(rt; "another path");
     };
-    assert!(rt; parent == root);
     assert!(rt; child_key_byte == b'2');
     Ok(())
 }
