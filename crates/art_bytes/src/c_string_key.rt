@@ -1,5 +1,5 @@
 //! C strings as keys.
-ghost use Rattle.std.specs.Prelude.{◌≡◌, [], ◌∷◌, ◌++◌, IfOk, IfErr, OnOk, refl};
+ghost use Rattle.std.specs.Prelude.{◌≡◌, ◌<◌, [], ◌∷◌, ◌++◌, vec_len, vec_capacity, IfOk, IfErr, IsOk, OnOk, refl};
 ghost use Rattle.art_bytes.specs.CString.{IsCString, HasNoZero};
 ghost use Rattle.art_bytes.specs.CStringLaws.{c_string_front_is_whole};
 
@@ -20,12 +20,14 @@ impl CStringKey {
 
     /// The key whose text is `bytes` and a zero byte, which is appended through the vector's own allocator.
     ///
-    /// Refuses bytes with a zero among them, before it takes memory, and otherwise want of memory. The bytes come
-    /// back as they were.
+    /// Refuses bytes with a zero among them, before it takes memory, and otherwise want of memory, which is never
+    /// met where the vector has spare room. The bytes come back as they were.
     pub fn new(mut bytes: Vec<u8>) -> Result<CStringKey, CStringKeyError>
         ensures text { IfOk result (λ key. c_string_key_text key ≡ bytes.items ++ 0 ∷ []) }
         ensures no_zero { OnOk result (HasNoZero bytes.items) }
         ensures refused { IfErr result (IsRefusalOf bytes.items) }
+        ensures succeeds { vec_len bytes < vec_capacity bytes → HasNoZero bytes.items →
+            IsOk result }
     {
         if let Some(position) = bytes.iter().position(|byte| *byte == 0) {
             return Err(CStringKeyError::InteriorZero { position, bytes });
