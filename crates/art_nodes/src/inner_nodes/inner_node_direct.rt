@@ -12,7 +12,9 @@ use std::ops::Bound;
 /// An inner node for at most 256 children, which keeps each under its byte in a table.
 #[derive(Drop)]
 pub struct InnerNodeDirect<K, V, const PREFIX_LEN: usize> {
+    // The prefix, and how many children there are.
     header: Header<PREFIX_LEN>,
+    // A place for each byte, with its child if it has one.
     child_pointers: ChildTable<OpaqueNodePtr<K, V, PREFIX_LEN>>,
 }
 

@@ -16,10 +16,13 @@ use std::ops::Bound;
 /// It has room for `SIZE` children, and for no more than 255, since 255 is no [`NonMaxIndex`].
 #[derive(Drop)]
 pub struct InnerNodeIndirect<K, V, const PREFIX_LEN: usize, const SIZE: usize> {
+    // The prefix, and how many children there are.
     header: Header<PREFIX_LEN>,
+    // For each byte that has a child, the index of its pointer.
     child_indices: IndexTable,
-    // The byte of each pointer, beside it.
+    // The byte of each pointer, at the same place.
     keys: ArrayVec<u8, SIZE>,
+    // The children, in the order in which they came, but for removals.
     child_pointers: ArrayVec<OpaqueNodePtr<K, V, PREFIX_LEN>, SIZE>,
 }
 

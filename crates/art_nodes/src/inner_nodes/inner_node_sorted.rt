@@ -15,6 +15,7 @@ use std::ops::Bound;
 /// An inner node that keeps its bytes in ascending order and its children beside them.
 #[derive(Drop)]
 pub struct InnerNodeSorted<K, V, const PREFIX_LEN: usize, const SIZE: usize> {
+    // The prefix, and how many children there are.
     header: Header<PREFIX_LEN>,
     // The bytes that have a child, ascending.
     keys: ArrayVec<u8, SIZE>,
