@@ -69,13 +69,16 @@ module _ {K V : Type 0} {P : ℕ} {N : Type 0} (kind : NodeType) (slab_of : Aren
     pub room-written : (arena : ArenaOf K V P) (slots : Slab N) → room (with_slab arena slots) kind ≡ slab_room slots
     room-written arena slots = room_of_slab (with_slab arena slots) ∙ ap slab_room (slab_written arena slots)
 
+    -- a slab of the same room changes no room
+    pub SameRoom-written : (arena : ArenaOf K V P) (slots : Slab N) → slab_room slots ≡ slab_room (slab_of arena) → SameRoom arena (with_slab arena slots)
+    SameRoom-written arena slots kept = λ other. elim (same_or_differ other kind) [
+      | inr differ ↦ other_room arena slots other differ
+      | inl same ↦ subst (λ k. room (with_slab arena slots) k ≡ room arena k) (sym same) (room-written arena slots ∙ kept ∙ sym (room_of_slab arena))
+    ]
+
     -- a node in the place of another changes no room
     pub SameRoom-with_value : (arena : ArenaOf K V P) (key : ℕ) (node : N) → ContainsKey (slab_of arena) key → SameRoom arena (with_slab arena (with_value (slab_of arena) key node))
-    SameRoom-with_value arena key node within = λ other. elim (same_or_differ other kind) [
-      | inr differ ↦ other_room arena _ other differ
-      | inl same ↦ subst (λ k. room (with_slab arena (with_value (slab_of arena) key node)) k ≡ room arena k) (sym same)
-          (room-written arena (with_value (slab_of arena) key node) ∙ slab_room-with_value (slab_of arena) key node within ∙ sym (room_of_slab arena))
-    ]
+    SameRoom-with_value arena key node within = SameRoom-written arena (with_value (slab_of arena) key node) (slab_room-with_value (slab_of arena) key node within)
 
 -- the node at a pointer, changed to have another prefix, as the pointer's caller names it
 pub Changes-prefix : {K V : Type 0} {P : ℕ} {old new : ArenaOf K V P} {at pointer : OpaqueNodePtr K V P} {there now node : Inner (OpaqueNodePtr K V P)} (header : Header) → at ≡ pointer → held old at ≡ HeldInner there → now ≡ node_with_prefix_of there header → Changes old new at (HeldInner now) → held old pointer ≡ HeldInner node → Changes old new pointer (HeldInner (node_with_prefix_of node header))

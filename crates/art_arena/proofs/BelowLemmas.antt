@@ -1,15 +1,18 @@
 -- Trees at the pointers of a tree.
 use Rattle.std.proofs.Common.{◌≡◌, ◌≢◌, ◌∙◌, ℕ, List, [], ◌∷◌, ◌++◌, length, Some, refl, sym, ap, subst, inl, inr}
 use Rattle.std.proofs.lemmas.Bool.Decides.{eqb_tells}
+use Rattle.std.proofs.lemmas.List.{append_assoc, drop_at}
 use Rattle.std.proofs.lemmas.Option.{same_Some}
 use Rattle.art_nodes.specs.ChildMap.{child_at}
 use Rattle.art_nodes.specs.Inner as nodes
 use Rattle.art_nodes.specs.PrefixMatch.{IsPrefixOf}
 use Rattle.art_nodes.specs.declared.pointers.OpaqueNodePtr.{OpaqueNodePtr}
 use Rattle.art_arena.specs.Arena.{ArenaOf, Nothing, HeldInner, HeldLeaf, held}
-use Rattle.art_arena.specs.Standing.{NodeStands, StandsIn, AllStandIn, TreeAt, TreeUnder}
-use Rattle.art_arena.specs.Trees.{Tree, Leaf, Inner, Branches, NoBranch, Branch, branch_roots, root_of, IsSound, AreSound}
+use Rattle.art_arena.specs.SharedFront.{IsSharedFrom}
+use Rattle.art_arena.specs.Standing.{NodeStands, StandsIn, StandsUnder, AllStandIn, TreeAt, TreeUnder, leaf_text}
+use Rattle.art_arena.specs.Trees.{Tree, Leaf, Inner, Branches, NoBranch, Branch, branch_leaves, branch_roots, leaves, root_of, texts, IsSound, AreSound}
 use Rattle.art_arena.proofs.StandingLaws.{shown-prefix}
+use Rattle.art_arena.proofs.TreeLemmas.{IsSharedFront-node}
 
 module _ {K V : Type 0} {P : ℕ} (text : K → List ℕ) (arena : ArenaOf K V P) where
   -- something is held at the root of a tree that stands
@@ -17,20 +20,26 @@ module _ {K V : Type 0} {P : ℕ} (text : K → List ℕ) (arena : ArenaOf K V P
   tree-held (Leaf p x) pointer root (leaf, holds, has) free = let one : HeldLeaf leaf ≡ Nothing = sym holds ∙ ap (held arena) root ∙ free in absurd (cc)
   tree-held (Inner p prefix branches) pointer root (node, holds, shows, stand) free = let one : HeldInner node ≡ Nothing = sym holds ∙ ap (held arena) root ∙ free in absurd (cc)
 
-  -- the tree of the branch under a byte
-  record BranchAt (path : List ℕ) (byte : ℕ) (child : OpaqueNodePtr K V P) : Type 0 where
+  -- the tree of the branch under a byte, its leaves together among those of all branches
+  record BranchAt (path : List ℕ) (branches : Branches (OpaqueNodePtr K V P)) (byte : ℕ) (child : OpaqueNodePtr K V P) : Type 0 where
     pub tree : Tree (OpaqueNodePtr K V P)
     pub at_root : root_of tree ≡ child
     pub stands : StandsIn text arena tree
     pub sound : IsSound (path ++ byte ∷ []) tree
+    pub left : List (OpaqueNodePtr K V P × List ℕ)
+    pub right : List (OpaqueNodePtr K V P × List ℕ)
+    pub together : branch_leaves branches ≡ left ++ (leaves tree ++ right)
 
-  branch-at : (path : List ℕ) (branches : Branches (OpaqueNodePtr K V P)) (byte : ℕ) (child : OpaqueNodePtr K V P) → AllStandIn text arena branches → AreSound path branches → child_at (branch_roots branches) byte ≡ Some child → BranchAt path byte child
+  branch-at : (path : List ℕ) (branches : Branches (OpaqueNodePtr K V P)) (byte : ℕ) (child : OpaqueNodePtr K V P) → AllStandIn text arena branches → AreSound path branches → child_at (branch_roots branches) byte ≡ Some child → BranchAt path branches byte child
   branch-at path NoBranch byte child stand sound is = absurd (cc)
   branch-at path (Branch b tree others) byte child (stands, stand) sound is = elim (eqb_tells b byte) [
     | inl same ↦
         let here : Some (root_of tree) ≡ Some child = rw same.0 at is in
-        record { tree = tree; at_root = same_Some (root_of tree) child here; stands = stands; sound = subst (λ c. IsSound (path ++ c ∷ []) tree) same.1 sound.0 }
-    | inr differ ↦ let later : child_at (branch_roots others) byte ≡ Some child = rw differ.0 at is in branch-at path others byte child stand sound.1 later
+        record { tree = tree; at_root = same_Some (root_of tree) child here; stands = stands; sound = subst (λ c. IsSound (path ++ c ∷ []) tree) same.1 sound.0; left = []; right = branch_leaves others; together = refl }
+    | inr differ ↦
+        let later : child_at (branch_roots others) byte ≡ Some child = rw differ.0 at is in
+        let found = branch-at path others byte child stand sound.1 later in
+        record { tree = found.tree; at_root = found.at_root; stands = found.stands; sound = found.sound; left = leaves tree ++ found.left; right = found.right; together = ap (λ z. leaves tree ++ z) found.together ∙ sym (append_assoc (leaves tree) found.left (leaves found.tree ++ found.right)) }
   ]
 
   module _ (pointer : OpaqueNodePtr K V P) (node : nodes.Inner (OpaqueNodePtr K V P)) (is : held arena pointer ≡ HeldInner node) where
@@ -45,11 +54,11 @@ module _ {K V : Type 0} {P : ℕ} (text : K → List ℕ) (arena : ArenaOf K V P
             let same : own ≡ node = cc in
             (record { tree = Inner p prefix branches; path = at.path; stands = (subst (λ n. NodeStands P n prefix branches) same shows, stand); sound = sound; deep = refl }, refl, refl)
 
-    -- and its child under a byte has the tree below it, under the path, the prefix and the byte
-    pub child-at-tree : (byte : ℕ) (child : OpaqueNodePtr K V P) (at : TreeAt text arena pointer) → child_at node.children byte ≡ Some child → (below : TreeAt text arena child) × ((prefix : List ℕ) × IsPrefixOf node prefix × (below.path ≡ (at.path ++ prefix) ++ byte ∷ []))
+    -- and its child under a byte has the tree below it, under the path, the prefix and the byte, whose leaves stand together among the node's
+    pub child-at-tree : (byte : ℕ) (child : OpaqueNodePtr K V P) (at : TreeAt text arena pointer) → child_at node.children byte ≡ Some child → (below : TreeAt text arena child) × ((prefix : List ℕ) × IsPrefixOf node prefix × (below.path ≡ (at.path ++ prefix) ++ byte ∷ [])) × ((left : List _) × (right : List _) × (leaves at.tree ≡ left ++ (leaves below.tree ++ right)))
     child-at-tree byte child at has_child = by_tree at.tree at.at_root at.stands at.sound
       where
-        by_tree : (tree : Tree (OpaqueNodePtr K V P)) → root_of tree ≡ pointer → StandsIn text arena tree → IsSound at.path tree → (below : TreeAt text arena child) × ((prefix : List ℕ) × IsPrefixOf node prefix × (below.path ≡ (at.path ++ prefix) ++ byte ∷ []))
+        by_tree : (tree : Tree (OpaqueNodePtr K V P)) → root_of tree ≡ pointer → StandsIn text arena tree → IsSound at.path tree → (below : TreeAt text arena child) × ((prefix : List ℕ) × IsPrefixOf node prefix × (below.path ≡ (at.path ++ prefix) ++ byte ∷ [])) × ((left : List _) × (right : List _) × (leaves tree ≡ left ++ (leaves below.tree ++ right)))
         by_tree (Leaf p x) root (leaf, holds, has) sound = let one : HeldLeaf leaf ≡ HeldInner node = sym holds ∙ ap (held arena) root ∙ is in absurd (cc)
         by_tree (Inner p prefix branches) root (own, holds, shows, stand) sound =
             let one : HeldInner own ≡ HeldInner node = sym holds ∙ ap (held arena) root ∙ is in
@@ -58,4 +67,13 @@ module _ {K V : Type 0} {P : ℕ} (text : K → List ℕ) (arena : ArenaOf K V P
             let branch = branch-at (at.path ++ prefix) branches byte child stand sound.2 (subst (λ children. child_at children byte ≡ Some child) roots has_child) in (
               record { tree = branch.tree; path = (at.path ++ prefix) ++ byte ∷ []; at_root = branch.at_root; stands = branch.stands; sound = branch.sound },
               (prefix, subst (λ n. IsPrefixOf n prefix) same (shown-prefix P own prefix branches shows), refl),
+              (branch.left, branch.right, branch.together),
             )
+
+  -- what the texts below a node share from its depth on
+  pub shared-under : (node : nodes.Inner (OpaqueNodePtr K V P)) (depth : ℕ) (under : TreeUnder text arena node depth) → (shared : List ℕ) × IsSharedFrom depth (texts under.tree) shared
+  shared-under node depth under = by_tree under.tree under.stands under.sound
+    where
+      by_tree : (tree : Tree (OpaqueNodePtr K V P)) → StandsUnder P (leaf_text text) (held arena) node tree → IsSound under.path tree → (shared : List ℕ) × IsSharedFrom depth (texts tree) shared
+      by_tree (Leaf p x) stands sound = absurd stands
+      by_tree (Inner p prefix branches) stands sound = (prefix, (under.path ++ prefix, IsSharedFront-node under.path p prefix branches sound, sym (drop_at under.path prefix depth under.deep)))

@@ -63,7 +63,7 @@ module _ {K V : Type 0} {P : ℕ} where
         (now : LeafNode K V P) × (leaf_at new key ≡ Some now) × (leaf_key now ≡ leaf_key leaf)
         × (leaf_value now ≡ leaf_value leaf)
 
-  -- these two, where they are leaves, are neighbours now, and no other link changed
+  -- these two, each of which may be none, are neighbours now, and no other link changed
   pub record Joins (old new : ArenaOf K V P) (before after : Option ℕ) : Type 0 where
     pub next : (key : ℕ) → before ≡ Some key → next_at new key ≡ after
     pub previous : (key : ℕ) → after ≡ Some key → previous_at new key ≡ before
@@ -71,7 +71,7 @@ module _ {K V : Type 0} {P : ℕ} where
     pub other_previous : (key : ℕ) → after ≢ Some key → previous_at new key ≡ previous_at old key
     pub other_leaves : (key : ℕ) → before ≢ Some key → after ≢ Some key → leaf_at new key ≡ leaf_at old key
 
-  -- this leaf stands between these two now, where they are leaves, and no other link changed
+  -- this leaf stands between these two now, each of which may be none, and no other link changed
   pub record StandsBetween (old new : ArenaOf K V P) (before : Option ℕ) (this : ℕ) (after : Option ℕ) : Type 0 where
     pub previous : previous_at new this ≡ before
     pub next : next_at new this ≡ after

@@ -4,7 +4,7 @@ use Rattle.art_arena.specs.Arena.{ArenaOf}
 use Rattle.art_arena.specs.Links.{leaf_at, previous_at, next_at, SameButLinks}
 
 module _ {K V : Type 0} {P : ℕ} where
-  -- the next of this leaf, if it is one, is this now, and no other link changed
+  -- this leaf, which may be none, has this next neighbour now, and no other link changed
   pub record SetsNext (old new : ArenaOf K V P) (leaf next : Option ℕ) : Type 0 where
     pub set : (key : ℕ) → leaf ≡ Some key → next_at new key ≡ next
     pub other_next : (key : ℕ) → leaf ≢ Some key → next_at new key ≡ next_at old key
@@ -12,7 +12,7 @@ module _ {K V : Type 0} {P : ℕ} where
     pub other_leaves : (key : ℕ) → leaf ≢ Some key → leaf_at new key ≡ leaf_at old key
     pub contents : SameButLinks old new
 
-  -- the previous of this leaf, if it is one, is this now, and no other link changed
+  -- this leaf, which may be none, has this previous neighbour now, and no other link changed
   pub record SetsPrevious (old new : ArenaOf K V P) (leaf previous : Option ℕ) : Type 0 where
     pub set : (key : ℕ) → leaf ≡ Some key → previous_at new key ≡ previous
     pub other_previous : (key : ℕ) → leaf ≢ Some key → previous_at new key ≡ previous_at old key

@@ -136,10 +136,11 @@ impl<K, V, const PREFIX_LEN: usize> NodeArena<K, V, PREFIX_LEN> {
 
     /// Makes room for `additional` more nodes of the kind: so many allocations of the kind then
     /// succeed. Refused for want of memory, every node and the room of the other kinds are as before.
-    /// Where there is such room already, nothing is refused, and no room is given up.
+    /// Where there is such room already, nothing is refused and nothing grows.
     pub fn reserve(&mut self, kind: NodeType, additional: usize) -> Result<(), AllocError>
         ensures room { OnOk result (additional ≤ room self.new kind) }
         ensures succeeds { additional ≤ room self.old kind → IsOk result }
+        ensures had_room { additional ≤ room self.old kind → SameRoom self.old self.new }
         ensures no_less_room { room self.old kind ≤ room self.new kind }
         ensures nodes_kept { SameNodes self.old self.new }
         ensures other_room { SameOtherRoom self.old self.new kind }
@@ -162,6 +163,7 @@ impl<K, V, const PREFIX_LEN: usize> NodeArena<K, V, PREFIX_LEN> {
     ) -> Result<(), AllocError>
         ensures room { OnOk result (additional ≤ room self.new N.TYPE) }
         ensures succeeds { additional ≤ room self.old N.TYPE → IsOk result }
+        ensures had_room { additional ≤ room self.old N.TYPE → SameRoom self.old self.new }
         ensures no_less_room { room self.old N.TYPE ≤ room self.new N.TYPE }
         ensures nodes_kept { SameNodes self.old self.new }
         ensures other_room { SameOtherRoom self.old self.new N.TYPE }

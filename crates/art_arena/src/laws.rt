@@ -17,7 +17,7 @@ ghost use Rattle.art_arena.specs.Arena.{ArenaOf, HeldInner, HeldLeaf, Nothing, C
 ghost use Rattle.art_arena.specs.Links.{AreDistinct, IsKnit, SameButLinks, Spells, leaf_at, next_at, previous_at};
 ghost use Rattle.art_arena.specs.SharedFront.{IsSharedFront, IsSharedFrom};
 ghost use Rattle.art_arena.specs.Standing.{NodeStands, StandsIn, AllStandIn, TreeAt, TreeUnder, IsTreeIn};
-ghost use Rattle.art_arena.specs.Trees.{Tree, Inner, Branches, branch_roots, texts, places, IsSound, AreSound, SameButPointers};
+ghost use Rattle.art_arena.specs.Trees.{Tree, Inner, Branches, branch_roots, leaves, texts, places, IsSound, AreSound, SameButPointers};
 
 use art_bytes::AsBytes;
 
@@ -58,7 +58,9 @@ pub fn same_trees_have_the_same_texts<H, L>()
 
 /// Each node of a tree has a tree, so the calls that ask for one can be made on the way down: the root of
 /// a well-formed tree has it; something is held where a tree stands; if that is an inner node, it has the
-/// tree under the same path, and its child under a byte has one under the path, the prefix and the byte.
+/// tree under the same path, and its child under a byte has one under the path, the prefix and the byte,
+/// whose leaves stand together among those of the tree in hand. The texts of a node's tree share a front
+/// from its depth on, which is what `match_full_prefix` compares with a key.
 pub fn each_node_of_a_tree_has_a_tree<K: AsBytes, V, const PREFIX_LEN: usize>()
     ensures root { (arena : ArenaOf K V PREFIX_LEN) (root : _) (tree : _) →
         IsTreeIn K.text arena root tree → (at : TreeAt K.text arena root) × (at.path ≡ []) }
@@ -72,7 +74,12 @@ pub fn each_node_of_a_tree_has_a_tree<K: AsBytes, V, const PREFIX_LEN: usize>()
         (at : TreeAt K.text arena pointer) → held arena pointer ≡ HeldInner node →
         child_at node.children byte ≡ Some child →
         (below : TreeAt K.text arena child) × ((prefix : List ℕ) × IsPrefixOf node prefix ×
-        (below.path ≡ (at.path ++ prefix) ++ byte ∷ [])) }
+        (below.path ≡ (at.path ++ prefix) ++ byte ∷ [])) ×
+        ((left : List _) × (right : List _) ×
+        (leaves at.tree ≡ left ++ (leaves below.tree ++ right))) }
+    ensures shared { (arena : ArenaOf K V PREFIX_LEN) (node : _) (depth : ℕ)
+        (under : TreeUnder K.text arena node depth) →
+        (shared : List ℕ) × IsSharedFrom depth (texts under.tree) shared }
 {}
 
 /// A node over sound trees that stand makes, once allocated, a tree that stands and is sound.

@@ -283,7 +283,7 @@ fn is_named<K, V, const PREFIX_LEN: usize>(
     }
 }
 
-// Places a leaf between these two, where they are leaves.
+// Places a leaf between these two, each of which may be none.
 fn place<K, V, const PREFIX_LEN: usize>(
     arena: &mut NodeArena<K, V, PREFIX_LEN>,
     before: Option<NodePtr<PREFIX_LEN, LeafNode<K, V, PREFIX_LEN>>>,
@@ -304,7 +304,7 @@ fn place<K, V, const PREFIX_LEN: usize>(
     join(arena, Some(this), after);
 }
 
-// Makes these two neighbours, where they are leaves.
+// Makes these two neighbours, each of which may be none.
 fn join<K, V, const PREFIX_LEN: usize>(
     arena: &mut NodeArena<K, V, PREFIX_LEN>,
     before: Option<NodePtr<PREFIX_LEN, LeafNode<K, V, PREFIX_LEN>>>,
@@ -321,7 +321,7 @@ fn join<K, V, const PREFIX_LEN: usize>(
     set_previous(arena, after, before);
 }
 
-// Gives the leaf, where it is one, this next neighbour.
+// Gives the leaf, which may be none, this next neighbour.
 fn set_next<K, V, const PREFIX_LEN: usize>(
     arena: &mut NodeArena<K, V, PREFIX_LEN>,
     leaf: Option<NodePtr<PREFIX_LEN, LeafNode<K, V, PREFIX_LEN>>>,
@@ -339,7 +339,7 @@ fn set_next<K, V, const PREFIX_LEN: usize>(
     }
 }
 
-// Gives the leaf, where it is one, this previous neighbour.
+// Gives the leaf, which may be none, this previous neighbour.
 fn set_previous<K, V, const PREFIX_LEN: usize>(
     arena: &mut NodeArena<K, V, PREFIX_LEN>,
     leaf: Option<NodePtr<PREFIX_LEN, LeafNode<K, V, PREFIX_LEN>>>,

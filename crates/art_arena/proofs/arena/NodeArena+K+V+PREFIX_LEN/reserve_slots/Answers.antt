@@ -1,14 +1,24 @@
-use Rattle.std.proofs.Common.{◌∙◌, ◌≤◌, ap, arith, rules}
+use Rattle.std.proofs.Common.{◌∙◌, ◌≤◌, ap, refl, arith, rules}
 use Rattle.slab.specs.Slab.{get, slab_len}
 use Rattle.art_arena.specs.Arena.{slab_room}
-use Rattle.art_arena.proofs.ArenaLemmas.{SameNodes-written, made_room, room-written}
+use Rattle.art_arena.proofs.ArenaLemmas.{SameNodes-written, SameRoom-written, made_room, room-written}
 use Rattle.art_arena.proofs.arena.NodeArena+K+V+PREFIX_LEN.reserve_slots.Goals as goal
+
+pub returns-then-additional-eq0-clause-had_room : goal.returns-then-additional-eq0-clause-had_room
+returns-then-additional-eq0-clause-had_room g c = λ _ other. refl
 
 pub returns-then-additional-eq0-clause-no_less_room : goal.returns-then-additional-eq0-clause-no_less_room
 returns-then-additional-eq0-clause-no_less_room g c = search rules
 
 pub returns-then-additional-eq0-clause-other_room : goal.returns-then-additional-eq0-clause-other_room
 returns-then-additional-eq0-clause-other_room g c = search rules
+
+pub returns-clause-had_room : goal.returns-clause-had_room
+returns-clause-had_room g c = λ asks.
+    let laws = g.met.N.ArenaNode in
+    let bound : c.args.additional ≤ slab_room c.slab_mut.result.now = rw (c.slab_mut.ensures.value, ← laws.room_of_slab c.args.self.now) asks in
+    let same = c.reserve.ensures.had_room (omega (arith, bound)) in
+    SameRoom-written g.N.Node.TYPE g.N.Shelved.slab_of g.N.Shelved.with_slab g.N.ArenaNode.held_as laws.held_in_slab laws.slab_written laws.others_kept laws.room_of_slab laws.other_room c.args.self.now c.reserve.new.self (ap slab_room (same ∙ c.slab_mut.ensures.value))
 
 pub returns-clause-nodes_kept : goal.returns-clause-nodes_kept
 returns-clause-nodes_kept g c =

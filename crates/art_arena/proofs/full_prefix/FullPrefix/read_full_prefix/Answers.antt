@@ -5,6 +5,12 @@ use Rattle.art_arena.proofs.WayLemmas.{IsSharedFrom-stored}
 use Rattle.art_arena.proofs.ReadLemmas.{child_tree, leaf_below, prefix_in_leaf}
 use Rattle.art_arena.proofs.full_prefix.FullPrefix.read_full_prefix.Goals as goal
 
+pub returns-then-prefix_len-clause-stored : goal.returns-then-prefix_len-clause-stored
+returns-then-prefix_len-clause-stored g c = λ _. c.stored_prefix.ensures.stored
+
+pub returns-then-prefix_len-clause-length : goal.returns-then-prefix_len-clause-length
+returns-then-prefix_len-clause-length g c = omega (arith, c.stored_prefix.ensures.capped, c.if-prefix_len.true, c.prefix_len-prefix_len.ensures.value)
+
 pub returns-then-prefix_len-clause-shared : goal.returns-then-prefix_len-clause-shared
 returns-then-prefix_len-clause-shared g c = λ below.
     let node = g.Self.InnerNodeCommon.inner c.args.self.now in

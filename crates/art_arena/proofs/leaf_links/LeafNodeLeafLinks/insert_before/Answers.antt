@@ -18,6 +18,12 @@ place-requires g c =
     let apart_after : Some sibling ≢ Some this = λ same. c.requires.apart (sym (same_Some _ _ same)) in
     search
 
+pub returns-clause-placed : goal.returns-clause-placed
+returns-clause-placed g c = StandsBetween-at _ _ _ _ _ _ _ c.previous_of-before.ensures refl c.place.ensures.placed
+
+pub returns-clause-contents : goal.returns-clause-contents
+returns-clause-contents g c = c.place.ensures.contents
+
 pub returns-clause-spelled : goal.returns-clause-spelled
 returns-clause-spelled g c = λ before after spells. Spells-placed_before c.args.arena.now c.place.new.arena before after _ _ (StandsBetween-at _ _ _ _ _ _ _ c.previous_of-before.ensures refl c.place.ensures.placed) c.place.ensures.contents c.requires.held c.requires.unlinked c.requires.apart spells
 
