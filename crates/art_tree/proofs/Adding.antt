@@ -11,16 +11,15 @@ use Rattle.art_nodes.specs.declared.leaf_node.LeafNode.{LeafNode}
 use Rattle.art_arena.specs.Arena.{ArenaOf, HeldInner, HeldLeaf, Nothing, held, held_leaf, SameNodes}
 use Rattle.art_arena.specs.Links.{AreDistinct, Spells, leaf_at}
 use Rattle.art_arena.specs.Standing.{NodeStands, StandsIn, AllStandIn}
-use Rattle.art_arena.specs.Trees.{Tree, Leaf, Branches, Branch, leaves, branch_leaves, texts, branch_texts, places, root_of}
-use Rattle.art_tree.specs.Art.{IsAlone}
-use Rattle.art_tree.specs.Contexts.{Context, plug, path_to, leaves_before, leaves_after, parent, KeepsAt, IsExchanged}
+use Rattle.art_arena.specs.Trees.{Tree, Leaf, Branches, Branch, leaves, branch_leaves, texts, branch_texts, places, root_of, IsSound}
+use Rattle.art_tree.specs.Art.{IsAlone, IsArt}
+use Rattle.art_tree.specs.Contexts.{Context, plug, path_to, leaves_before, leaves_after, parent, KeepsAt, IsExchanged, join}
 use Rattle.art_tree.specs.Dictionary.{entry_at}
 use Rattle.art_tree.specs.Edits.{HoldsEntry, StaysAt}
 use Rattle.art_tree.specs.Hanging.{CanHang, IsHung}
 use Rattle.art_tree.specs.Inserting.{IsEntered}
 use Rattle.art_tree.specs.Loading.{IsSnug, leaf_pointers}
 use Rattle.art_tree.specs.Places.{above}
-use Rattle.art_tree.specs.Plan.{join}
 use Rattle.art_tree.proofs.Changing.{HangsAt, IsAbove, can-hang-at, hangs-at, held-on, keeps-on, leaf-no-parent, parent-above, place-held, root-place, was-leaf}
 use Rattle.art_tree.proofs.DictionaryLemmas.{AreApart, held-entry, leaf-held-in}
 use Rattle.art_tree.proofs.Exchanging.{in-part, leaves-plug}
@@ -215,7 +214,7 @@ module _ {K V : Type 0} {P : ℕ} (text : K → List ℕ) (old linked new : Aren
             others = λ p inside outside away. others-kept p (place-held text old (plug context part) steps.stood p inside) (λ same. outside (subst (Contains (places part)) (sym same) (root-place part))) away;
           }
 
-          pub added-alone : IsAlone text old root (plug context part) → IsAlone text last root_now (plug context taken)
+          added-alone : IsAlone text old root (plug context part) → IsAlone text last root_now (plug context taken)
           added-alone alone =
               let whole = alone-grown text old last root context part taken alone steps.distinct exchanged
               (taken-sound (path_to context) prefix top before byte leaf (text key) after has.place has.leads (omega (arith, has.short)))
@@ -226,7 +225,7 @@ module _ {K V : Type 0} {P : ℕ} (text : K → List ℕ) (old linked new : Aren
               has.gone in
               subst (λ r. IsAlone text last r (plug context taken)) (hangs.at_root taken refl) whole
 
-          pub added-entered : (alone : IsAlone text old root (plug context part)) → AreApart (texts (plug context part)) → AreApart (texts (plug context taken)) → IsEntered text old last key value
+          added-entered : (alone : IsAlone text old root (plug context part)) → AreApart (texts (plug context part)) → AreApart (texts (plug context taken)) → IsEntered text old last key value
           added-entered alone apart new_apart =
               let now = added-alone alone in
               let keeps : (p : OpaqueNodePtr K V P) (x : List ℕ) → Contains (leaves (plug context part)) (p, x) → KeepsAt old last p =
@@ -237,6 +236,12 @@ module _ {K V : Type 0} {P : ℕ} (text : K → List ℕ) (old linked new : Aren
                     (λ p x inside differ. let was = leaf-was left right leaf (text key) (plug context part) (plug context taken) old-leaves new-leaves p x inside differ in (was, keeps p x was))
                     (λ p x inside differ. (leaf-stays left right leaf (text key) (plug context part) (plug context taken) old-leaves new-leaves p x inside, keeps p x inside));
               }
+
+          -- the tree has the leaf, and its entries that of the leaf
+          pub tree-added : IsAlone text old root (plug context part) → ((path : List ℕ) (t : Tree (OpaqueNodePtr K V P)) → IsSound path t → AreApart (texts t)) → IsArt text last (Some root_now) × IsEntered text old last key value
+          tree-added alone apart =
+              let now = added-alone alone in
+              ((plug context taken, now), added-entered alone (apart [] (plug context part) alone.is_tree.sound) (apart [] (plug context taken) now.is_tree.sound))
 
 -- where the first step only made room, what is entered after it is entered after all
 pub entered-from : {K V : Type 0} {P : ℕ} (text : K → List ℕ) (old reserved last : ArenaOf K V P) (key : K) (value : V) (root : OpaqueNodePtr K V P) (tree : Tree (OpaqueNodePtr K V P)) → IsAlone text old root tree → AreApart (texts tree) → SameNodes old reserved

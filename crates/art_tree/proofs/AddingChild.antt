@@ -16,16 +16,15 @@ use Rattle.art_arena.specs.Links.{AreDistinct, Spells, text_at}
 use Rattle.art_arena.specs.Standing.{NodeStands, StandsIn, AllStandIn}
 use Rattle.art_arena.specs.Trees.{Tree, Inner, branch_roots, leaves, branch_leaves, texts, places, branch_places, IsSound}
 use Rattle.art_tree.specs.Art.{IsAlone, IsArt}
-use Rattle.art_tree.specs.Contexts.{Context, plug, path_to, leaves_before, leaves_after, KeepsAt}
+use Rattle.art_tree.specs.Contexts.{Context, plug, path_to, leaves_before, leaves_after, KeepsAt, join}
 use Rattle.art_tree.specs.Edits.{HasGap, IsBeside, HoldsEntry, HasOneMore, HasRoomToGrow, LiesBeside, StaysAt}
 use Rattle.art_tree.specs.Hanging.{CanHang, HasPlaceAt, IsHung, StandsBeside}
 use Rattle.art_tree.specs.Inserting.{IsEntered}
 use Rattle.art_tree.specs.Loading.{IsSnug, AreSnug}
 use Rattle.art_tree.specs.Places.{above, LacksChild}
-use Rattle.art_tree.specs.Plan.{join}
 use Rattle.art_arena.specs.declared.ends.End.{End}
 use Rattle.art_tree.specs.declared.insert.place.Spot.{Spot}
-use Rattle.art_tree.proofs.Adding.{AreSteps, HasTaken, added-alone, added-entered, below-kept, can-hang, last-others}
+use Rattle.art_tree.proofs.Adding.{AreSteps, HasTaken, below-kept, can-hang, last-others, tree-added}
 use Rattle.art_tree.proofs.BranchLemmas.{leaves-join, places-join}
 use Rattle.art_tree.proofs.DictionaryLemmas.{AreApart}
 use Rattle.art_tree.proofs.Exchanging.{the-one, distinct-part, kept-branches, sound-part, snug-part, stands-part}
@@ -34,7 +33,7 @@ use Rattle.art_tree.proofs.Growing.{alone-same}
 use Rattle.art_tree.proofs.HangLemmas.{inner-kind}
 use Rattle.art_tree.proofs.NodeLemmas.{few-where-absent, one-inner}
 use Rattle.art_tree.proofs.Rising.{snug-split, stand-split}
-use Rattle.art_tree.proofs.TakingLemmas.{HasChildPlace, child-place, in-taken, kind-grows, kind-stays, snug-taken, with_leaf}
+use Rattle.art_tree.proofs.TakingLemmas.{HasChildPlace, child-place, in-taken, kind-grows, kind-stays, snug-taken}
 
 -- the next kind of an inner node is no leaf's
 grown-inner : (kind : NodeType) → kind ≢ kinds.Leaf → grown_kind kind ≢ kinds.Leaf
@@ -256,15 +255,7 @@ module _ {K V : Type 0} {P : ℕ} {text : K → List ℕ} {old : ArenaOf K V P} 
     taken-there : HasTaken text old linked new context part root leaf top key value steps-there last root_now hung-there prefix there.before there.after byte
     taken-there = child-taken child_spot linked leaf free stays new top value entry distinct-there more-there last root_now hung-there short spelled-there
 
-    abbrev whole_now : Tree (OpaqueNodePtr K V P)
-    whole_now = plug context (with_leaf top prefix there.before byte leaf (text key) there.after)
-
-    alone-last : IsAlone text last root_now whole_now
-    alone-last = added-alone text old linked new context part root leaf top key value steps-there last root_now hung-there prefix there.before there.after byte taken-there whole-alone
-
     -- the tree has the leaf, and its entries that of the leaf
     pub child-added : ((path : List ℕ) (t : Tree (OpaqueNodePtr K V P)) → IsSound path t → AreApart (texts t)) → IsArt text last (Some root_now) × IsEntered text old last key value
-    child-added apart = (
-      (whole_now, alone-last),
-      added-entered text old linked new context part root leaf top key value steps-there last root_now hung-there prefix there.before there.after byte taken-there whole-alone (apart [] (plug context part) whole-alone.is_tree.sound) (apart [] whole_now alone-last.is_tree.sound),
-    )
+    child-added =
+        tree-added text old linked new context part root leaf top key value steps-there last root_now hung-there prefix there.before there.after byte taken-there whole-alone

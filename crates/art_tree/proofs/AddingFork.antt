@@ -19,17 +19,17 @@ use Rattle.art_arena.specs.Standing.{NodeStands, StandsIn, AllStandIn, TreeAt}
 use Rattle.art_arena.specs.Trees.{Tree, Leaf, Inner, Branches, NoBranch, Branch, branch_roots, root_of, leaves, branch_leaves, texts, places, branch_places, IsSound, AreSound}
 use Rattle.art_tree.specs.Art.{IsAlone, IsArt}
 use Rattle.art_tree.specs.Contexts.{Context, plug, path_to, leaves_before, leaves_after}
-use Rattle.art_tree.specs.Edits.{HasGap, HoldsEntry, IsBeside, LiesBeside, StaysAt, node_with_prefix}
+use Rattle.art_tree.specs.Edits.{HasGap, HoldsEntry, IsBeside, LiesBeside, StaysAt, two_children}
 use Rattle.art_arena.specs.Ends.{IsAtEnd}
 use Rattle.art_tree.specs.Hanging.{CanHang, IsHung, StandsBeside}
 use Rattle.art_tree.specs.Inserting.{IsEntered}
 use Rattle.art_tree.specs.Places.{above, Parts}
-use Rattle.art_tree.specs.Raising.{IsPlaced, node_of, two_children}
+use Rattle.art_tree.specs.Nodes.{IsPlaced, node_of, node_with_prefix}
 use Rattle.art_arena.specs.declared.ends.End.{End}
 use Rattle.art_arena.specs.declared.ends.End.TheVariants.{First, Last}
 use Rattle.art_tree.specs.declared.insert.place.Fork.{Fork}
 use Rattle.art_tree.specs.declared.insert.place.Spot.{Spot}
-use Rattle.art_tree.proofs.Adding.{AreSteps, HasTaken, added-alone, added-entered, below-kept, can-hang, last-others, leaves-kept}
+use Rattle.art_tree.proofs.Adding.{AreSteps, HasTaken, below-kept, can-hang, last-others, leaves-kept, tree-added}
 use Rattle.art_tree.proofs.BranchLemmas.{leaves-join, one_branch}
 use Rattle.art_tree.proofs.Changing.{place-held, root-place}
 use Rattle.art_tree.proofs.DictionaryLemmas.{AreApart, end-in, leaf-held-in}
@@ -39,7 +39,7 @@ use Rattle.art_tree.proofs.Gaps.{beside-key, gap, keys_of, lies, spelled-parts}
 use Rattle.art_tree.proofs.Growing.{alone-same}
 use Rattle.art_tree.proofs.NodeLemmas.{one-inner}
 use Rattle.art_tree.proofs.Rising.{cases_pointer, text-held}
-use Rattle.art_tree.proofs.TakingLemmas.{HasForkPlace, fork-place, in-taken, leaves-sides, leaves-trimmed, places-sides, places-trimmed, snug-sides, snug-taken, snug-trimmed, both-sides, without_front, with_leaf, branches_left, branches_right}
+use Rattle.art_tree.proofs.TakingLemmas.{HasForkPlace, fork-place, in-taken, leaves-sides, leaves-trimmed, places-sides, places-trimmed, snug-sides, snug-taken, snug-trimmed, both-sides, without_front, branches_left, branches_right}
 use Rattle.art_arena.proofs.StandingLaws.{leaf_kind}
 
 module _ {H : Type 0} where
@@ -373,13 +373,7 @@ module _ {K V : Type 0} {P : ℕ} {text : K → List ℕ} {old : ArenaOf K V P} 
                     snug-taken top shared_there left_there fork.byte leaf (text key) right_there (placed.is_kind ∙ ap (λ b. kind_for (length (branch_roots b) + 1)) (sym (both-sides fork.byte fork.node_byte trimmed_there))) sides.0 sides.1);
               }
 
-              alone-last : IsAlone text last root_now (plug around_it (with_leaf top shared_there left_there fork.byte leaf (text key) right_there))
-              alone-last = added-alone text old linked new around_it part_there root leaf top key value fork-steps last root_now hung-there shared_there left_there right_there fork.byte taken-there alone-there
-
               -- the tree has the leaf, and its entries that of the leaf
               pub fork-added : ((path : List ℕ) (t : Tree (OpaqueNodePtr K V P)) → IsSound path t → AreApart (texts t)) → IsArt text last (Some root_now) × IsEntered text old last key value
-              fork-added apart = (
-                (plug around_it (with_leaf top shared_there left_there fork.byte leaf (text key) right_there), alone-last),
-                added-entered text old linked new around_it part_there root leaf top key value fork-steps last root_now hung-there shared_there left_there right_there fork.byte taken-there alone-there
-                    (apart [] (plug around_it part_there) alone-there.is_tree.sound) (apart [] (plug around_it (with_leaf top shared_there left_there fork.byte leaf (text key) right_there)) alone-last.is_tree.sound),
-              )
+              fork-added =
+                  tree-added text old linked new around_it part_there root leaf top key value fork-steps last root_now hung-there shared_there left_there right_there fork.byte taken-there alone-there

@@ -3,7 +3,8 @@ use Rattle.std.proofs.Common.{◌≡◌, ◌∙◌, ℕ, suc, ◌+◌, ◌<◌, 
 use Rattle.std.proofs.lemmas.List.{map-append}
 use Rattle.art_nodes.specs.ChildMap.{IsAscendingFrom, key_bytes}
 use Rattle.art_arena.specs.Trees.{Tree, Branches, NoBranch, Branch, branch_roots, root_of, branch_leaves, branch_places, leaves, places, AreSound}
-use Rattle.art_tree.specs.Plan.{join, steps_of, branch_steps, BranchesSpan}
+use Rattle.art_tree.specs.Plan.{steps_of, branch_steps, BranchesSpan}
+use Rattle.art_tree.specs.Contexts.{join}
 
 module _ {H : Type 0} where
   -- one branch alone

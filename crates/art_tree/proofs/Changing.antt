@@ -10,11 +10,10 @@ use Rattle.art_arena.specs.Arena.{ArenaOf, Held, HeldInner, HeldLeaf, Nothing, h
 use Rattle.art_arena.specs.Links.{AreDistinct}
 use Rattle.art_arena.specs.Standing.{StandsIn, AllStandIn}
 use Rattle.art_arena.specs.Trees.{Tree, Leaf, Inner, Branches, NoBranch, Branch, places, branch_places, branch_roots, root_of}
-use Rattle.art_tree.specs.Contexts.{Context, Whole, Under, plug, parent, Adopts, KeepsAt}
+use Rattle.art_tree.specs.Contexts.{Context, Whole, Under, plug, parent, Adopts, KeepsAt, join}
 use Rattle.art_tree.specs.Edits.{StaysAt}
 use Rattle.art_tree.specs.Hanging.{CanHang, IsHung}
 use Rattle.art_tree.specs.Places.{above}
-use Rattle.art_tree.specs.Plan.{join}
 use Rattle.art_tree.proofs.BranchLemmas.{roots-join}
 use Rattle.art_tree.proofs.Exchanging.{the-one, around, stands-part}
 use Rattle.art_tree.proofs.Growing.{root-under}

@@ -4,7 +4,7 @@ use Rattle.std.proofs.lemmas.Bool.{le-ltb, lt-ltb, ne_eqb}
 use Rattle.std.proofs.lemmas.List.{length-take-le}
 use Rattle.art_nodes.specs.ChildMap.{ChildMap, IsAscendingFrom, IsAscending, key_bytes, child_at, with_child}
 use Rattle.art_nodes.specs.Inner.{Inner, HasRoomFor, with_children}
-use Rattle.art_tree.specs.Raising.{node_of}
+use Rattle.art_tree.specs.Nodes.{node_of}
 
 module _ {H : Type 0} where
   at-least : (low : ℕ) (xs : ChildMap H) (i : ℕ) (d : ℕ × H) → IsAscendingFrom low (key_bytes xs) → i < length xs → low ≤ (get_or xs i d).0

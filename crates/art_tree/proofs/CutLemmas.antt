@@ -14,7 +14,7 @@ use Rattle.art_nodes.specs.declared.leaf_node.LeafNode.{LeafNode}
 use Rattle.art_nodes.specs.declared.pointers.OpaqueNodePtr.{OpaqueNodePtr}
 use Rattle.art_arena.specs.Arena.{ArenaOf, Held, HeldInner, HeldLeaf, Nothing, held, room, Changes, SameRoom}
 use Rattle.art_tree.specs.Cuts.{HasOneLess, HasRoomToShrink}
-use Rattle.art_tree.specs.Edits.{IsReplaced}
+use Rattle.art_tree.specs.Nodes.{IsReplaced}
 use Rattle.art_tree.proofs.NodeLemmas.{one-inner, some-inner}
 use Rattle.art_arena.proofs.StandingLaws.{leaf_kind}
 

@@ -1,5 +1,5 @@
 -- A leaf less in a tree: what the steps of a removal leave.
-use Rattle.std.proofs.Common.{◌≡◌, ◌≢◌, ◌⊎◌, ◌∙◌, ℕ, ◌<◌, ◌^◌, List, ◌∷◌, ◌++◌, length, map, All, Contains, Some, refl, sym, ap, subst, inl, inr, arith, append_assoc}
+use Rattle.std.proofs.Common.{◌≡◌, ◌≢◌, ◌⊎◌, ◌∙◌, ℕ, ◌<◌, ◌^◌, List, [], ◌∷◌, ◌++◌, length, map, All, Contains, Some, refl, sym, ap, subst, inl, inr, arith, append_assoc}
 use Rattle.std.proofs.lemmas.List.{map-append}
 use Rattle.std.proofs.lemmas.List.Elements.{All-append, All-tail, Contains-append_right}
 use Rattle.art_header.specs.declared.node_type.NodeType.TheVariants as kinds
@@ -21,6 +21,7 @@ use Rattle.art_tree.specs.Places.{above}
 use Rattle.art_tree.specs.Removing.{IsRemoved}
 use Rattle.art_tree.proofs.Changing.{HangsAt, IsAbove, can-hang-at, hangs-at, held-on, keeps-on, leaf-no-parent, parent-above, place-held, root-place, was-leaf}
 use Rattle.art_tree.proofs.DictionaryLemmas.{AreApart, leaf-held-in}
+use Rattle.art_tree.proofs.DroppingLemmas.{gone-entry}
 use Rattle.art_tree.proofs.Exchanging.{in-part, leaves-plug}
 use Rattle.art_tree.proofs.Gaps.{keys_of, keys-append}
 use Rattle.art_tree.proofs.Growing.{alone-grown, entries-but, entries-stay, leaf-stays, leaf-was, texts-part}
@@ -148,14 +149,14 @@ module _ {K V : Type 0} {P : ℕ} (text : K → List ℕ) (old cut new : ArenaOf
           abbrev right : List (OpaqueNodePtr K V P × List ℕ)
           right = rights ++ leaves_after context
 
-          pub whole-was : leaves (plug context part) ≡ left ++ (leaf, x) ∷ right
+          whole-was : leaves (plug context part) ≡ left ++ (leaf, x) ∷ right
           whole-was =
               leaves-plug context part
               ∙ ap (λ all. leaves_before context ++ (all ++ leaves_after context)) has.was
               ∙ ap (λ all. leaves_before context ++ all) (append_assoc lefts ((leaf, x) ∷ rights) (leaves_after context))
               ∙ sym (append_assoc (leaves_before context) lefts ((leaf, x) ∷ right))
 
-          pub whole-is : leaves (plug context now) ≡ left ++ right
+          whole-is : leaves (plug context now) ≡ left ++ right
           whole-is =
               leaves-plug context now
               ∙ ap (λ all. leaves_before context ++ (all ++ leaves_after context)) has.is
@@ -176,7 +177,7 @@ module _ {K V : Type 0} {P : ℕ} (text : K → List ℕ) (old cut new : ArenaOf
             others = λ p inside outside away. outside-kept p (place-held text old (plug context part) steps.stood p inside) outside away;
           }
 
-          pub cut-alone : IsAlone text old root (plug context part) → IsAlone text last root_now (plug context now)
+          cut-alone : IsAlone text old root (plug context part) → IsAlone text last root_now (plug context now)
           cut-alone alone =
               let whole = alone-grown text old last root context part now alone steps.distinct exchanged has.sound has.snug
               (fewer-texts (λ y. length y < 2 ^ 32) (texts-part (λ y. length y < 2 ^ 32) context part alone.short))
@@ -186,7 +187,7 @@ module _ {K V : Type 0} {P : ℕ} (text : K → List ℕ) (old cut new : ArenaOf
               subst (λ r. IsAlone text last r (plug context now)) (hangs.at_root now has.at_root) whole
 
           -- every other text has the entry that it had, and this one none
-          pub cut-others : (alone : IsAlone text old root (plug context part)) → AreApart (texts (plug context part)) → AreApart (texts (plug context now)) → (y : List ℕ) → y ≢ x → entry_at text last y ≡ entry_at text old y
+          cut-others : (alone : IsAlone text old root (plug context part)) → AreApart (texts (plug context part)) → AreApart (texts (plug context now)) → (y : List ℕ) → y ≢ x → entry_at text last y ≡ entry_at text old y
           cut-others alone apart apart_now =
               let there : Contains (leaves (plug context part)) (leaf, x) = subst (λ all. Contains all (leaf, x)) (sym whole-was) (Contains-append_right left ((leaf, x) ∷ right) (leaf, x) (0, omega arith, refl)) in
               let own = leaf-held-in text old (plug context part) alone.is_tree.stands leaf x there in
@@ -197,6 +198,21 @@ module _ {K V : Type 0} {P : ℕ} (text : K → List ℕ) (old cut new : ArenaOf
               entries-but text old last root root_now (plug context part) (plug context now) alone (cut-alone alone) apart apart_now x
               (λ p y inside differ. let was = leaf-stays left right leaf x (plug context now) (plug context part) whole-is whole-was p y inside in (was, keeps p y was differ))
               (λ p y inside differ. (leaf-was left right leaf x (plug context now) (plug context part) whole-is whole-was p y inside differ, keeps p y inside differ))
+
+          -- the tree has all entries but that of the leaf
+          pub cut-removed : IsAlone text old root (plug context part) → ((path : List ℕ) (t : Tree (OpaqueNodePtr K V P)) → IsSound path t → AreApart (texts t)) → (entry : K × V) → (AreApart (texts (plug context part)) → entry_at text old x ≡ Some entry) → IsRemoved text old last x root_now entry
+          cut-removed alone apart entry was =
+              let alone_now = cut-alone alone in
+              let apart_old = apart [] (plug context part) alone.is_tree.sound in
+              let apart_now = apart [] (plug context now) alone_now.is_tree.sound in
+              record {
+                art = (plug context now, alone_now);
+                left = record {
+                  gone = gone-entry text last root_now (plug context now) alone_now (plug context part) apart_old left right leaf x whole-was whole-is;
+                  others = cut-others alone apart_old apart_now;
+                };
+                was = was apart_old;
+              }
 
 -- where the first step only made room, what is removed after it is removed after all
 pub removed-from : {K V : Type 0} {P : ℕ} (text : K → List ℕ) (old reserved last : ArenaOf K V P) (x : List ℕ) (root_now : OpaqueNodePtr K V P) (entry : K × V) (root : OpaqueNodePtr K V P) (tree : Tree (OpaqueNodePtr K V P)) → IsAlone text old root tree → AreApart (texts tree) → SameNodes old reserved

@@ -15,22 +15,20 @@ use Rattle.art_arena.specs.Arena.{ArenaOf, HeldInner, HeldLeaf, Nothing, held, r
 use Rattle.art_arena.specs.Links.{AreDistinct, Spells}
 use Rattle.art_arena.specs.Standing.{AllStandIn}
 use Rattle.art_arena.specs.Trees.{Tree, Leaf, Inner, Branch, branch_roots, branch_leaves, texts, places, branch_places, IsSound}
-use Rattle.art_tree.specs.Art.{IsAlone}
-use Rattle.art_tree.specs.Contexts.{plug, path_to, KeepsAt}
+use Rattle.art_tree.specs.Contexts.{plug, path_to, KeepsAt, join}
 use Rattle.art_tree.specs.Cuts.{HasOneLess, HasRoomToShrink}
 use Rattle.art_tree.specs.Dropping.{HangsUnder}
 use Rattle.art_tree.specs.Edits.{StaysAt}
 use Rattle.art_tree.specs.Hanging.{CanHang, IsHung}
 use Rattle.art_tree.specs.Places.{above}
-use Rattle.art_tree.specs.Plan.{join}
 use Rattle.art_tree.specs.Removing.{IsRemoved, NeedsSmallerNode}
 use Rattle.art_tree.proofs.BranchLemmas.{leaves-join, places-join, roots-join}
 use Rattle.art_tree.proofs.Changing.{held-on, place-held}
-use Rattle.art_tree.proofs.Cutting.{AreCuts, HasDropped, can-hang, cut-alone, cut-others, inside-kept, last-inside, top-last, whole-is, whole-was}
+use Rattle.art_tree.proofs.Cutting.{AreCuts, HasDropped, can-hang, cut-removed, inside-kept, last-inside, top-last}
 use Rattle.art_tree.proofs.DictionaryLemmas.{AreApart}
-use Rattle.art_tree.proofs.DroppingLemmas.{dropped-child, dropped-roots, dropped-sound, gone-entry, kind-lasts, kind-shrinks, left-snug}
+use Rattle.art_tree.proofs.DroppingLemmas.{dropped-child, dropped-roots, dropped-sound, kind-lasts, kind-shrinks, left-snug}
 use Rattle.art_tree.proofs.Exchanging.{kept-branches}
-use Rattle.art_tree.proofs.LeafPlaces.{LeafPlace, is-other, left_there, part_there, place-cases, right_there}
+use Rattle.art_tree.proofs.LeafPlaces.{LeafPlace, is-other, part_there, place-cases}
 use Rattle.art_tree.proofs.NodeLemmas.{one-inner, some-inner}
 use Rattle.art_tree.proofs.Rising.{kind-4, kind-16, kind-48, kind-256}
 use Rattle.art_tree.proofs.TakingLemmas.{leaves-taken}
@@ -218,21 +216,8 @@ module _ {K V : Type 0} {P : ℕ} {text : K → List ℕ} {old : ArenaOf K V P} 
                     | inr shrunk ↦ shrunk.replaced.kind ∙ kind-shrinks left (node_kind parent) (omega (arith, three, place.count)) kind (sym place.count ∙ shrunk.least)
                   ]
 
-          alone-last : IsAlone text last root_now (plug hangs.upper now_there)
-          alone-last = cut-alone text old cut new hangs.upper (part_there hangs) root leaf top many-cuts last root_now hung-there now_there hangs.text (branch_leaves hangs.before) (branch_leaves hangs.after) many-dropped place.alone
-
           -- the tree has all entries but that of the leaf
           pub many-removed : ((path : List ℕ) (t : Tree (OpaqueNodePtr K V P)) → IsSound path t → AreApart (texts t)) → IsRemoved text old last hangs.text root_now (leaf_key place.own, leaf_value place.own)
           many-removed apart =
-              let was = apart [] (plug hangs.upper (part_there hangs)) place.alone.is_tree.sound in
-              let is = apart [] (plug hangs.upper now_there) alone-last.is_tree.sound in
-              record {
-                art = (plug hangs.upper now_there, alone-last);
-                left = record {
-                  gone = gone-entry text last root_now (plug hangs.upper now_there) alone-last (plug hangs.upper (part_there hangs)) was (left_there hangs) (right_there hangs) leaf hangs.text
-                      (whole-was text old cut new hangs.upper (part_there hangs) root leaf top many-cuts last root_now hung-there now_there hangs.text (branch_leaves hangs.before) (branch_leaves hangs.after) many-dropped)
-                      (whole-is text old cut new hangs.upper (part_there hangs) root leaf top many-cuts last root_now hung-there now_there hangs.text (branch_leaves hangs.before) (branch_leaves hangs.after) many-dropped);
-                  others = cut-others text old cut new hangs.upper (part_there hangs) root leaf top many-cuts last root_now hung-there now_there hangs.text (branch_leaves hangs.before) (branch_leaves hangs.after) many-dropped place.alone was is;
-                };
-                was = place.entry was;
-              }
+              cut-removed text old cut new hangs.upper (part_there hangs) root leaf top many-cuts last root_now hung-there now_there hangs.text (branch_leaves hangs.before) (branch_leaves hangs.after) many-dropped
+              place.alone apart (leaf_key place.own, leaf_value place.own) place.entry

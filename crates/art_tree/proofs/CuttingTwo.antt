@@ -16,22 +16,21 @@ use Rattle.art_arena.specs.Arena.{ArenaOf, Held, HeldInner, HeldLeaf, Nothing, h
 use Rattle.art_arena.specs.Links.{AreDistinct, Spells}
 use Rattle.art_arena.specs.Standing.{NodeStands, StandsIn, AllStandIn}
 use Rattle.art_arena.specs.Trees.{Tree, Leaf, Inner, Branches, Branch, root_of, branch_leaves, texts, places, branch_places, branch_roots, IsSound, AreSound}
-use Rattle.art_tree.specs.Art.{IsAlone}
-use Rattle.art_tree.specs.Contexts.{plug, path_to}
+use Rattle.art_tree.specs.Contexts.{plug, path_to, join}
 use Rattle.art_tree.specs.Dropping.{HangsUnder}
-use Rattle.art_tree.specs.Edits.{StaysAt, node_with_prefix}
+use Rattle.art_tree.specs.Edits.{StaysAt}
+use Rattle.art_tree.specs.Nodes.{node_with_prefix}
 use Rattle.art_tree.specs.Hanging.{CanHang, IsHung}
 use Rattle.art_tree.specs.Loading.{IsSnug, AreSnug}
 use Rattle.art_tree.specs.Places.{above}
-use Rattle.art_tree.specs.Plan.{join}
 use Rattle.art_tree.specs.Removing.{IsRemoved}
 use Rattle.art_tree.proofs.Changing.{held-on, place-held, root-place}
-use Rattle.art_tree.proofs.Cutting.{AreCuts, HasDropped, can-hang, cut-alone, cut-others, inside-kept, last-inside, leaves-kept, top-last, whole-is, whole-was}
+use Rattle.art_tree.proofs.Cutting.{AreCuts, HasDropped, can-hang, cut-removed, inside-kept, last-inside, leaves-kept, top-last}
 use Rattle.art_tree.proofs.DictionaryLemmas.{AreApart}
-use Rattle.art_tree.proofs.DroppingLemmas.{HasOneLeft, dropped-roots, gone-entry, joined-short, joined-sound, leaves-joined, left-snug, left-sound, one-leaves, one-left, one-places, places-joined, root-joined, snug-joined, with_front}
+use Rattle.art_tree.proofs.DroppingLemmas.{HasOneLeft, dropped-roots, joined-short, joined-sound, leaves-joined, left-snug, left-sound, one-leaves, one-left, one-places, places-joined, root-joined, snug-joined, with_front}
 use Rattle.art_tree.proofs.Exchanging.{kept-branches}
 use Rattle.art_tree.proofs.Growing.{texts-part}
-use Rattle.art_tree.proofs.LeafPlaces.{IsOther, LeafPlace, is-other, left_there, part_there, place-cases, right_there}
+use Rattle.art_tree.proofs.LeafPlaces.{IsOther, LeafPlace, is-other, part_there, place-cases}
 use Rattle.art_tree.proofs.NodeLemmas.{one-inner, some-inner}
 use Rattle.art_tree.proofs.OnlyWayLemmas.{All-left, All-right}
 use Rattle.art_tree.proofs.TakingLemmas.{leaves-taken}
@@ -277,21 +276,8 @@ module _ {K V : Type 0} {P : ℕ} {text : K → List ℕ} {old : ArenaOf K V P} 
                   freed = now-freed;
                 }
 
-                alone-last : IsAlone text last root_now (plug hangs.upper now_there)
-                alone-last = cut-alone text old cut new hangs.upper (part_there hangs) root leaf child two-cuts last root_now hung-there now_there hangs.text (branch_leaves hangs.before) (branch_leaves hangs.after) two-dropped place.alone
-
                 -- the tree is left without the leaf, whose entry goes
                 pub two-removed : ((path : List ℕ) (t : Tree (OpaqueNodePtr K V P)) → IsSound path t → AreApart (texts t)) → (entry : K × V) → ((l : LeafNode K V P) → held old leaf ≡ HeldLeaf l → entry ≡ (leaf_key l, leaf_value l)) → IsRemoved text old last hangs.text root_now entry
-                two-removed texts_apart entry entry_is =
-                    let apart = texts_apart [] (plug hangs.upper (part_there hangs)) place.alone.is_tree.sound in
-                    let apart_now = texts_apart [] (plug hangs.upper now_there) alone-last.is_tree.sound in
-                    record {
-                      art = (plug hangs.upper now_there, alone-last);
-                      left = record {
-                        gone = gone-entry text last root_now (plug hangs.upper now_there) alone-last (plug hangs.upper (part_there hangs)) apart (left_there hangs) (right_there hangs) leaf hangs.text
-                            (whole-was text old cut new hangs.upper (part_there hangs) root leaf child two-cuts last root_now hung-there now_there hangs.text (branch_leaves hangs.before) (branch_leaves hangs.after) two-dropped)
-                            (whole-is text old cut new hangs.upper (part_there hangs) root leaf child two-cuts last root_now hung-there now_there hangs.text (branch_leaves hangs.before) (branch_leaves hangs.after) two-dropped);
-                        others = cut-others text old cut new hangs.upper (part_there hangs) root leaf child two-cuts last root_now hung-there now_there hangs.text (branch_leaves hangs.before) (branch_leaves hangs.after) two-dropped place.alone apart apart_now;
-                      };
-                      was = place.entry apart ∙ ap Some (sym (entry_is place.own place.own_held));
-                    }
+                two-removed apart entry entry_is =
+                    cut-removed text old cut new hangs.upper (part_there hangs) root leaf child two-cuts last root_now hung-there now_there hangs.text (branch_leaves hangs.before) (branch_leaves hangs.after) two-dropped
+                    place.alone apart entry (λ was_apart. place.entry was_apart ∙ ap Some (sym (entry_is place.own place.own_held)))

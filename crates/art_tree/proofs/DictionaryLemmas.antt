@@ -27,7 +27,7 @@ use Rattle.art_tree.specs.Ends.{IsWithin}
 use Rattle.art_arena.specs.declared.ends.End.{End}
 use Rattle.art_arena.specs.declared.ends.End.TheVariants.{First, Last}
 use Rattle.art_tree.specs.Loading.{HoldEntries, IsLoaded, leaf_pointers}
-use Rattle.art_tree.specs.Plan.{texts_of}
+use Rattle.art_tree.specs.Refusals.{texts_of}
 use Rattle.art_tree.specs.Search.{scan, leaf_pointer}
 use Rattle.art_tree.proofs.Exchanging.{the-one}
 use Rattle.art_tree.proofs.NodeLemmas.{one-leaf, some-leaf}

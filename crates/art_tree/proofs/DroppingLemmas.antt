@@ -12,7 +12,7 @@ use Rattle.art_arena.specs.Trees.{Tree, Leaf, Inner, Branches, NoBranch, Branch,
 use Rattle.art_tree.specs.Art.{IsAlone}
 use Rattle.art_tree.specs.Dictionary.{entry_at}
 use Rattle.art_tree.specs.Loading.{IsSnug, AreSnug}
-use Rattle.art_tree.specs.Plan.{join}
+use Rattle.art_tree.specs.Contexts.{join}
 use Rattle.art_tree.proofs.BranchLemmas.{roots-join, leaves-join, places-join, sound-join, one_branch}
 use Rattle.art_tree.proofs.DictionaryLemmas.{AreApart, leaf-of-entry, not-later}
 use Rattle.art_tree.proofs.Exchanging.{before-byte, sound-split, the-one}

@@ -9,8 +9,9 @@ use Rattle.art_arena.specs.Arena.{ArenaOf, Nothing, held, SameNodes}
 use Rattle.art_arena.specs.Trees.{Tree, Leaf, Inner, Branches, NoBranch, Branch, branch_roots, root_of, leaves, branch_leaves, texts, IsSound, AreSound, IsWellFormed}
 use Rattle.art_tree.specs.Art.{IsAlone, IsArt}
 use Rattle.art_tree.specs.Contexts.{Context, plug, path_to, leaves_before, leaves_after}
-use Rattle.art_tree.specs.Dictionary.{entry_at, HasEntry, IsProperFront, Clashes}
-use Rattle.art_tree.specs.Inserting.{ClashesIn, IsEntered, IsRefused, MayEnter, SameEntries}
+use Rattle.art_tree.specs.Dictionary.{entry_at, HasEntry, IsProperFront, Clashes, SameEntries}
+use Rattle.art_tree.specs.Inserting.{ClashesIn, IsEntered, IsRefused, MayEnter}
+use Rattle.art_tree.specs.Room.{LacksRoom}
 use Rattle.art_tree.specs.Places.{IsSpot, LacksChild, Parts, reach}
 use Rattle.art_tree.specs.declared.insert.InsertFault.{InsertFault}
 use Rattle.art_tree.specs.declared.insert.InsertRefusal.TheVariants.{OutOfMemory}
@@ -202,15 +203,17 @@ module _ {K V : Type 0} {P : ℕ} (text : K → List ℕ) (old new : ArenaOf K V
     pub entry_back : IfErr result (λ fault. (fault.key ≡ key) × (fault.value ≡ value))
     pub same_entries : OnErr result (SameEntries text old new)
     pub nodes_kept : OnErr result (SameNodes old new)
+    pub untouched : IfErr result (λ fault. fault.refusal ≢ OutOfMemory → new ≡ old)
+    pub no_room : IfErr result (λ fault. fault.refusal ≡ OutOfMemory → LacksRoom old)
 
   -- it is told by what was added, where nothing but want of memory refuses the text
-  module _ (added : Result (OpaqueNodePtr K V P) (K × V)) (art : IfOk added (λ root. IsArt text new (Some root))) (entered : OnOk added (IsEntered text old new key value)) (entry_back : IfErr added (λ entry. entry ≡ (key, value))) (nodes_kept : OnErr added (SameNodes old new)) where
+  module _ (added : Result (OpaqueNodePtr K V P) (K × V)) (art : IfOk added (λ root. IsArt text new (Some root))) (entered : OnOk added (IsEntered text old new key value)) (entry_back : IfErr added (λ entry. entry ≡ (key, value))) (nodes_kept : OnErr added (SameNodes old new)) (lacks : OnErr added (LacksRoom old)) where
     pub answered : IsRefused text old (text key) OutOfMemory → (SameNodes old new → SameEntries text old new) → (result : Result (OpaqueNodePtr K V P × Option (K × V)) (InsertFault K V)) → ((root : OpaqueNodePtr K V P) → added ≡ Ok root → result ≡ Ok (root, None))
         → ((k : K) (v : V) → added ≡ Err (k, v) → result ≡ Err (record { refusal = OutOfMemory; key = k; value = v })) → IsAnswered result
-    answered is_new stay result told refused = by_added added refl art entered entry_back nodes_kept
+    answered is_new stay result told refused = by_added added refl art entered entry_back nodes_kept lacks
       where
-        by_added : (a : Result (OpaqueNodePtr K V P) (K × V)) → added ≡ a → IfOk a (λ root. IsArt text new (Some root)) → OnOk a (IsEntered text old new key value) → IfErr a (λ entry. entry ≡ (key, value)) → OnErr a (SameNodes old new) → IsAnswered result
-        by_added (Ok root) is is_art is_entered back kept =
-            subst IsAnswered (sym (told root is)) (record { art = is_art; replaced = sym is_new.1; entered = is_entered; no_refusal = is_new.0; refusal_due = tt; entry_back = tt; same_entries = tt; nodes_kept = tt })
-        by_added (Err (k, v)) is is_art is_entered back kept =
-            subst IsAnswered (sym (refused k v is)) (record { art = tt; replaced = tt; entered = tt; no_refusal = tt; refusal_due = is_new; entry_back = (ap (λ entry. entry.0) back, ap (λ entry. entry.1) back); same_entries = stay kept; nodes_kept = kept })
+        by_added : (a : Result (OpaqueNodePtr K V P) (K × V)) → added ≡ a → IfOk a (λ root. IsArt text new (Some root)) → OnOk a (IsEntered text old new key value) → IfErr a (λ entry. entry ≡ (key, value)) → OnErr a (SameNodes old new) → OnErr a (LacksRoom old) → IsAnswered result
+        by_added (Ok root) is is_art is_entered back kept none =
+            subst IsAnswered (sym (told root is)) (record { art = is_art; replaced = sym is_new.1; entered = is_entered; no_refusal = is_new.0; refusal_due = tt; entry_back = tt; same_entries = tt; nodes_kept = tt; untouched = tt; no_room = tt })
+        by_added (Err (k, v)) is is_art is_entered back kept none =
+            subst IsAnswered (sym (refused k v is)) (record { art = tt; replaced = tt; entered = tt; no_refusal = tt; refusal_due = is_new; entry_back = (ap (λ entry. entry.0) back, ap (λ entry. entry.1) back); same_entries = stay kept; nodes_kept = kept; untouched = λ differ. absurd (differ refl); no_room = λ _. none })

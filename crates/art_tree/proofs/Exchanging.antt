@@ -11,9 +11,8 @@ use Rattle.art_arena.specs.Arena.{ArenaOf, HeldInner, held}
 use Rattle.art_arena.specs.Links.{AreDistinct}
 use Rattle.art_arena.specs.Standing.{NodeStands, StandsIn, AllStandIn}
 use Rattle.art_arena.specs.Trees.{Tree, Leaf, Inner, Branches, NoBranch, Branch, leaves, branch_leaves, places, branch_places, branch_roots, root_of, IsSound, AreSound, IsWellFormed}
-use Rattle.art_tree.specs.Contexts.{Context, Whole, Under, plug, path_to, leaves_before, leaves_after, KeepsAt, IsExchanged}
+use Rattle.art_tree.specs.Contexts.{Context, Whole, Under, plug, path_to, leaves_before, leaves_after, KeepsAt, IsExchanged, join}
 use Rattle.art_tree.specs.Loading.{IsSnug}
-use Rattle.art_tree.specs.Plan.{join}
 use Rattle.art_tree.proofs.BranchLemmas.{roots-join, leaves-join, places-join, bytes-join, sound-join}
 use Rattle.art_tree.proofs.OnlyWayLemmas.{All-left}
 use Rattle.art_tree.proofs.Rising.{stand-join, stand-split, snug-join, snug-split}

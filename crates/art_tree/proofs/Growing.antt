@@ -8,11 +8,9 @@ use Rattle.art_arena.specs.Arena.{ArenaOf, Nothing, held, SameNodes}
 use Rattle.art_arena.specs.Links.{AreDistinct, Spells}
 use Rattle.art_arena.specs.Trees.{Tree, Inner, Branches, Branch, leaves, texts, places, branch_places, root_of, IsSound}
 use Rattle.art_tree.specs.Art.{IsAlone, IsArt}
-use Rattle.art_tree.specs.Contexts.{Context, Whole, Under, plug, path_to, leaves_before, leaves_after, KeepsAt, IsExchanged}
-use Rattle.art_tree.specs.Dictionary.{entry_at}
-use Rattle.art_tree.specs.Inserting.{SameEntries}
+use Rattle.art_tree.specs.Contexts.{Context, Whole, Under, plug, path_to, leaves_before, leaves_after, KeepsAt, IsExchanged, join}
+use Rattle.art_tree.specs.Dictionary.{entry_at, SameEntries}
 use Rattle.art_tree.specs.Loading.{IsSnug, leaf_pointers}
-use Rattle.art_tree.specs.Plan.{join}
 use Rattle.art_tree.proofs.DictionaryLemmas.{AreApart, leaf-held-in, leaf-of-entry, held-entry}
 use Rattle.art_tree.proofs.Exchanging.{the-one, places-node, in-part, kept-tree, leaves-plug, snug-whole, sound-whole, stands-whole}
 use Rattle.art_tree.proofs.Linking.{Spells-kept}

@@ -1,5 +1,5 @@
 -- Where a node hangs, and what stands beside it.
-use Rattle.std.proofs.Common.{◌≡◌, ◌≢◌, ◌∙◌, ℕ, List, [], ◌∷◌, ◌++◌, Option, Some, None, IsNone, Result, Ok, Err, OnOk, OnErr, Bool, false, sym, ap, subst, refl, append-nil}
+use Rattle.std.proofs.Common.{◌≡◌, ◌≢◌, ◌∙◌, ℕ, List, [], ◌∷◌, ◌++◌, Option, Some, None, IsNone, Result, Ok, Err, OnOk, OnErr, Bool, true, false, sym, ap, subst, refl, append-nil}
 use Rattle.std.proofs.lemmas.Option.{same_Some}
 use Rattle.art_header.specs.NodeType.{most_children}
 use Rattle.art_header.specs.declared.node_type.NodeType.TheVariants as kinds
@@ -17,7 +17,7 @@ use Rattle.art_arena.specs.Standing.{TreeAt, AllStandIn}
 use Rattle.art_arena.specs.Trees.{Tree, Inner, Branches, NoBranch, Branch, leaves, branch_leaves, branch_roots, root_of, AreSound}
 use Rattle.art_arena.specs.Ends.{IsAtEnd}
 use Rattle.art_tree.specs.Hanging.{CanHang, HasPlaceAt, StandsBeside}
-use Rattle.art_tree.specs.Plan.{join}
+use Rattle.art_tree.specs.Contexts.{join}
 use Rattle.art_arena.specs.declared.ends.End.TheVariants.{First, Last}
 use Rattle.art_tree.proofs.BranchLemmas.{leaves-join}
 use Rattle.art_tree.proofs.Exchanging.{sound-split}
@@ -69,6 +69,11 @@ always-err (Err e) Q holds = holds
 pub ok-then : {T E : Type 0} (r : Result T E) (Q : Type 0) {test : Bool} → test ≡ is_err r → test ≡ false → OnOk r Q → Q
 ok-then (Ok x) Q is never holds = holds
 ok-then (Err e) Q is never holds = absurd (cc)
+
+-- what holds where a result is an error holds where it is one
+pub err-then : {T E : Type 0} (r : Result T E) (Q : Type 0) {test : Bool} → test ≡ is_err r → test ≡ true → OnErr r Q → Q
+err-then (Ok x) Q is always holds = absurd (cc)
+err-then (Err e) Q is always holds = holds
 
 -- the tree of the first branch, if there is one
 pub record IsFirst {H : Type 0} (branches : Branches H) (child : H) : Type 0 where

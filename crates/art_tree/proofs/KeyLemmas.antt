@@ -4,9 +4,9 @@ use Rattle.std.specs.Cmp.Lexicographic.{pointwise}
 use Rattle.std.proofs.lemmas.Option.{same_Some}
 use Rattle.std.proofs.lemmas.List.Elements.{All-contains}
 use Rattle.art_arena.specs.Arena.{ArenaOf}
-use Rattle.art_tree.specs.Dictionary.{HasEntry, HasKeys, IsEmpty, IsEntry, entry_at}
-use Rattle.art_tree.specs.Inserting.{IsEntered, SameEntries}
-use Rattle.art_tree.specs.Plan.{texts_of}
+use Rattle.art_tree.specs.Dictionary.{HasEntry, HasKeys, IsEmpty, IsEntry, entry_at, SameEntries}
+use Rattle.art_tree.specs.Inserting.{IsEntered}
+use Rattle.art_tree.specs.Refusals.{texts_of}
 use Rattle.art_tree.specs.Removing.{IsLeft}
 use Rattle.art_tree.proofs.ClashLemmas.{mapped-from}
 use Rattle.art_tree.proofs.ScanLemmas.{same-text, text-itself}

@@ -4,7 +4,9 @@ use Rattle.std.proofs.lemmas.List.{length-map, append-nil, take_at, drop_at}
 use Rattle.art_bytes.specs.Text.{IsFront}
 use Rattle.art_nodes.specs.ChildMap.{IsAscending, key_bytes}
 use Rattle.art_arena.specs.Trees.{Tree, Leaf, Inner, Branches, NoBranch, Branch, branch_roots, IsSound, AreSound, IsWellFormed}
-use Rattle.art_tree.specs.Plan.{join, steps_of, branch_steps, Spans, BranchesSpan, text_at}
+use Rattle.art_tree.specs.Plan.{steps_of, branch_steps, Spans, BranchesSpan}
+use Rattle.art_tree.specs.Contexts.{join}
+use Rattle.art_tree.specs.Refusals.{text_of_entry}
 use Rattle.art_tree.specs.declared.loading.steps.Step.{Step}
 use Rattle.art_tree.specs.declared.loading.steps.Step.TheVariants as step
 use Rattle.art_tree.proofs.BranchLemmas.{one_branch}
@@ -42,7 +44,7 @@ join_assoc (Branch byte tree others) b c = ap (Branch byte tree) (join_assoc oth
 record Last (texts : List (List ℕ)) (path : List ℕ) (low high : ℕ) : Type 0 where
   pub some : low < high
   pub within : high ≤ length texts
-  pub front : IsFront path (text_at texts (high - 1))
+  pub front : IsFront path (text_of_entry texts (high - 1))
 
 module _ {U : Type 0} (texts : List (List ℕ)) where
   mutual
@@ -50,11 +52,11 @@ module _ {U : Type 0} (texts : List (List ℕ)) where
     tree-last (Leaf pointer text) low high path spans sound = record {
       some = omega (arith, spans.1);
       within = omega (arith, spans.0, spans.1);
-      front = let at : low ≡ high - 1 = omega (arith, spans.1) in subst (IsFront path) (spans.2 ∙ ap (text_at texts) at) sound.0;
+      front = let at : low ≡ high - 1 = omega (arith, spans.1) in subst (IsFront path) (spans.2 ∙ ap (text_of_entry texts) at) sound.0;
     }
     tree-last (Inner pointer prefix branches) low high path spans sound =
         let last = branches-last branches low high (path ++ prefix) spans sound.2 (omega (arith, sound.0)) in
-        record { some = last.some; within = last.within; front = front-shorter path prefix (text_at texts (high - 1)) last.front }
+        record { some = last.some; within = last.within; front = front-shorter path prefix (text_of_entry texts (high - 1)) last.front }
 
     branches-last : (branches : Branches U) (low high : ℕ) (path : List ℕ) → BranchesSpan texts low branches high → AreSound path branches → 1 ≤ length (branch_roots branches) → Last texts path low high
     branches-last NoBranch low high path spans sound some = absurd (omega (arith, some))
@@ -64,7 +66,7 @@ module _ {U : Type 0} (texts : List (List ℕ)) where
         record {
           some = omega (arith, last.some, same);
           within = omega (arith, last.within, same);
-          front = subst (λ n. IsFront path (text_at texts (n - 1))) (sym same) (front-shorter path (byte ∷ []) (text_at texts (spans.0 - 1)) last.front);
+          front = subst (λ n. IsFront path (text_of_entry texts (n - 1))) (sym same) (front-shorter path (byte ∷ []) (text_of_entry texts (spans.0 - 1)) last.front);
         }
     branches-last (Branch byte tree (Branch b t others)) low high path spans sound some =
         let first = tree-last tree low spans.0 (path ++ byte ∷ []) spans.1 sound.0 in
@@ -83,10 +85,10 @@ module _ {H : Type 0} (pairs : List (H × List ℕ)) where
   texts = map (λ pair. pair.1) pairs
 
   -- the pair at an index, whose text is the text there
-  pair-at : (i : ℕ) → i < length texts → (pair : H × List ℕ) × (slice_get pairs i ≡ Some pair) × (pair.1 ≡ text_at texts i)
+  pair-at : (i : ℕ) → i < length texts → (pair : H × List ℕ) × (slice_get pairs i ≡ Some pair) × (pair.1 ≡ text_of_entry texts i)
   pair-at i lt = found pairs i lt
     where
-      found : (all : List (H × List ℕ)) (i : ℕ) → i < length (map (λ (pair : H × List ℕ). pair.1) all) → (pair : H × List ℕ) × (slice_get all i ≡ Some pair) × (pair.1 ≡ text_at (map (λ (pair : H × List ℕ). pair.1) all) i)
+      found : (all : List (H × List ℕ)) (i : ℕ) → i < length (map (λ (pair : H × List ℕ). pair.1) all) → (pair : H × List ℕ) × (slice_get all i ≡ Some pair) × (pair.1 ≡ text_of_entry (map (λ (pair : H × List ℕ). pair.1) all) i)
       found [] i lt = absurd (omega arith)
       found (pair ∷ others) zero lt = (pair, refl, refl)
       found (pair ∷ others) (suc i) lt = found others i (omega arith)

@@ -12,11 +12,10 @@ use Rattle.art_arena.specs.Links.{AreDistinct, Spells}
 use Rattle.art_arena.specs.Standing.{NodeStands, StandsIn, AllStandIn}
 use Rattle.art_arena.specs.Trees.{Tree, Leaf, Inner, Branch, branch_roots, branch_leaves, texts, places, branch_places, IsSound}
 use Rattle.art_tree.specs.Art.{IsAlone}
-use Rattle.art_tree.specs.Contexts.{plug, path_to, leaves_before, leaves_after}
+use Rattle.art_tree.specs.Contexts.{plug, path_to, leaves_before, leaves_after, join}
 use Rattle.art_tree.specs.Dictionary.{entry_at}
 use Rattle.art_tree.specs.Dropping.{HangsUnder}
 use Rattle.art_tree.specs.Loading.{IsSnug}
-use Rattle.art_tree.specs.Plan.{join}
 use Rattle.art_tree.proofs.Adding.{leaves-filled}
 use Rattle.art_tree.proofs.DictionaryLemmas.{AreApart, held-entry}
 use Rattle.art_tree.proofs.DroppingLemmas.{dropped-count}

@@ -27,6 +27,7 @@ mod Changing
 mod Adding
 mod LinkLemmas
 mod NodeLemmas
+mod RoomLemmas
 mod PlaceLemmas
 mod Gaps
 mod AddingChild

@@ -15,8 +15,7 @@ use Rattle.art_nodes.specs.declared.pointers.OpaqueNodePtr.{OpaqueNodePtr}
 use Rattle.art_nodes.specs.declared.leaf_node.LeafNode.{LeafNode}
 use Rattle.art_arena.specs.Arena.{ArenaOf, Held, HeldInner, HeldLeaf, Nothing, held, held_leaf, Changes}
 use Rattle.art_arena.specs.Links.{HoldsLeaf, IsKnit, IsUnlinked, SameButLinks, StandsBetween, Spells, SpellsAfter, leaf_at, next_at, text_at}
-use Rattle.art_tree.specs.Plan.{texts_of}
-use Rattle.art_tree.specs.Plan as plan
+use Rattle.art_tree.specs.Refusals.{text_of_entry, texts_of}
 use Rattle.art_tree.specs.Raising.{leaf_texts}
 use Rattle.art_tree.specs.Search.{leaf_pointer}
 use Rattle.art_tree.specs.Loading.{HoldEntries, AreLinked, Adds}
@@ -209,7 +208,7 @@ module _ {K V : Type 0} {P : ℕ} where
 
   -- the texts of the last two leaves are neighbours among those of the entries
   pub two-texts : (text : K → List ℕ) (old now : ArenaOf K V P) (all done left : List (K × V)) (before front : List (NodePtr P (LeafNode K V P))) (entry : K × V) (this sibling : NodePtr P (LeafNode K V P)) → before ≡ front ++ sibling ∷ [] → all ≡ (done ++ entry ∷ []) ++ left → IsAllocated old now done before entry this
-      → (length front + 1 < length (texts_of text all)) × (plan.text_at (texts_of text all) (length front) ≡ text_at text now (slab_key sibling)) × (plan.text_at (texts_of text all) (length front + 1) ≡ text_at text now (slab_key this))
+      → (length front + 1 < length (texts_of text all)) × (text_of_entry (texts_of text all) (length front) ≡ text_at text now (slab_key sibling)) × (text_of_entry (texts_of text all) (length front + 1) ≡ text_at text now (slab_key this))
   two-texts text old now all done left before front entry this sibling split whole a =
       let f : NodePtr P (LeafNode K V P) → List ℕ = λ leaf. text_at text now (slab_key leaf) in
       let two : before ++ this ∷ [] ≡ front ++ sibling ∷ this ∷ [] = ap (λ z. z ++ this ∷ []) split ∙ append_assoc front (sibling ∷ []) (this ∷ []) in
@@ -220,8 +219,8 @@ module _ {K V : Type 0} {P : ℕ} where
       let size = ap length texts ∙ length-append (map f front ++ f sibling ∷ f this ∷ []) (texts_of text left) in
       let size_two = length-append (map f front) (f sibling ∷ f this ∷ []) in (
         omega (arith, size, size_two, long),
-        ap (λ t. plan.text_at t (length front)) (texts ∙ append_assoc (map f front) (f sibling ∷ f this ∷ []) (texts_of text left)) ∙ get_or_at (map f front) (f sibling) (f this ∷ texts_of text left) [] (length front) long,
-        ap (λ t. plan.text_at t (length front + 1)) (texts ∙ ap (λ z. z ++ texts_of text left) tail ∙ append_assoc (map f front ++ f sibling ∷ []) (f this ∷ []) (texts_of text left)) ∙ get_or_at (map f front ++ f sibling ∷ []) (f this) (texts_of text left) [] (length front + 1) (omega (arith, length-append (map f front) (f sibling ∷ []), long)),
+        ap (λ t. text_of_entry t (length front)) (texts ∙ append_assoc (map f front) (f sibling ∷ f this ∷ []) (texts_of text left)) ∙ get_or_at (map f front) (f sibling) (f this ∷ texts_of text left) [] (length front) long,
+        ap (λ t. text_of_entry t (length front + 1)) (texts ∙ ap (λ z. z ++ texts_of text left) tail ∙ append_assoc (map f front ++ f sibling ∷ []) (f this ∷ []) (texts_of text left)) ∙ get_or_at (map f front ++ f sibling ∷ []) (f this) (texts_of text left) [] (length front + 1) (omega (arith, length-append (map f front) (f sibling ∷ []), long)),
       )
 
 -- the leaves so far hold the entries so far

@@ -9,14 +9,15 @@ use Rattle.art_nodes.specs.declared.leaf_node.LeafNode.{LeafNode}
 use Rattle.art_arena.specs.Arena.{ArenaOf, Nothing, SameNodes}
 use Rattle.art_arena.specs.Links.{Spells}
 use Rattle.art_arena.specs.Trees.{Tree}
-use Rattle.art_tree.specs.Plan.{AreLoadable, text_at}
+use Rattle.art_tree.specs.Plan.{AreLoadable}
+use Rattle.art_tree.specs.Refusals.{text_of_entry}
 use Rattle.art_tree.specs.Raising.{IsRaised, leaf_pairs}
 use Rattle.art_tree.specs.Search.{leaf_pointer}
 use Rattle.art_tree.specs.Loading.{AreLinked, HoldEntries, IsLoaded, leaf_pointers}
 use Rattle.art_tree.proofs.Linking.{hold-kept, Spells-kept}
 
 -- no text is too long, at any index
-pub all-short : (texts : List (List ℕ)) → AreLoadable texts → (i : ℕ) → length (text_at texts i) < 2 ^ 32
+pub all-short : (texts : List (List ℕ)) → AreLoadable texts → (i : ℕ) → length (text_of_entry texts i) < 2 ^ 32
 all-short texts l i = elim (cases_lt i (length texts)) [
   | inl within ↦ l.short i within
   | inr past ↦ let none = ap length (get_or_past texts i [] past) in omega (arith, none)

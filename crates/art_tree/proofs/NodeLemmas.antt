@@ -14,8 +14,8 @@ use Rattle.art_nodes.specs.declared.pointers.OpaqueNodePtr.{OpaqueNodePtr}
 use Rattle.art_nodes.specs.declared.leaf_node.LeafNode.{LeafNode}
 use Rattle.art_nodes.proofs.ChildMapLaws.{length_absent}
 use Rattle.art_arena.specs.Arena.{ArenaOf, Changes, Held, HeldInner, HeldLeaf, Nothing, held, held_header, room}
-use Rattle.art_tree.specs.Edits.{HasRoomToGrow, IsMoved, IsReplaced}
-use Rattle.art_tree.specs.Raising.{two_children}
+use Rattle.art_tree.specs.Edits.{HasRoomToGrow, IsMoved, two_children}
+use Rattle.art_tree.specs.Nodes.{IsReplaced}
 
 -- the sizes in memory of a pointer to a leaf, of a match and of a spot
 pub leaf-pointer-fits : 8 < 2 ^ 63

@@ -15,10 +15,9 @@ use Rattle.art_arena.specs.Arena.{ArenaOf, HeldInner, HeldLeaf, Nothing, held}
 use Rattle.art_arena.specs.SharedFront.{IsSharedFront, IsSharedFrom, Parting, full_match}
 use Rattle.art_arena.specs.Standing.{StandsIn, AllStandIn, NodeStands, TreeUnder, leaf_text}
 use Rattle.art_arena.specs.Trees.{Tree, Leaf, Inner, Branches, NoBranch, Branch, branch_roots, root_of, leaves, texts, branch_texts, branch_leaves, IsSound, AreSound, IsWellFormed}
-use Rattle.art_tree.specs.Contexts.{Context, Under, plug, path_to, leaves_before, leaves_after}
+use Rattle.art_tree.specs.Contexts.{Context, Under, plug, path_to, leaves_before, leaves_after, join}
 use Rattle.art_tree.specs.Dictionary.{Clashes, IsProperFront}
 use Rattle.art_tree.specs.Places.{reach, IsSpotIn, LacksChild, Parts}
-use Rattle.art_tree.specs.Plan.{join}
 use Rattle.art_tree.specs.declared.insert.place.Spot.{Spot}
 use Rattle.art_tree.proofs.DescentLemmas.{slice_get-drop}
 use Rattle.art_tree.proofs.Exchanging.{leaves-plug, sound-part, stands-part}

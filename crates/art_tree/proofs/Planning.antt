@@ -6,7 +6,9 @@ use Rattle.std.proofs.lemmas.Bool.Decides.{nat_tests}
 use Rattle.art_bytes.specs.Text.{IsText}
 use Rattle.art_nodes.specs.ChildMap.{IsAscending, key_bytes}
 use Rattle.art_arena.specs.Trees.{Tree, Leaf, Inner, Branches, branch_roots, IsSound, AreSound}
-use Rattle.art_tree.specs.Plan.{join, steps_of, branch_steps, Spans, BranchesSpan, IsFork, text_at, byte_before, IsPlanOf}
+use Rattle.art_tree.specs.Plan.{steps_of, branch_steps, Spans, BranchesSpan, IsFork, byte_before, IsPlanOf}
+use Rattle.art_tree.specs.Contexts.{join}
+use Rattle.art_tree.specs.Refusals.{text_of_entry}
 use Rattle.art_tree.specs.declared.loading.steps.Open.{Open}
 use Rattle.art_tree.specs.declared.loading.steps.Step.{Step}
 use Rattle.art_tree.specs.declared.loading.steps.Step.TheVariants as step
@@ -55,7 +57,7 @@ pub record IsPlanned (texts : List (List ℕ)) (i : ℕ) (top : Open) (open_befo
   pub frames : List Frame
   pub opened : open_before ++ top ∷ [] ≡ opens frames
   pub spans : FramesSpan texts frames i
-  pub are_open : AreOpen (text_at texts i) frames
+  pub are_open : AreOpen (text_of_entry texts i) frames
   pub in_order : steps ≡ frame_steps frames
 
 -- after a text's leaf: a finished tree with it, which stands under the last open node or under one where the next text parts
@@ -72,7 +74,7 @@ pub record IsClosing (texts : List (List ℕ)) (i : ℕ) (text : List ℕ) (shar
 
 -- where two texts part, or the end of all
 pub record Parts (texts : List (List ℕ)) (i : ℕ) (text : List ℕ) (shared : ℕ) : Type 0 where
-  pub between : i + 1 < length texts → (at : ℕ) × (shared ≡ at + 1) × IsFork text (text_at texts (i + 1)) at
+  pub between : i + 1 < length texts → (at : ℕ) × (shared ≡ at + 1) × IsFork text (text_of_entry texts (i + 1)) at
   pub last : i + 1 ≡ length texts → shared ≡ 0
   pub within : shared ≤ length text
 
@@ -114,10 +116,10 @@ open-path : (text : List ℕ) (frames : List Frame) → AreOpen text frames → 
 open-path text [] h = omega arith
 open-path text (f ∷ fs) h = omega (arith, h.0.within)
 
-pub planned-path : (texts : List (List ℕ)) (i : ℕ) (top : Open) (xs : List Open) (steps : List Step) → IsPlanned texts i top xs steps → top.path ≤ length (text_at texts i)
-planned-path texts i top xs steps p = omega (arith, top-path p.frames xs top p.opened, open-path (text_at texts i) p.frames p.are_open)
+pub planned-path : (texts : List (List ℕ)) (i : ℕ) (top : Open) (xs : List Open) (steps : List Step) → IsPlanned texts i top xs steps → top.path ≤ length (text_of_entry texts i)
+planned-path texts i top xs steps p = omega (arith, top-path p.frames xs top p.opened, open-path (text_of_entry texts i) p.frames p.are_open)
 
-pub parts-between : (texts : List (List ℕ)) (i : ℕ) (text next : List ℕ) (at : ℕ) → i + 1 < length texts → next ≡ text_at texts (i + 1) → IsFork text next at → Parts texts i text (at + 1)
+pub parts-between : (texts : List (List ℕ)) (i : ℕ) (text next : List ℕ) (at : ℕ) → i + 1 < length texts → next ≡ text_of_entry texts (i + 1) → IsFork text next at → Parts texts i text (at + 1)
 parts-between texts i text next at lt is_next fork = record {
   between = λ _. (at, refl, subst (λ t. IsFork text t at) is_next fork);
   last = λ e. absurd (omega (arith, lt, e));
@@ -127,7 +129,7 @@ parts-between texts i text next at lt is_next fork = record {
 pub parts-last : (texts : List (List ℕ)) (i : ℕ) (text : List ℕ) → length texts ≤ i + 1 → Parts texts i text 0
 parts-last texts i text le = record { between = λ lt. absurd (omega (arith, le, lt)); last = λ _. refl; within = omega arith }
 
-module _ (texts : List (List ℕ)) (i : ℕ) (text : List ℕ) (is_text : text ≡ text_at texts i) where
+module _ (texts : List (List ℕ)) (i : ℕ) (text : List ℕ) (is_text : text ≡ text_of_entry texts i) where
   -- a text's leaf
   pub closing-leaf : (shared : ℕ) (top : Open) (xs : List Open) (steps : List Step) → i < length texts → length text < 2 ^ 64 → (p : IsPlanned texts i top xs steps) → IsClosing texts i text shared top xs (steps ++ step.Leaf (byte_before text (max shared top.path)) ∷ [])
   closing-leaf shared top xs steps within short p =
@@ -223,7 +225,7 @@ module _ (texts : List (List ℕ)) (i : ℕ) (text : List ℕ) (is_text : text �
             let below = low-below 0 (key_bytes (branch_roots f.branches)) (get_or text f.end 0) are_open.0.bytes in
             omega (arith, count, below, are_bytes f.end, length-map (branch_roots f.branches) (λ pair. pair.0))
 
-    module _ (next : List ℕ) (is_next : next ≡ text_at texts (i + 1)) (at : ℕ) (fork : IsFork text next at) where
+    module _ (next : List ℕ) (is_next : next ≡ text_of_entry texts (i + 1)) (at : ℕ) (fork : IsFork text next at) where
       -- what is open above the fork is on the path to the next text too
       reopen : (frames : List Frame) → top_path frames ≤ at → AreOpen text frames → AreOpen next frames
       reopen [] le h = tt

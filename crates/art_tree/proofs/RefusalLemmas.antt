@@ -8,8 +8,8 @@ use Rattle.std.proofs.lemmas.Bool.{cases_lt, eq-eqb, le-leb, le-ltb, lt-leb, lt-
 use Rattle.std.proofs.lemmas.Bool.Decides.{eqb_tells}
 use Rattle.std.proofs.lemmas.List.Elements.{All-from_get_or}
 use Rattle.art_bytes.specs.Text.{text_order}
-use Rattle.art_tree.specs.Plan.{text_at, texts_of, IsFork, Forks, AreLoadable}
-use Rattle.art_tree.specs.Refusals.{HaveNoFault, IsRefusal, fault_at, fault_between}
+use Rattle.art_tree.specs.Plan.{IsFork, Forks, AreLoadable}
+use Rattle.art_tree.specs.Refusals.{text_of_entry, texts_of, HaveNoFault, IsRefusal, fault_at, fault_between}
 use Rattle.art_tree.specs.declared.loading.check.LoadRefusal.{LoadRefusal}
 use Rattle.art_tree.specs.declared.loading.check.LoadRefusal.TheVariants.{KeyTooLong}
 
@@ -42,16 +42,16 @@ between i text next Greater front is apart none = absurd (let wrong : Some _ ≡
 pub loadable : (texts : List (List ℕ)) → ((i : ℕ) → i < length texts → fault_at texts i ≡ None) → AreLoadable texts
 loadable texts none = record { short = is_short; fork = parts }
   where
-    is_short : (i : ℕ) → i < length texts → length (text_at texts i) < 2 ^ 32
-    is_short i within = elim (cases_lt (length (text_at texts i)) (2 ^ 32)) [
+    is_short : (i : ℕ) → i < length texts → length (text_of_entry texts i) < 2 ^ 32
+    is_short i within = elim (cases_lt (length (text_of_entry texts i)) (2 ^ 32)) [
       | inl short ↦ short
-      | inr long ↦ absurd (let wrong : Some _ ≡ None = rw (le-leb (2 ^ 32) (length (text_at texts i)) long) at (none i within) in cc)
+      | inr long ↦ absurd (let wrong : Some _ ≡ None = rw (le-leb (2 ^ 32) (length (text_of_entry texts i)) long) at (none i within) in cc)
     ]
 
-    parts : (i : ℕ) → i + 1 < length texts → Forks (text_at texts i) (text_at texts (i + 1))
+    parts : (i : ℕ) → i + 1 < length texts → Forks (text_of_entry texts i) (text_of_entry texts (i + 1))
     parts i within =
-        let at_next : fault_between i (text_at texts i) (text_at texts (i + 1)) ≡ None = rw (lt-leb (2 ^ 32) (length (text_at texts i)) (is_short i (omega (arith, within))), lt-leb (length texts) (i + 1) within) at (none i (omega (arith, within))) in
-        between i (text_at texts i) (text_at texts (i + 1)) _ _ refl refl at_next
+        let at_next : fault_between i (text_of_entry texts i) (text_of_entry texts (i + 1)) ≡ None = rw (lt-leb (2 ^ 32) (length (text_of_entry texts i)) (is_short i (omega (arith, within))), lt-leb (length texts) (i + 1) within) at (none i (omega (arith, within))) in
+        between i (text_of_entry texts i) (text_of_entry texts (i + 1)) _ _ refl refl at_next
 
 -- so every text of them is short
 pub each-short : (texts : List (List ℕ)) → HaveNoFault texts → All (λ x. length x < 2 ^ 32) texts
@@ -93,9 +93,9 @@ first-fault text [] index (Some refusal) is within before = absurd (omega (arith
 first-fault text (entry ∷ entries) index (Some refusal) is within before = (index, omega (arith, within, length-map entries (λ e. text e.0)), sym is, before)
 
 -- the text of the entry at an index
-pub text-there : {K V : Type 0} (text : K → List ℕ) (entries : List (K × V)) (i : ℕ) (d : K × V) → i < length entries → text_at (texts_of text entries) i ≡ text (get_or entries i d).0
+pub text-there : {K V : Type 0} (text : K → List ℕ) (entries : List (K × V)) (i : ℕ) (d : K × V) → i < length entries → text_of_entry (texts_of text entries) i ≡ text (get_or entries i d).0
 text-there text entries i d within = get_or-map (λ entry. text entry.0) entries i d [] within
 
 -- a text of 2 ^ 32 bytes or more is at fault
-pub fault-long : (texts : List (List ℕ)) (i : ℕ) (text : List ℕ) → text ≡ text_at texts i → 2 ^ 32 ≤ length text → Some (KeyTooLong i) ≡ fault_at texts i
-fault-long texts i text is long = let there : 2 ^ 32 ≤ length (text_at texts i) = subst (λ t. 2 ^ 32 ≤ length t) is long in rw (le-leb (2 ^ 32) (length (text_at texts i)) there) refl
+pub fault-long : (texts : List (List ℕ)) (i : ℕ) (text : List ℕ) → text ≡ text_of_entry texts i → 2 ^ 32 ≤ length text → Some (KeyTooLong i) ≡ fault_at texts i
+fault-long texts i text is long = let there : 2 ^ 32 ≤ length (text_of_entry texts i) = subst (λ t. 2 ^ 32 ≤ length t) is long in rw (le-leb (2 ^ 32) (length (text_of_entry texts i)) there) refl

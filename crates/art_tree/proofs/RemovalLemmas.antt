@@ -16,21 +16,20 @@ use Rattle.art_arena.specs.Links.{AreDistinct, HoldsLeaf, IsKnit, SameButLinks, 
 use Rattle.art_arena.specs.Standing.{IsTreeIn, StandsIn}
 use Rattle.art_arena.specs.Trees.{Tree, Leaf, Inner, Branch, leaves, texts}
 use Rattle.art_tree.specs.Art.{IsAlone, IsArt}
-use Rattle.art_tree.specs.Contexts.{Under, leaves_before, leaves_after}
+use Rattle.art_tree.specs.Contexts.{Under, leaves_before, leaves_after, join}
 use Rattle.art_tree.specs.Dictionary.{entry_at}
-use Rattle.art_tree.specs.Cuts.{FreesOne, HasOneLess}
+use Rattle.art_tree.specs.Cuts.{HasOneLess}
+use Rattle.art_tree.specs.Nodes.{FreesOne}
 use Rattle.art_tree.specs.Dropping.{HangsUnder}
 use Rattle.art_tree.specs.Edits.{StaysAt}
-use Rattle.art_tree.specs.Plan.{join}
-use Rattle.art_tree.specs.Removing.{FreesOneEach, IsLeft}
+use Rattle.art_tree.specs.Removing.{IsLeft}
+use Rattle.art_tree.specs.Room.{FreesOneEach}
 use Rattle.art_tree.specs.Search.{EachTree, IsPathTo, leaf_pointer, scan}
 use Rattle.art_tree.specs.declared.path.TreePath.{TreePath}
-use Rattle.art_tree.specs.declared.path.TreePath.TheVariants.{ChildOfRoot, Normal}
 use Rattle.art_tree.proofs.DictionaryLemmas.{AreApart, empty-entry, held-entry, leaf-held-in, leaf-of-entry, scan-in}
 use Rattle.art_tree.proofs.Exchanging.{leaves-plug, stands-part, the-one}
 use Rattle.art_tree.proofs.NodeLemmas.{one-leaf}
 use Rattle.art_tree.proofs.Rising.{cases_held, cases_pointer, leaf-of}
-use Rattle.art_tree.proofs.WayContexts.{leaf-child, leaf-normal}
 use Rattle.art_arena.proofs.StandingLaws.{leaf_kind}
 
 -- the others of a list of different members are not the one between them
@@ -178,20 +177,12 @@ is-found text arena seen same root tree is leaf path key answer way =
     }
 
 -- a leaf that hangs in a tree is one of its leaves
-pub hangs-in : {H : Type 0} (tree : Tree H) (pointer parent : H) (byte : ℕ) (higher : Option (H × ℕ)) (hangs : HangsUnder tree pointer parent byte higher) → Contains (leaves tree) (pointer, hangs.text)
-hangs-in tree pointer parent byte higher hangs =
+pub hangs-in : {H : Type 0} {tree : Tree H} {pointer parent : H} {byte : ℕ} {higher : Option (H × ℕ)} (hangs : HangsUnder tree pointer parent byte higher) → Contains (leaves tree) (pointer, hangs.text)
+hangs-in {pointer = pointer} {parent = parent} {byte = byte} hangs =
     let place = Under hangs.upper parent hangs.prefix hangs.before byte hangs.after in
     let leaf : _ × List ℕ = (pointer, hangs.text) in
     subst (λ t. Contains (leaves t) leaf) hangs.whole (subst (λ all. Contains all leaf) (sym (leaves-plug place (Leaf pointer hangs.text)))
     (Contains-append_right (leaves_before place) (leaf ∷ leaves_after place) leaf (0, omega arith, refl)))
-
--- where a leaf hangs, by the path to it
-module _ {K V : Type 0} {P : ℕ} (tree : Tree (OpaqueNodePtr K V P)) (pointer : OpaqueNodePtr K V P) (path : TreePath K V P) (way : IsPathTo tree pointer path) (above : Option (OpaqueNodePtr K V P × ℕ) × OpaqueNodePtr K V P × ℕ) where
-  pub hangs-child : (parent : OpaqueNodePtr K V P) (byte : ℕ) → path ≡ ChildOfRoot parent byte → above ≡ (None, parent, byte) → HangsUnder tree pointer above.1 above.2 above.0
-  hangs-child parent byte is same = subst (λ a. HangsUnder tree pointer a.1 a.2 a.0) (sym same) (leaf-child tree pointer parent byte (subst (IsPathTo tree pointer) is way))
-
-  pub hangs-normal : (grandparent : OpaqueNodePtr K V P) (parent_byte : ℕ) (parent : OpaqueNodePtr K V P) (byte : ℕ) → path ≡ Normal grandparent parent_byte parent byte → above ≡ (Some (grandparent, parent_byte), parent, byte) → HangsUnder tree pointer above.1 above.2 above.0
-  hangs-normal grandparent parent_byte parent byte is same = subst (λ a. HangsUnder tree pointer a.1 a.2 a.0) (sym same) (leaf-normal tree pointer grandparent parent_byte parent byte (subst (IsPathTo tree pointer) is way))
 
 -- what an option tells where there is no value
 pub from-if-none : {X : Type 0} (o : Option X) (Q : Type 0) → o ≡ None → IfNone o Q → Q

@@ -21,9 +21,11 @@ use Rattle.art_arena.specs.Arena.{ArenaOf, Held, HeldInner, HeldLeaf, Nothing, h
 use Rattle.art_arena.specs.Links.{HoldsLeaf, leaf_at, text_at}
 use Rattle.art_arena.specs.Standing.{NodeStands, StandsIn, AllStandIn, leaf_text}
 use Rattle.art_arena.specs.Trees.{Tree, Leaf, Inner, Branches, NoBranch, Branch, branch_roots, branch_leaves, branch_places, leaves, places, root_of}
-use Rattle.art_tree.specs.Plan.{join, needed}
+use Rattle.art_tree.specs.Plan.{needed}
+use Rattle.art_tree.specs.Contexts.{join}
 use Rattle.art_tree.specs.Loading.{AreSnug, Adds}
-use Rattle.art_tree.specs.Raising.{node_of, IsPlaced, IsRaised, HoldLeaves, leaf_pairs, leaf_texts}
+use Rattle.art_tree.specs.Raising.{IsRaised, HoldLeaves, leaf_pairs, leaf_texts}
+use Rattle.art_tree.specs.Nodes.{node_of, IsPlaced}
 use Rattle.art_tree.specs.Search.{leaf_pointer}
 use Rattle.art_tree.specs.declared.loading.steps.Step.{Step}
 use Rattle.art_tree.specs.declared.loading.steps.Step.TheVariants as step

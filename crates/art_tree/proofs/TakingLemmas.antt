@@ -13,13 +13,12 @@ use Rattle.art_nodes.specs.ChildMap.{IsAscending, IsAscendingFrom, key_bytes, ch
 use Rattle.art_nodes.specs.Pointers.{node_kind}
 use Rattle.art_nodes.specs.declared.pointers.OpaqueNodePtr.{OpaqueNodePtr}
 use Rattle.art_arena.specs.Trees.{Tree, Leaf, Inner, Branches, NoBranch, Branch, branch_roots, root_of, leaves, branch_leaves, places, branch_places, IsSound, AreSound}
-use Rattle.art_tree.specs.Edits.{IsBeside, LiesBeside}
+use Rattle.art_tree.specs.Edits.{IsBeside, LiesBeside, two_children}
 use Rattle.art_arena.specs.declared.ends.End.{End}
 use Rattle.art_arena.specs.declared.ends.End.TheVariants.{First, Last}
 use Rattle.art_tree.specs.Loading.{IsSnug, AreSnug}
 use Rattle.art_tree.specs.Places.{reach}
-use Rattle.art_tree.specs.Plan.{join}
-use Rattle.art_tree.specs.Raising.{two_children}
+use Rattle.art_tree.specs.Contexts.{join}
 use Rattle.art_tree.proofs.BranchLemmas.{roots-join, leaves-join, places-join, sound-join, one_branch}
 use Rattle.art_tree.proofs.DictionaryLemmas.{after-first}
 use Rattle.art_tree.proofs.Exchanging.{sound-split, none-below, all-above}

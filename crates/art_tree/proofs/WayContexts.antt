@@ -3,11 +3,10 @@ use Rattle.std.proofs.Common.{◌≡◌, ◌∙◌, ℕ, List, [], ◌∷◌, �
 use Rattle.std.proofs.lemmas.Option.{same_Some}
 use Rattle.art_nodes.specs.declared.pointers.OpaqueNodePtr.{OpaqueNodePtr}
 use Rattle.art_arena.specs.Trees.{Tree, Leaf, Inner, Branches, NoBranch, Branch}
-use Rattle.art_tree.specs.Contexts.{Context, Whole, Under, plug}
+use Rattle.art_tree.specs.Contexts.{Context, Whole, Under, plug, join}
 use Rattle.art_tree.specs.Dropping.{HangsUnder}
 use Rattle.art_tree.specs.Paths.{path_of}
 use Rattle.art_tree.specs.Places.{above}
-use Rattle.art_tree.specs.Plan.{join}
 use Rattle.art_tree.specs.Search.{IsWay, IsWayUnder, IsPathTo}
 use Rattle.art_tree.specs.declared.path.TreePath.{TreePath}
 use Rattle.art_tree.specs.declared.path.TreePath.TheVariants.{Root, ChildOfRoot, Normal}

@@ -6,8 +6,7 @@ use Rattle.art_nodes.specs.declared.pointers.OpaqueNodePtr.{OpaqueNodePtr}
 use Rattle.art_nodes.specs.declared.leaf_node.LeafNode.{LeafNode}
 use Rattle.art_arena.specs.Arena.{ArenaOf, HeldInner, HeldLeaf, held}
 use Rattle.art_arena.specs.Standing.{StandsIn}
-use Rattle.art_arena.specs.Trees.{Tree, Inner, Branches, Branch, branch_leaves, places, root_of}
-use Rattle.art_tree.specs.Plan.{join}
+use Rattle.art_arena.specs.Trees.{Tree, Inner, Branches, NoBranch, Branch, branch_leaves, places, root_of}
 
 -- the subtree is all there is; or an inner node has it under a byte, between other branches, and the rest is around that node
 pub data Context (H : Type 0) : Type 0 where
@@ -15,6 +14,11 @@ pub data Context (H : Type 0) : Type 0 where
   Under : Context H → H → List ℕ → Branches H → ℕ → Branches H → Context H
 
 module _ {H : Type 0} where
+  -- the branches of both, one list after the other
+  abbrev pub join : Branches H → Branches H → Branches H
+  join NoBranch more = more
+  join (Branch byte tree others) more = Branch byte tree (join others more)
+
   -- the tree with this subtree in its place
   abbrev pub plug : Context H → Tree H → Tree H
   plug Whole tree = tree

@@ -1,19 +1,13 @@
 -- What the steps of a removal do to an arena. No public clause cites it.
-use Rattle.std.specs.Prelude.{◌≡◌, ◌⊎◌, ℕ, ◌<◌, ◌≤◌, ◌+◌, length}
-use Rattle.art_header.specs.declared.node_type.NodeType.{NodeType}
+use Rattle.std.specs.Prelude.{◌≡◌, ◌⊎◌, ℕ, ◌<◌, length}
 use Rattle.art_header.specs.NodeType.{least_children, shrunk_kind}
 use Rattle.art_nodes.specs.Inner.{Inner}
 use Rattle.art_nodes.specs.Pointers.{node_kind}
 use Rattle.art_nodes.specs.declared.pointers.OpaqueNodePtr.{OpaqueNodePtr}
-use Rattle.art_arena.specs.Arena.{ArenaOf, HeldInner, held, room, Changes, SameRoom, SameOtherRoom}
-use Rattle.art_tree.specs.Edits.{IsReplaced}
+use Rattle.art_arena.specs.Arena.{ArenaOf, HeldInner, held, room, Changes, SameRoom}
+use Rattle.art_tree.specs.Nodes.{IsReplaced}
 
 module _ {K V : Type 0} {P : ℕ} where
-  -- of this kind there is room for one node more at most, and of the others as before
-  pub record FreesOne (old new : ArenaOf K V P) (kind : NodeType) : Type 0 where
-    pub one_more : room new kind ≤ room old kind + 1
-    pub others : SameOtherRoom old new kind
-
   -- where the inner node at the pointer has more than two children and the fewest of its kind, there is room for one of the next smaller kind
   abbrev pub HasRoomToShrink : ArenaOf K V P → OpaqueNodePtr K V P → Type 0
   HasRoomToShrink arena pointer =

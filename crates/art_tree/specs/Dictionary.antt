@@ -30,6 +30,14 @@ module _ {K V : Type 0} {P : ℕ} (text : K → List ℕ) where
   abbrev pub HasKeys : (K → Type 0) → ArenaOf K V P → Type 0
   HasKeys is_key arena = (entry : K × V) → IsEntry arena entry → is_key entry.0
 
+  -- every text has the entry that it had
+  abbrev pub SameEntries : ArenaOf K V P → ArenaOf K V P → Type 0
+  SameEntries old new = (x : List ℕ) → entry_at new x ≡ entry_at old x
+
+  -- every text but this one has the entry that it had
+  abbrev pub SameOtherEntries : ArenaOf K V P → ArenaOf K V P → List ℕ → Type 0
+  SameOtherEntries old new x = (other : List ℕ) → other ≢ x → entry_at new other ≡ entry_at old other
+
   -- no text has an entry
   abbrev pub IsEmpty : ArenaOf K V P → Type 0
   IsEmpty arena = (x : List ℕ) → entry_at arena x ≡ None

@@ -1,10 +1,9 @@
 -- What the steps of an insert do to an arena. No public clause cites it.
-use Rattle.std.specs.Prelude.{◌≡◌, ◌≢◌, ◌⊎◌, ℕ, ◌<◌, List, ◌++◌, length, take}
-use Rattle.art_header.specs.Header.{capped}
+use Rattle.std.specs.Prelude.{◌≡◌, ◌⊎◌, ℕ, ◌<◌, List, [], ◌∷◌, ◌++◌, length, nat_lt, if◌then◌else◌}
 use Rattle.art_header.specs.NodeType.{most_children, grown_kind}
-use Rattle.art_header.specs.declared.node_type.NodeType.{NodeType}
 use Rattle.std.specs.declared.cmp.Ordering.TheVariants.{Less}
 use Rattle.art_bytes.specs.Text.{text_order}
+use Rattle.art_nodes.specs.ChildMap.{ChildMap}
 use Rattle.art_nodes.specs.Inner.{Inner}
 use Rattle.art_nodes.specs.Leaf.{leaf_key, leaf_value}
 use Rattle.art_nodes.specs.Pointers.{node_kind}
@@ -13,6 +12,7 @@ use Rattle.art_nodes.specs.declared.leaf_node.LeafNode.{LeafNode}
 use Rattle.art_arena.specs.Arena.{ArenaOf, HeldInner, HeldLeaf, Nothing, held, room, Changes}
 use Rattle.art_arena.specs.Links.{Spells}
 use Rattle.art_tree.specs.Contexts.{KeepsAt}
+use Rattle.art_tree.specs.Nodes.{IsReplaced}
 use Rattle.art_arena.specs.Ends.{put_at}
 use Rattle.art_arena.specs.declared.ends.End.{End}
 use Rattle.art_arena.specs.declared.ends.End.TheVariants.{First, Last}
@@ -27,9 +27,10 @@ abbrev pub LiesBeside : End → List ℕ → List ℕ → Type 0
 LiesBeside First text other = text_order text other ≡ Less
 LiesBeside Last text other = text_order other text ≡ Less
 
--- the node with a prefix of which it stores as much as there is room for
-abbrev pub node_with_prefix : {H : Type 0} → ℕ → Inner H → List ℕ → Inner H
-node_with_prefix room node prefix = record node { prefix_len = length prefix; stored = take (capped room (length prefix)) prefix }
+-- two children by ascending byte
+abbrev pub two_children : {H : Type 0} → ℕ → H → ℕ → H → ChildMap H
+two_children byte child other node =
+    if nat_lt byte other then (byte, child) ∷ (other, node) ∷ [] else (other, node) ∷ (byte, child) ∷ []
 
 module _ {K V : Type 0} {P : ℕ} where
   -- the links spell a list with a gap beside this leaf
@@ -63,14 +64,6 @@ module _ {K V : Type 0} {P : ℕ} where
     pub few : length node.children < most_children (node_kind pointer)
     pub same : at ≡ pointer
     pub changes : Changes old new pointer (HeldInner now)
-
-  -- the node at a pointer is given up for this one, which stands at a new place as one of this kind
-  pub record IsReplaced (old new : ArenaOf K V P) (pointer : OpaqueNodePtr K V P) (new_kind : NodeType) (now : Inner (OpaqueNodePtr K V P)) (at : OpaqueNodePtr K V P) : Type 0 where
-    pub kind : node_kind at ≡ new_kind
-    pub was_free : held old at ≡ Nothing
-    pub is_held : held new at ≡ HeldInner now
-    pub is_free : held new pointer ≡ Nothing
-    pub others : (other : OpaqueNodePtr K V P) → other ≢ at → other ≢ pointer → held new other ≡ held old other
 
   -- the node, which was full, is given up for one of the next kind
   pub record IsMoved (old new : ArenaOf K V P) (pointer : OpaqueNodePtr K V P) (node now : Inner (OpaqueNodePtr K V P)) (at : OpaqueNodePtr K V P) : Type 0 where

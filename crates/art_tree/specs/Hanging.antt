@@ -8,7 +8,7 @@ use Rattle.art_arena.specs.Arena.{ArenaOf, HeldInner, held, Changes, SameNodes}
 use Rattle.art_arena.specs.Standing.{StandsIn}
 use Rattle.art_arena.specs.Trees.{Inner, Branches, branch_roots, IsSound}
 use Rattle.art_tree.specs.Edits.{IsBeside}
-use Rattle.art_tree.specs.Plan.{join}
+use Rattle.art_tree.specs.Contexts.{join}
 use Rattle.art_arena.specs.declared.ends.End.{End}
 
 -- the leaf stands beside a gap between these leaves

@@ -1,7 +1,7 @@
 -- What an insert answers and leaves.
-use Rattle.std.specs.Prelude.{◌≡◌, ◌≢◌, ℕ, ◌<◌, ◌≤◌, ◌^◌, List, length, Some, None}
+use Rattle.std.specs.Prelude.{◌≡◌, ℕ, ◌<◌, ◌≤◌, ◌^◌, List, length, Some, None}
 use Rattle.art_arena.specs.Arena.{ArenaOf}
-use Rattle.art_tree.specs.Dictionary.{entry_at, HasEntry, AreAtOdds}
+use Rattle.art_tree.specs.Dictionary.{entry_at, HasEntry, SameOtherEntries, AreAtOdds}
 use Rattle.art_tree.specs.declared.insert.InsertRefusal.{InsertRefusal}
 use Rattle.art_tree.specs.declared.insert.InsertRefusal.TheVariants.{KeyTooLong, Prefix, OutOfMemory}
 
@@ -20,11 +20,7 @@ module _ {K V : Type 0} {P : ℕ} (text : K → List ℕ) where
   IsRefused arena x Prefix = (length x < 2 ^ 32) × ClashesIn arena x
   IsRefused arena x OutOfMemory = MayEnter arena x × (entry_at text arena x ≡ None)
 
-  -- every text has the entry that it had
-  abbrev pub SameEntries : ArenaOf K V P → ArenaOf K V P → Type 0
-  SameEntries old new = (x : List ℕ) → entry_at text new x ≡ entry_at text old x
-
   -- the key's text has this entry now, and every other text the entry that it had
   pub record IsEntered (old new : ArenaOf K V P) (key : K) (value : V) : Type 0 where
     pub entry : entry_at text new (text key) ≡ Some (key, value)
-    pub others : (x : List ℕ) → x ≢ text key → entry_at text new x ≡ entry_at text old x
+    pub others : SameOtherEntries text old new (text key)

@@ -6,6 +6,7 @@ pub mod Paths
 pub mod Search
 pub mod Ends
 pub mod Loading
+pub mod Nodes
 pub mod Plan
 pub mod Raising
 pub mod Refusals
@@ -17,3 +18,4 @@ pub mod Hanging
 pub mod Cuts
 pub mod Dropping
 pub mod Removing
+pub mod Room

@@ -1,18 +1,11 @@
--- The plan of a tree: its steps, each node's after those of its children.
-use Rattle.std.specs.Prelude.{◌≡◌, ℕ, ◌+◌, ◌-◌, ◌<◌, ◌^◌, ◌==◌, List, [], ◌∷◌, ◌++◌, length, map, take, slice_index, slice_index_or, ◌&&◌, nat_le, if◌then◌else◌}
+-- The plan of a tree: its steps, each node's after those of its children. No public clause cites it.
+use Rattle.std.specs.Prelude.{◌≡◌, ℕ, ◌+◌, ◌-◌, ◌<◌, ◌^◌, ◌==◌, List, [], ◌∷◌, ◌++◌, length, take, slice_index, ◌&&◌, nat_le, if◌then◌else◌}
 use Rattle.art_header.specs.NodeType.{least_children, most_children}
 use Rattle.art_header.specs.declared.node_type.NodeType.{NodeType}
 use Rattle.art_arena.specs.Trees.{Tree, Leaf, Inner, Branches, NoBranch, Branch, branch_roots, IsWellFormed}
+use Rattle.art_tree.specs.Refusals.{text_of_entry}
 use Rattle.art_tree.specs.declared.loading.steps.Step.{Step}
 use Rattle.art_tree.specs.declared.loading.steps.Step.TheVariants as steps
-
--- the texts of the entries' keys
-abbrev pub texts_of : {K V : Type 0} → (K → List ℕ) → List (K × V) → List (List ℕ)
-texts_of text entries = map (λ entry. text entry.0) entries
-
--- the text at an index
-abbrev pub text_at : List (List ℕ) → ℕ → List ℕ
-text_at texts i = slice_index_or texts i []
 
 -- two texts share so many bytes, and then the first one's byte is less
 pub record IsFork (a b : List ℕ) (at : ℕ) : Type 0 where
@@ -27,19 +20,14 @@ Forks a b = (at : ℕ) × IsFork a b at
 
 -- no text is too long, and each forks from the next
 pub record AreLoadable (texts : List (List ℕ)) : Type 0 where
-  pub short : (i : ℕ) → i < length texts → length (text_at texts i) < 2 ^ 32
-  pub fork : (i : ℕ) → i + 1 < length texts → Forks (text_at texts i) (text_at texts (i + 1))
+  pub short : (i : ℕ) → i < length texts → length (text_of_entry texts i) < 2 ^ 32
+  pub fork : (i : ℕ) → i + 1 < length texts → Forks (text_of_entry texts i) (text_of_entry texts (i + 1))
 
 -- the byte that leads to what begins at a place of a text, 0 for the root
 abbrev pub byte_before : List ℕ → ℕ → ℕ
 byte_before text place = if place == 0 then 0 else slice_index text (place - 1)
 
 module _ {H : Type 0} where
-  -- the branches of both, one list after the other
-  abbrev pub join : Branches H → Branches H → Branches H
-  join NoBranch more = more
-  join (Branch byte tree others) more = Branch byte tree (join others more)
-
   abbrev mutual
     -- the steps that make a tree which begins after so many bytes, under a byte
     pub steps_of : ℕ → ℕ → Tree H → List Step
@@ -54,7 +42,7 @@ module _ {H : Type 0} where
   abbrev mutual
     -- the leaves of the tree have the texts from this index up to that one
     pub Spans : List (List ℕ) → ℕ → Tree H → ℕ → Type 0
-    Spans texts low (Leaf pointer text) high = (low < length texts) × (high ≡ low + 1) × (text ≡ text_at texts low)
+    Spans texts low (Leaf pointer text) high = (low < length texts) × (high ≡ low + 1) × (text ≡ text_of_entry texts low)
     Spans texts low (Inner pointer prefix branches) high = BranchesSpan texts low branches high
 
     pub BranchesSpan : List (List ℕ) → ℕ → Branches H → ℕ → Type 0

@@ -1,38 +1,17 @@
 -- Trees on their way from a plan into an arena. No public clause cites it.
-use Rattle.std.specs.Prelude.{◌≡◌, ◌≢◌, ℕ, ◌+◌, ◌<◌, ◌≤◌, List, [], ◌∷◌, map, length, take, slice_index_or, nat_lt, if◌then◌else◌}
-use Rattle.art_header.specs.Header.{capped}
-use Rattle.art_header.specs.declared.node_type.NodeType.{NodeType}
-use Rattle.art_nodes.specs.ChildMap.{ChildMap}
-use Rattle.art_nodes.specs.Inner as nodes
-use Rattle.art_nodes.specs.Pointers.{slab_key, node_kind}
+use Rattle.std.specs.Prelude.{◌≡◌, ◌≢◌, ℕ, ◌<◌, List, map, length, slice_index_or}
+use Rattle.art_nodes.specs.Pointers.{slab_key}
 use Rattle.art_nodes.specs.declared.pointers.NodePtr.{NodePtr}
 use Rattle.art_nodes.specs.declared.pointers.OpaqueNodePtr.{OpaqueNodePtr}
 use Rattle.art_nodes.specs.declared.leaf_node.LeafNode.{LeafNode}
-use Rattle.art_arena.specs.Arena.{ArenaOf, HeldInner, Nothing, held, room, SameOtherRoom, Changes}
+use Rattle.art_arena.specs.Arena.{ArenaOf, Nothing, held}
 use Rattle.art_arena.specs.Links.{HoldsLeaf, text_at}
 use Rattle.art_arena.specs.Standing.{StandsIn}
 use Rattle.art_arena.specs.Trees.{Tree, root_of, leaves, places, IsWellFormed}
 use Rattle.art_tree.specs.Loading.{IsSnug, Adds}
 use Rattle.art_tree.specs.Search.{leaf_pointer}
 
--- the node with this prefix and these children
-abbrev pub node_of : {H : Type 0} → ℕ → List ℕ → ChildMap H → nodes.Inner H
-node_of room prefix children = record { prefix_len = length prefix; stored = take (capped room (length prefix)) prefix; children = children }
-
--- two children by ascending byte
-abbrev pub two_children : {H : Type 0} → ℕ → H → ℕ → H → ChildMap H
-two_children byte child other node =
-    if nat_lt byte other then (byte, child) ∷ (other, node) ∷ [] else (other, node) ∷ (byte, child) ∷ []
-
 module _ {K V : Type 0} {P : ℕ} where
-  -- a new node of this kind stands at a place that was free
-  pub record IsPlaced (old new : ArenaOf K V P) (kind : NodeType) (node : nodes.Inner (OpaqueNodePtr K V P)) (at : OpaqueNodePtr K V P) : Type 0 where
-    pub is_kind : node_kind at ≡ kind
-    pub was_free : held old at ≡ Nothing
-    pub changes : Changes old new at (HeldInner node)
-    pub room : room old kind ≤ room new kind + 1
-    pub other_room : SameOtherRoom old new kind
-
   -- each of these leaves is held
   abbrev pub HoldLeaves : ArenaOf K V P → List (NodePtr P (LeafNode K V P)) → Type 0
   HoldLeaves arena leaves =

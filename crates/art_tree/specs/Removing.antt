@@ -1,5 +1,5 @@
 -- What a removal answers and leaves.
-use Rattle.std.specs.Prelude.{◌≡◌, ◌≢◌, ◌⊎◌, ℕ, ◌≤◌, ◌+◌, List, Contains, Some, None, length}
+use Rattle.std.specs.Prelude.{◌≡◌, ◌⊎◌, ℕ, ◌≤◌, ◌+◌, List, Contains, Some, None, length}
 use Rattle.art_header.specs.declared.node_type.NodeType.{NodeType}
 use Rattle.art_nodes.specs.Inner.{Inner}
 use Rattle.art_nodes.specs.Leaf.{leaf_key}
@@ -7,12 +7,7 @@ use Rattle.art_nodes.specs.declared.pointers.OpaqueNodePtr.{OpaqueNodePtr}
 use Rattle.art_nodes.specs.declared.leaf_node.LeafNode.{LeafNode}
 use Rattle.art_arena.specs.Arena.{ArenaOf, HeldInner, HeldLeaf, held, room}
 use Rattle.art_tree.specs.Art.{IsArt}
-use Rattle.art_tree.specs.Dictionary.{entry_at}
-
-module _ {K V : Type 0} {P : ℕ} where
-  -- of each kind there is room for one node more at most
-  abbrev pub FreesOneEach : ArenaOf K V P → ArenaOf K V P → Type 0
-  FreesOneEach old new = (kind : NodeType) → room new kind ≤ room old kind + 1
+use Rattle.art_tree.specs.Dictionary.{entry_at, SameOtherEntries}
 
 module _ {K V : Type 0} {P : ℕ} (text : K → List ℕ) where
   -- a leaf has this text, and the inner node that it hangs in has 5, 17 or 49 children: without it the node is of a smaller kind
@@ -31,7 +26,7 @@ module _ {K V : Type 0} {P : ℕ} (text : K → List ℕ) where
   -- the text has no entry now, and every other text the entry that it had
   pub record IsLeft (old new : ArenaOf K V P) (x : List ℕ) : Type 0 where
     pub gone : entry_at text new x ≡ None
-    pub others : (y : List ℕ) → y ≢ x → entry_at text new y ≡ entry_at text old y
+    pub others : SameOtherEntries text old new x
 
   -- a tree stands at this root that has all entries but that of the text, which is this one
   pub record IsRemoved (old new : ArenaOf K V P) (x : List ℕ) (root : OpaqueNodePtr K V P) (entry : K × V) : Type 0 where

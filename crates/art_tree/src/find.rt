@@ -6,14 +6,14 @@ ghost use Rattle.art_tree.specs.Descent.{LeadsOn, LeadsNowhere, LeadsOnFrom, Lea
 ghost use Rattle.art_tree.specs.Paths.{Steps};
 ghost use Rattle.art_tree.specs.Search.{HasTree, EachTree, scan, found, met, IsWay, IsPathTo, LeadsTo, leaf_pointer};
 
+use crate::laws::each_pointer_is_at_one_place;
 use crate::path::{TreePath, TreePathSearch};
-use art_arena::laws::each_pointer_is_at_one_place;
 use art_arena::{AnyRef, ArenaReader, NodeRef};
 use art_bytes::AsBytes;
 use art_nodes::{InnerNodeCommon, LeafNode, NodePtr, OpaqueNodePtr};
 
 // The index in the key of the byte that leads on from the node, and the child under that byte.
-fn step<K, V, const PREFIX_LEN: usize, N: InnerNodeCommon<K, V, PREFIX_LEN>>(
+fn next_child_in<K, V, const PREFIX_LEN: usize, N: InnerNodeCommon<K, V, PREFIX_LEN>>(
     node: &N,
     key: &[u8],
     depth: usize,
@@ -42,10 +42,10 @@ fn next_child<K, V, const PREFIX_LEN: usize>(
     ensures nowhere { IfNone result (LeadsNowhereFrom PREFIX_LEN (shown node.entry) key.now depth) }
 {
     match node {
-        AnyRef::Node4(node) => step(node, key, depth),
-        AnyRef::Node16(node) => step(node, key, depth),
-        AnyRef::Node48(node) => step(node, key, depth),
-        AnyRef::Node256(node) => step(node, key, depth),
+        AnyRef::Node4(node) => next_child_in(node, key, depth),
+        AnyRef::Node16(node) => next_child_in(node, key, depth),
+        AnyRef::Node48(node) => next_child_in(node, key, depth),
+        AnyRef::Node256(node) => next_child_in(node, key, depth),
         AnyRef::LeafNode(_) => None,
     }
 }

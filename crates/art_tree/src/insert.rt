@@ -10,11 +10,12 @@ ghost use Rattle.art_arena.specs.Arena.{held, HeldInner, Nothing, room, SameNode
 ghost use Rattle.art_arena.specs.Links.{HoldsLeaf};
 ghost use Rattle.art_arena.specs.Trees.{leaves, branch_leaves};
 ghost use Rattle.art_tree.specs.Art.{IsArt, IsAlone};
-ghost use Rattle.art_tree.specs.Dictionary.{entry_at};
+ghost use Rattle.art_tree.specs.Dictionary.{entry_at, SameEntries};
 ghost use Rattle.art_tree.specs.Edits.{HasRoomToGrow};
 ghost use Rattle.art_tree.specs.Hanging.{HasPlaceAt, StandsBeside};
-ghost use Rattle.art_tree.specs.Inserting.{IsEntered, IsRefused, MayEnter, SameEntries};
+ghost use Rattle.art_tree.specs.Inserting.{IsEntered, IsRefused, MayEnter};
 ghost use Rattle.art_tree.specs.Places.{LacksChild, Parts};
+ghost use Rattle.art_tree.specs.Room.{LacksRoom};
 ghost use Rattle.art_tree.specs.Search.{leaf_pointer};
 ghost use Rattle.art_arena.specs.declared.ends.End.TheVariants.{First, Last};
 ghost use Rattle.art_tree.specs.declared.insert.InsertRefusal.TheVariants.{OutOfMemory};
@@ -91,6 +92,7 @@ fn insert_first<K: AsBytes, V, const PREFIX_LEN: usize>(
     ensures entered { OnOk result (IsEntered K.text arena.old arena.new key value) }
     ensures entry_back { IfErr result (λ entry. entry ≡ (key, value)) }
     ensures nodes_kept { OnErr result (SameNodes arena.old arena.new) }
+    ensures no_room { OnErr result (LacksRoom arena.old) }
 {
     no_text_begins_another::<OpaqueNodePtr<K, V, PREFIX_LEN>>();
     match arena.allocate_node_ptr(LeafNode::with_no_siblings(key, value)) {
@@ -99,7 +101,7 @@ fn insert_first<K: AsBytes, V, const PREFIX_LEN: usize>(
     }
 }
 
-// Puts the entry in the place of that of a leaf with its text, which it answers.
+// Puts the entry in the place of the one that a leaf of the same text holds, and answers that one.
 fn replace_entry<K: AsBytes, V, const PREFIX_LEN: usize>(
     arena: &mut NodeArena<K, V, PREFIX_LEN>,
     leaf: NodePtr<PREFIX_LEN, LeafNode<K, V, PREFIX_LEN>>,
@@ -181,6 +183,7 @@ fn reserve_for_child<K, V, const PREFIX_LEN: usize>(
     ensures leaf_room { OnOk result (0 < room arena.new Leaf) }
     ensures room { OnOk result (HasRoomToGrow arena.new pointer) }
     ensures nodes_kept { SameNodes arena.old arena.new }
+    ensures no_room { OnErr result (LacksRoom arena.old) }
 {
     arena.reserve(NodeType::Leaf, 1)?;
     reserve_growth(arena, pointer)
@@ -193,6 +196,7 @@ fn reserve_for_fork<K, V, const PREFIX_LEN: usize>(
     ensures leaf_room { OnOk result (0 < room arena.new Leaf) }
     ensures node_room { OnOk result (0 < room arena.new Node4) }
     ensures nodes_kept { SameNodes arena.old arena.new }
+    ensures no_room { OnErr result (LacksRoom arena.old) }
 {
     arena.reserve(NodeType::Leaf, 1)?;
     arena.reserve(NodeType::Node4, 1)
@@ -215,6 +219,7 @@ fn insert_child<K: AsBytes, V, const PREFIX_LEN: usize>(
     ensures entered { OnOk result (IsEntered K.text arena.old arena.new key value) }
     ensures entry_back { IfErr result (λ entry. entry ≡ (key, value)) }
     ensures nodes_kept { OnErr result (SameNodes arena.old arena.new) }
+    ensures no_room { OnErr result (LacksRoom arena.old) }
 {
     no_text_begins_another::<OpaqueNodePtr<K, V, PREFIX_LEN>>();
     texts_ascend::<OpaqueNodePtr<K, V, PREFIX_LEN>>();
@@ -257,6 +262,7 @@ fn insert_fork<K: AsBytes, V, const PREFIX_LEN: usize>(
     ensures entered { OnOk result (IsEntered K.text arena.old arena.new key value) }
     ensures entry_back { IfErr result (λ entry. entry ≡ (key, value)) }
     ensures nodes_kept { OnErr result (SameNodes arena.old arena.new) }
+    ensures no_room { OnErr result (LacksRoom arena.old) }
 {
     no_text_begins_another::<OpaqueNodePtr<K, V, PREFIX_LEN>>();
     texts_ascend::<OpaqueNodePtr<K, V, PREFIX_LEN>>();
@@ -316,6 +322,10 @@ pub(crate) fn insert_entry<K: AsBytes, V, const PREFIX_LEN: usize>(
     ensures entry_back { IfErr result (λ fault. (fault.key ≡ key) × (fault.value ≡ value)) }
     ensures same_entries { OnErr result (SameEntries K.text arena.old arena.new) }
     ensures nodes_kept { OnErr result (SameNodes arena.old arena.new) }
+    ensures untouched { IfErr result
+        (λ fault. fault.refusal ≢ OutOfMemory → arena.new ≡ arena.old) }
+    ensures no_room { IfErr result
+        (λ fault. fault.refusal ≡ OutOfMemory → LacksRoom arena.old) }
     ensures takes_no_memory { entry_at K.text arena.old (K.text key) ≢ None →
         SameRoom arena.old arena.new }
 {

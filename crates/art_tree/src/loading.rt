@@ -4,8 +4,9 @@ ghost use Rattle.art_header.specs.declared.node_type.NodeType.TheVariants as Nod
 ghost use Rattle.art_nodes.specs.declared.pointers.OpaqueNodePtr.{OpaqueNodePtr as Pointer};
 ghost use Rattle.art_arena.specs.Arena.{room, SameNodes};
 ghost use Rattle.art_arena.specs.Trees.{Tree};
-ghost use Rattle.art_tree.specs.Plan.{AreLoadable, IsPlanOf, needed, texts_of};
-ghost use Rattle.art_tree.specs.Refusals.{HaveNoFault, IsDue};
+ghost use Rattle.art_tree.specs.Plan.{AreLoadable, IsPlanOf, needed};
+ghost use Rattle.art_tree.specs.Refusals.{HaveNoFault, IsDue, texts_of};
+ghost use Rattle.art_tree.specs.declared.loading.check.LoadRefusal.TheVariants.{OutOfMemory};
 ghost use Rattle.art_tree.specs.Loading.{IsLoaded};
 
 mod check;
@@ -45,8 +46,8 @@ struct Prepared<K, V, const PREFIX_LEN: usize> {
 ///
 /// No entries at all, and a key of 2^32 bytes or more, are refused too. Refused entries come back as
 /// they were, with every node as it was. The lowest entry at fault decides, and at one entry the
-/// fault that [`LoadRefusal`] lists first. Want of memory is answered only where the entries have no
-/// fault, and before any of them is moved.
+/// fault that [`LoadRefusal`] lists first; then no memory is taken for the arena. Want of memory is
+/// answered only where the entries have no fault, and before any of them is moved.
 ///
 /// Takes time linear in the bytes of all keys together. The allocator is for working memory, which is
 /// given back before the answer; the nodes take memory of the arena's own.
@@ -64,6 +65,8 @@ pub fn load<K: AsBytes, V, const PREFIX_LEN: usize>(
         (λ fault. IsDue (texts_of K.text entries.items) fault.refusal) }
     ensures entries_back { IfErr result (λ fault. fault.entries ≡ entries) }
     ensures nodes_kept { OnErr result (SameNodes arena.old arena.new) }
+    ensures untouched { IfErr result
+        (λ fault. fault.refusal ≢ OutOfMemory → arena.new ≡ arena.old) }
 {
     if let Some(refusal) = refusal_of(&entries) {
         return Err(LoadFault { refusal, entries });

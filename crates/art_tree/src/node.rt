@@ -8,10 +8,8 @@ ghost use Rattle.art_nodes.specs.Inner.{Inner, HasRoomFor, node_with_child};
 ghost use Rattle.art_nodes.specs.Pointers.{node_kind, slab_key, opaque_pointer};
 ghost use Rattle.art_arena.specs.Arena.{held, HeldInner, Nothing, room, Changes, SameRoom};
 ghost use Rattle.art_arena.specs.Links.{HoldsLeaf, text_at};
-ghost use Rattle.art_tree.specs.Cuts.{FreesOne};
-ghost use Rattle.art_tree.specs.Edits.{IsReplaced};
 ghost use Rattle.art_tree.specs.Hanging.{CanHang, IsHung};
-ghost use Rattle.art_tree.specs.Raising.{node_of, IsPlaced};
+ghost use Rattle.art_tree.specs.Nodes.{node_of, IsPlaced, IsReplaced, FreesOne};
 
 use art_arena::{ArenaInnerNode, ArenaNode, NodeArena};
 use art_bytes::AsBytes;
@@ -32,7 +30,7 @@ pub(crate) fn num_children<K, V, const PREFIX_LEN: usize>(
     arena.header(pointer).unwrap().num_children()
 }
 
-/// Writes the child under the byte of the inner node at the pointer.
+/// Writes the child under the byte of the inner node at the pointer, which has to have room for it.
 pub(crate) fn write_child<K, V, const PREFIX_LEN: usize>(
     arena: &mut NodeArena<K, V, PREFIX_LEN>,
     pointer: OpaqueNodePtr<K, V, PREFIX_LEN>,
@@ -97,7 +95,8 @@ fn inner_node<K, V, const PREFIX_LEN: usize, N: InnerNodeCommon<K, V, PREFIX_LEN
     node
 }
 
-/// Places the inner node of one type whose prefix the leaf's text has from `start` to `end`.
+/// Places an inner node of one type, with these children and the prefix that the leaf's text has from
+/// `start` to `end`. There has to be room for it.
 pub(crate) fn place_as<
     K: AsBytes,
     V,

@@ -8,26 +8,68 @@ ghost use Rattle.art_arena.specs.Arena.{held, HeldInner, HeldLeaf, Nothing, Same
 ghost use Rattle.art_arena.specs.Links.{Spells};
 ghost use Rattle.art_arena.specs.Trees.{Leaf as LeafTree};
 ghost use Rattle.art_tree.specs.Art.{IsAlone, IsArt};
-ghost use Rattle.art_tree.specs.Cuts.{FreesOne};
-ghost use Rattle.art_tree.specs.Dictionary.{entry_at};
-ghost use Rattle.art_tree.specs.Dropping.{HangsUnder};
+ghost use Rattle.art_tree.specs.Nodes.{FreesOne};
+ghost use Rattle.art_tree.specs.Dictionary.{entry_at, SameEntries};
+ghost use Rattle.art_tree.specs.Dropping.{IsLeafSpot};
 ghost use Rattle.art_tree.specs.Edits.{StaysAt};
-ghost use Rattle.art_tree.specs.Inserting.{SameEntries};
-ghost use Rattle.art_tree.specs.Removing.{FreesOneEach, IsLeft, IsRemoved, NeedsSmallerNode};
-ghost use Rattle.art_tree.specs.Search.{leaf_pointer};
+ghost use Rattle.art_tree.specs.Removing.{IsLeft, IsRemoved, NeedsSmallerNode};
+ghost use Rattle.art_tree.specs.Room.{FreesOneEach, LacksRoom};
+ghost use Rattle.art_tree.specs.Search.{IsPathTo, leaf_pointer};
+ghost use Rattle.art_tree.specs.declared.path.TreePath.TheVariants.{Root};
 
 mod node;
 
 use crate::find::find_leaf;
-use crate::laws::{each_pointer_is_at_one_place, no_text_begins_another};
+use crate::laws::{
+    each_leaf_of_a_list_is_knit, each_pointer_is_at_one_place, no_text_begins_another,
+};
 use crate::node::{give_up, hang, num_children};
 use crate::path::TreePath;
 use crate::remove::node::{join_prefix, other_child, reserve_shrink, take_child};
-use art_arena::laws::each_leaf_of_a_list_is_knit;
 use art_arena::{ArenaReader, LeafLinks, NodeArena};
 use art_bytes::AsBytes;
 use art_nodes::{LeafNode, NodePtr, OpaqueNodePtr};
 use std::alloc::AllocError;
+
+// The inner node that a leaf hangs in, with the leaf's byte, and the node that this one hangs in, with
+// its byte, if it is not the root.
+#[derive_where(Clone, Copy)]
+struct LeafSpot<K, V, const PREFIX_LEN: usize> {
+    parent: OpaqueNodePtr<K, V, PREFIX_LEN>,
+    byte: u8,
+    above: Option<(OpaqueNodePtr<K, V, PREFIX_LEN>, u8)>,
+}
+
+// Where the leaf at the end of a path hangs, or None where the leaf is the root.
+fn leaf_spot<K, V, const PREFIX_LEN: usize>(
+    path: TreePath<K, V, PREFIX_LEN>,
+) -> Option<LeafSpot<K, V, PREFIX_LEN>>
+    ensures root { IfNone result (path ≡ Root) }
+    ensures spot { IfSome result (λ spot. (tree leaf : _) → IsPathTo tree leaf path →
+        IsLeafSpot tree leaf spot) }
+{
+    match path {
+        TreePath::Root => None,
+        TreePath::ChildOfRoot {
+            parent,
+            child_key_byte,
+        } => Some(LeafSpot {
+            parent,
+            byte: child_key_byte,
+            above: None,
+        }),
+        TreePath::Normal {
+            grandparent,
+            parent_key_byte,
+            parent,
+            child_key_byte,
+        } => Some(LeafSpot {
+            parent,
+            byte: child_key_byte,
+            above: Some((grandparent, parent_key_byte)),
+        }),
+    }
+}
 
 // Takes a leaf out of its list and out of the arena, and answers its entry.
 fn take_leaf<K: AsBytes, V, const PREFIX_LEN: usize>(
@@ -71,32 +113,31 @@ fn remove_root<K: AsBytes, V, const PREFIX_LEN: usize>(
 fn remove_from_many<K: AsBytes, V, const PREFIX_LEN: usize>(
     arena: &mut NodeArena<K, V, PREFIX_LEN>,
     root: OpaqueNodePtr<K, V, PREFIX_LEN>,
-    above: Option<(OpaqueNodePtr<K, V, PREFIX_LEN>, u8)>,
-    parent: OpaqueNodePtr<K, V, PREFIX_LEN>,
-    byte: u8,
+    spot: LeafSpot<K, V, PREFIX_LEN>,
     leaf: NodePtr<PREFIX_LEN, LeafNode<K, V, PREFIX_LEN>>,
 ) -> Result<(OpaqueNodePtr<K, V, PREFIX_LEN>, (K, V)), AllocError>
     requires place { (tree : _) × IsAlone K.text arena.old root tree ×
-        HangsUnder tree (leaf_pointer leaf) parent byte above }
-    requires many { (node : Inner _) → held arena.old parent ≡ HeldInner node →
+        IsLeafSpot tree (leaf_pointer leaf) spot }
+    requires many { (node : Inner _) → held arena.old spot.parent ≡ HeldInner node →
         length node.children ≢ 2 }
     ensures removed { (tree : _) → IsAlone K.text arena.old root tree →
-        (hangs : HangsUnder tree (leaf_pointer leaf) parent byte above) →
+        (hangs : IsLeafSpot tree (leaf_pointer leaf) spot) →
         IfOk result (λ (root, entry). IsRemoved K.text arena.old arena.new hangs.text root entry) }
     ensures refused { (tree : _) → IsAlone K.text arena.old root tree →
-        (hangs : HangsUnder tree (leaf_pointer leaf) parent byte above) →
+        (hangs : IsLeafSpot tree (leaf_pointer leaf) spot) →
         OnErr result (NeedsSmallerNode K.text arena.old hangs.text) }
     ensures nodes_kept { OnErr result (SameNodes arena.old arena.new) }
     ensures takes_no_memory { (tree : _) → IsAlone K.text arena.old root tree →
-        (hangs : HangsUnder tree (leaf_pointer leaf) parent byte above) →
+        (hangs : IsLeafSpot tree (leaf_pointer leaf) spot) →
         (¬ NeedsSmallerNode K.text arena.old hangs.text) → FreesOneEach arena.old arena.new }
+    ensures no_room { OnErr result (LacksRoom arena.old) }
 {
     no_text_begins_another::<OpaqueNodePtr<K, V, PREFIX_LEN>>();
     each_pointer_is_at_one_place::<K, V, PREFIX_LEN>();
-    reserve_shrink(arena, parent)?;
+    reserve_shrink(arena, spot.parent)?;
     let entry = take_leaf(arena, leaf);
-    let node = take_child(arena, parent, byte);
-    Ok((hang(arena, root, above, node), entry))
+    let node = take_child(arena, spot.parent, spot.byte);
+    Ok((hang(arena, root, spot.above, node), entry))
 }
 
 // Takes a leaf from a node of two children, whose other child takes the node's place. Answers the root
@@ -104,55 +145,52 @@ fn remove_from_many<K: AsBytes, V, const PREFIX_LEN: usize>(
 fn remove_from_two<K: AsBytes, V, const PREFIX_LEN: usize>(
     arena: &mut NodeArena<K, V, PREFIX_LEN>,
     root: OpaqueNodePtr<K, V, PREFIX_LEN>,
-    above: Option<(OpaqueNodePtr<K, V, PREFIX_LEN>, u8)>,
-    parent: OpaqueNodePtr<K, V, PREFIX_LEN>,
-    byte: u8,
+    spot: LeafSpot<K, V, PREFIX_LEN>,
     leaf: NodePtr<PREFIX_LEN, LeafNode<K, V, PREFIX_LEN>>,
 ) -> (OpaqueNodePtr<K, V, PREFIX_LEN>, (K, V))
     requires place { (tree : _) × IsAlone K.text arena.old root tree ×
-        HangsUnder tree (leaf_pointer leaf) parent byte above }
-    requires two { (node : Inner _) → held arena.old parent ≡ HeldInner node →
+        IsLeafSpot tree (leaf_pointer leaf) spot }
+    requires two { (node : Inner _) → held arena.old spot.parent ≡ HeldInner node →
         length node.children ≡ 2 }
     ensures removed { (tree : _) → IsAlone K.text arena.old root tree →
-        (hangs : HangsUnder tree (leaf_pointer leaf) parent byte above) →
+        (hangs : IsLeafSpot tree (leaf_pointer leaf) spot) →
         IsRemoved K.text arena.old arena.new hangs.text result.0 result.1 }
     ensures takes_no_memory { FreesOneEach arena.old arena.new }
 {
     no_text_begins_another::<OpaqueNodePtr<K, V, PREFIX_LEN>>();
     each_pointer_is_at_one_place::<K, V, PREFIX_LEN>();
     let entry = take_leaf(arena, leaf);
-    let (other_byte, child) = other_child(arena, parent, byte);
-    join_prefix(arena, parent, other_byte, child);
-    give_up(arena, parent);
-    (hang(arena, root, above, child), entry)
+    let (other_byte, child) = other_child(arena, spot.parent, spot.byte);
+    join_prefix(arena, spot.parent, other_byte, child);
+    give_up(arena, spot.parent);
+    (hang(arena, root, spot.above, child), entry)
 }
 
 // Takes a leaf from the inner node that it hangs in. Answers the root and the entry.
 fn remove_from<K: AsBytes, V, const PREFIX_LEN: usize>(
     arena: &mut NodeArena<K, V, PREFIX_LEN>,
     root: OpaqueNodePtr<K, V, PREFIX_LEN>,
-    above: Option<(OpaqueNodePtr<K, V, PREFIX_LEN>, u8)>,
-    parent: OpaqueNodePtr<K, V, PREFIX_LEN>,
-    byte: u8,
+    spot: LeafSpot<K, V, PREFIX_LEN>,
     leaf: NodePtr<PREFIX_LEN, LeafNode<K, V, PREFIX_LEN>>,
 ) -> Result<(OpaqueNodePtr<K, V, PREFIX_LEN>, (K, V)), AllocError>
     requires { (tree : _) × IsAlone K.text arena.old root tree ×
-        HangsUnder tree (leaf_pointer leaf) parent byte above }
+        IsLeafSpot tree (leaf_pointer leaf) spot }
     ensures removed { (tree : _) → IsAlone K.text arena.old root tree →
-        (hangs : HangsUnder tree (leaf_pointer leaf) parent byte above) →
+        (hangs : IsLeafSpot tree (leaf_pointer leaf) spot) →
         IfOk result (λ (root, entry). IsRemoved K.text arena.old arena.new hangs.text root entry) }
     ensures refused { (tree : _) → IsAlone K.text arena.old root tree →
-        (hangs : HangsUnder tree (leaf_pointer leaf) parent byte above) →
+        (hangs : IsLeafSpot tree (leaf_pointer leaf) spot) →
         OnErr result (NeedsSmallerNode K.text arena.old hangs.text) }
     ensures nodes_kept { OnErr result (SameNodes arena.old arena.new) }
     ensures takes_no_memory { (tree : _) → IsAlone K.text arena.old root tree →
-        (hangs : HangsUnder tree (leaf_pointer leaf) parent byte above) →
+        (hangs : IsLeafSpot tree (leaf_pointer leaf) spot) →
         (¬ NeedsSmallerNode K.text arena.old hangs.text) → FreesOneEach arena.old arena.new }
+    ensures no_room { OnErr result (LacksRoom arena.old) }
 {
-    if num_children(arena, parent) == 2 {
-        Ok(remove_from_two(arena, root, above, parent, byte, leaf))
+    if num_children(arena, spot.parent) == 2 {
+        Ok(remove_from_two(arena, root, spot, leaf))
     } else {
-        remove_from_many(arena, root, above, parent, byte, leaf)
+        remove_from_many(arena, root, spot, leaf)
     }
 }
 
@@ -175,27 +213,16 @@ pub(crate) fn remove_entry<K: AsBytes, V, const PREFIX_LEN: usize>(
     ensures nodes_kept { OnErr result (SameNodes arena.old arena.new) }
     ensures takes_no_memory { (¬ NeedsSmallerNode K.text arena.old key.now) →
         FreesOneEach arena.old arena.new }
+    ensures no_room { OnErr result (LacksRoom arena.old) }
 {
     no_text_begins_another::<OpaqueNodePtr<K, V, PREFIX_LEN>>();
     let mut reader = ArenaReader::with_budget(arena, key.len() + 1);
     let Some((leaf, path)) = find_leaf(&mut reader, root, key) else {
         return Ok(None);
     };
-    let (above, parent, byte) = match path {
-        TreePath::Root => {
-            return Ok(Some((None, remove_root(arena, leaf))));
-        }
-        TreePath::ChildOfRoot {
-            parent,
-            child_key_byte,
-        } => (None, parent, child_key_byte),
-        TreePath::Normal {
-            grandparent,
-            parent_key_byte,
-            parent,
-            child_key_byte,
-        } => (Some((grandparent, parent_key_byte)), parent, child_key_byte),
+    let Some(spot) = leaf_spot(path) else {
+        return Ok(Some((None, remove_root(arena, leaf))));
     };
-    let (root, entry) = remove_from(arena, root, above, parent, byte, leaf)?;
+    let (root, entry) = remove_from(arena, root, spot, leaf)?;
     Ok(Some((Some(root), entry)))
 }

@@ -7,8 +7,7 @@ ghost use Rattle.art_arena.specs.Arena.{room};
 ghost use Rattle.art_tree.specs.Art.{IsArt};
 ghost use Rattle.art_tree.specs.Dictionary.{entry_at, IsEntry, HasEntry, HasKeys, IsEmpty};
 ghost use Rattle.art_tree.specs.Ends.{IsWithin};
-ghost use Rattle.art_tree.specs.Plan.{texts_of};
-ghost use Rattle.art_tree.specs.Refusals.{HaveNoFault, IsDue};
+ghost use Rattle.art_tree.specs.Refusals.{texts_of, HaveNoFault, IsDue};
 
 mod changes;
 

@@ -7,7 +7,7 @@ ghost use Rattle.art_arena.specs.Links.{Spells, text_at};
 ghost use Rattle.art_tree.specs.Edits.{HasGap, HoldsEntry, IsBeside, LiesBeside, StaysAt};
 ghost use Rattle.art_tree.specs.Search.{leaf_pointer};
 
-use art_arena::laws::each_leaf_of_a_list_is_knit;
+use crate::laws::each_leaf_of_a_list_is_knit;
 use art_arena::{End, LeafLinks, NodeArena};
 use art_bytes::AsBytes;
 use art_nodes::{LeafNode, NodePtr};

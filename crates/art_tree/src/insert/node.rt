@@ -1,5 +1,5 @@
 //! What an insert does to inner nodes.
-ghost use Rattle.std.specs.Prelude.{◌≡◌, ◌≢◌, ◌↔◌, ◌<◌, ◌≤◌, ◌+◌, ◌-◌, ◌^◌, ◌++◌, ℕ, List, length, take, drop, None, OnOk, IsTrue};
+ghost use Rattle.std.specs.Prelude.{◌≡◌, ◌≢◌, ◌↔◌, ◌<◌, ◌≤◌, ◌+◌, ◌-◌, ◌^◌, ◌++◌, ℕ, List, length, take, drop, None, OnOk, OnErr, IsTrue};
 ghost use Rattle.art_header.specs.Header.{StandsFor};
 ghost use Rattle.art_header.specs.NodeType.{most_children};
 ghost use Rattle.art_header.specs.declared.node_type.NodeType.TheVariants.{Leaf, Node4};
@@ -8,8 +8,9 @@ ghost use Rattle.art_nodes.specs.Inner.{Inner, header_of, node_with_child};
 ghost use Rattle.art_nodes.specs.Pointers.{node_kind, slab_key};
 ghost use Rattle.art_arena.specs.Arena.{held, HeldInner, Nothing, room, Changes, SameNodes, SameRoom};
 ghost use Rattle.art_arena.specs.Links.{HoldsLeaf, text_at};
-ghost use Rattle.art_tree.specs.Edits.{HasOneMore, HasRoomToGrow, IsMoved, node_with_prefix};
-ghost use Rattle.art_tree.specs.Raising.{node_of, two_children, IsPlaced};
+ghost use Rattle.art_tree.specs.Edits.{HasOneMore, HasRoomToGrow, IsMoved, two_children};
+ghost use Rattle.art_tree.specs.Nodes.{node_of, IsPlaced, node_with_prefix};
+ghost use Rattle.art_tree.specs.Room.{LacksRoom};
 ghost use Rattle.art_tree.specs.Search.{leaf_pointer};
 
 use crate::insert::place::Fork;
@@ -46,6 +47,7 @@ pub(crate) fn reserve_growth<K, V, const PREFIX_LEN: usize>(
     ensures room { OnOk result (HasRoomToGrow arena.new pointer) }
     ensures nodes_kept { SameNodes arena.old arena.new }
     ensures leaf_room { room arena.old Leaf ≤ room arena.new Leaf }
+    ensures no_room { OnErr result (LacksRoom arena.old) }
 {
     if !is_full(arena, pointer) {
         return Ok(());

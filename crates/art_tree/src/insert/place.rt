@@ -4,7 +4,7 @@ ghost use Rattle.art_arena.specs.Arena.{held, HeldInner};
 ghost use Rattle.art_tree.specs.Places.{Belongs, IsSpotIn};
 ghost use Rattle.art_tree.specs.Search.{HasTree, EachTree, leaf_pointer};
 
-use art_arena::laws::path_and_prefix_are_shared;
+use crate::laws::path_and_prefix_are_shared;
 use art_arena::{AnyRef, FullPrefix, NodeArena};
 use art_bytes::AsBytes;
 use art_nodes::{InnerNodeCommon, LeafNode, NodePtr, OpaqueNodePtr, common_front_len};
@@ -45,7 +45,7 @@ pub(crate) enum Place<K, V, const PREFIX_LEN: usize> {
 }
 
 // The spot of the child of this inner node that the key goes on to, or else where the key belongs.
-fn step<K: AsBytes, V, const PREFIX_LEN: usize, N: InnerNodeCommon<K, V, PREFIX_LEN>>(
+fn next_spot_in<K: AsBytes, V, const PREFIX_LEN: usize, N: InnerNodeCommon<K, V, PREFIX_LEN>>(
     arena: &NodeArena<K, V, PREFIX_LEN>,
     node: &N,
     spot: Spot<K, V, PREFIX_LEN>,
@@ -105,10 +105,10 @@ fn next_spot<K: AsBytes, V, const PREFIX_LEN: usize>(
         IfErr result (Belongs tree key.now) }
 {
     match arena.node_ref(spot.node) {
-        AnyRef::Node4(node) => step(arena, node, spot, key),
-        AnyRef::Node16(node) => step(arena, node, spot, key),
-        AnyRef::Node48(node) => step(arena, node, spot, key),
-        AnyRef::Node256(node) => step(arena, node, spot, key),
+        AnyRef::Node4(node) => next_spot_in(arena, node, spot, key),
+        AnyRef::Node16(node) => next_spot_in(arena, node, spot, key),
+        AnyRef::Node48(node) => next_spot_in(arena, node, spot, key),
+        AnyRef::Node256(node) => next_spot_in(arena, node, spot, key),
         AnyRef::LeafNode(_) => Err(place_at_leaf(arena, spot.node.cast().unwrap(), spot, key)),
     }
 }

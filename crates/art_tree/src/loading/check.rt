@@ -1,7 +1,6 @@
 //! What refuses entries.
 ghost use Rattle.std.specs.Prelude.{◌≡◌, ◌<◌, length, All, IfSome, IfNone, get_or};
-ghost use Rattle.art_tree.specs.Plan.{texts_of};
-ghost use Rattle.art_tree.specs.Refusals.{HaveNoFault, IsRefusal, fault_at};
+ghost use Rattle.art_tree.specs.Refusals.{texts_of, HaveNoFault, IsRefusal, fault_at};
 
 use art_bytes::AsBytes;
 use std::cmp::Ordering;

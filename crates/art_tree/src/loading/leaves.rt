@@ -2,10 +2,11 @@
 ghost use Rattle.std.specs.Prelude.{◌≡◌, ◌≤◌, [], vec_len, vec_capacity};
 ghost use Rattle.art_header.specs.declared.node_type.NodeType.TheVariants.{Leaf};
 ghost use Rattle.art_arena.specs.Arena.{room, SameOtherRoom};
-ghost use Rattle.art_tree.specs.Plan.{AreLoadable, texts_of};
+ghost use Rattle.art_tree.specs.Plan.{AreLoadable};
+ghost use Rattle.art_tree.specs.Refusals.{texts_of};
 ghost use Rattle.art_tree.specs.Loading.{AreLinked};
 
-use art_arena::laws::each_leaf_of_a_list_is_knit;
+use crate::laws::each_leaf_of_a_list_is_knit;
 use art_arena::{LeafLinks, NodeArena};
 use art_bytes::AsBytes;
 use art_nodes::{LeafNode, NodePtr};

@@ -8,20 +8,23 @@ ghost use Rattle.art_nodes.specs.declared.pointers.OpaqueNodePtr.{OpaqueNodePtr 
 ghost use Rattle.art_arena.specs.Arena.{room};
 ghost use Rattle.art_arena.specs.Links.{HoldsLeaf, text_at};
 ghost use Rattle.art_arena.specs.Trees.{Tree};
-ghost use Rattle.art_tree.specs.Plan as Plan;
 ghost use Rattle.art_tree.specs.Plan.{IsPlanOf, needed};
-ghost use Rattle.art_tree.specs.Raising.{node_of, IsPlaced, IsRaised, HoldLeaves, leaf_texts};
+ghost use Rattle.art_tree.specs.Refusals.{text_of_entry};
+ghost use Rattle.art_tree.specs.Raising.{IsRaised, HoldLeaves, leaf_texts};
+ghost use Rattle.art_tree.specs.Nodes.{node_of, IsPlaced};
 
+use crate::laws::{allocating_leaves_trees_standing, an_allocated_node_makes_a_tree};
 use crate::loading::steps::Step;
 use crate::node::place_as;
 use art_arena::NodeArena;
-use art_arena::laws::{allocating_leaves_trees_standing, an_allocated_node_makes_a_tree};
 use art_bytes::AsBytes;
 use art_nodes::{
     InnerNode4, InnerNode16, InnerNode48, InnerNodeDirect, LeafNode, NodePtr, OpaqueNodePtr,
 };
 
-// Places the inner node of the smallest kind. Never inlined, so that nodes are no locals of `raise`.
+// Places an inner node of the smallest kind for these children, with the prefix that the leaf's text has
+// from `start` to `end`. There has to be room for it. Never inlined, so that nodes are no locals of
+// `raise`.
 #[inline(never)]
 fn place<K: AsBytes, V, const PREFIX_LEN: usize>(
     arena: &mut NodeArena<K, V, PREFIX_LEN>,
@@ -59,8 +62,8 @@ fn place<K: AsBytes, V, const PREFIX_LEN: usize>(
     }
 }
 
-/// Makes the inner nodes of a plan over these leaves, and answers the root. `pending` is working
-/// memory, with room for as many trees as there are leaves.
+/// Makes the inner nodes of a plan over these leaves, for which there has to be room, and answers the
+/// root. `pending` is working memory, with room for as many trees as there are leaves.
 pub(crate) fn raise<K: AsBytes, V, const PREFIX_LEN: usize>(
     arena: &mut NodeArena<K, V, PREFIX_LEN>,
     leaves: &[NodePtr<PREFIX_LEN, LeafNode<K, V, PREFIX_LEN>>],
@@ -69,7 +72,7 @@ pub(crate) fn raise<K: AsBytes, V, const PREFIX_LEN: usize>(
 ) -> OpaqueNodePtr<K, V, PREFIX_LEN>
     requires held { HoldLeaves arena.old leaves.now }
     requires short { (i : ℕ) →
-        length (Plan.text_at (leaf_texts K.text arena.old leaves.now) i) < 2 ^ 32 }
+        length (text_of_entry (leaf_texts K.text arena.old leaves.now) i) < 2 ^ 32 }
     requires plan { IsPlanOf (leaf_texts K.text arena.old leaves.now) steps.now }
     requires room { (kind : _) → kind ≢ NodeType.Leaf →
         needed kind steps.now ≤ room arena.old kind }

@@ -1,6 +1,7 @@
 //! The plan of a tree: the steps that make it, each node after its children.
 ghost use Rattle.std.specs.Prelude.{◌≡◌, ◌+◌, ◌<◌, ◌≤◌, List, ◌∷◌, length, IfOk};
-ghost use Rattle.art_tree.specs.Plan.{IsFork, Forks, AreLoadable, IsPlanOf, byte_before, needed, texts_of};
+ghost use Rattle.art_tree.specs.Plan.{IsFork, Forks, AreLoadable, IsPlanOf, byte_before, needed};
+ghost use Rattle.art_tree.specs.Refusals.{texts_of};
 
 use art_bytes::AsBytes;
 use art_nodes::{NodeType, common_front_len};
@@ -31,7 +32,7 @@ struct Open {
     children: usize,
 }
 
-// How many bytes the texts share. The first one's next byte is less.
+// How many bytes the texts share. The first one's next byte has to be less.
 fn fork(text: &[u8], next: &[u8]) -> usize
     requires { Forks text.now next.now }
     ensures { IsFork text.now next.now result }
@@ -106,14 +107,7 @@ fn nodes_made(step: Step, kind: NodeType) -> usize
 {
     match step {
         Step::Leaf { .. } => 0,
-        Step::Inner { children, .. } => {
-            let range = kind.capacity_range();
-            if *range.start() <= children && children <= *range.end() {
-                1
-            } else {
-                0
-            }
-        }
+        Step::Inner { children, .. } => usize::from(kind.capacity_range().contains(&children)),
     }
 }
 

@@ -8,7 +8,8 @@ ghost use Rattle.art_nodes.specs.Inner.{Inner, header_of, node_without_child};
 ghost use Rattle.art_nodes.specs.Pointers.{node_kind};
 ghost use Rattle.art_arena.specs.Arena.{held, HeldInner, Nothing, room, Changes, SameNodes, SameRoom};
 ghost use Rattle.art_tree.specs.Cuts.{HasOneLess, HasRoomToShrink};
-ghost use Rattle.art_tree.specs.Edits.{IsReplaced, node_with_prefix};
+ghost use Rattle.art_tree.specs.Nodes.{IsReplaced, node_with_prefix};
+ghost use Rattle.art_tree.specs.Room.{LacksRoom};
 
 use crate::node::{num_children, replace_node};
 use art_arena::{AnyRef, NodeArena};
@@ -29,7 +30,7 @@ fn has_fewest<K, V, const PREFIX_LEN: usize>(
 }
 
 // The least byte of the node that is not this one, with its child.
-fn least_other<K, V, const PREFIX_LEN: usize, N: InnerNodeCommon<K, V, PREFIX_LEN>>(
+fn other_child_in<K, V, const PREFIX_LEN: usize, N: InnerNodeCommon<K, V, PREFIX_LEN>>(
     node: &N,
     byte: u8,
 ) -> (u8, OpaqueNodePtr<K, V, PREFIX_LEN>)
@@ -58,10 +59,10 @@ pub(crate) fn other_child<K, V, const PREFIX_LEN: usize>(
         first_pair (without_child node.children byte) ≡ Some result }
 {
     match arena.node_ref(pointer) {
-        AnyRef::Node4(node) => least_other(node, byte),
-        AnyRef::Node16(node) => least_other(node, byte),
-        AnyRef::Node48(node) => least_other(node, byte),
-        AnyRef::Node256(node) => least_other(node, byte),
+        AnyRef::Node4(node) => other_child_in(node, byte),
+        AnyRef::Node16(node) => other_child_in(node, byte),
+        AnyRef::Node48(node) => other_child_in(node, byte),
+        AnyRef::Node256(node) => other_child_in(node, byte),
         AnyRef::LeafNode(_) => unreachable!(),
     }
 }
@@ -80,6 +81,7 @@ pub(crate) fn reserve_shrink<K, V, const PREFIX_LEN: usize>(
     ensures takes_no_memory { (node : Inner _) → held arena.old pointer ≡ HeldInner node →
         length node.children ≢ least_children (node_kind pointer) →
         SameRoom arena.old arena.new }
+    ensures no_room { OnErr result (LacksRoom arena.old) }
 {
     let shrunk = match pointer.node_type() {
         NodeType::Node16 => NodeType::Node4,

@@ -1,9 +1,11 @@
 //! The calls that change a tree.
-ghost use Rattle.std.specs.Prelude.{◌≡◌, ◌≢◌, ℕ, List, None, IfNone, IfOk, IfErr, OnOk, OnErr};
+ghost use Rattle.std.specs.Prelude.{◌≡◌, ◌≢◌, None, IfNone, IfOk, IfErr, OnOk, OnErr};
 ghost use Rattle.art_arena.specs.Arena.{SameNodes, SameRoom};
-ghost use Rattle.art_tree.specs.Dictionary.{entry_at, HasKeys, IsEntry};
-ghost use Rattle.art_tree.specs.Inserting.{IsRefused, MayEnter, SameEntries};
-ghost use Rattle.art_tree.specs.Removing.{FreesOneEach, NeedsSmallerNode};
+ghost use Rattle.art_tree.specs.Dictionary.{entry_at, HasKeys, IsEntry, SameEntries, SameOtherEntries};
+ghost use Rattle.art_tree.specs.Inserting.{IsRefused, MayEnter};
+ghost use Rattle.art_tree.specs.Removing.{NeedsSmallerNode};
+ghost use Rattle.art_tree.specs.Room.{FreesOneEach, LacksRoom};
+ghost use Rattle.art_tree.specs.declared.insert.InsertRefusal.TheVariants.{OutOfMemory};
 
 use crate::insert::{InsertFault, insert_entry};
 use crate::remove::remove_entry;
@@ -17,7 +19,8 @@ impl<K: AsBytes, V, const PREFIX_LEN: usize> ArtTree<K, V, PREFIX_LEN> {
     ///
     /// Refused, for the first of these that holds: a key of 2^32 bytes or more, a key that is a proper
     /// front of one that is there or the reverse, and want of memory, which is met only where the
-    /// text has no entry. Then key and value come back, and the tree is as before.
+    /// text has no entry and some kind of node has no room. Then key and value come back, and the
+    /// tree is as before. Where the key is at fault, no memory is taken either.
     ///
     /// It goes down to the key's place, and once more to a leaf beside it. A prefix on the way that is
     /// longer than `PREFIX_LEN` is read from the first leaf below it, which is one more way down: so
@@ -26,8 +29,8 @@ impl<K: AsBytes, V, const PREFIX_LEN: usize> ArtTree<K, V, PREFIX_LEN> {
         ensures replaced { IfOk result
             (λ before. before ≡ entry_at K.text self.old.arena (K.text key)) }
         ensures entry { OnOk result (IsEntry K.text self.new.arena (key, value)) }
-        ensures others { OnOk result ((other : List ℕ) → other ≢ K.text key →
-            entry_at K.text self.new.arena other ≡ entry_at K.text self.old.arena other) }
+        ensures others { OnOk result
+            (SameOtherEntries K.text self.old.arena self.new.arena (K.text key)) }
         ensures no_refusal { OnOk result (MayEnter K.text self.old.arena (K.text key)) }
         ensures refusal_due { IfErr result
             (λ fault. IsRefused K.text self.old.arena (K.text key) fault.refusal) }
@@ -35,6 +38,10 @@ impl<K: AsBytes, V, const PREFIX_LEN: usize> ArtTree<K, V, PREFIX_LEN> {
         ensures same_entries { OnErr result (SameEntries K.text self.old.arena self.new.arena) }
         ensures nodes_kept { OnErr result (SameNodes self.old.arena self.new.arena) }
         ensures root_kept { OnErr result (self.new.root ≡ self.old.root) }
+        ensures untouched { IfErr result
+            (λ fault. fault.refusal ≢ OutOfMemory → self.new ≡ self.old) }
+        ensures no_room { IfErr result
+            (λ fault. fault.refusal ≡ OutOfMemory → LacksRoom self.old.arena) }
         ensures takes_no_memory { entry_at K.text self.old.arena (K.text key) ≢ None →
             SameRoom self.old.arena self.new.arena }
         ensures is_key { K.is_key key }
@@ -49,7 +56,8 @@ impl<K: AsBytes, V, const PREFIX_LEN: usize> ArtTree<K, V, PREFIX_LEN> {
     /// nothing changes.
     ///
     /// Memory is asked for only where the entry's leaf hangs in an inner node of 5, 17 or 49 children,
-    /// since a node of a smaller kind takes its place. Where that is refused, the tree is as before.
+    /// since a node of a smaller kind takes its place, and is not refused where there is room for a node
+    /// of each kind. Where it is refused, the tree is as before.
     /// Elsewhere of each kind there is room for one node more at most, the one that was given up.
     ///
     /// It looks for the entry as [`get`](Self::get) does. Then it changes the leaf's neighbours and at
@@ -58,12 +66,13 @@ impl<K: AsBytes, V, const PREFIX_LEN: usize> ArtTree<K, V, PREFIX_LEN> {
         ensures removed { IfOk result (λ entry. entry ≡ entry_at K.text self.old.arena key.now) }
         ensures absent_kept { IfOk result (λ entry. IfNone entry (self.new ≡ self.old)) }
         ensures gone { OnOk result (entry_at K.text self.new.arena key.now ≡ None) }
-        ensures others { OnOk result ((other : List ℕ) → other ≢ key.now →
-            entry_at K.text self.new.arena other ≡ entry_at K.text self.old.arena other) }
+        ensures others { OnOk result
+            (SameOtherEntries K.text self.old.arena self.new.arena key.now) }
         ensures refused { OnErr result (NeedsSmallerNode K.text self.old.arena key.now) }
         ensures same_entries { OnErr result (SameEntries K.text self.old.arena self.new.arena) }
         ensures nodes_kept { OnErr result (SameNodes self.old.arena self.new.arena) }
         ensures root_kept { OnErr result (self.new.root ≡ self.old.root) }
+        ensures no_room { OnErr result (LacksRoom self.old.arena) }
         ensures takes_no_memory { (¬ NeedsSmallerNode K.text self.old.arena key.now) →
             FreesOneEach self.old.arena self.new.arena }
     {

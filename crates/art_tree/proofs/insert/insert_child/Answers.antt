@@ -10,7 +10,7 @@ use Rattle.art_tree.specs.Hanging.{CanHang, HasPlaceAt}
 use Rattle.art_tree.specs.Search.{leaf_pointer}
 use Rattle.art_tree.proofs.AddingChild.{ChildAdded, child-added, child-gap, child-hangs, child-lies, child-reserved, linked-absent, linked-held, linked-room, place-there, there-held, there-inner}
 use Rattle.art_tree.proofs.Adding.{entered-from}
-use Rattle.art_tree.proofs.HangLemmas.{ok-then}
+use Rattle.art_tree.proofs.HangLemmas.{err-then, ok-then}
 use Rattle.art_tree.proofs.NodeLemmas.{leaf-pointer-fits}
 use Rattle.art_tree.proofs.insert.insert_child.Goals as goal
 
@@ -88,4 +88,8 @@ returns g c =
       entered = entered-from text old reserved c.hang.new.arena c.args.key c.args.value c.args.root tree alone (c.no_text_begins_another.ensures [] tree alone.is_tree.sound) kept added.1;
       entry_back = tt;
       nodes_kept = tt;
+      no_room = tt;
     }
+
+pub returns-then-is_err-clause-no_room : goal.returns-then-is_err-clause-no_room
+returns-then-is_err-clause-no_room g c = err-then c.reserve_for_child.result _ c.is_err.ensures.value c.if-is_err.true c.reserve_for_child.ensures.no_room

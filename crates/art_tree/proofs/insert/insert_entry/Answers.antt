@@ -1,4 +1,4 @@
-use Rattle.std.proofs.Common.{◌<◌, ◌^◌, length, Contains, [], sym, ap, subst, arith, ◌≤◌}
+use Rattle.std.proofs.Common.{◌<◌, ◌^◌, length, Contains, [], refl, sym, ap, subst, arith, ◌≤◌}
 use Rattle.art_nodes.specs.Pointers.{slab_key}
 use Rattle.art_arena.specs.Links.{HoldsLeaf}
 use Rattle.art_arena.specs.Trees.{Tree, leaves, texts}
@@ -19,8 +19,8 @@ returns-in_default g c =
     let first = c.insert_first.ensures in
     let nothing = subst (IsArt text old) c.in_default.is c.requires.art in
     let is_new = empty-new text old nothing (text c.args.key) (omega (arith, c.if-as_bytes.false, ap length c.as_bytes.ensures.text)) in
-    let is = answered text old new c.args.key c.args.value c.insert_first.result first.art first.entered first.entry_back first.nodes_kept is_new (λ same. empty-stays text old new same nothing) c.newly_added.result c.newly_added.ensures.added c.newly_added.ensures.refused in
-    record { art = is.art; replaced = is.replaced; entered = is.entered; is_key = c.as_bytes.ensures.key; no_refusal = is.no_refusal; refusal_due = is.refusal_due; entry_back = is.entry_back; same_entries = is.same_entries; nodes_kept = is.nodes_kept; takes_no_memory = λ has. absurd (has is_new.1) }
+    let is = answered text old new c.args.key c.args.value c.insert_first.result first.art first.entered first.entry_back first.nodes_kept first.no_room is_new (λ same. empty-stays text old new same nothing) c.newly_added.result c.newly_added.ensures.added c.newly_added.ensures.refused in
+    record { art = is.art; replaced = is.replaced; entered = is.entered; is_key = c.as_bytes.ensures.key; no_refusal = is.no_refusal; refusal_due = is.refusal_due; entry_back = is.entry_back; same_entries = is.same_entries; nodes_kept = is.nodes_kept; untouched = is.untouched; no_room = is.no_room; takes_no_memory = λ has. absurd (has is_new.1) }
 
 pub replace_entry-requires : goal.replace_entry-requires
 replace_entry-requires g c =
@@ -49,6 +49,8 @@ returns-in-Present g c =
       entry_back = tt;
       same_entries = tt;
       nodes_kept = tt;
+      untouched = tt;
+      no_room = tt;
       takes_no_memory = λ _. c.replace_entry.ensures.takes_no_memory;
     }
 
@@ -60,6 +62,9 @@ returns-in-Clash-clause-refusal_due g c =
     let apart = c.no_text_begins_another.ensures [] art.0 art.1.is_tree.sound in
     let clash = subst (Clashes (texts art.0)) c.as_bytes-2.ensures.text (c.in-Clash.ensures art.0 art.1.is_tree) in
     (omega (arith, c.if-as_bytes.false, ap length c.as_bytes.ensures.text), clash-entry text arena c.in-Some.root art.0 art.1 apart (text c.args.key) clash)
+
+pub returns-in-Clash-clause-no_room : goal.returns-in-Clash-clause-no_room
+returns-in-Clash-clause-no_room g c = λ is. absurd (cc)
 
 pub insert_child-requires : goal.insert_child-requires
 insert_child-requires g c =
@@ -83,8 +88,8 @@ returns-in-Child g c =
     let short : length key < 2 ^ 32 = omega (arith, c.if-as_bytes.false, ap length c.as_bytes.ensures.text) in
     let lacks = subst (λ x. LacksChild art.0 x c.in-Child.spot c.in-Child.byte) c.as_bytes-2.ensures.text (c.in-Child.ensures art.0 art.1.is_tree) in
     let is_new = apart-new text old c.in-Some.root art.0 art.1 key short (child-apart law art.0 art.1.is_tree.sound key short c.in-Child.spot c.in-Child.byte lacks) in
-    let is = answered text old new c.args.key c.args.value c.insert_child.result child.art child.entered child.entry_back child.nodes_kept is_new (λ same. entries-stay text old new same c.in-Some.root art.0 art.1 (law art.0 art.1.is_tree.sound)) c.newly_added-in-Child.result c.newly_added-in-Child.ensures.added c.newly_added-in-Child.ensures.refused in
-    record { art = is.art; replaced = is.replaced; entered = is.entered; is_key = c.as_bytes.ensures.key; no_refusal = is.no_refusal; refusal_due = is.refusal_due; entry_back = is.entry_back; same_entries = is.same_entries; nodes_kept = is.nodes_kept; takes_no_memory = λ has. absurd (has is_new.1) }
+    let is = answered text old new c.args.key c.args.value c.insert_child.result child.art child.entered child.entry_back child.nodes_kept child.no_room is_new (λ same. entries-stay text old new same c.in-Some.root art.0 art.1 (law art.0 art.1.is_tree.sound)) c.newly_added-in-Child.result c.newly_added-in-Child.ensures.added c.newly_added-in-Child.ensures.refused in
+    record { art = is.art; replaced = is.replaced; entered = is.entered; is_key = c.as_bytes.ensures.key; no_refusal = is.no_refusal; refusal_due = is.refusal_due; entry_back = is.entry_back; same_entries = is.same_entries; nodes_kept = is.nodes_kept; untouched = is.untouched; no_room = is.no_room; takes_no_memory = λ has. absurd (has is_new.1) }
 
 pub insert_fork-requires : goal.insert_fork-requires
 insert_fork-requires g c =
@@ -108,8 +113,23 @@ returns-in-Fork g c =
     let short : length key < 2 ^ 32 = omega (arith, c.if-as_bytes.false, ap length c.as_bytes.ensures.text) in
     let parts = subst (λ x. Parts art.0 x c.in-Fork.spot c.in-Fork.fork) c.as_bytes-2.ensures.text (c.in-Fork.ensures art.0 art.1.is_tree) in
     let is_new = apart-new text old c.in-Some.root art.0 art.1 key short (fork-apart law art.0 art.1.is_tree.sound key short c.in-Fork.spot c.in-Fork.fork parts) in
-    let is = answered text old new c.args.key c.args.value c.insert_fork.result fork.art fork.entered fork.entry_back fork.nodes_kept is_new (λ same. entries-stay text old new same c.in-Some.root art.0 art.1 (law art.0 art.1.is_tree.sound)) c.newly_added-in-Fork.result c.newly_added-in-Fork.ensures.added c.newly_added-in-Fork.ensures.refused in
-    record { art = is.art; replaced = is.replaced; entered = is.entered; is_key = c.as_bytes.ensures.key; no_refusal = is.no_refusal; refusal_due = is.refusal_due; entry_back = is.entry_back; same_entries = is.same_entries; nodes_kept = is.nodes_kept; takes_no_memory = λ has. absurd (has is_new.1) }
+    let is = answered text old new c.args.key c.args.value c.insert_fork.result fork.art fork.entered fork.entry_back fork.nodes_kept fork.no_room is_new (λ same. entries-stay text old new same c.in-Some.root art.0 art.1 (law art.0 art.1.is_tree.sound)) c.newly_added-in-Fork.result c.newly_added-in-Fork.ensures.added c.newly_added-in-Fork.ensures.refused in
+    record { art = is.art; replaced = is.replaced; entered = is.entered; is_key = c.as_bytes.ensures.key; no_refusal = is.no_refusal; refusal_due = is.refusal_due; entry_back = is.entry_back; same_entries = is.same_entries; nodes_kept = is.nodes_kept; untouched = is.untouched; no_room = is.no_room; takes_no_memory = λ has. absurd (has is_new.1) }
 
 pub returns-then-as_bytes-clause-refusal_due : goal.returns-then-as_bytes-clause-refusal_due
 returns-then-as_bytes-clause-refusal_due g c = subst (λ text. 2 ^ 32 ≤ length text) c.as_bytes.ensures.text c.if-as_bytes.true
+
+pub returns-then-as_bytes-clause-no_room : goal.returns-then-as_bytes-clause-no_room
+returns-then-as_bytes-clause-no_room g c = λ is. absurd (cc)
+
+pub returns-then-as_bytes-clause-untouched : goal.returns-then-as_bytes-clause-untouched
+returns-then-as_bytes-clause-untouched g c = λ _. refl
+
+pub returns-then-as_bytes-clause-nodes_kept : goal.returns-then-as_bytes-clause-nodes_kept
+returns-then-as_bytes-clause-nodes_kept g c = λ pointer. refl
+
+pub returns-then-as_bytes-clause-same_entries : goal.returns-then-as_bytes-clause-same_entries
+returns-then-as_bytes-clause-same_entries g c = λ x. refl
+
+pub returns-then-as_bytes-clause-takes_no_memory : goal.returns-then-as_bytes-clause-takes_no_memory
+returns-then-as_bytes-clause-takes_no_memory g c = λ has kind. refl

@@ -1,8 +1,10 @@
-use Rattle.std.proofs.Common.{[], sym, subst}
+use Rattle.std.proofs.Common.{[], sym, subst, arith}
+use Rattle.art_header.specs.declared.node_type.NodeType.TheVariants as kinds
 use Rattle.art_arena.specs.Trees.{Leaf}
 use Rattle.art_tree.specs.Art.{IsAlone}
 use Rattle.art_tree.specs.Search.{leaf_pointer}
 use Rattle.art_tree.proofs.InsertLemmas.{first-alone, first-entered}
+use Rattle.art_tree.proofs.RoomLemmas.{none-left}
 use Rattle.art_tree.proofs.insert.insert_first.Goals as goal
 
 pub returns-in-Ok-clause-art : goal.returns-in-Ok-clause-art
@@ -20,3 +22,6 @@ returns-in-Ok-clause-entered g c =
     let leaf = c.with_no_siblings in
     let alone = first-alone text old new c.args.key c.args.value c.requires.empty c.in-Ok.leaf leaf.result c.in-Ok.ensures.added leaf.ensures.key leaf.ensures.value c.requires.short leaf.ensures.previous leaf.ensures.next in
     first-entered text old new c.args.key c.args.value c.requires.empty c.in-Ok.leaf leaf.result c.in-Ok.ensures.added leaf.ensures.key leaf.ensures.value alone (c.no_text_begins_another.ensures [] (Leaf (leaf_pointer c.in-Ok.leaf) (text c.args.key)) alone.is_tree.sound)
+
+pub returns-in-Err-clause-no_room : goal.returns-in-Err-clause-no_room
+returns-in-Err-clause-no_room g c = record { kind = kinds.Leaf; none = none-left c.allocate_node_ptr.result _ (λ some. c.allocate_node_ptr.ensures.succeeds (omega (arith, some))) _ c.in-Err.is }

@@ -11,7 +11,7 @@ use Rattle.art_tree.specs.Hanging.{CanHang}
 use Rattle.art_tree.specs.Search.{leaf_pointer}
 use Rattle.art_tree.proofs.Adding.{entered-from}
 use Rattle.art_tree.proofs.AddingFork.{beside-there, fork-added, fork-hangs, fork-reserved, gap-there, index-within, lies-there, linked-held, new-leaf-held, sibling-held, text-there, tree-there, within-there}
-use Rattle.art_tree.proofs.HangLemmas.{ok-then}
+use Rattle.art_tree.proofs.HangLemmas.{err-then, ok-then}
 use Rattle.art_tree.proofs.NodeLemmas.{leaf-pointer-fits}
 use Rattle.art_tree.proofs.insert.insert_fork.Goals as goal
 
@@ -107,4 +107,8 @@ returns g c =
       entered = entered-from text old reserved c.hang.new.arena c.args.key c.args.value c.args.root tree alone (c.no_text_begins_another.ensures [] tree alone.is_tree.sound) kept added.1;
       entry_back = tt;
       nodes_kept = tt;
+      no_room = tt;
     }
+
+pub returns-then-is_err-clause-no_room : goal.returns-then-is_err-clause-no_room
+returns-then-is_err-clause-no_room g c = err-then c.reserve_for_fork.result _ c.is_err.ensures.value c.if-is_err.true c.reserve_for_fork.ensures.no_room

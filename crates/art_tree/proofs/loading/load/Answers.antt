@@ -1,7 +1,7 @@
 use Rattle.std.proofs.Common.{All, ◌∙◌, refl, sym, subst, arith, rules, lit<}
 use Rattle.std.proofs.lemmas.List.{length-map}
-use Rattle.art_tree.specs.Plan.{IsPlanOf, texts_of}
-use Rattle.art_tree.specs.Refusals.{HaveNoFault}
+use Rattle.art_tree.specs.Plan.{IsPlanOf}
+use Rattle.art_tree.specs.Refusals.{texts_of, HaveNoFault}
 use Rattle.art_tree.proofs.RefusalLemmas.{loadable}
 use Rattle.art_tree.proofs.Loaded.{loaded-same}
 use Rattle.art_tree.proofs.loading.load.Goals as goal

@@ -1,5 +1,6 @@
 use Rattle.std.proofs.Common.{◌<◌, ◌^◌, ℕ, length, ap, sym, subst, arith, lit<}
-use Rattle.art_tree.specs.Plan.{IsPlanOf, needed, text_at, texts_of}
+use Rattle.art_tree.specs.Plan.{IsPlanOf, needed}
+use Rattle.art_tree.specs.Refusals.{text_of_entry, texts_of}
 use Rattle.art_tree.specs.Loading.{AreLinked}
 use Rattle.art_tree.proofs.Linking.{hold-held, hold-texts, hold-count}
 use Rattle.art_tree.proofs.Loaded.{all-short, loaded}
@@ -14,7 +15,7 @@ raise-requires g c =
     let linked = subst (AreLinked c.args.arena.now middle entries) (sym c.deref.ensures.value) c.link_leaves.ensures.linked in
     let texts = hold-texts text middle of entries linked.hold in
     let steps = c.deref-2.ensures.value in
-    let short = subst (λ t. (i : ℕ) → length (text_at t i) < 2 ^ 32) (sym texts) (all-short (texts_of text entries) c.requires.loadable) in
+    let short = subst (λ t. (i : ℕ) → length (text_of_entry t i) < 2 ^ 32) (sym texts) (all-short (texts_of text entries) c.requires.loadable) in
     let plan = subst (λ t. IsPlanOf t c.deref-2.result.now) (sym texts) (subst (IsPlanOf (texts_of text entries)) (sym steps) c.requires.plan) in (
       search,
       (

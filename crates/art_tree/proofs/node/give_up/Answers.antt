@@ -1,6 +1,6 @@
 use Rattle.std.proofs.Common.{sym, ap, subst}
 use Rattle.art_nodes.specs.Pointers.{node_kind}
-use Rattle.art_tree.specs.Cuts.{FreesOne}
+use Rattle.art_tree.specs.Nodes.{FreesOne}
 use Rattle.art_tree.proofs.node.give_up.Goals as goal
 
 pub unreachable-requires : goal.unreachable-requires

@@ -3,16 +3,15 @@ use Rattle.art_arena.specs.Standing.{IsTreeIn}
 use Rattle.art_arena.specs.Trees.{Tree, Leaf, leaves}
 use Rattle.art_tree.specs.Art.{IsAlone}
 use Rattle.art_tree.specs.Dictionary.{entry_at}
-use Rattle.art_tree.specs.Dropping.{HangsUnder}
+use Rattle.art_tree.specs.Dropping.{IsLeafSpot}
 use Rattle.art_tree.specs.Removing.{IsLeft, NeedsSmallerNode}
 use Rattle.art_tree.specs.Search.{IsPathTo, leaf_pointer}
 use Rattle.art_tree.proofs.DictionaryLemmas.{no-entry}
 use Rattle.art_tree.proofs.Growing.{entries-stay}
 use Rattle.art_tree.proofs.HangLemmas.{always-err}
-use Rattle.art_tree.proofs.RemovalLemmas.{hangs-child, hangs-in, hangs-normal, is-found}
+use Rattle.art_tree.proofs.RemovalLemmas.{hangs-in, is-found}
 use Rattle.art_tree.proofs.WayContexts.{leaf-root}
-use Rattle.art_tree.proofs.remove.remove_entry.Goals.{in-ChildOfRoot, in-Normal}
-use Rattle.art_tree.proofs.NodeLemmas.{leaf-pointer-fits}
+use Rattle.art_tree.proofs.NodeLemmas.{leaf-pointer-fits, spot-fits}
 use Rattle.art_tree.proofs.remove.remove_entry.Goals as goal
 
 pub returns-in_default-clause-absent : goal.returns-in_default-clause-absent
@@ -30,18 +29,18 @@ remove_root-requires g c =
     let at = leaf_pointer c.in-Some.leaf in
     let (tree, alone) = c.requires.art in
     let found = is-found text arena c.with_budget-reader.result.arena c.with_budget-reader.ensures.arena c.args.root tree alone.is_tree c.in-Some.leaf c.in-Some.path c.args.key.now c.in-Some.ensures.answer c.in-Some.ensures.path in
-    let (x, is) = leaf-root tree at (subst (IsPathTo tree at) c.in-Root.is found.way) in
+    let (x, is) = leaf-root tree at (subst (IsPathTo tree at) c.in_default-leaf_spot.ensures.root found.way) in
     let only : (root : _) × (x : List ℕ) × IsAlone text arena root (Leaf at x) = (c.args.root, x, subst (IsAlone text arena c.args.root) is alone) in
     assumption leaf-pointer-fits
 
-pub returns-in-Root-clause-removed : goal.returns-in-Root-clause-removed
-returns-in-Root-clause-removed g c =
+pub returns-in_default-leaf_spot-clause-removed : goal.returns-in_default-leaf_spot-clause-removed
+returns-in_default-leaf_spot-clause-removed g c =
     let text = g.K.AsBytes.text in
     let arena = c.args.arena.now in
     let at = leaf_pointer c.in-Some.leaf in
     let (tree, alone) = c.requires.art in
     let found = is-found text arena c.with_budget-reader.result.arena c.with_budget-reader.ensures.arena c.args.root tree alone.is_tree c.in-Some.leaf c.in-Some.path c.args.key.now c.in-Some.ensures.answer c.in-Some.ensures.path in
-    let (x, is) = leaf-root tree at (subst (IsPathTo tree at) c.in-Root.is found.way) in
+    let (x, is) = leaf-root tree at (subst (IsPathTo tree at) c.in_default-leaf_spot.ensures.root found.way) in
     let same = found.has x (subst (λ t. Contains (leaves t) (at, x)) (sym is) (0, omega arith, refl)) in
     let done = c.remove_root.ensures.removed c.args.root x (subst (IsAlone text arena c.args.root) is alone) in
     (done.0, subst (IsLeft text arena c.remove_root.new.arena) same done.1, ap (entry_at text arena) (sym same) ∙ done.2)
@@ -51,29 +50,21 @@ remove_from-requires g c =
     let text = g.K.AsBytes.text in
     let arena = c.args.arena.now in
     let at = leaf_pointer c.in-Some.leaf in
-    let above = c.match-path.above in
     let (tree, alone) = c.requires.art in
     let found = is-found text arena c.with_budget-reader.result.arena c.with_budget-reader.ensures.arena c.args.root tree alone.is_tree c.in-Some.leaf c.in-Some.path c.args.key.now c.in-Some.ensures.answer c.in-Some.ensures.path in
-    let hangs : HangsUnder tree at above.1 above.2 above.0 = elim c.match-path.branch [
-      | in-ChildOfRoot w ↦ hangs-child tree at c.in-Some.path found.way above w.in-ChildOfRoot.parent w.in-ChildOfRoot.child_key_byte w.in-ChildOfRoot.is w.above-is
-      | in-Normal w ↦ hangs-normal tree at c.in-Some.path found.way above w.in-Normal.grandparent w.in-Normal.parent_key_byte w.in-Normal.parent w.in-Normal.child_key_byte w.in-Normal.is w.above-is
-    ] in
-    let place : (tree : Tree _) × IsAlone text arena c.args.root tree × HangsUnder tree at above.1 above.2 above.0 = (tree, alone, hangs) in
-    assumption leaf-pointer-fits
+    let hangs = c.in-Some-leaf_spot.ensures.spot tree at found.way in
+    let place : (tree : Tree _) × IsAlone text arena c.args.root tree × IsLeafSpot tree at c.in-Some-leaf_spot.spot = (tree, alone, hangs) in
+    assumption (leaf-pointer-fits, spot-fits)
 
 pub returns-in_err-root-clause-refused : goal.returns-in_err-root-clause-refused
 returns-in_err-root-clause-refused g c =
     let text = g.K.AsBytes.text in
     let arena = c.args.arena.now in
     let at = leaf_pointer c.in-Some.leaf in
-    let above = c.match-path.above in
     let (tree, alone) = c.requires.art in
     let found = is-found text arena c.with_budget-reader.result.arena c.with_budget-reader.ensures.arena c.args.root tree alone.is_tree c.in-Some.leaf c.in-Some.path c.args.key.now c.in-Some.ensures.answer c.in-Some.ensures.path in
-    let hangs : HangsUnder tree at above.1 above.2 above.0 = elim c.match-path.branch [
-      | in-ChildOfRoot w ↦ hangs-child tree at c.in-Some.path found.way above w.in-ChildOfRoot.parent w.in-ChildOfRoot.child_key_byte w.in-ChildOfRoot.is w.above-is
-      | in-Normal w ↦ hangs-normal tree at c.in-Some.path found.way above w.in-Normal.grandparent w.in-Normal.parent_key_byte w.in-Normal.parent w.in-Normal.child_key_byte w.in-Normal.is w.above-is
-    ] in
-    let same = found.has hangs.text (hangs-in tree at above.1 above.2 above.0 hangs) in
+    let hangs = c.in-Some-leaf_spot.ensures.spot tree at found.way in
+    let same = found.has hangs.text (hangs-in hangs) in
     always-err c.from_residual.result _ (subst (NeedsSmallerNode text arena) same (c.in_err-root.ensures.refused tree alone hangs))
 
 pub returns-in_err-root-clause-same_entries : goal.returns-in_err-root-clause-same_entries
@@ -86,14 +77,10 @@ returns-clause-removed g c =
     let text = g.K.AsBytes.text in
     let arena = c.args.arena.now in
     let at = leaf_pointer c.in-Some.leaf in
-    let above = c.match-path.above in
     let (tree, alone) = c.requires.art in
     let found = is-found text arena c.with_budget-reader.result.arena c.with_budget-reader.ensures.arena c.args.root tree alone.is_tree c.in-Some.leaf c.in-Some.path c.args.key.now c.in-Some.ensures.answer c.in-Some.ensures.path in
-    let hangs : HangsUnder tree at above.1 above.2 above.0 = elim c.match-path.branch [
-      | in-ChildOfRoot w ↦ hangs-child tree at c.in-Some.path found.way above w.in-ChildOfRoot.parent w.in-ChildOfRoot.child_key_byte w.in-ChildOfRoot.is w.above-is
-      | in-Normal w ↦ hangs-normal tree at c.in-Some.path found.way above w.in-Normal.grandparent w.in-Normal.parent_key_byte w.in-Normal.parent w.in-Normal.child_key_byte w.in-Normal.is w.above-is
-    ] in
-    let same = found.has hangs.text (hangs-in tree at above.1 above.2 above.0 hangs) in
+    let hangs = c.in-Some-leaf_spot.ensures.spot tree at found.way in
+    let same = found.has hangs.text (hangs-in hangs) in
     let done = c.in_ok-root.ensures.removed tree alone hangs in
     (done.art, subst (IsLeft text arena c.remove_from.new.arena) same done.left, ap (entry_at text arena) (sym same) ∙ done.was)
 
@@ -102,14 +89,10 @@ returns-in_err-root-clause-takes_no_memory g c = λ enough.
     let text = g.K.AsBytes.text in
     let arena = c.args.arena.now in
     let at = leaf_pointer c.in-Some.leaf in
-    let above = c.match-path.above in
     let (tree, alone) = c.requires.art in
     let found = is-found text arena c.with_budget-reader.result.arena c.with_budget-reader.ensures.arena c.args.root tree alone.is_tree c.in-Some.leaf c.in-Some.path c.args.key.now c.in-Some.ensures.answer c.in-Some.ensures.path in
-    let hangs : HangsUnder tree at above.1 above.2 above.0 = elim c.match-path.branch [
-      | in-ChildOfRoot w ↦ hangs-child tree at c.in-Some.path found.way above w.in-ChildOfRoot.parent w.in-ChildOfRoot.child_key_byte w.in-ChildOfRoot.is w.above-is
-      | in-Normal w ↦ hangs-normal tree at c.in-Some.path found.way above w.in-Normal.grandparent w.in-Normal.parent_key_byte w.in-Normal.parent w.in-Normal.child_key_byte w.in-Normal.is w.above-is
-    ] in
-    let same = found.has hangs.text (hangs-in tree at above.1 above.2 above.0 hangs) in
+    let hangs = c.in-Some-leaf_spot.ensures.spot tree at found.way in
+    let same = found.has hangs.text (hangs-in hangs) in
     absurd (enough (subst (NeedsSmallerNode text arena) same (c.in_err-root.ensures.refused tree alone hangs)))
 
 pub returns-clause-takes_no_memory : goal.returns-clause-takes_no_memory
@@ -117,12 +100,11 @@ returns-clause-takes_no_memory g c = λ enough.
     let text = g.K.AsBytes.text in
     let arena = c.args.arena.now in
     let at = leaf_pointer c.in-Some.leaf in
-    let above = c.match-path.above in
     let (tree, alone) = c.requires.art in
     let found = is-found text arena c.with_budget-reader.result.arena c.with_budget-reader.ensures.arena c.args.root tree alone.is_tree c.in-Some.leaf c.in-Some.path c.args.key.now c.in-Some.ensures.answer c.in-Some.ensures.path in
-    let hangs : HangsUnder tree at above.1 above.2 above.0 = elim c.match-path.branch [
-      | in-ChildOfRoot w ↦ hangs-child tree at c.in-Some.path found.way above w.in-ChildOfRoot.parent w.in-ChildOfRoot.child_key_byte w.in-ChildOfRoot.is w.above-is
-      | in-Normal w ↦ hangs-normal tree at c.in-Some.path found.way above w.in-Normal.grandparent w.in-Normal.parent_key_byte w.in-Normal.parent w.in-Normal.child_key_byte w.in-Normal.is w.above-is
-    ] in
-    let same = found.has hangs.text (hangs-in tree at above.1 above.2 above.0 hangs) in
+    let hangs = c.in-Some-leaf_spot.ensures.spot tree at found.way in
+    let same = found.has hangs.text (hangs-in hangs) in
     c.remove_from.ensures.takes_no_memory tree alone hangs (λ needs. enough (subst (NeedsSmallerNode text arena) same needs))
+
+pub returns-in_err-root-clause-no_room : goal.returns-in_err-root-clause-no_room
+returns-in_err-root-clause-no_room g c = always-err c.from_residual.result _ c.in_err-root.ensures.no_room

@@ -5,7 +5,7 @@ use Rattle.art_nodes.specs.Pointers.{node_kind}
 use Rattle.art_arena.specs.Arena.{held, HeldInner, Nothing}
 use Rattle.art_arena.specs.Trees.{Tree}
 use Rattle.art_tree.specs.Art.{IsAlone}
-use Rattle.art_tree.specs.Dropping.{HangsUnder}
+use Rattle.art_tree.specs.Dropping.{IsLeafSpot}
 use Rattle.art_tree.specs.Search.{leaf_pointer}
 use Rattle.art_tree.proofs.HangLemmas.{inner-kind}
 use Rattle.art_tree.proofs.NodeLemmas.{some-inner}
@@ -16,19 +16,19 @@ pub num_children-requires : goal.num_children-requires
 num_children-requires g c =
     let arena = c.args.arena.now in
     let (tree, alone, hangs) = c.requires in
-    let (node, there) = parent-there g.K.AsBytes.text arena c.args.root tree alone (leaf_pointer c.args.leaf) c.args.parent c.args.byte c.args.above hangs in
-    let is_held : held arena c.args.parent ≢ Nothing = some-inner (held arena c.args.parent) node there in
-    let is_inner : node_kind c.args.parent ≢ kinds.Leaf = inner-kind arena c.args.parent node there in
+    let (node, there) = parent-there g.K.AsBytes.text arena c.args.root tree alone (leaf_pointer c.args.leaf) c.args.spot.parent c.args.spot.byte c.args.spot.above hangs in
+    let is_held : held arena c.args.spot.parent ≢ Nothing = some-inner (held arena c.args.spot.parent) node there in
+    let is_inner : node_kind c.args.spot.parent ≢ kinds.Leaf = inner-kind arena c.args.spot.parent node there in
     search
 
 pub remove_from_two-requires : goal.remove_from_two-requires
 remove_from_two-requires g c =
-    let place : (tree : Tree _) × IsAlone g.K.AsBytes.text c.args.arena.now c.args.root tree × HangsUnder tree (leaf_pointer c.args.leaf) c.args.parent c.args.byte c.args.above = c.requires in
-    let two : (node : Inner _) → held c.args.arena.now c.args.parent ≡ HeldInner node → length node.children ≡ 2 = λ node is. sym (c.num_children.ensures.count node is) ∙ c.if-num_children-eq2.true in
+    let place : (tree : Tree _) × IsAlone g.K.AsBytes.text c.args.arena.now c.args.root tree × IsLeafSpot tree (leaf_pointer c.args.leaf) c.args.spot = c.requires in
+    let two : (node : Inner _) → held c.args.arena.now c.args.spot.parent ≡ HeldInner node → length node.children ≡ 2 = λ node is. sym (c.num_children.ensures.count node is) ∙ c.if-num_children-eq2.true in
     search
 
 pub remove_from_many-requires : goal.remove_from_many-requires
 remove_from_many-requires g c =
-    let place : (tree : Tree _) × IsAlone g.K.AsBytes.text c.args.arena.now c.args.root tree × HangsUnder tree (leaf_pointer c.args.leaf) c.args.parent c.args.byte c.args.above = c.requires in
-    let many : (node : Inner _) → held c.args.arena.now c.args.parent ≡ HeldInner node → length node.children ≢ 2 = λ node is two. c.if-num_children-eq2.false (c.num_children.ensures.count node is ∙ two) in
+    let place : (tree : Tree _) × IsAlone g.K.AsBytes.text c.args.arena.now c.args.root tree × IsLeafSpot tree (leaf_pointer c.args.leaf) c.args.spot = c.requires in
+    let many : (node : Inner _) → held c.args.arena.now c.args.spot.parent ≡ HeldInner node → length node.children ≢ 2 = λ node is two. c.if-num_children-eq2.false (c.num_children.ensures.count node is ∙ two) in
     search

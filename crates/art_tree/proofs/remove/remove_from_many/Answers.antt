@@ -20,7 +20,7 @@ use Rattle.art_tree.proofs.remove.remove_from_many.Goals as goal
 pub reserve_shrink-requires : goal.reserve_shrink-requires
 reserve_shrink-requires g c =
     let (tree, alone0, hangs) = c.requires.place in
-    let parent = c.args.parent in
+    let parent = c.args.spot.parent in
     let old = c.args.arena.now in
     let is_held : held old parent ≢ Nothing = (leaf-place alone0 hangs).some_held in
     let is_inner : node_kind parent ≢ Leaf = (leaf-place alone0 hangs).inner in
@@ -40,8 +40,8 @@ pub take_child-node-requires : goal.take_child-node-requires
 take_child-node-requires g c =
     let text = g.K.AsBytes.text in
     let (tree, alone0, hangs) = c.requires.place in
-    let parent = c.args.parent in
-    let byte = c.args.byte in
+    let parent = c.args.spot.parent in
+    let byte = c.args.spot.byte in
     let reserved = c.reserve_shrink.new.arena in
     let alone = alone-same text c.args.arena.now reserved c.reserve_shrink.ensures.nodes_kept c.args.root tree alone0 in
     let place = leaf-place alone hangs in
@@ -58,8 +58,8 @@ pub hang-requires : goal.hang-requires
 hang-requires g c =
     let text = g.K.AsBytes.text in
     let (tree, alone0, hangs) = c.requires.place in
-    let parent = c.args.parent in
-    let higher = c.args.above in
+    let parent = c.args.spot.parent in
+    let higher = c.args.spot.above in
     let reserved = c.reserve_shrink.new.arena in
     let alone = alone-same text c.args.arena.now reserved c.reserve_shrink.ensures.nodes_kept c.args.root tree alone0 in
     let place = leaf-place alone hangs in
@@ -72,7 +72,7 @@ hang-requires g c =
 pub returns-clause-removed : goal.returns-clause-removed
 returns-clause-removed g c = λ tree alone0 hangs.
     let text = g.K.AsBytes.text in
-    let parent = c.args.parent in
+    let parent = c.args.spot.parent in
     let reserved = c.reserve_shrink.new.arena in
     let alone = alone-same text c.args.arena.now reserved c.reserve_shrink.ensures.nodes_kept c.args.root tree alone0 in
     let place = leaf-place alone hangs in
@@ -92,7 +92,7 @@ pub returns-clause-takes_no_memory : goal.returns-clause-takes_no_memory
 returns-clause-takes_no_memory g c = λ tree alone0 hangs enough.
     let text = g.K.AsBytes.text in
     let old = c.args.arena.now in
-    let parent = c.args.parent in
+    let parent = c.args.spot.parent in
     let kept = c.reserve_shrink.ensures.nodes_kept in
     let reserved = c.reserve_shrink.new.arena in
     let place0 = leaf-place alone0 hangs in
@@ -106,3 +106,6 @@ returns-clause-takes_no_memory g c = λ tree alone0 hangs enough.
 pub returns-in_err-reserve_shrink-clause-takes_no_memory : goal.returns-in_err-reserve_shrink-clause-takes_no_memory
 returns-in_err-reserve_shrink-clause-takes_no_memory g c = λ tree alone hangs enough.
     absurd (enough (needs-smaller (leaf-place alone hangs) c.in_err-reserve_shrink.ensures.refused))
+
+pub returns-in_err-reserve_shrink-clause-no_room : goal.returns-in_err-reserve_shrink-clause-no_room
+returns-in_err-reserve_shrink-clause-no_room g c = always-err c.from_residual.result _ c.in_err-reserve_shrink.ensures.no_room

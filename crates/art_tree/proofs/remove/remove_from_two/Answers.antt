@@ -1,4 +1,4 @@
-use Rattle.std.proofs.Common.{◌≡◌, ◌≢◌, ◌<◌, ◌≤◌, ◌+◌, ◌^◌, ◌++◌, ◌∷◌, ℕ, List, length}
+use Rattle.std.proofs.Common.{◌≡◌, ◌≢◌, ◌<◌, ◌≤◌, ◌+◌, ◌^◌, ◌++◌, ◌∷◌, ℕ, List, length, lit<}
 use Rattle.art_header.specs.declared.node_type.NodeType.TheVariants.{Leaf}
 use Rattle.art_nodes.specs.Inner.{Inner}
 use Rattle.art_nodes.specs.Pointers.{node_kind, slab_key}
@@ -21,19 +21,21 @@ pub other_child-other_byte-requires : goal.other_child-other_byte-requires
 other_child-other_byte-requires g c =
     let (tree, alone, hangs) = c.requires.place in
     let place = leaf-place alone hangs in
-    let parent = c.args.parent in
+    let parent = c.args.spot.parent in
     let cut = c.take_leaf-entry.new.arena in
     let taken = c.take_leaf-entry.ensures in
     let is_held : held cut parent ≢ Nothing = parent-held place c.each_pointer_is_at_one_place.ensures c.requires.two cut taken.gone taken.others in
     let is_inner : node_kind parent ≢ Leaf = place.inner in
     let has_two : (node : Inner _) → held cut parent ≡ HeldInner node → 2 ≤ length node.children = parent-two place c.each_pointer_is_at_one_place.ensures c.requires.two cut taken.gone taken.others in
+    -- the size in memory of an opaque pointer
+    let fits : 16 < 2 ^ 63 = lit< tt in
     search
 
 pub join_prefix-requires : goal.join_prefix-requires
 join_prefix-requires g c =
     let (tree, alone, hangs) = c.requires.place in
     let place = leaf-place alone hangs in
-    let parent = c.args.parent in
+    let parent = c.args.spot.parent in
     let cut = c.take_leaf-entry.new.arena in
     let taken = c.take_leaf-entry.ensures in
     let (other, child) = c.other_child-other_byte.result in
@@ -47,7 +49,7 @@ pub give_up-requires : goal.give_up-requires
 give_up-requires g c =
     let (tree, alone, hangs) = c.requires.place in
     let place = leaf-place alone hangs in
-    let parent = c.args.parent in
+    let parent = c.args.spot.parent in
     let cut = c.take_leaf-entry.new.arena in
     let taken = c.take_leaf-entry.ensures in
     let (other, child) = c.other_child-other_byte.result in
@@ -65,7 +67,7 @@ hang-requires g c =
     let (other, child) = c.other_child-other_byte.result in
     let joined = c.join_prefix.new.arena in
     let new = c.give_up.new.arena in
-    let can : CanHang new c.args.above = two-hangs place c.each_pointer_is_at_one_place.ensures c.requires.two cut taken.gone taken.others other child c.other_child-other_byte.ensures joined c.join_prefix.ensures.leaf c.join_prefix.ensures.joined new c.give_up.ensures.gone in
+    let can : CanHang new c.args.spot.above = two-hangs place c.each_pointer_is_at_one_place.ensures c.requires.two cut taken.gone taken.others other child c.other_child-other_byte.ensures joined c.join_prefix.ensures.leaf c.join_prefix.ensures.joined new c.give_up.ensures.gone in
     assumption
 
 pub returns-clause-removed : goal.returns-clause-removed
@@ -82,4 +84,4 @@ returns-clause-removed g c = λ tree alone hangs.
 pub returns-clause-takes_no_memory : goal.returns-clause-takes_no_memory
 returns-clause-takes_no_memory g c =
     let (tree, alone, hangs) = c.requires.place in
-    frees-two c.args.arena.now c.take_leaf-entry.new.arena c.join_prefix.new.arena c.give_up.new.arena c.hang.new.arena (node_kind c.args.parent) (leaf-place alone hangs).inner c.take_leaf-entry.ensures.takes_no_memory c.join_prefix.ensures.room c.give_up.ensures.room c.hang.ensures.room
+    frees-two c.args.arena.now c.take_leaf-entry.new.arena c.join_prefix.new.arena c.give_up.new.arena c.hang.new.arena (node_kind c.args.spot.parent) (leaf-place alone hangs).inner c.take_leaf-entry.ensures.takes_no_memory c.join_prefix.ensures.room c.give_up.ensures.room c.hang.ensures.room

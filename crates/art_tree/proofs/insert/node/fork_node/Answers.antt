@@ -2,7 +2,8 @@ use Rattle.std.proofs.Common.{◌≡◌, ◌∙◌, ◌-◌, ◌∷◌, [], take
 use Rattle.art_header.specs.declared.node_type.NodeType.TheVariants.{Node4}
 use Rattle.art_nodes.specs.Pointers.{slab_key}
 use Rattle.art_arena.specs.Links.{text_at}
-use Rattle.art_tree.specs.Raising.{node_of, IsPlaced, two_children}
+use Rattle.art_tree.specs.Edits.{two_children}
+use Rattle.art_tree.specs.Nodes.{node_of, IsPlaced}
 use Rattle.art_tree.specs.Search.{leaf_pointer}
 use Rattle.art_tree.proofs.NodeLemmas.{child-first, child-last}
 use Rattle.art_tree.proofs.insert.node.fork_node.Goals as goal

@@ -2,6 +2,7 @@ use Rattle.std.proofs.Common.{◌≡◌, ◌∙◌, ℕ, ◌≤◌, lit<, sym, a
 use Rattle.std.proofs.lemmas.Bool.{false≢true}
 use Rattle.art_header.specs.declared.node_type.NodeType.TheVariants.{Leaf, Node16, Node48, Node256}
 use Rattle.art_tree.proofs.NodeLemmas.{kinds-apart}
+use Rattle.art_tree.proofs.RoomLemmas.{lacks-on-err}
 use Rattle.art_tree.proofs.insert.node.reserve_growth.Goals as goal
 use Rattle.art_tree.proofs.insert.node.reserve_growth.Goals.{in-Node4, in-Node16, in-Node48}
 
@@ -20,3 +21,6 @@ is_full-requires g c = search
 
 pub returns-then-not-is_full-clause-room : goal.returns-then-not-is_full-clause-room
 returns-then-not-is_full-clause-room g c = λ node is full. absurd (false≢true (sym c.if-not-is_full.true ∙ (c.is_full.ensures.full node is).1 full))
+
+pub returns-clause-no_room : goal.returns-clause-no_room
+returns-clause-no_room g c = lacks-on-err c.reserve.result c.args.arena.now c.match-node_type.grown c.reserve.ensures.succeeds

@@ -1,7 +1,8 @@
 use Rattle.std.proofs.Common.{◌≡◌, ◌∙◌, ◌<◌, ℕ, ◌+◌, ◌^◌, length, List, [], ◌∷◌, ◌++◌, get_or, sym, ap, subst, arith, refl}
 use Rattle.std.specs.Option.{option_to_list}
 use Rattle.std.proofs.lemmas.List.{length-map}
-use Rattle.art_tree.specs.Plan.{Forks, byte_before, texts_of, text_at}
+use Rattle.art_tree.specs.Plan.{Forks, byte_before}
+use Rattle.art_tree.specs.Refusals.{texts_of, text_of_entry}
 use Rattle.art_tree.specs.declared.loading.steps.Open.{Open}
 use Rattle.art_tree.specs.declared.loading.steps.Step.TheVariants as step
 use Rattle.art_tree.proofs.Planning.{IsPlanned, IsClosing, Parts, entry-text, bytes-at, planned-path, parts-between, parts-last, closing-leaf, closing-some, closing-below, closing-node-called, closing-count, hang-new, hang-last, closed}
@@ -15,7 +16,7 @@ fork-requires g c =
     let first = c.as_bytes-text.ensures.text ∙ ap text_of (sym c.index-entries-i.is) ∙ sym (entry-text text_of entries c.loop-i.i c.index-entries-i.result c.loop-i-test.true c.index-entries-i.is) in
     let second = c.as_bytes.ensures.text ∙ ap text_of (sym c.index-entries-i-then-i-entries.is) ∙ sym (entry-text text_of entries (c.loop-i.i + 1) c.index-entries-i-then-i-entries.result c.if-i-entries.true c.index-entries-i-then-i-entries.is) in
     let forks = c.requires.loadable.fork c.loop-i.i (omega (arith, c.if-i-entries.true, length-map entries text_of)) in
-    subst (λ t. Forks t c.as_bytes.result.now) (sym first) (subst (λ t. Forks (text_at (texts_of g.K.AsBytes.text entries) c.loop-i.i) t) (sym second) forks)
+    subst (λ t. Forks t c.as_bytes.result.now) (sym first) (subst (λ t. Forks (text_of_entry (texts_of g.K.AsBytes.text entries) c.loop-i.i) t) (sym second) forks)
 
 pub byte_to-leaf_byte-requires : goal.byte_to-leaf_byte-requires
 byte_to-leaf_byte-requires g c =
@@ -35,7 +36,7 @@ closing-init g c =
     let entries = c.args.entries.now in
     let texts = texts_of g.K.AsBytes.text entries in
     let text = c.as_bytes-text.result.now in
-    let is_text : text ≡ text_at texts c.loop-i.i = c.as_bytes-text.ensures.text ∙ ap text_of (sym c.index-entries-i.is) ∙ sym (entry-text text_of entries c.loop-i.i c.index-entries-i.result c.loop-i-test.true c.index-entries-i.is) in
+    let is_text : text ≡ text_of_entry texts c.loop-i.i = c.as_bytes-text.ensures.text ∙ ap text_of (sym c.index-entries-i.is) ∙ sym (entry-text text_of entries c.loop-i.i c.index-entries-i.result c.loop-i-test.true c.index-entries-i.is) in
     let count = length-map entries text_of in
     let within : c.loop-i.i < length texts = omega (arith, count, c.loop-i-test.true) in
     let short : length text < 2 ^ 64 = omega (arith, ap length is_text, c.requires.loadable.short c.loop-i.i within) in
@@ -43,7 +44,7 @@ closing-init g c =
       is_text = is_text;
       parts = elim c.if-i-entries.branch [
         | then-i-entries w ↦
-            let is_next : w.as_bytes.result.now ≡ text_at texts (c.loop-i.i + 1) = w.as_bytes.ensures.text ∙ ap text_of (sym w.index-entries-i-then-i-entries.is) ∙ sym (entry-text text_of entries (c.loop-i.i + 1) w.index-entries-i-then-i-entries.result w.if-i-entries.true w.index-entries-i-then-i-entries.is) in
+            let is_next : w.as_bytes.result.now ≡ text_of_entry texts (c.loop-i.i + 1) = w.as_bytes.ensures.text ∙ ap text_of (sym w.index-entries-i-then-i-entries.is) ∙ sym (entry-text text_of entries (c.loop-i.i + 1) w.index-entries-i-then-i-entries.result w.if-i-entries.true w.index-entries-i-then-i-entries.is) in
             subst (Parts texts c.loop-i.i text) (sym w.shared-is) (parts-between texts c.loop-i.i text w.as_bytes.result.now w.fork.result (omega (arith, count, w.if-i-entries.true)) is_next w.fork.ensures)
         | else-i-entries w ↦ subst (Parts texts c.loop-i.i text) (sym w.shared-is) (parts-last texts c.loop-i.i text (omega (arith, count, w.if-i-entries.false)))
       ];
@@ -110,10 +111,10 @@ loop-i-preserved g c =
           elim c.if-top-shared.branch [
             | then-top-shared+in_ok-push-3 w ↦
                 subst (λ top. Then top c.if-top-shared.open.items) (sym w.top-is) (subst (λ items. IsPlanned texts (c.loop-i.i + 1) (record { path = c.if-i-entries.shared; children = 1 }) items c.closing.steps.items) (sym (ap (λ v. v.items) w.open-is ∙ w.in_ok-push-3.ensures.items))
-                (hang-new texts c.loop-i.i text is_text bytes (text_at texts (c.loop-i.i + 1)) refl between.0 between.2 c.if-i-entries.shared c.closing.top c.closing.open.items c.closing.steps.items between.1 w.if-top-shared.true c.closing.invariant.finished))
+                (hang-new texts c.loop-i.i text is_text bytes (text_of_entry texts (c.loop-i.i + 1)) refl between.0 between.2 c.if-i-entries.shared c.closing.top c.closing.open.items c.closing.steps.items between.1 w.if-top-shared.true c.closing.invariant.finished))
             | else-top-shared w ↦
                 subst (λ top. Then top c.if-top-shared.open.items) (sym w.top-is) (subst (λ items. Then c.closing.top items) (sym (ap (λ v. v.items) w.open-is))
-                (hang-last texts c.loop-i.i text is_text bytes (text_at texts (c.loop-i.i + 1)) refl between.0 between.2 c.if-i-entries.shared c.closing.top c.closing.open.items c.closing.steps.items between.1 (omega (arith, w.if-top-shared.false, c.closing-test.false)) c.closing.invariant.finished))
+                (hang-last texts c.loop-i.i text is_text bytes (text_of_entry texts (c.loop-i.i + 1)) refl between.0 between.2 c.if-i-entries.shared c.closing.top c.closing.open.items c.closing.steps.items between.1 (omega (arith, w.if-top-shared.false, c.closing-test.false)) c.closing.invariant.finished))
           ];
       after_last = λ all. closed texts c.loop-i.i text is_text c.if-i-entries.shared c.closing.top c.closing.open.items c.closing.steps.items (parts.last (omega (arith, count, all))) (omega (arith, c.closing-test.false)) (omega (arith, count, all)) c.closing.invariant.finished;
     }

@@ -1,5 +1,6 @@
 use Rattle.std.proofs.Common.{◌≡◌, ◌<◌, length}
-use Rattle.art_tree.specs.Plan.{IsPlanOf, texts_of, text_at}
+use Rattle.art_tree.specs.Plan.{IsPlanOf}
+use Rattle.art_tree.specs.Refusals.{texts_of, text_of_entry}
 use Rattle.art_tree.proofs.Planning.{IsPlanned, IsClosing, Parts}
 use Rattle.art_tree.proofs.loading.steps.plan.Given as goal
 
@@ -12,7 +13,7 @@ invariant-loop-i g l = record {
 
 abbrev pub invariant-closing : goal.invariant-closing
 invariant-closing g l = record {
-  is_text : l.text ≡ text_at (texts_of g.K.AsBytes.text l.entries) l.i;
+  is_text : l.text ≡ text_of_entry (texts_of g.K.AsBytes.text l.entries) l.i;
   parts : Parts (texts_of g.K.AsBytes.text l.entries) l.i l.text l.shared;
   finished : IsClosing (texts_of g.K.AsBytes.text l.entries) l.i l.text l.shared l.top l.open.items l.steps.items;
 }

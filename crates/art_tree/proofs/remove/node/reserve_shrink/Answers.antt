@@ -3,6 +3,7 @@ use Rattle.std.proofs.lemmas.Bool.{false≢true}
 use Rattle.art_header.specs.NodeType.{least_children}
 use Rattle.art_nodes.specs.Pointers.{node_kind}
 use Rattle.art_tree.proofs.HangLemmas.{always-err}
+use Rattle.art_tree.proofs.RoomLemmas.{lacks-on-err}
 use Rattle.art_tree.proofs.remove.node.reserve_shrink.Goals as goal
 use Rattle.art_tree.proofs.remove.node.reserve_shrink.Goals.{in-Node16, in-Node48, in-Node256}
 
@@ -28,3 +29,6 @@ returns-then-not-has_fewest-clause-room g c = λ node is more fewest. absurd (fa
 
 pub returns-clause-takes_no_memory : goal.returns-clause-takes_no_memory
 returns-clause-takes_no_memory g c = λ node is more. absurd (more ((c.has_fewest.ensures node is).0 c.if-not-has_fewest.false))
+
+pub returns-clause-no_room : goal.returns-clause-no_room
+returns-clause-no_room g c = lacks-on-err c.reserve.result c.args.arena.now c.match-node_type.shrunk c.reserve.ensures.succeeds

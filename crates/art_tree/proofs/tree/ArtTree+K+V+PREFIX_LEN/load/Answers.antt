@@ -1,5 +1,5 @@
 use Rattle.std.proofs.Common.{[]}
-use Rattle.art_tree.specs.Plan.{texts_of}
+use Rattle.art_tree.specs.Refusals.{texts_of}
 use Rattle.art_tree.proofs.DictionaryLemmas.{alone-loaded, loaded-entry, loaded-text}
 use Rattle.art_tree.proofs.KeyLemmas.{keys-loaded}
 use Rattle.art_tree.proofs.RefusalLemmas.{each-short}

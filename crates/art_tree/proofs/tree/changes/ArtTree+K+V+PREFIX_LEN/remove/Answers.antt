@@ -1,7 +1,8 @@
 use Rattle.std.proofs.Common.{◌≡◌, ◌∙◌, Some, ap, sym, subst}
 use Rattle.art_tree.specs.Art.{IsArt}
 use Rattle.art_tree.specs.Dictionary.{HasKeys, entry_at}
-use Rattle.art_tree.specs.Removing.{FreesOneEach, IsLeft, NeedsSmallerNode}
+use Rattle.art_tree.specs.Removing.{IsLeft, NeedsSmallerNode}
+use Rattle.art_tree.specs.Room.{FreesOneEach}
 use Rattle.art_tree.proofs.DictionaryLemmas.{empty-entry}
 use Rattle.art_tree.proofs.Growing.{art-same}
 use Rattle.art_tree.proofs.KeyLemmas.{keys-same, keys-left}

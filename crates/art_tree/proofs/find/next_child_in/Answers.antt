@@ -2,7 +2,7 @@ use Rattle.std.proofs.Common.{◌∙◌, ◌+◌, Some, sym, ap, arith}
 use Rattle.std.proofs.lemmas.Option.{slice_get-get_or}
 use Rattle.art_tree.proofs.DescentLemmas.{from-match, is-match, is-mismatch, step-mismatched, step-childless, step-on}
 use Rattle.art_tree.proofs.NodeLemmas.{if-none}
-use Rattle.art_tree.proofs.find.step.Goals as goal
+use Rattle.art_tree.proofs.find.next_child_in.Goals as goal
 
 pub returns-in_err-matched-clause-nowhere : goal.returns-in_err-matched-clause-nowhere
 returns-in_err-matched-clause-nowhere g c =

@@ -2,7 +2,7 @@ use Rattle.std.proofs.Common.{◌∙◌, ◌<◌, ◌≤◌, length, sym, arith}
 use Rattle.art_arena.specs.Standing.{TreeUnder}
 use Rattle.art_tree.proofs.PlaceLemmas.{depth-within, at-inner, below, node-tells, matched-within, node-clash, node-parts, node-lacks, node-leads}
 use Rattle.art_tree.proofs.NodeLemmas.{match-fits}
-use Rattle.art_tree.proofs.insert.place.step.Goals as goal
+use Rattle.art_tree.proofs.insert.place.next_spot_in.Goals as goal
 
 pub match_full_prefix-requires : goal.match_full_prefix-requires
 match_full_prefix-requires g c =
