@@ -1,5 +1,5 @@
 -- The entries of a tree, command by command, and what the commands print.
-use Rattle.std.proofs.Common.{◌≡◌, ◌≢◌, ◌∙◌, ℕ, ◌+◌, ◌<◌, ◌≤◌, Bool, true, false, List, [], ◌∷◌, ◌++◌, length, map, All, Contains, Option, None, Some, option_map, bytes_eq, refl, sym, ap, arith, append-nil, append_assoc, subst, take, drop, get_or, add-one}
+use Rattle.std.proofs.Common.{◌≡◌, ◌≢◌, ◌∙◌, ℕ, ◌+◌, ◌<◌, ◌≤◌, Bool, true, false, List, [], ◌∷◌, ◌++◌, length, map, All, Contains, Option, None, Some, option_map, IsSomeAnd, MatchOption, bytes_eq, refl, sym, ap, arith, append-nil, append_assoc, subst, take, drop, get_or, add-one}
 use Rattle.std.proofs.Math.Seq.{take-suc}
 use Rattle.std.proofs.lemmas.List.{length-append, map-append, take-append-drop}
 use Rattle.std.proofs.lemmas.Bool.Decides.{not_from_Decides}
@@ -32,6 +32,12 @@ use Rattle.art_cli.specs.Program.{IsEntryFailure, failure_for}
 no_entry : {K : Type 0} (o : Option (K × ℕ)) → option_map (λ entry. entry.1) o ≡ None → o ≡ None
 no_entry None none = refl
 no_entry (Some entry) none = absurd (cc)
+
+-- where each entry is mapped to its number
+pub number_taken : {K : Type 0} {Gives : K × ℕ → ℕ → Type 0} → ((entry : K × ℕ) (number : ℕ) → Gives entry number → number ≡ entry.1) → (o : Option (K × ℕ)) (r : Option ℕ) → MatchOption o (r ≡ None) (λ entry. IsSomeAnd r (Gives entry)) → r ≡ option_map (λ entry. entry.1) o
+number_taken means None r is = is
+number_taken means (Some entry) None is = absurd is
+number_taken means (Some entry) (Some number) is = ap Some (means entry number is)
 
 -- a leaf that a scan finds is one of the tree's
 found_inside : {H : Type 0} (tree : Tree H) (pointer : H) (query : List ℕ) → scan tree query ≡ (pointer, query) ∷ [] → Contains (leaves tree) (pointer, query)

@@ -7,7 +7,7 @@ use crate::lines::first_line;
 use std::alloc::{AllocError, Global};
 
 /// A command that one line gives.
-pub trait LineCommand<'a>: Sized {
+pub(crate) trait LineCommand<'a>: Sized {
     ghost use Rattle.art_cli.specs.declared.failure.LineFault.{LineFault};
 
     /// The line says the command.
@@ -26,7 +26,7 @@ pub trait LineCommand<'a>: Sized {
 /// one. A line ends at byte 10, and a last line without one counts where it has a byte.
 ///
 /// A refusal is for want of memory.
-pub fn commands_of<'a, C: LineCommand<'a> + Drop>(
+pub(crate) fn commands_of<'a, C: LineCommand<'a> + Drop>(
     alloc: Global,
     input: &'a [u8],
 ) -> Result<(Vec<C>, Option<LineFault>), AllocError>

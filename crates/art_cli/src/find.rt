@@ -18,7 +18,7 @@ use art_tree::{ArtTree, AsBytes, InsertRefusal, SliceKey};
 use std::alloc::Global;
 
 /// What the commands of this input print, from no entries on. They are worked in the tree.
-pub fn find_text<'a, const PREFIX_LEN: usize>(
+pub(crate) fn find_text<'a, const PREFIX_LEN: usize>(
     alloc: Global,
     tree: &mut ArtTree<SliceKey<'a>, usize, PREFIX_LEN>,
     input: &'a [u8],
@@ -56,7 +56,7 @@ fn replies_text<K: AsBytes + Copy, const PREFIX_LEN: usize>(
             },
             TreeCommand::Remove(key) => {
                 let removed = tree.remove(key.as_bytes())?;
-                print_removal(&mut text, removed)?;
+                print_removal(&mut text, removed.map(|(_, number)| number))?;
             }
             TreeCommand::Find(key) => {
                 let (answer, reads) = answer(tree, key.as_bytes());

@@ -4,7 +4,7 @@ ghost use Rattle.art_cli.specs.Lines.{lines_of};
 
 /// The first line, without the byte 10 that ends it, and what comes after that: nothing where no
 /// byte ends the line. There has to be a byte.
-pub fn first_line(bytes: &[u8]) -> (&[u8], &[u8])
+pub(crate) fn first_line(bytes: &[u8]) -> (&[u8], &[u8])
     requires { 0 < length bytes.now }
     ensures lines { lines_of bytes.now ≡ result.0.now ∷ lines_of result.1.now }
     ensures shorter { length result.1.now < length bytes.now }
@@ -16,7 +16,7 @@ pub fn first_line(bytes: &[u8]) -> (&[u8], &[u8])
 }
 
 /// The place of the first byte that is `end`, or None where there is none.
-pub fn end_of_part(bytes: &[u8], end: u8) -> Option<usize>
+pub(crate) fn end_of_part(bytes: &[u8], end: u8) -> Option<usize>
     ensures place { result ≡ position (λ b. b == end) bytes.now }
     ensures within { IfSome result (λ at. at < length bytes.now) }
 {

@@ -4,19 +4,19 @@ ghost use Rattle.art_nodes.specs.Commands.{run_of};
 ghost use Rattle.art_cli.specs.Reply.{output_of};
 ghost use Rattle.art_cli.specs.Program.{IsReplayOutput, IsReplayFailure};
 
-mod command;
+mod nodes;
 mod parse;
 mod print;
 
 use crate::failure::Failure;
-use crate::replay::command::Command;
+use crate::replay::nodes::Command;
 use crate::replay::parse::parse;
 use crate::replay::print::text_of;
 use art_tree::{Header, replay};
 use std::alloc::{AllocError, Global};
 
 /// What the commands of this input are answered. The input is let go before the replies come.
-pub fn replay_text(alloc: Global, input: Vec<u8>) -> Result<String, Failure>
+pub(crate) fn replay_text(alloc: Global, input: Vec<u8>) -> Result<String, Failure>
     ensures text { IfOk result (λ text. IsReplayOutput input.items (string_bytes text)) }
     ensures refused { IfErr result (IsReplayFailure input.items) }
 {

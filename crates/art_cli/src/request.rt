@@ -4,7 +4,7 @@ ghost use Rattle.art_cli.specs.Request.{AskFor, AreTaken, AreTexts};
 
 /// What the program is asked to do.
 #[derive(Clone, Copy)]
-pub enum Request {
+pub(crate) enum Request {
     /// `replay`
     Replay,
     /// `find 0`
@@ -16,7 +16,7 @@ pub enum Request {
 }
 
 /// What the words ask for, or None where the program takes no such words.
-pub fn request_of(words: &[String]) -> Option<Request>
+pub(crate) fn request_of(words: &[String]) -> Option<Request>
     ensures { MatchOption result (¬ (AreTaken words.now)) (AskFor words.now) }
 {
     match texts_of(words) {

@@ -1,5 +1,6 @@
 //! Whole runs over a reader and writers in memory.
 mod find;
+mod replay;
 
 use super::*;
 use std::alloc::{AllocError, Global};
@@ -22,6 +23,10 @@ const SEARCHES: &str = "+abc1\n+abc2\n?abc2\n?abd2\n?abc\n?\n?abc22\n";
 const ANSWERS: &str =
     "found 1 child 50 reads 2\nnone reads 2\nnone reads 1\nnone reads 1\nnone reads 2\n";
 
+// How the test below ends whose run was refused memory, once the next one has answered.
+// `checks/refusals` looks for it.
+const ALL_STANDS: &str = "refused, and all stands";
+
 fn words(alloc: Global, texts: &[&str]) -> Result<Vec<String>, AllocError> {
     let mut words = Vec::new(alloc);
     for text in texts {
@@ -39,7 +44,7 @@ struct Case<'a> {
     status: u8,
 }
 
-fn outcome<'a>(input: &'a [u8], output: &'a str, errors: &'a str, status: u8) -> Case<'a> {
+fn case_of<'a>(input: &'a [u8], output: &'a str, errors: &'a str, status: u8) -> Case<'a> {
     Case {
         input,
         output,
@@ -65,51 +70,6 @@ fn check(rt: &impl Abort, alloc: Global, texts: &[&str], case: &Case) -> Result<
     Ok(())
 }
 
-// `artnodes replay` answers this input with this output.
-fn answers(rt: &impl Abort, alloc: Global, input: &str, output: &str) -> Result<(), Fail> {
-    let input = input.as_bytes();
-    check(rt, alloc, &["replay"], &outcome(input, output, "", 0))
-}
-
-#[test]
-fn replies_line_by_line(rt: HostRuntime) -> Result<(), Fail> {
-    let cases = [
-        (COMMANDS, REPLIES),
-        // no child
-        ("", "node Node4 0\n"),
-        (
-            "min\nmax\nr 0\nl 255\nrange u u\nrange i0 e0\n",
-            "pair none\npair none\nchild none\nchild none\npairs\npairs\nnode Node4 0\n",
-        ),
-        // bounds that are included or excluded, or none
-        (
-            "w 1 10\nw 2 20\nw 3 30\nrange i1 i3\nrange e1 e3\nrange u i2\nrange e2 u\nmax\n\
-                l 2\nr 2\nl 2\n",
-            "child none\nchild none\nchild none\npairs 1:10 2:20 3:30\npairs 2:20\n\
-                pairs 1:10 2:20\npairs 3:30\npair 3 30\nchild 20\nchild 20\nchild none\nnode Node4 2\n",
-        ),
-        // leading zeros
-        ("w 01 1", "child none\nnode Node4 1\n"),
-        (
-            "w 0000000255 0000000001\nw 255 4294967295\nrange i0255 u\n",
-            "child none\nchild 1\npairs 255:4294967295\nnode Node4 1\n",
-        ),
-    ];
-    for (input, output) in cases {
-        answers(&rt, rt.alloc(), input, output)?;
-    }
-    Ok(())
-}
-
-// The lines that write the bytes below `count` in turn.
-fn writes_below(alloc: Global, count: usize) -> Result<String, AllocError> {
-    let mut lines = String::new(alloc);
-    for byte in 0..count {
-        writeln!(lines, "w {byte} {byte}")?;
-    }
-    Ok(lines)
-}
-
 // So many answers that no child was there.
 fn nones(alloc: Global, count: usize) -> Result<String, AllocError> {
     let mut lines = String::new(alloc);
@@ -120,78 +80,17 @@ fn nones(alloc: Global, count: usize) -> Result<String, AllocError> {
 }
 
 #[test]
-fn the_node_grows_and_shrinks_with_its_children(rt: HostRuntime) -> Result<(), Fail> {
-    // how many children are written, what comes after them, and what that and the node are answered
-    let cases = [
-        (4, "", "node Node4 4\n"),
-        (16, "", "node Node16 16\n"),
-        (17, "", "node Node48 17\n"),
-        (48, "", "node Node48 48\n"),
-        (256, "", "node Node256 256\n"),
-        (17, "r 0\n", "child 0\nnode Node16 16\n"),
-    ];
-    for (count, others, end) in cases {
-        let mut input = writes_below(rt.alloc(), count)?;
-        input.push_str(others)?;
-        let mut output = nones(rt.alloc(), count)?;
-        output.push_str(end)?;
-        answers(&rt, rt.alloc(), input.as_str(), output.as_str())?;
-    }
-    Ok(())
-}
-
-#[test]
-fn the_first_fault_of_a_line_is_told(rt: HostRuntime) -> Result<(), Fail> {
-    let cases: [(&[u8], &str); 30] = [
-        (b"w 1 1\nw 256 1\n", "line 2: bad number\n"),
-        (b"w 1\n", "line 1: wrong number of words\n"),
-        (b"w  1 1\n", "line 1: wrong number of words\n"),
-        (b"min 1\n", "line 1: wrong number of words\n"),
-        (b"w 1 4294967296\n", "line 1: bad number\n"),
-        (b"w 1 00000000001\n", "line 1: bad number\n"),
-        (b"range u 3\n", "line 1: bad number\n"),
-        (b"range e256 u\n", "line 1: bad number\n"),
-        (b"\n", "line 1: unknown command\n"),
-        (b" min\n", "line 1: unknown command\n"),
-        (b"min\r\n", "line 1: unknown command\n"),
-        (b"min\n\n", "line 2: unknown command\n"),
-        (b"W 1 1\n", "line 1: unknown command\n"),
-        (b"write 1 1\n", "line 1: unknown command\n"),
-        (b"w 1 1 1\n", "line 1: wrong number of words\n"),
-        (b"w x\n", "line 1: wrong number of words\n"),
-        (b"w 1 1 \n", "line 1: wrong number of words\n"),
-        (b"r\n", "line 1: wrong number of words\n"),
-        (b"l 1 1\n", "line 1: wrong number of words\n"),
-        (b"max 1 1 1 1\n", "line 1: wrong number of words\n"),
-        (b"range u\n", "line 1: wrong number of words\n"),
-        (b"r \n", "line 1: bad number\n"),
-        (b"r +1\n", "line 1: bad number\n"),
-        (b"r -1\n", "line 1: bad number\n"),
-        (b"w 1 1\r\n", "line 1: bad number\n"),
-        (b"l \xff\n", "line 1: bad number\n"),
-        (b"range i e1\n", "line 1: bad number\n"),
-        (b"range uu u\n", "line 1: bad number\n"),
-        (b"w x y\nmin 1\nfoo", "line 1: bad number\n"),
-        (b"min\nmax\nfoo", "line 3: unknown command\n"),
-    ];
-    for (input, errors) in cases {
-        check(&rt, rt.alloc(), &["replay"], &outcome(input, "", errors, 2))?;
-    }
-    Ok(())
-}
-
-#[test]
 fn the_longest_failure_is_told_whole(rt: HostRuntime) -> Result<(), Fail> {
     let line = "line 18446744073709551615: one key is a front of the other\n";
     let mut errors = Vec::new(rt.alloc());
     let status = Failure::BadLine(usize::MAX, LineFault::FrontOfOther).report(&mut errors);
-    compare(&rt, b"", &errors, status, &outcome(b"", "", line, 2));
+    compare(&rt, b"", &errors, status, &case_of(b"", "", line, 2));
     Ok(())
 }
 
 #[test]
 fn other_words_are_answered_with_the_usage(rt: HostRuntime) -> Result<(), Fail> {
-    let case = outcome(b"w 1", "", USAGE, 2);
+    let wanted = case_of(b"w 1", "", USAGE, 2);
     let lists: [&[&str]; 9] = [
         &[],
         &["replay", "replay"],
@@ -204,7 +103,7 @@ fn other_words_are_answered_with_the_usage(rt: HostRuntime) -> Result<(), Fail> 
         &[""],
     ];
     for texts in lists {
-        check(&rt, rt.alloc(), texts, &case)?;
+        check(&rt, rt.alloc(), texts, &wanted)?;
     }
     Ok(())
 }
@@ -288,70 +187,117 @@ fn a_failed_read_prints_nothing(rt: HostRuntime) -> Result<(), Fail> {
         let mut output = Vec::new(rt.alloc());
         let mut errors = Vec::new(rt.alloc());
         let status = run(rt.alloc(), &words, &mut input, &mut output, &mut errors);
-        let case = outcome(b"", "", told, wanted);
+        let case = case_of(b"", "", told, wanted);
         compare(&rt, &output, &errors, status, &case);
     }
     Ok(())
 }
 
-// A run whose output fails once this much is written.
-fn cut_off<'a>(input: &'a [u8], output: &'a str) -> Case<'a> {
-    outcome(input, output, "device failed\n", 1)
+const WIDE: Limits = Limits {
+    room: usize::MAX,
+    can_flush: true,
+    can_be_interrupted: true,
+    kind: ErrorKind::Other,
+};
+
+const UNFLUSHED: Limits = Limits {
+    can_flush: false,
+    ..WIDE
+};
+
+const NARROW: Limits = Limits { room: 7, ..WIDE };
+
+const SINGLE: Limits = Limits { room: 1, ..WIDE };
+
+// no write is interrupted, and the second one fails
+const UNINTERRUPTED: Limits = Limits {
+    can_be_interrupted: false,
+    ..SINGLE
+};
+
+// the writer had no memory, which is no refusal of the run's own
+const UNFLUSHED_STARVED: Limits = Limits {
+    kind: ErrorKind::OutOfMemory,
+    ..UNFLUSHED
+};
+
+const NARROW_STARVED: Limits = Limits {
+    kind: ErrorKind::OutOfMemory,
+    ..NARROW
+};
+
+const WRITE: &[u8] = b"w 1 1\n";
+
+// what `replay` prints for it
+const REPLY: &str = "child none\nnode Node4 1\n";
+
+// As `check`, over an output with these limits, and errors with this room.
+fn check_writers(
+    rt: &impl Abort,
+    alloc: Global,
+    texts: &[&str],
+    limits: Limits,
+    room: usize,
+    case: &Case,
+) -> Result<(), Fail> {
+    let words = words(alloc, texts)?;
+    let mut input = case.input;
+    let mut output = narrow_writer(alloc, limits);
+    let mut errors = narrow_writer(alloc, Limits { room, ..WIDE });
+    let status = run(alloc, &words, &mut input, &mut output, &mut errors);
+    compare(rt, &output.taken, &errors.taken, status, case);
+    Ok(())
 }
 
 #[test]
-fn a_failed_writer_has_what_it_took(rt: HostRuntime) -> Result<(), Fail> {
+fn a_slow_writer_gets_all(rt: HostRuntime) -> Result<(), Fail> {
     let mut lines = String::new(rt.alloc());
     for _ in 0..500 {
         lines.push_str("r 0\n")?;
     }
     let mut replies = nones(rt.alloc(), 500)?;
     replies.push_str("node Node4 0\n")?;
-    let wide = Limits {
-        room: replies.len(),
-        can_flush: true,
-        can_be_interrupted: true,
-        kind: ErrorKind::Other,
-    };
-    let narrow = Limits { room: 7, ..wide };
-    let single = Limits { room: 1, ..wide };
-    let unflushed = Limits {
-        can_flush: false,
-        ..wide
-    };
-    // no write is interrupted, and the second one fails
-    let one = Limits {
-        can_be_interrupted: false,
-        ..single
-    };
-    // the writer had no memory, which is no refusal of the run's own
-    let kind = ErrorKind::OutOfMemory;
-    let unflushed_starved = Limits { kind, ..unflushed };
-    let narrow_starved = Limits { kind, ..narrow };
-    let write = b"w 1 1\n".as_slice();
-    let reply = "child none\nnode Node4 1\n";
-    let all = outcome(lines.as_bytes(), replies.as_str(), "", 0);
+    let cases = [
+        case_of(WRITE, REPLY, "", 0),
+        case_of(lines.as_bytes(), replies.as_str(), "", 0),
+    ];
+    for case in cases {
+        check_writers(&rt, rt.alloc(), &["replay"], WIDE, 0, &case)?;
+    }
+    Ok(())
+}
+
+// A run whose output fails once this much is written.
+fn cut_off<'a>(input: &'a [u8], output: &'a str) -> Case<'a> {
+    case_of(input, output, "device failed\n", 1)
+}
+
+#[test]
+fn a_failed_writer_has_what_it_took(rt: HostRuntime) -> Result<(), Fail> {
     // the words, the limits of the output, the room of the errors, what is written
-    let rows: [(&[&str], Limits, usize, Case); 10] = [
-        (&["replay"], wide, 100, outcome(write, reply, "", 0)),
-        (&["replay"], unflushed, 100, cut_off(write, reply)),
-        (&["replay"], unflushed_starved, 100, cut_off(write, reply)),
-        (&["replay"], narrow, 100, cut_off(write, "child n")),
-        (&["replay"], narrow_starved, 100, cut_off(write, "child n")),
-        (&["replay"], single, 100, cut_off(write, "c")),
-        (&["replay"], one, 100, cut_off(COMMANDS.as_bytes(), "c")),
-        (&["find", "2"], one, 100, cut_off(SEARCHES.as_bytes(), "f")),
-        (&["replay"], wide, 100, all),
+    let rows: [(&[&str], Limits, usize, Case); 8] = [
+        (&["replay"], UNFLUSHED, 100, cut_off(WRITE, REPLY)),
+        (&["replay"], UNFLUSHED_STARVED, 100, cut_off(WRITE, REPLY)),
+        (&["replay"], NARROW, 100, cut_off(WRITE, "child n")),
+        (&["replay"], NARROW_STARVED, 100, cut_off(WRITE, "child n")),
+        (&["replay"], SINGLE, 100, cut_off(WRITE, "c")),
+        (
+            &["replay"],
+            UNINTERRUPTED,
+            100,
+            cut_off(COMMANDS.as_bytes(), "c"),
+        ),
+        (
+            &["find", "2"],
+            UNINTERRUPTED,
+            100,
+            cut_off(SEARCHES.as_bytes(), "f"),
+        ),
         // the report fails
-        (&["replay"], wide, 4, outcome(b"w 1", "", "line", 2)),
+        (&["replay"], WIDE, 4, case_of(b"w 1", "", "line", 2)),
     ];
     for (texts, limits, room, case) in rows {
-        let words = words(rt.alloc(), texts)?;
-        let mut input = case.input;
-        let mut output = narrow_writer(rt.alloc(), limits);
-        let mut errors = narrow_writer(rt.alloc(), Limits { room, ..wide });
-        let status = run(rt.alloc(), &words, &mut input, &mut output, &mut errors);
-        compare(&rt, &output.taken, &errors.taken, status, &case);
+        check_writers(&rt, rt.alloc(), texts, limits, room, &case)?;
     }
     Ok(())
 }
@@ -369,7 +315,7 @@ fn is_refused(rt: &impl Abort, alloc: Global, texts: &[&str], case: &Case) -> Re
         compare(rt, &output, &errors, status, case);
         return Ok(false);
     }
-    let refusal = outcome(case.input, "", "out of memory\n", 1);
+    let refusal = case_of(case.input, "", "out of memory\n", 1);
     compare(rt, &output, &errors, status, &refusal);
     check(rt, alloc, texts, case)?;
     Ok(true)
@@ -378,13 +324,12 @@ fn is_refused(rt: &impl Abort, alloc: Global, texts: &[&str], case: &Case) -> Re
 #[test]
 fn a_refused_run_prints_nothing(rt: HostRuntime) -> Result<(), Fail> {
     let cases: [(&[&str], Case); 2] = [
-        (&["replay"], outcome(COMMANDS.as_bytes(), REPLIES, "", 0)),
-        (&["find", "2"], outcome(SEARCHES.as_bytes(), ANSWERS, "", 0)),
+        (&["replay"], case_of(COMMANDS.as_bytes(), REPLIES, "", 0)),
+        (&["find", "2"], case_of(SEARCHES.as_bytes(), ANSWERS, "", 0)),
     ];
     for (texts, case) in cases {
         if is_refused(&rt, rt.alloc(), texts, &case)? {
-            // this end tells checks/refusals that it was so
-            Err("refused, and all stands")?;
+            return Err(ALL_STANDS.into());
         }
     }
     Ok(())

@@ -1,9 +1,10 @@
 //! Writes that say what a failed one leaves.
-ghost use Rattle.std.specs.Prelude.{◌≡◌, ◌≤◌, [], ◌++◌, take, OnOk, OnErr, IfSome};
+ghost use Rattle.std.specs.Prelude.{OnOk, OnErr, IfSome};
 ghost use Rattle.std.specs.Io.KnownBytes.{Appends};
 ghost use Rattle.art_cli.specs.Lines.{line};
 ghost use Rattle.art_cli.specs.Program.{AppendsBeginning};
 
+use arrayvec::ArrayString;
 use std::fmt::Display;
 use std::io::Write;
 use std::{fmt, io};
@@ -11,7 +12,7 @@ use std::{fmt, io};
 /// Writes the text, and has a writer that keeps bytes back let them go. Unlike `write_all` it says
 /// what a failure leaves.
 #[tactic(auto, using(crate::proofs::Writes::appends_more, crate::proofs::Writes::appends_whole))]
-pub fn write_out<W: Write>(output: &mut W, text: &[u8]) -> io::Result<()>
+pub(crate) fn write_out<W: Write>(output: &mut W, text: &[u8]) -> io::Result<()>
     ensures whole { OnOk result
         (Appends (W.contents output.old) (W.contents output.new) text.now) }
     ensures beginning { OnErr result
@@ -34,54 +35,12 @@ pub fn write_out<W: Write>(output: &mut W, text: &[u8]) -> io::Result<()>
 
 /// Writes the line of a text, as far as the writer takes it, and asks for no memory. A text has up
 /// to 63 bytes: nothing is written of a longer one.
-pub fn write_line<W: Write, D: Display + Drop>(output: &mut W, text: D)
+pub(crate) fn write_line<W: Write, D: Display + Drop>(output: &mut W, text: D)
     ensures { IfSome (D.output text) (λ shown.
         AppendsBeginning (W.contents output.old) (W.contents output.new) (line shown)) }
 {
-    let mut buffer = LineBuffer::new();
+    let mut buffer = ArrayString::<64>::new();
     if let Ok(()) = fmt::Write::writeln(&mut buffer, text) {
-        let _ = write_out(output, buffer.as_bytes());
-    }
-}
-
-// Room for a line.
-#[derive(Drop)]
-struct LineBuffer {
-    bytes: [u8; 64],
-    len: usize,
-    ghost fits: { len ≤ 64 },
-}
-
-impl LineBuffer {
-    fn new() -> LineBuffer
-        ensures { take result.len result.bytes ≡ [] }
-    {
-        LineBuffer {
-            bytes: [0; 64],
-            len: 0,
-        }
-    }
-
-    fn as_bytes(&self) -> &[u8]
-        ensures { result.now ≡ take self.now.len self.now.bytes }
-    {
-        &self.bytes[..self.len]
-    }
-}
-
-// A text that does not fit is refused whole.
-impl fmt::Write for LineBuffer {
-    ghost write_str_gives = { λ old text new.
-        take new.len new.bytes ≡ take old.len old.bytes ++ text };
-
-    fn write_str(&mut self, text: &str) -> fmt::Result {
-        let bytes = text.as_bytes();
-        if bytes.len() > self.bytes.len() - self.len {
-            return Err(fmt::Error);
-        }
-        let end = self.len + bytes.len();
-        self.bytes[self.len..end].copy_from_slice(bytes);
-        self.len = end;
-        Ok(())
+        let _ = write_out(output, buffer.as_str().as_bytes());
     }
 }

@@ -6,10 +6,10 @@ use art_tree::laws::entries_are_what_leaves_hold;
 use art_tree::{ArenaReader, ArtTree, AsBytes, TreePath, find_leaf};
 
 /// The number of an entry, and where its leaf hangs.
-pub type Found<K, const PREFIX_LEN: usize> = (usize, TreePath<K, usize, PREFIX_LEN>);
+pub(crate) type Found<K, const PREFIX_LEN: usize> = (usize, TreePath<K, usize, PREFIX_LEN>);
 
 /// The entry with this key, if there is one, and how many nodes are looked at to tell.
-pub fn answer<K: AsBytes, const PREFIX_LEN: usize>(
+pub(crate) fn answer<K: AsBytes, const PREFIX_LEN: usize>(
     tree: &ArtTree<K, usize, PREFIX_LEN>,
     query: &[u8],
 ) -> (Option<Found<K, PREFIX_LEN>>, usize)

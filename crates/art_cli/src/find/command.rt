@@ -11,7 +11,7 @@ use std::alloc::{AllocError, Global};
 
 /// What a line asks of the tree, by the key of an entry.
 #[derive(Clone, Copy)]
-pub enum TreeCommand<K> {
+pub(crate) enum TreeCommand<K> {
     /// `+`: the entry is to be there, with a number of its own.
     Insert(K),
     /// `-`: the entry is to go.
@@ -24,7 +24,7 @@ pub enum TreeCommand<K> {
 /// that one: it is no command.
 ///
 /// A refusal is for want of memory.
-pub fn parse(
+pub(crate) fn parse(
     alloc: Global,
     input: &[u8],
 ) -> Result<(Vec<TreeCommand<SliceKey<'_>>>, Option<LineFault>), AllocError>

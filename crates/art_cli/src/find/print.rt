@@ -1,17 +1,18 @@
 //! From the answers of `find` to lines.
-ghost use Rattle.std.specs.Prelude.{◌≡◌, ◌++◌, OnOk, option_map, string_bytes};
+ghost use Rattle.std.specs.Prelude.{◌≡◌, ◌++◌, OnOk, string_bytes};
 ghost use Rattle.art_cli.specs.Lines.{line};
 ghost use Rattle.art_cli.specs.Answer.{answer_text, removal_text};
 
+use crate::find::answer::Found;
 use art_tree::TreePath;
 use std::alloc::AllocError;
 use std::fmt;
 
 /// The line that answers a query: the number of the entry that is found and where its leaf hangs,
 /// or none, and how many nodes were looked at.
-pub fn print_answer<K, V, const PREFIX_LEN: usize>(
+pub(crate) fn print_answer<K, const PREFIX_LEN: usize>(
     text: &mut String,
-    answer: Option<(usize, TreePath<K, V, PREFIX_LEN>)>,
+    answer: Option<Found<K, PREFIX_LEN>>,
     reads: usize,
 ) -> Result<(), AllocError>
     ensures { OnOk result
@@ -24,16 +25,13 @@ pub fn print_answer<K, V, const PREFIX_LEN: usize>(
 }
 
 /// The line that answers a removal: the number of the entry that is gone, or that there was none.
-pub fn print_removal<K: Copy>(
-    text: &mut String,
-    removed: Option<(K, usize)>,
-) -> Result<(), AllocError>
-    ensures { OnOk result (string_bytes text.new
-        ≡ string_bytes text.old ++ line (removal_text (option_map (λ entry. entry.1) removed))) }
+pub(crate) fn print_removal(text: &mut String, removed: Option<usize>) -> Result<(), AllocError>
+    ensures { OnOk result
+        (string_bytes text.new ≡ string_bytes text.old ++ line (removal_text removed)) }
 {
     match removed {
         None => writeln!(text, "absent"),
-        Some((_, number)) => writeln!(text, "removed {number}"),
+        Some(number) => writeln!(text, "removed {number}"),
     }
 }
 

@@ -10,7 +10,7 @@ ghost use Rattle.art_cli.specs.Words.{AreWords};
 use crate::commands::{LineCommand, commands_of};
 use crate::failure::LineFault;
 use crate::lines::end_of_part;
-use crate::replay::command::{Command, child_of};
+use crate::replay::nodes::{Command, child_of};
 use art_tree::ChildCommand;
 use std::alloc::{AllocError, Global};
 use std::ops::Bound;
@@ -19,7 +19,10 @@ use std::str;
 /// The commands of the lines up to the first bad one, one a line, and what is wrong with that one.
 ///
 /// A refusal is for want of memory.
-pub fn parse(alloc: Global, input: &[u8]) -> Result<(Vec<Command>, Option<LineFault>), AllocError>
+pub(crate) fn parse(
+    alloc: Global,
+    input: &[u8],
+) -> Result<(Vec<Command>, Option<LineFault>), AllocError>
     ensures said { IfOk result (λ parsed.
         SayCommands (lines_of input.now) parsed.0.items (is_none parsed.1)) }
     ensures fault { IfOk result (λ parsed. IfSome parsed.1

@@ -4,13 +4,13 @@ ghost use Rattle.std.specs.List.{flat_map};
 ghost use Rattle.art_cli.specs.Lines.{line};
 ghost use Rattle.art_cli.specs.Reply.{kind_text, pair_text, reply_text, output_of};
 
-use crate::replay::command::{Child, Leaf, Node, Reply};
+use crate::replay::nodes::{Child, Leaf, Node, Reply};
 use art_tree::{ChildReply, NodeType};
 use std::alloc::{AllocError, Global};
 use std::fmt;
 
 /// A line for each reply, and the line of the node that is left.
-pub fn text_of(alloc: Global, replies: &[Reply], node: &Node) -> Result<String, AllocError>
+pub(crate) fn text_of(alloc: Global, replies: &[Reply], node: &Node) -> Result<String, AllocError>
     ensures { IfOk result (λ text.
         string_bytes text ≡ output_of replies.now (length node.now.children)) }
 {

@@ -1,5 +1,5 @@
 //! Runs of `artnodes find`.
-use super::{ANSWERS, SEARCHES, check, outcome};
+use super::{ANSWERS, SEARCHES, case_of, check};
 use std::alloc::{AllocError, Global};
 use std::process::Abort;
 use std::test::Fail;
@@ -15,7 +15,7 @@ fn finds(
     output: &str,
 ) -> Result<(), Fail> {
     for room in rooms {
-        check(rt, alloc, &["find", *room], &outcome(input, output, "", 0))?;
+        check(rt, alloc, &["find", *room], &case_of(input, output, "", 0))?;
     }
     Ok(())
 }
@@ -249,7 +249,7 @@ fn the_first_fault_of_lines_and_entries_is_told(rt: HostRuntime) -> Result<(), F
             &rt,
             rt.alloc(),
             &["find", "2"],
-            &outcome(input, "", errors, 2),
+            &case_of(input, "", errors, 2),
         )?;
     }
     Ok(())

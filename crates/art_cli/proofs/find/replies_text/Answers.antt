@@ -1,11 +1,11 @@
-use Rattle.std.proofs.Common.{◌≡◌, ◌∙◌, ℕ, ◌+◌, [], map, take, length, string_bytes, refl, sym, ap, subst, option_map, arith, append-nil, None}
+use Rattle.std.proofs.Common.{◌≡◌, ◌∙◌, ℕ, ◌+◌, [], map, take, length, string_bytes, refl, sym, ap, subst, option_map, arith, rules, append-nil, None}
 use Rattle.std.proofs.lemmas.List.{length-map, length-take}
 use Rattle.art_cli.specs.declared.find.command.TreeCommand.TheVariants.{Insert, Remove, Find}
 use Rattle.art_tree.specs.Dictionary.{entry_at}
 use Rattle.art_cli.specs.Find.{with_text, no_entries, after, after_all}
 use Rattle.art_cli.specs.Answer.{HoldsEntries, IsAnswer, removal_text}
 use Rattle.art_cli.specs.Lines.{line}
-use Rattle.art_cli.proofs.Finding.{so_far_one, one_more, cut_there, admitted, refused, holds_inserted, holds_removed}
+use Rattle.art_cli.proofs.Finding.{number_taken, so_far_one, one_more, cut_there, admitted, refused, holds_inserted, holds_removed}
 use Rattle.art_cli.proofs.find.replies_text.Goals as goal
 use Rattle.art_cli.proofs.find.replies_text.Goals.{in-Insert+in-Ok, in-Remove+in_ok-removed-in-Remove+in_ok-print_removal-in-Remove, in-Find+in_ok-print_answer-in-Find}
 
@@ -30,7 +30,8 @@ loop-index-preserved g c =
       | in-Remove+in_ok-removed-in-Remove+in_ok-print_removal-in-Remove w ↦
           let key = w.as_bytes.ensures.text in
           let removed = subst (λ x. w.in_ok-removed-in-Remove.removed ≡ entry_at text old x) key w.in_ok-removed-in-Remove.ensures.removed in
-          let number = ap (option_map (λ (entry : _ × ℕ). entry.1)) removed ∙ before.holds (text w.in-Remove.key) in
+          let taken = number_taken (λ entry number gives. search rules) w.in_ok-removed-in-Remove.removed w.map.result w.map.ensures.cases in
+          let number = taken ∙ ap (option_map (λ (entry : _ × ℕ). entry.1)) removed ∙ before.holds (text w.in-Remove.key) in
           so_far_one text old c.match-command.tree.arena front _ (Remove (text w.in-Remove.key)) c.loop-index.number c.match-command.number (string_bytes c.loop-index.text) _ (string_bytes c.match-command.text) before
           (one_more text c.args.commands.now c.loop-index.index c.index-commands-index.result _ (Remove (text w.in-Remove.key)) below c.index-commands-index.is (ap (with_text text) w.in-Remove.is))
           tt

@@ -2,4 +2,4 @@ use Rattle.std.proofs.Common.{rules}
 use Rattle.art_cli.proofs.find.print.print_removal.Goals as goal
 
 pub returns-in-None : goal.returns-in-None
-returns-in-None g c = search rules
+returns-in-None c = search rules

@@ -5,25 +5,25 @@ ghost use Rattle.art_nodes.specs.Pointers.{node_kind, opaque_key};
 use art_tree::{ChildCommand, ChildNode, ChildReply, LeafNode, NodePtr, NodeType, OpaqueNodePtr};
 
 /// How many bytes of a prefix a node stores.
-pub const PREFIX_LEN: usize = 16;
+pub(crate) const PREFIX_LEN: usize = 16;
 
 /// A command that a line gives.
-pub type Command = ChildCommand<(), (), PREFIX_LEN>;
+pub(crate) type Command = ChildCommand<(), (), PREFIX_LEN>;
 
 /// A reply that a line is printed for.
-pub type Reply = ChildReply<(), (), PREFIX_LEN>;
+pub(crate) type Reply = ChildReply<(), (), PREFIX_LEN>;
 
 /// The node that the commands work.
-pub type Node = ChildNode<(), (), PREFIX_LEN>;
+pub(crate) type Node = ChildNode<(), (), PREFIX_LEN>;
 
 /// A child.
-pub type Child = OpaqueNodePtr<(), (), PREFIX_LEN>;
+pub(crate) type Child = OpaqueNodePtr<(), (), PREFIX_LEN>;
 
 /// The leaf that a child points to.
-pub type Leaf = LeafNode<(), (), PREFIX_LEN>;
+pub(crate) type Leaf = LeafNode<(), (), PREFIX_LEN>;
 
 /// The child that a number in a line stands for: the pointer to the leaf under that key.
-pub fn child_of(key: u32) -> Child
+pub(crate) fn child_of(key: u32) -> Child
     ensures kind { node_kind result ≡ NodeType.Leaf }
     ensures key { opaque_key result ≡ key }
 {
