@@ -13,8 +13,5 @@ pub(crate) fn hash_of<T: Hash>(value: &T) -> u64 {
 
 /// The key of bytes of which none is zero.
 pub(crate) fn c_string(alloc: Global, bytes: &[u8]) -> Result<CStringKey, Fail> {
-    match CStringKey::new(bytes.to_vec(alloc)?) {
-        Ok(key) => Ok(key),
-        Err(refusal) => Err(refusal)?,
-    }
+    Ok(CStringKey::new(bytes.to_vec(alloc)?)?)
 }

@@ -22,7 +22,7 @@ mod refusals;
 mod tuples;
 mod using;
 
-/// The key of a value has these bytes.
+// The key of a value has these bytes.
 fn written<B: BytesMapping<D>, D>(
     rt: &impl Abort,
     alloc: Global,
@@ -34,7 +34,7 @@ fn written<B: BytesMapping<D>, D>(
     Ok(())
 }
 
-/// The same of numbers, addresses and sequences, in this form.
+// The same of numbers, addresses and sequences, in this form.
 fn written_in<F, D: Domain<F>>(
     rt: &impl Abort,
     alloc: Global,
@@ -90,7 +90,7 @@ fn numbers_addresses_and_sequences_as_bytes(rt: HostRuntime) -> Result<(), Fail>
     Ok(())
 }
 
-/// The keys have these bytes, and ascend.
+// The keys have these bytes, and ascend.
 fn ascend_with_texts<K: OrderedBytes>(rt: &impl Abort, keys: &[K], texts: &[&[u8]]) {
     assert!(rt; keys.len() == texts.len());
     for index in 0..keys.len() {
@@ -99,7 +99,7 @@ fn ascend_with_texts<K: OrderedBytes>(rt: &impl Abort, keys: &[K], texts: &[&[u8
     }
 }
 
-/// So do the keys of these vectors.
+// So do the keys of these vectors.
 fn vectors_ascend<B: OrderedMapping<Vec<E>>, E: Ord + Copy>(
     rt: &impl Abort,
     alloc: Global,
@@ -136,7 +136,7 @@ fn concat_array_of_signed_integers_ord(rt: HostRuntime) -> Result<(), Fail> {
     Ok(())
 }
 
-/// No value has these bytes.
+// No value has these bytes.
 fn refused<B: BytesMapping<D>, D: Drop>(
     rt: &impl Abort,
     alloc: Global,
@@ -147,7 +147,7 @@ fn refused<B: BytesMapping<D>, D: Drop>(
     Ok(())
 }
 
-/// The same of numbers, in this form.
+// The same of numbers, in this form.
 fn refused_number<F, E: Domain<F> + Drop>(
     rt: &impl Abort,
     alloc: Global,

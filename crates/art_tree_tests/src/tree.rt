@@ -5,6 +5,7 @@ mod dictionary;
 mod loading;
 mod matches;
 mod path;
+mod refusals;
 mod searches;
 mod using;
 
@@ -13,7 +14,8 @@ ghost use Rattle.art_tree.specs.Search.{HasTree};
 
 use art_tree::{
     AnyRef, ArenaReader, ArtTree, AsBytes, CStringKey, ConcatTuple, InnerNodeCommon, LoadRefusal,
-    Mapped, NodeArena, OpaqueNodePtr, SliceKey, ToIBE, ToOctets, TreePath, find_leaf, laws, load,
+    Mapped, NodeArena, NodeType, OpaqueNodePtr, SliceKey, ToIBE, ToOctets, TreePath, find_leaf,
+    laws, load,
 };
 use std::alloc::{AllocError, Global};
 use std::process::Abort;
@@ -37,22 +39,36 @@ fn slice_keys<'a>(alloc: Global, texts: &[&'a [u8]]) -> Result<Vec<SliceKey<'a>>
     Ok(keys)
 }
 
+// The kind of a node, and how many children it has.
+fn shape<K, V, const PREFIX_LEN: usize>(
+    rt: &impl Abort,
+    arena: &NodeArena<K, V, PREFIX_LEN>,
+    pointer: OpaqueNodePtr<K, V, PREFIX_LEN>,
+) -> (NodeType, usize) {
+    assert!(rt; arena.holds_opaque(pointer));
+    let header = arena.header(pointer);
+    (
+        pointer.node_type(),
+        header.map_or(0, |header| header.num_children()),
+    )
+}
+
 // Loads the keys with their numbers as values. A tree that stood stands.
 fn load_all<K: AsBytes + Drop, const PREFIX_LEN: usize>(
     alloc: Global,
     arena: &mut NodeArena<K, usize, PREFIX_LEN>,
     keys: Vec<K>,
-) -> Result<OpaqueNodePtr<K, usize, PREFIX_LEN>, AllocError>
+) -> Result<OpaqueNodePtr<K, usize, PREFIX_LEN>, Fail>
     ensures loaded { IfOk result (λ root. HasTree K.text arena.new root) }
     ensures kept { IfOk result (λ _. (root : _) → HasTree K.text arena.old root →
         HasTree K.text arena.new root) }
 {
     laws::trees_stand_where_all_is_kept::<K, usize, PREFIX_LEN>();
     let entries = numbered(alloc, keys)?;
-    let Ok(root) = load(alloc, arena, entries) else {
-        return Err(AllocError);
-    };
-    Ok(root)
+    match load(alloc, arena, entries) {
+        Ok(root) => Ok(root),
+        Err(fault) => Err(fault.refusal.into()),
+    }
 }
 
 // The same for these texts.
@@ -60,7 +76,7 @@ fn load_texts<'a, const PREFIX_LEN: usize>(
     alloc: Global,
     arena: &mut NodeArena<SliceKey<'a>, usize, PREFIX_LEN>,
     texts: &[&'a [u8]],
-) -> Result<OpaqueNodePtr<SliceKey<'a>, usize, PREFIX_LEN>, AllocError>
+) -> Result<OpaqueNodePtr<SliceKey<'a>, usize, PREFIX_LEN>, Fail>
     ensures loaded { IfOk result (λ root. HasTree ⟦<SliceKey<'a> as AsBytes>⟧.text arena.new root) }
     ensures kept { IfOk result (λ _. (root : _) → HasTree ⟦<SliceKey<'a> as AsBytes>⟧.text arena.old root →
         HasTree ⟦<SliceKey<'a> as AsBytes>⟧.text arena.new root) }
@@ -117,8 +133,8 @@ fn check<K: AsBytes, const PREFIX_LEN: usize>(
 )
     requires { HasTree K.text arena.now root }
 {
-    for (key, answer, looks) in rows {
-        assert!(rt; search(arena, root, key) == (*answer, *looks));
+    for (row, (key, answer, looks)) in rows.iter().enumerate() {
+        assert!(rt; search(arena, root, key) == (*answer, *looks), "row {row}");
     }
 }
 
@@ -129,7 +145,7 @@ fn check_keys<K: AsBytes + Drop, const PREFIX_LEN: usize>(
     mut arena: NodeArena<K, usize, PREFIX_LEN>,
     keys: Vec<K>,
     rows: &[Row],
-) -> Result<(), AllocError> {
+) -> Result<(), Fail> {
     let root = load_all(alloc, &mut arena, keys)?;
     check(rt, &arena, root, rows);
     Ok(())

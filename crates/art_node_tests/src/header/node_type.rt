@@ -3,7 +3,7 @@ ghost use Rattle.std.specs.Prelude.{IsTrue};
 
 use art_header::NodeType;
 
-/// Kinds are ordered as they are listed.
+// Kinds are ordered as they are listed.
 fn kinds_ascend() -> bool
     ensures { IsTrue result }
 {
@@ -15,7 +15,7 @@ fn kinds_ascend() -> bool
 
 #[test]
 fn kinds_know_how_many_children_they_hold(rt: HostRuntime) {
-    for (kind, num_children, want) in [
+    let rows = [
         (NodeType::Node4, 0, false),
         (NodeType::Node16, 4, true),
         (NodeType::Node16, 5, false),
@@ -23,20 +23,25 @@ fn kinds_know_how_many_children_they_hold(rt: HostRuntime) {
         (NodeType::Node48, 17, false),
         (NodeType::Node256, 48, true),
         (NodeType::Node256, 49, false),
-    ] {
+    ];
+    for (row, (kind, num_children, want)) in rows.into_iter().enumerate() {
         assert!(rt; kind != NodeType::Leaf);
-        assert!(rt; kind.should_shrink_inner_node(num_children) == want);
+        assert!(rt;
+            kind.should_shrink_inner_node(num_children) == want,
+            "row {row}"
+        );
     }
 
-    for (kind, least, most) in [
+    let rows = [
         (NodeType::Node4, 2, 4),
         (NodeType::Node16, 5, 16),
         (NodeType::Node48, 17, 48),
         (NodeType::Node256, 49, 256),
         (NodeType::Leaf, 0, 0),
-    ] {
-        assert!(rt; *kind.capacity_range().start() == least);
-        assert!(rt; *kind.capacity_range().end() == most);
+    ];
+    for (row, (kind, least, most)) in rows.into_iter().enumerate() {
+        assert!(rt; *kind.capacity_range().start() == least, "row {row}");
+        assert!(rt; *kind.capacity_range().end() == most, "row {row}");
     }
 
     assert!(rt; kinds_ascend());

@@ -4,7 +4,7 @@ ghost use Rattle.std.specs.Prelude.{◌<◌, ◌↔◌, IsTrue};
 use art_header::{NonMaxIndex, TryFromByteError};
 use std::test::Fail;
 
-/// Indices are ordered as their numbers.
+// Indices are ordered as their numbers.
 fn is_below(a: NonMaxIndex, b: NonMaxIndex) -> bool
     ensures { IsTrue result ↔ (a < b) }
 {

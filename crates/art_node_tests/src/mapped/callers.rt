@@ -15,7 +15,7 @@ use crate::fixtures::hash_of;
 use art_bytes::NoPrefixesBytes;
 use std::hash::{DefaultHasher, Hash, Hasher};
 
-/// The key of an address is its octets, and is always made.
+// The key of an address is its octets, and is always made.
 fn host(alloc: Global, address: Ipv4Addr) -> Result<Mapped<ToOctets, Ipv4Addr>, AllocError>
     ensures text { IfOk result (λ key. mapped_text key ≡ ipv4_octets address) }
     ensures always { IsOk result }
@@ -23,21 +23,21 @@ fn host(alloc: Global, address: Ipv4Addr) -> Result<Mapped<ToOctets, Ipv4Addr>, 
     Mapped::new(alloc, address)
 }
 
-/// The key of a vector of signed numbers joins their bytes.
+// The key of a vector of signed numbers joins their bytes.
 fn path(alloc: Global, steps: Vec<i16>) -> Result<Mapped<ToIBE, Vec<i16>>, AllocError>
     ensures { IfOk result (λ key. mapped_text key ≡ joined (signed_text 2) steps.items) }
 {
     Mapped::new(alloc, steps)
 }
 
-/// Keys of signed numbers compare by size.
+// Keys of signed numbers compare by size.
 fn by_size(a: &Mapped<ToIBE, i32>, b: &Mapped<ToIBE, i32>) -> Ordering
     ensures { (x y : ℤ) → HoldsValue a.now x → HoldsValue b.now y → result ≡ int_cmp x y }
 {
     a.cmp(b)
 }
 
-/// Keys compare as the values do.
+// Keys compare as the values do.
 fn compared<B: OrderedMapping<D>, D: Ord + Drop>(
     alloc: Global,
     a: D,
@@ -48,7 +48,7 @@ fn compared<B: OrderedMapping<D>, D: Ord + Drop>(
     Ok(Mapped::<B, D>::new(alloc, a)?.cmp(&Mapped::<B, D>::new(alloc, b)?))
 }
 
-/// An integer or an address comes back as it went in, and no call refuses.
+// An integer or an address comes back as it went in, and no call refuses.
 fn element_back<F, E: Element<F>>(alloc: Global, value: E) -> Result<E, AllocError>
     ensures value { IfOk result (λ read. read ≡ value) }
     ensures always { IsOk result }
@@ -70,7 +70,7 @@ fn ipv6_back(alloc: Global, value: Ipv6Addr) -> Result<Ipv6Addr, AllocError>
     Mapped::<ToOctets, Ipv6Addr>::new(alloc, value)?.get(alloc)
 }
 
-/// To ask bytes for an integer or an address refuses nothing.
+// To ask bytes for an integer or an address refuses nothing.
 fn element_asked<F, E: Element<F>>(alloc: Global, bytes: E::Bytes) -> Result<Option<E>, AllocError>
     ensures { IsOk result }
 {
@@ -83,7 +83,7 @@ fn ipv6_asked(alloc: Global, bytes: [u8; 16]) -> Result<Option<Ipv6Addr>, AllocE
     <ToOctets as BytesMapping<Ipv6Addr>>::checked_from_bytes(alloc, bytes)
 }
 
-/// An array comes back as it went in.
+// An array comes back as it went in.
 fn array_back<F: IntegerForm, E: Element<F>, const N: usize>(
     alloc: Global,
     value: [E; N],
@@ -93,7 +93,7 @@ fn array_back<F: IntegerForm, E: Element<F>, const N: usize>(
     Mapped::<ToBigEndian<F>, [E; N]>::new(alloc, value)?.get(alloc)
 }
 
-/// To get the array of a key refuses nothing, nor does to ask bytes for one.
+// To get the array of a key refuses nothing, nor does to ask bytes for one.
 fn array_of_key<F: IntegerForm, E: Element<F>, const N: usize>(
     alloc: Global,
     key: Mapped<ToBigEndian<F>, [E; N]>,
@@ -112,7 +112,7 @@ fn array_asked<F: IntegerForm, E: Element<F>, const N: usize>(
     <ToBigEndian<F> as BytesMapping<[E; N]>>::checked_from_bytes(alloc, bytes)
 }
 
-/// The elements of a vector come back as they went in.
+// The elements of a vector come back as they went in.
 fn vector_back<F: IntegerForm, E: Element<F>>(
     alloc: Global,
     value: Vec<E>,
@@ -122,7 +122,7 @@ fn vector_back<F: IntegerForm, E: Element<F>>(
     Mapped::<ToBigEndian<F>, Vec<E>>::new(alloc, value)?.get(alloc)
 }
 
-/// A clone holds the value that the key holds. Of an array's bytes it is always made.
+// A clone holds the value that the key holds. Of an array's bytes it is always made.
 fn port_again(key: &Mapped<ToUBE, u16>) -> Result<Mapped<ToUBE, u16>, AllocError>
     ensures value { (port : ℕ) → HoldsValue key.now port →
         IfOk result (λ again. HoldsValue again port) }
@@ -138,14 +138,14 @@ fn path_again(key: &Mapped<ToIBE, Vec<i16>>) -> Result<Mapped<ToIBE, Vec<i16>>, 
     key.clone()
 }
 
-/// A key feeds a hasher what its bytes do.
+// A key feeds a hasher what its bytes do.
 fn feed<B: BytesMapping<D>, D, H: Hasher>(key: &Mapped<B, D>, hasher: &mut H)
     ensures { hasher.new ≡ fold H.write hasher.old (fed.slice fed.u8 (mapped_text key.now)) }
 {
     key.hash(hasher);
 }
 
-/// Two keys that ascend, and of which none begins the other.
+// Two keys that ascend, and of which none begins the other.
 fn ascend<K: OrderedBytes + NoPrefixesBytes>(rt: &impl Abort, less: &K, more: &K) {
     assert!(rt; order_of_texts(less, more) == Ordering::Less);
     assert!(rt; order_of_texts(more, less) == Ordering::Greater);
@@ -215,7 +215,7 @@ fn callers_clone_and_hash_a_key(rt: HostRuntime) -> Result<(), Fail> {
     Ok(())
 }
 
-/// The keys of two values that ascend.
+// The keys of two values that ascend.
 fn keys_ascend<B, D: Ord + Drop>(
     rt: &impl Abort,
     alloc: Global,
@@ -241,7 +241,7 @@ fn keys_are_in_order_and_none_begins_another(rt: HostRuntime) -> Result<(), Fail
     Ok(())
 }
 
-/// How the bytes of two values' keys compare.
+// How the bytes of two values' keys compare.
 fn order_of_bytes<B: OrderedMapping<D>, D: Ord + Drop>(
     alloc: Global,
     a: D,
@@ -252,7 +252,7 @@ fn order_of_bytes<B: OrderedMapping<D>, D: Ord + Drop>(
     Ok(order_of_texts(&a, &b))
 }
 
-/// Whether the key that stands for `key` begins with the one that stands for `front`.
+// Whether the key that stands for `key` begins with the one that stands for `front`.
 fn begins_with<D: NoPrefixesBytes + Drop>(
     alloc: Global,
     key: D,

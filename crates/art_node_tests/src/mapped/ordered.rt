@@ -1,13 +1,13 @@
 //! Keys of values ascend as the values do.
 use super::*;
 
-/// Two keys are in this order, by themselves and by their bytes.
+// Two keys are in this order, by themselves and by their bytes.
 fn have_order<K: OrderedBytes>(rt: &impl Abort, a: &K, b: &K, order: Ordering) {
     assert!(rt; a.cmp(b) == order);
     assert!(rt; a.as_bytes().cmp(&b.as_bytes()) == order);
 }
 
-/// Two values are in the order of their keys and of the keys' bytes, and the first comes back.
+// Two values are in the order of their keys and of the keys' bytes, and the first comes back.
 pub(super) fn compared<B: OrderedMapping<D>, D: Ord + Copy>(
     rt: &impl Abort,
     alloc: Global,
@@ -21,7 +21,7 @@ pub(super) fn compared<B: OrderedMapping<D>, D: Ord + Copy>(
     Ok(())
 }
 
-/// The same of vectors.
+// The same of vectors.
 fn compared_vectors<B: OrderedMapping<Vec<E>>, E: Ord + Copy>(
     rt: &impl Abort,
     alloc: Global,
@@ -35,7 +35,7 @@ fn compared_vectors<B: OrderedMapping<Vec<E>>, E: Ord + Copy>(
     Ok(())
 }
 
-/// Three values that ascend, in pairs.
+// Three values that ascend, in pairs.
 fn ordered<B: OrderedMapping<D>, D: Ord + Copy>(
     rt: &impl Abort,
     alloc: Global,
@@ -52,7 +52,7 @@ fn ordered<B: OrderedMapping<D>, D: Ord + Copy>(
     compared::<B, D>(rt, alloc, high, high)
 }
 
-/// Numbers, and arrays of three of them.
+// Numbers, and arrays of three of them.
 fn ordered_arrays<F: IntegerForm, E: Element<F> + Domain<F>>(
     rt: &impl Abort,
     alloc: Global,
@@ -63,7 +63,7 @@ fn ordered_arrays<F: IntegerForm, E: Element<F> + Domain<F>>(
     ordered::<ToBigEndian<F>, [E; 3]>(rt, alloc, a, b, c)
 }
 
-/// Numbers, arrays of three of them, and vectors.
+// Numbers, arrays of three of them, and vectors.
 fn ordered_sequences<F: IntegerForm, E: Element<F> + Domain<F>>(
     rt: &impl Abort,
     alloc: Global,

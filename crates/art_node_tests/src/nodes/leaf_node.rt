@@ -18,9 +18,9 @@ fn check_text(rt: &impl Abort, leaf: &StringLeaf) {
         ("b", false, Ordering::Less, false),
     ] {
         let bytes = text.as_bytes();
-        assert!(rt; leaf.matches_full_key(bytes) == is_same);
-        assert!(rt; leaf.compare_full_key(bytes) == order);
-        assert!(rt; leaf.starts_with(bytes) == is_front);
+        assert!(rt; leaf.matches_full_key(bytes) == is_same, "at {text}");
+        assert!(rt; leaf.compare_full_key(bytes) == order, "at {text}");
+        assert!(rt; leaf.starts_with(bytes) == is_front, "at {text}");
     }
 }
 

@@ -30,7 +30,7 @@ fn common_fronts_end_where_bytes_differ(rt: HostRuntime) {
         (&long, &long, 40),
         (&long, &other, 3),
     ];
-    for (a, b, length) in rows {
-        assert!(rt; common_front_len(a, b) == length);
+    for (row, (a, b, length)) in rows.into_iter().enumerate() {
+        assert!(rt; common_front_len(a, b) == length, "row {row}");
     }
 }

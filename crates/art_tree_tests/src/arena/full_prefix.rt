@@ -16,8 +16,8 @@ use std::cmp::Ordering::{Greater, Less};
 use std::process::Abort;
 use std::test::Fail;
 
-/// Nodes of two trees that are the same but for their pointers match a key alike, also where one
-/// stores fewer bytes of its prefix than the other. The leaves that they name may differ.
+// Nodes of two trees that are the same but for their pointers match a key alike, also where one
+// stores fewer bytes of its prefix than the other. The leaves that they name may differ.
 fn match_alike<
     K: AsBytes,
     V,
@@ -166,8 +166,11 @@ fn check_prefix<K: AsBytes, const PREFIX_LEN: usize>(
     let (prefix, leaf) = node.read_full_prefix(arena, depth);
     assert!(rt; prefix == expected);
     assert!(rt; leaf.is_some() == (PREFIX_LEN < expected.len()));
-    for (key, answer) in rows {
-        assert!(rt; full_match(rt, arena, node, key, depth) == *answer);
+    for (row, (key, answer)) in rows.iter().enumerate() {
+        assert!(rt;
+            full_match(rt, arena, node, key, depth) == *answer,
+            "row {row}"
+        );
     }
 }
 

@@ -1,10 +1,9 @@
-//! Trees under inserts and removals: their shape, their list of leaves, and what is refused.
+//! Trees under inserts and removals: their shape, their list of leaves, and keys that clash.
 ghost use Rattle.art_tree.specs.Search.{HasTree};
 
 use super::matches::check_match;
 use super::*;
-use crate::ALL_STANDS;
-use art_tree::{InsertRefusal, LeafNode, NodePtr, NodeType};
+use art_tree::{InsertRefusal, LeafNode, NodePtr};
 use std::cmp::Ordering;
 
 type Keys = ArtTree<String, usize, 2>;
@@ -225,13 +224,10 @@ fn a_text_that_parts_inside_a_prefix_makes_a_node(rt: HostRuntime) -> Result<(),
 }
 
 // A tree of the two texts that never had another.
-fn pair_loaded(alloc: Global) -> Result<Keys, AllocError> {
+fn pair_loaded(alloc: Global) -> Result<Keys, Fail> {
     let first = (String::from_str(alloc, "abcde1")?, 0);
     let second = (String::from_str(alloc, "abcde2")?, 1);
-    match Keys::load(alloc, vec![in alloc; first, second]?) {
-        Ok(tree) => Ok(tree),
-        Err(_) => Err(AllocError),
-    }
+    Ok(Keys::load(alloc, vec![in alloc; first, second]?).map_err(|fault| fault.refusal)?)
 }
 
 // The root is over `abcde1` and `abcde2`, and stores two bytes of what they share. Its children are
@@ -306,26 +302,24 @@ fn a_text_comes_and_goes(rt: HostRuntime) -> Result<(), Fail> {
     Ok(())
 }
 
-type Bytes = ArtTree<[u8; 1], u8, 0>;
-
-// The kind of the root and how many children it has.
-fn root_shape(rt: &impl Abort, tree: &Bytes) -> Option<(NodeType, usize)> {
-    let root = tree.root()?;
-    assert!(rt; tree.arena().holds_opaque(root));
-    let header = tree.arena().header(root);
-    Some((
-        root.node_type(),
-        header.map_or(0, |header| header.num_children()),
-    ))
-}
-
 // Inserts a key that is not there.
-fn add_byte(rt: &impl Abort, tree: &mut Bytes, byte: u8) -> Result<(), AllocError> {
-    let Ok(before) = tree.insert([byte], byte) else {
-        return Err(AllocError);
-    };
+fn add_key<K: AsBytes + Drop, V: Drop, const PREFIX_LEN: usize>(
+    rt: &impl Abort,
+    tree: &mut ArtTree<K, V, PREFIX_LEN>,
+    key: K,
+    value: V,
+) -> Result<(), Fail> {
+    let before = tree.insert(key, value).map_err(|fault| fault.refusal)?;
     assert!(rt; before.is_none());
     Ok(())
+}
+
+pub(super) type Bytes = ArtTree<[u8; 1], u8, 0>;
+
+// The kind of the root and how many children it has.
+pub(super) fn root_shape(rt: &impl Abort, tree: &Bytes) -> Option<(NodeType, usize)> {
+    let root = tree.root()?;
+    Some(shape(rt, tree.arena(), root))
 }
 
 fn take_byte(rt: &impl Abort, tree: &mut Bytes, byte: u8) -> Result<(), AllocError> {
@@ -333,10 +327,10 @@ fn take_byte(rt: &impl Abort, tree: &mut Bytes, byte: u8) -> Result<(), AllocErr
     Ok(())
 }
 
-fn fill_and_empty_twice(rt: &impl Abort, tree: &mut Bytes) -> Result<(), AllocError> {
+fn fill_empty_and_begin_again(rt: &impl Abort, tree: &mut Bytes) -> Result<(), Fail> {
     assert!(rt; tree.first().is_none() && tree.last().is_none());
     for byte in 0..5 {
-        add_byte(rt, tree, byte)?;
+        add_key(rt, tree, [byte], byte)?;
     }
     assert!(rt; root_shape(rt, tree) == Some((NodeType::Node16, 5)));
     take_byte(rt, tree, 0)?;
@@ -346,33 +340,23 @@ fn fill_and_empty_twice(rt: &impl Abort, tree: &mut Bytes) -> Result<(), AllocEr
         take_byte(rt, tree, byte)?;
     }
     assert!(rt; root_shape(rt, tree) == None && tree.first().is_none());
-    add_byte(rt, tree, 7)?;
+    add_key(rt, tree, [7], 7)?;
     assert!(rt; root_shape(rt, tree) == Some((NodeType::Leaf, 0)));
     Ok(())
 }
 
 #[test]
 fn a_tree_comes_and_goes(rt: HostRuntime) -> Result<(), Fail> {
-    fill_and_empty_twice(&rt, &mut Bytes::new(rt.alloc()))?;
-    Ok(())
+    fill_empty_and_begin_again(&rt, &mut Bytes::new(rt.alloc()))
 }
 
 type Pairs = ArtTree<[u8; 2], u8, 0>;
 
-// Inserts a key that is not there.
-fn add_pair(rt: &impl Abort, tree: &mut Pairs, key: [u8; 2], value: u8) -> Result<(), AllocError> {
-    let Ok(before) = tree.insert(key, value) else {
-        return Err(AllocError);
-    };
-    assert!(rt; before.is_none());
-    Ok(())
-}
-
 // Each byte of a node below the root comes and goes, through every kind of node, with ample memory.
-fn fill_and_empty(rt: &impl Abort, tree: &mut Pairs) -> Result<(), AllocError> {
-    add_pair(rt, tree, [0, 7], 3)?;
+fn fill_and_empty(rt: &impl Abort, tree: &mut Pairs) -> Result<(), Fail> {
+    add_key(rt, tree, [0, 7], 3)?;
     for byte in 0..=255u8 {
-        add_pair(rt, tree, [1, byte], byte)?;
+        add_key(rt, tree, [1, byte], byte)?;
     }
     for byte in 0..=255u8 {
         assert!(rt; tree.get(&[1, byte]).copied() == Some(byte));
@@ -385,175 +369,5 @@ fn fill_and_empty(rt: &impl Abort, tree: &mut Pairs) -> Result<(), AllocError> {
 
 #[test]
 fn every_byte_comes_and_goes(rt: HostRuntime) -> Result<(), Fail> {
-    fill_and_empty(&rt, &mut Pairs::new(rt.alloc()))?;
-    Ok(())
-}
-
-type Words = ArtTree<[u8; 7], usize, 2>;
-
-// The second parts from the first past a prefix that is not wholly stored, and the third inside it;
-// the sixth is the fifth child of its node, and the last parts from all others at the root.
-const WORDS: [[u8; 7]; 7] = [
-    *b"abcdef1",
-    *b"abcdef2",
-    *b"abcxyz0",
-    *b"abcdef3",
-    *b"abcdef4",
-    *b"abcdef5",
-    *b"zbcdef1",
-];
-
-// The first words have their numbers, and the others no entry.
-fn check_words(rt: &impl Abort, tree: &Words, count: usize) {
-    for (number, word) in WORDS.iter().enumerate() {
-        let value = tree.get(word).copied();
-        assert!(rt; value == if number < count { Some(number) } else { None });
-    }
-}
-
-// Inserts a word. Where that is refused memory, the tree is as before, the next insert takes the entry,
-// and the test ends.
-fn insert_word(
-    rt: &impl Abort,
-    tree: &mut Words,
-    word: [u8; 7],
-    number: usize,
-) -> Result<(), Fail> {
-    let root = tree.root();
-    let fault = match tree.insert(word, number) {
-        Ok(before) => {
-            assert!(rt; before.is_none());
-            return Ok(());
-        }
-        Err(fault) => fault,
-    };
-    assert!(rt; fault.refusal == InsertRefusal::OutOfMemory);
-    assert!(rt; fault.key == word && fault.value == number);
-    assert!(rt; tree.root() == root);
-    check_words(rt, tree, number);
-    let again = tree.insert(fault.key, fault.value);
-    assert!(rt; matches!(&again, Ok(None)));
-    assert!(rt; tree.get(&word).copied() == Some(number));
-    Err(ALL_STANDS.into())
-}
-
-fn insert_words(rt: &impl Abort, tree: &mut Words) -> Result<(), Fail> {
-    for (number, word) in WORDS.iter().enumerate() {
-        insert_word(rt, tree, *word, number)?;
-    }
-    check_words(rt, tree, WORDS.len());
-    Ok(())
-}
-
-#[test]
-fn a_refused_insert_leaves_the_tree(rt: HostRuntime) -> Result<(), Fail> {
-    insert_words(&rt, &mut Words::new(rt.alloc()))
-}
-
-// The root over so many keys of one byte.
-fn root_shape_over(count: usize) -> Option<(NodeType, usize)> {
-    let kind = match count {
-        0 => return None,
-        1 => return Some((NodeType::Leaf, 0)),
-        2..=4 => NodeType::Node4,
-        5..=16 => NodeType::Node16,
-        17..=48 => NodeType::Node48,
-        _ => NodeType::Node256,
-    };
-    Some((kind, count))
-}
-
-// The keys of one byte below the end have it as their value, and there are no others.
-fn check_bytes(rt: &impl Abort, tree: &Bytes, end: usize) {
-    for byte in 0..=255u8 {
-        let value = (usize::from(byte) < end).then_some(byte);
-        assert!(rt; tree.get(&[byte]).copied() == value);
-    }
-    assert!(rt; root_shape(rt, tree) == root_shape_over(end));
-}
-
-// A tree of the keys of one byte below the end. Where the load is refused memory, the entries come back
-// in their order, the next load takes them, and the test ends.
-fn load_bytes(rt: &impl Abort, alloc: Global, end: usize) -> Result<Bytes, Fail> {
-    let mut entries = Vec::new(alloc);
-    for byte in (0..=255u8).take(end) {
-        entries.push(([byte], byte))?;
-    }
-    let fault = match ArtTree::load(alloc, entries) {
-        Ok(tree) => return Ok(tree),
-        Err(fault) => fault,
-    };
-    assert!(rt; fault.refusal == LoadRefusal::OutOfMemory);
-    assert!(rt; fault.entries.len() == end);
-    for (byte, entry) in (0..=255u8).zip(&fault.entries) {
-        assert!(rt; *entry == ([byte], byte));
-    }
-    let Ok(tree) = ArtTree::load(alloc, fault.entries) else {
-        panic!(rt; "refused twice");
-    };
-    check_bytes(rt, &tree, end);
-    Err(ALL_STANDS.into())
-}
-
-#[test]
-fn a_refused_load_gives_256_entries_back(rt: HostRuntime) -> Result<(), Fail> {
-    let tree = load_bytes(&rt, rt.alloc(), 256)?;
-    check_bytes(&rt, &tree, 256);
-    Ok(())
-}
-
-// Inserts the byte after the last one. Where that is refused memory, the tree is as before, the next
-// insert takes the entry, and the test ends.
-fn grow(rt: &impl Abort, tree: &mut Bytes, byte: u8) -> Result<(), Fail> {
-    let end = usize::from(byte);
-    let root = tree.root();
-    let fault = match tree.insert([byte], byte) {
-        Ok(_) => {
-            check_bytes(rt, tree, end + 1);
-            return Ok(());
-        }
-        Err(fault) => fault,
-    };
-    assert!(rt; fault.refusal == InsertRefusal::OutOfMemory);
-    assert!(rt; fault.key == [byte] && fault.value == byte);
-    assert!(rt; tree.root() == root);
-    check_bytes(rt, tree, end);
-    let again = tree.insert(fault.key, fault.value);
-    assert!(rt; matches!(&again, Ok(None)));
-    check_bytes(rt, tree, end + 1);
-    Err(ALL_STANDS.into())
-}
-
-// The root is full: it gives way to a node of the next larger kind.
-#[test]
-fn a_refused_growth_leaves_the_tree(rt: HostRuntime) -> Result<(), Fail> {
-    for (end, byte) in [(4, 4), (16, 16), (48, 48)] {
-        grow(&rt, &mut load_bytes(&rt, rt.alloc(), end)?, byte)?;
-    }
-    Ok(())
-}
-
-// Takes out the last byte. Where that is refused memory, the tree is as before, the next removal takes
-// it out, and the test ends.
-fn shrink(rt: &impl Abort, tree: &mut Bytes, last: u8) -> Result<(), Fail> {
-    let root = tree.root();
-    if tree.remove(&[last]).is_err() {
-        assert!(rt; tree.root() == root);
-        check_bytes(rt, tree, usize::from(last) + 1);
-        assert!(rt; tree.remove(&[last]) == Ok(Some(([last], last))));
-        check_bytes(rt, tree, usize::from(last));
-        return Err(ALL_STANDS.into());
-    }
-    check_bytes(rt, tree, usize::from(last));
-    Ok(())
-}
-
-// The root of so many children gives way to a node of the next smaller kind, which the arena has no
-// room for yet.
-#[test]
-fn a_refused_removal_leaves_the_tree(rt: HostRuntime) -> Result<(), Fail> {
-    for (end, last) in [(5, 4), (17, 16), (49, 48)] {
-        shrink(&rt, &mut load_bytes(&rt, rt.alloc(), end)?, last)?;
-    }
-    Ok(())
+    fill_and_empty(&rt, &mut Pairs::new(rt.alloc()))
 }

@@ -5,12 +5,9 @@ use super::*;
 fn tree_of<'a, const PREFIX_LEN: usize>(
     alloc: Global,
     texts: &[&'a [u8]],
-) -> Result<ArtTree<SliceKey<'a>, usize, PREFIX_LEN>, AllocError> {
+) -> Result<ArtTree<SliceKey<'a>, usize, PREFIX_LEN>, Fail> {
     let entries = numbered(alloc, slice_keys(alloc, texts)?)?;
-    let Ok(tree) = ArtTree::load(alloc, entries) else {
-        return Err(AllocError);
-    };
-    Ok(tree)
+    Ok(ArtTree::load(alloc, entries).map_err(|fault| fault.refusal)?)
 }
 
 // The text and the number of an entry.
@@ -41,8 +38,8 @@ fn check_entries<const PREFIX_LEN: usize>(
 
 fn check_loaded<const PREFIX_LEN: usize>(
     rt: &impl Abort,
-    tree: Result<ArtTree<SliceKey, usize, PREFIX_LEN>, AllocError>,
-) -> Result<(), AllocError> {
+    tree: Result<ArtTree<SliceKey, usize, PREFIX_LEN>, Fail>,
+) -> Result<(), Fail> {
     check_entries(rt, &tree?);
     Ok(())
 }
@@ -50,6 +47,5 @@ fn check_loaded<const PREFIX_LEN: usize>(
 #[test]
 fn entries_are_read_by_text(rt: HostRuntime) -> Result<(), Fail> {
     let texts: [&[u8]; 5] = [b"aaaa", b"aaab", b"aab", b"ab", b"b"];
-    check_loaded(&rt, tree_of::<2>(rt.alloc(), &texts))?;
-    Ok(())
+    check_loaded(&rt, tree_of::<2>(rt.alloc(), &texts))
 }

@@ -1,5 +1,5 @@
 //! What is refused, and what a load leaves.
-use super::numbered;
+use super::{numbered, shape};
 use crate::ALL_STANDS;
 use art_tree::{
     AnyRef, ArenaReader, InnerNode4, InnerNodeCommon, InsertRefusal, LeafNode, LoadFault,
@@ -32,8 +32,8 @@ fn check_fault(
     assert!(rt; fault.refusal == refusal);
     assert!(rt; fault.entries.len() == texts.len());
     for (number, (entry, text)) in fault.entries.iter().zip(texts).enumerate() {
-        assert!(rt; entry.0.as_str() == *text);
-        assert!(rt; entry.1 == number);
+        assert!(rt; entry.0.as_str() == *text, "entry {number}");
+        assert!(rt; entry.1 == number, "entry {number}");
     }
 }
 
@@ -106,8 +106,7 @@ fn refusals_are_told(rt: HostRuntime) -> Result<(), Fail> {
 }
 
 fn check_root(rt: &impl Abort, arena: &Texts, root: Root, children: usize) {
-    assert!(rt; arena.holds_opaque(root));
-    let count = arena.header(root).map_or(0, |header| header.num_children());
+    let (_, count) = shape(rt, arena, root);
     assert!(rt; count == children);
 }
 
@@ -168,17 +167,13 @@ fn root_over(
     alloc: Global,
     arena: &mut Bytes,
     count: usize,
-) -> Result<(NodeType, usize), AllocError> {
+) -> Result<(NodeType, usize), Fail> {
     let mut entries = Vec::new(alloc);
     for byte in (0..=255u8).take(count) {
         entries.push(([byte], byte))?;
     }
-    let Ok(root) = load(alloc, arena, entries) else {
-        return Err(AllocError);
-    };
-    assert!(rt; arena.holds_opaque(root));
-    let children = arena.header(root).map_or(0, |header| header.num_children());
-    Ok((root.node_type(), children))
+    let root = load(alloc, arena, entries).map_err(|fault| fault.refusal)?;
+    Ok(shape(rt, arena, root))
 }
 
 #[test]
@@ -196,7 +191,7 @@ fn each_node_is_of_the_smallest_kind(rt: HostRuntime) -> Result<(), Fail> {
     ];
     for (count, kind, children) in cases {
         let root = root_over(&rt, rt.alloc(), &mut Bytes::new(rt.alloc()), count)?;
-        assert!(rt; root == (kind, children));
+        assert!(rt; root == (kind, children), "over {count}");
     }
     Ok(())
 }
@@ -231,11 +226,9 @@ fn check_linked(rt: &impl Abort, arena: &Shared, first: SharedLeafPtr, second: S
     assert!(rt; (second_leaf.previous(), second_leaf.next()) == (Some(first), None));
 }
 
-fn link_two_leaves(rt: &impl Abort, alloc: Global, arena: &mut Shared) -> Result<(), AllocError> {
+fn link_two_leaves(rt: &impl Abort, alloc: Global, arena: &mut Shared) -> Result<(), Fail> {
     let entries = vec![in alloc; (*b"abc1", 0), (*b"abc2", 1)]?;
-    let Ok(root) = load(alloc, arena, entries) else {
-        return Err(AllocError);
-    };
+    let root = load(alloc, arena, entries).map_err(|fault| fault.refusal)?;
     let mut reader = ArenaReader::with_budget(arena, 3);
     let AnyRef::Node4(node) = reader.look(root) else {
         panic!(rt; "no Node4");
@@ -247,6 +240,5 @@ fn link_two_leaves(rt: &impl Abort, alloc: Global, arena: &mut Shared) -> Result
 
 #[test]
 fn leaves_are_linked_below_what_they_share(rt: HostRuntime) -> Result<(), Fail> {
-    link_two_leaves(&rt, rt.alloc(), &mut Shared::new(rt.alloc()))?;
-    Ok(())
+    link_two_leaves(&rt, rt.alloc(), &mut Shared::new(rt.alloc()))
 }

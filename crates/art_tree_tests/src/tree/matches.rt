@@ -45,7 +45,7 @@ fn check_matches<const PREFIX_LEN: usize>(
     alloc: Global,
     mut arena: NodeArena<[u8; 4], usize, PREFIX_LEN>,
     rows: &[(&[u8], Cheap, Full)],
-) -> Result<(), AllocError> {
+) -> Result<(), Fail> {
     let root = load_all(alloc, &mut arena, vec![in alloc; *b"abc1", *b"abc2"]?)?;
     for (key, cheap, full) in rows {
         check_match(rt, &arena, root, key, *cheap, *full);

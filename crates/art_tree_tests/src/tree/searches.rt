@@ -12,17 +12,12 @@ fn check_texts<'a, const PREFIX_LEN: usize>(
     arena: NodeArena<SliceKey<'a>, usize, PREFIX_LEN>,
     texts: &[&'a [u8]],
     rows: &[Row],
-) -> Result<(), AllocError> {
+) -> Result<(), Fail> {
     check_keys(rt, alloc, arena, slice_keys(alloc, texts)?, rows)
 }
 
 // The same for each of three lengths.
-fn check_always(
-    rt: &impl Abort,
-    alloc: Global,
-    texts: &[&[u8]],
-    rows: &[Row],
-) -> Result<(), AllocError> {
+fn check_always(rt: &impl Abort, alloc: Global, texts: &[&[u8]], rows: &[Row]) -> Result<(), Fail> {
     check_texts::<0>(rt, alloc, NodeArena::new(alloc), texts, rows)?;
     check_texts::<2>(rt, alloc, NodeArena::new(alloc), texts, rows)?;
     check_texts::<16>(rt, alloc, NodeArena::new(alloc), texts, rows)
@@ -109,7 +104,7 @@ fn check_nested_200_deep<const PREFIX_LEN: usize>(
     rt: &impl Abort,
     alloc: Global,
     arena: NodeArena<Vec<u8>, usize, PREFIX_LEN>,
-) -> Result<(), AllocError> {
+) -> Result<(), Fail> {
     let rows: [Row; 2] = [
         (&[b'a'; 200], Normal(0, b'a', b'a'), 201),
         (b"ab", Normal(199, b'a', b'b'), 3),
@@ -161,7 +156,7 @@ fn check_ends_of_three<const PREFIX_LEN: usize>(
     rt: &impl Abort,
     alloc: Global,
     arena: &mut NodeArena<SliceKey, usize, PREFIX_LEN>,
-) -> Result<(), AllocError> {
+) -> Result<(), Fail> {
     let root = load_texts(alloc, arena, &[b"abc1", b"abc2", b"b"])?;
     check_ends(rt, arena, root, 0, 2);
     Ok(())

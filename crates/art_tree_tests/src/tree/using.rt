@@ -7,7 +7,7 @@ ghost use Rattle.art_arena.specs.Standing.{TreeAt};
 ghost use Rattle.art_arena.specs.Trees.{places, SameButPointers};
 ghost use Rattle.art_tree.specs.Art.{IsAlone};
 ghost use Rattle.art_tree.specs.Dictionary.{entry_at, HasEntry, IsEntry};
-ghost use Rattle.art_tree.specs.Plan.{texts_of};
+ghost use Rattle.art_tree.specs.Refusals.{texts_of};
 ghost use Rattle.art_tree.specs.Search.{HasTree, EachTree, scan};
 ghost use Rattle.art_tree.specs.declared.insert.InsertRefusal.TheVariants.{Prefix};
 
@@ -131,10 +131,7 @@ fn loaded<K: AsBytes + Drop, V: Drop, const PREFIX_LEN: usize>(
         SameButPointers one other × (map node_kind (places one) ≡ map node_kind (places other))) }
 {
     laws::the_same_entries_make_the_same_tree::<K, V, PREFIX_LEN>();
-    let Ok(loaded) = ArtTree::load(alloc, entries) else {
-        return None;
-    };
-    Some(loaded)
+    ArtTree::load(alloc, entries).ok()
 }
 
 type Metals = ArtTree<String, u8, 16>;

@@ -1,10 +1,10 @@
 use Rattle.art_tree_tests.proofs.tree.load_all.Goals as goal
 
-pub returns-clause-loaded : goal.returns-clause-loaded
-returns-clause-loaded g c = let loaded = c.in-Ok.ensures.loaded in (loaded.0, loaded.1.is_tree)
+pub returns-in-Ok-clause-loaded : goal.returns-in-Ok-clause-loaded
+returns-in-Ok-clause-loaded g c = let loaded = c.in-Ok.ensures.loaded in (loaded.0, loaded.1.is_tree)
 
-pub returns-clause-kept : goal.returns-clause-kept
-returns-clause-kept g c =
+pub returns-in-Ok-clause-kept : goal.returns-in-Ok-clause-kept
+returns-in-Ok-clause-kept g c =
     let loaded = c.in-Ok.ensures.loaded in
     λ root found. (
       found.0,
