@@ -29,6 +29,9 @@ returns-in-Ok-clause-no_others g c =
     let short = each-short (texts_of g.K.AsBytes.text c.args.entries.items) c.in-Ok.ensures.no_fault in
     loaded-text g.K.AsBytes.text c.load.new.arena c.new-arena.result c.new-arena.ensures.empty c.args.entries.items c.in-Ok.root loaded.0 loaded.1 short
 
+pub returns-in-Ok-clause-no_fault : goal.returns-in-Ok-clause-no_fault
+returns-in-Ok-clause-no_fault g c = c.in-Ok.ensures.no_fault
+
 pub returns-in-Err-clause-no_fault : goal.returns-in-Err-clause-no_fault
 returns-in-Err-clause-no_fault g c = tt
 
