@@ -1,10 +1,12 @@
 //! The program over any reader and writers.
-ghost use Rattle.std.specs.Prelude.{◌≡◌, ◌≢◌, ◌≤◌, IfOk, IfErr, OnOk, IfSome, string_bytes};
+ghost use Rattle.std.specs.Prelude.{◌≡◌, ◌≢◌, ◌≤◌, ◌⊎◌, IfOk, IfErr, OnOk, IfSome, string_bytes};
 ghost use Rattle.std.specs.Io.KnownBytes.{Keeps, IsAtEnd};
-ghost use Rattle.art_cli.specs.Failure.{status_of};
+ghost use Rattle.art_cli.specs.declared.failure.Failure.TheVariants.{Device};
+ghost use Rattle.art_cli.specs.Failure.{status_of, failure_text};
+ghost use Rattle.art_cli.specs.Lines.{line};
 ghost use Rattle.art_cli.specs.Request.{AreTaken};
 ghost use Rattle.art_cli.specs.Program.{IsOutput, IsFailure, IsAsked, IsBad, IsRunFailure};
-ghost use Rattle.art_cli.specs.Program.{Prints, PrintsBeginning, Tells};
+ghost use Rattle.art_cli.specs.Program.{Prints, PrintsBeginning, AppendsBeginning, Tells};
 
 use crate::failure::Failure;
 use crate::find::find_text;
@@ -23,9 +25,9 @@ use std::io::{Read, Write};
 /// and query. They write to `output`, with status 0.
 ///
 /// A failure writes its line to `errors`: bad words or bad input with status 2, before anything is
-/// written to `output`; want of memory or a failed device with status 1, when a beginning of the
-/// output may have gone out, and nothing else. Whether the line on `errors` could be written
-/// changes nothing.
+/// written to `output`; want of memory with status 1, and nothing is written to `output` either; a
+/// failed device with status 1, when a beginning of the output may have gone out, and nothing else.
+/// Whether the line on `errors` could be written changes nothing.
 pub fn run<R: Read, W: Write, E: Write>(
     alloc: Global,
     words: &[String],
@@ -51,6 +53,10 @@ pub fn run<R: Read, W: Write, E: Write>(
     // What is written where nothing is answered, and where all is well.
     ensures bad_input_prints_nothing { result ≡ 2 →
         Keeps (W.contents output.old) (W.contents output.new) }
+    ensures refused_memory_prints_nothing { result ≡ 1 →
+        Keeps (W.contents output.old) (W.contents output.new)
+        ⊎ AppendsBeginning (E.contents errors.old) (E.contents errors.new)
+        (line (failure_text Device)) }
     ensures success_is_quiet { result ≡ 0 →
         Keeps (E.contents errors.old) (E.contents errors.new) }
 

@@ -125,42 +125,46 @@ impl Read for FailingReader {
     }
 }
 
-// What a writer bears, and the kind of its errors.
+// What a writer bears, how many bytes a write takes at most, and the kind of its errors. One of
+// kind `WriteZero` answers `Ok(0)` where it is full, as a slice does.
 #[derive(Clone, Copy)]
 struct Limits {
     room: usize,
+    at_once: usize,
     can_flush: bool,
     can_be_interrupted: bool,
     kind: ErrorKind,
 }
 
-// Takes one byte a write, as long as there is room. Every other write is interrupted where any is.
+// Takes what its limits let it. Every other write is interrupted where any is.
 #[derive(Drop)]
-struct NarrowWriter {
+struct LimitedWriter {
     taken: Vec<u8>,
     limits: Limits,
     is_interrupted: bool,
 }
 
-fn narrow_writer(alloc: Global, limits: Limits) -> NarrowWriter {
-    NarrowWriter {
+fn limited_writer(alloc: Global, limits: Limits) -> LimitedWriter {
+    LimitedWriter {
         taken: Vec::new(alloc),
         limits,
         is_interrupted: false,
     }
 }
 
-impl Write for NarrowWriter {
+impl Write for LimitedWriter {
     fn write(&mut self, buf: &[u8]) -> io::Result<usize> {
         self.is_interrupted = self.limits.can_be_interrupted && !self.is_interrupted;
         if self.is_interrupted {
             return Err(io::Error::from(ErrorKind::Interrupted));
         }
-        if self.taken.len() >= self.limits.room || buf.is_empty() {
+        let room = self.limits.room.saturating_sub(self.taken.len());
+        let count = buf.len().min(self.limits.at_once).min(room);
+        if count == 0 && self.limits.kind != ErrorKind::WriteZero {
             return Err(io::Error::from(self.limits.kind));
         }
-        self.taken.push(buf[0])?;
-        Ok(1)
+        self.taken.extend_from_slice(&buf[..count])?;
+        Ok(count)
     }
 
     fn flush(&mut self) -> io::Result<()> {
@@ -193,8 +197,9 @@ fn a_failed_read_prints_nothing(rt: HostRuntime) -> Result<(), Fail> {
     Ok(())
 }
 
-const WIDE: Limits = Limits {
+const SLOW: Limits = Limits {
     room: usize::MAX,
+    at_once: 1,
     can_flush: true,
     can_be_interrupted: true,
     kind: ErrorKind::Other,
@@ -202,17 +207,24 @@ const WIDE: Limits = Limits {
 
 const UNFLUSHED: Limits = Limits {
     can_flush: false,
-    ..WIDE
+    ..SLOW
 };
 
-const NARROW: Limits = Limits { room: 7, ..WIDE };
+const NARROW: Limits = Limits { room: 7, ..SLOW };
 
-const SINGLE: Limits = Limits { room: 1, ..WIDE };
+const SINGLE: Limits = Limits { room: 1, ..SLOW };
 
 // no write is interrupted, and the second one fails
 const UNINTERRUPTED: Limits = Limits {
     can_be_interrupted: false,
     ..SINGLE
+};
+
+// the first write takes all
+const UNFLUSHED_WHOLE: Limits = Limits {
+    at_once: usize::MAX,
+    can_be_interrupted: false,
+    ..UNFLUSHED
 };
 
 // the writer had no memory, which is no refusal of the run's own
@@ -223,6 +235,13 @@ const UNFLUSHED_STARVED: Limits = Limits {
 
 const NARROW_STARVED: Limits = Limits {
     kind: ErrorKind::OutOfMemory,
+    ..NARROW
+};
+
+// the writer answers `Ok(0)` where it is full
+const NARROW_SLICE: Limits = Limits {
+    at_once: usize::MAX,
+    kind: ErrorKind::WriteZero,
     ..NARROW
 };
 
@@ -242,8 +261,8 @@ fn check_writers(
 ) -> Result<(), Fail> {
     let words = words(alloc, texts)?;
     let mut input = case.input;
-    let mut output = narrow_writer(alloc, limits);
-    let mut errors = narrow_writer(alloc, Limits { room, ..WIDE });
+    let mut output = limited_writer(alloc, limits);
+    let mut errors = limited_writer(alloc, Limits { room, ..SLOW });
     let status = run(alloc, &words, &mut input, &mut output, &mut errors);
     compare(rt, &output.taken, &errors.taken, status, case);
     Ok(())
@@ -262,7 +281,7 @@ fn a_slow_writer_gets_all(rt: HostRuntime) -> Result<(), Fail> {
         case_of(lines.as_bytes(), replies.as_str(), "", 0),
     ];
     for case in cases {
-        check_writers(&rt, rt.alloc(), &["replay"], WIDE, 0, &case)?;
+        check_writers(&rt, rt.alloc(), &["replay"], SLOW, 0, &case)?;
     }
     Ok(())
 }
@@ -275,11 +294,13 @@ fn cut_off<'a>(input: &'a [u8], output: &'a str) -> Case<'a> {
 #[test]
 fn a_failed_writer_has_what_it_took(rt: HostRuntime) -> Result<(), Fail> {
     // the words, the limits of the output, the room of the errors, what is written
-    let rows: [(&[&str], Limits, usize, Case); 8] = [
+    let rows: [(&[&str], Limits, usize, Case); 10] = [
         (&["replay"], UNFLUSHED, 100, cut_off(WRITE, REPLY)),
+        (&["replay"], UNFLUSHED_WHOLE, 100, cut_off(WRITE, REPLY)),
         (&["replay"], UNFLUSHED_STARVED, 100, cut_off(WRITE, REPLY)),
         (&["replay"], NARROW, 100, cut_off(WRITE, "child n")),
         (&["replay"], NARROW_STARVED, 100, cut_off(WRITE, "child n")),
+        (&["replay"], NARROW_SLICE, 100, cut_off(WRITE, "child n")),
         (&["replay"], SINGLE, 100, cut_off(WRITE, "c")),
         (
             &["replay"],
@@ -294,7 +315,7 @@ fn a_failed_writer_has_what_it_took(rt: HostRuntime) -> Result<(), Fail> {
             cut_off(SEARCHES.as_bytes(), "f"),
         ),
         // the report fails
-        (&["replay"], WIDE, 4, case_of(b"w 1", "", "line", 2)),
+        (&["replay"], SLOW, 4, case_of(b"w 1", "", "line", 2)),
     ];
     for (texts, limits, room, case) in rows {
         check_writers(&rt, rt.alloc(), texts, limits, room, &case)?;
