@@ -12,6 +12,7 @@ use super::*;
 use crate::bytes::has_front;
 use crate::bytes::using::order_of_texts;
 use crate::fixtures::hash_of;
+use crate::nodes::fixtures::all_bytes;
 use art_bytes::NoPrefixesBytes;
 use std::hash::{DefaultHasher, Hash, Hasher};
 
@@ -270,5 +271,28 @@ fn fronts_are_told_from_keys(rt: HostRuntime) -> Result<(), Fail> {
     assert!(rt; order_of_bytes::<ToIBE, Vec<i8>>(alloc, front, whole)? == Ordering::Less);
     assert!(rt; !begins_with(alloc, [1, 1], [1, 0])?);
     assert!(rt; begins_with(alloc, [1, 0], [1, 0])?);
+    Ok(())
+}
+
+// The key of these numbers has these bytes, and they come back from it.
+fn there_and_back<E: Element<Unsigned>>(
+    rt: &impl Abort,
+    alloc: Global,
+    numbers: &[E],
+    bytes: &[u8],
+) -> Result<(), AllocError> {
+    written_in::<Unsigned, Vec<E>>(rt, alloc, numbers.to_vec(alloc)?, bytes)?;
+    let read = vector_back::<Unsigned, E>(alloc, numbers.to_vec(alloc)?)?;
+    assert!(rt; read.as_slice() == numbers);
+    Ok(())
+}
+
+#[test]
+fn long_vectors_of_the_least_and_greatest_width(rt: HostRuntime) -> Result<(), Fail> {
+    let bytes = all_bytes();
+    there_and_back::<u8>(&rt, rt.alloc(), &bytes, &bytes)?;
+    let (mut numbers, mut text) = ([0; 300], [0; 4800]);
+    (numbers[299], text[4784]) = (1 << 120, 1);
+    there_and_back::<u128>(&rt, rt.alloc(), &numbers, &text)?;
     Ok(())
 }

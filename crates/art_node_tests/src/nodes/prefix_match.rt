@@ -1,6 +1,14 @@
 //! Prefixes that a node stores in part, and wholly.
 use super::fixtures::{leaf, pair};
-use art_nodes::{InnerNode4, InnerNodeCommon, PessimisticMismatch, common_front_len};
+use art_header::{NodeType, NonMaxIndex};
+use art_mapped::Identity;
+use art_nodes::{
+    AttemptOptimisticPrefixMatch, InnerNode4, InnerNodeCommon, OptimisticMismatch,
+    PessimisticMismatch, PrefixMatch, common_front_len,
+};
+use std::fmt::Debug;
+
+fn is_debug<T: Debug>() {}
 
 #[test]
 fn lengths_alone_are_compared(rt: HostRuntime) {
@@ -33,4 +41,15 @@ fn common_fronts_end_where_bytes_differ(rt: HostRuntime) {
     for (row, (a, b, length)) in rows.into_iter().enumerate() {
         assert!(rt; common_front_len(a, b) == length, "row {row}");
     }
+}
+
+#[test]
+fn are_debug(_rt: HostRuntime) {
+    is_debug::<NodeType>();
+    is_debug::<NonMaxIndex>();
+    is_debug::<Identity>();
+    is_debug::<PrefixMatch>();
+    is_debug::<AttemptOptimisticPrefixMatch>();
+    is_debug::<OptimisticMismatch>();
+    is_debug::<PessimisticMismatch>();
 }

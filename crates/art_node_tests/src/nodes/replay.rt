@@ -2,7 +2,7 @@
 use super::fixtures::leaf;
 use crate::ALL_STANDS;
 use art_nodes::{ChildCommand, ChildNode, ChildReply, Header, NodeType, Sequence, replay};
-use std::alloc::AllocError;
+use std::alloc::{AllocError, Global};
 use std::ops::Bound;
 use std::process::Abort;
 use std::test::Fail;
@@ -182,6 +182,63 @@ fn apply_answers_each_command(rt: HostRuntime) -> Result<(), Fail> {
     Ok(())
 }
 
+// Each equals itself alone.
+fn equal_themselves_alone<T: PartialEq>(rt: &impl Abort, values: &[T]) {
+    for (index, value) in values.iter().enumerate() {
+        for (place, other) in values.iter().enumerate() {
+            assert!(rt; (value == other) == (index == place), "{index} and {place}");
+        }
+    }
+}
+
+// One pair, within bounds.
+fn one_pair(alloc: Global, byte: u8, key: usize) -> Result<Reply, AllocError> {
+    let pairs = vec![in alloc; (byte, leaf(key))]?;
+    Ok(Reply::Pairs(Sequence::from_vec(pairs)))
+}
+
+#[test]
+fn commands_and_replies_of_other_values_differ(rt: HostRuntime) -> Result<(), Fail> {
+    let commands: [Command; 13] = [
+        Command::Write(3, leaf(1)),
+        Command::Write(4, leaf(1)),
+        Command::Write(3, leaf(2)),
+        Command::Remove(3),
+        Command::Remove(4),
+        Command::Lookup(3),
+        Command::Lookup(4),
+        Command::Min,
+        Command::Max,
+        Command::Range(Bound::Included(3), Bound::Included(4)),
+        Command::Range(Bound::Included(2), Bound::Included(4)),
+        Command::Range(Bound::Included(3), Bound::Included(5)),
+        Command::Range(Bound::Excluded(3), Bound::Included(4)),
+    ];
+    equal_themselves_alone(&rt, &commands);
+
+    let (pairs, other_byte, other_child) = (
+        one_pair(rt.alloc(), 3, 1)?,
+        one_pair(rt.alloc(), 4, 1)?,
+        one_pair(rt.alloc(), 3, 2)?,
+    );
+    let replies: [Reply; 12] = [
+        Reply::Child(None),
+        Reply::Child(Some(leaf(1))),
+        Reply::Child(Some(leaf(2))),
+        Reply::Pair(None),
+        Reply::Pair(Some((3, leaf(1)))),
+        Reply::Pair(Some((4, leaf(1)))),
+        Reply::Pair(Some((3, leaf(2)))),
+        Reply::Pairs(Sequence::from_vec(Vec::new(rt.alloc()))),
+        pairs,
+        other_byte,
+        other_child,
+        Reply::InvalidBounds,
+    ];
+    equal_themselves_alone(&rt, &replies);
+    Ok(())
+}
+
 // The kind and the number of children that these commands leave.
 fn left_by(
     rt: &(impl Abort + AllocGlobal),
@@ -241,6 +298,16 @@ fn grows_to_256_children_and_shrinks_again(rt: HostRuntime) -> Result<(), Fail> 
     Ok(())
 }
 
+#[test]
+fn a_run_keeps_the_prefix(rt: HostRuntime) -> Result<(), Fail> {
+    let (commands, wanted) = (steps(), replies_to_steps());
+    let answer = replay(rt.alloc(), Header::new(b"abc", 3), &commands[..6])?;
+    check_answer(&rt, &answer, &wanted[..6], (NodeType::Node16, 5));
+    assert!(rt; answer.1.header().prefix_len() == 3);
+    assert!(rt; answer.1.header().read_prefix() == b"ab".as_slice());
+    Ok(())
+}
+
 // The pairs of a reply are the leaves of these bytes, each under its byte.
 fn check_leaves(rt: &impl Abort, reply: &Reply, bytes: &[u8]) {
     let Reply::Pairs(pairs) = reply else {
@@ -250,6 +317,20 @@ fn check_leaves(rt: &impl Abort, reply: &Reply, bytes: &[u8]) {
     for (pair, byte) in pairs.as_slice().iter().zip(bytes) {
         assert!(rt; *pair == (*byte, leaf(usize::from(*byte))));
     }
+}
+
+#[test]
+fn a_node_of_20_children_answers_ranges(rt: HostRuntime) -> Result<(), Fail> {
+    let mut node = ChildNode::from_header(Header::<2>::new(b"", 0));
+    for byte in 0..20u8 {
+        node.apply(rt.alloc(), &Command::Write(byte, leaf(usize::from(byte))))?;
+    }
+    assert!(rt; node.node_type() == NodeType::Node48);
+    for (start, bytes) in [(17, [18, 19].as_slice()), (19, &[])] {
+        let range = Command::Range(Bound::Excluded(start), Bound::Unbounded);
+        check_leaves(&rt, &node.apply(rt.alloc(), &range)?, bytes);
+    }
+    Ok(())
 }
 
 // Where the pairs are refused memory the node stands, and the next call has them.
