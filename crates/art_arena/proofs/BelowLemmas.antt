@@ -5,14 +5,14 @@ use Rattle.std.proofs.lemmas.List.{append_assoc, drop_at}
 use Rattle.std.proofs.lemmas.Option.{same_Some}
 use Rattle.art_nodes.specs.ChildMap.{child_at}
 use Rattle.art_nodes.specs.Inner as nodes
-use Rattle.art_nodes.specs.PrefixMatch.{IsPrefixOf}
+use Rattle.art_nodes.specs.PrefixMatch.{HasPrefix}
 use Rattle.art_nodes.specs.declared.pointers.OpaqueNodePtr.{OpaqueNodePtr}
 use Rattle.art_arena.specs.Arena.{ArenaOf, Nothing, HeldInner, HeldLeaf, held}
-use Rattle.art_arena.specs.SharedFront.{IsSharedFrom}
+use Rattle.art_arena.specs.CommonPrefix.{IsSharedFrom}
 use Rattle.art_arena.specs.Standing.{NodeStands, StandsIn, StandsUnder, AllStandIn, TreeAt, TreeUnder, leaf_text}
 use Rattle.art_arena.specs.Trees.{Tree, Leaf, Inner, Branches, NoBranch, Branch, branch_leaves, branch_roots, leaves, root_of, texts, IsSound, AreSound}
 use Rattle.art_arena.proofs.StandingLaws.{shown-prefix}
-use Rattle.art_arena.proofs.TreeLemmas.{IsSharedFront-node}
+use Rattle.art_arena.proofs.TreeLemmas.{IsLongestCommonPrefix-node}
 
 module _ {K V : Type 0} {P : ℕ} (text : K → List ℕ) (arena : ArenaOf K V P) where
   -- something is held at the root of a tree that stands
@@ -55,10 +55,10 @@ module _ {K V : Type 0} {P : ℕ} (text : K → List ℕ) (arena : ArenaOf K V P
             (record { tree = Inner p prefix branches; path = at.path; stands = (subst (λ n. NodeStands P n prefix branches) same shows, stand); sound = sound; deep = refl }, refl, refl)
 
     -- and its child under a byte has the tree below it, under the path, the prefix and the byte, whose leaves stand together among the node's
-    pub child-at-tree : (byte : ℕ) (child : OpaqueNodePtr K V P) (at : TreeAt text arena pointer) → child_at node.children byte ≡ Some child → (below : TreeAt text arena child) × ((prefix : List ℕ) × IsPrefixOf node prefix × (below.path ≡ (at.path ++ prefix) ++ byte ∷ [])) × ((left : List _) × (right : List _) × (leaves at.tree ≡ left ++ (leaves below.tree ++ right)))
+    pub child-at-tree : (byte : ℕ) (child : OpaqueNodePtr K V P) (at : TreeAt text arena pointer) → child_at node.children byte ≡ Some child → (below : TreeAt text arena child) × ((prefix : List ℕ) × HasPrefix node prefix × (below.path ≡ (at.path ++ prefix) ++ byte ∷ [])) × ((left : List _) × (right : List _) × (leaves at.tree ≡ left ++ (leaves below.tree ++ right)))
     child-at-tree byte child at has_child = by_tree at.tree at.at_root at.stands at.sound
       where
-        by_tree : (tree : Tree (OpaqueNodePtr K V P)) → root_of tree ≡ pointer → StandsIn text arena tree → IsSound at.path tree → (below : TreeAt text arena child) × ((prefix : List ℕ) × IsPrefixOf node prefix × (below.path ≡ (at.path ++ prefix) ++ byte ∷ [])) × ((left : List _) × (right : List _) × (leaves tree ≡ left ++ (leaves below.tree ++ right)))
+        by_tree : (tree : Tree (OpaqueNodePtr K V P)) → root_of tree ≡ pointer → StandsIn text arena tree → IsSound at.path tree → (below : TreeAt text arena child) × ((prefix : List ℕ) × HasPrefix node prefix × (below.path ≡ (at.path ++ prefix) ++ byte ∷ [])) × ((left : List _) × (right : List _) × (leaves tree ≡ left ++ (leaves below.tree ++ right)))
         by_tree (Leaf p x) root (leaf, holds, has) sound = let one : HeldLeaf leaf ≡ HeldInner node = sym holds ∙ ap (held arena) root ∙ is in absurd (cc)
         by_tree (Inner p prefix branches) root (own, holds, shows, stand) sound =
             let one : HeldInner own ≡ HeldInner node = sym holds ∙ ap (held arena) root ∙ is in
@@ -66,7 +66,7 @@ module _ {K V : Type 0} {P : ℕ} (text : K → List ℕ) (arena : ArenaOf K V P
             let roots : node.children ≡ branch_roots branches = sym (ap (λ n. n.children) same) ∙ shows.children in
             let branch = branch-at (at.path ++ prefix) branches byte child stand sound.2 (subst (λ children. child_at children byte ≡ Some child) roots has_child) in (
               record { tree = branch.tree; path = (at.path ++ prefix) ++ byte ∷ []; at_root = branch.at_root; stands = branch.stands; sound = branch.sound },
-              (prefix, subst (λ n. IsPrefixOf n prefix) same (shown-prefix P own prefix branches shows), refl),
+              (prefix, subst (λ n. HasPrefix n prefix) same (shown-prefix P own prefix branches shows), refl),
               (branch.left, branch.right, branch.together),
             )
 
@@ -76,4 +76,4 @@ module _ {K V : Type 0} {P : ℕ} (text : K → List ℕ) (arena : ArenaOf K V P
     where
       by_tree : (tree : Tree (OpaqueNodePtr K V P)) → StandsUnder P (leaf_text text) (held arena) node tree → IsSound under.path tree → (shared : List ℕ) × IsSharedFrom depth (texts tree) shared
       by_tree (Leaf p x) stands sound = absurd stands
-      by_tree (Inner p prefix branches) stands sound = (prefix, (under.path ++ prefix, IsSharedFront-node under.path p prefix branches sound, sym (drop_at under.path prefix depth under.deep)))
+      by_tree (Inner p prefix branches) stands sound = (prefix, (under.path ++ prefix, IsLongestCommonPrefix-node under.path p prefix branches sound, sym (drop_at under.path prefix depth under.deep)))

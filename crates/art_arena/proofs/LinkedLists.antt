@@ -121,10 +121,10 @@ module _ (next previous : ℕ → Option ℕ) where
       (front.0, front.1 ∙ sym (first_or-append xs ys after), Linked-append (Some x) xs ys after front.2 back)
 
   -- whoever stands before another has a next
-  pub next-of_front : (before : Option ℕ) (xs : List ℕ) (last : ℕ) → Linked next previous before xs (Some last) → AllByRecursion (λ k. next k ≢ None) xs
-  next-of_front before [] last linked = tt
-  next-of_front before (x ∷ []) last linked = ((λ ends. let e : Some last ≡ None = sym linked.1 ∙ ends in cc), tt)
-  next-of_front before (x ∷ y ∷ ys) last linked = ((λ ends. let e : Some y ≡ None = sym linked.1 ∙ ends in cc), next-of_front (Some x) (y ∷ ys) last linked.2)
+  pub next-of_prefix : (before : Option ℕ) (xs : List ℕ) (last : ℕ) → Linked next previous before xs (Some last) → AllByRecursion (λ k. next k ≢ None) xs
+  next-of_prefix before [] last linked = tt
+  next-of_prefix before (x ∷ []) last linked = ((λ ends. let e : Some last ≡ None = sym linked.1 ∙ ends in cc), tt)
+  next-of_prefix before (x ∷ y ∷ ys) last linked = ((λ ends. let e : Some y ≡ None = sym linked.1 ∙ ends in cc), next-of_prefix (Some x) (y ∷ ys) last linked.2)
 
   -- whoever stands after another has a previous
   pub previous-of_back : (first : ℕ) (xs : List ℕ) (after : Option ℕ) → Linked next previous (Some first) xs after → AllByRecursion (λ k. previous k ≢ None) xs
@@ -135,7 +135,7 @@ module _ (next previous : ℕ → Option ℕ) where
   pub unlinked_is_apart : (xs ys : List ℕ) (sibling this : ℕ) → Linked next previous None (xs ++ sibling ∷ ys) None → previous this ≡ None → next this ≡ None → this ≢ sibling → AllByRecursion (λ k. k ≢ this) (xs ++ sibling ∷ ys)
   unlinked_is_apart xs ys sibling this linked no_previous no_next apart =
       let parts = Linked-split None xs (sibling ∷ ys) None linked in
-      let front = Each-weaker (λ k. next k ≢ None) (λ k. k ≢ this) (λ k has same. has (ap next same ∙ no_next)) xs (next-of_front None xs sibling parts.0) in
+      let front = Each-weaker (λ k. next k ≢ None) (λ k. k ≢ this) (λ k has same. has (ap next same ∙ no_next)) xs (next-of_prefix None xs sibling parts.0) in
       let back = Each-weaker (λ k. previous k ≢ None) (λ k. k ≢ this) (λ k has same. has (ap previous same ∙ no_previous)) ys (previous-of_back sibling ys None parts.1.2) in
       Each-append (λ k. k ≢ this) xs (sibling ∷ ys) front (λ same. apart (sym same), back)
 

@@ -7,10 +7,10 @@ use Rattle.std.proofs.lemmas.Bool.{eq-eqb}
 use Rattle.std.proofs.lemmas.Bool.Decides.{eqb_tells}
 use Rattle.std.proofs.lemmas.List.{append_assoc, drop_at, take_min, take_rest}
 use Rattle.std.proofs.lemmas.List.Elements.{All-weaker}
-use Rattle.art_bytes.specs.Text.{IsFront, text_order}
+use Rattle.art_bytes.specs.Text.{IsPrefixOf, text_order}
 use Rattle.art_arena.specs.FullPrefix.{LieOnSide}
-use Rattle.art_arena.specs.SharedFront.{prefix_order, full_match}
-use Rattle.art_arena.proofs.TextLemmas.{text_order-append, text_order-carried, matched_where_equal, front-matched}
+use Rattle.art_arena.specs.CommonPrefix.{prefix_order, full_match}
+use Rattle.art_arena.proofs.TextLemmas.{text_order-append, text_order-carried, matched_where_equal, prefix-matched}
 
 -- the prefix is matched
 pub full_match-whole : (prefix rest : List ℕ) (n : ℕ) → n ≡ common_prefix_len nat_eq prefix rest → n ≡ length prefix → Ok n ≡ full_match prefix rest
@@ -31,7 +31,7 @@ pub prefix_order-parted : (prefix rest : List ℕ) → common_prefix_len nat_eq 
 prefix_order-parted prefix rest parted equal = parted (matched_where_equal prefix rest (sym (prefix_order-take prefix rest) ∙ equal))
 
 -- a text with this path and prefix lies on the prefix's side of a key with this path
-text-side : (path prefix text key : List ℕ) (depth : ℕ) (order : Ordering) → IsFront (path ++ prefix) text → IsFront path key → length path ≡ depth → order ≢ Equal → order ≡ prefix_order prefix (drop depth key) → text_order text key ≡ order
+text-side : (path prefix text key : List ℕ) (depth : ℕ) (order : Ordering) → IsPrefixOf (path ++ prefix) text → IsPrefixOf path key → length path ≡ depth → order ≢ Equal → order ≡ prefix_order prefix (drop depth key) → text_order text key ≡ order
 text-side path prefix text key depth order (s, text_is) (r, key_is) deep parted is =
     let rest : drop depth key ≡ r = ap (drop depth) key_is ∙ drop_at path r depth deep in
     let carried : text_order (prefix ++ s) r ≡ order = text_order-carried prefix s r order parted (sym (prefix_order-take prefix r) ∙ ap (prefix_order prefix) (sym rest) ∙ sym is) in
@@ -43,14 +43,14 @@ lie-on Equal key texts parted all = absurd (parted refl)
 lie-on Greater key texts parted all = all
 
 -- so do all of them
-pub texts-side : (path prefix key : List ℕ) (texts : List (List ℕ)) (depth : ℕ) (order : Ordering) → All (IsFront (path ++ prefix)) texts → IsFront path key → length path ≡ depth → order ≢ Equal → order ≡ prefix_order prefix (drop depth key) → LieOnSide order key texts
+pub texts-side : (path prefix key : List ℕ) (texts : List (List ℕ)) (depth : ℕ) (order : Ordering) → All (IsPrefixOf (path ++ prefix)) texts → IsPrefixOf path key → length path ≡ depth → order ≢ Equal → order ≡ prefix_order prefix (drop depth key) → LieOnSide order key texts
 texts-side path prefix key texts depth order begin begins deep parted is =
-    lie-on order key texts parted (All-weaker (IsFront (path ++ prefix)) (λ text. text_order text key ≡ order) (λ text front. text-side path prefix text key depth order front begins deep parted is) texts begin)
+    lie-on order key texts parted (All-weaker (IsPrefixOf (path ++ prefix)) (λ text. text_order text key ≡ order) (λ text front. text-side path prefix text key depth order front begins deep parted is) texts begin)
 
 -- a key with this path whose rest begins with the prefix begins with both
-pub key-begins : (path prefix key : List ℕ) (depth : ℕ) → IsFront path key → length path ≡ depth → common_prefix_len nat_eq prefix (drop depth key) ≡ length prefix → IsFront (path ++ prefix) key
+pub key-begins : (path prefix key : List ℕ) (depth : ℕ) → IsPrefixOf path key → length path ≡ depth → common_prefix_len nat_eq prefix (drop depth key) ≡ length prefix → IsPrefixOf (path ++ prefix) key
 key-begins path prefix key depth (r, key_is) deep whole =
-    let front = front-matched prefix (drop depth key) whole in
+    let front = prefix-matched prefix (drop depth key) whole in
     let rest : drop depth key ≡ r = ap (drop depth) key_is ∙ drop_at path r depth deep in
     (front.0, key_is ∙ ap (λ z. path ++ z) (sym rest ∙ front.1) ∙ sym (append_assoc path prefix front.0))
 

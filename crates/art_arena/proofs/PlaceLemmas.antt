@@ -2,13 +2,13 @@
 use Rattle.std.proofs.Common.{◌≡◌, ◌≢◌, ◌∙◌, ℕ, suc, ◌+◌, ◌<◌, ◌≤◌, List, [], ◌∷◌, ◌++◌, length, length-append, map, get_or, All, Contains, refl, sym, ap, subst, arith}
 use Rattle.std.proofs.lemmas.List.{map-append}
 use Rattle.std.proofs.lemmas.List.Elements.{Contains-append_left, Contains-append_right, All-nil, All-cons, All-head, All-tail, All-append, All-weaker}
-use Rattle.art_bytes.specs.Text.{IsFront}
+use Rattle.art_bytes.specs.Text.{IsPrefixOf}
 use Rattle.art_nodes.specs.ChildMap.{ChildMap, IsAscendingFrom, key_bytes}
 use Rattle.art_arena.specs.Arena.{Held, Nothing, HeldInner, HeldLeaf}
 use Rattle.art_arena.specs.Links.{AreDistinct}
 use Rattle.art_arena.specs.Standing.{Stands, AllStand}
 use Rattle.art_arena.specs.Trees.{Tree, Leaf, Inner, Branches, NoBranch, Branch, root_of, leaves, branch_leaves, texts, branch_texts, branch_roots, places, branch_places, IsSound, AreSound}
-use Rattle.art_bytes.proofs.FrontLaws.{front-itself, front-shorter}
+use Rattle.art_bytes.proofs.PrefixLaws.{prefix-itself, prefix-shorter}
 use Rattle.art_arena.proofs.TextLemmas.{PartsBefore-apart}
 use Rattle.art_arena.proofs.TreeLemmas.{GoesOn, texts-begin, texts-some, branch_texts-some, parts_before}
 
@@ -54,7 +54,7 @@ module _ {H L : Type 0} (room : ℕ) (text_of : L → List ℕ) where
       pub tree : Tree H
       pub at_root : root_of tree ≡ pointer
       pub stands : Stands room text_of held_at tree
-      pub begin : All (IsFront path) (texts tree)
+      pub begin : All (IsPrefixOf path) (texts tree)
       pub some : 0 < length (texts tree)
       pub fits : length (texts tree) ≤ most
 
@@ -69,7 +69,7 @@ module _ {H L : Type 0} (room : ℕ) (text_of : L → List ℕ) where
       tree = placed.tree;
       at_root = placed.at_root;
       stands = placed.stands;
-      begin = All-weaker (IsFront (path ++ more)) (IsFront path) (front-shorter path more) (texts placed.tree) placed.begin;
+      begin = All-weaker (IsPrefixOf (path ++ more)) (IsPrefixOf path) (prefix-shorter path more) (texts placed.tree) placed.begin;
       some = placed.some;
       fits = omega (arith, placed.fits, less);
     }
@@ -118,10 +118,10 @@ module _ {H L : Type 0} (room : ℕ) (text_of : L → List ℕ) where
         let t : Tree H = y_on.placed.tree in
         let found : leaves t ≡ leaves u = leaves-determined t u y_on.placed.stands x_placed.stands (y_on.placed.at_root ∙ same ∙ sym x_placed.at_root) in
         let z : List ℕ = get_or (texts u) 0 [] in
-        let z_begins : IsFront (path ++ byte ∷ []) z = x_placed.begin 0 [] x_placed.some in
-        let moved : All (IsFront (path ++ y_on.byte ∷ [])) (texts u) = subst (λ l. All (IsFront (path ++ y_on.byte ∷ [])) (map (λ leaf. leaf.1) l)) found y_on.placed.begin in
+        let z_begins : IsPrefixOf (path ++ byte ∷ []) z = x_placed.begin 0 [] x_placed.some in
+        let moved : All (IsPrefixOf (path ++ y_on.byte ∷ [])) (texts u) = subst (λ l. All (IsPrefixOf (path ++ y_on.byte ∷ [])) (map (λ leaf. leaf.1) l)) found y_on.placed.begin in
         let z_on : GoesOn path (suc byte) z = record { byte = y_on.byte; reaches = y_on.reaches; begins = moved 0 [] x_placed.some } in
-        (PartsBefore-apart z z (parts_before path byte z z z_begins z_on)).0 (front-itself z)
+        (PartsBefore-apart z z (parts_before path byte z z z_begins z_on)).0 (prefix-itself z)
 
     -- a node is not at a place of a tree with fewer texts
     place-fewer : (tree : Tree H) (path : List ℕ) (few : ℕ) (pointer : H) → Stands room text_of held_at tree → few < length (texts tree) → IsPlaced path few pointer → pointer ≢ root_of tree

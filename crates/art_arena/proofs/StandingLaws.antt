@@ -1,13 +1,13 @@
 -- Laws of what is held at a pointer, and of what a node shows there, for proofs of crates above.
 use Rattle.std.proofs.Common.{◌≡◌, ℕ, List, length, drop, Option, Some, None, refl, sym, subst}
 use Rattle.std.proofs.lemmas.List.{take-append-drop}
-use Rattle.art_bytes.specs.Text.{IsFront}
+use Rattle.art_bytes.specs.Text.{IsPrefixOf}
 use Rattle.art_header.specs.Header.{capped}
 use Rattle.art_header.specs.declared.node_type.NodeType.{NodeType}
 use Rattle.art_header.specs.declared.node_type.NodeType.TheVariants as kinds
 use Rattle.art_nodes.specs.Inner as nodes
 use Rattle.art_nodes.specs.Pointers.{node_kind, opaque_key, opaque_pointer}
-use Rattle.art_nodes.specs.PrefixMatch.{IsPrefixOf}
+use Rattle.art_nodes.specs.PrefixMatch.{HasPrefix}
 use Rattle.art_nodes.specs.declared.pointers.OpaqueNodePtr.{OpaqueNodePtr}
 use Rattle.art_nodes.specs.declared.leaf_node.LeafNode.{LeafNode}
 use Rattle.art_arena.specs.Arena.{ArenaOf, HeldLeaf, held, held_inner, held_under}
@@ -15,10 +15,10 @@ use Rattle.art_arena.specs.Standing.{NodeStands}
 use Rattle.art_arena.specs.Trees.{Branches}
 
 -- the prefix that a node shows is one that it may have
-pub shown-prefix : {H : Type 0} (room : ℕ) (node : nodes.Inner H) (prefix : List ℕ) (branches : Branches H) → NodeStands room node prefix branches → IsPrefixOf node prefix
+pub shown-prefix : {H : Type 0} (room : ℕ) (node : nodes.Inner H) (prefix : List ℕ) (branches : Branches H) → NodeStands room node prefix branches → HasPrefix node prefix
 shown-prefix room node prefix branches shows =
     let stored = capped room (length prefix) in
-    (sym shows.prefix_len, subst (λ front. IsFront front prefix) (sym shows.stored) (drop stored prefix, sym (take-append-drop stored prefix)))
+    (sym shows.prefix_len, subst (λ front. IsPrefixOf front prefix) (sym shows.stored) (drop stored prefix, sym (take-append-drop stored prefix)))
 
 module _ {K V : Type 0} {P : ℕ} where
   inner_is_no_leaf : {A : Type 0} (o : Option (nodes.Inner (OpaqueNodePtr K V P))) (leaf : LeafNode K V P) → held_inner o ≡ HeldLeaf leaf → A

@@ -7,19 +7,19 @@ use Rattle.std.specs.declared.cmp.Ordering.TheVariants.{Less, Equal, Greater}
 use Rattle.std.proofs.lemmas.Bool.Decides.{eqb_tells}
 use Rattle.std.proofs.lemmas.Cmp.{by_ranked, ranked}
 use Rattle.std.specs.List.{common_prefix_len}
-use Rattle.art_arena.specs.SharedFront.{IsSharedFrom}
-use Rattle.art_bytes.specs.Text.{IsFront, text_order}
-use Rattle.art_bytes.proofs.FrontLaws.{front-antisym}
+use Rattle.art_arena.specs.CommonPrefix.{IsSharedFrom}
+use Rattle.art_bytes.specs.Text.{IsPrefixOf, text_order}
+use Rattle.art_bytes.proofs.PrefixLaws.{prefix-antisym}
 
 -- what begins two texts that part after q begins q
-pub front_of_both : (o q : List ℕ) (c d : ℕ) (r s t u : List ℕ) → o ++ r ≡ (q ++ c ∷ []) ++ s → o ++ t ≡ (q ++ d ∷ []) ++ u → (c ≡ d → ⊥) → IsFront o q
-front_of_both [] q c d r s t u first second differ = (q, refl)
-front_of_both (y ∷ o) [] c d r s t u first second differ = let a : y ≡ c = cc in let b : y ≡ d = cc in absurd (differ (sym a ∙ b))
-front_of_both (y ∷ o) (z ∷ q) c d r s t u first second differ =
+pub prefix_of_both : (o q : List ℕ) (c d : ℕ) (r s t u : List ℕ) → o ++ r ≡ (q ++ c ∷ []) ++ s → o ++ t ≡ (q ++ d ∷ []) ++ u → (c ≡ d → ⊥) → IsPrefixOf o q
+prefix_of_both [] q c d r s t u first second differ = (q, refl)
+prefix_of_both (y ∷ o) [] c d r s t u first second differ = let a : y ≡ c = cc in let b : y ≡ d = cc in absurd (differ (sym a ∙ b))
+prefix_of_both (y ∷ o) (z ∷ q) c d r s t u first second differ =
     let same : y ≡ z = cc in
     let one : o ++ r ≡ (q ++ c ∷ []) ++ s = cc in
     let two : o ++ t ≡ (q ++ d ∷ []) ++ u = cc in
-    let rest = front_of_both o q c d r s t u one two differ in
+    let rest = prefix_of_both o q c d r s t u one two differ in
     (rest.0, ap (λ w. z ∷ w) rest.1 ∙ ap (λ w. w ∷ (o ++ rest.0)) (sym same))
 
 -- one text is before another: after a common front it has the smaller byte
@@ -27,8 +27,8 @@ pub record PartsBefore (a b : List ℕ) : Type 0 where
   pub front : List ℕ
   pub lesser : ℕ
   pub greater : ℕ
-  pub begins : IsFront (front ++ lesser ∷ []) a
-  pub other_begins : IsFront (front ++ greater ∷ []) b
+  pub begins : IsPrefixOf (front ++ lesser ∷ []) a
+  pub other_begins : IsPrefixOf (front ++ greater ∷ []) b
   pub ascends : lesser < greater
 
 nat_cmp-itself : (n : ℕ) → nat_cmp n n ≡ Equal
@@ -52,7 +52,7 @@ apart [] c d r s t differ same = differ (cc)
 apart (x ∷ q) c d r s t differ same = let tails : (q ++ c ∷ []) ++ r ≡ ((q ++ d ∷ []) ++ s) ++ t = cc in apart q c d r s t differ tails
 
 -- neither begins the other
-pub PartsBefore-apart : (a b : List ℕ) → PartsBefore a b → (IsFront a b → ⊥) × (IsFront b a → ⊥)
+pub PartsBefore-apart : (a b : List ℕ) → PartsBefore a b → (IsPrefixOf a b → ⊥) × (IsPrefixOf b a → ⊥)
 PartsBefore-apart a b parts =
     let q : List ℕ = parts.front in (
       λ front. apart q parts.greater parts.lesser parts.other_begins.0 parts.begins.0 front.0 (λ same. omega (arith, parts.ascends)) (sym parts.other_begins.1 ∙ front.1 ∙ ap (λ z. z ++ front.0) parts.begins.1),
@@ -74,16 +74,16 @@ text_order-carried (x ∷ q) s (y ∷ rest) o never is =
 -- texts share one thing from a depth on
 pub IsSharedFrom-same : (depth : ℕ) (texts : List (List ℕ)) (p q : List ℕ) → IsSharedFrom depth texts p → IsSharedFrom depth texts q → p ≡ q
 IsSharedFrom-same depth texts p q (a, a_shared, p_is) (b, b_shared, q_is) =
-    p_is ∙ ap (drop depth) (front-antisym a b (b_shared.longest a a_shared.begins_each) (a_shared.longest b b_shared.begins_each)) ∙ sym q_is
+    p_is ∙ ap (drop depth) (prefix-antisym a b (b_shared.longest a a_shared.begins_each) (a_shared.longest b b_shared.begins_each)) ∙ sym q_is
 
 -- where as many bytes as a prefix has are common, it begins the rest
-pub front-matched : (prefix rest : List ℕ) → common_prefix_len nat_eq prefix rest ≡ length prefix → IsFront prefix rest
-front-matched [] rest is = (rest, refl)
-front-matched (x ∷ prefix) [] is = absurd (omega (arith, is))
-front-matched (x ∷ prefix) (y ∷ rest) is = elim (eqb_tells x y) [
+pub prefix-matched : (prefix rest : List ℕ) → common_prefix_len nat_eq prefix rest ≡ length prefix → IsPrefixOf prefix rest
+prefix-matched [] rest is = (rest, refl)
+prefix-matched (x ∷ prefix) [] is = absurd (omega (arith, is))
+prefix-matched (x ∷ prefix) (y ∷ rest) is = elim (eqb_tells x y) [
   | inl same ↦
       let more : 1 + common_prefix_len nat_eq prefix rest ≡ length (x ∷ prefix) = rw same.0 at is in
-      let tail = front-matched prefix rest (omega (arith, more)) in
+      let tail = prefix-matched prefix rest (omega (arith, more)) in
       (tail.0, ap (λ z. z ∷ rest) (sym same.1) ∙ ap (λ z. x ∷ z) tail.1)
   | inr differ ↦ let none : 0 ≡ length (x ∷ prefix) = rw differ.0 at is in absurd (omega (arith, none))
 ]

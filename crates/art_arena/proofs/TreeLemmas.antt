@@ -6,12 +6,12 @@ use Rattle.std.proofs.lemmas.List.{map-append}
 use Rattle.std.proofs.lemmas.List.Elements.{All-nil, All-cons, All-append, All-weaker}
 use Rattle.std.proofs.Math.ListN.{get_or-append}
 use Rattle.std.proofs.Math.Seq.{get_or-append_right}
-use Rattle.art_bytes.specs.Text.{IsFront, text_order}
+use Rattle.art_bytes.specs.Text.{IsPrefixOf, text_order}
 use Rattle.art_nodes.specs.ChildMap.{IsAscendingFrom, key_bytes}
-use Rattle.art_arena.specs.SharedFront.{IsSharedFront}
+use Rattle.art_arena.specs.CommonPrefix.{IsLongestCommonPrefix}
 use Rattle.art_arena.specs.Trees.{Tree, Leaf, Inner, Branches, NoBranch, Branch, leaves, branch_leaves, texts, branch_texts, branch_roots, IsSound, AreSound, SameButPointers, SameBranches}
-use Rattle.art_bytes.proofs.FrontLaws.{front-shorter}
-use Rattle.art_arena.proofs.TextLemmas.{front_of_both, PartsBefore, PartsBefore-less, PartsBefore-apart}
+use Rattle.art_bytes.proofs.PrefixLaws.{prefix-shorter}
+use Rattle.art_arena.proofs.TextLemmas.{prefix_of_both, PartsBefore, PartsBefore-less, PartsBefore-apart}
 
 -- pairs of a joined list are pairs of a part, or cross from the first into the second
 pub AllPairs-append : {X : Type 0} (R : X → X → Type 0) (xs ys : List X) → AllPairs R xs → AllPairs R ys → All (λ x. All (R x) ys) xs → AllPairs R (xs ++ ys)
@@ -29,19 +29,19 @@ AllPairs-append R xs ys left right across i j d before inside = elim (cases_lt j
 pub record GoesOn (path : List ℕ) (low : ℕ) (text : List ℕ) : Type 0 where
   pub byte : ℕ
   pub reaches : low ≤ byte
-  pub begins : IsFront (path ++ byte ∷ []) text
+  pub begins : IsPrefixOf (path ++ byte ∷ []) text
 
 -- a text that begins with the path and this byte parts before one that goes on with a greater byte
-pub parts_before : (path : List ℕ) (byte : ℕ) (x y : List ℕ) → IsFront (path ++ byte ∷ []) x → GoesOn path (suc byte) y → PartsBefore x y
+pub parts_before : (path : List ℕ) (byte : ℕ) (x y : List ℕ) → IsPrefixOf (path ++ byte ∷ []) x → GoesOn path (suc byte) y → PartsBefore x y
 parts_before path byte x y begins on = record { front = path; lesser = byte; greater = on.byte; begins = begins; other_begins = on.begins; ascends = omega (arith, on.reaches) }
 
 module _ {H : Type 0} where
   mutual
     -- every text of a sound tree begins with the path to it
-    pub texts-begin : (path : List ℕ) (tree : Tree H) → IsSound path tree → All (IsFront path) (texts tree)
-    texts-begin path (Leaf pointer text) sound = All-cons (IsFront path) text [] sound.0 (All-nil (IsFront path))
+    pub texts-begin : (path : List ℕ) (tree : Tree H) → IsSound path tree → All (IsPrefixOf path) (texts tree)
+    texts-begin path (Leaf pointer text) sound = All-cons (IsPrefixOf path) text [] sound.0 (All-nil (IsPrefixOf path))
     texts-begin path (Inner pointer prefix branches) sound =
-        All-weaker (GoesOn (path ++ prefix) 0) (IsFront path) (λ text on. front-shorter path prefix text (front-shorter (path ++ prefix) (on.byte ∷ []) text on.begins)) (branch_texts branches) (texts-go-on (path ++ prefix) branches 0 sound.2 sound.1)
+        All-weaker (GoesOn (path ++ prefix) 0) (IsPrefixOf path) (λ text on. prefix-shorter path prefix text (prefix-shorter (path ++ prefix) (on.byte ∷ []) text on.begins)) (branch_texts branches) (texts-go-on (path ++ prefix) branches 0 sound.2 sound.1)
 
     -- and below an inner node with a byte of its branches
     pub texts-go-on : (path : List ℕ) (branches : Branches H) (low : ℕ) → AreSound path branches → IsAscendingFrom low (key_bytes (branch_roots branches)) → All (GoesOn path low) (branch_texts branches)
@@ -49,7 +49,7 @@ module _ {H : Type 0} where
     texts-go-on path (Branch byte tree others) low sound ascend =
         subst (All (GoesOn path low)) (sym (map-append (λ leaf. leaf.1) (leaves tree) (branch_leaves others)))
         (All-append (GoesOn path low) (texts tree) (branch_texts others)
-        (All-weaker (IsFront (path ++ byte ∷ [])) (GoesOn path low) (λ text begins. record { byte = byte; reaches = ascend.0; begins = begins }) (texts tree) (texts-begin (path ++ byte ∷ []) tree sound.0))
+        (All-weaker (IsPrefixOf (path ++ byte ∷ [])) (GoesOn path low) (λ text begins. record { byte = byte; reaches = ascend.0; begins = begins }) (texts tree) (texts-begin (path ++ byte ∷ []) tree sound.0))
         (All-weaker (GoesOn path (suc byte)) (GoesOn path low) (λ text on. record { byte = on.byte; reaches = omega (arith, on.reaches, ascend.0); begins = on.begins }) (branch_texts others) (texts-go-on path others (suc byte) sound.1 ascend.2)))
 
   mutual
@@ -64,31 +64,31 @@ module _ {H : Type 0} where
         rw (map-append (λ leaf. leaf.1) (leaves tree) (branch_leaves others), length-append) (omega (arith, texts-some (path ++ byte ∷ []) tree sound.0))
 
   -- what begins all texts of two branches begins the path to them
-  front_of_two : (path : List ℕ) (b c : ℕ) (t u : Tree H) (others : Branches H) (other : List ℕ) → IsSound (path ++ b ∷ []) t → IsSound (path ++ c ∷ []) u → b < c → All (IsFront other) (branch_texts (Branch b t (Branch c u others))) → IsFront other path
-  front_of_two path b c t u others other t_sound u_sound less all =
+  prefix_of_two : (path : List ℕ) (b c : ℕ) (t u : Tree H) (others : Branches H) (other : List ℕ) → IsSound (path ++ b ∷ []) t → IsSound (path ++ c ∷ []) u → b < c → All (IsPrefixOf other) (branch_texts (Branch b t (Branch c u others))) → IsPrefixOf other path
+  prefix_of_two path b c t u others other t_sound u_sound less all =
       let joined : branch_texts (Branch b t (Branch c u others)) ≡ texts t ++ (texts u ++ branch_texts others) =
       map-append (λ leaf. leaf.1) (leaves t) (branch_leaves (Branch c u others)) ∙ ap (λ z. texts t ++ z) (map-append (λ leaf. leaf.1) (leaves u) (branch_leaves others)) in
-      let each : All (IsFront other) (texts t ++ (texts u ++ branch_texts others)) = subst (All (IsFront other)) joined all in
+      let each : All (IsPrefixOf other) (texts t ++ (texts u ++ branch_texts others)) = subst (All (IsPrefixOf other)) joined all in
       let t_some = texts-some (path ++ b ∷ []) t t_sound in
       let u_some = texts-some (path ++ c ∷ []) u u_sound in
       let x = get_or (texts t) 0 [] in
       let y = get_or (texts u) 0 [] in
-      let x_on : IsFront (path ++ b ∷ []) x = texts-begin (path ++ b ∷ []) t t_sound 0 [] t_some in
-      let y_on : IsFront (path ++ c ∷ []) y = texts-begin (path ++ c ∷ []) u u_sound 0 [] u_some in
-      let x_in : IsFront other x = subst (IsFront other) (get_or-append (texts t) (texts u ++ branch_texts others) [] 0 t_some) (each 0 [] (omega (arith, t_some, length-append (texts t) (texts u ++ branch_texts others)))) in
+      let x_on : IsPrefixOf (path ++ b ∷ []) x = texts-begin (path ++ b ∷ []) t t_sound 0 [] t_some in
+      let y_on : IsPrefixOf (path ++ c ∷ []) y = texts-begin (path ++ c ∷ []) u u_sound 0 [] u_some in
+      let x_in : IsPrefixOf other x = subst (IsPrefixOf other) (get_or-append (texts t) (texts u ++ branch_texts others) [] 0 t_some) (each 0 [] (omega (arith, t_some, length-append (texts t) (texts u ++ branch_texts others)))) in
       let at : ℕ = length (texts t) in
-      let y_in : IsFront other y =
-      subst (IsFront other) (get_or-append_right (texts t) (texts u ++ branch_texts others) at [] (omega arith) ∙ ap (λ n. get_or (texts u ++ branch_texts others) n []) (omega arith) ∙ get_or-append (texts u) (branch_texts others) [] 0 u_some)
+      let y_in : IsPrefixOf other y =
+      subst (IsPrefixOf other) (get_or-append_right (texts t) (texts u ++ branch_texts others) at [] (omega arith) ∙ ap (λ n. get_or (texts u ++ branch_texts others) n []) (omega arith) ∙ get_or-append (texts u) (branch_texts others) [] 0 u_some)
       (each at [] (omega (arith, u_some, length-append (texts t) (texts u ++ branch_texts others), length-append (texts u) (branch_texts others)))) in
-      front_of_both other path b c x_in.0 x_on.0 y_in.0 y_on.0 (sym x_in.1 ∙ x_on.1) (sym y_in.1 ∙ y_on.1) (λ same. omega (arith, less))
+      prefix_of_both other path b c x_in.0 x_on.0 y_in.0 y_on.0 (sym x_in.1 ∙ x_on.1) (sym y_in.1 ∙ y_on.1) (λ same. omega (arith, less))
 
   -- path and prefix of an inner node are what all texts below share
-  pub IsSharedFront-node : (path : List ℕ) (pointer : H) (prefix : List ℕ) (branches : Branches H) → IsSound path (Inner pointer prefix branches) → IsSharedFront (branch_texts branches) (path ++ prefix)
-  IsSharedFront-node path pointer prefix NoBranch sound = absurd (omega (arith, sound.0))
-  IsSharedFront-node path pointer prefix (Branch b t NoBranch) sound = absurd (omega (arith, sound.0))
-  IsSharedFront-node path pointer prefix (Branch b t (Branch c u others)) sound = record {
-    begins_each = All-weaker (GoesOn (path ++ prefix) 0) (IsFront (path ++ prefix)) (λ text on. front-shorter (path ++ prefix) (on.byte ∷ []) text on.begins) (branch_texts (Branch b t (Branch c u others))) (texts-go-on (path ++ prefix) (Branch b t (Branch c u others)) 0 sound.2 sound.1);
-    longest = λ other all. front_of_two (path ++ prefix) b c t u others other sound.2.0 sound.2.1.0 sound.1.2.0 all;
+  pub IsLongestCommonPrefix-node : (path : List ℕ) (pointer : H) (prefix : List ℕ) (branches : Branches H) → IsSound path (Inner pointer prefix branches) → IsLongestCommonPrefix (branch_texts branches) (path ++ prefix)
+  IsLongestCommonPrefix-node path pointer prefix NoBranch sound = absurd (omega (arith, sound.0))
+  IsLongestCommonPrefix-node path pointer prefix (Branch b t NoBranch) sound = absurd (omega (arith, sound.0))
+  IsLongestCommonPrefix-node path pointer prefix (Branch b t (Branch c u others)) sound = record {
+    begins_each = All-weaker (GoesOn (path ++ prefix) 0) (IsPrefixOf (path ++ prefix)) (λ text on. prefix-shorter (path ++ prefix) (on.byte ∷ []) text on.begins) (branch_texts (Branch b t (Branch c u others))) (texts-go-on (path ++ prefix) (Branch b t (Branch c u others)) 0 sound.2 sound.1);
+    longest = λ other all. prefix_of_two (path ++ prefix) b c t u others other sound.2.0 sound.2.1.0 sound.1.2.0 all;
   }
 
   mutual
@@ -104,7 +104,7 @@ module _ {H : Type 0} where
         (AllPairs-append PartsBefore (texts tree) (branch_texts others)
         (texts-part (path ++ byte ∷ []) tree sound.0)
         (branch_texts-part path others (suc byte) sound.1 ascend.2)
-        (All-weaker (IsFront (path ++ byte ∷ [])) (λ x. All (PartsBefore x) (branch_texts others))
+        (All-weaker (IsPrefixOf (path ++ byte ∷ [])) (λ x. All (PartsBefore x) (branch_texts others))
         (λ x begins. All-weaker (GoesOn path (suc byte)) (PartsBefore x) (λ y on. parts_before path byte x y begins on) (branch_texts others) (texts-go-on path others (suc byte) sound.1 ascend.2))
         (texts tree) (texts-begin (path ++ byte ∷ []) tree sound.0)))
 
@@ -113,7 +113,7 @@ module _ {H : Type 0} where
   texts-ascend path tree sound i j d before inside = PartsBefore-less (get_or (texts tree) i d) (get_or (texts tree) j d) (texts-part path tree sound i j d before inside)
 
   -- no text begins another
-  pub texts-apart : (path : List ℕ) (tree : Tree H) → IsSound path tree → AllPairs (λ a b. (IsFront a b → ⊥) × (IsFront b a → ⊥)) (texts tree)
+  pub texts-apart : (path : List ℕ) (tree : Tree H) → IsSound path tree → AllPairs (λ a b. (IsPrefixOf a b → ⊥) × (IsPrefixOf b a → ⊥)) (texts tree)
   texts-apart path tree sound i j d before inside = PartsBefore-apart (get_or (texts tree) i d) (get_or (texts tree) j d) (texts-part path tree sound i j d before inside)
 
   mutual

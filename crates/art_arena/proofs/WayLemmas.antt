@@ -3,14 +3,14 @@ use Rattle.std.proofs.Common.{◌≡◌, ◌≢◌, ◌∙◌, ℕ, ◌+◌, ◌
 use Rattle.std.proofs.lemmas.List.{take_all, drop_at, append_assoc, take_at, length-map}
 use Rattle.std.proofs.Math.ListN.{get_or-map}
 use Rattle.std.proofs.lemmas.List.Elements.{All-nil, All-cons, All-append, All-contains}
-use Rattle.art_bytes.specs.Text.{IsFront}
+use Rattle.art_bytes.specs.Text.{IsPrefixOf}
 use Rattle.art_header.specs.Header.{capped}
 use Rattle.art_nodes.specs.Inner as nodes
 use Rattle.art_arena.specs.Arena.{Held, Nothing, HeldLeaf, held_leaf}
-use Rattle.art_arena.specs.SharedFront.{IsSharedFrom}
+use Rattle.art_arena.specs.CommonPrefix.{IsSharedFrom}
 use Rattle.art_arena.specs.Standing.{Stands, AllStand, StandsUnder}
 use Rattle.art_arena.specs.Trees.{Tree, Leaf, Inner, Branches, NoBranch, Branch, leaves, branch_leaves, texts, branch_texts, IsSound}
-use Rattle.art_arena.proofs.TreeLemmas.{IsSharedFront-node}
+use Rattle.art_arena.proofs.TreeLemmas.{IsLongestCommonPrefix-node}
 use Rattle.art_arena.proofs.TextLemmas.{IsSharedFrom-same}
 
 -- a slot of leaves that is not free has one
@@ -56,8 +56,8 @@ module _ {H L : Type 0} (room : ℕ) (text_of : L → List ℕ) (held_at : H →
   pub IsCut-leaf : (node : nodes.Inner H) (tree : Tree H) (path : List ℕ) (depth n : ℕ) (pointer : H) (text : List ℕ) → StandsUnder room text_of held_at node tree → IsSound path tree → length path ≡ depth → n ≡ node.prefix_len → Contains (leaves tree) (pointer, text) → IsCut depth n text tree
   IsCut-leaf node (Leaf p x) path depth n pointer text stands sound deep long in_tree = absurd stands
   IsCut-leaf node (Inner p prefix branches) path depth n pointer text (shows, stand) sound deep long in_tree =
-      let front = IsSharedFront-node path p prefix branches sound in
-      let begins = of_leaf (IsFront (path ++ prefix)) (Inner p prefix branches) pointer text front.begins_each in_tree in
+      let front = IsLongestCommonPrefix-node path p prefix branches sound in
+      let begins = of_leaf (IsPrefixOf (path ++ prefix)) (Inner p prefix branches) pointer text front.begins_each in_tree in
       let whole : text ≡ path ++ (prefix ++ begins.0) = begins.1 ∙ append_assoc path prefix begins.0 in
       let rest : drop depth text ≡ prefix ++ begins.0 = ap (drop depth) whole ∙ drop_at path (prefix ++ begins.0) depth deep in
       let cut : take (depth + n - depth) (drop depth text) ≡ prefix = ap (take (depth + n - depth)) rest ∙ take_at prefix begins.0 (depth + n - depth) (omega (arith, long, shows.prefix_len)) in
@@ -70,12 +70,12 @@ module _ {H L : Type 0} (room : ℕ) (text_of : L → List ℕ) (held_at : H →
   pub IsSharedFrom-stored : (node : nodes.Inner H) (tree : Tree H) (path : List ℕ) (depth : ℕ) → StandsUnder room text_of held_at node tree → IsSound path tree → length path ≡ depth → node.prefix_len ≤ room → IsSharedFrom depth (texts tree) node.stored
   IsSharedFrom-stored node (Leaf p x) path depth stands sound deep few = absurd stands
   IsSharedFrom-stored node (Inner p prefix branches) path depth (shows, stand) sound deep few =
-      (path ++ prefix, IsSharedFront-node path p prefix branches sound, shows.stored ∙ take_all (capped room (length prefix)) prefix (omega (arith, few, shows.prefix_len)) ∙ sym (drop_at path prefix depth deep))
+      (path ++ prefix, IsLongestCommonPrefix-node path p prefix branches sound, shows.stored ∙ take_all (capped room (length prefix)) prefix (omega (arith, few, shows.prefix_len)) ∙ sym (drop_at path prefix depth deep))
 
   -- path and what is shared from there begin every text
-  pub begin-shared : (node : nodes.Inner H) (tree : Tree H) (path : List ℕ) (depth : ℕ) (shared : List ℕ) → StandsUnder room text_of held_at node tree → IsSound path tree → length path ≡ depth → IsSharedFrom depth (texts tree) shared → All (IsFront (path ++ shared)) (texts tree)
+  pub begin-shared : (node : nodes.Inner H) (tree : Tree H) (path : List ℕ) (depth : ℕ) (shared : List ℕ) → StandsUnder room text_of held_at node tree → IsSound path tree → length path ≡ depth → IsSharedFrom depth (texts tree) shared → All (IsPrefixOf (path ++ shared)) (texts tree)
   begin-shared node (Leaf p x) path depth shared stands sound deep is = absurd stands
   begin-shared node (Inner p prefix branches) path depth shared (shows, stand) sound deep is =
-      let front = IsSharedFront-node path p prefix branches sound in
+      let front = IsLongestCommonPrefix-node path p prefix branches sound in
       let same : shared ≡ prefix = IsSharedFrom-same depth (branch_texts branches) shared prefix is (path ++ prefix, front, sym (drop_at path prefix depth deep)) in
-      subst (λ q. All (IsFront (path ++ q)) (branch_texts branches)) (sym same) front.begins_each
+      subst (λ q. All (IsPrefixOf (path ++ q)) (branch_texts branches)) (sym same) front.begins_each

@@ -5,7 +5,7 @@ use Rattle.std.specs.declared.cmp.Ordering.TheVariants.{Less, Equal, Greater}
 use Rattle.art_bytes.specs.Text.{text_order}
 use Rattle.art_nodes.specs.declared.inner_nodes.prefix_match.ExplicitMismatch.{ExplicitMismatch}
 use Rattle.art_nodes.specs.declared.inner_nodes.prefix_match.PrefixMatch.{PrefixMatch}
-use Rattle.art_arena.specs.SharedFront.{Parting}
+use Rattle.art_arena.specs.CommonPrefix.{Parting}
 
 -- a full match, but for the leaf that it read
 abbrev pub match_of : {K V : Type 0} {P : ℕ} → Result PrefixMatch (ExplicitMismatch K V P) → Result ℕ Parting

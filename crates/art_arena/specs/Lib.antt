@@ -6,6 +6,6 @@ pub mod Links
 pub mod Reader
 pub mod ReaderValue
 pub mod Relinking
-pub mod SharedFront
+pub mod CommonPrefix
 pub mod Standing
 pub mod Trees

@@ -1,6 +1,6 @@
 -- Trees as plain data, and what is said of them by recursion on that data.
 use Rattle.std.specs.Prelude.{◌≡◌, ℕ, ◌<◌, ◌≤◌, ◌^◌, List, [], ◌∷◌, ◌++◌, length, map}
-use Rattle.art_bytes.specs.Text.{IsFront}
+use Rattle.art_bytes.specs.Text.{IsPrefixOf}
 use Rattle.art_nodes.specs.ChildMap.{ChildMap, IsAscending, key_bytes}
 
 -- a leaf with its pointer and its text, or an inner node with its pointer, its prefix and its branches
@@ -56,7 +56,7 @@ module _ {H : Type 0} where
     -- every leaf's text begins with the path to it and is shorter than 2 ^ 64, and every inner node
     -- has two branches or more, their bytes ascending
     pub IsSound : List ℕ → Tree H → Type 0
-    IsSound path (Leaf pointer text) = IsFront path text × (length text < 2 ^ 64)
+    IsSound path (Leaf pointer text) = IsPrefixOf path text × (length text < 2 ^ 64)
     IsSound path (Inner pointer prefix branches) =
         (2 ≤ length (branch_roots branches)) × IsAscending (key_bytes (branch_roots branches)) × AreSound (path ++ prefix) branches
 

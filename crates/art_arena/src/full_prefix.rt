@@ -1,18 +1,18 @@
 //! The whole prefix of an inner node, however few of its bytes the node stores.
 ghost use Rattle.std.specs.Prelude.{◌≡◌, ◌≢◌, ◌↔◌, ◌<◌, ◌≤◌, ◌+◌, ◌++◌, ◌∷◌, ℕ, List, length, drop, All, None, IsOk, IsSome, IfSome, IfOk, IfErr};
 ghost use Rattle.std.specs.declared.cmp.Ordering.TheVariants.{Equal};
-ghost use Rattle.art_bytes.specs.Text.{IsFront};
+ghost use Rattle.art_bytes.specs.Text.{IsPrefixOf};
 ghost use Rattle.art_nodes.specs.Pointers.{slab_key};
 ghost use Rattle.art_arena.specs.FullPrefix.{match_of, LieOnSide};
 ghost use Rattle.art_arena.specs.Links.{HoldsLeaf};
-ghost use Rattle.art_arena.specs.SharedFront.{IsSharedFrom, full_match};
+ghost use Rattle.art_arena.specs.CommonPrefix.{IsSharedFrom, full_match};
 ghost use Rattle.art_arena.specs.Standing.{IsLeafOf, TreeUnder};
 ghost use Rattle.art_arena.specs.Trees.{texts};
 
 use crate::arena::NodeArena;
 use crate::ends::{End, end_leaf};
 use art_bytes::AsBytes;
-use art_nodes::{ExplicitMismatch, InnerNodeCommon, NodePrefix, PrefixMatch, common_front_len};
+use art_nodes::{ExplicitMismatch, InnerNodeCommon, NodePrefix, PrefixMatch, common_prefix_len};
 
 /// An inner node whose whole prefix can be read, with the arena that holds the nodes below it.
 ///
@@ -89,12 +89,12 @@ pub trait FullPrefix<K: AsBytes, V, const PREFIX_LEN: usize>: InnerNodeCommon<K,
         ensures leaf_held { IfErr result (λ mismatch.
             IfSome mismatch.leaf_ptr (λ leaf. HoldsLeaf arena.now (slab_key leaf))) }
         ensures side { (below : TreeUnder K.text arena.now (Self.inner self.now) depth) →
-            IsFront below.path key.now → IfErr result (λ mismatch. LieOnSide
+            IsPrefixOf below.path key.now → IfErr result (λ mismatch. LieOnSide
             mismatch.node_prefix_comparison_to_search_key_segment key.now (texts below.tree)) }
         ensures begun { (below : TreeUnder K.text arena.now (Self.inner self.now) depth)
             (shared : List ℕ) →
-            IsSharedFrom depth (texts below.tree) shared → IsFront below.path key.now →
-            IsOk result → All (IsFront (below.path ++ shared)) (key.now ∷ texts below.tree) }
+            IsSharedFrom depth (texts below.tree) shared → IsPrefixOf below.path key.now →
+            IsOk result → All (IsPrefixOf (below.path ++ shared)) (key.now ∷ texts below.tree) }
         ensures never_equal { IfErr result (λ mismatch.
             mismatch.node_prefix_comparison_to_search_key_segment ≢ Equal) }
         ensures stored { (Self.inner self.now).prefix_len ≤ PREFIX_LEN →
@@ -104,7 +104,7 @@ pub trait FullPrefix<K: AsBytes, V, const PREFIX_LEN: usize>: InnerNodeCommon<K,
     {
         let (prefix, leaf_ptr) = self.read_full_prefix(arena, depth);
         let rest = &key[depth..];
-        let matched_bytes = common_front_len(prefix, rest);
+        let matched_bytes = common_prefix_len(prefix, rest);
         if matched_bytes == prefix.len() {
             return Ok(PrefixMatch { matched_bytes });
         }

@@ -6,16 +6,16 @@
 //! stands in an arena where each of its pointers holds its node.
 ghost use Rattle.std.specs.Prelude.{◌≡◌, ◌≢◌, ◌≤◌, ◌++◌, [], ◌∷◌, ℕ, List, Some, None, length, slice_get, All, AllPairs};
 ghost use Rattle.std.specs.declared.cmp.Ordering.TheVariants.{Less};
-ghost use Rattle.art_bytes.specs.Text.{IsFront, text_order};
+ghost use Rattle.art_bytes.specs.Text.{IsPrefixOf, text_order};
 ghost use Rattle.art_nodes.specs.ChildMap.{IsAscending, child_at, key_bytes};
 ghost use Rattle.art_header.specs.declared.node_type.NodeType.TheVariants as NodeType;
 ghost use Rattle.art_nodes.specs.Leaf.{leaf_key, previous_key, next_key};
 ghost use Rattle.art_nodes.specs.Pointers.{node_kind, opaque_pointer};
-ghost use Rattle.art_nodes.specs.PrefixMatch.{IsPrefixOf};
+ghost use Rattle.art_nodes.specs.PrefixMatch.{HasPrefix};
 ghost use Rattle.art_nodes.specs.declared.pointers.OpaqueNodePtr.{OpaqueNodePtr};
 ghost use Rattle.art_arena.specs.Arena.{ArenaOf, HeldInner, HeldLeaf, Nothing, Changes, held};
 ghost use Rattle.art_arena.specs.Links.{AreDistinct, IsKnit, SameButLinks, Spells, leaf_at, next_at, previous_at};
-ghost use Rattle.art_arena.specs.SharedFront.{IsSharedFront, IsSharedFrom};
+ghost use Rattle.art_arena.specs.CommonPrefix.{IsLongestCommonPrefix, IsSharedFrom};
 ghost use Rattle.art_arena.specs.Standing.{NodeStands, StandsIn, AllStandIn, TreeAt, TreeUnder, IsTreeIn};
 ghost use Rattle.art_arena.specs.Trees.{Tree, Inner, Branches, branch_roots, leaves, texts, places, IsSound, AreSound, SameButPointers};
 
@@ -25,7 +25,7 @@ use art_bytes::AsBytes;
 pub fn path_and_prefix_are_shared<H>()
     ensures { (path prefix : List ℕ) (pointer : H) (branches : Branches H) →
         IsSound path (Inner pointer prefix branches) →
-        IsSharedFront (texts (Inner pointer prefix branches)) (path ++ prefix) }
+        IsLongestCommonPrefix (texts (Inner pointer prefix branches)) (path ++ prefix) }
 {}
 
 /// The texts of a sound tree ascend strictly, from left to right.
@@ -37,7 +37,7 @@ pub fn texts_ascend<H>()
 /// No text of a sound tree begins another.
 pub fn no_text_begins_another<H>()
     ensures { (path : List ℕ) (tree : Tree H) → IsSound path tree →
-        AllPairs (λ a b. (¬ IsFront a b) × (¬ IsFront b a)) (texts tree) }
+        AllPairs (λ a b. (¬ IsPrefixOf a b) × (¬ IsPrefixOf b a)) (texts tree) }
 {}
 
 /// Each pointer of a sound tree that stands in an arena is at one place of it.
@@ -73,7 +73,7 @@ pub fn each_node_of_a_tree_has_a_tree<K: AsBytes, V, const PREFIX_LEN: usize>()
     ensures child { (arena : ArenaOf K V PREFIX_LEN) (pointer child : _) (node : _) (byte : ℕ)
         (at : TreeAt K.text arena pointer) → held arena pointer ≡ HeldInner node →
         child_at node.children byte ≡ Some child →
-        (below : TreeAt K.text arena child) × ((prefix : List ℕ) × IsPrefixOf node prefix ×
+        (below : TreeAt K.text arena child) × ((prefix : List ℕ) × HasPrefix node prefix ×
         (below.path ≡ (at.path ++ prefix) ++ byte ∷ [])) ×
         ((left : List _) × (right : List _) ×
         (leaves at.tree ≡ left ++ (leaves below.tree ++ right))) }

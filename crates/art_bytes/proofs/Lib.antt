@@ -1,1 +1,1 @@
-pub mod FrontLaws
+pub mod PrefixLaws

@@ -13,8 +13,8 @@ abbrev pub IsText : List ℕ → Type 0
 IsText a = All IsByte a
 
 -- b begins with a, equality included
-abbrev pub IsFront : List ℕ → List ℕ → Type 0
-IsFront a b = (rest : List ℕ) × (b ≡ a ++ rest)
+abbrev pub IsPrefixOf : List ℕ → List ℕ → Type 0
+IsPrefixOf a b = (rest : List ℕ) × (b ≡ a ++ rest)
 
 -- the first byte that differs decides, and else a proper front is less
 abbrev pub text_order : List ℕ → List ℕ → Ordering

@@ -1,8 +1,8 @@
 //! Keys: the bytes of a value, and the laws of keys without prefixes and of keys in order.
 ghost use Rattle.std.specs.Prelude.{◌≡◌, ℕ, List, length, refl, ⊤};
 ghost use Rattle.std.specs.String.{string_bytes};
-ghost use Rattle.art_bytes.specs.Laws.{front_of_length};
-ghost use Rattle.art_bytes.specs.Text.{IsFront, IsText, text_order};
+ghost use Rattle.art_bytes.specs.Laws.{prefix_of_length};
+ghost use Rattle.art_bytes.specs.Text.{IsPrefixOf, IsText, text_order};
 
 /// A type whose values can be seen as bytes, as the keys of an adaptive radix tree are.
 pub trait AsBytes {
@@ -24,7 +24,7 @@ pub trait AsBytes {
 pub trait NoPrefixesBytes: AsBytes {
     /// Where the text of one key begins that of another, the two texts are equal.
     ghost no_prefixes: { (a b : Self) → Self.is_key a → Self.is_key b →
-        IsFront (Self.text a) (Self.text b) → Self.text a ≡ Self.text b };
+        IsPrefixOf (Self.text a) (Self.text b) → Self.text a ≡ Self.text b };
 }
 
 /// A type of keys that are binary-comparable, as Leis, Kemper and Neumann call it (2013): a tree over their bytes
@@ -80,7 +80,7 @@ impl<const N: usize> AsBytes for [u8; N] {
 }
 
 impl<const N: usize> NoPrefixesBytes for [u8; N] {
-    ghost no_prefixes = { front_of_length N };
+    ghost no_prefixes = { prefix_of_length N };
 }
 
 impl<const N: usize> OrderedBytes for [u8; N] {

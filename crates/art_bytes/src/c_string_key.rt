@@ -1,7 +1,7 @@
 //! C strings as keys.
 ghost use Rattle.std.specs.Prelude.{◌≡◌, ◌<◌, [], ◌∷◌, ◌++◌, vec_len, vec_capacity, IfOk, IfErr, IsOk, OnOk, refl};
 ghost use Rattle.art_bytes.specs.CString.{IsCString, HasNoZero};
-ghost use Rattle.art_bytes.specs.CStringLaws.{c_string_front_is_whole};
+ghost use Rattle.art_bytes.specs.CStringLaws.{c_string_prefix_is_whole};
 
 use crate::bytes::{AsBytes, NoPrefixesBytes, OrderedBytes};
 use std::error::Error;
@@ -53,7 +53,7 @@ impl AsBytes for CStringKey {
 }
 
 impl NoPrefixesBytes for CStringKey {
-    ghost no_prefixes = { λ a b. c_string_front_is_whole a.bytes.items b.bytes.items };
+    ghost no_prefixes = { λ a b. c_string_prefix_is_whole a.bytes.items b.bytes.items };
 }
 
 impl OrderedBytes for CStringKey {

@@ -3,4 +3,4 @@ mod Failures
 mod Numbers
 mod Parts
 mod Writes
-mod Finding
+mod FindLemmas

@@ -2,7 +2,7 @@
 use Rattle.std.specs.Prelude.{ℕ, List, ◌++◌, codes}
 use Rattle.std.specs.Fmt.{decimal}
 use Rattle.art_cli.specs.declared.failure.LineFault.{LineFault}
-use Rattle.art_cli.specs.declared.failure.LineFault.TheVariants.{UnknownCommand, WrongNumberOfWords, BadNumber, KeyTooLong, FrontOfOther}
+use Rattle.art_cli.specs.declared.failure.LineFault.TheVariants.{UnknownCommand, WrongNumberOfWords, BadNumber, KeyTooLong, PrefixOfOther}
 use Rattle.art_cli.specs.declared.failure.Failure.{Failure}
 use Rattle.art_cli.specs.declared.failure.Failure.TheVariants.{Usage, BadLine, OutOfMemory, Device}
 
@@ -19,7 +19,7 @@ fault_text UnknownCommand = codes "unknown command"
 fault_text WrongNumberOfWords = codes "wrong number of words"
 fault_text BadNumber = codes "bad number"
 fault_text KeyTooLong = codes "key too long"
-fault_text FrontOfOther = codes "one key is a front of the other"
+fault_text PrefixOfOther = codes "one key is a front of the other"
 
 -- why there is no answer
 abbrev pub failure_text : Failure → List ℕ

@@ -1,9 +1,9 @@
 -- What the lines of `find` say, and which entries there are after them.
 use Rattle.std.specs.Prelude.{◌≡◌, ◌≢◌, ℕ, ◌+◌, ◌<◌, ◌≤◌, ◌^◌, List, [], ◌∷◌, ◌++◌, Option, None, Some, bytes_eq, length}
 use Rattle.std.specs.Map.{update}
-use Rattle.art_tree.specs.Dictionary.{AreAtOdds}
+use Rattle.art_tree.specs.Dictionary.{OneIsProperPrefix}
 use Rattle.art_cli.specs.declared.failure.LineFault.{LineFault}
-use Rattle.art_cli.specs.declared.failure.LineFault.TheVariants.{KeyTooLong, FrontOfOther}
+use Rattle.art_cli.specs.declared.failure.LineFault.TheVariants.{KeyTooLong, PrefixOfOther}
 use Rattle.art_cli.specs.declared.find.command.TreeCommand.{TreeCommand}
 use Rattle.art_cli.specs.declared.find.command.TreeCommand.TheVariants.{Insert, Remove, Find}
 
@@ -44,18 +44,18 @@ after_all entries [] = entries
 after_all entries (command ∷ commands) = after_all (after entries command) commands
 
 -- a text that has an entry is a proper front of the key, or the key of it
-abbrev pub IsFrontOfOther : Entries → List ℕ → Type 0
-IsFrontOfOther entries key = (other : List ℕ) × (entries.number_of other ≢ None) × AreAtOdds other key
+abbrev pub IsPrefixOfOther : Entries → List ℕ → Type 0
+IsPrefixOfOther entries key = (other : List ℕ) × (entries.number_of other ≢ None) × OneIsProperPrefix other key
 
 -- why an entry with this key is refused beside these
 abbrev pub IsRefusedLine : Entries → List ℕ → LineFault → Type 0
 IsRefusedLine entries key KeyTooLong = 2 ^ 32 ≤ length key
-IsRefusedLine entries key FrontOfOther = (length key < 2 ^ 32) × IsFrontOfOther entries key
+IsRefusedLine entries key PrefixOfOther = (length key < 2 ^ 32) × IsPrefixOfOther entries key
 IsRefusedLine entries key _ = ⊥
 
 -- a command enters no entry that is refused
 abbrev pub IsAdmitted : Entries → TreeCommand (List ℕ) → Type 0
-IsAdmitted entries (Insert key) = (length key < 2 ^ 32) × (¬ IsFrontOfOther entries key)
+IsAdmitted entries (Insert key) = (length key < 2 ^ 32) × (¬ IsPrefixOfOther entries key)
 IsAdmitted entries _ = Unit {0}
 
 -- nor does any of these, one after another

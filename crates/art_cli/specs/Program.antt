@@ -4,7 +4,7 @@ use Rattle.std.specs.Io.KnownBytes.{Keeps, Appends}
 use Rattle.art_bytes.specs.declared.slice_key.SliceKey.{SliceKey}
 use Rattle.art_nodes.specs.Commands.{run_of}
 use Rattle.art_nodes.specs.declared.ChildCommand.{ChildCommand}
-use Rattle.art_cli.specs.declared.failure.LineFault.TheVariants.{UnknownCommand, KeyTooLong, FrontOfOther}
+use Rattle.art_cli.specs.declared.failure.LineFault.TheVariants.{UnknownCommand, KeyTooLong, PrefixOfOther}
 use Rattle.art_cli.specs.declared.failure.Failure.{Failure}
 use Rattle.art_cli.specs.declared.failure.Failure.TheVariants.{Usage, BadLine, OutOfMemory, Device}
 use Rattle.art_cli.specs.declared.request.Request.{Request}
@@ -51,7 +51,7 @@ IsReplayFailure input _ = ⊥
 -- the failure that a refusal of the entry in this line is
 abbrev pub failure_for : ℕ → InsertRefusal → Failure
 failure_for line refusals.KeyTooLong = BadLine line KeyTooLong
-failure_for line refusals.Prefix = BadLine line FrontOfOther
+failure_for line refusals.Prefix = BadLine line PrefixOfOther
 failure_for line refusals.OutOfMemory = OutOfMemory
 
 -- the failures of commands: the entry in the line of this number is the first that is refused

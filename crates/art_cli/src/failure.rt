@@ -18,7 +18,7 @@ pub enum LineFault {
     /// An entry's key has 2^32 bytes or more.
     KeyTooLong,
     /// An entry's key is a proper front of that of another entry, or the other's of it.
-    FrontOfOther,
+    PrefixOfOther,
 }
 
 impl fmt::Display for LineFault {
@@ -33,7 +33,7 @@ impl fmt::Display for LineFault {
             LineFault::WrongNumberOfWords => write!(f, "wrong number of words"),
             LineFault::BadNumber => write!(f, "bad number"),
             LineFault::KeyTooLong => write!(f, "key too long"),
-            LineFault::FrontOfOther => write!(f, "one key is a front of the other"),
+            LineFault::PrefixOfOther => write!(f, "one key is a front of the other"),
         }
     }
 }

@@ -8,12 +8,12 @@ ghost use Rattle.art_cli.specs.Program.{IsFindOutput, IsFindFailure, IsEntryFail
 
 mod answer;
 mod command;
-mod print;
+mod print_found;
 
 use crate::failure::{Failure, LineFault};
 use crate::find::answer::answer;
 use crate::find::command::{TreeCommand, parse};
-use crate::find::print::{print_answer, print_removal};
+use crate::find::print_found::{print_answer, print_removal};
 use art_tree::{ArtTree, AsBytes, InsertRefusal, SliceKey};
 use std::alloc::Global;
 
@@ -73,7 +73,7 @@ fn failure_of(line: usize, refusal: InsertRefusal) -> Failure
 {
     match refusal {
         InsertRefusal::KeyTooLong => Failure::BadLine(line, LineFault::KeyTooLong),
-        InsertRefusal::Prefix => Failure::BadLine(line, LineFault::FrontOfOther),
+        InsertRefusal::Prefix => Failure::BadLine(line, LineFault::PrefixOfOther),
         InsertRefusal::OutOfMemory => Failure::OutOfMemory,
     }
 }

@@ -6,12 +6,12 @@ ghost use Rattle.art_cli.specs.Program.{IsReplayOutput, IsReplayFailure};
 
 mod nodes;
 mod parse;
-mod print;
+mod print_reply_lines;
 
 use crate::failure::Failure;
 use crate::replay::nodes::Command;
 use crate::replay::parse::parse;
-use crate::replay::print::text_of;
+use crate::replay::print_reply_lines::text_of;
 use art_tree::{Header, replay};
 use std::alloc::{AllocError, Global};
 

@@ -1,6 +1,6 @@
 //! Whole runs over a reader and writers in memory.
-mod find;
-mod replay;
+mod find_tests;
+mod replay_tests;
 
 use super::*;
 use std::alloc::{AllocError, Global};
@@ -83,7 +83,7 @@ fn nones(alloc: Global, count: usize) -> Result<String, AllocError> {
 fn the_longest_failure_is_told_whole(rt: HostRuntime) -> Result<(), Fail> {
     let line = "line 18446744073709551615: one key is a front of the other\n";
     let mut errors = Vec::new(rt.alloc());
-    let status = Failure::BadLine(usize::MAX, LineFault::FrontOfOther).report(&mut errors);
+    let status = Failure::BadLine(usize::MAX, LineFault::PrefixOfOther).report(&mut errors);
     compare(&rt, b"", &errors, status, &case_of(b"", "", line, 2));
     Ok(())
 }

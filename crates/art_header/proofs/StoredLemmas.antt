@@ -3,7 +3,7 @@ use Rattle.std.proofs.Common.{◌≡◌, ℕ, ◌+◌, ◌-◌, ◌<◌, ◌≤�
 use Rattle.std.proofs.lemmas.List.{length-take-le, length-drop, drop-take, drop-append-le, take-append-le}
 use Rattle.std.proofs.Math.Seq.{paste, take-append-add, take-append_seam, drop-append-add}
 use Rattle.std.proofs.lemmas.List.Edits.{take-paste}
-use Rattle.art_header.specs.Header.{Header, capped, without_front, with_more, StandsFor}
+use Rattle.art_header.specs.Header.{Header, capped, ltrimmed, with_more, StandsFor}
 
 module _ {X : Type 0} where
   -- the bytes from n on, moved to the front
@@ -45,14 +45,14 @@ abbrev pub shown : ℕ → ℕ → ℕ → List ℕ → Header
 shown room count len bytes = record { count = count; prefix_len = len; stored = take (capped room len) bytes }
 
 module _ (room count len : ℕ) (bytes : List ℕ) (header : Header) (is : shown room count len bytes ≡ header) (full : length bytes ≡ room) where
-  pub shows-without_front : (n left moved : ℕ) (after : List ℕ) → (0 < n → len ≤ room) → n ≤ len → left ≡ len - n → moved ≡ capped room left → after ≡ paste bytes 0 (drop n bytes) moved → shown room count left after ≡ without_front header n
-  shows-without_front n left moved after stored within less same copied =
+  pub shows-ltrimmed : (n left moved : ℕ) (after : List ℕ) → (0 < n → len ≤ room) → n ≤ len → left ≡ len - n → moved ≡ capped room left → after ≡ paste bytes 0 (drop n bytes) moved → shown room count left after ≡ ltrimmed header n
+  shows-ltrimmed n left moved after stored within less same copied =
       let whole : capped room len ≡ n + capped room left = grind (arith, stored) in
       let fits : capped room len ≤ length bytes = omega arith in
       let front = trimmed n (capped room left) (capped room len) moved bytes whole fits same in
       ap (λ bs. record { count = count; prefix_len = left; stored = bs }) (ap (take (capped room left)) copied ∙ front)
       ∙ ap (λ m. record { count = count; prefix_len = m; stored = drop n (take (capped room len) bytes) }) less
-      ∙ ap (λ h. without_front h n) is
+      ∙ ap (λ h. ltrimmed h n) is
 
   pub shows-with_more : (n total start end : ℕ) (more written rest : List ℕ) → min n (room - capped room len) ≤ length more → total ≡ len + n → start ≡ capped room len → end ≡ capped room total → written ≡ take (end - start) more → shown room count total (take start bytes ++ (written ++ rest)) ≡ with_more room header more n
   shows-with_more n total start end more written rest enough sum from upto copied =

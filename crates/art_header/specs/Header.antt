@@ -22,8 +22,8 @@ abbrev pub with_prefix_of : Header → Header → Header
 with_prefix_of header other = record header { prefix_len = other.prefix_len; stored = other.stored }
 
 -- the header without the first bytes of its prefix, where the whole prefix is stored
-abbrev pub without_front : Header → ℕ → Header
-without_front header len = record header { prefix_len = header.prefix_len - len; stored = drop len header.stored }
+abbrev pub ltrimmed : Header → ℕ → Header
+ltrimmed header len = record header { prefix_len = header.prefix_len - len; stored = drop len header.stored }
 
 -- the header with a prefix longer by this many bytes, which begin with these
 abbrev pub with_more : ℕ → Header → List ℕ → ℕ → Header

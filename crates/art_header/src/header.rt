@@ -34,7 +34,7 @@ impl<const PREFIX_LEN: usize> Model for Header<PREFIX_LEN> {
 }
 
 impl<const PREFIX_LEN: usize> Header<PREFIX_LEN> {
-    ghost use Rattle.art_header.specs.Header.{capped, empty_header, with_prefix_of, without_front, with_more, with_prefix, StandsFor};
+    ghost use Rattle.art_header.specs.Header.{capped, empty_header, with_prefix_of, ltrimmed, with_more, with_prefix, StandsFor};
 
     /// A header with no children, for a prefix of `prefix_len` bytes that begins with `prefix`.
     ///
@@ -105,7 +105,7 @@ impl<const PREFIX_LEN: usize> Header<PREFIX_LEN> {
     pub fn ltrim_by(&mut self, len: usize)
         requires wholly_stored { 0 < len → self.old.prefix_len ≤ PREFIX_LEN }
         requires within { len ≤ self.old.prefix_len }
-        ensures { self.new ≡ without_front self.old len }
+        ensures { self.new ≡ ltrimmed self.old len }
     {
         self.prefix_len = (self.prefix_len() - len) as u32;
         let end = len + self.capped_prefix_len();

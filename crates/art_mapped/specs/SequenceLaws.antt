@@ -8,8 +8,8 @@ use Rattle.std.proofs.Common.{sym, ap, ◌∙◌, arith, length-append}
 use Rattle.std.proofs.lemmas.List.Elements.{All-head, All-tail}
 use Rattle.std.proofs.lemmas.Map.Lookups.{CmpEqualImpliesEq}
 use Rattle.std.proofs.lemmas.Cmp.{tied_itself, nat_list_cmp_total}
-use Rattle.art_bytes.specs.Text.{IsFront, text_order}
-use Rattle.art_bytes.specs.Laws.{front_of_length}
+use Rattle.art_bytes.specs.Text.{IsPrefixOf, text_order}
+use Rattle.art_bytes.specs.Laws.{prefix_of_length}
 use Rattle.art_mapped.specs.DigitLaws.{then_assoc}
 use Rattle.art_mapped.specs.Elements.{KeepsOrder}
 use Rattle.art_mapped.specs.Sequences.{joined, IsArray}
@@ -80,10 +80,10 @@ module _ {E : Type 0} {is_element : E → Type 0} {text : E → List ℕ} {order
       exact_lists order laws.exact xs ys (joined_keep xs ys x_in y_in ∙ rw (sym x_text ∙ y_text) (tied_itself nat_list_cmp_total (joined text ys)))
 
   -- of two texts of one width none is a proper front of the other
-  pub front_is_whole : (x y : E) → is_element x → is_element y → IsFront (text x) (text y) → text x ≡ text y
-  front_is_whole x y x_in y_in = front_of_length width (text x) (text y) (laws.long x x_in) (laws.long y y_in)
+  pub prefix_is_whole : (x y : E) → is_element x → is_element y → IsPrefixOf (text x) (text y) → text x ≡ text y
+  prefix_is_whole x y x_in y_in = prefix_of_length width (text x) (text y) (laws.long x x_in) (laws.long y y_in)
 
   -- nor of the joined texts of as many elements
-  pub joined_front_is_whole : (n : ℕ) (xs ys : List E) → IsArray n is_element xs → IsArray n is_element ys → IsFront (joined text xs) (joined text ys) → joined text xs ≡ joined text ys
-  joined_front_is_whole n xs ys x_in y_in =
-      front_of_length (n * width) (joined text xs) (joined text ys) (length-joined xs x_in.1 ∙ ap (λ k. k * width) x_in.0) (length-joined ys y_in.1 ∙ ap (λ k. k * width) y_in.0)
+  pub joined_prefix_is_whole : (n : ℕ) (xs ys : List E) → IsArray n is_element xs → IsArray n is_element ys → IsPrefixOf (joined text xs) (joined text ys) → joined text xs ≡ joined text ys
+  joined_prefix_is_whole n xs ys x_in y_in =
+      prefix_of_length (n * width) (joined text xs) (joined text ys) (length-joined xs x_in.1 ∙ ap (λ k. k * width) x_in.0) (length-joined ys y_in.1 ∙ ap (λ k. k * width) y_in.0)

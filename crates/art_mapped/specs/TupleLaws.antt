@@ -3,8 +3,8 @@ use Rattle.std.specs.Prelude.{◌≡◌, ℕ, ◌+◌, List, [], ◌∷◌, ◌+
 use Rattle.std.specs.Ordering.{ordering_then}
 use Rattle.std.specs.declared.cmp.Ordering.{Ordering}
 use Rattle.std.proofs.Common.{sym, ap, ◌∙◌, subst, arith, length-append}
-use Rattle.art_bytes.specs.Text.{IsFront}
-use Rattle.art_bytes.specs.Laws.{front_of_length}
+use Rattle.art_bytes.specs.Text.{IsPrefixOf}
+use Rattle.art_bytes.specs.Laws.{prefix_of_length}
 use Rattle.art_mapped.specs.Mapping.{StandsForSome}
 use Rattle.art_mapped.specs.SequenceLaws.{text_order-append}
 use Rattle.art_mapped.specs.Tuples.{IsPart, IsTextOf, Both, both_texts, AreSameBoth, StandsForBoth, TextLaws, OrderLaws}
@@ -95,9 +95,9 @@ same_from_one_text {text_of = text_of} {stands_for = stands_for} laws x y x_in y
     laws.reads_one (text_of x) x y x_in y_in (laws.stands x x_in) (subst At (sym same) (laws.stands y y_in))
 
 -- of two texts of one width none is a proper front of the other
-pub wide_front_is_whole : {D : Type 0} {is_in_domain : D → Type 0} {text_of : D → List ℕ} {stands_for : List ℕ → D → Type 0} {are_same : D → D → Type 0} {width : ℕ}
-    → TextLaws is_in_domain text_of stands_for are_same width → (x y : D) → is_in_domain x → is_in_domain y → IsFront (text_of x) (text_of y) → text_of x ≡ text_of y
-wide_front_is_whole {text_of = text_of} {width = width} laws x y x_in y_in = front_of_length width (text_of x) (text_of y) (laws.long x x_in) (laws.long y y_in)
+pub wide_prefix_is_whole : {D : Type 0} {is_in_domain : D → Type 0} {text_of : D → List ℕ} {stands_for : List ℕ → D → Type 0} {are_same : D → D → Type 0} {width : ℕ}
+    → TextLaws is_in_domain text_of stands_for are_same width → (x y : D) → is_in_domain x → is_in_domain y → IsPrefixOf (text_of x) (text_of y) → text_of x ≡ text_of y
+wide_prefix_is_whole {text_of = text_of} {width = width} laws x y x_in y_in = prefix_of_length width (text_of x) (text_of y) (laws.long x x_in) (laws.long y y_in)
 
 -- texts alone tell whether bytes are some tuple's
 pub kept_by_items : {D N : Type 0} (nested : D → N) (is_in_domain : N → Type 0) (stands_for : List ℕ → N → Type 0) (a b : List ℕ) → a ≡ b

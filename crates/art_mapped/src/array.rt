@@ -5,7 +5,7 @@ ghost use Rattle.std.proofs.Common.{ap, refl};
 ghost use Rattle.art_mapped.specs.Mapping.{HasTextOf};
 ghost use Rattle.art_mapped.specs.MappingLaws.{kept_by_text};
 ghost use Rattle.art_mapped.specs.Sequences.{joined, IsArray};
-ghost use Rattle.art_mapped.specs.SequenceLaws.{same_from_joined, joined_keep, joined_front_is_whole};
+ghost use Rattle.art_mapped.specs.SequenceLaws.{same_from_joined, joined_keep, joined_prefix_is_whole};
 
 use crate::element::Element;
 use crate::fixed::FixedBytes;
@@ -66,5 +66,5 @@ impl<F: IntegerForm, E: Element<F>, const N: usize> OrderedMapping<[E; N]> for J
 }
 
 impl<F: IntegerForm, E: Element<F>, const N: usize> NoPrefixesMapping<[E; N]> for Joined<F> {
-    ghost no_prefixes = { joined_front_is_whole E.keeps N };
+    ghost no_prefixes = { joined_prefix_is_whole E.keeps N };
 }

@@ -4,7 +4,7 @@ ghost use Rattle.std.proofs.Common.{ap};
 ghost use Rattle.art_mapped.specs.Elements.{KeepsOrder};
 ghost use Rattle.art_mapped.specs.Mapping.{HasTextOf};
 ghost use Rattle.art_mapped.specs.MappingLaws.{kept_by_text};
-ghost use Rattle.art_mapped.specs.SequenceLaws.{same_from_text, front_is_whole};
+ghost use Rattle.art_mapped.specs.SequenceLaws.{same_from_text, prefix_is_whole};
 
 use crate::fixed::FixedBytes;
 use crate::mapping::{BytesMapping, InjectiveMapping, NoPrefixesMapping, OrderedMapping};
@@ -96,5 +96,5 @@ impl<F, E: Element<F>> OrderedMapping<E> for Single<F> {
 }
 
 impl<F, E: Element<F>> NoPrefixesMapping<E> for Single<F> {
-    ghost no_prefixes = { front_is_whole E.keeps };
+    ghost no_prefixes = { prefix_is_whole E.keeps };
 }

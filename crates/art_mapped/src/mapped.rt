@@ -107,10 +107,10 @@ impl<B: BytesMapping<D>, D> AsBytes for Mapped<B, D> {
 /// No key's text is a proper front of another's where that holds of the mapping's values: integers, addresses,
 /// arrays, tuples, and keys as they stand where it holds of these, and not vectors.
 impl<B: NoPrefixesMapping<D>, D> NoPrefixesBytes for Mapped<B, D> {
-    ghost use Rattle.art_mapped.specs.MappingLaws.{text_front_is_whole};
+    ghost use Rattle.art_mapped.specs.MappingLaws.{text_prefix_is_whole};
 
     ghost no_prefixes = { λ a b a_some b_some.
-        text_front_is_whole _ _ _ _ B.has_text B.no_prefixes a.repr b.repr a_some b_some };
+        text_prefix_is_whole _ _ _ _ B.has_text B.no_prefixes a.repr b.repr a_some b_some };
 }
 
 /// Keys are equal where their bytes are.

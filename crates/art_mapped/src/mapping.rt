@@ -1,6 +1,6 @@
 //! Mappings: values as bytes and back, and the laws that they may keep.
 ghost use Rattle.std.specs.Prelude.{◌≡◌, ◌↔◌, ℕ, List, Bool, false, IsTrue, IsOk, IfOk, OnErr, IfSome, IfNone};
-ghost use Rattle.art_bytes.specs.Text.{IsFront, text_order};
+ghost use Rattle.art_bytes.specs.Text.{IsPrefixOf, text_order};
 ghost use Rattle.art_mapped.specs.Mapping.{StandsForSome};
 
 use art_bytes::AsBytes;
@@ -112,5 +112,5 @@ pub trait OrderedMapping<D: Ord>: InjectiveMapping<D> {
 pub trait NoPrefixesMapping<D>: BytesMapping<D> {
     /// A text that begins another is that text.
     ghost no_prefixes: { (x y : D) → Self.is_in_domain x → Self.is_in_domain y →
-        IsFront (Self.text_of x) (Self.text_of y) → Self.text_of x ≡ Self.text_of y };
+        IsPrefixOf (Self.text_of x) (Self.text_of y) → Self.text_of x ≡ Self.text_of y };
 }

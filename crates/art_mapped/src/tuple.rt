@@ -2,7 +2,7 @@
 ghost use Rattle.std.specs.Prelude.{◌≡◌, true, refl};
 ghost use Rattle.std.specs.Vec.{vec_items};
 ghost use Rattle.std.proofs.Common.{◌∙◌};
-ghost use Rattle.art_mapped.specs.TupleLaws.{kept_by_items, same_from_one_text, wide_front_is_whole};
+ghost use Rattle.art_mapped.specs.TupleLaws.{kept_by_items, same_from_one_text, wide_prefix_is_whole};
 
 use crate::joint::{Joint, OrderedJoint, Part, Then};
 use crate::mapping::{BytesMapping, InjectiveMapping, NoPrefixesMapping, OrderedMapping};
@@ -134,7 +134,7 @@ where
     J: Joint<P>,
     T: TupleMappings<Places = N, Joint = J>,
 {
-    ghost no_prefixes = { λ x y. wide_front_is_whole J.laws (D.in_pairs x) (D.in_pairs y) };
+    ghost no_prefixes = { λ x y. wide_prefix_is_whole J.laws (D.in_pairs x) (D.in_pairs y) };
 }
 
 impl<M0, M1> TupleMappings for (M0, M1) {

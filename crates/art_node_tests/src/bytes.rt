@@ -16,9 +16,9 @@ use std::process::Abort;
 use std::rc::Rc;
 use std::test::Fail;
 
-pub(crate) mod using;
+pub(crate) mod key_examples;
 
-use using::{order_of_texts, text_of};
+use key_examples::{order_of_texts, text_of};
 
 const HELLO: &[u8] = b"hello world";
 
@@ -30,7 +30,7 @@ fn have_one_text<K: OrderedBytes>(a: &K, b: &K) -> bool
 }
 
 // No key's text begins another's, so one test tells whether they are the same.
-pub(crate) fn has_front<K: NoPrefixesBytes>(key: &K, front: &K) -> bool
+pub(crate) fn has_prefix<K: NoPrefixesBytes>(key: &K, front: &K) -> bool
     ensures { IsTrue result ↔ (K.text key.now ≡ K.text front.now) }
 {
     key.as_bytes().starts_with(front.as_bytes())
@@ -80,10 +80,10 @@ fn check_ascending<K: OrderedBytes>(rt: &impl Abort, keys: &[K]) {
 }
 
 // The keys are all different.
-fn check_no_fronts<K: NoPrefixesBytes>(rt: &impl Abort, keys: &[K]) {
+fn check_no_prefixes<K: NoPrefixesBytes>(rt: &impl Abort, keys: &[K]) {
     for (i, a) in keys.iter().enumerate() {
         for (j, b) in keys.iter().enumerate() {
-            assert!(rt; has_front(a, b) == (i == j));
+            assert!(rt; has_prefix(a, b) == (i == j));
         }
     }
 }
@@ -91,7 +91,7 @@ fn check_no_fronts<K: NoPrefixesBytes>(rt: &impl Abort, keys: &[K]) {
 // They ascend, and none begins another.
 fn check_apart<K: OrderedBytes + NoPrefixesBytes>(rt: &impl Abort, keys: &[K]) {
     check_ascending(rt, keys);
-    check_no_fronts(rt, keys);
+    check_no_prefixes(rt, keys);
 }
 
 #[test]
@@ -115,7 +115,7 @@ fn various_types_as_bytes(rt: HostRuntime) -> Result<(), Fail> {
 }
 
 #[test]
-fn a_proper_front_is_less_and_else_the_first_byte_that_differs_decides(rt: HostRuntime) {
+fn a_proper_prefix_is_less_and_else_the_first_byte_that_differs_decides(rt: HostRuntime) {
     let strings = ["", "a", "ab", "b", "ba", "\u{7f}", "\u{80}"];
     check_ascending(&rt, &strings.map(StrKey::new));
 
@@ -128,7 +128,7 @@ fn arrays_and_wrapped_keys_ascend_and_none_begins_another(rt: HostRuntime) -> Re
     let alloc = rt.alloc();
     let pairs = [[0, 0], [0, 255], [1, 0], [127, 1], [128, 0]];
     check_apart(&rt, &pairs);
-    check_no_fronts(&rt, &[[0; 0]]);
+    check_no_prefixes(&rt, &[[0; 0]]);
 
     let (low, high) = ([7, 200], [8, 0]);
 

@@ -1,5 +1,5 @@
 //! Headers, kinds of nodes, and indices.
-mod callers;
+mod header_callers;
 mod node_type;
 mod non_max_index;
 mod prefix;

@@ -1,10 +1,10 @@
 //! Nodes of each kind, pointers to them, and runs of child commands.
 mod builder;
-mod callers;
+mod node_callers;
 mod conversions;
 mod direct;
 mod each_kind;
-pub(crate) mod fixtures;
+pub(crate) mod node_fixtures;
 mod indirect;
 mod iteration;
 mod leaf_node;

@@ -202,7 +202,7 @@ module _ {H : Type 0} where
         | Some old ↦ λ room_for same. omega (arith, same, sound.fits)
         | None ↦ λ room_for more. omega (arith, more, room_for refl)
       ] has_room (length-with_child 0 byte children child sound.ascending) in
-      record { ascending = ascending_written children byte child fits sound.ascending; fits = counts; capped_front = sound.capped_front }
+      record { ascending = ascending_written children byte child fits sound.ascending; fits = counts; capped_prefix = sound.capped_prefix }
 
   -- and where a byte is removed
   pub sound_removed : (prefix_room room : ℕ) (node : Inner H) (byte : ℕ) → IsInner prefix_room room node → IsInner prefix_room room (with_children node (without_child node.children byte))
@@ -212,4 +212,4 @@ module _ {H : Type 0} where
         | true ↦ λ less. omega (arith, less, sound.fits)
         | false ↦ λ same. omega (arith, same, sound.fits)
       ] (length-without_child 0 byte children sound.ascending) in
-      record { ascending = ascending_removed children byte sound.ascending; fits = counts; capped_front = sound.capped_front }
+      record { ascending = ascending_removed children byte sound.ascending; fits = counts; capped_prefix = sound.capped_prefix }

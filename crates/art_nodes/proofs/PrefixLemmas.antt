@@ -1,7 +1,7 @@
 -- Bytes that two texts have in common from the front on.
 use Rattle.std.proofs.Common.{◌≡◌, ℕ, ◌+◌, ◌<◌, ◌≤◌, min, nat_eq, drop, get_or, List, [], ◌∷◌, ◌++◌, length, refl, sym, ◌∙◌, ap, arith, length-append, Ok, false}
 use Rattle.std.specs.List.{common_prefix_len}
-use Rattle.art_bytes.specs.Text.{IsFront}
+use Rattle.art_bytes.specs.Text.{IsPrefixOf}
 use Rattle.art_nodes.specs.PrefixMatch.{cheap_match}
 use Rattle.std.proofs.lemmas.List.Sums.{common_prefix_len-le, common_prefix_len-drop_yes}
 use Rattle.art_nodes.proofs.ChildMapLemmas.{eq-true, lt-false}
@@ -12,10 +12,10 @@ common-append [] rest = refl
 common-append (x ∷ front) rest = rw (eq-true x x refl) (let behind = common-append front rest in omega (arith, behind))
 
 -- a front of the whole length is the text
-whole_front : (stored prefix : List ℕ) → IsFront stored prefix → length prefix ≡ length stored → prefix ≡ stored
-whole_front [] [] front same = refl
-whole_front [] (x ∷ prefix) front same = absurd (omega arith)
-whole_front (x ∷ stored) prefix (rest, is) same =
+whole_prefix : (stored prefix : List ℕ) → IsPrefixOf stored prefix → length prefix ≡ length stored → prefix ≡ stored
+whole_prefix [] [] front same = refl
+whole_prefix [] (x ∷ prefix) front same = absurd (omega arith)
+whole_prefix (x ∷ stored) prefix (rest, is) same =
     let none : length rest ≡ 0 = omega (arith, ap length is, length-append (x ∷ stored) rest) in
     is ∙ behind-none (x ∷ stored) rest none
   where
@@ -25,9 +25,9 @@ whole_front (x ∷ stored) prefix (rest, is) same =
     behind-none (x ∷ xs) ys none = ap (λ rest. x ∷ rest) (behind-none xs ys none)
 
 -- the whole stored text is in common with each rest that begins with a prefix that it is a front of
-pub common-whole : (stored prefix rest : List ℕ) → length prefix ≡ length stored → IsFront stored prefix → IsFront prefix rest → common_prefix_len nat_eq stored rest ≡ length stored
+pub common-whole : (stored prefix rest : List ℕ) → length prefix ≡ length stored → IsPrefixOf stored prefix → IsPrefixOf prefix rest → common_prefix_len nat_eq stored rest ≡ length stored
 common-whole stored prefix rest same front (behind, is) =
-    let prefix_is : prefix ≡ stored = whole_front stored prefix front same in
+    let prefix_is : prefix ≡ stored = whole_prefix stored prefix front same in
     ap (common_prefix_len nat_eq stored) (is ∙ ap (λ p. p ++ behind) prefix_is) ∙ common-append stored behind
 
 -- where the whole stored prefix is in common, the cheap match says so
@@ -38,8 +38,8 @@ whole_match room prefix_len stored rest matched le is all =
     (ap (λ n. Ok (record { matched_bytes = n; any_implicit_bytes = false })) (sym is))
 
 -- one more byte in common
-pub front_more : (a b : List ℕ) (place shorter : ℕ) → place < shorter → shorter ≡ min (length a) (length b) → get_or a place 0 ≡ get_or b place 0
+pub prefix_more : (a b : List ℕ) (place shorter : ℕ) → place < shorter → shorter ≡ min (length a) (length b) → get_or a place 0 ≡ get_or b place 0
     → place + common_prefix_len nat_eq (drop place a) (drop place b) ≡ place + 1 + common_prefix_len nat_eq (drop (place + 1) a) (drop (place + 1) b)
-front_more a b place shorter within is same =
+prefix_more a b place shorter within is same =
     let more = common_prefix_len-drop_yes nat_eq a b place 0 0 (omega (arith, within, is)) (omega (arith, within, is)) (eq-true (get_or a place 0) (get_or b place 0) same) in
     omega (arith, more)

@@ -57,4 +57,4 @@ module _ {H : Type 0} where
   pub record IsInner (prefix_room room : ℕ) (node : Inner H) : Type 0 where
     pub ascending : IsAscending (key_bytes node.children)
     pub fits : length node.children ≤ room
-    pub capped_front : length node.stored ≡ capped prefix_room node.prefix_len
+    pub capped_prefix : length node.stored ≡ capped prefix_room node.prefix_len

@@ -1,7 +1,7 @@
 -- The cheap matches of a node's prefix against what is left of a key.
 use Rattle.std.specs.Prelude.{◌≡◌, ℕ, ◌==◌, List, length, None, Result, Ok, Err, true, false, nat_eq, nat_le, nat_lt, slice_get, if◌then◌else◌}
 use Rattle.std.specs.List.{common_prefix_len}
-use Rattle.art_bytes.specs.Text.{IsFront}
+use Rattle.art_bytes.specs.Text.{IsPrefixOf}
 use Rattle.art_nodes.specs.Inner.{Inner}
 use Rattle.art_nodes.specs.declared.inner_nodes.prefix_match.PrefixMatch.{PrefixMatch}
 use Rattle.art_nodes.specs.declared.inner_nodes.prefix_match.OptimisticMismatch.{OptimisticMismatch}
@@ -34,5 +34,5 @@ cheap_match room prefix_len stored rest =
     if nat_lt room prefix_len then implicit_match prefix_len rest else explicit_match stored rest
 
 -- a text that the prefix may be, as far as the node stores it
-abbrev pub IsPrefixOf : {H : Type 0} → Inner H → List ℕ → Type 0
-IsPrefixOf node prefix = (length prefix ≡ node.prefix_len) × IsFront node.stored prefix
+abbrev pub HasPrefix : {H : Type 0} → Inner H → List ℕ → Type 0
+HasPrefix node prefix = (length prefix ≡ node.prefix_len) × IsPrefixOf node.stored prefix

@@ -2,11 +2,11 @@
 ghost use Rattle.std.specs.Prelude.{◌≡◌, ◌↔◌, None, IsTrue, IsOk, IfOk};
 ghost use Rattle.std.specs.Option.{option_map};
 ghost use Rattle.std.specs.Borrow.{sem};
-ghost use Rattle.art_bytes.specs.Text.{IsFront, text_order};
+ghost use Rattle.art_bytes.specs.Text.{IsPrefixOf, text_order};
 ghost use Rattle.art_nodes.specs.Pointers.{slab_key};
 ghost use Rattle.art_nodes.specs.Leaf.{leaf_key, leaf_value, previous_key, next_key, with_links, LendsValue, LendsEntry};
 
-use crate::inner_nodes::node::Node;
+use crate::inner_nodes::traits::node::Node;
 use crate::pointers::NodePtr;
 use crate::sealed::Sealed;
 use art_bytes::AsBytes;
@@ -141,7 +141,7 @@ impl<K, V, const PREFIX_LEN: usize> LeafNode<K, V, PREFIX_LEN> {
     pub fn starts_with(&self, key: &[u8]) -> bool
     where
         K: AsBytes,
-        ensures { IsTrue result ↔ IsFront key.now (K.text (leaf_key self.now)) }
+        ensures { IsTrue result ↔ IsPrefixOf key.now (K.text (leaf_key self.now)) }
     {
         self.key.as_bytes().starts_with(key)
     }

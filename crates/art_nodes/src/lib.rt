@@ -24,15 +24,17 @@ pub use commands::command::{ChildCommand, ChildPairs, ChildReply};
 pub use commands::replay::{Replayed, replay};
 pub use commands::sequence::Sequence;
 pub use inner_nodes::builder::{BuilderState, HasChild, HasOneChild, InnerNodeBuilder, NoChild};
-pub use inner_nodes::inner_node::InnerNode;
-pub use inner_nodes::inner_node_direct::InnerNodeDirect;
-pub use inner_nodes::inner_node_indirect::{InnerNode48, InnerNodeIndirect};
-pub use inner_nodes::inner_node_sorted::{InnerNode4, InnerNode16, InnerNodeSorted};
-pub use inner_nodes::node::{InnerNodeCommon, Node};
 pub use inner_nodes::prefix_match::{
     AttemptOptimisticPrefixMatch, ExplicitMismatch, NodePrefix, OptimisticMismatch,
-    PessimisticMismatch, PrefixMatch, common_front_len,
+    PessimisticMismatch, PrefixMatch, common_prefix_len,
 };
+pub use inner_nodes::representations::inner_node_direct::InnerNodeDirect;
+pub use inner_nodes::representations::inner_node_indirect::{InnerNode48, InnerNodeIndirect};
+pub use inner_nodes::representations::inner_node_sorted::{
+    InnerNode4, InnerNode16, InnerNodeSorted,
+};
+pub use inner_nodes::traits::inner_node::InnerNode;
+pub use inner_nodes::traits::node::{InnerNodeCommon, Node};
 pub use iteration::bounds::valid_range_bounds;
 pub use iteration::child_iter::{ChildIter, PairIter};
 pub use leaf_node::LeafNode;

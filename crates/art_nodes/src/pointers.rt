@@ -2,7 +2,7 @@
 ghost use Rattle.std.specs.Prelude.{◌≡◌, ◌↔◌, IsTrue, IsSome, IfSome};
 ghost use Rattle.art_nodes.specs.Pointers.{slab_key, node_kind, opaque_key, opaque_pointer};
 
-use crate::inner_nodes::node::Node;
+use crate::inner_nodes::traits::node::Node;
 use art_header::NodeType;
 use std::marker::PhantomData;
 

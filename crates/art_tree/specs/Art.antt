@@ -6,7 +6,7 @@ use Rattle.art_arena.specs.Arena.{ArenaOf, Nothing, held}
 use Rattle.art_arena.specs.Links.{Spells}
 use Rattle.art_arena.specs.Standing.{IsTreeIn}
 use Rattle.art_arena.specs.Trees.{Tree, places, texts}
-use Rattle.art_tree.specs.Loading.{IsSnug, leaf_pointers}
+use Rattle.art_tree.specs.Loading.{HasSmallestKinds, leaf_pointers}
 
 -- an arena and the root of its tree, if it has one
 pub record Art (A R : Type 0) : Type 0 where
@@ -17,7 +17,7 @@ module _ {K V : Type 0} {P : ℕ} (text : K → List ℕ) (arena : ArenaOf K V P
   -- a well-formed, snug tree stands at the root, each text has fewer than 2^32 bytes, its leaves are linked in their order, and the arena holds nothing else
   pub record IsAlone (root : OpaqueNodePtr K V P) (tree : Tree (OpaqueNodePtr K V P)) : Type 0 where
     pub is_tree : IsTreeIn text arena root tree
-    pub snug : IsSnug tree
+    pub smallest_kinds : HasSmallestKinds tree
     pub short : All (λ x. length x < 2 ^ 32) (texts tree)
     pub spelled : Spells arena (map opaque_key (leaf_pointers tree))
     pub no_others : (pointer : OpaqueNodePtr K V P) → held arena pointer ≢ Nothing → Contains (places tree) pointer

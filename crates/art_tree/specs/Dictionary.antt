@@ -1,7 +1,7 @@
 -- A dictionary: the entry with each text. And texts that no tree holds together.
 use Rattle.std.specs.Prelude.{◌≡◌, ◌≢◌, ◌⊎◌, ℕ, List, [], ◌∷◌, Contains, Option, Some, None, nat_eq, if◌then◌else◌}
 use Rattle.std.specs.Cmp.Lexicographic.{pointwise}
-use Rattle.art_bytes.specs.Text.{IsFront}
+use Rattle.art_bytes.specs.Text.{IsPrefixOf}
 use Rattle.art_nodes.specs.Leaf.{leaf_key, leaf_value}
 use Rattle.art_nodes.specs.declared.leaf_node.LeafNode.{LeafNode}
 use Rattle.art_arena.specs.Arena.{ArenaOf}
@@ -43,13 +43,13 @@ module _ {K V : Type 0} {P : ℕ} (text : K → List ℕ) where
   IsEmpty arena = (x : List ℕ) → entry_at arena x ≡ None
 
 -- b begins with a, and is longer
-abbrev pub IsProperFront : List ℕ → List ℕ → Type 0
-IsProperFront a b = IsFront a b × (a ≢ b)
+abbrev pub IsProperPrefixOf : List ℕ → List ℕ → Type 0
+IsProperPrefixOf a b = IsPrefixOf a b × (a ≢ b)
 
 -- one of the two is a proper front of the other
-abbrev pub AreAtOdds : List ℕ → List ℕ → Type 0
-AreAtOdds a b = IsProperFront a b ⊎ IsProperFront b a
+abbrev pub OneIsProperPrefix : List ℕ → List ℕ → Type 0
+OneIsProperPrefix a b = IsProperPrefixOf a b ⊎ IsProperPrefixOf b a
 
 -- one of these texts is a proper front of this one, or this one of it
 abbrev pub Clashes : List (List ℕ) → List ℕ → Type 0
-Clashes texts text = (other : List ℕ) × Contains texts other × AreAtOdds other text
+Clashes texts text = (other : List ℕ) × Contains texts other × OneIsProperPrefix other text

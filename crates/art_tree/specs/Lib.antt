@@ -13,9 +13,9 @@ pub mod Refusals
 pub mod RefusalTexts
 pub mod Edits
 pub mod Places
-pub mod Inserting
+pub mod Insertion
 pub mod Hanging
 pub mod Cuts
 pub mod Dropping
-pub mod Removing
+pub mod Removal
 pub mod Room

@@ -16,13 +16,13 @@ use Rattle.art_tree.specs.Search.{leaf_pointer}
 module _ {K V : Type 0} {P : ℕ} where
   abbrev mutual
     -- every inner node is of the smallest kind that holds its branches
-    pub IsSnug : Tree (OpaqueNodePtr K V P) → Type 0
-    IsSnug (Leaf pointer text) = Unit {0}
-    IsSnug (Inner pointer prefix branches) = (node_kind pointer ≡ kind_for (length (branch_roots branches))) × AreSnug branches
+    pub HasSmallestKinds : Tree (OpaqueNodePtr K V P) → Type 0
+    HasSmallestKinds (Leaf pointer text) = Unit {0}
+    HasSmallestKinds (Inner pointer prefix branches) = (node_kind pointer ≡ kind_for (length (branch_roots branches))) × HaveSmallestKinds branches
 
-    pub AreSnug : Branches (OpaqueNodePtr K V P) → Type 0
-    AreSnug NoBranch = Unit {0}
-    AreSnug (Branch byte tree others) = IsSnug tree × AreSnug others
+    pub HaveSmallestKinds : Branches (OpaqueNodePtr K V P) → Type 0
+    HaveSmallestKinds NoBranch = Unit {0}
+    HaveSmallestKinds (Branch byte tree others) = HasSmallestKinds tree × HaveSmallestKinds others
 
   -- an arena holds what it held, and besides it just nodes at these places, of which it held none
   pub record Adds (old new : ArenaOf K V P) (added : List (OpaqueNodePtr K V P)) : Type 0 where
@@ -54,7 +54,7 @@ module _ {K V : Type 0} {P : ℕ} where
   -- a well-formed, snug tree stands in the arena, its leaves hold the entries and are linked in their order, and its nodes are all that is new
   pub record IsLoaded (text : K → List ℕ) (old new : ArenaOf K V P) (entries : List (K × V)) (root : OpaqueNodePtr K V P) (tree : Tree (OpaqueNodePtr K V P)) : Type 0 where
     pub is_tree : IsTreeIn text new root tree
-    pub snug : IsSnug tree
+    pub smallest_kinds : HasSmallestKinds tree
     pub hold : HoldEntries new (leaf_pointers tree) entries
     pub spelled : Spells new (map opaque_key (leaf_pointers tree))
     pub adds : Adds old new (places tree)

@@ -1,6 +1,6 @@
 -- Where a text belongs in a tree. No public clause cites it.
 use Rattle.std.specs.Prelude.{◌≡◌, ◌≢◌, ℕ, ◌≤◌, List, [], ◌∷◌, ◌++◌, length, take, Contains, Option, Some, None, slice_get}
-use Rattle.art_bytes.specs.Text.{IsFront}
+use Rattle.art_bytes.specs.Text.{IsPrefixOf}
 use Rattle.art_nodes.specs.ChildMap.{child_at}
 use Rattle.art_nodes.specs.declared.pointers.OpaqueNodePtr.{OpaqueNodePtr}
 use Rattle.art_arena.specs.Arena.{ArenaOf}
@@ -32,7 +32,7 @@ module _ {K V : Type 0} {P : ℕ} (tree : Tree (OpaqueNodePtr K V P)) (key : Lis
     pub part : Tree (OpaqueNodePtr K V P)
     pub whole : plug context part ≡ tree
     pub at_root : root_of part ≡ spot.node
-    pub leads : IsFront (path_to context) key
+    pub leads : IsPrefixOf (path_to context) key
     pub deep : length (path_to context) ≡ spot.depth
     pub hangs : above context ≡ spot.parent
 
@@ -42,7 +42,7 @@ module _ {K V : Type 0} {P : ℕ} (tree : Tree (OpaqueNodePtr K V P)) (key : Lis
     pub prefix : List ℕ
     pub branches : Branches (OpaqueNodePtr K V P)
     pub part : at.part ≡ Inner spot.node prefix branches
-    pub leads : IsFront ((path_to at.context ++ prefix) ++ byte ∷ []) key
+    pub leads : IsPrefixOf ((path_to at.context ++ prefix) ++ byte ∷ []) key
     pub absent : child_at (branch_roots branches) byte ≡ None
 
   -- at this index the key has another byte than all texts at the node, which it is like before
@@ -50,7 +50,7 @@ module _ {K V : Type 0} {P : ℕ} (tree : Tree (OpaqueNodePtr K V P)) (key : Lis
     pub at : IsSpot
     pub later : spot.depth ≤ fork.index
     pub byte : slice_get key fork.index ≡ Some fork.byte
-    pub node : IsFront (take fork.index key ++ fork.node_byte ∷ []) (reach (path_to at.context) at.part)
+    pub node : IsPrefixOf (take fork.index key ++ fork.node_byte ∷ []) (reach (path_to at.context) at.part)
     pub differ : fork.byte ≢ fork.node_byte
 
 -- the key leads to this node of a well-formed tree that stands in an arena

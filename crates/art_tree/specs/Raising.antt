@@ -8,7 +8,7 @@ use Rattle.art_arena.specs.Arena.{ArenaOf, Nothing, held}
 use Rattle.art_arena.specs.Links.{HoldsLeaf, text_at}
 use Rattle.art_arena.specs.Standing.{StandsIn}
 use Rattle.art_arena.specs.Trees.{Tree, root_of, leaves, places, IsWellFormed}
-use Rattle.art_tree.specs.Loading.{IsSnug, Adds}
+use Rattle.art_tree.specs.Loading.{HasSmallestKinds, Adds}
 use Rattle.art_tree.specs.Search.{leaf_pointer}
 
 module _ {K V : Type 0} {P : ℕ} where
@@ -30,7 +30,7 @@ module _ {K V : Type 0} {P : ℕ} where
     pub at_root : root_of tree ≡ root
     pub stands : StandsIn text new tree
     pub sound : IsWellFormed tree
-    pub snug : IsSnug tree
+    pub smallest_kinds : HasSmallestKinds tree
     pub in_order : leaves tree ≡ leaf_pairs text old of
     pub kept : (pointer : OpaqueNodePtr K V P) → held old pointer ≢ Nothing → held new pointer ≡ held old pointer
     pub adds : (before : ArenaOf K V P) → Adds before old (map leaf_pointer of) → Adds before new (places tree)

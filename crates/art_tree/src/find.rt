@@ -80,11 +80,11 @@ pub fn find_leaf<K: AsBytes, V, const PREFIX_LEN: usize>(
         IfSome result (λ (leaf, path). IsPathTo tree (leaf_pointer leaf) path)) }
     ensures leads { IfSome result (λ (leaf, path).
         LeadsTo reader.new.arena root path (leaf_pointer leaf)) }
-    ensures looks { EachTree K.text reader.old.arena root (λ tree.
+    ensures visits { EachTree K.text reader.old.arena root (λ tree.
         reader.new.budget + length (met PREFIX_LEN tree key.now) ≡ reader.old.budget) }
-    ensures looks_bounded { EachTree K.text reader.old.arena root (λ tree.
+    ensures visits_bounded { EachTree K.text reader.old.arena root (λ tree.
         length (met PREFIX_LEN tree key.now) ≤ length key.now + 1) }
-    ensures looks_of_found { EachTree K.text reader.old.arena root (λ tree.
+    ensures visits_of_found { EachTree K.text reader.old.arena root (λ tree.
         IfSome result (λ (leaf, path). (steps : Steps K V PREFIX_LEN) →
         IsWay tree steps (leaf_pointer leaf) →
         length (met PREFIX_LEN tree key.now) ≡ length steps + 1)) }

@@ -13,7 +13,7 @@ ghost use Rattle.art_tree.specs.Art.{IsArt, IsAlone};
 ghost use Rattle.art_tree.specs.Dictionary.{entry_at, SameEntries};
 ghost use Rattle.art_tree.specs.Edits.{HasRoomToGrow};
 ghost use Rattle.art_tree.specs.Hanging.{HasPlaceAt, StandsBeside};
-ghost use Rattle.art_tree.specs.Inserting.{IsEntered, IsRefused, MayEnter};
+ghost use Rattle.art_tree.specs.Insertion.{IsEntered, IsRefused, MayEnter};
 ghost use Rattle.art_tree.specs.Places.{LacksChild, Parts};
 ghost use Rattle.art_tree.specs.Room.{LacksRoom};
 ghost use Rattle.art_tree.specs.Search.{leaf_pointer};
@@ -21,11 +21,11 @@ ghost use Rattle.art_arena.specs.declared.ends.End.TheVariants.{First, Last};
 ghost use Rattle.art_tree.specs.declared.insert.InsertRefusal.TheVariants.{OutOfMemory};
 
 mod link;
-mod node;
+mod added_child;
 mod place;
 
 use crate::insert::link::link_leaf;
-use crate::insert::node::{add_child, fork_node, reserve_growth, trim};
+use crate::insert::added_child::{add_child, fork_node, reserve_growth, trim};
 use crate::insert::place::{Fork, Place, Spot, find_place};
 use crate::laws::{
     each_pointer_is_at_one_place, lists_are_spelled_where_links_are_kept, no_text_begins_another,

@@ -12,8 +12,8 @@ ghost use Rattle.art_arena.specs.Trees.{Tree, leaves, places, texts, IsSound, Sa
 ghost use Rattle.art_tree.specs.Art.{IsAlone, IsArt};
 ghost use Rattle.art_tree.specs.Contexts.{Context, plug, path_to, leaves_before, leaves_after, IsExchanged};
 ghost use Rattle.art_tree.specs.Dictionary.{entry_at, Clashes, HasEntry, HasKeys, IsEmpty};
-ghost use Rattle.art_tree.specs.Inserting.{ClashesIn};
-ghost use Rattle.art_tree.specs.Loading.{IsSnug};
+ghost use Rattle.art_tree.specs.Insertion.{ClashesIn};
+ghost use Rattle.art_tree.specs.Loading.{HasSmallestKinds};
 
 pub use art_arena::laws::{
     allocating_keeps_lists_spelled, allocating_leaves_trees_standing,
@@ -43,7 +43,7 @@ pub fn the_same_texts_make_the_same_tree<H, L>()
 pub fn the_same_tree_has_the_same_kinds<K: AsBytes, V, const PREFIX_LEN: usize>()
     ensures { (arena other_arena : ArenaOf K V PREFIX_LEN) (tree other : _) →
         StandsIn K.text arena tree → StandsIn K.text other_arena other →
-        IsSnug tree → IsSnug other → SameButPointers tree other →
+        HasSmallestKinds tree → HasSmallestKinds other → SameButPointers tree other →
         map node_kind (places tree) ≡ map node_kind (places other) }
 {}
 
@@ -62,8 +62,8 @@ pub fn a_subtree_may_be_exchanged<K: AsBytes, V, const PREFIX_LEN: usize>()
         IsSound path (plug context now) }
     ensures leaves { (context : Context (Pointer K V PREFIX_LEN)) (part : _) →
         leaves (plug context part) ≡ leaves_before context ++ (leaves part ++ leaves_after context) }
-    ensures snug { (context : Context (Pointer K V PREFIX_LEN)) (part now : _) →
-        IsSnug (plug context part) → IsSnug now → IsSnug (plug context now) }
+    ensures smallest_kinds { (context : Context (Pointer K V PREFIX_LEN)) (part now : _) →
+        HasSmallestKinds (plug context part) → HasSmallestKinds now → HasSmallestKinds (plug context now) }
     ensures stands { (old new : ArenaOf K V PREFIX_LEN) (path : List ℕ) (context : _) (part now : _) →
         IsSound path (plug context part) → IsExchanged old new K.text context part now →
         StandsIn K.text new (plug context now) }

@@ -31,7 +31,7 @@ pub use art_nodes::{
     InnerNode4, InnerNode16, InnerNode48, InnerNodeBuilder, InnerNodeCommon, InnerNodeDirect,
     InnerNodeIndirect, InnerNodeSorted, LeafNode, NoChild, Node, NodePtr, NodeType, NonMaxIndex,
     OpaqueNodePtr, OptimisticMismatch, PairIter, PessimisticMismatch, PrefixMatch, Replayed,
-    Sequence, TryFromByteError, common_front_len, replay, valid_range_bounds,
+    Sequence, TryFromByteError, common_prefix_len, replay, valid_range_bounds,
 };
 pub use find::find_leaf;
 pub use insert::{InsertFault, InsertRefusal};

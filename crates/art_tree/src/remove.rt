@@ -12,12 +12,12 @@ ghost use Rattle.art_tree.specs.Nodes.{FreesOne};
 ghost use Rattle.art_tree.specs.Dictionary.{entry_at, SameEntries};
 ghost use Rattle.art_tree.specs.Dropping.{IsLeafSpot};
 ghost use Rattle.art_tree.specs.Edits.{StaysAt};
-ghost use Rattle.art_tree.specs.Removing.{IsLeft, IsRemoved, NeedsSmallerNode};
+ghost use Rattle.art_tree.specs.Removal.{IsLeft, IsRemoved, NeedsSmallerNode};
 ghost use Rattle.art_tree.specs.Room.{FreesOneEach, LacksRoom};
 ghost use Rattle.art_tree.specs.Search.{IsPathTo, leaf_pointer};
 ghost use Rattle.art_tree.specs.declared.path.TreePath.TheVariants.{Root};
 
-mod node;
+mod removed_child;
 
 use crate::find::find_leaf;
 use crate::laws::{
@@ -25,7 +25,7 @@ use crate::laws::{
 };
 use crate::node::{give_up, hang, num_children};
 use crate::path::TreePath;
-use crate::remove::node::{join_prefix, other_child, reserve_shrink, take_child};
+use crate::remove::removed_child::{join_prefix, other_child, reserve_shrink, take_child};
 use art_arena::{ArenaReader, LeafLinks, NodeArena};
 use art_bytes::AsBytes;
 use art_nodes::{LeafNode, NodePtr, OpaqueNodePtr};

@@ -1,7 +1,7 @@
 -- Trees that tests put together by hand.
 use Rattle.std.proofs.Common.{◌≡◌, ◌∙◌, ℕ, ◌<◌, ◌^◌, List, [], ◌∷◌, ◌++◌, length, take, refl, sym, ap, subst, arith}
 use Rattle.std.proofs.lemmas.Bool.Decides.{nat_tests}
-use Rattle.art_bytes.specs.Text.{IsFront}
+use Rattle.art_bytes.specs.Text.{IsPrefixOf}
 use Rattle.art_header.specs.Header.{capped, empty_header}
 use Rattle.art_nodes.specs.ChildMap.{with_child}
 use Rattle.art_nodes.specs.Inner as nodes
@@ -17,7 +17,7 @@ two_children low high first second ascend = grind (arith, nat_tests)
 
 module _ {K V : Type 0} {P : ℕ} (text : K → List ℕ) (old new : ArenaOf K V P) (pointer : OpaqueNodePtr K V P) where
   -- a leaf that is put into an arena is a tree
-  pub leaf_planted : (leaf : LeafNode K V P) (path : List ℕ) → Changes old new pointer (HeldLeaf leaf) → IsFront path (leaf_text text leaf) → length (leaf_text text leaf) < 2 ^ 64 → (found : TreeAt text new pointer) × (found.path ≡ path)
+  pub leaf_planted : (leaf : LeafNode K V P) (path : List ℕ) → Changes old new pointer (HeldLeaf leaf) → IsPrefixOf path (leaf_text text leaf) → length (leaf_text text leaf) < 2 ^ 64 → (found : TreeAt text new pointer) × (found.path ≡ path)
   leaf_planted leaf path changes begins short =
       (record { tree = Leaf pointer (leaf_text text leaf); path = path; at_root = refl; stands = (leaf, changes.changed, refl); sound = (begins, short) }, refl)
 

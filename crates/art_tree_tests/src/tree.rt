@@ -7,7 +7,7 @@ mod matches;
 mod path;
 mod refusals;
 mod searches;
-mod using;
+mod tree_examples;
 
 ghost use Rattle.std.specs.Prelude.{IfOk};
 ghost use Rattle.art_tree.specs.Search.{HasTree};
@@ -107,9 +107,9 @@ fn search<K: AsBytes, const PREFIX_LEN: usize>(
     let budget = key.len() + 1;
     let mut reader = ArenaReader::with_budget(arena, budget);
     let found = find_leaf(&mut reader, root, key);
-    let looks = budget - reader.remaining();
+    let visits = budget - reader.remaining();
     let Some((leaf, path)) = found else {
-        return (Answer::Nothing, looks);
+        return (Answer::Nothing, visits);
     };
     let number = *arena.as_ref(leaf).value_ref();
     let answer = match path {
@@ -121,7 +121,7 @@ fn search<K: AsBytes, const PREFIX_LEN: usize>(
             ..
         } => Answer::Normal(number, parent_key_byte, child_key_byte),
     };
-    (answer, looks)
+    (answer, visits)
 }
 
 // Each of these keys is answered so.
@@ -133,8 +133,8 @@ fn check<K: AsBytes, const PREFIX_LEN: usize>(
 )
     requires { HasTree K.text arena.now root }
 {
-    for (row, (key, answer, looks)) in rows.iter().enumerate() {
-        assert!(rt; search(arena, root, key) == (*answer, *looks), "row {row}");
+    for (row, (key, answer, visits)) in rows.iter().enumerate() {
+        assert!(rt; search(arena, root, key) == (*answer, *visits), "row {row}");
     }
 }
 

@@ -55,7 +55,7 @@ fn command(line: &[u8]) -> Result<Command, LineFault>
     ensures miscounted { result ≡ Err LineFault.WrongNumberOfWords
         → ¬ (HaveTheirNumber (words_of line.now)) }
     ensures counted { result ≡ Err LineFault.BadNumber → HaveTheirNumber (words_of line.now) }
-    ensures no_entry { (result ≢ Err LineFault.KeyTooLong) × (result ≢ Err LineFault.FrontOfOther) }
+    ensures no_entry { (result ≢ Err LineFault.KeyTooLong) × (result ≢ Err LineFault.PrefixOfOther) }
 {
     match split_words(line) {
         Words::One(b"min") => Ok(ChildCommand::Min),
@@ -76,7 +76,7 @@ fn command(line: &[u8]) -> Result<Command, LineFault>
 // What is wrong with a line of this first word and a number of words that it does not take.
 fn fault_of_count(name: &[u8]) -> LineFault
     ensures fault { (result ≢ LineFault.BadNumber)
-        × (result ≢ LineFault.KeyTooLong) × (result ≢ LineFault.FrontOfOther) }
+        × (result ≢ LineFault.KeyTooLong) × (result ≢ LineFault.PrefixOfOther) }
     ensures known { result ≡ LineFault.WrongNumberOfWords → IsName name.now }
     ensures unknown { result ≡ LineFault.UnknownCommand → ¬ (IsName name.now) }
 {

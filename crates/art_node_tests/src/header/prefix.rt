@@ -15,7 +15,7 @@ fn check_prefix<const PREFIX_LEN: usize>(
 }
 
 #[test]
-fn stores_a_front_of_the_prefix(rt: HostRuntime) {
+fn stores_the_first_bytes_of_the_prefix(rt: HostRuntime) {
     let header = Header::<2>::new(b"abcd", 4);
     check_prefix(&rt, &header, b"ab", 4);
     assert!(rt; header.capped_prefix_len() == 2);

@@ -6,7 +6,7 @@ ghost use Rattle.art_mapped.specs.Numbers.{digits, signed_text};
 
 use super::ordered::compared;
 use super::*;
-use crate::bytes::has_front;
+use crate::bytes::has_prefix;
 use art_mapped::InjectiveMapping;
 
 type Route = ConcatTuple<(ToOctets, ToIBE)>;
@@ -144,7 +144,7 @@ where
     compared::<B, D>(rt, alloc, more, less)?;
     let less_key = Mapped::<B, D>::new(alloc, less)?;
     let more_key = Mapped::<B, D>::new(alloc, more)?;
-    assert!(rt; !has_front(&more_key, &less_key));
+    assert!(rt; !has_prefix(&more_key, &less_key));
     Ok(())
 }
 

@@ -1,5 +1,5 @@
 //! Nodes built child by child. (`fixtures` builds those of the greater kinds.)
-use super::fixtures::{Pointer, leaf};
+use super::node_fixtures::{Pointer, leaf};
 use art_nodes::{InnerNode4, InnerNodeCommon, NodePtr, NodeType};
 use std::process::Abort;
 

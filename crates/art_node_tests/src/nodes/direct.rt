@@ -1,5 +1,5 @@
 //! Direct nodes with children on both sides of each border between their words of bits.
-use super::fixtures::{has_range, leaf, node_of};
+use super::node_fixtures::{has_range, leaf, node_of};
 use art_nodes::{InnerNodeCommon, InnerNodeDirect};
 use std::ops::Bound::{Excluded, Included, Unbounded};
 use std::process::Abort;

@@ -2,7 +2,7 @@
 ghost use Rattle.std.specs.Prelude.{◌≤◌};
 ghost use Rattle.std.specs.Mem.{FitsInMemory};
 
-use super::fixtures::{all_bytes, first_of, has_children, leaf, node_of, with_bytes};
+use super::node_fixtures::{all_bytes, first_of, has_children, leaf, node_of, with_bytes};
 use art_nodes::{InnerNode4, InnerNode16, InnerNode48, InnerNodeCommon, InnerNodeDirect};
 use std::process::Abort;
 

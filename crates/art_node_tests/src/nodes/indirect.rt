@@ -1,5 +1,5 @@
 //! The order of an indirect node's children, which no contract states.
-use super::fixtures::{leaf, node_of};
+use super::node_fixtures::{leaf, node_of};
 use art_nodes::{InnerNode48, InnerNodeCommon};
 
 #[test]

@@ -2,7 +2,7 @@
 ghost use Rattle.std.specs.Prelude.{◌≤◌};
 ghost use Rattle.std.specs.Mem.{FitsInMemory};
 
-use super::fixtures::{Pointer, has_range, leaf, node_of};
+use super::node_fixtures::{Pointer, has_range, leaf, node_of};
 use art_nodes::{
     InnerNode4, InnerNode16, InnerNode48, InnerNodeCommon, InnerNodeDirect, valid_range_bounds,
 };

@@ -1,5 +1,5 @@
 //! Pointers, and the kinds that they know.
-use super::fixtures::{Pointer, leaf};
+use super::node_fixtures::{Pointer, leaf};
 use crate::fixtures::hash_of;
 use art_nodes::{
     ConcreteInnerNodePtr, ConcreteNodePtr, InnerNode4, InnerNode16, InnerNode48, InnerNodeDirect,

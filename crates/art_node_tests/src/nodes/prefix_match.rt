@@ -1,10 +1,10 @@
 //! Prefixes that a node stores in part, and wholly.
-use super::fixtures::{leaf, pair};
+use super::node_fixtures::{leaf, pair};
 use art_header::{NodeType, NonMaxIndex};
 use art_mapped::Identity;
 use art_nodes::{
     AttemptOptimisticPrefixMatch, InnerNode4, InnerNodeCommon, OptimisticMismatch,
-    PessimisticMismatch, PrefixMatch, common_front_len,
+    PessimisticMismatch, PrefixMatch, common_prefix_len,
 };
 use std::fmt::Debug;
 
@@ -27,7 +27,7 @@ fn lengths_alone_are_compared(rt: HostRuntime) {
 }
 
 #[test]
-fn common_fronts_end_where_bytes_differ(rt: HostRuntime) {
+fn common_prefixes_end_where_bytes_differ(rt: HostRuntime) {
     let long = [7; 40];
     let other = [7, 7, 7, 8];
     let rows: [(&[u8], &[u8], usize); 6] = [
@@ -39,7 +39,7 @@ fn common_fronts_end_where_bytes_differ(rt: HostRuntime) {
         (&long, &other, 3),
     ];
     for (row, (a, b, length)) in rows.into_iter().enumerate() {
-        assert!(rt; common_front_len(a, b) == length, "row {row}");
+        assert!(rt; common_prefix_len(a, b) == length, "row {row}");
     }
 }
 

@@ -1,5 +1,5 @@
 //! Whole runs, at the steps that a reader would try by hand.
-use super::fixtures::leaf;
+use super::node_fixtures::leaf;
 use crate::ALL_STANDS;
 use art_nodes::{ChildCommand, ChildNode, ChildReply, Header, NodeType, Sequence, replay};
 use std::alloc::{AllocError, Global};

@@ -5,11 +5,11 @@ ghost use Rattle.art_nodes.specs.AnyInner.{inner_of, kind_of};
 ghost use Rattle.art_nodes.specs.ChildMap.{child_at, first_pair, last_pair, pairs_within, AreValidBounds};
 ghost use Rattle.art_nodes.specs.Inner.{HasRoomFor, IsInner, header_of, node_with_child, node_without_child};
 
-use crate::inner_nodes::inner_node::InnerNode;
-use crate::inner_nodes::inner_node_direct::InnerNodeDirect;
-use crate::inner_nodes::inner_node_indirect::InnerNode48;
-use crate::inner_nodes::inner_node_sorted::{InnerNode4, InnerNode16};
-use crate::inner_nodes::node::InnerNodeCommon;
+use crate::inner_nodes::representations::inner_node_direct::InnerNodeDirect;
+use crate::inner_nodes::representations::inner_node_indirect::InnerNode48;
+use crate::inner_nodes::representations::inner_node_sorted::{InnerNode4, InnerNode16};
+use crate::inner_nodes::traits::inner_node::InnerNode;
+use crate::inner_nodes::traits::node::InnerNodeCommon;
 use crate::iteration::child_iter::ChildIter;
 use crate::pointers::OpaqueNodePtr;
 use art_header::{Header, NodeType};

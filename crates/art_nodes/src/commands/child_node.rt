@@ -8,7 +8,7 @@ ghost use Rattle.art_nodes.specs.Inner.{IsInner, header_of, empty_inner, node_wi
 use crate::commands::any_inner::AnyInner;
 use crate::commands::command::{ChildCommand, ChildReply};
 use crate::commands::sequence::Sequence;
-use crate::inner_nodes::inner_node_sorted::InnerNode4;
+use crate::inner_nodes::representations::inner_node_sorted::InnerNode4;
 use crate::iteration::bounds::valid_range_bounds;
 use crate::pointers::OpaqueNodePtr;
 use art_header::{Header, NodeType};

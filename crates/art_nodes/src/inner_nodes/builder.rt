@@ -4,8 +4,8 @@ ghost use Rattle.art_header.specs.Header.{capped, empty_header};
 ghost use Rattle.art_nodes.specs.ChildMap.{child_at, key_bytes};
 ghost use Rattle.art_nodes.specs.Inner.{HasRoomFor, empty_inner, node_with_child};
 
-use crate::inner_nodes::inner_node_sorted::InnerNode4;
-use crate::inner_nodes::node::InnerNodeCommon;
+use crate::inner_nodes::representations::inner_node_sorted::InnerNode4;
+use crate::inner_nodes::traits::node::InnerNodeCommon;
 use crate::pointers::OpaqueNodePtr;
 use crate::sealed::{InThisCrate, Sealed};
 use std::marker::{Model, PhantomData};

@@ -74,7 +74,7 @@ impl From<OptimisticMismatch> for PessimisticMismatch {
 }
 
 /// How many bytes the two have in common from the front on.
-pub fn common_front_len(a: &[u8], b: &[u8]) -> usize
+pub fn common_prefix_len(a: &[u8], b: &[u8]) -> usize
     ensures { result ≡ common_prefix_len nat_eq a.now b.now }
 {
     let shorter = a.len().min(b.len());

@@ -5,8 +5,8 @@ ghost use Rattle.art_nodes.specs.ChildMap.{table_children, pairs_within, IsAscen
 ghost use Rattle.art_nodes.specs.IndirectNode.{named_pointers, AreBelow};
 ghost use Rattle.art_nodes.specs.Inner.{sorted_children};
 
-use crate::inner_nodes::child_table::ChildTable;
-use crate::inner_nodes::index_table::IndexTable;
+use crate::inner_nodes::tables::child_table::ChildTable;
+use crate::inner_nodes::tables::index_table::IndexTable;
 use crate::iteration::bounds::byte_range;
 use crate::iteration::index_pairs::IndexPairs;
 use crate::iteration::sorted_pairs::{SortedPairs, count_below};

@@ -3,7 +3,7 @@ ghost use Rattle.std.specs.Prelude.{◌≡◌, ◌+◌, ◌<◌, ◌≤◌, leng
 ghost use Rattle.std.specs.Iterator.{YieldsFirst, YieldsLast, item_count};
 ghost use Rattle.art_nodes.specs.ChildTable.{filled_within};
 
-use crate::inner_nodes::byte_set::ByteSet;
+use crate::inner_nodes::tables::byte_set::ByteSet;
 use std::marker::Model;
 use std::ops::Range;
 

@@ -2,9 +2,9 @@
 ghost use Rattle.std.specs.Prelude.{◌≡◌};
 ghost use Rattle.art_nodes.specs.ConcretePointers.{opaque_of, opaque_of_inner, concrete_of};
 
-use crate::inner_nodes::inner_node_direct::InnerNodeDirect;
-use crate::inner_nodes::inner_node_indirect::InnerNode48;
-use crate::inner_nodes::inner_node_sorted::{InnerNode4, InnerNode16};
+use crate::inner_nodes::representations::inner_node_direct::InnerNodeDirect;
+use crate::inner_nodes::representations::inner_node_indirect::InnerNode48;
+use crate::inner_nodes::representations::inner_node_sorted::{InnerNode4, InnerNode16};
 use crate::leaf_node::LeafNode;
 use crate::pointers::{NodePtr, OpaqueNodePtr};
 use art_header::NodeType;

@@ -7,7 +7,7 @@ ghost use Rattle.art_tree.specs.Search.{HasTree, EachTree, leaf_pointer};
 use crate::laws::path_and_prefix_are_shared;
 use art_arena::{AnyRef, FullPrefix, NodeArena};
 use art_bytes::AsBytes;
-use art_nodes::{InnerNodeCommon, LeafNode, NodePtr, OpaqueNodePtr, common_front_len};
+use art_nodes::{InnerNodeCommon, LeafNode, NodePtr, OpaqueNodePtr, common_prefix_len};
 
 /// A node of a tree: how many bytes lead to it, and the inner node that it hangs under, with the byte.
 #[derive_where(Clone, Copy)]
@@ -131,7 +131,7 @@ fn place_at_leaf<K: AsBytes, V, const PREFIX_LEN: usize>(
     }
     let text = node.key_ref().as_bytes();
     let depth = spot.depth;
-    let index = depth + common_front_len(&text[depth..], &key[depth..]);
+    let index = depth + common_prefix_len(&text[depth..], &key[depth..]);
     if index == text.len() || index == key.len() {
         return Place::Clash;
     }

@@ -4,7 +4,7 @@ ghost use Rattle.art_tree.specs.Plan.{IsFork, Forks, AreLoadable, IsPlanOf, byte
 ghost use Rattle.art_tree.specs.Refusals.{texts_of};
 
 use art_bytes::AsBytes;
-use art_nodes::{NodeType, common_front_len};
+use art_nodes::{NodeType, common_prefix_len};
 use std::alloc::{AllocError, Global};
 
 /// A step of a plan. It makes a tree and leaves it under a byte, after the trees that earlier steps
@@ -37,7 +37,7 @@ fn fork(text: &[u8], next: &[u8]) -> usize
     requires { Forks text.now next.now }
     ensures { IsFork text.now next.now result }
 {
-    common_front_len(text, next)
+    common_prefix_len(text, next)
 }
 
 // The byte that leads to what begins at `place`, 0 for the root.

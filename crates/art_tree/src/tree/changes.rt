@@ -2,8 +2,8 @@
 ghost use Rattle.std.specs.Prelude.{◌≡◌, ◌≢◌, None, IfNone, IfOk, IfErr, OnOk, OnErr};
 ghost use Rattle.art_arena.specs.Arena.{SameNodes, SameRoom};
 ghost use Rattle.art_tree.specs.Dictionary.{entry_at, HasKeys, IsEntry, SameEntries, SameOtherEntries};
-ghost use Rattle.art_tree.specs.Inserting.{IsRefused, MayEnter};
-ghost use Rattle.art_tree.specs.Removing.{NeedsSmallerNode};
+ghost use Rattle.art_tree.specs.Insertion.{IsRefused, MayEnter};
+ghost use Rattle.art_tree.specs.Removal.{NeedsSmallerNode};
 ghost use Rattle.art_tree.specs.Room.{FreesOneEach, LacksRoom};
 ghost use Rattle.art_tree.specs.declared.insert.InsertRefusal.TheVariants.{OutOfMemory};
 

@@ -6,7 +6,7 @@ use art_nodes::{LeafNode, NodePtr};
 use std::cmp::Ordering;
 use std::process::Abort;
 
-mod using;
+mod link_examples;
 
 type Key = [u8; 1];
 

@@ -1,5 +1,5 @@
 use Rattle.std.proofs.Common.{subst}
-use Rattle.art_arena.specs.SharedFront.{IsSharedFrom}
+use Rattle.art_arena.specs.CommonPrefix.{IsSharedFrom}
 use Rattle.art_arena.proofs.TreeLemmas.{texts-same}
 use Rattle.art_arena.proofs.laws.same_trees_have_the_same_texts.Goals as goal
 

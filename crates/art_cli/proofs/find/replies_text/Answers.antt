@@ -5,7 +5,7 @@ use Rattle.art_tree.specs.Dictionary.{entry_at}
 use Rattle.art_cli.specs.Find.{with_text, no_entries, after, after_all}
 use Rattle.art_cli.specs.Answer.{HoldsEntries, IsAnswer, removal_text}
 use Rattle.art_cli.specs.Lines.{line}
-use Rattle.art_cli.proofs.Finding.{number_taken, so_far_one, one_more, cut_there, admitted, refused, holds_inserted, holds_removed}
+use Rattle.art_cli.proofs.FindLemmas.{number_taken, so_far_one, one_more, cut_there, admitted, refused, holds_inserted, holds_removed}
 use Rattle.art_cli.proofs.find.replies_text.Goals as goal
 use Rattle.art_cli.proofs.find.replies_text.Goals.{in-Insert+in-Ok, in-Remove+in_ok-removed-in-Remove+in_ok-print_removal-in-Remove, in-Find+in_ok-print_answer-in-Find}
 

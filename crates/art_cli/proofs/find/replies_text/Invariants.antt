@@ -1,6 +1,6 @@
 use Rattle.std.proofs.Common.{map, take, string_bytes}
 use Rattle.art_cli.specs.Find.{with_text}
-use Rattle.art_cli.proofs.Finding.{SoFar}
+use Rattle.art_cli.proofs.FindLemmas.{SoFar}
 use Rattle.art_cli.proofs.find.replies_text.Given as goal
 
 -- the commands so far are worked

@@ -6,16 +6,16 @@ use Rattle.art_arena.specs.Arena.{Nothing, held}
 use Rattle.art_arena.specs.Standing.{leaf_text}
 use Rattle.art_tree.specs.Search.{IsWay, LeadsTo, leaf_pointer}
 use Rattle.art_tree.specs.Paths.{HasVisited, path_of}
-use Rattle.art_tree.proofs.OnlyWayLemmas.{one-way}
-use Rattle.art_tree.proofs.PathLeads.{way-leads}
+use Rattle.art_tree.proofs.Find.OnlyWayLemmas.{one-way}
+use Rattle.art_tree.proofs.Find.PathNodes.{way-leads}
 use Rattle.art_arena.proofs.StandingLaws.{leaf_kind}
-use Rattle.art_tree.proofs.WayLemmas.{here-start, here-held, here-leaf, here-nowhere-scan, here-nowhere-met, here-on, still-held, leaf-pointer-is, told, told-on, told-nowhere, told-later, at-some, leaf-hit, leaf-miss, not-true}
+use Rattle.art_tree.proofs.Find.WayLemmas.{here-start, here-held, here-leaf, here-nowhere-scan, here-nowhere-met, here-on, still-held, leaf-pointer-is, told, told-on, told-nowhere, told-later, at-some, leaf-hit, leaf-miss, not-true}
 use Rattle.art_tree.proofs.find.find_leaf.Goals as goal
 
 pub way-init : goal.way-init
 way-init g c = record {
   within = omega arith;
-  looks = omega (arith, c.requires.budget);
+  visits = omega (arith, c.requires.budget);
   same_arena = refl;
   here = λ tree is. here-start g.K.AsBytes.text c.args.reader.now.arena tree c.args.key.now c.args.root c.default-search.result c.args.reader.now.budget is c.default-search.ensures;
 }
@@ -24,7 +24,7 @@ pub look-node-requires : goal.look-node-requires
 look-node-requires g c =
     let (tree, is) = c.requires.tree in
     let there = here-held g.K.AsBytes.text c.args.reader.now.arena tree c.args.key.now c.way.at c.way.depth c.way.search _ _ (c.way.invariant.here tree is) in
-    (search, (search, (search, (search, (search, (lit< tt, (subst (λ a. held a c.way.at ≢ Nothing) (sym c.way.invariant.same_arena) there, omega (arith, c.way.invariant.looks, c.way.invariant.within))))))))
+    (search, (search, (search, (search, (search, (lit< tt, (subst (λ a. held a c.way.at ≢ Nothing) (sym c.way.invariant.same_arena) there, omega (arith, c.way.invariant.visits, c.way.invariant.within))))))))
 
 pub returns-then-matches_full_key : goal.returns-then-matches_full_key
 returns-then-matches_full_key g c =
@@ -50,18 +50,18 @@ returns-then-matches_full_key g c =
           let from_root = subst (λ root. LeadsTo arena root (path_of here.steps) (leaf_pointer c.unwrap.result)) is.at_root (way-leads text arena [] tree here.steps (leaf_pointer c.unwrap.result) is.stands is.sound (subst (IsWay tree here.steps) (sym pointer) at.way)) in
           subst (λ a. LeadsTo a c.args.root c.finish.result (leaf_pointer c.unwrap.result)) (sym (c.look-node.ensures.same_arena ∙ c.way.invariant.same_arena))
           (subst (λ path. LeadsTo arena c.args.root path (leaf_pointer c.unwrap.result)) (sym path_is) from_root);
-      looks = λ tree is.
+      visits = λ tree is.
           let here = c.way.invariant.here tree is in
           let at = here-leaf text arena tree c.args.key.now c.way.at c.way.depth c.way.search _ _ here c.in-LeafNode.leaf.now holds in
-          omega (arith, here.counted, at.looks, c.look-node.ensures.counted);
-      looks_bounded = λ tree is.
+          omega (arith, here.counted, at.visits, c.look-node.ensures.counted);
+      visits_bounded = λ tree is.
           let here = c.way.invariant.here tree is in
           let at = here-leaf text arena tree c.args.key.now c.way.at c.way.depth c.way.search _ _ here c.in-LeafNode.leaf.now holds in
-          omega (arith, here.few, at.looks, c.way.invariant.within);
-      looks_of_found = λ tree is steps way.
+          omega (arith, here.few, at.visits, c.way.invariant.within);
+      visits_of_found = λ tree is steps way.
           let here = c.way.invariant.here tree is in
           let at = here-leaf text arena tree c.args.key.now c.way.at c.way.depth c.way.search _ _ here c.in-LeafNode.leaf.now holds in
-          at.looks ∙ ap (λ all. length all + 1) (sym (one-way tree (c.each_pointer_is_at_one_place.ensures arena [] tree is.stands is.sound) here.steps steps c.way.at at.way (subst (IsWay tree steps) pointer way)));
+          at.visits ∙ ap (λ all. length all + 1) (sym (one-way tree (c.each_pointer_is_at_one_place.ensures arena [] tree is.stands is.sound) here.steps steps c.way.at at.way (subst (IsWay tree steps) pointer way)));
       same_arena = c.look-node.ensures.same_arena ∙ c.way.invariant.same_arena;
       held = still-held _ arena c.way.at c.unwrap.result c.in-LeafNode.leaf.now (c.look-node.ensures.same_arena ∙ c.way.invariant.same_arena) pointer holds;
     }
@@ -77,15 +77,15 @@ returns-else-matches_full_key g c =
           leaf-miss _ _ (leaf_text text c.in-LeafNode.leaf.now) _ at.same_scan (λ same. not-true c.matches_full_key.result c.if-matches_full_key.false (c.matches_full_key.ensures.1 same));
       path = λ tree is. tt;
       leads = tt;
-      looks = λ tree is.
+      visits = λ tree is.
           let here = c.way.invariant.here tree is in
           let at = here-leaf text arena tree c.args.key.now c.way.at c.way.depth c.way.search _ _ here c.in-LeafNode.leaf.now holds in
-          omega (arith, here.counted, at.looks, c.look-node.ensures.counted);
-      looks_bounded = λ tree is.
+          omega (arith, here.counted, at.visits, c.look-node.ensures.counted);
+      visits_bounded = λ tree is.
           let here = c.way.invariant.here tree is in
           let at = here-leaf text arena tree c.args.key.now c.way.at c.way.depth c.way.search _ _ here c.in-LeafNode.leaf.now holds in
-          omega (arith, here.few, at.looks, c.way.invariant.within);
-      looks_of_found = λ tree is. tt;
+          omega (arith, here.few, at.visits, c.way.invariant.within);
+      visits_of_found = λ tree is. tt;
       same_arena = c.look-node.ensures.same_arena ∙ c.way.invariant.same_arena;
       held = tt;
     }
@@ -100,15 +100,15 @@ returns-in_err-index g c =
       answer = λ tree is. here-nowhere-scan text arena tree c.args.key.now c.way.at c.way.depth c.way.search _ _ (c.way.invariant.here tree is) t.node t.is nowhere;
       path = λ tree is. tt;
       leads = tt;
-      looks = λ tree is.
+      visits = λ tree is.
           let here = c.way.invariant.here tree is in
           let met = here-nowhere-met text arena tree c.args.key.now c.way.at c.way.depth c.way.search _ _ here t.node t.is nowhere in
           omega (arith, here.counted, met, c.look-node.ensures.counted);
-      looks_bounded = λ tree is.
+      visits_bounded = λ tree is.
           let here = c.way.invariant.here tree is in
           let met = here-nowhere-met text arena tree c.args.key.now c.way.at c.way.depth c.way.search _ _ here t.node t.is nowhere in
           omega (arith, here.few, met, c.way.invariant.within);
-      looks_of_found = λ tree is. tt;
+      visits_of_found = λ tree is. tt;
       same_arena = c.look-node.ensures.same_arena ∙ c.way.invariant.same_arena;
       held = tt;
     })
@@ -122,7 +122,7 @@ way-preserved g c =
     let later = told-later _ _ _ _ _ t next c.in_ok-index.was in
     record {
       within = omega (arith, c.in_ok-index.ensures.within);
-      looks = omega (arith, later, c.look-node.ensures.counted, c.way.invariant.looks);
+      visits = omega (arith, later, c.look-node.ensures.counted, c.way.invariant.visits);
       same_arena = c.look-node.ensures.same_arena ∙ c.way.invariant.same_arena;
       here = λ tree is. here-on text arena tree c.args.key.now c.way.at c.way.depth c.way.search _ _ (c.way.invariant.here tree is) t.node t.is next (told-on _ _ _ _ _ t next c.in_ok-index.was) c.visit_inner_node.new.self
           (λ steps byte there stands. subst (λ b. HasVisited c.visit_inner_node.new.self (steps ++ (c.way.at, b) ∷ [])) (get_or_from_slice_get c.args.key.now c.in_ok-index.index byte 0 there) (c.visit_inner_node.ensures steps stands))

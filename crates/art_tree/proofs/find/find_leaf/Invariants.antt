@@ -2,14 +2,14 @@ use Rattle.std.proofs.Common.{◌≡◌, ◌<◌, ◌≤◌, ◌+◌, length}
 use Rattle.art_nodes.specs.declared.pointers.OpaqueNodePtr.{OpaqueNodePtr as PointerTo}
 use Rattle.art_arena.specs.Standing.{IsTreeIn}
 use Rattle.art_arena.specs.Trees.{Tree}
-use Rattle.art_tree.proofs.WayLemmas.{IsHere}
+use Rattle.art_tree.proofs.Find.WayLemmas.{IsHere}
 use Rattle.art_tree.proofs.find.find_leaf.Given as goal
 
 -- within the key, with a look for each byte that is left and one more, at the part of the tree that has the answer
 abbrev pub invariant-way : goal.invariant-way
 invariant-way g l = record {
   within : l.depth ≤ length l.key;
-  looks : length l.key < l.depth + l.reader.budget;
+  visits : length l.key < l.depth + l.reader.budget;
   same_arena : l.reader.arena ≡ l.fn.reader.arena;
   here : (tree : Tree (PointerTo g.row.K.Denot g.row.V.Denot g.row.PREFIX_LEN)) → IsTreeIn g.K.AsBytes.text l.fn.reader.arena l.fn.root tree → IsHere g.K.AsBytes.text l.fn.reader.arena tree l.key l.at l.depth l.search l.fn.reader.budget l.reader.budget;
 }

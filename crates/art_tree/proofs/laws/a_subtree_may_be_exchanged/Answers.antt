@@ -1,4 +1,4 @@
-use Rattle.art_tree.proofs.Exchanging.{sound-under, sound-exchanged, leaves-plug, snug-whole, stands-part, stands-whole}
+use Rattle.art_tree.proofs.Shared.ExchangedSubtree.{sound-under, sound-exchanged, leaves-plug, smallest_kinds-whole, stands-part, stands-whole}
 use Rattle.art_tree.specs.Contexts.{plug}
 use Rattle.art_tree.proofs.laws.a_subtree_may_be_exchanged.Goals as goal
 
@@ -14,8 +14,8 @@ returns-clause-sound g c = λ path context part now sound now_sound. sound-excha
 pub returns-clause-leaves : goal.returns-clause-leaves
 returns-clause-leaves g c = λ context part. leaves-plug context part
 
-pub returns-clause-snug : goal.returns-clause-snug
-returns-clause-snug g c = λ context part now snug now_snug. snug-whole context part now snug now_snug
+pub returns-clause-smallest_kinds : goal.returns-clause-smallest_kinds
+returns-clause-smallest_kinds g c = λ context part now smallest_kinds now_smallest_kinds. smallest_kinds-whole context part now smallest_kinds now_smallest_kinds
 
 pub returns-clause-stands : goal.returns-clause-stands
 returns-clause-stands g c = λ old new path context part now sound exchanged.

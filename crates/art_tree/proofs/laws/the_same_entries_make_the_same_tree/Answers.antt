@@ -1,6 +1,6 @@
 use Rattle.std.proofs.Common.{◌≡◌, []}
 use Rattle.art_arena.specs.Trees.{texts}
-use Rattle.art_tree.proofs.SameEntries.{same-texts}
+use Rattle.art_tree.proofs.Shared.SameEntries.{same-texts}
 use Rattle.art_tree.proofs.laws.the_same_entries_make_the_same_tree.Goals as goal
 
 pub returns : goal.returns
@@ -10,4 +10,4 @@ returns g c = λ arena other_arena root other_root tree other alone other_alone 
     (λ text inside. (held other_arena other_root other other_alone text).0 ((entries text).0 ((held arena root tree alone text).1 inside)))
     (λ text inside. (held arena root tree alone text).0 ((entries text).1 ((held other_arena other_root other other_alone text).1 inside))) in
     let same = c.the_same_texts_make_the_same_tree.ensures [] tree other alone.is_tree.sound other_alone.is_tree.sound one in
-    (same, c.the_same_tree_has_the_same_kinds.ensures arena other_arena tree other alone.is_tree.stands other_alone.is_tree.stands alone.snug other_alone.snug same)
+    (same, c.the_same_tree_has_the_same_kinds.ensures arena other_arena tree other alone.is_tree.stands other_alone.is_tree.stands alone.smallest_kinds other_alone.smallest_kinds same)

@@ -4,14 +4,14 @@ use Rattle.art_arena.specs.Trees.{Tree, Leaf, leaves}
 use Rattle.art_tree.specs.Art.{IsAlone}
 use Rattle.art_tree.specs.Dictionary.{entry_at}
 use Rattle.art_tree.specs.Dropping.{IsLeafSpot}
-use Rattle.art_tree.specs.Removing.{IsLeft, NeedsSmallerNode}
+use Rattle.art_tree.specs.Removal.{IsLeft, NeedsSmallerNode}
 use Rattle.art_tree.specs.Search.{IsPathTo, leaf_pointer}
-use Rattle.art_tree.proofs.DictionaryLemmas.{no-entry}
-use Rattle.art_tree.proofs.Growing.{entries-stay}
-use Rattle.art_tree.proofs.HangLemmas.{always-err}
-use Rattle.art_tree.proofs.RemovalLemmas.{hangs-in, is-found}
-use Rattle.art_tree.proofs.WayContexts.{leaf-root}
-use Rattle.art_tree.proofs.NodeLemmas.{leaf-pointer-fits, spot-fits}
+use Rattle.art_tree.proofs.Shared.DictionaryLemmas.{no-entry}
+use Rattle.art_tree.proofs.Shared.ExchangedTree.{entries-stay}
+use Rattle.art_tree.proofs.Shared.ParentLemmas.{always-err}
+use Rattle.art_tree.proofs.Remove.RemovalLemmas.{hangs-in, is-found}
+use Rattle.art_tree.proofs.Remove.WayContexts.{leaf-root}
+use Rattle.art_tree.proofs.Insert.NodeLemmas.{leaf-pointer-fits, spot-fits}
 use Rattle.art_tree.proofs.remove.remove_entry.Goals as goal
 
 pub returns-in_default-clause-absent : goal.returns-in_default-clause-absent

@@ -3,7 +3,7 @@ use Rattle.art_arena.specs.Arena.{held, Nothing}
 use Rattle.art_arena.specs.Standing.{IsTreeIn}
 use Rattle.art_tree.specs.Art.{IsArt}
 use Rattle.art_tree.specs.Search.{leaf_pointer, met}
-use Rattle.art_cli.proofs.Finding.{found_number, none_there, same_texts}
+use Rattle.art_cli.proofs.FindLemmas.{found_number, none_there, same_texts}
 use Rattle.art_cli.proofs.find.answer.answer.Goals as goal
 
 pub as_value_ref-requires : goal.as_value_ref-requires
@@ -20,8 +20,8 @@ returns-in-Some-found g c = λ entries holds.
     let read = c.with_budget-reader.ensures.arena ∙ c.arena-arena.ensures.arena in
     let here : IsTreeIn text c.with_budget-reader.result.arena c.in-Some.root tree = rw read alone.1.is_tree in
     let scanned = c.in-Some-found.ensures.answer tree here in
-    let looks = c.in-Some-found.ensures.looks tree here in
-    let reads : length c.args.query.now + 1 - c.remaining.result ≡ length (met g.row.PREFIX_LEN tree c.args.query.now) = omega (arith, looks, c.with_budget-reader.ensures.budget, c.remaining.ensures) in
+    let visits = c.in-Some-found.ensures.visits tree here in
+    let reads : length c.args.query.now + 1 - c.remaining.result ≡ length (met g.row.PREFIX_LEN tree c.args.query.now) = omega (arith, visits, c.with_budget-reader.ensures.budget, c.remaining.ensures) in
     let number : entries.number_of c.args.query.now ≡ Some c.as_value_ref.result.now = found_number text c.args.tree.now.arena entries holds tree c.in-Some-found.leaf c.args.query.now c.as_value_ref.result.now (λ leaf. c.entries_are_what_leaves_hold.ensures.leaves c.args.tree.now.arena c.in-Some.root tree alone.1 (leaf_pointer c.in-Some-found.leaf) c.args.query.now leaf) scanned (rw (← c.arena-arena.ensures.arena) c.as_value_ref.ensures) in
     inr (tree, alone.1.is_tree.sound, same_texts text c.args.tree.now.arena entries holds tree (c.entries_are_what_leaves_hold.ensures.texts c.args.tree.now.arena c.in-Some.root tree alone.1), (leaf_pointer c.in-Some-found.leaf, scanned, number, c.in-Some-found.ensures.path tree here), reads)
 
@@ -32,8 +32,8 @@ returns-in-None g c = λ entries holds.
     let tree = alone.0 in
     let read = c.with_budget-reader.ensures.arena ∙ c.arena-arena.ensures.arena in
     let here : IsTreeIn text c.with_budget-reader.result.arena c.in-Some.root tree = rw read alone.1.is_tree in
-    let looks = c.in-None.ensures.looks tree here in
-    let reads : length c.args.query.now + 1 - c.remaining.result ≡ length (met g.row.PREFIX_LEN tree c.args.query.now) = omega (arith, looks, c.with_budget-reader.ensures.budget, c.remaining.ensures) in
+    let visits = c.in-None.ensures.visits tree here in
+    let reads : length c.args.query.now + 1 - c.remaining.result ≡ length (met g.row.PREFIX_LEN tree c.args.query.now) = omega (arith, visits, c.with_budget-reader.ensures.budget, c.remaining.ensures) in
     inr (tree, alone.1.is_tree.sound, same_texts text c.args.tree.now.arena entries holds tree (c.entries_are_what_leaves_hold.ensures.texts c.args.tree.now.arena c.in-Some.root tree alone.1), c.in-None.ensures.answer tree here, reads)
 
 pub returns-in_default : goal.returns-in_default

@@ -1,9 +1,9 @@
 use Rattle.std.proofs.Common.{◌∙◌, sym, subst}
 use Rattle.art_tree.specs.Plan.{IsFork}
-use Rattle.art_tree.proofs.RefusalLemmas.{fork-shared}
+use Rattle.art_tree.proofs.Load.RefusalLemmas.{fork-shared}
 use Rattle.art_tree.proofs.loading.steps.fork.Goals as goal
 
 pub returns : goal.returns
 returns c =
     let (at, fork) = c.requires in
-    subst (IsFork c.args.text.now c.args.next.now) (sym (c.common_front_len.ensures ∙ fork-shared c.args.text.now c.args.next.now at fork)) fork
+    subst (IsFork c.args.text.now c.args.next.now) (sym (c.common_prefix_len.ensures ∙ fork-shared c.args.text.now c.args.next.now at fork)) fork

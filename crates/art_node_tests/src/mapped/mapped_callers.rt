@@ -1,0 +1,298 @@
+//! What a caller learns from the contracts, at types that it names.
+ghost use Rattle.std.specs.Prelude.{◌≡◌, ℕ, ℤ, IsOk, IfOk, Vec, fold};
+ghost use Rattle.std.specs.declared.alloc.Global.{Global};
+ghost use Rattle.std.specs.Hash as fed;
+ghost use Rattle.std.specs.Ordering.{int_cmp};
+ghost use Rattle.std.specs.Net.Addr.{ipv4_octets};
+ghost use Rattle.art_mapped.specs.Mapped.{mapped_text, HoldsValue};
+ghost use Rattle.art_mapped.specs.Numbers.{signed_text};
+ghost use Rattle.art_mapped.specs.Sequences.{joined};
+
+use super::*;
+use crate::bytes::has_prefix;
+use crate::bytes::key_examples::order_of_texts;
+use crate::fixtures::hash_of;
+use crate::nodes::node_fixtures::all_bytes;
+use art_bytes::NoPrefixesBytes;
+use std::hash::{DefaultHasher, Hash, Hasher};
+
+// The key of an address is its octets, and is always made.
+fn host(alloc: Global, address: Ipv4Addr) -> Result<Mapped<ToOctets, Ipv4Addr>, AllocError>
+    ensures text { IfOk result (λ key. mapped_text key ≡ ipv4_octets address) }
+    ensures always { IsOk result }
+{
+    Mapped::new(alloc, address)
+}
+
+// The key of a vector of signed numbers joins their bytes.
+fn path(alloc: Global, steps: Vec<i16>) -> Result<Mapped<ToIBE, Vec<i16>>, AllocError>
+    ensures { IfOk result (λ key. mapped_text key ≡ joined (signed_text 2) steps.items) }
+{
+    Mapped::new(alloc, steps)
+}
+
+// Keys of signed numbers compare by size.
+fn by_size(a: &Mapped<ToIBE, i32>, b: &Mapped<ToIBE, i32>) -> Ordering
+    ensures { (x y : ℤ) → HoldsValue a.now x → HoldsValue b.now y → result ≡ int_cmp x y }
+{
+    a.cmp(b)
+}
+
+// Keys compare as the values do.
+fn compared<B: OrderedMapping<D>, D: Ord + Drop>(
+    alloc: Global,
+    a: D,
+    b: D,
+) -> Result<Ordering, AllocError>
+    ensures { IfOk result (λ order. order ≡ D.cmp a b) }
+{
+    Ok(Mapped::<B, D>::new(alloc, a)?.cmp(&Mapped::<B, D>::new(alloc, b)?))
+}
+
+// An integer or an address comes back as it went in, and no call refuses.
+fn element_back<F, E: Element<F>>(alloc: Global, value: E) -> Result<E, AllocError>
+    ensures value { IfOk result (λ read. read ≡ value) }
+    ensures always { IsOk result }
+{
+    Mapped::<Single<F>, E>::new(alloc, value)?.get(alloc)
+}
+
+fn unsigned_back(alloc: Global, value: u64) -> Result<u64, AllocError>
+    ensures value { IfOk result (λ read. read ≡ value) }
+    ensures always { IsOk result }
+{
+    Mapped::<ToUBE, u64>::new(alloc, value)?.get(alloc)
+}
+
+fn ipv6_back(alloc: Global, value: Ipv6Addr) -> Result<Ipv6Addr, AllocError>
+    ensures value { IfOk result (λ read. read ≡ value) }
+    ensures always { IsOk result }
+{
+    Mapped::<ToOctets, Ipv6Addr>::new(alloc, value)?.get(alloc)
+}
+
+// To ask bytes for an integer or an address refuses nothing.
+fn element_asked<F, E: Element<F>>(alloc: Global, bytes: E::Bytes) -> Result<Option<E>, AllocError>
+    ensures { IsOk result }
+{
+    <Single<F> as BytesMapping<E>>::checked_from_bytes(alloc, bytes)
+}
+
+fn ipv6_asked(alloc: Global, bytes: [u8; 16]) -> Result<Option<Ipv6Addr>, AllocError>
+    ensures { IsOk result }
+{
+    <ToOctets as BytesMapping<Ipv6Addr>>::checked_from_bytes(alloc, bytes)
+}
+
+// An array comes back as it went in.
+fn array_back<F: IntegerForm, E: Element<F>, const N: usize>(
+    alloc: Global,
+    value: [E; N],
+) -> Result<[E; N], AllocError>
+    ensures { IfOk result (λ read. read ≡ value) }
+{
+    Mapped::<ToBigEndian<F>, [E; N]>::new(alloc, value)?.get(alloc)
+}
+
+// To get the array of a key refuses nothing, nor does to ask bytes for one.
+fn array_of_key<F: IntegerForm, E: Element<F>, const N: usize>(
+    alloc: Global,
+    key: Mapped<ToBigEndian<F>, [E; N]>,
+) -> Result<[E; N], AllocError>
+    ensures { IsOk result }
+{
+    key.get(alloc)
+}
+
+fn array_asked<F: IntegerForm, E: Element<F>, const N: usize>(
+    alloc: Global,
+    bytes: Vec<u8>,
+) -> Result<Option<[E; N]>, AllocError>
+    ensures { IsOk result }
+{
+    <ToBigEndian<F> as BytesMapping<[E; N]>>::checked_from_bytes(alloc, bytes)
+}
+
+// The elements of a vector come back as they went in.
+fn vector_back<F: IntegerForm, E: Element<F>>(
+    alloc: Global,
+    value: Vec<E>,
+) -> Result<Vec<E>, AllocError>
+    ensures { IfOk result (λ read. read.items ≡ value.items) }
+{
+    Mapped::<ToBigEndian<F>, Vec<E>>::new(alloc, value)?.get(alloc)
+}
+
+// A clone holds the value that the key holds. Of an array's bytes it is always made.
+fn port_again(key: &Mapped<ToUBE, u16>) -> Result<Mapped<ToUBE, u16>, AllocError>
+    ensures value { (port : ℕ) → HoldsValue key.now port →
+        IfOk result (λ again. HoldsValue again port) }
+    ensures always { IsOk result }
+{
+    key.clone()
+}
+
+fn path_again(key: &Mapped<ToIBE, Vec<i16>>) -> Result<Mapped<ToIBE, Vec<i16>>, AllocError>
+    ensures { (steps : Vec ℤ Global) → HoldsValue key.now steps →
+        IfOk result (λ again. HoldsValue again steps) }
+{
+    key.clone()
+}
+
+// A key feeds a hasher what its bytes do.
+fn feed<B: BytesMapping<D>, D, H: Hasher>(key: &Mapped<B, D>, hasher: &mut H)
+    ensures { hasher.new ≡ fold H.write hasher.old (fed.slice fed.u8 (mapped_text key.now)) }
+{
+    key.hash(hasher);
+}
+
+// Two keys that ascend, and of which none begins the other.
+fn ascend<K: OrderedBytes + NoPrefixesBytes>(rt: &impl Abort, less: &K, more: &K) {
+    assert!(rt; order_of_texts(less, more) == Ordering::Less);
+    assert!(rt; order_of_texts(more, less) == Ordering::Greater);
+    assert!(rt; !has_prefix(more, less) && !has_prefix(less, more));
+    assert!(rt; has_prefix(less, less));
+}
+
+#[test]
+fn callers_make_keys(rt: HostRuntime) -> Result<(), Fail> {
+    let alloc = rt.alloc();
+    assert!(rt; host(alloc, Ipv4Addr::LOCALHOST)?.as_bytes() == [127, 0, 0, 1].as_slice());
+    let steps = path(alloc, vec![in alloc; -1, 1]?)?;
+    assert!(rt; steps.as_bytes() == [127, 255, 128, 1].as_slice());
+    assert!(rt; path_again(&steps)? == steps);
+    Ok(())
+}
+
+#[test]
+fn callers_compare_keys(rt: HostRuntime) -> Result<(), Fail> {
+    let alloc = rt.alloc();
+    let (less, more) = (Mapped::new(alloc, -3)?, Mapped::new(alloc, 2)?);
+    assert!(rt; by_size(&less, &more) == Ordering::Less);
+    assert!(rt; compared::<ToUBE, u8>(alloc, 7, 6)? == Ordering::Greater);
+    Ok(())
+}
+
+#[test]
+fn callers_get_values_back(rt: HostRuntime) -> Result<(), Fail> {
+    let alloc = rt.alloc();
+    assert!(rt; element_back::<Unsigned, u64>(alloc, 1 << 40)? == 1 << 40);
+    assert!(rt; unsigned_back(alloc, u64::MAX)? == u64::MAX);
+    assert!(rt; element_asked::<Signed, i8>(alloc, [129])? == Some(1));
+    assert!(rt; ipv6_back(alloc, Ipv6Addr::LOCALHOST)? == Ipv6Addr::LOCALHOST);
+    assert!(rt; ipv6_asked(alloc, [0; 16])? == Some(Ipv6Addr::UNSPECIFIED));
+    Ok(())
+}
+
+#[test]
+fn callers_get_arrays_back(rt: HostRuntime) -> Result<(), Fail> {
+    let alloc = rt.alloc();
+    assert!(rt; array_back::<Signed, i8, 2>(alloc, [3, -3])? == [3, -3]);
+    assert!(rt; array_back::<Signed, i8, 0>(alloc, [])? == []);
+    let key = Mapped::new(alloc, [5u32, 6])?;
+    assert!(rt; array_of_key::<Unsigned, u32, 2>(alloc, key)? == [5, 6]);
+    let bytes = vec![in alloc; 9, 8]?;
+    assert!(rt; array_asked::<Unsigned, u8, 2>(alloc, bytes)? == Some([9, 8]));
+    Ok(())
+}
+
+#[test]
+fn callers_get_vectors_back(rt: HostRuntime) -> Result<(), Fail> {
+    let alloc = rt.alloc();
+    let back = vector_back::<Unsigned, u16>(alloc, vec![in alloc; 258]?)?;
+    assert!(rt; back.as_slice() == [258].as_slice());
+    assert!(rt; vector_back::<Unsigned, u16>(alloc, Vec::new(alloc))?.is_empty());
+    Ok(())
+}
+
+#[test]
+fn callers_clone_and_hash_a_key(rt: HostRuntime) -> Result<(), Fail> {
+    let alloc = rt.alloc();
+    let port = Mapped::new(alloc, 443)?;
+    assert!(rt; port_again(&port)? == port);
+    let mut hasher = DefaultHasher::new();
+    feed(&port, &mut hasher);
+    assert!(rt; hasher.finish() == hash_of(&[1u8, 187].as_slice()));
+    Ok(())
+}
+
+// The keys of two values that ascend.
+fn keys_ascend<B, D: Ord + Drop>(
+    rt: &impl Abort,
+    alloc: Global,
+    less: D,
+    more: D,
+) -> Result<(), AllocError>
+where
+    B: OrderedMapping<D> + NoPrefixesMapping<D>,
+{
+    let less = Mapped::<B, D>::new(alloc, less)?;
+    let more = Mapped::<B, D>::new(alloc, more)?;
+    ascend(rt, &less, &more);
+    Ok(())
+}
+
+#[test]
+fn keys_are_in_order_and_none_begins_another(rt: HostRuntime) -> Result<(), Fail> {
+    let alloc = rt.alloc();
+    keys_ascend::<ToUBE, u16>(&rt, alloc, 1, 256)?;
+    keys_ascend::<ToIBE, NonZeroIsize>(&rt, alloc, NonZeroIsize::MIN, NonZeroIsize::MAX)?;
+    keys_ascend::<ToUBE, [u8; 3]>(&rt, alloc, [1, 2, 3], [1, 3, 0])?;
+    keys_ascend::<ToOctets, Ipv4Addr>(&rt, alloc, Ipv4Addr::LOCALHOST, Ipv4Addr::BROADCAST)?;
+    Ok(())
+}
+
+// How the bytes of two values' keys compare.
+fn order_of_bytes<B: OrderedMapping<D>, D: Ord + Drop>(
+    alloc: Global,
+    a: D,
+    b: D,
+) -> Result<Ordering, AllocError> {
+    let a = Mapped::<B, D>::new(alloc, a)?;
+    let b = Mapped::<B, D>::new(alloc, b)?;
+    Ok(order_of_texts(&a, &b))
+}
+
+// Whether the key that stands for `key` begins with the one that stands for `front`.
+fn begins_with<D: NoPrefixesBytes + Drop>(
+    alloc: Global,
+    key: D,
+    front: D,
+) -> Result<bool, AllocError> {
+    let key = Mapped::<Identity, D>::new(alloc, key)?;
+    let front = Mapped::<Identity, D>::new(alloc, front)?;
+    Ok(has_prefix(&key, &front))
+}
+
+#[test]
+fn prefixes_differ_from_keys(rt: HostRuntime) -> Result<(), Fail> {
+    let alloc = rt.alloc();
+    let (front, whole) = (vec![in alloc; 7]?, vec![in alloc; 7, 7]?);
+    assert!(rt; order_of_bytes::<ToIBE, Vec<i8>>(alloc, front, whole)? == Ordering::Less);
+    assert!(rt; !begins_with(alloc, [1, 1], [1, 0])?);
+    assert!(rt; begins_with(alloc, [1, 0], [1, 0])?);
+    Ok(())
+}
+
+// The key of these numbers has these bytes, and they come back from it.
+fn there_and_back<E: Element<Unsigned>>(
+    rt: &impl Abort,
+    alloc: Global,
+    numbers: &[E],
+    bytes: &[u8],
+) -> Result<(), AllocError> {
+    written_in::<Unsigned, Vec<E>>(rt, alloc, numbers.to_vec(alloc)?, bytes)?;
+    let read = vector_back::<Unsigned, E>(alloc, numbers.to_vec(alloc)?)?;
+    assert!(rt; read.as_slice() == numbers);
+    Ok(())
+}
+
+#[test]
+fn long_vectors_of_the_least_and_greatest_width(rt: HostRuntime) -> Result<(), Fail> {
+    let bytes = all_bytes();
+    there_and_back::<u8>(&rt, rt.alloc(), &bytes, &bytes)?;
+    let (mut numbers, mut text) = ([0; 300], [0; 4800]);
+    (numbers[299], text[4784]) = (1 << 120, 1);
+    there_and_back::<u128>(&rt, rt.alloc(), &numbers, &text)?;
+    Ok(())
+}

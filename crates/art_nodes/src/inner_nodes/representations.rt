@@ -1,0 +1,5 @@
+//! Three ways to keep the children of an inner node, and conversions between them.
+pub(crate) mod conversions;
+pub(crate) mod inner_node_direct;
+pub(crate) mod inner_node_indirect;
+pub(crate) mod inner_node_sorted;

@@ -1,0 +1,119 @@
+//! The same node in another representation.
+ghost use Rattle.std.specs.Prelude.{◌≡◌};
+
+use crate::inner_nodes::representations::inner_node_direct::InnerNodeDirect;
+use crate::inner_nodes::representations::inner_node_indirect::InnerNodeIndirect;
+use crate::inner_nodes::representations::inner_node_sorted::InnerNodeSorted;
+use crate::inner_nodes::traits::node::InnerNodeCommon;
+
+/// The same node with a place for each byte.
+impl<'a, K, V, const PREFIX_LEN: usize, const SIZE: usize> From<
+    &'a InnerNodeSorted<K, V, PREFIX_LEN, SIZE>,
+> for InnerNodeDirect<K, V, PREFIX_LEN> {
+    ghost use Rattle.std.specs.Prelude.{◌≡◌};
+
+    ghost from_gives = { λ node direct. direct ≡ node.now };
+
+    fn from(node: &'a InnerNodeSorted<K, V, PREFIX_LEN, SIZE>) -> Self {
+        direct_from_sorted(node)
+    }
+}
+
+// The same node with a place for each byte.
+fn direct_from_sorted<K, V, const PREFIX_LEN: usize, const SIZE: usize>(
+    node: &InnerNodeSorted<K, V, PREFIX_LEN, SIZE>,
+) -> InnerNodeDirect<K, V, PREFIX_LEN>
+    ensures { result ≡ node.now }
+{
+    let mut direct = InnerNodeDirect::from_header(node.header().clone().unwrap());
+    for (byte, child) in node.iter() {
+        direct.write_child(byte, child);
+    }
+    direct
+}
+
+/// The same node with a place for each byte.
+impl<'a, K, V, const PREFIX_LEN: usize, const SIZE: usize> From<
+    &'a InnerNodeIndirect<K, V, PREFIX_LEN, SIZE>,
+> for InnerNodeDirect<K, V, PREFIX_LEN> {
+    ghost use Rattle.std.specs.Prelude.{◌≡◌};
+
+    ghost from_gives = { λ node direct. direct ≡ node.now };
+
+    fn from(node: &'a InnerNodeIndirect<K, V, PREFIX_LEN, SIZE>) -> Self {
+        direct_from_indirect(node)
+    }
+}
+
+// The same node with a place for each byte.
+fn direct_from_indirect<K, V, const PREFIX_LEN: usize, const SIZE: usize>(
+    node: &InnerNodeIndirect<K, V, PREFIX_LEN, SIZE>,
+) -> InnerNodeDirect<K, V, PREFIX_LEN>
+    ensures { result ≡ node.now }
+{
+    let mut direct = InnerNodeDirect::from_header(node.header().clone().unwrap());
+    for (byte, child) in node.pairs() {
+        direct.write_child(byte, child);
+    }
+    direct
+}
+
+impl<K, V, const PREFIX_LEN: usize, const SIZE: usize> InnerNodeIndirect<K, V, PREFIX_LEN, SIZE> {
+    ghost use Rattle.std.specs.Prelude.{◌≡◌, ◌≤◌, length};
+    ghost use Rattle.art_nodes.specs.Inner.{indirect_room};
+
+    /// The same node with an index for each byte. The children have to fit: at most `SIZE` of
+    /// them, and at most 255.
+    pub fn from_direct(node: &InnerNodeDirect<K, V, PREFIX_LEN>) -> Self
+        requires { length node.now.children ≤ indirect_room SIZE }
+        ensures { result ≡ node.now }
+    {
+        let mut indirect = Self::from_header(node.header().clone().unwrap());
+        for (byte, child) in node.pairs() {
+            indirect.add_child(byte, child);
+        }
+        indirect
+    }
+
+    /// The same node with an index for each byte. The children have to fit: at most `SIZE` of
+    /// them, and at most 255.
+    pub fn from_sorted<const SORTED_SIZE: usize>(
+        node: &InnerNodeSorted<K, V, PREFIX_LEN, SORTED_SIZE>,
+    ) -> Self
+        requires { length node.now.children ≤ indirect_room SIZE }
+        ensures { result ≡ node.now }
+    {
+        let (bytes, children) = node.initialized_portion();
+        Self::from_ascending(node.header(), bytes, children)
+    }
+}
+
+impl<K, V, const PREFIX_LEN: usize, const SIZE: usize> InnerNodeSorted<K, V, PREFIX_LEN, SIZE> {
+    ghost use Rattle.std.specs.Prelude.{◌≡◌, ◌≤◌, length};
+
+    /// The same node with its bytes sorted. The children have to fit: at most `SIZE` of them.
+    pub fn from_direct(node: &InnerNodeDirect<K, V, PREFIX_LEN>) -> Self
+        requires { length node.now.children ≤ SIZE }
+        ensures { result ≡ node.now }
+    {
+        let mut sorted = Self::from_header(node.header().clone().unwrap());
+        for (byte, child) in node.pairs() {
+            sorted.write_child_unchecked(byte, child);
+        }
+        sorted
+    }
+
+    /// The same node with its bytes sorted. The children have to fit: at most `SIZE` of them.
+    pub fn from_indirect<const INDIRECT_SIZE: usize>(
+        node: &InnerNodeIndirect<K, V, PREFIX_LEN, INDIRECT_SIZE>,
+    ) -> Self
+        requires { length node.now.children ≤ SIZE }
+        ensures { result ≡ node.now }
+    {
+        let mut sorted = Self::from_header(node.header().clone().unwrap());
+        for (byte, child) in node.pairs() {
+            sorted.write_child_unchecked(byte, child);
+        }
+        sorted
+    }
+}

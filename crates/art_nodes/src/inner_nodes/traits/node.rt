@@ -1,0 +1,218 @@
+//! What every node and every inner node has.
+ghost use Rattle.std.specs.Prelude.{◌≡◌, ℕ, ◌<◌, ◌≤◌, ◌^◌, List, length, map, Contains, Some, IfOk, IsOkAnd};
+ghost use Rattle.art_nodes.specs.ChildMap.{child_at, first_pair, last_pair, pairs_within, AreValidBounds};
+ghost use Rattle.art_nodes.specs.PrefixMatch.{optimistic_match, cheap_match, HasPrefix};
+ghost use Rattle.art_header.specs.Header.{capped, empty_header};
+ghost use Rattle.art_bytes.specs.Text.{IsPrefixOf};
+ghost use Rattle.art_nodes.specs.Inner.{Inner, HasRoomFor, empty_inner, IsInner, header_of, node_with_child, node_without_child, node_with_prefix_of};
+
+use crate::inner_nodes::builder::{InnerNodeBuilder, NoChild};
+use crate::inner_nodes::prefix_match::{
+    AttemptOptimisticPrefixMatch, OptimisticMismatch, PessimisticMismatch, PrefixMatch,
+    common_prefix_len,
+};
+use crate::iteration::child_iter::ChildIter;
+use crate::pointers::OpaqueNodePtr;
+use crate::sealed::{InnerNodeInit, Sealed};
+use art_header::{Header, NodeType};
+use std::ops::Bound;
+
+/// A node whose kind is known when the program is compiled.
+pub trait Node<const PREFIX_LEN: usize>: Sealed {
+    /// The kind of the node.
+    const TYPE: NodeType;
+
+    ghost use Rattle.art_header.specs.declared.node_type.NodeType.{NodeType};
+
+    /// The kind of the node.
+    ghost TYPE: { NodeType };
+
+    /// The key type of the leaves below.
+    type Key;
+
+    /// The value type of the leaves below.
+    type Value;
+}
+
+/// What every inner node does, whichever way it keeps its children.
+///
+/// Contracts see a node as the length and the stored front of its prefix and a finite map from bytes
+/// to children. No call takes memory.
+pub trait InnerNodeCommon<K, V, const PREFIX_LEN: usize>: InnerNodeInit<PREFIX_LEN> {
+    ghost use Rattle.art_nodes.specs.declared.pointers.OpaqueNodePtr.{OpaqueNodePtr};
+    ghost use Rattle.art_header.specs.Header.{Header};
+
+    /// The prefix and the child map.
+    ghost inner: { Self → Inner (OpaqueNodePtr K V PREFIX_LEN) };
+
+    /// The most children that fit.
+    ghost room: { ℕ };
+
+    /// The header. Its count is the number of children.
+    fn header(&self) -> &Header<PREFIX_LEN>
+        ensures header { result.now ≡ header_of (inner self.now) }
+        ensures sound { IsInner PREFIX_LEN room (inner self.now) };
+
+    /// The number of children.
+    fn num_children(&self) -> usize
+        ensures count { result ≡ length (inner self.now).children }
+        ensures sound { IsInner PREFIX_LEN room (inner self.now) };
+
+    /// The length of the whole prefix in bytes, stored or not. It is below 2^32.
+    fn prefix_len(&self) -> usize
+        ensures value { result ≡ (inner self.now).prefix_len }
+        ensures fits { result < 2 ^ 32 };
+
+    /// The stored front of the prefix: its first `min(prefix_len, PREFIX_LEN)` bytes.
+    fn stored_prefix(&self) -> &[u8]
+        ensures stored { result.now ≡ (inner self.now).stored }
+        ensures capped { length result.now ≡ capped PREFIX_LEN (inner self.now).prefix_len };
+
+    /// The most children that the node can hold.
+    fn capacity(&self) -> usize
+        ensures { result ≡ room };
+
+    /// Takes over the prefix of this header: its length and its stored front. The children and
+    /// their count stay.
+    fn set_prefix(&mut self, header: &Header<PREFIX_LEN>)
+        ensures { inner self.new ≡ node_with_prefix_of (inner self.old) header.now };
+
+    /// The child under the byte, if there is one.
+    fn lookup_child(&self, key_fragment: u8) -> Option<OpaqueNodePtr<K, V, PREFIX_LEN>>
+        ensures child { result ≡ child_at (inner self.now).children key_fragment }
+        ensures sound { IsInner PREFIX_LEN room (inner self.now) };
+
+    /// Writes the child under the byte, in place of any that is there. Only a new byte asks for
+    /// room: there have to be fewer children than [`InnerNodeCommon::capacity`].
+    fn write_child(&mut self, key_fragment: u8, child_pointer: OpaqueNodePtr<K, V, PREFIX_LEN>)
+        requires { HasRoomFor room (inner self.old) key_fragment }
+        ensures written { inner self.new ≡
+            node_with_child (inner self.old) key_fragment child_pointer };
+
+    /// Removes the child under the byte and answers it, or changes nothing where there is none. It
+    /// may leave one child or none.
+    fn remove_child(&mut self, key_fragment: u8) -> Option<OpaqueNodePtr<K, V, PREFIX_LEN>>
+        ensures child { result ≡ child_at (inner self.old).children key_fragment }
+        ensures removed { inner self.new ≡ node_without_child (inner self.old) key_fragment }
+        ensures sound { IsInner PREFIX_LEN room (inner self.old) };
+
+    /// The children by ascending byte, each once, from either end.
+    fn iter(&self) -> ChildIter<'_, K, V, PREFIX_LEN>
+        ensures pairs { result ≡ (inner self.now).children }
+        ensures sound { IsInner PREFIX_LEN room (inner self.now) };
+
+    /// Those of the children whose byte meets both bounds, which have to be valid:
+    /// [`valid_range_bounds`](crate::valid_range_bounds) is the test.
+    fn range(&self, start: Bound<u8>, end: Bound<u8>) -> ChildIter<'_, K, V, PREFIX_LEN>
+        requires { AreValidBounds start end }
+        ensures { result ≡ pairs_within (inner self.now).children start end };
+
+    /// The least byte with its child. There has to be a child.
+    fn min(&self) -> (u8, OpaqueNodePtr<K, V, PREFIX_LEN>)
+        requires { 0 < length (inner self.now).children }
+        ensures pair { first_pair (inner self.now).children ≡ Some result }
+        ensures sound { IsInner PREFIX_LEN room (inner self.now) };
+
+    /// The greatest byte with its child. There has to be a child.
+    fn max(&self) -> (u8, OpaqueNodePtr<K, V, PREFIX_LEN>)
+        requires { 0 < length (inner self.now).children }
+        ensures pair { last_pair (inner self.now).children ≡ Some result }
+        ensures sound { IsInner PREFIX_LEN room (inner self.now) };
+
+    /// Tests whether the rest of a key is long enough for the prefix. No byte is compared.
+    ///
+    /// Answers the length of the prefix, or else that of the rest. Whoever comes to a leaf by this
+    /// match has to compare the leaf's whole key.
+    final fn optimistic_match_prefix(
+        &self,
+        truncated_key: &[u8],
+    ) -> Result<PrefixMatch, OptimisticMismatch>
+        ensures matched { result ≡ optimistic_match (inner self.now).prefix_len truncated_key.now }
+        ensures whole { IfOk result (λ found. found.matched_bytes ≡ (inner self.now).prefix_len) }
+        ensures within { IfOk result (λ found. found.matched_bytes ≤ length truncated_key.now) }
+        ensures passes_every_prefix { (prefix : List ℕ) →
+            HasPrefix (inner self.now) prefix → IsPrefixOf prefix truncated_key.now →
+            IsOkAnd result (λ found. found.matched_bytes ≡ length prefix) }
+    {
+        let prefix_len = self.prefix_len();
+        if truncated_key.len() < prefix_len {
+            Err(OptimisticMismatch {
+                matched_bytes: truncated_key.len(),
+            })
+        } else {
+            Ok(PrefixMatch {
+                matched_bytes: prefix_len,
+            })
+        }
+    }
+
+    /// Compares the rest of a key with the prefix where the node stores all of it, and else only
+    /// tests whether the rest is long enough, as [`InnerNodeCommon::optimistic_match_prefix`].
+    ///
+    /// Answers the length of the prefix, or else how many bytes match, and the prefix's byte that
+    /// the rest lacks or differs in.
+    final fn attempt_pessimistic_match_prefix(
+        &self,
+        truncated_key: &[u8],
+    ) -> Result<AttemptOptimisticPrefixMatch, PessimisticMismatch>
+        ensures matched { let node = inner self.now in
+            result ≡ cheap_match PREFIX_LEN node.prefix_len node.stored truncated_key.now }
+        ensures whole { IfOk result (λ found. found.matched_bytes ≡ (inner self.now).prefix_len) }
+        ensures within { IfOk result (λ found. found.matched_bytes ≤ length truncated_key.now) }
+        ensures passes_every_prefix { (prefix : List ℕ) →
+            HasPrefix (inner self.now) prefix → IsPrefixOf prefix truncated_key.now →
+            IsOkAnd result (λ found. found.matched_bytes ≡ length prefix) }
+    {
+        if PREFIX_LEN < self.prefix_len() {
+            let PrefixMatch { matched_bytes } = self.optimistic_match_prefix(truncated_key)?;
+            return Ok(AttemptOptimisticPrefixMatch {
+                matched_bytes,
+                any_implicit_bytes: true,
+            });
+        }
+        let prefix = self.stored_prefix();
+        let matched_bytes = common_prefix_len(prefix, truncated_key);
+        if matched_bytes < prefix.len() {
+            Err(PessimisticMismatch {
+                matched_bytes,
+                prefix_byte: Some(prefix[matched_bytes]),
+            })
+        } else {
+            Ok(AttemptOptimisticPrefixMatch {
+                matched_bytes,
+                any_implicit_bytes: false,
+            })
+        }
+    }
+
+    /// One of the children. It takes a leaf where there is one; the contract leaves open which child
+    /// it is. The node has to have two children or more.
+    final fn any_child_prefer_leaf(&self) -> OpaqueNodePtr<K, V, PREFIX_LEN>
+        requires { 2 ≤ length (inner self.now).children }
+        ensures { Contains (map (λ pair. pair.1) (inner self.now).children) result }
+    {
+        let (_, least) = self.min();
+        for (_, child) in self.iter() {
+            if child.node_type() == NodeType::Leaf {
+                return child;
+            }
+        }
+        least
+    }
+
+    /// A builder of a node with this prefix. It asks what [`Header::new`] asks.
+    final fn builder(
+        prefix: &[u8],
+        prefix_len: usize,
+    ) -> InnerNodeBuilder<K, V, PREFIX_LEN, Self, NoChild>
+        requires has_stored_bytes { capped PREFIX_LEN prefix_len ≤ length prefix.now }
+        requires no_longer { length prefix.now ≤ prefix_len }
+        requires fits { prefix_len < 2 ^ 32 }
+        ensures { inner result ≡ empty_inner (empty_header PREFIX_LEN prefix.now prefix_len) }
+    {
+        InnerNodeBuilder::new(prefix, prefix_len)
+    }
+
+    /// A node begins with no children.
+    ghost starts_empty: { (h : Header) → inner (Self.empty_with h) ≡ empty_inner h };
+}

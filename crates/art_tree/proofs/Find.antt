@@ -1,0 +1,6 @@
+mod DescentLemmas
+mod OnlyWayLemmas
+mod PathNodes
+mod PathSteps
+mod ScanLemmas
+mod WayLemmas

@@ -1,0 +1,10 @@
+mod FirstEntry
+mod SubtreeLemmas
+mod AddedLeaf
+mod LinkLemmas
+mod NodeLemmas
+mod PlaceLemmas
+mod GapLemmas
+mod AddedChild
+mod AddedFork
+mod EntryLemmas

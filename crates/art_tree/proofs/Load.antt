@@ -1,0 +1,7 @@
+mod ChildLemmas
+mod PlanLemmas
+mod LeafLists
+mod LoadedTree
+mod OpenNodes
+mod RefusalLemmas
+mod PlacedTrees

@@ -1,0 +1,13 @@
+mod SameEntries
+mod SameKinds
+mod BranchLemmas
+mod ClashLemmas
+mod DictionaryLemmas
+mod ExchangedSubtree
+mod UniqueTree
+mod ParentLemmas
+mod KeyLemmas
+mod ExchangedTree
+mod ChangedTree
+mod RoomLemmas
+mod PrefixLemmas

@@ -1,0 +1,61 @@
+use Rattle.std.proofs.Common.{◌∙◌, IsSome, sym, ap, arith}
+use Rattle.art_header.specs.NodeType.{most_children}
+use Rattle.art_arena.specs.Reader.{shown, shown_kind}
+use Rattle.art_tree.proofs.Insert.NodeLemmas.{few-where-absent, room-of-kind, moved-there}
+use Rattle.art_tree.proofs.insert.added_child.grow_child.Goals as goal
+
+pub unwrap-requires : goal.unwrap-requires
+unwrap-requires g c =
+    let there = c.node_ref.ensures.node ∙ ap shown c.in-Node4.is in
+    let is_kind = sym c.node_ref.ensures.kind ∙ ap shown_kind c.in-Node4.is in
+    let some : IsSome c.replace_node.result = c.replace_node.ensures.succeeds (room-of-kind c.args.arena.now c.args.pointer _ is_kind there (c.requires.full _ there) c.requires.room) in
+    search
+
+pub returns-in-Node4 : goal.returns-in-Node4
+returns-in-Node4 g c = λ node is.
+    let there = c.node_ref.ensures.node ∙ ap shown c.in-Node4.is in
+    let is_kind = sym c.node_ref.ensures.kind ∙ ap shown_kind c.in-Node4.is in
+    moved-there c.args.arena.now c.replace_node.new.arena c.args.pointer c.replace_node.result c.args.byte c.args.child is_kind there (c.requires.full _ there) c.with_child_more-grown.ensures is c.unwrap.ensures c.replace_node.ensures.replaced
+
+pub unwrap-requires-in-Node16 : goal.unwrap-requires-in-Node16
+unwrap-requires-in-Node16 g c =
+    let there = c.node_ref.ensures.node ∙ ap shown c.in-Node16.is in
+    let is_kind = sym c.node_ref.ensures.kind ∙ ap shown_kind c.in-Node16.is in
+    let some : IsSome c.replace_node-in-Node16.result = c.replace_node-in-Node16.ensures.succeeds (room-of-kind c.args.arena.now c.args.pointer _ is_kind there (c.requires.full _ there) c.requires.room) in
+    search
+
+pub returns-in-Node16 : goal.returns-in-Node16
+returns-in-Node16 g c = λ node is.
+    let there = c.node_ref.ensures.node ∙ ap shown c.in-Node16.is in
+    let is_kind = sym c.node_ref.ensures.kind ∙ ap shown_kind c.in-Node16.is in
+    moved-there c.args.arena.now c.replace_node-in-Node16.new.arena c.args.pointer c.replace_node-in-Node16.result c.args.byte c.args.child is_kind there (c.requires.full _ there) c.with_child_more-grown-in-Node16.ensures is c.unwrap-in-Node16.ensures c.replace_node-in-Node16.ensures.replaced
+
+pub unwrap-requires-in-Node48 : goal.unwrap-requires-in-Node48
+unwrap-requires-in-Node48 g c =
+    let there = c.node_ref.ensures.node ∙ ap shown c.in-Node48.is in
+    let is_kind = sym c.node_ref.ensures.kind ∙ ap shown_kind c.in-Node48.is in
+    let some : IsSome c.replace_node-in-Node48.result = c.replace_node-in-Node48.ensures.succeeds (room-of-kind c.args.arena.now c.args.pointer _ is_kind there (c.requires.full _ there) c.requires.room) in
+    search
+
+pub returns-in-Node48 : goal.returns-in-Node48
+returns-in-Node48 g c = λ node is.
+    let there = c.node_ref.ensures.node ∙ ap shown c.in-Node48.is in
+    let is_kind = sym c.node_ref.ensures.kind ∙ ap shown_kind c.in-Node48.is in
+    moved-there c.args.arena.now c.replace_node-in-Node48.new.arena c.args.pointer c.replace_node-in-Node48.result c.args.byte c.args.child is_kind there (c.requires.full _ there) c.with_child_more-grown-in-Node48.ensures is c.unwrap-in-Node48.ensures c.replace_node-in-Node48.ensures.replaced
+
+pub prove-unreachable-requires : goal.prove-unreachable-requires
+prove-unreachable-requires g c =
+    let node = c.in-Node256.node.now in
+    let there = c.node_ref.ensures.node ∙ ap shown c.in-Node256.is in
+    let few = few-where-absent node c.args.byte c.ranges.byte.fits c.num_children.ensures.sound.ascending (c.requires.absent node there) in
+    omega (arith, few, c.num_children.ensures.count, c.if-prove.true)
+
+pub unreachable-requires : goal.unreachable-requires
+unreachable-requires g c =
+    let there = c.node_ref.ensures.node ∙ ap shown c.in-Node256.is in
+    let is_kind = sym c.node_ref.ensures.kind ∙ ap shown_kind c.in-Node256.is in
+    let full = c.requires.full _ there ∙ ap most_children is_kind in
+    omega (arith, full, c.num_children.ensures.count, c.if-prove.false)
+
+pub unreachable-requires-in-LeafNode : goal.unreachable-requires-in-LeafNode
+unreachable-requires-in-LeafNode g c = c.requires.inner (sym c.node_ref.ensures.kind ∙ ap shown_kind c.in-LeafNode.is)

@@ -1,0 +1,21 @@
+use Rattle.std.proofs.Common.{length, lit<, refl, inl}
+use Rattle.art_header.specs.NodeType.{least_children}
+use Rattle.art_nodes.specs.Pointers.{node_kind}
+use Rattle.art_tree.proofs.Remove.ShrunkNode.{less-where-differ, cut-held, few-left, not-smallest, room-left, shrunk-left}
+use Rattle.art_tree.proofs.remove.removed_child.take_child.Goals as goal
+
+pub shrink_node-requires : goal.shrink_node-requires
+shrink_node-requires g c =
+    (search, (search, (search, (search, (search, (lit< tt, (cut-held c.args.arena.now c.cut_child.new.arena c.args.pointer c.args.byte c.requires.held c.requires.inner c.cut_child.ensures.cut, (c.requires.inner, (not-smallest c.args.arena.now c.cut_child.new.arena c.args.pointer c.args.byte c.requires.held c.requires.inner c.cut_child.ensures.cut (λ node is. (c.has_fewest-fewest.ensures node is).0 c.if-fewest.true) c.requires.many, (few-left c.args.arena.now c.cut_child.new.arena c.args.pointer c.args.byte c.requires.held c.requires.inner c.cut_child.ensures.cut (λ node is. (c.has_fewest-fewest.ensures node is).0 c.if-fewest.true) c.requires.there, room-left c.args.arena.now c.cut_child.new.arena c.args.pointer c.args.byte c.requires.held c.requires.inner c.cut_child.ensures.cut (λ node is. (c.has_fewest-fewest.ensures node is).0 c.if-fewest.true) c.requires.room c.cut_child.ensures.room c.requires.many))))))))))
+
+pub returns-then-fewest : goal.returns-then-fewest
+returns-then-fewest g c = λ node is. shrunk-left c.args.arena.now c.cut_child.new.arena c.args.pointer c.args.byte c.requires.held c.requires.inner c.cut_child.ensures.cut (λ node is. (c.has_fewest-fewest.ensures node is).0 c.if-fewest.true) node is c.shrink_node.ensures
+
+pub returns : goal.returns
+returns g c = λ node is.
+    inl (record {
+      many = less-where-differ (least_children (node_kind c.args.pointer)) (length node.children) (c.requires.many node is).1 (λ fewest. (let yes = (c.has_fewest-fewest.ensures node is).1 fewest in let no = c.if-fewest.false in cc));
+      same = refl;
+      changes = c.cut_child.ensures.cut node is;
+      same_room = c.cut_child.ensures.room;
+    })
