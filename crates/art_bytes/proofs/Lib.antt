@@ -1,1 +1,2 @@
+mod CommonPrefix
 pub mod PrefixLaws

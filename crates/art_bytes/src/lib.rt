@@ -7,11 +7,13 @@
 
 mod bytes;
 mod c_string_key;
+mod prefix;
 mod slice_key;
 mod str_key;
 mod wrappers;
 
 pub use bytes::{AsBytes, NoPrefixesBytes, OrderedBytes};
 pub use c_string_key::{CStringKey, CStringKeyError};
+pub use prefix::common_prefix_len;
 pub use slice_key::SliceKey;
 pub use str_key::StrKey;

@@ -1,7 +1,7 @@
 //! The kinds of nodes.
 ghost use Rattle.std.specs.Prelude.{◌≡◌, ◌≢◌, ◌<◌, ◌↔◌, IsTrue};
 ghost use Rattle.std.specs.Range.{range_inclusive_start, range_inclusive_end, range_inclusive_exhausted};
-ghost use Rattle.art_header.specs.NodeType.{least_children, most_children};
+ghost use Rattle.art_header.specs.NodeType.{least_children, most_children, grown_kind, shrunk_kind};
 
 use std::ops::RangeInclusive;
 
@@ -38,6 +38,30 @@ impl NodeType {
             NodeType::Node48 => 17..=48,
             NodeType::Node256 => 49..=256,
             NodeType::Leaf => 0..=0,
+        }
+    }
+
+    /// The next greater kind of inner node. `Node256` and `Leaf` have none, and are returned as they are.
+    pub fn grown(self) -> Self
+        ensures { result ≡ grown_kind self }
+    {
+        match self {
+            NodeType::Node4 => NodeType::Node16,
+            NodeType::Node16 => NodeType::Node48,
+            NodeType::Node48 | NodeType::Node256 => NodeType::Node256,
+            NodeType::Leaf => NodeType::Leaf,
+        }
+    }
+
+    /// The next smaller kind of inner node. `Node4` and `Leaf` have none, and are returned as they are.
+    pub fn shrunk(self) -> Self
+        ensures { result ≡ shrunk_kind self }
+    {
+        match self {
+            NodeType::Node4 | NodeType::Node16 => NodeType::Node4,
+            NodeType::Node48 => NodeType::Node16,
+            NodeType::Node256 => NodeType::Node48,
+            NodeType::Leaf => NodeType::Leaf,
         }
     }
 

@@ -1,8 +1,9 @@
 -- Laws of child maps, for proofs of crates above: look-up after a write and after a removal, order, sizes, ends.
-use Rattle.std.proofs.Common.{◌≡◌, ℕ, zero, suc, ◌+◌, ◌-◌, ◌<◌, ◌≤◌, ◌≢◌, nat_lt, [], ◌∷◌, ◌++◌, length, Some, None, IsSome, IsNone, refl, if◌then◌else◌, true, false, sym, ◌∙◌, ap, arith, filter, slice_get, inl, inr}
+use Rattle.std.proofs.Common.{◌≡◌, ℕ, zero, suc, ◌+◌, ◌-◌, ◌<◌, ◌≤◌, ◌≢◌, nat_lt, [], ◌∷◌, ◌++◌, length, Some, None, IsSome, IsNone, refl, if◌then◌else◌, true, false, sym, ◌∙◌, ap, arith, filter, slice_get, inl, inr, All}
 use Rattle.std.proofs.lemmas.Bool.{cases_lt}
 use Rattle.std.specs.Option.{is_some}
 use Rattle.std.proofs.lemmas.List.{length-map}
+use Rattle.std.proofs.lemmas.List.Elements.{All-nil, All-cons}
 use Rattle.art_nodes.specs.ChildMap.{ChildMap, IsAscending, child_at, with_child, without_child, key_bytes, first_pair, last_pair}
 use Rattle.art_nodes.specs.Inner.{Inner, HasRoomFor, IsInner, with_children}
 use Rattle.art_nodes.proofs.ChildMapLemmas.{IsAbove, child_at-same, child_at-later, cases_eq, eq-false, eq-true, lt-true, lt-false, above-with_child, above-without_child, length-with_child, length-without_child, ascending-length}
@@ -193,6 +194,21 @@ module _ {H : Type 0} where
   pub last_is_greatest : (children : ChildMap H) (greatest : ℕ × H) (byte : ℕ) (child : H) → IsAscending (key_bytes children) → last_pair children ≡ Some greatest → child_at children byte ≡ Some child → byte ≤ greatest.0
   last_is_greatest [] greatest byte child ascending last is = cc
   last_is_greatest (x ∷ children) greatest byte child ascending last is = last-greatest 0 (x ∷ children) (length (x ∷ children) - 1) greatest byte child ascending (omega arith) last is
+
+  all-below : (low : ℕ) (children : ChildMap H) (place : ℕ) (greatest : ℕ × H) (byte : ℕ) → IsAbove low children → place + 1 ≡ length children → slice_get children place ≡ Some greatest → greatest.0 < byte → All (λ b. b < byte) (key_bytes children)
+  all-below low [] place greatest byte above last at less = All-nil (λ b. b < byte)
+  all-below low (x ∷ y ∷ children) zero greatest byte above last at less = absurd (omega arith)
+  all-below low (x ∷ []) zero greatest byte above last at less =
+      let pair : x ≡ greatest = cc in
+      All-cons (λ b. b < byte) x.0 [] (omega (arith, less, ap (λ p. p.0) pair)) (All-nil (λ b. b < byte))
+  all-below low (x ∷ children) (suc place) greatest byte above last at less =
+      let later = (child_at-placed (suc x.0) children place greatest.0 greatest.1 above.2 at).0 in
+      All-cons (λ b. b < byte) x.0 (key_bytes children) (omega (arith, later, less)) (all-below (suc x.0) children place greatest byte above.2 (omega arith) at less)
+
+  -- a byte above the greatest is above each
+  pub all_below_greater : (children : ChildMap H) (greatest : ℕ × H) (byte : ℕ) → IsAscending (key_bytes children) → last_pair children ≡ Some greatest → greatest.0 < byte → All (λ b. b < byte) (key_bytes children)
+  all_below_greater [] greatest byte ascending last less = All-nil (λ b. b < byte)
+  all_below_greater (x ∷ children) greatest byte ascending last less = all-below 0 (x ∷ children) (length (x ∷ children) - 1) greatest byte ascending (omega arith) last less
 
   -- a node stays sound where there was room for the byte that is written
   pub sound_written : (prefix_room room : ℕ) (node : Inner H) (byte : ℕ) (child : H) → IsInner prefix_room room node → byte < 256 → HasRoomFor room node byte → IsInner prefix_room room (with_children node (with_child node.children byte child))

@@ -1,9 +1,9 @@
 -- Bytes that two texts have in common from the front on.
-use Rattle.std.proofs.Common.{◌≡◌, ℕ, ◌+◌, ◌<◌, ◌≤◌, min, nat_eq, drop, get_or, List, [], ◌∷◌, ◌++◌, length, refl, sym, ◌∙◌, ap, arith, length-append, Ok, false}
+use Rattle.std.proofs.Common.{◌≡◌, ℕ, ◌+◌, ◌<◌, ◌≤◌, nat_eq, List, [], ◌∷◌, ◌++◌, length, refl, sym, ◌∙◌, ap, arith, length-append, Ok, false}
 use Rattle.std.specs.List.{common_prefix_len}
 use Rattle.art_bytes.specs.Text.{IsPrefixOf}
 use Rattle.art_nodes.specs.PrefixMatch.{cheap_match}
-use Rattle.std.proofs.lemmas.List.Sums.{common_prefix_len-le, common_prefix_len-drop_yes}
+use Rattle.std.proofs.lemmas.List.Sums.{common_prefix_len-le}
 use Rattle.art_nodes.proofs.ChildMapLemmas.{eq-true, lt-false}
 
 -- a text has all its bytes in common with one that it begins
@@ -36,10 +36,3 @@ whole_match room prefix_len stored rest matched le is all =
     let same : common_prefix_len nat_eq stored rest ≡ length stored = omega (arith, is, (common_prefix_len-le nat_eq stored rest).0) in
     rw (lt-false room prefix_len le, eq-true (common_prefix_len nat_eq stored rest) (length stored) same)
     (ap (λ n. Ok (record { matched_bytes = n; any_implicit_bytes = false })) (sym is))
-
--- one more byte in common
-pub prefix_more : (a b : List ℕ) (place shorter : ℕ) → place < shorter → shorter ≡ min (length a) (length b) → get_or a place 0 ≡ get_or b place 0
-    → place + common_prefix_len nat_eq (drop place a) (drop place b) ≡ place + 1 + common_prefix_len nat_eq (drop (place + 1) a) (drop (place + 1) b)
-prefix_more a b place shorter within is same =
-    let more = common_prefix_len-drop_yes nat_eq a b place 0 0 (omega (arith, within, is)) (omega (arith, within, is)) (eq-true (get_or a place 0) (get_or b place 0) same) in
-    omega (arith, more)

@@ -18,6 +18,7 @@ mod leaf_node;
 mod pointers;
 mod sealed;
 
+pub use art_bytes::common_prefix_len;
 pub use art_header::{Header, NodeType, NonMaxIndex, TryFromByteError};
 pub use commands::child_node::ChildNode;
 pub use commands::command::{ChildCommand, ChildPairs, ChildReply};
@@ -26,9 +27,9 @@ pub use commands::sequence::Sequence;
 pub use inner_nodes::builder::{BuilderState, HasChild, HasOneChild, InnerNodeBuilder, NoChild};
 pub use inner_nodes::prefix_match::{
     AttemptOptimisticPrefixMatch, ExplicitMismatch, NodePrefix, OptimisticMismatch,
-    PessimisticMismatch, PrefixMatch, common_prefix_len,
+    PessimisticMismatch, PrefixMatch,
 };
-pub use inner_nodes::representations::inner_node_direct::InnerNodeDirect;
+pub use inner_nodes::representations::inner_node_direct::{InnerNode256, InnerNodeDirect};
 pub use inner_nodes::representations::inner_node_indirect::{InnerNode48, InnerNodeIndirect};
 pub use inner_nodes::representations::inner_node_sorted::{
     InnerNode4, InnerNode16, InnerNodeSorted,

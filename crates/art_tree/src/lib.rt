@@ -28,7 +28,7 @@ pub use art_mapped::{
 pub use art_nodes::{
     AttemptOptimisticPrefixMatch, BuilderState, ChildCommand, ChildIter, ChildNode, ChildPairs,
     ChildReply, ConcreteInnerNodePtr, ConcreteNodePtr, HasChild, HasOneChild, Header, InnerNode,
-    InnerNode4, InnerNode16, InnerNode48, InnerNodeBuilder, InnerNodeCommon, InnerNodeDirect,
+    InnerNode4, InnerNode16, InnerNode48, InnerNode256, InnerNodeBuilder, InnerNodeCommon, InnerNodeDirect,
     InnerNodeIndirect, InnerNodeSorted, LeafNode, NoChild, Node, NodePtr, NodeType, NonMaxIndex,
     OpaqueNodePtr, OptimisticMismatch, PairIter, PessimisticMismatch, PrefixMatch, Replayed,
     Sequence, TryFromByteError, common_prefix_len, replay, valid_range_bounds,

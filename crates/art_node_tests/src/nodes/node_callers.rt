@@ -1,16 +1,16 @@
 //! What another crate does with nodes, by their bounds alone: each of these is proved from the clauses
 //! and laws of the bounds, for every `PREFIX_LEN`, with no lemma but the public laws.
-ghost use Rattle.std.specs.Prelude.{◌≡◌, ◌≢◌, ◌+◌, ◌<◌, ◌≤◌, ◌↔◌, length, Some, None, IfSome, IsSome, IsTrue};
+ghost use Rattle.std.specs.Prelude.{◌≡◌, ◌≢◌, ◌+◌, ◌<◌, ◌≤◌, ◌↔◌, length, slice_get, Some, None, IfSome, IsSome, IsTrue};
 ghost use Rattle.std.specs.Cmp.Lexicographic.{pointwise};
 ghost use Rattle.art_header.specs.Header.{capped};
 ghost use Rattle.art_header.specs.NodeType.{least_children, most_children, shrunk_kind};
 ghost use Rattle.art_header.specs.declared.node_type.NodeType.TheVariants.{Node4, Node16, Node48, Node256, Leaf};
-ghost use Rattle.art_nodes.specs.ChildMap.{child_at};
+ghost use Rattle.art_nodes.specs.ChildMap.{child_at, first_pair, last_pair};
 ghost use Rattle.art_nodes.specs.Inner.{HasRoomFor, node_with_child};
-ghost use Rattle.art_nodes.specs.Pointers.{opaque_pointer, slab_key};
+ghost use Rattle.art_nodes.specs.Pointers.{node_kind, opaque_key, opaque_pointer, slab_key};
 
 use art_nodes::{
-    ConcreteInnerNodePtr, ConcreteNodePtr, HasOneChild, InnerNode, InnerNode4, InnerNode16,
+    ChildCommand, ChildReply, ConcreteInnerNodePtr, ConcreteNodePtr, HasOneChild, InnerNode, InnerNode4, InnerNode16,
     InnerNode48, InnerNodeBuilder, InnerNodeCommon, InnerNodeDirect, InnerNodeSorted, LeafNode,
     Node, NodePtr, OpaqueNodePtr, OptimisticMismatch, PessimisticMismatch, Sequence,
 };
@@ -73,6 +73,30 @@ fn write_second<K, V, const PREFIX_LEN: usize, N: InnerNodeCommon<K, V, PREFIX_L
     Some(builder.write_child(byte, child).build())
 }
 
+// A builder that has one child takes a second one behind it without a search, where its byte is greater.
+fn append_second<K, V, const PREFIX_LEN: usize>(
+    builder: InnerNodeBuilder<K, V, PREFIX_LEN, InnerNode4<K, V, PREFIX_LEN>, HasOneChild>,
+    byte: u8,
+    child: OpaqueNodePtr<K, V, PREFIX_LEN>,
+) -> Option<InnerNode4<K, V, PREFIX_LEN>>
+    ensures { IfSome result (λ node. node ≡ node_with_child builder byte child) }
+{
+    let last = builder.last_byte()?;
+    if byte <= last || builder.num_children() != 1 {
+        return None;
+    }
+    Some(builder.write_child_unchecked(byte, child).build())
+}
+
+// A builder in this state has one child.
+fn count_of_one<K, V, const PREFIX_LEN: usize, N: InnerNodeCommon<K, V, PREFIX_LEN>>(
+    builder: &InnerNodeBuilder<K, V, PREFIX_LEN, N, HasOneChild>,
+) -> usize
+    ensures { result ≡ 1 }
+{
+    builder.num_children()
+}
+
 // A node that is full grows, and then takes one child more.
 fn grow_then_write<const PREFIX_LEN: usize, N: InnerNode<PREFIX_LEN>>(
     node: &N,
@@ -115,7 +139,7 @@ fn count<const PREFIX_LEN: usize, N: InnerNode<PREFIX_LEN>>(node: &N) -> usize
 fn read_the_prefix<K, V, const PREFIX_LEN: usize, N: InnerNodeCommon<K, V, PREFIX_LEN>>(
     node: &N,
 ) -> (&[u8], usize)
-    ensures front { result.0.now ≡ (N.inner node.now).stored }
+    ensures stored { result.0.now ≡ (N.inner node.now).stored }
     ensures whole { result.1 ≡ (N.inner node.now).prefix_len }
     ensures capped { length result.0.now ≡ capped PREFIX_LEN result.1 }
 {
@@ -266,4 +290,66 @@ fn direct_from_sorted<K, V, const PREFIX_LEN: usize, const SIZE: usize>(
     ensures { result ≡ node.now }
 {
     InnerNodeDirect::from(node)
+}
+
+// The first and the last pair, taken from both ends of one iterator, and the pair after the first: no
+// pair comes twice.
+fn from_both_ends<K, V, const PREFIX_LEN: usize, N: InnerNodeCommon<K, V, PREFIX_LEN>>(
+    node: &N,
+) -> (
+    (u8, OpaqueNodePtr<K, V, PREFIX_LEN>),
+    (u8, OpaqueNodePtr<K, V, PREFIX_LEN>),
+    Option<(u8, OpaqueNodePtr<K, V, PREFIX_LEN>)>,
+)
+    requires { 2 ≤ length (N.inner node.now).children }
+    ensures first { first_pair (N.inner node.now).children ≡ Some result.0 }
+    ensures last { last_pair (N.inner node.now).children ≡ Some result.1 }
+    ensures none_between { length (N.inner node.now).children ≡ 2 → result.2 ≡ None }
+    ensures second { 2 < length (N.inner node.now).children →
+        result.2 ≡ slice_get (N.inner node.now).children 1 }
+{
+    let mut children = node.iter();
+    let first = children.next().unwrap();
+    let last = children.next_back().unwrap();
+    (first, last, children.next())
+}
+
+// Pointers are equal where their keys are.
+fn same_node<const PREFIX_LEN: usize, N>(
+    a: NodePtr<PREFIX_LEN, N>,
+    b: NodePtr<PREFIX_LEN, N>,
+) -> bool
+    ensures { IsTrue result ↔ (slab_key a ≡ slab_key b) }
+{
+    a == b
+}
+
+// Pointers to nodes of any kind are equal where their kinds and their keys are.
+fn same_opaque_node<K, V, const PREFIX_LEN: usize>(
+    a: OpaqueNodePtr<K, V, PREFIX_LEN>,
+    b: OpaqueNodePtr<K, V, PREFIX_LEN>,
+) -> bool
+    ensures { IsTrue result ↔ ((node_kind a ≡ node_kind b) × (opaque_key a ≡ opaque_key b)) }
+{
+    a == b
+}
+
+// Commands are equal where they are the same command.
+fn same_command<K, V, const PREFIX_LEN: usize>(
+    a: &ChildCommand<K, V, PREFIX_LEN>,
+    b: &ChildCommand<K, V, PREFIX_LEN>,
+) -> bool
+    ensures { IsTrue result ↔ (a.now ≡ b.now) }
+{
+    a == b
+}
+
+// Replies are equal where they are the same reply.
+fn same_reply<K, V, const PREFIX_LEN: usize>(
+    a: &ChildReply<K, V, PREFIX_LEN>,
+    b: &ChildReply<K, V, PREFIX_LEN>,
+) -> bool
+    ensures { IsTrue result ↔ (a.now ≡ b.now) }
+{
+    a == b
 }

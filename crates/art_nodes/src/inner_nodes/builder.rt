@@ -1,7 +1,8 @@
 //! A builder of inner nodes, which hands out none with fewer than two children.
-ghost use Rattle.std.specs.Prelude.{◌≡◌, ◌≤◌, ◌<◌, ◌^◌, length, All, IsNone};
+ghost use Rattle.std.specs.Prelude.{◌≡◌, ◌≤◌, ◌<◌, ◌^◌, ℕ, length, All, IsNone, IfSome};
+ghost use Rattle.std.specs.Option.{option_map};
 ghost use Rattle.art_header.specs.Header.{capped, empty_header};
-ghost use Rattle.art_nodes.specs.ChildMap.{child_at, key_bytes};
+ghost use Rattle.art_nodes.specs.ChildMap.{child_at, key_bytes, last_pair};
 ghost use Rattle.art_nodes.specs.Inner.{HasRoomFor, empty_inner, node_with_child};
 
 use crate::inner_nodes::representations::inner_node_sorted::InnerNode4;
@@ -93,11 +94,26 @@ impl<
         self.node.capacity()
     }
 
-    /// How many children have been written so far.
+    /// How many children have been written so far: none, one, or two and more, as the state says.
     pub fn num_children(&self) -> usize
-        ensures { result ≡ length (N.inner self.now).children }
+        ensures count { result ≡ length (N.inner self.now).children }
+        ensures state { S.Counts result }
     {
         self.node.num_children()
+    }
+
+    /// The greatest byte that has been written, or `None` where no child has. A byte above it is above
+    /// every byte there, as an unchecked write asks.
+    pub fn last_byte(&self) -> Option<u8>
+        ensures last { result ≡ option_map (λ pair. pair.0) (last_pair (N.inner self.now).children) }
+        ensures above { (byte : ℕ) → IfSome result (λ last. last < byte) →
+            All (λ other. other < byte) (key_bytes (N.inner self.now).children) }
+    {
+        if self.node.num_children() == 0 {
+            return None;
+        }
+        let (byte, _) = self.node.max();
+        Some(byte)
     }
 
     /// The child that has been written under this byte, if there is one.

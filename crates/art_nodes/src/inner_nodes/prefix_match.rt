@@ -1,6 +1,4 @@
 //! How much of a node's prefix a key matches.
-ghost use Rattle.std.specs.Prelude.{◌≡◌, nat_eq};
-ghost use Rattle.std.specs.List.{common_prefix_len};
 
 use crate::leaf_node::LeafNode;
 use crate::pointers::NodePtr;
@@ -71,17 +69,4 @@ impl From<OptimisticMismatch> for PessimisticMismatch {
             prefix_byte: None,
         }
     }
-}
-
-/// How many bytes the two have in common from the front on.
-pub fn common_prefix_len(a: &[u8], b: &[u8]) -> usize
-    ensures { result ≡ common_prefix_len nat_eq a.now b.now }
-{
-    let shorter = a.len().min(b.len());
-    for place in 0..shorter {
-        if a[place] != b[place] {
-            return place;
-        }
-    }
-    shorter
 }

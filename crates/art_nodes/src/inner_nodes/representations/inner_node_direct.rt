@@ -18,6 +18,9 @@ pub struct InnerNodeDirect<K, V, const PREFIX_LEN: usize> {
     child_pointers: ChildTable<OpaqueNodePtr<K, V, PREFIX_LEN>>,
 }
 
+/// A direct node, by the name of its kind.
+pub type InnerNode256<K, V, const PREFIX_LEN: usize> = InnerNodeDirect<K, V, PREFIX_LEN>;
+
 impl<K, V, const PREFIX_LEN: usize> Sealed for InnerNodeDirect<K, V, PREFIX_LEN> {}
 
 impl<K, V, const PREFIX_LEN: usize> Model for InnerNodeDirect<K, V, PREFIX_LEN> {

@@ -9,11 +9,11 @@ ghost use Rattle.art_nodes.specs.Inner.{Inner, HasRoomFor, empty_inner, IsInner,
 use crate::inner_nodes::builder::{InnerNodeBuilder, NoChild};
 use crate::inner_nodes::prefix_match::{
     AttemptOptimisticPrefixMatch, OptimisticMismatch, PessimisticMismatch, PrefixMatch,
-    common_prefix_len,
 };
 use crate::iteration::child_iter::ChildIter;
 use crate::pointers::OpaqueNodePtr;
 use crate::sealed::{InnerNodeInit, Sealed};
+use art_bytes::common_prefix_len;
 use art_header::{Header, NodeType};
 use std::ops::Bound;
 

@@ -1,8 +1,8 @@
-use Rattle.art_nodes.proofs.PrefixLemmas.{prefix_more}
+use Rattle.art_bytes.proofs.CommonPrefix.{prefix_more}
 use Rattle.std.proofs.Common.{nat_eq, drop, arith, ◌∙◌}
 use Rattle.std.proofs.lemmas.List.{length-drop}
 use Rattle.std.proofs.lemmas.List.Sums.{common_prefix_len-le}
-use Rattle.art_nodes.proofs.inner_nodes.prefix_match.common_prefix_len.Goals as goal
+use Rattle.art_bytes.proofs.prefix.common_prefix_len.Goals as goal
 
 pub returns : goal.returns
 returns c =

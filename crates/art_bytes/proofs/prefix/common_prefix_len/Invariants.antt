@@ -1,6 +1,6 @@
 use Rattle.std.proofs.Common.{◌≡◌, ◌+◌, drop, nat_eq}
 use Rattle.std.specs.List.{common_prefix_len}
-use Rattle.art_nodes.proofs.inner_nodes.prefix_match.common_prefix_len.Given as goal
+use Rattle.art_bytes.proofs.prefix.common_prefix_len.Given as goal
 
 -- the bytes so far are equal
 abbrev pub invariant-loop-place : goal.invariant-loop-place
