@@ -1,4 +1,4 @@
--- A leaf more beside a node that its key parts from, under a new node.
+-- Insertion: a new inner node over a new leaf and the node from which its key differs.
 use Rattle.std.proofs.Common.{◌≡◌, ◌≢◌, ◌∙◌, ℕ, ◌+◌, ◌-◌, ◌<◌, ◌≤◌, ◌^◌, Bool, true, false, nat_lt, if◌then◌else◌, List, [], ◌∷◌, ◌++◌, length, length-append, take, drop, All, AllPairs, Contains, Some, refl, sym, ap, subst, inl, inr, arith, append-nil}
 use Rattle.std.proofs.lemmas.Option.{slice_get_within}
 use Rattle.std.proofs.lemmas.List.Elements.{All-contains, Contains-append_right, Contains-append_cases}
@@ -83,7 +83,7 @@ pub record ForkPlace {K V : Type 0} {P : ℕ} (text : K → List ℕ) (arena : A
   pub fits : fork.byte < 256
   pub node_fits : fork.node_byte < 256
 
--- also once room was made in the arena
+-- also after spare capacity was made in the arena
 pub fork-reserved : {K V : Type 0} {P : ℕ} {text : K → List ℕ} (old reserved : ArenaOf K V P) {root : OpaqueNodePtr K V P} {spot : Spot K V P} {fork : Fork} {key : K} → (tree : Tree (OpaqueNodePtr K V P)) × IsAlone text old root tree × Parts tree (text key) spot fork → SameNodes old reserved
     → (fork.byte < 256) × (fork.node_byte < 256) → ForkPlace text reserved root spot fork key
 fork-reserved {text = text} old reserved {root = root} (tree, alone, parts) same (fits, node_fits) = record { tree = tree; alone = alone-same text old reserved same root tree alone; parts = parts; fits = fits; node_fits = node_fits }

@@ -1,4 +1,4 @@
--- A leaf more in a tree: what the steps of an insert leave.
+-- Insertion: a tree with one leaf more, after the steps of an insert.
 use Rattle.std.proofs.Common.{◌≡◌, ◌≢◌, ◌⊎◌, ◌∙◌, ℕ, ◌<◌, ◌^◌, List, [], ◌∷◌, ◌++◌, length, map, All, Contains, Some, refl, sym, ap, subst, inl, inr, arith, append_assoc}
 use Rattle.std.proofs.lemmas.List.{map-append}
 use Rattle.std.proofs.lemmas.List.Elements.{All-append, All-cons}
@@ -243,7 +243,7 @@ module _ {K V : Type 0} {P : ℕ} (text : K → List ℕ) (old linked new : Aren
               let now = added-alone alone in
               ((plug context taken, now), added-entered alone (apart [] (plug context part) alone.is_tree.sound) (apart [] (plug context taken) now.is_tree.sound))
 
--- where the first step only made room, what is entered after it is entered after all
+-- where the first step only made spare capacity, what is added after it is added by both
 pub entered-from : {K V : Type 0} {P : ℕ} (text : K → List ℕ) (old reserved last : ArenaOf K V P) (key : K) (value : V) (root : OpaqueNodePtr K V P) (tree : Tree (OpaqueNodePtr K V P)) → IsAlone text old root tree → AreApart (texts tree) → SameNodes old reserved
     → IsEntered text reserved last key value → IsEntered text old last key value
 entered-from text old reserved last key value root tree alone apart same entered =

@@ -1,4 +1,4 @@
--- The gap among the leaves where a new one goes.
+-- Insertion: the gap among the leaves for the new one.
 use Rattle.std.proofs.Common.{◌≡◌, ◌∙◌, ℕ, ◌<◌, ◌^◌, List, [], ◌∷◌, ◌++◌, length, map, AllPairs, Contains, refl, sym, ap, subst, arith, append_assoc}
 use Rattle.std.specs.declared.cmp.Ordering.TheVariants.{Less}
 use Rattle.std.proofs.lemmas.List.{map-append}

@@ -1,4 +1,4 @@
--- Entries of which none has a fault.
+-- Loading: entries of which none has a fault.
 use Rattle.std.proofs.Common.{◌≡◌, ◌∙◌, ℕ, zero, suc, ◌+◌, ◌<◌, ◌≤◌, ◌^◌, Bool, true, false, List, [], ◌∷◌, length, take, get_or, All, Option, Some, None, IfSome, refl, sym, ap, subst, inl, inr, arith, nat_lt, nat_eq, ◌==◌}
 use Rattle.std.specs.declared.cmp.Ordering.{Ordering}
 use Rattle.std.specs.declared.cmp.Ordering.TheVariants.{Less, Equal, Greater}
@@ -16,7 +16,7 @@ use Rattle.art_tree.specs.declared.loading.check.LoadRefusal.TheVariants.{KeyToo
 fork-later : (x y : ℕ) (a b : List ℕ) → x ≡ y → Forks a b → Forks (x ∷ a) (y ∷ b)
 fork-later x y a b same (at, fork) = (suc at, record { in_first = omega (arith, fork.in_first); in_second = omega (arith, fork.in_second); shared = ap (λ z. z ∷ take at a) same ∙ ap (λ rest. y ∷ rest) fork.shared; less = fork.less })
 
--- a text that is less than another, and none of its fronts, parts from it
+-- a text that is less than another, and no prefix of it, differs from it at some byte
 forks : (a b : List ℕ) → text_order a b ≡ Less → starts_with nat_eq b a ≡ false → Forks a b
 forks [] [] less apart = absurd (cc)
 forks [] (y ∷ b) less apart = absurd (cc)

@@ -1,4 +1,4 @@
--- A leaf that a search finds, and that is taken out of its list and out of its arena.
+-- Removal: a leaf that a search finds, and that is removed from its list and from its arena.
 use Rattle.std.proofs.Common.{◌≡◌, ◌≢◌, ◌∙◌, ℕ, ◌≤◌, ◌+◌, length, List, [], ◌∷◌, ◌++◌, All, Contains, Option, Some, None, refl, sym, ap, subst, inl, inr, arith, IfNone}
 use Rattle.std.proofs.lemmas.List.Elements.{All-cons, All-contains, All-head, All-tail, Contains-append_right}
 use Rattle.art_header.specs.declared.node_type.NodeType.{NodeType}
@@ -83,7 +83,7 @@ module _ {K V : Type 0} {P : ℕ} (old linked : ArenaOf K V P) (this : ℕ) (sam
           };
         }
 
--- no kind has less room, where a leaf is given up
+-- no kind has less spare capacity, where a leaf is deallocated
 module _ {K V : Type 0} {P : ℕ} (old linked new : ArenaOf K V P) where
   pub no-less-room : SameRoom old linked → room linked kinds.Leaf ≤ room new kinds.Leaf → SameOtherRoom linked new kinds.Leaf → (kind : NodeType) → room old kind ≤ room new kind
   no-less-room stays leaf others kinds.Node4 = omega (arith, stays kinds.Node4, others kinds.Node4 (λ e. cc))
@@ -92,7 +92,7 @@ module _ {K V : Type 0} {P : ℕ} (old linked new : ArenaOf K V P) where
   no-less-room stays leaf others kinds.Node256 = omega (arith, stays kinds.Node256, others kinds.Node256 (λ e. cc))
   no-less-room stays leaf others kinds.Leaf = omega (arith, stays kinds.Leaf, leaf)
 
--- of one kind after the other there is room for one node more at most
+-- one kind after the other has spare capacity for one node more at most
 module _ {K V : Type 0} {P : ℕ} where
   pub frees-after : (old mid new : ArenaOf K V P) (kind : NodeType) → SameRoom old mid → FreesOne mid new kind → FreesOne old new kind
   frees-after old mid new kind stays frees = record {
@@ -184,7 +184,7 @@ hangs-in {pointer = pointer} {parent = parent} {byte = byte} hangs =
     subst (λ t. Contains (leaves t) leaf) hangs.whole (subst (λ all. Contains all leaf) (sym (leaves-plug place (Leaf pointer hangs.text)))
     (Contains-append_right (leaves_before place) (leaf ∷ leaves_after place) leaf (0, omega arith, refl)))
 
--- what an option tells where there is no value
+-- what follows from an option where there is no value
 pub from-if-none : {X : Type 0} (o : Option X) (Q : Type 0) → o ≡ None → IfNone o Q → Q
 from-if-none None Q is holds = holds
 from-if-none (Some y) Q is holds = absurd (cc)

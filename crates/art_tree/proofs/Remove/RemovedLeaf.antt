@@ -1,4 +1,4 @@
--- A leaf less in a tree: what the steps of a removal leave.
+-- Removal: a tree with one leaf less, after the steps of a removal.
 use Rattle.std.proofs.Common.{◌≡◌, ◌≢◌, ◌⊎◌, ◌∙◌, ℕ, ◌<◌, ◌^◌, List, [], ◌∷◌, ◌++◌, length, map, All, Contains, Some, refl, sym, ap, subst, inl, inr, arith, append_assoc}
 use Rattle.std.proofs.lemmas.List.{map-append}
 use Rattle.std.proofs.lemmas.List.Elements.{All-append, All-tail, Contains-append_right}
@@ -214,7 +214,7 @@ module _ {K V : Type 0} {P : ℕ} (text : K → List ℕ) (old cut new : ArenaOf
                 was = was apart_old;
               }
 
--- where the first step only made room, what is removed after it is removed after all
+-- where the first step only made spare capacity, what is removed after it is removed by both
 pub removed-from : {K V : Type 0} {P : ℕ} (text : K → List ℕ) (old reserved last : ArenaOf K V P) (x : List ℕ) (root_now : OpaqueNodePtr K V P) (entry : K × V) (root : OpaqueNodePtr K V P) (tree : Tree (OpaqueNodePtr K V P)) → IsAlone text old root tree → AreApart (texts tree) → SameNodes old reserved
     → IsRemoved text reserved last x root_now entry → IsRemoved text old last x root_now entry
 removed-from text old reserved last x root_now entry root tree alone apart same removed =

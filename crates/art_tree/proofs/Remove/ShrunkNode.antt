@@ -1,4 +1,4 @@
--- Inner nodes that take a child less, or the prefix of the node above.
+-- Removal: inner nodes with one child less, or with the prefix of the node above.
 use Rattle.std.proofs.Common.{◌≡◌, ◌≢◌, ◌∙◌, ℕ, ◌+◌, ◌-◌, ◌<◌, ◌≤◌, min, List, [], ◌∷◌, ◌++◌, length, length-append, take, None, refl, sym, ap, subst, inl, inr, arith, append_assoc, ◌==◌, ◌↔◌, IsTrue}
 use Rattle.std.proofs.lemmas.Bool.{cases_eq, cases_lt, eq-eqb, eqb-true, ne_eqb}
 use Rattle.std.proofs.Math.Seq.{take-append-add}
@@ -148,7 +148,7 @@ module _ {K V : Type 0} {P : ℕ} where
       pub not-smallest : ((node : Inner (OpaqueNodePtr K V P)) → held old pointer ≡ HeldInner node → (2 < length node.children) × (least_children (node_kind pointer) ≤ length node.children)) → node_kind pointer ≢ kinds.Node4
       not-smallest many kind = omega (arith, (many before.0 before.1).0, fewest before.0 before.1, ap least_children kind)
 
-      -- there is the room that there was
+      -- the spare capacity is unchanged
       pub room-left : HasRoomToShrink old pointer → SameRoom old mid
           → ((node : Inner (OpaqueNodePtr K V P)) → held old pointer ≡ HeldInner node → (2 < length node.children) × (least_children (node_kind pointer) ≤ length node.children)) → 0 < room mid (shrunk_kind (node_kind pointer))
       room-left rooms same_room many =

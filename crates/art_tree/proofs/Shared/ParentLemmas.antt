@@ -1,4 +1,4 @@
--- Where a node hangs, and what stands beside it.
+-- The parent of a node, and the nodes beside it.
 use Rattle.std.proofs.Common.{◌≡◌, ◌≢◌, ◌∙◌, ℕ, List, [], ◌∷◌, ◌++◌, Option, Some, None, IsNone, Result, Ok, Err, OnOk, OnErr, Bool, true, false, sym, ap, subst, refl, append-nil}
 use Rattle.std.proofs.lemmas.Option.{same_Some}
 use Rattle.art_header.specs.NodeType.{most_children}
