@@ -20,12 +20,12 @@ ghost use Rattle.art_tree.specs.Search.{leaf_pointer};
 ghost use Rattle.art_arena.specs.declared.ends.End.TheVariants.{First, Last};
 ghost use Rattle.art_tree.specs.declared.insert.InsertRefusal.TheVariants.{OutOfMemory};
 
-mod link;
 mod added_child;
+mod link;
 mod place;
 
-use crate::insert::link::link_leaf;
 use crate::insert::added_child::{add_child, fork_node, reserve_growth, trim};
+use crate::insert::link::link_leaf;
 use crate::insert::place::{Fork, Place, Spot, find_place};
 use crate::laws::{
     each_pointer_is_at_one_place, lists_are_spelled_where_links_are_kept, no_text_begins_another,
