@@ -51,7 +51,7 @@ apart : (q : List ℕ) (c d : ℕ) (r s t : List ℕ) → (c ≡ d → ⊥) → 
 apart [] c d r s t differ same = differ (cc)
 apart (x ∷ q) c d r s t differ same = let tails : (q ++ c ∷ []) ++ r ≡ ((q ++ d ∷ []) ++ s) ++ t = cc in apart q c d r s t differ tails
 
--- neither begins the other
+-- neither is a prefix of the other
 pub PartsBefore-apart : (a b : List ℕ) → PartsBefore a b → (IsPrefixOf a b → ⊥) × (IsPrefixOf b a → ⊥)
 PartsBefore-apart a b parts =
     let q : List ℕ = parts.front in (

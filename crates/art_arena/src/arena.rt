@@ -54,12 +54,12 @@ impl<A, B, C, D, L> Model for Slabs<A, B, C, D, L> {
 /// A contract sees the node at each pointer (`held`), and for each kind its spare capacity
 /// (`room`): how many more nodes of the kind can be allocated without memory. A call changes at
 /// most the node that it names. Only `allocate_node_ptr` and `reserve` take memory. Each call takes
-/// a constant number of steps, except where a slab grows.
+/// a constant number of steps, unless a slab grows.
 ///
 /// The type names its nodes, so whoever has an arena knows that they fit in memory.
 ///
-/// Two leaves, one of which is freed again (`put` is `allocate_node_ptr` of a node that is not
-/// refused):
+/// Two leaves, one of which is deallocated again (`put` is an `allocate_node_ptr` that must
+/// succeed):
 ///
 /// (from crates/art_tree_tests/src/arena/calls.rt)
 /// ```rust

@@ -39,7 +39,7 @@ impl<K: AsBytes, V, const PREFIX_LEN: usize> HoldsOneTree<OpaqueNodePtr<K, V, PR
         IsArt K.text arena root × HasKeys K.text K.is_key arena };
 }
 
-/// An arena and the root of its one tree. Callers name it [`ArtTree`], where the example is.
+/// An arena and the root of its one tree. Callers name it [`ArtTree`], which has an example.
 #[derive(Drop)]
 pub struct Rooted<A: HoldsOneTree<R>, R> {
     arena: A,

@@ -22,7 +22,7 @@ use Rattle.art_tree.proofs.Shared.ExchangedSubtree.{the-one, leaves-plug, sound-
 use Rattle.art_bytes.proofs.PrefixLaws.{prefix-shorter, prefix-on}
 use Rattle.art_tree.proofs.Shared.PrefixLemmas.{key-on}
 
--- neither text begins the other
+-- neither text is a prefix of the other
 abbrev pub IsApart : List ℕ → List ℕ → Type 0
 IsApart a b = (IsPrefixOf a b → ⊥) × (IsPrefixOf b a → ⊥)
 
@@ -38,7 +38,7 @@ parted-apart : (front : List ℕ) (a b : ℕ) (x y : List ℕ) → a ≢ b → I
 parted-apart front a b x y differ on_x on_y = (no-prefix front a b x y differ on_x on_y, no-prefix front b a y x (λ same. differ (sym same)) on_y on_x)
 
 module _ {H : Type 0} where
-  -- where no text begins another, a text that begins one of them is that one
+  -- where no text is a prefix of another, a text that is a prefix of one of them is that one
   same-prefix : (all : List (H × List ℕ)) (p q : H) (x y : List ℕ) → AreApart (map (λ leaf. leaf.1) all) → Contains all (p, x) → Contains all (q, y) → IsPrefixOf x y → x ≡ y
   same-prefix [] p q x y apart (k, inside, is) second begins = absurd (omega (arith, inside))
   same-prefix (z ∷ zs) p q x y apart first second begins = elim (Contains-append_cases (z ∷ []) zs (p, x) first) [
@@ -125,7 +125,7 @@ module _ {K V : Type 0} {P : ℕ} (law : (tree : Tree (OpaqueNodePtr K V P)) →
       let under = subst (IsSound path) lacks.part (part-sound lacks.at) in
       spot-apart lacks.at (λ q x inside. no-branch-apart (path ++ lacks.prefix) lacks.branches byte key under.2 lacks.absent lacks.leads q x (subst (λ part. Contains (leaves part) (q, x)) lacks.part inside))
 
-  -- and so is one that parts from the texts at a node
+  -- and so is one that differs from the texts at a node
   pub fork-apart : (fork : Fork) → Parts tree key spot fork → (q : OpaqueNodePtr K V P) (x : List ℕ) → Contains (leaves tree) (q, x) → IsApart x key
   fork-apart fork parts =
       let path = path_to parts.at.context in

@@ -332,7 +332,7 @@ module _ {K V : Type 0} {P : ℕ} (text : K → List ℕ) (arena : ArenaOf K V P
               λ same. omega (arith, longer, ap length same),
             ))
 
-        -- it parts from the prefix
+        -- it differs from the prefix
         pub node-parts : n < length here.prefix → spot.depth + n < length key → (other : ℕ) → other ≡ get_or here.prefix n 0 → Parts tree key spot (record { index = spot.depth + n; byte = get_or key (spot.depth + n) 0; node_byte = other })
         node-parts short inside other other_is =
             parts-at way (spot.depth + n) (get_or key (spot.depth + n) 0) other told-way node-alike (omega arith)
@@ -396,7 +396,7 @@ module _ {K V : Type 0} {P : ℕ} (text : K → List ℕ) (arena : ArenaOf K V P
           omega (arith, ap length leaf-alike.b_is, length-append leaf-alike.front leaf-alike.right, leaf-alike.long),
         )
 
-        -- one begins the other
+        -- one is a prefix of the other
         pub leaf-clash : leaf_text text leaf ≢ key → (spot.depth + n ≡ length (leaf_text text leaf)) ⊎ (spot.depth + n ≡ length key) → Clashes (texts tree) key
         leaf-clash differ ends = clash-in-part (leaf_text text leaf) (subst (λ part. Contains (texts part) (leaf_text text leaf)) (sym here.part) (0, omega arith, refl)) (elim ends [
           | inl first ↦ inl (alike-first (leaf_text text leaf) key (spot.depth + n) leaf-alike (omega (arith, first)), differ)

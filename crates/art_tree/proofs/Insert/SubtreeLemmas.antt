@@ -58,7 +58,7 @@ record IsParted {H : Type 0} (low : ℕ) (branches : Branches H) (byte : ℕ) : 
   pub lesser : filter (λ p. nat_lt p.0 byte) (branch_roots branches) ≡ branch_roots before
   pub greater : filter (λ p. nat_lt byte p.0) (branch_roots branches) ≡ branch_roots after
 
--- a place for a byte in a node, what stands there with a leaf, and what comes after it
+-- a place for a byte in a node, what is there with a leaf, and what comes after it
 pub record HasChildPlace {H : Type 0} (path prefix : List ℕ) (branches : Branches H) (byte : ℕ) : Type 0 where
   pub before : Branches H
   pub after : Branches H
@@ -226,7 +226,7 @@ module _ {H : Type 0} where
     | inr upto ↦ rw (le-ltb byte other upto) (ap (λ root. (other, root) ∷ (byte, leaf) ∷ []) (sym (root-trimmed len part)))
   ]
 
-  -- where a key parts from a tree there is a place for it in a new node above the tree
+  -- where a key differs from a tree there is a place for it in a new node above the tree
   pub fork-place : (path : List ℕ) (part : Tree H) (key : List ℕ) (index byte node_byte : ℕ) → IsSound path part → IsPrefixOf path key → length path ≤ index → slice_get key index ≡ Some byte → byte < 256 → node_byte < 256 → byte ≢ node_byte
       → IsPrefixOf (take index key ++ node_byte ∷ []) (reach path part) → HasForkPlace path (take (index - length path) (drop (length path) key)) key byte node_byte (index + 1 - length path) part
   fork-place path part key index byte node_byte sound begins past at fits node_fits differ shares =

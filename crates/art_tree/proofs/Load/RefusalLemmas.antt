@@ -38,7 +38,7 @@ between i text next Less true is apart none = absurd (let wrong : Some _ ≡ Non
 between i text next Equal front is apart none = absurd (let wrong : Some _ ≡ None = rw is at none in cc)
 between i text next Greater front is apart none = absurd (let wrong : Some _ ≡ None = rw is at none in cc)
 
--- entries without a fault are short, and each parts from the next
+-- entries without a fault are short, and each differs from the next
 pub loadable : (texts : List (List ℕ)) → ((i : ℕ) → i < length texts → fault_at texts i ≡ None) → AreLoadable texts
 loadable texts none = record { short = is_short; fork = parts }
   where
@@ -57,7 +57,7 @@ loadable texts none = record { short = is_short; fork = parts }
 pub each-short : (texts : List (List ℕ)) → HaveNoFault texts → All (λ x. length x < 2 ^ 32) texts
 each-short texts fine = let fits = loadable texts fine.1 in All-from_get_or (λ x. length x < 2 ^ 32) texts [] fits.short
 
--- a text that parts from another upwards is less
+-- a text that differs from another by a smaller byte is less
 pub forks-less : (a b : List ℕ) (at : ℕ) → IsFork a b at → text_order a b ≡ Less
 forks-less [] b at fork = absurd (omega (arith, fork.in_first))
 forks-less (x ∷ a) [] at fork = absurd (omega (arith, fork.in_second))

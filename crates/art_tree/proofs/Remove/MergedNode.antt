@@ -199,7 +199,7 @@ module _ {K V : Type 0} {P : ℕ} {text : K → List ℕ} {old : ArenaOf K V P} 
             pub parent-joined : held joined parent ≢ Nothing
             parent-joined none = parent-held (sym parent-same ∙ none)
 
-            -- the arena once the node is given up
+            -- the arena after the node is deallocated
             module _ (new : ArenaOf K V P) (given : Changes joined new parent Nothing) where
               two-cuts : AreCuts text old cut new hangs.upper (part_there hangs) root leaf child
               two-cuts = record {

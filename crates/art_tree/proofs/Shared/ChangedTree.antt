@@ -81,7 +81,7 @@ module _ {K V : Type 0} {P : ℕ} where
         at_root = λ now top_is. root-under higher p prefix before byte after part now ∙ at_root ∙ sym is;
       }
 
--- a node hangs where it hung in an arena that keeps the parent
+-- a node is where it was in an arena that keeps the parent
 there-at : {H : Type 0} (xs : ChildMap H) (byte : ℕ) (child : H) (ys : ChildMap H) → child_at (xs ++ (byte, child) ∷ ys) byte ≢ None
 there-at [] byte child ys = by_test (byte == byte) (grind (arith, nat_tests))
   where

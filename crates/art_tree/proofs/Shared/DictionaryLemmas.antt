@@ -123,7 +123,7 @@ module _ {K V : Type 0} {P : ℕ} (text : K → List ℕ) where
         | inr later ↦ branch-leaf-held-in others stand q x later
       ]
 
--- no text begins another
+-- no text is a prefix of another
 abbrev pub AreApart : List (List ℕ) → Type 0
 AreApart texts = AllPairs (λ a b. (IsPrefixOf a b → ⊥) × (IsPrefixOf b a → ⊥)) texts
 
