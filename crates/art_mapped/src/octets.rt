@@ -7,10 +7,10 @@ use crate::element::{Element, Single};
 use crate::written::{Domain, ToBigEndian};
 use std::net::{Ipv4Addr, Ipv6Addr};
 
-/// The form of addresses: their octets in order.
+/// The form of IP addresses: their octets in order.
 pub struct Octets;
 
-/// IP addresses, `Ipv4Addr` and `Ipv6Addr`, as their octets in order.
+/// IP addresses, `Ipv4Addr` and `Ipv6Addr`, as their 4 or 16 octets in order. Takes no memory.
 pub type ToOctets = ToBigEndian<Octets>;
 
 impl Domain<Octets> for Ipv4Addr {

@@ -16,10 +16,10 @@ pub struct Unsigned;
 
 impl IntegerForm for Unsigned {}
 
-/// Unsigned integers as their big endian bytes.
+/// Unsigned integers as their big-endian bytes.
 ///
-/// Its domains are `u8` to `u128`, `usize`, their types of numbers that are not 0, and arrays and vectors of
-/// these, as the elements' bytes joined.
+/// The domains are `u8` to `u128`, `usize`, their `NonZero` types, and arrays and vectors of these,
+/// as the elements' bytes joined. Only arrays and vectors take memory.
 pub type ToUBE = ToBigEndian<Unsigned>;
 
 impl Domain<Unsigned> for u8 {
