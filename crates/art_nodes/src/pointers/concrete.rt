@@ -1,4 +1,4 @@
-//! Pointers to nodes with the type of the node as the variant of an enum.
+//! Pointers to nodes, as enums with a variant for each kind of node.
 ghost use Rattle.std.specs.Prelude.{◌≡◌};
 ghost use Rattle.art_nodes.specs.ConcretePointers.{opaque_of, opaque_of_inner, concrete_of};
 
@@ -10,7 +10,7 @@ use crate::pointers::{NodePtr, OpaqueNodePtr};
 use art_header::NodeType;
 use std::marker::PhantomData;
 
-/// A pointer to a node of any kind, by kind.
+/// A pointer to a node of any kind, with a variant for each kind.
 #[derive_where(Clone, Copy)]
 pub enum ConcreteNodePtr<K, V, const PREFIX_LEN: usize> {
     /// A pointer to a sorted node for at most 4 children.
@@ -25,7 +25,7 @@ pub enum ConcreteNodePtr<K, V, const PREFIX_LEN: usize> {
     LeafNode(NodePtr<PREFIX_LEN, LeafNode<K, V, PREFIX_LEN>>),
 }
 
-/// A pointer to an inner node of any kind, by kind.
+/// A pointer to an inner node of any kind, with a variant for each kind.
 #[derive_where(Clone, Copy)]
 pub enum ConcreteInnerNodePtr<K, V, const PREFIX_LEN: usize> {
     /// A pointer to a sorted node for at most 4 children.
@@ -39,7 +39,7 @@ pub enum ConcreteInnerNodePtr<K, V, const PREFIX_LEN: usize> {
 }
 
 impl<K, V, const PREFIX_LEN: usize> ConcreteNodePtr<K, V, PREFIX_LEN> {
-    /// The same pointer, with the kind of the node as a part of the value.
+    /// The same pointer, with the kind of the node as a value.
     pub fn to_opaque(self) -> OpaqueNodePtr<K, V, PREFIX_LEN>
         ensures pointer { result ≡ opaque_of self }
         ensures undone { concrete_of result ≡ self }
@@ -60,7 +60,7 @@ impl<K, V, const PREFIX_LEN: usize> ConcreteNodePtr<K, V, PREFIX_LEN> {
 }
 
 impl<K, V, const PREFIX_LEN: usize> ConcreteInnerNodePtr<K, V, PREFIX_LEN> {
-    /// The same pointer, with the kind of the node as a part of the value.
+    /// The same pointer, with the kind of the node as a value.
     pub fn to_opaque(self) -> OpaqueNodePtr<K, V, PREFIX_LEN>
         ensures { result ≡ opaque_of_inner self }
     {
@@ -85,7 +85,7 @@ impl<K, V, const PREFIX_LEN: usize> OpaqueNodePtr<K, V, PREFIX_LEN> {
     }
 }
 
-/// The same pointer, as that of a `Node4`.
+/// The same pointer, as one to a `Node4`.
 impl<K, V, const PREFIX_LEN: usize> From<NodePtr<PREFIX_LEN, InnerNode4<K, V, PREFIX_LEN>>>
     for ConcreteNodePtr<K, V, PREFIX_LEN> {
     ghost use Rattle.std.specs.Prelude.{◌≡◌};
@@ -98,7 +98,7 @@ impl<K, V, const PREFIX_LEN: usize> From<NodePtr<PREFIX_LEN, InnerNode4<K, V, PR
     }
 }
 
-/// The same pointer, as that of a `Node16`.
+/// The same pointer, as one to a `Node16`.
 impl<K, V, const PREFIX_LEN: usize> From<NodePtr<PREFIX_LEN, InnerNode16<K, V, PREFIX_LEN>>>
     for ConcreteNodePtr<K, V, PREFIX_LEN> {
     ghost use Rattle.std.specs.Prelude.{◌≡◌};
@@ -111,7 +111,7 @@ impl<K, V, const PREFIX_LEN: usize> From<NodePtr<PREFIX_LEN, InnerNode16<K, V, P
     }
 }
 
-/// The same pointer, as that of a `Node48`.
+/// The same pointer, as one to a `Node48`.
 impl<K, V, const PREFIX_LEN: usize> From<NodePtr<PREFIX_LEN, InnerNode48<K, V, PREFIX_LEN>>>
     for ConcreteNodePtr<K, V, PREFIX_LEN> {
     ghost use Rattle.std.specs.Prelude.{◌≡◌};
@@ -124,7 +124,7 @@ impl<K, V, const PREFIX_LEN: usize> From<NodePtr<PREFIX_LEN, InnerNode48<K, V, P
     }
 }
 
-/// The same pointer, as that of a `Node256`.
+/// The same pointer, as one to a `Node256`.
 impl<K, V, const PREFIX_LEN: usize> From<NodePtr<PREFIX_LEN, InnerNodeDirect<K, V, PREFIX_LEN>>>
     for ConcreteNodePtr<K, V, PREFIX_LEN> {
     ghost use Rattle.std.specs.Prelude.{◌≡◌};
@@ -137,7 +137,7 @@ impl<K, V, const PREFIX_LEN: usize> From<NodePtr<PREFIX_LEN, InnerNodeDirect<K, 
     }
 }
 
-/// The same pointer, as that of a leaf.
+/// The same pointer, as one to a leaf.
 impl<K, V, const PREFIX_LEN: usize> From<NodePtr<PREFIX_LEN, LeafNode<K, V, PREFIX_LEN>>>
     for ConcreteNodePtr<K, V, PREFIX_LEN> {
     ghost use Rattle.std.specs.Prelude.{◌≡◌};
@@ -150,7 +150,7 @@ impl<K, V, const PREFIX_LEN: usize> From<NodePtr<PREFIX_LEN, LeafNode<K, V, PREF
     }
 }
 
-/// The same pointer, as that of a `Node4`.
+/// The same pointer, as one to a `Node4`.
 impl<K, V, const PREFIX_LEN: usize> From<NodePtr<PREFIX_LEN, InnerNode4<K, V, PREFIX_LEN>>>
     for ConcreteInnerNodePtr<K, V, PREFIX_LEN> {
     ghost use Rattle.std.specs.Prelude.{◌≡◌};
@@ -163,7 +163,7 @@ impl<K, V, const PREFIX_LEN: usize> From<NodePtr<PREFIX_LEN, InnerNode4<K, V, PR
     }
 }
 
-/// The same pointer, as that of a `Node16`.
+/// The same pointer, as one to a `Node16`.
 impl<K, V, const PREFIX_LEN: usize> From<NodePtr<PREFIX_LEN, InnerNode16<K, V, PREFIX_LEN>>>
     for ConcreteInnerNodePtr<K, V, PREFIX_LEN> {
     ghost use Rattle.std.specs.Prelude.{◌≡◌};
@@ -176,7 +176,7 @@ impl<K, V, const PREFIX_LEN: usize> From<NodePtr<PREFIX_LEN, InnerNode16<K, V, P
     }
 }
 
-/// The same pointer, as that of a `Node48`.
+/// The same pointer, as one to a `Node48`.
 impl<K, V, const PREFIX_LEN: usize> From<NodePtr<PREFIX_LEN, InnerNode48<K, V, PREFIX_LEN>>>
     for ConcreteInnerNodePtr<K, V, PREFIX_LEN> {
     ghost use Rattle.std.specs.Prelude.{◌≡◌};
@@ -189,7 +189,7 @@ impl<K, V, const PREFIX_LEN: usize> From<NodePtr<PREFIX_LEN, InnerNode48<K, V, P
     }
 }
 
-/// The same pointer, as that of a `Node256`.
+/// The same pointer, as one to a `Node256`.
 impl<K, V, const PREFIX_LEN: usize> From<NodePtr<PREFIX_LEN, InnerNodeDirect<K, V, PREFIX_LEN>>>
     for ConcreteInnerNodePtr<K, V, PREFIX_LEN> {
     ghost use Rattle.std.specs.Prelude.{◌≡◌};
@@ -202,7 +202,7 @@ impl<K, V, const PREFIX_LEN: usize> From<NodePtr<PREFIX_LEN, InnerNodeDirect<K, 
     }
 }
 
-/// The same pointer, by the same kind.
+/// The same pointer, as one to any node.
 impl<K, V, const PREFIX_LEN: usize> From<ConcreteInnerNodePtr<K, V, PREFIX_LEN>>
     for ConcreteNodePtr<K, V, PREFIX_LEN> {
     ghost use Rattle.std.specs.Prelude.{◌≡◌};

@@ -12,14 +12,15 @@ use art_header::{Header, NodeType};
 use std::marker::Model;
 use std::ops::Bound;
 
-/// An inner node that keeps its bytes in ascending order and its children beside them.
+/// An inner node of at most `SIZE` children that keeps its bytes in ascending order and its
+/// children in the same order. Look-ups, writes and removals cost O(`SIZE`).
 #[derive(Drop)]
 pub struct InnerNodeSorted<K, V, const PREFIX_LEN: usize, const SIZE: usize> {
-    // The prefix, and how many children there are.
+    // The prefix, and the number of children.
     header: Header<PREFIX_LEN>,
     // The bytes that have a child, ascending.
     keys: ArrayVec<u8, SIZE>,
-    // The child of each byte, at the same place.
+    // The child of each byte, at the same index.
     child_pointers: ArrayVec<OpaqueNodePtr<K, V, PREFIX_LEN>, SIZE>,
 }
 
@@ -98,7 +99,7 @@ impl<K, V, const PREFIX_LEN: usize, const SIZE: usize> InnerNodeSorted<K, V, PRE
         }
     }
 
-    /// A copy, which takes no memory.
+    /// A copy. Takes no memory.
     pub fn clone(&self) -> Self
         ensures { result ≡ self.now }
     {
@@ -106,7 +107,7 @@ impl<K, V, const PREFIX_LEN: usize, const SIZE: usize> InnerNodeSorted<K, V, PRE
         self.change_block_size()
     }
 
-    /// The bytes in ascending order, and the children beside them.
+    /// The bytes in ascending order, and the children in the same order.
     pub fn initialized_portion(&self) -> (&[u8], &[OpaqueNodePtr<K, V, PREFIX_LEN>])
         ensures bytes { result.0.now ≡ key_bytes self.now.children }
         ensures children { result.1.now ≡ map (λ p. p.1) self.now.children }
@@ -114,8 +115,8 @@ impl<K, V, const PREFIX_LEN: usize, const SIZE: usize> InnerNodeSorted<K, V, PRE
         (&self.keys, &self.child_pointers)
     }
 
-    /// Writes a child under a byte that is above every byte there. The node has to have room for
-    /// it.
+    /// Writes a child without a search. Conditions: its byte is above every byte of the node, and
+    /// the node has spare capacity.
     pub fn write_child_unchecked(
         &mut self,
         key_fragment: u8,
@@ -130,7 +131,7 @@ impl<K, V, const PREFIX_LEN: usize, const SIZE: usize> InnerNodeSorted<K, V, PRE
         self.header.inc_num_children();
     }
 
-    /// The same node with room for `NEW_SIZE` children, which have to fit.
+    /// The same node with capacity for `NEW_SIZE` children. Condition: its children fit.
     pub(crate) fn change_block_size<const NEW_SIZE: usize>(
         &self,
     ) -> InnerNodeSorted<K, V, PREFIX_LEN, NEW_SIZE>
@@ -145,7 +146,7 @@ impl<K, V, const PREFIX_LEN: usize, const SIZE: usize> InnerNodeSorted<K, V, PRE
     }
 }
 
-/// A copy of these items, which have to fit.
+/// A copy of these items. Condition: they fit.
 #[inline]
 pub(crate) fn copy_of<T: Copy + Default, const SIZE: usize>(items: &[T]) -> ArrayVec<T, SIZE>
     requires { length items.now ≤ SIZE }
@@ -156,7 +157,7 @@ pub(crate) fn copy_of<T: Copy + Default, const SIZE: usize>(items: &[T]) -> Arra
     copy
 }
 
-// Where a byte stands among others, if it does.
+// The index of a byte among others, if it is one of them.
 fn place_of(keys: &[u8], key_fragment: u8) -> Option<usize>
     ensures found { IfSome result (IsByteAt keys.now key_fragment) }
     ensures absent { IfNone result ((k : ℕ) → k < length keys.now →
@@ -165,7 +166,7 @@ fn place_of(keys: &[u8], key_fragment: u8) -> Option<usize>
     keys.iter().position(|key| *key == key_fragment)
 }
 
-// Where a byte stands among ascending bytes, or where it would go.
+// The index of a byte among ascending bytes, or else the index to insert it at.
 fn find_write_point(keys: &[u8], key_fragment: u8) -> Result<usize, usize>
     requires { IsAscending keys.now }
     ensures existing { IfOk result (IsByteAt keys.now key_fragment) }
