@@ -15,12 +15,12 @@ use std::num::{
 use std::process::Abort;
 use std::test::Fail;
 
-mod mapped_callers;
 mod digits;
+mod mapped_callers;
+mod mapped_examples;
 mod ordered;
 mod refusals;
 mod tuples;
-mod mapped_examples;
 
 // The key of a value has these bytes.
 fn written<B: BytesMapping<D>, D>(
