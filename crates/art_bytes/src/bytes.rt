@@ -5,6 +5,16 @@ ghost use Rattle.art_bytes.specs.Laws.{prefix_of_length};
 ghost use Rattle.art_bytes.specs.Text.{IsPrefixOf, IsText, text_order};
 
 /// A type whose values are the keys of an adaptive radix tree: each shows its bytes.
+///
+/// (from crates/art_node_tests/src/bytes/key_examples.rt)
+/// ```rust
+/// pub fn text_of<K: AsBytes>(key: &K) -> &[u8]
+///     ensures text { result.now ≡ K.text key.now }
+///     ensures bytes { IsText (K.text key.now) }
+/// {
+///     key.as_bytes()
+/// }
+/// ```
 pub trait AsBytes {
     /// The bytes of a key, in order. Contracts call them the text of the key.
     ghost text: { Self → List ℕ };
@@ -21,6 +31,15 @@ pub trait AsBytes {
 
 /// A type of keys of which none is a proper prefix of another, so that any of them can be in one
 /// adaptive radix tree together.
+///
+/// (from crates/art_node_tests/src/bytes.rt)
+/// ```rust
+/// pub(crate) fn has_prefix<K: NoPrefixesBytes>(key: &K, front: &K) -> bool
+///     ensures { IsTrue result ↔ (K.text key.now ≡ K.text front.now) }
+/// {
+///     key.as_bytes().starts_with(front.as_bytes())
+/// }
+/// ```
 pub trait NoPrefixesBytes: AsBytes {
     /// Where the bytes of one key are a prefix of those of another, they are equal.
     ghost no_prefixes: { (a b : Self) → Self.is_key a → Self.is_key b →
@@ -29,6 +48,15 @@ pub trait NoPrefixesBytes: AsBytes {
 
 /// A type of binary-comparable keys, in the sense of Leis, Kemper and Neumann (2013): the keys have
 /// the order of their bytes, so that a tree over the bytes keeps them in order.
+///
+/// (from crates/art_node_tests/src/bytes/key_examples.rt)
+/// ```rust
+/// pub fn order_of_texts<K: OrderedBytes>(a: &K, b: &K) -> Ordering
+///     ensures { result ≡ K.cmp a.now b.now }
+/// {
+///     a.as_bytes().cmp(b.as_bytes())
+/// }
+/// ```
 pub trait OrderedBytes: AsBytes + Ord {
     /// Two keys compare as their bytes do.
     ghost ordered: { (a b : Self) → Self.is_key a → Self.is_key b →

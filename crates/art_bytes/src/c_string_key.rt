@@ -10,6 +10,20 @@ use std::fmt;
 /// A C string as a key, where blart takes `CStr` and `CString`: bytes of which none is zero, and a
 /// zero byte after them. So no key is a proper prefix of another. Keys are equal, ordered and
 /// hashed by their bytes.
+///
+/// (from crates/art_node_tests/src/bytes.rt)
+/// ```rust
+/// match CStringKey::new(HELLO.to_vec(rt.alloc())?) {
+///     Ok(key) => {
+///         assert!(rt; text_of(&key) == b"hello world\0".as_slice());
+///         // ..
+///     }
+///     Err(CStringKeyError::InteriorZero { .. }) => panic!(rt; "there is no zero"),
+///     Err(CStringKeyError::OutOfMemory { bytes }) => {
+///         // ..
+///     }
+/// }
+/// ```
 #[derive(Drop, PartialEq, Eq, PartialOrd, Ord, Hash)]
 pub struct CStringKey {
     bytes: Vec<u8>,
@@ -64,6 +78,14 @@ impl OrderedBytes for CStringKey {
 }
 
 /// Why [`CStringKey::new`] refuses bytes. Each variant returns the bytes.
+///
+/// (from crates/art_node_tests/src/bytes.rt)
+/// ```rust
+/// let Err(refusal) = CStringKey::new(vec![in alloc; 1, 0]?) else {
+///     panic!(rt; "no zero was found");
+/// };
+/// assert!(rt; format!(in alloc; "{refusal}")?.as_str() == "zero byte at position 1");
+/// ```
 #[derive(Debug, Drop)]
 pub enum CStringKeyError {
     /// A byte is zero. The first zero byte is at `position`.

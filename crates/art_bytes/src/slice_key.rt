@@ -5,6 +5,14 @@ use crate::bytes::{AsBytes, OrderedBytes};
 
 /// Borrowed bytes as a key, where blart takes `[u8]`. Keys are equal, ordered and hashed by their
 /// bytes.
+///
+/// (from crates/art_node_tests/src/bytes.rt)
+/// ```rust
+/// const HELLO: &[u8] = b"hello world";
+/// // ..
+/// let slice = SliceKey::new(HELLO);
+/// assert!(rt; text_of(&slice) == HELLO);
+/// ```
 #[derive(Clone, Copy, PartialEq, Eq, PartialOrd, Ord, Hash)]
 pub struct SliceKey<'a> {
     bytes: &'a [u8],

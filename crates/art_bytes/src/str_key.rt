@@ -5,6 +5,14 @@ use crate::bytes::{AsBytes, OrderedBytes};
 
 /// A borrowed string as a key, where blart takes `str`. Keys are equal, ordered and hashed by their
 /// bytes.
+///
+/// (from crates/art_node_tests/src/bytes.rt)
+/// ```rust
+/// const HELLO: &[u8] = b"hello world";
+/// // ..
+/// assert!(rt; text_of(&StrKey::new("hello world")) == HELLO);
+/// assert!(rt; string_through_a_key("hello world") == "hello world");
+/// ```
 #[derive(Clone, Copy, PartialEq, Eq, PartialOrd, Ord, Hash)]
 pub struct StrKey<'a> {
     string: &'a str,

@@ -11,6 +11,20 @@ use std::marker::Model;
 /// implicit: the key of any leaf below the node has them (the hybrid of pessimistic and optimistic
 /// path compression of Leis, Kemper and Neumann, 2013). No call takes memory; each costs
 /// O(`PREFIX_LEN`).
+///
+/// (from crates/art_node_tests/src/header/prefix.rt)
+/// ```rust
+/// let header = Header::<2>::new(b"abcd", 4);
+/// // ..
+/// assert!(rt; header.capped_prefix_len() == 2);
+/// // ..
+/// let mut header = Header::<2>::new(b"abcd", 4);
+/// header.push_prefix(b"ef", 2);
+/// // ..
+/// let (bytes, len, capped_len) = header.clear_prefix();
+/// assert!(rt; bytes.as_slice() == b"ab".as_slice());
+/// assert!(rt; (len, capped_len) == (6, 2));
+/// ```
 #[derive(Drop)]
 pub struct Header<const PREFIX_LEN: usize> {
     num_children: u16,

@@ -7,6 +7,19 @@ use std::ops::RangeInclusive;
 
 /// The kind of a node: an inner node by its greatest number of children, or a leaf. The kinds are
 /// ordered as they are listed.
+///
+/// (from crates/art_node_tests/src/header/node_type.rt)
+/// ```rust
+/// let rows = [
+///     (NodeType::Node4, 2, 4),
+///     (NodeType::Node16, 5, 16),
+///     // ..
+/// ];
+/// for (row, (kind, least, most)) in rows.into_iter().enumerate() {
+///     assert!(rt; *kind.capacity_range().start() == least, "row {row}");
+///     assert!(rt; *kind.capacity_range().end() == most, "row {row}");
+/// }
+/// ```
 #[derive(Clone, Copy, Debug, PartialEq, Eq, PartialOrd, Ord, Hash)]
 pub enum NodeType {
     /// At most 4 children; 2 to 4 in a tree.

@@ -7,6 +7,14 @@ use std::fmt;
 use std::marker::Model;
 
 /// An index from 0 to 254, for an array of at most 255 places. Indices compare by their numbers.
+///
+/// (from crates/art_node_tests/src/header/non_max_index.rt)
+/// ```rust
+/// for number in [0, 19, 254] {
+///     assert!(rt; NonMaxIndex::new(number).map(|index| index.get()) == Some(number));
+/// }
+/// assert!(rt; NonMaxIndex::new(255) == None);
+/// ```
 #[derive(Clone, Copy, Debug, PartialEq, Eq, PartialOrd, Ord)]
 pub struct NonMaxIndex {
     value: u8,
@@ -119,6 +127,12 @@ impl TryFrom<usize> for NonMaxIndex {
 }
 
 /// The error for a number that is no [`NonMaxIndex`]: it is 255 or greater.
+///
+/// (from crates/art_node_tests/src/header/non_max_index.rt)
+/// ```rust
+/// assert!(rt; usize::from(NonMaxIndex::try_from(254usize)?) == 254);
+/// assert!(rt; NonMaxIndex::try_from(255u8) == Err(TryFromByteError));
+/// ```
 #[derive(Clone, Copy, Debug, PartialEq, Eq)]
 pub struct TryFromByteError;
 

@@ -12,6 +12,18 @@ use std::alloc::{AllocError, Global};
 use std::marker::PhantomData;
 
 /// A type whose values have, in the form `F`, bytes of one width that sort as the values do.
+///
+/// (from crates/art_node_tests/src/mapped/mapped_callers.rt)
+/// ```rust
+/// fn element_back<F, E: Element<F>>(alloc: Global, value: E) -> Result<E, AllocError>
+///     ensures value { IfOk result (λ read. read ≡ value) }
+///     ensures always { IsOk result }
+/// {
+///     Mapped::<Single<F>, E>::new(alloc, value)?.get(alloc)
+/// }
+/// // ..
+/// assert!(rt; element_back::<Unsigned, u64>(alloc, 1 << 40)? == 1 << 40);
+/// ```
 pub trait Element<F>: Copy + Ord {
     /// The bytes of a value.
     type Bytes: FixedBytes;
@@ -40,6 +52,8 @@ pub trait Element<F>: Copy + Ord {
 }
 
 /// The mapping of one element to its bytes.
+///
+/// [`Element`] has an example.
 pub struct Single<F>(PhantomData<F>);
 
 impl<F, E: Element<F>> BytesMapping<E> for Single<F> {

@@ -14,6 +14,12 @@ use sealed::Sealed;
 
 /// Keys that all have the same number of bytes. The arrays `[u8; N]` are such keys. The trait is
 /// sealed: no other type can implement it.
+///
+/// (from crates/art_node_tests/src/mapped.rt)
+/// ```rust
+/// assert!(rt; <<ToIBE as BytesMapping<i128>>::Bytes as FixedBytes>::WIDTH == 16);
+/// assert!(rt; <[u8; 3] as FixedBytes>::from_slice(&[1, 2, 3]) == [1, 2, 3]);
+/// ```
 pub trait FixedBytes: AsBytes + Copy + Sealed {
     /// How many bytes a key has.
     const WIDTH: usize;

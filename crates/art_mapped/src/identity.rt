@@ -9,6 +9,16 @@ use std::alloc::{AllocError, Global};
 /// Maps each key to itself, and takes no memory. Reading returns the key that was written.
 ///
 /// The mapping has no order law, since the order of its domain may differ from that of the bytes.
+///
+/// (from crates/art_node_tests/src/mapped/tuples.rt)
+/// ```rust
+/// fn key_back<D: AsBytes + Drop>(alloc: Global, key: D) -> Result<D, AllocError>
+///     ensures same { IfOk result (λ read. read ≡ key) }
+///     ensures always { IsOk result }
+/// {
+///     Mapped::<Identity, D>::new(alloc, key)?.get(alloc)
+/// }
+/// ```
 #[derive(Debug)]
 pub struct Identity;
 

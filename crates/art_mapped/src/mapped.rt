@@ -13,6 +13,19 @@ use std::marker::PhantomData;
 ///
 /// Keys are equal, and hashed, by their bytes. Under an [`OrderedMapping`] they have the order of
 /// the values, which is that of the bytes. The mapping `B` is only named: no value of it is needed.
+///
+/// (from crates/art_node_tests/src/mapped.rt)
+/// ```rust
+/// let key = Mapped::<ToIBE, [i32; 300]>::new(alloc, [-1; 300])?;
+/// assert!(rt; key.as_bytes().len() == 1200);
+/// // ..
+/// assert!(rt; key.get(alloc)? == [-1; 300]);
+/// // ..
+/// let key = Mapped::<ToUBE, u16>::new(alloc, 443)?;
+/// let other = Mapped::<ToUBE, u16>::new(alloc, 444)?;
+/// assert!(rt; key != other);
+/// assert!(rt; key.partial_cmp(&other) == Some(Ordering::Less));
+/// ```
 pub struct Mapped<B: BytesMapping<D>, D> {
     repr: B::Bytes,
     mapping: PhantomData<(B, D)>,

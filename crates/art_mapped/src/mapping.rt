@@ -10,6 +10,14 @@ use std::alloc::{AllocError, Global};
 ///
 /// The only error of a call is an allocation failure: its argument has then been dropped, and
 /// nothing else has changed.
+///
+/// (from crates/art_node_tests/src/mapped.rt)
+/// ```rust
+/// let bytes = <ToIBE as BytesMapping<[i16; 2]>>::to_bytes(alloc, [-1, 0])?;
+/// assert!(rt; bytes.as_slice() == [127, 255, 128, 0].as_slice());
+/// assert!(rt; <ToIBE as BytesMapping<[i16; 2]>>::is_value(&bytes));
+/// assert!(rt; <ToIBE as BytesMapping<[i16; 2]>>::from_bytes(alloc, bytes)? == [-1, 0]);
+/// ```
 pub trait BytesMapping<D> {
     /// The bytes that a value is converted to.
     type Bytes: AsBytes + Drop;
@@ -96,6 +104,16 @@ pub trait BytesMapping<D> {
 }
 
 /// A mapping under which different values have different bytes. Each but [`Identity`] is one.
+///
+/// (from crates/art_node_tests/src/mapped/tuples.rt)
+/// ```rust
+/// fn are_one<B: InjectiveMapping<D>, D>(a: &Mapped<B, D>, b: &Mapped<B, D>) -> bool
+///     ensures { (x y : D) → HoldsValue a.now x → HoldsValue b.now y →
+///         IsTrue result ↔ B.are_same x y }
+/// {
+///     a == b
+/// }
+/// ```
 pub trait InjectiveMapping<D>: BytesMapping<D> {
     /// Values with the same bytes are equal.
     ghost decided_by_text: { (x y : D) → Self.is_in_domain x → Self.is_in_domain y →
@@ -103,6 +121,19 @@ pub trait InjectiveMapping<D>: BytesMapping<D> {
 }
 
 /// A mapping whose bytes keep the order of the domain.
+///
+/// (from crates/art_node_tests/src/mapped/mapped_callers.rt)
+/// ```rust
+/// fn compared<B: OrderedMapping<D>, D: Ord + Drop>(
+///     alloc: Global,
+///     a: D,
+///     b: D,
+/// ) -> Result<Ordering, AllocError>
+///     ensures { IfOk result (λ order. order ≡ D.cmp a b) }
+/// {
+///     Ok(Mapped::<B, D>::new(alloc, a)?.cmp(&Mapped::<B, D>::new(alloc, b)?))
+/// }
+/// ```
 pub trait OrderedMapping<D: Ord>: InjectiveMapping<D> {
     /// Two values compare as their bytes do.
     ghost keeps_order: { (x y : D) → Self.is_in_domain x → Self.is_in_domain y →
@@ -110,6 +141,15 @@ pub trait OrderedMapping<D: Ord>: InjectiveMapping<D> {
 }
 
 /// A mapping under which no value's bytes are a proper prefix of another's.
+///
+/// (from crates/art_node_tests/src/mapped/tuples.rt)
+/// ```rust
+///     B: OrderedMapping<D> + NoPrefixesMapping<D>,
+///     // ..
+///     let less_key = Mapped::<B, D>::new(alloc, less)?;
+///     let more_key = Mapped::<B, D>::new(alloc, more)?;
+///     assert!(rt; !has_prefix(&more_key, &less_key));
+/// ```
 pub trait NoPrefixesMapping<D>: BytesMapping<D> {
     /// Where the bytes of one value are a prefix of another's, they are equal.
     ghost no_prefixes: { (x y : D) → Self.is_in_domain x → Self.is_in_domain y →

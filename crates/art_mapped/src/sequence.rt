@@ -10,9 +10,23 @@ use std::array;
 use std::marker::PhantomData;
 
 /// The forms of integers. Arrays and vectors of these are mapped too.
+///
+/// (from crates/art_node_tests/src/mapped/mapped_callers.rt)
+/// ```rust
+/// fn array_back<F: IntegerForm, E: Element<F>, const N: usize>(
+///     alloc: Global,
+///     value: [E; N],
+/// ) -> Result<[E; N], AllocError>
+///     ensures { IfOk result (λ read. read ≡ value) }
+/// {
+///     Mapped::<ToBigEndian<F>, [E; N]>::new(alloc, value)?.get(alloc)
+/// }
+/// ```
 pub trait IntegerForm {}
 
 /// The mapping of several integers to their bytes joined.
+///
+/// [`BytesMapping`](crate::BytesMapping) has an example with an array.
 pub struct Joined<F>(PhantomData<F>);
 
 /// The bytes of the elements, joined. The only error is an allocation failure.

@@ -15,9 +15,22 @@ use std::marker::PhantomData;
 ///
 /// Each part has a fixed number of bytes, so that no tuple's bytes are a proper prefix of
 /// another's. Where every part keeps an order, the first part that differs decides.
+///
+/// (from crates/art_node_tests/src/mapped/tuples.rt)
+/// ```rust
+/// type Route = ConcatTuple<(ToOctets, ToIBE)>;
+/// // ..
+///     Mapped::new(alloc, (to, cost))
+/// // ..
+///     let key = route(alloc, Ipv4Addr::UNSPECIFIED, -212)?;
+///     assert!(rt; key.as_bytes() == [0, 0, 0, 0, 127, 255, 255, 44].as_slice());
+///     assert!(rt; route_of(alloc, key)? == (Ipv4Addr::UNSPECIFIED, -212));
+/// ```
 pub struct ConcatTuple<T>(PhantomData<T>);
 
 /// Two to six mappings, for the parts of a tuple.
+///
+/// [`ConcatTuple`] has an example.
 pub trait TupleMappings {
     /// An array type with one place for each mapping.
     type Places;
@@ -27,6 +40,8 @@ pub trait TupleMappings {
 }
 
 /// A tuple of two to six values, and the same values nested in pairs, as `((A, B), C)`.
+///
+/// [`ConcatTuple`] has an example.
 pub trait TupleValues: Sized {
     /// An array type with one place for each value. It keeps a pair whose first value is a pair
     /// apart from a tuple of three.
@@ -54,6 +69,8 @@ pub trait TupleValues: Sized {
 }
 
 /// A tuple that compares as its nested pairs do.
+///
+/// [`ConcatTuple`] has an example.
 pub trait OrderedTuple<P: Ord>: TupleValues<Pairs = P> + Ord {
     /// A tuple compares as its nested pairs do.
     ghost same_order: { (x y : Self) → Self.cmp x y ≡ P.cmp (Self.in_pairs x) (Self.in_pairs y) };

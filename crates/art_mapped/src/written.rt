@@ -7,9 +7,23 @@ use std::marker::PhantomData;
 
 /// Values as big-endian bytes, in the form `F` of their elements. Its aliases are
 /// [`ToUBE`](crate::ToUBE), [`ToIBE`](crate::ToIBE) and [`ToOctets`](crate::ToOctets).
+///
+/// (from crates/art_node_tests/src/mapped.rt)
+/// ```rust
+/// fn written_in<F, D: Domain<F>>(
+///     // ..
+///     written::<ToBigEndian<F>, D>(rt, alloc, value, bytes)
+/// }
+/// // ..
+///     written_in::<Unsigned, u16>(rt, alloc, 258, &[1, 2])?;
+///     // ..
+///     written_in::<Octets, Ipv4Addr>(rt, alloc, Ipv4Addr::BROADCAST, &[255, 255, 255, 255])?;
+/// ```
 pub struct ToBigEndian<F>(PhantomData<F>);
 
 /// What a mapping of the form `F` takes: one element, or an array or a vector of integers.
+///
+/// [`ToBigEndian`] has an example.
 pub trait Domain<F>: Ord {
     /// How a value is written: as one element, or as several joined.
     type Mapping: OrderedMapping<Self>;

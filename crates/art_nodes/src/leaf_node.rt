@@ -16,6 +16,17 @@ use std::cmp::Ordering;
 
 /// A leaf: a key, a value, and links to the leaves before and after it in a list. A link is a slab
 /// key.
+///
+/// (from crates/art_node_tests/src/nodes/leaf_node.rt)
+/// ```rust
+/// type Texts = LeafNode<String, String, 16>;
+/// // ..
+/// let key = String::from_str(rt.alloc(), "ab")?;
+/// let value = String::from_str(rt.alloc(), "cd")?;
+/// let mut leaf = Texts::with_no_siblings(key, value);
+/// let previous = Some(NodePtr::from_key(4));
+/// leaf.set_links(previous, None);
+/// ```
 #[derive(Drop)]
 pub struct LeafNode<K, V, const PREFIX_LEN: usize> {
     key: K,

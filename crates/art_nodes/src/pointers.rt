@@ -9,6 +9,14 @@ use std::marker::PhantomData;
 pub(crate) mod concrete;
 
 /// A pointer to a node of the type `N`: the slab key of the node.
+///
+/// (from crates/art_node_tests/src/nodes/pointers.rt)
+/// ```rust
+/// let four = NodePtr::<16, InnerNode4<u8, u8, 16>>::from_key(5);
+/// assert!(rt; four.to_opaque() != leaf(5));
+/// assert!(rt; four == NodePtr::from_key(5));
+/// assert!(rt; four != NodePtr::from_key(6));
+/// ```
 #[derive_where(Clone, Copy, PartialEq, Eq)]
 pub struct NodePtr<const PREFIX_LEN: usize, N> {
     // The slab key.
@@ -17,6 +25,14 @@ pub struct NodePtr<const PREFIX_LEN: usize, N> {
 }
 
 /// A pointer to a node of any kind: its kind and its slab key.
+///
+/// (from crates/art_node_tests/src/nodes/pointers.rt)
+/// ```rust
+/// assert!(rt; leaf::<16>(6).node_type() == NodeType::Leaf);
+/// assert!(rt; leaf::<16>(6).cast::<InnerNode4<u8, u8, 16>>().is_none());
+/// let cast = leaf::<16>(6).cast::<LeafNode<u8, u8, 16>>();
+/// assert!(rt; cast.map(|leaf| leaf.key()) == Some(6));
+/// ```
 #[derive_where(Clone, Copy, PartialEq, Eq, Hash)]
 pub struct OpaqueNodePtr<K, V, const PREFIX_LEN: usize> {
     node_type: NodeType,

@@ -17,6 +17,15 @@ use std::marker::Model;
 use std::ops::Bound;
 
 /// An inner node that is always of the smallest kind that holds its children.
+///
+/// (from crates/art_node_tests/src/nodes/replay.rt)
+/// ```rust
+/// let mut node = ChildNode::from_header(Header::<2>::new(b"", 0));
+/// for byte in 0..20u8 {
+///     node.apply(rt.alloc(), &Command::Write(byte, leaf(usize::from(byte))))?;
+/// }
+/// assert!(rt; node.node_type() == NodeType::Node48);
+/// ```
 #[derive(Drop)]
 pub struct ChildNode<K, V, const PREFIX_LEN: usize> {
     node: AnyInner<K, V, PREFIX_LEN>,

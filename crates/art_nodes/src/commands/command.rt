@@ -4,6 +4,20 @@ use crate::pointers::OpaqueNodePtr;
 use std::ops::Bound;
 
 /// A command on the children of a node.
+///
+/// (from crates/art_node_tests/src/nodes/replay.rt)
+/// ```rust
+///     (Command::Lookup(7), Reply::Child(Some(leaf(7)))),
+///     (Command::Lookup(201), Reply::Child(None)),
+///     (Command::Min, Reply::Pair(Some((0, leaf(0))))),
+///     // ..
+/// for (index, (command, reply)) in steps.into_iter().enumerate() {
+///     assert!(rt;
+///         node.apply(rt.alloc(), &command)? == reply,
+///         "at step {index}"
+///     );
+/// }
+/// ```
 #[derive(Drop)]
 #[derive_where(PartialEq, Eq)]
 pub enum ChildCommand<K, V, const PREFIX_LEN: usize> {
@@ -22,6 +36,8 @@ pub enum ChildCommand<K, V, const PREFIX_LEN: usize> {
 }
 
 /// The reply to a [`ChildCommand`].
+///
+/// [`ChildCommand`] has an example.
 #[derive(Drop)]
 #[derive_where(PartialEq, Eq)]
 pub enum ChildReply<K, V, const PREFIX_LEN: usize> {
@@ -36,6 +52,8 @@ pub enum ChildReply<K, V, const PREFIX_LEN: usize> {
 }
 
 /// Pairs of a byte and a child.
+///
+/// [`Sequence`] has an example.
 pub type ChildPairs<K, V, const PREFIX_LEN: usize> = Sequence<
     (u8, OpaqueNodePtr<K, V, PREFIX_LEN>),
 >;

@@ -8,6 +8,16 @@ use art_header::Header;
 use std::alloc::{AllocError, Global};
 
 /// The result of [`replay`]: the reply to each command, and the node after the last command.
+///
+/// (from crates/art_node_tests/src/nodes/replay.rt)
+/// ```rust
+/// let mut header = Header::<2>::new(b"abc", 3);
+/// header.inc_num_children();
+/// let (replies, node) = replay(rt.alloc(), header, &[] as &[Command])?;
+/// assert!(rt; replies.is_empty());
+/// assert!(rt; node.num_children() == 0);
+/// assert!(rt; node.header().prefix_len() == 3);
+/// ```
 pub type Replayed<K, V, const PREFIX_LEN: usize> = (
     Vec<ChildReply<K, V, PREFIX_LEN>>,
     ChildNode<K, V, PREFIX_LEN>,

@@ -4,6 +4,13 @@ ghost use Rattle.std.specs.Prelude.{◌≡◌};
 use std::marker::Model;
 
 /// The items of a vector, in order.
+///
+/// (from crates/art_node_tests/src/nodes/replay.rt)
+/// ```rust
+/// let numbers = Sequence::from_vec(vec![in rt.alloc(); 3, 1, 2]?);
+/// assert!(rt; numbers.as_slice() == [3, 1, 2].as_slice());
+/// assert!(rt; numbers.into_vec().as_slice() == [3, 1, 2].as_slice());
+/// ```
 #[derive(Drop)]
 pub struct Sequence<T> {
     items: Vec<T>,

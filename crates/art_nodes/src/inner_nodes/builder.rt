@@ -11,6 +11,8 @@ use crate::sealed::{InThisCrate, Sealed};
 use std::marker::{Model, PhantomData};
 
 /// How many children a builder's node has so far: none, one, or two or more.
+///
+/// [`InnerNodeBuilder`] has an example.
 pub trait BuilderState: Sealed {
     ghost use Rattle.std.specs.Prelude.{ℕ};
 
@@ -19,6 +21,8 @@ pub trait BuilderState: Sealed {
 }
 
 /// No child has been written.
+///
+/// [`InnerNodeBuilder`] has an example.
 #[derive(Drop)]
 pub struct NoChild;
 
@@ -31,6 +35,8 @@ impl BuilderState for NoChild {
 }
 
 /// One child has been written.
+///
+/// [`InnerNodeBuilder`] has an example.
 #[derive(Drop)]
 pub struct HasOneChild;
 
@@ -43,6 +49,8 @@ impl BuilderState for HasOneChild {
 }
 
 /// Two children or more have been written.
+///
+/// [`InnerNodeBuilder`] has an example.
 #[derive(Drop)]
 pub struct HasChild;
 
@@ -56,6 +64,16 @@ impl BuilderState for HasChild {
 
 /// Builds an inner node of the type `N`, child by child. Only a node of two children or more can be
 /// built. No call takes memory. [`InnerNodeCommon::builder`] begins one.
+///
+/// (from crates/art_node_tests/src/nodes/builder.rt)
+/// ```rust
+/// let small = InnerNode4::<u8, u8, 16>::builder(b"prefix", 6)
+///     .write_child(1, leaf(8))
+///     .write_child(0, leaf(7))
+///     .write_child(200, leaf(9))
+///     .write_child(200, leaf(10))
+///     .build();
+/// ```
 #[derive(Drop)]
 pub struct InnerNodeBuilder<
     K,

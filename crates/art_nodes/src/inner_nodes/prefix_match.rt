@@ -8,6 +8,15 @@ use std::cmp::Ordering;
 
 /// A prefix was matched. The result of
 /// [`InnerNodeCommon::optimistic_match_prefix`](crate::InnerNodeCommon::optimistic_match_prefix).
+///
+/// (from crates/art_node_tests/src/nodes/prefix_match.rt)
+/// ```rust
+/// let node: InnerNode4<u8, u8, 16> = pair(&rt, b"abc", leaf(1));
+/// let found = node
+///     .optimistic_match_prefix(b"xyz")
+///     .expect(&rt, "as long as the prefix");
+/// assert!(rt; found.matched_bytes == 3);
+/// ```
 #[derive(Debug, Drop)]
 pub struct PrefixMatch {
     /// How many bytes were matched: the length of the prefix.
@@ -16,6 +25,14 @@ pub struct PrefixMatch {
 
 /// A prefix was matched, or skipped where the node does not store all of it. The result of
 /// [`InnerNodeCommon::attempt_pessimistic_match_prefix`](crate::InnerNodeCommon::attempt_pessimistic_match_prefix).
+///
+/// (from crates/art_tree_tests/src/tree/matches.rt)
+/// ```rust
+/// match node.attempt_pessimistic_match_prefix(key) {
+///     Ok(found) => Ok((found.matched_bytes, found.any_implicit_bytes)),
+///     Err(mismatch) => Err((mismatch.matched_bytes, mismatch.prefix_byte)),
+/// }
+/// ```
 #[derive(Debug, Drop)]
 pub struct AttemptOptimisticPrefixMatch {
     /// How many bytes were matched or skipped: the length of the prefix.
@@ -25,6 +42,14 @@ pub struct AttemptOptimisticPrefixMatch {
 }
 
 /// The key is too short for the prefix.
+///
+/// (from crates/art_node_tests/src/nodes/prefix_match.rt)
+/// ```rust
+/// let short = node
+///     .optimistic_match_prefix(b"ab")
+///     .expect_err(&rt, "shorter than the prefix");
+/// assert!(rt; short.matched_bytes == 2);
+/// ```
 #[derive(Debug, Drop)]
 pub struct OptimisticMismatch {
     /// How many bytes the key had left.
@@ -32,6 +57,13 @@ pub struct OptimisticMismatch {
 }
 
 /// The key differs from the prefix, or is too short for it.
+///
+/// (from crates/art_node_tests/src/nodes/prefix_match.rt)
+/// ```rust
+/// let short = PessimisticMismatch::from(short);
+/// assert!(rt; short.matched_bytes == 2);
+/// assert!(rt; short.prefix_byte == None);
+/// ```
 #[derive(Debug, Drop)]
 pub struct PessimisticMismatch {
     /// How many bytes were matched.
@@ -42,6 +74,18 @@ pub struct PessimisticMismatch {
 
 /// The key differs from the whole prefix, or ends inside it. The error of a full match of the
 /// prefix.
+///
+/// (from crates/art_tree_tests/src/arena.rt)
+/// ```rust
+/// match node.match_full_prefix(arena, key, depth) {
+///     Ok(found) => Ok(found.matched_bytes),
+///     Err(mismatch) => {
+///         assert!(rt; mismatch.leaf_ptr.is_some() == (PREFIX_LEN < node.prefix_len()));
+///         let order = mismatch.node_prefix_comparison_to_search_key_segment;
+///         Err((mismatch.matched_bytes, mismatch.prefix_byte, order))
+///     }
+/// }
+/// ```
 #[derive_where(Clone, Copy)]
 pub struct ExplicitMismatch<K, V, const PREFIX_LEN: usize> {
     /// How many bytes were matched.
@@ -56,6 +100,11 @@ pub struct ExplicitMismatch<K, V, const PREFIX_LEN: usize> {
 
 /// The whole prefix of a node, and the leaf below from whose key it was read, where the node does
 /// not store all of it.
+///
+/// (from crates/art_tree_tests/src/arena/full_prefix.rt)
+/// ```rust
+/// let (_prefix, _) = node.read_full_prefix(arena, depth);
+/// ```
 pub type NodePrefix<'a, K, V, const PREFIX_LEN: usize> = (
     &'a [u8],
     Option<NodePtr<PREFIX_LEN, LeafNode<K, V, PREFIX_LEN>>>,

@@ -27,6 +27,17 @@ pub type ChildIter<'a, K, V, const PREFIX_LEN: usize> = PairIter<
 ///
 /// It borrows the node and takes no memory. Each pair is returned once, from the start or from the
 /// end. After the last pair every call returns `None`.
+///
+/// (from crates/art_node_tests/src/nodes/iteration.rt)
+/// ```rust
+/// let mut pairs = node.iter();
+/// assert!(rt; pairs.next() == Some(first));
+/// assert!(rt; pairs.next_back() == Some(fourth));
+/// assert!(rt; pairs.next() == Some(second));
+/// assert!(rt; pairs.next_back() == Some(third));
+/// assert!(rt; pairs.next() == None);
+/// assert!(rt; pairs.next_back() == None);
+/// ```
 #[derive(Drop)]
 pub struct PairIter<'a, H> {
     source: Source<'a, H>,

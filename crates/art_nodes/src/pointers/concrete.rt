@@ -11,6 +11,16 @@ use art_header::NodeType;
 use std::marker::PhantomData;
 
 /// A pointer to a node of any kind, with a variant for each kind.
+///
+/// (from crates/art_node_tests/src/nodes/pointers.rt)
+/// ```rust
+/// let four = NodePtr::<16, InnerNode4<u8, u8, 16>>::from_key(4);
+/// assert!(rt; four.to_opaque().to_node_ptr().to_opaque() == four.to_opaque());
+/// // ..
+/// let by_kind = ConcreteNodePtr::from(four);
+/// // ..
+/// assert!(rt; by_kind.to_opaque() == four.to_opaque());
+/// ```
 #[derive_where(Clone, Copy)]
 pub enum ConcreteNodePtr<K, V, const PREFIX_LEN: usize> {
     /// A pointer to a sorted node for at most 4 children.
@@ -26,6 +36,13 @@ pub enum ConcreteNodePtr<K, V, const PREFIX_LEN: usize> {
 }
 
 /// A pointer to an inner node of any kind, with a variant for each kind.
+///
+/// (from crates/art_node_tests/src/nodes/pointers.rt)
+/// ```rust
+/// let inner = ConcreteInnerNodePtr::from(all);
+/// assert!(rt; inner.to_opaque() == all.to_opaque());
+/// assert!(rt; ConcreteNodePtr::from(inner).to_opaque() == all.to_opaque());
+/// ```
 #[derive_where(Clone, Copy)]
 pub enum ConcreteInnerNodePtr<K, V, const PREFIX_LEN: usize> {
     /// A pointer to a sorted node for at most 4 children.

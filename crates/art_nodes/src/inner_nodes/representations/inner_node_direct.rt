@@ -11,6 +11,18 @@ use std::ops::Bound;
 
 /// An inner node of at most 256 children, with a table that has a place for each byte. Look-ups,
 /// writes and removals cost O(1).
+///
+/// (from crates/art_node_tests/src/nodes/direct.rt)
+/// ```rust
+/// type Node = InnerNodeDirect<u8, u8, 16>;
+/// // ..
+///     let mut node: Node = node_of(rt, &[], &AT_BORDERS);
+///     // ..
+///     assert!(rt; node.remove_child(63) == Some(leaf(63)));
+///     // ..
+///     assert!(rt; node.num_children() == 4);
+///     assert!(rt; node.min() == (64, leaf(64)));
+/// ```
 #[derive(Drop)]
 pub struct InnerNodeDirect<K, V, const PREFIX_LEN: usize> {
     // The prefix, and the number of children.

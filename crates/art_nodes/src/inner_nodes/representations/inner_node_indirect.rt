@@ -15,6 +15,15 @@ use std::ops::Bound;
 /// removals cost O(1).
 ///
 /// It holds at most `SIZE` children, and at most 255, since 255 is no [`NonMaxIndex`].
+///
+/// (from crates/art_node_tests/src/nodes/indirect.rt)
+/// ```rust
+/// let mut node: InnerNode48<u8, u8, 16> = node_of(&rt, &[], &[(1, 1), (2, 2), (3, 3)]);
+/// assert!(rt; node.remove_child(1) == Some(leaf(1)));
+/// // ..
+/// assert!(rt; node.lookup_child(2) == Some(leaf(2)));
+/// assert!(rt; node.lookup_child(3) == Some(leaf(3)));
+/// ```
 #[derive(Drop)]
 pub struct InnerNodeIndirect<K, V, const PREFIX_LEN: usize, const SIZE: usize> {
     // The prefix, and the number of children.
@@ -28,6 +37,8 @@ pub struct InnerNodeIndirect<K, V, const PREFIX_LEN: usize, const SIZE: usize> {
 }
 
 /// An indirect node for at most 48 children.
+///
+/// [`InnerNodeIndirect`] has an example.
 pub type InnerNode48<K, V, const PREFIX_LEN: usize> = InnerNodeIndirect<K, V, PREFIX_LEN, 48>;
 
 impl<K, V, const PREFIX_LEN: usize, const SIZE: usize> Sealed

@@ -14,6 +14,18 @@ use std::ops::Bound;
 
 /// An inner node of at most `SIZE` children that keeps its bytes in ascending order and its
 /// children in the same order. Look-ups, writes and removals cost O(`SIZE`).
+///
+/// (from crates/art_node_tests/src/nodes/builder.rt)
+/// ```rust
+/// let unsearched = InnerNode4::<u8, u8, 16>::builder(b"prefix", 6)
+///     .write_child_unchecked(0, leaf(7))
+///     .write_child_unchecked(1, leaf(8))
+///     .write_child_unchecked(200, leaf(10))
+///     .build();
+/// // ..
+/// let (bytes, children) = unsearched.initialized_portion();
+/// assert!(rt; bytes == [0, 1, 200].as_slice());
+/// ```
 #[derive(Drop)]
 pub struct InnerNodeSorted<K, V, const PREFIX_LEN: usize, const SIZE: usize> {
     // The prefix, and the number of children.
@@ -25,9 +37,18 @@ pub struct InnerNodeSorted<K, V, const PREFIX_LEN: usize, const SIZE: usize> {
 }
 
 /// A sorted node for at most 4 children.
+///
+/// [`InnerNodeSorted`] has an example.
 pub type InnerNode4<K, V, const PREFIX_LEN: usize> = InnerNodeSorted<K, V, PREFIX_LEN, 4>;
 
 /// A sorted node for at most 16 children.
+///
+/// (from crates/art_node_tests/src/nodes/conversions.rt)
+/// ```rust
+/// let node: InnerNode16<u8, u8, 16> = with_bytes(rt, first);
+/// assert!(rt; node.num_children() <= 4);
+/// sorted_has(rt, &node.shrink(), first);
+/// ```
 pub type InnerNode16<K, V, const PREFIX_LEN: usize> = InnerNodeSorted<K, V, PREFIX_LEN, 16>;
 
 impl<K, V, const PREFIX_LEN: usize, const SIZE: usize> Sealed

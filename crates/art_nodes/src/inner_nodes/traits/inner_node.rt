@@ -10,6 +10,19 @@ use crate::inner_nodes::representations::inner_node_sorted::{InnerNode4, InnerNo
 use crate::inner_nodes::traits::node::{InnerNodeCommon, Node};
 
 /// An inner node of one of the four kinds, and the kinds next to it.
+///
+/// (from crates/art_node_tests/src/nodes/node_callers.rt)
+/// ```rust
+/// fn grow_then_write<const PREFIX_LEN: usize, N: InnerNode<PREFIX_LEN>>(
+///     // ..
+/// ) -> N::GrownNode
+///     ensures { N.GrownNode.inner result ≡ node_with_child (N.inner node.now) byte child }
+/// {
+///     let mut grown = node.grow();
+///     grown.write_child(byte, child);
+///     grown
+/// }
+/// ```
 pub trait InnerNode<const PREFIX_LEN: usize>: Node<PREFIX_LEN>
     + InnerNodeCommon<
         <Self as Node<PREFIX_LEN>>::Key,

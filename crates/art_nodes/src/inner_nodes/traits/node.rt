@@ -18,6 +18,17 @@ use art_header::{Header, NodeType};
 use std::ops::Bound;
 
 /// A node whose kind is known at compile time.
+///
+/// (from crates/art_node_tests/src/nodes/node_callers.rt)
+/// ```rust
+/// fn points_to<const PREFIX_LEN: usize, N: Node<PREFIX_LEN>>(
+///     key: usize,
+/// ) -> OpaqueNodePtr<N::Key, N::Value, PREFIX_LEN>
+///     ensures { result ≡ opaque_pointer N.TYPE key }
+/// {
+///     NodePtr::<PREFIX_LEN, N>::from_key(key).to_opaque()
+/// }
+/// ```
 pub trait Node<const PREFIX_LEN: usize>: Sealed {
     /// The kind of the node.
     const TYPE: NodeType;
@@ -39,6 +50,19 @@ pub trait Node<const PREFIX_LEN: usize>: Sealed {
 /// Contracts see a node as the length of its prefix, the stored prefix, and a finite map from bytes
 /// to children. No call takes memory. A look-up, a write and a removal cost O(`SIZE`) in a sorted
 /// node and O(1) in the others; `min`, `max` and a step of an iterator read at most 256 places.
+///
+/// (from crates/art_node_tests/src/nodes/node_callers.rt)
+/// ```rust
+/// fn write_then_look_up<K, V, const PREFIX_LEN: usize, N: InnerNodeCommon<K, V, PREFIX_LEN>>(
+///     // ..
+/// ) -> Option<OpaqueNodePtr<K, V, PREFIX_LEN>>
+///     requires { HasRoomFor N.room (N.inner node.old) byte }
+///     ensures { result ≡ Some child }
+/// {
+///     node.write_child(byte, child);
+///     node.lookup_child(byte)
+/// }
+/// ```
 pub trait InnerNodeCommon<K, V, const PREFIX_LEN: usize>: InnerNodeInit<PREFIX_LEN> {
     ghost use Rattle.art_nodes.specs.declared.pointers.OpaqueNodePtr.{OpaqueNodePtr};
     ghost use Rattle.art_header.specs.Header.{Header};
