@@ -103,7 +103,8 @@ pub trait BytesMapping<D> {
         StandsForSome is_in_domain stands_for a → StandsForSome is_in_domain stands_for b };
 }
 
-/// A mapping under which different values have different bytes. Each but [`Identity`] is one.
+/// A mapping under which different values have different bytes. Each but
+/// [`Identity`](crate::Identity) is one.
 ///
 /// (from crates/art_node_tests/src/mapped/tuples.rt)
 /// ```rust
