@@ -1,4 +1,4 @@
-//! Nodes of each kind, pointers to them, and runs of child commands.
+//! Tests of nodes of each kind, pointers to them, and runs of child commands.
 mod builder;
 mod conversions;
 mod direct;
