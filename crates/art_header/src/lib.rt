@@ -3,6 +3,9 @@
 //! Every inner node has a [`Header`]: the number of children, the length of the compressed prefix,
 //! and the stored prefix, at most `PREFIX_LEN` bytes of it. [`NodeType`] names the kinds of nodes
 //! and how many children each holds. [`NonMaxIndex`] is an index into the places of a node.
+//!
+//! The examples are lines of tests. There `rt` is the `HostRuntime` of the test, and `assert!(rt;
+//! c)` fails where `c` is false.
 #![tactic(auto)]
 
 mod header;

@@ -9,6 +9,10 @@
 //!
 //! The module `inner_nodes` has the traits, the three representations and the builder, `iteration`
 //! the iterators over children, `commands` child commands and runs of them.
+//!
+//! The examples are lines of tests. There `rt` is the `HostRuntime` of the test, and `assert!(rt;
+//! c)` fails where `c` is false. `leaf(k)` is the pointer to the leaf with the slab key `k`.
+//! `pair`, `node_of` and `with_bytes` make a node with a prefix and children.
 #![tactic(auto)]
 
 mod commands;
