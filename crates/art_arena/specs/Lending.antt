@@ -4,9 +4,9 @@ use Rattle.std.specs.Borrow.{RattleType, Lends, Fml, MutBor}
 use Rattle.slab.specs.Slab.{Slab, with_value}
 use Rattle.art_arena.specs.Links.{with_value_at}
 use Rattle.art_arena.specs.contracts.arena.Slabs as slabs
-use Rattle.art_nodes.specs.contracts.inner_nodes.inner_node_sorted.InnerNodeSorted as sorted
-use Rattle.art_nodes.specs.contracts.inner_nodes.inner_node_indirect.InnerNodeIndirect as indirect
-use Rattle.art_nodes.specs.contracts.inner_nodes.inner_node_direct.InnerNodeDirect as direct
+use Rattle.art_nodes.specs.contracts.inner_nodes.representations.inner_node_sorted.InnerNodeSorted as sorted
+use Rattle.art_nodes.specs.contracts.inner_nodes.representations.inner_node_indirect.InnerNodeIndirect as indirect
+use Rattle.art_nodes.specs.contracts.inner_nodes.representations.inner_node_direct.InnerNodeDirect as direct
 use Rattle.art_nodes.specs.contracts.leaf_node.LeafNode as leaf
 use Rattle.slab.specs.contracts.Slab.{the_row}
 use Rattle.std.specs.contracts.alloc.Global as global
