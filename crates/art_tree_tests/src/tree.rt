@@ -5,6 +5,7 @@ mod dictionary;
 mod loading;
 mod matches;
 mod path;
+mod readme_examples;
 mod refusals;
 mod searches;
 mod tree_examples;
