@@ -1,4 +1,4 @@
--- A write to one slab of an arena, as its callers see it.
+-- Writes to one slab of an arena, as callers see them.
 use Rattle.std.proofs.Common.{Bor, MutBor, cond, is_some, IsSome, ◌-◌, ◌≡◌, ◌≢◌, ◌∙◌, ℕ, [], Option, Some, None, sym, ap, subst, refl, inl, inr, arith, rules, ◌≤◌, Result, Ok, Err, OnOk}
 use Rattle.std.specs.Option.{option_copied, option_copied_mut}
 use Rattle.std.specs.Prelude.{slice_index_or}
@@ -16,12 +16,12 @@ use Rattle.art_nodes.specs.declared.leaf_node.LeafNode.{LeafNode}
 use Rattle.art_nodes.proofs.KindLaws.{same_or_differ}
 use Rattle.art_arena.specs.Arena.{ArenaOf, Held, HeldInner, Nothing, held, held_inner, held_leaf, held_under, held_option, Changes, SameNodes, room, slab_room, SameRoom, SameOtherRoom}
 
--- a slab lends a value where it has one
+-- a slab returns a reference where it has a value
 pub IsSome-lent : {T : Type 0} (lent : Option (Bor T)) {slot : Option T} → option_copied lent ≡ slot → IsSome slot → IsSome lent
 IsSome-lent None same within = subst IsSome (sym same) within
 IsSome-lent (Some _) same within = refl
 
--- the same of a value to be changed
+-- the same of a mutable reference
 pub IsSome-lent_mut : {T : Type 0} (lent : Option (MutBor T)) {slot : Option T} → option_copied_mut lent ≡ slot → IsSome slot → IsSome lent
 IsSome-lent_mut None same within = subst IsSome (sym same) within
 IsSome-lent_mut (Some _) same within = refl
@@ -30,7 +30,7 @@ IsSome-lent_mut (Some _) same within = refl
 pub get-called : {T : Type 0} (before slab : Slab T) (at key : ℕ) → before ≡ slab → at ≡ key → get before at ≡ get slab key
 get-called before slab at key lent same = ap (get before) same ∙ ap (λ s. get s key) lent
 
--- a value in the place of another takes no room
+-- replacing a value changes no spare capacity
 pub slab_room-with_value : {T : Type 0} (slab : Slab T) (key : ℕ) (value : T) → ContainsKey slab key → slab_room (with_value slab key value) ≡ slab_room slab
 slab_room-with_value slab key value within =
     let counted = sum_by-set (λ slot. cond (is_some slot) 1 0) slab.slots key (Some value) None (ContainsKey-within slab key within) in
@@ -51,7 +51,7 @@ module _ {K V : Type 0} {P : ℕ} {N : Type 0} (kind : NodeType) (slab_of : Aren
     ];
   }
 
-  -- the same as a call of the slab says it
+  -- the same in the words of the slab's contract
   pub Changes-called : (arena : ArenaOf K V P) (before slots : Slab N) (key at : ℕ) (slot : Option N) → before ≡ slab_of arena → key ≡ at → Updates before slots key slot → Changes arena (with_slab arena slots) (opaque_pointer kind at) (held_option held_as slot)
   Changes-called arena before slots key at slot lent same updates =
       subst (λ k. Changes arena (with_slab arena slots) (opaque_pointer kind k) (held_option held_as slot)) same (Changes-written arena slots key slot (subst (λ s. Updates s slots key slot) lent updates))
@@ -69,14 +69,14 @@ module _ {K V : Type 0} {P : ℕ} {N : Type 0} (kind : NodeType) (slab_of : Aren
     pub room-written : (arena : ArenaOf K V P) (slots : Slab N) → room (with_slab arena slots) kind ≡ slab_room slots
     room-written arena slots = room_of_slab (with_slab arena slots) ∙ ap slab_room (slab_written arena slots)
 
-    -- a slab of the same room changes no room
+    -- a slab of the same spare capacity changes none of the arena's
     pub SameRoom-written : (arena : ArenaOf K V P) (slots : Slab N) → slab_room slots ≡ slab_room (slab_of arena) → SameRoom arena (with_slab arena slots)
     SameRoom-written arena slots kept = λ other. elim (same_or_differ other kind) [
       | inr differ ↦ other_room arena slots other differ
       | inl same ↦ subst (λ k. room (with_slab arena slots) k ≡ room arena k) (sym same) (room-written arena slots ∙ kept ∙ sym (room_of_slab arena))
     ]
 
-    -- a node in the place of another changes no room
+    -- replacing a node changes no spare capacity
     pub SameRoom-with_value : (arena : ArenaOf K V P) (key : ℕ) (node : N) → ContainsKey (slab_of arena) key → SameRoom arena (with_slab arena (with_value (slab_of arena) key node))
     SameRoom-with_value arena key node within = SameRoom-written arena (with_value (slab_of arena) key node) (slab_room-with_value (slab_of arena) key node within)
 
@@ -92,7 +92,7 @@ IsInner-held {P = P} arena pointer {kind = kind} {there = there} {node = node} s
     let same_node : there ≡ node = search rules in
     subst (λ kind. IsInner P (most_children kind) node) same (subst (IsInner P (most_children kind)) same_node sound)
 
--- room made in a slab is room of the arena for the kind
+-- spare capacity made in a slab is that of the arena for the kind
 pub made_room : {T E : Type 0} (result : Result Unit E) (slab : Slab T) (additional : ℕ) → OnOk result (HasRoomFor slab additional) → OnOk result (additional ≤ slab_room slab)
 made_room (Ok _) slab additional fits = omega (arith, fits)
 made_room (Err _) slab additional fits = tt

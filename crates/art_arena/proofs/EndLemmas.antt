@@ -76,7 +76,8 @@ module _ {K V : Type 0} {P : ℕ} (text : K → List ℕ) (arena : ArenaOf K V P
   end-branch Last path branches byte child stand sound is = last-branch path branches byte child stand sound is
 
 module _ {K V : Type 0} {P : ℕ} (text : K → List ℕ) (arena : ArenaOf K V P) (end : End) (whole : Tree (OpaqueNodePtr K V P)) where
-  -- where the way is: at the root of a part whose end is that of the whole, after at least so many bytes
+  -- where the descent is: at the root of a part whose end is that of the whole, after at least so
+  -- many bytes
   pub record IsToEnd (at : OpaqueNodePtr K V P) (passed : ℕ) : Type 0 where
     pub part : Tree (OpaqueNodePtr K V P)
     pub path : List ℕ
@@ -122,7 +123,7 @@ module _ {K V : Type 0} {P : ℕ} (text : K → List ℕ) (arena : ArenaOf K V P
             ends = λ leaf at_end. ends leaf (branch.ends leaf at_end);
           }
 
-  -- the leaf that the way ends at is at the end
+  -- the leaf at which the descent ends is at the end
   pub to-end-leaf : (at : OpaqueNodePtr K V P) (passed : ℕ) (leaf : LeafNode K V P) → IsToEnd at passed → held arena at ≡ HeldLeaf leaf → IsAtEnd end (leaves whole) at
   to-end-leaf at passed leaf on is = by_part on.part on.at_root on.stands on.ends
     where
@@ -134,7 +135,7 @@ module _ {K V : Type 0} {P : ℕ} (text : K → List ℕ) (arena : ArenaOf K V P
       by_part (Leaf pointer x) root stands ends = let there = ends (at, x) (itself end pointer x root) in (x, there.0, there.1)
       by_part (Inner pointer prefix branches) root (own, holds, shows, stand) ends = let one : HeldInner own ≡ HeldLeaf leaf = sym holds ∙ ap (held arena) root ∙ is in absurd (cc)
 
-  -- from a node in hand to its child at the end
+  -- from a node to its child at the end
   pub to-end-under : (node : nodes.Inner (OpaqueNodePtr K V P)) (path : List ℕ) (byte : ℕ) (child : OpaqueNodePtr K V P) → StandsUnder P (leaf_text text) (held arena) node whole → IsSound path whole → end_pair end node.children ≡ Some (byte, child) → IsToEnd child 0
   to-end-under node path byte child stands sound pair = by_tree whole stands sound (λ leaf at_end. at_end)
     where

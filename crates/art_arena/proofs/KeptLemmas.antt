@@ -1,4 +1,4 @@
--- What stands and is spelled on where leaves or inner nodes change.
+-- Trees and lists that are unchanged where leaves or inner nodes change.
 use Rattle.std.proofs.Common.{◌≡◌, ◌≢◌, ◌∙◌, ℕ, List, [], ◌∷◌, Option, Some, None, refl, sym, ap, inl, inr}
 use Rattle.std.specs.List.{AllByRecursion}
 use Rattle.std.proofs.lemmas.Bool.{cases_eq}

@@ -1,4 +1,4 @@
--- A leaf of a list that links spell, and its neighbours.
+-- The leaves of a list that links spell are knit.
 use Rattle.std.proofs.Common.{◌≡◌, ◌⊎◌, ◌∙◌, ℕ, List, [], ◌∷◌, ◌++◌, slice_get, Option, Some, None, inl, inr, refl, sym, ap, subst}
 use Rattle.std.specs.Option.{option_and_then}
 use Rattle.art_nodes.specs.Leaf.{previous_key, next_key}

@@ -1,4 +1,4 @@
--- What a write to the links of a leaf changes, and what becomes of lists of leaves.
+-- Changes of the links of leaves, and the lists that they spell.
 use Rattle.std.proofs.Common.{◌≡◌, ◌≢◌, ◌↔◌, ◌⊎◌, ◌∙◌, ℕ, List, [], ◌∷◌, ◌++◌, Option, Some, None, refl, sym, ap, subst, inl, inr, append_assoc, slice_set}
 use Rattle.std.specs.Option.{ForSome, option_and_then, option_map}
 use Rattle.slab.specs.Slab as slabs
@@ -125,7 +125,7 @@ module _ {K V : Type 0} {P : ℕ} where
     other_leaves = λ k not_before not_after. second.other_leaves k not_after ∙ first.other_leaves k not_before;
   }
 
-  -- joined to what is to stand before it and then to what is to stand after it
+  -- joined to what is to be before it and then to what is to be after it
   pub StandsBetween-joined : (old mid new : ArenaOf K V P) (before : Option ℕ) (this : ℕ) (after : Option ℕ) → before ≢ Some this → after ≢ Some this → Joins old mid before (Some this) → Joins mid new (Some this) after → StandsBetween old new before this after
   StandsBetween-joined old mid new before this after not_before not_after first second = record {
     previous = second.other_previous this not_after ∙ first.previous this refl;
@@ -176,7 +176,7 @@ module _ {K V : Type 0} {P : ℕ} where
   pub apart-from_previous : (arena : ArenaOf K V P) (sibling this : ℕ) → IsKnit arena sibling → IsUnlinked arena this → previous_at arena sibling ≢ Some this
   apart-from_previous arena sibling this knit unlinked = λ named. let e : None ≡ Some sibling = sym unlinked.1 ∙ knit.previous this named in cc
 
-  -- placed where the old leaf stands, whose links are then cut on both sides
+  -- inserted where the old leaf is, whose links are then cut on both sides
   pub TakesPlace-joined : (old mid cut new : ArenaOf K V P) (gone this : ℕ) → this ≢ gone → StandsBetween old mid (previous_at old gone) this (next_at old gone) → Joins mid cut None (Some gone) → Joins cut new (Some gone) None → TakesPlace old new gone this
   TakesPlace-joined old mid cut new gone this apart placed second third = record {
     unlinked = (third.other_previous gone (none_differs gone) ∙ second.previous gone refl, third.next gone refl);
@@ -211,7 +211,7 @@ module _ {K V : Type 0} {P : ℕ} where
   kept-leaves old new [] kept = tt
   kept-leaves old new (key ∷ keys) kept = (All-head (λ k. leaf_at new k ≡ leaf_at old k) key keys kept, kept-leaves old new keys (All-tail (λ k. leaf_at new k ≡ leaf_at old k) key keys kept))
 
-  -- a list goes on being spelled where none of its leaves changed
+  -- a list is still spelled where none of its leaves changed
   pub Spells-kept : (old new : ArenaOf K V P) (keys : List ℕ) → AllByRecursion (λ key. leaf_at new key ≡ leaf_at old key) keys → Spells old keys → Spells new keys
   Spells-kept old new keys same spells = record { distinct = spells.distinct; spelled = kept None keys same spells.spelled }
     where

@@ -1,4 +1,4 @@
--- Lists whose members name their neighbours, and what becomes of them where a part is exchanged.
+-- Doubly linked lists by keys, and the replacement of a part.
 use Rattle.std.proofs.Common.{◌≡◌, ◌≢◌, ◌∙◌, ℕ, List, [], ◌∷◌, ◌++◌, Option, Some, None, refl, sym, ap, subst, slice_get}
 use Rattle.std.specs.List.{AllByRecursion}
 use Rattle.std.proofs.lemmas.List.Elements.{All-from_recursion, recursion_from_All}
@@ -39,7 +39,7 @@ pub Each-weaker : (Q R : ℕ → Type 0) → ((x : ℕ) → Q x → R x) → (xs
 Each-weaker Q R weaker [] each = tt
 Each-weaker Q R weaker (x ∷ xs) each = (weaker x each.0, Each-weaker Q R weaker xs each.1)
 
--- no member stands in the list twice, by recursion
+-- no member is twice in the list, by recursion
 abbrev pub Distinct : List ℕ → Type 0
 Distinct [] = Unit {0}
 Distinct (x ∷ xs) = AllByRecursion (λ y. y ≢ x) xs × Distinct xs
@@ -60,14 +60,14 @@ pub Distinct-back : (xs ys : List ℕ) → Distinct (xs ++ ys) → Distinct ys
 Distinct-back [] ys distinct = distinct
 Distinct-back (x ∷ xs) ys distinct = Distinct-back xs ys distinct.1
 
--- a member that stands nowhere else may be put in
+-- a member that is nowhere else may be inserted
 pub Distinct-insert : (xs ys : List ℕ) (this : ℕ) → AllByRecursion (λ k. k ≢ this) (xs ++ ys) → Distinct (xs ++ ys) → Distinct (xs ++ this ∷ ys)
 Distinct-insert [] ys this apart distinct = (apart, distinct)
 Distinct-insert (x ∷ xs) ys this apart distinct =
     let parts = Each-split (λ y. y ≢ x) xs ys distinct.0 in
     (Each-append (λ y. y ≢ x) xs (this ∷ ys) parts.0 (λ same. apart.0 (sym same), parts.1), Distinct-insert xs ys this apart.1 distinct.1)
 
--- a member may be taken out, and is none of the others
+-- a member may be removed, and is none of the others
 pub Distinct-remove : (xs ys : List ℕ) (this : ℕ) → Distinct (xs ++ this ∷ ys) → Distinct (xs ++ ys) × AllByRecursion (λ k. k ≢ this) (xs ++ ys)
 Distinct-remove [] ys this distinct = (distinct.1, distinct.0)
 Distinct-remove (x ∷ xs) ys this distinct =
@@ -120,13 +120,13 @@ module _ (next previous : ℕ → Option ℕ) where
   Linked-append before (x ∷ xs) ys after front back =
       (front.0, front.1 ∙ sym (first_or-append xs ys after), Linked-append (Some x) xs ys after front.2 back)
 
-  -- whoever stands before another has a next
+  -- whoever is before another has a next
   pub next-of_prefix : (before : Option ℕ) (xs : List ℕ) (last : ℕ) → Linked next previous before xs (Some last) → AllByRecursion (λ k. next k ≢ None) xs
   next-of_prefix before [] last linked = tt
   next-of_prefix before (x ∷ []) last linked = ((λ ends. let e : Some last ≡ None = sym linked.1 ∙ ends in cc), tt)
   next-of_prefix before (x ∷ y ∷ ys) last linked = ((λ ends. let e : Some y ≡ None = sym linked.1 ∙ ends in cc), next-of_prefix (Some x) (y ∷ ys) last linked.2)
 
-  -- whoever stands after another has a previous
+  -- whoever is after another has a previous
   pub previous-of_back : (first : ℕ) (xs : List ℕ) (after : Option ℕ) → Linked next previous (Some first) xs after → AllByRecursion (λ k. previous k ≢ None) xs
   previous-of_back first [] after linked = tt
   previous-of_back first (x ∷ xs) after linked = ((λ begins. let e : Some first ≡ None = sym linked.0 ∙ begins in cc), previous-of_back x xs after linked.2)
@@ -161,7 +161,8 @@ module _ (next previous next' previous' : ℕ → Option ℕ) where
       rest [] apart nexts previouses = tt
       rest (z ∷ zs) apart nexts previouses = ((nexts.0, previouses.0 (λ same. apart.0 (sym (same_Some _ _ same)))), rest zs apart.1 nexts.1 previouses.1)
 
-  -- a part in the middle of a list is exchanged: its neighbours name the new part, and no other link changed but at members that are out
+  -- a part in the middle of a list is replaced: its neighbours name the new part, and no other link
+  -- changed but at members that are removed
   pub Linked-exchanged : (Apart : ℕ → Type 0) (front gone part back : List ℕ)
       → Distinct (front ++ back)
       → AllByRecursion Apart front

@@ -1,4 +1,4 @@
--- A prefix against the rest of a key, and the side of the key that texts lie on.
+-- A prefix compared with the rest of a key, and the side of the key on which texts lie.
 use Rattle.std.proofs.Common.{◌≡◌, ◌≢◌, ◌∙◌, ℕ, ◌-◌, nat_eq, List, ◌++◌, length, All, take, drop, min, Ok, Err, get_or, refl, sym, ap, inl, inr}
 use Rattle.std.specs.List.{common_prefix_len}
 use Rattle.std.specs.declared.cmp.Ordering.{Ordering}
@@ -54,7 +54,7 @@ key-begins path prefix key depth (r, key_is) deep whole =
     let rest : drop depth key ≡ r = ap (drop depth) key_is ∙ drop_at path r depth deep in
     (front.0, key_is ∙ ap (λ z. path ++ z) (sym rest ∙ front.1) ∙ sym (append_assoc path prefix front.0))
 
--- what a call says of the rest of a key, which is the part of it from a depth on
+-- the rest of a key is the part of it from a depth on
 pub counted_in_rest : (prefix key : List ℕ) (depth n : ℕ) → n ≡ common_prefix_len nat_eq prefix (take (length key - depth) (drop depth key)) → n ≡ common_prefix_len nat_eq prefix (drop depth key)
 counted_in_rest prefix key depth n counted = counted ∙ ap (common_prefix_len nat_eq prefix) (take_rest key depth)
 

@@ -1,4 +1,4 @@
--- Where the pointers of standing trees stand.
+-- The pointers of a tree are distinct, and trees stand where their nodes are unchanged.
 use Rattle.std.proofs.Common.{◌≡◌, ◌≢◌, ◌∙◌, ℕ, suc, ◌+◌, ◌<◌, ◌≤◌, List, [], ◌∷◌, ◌++◌, length, length-append, map, get_or, All, Contains, refl, sym, ap, subst, arith}
 use Rattle.std.proofs.lemmas.List.{map-append}
 use Rattle.std.proofs.lemmas.List.Elements.{Contains-append_left, Contains-append_right, All-nil, All-cons, All-head, All-tail, All-append, All-weaker}
@@ -161,7 +161,7 @@ module _ {H L : Type 0} (room : ℕ) (text_of : L → List ℕ) where
   module _ (held_before held_after : H → Held H L) where
     module _ (kept : (pointer : H) → held_before pointer ≢ Nothing → held_after pointer ≡ held_before pointer) where
       mutual
-        -- a tree stands on where all that was held is held as before
+        -- a tree still stands where all that was held is held as before
         pub stands-on : (tree : Tree H) → Stands room text_of held_before tree → Stands room text_of held_after tree
         stands-on (Leaf pointer text) (leaf, holds, has) = (leaf, kept pointer (λ free. let one : HeldLeaf leaf ≡ Nothing = sym holds ∙ free in absurd (cc)) ∙ holds, has)
         stands-on (Inner pointer prefix branches) (node, holds, shows, stand) =
@@ -172,7 +172,7 @@ module _ {H L : Type 0} (room : ℕ) (text_of : L → List ℕ) where
         all-stand-on (Branch byte tree others) (stands, stand) = (stands-on tree stands, all-stand-on others stand)
 
     mutual
-      -- a tree stands on where each of its own pointers holds what it held
+      -- a tree still stands where each of its own pointers holds what it held
       pub stands-where_kept : (tree : Tree H) → ((pointer : H) → Contains (places tree) pointer → held_after pointer ≡ held_before pointer) → Stands room text_of held_before tree → Stands room text_of held_after tree
       stands-where_kept (Leaf pointer text) kept (leaf, holds, has) = (leaf, kept pointer (0, omega arith, refl) ∙ holds, has)
       stands-where_kept (Inner pointer prefix branches) kept (node, holds, shows, stand) =
@@ -187,7 +187,7 @@ module _ {H L : Type 0} (room : ℕ) (text_of : L → List ℕ) where
       kept-beside : (pointer : H) → held_before pointer ≢ Nothing → held_after pointer ≡ held_before pointer
       kept-beside pointer is_held = others pointer (λ same. is_held (ap held_before same ∙ was_free))
 
-      -- so it does where something is put at a pointer that held nothing
+      -- so it does after an allocation at a pointer that held nothing
       pub stands-beside : (tree : Tree H) → Stands room text_of held_before tree → Stands room text_of held_after tree
       stands-beside tree stands = stands-on kept-beside tree stands
 

@@ -1,4 +1,4 @@
--- The leaf that a node's whole prefix is read from.
+-- The leaf from which the whole prefix of a node is read.
 use Rattle.std.proofs.Common.{◌≡◌, ◌∙◌, ℕ, List, Some, Contains, sym, subst}
 use Rattle.art_header.specs.declared.node_type.NodeType.TheVariants.{Leaf}
 use Rattle.art_nodes.specs.ChildMap.{first_pair}

@@ -1,4 +1,4 @@
--- Laws of what is held at a pointer, and of what a node shows there, for proofs of crates above.
+-- Laws of held nodes, for the proofs of crates above.
 use Rattle.std.proofs.Common.{◌≡◌, ℕ, List, length, drop, Option, Some, None, refl, sym, subst}
 use Rattle.std.proofs.lemmas.List.{take-append-drop}
 use Rattle.art_bytes.specs.Text.{IsPrefixOf}

@@ -1,4 +1,4 @@
--- Fronts of texts, and texts that part after a common front.
+-- Prefixes of texts, and texts that differ after a common prefix.
 use Rattle.std.proofs.Common.{◌+◌, nat_eq, drop, inl, inr, ◌≡◌, ◌∙◌, ℕ, ◌<◌, List, [], ◌∷◌, ◌++◌, length, take, refl, sym, ap, arith, append_assoc}
 use Rattle.std.specs.Ordering.{nat_cmp, ordering_then}
 use Rattle.std.specs.Cmp.{nat_cmp_is}
@@ -11,7 +11,7 @@ use Rattle.art_arena.specs.CommonPrefix.{IsSharedFrom}
 use Rattle.art_bytes.specs.Text.{IsPrefixOf, text_order}
 use Rattle.art_bytes.proofs.PrefixLaws.{prefix-antisym}
 
--- what begins two texts that part after q begins q
+-- a prefix of two texts that differ after q is a prefix of q
 pub prefix_of_both : (o q : List ℕ) (c d : ℕ) (r s t u : List ℕ) → o ++ r ≡ (q ++ c ∷ []) ++ s → o ++ t ≡ (q ++ d ∷ []) ++ u → (c ≡ d → ⊥) → IsPrefixOf o q
 prefix_of_both [] q c d r s t u first second differ = (q, refl)
 prefix_of_both (y ∷ o) [] c d r s t u first second differ = let a : y ≡ c = cc in let b : y ≡ d = cc in absurd (differ (sym a ∙ b))
@@ -22,7 +22,7 @@ prefix_of_both (y ∷ o) (z ∷ q) c d r s t u first second differ =
     let rest = prefix_of_both o q c d r s t u one two differ in
     (rest.0, ap (λ w. z ∷ w) rest.1 ∙ ap (λ w. w ∷ (o ++ rest.0)) (sym same))
 
--- one text is before another: after a common front it has the smaller byte
+-- one text is before another: after a common prefix it has the smaller byte
 pub record PartsBefore (a b : List ℕ) : Type 0 where
   pub front : List ℕ
   pub lesser : ℕ
@@ -34,7 +34,7 @@ pub record PartsBefore (a b : List ℕ) : Type 0 where
 nat_cmp-itself : (n : ℕ) → nat_cmp n n ≡ Equal
 nat_cmp-itself n = sym (nat_cmp_is n n Equal refl)
 
--- a common front does not count
+-- a common prefix does not count
 pub text_order-append : (q a b : List ℕ) → text_order (q ++ a) (q ++ b) ≡ text_order a b
 text_order-append [] a b = refl
 text_order-append (x ∷ q) a b = rw (nat_cmp-itself x) (text_order-append q a b)
@@ -51,7 +51,7 @@ apart : (q : List ℕ) (c d : ℕ) (r s t : List ℕ) → (c ≡ d → ⊥) → 
 apart [] c d r s t differ same = differ (cc)
 apart (x ∷ q) c d r s t differ same = let tails : (q ++ c ∷ []) ++ r ≡ ((q ++ d ∷ []) ++ s) ++ t = cc in apart q c d r s t differ tails
 
--- neither begins the other
+-- neither is a prefix of the other
 pub PartsBefore-apart : (a b : List ℕ) → PartsBefore a b → (IsPrefixOf a b → ⊥) × (IsPrefixOf b a → ⊥)
 PartsBefore-apart a b parts =
     let q : List ℕ = parts.front in (
@@ -64,7 +64,8 @@ carried_by_byte Less q r o carried is = is
 carried_by_byte Equal q r o carried is = carried is
 carried_by_byte Greater q r o carried is = is
 
--- where a text and the rest of a key differ in the text's front, they are in the order of that front
+-- where a text and the rest of a key differ in the text's prefix, they are in the order of that
+-- prefix
 pub text_order-carried : (q s rest : List ℕ) (o : Ordering) → (o ≡ Equal → ⊥) → text_order q (take (length q) rest) ≡ o → text_order (q ++ s) rest ≡ o
 text_order-carried [] s rest o never is = absurd (never (sym is))
 text_order-carried (x ∷ q) s [] o never is = is

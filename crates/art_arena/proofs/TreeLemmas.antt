@@ -1,4 +1,4 @@
--- The texts of sound trees.
+-- The texts of sound trees: common prefixes and order.
 use Rattle.std.proofs.Common.{◌≡◌, ◌∙◌, ℕ, suc, ◌-◌, ◌<◌, ◌≤◌, ◌^◌, List, [], ◌∷◌, ◌++◌, length, length-append, get_or, All, AllPairs, refl, sym, ap, subst, inl, inr, arith}
 use Rattle.std.specs.declared.cmp.Ordering.TheVariants.{Less}
 use Rattle.std.proofs.lemmas.Bool.{cases_lt}
@@ -31,7 +31,7 @@ pub record GoesOn (path : List ℕ) (low : ℕ) (text : List ℕ) : Type 0 where
   pub reaches : low ≤ byte
   pub begins : IsPrefixOf (path ++ byte ∷ []) text
 
--- a text that begins with the path and this byte parts before one that goes on with a greater byte
+-- a text that begins with the path and this byte is before one that goes on with a greater byte
 pub parts_before : (path : List ℕ) (byte : ℕ) (x y : List ℕ) → IsPrefixOf (path ++ byte ∷ []) x → GoesOn path (suc byte) y → PartsBefore x y
 parts_before path byte x y begins on = record { front = path; lesser = byte; greater = on.byte; begins = begins; other_begins = on.begins; ascends = omega (arith, on.reaches) }
 
@@ -63,7 +63,7 @@ module _ {H : Type 0} where
     branch_texts-some path (Branch byte tree others) some sound =
         rw (map-append (λ leaf. leaf.1) (leaves tree) (branch_leaves others), length-append) (omega (arith, texts-some (path ++ byte ∷ []) tree sound.0))
 
-  -- what begins all texts of two branches begins the path to them
+  -- a common prefix of all texts of two branches is a prefix of the path to them
   prefix_of_two : (path : List ℕ) (b c : ℕ) (t u : Tree H) (others : Branches H) (other : List ℕ) → IsSound (path ++ b ∷ []) t → IsSound (path ++ c ∷ []) u → b < c → All (IsPrefixOf other) (branch_texts (Branch b t (Branch c u others))) → IsPrefixOf other path
   prefix_of_two path b c t u others other t_sound u_sound less all =
       let joined : branch_texts (Branch b t (Branch c u others)) ≡ texts t ++ (texts u ++ branch_texts others) =
@@ -92,7 +92,7 @@ module _ {H : Type 0} where
   }
 
   mutual
-    -- each text parts before every later one
+    -- each text is before every later one
     pub texts-part : (path : List ℕ) (tree : Tree H) → IsSound path tree → AllPairs PartsBefore (texts tree)
     texts-part path (Leaf pointer text) sound = λ i j d before inside. absurd (omega (arith, before, inside))
     texts-part path (Inner pointer prefix branches) sound = branch_texts-part (path ++ prefix) branches 0 sound.2 sound.1
@@ -112,7 +112,7 @@ module _ {H : Type 0} where
   pub texts-ascend : (path : List ℕ) (tree : Tree H) → IsSound path tree → AllPairs (λ a b. text_order a b ≡ Less) (texts tree)
   texts-ascend path tree sound i j d before inside = PartsBefore-less (get_or (texts tree) i d) (get_or (texts tree) j d) (texts-part path tree sound i j d before inside)
 
-  -- no text begins another
+  -- no text is a prefix of another
   pub texts-apart : (path : List ℕ) (tree : Tree H) → IsSound path tree → AllPairs (λ a b. (IsPrefixOf a b → ⊥) × (IsPrefixOf b a → ⊥)) (texts tree)
   texts-apart path tree sound i j d before inside = PartsBefore-apart (get_or (texts tree) i d) (get_or (texts tree) j d) (texts-part path tree sound i j d before inside)
 

@@ -1,4 +1,4 @@
--- What a leaf's text has of the prefix of a node above it.
+-- The prefix of a node in the texts of the leaves below it.
 use Rattle.std.proofs.Common.{◌≡◌, ◌≢◌, ◌∙◌, ℕ, ◌+◌, ◌≤◌, List, [], ◌++◌, length, length-append, Option, Some, None, All, Contains, ◌-◌, drop, take, refl, sym, ap, subst, arith}
 use Rattle.std.proofs.lemmas.List.{take_all, drop_at, append_assoc, take_at, length-map}
 use Rattle.std.proofs.Math.ListN.{get_or-map}

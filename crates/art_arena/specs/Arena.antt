@@ -1,4 +1,4 @@
--- What contracts see of an arena.
+-- The nodes that an arena holds, and its spare capacity.
 use Rattle.std.specs.Prelude.{◌≡◌, ◌≢◌, ℕ, ◌-◌, Option, Some, None}
 use Rattle.slab.specs.Slab.{Slab, get, slab_len, with_value}
 use Rattle.art_header.specs.declared.node_type.NodeType.{NodeType}
@@ -21,18 +21,18 @@ pub record Shelves (A B C D L : Type 0) : Type 0 where
 abbrev pub Arena : Type 0 → Type 0 → Type 0
 Arena H L = Shelves (Inner H) (Inner H) (Inner H) (Inner H) L
 
--- what stands at a pointer
+-- what is held at a pointer
 pub data Held (H L : Type 0) : Type 0 where
   Nothing : Held H L
   HeldInner : Inner H → Held H L
   HeldLeaf : L → Held H L
 
--- how many more values a slab takes with no memory
+-- how many more values a slab takes without memory
 abbrev pub slab_room : {T : Type 0} → Slab T → ℕ
 slab_room slab = slab.capacity - slab_len slab
 
 module _ {H L : Type 0} where
-  -- how many more nodes of a kind an arena takes with no memory
+  -- how many more nodes of a kind an arena takes without memory
   abbrev pub room : Arena H L → NodeType → ℕ
   room arena Node4 = slab_room arena.node4
   room arena Node16 = slab_room arena.node16
@@ -40,11 +40,11 @@ module _ {H L : Type 0} where
   room arena Node256 = slab_room arena.node256
   room arena Leaf = slab_room arena.leaf
 
-  -- every kind has the room that it had
+  -- the spare capacity of every kind is unchanged
   abbrev pub SameRoom : Arena H L → Arena H L → Type 0
   SameRoom old new = (kind : NodeType) → room new kind ≡ room old kind
 
-  -- every kind but this one has the room that it had
+  -- the spare capacity of every kind but this one is unchanged
   abbrev pub SameOtherRoom : Arena H L → Arena H L → NodeType → Type 0
   SameOtherRoom old new kind = (other : NodeType) → other ≢ kind → room new other ≡ room old other
 
@@ -84,7 +84,7 @@ module _ {H L : Type 0} where
   held_under arena Node256 key = held_inner (get arena.node256 key)
   held_under arena Leaf key = held_leaf (get arena.leaf key)
 
-  -- what is held, as a value or nothing of a node's own type
+  -- what is held, as an optional node of one type
   abbrev pub held_option : {N : Type 0} → (N → Held H L) → Option N → Held H L
   held_option held_as None = Nothing
   held_option held_as (Some node) = held_as node
@@ -104,7 +104,7 @@ module _ {K V : Type 0} {P : ℕ} where
   abbrev pub held : ArenaOf K V P → OpaqueNodePtr K V P → Held (OpaqueNodePtr K V P) (LeafNode K V P)
   held arena pointer = held_under arena (node_kind pointer) (opaque_key pointer)
 
-  -- at this pointer stands this now, and at every other pointer what stood there
+  -- this pointer holds this now, and every other pointer what it held
   pub record Changes (old new : ArenaOf K V P) (at : OpaqueNodePtr K V P) (now : Held (OpaqueNodePtr K V P) (LeafNode K V P)) : Type 0 where
     pub changed : held new at ≡ now
     pub others : (pointer : OpaqueNodePtr K V P) → pointer ≢ at → held new pointer ≡ held old pointer

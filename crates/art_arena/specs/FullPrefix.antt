@@ -1,4 +1,4 @@
--- What a full match answers, and on which side of a key texts lie.
+-- The result of a full match, and the side of a key on which texts lie.
 use Rattle.std.specs.Prelude.{◌≡◌, ℕ, List, All, Result, Ok, Err}
 use Rattle.std.specs.declared.cmp.Ordering.{Ordering}
 use Rattle.std.specs.declared.cmp.Ordering.TheVariants.{Less, Equal, Greater}
@@ -7,7 +7,7 @@ use Rattle.art_nodes.specs.declared.inner_nodes.prefix_match.ExplicitMismatch.{E
 use Rattle.art_nodes.specs.declared.inner_nodes.prefix_match.PrefixMatch.{PrefixMatch}
 use Rattle.art_arena.specs.CommonPrefix.{Parting}
 
--- a full match, but for the leaf that it read
+-- the result of a full match, but for the leaf that it read
 abbrev pub match_of : {K V : Type 0} {P : ℕ} → Result PrefixMatch (ExplicitMismatch K V P) → Result ℕ Parting
 match_of (Ok matched) = Ok matched.matched_bytes
 match_of (Err mismatch) =

@@ -10,7 +10,7 @@ use Rattle.art_nodes.specs.declared.pointers.OpaqueNodePtr.{OpaqueNodePtr}
 use Rattle.slab.specs.Slab.{get}
 use Rattle.art_arena.specs.Arena.{ArenaOf, HeldInner, Nothing, held}
 
--- no member of the list stands in it twice
+-- no member is twice in the list
 abbrev pub AreDistinct : {A : Type 0} → List A → Type 0
 AreDistinct [] = Unit {0}
 AreDistinct (member ∷ members) = All (λ other. other ≢ member) members × AreDistinct members
@@ -20,7 +20,8 @@ module _ {K V : Type 0} {P : ℕ} where
   abbrev pub leaf_at : ArenaOf K V P → ℕ → Option (LeafNode K V P)
   leaf_at arena key = get arena.leaf key
 
-  -- each of these leaves names its neighbours, and the first one names this one before it
+  -- each of these leaves names its neighbours, and the first one names this one as the one before
+  -- it
   abbrev pub SpellsAfter : ArenaOf K V P → Option ℕ → List ℕ → Type 0
   SpellsAfter arena before [] = Unit {0}
   SpellsAfter arena before (key ∷ keys) =
@@ -48,7 +49,7 @@ module _ {K V : Type 0} {P : ℕ} where
   abbrev pub IsUnlinked : ArenaOf K V P → ℕ → Type 0
   IsUnlinked arena key = (previous_at arena key ≡ None) × (next_at arena key ≡ None)
 
-  -- the leaf is held, and each neighbour that it names names it back on that side
+  -- the leaf is held, and each neighbour that it names is held and names it back on that side
   pub record IsKnit (arena : ArenaOf K V P) (key : ℕ) : Type 0 where
     pub held : HoldsLeaf arena key
     pub previous : (other : ℕ) → previous_at arena key ≡ Some other → next_at arena other ≡ Some key
@@ -71,7 +72,7 @@ module _ {K V : Type 0} {P : ℕ} where
     pub other_previous : (key : ℕ) → after ≢ Some key → previous_at new key ≡ previous_at old key
     pub other_leaves : (key : ℕ) → before ≢ Some key → after ≢ Some key → leaf_at new key ≡ leaf_at old key
 
-  -- this leaf stands between these two now, each of which may be none, and no other link changed
+  -- this leaf is between these two now, each of which may be none, and no other link changed
   pub record StandsBetween (old new : ArenaOf K V P) (before : Option ℕ) (this : ℕ) (after : Option ℕ) : Type 0 where
     pub previous : previous_at new this ≡ before
     pub next : next_at new this ≡ after
@@ -81,7 +82,7 @@ module _ {K V : Type 0} {P : ℕ} where
     pub other_previous : (key : ℕ) → key ≢ this → after ≢ Some key → previous_at new key ≡ previous_at old key
     pub other_leaves : (key : ℕ) → key ≢ this → before ≢ Some key → after ≢ Some key → leaf_at new key ≡ leaf_at old key
 
-  -- this leaf stands where the old one stood, which names no neighbour now, and no other link changed
+  -- this leaf is where the old one was, which names no neighbour now, and no other link changed
   pub record TakesPlace (old new : ArenaOf K V P) (gone this : ℕ) : Type 0 where
     pub unlinked : IsUnlinked new gone
     pub previous : previous_at new this ≡ previous_at old gone

@@ -1,4 +1,4 @@
--- What a reader shows.
+-- The nodes that a reader returns.
 use Rattle.std.specs.Prelude.{ℕ}
 use Rattle.art_header.specs.declared.node_type.NodeType.{NodeType}
 use Rattle.art_header.specs.declared.node_type.NodeType.TheVariants as kinds

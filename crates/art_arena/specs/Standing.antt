@@ -1,4 +1,4 @@
--- A tree stands where its pointers hold its nodes.
+-- Trees that stand in an arena: each of their pointers holds its node.
 use Rattle.std.specs.Prelude.{◌≡◌, ℕ, List, length, take, Contains}
 use Rattle.art_header.specs.Header.{capped}
 use Rattle.art_header.specs.declared.node_type.NodeType.TheVariants as NodeType
@@ -29,7 +29,7 @@ module _ {H L : Type 0} (room : ℕ) (text_of : L → List ℕ) (held_at : H →
     AllStand NoBranch = Unit {0}
     AllStand (Branch byte tree others) = Stands tree × AllStand others
 
-  -- the same of a tree whose topmost node is a value in hand, held or not
+  -- the same of a tree whose topmost node is given as a value, held or not
   abbrev pub StandsUnder : nodes.Inner H → Tree H → Type 0
   StandsUnder node (Leaf pointer text) = ⊥
   StandsUnder node (Inner pointer prefix branches) = NodeStands room node prefix branches × AllStand branches
@@ -51,7 +51,8 @@ module _ {K V : Type 0} {P : ℕ} (text : K → List ℕ) where
   abbrev pub AllStandIn : ArenaOf K V P → Branches (OpaqueNodePtr K V P) → Type 0
   AllStandIn arena branches = AllStand P leaf_text (held arena) branches
 
-  -- a tree of a node in hand: its branches stand in an arena, and it is sound under a path of this depth
+  -- a tree of a node given as a value: its branches stand in an arena, and it is sound under a path
+  -- of this depth
   pub record TreeUnder (arena : ArenaOf K V P) (node : nodes.Inner (OpaqueNodePtr K V P)) (depth : ℕ) : Type 0 where
     pub tree : Tree (OpaqueNodePtr K V P)
     pub path : List ℕ

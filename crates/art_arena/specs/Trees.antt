@@ -1,9 +1,10 @@
--- Trees as plain data, and what is said of them by recursion on that data.
+-- Trees as plain data, and predicates on them by recursion.
 use Rattle.std.specs.Prelude.{◌≡◌, ℕ, ◌<◌, ◌≤◌, ◌^◌, List, [], ◌∷◌, ◌++◌, length, map}
 use Rattle.art_bytes.specs.Text.{IsPrefixOf}
 use Rattle.art_nodes.specs.ChildMap.{ChildMap, IsAscending, key_bytes}
 
--- a leaf with its pointer and its text, or an inner node with its pointer, its prefix and its branches
+-- a leaf with its pointer and its text, or an inner node with its pointer, its prefix and its
+-- branches
 mutual
   pub data Tree (H : Type 0) : Type 0 where
     Leaf : H → List ℕ → Tree H

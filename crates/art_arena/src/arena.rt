@@ -51,11 +51,27 @@ impl<A, B, C, D, L> Model for Slabs<A, B, C, D, L> {
 
 /// The nodes of trees, kept by kind under slab keys.
 ///
-/// Contracts see what is held at each pointer, and for each kind its room: how many more nodes of
-/// the kind are allocated with no memory. A call changes at most the entry that it names. Only
-/// `allocate_node_ptr` and `reserve` take memory.
+/// A contract sees the node at each pointer (`held`), and for each kind its spare capacity
+/// (`room`): how many more nodes of the kind can be allocated without memory. A call changes at
+/// most the node that it names. Only `allocate_node_ptr` and `reserve` take memory. Each call takes
+/// a constant number of steps, unless a slab grows.
 ///
-/// The type names the nodes, so that whoever has an arena knows that they fit in memory.
+/// The type names its nodes, so whoever has an arena knows that they fit in memory.
+///
+/// Two leaves, one of which is deallocated again (`put` is an `allocate_node_ptr` that must
+/// succeed):
+///
+/// (from crates/art_tree_tests/src/arena/calls.rt)
+/// ```rust
+/// arena.reserve(NodeType::Leaf, 3)?;
+/// let first = put(rt, arena, Leaf::with_no_siblings([1], 1));
+/// let second = put(rt, arena, Leaf::with_no_siblings([2], 2));
+/// // ..
+/// assert!(rt; arena.holds(second));
+/// arena.deallocate_node_ptr(second);
+/// assert!(rt; arena.holds(first));
+/// assert!(rt; !arena.holds(second));
+/// ```
 pub type NodeArena<K, V, const PREFIX_LEN: usize> = Slabs<
     InnerNode4<K, V, PREFIX_LEN>,
     InnerNode16<K, V, PREFIX_LEN>,
@@ -65,7 +81,7 @@ pub type NodeArena<K, V, const PREFIX_LEN: usize> = Slabs<
 >;
 
 impl<K, V, const PREFIX_LEN: usize> NodeArena<K, V, PREFIX_LEN> {
-    /// An arena that holds nothing. It takes no memory, and keeps the allocator.
+    /// An arena without nodes. It takes no memory, and keeps the allocator.
     pub fn new(alloc: Global) -> Self
         ensures empty { (pointer : _) → held result pointer ≡ Nothing }
         ensures no_room { (kind : NodeType) → room result kind ≡ 0 }
@@ -79,14 +95,14 @@ impl<K, V, const PREFIX_LEN: usize> NodeArena<K, V, PREFIX_LEN> {
         }
     }
 
-    /// Whether a node of this type is held at the pointer.
+    /// Whether the arena holds a node of this type at the pointer.
     pub fn holds<N: ArenaNode<K, V, PREFIX_LEN>>(&self, ptr: NodePtr<PREFIX_LEN, N>) -> bool
         ensures { IsTrue result ↔ (held self.now (opaque_pointer N.TYPE (slab_key ptr)) ≢ Nothing) }
     {
         N::slab(self).contains(ptr.key())
     }
 
-    /// The node at the pointer, which has to be held.
+    /// The node at the pointer. The arena must hold one there.
     pub fn as_ref<N: ArenaNode<K, V, PREFIX_LEN>>(&self, ptr: NodePtr<PREFIX_LEN, N>) -> &N
         requires { held self.now (opaque_pointer N.TYPE (slab_key ptr)) ≢ Nothing }
         ensures { held self.now (opaque_pointer N.TYPE (slab_key ptr)) ≡ N.held_as result.now }
@@ -94,7 +110,7 @@ impl<K, V, const PREFIX_LEN: usize> NodeArena<K, V, PREFIX_LEN> {
         N::slab(self).get(ptr.key()).unwrap()
     }
 
-    /// The node, if the pointer is held.
+    /// The node at the pointer, if the arena holds one there.
     pub(crate) fn get<N: ArenaNode<K, V, PREFIX_LEN>>(
         &self,
         ptr: NodePtr<PREFIX_LEN, N>,
@@ -105,10 +121,10 @@ impl<K, V, const PREFIX_LEN: usize> NodeArena<K, V, PREFIX_LEN> {
         N::slab(self).get(ptr.key())
     }
 
-    /// Keeps the node, and answers the pointer that it is held at from now on.
+    /// Adds the node and returns its pointer, which held nothing before.
     ///
-    /// Takes no memory where there is room for the kind: [`NodeArena::reserve`] makes it. Refused
-    /// for want of memory, the node comes back and every node is as before.
+    /// Takes no memory where the kind has spare capacity, which [`NodeArena::reserve`] makes. On
+    /// allocation failure it returns the node, and every node of the arena is unchanged.
     pub fn allocate_node_ptr<N: ArenaNode<K, V, PREFIX_LEN>>(
         &mut self,
         node: N,
@@ -134,9 +150,10 @@ impl<K, V, const PREFIX_LEN: usize> NodeArena<K, V, PREFIX_LEN> {
         }
     }
 
-    /// Makes room for `additional` more nodes of the kind: so many allocations of the kind then
-    /// succeed. Refused for want of memory, every node and the room of the other kinds are as before.
-    /// Where there is such room already, nothing is refused and nothing grows.
+    /// Makes spare capacity for `additional` more nodes of the kind: that many allocations of the
+    /// kind then succeed. Where there is so much already, it succeeds and nothing grows. On
+    /// allocation failure every node and the spare capacity of the other kinds are unchanged, and
+    /// this kind has no less.
     pub fn reserve(&mut self, kind: NodeType, additional: usize) -> Result<(), AllocError>
         ensures room { OnOk result (additional ≤ room self.new kind) }
         ensures succeeds { additional ≤ room self.old kind → IsOk result }
@@ -156,7 +173,7 @@ impl<K, V, const PREFIX_LEN: usize> NodeArena<K, V, PREFIX_LEN> {
         }
     }
 
-    // Makes room for so many more nodes of this type.
+    // Makes spare capacity for so many more nodes of this type.
     fn reserve_slots<N: ArenaNode<K, V, PREFIX_LEN>>(
         &mut self,
         additional: usize,
@@ -174,8 +191,8 @@ impl<K, V, const PREFIX_LEN: usize> NodeArena<K, V, PREFIX_LEN> {
         N::slab_mut(self).reserve(additional)
     }
 
-    /// Takes out the node at the pointer, which has to be held, and leaves nothing there. Takes no
-    /// memory.
+    /// Removes the node at the pointer and returns it. The arena must hold one there, and holds
+    /// nothing there afterwards. Takes no memory.
     pub fn deallocate_node_ptr<N: ArenaNode<K, V, PREFIX_LEN>>(
         &mut self,
         ptr: NodePtr<PREFIX_LEN, N>,
@@ -190,8 +207,9 @@ impl<K, V, const PREFIX_LEN: usize> NodeArena<K, V, PREFIX_LEN> {
         N::slab_mut(self).remove(ptr.key())
     }
 
-    /// The node, to be changed in place. The arena ends with what is left there, and every other
-    /// node and the room of every kind are as before. The pointer has to be held.
+    /// A mutable reference to the node at the pointer. The arena must hold one there. It ends with
+    /// the node that the caller leaves there; every other node and the spare capacity of each kind
+    /// are unchanged.
     pub fn as_mut<N: ArenaNode<K, V, PREFIX_LEN>>(&mut self, ptr: NodePtr<PREFIX_LEN, N>) -> &mut N
         requires { held self.old (opaque_pointer N.TYPE (slab_key ptr)) ≢ Nothing }
         ensures* writes_back { sem 𝓛
@@ -207,8 +225,8 @@ impl<K, V, const PREFIX_LEN: usize> NodeArena<K, V, PREFIX_LEN> {
         N::slab_mut(self).get_mut(ptr.key()).unwrap()
     }
 
-    /// Puts the node in the place of the one that is held, which it answers. The pointer has to be
-    /// held. Takes no memory.
+    /// Replaces the node at the pointer and returns the old one. The arena must hold one there.
+    /// Takes no memory.
     pub fn replace<N: ArenaNode<K, V, PREFIX_LEN>>(
         &mut self,
         ptr: NodePtr<PREFIX_LEN, N>,
@@ -225,7 +243,7 @@ impl<K, V, const PREFIX_LEN: usize> NodeArena<K, V, PREFIX_LEN> {
         mem::replace(self.as_mut(ptr), node)
     }
 
-    /// The key and the value of a leaf, which has to be held.
+    /// The key and the value of a leaf. The arena must hold the leaf.
     pub fn as_key_value_ref(&self, ptr: NodePtr<PREFIX_LEN, LeafNode<K, V, PREFIX_LEN>>) -> (&K, &V)
         requires { HoldsLeaf self.now (slab_key ptr) }
         ensures key { option_map leaf_key (leaf_at self.now (slab_key ptr)) ≡ Some result.0.now }
@@ -235,8 +253,9 @@ impl<K, V, const PREFIX_LEN: usize> NodeArena<K, V, PREFIX_LEN> {
         self.as_ref(ptr).entry_ref()
     }
 
-    /// The key of a leaf, and its value to be changed in place. The leaf has to be held. The arena
-    /// ends with the value that is left there. The leaf's links and every other node are as before.
+    /// The key of a leaf, and a mutable reference to its value. The arena must hold the leaf, and
+    /// ends with the value that the caller leaves there. The leaf's links and every other node are
+    /// unchanged.
     pub fn as_key_ref_value_mut(
         &mut self,
         ptr: NodePtr<PREFIX_LEN, LeafNode<K, V, PREFIX_LEN>>,
@@ -257,7 +276,7 @@ impl<K, V, const PREFIX_LEN: usize> NodeArena<K, V, PREFIX_LEN> {
         self.as_mut(ptr).key_ref_value_mut()
     }
 
-    /// The key of a leaf, which has to be held.
+    /// The key of a leaf. The arena must hold the leaf.
     pub fn as_key_ref(&self, ptr: NodePtr<PREFIX_LEN, LeafNode<K, V, PREFIX_LEN>>) -> &K
         requires { HoldsLeaf self.now (slab_key ptr) }
         ensures { option_map leaf_key (leaf_at self.now (slab_key ptr)) ≡ Some result.now }
@@ -265,7 +284,7 @@ impl<K, V, const PREFIX_LEN: usize> NodeArena<K, V, PREFIX_LEN> {
         self.as_ref(ptr).key_ref()
     }
 
-    /// The value of a leaf, which has to be held.
+    /// The value of a leaf. The arena must hold the leaf.
     pub fn as_value_ref(&self, ptr: NodePtr<PREFIX_LEN, LeafNode<K, V, PREFIX_LEN>>) -> &V
         requires { HoldsLeaf self.now (slab_key ptr) }
         ensures { option_map leaf_value (leaf_at self.now (slab_key ptr)) ≡ Some result.now }
@@ -273,8 +292,9 @@ impl<K, V, const PREFIX_LEN: usize> NodeArena<K, V, PREFIX_LEN> {
         self.as_ref(ptr).value_ref()
     }
 
-    /// The value of a leaf, to be changed in place. The leaf has to be held. The arena ends with the
-    /// value that is left there. The leaf's key and links and every other node are as before.
+    /// A mutable reference to the value of a leaf. The arena must hold the leaf, and ends with the
+    /// value that the caller leaves there. The leaf's key and links and every other node are
+    /// unchanged.
     pub fn as_value_mut(&mut self, ptr: NodePtr<PREFIX_LEN, LeafNode<K, V, PREFIX_LEN>>) -> &mut V
         requires { HoldsLeaf self.old (slab_key ptr) }
         ensures* writes_back { sem 𝓛
@@ -290,7 +310,7 @@ impl<K, V, const PREFIX_LEN: usize> NodeArena<K, V, PREFIX_LEN> {
         self.as_mut(ptr).value_mut()
     }
 
-    /// The header of an inner node, or None for a leaf. The pointer has to be held.
+    /// The header of an inner node, or None for a leaf. The arena must hold a node at the pointer.
     pub fn header(&self, pointer: OpaqueNodePtr<K, V, PREFIX_LEN>) -> Option<&Header<PREFIX_LEN>>
         requires { held self.now pointer ≢ Nothing }
         ensures header { option_copied result ≡ held_header (held self.now pointer) }
@@ -306,8 +326,9 @@ impl<K, V, const PREFIX_LEN: usize> NodeArena<K, V, PREFIX_LEN> {
         }
     }
 
-    /// Gives an inner node the prefix of this header: its length and its stored front. The children
-    /// and every other node stay. The pointer has to be held and no leaf's.
+    /// Gives an inner node the compressed prefix of this header: its length and its stored bytes.
+    /// Its children and every other node are unchanged. The arena must hold a node at the pointer,
+    /// and not a leaf.
     pub fn set_prefix(
         &mut self,
         pointer: OpaqueNodePtr<K, V, PREFIX_LEN>,
@@ -329,7 +350,7 @@ impl<K, V, const PREFIX_LEN: usize> NodeArena<K, V, PREFIX_LEN> {
         }
     }
 
-    /// Whether a node of the pointer's kind is held there.
+    /// Whether the arena holds a node of the pointer's kind there.
     pub fn holds_opaque(&self, ptr: OpaqueNodePtr<K, V, PREFIX_LEN>) -> bool
         ensures { IsTrue result ↔ (held self.now ptr ≢ Nothing) }
     {
@@ -342,7 +363,7 @@ impl<K, V, const PREFIX_LEN: usize> NodeArena<K, V, PREFIX_LEN> {
         }
     }
 
-    /// The node at a pointer, of whichever kind. The pointer has to be held.
+    /// The node at a pointer, of any kind. The arena must hold one there.
     pub fn node_ref(
         &self,
         pointer: OpaqueNodePtr<K, V, PREFIX_LEN>,

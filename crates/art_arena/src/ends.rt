@@ -14,12 +14,12 @@ use crate::reader::AnyRef;
 use art_bytes::AsBytes;
 use art_nodes::{InnerNodeCommon, LeafNode, NodePtr, OpaqueNodePtr};
 
-/// One end of the leaves of a tree.
+/// One end of the leaves of a tree, for [`end_leaf`].
 #[derive(Clone, Copy, Debug, PartialEq, Eq)]
 pub enum End {
-    /// Where the least text is.
+    /// The leaf with the least key bytes.
     First,
-    /// Where the greatest text is.
+    /// The leaf with the greatest key bytes.
     Last,
 }
 
@@ -61,11 +61,22 @@ fn step_to_end<K, V, const PREFIX_LEN: usize>(
     }
 }
 
-/// The first leaf, or the last, of the tree that stands at this pointer: the one whose key's text is
-/// the least of the tree, or the greatest.
+/// The first or the last leaf of the tree that stands at this pointer: the one with the least or
+/// the greatest key bytes of the tree.
 ///
-/// The tree has to stand in the arena, sound under some path. Takes no memory, and the way down
-/// reads at most one inner node for each byte of that leaf's text.
+/// A tree must stand at the pointer, sound under some path. Takes no memory, and visits at most one
+/// inner node for each byte of that leaf's key.
+///
+/// In a tree with the keys `abc1`, `abc2` and `b`, whose values are 0, 1 and 2, `first` is 0 and
+/// `last` is 2:
+///
+/// (from crates/art_tree_tests/src/tree/searches.rt)
+/// ```rust
+/// let leaf = end_leaf(arena, root, End::First);
+/// assert!(rt; arena.holds(leaf) && *arena.as_value_ref(leaf) == first);
+/// let leaf = end_leaf(arena, root, End::Last);
+/// assert!(rt; arena.holds(leaf) && *arena.as_value_ref(leaf) == last);
+/// ```
 pub fn end_leaf<K: AsBytes, V, const PREFIX_LEN: usize>(
     arena: &NodeArena<K, V, PREFIX_LEN>,
     pointer: OpaqueNodePtr<K, V, PREFIX_LEN>,
@@ -77,8 +88,8 @@ pub fn end_leaf<K: AsBytes, V, const PREFIX_LEN: usize>(
     ensures held { HoldsLeaf arena.now (slab_key result) }
 {
     let mut at = pointer;
-    // Counted so that the loop is seen to end: each step makes the path longer, and a leaf's text,
-    // which is longer still, is shorter than 2^64.
+    // A counter that proves that the loop ends: each step makes the path longer, and a leaf's key,
+    // which is longer still, has fewer than 2^64 bytes.
     let mut passed: usize = 0;
     'way: loop {
         match step_to_end(arena, at, end) {

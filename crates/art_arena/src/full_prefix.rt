@@ -1,4 +1,4 @@
-//! The whole prefix of an inner node, however few of its bytes the node stores.
+//! The whole compressed prefix of an inner node, however few of its bytes the node stores.
 ghost use Rattle.std.specs.Prelude.{◌≡◌, ◌≢◌, ◌↔◌, ◌<◌, ◌≤◌, ◌+◌, ◌++◌, ◌∷◌, ℕ, List, length, drop, All, None, IsOk, IsSome, IfSome, IfOk, IfErr};
 ghost use Rattle.std.specs.declared.cmp.Ordering.TheVariants.{Equal};
 ghost use Rattle.art_bytes.specs.Text.{IsPrefixOf};
@@ -14,18 +14,30 @@ use crate::ends::{End, end_leaf};
 use art_bytes::AsBytes;
 use art_nodes::{ExplicitMismatch, InnerNodeCommon, NodePrefix, PrefixMatch, common_prefix_len};
 
-/// An inner node whose whole prefix can be read, with the arena that holds the nodes below it.
+/// An inner node whose whole compressed prefix can be read, with the arena that holds the nodes
+/// below it.
 ///
-/// A node stores at most `PREFIX_LEN` bytes of its prefix. Where the prefix is longer, its bytes are
-/// those that the keys of all leaves below share, and are read from the key of one of them.
+/// A node stores at most `PREFIX_LEN` bytes of its prefix. A longer prefix is read from the key of
+/// a leaf below the node, since the keys of all leaves below share it.
+///
+/// The prefix `abc` of a node under `depth` bytes, for each `PREFIX_LEN` (`expected` is `abc`):
+///
+/// (from crates/art_tree_tests/src/arena/full_prefix.rt)
+/// ```rust
+/// let (prefix, leaf) = node.read_full_prefix(arena, depth);
+/// assert!(rt; prefix == expected);
+/// assert!(rt; leaf.is_some() == (PREFIX_LEN < expected.len()));
+/// ```
 pub trait FullPrefix<K: AsBytes, V, const PREFIX_LEN: usize>: InnerNodeCommon<K, V, PREFIX_LEN> {
-    /// The whole prefix of the node: what the keys of all leaves below share from `depth` on, where
-    /// `depth` is the number of bytes on the path to the node. It comes with the leaf that it was
-    /// read from, where it is longer than `PREFIX_LEN`: which one of the leaves below is open.
+    /// The whole compressed prefix of the node: the bytes that the keys of all leaves below share
+    /// from `depth` on. `depth` is the number of bytes on the path to the node. Where the prefix is
+    /// longer than `PREFIX_LEN`, the leaf that it was read from is returned too: some leaf below
+    /// the node.
     ///
-    /// Where the node stores all of its prefix, that is answered, with no leaf. Else the nodes below
-    /// have to stand in the arena, sound under a path of `depth` bytes, and the way goes down to one
-    /// leaf. Takes no memory.
+    /// Where the node stores all of its prefix, nothing is required, and no leaf is returned.
+    /// Otherwise the branches of the node must stand in the arena, sound under a path of `depth`
+    /// bytes; the call then goes down to one leaf and visits at most one inner node for each byte
+    /// of its key. Takes no memory.
     final fn read_full_prefix<'a>(
         &'a self,
         arena: &'a NodeArena<K, V, PREFIX_LEN>,
@@ -53,15 +65,16 @@ pub trait FullPrefix<K: AsBytes, V, const PREFIX_LEN: usize>: InnerNodeCommon<K,
         (&text[depth..depth + prefix_len], Some(leaf))
     }
 
-    /// Compares the whole prefix of the node with what is left of the key after `depth` bytes, the
-    /// number of bytes on the path to the node and at most those of the key.
+    /// Compares the whole compressed prefix of the node with the bytes of the key after the first
+    /// `depth`. `depth` is the number of bytes on the path to the node, and at most the length of
+    /// the key.
     ///
-    /// Answers the length of the prefix where that rest begins with it. Else it answers how many
-    /// bytes match, the prefix's byte after them, the order of the prefix against as many bytes of
-    /// the rest, and, where the prefix is longer than `PREFIX_LEN`, a leaf below: which one is open,
-    /// and it is held. Where the key begins with the path to the node, every key below lies on that
-    /// side of it. What has to stand in the arena is what
-    /// [`FullPrefix::read_full_prefix`] asks. Takes no memory.
+    /// Returns the length of the prefix where these bytes begin with it. Otherwise returns the
+    /// mismatch: how many bytes match, the byte of the prefix after them, the order of the prefix
+    /// against as many bytes of the key, and, where the prefix is longer than `PREFIX_LEN`, some
+    /// leaf below the node. Where the key begins with the path to the node, every key below is on
+    /// that side of it. The conditions on the arena are those of [`FullPrefix::read_full_prefix`].
+    /// Takes no memory.
     final fn match_full_prefix(
         &self,
         arena: &NodeArena<K, V, PREFIX_LEN>,

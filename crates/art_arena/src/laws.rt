@@ -1,8 +1,8 @@
-//! What holds of every tree and every list. The functions do no work: the contract of each is a law.
+//! Laws of every tree and of every list. The functions do no work: the contract of each is a law.
 //!
-//! A tree is seen as plain data, a leaf with its pointer and its text or an inner node with its
-//! pointer, its prefix and its branches by ascending byte. It is sound under a path where every
-//! leaf's text begins with the way to it and every inner node has two branches or more, and it
+//! A tree is seen as plain data: a leaf with its pointer and its key bytes, or an inner node with
+//! its pointer, its prefix and its branches by ascending byte. It is sound under a path where the
+//! key bytes of each leaf begin with the way to it and each inner node has two branches or more. It
 //! stands in an arena where each of its pointers holds its node.
 ghost use Rattle.std.specs.Prelude.{◌≡◌, ◌≢◌, ◌≤◌, ◌++◌, [], ◌∷◌, ℕ, List, Some, None, length, slice_get, All, AllPairs};
 ghost use Rattle.std.specs.declared.cmp.Ordering.TheVariants.{Less};
@@ -21,20 +21,20 @@ ghost use Rattle.art_arena.specs.Trees.{Tree, Inner, Branches, branch_roots, lea
 
 use art_bytes::AsBytes;
 
-/// The path to an inner node and its prefix are what the texts of all leaves below share.
+/// The path to an inner node and its prefix are the longest common prefix of all keys below.
 pub fn path_and_prefix_are_shared<H>()
     ensures { (path prefix : List ℕ) (pointer : H) (branches : Branches H) →
         IsSound path (Inner pointer prefix branches) →
         IsLongestCommonPrefix (texts (Inner pointer prefix branches)) (path ++ prefix) }
 {}
 
-/// The texts of a sound tree ascend strictly, from left to right.
+/// The keys of a sound tree ascend strictly, from left to right.
 pub fn texts_ascend<H>()
     ensures { (path : List ℕ) (tree : Tree H) → IsSound path tree →
         AllPairs (λ a b. text_order a b ≡ Less) (texts tree) }
 {}
 
-/// No text of a sound tree begins another.
+/// No key of a sound tree is a prefix of another.
 pub fn no_text_begins_another<H>()
     ensures { (path : List ℕ) (tree : Tree H) → IsSound path tree →
         AllPairs (λ a b. (¬ IsPrefixOf a b) × (¬ IsPrefixOf b a)) (texts tree) }
@@ -46,8 +46,8 @@ pub fn each_pointer_is_at_one_place<K: AsBytes, V, const PREFIX_LEN: usize>()
         StandsIn K.text arena tree → IsSound path tree → AreDistinct (places tree) }
 {}
 
-/// Trees that are the same but for their pointers have the same texts, and so share the same bytes
-/// from each depth on. The pointers may be those of arenas of different `PREFIX_LEN`.
+/// Trees that are the same but for their pointers have the same key bytes, and so share the same
+/// bytes from each depth on. The pointers may be those of arenas of different `PREFIX_LEN`.
 pub fn same_trees_have_the_same_texts<H, L>()
     ensures texts { (tree : Tree H) (other : Tree L) → SameButPointers tree other →
         texts tree ≡ texts other }
@@ -56,11 +56,12 @@ pub fn same_trees_have_the_same_texts<H, L>()
         IsSharedFrom depth (texts other) shared }
 {}
 
-/// Each node of a tree has a tree, so the calls that ask for one can be made on the way down: the root of
-/// a well-formed tree has it; something is held where a tree stands; if that is an inner node, it has the
-/// tree under the same path, and its child under a byte has one under the path, the prefix and the byte,
-/// whose leaves stand together among those of the tree in hand. The texts of a node's tree share a front
-/// from its depth on, which is what `match_full_prefix` compares with a key.
+/// Each node of a tree has a tree, so the calls that require one can be made on the way down. The
+/// root of a well-formed tree has it. Where a tree stands, something is held. If that is an inner
+/// node, the node has the tree under the same path, and its child under a byte has one under the
+/// path, the prefix and the byte, whose leaves stand together among those of the whole tree. The
+/// keys below a node share a common prefix from its depth on, which `match_full_prefix` compares
+/// with a key.
 pub fn each_node_of_a_tree_has_a_tree<K: AsBytes, V, const PREFIX_LEN: usize>()
     ensures root { (arena : ArenaOf K V PREFIX_LEN) (root : _) (tree : _) →
         IsTreeIn K.text arena root tree → (at : TreeAt K.text arena root) × (at.path ≡ []) }
@@ -93,22 +94,22 @@ pub fn an_allocated_node_makes_a_tree<K: AsBytes, V, const PREFIX_LEN: usize>()
         AreSound (path ++ prefix) branches → IsSound path (Inner pointer prefix branches) }
 {}
 
-/// A tree stands on in an arena that holds all that was held, as it was held.
+/// A tree still stands in an arena that holds all that was held, as it was held.
 pub fn trees_stand_where_all_is_kept<K: AsBytes, V, const PREFIX_LEN: usize>()
     ensures { (old new : ArenaOf K V PREFIX_LEN) (tree : _) →
         ((pointer : _) → held old pointer ≢ Nothing → held new pointer ≡ held old pointer) →
         StandsIn K.text old tree → StandsIn K.text new tree }
 {}
 
-/// A tree stands on where each of its pointers holds what it held, whatever changes elsewhere.
+/// A tree still stands where each of its pointers holds what it held, whatever changes elsewhere.
 pub fn trees_stand_where_their_nodes_are_kept<K: AsBytes, V, const PREFIX_LEN: usize>()
     ensures { (old new : ArenaOf K V PREFIX_LEN) (tree : _) →
         All (λ pointer. held new pointer ≡ held old pointer) (places tree) →
         StandsIn K.text old tree → StandsIn K.text new tree }
 {}
 
-/// A tree stands on where links of leaves change, and where a leaf is exchanged for one whose key has
-/// the same text, as the one with another value.
+/// A tree still stands where links of leaves change, and where a leaf is replaced by one with the
+/// same key bytes, for example one with another value.
 pub fn trees_stand_where_texts_are_kept<K: AsBytes, V, const PREFIX_LEN: usize>()
     ensures links { (old new : ArenaOf K V PREFIX_LEN) (tree : _) →
         SameButLinks old new → StandsIn K.text old tree → StandsIn K.text new tree }
@@ -119,7 +120,7 @@ pub fn trees_stand_where_texts_are_kept<K: AsBytes, V, const PREFIX_LEN: usize>(
         StandsIn K.text old tree → StandsIn K.text new tree }
 {}
 
-/// To allocate leaves every tree standing that stood.
+/// Each tree that stands still stands after an allocation.
 pub fn allocating_leaves_trees_standing<K: AsBytes, V, const PREFIX_LEN: usize>()
     ensures tree { (old new : ArenaOf K V PREFIX_LEN) (pointer : _) (now : _) (tree : _) →
         held old pointer ≡ Nothing → Changes old new pointer now →
@@ -129,15 +130,15 @@ pub fn allocating_leaves_trees_standing<K: AsBytes, V, const PREFIX_LEN: usize>(
         AllStandIn K.text old branches → AllStandIn K.text new branches }
 {}
 
-/// To allocate keeps every list of leaves that links spell.
+/// Each list that links spell is still spelled after an allocation.
 pub fn allocating_keeps_lists_spelled<K, V, const PREFIX_LEN: usize>()
     ensures { (old new : ArenaOf K V PREFIX_LEN) (pointer : _) (now : _) (keys : List ℕ) →
         held old pointer ≡ Nothing → Changes old new pointer now →
         Spells old keys → Spells new keys }
 {}
 
-/// A list of leaves is spelled on where an inner node changes, and where a leaf is exchanged for one
-/// that names the same neighbours, as the one with another value.
+/// A list of leaves is still spelled where an inner node changes, and where a leaf is replaced by
+/// one that names the same neighbours, for example one with another value.
 pub fn lists_are_spelled_where_links_are_kept<K, V, const PREFIX_LEN: usize>()
     ensures inner { (old new : ArenaOf K V PREFIX_LEN) (pointer : _) (now : _) (keys : List ℕ) →
         node_kind pointer ≢ NodeType.Leaf → Changes old new pointer now →
@@ -149,15 +150,15 @@ pub fn lists_are_spelled_where_links_are_kept<K, V, const PREFIX_LEN: usize>()
         Spells old keys → Spells new keys }
 {}
 
-/// A list of leaves is spelled on where each of its leaves is as it was, whatever changes elsewhere, as
-/// where a leaf is given up that was taken out of the list.
+/// A list of leaves is still spelled where each of its leaves is unchanged, whatever changes
+/// elsewhere, for example where a leaf is deallocated that was removed from the list.
 pub fn lists_are_spelled_where_their_leaves_are_kept<K, V, const PREFIX_LEN: usize>()
     ensures { (old new : ArenaOf K V PREFIX_LEN) (keys : List ℕ) →
         All (λ key. leaf_at new key ≡ leaf_at old key) keys → Spells old keys → Spells new keys }
 {}
 
-/// Each leaf of a list that links spell is knit, so the calls of `LeafLinks` may be made with it, and
-/// names the leaves beside it in the list.
+/// Each leaf of a list that links spell is knit, so the calls of `LeafLinks` may be made with it,
+/// and it names the leaves beside it in the list.
 pub fn each_leaf_of_a_list_is_knit<K, V, const PREFIX_LEN: usize>()
     ensures knit { (arena : ArenaOf K V PREFIX_LEN) (before after : List ℕ) (key : ℕ) →
         Spells arena (before ++ key ∷ after) → IsKnit arena key }

@@ -1,4 +1,4 @@
-//! The list of leaves: each one names the leaf before it and the leaf after it.
+//! The linked list of leaves: each leaf names the one before it and the one after it.
 ghost use Rattle.std.specs.Prelude.{◌≡◌, ◌≢◌, ◌↔◌, List, ◌∷◌, ◌++◌, IsTrue, Some, None, false, not};
 ghost use Rattle.std.specs.Option.{ForSome, option_map};
 ghost use Rattle.std.specs.declared.cmp.Ordering.TheVariants.{Less};
@@ -12,16 +12,30 @@ use crate::arena::NodeArena;
 use art_bytes::AsBytes;
 use art_nodes::{LeafNode, NodePtr};
 
-/// The calls that put leaves into a list and take them out of it.
+/// The calls that insert leaves into a linked list and remove them.
 ///
-/// A leaf is knit where it is held and each neighbour that it names is held and names it back on
-/// that side. No call changes a key, a value, an inner node, or a leaf but the named ones and their
-/// neighbours. None takes memory.
+/// A leaf is knit where the arena holds it, and holds each neighbour that it names, and that
+/// neighbour names it back on that side. Each call changes only the links of the named leaves and
+/// of their neighbours: keys, values, inner nodes and other leaves are unchanged. No call takes
+/// memory, and each takes a constant number of steps.
+///
+/// An insert after `sibling`, each of its conditions tested first:
+///
+/// (from crates/art_tree_tests/src/arena/leaf_links.rt)
+/// ```rust
+/// assert!(rt; arena.holds(this));
+/// assert!(rt; !Leaf::is_linked(arena, this));
+/// assert!(rt; this != sibling);
+/// assert!(rt; Leaf::is_knit(arena, sibling));
+/// let key = arena.as_key_ref(this);
+/// assert!(rt; arena.as_ref(sibling).compare_full_key(key.as_bytes()) == Ordering::Less);
+/// Leaf::insert_after(arena, this, sibling);
+/// ```
 pub trait LeafLinks<K: AsBytes, V, const PREFIX_LEN: usize>: Sized {
-    /// Places `this` right after `sibling` in the sibling's list.
+    /// Inserts `this` right after `sibling` into the sibling's list.
     ///
-    /// `this` has to be held, unlinked and another leaf than the sibling. The sibling has to be knit,
-    /// and the text of `this` above the sibling's.
+    /// The arena must hold `this`, unlinked, and it must be another leaf than the sibling. The
+    /// sibling must be knit, and its key bytes must be less than those of `this`.
     fn insert_after(
         arena: &mut NodeArena<K, V, PREFIX_LEN>,
         this: NodePtr<PREFIX_LEN, Self>,
@@ -41,10 +55,10 @@ pub trait LeafLinks<K: AsBytes, V, const PREFIX_LEN: usize>: Sized {
         ensures contents { SameButLinks arena.old arena.new }
         ensures room { SameRoom arena.old arena.new };
 
-    /// Places `this` right before `sibling` in the sibling's list.
+    /// Inserts `this` right before `sibling` into the sibling's list.
     ///
-    /// `this` has to be held, unlinked and another leaf than the sibling. The sibling has to be knit,
-    /// and the text of `this` below the sibling's.
+    /// The arena must hold `this`, unlinked, and it must be another leaf than the sibling. The
+    /// sibling must be knit, and its key bytes must be greater than those of `this`.
     fn insert_before(
         arena: &mut NodeArena<K, V, PREFIX_LEN>,
         this: NodePtr<PREFIX_LEN, Self>,
@@ -64,11 +78,12 @@ pub trait LeafLinks<K: AsBytes, V, const PREFIX_LEN: usize>: Sized {
         ensures contents { SameButLinks arena.old arena.new }
         ensures room { SameRoom arena.old arena.new };
 
-    /// Gives `this` the place of `old` in its list. The old leaf is unlinked afterwards, and is still held.
+    /// Gives `this` the place of `old` in its list. The arena still holds the old leaf, which is
+    /// unlinked afterwards.
     ///
-    /// `this` has to be held, unlinked and another leaf than the old one, which has to be knit.
-    /// Without `force` the texts of the two have to be equal. With it, the order of the list rests
-    /// on the caller.
+    /// The arena must hold `this`, unlinked, and it must be another leaf than the old one, which
+    /// must be knit. Without `force` the two must have the same key bytes. With it, the order of
+    /// the list is the caller's responsibility.
     fn replace(
         arena: &mut NodeArena<K, V, PREFIX_LEN>,
         this: NodePtr<PREFIX_LEN, Self>,
@@ -88,7 +103,7 @@ pub trait LeafLinks<K: AsBytes, V, const PREFIX_LEN: usize>: Sized {
         ensures contents { SameButLinks arena.old arena.new }
         ensures room { SameRoom arena.old arena.new };
 
-    /// Takes `this`, which has to be knit, out of its list. Its own links stay as they are.
+    /// Removes `this`, which must be knit, from its list. Its own links are unchanged.
     fn remove_self(arena: &mut NodeArena<K, V, PREFIX_LEN>, this: NodePtr<PREFIX_LEN, Self>)
         requires { IsKnit arena.old (slab_key this) }
         ensures removed { Joins arena.old arena.new (previous_at arena.old (slab_key this))
@@ -102,13 +117,13 @@ pub trait LeafLinks<K: AsBytes, V, const PREFIX_LEN: usize>: Sized {
         ensures contents { SameButLinks arena.old arena.new }
         ensures room { SameRoom arena.old arena.new };
 
-    /// Whether the leaf, which has to be held, names a neighbour.
+    /// Whether the leaf names a neighbour. The arena must hold the leaf.
     fn is_linked(arena: &NodeArena<K, V, PREFIX_LEN>, this: NodePtr<PREFIX_LEN, Self>) -> bool
         requires { HoldsLeaf arena.now (slab_key this) }
         ensures { IsTrue (not result) ↔ IsUnlinked arena.now (slab_key this) };
 
-    /// Whether the leaf is held, and each neighbour that it names is held and names it back on that
-    /// side.
+    /// Whether the arena holds the leaf, and holds each neighbour that it names, and that neighbour
+    /// names it back on that side.
     fn is_knit(arena: &NodeArena<K, V, PREFIX_LEN>, this: NodePtr<PREFIX_LEN, Self>) -> bool
         ensures { IsTrue result ↔ IsKnit arena.now (slab_key this) };
 }
@@ -220,7 +235,7 @@ impl<K: AsBytes, V, const PREFIX_LEN: usize> LeafLinks<K, V, PREFIX_LEN>
     }
 }
 
-// The leaf that this one names as the previous, if it is held and names one.
+// The leaf that this one names as the previous one, if the arena holds it and it names one.
 fn previous_of<K, V, const PREFIX_LEN: usize>(
     arena: &NodeArena<K, V, PREFIX_LEN>,
     leaf: NodePtr<PREFIX_LEN, LeafNode<K, V, PREFIX_LEN>>,
@@ -230,7 +245,7 @@ fn previous_of<K, V, const PREFIX_LEN: usize>(
     arena.get(leaf)?.previous()
 }
 
-// The leaf that this one names as the next, if it is held and names one.
+// The leaf that this one names as the next one, if the arena holds it and it names one.
 fn next_of<K, V, const PREFIX_LEN: usize>(
     arena: &NodeArena<K, V, PREFIX_LEN>,
     leaf: NodePtr<PREFIX_LEN, LeafNode<K, V, PREFIX_LEN>>,
@@ -240,7 +255,7 @@ fn next_of<K, V, const PREFIX_LEN: usize>(
     arena.get(leaf)?.next()
 }
 
-// Whether the leaf that this one names as the previous names it back, if it names one.
+// Whether the leaf that this one names as the previous one names it back, if it names one.
 fn previous_is_knit<K, V, const PREFIX_LEN: usize>(
     arena: &NodeArena<K, V, PREFIX_LEN>,
     this: NodePtr<PREFIX_LEN, LeafNode<K, V, PREFIX_LEN>>,
@@ -255,7 +270,7 @@ fn previous_is_knit<K, V, const PREFIX_LEN: usize>(
     }
 }
 
-// Whether the leaf that this one names as the next names it back, if it names one.
+// Whether the leaf that this one names as the next one names it back, if it names one.
 fn next_is_knit<K, V, const PREFIX_LEN: usize>(
     arena: &NodeArena<K, V, PREFIX_LEN>,
     this: NodePtr<PREFIX_LEN, LeafNode<K, V, PREFIX_LEN>>,
@@ -283,7 +298,7 @@ fn is_named<K, V, const PREFIX_LEN: usize>(
     }
 }
 
-// Places a leaf between these two, each of which may be none.
+// Inserts a leaf between these two, each of which may be none.
 fn place<K, V, const PREFIX_LEN: usize>(
     arena: &mut NodeArena<K, V, PREFIX_LEN>,
     before: Option<NodePtr<PREFIX_LEN, LeafNode<K, V, PREFIX_LEN>>>,
@@ -321,7 +336,7 @@ fn join<K, V, const PREFIX_LEN: usize>(
     set_previous(arena, after, before);
 }
 
-// Gives the leaf, which may be none, this next neighbour.
+// Sets the next neighbour of the leaf, which may be none.
 fn set_next<K, V, const PREFIX_LEN: usize>(
     arena: &mut NodeArena<K, V, PREFIX_LEN>,
     leaf: Option<NodePtr<PREFIX_LEN, LeafNode<K, V, PREFIX_LEN>>>,
@@ -339,7 +354,7 @@ fn set_next<K, V, const PREFIX_LEN: usize>(
     }
 }
 
-// Gives the leaf, which may be none, this previous neighbour.
+// Sets the previous neighbour of the leaf, which may be none.
 fn set_previous<K, V, const PREFIX_LEN: usize>(
     arena: &mut NodeArena<K, V, PREFIX_LEN>,
     leaf: Option<NodePtr<PREFIX_LEN, LeafNode<K, V, PREFIX_LEN>>>,

@@ -1,9 +1,9 @@
-//! An arena of nodes, and what is said of trees in it.
+//! An arena of nodes, the linked list of its leaves, and laws of the trees in it.
 //!
-//! A [`NodeArena`] keeps nodes by kind under slab keys. [`LeafLinks`] links its leaves into a list,
-//! [`ArenaReader`] lends nodes and counts the looks, [`end_leaf`] finds the ends of a tree, and
-//! [`FullPrefix`] reads a whole prefix, however few of its bytes a node stores. [`laws`] has what holds
-//! of every tree and every list.
+//! A [`NodeArena`] keeps nodes by kind under slab keys. [`LeafLinks`] links its leaves into a list.
+//! [`ArenaReader`] returns nodes and counts the node visits. [`end_leaf`] finds the first or the
+//! last leaf of a tree. [`FullPrefix`] reads a whole compressed prefix, however few of its bytes
+//! the node stores. [`laws`] states what holds of every tree and of every list.
 #![tactic(auto)]
 
 mod arena;

@@ -1,4 +1,4 @@
-//! A reader: a way to the nodes of an arena that counts how often it is used.
+//! A reader of an arena, which counts the node visits.
 ghost use Rattle.std.specs.Prelude.{◌≡◌, ◌≢◌, ◌<◌, ◌+◌};
 ghost use Rattle.art_arena.specs.Arena.{held, Nothing};
 ghost use Rattle.art_nodes.specs.Pointers.{node_kind};
@@ -8,7 +8,8 @@ use crate::arena::NodeArena;
 use art_nodes::{InnerNode4, InnerNode16, InnerNode48, InnerNodeDirect, LeafNode, OpaqueNodePtr};
 use std::marker::Model;
 
-/// A reference to a node of one of five types.
+/// A reference to a node of one of five types. Callers name it [`NodeRef`]; see [`ArenaReader`] for
+/// an example.
 #[derive_where(Clone, Copy)]
 pub enum AnyRef<'a, A, B, C, D, L> {
     /// An inner node of kind `Node4`.
@@ -23,7 +24,8 @@ pub enum AnyRef<'a, A, B, C, D, L> {
     LeafNode(&'a L),
 }
 
-/// A node of any kind, as an arena or a reader lends it: a reference for as long as the arena stands.
+/// A reference to a node of any kind, for as long as the arena is borrowed. See [`ArenaReader`] for
+/// an example.
 pub type NodeRef<'a, K, V, const PREFIX_LEN: usize> = AnyRef<
     'a,
     InnerNode4<K, V, PREFIX_LEN>,
@@ -33,7 +35,8 @@ pub type NodeRef<'a, K, V, const PREFIX_LEN: usize> = AnyRef<
     LeafNode<K, V, PREFIX_LEN>,
 >;
 
-/// A borrowed arena and a budget: how many more looks at it are allowed.
+/// A borrowed arena and a budget: how many more node visits are allowed. Callers name it
+/// [`ArenaReader`].
 #[derive(Drop)]
 pub struct Reader<'a, A> {
     arena: &'a A,
@@ -48,12 +51,24 @@ impl<'a, A> Model for Reader<'a, A> {
     ghost view = { λ r. record { arena = r.arena.now; budget = r.budget } };
 }
 
-/// The one way of a search to the nodes of an arena. It counts the looks: each costs one of the
-/// budget that it began with, and there is no other way through it to the arena.
+/// A borrowed arena whose node visits are counted. Each [`look`](ArenaReader::look) is one visit
+/// and takes one of the budget. The reader gives no other access to the arena.
+///
+/// The root of a loaded tree, by one visit:
+///
+/// (from crates/art_tree_tests/src/tree/loading.rt)
+/// ```rust
+/// let entries = vec![in alloc; (*b"abc1", 0), (*b"abc2", 1)]?;
+/// let root = load(alloc, arena, entries).map_err(|fault| fault.refusal)?;
+/// let mut reader = ArenaReader::with_budget(arena, 3);
+/// let AnyRef::Node4(node) = reader.look(root) else {
+///     panic!(rt; "no Node4");
+/// };
+/// ```
 pub type ArenaReader<'a, K, V, const PREFIX_LEN: usize> = Reader<'a, NodeArena<K, V, PREFIX_LEN>>;
 
 impl<'a, K, V, const PREFIX_LEN: usize> ArenaReader<'a, K, V, PREFIX_LEN> {
-    /// A reader of the arena that may look `budget` times.
+    /// A reader of the arena that allows `budget` node visits.
     pub fn with_budget(arena: &'a NodeArena<K, V, PREFIX_LEN>, budget: usize) -> Self
         ensures arena { result.arena ≡ arena.now }
         ensures budget { result.budget ≡ budget }
@@ -61,15 +76,15 @@ impl<'a, K, V, const PREFIX_LEN: usize> ArenaReader<'a, K, V, PREFIX_LEN> {
         Reader { arena, budget }
     }
 
-    /// How many looks are left.
+    /// How many node visits are left.
     pub fn remaining(&self) -> usize
         ensures { result ≡ self.now.budget }
     {
         self.budget
     }
 
-    /// The node at this pointer, which the arena has to hold. The budget has to be above 0, and is one
-    /// less afterwards.
+    /// Visits the node at this pointer and returns it. The arena must hold one there, and the
+    /// budget must be above 0; it is one less afterwards.
     pub fn look(
         &mut self,
         pointer: OpaqueNodePtr<K, V, PREFIX_LEN>,

@@ -1,4 +1,4 @@
--- No C string's text is a proper front of another's. No public clause cites this.
+-- No C string is a proper prefix of another. No public clause cites this.
 use Rattle.std.specs.Prelude.{◌≡◌, ◌≢◌, ℕ, List, [], ◌∷◌, ◌++◌, refl}
 use Rattle.std.proofs.Common.{sym, ap, ◌∙◌}
 use Rattle.std.proofs.lemmas.List.Elements.{All-head, All-tail}
@@ -7,7 +7,7 @@ use Rattle.std.proofs.Props.{props}
 use Rattle.art_bytes.specs.CString.{HasNoZero, IsCString}
 use Rattle.art_bytes.specs.Text.{IsPrefixOf}
 
--- the zero of the front is that of the whole
+-- the zero byte at the end of the prefix is the one at the end of the whole
 same_end : (a b rest : List ℕ) → HasNoZero a → HasNoZero b → b ++ 0 ∷ [] ≡ (a ++ 0 ∷ []) ++ rest → a ++ 0 ∷ [] ≡ b ++ 0 ∷ []
 same_end [] [] rest a_none b_none whole = refl
 same_end [] (y ∷ b) rest a_none b_none whole =

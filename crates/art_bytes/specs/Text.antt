@@ -1,4 +1,4 @@
--- Texts: finite lists of bytes, when one begins another, and their order.
+-- Byte lists, which contracts call texts: prefixes and order.
 use Rattle.std.specs.Prelude.{◌≡◌, ℕ, ◌<◌, List, ◌++◌, All}
 use Rattle.std.specs.declared.cmp.Ordering.{Ordering}
 use Rattle.std.specs.Ordering.{nat_cmp}
@@ -12,10 +12,10 @@ IsByte n = n < 256
 abbrev pub IsText : List ℕ → Type 0
 IsText a = All IsByte a
 
--- b begins with a, equality included
+-- a is a prefix of b, equality included
 abbrev pub IsPrefixOf : List ℕ → List ℕ → Type 0
 IsPrefixOf a b = (rest : List ℕ) × (b ≡ a ++ rest)
 
--- the first byte that differs decides, and else a proper front is less
+-- lexicographic order: the first byte that differs decides, and a proper prefix is less
 abbrev pub text_order : List ℕ → List ℕ → Ordering
 text_order = slice_cmp nat_cmp

@@ -1,15 +1,25 @@
-//! Keys: the bytes of a value, and the laws of keys without prefixes and of keys in order.
+//! The key traits: bytes of a key, keys of which none is a proper prefix of another, ordered keys.
 ghost use Rattle.std.specs.Prelude.{◌≡◌, ℕ, List, length, refl, ⊤};
 ghost use Rattle.std.specs.String.{string_bytes};
 ghost use Rattle.art_bytes.specs.Laws.{prefix_of_length};
 ghost use Rattle.art_bytes.specs.Text.{IsPrefixOf, IsText, text_order};
 
-/// A type whose values can be seen as bytes, as the keys of an adaptive radix tree are.
+/// A type whose values are the keys of an adaptive radix tree: each shows its bytes.
+///
+/// (from crates/art_node_tests/src/bytes/key_examples.rt)
+/// ```rust
+/// pub fn text_of<K: AsBytes>(key: &K) -> &[u8]
+///     ensures text { result.now ≡ K.text key.now }
+///     ensures bytes { IsText (K.text key.now) }
+/// {
+///     key.as_bytes()
+/// }
+/// ```
 pub trait AsBytes {
-    /// The text of a key: its bytes, in order.
+    /// The bytes of a key, in order. Contracts call them the text of the key.
     ghost text: { Self → List ℕ };
 
-    /// Which values are keys. The laws of keys speak of these alone.
+    /// Which values are keys. Laws of keys speak of these values only.
     ghost is_key: { Self → Type 0 };
 
     /// The bytes of the key. Takes no memory.
@@ -19,30 +29,48 @@ pub trait AsBytes {
         ensures key { is_key self.now };
 }
 
-/// A type of keys of which none is a proper front of another, so that all of them fit into one adaptive radix
-/// tree.
+/// A type of keys of which none is a proper prefix of another, so that any of them can be in one
+/// adaptive radix tree together.
+///
+/// (from crates/art_node_tests/src/bytes.rt)
+/// ```rust
+/// pub(crate) fn has_prefix<K: NoPrefixesBytes>(key: &K, front: &K) -> bool
+///     ensures { IsTrue result ↔ (K.text key.now ≡ K.text front.now) }
+/// {
+///     key.as_bytes().starts_with(front.as_bytes())
+/// }
+/// ```
 pub trait NoPrefixesBytes: AsBytes {
-    /// Where the text of one key begins that of another, the two texts are equal.
+    /// Where the bytes of one key are a prefix of those of another, they are equal.
     ghost no_prefixes: { (a b : Self) → Self.is_key a → Self.is_key b →
         IsPrefixOf (Self.text a) (Self.text b) → Self.text a ≡ Self.text b };
 }
 
-/// A type of keys that are binary-comparable, as Leis, Kemper and Neumann call it (2013): a tree over their bytes
-/// keeps them in their order.
+/// A type of binary-comparable keys, in the sense of Leis, Kemper and Neumann (2013): the keys have
+/// the order of their bytes, so that a tree over the bytes keeps them in order.
+///
+/// (from crates/art_node_tests/src/bytes/key_examples.rt)
+/// ```rust
+/// pub fn order_of_texts<K: OrderedBytes>(a: &K, b: &K) -> Ordering
+///     ensures { result ≡ K.cmp a.now b.now }
+/// {
+///     a.as_bytes().cmp(b.as_bytes())
+/// }
+/// ```
 pub trait OrderedBytes: AsBytes + Ord {
-    /// The order of the keys is the order of their texts.
+    /// Two keys compare as their bytes do.
     ghost ordered: { (a b : Self) → Self.is_key a → Self.is_key b →
         Self.cmp a b ≡ text_order (Self.text a) (Self.text b) };
 }
 
-/// The text of a string is its UTF-8.
+/// The bytes of a string are its UTF-8.
 impl AsBytes for String {
     ghost text = { λ s. string_bytes s };
 
     ghost is_key = { λ _. ⊤ };
 
     fn as_bytes(&self) -> &[u8] {
-        // Named, here and in the other keys, so that the check knows each item as a byte.
+        // Named, here and in the other keys, so that the check knows that each item is a byte.
         let bytes = self.as_bytes();
         bytes
     }
@@ -52,7 +80,7 @@ impl OrderedBytes for String {
     ghost ordered = { λ a b _ _. refl };
 }
 
-/// The text of a vector is its bytes.
+/// The bytes of a vector are its items.
 impl AsBytes for Vec<u8> {
     ghost text = { λ v. v.items };
 
@@ -67,7 +95,7 @@ impl OrderedBytes for Vec<u8> {
     ghost ordered = { λ a b _ _. refl };
 }
 
-/// The text of an array is its bytes, of which a key has just `N`.
+/// The bytes of an array are its items. A key has exactly `N`.
 impl<const N: usize> AsBytes for [u8; N] {
     ghost text = { λ a. a };
 

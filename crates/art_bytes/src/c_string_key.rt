@@ -7,8 +7,23 @@ use crate::bytes::{AsBytes, NoPrefixesBytes, OrderedBytes};
 use std::error::Error;
 use std::fmt;
 
-/// A C string as a key, where blart takes `CStr` and `CString`: bytes of which none is zero, and a zero byte
-/// behind them, so that no key begins another. Keys are equal, ordered and hashed by their texts.
+/// A C string as a key, where blart takes `CStr` and `CString`: bytes of which none is zero, and a
+/// zero byte after them. So no key is a proper prefix of another. Keys are equal, ordered and
+/// hashed by their bytes.
+///
+/// (from crates/art_node_tests/src/bytes.rt)
+/// ```rust
+/// match CStringKey::new(HELLO.to_vec(rt.alloc())?) {
+///     Ok(key) => {
+///         assert!(rt; text_of(&key) == b"hello world\0".as_slice());
+///         // ..
+///     }
+///     Err(CStringKeyError::InteriorZero { .. }) => panic!(rt; "there is no zero"),
+///     Err(CStringKeyError::OutOfMemory { bytes }) => {
+///         // ..
+///     }
+/// }
+/// ```
 #[derive(Drop, PartialEq, Eq, PartialOrd, Ord, Hash)]
 pub struct CStringKey {
     bytes: Vec<u8>,
@@ -18,10 +33,12 @@ pub struct CStringKey {
 impl CStringKey {
     ghost use Rattle.art_bytes.specs.CStringKey.{c_string_key_text, IsRefusalOf};
 
-    /// The key whose text is `bytes` and a zero byte, which is appended through the vector's own allocator.
+    /// The key whose bytes are `bytes` and a zero byte. The zero byte is appended by the vector's
+    /// own allocator, and takes no memory where the vector has spare capacity.
     ///
-    /// Refuses bytes with a zero among them, before it takes memory, and otherwise want of memory, which is never
-    /// met where the vector has spare room. The bytes come back as they were.
+    /// Errors: [`CStringKeyError::InteriorZero`] where a byte is zero, found before any memory is
+    /// taken; otherwise [`CStringKeyError::OutOfMemory`] where the allocation fails. Both return
+    /// `bytes` unchanged.
     pub fn new(mut bytes: Vec<u8>) -> Result<CStringKey, CStringKeyError>
         ensures text { IfOk result (λ key. c_string_key_text key ≡ bytes.items ++ 0 ∷ []) }
         ensures no_zero { OnOk result (HasNoZero bytes.items) }
@@ -60,19 +77,27 @@ impl OrderedBytes for CStringKey {
     ghost ordered = { λ a b _ _. refl };
 }
 
-/// Why `CStringKey::new` refuses bytes, which it hands back.
+/// Why [`CStringKey::new`] refuses bytes. Each variant returns the bytes.
+///
+/// (from crates/art_node_tests/src/bytes.rt)
+/// ```rust
+/// let Err(refusal) = CStringKey::new(vec![in alloc; 1, 0]?) else {
+///     panic!(rt; "no zero was found");
+/// };
+/// assert!(rt; format!(in alloc; "{refusal}")?.as_str() == "zero byte at position 1");
+/// ```
 #[derive(Debug, Drop)]
 pub enum CStringKeyError {
-    /// A zero stands among the bytes, the first one at `position`.
+    /// A byte is zero. The first zero byte is at `position`.
     InteriorZero {
-        /// The index of that zero, from 0.
+        /// The index of the first zero byte, from 0.
         position: usize,
-        /// The bytes as they were given.
+        /// The bytes, unchanged.
         bytes: Vec<u8>,
     },
-    /// No zero stands among the bytes, and there was no memory for the one behind them.
+    /// No byte is zero, and the allocation for the zero byte at the end failed.
     OutOfMemory {
-        /// The bytes as they were given.
+        /// The bytes, unchanged.
         bytes: Vec<u8>,
     },
 }

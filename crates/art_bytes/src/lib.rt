@@ -1,8 +1,11 @@
-//! Keys as bytes: what an adaptive radix tree asks of its keys, after the crate `blart`.
+//! Keys as bytes: what an adaptive radix tree requires of its keys. Names follow the crate `blart`.
 //!
-//! A key has a text, the bytes that `AsBytes::as_bytes` shows. Two traits are laws of a type of keys, and each of
-//! their impls is a proof: under `NoPrefixesBytes` no key's text is a proper front of another's, and under
-//! `OrderedBytes` the order of the keys is that of their texts.
+//! [`AsBytes::as_bytes`] returns the bytes of a key. Two traits are laws of a type of keys, and
+//! each impl of them is a proof: under [`NoPrefixesBytes`] no key is a proper prefix of another,
+//! and under [`OrderedBytes`] the keys have the order of their bytes.
+//!
+//! The examples are lines of tests. There `rt` is the `HostRuntime` of the test, `alloc` is
+//! `rt.alloc()`, `assert!(rt; c)` fails where `c` is false, and `text_of(key)` is `key.as_bytes()`.
 #![tactic(auto)]
 
 mod bytes;

@@ -3,7 +3,16 @@ ghost use Rattle.std.specs.Prelude.{◌≡◌, refl, ⊤};
 
 use crate::bytes::{AsBytes, OrderedBytes};
 
-/// Borrowed bytes as a key, where blart takes `[u8]`. Keys are equal, ordered and hashed by their texts.
+/// Borrowed bytes as a key, where blart takes `[u8]`. Keys are equal, ordered and hashed by their
+/// bytes.
+///
+/// (from crates/art_node_tests/src/bytes.rt)
+/// ```rust
+/// const HELLO: &[u8] = b"hello world";
+/// // ..
+/// let slice = SliceKey::new(HELLO);
+/// assert!(rt; text_of(&slice) == HELLO);
+/// ```
 #[derive(Clone, Copy, PartialEq, Eq, PartialOrd, Ord, Hash)]
 pub struct SliceKey<'a> {
     bytes: &'a [u8],
@@ -12,7 +21,7 @@ pub struct SliceKey<'a> {
 impl<'a> SliceKey<'a> {
     ghost use Rattle.art_bytes.specs.SliceKey.{slice_key_text};
 
-    /// The key whose text is `bytes`.
+    /// The key whose bytes are `bytes`. Takes no memory.
     pub fn new(bytes: &'a [u8]) -> SliceKey<'a>
         ensures { slice_key_text result ≡ bytes.now }
     {

@@ -3,7 +3,16 @@ ghost use Rattle.std.specs.Prelude.{◌≡◌, refl, ⊤};
 
 use crate::bytes::{AsBytes, OrderedBytes};
 
-/// A borrowed string as a key, where blart takes `str`. Keys are equal, ordered and hashed by their texts.
+/// A borrowed string as a key, where blart takes `str`. Keys are equal, ordered and hashed by their
+/// bytes.
+///
+/// (from crates/art_node_tests/src/bytes.rt)
+/// ```rust
+/// const HELLO: &[u8] = b"hello world";
+/// // ..
+/// assert!(rt; text_of(&StrKey::new("hello world")) == HELLO);
+/// assert!(rt; string_through_a_key("hello world") == "hello world");
+/// ```
 #[derive(Clone, Copy, PartialEq, Eq, PartialOrd, Ord, Hash)]
 pub struct StrKey<'a> {
     string: &'a str,
@@ -12,7 +21,7 @@ pub struct StrKey<'a> {
 impl<'a> StrKey<'a> {
     ghost use Rattle.art_bytes.specs.StrKey.{str_key_text};
 
-    /// The key whose text is the UTF-8 of `string`.
+    /// The key whose bytes are the UTF-8 of `string`. Takes no memory.
     pub fn new(string: &'a str) -> StrKey<'a>
         ensures { str_key_text result ≡ string.now }
     {

@@ -1,8 +1,8 @@
-//! Keys behind a reference, in a `Box` and in an `Rc`.
+//! References, `Box` and `Rc` of a key as keys.
 use crate::bytes::{AsBytes, NoPrefixesBytes, OrderedBytes};
 use std::rc::Rc;
 
-/// A reference to a key is a key with that key's text.
+/// A reference to a key has that key's bytes.
 impl<T: AsBytes> AsBytes for &T {
     ghost text = { λ r. T.text r.now };
 
@@ -21,7 +21,7 @@ impl<T: OrderedBytes> OrderedBytes for &T {
     ghost ordered = { λ a b. T.ordered a.now b.now };
 }
 
-/// A box round a key is a key with that key's text.
+/// A box of a key has that key's bytes.
 impl<T: AsBytes> AsBytes for Box<T> {
     ghost text = { λ b. T.text b.value };
 
@@ -40,7 +40,7 @@ impl<T: OrderedBytes> OrderedBytes for Box<T> {
     ghost ordered = { λ a b. T.ordered a.value b.value };
 }
 
-/// A counted reference to a key is a key with that key's text.
+/// A reference-counted key has that key's bytes.
 impl<T: AsBytes> AsBytes for Rc<T> {
     ghost text = { λ r. T.text r.value };
 

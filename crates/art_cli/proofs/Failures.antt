@@ -1,4 +1,4 @@
--- What a failed run has written.
+-- The bytes that a failed run has written.
 use Rattle.std.proofs.Common.{◌≡◌, ◌∙◌, ℕ, List, [], ◌++◌, length, ap, inl, inr, refl, subst}
 use Rattle.std.specs.Prelude.{Option, None, Some, Result, Ok, Err, String, IfSome, OnOk, OnErr}
 use Rattle.std.specs.Fmt.{WritesText, with_newline}
@@ -28,7 +28,7 @@ a_beginning : {T E : Type 0} (old new : Option (List ℕ)) (text : List ℕ) (re
 a_beginning old new text (Ok value) whole beginning = (length text, rw take-length whole)
 a_beginning old new text (Err error) whole beginning = beginning
 
--- the line that is put into an empty buffer goes out, or a beginning of it does
+-- the line that is put into an empty buffer is written, or its first part is
 pub line_told : {B T E : Type 0} (contents : B → List ℕ) (shown : Option (List ℕ)) (empty full : B) (bytes : List ℕ) (old new : Option (List ℕ)) (result : Result T E) → contents empty ≡ [] → WritesText (λ b text b'. contents b' ≡ contents b ++ text) empty (with_newline shown) full → bytes ≡ contents full → OnOk result (Appends old new bytes) → OnErr result (AppendsBeginning old new bytes) → IfSome shown (λ text. AppendsBeginning old new (line text))
 line_told contents None empty full bytes old new result none wrote same whole beginning = tt
 line_told contents (Some text) empty full bytes old new result none wrote same whole beginning =

@@ -1,4 +1,4 @@
--- The entries of a tree, command by command, and what the commands print.
+-- The entries of a tree after each command, and what the commands print.
 use Rattle.std.proofs.Common.{◌≡◌, ◌≢◌, ◌∙◌, ℕ, ◌+◌, ◌<◌, ◌≤◌, Bool, true, false, List, [], ◌∷◌, ◌++◌, length, map, All, Contains, Option, None, Some, option_map, IsSomeAnd, MatchOption, bytes_eq, refl, sym, ap, arith, append-nil, append_assoc, subst, take, drop, get_or, add-one}
 use Rattle.std.proofs.Math.Seq.{take-suc}
 use Rattle.std.proofs.lemmas.List.{length-append, map-append, take-append-drop}
@@ -68,12 +68,12 @@ module _ {K : Type 0} {P : ℕ} (text : K → List ℕ) where
             ap (option_map (λ entry. entry.1)) (others x (λ same. apart (sym same))) ∙ before x ∙ sym (update_other bytes_eq number_of key number x is)
 
   module _ (old new : ArenaOf K ℕ P) (entries : Entries) (holds : HoldsEntries text old entries) where
-    -- an entry more, or with another number
+    -- one entry more, or one with another number
     pub holds_inserted : (key : K) (number : ℕ) → IsEntry text new (key, number) → ((x : List ℕ) → x ≢ text key → entry_at text new x ≡ entry_at text old x) → number ≡ entries.next → HoldsEntries text new (after entries (Insert (text key)))
     holds_inserted key number entry others next =
         holds_changed old new entries.number_of (text key) (Some entries.next) holds (ap (option_map (λ e. e.1)) entry ∙ ap Some next) others
 
-    -- an entry less
+    -- one entry less
     pub holds_removed : (key : List ℕ) → entry_at text new key ≡ None → ((x : List ℕ) → x ≢ key → entry_at text new x ≡ entry_at text old x) → HoldsEntries text new (after entries (Remove key))
     holds_removed key gone others = holds_changed old new entries.number_of key None holds (ap (option_map (λ e. e.1)) gone) others
 

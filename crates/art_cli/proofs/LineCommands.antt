@@ -1,4 +1,4 @@
--- Commands that lines say, one after another.
+-- The commands that lines give, one after another.
 use Rattle.std.proofs.Common.{◌≡◌, ℕ, List, [], ◌∷◌, ◌++◌, length, map, refl, arith, append_assoc, append-nil, get_or}
 use Rattle.std.specs.Prelude.{Option, None, Some, is_none, Result, Ok, Err, IfOk, IfSome}
 use Rattle.art_cli.specs.Lines.{lines_of, SayAll, SayUntil}
@@ -10,7 +10,7 @@ module _ {C F : Type 0} (Say : List ℕ → C → Type 0) (IsAtFault : List ℕ 
 
   module _ (all : List (List ℕ)) (items : List C) (rest : List ℕ)
       (so_far : (more : List C) (fault : Option F) → SayUntil Say IsAtFault (lines_of rest) more fault → SayUntil Say IsAtFault all (items ++ more) fault) where
-    -- a line more
+    -- one line more
     pub say_next : (line after : List ℕ) (command : C) (longer more : List C) (fault : Option F) → lines_of rest ≡ line ∷ lines_of after → Say line command → longer ≡ items ++ command ∷ [] → SayUntil Say IsAtFault (lines_of after) more fault → SayUntil Say IsAtFault all (longer ++ more) fault
     say_next line after command longer more fault cut said pushed others =
         let this : SayUntil Say IsAtFault (lines_of rest) (command ∷ more) fault = rw cut (said, others) in
@@ -30,7 +30,7 @@ module _ {C F : Type 0} (Say : List ℕ → C → Type 0) (IsAtFault : List ℕ 
         let all_said : SayUntil Say IsAtFault all (items ++ []) None = so_far [] None this in
         rw append-nil at all_said
 
-  -- what lines say by these is what they say by others, which follow from these
+  -- what lines give by these is what they give by others, which follow from these
   pub said_all : {D : Type 0} (seen : C → D) (Says : List ℕ → D → Type 0) → ((line : List ℕ) (command : C) → Say line command → Says line (seen command)) → ((line : List ℕ) (fault : F) → IsAtFault line fault → (command : D) → Says line command → ⊥) → (lines : List (List ℕ)) (items : List C) (fault : Option F) → SayUntil Say IsAtFault lines items fault → SayAll Says lines (map seen items) (is_none fault)
   said_all seen Says says nothing [] [] None said = refl
   said_all seen Says says nothing [] [] (Some fault) said = absurd said
@@ -40,7 +40,7 @@ module _ {C F : Type 0} (Say : List ℕ → C → Type 0) (IsAtFault : List ℕ 
   said_all seen Says says nothing (line ∷ lines) (command ∷ commands) fault said =
       (says line command said.0, said_all seen Says says nothing lines commands fault said.1)
 
-  -- the line after those that say the commands has the fault, and what follows from that
+  -- the line after those that give the commands has the fault, and what follows from that
   pub fault_after : (Told : List ℕ → F → Type 0) → ((line : List ℕ) (fault : F) → IsAtFault line fault → Told line fault) → (lines : List (List ℕ)) (items : List C) (fault : Option F) → SayUntil Say IsAtFault lines items fault → IfSome fault (Told (get_or lines (length items) []))
   fault_after Told told lines items None said = tt
   fault_after Told told [] [] (Some fault) said = absurd said

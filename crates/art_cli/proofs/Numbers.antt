@@ -1,4 +1,4 @@
--- What `parse` says of the texts that are numbers.
+-- Numbers in decimal digits, and the results of `parse`.
 use Rattle.std.proofs.Common.{◌≡◌, ℕ, suc, ◌<◌, ◌^◌, List, ◌∷◌, length, arith, ◌∙◌, ap}
 use Rattle.std.specs.Prelude.{All, Result, Ok, Err, IfNone}
 use Rattle.std.specs.Result.{result_ok}

@@ -1,4 +1,4 @@
--- Where texts are cut.
+-- Texts that are cut into words and lines.
 use Rattle.std.proofs.Common.{◌≡◌, ℕ, ◌+◌, ◌-◌, ◌<◌, ◌≤◌, ◌==◌, List, [], ◌∷◌, length, take, drop, refl, arith, ◌∙◌, ap}
 use Rattle.std.specs.Prelude.{position, Some, None}
 use Rattle.std.specs.List.{slice_split, position_or_len}

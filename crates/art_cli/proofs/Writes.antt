@@ -1,4 +1,4 @@
--- What is written after several writes in a row.
+-- The bytes written by several writes in a row.
 use Rattle.std.proofs.Common.{ℕ, ◌+◌, ◌-◌, ◌≤◌, List, length, take, drop}
 use Rattle.std.specs.Prelude.{Option}
 use Rattle.std.proofs.Math.Seq.{take-add, take_all}

@@ -1,4 +1,4 @@
--- What `find` answers, and the lines that it prints.
+-- The results of the commands of `find`, and the lines that it prints.
 use Rattle.std.specs.Prelude.{◌≡◌, ◌≢◌, ◌↔◌, ◌⊎◌, ℕ, ◌++◌, List, [], ◌∷◌, Option, None, Some, Contains, option_map, codes, length}
 use Rattle.std.specs.Fmt.{decimal}
 use Rattle.art_nodes.specs.declared.pointers.OpaqueNodePtr.{OpaqueNodePtr}
@@ -14,14 +14,15 @@ use Rattle.art_cli.specs.declared.find.command.TreeCommand.{TreeCommand}
 use Rattle.art_cli.specs.declared.find.command.TreeCommand.TheVariants.{Insert, Remove, Find}
 
 module _ {K V : Type 0} {P : ℕ} where
-  -- where a leaf hangs
+  -- the path to a leaf
   abbrev pub path_text : TreePath K V P → List ℕ
   path_text Root = codes "root"
   path_text (ChildOfRoot parent byte) = codes "child " ++ decimal byte
   path_text (Normal grandparent parent_byte parent byte) =
       codes "normal " ++ decimal parent_byte ++ codes " " ++ decimal byte
 
-  -- the number of the entry that is found and where its leaf hangs, or none, and how many nodes were looked at
+  -- the number of the entry that is found and the path to its leaf, or none, and how many nodes
+  -- were visited
   abbrev pub answer_text : Option (ℕ × TreePath K V P) → ℕ → List ℕ
   answer_text None reads = codes "none reads " ++ decimal reads
   answer_text (Some answer) reads =
@@ -43,7 +44,8 @@ module _ {K : Type 0} {P : ℕ} where
   IsScanned entries tree query (Some answer) =
       (leaf : OpaqueNodePtr K ℕ P) × (scan tree query ≡ (leaf, query) ∷ []) × (entries.number_of query ≡ Some answer.0) × IsPathTo tree leaf answer.1
 
-  -- without entries nothing is found, and no node looked at; else it is the answer of the scan, and a look at each node that the query meets
+  -- without entries nothing is found, and no node is visited; else it is the result of the scan,
+  -- and one node visit for each pointer that the query meets
   abbrev pub IsAnswer : Entries → List ℕ → Option (ℕ × TreePath K ℕ P) → ℕ → Type 0
   IsAnswer entries query answer reads =
       (((text : List ℕ) → entries.number_of text ≡ None) × (answer ≡ None) × (reads ≡ 0))

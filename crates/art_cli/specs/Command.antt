@@ -1,4 +1,4 @@
--- What the lines of `replay` say.
+-- The commands that the lines of `replay` give.
 use Rattle.std.specs.Prelude.{◌≡◌, ℕ, ◌^◌, ◌<◌, ◌≤◌, List, All, [], ◌∷◌, ◌⊎◌, Bool, codes, length, slice_index_or}
 use Rattle.std.specs.Int.{IsInRange}
 use Rattle.std.specs.Str.Parse.{digits_value}
@@ -43,7 +43,7 @@ module _ {K V : Type 0} {P : ℕ} where
   SayCommand words Max = words ≡ codes "max" ∷ []
   SayCommand words (Range start end) = (low high : List ℕ) × (words ≡ codes "range" ∷ low ∷ high ∷ []) × IsBound low start × IsBound high end
 
--- words that say no command
+-- words that give no command
 abbrev pub SayNothing : List (List ℕ) → Type 0
 SayNothing words = (command : ChildCommand (Unit {0}) (Unit {0}) 16) → SayCommand words command → ⊥
 
@@ -63,7 +63,8 @@ HaveTheirNumber (name ∷ byte ∷ []) = (name ≡ codes "r") ⊎ (name ≡ code
 HaveTheirNumber (name ∷ first ∷ second ∷ []) = (name ≡ codes "w") ⊎ (name ≡ codes "range")
 HaveTheirNumber words = ⊥
 
--- what is wrong with words that say no command: their name, or else their number, or else one of the words after the name
+-- the fault of words that give no command: their name, or else their number, or else one of the
+-- words after the name
 abbrev pub IsFaultOf : List (List ℕ) → LineFault → Type 0
 IsFaultOf words UnknownCommand = ¬ BeginWithName words
 IsFaultOf words WrongNumberOfWords = BeginWithName words × (¬ HaveTheirNumber words)
@@ -75,6 +76,6 @@ abbrev pub IsFaultAfter : List (List ℕ) → ℕ → LineFault → Type 0
 IsFaultAfter lines count = IsFaultOf (words_of (slice_index_or lines count []))
 
 module _ {K V : Type 0} {P : ℕ} where
-  -- lines and their commands, one a line, up to a line that says none where they are not the whole
+  -- lines and their commands, one a line, up to a line that gives none where they are not the whole
   abbrev pub SayCommands : List (List ℕ) → List (ChildCommand K V P) → Bool → Type 0
   SayCommands = SayAll (λ line. SayCommand (words_of line))

@@ -1,4 +1,4 @@
--- What a run that fails tells, and its exit status.
+-- The texts of failures, and the exit status of each.
 use Rattle.std.specs.Prelude.{ℕ, List, ◌++◌, codes}
 use Rattle.std.specs.Fmt.{decimal}
 use Rattle.art_cli.specs.declared.failure.LineFault.{LineFault}
@@ -13,7 +13,7 @@ status_of (BadLine number fault) = 2
 status_of OutOfMemory = 1
 status_of Device = 1
 
--- what is wrong with a line
+-- the fault of a line
 abbrev pub fault_text : LineFault → List ℕ
 fault_text UnknownCommand = codes "unknown command"
 fault_text WrongNumberOfWords = codes "wrong number of words"
@@ -21,7 +21,7 @@ fault_text BadNumber = codes "bad number"
 fault_text KeyTooLong = codes "key too long"
 fault_text PrefixOfOther = codes "one key is a front of the other"
 
--- why there is no answer
+-- why a run ends without its output
 abbrev pub failure_text : Failure → List ℕ
 failure_text Usage = codes "usage: artnodes replay | artnodes find 0|2|16"
 failure_text (BadLine number fault) = codes "line " ++ decimal number ++ codes ": " ++ fault_text fault

@@ -1,4 +1,4 @@
--- What the lines of `find` say, and which entries there are after them.
+-- The commands that the lines of `find` give, and the entries after them.
 use Rattle.std.specs.Prelude.{◌≡◌, ◌≢◌, ℕ, ◌+◌, ◌<◌, ◌≤◌, ◌^◌, List, [], ◌∷◌, ◌++◌, Option, None, Some, bytes_eq, length}
 use Rattle.std.specs.Map.{update}
 use Rattle.art_tree.specs.Dictionary.{OneIsProperPrefix}
@@ -13,7 +13,7 @@ command_line (Insert key) = 43 ∷ key
 command_line (Remove key) = 45 ∷ key
 command_line (Find key) = 63 ∷ key
 
--- a line says a command
+-- a line gives a command
 abbrev pub SayTreeCommand : List ℕ → TreeCommand (List ℕ) → Type 0
 SayTreeCommand line command = line ≡ command_line command
 
@@ -43,7 +43,7 @@ abbrev pub after_all : Entries → List (TreeCommand (List ℕ)) → Entries
 after_all entries [] = entries
 after_all entries (command ∷ commands) = after_all (after entries command) commands
 
--- a text that has an entry is a proper front of the key, or the key of it
+-- a text that has an entry is a proper prefix of the key, or the key of it
 abbrev pub IsPrefixOfOther : Entries → List ℕ → Type 0
 IsPrefixOfOther entries key = (other : List ℕ) × (entries.number_of other ≢ None) × OneIsProperPrefix other key
 
@@ -53,7 +53,7 @@ IsRefusedLine entries key KeyTooLong = 2 ^ 32 ≤ length key
 IsRefusedLine entries key PrefixOfOther = (length key < 2 ^ 32) × IsPrefixOfOther entries key
 IsRefusedLine entries key _ = ⊥
 
--- a command enters no entry that is refused
+-- a command inserts no entry that is refused
 abbrev pub IsAdmitted : Entries → TreeCommand (List ℕ) → Type 0
 IsAdmitted entries (Insert key) = (length key < 2 ^ 32) × (¬ IsPrefixOfOther entries key)
 IsAdmitted entries _ = Unit {0}
@@ -63,7 +63,7 @@ abbrev pub AreAdmitted : Entries → List (TreeCommand (List ℕ)) → Type 0
 AreAdmitted entries [] = Unit {0}
 AreAdmitted entries (command ∷ commands) = IsAdmitted entries command × AreAdmitted (after entries command) commands
 
--- the first entry that is refused stands in the line of this number
+-- the first entry that is refused is in the line of this number
 abbrev pub AreRefused : List (TreeCommand (List ℕ)) → ℕ → LineFault → Type 0
 AreRefused commands number fault =
     (before : List (TreeCommand (List ℕ))) × (key : List ℕ) × (others : List (TreeCommand (List ℕ))) × (commands ≡ before ++ Insert key ∷ others)

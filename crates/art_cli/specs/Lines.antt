@@ -1,4 +1,4 @@
--- Lines of the input and of the output, of both commands.
+-- The lines of the input and of the output, for both commands.
 use Rattle.std.specs.Prelude.{◌≡◌, ℕ, ◌==◌, List, Bool, false, IsTrue, [], ◌∷◌, ◌++◌, Option, None, Some}
 use Rattle.std.specs.List.{slice_split}
 
@@ -21,7 +21,7 @@ abbrev pub line : List ℕ → List ℕ
 line text = text ++ 10 ∷ []
 
 module _ {C : Type 0} (Say : List ℕ → C → Type 0) where
-  -- lines say commands, one a line, up to a line that says none where they are not the whole
+  -- lines give commands, one a line, up to a line that gives none where they are not the whole
   abbrev pub SayAll : List (List ℕ) → List C → Bool → Type 0
   SayAll [] [] is_whole = IsTrue is_whole
   SayAll (line ∷ lines) (command ∷ commands) is_whole = Say line command × SayAll lines commands is_whole
@@ -29,7 +29,8 @@ module _ {C : Type 0} (Say : List ℕ → C → Type 0) where
   SayAll [] (command ∷ commands) is_whole = ⊥
 
 module _ {C F : Type 0} (Say : List ℕ → C → Type 0) (IsAtFault : List ℕ → F → Type 0) where
-  -- lines say commands, one a line, up to the line that has this fault, if one has one. No public clause cites it
+  -- lines give commands, one a line, up to the line that has this fault, if one has one. No public
+  -- clause cites it
   abbrev pub SayUntil : List (List ℕ) → List C → Option F → Type 0
   SayUntil [] [] None = Unit {0}
   SayUntil [] [] (Some fault) = ⊥

@@ -1,4 +1,4 @@
--- What the program prints for an input, and why it gives one up.
+-- The output of the program for an input, and its failures.
 use Rattle.std.specs.Prelude.{◌≡◌, ℕ, List, [], Option, String, true, false, ◌+◌, ◌⊎◌, take, length, IfSome}
 use Rattle.std.specs.Io.KnownBytes.{Keeps, Appends}
 use Rattle.art_bytes.specs.declared.slice_key.SliceKey.{SliceKey}
@@ -20,13 +20,15 @@ use Rattle.art_cli.specs.declared.find.command.TreeCommand.{TreeCommand}
 use Rattle.art_tree.specs.declared.insert.InsertRefusal.{InsertRefusal}
 use Rattle.art_tree.specs.declared.insert.InsertRefusal.TheVariants as refusals
 
--- every line says a command, and the output is a line for each reply to them, from no children on, and one for the node that is left
+-- every line gives a command, and the output is a line for each reply to them, from no children on,
+-- and one for the node that is left
 abbrev pub IsReplayOutput : List ℕ → List ℕ → Type 0
 IsReplayOutput input output =
     (commands : List (ChildCommand (Unit {0}) (Unit {0}) 16)) × SayCommands (lines_of input) commands true
     × (output ≡ output_of (run_of [] commands).0 (length (run_of [] commands).1))
 
--- every line says a command, no entry is refused, and the output is what the commands print, from no entries on
+-- every line gives a command, no entry is refused, and the output is what the commands print, from
+-- no entries on
 abbrev pub IsFindOutput : ℕ → List ℕ → List ℕ → Type 0
 IsFindOutput room input output =
     (commands : List (TreeCommand (List ℕ))) × SayAll SayTreeCommand (lines_of input) commands true
@@ -39,7 +41,8 @@ IsOutput Find0 = IsFindOutput 0
 IsOutput Find2 = IsFindOutput 2
 IsOutput Find16 = IsFindOutput 16
 
--- the failures of an input of `replay`: the line of this number is the first that says no command, and it has this fault
+-- the failures of an input of `replay`: the line of this number is the first that gives no command,
+-- and it has this fault
 abbrev pub IsReplayFailure : List ℕ → Failure → Type 0
 IsReplayFailure input (BadLine number fault) =
     (commands : List (ChildCommand (Unit {0}) (Unit {0}) 16)) × SayCommands (lines_of input) commands false
@@ -48,7 +51,7 @@ IsReplayFailure input OutOfMemory = Unit {0}
 IsReplayFailure input Device = Unit {0}
 IsReplayFailure input _ = ⊥
 
--- the failure that a refusal of the entry in this line is
+-- the failure for a refusal of the entry in this line
 abbrev pub failure_for : ℕ → InsertRefusal → Failure
 failure_for line refusals.KeyTooLong = BadLine line KeyTooLong
 failure_for line refusals.Prefix = BadLine line PrefixOfOther
@@ -60,7 +63,8 @@ IsEntryFailure commands (BadLine number fault) = AreRefused commands number faul
 IsEntryFailure commands OutOfMemory = Unit {0}
 IsEntryFailure commands _ = ⊥
 
--- the failures of an input of `find`: the line of this number is the first that says no command; or each says one, and the entry there is the first that is refused
+-- the failures of an input of `find`: the line of this number is the first that gives no command;
+-- or each gives one, and the entry there is the first that is refused
 abbrev pub IsFindFailure : List ℕ → Failure → Type 0
 IsFindFailure input (BadLine number UnknownCommand) =
     (commands : List (TreeCommand (List ℕ))) × SayAll SayTreeCommand (lines_of input) commands false
@@ -77,7 +81,7 @@ abbrev pub IsFailure : Request → List ℕ → Failure → Type 0
 IsFailure Replay = IsReplayFailure
 IsFailure _ = IsFindFailure
 
--- a beginning of the text, and nothing else, is written
+-- the first part of the text, and nothing else, is written
 abbrev pub AppendsBeginning : Option (List ℕ) → Option (List ℕ) → List ℕ → Type 0
 AppendsBeginning old new text = (count : ℕ) × Appends old new (take count text)
 
@@ -90,7 +94,7 @@ module _ {A : Type 0} where
   abbrev pub Prints : List (String A) → List ℕ → Option (List ℕ) → Option (List ℕ) → Type 0
   Prints words input old new = (output : List ℕ) × IsAsked words input output × Appends old new output
 
-  -- the input is given up for a fault of its own
+  -- the input has a fault of its own
   abbrev pub IsBad : List (String A) → List ℕ → Type 0
   IsBad words input =
       (request : Request) × AskFor words request × (failure : Failure) × (status_of failure ≡ 2) × IsFailure request input failure
@@ -100,12 +104,13 @@ module _ {A : Type 0} where
   IsRunFailure words input Usage = ¬ AreTaken words
   IsRunFailure words input failure = (request : Request) × AskFor words request × IfSome input (λ given. IsFailure request given failure)
 
-  -- a beginning of the line of such a failure, which has this status, and nothing else, is written
+  -- the first part of the line of such a failure, which has this status, and nothing else, is
+  -- written
   abbrev pub Tells : List (String A) → Option (List ℕ) → ℕ → Option (List ℕ) → Option (List ℕ) → Type 0
   Tells words input status old new =
       (failure : Failure) × (status_of failure ≡ status) × IsRunFailure words input failure × AppendsBeginning old new (line (failure_text failure))
 
--- nothing is written, or a beginning of the output that the words ask for
+-- nothing is written, or the first part of the output that the words ask for
 abbrev pub PrintsBeginning : {A : Type 0} → List (String A) → List ℕ → Option (List ℕ) → Option (List ℕ) → Type 0
 PrintsBeginning words input old new =
     Keeps old new ⊎ ((output : List ℕ) × IsAsked words input output × AppendsBeginning old new output)

@@ -1,4 +1,4 @@
--- The words that the program takes.
+-- Requests, by the words that make them.
 use Rattle.std.specs.Prelude.{◌≡◌, ◌≢◌, ℕ, List, [], ◌∷◌, String, map, codes, length, string_bytes}
 use Rattle.art_cli.specs.declared.request.Request.{Request}
 use Rattle.art_cli.specs.declared.request.Request.TheVariants.{Replay, Find0, Find2, Find16}

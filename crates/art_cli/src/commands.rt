@@ -1,4 +1,4 @@
-//! From lines to commands, for `replay` and for `find`.
+//! Lines to commands, for `replay` and for `find`.
 ghost use Rattle.std.specs.Prelude.{ℕ, List, IfOk, IfErr};
 ghost use Rattle.art_cli.specs.Lines.{lines_of, SayUntil};
 
@@ -10,10 +10,10 @@ use std::alloc::{AllocError, Global};
 pub(crate) trait LineCommand<'a>: Sized {
     ghost use Rattle.art_cli.specs.declared.failure.LineFault.{LineFault};
 
-    /// The line says the command.
+    /// The line gives the command.
     ghost says: { List ℕ → Self → Type 0 };
 
-    /// The line says no command, and this is what is wrong with it.
+    /// The line gives no command, and this is its fault.
     ghost is_at_fault: { List ℕ → LineFault → Type 0 };
 
     /// The command of a line, without the byte that ends it.
@@ -22,10 +22,10 @@ pub(crate) trait LineCommand<'a>: Sized {
         ensures refused { IfErr result (is_at_fault line.now) };
 }
 
-/// The commands of the lines up to the first bad one, one a line, and what is wrong with that
-/// one. A line ends at byte 10, and a last line without one counts where it has a byte.
+/// The commands of the lines up to the first bad one, one a line, and the fault of that one. A line
+/// ends at byte 10, and a last line without one counts where it has a byte.
 ///
-/// A refusal is for want of memory.
+/// An error is an allocation failure.
 pub(crate) fn commands_of<'a, C: LineCommand<'a> + Drop>(
     alloc: Global,
     input: &'a [u8],

@@ -1,4 +1,4 @@
-//! What ends a run before its answers are out.
+//! Failures: what ends a run before its output is written.
 ghost use Rattle.std.specs.Prelude.{◌≡◌};
 
 use crate::writing::write_line;
@@ -6,18 +6,18 @@ use std::alloc::{AllocError, AllocFailed};
 use std::io::Write;
 use std::{fmt, io};
 
-/// What is wrong with a line.
+/// The fault of a line.
 #[derive(Clone, Copy, Debug, PartialEq, Eq)]
 pub enum LineFault {
     /// The line begins with no command: no name of `replay`, or none of `+`, `-` and `?` of `find`.
     UnknownCommand,
     /// The command takes more or fewer words.
     WrongNumberOfWords,
-    /// A number or a bound is not one, or is out of its range.
+    /// A number or a bound is malformed or out of its range.
     BadNumber,
-    /// An entry's key has 2^32 bytes or more.
+    /// The key of an entry has 2^32 bytes or more.
     KeyTooLong,
-    /// An entry's key is a proper front of that of another entry, or the other's of it.
+    /// The key of an entry is a proper prefix of that of another entry, or the other's of it.
     PrefixOfOther,
 }
 
@@ -38,14 +38,14 @@ impl fmt::Display for LineFault {
     }
 }
 
-/// Why a run ends without its answers. Its text is the line that goes to standard error.
+/// Why a run ends without its output. Its text is the line for standard error.
 #[derive(Clone, Copy, Debug, PartialEq, Eq)]
 pub enum Failure {
-    /// The words after the program's name are none that it takes.
+    /// The program takes no such words after its name.
     Usage,
     /// The line of this number, from 1, is at fault.
     BadLine(usize, LineFault),
-    /// Memory was refused.
+    /// An allocation failed.
     OutOfMemory,
     /// A read or a write failed.
     Device,
@@ -56,7 +56,8 @@ impl Failure {
     ghost use Rattle.art_cli.specs.Lines.{line};
     ghost use Rattle.art_cli.specs.Program.{AppendsBeginning};
 
-    /// The exit status: 2 for bad words or bad input, 1 for want of memory or a failed device.
+    /// The exit status: 2 for bad words or bad input, 1 for an allocation failure or a failed
+    /// device.
     pub fn status(self) -> u8
         ensures { result ≡ status_of self }
     {
@@ -66,8 +67,8 @@ impl Failure {
         }
     }
 
-    /// Writes the line that tells of the failure, as far as the writer takes it, and answers the
-    /// status. A failed write changes nothing of that.
+    /// Writes the line of the failure, as far as the writer takes it, and returns the status, also
+    /// where the write fails.
     pub fn report<E: Write>(self, errors: &mut E) -> u8
         ensures status { result ≡ status_of self }
         ensures told { AppendsBeginning (E.contents errors.old) (E.contents errors.new)

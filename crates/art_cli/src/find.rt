@@ -1,4 +1,4 @@
-//! `artnodes find P`: entries, removals and queries in, answers out.
+//! `artnodes find P`: reads entries, removals and queries, and prints the results.
 ghost use Rattle.std.specs.Prelude.{◌≡◌, map, IfOk, IfErr, OnOk, string_bytes};
 ghost use Rattle.art_bytes.specs.SliceKey.{slice_key_text};
 ghost use Rattle.art_tree.specs.Dictionary.{IsEmpty};
@@ -17,7 +17,7 @@ use crate::find::print_found::{print_answer, print_removal};
 use art_tree::{ArtTree, AsBytes, InsertRefusal, SliceKey};
 use std::alloc::Global;
 
-/// What the commands of this input print, from no entries on. They are worked in the tree.
+/// What the commands of this input print, from no entries on. They are carried out in the tree.
 pub(crate) fn find_text<'a, const PREFIX_LEN: usize>(
     alloc: Global,
     tree: &mut ArtTree<SliceKey<'a>, usize, PREFIX_LEN>,
@@ -67,7 +67,7 @@ fn replies_text<K: AsBytes + Copy, const PREFIX_LEN: usize>(
     Ok(text)
 }
 
-// The failure that a refusal of the entry in this line is.
+// The failure for a refusal of the entry in this line.
 fn failure_of(line: usize, refusal: InsertRefusal) -> Failure
     ensures { result ≡ failure_for line refusal }
 {

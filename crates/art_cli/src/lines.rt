@@ -2,8 +2,8 @@
 ghost use Rattle.std.specs.Prelude.{◌≡◌, ◌==◌, ◌<◌, ◌∷◌, length, position, IfSome};
 ghost use Rattle.art_cli.specs.Lines.{lines_of};
 
-/// The first line, without the byte 10 that ends it, and what comes after that: nothing where no
-/// byte ends the line. There has to be a byte.
+/// The first line, without the byte 10 that ends it, and the bytes after that: nothing where no
+/// byte 10 ends the line. There must be a byte.
 pub(crate) fn first_line(bytes: &[u8]) -> (&[u8], &[u8])
     requires { 0 < length bytes.now }
     ensures lines { lines_of bytes.now ≡ result.0.now ∷ lines_of result.1.now }
@@ -15,7 +15,7 @@ pub(crate) fn first_line(bytes: &[u8]) -> (&[u8], &[u8])
     }
 }
 
-/// The place of the first byte that is `end`, or None where there is none.
+/// The index of the first byte that is `end`, or None where there is none.
 pub(crate) fn end_of_part(bytes: &[u8], end: u8) -> Option<usize>
     ensures place { result ≡ position (λ b. b == end) bytes.now }
     ensures within { IfSome result (λ at. at < length bytes.now) }

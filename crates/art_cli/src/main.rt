@@ -1,9 +1,9 @@
-//! The program `artnodes`: lines on standard input, answers on standard output.
+//! The program `artnodes`: reads lines from standard input, writes results to standard output.
 //!
-//! `artnodes replay` works child commands over one node of an adaptive radix tree and prints, after
-//! the replies, the kind of the node that is left. `artnodes find P` works entries, removals and
-//! queries over one tree. [`run`] is the whole program over any reader and writers; `main` hands it
-//! the words and the standard streams.
+//! `artnodes replay` carries out child commands on one node of an adaptive radix tree and prints,
+//! after the replies, the kind of the node that is left. `artnodes find P` carries out inserts,
+//! removals and queries on one tree. [`run`] is the whole program over any reader and writers;
+//! `main` passes it the words and the standard streams.
 #![tactic(auto)]
 
 mod commands;
@@ -38,7 +38,7 @@ fn main(rt: HostRuntime) -> ExitCode {
     ExitCode::from(status)
 }
 
-// A word that is no text is none that the program takes.
+// A word that is not UTF-8 is none that the program takes.
 fn words_after_name<R: Env + AllocGlobal>(rt: &R) -> Result<Vec<String>, Failure> {
     match env::args(rt) {
         Ok(words) => Ok(words.skip(1).collect(rt.alloc())?),

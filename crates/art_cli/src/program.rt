@@ -17,17 +17,18 @@ use art_tree::ArtTree;
 use std::alloc::Global;
 use std::io::{Read, Write};
 
-/// Runs the program on the words that follow its name, and answers its exit status.
+/// Runs the program on the words that follow its name, and returns its exit status.
 ///
-/// The words are looked at first: bad ones read nothing. Then `input` is read to its end. `replay`
-/// reads child commands, one a line, and writes a line for each reply and one for the node that is
-/// left; `find` reads entries, removals and queries, one a line, and writes a line for each removal
-/// and query. They write to `output`, with status 0.
+/// The words are checked first: for bad ones nothing is read. Then `input` is read to its end.
+/// `replay` reads child commands, one a line, and writes a line for each reply and one for the node
+/// that is left; `find` reads inserts, removals and queries, one a line, and writes a line for each
+/// removal and query. They write to `output`, with status 0.
 ///
-/// A failure writes its line to `errors`: bad words or bad input with status 2, before anything is
-/// written to `output`; want of memory with status 1, and nothing is written to `output` either; a
-/// failed device with status 1, when a beginning of the output may have gone out, and nothing else.
-/// Whether the line on `errors` could be written changes nothing.
+/// A failure writes its line to `errors`. For bad words or bad input the status is 2, and nothing
+/// is written to `output`. For an allocation failure the status is 1, and nothing is written to
+/// `output` either. For a failed device the status is 1; the first part of the output may have been
+/// written, and nothing else. The status does not depend on whether the line could be written to
+/// `errors`.
 pub fn run<R: Read, W: Write, E: Write>(
     alloc: Global,
     words: &[String],
@@ -50,7 +51,7 @@ pub fn run<R: Read, W: Write, E: Write>(
     ensures refused { result ≡ 2 → AreTaken words.now →
         IfSome (R.remaining input.old) (IsBad words.now) }
 
-    // What is written where nothing is answered, and where all is well.
+    // What is written to the output, after a failure and after a success.
     ensures bad_input_prints_nothing { result ≡ 2 →
         Keeps (W.contents output.old) (W.contents output.new) }
     ensures refused_memory_prints_nothing { result ≡ 1 →
@@ -60,7 +61,7 @@ pub fn run<R: Read, W: Write, E: Write>(
     ensures success_is_quiet { result ≡ 0 →
         Keeps (E.contents errors.old) (E.contents errors.new) }
 
-    // What is told of a failure.
+    // What is written of a failure.
     ensures told { result ≢ 0 → Tells words.now (R.remaining input.old) result
         (E.contents errors.old) (E.contents errors.new) }
 {
@@ -95,7 +96,7 @@ fn answer<R: Read>(alloc: Global, words: &[String], input: &mut R) -> Result<Str
     requested_text(alloc, request, bytes)
 }
 
-// What is asked for, of this input.
+// The output of a request for this input.
 fn requested_text(alloc: Global, request: Request, input: Vec<u8>) -> Result<String, Failure>
     ensures text { IfOk result (λ text. IsOutput request input.items (string_bytes text)) }
     ensures refused { IfErr result (IsFailure request input.items) }

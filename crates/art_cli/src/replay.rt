@@ -1,4 +1,4 @@
-//! `artnodes replay`: child commands in, replies out.
+//! `artnodes replay`: reads child commands, and prints the replies.
 ghost use Rattle.std.specs.Prelude.{◌≡◌, [], length, IfOk, IfErr, string_bytes};
 ghost use Rattle.art_nodes.specs.Commands.{run_of};
 ghost use Rattle.art_cli.specs.Reply.{output_of};
@@ -15,7 +15,7 @@ use crate::replay::print_reply_lines::text_of;
 use art_tree::{Header, replay};
 use std::alloc::{AllocError, Global};
 
-/// What the commands of this input are answered. The input is let go before the replies come.
+/// The output for the commands of this input. The input is freed before the replies are made.
 pub(crate) fn replay_text(alloc: Global, input: Vec<u8>) -> Result<String, Failure>
     ensures text { IfOk result (λ text. IsReplayOutput input.items (string_bytes text)) }
     ensures refused { IfErr result (IsReplayFailure input.items) }

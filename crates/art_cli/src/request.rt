@@ -1,8 +1,8 @@
-//! What the words after the program's name ask for.
+//! Requests: the words after the program's name.
 ghost use Rattle.std.specs.Prelude.{map, string_bytes, MatchOption};
 ghost use Rattle.art_cli.specs.Request.{AskFor, AreTaken, AreTexts};
 
-/// What the program is asked to do.
+/// A request to the program.
 #[derive(Clone, Copy)]
 pub(crate) enum Request {
     /// `replay`
@@ -15,7 +15,7 @@ pub(crate) enum Request {
     Find16,
 }
 
-/// What the words ask for, or None where the program takes no such words.
+/// The request that these words make, or None where the program takes no such words.
 pub(crate) fn request_of(words: &[String]) -> Option<Request>
     ensures { MatchOption result (¬ (AreTaken words.now)) (AskFor words.now) }
 {

@@ -23,8 +23,8 @@ const SEARCHES: &str = "+abc1\n+abc2\n?abc2\n?abd2\n?abc\n?\n?abc22\n";
 const ANSWERS: &str =
     "found 1 child 50 reads 2\nnone reads 2\nnone reads 1\nnone reads 1\nnone reads 2\n";
 
-// How the test below ends whose run was refused memory, once the next one has answered.
-// `checks/refusals` looks for it.
+// How a test ends whose run failed to allocate, after the next run succeeded. `checks/refusals`
+// searches for it.
 const ALL_STANDS: &str = "refused, and all stands";
 
 fn words(alloc: Global, texts: &[&str]) -> Result<Vec<String>, AllocError> {
@@ -53,7 +53,7 @@ fn case_of<'a>(input: &'a [u8], output: &'a str, errors: &'a str, status: u8) ->
     }
 }
 
-// This was written, and this status answered.
+// The output, the errors and the status are these.
 fn compare(rt: &impl Abort, output: &[u8], errors: &[u8], status: u8, case: &Case) {
     assert!(rt; output == case.output.as_bytes());
     assert!(rt; errors == case.errors.as_bytes());
@@ -70,7 +70,7 @@ fn check(rt: &impl Abort, alloc: Global, texts: &[&str], case: &Case) -> Result<
     Ok(())
 }
 
-// So many answers that no child was there.
+// So many replies without a child.
 fn nones(alloc: Global, count: usize) -> Result<String, AllocError> {
     let mut lines = String::new(alloc);
     for _ in 0..count {
@@ -125,8 +125,8 @@ impl Read for FailingReader {
     }
 }
 
-// What a writer bears, how many bytes a write takes at most, and the kind of its errors. One of
-// kind `WriteZero` answers `Ok(0)` where it is full, as a slice does.
+// The limits of a writer: how many bytes it takes in all, how many a write takes at most, and the
+// kind of its errors. One of kind `WriteZero` returns `Ok(0)` where it is full, as a slice does.
 #[derive(Clone, Copy)]
 struct Limits {
     room: usize,
@@ -136,7 +136,7 @@ struct Limits {
     kind: ErrorKind,
 }
 
-// Takes what its limits let it. Every other write is interrupted where any is.
+// Takes what its limits allow. Every other write is interrupted where any is.
 #[derive(Drop)]
 struct LimitedWriter {
     taken: Vec<u8>,
@@ -227,7 +227,7 @@ const UNFLUSHED_WHOLE: Limits = Limits {
     ..UNFLUSHED
 };
 
-// the writer had no memory, which is no refusal of the run's own
+// the writer had no memory, which is no allocation failure of the run's own
 const UNFLUSHED_STARVED: Limits = Limits {
     kind: ErrorKind::OutOfMemory,
     ..UNFLUSHED
@@ -238,7 +238,7 @@ const NARROW_STARVED: Limits = Limits {
     ..NARROW
 };
 
-// the writer answers `Ok(0)` where it is full
+// the writer returns `Ok(0)` where it is full
 const NARROW_SLICE: Limits = Limits {
     at_once: usize::MAX,
     kind: ErrorKind::WriteZero,
@@ -250,7 +250,7 @@ const WRITE: &[u8] = b"w 1 1\n";
 // what `replay` prints for it
 const REPLY: &str = "child none\nnode Node4 1\n";
 
-// As `check`, over an output with these limits, and errors with this room.
+// As `check`, over an output with these limits, and errors with this capacity.
 fn check_writers(
     rt: &impl Abort,
     alloc: Global,
@@ -293,7 +293,7 @@ fn cut_off<'a>(input: &'a [u8], output: &'a str) -> Case<'a> {
 
 #[test]
 fn a_failed_writer_has_what_it_took(rt: HostRuntime) -> Result<(), Fail> {
-    // the words, the limits of the output, the room of the errors, what is written
+    // the words, the limits of the output, the capacity of the errors, what is written
     let rows: [(&[&str], Limits, usize, Case); 10] = [
         (&["replay"], UNFLUSHED, 100, cut_off(WRITE, REPLY)),
         (&["replay"], UNFLUSHED_WHOLE, 100, cut_off(WRITE, REPLY)),
@@ -324,8 +324,8 @@ fn a_failed_writer_has_what_it_took(rt: HostRuntime) -> Result<(), Fail> {
 }
 
 // Runs these words where each growth is the run's own, since words and writers have their memory
-// before it. A run that is refused some prints nothing, and the next one answers. Answers whether
-// it was refused.
+// before it. A run with an allocation failure prints nothing, and the next one succeeds. Returns
+// whether there was one.
 fn is_refused(rt: &impl Abort, alloc: Global, texts: &[&str], case: &Case) -> Result<bool, Fail> {
     let words = words(alloc, texts)?;
     let mut input = case.input;

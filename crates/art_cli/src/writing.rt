@@ -1,4 +1,4 @@
-//! Writes that say what a failed one leaves.
+//! Writes with contracts that name what a failed one has written.
 ghost use Rattle.std.specs.Prelude.{OnOk, OnErr, IfSome};
 ghost use Rattle.std.specs.Io.KnownBytes.{Appends};
 ghost use Rattle.art_cli.specs.Lines.{line};
@@ -9,8 +9,8 @@ use std::fmt::Display;
 use std::io::Write;
 use std::{fmt, io};
 
-/// Writes the text, and has a writer that keeps bytes back let them go. Unlike `write_all` it says
-/// what a failure leaves.
+/// Writes the text, and flushes the writer. Unlike that of `write_all` its contract names what a
+/// failed write has written.
 #[tactic(auto, using(crate::proofs::Writes::appends_more, crate::proofs::Writes::appends_whole))]
 pub(crate) fn write_out<W: Write>(output: &mut W, text: &[u8]) -> io::Result<()>
     ensures whole { OnOk result
@@ -33,7 +33,7 @@ pub(crate) fn write_out<W: Write>(output: &mut W, text: &[u8]) -> io::Result<()>
     Err(io::Error::from(io::ErrorKind::Interrupted))
 }
 
-/// Writes the line of a text, as far as the writer takes it, and asks for no memory. A text has up
+/// Writes the line of a text, as far as the writer takes it, without an allocation. A text has up
 /// to 63 bytes: nothing is written of a longer one.
 pub(crate) fn write_line<W: Write, D: Display + Drop>(output: &mut W, text: D)
     ensures { IfSome (D.output text) (λ shown.

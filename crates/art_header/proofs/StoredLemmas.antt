@@ -1,4 +1,4 @@
--- What the calls that change a prefix leave of its stored bytes.
+-- Stored bytes of a prefix: after it is cut, extended or filled from a key.
 use Rattle.std.proofs.Common.{◌≡◌, ℕ, ◌+◌, ◌-◌, ◌<◌, ◌≤◌, min, List, ◌++◌, length, take, drop, sym, ap, ◌∙◌, arith, append_assoc, zero-add}
 use Rattle.std.proofs.lemmas.List.{length-take-le, length-drop, drop-take, drop-append-le, take-append-le}
 use Rattle.std.proofs.Math.Seq.{paste, take-append-add, take-append_seam, drop-append-add}
@@ -6,7 +6,7 @@ use Rattle.std.proofs.lemmas.List.Edits.{take-paste}
 use Rattle.art_header.specs.Header.{Header, capped, ltrimmed, with_more, StandsFor}
 
 module _ {X : Type 0} where
-  -- the bytes from n on, moved to the front
+  -- the bytes from n on, moved to the start
   trimmed : (n kept whole count : ℕ) (bytes : List X) → whole ≡ n + kept → whole ≤ length bytes → count ≡ kept → take kept (paste bytes 0 (drop n bytes) count) ≡ drop n (take whole bytes)
   trimmed n kept whole count bytes is fits same =
       let room : kept ≤ length (drop n bytes) = omega (arith, length-drop n bytes) in
@@ -17,7 +17,7 @@ module _ {X : Type 0} where
       ∙ sym (drop-take n kept bytes)
       ∙ ap (λ k. drop n (take k bytes)) (sym is)
 
-  -- new bytes behind the old front
+  -- new bytes behind the bytes that were there
   pushed : (start end : ℕ) (bytes more written rest : List X) → start ≤ length bytes → start ≤ end → end - start ≤ length more → written ≡ take (end - start) more → take end (take start bytes ++ (written ++ rest)) ≡ take end (take start bytes ++ more)
   pushed start end bytes more written rest has up enough is =
       let front : length (take start bytes) ≡ start = length-take-le start bytes has in
@@ -30,7 +30,7 @@ module _ {X : Type 0} where
       ∙ sym (take-append-add (take start bytes) more (end - start))
       ∙ ap (λ n. take n (take start bytes ++ more)) (sym count)
 
-  -- the bytes of a key from behind a path and n bytes on are those of the prefix from the n-th on
+  -- the bytes of a key after a path and n bytes are those of the prefix from index n on
   cut : (stored n depth : ℕ) (path prefix rest : List X) → length path ≡ depth → n + stored ≤ length prefix → take stored (drop (depth + n) ((path ++ prefix) ++ rest)) ≡ take stored (drop n prefix)
   cut stored n depth path prefix rest is fits =
       let behind : drop (depth + n) (path ++ (prefix ++ rest)) ≡ drop n (prefix ++ rest) = ap (λ m. drop (m + n) (path ++ (prefix ++ rest))) (sym is) ∙ drop-append-add path (prefix ++ rest) n in
@@ -40,7 +40,7 @@ module _ {X : Type 0} where
       ∙ ap (λ bs. take stored bs) (behind ∙ inside)
       ∙ take-append-le stored (drop n prefix) rest room
 
--- what a header of these parts shows
+-- the header with these fields
 abbrev pub shown : ℕ → ℕ → ℕ → List ℕ → Header
 shown room count len bytes = record { count = count; prefix_len = len; stored = take (capped room len) bytes }
 
@@ -65,7 +65,7 @@ module _ (room count len : ℕ) (bytes : List ℕ) (header : Header) (is : shown
       ∙ ap (λ m. record { count = count; prefix_len = m; stored = take (capped room m) (take (capped room len) bytes ++ more) }) sum
       ∙ ap (λ h. with_more room h more n) is
 
--- a header of a prefix, filled from a key that has it behind a path, stands for its rest
+-- a header of a prefix, filled from a key that has it behind a path, is one for the rest of the prefix
 pub stands-cut : (room n depth : ℕ) (key path prefix rest : List ℕ) (old new : Header) → n ≤ old.prefix_len → new ≡ record old { prefix_len = old.prefix_len - n; stored = take (capped room (old.prefix_len - n)) (drop (depth + n) key) } → length path ≡ depth → key ≡ (path ++ prefix) ++ rest → StandsFor room old prefix → StandsFor room new (drop n prefix)
 stands-cut room n depth key path prefix rest old new within is at begins stands =
     let whole : old.prefix_len ≡ length prefix = ap (λ h. h.prefix_len) stands in

@@ -1,9 +1,9 @@
--- The kinds of nodes, by how many children they hold.
+-- The kinds of nodes, by number of children.
 use Rattle.std.specs.Prelude.{ℕ, if◌then◌else◌, nat_le}
 use Rattle.art_header.specs.declared.node_type.NodeType.{NodeType}
 use Rattle.art_header.specs.declared.node_type.NodeType.TheVariants.{Node4, Node16, Node48, Node256, Leaf}
 
--- the fewest children that a node of the kind holds in a tree
+-- the least number of children of a node of the kind in a tree
 abbrev pub least_children : NodeType → ℕ
 least_children Node4 = 2
 least_children Node16 = 5
@@ -11,7 +11,7 @@ least_children Node48 = 17
 least_children Node256 = 49
 least_children Leaf = 0
 
--- the most children that a node of the kind holds
+-- the greatest number of children of a node of the kind
 abbrev pub most_children : NodeType → ℕ
 most_children Node4 = 4
 most_children Node16 = 16

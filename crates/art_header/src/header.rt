@@ -1,15 +1,30 @@
-//! The header that every inner node begins with.
+//! The header of an inner node: its count of children and its compressed prefix.
 ghost use Rattle.std.specs.Prelude.{◌≡◌, ℕ, ◌+◌, ◌-◌, ◌^◌, ◌<◌, ◌≤◌, List, [], ◌++◌, length, min, take, drop, Result};
 
 use std::alloc::AllocError;
 use std::marker::Model;
 
-/// The header of an inner node: how many children it has, how long its prefix is in bytes, and
-/// the first bytes of the prefix.
+/// The header of an inner node: its number of children, the length of its compressed prefix in
+/// bytes, and the stored prefix.
 ///
-/// At most `PREFIX_LEN` bytes of the prefix are stored. The rest of a longer prefix is implicit:
-/// any leaf below the node has it in its key (the hybrid of the pessimistic and the optimistic
-/// path compression of Leis, Kemper and Neumann, 2013).
+/// At most `PREFIX_LEN` bytes of the prefix are stored. The other bytes of a longer prefix are
+/// implicit: the key of any leaf below the node has them (the hybrid of pessimistic and optimistic
+/// path compression of Leis, Kemper and Neumann, 2013). No call takes memory; each costs
+/// O(`PREFIX_LEN`).
+///
+/// (from crates/art_node_tests/src/header/prefix.rt)
+/// ```rust
+/// let header = Header::<2>::new(b"abcd", 4);
+/// // ..
+/// assert!(rt; header.capped_prefix_len() == 2);
+/// // ..
+/// let mut header = Header::<2>::new(b"abcd", 4);
+/// header.push_prefix(b"ef", 2);
+/// // ..
+/// let (bytes, len, capped_len) = header.clear_prefix();
+/// assert!(rt; bytes.as_slice() == b"ab".as_slice());
+/// assert!(rt; (len, capped_len) == (6, 2));
+/// ```
 #[derive(Drop)]
 pub struct Header<const PREFIX_LEN: usize> {
     num_children: u16,
@@ -38,8 +53,8 @@ impl<const PREFIX_LEN: usize> Header<PREFIX_LEN> {
 
     /// A header with no children, for a prefix of `prefix_len` bytes that begins with `prefix`.
     ///
-    /// `prefix` has to have the bytes that are stored, `min(prefix_len, PREFIX_LEN)` of them, and
-    /// may not be longer than `prefix_len`, which is below 2^32.
+    /// Conditions: `prefix` has at least the `min(prefix_len, PREFIX_LEN)` bytes that are stored
+    /// and at most `prefix_len` bytes, and `prefix_len` is below 2^32.
     pub fn new(prefix: &[u8], prefix_len: usize) -> Self
         requires has_stored_bytes { capped PREFIX_LEN prefix_len ≤ length prefix.now }
         requires no_longer { length prefix.now ≤ prefix_len }
@@ -56,7 +71,7 @@ impl<const PREFIX_LEN: usize> Header<PREFIX_LEN> {
         }
     }
 
-    /// The stored front of the prefix: its first `min(prefix_len, PREFIX_LEN)` bytes.
+    /// The stored prefix: the first `min(prefix_len, PREFIX_LEN)` bytes of the prefix.
     pub fn read_prefix(&self) -> &[u8]
         ensures stored { result.now ≡ self.now.stored }
         ensures capped { length result.now ≡ capped PREFIX_LEN self.now.prefix_len }
@@ -65,7 +80,7 @@ impl<const PREFIX_LEN: usize> Header<PREFIX_LEN> {
         &bytes[..self.capped_prefix_len()]
     }
 
-    /// The length of the whole prefix in bytes, stored or not. It is below 2^32.
+    /// The length of the whole prefix in bytes, stored or not, below 2^32.
     pub fn prefix_len(&self) -> usize
         ensures value { result ≡ self.now.prefix_len }
         ensures fits { result < 2 ^ 32 }
@@ -73,7 +88,7 @@ impl<const PREFIX_LEN: usize> Header<PREFIX_LEN> {
         self.prefix_len as usize
     }
 
-    /// How many bytes of the prefix are stored: `min(prefix_len, PREFIX_LEN)`.
+    /// The length of the stored prefix in bytes: `min(prefix_len, PREFIX_LEN)`.
     pub fn capped_prefix_len(&self) -> usize
         ensures value { result ≡ capped PREFIX_LEN self.now.prefix_len }
         ensures stored { result ≡ length self.now.stored }
@@ -81,7 +96,7 @@ impl<const PREFIX_LEN: usize> Header<PREFIX_LEN> {
         (self.prefix_len as usize).min(PREFIX_LEN)
     }
 
-    /// The count of children. It is below 65536.
+    /// The number of children, below 65536.
     pub fn num_children(&self) -> usize
         ensures value { result ≡ self.now.count }
         ensures fits { result < 2 ^ 16 }
@@ -89,8 +104,8 @@ impl<const PREFIX_LEN: usize> Header<PREFIX_LEN> {
         usize::from(self.num_children)
     }
 
-    /// Takes over the prefix of another header: its length and its stored front. The count of
-    /// children stays.
+    /// Replaces the prefix by that of another header: its length and its stored prefix. The number
+    /// of children is unchanged.
     pub fn set_prefix(&mut self, other: &Header<PREFIX_LEN>)
         ensures prefix { self.new ≡ with_prefix_of self.old other.now }
         ensures capped { length self.new.stored ≡ capped PREFIX_LEN self.new.prefix_len }
@@ -99,9 +114,9 @@ impl<const PREFIX_LEN: usize> Header<PREFIX_LEN> {
         self.prefix = other.prefix;
     }
 
-    /// Drops the first `len` bytes of the prefix. The rest of the stored bytes moves to the front.
+    /// Removes the first `len` bytes of the prefix. The other stored bytes move to the start.
     ///
-    /// The whole prefix has to be stored, unless `len` is 0, and it has at least `len` bytes.
+    /// Conditions: the prefix has at least `len` bytes, and all of it is stored unless `len` is 0.
     pub fn ltrim_by(&mut self, len: usize)
         requires wholly_stored { 0 < len → self.old.prefix_len ≤ PREFIX_LEN }
         requires within { len ≤ self.old.prefix_len }
@@ -112,9 +127,9 @@ impl<const PREFIX_LEN: usize> Header<PREFIX_LEN> {
         self.prefix.copy_within(len..end, 0);
     }
 
-    /// Empties the prefix. It answers the bytes that were stored, the length that the prefix had,
-    /// and how many of its bytes were stored: of the array that many have a meaning, the others
-    /// none.
+    /// Empties the prefix. Returns an array with the stored prefix, the length that the whole
+    /// prefix had, and the length that the stored prefix had. Later bytes of the array have no
+    /// meaning. The number of children is unchanged.
     pub fn clear_prefix(&mut self) -> ([u8; PREFIX_LEN], usize, usize)
         ensures cleared { self.new ≡ record self.old { prefix_len = 0; stored = [] } }
         ensures bytes { take result.2 result.0 ≡ self.old.stored }
@@ -127,10 +142,10 @@ impl<const PREFIX_LEN: usize> Header<PREFIX_LEN> {
         (self.prefix, len, capped_len)
     }
 
-    /// Appends `len` bytes to the prefix, of which `new` has the first.
+    /// Appends `len` bytes to the prefix. `new` has the first of them.
     ///
-    /// `new` has to have the bytes that are stored: `len` of them, or as many as there is room
-    /// for. The length of the whole prefix stays below 2^32.
+    /// Conditions: `new` has every byte that is to be stored, that is `len` bytes or as many as
+    /// there is spare capacity for, and the whole prefix stays shorter than 2^32.
     pub fn push_prefix(&mut self, new: &[u8], len: usize)
         requires has_stored_bytes { min len (PREFIX_LEN - capped PREFIX_LEN self.old.prefix_len)
             ≤ length new.now }
@@ -144,11 +159,12 @@ impl<const PREFIX_LEN: usize> Header<PREFIX_LEN> {
         bytes[start..end].copy_from_slice(&new[..end - start]);
     }
 
-    /// Drops the first `len` bytes of the prefix, and stores as much of the rest as there is room
-    /// for. The bytes are those of a key of a leaf below, where `depth` bytes lie before the
-    /// prefix.
+    /// Removes the first `len` bytes of the prefix, and stores as much of the rest as fits. The
+    /// bytes are read from `leaf_key`, the key of a leaf below, in which the prefix begins at index
+    /// `depth`.
     ///
-    /// The prefix has at least `len` bytes, and the key has every byte that is to be stored.
+    /// Conditions: the prefix has at least `len` bytes, and `leaf_key` has every byte that is to be
+    /// stored.
     pub fn ltrim_by_with_leaf(&mut self, len: usize, depth: usize, leaf_key: &[u8])
         requires within { len ≤ self.old.prefix_len }
         requires has_stored_bytes { depth + len + capped PREFIX_LEN (self.old.prefix_len - len) ≤
@@ -167,7 +183,7 @@ impl<const PREFIX_LEN: usize> Header<PREFIX_LEN> {
         bytes[0..capped_len].copy_from_slice(&leaf_key[start..start + capped_len]);
     }
 
-    /// Counts one child more. The count has to be below 65535.
+    /// Adds 1 to the number of children. Condition: it is below 65535.
     pub fn inc_num_children(&mut self)
         requires { self.old.count < 65535 }
         ensures { self.new ≡ record self.old { count = self.old.count + 1 } }
@@ -175,7 +191,7 @@ impl<const PREFIX_LEN: usize> Header<PREFIX_LEN> {
         self.num_children += 1;
     }
 
-    /// Counts one child less. The count has to be above 0.
+    /// Subtracts 1 from the number of children. Condition: it is above 0.
     pub fn dec_num_children(&mut self)
         requires { 0 < self.old.count }
         ensures { self.new ≡ record self.old { count = self.old.count - 1 } }
@@ -183,7 +199,7 @@ impl<const PREFIX_LEN: usize> Header<PREFIX_LEN> {
         self.num_children -= 1;
     }
 
-    /// Sets the count of children to 0.
+    /// Sets the number of children to 0.
     pub fn reset_num_children(&mut self)
         ensures count { self.new ≡ record self.old { count = 0 } }
         ensures capped { length self.new.stored ≡ capped PREFIX_LEN self.new.prefix_len }
@@ -192,7 +208,7 @@ impl<const PREFIX_LEN: usize> Header<PREFIX_LEN> {
     }
 }
 
-/// A copy that takes no memory, so it never fails.
+/// A copy takes no memory and never fails.
 impl<const PREFIX_LEN: usize> Clone for Header<PREFIX_LEN> {
     ghost use Rattle.std.specs.Prelude.{◌≡◌, ⊤};
 
@@ -209,8 +225,8 @@ impl<const PREFIX_LEN: usize> Clone for Header<PREFIX_LEN> {
     }
 }
 
-/// Two headers are equal where count, prefix length and stored front are. Bytes past the stored
-/// front have no part in it.
+/// Two headers are equal where count, prefix length and stored prefix are. Bytes of the array after
+/// the stored prefix have no effect.
 impl<const PREFIX_LEN: usize> PartialEq for Header<PREFIX_LEN> {
     ghost use Rattle.std.specs.Cmp.{partial_equiv_from_equiv};
     ghost use Rattle.art_header.specs.Header.{same_header, same_header_equiv};

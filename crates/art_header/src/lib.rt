@@ -1,8 +1,11 @@
-//! Node types and headers of an adaptive radix tree.
+//! Node kinds, headers and indices of an adaptive radix tree.
 //!
-//! Every inner node begins with a [`Header`]: how many children it has, how long its prefix is,
-//! and the first bytes of that prefix, up to `PREFIX_LEN` of them. Nothing else of a header can
-//! be seen. [`NodeType`] names the kinds of nodes and how many children each holds.
+//! Every inner node has a [`Header`]: the number of children, the length of the compressed prefix,
+//! and the stored prefix, at most `PREFIX_LEN` bytes of it. [`NodeType`] names the kinds of nodes
+//! and how many children each holds. [`NonMaxIndex`] is an index into the places of a node.
+//!
+//! The examples are lines of tests. There `rt` is the `HostRuntime` of the test, and `assert!(rt;
+//! c)` fails where `c` is false.
 #![tactic(auto)]
 
 mod header;

@@ -5,28 +5,41 @@ ghost use Rattle.art_header.specs.NodeType.{least_children, most_children, grown
 
 use std::ops::RangeInclusive;
 
-/// The kind of a node: an inner node by how many children it may hold, or a leaf.
+/// The kind of a node: an inner node by its greatest number of children, or a leaf. The kinds are
+/// ordered as they are listed.
 ///
-/// The kinds are ordered as they are listed.
+/// (from crates/art_node_tests/src/header/node_type.rt)
+/// ```rust
+/// let rows = [
+///     (NodeType::Node4, 2, 4),
+///     (NodeType::Node16, 5, 16),
+///     // ..
+/// ];
+/// for (row, (kind, least, most)) in rows.into_iter().enumerate() {
+///     assert!(rt; *kind.capacity_range().start() == least, "row {row}");
+///     assert!(rt; *kind.capacity_range().end() == most, "row {row}");
+/// }
+/// ```
 #[derive(Clone, Copy, Debug, PartialEq, Eq, PartialOrd, Ord, Hash)]
 pub enum NodeType {
-    /// Holds at most 4 children; 2 to 4 in a tree.
+    /// At most 4 children; 2 to 4 in a tree.
     Node4,
-    /// Holds at most 16 children; 5 to 16 in a tree.
+    /// At most 16 children; 5 to 16 in a tree.
     Node16,
-    /// Holds at most 48 children; 17 to 48 in a tree.
+    /// At most 48 children; 17 to 48 in a tree.
     Node48,
-    /// Holds at most 256 children; 49 to 256 in a tree.
+    /// At most 256 children; 49 to 256 in a tree.
     Node256,
-    /// Holds a key and a value.
+    /// A key and a value, and no children.
     Leaf,
 }
 
 impl NodeType {
-    /// How many children a node of this kind holds in a tree, from least to most.
+    /// The range of the number of children that a node of this kind has in a tree. That of a leaf
+    /// is 0 to 0.
     ///
-    /// A leaf holds none. The numbers are those of Leis, Kemper and Neumann, "The Adaptive Radix
-    /// Tree" (2013), with the least one above the most of the next smaller kind.
+    /// The kinds are those of Leis, Kemper and Neumann, "The Adaptive Radix Tree" (2013). The least
+    /// number of each is one above the greatest of the next smaller kind.
     pub fn capacity_range(self) -> RangeInclusive<usize>
         ensures start { range_inclusive_start result ≡ least_children self }
         ensures end { range_inclusive_end result ≡ most_children self }
@@ -65,10 +78,10 @@ impl NodeType {
         }
     }
 
-    /// Whether an inner node of this kind with `num_children` children is to become one of the
-    /// next smaller kind. There is none below `Node4`, so the answer there is false.
+    /// Whether an inner node of this kind with `num_children` children is to become a node of the
+    /// next smaller kind. False for `Node4`, which has no smaller kind.
     ///
-    /// A leaf has no such question: it is excluded.
+    /// Condition: the kind is not `Leaf`.
     pub fn should_shrink_inner_node(self, num_children: usize) -> bool
         requires { self ≢ NodeType.Leaf }
         ensures smallest { self ≡ NodeType.Node4 → ¬ (IsTrue result) }

@@ -6,9 +6,15 @@ use std::error::Error;
 use std::fmt;
 use std::marker::Model;
 
-/// An index from 0 to 254, for an array of at most 255 places.
+/// An index from 0 to 254, for an array of at most 255 places. Indices compare by their numbers.
 ///
-/// It stands for its number alone, and is compared by it.
+/// (from crates/art_node_tests/src/header/non_max_index.rt)
+/// ```rust
+/// for number in [0, 19, 254] {
+///     assert!(rt; NonMaxIndex::new(number).map(|index| index.get()) == Some(number));
+/// }
+/// assert!(rt; NonMaxIndex::new(255) == None);
+/// ```
 #[derive(Clone, Copy, Debug, PartialEq, Eq, PartialOrd, Ord)]
 pub struct NonMaxIndex {
     value: u8,
@@ -27,7 +33,7 @@ impl Model for NonMaxIndex {
 }
 
 impl NonMaxIndex {
-    /// The index with this number, or none for 255.
+    /// The index with this number, and `None` for 255.
     pub fn new(value: u8) -> Option<Self>
         ensures { SomeIff result (value < 255) value }
     {
@@ -38,7 +44,7 @@ impl NonMaxIndex {
         }
     }
 
-    /// The index with this number, which may not be 255. [`NonMaxIndex::new`] tests it.
+    /// The index with this number. Condition: it is not 255; [`NonMaxIndex::new`] tests it.
     pub fn new_unchecked(value: u8) -> Self
         requires { value < 255 }
         ensures { result ≡ value }
@@ -46,7 +52,7 @@ impl NonMaxIndex {
         NonMaxIndex { value }
     }
 
-    /// The number.
+    /// The number, from 0 to 254.
     pub fn get(&self) -> u8
         ensures value { result ≡ self.now }
         ensures below_max { result < 255 }
@@ -66,7 +72,7 @@ impl Default for NonMaxIndex {
     }
 }
 
-/// The number.
+/// The number of an index.
 impl From<NonMaxIndex> for u8 {
     ghost use Rattle.std.specs.Prelude.{◌≡◌};
 
@@ -77,7 +83,7 @@ impl From<NonMaxIndex> for u8 {
     }
 }
 
-/// The number.
+/// The number of an index.
 impl From<NonMaxIndex> for usize {
     ghost use Rattle.std.specs.Prelude.{◌≡◌};
 
@@ -88,7 +94,7 @@ impl From<NonMaxIndex> for usize {
     }
 }
 
-/// The index with this number. 255 is refused.
+/// The index with this number. Error: [`TryFromByteError`] for 255.
 impl TryFrom<u8> for NonMaxIndex {
     type Error = TryFromByteError;
 
@@ -102,7 +108,7 @@ impl TryFrom<u8> for NonMaxIndex {
     }
 }
 
-/// The index with this number. 255 and every greater number are refused.
+/// The index with this number. Error: [`TryFromByteError`] for 255 and above.
 impl TryFrom<usize> for NonMaxIndex {
     type Error = TryFromByteError;
 
@@ -120,7 +126,13 @@ impl TryFrom<usize> for NonMaxIndex {
     }
 }
 
-/// A number is no [`NonMaxIndex`]: it is 255 or greater.
+/// The error for a number that is no [`NonMaxIndex`]: it is 255 or greater.
+///
+/// (from crates/art_node_tests/src/header/non_max_index.rt)
+/// ```rust
+/// assert!(rt; usize::from(NonMaxIndex::try_from(254usize)?) == 254);
+/// assert!(rt; NonMaxIndex::try_from(255u8) == Err(TryFromByteError));
+/// ```
 #[derive(Clone, Copy, Debug, PartialEq, Eq)]
 pub struct TryFromByteError;
 

@@ -1,4 +1,4 @@
--- The bytes of all parts, cut before the last one.
+-- The bytes of all parts, cut before the last part.
 use Rattle.std.proofs.Common.{◌≡◌, ℕ, ◌≤◌, List, ◌++◌, length, ap, arith, length-append}
 use Rattle.std.proofs.Math.Logic.{∥∥₁_map, ∥∥₁_map₂, ∥∥₁_elim}
 use Rattle.std.proofs.Props.{props}
@@ -17,7 +17,7 @@ module _ {A B : Type 0} {front_in : A → Type 0} {front_text : A → List ℕ} 
     ∥∥₁_map some (λ of. let sides = split_both front last text x y of.0 of.1.1 of.2 same long in (of.0.1, of.1.1, sides.1)),
   )
 
-  -- and both stand for one together
+  -- and both together stand for one
   pub joined_again : (text x y : List ℕ) → StandsForSome front_in front_stands x → StandsForSome last_in last_stands y → text ≡ x ++ y
       → StandsForSome (Both front_in last_in) (StandsForBoth front_stands last_stands) text
   joined_again text x y front_some last_some same =

@@ -1,4 +1,4 @@
--- The top bit of a number flipped, as two's complement is raised by half of its range, and back.
+-- Flipping the top bit of a number: a two's complement plus half of its range, and back.
 use Rattle.std.proofs.Common.{◌≡◌, ℕ, ◌+◌, ◌-◌, ◌*◌, ◌^◌, ◌<◌, ◌≤◌, ℤ, pos, negsuc, SFits, List, arith, suc, refl, sym, ap, ◌∙◌, inl, inr}
 use Rattle.std.proofs.lemmas.Bool.{cases_lt, le-ltb}
 use Rattle.std.specs.Prelude.{◌+ℤ◌, ◌≤ℤ◌, ◌<ℤ◌, neg_ℤ, unsigned_abs, bit_xor}
@@ -9,7 +9,7 @@ use Rattle.std.proofs.lemmas.Nat.{xor_block, pow_pos}
 use Rattle.art_mapped.specs.Numbers.{digits}
 use mir.Val.{bits, hbits}
 
--- below half, the bit is set
+-- below half, the flip sets the bit
 flip_low : (h n : ℕ) → n < 2 ^ h → bit_xor n (2 ^ h) ≡ n + 2 ^ h
 flip_low h n low =
     let whole = xor_block h 0 1 n 0 low (pow_pos h) in
@@ -18,7 +18,7 @@ flip_low h n low =
     let both = rw (zero_and, one_and, xor_zero_r n) at whole in
     both ∙ omega arith
 
--- from half on, it is cleared
+-- from half on, the flip clears it
 flip_high : (h n : ℕ) → 2 ^ h ≤ n → n < 2 ^ h + 2 ^ h → bit_xor n (2 ^ h) + 2 ^ h ≡ n
 flip_high h n high below =
     let low : n - 2 ^ h < 2 ^ h = omega arith in
@@ -35,7 +35,7 @@ halves w32 = refl
 halves w64 = refl
 halves w128 = refl
 
--- a signed number's bits with the top one flipped are the number raised by half
+-- a signed number's bits with the top one flipped are the number plus half of the range
 pub flipped : (w : Width) (z : ℤ) → SFits w z → bit_xor (cast_unsigned w z) (2 ^ hbits w) ≡ unsigned_abs (z +ℤ pos (2 ^ hbits w))
 flipped w (pos n) fits = flip_low (hbits w) n fits.sfits
 flipped w (negsuc n) fits =
@@ -46,7 +46,7 @@ flipped w (negsuc n) fits =
     let left : bit_xor (2 ^ bits w - suc n) half ≡ half - suc n = omega (arith, cleared) in
     left ∙ omega (arith, ints)
 
--- the number that bits with the top one flipped stand for lies in the signed range, and raised by half it is the bits
+-- bits with the top one flipped stand for a number in the signed range, which plus half of the range is the bits
 pub record IsFlippedBack (w : Width) (n : ℕ) (z : ℤ) : Type 0 where
   pub above : neg_ℤ (pos (2 ^ hbits w)) ≤ℤ z
   pub below : z <ℤ pos (2 ^ hbits w)
@@ -76,7 +76,7 @@ pub text_of_flipped : (w : Width) (width n : ℕ) (z : ℤ) (bytes : List ℕ) �
 text_of_flipped w width n z bytes fits bits_are text =
     text ∙ ap (digits width) (ap (λ m. bit_xor m (2 ^ hbits w)) (bits_are ∙ ap (cast_unsigned w) (to_z-of_z w z fits)) ∙ flipped w z fits)
 
--- the number that bits with the top one flipped stand for lies in the signed range, and has their bytes
+-- bits with the top one flipped stand for a number in the signed range, whose bytes they are
 pub read_flipped : (w : Width) (width n : ℕ) (z : ℤ) (bytes : List ℕ) → n < 2 ^ bits w → SFits w z → z ≡ cast_signed w (bit_xor n (2 ^ hbits w)) → digits width n ≡ bytes
     → ((neg_ℤ (pos (2 ^ hbits w)) ≤ℤ cast_signed w (cast_unsigned w z)) × (cast_signed w (cast_unsigned w z) <ℤ pos (2 ^ hbits w))) × (bytes ≡ digits width (unsigned_abs (cast_signed w (cast_unsigned w z) +ℤ pos (2 ^ hbits w))))
 read_flipped w width n z bytes below fits is text =

@@ -1,4 +1,4 @@
--- Some tuple is some pairs.
+-- Values of a tuple and values of its nested pairs.
 use Rattle.std.proofs.Common.{◌≡◌, sym, subst}
 use Rattle.std.proofs.Math.Logic.{∥∥₁_map}
 use Rattle.art_mapped.specs.Mapping.{StandsForSome}

@@ -1,4 +1,4 @@
--- The parts of joined elements.
+-- Joined elements, split into parts of one width.
 use Rattle.std.proofs.Common.{◌≡◌, ℕ, zero, suc, ◌+◌, ◌-◌, ◌*◌, ◌/◌, ◌%◌, ◌<◌, ◌≤◌, List, [], ◌∷◌, ◌++◌, length, take, drop, get_or, refl, sym, ap, ◌∙◌, inl, inr, append_assoc, arith, length-drop}
 use Rattle.std.specs.Prelude.{All}
 use Rattle.std.proofs.lemmas.List.{take_all, take-append-le, take-append-drop, drop-append-le, drop-drop, drop_all}
@@ -20,7 +20,7 @@ abbrev pub IsPartOfSome : {E : Type 0} → (E → Type 0) → (E → List ℕ) �
 IsPartOfSome {E} is_element text bytes = ∥ ((x : E) × is_element x × (bytes ≡ text x)) ∥₁
 
 module _ {E : Type 0} {is_element : E → Type 0} {text : E → List ℕ} {order : E → E → Ordering} {width : ℕ} (laws : KeepsOrder is_element text order width) where
-  -- the first bytes, and those after them
+  -- the first part, and the parts after it
   first_part : (bytes : List ℕ) → part width 0 bytes ≡ take width bytes
   first_part bytes =
       let none : 0 * width ≡ 0 = omega arith in
@@ -42,7 +42,7 @@ module _ {E : Type 0} {is_element : E → Type 0} {text : E → List ℕ} {order
   shorter : (n : ℕ) (bytes : List ℕ) → length bytes ≡ suc n * width → length (drop width bytes) ≡ n * width
   shorter n bytes size = omega (arith, length-drop width bytes)
 
-  -- bytes whose parts are the elements' are the elements', joined
+  -- where the parts are those of the elements, the bytes are the elements' joined
   pub joined_from_parts : (xs : List E) (bytes : List ℕ) → length bytes ≡ length xs * width → ((k : ℕ) (d : E) → k < length xs → part width k bytes ≡ text (get_or xs k d)) → bytes ≡ joined text xs
   joined_from_parts [] [] size parts = refl
   joined_from_parts [] (b ∷ bytes) size parts = absurd (omega arith)
@@ -51,7 +51,7 @@ module _ {E : Type 0} {is_element : E → Type 0} {text : E → List ℕ} {order
       let rest = joined_from_parts xs (drop width bytes) (shorter (length xs) bytes size) (λ k d below. sym (later_part k bytes) ∙ parts (suc k) d (omega arith)) in
       sym (take-append-drop width bytes) ∙ rw (first, rest) refl
 
-  -- bytes each of whose parts is some element's are some elements', joined
+  -- where each part is some element's, the bytes are some elements' joined
   pub are_joined_from_parts : (n : ℕ) (bytes : List ℕ) → length bytes ≡ n * width → ((k : ℕ) → k < n → IsPartOfSome is_element text (part width k bytes)) → AreJoined is_element text bytes
   are_joined_from_parts zero [] size parts = ∣ ([], All-nil is_element, refl) ∣₁
   are_joined_from_parts zero (b ∷ bytes) size parts = absurd (omega arith)
@@ -81,7 +81,7 @@ module _ {E : Type 0} {is_element : E → Type 0} {text : E → List ℕ} {order
   part_within k size below =
       omega (arith, mul-le (k + 1) width (size / width) width (omega arith) (omega arith), div-add-mod' size width)
 
-  -- a part as it is taken from a slice, and how long it is
+  -- a part taken from a slice, and its length
   pub part_taken : (k first second : ℕ) (bytes : List ℕ) → first ≡ width → second ≡ width → take second (take (length bytes - k * first) (drop (k * first) bytes)) ≡ part width k bytes
   part_taken k first second bytes first_is second_is =
       let start = k * width in
@@ -100,16 +100,16 @@ module _ {E : Type 0} {is_element : E → Type 0} {text : E → List ℕ} {order
       let found = element_of_part of.0 k of.1 (below_from_size k (length of.0) laws.some (rw size at within)) in
       (found.0, found.1, ap (part width k) of.2 ∙ found.2))
 
-  -- joined elements leave no rest
+  -- the length of joined elements is a multiple of the width
   pub no_rest : (bytes : List ℕ) → AreJoined is_element text bytes → length bytes % width ≡ 0
   no_rest bytes are =
       ∥∥₁_elim are (hlevel props) (λ of. rw (ap length of.2 ∙ length-joined laws of.0 of.1) (mul-mod_left (length of.0) width))
 
-  -- joined elements are as long as their parts
+  -- the length of joined elements is that of their parts
   pub size_of_parts : (bytes : List ℕ) → length bytes % width ≡ 0 → length bytes ≡ length bytes / width * width
   size_of_parts bytes none = omega (arith, div-add-mod' (length bytes) width)
 
-  -- one more element read
+  -- one more element is read
   pub one_more_read : (xs : List E) (x : E) (bytes : List ℕ) (k : ℕ) → joined text xs ++ drop (k * width) bytes ≡ bytes → part width k bytes ≡ text x
       → joined text (xs ++ x ∷ []) ++ drop ((k + 1) * width) bytes ≡ bytes
   one_more_read xs x bytes k before here =
@@ -117,11 +117,11 @@ module _ {E : Type 0} {is_element : E → Type 0} {text : E → List ℕ} {order
       let single : joined text (x ∷ []) ≡ text x = append-nil (text x) in
       rw (flat_map-append text xs (x ∷ []), single, append_assoc, on, ← drop-drop width (k * width) bytes, ← here, take-append-drop width (drop (k * width) bytes)) before
 
-  -- all read
+  -- all elements are read
   pub all_read : (xs : List E) (bytes : List ℕ) (n : ℕ) → length bytes ≤ n * width → joined text xs ++ drop (n * width) bytes ≡ bytes → bytes ≡ joined text xs
   all_read xs bytes n size read = sym (rw (drop_all (n * width) bytes size, append-nil) at read)
 
-  -- as many elements as parts
+  -- there are as many elements as parts
   pub size_of_array : (n : ℕ) (bytes : List ℕ) → ∥ ((xs : List E) × IsArray n is_element xs × (bytes ≡ joined text xs)) ∥₁ → length bytes / width ≡ n
   size_of_array n bytes are =
       ∥∥₁_elim are (hlevel props) (λ of. rw (ap length of.2 ∙ length-joined laws of.0 of.1.1, mul-div_cancel (length of.0) laws.some) of.1.0)

@@ -1,4 +1,4 @@
--- The way back from bytes to the number whose digits, and the address whose octets, they are.
+-- Reading bytes back: to the number with these digits, and to the address with these octets.
 use Rattle.std.specs.Prelude.{◌≡◌, ℕ, zero, suc, ◌+◌, ◌-◌, ◌*◌, ◌^◌, ◌<◌, List, [], ◌∷◌, length, get_or, All, refl}
 use Rattle.std.specs.Int.{byte_worth, sum_through}
 use Rattle.std.specs.Cmp.{nat_cmp_is}
@@ -12,7 +12,7 @@ use Rattle.art_bytes.specs.Text.{IsByte}
 use Rattle.art_mapped.specs.DigitLaws.{number_of, AreBytes, length-digits, AreBytes-digits, number_of_below, number_of-digits, text_order-number_of}
 use Rattle.art_mapped.specs.Numbers.{digits}
 
--- texts that stand for one number at one width are one
+-- texts of one number at one width are equal
 same_from_number : (ds es : List ℕ) → length ds ≡ length es → AreBytes ds → AreBytes es → number_of ds ≡ number_of es → ds ≡ es
 same_from_number ds es long d_bytes e_bytes same =
     exact_bytes ds es (text_order-number_of ds es long d_bytes e_bytes ∙ sym (nat_cmp_is (number_of ds) (number_of es) Equal same))
@@ -23,7 +23,7 @@ digits-number_of width ds long bytes =
     let fits : number_of ds < 256 ^ width = rw (← long) (number_of_below ds bytes) in
     same_from_number (digits width (number_of ds)) ds (length-digits width (number_of ds) ∙ sym long) (AreBytes-digits width (number_of ds)) bytes (number_of-digits width (number_of ds) fits)
 
--- the first term of a sum apart
+-- a sum, with its first term apart
 sum_from_first : (f : ℕ → ℕ) (k : ℕ) → sum_through f (suc k) ≡ f 0 + sum_through (λ i. f (suc i)) k
 sum_from_first f zero = refl
 sum_from_first f (suc k) = rw (sum_from_first f k) (omega arith)
@@ -32,7 +32,7 @@ same_sum : (f g : ℕ → ℕ) → ((i : ℕ) → f i ≡ g i) → (k : ℕ) →
 same_sum f g same zero = same 0
 same_sum f g same (suc k) = rw (same_sum f g same k, same (suc k)) refl
 
--- what std's `from_be_bytes` sums up is the number of the text
+-- the sum that std's `from_be_bytes` computes is the number of the text
 number_of-sum : (k : ℕ) (ds : List ℕ) → length ds ≡ suc k → sum_through (λ i. byte_worth (k - i) (get_or ds i 0)) k ≡ number_of ds
 number_of-sum zero [] long = absurd (omega arith)
 number_of-sum zero (d ∷ []) long = omega arith
@@ -45,7 +45,7 @@ number_of-sum (suc k) (d ∷ ds) long =
     let whole : suc k - 0 ≡ suc k = omega arith in
     rw (sum_from_first (λ i. byte_worth (suc k - i) (get_or (d ∷ ds) i 0)) k, rest, short, whole) refl
 
--- the number that std reads from as many bytes as the width has has these bytes as its digits
+-- the number that std reads from `width` bytes has these bytes as its digits
 pub digits-read : (k : ℕ) (ds : List ℕ) (n : ℕ) → length ds ≡ suc k → AreBytes ds → n ≡ sum_through (λ i. byte_worth (k - i) (get_or ds i 0)) k → digits (suc k) n ≡ ds
 digits-read k ds n long bytes read = rw (read ∙ number_of-sum k ds long) (digits-number_of (suc k) ds long bytes)
 

@@ -1,4 +1,4 @@
--- Turns of a function that calls leave as it was.
+-- Functions that calls leave unchanged, called at each step of a loop.
 use Rattle.std.proofs.Common.{◌≡◌, ℕ, zero, suc, ◌+◌, ◌<◌, ◌≤◌, List, [], ◌∷◌, Option, Some, get_or, sym, subst, inl, inr, arith}
 use Rattle.std.specs.List.{FoldsTo}
 use Rattle.std.specs.Array.{IsFromFnResultFrom}
@@ -12,7 +12,7 @@ folds_stay {P} R p stays (x ∷ xs) q folds =
     let From : P → Type 0 = λ j. FoldsTo R j xs q in
     folds_stay R p stays xs q (subst From (stays x folds.0 folds.1) folds.2)
 
--- what may be called at each item, and is as it was afterwards, may be called at each turn
+-- what may be called at each item, and is unchanged afterwards, may be called at each step
 pub callable_unchanged : {S A P : Type 0} (steps : S → Option A → S → Type 0) (R : P → A → P → Type 0) (Q : P → A → Type 0) (s : S) (p : P)
     → ((x : A) (q : P) → R p x q → q ≡ p) → ((t : S) (x : A) (u : S) → steps t (Some x) u → Q p x) → CallableAtEachTurn steps R Q s p
 callable_unchanged {S} {A} {P} steps R Q s p stays callable =
@@ -22,7 +22,7 @@ callable_unchanged {S} {A} {P} steps R Q s p stays callable =
           subst At (sym (folds_stay R p stays xs q folds)) (callable t x u step);
     }
 
--- an array made by such a function has at each index what a call there gave
+-- an array made by such a function has at each index the result of a call there
 pub called_at : {F B : Type 0} (g : Mut F (ℕ × Unit {0}) B) (f : F) → ((x : ℕ) (y : B) (q : F) → Called g f (x, tt) y q → q ≡ f)
     → (ys : List B) (n i : ℕ) → IsFromFnResultFrom g f ys i n → (k : ℕ) (d : B) → i ≤ k → k < i + n → (q : F) × Called g f (k, tt) (get_or ys k d) q
 called_at g f stays ys zero i made k d from below = absurd (omega arith)

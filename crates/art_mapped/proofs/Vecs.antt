@@ -1,4 +1,4 @@
--- A vector as contracts see it.
+-- Vectors and the lists of their items.
 use Rattle.std.proofs.Common.{◌≡◌, ◌≤◌, ◌*◌, ℕ, List, length, Vec, refl, ap, ◌∙◌, arith}
 use Rattle.std.proofs.Math.Logic.{∥∥₁_map}
 use Rattle.std.proofs.Math.Nat.{le-mul_of_pos_right}
@@ -24,7 +24,7 @@ vec_with other items fits = (
 )
 
 module _ {E : Type 0} {is_element : E → Type 0} {text : E → List ℕ} {order : E → E → Ordering} {width : ℕ} (laws : KeepsOrder is_element text order width) where
-  -- bytes that are some elements', joined, are those of some vector, and the other way round
+  -- bytes are some elements' joined exactly where they are those of some vector
   pub vec_from_joined : {Z : Type 0} (bytes : Vec ℕ Z) → AreJoined is_element text (vec_items bytes) → ∥ ((v : Vec E Z) × IsVec is_element v × (vec_items bytes ≡ vec_text text v)) ∥₁
   vec_from_joined bytes are =
       ∥∥₁_map are (λ of.

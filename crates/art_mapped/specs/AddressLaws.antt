@@ -1,4 +1,4 @@
--- An address and its octets decide each other, and their order. No public clause cites this.
+-- IP addresses: octets determine the address, and keep its order. No public clause cites this.
 use Rattle.std.specs.Prelude.{◌≡◌, ℕ, ◌+◌, ◌*◌, ◌/◌, ◌%◌, List, [], ◌∷◌, refl}
 use Rattle.std.specs.Ordering.{nat_cmp, on}
 use Rattle.std.specs.Net.Addr.{ipv4_octets, ipv6_segments, ipv6_octets, octets_of, segments_of}
@@ -11,7 +11,7 @@ use Rattle.art_mapped.specs.Addresses.{IsIpv4, IsIpv6}
 use Rattle.art_mapped.specs.DigitLaws.{order_of_two, then_assoc}
 use Rattle.art_mapped.specs.Elements.{KeepsOrder}
 
--- addresses of the same octets are one
+-- addresses with the same octets are equal
 pub same_ipv4 : (x y : Ipv4Addr) {bytes : List ℕ} → bytes ≡ ipv4_octets x → bytes ≡ ipv4_octets y → x ≡ y
 same_ipv4 x y x_text y_text =
     let make : List ℕ → Ipv4Addr = λ octets. record { octets = octets } in
@@ -29,7 +29,7 @@ same_ipv6 x y x_text y_text =
     let make : List ℕ → Ipv6Addr = λ segments. record { segments = segments } in
     ap make (sym (segments_of-octets_of (ipv6_segments x)) ∙ ap segments_of (sym x_text ∙ y_text) ∙ segments_of-octets_of (ipv6_segments y))
 
--- addresses of four octets sort as their octets do
+-- IPv4 addresses sort as their octets do
 pub ipv4_keep : KeepsOrder IsIpv4 ipv4_octets (on ipv4_octets text_order) 4
 ipv4_keep =
     record {
@@ -51,7 +51,7 @@ order_of_segments (x ∷ xs) (y ∷ ys) =
     let rest = order_of_segments xs ys in
     rw (rw (whole_x, whole_y) at first, rest) (then_assoc (nat_cmp (x / 256) (y / 256)) (nat_cmp (x % 256) (y % 256)) (text_order (octets_of xs) (octets_of ys)))
 
--- and so do addresses of sixteen octets, of which std compares the segments
+-- IPv6 addresses, whose segments std compares, sort as their octets do
 pub ipv6_keep : KeepsOrder IsIpv6 ipv6_octets (on ipv6_segments text_order) 16
 ipv6_keep =
     record {

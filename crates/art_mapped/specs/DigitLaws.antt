@@ -1,4 +1,4 @@
--- Digits in base 256: their number and their order. No public clause cites this.
+-- Digits in base 256: their value and their order. No public clause cites this.
 use Rattle.std.specs.Prelude.{◌≡◌, ℕ, zero, suc, ◌+◌, ◌*◌, ◌%◌, ◌^◌, ◌<◌, List, [], ◌∷◌, length, get_or, refl}
 use Rattle.std.specs.Int.{byte_at}
 use Rattle.std.specs.Ordering.{nat_cmp, ordering_then}
@@ -13,7 +13,7 @@ use Rattle.std.proofs.lemmas.Nat.{mul-add-lt, row_fits}
 use Rattle.art_bytes.specs.Text.{text_order}
 use Rattle.art_mapped.specs.Numbers.{digits}
 
--- the number that digits stand for
+-- the number with these digits
 abbrev pub number_of : List ℕ → ℕ
 number_of [] = 0
 number_of (d ∷ ds) = d * 256 ^ length ds + number_of ds
@@ -48,7 +48,7 @@ number_of_below (d ∷ ds) bytes =
     let first : d < 256 = bytes 0 in
     rw pow-suc (mul-add-lt d (256 ^ length ds) (number_of ds) 256 first rest)
 
--- one more digit in front of the low digits
+-- the digit before the low digits, and the low digits
 digit_on : (k n : ℕ) → byte_at k n * 256 ^ k + n % 256 ^ k ≡ n % 256 ^ suc k
 digit_on zero n = omega arith
 digit_on (suc k) n =
@@ -59,17 +59,17 @@ number_of-low : (width n : ℕ) → number_of (digits width n) ≡ n % 256 ^ wid
 number_of-low zero n = omega arith
 number_of-low (suc k) n = rw (length-digits k n, number_of-low k n) (digit_on k n)
 
--- digits at full width stand for the number
+-- digits at full width determine the number
 pub number_of-digits : (width n : ℕ) → n < 256 ^ width → number_of (digits width n) ≡ n
 number_of-digits width n fits = number_of-low width n ∙ mod-eq_of_lt fits
 
--- three orders in turn
+-- three comparisons in turn
 pub then_assoc : (o p q : Ordering) → ordering_then (ordering_then o p) q ≡ ordering_then o (ordering_then p q)
 then_assoc Less p q = refl
 then_assoc Equal p q = refl
 then_assoc Greater p q = refl
 
--- a number that is made of two digits in a base, the greater first, has the order of those digits
+-- a number made of two digits in a base, the greater first, has the order of those digits
 pub order_of_two : (unit a b r s : ℕ) → r < unit → s < unit → nat_cmp (a * unit + r) (b * unit + s) ≡ ordering_then (nat_cmp a b) (nat_cmp r s)
 order_of_two unit a b r s small small' =
     let x = a * unit + r in
@@ -82,7 +82,7 @@ order_of_two unit a b r s small small' =
     (λ is' greater. rw (is', same) (omega arith))))
     (λ is greater. rw is (omega (arith, row_fits b unit a unit greater (omega arith))))))
 
--- texts of one length have the order of their numbers
+-- byte lists of one length have the order of their numbers
 pub text_order-number_of : (ds es : List ℕ) → length ds ≡ length es → AreBytes ds → AreBytes es → text_order ds es ≡ nat_cmp (number_of ds) (number_of es)
 text_order-number_of [] [] long d_bytes e_bytes = refl
 text_order-number_of [] (e ∷ es) long d_bytes e_bytes = absurd (omega arith)
@@ -94,7 +94,7 @@ text_order-number_of (d ∷ ds) (e ∷ es) long d_bytes e_bytes =
     let e_small : number_of es < 256 ^ length ds = rw same (number_of_below es (λ i. e_bytes (suc i))) in
     rw rest (rw (← same) (sym (order_of_two (256 ^ length ds) d e (number_of ds) (number_of es) d_small e_small)))
 
--- the digits at a width have the order of the numbers
+-- digits at one width have the order of their numbers
 pub text_order-digits : (width m n : ℕ) → m < 256 ^ width → n < 256 ^ width → text_order (digits width m) (digits width n) ≡ nat_cmp m n
 text_order-digits width m n m_fits n_fits =
     let long = length-digits width m ∙ sym (length-digits width n) in

@@ -1,4 +1,4 @@
--- What bytes that stand for values take from the laws of the mapping. No public clause cites this.
+-- Laws of a mapping, carried over to bytes that stand for values. No public clause cites this.
 use Rattle.std.specs.Prelude.{◌≡◌, ℕ, List}
 use Rattle.std.proofs.Common.{sym, ◌∙◌}
 use Rattle.std.proofs.Props.{props}
@@ -6,12 +6,12 @@ use Rattle.std.proofs.Math.Logic.{∥∥₁_elim, ∥∥₁_map}
 use Rattle.art_bytes.specs.Text.{IsPrefixOf}
 use Rattle.art_mapped.specs.Mapping.{StandsForSome, HasTextOf}
 
--- where bytes stand for what has their text, other bytes with that text stand for some value too
+-- where bytes stand for the value whose text they have, other bytes with that text stand for some value too
 pub kept_by_text : {B D : Type 0} (is_in_domain : D → Type 0) (text : B → List ℕ) (text_of : D → List ℕ) (a b : B) → text a ≡ text b
     → StandsForSome is_in_domain (HasTextOf text text_of) a → StandsForSome is_in_domain (HasTextOf text text_of) b
 kept_by_text is_in_domain text text_of a b same some = ∥∥₁_map some (λ of. (of.0, of.1, sym same ∙ of.2))
 
--- where no value's text is a proper front of another's, none is of bytes that stand for values
+-- where no value's text is a proper prefix of another's, the same holds of bytes that stand for values
 pub text_prefix_is_whole : {B D : Type 0} (is_in_domain : D → Type 0) (stands_for : B → D → Type 0) (text : B → List ℕ) (text_of : D → List ℕ)
     → ((bytes : B) (value : D) → is_in_domain value → stands_for bytes value → text bytes ≡ text_of value)
     → ((x y : D) → is_in_domain x → is_in_domain y → IsPrefixOf (text_of x) (text_of y) → text_of x ≡ text_of y)

@@ -1,4 +1,4 @@
--- The bytes of integers have their width and keep their order. No public clause cites this.
+-- The bytes of integers: width and order. No public clause cites this.
 use Rattle.std.specs.Prelude.{◌≡◌, ℕ, zero, suc, ◌+◌, ◌-◌, ◌*◌, ◌^◌, ◌<◌, ◌≤ℤ◌, ℤ, pos, neg_ℤ, ◌+ℤ◌, ◌<ℤ◌, unsigned_abs, List, refl}
 use Rattle.std.specs.Ordering.{nat_cmp, int_cmp, on}
 use Rattle.std.specs.declared.cmp.Ordering.{Ordering}
@@ -37,7 +37,7 @@ unsigned_keep width some =
       exact = exact_unsigned;
     }
 
--- to raise both signed numbers by half of the range keeps the order
+-- adding half of the range to both of two signed numbers keeps their order
 order_of_raised : (h : ℕ) (y z : ℤ) → neg_ℤ (pos h) ≤ℤ y → neg_ℤ (pos h) ≤ℤ z → int_cmp y z ≡ nat_cmp (unsigned_abs (y +ℤ pos h)) (unsigned_abs (z +ℤ pos h))
 order_of_raised h y z y_in z_in =
     nat_cmp_is (unsigned_abs (y +ℤ pos h)) (unsigned_abs (z +ℤ pos h)) (int_cmp y z) (by_ranked (y <ℤ z) (y ≡ z) (z <ℤ y) (int_cmp y z) (int_ranks y z)
@@ -45,7 +45,7 @@ order_of_raised h y z y_in z_in =
     (λ is same. rw is (ap (λ x. unsigned_abs (x +ℤ pos h)) same))
     (λ is greater. rw is (omega (arith, ints))))
 
--- raised by half of the range, a signed number is unsigned
+-- a signed number plus half of the range is unsigned
 raised_is_unsigned : (width : ℕ) (z : ℤ) → 0 < width → IsSigned width z → unsigned_abs (z +ℤ pos (2 ^ (8 * width - 1))) < 256 ^ width
 raised_is_unsigned width z some z_in =
     let half = 2 ^ (8 * width - 1) in
@@ -65,7 +65,7 @@ signed_keep width some =
       exact = exact_signed;
     }
 
--- values that stand for others, each for one of its own, have their order too
+-- values that each stand for a number of their own have the order of these numbers
 pub keep_of : {X E : Type 0} {P : E → Type 0} {text_of : E → List ℕ} {order : E → E → Ordering} {width : ℕ} → KeepsOrder P text_of order width → (get : X → E) → ((x y : X) → get x ≡ get y → x ≡ y)
     → KeepsOrder (λ x. P (get x)) (λ x. text_of (get x)) (on get order) width
 keep_of laws get decides =
@@ -76,7 +76,7 @@ keep_of laws get decides =
       exact = λ x y tied. decides x y (laws.exact (get x) (get y) tied);
     }
 
--- what is a number that meets a proposition is decided by the number
+-- a number with a fact about it is determined by the number
 pub number_and_fact : {X V : Type 0} {P : V → Type 0} → ((v : V) → IsProp (P v)) → (value : X → V) (fact : (x : X) → P (value x)) (make : (v : V) → P v → X)
     → ((x : X) → make (value x) (fact x) ≡ x) → (x y : X) → value x ≡ value y → x ≡ y
 number_and_fact {X} {V} {P} prop value fact make back x y same =
@@ -84,11 +84,11 @@ number_and_fact {X} {V} {P} prop value fact make back x y same =
     let at_x : Q (value x) = λ f. sym (back x) ∙ ap (make (value x)) (prop (value x) (fact x) f) in
     subst Q same at_x (fact y) ∙ back y
 
--- an unsigned number that is not 0, as a type of std holds it
+-- a `NonZero` of an unsigned type is determined by its number
 pub unsigned_decides : {X : Type 0} (value : X → ℕ) (fact : (x : X) → 0 < value x) (make : (n : ℕ) → 0 < n → X) → ((x : X) → make (value x) (fact x) ≡ x) → (x y : X) → value x ≡ value y → x ≡ y
 unsigned_decides value fact make back x y same = number_and_fact (λ n. le_prop) value fact make back x y same
 
--- the same of a signed number
+-- the same for signed types
 pub signed_decides : {X : Type 0} (value : X → ℤ) (fact : (x : X) → 0 < unsigned_abs (value x)) (make : (z : ℤ) → 0 < unsigned_abs z → X)
     → ((x : X) → make (value x) (fact x) ≡ x) → (x y : X) → value x ≡ value y → x ≡ y
 signed_decides value fact make back x y same = number_and_fact (λ z. le_prop) value fact make back x y same

@@ -14,6 +14,6 @@ IsUnsigned width n = n < 2 ^ (8 * width)
 abbrev pub IsSigned : ℕ → ℤ → Type 0
 IsSigned width z = (neg_ℤ (pos (2 ^ (8 * width - 1))) ≤ℤ z) × (z <ℤ pos (2 ^ (8 * width - 1)))
 
--- the bytes of a signed number: the digits of the number raised by half of the range
+-- the bytes of a signed number: the digits of the number plus half of the range
 abbrev pub signed_text : ℕ → ℤ → List ℕ
 signed_text width z = digits width (unsigned_abs (z +ℤ pos (2 ^ (8 * width - 1))))

@@ -1,4 +1,4 @@
--- Elements joined: their length and their order. No public clause cites this.
+-- Joined elements: length and order. No public clause cites this.
 use Rattle.std.specs.Prelude.{◌≡◌, ℕ, ◌*◌, ◌<◌, List, [], ◌∷◌, ◌++◌, length, All, refl}
 use Rattle.std.specs.Ordering.{nat_cmp, ordering_then}
 use Rattle.std.specs.declared.cmp.Ordering.{Ordering}
@@ -14,7 +14,7 @@ use Rattle.art_mapped.specs.DigitLaws.{then_assoc}
 use Rattle.art_mapped.specs.Elements.{KeepsOrder}
 use Rattle.art_mapped.specs.Sequences.{joined, IsArray}
 
--- the first part that differs decides, where both first parts have one length
+-- where both first parts have one length, the first part that differs decides
 pub text_order-append : (a b c d : List ℕ) → length a ≡ length b → text_order (a ++ c) (b ++ d) ≡ ordering_then (text_order a b) (text_order c d)
 text_order-append [] [] c d long = refl
 text_order-append [] (y ∷ b) c d long = absurd (omega arith)
@@ -23,7 +23,7 @@ text_order-append (x ∷ a) (y ∷ b) c d long =
     let short : length a ≡ length b = omega arith in
     rw (text_order-append a b c d short) (sym (then_assoc (nat_cmp x y) (text_order a b) (text_order c d)))
 
--- where tied elements are one, tied lists are one
+-- where elements that tie are equal, lists that tie are equal
 exact_lists : {E : Type 0} (order : E → E → Ordering) → CmpEqualImpliesEq order → (xs ys : List E) → slice_cmp order xs ys ≡ Equal → xs ≡ ys
 exact_lists order exact [] [] tied = refl
 exact_lists order exact [] (y ∷ ys) tied = cc
@@ -45,7 +45,7 @@ module _ {E : Type 0} {is_element : E → Type 0} {text : E → List ℕ} {order
       let rest = length-joined xs (All-tail is_element x xs all) in
       omega (arith, length-append (text x) (joined text xs), first, rest)
 
-  -- elements whose order is that of their bytes have it too when they are joined
+  -- elements in the order of their bytes keep it when they are joined
   pub joined_keep : (xs ys : List E) → All is_element xs → All is_element ys → slice_cmp order xs ys ≡ text_order (joined text xs) (joined text ys)
   joined_keep [] [] x_in y_in = refl
   joined_keep [] (y ∷ ys) x_in y_in =
@@ -69,21 +69,21 @@ module _ {E : Type 0} {is_element : E → Type 0} {text : E → List ℕ} {order
       let rest = joined_keep xs ys (All-tail is_element x xs x_in) (All-tail is_element y ys y_in) in
       rw (text_order-append (text x) (text y) (joined text xs) (joined text ys) (laws.long x x_first ∙ sym (laws.long y y_first)), ← first, ← rest) refl
 
-  -- two values with the same bytes are one
+  -- two values with the same bytes are equal
   pub same_from_text : (x y : E) → is_element x → is_element y → {bytes : List ℕ} → bytes ≡ text x → bytes ≡ text y → x ≡ y
   same_from_text x y x_in y_in x_text y_text =
       laws.exact x y (laws.keeps x y x_in y_in ∙ rw (sym x_text ∙ y_text) (tied_itself nat_list_cmp_total (text y)))
 
-  -- two lists with the same joined bytes are one
+  -- two lists with the same joined bytes are equal
   pub same_from_joined : (xs ys : List E) → All is_element xs → All is_element ys → {bytes : List ℕ} → bytes ≡ joined text xs → bytes ≡ joined text ys → xs ≡ ys
   same_from_joined xs ys x_in y_in x_text y_text =
       exact_lists order laws.exact xs ys (joined_keep xs ys x_in y_in ∙ rw (sym x_text ∙ y_text) (tied_itself nat_list_cmp_total (joined text ys)))
 
-  -- of two texts of one width none is a proper front of the other
+  -- of the texts of two elements none is a proper prefix of the other
   pub prefix_is_whole : (x y : E) → is_element x → is_element y → IsPrefixOf (text x) (text y) → text x ≡ text y
   prefix_is_whole x y x_in y_in = prefix_of_length width (text x) (text y) (laws.long x x_in) (laws.long y y_in)
 
-  -- nor of the joined texts of as many elements
+  -- nor of the joined texts of two arrays of one length
   pub joined_prefix_is_whole : (n : ℕ) (xs ys : List E) → IsArray n is_element xs → IsArray n is_element ys → IsPrefixOf (joined text xs) (joined text ys) → joined text xs ≡ joined text ys
   joined_prefix_is_whole n xs ys x_in y_in =
       prefix_of_length (n * width) (joined text xs) (joined text ys) (length-joined xs x_in.1 ∙ ap (λ k. k * width) x_in.0) (length-joined ys y_in.1 ∙ ap (λ k. k * width) y_in.0)

@@ -15,14 +15,14 @@ AreJoined {E} is_element text bytes = ∥ ((elements : List E) × All is_element
 abbrev pub part : ℕ → ℕ → List ℕ → List ℕ
 part width index bytes = take width (drop (index * width) bytes)
 
--- an array has just so many elements
+-- an array has exactly so many elements
 abbrev pub IsArray : {E : Type 0} → ℕ → (E → Type 0) → List E → Type 0
 IsArray n is_element elements = (length elements ≡ n) × All is_element elements
 
--- a vector is seen as its elements
+-- a vector has elements of the type
 abbrev pub IsVec : {E A : Type 0} → (E → Type 0) → Vec E A → Type 0
 IsVec is_element elements = All is_element (vec_items elements)
 
--- the elements' texts, joined
+-- the bytes of the vector's elements, joined
 abbrev pub vec_text : {E A : Type 0} → (E → List ℕ) → Vec E A → List ℕ
 vec_text text elements = joined text (vec_items elements)

@@ -1,4 +1,4 @@
--- The parts of a tuple, joined, come apart again, and keep their order. No public clause cites this.
+-- Joined parts of a tuple: they come apart again, and keep their order. No public clause cites this.
 use Rattle.std.specs.Prelude.{◌≡◌, ℕ, ◌+◌, List, [], ◌∷◌, ◌++◌, length, refl}
 use Rattle.std.specs.Ordering.{ordering_then}
 use Rattle.std.specs.declared.cmp.Ordering.{Ordering}
@@ -9,7 +9,7 @@ use Rattle.art_mapped.specs.Mapping.{StandsForSome}
 use Rattle.art_mapped.specs.SequenceLaws.{text_order-append}
 use Rattle.art_mapped.specs.Tuples.{IsPart, IsTextOf, Both, both_texts, AreSameBoth, StandsForBoth, TextLaws, OrderLaws}
 
--- two texts that are joined come apart where the first one ends
+-- joined texts are equal part by part where the first parts have one length
 append_split : (a b c d : List ℕ) → length a ≡ length c → a ++ b ≡ c ++ d → (a ≡ c) × (b ≡ d)
 append_split [] b [] d long same = (refl, same)
 append_split [] b (y ∷ c) d long same = absurd (omega arith)
@@ -44,7 +44,7 @@ part_laws {stands_for = stands_for} width has_text one_key reads_one =
 module _ {A B : Type 0} {front_in : A → Type 0} {front_text : A → List ℕ} {front_stands : List ℕ → A → Type 0} {front_same : A → A → Type 0} {front_width : ℕ}
     {last_in : B → Type 0} {last_text : B → List ℕ} {last_stands : List ℕ → B → Type 0} {last_same : B → B → Type 0} {last_width : ℕ}
     (front : TextLaws front_in front_text front_stands front_same front_width) (last : TextLaws last_in last_text last_stands last_same last_width) where
-  -- a text that is cut before the last part stands for the parts
+  -- a text cut before the last part stands for the parts
   pub split_both : (text x y : List ℕ) (value : A × B) → last_in value.1 → StandsForBoth front_stands last_stands text value → text ≡ x ++ y → length y ≡ last_width
       → front_stands x value.0 × last_stands y value.1
   split_both text x y value v_in of same long =
@@ -57,7 +57,7 @@ module _ {A B : Type 0} {front_in : A → Type 0} {front_text : A → List ℕ} 
       let Last : List ℕ → Type 0 = λ b. last_stands b value.1 in
       (subst Front both.0 of.3, subst Last both.1 of.4)
 
-  -- the last part of a text that stands for the parts
+  -- in a text that stands for the parts, the last part has its width
   pub last_long : (text : List ℕ) (value : A × B) → last_in value.1 → (of : StandsForBoth front_stands last_stands text value) → length of.1 ≡ last_width
   last_long text value v_in of = ap length (last.has_text of.1 value.1 v_in of.4) ∙ last.long value.1 v_in
 
@@ -87,19 +87,19 @@ module _ {A B : Type 0} {front_in : A → Type 0} {front_text : A → List ℕ} 
             rw (text_order-append (front_text x.0) (front_text y.0) (last_text x.1) (last_text y.1) (front.long x.0 x_in.0 ∙ sym (front.long y.0 y_in.0)), ← first, ← later) refl;
       }
 
--- values with one text are one, since it stands for both
+-- values with the same text are equal, since it stands for both
 pub same_from_one_text : {D : Type 0} {is_in_domain : D → Type 0} {text_of : D → List ℕ} {stands_for : List ℕ → D → Type 0} {are_same : D → D → Type 0} {width : ℕ}
     → TextLaws is_in_domain text_of stands_for are_same width → (x y : D) → is_in_domain x → is_in_domain y → text_of x ≡ text_of y → are_same x y
 same_from_one_text {text_of = text_of} {stands_for = stands_for} laws x y x_in y_in same =
     let At : List ℕ → Type 0 = λ text. stands_for text y in
     laws.reads_one (text_of x) x y x_in y_in (laws.stands x x_in) (subst At (sym same) (laws.stands y y_in))
 
--- of two texts of one width none is a proper front of the other
+-- of two texts of one width none is a proper prefix of the other
 pub wide_prefix_is_whole : {D : Type 0} {is_in_domain : D → Type 0} {text_of : D → List ℕ} {stands_for : List ℕ → D → Type 0} {are_same : D → D → Type 0} {width : ℕ}
     → TextLaws is_in_domain text_of stands_for are_same width → (x y : D) → is_in_domain x → is_in_domain y → IsPrefixOf (text_of x) (text_of y) → text_of x ≡ text_of y
 wide_prefix_is_whole {text_of = text_of} {width = width} laws x y x_in y_in = prefix_of_length width (text_of x) (text_of y) (laws.long x x_in) (laws.long y y_in)
 
--- texts alone tell whether bytes are some tuple's
+-- whether bytes stand for some tuple depends on their text alone
 pub kept_by_items : {D N : Type 0} (nested : D → N) (is_in_domain : N → Type 0) (stands_for : List ℕ → N → Type 0) (a b : List ℕ) → a ≡ b
     → StandsForSome (λ value. is_in_domain (nested value)) (λ text value. stands_for text (nested value)) a
     → StandsForSome (λ value. is_in_domain (nested value)) (λ text value. stands_for text (nested value)) b

@@ -13,7 +13,7 @@ use crate::mapping::{BytesMapping, InjectiveMapping, NoPrefixesMapping, OrderedM
 use crate::sequence::{IntegerForm, Joined, are_elements, array_of, joined_bytes};
 use std::alloc::{AllocError, Global};
 
-/// Arrays of just `N` elements. Only to write one takes memory.
+/// Arrays of exactly `N` elements. Writing one takes memory, reading one does not.
 impl<F: IntegerForm, E: Element<F>, const N: usize> BytesMapping<[E; N]> for Joined<F> {
     type Bytes = Vec<u8>;
 

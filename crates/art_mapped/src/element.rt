@@ -1,4 +1,4 @@
-//! What integers and addresses share: bytes of one width that sort as the values do.
+//! What integers and addresses share: bytes of one width, in the order of the values.
 ghost use Rattle.std.specs.Prelude.{◌≡◌, ◌≢◌, ℕ, List, false, IfSome, IfNone, refl};
 ghost use Rattle.std.proofs.Common.{ap};
 ghost use Rattle.art_mapped.specs.Elements.{KeepsOrder};
@@ -12,34 +12,48 @@ use std::alloc::{AllocError, Global};
 use std::marker::PhantomData;
 
 /// A type whose values have, in the form `F`, bytes of one width that sort as the values do.
+///
+/// (from crates/art_node_tests/src/mapped/mapped_callers.rt)
+/// ```rust
+/// fn element_back<F, E: Element<F>>(alloc: Global, value: E) -> Result<E, AllocError>
+///     ensures value { IfOk result (λ read. read ≡ value) }
+///     ensures always { IsOk result }
+/// {
+///     Mapped::<Single<F>, E>::new(alloc, value)?.get(alloc)
+/// }
+/// // ..
+/// assert!(rt; element_back::<Unsigned, u64>(alloc, 1 << 40)? == 1 << 40);
+/// ```
 pub trait Element<F>: Copy + Ord {
     /// The bytes of a value.
     type Bytes: FixedBytes;
 
-    /// Which values the type has, as 0 to 65535 are those of `u16`.
+    /// Which values the type has, as 0 to 65535 for `u16`.
     ghost is_in_range: { Self → Type 0 };
 
-    /// The text of a value.
+    /// The bytes of a value, as a list.
     ghost text_of: { Self → List ℕ };
 
-    /// The bytes of a value.
+    /// The bytes of a value. Takes no memory.
     fn encode(self) -> Self::Bytes
         ensures key { Self.Bytes.is_key result }
         ensures text { Self.Bytes.text result ≡ text_of self }
         ensures in_range { is_in_range self };
 
-    /// The value whose bytes these are, and `None` exactly where they are no value's.
+    /// The value with these bytes, and `None` exactly where no value has them. Takes no memory.
     fn decode(bytes: Self::Bytes) -> Option<Self>
         ensures some { IfSome result (λ value.
             is_in_range value × (Self.Bytes.text bytes ≡ text_of value)) }
         ensures none { IfNone result ((value : Self) → is_in_range value →
             Self.Bytes.text bytes ≢ text_of value) };
 
-    /// The texts have the width of the bytes, and the order of the values.
+    /// All values have bytes of one width, in the order of the values.
     ghost keeps: { KeepsOrder is_in_range text_of Self.cmp Self.Bytes.WIDTH };
 }
 
-/// One element as its bytes.
+/// The mapping of one element to its bytes.
+///
+/// [`Element`] has an example.
 pub struct Single<F>(PhantomData<F>);
 
 impl<F, E: Element<F>> BytesMapping<E> for Single<F> {

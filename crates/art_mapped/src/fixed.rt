@@ -1,10 +1,10 @@
-//! Keys whose texts have one length.
+//! Keys of one length.
 ghost use Rattle.std.specs.Prelude.{◌≡◌, ℕ, length};
 
 use art_bytes::AsBytes;
 
 mod sealed {
-    /// No other crate can name this, so none can add an impl.
+    /// No other crate can name this trait, so no other crate can add an impl.
     pub trait Sealed {}
 
     impl<const N: usize> Sealed for [u8; N] {}
@@ -12,24 +12,31 @@ mod sealed {
 
 use sealed::Sealed;
 
-/// Keys whose texts all have one length. The arrays `[u8; N]` are such keys, and no other type can be.
+/// Keys that all have the same number of bytes. The arrays `[u8; N]` are such keys. The trait is
+/// sealed: no other type can implement it.
+///
+/// (from crates/art_node_tests/src/mapped.rt)
+/// ```rust
+/// assert!(rt; <<ToIBE as BytesMapping<i128>>::Bytes as FixedBytes>::WIDTH == 16);
+/// assert!(rt; <[u8; 3] as FixedBytes>::from_slice(&[1, 2, 3]) == [1, 2, 3]);
+/// ```
 pub trait FixedBytes: AsBytes + Copy + Sealed {
-    /// How many bytes the text of a key has.
+    /// How many bytes a key has.
     const WIDTH: usize;
 
-    /// The same, for contracts.
+    /// The same number, for contracts.
     ghost WIDTH: { ℕ };
 
-    /// The key with this text, which has to have `WIDTH` bytes.
+    /// The key with these bytes. Condition: exactly `WIDTH` bytes. Takes no memory.
     fn from_slice(bytes: &[u8]) -> Self
         requires { length bytes.now ≡ WIDTH }
         ensures key { Self.is_key result }
         ensures text { Self.text result ≡ bytes.now };
 
-    /// The text of a key has that length.
+    /// A key has exactly `WIDTH` bytes.
     ghost width: { (key : Self) → Self.is_key key → length (Self.text key) ≡ WIDTH };
 
-    /// Keys with one text are one.
+    /// Keys with the same bytes are equal.
     ghost one_key: { (a b : Self) → Self.is_key a → Self.is_key b →
         Self.text a ≡ Self.text b → a ≡ b };
 }

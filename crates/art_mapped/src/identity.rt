@@ -6,9 +6,19 @@ use crate::mapping::{BytesMapping, NoPrefixesMapping};
 use art_bytes::{AsBytes, NoPrefixesBytes};
 use std::alloc::{AllocError, Global};
 
-/// Keys as they stand. What comes back is the very key that went in.
+/// Maps each key to itself, and takes no memory. Reading returns the key that was written.
 ///
-/// It keeps no order, since the order of its domain need not be that of the texts.
+/// The mapping has no order law, since the order of its domain may differ from that of the bytes.
+///
+/// (from crates/art_node_tests/src/mapped/tuples.rt)
+/// ```rust
+/// fn key_back<D: AsBytes + Drop>(alloc: Global, key: D) -> Result<D, AllocError>
+///     ensures same { IfOk result (λ read. read ≡ key) }
+///     ensures always { IsOk result }
+/// {
+///     Mapped::<Identity, D>::new(alloc, key)?.get(alloc)
+/// }
+/// ```
 #[derive(Debug)]
 pub struct Identity;
 
@@ -40,7 +50,7 @@ impl<D: AsBytes + Drop> BytesMapping<D> for Identity {
     ghost kept_by_text = { λ a b is_key _ some. ∥∥₁_map some (λ _. (b, is_key, refl)) };
 
     fn to_bytes(_alloc: Global, value: D) -> Result<D, AllocError> {
-        // To read its bytes shows that the value is a key.
+        // Reading its bytes shows that the value is a key.
         let _text = value.as_bytes();
         Ok(value)
     }

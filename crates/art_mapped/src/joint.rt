@@ -1,4 +1,4 @@
-//! Parts of fixed width, one behind the other, as tuples are written.
+//! Parts of fixed width, one after the other, as tuples are written.
 ghost use Rattle.std.specs.Prelude.{◌≡◌, ◌↔◌, ◌++◌, ◌+◌, ◌-◌, ◌^◌, ◌||◌, ℕ, List, Bool, false, IsTrue, IsOk, OnOk, IfOk, min};
 ghost use Rattle.art_mapped.specs.Mapping.{StandsForSome};
 ghost use Rattle.art_mapped.specs.Tuples.{IsPart, IsTextOf, Both, both_texts, AreSameBoth, StandsForBoth, TextLaws, OrderLaws};
@@ -10,12 +10,13 @@ use art_bytes::AsBytes;
 use std::alloc::{AllocError, Global};
 use std::marker::PhantomData;
 
-/// Mappings of fixed width, whose bytes are joined: the parts of a tuple, held in pairs from the first on.
+/// Mappings of fixed width whose bytes are joined: the parts of a tuple, nested in pairs from the
+/// first part on.
 pub trait Joint<D> {
-    /// Whether `read` takes memory. Where it takes none it never refuses.
+    /// Whether `read` takes memory. Where it is false, `read` never fails.
     const READ_ALLOCATES: bool;
 
-    /// The same, for contracts.
+    /// The same constant, for contracts.
     ghost READ_ALLOCATES: { Bool };
 
     /// How many bytes all parts have.
@@ -24,32 +25,32 @@ pub trait Joint<D> {
     /// Which values the parts map.
     ghost is_in_domain: { D → Type 0 };
 
-    /// The texts of the parts, joined.
+    /// The bytes of the parts, joined.
     ghost text_of: { D → List ℕ };
 
-    /// Two values are one, part by part.
+    /// Two values are the same, part by part.
     ghost are_same: { D → D → Type 0 };
 
-    /// The text is that of bytes that stand for the value.
+    /// The bytes stand for the value.
     ghost stands_for: { List ℕ → D → Type 0 };
 
-    /// How many bytes to make room for: those of all parts, and at most `usize::MAX`.
+    /// How many bytes to reserve: those of all parts, and at most `usize::MAX`.
     fn room() -> usize
         ensures { result ≡ min width (2 ^ 64 - 1) };
 
-    /// Writes the bytes of the parts behind those that are there. Where memory is refused, the value has
-    /// been dropped and some of its bytes may have been written.
+    /// Appends the bytes of the parts to `bytes`. On an allocation failure the value has been
+    /// dropped, and some of its bytes may have been appended.
     fn write(alloc: Global, value: D, bytes: &mut Vec<u8>) -> Result<(), AllocError>
         ensures text { OnOk result (bytes.new.items ≡ bytes.old.items ++ text_of value) }
         ensures in_domain { OnOk result (is_in_domain value) }
         ensures stands { OnOk result (stands_for (text_of value) value) };
 
-    /// Whether the bytes are those of some value.
+    /// Whether some value has these bytes.
     fn is_value(bytes: &[u8]) -> bool
         ensures { IsTrue result ↔ StandsForSome is_in_domain stands_for bytes.now };
 
-    /// The value whose bytes these are. There has to be one, which `is_value` tests. Want of memory alone
-    /// refuses it.
+    /// The value with these bytes. Condition: there is one, which `is_value` tests. The only error
+    /// is an allocation failure.
     fn read(alloc: Global, bytes: &[u8]) -> Result<D, AllocError>
         requires { StandsForSome is_in_domain stands_for bytes.now }
         ensures in_domain { IfOk result is_in_domain }
@@ -58,20 +59,21 @@ pub trait Joint<D> {
             IfOk result (λ read. are_same read value) }
         ensures takes_no_memory { READ_ALLOCATES ≡ false → IsOk result };
 
-    /// One value has one text.
+    /// Equal values have the same bytes.
     ghost one_text: { (x y : D) → are_same x y → text_of x ≡ text_of y };
 
-    /// A text stands for one value at most, each value's text stands for it, and all texts have one width.
+    /// Bytes stand for at most one value, each value's bytes stand for it, and all values have
+    /// bytes of one width.
     ghost laws: { TextLaws is_in_domain text_of stands_for are_same width };
 }
 
-/// Parts whose texts keep the order of their values.
+/// Parts whose bytes keep the order of their values.
 pub trait OrderedJoint<D: Ord>: Joint<D> {
-    /// Two values compare as their texts do.
+    /// Two values compare as their bytes do.
     ghost order: { OrderLaws Self.is_in_domain Self.text_of D.cmp };
 }
 
-/// One part, by a mapping whose keys have one width.
+/// One part, by a mapping to keys of one width.
 pub struct Part<M>(PhantomData<M>);
 
 impl<D, K: FixedBytes, M: BytesMapping<D, Bytes = K>> Joint<D> for Part<M> {
@@ -117,7 +119,7 @@ impl<D: Ord, K: FixedBytes, M: OrderedMapping<D, Bytes = K>> OrderedJoint<D> for
     ghost order = { record { keeps = λ x y x_in y_in. M.keeps_order x y x_in.0 y_in.0 } };
 }
 
-/// The parts `F`, and those of `L` behind them.
+/// The parts `F`, followed by those of `L`.
 pub struct Then<F, L>(PhantomData<(F, L)>);
 
 impl<A: Drop, B: Drop, F: Joint<A>, L: Joint<B>> Joint<(A, B)> for Then<F, L> {

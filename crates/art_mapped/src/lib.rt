@@ -1,9 +1,13 @@
-//! Values as bytes that keep their order, for use as keys of an adaptive radix tree.
+//! Values as bytes that keep their order, for the keys of an adaptive radix tree.
 //!
-//! A `BytesMapping` gives each value of a domain a text, and gets the value back from bytes with that text.
-//! `ToUBE` and `ToIBE` map integers, and arrays and vectors of them, `ToOctets` IP addresses, `Identity` keys as
-//! they stand, and `ConcatTuple` tuples of two to six parts, as the keys of composite indexes are. A `Mapped` is a
-//! key that holds a value's bytes, so that under an ordered mapping it compares as the value does.
+//! A [`BytesMapping`] gives each value of a domain its bytes, and reads the value back from them.
+//! [`ToUBE`] and [`ToIBE`] map integers, and arrays and vectors of integers; [`ToOctets`] maps IP
+//! addresses; [`Identity`] maps a key to itself; [`ConcatTuple`] maps tuples of two to six parts,
+//! for composite indexes. A [`Mapped`] is a key made of a value: it holds the value's bytes, and
+//! under an ordered mapping it compares as the value does.
+//!
+//! The examples are lines of tests. There `rt` is the `HostRuntime` of the test, `alloc` is
+//! `rt.alloc()`, and `assert!(rt; c)` fails where `c` is false.
 #![tactic(auto)]
 
 mod array;

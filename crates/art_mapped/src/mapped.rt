@@ -11,8 +11,21 @@ use std::marker::PhantomData;
 
 /// A key made of a value of `D`: the bytes of the value under the mapping `B`.
 ///
-/// Keys are equal, and hashed, by their bytes alone. Under an `OrderedMapping` they are in the order of the
-/// values, which is that of the bytes. The mapping `B` is a type, of which there need be no value.
+/// Keys are equal, and hashed, by their bytes. Under an [`OrderedMapping`] they have the order of
+/// the values, which is that of the bytes. The mapping `B` is only named: no value of it is needed.
+///
+/// (from crates/art_node_tests/src/mapped.rt)
+/// ```rust
+/// let key = Mapped::<ToIBE, [i32; 300]>::new(alloc, [-1; 300])?;
+/// assert!(rt; key.as_bytes().len() == 1200);
+/// // ..
+/// assert!(rt; key.get(alloc)? == [-1; 300]);
+/// // ..
+/// let key = Mapped::<ToUBE, u16>::new(alloc, 443)?;
+/// let other = Mapped::<ToUBE, u16>::new(alloc, 444)?;
+/// assert!(rt; key != other);
+/// assert!(rt; key.partial_cmp(&other) == Some(Ordering::Less));
+/// ```
 pub struct Mapped<B: BytesMapping<D>, D> {
     repr: B::Bytes,
     mapping: PhantomData<(B, D)>,
@@ -31,10 +44,10 @@ impl<B: BytesMapping<D>, D> Drop for Mapped<B, D> {
 impl<B: BytesMapping<D>, D> Mapped<B, D> {
     ghost use Rattle.art_mapped.specs.Mapped.{mapped_bytes, mapped_text, HoldsValue};
 
-    /// The key of a value, with the value's text.
+    /// The key of a value. Its bytes are those of the value under `B`.
     ///
-    /// Refuses only for want of memory, and never where `B::ALLOCATES` is false. The value has then been
-    /// dropped.
+    /// Error: [`AllocError`] on an allocation failure, and never where `B::ALLOCATES` is false. The
+    /// value has then been dropped.
     pub fn new(alloc: Global, value: D) -> Result<Self, AllocError>
         ensures value { IfOk result (λ mapped. HoldsValue mapped value) }
         ensures text { IfOk result (λ mapped. mapped_text mapped ≡ B.text_of value) }
@@ -49,8 +62,8 @@ impl<B: BytesMapping<D>, D> Mapped<B, D> {
 
     /// The value that the key was made of.
     ///
-    /// Refuses only for want of memory, and never where `B::READ_ALLOCATES` is false. The key has then been
-    /// dropped.
+    /// Error: [`AllocError`] on an allocation failure, and never where `B::READ_ALLOCATES` is
+    /// false. The key has then been dropped.
     pub fn get(self, alloc: Global) -> Result<D, AllocError>
         ensures value { IfOk result (λ read. HoldsValue self read) }
         ensures text { IfOk result (λ read. mapped_text self ≡ B.text_of read) }
@@ -62,11 +75,11 @@ impl<B: BytesMapping<D>, D> Mapped<B, D> {
         B::from_bytes(alloc, repr)
     }
 
-    /// The same key again, which holds the same value wherever each clone of the bytes stands for it. A clone
-    /// of the key's bytes has to have their text.
+    /// A copy of the key. It holds the same value wherever each clone of the bytes stands for that
+    /// value. Condition: a clone of the key's bytes has the same bytes.
     ///
-    /// Refuses where the clone of the bytes does, and never where that takes no memory, as of arrays. The key
-    /// stays as it was.
+    /// Error: where the clone of the bytes fails; that of an array never does. The key is
+    /// unchanged.
     pub fn clone(&self) -> Result<Self, AllocError>
     where
         B::Bytes: Clone,
@@ -82,7 +95,7 @@ impl<B: BytesMapping<D>, D> Mapped<B, D> {
         ensures takes_no_memory { B.Bytes.is_infallible (mapped_bytes self.now) → IsOk result }
     {
         let repr = self.repr.clone()?;
-        // To read its bytes shows that the clone is a key too.
+        // Reading its bytes shows that the clone is a key too.
         let _text = repr.as_bytes();
         Ok(Mapped {
             repr,
@@ -91,7 +104,7 @@ impl<B: BytesMapping<D>, D> Mapped<B, D> {
     }
 }
 
-/// The text of the key is that of its value.
+/// The bytes of the key are those of its value.
 impl<B: BytesMapping<D>, D> AsBytes for Mapped<B, D> {
     ghost use Rattle.art_mapped.specs.Mapped.{mapped_bytes, mapped_text};
 
@@ -104,8 +117,8 @@ impl<B: BytesMapping<D>, D> AsBytes for Mapped<B, D> {
     }
 }
 
-/// No key's text is a proper front of another's where that holds of the mapping's values: integers, addresses,
-/// arrays, tuples, and keys as they stand where it holds of these, and not vectors.
+/// No key is a proper prefix of another where the mapping has that law: for integers, addresses,
+/// arrays and tuples, and under [`Identity`] where the keys have it. Vectors do not.
 impl<B: NoPrefixesMapping<D>, D> NoPrefixesBytes for Mapped<B, D> {
     ghost use Rattle.art_mapped.specs.MappingLaws.{text_prefix_is_whole};
 
@@ -154,7 +167,7 @@ impl<B: BytesMapping<D>, D> Hash for Mapped<B, D> {
     }
 }
 
-/// Keys of an ordered mapping are in the order of their bytes, which is that of the values.
+/// Keys of an ordered mapping have the order of their bytes, which is that of the values.
 impl<B: OrderedMapping<D>, D: Ord> Ord for Mapped<B, D> {
     ghost use Rattle.std.specs.Ordering.{on};
     ghost use Rattle.std.proofs.Common.{rules};

@@ -1,4 +1,4 @@
-//! Mappings: values as bytes and back, and the laws that they may keep.
+//! Mappings between values and bytes, and their laws.
 ghost use Rattle.std.specs.Prelude.{◌≡◌, ◌↔◌, ℕ, List, Bool, false, IsTrue, IsOk, IfOk, OnErr, IfSome, IfNone};
 ghost use Rattle.art_bytes.specs.Text.{IsPrefixOf, text_order};
 ghost use Rattle.art_mapped.specs.Mapping.{StandsForSome};
@@ -8,43 +8,52 @@ use std::alloc::{AllocError, Global};
 
 /// A reversible conversion of the values of a domain `D` to bytes.
 ///
-/// Each value has a text, and the bytes that it is converted to have that text. The only refusal of a call is
-/// want of memory: its argument has then been dropped, and nothing else has changed.
+/// The only error of a call is an allocation failure: its argument has then been dropped, and
+/// nothing else has changed.
+///
+/// (from crates/art_node_tests/src/mapped.rt)
+/// ```rust
+/// let bytes = <ToIBE as BytesMapping<[i16; 2]>>::to_bytes(alloc, [-1, 0])?;
+/// assert!(rt; bytes.as_slice() == [127, 255, 128, 0].as_slice());
+/// assert!(rt; <ToIBE as BytesMapping<[i16; 2]>>::is_value(&bytes));
+/// assert!(rt; <ToIBE as BytesMapping<[i16; 2]>>::from_bytes(alloc, bytes)? == [-1, 0]);
+/// ```
 pub trait BytesMapping<D> {
     /// The bytes that a value is converted to.
     type Bytes: AsBytes + Drop;
 
-    /// Whether `to_bytes` takes memory. Where it takes none it never refuses.
+    /// Whether `to_bytes` takes memory. Where it is false, `to_bytes` never fails.
     const ALLOCATES: bool;
 
-    /// Whether `from_bytes` and `checked_from_bytes` take memory. Where they take none they never refuse.
+    /// Whether `from_bytes` and `checked_from_bytes` take memory. Where it is false, they never
+    /// fail.
     const READ_ALLOCATES: bool;
 
-    /// The same of `ALLOCATES`, for contracts.
+    /// The constant `ALLOCATES`, for contracts.
     ghost ALLOCATES: { Bool };
 
-    /// The same of `READ_ALLOCATES`, for contracts.
+    /// The constant `READ_ALLOCATES`, for contracts.
     ghost READ_ALLOCATES: { Bool };
 
-    /// Which values are in the domain, as 0 to 65535 are in that of `u16`.
+    /// Which values are in the domain, as 0 to 65535 for `u16`.
     ghost is_in_domain: { D → Type 0 };
 
-    /// The text of a value.
+    /// The bytes of a value, as a list.
     ghost text_of: { D → List ℕ };
 
-    /// Two values are one, as contracts see them: equal, and for vectors of equal elements.
+    /// Two values are the same for contracts: equal, or for vectors with equal elements.
     ghost are_same: { D → D → Type 0 };
 
     /// The bytes are those of the value.
     ghost stands_for: { Self.Bytes → D → Type 0 };
 
-    /// The bytes of a value, which have its text.
+    /// The bytes of a value.
     fn to_bytes(alloc: Global, value: D) -> Result<Self::Bytes, AllocError>
         ensures text { IfOk result (λ bytes. Self.Bytes.text bytes ≡ text_of value) }
         ensures stands { IfOk result (λ bytes. is_in_domain value × stands_for bytes value) }
         ensures takes_no_memory { ALLOCATES ≡ false → IsOk result };
 
-    /// The value whose bytes these are. There has to be one, which `is_value` tests.
+    /// The value with these bytes. Condition: there is one, which `is_value` tests.
     fn from_bytes(alloc: Global, bytes: Self::Bytes) -> Result<D, AllocError>
         requires { StandsForSome is_in_domain stands_for bytes }
         ensures stands { IfOk result (λ read. is_in_domain read × stands_for bytes read) }
@@ -53,12 +62,12 @@ pub trait BytesMapping<D> {
             IfOk result (λ read. are_same read value) }
         ensures takes_no_memory { READ_ALLOCATES ≡ false → IsOk result };
 
-    /// Whether these are the bytes of some value. Takes no memory.
+    /// Whether some value has these bytes. Takes no memory.
     fn is_value(bytes: &Self::Bytes) -> bool
         ensures { IsTrue result ↔ StandsForSome is_in_domain stands_for bytes.now };
 
-    /// The value whose bytes these are, and `None` exactly where `is_value` is false: only a value can be
-    /// refused for want of memory.
+    /// The value with these bytes, and `None` exactly where `is_value` is false. Memory is taken
+    /// only where there is a value.
     fn checked_from_bytes(alloc: Global, bytes: Self::Bytes) -> Result<Option<D>, AllocError>
         ensures some { IfOk result (λ answer.
             IfSome answer (λ read. is_in_domain read × stands_for bytes read)) }
@@ -77,40 +86,73 @@ pub trait BytesMapping<D> {
         }
     }
 
-    /// The bytes of a value have its text.
+    /// The bytes that stand for a value are its bytes.
     ghost has_text: { (bytes : Self.Bytes) (value : D) → is_in_domain value →
         stands_for bytes value → Self.Bytes.text bytes ≡ text_of value };
 
-    /// One value has one text.
+    /// Equal values have the same bytes.
     ghost one_text: { (x y : D) → are_same x y → text_of x ≡ text_of y };
 
-    /// Bytes are those of one value at most.
+    /// Bytes stand for at most one value.
     ghost reads_one: { (bytes : Self.Bytes) (x y : D) → is_in_domain x → is_in_domain y →
         stands_for bytes x → stands_for bytes y → are_same x y };
 
-    /// Whether bytes are some value's turns on their text.
+    /// Whether bytes stand for some value depends on the bytes alone, not on how they are held.
     ghost kept_by_text: { (a b : Self.Bytes) → Self.Bytes.is_key b →
         Self.Bytes.text a ≡ Self.Bytes.text b →
         StandsForSome is_in_domain stands_for a → StandsForSome is_in_domain stands_for b };
 }
 
-/// A mapping that gives values that differ texts that differ, as each but `Identity` does.
+/// A mapping under which different values have different bytes. Each but
+/// [`Identity`](crate::Identity) is one.
+///
+/// (from crates/art_node_tests/src/mapped/tuples.rt)
+/// ```rust
+/// fn are_one<B: InjectiveMapping<D>, D>(a: &Mapped<B, D>, b: &Mapped<B, D>) -> bool
+///     ensures { (x y : D) → HoldsValue a.now x → HoldsValue b.now y →
+///         IsTrue result ↔ B.are_same x y }
+/// {
+///     a == b
+/// }
+/// ```
 pub trait InjectiveMapping<D>: BytesMapping<D> {
-    /// Values with one text are one.
+    /// Values with the same bytes are equal.
     ghost decided_by_text: { (x y : D) → Self.is_in_domain x → Self.is_in_domain y →
         Self.text_of x ≡ Self.text_of y → Self.are_same x y };
 }
 
-/// A mapping whose texts keep the order of the domain.
+/// A mapping whose bytes keep the order of the domain.
+///
+/// (from crates/art_node_tests/src/mapped/mapped_callers.rt)
+/// ```rust
+/// fn compared<B: OrderedMapping<D>, D: Ord + Drop>(
+///     alloc: Global,
+///     a: D,
+///     b: D,
+/// ) -> Result<Ordering, AllocError>
+///     ensures { IfOk result (λ order. order ≡ D.cmp a b) }
+/// {
+///     Ok(Mapped::<B, D>::new(alloc, a)?.cmp(&Mapped::<B, D>::new(alloc, b)?))
+/// }
+/// ```
 pub trait OrderedMapping<D: Ord>: InjectiveMapping<D> {
-    /// Two values compare as their texts do.
+    /// Two values compare as their bytes do.
     ghost keeps_order: { (x y : D) → Self.is_in_domain x → Self.is_in_domain y →
         D.cmp x y ≡ text_order (Self.text_of x) (Self.text_of y) };
 }
 
-/// A mapping of which no value's text is a proper front of another's.
+/// A mapping under which no value's bytes are a proper prefix of another's.
+///
+/// (from crates/art_node_tests/src/mapped/tuples.rt)
+/// ```rust
+///     B: OrderedMapping<D> + NoPrefixesMapping<D>,
+///     // ..
+///     let less_key = Mapped::<B, D>::new(alloc, less)?;
+///     let more_key = Mapped::<B, D>::new(alloc, more)?;
+///     assert!(rt; !has_prefix(&more_key, &less_key));
+/// ```
 pub trait NoPrefixesMapping<D>: BytesMapping<D> {
-    /// A text that begins another is that text.
+    /// Where the bytes of one value are a prefix of another's, they are equal.
     ghost no_prefixes: { (x y : D) → Self.is_in_domain x → Self.is_in_domain y →
         IsPrefixOf (Self.text_of x) (Self.text_of y) → Self.text_of x ≡ Self.text_of y };
 }

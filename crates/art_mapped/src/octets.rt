@@ -7,10 +7,24 @@ use crate::element::{Element, Single};
 use crate::written::{Domain, ToBigEndian};
 use std::net::{Ipv4Addr, Ipv6Addr};
 
-/// The form of addresses: their octets in order.
+/// The form of IP addresses: their octets in order.
+///
+/// [`ToBigEndian`] has an example.
 pub struct Octets;
 
-/// IP addresses, `Ipv4Addr` and `Ipv6Addr`, as their octets in order.
+/// IP addresses, `Ipv4Addr` and `Ipv6Addr`, as their 4 or 16 octets in order. Takes no memory.
+///
+/// (from crates/art_node_tests/src/mapped/mapped_callers.rt)
+/// ```rust
+/// fn host(alloc: Global, address: Ipv4Addr) -> Result<Mapped<ToOctets, Ipv4Addr>, AllocError>
+///     ensures text { IfOk result (λ key. mapped_text key ≡ ipv4_octets address) }
+///     ensures always { IsOk result }
+/// {
+///     Mapped::new(alloc, address)
+/// }
+/// // ..
+/// assert!(rt; host(alloc, Ipv4Addr::LOCALHOST)?.as_bytes() == [127, 0, 0, 1].as_slice());
+/// ```
 pub type ToOctets = ToBigEndian<Octets>;
 
 impl Domain<Octets> for Ipv4Addr {

@@ -9,13 +9,27 @@ use std::alloc::{AllocError, Global};
 use std::array;
 use std::marker::PhantomData;
 
-/// The forms of integers, of which arrays and vectors have bytes too.
+/// The forms of integers. Arrays and vectors of these are mapped too.
+///
+/// (from crates/art_node_tests/src/mapped/mapped_callers.rt)
+/// ```rust
+/// fn array_back<F: IntegerForm, E: Element<F>, const N: usize>(
+///     alloc: Global,
+///     value: [E; N],
+/// ) -> Result<[E; N], AllocError>
+///     ensures { IfOk result (λ read. read ≡ value) }
+/// {
+///     Mapped::<ToBigEndian<F>, [E; N]>::new(alloc, value)?.get(alloc)
+/// }
+/// ```
 pub trait IntegerForm {}
 
-/// Several integers as their bytes joined.
+/// The mapping of several integers to their bytes joined.
+///
+/// [`BytesMapping`](crate::BytesMapping) has an example with an array.
 pub struct Joined<F>(PhantomData<F>);
 
-/// The bytes of the elements, joined.
+/// The bytes of the elements, joined. The only error is an allocation failure.
 pub(crate) fn joined_bytes<F, E: Element<F>>(
     alloc: Global,
     elements: &[E],
@@ -30,7 +44,7 @@ pub(crate) fn joined_bytes<F, E: Element<F>>(
     Ok(bytes)
 }
 
-/// The element whose bytes stand at the place of an index, if they are some element's.
+/// The element whose bytes are at this index, counted in elements, if they are those of an element.
 fn decode_at<F, E: Element<F>>(bytes: &[u8], index: usize) -> Option<E>
     requires { index < length bytes.now / E.Bytes.WIDTH }
     ensures some { IfSome result (λ element.
@@ -58,7 +72,7 @@ pub(crate) fn are_elements<F, E: Element<F>>(bytes: &[u8]) -> bool
     true
 }
 
-/// The element whose bytes stand at the place of an index.
+/// The element whose bytes are at this index, counted in elements.
 fn element_at<F, E: Element<F>>(bytes: &[u8], index: usize) -> E
     requires whole { index < length bytes.now / E.Bytes.WIDTH }
     requires elements { AreJoined E.is_in_range E.text_of bytes.now }
@@ -71,7 +85,7 @@ fn element_at<F, E: Element<F>>(bytes: &[u8], index: usize) -> E
     }
 }
 
-/// The elements whose bytes these are, as a vector.
+/// The elements with these bytes, as a vector. The only error is an allocation failure.
 pub(crate) fn vec_of<F, E: Element<F>>(alloc: Global, bytes: &[u8]) -> Result<Vec<E>, AllocError>
     requires { AreJoined E.is_in_range E.text_of bytes.now }
     ensures in_range { IfOk result (λ elements. All E.is_in_range elements.items) }
@@ -85,7 +99,7 @@ pub(crate) fn vec_of<F, E: Element<F>>(alloc: Global, bytes: &[u8]) -> Result<Ve
     Ok(elements)
 }
 
-/// The elements whose bytes these are, as an array.
+/// The elements with these bytes, as an array.
 pub(crate) fn array_of<F, E: Element<F>, const N: usize>(bytes: &[u8]) -> [E; N]
     requires size { length bytes.now / E.Bytes.WIDTH ≡ N }
     requires elements { AreJoined E.is_in_range E.text_of bytes.now }

@@ -11,16 +11,26 @@ use crate::sequence::IntegerForm;
 use crate::written::{Domain, ToBigEndian};
 use std::num::{NonZeroI8, NonZeroI16, NonZeroI32, NonZeroI64, NonZeroI128, NonZeroIsize};
 
-/// The form of signed integers: the digits of the number raised by half of its type's range, which are those of
-/// its two's complement with the top bit flipped.
+/// The form of signed integers: the digits of the number plus half of its type's range, which are
+/// those of its two's complement with the top bit flipped.
+///
+/// [`ToBigEndian`] has an example.
 pub struct Signed;
 
 impl IntegerForm for Signed {}
 
-/// Signed integers as big endian bytes that sort.
+/// Signed integers as big-endian bytes that sort.
 ///
-/// Its domains are `i8` to `i128`, `isize`, their types of numbers that are not 0, and arrays and vectors of
-/// these, as the elements' bytes joined.
+/// The domains are `i8` to `i128`, `isize`, their `NonZero` types, and arrays and vectors of these,
+/// as the elements' bytes joined. Only arrays and vectors take memory.
+///
+/// (from crates/art_node_tests/src/mapped.rt)
+/// ```rust
+/// let more = Mapped::<ToIBE, [i32; 3]>::new(alloc, [-121, 100, 0])?;
+/// let less = Mapped::<ToIBE, [i32; 3]>::new(alloc, [-121, 100, -1])?;
+/// assert!(rt; more.cmp(&less) == Ordering::Greater);
+/// assert!(rt; more.as_bytes() > less.as_bytes());
+/// ```
 pub type ToIBE = ToBigEndian<Signed>;
 
 impl Domain<Signed> for i8 {

@@ -9,38 +9,54 @@ use crate::mapping::{BytesMapping, InjectiveMapping, NoPrefixesMapping, OrderedM
 use std::alloc::{AllocError, Global};
 use std::marker::PhantomData;
 
-/// Tuples of two to six values, as their bytes joined: `ConcatTuple<(M0, M1)>` maps the first value by `M0` and
-/// the second by `M1`.
+/// Tuples of two to six values, as their bytes joined: `ConcatTuple<(M0, M1)>` maps the first value
+/// by `M0` and the second by `M1`. Writing a tuple takes memory; reading one does only where
+/// reading a part does.
 ///
-/// Each part has bytes of a fixed width, so that no tuple's text begins another's. Where every part keeps an
-/// order, the first part that differs decides.
+/// Each part has a fixed number of bytes, so that no tuple's bytes are a proper prefix of
+/// another's. Where every part keeps an order, the first part that differs decides.
+///
+/// (from crates/art_node_tests/src/mapped/tuples.rt)
+/// ```rust
+/// type Route = ConcatTuple<(ToOctets, ToIBE)>;
+/// // ..
+///     Mapped::new(alloc, (to, cost))
+/// // ..
+///     let key = route(alloc, Ipv4Addr::UNSPECIFIED, -212)?;
+///     assert!(rt; key.as_bytes() == [0, 0, 0, 0, 127, 255, 255, 44].as_slice());
+///     assert!(rt; route_of(alloc, key)? == (Ipv4Addr::UNSPECIFIED, -212));
+/// ```
 pub struct ConcatTuple<T>(PhantomData<T>);
 
 /// Two to six mappings, for the parts of a tuple.
+///
+/// [`ConcatTuple`] has an example.
 pub trait TupleMappings {
-    /// As many places as there are mappings.
+    /// An array type with one place for each mapping.
     type Places;
 
-    /// The same mappings, one behind the other.
+    /// The same mappings, nested in pairs.
     type Joint;
 }
 
-/// A tuple of two to six values, which is held in pairs as `((A, B), C)` too.
+/// A tuple of two to six values, and the same values nested in pairs, as `((A, B), C)`.
+///
+/// [`ConcatTuple`] has an example.
 pub trait TupleValues: Sized {
-    /// As many places as there are values. By it a pair whose first value is a pair is no tuple of
-    /// three.
+    /// An array type with one place for each value. It keeps a pair whose first value is a pair
+    /// apart from a tuple of three.
     type Places;
 
-    /// The values in pairs.
+    /// The values, nested in pairs.
     type Pairs;
 
-    /// The tuple, held in pairs.
+    /// The values of the tuple, nested in pairs.
     ghost in_pairs: { Self → Self.Pairs };
 
-    /// The tuple of values in pairs.
+    /// The tuple of the values in nested pairs.
     ghost flat: { Self.Pairs → Self };
 
-    /// The values of the tuple, in pairs.
+    /// The values of the tuple, nested in pairs.
     fn pair_up(self) -> Self::Pairs
         ensures { result ≡ in_pairs self };
 
@@ -48,17 +64,19 @@ pub trait TupleValues: Sized {
     fn flatten(value: Self::Pairs) -> Self
         ensures { result ≡ flat value };
 
-    /// To pair up undoes to flatten.
+    /// Pairing up undoes flattening.
     ghost pairs_flat: { (value : Self.Pairs) → in_pairs (flat value) ≡ value };
 }
 
-/// A tuple that compares as its pairs do.
+/// A tuple that compares as its nested pairs do.
+///
+/// [`ConcatTuple`] has an example.
 pub trait OrderedTuple<P: Ord>: TupleValues<Pairs = P> + Ord {
-    /// A tuple compares as its pairs do.
+    /// A tuple compares as its nested pairs do.
     ghost same_order: { (x y : Self) → Self.cmp x y ≡ P.cmp (Self.in_pairs x) (Self.in_pairs y) };
 }
 
-/// To write a tuple takes memory, and to read one where to read a part does.
+/// Writing a tuple takes memory. Reading one does where reading a part does.
 impl<N, D, P, J, T> BytesMapping<D> for ConcatTuple<T>
 where
     D: TupleValues<Places = N, Pairs = P> + Drop,

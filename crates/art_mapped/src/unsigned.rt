@@ -12,14 +12,29 @@ use crate::written::{Domain, ToBigEndian};
 use std::num::{NonZeroU8, NonZeroU16, NonZeroU32, NonZeroU64, NonZeroU128, NonZeroUsize};
 
 /// The form of unsigned integers: the digits in base 256 at full width, most significant first.
+///
+/// [`ToBigEndian`] has an example.
 pub struct Unsigned;
 
 impl IntegerForm for Unsigned {}
 
-/// Unsigned integers as their big endian bytes.
+/// Unsigned integers as their big-endian bytes.
 ///
-/// Its domains are `u8` to `u128`, `usize`, their types of numbers that are not 0, and arrays and vectors of
-/// these, as the elements' bytes joined.
+/// The domains are `u8` to `u128`, `usize`, their `NonZero` types, and arrays and vectors of these,
+/// as the elements' bytes joined. Only arrays and vectors take memory.
+///
+/// (from crates/art_node_tests/src/mapped/mapped_examples.rt)
+/// ```rust
+/// fn key_of(alloc: Global, port: u16) -> Result<Mapped<ToUBE, u16>, AllocError>
+///     ensures text { IfOk result (λ key. mapped_text key ≡ digits 2 port) }
+///     ensures always { IsOk result }
+/// {
+///     Mapped::new(alloc, port)
+/// }
+/// // ..
+///     let (http, https) = (key_of(alloc, 80)?, key_of(alloc, 443)?);
+///     assert!(rt; https.as_bytes() == [1, 187].as_slice());
+/// ```
 pub type ToUBE = ToBigEndian<Unsigned>;
 
 impl Domain<Unsigned> for u8 {

@@ -12,7 +12,8 @@ use crate::mapping::{BytesMapping, InjectiveMapping, OrderedMapping};
 use crate::sequence::{IntegerForm, Joined, are_elements, joined_bytes, vec_of};
 use std::alloc::{AllocError, Global};
 
-/// Vectors, a shorter front first. The bytes of one may begin another's, so these keys are not free of prefixes.
+/// Vectors of any length; a proper prefix of a vector sorts before it. Writing and reading take
+/// memory. The bytes of one vector may be a prefix of another's, so these keys have no prefix law.
 impl<F: IntegerForm, E: Element<F>> BytesMapping<Vec<E>> for Joined<F> {
     type Bytes = Vec<u8>;
 

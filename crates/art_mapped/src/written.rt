@@ -1,16 +1,31 @@
-//! The mappings of integers and addresses: one type over the form of its elements.
+//! The mappings of integers and addresses: one type, generic in the form of its elements.
 use crate::element::{Element, Single};
 use crate::mapping::{BytesMapping, InjectiveMapping, NoPrefixesMapping, OrderedMapping};
 use crate::sequence::{IntegerForm, Joined};
 use std::alloc::{AllocError, Global};
 use std::marker::PhantomData;
 
-/// Values as big endian bytes, in the form `F` of their elements. Its names are `ToUBE`, `ToIBE` and `ToOctets`.
+/// Values as big-endian bytes, in the form `F` of their elements. Its aliases are
+/// [`ToUBE`](crate::ToUBE), [`ToIBE`](crate::ToIBE) and [`ToOctets`](crate::ToOctets).
+///
+/// (from crates/art_node_tests/src/mapped.rt)
+/// ```rust
+/// fn written_in<F, D: Domain<F>>(
+///     // ..
+///     written::<ToBigEndian<F>, D>(rt, alloc, value, bytes)
+/// }
+/// // ..
+///     written_in::<Unsigned, u16>(rt, alloc, 258, &[1, 2])?;
+///     // ..
+///     written_in::<Octets, Ipv4Addr>(rt, alloc, Ipv4Addr::BROADCAST, &[255, 255, 255, 255])?;
+/// ```
 pub struct ToBigEndian<F>(PhantomData<F>);
 
 /// What a mapping of the form `F` takes: one element, or an array or a vector of integers.
+///
+/// [`ToBigEndian`] has an example.
 pub trait Domain<F>: Ord {
-    /// How a value is written: `Single`, or several `Joined`.
+    /// How a value is written: as one element, or as several joined.
     type Mapping: OrderedMapping<Self>;
 }
 
@@ -71,7 +86,7 @@ impl<F, D: Domain<F>> OrderedMapping<D> for ToBigEndian<F> {
     ghost keeps_order = { D.Mapping.keeps_order };
 }
 
-/// For integers, addresses and arrays, whose texts have one length.
+/// Integers, addresses and arrays have bytes of one length.
 impl<F, D: Domain<F>> NoPrefixesMapping<D> for ToBigEndian<F>
 where
     D::Mapping: NoPrefixesMapping<D>,

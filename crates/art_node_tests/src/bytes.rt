@@ -1,4 +1,4 @@
-//! Each kind of key, as the layers above use it: through its bounds alone.
+//! Each kind of key, used as the crates above use it: through its bounds.
 ghost use Rattle.std.specs.Prelude.{◌≡◌, ◌↔◌, IsTrue, fold};
 ghost use Rattle.std.specs.Hash as fed;
 ghost use Rattle.art_bytes.specs.CStringKey.{c_string_key_text};
@@ -22,21 +22,21 @@ use key_examples::{order_of_texts, text_of};
 
 const HELLO: &[u8] = b"hello world";
 
-// Keys are equal where their texts are.
+// Keys are equal where their bytes are.
 fn have_one_text<K: OrderedBytes>(a: &K, b: &K) -> bool
     ensures { result ≡ K.eq a.now b.now }
 {
     a.as_bytes() == b.as_bytes()
 }
 
-// No key's text begins another's, so one test tells whether they are the same.
+// No key is a proper prefix of another, so one test decides whether they are the same.
 pub(crate) fn has_prefix<K: NoPrefixesBytes>(key: &K, front: &K) -> bool
     ensures { IsTrue result ↔ (K.text key.now ≡ K.text front.now) }
 {
     key.as_bytes().starts_with(front.as_bytes())
 }
 
-// A key feeds a hasher what its text does.
+// A key feeds a hasher what its bytes do.
 fn feed_str_key<H: Hasher>(key: &StrKey, hasher: &mut H)
     ensures { hasher.new ≡ fold H.write hasher.old (fed.str (str_key_text key.now)) }
 {
@@ -55,7 +55,7 @@ fn feed_c_string_key<H: Hasher>(key: &CStringKey, hasher: &mut H)
     key.hash(hasher);
 }
 
-// What a key is made of is what it gives back.
+// A key returns the string that it was made of.
 fn string_through_a_key(string: &str) -> &str
     ensures { result.now ≡ string.now }
 {
@@ -68,7 +68,7 @@ fn bytes_through_a_key(bytes: &[u8]) -> &[u8]
     SliceKey::new(bytes).get()
 }
 
-// The keys ascend strictly: each two compare as their places do, by themselves and by their texts.
+// The keys ascend strictly: each two compare as their places do, by themselves and by their bytes.
 fn check_ascending<K: OrderedBytes>(rt: &impl Abort, keys: &[K]) {
     for (i, a) in keys.iter().enumerate() {
         for (j, b) in keys.iter().enumerate() {
@@ -88,7 +88,7 @@ fn check_no_prefixes<K: NoPrefixesBytes>(rt: &impl Abort, keys: &[K]) {
     }
 }
 
-// They ascend, and none begins another.
+// They ascend, and none is a prefix of another.
 fn check_apart<K: OrderedBytes + NoPrefixesBytes>(rt: &impl Abort, keys: &[K]) {
     check_ascending(rt, keys);
     check_no_prefixes(rt, keys);
@@ -153,7 +153,7 @@ fn borrowed_keys_hash_as_what_they_borrow(rt: HostRuntime) {
     assert!(rt; hasher.finish() == hash_of(&HELLO));
 }
 
-// The bytes are refused for a zero, the first one at that place, and come back.
+// The bytes are refused, with the index of the first zero byte, and are returned.
 fn check_zero_at(rt: &impl Abort, alloc: Global, bytes: &[u8], first: usize) -> Result<(), Fail> {
     let Err(
         CStringKeyError::InteriorZero {
@@ -197,7 +197,7 @@ fn c_strings_have_one_zero_the_last(rt: HostRuntime) -> Result<(), Fail> {
     Ok(())
 }
 
-// Where there is no memory for the zero, the bytes come back, and make a key then.
+// Where the allocation for the zero byte fails, the bytes are returned, and make a key afterwards.
 #[test]
 fn a_refused_zero_gives_the_bytes_back(rt: HostRuntime) -> Result<(), Fail> {
     match CStringKey::new(HELLO.to_vec(rt.alloc())?) {

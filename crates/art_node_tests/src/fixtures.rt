@@ -4,7 +4,7 @@ use std::alloc::Global;
 use std::hash::{DefaultHasher, Hash, Hasher};
 use std::test::Fail;
 
-/// What a value feeds a hasher comes to one number.
+/// One number from what a value feeds a hasher.
 pub(crate) fn hash_of<T: Hash>(value: &T) -> u64 {
     let mut hasher = DefaultHasher::new();
     value.hash(&mut hasher);

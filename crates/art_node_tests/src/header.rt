@@ -1,4 +1,4 @@
-//! Headers, kinds of nodes, and indices.
+//! Tests of headers, kinds of nodes, and indices.
 mod header_callers;
 mod node_type;
 mod non_max_index;

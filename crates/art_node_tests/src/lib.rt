@@ -1,10 +1,11 @@
-//! Tests of keys, headers and nodes: their public names alone, called as another crate calls them.
+//! Tests of keys, headers and nodes. They use public names only, as another crate does.
 //!
-//! They stand in a crate of their own, as in the folder `tests/` of a Rust package, since a crate with
-//! tests is proved once more with them. What they pin is what no contract says: worked examples with
-//! values from outside, printed texts, each public call once, each generic impl at a concrete type.
-//! The files `using.rt` and `callers.rt` show how a crate uses each layer. The tests of the arena and of
-//! trees stand in `art_tree_tests`, so that a change there proves these no second time.
+//! They are in a crate of their own, as in the folder `tests/` of a Rust package, since a crate
+//! with tests is proved once more with them. They test what no contract states: worked examples
+//! with values from outside, printed texts, each public call once, each generic impl at a concrete
+//! type. The modules `key_examples`, `mapped_examples`, `mapped_callers`, `header_callers` and
+//! `node_callers` show how a crate uses each layer. The tests of the arena and of trees are in
+//! `art_tree_tests`, so that a change there does not prove these again.
 #![tactic(auto)]
 
 #[cfg(test)]
@@ -18,7 +19,7 @@ mod mapped;
 #[cfg(test)]
 mod nodes;
 
-/// How a test ends whose call was refused memory, once all that stands was compared and the next call
-/// was answered. `checks/refusals` looks for it.
+/// How a test ends in which an allocation failed, after it compared what is left and the next call
+/// succeeded. `checks/refusals` looks for this text.
 #[cfg(test)]
 const ALL_STANDS: &str = "refused, and all stands";

@@ -1,4 +1,4 @@
-//! Values as keys: their bytes, their order, and what is read back.
+//! Values as keys: their bytes, their order, and reading them back.
 use art_bytes::{AsBytes, OrderedBytes};
 use art_mapped::{
     BytesMapping, ConcatTuple, Domain, Element, FixedBytes, Identity, IntegerForm, Mapped,
@@ -15,12 +15,12 @@ use std::num::{
 use std::process::Abort;
 use std::test::Fail;
 
-mod mapped_callers;
 mod digits;
+mod mapped_callers;
+mod mapped_examples;
 mod ordered;
 mod refusals;
 mod tuples;
-mod mapped_examples;
 
 // The key of a value has these bytes.
 fn written<B: BytesMapping<D>, D>(
@@ -34,7 +34,7 @@ fn written<B: BytesMapping<D>, D>(
     Ok(())
 }
 
-// The same of numbers, addresses and sequences, in this form.
+// The same for numbers, addresses and sequences in this form.
 fn written_in<F, D: Domain<F>>(
     rt: &impl Abort,
     alloc: Global,
@@ -99,7 +99,7 @@ fn ascend_with_texts<K: OrderedBytes>(rt: &impl Abort, keys: &[K], texts: &[&[u8
     }
 }
 
-// So do the keys of these vectors.
+// The same for the keys of these vectors.
 fn vectors_ascend<B: OrderedMapping<Vec<E>>, E: Ord + Copy>(
     rt: &impl Abort,
     alloc: Global,
@@ -147,7 +147,7 @@ fn refused<B: BytesMapping<D>, D: Drop>(
     Ok(())
 }
 
-// The same of numbers, in this form.
+// The same for numbers in this form.
 fn refused_number<F, E: Domain<F> + Drop>(
     rt: &impl Abort,
     alloc: Global,

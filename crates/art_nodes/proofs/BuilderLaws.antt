@@ -1,4 +1,4 @@
--- The law of builders that crates above cite.
+-- Builders: the law of their size, for proofs in crates above.
 use Rattle.std.proofs.Common.{◌≡◌, ◌∙◌, ℕ, ◌+◌, ◌-◌, ◌%◌, ◌<◌, ◌^◌, max, sym, ap, subst, arith}
 use mir.Syntax.{Ty}
 use prog.Memory.{size, align, up, pad}

@@ -1,4 +1,4 @@
--- What a write leaves of the children of a builder.
+-- Builders: the children after a write.
 use Rattle.std.proofs.Common.{◌≡◌, ℕ, ◌+◌, ◌<◌, ◌≤◌, length, [], ◌∷◌, suc, All, Option, Some, None, IsNone, refl, sym, subst, arith, if◌then◌else◌}
 use Rattle.std.specs.Option.{is_some}
 use Rattle.art_nodes.specs.ChildMap.{ChildMap, IsAscending, child_at, key_bytes, with_child}

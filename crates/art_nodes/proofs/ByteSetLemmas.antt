@@ -1,4 +1,4 @@
--- Words of bits, and sets of bytes made of four.
+-- Sets of bytes: the bits of a word, and the bytes of four words.
 use Rattle.std.proofs.Common.{◌≡◌, ◌≢◌, ℕ, suc, ◌+◌, ◌-◌, ◌*◌, ◌/◌, ◌%◌, ◌^◌, ◌<◌, ◌≤◌, min, ◌==◌, List, length, get_or, set, refl, sym, ◌∙◌, ap, arith, inl, inr}
 use Rattle.std.specs.Int.{bit_at, w64, trailing_zeros}
 use Rattle.std.specs.Int.Bits.{bit_and}
@@ -43,14 +43,14 @@ below_bit-cut word end bit le lt =
     let outside = bit_at_ones_above end bit lt in
     bit_at_and word _ bit ∙ ap (λ m. min (bit_at word bit) (bit_at m bit)) mask ∙ ap (λ b. min (bit_at word bit) b) outside ∙ omega arith
 
--- no bit is set from one place on where what is left of the word is 0
+-- no bit is set from one place on where the remaining bits of the word are 0
 pub none_from : (word from : ℕ) → from_bit word from ≡ 0 → HasNoBit word from 64
 none_from word from none bit le lt = sym (from_bit-kept word from bit le lt) ∙ ap (λ n. bit_at n bit) none ∙ bit_at-zero bit
 
 pub none_below : (word end : ℕ) → end ≤ 64 → below_bit word end ≡ 0 → HasNoBit word 0 end
 none_below word end fits none bit le lt = sym (below_bit-kept word end bit fits lt) ∙ ap (λ n. bit_at n bit) none ∙ bit_at-zero bit
 
--- the lowest bit that is left is the first from there on
+-- the lowest remaining bit is the first from that place on
 pub lowest_from : (word from : ℕ) → from < 64 → word < 2 ^ 64 → 0 < from_bit word from → (from ≤ trailing_zeros w64 (from_bit word from)) × (trailing_zeros w64 (from_bit word from) < 64) × (bit_at word (trailing_zeros w64 (from_bit word from)) ≡ 1) × HasNoBit word from (trailing_zeros w64 (from_bit word from))
 lowest_from word from within small some =
     let bits = from_bit word from in
@@ -70,7 +70,7 @@ highest bits bit le lt =
     let one : bits / 2 ^ bit ≡ 1 = omega (arith, least, most) in
     ap (λ n. n % 2) one
 
--- the highest bit that is left is the last below the end
+-- the highest remaining bit is the last below the end
 pub highest_below : (word end bit : ℕ) → end ≤ 64 → 2 ^ bit ≤ below_bit word end → below_bit word end < 2 * 2 ^ bit → (bit < end) × (bit_at word bit ≡ 1) × HasNoBit word (bit + 1) end
 highest_below word end bit fits le lt =
     let bits = below_bit word end in

@@ -1,4 +1,4 @@
--- Laws of child maps, for proofs of crates above: look-up after a write and after a removal, order, sizes, ends.
+-- Child maps: laws for proofs in crates above, of look-ups after a write and a removal, order, sizes and ends.
 use Rattle.std.proofs.Common.{◌≡◌, ℕ, zero, suc, ◌+◌, ◌-◌, ◌<◌, ◌≤◌, ◌≢◌, nat_lt, [], ◌∷◌, ◌++◌, length, Some, None, IsSome, IsNone, refl, if◌then◌else◌, true, false, sym, ◌∙◌, ap, arith, filter, slice_get, inl, inr, All}
 use Rattle.std.proofs.lemmas.Bool.{cases_lt}
 use Rattle.std.specs.Option.{is_some}
@@ -155,7 +155,7 @@ module _ {H : Type 0} where
   pub child_at_last : (children : ChildMap H) (pair : ℕ × H) → IsAscending (key_bytes children) → last_pair children ≡ Some pair → child_at children pair.0 ≡ Some pair.1
   child_at_last children pair ascending is = child_at_place children (length children - 1) pair.0 pair.1 ascending is
 
-  -- and a child that is found stands in a pair
+  -- and a child that is found is in a pair
   pub place_of_child : (children : ChildMap H) (byte : ℕ) (child : H) → child_at children byte ≡ Some child → (place : ℕ) × (slice_get children place ≡ Some (byte, child))
   place_of_child [] byte child is = cc
   place_of_child (x ∷ children) byte child is = elim (cases_eq x.0 byte) [
@@ -210,7 +210,7 @@ module _ {H : Type 0} where
   all_below_greater [] greatest byte ascending last less = All-nil (λ b. b < byte)
   all_below_greater (x ∷ children) greatest byte ascending last less = all-below 0 (x ∷ children) (length (x ∷ children) - 1) greatest byte ascending (omega arith) last less
 
-  -- a node stays sound where there was room for the byte that is written
+  -- a node stays sound after a write for which it had spare capacity
   pub sound_written : (prefix_room room : ℕ) (node : Inner H) (byte : ℕ) (child : H) → IsInner prefix_room room node → byte < 256 → HasRoomFor room node byte → IsInner prefix_room room (with_children node (with_child node.children byte child))
   sound_written prefix_room room node byte child sound fits has_room =
       let children = node.children in

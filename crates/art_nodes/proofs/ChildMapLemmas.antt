@@ -1,4 +1,4 @@
--- Child maps: what a write, a removal and a look-up do at the front and further on.
+-- Child maps: writes, removals and look-ups at the first pair and after it.
 use Rattle.std.proofs.Common.{◌≡◌, ℕ, zero, suc, ◌+◌, ◌<◌, ◌≤◌, ◌≢◌, true, false, nat_eq, nat_lt, List, [], ◌∷◌, length, get_or, Some, None, refl, ap, subst, arith, filter, if◌then◌else◌, inl, inr, ◌⊎◌}
 use Rattle.std.proofs.lemmas.Bool.{cases_lt}
 use Rattle.std.specs.Option.{is_some}
@@ -65,15 +65,15 @@ module _ {H : Type 0} where
   all_above low byte [] lt above = refl
   all_above low byte (x ∷ children) lt above = rw (lt-true byte x.0 (omega (arith, above.0))) (ap (λ rest. x ∷ rest) (all_above (suc x.0) byte children (omega (arith, above.0)) above.2))
 
-  -- a byte below all others goes to the front
+  -- a byte below all others goes to the start
   pub with_child-front : (low byte : ℕ) (children : ChildMap H) (child : H) → byte < low → IsAbove low children → with_child children byte child ≡ (byte, child) ∷ children
   with_child-front low byte children child lt above = rw (none_below low byte children (omega arith) above, all_above low byte children lt above) refl
 
-  -- the byte in front is written over
+  -- the first byte is written over
   pub with_child-same : (front byte : ℕ) (old : H) (children : ChildMap H) (child : H) → front ≡ byte → IsAbove (suc front) children → with_child ((front, old) ∷ children) byte child ≡ (byte, child) ∷ children
   with_child-same front byte old children child same above = rw (lt-false front byte (omega arith), lt-false byte front (omega arith)) (with_child-front (suc front) byte children child (omega arith) above)
 
-  -- a greater byte goes behind the front
+  -- a greater byte goes after the first
   pub with_child-later : (front byte : ℕ) (old : H) (children : ChildMap H) (child : H) → front < byte → with_child ((front, old) ∷ children) byte child ≡ (front, old) ∷ with_child children byte child
   with_child-later front byte old children child lt = rw (lt-true front byte lt, lt-false byte front (omega arith)) refl
 

@@ -1,4 +1,4 @@
--- Tables of places that a set of bytes fills, and the children in a part of one.
+-- Tables with marked places: children in a range of places, writes and removals.
 use Rattle.std.proofs.Common.{◌≡◌, ◌≢◌, ℕ, zero, suc, ◌+◌, ◌-◌, ◌<◌, ◌≤◌, Bool, true, false, if◌then◌else◌, List, [], ◌∷◌, ◌++◌, length, get_or, set, take, drop, Option, Some, None, slice_get, replicate, refl, sym, ◌∙◌, ap, arith, inl, inr}
 use Rattle.std.specs.Option.{is_some}
 use Rattle.std.proofs.lemmas.List.{length-set, get_or-set_same, get_or-set_other, get_or-replicate, length-replicate, ext_get_or, get_or-drop, length-drop, drop_more, take_all}
@@ -125,7 +125,7 @@ module _ {H : Type 0} where
   none-within : (places : List (Option H)) (first end : ℕ) → end ≤ first → children_within places first end ≡ []
   none-within places first end le = let none : end - first ≡ 0 = omega arith in ap (λ n. table_children first (take n (drop first places))) none
 
-  -- empty places in front, and behind, add nothing
+  -- empty places before and after add nothing
   within-front : (count : ℕ) (places : List (Option H)) (first middle end : ℕ) → middle ≡ first + count → middle ≤ end → end ≤ length places → IsEmptyWithin places first middle → children_within places first end ≡ children_within places middle end
   within-front zero places first middle end at le fits empty = ap (λ n. children_within places n end) (omega arith)
   within-front (suc count) places first middle end at le fits empty =

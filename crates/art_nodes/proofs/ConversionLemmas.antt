@@ -1,4 +1,4 @@
--- Children written one after another by ascending byte.
+-- Conversions: children written one after another by ascending byte.
 use Rattle.std.proofs.Common.{◌≡◌, ℕ, suc, ◌<◌, ◌≤◌, All, [], ◌∷◌, ◌++◌, None, length, length-append, refl, sym, ◌∙◌, ap, subst, append_assoc, arith}
 use Rattle.std.proofs.lemmas.List.Elements.{All-nil, All-cons}
 use Rattle.art_nodes.specs.ChildMap.{ChildMap, child_at, key_bytes, with_child, IsAscending}
@@ -31,14 +31,14 @@ module _ {H : Type 0} where
   above_before low (x ∷ front) byte child later above =
       All-cons (λ b. b < byte) x.0 (key_bytes front) (omega (arith, low_before (suc x.0) front byte child later above.2)) (above_before (suc x.0) front byte child later above.2)
 
-  -- of a copy of a node: the children in front are written, and the rest is to come
+  -- of a copy of a node: the first children are written, and the rest is to come
   abbrev pub IsCopying : Inner H → Inner H → ChildMap H → ChildMap H → Type 0
   IsCopying node copy front rest = record {
     written : copy ≡ with_children node front;
     to_come : front ++ rest ≡ node.children;
   }
 
-  -- the next child has a byte above those of the copy, and finds room
+  -- the next child has a byte above those of the copy, and the copy has spare capacity
   pub copying_next : (node copy : Inner H) (front rest : ChildMap H) (byte : ℕ) (child : H) (later : ChildMap H)
       → IsAscending (key_bytes node.children) → IsCopying node copy front rest → rest ≡ (byte, child) ∷ later
       → record {

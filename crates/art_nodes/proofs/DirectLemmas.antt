@@ -1,4 +1,4 @@
--- A direct node after a place was filled or emptied.
+-- Direct nodes: a write and a removal at one place.
 use Rattle.std.proofs.Common.{◌≡◌, ℕ, ◌+◌, ◌-◌, ◌<◌, List, length, get_or, set, Bool, true, false, if◌then◌else◌, Option, Some, None, sym, ◌∙◌, ap, subst, arith}
 use Rattle.std.specs.Option.{is_some}
 use Rattle.std.proofs.lemmas.List.{length-set}

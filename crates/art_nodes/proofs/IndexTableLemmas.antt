@@ -1,4 +1,4 @@
--- Tables of indices in one byte a place: the pairs of a part of the places.
+-- Tables of indices: the pairs of a range of places.
 use Rattle.std.proofs.Common.{◌≡◌, ℕ, ◌+◌, ◌<◌, ◌≤◌, List, [], ◌∷◌, ◌++◌, length, take, get_or, map, Option, Some, None, refl, sym, ◌∙◌, ap}
 use Rattle.std.proofs.lemmas.List.{get_or-map, length-map, take-map}
 use Rattle.art_nodes.specs.ChildMap.{table_children}

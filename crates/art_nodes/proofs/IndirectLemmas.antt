@@ -1,4 +1,4 @@
--- Indices of pointers: what a write and a removal do to the places that they name.
+-- Indirect nodes: writes and removals of an index and its pointer.
 use Rattle.std.proofs.Common.{◌≡◌, ℕ, zero, suc, ◌+◌, ◌-◌, ◌<◌, ◌≤◌, ◌≢◌, cond, List, [], ◌∷◌, ◌++◌, length, get_or, set, take, drop, map, Option, Some, None, slice_get, nat_lt, eqb, eq-eqb, count_by, refl, sym, ◌∙◌, ap, subst, arith, if◌then◌else◌, inl, inr}
 use Rattle.std.specs.List.{swap_remove, range_with_len}
 use Rattle.std.specs.List.Sorted.{IsPermutation}
@@ -135,7 +135,7 @@ module _ {H : Type 0} where
       others k below None is = refl
       others k below (Some other) is = slice_get-push_before pointers other child (bounded k other below (sym is))
 
-  -- a pointer taken out: the last one takes its place, under the byte that it had
+  -- a pointer removed: the last one takes its place, under the byte that it had
   pub named-moved : (pointers : List H) (indices : List (Option ℕ)) (place index last : ℕ) (d : H) → IsNamedOnce indices (length pointers) → place < length indices → last < length indices → get_or indices place None ≡ Some index → get_or indices last None ≡ Some (length pointers - 1) → named_pointers (swap_remove pointers index d) (moved_to indices place index last) ≡ set (named_pointers pointers indices) place None
   named-moved pointers indices place index last d once within last_within filled last_filled =
       let less = swap_remove pointers index d in

@@ -1,4 +1,4 @@
--- The laws of kinds that crates above cite.
+-- Node kinds: laws for proofs in crates above.
 use Rattle.std.proofs.Common.{◌≡◌, ◌≢◌, ◌⊎◌, ℕ, nat_eq, if◌then◌else◌, refl, sym, ◌∙◌, ap, inl, inr}
 use Rattle.art_header.specs.declared.node_type.NodeType.{NodeType}
 use Rattle.art_header.specs.declared.node_type.NodeType.TheVariants.{Node4, Node16, Node48, Node256, Leaf}

@@ -1,4 +1,4 @@
--- Which kind holds how many children.
+-- Node kinds: the smallest kind for a number of children, and its changes.
 use Rattle.std.specs.Option.{is_some}
 use Rattle.std.proofs.Common.{true, false, ◌≡◌, ◌≢◌, ℕ, ◌+◌, ◌<◌, ◌≤◌, length, Some, None, IsSome, IsNone, refl, ap, sym, subst, inl, inr, if◌then◌else◌, arith}
 use Rattle.std.proofs.lemmas.List.{length-map}
@@ -84,7 +84,7 @@ absent_below {H} children byte child ascending fits absent =
 pub smaller_kind : (kind : NodeType) (count : ℕ) → count ≡ most_children kind → count < 256 → kind ≢ Node256
 smaller_kind kind count full below e = let most = ap most_children e in omega (arith, full, below, most)
 
--- what fits and does not fill leaves room
+-- children that fit and do not fill the node leave spare capacity
 pub room_left : (count most : ℕ) → count ≤ most → count ≢ most → count < most
 room_left count most fits not_full = omega arith
 

@@ -1,4 +1,4 @@
--- Lists: elements by place after an edit, and lists that have each number as often.
+-- Lists: elements by index after an edit, and permutations.
 use Rattle.std.proofs.Common.{◌≡◌, ℕ, zero, suc, ◌+◌, ◌-◌, ◌<◌, ◌≢◌, Bool, cond, List, [], ◌∷◌, ◌++◌, length, get_or, set, take, Option, Some, None, slice_get, nat_lt, eqb, eq-eqb, count_by, refl, sym, ◌∙◌, ap, arith, if◌then◌else◌, inl, inr}
 use Rattle.std.specs.List.{remove, swap_remove, range_with_len}
 use Rattle.std.specs.List.Sorted.{IsPermutation}
@@ -16,7 +16,7 @@ module _ {H : Type 0} where
   slice_get-last [] x = refl
   slice_get-last (y ∷ xs) x = slice_get-last xs x
 
-  -- what an iterator over a list gives first from the front, and from the back
+  -- the first item that an iterator over a list returns, from the start and from the end
   pub first_yielded : (xs : List H) (given : Option H) (left : List H) → YieldsFirst (λ l. l) xs given left → given ≡ slice_get xs 0
   first_yielded xs None left ends = rw ends.0 refl
   first_yielded xs (Some x) left is = rw is refl

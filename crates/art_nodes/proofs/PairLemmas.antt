@@ -1,4 +1,4 @@
--- The pairs that an iterator over children has left, after one was taken from the back.
+-- Iterators over children: the remaining pairs after one is removed at the end.
 use Rattle.std.proofs.Common.{◌≡◌, ℕ, suc, ◌+◌, ◌<◌, List, [], ◌∷◌, ◌++◌, length, take, get_or, Option, Some, None, Contains, map, slice_get, unwrap_or, option_map, refl, ◌∙◌, ap, subst, arith}
 use Rattle.std.specs.List.{zip}
 use Rattle.std.proofs.lemmas.List.{append-nil, take_more, length-take-le}

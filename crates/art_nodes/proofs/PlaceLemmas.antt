@@ -1,4 +1,4 @@
--- Tables in which ascending bytes have their places as indices.
+-- Tables of indices: ascending bytes whose places are their indices.
 use Rattle.std.proofs.Common.{◌≡◌, ℕ, zero, suc, ◌+◌, ◌<◌, List, [], ◌∷◌, ◌++◌, length, take, get_or, set, map, Option, Some, refl, sym, ◌∙◌, ap, subst, arith}
 use Rattle.std.specs.List.{range_with_len, zip}
 use Rattle.std.proofs.lemmas.Bool.Decides.{nat_tests}

@@ -1,4 +1,4 @@
--- Bytes that two texts have in common from the front on.
+-- Prefixes: the longest common prefix of two byte lists, and the match of a stored prefix.
 use Rattle.std.proofs.Common.{◌≡◌, ℕ, ◌+◌, ◌<◌, ◌≤◌, nat_eq, List, [], ◌∷◌, ◌++◌, length, refl, sym, ◌∙◌, ap, arith, length-append, Ok, false}
 use Rattle.std.specs.List.{common_prefix_len}
 use Rattle.art_bytes.specs.Text.{IsPrefixOf}
@@ -6,12 +6,12 @@ use Rattle.art_nodes.specs.PrefixMatch.{cheap_match}
 use Rattle.std.proofs.lemmas.List.Sums.{common_prefix_len-le}
 use Rattle.art_nodes.proofs.ChildMapLemmas.{eq-true, lt-false}
 
--- a text has all its bytes in common with one that it begins
+-- a list is the longest common prefix of itself and a longer list
 common-append : (front rest : List ℕ) → common_prefix_len nat_eq front (front ++ rest) ≡ length front
 common-append [] rest = refl
 common-append (x ∷ front) rest = rw (eq-true x x refl) (let behind = common-append front rest in omega (arith, behind))
 
--- a front of the whole length is the text
+-- a prefix of the whole length is the whole
 whole_prefix : (stored prefix : List ℕ) → IsPrefixOf stored prefix → length prefix ≡ length stored → prefix ≡ stored
 whole_prefix [] [] front same = refl
 whole_prefix [] (x ∷ prefix) front same = absurd (omega arith)
@@ -24,13 +24,13 @@ whole_prefix (x ∷ stored) prefix (rest, is) same =
     behind-none [] (y ∷ ys) none = absurd (omega arith)
     behind-none (x ∷ xs) ys none = ap (λ rest. x ∷ rest) (behind-none xs ys none)
 
--- the whole stored text is in common with each rest that begins with a prefix that it is a front of
+-- a prefix that is stored whole is the longest common prefix of it and of each rest that begins with it
 pub common-whole : (stored prefix rest : List ℕ) → length prefix ≡ length stored → IsPrefixOf stored prefix → IsPrefixOf prefix rest → common_prefix_len nat_eq stored rest ≡ length stored
 common-whole stored prefix rest same front (behind, is) =
     let prefix_is : prefix ≡ stored = whole_prefix stored prefix front same in
     ap (common_prefix_len nat_eq stored) (is ∙ ap (λ p. p ++ behind) prefix_is) ∙ common-append stored behind
 
--- where the whole stored prefix is in common, the cheap match says so
+-- where the whole stored prefix matches, the match reports so
 pub whole_match : (room prefix_len : ℕ) (stored rest : List ℕ) (matched : ℕ) → prefix_len ≤ room → matched ≡ common_prefix_len nat_eq stored rest → length stored ≤ matched → cheap_match room prefix_len stored rest ≡ Ok (record { matched_bytes = matched; any_implicit_bytes = false })
 whole_match room prefix_len stored rest matched le is all =
     let same : common_prefix_len nat_eq stored rest ≡ length stored = omega (arith, is, (common_prefix_len-le nat_eq stored rest).0) in

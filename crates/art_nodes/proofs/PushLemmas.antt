@@ -1,4 +1,4 @@
--- A byte above all others, put at the end of ascending bytes.
+-- Sorted nodes: a write of a byte above all others.
 use Rattle.std.proofs.Common.{◌≡◌, ℕ, ◌+◌, ◌<◌, All, List, [], ◌∷◌, ◌++◌, length, sym, ◌∙◌, ap, subst, arith}
 use Rattle.std.specs.List.{insert, zip}
 use Rattle.std.proofs.lemmas.List.Edits.{insert_end}

@@ -1,4 +1,4 @@
--- The pairs within bounds, as parts of sorted bytes and of tables.
+-- Ranges: the pairs within bounds, as parts of sorted bytes and of tables.
 use Rattle.std.proofs.Common.{◌≡◌, ℕ, zero, suc, ◌+◌, ◌-◌, ◌<◌, ◌≤◌, true, false, Bool, cond, ◌&&◌, nat_lt, nat_le, List, [], ◌∷◌, length, take, drop, Option, Some, None, refl, sym, ◌∙◌, ap, arith, inl, inr}
 use Rattle.std.specs.List.{zip, count_by, filter}
 use Rattle.std.specs.declared.ops.Bound.{Bound}
@@ -34,7 +34,7 @@ end-number (Included n) byte fits = grind (arith, nat_tests)
 end-number (Excluded n) byte fits = refl
 end-number Unbounded byte fits = grind (arith, nat_tests)
 
--- how many bytes are below a number: one more with a lesser byte in front
+-- how many bytes are below a number: one more with a lesser first byte
 below-less : (number byte : ℕ) (bytes : List ℕ) → byte < number → count_by (λ b. nat_lt b number) (byte ∷ bytes) ≡ suc (count_by (λ b. nat_lt b number) bytes)
 below-less number byte bytes less = sum_by-cons (λ b. cond (nat_lt b number) 1 0) byte bytes ∙ rw (lt-true byte number less) (omega arith)
 
@@ -76,7 +76,7 @@ module _ {H : Type 0} where
     | inr from ↦ rw (below-none first b (b ∷ bytes) from (omega arith, asc.1, asc.2)) refl
   ]
 
-  -- of bytes that are not below the first, those below the end stand in front
+  -- of bytes that are not below the first, those below the end come first
   sorted-take : (low first end : ℕ) (bytes : List ℕ) (children : List H) → length children ≡ length bytes → IsAscendingFrom low bytes → first ≤ low → pairs_between (zip bytes children) first end ≡ zip (take (count_by (λ b. nat_lt b end) bytes) bytes) (take (count_by (λ b. nat_lt b end) bytes) children)
   sorted-take low first end [] [] same asc le = refl
   sorted-take low first end [] (x ∷ children) same asc le = absurd (omega arith)

@@ -1,4 +1,4 @@
--- Ascending bytes with children beside them, and what an edit at one place does to the child map.
+-- Sorted nodes: the child map after an edit at one place.
 use Rattle.std.proofs.Common.{◌≡◌, ℕ, zero, suc, ◌+◌, ◌-◌, ◌<◌, ◌≤◌, ◌≢◌, List, [], ◌∷◌, length, get_or, set, map, Some, None, slice_get, refl, sym, ◌∙◌, ap, subst, arith}
 use Rattle.std.specs.List.{insert, refill, remove, zip}
 use Rattle.std.proofs.lemmas.List.{length-set}
@@ -28,7 +28,7 @@ gap_rest b bytes byte place gap = record {
   greater_after = λ k le lt. gap.greater_after (suc k) (omega arith) (omega arith);
 }
 
--- a gap in front lies below the first byte
+-- the gap at the start is below the first byte
 gap_front : (low b : ℕ) (bytes : List ℕ) (byte : ℕ) → IsGapFor (b ∷ bytes) byte zero → byte < b
 gap_front low b bytes byte gap = gap.greater_after 0 (omega arith) (omega arith)
 
@@ -153,7 +153,7 @@ fields_sorted prefix_room room header bytes children counted beside sound = reco
 }
 
 module _ {H : Type 0} (prefix_room room : ℕ) (header : Header) (bytes : List ℕ) (children : List H) (sorted : IsSortedNode prefix_room room header bytes children) (byte place : ℕ) (gap : IsGapFor bytes byte place) where
-  -- a node that has room for a new byte is not full
+  -- a node with spare capacity for a new byte is not full
   pub not_full : (node : Inner H) → zip bytes children ≡ node.children → HasRoomFor room node byte → length bytes < room
   not_full node view_is has_room =
       let absent : child_at node.children byte ≡ None = subst (λ cs. child_at cs byte ≡ None) view_is (child_at-zip_gap 0 bytes children byte place sorted.beside sorted.ascending gap) in

@@ -8,7 +8,7 @@ use Rattle.art_nodes.specs.declared.commands.command.ChildReply.{ChildReply}
 use Rattle.art_nodes.specs.declared.commands.command.ChildReply.TheVariants.{Child, Pair, Pairs, InvalidBounds}
 
 module _ {K V : Type 0} {P : ℕ} where
-  -- what a command is answered
+  -- the reply to a command
   abbrev pub reply_to : ChildMap (OpaqueNodePtr K V P) → ChildCommand K V P → ChildReply K V P
   reply_to children (Write byte child) = Child (child_at children byte)
   reply_to children (Remove byte) = Child (child_at children byte)
@@ -18,7 +18,7 @@ module _ {K V : Type 0} {P : ℕ} where
   reply_to children (Range start end) =
       if are_valid_bounds start end then Pairs (pairs_within children start end) else InvalidBounds
 
-  -- the children that a command leaves
+  -- the child map after a command
   abbrev pub child_map_after : ChildMap (OpaqueNodePtr K V P) → ChildCommand K V P →
       ChildMap (OpaqueNodePtr K V P)
   child_map_after children (Write byte child) = with_child children byte child
@@ -28,7 +28,7 @@ module _ {K V : Type 0} {P : ℕ} where
   child_map_after children Max = children
   child_map_after children (Range start end) = children
 
-  -- the replies to a list of commands, and the children that it leaves
+  -- the replies to a list of commands, and the child map after them
   abbrev pub run_of : ChildMap (OpaqueNodePtr K V P) → List (ChildCommand K V P) →
       List (ChildReply K V P) × ChildMap (OpaqueNodePtr K V P)
   run_of children [] = ([], children)
@@ -36,7 +36,7 @@ module _ {K V : Type 0} {P : ℕ} where
       let rest = run_of (child_map_after children command) commands in
       (reply_to children command ∷ rest.0, rest.1)
 
-  -- the command asks for pairs within valid bounds, whose list takes memory
+  -- the command is a range with valid bounds, whose reply takes memory
   abbrev pub TakesMemory : ChildCommand K V P → Type 0
   TakesMemory (Range start end) = AreValidBounds start end
   TakesMemory _ = ⊥

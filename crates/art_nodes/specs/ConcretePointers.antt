@@ -1,4 +1,4 @@
--- Pointers by kind, and the kind and slab key that they stand for.
+-- Pointers with a variant for each kind, and their kinds and slab keys.
 use Rattle.std.specs.Prelude.{ℕ}
 use Rattle.art_header.specs.declared.node_type.NodeType.{NodeType}
 use Rattle.art_header.specs.declared.node_type.NodeType.TheVariants as kinds
@@ -10,7 +10,7 @@ use Rattle.art_nodes.specs.declared.pointers.concrete.ConcreteInnerNodePtr.{Conc
 use Rattle.art_nodes.specs.declared.pointers.concrete.ConcreteInnerNodePtr.TheVariants as inner
 
 module _ {K V : Type 0} {P : ℕ} where
-  -- the kind and slab key of a pointer by kind
+  -- the kind and slab key of a pointer
   abbrev pub opaque_of : ConcreteNodePtr K V P → OpaqueNodePtr K V P
   opaque_of (Node4 pointer) = opaque_pointer kinds.Node4 (slab_key pointer)
   opaque_of (Node16 pointer) = opaque_pointer kinds.Node16 (slab_key pointer)
@@ -18,7 +18,7 @@ module _ {K V : Type 0} {P : ℕ} where
   opaque_of (Node256 pointer) = opaque_pointer kinds.Node256 (slab_key pointer)
   opaque_of (LeafNode pointer) = opaque_pointer kinds.Leaf (slab_key pointer)
 
-  -- the pointer by kind with a kind and a slab key
+  -- the pointer with a kind and a slab key
   abbrev pub concrete_pointer : NodeType → ℕ → ConcreteNodePtr K V P
   concrete_pointer kinds.Node4 key = Node4 (pointer_to key)
   concrete_pointer kinds.Node16 key = Node16 (pointer_to key)
@@ -26,17 +26,17 @@ module _ {K V : Type 0} {P : ℕ} where
   concrete_pointer kinds.Node256 key = Node256 (pointer_to key)
   concrete_pointer kinds.Leaf key = LeafNode (pointer_to key)
 
-  -- the pointer by kind that points where this one does
+  -- the pointer with a variant for each kind that points to the same node
   abbrev pub concrete_of : OpaqueNodePtr K V P → ConcreteNodePtr K V P
   concrete_of pointer = concrete_pointer (node_kind pointer) (opaque_key pointer)
 
-  -- a pointer to an inner node is one to a node
+  -- a pointer to an inner node, as one to any node
   abbrev pub any_of_inner : ConcreteInnerNodePtr K V P → ConcreteNodePtr K V P
   any_of_inner (inner.Node4 pointer) = Node4 pointer
   any_of_inner (inner.Node16 pointer) = Node16 pointer
   any_of_inner (inner.Node48 pointer) = Node48 pointer
   any_of_inner (inner.Node256 pointer) = Node256 pointer
 
-  -- the pointer that points where this one by kind does
+  -- the kind and slab key of a pointer to an inner node
   abbrev pub opaque_of_inner : ConcreteInnerNodePtr K V P → OpaqueNodePtr K V P
   opaque_of_inner pointer = opaque_of (any_of_inner pointer)

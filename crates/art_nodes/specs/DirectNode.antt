@@ -1,4 +1,4 @@
--- The fields of a direct node. No public clause cites these words.
+-- The invariant of a direct node. No public clause cites these words.
 use Rattle.std.specs.Prelude.{◌≡◌, ℕ, List, length, Option}
 use Rattle.art_header.specs.Header.{Header}
 use Rattle.art_nodes.specs.ChildMap.{table_children}

@@ -1,15 +1,15 @@
--- The fields of an indirect node. No public clause cites these words.
+-- The invariant of an indirect node. No public clause cites these words.
 use Rattle.std.specs.Prelude.{◌≡◌, ℕ, ◌<◌, ◌≤◌, ◌==◌, Bool, false, List, length, map, count_by, Option, Some, None, nat_lt, slice_get, slice_index, slice_index_or, if◌then◌else◌}
 use Rattle.art_header.specs.Header.{Header}
 use Rattle.art_nodes.specs.ChildMap.{table_children}
 use Rattle.art_nodes.specs.Inner.{IsInner, inner_with}
 
--- the pointer that an index names
+-- the pointer at an index
 abbrev pub named_pointer : {H : Type 0} → List H → Option ℕ → Option H
 named_pointer pointers None = None
 named_pointer pointers (Some index) = slice_get pointers index
 
--- a place for each byte: the pointer that its index names
+-- a place for each byte: the pointer at its index
 abbrev pub named_pointers : {H : Type 0} → List H → List (Option ℕ) → List (Option H)
 named_pointers pointers indices = map (named_pointer pointers) indices
 
@@ -26,7 +26,7 @@ has_index index (Some other) = other == index
 abbrev pub AreKept : List (Option ℕ) → List ℕ → Type 0
 AreKept indices bytes = (index : ℕ) → index < length bytes → slice_index_or indices (slice_index bytes index) None ≡ Some index
 
--- there is a place for each byte, the header counts the pointers, each pointer has its index at one place, and its byte beside it
+-- there is a place for each byte; the header counts the pointers; each pointer has its index at one place, and its byte at the same index
 pub record IsIndirectNode {H : Type 0} (prefix_room room : ℕ) (header : Header) (indices : List (Option ℕ)) (bytes : List ℕ) (pointers : List H) : Type 0 where
   pub places : length indices ≡ 256
   pub counted : header.count ≡ length (table_children 0 (named_pointers pointers indices))

@@ -1,16 +1,16 @@
--- What contracts see of an inner node, whichever way it keeps its children.
+-- Inner nodes as contracts see them, whichever way they keep their children.
 use Rattle.std.specs.Prelude.{◌≡◌, ℕ, ◌≤◌, List, [], length, ◌<◌, min, IsNone}
 use Rattle.std.specs.List.{zip}
 use Rattle.art_header.specs.Header.{Header, capped}
 use Rattle.art_nodes.specs.ChildMap.{ChildMap, child_at, with_child, without_child, key_bytes, IsAscending}
 
--- the prefix's length and stored front, and the child map
+-- the length of the prefix, the stored prefix, and the child map
 pub record Inner (H : Type 0) : Type 0 where
   pub prefix_len : ℕ
   pub stored : List ℕ
   pub children : ChildMap H
 
--- the most children of an indirect node with this many places: 255 is no index
+-- the greatest number of children of an indirect node with this many places; 255 is no index
 abbrev pub indirect_room : ℕ → ℕ
 indirect_room places = min places 255
 
@@ -45,15 +45,15 @@ module _ {H : Type 0} where
   abbrev pub node_with_prefix_of : Inner H → Header → Inner H
   node_with_prefix_of node header = record node { prefix_len = header.prefix_len; stored = header.stored }
 
-  -- the byte is there already, or there is room for one child more
+  -- the byte has a child already, or the node has spare capacity
   abbrev pub HasRoomFor : ℕ → Inner H → ℕ → Type 0
   HasRoomFor room node byte = IsNone (child_at node.children byte) → length node.children < room
 
-  -- each byte with the child beside it
+  -- each byte with the child at the same index
   abbrev pub sorted_children : List ℕ → List H → ChildMap H
   sorted_children bytes children = zip bytes children
 
-  -- bytes ascend, the children fit, and of the prefix as much is stored as there is room for
+  -- bytes ascend, the children fit, and as much of the prefix is stored as the node can store
   pub record IsInner (prefix_room room : ℕ) (node : Inner H) : Type 0 where
     pub ascending : IsAscending (key_bytes node.children)
     pub fits : length node.children ≤ room

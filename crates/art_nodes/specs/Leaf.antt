@@ -1,4 +1,4 @@
--- What a leaf shows: its key, its value, and the slab keys of its neighbours.
+-- Leaves: key, value, and slab keys of the neighbours.
 use Rattle.std.specs.Prelude.{ℕ, Option}
 use Rattle.std.specs.Borrow.{RattleType, MutBor, Fml, Lends, LendsBoth}
 use Rattle.art_nodes.specs.declared.leaf_node.LeafNode.{LeafNode}
@@ -33,10 +33,10 @@ module _ {K V : Type 0} {P : ℕ} where
   abbrev pub with_links : LeafNode K V P → Option ℕ → Option ℕ → LeafNode K V P
   with_links leaf previous next = record leaf { previous = previous; next = next }
 
--- a leaf ends with the value that is left behind the reference
+-- when the reference is dropped, the leaf has the value that it then refers to
 abbrev pub LendsValue : (K V P : RattleType) → MutBor (the_row K V P).Denot → MutBor V.Denot → Fml
 LendsValue K V P leaf value = Lends (the_row K V P) V leaf value (with_value leaf.now)
 
--- a leaf ends with the key and the value that are left behind the two references
+-- when both references are dropped, the leaf has the key and the value that they then refer to
 abbrev pub LendsEntry : (K V P : RattleType) → MutBor (the_row K V P).Denot → MutBor K.Denot × MutBor V.Denot → Fml
 LendsEntry K V P leaf entry = LendsBoth (the_row K V P) K V leaf entry (with_entry leaf.now)

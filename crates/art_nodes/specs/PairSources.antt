@@ -1,4 +1,4 @@
--- Bounds on bytes as numbers. No public clause cites these words.
+-- Bounds on bytes, as numbers. No public clause cites these words.
 use Rattle.std.specs.Prelude.{◌+◌, ℕ}
 use Rattle.std.specs.declared.ops.Bound.{Bound}
 use Rattle.std.specs.declared.ops.Bound.TheVariants.{Included, Excluded, Unbounded}

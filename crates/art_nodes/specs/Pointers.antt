@@ -1,4 +1,4 @@
--- What a node pointer shows: the kind of its node and a slab key.
+-- Node pointers: the kind of the node and its slab key.
 use Rattle.std.specs.Prelude.{ℕ}
 use Rattle.art_header.specs.declared.node_type.NodeType.{NodeType}
 use Rattle.art_nodes.specs.declared.pointers.NodePtr.{NodePtr}
@@ -8,7 +8,7 @@ use Rattle.art_nodes.specs.declared.pointers.OpaqueNodePtr.{OpaqueNodePtr}
 abbrev pub slab_key : {P : ℕ} {N : Type 0} → NodePtr P N → ℕ
 slab_key pointer = pointer.key
 
--- the kind of the node that an opaque pointer points to
+-- the kind of the node of a pointer
 abbrev pub node_kind : {K V : Type 0} {P : ℕ} → OpaqueNodePtr K V P → NodeType
 node_kind pointer = pointer.node_type
 
@@ -16,7 +16,7 @@ node_kind pointer = pointer.node_type
 abbrev pub opaque_key : {K V : Type 0} {P : ℕ} → OpaqueNodePtr K V P → ℕ
 opaque_key pointer = pointer.key
 
--- the pointer to a node of one type under a slab key
+-- the pointer to a node of one type with a slab key
 abbrev pub pointer_to : {P : ℕ} {N : Type 0} → ℕ → NodePtr P N
 pointer_to key = record { key = key; node = record {} }
 

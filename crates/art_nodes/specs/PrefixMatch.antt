@@ -1,4 +1,4 @@
--- The cheap matches of a node's prefix against what is left of a key.
+-- Matches of a node's prefix with the rest of a key, without reading a leaf.
 use Rattle.std.specs.Prelude.{◌≡◌, ℕ, ◌==◌, List, length, None, Result, Ok, Err, true, false, nat_eq, nat_le, nat_lt, slice_get, if◌then◌else◌}
 use Rattle.std.specs.List.{common_prefix_len}
 use Rattle.art_bytes.specs.Text.{IsPrefixOf}
@@ -8,19 +8,19 @@ use Rattle.art_nodes.specs.declared.inner_nodes.prefix_match.OptimisticMismatch.
 use Rattle.art_nodes.specs.declared.inner_nodes.prefix_match.AttemptOptimisticPrefixMatch.{AttemptOptimisticPrefixMatch}
 use Rattle.art_nodes.specs.declared.inner_nodes.prefix_match.PessimisticMismatch.{PessimisticMismatch}
 
--- by lengths alone: the rest is at least as long as the prefix, or is too short
+-- by lengths alone: the rest is at least as long as the prefix, or it is too short
 abbrev pub optimistic_match : ℕ → List ℕ → Result PrefixMatch OptimisticMismatch
 optimistic_match prefix_len rest =
     if nat_le prefix_len (length rest) then Ok (record { matched_bytes = prefix_len }) else Err (record { matched_bytes = length rest })
 
--- the same where the prefix has bytes that are not stored
+-- the same, where some bytes of the prefix are not stored
 abbrev pub implicit_match : ℕ → List ℕ → Result AttemptOptimisticPrefixMatch PessimisticMismatch
 implicit_match prefix_len rest =
     if nat_le prefix_len (length rest)
     then Ok (record { matched_bytes = prefix_len; any_implicit_bytes = true })
     else Err (record { matched_bytes = length rest; prefix_byte = None })
 
--- byte by byte: the rest begins with the prefix, or the first byte that it lacks or differs in
+-- byte by byte: the prefix is a prefix of the rest, or the first byte where the rest differs or ends
 abbrev pub explicit_match : List ℕ → List ℕ → Result AttemptOptimisticPrefixMatch PessimisticMismatch
 explicit_match prefix rest =
     let matched = common_prefix_len nat_eq prefix rest in
@@ -33,6 +33,6 @@ abbrev pub cheap_match : ℕ → ℕ → List ℕ → List ℕ → Result Attemp
 cheap_match room prefix_len stored rest =
     if nat_lt room prefix_len then implicit_match prefix_len rest else explicit_match stored rest
 
--- a text that the prefix may be, as far as the node stores it
+-- the node may have this prefix: it has the prefix's length, and stores its first bytes
 abbrev pub HasPrefix : {H : Type 0} → Inner H → List ℕ → Type 0
 HasPrefix node prefix = (length prefix ≡ node.prefix_len) × IsPrefixOf node.stored prefix

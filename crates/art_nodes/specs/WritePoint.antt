@@ -1,12 +1,12 @@
--- Where a byte stands among ascending bytes, or where it would go. No public clause cites these words.
+-- The place of a byte among ascending bytes. No public clause cites these words.
 use Rattle.std.specs.Prelude.{◌≡◌, ℕ, ◌<◌, ◌≤◌, List, length, slice_index}
 
--- the byte stands at this place
+-- the byte is at this place
 pub record IsByteAt (bytes : List ℕ) (byte place : ℕ) : Type 0 where
   pub in_range : place < length bytes
   pub same : slice_index bytes place ≡ byte
 
--- the byte would go to this place: smaller bytes stand before it, and greater ones from it on
+-- the place to insert the byte at: smaller bytes are before it, and greater ones from it on
 pub record IsGapFor (bytes : List ℕ) (byte place : ℕ) : Type 0 where
   pub in_range : place ≤ length bytes
   pub smaller_before : (k : ℕ) → k < place → slice_index bytes k < byte

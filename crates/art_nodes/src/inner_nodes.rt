@@ -1,5 +1,4 @@
-//! Inner nodes: the traits, the three representations and their tables, the builder and the matches of
-//! a prefix.
+//! Inner nodes: traits, representations, tables, the builder, and matches of a prefix.
 pub(crate) mod builder;
 pub(crate) mod prefix_match;
 pub(crate) mod representations;

@@ -1,4 +1,4 @@
-//! The children of an inner node in order: the iterator, what it goes over, and its bounds.
+//! The children of an inner node in order: the iterator, its sources, and bounds.
 pub(crate) mod bounds;
 pub(crate) mod child_iter;
 pub(crate) mod index_pairs;

@@ -14,7 +14,19 @@ use art_header::NodeType;
 use std::alloc::AllocError;
 use std::cmp::Ordering;
 
-/// A leaf: a key, a value, and the slab keys of the leaves before and after it in the list.
+/// A leaf: a key, a value, and links to the leaves before and after it in a list. A link is a slab
+/// key.
+///
+/// (from crates/art_node_tests/src/nodes/leaf_node.rt)
+/// ```rust
+/// type Texts = LeafNode<String, String, 16>;
+/// // ..
+/// let key = String::from_str(rt.alloc(), "ab")?;
+/// let value = String::from_str(rt.alloc(), "cd")?;
+/// let mut leaf = Texts::with_no_siblings(key, value);
+/// let previous = Some(NodePtr::from_key(4));
+/// leaf.set_links(previous, None);
+/// ```
 #[derive(Drop)]
 pub struct LeafNode<K, V, const PREFIX_LEN: usize> {
     key: K,
@@ -38,7 +50,7 @@ impl<K, V, const PREFIX_LEN: usize> Node<PREFIX_LEN> for LeafNode<K, V, PREFIX_L
 }
 
 impl<K, V, const PREFIX_LEN: usize> LeafNode<K, V, PREFIX_LEN> {
-    /// A leaf with this key and value that no list holds.
+    /// A leaf with this key and value, which is in no list.
     pub fn with_no_siblings(key: K, value: V) -> Self
         ensures key { leaf_key result ≡ key }
         ensures value { leaf_value result ≡ value }
@@ -67,7 +79,7 @@ impl<K, V, const PREFIX_LEN: usize> LeafNode<K, V, PREFIX_LEN> {
         &self.value
     }
 
-    /// The value, to be written. The key and the links stay.
+    /// A mutable reference to the value. Key and links are unchanged.
     pub fn value_mut(&mut self) -> &mut V
         ensures* writes_back { sem 𝓛 (LendsValue K.row V.row PREFIX_LEN.row self.entry result) }
         ensures value { result.now ≡ leaf_value self.old }
@@ -83,10 +95,10 @@ impl<K, V, const PREFIX_LEN: usize> LeafNode<K, V, PREFIX_LEN> {
         (&self.key, &self.value)
     }
 
-    /// The key and the value, to be written. The links stay.
+    /// Mutable references to the key and the value. Links are unchanged.
     ///
-    /// Whoever changes the text of a key that a tree or a list holds has to keep the tree
-    /// well-formed and the list in order.
+    /// A caller that changes the bytes of a key in a tree or a list must keep the tree well-formed
+    /// and the list in order.
     pub fn entry_mut(&mut self) -> (&mut K, &mut V)
         ensures* writes_back { sem 𝓛 (LendsEntry K.row V.row PREFIX_LEN.row self.entry result) }
         ensures key { result.0.now ≡ leaf_key self.old }
@@ -95,7 +107,7 @@ impl<K, V, const PREFIX_LEN: usize> LeafNode<K, V, PREFIX_LEN> {
         (&mut self.key, &mut self.value)
     }
 
-    /// The key, and the value to be written. The key and the links stay.
+    /// The key, and a mutable reference to the value. Key and links are unchanged.
     pub fn key_ref_value_mut(&mut self) -> (&K, &mut V)
         ensures* writes_back { sem 𝓛 (LendsValue K.row V.row PREFIX_LEN.row self.entry result.1) }
         ensures key { result.0.now ≡ leaf_key self.old }
@@ -104,7 +116,7 @@ impl<K, V, const PREFIX_LEN: usize> LeafNode<K, V, PREFIX_LEN> {
         (&self.key, &mut self.value)
     }
 
-    /// Takes the leaf apart into its key and its value.
+    /// The key and the value. The links are dropped.
     pub fn into_entry(self) -> (K, V)
         ensures key { result.0 ≡ leaf_key self }
         ensures value { result.1 ≡ leaf_value self }
@@ -118,7 +130,7 @@ impl<K, V, const PREFIX_LEN: usize> LeafNode<K, V, PREFIX_LEN> {
         (key, value)
     }
 
-    /// Whether the bytes of the key are just these.
+    /// Whether the bytes of the key are exactly these.
     pub fn matches_full_key(&self, possible_key: &[u8]) -> bool
     where
         K: AsBytes,
@@ -127,8 +139,8 @@ impl<K, V, const PREFIX_LEN: usize> LeafNode<K, V, PREFIX_LEN> {
         self.key.as_bytes() == possible_key
     }
 
-    /// How the bytes of the key compare with these: the first byte that differs decides, and else
-    /// the shorter text is less.
+    /// How the bytes of the key compare with these: the first byte that differs decides, and a
+    /// proper prefix is less.
     pub fn compare_full_key(&self, possible_key: &[u8]) -> Ordering
     where
         K: AsBytes,
@@ -137,7 +149,7 @@ impl<K, V, const PREFIX_LEN: usize> LeafNode<K, V, PREFIX_LEN> {
         self.key.as_bytes().cmp(possible_key)
     }
 
-    /// Whether the bytes of the key begin with these.
+    /// Whether `key` is a prefix of the bytes of the leaf's key.
     pub fn starts_with(&self, key: &[u8]) -> bool
     where
         K: AsBytes,
@@ -146,11 +158,11 @@ impl<K, V, const PREFIX_LEN: usize> LeafNode<K, V, PREFIX_LEN> {
         self.key.as_bytes().starts_with(key)
     }
 
-    /// A leaf with clones of the key and of the value that no list holds. Where clones equal what
-    /// they are clones of, it is this leaf without its links.
+    /// A leaf with clones of the key and of the value, which is in no list. Where clones equal
+    /// their originals, it is this leaf without its links.
     ///
-    /// It takes the memory that the two clones take. Where there is none for one of them, nothing
-    /// is handed out.
+    /// It takes the memory of the two clones. Error: [`AllocError`] where one of them fails; this
+    /// leaf is unchanged.
     pub fn clone_without_siblings(&self) -> Result<Self, AllocError>
     where
         K: Clone + Drop,
@@ -183,8 +195,8 @@ impl<K, V, const PREFIX_LEN: usize> LeafNode<K, V, PREFIX_LEN> {
         Some(NodePtr::from_key(self.next?))
     }
 
-    /// Makes these leaves the neighbours of this one, `None` at an end of the list. The key and the
-    /// value stay, and no other leaf is changed.
+    /// Sets the links of this leaf to these neighbours, `None` at an end of the list. Key and value
+    /// are unchanged, and so is every other leaf.
     pub fn set_links(
         &mut self,
         previous: Option<NodePtr<PREFIX_LEN, Self>>,
@@ -198,7 +210,7 @@ impl<K, V, const PREFIX_LEN: usize> LeafNode<K, V, PREFIX_LEN> {
     }
 }
 
-// The slab key that a link keeps.
+// The slab key of a link.
 fn key_of<const PREFIX_LEN: usize, N>(leaf: Option<NodePtr<PREFIX_LEN, N>>) -> Option<usize>
     ensures { result ≡ option_map slab_key leaf }
 {

@@ -1,14 +1,18 @@
-//! Nodes of an adaptive radix tree: pointers, inner nodes, leaves, and runs of child commands.
+//! The nodes of an adaptive radix tree: pointers, inner nodes, leaves, and runs of child commands.
 //!
-//! An inner node has a prefix and children under bytes. `InnerNodeCommon` says what each of them
-//! does, whichever way it keeps its children: `InnerNode4` and `InnerNode16` as sorted bytes,
-//! `InnerNode48` behind an index for each byte, `InnerNodeDirect` with a place for each byte.
-//! `InnerNode` grows and shrinks a node, and `ChildNode` does so by itself, command by command:
-//! `replay` runs a whole list of them. Names and behaviour are those of the crate `blart` 0.6.0, the
-//! kinds those of Leis, Kemper and Neumann, "The Adaptive Radix Tree" (2013).
+//! An inner node has a compressed prefix, and children under bytes. [`InnerNodeCommon`] has its
+//! calls, whichever way it keeps its children: [`InnerNode4`] and [`InnerNode16`] as sorted bytes,
+//! [`InnerNode48`] with an index for each byte, [`InnerNodeDirect`] with a place for each byte.
+//! [`InnerNode`] grows and shrinks a node. [`ChildNode`] grows and shrinks by itself, command by
+//! command, and [`replay`] runs a list of commands. Names and behaviour are those of the crate
+//! `blart` 0.6.0, the kinds those of Leis, Kemper and Neumann, "The Adaptive Radix Tree" (2013).
 //!
-//! `inner_nodes` has the traits, the three representations and the builder, `iteration` what goes over
-//! children in order, `commands` child commands and runs of them.
+//! The module `inner_nodes` has the traits, the three representations and the builder, `iteration`
+//! the iterators over children, `commands` child commands and runs of them.
+//!
+//! The examples are lines of tests. There `rt` is the `HostRuntime` of the test, and `assert!(rt;
+//! c)` fails where `c` is false. `leaf(k)` is the pointer to the leaf with the slab key `k`.
+//! `pair`, `node_of` and `with_bytes` make a node with a prefix and children.
 #![tactic(auto)]
 
 mod commands;

@@ -8,7 +8,15 @@ use std::marker::PhantomData;
 
 pub(crate) mod concrete;
 
-/// A pointer to a node of the type `N`: the slab key that the node is kept under.
+/// A pointer to a node of the type `N`: the slab key of the node.
+///
+/// (from crates/art_node_tests/src/nodes/pointers.rt)
+/// ```rust
+/// let four = NodePtr::<16, InnerNode4<u8, u8, 16>>::from_key(5);
+/// assert!(rt; four.to_opaque() != leaf(5));
+/// assert!(rt; four == NodePtr::from_key(5));
+/// assert!(rt; four != NodePtr::from_key(6));
+/// ```
 #[derive_where(Clone, Copy, PartialEq, Eq)]
 pub struct NodePtr<const PREFIX_LEN: usize, N> {
     // The slab key.
@@ -16,7 +24,15 @@ pub struct NodePtr<const PREFIX_LEN: usize, N> {
     node: PhantomData<N>,
 }
 
-/// A pointer to a node of any kind: its kind and the slab key that it is kept under.
+/// A pointer to a node of any kind: its kind and its slab key.
+///
+/// (from crates/art_node_tests/src/nodes/pointers.rt)
+/// ```rust
+/// assert!(rt; leaf::<16>(6).node_type() == NodeType::Leaf);
+/// assert!(rt; leaf::<16>(6).cast::<InnerNode4<u8, u8, 16>>().is_none());
+/// let cast = leaf::<16>(6).cast::<LeafNode<u8, u8, 16>>();
+/// assert!(rt; cast.map(|leaf| leaf.key()) == Some(6));
+/// ```
 #[derive_where(Clone, Copy, PartialEq, Eq, Hash)]
 pub struct OpaqueNodePtr<K, V, const PREFIX_LEN: usize> {
     node_type: NodeType,
@@ -26,7 +42,7 @@ pub struct OpaqueNodePtr<K, V, const PREFIX_LEN: usize> {
 }
 
 impl<const PREFIX_LEN: usize, N> NodePtr<PREFIX_LEN, N> {
-    /// The pointer to the node that is kept under this slab key.
+    /// The pointer to the node with this slab key.
     pub fn from_key(key: usize) -> Self
         ensures { slab_key result ≡ key }
     {
@@ -45,7 +61,7 @@ impl<const PREFIX_LEN: usize, N> NodePtr<PREFIX_LEN, N> {
 }
 
 impl<const PREFIX_LEN: usize, N: Node<PREFIX_LEN>> NodePtr<PREFIX_LEN, N> {
-    /// The same pointer, with the kind of the node as a part of the value.
+    /// The same pointer, with the kind of the node in the value instead of the type.
     pub fn to_opaque(self) -> OpaqueNodePtr<N::Key, N::Value, PREFIX_LEN>
         ensures { result ≡ opaque_pointer N.TYPE (slab_key self) }
     {
@@ -54,7 +70,7 @@ impl<const PREFIX_LEN: usize, N: Node<PREFIX_LEN>> NodePtr<PREFIX_LEN, N> {
 }
 
 impl<K, V, const PREFIX_LEN: usize> OpaqueNodePtr<K, V, PREFIX_LEN> {
-    /// The pointer to a node of any kind that points where this one does.
+    /// The pointer to a node of any kind that points to the same node.
     pub fn new<N: Node<PREFIX_LEN, Key = K, Value = V>>(pointer: NodePtr<PREFIX_LEN, N>) -> Self
         ensures { result ≡ opaque_pointer N.TYPE (slab_key pointer) }
     {
@@ -72,7 +88,7 @@ impl<K, V, const PREFIX_LEN: usize> OpaqueNodePtr<K, V, PREFIX_LEN> {
         N::TYPE == self.node_type
     }
 
-    /// The pointer to a node of the type `N`, where the node is of that kind.
+    /// The pointer to a node of the type `N`, and `None` where the node is of another kind.
     pub fn cast<N: Node<PREFIX_LEN>>(self) -> Option<NodePtr<PREFIX_LEN, N>>
         ensures kind { IsSome result ↔ (node_kind self ≡ N.TYPE) }
         ensures key { IfSome result (λ pointer. slab_key pointer ≡ opaque_key self) }
@@ -92,7 +108,7 @@ impl<K, V, const PREFIX_LEN: usize> OpaqueNodePtr<K, V, PREFIX_LEN> {
     }
 }
 
-/// A pointer to the `Node4` under key 0. It only fills places that hold no pointer.
+/// A pointer to the `Node4` with the slab key 0. It only fills places that have no pointer.
 impl<K, V, const PREFIX_LEN: usize> Default for OpaqueNodePtr<K, V, PREFIX_LEN> {
     ghost use Rattle.std.specs.Prelude.{◌≡◌};
     ghost use Rattle.art_header.specs.declared.node_type.NodeType.TheVariants.{Node4};

@@ -1,4 +1,4 @@
--- What contracts see of a tree with its arena, and what is true of every one.
+-- A tree with its arena, and its invariant.
 use Rattle.std.specs.Prelude.{◌≡◌, ◌≢◌, ℕ, ◌<◌, ◌^◌, List, length, map, All, Contains, Option, Some, None}
 use Rattle.art_nodes.specs.Pointers.{opaque_key}
 use Rattle.art_nodes.specs.declared.pointers.OpaqueNodePtr.{OpaqueNodePtr}
@@ -14,7 +14,8 @@ pub record Art (A R : Type 0) : Type 0 where
   pub root : Option R
 
 module _ {K V : Type 0} {P : ℕ} (text : K → List ℕ) (arena : ArenaOf K V P) where
-  -- a well-formed, snug tree stands at the root, each text has fewer than 2^32 bytes, its leaves are linked in their order, and the arena holds nothing else
+  -- a well-formed tree with the smallest kinds stands at the root, each text has fewer than 2^32
+  -- bytes, its leaves are linked in their order, and the arena holds nothing else
   pub record IsAlone (root : OpaqueNodePtr K V P) (tree : Tree (OpaqueNodePtr K V P)) : Type 0 where
     pub is_tree : IsTreeIn text arena root tree
     pub smallest_kinds : HasSmallestKinds tree

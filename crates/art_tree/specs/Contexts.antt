@@ -1,4 +1,4 @@
--- A tree with one subtree left out, and what becomes of an arena where that subtree is exchanged.
+-- Trees with one subtree left out, and arenas in which that subtree is exchanged.
 use Rattle.std.specs.Prelude.{◌≡◌, ◌≢◌, ℕ, List, [], ◌∷◌, ◌++◌, Contains, Option, Some, None}
 use Rattle.art_nodes.specs.Inner as nodes
 use Rattle.art_nodes.specs.Leaf.{leaf_key, leaf_value}
@@ -19,7 +19,7 @@ module _ {H : Type 0} where
   join NoBranch more = more
   join (Branch byte tree others) more = Branch byte tree (join others more)
 
-  -- the tree with this subtree in its place
+  -- the tree with this subtree in that place
   abbrev pub plug : Context H → Tree H → Tree H
   plug Whole tree = tree
   plug (Under above pointer prefix before byte after) tree = plug above (Inner pointer prefix (join before (Branch byte tree after)))
@@ -53,14 +53,15 @@ module _ {K V : Type 0} {P : ℕ} (old new : ArenaOf K V P) where
         (now : LeafNode K V P) × (held new pointer ≡ HeldLeaf now) × (leaf_key now ≡ leaf_key leaf)
         × (leaf_value now ≡ leaf_value leaf)
 
-  -- the node above the place has this child under its byte, and is as it was for the rest
+  -- the node above the place has this child under its byte, and is unchanged otherwise
   abbrev pub Adopts : Context (OpaqueNodePtr K V P) → OpaqueNodePtr K V P → Type 0
   Adopts Whole child = Unit {0}
   Adopts (Under above pointer prefix before byte after) child =
       (node : nodes.Inner (OpaqueNodePtr K V P)) → held old pointer ≡ HeldInner node →
       held new pointer ≡ HeldInner (nodes.node_with_child node byte child)
 
-  -- a subtree stands in the place of another in its parent, and all else of the tree is as it was, but for the links of leaves
+  -- a subtree is in the place of another under its parent, and all else of the tree is unchanged,
+  -- but for the links of leaves
   pub record IsExchanged (text : K → List ℕ) (context : Context (OpaqueNodePtr K V P)) (part now : Tree (OpaqueNodePtr K V P)) : Type 0 where
     pub stood : StandsIn text old (plug context part)
     pub stands : StandsIn text new now

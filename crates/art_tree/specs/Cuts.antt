@@ -1,4 +1,4 @@
--- What the steps of a removal do to an arena. No public clause cites it.
+-- Removal: the changes of inner nodes. No public clause cites it.
 use Rattle.std.specs.Prelude.{◌≡◌, ◌⊎◌, ℕ, ◌<◌, length}
 use Rattle.art_header.specs.NodeType.{least_children, shrunk_kind}
 use Rattle.art_nodes.specs.Inner.{Inner}
@@ -8,7 +8,8 @@ use Rattle.art_arena.specs.Arena.{ArenaOf, HeldInner, held, room, Changes, SameR
 use Rattle.art_tree.specs.Nodes.{IsReplaced}
 
 module _ {K V : Type 0} {P : ℕ} where
-  -- where the inner node at the pointer has more than two children and the fewest of its kind, there is room for one of the next smaller kind
+  -- where the inner node at the pointer has more than two children and the fewest of its kind,
+  -- there is spare capacity for one of the next smaller kind
   abbrev pub HasRoomToShrink : ArenaOf K V P → OpaqueNodePtr K V P → Type 0
   HasRoomToShrink arena pointer =
       (node : Inner (OpaqueNodePtr K V P)) → held arena pointer ≡ HeldInner node →
@@ -22,7 +23,8 @@ module _ {K V : Type 0} {P : ℕ} where
     pub changes : Changes old new pointer (HeldInner now)
     pub same_room : SameRoom old new
 
-  -- the node, which had the fewest children of its kind, is given up for one of the next smaller kind
+  -- the node, which had the fewest children of its kind, is replaced by one of the next smaller
+  -- kind
   pub record IsShrunk (old new : ArenaOf K V P) (pointer : OpaqueNodePtr K V P) (node now : Inner (OpaqueNodePtr K V P)) (at : OpaqueNodePtr K V P) : Type 0 where
     pub least : length node.children ≡ least_children (node_kind pointer)
     pub replaced : IsReplaced old new pointer (shrunk_kind (node_kind pointer)) now at

@@ -1,4 +1,4 @@
--- One step of a search, as the node alone tells it. No public clause cites it.
+-- Search: one step, from the node alone. No public clause cites it.
 use Rattle.std.specs.Prelude.{◌≡◌, ℕ, ◌+◌, true, List, drop, Some, None, slice_get}
 use Rattle.art_nodes.specs.ChildMap.{child_at}
 use Rattle.art_nodes.specs.Inner.{Inner}
@@ -20,10 +20,10 @@ module _ {H : Type 0} (room : ℕ) (node : Inner H) (key : List ℕ) (depth : �
   LeadsNowhere = (prefix : List ℕ) (byte : ℕ) → HasPrefix node prefix → goes_to room prefix byte (drop depth key) ≡ true → child_at node.children byte ≡ None
 
 module _ {H L : Type 0} (room : ℕ) (at : Held H L) (key : List ℕ) (depth : ℕ) where
-  -- the same from what is held at a pointer, where that is an inner node
+  -- the same of what is held at a pointer, where that is an inner node
   abbrev pub LeadsOnFrom : ℕ × H → Type 0
   LeadsOnFrom next = (node : Inner H) → at ≡ HeldInner node → LeadsOn room node key depth next
 
-  -- it leads nowhere, from what is held at a pointer
+  -- the key goes to no child, from what is held at a pointer
   abbrev pub LeadsNowhereFrom : Type 0
   LeadsNowhereFrom = (node : Inner H) → at ≡ HeldInner node → LeadsNowhere room node key depth

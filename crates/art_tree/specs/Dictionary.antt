@@ -1,4 +1,4 @@
--- A dictionary: the entry with each text. And texts that no tree holds together.
+-- The dictionary of an arena, and texts that no tree holds together.
 use Rattle.std.specs.Prelude.{◌≡◌, ◌≢◌, ◌⊎◌, ℕ, List, [], ◌∷◌, Contains, Option, Some, None, nat_eq, if◌then◌else◌}
 use Rattle.std.specs.Cmp.Lexicographic.{pointwise}
 use Rattle.art_bytes.specs.Text.{IsPrefixOf}
@@ -26,7 +26,7 @@ module _ {K V : Type 0} {P : ℕ} (text : K → List ℕ) where
   abbrev pub HasEntry : ArenaOf K V P → List ℕ → Type 0
   HasEntry arena x = entry_at arena x ≢ None
 
-  -- the key of each entry is one that the laws of keys speak of
+  -- the laws of keys hold for the key of each entry
   abbrev pub HasKeys : (K → Type 0) → ArenaOf K V P → Type 0
   HasKeys is_key arena = (entry : K × V) → IsEntry arena entry → is_key entry.0
 
@@ -42,14 +42,14 @@ module _ {K V : Type 0} {P : ℕ} (text : K → List ℕ) where
   abbrev pub IsEmpty : ArenaOf K V P → Type 0
   IsEmpty arena = (x : List ℕ) → entry_at arena x ≡ None
 
--- b begins with a, and is longer
+-- a is a prefix of b, and shorter
 abbrev pub IsProperPrefixOf : List ℕ → List ℕ → Type 0
 IsProperPrefixOf a b = IsPrefixOf a b × (a ≢ b)
 
--- one of the two is a proper front of the other
+-- one of the two is a proper prefix of the other
 abbrev pub OneIsProperPrefix : List ℕ → List ℕ → Type 0
 OneIsProperPrefix a b = IsProperPrefixOf a b ⊎ IsProperPrefixOf b a
 
--- one of these texts is a proper front of this one, or this one of it
+-- one of these texts is a proper prefix of this one, or this one of it
 abbrev pub Clashes : List (List ℕ) → List ℕ → Type 0
 Clashes texts text = (other : List ℕ) × Contains texts other × OneIsProperPrefix other text

@@ -1,4 +1,4 @@
--- Where a leaf that goes hangs in a tree. No public clause cites it.
+-- Removal: the place of the leaf in its tree. No public clause cites it.
 use Rattle.std.specs.Prelude.{◌≡◌, ℕ, List, Option}
 use Rattle.art_nodes.specs.declared.pointers.OpaqueNodePtr.{OpaqueNodePtr}
 use Rattle.art_arena.specs.Trees.{Tree, Leaf, Inner, Branches, Branch}
@@ -6,7 +6,8 @@ use Rattle.art_tree.specs.Contexts.{Context, plug, join}
 use Rattle.art_tree.specs.Places.{above}
 use Rattle.art_tree.specs.declared.remove.LeafSpot.{LeafSpot}
 
--- the leaf hangs in its parent under this byte, and the parent under this one, if it is not the root
+-- the leaf is the child of its parent under this byte, and the parent that of its parent under this
+-- one, if it is not the root
 pub record HangsUnder {H : Type 0} (tree : Tree H) (pointer parent : H) (byte : ℕ) (higher : Option (H × ℕ)) : Type 0 where
   pub upper : Context H
   pub prefix : List ℕ
@@ -16,6 +17,6 @@ pub record HangsUnder {H : Type 0} (tree : Tree H) (pointer parent : H) (byte : 
   pub whole : plug upper (Inner parent prefix (join before (Branch byte (Leaf pointer text) after))) ≡ tree
   pub hangs : above upper ≡ higher
 
--- the leaf hangs at this spot of the tree
+-- the leaf is at this spot of the tree
 abbrev pub IsLeafSpot : {K V : Type 0} {P : ℕ} → Tree (OpaqueNodePtr K V P) → OpaqueNodePtr K V P → LeafSpot K V P → Type 0
 IsLeafSpot tree pointer spot = HangsUnder tree pointer spot.parent spot.byte spot.above

@@ -1,4 +1,4 @@
--- What the steps of an insert do to an arena. No public clause cites it.
+-- Insertion: the changes of inner nodes and of the list of leaves. No public clause cites it.
 use Rattle.std.specs.Prelude.{◌≡◌, ◌⊎◌, ℕ, ◌<◌, List, [], ◌∷◌, ◌++◌, length, nat_lt, if◌then◌else◌}
 use Rattle.art_header.specs.NodeType.{most_children, grown_kind}
 use Rattle.std.specs.declared.cmp.Ordering.TheVariants.{Less}
@@ -17,12 +17,13 @@ use Rattle.art_arena.specs.Ends.{put_at}
 use Rattle.art_arena.specs.declared.ends.End.{End}
 use Rattle.art_arena.specs.declared.ends.End.TheVariants.{First, Last}
 
--- a member stands beside a gap of a list: the first one right of it, or the last one left of it
+-- a member is beside a gap of a list: the first one right of it, or the last one left of it
 abbrev pub IsBeside : {A : Type 0} → End → List A → List A → A → Type 0
 IsBeside First left right member = (others : List _) × (right ≡ put_at First member others)
 IsBeside Last left right member = (others : List _) × (left ≡ put_at Last member others)
 
--- a new text lies on the side of another where it is to stand: before the first one right of the gap, or after the last one left of it
+-- a new text is on the right side of another: less than the first one right of the gap, or greater
+-- than the last one left of it
 abbrev pub LiesBeside : End → List ℕ → List ℕ → Type 0
 LiesBeside First text other = text_order text other ≡ Less
 LiesBeside Last text other = text_order other text ≡ Less
@@ -45,14 +46,14 @@ module _ {K V : Type 0} {P : ℕ} where
     pub nothing : held old pointer ≡ Nothing → held new pointer ≡ Nothing
     pub keeps : KeepsAt old new pointer
 
-  -- a leaf with this key and this value stands at the pointer
+  -- a leaf with this key and this value is at the pointer
   pub record HoldsEntry (arena : ArenaOf K V P) (pointer : OpaqueNodePtr K V P) (k : K) (v : V) : Type 0 where
     pub leaf : LeafNode K V P
     pub is_held : held arena pointer ≡ HeldLeaf leaf
     pub key : leaf_key leaf ≡ k
     pub value : leaf_value leaf ≡ v
 
-  -- where the inner node at the pointer is full, there is room for one of the next kind
+  -- where the inner node at the pointer is full, there is spare capacity for one of the next kind
   abbrev pub HasRoomToGrow : ArenaOf K V P → OpaqueNodePtr K V P → Type 0
   HasRoomToGrow arena pointer =
       (node : Inner (OpaqueNodePtr K V P)) → held arena pointer ≡ HeldInner node →
@@ -65,7 +66,7 @@ module _ {K V : Type 0} {P : ℕ} where
     pub same : at ≡ pointer
     pub changes : Changes old new pointer (HeldInner now)
 
-  -- the node, which was full, is given up for one of the next kind
+  -- the node, which was full, is replaced by one of the next kind
   pub record IsMoved (old new : ArenaOf K V P) (pointer : OpaqueNodePtr K V P) (node now : Inner (OpaqueNodePtr K V P)) (at : OpaqueNodePtr K V P) : Type 0 where
     pub full : length node.children ≡ most_children (node_kind pointer)
     pub replaced : IsReplaced old new pointer (grown_kind (node_kind pointer)) now at

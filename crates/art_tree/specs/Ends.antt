@@ -1,4 +1,4 @@
--- What lies towards an end of a tree. No public clause cites it.
+-- The texts towards an end of a tree. No public clause cites it.
 use Rattle.std.specs.Prelude.{◌≢◌, ℕ, List}
 use Rattle.std.specs.declared.cmp.Ordering.TheVariants.{Less, Greater}
 use Rattle.art_bytes.specs.Text.{text_order}

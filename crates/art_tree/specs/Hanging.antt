@@ -1,4 +1,5 @@
--- Where a new leaf goes among the leaves, and where a node hangs. No public clause cites it.
+-- Insertion: the place of a new leaf among the leaves, and of a node under its parent. No public
+-- clause cites it.
 use Rattle.std.specs.Prelude.{◌≡◌, ◌≢◌, ℕ, List, Option, Some, None}
 use Rattle.std.specs.declared.ops.Bound.TheVariants.{Excluded, Unbounded}
 use Rattle.art_nodes.specs.ChildMap.{child_at, pairs_within}
@@ -11,7 +12,7 @@ use Rattle.art_tree.specs.Edits.{IsBeside}
 use Rattle.art_tree.specs.Contexts.{join}
 use Rattle.art_arena.specs.declared.ends.End.{End}
 
--- the leaf stands beside a gap between these leaves
+-- the leaf is beside a gap between these leaves
 abbrev pub StandsBeside : {H : Type 0} → End → List (H × List ℕ) → List (H × List ℕ) → H → Type 0
 StandsBeside end left right pointer = (text : List ℕ) × IsBeside end left right (pointer, text)
 

@@ -1,4 +1,4 @@
--- What an insert answers and leaves.
+-- Insertion: its refusals and its results.
 use Rattle.std.specs.Prelude.{◌≡◌, ℕ, ◌<◌, ◌≤◌, ◌^◌, List, length, Some, None}
 use Rattle.art_arena.specs.Arena.{ArenaOf}
 use Rattle.art_tree.specs.Dictionary.{entry_at, HasEntry, SameOtherEntries, OneIsProperPrefix}
@@ -6,15 +6,16 @@ use Rattle.art_tree.specs.declared.insert.InsertRefusal.{InsertRefusal}
 use Rattle.art_tree.specs.declared.insert.InsertRefusal.TheVariants.{KeyTooLong, Prefix, OutOfMemory}
 
 module _ {K V : Type 0} {P : ℕ} (text : K → List ℕ) where
-  -- a text that has an entry is a proper front of this one, or this one of it
+  -- a text that has an entry is a proper prefix of this one, or this one of it
   abbrev pub ClashesIn : ArenaOf K V P → List ℕ → Type 0
   ClashesIn arena x = (other : List ℕ) × HasEntry text arena other × OneIsProperPrefix other x
 
-  -- nothing but want of memory refuses an entry with this text
+  -- nothing but an allocation failure refuses an entry with this text
   abbrev pub MayEnter : ArenaOf K V P → List ℕ → Type 0
   MayEnter arena x = (length x < 2 ^ 32) × (¬ ClashesIn arena x)
 
-  -- the first refusal that is due to an entry with this text; memory is wanted only for a text without an entry
+  -- the first refusal that is due to an entry with this text; memory is needed only for a text
+  -- without an entry
   abbrev pub IsRefused : ArenaOf K V P → List ℕ → InsertRefusal → Type 0
   IsRefused arena x KeyTooLong = 2 ^ 32 ≤ length x
   IsRefused arena x Prefix = (length x < 2 ^ 32) × ClashesIn arena x

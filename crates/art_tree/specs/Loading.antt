@@ -1,4 +1,4 @@
--- What a load leaves.
+-- Loading: the tree and the arena after a load.
 use Rattle.std.specs.Prelude.{◌≡◌, ◌≢◌, ℕ, List, [], ◌∷◌, length, map}
 use Rattle.std.specs.List.{Contains}
 use Rattle.art_header.specs.NodeType.{kind_for}
@@ -51,7 +51,8 @@ module _ {K V : Type 0} {P : ℕ} where
   abbrev pub leaf_pointers : Tree (OpaqueNodePtr K V P) → List (OpaqueNodePtr K V P)
   leaf_pointers tree = map (λ leaf. leaf.0) (leaves tree)
 
-  -- a well-formed, snug tree stands in the arena, its leaves hold the entries and are linked in their order, and its nodes are all that is new
+  -- a well-formed tree with the smallest kinds stands in the arena, its leaves hold the entries and
+  -- are linked in their order, and its nodes are all that is new
   pub record IsLoaded (text : K → List ℕ) (old new : ArenaOf K V P) (entries : List (K × V)) (root : OpaqueNodePtr K V P) (tree : Tree (OpaqueNodePtr K V P)) : Type 0 where
     pub is_tree : IsTreeIn text new root tree
     pub smallest_kinds : HasSmallestKinds tree

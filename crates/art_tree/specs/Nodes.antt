@@ -1,4 +1,4 @@
--- What becomes of one inner node of an arena, in a load, an insert or a removal. No public clause cites it.
+-- Loading, insertion and removal: changes of one inner node of an arena. No public clause cites it.
 use Rattle.std.specs.Prelude.{◌≡◌, ◌≢◌, ℕ, ◌≤◌, ◌+◌, List, length, take}
 use Rattle.art_header.specs.Header.{capped}
 use Rattle.art_header.specs.declared.node_type.NodeType.{NodeType}
@@ -17,7 +17,7 @@ abbrev pub node_with_prefix : {H : Type 0} → ℕ → Inner H → List ℕ → 
 node_with_prefix most node prefix = node_of most prefix node.children
 
 module _ {K V : Type 0} {P : ℕ} where
-  -- a new node of this kind stands at a place that was free
+  -- a new node of this kind is at a place that was free
   pub record IsPlaced (old new : ArenaOf K V P) (kind : NodeType) (node : Inner (OpaqueNodePtr K V P)) (at : OpaqueNodePtr K V P) : Type 0 where
     pub is_kind : node_kind at ≡ kind
     pub was_free : held old at ≡ Nothing
@@ -25,7 +25,7 @@ module _ {K V : Type 0} {P : ℕ} where
     pub room : room old kind ≤ room new kind + 1
     pub other_room : SameOtherRoom old new kind
 
-  -- the node at a pointer is given up for this one, which stands at a new place as one of this kind
+  -- the node at a pointer is replaced by this one, which is at a new place as one of this kind
   pub record IsReplaced (old new : ArenaOf K V P) (pointer : OpaqueNodePtr K V P) (new_kind : NodeType) (now : Inner (OpaqueNodePtr K V P)) (at : OpaqueNodePtr K V P) : Type 0 where
     pub kind : node_kind at ≡ new_kind
     pub was_free : held old at ≡ Nothing
@@ -33,7 +33,7 @@ module _ {K V : Type 0} {P : ℕ} where
     pub is_free : held new pointer ≡ Nothing
     pub others : (other : OpaqueNodePtr K V P) → other ≢ at → other ≢ pointer → held new other ≡ held old other
 
-  -- of this kind there is room for one node more at most, and of the others as before
+  -- this kind has spare capacity for one node more at most, and the others as before
   pub record FreesOne (old new : ArenaOf K V P) (kind : NodeType) : Type 0 where
     pub one_more : room new kind ≤ room old kind + 1
     pub others : SameOtherRoom old new kind

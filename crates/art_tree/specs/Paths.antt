@@ -1,4 +1,4 @@
--- The steps of a way through a tree, and the path that is kept of them.
+-- Paths: the steps of a way through a tree, and the last two of them.
 use Rattle.std.specs.Prelude.{◌≡◌, ℕ, List, [], ◌∷◌}
 use Rattle.art_nodes.specs.declared.pointers.OpaqueNodePtr.{OpaqueNodePtr}
 use Rattle.art_tree.specs.declared.path.TreePath.{TreePath}
@@ -19,16 +19,16 @@ module _ {K V : Type 0} {P : ℕ} where
   path_of ((grandparent, parent_byte) ∷ (parent, byte) ∷ []) = Normal grandparent parent_byte parent byte
   path_of (_ ∷ parent ∷ child ∷ steps) = path_of (parent ∷ child ∷ steps)
 
-  -- what a search would answer that remembers so many of its nodes
+  -- the path that a search would return, by how many nodes it remembers
   abbrev pub finished_with : Visited → TreePathSearch K V P → TreePath K V P
   finished_with NoNode search = Root
   finished_with OneNode search = ChildOfRoot search.parent search.child_key_byte
   finished_with TwoNodes search = Normal search.grandparent search.parent_key_byte search.parent search.child_key_byte
 
-  -- what a search would answer, were it to finish
+  -- the path that a search would return if it finished
   abbrev pub finished : TreePathSearch K V P → TreePath K V P
   finished search = finished_with search.visited search
 
-  -- a search stands for the steps whose path it would answer
+  -- a search has visited these steps if it would return their path
   abbrev pub HasVisited : TreePathSearch K V P → Steps K V P → Type 0
   HasVisited search steps = finished search ≡ path_of steps

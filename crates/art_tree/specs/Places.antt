@@ -1,4 +1,4 @@
--- Where a text belongs in a tree. No public clause cites it.
+-- Insertion: the place of a text in a tree. No public clause cites it.
 use Rattle.std.specs.Prelude.{◌≡◌, ◌≢◌, ℕ, ◌≤◌, List, [], ◌∷◌, ◌++◌, length, take, Contains, Option, Some, None, slice_get}
 use Rattle.art_bytes.specs.Text.{IsPrefixOf}
 use Rattle.art_nodes.specs.ChildMap.{child_at}
@@ -20,13 +20,13 @@ module _ {H : Type 0} where
   above Whole = None
   above (Under rest pointer prefix before byte after) = Some (pointer, byte)
 
-  -- the bytes that the top of a tree tells of its texts, where this is the path to it
+  -- the first bytes of the texts of a tree, by its topmost node, where this is the path to it
   abbrev pub reach : List ℕ → Tree H → List ℕ
   reach path (Leaf pointer text) = text
   reach path (Inner pointer prefix branches) = path ++ prefix
 
 module _ {K V : Type 0} {P : ℕ} (tree : Tree (OpaqueNodePtr K V P)) (key : List ℕ) (spot : Spot K V P) where
-  -- the key leads to this node of the tree, which hangs under this parent
+  -- the key leads to this node of the tree, which has this parent
   pub record IsSpot : Type 0 where
     pub context : Context (OpaqueNodePtr K V P)
     pub part : Tree (OpaqueNodePtr K V P)
@@ -45,7 +45,7 @@ module _ {K V : Type 0} {P : ℕ} (tree : Tree (OpaqueNodePtr K V P)) (key : Lis
     pub leads : IsPrefixOf ((path_to at.context ++ prefix) ++ byte ∷ []) key
     pub absent : child_at (branch_roots branches) byte ≡ None
 
-  -- at this index the key has another byte than all texts at the node, which it is like before
+  -- at this index the key has another byte than all texts at the node, and the same bytes before
   pub record Parts (fork : Fork) : Type 0 where
     pub at : IsSpot
     pub later : spot.depth ≤ fork.index

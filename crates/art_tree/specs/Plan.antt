@@ -1,4 +1,5 @@
--- The plan of a tree: its steps, each node's after those of its children. No public clause cites it.
+-- Loading: the plan of a tree, as steps for each node after those of its children. No public clause
+-- cites it.
 use Rattle.std.specs.Prelude.{◌≡◌, ℕ, ◌+◌, ◌-◌, ◌<◌, ◌^◌, ◌==◌, List, [], ◌∷◌, ◌++◌, length, take, slice_index, ◌&&◌, nat_le, if◌then◌else◌}
 use Rattle.art_header.specs.NodeType.{least_children, most_children}
 use Rattle.art_header.specs.declared.node_type.NodeType.{NodeType}

@@ -1,4 +1,4 @@
--- Trees on their way from a plan into an arena. No public clause cites it.
+-- Loading: the trees of a plan in an arena. No public clause cites it.
 use Rattle.std.specs.Prelude.{◌≡◌, ◌≢◌, ℕ, ◌<◌, List, map, length, slice_index_or}
 use Rattle.art_nodes.specs.Pointers.{slab_key}
 use Rattle.art_nodes.specs.declared.pointers.NodePtr.{NodePtr}
@@ -25,7 +25,8 @@ module _ {K V : Type 0} {P : ℕ} where
   abbrev pub leaf_texts : (K → List ℕ) → ArenaOf K V P → List (NodePtr P (LeafNode K V P)) → List (List ℕ)
   leaf_texts text arena leaves = map (λ leaf. text_at text arena (slab_key leaf)) leaves
 
-  -- a well-formed, snug tree of these leaves stands, and its inner nodes are all that is new
+  -- a well-formed tree of these leaves with the smallest kinds stands, and its inner nodes are all
+  -- that is new
   pub record IsRaised (text : K → List ℕ) (old new : ArenaOf K V P) (of : List (NodePtr P (LeafNode K V P))) (root : OpaqueNodePtr K V P) (tree : Tree (OpaqueNodePtr K V P)) : Type 0 where
     pub at_root : root_of tree ≡ root
     pub stands : StandsIn text new tree

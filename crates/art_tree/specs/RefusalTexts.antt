@@ -1,4 +1,4 @@
--- How refusals are told.
+-- The printed texts of refusals.
 use Rattle.std.specs.Prelude.{ℕ, List, ◌++◌, codes}
 use Rattle.std.specs.Fmt.{decimal}
 use Rattle.art_tree.specs.declared.insert.InsertRefusal.{InsertRefusal}

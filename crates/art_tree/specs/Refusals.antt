@@ -1,4 +1,4 @@
--- What refuses a list of entries by the texts of their keys.
+-- Loading: the refusals of a list of entries, by the texts of their keys.
 use Rattle.std.specs.Prelude.{◌≡◌, ℕ, ◌+◌, ◌<◌, ◌^◌, List, [], length, map, nat_eq, nat_le, slice_index_or, Option, Some, None, if◌then◌else◌}
 use Rattle.std.specs.List.{starts_with}
 use Rattle.std.specs.Ordering.{is_lt}
@@ -21,7 +21,8 @@ fault_between i text next =
     then (if starts_with nat_eq next text then Some (Prefix i) else None)
     else Some (NotAscending i)
 
--- the fault of the entry at an index: it is too long, not below the next one, or a proper front of it, the first of these
+-- the fault of the entry at an index: it is too long, not below the next one, or a proper prefix of
+-- it, the first of these
 abbrev pub fault_at : List (List ℕ) → ℕ → Option LoadRefusal
 fault_at texts i =
     if nat_le (2 ^ 32) (length (text_of_entry texts i)) then Some (KeyTooLong i) else
@@ -39,7 +40,7 @@ IsRefusal texts refusal =
 abbrev pub HaveNoFault : List (List ℕ) → Type 0
 HaveNoFault texts = (0 < length texts) × ((i : ℕ) → i < length texts → fault_at texts i ≡ None)
 
--- the refusal is the first fault, or else want of memory
+-- the refusal is the first fault, or else an allocation failure
 abbrev pub IsDue : List (List ℕ) → LoadRefusal → Type 0
 IsDue texts OutOfMemory = HaveNoFault texts
 IsDue texts refusal = IsRefusal texts refusal

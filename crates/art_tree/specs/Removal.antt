@@ -1,4 +1,4 @@
--- What a removal answers and leaves.
+-- Removal: its refusals and its results.
 use Rattle.std.specs.Prelude.{◌≡◌, ◌⊎◌, ℕ, ◌≤◌, ◌+◌, List, Contains, Some, None, length}
 use Rattle.art_header.specs.declared.node_type.NodeType.{NodeType}
 use Rattle.art_nodes.specs.Inner.{Inner}
@@ -10,7 +10,8 @@ use Rattle.art_tree.specs.Art.{IsArt}
 use Rattle.art_tree.specs.Dictionary.{entry_at, SameOtherEntries}
 
 module _ {K V : Type 0} {P : ℕ} (text : K → List ℕ) where
-  -- a leaf has this text, and the inner node that it hangs in has 5, 17 or 49 children: without it the node is of a smaller kind
+  -- a leaf has this text, and its parent has 5, 17 or 49 children: without the leaf the parent is
+  -- of a smaller kind
   pub record NeedsSmallerNode (arena : ArenaOf K V P) (x : List ℕ) : Type 0 where
     pub pointer : OpaqueNodePtr K V P
     pub leaf : LeafNode K V P

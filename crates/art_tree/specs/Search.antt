@@ -1,4 +1,4 @@
--- What a search answers: a scan of all leaves, the way to a leaf, and the nodes that a key meets.
+-- Search: the scan of all leaves, the way to a leaf, and the nodes that a key meets.
 use Rattle.std.specs.Prelude.{◌≡◌, ◌⊎◌, ℕ, ◌+◌, Bool, ◌&&◌, ◌||◌, nat_eq, nat_lt, if◌then◌else◌, List, [], ◌∷◌, ◌++◌, length, filter, drop, Option, Some, None}
 use Rattle.std.specs.List.{starts_with}
 use Rattle.std.specs.Cmp.Lexicographic.{pointwise}
@@ -60,7 +60,7 @@ module _ {K V : Type 0} {P : ℕ} where
   abbrev pub leaf_pointer : NodePtr P (LeafNode K V P) → OpaqueNodePtr K V P
   leaf_pointer leaf = opaque_pointer kinds.Leaf (slab_key leaf)
 
-  -- the leaf of an answer, or none
+  -- the leaf of a result, or none
   abbrev pub found : Option (NodePtr P (LeafNode K V P) × TreePath K V P) → List ℕ → List (OpaqueNodePtr K V P × List ℕ)
   found None key = []
   found (Some (leaf, path)) key = (leaf_pointer leaf, key) ∷ []

@@ -1,4 +1,4 @@
-//! Search: the leaf with a key, by one look at each node on the way to it.
+//! Search: the leaf with a key, by one visit of each node on the way to it.
 ghost use Rattle.std.specs.Prelude.{◌≡◌, ◌≢◌, ◌<◌, ◌≤◌, ◌+◌, length, IfSome, IfNone};
 ghost use Rattle.art_arena.specs.Arena.{held, Nothing};
 ghost use Rattle.art_arena.specs.Reader.{shown};
@@ -12,7 +12,8 @@ use art_arena::{AnyRef, ArenaReader, NodeRef};
 use art_bytes::AsBytes;
 use art_nodes::{InnerNodeCommon, LeafNode, NodePtr, OpaqueNodePtr};
 
-// The index in the key of the byte that leads on from the node, and the child under that byte.
+// The index in the key of the byte that leads from the node to its child, and the child under that
+// byte.
 fn next_child_in<K, V, const PREFIX_LEN: usize, N: InnerNodeCommon<K, V, PREFIX_LEN>>(
     node: &N,
     key: &[u8],
@@ -50,17 +51,30 @@ fn next_child<K, V, const PREFIX_LEN: usize>(
     }
 }
 
-/// The leaf with this key in the tree at `root`, with its path, or None where no leaf has the key:
-/// what a scan of all leaves finds.
+/// The leaf with this key in the tree at `root`, with its path, or None where no leaf has the key.
+/// It is the leaf that a scan of all leaves finds.
 ///
-/// The search goes down from node to node, one look at each. At an inner node it compares the key with
-/// the prefix where the node stores all of it, and else passes over as many bytes; so at the leaf it
-/// compares the whole key.
+/// A well-formed tree must stand at `root` in the reader's arena, for example the one that [`load`]
+/// returns, and the budget must be at least the length of the key plus one.
 ///
-/// A well-formed tree has to stand at `root` in the reader's arena, as the one that a load answers,
-/// and the budget has to be at least the key's length and one. Each node costs one look, and no
-/// memory is taken.
-// Inlined, so that a caller that wants no path does not pay for one.
+/// The search visits each node on the way once: at most one more than the key has bytes. At an
+/// inner node it compares the key with the prefix where the node stores all of it, and else skips
+/// as many bytes; at the leaf it compares the whole key. Takes no memory.
+///
+/// [`load`]: crate::load
+///
+/// (from crates/art_tree_tests/src/tree/tree_examples.rt)
+/// ```rust
+/// let entries = vec![in alloc; (StrKey::new("abc1"), 10), (StrKey::new("abc2"), 20)]?;
+/// let root = load(alloc, arena, entries).map_err(|fault| fault.refusal)?;
+/// let mut reader = ArenaReader::with_budget(arena, 5);
+/// let Some((leaf, path)) = find_leaf(&mut reader, root, b"abc2") else {
+///     panic!(rt; "not found");
+/// };
+/// assert!(rt; reader.remaining() == 3);
+/// assert!(rt; *arena.as_value_ref(leaf) == 20);
+/// ```
+// Inlined, so that a caller that ignores the path does not pay for it.
 #[inline(always)]
 pub fn find_leaf<K: AsBytes, V, const PREFIX_LEN: usize>(
     reader: &mut ArenaReader<'_, K, V, PREFIX_LEN>,

@@ -1,4 +1,4 @@
-//! An entry more in a tree, or another one in the place of one.
+//! Insertion: a new entry in a tree, or a new entry with the key bytes of an old one.
 ghost use Rattle.std.specs.Prelude.{◌≡◌, ◌≢◌, ◌<◌, ◌^◌, nat_lt, if◌then◌else◌, length, Contains, Some, None, Ok, Err, IfOk, IfErr, OnOk, OnErr};
 ghost use Rattle.std.specs.Option.{option_map};
 ghost use Rattle.std.specs.declared.ops.Bound.TheVariants.{Excluded, Unbounded};
@@ -20,12 +20,12 @@ ghost use Rattle.art_tree.specs.Search.{leaf_pointer};
 ghost use Rattle.art_arena.specs.declared.ends.End.TheVariants.{First, Last};
 ghost use Rattle.art_tree.specs.declared.insert.InsertRefusal.TheVariants.{OutOfMemory};
 
-mod link;
 mod added_child;
+mod link;
 mod place;
 
-use crate::insert::link::link_leaf;
 use crate::insert::added_child::{add_child, fork_node, reserve_growth, trim};
+use crate::insert::link::link_leaf;
 use crate::insert::place::{Fork, Place, Spot, find_place};
 use crate::laws::{
     each_pointer_is_at_one_place, lists_are_spelled_where_links_are_kept, no_text_begins_another,
@@ -40,14 +40,16 @@ use std::error::Error;
 use std::fmt;
 use std::ops::Bound;
 
-/// Why [`ArtTree::insert`](crate::ArtTree::insert) refuses an entry.
+/// Why [`ArtTree::insert`](crate::ArtTree::insert) refuses an entry. See [`InsertFault`] for an
+/// example.
 #[derive(Clone, Copy, Debug, PartialEq, Eq)]
 pub enum InsertRefusal {
     /// The key has 2^32 bytes or more.
     KeyTooLong,
-    /// The key is a proper front of one that is there, or one that is there of the key.
+    /// The key is a proper prefix of a key in the tree, or a key in the tree is a proper prefix of
+    /// it.
     Prefix,
-    /// Memory was refused. Nothing is wrong with the key, and no entry has its text.
+    /// An allocation failed. The key is not at fault, and no entry has its bytes.
     OutOfMemory,
 }
 
@@ -68,10 +70,21 @@ impl fmt::Display for InsertRefusal {
 
 impl Error for InsertRefusal {}
 
-/// An entry that was refused, and why.
+/// A refused entry, and why it was refused.
+///
+/// An insert of a key that is a proper prefix of another one returns key and value:
+///
+/// (from crates/art_tree_tests/src/tree/changes.rt)
+/// ```rust
+/// let Err(fault) = tree.insert(String::from_str(alloc, text)?, 9) else {
+///     panic!(rt; "inserted");
+/// };
+/// assert!(rt; fault.refusal == InsertRefusal::Prefix);
+/// assert!(rt; fault.key.as_bytes() == text.as_bytes() && fault.value == 9);
+/// ```
 #[derive(Drop)]
 pub struct InsertFault<K, V> {
-    /// What refused it.
+    /// Why the entry was refused.
     pub refusal: InsertRefusal,
     /// The key.
     pub key: K,
@@ -79,8 +92,8 @@ pub struct InsertFault<K, V> {
     pub value: V,
 }
 
-// Makes a tree of one leaf in an arena that holds nothing, and answers the root. Where memory is
-// refused, the entry comes back.
+// Makes a tree of one leaf in an arena that holds nothing, and returns the root. On allocation
+// failure it returns the entry.
 fn insert_first<K: AsBytes, V, const PREFIX_LEN: usize>(
     arena: &mut NodeArena<K, V, PREFIX_LEN>,
     key: K,
@@ -101,7 +114,7 @@ fn insert_first<K: AsBytes, V, const PREFIX_LEN: usize>(
     }
 }
 
-// Puts the entry in the place of the one that a leaf of the same text holds, and answers that one.
+// Replaces the entry of a leaf by this one, which has the same key bytes, and returns the old one.
 fn replace_entry<K: AsBytes, V, const PREFIX_LEN: usize>(
     arena: &mut NodeArena<K, V, PREFIX_LEN>,
     leaf: NodePtr<PREFIX_LEN, LeafNode<K, V, PREFIX_LEN>>,
@@ -173,7 +186,8 @@ fn leaf_beside<K: AsBytes, V, const PREFIX_LEN: usize>(
     }
 }
 
-// Makes room for a new leaf, and for the node that the one at the pointer grows to where it is full.
+// Makes spare capacity for a new leaf and, where the node at the pointer is full, for the node that
+// it grows to.
 fn reserve_for_child<K, V, const PREFIX_LEN: usize>(
     arena: &mut NodeArena<K, V, PREFIX_LEN>,
     pointer: OpaqueNodePtr<K, V, PREFIX_LEN>,
@@ -189,7 +203,7 @@ fn reserve_for_child<K, V, const PREFIX_LEN: usize>(
     reserve_growth(arena, pointer)
 }
 
-// Makes room for a new leaf and for the node that it hangs in.
+// Makes spare capacity for a new leaf and for its new parent.
 fn reserve_for_fork<K, V, const PREFIX_LEN: usize>(
     arena: &mut NodeArena<K, V, PREFIX_LEN>,
 ) -> Result<(), AllocError>
@@ -202,8 +216,8 @@ fn reserve_for_fork<K, V, const PREFIX_LEN: usize>(
     arena.reserve(NodeType::Node4, 1)
 }
 
-// Hangs a new leaf under a byte of an inner node that has no child there. Answers the root. Where
-// memory is refused, the entry comes back.
+// Adds a new leaf under a byte of an inner node that has no child there. Returns the root. On
+// allocation failure it returns the entry.
 fn insert_child<K: AsBytes, V, const PREFIX_LEN: usize>(
     arena: &mut NodeArena<K, V, PREFIX_LEN>,
     root: OpaqueNodePtr<K, V, PREFIX_LEN>,
@@ -233,7 +247,7 @@ fn insert_child<K: AsBytes, V, const PREFIX_LEN: usize>(
     Ok(hang(arena, root, spot.parent, node))
 }
 
-// The end of the leaves below a node that is beside a key which parts from them.
+// The end of the leaves below a node that is next to a key which differs from all of them.
 fn near_end(fork: Fork) -> End
     ensures end { result ≡ (if nat_lt fork.byte fork.node_byte then First else Last) }
     ensures bytes { (fork.byte < 256) × (fork.node_byte < 256) }
@@ -245,8 +259,8 @@ fn near_end(fork: Fork) -> End
     }
 }
 
-// Hangs a new leaf and the node that its key parts from under a new node. Answers the root. Where
-// memory is refused, the entry comes back.
+// Makes a new inner node over a new leaf and the node where the key differs. Returns the root. On
+// allocation failure it returns the entry.
 fn insert_fork<K: AsBytes, V, const PREFIX_LEN: usize>(
     arena: &mut NodeArena<K, V, PREFIX_LEN>,
     root: OpaqueNodePtr<K, V, PREFIX_LEN>,
@@ -284,7 +298,7 @@ fn insert_fork<K: AsBytes, V, const PREFIX_LEN: usize>(
     Ok(hang(arena, root, spot.parent, node))
 }
 
-// What the insert of a new text answers: the root, and that no entry was replaced.
+// The result of an insert of new key bytes: the root, and no replaced entry.
 fn newly_added<K, V, const PREFIX_LEN: usize>(
     added: Result<OpaqueNodePtr<K, V, PREFIX_LEN>, (K, V)>,
 ) -> Result<(OpaqueNodePtr<K, V, PREFIX_LEN>, Option<(K, V)>), InsertFault<K, V>>
@@ -302,8 +316,8 @@ fn newly_added<K, V, const PREFIX_LEN: usize>(
     }
 }
 
-/// Adds an entry to the tree that an arena holds, or replaces the one with its text, and answers the
-/// root and the entry that was there. What is refused comes back.
+/// Adds an entry to the tree that an arena holds, or replaces the one with the same key bytes, and
+/// returns the root and the entry that was there. A refused entry is returned.
 pub(crate) fn insert_entry<K: AsBytes, V, const PREFIX_LEN: usize>(
     arena: &mut NodeArena<K, V, PREFIX_LEN>,
     root: Option<OpaqueNodePtr<K, V, PREFIX_LEN>>,

@@ -1,5 +1,5 @@
-//! What holds of every tree: the laws of `art_arena`, and those of a tree that changes. The functions
-//! do no work: the contract of each is a law.
+//! Laws of every tree: those of `art_arena`, and those of a tree that changes. The functions do no
+//! work: the contract of each is a law.
 //!
 //! A context is a tree with one subtree left out. With a subtree in that place it is a tree.
 ghost use Rattle.std.specs.Prelude.{◌≡◌, ◌↔◌, ℕ, ◌++◌, List, All, Contains, Some, None, map};
@@ -27,8 +27,9 @@ pub use art_arena::laws::{
 use art_bytes::{AsBytes, NoPrefixesBytes};
 use art_nodes::OpaqueNodePtr;
 
-/// Two trees that are sound under one path and have the same texts are the same but for their
-/// pointers. So texts have one tree, whichever calls made it, and `load` makes that one.
+/// Two trees that are sound under one path and have the same keys are the same but for their
+/// pointers. So there is one tree for given keys, whichever calls made it, and `load` makes that
+/// one.
 pub fn the_same_texts_make_the_same_tree<H, L>()
     ensures { (path : List ℕ) (tree : Tree H) (other : Tree L) → IsSound path tree →
         IsSound path other → texts tree ≡ texts other → SameButPointers tree other }
@@ -37,9 +38,9 @@ pub fn the_same_texts_make_the_same_tree<H, L>()
     path_and_prefix_are_shared::<L>();
 }
 
-/// Two trees that are the same but for their pointers, each snug where it stands, are of the same kinds
-/// node for node. So a tree that inserts and removes made is, pointers aside, the tree that `load` makes
-/// of its entries.
+/// Two trees that are the same but for their pointers, each with the smallest kinds in its arena,
+/// are of the same kinds node for node. So a tree made by inserts and removals is, but for its
+/// pointers, the tree that `load` makes of its entries.
 pub fn the_same_tree_has_the_same_kinds<K: AsBytes, V, const PREFIX_LEN: usize>()
     ensures { (arena other_arena : ArenaOf K V PREFIX_LEN) (tree other : _) →
         StandsIn K.text arena tree → StandsIn K.text other_arena other →
@@ -47,11 +48,11 @@ pub fn the_same_tree_has_the_same_kinds<K: AsBytes, V, const PREFIX_LEN: usize>(
         map node_kind (places tree) ≡ map node_kind (places other) }
 {}
 
-/// A subtree of a tree stands where the tree does, and is sound under the path to it. It may be exchanged
-/// for one that is sound under the same path. The whole is then sound under the path that it was sound
-/// under, its leaves are those of before with the part exchanged, and it is snug where both were. It
-/// stands where the new part stands, the part's parent has it under the old one's byte, and all else of
-/// the tree is as before, but for the links of leaves.
+/// A subtree of a tree stands where the tree does, and is sound under the path to it. It may be
+/// exchanged for one that is sound under the same path. Then the whole is sound under the same path
+/// as before, its leaves are those of before with the subtree's exchanged, and it has the smallest
+/// kinds where both had them. It stands where the new subtree stands, the parent has it under the
+/// byte of the old one, and all else of the tree is unchanged, but for the links of leaves.
 pub fn a_subtree_may_be_exchanged<K: AsBytes, V, const PREFIX_LEN: usize>()
     ensures part { (path : List ℕ) (context : Context (Pointer K V PREFIX_LEN)) (part : _) →
         IsSound path (plug context part) → IsSound (path ++ path_to context) part }
@@ -71,8 +72,8 @@ pub fn a_subtree_may_be_exchanged<K: AsBytes, V, const PREFIX_LEN: usize>()
     each_pointer_is_at_one_place::<K, V, PREFIX_LEN>();
 }
 
-/// Keys of a type of which none is a proper front of another never clash, so one tree holds them all:
-/// no insert refuses one of them as a `Prefix`.
+/// Keys of a type of which none is a proper prefix of another never clash, so one tree holds them
+/// all: no insert refuses one of them with `Prefix`.
 pub fn keys_without_prefixes_never_clash<K: NoPrefixesBytes, V, const PREFIX_LEN: usize>()
     ensures keys { (keys : List K) (key : K) → All K.is_key keys → K.is_key key →
         ¬ Clashes (map K.text keys) (K.text key) }
@@ -80,9 +81,10 @@ pub fn keys_without_prefixes_never_clash<K: NoPrefixesBytes, V, const PREFIX_LEN
         HasKeys K.text K.is_key arena → K.is_key key → ¬ ClashesIn K.text arena (K.text key) }
 {}
 
-/// The dictionary of an arena that holds one tree and nothing else is what the tree's leaves hold: a
-/// text has an entry where it is one of the tree's, and each leaf is held and has the entry of its text.
-/// An arena has an entry exactly where it has a root. The key of an entry has the entry's text.
+/// The dictionary of an arena that holds one tree and nothing else is what the tree's leaves hold.
+/// Key bytes have an entry where they are those of a leaf of the tree, and each leaf is held and
+/// has the entry of its key bytes. An arena has an entry exactly where it has a root. The key of an
+/// entry has the entry's bytes.
 pub fn entries_are_what_leaves_hold<K: AsBytes, V, const PREFIX_LEN: usize>()
     ensures none { (arena : ArenaOf K V PREFIX_LEN) → IsArt K.text arena None →
         IsEmpty K.text arena }
@@ -105,8 +107,9 @@ pub fn entries_are_what_leaves_hold<K: AsBytes, V, const PREFIX_LEN: usize>()
     no_text_begins_another::<OpaqueNodePtr<K, V, PREFIX_LEN>>();
 }
 
-/// Two trees with their arenas that have the same texts as entries are the same but for their pointers,
-/// kinds included, whichever calls made them: so each is the tree that `load` makes of its entries.
+/// Two trees with their arenas that have entries for the same key bytes are the same but for their
+/// pointers, kinds included, whichever calls made them. So each is the tree that `load` makes of
+/// its entries.
 pub fn the_same_entries_make_the_same_tree<K: AsBytes, V, const PREFIX_LEN: usize>()
     ensures { (arena other_arena : ArenaOf K V PREFIX_LEN) (root other_root : _) (tree other : _) →
         IsAlone K.text arena root tree → IsAlone K.text other_arena other_root other →

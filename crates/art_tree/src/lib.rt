@@ -1,7 +1,8 @@
-//! Trees over an arena of nodes: paths, load, search, and [`ArtTree`], a tree with its arena under
-//! inserts and removals.
+//! Adaptive radix trees over an arena of nodes: load, search, and [`ArtTree`], a tree with its
+//! arena as one value, with inserts and removals.
 //!
-//! The crate has every public name of the crates below it, so that whoever uses trees names it alone.
+//! The crate re-exports every public name of the crates below it, so a crate that uses trees lists
+//! this one alone.
 #![tactic(auto)]
 
 mod find;

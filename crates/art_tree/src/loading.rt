@@ -1,4 +1,4 @@
-//! From ascending entries to a tree.
+//! Loading: a tree from ascending entries.
 ghost use Rattle.std.specs.Prelude.{◌≡◌, ◌≢◌, ◌<◌, ◌≤◌, [], length, All, vec_len, vec_capacity, IfOk, IfErr, OnOk, OnErr};
 ghost use Rattle.art_header.specs.declared.node_type.NodeType.TheVariants as NodeType;
 ghost use Rattle.art_nodes.specs.declared.pointers.OpaqueNodePtr.{OpaqueNodePtr as Pointer};
@@ -24,7 +24,20 @@ use art_nodes::{LeafNode, NodePtr, NodeType, OpaqueNodePtr};
 pub use check::LoadRefusal;
 use std::alloc::{AllocError, Global};
 
-/// A refused load: why, and the entries as they were.
+/// A refused load: why, and the entries, unchanged. They can be loaded again:
+///
+/// (from crates/art_tree_tests/src/tree/refusals.rt)
+/// ```rust
+/// let fault = match ArtTree::load(alloc, entries) {
+///     Ok(tree) => return Ok(tree),
+///     Err(fault) => fault,
+/// };
+/// assert!(rt; fault.refusal == LoadRefusal::OutOfMemory);
+/// // ..
+/// let Ok(tree) = ArtTree::load(alloc, fault.entries) else {
+///     panic!(rt; "refused twice");
+/// };
+/// ```
 #[derive(Drop)]
 pub struct LoadFault<K, V> {
     /// Why the entries were not loaded.
@@ -40,17 +53,22 @@ struct Prepared<K, V, const PREFIX_LEN: usize> {
     pending: Vec<(u8, OpaqueNodePtr<K, V, PREFIX_LEN>)>,
 }
 
-/// Makes a tree of entries whose keys ascend and none of which is a front of another, and answers
-/// its root. The arena has the tree's nodes besides what it held: a leaf for each entry, linked in
-/// their order, and above them inner nodes, each of the smallest kind that holds its children.
+/// Makes a tree of entries whose keys ascend and of which none is a prefix of another, and returns
+/// its root. The arena then holds the tree's nodes besides what it held: a leaf for each entry,
+/// linked in their order, and above them inner nodes, each of the smallest kind that holds its
+/// children.
 ///
-/// No entries at all, and a key of 2^32 bytes or more, are refused too. Refused entries come back as
-/// they were, with every node as it was. The lowest entry at fault decides, and at one entry the
-/// fault that [`LoadRefusal`] lists first; then no memory is taken for the arena. Want of memory is
-/// answered only where the entries have no fault, and before any of them is moved.
+/// An empty list of entries is refused ([`LoadRefusal::Empty`]), and so is a key of 2^32 bytes or
+/// more, a key that is not below the next one, and one that is a proper prefix of the next one. The
+/// first entry at fault decides, and where one entry has several faults, the one that
+/// [`LoadRefusal`] lists first. For such a fault no memory is taken for the arena.
+/// [`LoadRefusal::OutOfMemory`] is returned only where the entries have no fault, before any of
+/// them is moved. After each refusal every node of the arena is unchanged, and the entries are
+/// returned.
 ///
-/// Takes time linear in the bytes of all keys together. The allocator is for working memory, which is
-/// given back before the answer; the nodes take memory of the arena's own.
+/// Takes time linear in the key bytes of all entries together. The allocator is for working memory,
+/// which is freed before the call returns; the nodes take memory of the arena's own allocator. See
+/// [`find_leaf`](crate::find_leaf) and [`LoadFault`] for examples.
 pub fn load<K: AsBytes, V, const PREFIX_LEN: usize>(
     alloc: Global,
     arena: &mut NodeArena<K, V, PREFIX_LEN>,
@@ -80,7 +98,7 @@ pub fn load<K: AsBytes, V, const PREFIX_LEN: usize>(
     }
 }
 
-// Plans the tree, and takes all memory and all room that it needs.
+// Plans the tree, and reserves all memory that the load needs.
 fn prepare<K: AsBytes, V, const PREFIX_LEN: usize>(
     alloc: Global,
     arena: &mut NodeArena<K, V, PREFIX_LEN>,
@@ -110,7 +128,7 @@ fn prepare<K: AsBytes, V, const PREFIX_LEN: usize>(
     })
 }
 
-// Makes room for every inner node of a plan.
+// Makes spare capacity for every inner node of a plan.
 fn reserve_nodes<K: AsBytes, V, const PREFIX_LEN: usize>(
     arena: &mut NodeArena<K, V, PREFIX_LEN>,
     steps: &[Step],

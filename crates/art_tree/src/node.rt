@@ -1,4 +1,4 @@
-//! What loads, inserts and removals do to one inner node of an arena.
+//! Loading, insertion and removal: operations on one inner node of an arena.
 ghost use Rattle.std.specs.Prelude.{◌≡◌, ◌≢◌, ◌<◌, ◌≤◌, ◌-◌, ◌^◌, length, take, drop, IfSome, IsSome};
 ghost use Rattle.std.specs.Mem.{FitsInMemory};
 ghost use Rattle.art_header.specs.NodeType.{most_children};
@@ -30,7 +30,7 @@ pub(crate) fn num_children<K, V, const PREFIX_LEN: usize>(
     arena.header(pointer).unwrap().num_children()
 }
 
-/// Writes the child under the byte of the inner node at the pointer, which has to have room for it.
+/// Writes the child under the byte of the inner node at the pointer, which must have space for it.
 pub(crate) fn write_child<K, V, const PREFIX_LEN: usize>(
     arena: &mut NodeArena<K, V, PREFIX_LEN>,
     pointer: OpaqueNodePtr<K, V, PREFIX_LEN>,
@@ -54,7 +54,7 @@ pub(crate) fn write_child<K, V, const PREFIX_LEN: usize>(
     }
 }
 
-/// Hangs a node where another one hung, under its parent or as the root. Answers the root.
+/// Puts a node where another one was, under its parent or as the root. Returns the root.
 pub(crate) fn hang<K, V, const PREFIX_LEN: usize>(
     arena: &mut NodeArena<K, V, PREFIX_LEN>,
     root: OpaqueNodePtr<K, V, PREFIX_LEN>,
@@ -95,8 +95,8 @@ fn inner_node<K, V, const PREFIX_LEN: usize, N: InnerNodeCommon<K, V, PREFIX_LEN
     node
 }
 
-/// Places an inner node of one type, with these children and the prefix that the leaf's text has from
-/// `start` to `end`. There has to be room for it.
+/// Allocates an inner node of one type, with these children and the prefix that the leaf's key has
+/// from `start` to `end`. There must be spare capacity for it.
 pub(crate) fn place_as<
     K: AsBytes,
     V,
@@ -128,7 +128,7 @@ pub(crate) fn place_as<
     arena.allocate_node_ptr(node).unwrap().to_opaque()
 }
 
-// Gives up a node of one type.
+// Deallocates a node of one type.
 fn give_up_node<K, V, const PREFIX_LEN: usize, N: ArenaNode<K, V, PREFIX_LEN> + Drop>(
     arena: &mut NodeArena<K, V, PREFIX_LEN>,
     node: NodePtr<PREFIX_LEN, N>,
@@ -140,7 +140,7 @@ fn give_up_node<K, V, const PREFIX_LEN: usize, N: ArenaNode<K, V, PREFIX_LEN> + 
     arena.deallocate_node_ptr(node);
 }
 
-/// Gives up the inner node at the pointer.
+/// Deallocates the inner node at the pointer.
 pub(crate) fn give_up<K, V, const PREFIX_LEN: usize>(
     arena: &mut NodeArena<K, V, PREFIX_LEN>,
     pointer: OpaqueNodePtr<K, V, PREFIX_LEN>,
@@ -159,8 +159,8 @@ pub(crate) fn give_up<K, V, const PREFIX_LEN: usize>(
     }
 }
 
-/// Gives up the inner node at the pointer for this one of another kind, and answers where that is, or
-/// None where memory is refused. It is never refused where there is room for the kind.
+/// Replaces the inner node at the pointer by this one of another kind, and returns where that is,
+/// or None on allocation failure. It never fails where the kind has spare capacity.
 // Kept out of its caller, whose stack would have the nodes of each kind several times.
 #[inline(never)]
 pub(crate) fn replace_node<

@@ -4,8 +4,22 @@ ghost use Rattle.art_tree.specs.Paths.{Steps, path_of, HasVisited};
 
 use art_nodes::OpaqueNodePtr;
 
-/// Where a leaf hangs in its tree: the inner nodes above it, as far as two of them, each with the
-/// byte that was taken from it.
+/// Where a leaf is in its tree: its parent and its grandparent, if it has them, each with the byte
+/// that was taken from it.
+///
+/// The path to `abc2` in a tree of `abc1` and `abc2`:
+///
+/// (from crates/art_tree_tests/src/tree/tree_examples.rt)
+/// ```rust
+/// let TreePath::ChildOfRoot {
+///     parent,
+///     child_key_byte,
+/// } = path
+/// else {
+///     panic!(rt; "another path");
+/// };
+/// assert!(rt; child_key_byte == b'2');
+/// ```
 #[derive_where(Clone, Copy)]
 pub enum TreePath<K, V, const PREFIX_LEN: usize> {
     /// The leaf is the root.
@@ -39,10 +53,22 @@ enum Visited {
 }
 
 /// Remembers the last two inner nodes that a search visits, each with the byte taken from it.
+///
+/// (from crates/art_tree_tests/src/tree/path.rt)
+/// ```rust
+/// let mut visits = TreePathSearch::default();
+/// visits.visit_inner_node(node(1), 97);
+/// visits.visit_inner_node(node(2), 98);
+/// visits.visit_inner_node(node(3), 99);
+/// let path = visits.finish();
+/// let same = path;
+/// let last_two = (Some((node(3), 99)), Some((node(2), 98)));
+/// assert!(rt; above(path) == last_two);
+/// ```
 #[derive(Drop)]
 pub struct TreePathSearch<K, V, const PREFIX_LEN: usize> {
-    // How many of the two nodes below are visited. Only `finish` makes a path of them: one that were
-    // kept here would be copied whole at each visit, its padding too.
+    // How many of the two nodes below are visited. Only `finish` makes a path of them: a path kept
+    // here would be copied whole at each visit, with its padding.
     visited: Visited,
     grandparent: OpaqueNodePtr<K, V, PREFIX_LEN>,
     parent_key_byte: u8,

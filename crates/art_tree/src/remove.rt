@@ -1,4 +1,4 @@
-//! An entry less in a tree.
+//! Removal: an entry is removed from a tree.
 ghost use Rattle.std.specs.Prelude.{◌≡◌, ◌≢◌, ◌≤◌, ◌++◌, ◌∷◌, ℕ, List, length, Some, None, IfOk, OnErr, IfSome, IfNone};
 ghost use Rattle.art_header.specs.declared.node_type.NodeType.TheVariants as kinds;
 ghost use Rattle.art_nodes.specs.Inner.{Inner};
@@ -31,8 +31,8 @@ use art_bytes::AsBytes;
 use art_nodes::{LeafNode, NodePtr, OpaqueNodePtr};
 use std::alloc::AllocError;
 
-// The inner node that a leaf hangs in, with the leaf's byte, and the node that this one hangs in, with
-// its byte, if it is not the root.
+// The parent of a leaf, with the leaf's byte, and the grandparent, with the parent's byte, if the
+// parent is not the root.
 #[derive_where(Clone, Copy)]
 struct LeafSpot<K, V, const PREFIX_LEN: usize> {
     parent: OpaqueNodePtr<K, V, PREFIX_LEN>,
@@ -40,7 +40,7 @@ struct LeafSpot<K, V, const PREFIX_LEN: usize> {
     above: Option<(OpaqueNodePtr<K, V, PREFIX_LEN>, u8)>,
 }
 
-// Where the leaf at the end of a path hangs, or None where the leaf is the root.
+// Where the leaf at the end of a path is, or None where the leaf is the root.
 fn leaf_spot<K, V, const PREFIX_LEN: usize>(
     path: TreePath<K, V, PREFIX_LEN>,
 ) -> Option<LeafSpot<K, V, PREFIX_LEN>>
@@ -71,7 +71,7 @@ fn leaf_spot<K, V, const PREFIX_LEN: usize>(
     }
 }
 
-// Takes a leaf out of its list and out of the arena, and answers its entry.
+// Removes a leaf from its list and from the arena, and returns its entry.
 fn take_leaf<K: AsBytes, V, const PREFIX_LEN: usize>(
     arena: &mut NodeArena<K, V, PREFIX_LEN>,
     leaf: NodePtr<PREFIX_LEN, LeafNode<K, V, PREFIX_LEN>>,
@@ -92,7 +92,7 @@ fn take_leaf<K: AsBytes, V, const PREFIX_LEN: usize>(
     arena.deallocate_node_ptr(leaf).into_entry()
 }
 
-// Takes the only leaf of a tree.
+// Removes the only leaf of a tree.
 fn remove_root<K: AsBytes, V, const PREFIX_LEN: usize>(
     arena: &mut NodeArena<K, V, PREFIX_LEN>,
     leaf: NodePtr<PREFIX_LEN, LeafNode<K, V, PREFIX_LEN>>,
@@ -109,7 +109,7 @@ fn remove_root<K: AsBytes, V, const PREFIX_LEN: usize>(
     take_leaf(arena, leaf)
 }
 
-// Takes a leaf from a node of more than two children. Answers the root and the entry.
+// Removes a leaf from a node of more than two children. Returns the root and the entry.
 fn remove_from_many<K: AsBytes, V, const PREFIX_LEN: usize>(
     arena: &mut NodeArena<K, V, PREFIX_LEN>,
     root: OpaqueNodePtr<K, V, PREFIX_LEN>,
@@ -140,8 +140,8 @@ fn remove_from_many<K: AsBytes, V, const PREFIX_LEN: usize>(
     Ok((hang(arena, root, spot.above, node), entry))
 }
 
-// Takes a leaf from a node of two children, whose other child takes the node's place. Answers the root
-// and the entry.
+// Removes a leaf from a node of two children, whose other child takes the node's place. Returns the
+// root and the entry.
 fn remove_from_two<K: AsBytes, V, const PREFIX_LEN: usize>(
     arena: &mut NodeArena<K, V, PREFIX_LEN>,
     root: OpaqueNodePtr<K, V, PREFIX_LEN>,
@@ -166,7 +166,7 @@ fn remove_from_two<K: AsBytes, V, const PREFIX_LEN: usize>(
     (hang(arena, root, spot.above, child), entry)
 }
 
-// Takes a leaf from the inner node that it hangs in. Answers the root and the entry.
+// Removes a leaf from its parent. Returns the root and the entry.
 fn remove_from<K: AsBytes, V, const PREFIX_LEN: usize>(
     arena: &mut NodeArena<K, V, PREFIX_LEN>,
     root: OpaqueNodePtr<K, V, PREFIX_LEN>,
@@ -194,8 +194,8 @@ fn remove_from<K: AsBytes, V, const PREFIX_LEN: usize>(
     }
 }
 
-/// Takes the entry with this text from the tree that an arena holds, if there is one, and answers the
-/// root that is left, if there is one, and the entry.
+/// Removes the entry with these key bytes from the tree that an arena holds, if there is one, and
+/// returns the root that is left, if there is one, and the entry.
 pub(crate) fn remove_entry<K: AsBytes, V, const PREFIX_LEN: usize>(
     arena: &mut NodeArena<K, V, PREFIX_LEN>,
     root: OpaqueNodePtr<K, V, PREFIX_LEN>,

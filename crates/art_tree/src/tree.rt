@@ -20,12 +20,13 @@ use art_nodes::OpaqueNodePtr;
 use std::alloc::Global;
 use std::marker::Model;
 
-/// What a [`Rooted`] keeps true of its arena and its root. [`NodeArena`] has it.
+/// The invariant that a [`Rooted`] keeps for its arena and its root. [`NodeArena`] implements it.
+/// See [`ArtTree`] for an example.
 pub trait HoldsOneTree<R>: Sized {
     ghost use Rattle.std.specs.Prelude.{Option};
 
-    /// The arena holds the tree at this root, if there is one, and nothing else, and the laws of keys
-    /// speak of each of its keys.
+    /// The arena holds the tree at this root, if there is one, and nothing else, and the laws of
+    /// keys hold for each of its keys.
     ghost holds_one_tree: { Self → Option R → Type 0 };
 }
 
@@ -38,7 +39,7 @@ impl<K: AsBytes, V, const PREFIX_LEN: usize> HoldsOneTree<OpaqueNodePtr<K, V, PR
         IsArt K.text arena root × HasKeys K.text K.is_key arena };
 }
 
-/// An arena and the root of its one tree. Callers name it [`ArtTree`].
+/// An arena and the root of its one tree. Callers name it [`ArtTree`], which has an example.
 #[derive(Drop)]
 pub struct Rooted<A: HoldsOneTree<R>, R> {
     arena: A,
@@ -55,13 +56,29 @@ impl<A: HoldsOneTree<R>, R> Model for Rooted<A, R> {
     ghost invariant = { λ a. A.holds_one_tree a.arena a.root };
 }
 
-/// A tree with its arena: a dictionary, which has at most one entry for each text.
+/// A tree with its arena: a dictionary with at most one entry for each key. No call has a
+/// condition.
 ///
-/// Contracts see the arena and the root. The dictionary is what the arena's leaves hold
-/// (`entry_at`). The arena holds one tree and nothing else: well-formed, each inner node of the
-/// smallest kind that holds its children, the leaves linked in the order of their texts.
+/// A contract sees the arena and the root. The dictionary is what the arena's leaves hold
+/// (`entry_at`). The arena holds one tree and nothing else: well-formed, with the smallest kinds
+/// (each inner node is of the smallest kind that holds its children), its leaves linked in the
+/// order of their key bytes.
 ///
-/// The type names the nodes, as [`NodeArena`] does.
+/// The type names its nodes, as [`NodeArena`] does.
+///
+/// A tree with the entry (`abc1`, 10) gets another one:
+///
+/// (from crates/art_tree_tests/src/tree/tree_examples.rt)
+/// ```rust
+/// tree.insert(StrKey::new("abc2"), 20)
+///     .map_err(|fault| fault.refusal)?;
+/// assert!(rt; tree.get(b"abc2") == Some(&20));
+/// // ..
+/// let Some((key, value)) = tree.remove(b"abc1")? else {
+///     panic!(rt; "absent");
+/// };
+/// assert!(rt; key.get() == "abc1" && value == 10);
+/// ```
 pub type ArtTree<K, V, const PREFIX_LEN: usize> = Rooted<
     NodeArena<K, V, PREFIX_LEN>,
     OpaqueNodePtr<K, V, PREFIX_LEN>,
@@ -80,8 +97,8 @@ impl<K: AsBytes, V, const PREFIX_LEN: usize> ArtTree<K, V, PREFIX_LEN> {
         }
     }
 
-    /// The value of the entry with this text, or None where there is none. It costs one [`find_leaf`],
-    /// which looks at one node more than the key has bytes at most, and takes no memory.
+    /// The value of the entry with these key bytes, or None where there is none. Costs one
+    /// [`find_leaf`]: at most one node visit more than the key has bytes. Takes no memory.
     pub fn get(&self, key: &[u8]) -> Option<&V>
         ensures { option_copied result
             ≡ option_map (λ entry. entry.1) (entry_at K.text self.now.arena key.now) }
@@ -93,8 +110,8 @@ impl<K: AsBytes, V, const PREFIX_LEN: usize> ArtTree<K, V, PREFIX_LEN> {
         Some(self.arena.as_value_ref(leaf))
     }
 
-    /// Key and value of the entry with the least text, or None where there is no entry. Takes time
-    /// linear in the longest text, and no memory.
+    /// Key and value of the entry with the least key bytes, or None where there is no entry. Visits
+    /// at most one inner node for each byte of that key. Takes no memory.
     pub fn first(&self) -> Option<(&K, &V)>
         ensures entry { IfSome result
             (λ (key, value). IsEntry K.text self.now.arena (key.now, value.now)) }
@@ -105,8 +122,8 @@ impl<K: AsBytes, V, const PREFIX_LEN: usize> ArtTree<K, V, PREFIX_LEN> {
         self.end_entry(End::First)
     }
 
-    /// Key and value of the entry with the greatest text, or None where there is no entry. Takes time
-    /// linear in the longest text, and no memory.
+    /// Key and value of the entry with the greatest key bytes, or None where there is no entry.
+    /// Visits at most one inner node for each byte of that key. Takes no memory.
     pub fn last(&self) -> Option<(&K, &V)>
         ensures entry { IfSome result
             (λ (key, value). IsEntry K.text self.now.arena (key.now, value.now)) }
@@ -151,11 +168,14 @@ impl<K: AsBytes, V, const PREFIX_LEN: usize> ArtTree<K, V, PREFIX_LEN> {
 }
 
 impl<K: AsBytes + Drop, V: Drop, const PREFIX_LEN: usize> ArtTree<K, V, PREFIX_LEN> {
-    /// Makes a tree of these entries. Refused are no entries at all, a key of 2^32 bytes or more, keys
-    /// that do not ascend, and a key that is a front of another; and want of memory. Refused entries
-    /// come back as [`load`] gives them back.
+    /// Makes a tree of these entries, whose keys must ascend and of which none may be a prefix of
+    /// another.
     ///
-    /// Takes time linear in the bytes of all keys together.
+    /// The refusals are those of [`load`]: no entries, a key of 2^32 bytes or more, keys that do
+    /// not ascend, a key that is a proper prefix of the next one, and out of memory. A refusal
+    /// returns the entries in their order.
+    ///
+    /// Takes time linear in the key bytes of all entries together.
     pub fn load(alloc: Global, entries: Vec<(K, V)>) -> Result<Self, LoadFault<K, V>>
         ensures entries { IfOk result (λ tree. All (IsEntry K.text tree.arena) entries.items) }
         ensures no_others { IfOk result (λ tree. (key : List ℕ) →

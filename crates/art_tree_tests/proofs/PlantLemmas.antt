@@ -1,4 +1,4 @@
--- Trees that tests put together by hand.
+-- Trees that tests build by hand.
 use Rattle.std.proofs.Common.{◌≡◌, ◌∙◌, ℕ, ◌<◌, ◌^◌, List, [], ◌∷◌, ◌++◌, length, take, refl, sym, ap, subst, arith}
 use Rattle.std.proofs.lemmas.Bool.Decides.{nat_tests}
 use Rattle.art_bytes.specs.Text.{IsPrefixOf}
@@ -21,7 +21,7 @@ module _ {K V : Type 0} {P : ℕ} (text : K → List ℕ) (old new : ArenaOf K V
   leaf_planted leaf path changes begins short =
       (record { tree = Leaf pointer (leaf_text text leaf); path = path; at_root = refl; stands = (leaf, changes.changed, refl); sound = (begins, short) }, refl)
 
--- what stood stands
+-- each tree that stood still stands
 pub others_planted : {K V : Type 0} {P : ℕ} (text : K → List ℕ) (old new : ArenaOf K V P) → ((tree : Tree (OpaqueNodePtr K V P)) → StandsIn text old tree → StandsIn text new tree) → (other : OpaqueNodePtr K V P) (found : TreeAt text old other) → (again : TreeAt text new other) × (again.path ≡ found.path)
 others_planted text old new stands_on other found =
     (record { tree = found.tree; path = found.path; at_root = found.at_root; stands = stands_on found.tree found.stands; sound = found.sound }, refl)

@@ -1,4 +1,4 @@
-//! The arena, the list of its leaves, and full prefixes.
+//! Tests of the arena, of the list of its leaves, and of full prefixes.
 mod calls;
 mod full_prefix;
 mod leaf_links;
@@ -22,11 +22,12 @@ fn put<K, V, const PREFIX_LEN: usize, N: ArenaNode<K, V, PREFIX_LEN> + Drop>(
     ptr
 }
 
-/// The length of the prefix, or how many bytes match, the prefix's byte after them, and the order of
-/// the prefix against the key.
+/// The length of the prefix; or how many bytes match, the prefix's byte after them, and the order
+/// of the prefix against the key.
 pub(crate) type Full = Result<usize, (usize, u8, Ordering)>;
 
-/// How the whole prefix matches. It names a leaf where the node does not store all of it.
+/// How the whole prefix matches. A mismatch has a leaf where the node does not store all of the
+/// prefix.
 pub(crate) fn full_match<K: AsBytes, V, const PREFIX_LEN: usize>(
     rt: &impl Abort,
     arena: &NodeArena<K, V, PREFIX_LEN>,

@@ -1,7 +1,7 @@
-//! Tests of the arena and of trees: their public names alone, called as another crate calls them.
+//! Tests of the arena and of trees, which use public names alone, as another crate does.
 //!
-//! What `art_node_tests` says of its tests holds of these. The files `using.rt` show how a crate uses
-//! both layers.
+//! The rules for tests that `art_node_tests` states hold here too. `link_examples` and
+//! `tree_examples` show how a crate uses `art_arena` and `art_tree`.
 #![tactic(auto)]
 
 #[cfg(test)]
@@ -9,7 +9,7 @@ mod arena;
 #[cfg(test)]
 mod tree;
 
-/// How a test ends whose call was refused memory, once all that stands was compared and the next call
-/// was answered. `checks/refusals` looks for it.
+/// How a test ends whose call failed to allocate, after everything else was compared and the next
+/// call succeeded. `checks/refusals` searches for it.
 #[cfg(test)]
 const ALL_STANDS: &str = "refused, and all stands";

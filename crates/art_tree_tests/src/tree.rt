@@ -1,10 +1,11 @@
-//! Trees from `load` and from inserts and removals, and what is answered about them.
+//! Tests of trees that are made by `load` and by inserts and removals.
 mod changes;
 mod composite;
 mod dictionary;
 mod loading;
 mod matches;
 mod path;
+mod readme_examples;
 mod refusals;
 mod searches;
 mod tree_examples;
@@ -53,7 +54,7 @@ fn shape<K, V, const PREFIX_LEN: usize>(
     )
 }
 
-// Loads the keys with their numbers as values. A tree that stood stands.
+// Loads the keys with their numbers as values. Each tree that stands still stands.
 fn load_all<K: AsBytes + Drop, const PREFIX_LEN: usize>(
     alloc: Global,
     arena: &mut NodeArena<K, usize, PREFIX_LEN>,
@@ -93,10 +94,10 @@ enum Answer {
     Normal(usize, u8, u8),
 }
 
-// A key, what a search for it answers, and how many looks that takes.
+// A key, the result of a search for it, and its node visits.
 type Row<'a> = (&'a [u8], Answer, usize);
 
-// The answer to a search for the key, and how many looks it takes.
+// The result of a search for the key, and its node visits.
 fn search<K: AsBytes, const PREFIX_LEN: usize>(
     arena: &NodeArena<K, usize, PREFIX_LEN>,
     root: OpaqueNodePtr<K, usize, PREFIX_LEN>,
@@ -124,7 +125,7 @@ fn search<K: AsBytes, const PREFIX_LEN: usize>(
     (answer, visits)
 }
 
-// Each of these keys is answered so.
+// The searches for these keys have these results.
 fn check<K: AsBytes, const PREFIX_LEN: usize>(
     rt: &impl Abort,
     arena: &NodeArena<K, usize, PREFIX_LEN>,
@@ -138,7 +139,7 @@ fn check<K: AsBytes, const PREFIX_LEN: usize>(
     }
 }
 
-// Each of these keys is answered so in the tree of `keys`.
+// The searches for these keys have these results in the tree of `keys`.
 fn check_keys<K: AsBytes + Drop, const PREFIX_LEN: usize>(
     rt: &impl Abort,
     alloc: Global,

@@ -1,4 +1,4 @@
-//! What an arena keeps: each kind of node in a slab of its own.
+//! The slabs of an arena, one for each kind of node.
 ghost use Rattle.std.specs.Prelude.{◌≡◌};
 ghost use Rattle.std.specs.Borrow.{Lends, sem};
 ghost use Rattle.art_arena.specs.Lending.{slab_row};
@@ -16,22 +16,36 @@ pub trait Shelved<A>: Sized {
     /// The slab of these nodes in an arena.
     ghost slab_of: { A → Slots Self };
 
-    /// The arena with this slab in its place.
+    /// The arena with this slab in the place of that one.
     ghost with_slab: { A → Slots Self → A };
 
     /// The slab of these nodes.
     fn slab(arena: &A) -> &Slab<Self>
         ensures { result.now ≡ slab_of arena.now };
 
-    /// The slab, to be changed in place. The rest of the arena is as before.
+    /// A mutable reference to that slab. The rest of the arena is unchanged.
     fn slab_mut(arena: &mut A) -> &mut Slab<Self>
         ensures* writes_back { sem 𝓛
             (Lends A.row (slab_row Self.row) arena.entry result (with_slab arena.entry.now)) }
         ensures value { result.now ≡ slab_of arena.old };
 }
 
-/// A node that an arena keeps: the four kinds of inner nodes and the leaf. No other type can be one,
-/// since no other is a [`Node`].
+/// A node that an arena keeps: the four kinds of inner nodes and the leaf. No other type can be
+/// one, since no other is a [`Node`]. Code that is generic over it works on nodes of each kind:
+///
+/// (from crates/art_tree_tests/src/arena.rt)
+/// ```rust
+/// fn put<K, V, const PREFIX_LEN: usize, N: ArenaNode<K, V, PREFIX_LEN> + Drop>(
+///     rt: &impl Abort,
+///     arena: &mut NodeArena<K, V, PREFIX_LEN>,
+///     node: N,
+/// ) -> NodePtr<PREFIX_LEN, N> {
+///     let Ok(ptr) = arena.allocate_node_ptr(node) else {
+///         panic!(rt; "an allocation was refused");
+///     };
+///     ptr
+/// }
+/// ```
 pub trait ArenaNode<K, V, const PREFIX_LEN: usize>: Node<PREFIX_LEN, Key = K, Value = V>
     + Shelved<NodeArena<K, V, PREFIX_LEN>> {
     ghost use Rattle.std.specs.Prelude.{◌≡◌, ◌≢◌, ◌↔◌, ℕ};
@@ -41,13 +55,13 @@ pub trait ArenaNode<K, V, const PREFIX_LEN: usize>: Node<PREFIX_LEN, Key = K, Va
     ghost use Rattle.art_nodes.specs.declared.leaf_node.LeafNode.{LeafNode};
     ghost use Rattle.art_header.specs.declared.node_type.NodeType.{NodeType};
 
-    /// The node, as contracts see what an arena holds.
+    /// The node as contracts see what an arena holds.
     ghost held_as: { Self → Held (OpaqueNodePtr K V PREFIX_LEN) (LeafNode K V PREFIX_LEN) };
 
-    /// What is held is one node.
+    /// Two nodes that contracts see alike are equal.
     ghost one_node: { (a b : Self) → held_as a ≡ held_as b → a ≡ b };
 
-    /// What is held is something.
+    /// A node is seen as something held.
     ghost is_held: { (node : Self) → held_as node ≢ Nothing };
 
     /// What the arena holds under a key of this kind is what the node's slab has there.
@@ -62,22 +76,35 @@ pub trait ArenaNode<K, V, const PREFIX_LEN: usize>: Node<PREFIX_LEN, Key = K, Va
     ghost held_where_contained: { (arena : ArenaOf K V PREFIX_LEN) (key : ℕ) →
         ContainsKey (Self.slab_of arena) key ↔ (held_under arena Self.TYPE key ≢ Nothing) };
 
-    /// The room of the kind is that of its slab.
+    /// The spare capacity of the kind is that of its slab.
     ghost room_of_slab: { (arena : ArenaOf K V PREFIX_LEN) →
         room arena Self.TYPE ≡ slab_room (Self.slab_of arena) };
 
-    /// A written slab leaves the room of the other kinds.
+    /// Writing this slab leaves the spare capacity of the other kinds unchanged.
     ghost other_room: { (arena : ArenaOf K V PREFIX_LEN) (slots : Slots Self) →
         SameOtherRoom arena (Self.with_slab arena slots) Self.TYPE };
 
-    /// It leaves what is held of the other kinds.
+    /// Writing this slab leaves the nodes of the other kinds unchanged.
     ghost others_kept: { (arena : ArenaOf K V PREFIX_LEN) (slots : Slots Self)
         (kind : NodeType) (key : ℕ) →
         kind ≢ Self.TYPE →
         held_under (Self.with_slab arena slots) kind key ≡ held_under arena kind key };
 }
 
-/// The kinds of inner nodes.
+/// An inner node that an arena keeps, of any of the four kinds. Code that is generic over it works
+/// on inner nodes of each kind:
+///
+/// (from crates/art_tree_tests/src/tree/tree_examples.rt)
+/// ```rust
+/// fn least_below<K: AsBytes, V, const PREFIX_LEN: usize, N: ArenaInnerNode<K, V, PREFIX_LEN>>(
+///     arena: &NodeArena<K, V, PREFIX_LEN>,
+///     node: NodePtr<PREFIX_LEN, N>,
+///     byte: u8,
+/// ) -> Option<NodePtr<PREFIX_LEN, LeafNode<K, V, PREFIX_LEN>>>
+/// // ..
+/// let child = arena.as_ref(node).lookup_child(byte)?;
+/// Some(end_leaf(arena, child, End::First))
+/// ```
 pub trait ArenaInnerNode<K, V, const PREFIX_LEN: usize>: ArenaNode<K, V, PREFIX_LEN>
     + InnerNodeCommon<K, V, PREFIX_LEN> {
     ghost use Rattle.std.specs.Prelude.{◌≡◌};

@@ -1,14 +1,14 @@
-//! What a query is answered.
+//! The result of a query.
 ghost use Rattle.art_cli.specs.Find.{Entries};
 ghost use Rattle.art_cli.specs.Answer.{HoldsEntries, IsAnswer};
 
 use art_tree::laws::entries_are_what_leaves_hold;
 use art_tree::{ArenaReader, ArtTree, AsBytes, TreePath, find_leaf};
 
-/// The number of an entry, and where its leaf hangs.
+/// The number of an entry, and the path to its leaf.
 pub(crate) type Found<K, const PREFIX_LEN: usize> = (usize, TreePath<K, usize, PREFIX_LEN>);
 
-/// The entry with this key, if there is one, and how many nodes are looked at to tell.
+/// The entry with this key, if there is one, and how many nodes the search visits.
 pub(crate) fn answer<K: AsBytes, const PREFIX_LEN: usize>(
     tree: &ArtTree<K, usize, PREFIX_LEN>,
     query: &[u8],

@@ -1,4 +1,4 @@
-//! From the lines of `find` to its commands.
+//! The lines of `find` to its commands.
 ghost use Rattle.std.specs.Prelude.{◌≡◌, map, is_none, IfOk, IfSome};
 ghost use Rattle.art_bytes.specs.SliceKey.{slice_key_text};
 ghost use Rattle.art_cli.specs.Lines.{lines_of, SayAll};
@@ -9,21 +9,21 @@ use crate::failure::LineFault;
 use art_tree::SliceKey;
 use std::alloc::{AllocError, Global};
 
-/// What a line asks of the tree, by the key of an entry.
+/// A command on the tree, by the key of an entry.
 #[derive(Clone, Copy)]
 pub(crate) enum TreeCommand<K> {
-    /// `+`: the entry is to be there, with a number of its own.
+    /// `+`: inserts the entry, with a number of its own.
     Insert(K),
-    /// `-`: the entry is to go.
+    /// `-`: removes the entry.
     Remove(K),
-    /// `?`: the entry is looked for.
+    /// `?`: searches for the entry.
     Find(K),
 }
 
-/// The commands of the lines up to the first that says none, one a line, and what is wrong with
-/// that one: it is no command.
+/// The commands of the lines up to the first that gives none, one a line, and the fault of that
+/// one: it is no command.
 ///
-/// A refusal is for want of memory.
+/// An error is an allocation failure.
 pub(crate) fn parse(
     alloc: Global,
     input: &[u8],
@@ -48,7 +48,7 @@ impl<'a> LineCommand<'a> for TreeCommand<SliceKey<'a>> {
     ghost is_at_fault = { λ line fault. (fault ≡ UnknownCommand)
         × ((command : TreeCommand (List ℕ)) → ¬ SayTreeCommand line command) };
 
-    // What a line says by its first byte.
+    // The first byte of a line decides its command.
     fn of_line(line: &'a [u8]) -> Result<TreeCommand<SliceKey<'a>>, LineFault> {
         match line {
             [b'+', key @ ..] => Ok(TreeCommand::Insert(SliceKey::new(key))),

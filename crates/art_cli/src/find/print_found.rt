@@ -1,4 +1,4 @@
-//! From the answers of `find` to lines.
+//! The results of `find` to lines.
 ghost use Rattle.std.specs.Prelude.{◌≡◌, ◌++◌, OnOk, string_bytes};
 ghost use Rattle.art_cli.specs.Lines.{line};
 ghost use Rattle.art_cli.specs.Answer.{answer_text, removal_text};
@@ -8,8 +8,8 @@ use art_tree::TreePath;
 use std::alloc::AllocError;
 use std::fmt;
 
-/// The line that answers a query: the number of the entry that is found and where its leaf hangs,
-/// or none, and how many nodes were looked at.
+/// The line for a query: the number of the entry that is found and the path to its leaf, or none,
+/// and how many nodes were visited.
 pub(crate) fn print_answer<K, const PREFIX_LEN: usize>(
     text: &mut String,
     answer: Option<Found<K, PREFIX_LEN>>,
@@ -24,7 +24,7 @@ pub(crate) fn print_answer<K, const PREFIX_LEN: usize>(
     }
 }
 
-/// The line that answers a removal: the number of the entry that is gone, or that there was none.
+/// The line for a removal: the number of the entry that is removed, or that there was none.
 pub(crate) fn print_removal(text: &mut String, removed: Option<usize>) -> Result<(), AllocError>
     ensures { OnOk result
         (string_bytes text.new ≡ string_bytes text.old ++ line (removal_text removed)) }
@@ -35,7 +35,7 @@ pub(crate) fn print_removal(text: &mut String, removed: Option<usize>) -> Result
     }
 }
 
-// Where a leaf hangs, as a line shows it: by the bytes taken on the way.
+// The path to a leaf, as a line shows it: by the bytes taken on the way.
 #[derive_where(Clone, Copy)]
 struct Shown<K, V, const PREFIX_LEN: usize>(TreePath<K, V, PREFIX_LEN>);
 

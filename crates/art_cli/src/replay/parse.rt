@@ -1,4 +1,4 @@
-//! From the lines of `replay` to its commands.
+//! The lines of `replay` to its commands.
 ghost use Rattle.std.specs.Prelude.{◌≡◌, ◌≢◌, ℕ, ◌<◌, ◌≤◌, ◌↔◌, [], ◌∷◌, MatchOption, OnErr, IfErr, All, IsTrue, IfOk, is_none, IfSome, length};
 ghost use Rattle.std.specs.Int.{IsInRange};
 ghost use Rattle.std.specs.declared.ops.Bound.{Bound};
@@ -16,9 +16,9 @@ use std::alloc::{AllocError, Global};
 use std::ops::Bound;
 use std::str;
 
-/// The commands of the lines up to the first bad one, one a line, and what is wrong with that one.
+/// The commands of the lines up to the first bad one, one a line, and the fault of that one.
 ///
-/// A refusal is for want of memory.
+/// An error is an allocation failure.
 pub(crate) fn parse(
     alloc: Global,
     input: &[u8],
@@ -73,7 +73,7 @@ fn command(line: &[u8]) -> Result<Command, LineFault>
     }
 }
 
-// What is wrong with a line of this first word and a number of words that it does not take.
+// The fault of a line with this first word and a number of words that it does not take.
 fn fault_of_count(name: &[u8]) -> LineFault
     ensures fault { (result ≢ LineFault.BadNumber)
         × (result ≢ LineFault.KeyTooLong) × (result ≢ LineFault.PrefixOfOther) }

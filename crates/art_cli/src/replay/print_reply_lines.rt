@@ -1,4 +1,4 @@
-//! From replies to lines.
+//! Replies to lines.
 ghost use Rattle.std.specs.Prelude.{◌≡◌, ◌++◌, length, IfOk, OnOk, string_bytes};
 ghost use Rattle.std.specs.List.{flat_map};
 ghost use Rattle.art_cli.specs.Lines.{line};

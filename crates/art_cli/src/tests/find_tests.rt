@@ -6,7 +6,7 @@ use std::test::Fail;
 
 const ALL: &[&str] = &["0", "2", "16"];
 
-// `artnodes find` answers this input with this output under each of these words.
+// `artnodes find` prints this output for this input, under each of these words.
 fn finds(
     rt: &impl Abort,
     alloc: Global,
@@ -61,7 +61,7 @@ fn queries_and_removals_are_answered(rt: HostRuntime) -> Result<(), Fail> {
         (ALL, b"?a\n-a\n", "none reads 0\nabsent\n"),
         (ALL, b"+b\n+a\n", ""),
         (ALL, b"+a\n?a\n+b\n", "found 0 root reads 1\n"),
-        // a key that is there takes the new number
+        // a key that is there gets the new number
         (
             ALL,
             b"+a\n+b\n+a\n?a\n-a\n+ab\n-ab\n-b\n+\n?\n",
@@ -75,7 +75,7 @@ fn queries_and_removals_are_answered(rt: HostRuntime) -> Result<(), Fail> {
     Ok(())
 }
 
-// Puts in the line of this command, with a key of two parts.
+// Adds the line of this command, with a key of two parts.
 fn ask(input: &mut Vec<u8>, command: u8, front: &[u8], end: &[u8]) -> Result<(), AllocError> {
     input.push(command)?;
     input.extend_from_slice(front)?;
@@ -86,7 +86,7 @@ fn ask(input: &mut Vec<u8>, command: u8, front: &[u8], end: &[u8]) -> Result<(),
 
 const FRONT: &[u8] = b"forty bytes that begin all of these keys";
 
-// Takes out both entries under this byte, and asks for what is left of them and for one more.
+// Removes both entries under this byte, and queries what is left of them and one more.
 fn ask_for_pair(input: &mut Vec<u8>, byte: u8) -> Result<(), AllocError> {
     ask(input, b'-', FRONT, &[byte, b'a'])?;
     ask(input, b'?', FRONT, &[byte, b'b'])?;
@@ -156,7 +156,7 @@ fn entries_with_long_keys_are_entered_and_removed(rt: HostRuntime) -> Result<(),
     finds(&rt, rt.alloc(), ALL, &input, output.as_str())
 }
 
-// Puts in the line of this command, with the key that is so many times `a`, and `b`.
+// Adds the line of this command, with the key that is so many times `a`, and `b`.
 fn ask_at(input: &mut Vec<u8>, command: u8, level: u8) -> Result<(), AllocError> {
     input.push(command)?;
     for _ in 0..level {
@@ -174,7 +174,7 @@ fn number_at(level: u8) -> usize {
     13 * usize::from(level) % 200 + 1
 }
 
-// The answers to the removal of that key, from the last one, and to a query for the longest.
+// The lines for the removal of that key, from the last one, and for a query of the longest.
 fn tell_removal(output: &mut String, level: u8) -> Result<(), AllocError> {
     let number = number_at(level);
     let path = match level {
@@ -232,7 +232,7 @@ fn the_first_fault_of_lines_and_entries_is_told(rt: HostRuntime) -> Result<(), F
             "line 4: one key is a front of the other\n",
         ),
         (b"+\n-b\n+a\n", "line 3: one key is a front of the other\n"),
-        // a front of a key may come once that is gone, and here another is there
+        // a prefix of a key may be inserted after that key is removed, and here another is there
         (
             b"+a\n+b\n+a\n?a\n-a\n+ab\n-ab\n+\n",
             "line 8: one key is a front of the other\n",

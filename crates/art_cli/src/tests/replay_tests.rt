@@ -4,7 +4,7 @@ use std::alloc::{AllocError, Global};
 use std::process::Abort;
 use std::test::Fail;
 
-// `artnodes replay` answers this input with this output.
+// `artnodes replay` prints this output for this input.
 fn answers(rt: &impl Abort, alloc: Global, input: &str, output: &str) -> Result<(), Fail> {
     let input = input.as_bytes();
     check(rt, alloc, &["replay"], &case_of(input, output, "", 0))
@@ -51,7 +51,8 @@ fn writes_below(alloc: Global, count: usize) -> Result<String, AllocError> {
 
 #[test]
 fn the_node_grows_and_shrinks_with_its_children(rt: HostRuntime) -> Result<(), Fail> {
-    // how many children are written, what comes after them, and what that and the node are answered
+    // how many children are written, the line after them, and the output for that line and for the
+    // node
     let cases = [
         (4, "", "node Node4 4\n"),
         (16, "", "node Node16 16\n"),

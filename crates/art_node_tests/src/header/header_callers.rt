@@ -1,4 +1,4 @@
-//! What a caller learns of headers and indices from their traits, said of the values themselves.
+//! Facts that a caller gets from the traits of headers and indices, stated of the values.
 ghost use Rattle.std.specs.Prelude.{◌≡◌, ◌<◌, IsOk, IfOk};
 ghost use Rattle.std.specs.Result.{OkIff};
 ghost use Rattle.art_header.specs.Header.{same_header};
@@ -6,14 +6,14 @@ ghost use Rattle.art_header.specs.Header.{same_header};
 use art_header::{Header, NonMaxIndex, TryFromByteError};
 use std::alloc::AllocError;
 
-// Headers are equal where count, prefix length and stored front are.
+// Headers are equal where count, prefix length and stored prefix are.
 fn are_equal<const PREFIX_LEN: usize>(a: &Header<PREFIX_LEN>, b: &Header<PREFIX_LEN>) -> bool
     ensures { result ≡ same_header a.now b.now }
 {
     a == b
 }
 
-// A copy is the header, and is never refused.
+// A copy is equal to the header, and never fails.
 fn copied<const PREFIX_LEN: usize>(
     header: &Header<PREFIX_LEN>,
 ) -> Result<Header<PREFIX_LEN>, AllocError>
@@ -49,7 +49,7 @@ fn index_of_place(number: usize) -> Result<NonMaxIndex, TryFromByteError>
     NonMaxIndex::try_from(number)
 }
 
-// The first index is where one begins.
+// The first index is 0.
 fn first_index() -> NonMaxIndex
     ensures { result ≡ 0 }
 {

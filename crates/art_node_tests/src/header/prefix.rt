@@ -1,9 +1,9 @@
-//! The prefix of a header, and how many children it counts.
+//! The prefix of a header, and its number of children.
 use art_header::Header;
 use std::process::Abort;
 use std::test::Fail;
 
-// These bytes are stored of a prefix of this length.
+// The header stores these bytes of a prefix of this length.
 fn check_prefix<const PREFIX_LEN: usize>(
     rt: &impl Abort,
     header: &Header<PREFIX_LEN>,
@@ -46,7 +46,7 @@ fn counts_children(rt: HostRuntime) {
 #[test]
 fn headers_are_compared_by_what_they_store(rt: HostRuntime) -> Result<(), Fail> {
     let header = Header::<2>::new(b"abc", 4);
-    // The third byte is not stored, so it is not seen.
+    // The third byte is not stored, so it has no effect.
     assert!(rt; header == Header::<2>::new(b"abx", 4));
     assert!(rt; header != Header::<2>::new(b"xb", 4));
     assert!(rt; header != Header::<2>::new(b"abc", 3));

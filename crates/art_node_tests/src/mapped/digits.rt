@@ -1,4 +1,4 @@
-//! Which bytes the wider integers have, by contract. Other tests compare those of the narrower ones
+//! The bytes of the wider integers, by contract. Other tests compare those of the narrower ones
 //! with worked examples.
 ghost use Rattle.std.specs.Prelude.{◌≡◌};
 ghost use Rattle.std.specs.Int.NonZero.{non_zero_u32_get, non_zero_u64_get, non_zero_u128_get, non_zero_usize_get};

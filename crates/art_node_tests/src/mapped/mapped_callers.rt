@@ -1,4 +1,4 @@
-//! What a caller learns from the contracts, at types that it names.
+//! Facts that a caller gets from the contracts, at types that it names.
 ghost use Rattle.std.specs.Prelude.{◌≡◌, ℕ, ℤ, IsOk, IfOk, Vec, fold};
 ghost use Rattle.std.specs.declared.alloc.Global.{Global};
 ghost use Rattle.std.specs.Hash as fed;
@@ -16,7 +16,7 @@ use crate::nodes::node_fixtures::all_bytes;
 use art_bytes::NoPrefixesBytes;
 use std::hash::{DefaultHasher, Hash, Hasher};
 
-// The key of an address is its octets, and is always made.
+// The key of an address is its octets. The call never fails.
 fn host(alloc: Global, address: Ipv4Addr) -> Result<Mapped<ToOctets, Ipv4Addr>, AllocError>
     ensures text { IfOk result (λ key. mapped_text key ≡ ipv4_octets address) }
     ensures always { IsOk result }
@@ -49,7 +49,7 @@ fn compared<B: OrderedMapping<D>, D: Ord + Drop>(
     Ok(Mapped::<B, D>::new(alloc, a)?.cmp(&Mapped::<B, D>::new(alloc, b)?))
 }
 
-// An integer or an address comes back as it went in, and no call refuses.
+// An integer or an address is read back, and no call fails.
 fn element_back<F, E: Element<F>>(alloc: Global, value: E) -> Result<E, AllocError>
     ensures value { IfOk result (λ read. read ≡ value) }
     ensures always { IsOk result }
@@ -71,7 +71,7 @@ fn ipv6_back(alloc: Global, value: Ipv6Addr) -> Result<Ipv6Addr, AllocError>
     Mapped::<ToOctets, Ipv6Addr>::new(alloc, value)?.get(alloc)
 }
 
-// To ask bytes for an integer or an address refuses nothing.
+// Reading an integer or an address from any bytes never fails.
 fn element_asked<F, E: Element<F>>(alloc: Global, bytes: E::Bytes) -> Result<Option<E>, AllocError>
     ensures { IsOk result }
 {
@@ -84,7 +84,7 @@ fn ipv6_asked(alloc: Global, bytes: [u8; 16]) -> Result<Option<Ipv6Addr>, AllocE
     <ToOctets as BytesMapping<Ipv6Addr>>::checked_from_bytes(alloc, bytes)
 }
 
-// An array comes back as it went in.
+// An array is read back.
 fn array_back<F: IntegerForm, E: Element<F>, const N: usize>(
     alloc: Global,
     value: [E; N],
@@ -94,7 +94,7 @@ fn array_back<F: IntegerForm, E: Element<F>, const N: usize>(
     Mapped::<ToBigEndian<F>, [E; N]>::new(alloc, value)?.get(alloc)
 }
 
-// To get the array of a key refuses nothing, nor does to ask bytes for one.
+// Reading an array from a key or from any bytes never fails.
 fn array_of_key<F: IntegerForm, E: Element<F>, const N: usize>(
     alloc: Global,
     key: Mapped<ToBigEndian<F>, [E; N]>,
@@ -113,7 +113,7 @@ fn array_asked<F: IntegerForm, E: Element<F>, const N: usize>(
     <ToBigEndian<F> as BytesMapping<[E; N]>>::checked_from_bytes(alloc, bytes)
 }
 
-// The elements of a vector come back as they went in.
+// The elements of a vector are read back.
 fn vector_back<F: IntegerForm, E: Element<F>>(
     alloc: Global,
     value: Vec<E>,
@@ -123,7 +123,7 @@ fn vector_back<F: IntegerForm, E: Element<F>>(
     Mapped::<ToBigEndian<F>, Vec<E>>::new(alloc, value)?.get(alloc)
 }
 
-// A clone holds the value that the key holds. Of an array's bytes it is always made.
+// A clone holds the value that the key holds. Where the bytes are an array it never fails.
 fn port_again(key: &Mapped<ToUBE, u16>) -> Result<Mapped<ToUBE, u16>, AllocError>
     ensures value { (port : ℕ) → HoldsValue key.now port →
         IfOk result (λ again. HoldsValue again port) }
@@ -146,7 +146,7 @@ fn feed<B: BytesMapping<D>, D, H: Hasher>(key: &Mapped<B, D>, hasher: &mut H)
     key.hash(hasher);
 }
 
-// Two keys that ascend, and of which none begins the other.
+// Two keys that ascend, and of which none is a prefix of the other.
 fn ascend<K: OrderedBytes + NoPrefixesBytes>(rt: &impl Abort, less: &K, more: &K) {
     assert!(rt; order_of_texts(less, more) == Ordering::Less);
     assert!(rt; order_of_texts(more, less) == Ordering::Greater);
@@ -253,7 +253,7 @@ fn order_of_bytes<B: OrderedMapping<D>, D: Ord + Drop>(
     Ok(order_of_texts(&a, &b))
 }
 
-// Whether the key that stands for `key` begins with the one that stands for `front`.
+// Whether the key of `key` begins with the key of `front`.
 fn begins_with<D: NoPrefixesBytes + Drop>(
     alloc: Global,
     key: D,
@@ -274,7 +274,7 @@ fn prefixes_differ_from_keys(rt: HostRuntime) -> Result<(), Fail> {
     Ok(())
 }
 
-// The key of these numbers has these bytes, and they come back from it.
+// The key of these numbers has these bytes, and they are read back from it.
 fn there_and_back<E: Element<Unsigned>>(
     rt: &impl Abort,
     alloc: Global,

@@ -1,4 +1,4 @@
-//! How a crate uses `art_mapped`: keys of ports, which no call refuses.
+//! How a crate uses `art_mapped`: keys of ports, for which no call fails.
 ghost use Rattle.std.specs.Prelude.{◌≡◌, ℕ, IsOk, IfOk};
 ghost use Rattle.std.specs.Ordering.{nat_cmp};
 ghost use Rattle.art_mapped.specs.Mapped.{mapped_text, HoldsValue};
@@ -22,7 +22,7 @@ fn port_of(alloc: Global, key: Mapped<ToUBE, u16>) -> Result<u16, AllocError>
     key.get(alloc)
 }
 
-/// Keys are in the order of the ports.
+/// Keys have the order of the ports.
 fn compare(a: &Mapped<ToUBE, u16>, b: &Mapped<ToUBE, u16>) -> Ordering
     ensures { (x y : ℕ) → HoldsValue a.now x → HoldsValue b.now y → result ≡ nat_cmp x y }
 {

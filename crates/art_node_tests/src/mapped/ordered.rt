@@ -7,7 +7,7 @@ fn have_order<K: OrderedBytes>(rt: &impl Abort, a: &K, b: &K, order: Ordering) {
     assert!(rt; a.as_bytes().cmp(&b.as_bytes()) == order);
 }
 
-// Two values are in the order of their keys and of the keys' bytes, and the first comes back.
+// Two values are in the order of their keys and of the keys' bytes, and the first is read back.
 pub(super) fn compared<B: OrderedMapping<D>, D: Ord + Copy>(
     rt: &impl Abort,
     alloc: Global,
@@ -21,7 +21,7 @@ pub(super) fn compared<B: OrderedMapping<D>, D: Ord + Copy>(
     Ok(())
 }
 
-// The same of vectors.
+// The same for vectors.
 fn compared_vectors<B: OrderedMapping<Vec<E>>, E: Ord + Copy>(
     rt: &impl Abort,
     alloc: Global,

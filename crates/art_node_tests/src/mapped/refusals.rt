@@ -1,4 +1,4 @@
-//! Sequences and tuples, of which one growth is refused: the next call answers, and the test ends.
+//! Sequences and tuples with one allocation failure: the next call succeeds, and the test ends.
 use super::*;
 use crate::ALL_STANDS;
 
@@ -25,7 +25,7 @@ fn check_key<B: BytesMapping<D>, D: Drop>(
     }
 }
 
-// A copy of a key has its bytes. Where it is refused, the key has them still.
+// A copy of a key has its bytes. Where the copy fails, the key has them still.
 fn check_copy<B: BytesMapping<D, Bytes = Vec<u8>>, D>(
     rt: &impl Abort,
     key: &Mapped<B, D>,
@@ -87,7 +87,7 @@ fn check_to_bytes<B: BytesMapping<D, Bytes = Vec<u8>>, D: Drop>(
     }
 }
 
-// The first of two equal values comes back from its bytes.
+// The first of two equal values is read from its bytes.
 fn check_from_bytes<B: BytesMapping<D>, D: PartialEq + Drop>(
     rt: &impl Abort,
     alloc: Global,
@@ -109,7 +109,7 @@ fn check_from_bytes<B: BytesMapping<D>, D: PartialEq + Drop>(
     }
 }
 
-// The answer is this value.
+// The result is this value.
 fn is_some_of<D: PartialEq>(answer: &Option<D>, wanted: &D) -> bool {
     match answer {
         Some(value) => *value == *wanted,
@@ -117,7 +117,7 @@ fn is_some_of<D: PartialEq>(answer: &Option<D>, wanted: &D) -> bool {
     }
 }
 
-// The bytes are asked for this value.
+// Reading the bytes returns this value.
 fn check_asked<B: BytesMapping<D, Bytes = Vec<u8>>, D: PartialEq + Drop>(
     rt: &impl Abort,
     alloc: Global,
@@ -139,7 +139,7 @@ fn check_asked<B: BytesMapping<D, Bytes = Vec<u8>>, D: PartialEq + Drop>(
     }
 }
 
-// The value of a key that stays.
+// The value of a key, which is kept.
 fn value_of<B: BytesMapping<D, Bytes = Vec<u8>>, D>(
     alloc: Global,
     key: &Mapped<B, D>,

@@ -1,4 +1,4 @@
-//! Composite keys, and keys as they stand.
+//! Composite keys, and keys under `Identity`.
 ghost use Rattle.std.specs.Prelude.{◌≡◌, ◌↔◌, ◌++◌, ℕ, List, IsTrue, IsOk, IfOk};
 ghost use Rattle.std.specs.Net.Addr.{ipv4_octets};
 ghost use Rattle.art_mapped.specs.Mapped.{mapped_text, HoldsValue};
@@ -32,7 +32,7 @@ fn route(
     Mapped::new(alloc, (to, cost))
 }
 
-// Of three parts each is worked by the mapping in its own place.
+// Each of three parts is mapped by the mapping at its place.
 fn priced(
     alloc: Global,
     to: Ipv4Addr,
@@ -92,14 +92,14 @@ fn ranked(
     Mapped::new(alloc, (to, port, cost, label, count, rank))
 }
 
-// Both parts come back as they went in.
+// Both parts are read back.
 fn host_back(alloc: Global, host: Ipv4Addr, port: u16) -> Result<(Ipv4Addr, u16), AllocError>
     ensures { IfOk result (λ read. (read.0 ≡ host) × (read.1 ≡ port)) }
 {
     Mapped::<ConcatTuple<(ToOctets, ToUBE)>, (Ipv4Addr, u16)>::new(alloc, (host, port))?.get(alloc)
 }
 
-// To read the parts of a key refuses nothing.
+// Reading the parts of a key never fails.
 fn route_of(
     alloc: Global,
     key: Mapped<Route, (Ipv4Addr, i32)>,
@@ -109,7 +109,7 @@ fn route_of(
     key.get(alloc)
 }
 
-// A key that stands for itself comes back, the very key, and nothing refuses.
+// A key under `Identity` is read back unchanged, and no call fails.
 fn key_back<D: AsBytes + Drop>(alloc: Global, key: D) -> Result<D, AllocError>
     ensures same { IfOk result (λ read. read ≡ key) }
     ensures always { IsOk result }
@@ -117,7 +117,7 @@ fn key_back<D: AsBytes + Drop>(alloc: Global, key: D) -> Result<D, AllocError>
     Mapped::<Identity, D>::new(alloc, key)?.get(alloc)
 }
 
-// Keys are equal exactly where they hold one value.
+// Keys are equal exactly where they hold the same value.
 fn are_one<B: InjectiveMapping<D>, D>(a: &Mapped<B, D>, b: &Mapped<B, D>) -> bool
     ensures { (x y : D) → HoldsValue a.now x → HoldsValue b.now y →
         IsTrue result ↔ B.are_same x y }
@@ -125,7 +125,7 @@ fn are_one<B: InjectiveMapping<D>, D>(a: &Mapped<B, D>, b: &Mapped<B, D>) -> boo
     a == b
 }
 
-// Of a key that stands for itself and a number, equal keys hold both.
+// Of an array under `Identity` and a number, equal keys hold both.
 fn are_one_named(a: &Mapped<Named, ([u8; 3], u16)>, b: &Mapped<Named, ([u8; 3], u16)>) -> bool
     ensures { (x y : List ℕ × ℕ) → HoldsValue a.now x → HoldsValue b.now y →
         IsTrue result ↔ ((x.0 ≡ y.0) × (x.1 ≡ y.1)) }
@@ -133,7 +133,7 @@ fn are_one_named(a: &Mapped<Named, ([u8; 3], u16)>, b: &Mapped<Named, ([u8; 3], 
     are_one(a, b)
 }
 
-// Two keys compare as the tuples, and none begins the other.
+// Two keys compare as the tuples, and none is a prefix of the other.
 fn ascend<B, D>(rt: &impl Abort, alloc: Global, less: D, more: D) -> Result<(), AllocError>
 where
     B: OrderedMapping<D> + NoPrefixesMapping<D>,

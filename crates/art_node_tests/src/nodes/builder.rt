@@ -1,9 +1,9 @@
-//! Nodes built child by child. (`fixtures` builds those of the greater kinds.)
+//! Nodes built child by child. (`node_fixtures` builds those of the greater kinds.)
 use super::node_fixtures::{Pointer, leaf};
 use art_nodes::{InnerNode4, InnerNodeCommon, NodePtr, NodeType};
 use std::process::Abort;
 
-// The pointer to the small node under a slab key.
+// The pointer to the small node with a slab key.
 fn small_node(key: usize) -> Pointer {
     NodePtr::<16, InnerNode4<u8, u8, 16>>::from_key(key).to_opaque()
 }
@@ -49,7 +49,7 @@ fn a_builder_tells_what_was_written(rt: HostRuntime) {
     assert!(rt; builder.lookup_child(0).is_none());
 }
 
-// The child that a node over these two would rather be known by.
+// The child that a node with these two returns from `any_child_prefer_leaf`.
 fn preferred(low: Pointer, high: Pointer) -> Pointer {
     InnerNode4::<u8, u8, 16>::builder(&[], 0)
         .write_child(1, low)

@@ -11,7 +11,7 @@ use std::process::Abort;
 
 const EVEN: [u8; 16] = [0, 2, 4, 6, 8, 10, 12, 14, 16, 18, 20, 22, 24, 26, 28, 30];
 
-// What `has_children` looks for, at each representation.
+// What `has_children` tests, for each representation.
 fn sorted_has<const SIZE: usize>(
     rt: &impl Abort,
     node: &InnerNodeSorted<u8, u8, 16, SIZE>,
@@ -63,7 +63,8 @@ fn nodes_grow_and_shrink(rt: HostRuntime) {
     nodes_shrink(&rt);
 }
 
-// A node is full with a child under each of these bytes, as many as its kind holds, and not with fewer.
+// A node is full with a child under each of these bytes, as many as its kind holds, and not with
+// fewer.
 fn is_full_until_a_child_goes<N>(rt: &impl Abort, bytes: &[u8])
 where
     N: InnerNode<16, Key = u8, Value = u8> + InnerNodeCommon<u8, u8, 16> + Drop,

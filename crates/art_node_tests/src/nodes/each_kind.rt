@@ -1,4 +1,4 @@
-//! What every kind of inner node does with its children.
+//! The children of every kind of inner node.
 ghost use Rattle.std.specs.Prelude.{◌≤◌};
 ghost use Rattle.std.specs.Mem.{FitsInMemory};
 
@@ -6,7 +6,7 @@ use super::node_fixtures::{all_bytes, first_of, has_children, leaf, node_of, wit
 use art_nodes::{InnerNode4, InnerNode16, InnerNode48, InnerNodeCommon, InnerNodeDirect};
 use std::process::Abort;
 
-// A node with a child under the bytes 2 and 3 takes one over that under 3.
+// A node with a child under the bytes 2 and 3 replaces the child under 3.
 fn takes_a_child_over_another<N: InnerNodeCommon<u8, u8, 16>>(rt: &impl Abort, node: &mut N) {
     let n = node.num_children();
     assert!(rt; node.lookup_child(3).is_some());
@@ -28,7 +28,7 @@ fn removes<N: InnerNodeCommon<u8, u8, 16>>(rt: &impl Abort, node: &mut N, n: usi
     }
 }
 
-// These are the first bytes, as many as the node has room for.
+// These are the first bytes, as many as the node can hold.
 fn writes_and_removes<N: InnerNodeCommon<u8, u8, 16> + Drop>(rt: &impl Abort, bytes: &[u8])
     requires memory { FitsInMemory N.row }
     requires room { 2 ≤ N.room }
@@ -37,7 +37,7 @@ fn writes_and_removes<N: InnerNodeCommon<u8, u8, 16> + Drop>(rt: &impl Abort, by
     let mut node: N = with_bytes(rt, bytes);
     assert!(rt; node.capacity() == n);
     has_children(rt, &node, bytes);
-    // The node is full, and takes a child over one that is there.
+    // The node is full, and replaces a child that is there.
     takes_a_child_over_another(rt, &mut node);
     assert!(rt; node.num_children() == n);
     removes(rt, &mut node, n);

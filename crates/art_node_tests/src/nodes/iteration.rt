@@ -45,7 +45,7 @@ fn goes_from_both_ends<N: InnerNodeCommon<u8, u8, 16>>(
     assert!(rt; pairs.next_back() == None);
 }
 
-// Up, down, and from both ends in turn; after the last pair comes none for good.
+// Up, down, and from both ends in turn. After the last pair every call returns `None`.
 fn goes_both_ways<N: InnerNodeCommon<u8, u8, 16> + Drop>(rt: &impl Abort)
     requires memory { FitsInMemory N.row }
     requires room { 2 ≤ N.room }

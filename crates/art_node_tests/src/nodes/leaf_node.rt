@@ -1,4 +1,4 @@
-//! What a leaf keeps, and how it compares its key.
+//! The parts of a leaf, and comparisons of its key.
 use crate::ALL_STANDS;
 use art_nodes::{LeafNode, NodePtr};
 use std::alloc::AllocError;
@@ -40,7 +40,7 @@ fn check_leaf(
     assert!(rt; leaf.next() == next);
 }
 
-// Links a leaf of `ab`, and makes `c` more of its key and 702 its value.
+// Links a leaf of `ab`, extends its key by `c` and sets its value to 702.
 fn link_and_change(
     rt: &impl Abort,
     leaf: &mut StringLeaf,
@@ -86,7 +86,7 @@ fn check_texts(rt: &impl Abort, leaf: &Texts, previous: Option<NodePtr<16, Texts
     assert!(rt; leaf.next().is_none());
 }
 
-// Where the clone of the key or of the value is refused memory, the leaf stands.
+// Where the clone of the key or of the value fails, the leaf is unchanged.
 #[test]
 fn a_refused_clone_leaves_the_leaf(rt: HostRuntime) -> Result<(), Fail> {
     let key = String::from_str(rt.alloc(), "ab")?;

@@ -1,5 +1,5 @@
-//! What another crate does with nodes, by their bounds alone: each of these is proved from the clauses
-//! and laws of the bounds, for every `PREFIX_LEN`, with no lemma but the public laws.
+//! Generic callers of nodes. Each is proved from the clauses and laws of its bounds, for every
+//! `PREFIX_LEN`, with no lemma but the public laws.
 ghost use Rattle.std.specs.Prelude.{◌≡◌, ◌≢◌, ◌+◌, ◌<◌, ◌≤◌, ◌↔◌, length, slice_get, Some, None, IfSome, IsSome, IsTrue};
 ghost use Rattle.std.specs.Cmp.Lexicographic.{pointwise};
 ghost use Rattle.art_header.specs.Header.{capped};
@@ -10,12 +10,13 @@ ghost use Rattle.art_nodes.specs.Inner.{HasRoomFor, node_with_child};
 ghost use Rattle.art_nodes.specs.Pointers.{node_kind, opaque_key, opaque_pointer, slab_key};
 
 use art_nodes::{
-    ChildCommand, ChildReply, ConcreteInnerNodePtr, ConcreteNodePtr, HasOneChild, InnerNode, InnerNode4, InnerNode16,
-    InnerNode48, InnerNodeBuilder, InnerNodeCommon, InnerNodeDirect, InnerNodeSorted, LeafNode,
-    Node, NodePtr, OpaqueNodePtr, OptimisticMismatch, PessimisticMismatch, Sequence,
+    ChildCommand, ChildReply, ConcreteInnerNodePtr, ConcreteNodePtr, HasOneChild, InnerNode,
+    InnerNode4, InnerNode16, InnerNode48, InnerNodeBuilder, InnerNodeCommon, InnerNodeDirect,
+    InnerNodeSorted, LeafNode, Node, NodePtr, OpaqueNodePtr, OptimisticMismatch,
+    PessimisticMismatch, Sequence,
 };
 
-// What is written is found.
+// A child that is written is found.
 #[tactic(auto, using(art_nodes::proofs::ChildMapLaws::child_at_written))]
 fn write_then_look_up<K, V, const PREFIX_LEN: usize, N: InnerNodeCommon<K, V, PREFIX_LEN>>(
     node: &mut N,
@@ -43,7 +44,7 @@ fn remove_then_look_up_another<K, V, const PREFIX_LEN: usize, N: InnerNodeCommon
     node.lookup_child(other)
 }
 
-// A node that is not full takes one child more.
+// A node that is not full takes another child.
 fn write_where_there_is_room<const PREFIX_LEN: usize, N: InnerNode<PREFIX_LEN>>(
     node: &mut N,
     byte: u8,
@@ -58,7 +59,7 @@ fn write_where_there_is_room<const PREFIX_LEN: usize, N: InnerNode<PREFIX_LEN>>(
     true
 }
 
-// A builder that is handed over takes a second child under another byte, where there is room for it.
+// A builder with one child takes a second under another byte, where it has spare capacity.
 fn write_second<K, V, const PREFIX_LEN: usize, N: InnerNodeCommon<K, V, PREFIX_LEN> + Drop>(
     builder: InnerNodeBuilder<K, V, PREFIX_LEN, N, HasOneChild>,
     byte: u8,
@@ -97,7 +98,7 @@ fn count_of_one<K, V, const PREFIX_LEN: usize, N: InnerNodeCommon<K, V, PREFIX_L
     builder.num_children()
 }
 
-// A node that is full grows, and then takes one child more.
+// A node that is full grows, and then takes another child.
 fn grow_then_write<const PREFIX_LEN: usize, N: InnerNode<PREFIX_LEN>>(
     node: &N,
     byte: u8,
@@ -135,7 +136,7 @@ fn count<const PREFIX_LEN: usize, N: InnerNode<PREFIX_LEN>>(node: &N) -> usize
     node.num_children()
 }
 
-// The stored front and the length of the whole prefix.
+// The stored prefix and the length of the whole prefix.
 fn read_the_prefix<K, V, const PREFIX_LEN: usize, N: InnerNodeCommon<K, V, PREFIX_LEN>>(
     node: &N,
 ) -> (&[u8], usize)
@@ -146,7 +147,8 @@ fn read_the_prefix<K, V, const PREFIX_LEN: usize, N: InnerNodeCommon<K, V, PREFI
     (node.stored_prefix(), node.prefix_len())
 }
 
-// Past a prefix that a key passes, and the byte after it.
+// One step of a search: past a prefix that the key matches and the byte after it, and the child
+// there.
 fn step<K, V, const PREFIX_LEN: usize, N: InnerNodeCommon<K, V, PREFIX_LEN>>(
     node: &N,
     key: &[u8],
@@ -167,7 +169,7 @@ fn step<K, V, const PREFIX_LEN: usize, N: InnerNodeCommon<K, V, PREFIX_LEN>>(
     Some((end + 1, child))
 }
 
-// The least byte has the child that comes with it.
+// The least byte has the child that is returned with it.
 #[tactic(auto, using(art_nodes::proofs::ChildMapLaws::child_at_first))]
 fn look_up_the_least<K, V, const PREFIX_LEN: usize, N: InnerNodeCommon<K, V, PREFIX_LEN>>(
     node: &N,
@@ -179,14 +181,14 @@ fn look_up_the_least<K, V, const PREFIX_LEN: usize, N: InnerNodeCommon<K, V, PRE
     node.lookup_child(byte)
 }
 
-// Sequences are equal where their items are, one by one.
+// Sequences are equal where their items are.
 fn are_equal<T: PartialEq>(a: &Sequence<T>, b: &Sequence<T>) -> bool
     ensures { result ≡ pointwise T.eq a.now b.now }
 {
     a == b
 }
 
-// Where lengths alone were compared, no byte is told.
+// Where only lengths were compared, there is no byte.
 fn without_a_byte(mismatch: OptimisticMismatch) -> PessimisticMismatch
     ensures { result ≡ record { matched_bytes = mismatch.matched_bytes; prefix_byte = None } }
 {
@@ -202,7 +204,7 @@ fn points_to<const PREFIX_LEN: usize, N: Node<PREFIX_LEN>>(
     NodePtr::<PREFIX_LEN, N>::from_key(key).to_opaque()
 }
 
-// A pointer by kind points where the pointer that it is made of does.
+// A pointer by kind points to the node of the pointer that it is made of.
 fn node4_by_kind<K, V, const PREFIX_LEN: usize>(
     pointer: NodePtr<PREFIX_LEN, InnerNode4<K, V, PREFIX_LEN>>,
 ) -> OpaqueNodePtr<K, V, PREFIX_LEN>
@@ -276,14 +278,14 @@ fn inner_node256_by_kind<K, V, const PREFIX_LEN: usize>(
     ConcreteInnerNodePtr::from(pointer).to_opaque()
 }
 
-// The default pointer is the one of the first kind and the first key.
+// The default pointer is the one of the first kind and the first slab key.
 fn default_pointer<K, V, const PREFIX_LEN: usize>() -> OpaqueNodePtr<K, V, PREFIX_LEN>
     ensures { result ≡ opaque_pointer Node4 0 }
 {
     OpaqueNodePtr::default()
 }
 
-// A sorted node stays the same node with a place for each byte.
+// A sorted node converted to a direct node is the same node.
 fn direct_from_sorted<K, V, const PREFIX_LEN: usize, const SIZE: usize>(
     node: &InnerNodeSorted<K, V, PREFIX_LEN, SIZE>,
 ) -> InnerNodeDirect<K, V, PREFIX_LEN>

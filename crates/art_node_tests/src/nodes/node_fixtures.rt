@@ -1,4 +1,4 @@
-//! What the tests share.
+//! What the tests of nodes share.
 ghost use Rattle.std.specs.Prelude.{◌≤◌};
 ghost use Rattle.std.specs.Mem.{FitsInMemory};
 
@@ -8,12 +8,12 @@ use std::process::Abort;
 
 pub(crate) type Pointer = OpaqueNodePtr<u8, u8, 16>;
 
-/// The pointer to the leaf under a slab key.
+/// The pointer to the leaf with a slab key.
 pub(crate) fn leaf<const PREFIX_LEN: usize>(key: usize) -> OpaqueNodePtr<u8, u8, PREFIX_LEN> {
     NodePtr::<PREFIX_LEN, LeafNode<u8, u8, PREFIX_LEN>>::from_key(key).to_opaque()
 }
 
-/// Writes the leaf with this key under a new byte, which there has to be room for.
+/// Writes the leaf with this key under a new byte. Condition: the node has spare capacity.
 pub(crate) fn write<N: InnerNodeCommon<u8, u8, 16>>(
     rt: &impl Abort,
     node: &mut N,
@@ -40,7 +40,8 @@ pub(crate) fn pair<K, V, N: InnerNodeCommon<K, V, 16> + Drop>(
         .build()
 }
 
-/// A node with this prefix, of at most 16 bytes, and the leaf beside each byte, written in this order.
+/// A node with this prefix, of at most 16 bytes, and the leaf beside each byte, written in this
+/// order.
 pub(crate) fn node_of<N: InnerNodeCommon<u8, u8, 16> + Drop>(
     rt: &impl Abort,
     prefix: &[u8],
@@ -67,13 +68,13 @@ pub(crate) fn all_bytes() -> [u8; 256] {
     bytes
 }
 
-/// The first of them, so many.
+/// The first `count` of them.
 pub(crate) fn first_of<'a>(rt: &impl Abort, bytes: &'a [u8; 256], count: usize) -> &'a [u8] {
     assert!(rt; count <= 256);
     &bytes[..count]
 }
 
-/// Writes the leaf under the key of its number beside each of these bytes, in this order.
+/// Writes under each of these bytes, in this order, the leaf whose slab key is the byte.
 pub(crate) fn write_bytes<N: InnerNodeCommon<u8, u8, 16>>(
     rt: &impl Abort,
     node: &mut N,
@@ -84,7 +85,7 @@ pub(crate) fn write_bytes<N: InnerNodeCommon<u8, u8, 16>>(
     }
 }
 
-/// A node with the prefix that [`has_children`] looks for, and these bytes written.
+/// A node with the prefix that [`has_children`] tests, and these bytes written.
 pub(crate) fn with_bytes<N: InnerNodeCommon<u8, u8, 16> + Drop>(rt: &impl Abort, bytes: &[u8]) -> N
     requires memory { FitsInMemory N.row }
     requires room { 2 ≤ N.room }
@@ -94,8 +95,8 @@ pub(crate) fn with_bytes<N: InnerNodeCommon<u8, u8, 16> + Drop>(rt: &impl Abort,
     node
 }
 
-/// Each of these bytes has the leaf under the key of its number, and the others have none. The prefix
-/// is `prefix`.
+/// Each of these bytes has the leaf whose slab key is the byte, and the others have none. The
+/// prefix is `prefix`.
 pub(crate) fn has_children<N: InnerNodeCommon<u8, u8, 16>>(
     rt: &impl Abort,
     node: &N,
@@ -111,7 +112,7 @@ pub(crate) fn has_children<N: InnerNodeCommon<u8, u8, 16>>(
     }
 }
 
-/// The range has the leaf beside each of these bytes, and no others, from the front and from the back.
+/// The range has exactly the leaf beside each of these bytes, from the start and from the end.
 pub(crate) fn has_range<N: InnerNodeCommon<u8, u8, 16>>(
     rt: &impl Abort,
     node: &N,

@@ -1,4 +1,4 @@
-//! Pointers, and the kinds that they know.
+//! Pointers, and the kinds that they have.
 use super::node_fixtures::{Pointer, leaf};
 use crate::fixtures::hash_of;
 use art_nodes::{
@@ -7,7 +7,7 @@ use art_nodes::{
 };
 use std::process::Abort;
 
-// Of the five kinds, the pointer is of the one at this place alone.
+// Of the five kinds, the pointer is of the one at this place only.
 fn is_one_kind(rt: &impl Abort, pointer: Pointer, place: usize) {
     let kinds = [
         pointer.is::<InnerNode4<u8, u8, 16>>(),

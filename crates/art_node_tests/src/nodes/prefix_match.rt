@@ -1,4 +1,4 @@
-//! Prefixes that a node stores in part, and wholly.
+//! Prefixes that a node stores in part, and as a whole.
 use super::node_fixtures::{leaf, pair};
 use art_header::{NodeType, NonMaxIndex};
 use art_mapped::Identity;

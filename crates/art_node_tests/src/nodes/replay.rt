@@ -11,7 +11,7 @@ type Command = ChildCommand<u8, u8, 2>;
 
 type Reply = ChildReply<u8, u8, 2>;
 
-// The replies to these commands, and the node that they leave.
+// The replies to these commands, and the node after them.
 fn run(
     rt: &(impl Abort + AllocGlobal),
     commands: &[Command],
@@ -19,7 +19,7 @@ fn run(
     Ok(replay(rt.alloc(), Header::new(b"", 0), commands)?)
 }
 
-// A run that meets each command, and goes from one kind to the next and back.
+// A run that has each command, and goes from one kind to the next and back.
 fn steps() -> [Command; 15] {
     [
         Command::Write(0, leaf(1)),
@@ -40,7 +40,7 @@ fn steps() -> [Command; 15] {
     ]
 }
 
-// What each step is answered.
+// The reply to each step.
 fn replies_to_steps() -> [Reply; 15] {
     [
         Reply::Child(None),
@@ -61,7 +61,7 @@ fn replies_to_steps() -> [Reply; 15] {
     ]
 }
 
-// What is answered, and the kind and the number of children of the node that is left.
+// The replies, and the kind and the number of children of the node after them.
 fn check_answer(
     rt: &impl Abort,
     answer: &(Vec<Reply>, ChildNode<u8, u8, 2>),
@@ -73,8 +73,8 @@ fn check_answer(
     assert!(rt; (node.node_type(), node.num_children()) == left);
 }
 
-// These commands are answered so. A run that is refused memory answers nothing, the next one
-// everything, and the test ends.
+// The replies to these commands. A run in which an allocation fails returns nothing, the next one
+// succeeds, and the test ends.
 fn check_run(
     rt: &(impl Abort + AllocGlobal),
     commands: &[Command],
@@ -137,7 +137,7 @@ fn a_refused_run_is_answered_by_the_next(rt: HostRuntime) -> Result<(), Fail> {
     check_run(&rt, &commands, &wanted, (NodeType::Node4, 1))
 }
 
-// Each command with ample memory, one after another, with its answer.
+// Each command with ample memory, one after another, with its reply.
 #[test]
 fn apply_answers_each_command(rt: HostRuntime) -> Result<(), Fail> {
     let mut node = ChildNode::from_header(Header::<2>::new(b"", 0));
@@ -182,7 +182,7 @@ fn apply_answers_each_command(rt: HostRuntime) -> Result<(), Fail> {
     Ok(())
 }
 
-// Each equals itself alone.
+// Each equals only itself.
 fn equal_themselves_alone<T: PartialEq>(rt: &impl Abort, values: &[T]) {
     for (index, value) in values.iter().enumerate() {
         for (place, other) in values.iter().enumerate() {
@@ -239,7 +239,7 @@ fn commands_and_replies_of_other_values_differ(rt: HostRuntime) -> Result<(), Fa
     Ok(())
 }
 
-// The kind and the number of children that these commands leave.
+// The kind and the number of children of the node after these commands.
 fn left_by(
     rt: &(impl Abort + AllocGlobal),
     commands: &[Command],
@@ -248,7 +248,7 @@ fn left_by(
     Ok((node.node_type(), node.num_children()))
 }
 
-// A range without bounds answers the leaf of each byte.
+// A range without bounds returns the leaf of each byte.
 fn check_all_leaves(rt: &(impl Abort + AllocGlobal), writes: &[Command]) -> Result<(), Fail> {
     let mut node = ChildNode::from_header(Header::<2>::new(b"", 0));
     let mut bytes = Vec::new(rt.alloc());
@@ -333,7 +333,7 @@ fn a_node_of_20_children_answers_ranges(rt: HostRuntime) -> Result<(), Fail> {
     Ok(())
 }
 
-// Where the pairs are refused memory the node stands, and the next call has them.
+// Where the allocation for the pairs fails, the node is unchanged, and the next call returns them.
 #[test]
 fn a_refused_range_leaves_the_node(rt: HostRuntime) -> Result<(), Fail> {
     let alloc = rt.alloc();

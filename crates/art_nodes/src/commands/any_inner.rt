@@ -1,4 +1,4 @@
-//! An inner node of any kind, which the program picks as it runs.
+//! An inner node whose kind is chosen at run time.
 ghost use Rattle.std.specs.Prelude.{◌≡◌, ◌≢◌, ◌<◌, ◌≤◌, ◌↔◌, IsTrue, length, IfOk};
 ghost use Rattle.art_header.specs.NodeType.{least_children, most_children, grown_kind, shrunk_kind};
 ghost use Rattle.art_nodes.specs.AnyInner.{inner_of, kind_of};
@@ -16,8 +16,8 @@ use art_header::{Header, NodeType};
 use std::alloc::{AllocError, Global};
 use std::ops::Bound;
 
-/// An inner node of any kind. Its calls are those of [`InnerNodeCommon`], but `min` and `max`
-/// answer `None` where there is no child.
+/// An inner node of any kind. Its calls are those of [`InnerNodeCommon`], except that `min` and
+/// `max` return `None` where there is no child.
 #[derive(Drop)]
 pub(crate) enum AnyInner<K, V, const PREFIX_LEN: usize> {
     Node4(InnerNode4<K, V, PREFIX_LEN>),
@@ -26,7 +26,7 @@ pub(crate) enum AnyInner<K, V, const PREFIX_LEN: usize> {
     Node256(InnerNodeDirect<K, V, PREFIX_LEN>),
 }
 
-// The pairs in a vector with room for so many.
+// The pairs in a vector with capacity for so many.
 fn gathered<K, V, const PREFIX_LEN: usize>(
     alloc: Global,
     pairs: ChildIter<'_, K, V, PREFIX_LEN>,
@@ -41,7 +41,7 @@ fn gathered<K, V, const PREFIX_LEN: usize>(
     Ok(gathered)
 }
 
-// Runs an expression on the node, of whichever kind it is.
+// Evaluates an expression on the node, whichever kind it is.
 macro_rules! with_node {
     ($any:expr, $node:ident => $run:expr) => {
         match $any {
@@ -128,7 +128,7 @@ impl<K, V, const PREFIX_LEN: usize> AnyInner<K, V, PREFIX_LEN> {
         self.iter().next_back()
     }
 
-    /// The pairs within the bounds, which have to be valid, in a vector.
+    /// The pairs within the bounds, in a vector. Condition: the bounds are valid.
     pub(crate) fn pairs_within(
         &self,
         alloc: Global,
@@ -140,7 +140,7 @@ impl<K, V, const PREFIX_LEN: usize> AnyInner<K, V, PREFIX_LEN> {
             IfOk result (λ pairs. pairs.items ≡ pairs_within children start end) }
     {
         let counted = with_node!(self, node => node.range(start, end));
-        // What to make room for, which changes no answer.
+        // The capacity to reserve. It has no effect on the result.
         let count = counted.fold(0, |count: usize, _| count.saturating_add(1));
         let pairs = with_node!(self, node => node.range(start, end));
         gathered(alloc, pairs, count)
@@ -155,7 +155,7 @@ impl<K, V, const PREFIX_LEN: usize> AnyInner<K, V, PREFIX_LEN> {
         self.num_children() == *self.node_type().capacity_range().end()
     }
 
-    /// Whether the node has fewer children than a node of its kind is to have.
+    /// Whether the node has fewer children than a node of its kind has in a tree.
     pub(crate) fn is_below_range(&self) -> bool
         ensures sound { IsInner PREFIX_LEN (most_children (kind_of self.now)) (inner_of self.now) }
         ensures value { let kind = kind_of self.now in
@@ -166,7 +166,7 @@ impl<K, V, const PREFIX_LEN: usize> AnyInner<K, V, PREFIX_LEN> {
             .should_shrink_inner_node(self.num_children())
     }
 
-    /// Makes the node one of the next greater kind, which there has to be.
+    /// Makes the node one of the next greater kind. Condition: there is one.
     pub(crate) fn grow(&mut self)
         requires { kind_of self.old ≢ NodeType.Node256 }
         ensures same { inner_of self.new ≡ inner_of self.old }
@@ -181,7 +181,7 @@ impl<K, V, const PREFIX_LEN: usize> AnyInner<K, V, PREFIX_LEN> {
         *self = grown;
     }
 
-    /// Makes the node one of the next smaller kind, which there has to be and which has to hold the
+    /// Makes the node one of the next smaller kind. Condition: there is one, and it holds the
     /// children.
     pub(crate) fn shrink(&mut self)
         requires kind { kind_of self.old ≢ NodeType.Node4 }

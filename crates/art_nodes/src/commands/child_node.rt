@@ -1,4 +1,4 @@
-//! A node that takes child commands and keeps itself the smallest kind that holds its children.
+//! A node that takes child commands and keeps the smallest kind that holds its children.
 ghost use Rattle.std.specs.Prelude.{◌≡◌, ◌<◌, length, OnErr, IfOk, OnOk};
 ghost use Rattle.art_header.specs.NodeType.{kind_for, most_children};
 ghost use Rattle.art_nodes.specs.ChildMap.{child_at, pairs_within, AreValidBounds};
@@ -17,6 +17,15 @@ use std::marker::Model;
 use std::ops::Bound;
 
 /// An inner node that is always of the smallest kind that holds its children.
+///
+/// (from crates/art_node_tests/src/nodes/replay.rt)
+/// ```rust
+/// let mut node = ChildNode::from_header(Header::<2>::new(b"", 0));
+/// for byte in 0..20u8 {
+///     node.apply(rt.alloc(), &Command::Write(byte, leaf(usize::from(byte))))?;
+/// }
+/// assert!(rt; node.node_type() == NodeType::Node48);
+/// ```
 #[derive(Drop)]
 pub struct ChildNode<K, V, const PREFIX_LEN: usize> {
     node: AnyInner<K, V, PREFIX_LEN>,
@@ -36,7 +45,8 @@ impl<K, V, const PREFIX_LEN: usize> Model for ChildNode<K, V, PREFIX_LEN> {
 }
 
 impl<K, V, const PREFIX_LEN: usize> ChildNode<K, V, PREFIX_LEN> {
-    /// An empty `Node4` with the prefix of this header, whatever the header's count.
+    /// A `Node4` with the prefix of this header and no children, whatever the header's count. Takes
+    /// no memory.
     pub fn from_header(header: Header<PREFIX_LEN>) -> Self
         ensures { result ≡ empty_inner header.entry }
     {
@@ -61,7 +71,7 @@ impl<K, V, const PREFIX_LEN: usize> ChildNode<K, V, PREFIX_LEN> {
         self.node.node_type()
     }
 
-    /// The number of children.
+    /// The number of children, at most 256.
     pub fn num_children(&self) -> usize
         ensures count { result ≡ length self.now.children }
         ensures sound { let kind = kind_for (length self.now.children) in
@@ -70,11 +80,11 @@ impl<K, V, const PREFIX_LEN: usize> ChildNode<K, V, PREFIX_LEN> {
         self.node.num_children()
     }
 
-    /// Does what the command says, and answers it.
+    /// Applies the command and returns its reply. The prefix is unchanged, and the node is of the
+    /// smallest kind that holds its children.
     ///
-    /// Memory is asked for only by a [`ChildCommand::Range`] with valid bounds. Where it is refused,
-    /// the node is as before. The prefix stays, and the node is of the smallest kind that holds its
-    /// children.
+    /// Error: [`AllocError`] on an allocation failure. Only a [`ChildCommand::Range`] with valid
+    /// bounds takes memory. The node is then unchanged.
     pub fn apply(
         &mut self,
         alloc: Global,
@@ -96,7 +106,7 @@ impl<K, V, const PREFIX_LEN: usize> ChildNode<K, V, PREFIX_LEN> {
         }
     }
 
-    // Answers the child that was there.
+    // Returns the child that was there.
     fn write(
         &mut self,
         byte: u8,
@@ -113,7 +123,7 @@ impl<K, V, const PREFIX_LEN: usize> ChildNode<K, V, PREFIX_LEN> {
         old_child
     }
 
-    // Answers the child that was there.
+    // Returns the child that was there.
     fn remove(&mut self, byte: u8) -> Option<OpaqueNodePtr<K, V, PREFIX_LEN>>
         ensures old_child { result ≡ child_at self.old.children byte }
         ensures removed { self.new ≡ node_without_child self.old byte }
@@ -125,7 +135,7 @@ impl<K, V, const PREFIX_LEN: usize> ChildNode<K, V, PREFIX_LEN> {
         old_child
     }
 
-    // Answers the pairs within the bounds, or that the bounds are not valid.
+    // Replies with the pairs within the bounds, or that the bounds are not valid.
     fn range(
         &self,
         alloc: Global,

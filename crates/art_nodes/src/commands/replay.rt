@@ -7,17 +7,27 @@ use crate::commands::command::{ChildCommand, ChildReply};
 use art_header::Header;
 use std::alloc::{AllocError, Global};
 
-/// What [`replay`] hands out: the reply to each command, and the node that the commands leave.
+/// The result of [`replay`]: the reply to each command, and the node after the last command.
+///
+/// (from crates/art_node_tests/src/nodes/replay.rt)
+/// ```rust
+/// let mut header = Header::<2>::new(b"abc", 3);
+/// header.inc_num_children();
+/// let (replies, node) = replay(rt.alloc(), header, &[] as &[Command])?;
+/// assert!(rt; replies.is_empty());
+/// assert!(rt; node.num_children() == 0);
+/// assert!(rt; node.header().prefix_len() == 3);
+/// ```
 pub type Replayed<K, V, const PREFIX_LEN: usize> = (
     Vec<ChildReply<K, V, PREFIX_LEN>>,
     ChildNode<K, V, PREFIX_LEN>,
 );
 
-/// Applies the commands in order to an empty node with the prefix of `header`, whatever the
-/// header's count, and answers each reply with the node that is left.
+/// Applies the commands in order to a node with the prefix of `header` and no children, whatever
+/// the header's count. Returns the replies in order, and the node.
 ///
-/// The node's kind is the smallest that holds its children ([`ChildNode::node_type`]). A refusal for
-/// want of memory hands out nothing.
+/// The node is of the smallest kind that holds its children ([`ChildNode::node_type`]). Error:
+/// [`AllocError`] on an allocation failure; then neither replies nor a node are returned.
 pub fn replay<K, V, const PREFIX_LEN: usize>(
     alloc: Global,
     header: Header<PREFIX_LEN>,

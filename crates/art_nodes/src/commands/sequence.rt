@@ -4,6 +4,13 @@ ghost use Rattle.std.specs.Prelude.{◌≡◌};
 use std::marker::Model;
 
 /// The items of a vector, in order.
+///
+/// (from crates/art_node_tests/src/nodes/replay.rt)
+/// ```rust
+/// let numbers = Sequence::from_vec(vec![in rt.alloc(); 3, 1, 2]?);
+/// assert!(rt; numbers.as_slice() == [3, 1, 2].as_slice());
+/// assert!(rt; numbers.into_vec().as_slice() == [3, 1, 2].as_slice());
+/// ```
 #[derive(Drop)]
 pub struct Sequence<T> {
     items: Vec<T>,
@@ -18,14 +25,14 @@ impl<T> Model for Sequence<T> {
 }
 
 impl<T> Sequence<T> {
-    /// The items of this vector. It takes no memory.
+    /// The items of this vector. Takes no memory.
     pub fn from_vec(items: Vec<T>) -> Self
         ensures { result ≡ items.items }
     {
         Sequence { items }
     }
 
-    /// The vector of the items. It takes no memory.
+    /// The vector of the items. Takes no memory.
     pub fn into_vec(self) -> Vec<T>
         ensures { result.items ≡ self }
     {
@@ -41,7 +48,7 @@ impl<T> Sequence<T> {
     }
 }
 
-/// Two sequences are equal where they are as long and their items are, place by place.
+/// Two sequences are equal where they have the same length and equal items at each index.
 impl<T: PartialEq> PartialEq for Sequence<T> {
     ghost use Rattle.std.specs.Cmp.Lexicographic.{pointwise, lists_per};
 

@@ -1,4 +1,4 @@
-//! A builder of inner nodes, which hands out none with fewer than two children.
+//! A builder of inner nodes. It builds no node with fewer than two children.
 ghost use Rattle.std.specs.Prelude.{◌≡◌, ◌≤◌, ◌<◌, ◌^◌, ℕ, length, All, IsNone, IfSome};
 ghost use Rattle.std.specs.Option.{option_map};
 ghost use Rattle.art_header.specs.Header.{capped, empty_header};
@@ -11,15 +11,19 @@ use crate::pointers::OpaqueNodePtr;
 use crate::sealed::{InThisCrate, Sealed};
 use std::marker::{Model, PhantomData};
 
-/// How many children a builder's node has so far.
+/// How many children a builder's node has so far: none, one, or two or more.
+///
+/// [`InnerNodeBuilder`] has an example.
 pub trait BuilderState: Sealed {
     ghost use Rattle.std.specs.Prelude.{ℕ};
 
-    /// A node in this state has so many children.
+    /// A node in this state may have this number of children.
     ghost Counts: { ℕ → Type 0 };
 }
 
 /// No child has been written.
+///
+/// [`InnerNodeBuilder`] has an example.
 #[derive(Drop)]
 pub struct NoChild;
 
@@ -32,6 +36,8 @@ impl BuilderState for NoChild {
 }
 
 /// One child has been written.
+///
+/// [`InnerNodeBuilder`] has an example.
 #[derive(Drop)]
 pub struct HasOneChild;
 
@@ -44,6 +50,8 @@ impl BuilderState for HasOneChild {
 }
 
 /// Two children or more have been written.
+///
+/// [`InnerNodeBuilder`] has an example.
 #[derive(Drop)]
 pub struct HasChild;
 
@@ -55,7 +63,18 @@ impl BuilderState for HasChild {
     ghost Counts = { λ n. 2 ≤ n };
 }
 
-/// Builds an inner node of the type `N`. Only a node of two children or more can be built.
+/// Builds an inner node of the type `N`, child by child. Only a node of two children or more can be
+/// built. No call takes memory. [`InnerNodeCommon::builder`] begins one.
+///
+/// (from crates/art_node_tests/src/nodes/builder.rt)
+/// ```rust
+/// let small = InnerNode4::<u8, u8, 16>::builder(b"prefix", 6)
+///     .write_child(1, leaf(8))
+///     .write_child(0, leaf(7))
+///     .write_child(200, leaf(9))
+///     .write_child(200, leaf(10))
+///     .build();
+/// ```
 #[derive(Drop)]
 pub struct InnerNodeBuilder<
     K,
@@ -86,8 +105,8 @@ impl<
     N: InnerNodeCommon<K, V, PREFIX_LEN>,
     S: BuilderState,
 > InnerNodeBuilder<K, V, PREFIX_LEN, N, S> {
-    /// How many children the node has room for. With the count and the look-ups it tells whether the
-    /// conditions of the next write hold.
+    /// The greatest number of children of the node. With the number of children and the look-ups it
+    /// tests the conditions of the next write.
     pub fn capacity(&self) -> usize
         ensures { result ≡ N.room }
     {
@@ -131,7 +150,8 @@ impl<K, V, const PREFIX_LEN: usize, N: InnerNodeCommon<K, V, PREFIX_LEN>> InnerN
     N,
     NoChild,
 > {
-    /// A builder of a node with this prefix. It asks what [`Header::new`](crate::Header::new) asks.
+    /// A builder of a node with this prefix. Conditions: those of
+    /// [`Header::new`](crate::Header::new).
     pub(crate) fn new(prefix: &[u8], prefix_len: usize) -> Self
         requires has_stored_bytes { capped PREFIX_LEN prefix_len ≤ length prefix.now }
         requires no_longer { length prefix.now ≤ prefix_len }
@@ -144,7 +164,7 @@ impl<K, V, const PREFIX_LEN: usize, N: InnerNodeCommon<K, V, PREFIX_LEN>> InnerN
         }
     }
 
-    /// Writes the first child. The node has to have room for it.
+    /// Writes the first child. Condition: the node has spare capacity.
     pub fn write_child(
         mut self,
         key_byte: u8,
@@ -168,8 +188,8 @@ impl<K, V, const PREFIX_LEN: usize, N: InnerNodeCommon<K, V, PREFIX_LEN>> InnerN
     N,
     HasOneChild,
 > {
-    /// Writes the second child, under another byte than the first. The node has to have room for
-    /// it.
+    /// Writes the second child. Conditions: its byte is not that of the first, and the node has
+    /// spare capacity.
     pub fn write_child(
         mut self,
         key_byte: u8,
@@ -194,8 +214,8 @@ impl<K, V, const PREFIX_LEN: usize, N: InnerNodeCommon<K, V, PREFIX_LEN>> InnerN
     N,
     HasChild,
 > {
-    /// Writes one child more, or over the one under this byte. The node has to have room for a new
-    /// one.
+    /// Writes a child, and replaces any that is there. Condition: under a new byte, the node has
+    /// spare capacity.
     pub fn write_child(mut self, key_byte: u8, child: OpaqueNodePtr<K, V, PREFIX_LEN>) -> Self
         requires { HasRoomFor N.room (N.inner self) key_byte }
         ensures { N.inner result ≡ node_with_child (N.inner self) key_byte child }
@@ -204,7 +224,7 @@ impl<K, V, const PREFIX_LEN: usize, N: InnerNodeCommon<K, V, PREFIX_LEN>> InnerN
         self
     }
 
-    /// The node, which has two children or more.
+    /// The node. It has two children or more.
     pub fn build(self) -> N
         ensures node { result ≡ self }
         ensures two_or_more { 2 ≤ length (N.inner result).children }
@@ -221,8 +241,8 @@ impl<K, V, const PREFIX_LEN: usize> InnerNodeBuilder<
     InnerNode4<K, V, PREFIX_LEN>,
     NoChild,
 > {
-    /// Writes the first child without a search. The node has to have room for it and no byte at or
-    /// above this one; a new builder meets the latter always.
+    /// Writes the first child without a search. Conditions: the node has spare capacity and no byte
+    /// at or above this one. A new builder always meets the second.
     pub fn write_child_unchecked(
         mut self,
         key_byte: u8,
@@ -247,8 +267,8 @@ impl<K, V, const PREFIX_LEN: usize> InnerNodeBuilder<
     InnerNode4<K, V, PREFIX_LEN>,
     HasOneChild,
 > {
-    /// Writes the second child without a search, under a byte above the first one's. The node has
-    /// to have room for it.
+    /// Writes the second child without a search. Conditions: its byte is above that of the first,
+    /// and the node has spare capacity.
     pub fn write_child_unchecked(
         mut self,
         key_byte: u8,
@@ -273,8 +293,8 @@ impl<K, V, const PREFIX_LEN: usize> InnerNodeBuilder<
     InnerNode4<K, V, PREFIX_LEN>,
     HasChild,
 > {
-    /// Writes one child more without a search, under a byte above every byte there. The node has to
-    /// have room for it.
+    /// Writes another child without a search. Conditions: its byte is above every byte of the node,
+    /// and the node has spare capacity.
     pub fn write_child_unchecked(
         mut self,
         key_byte: u8,

@@ -1,4 +1,4 @@
-//! Three ways to keep the children of an inner node, and conversions between them.
+//! The three representations of an inner node, and conversions between them.
 pub(crate) mod conversions;
 pub(crate) mod inner_node_direct;
 pub(crate) mod inner_node_indirect;

@@ -1,3 +1,3 @@
-//! What every inner node does, and how it grows and shrinks.
+//! The traits of nodes and of inner nodes, and how an inner node grows and shrinks.
 pub(crate) mod inner_node;
 pub(crate) mod node;

@@ -5,9 +5,8 @@ ghost use Rattle.art_nodes.specs.PairSources.{first_byte, end_byte};
 
 use std::ops::{Bound, Range};
 
-/// Whether a range of key bytes may have these bounds.
-///
-/// It may not where both are excluded and equal, or where the start's number is above the end's.
+/// Whether a range of key bytes may have these bounds. It may not where both are excluded and
+/// equal, or where the start is above the end.
 pub fn valid_range_bounds(start: Bound<u8>, end: Bound<u8>) -> bool
     ensures { IsTrue result ↔ AreValidBounds start end }
 {

@@ -16,19 +16,28 @@ use std::iter::FusedIterator;
 use std::marker::Model;
 use std::ops::Bound;
 
-/// The pairs of a byte and the child under it that an inner node has, by ascending byte.
-///
-/// It borrows the node and takes no memory. Each pair comes once, from the front or from the back,
-/// and after the last pair comes `None` for good.
+/// An iterator over the children of an inner node, as pairs of a byte and a child, by ascending
+/// byte. See [`PairIter`].
 pub type ChildIter<'a, K, V, const PREFIX_LEN: usize> = PairIter<
     'a,
     OpaqueNodePtr<K, V, PREFIX_LEN>,
 >;
 
-/// Pairs of a byte and what is kept under it, by ascending byte.
+/// An iterator over pairs of a byte and the item under it, by ascending byte.
 ///
-/// It borrows the node and takes no memory. Each pair comes once, from the front or from the back,
-/// and after the last pair comes `None` for good.
+/// It borrows the node and takes no memory. Each pair is returned once, from the start or from the
+/// end. After the last pair every call returns `None`.
+///
+/// (from crates/art_node_tests/src/nodes/iteration.rt)
+/// ```rust
+/// let mut pairs = node.iter();
+/// assert!(rt; pairs.next() == Some(first));
+/// assert!(rt; pairs.next_back() == Some(fourth));
+/// assert!(rt; pairs.next() == Some(second));
+/// assert!(rt; pairs.next_back() == Some(third));
+/// assert!(rt; pairs.next() == None);
+/// assert!(rt; pairs.next_back() == None);
+/// ```
 #[derive(Drop)]
 pub struct PairIter<'a, H> {
     source: Source<'a, H>,
@@ -53,7 +62,7 @@ impl<'a, H> Model for PairIter<'a, H> {
 }
 
 impl<'a, H: Copy> PairIter<'a, H> {
-    /// Over ascending bytes with the children beside them.
+    /// Iterates over ascending bytes with their children.
     pub(crate) fn over_sorted(keys: &'a [u8], children: &'a [H]) -> Self
         requires { length children.now ≡ length keys.now }
         ensures { result ≡ sorted_children keys.now children.now }
@@ -63,7 +72,7 @@ impl<'a, H: Copy> PairIter<'a, H> {
         }
     }
 
-    /// Over a table with a place for each byte.
+    /// Iterates over a table with a place for each byte.
     pub(crate) fn over_table(table: &'a ChildTable<H>) -> Self
         ensures { result ≡ table_children 0 table.now }
     {
@@ -72,7 +81,7 @@ impl<'a, H: Copy> PairIter<'a, H> {
         }
     }
 
-    /// Over the pairs of a table that has the index of each child.
+    /// Iterates over the pairs of a table that has the index of each child.
     pub(crate) fn over_indices(pairs: IndexPairs<'a, H>) -> Self
         ensures { result ≡ pairs.entry }
     {
@@ -81,7 +90,7 @@ impl<'a, H: Copy> PairIter<'a, H> {
         }
     }
 
-    /// Over those of the ascending bytes that meet both bounds, with the children beside them.
+    /// Iterates over the ascending bytes that meet both bounds, with their children.
     pub(crate) fn over_sorted_range(
         keys: &'a [u8],
         children: &'a [H],
@@ -100,7 +109,7 @@ impl<'a, H: Copy> PairIter<'a, H> {
         Self::over_sorted(&keys[..kept], &children[..kept])
     }
 
-    /// Over the places of a table whose bytes meet both bounds.
+    /// Iterates over the places of a table whose bytes meet both bounds.
     pub(crate) fn over_table_range(
         table: &'a ChildTable<H>,
         start: Bound<u8>,
@@ -114,7 +123,7 @@ impl<'a, H: Copy> PairIter<'a, H> {
         }
     }
 
-    /// Over the places of a table of indices whose bytes meet both bounds.
+    /// Iterates over the places of a table of indices whose bytes meet both bounds.
     pub(crate) fn over_indices_range(
         indices: &'a IndexTable,
         children: &'a [H],

@@ -1,4 +1,4 @@
-//! The pairs of a table of 256 indices that an iterator has left.
+//! The remaining pairs of an iterator over a table of 256 indices.
 ghost use Rattle.std.specs.Prelude.{◌≡◌, ◌+◌, ◌<◌, ◌≤◌, ℕ, length, map, slice_get, Some, [], ◌∷◌, ◌++◌, drop, take, IfNone, IfSome};
 ghost use Rattle.std.specs.Iterator.{YieldsFirst, YieldsLast, item_count};
 ghost use Rattle.art_nodes.specs.ChildMap.{table_children};
@@ -8,7 +8,7 @@ ghost use Rattle.art_nodes.specs.IndirectNode.{named_pointers, AreBelow};
 use art_header::NonMaxIndex;
 use std::marker::Model;
 
-/// Places, each for the byte after that of the place before it, with the indices of the children.
+/// Places of consecutive bytes, with the indices of the children.
 #[derive(Drop)]
 pub(crate) struct IndexPairs<'a, H> {
     places: &'a [u8],
@@ -33,7 +33,7 @@ impl<'a, H> Model for IndexPairs<'a, H> {
 }
 
 impl<'a, H: Copy> IndexPairs<'a, H> {
-    /// The pairs of these places, the first of which is that of the byte.
+    /// The pairs of these places, where `byte` is that of the first place.
     pub(crate) fn new(byte: usize, places: &'a [u8], children: &'a [H]) -> Self
         requires fits { byte + length places.now ≤ 256 }
         requires named { AreBelow (length children.now) (map index_of places.now) }
@@ -78,7 +78,7 @@ impl<'a, H: Copy> DoubleEndedIterator for IndexPairs<'a, H> {
     }
 }
 
-// The child that an index names.
+// The child at an index.
 fn named_child<H: Copy>(children: &[H], index: NonMaxIndex) -> H
     requires { index < length children.now }
     ensures { slice_get children.now index ≡ Some result }

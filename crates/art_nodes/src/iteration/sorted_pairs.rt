@@ -1,11 +1,11 @@
-//! The pairs of a sorted node that an iterator has left.
+//! The remaining pairs of an iterator over a sorted node.
 ghost use Rattle.std.specs.Prelude.{◌≡◌, length, count_by, nat_lt};
 ghost use Rattle.std.specs.Iterator.{YieldsFirst, YieldsLast};
 ghost use Rattle.art_nodes.specs.Inner.{sorted_children};
 
 use std::marker::Model;
 
-/// Bytes, each with the child beside it.
+/// Bytes with their children, at the same index.
 #[derive(Drop)]
 pub(crate) struct SortedPairs<'a, H> {
     keys: &'a [u8],
@@ -25,7 +25,7 @@ impl<'a, H> Model for SortedPairs<'a, H> {
 }
 
 impl<'a, H: Copy> SortedPairs<'a, H> {
-    /// The pairs of these bytes and the children beside them.
+    /// The pairs of these bytes and children.
     pub(crate) fn new(keys: &'a [u8], children: &'a [H]) -> Self
         requires { length children.now ≡ length keys.now }
         ensures { result ≡ sorted_children keys.now children.now }
@@ -33,7 +33,7 @@ impl<'a, H: Copy> SortedPairs<'a, H> {
         SortedPairs { keys, children }
     }
 
-    /// Takes the first pair.
+    /// Removes and returns the first pair.
     pub(crate) fn next(&mut self) -> Option<(u8, H)>
         ensures { YieldsFirst (λ pairs. pairs) self.old result self.new }
     {
@@ -44,7 +44,7 @@ impl<'a, H: Copy> SortedPairs<'a, H> {
         Some((*key, child))
     }
 
-    /// Takes the last pair.
+    /// Removes and returns the last pair.
     pub(crate) fn next_back(&mut self) -> Option<(u8, H)>
         ensures { YieldsLast (λ pairs. pairs) self.old result self.new }
     {

@@ -1,4 +1,4 @@
-//! The pairs of a table of 256 places that an iterator has left.
+//! The remaining pairs of an iterator over a table of 256 places.
 ghost use Rattle.std.specs.Prelude.{◌≡◌, ◌+◌, ◌<◌, ◌≤◌, length, [], ◌∷◌, ◌++◌, IfNone, IfSome};
 ghost use Rattle.std.specs.Iterator.{YieldsFirst, YieldsLast, item_count};
 ghost use Rattle.art_nodes.specs.ChildTable.{filled_within};
@@ -7,7 +7,7 @@ use crate::inner_nodes::tables::byte_set::ByteSet;
 use std::marker::Model;
 use std::ops::Range;
 
-/// Those of 256 children that a set of bytes says are there and that stand under a range of bytes.
+/// The children of 256 places whose byte is in a set and within a range.
 #[derive(Drop)]
 pub(crate) struct TablePairs<'a, H> {
     filled: &'a ByteSet,
@@ -71,7 +71,7 @@ impl<'a, H: Copy> DoubleEndedIterator for TablePairs<'a, H> {
     }
 }
 
-// The first child from one byte on, below another, with its byte.
+// The first child with a byte from `from` up to `end` (excluded), with its byte.
 #[inline]
 fn first_within<H: Copy>(
     filled: &ByteSet,
@@ -95,7 +95,7 @@ fn first_within<H: Copy>(
     }
 }
 
-// The last child from one byte on, below another, with its byte.
+// The last child with a byte from `from` up to `end` (excluded), with its byte.
 #[inline]
 fn last_within<H: Copy>(
     filled: &ByteSet,

@@ -1,4 +1,4 @@
-//! Pointers to nodes with the type of the node as the variant of an enum.
+//! Pointers to nodes, as enums with a variant for each kind of node.
 ghost use Rattle.std.specs.Prelude.{◌≡◌};
 ghost use Rattle.art_nodes.specs.ConcretePointers.{opaque_of, opaque_of_inner, concrete_of};
 
@@ -10,7 +10,17 @@ use crate::pointers::{NodePtr, OpaqueNodePtr};
 use art_header::NodeType;
 use std::marker::PhantomData;
 
-/// A pointer to a node of any kind, by kind.
+/// A pointer to a node of any kind, with a variant for each kind.
+///
+/// (from crates/art_node_tests/src/nodes/pointers.rt)
+/// ```rust
+/// let four = NodePtr::<16, InnerNode4<u8, u8, 16>>::from_key(4);
+/// assert!(rt; four.to_opaque().to_node_ptr().to_opaque() == four.to_opaque());
+/// // ..
+/// let by_kind = ConcreteNodePtr::from(four);
+/// // ..
+/// assert!(rt; by_kind.to_opaque() == four.to_opaque());
+/// ```
 #[derive_where(Clone, Copy)]
 pub enum ConcreteNodePtr<K, V, const PREFIX_LEN: usize> {
     /// A pointer to a sorted node for at most 4 children.
@@ -25,7 +35,14 @@ pub enum ConcreteNodePtr<K, V, const PREFIX_LEN: usize> {
     LeafNode(NodePtr<PREFIX_LEN, LeafNode<K, V, PREFIX_LEN>>),
 }
 
-/// A pointer to an inner node of any kind, by kind.
+/// A pointer to an inner node of any kind, with a variant for each kind.
+///
+/// (from crates/art_node_tests/src/nodes/pointers.rt)
+/// ```rust
+/// let inner = ConcreteInnerNodePtr::from(all);
+/// assert!(rt; inner.to_opaque() == all.to_opaque());
+/// assert!(rt; ConcreteNodePtr::from(inner).to_opaque() == all.to_opaque());
+/// ```
 #[derive_where(Clone, Copy)]
 pub enum ConcreteInnerNodePtr<K, V, const PREFIX_LEN: usize> {
     /// A pointer to a sorted node for at most 4 children.
@@ -39,7 +56,7 @@ pub enum ConcreteInnerNodePtr<K, V, const PREFIX_LEN: usize> {
 }
 
 impl<K, V, const PREFIX_LEN: usize> ConcreteNodePtr<K, V, PREFIX_LEN> {
-    /// The same pointer, with the kind of the node as a part of the value.
+    /// The same pointer, with the kind of the node as a value.
     pub fn to_opaque(self) -> OpaqueNodePtr<K, V, PREFIX_LEN>
         ensures pointer { result ≡ opaque_of self }
         ensures undone { concrete_of result ≡ self }
@@ -60,7 +77,7 @@ impl<K, V, const PREFIX_LEN: usize> ConcreteNodePtr<K, V, PREFIX_LEN> {
 }
 
 impl<K, V, const PREFIX_LEN: usize> ConcreteInnerNodePtr<K, V, PREFIX_LEN> {
-    /// The same pointer, with the kind of the node as a part of the value.
+    /// The same pointer, with the kind of the node as a value.
     pub fn to_opaque(self) -> OpaqueNodePtr<K, V, PREFIX_LEN>
         ensures { result ≡ opaque_of_inner self }
     {
@@ -85,7 +102,7 @@ impl<K, V, const PREFIX_LEN: usize> OpaqueNodePtr<K, V, PREFIX_LEN> {
     }
 }
 
-/// The same pointer, as that of a `Node4`.
+/// The same pointer, as one to a `Node4`.
 impl<K, V, const PREFIX_LEN: usize> From<NodePtr<PREFIX_LEN, InnerNode4<K, V, PREFIX_LEN>>>
     for ConcreteNodePtr<K, V, PREFIX_LEN> {
     ghost use Rattle.std.specs.Prelude.{◌≡◌};
@@ -98,7 +115,7 @@ impl<K, V, const PREFIX_LEN: usize> From<NodePtr<PREFIX_LEN, InnerNode4<K, V, PR
     }
 }
 
-/// The same pointer, as that of a `Node16`.
+/// The same pointer, as one to a `Node16`.
 impl<K, V, const PREFIX_LEN: usize> From<NodePtr<PREFIX_LEN, InnerNode16<K, V, PREFIX_LEN>>>
     for ConcreteNodePtr<K, V, PREFIX_LEN> {
     ghost use Rattle.std.specs.Prelude.{◌≡◌};
@@ -111,7 +128,7 @@ impl<K, V, const PREFIX_LEN: usize> From<NodePtr<PREFIX_LEN, InnerNode16<K, V, P
     }
 }
 
-/// The same pointer, as that of a `Node48`.
+/// The same pointer, as one to a `Node48`.
 impl<K, V, const PREFIX_LEN: usize> From<NodePtr<PREFIX_LEN, InnerNode48<K, V, PREFIX_LEN>>>
     for ConcreteNodePtr<K, V, PREFIX_LEN> {
     ghost use Rattle.std.specs.Prelude.{◌≡◌};
@@ -124,7 +141,7 @@ impl<K, V, const PREFIX_LEN: usize> From<NodePtr<PREFIX_LEN, InnerNode48<K, V, P
     }
 }
 
-/// The same pointer, as that of a `Node256`.
+/// The same pointer, as one to a `Node256`.
 impl<K, V, const PREFIX_LEN: usize> From<NodePtr<PREFIX_LEN, InnerNodeDirect<K, V, PREFIX_LEN>>>
     for ConcreteNodePtr<K, V, PREFIX_LEN> {
     ghost use Rattle.std.specs.Prelude.{◌≡◌};
@@ -137,7 +154,7 @@ impl<K, V, const PREFIX_LEN: usize> From<NodePtr<PREFIX_LEN, InnerNodeDirect<K, 
     }
 }
 
-/// The same pointer, as that of a leaf.
+/// The same pointer, as one to a leaf.
 impl<K, V, const PREFIX_LEN: usize> From<NodePtr<PREFIX_LEN, LeafNode<K, V, PREFIX_LEN>>>
     for ConcreteNodePtr<K, V, PREFIX_LEN> {
     ghost use Rattle.std.specs.Prelude.{◌≡◌};
@@ -150,7 +167,7 @@ impl<K, V, const PREFIX_LEN: usize> From<NodePtr<PREFIX_LEN, LeafNode<K, V, PREF
     }
 }
 
-/// The same pointer, as that of a `Node4`.
+/// The same pointer, as one to a `Node4`.
 impl<K, V, const PREFIX_LEN: usize> From<NodePtr<PREFIX_LEN, InnerNode4<K, V, PREFIX_LEN>>>
     for ConcreteInnerNodePtr<K, V, PREFIX_LEN> {
     ghost use Rattle.std.specs.Prelude.{◌≡◌};
@@ -163,7 +180,7 @@ impl<K, V, const PREFIX_LEN: usize> From<NodePtr<PREFIX_LEN, InnerNode4<K, V, PR
     }
 }
 
-/// The same pointer, as that of a `Node16`.
+/// The same pointer, as one to a `Node16`.
 impl<K, V, const PREFIX_LEN: usize> From<NodePtr<PREFIX_LEN, InnerNode16<K, V, PREFIX_LEN>>>
     for ConcreteInnerNodePtr<K, V, PREFIX_LEN> {
     ghost use Rattle.std.specs.Prelude.{◌≡◌};
@@ -176,7 +193,7 @@ impl<K, V, const PREFIX_LEN: usize> From<NodePtr<PREFIX_LEN, InnerNode16<K, V, P
     }
 }
 
-/// The same pointer, as that of a `Node48`.
+/// The same pointer, as one to a `Node48`.
 impl<K, V, const PREFIX_LEN: usize> From<NodePtr<PREFIX_LEN, InnerNode48<K, V, PREFIX_LEN>>>
     for ConcreteInnerNodePtr<K, V, PREFIX_LEN> {
     ghost use Rattle.std.specs.Prelude.{◌≡◌};
@@ -189,7 +206,7 @@ impl<K, V, const PREFIX_LEN: usize> From<NodePtr<PREFIX_LEN, InnerNode48<K, V, P
     }
 }
 
-/// The same pointer, as that of a `Node256`.
+/// The same pointer, as one to a `Node256`.
 impl<K, V, const PREFIX_LEN: usize> From<NodePtr<PREFIX_LEN, InnerNodeDirect<K, V, PREFIX_LEN>>>
     for ConcreteInnerNodePtr<K, V, PREFIX_LEN> {
     ghost use Rattle.std.specs.Prelude.{◌≡◌};
@@ -202,7 +219,7 @@ impl<K, V, const PREFIX_LEN: usize> From<NodePtr<PREFIX_LEN, InnerNodeDirect<K, 
     }
 }
 
-/// The same pointer, by the same kind.
+/// The same pointer, as one to any node.
 impl<K, V, const PREFIX_LEN: usize> From<ConcreteInnerNodePtr<K, V, PREFIX_LEN>>
     for ConcreteNodePtr<K, V, PREFIX_LEN> {
     ghost use Rattle.std.specs.Prelude.{◌≡◌};

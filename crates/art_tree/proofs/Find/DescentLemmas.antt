@@ -1,4 +1,4 @@
--- A step is right for every prefix that the node may have.
+-- Search: a step is right for every prefix that the node may have.
 use Rattle.std.proofs.Common.{◌≡◌, ◌∙◌, inl, inr, ℕ, zero, suc, ◌+◌, ◌-◌, ◌≤◌, Bool, true, false, ◌||◌, nat_eq, nat_lt, List, [], ◌∷◌, ◌++◌, length, length-append, take, drop, Option, Some, None, IfSome, IfNone, Result, Ok, Err, IfOk, slice_get, refl, sym, ap, subst, arith, append_assoc}
 use Rattle.std.specs.Result.{result_ok}
 use Rattle.std.specs.List.{starts_with, common_prefix_len}
@@ -155,7 +155,7 @@ module _ {H : Type 0} (room : ℕ) (node : Inner H) (key : List ℕ) (depth : �
             (slice_get-drop key depth node.prefix_len ∙ ap (λ n. slice_get key (depth + n)) (sym whole) ∙ at_place);
       }
 
--- what a match answers, told from whether there is one
+-- the result of a match, by whether there is one
 module _ (answer : Result AttemptOptimisticPrefixMatch PessimisticMismatch) where
   pub from-match : (P : AttemptOptimisticPrefixMatch → Type 0) (matched : AttemptOptimisticPrefixMatch) → result_ok answer ≡ Some matched → IfOk answer P → P matched
   from-match = by_answer answer
@@ -178,7 +178,7 @@ module _ (answer : Result AttemptOptimisticPrefixMatch PessimisticMismatch) wher
       by_answer (Ok m) none = absurd (cc)
       by_answer (Err e) none = (e, refl)
 
--- what a node alone tells, told from where it is held
+-- a step from the node alone, by where the node is held
 module _ {H L : Type 0} (room : ℕ) (at : Held H L) (node : Inner H) (key : List ℕ) (depth : ℕ) (here : at ≡ HeldInner node) where
   one-node : (other : Inner H) → at ≡ HeldInner other → node ≡ other
   one-node other is = let one : HeldInner node ≡ HeldInner other = sym here ∙ is in cc

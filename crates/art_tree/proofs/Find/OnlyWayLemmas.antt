@@ -1,4 +1,4 @@
--- There is one way to each leaf of a sound tree that stands.
+-- Search: there is one way to each leaf of a sound tree that stands.
 use Rattle.std.proofs.Common.{◌≡◌, ◌≢◌, ◌∙◌, inl, inr, ℕ, ◌+◌, List, [], ◌∷◌, ◌++◌, length, length-append, All, refl, sym, ap, subst, arith}
 use Rattle.std.proofs.lemmas.List.{get_or-append-add}
 use Rattle.std.proofs.lemmas.List.Elements.{All-nil, All-cons, All-head, All-tail}

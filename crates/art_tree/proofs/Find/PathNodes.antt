@@ -1,4 +1,4 @@
--- The path of a way to a leaf, by the nodes that an arena holds.
+-- Search: the path of a way to a leaf, by the nodes that an arena holds.
 use Rattle.std.proofs.Common.{◌≡◌, ◌∙◌, ℕ, suc, ◌≤◌, List, [], ◌∷◌, ◌++◌, Some, inl, inr, refl, sym, ap, subst, arith}
 use Rattle.std.proofs.lemmas.Bool.{eq-eqb, ne_eqb}
 use Rattle.art_nodes.specs.ChildMap.{IsAscendingFrom, key_bytes, child_at}

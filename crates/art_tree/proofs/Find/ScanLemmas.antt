@@ -1,4 +1,4 @@
--- A search goes to the one branch that can have the key.
+-- Search: the key can be in one branch only.
 use Rattle.std.proofs.Common.{◌≡◌, ◌∙◌, ℕ, suc, ◌+◌, ◌<◌, Bool, true, false, List, [], ◌∷◌, ◌++◌, length, filter, drop, Some, None, slice_get, refl, sym, ap, subst, inl, inr, arith, nat_eq}
 use Rattle.std.specs.Cmp.Lexicographic.{pointwise}
 use Rattle.std.proofs.lemmas.Bool.Decides.{eqb_tells}
@@ -12,7 +12,7 @@ use Rattle.art_tree.specs.Search.{scan, met, met_below, goes_to, IsWay, IsWayUnd
 use Rattle.art_tree.proofs.Find.DescentLemmas.{goes-byte}
 use Rattle.art_bytes.proofs.PrefixLaws.{prefix-shorter}
 
--- a text is another or not, as the test says
+-- a text is another or not, as the test returns
 pub same-text : (a b : List ℕ) → pointwise nat_eq a b ≡ true → a ≡ b
 same-text [] [] h = refl
 same-text [] (y ∷ b) h = absurd (cc)
@@ -36,7 +36,7 @@ other-text a b never = by_test (pointwise nat_eq a b) refl
     by_test true is = absurd (never (same-text a b is))
     by_test false is = is
 
--- the byte that a longer front says
+-- the byte after a prefix, in a longer prefix
 pub prefix-byte : (q key : List ℕ) (c b : ℕ) → IsPrefixOf (q ++ c ∷ []) key → slice_get key (length q) ≡ Some b → c ≡ b
 prefix-byte [] key c b (rest, is) at = let e : slice_get (c ∷ rest) 0 ≡ Some b = subst (λ k. slice_get k 0 ≡ Some b) is at in cc
 prefix-byte (x ∷ q) key c b (rest, is) at = prefix-byte q ((q ++ c ∷ []) ++ rest) c b (rest, refl) (subst (λ k. slice_get k (length (x ∷ q)) ≡ Some b) is at)

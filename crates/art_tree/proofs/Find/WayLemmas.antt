@@ -1,4 +1,4 @@
--- Where a search is on its way down, and one look further.
+-- Search: the state of the descent, and one node visit more.
 use Rattle.std.proofs.Common.{Bool, IsTrue, Bor, IfSome, IfNone, ◌≡◌, ◌≢◌, ◌∙◌, ℕ, ◌+◌, ◌≤◌, true, false, List, [], ◌∷◌, ◌++◌, length, length-append, Option, Some, None, slice_get, drop, refl, sym, ap, subst, arith, nat_eq, append_assoc, if◌then◌else◌}
 use Rattle.std.specs.Cmp.Lexicographic.{pointwise}
 use Rattle.std.proofs.Math.Seq.{drop-append_seam}
@@ -30,7 +30,8 @@ pub still-held : {K V : Type 0} {P : ℕ} (now arena : ArenaOf K V P) (at : Opaq
 still-held now arena at leaf node same pointer holds nothing =
     let one : HeldLeaf node ≡ Nothing = sym holds ∙ ap (held arena) (sym pointer) ∙ ap (λ a. held a (leaf_pointer leaf)) (sym same) ∙ nothing in absurd (cc)
 
--- a search is at this pointer, after so many bytes and looks: what the whole tree has of the key is what this part has
+-- a search is at this pointer, after so many bytes and node visits: what the whole tree has of the
+-- key is what this part has
 pub record IsHere {K V : Type 0} {P : ℕ} (text : K → List ℕ) (arena : ArenaOf K V P) (whole : Tree (OpaqueNodePtr K V P)) (key : List ℕ) (at : OpaqueNodePtr K V P) (depth : ℕ) (search : TreePathSearch K V P) (budget left : ℕ) : Type 0 where
   pub part : Tree (OpaqueNodePtr K V P)
   pub path : List ℕ
@@ -169,7 +170,7 @@ module _ {K V : Type 0} {P : ℕ} (text : K → List ℕ) (arena : ArenaOf K V P
           → (after : ℕ) → after + 1 ≡ left → IsHere text arena whole key next.1 (next.0 + 1) visited budget after
       here-on next on visited visits after looked = on-at at_node next on visited visits after looked
 
--- what a step told of the inner node that was looked at
+-- the result of a step from the inner node that was visited
 pub record Told {K V : Type 0} {P : ℕ} (arena : ArenaOf K V P) (key : List ℕ) (at : OpaqueNodePtr K V P) (depth : ℕ) (next : Option (ℕ × OpaqueNodePtr K V P)) : Type 0 where
   pub node : nodes.Inner (OpaqueNodePtr K V P)
   pub is : held arena at ≡ HeldInner node
@@ -226,7 +227,7 @@ module _ {K V : Type 0} {P : ℕ} (arena : ArenaOf K V P) (key : List ℕ) (at :
   pub told-later : (way : ℕ × OpaqueNodePtr K V P) → next ≡ Some way → depth ≤ way.0
   told-later way is = let on = told-on way is in omega (arith, on.place)
 
--- the leaf's answer by its text
+-- the result at a leaf, by its text
 pub leaf-hit : {H : Type 0} (answer : List (H × List ℕ)) (at : H) (text key : List ℕ) → answer ≡ (if pointwise nat_eq text key then (at, text) ∷ [] else []) → text ≡ key → answer ≡ (at, key) ∷ []
 leaf-hit answer at text key is same = is ∙ rw (subst (λ k. pointwise nat_eq text k ≡ true) same (text-itself text)) (ap (λ z. (at, z) ∷ []) same)
 

@@ -1,4 +1,4 @@
--- A leaf more under a node that has no child under its byte.
+-- Insertion: a new leaf under a node that has no child under its byte.
 use Rattle.std.proofs.Common.{◌≡◌, ◌≢◌, ◌∙◌, ℕ, ◌+◌, ◌<◌, ◌^◌, List, [], ◌∷◌, ◌++◌, length, AllPairs, Contains, Some, None, refl, sym, ap, subst, inl, inr, arith}
 use Rattle.std.proofs.lemmas.List.Elements.{All-contains, Contains-append_left, Contains-append_right, Contains-append_cases}
 use Rattle.art_header.specs.NodeType.{kind_for, most_children, grown_kind}
@@ -50,7 +50,7 @@ pub record ChildSpot {K V : Type 0} {P : ℕ} (text : K → List ℕ) (arena : A
   pub lacks : LacksChild tree (text key) spot byte
   pub fits : byte < 256
 
--- also once room was made in the arena
+-- also after spare capacity was made in the arena
 pub child-reserved : {K V : Type 0} {P : ℕ} {text : K → List ℕ} (old reserved : ArenaOf K V P) {root : OpaqueNodePtr K V P} {spot : Spot K V P} {byte : ℕ} {key : K} → (tree : Tree (OpaqueNodePtr K V P)) × IsAlone text old root tree × LacksChild tree (text key) spot byte → SameNodes old reserved
     → byte < 256 → ChildSpot text reserved root spot byte key
 child-reserved {text = text} old reserved {root = root} (tree, alone, lacks) same fits = record { tree = tree; alone = alone-same text old reserved same root tree alone; lacks = lacks; fits = fits }

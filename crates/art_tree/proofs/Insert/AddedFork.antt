@@ -1,4 +1,4 @@
--- A leaf more beside a node that its key parts from, under a new node.
+-- Insertion: a new inner node over a new leaf and the node from which its key differs.
 use Rattle.std.proofs.Common.{◌≡◌, ◌≢◌, ◌∙◌, ℕ, ◌+◌, ◌-◌, ◌<◌, ◌≤◌, ◌^◌, Bool, true, false, nat_lt, if◌then◌else◌, List, [], ◌∷◌, ◌++◌, length, length-append, take, drop, All, AllPairs, Contains, Some, refl, sym, ap, subst, inl, inr, arith, append-nil}
 use Rattle.std.proofs.lemmas.Option.{slice_get_within}
 use Rattle.std.proofs.lemmas.List.Elements.{All-contains, Contains-append_right, Contains-append_cases}
@@ -57,7 +57,7 @@ module _ {H : Type 0} where
       | inr later ↦ branch-text-begins path others sound.1 p x later
     ]
 
-  -- the leaf at the end of a tree on whose side a byte lies stands beside the gap there
+  -- the leaf at the end of a tree on whose side a byte lies is beside the gap there
   beside-tree : (byte other len : ℕ) (part : Tree H) (end : End) (p : H) → end ≡ (if nat_lt byte other then First else Last) → IsAtEnd end (leaves part) p
       → StandsBeside end (branch_leaves (branches_left byte other (ltrimmed len part))) (branch_leaves (branches_right byte other (ltrimmed len part))) p
   beside-tree byte other len part end p is at_end = by_test (nat_lt byte other) refl
@@ -75,7 +75,7 @@ module _ {H : Type 0} where
           let (x, others, at) = subst (λ e. IsAtEnd e (leaves part) p) last at_end in
           subst (λ e. StandsBeside e (branch_leaves (branches_left byte other (ltrimmed len part))) (branch_leaves (branches_right byte other (ltrimmed len part))) p) (sym last) (rw upto (x, (others, alone ∙ at)))
 
--- a key parts from the texts at a spot of a tree that is alone in an arena
+-- a key differs from the texts at a spot of a tree that is alone in an arena
 pub record ForkPlace {K V : Type 0} {P : ℕ} (text : K → List ℕ) (arena : ArenaOf K V P) (root : OpaqueNodePtr K V P) (spot : Spot K V P) (fork : Fork) (key : K) : Type 0 where
   pub tree : Tree (OpaqueNodePtr K V P)
   pub alone : IsAlone text arena root tree
@@ -83,7 +83,7 @@ pub record ForkPlace {K V : Type 0} {P : ℕ} (text : K → List ℕ) (arena : A
   pub fits : fork.byte < 256
   pub node_fits : fork.node_byte < 256
 
--- also once room was made in the arena
+-- also after spare capacity was made in the arena
 pub fork-reserved : {K V : Type 0} {P : ℕ} {text : K → List ℕ} (old reserved : ArenaOf K V P) {root : OpaqueNodePtr K V P} {spot : Spot K V P} {fork : Fork} {key : K} → (tree : Tree (OpaqueNodePtr K V P)) × IsAlone text old root tree × Parts tree (text key) spot fork → SameNodes old reserved
     → (fork.byte < 256) × (fork.node_byte < 256) → ForkPlace text reserved root spot fork key
 fork-reserved {text = text} old reserved {root = root} (tree, alone, parts) same (fits, node_fits) = record { tree = tree; alone = alone-same text old reserved same root tree alone; parts = parts; fits = fits; node_fits = node_fits }
@@ -135,7 +135,7 @@ module _ {K V : Type 0} {P : ℕ} {text : K → List ℕ} {old : ArenaOf K V P} 
   pub leaves-there : leaves part_there ≡ branch_leaves left_there ++ branch_leaves right_there
   leaves-there = sym (leaves-trimmed len_there part_there) ∙ sym (leaves-sides fork.byte fork.node_byte trimmed_there) ∙ leaves-join left_there right_there
 
-  -- the leaf on the key's side of the part stands beside the gap for the key
+  -- the leaf on the key's side of the part is beside the gap for the key
   module _ (end : End) (sibling : ℕ) (at_end : IsAtEnd end (leaves part_there) (opaque_pointer kinds.Leaf sibling)) (end_is : end ≡ (if nat_lt fork.byte fork.node_byte then First else Last)) where
     pub beside-there : StandsBeside end (branch_leaves left_there) (branch_leaves right_there) (opaque_pointer kinds.Leaf sibling)
     beside-there = beside-tree fork.byte fork.node_byte len_there part_there end (opaque_pointer kinds.Leaf sibling) end_is at_end

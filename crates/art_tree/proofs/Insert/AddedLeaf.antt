@@ -1,4 +1,4 @@
--- A leaf more in a tree: what the steps of an insert leave.
+-- Insertion: a tree with one leaf more, after the steps of an insert.
 use Rattle.std.proofs.Common.{◌≡◌, ◌≢◌, ◌⊎◌, ◌∙◌, ℕ, ◌<◌, ◌^◌, List, [], ◌∷◌, ◌++◌, length, map, All, Contains, Some, refl, sym, ap, subst, inl, inr, arith, append_assoc}
 use Rattle.std.proofs.lemmas.List.{map-append}
 use Rattle.std.proofs.lemmas.List.Elements.{All-append, All-cons}
@@ -54,7 +54,8 @@ texts-filled P part prefix top before byte leaf x after same each new =
     let filled = ap (map (λ l. l.1)) (leaves-taken prefix top before byte leaf x after) ∙ map-append (λ l. l.1) (branch_leaves before) ((leaf, x) ∷ branch_leaves after) in
     subst (All P) (sym filled) (All-append P left (x ∷ right) (All-left P left right parted) (All-cons P x right new (All-right P left right parted)))
 
--- the steps of an insert: from the first arena to the next a leaf is linked, from there to the third the node at the place is changed, and then a node is hung there
+-- the steps of an insert: from the first arena to the next a leaf is linked, from there to the
+-- third the node at the place is changed, and then a node is put there
 module _ {K V : Type 0} {P : ℕ} (text : K → List ℕ) (old linked new : ArenaOf K V P) (context : Context (OpaqueNodePtr K V P)) (part : Tree (OpaqueNodePtr K V P)) (root leaf top : OpaqueNodePtr K V P) (key : K) (value : V) where
   pub record AreSteps : Type 0 where
     pub stood : StandsIn text old (plug context part)
@@ -243,7 +244,7 @@ module _ {K V : Type 0} {P : ℕ} (text : K → List ℕ) (old linked new : Aren
               let now = added-alone alone in
               ((plug context taken, now), added-entered alone (apart [] (plug context part) alone.is_tree.sound) (apart [] (plug context taken) now.is_tree.sound))
 
--- where the first step only made room, what is entered after it is entered after all
+-- where the first step only made spare capacity, what is added after it is added by both
 pub entered-from : {K V : Type 0} {P : ℕ} (text : K → List ℕ) (old reserved last : ArenaOf K V P) (key : K) (value : V) (root : OpaqueNodePtr K V P) (tree : Tree (OpaqueNodePtr K V P)) → IsAlone text old root tree → AreApart (texts tree) → SameNodes old reserved
     → IsEntered text reserved last key value → IsEntered text old last key value
 entered-from text old reserved last key value root tree alone apart same entered =

@@ -1,4 +1,4 @@
--- What a text that is to be inserted has to do with the entries that are there.
+-- Insertion: a new text and the entries that are there.
 use Rattle.std.proofs.Common.{◌≡◌, ◌≢◌, ◌⊎◌, ◌∙◌, ℕ, suc, ◌<◌, ◌^◌, List, [], ◌∷◌, ◌++◌, map, length, take, Contains, Option, Some, None, Result, Ok, Err, IfOk, IfErr, OnOk, OnErr, refl, sym, ap, subst, inl, inr, arith, append-nil}
 use Rattle.std.proofs.lemmas.Bool.{cases_eq, eq-eqb, ne_eqb}
 use Rattle.std.proofs.lemmas.List.Elements.{Contains-append_right, Contains-append_cases}
@@ -22,11 +22,11 @@ use Rattle.art_tree.proofs.Shared.ExchangedSubtree.{the-one, leaves-plug, sound-
 use Rattle.art_bytes.proofs.PrefixLaws.{prefix-shorter, prefix-on}
 use Rattle.art_tree.proofs.Shared.PrefixLemmas.{key-on}
 
--- neither text begins the other
+-- neither text is a prefix of the other
 abbrev pub IsApart : List ℕ → List ℕ → Type 0
 IsApart a b = (IsPrefixOf a b → ⊥) × (IsPrefixOf b a → ⊥)
 
--- texts that have different bytes past the same front are apart
+-- texts that have different bytes after the same prefix are apart
 same-byte : (front : List ℕ) (a b : ℕ) (r s t : List ℕ) → (front ++ b ∷ []) ++ s ≡ ((front ++ a ∷ []) ++ r) ++ t → a ≡ b
 same-byte [] a b r s t is = cc
 same-byte (c ∷ front) a b r s t is = same-byte front a b r s t (cc)
@@ -38,7 +38,7 @@ parted-apart : (front : List ℕ) (a b : ℕ) (x y : List ℕ) → a ≢ b → I
 parted-apart front a b x y differ on_x on_y = (no-prefix front a b x y differ on_x on_y, no-prefix front b a y x (λ same. differ (sym same)) on_y on_x)
 
 module _ {H : Type 0} where
-  -- where no text begins another, a text that begins one of them is that one
+  -- where no text is a prefix of another, a text that is a prefix of one of them is that one
   same-prefix : (all : List (H × List ℕ)) (p q : H) (x y : List ℕ) → AreApart (map (λ leaf. leaf.1) all) → Contains all (p, x) → Contains all (q, y) → IsPrefixOf x y → x ≡ y
   same-prefix [] p q x y apart (k, inside, is) second begins = absurd (omega (arith, inside))
   same-prefix (z ∷ zs) p q x y apart first second begins = elim (Contains-append_cases (z ∷ []) zs (p, x) first) [
@@ -75,7 +75,7 @@ module _ {H : Type 0} where
       | inr later ↦ branch-begins path others q x sound.1 later
     ]
 
-  -- and with what its top tells of them
+  -- and with the first bytes of them that its top has
   reach-begins : (path : List ℕ) (tree : Tree H) (q : H) (x : List ℕ) → IsSound path tree → Contains (leaves tree) (q, x) → IsPrefixOf (reach path tree) x
   reach-begins path (Leaf pointer text) q x sound inside = ([], sym (ap (λ leaf. leaf.1) (the-one (pointer, text) (q, x) inside)) ∙ sym (append-nil text))
   reach-begins path (Inner pointer prefix branches) q x sound inside = branch-begins (path ++ prefix) branches q x sound.2 inside
@@ -125,7 +125,7 @@ module _ {K V : Type 0} {P : ℕ} (law : (tree : Tree (OpaqueNodePtr K V P)) →
       let under = subst (IsSound path) lacks.part (part-sound lacks.at) in
       spot-apart lacks.at (λ q x inside. no-branch-apart (path ++ lacks.prefix) lacks.branches byte key under.2 lacks.absent lacks.leads q x (subst (λ part. Contains (leaves part) (q, x)) lacks.part inside))
 
-  -- and so is one that parts from the texts at a node
+  -- and so is one that differs from the texts at a node
   pub fork-apart : (fork : Fork) → Parts tree key spot fork → (q : OpaqueNodePtr K V P) (x : List ℕ) → Contains (leaves tree) (q, x) → IsApart x key
   fork-apart fork parts =
       let path = path_to parts.at.context in
@@ -134,7 +134,7 @@ module _ {K V : Type 0} {P : ℕ} (law : (tree : Tree (OpaqueNodePtr K V P)) →
       (prefix-on (front ++ fork.node_byte ∷ []) (reach path parts.at.part) x parts.node (reach-begins path parts.at.part q x (part-sound parts.at) inside)) (key-on key fork.index fork.byte parts.byte))
 
 module _ {K V : Type 0} {P : ℕ} (text : K → List ℕ) (arena : ArenaOf K V P) where
-  -- in an empty arena nothing but want of memory refuses a short text
+  -- in an empty arena nothing but an allocation failure refuses a short text
   pub empty-new : ((pointer : OpaqueNodePtr K V P) → held arena pointer ≡ Nothing) → (key : List ℕ) → length key < 2 ^ 32 → IsRefused text arena key OutOfMemory
   empty-new nothing key short = ((short, λ clash. clash.1 (empty-entry text arena nothing clash.0)), empty-entry text arena nothing key)
 
@@ -171,7 +171,8 @@ module _ {K V : Type 0} {P : ℕ} (text : K → List ℕ) (arena : ArenaOf K V P
           | inr front ↦ front.1 (same-prefix (leaves tree) q leaf.0 key other apart inside leaf.1 front.0)
         ]
 
-    -- a short text that is apart from all of the tree's is refused by nothing but want of memory
+    -- a short text that is apart from all of the tree's is refused by nothing but an allocation
+    -- failure
     pub apart-new : (key : List ℕ) → length key < 2 ^ 32 → ((q : OpaqueNodePtr K V P) (x : List ℕ) → Contains (leaves tree) (q, x) → IsApart x key) → IsRefused text arena key OutOfMemory
     apart-new key short apart = ((short, λ (other, has, clash). never other has clash), by_entry (entry_at text arena key) refl)
       where
@@ -192,7 +193,7 @@ module _ {K V : Type 0} {P : ℕ} (text : K → List ℕ) (old new : ArenaOf K V
   pub empty-stays : ((pointer : OpaqueNodePtr K V P) → held old pointer ≡ Nothing) → SameEntries text old new
   empty-stays nothing x = empty-entry text new (λ p. same p ∙ nothing p) x ∙ sym (empty-entry text old nothing x)
 
--- what an insert of a text without an entry answers
+-- the result of an insert of a text without an entry
 module _ {K V : Type 0} {P : ℕ} (text : K → List ℕ) (old new : ArenaOf K V P) (key : K) (value : V) where
   pub record IsAnswered (result : Result (OpaqueNodePtr K V P × Option (K × V)) (InsertFault K V)) : Type 0 where
     pub art : IfOk result (λ pair. IsArt text new (Some pair.0))
@@ -206,7 +207,7 @@ module _ {K V : Type 0} {P : ℕ} (text : K → List ℕ) (old new : ArenaOf K V
     pub untouched : IfErr result (λ fault. fault.refusal ≢ OutOfMemory → new ≡ old)
     pub no_room : IfErr result (λ fault. fault.refusal ≡ OutOfMemory → LacksRoom old)
 
-  -- it is told by what was added, where nothing but want of memory refuses the text
+  -- it follows from what was added, where nothing but an allocation failure refuses the text
   module _ (added : Result (OpaqueNodePtr K V P) (K × V)) (art : IfOk added (λ root. IsArt text new (Some root))) (entered : OnOk added (IsEntered text old new key value)) (entry_back : IfErr added (λ entry. entry ≡ (key, value))) (nodes_kept : OnErr added (SameNodes old new)) (lacks : OnErr added (LacksRoom old)) where
     pub answered : IsRefused text old (text key) OutOfMemory → (SameNodes old new → SameEntries text old new) → (result : Result (OpaqueNodePtr K V P × Option (K × V)) (InsertFault K V)) → ((root : OpaqueNodePtr K V P) → added ≡ Ok root → result ≡ Ok (root, None))
         → ((k : K) (v : V) → added ≡ Err (k, v) → result ≡ Err (record { refusal = OutOfMemory; key = k; value = v })) → IsAnswered result

@@ -1,4 +1,4 @@
--- The first entry of a tree, and an entry in the place of another.
+-- Insertion: the first entry of a tree, and an entry that replaces another.
 use Rattle.std.proofs.Common.{◌≡◌, ◌≢◌, ◌∙◌, ℕ, length, ◌<◌, ◌^◌, List, [], ◌∷◌, Contains, Option, Some, None, inl, inr, refl, sym, ap, arith}
 use Rattle.std.proofs.lemmas.List.Elements.{All-cons, All-nil}
 use Rattle.art_nodes.specs.Leaf.{leaf_key, leaf_value, previous_key, next_key}

@@ -1,4 +1,4 @@
--- The gap among the leaves where a new one goes.
+-- Insertion: the gap among the leaves for the new one.
 use Rattle.std.proofs.Common.{◌≡◌, ◌∙◌, ℕ, ◌<◌, ◌^◌, List, [], ◌∷◌, ◌++◌, length, map, AllPairs, Contains, refl, sym, ap, subst, arith, append_assoc}
 use Rattle.std.specs.declared.cmp.Ordering.TheVariants.{Less}
 use Rattle.std.proofs.lemmas.List.{map-append}
@@ -24,7 +24,7 @@ use Rattle.art_tree.proofs.Load.PlacedTrees.{text-held}
 use Rattle.art_tree.proofs.Insert.SubtreeLemmas.{beside-less, taken-sound, HasPlace, with_leaf}
 
 module _ {H : Type 0} where
-  -- what stands beside a gap stands there in the longer lists of the whole
+  -- what is beside a gap is beside it in the longer lists of the whole
   pub beside-wide : (end : End) (front left right back : List (H × List ℕ)) (member : H × List ℕ) → IsBeside end left right member → IsBeside end (front ++ left) (right ++ back) member
   beside-wide First front left right back member (others, is) = (others ++ back, ap (λ all. all ++ back) is)
   beside-wide Last front left right back member (others, is) = (front ++ others, ap (λ all. front ++ all) is ∙ sym (append_assoc front others (member ∷ [])))
@@ -65,7 +65,7 @@ module _ {K V : Type 0} {P : ℕ} (text : K → List ℕ) (arena : ArenaOf K V P
     pub gap : HasGap arena end key
     gap = record { left = keys_of left; right = keys_of right; spelled = spelled-parts; beside = beside-key }
 
-    -- the leaf that stands there is held, and a new text lies on its side
+    -- the leaf there is held, and a new text lies on its side
     pub sibling : (leaf : _) × (held arena (opaque_pointer kinds.Leaf key) ≡ HeldLeaf leaf) × (text (leaf_key leaf) ≡ beside.0)
     sibling = leaf-held-in text arena (plug context part) alone.is_tree.stands (opaque_pointer kinds.Leaf key) beside.0 (subst (λ all. Contains all (opaque_pointer kinds.Leaf key, beside.0)) (sym (leaves-parted context part before after same_leaves)) (beside-in end left right (opaque_pointer kinds.Leaf key, beside.0) wide))
 

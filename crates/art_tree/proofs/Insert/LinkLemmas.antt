@@ -1,4 +1,4 @@
--- A leaf that is linked beside another one of a list.
+-- Insertion: a leaf that is linked beside another one of a list.
 use Rattle.std.proofs.Common.{◌≡◌, ◌≢◌, ◌∙◌, ℕ, List, [], ◌∷◌, ◌++◌, Some, None, sym, ap, subst, append_assoc}
 use Rattle.std.specs.Option.{option_and_then}
 use Rattle.art_header.specs.declared.node_type.NodeType.TheVariants as kinds

@@ -1,4 +1,4 @@
--- Inner nodes that take a child more, or another prefix.
+-- Insertion: inner nodes with one child more, or with another prefix.
 use Rattle.std.proofs.Common.{◌≡◌, ◌≢◌, ◌∙◌, ℕ, ◌<◌, ◌≤◌, ◌^◌, List, [], ◌∷◌, length, Option, Some, None, IsNone, IfSome, IfNone, lit<, refl, sym, ap, subst, arith}
 use Rattle.std.proofs.lemmas.Bool.{le-ltb, lt-ltb}
 use Rattle.std.proofs.lemmas.Option.{same_Some}
@@ -27,7 +27,7 @@ match-fits = lit< tt
 pub spot-fits : 56 < 2 ^ 63
 spot-fits = lit< tt
 
--- kinds with room for more and more children are apart
+-- kinds with space for more and more children are apart
 pub kinds-apart : {a b : NodeType} → most_children a < most_children b → a ≢ b
 kinds-apart less same = omega (arith, less, ap most_children same)
 
@@ -43,7 +43,7 @@ module _ {H : Type 0} (byte : ℕ) (child : H) (other : ℕ) (node : H) where
 pub few-where-absent : {H : Type 0} (node : Inner H) (byte : ℕ) → byte < 256 → IsAscending (key_bytes node.children) → child_at node.children byte ≡ None → length node.children < 256
 few-where-absent node byte below ascending absent = length_absent node.children byte below ascending (subst IsNone (sym absent) refl)
 
--- what an option tells of a value that is there
+-- what follows from an option where there is a value
 pub if-some : {X : Type 0} (o : Option X) (Q : X → Type 0) (x : X) → o ≡ Some x → IfSome o Q → Q x
 if-some None Q x is holds = absurd (cc)
 if-some (Some y) Q x is holds = subst Q (same_Some y x is) holds
@@ -78,7 +78,7 @@ module _ {K V : Type 0} {P : ℕ} where
   header-held (HeldInner node) header e = (node, refl, cc)
   header-held (HeldLeaf leaf) header e = absurd (cc)
 
-  -- there is room in the node at a pointer, by which name it goes
+  -- the node at a pointer has space for a child, by each name of the pointer
   pub room-there : (arena : ArenaOf K V P) {at pointer : OpaqueNodePtr K V P} {there : Inner (OpaqueNodePtr K V P)} (byte : ℕ) → at ≡ pointer → held arena at ≡ HeldInner there
       → ((node : Inner (OpaqueNodePtr K V P)) → held arena pointer ≡ HeldInner node → HasRoomFor (most_children (node_kind pointer)) node byte) → HasRoomFor (most_children (node_kind at)) there byte
   room-there arena {there = there} byte same here has_room = subst (λ p. held arena p ≡ HeldInner there → HasRoomFor (most_children (node_kind p)) there byte) (sym same) (has_room there) here
@@ -95,12 +95,12 @@ module _ {K V : Type 0} {P : ℕ} where
   text-of-key text None key e = absurd (cc)
   text-of-key text (Some leaf) key e = let same : leaf_key leaf ≡ key = cc in ap text same
 
-  -- a full node of a kind grows to one of the next, for which there is room
+  -- a full node of a kind grows to one of the next, for which there is spare capacity
   pub room-of-kind : (arena : ArenaOf K V P) (pointer : OpaqueNodePtr K V P) {kind : NodeType} (there : Inner (OpaqueNodePtr K V P)) → node_kind pointer ≡ kind → held arena pointer ≡ HeldInner there
       → length there.children ≡ most_children (node_kind pointer) → HasRoomToGrow arena pointer → 0 < room arena (grown_kind kind)
   room-of-kind arena pointer there is_kind here full rooms = subst (λ kind. 0 < room arena (grown_kind kind)) is_kind (rooms there here full)
 
-  -- the node that grew is the one that was held, and was put in the place of it
+  -- the node that grew is the one that was held, which it replaced
   pub moved-there : (arena new : ArenaOf K V P) (pointer : OpaqueNodePtr K V P) {kind : NodeType} {there node grown : Inner (OpaqueNodePtr K V P)} {to : OpaqueNodePtr K V P} (placed : Option (OpaqueNodePtr K V P)) (byte : ℕ) (child : OpaqueNodePtr K V P) → node_kind pointer ≡ kind → held arena pointer ≡ HeldInner there → length there.children ≡ most_children (node_kind pointer)
       → grown ≡ node_with_child there byte child → held arena pointer ≡ HeldInner node → placed ≡ Some to → IfSome placed (IsReplaced arena new pointer (grown_kind kind) grown) → IsMoved arena new pointer node (node_with_child node byte child) to
   moved-there arena new pointer {kind = kind} {there = there} {node = node} {grown = grown} {to = to} placed byte child is_kind here full grows is at replaced =

@@ -1,4 +1,4 @@
--- Where a key belongs, by the nodes that it meets on its way down.
+-- Insertion: the place of a key, by the nodes that it meets on its way down.
 use Rattle.std.proofs.Common.{◌≡◌, ◌≢◌, ◌∙◌, ◌⊎◌, ℕ, zero, suc, ◌+◌, ◌-◌, ◌<◌, ◌≤◌, nat_eq, List, [], ◌∷◌, ◌++◌, length, length-append, map, take, drop, Contains, Some, None, Result, Ok, Err, slice_get, get_or, refl, sym, ap, subst, inl, inr, arith, append_assoc, append-nil}
 use Rattle.std.specs.List.{common_prefix_len}
 use Rattle.std.proofs.lemmas.Bool.Decides.{eqb_tells}
@@ -77,7 +77,7 @@ alike-below path a key depth n deep (rest, key_is) counted =
       part = both.part;
     }
 
--- what a call says of the rests of two texts
+-- the rests of two texts
 pub rests-counted : (a b text : List ℕ) (depth n : ℕ) → text ≡ a → n ≡ common_prefix_len nat_eq (take (length text - depth) (drop depth text)) (take (length b - depth) (drop depth b)) → n ≡ common_prefix_len nat_eq (drop depth a) (drop depth b)
 rests-counted a b text depth n same counted =
     counted ∙ ap (λ z. common_prefix_len nat_eq z (take (length b - depth) (drop depth b))) (take_rest text depth ∙ ap (drop depth) same) ∙ ap (common_prefix_len nat_eq (drop depth a)) (take_rest b depth)
@@ -97,13 +97,13 @@ head-is : (xs : List ℕ) (x : ℕ) → slice_get xs 0 ≡ Some x → IsPrefixOf
 head-is [] x at = absurd (cc)
 head-is (y ∷ xs) x at = let same : y ≡ x = cc in (xs, ap (λ z. z ∷ xs) same)
 
--- a text that begins with a front begins with the byte after it too
+-- a text that has a prefix has the prefix with the byte after it too
 prefix-byte : (front text : List ℕ) (n byte : ℕ) → length front ≡ n → IsPrefixOf front text → slice_get text n ≡ Some byte → IsPrefixOf (front ++ byte ∷ []) text
 prefix-byte front text n byte long (rest, is) at =
     let head = head-is rest byte (sym (at-seam front rest n long) ∙ ap (λ t. slice_get t n) (sym is) ∙ at) in
     (head.0, is ∙ ap (λ z. front ++ z) head.1 ∙ sym (append_assoc front (byte ∷ []) head.0))
 
--- a text that is no longer than the front it shares with another begins the other
+-- a text that is no longer than the prefix that it shares with another is a prefix of the other
 whole-prefix : (front rest text other more : List ℕ) (n : ℕ) → text ≡ front ++ rest → other ≡ front ++ more → length front ≡ n → length text ≤ n → IsPrefixOf text other
 whole-prefix front rest text other more n is other_is long short =
     let none : rest ≡ [] = nil_from_length rest (omega (arith, short, long, ap length is, length-append front rest)) in
@@ -126,7 +126,7 @@ module _ (a b : List ℕ) (n : ℕ) (both : AreAlike a b n) where
       let taken : take n b ≡ both.front = ap (take n) both.b_is ∙ take-seam both.front both.right n both.long in
       (both.part x y left right, subst (λ f. IsPrefixOf (f ++ x ∷ []) a) (sym taken) (prefix-byte both.front a n x both.long (both.left, both.a_is) in_a))
 
--- what a full match says of the equal bytes
+-- the equal bytes of a full match
 abbrev pub Tells : List ℕ → List ℕ → Result ℕ Parting → Type 0
 Tells prefix rest (Ok n) = (n ≡ common_prefix_len nat_eq prefix rest) × (n ≡ length prefix)
 Tells prefix rest (Err parting) = (parting.equal_bytes ≡ common_prefix_len nat_eq prefix rest) × (parting.equal_bytes < length prefix) × (parting.prefix_byte ≡ get_or prefix parting.equal_bytes 0)
@@ -277,7 +277,7 @@ module _ {K V : Type 0} {P : ℕ} (text : K → List ℕ) (arena : ArenaOf K V P
         by_part (Leaf pointer x) root (leaf, holds, has) = let one : HeldLeaf leaf ≡ Nothing = sym holds ∙ ap (held arena) root ∙ free in absurd (cc)
         by_part (Inner pointer prefix branches) root (node, holds, shows, stand) = let one : HeldInner node ≡ Nothing = sym holds ∙ ap (held arena) root ∙ free in absurd (cc)
 
-    -- where the key parts from all that the part tells
+    -- where the key differs from all texts of the part
     parts-at : (told : List ℕ) (index : ℕ) (byte other : ℕ) → reach (path_to is.at.context) is.at.part ≡ told → AreAlike told key index → spot.depth ≤ index → slice_get told index ≡ Some other → slice_get key index ≡ Some byte → Parts tree key spot (record { index = index; byte = byte; node_byte = other })
     parts-at told index byte other told_is both later in_told in_key =
         let parted = alike-parts told key index both other byte in_told in_key in
@@ -298,7 +298,7 @@ module _ {K V : Type 0} {P : ℕ} (text : K → List ℕ) (arena : ArenaOf K V P
       abbrev pub below : TreeUnder text arena node spot.depth
       below = record { tree = Inner spot.node here.prefix here.branches; path = path_to is.at.context; stands = (here.shows, here.stand); sound = here.sound; deep = is.at.deep }
 
-      -- what a full match of it tells
+      -- the result of a full match of it
       pub node-tells : AreShared (OpaqueNodePtr K V P) → (answer : Result ℕ Parting)
           → ((under : TreeUnder text arena node spot.depth) (shared : List ℕ) → IsSharedFrom spot.depth (texts under.tree) shared → answer ≡ full_match shared (drop spot.depth key)) → Tells here.prefix (drop spot.depth key) answer
       node-tells law answer asked = matched-tells here.prefix (drop spot.depth key) answer (asked below here.prefix (
@@ -332,7 +332,7 @@ module _ {K V : Type 0} {P : ℕ} (text : K → List ℕ) (arena : ArenaOf K V P
               λ same. omega (arith, longer, ap length same),
             ))
 
-        -- it parts from the prefix
+        -- it differs from the prefix
         pub node-parts : n < length here.prefix → spot.depth + n < length key → (other : ℕ) → other ≡ get_or here.prefix n 0 → Parts tree key spot (record { index = spot.depth + n; byte = get_or key (spot.depth + n) 0; node_byte = other })
         node-parts short inside other other_is =
             parts-at way (spot.depth + n) (get_or key (spot.depth + n) 0) other told-way node-alike (omega arith)
@@ -396,7 +396,7 @@ module _ {K V : Type 0} {P : ℕ} (text : K → List ℕ) (arena : ArenaOf K V P
           omega (arith, ap length leaf-alike.b_is, length-append leaf-alike.front leaf-alike.right, leaf-alike.long),
         )
 
-        -- one begins the other
+        -- one is a prefix of the other
         pub leaf-clash : leaf_text text leaf ≢ key → (spot.depth + n ≡ length (leaf_text text leaf)) ⊎ (spot.depth + n ≡ length key) → Clashes (texts tree) key
         leaf-clash differ ends = clash-in-part (leaf_text text leaf) (subst (λ part. Contains (texts part) (leaf_text text leaf)) (sym here.part) (0, omega arith, refl)) (elim ends [
           | inl first ↦ inl (alike-first (leaf_text text leaf) key (spot.depth + n) leaf-alike (omega (arith, first)), differ)

@@ -1,4 +1,4 @@
--- A part of a tree that takes a leaf more.
+-- Insertion: a part of a tree with one leaf more.
 use Rattle.std.proofs.Common.{◌≡◌, ◌≢◌, ◌⊎◌, ◌∙◌, ℕ, zero, suc, ◌+◌, ◌-◌, ◌<◌, ◌≤◌, ◌^◌, true, ◌&&◌, nat_lt, if◌then◌else◌, List, [], ◌∷◌, ◌++◌, length, length-append, map, filter, take, drop, slice_get, AllPairs, Contains, Some, None, refl, sym, ap, subst, inl, inr, arith, append_assoc, append-nil}
 use Rattle.std.proofs.lemmas.Bool.{cases_lt, cases_eq, eq-eqb, le-ltb, lt-ltb, ne_eqb}
 use Rattle.std.proofs.Math.Bool.{and-true}
@@ -58,7 +58,7 @@ record IsParted {H : Type 0} (low : ℕ) (branches : Branches H) (byte : ℕ) : 
   pub lesser : filter (λ p. nat_lt p.0 byte) (branch_roots branches) ≡ branch_roots before
   pub greater : filter (λ p. nat_lt byte p.0) (branch_roots branches) ≡ branch_roots after
 
--- a place for a byte in a node, what stands there with a leaf, and what comes after it
+-- a place for a byte in a node, what is there with a leaf, and what comes after it
 pub record HasChildPlace {H : Type 0} (path prefix : List ℕ) (branches : Branches H) (byte : ℕ) : Type 0 where
   pub before : Branches H
   pub after : Branches H
@@ -155,7 +155,7 @@ module _ {H : Type 0} where
       | inr right ↦ among (Contains-append_right (branch_places before) (leaf ∷ branch_places after) q (Contains-append_right (leaf ∷ []) (branch_places after) q right))
     ]
 
-  -- a tree without the front of its prefix has the same root, leaves and pointers
+  -- a tree without the first bytes of its prefix has the same root, leaves and pointers
   pub root-trimmed : (len : ℕ) (part : Tree H) → root_of (ltrimmed len part) ≡ root_of part
   root-trimmed len (Leaf pointer text) = refl
   root-trimmed len (Inner pointer prefix branches) = refl
@@ -178,7 +178,7 @@ module _ {H : Type 0} where
   pub places-sides : (byte other : ℕ) (tree : Tree H) → branch_places (join (branches_left byte other tree) (branches_right byte other tree)) ≡ places tree
   places-sides byte other tree = ap branch_places (both-sides byte other tree) ∙ append-nil (places tree)
 
--- so much of what a path's front goes on with ends where the whole does
+-- the rest of a path after its first bytes ends where the whole path does
 take-past : (path rest : List ℕ) (len to : ℕ) → to ≡ length path + len → take to (path ++ rest) ≡ path ++ take len rest
 take-past [] rest len to is = let same : to ≡ len = omega (arith, is) in ap (λ n. take n rest) same
 take-past (b ∷ path) rest len zero is = absurd (omega (arith, is))
@@ -192,7 +192,7 @@ path-up-to path key index (rest, is) past =
     ∙ ap (take index) (sym is)
 
 module _ {H : Type 0} where
-  -- without the front of its prefix a tree is sound under a longer path
+  -- without the first bytes of its prefix a tree is sound under a longer path
   trimmed-sound : (path front : List ℕ) (len : ℕ) (part : Tree H) → IsSound path part → IsPrefixOf front (reach path part) → length path + len ≡ length front → IsSound front (ltrimmed len part)
   trimmed-sound path front len (Leaf pointer text) sound begins deep = (begins, sound.1)
   trimmed-sound path front len (Inner pointer prefix branches) sound (rest, is) deep =
@@ -226,7 +226,7 @@ module _ {H : Type 0} where
     | inr upto ↦ rw (le-ltb byte other upto) (ap (λ root. (other, root) ∷ (byte, leaf) ∷ []) (sym (root-trimmed len part)))
   ]
 
-  -- where a key parts from a tree there is a place for it in a new node above the tree
+  -- where a key differs from a tree there is a place for it in a new node above the tree
   pub fork-place : (path : List ℕ) (part : Tree H) (key : List ℕ) (index byte node_byte : ℕ) → IsSound path part → IsPrefixOf path key → length path ≤ index → slice_get key index ≡ Some byte → byte < 256 → node_byte < 256 → byte ≢ node_byte
       → IsPrefixOf (take index key ++ node_byte ∷ []) (reach path part) → HasForkPlace path (take (index - length path) (drop (length path) key)) key byte node_byte (index + 1 - length path) part
   fork-place path part key index byte node_byte sound begins past at fits node_fits differ shares =
@@ -248,7 +248,8 @@ module _ {H : Type 0} where
       }
 
 module _ {K V : Type 0} {P : ℕ} where
-  -- a tree without the front of its prefix is as snug, and so are the branches on both sides of a byte
+  -- a tree without the first bytes of its prefix has the smallest kinds too, and so have the
+  -- branches on both sides of a byte
   pub smallest_kinds-trimmed : (len : ℕ) (part : Tree (OpaqueNodePtr K V P)) → HasSmallestKinds part → HasSmallestKinds (ltrimmed len part)
   smallest_kinds-trimmed len (Leaf pointer text) smallest_kinds = smallest_kinds
   smallest_kinds-trimmed len (Inner pointer prefix branches) smallest_kinds = smallest_kinds
@@ -256,12 +257,13 @@ module _ {K V : Type 0} {P : ℕ} where
   pub smallest_kinds-sides : (byte other : ℕ) (tree : Tree (OpaqueNodePtr K V P)) → HasSmallestKinds tree → HaveSmallestKinds (branches_left byte other tree) × HaveSmallestKinds (branches_right byte other tree)
   smallest_kinds-sides byte other tree smallest_kinds = elim (cases_lt byte other) [ inl less ↦ rw (lt-ltb byte other less) (tt, (smallest_kinds, tt)) | inr upto ↦ rw (le-ltb byte other upto) ((smallest_kinds, tt), tt) ]
 
-  -- the node with a leaf at a place is snug where it is of the kind for one branch more
+  -- the node with a leaf at a place has the smallest kinds where it is of the kind for one branch
+  -- more
   pub smallest_kinds-taken : (pointer : OpaqueNodePtr K V P) (prefix : List ℕ) (before : Branches (OpaqueNodePtr K V P)) (byte : ℕ) (leaf : OpaqueNodePtr K V P) (text : List ℕ) (after : Branches (OpaqueNodePtr K V P)) → node_kind pointer ≡ kind_for (length (branch_roots (join before after)) + 1)
       → HaveSmallestKinds before → HaveSmallestKinds after → HasSmallestKinds (with_leaf pointer prefix before byte leaf text after)
   smallest_kinds-taken pointer prefix before byte leaf text after kind smallest_kinds_before smallest_kinds_after = (kind ∙ ap kind_for (sym (taken-count before byte leaf text after)), smallest_kinds-join before (Branch byte (Leaf leaf text) after) smallest_kinds_before (tt, smallest_kinds_after))
 
--- where a node has room for one child more, its kind is still the smallest for that many
+-- where a node has space for one child more, its kind is still the smallest for that many
 pub kind-stays : (n : ℕ) → n < most_children (kind_for n) → kind_for (n + 1) ≡ kind_for n
 kind-stays n room = elim (cases_lt 4 n) [
   | inr four ↦ let is = kind-4 n four in let less : n < 4 = rw is at room in kind-4 (n + 1) (omega (arith, less)) ∙ sym is

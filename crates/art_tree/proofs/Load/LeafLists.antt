@@ -1,4 +1,4 @@
--- Leaves on their way into a list.
+-- Loading: leaves that are linked one after another.
 use Rattle.std.proofs.Common.{◌≡◌, ◌≢◌, ◌∙◌, ℕ, zero, suc, ◌+◌, ◌-◌, ◌<◌, List, [], ◌∷◌, ◌++◌, length, length-append, map, take, get_or, slice_get, Option, Some, None, inl, inr, refl, sym, ap, subst, arith, append_assoc}
 use Rattle.std.specs.Option.{option_and_then}
 use Rattle.std.specs.List.{Contains}
@@ -122,7 +122,7 @@ module _ {K V : Type 0} {P : ℕ} where
           no_others = λ pointer free is_held. a.no_others pointer free (λ none. is_held (same.nothing pointer none));
         }
 
-  -- what `each_leaf_of_a_list_is_knit` says of an arena
+  -- `each_leaf_of_a_list_is_knit`, of an arena
   abbrev pub AreKnit : ArenaOf K V P → Type 0
   AreKnit arena = (before after : List ℕ) (key : ℕ) → Spells arena (before ++ key ∷ after) → IsKnit arena key
 

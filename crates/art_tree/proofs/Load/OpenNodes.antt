@@ -1,4 +1,4 @@
--- A plan on its way: the nodes that are still open, and the tree that was finished last.
+-- Loading: a plan that is being made, with its open nodes and the tree that was finished last.
 use Rattle.std.proofs.Common.{◌≡◌, ◌∙◌, ℕ, zero, suc, ◌+◌, ◌-◌, ◌<◌, ◌≤◌, ◌^◌, max, List, [], ◌∷◌, ◌++◌, length, length-append, take, drop, get_or, map, refl, inl, inr, sym, ap, subst, arith, append_assoc, length-drop}
 use Rattle.std.proofs.lemmas.List.{append-nil, take-take, take-append-drop, take_more, length-take-le, get_or-take, get_or_past, length-map}
 use Rattle.std.proofs.lemmas.Bool.{cases_lt}

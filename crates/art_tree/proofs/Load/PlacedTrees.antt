@@ -1,4 +1,4 @@
--- Trees on their way into an arena.
+-- Loading: trees that are placed into an arena.
 use Rattle.std.proofs.Common.{◌≡◌, ◌≢◌, ◌⊎◌, ◌∙◌, ℕ, zero, suc, ◌+◌, ◌-◌, ◌<◌, ◌≤◌, Bool, true, false, nat_le, List, [], ◌∷◌, ◌++◌, length, length-append, map, take, drop, get_or, slice_get, Option, Some, None, Result, Ok, Err, IfOk, OnOk, inl, inr, refl, sym, ap, subst, arith, append_assoc, if◌then◌else◌, ◌&&◌}
 use Rattle.std.specs.Option.{option_map_or}
 use Rattle.std.specs.List.{Contains}
@@ -105,7 +105,7 @@ module _ {K V : Type 0} {P : ℕ} where
   pub text-held : (text : K → List ℕ) (arena : ArenaOf K V P) (key : ℕ) (leaf : LeafNode K V P) → held arena (opaque_pointer kinds.Leaf key) ≡ HeldLeaf leaf → text_at text arena key ≡ text (leaf_key leaf)
   text-held text arena key leaf e = ap (λ o. option_map_or (λ (l : LeafNode K V P). text (leaf_key l)) o []) (leaf-of (leaf_at arena key) leaf e)
 
-  -- what an allocation answers
+  -- the result of an allocation
   pub placed : (old new : ArenaOf K V P) (kind : NodeType) (key : ℕ) (node : nodes.Inner (OpaqueNodePtr K V P)) (at : OpaqueNodePtr K V P) → node_kind at ≡ kind → opaque_key at ≡ key → held old (opaque_pointer kind key) ≡ Nothing
       → Changes old new (opaque_pointer kind key) (HeldInner node) → room old kind ≤ room new kind + 1 → SameOtherRoom old new kind → IsPlaced old new kind node at
   placed old new kind key node at is_kind is_key free changes rooms others =
@@ -195,7 +195,7 @@ drop-get xs i x e = drop_more xs i x (slice_get_within xs i x e) ∙ ap (λ y. y
 moved : {A : Type 0} (a b : List A) (x : A) (from to : List A) → b ≡ a ++ x ∷ [] → from ≡ x ∷ to → a ++ from ≡ b ++ to
 moved a b x from to end start = ap (λ rest. a ++ rest) start ∙ sym (append_assoc a (x ∷ []) to) ∙ ap (λ front. front ++ to) (sym end)
 
--- room for each kind of inner node
+-- spare capacity for each kind of inner node
 pub each-kind : (need has : NodeType → ℕ) → need kinds.Node4 ≤ has kinds.Node4 → need kinds.Node16 ≤ has kinds.Node16 → need kinds.Node48 ≤ has kinds.Node48 → need kinds.Node256 ≤ has kinds.Node256 → (kind : NodeType) → kind ≢ kinds.Leaf → need kind ≤ has kind
 each-kind need has four sixteen many all kinds.Node4 inner = four
 each-kind need has four sixteen many all kinds.Node16 inner = sixteen
@@ -207,7 +207,7 @@ pub on-ok-then : {T E : Type 0} (A B : Type 0) (r : Result T E) → (A → B) �
 on-ok-then A B (Ok x) f h = f h
 on-ok-then A B (Err e) f h = tt
 
--- what holds of an answer that is Ok
+-- what holds of a result that is Ok
 pub if-ok : {T E : Type 0} (Q : T → Type 0) (r : Result T E) (x : T) → r ≡ Ok x → IfOk r Q → Q x
 if-ok Q (Ok y) x e h = let same : y ≡ x = cc in subst Q same h
 if-ok Q (Err y) x e h = absurd (cc)
@@ -285,7 +285,7 @@ module _ {K V : Type 0} {P : ℕ} (text : K → List ℕ) (pairs : List (OpaqueN
   pub rise-ready : (old now : ArenaOf K V P) (next byte start end children : ℕ) (pending : List (ℕ × OpaqueNodePtr K V P)) (steps : List Step) (r : IsRising old now next pending (step.Inner byte start end children ∷ steps)) → IsReady now r.leads.0.1 pending start end children
   rise-ready old now next byte start end children pending steps r = ready now r.leads.0.1 r.stack pending byte start end children steps r.roots r.leads.3 r.rooms
 
-  -- what the laws of the arena say of an allocation
+  -- the laws of the arena, of an allocation
   abbrev pub LeavesStanding : Type 0
   LeavesStanding = (old new : ArenaOf K V P) (pointer : OpaqueNodePtr K V P) (now : Held (OpaqueNodePtr K V P) (LeafNode K V P)) (branches : Branches (OpaqueNodePtr K V P)) → held old pointer ≡ Nothing → Changes old new pointer now
       → AllStandIn text old branches → AllStandIn text new branches

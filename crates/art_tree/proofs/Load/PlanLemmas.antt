@@ -1,4 +1,4 @@
--- A plan leads from the trees that are made to a whole one.
+-- Loading: a plan leads from the trees that are made to a whole one.
 use Rattle.std.proofs.Common.{◌≡◌, ◌∙◌, ℕ, zero, suc, ◌+◌, ◌-◌, ◌<◌, ◌≤◌, ◌^◌, List, [], ◌∷◌, ◌++◌, length, length-append, map, take, drop, slice_get, Some, refl, sym, ap, subst, arith, append_assoc}
 use Rattle.std.proofs.lemmas.List.{length-map, append-nil, take_at, drop_at}
 use Rattle.art_bytes.specs.Text.{IsPrefixOf}

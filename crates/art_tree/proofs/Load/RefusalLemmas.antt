@@ -1,4 +1,4 @@
--- Entries of which none has a fault.
+-- Loading: entries of which none has a fault.
 use Rattle.std.proofs.Common.{◌≡◌, ◌∙◌, ℕ, zero, suc, ◌+◌, ◌<◌, ◌≤◌, ◌^◌, Bool, true, false, List, [], ◌∷◌, length, take, get_or, All, Option, Some, None, IfSome, refl, sym, ap, subst, inl, inr, arith, nat_lt, nat_eq, ◌==◌}
 use Rattle.std.specs.declared.cmp.Ordering.{Ordering}
 use Rattle.std.specs.declared.cmp.Ordering.TheVariants.{Less, Equal, Greater}
@@ -16,7 +16,7 @@ use Rattle.art_tree.specs.declared.loading.check.LoadRefusal.TheVariants.{KeyToo
 fork-later : (x y : ℕ) (a b : List ℕ) → x ≡ y → Forks a b → Forks (x ∷ a) (y ∷ b)
 fork-later x y a b same (at, fork) = (suc at, record { in_first = omega (arith, fork.in_first); in_second = omega (arith, fork.in_second); shared = ap (λ z. z ∷ take at a) same ∙ ap (λ rest. y ∷ rest) fork.shared; less = fork.less })
 
--- a text that is less than another, and none of its fronts, parts from it
+-- a text that is less than another, and no prefix of it, differs from it at some byte
 forks : (a b : List ℕ) → text_order a b ≡ Less → starts_with nat_eq b a ≡ false → Forks a b
 forks [] [] less apart = absurd (cc)
 forks [] (y ∷ b) less apart = absurd (cc)
@@ -38,7 +38,7 @@ between i text next Less true is apart none = absurd (let wrong : Some _ ≡ Non
 between i text next Equal front is apart none = absurd (let wrong : Some _ ≡ None = rw is at none in cc)
 between i text next Greater front is apart none = absurd (let wrong : Some _ ≡ None = rw is at none in cc)
 
--- entries without a fault are short, and each parts from the next
+-- entries without a fault are short, and each differs from the next
 pub loadable : (texts : List (List ℕ)) → ((i : ℕ) → i < length texts → fault_at texts i ≡ None) → AreLoadable texts
 loadable texts none = record { short = is_short; fork = parts }
   where
@@ -57,7 +57,7 @@ loadable texts none = record { short = is_short; fork = parts }
 pub each-short : (texts : List (List ℕ)) → HaveNoFault texts → All (λ x. length x < 2 ^ 32) texts
 each-short texts fine = let fits = loadable texts fine.1 in All-from_get_or (λ x. length x < 2 ^ 32) texts [] fits.short
 
--- a text that parts from another upwards is less
+-- a text that differs from another by a smaller byte is less
 pub forks-less : (a b : List ℕ) (at : ℕ) → IsFork a b at → text_order a b ≡ Less
 forks-less [] b at fork = absurd (omega (arith, fork.in_first))
 forks-less (x ∷ a) [] at fork = absurd (omega (arith, fork.in_second))

@@ -1,4 +1,4 @@
--- A leaf of a tree and the inner node that it hangs in.
+-- Removal: a leaf of a tree and its parent.
 use Rattle.std.proofs.Common.{◌≡◌, ◌≢◌, ◌⊎◌, ◌∙◌, ℕ, ◌+◌, List, [], ◌∷◌, ◌++◌, length, Contains, Option, Some, refl, sym, ap, subst, inl, inr, arith}
 use Rattle.std.proofs.lemmas.List.Elements.{All-contains, Contains-append_left, Contains-append_right, Contains-append_cases}
 use Rattle.art_header.specs.declared.node_type.NodeType.TheVariants as kinds
@@ -37,7 +37,7 @@ module _ {K V : Type 0} {P : ℕ} {leaf parent : OpaqueNodePtr K V P} {byte : �
   abbrev pub right_there : HangsUnder tree leaf parent byte higher → List (OpaqueNodePtr K V P × List ℕ)
   right_there hangs = branch_leaves hangs.after ++ leaves_after hangs.upper
 
-  -- what the tree and the arena say of the leaf and of the node
+  -- the leaf and the node, in the tree and in the arena
   pub record LeafPlace (text : K → List ℕ) (old : ArenaOf K V P) (root : OpaqueNodePtr K V P) (hangs : HangsUnder tree leaf parent byte higher) : Type 0 where
     pub alone : IsAlone text old root (plug hangs.upper (part_there hangs))
     pub stands : StandsIn text old (part_there hangs)

@@ -1,4 +1,4 @@
--- A leaf less below a node of two children, whose other child takes the node's place.
+-- Removal: a leaf of a node of two children, whose other child takes the node's place.
 use Rattle.std.proofs.Common.{◌≡◌, ◌≢◌, ◌⊎◌, ◌∙◌, ℕ, ◌+◌, ◌<◌, ◌≤◌, ◌^◌, List, [], ◌∷◌, ◌++◌, length, map, take, All, Contains, Option, Some, refl, sym, ap, subst, inl, inr, arith}
 use Rattle.std.proofs.lemmas.List.{map-append}
 use Rattle.std.proofs.lemmas.List.Elements.{All-append, All-contains, All-tail, Contains-append_right}
@@ -199,7 +199,7 @@ module _ {K V : Type 0} {P : ℕ} {text : K → List ℕ} {old : ArenaOf K V P} 
             pub parent-joined : held joined parent ≢ Nothing
             parent-joined none = parent-held (sym parent-same ∙ none)
 
-            -- the arena once the node is given up
+            -- the arena after the node is deallocated
             module _ (new : ArenaOf K V P) (given : Changes joined new parent Nothing) where
               two-cuts : AreCuts text old cut new hangs.upper (part_there hangs) root leaf child
               two-cuts = record {

@@ -1,4 +1,4 @@
--- A part of a tree without one of its leaves.
+-- Removal: a part of a tree without one of its leaves.
 use Rattle.std.proofs.Common.{◌≡◌, ◌≢◌, ◌∙◌, ℕ, suc, ◌+◌, ◌<◌, ◌≤◌, ◌^◌, List, [], ◌∷◌, ◌++◌, length, length-append, map, Contains, Option, Some, None, refl, sym, ap, subst, inl, inr, arith, append_assoc, append-nil}
 use Rattle.std.proofs.lemmas.Bool.{cases_lt, eq-eqb, ne_eqb}
 use Rattle.std.proofs.lemmas.List.Elements.{Contains-append_right, Contains-append_cases}
@@ -174,12 +174,12 @@ module _ {H : Type 0} where
   places-joined upper byte (Inner pointer lower branches) = refl
 
 module _ {K V : Type 0} {P : ℕ} where
-  -- and is as snug
+  -- and has the smallest kinds too
   pub smallest_kinds-joined : (upper : List ℕ) (byte : ℕ) (part : Tree (OpaqueNodePtr K V P)) → HasSmallestKinds part → HasSmallestKinds (with_upper upper byte part)
   smallest_kinds-joined upper byte (Leaf pointer text) smallest_kinds = smallest_kinds
   smallest_kinds-joined upper byte (Inner pointer lower branches) smallest_kinds = smallest_kinds
 
-  -- the branches are snug without one of them
+  -- the branches without one of them have the smallest kinds
   pub left-smallest_kinds : (before : Branches (OpaqueNodePtr K V P)) (byte : ℕ) (tree : Tree (OpaqueNodePtr K V P)) (after : Branches (OpaqueNodePtr K V P)) → HaveSmallestKinds (join before (Branch byte tree after)) → HaveSmallestKinds (join before after)
   left-smallest_kinds before byte tree after smallest_kinds = let both = smallest_kinds-split before (Branch byte tree after) smallest_kinds in smallest_kinds-join before after both.0 both.1.1
 
@@ -215,7 +215,7 @@ kind-shrinks n kind two is least = elim (cases_lt 4 (n + 1)) [
   ]
 ]
 
--- where no text begins another, the text of a leaf is not among the others
+-- where no text is a prefix of another, the text of a leaf is not among the others
 text-gone : {H : Type 0} (left right : List (H × List ℕ)) (leaf : H) (x : List ℕ) → AreApart (map (λ pair. pair.1) (left ++ (leaf, x) ∷ right)) → (p : H) → Contains (left ++ right) (p, x) → ⊥
 text-gone [] right leaf x apart p inside = not-later (leaf, x) right leaf p x apart refl inside
 text-gone (y ∷ left) right leaf x apart p inside = elim (Contains-append_cases (y ∷ []) (left ++ right) (p, x) inside) [

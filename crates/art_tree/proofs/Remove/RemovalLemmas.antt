@@ -1,4 +1,4 @@
--- A leaf that a search finds, and that is taken out of its list and out of its arena.
+-- Removal: a leaf that a search finds, and that is removed from its list and from its arena.
 use Rattle.std.proofs.Common.{◌≡◌, ◌≢◌, ◌∙◌, ℕ, ◌≤◌, ◌+◌, length, List, [], ◌∷◌, ◌++◌, All, Contains, Option, Some, None, refl, sym, ap, subst, inl, inr, arith, IfNone}
 use Rattle.std.proofs.lemmas.List.Elements.{All-cons, All-contains, All-head, All-tail, Contains-append_right}
 use Rattle.art_header.specs.declared.node_type.NodeType.{NodeType}
@@ -39,7 +39,7 @@ apart-from (first ∷ front) this back distinct =
     let differ : this ≢ first = All-contains (λ other. other ≢ first) (front ++ this ∷ back) this distinct.0 (Contains-append_right front (this ∷ back) this (0, omega arith, refl)) in
     All-cons (λ other. other ≢ this) first (front ++ back) (λ same. differ (sym same)) (apart-from front this back distinct.1)
 
--- a leaf is taken out of its list, and then out of the arena
+-- a leaf is removed from its list, and then from the arena
 module _ {K V : Type 0} {P : ℕ} (old linked : ArenaOf K V P) (this : ℕ) (same : SameButLinks old linked) where
   -- it is still held when it is out of its list
   pub still-held : IsKnit old this → HoldsLeaf linked this
@@ -83,7 +83,7 @@ module _ {K V : Type 0} {P : ℕ} (old linked : ArenaOf K V P) (this : ℕ) (sam
           };
         }
 
--- no kind has less room, where a leaf is given up
+-- no kind has less spare capacity, where a leaf is deallocated
 module _ {K V : Type 0} {P : ℕ} (old linked new : ArenaOf K V P) where
   pub no-less-room : SameRoom old linked → room linked kinds.Leaf ≤ room new kinds.Leaf → SameOtherRoom linked new kinds.Leaf → (kind : NodeType) → room old kind ≤ room new kind
   no-less-room stays leaf others kinds.Node4 = omega (arith, stays kinds.Node4, others kinds.Node4 (λ e. cc))
@@ -92,7 +92,7 @@ module _ {K V : Type 0} {P : ℕ} (old linked new : ArenaOf K V P) where
   no-less-room stays leaf others kinds.Node256 = omega (arith, stays kinds.Node256, others kinds.Node256 (λ e. cc))
   no-less-room stays leaf others kinds.Leaf = omega (arith, stays kinds.Leaf, leaf)
 
--- of one kind after the other there is room for one node more at most
+-- one kind after the other has spare capacity for one node more at most
 module _ {K V : Type 0} {P : ℕ} where
   pub frees-after : (old mid new : ArenaOf K V P) (kind : NodeType) → SameRoom old mid → FreesOne mid new kind → FreesOne old new kind
   frees-after old mid new kind stays frees = record {
@@ -113,7 +113,7 @@ module _ {K V : Type 0} {P : ℕ} where
     | inr differ ↦ omega (arith, leaf.others other differ, stays other, frees-one joined new kind node other, ends other)
   ]
 
-  -- a leaf, where the node that it hung in has more than the fewest children of its kind
+  -- a leaf whose parent has more than the fewest children of its kind
   pub frees-leaf : (old reserved cut new last : ArenaOf K V P) (parent top : OpaqueNodePtr K V P) (node now : nodes.Inner (OpaqueNodePtr K V P)) → SameRoom old reserved → FreesOne reserved cut kinds.Leaf
       → HasOneLess cut new parent node now top → length node.children ≢ least_children (node_kind parent) → SameRoom new last → FreesOneEach old last
   frees-leaf old reserved cut new last parent top node now stays leaf less more ends other = elim less [
@@ -148,7 +148,7 @@ module _ {K V : Type 0} {P : ℕ} (text : K → List ℕ) (old new : ArenaOf K V
           let found = leaf-of-entry text old root (Leaf at x) alone y entry is in
           absurd (differ (sym (ap (λ pair. pair.1) (the-one (at, x) (found.pointer, y) found.inside))))
 
--- the node that a leaf hangs in is held
+-- the parent of a leaf is held
 pub parent-there : {K V : Type 0} {P : ℕ} (text : K → List ℕ) (arena : ArenaOf K V P) (root : OpaqueNodePtr K V P) (tree : Tree (OpaqueNodePtr K V P)) → IsAlone text arena root tree → (pointer parent : OpaqueNodePtr K V P) (byte : ℕ) (higher : Option (OpaqueNodePtr K V P × ℕ))
     → HangsUnder tree pointer parent byte higher → (node : nodes.Inner (OpaqueNodePtr K V P)) × (held arena parent ≡ HeldInner node)
 parent-there text arena root tree alone pointer parent byte higher hangs =
@@ -176,7 +176,7 @@ is-found text arena seen same root tree is leaf path key answer way =
           sym has ∙ ap (λ l. text (leaf_key l)) (one-leaf (held arena at) one other holds here) ∙ had;
     }
 
--- a leaf that hangs in a tree is one of its leaves
+-- a leaf at a spot of a tree is one of its leaves
 pub hangs-in : {H : Type 0} {tree : Tree H} {pointer parent : H} {byte : ℕ} {higher : Option (H × ℕ)} (hangs : HangsUnder tree pointer parent byte higher) → Contains (leaves tree) (pointer, hangs.text)
 hangs-in {pointer = pointer} {parent = parent} {byte = byte} hangs =
     let place = Under hangs.upper parent hangs.prefix hangs.before byte hangs.after in
@@ -184,7 +184,7 @@ hangs-in {pointer = pointer} {parent = parent} {byte = byte} hangs =
     subst (λ t. Contains (leaves t) leaf) hangs.whole (subst (λ all. Contains all leaf) (sym (leaves-plug place (Leaf pointer hangs.text)))
     (Contains-append_right (leaves_before place) (leaf ∷ leaves_after place) leaf (0, omega arith, refl)))
 
--- what an option tells where there is no value
+-- what follows from an option where there is no value
 pub from-if-none : {X : Type 0} (o : Option X) (Q : Type 0) → o ≡ None → IfNone o Q → Q
 from-if-none None Q is holds = holds
 from-if-none (Some y) Q is holds = absurd (cc)

@@ -1,4 +1,4 @@
--- A leaf less in a tree: what the steps of a removal leave.
+-- Removal: a tree with one leaf less, after the steps of a removal.
 use Rattle.std.proofs.Common.{◌≡◌, ◌≢◌, ◌⊎◌, ◌∙◌, ℕ, ◌<◌, ◌^◌, List, [], ◌∷◌, ◌++◌, length, map, All, Contains, Some, refl, sym, ap, subst, inl, inr, arith, append_assoc}
 use Rattle.std.proofs.lemmas.List.{map-append}
 use Rattle.std.proofs.lemmas.List.Elements.{All-append, All-tail, Contains-append_right}
@@ -30,7 +30,8 @@ use Rattle.art_tree.proofs.Insert.NodeLemmas.{one-leaf, some-inner}
 use Rattle.art_tree.proofs.Find.OnlyWayLemmas.{All-left, All-right}
 use Rattle.art_tree.proofs.Load.PlacedTrees.{cases_pointer, leaf-of}
 
--- the steps of a removal: from the first arena to the next a leaf goes, from there to the third the node above it is changed, or another takes its place, and then that is hung there
+-- the steps of a removal: from the first arena to the next a leaf is removed, from there to the
+-- third its parent is changed or replaced, and then the new node is put there
 module _ {K V : Type 0} {P : ℕ} (text : K → List ℕ) (old cut new : ArenaOf K V P) (context : Context (OpaqueNodePtr K V P)) (part : Tree (OpaqueNodePtr K V P)) (root leaf top : OpaqueNodePtr K V P) where
   pub record AreCuts : Type 0 where
     pub stood : StandsIn text old (plug context part)
@@ -87,7 +88,7 @@ module _ {K V : Type 0} {P : ℕ} (text : K → List ℕ) (old cut new : ArenaOf
       pub outside-kept : (p : OpaqueNodePtr K V P) → held old p ≢ Nothing → (Contains (places part) p → ⊥) → parent context ≢ Some p → KeepsAt old last p
       outside-kept p was outside away = keeps-on old cut last p (steps.stays p (outside-not p was outside)) (hangs.others p away ∙ steps.same p (outside-top p was outside) (outside-node p outside))
 
-      -- and what is in it, but for the leaf, the node above it, and the one that is hung there
+      -- and what is in it, but for the leaf, its parent, and the node that is put there
       pub inside-kept : (p : OpaqueNodePtr K V P) → Contains (places part) p → p ≢ leaf → p ≢ top → p ≢ root_of part → KeepsAt old last p
       inside-kept p inside not_leaf not_top not_node = keeps-on old cut last p (steps.stays p not_leaf) (hangs.others p (not-parent p inside) ∙ steps.same p not_top not_node)
 
@@ -214,7 +215,7 @@ module _ {K V : Type 0} {P : ℕ} (text : K → List ℕ) (old cut new : ArenaOf
                 was = was apart_old;
               }
 
--- where the first step only made room, what is removed after it is removed after all
+-- where the first step only made spare capacity, what is removed after it is removed by both
 pub removed-from : {K V : Type 0} {P : ℕ} (text : K → List ℕ) (old reserved last : ArenaOf K V P) (x : List ℕ) (root_now : OpaqueNodePtr K V P) (entry : K × V) (root : OpaqueNodePtr K V P) (tree : Tree (OpaqueNodePtr K V P)) → IsAlone text old root tree → AreApart (texts tree) → SameNodes old reserved
     → IsRemoved text reserved last x root_now entry → IsRemoved text old last x root_now entry
 removed-from text old reserved last x root_now entry root tree alone apart same removed =

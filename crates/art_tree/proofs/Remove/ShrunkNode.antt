@@ -1,4 +1,4 @@
--- Inner nodes that take a child less, or the prefix of the node above.
+-- Removal: inner nodes with one child less, or with the prefix of the node above.
 use Rattle.std.proofs.Common.{◌≡◌, ◌≢◌, ◌∙◌, ℕ, ◌+◌, ◌-◌, ◌<◌, ◌≤◌, min, List, [], ◌∷◌, ◌++◌, length, length-append, take, None, refl, sym, ap, subst, inl, inr, arith, append_assoc, ◌==◌, ◌↔◌, IsTrue}
 use Rattle.std.proofs.lemmas.Bool.{cases_eq, cases_lt, eq-eqb, eqb-true, ne_eqb}
 use Rattle.std.proofs.Math.Seq.{take-append-add}
@@ -99,7 +99,7 @@ module _ {K V : Type 0} {P : ℕ} where
       go (HeldInner node) is = (node, is)
       go (HeldLeaf leaf) is = absurd (inner (leaf_kind arena (node_kind pointer) (opaque_key pointer) leaf is))
 
-  -- a node is given up for one of another kind
+  -- a node is replaced by one of another kind
   pub replaced : (old now new : ArenaOf K V P) (after : Inner (OpaqueNodePtr K V P)) {at made pointer : OpaqueNodePtr K V P} → at ≡ made → held old made ≡ Nothing → held old pointer ≢ Nothing
       → Changes old now made (HeldInner after) → Changes now new pointer Nothing → IsReplaced old new pointer (node_kind made) after at
   replaced old now new after {made = made} {pointer = pointer} same free was made_there given_up =
@@ -111,7 +111,7 @@ module _ {K V : Type 0} {P : ℕ} where
         others = λ other not_new not_old. given_up.others other not_old ∙ made_there.others other not_new;
       })
 
-  -- a node of a kind that is given up for one of the next smaller kind
+  -- a node of a kind that is replaced by one of the next smaller kind
   module _ (old : ArenaOf K V P) (pointer : OpaqueNodePtr K V P) {kind : NodeType} (is_kind : node_kind pointer ≡ kind) where
     pub smaller-room : 0 < room old (shrunk_kind (node_kind pointer)) → 0 < room old (shrunk_kind kind)
     smaller-room has = subst (λ kind. 0 < room old (shrunk_kind kind)) is_kind has
@@ -148,7 +148,7 @@ module _ {K V : Type 0} {P : ℕ} where
       pub not-smallest : ((node : Inner (OpaqueNodePtr K V P)) → held old pointer ≡ HeldInner node → (2 < length node.children) × (least_children (node_kind pointer) ≤ length node.children)) → node_kind pointer ≢ kinds.Node4
       not-smallest many kind = omega (arith, (many before.0 before.1).0, fewest before.0 before.1, ap least_children kind)
 
-      -- there is the room that there was
+      -- the spare capacity is unchanged
       pub room-left : HasRoomToShrink old pointer → SameRoom old mid
           → ((node : Inner (OpaqueNodePtr K V P)) → held old pointer ≡ HeldInner node → (2 < length node.children) × (least_children (node_kind pointer) ≤ length node.children)) → 0 < room mid (shrunk_kind (node_kind pointer))
       room-left rooms same_room many =

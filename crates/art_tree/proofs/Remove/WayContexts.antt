@@ -1,4 +1,4 @@
--- The way to a leaf as the place of that leaf in the tree.
+-- Removal: the way to a leaf as the place of that leaf in the tree.
 use Rattle.std.proofs.Common.{◌≡◌, ◌∙◌, ℕ, List, [], ◌∷◌, ◌++◌, Option, Some, None, refl, sym, ap, inl, inr, append_assoc, append-nil}
 use Rattle.std.proofs.lemmas.Option.{same_Some}
 use Rattle.art_nodes.specs.declared.pointers.OpaqueNodePtr.{OpaqueNodePtr}
@@ -26,7 +26,7 @@ pub record HasLeafAt {H : Type 0} (tree : Tree H) (steps : List (H × ℕ)) (poi
   pub whole : plug context (Leaf pointer text) ≡ tree
   pub same : steps_to context ≡ steps
 
--- the place is the child under this byte of an inner node, which hangs under this parent
+-- the place is the child under this byte of an inner node, which has this parent
 pub record IsUnder {H : Type 0} (context : Context H) (parent : H) (byte : ℕ) (higher : Option (H × ℕ)) : Type 0 where
   pub upper : Context H
   pub prefix : List ℕ
@@ -76,7 +76,7 @@ module _ {H : Type 0} where
   pub way-context : (tree : Tree H) (steps : List (H × ℕ)) (pointer : H) → IsWay tree steps pointer → HasLeafAt tree steps pointer
   way-context tree steps pointer way = way-from Whole tree steps pointer way
 
-  -- a leaf hangs where its place is
+  -- a leaf is under its parent, where its place is
   hangs-under : (tree : Tree H) (steps : List (H × ℕ)) (pointer parent : H) (byte : ℕ) (higher : Option (H × ℕ)) (leaf : HasLeafAt tree steps pointer) → IsUnder leaf.context parent byte higher → HangsUnder tree pointer parent byte higher
   hangs-under tree steps pointer parent byte higher leaf under = record {
     upper = under.upper;
@@ -148,7 +148,7 @@ module _ {K V : Type 0} {P : ℕ} where
         let leaf = way-context tree steps pointer only.0 in
         (leaf.text, sym leaf.whole ∙ ap (λ context. plug context (Leaf pointer leaf.text)) (path-root leaf.context (ap path_of leaf.same ∙ sym is)))
 
-    -- any other leaf hangs under the node of the last step
+    -- any other leaf is a child of the node of the last step
     leaf-under : (path : TreePath K V P) (parent : OpaqueNodePtr K V P) (byte : ℕ) → IsPathTo tree pointer path → last_step path ≡ Some (parent, byte) → HangsUnder tree pointer parent byte (step_before path)
     leaf-under path parent byte (steps, only, is) last =
         let leaf = way-context tree steps pointer only.0 in

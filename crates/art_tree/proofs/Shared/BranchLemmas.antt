@@ -58,7 +58,7 @@ pub below-last : (low : ℕ) (bytes : List ℕ) (byte top : ℕ) → AscendBelow
 below-last low [] byte top h lt = (h, omega (arith, lt))
 below-last low (x ∷ bytes) byte top h lt = (h.0, below-last (suc x) bytes byte top h.1 lt)
 
--- lists that end with one element each are equal where their fronts and their ends are
+-- lists that end with one element each are equal where the elements before it and the last ones are
 pub last-same : {A : Type 0} (xs ys : List A) (x y : A) → xs ++ x ∷ [] ≡ ys ++ y ∷ [] → (xs ≡ ys) × (x ≡ y)
 last-same [] [] x y e = (refl, cc)
 last-same [] (b ∷ []) x y e = absurd (cc)

@@ -1,4 +1,4 @@
--- What the steps of a change of a tree leave, be it an insert or a removal.
+-- Insertion and removal: the tree and its arena after a change.
 use Rattle.std.proofs.Common.{◌≡◌, ◌≢◌, ◌⊎◌, ◌∙◌, ℕ, ◌==◌, Bool, true, false, if◌then◌else◌, List, [], ◌∷◌, ◌++◌, Contains, Some, None, refl, sym, ap, subst, inl, inr, arith}
 use Rattle.std.proofs.lemmas.Bool.Decides.{nat_tests}
 use Rattle.std.proofs.lemmas.List.Elements.{Contains-append_cases}
@@ -81,7 +81,7 @@ module _ {K V : Type 0} {P : ℕ} where
         at_root = λ now top_is. root-under higher p prefix before byte after part now ∙ at_root ∙ sym is;
       }
 
--- a node hangs where it hung in an arena that keeps the parent
+-- a node is where it was in an arena that keeps the parent
 there-at : {H : Type 0} (xs : ChildMap H) (byte : ℕ) (child : H) (ys : ChildMap H) → child_at (xs ++ (byte, child) ∷ ys) byte ≢ None
 there-at [] byte child ys = by_test (byte == byte) (grind (arith, nat_tests))
   where

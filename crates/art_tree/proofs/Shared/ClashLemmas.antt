@@ -1,4 +1,4 @@
--- Keys of which none begins another.
+-- Keys of which none is a prefix of another.
 use Rattle.std.proofs.Common.{◌≡◌, ◌∙◌, ◌⊎◌, ℕ, List, [], ◌∷◌, map, All, Contains, Option, Some, None, refl, sym, subst, inl, inr, arith}
 use Rattle.std.proofs.lemmas.List.Elements.{All-contains, Contains-append_cases, Contains-append_right}
 use Rattle.art_bytes.specs.Text.{IsPrefixOf}

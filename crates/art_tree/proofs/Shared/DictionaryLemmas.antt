@@ -123,7 +123,7 @@ module _ {K V : Type 0} {P : ℕ} (text : K → List ℕ) where
         | inr later ↦ branch-leaf-held-in others stand q x later
       ]
 
--- no text begins another
+-- no text is a prefix of another
 abbrev pub AreApart : List (List ℕ) → Type 0
 AreApart texts = AllPairs (λ a b. (IsPrefixOf a b → ⊥) × (IsPrefixOf b a → ⊥)) texts
 
@@ -197,7 +197,7 @@ module _ {H : Type 0} where
           Contains-append_right (y ∷ []) ys (p, x) (onwards rest)
 
 module _ {K V : Type 0} {P : ℕ} (text : K → List ℕ) (arena : ArenaOf K V P) (root : OpaqueNodePtr K V P) (tree : Tree (OpaqueNodePtr K V P)) (alone : IsAlone text arena root tree) where
-  -- what the dictionary says is held at a leaf of the tree
+  -- the entry of the dictionary is held at a leaf of the tree
   pub record IsLeafWith (x : List ℕ) (entry : K × V) : Type 0 where
     pub pointer : OpaqueNodePtr K V P
     pub leaf : LeafNode K V P
@@ -214,7 +214,7 @@ module _ {K V : Type 0} {P : ℕ} (text : K → List ℕ) (arena : ArenaOf K V P
       let inside = leaf-in text arena tree alone.is_tree.stands pointer slot.leaf (alone.no_others pointer (some-leaf (held arena pointer) slot.leaf there)) there in
       record { pointer = pointer; leaf = slot.leaf; held_there = there; has = slot.has; inside = subst (λ t. Contains (leaves tree) (pointer, t)) slot.has inside; is = slot.is }
 
-  -- and what a leaf holds the dictionary says
+  -- and what a leaf holds is an entry of the dictionary
   pub entry-of-leaf : AreApart (texts tree) → (key : ℕ) (leaf : LeafNode K V P) → slice_index_or arena.leaf.slots key None ≡ Some leaf → entry_at text arena (text (leaf_key leaf)) ≡ Some (leaf_key leaf, leaf_value leaf)
   entry-of-leaf apart key leaf at =
       let some = entry-some text arena.leaf.slots key leaf at in
@@ -329,7 +329,7 @@ module _ {K V : Type 0} {P : ℕ} (text : K → List ℕ) (arena : ArenaOf K V P
             let leaf = leaf-of-entry text arena root tree alone-loaded x entry found in
             subst (Contains (texts_of text entries)) leaf.has (text-of-held (leaf_pointers tree) entries leaf.pointer leaf.leaf is.hold (in-map (λ pair. pair.0) (leaves tree) (leaf.pointer, x) leaf.inside) leaf.held_there)
 
--- what is answered where there is no entry
+-- the result where there is no entry
 pub nothing-got : {K V : Type 0} (result : Option (Bor V)) (entry : Option (K × V)) → result ≡ None → entry ≡ None → option_copied result ≡ option_map (λ (e : K × V). e.1) entry
 nothing-got result entry none no_entry = ap option_copied none ∙ sym (ap (option_map (λ (e : _ × _). e.1)) no_entry)
 
@@ -388,7 +388,7 @@ module _ {K V : Type 0} {P : ℕ} (text : K → List ℕ) (arena : ArenaOf K V P
             let has = leaf-of-entry text arena root tree alone other entry found in
             subst (λ t. IsWithin end t other) (sym end-held.2 ∙ ap text key-is) (within-end end (leaves tree) (leaf_pointer leaf) at_end ascend has.pointer other has.inside)
 
--- where there is no value nothing is told of one
+-- where there is no value nothing follows from one
 pub if-some-none : {X : Type 0} (o : Option X) (Q : X → Type 0) → o ≡ None → IfSome o Q
 if-some-none None Q none = tt
 if-some-none (Some x) Q none = absurd (cc)

@@ -167,7 +167,7 @@ module _ {H : Type 0} where
       ]
 
 module _ {K V : Type 0} {P : ℕ} where
-  -- where the whole is snug, it stays so with another snug part
+  -- where the whole has the smallest kinds, it still has them with another part that has them
   pub smallest_kinds-part : (context : Context (OpaqueNodePtr K V P)) (tree : Tree (OpaqueNodePtr K V P)) → HasSmallestKinds (plug context tree) → HasSmallestKinds tree
   smallest_kinds-part Whole tree smallest_kinds = smallest_kinds
   smallest_kinds-part (Under above pointer prefix before byte after) tree smallest_kinds =
@@ -183,7 +183,7 @@ module _ {K V : Type 0} {P : ℕ} where
 
 module _ {K V : Type 0} {P : ℕ} (text : K → List ℕ) (old new : ArenaOf K V P) where
   mutual
-    -- a tree stands on where each of its pointers holds what it held, but for links
+    -- a tree still stands where each of its pointers holds what it held, but for links
     pub kept-tree : (tree : Tree (OpaqueNodePtr K V P)) → StandsIn text old tree → ((q : OpaqueNodePtr K V P) → Contains (places tree) q → KeepsAt old new q) → StandsIn text new tree
     kept-tree (Leaf pointer x) (leaf, holds, has) keeps =
         let now = (keeps pointer (0, omega arith, refl)).leaf leaf holds in (now.0, now.1, ap text now.2 ∙ has)

@@ -1,4 +1,4 @@
--- Each entry of a dictionary keeps a key that the laws of keys speak of.
+-- The laws of keys hold for the key of each entry of a dictionary.
 use Rattle.std.proofs.Common.{◌≡◌, ◌≢◌, ◌∙◌, ℕ, Bool, true, false, List, None, Some, All, Contains, nat_eq, refl, sym, ap, subst}
 use Rattle.std.specs.Cmp.Lexicographic.{pointwise}
 use Rattle.std.proofs.lemmas.Option.{same_Some}

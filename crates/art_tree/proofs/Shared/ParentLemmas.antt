@@ -1,4 +1,4 @@
--- Where a node hangs, and what stands beside it.
+-- The parent of a node, and the nodes beside it.
 use Rattle.std.proofs.Common.{◌≡◌, ◌≢◌, ◌∙◌, ℕ, List, [], ◌∷◌, ◌++◌, Option, Some, None, IsNone, Result, Ok, Err, OnOk, OnErr, Bool, true, false, sym, ap, subst, refl, append-nil}
 use Rattle.std.proofs.lemmas.Option.{same_Some}
 use Rattle.art_header.specs.NodeType.{most_children}
@@ -37,7 +37,7 @@ module _ {K V : Type 0} {P : ℕ} where
   pub inner-kind : (arena : ArenaOf K V P) (pointer : OpaqueNodePtr K V P) (node : nodes.Inner (OpaqueNodePtr K V P)) → held arena pointer ≡ HeldInner node → node_kind pointer ≢ kinds.Leaf
   inner-kind arena pointer node is leaf = no-inner _ node (sym (ap (λ kind. held_under arena kind (opaque_key pointer)) leaf) ∙ is)
 
-  -- a parent under whose byte a child hangs
+  -- a parent that has a child under the byte
   pub record IsParent (arena : ArenaOf K V P) (parent : OpaqueNodePtr K V P) (byte : ℕ) : Type 0 where
     pub is_held : held arena parent ≢ Nothing
     pub is_inner : node_kind parent ≢ kinds.Leaf

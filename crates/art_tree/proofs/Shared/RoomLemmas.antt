@@ -1,4 +1,4 @@
--- Where memory is refused, some kind has no room.
+-- Allocation failure: some kind has no spare capacity.
 use Rattle.std.proofs.Common.{◌≡◌, ◌∙◌, ℕ, zero, suc, ◌≤◌, Result, Ok, Err, OnErr, IsOk, true, false, refl, sym, subst, inl, inr, arith}
 use Rattle.art_header.specs.declared.node_type.NodeType.{NodeType}
 use Rattle.art_nodes.proofs.KindLaws.{same_or_differ}
@@ -18,7 +18,8 @@ module _ {K V : Type 0} {P : ℕ} where
   lacks-on-err (Ok x) arena kind ok = tt
   lacks-on-err {T} {E} (Err e) arena kind ok = record { kind = kind; none = none-left {T = T} (Err e) (room arena kind) ok e refl }
 
-  -- where a kind has no less room than before, and the others what they had, what lacks room now lacked it before
+  -- where a kind has no less spare capacity than before, and the others as much, what lacks it now
+  -- lacked it before
   lacked : (old new : ArenaOf K V P) (kind : NodeType) → SameOtherRoom old new kind → room old kind ≤ room new kind → LacksRoom new → LacksRoom old
   lacked old new kind others more lacks = elim (same_or_differ lacks.kind kind) [
     | inl same ↦ record { kind = kind; none = omega (arith, more, subst (λ k. room new k ≡ 0) same lacks.none) }

@@ -1,4 +1,4 @@
--- Texts that ascend are told by which of them are there.
+-- Texts that ascend are determined by which of them are there.
 use Rattle.std.proofs.Common.{◌≡◌, ◌⊎◌, ◌∙◌, ℕ, zero, suc, List, [], ◌∷◌, AllPairs, Contains, refl, sym, ap, subst, inl, inr, arith}
 use Rattle.std.specs.Cmp.Lexicographic.{nat_list_cmp_total}
 use Rattle.std.specs.Ordering.{ordering_reverse}

@@ -1,4 +1,4 @@
--- Snug trees that are the same but for their pointers are of the same kinds.
+-- Trees with the smallest kinds that are the same but for their pointers are of the same kinds.
 use Rattle.std.proofs.Common.{◌≡◌, ◌∙◌, ℕ, List, ◌∷◌, ◌++◌, length, map, refl, sym, ap, arith}
 use Rattle.std.proofs.lemmas.List.{map-append}
 use Rattle.art_header.specs.NodeType.{kind_for}

@@ -1,4 +1,4 @@
-//! What an insert does to inner nodes.
+//! Insertion: changes of inner nodes.
 ghost use Rattle.std.specs.Prelude.{◌≡◌, ◌≢◌, ◌↔◌, ◌<◌, ◌≤◌, ◌+◌, ◌-◌, ◌^◌, ◌++◌, ℕ, List, length, take, drop, None, OnOk, OnErr, IsTrue};
 ghost use Rattle.art_header.specs.Header.{StandsFor};
 ghost use Rattle.art_header.specs.NodeType.{most_children};
@@ -37,7 +37,7 @@ fn is_full<K, V, const PREFIX_LEN: usize>(
     num_children(arena, pointer) == *pointer.node_type().capacity_range().end()
 }
 
-/// Makes room for the node that a full inner node grows to.
+/// Makes spare capacity for the node that a full inner node grows to.
 pub(crate) fn reserve_growth<K, V, const PREFIX_LEN: usize>(
     arena: &mut NodeArena<K, V, PREFIX_LEN>,
     pointer: OpaqueNodePtr<K, V, PREFIX_LEN>,
@@ -61,8 +61,8 @@ pub(crate) fn reserve_growth<K, V, const PREFIX_LEN: usize>(
     arena.reserve(grown, 1)
 }
 
-// The same node of the next kind with a child more. Kept out of its caller, whose stack would have the
-// nodes of each kind several times.
+// The same node of the next kind with one child more. Kept out of its caller, whose stack would
+// have the nodes of each kind several times.
 #[inline(never)]
 fn with_child_more<const PREFIX_LEN: usize, N: InnerNode<PREFIX_LEN>>(
     node: &N,
@@ -76,8 +76,9 @@ fn with_child_more<const PREFIX_LEN: usize, N: InnerNode<PREFIX_LEN>>(
     grown
 }
 
-// Gives the full inner node at the pointer a child more, in a node of the next kind, for which there
-// has to be room. Kept out of its caller, which would clear the stack for that node each time.
+// Adds a child to the full inner node at the pointer, in a node of the next kind, for which there
+// must be spare capacity. Kept out of its caller, which would clear the stack for that node each
+// time.
 #[inline(never)]
 fn grow_child<K, V, const PREFIX_LEN: usize>(
     arena: &mut NodeArena<K, V, PREFIX_LEN>,
@@ -117,8 +118,8 @@ fn grow_child<K, V, const PREFIX_LEN: usize>(
     }
 }
 
-/// Gives the inner node at the pointer a child more. A full node is replaced by one of the next
-/// kind, for which there has to be room. Answers where the node is.
+/// Adds a child to the inner node at the pointer. A full node is replaced by one of the next kind,
+/// for which there must be spare capacity. Returns where the node is.
 pub(crate) fn add_child<K, V, const PREFIX_LEN: usize>(
     arena: &mut NodeArena<K, V, PREFIX_LEN>,
     pointer: OpaqueNodePtr<K, V, PREFIX_LEN>,
@@ -140,8 +141,9 @@ pub(crate) fn add_child<K, V, const PREFIX_LEN: usize>(
     pointer
 }
 
-/// Drops the first bytes of the prefix of an inner node under a path of `depth` bytes; a leaf stays
-/// as it is. What the node can store of the rest is read from the key of a leaf below.
+/// Removes the first bytes of the compressed prefix of an inner node under a path of `depth` bytes;
+/// a leaf is unchanged. The bytes that the node stores of the rest are read from the key of a leaf
+/// below.
 pub(crate) fn trim<K: AsBytes, V, const PREFIX_LEN: usize>(
     arena: &mut NodeArena<K, V, PREFIX_LEN>,
     pointer: OpaqueNodePtr<K, V, PREFIX_LEN>,
@@ -172,8 +174,8 @@ pub(crate) fn trim<K: AsBytes, V, const PREFIX_LEN: usize>(
     arena.set_prefix(pointer, &header);
 }
 
-/// Makes the node over a new leaf and the node that the leaf's key parts from at `index`, where
-/// `depth` bytes lead to that node. There has to be room for it.
+/// Makes the node over a new leaf and the node from which the leaf's key differs at `index`, where
+/// `depth` bytes lead to that node. There must be spare capacity for it.
 pub(crate) fn fork_node<K: AsBytes, V, const PREFIX_LEN: usize>(
     arena: &mut NodeArena<K, V, PREFIX_LEN>,
     leaf: NodePtr<PREFIX_LEN, LeafNode<K, V, PREFIX_LEN>>,

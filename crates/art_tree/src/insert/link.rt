@@ -1,4 +1,4 @@
-//! A new leaf beside another.
+//! Insertion: a new leaf, linked beside another.
 ghost use Rattle.std.specs.Prelude.{◌≡◌, ◌≢◌, ◌<◌, ◌++◌, ◌∷◌, ℕ, List};
 ghost use Rattle.art_header.specs.declared.node_type.NodeType.TheVariants.{Leaf};
 ghost use Rattle.art_nodes.specs.Pointers.{slab_key};
@@ -12,8 +12,8 @@ use art_arena::{End, LeafLinks, NodeArena};
 use art_bytes::AsBytes;
 use art_nodes::{LeafNode, NodePtr};
 
-/// Keeps the entry in a new leaf, linked before the sibling where that is the first one right of
-/// its place, and else after it. There has to be room for a leaf.
+/// Adds a leaf with the entry, linked before the sibling where that is the first leaf after its
+/// place, and else after the sibling. There must be spare capacity for a leaf.
 pub(crate) fn link_leaf<K: AsBytes, V, const PREFIX_LEN: usize>(
     arena: &mut NodeArena<K, V, PREFIX_LEN>,
     key: K,

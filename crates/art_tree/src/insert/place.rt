@@ -1,4 +1,4 @@
-//! Where a text belongs in a tree.
+//! Insertion: the place of a key in a tree.
 ghost use Rattle.std.specs.Prelude.{◌≡◌, ◌<◌, IfOk, IfErr};
 ghost use Rattle.art_arena.specs.Arena.{held, HeldInner};
 ghost use Rattle.art_tree.specs.Places.{Belongs, IsSpotIn};
@@ -9,7 +9,7 @@ use art_arena::{AnyRef, FullPrefix, NodeArena};
 use art_bytes::AsBytes;
 use art_nodes::{InnerNodeCommon, LeafNode, NodePtr, OpaqueNodePtr, common_prefix_len};
 
-/// A node of a tree: how many bytes lead to it, and the inner node that it hangs under, with the byte.
+/// A node of a tree: how many bytes lead to it, and its parent, with the byte.
 #[derive_where(Clone, Copy)]
 pub(crate) struct Spot<K, V, const PREFIX_LEN: usize> {
     pub(crate) node: OpaqueNodePtr<K, V, PREFIX_LEN>,
@@ -17,7 +17,7 @@ pub(crate) struct Spot<K, V, const PREFIX_LEN: usize> {
     pub(crate) parent: Option<(OpaqueNodePtr<K, V, PREFIX_LEN>, u8)>,
 }
 
-/// The index in a key where it parts from the texts below a node, with its byte there and theirs.
+/// The index at which a key differs from all keys below a node, with its byte there and theirs.
 #[derive(Clone, Copy)]
 pub(crate) struct Fork {
     pub(crate) index: usize,
@@ -25,26 +25,26 @@ pub(crate) struct Fork {
     pub(crate) node_byte: u8,
 }
 
-/// Where a text belongs in a tree.
+/// The place of a key in a tree.
 #[derive_where(Clone, Copy)]
 pub(crate) enum Place<K, V, const PREFIX_LEN: usize> {
-    /// A leaf has the text.
+    /// A leaf has the key.
     Present(NodePtr<PREFIX_LEN, LeafNode<K, V, PREFIX_LEN>>),
-    /// The text begins one in the tree, or one in the tree begins it.
+    /// The key is a proper prefix of one in the tree, or one in the tree is a proper prefix of it.
     Clash,
     /// An inner node has no child under the next byte.
     Child {
         spot: Spot<K, V, PREFIX_LEN>,
         byte: u8,
     },
-    /// The text parts from those at a leaf, or inside the prefix of an inner node.
+    /// The key differs from that of a leaf, or inside the prefix of an inner node.
     Fork {
         spot: Spot<K, V, PREFIX_LEN>,
         fork: Fork,
     },
 }
 
-// The spot of the child of this inner node that the key goes on to, or else where the key belongs.
+// The child of this inner node where the search goes on, or else the place of the key.
 fn next_spot_in<K: AsBytes, V, const PREFIX_LEN: usize, N: InnerNodeCommon<K, V, PREFIX_LEN>>(
     arena: &NodeArena<K, V, PREFIX_LEN>,
     node: &N,
@@ -113,7 +113,7 @@ fn next_spot<K: AsBytes, V, const PREFIX_LEN: usize>(
     }
 }
 
-// Where a key belongs that leads to this leaf.
+// The place of a key whose search ends at this leaf.
 fn place_at_leaf<K: AsBytes, V, const PREFIX_LEN: usize>(
     arena: &NodeArena<K, V, PREFIX_LEN>,
     leaf: NodePtr<PREFIX_LEN, LeafNode<K, V, PREFIX_LEN>>,
@@ -143,7 +143,7 @@ fn place_at_leaf<K: AsBytes, V, const PREFIX_LEN: usize>(
     Place::Fork { spot, fork }
 }
 
-/// Where the key belongs in the tree at `root`. Takes no memory.
+/// The place of the key in the tree at `root`. Takes no memory.
 pub(crate) fn find_place<K: AsBytes, V, const PREFIX_LEN: usize>(
     arena: &NodeArena<K, V, PREFIX_LEN>,
     root: OpaqueNodePtr<K, V, PREFIX_LEN>,

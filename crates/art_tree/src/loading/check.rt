@@ -1,4 +1,4 @@
-//! What refuses entries.
+//! Loading: the faults of entries.
 ghost use Rattle.std.specs.Prelude.{◌≡◌, ◌<◌, length, All, IfSome, IfNone, get_or};
 ghost use Rattle.art_tree.specs.Refusals.{texts_of, HaveNoFault, IsRefusal, fault_at};
 
@@ -8,17 +8,27 @@ use std::error::Error;
 use std::fmt;
 
 /// Why [`load`](crate::load) refuses entries. An index counts entries from 0.
+///
+/// Keys and their refusal:
+///
+/// (from crates/art_tree_tests/src/tree/loading.rt)
+/// ```rust
+/// (&[], LoadRefusal::Empty),
+/// (&["a", "a"], LoadRefusal::NotAscending(0)),
+/// (&["b", "a"], LoadRefusal::NotAscending(0)),
+/// (&["a", "ab"], LoadRefusal::Prefix(0)),
+/// ```
 #[derive(Clone, Copy, Debug, PartialEq, Eq)]
 pub enum LoadRefusal {
     /// There are no entries.
     Empty,
     /// The key of this entry has 2^32 bytes or more.
     KeyTooLong(usize),
-    /// The key of this entry is not below the next one's.
+    /// The key of this entry is not below that of the next one.
     NotAscending(usize),
-    /// The key of this entry is a proper front of the next one's.
+    /// The key of this entry is a proper prefix of that of the next one.
     Prefix(usize),
-    /// Memory was refused. Nothing is wrong with the entries.
+    /// An allocation failed. The entries are not at fault.
     OutOfMemory,
 }
 
@@ -45,7 +55,7 @@ impl fmt::Display for LoadRefusal {
 
 impl Error for LoadRefusal {}
 
-// What refuses the entry at an index, if anything does.
+// The fault of the entry at an index, if it has one.
 fn fault_of<K: AsBytes, V>(entries: &[(K, V)], index: usize) -> Option<LoadRefusal>
     requires { index < length entries.now }
     ensures fault { result ≡ fault_at (texts_of K.text entries.now) index }
@@ -68,7 +78,7 @@ fn fault_of<K: AsBytes, V>(entries: &[(K, V)], index: usize) -> Option<LoadRefus
     }
 }
 
-/// What refuses the entries, if anything does: no entry, or else the first fault.
+/// The fault of the entries, if they have one: there are none, or else the first fault.
 pub(crate) fn refusal_of<K: AsBytes, V>(entries: &[(K, V)]) -> Option<LoadRefusal>
     ensures refused { IfSome result (IsRefusal (texts_of K.text entries.now)) }
     ensures no_fault { IfNone result (HaveNoFault (texts_of K.text entries.now)) }

@@ -1,4 +1,4 @@
-//! From entries to linked leaves.
+//! Loading: entries to linked leaves.
 ghost use Rattle.std.specs.Prelude.{◌≡◌, ◌≤◌, [], vec_len, vec_capacity};
 ghost use Rattle.art_header.specs.declared.node_type.NodeType.TheVariants.{Leaf};
 ghost use Rattle.art_arena.specs.Arena.{room, SameOtherRoom};
@@ -11,7 +11,8 @@ use art_arena::{LeafLinks, NodeArena};
 use art_bytes::AsBytes;
 use art_nodes::{LeafNode, NodePtr};
 
-/// Moves the entries into leaves, each linked after the one before. There has to be room for all.
+/// Moves the entries into leaves, each linked after the one before. There must be spare capacity
+/// for all.
 pub(crate) fn link_leaves<K: AsBytes, V, const PREFIX_LEN: usize>(
     arena: &mut NodeArena<K, V, PREFIX_LEN>,
     entries: Vec<(K, V)>,

@@ -1,4 +1,4 @@
-//! From a plan to nodes.
+//! Loading: a plan to inner nodes.
 ghost use Rattle.std.specs.Prelude.{◌≡◌, ◌≢◌, ℕ, ◌<◌, ◌≤◌, ◌-◌, ◌^◌, [], length, take, drop, vec_capacity};
 ghost use Rattle.art_header.specs.NodeType.{kind_for};
 ghost use Rattle.art_header.specs.declared.node_type.NodeType.TheVariants as NodeType;
@@ -22,9 +22,9 @@ use art_nodes::{
     InnerNode4, InnerNode16, InnerNode48, InnerNodeDirect, LeafNode, NodePtr, OpaqueNodePtr,
 };
 
-// Places an inner node of the smallest kind for these children, with the prefix that the leaf's text has
-// from `start` to `end`. There has to be room for it. Never inlined, so that nodes are no locals of
-// `raise`.
+// Allocates an inner node of the smallest kind for these children, with the prefix that the leaf's
+// key has from `start` to `end`. There must be spare capacity for it. Never inlined, so that nodes
+// are no locals of `raise`.
 #[inline(never)]
 fn place<K: AsBytes, V, const PREFIX_LEN: usize>(
     arena: &mut NodeArena<K, V, PREFIX_LEN>,
@@ -62,8 +62,9 @@ fn place<K: AsBytes, V, const PREFIX_LEN: usize>(
     }
 }
 
-/// Makes the inner nodes of a plan over these leaves, for which there has to be room, and answers the
-/// root. `pending` is working memory, with room for as many trees as there are leaves.
+/// Makes the inner nodes of a plan over these leaves, for which there must be spare capacity, and
+/// returns the root. `pending` is working memory, with capacity for as many trees as there are
+/// leaves.
 pub(crate) fn raise<K: AsBytes, V, const PREFIX_LEN: usize>(
     arena: &mut NodeArena<K, V, PREFIX_LEN>,
     leaves: &[NodePtr<PREFIX_LEN, LeafNode<K, V, PREFIX_LEN>>],

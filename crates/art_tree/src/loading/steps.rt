@@ -1,4 +1,4 @@
-//! The plan of a tree: the steps that make it, each node after its children.
+//! Loading: the plan of a tree, as steps that make each node after its children.
 ghost use Rattle.std.specs.Prelude.{◌≡◌, ◌+◌, ◌<◌, ◌≤◌, List, ◌∷◌, length, IfOk};
 ghost use Rattle.art_tree.specs.Plan.{IsFork, Forks, AreLoadable, IsPlanOf, byte_before, needed};
 ghost use Rattle.art_tree.specs.Refusals.{texts_of};
@@ -8,14 +8,14 @@ use art_nodes::{NodeType, common_prefix_len};
 use std::alloc::{AllocError, Global};
 
 /// A step of a plan. It makes a tree and leaves it under a byte, after the trees that earlier steps
-/// made and no node has taken yet.
+/// made and that no node has taken yet.
 #[derive(Clone, Copy)]
 pub(crate) enum Step {
     /// Takes the next leaf.
     Leaf {
         byte: u8,
     },
-    /// Makes a node over the last `children` trees. Bytes `start` to `end` of each text below are
+    /// Makes a node over the last `children` trees. Bytes `start` to `end` of each key below are
     /// its prefix.
     Inner {
         byte: u8,
@@ -32,7 +32,7 @@ struct Open {
     children: usize,
 }
 
-// How many bytes the texts share. The first one's next byte has to be less.
+// How many bytes two keys share. The first one's next byte must be less.
 fn fork(text: &[u8], next: &[u8]) -> usize
     requires { Forks text.now next.now }
     ensures { IsFork text.now next.now result }
@@ -48,11 +48,11 @@ fn byte_to(text: &[u8], place: usize) -> u8
     if place == 0 { 0 } else { text[place - 1] }
 }
 
-/// The steps that make the tree of these entries, whose texts ascend and none of which begins the
+/// The steps that make the tree of these entries. Their keys must ascend, none a prefix of the
 /// next.
 ///
 /// One pass over the entries with a stack of the nodes on the path to the last leaf: where two
-/// neighbours part, the nodes further down are finished.
+/// neighbours differ, the nodes further down are finished.
 pub(crate) fn plan<K: AsBytes, V>(
     alloc: Global,
     entries: &[(K, V)],

@@ -1,4 +1,4 @@
-//! What a removal does to inner nodes.
+//! Removal: changes of inner nodes.
 ghost use Rattle.std.specs.Prelude.{◌≡◌, ◌≢◌, ◌<◌, ◌≤◌, ◌+◌, ◌^◌, ◌++◌, ◌∷◌, ◌↔◌, ℕ, List, length, Some, None, OnOk, OnErr, IsTrue};
 ghost use Rattle.art_header.specs.Header.{StandsFor};
 ghost use Rattle.art_header.specs.NodeType.{least_children, shrunk_kind};
@@ -67,7 +67,8 @@ pub(crate) fn other_child<K, V, const PREFIX_LEN: usize>(
     }
 }
 
-/// Makes room for the node that an inner node with the fewest children of its kind shrinks to.
+/// Makes spare capacity for the node that an inner node with the fewest children of its kind
+/// shrinks to.
 pub(crate) fn reserve_shrink<K, V, const PREFIX_LEN: usize>(
     arena: &mut NodeArena<K, V, PREFIX_LEN>,
     pointer: OpaqueNodePtr<K, V, PREFIX_LEN>,
@@ -96,7 +97,7 @@ pub(crate) fn reserve_shrink<K, V, const PREFIX_LEN: usize>(
     arena.reserve(shrunk, 1)
 }
 
-// Takes the child under the byte from the inner node at the pointer, in its place.
+// Removes the child under the byte from the inner node at the pointer, in its place.
 fn cut_child<K, V, const PREFIX_LEN: usize>(
     arena: &mut NodeArena<K, V, PREFIX_LEN>,
     pointer: OpaqueNodePtr<K, V, PREFIX_LEN>,
@@ -125,8 +126,8 @@ fn cut_child<K, V, const PREFIX_LEN: usize>(
     }
 }
 
-// Puts a node of the next smaller kind, for which there has to be room, in the place of the inner node
-// at the pointer, which has too few children for its own. Answers where that is. Kept out of its
+// Replaces the inner node at the pointer, which has too few children for its kind, by one of the
+// next smaller kind, for which there must be spare capacity. Returns where that is. Kept out of its
 // caller, which would clear the stack for that node each time.
 #[inline(never)]
 fn shrink_node<K, V, const PREFIX_LEN: usize>(
@@ -159,9 +160,9 @@ fn shrink_node<K, V, const PREFIX_LEN: usize>(
     }
 }
 
-/// Takes the child under the byte from the inner node at the pointer, which has more than two
-/// children. A node with the fewest children of its kind is replaced by one of the next smaller kind,
-/// for which there has to be room. Answers where the node is.
+/// Removes the child under the byte from the inner node at the pointer, which has more than two
+/// children. A node with the fewest children of its kind is replaced by one of the next smaller
+/// kind, for which there must be spare capacity. Returns where the node is.
 pub(crate) fn take_child<K, V, const PREFIX_LEN: usize>(
     arena: &mut NodeArena<K, V, PREFIX_LEN>,
     pointer: OpaqueNodePtr<K, V, PREFIX_LEN>,
@@ -185,8 +186,8 @@ pub(crate) fn take_child<K, V, const PREFIX_LEN: usize>(
     pointer
 }
 
-/// Gives the child of an inner node the node's prefix and the byte before its own prefix; a leaf stays
-/// as it is. The prefix that this makes has fewer than 2^32 bytes.
+/// Gives the child of an inner node the node's prefix and the byte before its own prefix; a leaf is
+/// unchanged. The new prefix has fewer than 2^32 bytes.
 pub(crate) fn join_prefix<K, V, const PREFIX_LEN: usize>(
     arena: &mut NodeArena<K, V, PREFIX_LEN>,
     pointer: OpaqueNodePtr<K, V, PREFIX_LEN>,

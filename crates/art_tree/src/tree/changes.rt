@@ -1,4 +1,4 @@
-//! The calls that change a tree.
+//! Insertion and removal of entries of an [`ArtTree`].
 ghost use Rattle.std.specs.Prelude.{◌≡◌, ◌≢◌, None, IfNone, IfOk, IfErr, OnOk, OnErr};
 ghost use Rattle.art_arena.specs.Arena.{SameNodes, SameRoom};
 ghost use Rattle.art_tree.specs.Dictionary.{entry_at, HasKeys, IsEntry, SameEntries, SameOtherEntries};
@@ -14,17 +14,24 @@ use art_bytes::AsBytes;
 use std::alloc::AllocError;
 
 impl<K: AsBytes, V, const PREFIX_LEN: usize> ArtTree<K, V, PREFIX_LEN> {
-    /// Adds an entry. Where there is one with the key's text, its key and its value are replaced and
-    /// come back.
+    /// Adds an entry. Where an entry has the same key bytes, its key and its value are replaced and
+    /// returned.
     ///
-    /// Refused, for the first of these that holds: a key of 2^32 bytes or more, a key that is a proper
-    /// front of one that is there or the reverse, and want of memory, which is met only where the
-    /// text has no entry and some kind of node has no room. Then key and value come back, and the
-    /// tree is as before. Where the key is at fault, no memory is taken either.
+    /// The first of these refusals that is due is returned, with key and value: [`KeyTooLong`], a
+    /// key of 2^32 bytes or more; [`Prefix`], where the key is a proper prefix of one in the tree,
+    /// or one in the tree of the key; [`OutOfMemory`], only where no entry has the key bytes and
+    /// some kind of node has no spare capacity. After a refusal every node and the root are
+    /// unchanged. Where the key is at fault, the spare capacity is unchanged too.
     ///
-    /// It goes down to the key's place, and once more to a leaf beside it. A prefix on the way that is
-    /// longer than `PREFIX_LEN` is read from the first leaf below it, which is one more way down: so
-    /// where each node on the way has such a prefix, the nodes read grow with the square of the depth.
+    /// Visits the nodes on the way to the key's place, and then those on the way to a leaf beside
+    /// it: each time at most one inner node for each byte of a key. A prefix on the way that is
+    /// longer than `PREFIX_LEN` is read from the first leaf below it, which is one more way down;
+    /// so where each node on the way has such a prefix, the node visits grow with the square of the
+    /// depth.
+    ///
+    /// [`KeyTooLong`]: crate::InsertRefusal::KeyTooLong
+    /// [`Prefix`]: crate::InsertRefusal::Prefix
+    /// [`OutOfMemory`]: crate::InsertRefusal::OutOfMemory
     pub fn insert(&mut self, key: K, value: V) -> Result<Option<(K, V)>, InsertFault<K, V>>
         ensures replaced { IfOk result
             (λ before. before ≡ entry_at K.text self.old.arena (K.text key)) }
@@ -52,16 +59,17 @@ impl<K: AsBytes, V, const PREFIX_LEN: usize> ArtTree<K, V, PREFIX_LEN> {
         Ok(before)
     }
 
-    /// Takes out the entry with this text, if there is one, and answers it. Where there is none,
-    /// nothing changes.
+    /// Removes the entry with these key bytes, if there is one, and returns it. Where there is
+    /// none, the tree is unchanged.
     ///
-    /// Memory is asked for only where the entry's leaf hangs in an inner node of 5, 17 or 49 children,
-    /// since a node of a smaller kind takes its place, and is not refused where there is room for a node
-    /// of each kind. Where it is refused, the tree is as before.
-    /// Elsewhere of each kind there is room for one node more at most, the one that was given up.
+    /// An allocation may fail only where the parent of the entry's leaf has 5, 17 or 49 children,
+    /// since a node of a smaller kind takes its place, and not where each kind has spare capacity.
+    /// After a failure every node and the root are unchanged. In all other cases no memory is
+    /// taken, and each kind has spare capacity for at most one node more, the one that was freed.
     ///
-    /// It looks for the entry as [`get`](Self::get) does. Then it changes the leaf's neighbours and at
-    /// most three inner nodes: the two above the leaf, and the one that takes its parent's place.
+    /// Searches for the entry as [`get`](Self::get) does: at most one node visit more than the key
+    /// has bytes. Then it changes the leaf's neighbours and at most three inner nodes: the two
+    /// above the leaf, and the one that takes its parent's place.
     pub fn remove(&mut self, key: &[u8]) -> Result<Option<(K, V)>, AllocError>
         ensures removed { IfOk result (λ entry. entry ≡ entry_at K.text self.old.arena key.now) }
         ensures absent_kept { IfOk result (λ entry. IfNone entry (self.new ≡ self.old)) }

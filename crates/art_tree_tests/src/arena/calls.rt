@@ -1,4 +1,4 @@
-//! Every call of the arena, and what stands where one is refused.
+//! Tests of every call of the arena, and of its nodes after an allocation failure.
 use super::put;
 use crate::ALL_STANDS;
 use art_arena::{ArenaNode, NodeArena};
@@ -31,7 +31,7 @@ fn check_header(rt: &impl Abort, arena: &Arena, pointer: Pointer, length: Option
     assert!(rt; header.map(|header| header.prefix_len()) == length);
 }
 
-// The calls on an inner node of one kind: of the first node, whose place the second one takes.
+// The calls on an inner node of one kind: of the first node, which the second one replaces.
 fn check_inner<N: ArenaNode<Key, u16, 16> + InnerNodeCommon<Key, u16, 16> + Drop>(
     rt: &impl Abort,
     arena: &mut Arena,
@@ -62,7 +62,7 @@ fn check_inner<N: ArenaNode<Key, u16, 16> + InnerNodeCommon<Key, u16, 16> + Drop
     assert!(rt; !arena.holds_opaque(pointer));
 }
 
-// A pointer for nodes to hold, which nothing follows.
+// A pointer to be a child of nodes, which nothing follows.
 fn child() -> Pointer {
     NodePtr::<16, Leaf>::from_key(9).to_opaque()
 }
@@ -214,8 +214,8 @@ fn check_entries(rt: &impl Abort, arena: &Arena, entries: &[Pointer]) {
     }
 }
 
-// Puts a node beside these entries. Where memory is refused they stand, the node goes in again, and the
-// test ends.
+// Adds a node beside these. After an allocation failure the others are unchanged, the node is added
+// again, and the test ends.
 fn put_beside<N: ArenaNode<Key, u16, 16> + Drop>(
     rt: &impl Abort,
     arena: &mut Arena,
@@ -255,8 +255,8 @@ fn fill(rt: &impl Abort, arena: &mut Arena) -> Result<[Pointer; 10], Fail> {
     Ok(entries)
 }
 
-// Reserves room of a kind, more than there is and some. Where that is refused, these entries stand, the
-// next call reserves it, and the test ends.
+// Reserves spare capacity for a kind, first more than there can be. After an allocation failure
+// these nodes are unchanged, the next call succeeds, and the test ends.
 fn reserve_beside(
     rt: &impl Abort,
     arena: &mut Arena,

@@ -1,4 +1,4 @@
-//! Whole prefixes of nodes that are put together by hand, whatever they store.
+//! Tests of whole prefixes, of nodes that are built by hand, however much they store.
 ghost use Rattle.std.specs.Prelude.{◌≡◌, ◌≤◌, ◌++◌, ◌∷◌, [], ℕ, length, IfOk};
 ghost use Rattle.art_arena.specs.FullPrefix.{match_of};
 ghost use Rattle.art_arena.specs.Standing.{TreeAt, TreeUnder};
@@ -17,7 +17,7 @@ use std::process::Abort;
 use std::test::Fail;
 
 // Nodes of two trees that are the same but for their pointers match a key alike, also where one
-// stores fewer bytes of its prefix than the other. The leaves that they name may differ.
+// stores fewer bytes of its prefix than the other. The leaves of the two mismatches may differ.
 fn match_alike<
     K: AsBytes,
     V,
@@ -45,7 +45,7 @@ fn match_alike<
     ensures { match_of result.0 ≡ match_of result.1 }
 {
     same_trees_have_the_same_texts::<OpaqueNodePtr<K, V, P>, OpaqueNodePtr<L, W, Q>>();
-    // Called for what its clauses tell: there are bytes that all texts below share.
+    // Called for its clauses: there are bytes that all texts below share.
     let (_prefix, _) = node.read_full_prefix(arena, depth);
     (
         node.match_full_prefix(arena, key, depth),
@@ -64,7 +64,7 @@ fn join(alloc: Global, path: &[u8], prefix: &[u8], byte: u8) -> Result<Vec<u8>, 
     Ok(key)
 }
 
-// A leaf whose key is a path, a prefix and one byte. What stood before stands.
+// A leaf whose key is a path, a prefix and one byte. Each tree that stands still stands.
 fn plant_leaf<const PREFIX_LEN: usize>(
     alloc: Global,
     arena: &mut NodeArena<Vec<u8>, u8, PREFIX_LEN>,
@@ -132,7 +132,7 @@ fn fork_of_leaves<const PREFIX_LEN: usize>(
     Ok(fork(rt, arena, path, prefix, (low, first), (high, second)))
 }
 
-// A key, and what the full match with it answers.
+// A key, and the result of the full match with it.
 type Row = (&'static [u8], Full);
 
 // Of a node under a path `x` with the prefix `abc`.
@@ -151,8 +151,8 @@ const AT_THE_ROOT: [Row; 4] = [
     (b"abd2", Err((2, b'c', Less))),
 ];
 
-// The whole prefix is read as this, from a leaf only where the node does not store all of it, and the
-// full matches answer so.
+// The whole prefix is this, read from a leaf only where the node does not store all of it, and the
+// full matches have these results.
 fn check_prefix<K: AsBytes, const PREFIX_LEN: usize>(
     rt: &impl Abort,
     arena: &NodeArena<K, u8, PREFIX_LEN>,

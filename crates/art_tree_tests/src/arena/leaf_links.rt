@@ -1,4 +1,4 @@
-//! Leaves linked and taken out by hand.
+//! Tests of leaves that are linked and removed by hand.
 use super::put;
 use art_arena::{LeafLinks, NodeArena};
 use art_bytes::AsBytes;
@@ -53,7 +53,7 @@ fn replace(rt: &impl Abort, arena: &mut Arena, this: Pointer, old: Pointer) {
     Leaf::replace(arena, this, old, true);
 }
 
-// A leaf that was taken out still names its neighbours.
+// A leaf that was removed still names its neighbours.
 fn check_removed(
     rt: &impl Abort,
     arena: &Arena,

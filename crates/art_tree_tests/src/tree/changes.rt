@@ -1,4 +1,4 @@
-//! Trees under inserts and removals: their shape, their list of leaves, and keys that clash.
+//! Tests of inserts and removals: the shape of the tree, its list of leaves, and keys that clash.
 ghost use Rattle.art_tree.specs.Search.{HasTree};
 
 use super::matches::check_match;
@@ -14,7 +14,7 @@ type Pointer = OpaqueNodePtr<String, usize, 2>;
 
 type Leaf = NodePtr<2, LeafNode<String, usize, 2>>;
 
-// Inserts a text that is not there, with its number.
+// Inserts a key that is not there, with its number.
 fn add(
     rt: &impl Abort,
     alloc: Global,
@@ -34,7 +34,7 @@ fn add(
     }
 }
 
-// Inserts texts that are not there, each with its place as its number.
+// Inserts keys that are not there, each with its index as its number.
 fn add_all(
     rt: &impl Abort,
     alloc: Global,
@@ -61,7 +61,7 @@ fn check_clash(
     Ok(())
 }
 
-// Takes out a text with its number.
+// Removes a key, which has this number.
 fn check_removed(
     rt: &impl Abort,
     tree: &mut Keys,
@@ -104,7 +104,7 @@ fn least_leaf(rt: &impl Abort, arena: &Nodes, root: Pointer) -> Leaf {
     panic!(rt; "too deep")
 }
 
-// The root, where a tree stands.
+// The root of a tree that has one.
 fn root_of(rt: &impl Abort, tree: &Keys) -> Pointer
     ensures { HasTree ⟦<String as AsBytes>⟧.text tree.now.arena result }
 {
@@ -119,7 +119,7 @@ fn text_of<'a>(entry: Option<(&'a String, &usize)>) -> Option<&'a [u8]> {
     Some(key.as_bytes())
 }
 
-// The leaves of the tree are linked in this order, and each text has its number.
+// The leaves of the tree are linked in this order, and each key has its number.
 fn check_texts(rt: &impl Abort, tree: &Keys, entries: &[(&str, usize)]) {
     let arena = tree.arena();
     let mut previous = None;
@@ -139,8 +139,8 @@ fn check_texts(rt: &impl Abort, tree: &Keys, entries: &[(&str, usize)]) {
     assert!(rt; next.is_none());
 }
 
-// The inner node has this kind, a prefix of this length, of which it stores so much, and so many
-// children.
+// The inner node has this kind, a prefix of this length, of which it stores so many bytes, and so
+// many children.
 fn check_inner(
     rt: &impl Abort,
     arena: &Nodes,
@@ -195,7 +195,7 @@ fn insert_in_any_order(rt: &impl Abort, alloc: Global, tree: &mut Keys) -> Resul
     Ok(())
 }
 
-// A test that keeps its tree and works it itself takes the check ten times as long.
+// A test that keeps its tree and changes it itself takes the check ten times as long.
 #[test]
 fn inserted_leaves_are_linked_in_order(rt: HostRuntime) -> Result<(), Fail> {
     let mut tree = Keys::new(rt.alloc());
@@ -223,7 +223,7 @@ fn a_text_that_parts_inside_a_prefix_makes_a_node(rt: HostRuntime) -> Result<(),
     Ok(())
 }
 
-// A tree of the two texts that never had another.
+// A tree loaded of the two keys that remain.
 fn pair_loaded(alloc: Global) -> Result<Keys, Fail> {
     let first = (String::from_str(alloc, "abcde1")?, 0);
     let second = (String::from_str(alloc, "abcde2")?, 1);
@@ -352,7 +352,8 @@ fn a_tree_comes_and_goes(rt: HostRuntime) -> Result<(), Fail> {
 
 type Pairs = ArtTree<[u8; 2], u8, 0>;
 
-// Each byte of a node below the root comes and goes, through every kind of node, with ample memory.
+// Each byte of a node below the root is inserted and removed, through every kind of node, with
+// ample memory.
 fn fill_and_empty(rt: &impl Abort, tree: &mut Pairs) -> Result<(), Fail> {
     add_key(rt, tree, [0, 7], 3)?;
     for byte in 0..=255u8 {

@@ -1,4 +1,4 @@
-//! Keys of two parts, and C strings.
+//! Tests of keys of two parts, and of C strings.
 use super::Answer::{Child, Normal, Nothing};
 use super::*;
 use std::net::Ipv4Addr;

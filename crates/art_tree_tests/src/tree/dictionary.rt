@@ -1,7 +1,7 @@
-//! A tree with its arena: its entries by key, and its ends.
+//! Tests of a tree with its arena: its entries by key, and its first and last one.
 use super::*;
 
-// The tree of these texts, each with its number.
+// The tree of these keys, each with its number.
 fn tree_of<'a, const PREFIX_LEN: usize>(
     alloc: Global,
     texts: &[&'a [u8]],
@@ -10,7 +10,7 @@ fn tree_of<'a, const PREFIX_LEN: usize>(
     Ok(ArtTree::load(alloc, entries).map_err(|fault| fault.refusal)?)
 }
 
-// The text and the number of an entry.
+// The key bytes and the number of an entry.
 fn shown<'a>(entry: Option<(&SliceKey<'a>, &usize)>) -> Option<(&'a [u8], usize)> {
     let (key, number) = entry?;
     Some((key.get(), *number))

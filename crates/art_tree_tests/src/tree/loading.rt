@@ -1,4 +1,4 @@
-//! What is refused, and what a load leaves.
+//! Tests of loads: the refusals, and the loaded tree.
 use super::{numbered, shape};
 use crate::ALL_STANDS;
 use art_tree::{
@@ -13,7 +13,7 @@ type Texts = NodeArena<String, usize, 2>;
 
 type Root = OpaqueNodePtr<String, usize, 2>;
 
-// The texts as keys of their own, each with its number.
+// The texts as keys, each with its number.
 fn entries_of(alloc: Global, texts: &[&str]) -> Result<Vec<(String, usize)>, AllocError> {
     let mut keys = Vec::new(alloc);
     for text in texts {
@@ -22,7 +22,7 @@ fn entries_of(alloc: Global, texts: &[&str]) -> Result<Vec<(String, usize)>, All
     numbered(alloc, keys)
 }
 
-// The fault refuses with this, and has the entries of these texts in their order.
+// The fault has this refusal, and the entries of these texts in their order.
 fn check_fault(
     rt: &impl Abort,
     fault: &LoadFault<String, usize>,
@@ -37,7 +37,7 @@ fn check_fault(
     }
 }
 
-// These entries are refused with this.
+// The load of these texts has this refusal.
 fn check_refused(
     rt: &impl Abort,
     alloc: Global,
@@ -69,7 +69,8 @@ fn check_all_refused(rt: &impl Abort, alloc: Global, arena: &mut Texts) -> Resul
     Ok(())
 }
 
-// The answer is the same where memory is short: a fault of the entries is told before any is taken.
+// The refusal is the same where memory is short: a fault of the entries comes before any
+// allocation.
 #[test]
 fn the_lowest_entry_at_fault_is_told(rt: HostRuntime) -> Result<(), Fail> {
     check_all_refused(&rt, rt.alloc(), &mut Texts::new(rt.alloc()))?;
@@ -110,8 +111,8 @@ fn check_root(rt: &impl Abort, arena: &Texts, root: Root, children: usize) {
     assert!(rt; count == children);
 }
 
-// Loads entries of these texts. A load that is refused memory gives them back, the next one takes them,
-// and the test ends. The roots that stood have two children each, before and after.
+// Loads entries of these texts. A load with an allocation failure returns them, the next one
+// succeeds, and the test ends. The other roots have two children each, before and after.
 fn load_beside(
     rt: &impl Abort,
     alloc: Global,

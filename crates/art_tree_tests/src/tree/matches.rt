@@ -1,4 +1,5 @@
-//! The matches of a root with a key: the cheap one, and the one with the whole prefix.
+//! Tests of the matches of a root with a key: the one of the stored bytes, and the one of the whole
+//! prefix.
 ghost use Rattle.art_tree.specs.Search.{HasTree};
 
 use super::*;
@@ -6,7 +7,7 @@ use crate::arena::{Full, full_match};
 use art_tree::InnerNode4;
 use std::cmp::Ordering;
 
-// The length of the prefix and whether some of it was passed over, or how many bytes match and the
+// The length of the prefix and whether some of it was skipped; or how many bytes match and the
 // prefix's byte after them.
 type Cheap = Result<(usize, bool), (usize, Option<u8>)>;
 
@@ -20,7 +21,7 @@ fn cheap_match<K: AsBytes, const PREFIX_LEN: usize>(
     }
 }
 
-// The root, a Node4, matches the key so.
+// The root, a Node4, matches the key with these results.
 pub(super) fn check_match<K: AsBytes, const PREFIX_LEN: usize>(
     rt: &impl Abort,
     arena: &NodeArena<K, usize, PREFIX_LEN>,
@@ -39,7 +40,7 @@ pub(super) fn check_match<K: AsBytes, const PREFIX_LEN: usize>(
     assert!(rt; full_match(rt, arena, node, key, 0) == full);
 }
 
-// The root over two leaves with a prefix of three bytes matches these keys so.
+// The root over two leaves with a prefix of three bytes matches these keys with these results.
 fn check_matches<const PREFIX_LEN: usize>(
     rt: &impl Abort,
     alloc: Global,

@@ -1,4 +1,4 @@
-//! The path to a leaf, as it is remembered on the way.
+//! Tests of the path to a leaf.
 use art_tree::{InnerNode4, NodePtr, OpaqueNodePtr, TreePath, TreePathSearch};
 
 type Pointer = OpaqueNodePtr<u8, u8, 16>;
@@ -7,7 +7,7 @@ fn node(key: usize) -> Pointer {
     NodePtr::<16, InnerNode4<u8, u8, 16>>::from_key(key).to_opaque()
 }
 
-// Where the leaf hangs, as the pairs above it from the leaf on.
+// The pairs of the path, from the leaf upwards.
 fn above(path: TreePath<u8, u8, 16>) -> (Option<(Pointer, u8)>, Option<(Pointer, u8)>) {
     match path {
         TreePath::Root => (None, None),

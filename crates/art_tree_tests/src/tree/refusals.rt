@@ -1,4 +1,5 @@
-//! Trees of which one growth is refused: each is as before, the next call answers, and the test ends.
+//! Tests with one allocation failure: the tree is unchanged, the next call succeeds, and the test
+//! ends.
 use super::changes::{Bytes, root_shape};
 use super::*;
 use crate::ALL_STANDS;
@@ -6,8 +7,8 @@ use art_tree::InsertRefusal;
 
 type Words = ArtTree<[u8; 7], usize, 2>;
 
-// The second parts from the first past a prefix that is not wholly stored, and the third inside it;
-// the sixth is the fifth child of its node, and the last parts from all others at the root.
+// The second differs from the first after a prefix that is not wholly stored, and the third inside
+// it; the sixth is the fifth child of its node, and the last differs from all others at the root.
 const WORDS: [[u8; 7]; 7] = [
     *b"abcdef1",
     *b"abcdef2",
@@ -26,8 +27,8 @@ fn check_words(rt: &impl Abort, tree: &Words, count: usize) {
     }
 }
 
-// Inserts a word. Where that is refused memory, the tree is as before, the next insert takes the entry,
-// and the test ends.
+// Inserts a word. After an allocation failure the tree is unchanged, the next insert succeeds, and
+// the test ends.
 fn insert_word(
     rt: &impl Abort,
     tree: &mut Words,
@@ -87,8 +88,8 @@ fn check_bytes(rt: &impl Abort, tree: &Bytes, end: usize) {
     assert!(rt; root_shape(rt, tree) == root_shape_over(end));
 }
 
-// A tree of the keys of one byte below the end. Where the load is refused memory, the entries come back
-// in their order, the next load takes them, and the test ends.
+// A tree of the keys of one byte below the end. After an allocation failure the entries are
+// returned in their order, the next load succeeds, and the test ends.
 fn load_bytes(rt: &impl Abort, alloc: Global, end: usize) -> Result<Bytes, Fail> {
     let mut entries = Vec::new(alloc);
     for byte in (0..=255u8).take(end) {
@@ -117,8 +118,8 @@ fn a_refused_load_gives_256_entries_back(rt: HostRuntime) -> Result<(), Fail> {
     Ok(())
 }
 
-// Inserts the byte after the last one. Where that is refused memory, the tree is as before, the next
-// insert takes the entry, and the test ends.
+// Inserts the byte after the last one. After an allocation failure the tree is unchanged, the next
+// insert succeeds, and the test ends.
 fn grow(rt: &impl Abort, tree: &mut Bytes, byte: u8) -> Result<(), Fail> {
     let end = usize::from(byte);
     let root = tree.root();
@@ -139,7 +140,7 @@ fn grow(rt: &impl Abort, tree: &mut Bytes, byte: u8) -> Result<(), Fail> {
     Err(ALL_STANDS.into())
 }
 
-// The root is full: it gives way to a node of the next larger kind.
+// The root is full: a node of the next larger kind replaces it.
 #[test]
 fn a_refused_growth_leaves_the_tree(rt: HostRuntime) -> Result<(), Fail> {
     for (end, byte) in [(4, 4), (16, 16), (48, 48)] {
@@ -148,8 +149,8 @@ fn a_refused_growth_leaves_the_tree(rt: HostRuntime) -> Result<(), Fail> {
     Ok(())
 }
 
-// Takes out the last byte. Where that is refused memory, the tree is as before, the next removal takes
-// it out, and the test ends.
+// Removes the last byte. After an allocation failure the tree is unchanged, the next removal
+// succeeds, and the test ends.
 fn shrink(rt: &impl Abort, tree: &mut Bytes, last: u8) -> Result<(), Fail> {
     let root = tree.root();
     if tree.remove(&[last]).is_err() {
@@ -163,8 +164,8 @@ fn shrink(rt: &impl Abort, tree: &mut Bytes, last: u8) -> Result<(), Fail> {
     Ok(())
 }
 
-// The root of so many children gives way to a node of the next smaller kind, which the arena has no
-// room for yet.
+// A node of the next smaller kind replaces the root of so many children; the arena has no spare
+// capacity for it yet.
 #[test]
 fn a_refused_removal_leaves_the_tree(rt: HostRuntime) -> Result<(), Fail> {
     for (end, last) in [(5, 4), (17, 16), (49, 48)] {

@@ -1,11 +1,11 @@
-//! Searches, whatever the nodes store of their prefixes.
+//! Tests of searches, however many bytes of their prefixes the nodes store.
 ghost use Rattle.art_tree.specs.Search.{HasTree};
 
 use super::Answer::{Child, Normal, Nothing, Root};
 use super::*;
 use art_tree::{End, end_leaf};
 
-// The keys are answered so in the tree of these texts.
+// The searches for these keys have these results in the tree of these texts.
 fn check_texts<'a, const PREFIX_LEN: usize>(
     rt: &impl Abort,
     alloc: Global,

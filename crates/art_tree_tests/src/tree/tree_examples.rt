@@ -1,5 +1,5 @@
-//! How a crate uses `art_tree`: values that are loaded once and read by key, and values that are put
-//! into a tree and taken out of it.
+//! How a crate uses `art_tree`: values that are loaded once and read by key, and values that are
+//! inserted into a tree and removed from it.
 ghost use Rattle.std.specs.Prelude.{◌≡◌, ◌≢◌, ◌≤◌, ◌↔◌, ℕ, List, [], length, map, Contains, None, IsNone, IsTrue, IfSome, IfErr};
 ghost use Rattle.art_nodes.specs.Pointers.{node_kind, opaque_pointer, slab_key};
 ghost use Rattle.art_arena.specs.Links.{HoldsLeaf};
@@ -17,7 +17,7 @@ use art_tree::{
     NodePtr, StrKey, end_leaf,
 };
 
-/// The root of a tree of these entries, where they are in order and memory is found.
+/// The root of a tree of these entries, if they are in order and no allocation fails.
 fn table<K: AsBytes + Drop, V: Drop, const PREFIX_LEN: usize>(
     alloc: Global,
     arena: &mut NodeArena<K, V, PREFIX_LEN>,
@@ -56,8 +56,8 @@ fn least_below<K: AsBytes, V, const PREFIX_LEN: usize, N: ArenaInnerNode<K, V, P
     Some(end_leaf(arena, child, End::First))
 }
 
-/// The index in a key behind the whole prefix of a node of a tree, if the key has that prefix after the
-/// path to the node, which has `depth` bytes.
+/// The index in a key after the whole prefix of a node of a tree, if the key has that prefix after
+/// the path to the node, which has `depth` bytes.
 fn behind_prefix<K: AsBytes, V, const PREFIX_LEN: usize, N: ArenaInnerNode<K, V, PREFIX_LEN>>(
     arena: &NodeArena<K, V, PREFIX_LEN>,
     node: NodePtr<PREFIX_LEN, N>,
@@ -77,7 +77,7 @@ fn behind_prefix<K: AsBytes, V, const PREFIX_LEN: usize, N: ArenaInnerNode<K, V,
     Some(depth + matched.matched_bytes)
 }
 
-/// Changes the value under a key in place, if the key is there. The tree stands on.
+/// Changes the value under a key in place, if the key is there. The tree still stands.
 fn set_value<K: AsBytes, V: Drop, const PREFIX_LEN: usize>(
     arena: &mut NodeArena<K, V, PREFIX_LEN>,
     root: OpaqueNodePtr<K, V, PREFIX_LEN>,
@@ -96,7 +96,7 @@ fn set_value<K: AsBytes, V: Drop, const PREFIX_LEN: usize>(
     true
 }
 
-/// Puts a value under a key. Where that is answered, the key's text has this entry.
+/// Inserts a value under a key. Where that succeeds, the key's bytes have this entry.
 fn put<K: AsBytes + Drop, V: Drop, const PREFIX_LEN: usize>(
     tree: &mut ArtTree<K, V, PREFIX_LEN>,
     key: K,
@@ -107,7 +107,7 @@ fn put<K: AsBytes + Drop, V: Drop, const PREFIX_LEN: usize>(
     tree.insert(key, value).is_ok()
 }
 
-/// Takes a key out. Where that is answered, its text has no entry.
+/// Removes a key. Where that succeeds, its bytes have no entry.
 fn forget<K: AsBytes + Drop, V: Drop, const PREFIX_LEN: usize>(
     tree: &mut ArtTree<K, V, PREFIX_LEN>,
     key: &[u8],
@@ -117,8 +117,8 @@ fn forget<K: AsBytes + Drop, V: Drop, const PREFIX_LEN: usize>(
     tree.remove(key).is_ok()
 }
 
-/// What `load` makes of entries. A tree with just their texts, whatever calls made it, is the same but
-/// for pointers, kinds included.
+/// The tree that `load` makes of entries. A tree with entries for the same key bytes, whichever
+/// calls made it, is the same but for pointers, kinds included.
 fn loaded<K: AsBytes + Drop, V: Drop, const PREFIX_LEN: usize>(
     alloc: Global,
     tree: &ArtTree<K, V, PREFIX_LEN>,
@@ -153,7 +153,7 @@ fn read_metals(
     Ok(())
 }
 
-// The tree of iron alone, loaded while this one stands.
+// The tree of iron alone, loaded while this one is there.
 fn iron_loaded(alloc: Global, tree: &Metals) -> Result<Metals, Fail> {
     let entries = vec![in alloc; (String::from_str(alloc, "iron")?, 26)]?;
     Ok(loaded(alloc, tree, entries).ok_or("not loaded")?)
@@ -176,7 +176,7 @@ fn metals_are_read_by_name_and_one_comes_and_goes(rt: HostRuntime) -> Result<(),
     put_and_forget_iron(&rt, rt.alloc(), &mut Metals::new(rt.alloc()))
 }
 
-// The first example of the README.
+// A load and a search, an example of the documents.
 fn find_one_of_two(
     rt: &impl Abort,
     alloc: Global,
@@ -201,7 +201,7 @@ fn find_one_of_two(
     Ok(())
 }
 
-// The second one.
+// A tree as one value, an example of the documents.
 fn change_a_tree(rt: &impl Abort, tree: &mut ArtTree<StrKey<'_>, u32, 2>) -> Result<(), Fail> {
     let before = tree
         .insert(StrKey::new("abc1"), 10)
@@ -227,7 +227,7 @@ fn the_first_examples_answer_so(rt: HostRuntime) -> Result<(), Fail> {
     change_a_tree(&rt, &mut ArtTree::new(rt.alloc()))
 }
 
-/// Puts a value under a key of a type without prefixes. No such key is in another one's way.
+/// Inserts a value under a key of a type without prefixes. No such key clashes with another.
 fn put_apart<K: NoPrefixesBytes + Drop, V: Drop, const PREFIX_LEN: usize>(
     tree: &mut ArtTree<K, V, PREFIX_LEN>,
     key: K,

@@ -1,4 +1,4 @@
--- Where the test says yes, the text of `front` is a front of that of `key`, and no key's text is a proper one.
+-- Where the test is true, the text of `front` is a prefix of that of `key`, and no key is a proper prefix of another.
 use Rattle.std.proofs.Common.{◌≡◌, [], ◌++◌, drop, length, sym, ap, ◌∙◌}
 use Rattle.std.proofs.lemmas.Bool.Decides.{Decides-eqb}
 use Rattle.std.proofs.lemmas.List.{append-nil}

@@ -1,4 +1,4 @@
-//! The same node in another representation.
+//! Conversions of a node to another representation.
 ghost use Rattle.std.specs.Prelude.{◌≡◌};
 
 use crate::inner_nodes::representations::inner_node_direct::InnerNodeDirect;
@@ -6,7 +6,7 @@ use crate::inner_nodes::representations::inner_node_indirect::InnerNodeIndirect;
 use crate::inner_nodes::representations::inner_node_sorted::InnerNodeSorted;
 use crate::inner_nodes::traits::node::InnerNodeCommon;
 
-/// The same node with a place for each byte.
+/// The same node with a place for each byte. Takes no memory.
 impl<'a, K, V, const PREFIX_LEN: usize, const SIZE: usize> From<
     &'a InnerNodeSorted<K, V, PREFIX_LEN, SIZE>,
 > for InnerNodeDirect<K, V, PREFIX_LEN> {
@@ -32,7 +32,7 @@ fn direct_from_sorted<K, V, const PREFIX_LEN: usize, const SIZE: usize>(
     direct
 }
 
-/// The same node with a place for each byte.
+/// The same node with a place for each byte. Takes no memory.
 impl<'a, K, V, const PREFIX_LEN: usize, const SIZE: usize> From<
     &'a InnerNodeIndirect<K, V, PREFIX_LEN, SIZE>,
 > for InnerNodeDirect<K, V, PREFIX_LEN> {
@@ -62,8 +62,8 @@ impl<K, V, const PREFIX_LEN: usize, const SIZE: usize> InnerNodeIndirect<K, V, P
     ghost use Rattle.std.specs.Prelude.{◌≡◌, ◌≤◌, length};
     ghost use Rattle.art_nodes.specs.Inner.{indirect_room};
 
-    /// The same node with an index for each byte. The children have to fit: at most `SIZE` of
-    /// them, and at most 255.
+    /// The same node with an index for each byte. Takes no memory. Condition: it has at most `SIZE`
+    /// children, and at most 255.
     pub fn from_direct(node: &InnerNodeDirect<K, V, PREFIX_LEN>) -> Self
         requires { length node.now.children ≤ indirect_room SIZE }
         ensures { result ≡ node.now }
@@ -75,8 +75,8 @@ impl<K, V, const PREFIX_LEN: usize, const SIZE: usize> InnerNodeIndirect<K, V, P
         indirect
     }
 
-    /// The same node with an index for each byte. The children have to fit: at most `SIZE` of
-    /// them, and at most 255.
+    /// The same node with an index for each byte. Takes no memory. Condition: it has at most `SIZE`
+    /// children, and at most 255.
     pub fn from_sorted<const SORTED_SIZE: usize>(
         node: &InnerNodeSorted<K, V, PREFIX_LEN, SORTED_SIZE>,
     ) -> Self
@@ -91,7 +91,8 @@ impl<K, V, const PREFIX_LEN: usize, const SIZE: usize> InnerNodeIndirect<K, V, P
 impl<K, V, const PREFIX_LEN: usize, const SIZE: usize> InnerNodeSorted<K, V, PREFIX_LEN, SIZE> {
     ghost use Rattle.std.specs.Prelude.{◌≡◌, ◌≤◌, length};
 
-    /// The same node with its bytes sorted. The children have to fit: at most `SIZE` of them.
+    /// The same node with its bytes sorted. Takes no memory. Condition: it has at most `SIZE`
+    /// children.
     pub fn from_direct(node: &InnerNodeDirect<K, V, PREFIX_LEN>) -> Self
         requires { length node.now.children ≤ SIZE }
         ensures { result ≡ node.now }
@@ -103,7 +104,8 @@ impl<K, V, const PREFIX_LEN: usize, const SIZE: usize> InnerNodeSorted<K, V, PRE
         sorted
     }
 
-    /// The same node with its bytes sorted. The children have to fit: at most `SIZE` of them.
+    /// The same node with its bytes sorted. Takes no memory. Condition: it has at most `SIZE`
+    /// children.
     pub fn from_indirect<const INDIRECT_SIZE: usize>(
         node: &InnerNodeIndirect<K, V, PREFIX_LEN, INDIRECT_SIZE>,
     ) -> Self

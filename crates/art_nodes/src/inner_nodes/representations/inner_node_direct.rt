@@ -9,10 +9,23 @@ use art_header::{Header, NodeType};
 use std::marker::Model;
 use std::ops::Bound;
 
-/// An inner node for at most 256 children, which keeps each under its byte in a table.
+/// An inner node of at most 256 children, with a table that has a place for each byte. Look-ups,
+/// writes and removals cost O(1).
+///
+/// (from crates/art_node_tests/src/nodes/direct.rt)
+/// ```rust
+/// type Node = InnerNodeDirect<u8, u8, 16>;
+/// // ..
+///     let mut node: Node = node_of(rt, &[], &AT_BORDERS);
+///     // ..
+///     assert!(rt; node.remove_child(63) == Some(leaf(63)));
+///     // ..
+///     assert!(rt; node.num_children() == 4);
+///     assert!(rt; node.min() == (64, leaf(64)));
+/// ```
 #[derive(Drop)]
 pub struct InnerNodeDirect<K, V, const PREFIX_LEN: usize> {
-    // The prefix, and how many children there are.
+    // The prefix, and the number of children.
     header: Header<PREFIX_LEN>,
     // A place for each byte, with its child if it has one.
     child_pointers: ChildTable<OpaqueNodePtr<K, V, PREFIX_LEN>>,
@@ -85,8 +98,8 @@ impl<K, V, const PREFIX_LEN: usize> InnerNodeDirect<K, V, PREFIX_LEN> {
         self.child_pointers.pairs()
     }
 
-    /// Which bytes have a child, in words of bits: bit `b mod 64` of word `b div 64` is set exactly where
-    /// one stands under the byte `b`. Copied as they are kept, without a look at the children.
+    /// Which bytes have a child, as words of bits: bit `b mod 64` of word `b div 64` is set exactly
+    /// where the byte `b` has a child. Copies the words that the node keeps, and reads no child.
     pub fn filled_words(&self) -> [u64; 4]
         ensures { (byte : ℕ) → byte < 256 →
             has_byte result byte ≡ is_some (child_at self.now.children byte) }
@@ -94,7 +107,7 @@ impl<K, V, const PREFIX_LEN: usize> InnerNodeDirect<K, V, PREFIX_LEN> {
         self.child_pointers.filled_words()
     }
 
-    /// A copy, which takes no memory.
+    /// A copy. Takes no memory.
     pub fn clone(&self) -> Self
         ensures { result ≡ self.now }
     {

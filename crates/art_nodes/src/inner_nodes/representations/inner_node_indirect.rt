@@ -11,22 +11,34 @@ use art_header::{Header, NodeType, NonMaxIndex};
 use std::marker::Model;
 use std::ops::Bound;
 
-/// An inner node that keeps, in a table with a place for each byte, the index of the child.
+/// An inner node with a table that has, for each byte, the index of its child. Look-ups, writes and
+/// removals cost O(1).
 ///
-/// It has room for `SIZE` children, and for no more than 255, since 255 is no [`NonMaxIndex`].
+/// It holds at most `SIZE` children, and at most 255, since 255 is no [`NonMaxIndex`].
+///
+/// (from crates/art_node_tests/src/nodes/indirect.rt)
+/// ```rust
+/// let mut node: InnerNode48<u8, u8, 16> = node_of(&rt, &[], &[(1, 1), (2, 2), (3, 3)]);
+/// assert!(rt; node.remove_child(1) == Some(leaf(1)));
+/// // ..
+/// assert!(rt; node.lookup_child(2) == Some(leaf(2)));
+/// assert!(rt; node.lookup_child(3) == Some(leaf(3)));
+/// ```
 #[derive(Drop)]
 pub struct InnerNodeIndirect<K, V, const PREFIX_LEN: usize, const SIZE: usize> {
-    // The prefix, and how many children there are.
+    // The prefix, and the number of children.
     header: Header<PREFIX_LEN>,
     // For each byte that has a child, the index of its pointer.
     child_indices: IndexTable,
-    // The byte of each pointer, at the same place.
+    // The byte of each pointer, at the same index.
     keys: ArrayVec<u8, SIZE>,
-    // The children, in the order in which they came, but for removals.
+    // The children, in the order of their writes, except after removals.
     child_pointers: ArrayVec<OpaqueNodePtr<K, V, PREFIX_LEN>, SIZE>,
 }
 
 /// An indirect node for at most 48 children.
+///
+/// [`InnerNodeIndirect`] has an example.
 pub type InnerNode48<K, V, const PREFIX_LEN: usize> = InnerNodeIndirect<K, V, PREFIX_LEN, 48>;
 
 impl<K, V, const PREFIX_LEN: usize, const SIZE: usize> Sealed
@@ -90,7 +102,8 @@ impl<K, V, const PREFIX_LEN: usize, const SIZE: usize> InnerNodeIndirect<K, V, P
         }
     }
 
-    /// The node with this header and a child beside each of the bytes, which ascend and fit.
+    /// The node with this header and a child for each of the bytes. Conditions: they ascend and
+    /// fit.
     pub(crate) fn from_ascending(
         header: &Header<PREFIX_LEN>,
         bytes: &[u8],
@@ -119,8 +132,8 @@ impl<K, V, const PREFIX_LEN: usize, const SIZE: usize> InnerNodeIndirect<K, V, P
         IndexPairs::new(0, self.child_indices.places(), &self.child_pointers)
     }
 
-    /// Writes a child under a byte that has none, behind the other children. The node has to have
-    /// room for it.
+    /// Writes a child under a byte that has none, after the other children. Condition: the node has
+    /// spare capacity.
     pub(crate) fn add_child(
         &mut self,
         key_fragment: u8,
@@ -137,7 +150,7 @@ impl<K, V, const PREFIX_LEN: usize, const SIZE: usize> InnerNodeIndirect<K, V, P
         self.header.inc_num_children();
     }
 
-    /// A copy, which takes no memory.
+    /// A copy. Takes no memory.
     pub fn clone(&self) -> Self
         ensures { result ≡ self.now }
     {
@@ -149,7 +162,7 @@ impl<K, V, const PREFIX_LEN: usize, const SIZE: usize> InnerNodeIndirect<K, V, P
         }
     }
 
-    /// The children, each as often as it stands under a byte, in no promised order.
+    /// The child of each byte, in an order that is not specified.
     pub fn initialized_child_pointers(&self) -> &[OpaqueNodePtr<K, V, PREFIX_LEN>]
         ensures { IsPermutation (map (λ p. p.1) self.now.children) result.now }
     {
@@ -210,7 +223,7 @@ impl<K, V, const PREFIX_LEN: usize, const SIZE: usize> InnerNodeCommon<K, V, PRE
     fn remove_child(&mut self, key_fragment: u8) -> Option<OpaqueNodePtr<K, V, PREFIX_LEN>> {
         let index = self.child_indices.get(key_fragment)?;
         let freed = usize::from(index);
-        // The last pointer moves into the freed place, so its byte has that index now.
+        // The last pointer moves into the freed place, so its byte gets that index.
         let moved_key = self.keys[self.keys.len() - 1];
         self.child_indices.set(moved_key, index);
         self.child_indices.clear(key_fragment);

@@ -12,21 +12,43 @@ use art_header::{Header, NodeType};
 use std::marker::Model;
 use std::ops::Bound;
 
-/// An inner node that keeps its bytes in ascending order and its children beside them.
+/// An inner node of at most `SIZE` children that keeps its bytes in ascending order and its
+/// children in the same order. Look-ups, writes and removals cost O(`SIZE`).
+///
+/// (from crates/art_node_tests/src/nodes/builder.rt)
+/// ```rust
+/// let unsearched = InnerNode4::<u8, u8, 16>::builder(b"prefix", 6)
+///     .write_child_unchecked(0, leaf(7))
+///     .write_child_unchecked(1, leaf(8))
+///     .write_child_unchecked(200, leaf(10))
+///     .build();
+/// // ..
+/// let (bytes, children) = unsearched.initialized_portion();
+/// assert!(rt; bytes == [0, 1, 200].as_slice());
+/// ```
 #[derive(Drop)]
 pub struct InnerNodeSorted<K, V, const PREFIX_LEN: usize, const SIZE: usize> {
-    // The prefix, and how many children there are.
+    // The prefix, and the number of children.
     header: Header<PREFIX_LEN>,
     // The bytes that have a child, ascending.
     keys: ArrayVec<u8, SIZE>,
-    // The child of each byte, at the same place.
+    // The child of each byte, at the same index.
     child_pointers: ArrayVec<OpaqueNodePtr<K, V, PREFIX_LEN>, SIZE>,
 }
 
 /// A sorted node for at most 4 children.
+///
+/// [`InnerNodeSorted`] has an example.
 pub type InnerNode4<K, V, const PREFIX_LEN: usize> = InnerNodeSorted<K, V, PREFIX_LEN, 4>;
 
 /// A sorted node for at most 16 children.
+///
+/// (from crates/art_node_tests/src/nodes/conversions.rt)
+/// ```rust
+/// let node: InnerNode16<u8, u8, 16> = with_bytes(rt, first);
+/// assert!(rt; node.num_children() <= 4);
+/// sorted_has(rt, &node.shrink(), first);
+/// ```
 pub type InnerNode16<K, V, const PREFIX_LEN: usize> = InnerNodeSorted<K, V, PREFIX_LEN, 16>;
 
 impl<K, V, const PREFIX_LEN: usize, const SIZE: usize> Sealed
@@ -98,7 +120,7 @@ impl<K, V, const PREFIX_LEN: usize, const SIZE: usize> InnerNodeSorted<K, V, PRE
         }
     }
 
-    /// A copy, which takes no memory.
+    /// A copy. Takes no memory.
     pub fn clone(&self) -> Self
         ensures { result ≡ self.now }
     {
@@ -106,7 +128,7 @@ impl<K, V, const PREFIX_LEN: usize, const SIZE: usize> InnerNodeSorted<K, V, PRE
         self.change_block_size()
     }
 
-    /// The bytes in ascending order, and the children beside them.
+    /// The bytes in ascending order, and the children in the same order.
     pub fn initialized_portion(&self) -> (&[u8], &[OpaqueNodePtr<K, V, PREFIX_LEN>])
         ensures bytes { result.0.now ≡ key_bytes self.now.children }
         ensures children { result.1.now ≡ map (λ p. p.1) self.now.children }
@@ -114,8 +136,8 @@ impl<K, V, const PREFIX_LEN: usize, const SIZE: usize> InnerNodeSorted<K, V, PRE
         (&self.keys, &self.child_pointers)
     }
 
-    /// Writes a child under a byte that is above every byte there. The node has to have room for
-    /// it.
+    /// Writes a child without a search. Conditions: its byte is above every byte of the node, and
+    /// the node has spare capacity.
     pub fn write_child_unchecked(
         &mut self,
         key_fragment: u8,
@@ -130,7 +152,7 @@ impl<K, V, const PREFIX_LEN: usize, const SIZE: usize> InnerNodeSorted<K, V, PRE
         self.header.inc_num_children();
     }
 
-    /// The same node with room for `NEW_SIZE` children, which have to fit.
+    /// The same node with capacity for `NEW_SIZE` children. Condition: its children fit.
     pub(crate) fn change_block_size<const NEW_SIZE: usize>(
         &self,
     ) -> InnerNodeSorted<K, V, PREFIX_LEN, NEW_SIZE>
@@ -145,7 +167,7 @@ impl<K, V, const PREFIX_LEN: usize, const SIZE: usize> InnerNodeSorted<K, V, PRE
     }
 }
 
-/// A copy of these items, which have to fit.
+/// A copy of these items. Condition: they fit.
 #[inline]
 pub(crate) fn copy_of<T: Copy + Default, const SIZE: usize>(items: &[T]) -> ArrayVec<T, SIZE>
     requires { length items.now ≤ SIZE }
@@ -156,7 +178,7 @@ pub(crate) fn copy_of<T: Copy + Default, const SIZE: usize>(items: &[T]) -> Arra
     copy
 }
 
-// Where a byte stands among others, if it does.
+// The index of a byte among others, if it is one of them.
 fn place_of(keys: &[u8], key_fragment: u8) -> Option<usize>
     ensures found { IfSome result (IsByteAt keys.now key_fragment) }
     ensures absent { IfNone result ((k : ℕ) → k < length keys.now →
@@ -165,7 +187,7 @@ fn place_of(keys: &[u8], key_fragment: u8) -> Option<usize>
     keys.iter().position(|key| *key == key_fragment)
 }
 
-// Where a byte stands among ascending bytes, or where it would go.
+// The index of a byte among ascending bytes, or else the index to insert it at.
 fn find_write_point(keys: &[u8], key_fragment: u8) -> Result<usize, usize>
     requires { IsAscending keys.now }
     ensures existing { IfOk result (IsByteAt keys.now key_fragment) }

@@ -1,23 +1,23 @@
-//! Sets of bytes, in four words of 64 bits.
+//! Sets of bytes, as four words of 64 bits.
 ghost use Rattle.std.specs.Prelude.{◌≡◌, ◌≢◌, ℕ, ◌<◌, ◌≤◌, ◌+◌, true, false, IfSome, IfNone};
 ghost use Rattle.std.specs.Int.{bit_at};
 ghost use Rattle.art_nodes.specs.ByteSet.{has_byte, HasNoBit, HasNoByte};
 
-/// Bytes: `b` is one of them where bit `b mod 64` of word `b div 64` is set.
+/// A set of bytes. The byte `b` is in it where bit `b mod 64` of word `b div 64` is set.
 #[derive(Clone, Copy)]
 pub(crate) struct ByteSet {
     pub(super) words: [u64; 4],
 }
 
 impl ByteSet {
-    /// The set of no byte.
+    /// The empty set.
     pub(crate) fn new() -> Self
         ensures { (byte : ℕ) → has_byte result.words byte ≡ false }
     {
         ByteSet { words: [0; 4] }
     }
 
-    /// Whether the byte is one of them.
+    /// Whether the byte is in the set.
     #[inline]
     pub(crate) fn contains(&self, byte: u8) -> bool
         ensures { result ≡ has_byte self.now.words byte }
@@ -37,7 +37,7 @@ impl ByteSet {
         self.words[byte / 64] |= 1 << (byte % 64);
     }
 
-    /// Takes the byte out.
+    /// Removes the byte.
     #[inline]
     pub(crate) fn remove(&mut self, byte: u8)
         ensures removed { has_byte self.new.words byte ≡ false }
@@ -48,7 +48,7 @@ impl ByteSet {
         self.words[byte / 64] &= !(1 << (byte % 64));
     }
 
-    /// The first byte that is not before `from`.
+    /// The least byte at or above `from`.
     #[inline]
     pub(crate) fn first_from(&self, from: usize) -> Option<u8>
         ensures found { IfSome result (λ byte.
@@ -56,7 +56,7 @@ impl ByteSet {
         ensures first { IfSome result (λ byte. HasNoByte self.now.words from byte) }
         ensures none { IfNone result (HasNoByte self.now.words from 256) }
     {
-        // Where bytes stand side by side this is the next one.
+        // Where bytes are dense this is the next byte.
         if from < 256 && self.contains(from as u8) {
             return Some(from as u8);
         }
@@ -69,7 +69,7 @@ impl ByteSet {
         None
     }
 
-    /// The last byte below `end`.
+    /// The greatest byte below `end`.
     #[inline]
     pub(crate) fn last_before(&self, end: usize) -> Option<u8>
         requires { end ≤ 256 }
@@ -90,7 +90,7 @@ impl ByteSet {
     }
 }
 
-// The lowest set bit that is not below `from`.
+// The lowest set bit at or above `from`.
 #[inline]
 fn first_bit(word: u64, from: usize) -> Option<usize>
     requires { from < 64 }

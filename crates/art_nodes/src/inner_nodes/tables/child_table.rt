@@ -1,4 +1,4 @@
-//! Tables with a place for each byte and a bit that says whether a child stands there.
+//! Tables with a place for each byte, and a bit that marks a place that has a child.
 ghost use Rattle.std.specs.Prelude.{◌≡◌, ℕ, ◌<◌, ◌≤◌, length, slice_index_or, slice_set, replicate, is_some, Some, None};
 ghost use Rattle.art_nodes.specs.ByteSet.{has_byte};
 ghost use Rattle.art_nodes.specs.ChildMap.{table_children};
@@ -9,11 +9,11 @@ use crate::iteration::table_pairs::TablePairs;
 use std::marker::Model;
 use std::ops::Range;
 
-/// A place for each byte, some of which have a child.
+/// A place for each byte. Marked places have a child.
 #[derive(Drop)]
 pub(crate) struct ChildTable<H> {
     filled: ByteSet,
-    // Only the places of filled bytes are read.
+    // Only marked places are read.
     children: [H; 256],
 }
 
@@ -29,7 +29,7 @@ impl<H> Model for ChildTable<H> {
 }
 
 impl<H: Copy> ChildTable<H> {
-    /// A table with no child, whose places hold the vacant one until they are filled.
+    /// A table with no child. Each place holds `vacant` until it is filled.
     pub(crate) fn new(vacant: H) -> Self
         ensures { result ≡ replicate 256 None }
     {
@@ -39,7 +39,7 @@ impl<H: Copy> ChildTable<H> {
         }
     }
 
-    /// A copy, which takes no memory.
+    /// A copy. Takes no memory.
     pub(crate) fn clone(&self) -> Self
         ensures { result ≡ self.now }
     {
@@ -49,7 +49,7 @@ impl<H: Copy> ChildTable<H> {
         }
     }
 
-    /// Which places have a child, as the words of their bytes' bits.
+    /// Which places have a child, as words of bits.
     pub(crate) fn filled_words(&self) -> [u64; 4]
         ensures { (byte : ℕ) → byte < 256 →
             has_byte result byte ≡ is_some (slice_index_or self.now byte None) }
@@ -78,7 +78,7 @@ impl<H: Copy> ChildTable<H> {
         self.children[usize::from(byte)] = child;
     }
 
-    /// Leaves the place of the byte empty.
+    /// Empties the place of the byte.
     #[inline]
     pub(crate) fn clear(&mut self, byte: u8)
         ensures { self.new ≡ slice_set self.old byte None }
@@ -94,7 +94,7 @@ impl<H: Copy> ChildTable<H> {
         TablePairs::new(&self.filled, &self.children[..], 0..256)
     }
 
-    /// The children under a range of bytes.
+    /// The children within a range of bytes.
     pub(crate) fn pairs_within(&self, bytes: Range<usize>) -> TablePairs<'_, H>
         requires { bytes.end ≤ 256 }
         ensures all_places { length self.now ≡ 256 }

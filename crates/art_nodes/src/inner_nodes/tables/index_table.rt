@@ -7,7 +7,7 @@ ghost use Rattle.art_nodes.specs.IndexTable.{index_of};
 use art_header::NonMaxIndex;
 use std::marker::Model;
 
-/// An index, or none, for each byte, in one byte a place.
+/// An index, or none, for each byte, in one byte of memory each.
 #[derive(Drop)]
 pub(crate) struct IndexTable {
     // The number of the index of each byte, and 255 where there is none.
@@ -35,8 +35,8 @@ impl IndexTable {
         }
     }
 
-    /// The table in which each of these bytes has its place among them as its index. They ascend,
-    /// and there are at most 255 of them.
+    /// The table in which each of these bytes has its place among them as its index. Conditions:
+    /// they ascend, and there are at most 255 of them.
     pub(crate) fn of_places(bytes: &[u8]) -> Self
         requires ascending { IsAscending bytes.now }
         requires fit { length bytes.now ≤ 255 }
@@ -51,7 +51,7 @@ impl IndexTable {
         table
     }
 
-    /// A copy, which takes no memory.
+    /// A copy. Takes no memory.
     pub(crate) fn clone(&self) -> Self
         ensures { result ≡ self.now }
     {
@@ -60,7 +60,7 @@ impl IndexTable {
         }
     }
 
-    /// The place of each byte: the number of its index, and 255 where there is none.
+    /// The entry of each byte: the number of its index, and 255 where there is none.
     pub(crate) fn places(&self) -> &[u8]
         ensures indices { map index_of result.now ≡ self.now }
         ensures all_bytes { length result.now ≡ 256 }
@@ -82,7 +82,7 @@ impl IndexTable {
         self.places[usize::from(byte)] = index.get();
     }
 
-    /// Takes the byte's index away.
+    /// Removes the index of the byte.
     pub(crate) fn clear(&mut self, byte: u8)
         ensures { self.new ≡ slice_set self.old byte None }
     {

@@ -1,4 +1,4 @@
-//! Inner nodes that become one of the next kind.
+//! Inner nodes that grow and shrink to the next kind.
 ghost use Rattle.std.specs.Prelude.{◌≡◌, ◌≢◌, ℕ, ◌<◌, ◌≤◌, ◌↔◌, IsTrue, length};
 ghost use Rattle.art_header.specs.NodeType.{most_children, grown_kind, shrunk_kind};
 ghost use Rattle.art_header.specs.declared.node_type.NodeType.TheVariants.{Leaf};
@@ -9,7 +9,20 @@ use crate::inner_nodes::representations::inner_node_indirect::InnerNode48;
 use crate::inner_nodes::representations::inner_node_sorted::{InnerNode4, InnerNode16};
 use crate::inner_nodes::traits::node::{InnerNodeCommon, Node};
 
-/// An inner node of one of the four kinds, with the kinds next to it.
+/// An inner node of one of the four kinds, and the kinds next to it.
+///
+/// (from crates/art_node_tests/src/nodes/node_callers.rt)
+/// ```rust
+/// fn grow_then_write<const PREFIX_LEN: usize, N: InnerNode<PREFIX_LEN>>(
+///     // ..
+/// ) -> N::GrownNode
+///     ensures { N.GrownNode.inner result ≡ node_with_child (N.inner node.now) byte child }
+/// {
+///     let mut grown = node.grow();
+///     grown.write_child(byte, child);
+///     grown
+/// }
+/// ```
 pub trait InnerNode<const PREFIX_LEN: usize>: Node<PREFIX_LEN>
     + InnerNodeCommon<
         <Self as Node<PREFIX_LEN>>::Key,
@@ -24,15 +37,17 @@ pub trait InnerNode<const PREFIX_LEN: usize>: Node<PREFIX_LEN>
     type ShrunkNode: Node<PREFIX_LEN, Key = Self::Key, Value = Self::Value>
         + InnerNodeCommon<Self::Key, Self::Value, PREFIX_LEN>;
 
-    /// The same node of the next greater kind: prefix and children stay. It has room for a child
-    /// under any byte. Of a `Node256`, which has no greater kind, it is a copy.
+    /// The node as one of the next greater kind, with the same prefix and children. It has spare
+    /// capacity for a child under any byte. Of a `Node256`, which has no greater kind, a copy.
+    /// Takes no memory, and costs a copy of the node.
     fn grow(&self) -> Self::GrownNode
         ensures same { Self.GrownNode.inner result ≡ Self.inner self.now }
         ensures has_room { (byte : ℕ) → byte < 256 →
             HasRoomFor Self.GrownNode.room (Self.inner self.now) byte };
 
-    /// The same node of the next smaller kind: prefix and children stay. The children have to fit.
-    /// Of a `Node4`, which has no smaller kind, it is a copy.
+    /// The node as one of the next smaller kind, with the same prefix and children. Of a `Node4`,
+    /// which has no smaller kind, a copy. Takes no memory, and costs a copy of the node. Condition:
+    /// the smaller kind holds the children.
     fn shrink(&self) -> Self::ShrunkNode
         requires { length (Self.inner self.now).children ≤ Self.ShrunkNode.room }
         ensures { Self.ShrunkNode.inner result ≡ Self.inner self.now };
@@ -49,19 +64,19 @@ pub trait InnerNode<const PREFIX_LEN: usize>: Node<PREFIX_LEN>
     /// The kind is that of an inner node.
     ghost is_inner: { Self.TYPE ≢ Leaf };
 
-    /// A node has room for as many children as its kind holds.
+    /// A node holds as many children as its kind.
     ghost room_of_kind: { Self.room ≡ most_children Self.TYPE };
 
     /// A grown node is of the next greater kind.
     ghost grown_type: { Self.GrownNode.TYPE ≡ grown_kind Self.TYPE };
 
-    /// It has the room of that kind.
+    /// A grown node holds as many children as that kind.
     ghost grown_room: { Self.GrownNode.room ≡ most_children (grown_kind Self.TYPE) };
 
     /// A shrunk node is of the next smaller kind.
     ghost shrunk_type: { Self.ShrunkNode.TYPE ≡ shrunk_kind Self.TYPE };
 
-    /// It has the room of that kind.
+    /// A shrunk node holds as many children as that kind.
     ghost shrunk_room: { Self.ShrunkNode.room ≡ most_children (shrunk_kind Self.TYPE) };
 }
 

@@ -1,4 +1,4 @@
-//! What every node and every inner node has.
+//! The traits of every node and of every inner node.
 ghost use Rattle.std.specs.Prelude.{◌≡◌, ℕ, ◌<◌, ◌≤◌, ◌^◌, List, length, map, Contains, Some, IfOk, IsOkAnd};
 ghost use Rattle.art_nodes.specs.ChildMap.{child_at, first_pair, last_pair, pairs_within, AreValidBounds};
 ghost use Rattle.art_nodes.specs.PrefixMatch.{optimistic_match, cheap_match, HasPrefix};
@@ -17,14 +17,25 @@ use art_bytes::common_prefix_len;
 use art_header::{Header, NodeType};
 use std::ops::Bound;
 
-/// A node whose kind is known when the program is compiled.
+/// A node whose kind is known at compile time.
+///
+/// (from crates/art_node_tests/src/nodes/node_callers.rt)
+/// ```rust
+/// fn points_to<const PREFIX_LEN: usize, N: Node<PREFIX_LEN>>(
+///     key: usize,
+/// ) -> OpaqueNodePtr<N::Key, N::Value, PREFIX_LEN>
+///     ensures { result ≡ opaque_pointer N.TYPE key }
+/// {
+///     NodePtr::<PREFIX_LEN, N>::from_key(key).to_opaque()
+/// }
+/// ```
 pub trait Node<const PREFIX_LEN: usize>: Sealed {
     /// The kind of the node.
     const TYPE: NodeType;
 
     ghost use Rattle.art_header.specs.declared.node_type.NodeType.{NodeType};
 
-    /// The kind of the node.
+    /// The same kind, for contracts.
     ghost TYPE: { NodeType };
 
     /// The key type of the leaves below.
@@ -34,18 +45,32 @@ pub trait Node<const PREFIX_LEN: usize>: Sealed {
     type Value;
 }
 
-/// What every inner node does, whichever way it keeps its children.
+/// The calls of every inner node, whichever way it keeps its children.
 ///
-/// Contracts see a node as the length and the stored front of its prefix and a finite map from bytes
-/// to children. No call takes memory.
+/// Contracts see a node as the length of its prefix, the stored prefix, and a finite map from bytes
+/// to children. No call takes memory. A look-up, a write and a removal cost O(`SIZE`) in a sorted
+/// node and O(1) in the others; `min`, `max` and a step of an iterator read at most 256 places.
+///
+/// (from crates/art_node_tests/src/nodes/node_callers.rt)
+/// ```rust
+/// fn write_then_look_up<K, V, const PREFIX_LEN: usize, N: InnerNodeCommon<K, V, PREFIX_LEN>>(
+///     // ..
+/// ) -> Option<OpaqueNodePtr<K, V, PREFIX_LEN>>
+///     requires { HasRoomFor N.room (N.inner node.old) byte }
+///     ensures { result ≡ Some child }
+/// {
+///     node.write_child(byte, child);
+///     node.lookup_child(byte)
+/// }
+/// ```
 pub trait InnerNodeCommon<K, V, const PREFIX_LEN: usize>: InnerNodeInit<PREFIX_LEN> {
     ghost use Rattle.art_nodes.specs.declared.pointers.OpaqueNodePtr.{OpaqueNodePtr};
     ghost use Rattle.art_header.specs.Header.{Header};
 
-    /// The prefix and the child map.
+    /// The node as contracts see it: prefix and child map.
     ghost inner: { Self → Inner (OpaqueNodePtr K V PREFIX_LEN) };
 
-    /// The most children that fit.
+    /// The greatest number of children.
     ghost room: { ℕ };
 
     /// The header. Its count is the number of children.
@@ -53,27 +78,27 @@ pub trait InnerNodeCommon<K, V, const PREFIX_LEN: usize>: InnerNodeInit<PREFIX_L
         ensures header { result.now ≡ header_of (inner self.now) }
         ensures sound { IsInner PREFIX_LEN room (inner self.now) };
 
-    /// The number of children.
+    /// The number of children, at most 256.
     fn num_children(&self) -> usize
         ensures count { result ≡ length (inner self.now).children }
         ensures sound { IsInner PREFIX_LEN room (inner self.now) };
 
-    /// The length of the whole prefix in bytes, stored or not. It is below 2^32.
+    /// The length of the whole prefix in bytes, stored or not, below 2^32.
     fn prefix_len(&self) -> usize
         ensures value { result ≡ (inner self.now).prefix_len }
         ensures fits { result < 2 ^ 32 };
 
-    /// The stored front of the prefix: its first `min(prefix_len, PREFIX_LEN)` bytes.
+    /// The stored prefix: the first `min(prefix_len, PREFIX_LEN)` bytes of the prefix.
     fn stored_prefix(&self) -> &[u8]
         ensures stored { result.now ≡ (inner self.now).stored }
         ensures capped { length result.now ≡ capped PREFIX_LEN (inner self.now).prefix_len };
 
-    /// The most children that the node can hold.
+    /// The greatest number of children that the node can hold.
     fn capacity(&self) -> usize
         ensures { result ≡ room };
 
-    /// Takes over the prefix of this header: its length and its stored front. The children and
-    /// their count stay.
+    /// Replaces the prefix by that of `header`: its length and its stored prefix. The children and
+    /// their number are unchanged.
     fn set_prefix(&mut self, header: &Header<PREFIX_LEN>)
         ensures { inner self.new ≡ node_with_prefix_of (inner self.old) header.now };
 
@@ -82,15 +107,16 @@ pub trait InnerNodeCommon<K, V, const PREFIX_LEN: usize>: InnerNodeInit<PREFIX_L
         ensures child { result ≡ child_at (inner self.now).children key_fragment }
         ensures sound { IsInner PREFIX_LEN room (inner self.now) };
 
-    /// Writes the child under the byte, in place of any that is there. Only a new byte asks for
-    /// room: there have to be fewer children than [`InnerNodeCommon::capacity`].
+    /// Writes the child under the byte, and replaces any that is there. Condition: under a new
+    /// byte, the node has spare capacity, that is fewer children than
+    /// [`InnerNodeCommon::capacity`].
     fn write_child(&mut self, key_fragment: u8, child_pointer: OpaqueNodePtr<K, V, PREFIX_LEN>)
         requires { HasRoomFor room (inner self.old) key_fragment }
         ensures written { inner self.new ≡
             node_with_child (inner self.old) key_fragment child_pointer };
 
-    /// Removes the child under the byte and answers it, or changes nothing where there is none. It
-    /// may leave one child or none.
+    /// Removes the child under the byte and returns it. Without a child there it returns `None` and
+    /// changes nothing. The node may be left with one child or none.
     fn remove_child(&mut self, key_fragment: u8) -> Option<OpaqueNodePtr<K, V, PREFIX_LEN>>
         ensures child { result ≡ child_at (inner self.old).children key_fragment }
         ensures removed { inner self.new ≡ node_without_child (inner self.old) key_fragment }
@@ -101,28 +127,28 @@ pub trait InnerNodeCommon<K, V, const PREFIX_LEN: usize>: InnerNodeInit<PREFIX_L
         ensures pairs { result ≡ (inner self.now).children }
         ensures sound { IsInner PREFIX_LEN room (inner self.now) };
 
-    /// Those of the children whose byte meets both bounds, which have to be valid:
-    /// [`valid_range_bounds`](crate::valid_range_bounds) is the test.
+    /// The children whose byte meets both bounds, by ascending byte. Condition: the bounds are
+    /// valid; [`valid_range_bounds`](crate::valid_range_bounds) tests it.
     fn range(&self, start: Bound<u8>, end: Bound<u8>) -> ChildIter<'_, K, V, PREFIX_LEN>
         requires { AreValidBounds start end }
         ensures { result ≡ pairs_within (inner self.now).children start end };
 
-    /// The least byte with its child. There has to be a child.
+    /// The least byte with its child. Condition: there is a child.
     fn min(&self) -> (u8, OpaqueNodePtr<K, V, PREFIX_LEN>)
         requires { 0 < length (inner self.now).children }
         ensures pair { first_pair (inner self.now).children ≡ Some result }
         ensures sound { IsInner PREFIX_LEN room (inner self.now) };
 
-    /// The greatest byte with its child. There has to be a child.
+    /// The greatest byte with its child. Condition: there is a child.
     fn max(&self) -> (u8, OpaqueNodePtr<K, V, PREFIX_LEN>)
         requires { 0 < length (inner self.now).children }
         ensures pair { last_pair (inner self.now).children ≡ Some result }
         ensures sound { IsInner PREFIX_LEN room (inner self.now) };
 
-    /// Tests whether the rest of a key is long enough for the prefix. No byte is compared.
+    /// Tests whether the rest of a key is long enough for the prefix. No byte is compared, so a
+    /// search that uses this match must compare the whole key of the leaf that it reaches.
     ///
-    /// Answers the length of the prefix, or else that of the rest. Whoever comes to a leaf by this
-    /// match has to compare the leaf's whole key.
+    /// Returns the length of the prefix. Error: the rest is shorter; the error has its length.
     final fn optimistic_match_prefix(
         &self,
         truncated_key: &[u8],
@@ -146,11 +172,11 @@ pub trait InnerNodeCommon<K, V, const PREFIX_LEN: usize>: InnerNodeInit<PREFIX_L
         }
     }
 
-    /// Compares the rest of a key with the prefix where the node stores all of it, and else only
+    /// Compares the rest of a key with the prefix where the node stores all of it. Otherwise only
     /// tests whether the rest is long enough, as [`InnerNodeCommon::optimistic_match_prefix`].
     ///
-    /// Answers the length of the prefix, or else how many bytes match, and the prefix's byte that
-    /// the rest lacks or differs in.
+    /// Returns the length of the prefix. Error: how many bytes match, and the byte of the prefix
+    /// where the rest differs or ends; no byte where only lengths were compared.
     final fn attempt_pessimistic_match_prefix(
         &self,
         truncated_key: &[u8],
@@ -185,8 +211,8 @@ pub trait InnerNodeCommon<K, V, const PREFIX_LEN: usize>: InnerNodeInit<PREFIX_L
         }
     }
 
-    /// One of the children. It takes a leaf where there is one; the contract leaves open which child
-    /// it is. The node has to have two children or more.
+    /// One of the children: a leaf where there is one. The contract does not specify which child.
+    /// Reads the children up to the first leaf. Condition: the node has two children or more.
     final fn any_child_prefer_leaf(&self) -> OpaqueNodePtr<K, V, PREFIX_LEN>
         requires { 2 ≤ length (inner self.now).children }
         ensures { Contains (map (λ pair. pair.1) (inner self.now).children) result }
@@ -200,7 +226,7 @@ pub trait InnerNodeCommon<K, V, const PREFIX_LEN: usize>: InnerNodeInit<PREFIX_L
         least
     }
 
-    /// A builder of a node with this prefix. It asks what [`Header::new`] asks.
+    /// A builder of a node with this prefix. Conditions: those of [`Header::new`].
     final fn builder(
         prefix: &[u8],
         prefix_len: usize,
@@ -213,6 +239,6 @@ pub trait InnerNodeCommon<K, V, const PREFIX_LEN: usize>: InnerNodeInit<PREFIX_L
         InnerNodeBuilder::new(prefix, prefix_len)
     }
 
-    /// A node begins with no children.
+    /// A new node has no children.
     ghost starts_empty: { (h : Header) → inner (Self.empty_with h) ≡ empty_inner h };
 }

@@ -5,7 +5,8 @@ use Rattle.art_arena.specs.Trees.{Tree}
 use Rattle.art_tree.proofs.Find.WayLemmas.{IsHere}
 use Rattle.art_tree.proofs.find.find_leaf.Given as goal
 
--- within the key, with a look for each byte that is left and one more, at the part of the tree that has the answer
+-- within the key, with a node visit left for each byte that is left and one more, at the part of
+-- the tree that has the key if the tree has it
 abbrev pub invariant-way : goal.invariant-way
 invariant-way g l = record {
   within : l.depth ≤ length l.key;

@@ -1,4 +1,4 @@
-//! How a crate uses `art_arena`: leaves are linked by ascending key, and walked in that order.
+//! How a crate uses `art_arena`: leaves are linked by ascending key, and visited in that order.
 ghost use Rattle.std.specs.Prelude.{◌≡◌, ◌≢◌, ◌++◌, ◌∷◌, [], List};
 ghost use Rattle.std.specs.declared.cmp.Ordering.TheVariants.{Less};
 ghost use Rattle.art_bytes.specs.Text.{text_order};
@@ -7,7 +7,7 @@ ghost use Rattle.art_arena.specs.Links.{Spells, HoldsLeaf, IsUnlinked, IsKnit, t
 
 use super::*;
 
-/// Puts a leaf at the end of a list. Its key is above that of the last leaf.
+/// Adds a leaf at the end of a list. Its key is greater than that of the last leaf.
 fn push_back<K: AsBytes, V, const PREFIX_LEN: usize>(
     arena: &mut NodeArena<K, V, PREFIX_LEN>,
     this: NodePtr<PREFIX_LEN, LeafNode<K, V, PREFIX_LEN>>,

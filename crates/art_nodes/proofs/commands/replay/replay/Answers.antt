@@ -29,7 +29,7 @@ from_header-node-requires g c = search
 pub apply-requires : goal.apply-requires
 apply-requires g c = search
 
--- the first command that is left is run, and then those behind it
+-- the first remaining command is run, and then those after it
 run_of-step : {K V : Type 0} {P : ℕ} (children : ChildMap (OpaqueNodePtr K V P)) (commands : List (ChildCommand K V P)) (index : ℕ) (d : ChildCommand K V P) → index < length commands
     → run_of children (drop index commands) ≡ run_of children (get_or commands index d ∷ drop (index + 1) commands)
 run_of-step children commands index d within = rw (add-one, drop-cons commands index d within) refl

@@ -2,7 +2,7 @@ use Rattle.std.proofs.Common.{◌≡◌, ◌++◌, [], drop}
 use Rattle.art_nodes.specs.Commands.{run_of}
 use Rattle.art_nodes.proofs.commands.replay.replay.Given as goal
 
--- the replies so far and those to what is left are those to all, and what is left leads to the same children
+-- the replies so far and those to the remaining commands are those to all, and the remaining commands lead to the same children
 abbrev pub invariant-loop-command : goal.invariant-loop-command
 invariant-loop-command g l =
     let rest = run_of l.node.children (drop l.command-index l.commands) in

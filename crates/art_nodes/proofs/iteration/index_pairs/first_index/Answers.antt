@@ -6,7 +6,7 @@ use Rattle.std.proofs.Math.Numerals.{add-one}
 use Rattle.std.proofs.Common.{◌≡◌, ℕ, suc, ◌+◌, ◌<◌, List, ◌∷◌, length, drop, get_or, map, refl, arith, ◌∙◌}
 use Rattle.art_nodes.proofs.iteration.index_pairs.first_index.Goals as goal
 
--- the first place that is left, whether it has an index
+-- the first remaining place, whether or not it has an index
 place_left : (byte place : ℕ) (places : List ℕ) → place < length places → table_children byte (map index_of (drop place places)) ≡ table_children byte (index_of (get_or places place 0) ∷ map index_of (drop (place + 1) places))
 place_left byte place places within = rw (add-one, drop-cons places place 0 within) refl
 

@@ -1,4 +1,4 @@
--- `entry_mut` lends the key and the value, and the leaf follows both. Assumes `Logic`.
+-- `entry_mut` borrows the key and the value, and the leaf follows both. Assumes `Logic`.
 --     cut, back     a leaf in memory is its key, its value and the rest, and back at any key and value
 --     lends         the leaf's borrow becomes one of the key and one of the value, under new names
 use Prim.Native.Nat.{ℕ, zero, ◌+◌}

@@ -1,4 +1,4 @@
--- The test says whether the bytes are a front of the key's text.
+-- The result is whether the bytes are a prefix of the key's text.
 use Rattle.std.proofs.Common.{◌≡◌, drop, length, sym, ◌∙◌}
 use Rattle.std.proofs.lemmas.Bool.Decides.{Decides-eqb}
 use Rattle.std.proofs.lemmas.Slice.Eq.{starts_is}

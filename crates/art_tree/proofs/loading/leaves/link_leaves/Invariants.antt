@@ -5,7 +5,7 @@ use Rattle.art_arena.specs.Arena.{room, SameOtherRoom}
 use Rattle.art_tree.proofs.Load.LeafLists.{IsLinking}
 use Rattle.art_tree.proofs.loading.leaves.link_leaves.Given as goal
 
--- the entries so far have their leaves, and there is room and memory for the others
+-- the entries so far have their leaves, and there is spare capacity and memory for the others
 abbrev pub invariant-moving : goal.invariant-moving
 invariant-moving g l = record {
   linking : IsLinking l.initial.arena l.arena l.fn.entries.items (into_iter_items l.rest) l.leaves.items;

@@ -1,7 +1,7 @@
 use Rattle.std.proofs.Common.{◌≡◌, ◌++◌}
 use Rattle.art_nodes.proofs.inner_nodes.traits.node.InnerNodeCommon.any_child_prefer_leaf.Given as goal
 
--- the pairs so far and those that are left are the node's
+-- the pairs so far and the remaining pairs are the node's
 abbrev pub invariant-loop-child : goal.invariant-loop-child
 invariant-loop-child g l = record {
   callable : (goal.iterator-loop-child g).can_next l.child-iterator;
