@@ -1,22 +1,25 @@
 """What both benches measure of a run of the program: seconds, output and peak memory.
 
-The built program is run itself: the launcher looks first whether a source has changed, which takes
+The proved program is run itself: the launcher looks first whether a source has changed, which takes
 longer than a short run, and as long for any input.
 """
 
 import fcntl
 import pathlib
 import subprocess
+import sys
 import time
 
 REPOSITORY = pathlib.Path(__file__).resolve().parent.parent
-LAUNCHER = REPOSITORY / "artnodes"
+PROVE = REPOSITORY / "prove"
 PROGRAM = REPOSITORY / "crates" / "art_cli" / "out" / "art_cli"
 
 
 def build():
-    """Has the launcher build the program, where a source has changed."""
-    subprocess.run([LAUNCHER, "replay"], input=b"", stdout=subprocess.DEVNULL, check=True)
+    """Proves and builds the program where no proved one is there, or a source has changed."""
+    proved = subprocess.run([PROVE, "art_cli"], stdin=subprocess.DEVNULL, stdout=subprocess.DEVNULL)
+    if proved.returncode != 0:
+        sys.exit("bench: there is no proved program to measure")
 
 
 def seconds_of_run(words, given_path):
