@@ -1,5 +1,5 @@
-mod Find
-mod Shared
-mod Load
-mod Insert
-mod Remove
+mod FindLemmas
+mod SharedLemmas
+mod LoadLemmas
+mod InsertLemmas
+mod RemoveLemmas

@@ -2,7 +2,7 @@ use Rattle.std.proofs.Common.{◌≡◌, ◌<◌, ◌≤◌, ◌+◌, length}
 use Rattle.art_nodes.specs.declared.pointers.OpaqueNodePtr.{OpaqueNodePtr as PointerTo}
 use Rattle.art_arena.specs.Standing.{IsTreeIn}
 use Rattle.art_arena.specs.Trees.{Tree}
-use Rattle.art_tree.proofs.Find.WayLemmas.{IsHere}
+use Rattle.art_tree.proofs.FindLemmas.WayLemmas.{IsHere}
 use Rattle.art_tree.proofs.find.find_leaf.Given as goal
 
 -- within the key, with a node visit left for each byte that is left and one more, at the part of

@@ -1,6 +1,6 @@
 use Rattle.std.proofs.Common.{ap}
 use Rattle.art_arena.specs.Reader.{shown}
-use Rattle.art_tree.proofs.Find.DescentLemmas.{leads-on-from, leads-nowhere-from}
+use Rattle.art_tree.proofs.FindLemmas.DescentLemmas.{leads-on-from, leads-nowhere-from}
 use Rattle.art_tree.proofs.find.next_child.Goals as goal
 
 pub returns-in-Node4-clause-on : goal.returns-in-Node4-clause-on

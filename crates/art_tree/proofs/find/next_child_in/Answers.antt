@@ -1,7 +1,7 @@
 use Rattle.std.proofs.Common.{◌∙◌, ◌+◌, Some, sym, ap, arith}
 use Rattle.std.proofs.lemmas.Option.{slice_get-get_or}
-use Rattle.art_tree.proofs.Find.DescentLemmas.{from-match, is-match, is-mismatch, step-mismatched, step-childless, step-on}
-use Rattle.art_tree.proofs.Insert.NodeLemmas.{if-none}
+use Rattle.art_tree.proofs.FindLemmas.DescentLemmas.{from-match, is-match, is-mismatch, step-mismatched, step-childless, step-on}
+use Rattle.art_tree.proofs.InsertLemmas.NodeLemmas.{if-none}
 use Rattle.art_tree.proofs.find.next_child_in.Goals as goal
 
 pub returns-in_err-matched-clause-nowhere : goal.returns-in_err-matched-clause-nowhere

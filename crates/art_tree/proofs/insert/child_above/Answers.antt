@@ -4,7 +4,7 @@ use Rattle.std.specs.declared.ops.Bound.TheVariants.{Excluded, Unbounded}
 use Rattle.art_nodes.specs.ChildMap.{first_pair, pairs_within}
 use Rattle.art_arena.specs.Arena.{held}
 use Rattle.art_arena.specs.Reader.{shown}
-use Rattle.art_tree.proofs.Insert.NodeLemmas.{one-inner}
+use Rattle.art_tree.proofs.InsertLemmas.NodeLemmas.{one-inner}
 use Rattle.art_tree.proofs.insert.child_above.Goals as goal
 
 pub returns-in-Node4 : goal.returns-in-Node4

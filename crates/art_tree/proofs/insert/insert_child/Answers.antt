@@ -8,10 +8,10 @@ use Rattle.art_arena.specs.Links.{text_at}
 use Rattle.art_tree.specs.Edits.{HasGap, HasRoomToGrow, LiesBeside}
 use Rattle.art_tree.specs.Hanging.{CanHang, HasPlaceAt}
 use Rattle.art_tree.specs.Search.{leaf_pointer}
-use Rattle.art_tree.proofs.Insert.AddedChild.{ChildAdded, child-added, child-gap, child-hangs, child-lies, child-reserved, linked-absent, linked-held, linked-room, place-there, there-held, there-inner}
-use Rattle.art_tree.proofs.Insert.AddedLeaf.{entered-from}
-use Rattle.art_tree.proofs.Shared.ParentLemmas.{err-then, ok-then}
-use Rattle.art_tree.proofs.Insert.NodeLemmas.{leaf-pointer-fits}
+use Rattle.art_tree.proofs.InsertLemmas.AddedChild.{ChildAdded, child-added, child-gap, child-hangs, child-lies, child-reserved, linked-absent, linked-held, linked-room, place-there, there-held, there-inner}
+use Rattle.art_tree.proofs.InsertLemmas.AddedLeaf.{entered-from}
+use Rattle.art_tree.proofs.SharedLemmas.ParentLemmas.{err-then, ok-then}
+use Rattle.art_tree.proofs.InsertLemmas.NodeLemmas.{leaf-pointer-fits}
 use Rattle.art_tree.proofs.insert.insert_child.Goals as goal
 
 pub reserve_for_child-requires : goal.reserve_for_child-requires

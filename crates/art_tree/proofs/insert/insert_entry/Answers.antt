@@ -6,9 +6,9 @@ use Rattle.art_tree.specs.Art.{IsArt, IsAlone}
 use Rattle.art_tree.specs.Dictionary.{Clashes}
 use Rattle.art_tree.specs.Places.{LacksChild, Parts}
 use Rattle.art_tree.specs.Search.{leaf_pointer}
-use Rattle.art_tree.proofs.Insert.EntryLemmas.{answered, apart-new, child-apart, clash-entry, empty-new, empty-stays, fork-apart, leaf-is-held, no-clash}
-use Rattle.art_tree.proofs.Shared.ExchangedTree.{entries-stay}
-use Rattle.art_tree.proofs.Insert.NodeLemmas.{leaf-pointer-fits, spot-fits}
+use Rattle.art_tree.proofs.InsertLemmas.EntryLemmas.{answered, apart-new, child-apart, clash-entry, empty-new, empty-stays, fork-apart, leaf-is-held, no-clash}
+use Rattle.art_tree.proofs.SharedLemmas.ExchangedTree.{entries-stay}
+use Rattle.art_tree.proofs.InsertLemmas.NodeLemmas.{leaf-pointer-fits, spot-fits}
 use Rattle.art_tree.proofs.insert.insert_entry.Goals as goal
 
 pub returns-in_default : goal.returns-in_default

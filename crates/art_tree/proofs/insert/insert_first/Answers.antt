@@ -3,8 +3,8 @@ use Rattle.art_header.specs.declared.node_type.NodeType.TheVariants as kinds
 use Rattle.art_arena.specs.Trees.{Leaf}
 use Rattle.art_tree.specs.Art.{IsAlone}
 use Rattle.art_tree.specs.Search.{leaf_pointer}
-use Rattle.art_tree.proofs.Insert.FirstEntry.{first-alone, first-entered}
-use Rattle.art_tree.proofs.Shared.RoomLemmas.{none-left}
+use Rattle.art_tree.proofs.InsertLemmas.FirstEntry.{first-alone, first-entered}
+use Rattle.art_tree.proofs.SharedLemmas.RoomLemmas.{none-left}
 use Rattle.art_tree.proofs.insert.insert_first.Goals as goal
 
 pub returns-in-Ok-clause-art : goal.returns-in-Ok-clause-art

@@ -9,10 +9,10 @@ use Rattle.art_arena.specs.Standing.{TreeAt}
 use Rattle.art_tree.specs.Edits.{HasGap, LiesBeside}
 use Rattle.art_tree.specs.Hanging.{CanHang}
 use Rattle.art_tree.specs.Search.{leaf_pointer}
-use Rattle.art_tree.proofs.Insert.AddedLeaf.{entered-from}
-use Rattle.art_tree.proofs.Insert.AddedFork.{beside-there, fork-added, fork-hangs, fork-reserved, gap-there, index-within, lies-there, linked-held, new-leaf-held, sibling-held, text-there, tree-there, within-there}
-use Rattle.art_tree.proofs.Shared.ParentLemmas.{err-then, ok-then}
-use Rattle.art_tree.proofs.Insert.NodeLemmas.{leaf-pointer-fits}
+use Rattle.art_tree.proofs.InsertLemmas.AddedLeaf.{entered-from}
+use Rattle.art_tree.proofs.InsertLemmas.AddedFork.{beside-there, fork-added, fork-hangs, fork-reserved, gap-there, index-within, lies-there, linked-held, new-leaf-held, sibling-held, text-there, tree-there, within-there}
+use Rattle.art_tree.proofs.SharedLemmas.ParentLemmas.{err-then, ok-then}
+use Rattle.art_tree.proofs.InsertLemmas.NodeLemmas.{leaf-pointer-fits}
 use Rattle.art_tree.proofs.insert.insert_fork.Goals as goal
 
 pub end_leaf-sibling-requires : goal.end_leaf-sibling-requires

@@ -1,6 +1,6 @@
 use Rattle.art_arena.specs.Standing.{TreeAt}
 use Rattle.art_tree.specs.Search.{leaf_pointer}
-use Rattle.art_tree.proofs.Shared.ParentLemmas.{first-after, none-after, at-first, at-node, beside-first, beside-last}
+use Rattle.art_tree.proofs.SharedLemmas.ParentLemmas.{first-after, none-after, at-first, at-node, beside-first, beside-last}
 use Rattle.art_tree.proofs.insert.leaf_beside.Goals as goal
 
 pub end_leaf-requires : goal.end_leaf-requires

@@ -3,10 +3,10 @@ use Rattle.art_nodes.specs.Leaf.{leaf_key, leaf_value, previous_key, next_key}
 use Rattle.art_nodes.specs.Pointers.{slab_key}
 use Rattle.art_arena.specs.Links.{Spells, leaf_at}
 use Rattle.art_tree.specs.Search.{leaf_pointer}
-use Rattle.art_tree.proofs.Shared.DictionaryLemmas.{leaf-held-in}
-use Rattle.art_tree.proofs.Insert.FirstEntry.{replaced-alone, replaced-entered, replaced-was}
-use Rattle.art_tree.proofs.Insert.NodeLemmas.{one-leaf}
-use Rattle.art_tree.proofs.Load.PlacedTrees.{leaf-of}
+use Rattle.art_tree.proofs.SharedLemmas.DictionaryLemmas.{leaf-held-in}
+use Rattle.art_tree.proofs.InsertLemmas.FirstEntry.{replaced-alone, replaced-entered, replaced-was}
+use Rattle.art_tree.proofs.InsertLemmas.NodeLemmas.{one-leaf}
+use Rattle.art_tree.proofs.LoadLemmas.PlacedTrees.{leaf-of}
 use Rattle.art_tree.proofs.insert.replace_entry.Goals as goal
 
 pub returns-clause-entered : goal.returns-clause-entered

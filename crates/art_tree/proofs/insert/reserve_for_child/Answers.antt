@@ -1,8 +1,8 @@
 use Rattle.std.proofs.Common.{◌≢◌, ◌∙◌, lit<, sym, subst, arith}
 use Rattle.art_header.specs.declared.node_type.NodeType.TheVariants.{Leaf}
 use Rattle.art_arena.specs.Arena.{Nothing}
-use Rattle.art_tree.proofs.Shared.ParentLemmas.{always-err, always-ok}
-use Rattle.art_tree.proofs.Shared.RoomLemmas.{lacked-on-err, none-left}
+use Rattle.art_tree.proofs.SharedLemmas.ParentLemmas.{always-err, always-ok}
+use Rattle.art_tree.proofs.SharedLemmas.RoomLemmas.{lacked-on-err, none-left}
 use Rattle.art_tree.proofs.insert.reserve_for_child.Goals as goal
 
 pub reserve_growth-requires : goal.reserve_growth-requires

@@ -1,8 +1,8 @@
 use Rattle.std.proofs.Common.{◌∙◌, ◌<◌, arith}
 use Rattle.art_header.specs.declared.node_type.NodeType.TheVariants.{Leaf, Node4}
 use Rattle.art_arena.specs.Arena.{room}
-use Rattle.art_tree.proofs.Shared.ParentLemmas.{always-err, always-ok}
-use Rattle.art_tree.proofs.Shared.RoomLemmas.{lacked-on-err, lacks-on-err, none-left}
+use Rattle.art_tree.proofs.SharedLemmas.ParentLemmas.{always-err, always-ok}
+use Rattle.art_tree.proofs.SharedLemmas.RoomLemmas.{lacked-on-err, lacks-on-err, none-left}
 use Rattle.art_tree.proofs.insert.reserve_for_fork.Goals as goal
 
 pub returns-clause-leaf_room : goal.returns-clause-leaf_room

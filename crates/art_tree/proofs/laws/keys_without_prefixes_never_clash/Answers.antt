@@ -1,4 +1,4 @@
-use Rattle.art_tree.proofs.Shared.ClashLemmas.{never-clash, never-clash-in}
+use Rattle.art_tree.proofs.SharedLemmas.ClashLemmas.{never-clash, never-clash-in}
 use Rattle.art_tree.proofs.laws.keys_without_prefixes_never_clash.Goals as goal
 
 pub returns-clause-keys : goal.returns-clause-keys

@@ -1,6 +1,6 @@
 use Rattle.std.proofs.Common.{◌≡◌, []}
 use Rattle.art_arena.specs.Trees.{texts}
-use Rattle.art_tree.proofs.Shared.SameEntries.{same-texts}
+use Rattle.art_tree.proofs.SharedLemmas.SameEntries.{same-texts}
 use Rattle.art_tree.proofs.laws.the_same_entries_make_the_same_tree.Goals as goal
 
 pub returns : goal.returns

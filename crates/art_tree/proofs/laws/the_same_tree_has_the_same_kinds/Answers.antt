@@ -1,4 +1,4 @@
-use Rattle.art_tree.proofs.Shared.SameKinds.{same-kinds}
+use Rattle.art_tree.proofs.SharedLemmas.SameKinds.{same-kinds}
 use Rattle.art_tree.proofs.laws.the_same_tree_has_the_same_kinds.Goals as goal
 
 pub returns : goal.returns

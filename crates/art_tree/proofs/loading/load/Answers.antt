@@ -2,8 +2,8 @@ use Rattle.std.proofs.Common.{All, ◌∙◌, refl, sym, subst, arith, rules, li
 use Rattle.std.proofs.lemmas.List.{length-map}
 use Rattle.art_tree.specs.Plan.{IsPlanOf}
 use Rattle.art_tree.specs.Refusals.{texts_of, HaveNoFault}
-use Rattle.art_tree.proofs.Load.RefusalLemmas.{loadable}
-use Rattle.art_tree.proofs.Load.LoadedTree.{loaded-same}
+use Rattle.art_tree.proofs.LoadLemmas.RefusalLemmas.{loadable}
+use Rattle.art_tree.proofs.LoadLemmas.LoadedTree.{loaded-same}
 use Rattle.art_tree.proofs.loading.load.Goals as goal
 
 pub prepare-requires : goal.prepare-requires

@@ -2,8 +2,8 @@ use Rattle.std.proofs.Common.{◌<◌, ◌^◌, ℕ, length, ap, sym, subst, ari
 use Rattle.art_tree.specs.Plan.{IsPlanOf, needed}
 use Rattle.art_tree.specs.Refusals.{text_of_entry, texts_of}
 use Rattle.art_tree.specs.Loading.{AreLinked}
-use Rattle.art_tree.proofs.Load.LeafLists.{hold-held, hold-texts, hold-count}
-use Rattle.art_tree.proofs.Load.LoadedTree.{all-short, loaded}
+use Rattle.art_tree.proofs.LoadLemmas.LeafLists.{hold-held, hold-texts, hold-count}
+use Rattle.art_tree.proofs.LoadLemmas.LoadedTree.{all-short, loaded}
 use Rattle.art_tree.proofs.loading.make.Goals as goal
 
 pub raise-requires : goal.raise-requires

@@ -2,8 +2,8 @@ use Rattle.std.proofs.Common.{◌∙◌, lit<, arith}
 use Rattle.art_header.specs.declared.node_type.NodeType.TheVariants.{Node4, Node16, Node48, Leaf}
 use Rattle.art_arena.specs.Arena.{room}
 use Rattle.art_tree.specs.Plan.{needed}
-use Rattle.art_tree.proofs.Insert.NodeLemmas.{kinds-apart}
-use Rattle.art_tree.proofs.Load.PlacedTrees.{each-kind, on-ok-then}
+use Rattle.art_tree.proofs.InsertLemmas.NodeLemmas.{kinds-apart}
+use Rattle.art_tree.proofs.LoadLemmas.PlacedTrees.{each-kind, on-ok-then}
 use Rattle.art_tree.proofs.loading.reserve_nodes.Goals as goal
 
 pub returns-in_err-reserve-clause-leaf_room : goal.returns-in_err-reserve-clause-leaf_room

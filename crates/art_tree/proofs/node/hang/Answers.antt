@@ -4,7 +4,7 @@ use Rattle.art_header.specs.declared.node_type.NodeType.TheVariants.{Leaf}
 use Rattle.art_nodes.specs.Inner.{Inner, HasRoomFor}
 use Rattle.art_nodes.specs.Pointers.{node_kind}
 use Rattle.art_arena.specs.Arena.{held, HeldInner, Nothing}
-use Rattle.art_tree.proofs.Shared.ParentLemmas.{is-parent}
+use Rattle.art_tree.proofs.SharedLemmas.ParentLemmas.{is-parent}
 use Rattle.art_tree.proofs.node.hang.Goals as goal
 
 pub write_child-requires : goal.write_child-requires

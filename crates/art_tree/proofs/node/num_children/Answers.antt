@@ -3,7 +3,7 @@ use Rattle.std.specs.Option.{option_copied}
 use Rattle.art_header.specs.NodeType.{most_children}
 use Rattle.art_nodes.specs.Pointers.{node_kind}
 use Rattle.art_arena.specs.Arena.{held}
-use Rattle.art_tree.proofs.Insert.NodeLemmas.{header-of-held}
+use Rattle.art_tree.proofs.InsertLemmas.NodeLemmas.{header-of-held}
 use Rattle.art_tree.proofs.node.num_children.Goals as goal
 
 pub returns-clause-count : goal.returns-clause-count

@@ -3,8 +3,8 @@ use Rattle.art_nodes.specs.Pointers.{slab_key, node_kind, opaque_key, opaque_poi
 use Rattle.art_arena.specs.Arena.{held, Nothing, HeldInner, Changes, room}
 use Rattle.art_arena.specs.Links.{leaf_at}
 use Rattle.art_tree.specs.Nodes.{node_of}
-use Rattle.art_tree.proofs.Insert.NodeLemmas.{text-of-key}
-use Rattle.art_tree.proofs.Load.PlacedTrees.{placed, if-ok, on-ok}
+use Rattle.art_tree.proofs.InsertLemmas.NodeLemmas.{text-of-key}
+use Rattle.art_tree.proofs.LoadLemmas.PlacedTrees.{placed, if-ok, on-ok}
 use Rattle.art_tree.proofs.node.place_as.Goals as goal
 
 pub returns : goal.returns

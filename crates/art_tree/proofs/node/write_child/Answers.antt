@@ -1,7 +1,7 @@
 use Rattle.std.proofs.Common.{lit<, sym, ap}
 use Rattle.art_nodes.specs.Inner.{node_with_child}
 use Rattle.art_nodes.specs.Pointers.{node_kind}
-use Rattle.art_tree.proofs.Insert.NodeLemmas.{room-there, edited-there}
+use Rattle.art_tree.proofs.InsertLemmas.NodeLemmas.{room-there, edited-there}
 use Rattle.art_tree.proofs.node.write_child.Goals as goal
 
 pub write_child-requires : goal.write_child-requires

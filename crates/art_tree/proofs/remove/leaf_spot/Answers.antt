@@ -1,6 +1,6 @@
 use Rattle.std.proofs.Common.{subst}
 use Rattle.art_tree.specs.Search.{IsPathTo}
-use Rattle.art_tree.proofs.Remove.WayContexts.{leaf-child, leaf-normal}
+use Rattle.art_tree.proofs.RemoveLemmas.WayContexts.{leaf-child, leaf-normal}
 use Rattle.art_tree.proofs.remove.leaf_spot.Goals as goal
 
 pub returns-in-ChildOfRoot-clause-spot : goal.returns-in-ChildOfRoot-clause-spot

@@ -6,12 +6,12 @@ use Rattle.art_tree.specs.Dictionary.{entry_at}
 use Rattle.art_tree.specs.Dropping.{IsLeafSpot}
 use Rattle.art_tree.specs.Removal.{IsLeft, NeedsSmallerNode}
 use Rattle.art_tree.specs.Search.{IsPathTo, leaf_pointer}
-use Rattle.art_tree.proofs.Shared.DictionaryLemmas.{no-entry}
-use Rattle.art_tree.proofs.Shared.ExchangedTree.{entries-stay}
-use Rattle.art_tree.proofs.Shared.ParentLemmas.{always-err}
-use Rattle.art_tree.proofs.Remove.RemovalLemmas.{hangs-in, is-found}
-use Rattle.art_tree.proofs.Remove.WayContexts.{leaf-root}
-use Rattle.art_tree.proofs.Insert.NodeLemmas.{leaf-pointer-fits, spot-fits}
+use Rattle.art_tree.proofs.SharedLemmas.DictionaryLemmas.{no-entry}
+use Rattle.art_tree.proofs.SharedLemmas.ExchangedTree.{entries-stay}
+use Rattle.art_tree.proofs.SharedLemmas.ParentLemmas.{always-err}
+use Rattle.art_tree.proofs.RemoveLemmas.RemovalLemmas.{hangs-in, is-found}
+use Rattle.art_tree.proofs.RemoveLemmas.WayContexts.{leaf-root}
+use Rattle.art_tree.proofs.InsertLemmas.NodeLemmas.{leaf-pointer-fits, spot-fits}
 use Rattle.art_tree.proofs.remove.remove_entry.Goals as goal
 
 pub returns-in_default-clause-absent : goal.returns-in_default-clause-absent

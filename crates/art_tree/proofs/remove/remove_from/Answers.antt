@@ -7,9 +7,9 @@ use Rattle.art_arena.specs.Trees.{Tree}
 use Rattle.art_tree.specs.Art.{IsAlone}
 use Rattle.art_tree.specs.Dropping.{IsLeafSpot}
 use Rattle.art_tree.specs.Search.{leaf_pointer}
-use Rattle.art_tree.proofs.Shared.ParentLemmas.{inner-kind}
-use Rattle.art_tree.proofs.Insert.NodeLemmas.{some-inner}
-use Rattle.art_tree.proofs.Remove.RemovalLemmas.{parent-there}
+use Rattle.art_tree.proofs.SharedLemmas.ParentLemmas.{inner-kind}
+use Rattle.art_tree.proofs.InsertLemmas.NodeLemmas.{some-inner}
+use Rattle.art_tree.proofs.RemoveLemmas.RemovalLemmas.{parent-there}
 use Rattle.art_tree.proofs.remove.remove_from.Goals as goal
 
 pub num_children-requires : goal.num_children-requires

@@ -9,12 +9,12 @@ use Rattle.art_arena.specs.Links.{Spells}
 use Rattle.art_tree.specs.Cuts.{HasRoomToShrink}
 use Rattle.art_tree.specs.Hanging.{CanHang}
 use Rattle.art_tree.specs.Removal.{IsRemoved, NeedsSmallerNode}
-use Rattle.art_tree.proofs.Remove.RemovedLeaf.{removed-from}
-use Rattle.art_tree.proofs.Remove.RemovedChild.{cut-held, cut-many, cut-room, cut-there, is-cut, many-hangs, many-removed, needs-smaller, not-least}
-use Rattle.art_tree.proofs.Shared.ExchangedTree.{alone-same}
-use Rattle.art_tree.proofs.Shared.ParentLemmas.{always-err}
-use Rattle.art_tree.proofs.Remove.LeafParent.{leaf-place}
-use Rattle.art_tree.proofs.Remove.RemovalLemmas.{frees-leaf}
+use Rattle.art_tree.proofs.RemoveLemmas.RemovedLeaf.{removed-from}
+use Rattle.art_tree.proofs.RemoveLemmas.RemovedChild.{cut-held, cut-many, cut-room, cut-there, is-cut, many-hangs, many-removed, needs-smaller, not-least}
+use Rattle.art_tree.proofs.SharedLemmas.ExchangedTree.{alone-same}
+use Rattle.art_tree.proofs.SharedLemmas.ParentLemmas.{always-err}
+use Rattle.art_tree.proofs.RemoveLemmas.LeafParent.{leaf-place}
+use Rattle.art_tree.proofs.RemoveLemmas.RemovalLemmas.{frees-leaf}
 use Rattle.art_tree.proofs.remove.remove_from_many.Goals as goal
 
 pub reserve_shrink-requires : goal.reserve_shrink-requires

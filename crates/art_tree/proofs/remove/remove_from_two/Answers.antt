@@ -5,9 +5,9 @@ use Rattle.art_nodes.specs.Pointers.{node_kind, slab_key}
 use Rattle.art_arena.specs.Arena.{held, HeldInner, Nothing}
 use Rattle.art_arena.specs.Links.{Spells}
 use Rattle.art_tree.specs.Hanging.{CanHang}
-use Rattle.art_tree.proofs.Remove.MergedNode.{child-held, parent-held, parent-joined, parent-two, short-there, two-hangs, two-removed}
-use Rattle.art_tree.proofs.Remove.LeafParent.{leaf-place}
-use Rattle.art_tree.proofs.Remove.RemovalLemmas.{frees-two}
+use Rattle.art_tree.proofs.RemoveLemmas.MergedNode.{child-held, parent-held, parent-joined, parent-two, short-there, two-hangs, two-removed}
+use Rattle.art_tree.proofs.RemoveLemmas.LeafParent.{leaf-place}
+use Rattle.art_tree.proofs.RemoveLemmas.RemovalLemmas.{frees-two}
 use Rattle.art_tree.proofs.remove.remove_from_two.Goals as goal
 
 pub take_leaf-entry-requires : goal.take_leaf-entry-requires

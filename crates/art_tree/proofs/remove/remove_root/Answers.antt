@@ -4,7 +4,7 @@ use Rattle.art_nodes.specs.Pointers.{slab_key}
 use Rattle.art_arena.specs.Links.{Spells}
 use Rattle.art_arena.specs.Trees.{Leaf}
 use Rattle.art_tree.specs.Search.{leaf_pointer}
-use Rattle.art_tree.proofs.Remove.RemovalLemmas.{entry-was, frees-one, root-empty, root-left}
+use Rattle.art_tree.proofs.RemoveLemmas.RemovalLemmas.{entry-was, frees-one, root-empty, root-left}
 use Rattle.art_tree.proofs.remove.remove_root.Goals as goal
 
 pub take_leaf-requires : goal.take_leaf-requires

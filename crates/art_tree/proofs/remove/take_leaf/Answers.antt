@@ -1,7 +1,7 @@
 use Rattle.art_header.specs.declared.node_type.NodeType.TheVariants.{Leaf}
 use Rattle.art_nodes.specs.Pointers.{slab_key}
 use Rattle.art_arena.specs.Links.{HoldsLeaf, IsKnit}
-use Rattle.art_tree.proofs.Remove.RemovalLemmas.{frees-after, left-spelled, no-less-room, others-left, still-held, taken-entry}
+use Rattle.art_tree.proofs.RemoveLemmas.RemovalLemmas.{frees-after, left-spelled, no-less-room, others-left, still-held, taken-entry}
 use Rattle.art_tree.proofs.remove.take_leaf.Goals as goal
 
 pub remove_self-requires : goal.remove_self-requires

@@ -5,7 +5,7 @@ use Rattle.art_arena.specs.Links.{text_at}
 use Rattle.art_tree.specs.Edits.{two_children}
 use Rattle.art_tree.specs.Nodes.{node_of, IsPlaced}
 use Rattle.art_tree.specs.Search.{leaf_pointer}
-use Rattle.art_tree.proofs.Insert.NodeLemmas.{child-first, child-last}
+use Rattle.art_tree.proofs.InsertLemmas.NodeLemmas.{child-first, child-last}
 use Rattle.art_tree.proofs.insert.added_child.fork_node.Goals as goal
 use Rattle.art_tree.proofs.insert.added_child.fork_node.Goals.{then-fork, else-fork}
 

@@ -1,7 +1,7 @@
 use Rattle.std.proofs.Common.{◌∙◌, IsSome, sym, ap, arith}
 use Rattle.art_header.specs.NodeType.{most_children}
 use Rattle.art_arena.specs.Reader.{shown, shown_kind}
-use Rattle.art_tree.proofs.Insert.NodeLemmas.{few-where-absent, room-of-kind, moved-there}
+use Rattle.art_tree.proofs.InsertLemmas.NodeLemmas.{few-where-absent, room-of-kind, moved-there}
 use Rattle.art_tree.proofs.insert.added_child.grow_child.Goals as goal
 
 pub unwrap-requires : goal.unwrap-requires

@@ -1,7 +1,7 @@
 use Rattle.std.proofs.Common.{◌≢◌, ◌∙◌, length, ap, arith}
 use Rattle.art_header.specs.NodeType.{most_children}
 use Rattle.art_nodes.specs.Pointers.{node_kind}
-use Rattle.art_tree.proofs.Remove.ShrunkNode.{counted}
+use Rattle.art_tree.proofs.RemoveLemmas.ShrunkNode.{counted}
 use Rattle.art_tree.proofs.insert.added_child.is_full.Goals as goal
 
 pub returns-clause-full : goal.returns-clause-full

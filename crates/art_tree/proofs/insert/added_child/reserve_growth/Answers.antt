@@ -1,8 +1,8 @@
 use Rattle.std.proofs.Common.{◌≡◌, ◌∙◌, ℕ, ◌≤◌, lit<, sym, arith}
 use Rattle.std.proofs.lemmas.Bool.{false≢true}
 use Rattle.art_header.specs.declared.node_type.NodeType.TheVariants.{Leaf, Node16, Node48, Node256}
-use Rattle.art_tree.proofs.Insert.NodeLemmas.{kinds-apart}
-use Rattle.art_tree.proofs.Shared.RoomLemmas.{lacks-on-err}
+use Rattle.art_tree.proofs.InsertLemmas.NodeLemmas.{kinds-apart}
+use Rattle.art_tree.proofs.SharedLemmas.RoomLemmas.{lacks-on-err}
 use Rattle.art_tree.proofs.insert.added_child.reserve_growth.Goals as goal
 use Rattle.art_tree.proofs.insert.added_child.reserve_growth.Goals.{in-Node4, in-Node16, in-Node48}
 

@@ -1,5 +1,5 @@
 use Rattle.std.proofs.Common.{ℕ, ◌-◌, ◌<◌, ◌≤◌, arith}
-use Rattle.art_tree.proofs.Insert.PlaceLemmas.{depth-within}
+use Rattle.art_tree.proofs.InsertLemmas.PlaceLemmas.{depth-within}
 use Rattle.art_tree.proofs.insert.place.find_place.Goals as goal
 
 smaller : (all now next : ℕ) → now < next → next ≤ all → all - next < all - now

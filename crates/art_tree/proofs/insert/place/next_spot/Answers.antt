@@ -1,5 +1,5 @@
 use Rattle.std.proofs.Common.{lit<}
-use Rattle.art_tree.proofs.Insert.PlaceLemmas.{spot-held}
+use Rattle.art_tree.proofs.InsertLemmas.PlaceLemmas.{spot-held}
 use Rattle.art_tree.proofs.insert.place.next_spot.Goals as goal
 
 pub node_ref-requires : goal.node_ref-requires

@@ -1,7 +1,7 @@
 use Rattle.std.proofs.Common.{◌∙◌, ◌<◌, ◌≤◌, length, sym, arith}
 use Rattle.art_arena.specs.Standing.{TreeUnder}
-use Rattle.art_tree.proofs.Insert.PlaceLemmas.{depth-within, at-inner, below, node-tells, matched-within, node-clash, node-parts, node-lacks, node-leads}
-use Rattle.art_tree.proofs.Insert.NodeLemmas.{match-fits}
+use Rattle.art_tree.proofs.InsertLemmas.PlaceLemmas.{depth-within, at-inner, below, node-tells, matched-within, node-clash, node-parts, node-lacks, node-leads}
+use Rattle.art_tree.proofs.InsertLemmas.NodeLemmas.{match-fits}
 use Rattle.art_tree.proofs.insert.place.next_spot_in.Goals as goal
 
 pub match_full_prefix-requires : goal.match_full_prefix-requires

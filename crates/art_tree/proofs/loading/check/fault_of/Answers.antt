@@ -1,5 +1,5 @@
 use Rattle.std.proofs.Common.{◌∙◌, sym}
-use Rattle.art_tree.proofs.Load.RefusalLemmas.{text-there, fault-long}
+use Rattle.art_tree.proofs.LoadLemmas.RefusalLemmas.{text-there, fault-long}
 use Rattle.art_tree.proofs.loading.check.fault_of.Goals as goal
 
 pub returns-then-text-clause-fault : goal.returns-then-text-clause-fault

@@ -1,6 +1,6 @@
 use Rattle.std.proofs.Common.{◌∙◌, Some, arith, sym}
 use Rattle.std.proofs.lemmas.List.{length-map}
-use Rattle.art_tree.proofs.Load.RefusalLemmas.{not-none, first-fault}
+use Rattle.art_tree.proofs.LoadLemmas.RefusalLemmas.{not-none, first-fault}
 use Rattle.art_tree.proofs.loading.check.refusal_of.Goals as goal
 
 pub returns-clause-no_fault : goal.returns-clause-no_fault

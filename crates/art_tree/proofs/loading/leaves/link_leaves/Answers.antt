@@ -5,9 +5,9 @@ use Rattle.art_header.specs.declared.node_type.NodeType.TheVariants.{Leaf}
 use Rattle.art_nodes.specs.Pointers.{slab_key, opaque_pointer}
 use Rattle.art_arena.specs.Arena.{held, room, Nothing, HeldLeaf, Changes}
 use Rattle.art_tree.specs.Loading.{AreLinked}
-use Rattle.art_tree.proofs.Load.LeafLists.{none-linked, allocated, first-linked, next-linked, unlinked, sibling-knit, two-texts, last-split, none-left, less-same}
-use Rattle.art_tree.proofs.Load.RefusalLemmas.{forks-less}
-use Rattle.art_tree.proofs.Load.PlacedTrees.{if-ok, on-ok}
+use Rattle.art_tree.proofs.LoadLemmas.LeafLists.{none-linked, allocated, first-linked, next-linked, unlinked, sibling-knit, two-texts, last-split, none-left, less-same}
+use Rattle.art_tree.proofs.LoadLemmas.RefusalLemmas.{forks-less}
+use Rattle.art_tree.proofs.LoadLemmas.PlacedTrees.{if-ok, on-ok}
 use Rattle.art_tree.proofs.loading.leaves.link_leaves.Goals as goal
 use Rattle.art_tree.proofs.loading.leaves.link_leaves.Goals.{in-Some-last, in_default-last}
 

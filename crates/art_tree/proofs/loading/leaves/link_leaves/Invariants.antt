@@ -2,7 +2,7 @@ use Rattle.std.proofs.Common.{◌≤◌, ◌+◌, length, vec_capacity}
 use Rattle.std.specs.Vec.Iter.{into_iter_items, into_iter_len}
 use Rattle.art_header.specs.declared.node_type.NodeType.TheVariants.{Leaf}
 use Rattle.art_arena.specs.Arena.{room, SameOtherRoom}
-use Rattle.art_tree.proofs.Load.LeafLists.{IsLinking}
+use Rattle.art_tree.proofs.LoadLemmas.LeafLists.{IsLinking}
 use Rattle.art_tree.proofs.loading.leaves.link_leaves.Given as goal
 
 -- the entries so far have their leaves, and there is spare capacity and memory for the others

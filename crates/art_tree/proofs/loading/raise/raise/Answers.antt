@@ -9,8 +9,8 @@ use Rattle.art_arena.specs.Links.{text_at}
 use Rattle.art_tree.specs.Raising.{leaf_pairs}
 use Rattle.art_tree.specs.Search.{leaf_pointer}
 use Rattle.art_tree.specs.Plan.{Spans}
-use Rattle.art_tree.proofs.Load.PlanLemmas.{plan-leads}
-use Rattle.art_tree.proofs.Load.PlacedTrees.{IsRising, at_leaf, at_inner, rising-none, texts-of-pairs, pair-there, pointer-there, leaf-there, rise-leaf, rise-inner-called, one-pending, last-part, risen}
+use Rattle.art_tree.proofs.LoadLemmas.PlanLemmas.{plan-leads}
+use Rattle.art_tree.proofs.LoadLemmas.PlacedTrees.{IsRising, at_leaf, at_inner, rising-none, texts-of-pairs, pair-there, pointer-there, leaf-there, rise-leaf, rise-inner-called, one-pending, last-part, risen}
 use Rattle.art_tree.proofs.loading.raise.raise.Goals as goal
 use Rattle.art_tree.proofs.loading.raise.raise.Goals.{in-Leaf, in-Inner}
 

@@ -1,7 +1,7 @@
 use Rattle.std.proofs.Common.{◌≤◌, length, map, drop, vec_capacity}
 use Rattle.art_tree.specs.Raising.{leaf_pairs}
 use Rattle.art_tree.specs.Search.{leaf_pointer}
-use Rattle.art_tree.proofs.Load.PlacedTrees.{IsRising}
+use Rattle.art_tree.proofs.LoadLemmas.PlacedTrees.{IsRising}
 use Rattle.art_tree.proofs.loading.raise.raise.Given as goal
 
 -- the steps so far are done, and memory is left for every leaf

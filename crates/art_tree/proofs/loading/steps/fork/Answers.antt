@@ -1,6 +1,6 @@
 use Rattle.std.proofs.Common.{◌∙◌, sym, subst}
 use Rattle.art_tree.specs.Plan.{IsFork}
-use Rattle.art_tree.proofs.Load.RefusalLemmas.{fork-shared}
+use Rattle.art_tree.proofs.LoadLemmas.RefusalLemmas.{fork-shared}
 use Rattle.art_tree.proofs.loading.steps.fork.Goals as goal
 
 pub returns : goal.returns

@@ -5,7 +5,7 @@ use Rattle.art_tree.specs.Plan.{Forks, byte_before}
 use Rattle.art_tree.specs.Refusals.{texts_of, text_of_entry}
 use Rattle.art_tree.specs.declared.loading.steps.Open.{Open}
 use Rattle.art_tree.specs.declared.loading.steps.Step.TheVariants as step
-use Rattle.art_tree.proofs.Load.OpenNodes.{IsPlanned, IsClosing, Parts, entry-text, bytes-at, planned-path, parts-between, parts-last, closing-leaf, closing-some, closing-below, closing-node-called, closing-count, hang-new, hang-last, closed}
+use Rattle.art_tree.proofs.LoadLemmas.OpenNodes.{IsPlanned, IsClosing, Parts, entry-text, bytes-at, planned-path, parts-between, parts-last, closing-leaf, closing-some, closing-below, closing-node-called, closing-count, hang-new, hang-last, closed}
 use Rattle.art_tree.proofs.loading.steps.plan.Goals as goal
 use Rattle.art_tree.proofs.loading.steps.plan.Goals.{then-i-entries, else-i-entries, then-top-shared+in_ok-push-3, else-top-shared}
 

@@ -1,7 +1,7 @@
 use Rattle.std.proofs.Common.{◌≡◌, ◌<◌, length}
 use Rattle.art_tree.specs.Plan.{IsPlanOf}
 use Rattle.art_tree.specs.Refusals.{texts_of, text_of_entry}
-use Rattle.art_tree.proofs.Load.OpenNodes.{IsPlanned, IsClosing, Parts}
+use Rattle.art_tree.proofs.LoadLemmas.OpenNodes.{IsPlanned, IsClosing, Parts}
 use Rattle.art_tree.proofs.loading.steps.plan.Given as goal
 
 -- a plan of the entries so far, and at the end of all of them

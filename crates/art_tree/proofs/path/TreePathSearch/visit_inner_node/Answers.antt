@@ -1,6 +1,6 @@
 use Rattle.std.proofs.Common.{refl}
 use Rattle.art_tree.specs.Paths.{finished}
-use Rattle.art_tree.proofs.Find.PathSteps.{visit-kept, first-remembered, more-remembered}
+use Rattle.art_tree.proofs.FindLemmas.PathSteps.{visit-kept, first-remembered, more-remembered}
 use Rattle.art_tree.proofs.path.TreePathSearch.visit_inner_node.Goals.{in-NoNode, in-OneNode}
 use Rattle.art_tree.proofs.path.TreePathSearch.visit_inner_node.Goals as goal
 

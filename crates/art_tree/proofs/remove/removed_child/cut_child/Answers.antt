@@ -1,7 +1,7 @@
 use Rattle.std.proofs.Common.{sym, ap}
 use Rattle.art_nodes.specs.Inner.{node_without_child}
 use Rattle.art_nodes.specs.Pointers.{node_kind}
-use Rattle.art_tree.proofs.Insert.NodeLemmas.{edited-there}
+use Rattle.art_tree.proofs.InsertLemmas.NodeLemmas.{edited-there}
 use Rattle.art_tree.proofs.remove.removed_child.cut_child.Goals as goal
 
 pub returns-in-Node4-clause-cut : goal.returns-in-Node4-clause-cut

@@ -1,6 +1,6 @@
 use Rattle.std.proofs.Common.{◌∙◌, ap}
 use Rattle.art_header.specs.NodeType.{least_children}
-use Rattle.art_tree.proofs.Remove.ShrunkNode.{counted}
+use Rattle.art_tree.proofs.RemoveLemmas.ShrunkNode.{counted}
 use Rattle.art_tree.proofs.remove.removed_child.has_fewest.Goals as goal
 
 pub returns : goal.returns

@@ -3,9 +3,9 @@ use Rattle.std.specs.Option.{option_copied}
 use Rattle.art_header.specs.Header.{with_more}
 use Rattle.art_nodes.specs.Inner.{header_of, node_with_prefix_of}
 use Rattle.art_arena.specs.Arena.{held, HeldInner, Changes}
-use Rattle.art_tree.proofs.Remove.ShrunkNode.{joined-stands}
-use Rattle.art_tree.proofs.Shared.ParentLemmas.{inner-kind}
-use Rattle.art_tree.proofs.Insert.NodeLemmas.{header-held, one-inner}
+use Rattle.art_tree.proofs.RemoveLemmas.ShrunkNode.{joined-stands}
+use Rattle.art_tree.proofs.SharedLemmas.ParentLemmas.{inner-kind}
+use Rattle.art_tree.proofs.InsertLemmas.NodeLemmas.{header-held, one-inner}
 use Rattle.art_tree.proofs.remove.removed_child.join_prefix.Goals as goal
 
 pub push_prefix-requires : goal.push_prefix-requires

@@ -2,8 +2,8 @@ use Rattle.std.proofs.Common.{◌∙◌, ◌<◌, sym, ap, inl, inr, arith}
 use Rattle.std.proofs.lemmas.Bool.{false≢true}
 use Rattle.art_header.specs.NodeType.{least_children}
 use Rattle.art_nodes.specs.Pointers.{node_kind}
-use Rattle.art_tree.proofs.Shared.ParentLemmas.{always-err}
-use Rattle.art_tree.proofs.Shared.RoomLemmas.{lacks-on-err}
+use Rattle.art_tree.proofs.SharedLemmas.ParentLemmas.{always-err}
+use Rattle.art_tree.proofs.SharedLemmas.RoomLemmas.{lacks-on-err}
 use Rattle.art_tree.proofs.remove.removed_child.reserve_shrink.Goals as goal
 use Rattle.art_tree.proofs.remove.removed_child.reserve_shrink.Goals.{in-Node16, in-Node48, in-Node256}
 

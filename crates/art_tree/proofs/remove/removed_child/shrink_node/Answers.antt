@@ -1,7 +1,7 @@
 use Rattle.std.proofs.Common.{◌∙◌, IsSome, sym, ap, inl, inr, arith}
 use Rattle.art_arena.specs.Reader.{shown, shown_kind}
-use Rattle.art_tree.proofs.Remove.ShrunkNode.{smaller-room, few-there, replaced-there}
-use Rattle.art_tree.proofs.Insert.NodeLemmas.{if-some}
+use Rattle.art_tree.proofs.RemoveLemmas.ShrunkNode.{smaller-room, few-there, replaced-there}
+use Rattle.art_tree.proofs.InsertLemmas.NodeLemmas.{if-some}
 use Rattle.art_tree.proofs.remove.removed_child.shrink_node.Goals as goal
 
 pub shrink-shrunk-requires : goal.shrink-shrunk-requires

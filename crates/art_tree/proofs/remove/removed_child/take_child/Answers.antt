@@ -1,7 +1,7 @@
 use Rattle.std.proofs.Common.{length, lit<, refl, inl}
 use Rattle.art_header.specs.NodeType.{least_children}
 use Rattle.art_nodes.specs.Pointers.{node_kind}
-use Rattle.art_tree.proofs.Remove.ShrunkNode.{less-where-differ, cut-held, few-left, not-smallest, room-left, shrunk-left}
+use Rattle.art_tree.proofs.RemoveLemmas.ShrunkNode.{less-where-differ, cut-held, few-left, not-smallest, room-left, shrunk-left}
 use Rattle.art_tree.proofs.remove.removed_child.take_child.Goals as goal
 
 pub shrink_node-requires : goal.shrink_node-requires

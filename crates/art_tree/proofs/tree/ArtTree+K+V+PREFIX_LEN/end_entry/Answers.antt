@@ -2,9 +2,9 @@ use Rattle.std.proofs.Common.{◌∙◌, ap, sym, subst, []}
 use Rattle.art_nodes.specs.Pointers.{slab_key}
 use Rattle.art_tree.specs.Art.{IsArt}
 use Rattle.art_tree.specs.Dictionary.{entry_at}
-use Rattle.art_tree.proofs.Shared.DictionaryLemmas.{empty-entry, end-held, end-entry, end-within, if-some-none, slot-held}
-use Rattle.art_tree.proofs.Insert.NodeLemmas.{if-none}
-use Rattle.art_tree.proofs.Insert.NodeLemmas.{leaf-pointer-fits}
+use Rattle.art_tree.proofs.SharedLemmas.DictionaryLemmas.{empty-entry, end-held, end-entry, end-within, if-some-none, slot-held}
+use Rattle.art_tree.proofs.InsertLemmas.NodeLemmas.{if-none}
+use Rattle.art_tree.proofs.InsertLemmas.NodeLemmas.{leaf-pointer-fits}
 use Rattle.art_tree.proofs.tree.ArtTree+K+V+PREFIX_LEN.end_entry.Goals as goal
 
 pub returns-in_err-root : goal.returns-in_err-root

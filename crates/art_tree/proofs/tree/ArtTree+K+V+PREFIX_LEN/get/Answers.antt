@@ -3,7 +3,7 @@ use Rattle.std.specs.Option.{option_map}
 use Rattle.art_arena.specs.Standing.{IsTreeIn}
 use Rattle.art_tree.specs.Art.{IsArt}
 use Rattle.art_tree.specs.Dictionary.{entry_at}
-use Rattle.art_tree.proofs.Shared.DictionaryLemmas.{empty-entry, no-entry, scanned-entry, nothing-got}
+use Rattle.art_tree.proofs.SharedLemmas.DictionaryLemmas.{empty-entry, no-entry, scanned-entry, nothing-got}
 use Rattle.art_tree.proofs.tree.ArtTree+K+V+PREFIX_LEN.get.Goals as goal
 
 pub returns-in_err-root : goal.returns-in_err-root

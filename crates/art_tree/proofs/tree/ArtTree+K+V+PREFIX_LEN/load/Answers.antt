@@ -1,8 +1,8 @@
 use Rattle.std.proofs.Common.{[]}
 use Rattle.art_tree.specs.Refusals.{texts_of}
-use Rattle.art_tree.proofs.Shared.DictionaryLemmas.{alone-loaded, loaded-entry, loaded-text}
-use Rattle.art_tree.proofs.Shared.KeyLemmas.{keys-loaded}
-use Rattle.art_tree.proofs.Load.RefusalLemmas.{each-short}
+use Rattle.art_tree.proofs.SharedLemmas.DictionaryLemmas.{alone-loaded, loaded-entry, loaded-text}
+use Rattle.art_tree.proofs.SharedLemmas.KeyLemmas.{keys-loaded}
+use Rattle.art_tree.proofs.LoadLemmas.RefusalLemmas.{each-short}
 use Rattle.art_tree.proofs.tree.ArtTree+K+V+PREFIX_LEN.load.Goals as goal
 
 pub invariant_of-result : goal.invariant_of-result

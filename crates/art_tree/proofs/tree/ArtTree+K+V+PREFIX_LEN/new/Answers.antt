@@ -1,5 +1,5 @@
-use Rattle.art_tree.proofs.Shared.DictionaryLemmas.{empty-entry}
-use Rattle.art_tree.proofs.Shared.KeyLemmas.{keys-none}
+use Rattle.art_tree.proofs.SharedLemmas.DictionaryLemmas.{empty-entry}
+use Rattle.art_tree.proofs.SharedLemmas.KeyLemmas.{keys-none}
 use Rattle.art_tree.proofs.tree.ArtTree+K+V+PREFIX_LEN.new.Goals as goal
 
 pub invariant_of-result : goal.invariant_of-result

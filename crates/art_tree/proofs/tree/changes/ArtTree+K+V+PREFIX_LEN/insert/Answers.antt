@@ -2,8 +2,8 @@ use Rattle.std.proofs.Common.{◌≢◌, ◌∙◌, None, ap, subst}
 use Rattle.art_arena.specs.Arena.{SameRoom}
 use Rattle.art_tree.specs.Dictionary.{HasKeys, entry_at}
 use Rattle.art_tree.specs.Insertion.{MayEnter}
-use Rattle.art_tree.proofs.Shared.ExchangedTree.{art-same}
-use Rattle.art_tree.proofs.Shared.KeyLemmas.{keys-entered, keys-same}
+use Rattle.art_tree.proofs.SharedLemmas.ExchangedTree.{art-same}
+use Rattle.art_tree.proofs.SharedLemmas.KeyLemmas.{keys-entered, keys-same}
 use Rattle.art_tree.proofs.tree.changes.ArtTree+K+V+PREFIX_LEN.insert.Goals as goal
 
 pub invariant_of-self : goal.invariant_of-self

@@ -3,11 +3,11 @@ use Rattle.art_tree.specs.Art.{IsArt}
 use Rattle.art_tree.specs.Dictionary.{HasKeys, entry_at}
 use Rattle.art_tree.specs.Removal.{IsLeft, NeedsSmallerNode}
 use Rattle.art_tree.specs.Room.{FreesOneEach}
-use Rattle.art_tree.proofs.Shared.DictionaryLemmas.{empty-entry}
-use Rattle.art_tree.proofs.Shared.ExchangedTree.{art-same}
-use Rattle.art_tree.proofs.Shared.KeyLemmas.{keys-same, keys-left}
-use Rattle.art_tree.proofs.Insert.NodeLemmas.{if-some}
-use Rattle.art_tree.proofs.Remove.RemovalLemmas.{from-if-none}
+use Rattle.art_tree.proofs.SharedLemmas.DictionaryLemmas.{empty-entry}
+use Rattle.art_tree.proofs.SharedLemmas.ExchangedTree.{art-same}
+use Rattle.art_tree.proofs.SharedLemmas.KeyLemmas.{keys-same, keys-left}
+use Rattle.art_tree.proofs.InsertLemmas.NodeLemmas.{if-some}
+use Rattle.art_tree.proofs.RemoveLemmas.RemovalLemmas.{from-if-none}
 use Rattle.art_tree.proofs.tree.changes.ArtTree+K+V+PREFIX_LEN.remove.Goals as goal
 
 pub returns-in_default-clause-removed : goal.returns-in_default-clause-removed

@@ -1,0 +1,238 @@
+-- Search: the state of the descent, and one node visit more.
+use Rattle.std.proofs.Common.{Bool, IsTrue, Bor, IfSome, IfNone, ◌≡◌, ◌≢◌, ◌∙◌, ℕ, ◌+◌, ◌≤◌, true, false, List, [], ◌∷◌, ◌++◌, length, length-append, Option, Some, None, slice_get, drop, refl, sym, ap, subst, arith, nat_eq, append_assoc, if◌then◌else◌}
+use Rattle.std.specs.Cmp.Lexicographic.{pointwise}
+use Rattle.std.proofs.Math.Seq.{drop-append_seam}
+use Rattle.std.proofs.lemmas.List.{drop-drop, append-nil}
+use Rattle.art_bytes.specs.Text.{IsPrefixOf}
+use Rattle.art_header.specs.declared.node_type.NodeType.TheVariants as kinds
+use Rattle.art_nodes.specs.ChildMap.{child_at}
+use Rattle.art_nodes.specs.Inner as nodes
+use Rattle.art_nodes.specs.Pointers.{node_kind, opaque_key, slab_key}
+use Rattle.art_nodes.specs.declared.pointers.NodePtr.{NodePtr}
+use Rattle.art_nodes.specs.declared.pointers.OpaqueNodePtr.{OpaqueNodePtr}
+use Rattle.art_nodes.specs.declared.leaf_node.LeafNode.{LeafNode}
+use Rattle.art_arena.specs.Arena.{ArenaOf, Held, Nothing, HeldInner, HeldLeaf, held}
+use Rattle.art_arena.specs.Reader.{shown}
+use Rattle.art_arena.specs.declared.reader.AnyRef.{AnyRef}
+use Rattle.art_arena.specs.declared.reader.AnyRef.TheVariants as references
+use Rattle.art_arena.specs.Standing.{StandsIn, AllStandIn, NodeStands, IsTreeIn, leaf_text}
+use Rattle.art_arena.specs.Trees.{Tree, Leaf, Inner, Branches, IsSound, root_of, branch_roots}
+use Rattle.art_arena.proofs.StandingLaws.{shown-prefix}
+use Rattle.art_tree.specs.declared.path.TreePathSearch.{TreePathSearch}
+use Rattle.art_tree.specs.Descent.{LeadsOn, LeadsNowhere, LeadsOnFrom, LeadsNowhereFrom}
+use Rattle.art_tree.specs.Paths.{Steps, HasVisited}
+use Rattle.art_tree.specs.Search.{scan, met, IsWay, leaf_pointer}
+use Rattle.art_tree.proofs.FindLemmas.DescentLemmas.{prefix-goes}
+use Rattle.art_tree.proofs.FindLemmas.ScanLemmas.{scan-nowhere, met-nowhere, branching, other-text, text-itself}
+
+-- a leaf that was looked at is held on
+pub still-held : {K V : Type 0} {P : ℕ} (now arena : ArenaOf K V P) (at : OpaqueNodePtr K V P) (leaf : NodePtr P (LeafNode K V P)) (node : LeafNode K V P) → now ≡ arena → leaf_pointer leaf ≡ at → held arena at ≡ HeldLeaf node → held now (leaf_pointer leaf) ≢ Nothing
+still-held now arena at leaf node same pointer holds nothing =
+    let one : HeldLeaf node ≡ Nothing = sym holds ∙ ap (held arena) (sym pointer) ∙ ap (λ a. held a (leaf_pointer leaf)) (sym same) ∙ nothing in absurd (cc)
+
+-- a search is at this pointer, after so many bytes and node visits: what the whole tree has of the
+-- key is what this part has
+pub record IsHere {K V : Type 0} {P : ℕ} (text : K → List ℕ) (arena : ArenaOf K V P) (whole : Tree (OpaqueNodePtr K V P)) (key : List ℕ) (at : OpaqueNodePtr K V P) (depth : ℕ) (search : TreePathSearch K V P) (budget left : ℕ) : Type 0 where
+  pub part : Tree (OpaqueNodePtr K V P)
+  pub path : List ℕ
+  pub steps : Steps K V P
+  pub at_root : root_of part ≡ at
+  pub stands : StandsIn text arena part
+  pub sound : IsSound path part
+  pub deep : length path ≡ depth
+  pub same_scan : scan whole key ≡ scan part key
+  pub same_met : length (met P whole key) ≡ length steps + length (met P part (drop depth key))
+  pub way_on : (more : Steps K V P) (pointer : OpaqueNodePtr K V P) → IsWay part more pointer → IsWay whole (steps ++ more) pointer
+  pub remembered : HasVisited search steps
+  pub counted : left + length steps ≡ budget
+  pub few : length steps ≤ depth
+
+drop-front : (path front key : List ℕ) (depth : ℕ) → length path ≡ depth → IsPrefixOf (path ++ front) key → IsPrefixOf front (drop depth key)
+drop-front path front key depth deep (rest, is) = (rest, subst (λ m. drop m key ≡ front ++ rest) deep (ap (drop (length path)) (is ∙ append_assoc path front rest) ∙ drop-append_seam path (front ++ rest)))
+
+module _ {K V : Type 0} {P : ℕ} where
+  -- the pointer to a leaf is the pointer that it was cast from
+  pub leaf-pointer-is : (at : OpaqueNodePtr K V P) (leaf : NodePtr P (LeafNode K V P)) → node_kind at ≡ kinds.Leaf → slab_key leaf ≡ opaque_key at → leaf_pointer leaf ≡ at
+  leaf-pointer-is at leaf kind key = λ i. record { node_type = sym kind i; key = key i; leaf = record {} }
+
+module _ {K V : Type 0} {P : ℕ} (text : K → List ℕ) (arena : ArenaOf K V P) (whole : Tree (OpaqueNodePtr K V P)) (key : List ℕ) where
+  pub here-start : (root : OpaqueNodePtr K V P) (search : TreePathSearch K V P) (budget : ℕ) → IsTreeIn text arena root whole → HasVisited search [] → IsHere text arena whole key root 0 search budget budget
+  here-start root search budget is empty = record { part = whole; path = []; steps = []; at_root = is.at_root; stands = is.stands; sound = is.sound; deep = refl; same_scan = refl; same_met = omega arith; way_on = λ more pointer way. way; remembered = empty; counted = omega arith; few = omega arith }
+
+  module _ (at : OpaqueNodePtr K V P) (depth : ℕ) (search : TreePathSearch K V P) (budget left : ℕ) (here : IsHere text arena whole key at depth search budget left) where
+    -- something is held where the search is
+    pub here-held : held arena at ≢ Nothing
+    here-held = by_part here.part here.at_root here.stands
+      where
+        by_part : (part : Tree (OpaqueNodePtr K V P)) → root_of part ≡ at → StandsIn text arena part → held arena at ≢ Nothing
+        by_part (Leaf pointer x) root (leaf, holds, has) none = let wrong : HeldLeaf leaf ≡ Nothing = sym holds ∙ ap (held arena) root ∙ none in absurd (cc)
+        by_part (Inner pointer prefix branches) root (node, holds, shows, stand) none = let wrong : HeldInner node ≡ Nothing = sym holds ∙ ap (held arena) root ∙ none in absurd (cc)
+
+    -- the search is at a leaf
+    pub record AtLeaf (leaf : LeafNode K V P) : Type 0 where
+      pub same_scan : scan whole key ≡ (if pointwise nat_eq (leaf_text text leaf) key then (at, leaf_text text leaf) ∷ [] else [])
+      pub way : IsWay whole here.steps at
+      pub visits : length (met P whole key) ≡ length here.steps + 1
+
+    pub here-leaf : (leaf : LeafNode K V P) → held arena at ≡ HeldLeaf leaf → AtLeaf leaf
+    here-leaf leaf is = by_part here.part here.at_root here.stands here.same_scan here.same_met here.way_on
+      where
+        by_part : (part : Tree (OpaqueNodePtr K V P)) → root_of part ≡ at → StandsIn text arena part → scan whole key ≡ scan part key → length (met P whole key) ≡ length here.steps + length (met P part (drop depth key))
+            → ((more : Steps K V P) (pointer : OpaqueNodePtr K V P) → IsWay part more pointer → IsWay whole (here.steps ++ more) pointer) → AtLeaf leaf
+        by_part (Leaf pointer x) root (stored, holds, has) same_scan same_met way_on =
+            let one : HeldLeaf stored ≡ HeldLeaf leaf = sym holds ∙ ap (held arena) root ∙ is in
+            let same : stored ≡ leaf = cc in
+            let text_is : x ≡ leaf_text text leaf = sym has ∙ ap (leaf_text text) same in
+            record {
+              same_scan = same_scan ∙ rw (text_is, root) refl;
+              way = subst (λ steps. IsWay whole steps at) (append-nil here.steps) (way_on [] at (refl, sym root));
+              visits = same_met;
+            }
+        by_part (Inner pointer prefix branches) root (node, holds, shows, stand) same_scan same_met way_on =
+            let one : HeldInner node ≡ HeldLeaf leaf = sym holds ∙ ap (held arena) root ∙ is in absurd (cc)
+
+    module _ (node : nodes.Inner (OpaqueNodePtr K V P)) (is : held arena at ≡ HeldInner node) where
+      -- the node where the search is, as a part of the tree
+      record AtNode : Type 0 where
+        prefix : List ℕ
+        branches : Branches (OpaqueNodePtr K V P)
+        sound : IsSound here.path (Inner at prefix branches)
+        shows : NodeStands P node prefix branches
+        stand : AllStandIn text arena branches
+        same_scan : scan whole key ≡ scan (Inner at prefix branches) key
+        same_met : length (met P whole key) ≡ length here.steps + length (met P (Inner at prefix branches) (drop depth key))
+        way_on : (more : Steps K V P) (pointer : OpaqueNodePtr K V P) → IsWay (Inner at prefix branches) more pointer → IsWay whole (here.steps ++ more) pointer
+
+      at_node : AtNode
+      at_node = by_part here.part here.at_root here.stands here.sound here.same_scan here.same_met here.way_on
+        where
+          by_part : (part : Tree (OpaqueNodePtr K V P)) → root_of part ≡ at → StandsIn text arena part → IsSound here.path part → scan whole key ≡ scan part key → length (met P whole key) ≡ length here.steps + length (met P part (drop depth key))
+              → ((more : Steps K V P) (pointer : OpaqueNodePtr K V P) → IsWay part more pointer → IsWay whole (here.steps ++ more) pointer) → AtNode
+          by_part (Leaf pointer x) root (leaf, holds, has) sound same_scan same_met way_on = let one : HeldInner node ≡ HeldLeaf leaf = sym is ∙ sym (ap (held arena) root) ∙ holds in absurd (cc)
+          by_part (Inner pointer prefix branches) root (stored, holds, shows, stand) sound same_scan same_met way_on =
+              let one : HeldInner stored ≡ HeldInner node = sym holds ∙ ap (held arena) root ∙ is in
+              let node_is : stored ≡ node = cc in
+              record {
+                prefix = prefix;
+                branches = branches;
+                sound = sound;
+                stand = stand;
+                shows = subst (λ n. NodeStands P n prefix branches) node_is shows;
+                same_scan = same_scan;
+                same_met = same_met;
+                way_on = subst (λ h. (more : Steps K V P) (to : OpaqueNodePtr K V P) → IsWay (Inner h prefix branches) more to → IsWay whole (here.steps ++ more) to) root way_on;
+              }
+
+      module _ (n : AtNode) where
+        nowhere-scan : LeadsNowhere P node key depth → scan whole key ≡ []
+        nowhere-scan nowhere = n.same_scan ∙ scan-nowhere key (here.path ++ n.prefix) n.branches n.sound.2 (λ byte front.
+            subst (λ c. child_at c byte ≡ None) n.shows.children
+            (nowhere n.prefix byte (shown-prefix P node n.prefix n.branches n.shows) (prefix-goes P n.prefix byte (drop depth key)
+            (drop-front here.path (n.prefix ++ byte ∷ []) key depth here.deep (subst (λ f. IsPrefixOf f key) (append_assoc here.path n.prefix (byte ∷ [])) front)))))
+
+        nowhere-met : LeadsNowhere P node key depth → length (met P whole key) ≡ length here.steps + 1
+        nowhere-met nowhere =
+            let none = met-nowhere P n.prefix (drop depth key) n.branches (λ byte goes. subst (λ c. child_at c byte ≡ None) n.shows.children (nowhere n.prefix byte (shown-prefix P node n.prefix n.branches n.shows) goes)) in
+            n.same_met ∙ ap (λ below. length here.steps + length (at ∷ below)) none
+
+        on-at : (next : ℕ × OpaqueNodePtr K V P) → LeadsOn P node key depth next → (visited : TreePathSearch K V P) → ((steps : Steps K V P) (byte : ℕ) → slice_get key next.0 ≡ Some byte → HasVisited search steps → HasVisited visited (steps ++ (at, byte) ∷ []))
+            → (after : ℕ) → after + 1 ≡ left → IsHere text arena whole key next.1 (next.0 + 1) visited budget after
+        on-at next on visited visits after looked =
+            let far : length (here.path ++ n.prefix) ≡ depth + length n.prefix = omega (arith, length-append here.path n.prefix, here.deep) in
+            let place : next.0 ≡ length (here.path ++ n.prefix) = omega (arith, on.place, n.shows.prefix_len, far) in
+            let at_byte : slice_get key (length (here.path ++ n.prefix)) ≡ Some on.byte = subst (λ m. slice_get key m ≡ Some on.byte) place on.at_place in
+            let child : child_at (branch_roots n.branches) on.byte ≡ Some next.1 = subst (λ c. child_at c on.byte ≡ Some next.1) n.shows.children on.child in
+            let b = branching P n.prefix (drop depth key) {Stand = StandsIn text arena} {AllStand = AllStandIn text arena} (λ byte tree others both. both) (here.path ++ n.prefix) key n.branches 0 on.byte next.1 n.sound.2 n.stand n.sound.1 at_byte (on.goes n.prefix (shown-prefix P node n.prefix n.branches n.shows)) child in
+            let rest : drop (length n.prefix + 1) (drop depth key) ≡ drop (next.0 + 1) key = drop-drop (length n.prefix + 1) depth key ∙ ap (λ m. drop m key) (omega (arith, place, far)) in
+            record {
+              part = b.tree;
+              path = (here.path ++ n.prefix) ++ on.byte ∷ [];
+              steps = here.steps ++ (at, on.byte) ∷ [];
+              at_root = b.at_root;
+              stands = b.stands;
+              sound = b.sound;
+              deep = omega (arith, length-append (here.path ++ n.prefix) (on.byte ∷ []), place);
+              same_scan = n.same_scan ∙ b.same_scan;
+              same_met = n.same_met ∙ ap (λ below. length here.steps + length (at ∷ below)) (b.same_met ∙ ap (met P b.tree) rest) ∙ omega (arith, length-append here.steps ((at, on.byte) ∷ []));
+              way_on = λ more pointer way. subst (λ steps. IsWay whole steps pointer) (sym (append_assoc here.steps ((at, on.byte) ∷ []) more)) (n.way_on ((at, on.byte) ∷ more) pointer (on.byte, more, refl, b.way_on more pointer way));
+              remembered = visits here.steps on.byte on.at_place here.remembered;
+              counted = omega (arith, length-append here.steps ((at, on.byte) ∷ []), here.counted, looked);
+              few = omega (arith, length-append here.steps ((at, on.byte) ∷ []), here.few, on.place);
+            }
+
+      pub here-nowhere-scan : LeadsNowhere P node key depth → scan whole key ≡ []
+      here-nowhere-scan nowhere = nowhere-scan at_node nowhere
+
+      pub here-nowhere-met : LeadsNowhere P node key depth → length (met P whole key) ≡ length here.steps + 1
+      here-nowhere-met nowhere = nowhere-met at_node nowhere
+
+      pub here-on : (next : ℕ × OpaqueNodePtr K V P) → LeadsOn P node key depth next → (visited : TreePathSearch K V P) → ((steps : Steps K V P) (byte : ℕ) → slice_get key next.0 ≡ Some byte → HasVisited search steps → HasVisited visited (steps ++ (at, byte) ∷ []))
+          → (after : ℕ) → after + 1 ≡ left → IsHere text arena whole key next.1 (next.0 + 1) visited budget after
+      here-on next on visited visits after looked = on-at at_node next on visited visits after looked
+
+-- the result of a step from the inner node that was visited
+pub record Told {K V : Type 0} {P : ℕ} (arena : ArenaOf K V P) (key : List ℕ) (at : OpaqueNodePtr K V P) (depth : ℕ) (next : Option (ℕ × OpaqueNodePtr K V P)) : Type 0 where
+  pub node : nodes.Inner (OpaqueNodePtr K V P)
+  pub is : held arena at ≡ HeldInner node
+  pub on : IfSome next (LeadsOn P node key depth)
+  pub nowhere : IfNone next (LeadsNowhere P node key depth)
+
+module _ {K V : Type 0} {P : ℕ} (arena now : ArenaOf K V P) (key : List ℕ) (at : OpaqueNodePtr K V P) (depth : ℕ) (next : Option (ℕ × OpaqueNodePtr K V P)) (same : now ≡ arena) where
+  abbrev Ref : Type 0
+  Ref = AnyRef (nodes.Inner (OpaqueNodePtr K V P)) (nodes.Inner (OpaqueNodePtr K V P)) (nodes.Inner (OpaqueNodePtr K V P)) (nodes.Inner (OpaqueNodePtr K V P)) (LeafNode K V P)
+
+  abbrev inner-held : nodes.Inner (OpaqueNodePtr K V P) → Held (OpaqueNodePtr K V P) (LeafNode K V P)
+  inner-held node = HeldInner node
+
+  told-at : (node : nodes.Inner (OpaqueNodePtr K V P)) → held now at ≡ HeldInner node → IfSome next (LeadsOnFrom P (inner-held node) key depth) → IfNone next (LeadsNowhereFrom P (inner-held node) key depth) → Told arena key at depth next
+  told-at node holds on nowhere = record {
+    node = node;
+    is = ap (λ a. held a at) (sym same) ∙ holds;
+    on = of_some next on;
+    nowhere = of_none next nowhere;
+  }
+    where
+      of_some : (o : Option (ℕ × OpaqueNodePtr K V P)) → IfSome o (LeadsOnFrom P (inner-held node) key depth) → IfSome o (LeadsOn P node key depth)
+      of_some None h = h
+      of_some (Some way) h = h node refl
+
+      of_none : (o : Option (ℕ × OpaqueNodePtr K V P)) → IfNone o (LeadsNowhereFrom P (inner-held node) key depth) → IfNone o (LeadsNowhere P node key depth)
+      of_none None h = h node refl
+      of_none (Some way) h = h
+
+  -- a node that is no leaf is an inner node
+  pub told : (ref : Ref) → held now at ≡ shown ref → ((leaf : Bor (LeafNode K V P)) → ref ≡ references.LeafNode leaf → ⊥) → IfSome next (LeadsOnFrom P (shown ref) key depth) → IfNone next (LeadsNowhereFrom P (shown ref) key depth) → Told arena key at depth next
+  told (references.Node4 node) holds no_leaf on nowhere = told-at node.now holds on nowhere
+  told (references.Node16 node) holds no_leaf on nowhere = told-at node.now holds on nowhere
+  told (references.Node48 node) holds no_leaf on nowhere = told-at node.now holds on nowhere
+  told (references.Node256 node) holds no_leaf on nowhere = told-at node.now holds on nowhere
+  told (references.LeafNode leaf) holds no_leaf on nowhere = absurd (no_leaf leaf refl)
+
+module _ {A : Type 0} where
+  pub at-some : (Holds : A → Type 0) (o : Option A) (x : A) → o ≡ Some x → IfSome o Holds → Holds x
+  at-some Holds None x is holds = absurd (cc)
+  at-some Holds (Some y) x is holds = let same : y ≡ x = cc in subst Holds same holds
+
+  pub at-none : (Holds : Type 0) (o : Option A) → o ≡ None → IfNone o Holds → Holds
+  at-none Holds None is holds = holds
+  at-none Holds (Some y) is holds = absurd (cc)
+
+module _ {K V : Type 0} {P : ℕ} (arena : ArenaOf K V P) (key : List ℕ) (at : OpaqueNodePtr K V P) (depth : ℕ) (next : Option (ℕ × OpaqueNodePtr K V P)) (t : Told arena key at depth next) where
+  pub told-on : (way : ℕ × OpaqueNodePtr K V P) → next ≡ Some way → LeadsOn P t.node key depth way
+  told-on way is = at-some (LeadsOn P t.node key depth) next way is t.on
+
+  pub told-nowhere : next ≡ None → LeadsNowhere P t.node key depth
+  told-nowhere is = at-none (LeadsNowhere P t.node key depth) next is t.nowhere
+
+  pub told-later : (way : ℕ × OpaqueNodePtr K V P) → next ≡ Some way → depth ≤ way.0
+  told-later way is = let on = told-on way is in omega (arith, on.place)
+
+-- the result at a leaf, by its text
+pub leaf-hit : {H : Type 0} (answer : List (H × List ℕ)) (at : H) (text key : List ℕ) → answer ≡ (if pointwise nat_eq text key then (at, text) ∷ [] else []) → text ≡ key → answer ≡ (at, key) ∷ []
+leaf-hit answer at text key is same = is ∙ rw (subst (λ k. pointwise nat_eq text k ≡ true) same (text-itself text)) (ap (λ z. (at, z) ∷ []) same)
+
+pub leaf-miss : {H : Type 0} (answer : List (H × List ℕ)) (at : H) (text key : List ℕ) → answer ≡ (if pointwise nat_eq text key then (at, text) ∷ [] else []) → (text ≡ key → ⊥) → answer ≡ []
+leaf-miss answer at text key is never = is ∙ rw (other-text text key never) refl
+
+pub not-true : (test : Bool) → test ≡ false → IsTrue test → ⊥
+not-true test is holds = let wrong : false ≡ true = sym is ∙ holds in absurd (cc)

@@ -1,0 +1,220 @@
+-- Insertion: a new text and the entries that are there.
+use Rattle.std.proofs.Common.{◌≡◌, ◌≢◌, ◌⊎◌, ◌∙◌, ℕ, suc, ◌<◌, ◌^◌, List, [], ◌∷◌, ◌++◌, map, length, take, Contains, Option, Some, None, Result, Ok, Err, IfOk, IfErr, OnOk, OnErr, refl, sym, ap, subst, inl, inr, arith, append-nil}
+use Rattle.std.proofs.lemmas.Bool.{cases_eq, eq-eqb, ne_eqb}
+use Rattle.std.proofs.lemmas.List.Elements.{Contains-append_right, Contains-append_cases}
+use Rattle.art_bytes.specs.Text.{IsPrefixOf}
+use Rattle.art_nodes.specs.ChildMap.{child_at}
+use Rattle.art_nodes.specs.declared.pointers.OpaqueNodePtr.{OpaqueNodePtr}
+use Rattle.art_arena.specs.Arena.{ArenaOf, Nothing, held, SameNodes}
+use Rattle.art_arena.specs.Trees.{Tree, Leaf, Inner, Branches, NoBranch, Branch, branch_roots, root_of, leaves, branch_leaves, texts, IsSound, AreSound, IsWellFormed}
+use Rattle.art_tree.specs.Art.{IsAlone, IsArt}
+use Rattle.art_tree.specs.Contexts.{Context, plug, path_to, leaves_before, leaves_after}
+use Rattle.art_tree.specs.Dictionary.{entry_at, HasEntry, IsProperPrefixOf, Clashes, SameEntries}
+use Rattle.art_tree.specs.Insertion.{ClashesIn, IsEntered, IsRefused, MayEnter}
+use Rattle.art_tree.specs.Room.{LacksRoom}
+use Rattle.art_tree.specs.Places.{IsSpot, LacksChild, Parts, reach}
+use Rattle.art_tree.specs.declared.insert.InsertFault.{InsertFault}
+use Rattle.art_tree.specs.declared.insert.InsertRefusal.TheVariants.{OutOfMemory}
+use Rattle.art_tree.specs.declared.insert.place.Fork.{Fork}
+use Rattle.art_tree.specs.declared.insert.place.Spot.{Spot}
+use Rattle.art_tree.proofs.SharedLemmas.DictionaryLemmas.{AreApart, after-first, empty-entry, held-entry, leaf-held-in, leaf-of-entry, leaf-with}
+use Rattle.art_tree.proofs.SharedLemmas.ExchangedSubtree.{the-one, leaves-plug, sound-part, sound-whole}
+use Rattle.art_bytes.proofs.PrefixLaws.{prefix-shorter, prefix-on}
+use Rattle.art_tree.proofs.SharedLemmas.PrefixLemmas.{key-on}
+
+-- neither text is a prefix of the other
+abbrev pub IsApart : List ℕ → List ℕ → Type 0
+IsApart a b = (IsPrefixOf a b → ⊥) × (IsPrefixOf b a → ⊥)
+
+-- texts that have different bytes after the same prefix are apart
+same-byte : (front : List ℕ) (a b : ℕ) (r s t : List ℕ) → (front ++ b ∷ []) ++ s ≡ ((front ++ a ∷ []) ++ r) ++ t → a ≡ b
+same-byte [] a b r s t is = cc
+same-byte (c ∷ front) a b r s t is = same-byte front a b r s t (cc)
+
+no-prefix : (front : List ℕ) (a b : ℕ) (x y : List ℕ) → a ≢ b → IsPrefixOf (front ++ a ∷ []) x → IsPrefixOf (front ++ b ∷ []) y → IsPrefixOf x y → ⊥
+no-prefix front a b x y differ (r, x_is) (s, y_is) (t, is) = differ (same-byte front a b r s t (sym y_is ∙ is ∙ ap (λ all. all ++ t) x_is))
+
+parted-apart : (front : List ℕ) (a b : ℕ) (x y : List ℕ) → a ≢ b → IsPrefixOf (front ++ a ∷ []) x → IsPrefixOf (front ++ b ∷ []) y → IsApart x y
+parted-apart front a b x y differ on_x on_y = (no-prefix front a b x y differ on_x on_y, no-prefix front b a y x (λ same. differ (sym same)) on_y on_x)
+
+module _ {H : Type 0} where
+  -- where no text is a prefix of another, a text that is a prefix of one of them is that one
+  same-prefix : (all : List (H × List ℕ)) (p q : H) (x y : List ℕ) → AreApart (map (λ leaf. leaf.1) all) → Contains all (p, x) → Contains all (q, y) → IsPrefixOf x y → x ≡ y
+  same-prefix [] p q x y apart (k, inside, is) second begins = absurd (omega (arith, inside))
+  same-prefix (z ∷ zs) p q x y apart first second begins = elim (Contains-append_cases (z ∷ []) zs (p, x) first) [
+    | inl here ↦ elim (Contains-append_cases (z ∷ []) zs (q, y) second) [
+      | inl too ↦ ap (λ leaf. leaf.1) (sym (the-one z (p, x) here) ∙ the-one z (q, y) too)
+      | inr later ↦ absurd ((after-first IsApart z zs q y apart later).0 (subst (λ text. IsPrefixOf text y) (sym (ap (λ leaf. leaf.1) (the-one z (p, x) here))) begins))
+    ]
+    | inr later ↦ elim (Contains-append_cases (z ∷ []) zs (q, y) second) [
+      | inl here ↦ absurd ((after-first IsApart z zs p x apart later).1 (subst (λ text. IsPrefixOf x text) (sym (ap (λ leaf. leaf.1) (the-one z (q, y) here))) begins))
+      | inr too ↦ same-prefix zs p q x y (λ i j d before inside. apart (suc i) (suc j) d (omega (arith, before)) (omega (arith, inside))) later too begins
+    ]
+  ]
+
+  -- and each text is apart from one between the others
+  beside-apart : (left right : List (H × List ℕ)) (p : H) (key : List ℕ) (q : H) (x : List ℕ) → AreApart (map (λ leaf. leaf.1) (left ++ (p, key) ∷ right)) → Contains left (q, x) ⊎ Contains right (q, x) → IsApart x key
+  beside-apart [] right p key q x apart (inl (k, inside, is)) = absurd (omega (arith, inside))
+  beside-apart [] right p key q x apart (inr inside) = let both = after-first IsApart (p, key) right q x apart inside in (both.1, both.0)
+  beside-apart (y ∷ left) right p key q x apart (inr inside) = beside-apart left right p key q x (λ i j d before within. apart (suc i) (suc j) d (omega (arith, before)) (omega (arith, within))) (inr inside)
+  beside-apart (y ∷ left) right p key q x apart (inl inside) = elim (Contains-append_cases (y ∷ []) left (q, x) inside) [
+    | inl here ↦ subst (λ text. IsApart text key) (ap (λ leaf. leaf.1) (the-one y (q, x) here)) (after-first IsApart y (left ++ (p, key) ∷ right) p key apart (Contains-append_right left ((p, key) ∷ right) (p, key) (0, omega arith, refl)))
+    | inr later ↦ beside-apart left right p key q x (λ i j d before within. apart (suc i) (suc j) d (omega (arith, before)) (omega (arith, within))) (inl later)
+  ]
+
+  mutual
+    -- the texts of a sound tree begin with its path
+    text-begins : (path : List ℕ) (tree : Tree H) (q : H) (x : List ℕ) → IsSound path tree → Contains (leaves tree) (q, x) → IsPrefixOf path x
+    text-begins path (Leaf pointer text) q x sound inside = subst (IsPrefixOf path) (ap (λ leaf. leaf.1) (the-one (pointer, text) (q, x) inside)) sound.0
+    text-begins path (Inner pointer prefix branches) q x sound inside = prefix-shorter path prefix x (branch-begins (path ++ prefix) branches q x sound.2 inside)
+
+    branch-begins : (path : List ℕ) (branches : Branches H) (q : H) (x : List ℕ) → AreSound path branches → Contains (branch_leaves branches) (q, x) → IsPrefixOf path x
+    branch-begins path NoBranch q x sound (k, inside, is) = absurd (omega (arith, inside))
+    branch-begins path (Branch byte tree others) q x sound inside = elim (Contains-append_cases (leaves tree) (branch_leaves others) (q, x) inside) [
+      | inl here ↦ prefix-shorter path (byte ∷ []) x (text-begins (path ++ byte ∷ []) tree q x sound.0 here)
+      | inr later ↦ branch-begins path others q x sound.1 later
+    ]
+
+  -- and with the first bytes of them that its top has
+  reach-begins : (path : List ℕ) (tree : Tree H) (q : H) (x : List ℕ) → IsSound path tree → Contains (leaves tree) (q, x) → IsPrefixOf (reach path tree) x
+  reach-begins path (Leaf pointer text) q x sound inside = ([], sym (ap (λ leaf. leaf.1) (the-one (pointer, text) (q, x) inside)) ∙ sym (append-nil text))
+  reach-begins path (Inner pointer prefix branches) q x sound inside = branch-begins (path ++ prefix) branches q x sound.2 inside
+
+  -- a key that goes on with a byte that has no branch is apart from the texts of the branches
+  no-branch-apart : (path : List ℕ) (branches : Branches H) (byte : ℕ) (key : List ℕ) → AreSound path branches → child_at (branch_roots branches) byte ≡ None → IsPrefixOf (path ++ byte ∷ []) key → (q : H) (x : List ℕ) → Contains (branch_leaves branches) (q, x) → IsApart x key
+  no-branch-apart path NoBranch byte key sound absent leads q x (k, inside, is) = absurd (omega (arith, inside))
+  no-branch-apart path (Branch b tree others) byte key sound absent leads q x inside = elim (cases_eq b byte) [
+    | inl same ↦ (let there : Some (root_of tree) ≡ None = rw (eq-eqb b byte same) at absent in absurd (cc))
+    | inr differ ↦ elim (Contains-append_cases (leaves tree) (branch_leaves others) (q, x) inside) [
+      | inl here ↦ parted-apart path b byte x key differ (text-begins (path ++ b ∷ []) tree q x sound.0 here) leads
+      | inr later ↦ no-branch-apart path others byte key sound.1 (rw (ne_eqb b byte differ) at absent) leads q x later
+    ]
+  ]
+
+  module _ (law : (tree : Tree H) → IsWellFormed tree → AreApart (texts tree)) where
+    -- a key that leads to a part of a tree is apart from all texts outside the part, which might be a leaf with the key
+    around-apart : (context : Context H) (part : Tree H) (key : List ℕ) → IsWellFormed (plug context part) → IsPrefixOf (path_to context) key → length key < 2 ^ 64 → (q : H) (x : List ℕ) → Contains (leaves_before context) (q, x) ⊎ Contains (leaves_after context) (q, x) → IsApart x key
+    around-apart context part key sound leads short q x inside =
+        let leaf = Leaf (root_of part) key in
+        beside-apart (leaves_before context) (leaves_after context) (root_of part) key q x
+        (subst (λ all. AreApart (map (λ l. l.1) all)) (leaves-plug context leaf) (law (plug context leaf) (sound-whole context part leaf sound (leads, short)))) inside
+
+    -- so it is apart from all texts where it is apart from those of the part
+    whole-apart : (context : Context H) (part : Tree H) (key : List ℕ) → IsWellFormed (plug context part) → IsPrefixOf (path_to context) key → length key < 2 ^ 64 → ((q : H) (x : List ℕ) → Contains (leaves part) (q, x) → IsApart x key) → (q : H) (x : List ℕ) → Contains (leaves (plug context part)) (q, x) → IsApart x key
+    whole-apart context part key sound leads short within q x inside = elim (Contains-append_cases (leaves_before context) (leaves part ++ leaves_after context) (q, x) (subst (λ all. Contains all (q, x)) (leaves-plug context part) inside)) [
+      | inl earlier ↦ around-apart context part key sound leads short q x (inl earlier)
+      | inr from ↦ elim (Contains-append_cases (leaves part) (leaves_after context) (q, x) from) [
+        | inl here ↦ within q x here
+        | inr later ↦ around-apart context part key sound leads short q x (inr later)
+      ]
+    ]
+
+module _ {K V : Type 0} {P : ℕ} (law : (tree : Tree (OpaqueNodePtr K V P)) → IsWellFormed tree → AreApart (texts tree)) (tree : Tree (OpaqueNodePtr K V P)) (sound : IsWellFormed tree) (key : List ℕ) (short : length key < 2 ^ 32) (spot : Spot K V P) where
+  -- a key that leads to a spot is apart from all texts where it is apart from those there
+  spot-apart : (at : IsSpot tree key spot) → ((q : OpaqueNodePtr K V P) (x : List ℕ) → Contains (leaves at.part) (q, x) → IsApart x key) → (q : OpaqueNodePtr K V P) (x : List ℕ) → Contains (leaves tree) (q, x) → IsApart x key
+  spot-apart at within q x inside =
+      whole-apart law at.context at.part key (subst IsWellFormed (sym at.whole) sound) at.leads (omega (arith, short)) within q x (subst (λ all. Contains (leaves all) (q, x)) (sym at.whole) inside)
+
+  part-sound : (at : IsSpot tree key spot) → IsSound (path_to at.context) at.part
+  part-sound at = sound-part at.context at.part (subst IsWellFormed (sym at.whole) sound)
+
+  -- a key that lacks a child is apart from all texts
+  pub child-apart : (byte : ℕ) → LacksChild tree key spot byte → (q : OpaqueNodePtr K V P) (x : List ℕ) → Contains (leaves tree) (q, x) → IsApart x key
+  child-apart byte lacks =
+      let path = path_to lacks.at.context in
+      let under = subst (IsSound path) lacks.part (part-sound lacks.at) in
+      spot-apart lacks.at (λ q x inside. no-branch-apart (path ++ lacks.prefix) lacks.branches byte key under.2 lacks.absent lacks.leads q x (subst (λ part. Contains (leaves part) (q, x)) lacks.part inside))
+
+  -- and so is one that differs from the texts at a node
+  pub fork-apart : (fork : Fork) → Parts tree key spot fork → (q : OpaqueNodePtr K V P) (x : List ℕ) → Contains (leaves tree) (q, x) → IsApart x key
+  fork-apart fork parts =
+      let path = path_to parts.at.context in
+      let front = take fork.index key in
+      spot-apart parts.at (λ q x inside. parted-apart front fork.node_byte fork.byte x key (λ same. parts.differ (sym same))
+      (prefix-on (front ++ fork.node_byte ∷ []) (reach path parts.at.part) x parts.node (reach-begins path parts.at.part q x (part-sound parts.at) inside)) (key-on key fork.index fork.byte parts.byte))
+
+module _ {K V : Type 0} {P : ℕ} (text : K → List ℕ) (arena : ArenaOf K V P) where
+  -- in an empty arena nothing but an allocation failure refuses a short text
+  pub empty-new : ((pointer : OpaqueNodePtr K V P) → held arena pointer ≡ Nothing) → (key : List ℕ) → length key < 2 ^ 32 → IsRefused text arena key OutOfMemory
+  empty-new nothing key short = ((short, λ clash. clash.1 (empty-entry text arena nothing clash.0)), empty-entry text arena nothing key)
+
+  module _ (root : OpaqueNodePtr K V P) (tree : Tree (OpaqueNodePtr K V P)) (alone : IsAlone text arena root tree) where
+    -- a text that has an entry is that of a leaf
+    entry-leaf : (x : List ℕ) → HasEntry text arena x → (q : OpaqueNodePtr K V P) × Contains (leaves tree) (q, x)
+    entry-leaf x has = by_entry (entry_at text arena x) refl
+      where
+        by_entry : (o : Option (K × V)) → entry_at text arena x ≡ o → (q : OpaqueNodePtr K V P) × Contains (leaves tree) (q, x)
+        by_entry None none = absurd (has none)
+        by_entry (Some entry) is = let leaf = leaf-of-entry text arena root tree alone x entry is in (leaf.pointer, leaf.inside)
+
+    -- and the text of a leaf has an entry
+    leaf-entry : AreApart (texts tree) → (q : OpaqueNodePtr K V P) (x : List ℕ) → Contains (leaves tree) (q, x) → HasEntry text arena x
+    leaf-entry apart q x inside none =
+        let leaf = leaf-held-in text arena tree alone.is_tree.stands q x inside in
+        let wrong = sym (held-entry text arena root tree alone apart q leaf.0 leaf.1) ∙ ap (entry_at text arena) leaf.2 ∙ none in
+        absurd (cc)
+
+    -- a leaf of the tree is held
+    pub leaf-is-held : (q : OpaqueNodePtr K V P) (x : List ℕ) → Contains (leaves tree) (q, x) → held arena q ≢ Nothing
+    leaf-is-held q x inside none = let leaf = leaf-held-in text arena tree alone.is_tree.stands q x inside in let wrong = sym leaf.1 ∙ none in absurd (cc)
+
+    -- a text that clashes with one of the tree clashes with an entry
+    pub clash-entry : AreApart (texts tree) → (key : List ℕ) → Clashes (texts tree) key → ClashesIn text arena key
+    clash-entry apart key (other, inside, clash) = let leaf = leaf-with (leaves tree) other inside in (other, leaf-entry apart leaf.0 other leaf.1, clash)
+
+    -- a text of the tree clashes with no entry
+    pub no-clash : AreApart (texts tree) → (q : OpaqueNodePtr K V P) (key : List ℕ) → Contains (leaves tree) (q, key) → ClashesIn text arena key → ⊥
+    no-clash apart q key inside (other, has, clash) =
+        let leaf = entry-leaf other has in
+        elim clash [
+          | inl front ↦ front.1 (same-prefix (leaves tree) leaf.0 q other key apart leaf.1 inside front.0)
+          | inr front ↦ front.1 (same-prefix (leaves tree) q leaf.0 key other apart inside leaf.1 front.0)
+        ]
+
+    -- a short text that is apart from all of the tree's is refused by nothing but an allocation
+    -- failure
+    pub apart-new : (key : List ℕ) → length key < 2 ^ 32 → ((q : OpaqueNodePtr K V P) (x : List ℕ) → Contains (leaves tree) (q, x) → IsApart x key) → IsRefused text arena key OutOfMemory
+    apart-new key short apart = ((short, λ (other, has, clash). never other has clash), by_entry (entry_at text arena key) refl)
+      where
+        never : (other : List ℕ) → HasEntry text arena other → IsProperPrefixOf other key ⊎ IsProperPrefixOf key other → ⊥
+        never other has clash =
+            let leaf = entry-leaf other has in
+            let both = apart leaf.0 other leaf.1 in
+            elim clash [ inl front ↦ both.0 front.0 | inr front ↦ both.1 front.0 ]
+
+        by_entry : (o : Option (K × V)) → entry_at text arena key ≡ o → entry_at text arena key ≡ None
+        by_entry None is = is
+        by_entry (Some entry) is =
+            let leaf = leaf-of-entry text arena root tree alone key entry is in
+            absurd ((apart leaf.pointer key leaf.inside).0 ([], sym (append-nil key)))
+
+-- an arena that stays without nodes has no entry before and after
+module _ {K V : Type 0} {P : ℕ} (text : K → List ℕ) (old new : ArenaOf K V P) (same : SameNodes old new) where
+  pub empty-stays : ((pointer : OpaqueNodePtr K V P) → held old pointer ≡ Nothing) → SameEntries text old new
+  empty-stays nothing x = empty-entry text new (λ p. same p ∙ nothing p) x ∙ sym (empty-entry text old nothing x)
+
+-- the result of an insert of a text without an entry
+module _ {K V : Type 0} {P : ℕ} (text : K → List ℕ) (old new : ArenaOf K V P) (key : K) (value : V) where
+  pub record IsAnswered (result : Result (OpaqueNodePtr K V P × Option (K × V)) (InsertFault K V)) : Type 0 where
+    pub art : IfOk result (λ pair. IsArt text new (Some pair.0))
+    pub replaced : IfOk result (λ pair. pair.1 ≡ entry_at text old (text key))
+    pub entered : OnOk result (IsEntered text old new key value)
+    pub no_refusal : OnOk result (MayEnter text old (text key))
+    pub refusal_due : IfErr result (λ fault. IsRefused text old (text key) fault.refusal)
+    pub entry_back : IfErr result (λ fault. (fault.key ≡ key) × (fault.value ≡ value))
+    pub same_entries : OnErr result (SameEntries text old new)
+    pub nodes_kept : OnErr result (SameNodes old new)
+    pub untouched : IfErr result (λ fault. fault.refusal ≢ OutOfMemory → new ≡ old)
+    pub no_room : IfErr result (λ fault. fault.refusal ≡ OutOfMemory → LacksRoom old)
+
+  -- it follows from what was added, where nothing but an allocation failure refuses the text
+  module _ (added : Result (OpaqueNodePtr K V P) (K × V)) (art : IfOk added (λ root. IsArt text new (Some root))) (entered : OnOk added (IsEntered text old new key value)) (entry_back : IfErr added (λ entry. entry ≡ (key, value))) (nodes_kept : OnErr added (SameNodes old new)) (lacks : OnErr added (LacksRoom old)) where
+    pub answered : IsRefused text old (text key) OutOfMemory → (SameNodes old new → SameEntries text old new) → (result : Result (OpaqueNodePtr K V P × Option (K × V)) (InsertFault K V)) → ((root : OpaqueNodePtr K V P) → added ≡ Ok root → result ≡ Ok (root, None))
+        → ((k : K) (v : V) → added ≡ Err (k, v) → result ≡ Err (record { refusal = OutOfMemory; key = k; value = v })) → IsAnswered result
+    answered is_new stay result told refused = by_added added refl art entered entry_back nodes_kept lacks
+      where
+        by_added : (a : Result (OpaqueNodePtr K V P) (K × V)) → added ≡ a → IfOk a (λ root. IsArt text new (Some root)) → OnOk a (IsEntered text old new key value) → IfErr a (λ entry. entry ≡ (key, value)) → OnErr a (SameNodes old new) → OnErr a (LacksRoom old) → IsAnswered result
+        by_added (Ok root) is is_art is_entered back kept none =
+            subst IsAnswered (sym (told root is)) (record { art = is_art; replaced = sym is_new.1; entered = is_entered; no_refusal = is_new.0; refusal_due = tt; entry_back = tt; same_entries = tt; nodes_kept = tt; untouched = tt; no_room = tt })
+        by_added (Err (k, v)) is is_art is_entered back kept none =
+            subst IsAnswered (sym (refused k v is)) (record { art = tt; replaced = tt; entered = tt; no_refusal = tt; refusal_due = is_new; entry_back = (ap (λ entry. entry.0) back, ap (λ entry. entry.1) back); same_entries = stay kept; nodes_kept = kept; untouched = λ differ. absurd (differ refl); no_room = λ _. none })

@@ -1,0 +1,90 @@
+-- Insertion: a leaf that is linked beside another one of a list.
+use Rattle.std.proofs.Common.{◌≡◌, ◌≢◌, ◌∙◌, ℕ, List, [], ◌∷◌, ◌++◌, Some, None, sym, ap, subst, append_assoc}
+use Rattle.std.specs.Option.{option_and_then}
+use Rattle.art_header.specs.declared.node_type.NodeType.TheVariants as kinds
+use Rattle.art_nodes.specs.Leaf.{leaf_key, leaf_value, previous_key, next_key}
+use Rattle.art_nodes.specs.Pointers.{node_kind, opaque_key, opaque_pointer}
+use Rattle.art_nodes.specs.declared.pointers.OpaqueNodePtr.{OpaqueNodePtr}
+use Rattle.art_nodes.specs.declared.leaf_node.LeafNode.{LeafNode}
+use Rattle.art_arena.specs.Arena.{ArenaOf, HeldLeaf, Nothing, held, held_leaf, Changes}
+use Rattle.art_arena.specs.Links.{HoldsLeaf, IsKnit, IsUnlinked, SameButLinks, Spells, leaf_at, text_at}
+use Rattle.art_tree.specs.Edits.{HasGap, HoldsEntry, IsBeside, StaysAt}
+use Rattle.art_arena.specs.declared.ends.End.{End}
+use Rattle.art_arena.specs.declared.ends.End.TheVariants.{First, Last}
+use Rattle.art_tree.proofs.LoadLemmas.LeafLists.{AreKnit, Spells-kept, kept-at}
+use Rattle.art_tree.proofs.LoadLemmas.PlacedTrees.{leaf-of, text-held, text-kept}
+use Rattle.art_arena.proofs.StandingLaws.{leaf_kind}
+
+module _ {K V : Type 0} {P : ℕ} where
+  -- the leaf beside a gap is knit
+  pub knit-beside : (arena : ArenaOf K V P) (end : End) (key : ℕ) → AreKnit arena → HasGap arena end key → IsKnit arena key
+  knit-beside arena First key knit gap = knit gap.left gap.beside.0 key (subst (λ right. Spells arena (gap.left ++ right)) gap.beside.1 gap.spelled)
+  knit-beside arena Last key knit gap =
+      knit gap.beside.0 gap.right key (subst (Spells arena) (ap (λ left. left ++ gap.right) gap.beside.1 ∙ append_assoc gap.beside.0 (key ∷ []) gap.right) gap.spelled)
+
+  -- a leaf linked before the first one right of a gap, and one linked after the last one left of it
+  pub spelled-before : (now new : ArenaOf K V P) (this sibling : ℕ) (left right : List ℕ)
+      → ((front back : List ℕ) → Spells now (front ++ sibling ∷ back) → Spells new (front ++ this ∷ sibling ∷ back))
+      → Spells now (left ++ right) → IsBeside First left right sibling → Spells new (left ++ this ∷ right)
+  spelled-before now new this sibling left right links s beside =
+      subst (λ r. Spells new (left ++ this ∷ r)) (sym beside.1) (links left beside.0 (subst (λ r. Spells now (left ++ r)) beside.1 s))
+
+  pub spelled-after : (now new : ArenaOf K V P) (this sibling : ℕ) (left right : List ℕ)
+      → ((front back : List ℕ) → Spells now (front ++ sibling ∷ back) → Spells new (front ++ sibling ∷ this ∷ back))
+      → Spells now (left ++ right) → IsBeside Last left right sibling → Spells new (left ++ this ∷ right)
+  spelled-after now new this sibling left right links s beside =
+      let joined : (rest : List ℕ) → left ++ rest ≡ beside.0 ++ sibling ∷ rest = λ rest. ap (λ l. l ++ rest) beside.1 ∙ append_assoc beside.0 (sibling ∷ []) rest in
+      subst (Spells new) (sym (joined (this ∷ right))) (links beside.0 right (subst (Spells now) (joined right) s))
+
+-- a new leaf is allocated, and then linked
+module _ {K V : Type 0} {P : ℕ} (old now : ArenaOf K V P) (this : ℕ) (leaf : LeafNode K V P) (free : held old (opaque_pointer kinds.Leaf this) ≡ Nothing) (changes : Changes old now (opaque_pointer kinds.Leaf this) (HeldLeaf leaf)) where
+  kept : (pointer : OpaqueNodePtr K V P) → held old pointer ≢ Nothing → held now pointer ≡ held old pointer
+  kept = kept-at old now (opaque_pointer kinds.Leaf this) (HeldLeaf leaf) free changes
+
+  new-at : leaf_at now this ≡ Some leaf
+  new-at = leaf-of (leaf_at now this) leaf changes.changed
+
+  -- what linking it asks
+  pub new-held : HoldsLeaf now this
+  new-held = subst (λ x. x ≢ Nothing) (sym changes.changed) (λ e. cc)
+
+  pub new-unlinked : previous_key leaf ≡ None → next_key leaf ≡ None → IsUnlinked now this
+  new-unlinked no_previous no_next = (ap (option_and_then previous_key) new-at ∙ no_previous, ap (option_and_then next_key) new-at ∙ no_next)
+
+  pub new-apart : (end : End) (sibling : ℕ) → AreKnit old → HasGap old end sibling → this ≢ sibling
+  new-apart end sibling knit gap = λ same. (knit-beside old end sibling knit gap).held (ap (λ k. held old (opaque_pointer kinds.Leaf k)) (sym same) ∙ free)
+
+  pub sibling-knit : (end : End) (sibling : ℕ) → AreKnit now → HasGap old end sibling → IsKnit now sibling
+  sibling-knit end sibling knit gap = knit-beside now end sibling knit (record { left = gap.left; right = gap.right; spelled = Spells-kept old now kept _ gap.spelled; beside = gap.beside })
+
+  pub still-spelled : (keys : List ℕ) → Spells old keys → Spells now keys
+  still-spelled keys s = Spells-kept old now kept keys s
+
+  pub new-text : (text : K → List ℕ) (key : K) → leaf_key leaf ≡ key → text key ≡ text_at text now this
+  new-text text key is = sym (text-held text now this leaf changes.changed ∙ ap text is)
+
+  pub sibling-text : (text : K → List ℕ) (end : End) (sibling : ℕ) → AreKnit old → HasGap old end sibling → text_at text old sibling ≡ text_at text now sibling
+  sibling-text text end sibling knit gap = sym (text-kept text old now sibling (knit-beside old end sibling knit gap).held kept).1
+
+  module _ (new : ArenaOf K V P) (same : SameButLinks now new) where
+    -- the new leaf has its entry
+    pub entry-held : (key : K) (value : V) → leaf_key leaf ≡ key → leaf_value leaf ≡ value → HoldsEntry new (opaque_pointer kinds.Leaf this) key value
+    entry-held key value is_key is_value =
+        let after = same.leaf this leaf new-at in
+        record { leaf = after.0; is_held = ap held_leaf after.1; key = after.2 ∙ is_key; value = after.3 ∙ is_value }
+
+    -- and all else stays
+    pub others-stay : (pointer : OpaqueNodePtr K V P) → pointer ≢ opaque_pointer kinds.Leaf this → StaysAt old new pointer
+    others-stay pointer differ =
+        let stays = changes.others pointer differ in
+        record {
+          nothing = λ none. same.nothing pointer (stays ∙ none);
+          keeps = record {
+            inner = λ node is. same.inner pointer node (stays ∙ is);
+            leaf = λ other is.
+                let kind = leaf_kind old (node_kind pointer) (opaque_key pointer) other is in
+                let place : opaque_pointer kinds.Leaf (opaque_key pointer) ≡ pointer = λ i. record { node_type = (sym kind) i; key = opaque_key pointer; leaf = record {} } in
+                let after = same.leaf (opaque_key pointer) other (leaf-of (leaf_at now (opaque_key pointer)) other (ap (held now) place ∙ stays ∙ is)) in
+                (after.0, ap (held new) (sym place) ∙ ap held_leaf after.1, after.2, after.3);
+          };
+        }

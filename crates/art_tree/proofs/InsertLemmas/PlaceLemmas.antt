@@ -1,0 +1,410 @@
+-- Insertion: the place of a key, by the nodes that it meets on its way down.
+use Rattle.std.proofs.Common.{◌≡◌, ◌≢◌, ◌∙◌, ◌⊎◌, ℕ, zero, suc, ◌+◌, ◌-◌, ◌<◌, ◌≤◌, nat_eq, List, [], ◌∷◌, ◌++◌, length, length-append, map, take, drop, Contains, Some, None, Result, Ok, Err, slice_get, get_or, refl, sym, ap, subst, inl, inr, arith, append_assoc, append-nil}
+use Rattle.std.specs.List.{common_prefix_len}
+use Rattle.std.proofs.lemmas.Bool.Decides.{eqb_tells}
+use Rattle.std.proofs.lemmas.List.{nil_from_length, drop_at, map-append, take_rest}
+use Rattle.std.proofs.lemmas.List.Elements.{Contains-append_left, Contains-append_right}
+use Rattle.std.proofs.lemmas.List.Sums.{common_prefix_len-le}
+use Rattle.std.proofs.lemmas.Option.{slice_get-get_or}
+use Rattle.art_bytes.specs.Text.{IsPrefixOf}
+use Rattle.art_nodes.specs.ChildMap.{child_at}
+use Rattle.art_nodes.specs.Inner as nodes
+use Rattle.art_nodes.specs.declared.pointers.OpaqueNodePtr.{OpaqueNodePtr}
+use Rattle.art_nodes.specs.declared.leaf_node.LeafNode.{LeafNode}
+use Rattle.art_arena.specs.Arena.{ArenaOf, HeldInner, HeldLeaf, Nothing, held}
+use Rattle.art_arena.specs.CommonPrefix.{IsLongestCommonPrefix, IsSharedFrom, Parting, full_match}
+use Rattle.art_arena.specs.Standing.{StandsIn, AllStandIn, NodeStands, TreeUnder, leaf_text}
+use Rattle.art_arena.specs.Trees.{Tree, Leaf, Inner, Branches, NoBranch, Branch, branch_roots, root_of, leaves, texts, branch_texts, branch_leaves, IsSound, AreSound, IsWellFormed}
+use Rattle.art_tree.specs.Contexts.{Context, Under, plug, path_to, leaves_before, leaves_after, join}
+use Rattle.art_tree.specs.Dictionary.{Clashes, IsProperPrefixOf}
+use Rattle.art_tree.specs.Places.{reach, IsSpotIn, LacksChild, Parts}
+use Rattle.art_tree.specs.declared.insert.place.Spot.{Spot}
+use Rattle.art_tree.proofs.FindLemmas.DescentLemmas.{slice_get-drop}
+use Rattle.art_tree.proofs.SharedLemmas.ExchangedSubtree.{leaves-plug, sound-part, stands-part}
+use Rattle.art_bytes.proofs.PrefixLaws.{prefix-on}
+
+-- two texts are alike in so many bytes, and part there unless one ends
+record AreAlike (a b : List ℕ) (n : ℕ) : Type 0 where
+  pub front : List ℕ
+  pub left : List ℕ
+  pub right : List ℕ
+  pub a_is : a ≡ front ++ left
+  pub b_is : b ≡ front ++ right
+  pub long : length front ≡ n
+  pub part : (x y : ℕ) → slice_get left 0 ≡ Some x → slice_get right 0 ≡ Some y → y ≢ x
+
+alike : (a b : List ℕ) → AreAlike a b (common_prefix_len nat_eq a b)
+alike [] b = record { front = []; left = []; right = b; a_is = refl; b_is = refl; long = refl; part = λ x y none some. absurd (cc) }
+alike (x ∷ a) [] = record { front = []; left = x ∷ a; right = []; a_is = refl; b_is = refl; long = refl; part = λ c d some none. absurd (cc) }
+alike (x ∷ a) (y ∷ b) = elim (eqb_tells x y) [
+  | inl same ↦
+      let tail = alike a b in
+      let more : 1 + common_prefix_len nat_eq a b ≡ common_prefix_len nat_eq (x ∷ a) (y ∷ b) = rw same.0 refl in
+      record {
+        front = x ∷ tail.front;
+        left = tail.left;
+        right = tail.right;
+        a_is = ap (λ z. x ∷ z) tail.a_is;
+        b_is = ap (λ z. z ∷ b) (sym same.1) ∙ ap (λ z. x ∷ z) tail.b_is;
+        long = omega (arith, tail.long, more);
+        part = tail.part;
+      }
+  | inr differ ↦
+      let none : 0 ≡ common_prefix_len nat_eq (x ∷ a) (y ∷ b) = rw differ.0 refl in
+      record {
+        front = [];
+        left = x ∷ a;
+        right = y ∷ b;
+        a_is = refl;
+        b_is = refl;
+        long = none;
+        part = λ c d first second same. let one : x ≡ c = cc in let other : y ≡ d = cc in differ.1 (one ∙ sym same ∙ sym other);
+      }
+]
+
+-- what two texts have in common past a path that both begin with
+alike-below : (path a key : List ℕ) (depth n : ℕ) → length path ≡ depth → IsPrefixOf path key → n ≡ common_prefix_len nat_eq a (drop depth key) → AreAlike (path ++ a) key (depth + n)
+alike-below path a key depth n deep (rest, key_is) counted =
+    let rest_is : drop depth key ≡ rest = ap (drop depth) key_is ∙ drop_at path rest depth deep in
+    let both = alike a rest in
+    record {
+      front = path ++ both.front;
+      left = both.left;
+      right = both.right;
+      a_is = ap (λ z. path ++ z) both.a_is ∙ sym (append_assoc path both.front both.left);
+      b_is = key_is ∙ ap (λ z. path ++ z) both.b_is ∙ sym (append_assoc path both.front both.right);
+      long = omega (arith, length-append path both.front, deep, both.long, counted, ap (common_prefix_len nat_eq a) rest_is);
+      part = both.part;
+    }
+
+-- the rests of two texts
+pub rests-counted : (a b text : List ℕ) (depth n : ℕ) → text ≡ a → n ≡ common_prefix_len nat_eq (take (length text - depth) (drop depth text)) (take (length b - depth) (drop depth b)) → n ≡ common_prefix_len nat_eq (drop depth a) (drop depth b)
+rests-counted a b text depth n same counted =
+    counted ∙ ap (λ z. common_prefix_len nat_eq z (take (length b - depth) (drop depth b))) (take_rest text depth ∙ ap (drop depth) same) ∙ ap (common_prefix_len nat_eq (drop depth a)) (take_rest b depth)
+
+at-seam : (front rest : List ℕ) (n : ℕ) → length front ≡ n → slice_get (front ++ rest) n ≡ slice_get rest 0
+at-seam [] rest n long = ap (slice_get rest) (sym long)
+at-seam (x ∷ front) rest zero long = absurd (omega (arith, long))
+at-seam (x ∷ front) rest (suc n) long = at-seam front rest n (omega (arith, long))
+
+take-seam : (front rest : List ℕ) (n : ℕ) → length front ≡ n → take n (front ++ rest) ≡ front
+take-seam [] rest zero long = refl
+take-seam [] rest (suc n) long = absurd (omega (arith, long))
+take-seam (x ∷ front) rest zero long = absurd (omega (arith, long))
+take-seam (x ∷ front) rest (suc n) long = ap (λ z. x ∷ z) (take-seam front rest n (omega (arith, long)))
+
+head-is : (xs : List ℕ) (x : ℕ) → slice_get xs 0 ≡ Some x → IsPrefixOf (x ∷ []) xs
+head-is [] x at = absurd (cc)
+head-is (y ∷ xs) x at = let same : y ≡ x = cc in (xs, ap (λ z. z ∷ xs) same)
+
+-- a text that has a prefix has the prefix with the byte after it too
+prefix-byte : (front text : List ℕ) (n byte : ℕ) → length front ≡ n → IsPrefixOf front text → slice_get text n ≡ Some byte → IsPrefixOf (front ++ byte ∷ []) text
+prefix-byte front text n byte long (rest, is) at =
+    let head = head-is rest byte (sym (at-seam front rest n long) ∙ ap (λ t. slice_get t n) (sym is) ∙ at) in
+    (head.0, is ∙ ap (λ z. front ++ z) head.1 ∙ sym (append_assoc front (byte ∷ []) head.0))
+
+-- a text that is no longer than the prefix that it shares with another is a prefix of the other
+whole-prefix : (front rest text other more : List ℕ) (n : ℕ) → text ≡ front ++ rest → other ≡ front ++ more → length front ≡ n → length text ≤ n → IsPrefixOf text other
+whole-prefix front rest text other more n is other_is long short =
+    let none : rest ≡ [] = nil_from_length rest (omega (arith, short, long, ap length is, length-append front rest)) in
+    let all : text ≡ front = is ∙ ap (λ z. front ++ z) none ∙ append-nil front in
+    (more, other_is ∙ ap (λ z. z ++ more) (sym all))
+
+module _ (a b : List ℕ) (n : ℕ) (both : AreAlike a b n) where
+  -- the second text ends, or the first
+  alike-second : length b ≤ n → IsPrefixOf b a
+  alike-second short = whole-prefix both.front both.right b a both.left n both.b_is both.a_is both.long short
+
+  alike-first : length a ≤ n → IsPrefixOf a b
+  alike-first short = whole-prefix both.front both.left a b both.right n both.a_is both.b_is both.long short
+
+  -- they part
+  alike-parts : (x y : ℕ) → slice_get a n ≡ Some x → slice_get b n ≡ Some y → (y ≢ x) × IsPrefixOf (take n b ++ x ∷ []) a
+  alike-parts x y in_a in_b =
+      let left : slice_get both.left 0 ≡ Some x = sym (at-seam both.front both.left n both.long) ∙ ap (λ t. slice_get t n) (sym both.a_is) ∙ in_a in
+      let right : slice_get both.right 0 ≡ Some y = sym (at-seam both.front both.right n both.long) ∙ ap (λ t. slice_get t n) (sym both.b_is) ∙ in_b in
+      let taken : take n b ≡ both.front = ap (take n) both.b_is ∙ take-seam both.front both.right n both.long in
+      (both.part x y left right, subst (λ f. IsPrefixOf (f ++ x ∷ []) a) (sym taken) (prefix-byte both.front a n x both.long (both.left, both.a_is) in_a))
+
+-- the equal bytes of a full match
+abbrev pub Tells : List ℕ → List ℕ → Result ℕ Parting → Type 0
+Tells prefix rest (Ok n) = (n ≡ common_prefix_len nat_eq prefix rest) × (n ≡ length prefix)
+Tells prefix rest (Err parting) = (parting.equal_bytes ≡ common_prefix_len nat_eq prefix rest) × (parting.equal_bytes < length prefix) × (parting.prefix_byte ≡ get_or prefix parting.equal_bytes 0)
+
+match-tells : (prefix rest : List ℕ) → Tells prefix rest (full_match prefix rest)
+match-tells prefix rest = elim (eqb_tells (common_prefix_len nat_eq prefix rest) (length prefix)) [
+  | inl same ↦ rw same.0 (refl, same.1)
+  | inr differ ↦ let within = common_prefix_len-le nat_eq prefix rest in rw differ.0 (refl, omega (arith, within.0, differ.1), refl)
+]
+
+matched-tells : (prefix rest : List ℕ) (answer : Result ℕ Parting) → answer ≡ full_match prefix rest → Tells prefix rest answer
+matched-tells prefix rest answer is = subst (Tells prefix rest) (sym is) (match-tells prefix rest)
+
+-- the law of what the texts of a sound tree share
+abbrev pub AreShared : Type 0 → Type 0
+AreShared H = (path prefix : List ℕ) (pointer : H) (branches : Branches H) → IsSound path (Inner pointer prefix branches) → IsLongestCommonPrefix (texts (Inner pointer prefix branches)) (path ++ prefix)
+
+-- one of these texts begins with the path
+pub record HasText (path : List ℕ) (all : List (List ℕ)) : Type 0 where
+  pub text : List ℕ
+  pub inside : Contains all text
+  pub begins : IsPrefixOf path text
+
+module _ {H : Type 0} where
+  -- what stands in a part stands in the whole
+  leaf-of-whole : (context : Context H) (part : Tree H) (leaf : H × List ℕ) → Contains (leaves part) leaf → Contains (leaves (plug context part)) leaf
+  leaf-of-whole context part leaf inside = subst (λ all. Contains all leaf) (sym (leaves-plug context part))
+      (Contains-append_right (leaves_before context) (leaves part ++ leaves_after context) leaf (Contains-append_left (leaves part) (leaves_after context) leaf inside))
+
+  text-of-whole : (context : Context H) (part : Tree H) (text : List ℕ) → Contains (texts part) text → Contains (texts (plug context part)) text
+  text-of-whole context part text inside =
+      let of : List (H × List ℕ) → List (List ℕ) = map (λ leaf. leaf.1) in
+      let same : texts (plug context part) ≡ of (leaves_before context) ++ (texts part ++ of (leaves_after context)) =
+      ap of (leaves-plug context part) ∙ map-append (λ leaf. leaf.1) (leaves_before context) (leaves part ++ leaves_after context)
+      ∙ ap (λ z. of (leaves_before context) ++ z) (map-append (λ leaf. leaf.1) (leaves part) (leaves_after context)) in
+      subst (λ all. Contains all text) (sym same) (Contains-append_right (of (leaves_before context)) (texts part ++ of (leaves_after context)) text (Contains-append_left (texts part) (of (leaves_after context)) text inside))
+
+  mutual
+    -- a sound tree has a text, which begins with the path
+    pub some-text : (path : List ℕ) (tree : Tree H) → IsSound path tree → HasText path (texts tree)
+    some-text path (Leaf pointer text) sound = record { text = text; inside = (0, omega arith, refl); begins = sound.0 }
+    some-text path (Inner pointer prefix branches) sound =
+        let some = branch-text (path ++ prefix) branches (omega (arith, sound.0)) sound.2 in
+        record {
+          text = some.1.text;
+          inside = some.1.inside;
+          begins = prefix-on path (path ++ prefix) some.1.text (prefix, refl) (prefix-on (path ++ prefix) ((path ++ prefix) ++ some.0 ∷ []) some.1.text (some.0 ∷ [], refl) some.1.begins);
+        }
+
+    -- and so have branches, where it goes on by a byte
+    pub branch-text : (path : List ℕ) (branches : Branches H) → 0 < length (branch_roots branches) → AreSound path branches → (byte : ℕ) × HasText (path ++ byte ∷ []) (branch_texts branches)
+    branch-text path NoBranch some sound = absurd (omega (arith, some))
+    branch-text path (Branch byte tree others) some sound =
+        let first = some-text (path ++ byte ∷ []) tree sound.0 in (
+          byte,
+          record {
+            text = first.text;
+            inside = subst (λ all. Contains all first.text) (sym (map-append (λ leaf. leaf.1) (leaves tree) (branch_leaves others))) (Contains-append_left (texts tree) (branch_texts others) first.text first.inside);
+            begins = first.begins;
+          },
+        )
+
+  -- the branches around the one under a byte
+  record IsSplit (branches : Branches H) (byte : ℕ) (child : H) : Type 0 where
+    pub before : Branches H
+    pub tree : Tree H
+    pub after : Branches H
+    pub at_root : root_of tree ≡ child
+    pub whole : join before (Branch byte tree after) ≡ branches
+
+  split-at : (branches : Branches H) (byte : ℕ) (child : H) → child_at (branch_roots branches) byte ≡ Some child → IsSplit branches byte child
+  split-at NoBranch byte child is = absurd (cc)
+  split-at (Branch b tree others) byte child is = elim (eqb_tells b byte) [
+    | inl same ↦
+        let one : Some (root_of tree) ≡ Some child = rw same.0 at is in
+        record { before = NoBranch; tree = tree; after = others; at_root = cc; whole = ap (λ z. Branch z tree others) (sym same.1) }
+    | inr differ ↦
+        let later : child_at (branch_roots others) byte ≡ Some child = rw differ.0 at is in
+        let rest = split-at others byte child later in
+        record { before = Branch b tree rest.before; tree = rest.tree; after = rest.after; at_root = rest.at_root; whole = ap (Branch b tree) rest.whole }
+  ]
+
+module _ {K V : Type 0} {P : ℕ} (text : K → List ℕ) (arena : ArenaOf K V P) (tree : Tree (OpaqueNodePtr K V P)) (key : List ℕ) where
+  module _ (spot : Spot K V P) (is : IsSpotIn text arena tree key spot) where
+    pub depth-within : spot.depth ≤ length key
+    depth-within = omega (arith, is.at.deep, ap length is.at.leads.1, length-append (path_to is.at.context) is.at.leads.0)
+
+    part-stands : StandsIn text arena is.at.part
+    part-stands = stands-part text arena arena is.at.context is.at.part (subst (StandsIn text arena) (sym is.at.whole) is.stands)
+
+    part-sound : IsSound (path_to is.at.context) is.at.part
+    part-sound = sound-part is.at.context is.at.part (subst IsWellFormed (sym is.at.whole) is.sound)
+
+    -- a text of the part that begins with the key, or that the key begins with, clashes
+    clash-in-part : (other : List ℕ) → Contains (texts is.at.part) other → IsProperPrefixOf other key ⊎ IsProperPrefixOf key other → Clashes (texts tree) key
+    clash-in-part other inside clash = (other, subst (λ whole. Contains (texts whole) other) is.at.whole (text-of-whole is.at.context is.at.part other inside), clash)
+
+    -- an inner node stands at the spot
+    pub record IsAtInner (node : nodes.Inner (OpaqueNodePtr K V P)) : Type 0 where
+      pub prefix : List ℕ
+      pub branches : Branches (OpaqueNodePtr K V P)
+      pub part : is.at.part ≡ Inner spot.node prefix branches
+      pub shows : NodeStands P node prefix branches
+      pub stand : AllStandIn text arena branches
+      pub sound : IsSound (path_to is.at.context) (Inner spot.node prefix branches)
+
+    pub at-inner : (node : nodes.Inner (OpaqueNodePtr K V P)) → held arena spot.node ≡ HeldInner node → IsAtInner node
+    at-inner node holds = by_part is.at.part refl is.at.at_root part-stands part-sound
+      where
+        by_part : (part : Tree (OpaqueNodePtr K V P)) → is.at.part ≡ part → root_of part ≡ spot.node → StandsIn text arena part → IsSound (path_to is.at.context) part → IsAtInner node
+        by_part (Leaf pointer x) same root (leaf, leaf_holds, has) sound = let one : HeldLeaf leaf ≡ HeldInner node = sym leaf_holds ∙ ap (held arena) root ∙ holds in absurd (cc)
+        by_part (Inner pointer prefix branches) same root (stored, stored_holds, shows, stand) sound =
+            let one : HeldInner stored ≡ HeldInner node = sym stored_holds ∙ ap (held arena) root ∙ holds in
+            let node_is : stored ≡ node = cc in
+            record {
+              prefix = prefix;
+              branches = branches;
+              part = same ∙ ap (λ p. Inner p prefix branches) root;
+              shows = subst (λ n. NodeStands P n prefix branches) node_is shows;
+              stand = stand;
+              sound = sound;
+            }
+
+    -- a leaf stands at the spot
+    pub record IsAtLeaf (leaf : LeafNode K V P) : Type 0 where
+      pub part : is.at.part ≡ Leaf spot.node (leaf_text text leaf)
+      pub begins : IsPrefixOf (path_to is.at.context) (leaf_text text leaf)
+
+    pub at-leaf : (leaf : LeafNode K V P) → held arena spot.node ≡ HeldLeaf leaf → IsAtLeaf leaf
+    at-leaf leaf holds = by_part is.at.part refl is.at.at_root part-stands part-sound
+      where
+        by_part : (part : Tree (OpaqueNodePtr K V P)) → is.at.part ≡ part → root_of part ≡ spot.node → StandsIn text arena part → IsSound (path_to is.at.context) part → IsAtLeaf leaf
+        by_part (Inner pointer prefix branches) same root (node, node_holds, shows, stand) sound = let one : HeldInner node ≡ HeldLeaf leaf = sym node_holds ∙ ap (held arena) root ∙ holds in absurd (cc)
+        by_part (Leaf pointer x) same root (stored, stored_holds, has) sound =
+            let one : HeldLeaf stored ≡ HeldLeaf leaf = sym stored_holds ∙ ap (held arena) root ∙ holds in
+            let stored_is : stored ≡ leaf = cc in
+            let text_is : x ≡ leaf_text text leaf = sym has ∙ ap (leaf_text text) stored_is in
+            record {
+              part = same ∙ ap (λ p. Leaf p x) root ∙ ap (Leaf spot.node) text_is;
+              begins = subst (IsPrefixOf (path_to is.at.context)) text_is sound.0;
+            }
+
+    -- something is held there
+    pub spot-held : held arena spot.node ≢ Nothing
+    spot-held free = by_part is.at.part is.at.at_root part-stands
+      where
+        by_part : (part : Tree (OpaqueNodePtr K V P)) → root_of part ≡ spot.node → StandsIn text arena part → ⊥
+        by_part (Leaf pointer x) root (leaf, holds, has) = let one : HeldLeaf leaf ≡ Nothing = sym holds ∙ ap (held arena) root ∙ free in absurd (cc)
+        by_part (Inner pointer prefix branches) root (node, holds, shows, stand) = let one : HeldInner node ≡ Nothing = sym holds ∙ ap (held arena) root ∙ free in absurd (cc)
+
+    -- where the key differs from all texts of the part
+    parts-at : (told : List ℕ) (index : ℕ) (byte other : ℕ) → reach (path_to is.at.context) is.at.part ≡ told → AreAlike told key index → spot.depth ≤ index → slice_get told index ≡ Some other → slice_get key index ≡ Some byte → Parts tree key spot (record { index = index; byte = byte; node_byte = other })
+    parts-at told index byte other told_is both later in_told in_key =
+        let parted = alike-parts told key index both other byte in_told in_key in
+        record { at = is.at; later = later; byte = in_key; node = subst (IsPrefixOf (take index key ++ other ∷ [])) (sym told_is) parted.1; differ = parted.0 }
+
+    module _ (node : nodes.Inner (OpaqueNodePtr K V P)) (here : IsAtInner node) where
+      -- the path to the node and its prefix, which all its texts begin with
+      abbrev way : List ℕ
+      way = path_to is.at.context ++ here.prefix
+
+      told-way : reach (path_to is.at.context) is.at.part ≡ way
+      told-way = ap (reach (path_to is.at.context)) here.part
+
+      way-long : length way ≡ spot.depth + length here.prefix
+      way-long = omega (arith, length-append (path_to is.at.context) here.prefix, is.at.deep)
+
+      -- the node is one that a full match may be asked of
+      abbrev pub below : TreeUnder text arena node spot.depth
+      below = record { tree = Inner spot.node here.prefix here.branches; path = path_to is.at.context; stands = (here.shows, here.stand); sound = here.sound; deep = is.at.deep }
+
+      -- the result of a full match of it
+      pub node-tells : AreShared (OpaqueNodePtr K V P) → (answer : Result ℕ Parting)
+          → ((under : TreeUnder text arena node spot.depth) (shared : List ℕ) → IsSharedFrom spot.depth (texts under.tree) shared → answer ≡ full_match shared (drop spot.depth key)) → Tells here.prefix (drop spot.depth key) answer
+      node-tells law answer asked = matched-tells here.prefix (drop spot.depth key) answer (asked below here.prefix (
+        way,
+        law (path_to is.at.context) here.prefix spot.node here.branches here.sound,
+        sym (drop_at (path_to is.at.context) here.prefix spot.depth is.at.deep),
+      ))
+
+      module _ (n : ℕ) (counted : n ≡ common_prefix_len nat_eq here.prefix (drop spot.depth key)) where
+        node-alike : AreAlike way key (spot.depth + n)
+        node-alike = alike-below (path_to is.at.context) here.prefix key spot.depth n is.at.deep is.at.leads counted
+
+        pub matched-within : spot.depth + n ≤ length key
+        matched-within = omega (arith, ap length node-alike.b_is, length-append node-alike.front node-alike.right, node-alike.long)
+
+        -- the key ends there
+        pub node-clash : spot.depth + n ≡ length key → Clashes (texts tree) key
+        node-clash ends =
+            let fronts = alike-second way key (spot.depth + n) node-alike (omega (arith, ends)) in
+            let some = branch-text way here.branches (omega (arith, here.sound.0)) here.sound.2 in
+            let longer : length key < length some.1.text = omega (
+              arith,
+              ap length fronts.1,
+              length-append key fronts.0,
+              ap length some.1.begins.1,
+              length-append (way ++ some.0 ∷ []) some.1.begins.0,
+              length-append way (some.0 ∷ []),
+            ) in
+            clash-in-part some.1.text (subst (λ part. Contains (texts part) some.1.text) (sym here.part) some.1.inside) (inr (
+              prefix-on key way some.1.text fronts (prefix-on way (way ++ some.0 ∷ []) some.1.text (some.0 ∷ [], refl) some.1.begins),
+              λ same. omega (arith, longer, ap length same),
+            ))
+
+        -- it differs from the prefix
+        pub node-parts : n < length here.prefix → spot.depth + n < length key → (other : ℕ) → other ≡ get_or here.prefix n 0 → Parts tree key spot (record { index = spot.depth + n; byte = get_or key (spot.depth + n) 0; node_byte = other })
+        node-parts short inside other other_is =
+            parts-at way (spot.depth + n) (get_or key (spot.depth + n) 0) other told-way node-alike (omega arith)
+            (sym (slice_get-drop way spot.depth n) ∙ ap (λ rest. slice_get rest n) (drop_at (path_to is.at.context) here.prefix spot.depth is.at.deep) ∙ slice_get-get_or here.prefix n 0 short ∙ ap Some (sym other_is))
+            (slice_get-get_or key (spot.depth + n) 0 inside)
+
+        -- it goes on past all of the prefix by its next byte
+        module _ (whole : n ≡ length here.prefix) (inside : spot.depth + n < length key) where
+          leads-on : IsPrefixOf (way ++ get_or key (spot.depth + n) 0 ∷ []) key
+          leads-on = prefix-byte way key (spot.depth + n) (get_or key (spot.depth + n) 0) (omega (arith, way-long, whole))
+              (alike-first way key (spot.depth + n) node-alike (omega (arith, way-long, whole))) (slice_get-get_or key (spot.depth + n) 0 inside)
+
+          -- under which there is no child
+          pub node-lacks : child_at node.children (get_or key (spot.depth + n) 0) ≡ None → LacksChild tree key spot (get_or key (spot.depth + n) 0)
+          node-lacks none = record {
+            at = is.at;
+            prefix = here.prefix;
+            branches = here.branches;
+            part = here.part;
+            leads = leads-on;
+            absent = ap (λ children. child_at children (get_or key (spot.depth + n) 0)) (sym here.shows.children) ∙ none;
+          }
+
+          -- or one, where its way goes on
+          pub node-leads : (child : OpaqueNodePtr K V P) → child_at node.children (get_or key (spot.depth + n) 0) ≡ Some child → IsSpotIn text arena tree key (record { node = child; depth = spot.depth + n + 1; parent = Some (spot.node, get_or key (spot.depth + n) 0) })
+          node-leads child some =
+              let split = split-at here.branches (get_or key (spot.depth + n) 0) child (ap (λ children. child_at children (get_or key (spot.depth + n) 0)) (sym here.shows.children) ∙ some) in
+              record {
+                stands = is.stands;
+                sound = is.sound;
+                at = record {
+                  context = Under is.at.context spot.node here.prefix split.before (get_or key (spot.depth + n) 0) split.after;
+                  part = split.tree;
+                  whole = ap (plug is.at.context) (ap (Inner spot.node here.prefix) split.whole ∙ sym here.part) ∙ is.at.whole;
+                  at_root = split.at_root;
+                  leads = leads-on;
+                  deep = omega (arith, length-append way (get_or key (spot.depth + n) 0 ∷ []), way-long, whole);
+                  hangs = refl;
+                };
+              }
+
+    module _ (leaf : LeafNode K V P) (here : IsAtLeaf leaf) where
+      pub leaf-deep : spot.depth ≤ length (leaf_text text leaf)
+      leaf-deep = omega (arith, is.at.deep, ap length here.begins.1, length-append (path_to is.at.context) here.begins.0)
+
+      -- the leaf has the key
+      pub leaf-present : leaf_text text leaf ≡ key → Contains (leaves tree) (spot.node, key)
+      leaf-present same = subst (λ whole. Contains (leaves whole) (spot.node, key)) is.at.whole (leaf-of-whole is.at.context is.at.part (spot.node, key)
+          (subst (λ part. Contains (leaves part) (spot.node, key)) (sym (here.part ∙ ap (Leaf spot.node) same)) (0, omega arith, refl)))
+
+      module _ (n : ℕ) (counted : n ≡ common_prefix_len nat_eq (drop spot.depth (leaf_text text leaf)) (drop spot.depth key)) where
+        leaf-alike : AreAlike (leaf_text text leaf) key (spot.depth + n)
+        leaf-alike =
+            let rest : drop spot.depth (leaf_text text leaf) ≡ here.begins.0 = ap (drop spot.depth) here.begins.1 ∙ drop_at (path_to is.at.context) here.begins.0 spot.depth is.at.deep in
+            subst (λ t. AreAlike t key (spot.depth + n)) (ap (λ z. path_to is.at.context ++ z) rest ∙ sym here.begins.1)
+            (alike-below (path_to is.at.context) (drop spot.depth (leaf_text text leaf)) key spot.depth n is.at.deep is.at.leads counted)
+
+        pub leaf-within : (spot.depth + n ≤ length (leaf_text text leaf)) × (spot.depth + n ≤ length key)
+        leaf-within = (
+          omega (arith, ap length leaf-alike.a_is, length-append leaf-alike.front leaf-alike.left, leaf-alike.long),
+          omega (arith, ap length leaf-alike.b_is, length-append leaf-alike.front leaf-alike.right, leaf-alike.long),
+        )
+
+        -- one is a prefix of the other
+        pub leaf-clash : leaf_text text leaf ≢ key → (spot.depth + n ≡ length (leaf_text text leaf)) ⊎ (spot.depth + n ≡ length key) → Clashes (texts tree) key
+        leaf-clash differ ends = clash-in-part (leaf_text text leaf) (subst (λ part. Contains (texts part) (leaf_text text leaf)) (sym here.part) (0, omega arith, refl)) (elim ends [
+          | inl first ↦ inl (alike-first (leaf_text text leaf) key (spot.depth + n) leaf-alike (omega (arith, first)), differ)
+          | inr second ↦ inr (alike-second (leaf_text text leaf) key (spot.depth + n) leaf-alike (omega (arith, second)), λ same. differ (sym same))
+        ])
+
+        -- they part
+        pub leaf-parts : spot.depth + n < length (leaf_text text leaf) → spot.depth + n < length key → Parts tree key spot (record { index = spot.depth + n; byte = get_or key (spot.depth + n) 0; node_byte = get_or (leaf_text text leaf) (spot.depth + n) 0 })
+        leaf-parts in_text in_key =
+            parts-at (leaf_text text leaf) (spot.depth + n) (get_or key (spot.depth + n) 0) (get_or (leaf_text text leaf) (spot.depth + n) 0) (ap (reach (path_to is.at.context)) here.part) leaf-alike (omega arith)
+            (slice_get-get_or (leaf_text text leaf) (spot.depth + n) 0 in_text) (slice_get-get_or key (spot.depth + n) 0 in_key)

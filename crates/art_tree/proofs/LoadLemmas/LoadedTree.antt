@@ -1,0 +1,59 @@
+-- Loading: the loaded tree, from linked leaves and a tree over them.
+use Rattle.std.proofs.Common.{◌≡◌, ◌≢◌, ◌∙◌, ℕ, ◌<◌, ◌^◌, List, [], ◌∷◌, length, map, inl, inr, refl, sym, ap, subst, arith}
+use Rattle.std.proofs.lemmas.Bool.{cases_lt}
+use Rattle.std.proofs.lemmas.List.{get_or_past}
+use Rattle.art_nodes.specs.Pointers.{opaque_key, slab_key}
+use Rattle.art_nodes.specs.declared.pointers.NodePtr.{NodePtr}
+use Rattle.art_nodes.specs.declared.pointers.OpaqueNodePtr.{OpaqueNodePtr}
+use Rattle.art_nodes.specs.declared.leaf_node.LeafNode.{LeafNode}
+use Rattle.art_arena.specs.Arena.{ArenaOf, Nothing, SameNodes}
+use Rattle.art_arena.specs.Links.{Spells}
+use Rattle.art_arena.specs.Trees.{Tree}
+use Rattle.art_tree.specs.Plan.{AreLoadable}
+use Rattle.art_tree.specs.Refusals.{text_of_entry}
+use Rattle.art_tree.specs.Raising.{IsRaised, leaf_pairs}
+use Rattle.art_tree.specs.Search.{leaf_pointer}
+use Rattle.art_tree.specs.Loading.{AreLinked, HoldEntries, IsLoaded, leaf_pointers}
+use Rattle.art_tree.proofs.LoadLemmas.LeafLists.{hold-kept, Spells-kept}
+
+-- no text is too long, at any index
+pub all-short : (texts : List (List ℕ)) → AreLoadable texts → (i : ℕ) → length (text_of_entry texts i) < 2 ^ 32
+all-short texts l i = elim (cases_lt i (length texts)) [
+  | inl within ↦ l.short i within
+  | inr past ↦ let none = ap length (get_or_past texts i [] past) in omega (arith, none)
+]
+
+module _ {K V : Type 0} {P : ℕ} (text : K → List ℕ) (old middle new : ArenaOf K V P) where
+  pointers-of : (of : List (NodePtr P (LeafNode K V P))) → map (λ (pair : OpaqueNodePtr K V P × List ℕ). pair.0) (leaf_pairs text middle of) ≡ map leaf_pointer of
+  pointers-of [] = refl
+  pointers-of (leaf ∷ of) = ap (λ rest. leaf_pointer leaf ∷ rest) (pointers-of of)
+
+  keys-of : (of : List (NodePtr P (LeafNode K V P))) → map opaque_key (map (leaf_pointer {K = K} {V = V} {P = P}) of) ≡ map slab_key of
+  keys-of [] = refl
+  keys-of (leaf ∷ of) = ap (λ rest. slab_key leaf ∷ rest) (keys-of of)
+
+  pub loaded : (entries : List (K × V)) (of : List (NodePtr P (LeafNode K V P))) (root : OpaqueNodePtr K V P) (tree : Tree (OpaqueNodePtr K V P)) → AreLinked old middle entries of → IsRaised text middle new of root tree → IsLoaded text old new entries root tree
+  loaded entries of root tree l r =
+      let pointers : leaf_pointers tree ≡ map leaf_pointer of = ap (map (λ (pair : OpaqueNodePtr K V P × List ℕ). pair.0)) r.in_order ∙ pointers-of of in
+      record {
+        is_tree = record { at_root = r.at_root; stands = r.stands; sound = r.sound };
+        smallest_kinds = r.smallest_kinds;
+        hold = subst (λ p. HoldEntries new p entries) (sym pointers) (hold-kept middle new r.kept (map leaf_pointer of) entries l.hold);
+        spelled = subst (Spells new) (sym (ap (map opaque_key) pointers ∙ keys-of of)) (Spells-kept middle new r.kept (map slab_key of) l.spelled);
+        adds = r.adds old l.adds;
+      }
+
+  -- what is loaded into an arena with the same nodes
+  pub loaded-same : (entries : List (K × V)) (root : OpaqueNodePtr K V P) (tree : Tree (OpaqueNodePtr K V P)) → SameNodes old middle → IsLoaded text middle new entries root tree → IsLoaded text old new entries root tree
+  loaded-same entries root tree same l = record {
+    is_tree = l.is_tree;
+    smallest_kinds = l.smallest_kinds;
+    hold = l.hold;
+    spelled = l.spelled;
+    adds = record {
+      kept = λ pointer was. l.adds.kept pointer (subst (λ h. h ≢ Nothing) (sym (same pointer)) was) ∙ same pointer;
+      were_free = λ pointer inside. sym (same pointer) ∙ l.adds.were_free pointer inside;
+      are_held = l.adds.are_held;
+      no_others = λ pointer free is_held. l.adds.no_others pointer (same pointer ∙ free) is_held;
+    };
+  }

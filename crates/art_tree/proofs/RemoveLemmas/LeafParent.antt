@@ -1,0 +1,132 @@
+-- Removal: a leaf of a tree and its parent.
+use Rattle.std.proofs.Common.{◌≡◌, ◌≢◌, ◌⊎◌, ◌∙◌, ℕ, ◌+◌, List, [], ◌∷◌, ◌++◌, length, Contains, Option, Some, refl, sym, ap, subst, inl, inr, arith}
+use Rattle.std.proofs.lemmas.List.Elements.{All-contains, Contains-append_left, Contains-append_right, Contains-append_cases}
+use Rattle.art_header.specs.declared.node_type.NodeType.TheVariants as kinds
+use Rattle.art_nodes.specs.Inner as nodes
+use Rattle.art_nodes.specs.Leaf.{leaf_key, leaf_value}
+use Rattle.art_nodes.specs.Pointers.{node_kind, opaque_key}
+use Rattle.art_nodes.specs.declared.pointers.OpaqueNodePtr.{OpaqueNodePtr}
+use Rattle.art_nodes.specs.declared.leaf_node.LeafNode.{LeafNode}
+use Rattle.art_arena.specs.Arena.{ArenaOf, HeldInner, HeldLeaf, Nothing, held}
+use Rattle.art_arena.specs.Links.{AreDistinct, Spells}
+use Rattle.art_arena.specs.Standing.{NodeStands, StandsIn, AllStandIn}
+use Rattle.art_arena.specs.Trees.{Tree, Leaf, Inner, Branch, branch_roots, branch_leaves, texts, places, branch_places, IsSound}
+use Rattle.art_tree.specs.Art.{IsAlone}
+use Rattle.art_tree.specs.Contexts.{plug, path_to, leaves_before, leaves_after, join}
+use Rattle.art_tree.specs.Dictionary.{entry_at}
+use Rattle.art_tree.specs.Dropping.{HangsUnder}
+use Rattle.art_tree.specs.Loading.{HasSmallestKinds}
+use Rattle.art_tree.proofs.InsertLemmas.AddedLeaf.{leaves-filled}
+use Rattle.art_tree.proofs.SharedLemmas.DictionaryLemmas.{AreApart, held-entry}
+use Rattle.art_tree.proofs.RemoveLemmas.RemainingTree.{dropped-count}
+use Rattle.art_tree.proofs.SharedLemmas.ExchangedSubtree.{AreDistinct-split, distinct-part, places-node, smallest_kinds-part, sound-part, stands-part, the-one}
+use Rattle.art_tree.proofs.InsertLemmas.GapLemmas.{keys_of, keys-append}
+use Rattle.art_tree.proofs.SharedLemmas.ParentLemmas.{inner-kind}
+use Rattle.art_tree.proofs.InsertLemmas.NodeLemmas.{some-inner}
+use Rattle.art_tree.proofs.LoadLemmas.PlacedTrees.{stand-join, stand-split}
+
+module _ {K V : Type 0} {P : ℕ} {leaf parent : OpaqueNodePtr K V P} {byte : ℕ} {higher : Option (OpaqueNodePtr K V P × ℕ)} {tree : Tree (OpaqueNodePtr K V P)} where
+  -- the part of the tree with the node as its root
+  abbrev pub part_there : HangsUnder tree leaf parent byte higher → Tree (OpaqueNodePtr K V P)
+  part_there hangs = Inner parent hangs.prefix (join hangs.before (Branch byte (Leaf leaf hangs.text) hangs.after))
+
+  -- the leaves of the whole tree left and right of the leaf
+  abbrev pub left_there : HangsUnder tree leaf parent byte higher → List (OpaqueNodePtr K V P × List ℕ)
+  left_there hangs = leaves_before hangs.upper ++ branch_leaves hangs.before
+
+  abbrev pub right_there : HangsUnder tree leaf parent byte higher → List (OpaqueNodePtr K V P × List ℕ)
+  right_there hangs = branch_leaves hangs.after ++ leaves_after hangs.upper
+
+  -- the leaf and the node, in the tree and in the arena
+  pub record LeafPlace (text : K → List ℕ) (old : ArenaOf K V P) (root : OpaqueNodePtr K V P) (hangs : HangsUnder tree leaf parent byte higher) : Type 0 where
+    pub alone : IsAlone text old root (plug hangs.upper (part_there hangs))
+    pub stands : StandsIn text old (part_there hangs)
+    pub sound : IsSound (path_to hangs.upper) (part_there hangs)
+    pub smallest_kinds : HasSmallestKinds (part_there hangs)
+    pub node : nodes.Inner (OpaqueNodePtr K V P)
+    pub is_held : held old parent ≡ HeldInner node
+    pub shows : NodeStands P node hangs.prefix (join hangs.before (Branch byte (Leaf leaf hangs.text) hangs.after))
+    pub others_stand : AllStandIn text old (join hangs.before hangs.after)
+    pub count : length node.children ≡ length (branch_roots (join hangs.before hangs.after)) + 1
+    pub some_held : held old parent ≢ Nothing
+    pub inner : node_kind parent ≢ kinds.Leaf
+    pub no_leaf : (l : LeafNode K V P) → held old parent ≡ HeldLeaf l → ⊥
+    pub apart : parent ≢ leaf
+    pub own : LeafNode K V P
+    pub own_held : held old leaf ≡ HeldLeaf own
+    pub own_text : text (leaf_key own) ≡ hangs.text
+    pub entry : AreApart (texts (plug hangs.upper (part_there hangs))) → entry_at text old hangs.text ≡ Some (leaf_key own, leaf_value own)
+    pub inside : Contains (places (part_there hangs)) leaf
+    pub spelled : Spells old (keys_of (left_there hangs) ++ opaque_key leaf ∷ keys_of (right_there hangs))
+
+  pub leaf-place : {text : K → List ℕ} {old : ArenaOf K V P} {root : OpaqueNodePtr K V P} → IsAlone text old root tree → (hangs : HangsUnder tree leaf parent byte higher) → LeafPlace text old root hangs
+  leaf-place {text = text} {old = old} {root = root} within hangs =
+      let part = part_there hangs in
+      let before = hangs.before in
+      let after = hangs.after in
+      let own_branch = Branch byte (Leaf leaf hangs.text) after in
+      let alone : IsAlone text old root (plug hangs.upper part) = subst (IsAlone text old root) (sym hangs.whole) within in
+      let (node, is_held, shows, stand) = stands-part text old old hangs.upper part alone.is_tree.stands in
+      let (left_stand, ((own, own_held, own_text), right_stand)) = stand-split text old before own_branch stand in
+      let no_leaf : (l : LeafNode K V P) → held old parent ≡ HeldLeaf l → ⊥ = λ l is. (let wrong : HeldInner node ≡ HeldLeaf l = sym is_held ∙ is in absurd (cc)) in
+      record {
+        alone = alone;
+        stands = stands-part text old old hangs.upper part alone.is_tree.stands;
+        sound = sound-part hangs.upper part alone.is_tree.sound;
+        smallest_kinds = smallest_kinds-part hangs.upper part alone.smallest_kinds;
+        node = node;
+        is_held = is_held;
+        shows = shows;
+        others_stand = stand-join text old before after left_stand right_stand;
+        count = ap length shows.children ∙ dropped-count before byte (Leaf leaf hangs.text) after;
+        some_held = some-inner (held old parent) node is_held;
+        inner = inner-kind old parent node is_held;
+        no_leaf = no_leaf;
+        apart = λ same. no_leaf own (ap (held old) same ∙ own_held);
+        own = own;
+        own_held = own_held;
+        own_text = own_text;
+        entry = λ apart. ap (entry_at text old) (sym own_text) ∙ held-entry text old root (plug hangs.upper part) alone apart leaf own own_held;
+        inside = subst (λ all. Contains all leaf) (sym (places-node parent hangs.prefix before byte (Leaf leaf hangs.text) after)) (Contains-append_right (parent ∷ branch_places before) (leaf ∷ branch_places after) leaf (0, omega arith, refl));
+        spelled = subst (Spells old) (ap keys_of (leaves-filled hangs.upper hangs.prefix parent before byte leaf hangs.text after) ∙ keys-append (left_there hangs) ((leaf, hangs.text) ∷ right_there hangs)) alone.spelled;
+      }
+
+  module _ (hangs : HangsUnder tree leaf parent byte higher) where
+    -- a place of the part that is neither the node's nor the leaf's
+    pub record IsOther (q : OpaqueNodePtr K V P) : Type 0 where
+      pub inside : Contains (places (part_there hangs)) q
+      pub not_leaf : q ≢ leaf
+      pub not_parent : q ≢ parent
+
+    pub is-other : AreDistinct (places (plug hangs.upper (part_there hangs))) → (q : OpaqueNodePtr K V P) → Contains (branch_places hangs.before ++ branch_places hangs.after) q → IsOther q
+    is-other distinct q inside =
+        let lefts = branch_places hangs.before in
+        let rights = branch_places hangs.after in
+        let same = places-node parent hangs.prefix hangs.before byte (Leaf leaf hangs.text) hangs.after in
+        let apart = subst AreDistinct same (distinct-part hangs.upper (part_there hangs) distinct) in
+        let later = AreDistinct-split lefts (leaf ∷ rights) apart.1 in
+        let other : Contains (lefts ++ leaf ∷ rights) q → q ≢ leaf → IsOther q = λ there differ. record {
+          inside = subst (λ all. Contains all q) (sym same) (Contains-append_right (parent ∷ []) (lefts ++ leaf ∷ rights) q there);
+          not_leaf = differ;
+          not_parent = All-contains (λ p. p ≢ parent) (lefts ++ leaf ∷ rights) q apart.0 there;
+        } in
+        elim (Contains-append_cases lefts rights q inside) [
+          | inl left ↦ other (Contains-append_left lefts (leaf ∷ rights) q left) (λ at_leaf. later.2 q left (0, omega arith, sym at_leaf))
+          | inr right ↦ other (Contains-append_right lefts (leaf ∷ rights) q (Contains-append_right (leaf ∷ []) rights q right)) (All-contains (λ p. p ≢ leaf) rights q later.1.0 right)
+        ]
+
+    -- each place of the part is the node's, the leaf's, or one of the other branches
+    pub place-cases : (q : OpaqueNodePtr K V P) → Contains (places (part_there hangs)) q → (q ≡ parent) ⊎ ((q ≡ leaf) ⊎ Contains (branch_places hangs.before ++ branch_places hangs.after) q)
+    place-cases q inside =
+        let lefts = branch_places hangs.before in
+        let rights = branch_places hangs.after in
+        elim (Contains-append_cases (parent ∷ []) (lefts ++ leaf ∷ rights) q (subst (λ all. Contains all q) (places-node parent hangs.prefix hangs.before byte (Leaf leaf hangs.text) hangs.after) inside)) [
+          | inl here ↦ inl (sym (the-one parent q here))
+          | inr below ↦ elim (Contains-append_cases lefts (leaf ∷ rights) q below) [
+            | inl left ↦ inr (inr (Contains-append_left lefts rights q left))
+            | inr from ↦ elim (Contains-append_cases (leaf ∷ []) rights q from) [
+              | inl own ↦ inr (inl (sym (the-one leaf q own)))
+              | inr right ↦ inr (inr (Contains-append_right lefts rights q right))
+            ]
+          ]
+        ]

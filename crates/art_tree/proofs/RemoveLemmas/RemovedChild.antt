@@ -1,0 +1,223 @@
+-- Removal: a leaf of a node of more than two children.
+use Rattle.std.proofs.Common.{◌≡◌, ◌≢◌, ◌⊎◌, ◌∙◌, ℕ, ◌+◌, ◌<◌, ◌≤◌, List, [], ◌∷◌, ◌++◌, length, Contains, Option, Some, None, refl, sym, ap, subst, inl, inr, arith}
+use Rattle.std.proofs.lemmas.Bool.{cases_lt}
+use Rattle.std.proofs.lemmas.List.Elements.{Contains-append_right}
+use Rattle.art_header.specs.NodeType.{kind_for, least_children, shrunk_kind}
+use Rattle.art_header.specs.declared.node_type.NodeType.{NodeType}
+use Rattle.art_header.specs.declared.node_type.NodeType.TheVariants as kinds
+use Rattle.art_nodes.specs.ChildMap.{child_at, without_child}
+use Rattle.art_nodes.specs.Inner as nodes
+use Rattle.art_nodes.specs.Leaf.{leaf_key, leaf_value}
+use Rattle.art_nodes.specs.Pointers.{node_kind, opaque_key}
+use Rattle.art_nodes.specs.declared.pointers.OpaqueNodePtr.{OpaqueNodePtr}
+use Rattle.art_nodes.specs.declared.leaf_node.LeafNode.{LeafNode}
+use Rattle.art_arena.specs.Arena.{ArenaOf, HeldInner, HeldLeaf, Nothing, held, room}
+use Rattle.art_arena.specs.Links.{AreDistinct, Spells}
+use Rattle.art_arena.specs.Standing.{AllStandIn}
+use Rattle.art_arena.specs.Trees.{Tree, Leaf, Inner, Branch, branch_roots, branch_leaves, texts, places, branch_places, IsSound}
+use Rattle.art_tree.specs.Contexts.{plug, path_to, KeepsAt, join}
+use Rattle.art_tree.specs.Cuts.{HasOneLess, HasRoomToShrink}
+use Rattle.art_tree.specs.Dropping.{HangsUnder}
+use Rattle.art_tree.specs.Edits.{StaysAt}
+use Rattle.art_tree.specs.Hanging.{CanHang, IsHung}
+use Rattle.art_tree.specs.Places.{above}
+use Rattle.art_tree.specs.Removal.{IsRemoved, NeedsSmallerNode}
+use Rattle.art_tree.proofs.SharedLemmas.BranchLemmas.{leaves-join, places-join, roots-join}
+use Rattle.art_tree.proofs.SharedLemmas.ChangedTree.{held-on, place-held}
+use Rattle.art_tree.proofs.RemoveLemmas.RemovedLeaf.{AreCuts, HasDropped, can-hang, cut-removed, inside-kept, last-inside, top-last}
+use Rattle.art_tree.proofs.SharedLemmas.DictionaryLemmas.{AreApart}
+use Rattle.art_tree.proofs.RemoveLemmas.RemainingTree.{dropped-child, dropped-roots, dropped-sound, kind-lasts, kind-shrinks, left-smallest_kinds}
+use Rattle.art_tree.proofs.SharedLemmas.ExchangedSubtree.{kept-branches}
+use Rattle.art_tree.proofs.RemoveLemmas.LeafParent.{LeafPlace, is-other, part_there, place-cases}
+use Rattle.art_tree.proofs.InsertLemmas.NodeLemmas.{one-inner, some-inner}
+use Rattle.art_tree.proofs.LoadLemmas.PlacedTrees.{kind-4, kind-16, kind-48, kind-256}
+use Rattle.art_tree.proofs.InsertLemmas.SubtreeLemmas.{leaves-taken}
+use Rattle.art_arena.proofs.StandingLaws.{leaf_kind}
+
+-- the fewest children of the kind for so many are no more
+least-fits : (n : ℕ) → 2 ≤ n → least_children (kind_for n) ≤ n
+least-fits n two = elim (cases_lt 4 n) [
+  | inr four ↦ subst (λ k. least_children k ≤ n) (sym (kind-4 n four)) two
+  | inl past ↦ elim (cases_lt 16 n) [
+    | inr sixteen ↦ subst (λ k. least_children k ≤ n) (sym (kind-16 n past sixteen)) past
+    | inl more ↦ elim (cases_lt 48 n) [
+      | inr many ↦ subst (λ k. least_children k ≤ n) (sym (kind-48 n more many)) more
+      | inl most ↦ subst (λ k. least_children k ≤ n) (sym (kind-256 n most)) most
+    ]
+  ]
+]
+
+shrunk-inner : (kind : NodeType) → kind ≢ kinds.Leaf → shrunk_kind kind ≢ kinds.Leaf
+shrunk-inner kinds.Node4 inner = λ e. cc
+shrunk-inner kinds.Node16 inner = λ e. cc
+shrunk-inner kinds.Node48 inner = λ e. cc
+shrunk-inner kinds.Node256 inner = λ e. cc
+shrunk-inner kinds.Leaf inner = absurd (inner refl)
+
+module _ {K V : Type 0} {P : ℕ} {text : K → List ℕ} {old : ArenaOf K V P} {root leaf parent : OpaqueNodePtr K V P} {byte : ℕ} {higher : Option (OpaqueNodePtr K V P × ℕ)} {tree : Tree (OpaqueNodePtr K V P)} {hangs : HangsUnder tree leaf parent byte higher} (place : LeafPlace text old root hangs) where
+  -- a node that would be of a smaller kind without the leaf has 5, 17 or 49 children
+  least-counts : (kind : NodeType) → kind ≢ kinds.Leaf → 2 < length place.node.children → length place.node.children ≡ least_children kind → (length place.node.children ≡ 5) ⊎ ((length place.node.children ≡ 17) ⊎ (length place.node.children ≡ 49))
+  least-counts kinds.Node4 inner two least = absurd (omega (arith, two, least))
+  least-counts kinds.Node16 inner two least = inl least
+  least-counts kinds.Node48 inner two least = inr (inl least)
+  least-counts kinds.Node256 inner two least = inr (inr least)
+  least-counts kinds.Leaf inner two least = absurd (inner refl)
+
+  pub needs-smaller : ((node : nodes.Inner (OpaqueNodePtr K V P)) → held old parent ≡ HeldInner node → (2 < length node.children) × (length node.children ≡ least_children (node_kind parent))) → NeedsSmallerNode text old hangs.text
+  needs-smaller few =
+      let has = few place.node place.is_held in
+      record {
+        pointer = leaf;
+        leaf = place.own;
+        is_held = place.own_held;
+        has_text = place.own_text;
+        parent = parent;
+        node = place.node;
+        parent_held = place.is_held;
+        byte = byte;
+        hangs = subst (λ children. Contains children (byte, leaf)) (sym (place.shows.children ∙ roots-join hangs.before (Branch byte (Leaf leaf hangs.text) hangs.after))) (Contains-append_right (branch_roots hangs.before) ((byte, leaf) ∷ branch_roots hangs.after) (byte, leaf) (0, omega arith, refl));
+        count = least-counts (node_kind parent) place.inner has.0 has.1;
+      }
+
+  -- where no smaller kind is needed, the node has more than the fewest children of its kind
+  pub not-least : length place.node.children ≢ 2 → (¬ NeedsSmallerNode text old hangs.text) → (node : nodes.Inner (OpaqueNodePtr K V P)) → held old parent ≡ HeldInner node → length node.children ≢ least_children (node_kind parent)
+  not-least many enough node is least =
+      enough (needs-smaller (λ other there.
+      let same = ap (λ n. length n.children) (one-inner (held old parent) place.node other place.is_held there) in
+      (omega (arith, same, many, ap length place.shows.children, place.sound.0), ap (λ n. length n.children) (one-inner (held old parent) other node there is) ∙ least)))
+
+  -- the node is as it was once the leaf is taken
+  module _ (cut : ArenaOf K V P) (gone : held cut leaf ≡ Nothing) (stays : (p : OpaqueNodePtr K V P) → p ≢ leaf → StaysAt old cut p) where
+    pub is-cut : held cut parent ≡ HeldInner place.node
+    is-cut = (stays parent place.apart).keeps.inner place.node place.is_held
+
+    pub cut-held : held cut parent ≢ Nothing
+    cut-held = some-inner (held cut parent) place.node is-cut
+
+    pub cut-there : (node : nodes.Inner (OpaqueNodePtr K V P)) → held cut parent ≡ HeldInner node → child_at node.children byte ≢ None
+    cut-there node is none =
+        let same = one-inner (held cut parent) place.node node is-cut is in
+        let some = ap (λ n. child_at n.children byte) (sym same) ∙ ap (λ children. child_at children byte) place.shows.children ∙ dropped-child hangs.before byte (Leaf leaf hangs.text) hangs.after place.sound.1 in
+        let wrong : Some leaf ≡ None = sym some ∙ none in absurd (cc)
+
+    module _ (many : length place.node.children ≢ 2) where
+      pub three : 2 < length place.node.children
+      three = omega (arith, many, ap length place.shows.children, place.sound.0)
+
+      kind-there : node_kind parent ≡ kind_for (length place.node.children)
+      kind-there = place.smallest_kinds.0 ∙ ap (λ children. kind_for (length children)) (sym place.shows.children)
+
+      pub cut-many : (node : nodes.Inner (OpaqueNodePtr K V P)) → held cut parent ≡ HeldInner node → (2 < length node.children) × (least_children (node_kind parent) ≤ length node.children)
+      cut-many node is =
+          let same = ap (λ n. length n.children) (one-inner (held cut parent) place.node node is-cut is) in (
+            omega (arith, same, three),
+            subst (λ n. least_children (node_kind parent) ≤ n) same (subst (λ k. least_children k ≤ length place.node.children) (sym kind-there) (least-fits (length place.node.children) (omega (arith, three)))),
+          )
+
+      pub cut-room : ((node : nodes.Inner (OpaqueNodePtr K V P)) → held old parent ≡ HeldInner node → 2 < length node.children → length node.children ≡ least_children (node_kind parent) → 0 < room old (shrunk_kind (node_kind parent))) → ((kind : NodeType) → room old kind ≤ room cut kind) → HasRoomToShrink cut parent
+      cut-room rooms more node is two least =
+          let same = one-inner (held cut parent) place.node node is-cut is in
+          let was = rooms place.node place.is_held (subst (λ n. 2 < length n.children) (sym same) two) (ap (λ n. length n.children) same ∙ least) in
+          omega (arith, was, more (shrunk_kind (node_kind parent)))
+
+      -- the node has a child less, and may be at another place
+      module _ (new : ArenaOf K V P) (top : OpaqueNodePtr K V P) (distinct : AreDistinct (places (plug hangs.upper (part_there hangs)))) (less : HasOneLess cut new parent place.node (nodes.node_without_child place.node byte) top) where
+        top-held : held new top ≡ HeldInner (nodes.node_without_child place.node byte)
+        top-held = elim less [ inl cutting ↦ ap (held new) cutting.same ∙ cutting.changes.changed | inr shrunk ↦ shrunk.replaced.is_held ]
+
+        top-apart : top ≢ leaf
+        top-apart same = elim less [
+          | inl cutting ↦ place.apart (sym cutting.same ∙ same)
+          | inr shrunk ↦ shrunk-inner (node_kind parent) place.inner (sym shrunk.replaced.kind ∙ ap node_kind same ∙ leaf_kind old (node_kind leaf) (opaque_key leaf) place.own place.own_held)
+        ]
+
+        top-no-leaf : (l : LeafNode K V P) → held old top ≡ HeldLeaf l → ⊥
+        top-no-leaf l is = elim less [
+          | inl cutting ↦ (let wrong : HeldInner place.node ≡ HeldLeaf l = sym place.is_held ∙ ap (held old) (sym cutting.same) ∙ is in absurd (cc))
+          | inr shrunk ↦ (let now = (stays top top-apart).keeps.leaf l is in let wrong : HeldLeaf now.0 ≡ Nothing = sym now.1 ∙ shrunk.replaced.was_free in absurd (cc))
+        ]
+
+        abbrev many-cuts : AreCuts text old cut new hangs.upper (part_there hangs) root leaf top
+        many-cuts = record {
+          stood = place.alone.is_tree.stands;
+          was_root = place.alone.is_tree.at_root;
+          distinct = distinct;
+          inside = place.inside;
+          gone = gone;
+          stays = stays;
+          other = top-apart;
+          top_was = elim less [ inl cutting ↦ inl (0, omega arith, sym cutting.same) | inr shrunk ↦ inr shrunk.replaced.was_free ];
+          top_leaf = λ l is. absurd (top-no-leaf l is);
+          node_inner = place.no_leaf;
+          same = λ p not_top not_parent. elim less [ inl cutting ↦ cutting.changes.others p not_parent | inr shrunk ↦ shrunk.replaced.others p not_top not_parent ];
+        }
+
+        pub many-hangs : CanHang new higher
+        many-hangs = subst (CanHang new) hangs.hangs (can-hang text old cut new hangs.upper (part_there hangs) root leaf top many-cuts)
+
+        module _ (last : ArenaOf K V P) (root_now : OpaqueNodePtr K V P) (hung : IsHung new last higher top root root_now)
+            (spells : (left right : List ℕ) → Spells old (left ++ opaque_key leaf ∷ right) → Spells cut (left ++ right)) where
+          hung-there : IsHung new last (above hangs.upper) top root root_now
+          hung-there = subst (λ h. IsHung new last h top root root_now) (sym hangs.hangs) hung
+
+          abbrev now_there : Tree (OpaqueNodePtr K V P)
+          now_there = Inner top hangs.prefix (join hangs.before hangs.after)
+
+          leaf-last : held last leaf ≡ Nothing
+          leaf-last = last-inside text old cut new hangs.upper (part_there hangs) root leaf top many-cuts last root_now hung-there leaf place.inside ∙ many-cuts.same leaf (λ same. top-apart (sym same)) (λ same. place.apart (sym same)) ∙ gone
+
+          others-stand : AllStandIn text last (join hangs.before hangs.after)
+          others-stand =
+              let kept : (q : OpaqueNodePtr K V P) → Contains (branch_places hangs.before ++ branch_places hangs.after) q → KeepsAt old last q =
+              λ q inside.
+              let is = is-other hangs distinct q inside in
+              inside-kept text old cut new hangs.upper (part_there hangs) root leaf top many-cuts last root_now hung-there q is.inside is.not_leaf (λ same. elim less [
+                | inl cutting ↦ is.not_parent (same ∙ cutting.same)
+                | inr shrunk ↦ held-on old cut q (stays q is.not_leaf) (place-held text old (part_there hangs) place.stands q is.inside) (ap (held cut) same ∙ shrunk.replaced.was_free)
+              ]) is.not_parent in
+              kept-branches text old last (join hangs.before hangs.after) place.others_stand (λ q inside. kept q (subst (λ all. Contains all q) (places-join hangs.before hangs.after) inside))
+
+          many-dropped : HasDropped text old cut new hangs.upper (part_there hangs) root leaf top many-cuts last root_now hung-there now_there hangs.text (branch_leaves hangs.before) (branch_leaves hangs.after)
+          many-dropped = record {
+            at_root = refl;
+            stands = (
+              nodes.node_without_child place.node byte,
+              top-last text old cut new hangs.upper (part_there hangs) root leaf top many-cuts last root_now hung-there ∙ top-held,
+              record {
+                prefix_len = place.shows.prefix_len;
+                stored = place.shows.stored;
+                children = ap (λ children. without_child children byte) place.shows.children ∙ dropped-roots hangs.before byte (Leaf leaf hangs.text) hangs.after place.sound.1;
+              },
+              others-stand,
+            );
+            sound = dropped-sound hangs.before byte (Leaf leaf hangs.text) hangs.after (path_to hangs.upper) hangs.prefix parent place.sound top (omega (arith, three, place.count));
+            smallest_kinds = (top-kind, left-smallest_kinds hangs.before byte (Leaf leaf hangs.text) hangs.after place.smallest_kinds.1);
+            was = leaves-taken hangs.prefix parent hangs.before byte leaf hangs.text hangs.after;
+            is = leaves-join hangs.before hangs.after;
+            spelled = spells _ _ place.spelled;
+            freed = λ p inside. elim (place-cases hangs p inside) [
+              | inl at ↦ elim less [
+                | inl cutting ↦ inl (0, omega arith, cutting.same ∙ sym at)
+                | inr shrunk ↦ inr (last-inside text old cut new hangs.upper (part_there hangs) root leaf top many-cuts last root_now hung-there p inside ∙ ap (held new) at ∙ shrunk.replaced.is_free)
+              ]
+              | inr rest ↦ elim rest [
+                | inl own ↦ inr (ap (held last) own ∙ leaf-last)
+                | inr other ↦ inl (Contains-append_right (top ∷ []) (branch_places (join hangs.before hangs.after)) p (subst (λ all. Contains all p) (sym (places-join hangs.before hangs.after)) other))
+              ]
+            ];
+          }
+            where
+              top-kind : node_kind top ≡ kind_for (length (branch_roots (join hangs.before hangs.after)))
+              top-kind =
+                  let left = length (branch_roots (join hangs.before hangs.after)) in
+                  let kind : node_kind parent ≡ kind_for (left + 1) = kind-there ∙ ap kind_for place.count in
+                  elim less [
+                    | inl cutting ↦ ap node_kind cutting.same ∙ kind-lasts left (node_kind parent) kind (subst (λ m. least_children (node_kind parent) < m) place.count cutting.many)
+                    | inr shrunk ↦ shrunk.replaced.kind ∙ kind-shrinks left (node_kind parent) (omega (arith, three, place.count)) kind (sym place.count ∙ shrunk.least)
+                  ]
+
+          -- the tree has all entries but that of the leaf
+          pub many-removed : ((path : List ℕ) (t : Tree (OpaqueNodePtr K V P)) → IsSound path t → AreApart (texts t)) → IsRemoved text old last hangs.text root_now (leaf_key place.own, leaf_value place.own)
+          many-removed apart =
+              cut-removed text old cut new hangs.upper (part_there hangs) root leaf top many-cuts last root_now hung-there now_there hangs.text (branch_leaves hangs.before) (branch_leaves hangs.after) many-dropped
+              place.alone apart (leaf_key place.own, leaf_value place.own) place.entry

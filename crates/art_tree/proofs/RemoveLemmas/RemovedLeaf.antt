@@ -1,0 +1,223 @@
+-- Removal: a tree with one leaf less, after the steps of a removal.
+use Rattle.std.proofs.Common.{◌≡◌, ◌≢◌, ◌⊎◌, ◌∙◌, ℕ, ◌<◌, ◌^◌, List, [], ◌∷◌, ◌++◌, length, map, All, Contains, Some, refl, sym, ap, subst, inl, inr, arith, append_assoc}
+use Rattle.std.proofs.lemmas.List.{map-append}
+use Rattle.std.proofs.lemmas.List.Elements.{All-append, All-tail, Contains-append_right}
+use Rattle.art_header.specs.declared.node_type.NodeType.TheVariants as kinds
+use Rattle.art_nodes.specs.Pointers.{opaque_pointer}
+use Rattle.art_nodes.specs.Leaf.{leaf_key}
+use Rattle.art_nodes.specs.declared.pointers.OpaqueNodePtr.{OpaqueNodePtr}
+use Rattle.art_nodes.specs.declared.leaf_node.LeafNode.{LeafNode}
+use Rattle.art_arena.specs.Arena.{ArenaOf, HeldLeaf, Nothing, held, held_leaf, SameNodes}
+use Rattle.art_arena.specs.Links.{AreDistinct, Spells, leaf_at}
+use Rattle.art_arena.specs.Standing.{StandsIn}
+use Rattle.art_arena.specs.Trees.{Tree, leaves, places, root_of, texts, IsSound}
+use Rattle.art_tree.specs.Art.{IsAlone}
+use Rattle.art_tree.specs.Contexts.{Context, plug, path_to, leaves_before, leaves_after, parent, Adopts, KeepsAt, IsExchanged}
+use Rattle.art_tree.specs.Dictionary.{entry_at}
+use Rattle.art_tree.specs.Edits.{StaysAt}
+use Rattle.art_tree.specs.Hanging.{CanHang, IsHung}
+use Rattle.art_tree.specs.Loading.{HasSmallestKinds}
+use Rattle.art_tree.specs.Places.{above}
+use Rattle.art_tree.specs.Removal.{IsRemoved}
+use Rattle.art_tree.proofs.SharedLemmas.ChangedTree.{HangsAt, IsAbove, can-hang-at, hangs-at, held-on, keeps-on, leaf-no-parent, parent-above, place-held, root-place, was-leaf}
+use Rattle.art_tree.proofs.SharedLemmas.DictionaryLemmas.{AreApart, leaf-held-in}
+use Rattle.art_tree.proofs.RemoveLemmas.RemainingTree.{gone-entry}
+use Rattle.art_tree.proofs.SharedLemmas.ExchangedSubtree.{in-part, leaves-plug}
+use Rattle.art_tree.proofs.InsertLemmas.GapLemmas.{keys_of, keys-append}
+use Rattle.art_tree.proofs.SharedLemmas.ExchangedTree.{alone-grown, entries-but, entries-stay, leaf-stays, leaf-was, texts-part}
+use Rattle.art_tree.proofs.LoadLemmas.LeafLists.{spells-on}
+use Rattle.art_tree.proofs.InsertLemmas.NodeLemmas.{one-leaf, some-inner}
+use Rattle.art_tree.proofs.FindLemmas.OnlyWayLemmas.{All-left, All-right}
+use Rattle.art_tree.proofs.LoadLemmas.PlacedTrees.{cases_pointer, leaf-of}
+
+-- the steps of a removal: from the first arena to the next a leaf is removed, from there to the
+-- third its parent is changed or replaced, and then the new node is put there
+module _ {K V : Type 0} {P : ℕ} (text : K → List ℕ) (old cut new : ArenaOf K V P) (context : Context (OpaqueNodePtr K V P)) (part : Tree (OpaqueNodePtr K V P)) (root leaf top : OpaqueNodePtr K V P) where
+  pub record AreCuts : Type 0 where
+    pub stood : StandsIn text old (plug context part)
+    pub was_root : root_of (plug context part) ≡ root
+    pub distinct : AreDistinct (places (plug context part))
+    pub inside : Contains (places part) leaf
+    pub gone : held cut leaf ≡ Nothing
+    pub stays : (p : OpaqueNodePtr K V P) → p ≢ leaf → StaysAt old cut p
+    pub other : top ≢ leaf
+    pub top_was : Contains (places part) top ⊎ (held cut top ≡ Nothing)
+    pub top_leaf : (l : LeafNode K V P) → held old top ≡ HeldLeaf l → held new top ≡ held cut top
+    pub node_inner : (l : LeafNode K V P) → held old (root_of part) ≡ HeldLeaf l → ⊥
+    pub same : (p : OpaqueNodePtr K V P) → p ≢ top → p ≢ root_of part → held new p ≡ held cut p
+
+  module _ (steps : AreCuts) where
+    part-held : (p : OpaqueNodePtr K V P) → Contains (places part) p → held old p ≢ Nothing
+    part-held p inside = place-held text old (plug context part) steps.stood p (in-part context part p inside)
+
+    outside-not : (p : OpaqueNodePtr K V P) → held old p ≢ Nothing → (Contains (places part) p → ⊥) → p ≢ leaf
+    outside-not p was outside same = outside (subst (Contains (places part)) (sym same) steps.inside)
+
+    outside-top : (p : OpaqueNodePtr K V P) → held old p ≢ Nothing → (Contains (places part) p → ⊥) → p ≢ top
+    outside-top p was outside same = elim steps.top_was [
+      | inl inside ↦ outside (subst (Contains (places part)) (sym same) inside)
+      | inr free ↦ held-on old cut p (steps.stays p (outside-not p was outside)) was (ap (held cut) same ∙ free)
+    ]
+
+    outside-node : (p : OpaqueNodePtr K V P) → (Contains (places part) p → ⊥) → p ≢ root_of part
+    outside-node p outside same = outside (subst (Contains (places part)) (sym same) (root-place part))
+
+    above_it : (p : OpaqueNodePtr K V P) → parent context ≡ Some p → IsAbove text old part p
+    above_it = parent-above text old context part steps.stood steps.distinct
+
+    not-parent : (p : OpaqueNodePtr K V P) → Contains (places part) p → parent context ≢ Some p
+    not-parent p inside is = (above_it p is).outside inside
+
+    parent-held : (p : OpaqueNodePtr K V P) → parent context ≡ Some p → held old p ≢ Nothing
+    parent-held p is = some-inner (held old p) (above_it p is).node (above_it p is).is
+
+    parent-kept : (p : OpaqueNodePtr K V P) → parent context ≡ Some p → held new p ≡ held old p
+    parent-kept p is =
+        let at = above_it p is in
+        let was = parent-held p is in
+        steps.same p (outside-top p was at.outside) (outside-node p at.outside) ∙ (steps.stays p (outside-not p was at.outside)).keeps.inner at.node at.is ∙ sym at.is
+
+    pub can-hang : CanHang new (above context)
+    can-hang = can-hang-at text old new context part steps.stood parent-kept
+
+    module _ (last : ArenaOf K V P) (root_now : OpaqueNodePtr K V P) (hung : IsHung new last (above context) top root root_now) where
+      hangs : HangsAt old new last context top root_now part
+      hangs = hangs-at text old new last context part top root root_now steps.stood steps.was_root parent-kept hung
+
+      -- what is outside of the part is kept to the end, but for the parent
+      pub outside-kept : (p : OpaqueNodePtr K V P) → held old p ≢ Nothing → (Contains (places part) p → ⊥) → parent context ≢ Some p → KeepsAt old last p
+      outside-kept p was outside away = keeps-on old cut last p (steps.stays p (outside-not p was outside)) (hangs.others p away ∙ steps.same p (outside-top p was outside) (outside-node p outside))
+
+      -- and what is in it, but for the leaf, its parent, and the node that is put there
+      pub inside-kept : (p : OpaqueNodePtr K V P) → Contains (places part) p → p ≢ leaf → p ≢ top → p ≢ root_of part → KeepsAt old last p
+      inside-kept p inside not_leaf not_top not_node = keeps-on old cut last p (steps.stays p not_leaf) (hangs.others p (not-parent p inside) ∙ steps.same p not_top not_node)
+
+      pub last-inside : (p : OpaqueNodePtr K V P) → Contains (places part) p → held last p ≡ held new p
+      last-inside p inside = hangs.others p (not-parent p inside)
+
+      pub top-last : held last top ≡ held new top
+      top-last = hangs.others top (λ is. elim steps.top_was [
+        | inl inside ↦ not-parent top inside is
+        | inr free ↦ held-on old cut top (steps.stays top steps.other) (parent-held top is) free
+      ])
+
+      leaf-same : (p : OpaqueNodePtr K V P) (l : LeafNode K V P) → held old p ≡ HeldLeaf l → p ≢ leaf → held last p ≡ held cut p
+      leaf-same p l is other =
+          let away = leaf-no-parent text old context part steps.stood steps.distinct p l is in
+          elim (cases_pointer p top) [
+            | inl same ↦ hangs.others p away ∙ ap (held new) same ∙ steps.top_leaf l (ap (held old) (sym same) ∙ is) ∙ ap (held cut) (sym same)
+            | inr differ ↦ hangs.others p away ∙ steps.same p differ (λ same. steps.node_inner l (ap (held old) (sym same) ∙ is))
+          ]
+
+      -- every other leaf is kept
+      pub leaves-kept : (p : OpaqueNodePtr K V P) (l : LeafNode K V P) → held old p ≡ HeldLeaf l → p ≢ leaf → KeepsAt old last p
+      leaves-kept p l is other = keeps-on old cut last p (steps.stays p other) (leaf-same p l is other)
+
+      fresh-last : (p : OpaqueNodePtr K V P) → held last p ≢ Nothing → held old p ≡ Nothing → p ≡ top
+      fresh-last p is free = elim (cases_pointer p top) [
+        | inl same ↦ same
+        | inr differ ↦ absurd (is (
+            hangs.others p (λ is_above. parent-held p is_above free) ∙ steps.same p differ (λ same. part-held (root_of part) (root-place part) (ap (held old) (sym same) ∙ free))
+            ∙ (steps.stays p (λ same. part-held leaf steps.inside (ap (held old) (sym same) ∙ free))).nothing free
+            ))
+      ]
+
+      -- lists of leaves are spelled on to the end
+      leaf-at-last : (k : ℕ) (l : LeafNode K V P) → leaf_at cut k ≡ Some l → leaf_at last k ≡ Some l
+      leaf-at-last k l at =
+          let p = opaque_pointer kinds.Leaf k in
+          let there : held cut p ≡ HeldLeaf l = ap held_leaf at in
+          let other : p ≢ leaf = λ same. (let wrong : HeldLeaf l ≡ Nothing = sym there ∙ ap (held cut) same ∙ steps.gone in absurd (cc)) in
+          let (was, is) = was-leaf old cut p l (steps.stays p other) there in
+          leaf-of (leaf_at last k) l (leaf-same p was is other ∙ there)
+
+      -- the part without the leaf
+      module _ (now : Tree (OpaqueNodePtr K V P)) (x : List ℕ) (lefts rights : List (OpaqueNodePtr K V P × List ℕ)) where
+        pub record HasDropped : Type 0 where
+          pub at_root : root_of now ≡ top
+          pub stands : StandsIn text last now
+          pub sound : IsSound (path_to context) now
+          pub smallest_kinds : HasSmallestKinds now
+          pub was : leaves part ≡ lefts ++ (leaf, x) ∷ rights
+          pub is : leaves now ≡ lefts ++ rights
+          pub spelled : Spells cut (keys_of (leaves_before context ++ lefts) ++ keys_of (rights ++ leaves_after context))
+          pub freed : (p : OpaqueNodePtr K V P) → Contains (places part) p → Contains (places now) p ⊎ (held last p ≡ Nothing)
+
+        module _ (has : HasDropped) where
+          abbrev left : List (OpaqueNodePtr K V P × List ℕ)
+          left = leaves_before context ++ lefts
+
+          abbrev right : List (OpaqueNodePtr K V P × List ℕ)
+          right = rights ++ leaves_after context
+
+          whole-was : leaves (plug context part) ≡ left ++ (leaf, x) ∷ right
+          whole-was =
+              leaves-plug context part
+              ∙ ap (λ all. leaves_before context ++ (all ++ leaves_after context)) has.was
+              ∙ ap (λ all. leaves_before context ++ all) (append_assoc lefts ((leaf, x) ∷ rights) (leaves_after context))
+              ∙ sym (append_assoc (leaves_before context) lefts ((leaf, x) ∷ right))
+
+          whole-is : leaves (plug context now) ≡ left ++ right
+          whole-is =
+              leaves-plug context now
+              ∙ ap (λ all. leaves_before context ++ (all ++ leaves_after context)) has.is
+              ∙ ap (λ all. leaves_before context ++ all) (append_assoc lefts rights (leaves_after context))
+              ∙ sym (append_assoc (leaves_before context) lefts right)
+
+          fewer-texts : (Q : List ℕ → Type 0) → All Q (texts part) → All Q (texts now)
+          fewer-texts Q each =
+              let of : List (OpaqueNodePtr K V P × List ℕ) → List (List ℕ) = map (λ l. l.1) in
+              let all = subst (All Q) (ap of has.was ∙ map-append (λ l. l.1) lefts ((leaf, x) ∷ rights)) each in
+              subst (All Q) (sym (ap of has.is ∙ map-append (λ l. l.1) lefts rights)) (All-append Q (of lefts) (of rights) (All-left Q (of lefts) (x ∷ of rights) all) (All-tail Q x (of rights) (All-right Q (of lefts) (x ∷ of rights) all)))
+
+          exchanged : IsExchanged old last text context part now
+          exchanged = record {
+            stood = steps.stood;
+            stands = has.stands;
+            adopted = subst (Adopts old last context) (sym has.at_root) hangs.adopted;
+            others = λ p inside outside away. outside-kept p (place-held text old (plug context part) steps.stood p inside) outside away;
+          }
+
+          cut-alone : IsAlone text old root (plug context part) → IsAlone text last root_now (plug context now)
+          cut-alone alone =
+              let whole = alone-grown text old last root context part now alone steps.distinct exchanged has.sound has.smallest_kinds
+              (fewer-texts (λ y. length y < 2 ^ 32) (texts-part (λ y. length y < 2 ^ 32) context part alone.short))
+              (subst (Spells last) (sym (ap keys_of whole-is ∙ keys-append left right)) (spells-on cut last leaf-at-last _ has.spelled))
+              (λ p is free. subst (Contains (places now)) (has.at_root ∙ sym (fresh-last p is free)) (root-place now))
+              has.freed in
+              subst (λ r. IsAlone text last r (plug context now)) (hangs.at_root now has.at_root) whole
+
+          -- every other text has the entry that it had, and this one none
+          cut-others : (alone : IsAlone text old root (plug context part)) → AreApart (texts (plug context part)) → AreApart (texts (plug context now)) → (y : List ℕ) → y ≢ x → entry_at text last y ≡ entry_at text old y
+          cut-others alone apart apart_now =
+              let there : Contains (leaves (plug context part)) (leaf, x) = subst (λ all. Contains all (leaf, x)) (sym whole-was) (Contains-append_right left ((leaf, x) ∷ right) (leaf, x) (0, omega arith, refl)) in
+              let own = leaf-held-in text old (plug context part) alone.is_tree.stands leaf x there in
+              let keeps : (p : OpaqueNodePtr K V P) (y : List ℕ) → Contains (leaves (plug context part)) (p, y) → y ≢ x → KeepsAt old last p =
+              λ p y inside differ.
+              let is = leaf-held-in text old (plug context part) alone.is_tree.stands p y inside in
+              leaves-kept p is.0 is.1 (λ same. differ (sym is.2 ∙ ap (λ l. text (leaf_key l)) (one-leaf (held old leaf) is.0 own.0 (ap (held old) (sym same) ∙ is.1) own.1) ∙ own.2)) in
+              entries-but text old last root root_now (plug context part) (plug context now) alone (cut-alone alone) apart apart_now x
+              (λ p y inside differ. let was = leaf-stays left right leaf x (plug context now) (plug context part) whole-is whole-was p y inside in (was, keeps p y was differ))
+              (λ p y inside differ. (leaf-was left right leaf x (plug context now) (plug context part) whole-is whole-was p y inside differ, keeps p y inside differ))
+
+          -- the tree has all entries but that of the leaf
+          pub cut-removed : IsAlone text old root (plug context part) → ((path : List ℕ) (t : Tree (OpaqueNodePtr K V P)) → IsSound path t → AreApart (texts t)) → (entry : K × V) → (AreApart (texts (plug context part)) → entry_at text old x ≡ Some entry) → IsRemoved text old last x root_now entry
+          cut-removed alone apart entry was =
+              let alone_now = cut-alone alone in
+              let apart_old = apart [] (plug context part) alone.is_tree.sound in
+              let apart_now = apart [] (plug context now) alone_now.is_tree.sound in
+              record {
+                art = (plug context now, alone_now);
+                left = record {
+                  gone = gone-entry text last root_now (plug context now) alone_now (plug context part) apart_old left right leaf x whole-was whole-is;
+                  others = cut-others alone apart_old apart_now;
+                };
+                was = was apart_old;
+              }
+
+-- where the first step only made spare capacity, what is removed after it is removed by both
+pub removed-from : {K V : Type 0} {P : ℕ} (text : K → List ℕ) (old reserved last : ArenaOf K V P) (x : List ℕ) (root_now : OpaqueNodePtr K V P) (entry : K × V) (root : OpaqueNodePtr K V P) (tree : Tree (OpaqueNodePtr K V P)) → IsAlone text old root tree → AreApart (texts tree) → SameNodes old reserved
+    → IsRemoved text reserved last x root_now entry → IsRemoved text old last x root_now entry
+removed-from text old reserved last x root_now entry root tree alone apart same removed =
+    let entries = entries-stay text old reserved same root tree alone apart in
+    record { art = removed.art; left = record { gone = removed.left.gone; others = λ y differ. removed.left.others y differ ∙ entries y }; was = sym (entries x) ∙ removed.was }

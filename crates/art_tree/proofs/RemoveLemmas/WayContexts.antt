@@ -1,0 +1,161 @@
+-- Removal: the way to a leaf as the place of that leaf in the tree.
+use Rattle.std.proofs.Common.{◌≡◌, ◌∙◌, ℕ, List, [], ◌∷◌, ◌++◌, Option, Some, None, refl, sym, ap, inl, inr, append_assoc, append-nil}
+use Rattle.std.proofs.lemmas.Option.{same_Some}
+use Rattle.art_nodes.specs.declared.pointers.OpaqueNodePtr.{OpaqueNodePtr}
+use Rattle.art_arena.specs.Trees.{Tree, Leaf, Inner, Branches, NoBranch, Branch}
+use Rattle.art_tree.specs.Contexts.{Context, Whole, Under, plug, join}
+use Rattle.art_tree.specs.Dropping.{HangsUnder}
+use Rattle.art_tree.specs.Paths.{path_of}
+use Rattle.art_tree.specs.Places.{above}
+use Rattle.art_tree.specs.Search.{IsWay, IsWayUnder, IsPathTo}
+use Rattle.art_tree.specs.declared.path.TreePath.{TreePath}
+use Rattle.art_tree.specs.declared.path.TreePath.TheVariants.{Root, ChildOfRoot, Normal}
+use Rattle.art_tree.proofs.SharedLemmas.BranchLemmas.{one_branch}
+use Rattle.art_tree.proofs.LoadLemmas.PlanLemmas.{join_assoc}
+use Rattle.art_tree.proofs.FindLemmas.PathSteps.{path_of-visit, visited}
+
+-- the inner nodes above a place from the root down, each with the byte that is taken from it
+abbrev pub steps_to : {H : Type 0} → Context H → List (H × ℕ)
+steps_to Whole = []
+steps_to (Under above pointer prefix before byte after) = steps_to above ++ (pointer, byte) ∷ []
+
+-- the place of a leaf in a tree, to which these steps lead
+pub record HasLeafAt {H : Type 0} (tree : Tree H) (steps : List (H × ℕ)) (pointer : H) : Type 0 where
+  pub context : Context H
+  pub text : List ℕ
+  pub whole : plug context (Leaf pointer text) ≡ tree
+  pub same : steps_to context ≡ steps
+
+-- the place is the child under this byte of an inner node, which has this parent
+pub record IsUnder {H : Type 0} (context : Context H) (parent : H) (byte : ℕ) (higher : Option (H × ℕ)) : Type 0 where
+  pub upper : Context H
+  pub prefix : List ℕ
+  pub before : Branches H
+  pub after : Branches H
+  pub is : context ≡ Under upper parent prefix before byte after
+  pub hangs : above upper ≡ higher
+
+module _ {H : Type 0} where
+  mutual
+    -- a way on from a part of a tree goes on from the place of the part
+    way-from : (context : Context H) (part : Tree H) (steps : List (H × ℕ)) (pointer : H) → IsWay part steps pointer → HasLeafAt (plug context part) (steps_to context ++ steps) pointer
+    way-from context (Leaf at text) steps pointer (none, same) = record {
+      context = context;
+      text = text;
+      whole = ap (λ p. plug context (Leaf p text)) same;
+      same = sym (append-nil (steps_to context)) ∙ ap (λ more. steps_to context ++ more) (sym none);
+    }
+    way-from context (Inner at prefix branches) steps pointer (byte, rest, is, under) =
+        let leaf = way-under context at prefix NoBranch branches byte rest pointer under in
+        record { context = leaf.context; text = leaf.text; whole = leaf.whole; same = leaf.same ∙ ap (λ more. steps_to context ++ more) (sym is) }
+
+    -- and so does one from the branches of its top node that are left
+    way-under : (context : Context H) (at : H) (prefix : List ℕ) (before branches : Branches H) (byte : ℕ) (rest : List (H × ℕ)) (pointer : H) → IsWayUnder branches byte rest pointer
+        → HasLeafAt (plug context (Inner at prefix (join before branches))) (steps_to context ++ (at, byte) ∷ rest) pointer
+    way-under context at prefix before NoBranch byte rest pointer under = absurd under
+    way-under context at prefix before (Branch b tree others) byte rest pointer under = elim under [
+      | inl (same, way) ↦
+          let leaf = way-from (Under context at prefix before b others) tree rest pointer way in
+          record {
+            context = leaf.context;
+            text = leaf.text;
+            whole = leaf.whole;
+            same = leaf.same ∙ append_assoc (steps_to context) ((at, b) ∷ []) rest ∙ ap (λ z. steps_to context ++ (at, z) ∷ rest) same;
+          }
+      | inr later ↦
+          let leaf = way-under context at prefix (join before (one_branch b tree)) others byte rest pointer later in
+          record {
+            context = leaf.context;
+            text = leaf.text;
+            whole = leaf.whole ∙ ap (λ all. plug context (Inner at prefix all)) (join_assoc before (one_branch b tree) others);
+            same = leaf.same;
+          }
+    ]
+
+  -- a way leads to a place
+  pub way-context : (tree : Tree H) (steps : List (H × ℕ)) (pointer : H) → IsWay tree steps pointer → HasLeafAt tree steps pointer
+  way-context tree steps pointer way = way-from Whole tree steps pointer way
+
+  -- a leaf is under its parent, where its place is
+  hangs-under : (tree : Tree H) (steps : List (H × ℕ)) (pointer parent : H) (byte : ℕ) (higher : Option (H × ℕ)) (leaf : HasLeafAt tree steps pointer) → IsUnder leaf.context parent byte higher → HangsUnder tree pointer parent byte higher
+  hangs-under tree steps pointer parent byte higher leaf under = record {
+    upper = under.upper;
+    prefix = under.prefix;
+    before = under.before;
+    after = under.after;
+    text = leaf.text;
+    whole = ap (λ context. plug context (Leaf pointer leaf.text)) (sym under.is) ∙ leaf.whole;
+    hangs = under.hangs;
+  }
+
+module _ {K V : Type 0} {P : ℕ} where
+  -- the last step of a path
+  abbrev last_step : TreePath K V P → Option (OpaqueNodePtr K V P × ℕ)
+  last_step Root = None
+  last_step (ChildOfRoot parent byte) = Some (parent, byte)
+  last_step (Normal grandparent parent_byte parent byte) = Some (parent, byte)
+
+  -- the last step but one
+  abbrev step_before : TreePath K V P → Option (OpaqueNodePtr K V P × ℕ)
+  step_before Root = None
+  step_before (ChildOfRoot parent byte) = None
+  step_before (Normal grandparent parent_byte parent byte) = Some (grandparent, parent_byte)
+
+  last-visited : (path : TreePath K V P) (node : OpaqueNodePtr K V P) (byte : ℕ) → last_step (visited path node byte) ≡ Some (node, byte)
+  last-visited Root node byte = refl
+  last-visited (ChildOfRoot parent higher) node byte = refl
+  last-visited (Normal grandparent higher parent below) node byte = refl
+
+  before-visited : (path : TreePath K V P) (node : OpaqueNodePtr K V P) (byte : ℕ) → step_before (visited path node byte) ≡ last_step path
+  before-visited Root node byte = refl
+  before-visited (ChildOfRoot parent higher) node byte = refl
+  before-visited (Normal grandparent higher parent below) node byte = refl
+
+  -- the last step of the path to a place is from the node above it
+  above-last : (context : Context (OpaqueNodePtr K V P)) → above context ≡ last_step (path_of (steps_to context))
+  above-last Whole = refl
+  above-last (Under upper pointer prefix before byte after) = sym (ap last_step (path_of-visit (steps_to upper) pointer byte) ∙ last-visited (path_of (steps_to upper)) pointer byte)
+
+  -- and the one before it is from the node above that one
+  above-before : (upper : Context (OpaqueNodePtr K V P)) (pointer : OpaqueNodePtr K V P) (byte : ℕ) → above upper ≡ step_before (path_of (steps_to upper ++ (pointer, byte) ∷ []))
+  above-before upper pointer byte = above-last upper ∙ sym (ap step_before (path_of-visit (steps_to upper) pointer byte) ∙ before-visited (path_of (steps_to upper)) pointer byte)
+
+  -- a place to which there is no step is the whole
+  pub path-root : (context : Context (OpaqueNodePtr K V P)) → path_of (steps_to context) ≡ Root → context ≡ Whole
+  path-root Whole is = refl
+  path-root (Under upper pointer prefix before byte after) is =
+      let wrong = above-last (Under upper pointer prefix before byte after) ∙ ap last_step is in absurd (cc)
+
+  -- the other places are under the node of the last step
+  path-under : (context : Context (OpaqueNodePtr K V P)) (path : TreePath K V P) (parent : OpaqueNodePtr K V P) (byte : ℕ) → path_of (steps_to context) ≡ path → last_step path ≡ Some (parent, byte) → IsUnder context parent byte (step_before path)
+  path-under Whole path parent byte is last = let wrong = ap last_step is ∙ last in absurd (cc)
+  path-under (Under upper pointer prefix before b after) path parent byte is last =
+      let one : Some (pointer, b) ≡ Some (parent, byte) = above-last (Under upper pointer prefix before b after) ∙ ap last_step is ∙ last in
+      let step = same_Some (pointer, b) (parent, byte) one in
+      record {
+        upper = upper;
+        prefix = prefix;
+        before = before;
+        after = after;
+        is = ap (λ s. Under upper s.0 prefix before s.1 after) step;
+        hangs = above-before upper pointer b ∙ ap step_before is;
+      }
+
+  module _ (tree : Tree (OpaqueNodePtr K V P)) (pointer : OpaqueNodePtr K V P) where
+    -- a leaf to which the path has no step is the whole tree
+    pub leaf-root : IsPathTo tree pointer Root → (text : List ℕ) × (tree ≡ Leaf pointer text)
+    leaf-root (steps, only, is) =
+        let leaf = way-context tree steps pointer only.0 in
+        (leaf.text, sym leaf.whole ∙ ap (λ context. plug context (Leaf pointer leaf.text)) (path-root leaf.context (ap path_of leaf.same ∙ sym is)))
+
+    -- any other leaf is a child of the node of the last step
+    leaf-under : (path : TreePath K V P) (parent : OpaqueNodePtr K V P) (byte : ℕ) → IsPathTo tree pointer path → last_step path ≡ Some (parent, byte) → HangsUnder tree pointer parent byte (step_before path)
+    leaf-under path parent byte (steps, only, is) last =
+        let leaf = way-context tree steps pointer only.0 in
+        hangs-under tree steps pointer parent byte (step_before path) leaf (path-under leaf.context path parent byte (ap path_of leaf.same ∙ sym is) last)
+
+    pub leaf-child : (parent : OpaqueNodePtr K V P) (byte : ℕ) → IsPathTo tree pointer (ChildOfRoot parent byte) → HangsUnder tree pointer parent byte None
+    leaf-child parent byte path = leaf-under (ChildOfRoot parent byte) parent byte path refl
+
+    pub leaf-normal : (grandparent : OpaqueNodePtr K V P) (parent_byte : ℕ) (parent : OpaqueNodePtr K V P) (byte : ℕ) → IsPathTo tree pointer (Normal grandparent parent_byte parent byte) → HangsUnder tree pointer parent byte (Some (grandparent, parent_byte))
+    leaf-normal grandparent parent_byte parent byte path = leaf-under (Normal grandparent parent_byte parent byte) parent byte path refl

@@ -1,0 +1,128 @@
+-- Insertion and removal: the tree and its arena after a change.
+use Rattle.std.proofs.Common.{◌≡◌, ◌≢◌, ◌⊎◌, ◌∙◌, ℕ, ◌==◌, Bool, true, false, if◌then◌else◌, List, [], ◌∷◌, ◌++◌, Contains, Some, None, refl, sym, ap, subst, inl, inr, arith}
+use Rattle.std.proofs.lemmas.Bool.Decides.{nat_tests}
+use Rattle.std.proofs.lemmas.List.Elements.{Contains-append_cases}
+use Rattle.art_nodes.specs.ChildMap.{ChildMap, child_at}
+use Rattle.art_nodes.specs.Inner as nodes
+use Rattle.art_nodes.specs.declared.pointers.OpaqueNodePtr.{OpaqueNodePtr}
+use Rattle.art_nodes.specs.declared.leaf_node.LeafNode.{LeafNode}
+use Rattle.art_arena.specs.Arena.{ArenaOf, Held, HeldInner, HeldLeaf, Nothing, held}
+use Rattle.art_arena.specs.Links.{AreDistinct}
+use Rattle.art_arena.specs.Standing.{StandsIn, AllStandIn}
+use Rattle.art_arena.specs.Trees.{Tree, Leaf, Inner, Branches, NoBranch, Branch, places, branch_places, branch_roots, root_of}
+use Rattle.art_tree.specs.Contexts.{Context, Whole, Under, plug, parent, Adopts, KeepsAt, join}
+use Rattle.art_tree.specs.Edits.{StaysAt}
+use Rattle.art_tree.specs.Hanging.{CanHang, IsHung}
+use Rattle.art_tree.specs.Places.{above}
+use Rattle.art_tree.proofs.SharedLemmas.BranchLemmas.{roots-join}
+use Rattle.art_tree.proofs.SharedLemmas.ExchangedSubtree.{the-one, around, stands-part}
+use Rattle.art_tree.proofs.SharedLemmas.ExchangedTree.{root-under}
+
+module _ {K V : Type 0} {P : ℕ} (text : K → List ℕ) (arena : ArenaOf K V P) where
+  mutual
+    -- the places of a tree that stands hold nodes
+    pub place-held : (tree : Tree (OpaqueNodePtr K V P)) → StandsIn text arena tree → (q : OpaqueNodePtr K V P) → Contains (places tree) q → held arena q ≢ Nothing
+    place-held (Leaf pointer x) (leaf, holds, has) q inside = λ none. let wrong : HeldLeaf leaf ≡ Nothing = sym holds ∙ ap (held arena) (the-one pointer q inside) ∙ none in absurd (cc)
+    place-held (Inner pointer prefix branches) (node, holds, shows, stand) q inside = elim (Contains-append_cases (pointer ∷ []) (branch_places branches) q inside) [
+      | inl here ↦ λ none. let wrong : HeldInner node ≡ Nothing = sym holds ∙ ap (held arena) (the-one pointer q here) ∙ none in absurd (cc)
+      | inr below ↦ branch-place-held branches stand q below
+    ]
+
+    pub branch-place-held : (branches : Branches (OpaqueNodePtr K V P)) → AllStandIn text arena branches → (q : OpaqueNodePtr K V P) → Contains (branch_places branches) q → held arena q ≢ Nothing
+    branch-place-held NoBranch stand q (k, inside, is) = absurd (omega (arith, inside))
+    branch-place-held (Branch byte tree others) (stands, stand) q inside = elim (Contains-append_cases (places tree) (branch_places others) q inside) [
+      | inl here ↦ place-held tree stands q here
+      | inr later ↦ branch-place-held others stand q later
+    ]
+
+-- the root of a tree is one of its places
+pub root-place : {H : Type 0} (tree : Tree H) → Contains (places tree) (root_of tree)
+root-place (Leaf pointer x) = (0, omega arith, refl)
+root-place (Inner pointer prefix branches) = (0, omega arith, refl)
+
+module _ {K V : Type 0} {P : ℕ} where
+  -- the parent of a place is an inner node outside of the subtree there
+  pub record IsAbove (text : K → List ℕ) (arena : ArenaOf K V P) (part : Tree (OpaqueNodePtr K V P)) (pointer : OpaqueNodePtr K V P) : Type 0 where
+    pub node : nodes.Inner (OpaqueNodePtr K V P)
+    pub is : held arena pointer ≡ HeldInner node
+    pub outside : Contains (places part) pointer → ⊥
+
+  pub parent-above : (text : K → List ℕ) (arena : ArenaOf K V P) (context : Context (OpaqueNodePtr K V P)) (part : Tree (OpaqueNodePtr K V P)) → StandsIn text arena (plug context part) → AreDistinct (places (plug context part)) → (pointer : OpaqueNodePtr K V P) → parent context ≡ Some pointer → IsAbove text arena part pointer
+  parent-above text arena Whole part stands distinct pointer is = absurd (cc)
+  parent-above text arena (Under higher p prefix before byte after) part stands distinct pointer is =
+      let (node, holds, shows, stand) = stands-part text arena arena higher (Inner p prefix (join before (Branch byte part after))) stands in
+      let same : p ≡ pointer = cc in
+      record {
+        node = node;
+        is = ap (held arena) (sym same) ∙ holds;
+        outside = λ inside. (around (Under higher p prefix before byte after) part p distinct (0, omega arith, refl)).outside (subst (Contains (places part)) (sym same) inside);
+      }
+
+  -- no leaf is the parent of a place
+  pub leaf-no-parent : (text : K → List ℕ) (arena : ArenaOf K V P) (context : Context (OpaqueNodePtr K V P)) (part : Tree (OpaqueNodePtr K V P)) → StandsIn text arena (plug context part) → AreDistinct (places (plug context part)) → (p : OpaqueNodePtr K V P) (l : LeafNode K V P) → held arena p ≡ HeldLeaf l → parent context ≢ Some p
+  leaf-no-parent text arena context part stands distinct p l is above_it =
+      let at = parent-above text arena context part stands distinct p above_it in
+      let wrong : HeldLeaf l ≡ HeldInner at.node = sym is ∙ at.is in absurd (cc)
+
+  -- what hanging a node in the place of a subtree leaves
+  pub record HangsAt (old new last : ArenaOf K V P) (context : Context (OpaqueNodePtr K V P)) (top root : OpaqueNodePtr K V P) (part : Tree (OpaqueNodePtr K V P)) : Type 0 where
+    pub adopted : Adopts old last context top
+    pub others : (p : OpaqueNodePtr K V P) → parent context ≢ Some p → held last p ≡ held new p
+    pub at_root : (now : Tree (OpaqueNodePtr K V P)) → root_of now ≡ top → root_of (plug context now) ≡ root
+
+  pub hangs-at : (text : K → List ℕ) (old new last : ArenaOf K V P) (context : Context (OpaqueNodePtr K V P)) (part : Tree (OpaqueNodePtr K V P)) (top root root_now : OpaqueNodePtr K V P) → StandsIn text old (plug context part) → root_of (plug context part) ≡ root
+      → ((p : OpaqueNodePtr K V P) → parent context ≡ Some p → held new p ≡ held old p) → IsHung new last (above context) top root root_now → HangsAt old new last context top root_now part
+  hangs-at text old new last Whole part top root root_now stands at_root kept (same, is) = record { adopted = tt; others = λ p differ. same p; at_root = λ now top_is. top_is ∙ sym is }
+  hangs-at text old new last (Under higher p prefix before byte after) part top root root_now stands at_root kept (is, written) =
+      let (node, holds, shows, stand) = stands-part text old old higher (Inner p prefix (join before (Branch byte part after))) stands in
+      record {
+        adopted = λ own own_is. (written own (kept p refl ∙ own_is)).changed;
+        others = λ q differ. (written node (kept p refl ∙ holds)).others q (λ same. differ (ap Some (sym same)));
+        at_root = λ now top_is. root-under higher p prefix before byte after part now ∙ at_root ∙ sym is;
+      }
+
+-- a node is where it was in an arena that keeps the parent
+there-at : {H : Type 0} (xs : ChildMap H) (byte : ℕ) (child : H) (ys : ChildMap H) → child_at (xs ++ (byte, child) ∷ ys) byte ≢ None
+there-at [] byte child ys = by_test (byte == byte) (grind (arith, nat_tests))
+  where
+    by_test : (test : Bool) → test ≡ true → (if test then Some child else child_at ys byte) ≢ None
+    by_test true is = λ none. absurd (cc)
+    by_test false is = absurd (cc)
+there-at (x ∷ xs) byte child ys = by_test (x.0 == byte) (there-at xs byte child ys)
+  where
+    by_test : (test : Bool) → child_at (xs ++ (byte, child) ∷ ys) byte ≢ None → (if test then Some x.1 else child_at (xs ++ (byte, child) ∷ ys) byte) ≢ None
+    by_test true rest = λ none. absurd (cc)
+    by_test false rest = rest
+
+pub can-hang-at : {K V : Type 0} {P : ℕ} (text : K → List ℕ) (old new : ArenaOf K V P) (context : Context (OpaqueNodePtr K V P)) (part : Tree (OpaqueNodePtr K V P)) → StandsIn text old (plug context part) → ((p : OpaqueNodePtr K V P) → parent context ≡ Some p → held new p ≡ held old p) → CanHang new (above context)
+can-hang-at text old new Whole part stands kept = tt
+can-hang-at text old new (Under higher p prefix before byte after) part stands kept =
+    let (node, holds, shows, stand) = stands-part text old old higher (Inner p prefix (join before (Branch byte part after))) stands in
+    (node, kept p refl ∙ holds, subst (λ children. child_at children byte ≢ None) (sym (shows.children ∙ roots-join before (Branch byte part after))) (there-at (branch_roots before) byte (root_of part) (branch_roots after)))
+
+module _ {K V : Type 0} {P : ℕ} where
+  -- a place is free, or it holds an inner node or a leaf
+  held-case : (h : Held (OpaqueNodePtr K V P) (LeafNode K V P)) → (h ≡ Nothing) ⊎ (((node : nodes.Inner (OpaqueNodePtr K V P)) × (h ≡ HeldInner node)) ⊎ ((l : LeafNode K V P) × (h ≡ HeldLeaf l)))
+  held-case Nothing = inl refl
+  held-case (HeldInner node) = inr (inl (node, refl))
+  held-case (HeldLeaf l) = inr (inr (l, refl))
+
+  -- what is held stays held
+  pub held-on : (old new : ArenaOf K V P) (p : OpaqueNodePtr K V P) → StaysAt old new p → held old p ≢ Nothing → held new p ≢ Nothing
+  held-on old new p stays was none = elim (held-case (held old p)) [
+    | inl free ↦ was free
+    | inr (inl (node, is)) ↦ (let wrong : HeldInner node ≡ Nothing = sym (stays.keeps.inner node is) ∙ none in absurd (cc))
+    | inr (inr (l, is)) ↦ (let now = stays.keeps.leaf l is in let wrong : HeldLeaf now.0 ≡ Nothing = sym now.1 ∙ none in absurd (cc))
+  ]
+
+  -- a leaf that stayed was a leaf
+  pub was-leaf : (old new : ArenaOf K V P) (p : OpaqueNodePtr K V P) (l : LeafNode K V P) → StaysAt old new p → held new p ≡ HeldLeaf l → (was : LeafNode K V P) × (held old p ≡ HeldLeaf was)
+  was-leaf old new p l stays there = elim (held-case (held old p)) [
+    | inl free ↦ absurd (let wrong : HeldLeaf l ≡ Nothing = sym there ∙ stays.nothing free in cc)
+    | inr (inl (node, is)) ↦ absurd (let wrong : HeldLeaf l ≡ HeldInner node = sym there ∙ stays.keeps.inner node is in cc)
+    | inr (inr found) ↦ found
+  ]
+
+  -- what stayed is kept to the end where it stays the same from there
+  pub keeps-on : (old new last : ArenaOf K V P) (p : OpaqueNodePtr K V P) → StaysAt old new p → held last p ≡ held new p → KeepsAt old last p
+  keeps-on old new last p stays same = record { inner = λ node is. same ∙ stays.keeps.inner node is; leaf = λ l is. let now = stays.keeps.leaf l is in (now.0, same ∙ now.1, now.2, now.3) }
