@@ -346,12 +346,33 @@ fn same_command<K, V, const PREFIX_LEN: usize>(
     a == b
 }
 
-// Replies are equal where they are the same reply.
-fn same_reply<K, V, const PREFIX_LEN: usize>(
-    a: &ChildReply<K, V, PREFIX_LEN>,
-    b: &ChildReply<K, V, PREFIX_LEN>,
+// Replies with a child, or none, are equal where they have the same one.
+fn same_child_reply<K, V, const PREFIX_LEN: usize>(
+    a: Option<OpaqueNodePtr<K, V, PREFIX_LEN>>,
+    b: Option<OpaqueNodePtr<K, V, PREFIX_LEN>>,
 ) -> bool
-    ensures { IsTrue result ↔ (a.now ≡ b.now) }
+    ensures { IsTrue result ↔ (a ≡ b) }
 {
-    a == b
+    ChildReply::Child(a) == ChildReply::Child(b)
+}
+
+// Replies with a pair, or none, are equal where they have the same one.
+fn same_pair_reply<K, V, const PREFIX_LEN: usize>(
+    a: Option<(u8, OpaqueNodePtr<K, V, PREFIX_LEN>)>,
+    b: Option<(u8, OpaqueNodePtr<K, V, PREFIX_LEN>)>,
+) -> bool
+    ensures { IsTrue result ↔ (a ≡ b) }
+{
+    ChildReply::Pair(a) == ChildReply::Pair(b)
+}
+
+// A reply with a child equals none of another kind.
+fn child_reply_is_a_pair<K, V, const PREFIX_LEN: usize>(
+    child: Option<OpaqueNodePtr<K, V, PREFIX_LEN>>,
+    pair: Option<(u8, OpaqueNodePtr<K, V, PREFIX_LEN>)>,
+) -> bool
+    ensures { ¬ (IsTrue result) }
+{
+    ChildReply::Child(child) == ChildReply::Pair(pair)
+        || ChildReply::Child(child) == ChildReply::InvalidBounds
 }
