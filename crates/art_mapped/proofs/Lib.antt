@@ -5,4 +5,5 @@ mod Pairs
 mod Parts
 mod ReadBack
 mod Turns
+mod Values
 mod Vecs

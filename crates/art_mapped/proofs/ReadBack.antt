@@ -18,7 +18,7 @@ same_from_number ds es long d_bytes e_bytes same =
     exact_bytes ds es (text_order-number_of ds es long d_bytes e_bytes ∙ sym (nat_cmp_is (number_of ds) (number_of es) Equal same))
 
 -- a text is the digits of its number
-digits-number_of : (width : ℕ) (ds : List ℕ) → length ds ≡ width → AreBytes ds → digits width (number_of ds) ≡ ds
+pub digits-number_of : (width : ℕ) (ds : List ℕ) → length ds ≡ width → AreBytes ds → digits width (number_of ds) ≡ ds
 digits-number_of width ds long bytes =
     let fits : number_of ds < 256 ^ width = rw (← long) (number_of_below ds bytes) in
     same_from_number (digits width (number_of ds)) ds (length-digits width (number_of ds) ∙ sym long) (AreBytes-digits width (number_of ds)) bytes (number_of-digits width (number_of ds) fits)

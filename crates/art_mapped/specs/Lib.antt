@@ -11,3 +11,4 @@ pub mod SequenceLaws
 pub mod Sequences
 pub mod TupleLaws
 pub mod Tuples
+pub mod ValueBytes

@@ -15,6 +15,7 @@ mod element;
 mod fixed;
 mod identity;
 mod joint;
+pub mod laws;
 mod mapped;
 mod mapping;
 mod octets;

@@ -21,6 +21,7 @@ mod mapped_examples;
 mod ordered;
 mod refusals;
 mod tuples;
+mod value_bytes;
 
 // The key of a value has these bytes.
 fn written<B: BytesMapping<D>, D>(

@@ -1,0 +1,90 @@
+//! Which bytes are a value's. The functions do no work: the contract of each is a law.
+//!
+//! `BytesMapping::is_value` returns whether some value has the bytes. These laws state for which
+//! bytes there is one, so that `from_bytes` can be called where `is_value` was not.
+ghost use Rattle.std.specs.Prelude.{◌≡◌, ◌≢◌, ◌↔◌, ℕ, List, ◌*◌, ◌/◌, ◌%◌, ◌<◌, ◌∷◌, length, replicate, Vec};
+ghost use Rattle.std.specs.Int.NonZero.{non_zero_u8_get, non_zero_u16_get, non_zero_u32_get};
+ghost use Rattle.std.specs.Int.NonZero.{non_zero_u64_get, non_zero_u128_get, non_zero_usize_get};
+ghost use Rattle.std.specs.Int.NonZero.{non_zero_i8_get, non_zero_i16_get, non_zero_i32_get};
+ghost use Rattle.std.specs.Int.NonZero.{non_zero_i64_get, non_zero_i128_get, non_zero_isize_get};
+ghost use Rattle.std.specs.Net.Addr.{ipv4_octets, ipv6_octets};
+ghost use Rattle.std.specs.Vec.{vec_items};
+ghost use Rattle.std.specs.declared.alloc.Global.{Global};
+ghost use Rattle.art_mapped.specs.Addresses.{IsIpv4, IsIpv6};
+ghost use Rattle.art_mapped.specs.Mapping.{StandsForSome, HasTextOf};
+ghost use Rattle.art_mapped.specs.Numbers.{digits, IsUnsigned, IsSigned, signed_text};
+ghost use Rattle.art_mapped.specs.Sequences.{joined, part, IsArray, IsVec, vec_text};
+ghost use Rattle.art_mapped.specs.ValueBytes.{HasWidth, IsTextOfSome};
+
+use crate::element::Element;
+use crate::sequence::IntegerForm;
+
+/// Any bytes of an integer's width, or of an address's, are those of a value.
+pub fn any_bytes_are_a_value()
+    ensures unsigned { (width : ℕ) (bytes : List ℕ) → HasWidth width bytes →
+        IsTextOfSome (IsUnsigned width) (digits width) bytes }
+    ensures signed { (width : ℕ) (bytes : List ℕ) → 0 < width → HasWidth width bytes →
+        IsTextOfSome (IsSigned width) (signed_text width) bytes }
+    ensures ipv4 { (bytes : List ℕ) → HasWidth 4 bytes → IsTextOfSome IsIpv4 ipv4_octets bytes }
+    ensures ipv6 { (bytes : List ℕ) → HasWidth 16 bytes → IsTextOfSome IsIpv6 ipv6_octets bytes }
+{}
+
+/// Bytes are those of a `NonZero` type of unsigned integers exactly where they are not all zero.
+pub fn bytes_of_non_zero_unsigned_integers()
+    ensures u8 { (bytes : List ℕ) → HasWidth 1 bytes →
+        IsTextOfSome (λ n. IsUnsigned 1 (non_zero_u8_get n)) (λ n. digits 1 (non_zero_u8_get n)) bytes
+        ↔ (bytes ≢ replicate 1 0) }
+    ensures u16 { (bytes : List ℕ) → HasWidth 2 bytes →
+        IsTextOfSome (λ n. IsUnsigned 2 (non_zero_u16_get n)) (λ n. digits 2 (non_zero_u16_get n))
+        bytes ↔ (bytes ≢ replicate 2 0) }
+    ensures u32 { (bytes : List ℕ) → HasWidth 4 bytes →
+        IsTextOfSome (λ n. IsUnsigned 4 (non_zero_u32_get n)) (λ n. digits 4 (non_zero_u32_get n))
+        bytes ↔ (bytes ≢ replicate 4 0) }
+    ensures u64 { (bytes : List ℕ) → HasWidth 8 bytes →
+        IsTextOfSome (λ n. IsUnsigned 8 (non_zero_u64_get n)) (λ n. digits 8 (non_zero_u64_get n))
+        bytes ↔ (bytes ≢ replicate 8 0) }
+    ensures u128 { (bytes : List ℕ) → HasWidth 16 bytes →
+        IsTextOfSome (λ n. IsUnsigned 16 (non_zero_u128_get n))
+        (λ n. digits 16 (non_zero_u128_get n)) bytes ↔ (bytes ≢ replicate 16 0) }
+    ensures usize { (bytes : List ℕ) → HasWidth 8 bytes →
+        IsTextOfSome (λ n. IsUnsigned 8 (non_zero_usize_get n))
+        (λ n. digits 8 (non_zero_usize_get n)) bytes ↔ (bytes ≢ replicate 8 0) }
+{}
+
+/// Bytes are those of a `NonZero` type of signed integers exactly where they are not 128 followed
+/// by zeros.
+pub fn bytes_of_non_zero_signed_integers()
+    ensures i8 { (bytes : List ℕ) → HasWidth 1 bytes →
+        IsTextOfSome (λ n. IsSigned 1 (non_zero_i8_get n)) (λ n. signed_text 1 (non_zero_i8_get n))
+        bytes ↔ (bytes ≢ 128 ∷ replicate 0 0) }
+    ensures i16 { (bytes : List ℕ) → HasWidth 2 bytes →
+        IsTextOfSome (λ n. IsSigned 2 (non_zero_i16_get n))
+        (λ n. signed_text 2 (non_zero_i16_get n)) bytes ↔ (bytes ≢ 128 ∷ replicate 1 0) }
+    ensures i32 { (bytes : List ℕ) → HasWidth 4 bytes →
+        IsTextOfSome (λ n. IsSigned 4 (non_zero_i32_get n))
+        (λ n. signed_text 4 (non_zero_i32_get n)) bytes ↔ (bytes ≢ 128 ∷ replicate 3 0) }
+    ensures i64 { (bytes : List ℕ) → HasWidth 8 bytes →
+        IsTextOfSome (λ n. IsSigned 8 (non_zero_i64_get n))
+        (λ n. signed_text 8 (non_zero_i64_get n)) bytes ↔ (bytes ≢ 128 ∷ replicate 7 0) }
+    ensures i128 { (bytes : List ℕ) → HasWidth 16 bytes →
+        IsTextOfSome (λ n. IsSigned 16 (non_zero_i128_get n))
+        (λ n. signed_text 16 (non_zero_i128_get n)) bytes ↔ (bytes ≢ 128 ∷ replicate 15 0) }
+    ensures isize { (bytes : List ℕ) → HasWidth 8 bytes →
+        IsTextOfSome (λ n. IsSigned 8 (non_zero_isize_get n))
+        (λ n. signed_text 8 (non_zero_isize_get n)) bytes ↔ (bytes ≢ 128 ∷ replicate 7 0) }
+{}
+
+/// Bytes are those of an array of `N` elements exactly where there are `N` times as many as an
+/// element has, and each part is some element's. They are those of a vector exactly where their
+/// number is a multiple of an element's, and each part is some element's.
+pub fn bytes_of_arrays_and_vectors<F: IntegerForm, E: Element<F>>()
+    ensures array { (count : ℕ) (bytes : List ℕ) →
+        IsTextOfSome (IsArray count E.is_in_range) (joined E.text_of) bytes ↔
+        ((length bytes ≡ count * E.Bytes.WIDTH) × ((k : ℕ) → k < count →
+        IsTextOfSome E.is_in_range E.text_of (part E.Bytes.WIDTH k bytes))) }
+    ensures vector { (bytes : Vec ℕ Global) →
+        StandsForSome (IsVec E.is_in_range) (HasTextOf vec_items (vec_text {A = Global} E.text_of))
+        bytes ↔ ((length (vec_items bytes) % E.Bytes.WIDTH ≡ 0) ×
+        ((k : ℕ) → k < length (vec_items bytes) / E.Bytes.WIDTH →
+        IsTextOfSome E.is_in_range E.text_of (part E.Bytes.WIDTH k (vec_items bytes)))) }
+{}
