@@ -1,6 +1,6 @@
-mod DescentLemmas
-mod OnlyWayLemmas
-mod PathNodes
-mod PathSteps
-mod ScanLemmas
-mod WayLemmas
+pub mod DescentLemmas
+pub mod OnlyWayLemmas
+pub mod PathNodes
+pub mod PathSteps
+pub mod ScanLemmas
+pub mod WayLemmas

@@ -1,10 +1,10 @@
-mod FirstEntry
-mod SubtreeLemmas
-mod AddedLeaf
-mod LinkLemmas
-mod NodeLemmas
-mod PlaceLemmas
-mod GapLemmas
-mod AddedChild
-mod AddedFork
-mod EntryLemmas
+pub mod FirstEntry
+pub mod SubtreeLemmas
+pub mod AddedLeaf
+pub mod LinkLemmas
+pub mod NodeLemmas
+pub mod PlaceLemmas
+pub mod GapLemmas
+pub mod AddedChild
+pub mod AddedFork
+pub mod EntryLemmas

@@ -1,7 +1,7 @@
-mod ChildLemmas
-mod PlanLemmas
-mod LeafLists
-mod LoadedTree
-mod OpenNodes
-mod RefusalLemmas
-mod PlacedTrees
+pub mod ChildLemmas
+pub mod PlanLemmas
+pub mod LeafLists
+pub mod LoadedTree
+pub mod OpenNodes
+pub mod RefusalLemmas
+pub mod PlacedTrees

@@ -1,8 +1,8 @@
-mod RemovedLeaf
-mod WayContexts
-mod RemainingTree
-mod LeafParent
-mod RemovedChild
-mod ShrunkNode
-mod MergedNode
-mod RemovalLemmas
+pub mod RemovedLeaf
+pub mod WayContexts
+pub mod RemainingTree
+pub mod LeafParent
+pub mod RemovedChild
+pub mod ShrunkNode
+pub mod MergedNode
+pub mod RemovalLemmas

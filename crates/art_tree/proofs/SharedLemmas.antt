@@ -1,13 +1,13 @@
-mod SameEntries
-mod SameKinds
-mod BranchLemmas
-mod ClashLemmas
-mod DictionaryLemmas
-mod ExchangedSubtree
-mod UniqueTree
-mod ParentLemmas
-mod KeyLemmas
-mod ExchangedTree
-mod ChangedTree
-mod RoomLemmas
-mod PrefixLemmas
+pub mod SameEntries
+pub mod SameKinds
+pub mod BranchLemmas
+pub mod ClashLemmas
+pub mod DictionaryLemmas
+pub mod ExchangedSubtree
+pub mod UniqueTree
+pub mod ParentLemmas
+pub mod KeyLemmas
+pub mod ExchangedTree
+pub mod ChangedTree
+pub mod RoomLemmas
+pub mod PrefixLemmas
