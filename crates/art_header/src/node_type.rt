@@ -67,7 +67,8 @@ impl NodeType {
         }
     }
 
-    /// The next smaller kind of inner node. `Node4` and `Leaf` have none and are returned unchanged.
+    /// The next smaller kind of inner node. `Node4` and `Leaf` have none and are returned
+    /// unchanged.
     pub fn shrunk(self) -> Self
         ensures { result ≡ shrunk_kind self }
     {
