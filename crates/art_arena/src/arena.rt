@@ -207,7 +207,7 @@ impl<K, V, const PREFIX_LEN: usize> NodeArena<K, V, PREFIX_LEN> {
         N::slab_mut(self).remove(ptr.key())
     }
 
-    /// A mutable reference to the node at the pointer. The arena must hold one there. It ends with
+    /// A mutable reference to the node at the pointer. The arena must hold one there, and ends with
     /// the node that the caller leaves there; every other node and the spare capacity of each kind
     /// are unchanged.
     pub fn as_mut<N: ArenaNode<K, V, PREFIX_LEN>>(&mut self, ptr: NodePtr<PREFIX_LEN, N>) -> &mut N

@@ -14,7 +14,7 @@ use crate::reader::AnyRef;
 use art_bytes::AsBytes;
 use art_nodes::{InnerNodeCommon, LeafNode, NodePtr, OpaqueNodePtr};
 
-/// One end of the leaves of a tree, for [`end_leaf`].
+/// One end of the leaves of a tree, for [`end_leaf`], which has an example.
 #[derive(Clone, Copy, Debug, PartialEq, Eq)]
 pub enum End {
     /// The leaf with the least key bytes.

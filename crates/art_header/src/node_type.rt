@@ -54,7 +54,8 @@ impl NodeType {
         }
     }
 
-    /// The next greater kind of inner node. `Node256` and `Leaf` have none, and are returned as they are.
+    /// The next greater kind of inner node. `Node256` and `Leaf` have none and are returned
+    /// unchanged.
     pub fn grown(self) -> Self
         ensures { result ≡ grown_kind self }
     {
@@ -66,7 +67,8 @@ impl NodeType {
         }
     }
 
-    /// The next smaller kind of inner node. `Node4` and `Leaf` have none, and are returned as they are.
+    /// The next smaller kind of inner node. `Node4` and `Leaf` have none and are returned
+    /// unchanged.
     pub fn shrunk(self) -> Self
         ensures { result ≡ shrunk_kind self }
     {

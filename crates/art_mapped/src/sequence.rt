@@ -9,7 +9,7 @@ use std::alloc::{AllocError, Global};
 use std::array;
 use std::marker::PhantomData;
 
-/// The forms of integers. Arrays and vectors of these are mapped too.
+/// The forms of integers. Arrays and vectors of integers in such a form are mapped too.
 ///
 /// (from crates/art_node_tests/src/mapped/mapped_callers.rt)
 /// ```rust

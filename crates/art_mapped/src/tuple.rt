@@ -43,8 +43,8 @@ pub trait TupleMappings {
 ///
 /// [`ConcatTuple`] has an example.
 pub trait TupleValues: Sized {
-    /// An array type with one place for each value. It keeps a pair whose first value is a pair
-    /// apart from a tuple of three.
+    /// An array type with one place for each value. It distinguishes a pair whose first value is a
+    /// pair from a tuple of three.
     type Places;
 
     /// The values, nested in pairs.

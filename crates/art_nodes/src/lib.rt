@@ -2,7 +2,7 @@
 //!
 //! An inner node has a compressed prefix, and children under bytes. [`InnerNodeCommon`] has its
 //! calls, whichever way it keeps its children: [`InnerNode4`] and [`InnerNode16`] as sorted bytes,
-//! [`InnerNode48`] with an index for each byte, [`InnerNodeDirect`] with a place for each byte.
+//! [`InnerNode48`] with an index for each byte, [`InnerNode256`] with a place for each byte.
 //! [`InnerNode`] grows and shrinks a node. [`ChildNode`] grows and shrinks by itself, command by
 //! command, and [`replay`] runs a list of commands. Names and behaviour are those of the crate
 //! `blart` 0.6.0, the kinds those of Leis, Kemper and Neumann, "The Adaptive Radix Tree" (2013).

@@ -105,15 +105,15 @@ impl<
     N: InnerNodeCommon<K, V, PREFIX_LEN>,
     S: BuilderState,
 > InnerNodeBuilder<K, V, PREFIX_LEN, N, S> {
-    /// The greatest number of children of the node. With the number of children and the look-ups it
-    /// tests the conditions of the next write.
+    /// The greatest number of children that the node can hold. With the number of children and the
+    /// look-ups it tests the conditions of the next write.
     pub fn capacity(&self) -> usize
         ensures { result ≡ N.room }
     {
         self.node.capacity()
     }
 
-    /// How many children have been written so far: none, one, or two and more, as the state says.
+    /// The number of children so far. The state of the builder bounds it: 0, 1, or 2 and more.
     pub fn num_children(&self) -> usize
         ensures count { result ≡ length (N.inner self.now).children }
         ensures state { S.Counts result }
@@ -121,8 +121,8 @@ impl<
         self.node.num_children()
     }
 
-    /// The greatest byte that has been written, or `None` where no child has. A byte above it is above
-    /// every byte there, as an unchecked write asks.
+    /// The greatest byte that has a child, or `None` where there is no child. A byte above it is
+    /// above every byte of the node, which is a condition of an unchecked write.
     pub fn last_byte(&self) -> Option<u8>
         ensures last { result ≡ option_map (λ pair. pair.0) (last_pair (N.inner self.now).children) }
         ensures above { (byte : ℕ) → IfSome result (λ last. last < byte) →

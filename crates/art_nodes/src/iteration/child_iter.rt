@@ -17,7 +17,7 @@ use std::marker::Model;
 use std::ops::Bound;
 
 /// An iterator over the children of an inner node, as pairs of a byte and a child, by ascending
-/// byte. See [`PairIter`].
+/// byte. [`PairIter`] has an example.
 pub type ChildIter<'a, K, V, const PREFIX_LEN: usize> = PairIter<
     'a,
     OpaqueNodePtr<K, V, PREFIX_LEN>,

@@ -32,6 +32,8 @@ pub struct InnerNodeDirect<K, V, const PREFIX_LEN: usize> {
 }
 
 /// A direct node, by the name of its kind.
+///
+/// [`InnerNodeDirect`] has an example.
 pub type InnerNode256<K, V, const PREFIX_LEN: usize> = InnerNodeDirect<K, V, PREFIX_LEN>;
 
 impl<K, V, const PREFIX_LEN: usize> Sealed for InnerNodeDirect<K, V, PREFIX_LEN> {}
