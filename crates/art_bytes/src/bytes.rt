@@ -34,10 +34,10 @@ pub trait AsBytes {
 ///
 /// (from crates/art_node_tests/src/bytes.rt)
 /// ```rust
-/// pub(crate) fn has_prefix<K: NoPrefixesBytes>(key: &K, front: &K) -> bool
-///     ensures { IsTrue result ↔ (K.text key.now ≡ K.text front.now) }
+/// pub(crate) fn has_prefix<K: NoPrefixesBytes>(key: &K, prefix: &K) -> bool
+///     ensures { IsTrue result ↔ (K.text key.now ≡ K.text prefix.now) }
 /// {
-///     key.as_bytes().starts_with(front.as_bytes())
+///     key.as_bytes().starts_with(prefix.as_bytes())
 /// }
 /// ```
 pub trait NoPrefixesBytes: AsBytes {

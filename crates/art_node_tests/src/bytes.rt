@@ -30,10 +30,10 @@ fn have_one_text<K: OrderedBytes>(a: &K, b: &K) -> bool
 }
 
 // No key is a proper prefix of another, so one test decides whether they are the same.
-pub(crate) fn has_prefix<K: NoPrefixesBytes>(key: &K, front: &K) -> bool
-    ensures { IsTrue result ↔ (K.text key.now ≡ K.text front.now) }
+pub(crate) fn has_prefix<K: NoPrefixesBytes>(key: &K, prefix: &K) -> bool
+    ensures { IsTrue result ↔ (K.text key.now ≡ K.text prefix.now) }
 {
-    key.as_bytes().starts_with(front.as_bytes())
+    key.as_bytes().starts_with(prefix.as_bytes())
 }
 
 // A key feeds a hasher what its bytes do.

@@ -253,22 +253,22 @@ fn order_of_bytes<B: OrderedMapping<D>, D: Ord + Drop>(
     Ok(order_of_texts(&a, &b))
 }
 
-// Whether the key of `key` begins with the key of `front`.
+// Whether the key of `key` begins with the key of `prefix`.
 fn begins_with<D: NoPrefixesBytes + Drop>(
     alloc: Global,
     key: D,
-    front: D,
+    prefix: D,
 ) -> Result<bool, AllocError> {
     let key = Mapped::<Identity, D>::new(alloc, key)?;
-    let front = Mapped::<Identity, D>::new(alloc, front)?;
-    Ok(has_prefix(&key, &front))
+    let prefix = Mapped::<Identity, D>::new(alloc, prefix)?;
+    Ok(has_prefix(&key, &prefix))
 }
 
 #[test]
 fn prefixes_differ_from_keys(rt: HostRuntime) -> Result<(), Fail> {
     let alloc = rt.alloc();
-    let (front, whole) = (vec![in alloc; 7]?, vec![in alloc; 7, 7]?);
-    assert!(rt; order_of_bytes::<ToIBE, Vec<i8>>(alloc, front, whole)? == Ordering::Less);
+    let (prefix, whole) = (vec![in alloc; 7]?, vec![in alloc; 7, 7]?);
+    assert!(rt; order_of_bytes::<ToIBE, Vec<i8>>(alloc, prefix, whole)? == Ordering::Less);
     assert!(rt; !begins_with(alloc, [1, 1], [1, 0])?);
     assert!(rt; begins_with(alloc, [1, 0], [1, 0])?);
     Ok(())
