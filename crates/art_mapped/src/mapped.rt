@@ -15,7 +15,7 @@ use std::marker::PhantomData;
 /// values, which is that of the bytes. The mapping `B` is a type, of which there need be no value.
 pub struct Mapped<B: BytesMapping<D>, D> {
     repr: B::Bytes,
-    mapping: PhantomData<(B, D)>,
+    mapping: PhantomData<(B, D, B::Inner)>,
     ghost of_a_value: { StandsForSome B.is_in_domain B.stands_for repr },
 }
 
