@@ -17,6 +17,8 @@ use std::alloc::{AllocError, Global};
 impl<F: IntegerForm, E: Element<F>, const N: usize> BytesMapping<[E; N]> for Joined<F> {
     type Bytes = Vec<u8>;
 
+    type Inner = E::Bytes;
+
     const ALLOCATES: bool = true;
 
     const READ_ALLOCATES: bool = false;

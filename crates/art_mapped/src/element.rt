@@ -59,6 +59,8 @@ pub struct Single<F>(PhantomData<F>);
 impl<F, E: Element<F>> BytesMapping<E> for Single<F> {
     type Bytes = E::Bytes;
 
+    type Inner = ();
+
     const ALLOCATES: bool = false;
 
     const READ_ALLOCATES: bool = false;

@@ -25,6 +25,8 @@ pub struct Identity;
 impl<D: AsBytes + Drop> BytesMapping<D> for Identity {
     type Bytes = D;
 
+    type Inner = ();
+
     const ALLOCATES: bool = false;
 
     const READ_ALLOCATES: bool = false;

@@ -28,7 +28,7 @@ use std::marker::PhantomData;
 /// ```
 pub struct Mapped<B: BytesMapping<D>, D> {
     repr: B::Bytes,
-    mapping: PhantomData<(B, D)>,
+    mapping: PhantomData<(B, D, B::Inner)>,
     ghost of_a_value: { StandsForSome B.is_in_domain B.stands_for repr },
 }
 

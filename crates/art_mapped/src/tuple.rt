@@ -85,6 +85,8 @@ where
 {
     type Bytes = Vec<u8>;
 
+    type Inner = (N, P, J, J::Inner);
+
     const ALLOCATES: bool = true;
 
     const READ_ALLOCATES: bool = J::READ_ALLOCATES;

@@ -41,6 +41,8 @@ impl<F: IntegerForm, E: Element<F>> Domain<F> for Vec<E> {
 impl<F, D: Domain<F>> BytesMapping<D> for ToBigEndian<F> {
     type Bytes = <D::Mapping as BytesMapping<D>>::Bytes;
 
+    type Inner = (D::Mapping, <D::Mapping as BytesMapping<D>>::Inner);
+
     const ALLOCATES: bool = <D::Mapping as BytesMapping<D>>::ALLOCATES;
 
     const READ_ALLOCATES: bool = <D::Mapping as BytesMapping<D>>::READ_ALLOCATES;
