@@ -4,6 +4,7 @@ mod Flip
 mod Pairs
 mod Parts
 mod ReadBack
+mod TupleParts
 mod Turns
 mod Values
 mod Vecs
