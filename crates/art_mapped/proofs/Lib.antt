@@ -1,6 +1,7 @@
 mod Answered
 mod Cuts
 mod Flip
+mod OrderLemmas
 mod Pairs
 mod Parts
 mod ReadBack
