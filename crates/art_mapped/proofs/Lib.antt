@@ -1,9 +1,11 @@
 mod Answered
 mod Cuts
 mod Flip
+mod OrderLemmas
 mod Pairs
 mod Parts
 mod ReadBack
+mod TupleParts
 mod Turns
 mod Values
 mod Vecs

@@ -1,13 +1,15 @@
 -- The value that given bytes have: of integers, of `NonZero` integers, of addresses, of arrays and vectors.
-use Rattle.std.proofs.Common.{◌≡◌, ℕ, zero, suc, ◌+◌, ◌-◌, ◌*◌, ◌/◌, ◌%◌, ◌^◌, ◌<◌, ◌⊎◌, List, ℤ, pos, length, refl, sym, ap, ◌∙◌, inl, inr, arith, pow-suc}
-use Rattle.std.specs.Prelude.{◌≢◌, ◌↔◌, ◌≤ℤ◌, ◌<ℤ◌, ◌+ℤ◌, neg_ℤ, unsigned_abs, Vec}
+use Rattle.std.proofs.Common.{◌≡◌, ℕ, zero, suc, ◌+◌, ◌-◌, ◌*◌, ◌/◌, ◌%◌, ◌^◌, ◌<◌, ◌≤◌, ◌⊎◌, List, [], ◌∷◌, ℤ, pos, length, take, drop, refl, sym, ap, ◌∙◌, inl, inr, arith, pow-suc, length-drop}
+use Rattle.std.specs.Prelude.{◌≢◌, ◌↔◌, ◌≤ℤ◌, ◌<ℤ◌, ◌+ℤ◌, neg_ℤ, unsigned_abs, slice_index, Vec}
 use Rattle.std.specs.Vec.{vec_items}
 use Rattle.std.specs.Net.Addr.{ipv4_octets, ipv6_octets, octets_of, segments_of}
 use Rattle.std.specs.declared.cmp.Ordering.{Ordering}
 use Rattle.std.specs.declared.net.Ipv4Addr.{Ipv4Addr}
 use Rattle.std.specs.declared.net.Ipv6Addr.{Ipv6Addr}
 use Rattle.std.proofs.lemmas.Int.{ints}
+use Rattle.std.proofs.lemmas.List.{length-take-le}
 use Rattle.std.proofs.lemmas.List.Elements.{All-from_get_or}
+use Rattle.std.proofs.lemmas.Nat.{mul-le}
 use Rattle.std.proofs.Math.Logic.{∥∥₁_elim}
 use Rattle.std.proofs.Math.Nat.{mul-div_cancel}
 use Rattle.std.proofs.Props.{props}
@@ -25,11 +27,18 @@ use Rattle.art_mapped.proofs.Parts.{are_joined_from_parts, is_part_of_some, no_r
 use Rattle.art_mapped.proofs.ReadBack.{digits-number_of, octets_of-segments_of}
 use Rattle.art_mapped.proofs.Vecs.{vec_from_joined, joined_from_vec}
 
+-- what a list is read as past its end is a byte too
+all_bytes : (bytes : List ℕ) → ((k : ℕ) → k < length bytes → slice_index bytes k < 256) → (k : ℕ) → slice_index bytes k < 256
+all_bytes [] are k = omega arith
+all_bytes (b ∷ bytes) are zero = are 0 (omega arith)
+all_bytes (b ∷ bytes) are (suc k) = all_bytes bytes (λ i below. are (suc i) (omega arith)) k
+
 -- any bytes are those of an unsigned number
 pub unsigned_value : (width : ℕ) (bytes : List ℕ) → HasWidth width bytes → (n : ℕ) × IsUnsigned width n × (bytes ≡ digits width n)
 unsigned_value width bytes is =
-    let below : number_of bytes < 256 ^ length bytes = number_of_below bytes is.1 in
-    (number_of bytes, rw (bits_of_width width) (rw is.0 at below), sym (digits-number_of width bytes is.0 is.1))
+    let are = all_bytes bytes is.1 in
+    let below : number_of bytes < 256 ^ length bytes = number_of_below bytes are in
+    (number_of bytes, rw (bits_of_width width) (rw is.0 at below), sym (digits-number_of width bytes is.0 are))
 
 -- a number below twice a half is a signed number plus the half
 lowered : (half n : ℕ) → n < half + half → (z : ℤ) × ((neg_ℤ (pos half) ≤ℤ z) × (z <ℤ pos half)) × (unsigned_abs (z +ℤ pos half) ≡ n)
@@ -72,13 +81,40 @@ some_or_zero_signed z = elim (some_or_zero (unsigned_abs z)) [ inl some ↦ inl 
 
 -- any bytes are those of an address
 pub ipv4_value : (bytes : List ℕ) → HasWidth 4 bytes → (address : Ipv4Addr) × IsIpv4 address × (bytes ≡ ipv4_octets address)
-ipv4_value bytes is = (record { octets = bytes }, (is.0, All-from_get_or IsByte bytes 0 (λ k below. is.1 k)), refl)
+ipv4_value bytes is = (record { octets = bytes }, (is.0, All-from_get_or IsByte bytes 0 is.1), refl)
 
 pub ipv6_value : (bytes : List ℕ) → HasWidth 16 bytes → (address : Ipv6Addr) × IsIpv6 address × (bytes ≡ ipv6_octets address)
 ipv6_value bytes is =
-    let are : AreOctets 16 bytes = (is.0, All-from_get_or IsByte bytes 0 (λ k below. is.1 k)) in
+    let are : AreOctets 16 bytes = (is.0, All-from_get_or IsByte bytes 0 is.1) in
     let text : bytes ≡ octets_of (segments_of bytes) = sym (octets_of-segments_of 8 bytes are.0 are.1) in
     (record { segments = segments_of bytes }, rw text at are, text)
+
+-- the first of some bytes, and those after them, are bytes
+bytes_of_take : (n : ℕ) (bytes : List ℕ) → ((k : ℕ) → slice_index bytes k < 256) → (k : ℕ) → slice_index (take n bytes) k < 256
+bytes_of_take zero bytes are k = omega arith
+bytes_of_take (suc n) [] are k = omega arith
+bytes_of_take (suc n) (b ∷ bytes) are zero = are 0
+bytes_of_take (suc n) (b ∷ bytes) are (suc k) = bytes_of_take n bytes (λ i. are (suc i)) k
+
+bytes_of_drop : (n : ℕ) (bytes : List ℕ) → ((k : ℕ) → slice_index bytes k < 256) → (k : ℕ) → slice_index (drop n bytes) k < 256
+bytes_of_drop zero bytes are k = are k
+bytes_of_drop (suc n) [] are k = omega arith
+bytes_of_drop (suc n) (b ∷ bytes) are k = bytes_of_drop n bytes (λ i. are (suc i)) k
+
+-- each side of a cut has its width
+pub width_of_first : (first last : ℕ) (bytes : List ℕ) → HasWidth (first + last) bytes → HasWidth first (take first bytes)
+width_of_first first last bytes is = let long = is.0 in (length-take-le first bytes (omega arith), λ k _. bytes_of_take first bytes (all_bytes bytes is.1) k)
+
+pub width_of_last : (first last : ℕ) (bytes : List ℕ) → HasWidth (first + last) bytes → HasWidth last (drop first bytes)
+width_of_last first last bytes is = let long = is.0 in (omega (arith, length-drop first bytes), λ k _. bytes_of_drop first bytes (all_bytes bytes is.1) k)
+
+-- each part of several of one width has that width
+pub width_of_part : (width count k : ℕ) (bytes : List ℕ) → HasWidth (count * width) bytes → k < count → HasWidth width (part width k bytes)
+width_of_part width count k bytes is below =
+    let rest = drop (k * width) bytes in
+    let long = is.0 in
+    let within : (k + 1) * width ≤ count * width = mul-le (k + 1) width count width (omega arith) (omega arith) in
+    (length-take-le width rest (omega (arith, length-drop (k * width) bytes)), λ i _. bytes_of_take width rest (bytes_of_drop (k * width) bytes (all_bytes bytes is.1)) i)
 
 module _ {E : Type 0} {is_element : E → Type 0} {text : E → List ℕ} {order : E → E → Ordering} {width : ℕ} (laws : KeepsOrder is_element text order width) where
   -- bytes are those of an array by their length and their parts

@@ -7,6 +7,7 @@ pub mod Mapping
 pub mod MappingLaws
 pub mod NumberLaws
 pub mod Numbers
+pub mod Orders
 pub mod SequenceLaws
 pub mod Sequences
 pub mod TupleLaws

@@ -4,7 +4,7 @@ use Rattle.art_mapped.specs.Mapping.{StandsForSome, HasTextOf}
 
 -- exactly so many bytes
 abbrev pub HasWidth : ℕ → List ℕ → Type 0
-HasWidth width bytes = (length bytes ≡ width) × ((k : ℕ) → slice_index bytes k < 256)
+HasWidth width bytes = (length bytes ≡ width) × ((k : ℕ) → k < length bytes → slice_index bytes k < 256)
 
 -- the list is the bytes of some value
 abbrev pub IsTextOfSome : {D : Type 0} → (D → Type 0) → (D → List ℕ) → List ℕ → Type 0

@@ -2,7 +2,7 @@
 //!
 //! `BytesMapping::is_value` returns whether some value has the bytes. These laws state for which
 //! bytes there is one, so that `from_bytes` can be called where `is_value` was not.
-ghost use Rattle.std.specs.Prelude.{◌≡◌, ◌≢◌, ◌↔◌, ℕ, List, ◌*◌, ◌/◌, ◌%◌, ◌<◌, ◌∷◌, length, replicate, Vec};
+ghost use Rattle.std.specs.Prelude.{◌≡◌, ◌≢◌, ◌↔◌, ℕ, List, ◌++◌, ◌+◌, ◌*◌, ◌/◌, ◌%◌, ◌<◌, ◌∷◌, length, take, drop, replicate, Vec};
 ghost use Rattle.std.specs.Int.NonZero.{non_zero_u8_get, non_zero_u16_get, non_zero_u32_get};
 ghost use Rattle.std.specs.Int.NonZero.{non_zero_u64_get, non_zero_u128_get, non_zero_usize_get};
 ghost use Rattle.std.specs.Int.NonZero.{non_zero_i8_get, non_zero_i16_get, non_zero_i32_get};
@@ -17,7 +17,10 @@ ghost use Rattle.art_mapped.specs.Sequences.{joined, part, IsArray, IsVec, vec_t
 ghost use Rattle.art_mapped.specs.ValueBytes.{HasWidth, IsTextOfSome};
 
 use crate::element::Element;
+use crate::fixed::FixedBytes;
+use crate::mapping::BytesMapping;
 use crate::sequence::IntegerForm;
+use crate::tuple::ConcatTuple;
 
 /// Any bytes of an integer's width, or of an address's, are those of a value.
 pub fn any_bytes_are_a_value()
@@ -27,6 +30,17 @@ pub fn any_bytes_are_a_value()
         IsTextOfSome (IsSigned width) (signed_text width) bytes }
     ensures ipv4 { (bytes : List ℕ) → HasWidth 4 bytes → IsTextOfSome IsIpv4 ipv4_octets bytes }
     ensures ipv6 { (bytes : List ℕ) → HasWidth 16 bytes → IsTextOfSome IsIpv6 ipv6_octets bytes }
+{}
+
+/// Parts of bytes have their widths: the first bytes, those after them, and each part of several
+/// of one width.
+pub fn parts_have_their_widths()
+    ensures first { (first last : ℕ) (bytes : List ℕ) → HasWidth (first + last) bytes →
+        HasWidth first (take first bytes) }
+    ensures last { (first last : ℕ) (bytes : List ℕ) → HasWidth (first + last) bytes →
+        HasWidth last (drop first bytes) }
+    ensures part { (width count k : ℕ) (bytes : List ℕ) → HasWidth (count * width) bytes →
+        k < count → HasWidth width (part width k bytes) }
 {}
 
 /// Bytes are those of a `NonZero` type of unsigned integers exactly where they are not all zero.
@@ -87,4 +101,180 @@ pub fn bytes_of_arrays_and_vectors<F: IntegerForm, E: Element<F>>()
         bytes ↔ ((length (vec_items bytes) % E.Bytes.WIDTH ≡ 0) ×
         ((k : ℕ) → k < length (vec_items bytes) / E.Bytes.WIDTH →
         IsTextOfSome E.is_in_range E.text_of (part E.Bytes.WIDTH k (vec_items bytes)))) }
+{}
+
+/// The bytes of a tuple are as many as those of its parts together. Bytes that are keys of the
+/// parts' widths, joined, are a tuple's exactly where each of the keys is some value's. There is
+/// one such law for each number of parts.
+pub fn bytes_of_tuples_of_two<A: Drop, B: Drop, K0: FixedBytes, K1: FixedBytes, M0, M1>()
+where
+    M0: BytesMapping<A, Bytes = K0>,
+    M1: BytesMapping<B, Bytes = K1>,
+    ensures length { (bytes : Vec ℕ Global) →
+        StandsForSome ⟦<ConcatTuple<(M0, M1)> as BytesMapping<(A, B)>>⟧.is_in_domain
+        ⟦<ConcatTuple<(M0, M1)> as BytesMapping<(A, B)>>⟧.stands_for bytes →
+        length (vec_items bytes) ≡ K0.WIDTH + K1.WIDTH }
+    ensures parts { (bytes : Vec ℕ Global) (first : K0) (second : K1) →
+        K0.is_key first → K1.is_key second →
+        vec_items bytes ≡ K0.text first ++ K1.text second →
+        StandsForSome ⟦<ConcatTuple<(M0, M1)> as BytesMapping<(A, B)>>⟧.is_in_domain
+        ⟦<ConcatTuple<(M0, M1)> as BytesMapping<(A, B)>>⟧.stands_for bytes ↔
+        (StandsForSome M0.is_in_domain M0.stands_for first
+        × StandsForSome M1.is_in_domain M1.stands_for second) }
+{}
+
+/// The same for tuples of three.
+pub fn bytes_of_tuples_of_three<
+    A: Drop,
+    B: Drop,
+    C: Drop,
+    K0: FixedBytes,
+    K1: FixedBytes,
+    K2: FixedBytes,
+    M0,
+    M1,
+    M2,
+>()
+where
+    M0: BytesMapping<A, Bytes = K0>,
+    M1: BytesMapping<B, Bytes = K1>,
+    M2: BytesMapping<C, Bytes = K2>,
+    ensures length { (bytes : Vec ℕ Global) →
+        StandsForSome ⟦<ConcatTuple<(M0, M1, M2)> as BytesMapping<(A, B, C)>>⟧.is_in_domain
+        ⟦<ConcatTuple<(M0, M1, M2)> as BytesMapping<(A, B, C)>>⟧.stands_for bytes →
+        length (vec_items bytes) ≡ (K0.WIDTH + K1.WIDTH) + K2.WIDTH }
+    ensures parts { (bytes : Vec ℕ Global) (first : K0) (second : K1) (third : K2) →
+        K0.is_key first → K1.is_key second → K2.is_key third →
+        vec_items bytes ≡ (K0.text first ++ K1.text second) ++ K2.text third →
+        StandsForSome ⟦<ConcatTuple<(M0, M1, M2)> as BytesMapping<(A, B, C)>>⟧.is_in_domain
+        ⟦<ConcatTuple<(M0, M1, M2)> as BytesMapping<(A, B, C)>>⟧.stands_for bytes ↔
+        (StandsForSome M0.is_in_domain M0.stands_for first
+        × StandsForSome M1.is_in_domain M1.stands_for second
+        × StandsForSome M2.is_in_domain M2.stands_for third) }
+{}
+
+/// The same for tuples of four.
+pub fn bytes_of_tuples_of_four<
+    A: Drop,
+    B: Drop,
+    C: Drop,
+    D: Drop,
+    K0: FixedBytes,
+    K1: FixedBytes,
+    K2: FixedBytes,
+    K3: FixedBytes,
+    M0,
+    M1,
+    M2,
+    M3,
+>()
+where
+    M0: BytesMapping<A, Bytes = K0>,
+    M1: BytesMapping<B, Bytes = K1>,
+    M2: BytesMapping<C, Bytes = K2>,
+    M3: BytesMapping<D, Bytes = K3>,
+    ensures length { (bytes : Vec ℕ Global) →
+        StandsForSome ⟦<ConcatTuple<(M0, M1, M2, M3)> as BytesMapping<(A, B, C, D)>>⟧.is_in_domain
+        ⟦<ConcatTuple<(M0, M1, M2, M3)> as BytesMapping<(A, B, C, D)>>⟧.stands_for bytes →
+        length (vec_items bytes) ≡ ((K0.WIDTH + K1.WIDTH) + K2.WIDTH) + K3.WIDTH }
+    ensures parts { (bytes : Vec ℕ Global) (first : K0) (second : K1) (third : K2) (fourth : K3) →
+        K0.is_key first → K1.is_key second → K2.is_key third →
+        K3.is_key fourth →
+        vec_items bytes ≡ ((K0.text first ++ K1.text second) ++ K2.text third)
+        ++ K3.text fourth →
+        StandsForSome ⟦<ConcatTuple<(M0, M1, M2, M3)> as BytesMapping<(A, B, C, D)>>⟧.is_in_domain
+        ⟦<ConcatTuple<(M0, M1, M2, M3)> as BytesMapping<(A, B, C, D)>>⟧.stands_for bytes ↔
+        (StandsForSome M0.is_in_domain M0.stands_for first
+        × StandsForSome M1.is_in_domain M1.stands_for second
+        × StandsForSome M2.is_in_domain M2.stands_for third
+        × StandsForSome M3.is_in_domain M3.stands_for fourth) }
+{}
+
+/// The same for tuples of five.
+pub fn bytes_of_tuples_of_five<
+    A: Drop,
+    B: Drop,
+    C: Drop,
+    D: Drop,
+    E: Drop,
+    K0: FixedBytes,
+    K1: FixedBytes,
+    K2: FixedBytes,
+    K3: FixedBytes,
+    K4: FixedBytes,
+    M0,
+    M1,
+    M2,
+    M3,
+    M4,
+>()
+where
+    M0: BytesMapping<A, Bytes = K0>,
+    M1: BytesMapping<B, Bytes = K1>,
+    M2: BytesMapping<C, Bytes = K2>,
+    M3: BytesMapping<D, Bytes = K3>,
+    M4: BytesMapping<E, Bytes = K4>,
+    ensures length { (bytes : Vec ℕ Global) →
+        StandsForSome ⟦<ConcatTuple<(M0, M1, M2, M3, M4)> as BytesMapping<(A, B, C, D, E)>>⟧.is_in_domain
+        ⟦<ConcatTuple<(M0, M1, M2, M3, M4)> as BytesMapping<(A, B, C, D, E)>>⟧.stands_for bytes →
+        length (vec_items bytes) ≡ (((K0.WIDTH + K1.WIDTH) + K2.WIDTH) + K3.WIDTH) + K4.WIDTH }
+    ensures parts { (bytes : Vec ℕ Global) (first : K0) (second : K1) (third : K2) (fourth : K3) (fifth : K4) →
+        K0.is_key first → K1.is_key second → K2.is_key third →
+        K3.is_key fourth → K4.is_key fifth →
+        vec_items bytes ≡ (((K0.text first ++ K1.text second) ++ K2.text third)
+        ++ K3.text fourth) ++ K4.text fifth →
+        StandsForSome ⟦<ConcatTuple<(M0, M1, M2, M3, M4)> as BytesMapping<(A, B, C, D, E)>>⟧.is_in_domain
+        ⟦<ConcatTuple<(M0, M1, M2, M3, M4)> as BytesMapping<(A, B, C, D, E)>>⟧.stands_for bytes ↔
+        (StandsForSome M0.is_in_domain M0.stands_for first
+        × StandsForSome M1.is_in_domain M1.stands_for second
+        × StandsForSome M2.is_in_domain M2.stands_for third
+        × StandsForSome M3.is_in_domain M3.stands_for fourth
+        × StandsForSome M4.is_in_domain M4.stands_for fifth) }
+{}
+
+/// The same for tuples of six.
+pub fn bytes_of_tuples_of_six<
+    A: Drop,
+    B: Drop,
+    C: Drop,
+    D: Drop,
+    E: Drop,
+    F: Drop,
+    K0: FixedBytes,
+    K1: FixedBytes,
+    K2: FixedBytes,
+    K3: FixedBytes,
+    K4: FixedBytes,
+    K5: FixedBytes,
+    M0,
+    M1,
+    M2,
+    M3,
+    M4,
+    M5,
+>()
+where
+    M0: BytesMapping<A, Bytes = K0>,
+    M1: BytesMapping<B, Bytes = K1>,
+    M2: BytesMapping<C, Bytes = K2>,
+    M3: BytesMapping<D, Bytes = K3>,
+    M4: BytesMapping<E, Bytes = K4>,
+    M5: BytesMapping<F, Bytes = K5>,
+    ensures length { (bytes : Vec ℕ Global) →
+        StandsForSome ⟦<ConcatTuple<(M0, M1, M2, M3, M4, M5)> as BytesMapping<(A, B, C, D, E, F)>>⟧.is_in_domain
+        ⟦<ConcatTuple<(M0, M1, M2, M3, M4, M5)> as BytesMapping<(A, B, C, D, E, F)>>⟧.stands_for bytes →
+        length (vec_items bytes) ≡ ((((K0.WIDTH + K1.WIDTH) + K2.WIDTH) + K3.WIDTH) + K4.WIDTH) + K5.WIDTH }
+    ensures parts { (bytes : Vec ℕ Global) (first : K0) (second : K1) (third : K2) (fourth : K3) (fifth : K4) (sixth : K5) →
+        K0.is_key first → K1.is_key second → K2.is_key third →
+        K3.is_key fourth → K4.is_key fifth → K5.is_key sixth →
+        vec_items bytes ≡ ((((K0.text first ++ K1.text second) ++ K2.text third)
+        ++ K3.text fourth) ++ K4.text fifth) ++ K5.text sixth →
+        StandsForSome ⟦<ConcatTuple<(M0, M1, M2, M3, M4, M5)> as BytesMapping<(A, B, C, D, E, F)>>⟧.is_in_domain
+        ⟦<ConcatTuple<(M0, M1, M2, M3, M4, M5)> as BytesMapping<(A, B, C, D, E, F)>>⟧.stands_for bytes ↔
+        (StandsForSome M0.is_in_domain M0.stands_for first
+        × StandsForSome M1.is_in_domain M1.stands_for second
+        × StandsForSome M2.is_in_domain M2.stands_for third
+        × StandsForSome M3.is_in_domain M3.stands_for fourth
+        × StandsForSome M4.is_in_domain M4.stands_for fifth
+        × StandsForSome M5.is_in_domain M5.stands_for sixth) }
 {}

@@ -19,6 +19,7 @@ pub mod laws;
 mod mapped;
 mod mapping;
 mod octets;
+pub mod orders;
 mod sequence;
 mod signed;
 mod tuple;

@@ -22,6 +22,7 @@ mod ordered;
 mod refusals;
 mod tuples;
 mod value_bytes;
+mod value_orders;
 
 // The key of a value has these bytes.
 fn written<B: BytesMapping<D>, D>(

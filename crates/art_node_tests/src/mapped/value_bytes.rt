@@ -1,15 +1,14 @@
 //! Which bytes are a value's: facts that a caller gets from the laws of `art_mapped`.
-ghost use Rattle.std.specs.Prelude.{◌≡◌, ◌≢◌, ◌↔◌, ◌∷◌, [], ◌<◌, ◌%◌, ◌/◌, ℕ, IsTrue, IsOk, IfOk, length, replicate, take, drop};
-ghost use Rattle.std.specs.Net.Addr.{ipv4_octets, ipv6_octets};
+ghost use Rattle.std.specs.Prelude.{◌≡◌, ◌≢◌, ◌↔◌, ◌%◌, ◌<◌, ◌∷◌, [], ℕ, IsTrue, IsOk, IfOk, length, replicate, take, drop};
+ghost use Rattle.std.specs.Net.Addr.{ipv4_octets};
 ghost use Rattle.art_mapped.specs.Sequences.{part};
-ghost use Rattle.art_mapped.specs.ValueBytes.{IsTextOfSome};
 
 use super::*;
 use art_mapped::laws;
 
 // Any four bytes are an address. No test is needed before they are converted.
 fn address_of(alloc: Global, bytes: [u8; 4]) -> Result<Ipv4Addr, AllocError>
-    ensures octets { IfOk result (λ address. ipv4_octets address ≡ bytes) }
+    ensures octets { IfOk result (λ address. bytes ≡ ipv4_octets address) }
     ensures always { IsOk result }
 {
     laws::any_bytes_are_a_value();
@@ -52,4 +51,76 @@ fn is_non_zero_i16(bytes: &[u8; 2]) -> bool
 {
     laws::bytes_of_non_zero_signed_integers();
     <ToIBE as BytesMapping<NonZeroI16>>::is_value(bytes)
+}
+
+// Bytes are those of three numbers of two bytes where there are six.
+fn are_three_ports(bytes: &Vec<u8>) -> bool
+    ensures { IsTrue result ↔ (length bytes.now.items ≡ 6) }
+{
+    laws::any_bytes_are_a_value();
+    laws::parts_have_their_widths();
+    laws::bytes_of_arrays_and_vectors::<Unsigned, u16>();
+    <ToUBE as BytesMapping<[u16; 3]>>::is_value(bytes)
+}
+
+// Bytes are those of a vector of numbers of two bytes where their number is even.
+fn are_ports(bytes: &Vec<u8>) -> bool
+    ensures { IsTrue result ↔ (length bytes.now.items % 2 ≡ 0) }
+{
+    laws::any_bytes_are_a_value();
+    laws::parts_have_their_widths();
+    laws::bytes_of_arrays_and_vectors::<Unsigned, u16>();
+    <ToUBE as BytesMapping<Vec<u16>>>::is_value(bytes)
+}
+
+// Bytes are those of two numbers other than zero where there are four and neither part is zero.
+fn are_two_counts(bytes: &Vec<u8>) -> bool
+    ensures { IsTrue result ↔ ((length bytes.now.items ≡ 4) ×
+        ((k : ℕ) → k < 2 → part 2 k bytes.now.items ≢ replicate 2 0)) }
+{
+    laws::bytes_of_non_zero_unsigned_integers();
+    laws::parts_have_their_widths();
+    laws::bytes_of_arrays_and_vectors::<Unsigned, NonZeroU16>();
+    <ToUBE as BytesMapping<[NonZeroU16; 2]>>::is_value(bytes)
+}
+
+// Bytes are those of an address and a number other than zero where there are six and the last two
+// are not zero.
+fn is_host(bytes: &Vec<u8>) -> bool
+    ensures { IsTrue result ↔
+        ((length bytes.now.items ≡ 6) × (drop 4 bytes.now.items ≢ replicate 2 0)) }
+{
+    laws::any_bytes_are_a_value();
+    laws::bytes_of_non_zero_unsigned_integers();
+    laws::parts_have_their_widths();
+    laws::bytes_of_tuples_of_two::<Ipv4Addr, NonZeroU16, [u8; 4], [u8; 2], ToOctets, ToUBE>();
+    <ConcatTuple<(ToOctets, ToUBE)> as BytesMapping<(Ipv4Addr, NonZeroU16)>>::is_value(bytes)
+}
+
+#[test]
+fn any_bytes_of_their_width_are_values(rt: HostRuntime) -> Result<(), Fail> {
+    assert!(rt; address_of(rt.alloc(), [127, 0, 0, 1])? == Ipv4Addr::LOCALHOST);
+    assert!(rt; is_ipv6(&[255; 16]));
+    assert!(rt; is_u16(&[0, 0]));
+    assert!(rt; is_i64(&[128, 0, 0, 0, 0, 0, 0, 0]));
+    Ok(())
+}
+
+#[test]
+fn only_zero_is_no_non_zero_integer(rt: HostRuntime) {
+    assert!(rt; is_non_zero_u32(&[0, 1, 0, 0]));
+    assert!(rt; !is_non_zero_u32(&[0; 4]));
+    assert!(rt; is_non_zero_i16(&[0, 0]));
+    assert!(rt; !is_non_zero_i16(&[128, 0]));
+}
+
+#[test]
+fn sequences_and_tuples_are_values_by_their_parts(rt: HostRuntime) -> Result<(), Fail> {
+    let alloc = rt.alloc();
+    let (six, five) = (vec![in alloc; 0; 6]?, vec![in alloc; 7; 5]?);
+    assert!(rt; are_three_ports(&six) && !are_three_ports(&five));
+    assert!(rt; are_ports(&six) && !are_ports(&five));
+    assert!(rt; !are_two_counts(&six) && are_two_counts(&vec![in alloc; 7; 4]?));
+    assert!(rt; !is_host(&six) && is_host(&vec![in alloc; 7; 6]?));
+    Ok(())
 }

@@ -1,4 +1,4 @@
-use Rattle.std.proofs.Common.{◌<◌, ℤ, pos, ◌≡◌, refl, arith, rules}
+use Rattle.std.proofs.Common.{◌<◌, pos, refl, arith, rules}
 use Rattle.std.specs.Prelude.{unsigned_abs, replicate, ◌∷◌}
 use Rattle.std.specs.Int.NonZero.{non_zero_i8_get, non_zero_i16_get, non_zero_i32_get, non_zero_i64_get, non_zero_i128_get, non_zero_isize_get}
 use Rattle.std.proofs.lemmas.Int.{ints}

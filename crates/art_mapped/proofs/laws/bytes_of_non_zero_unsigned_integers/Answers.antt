@@ -1,5 +1,5 @@
 use Rattle.std.specs.Prelude.{replicate}
-use Rattle.std.proofs.Common.{◌<◌, ℕ, ◌≡◌, refl, arith, rules}
+use Rattle.std.proofs.Common.{◌<◌, refl, arith, rules}
 use Rattle.std.specs.Int.NonZero.{non_zero_u8_get, non_zero_u16_get, non_zero_u32_get, non_zero_u64_get, non_zero_u128_get, non_zero_usize_get}
 use Rattle.art_mapped.specs.NumberLaws.{unsigned_keep}
 use Rattle.art_mapped.proofs.Values.{non_zero_value, some_or_zero, unsigned_value}
