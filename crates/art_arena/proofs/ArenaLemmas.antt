@@ -14,7 +14,7 @@ use Rattle.art_nodes.specs.Pointers.{node_kind, opaque_key, opaque_pointer}
 use Rattle.art_nodes.specs.declared.pointers.OpaqueNodePtr.{OpaqueNodePtr}
 use Rattle.art_nodes.specs.declared.leaf_node.LeafNode.{LeafNode}
 use Rattle.art_nodes.proofs.KindLaws.{same_or_differ}
-use Rattle.art_arena.specs.Arena.{ArenaOf, Held, HeldInner, Nothing, held, held_inner, held_leaf, held_under, held_option, Changes, SameNodes, room, slab_room, SameRoom, SameOtherRoom}
+use Rattle.art_arena.specs.Arena.{ArenaOf, Held, HeldInner, Nothing, held, held_inner, held_leaf, held_under, held_option, Changes, SameNodes, room, slab_room, capacity, space, SameRoom, SameOtherRoom, SameCapacity, SameOtherCapacity}
 
 -- a slab returns a reference where it has a value
 pub IsSome-lent : {T : Type 0} (lent : Option (Bor T)) {slot : Option T} → option_copied lent ≡ slot → IsSome slot → IsSome lent
@@ -69,16 +69,32 @@ module _ {K V : Type 0} {P : ℕ} {N : Type 0} (kind : NodeType) (slab_of : Aren
     pub room-written : (arena : ArenaOf K V P) (slots : Slab N) → room (with_slab arena slots) kind ≡ slab_room slots
     room-written arena slots = room_of_slab (with_slab arena slots) ∙ ap slab_room (slab_written arena slots)
 
-    -- a slab of the same spare capacity changes none of the arena's
-    pub SameRoom-written : (arena : ArenaOf K V P) (slots : Slab N) → slab_room slots ≡ slab_room (slab_of arena) → SameRoom arena (with_slab arena slots)
-    SameRoom-written arena slots kept = λ other. elim (same_or_differ other kind) [
-      | inr differ ↦ other_room arena slots other differ
-      | inl same ↦ subst (λ k. room (with_slab arena slots) k ≡ room arena k) (sym same) (room-written arena slots ∙ kept ∙ sym (room_of_slab arena))
-    ]
+    module _ (capacity_of_slab : (arena : ArenaOf K V P) → capacity arena kind ≡ (slab_of arena).capacity)
+        (other_capacity : (arena : ArenaOf K V P) (slots : Slab N) → SameOtherCapacity arena (with_slab arena slots) kind) where
+      capacity-written : (arena : ArenaOf K V P) (slots : Slab N) → slots.capacity ≡ (slab_of arena).capacity → capacity (with_slab arena slots) kind ≡ capacity arena kind
+      capacity-written arena slots kept = capacity_of_slab (with_slab arena slots) ∙ ap (λ s. s.capacity) (slab_written arena slots) ∙ kept ∙ sym (capacity_of_slab arena)
 
-    -- replacing a node changes no spare capacity
-    pub SameRoom-with_value : (arena : ArenaOf K V P) (key : ℕ) (node : N) → ContainsKey (slab_of arena) key → SameRoom arena (with_slab arena (with_value (slab_of arena) key node))
-    SameRoom-with_value arena key node within = SameRoom-written arena (with_value (slab_of arena) key node) (slab_room-with_value (slab_of arena) key node within)
+      -- a slab of the same capacity changes no capacity
+      pub SameCapacity-written : (arena : ArenaOf K V P) (slots : Slab N) → slots.capacity ≡ (slab_of arena).capacity → SameCapacity arena (with_slab arena slots)
+      SameCapacity-written arena slots kept = λ other. elim (same_or_differ other kind) [
+        | inr differ ↦ other_capacity arena slots other differ
+        | inl same ↦ subst (λ k. capacity (with_slab arena slots) k ≡ capacity arena k) (sym same) (capacity-written arena slots kept)
+      ]
+
+      -- a slab of the same room and capacity changes no room and no capacity
+      pub SameRoom-written : (arena : ArenaOf K V P) (slots : Slab N) → slab_room slots ≡ slab_room (slab_of arena) → slots.capacity ≡ (slab_of arena).capacity → SameRoom arena (with_slab arena slots)
+      SameRoom-written arena slots kept capacity_kept = λ other. elim (same_or_differ other kind) [
+        | inr differ ↦ λ i. (other_room arena slots other differ i, other_capacity arena slots other differ i)
+        | inl same ↦
+            let own : room (with_slab arena slots) kind ≡ room arena kind = room-written arena slots ∙ kept ∙ sym (room_of_slab arena) in
+            let most = capacity-written arena slots capacity_kept in
+            let both : space (with_slab arena slots) kind ≡ space arena kind = λ i. (own i, most i) in
+            subst (λ k. space (with_slab arena slots) k ≡ space arena k) (sym same) both
+      ]
+
+      -- a node in the place of another changes neither
+      pub SameRoom-with_value : (arena : ArenaOf K V P) (key : ℕ) (node : N) → ContainsKey (slab_of arena) key → SameRoom arena (with_slab arena (with_value (slab_of arena) key node))
+      SameRoom-with_value arena key node within = SameRoom-written arena (with_value (slab_of arena) key node) (slab_room-with_value (slab_of arena) key node within) refl
 
 -- the node at a pointer, changed to have another prefix, as the pointer's caller names it
 pub Changes-prefix : {K V : Type 0} {P : ℕ} {old new : ArenaOf K V P} {at pointer : OpaqueNodePtr K V P} {there now node : Inner (OpaqueNodePtr K V P)} (header : Header) → at ≡ pointer → held old at ≡ HeldInner there → now ≡ node_with_prefix_of there header → Changes old new at (HeldInner now) → held old pointer ≡ HeldInner node → Changes old new pointer (HeldInner (node_with_prefix_of node header))

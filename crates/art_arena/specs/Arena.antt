@@ -40,9 +40,29 @@ module _ {H L : Type 0} where
   room arena Node256 = slab_room arena.node256
   room arena Leaf = slab_room arena.leaf
 
-  -- the spare capacity of every kind is unchanged
+  -- how many nodes of a kind an arena holds at most with no allocation
+  abbrev pub capacity : Arena H L → NodeType → ℕ
+  capacity arena Node4 = arena.node4.capacity
+  capacity arena Node16 = arena.node16.capacity
+  capacity arena Node48 = arena.node48.capacity
+  capacity arena Node256 = arena.node256.capacity
+  capacity arena Leaf = arena.leaf.capacity
+
+  -- spare capacity and capacity of a kind
+  abbrev pub space : Arena H L → NodeType → ℕ × ℕ
+  space arena kind = (room arena kind, capacity arena kind)
+
+  -- spare capacity and capacity of every kind are unchanged
   abbrev pub SameRoom : Arena H L → Arena H L → Type 0
-  SameRoom old new = (kind : NodeType) → room new kind ≡ room old kind
+  SameRoom old new = (kind : NodeType) → space new kind ≡ space old kind
+
+  -- every kind has the capacity that it had
+  abbrev pub SameCapacity : Arena H L → Arena H L → Type 0
+  SameCapacity old new = (kind : NodeType) → capacity new kind ≡ capacity old kind
+
+  -- every kind but this one has the capacity that it had
+  abbrev pub SameOtherCapacity : Arena H L → Arena H L → NodeType → Type 0
+  SameOtherCapacity old new kind = (other : NodeType) → other ≢ kind → capacity new other ≡ capacity old other
 
   -- the spare capacity of every kind but this one is unchanged
   abbrev pub SameOtherRoom : Arena H L → Arena H L → NodeType → Type 0

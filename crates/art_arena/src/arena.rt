@@ -10,7 +10,7 @@ ghost use Rattle.art_nodes.specs.Pointers.{slab_key, node_kind, opaque_pointer};
 ghost use Rattle.art_arena.specs.Links.{HoldsLeaf, leaf_at, with_value_at};
 ghost use Rattle.art_arena.specs.Reader.{shown, shown_kind};
 ghost use Rattle.art_arena.specs.Lending.{LendsNode, LendsValue};
-ghost use Rattle.art_arena.specs.Arena.{held, held_option, Nothing, HeldInner, HeldLeaf, held_header, Changes, SameNodes, room, SameRoom, SameOtherRoom, with_node};
+ghost use Rattle.art_arena.specs.Arena.{held, held_option, Nothing, HeldInner, HeldLeaf, held_header, Changes, SameNodes, room, SameRoom, SameOtherRoom, SameCapacity, SameOtherCapacity, with_node};
 
 mod shelves;
 
@@ -139,7 +139,9 @@ impl<K, V, const PREFIX_LEN: usize> NodeArena<K, V, PREFIX_LEN> {
         ensures room { OnOk result (room self.old N.TYPE ≤ room self.new N.TYPE + 1) }
         ensures takes_no_memory { OnOk result
             (0 < room self.old N.TYPE → room self.old N.TYPE ≡ room self.new N.TYPE + 1) }
+        ensures no_growth { 0 < room self.old N.TYPE → SameCapacity self.old self.new }
         ensures other_room { SameOtherRoom self.old self.new N.TYPE }
+        ensures other_capacity { SameOtherCapacity self.old self.new N.TYPE }
         ensures succeeds { 0 < room self.old N.TYPE → IsOk result }
         ensures nodes_kept { OnErr result (SameNodes self.old self.new) }
         ensures node_back { IfErr result (λ fault. fault.1 ≡ node) }
@@ -161,6 +163,7 @@ impl<K, V, const PREFIX_LEN: usize> NodeArena<K, V, PREFIX_LEN> {
         ensures no_less_room { room self.old kind ≤ room self.new kind }
         ensures nodes_kept { SameNodes self.old self.new }
         ensures other_room { SameOtherRoom self.old self.new kind }
+        ensures other_capacity { SameOtherCapacity self.old self.new kind }
     {
         match kind {
             NodeType::Node4 => self.reserve_slots::<InnerNode4<K, V, PREFIX_LEN>>(additional),
@@ -184,6 +187,7 @@ impl<K, V, const PREFIX_LEN: usize> NodeArena<K, V, PREFIX_LEN> {
         ensures no_less_room { room self.old N.TYPE ≤ room self.new N.TYPE }
         ensures nodes_kept { SameNodes self.old self.new }
         ensures other_room { SameOtherRoom self.old self.new N.TYPE }
+        ensures other_capacity { SameOtherCapacity self.old self.new N.TYPE }
     {
         if additional == 0 {
             return Ok(());
@@ -202,6 +206,7 @@ impl<K, V, const PREFIX_LEN: usize> NodeArena<K, V, PREFIX_LEN> {
         ensures removed { Changes self.old self.new (opaque_pointer N.TYPE (slab_key ptr)) Nothing }
         ensures room { room self.old N.TYPE ≤ room self.new N.TYPE }
         ensures takes_no_memory { room self.new N.TYPE ≤ room self.old N.TYPE + 1 }
+        ensures capacity { SameCapacity self.old self.new }
         ensures other_room { SameOtherRoom self.old self.new N.TYPE }
     {
         N::slab_mut(self).remove(ptr.key())

@@ -8,3 +8,6 @@ pub mod GapLemmas
 pub mod AddedChild
 pub mod AddedFork
 pub mod EntryLemmas
+pub mod NeededNodes
+pub mod NeededChild
+pub mod NeededFork

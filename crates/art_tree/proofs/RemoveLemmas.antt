@@ -6,3 +6,4 @@ pub mod RemovedChild
 pub mod ShrunkNode
 pub mod MergedNode
 pub mod RemovalLemmas
+pub mod NeededNodes

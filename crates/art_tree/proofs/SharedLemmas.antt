@@ -10,4 +10,7 @@ pub mod KeyLemmas
 pub mod ExchangedTree
 pub mod ChangedTree
 pub mod RoomLemmas
+pub mod NodeCounts
+pub mod TextLists
+pub mod KeptEntries
 pub mod PrefixLemmas

@@ -2,6 +2,7 @@
 use Rattle.std.specs.Prelude.{◌≡◌, ℕ, ◌<◌, ◌≤◌, ◌^◌, List, length, Some, None}
 use Rattle.art_arena.specs.Arena.{ArenaOf}
 use Rattle.art_tree.specs.Dictionary.{entry_at, HasEntry, SameOtherEntries, OneIsProperPrefix}
+use Rattle.art_tree.specs.Leaves.{KeepsOtherLeaves}
 use Rattle.art_tree.specs.declared.insert.InsertRefusal.{InsertRefusal}
 use Rattle.art_tree.specs.declared.insert.InsertRefusal.TheVariants.{KeyTooLong, Prefix, OutOfMemory}
 
@@ -25,3 +26,4 @@ module _ {K V : Type 0} {P : ℕ} (text : K → List ℕ) where
   pub record IsEntered (old new : ArenaOf K V P) (key : K) (value : V) : Type 0 where
     pub entry : entry_at text new (text key) ≡ Some (key, value)
     pub others : SameOtherEntries text old new (text key)
+    pub leaves : KeepsOtherLeaves text old new (text key)

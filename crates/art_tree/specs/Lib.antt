@@ -5,7 +5,9 @@ pub mod Dictionary
 pub mod Paths
 pub mod Search
 pub mod Ends
+pub mod Leaves
 pub mod Loading
+pub mod NodeCounts
 pub mod Nodes
 pub mod Plan
 pub mod Raising
@@ -18,4 +20,5 @@ pub mod Hanging
 pub mod Cuts
 pub mod Dropping
 pub mod Removal
+pub mod Reserving
 pub mod Room

@@ -6,7 +6,7 @@ use Rattle.art_nodes.specs.ChildMap.{ChildMap}
 use Rattle.art_nodes.specs.Inner.{Inner}
 use Rattle.art_nodes.specs.Pointers.{node_kind}
 use Rattle.art_nodes.specs.declared.pointers.OpaqueNodePtr.{OpaqueNodePtr}
-use Rattle.art_arena.specs.Arena.{ArenaOf, HeldInner, Nothing, held, room, Changes, SameOtherRoom}
+use Rattle.art_arena.specs.Arena.{ArenaOf, HeldInner, Nothing, held, room, Changes, SameCapacity, SameOtherRoom}
 
 -- the node with these children and a prefix of which it stores at most so many bytes
 abbrev pub node_of : {H : Type 0} → ℕ → List ℕ → ChildMap H → Inner H
@@ -24,6 +24,7 @@ module _ {K V : Type 0} {P : ℕ} where
     pub changes : Changes old new at (HeldInner node)
     pub room : room old kind ≤ room new kind + 1
     pub other_room : SameOtherRoom old new kind
+    pub capacity : SameCapacity old new
 
   -- the node at a pointer is replaced by this one, which is at a new place as one of this kind
   pub record IsReplaced (old new : ArenaOf K V P) (pointer : OpaqueNodePtr K V P) (new_kind : NodeType) (now : Inner (OpaqueNodePtr K V P)) (at : OpaqueNodePtr K V P) : Type 0 where
@@ -37,3 +38,4 @@ module _ {K V : Type 0} {P : ℕ} where
   pub record FreesOne (old new : ArenaOf K V P) (kind : NodeType) : Type 0 where
     pub one_more : room new kind ≤ room old kind + 1
     pub others : SameOtherRoom old new kind
+    pub capacity : SameCapacity old new

@@ -8,6 +8,7 @@ use Rattle.art_nodes.specs.declared.leaf_node.LeafNode.{LeafNode}
 use Rattle.art_arena.specs.Arena.{ArenaOf, HeldInner, HeldLeaf, held, room}
 use Rattle.art_tree.specs.Art.{IsArt}
 use Rattle.art_tree.specs.Dictionary.{entry_at, SameOtherEntries}
+use Rattle.art_tree.specs.Leaves.{KeepsOtherLeaves}
 
 module _ {K V : Type 0} {P : ℕ} (text : K → List ℕ) where
   -- a leaf has this text, and its parent has 5, 17 or 49 children: without the leaf the parent is
@@ -28,6 +29,7 @@ module _ {K V : Type 0} {P : ℕ} (text : K → List ℕ) where
   pub record IsLeft (old new : ArenaOf K V P) (x : List ℕ) : Type 0 where
     pub gone : entry_at text new x ≡ None
     pub others : SameOtherEntries text old new x
+    pub leaves : KeepsOtherLeaves text old new x
 
   -- a tree stands at this root that has all entries but that of the text, which is this one
   pub record IsRemoved (old new : ArenaOf K V P) (x : List ℕ) (root : OpaqueNodePtr K V P) (entry : K × V) : Type 0 where

@@ -1,13 +1,39 @@
 -- Spare capacity before and after a change of a tree.
-use Rattle.std.specs.Prelude.{◌≡◌, ℕ, ◌≤◌, ◌+◌}
+use Rattle.std.specs.Prelude.{◌≡◌, ◌≢◌, ◌⊎◌, ◌↔◌, ℕ, ◌<◌, ◌≤◌, ◌+◌, List, Contains, Option, Some, None}
 use Rattle.art_header.specs.declared.node_type.NodeType.{NodeType}
-use Rattle.art_arena.specs.Arena.{ArenaOf, room}
+use Rattle.art_nodes.specs.declared.pointers.OpaqueNodePtr.{OpaqueNodePtr}
+use Rattle.art_arena.specs.Arena.{ArenaOf, capacity, room}
+use Rattle.art_arena.specs.Trees.{Tree, texts, IsWellFormed}
+use Rattle.art_tree.specs.Art.{IsAlone}
+use Rattle.art_tree.specs.Dictionary.{HasEntry}
+use Rattle.art_tree.specs.NodeCounts.{nodes_of}
+
+module _ {K V : Type 0} {P : ℕ} (text : K → List ℕ) (arena : ArenaOf K V P) where
+  -- the tree at this root, if there is one, has fewer nodes of a kind than this
+  abbrev pub HasFewer : Option (OpaqueNodePtr K V P) → NodeType → ℕ → Type 0
+  HasFewer None kind count = 0 < count
+  HasFewer (Some root) kind count = (tree : Tree (OpaqueNodePtr K V P)) × IsAlone text arena root tree × (nodes_of kind tree < count)
+
+  -- the well-formed tree of these texts has more nodes of this kind than the tree at this root, and there is no spare capacity for the kind
+  pub record LacksRoomFor (root : Option (OpaqueNodePtr K V P)) (IsText : List ℕ → Type 0) (kind : NodeType) : Type 0 where
+    pub tree : Tree (OpaqueNodePtr K V P)
+    pub sound : IsWellFormed tree
+    pub texts_are : (x : List ℕ) → Contains (texts tree) x ↔ IsText x
+    pub needed : HasFewer root kind (nodes_of kind tree)
+    pub none : room arena kind ≡ 0
+
+  -- the same of the texts that have an entry and this one
+  abbrev pub LacksRoomToInsert : Option (OpaqueNodePtr K V P) → List ℕ → NodeType → Type 0
+  LacksRoomToInsert root x kind = LacksRoomFor root (λ other. HasEntry text arena other ⊎ (other ≡ x)) kind
+
+  -- the same of the texts that have an entry, but this one
+  abbrev pub LacksRoomToRemove : Option (OpaqueNodePtr K V P) → List ℕ → NodeType → Type 0
+  LacksRoomToRemove root x kind = LacksRoomFor root (λ other. HasEntry text arena other × (other ≢ x)) kind
 
 module _ {K V : Type 0} {P : ℕ} where
-  -- some kind has no spare capacity
-  pub record LacksRoom (arena : ArenaOf K V P) : Type 0 where
-    pub kind : NodeType
-    pub none : room arena kind ≡ 0
+  -- the capacity of each kind is unchanged, or this is true of the kind
+  abbrev pub GrowsOnlyWhere : ArenaOf K V P → ArenaOf K V P → (NodeType → Type 0) → Type 0
+  GrowsOnlyWhere old new IsNeeded = (kind : NodeType) → (capacity new kind ≡ capacity old kind) ⊎ IsNeeded kind
 
   -- each kind has spare capacity for at most one node more than before
   abbrev pub FreesOneEach : ArenaOf K V P → ArenaOf K V P → Type 0

@@ -15,7 +15,8 @@ ghost use Rattle.art_tree.specs.Edits.{HasRoomToGrow};
 ghost use Rattle.art_tree.specs.Hanging.{HasPlaceAt, StandsBeside};
 ghost use Rattle.art_tree.specs.Insertion.{IsEntered, IsRefused, MayEnter};
 ghost use Rattle.art_tree.specs.Places.{LacksChild, Parts};
-ghost use Rattle.art_tree.specs.Room.{LacksRoom};
+ghost use Rattle.art_tree.specs.Reserving.{LacksRoomForChild, LacksRoomForFork};
+ghost use Rattle.art_tree.specs.Room.{GrowsOnlyWhere, LacksRoomToInsert};
 ghost use Rattle.art_tree.specs.Search.{leaf_pointer};
 ghost use Rattle.art_arena.specs.declared.ends.End.TheVariants.{First, Last};
 ghost use Rattle.art_tree.specs.declared.insert.InsertRefusal.TheVariants.{OutOfMemory};
@@ -105,7 +106,10 @@ fn insert_first<K: AsBytes, V, const PREFIX_LEN: usize>(
     ensures entered { OnOk result (IsEntered K.text arena.old arena.new key value) }
     ensures entry_back { IfErr result (λ entry. entry ≡ (key, value)) }
     ensures nodes_kept { OnErr result (SameNodes arena.old arena.new) }
-    ensures no_room { OnErr result (LacksRoom arena.old) }
+    ensures no_room { OnErr result ((kind : _) ×
+        LacksRoomToInsert K.text arena.old None (K.text key) kind) }
+    ensures memory { GrowsOnlyWhere arena.old arena.new
+        (LacksRoomToInsert K.text arena.old None (K.text key)) }
 {
     no_text_begins_another::<OpaqueNodePtr<K, V, PREFIX_LEN>>();
     match arena.allocate_node_ptr(LeafNode::with_no_siblings(key, value)) {
@@ -197,7 +201,8 @@ fn reserve_for_child<K, V, const PREFIX_LEN: usize>(
     ensures leaf_room { OnOk result (0 < room arena.new Leaf) }
     ensures room { OnOk result (HasRoomToGrow arena.new pointer) }
     ensures nodes_kept { SameNodes arena.old arena.new }
-    ensures no_room { OnErr result (LacksRoom arena.old) }
+    ensures no_room { OnErr result ((kind : _) × LacksRoomForChild arena.old pointer kind) }
+    ensures memory { GrowsOnlyWhere arena.old arena.new (LacksRoomForChild arena.old pointer) }
 {
     arena.reserve(NodeType::Leaf, 1)?;
     reserve_growth(arena, pointer)
@@ -210,7 +215,8 @@ fn reserve_for_fork<K, V, const PREFIX_LEN: usize>(
     ensures leaf_room { OnOk result (0 < room arena.new Leaf) }
     ensures node_room { OnOk result (0 < room arena.new Node4) }
     ensures nodes_kept { SameNodes arena.old arena.new }
-    ensures no_room { OnErr result (LacksRoom arena.old) }
+    ensures no_room { OnErr result ((kind : _) × LacksRoomForFork arena.old kind) }
+    ensures memory { GrowsOnlyWhere arena.old arena.new (LacksRoomForFork arena.old) }
 {
     arena.reserve(NodeType::Leaf, 1)?;
     arena.reserve(NodeType::Node4, 1)
@@ -233,7 +239,10 @@ fn insert_child<K: AsBytes, V, const PREFIX_LEN: usize>(
     ensures entered { OnOk result (IsEntered K.text arena.old arena.new key value) }
     ensures entry_back { IfErr result (λ entry. entry ≡ (key, value)) }
     ensures nodes_kept { OnErr result (SameNodes arena.old arena.new) }
-    ensures no_room { OnErr result (LacksRoom arena.old) }
+    ensures no_room { OnErr result ((kind : _) ×
+        LacksRoomToInsert K.text arena.old (Some root) (K.text key) kind) }
+    ensures memory { GrowsOnlyWhere arena.old arena.new
+        (LacksRoomToInsert K.text arena.old (Some root) (K.text key)) }
 {
     no_text_begins_another::<OpaqueNodePtr<K, V, PREFIX_LEN>>();
     texts_ascend::<OpaqueNodePtr<K, V, PREFIX_LEN>>();
@@ -276,15 +285,18 @@ fn insert_fork<K: AsBytes, V, const PREFIX_LEN: usize>(
     ensures entered { OnOk result (IsEntered K.text arena.old arena.new key value) }
     ensures entry_back { IfErr result (λ entry. entry ≡ (key, value)) }
     ensures nodes_kept { OnErr result (SameNodes arena.old arena.new) }
-    ensures no_room { OnErr result (LacksRoom arena.old) }
+    ensures no_room { OnErr result ((kind : _) ×
+        LacksRoomToInsert K.text arena.old (Some root) (K.text key) kind) }
+    ensures memory { GrowsOnlyWhere arena.old arena.new
+        (LacksRoomToInsert K.text arena.old (Some root) (K.text key)) }
 {
     no_text_begins_another::<OpaqueNodePtr<K, V, PREFIX_LEN>>();
     texts_ascend::<OpaqueNodePtr<K, V, PREFIX_LEN>>();
     each_pointer_is_at_one_place::<K, V, PREFIX_LEN>();
+    let end = near_end(fork);
     if reserve_for_fork(arena).is_err() {
         return Err((key, value));
     }
-    let end = near_end(fork);
     let sibling = end_leaf(arena, spot.node, end);
     let leaf = link_leaf(arena, key, value, sibling, end);
     trim(
@@ -339,9 +351,12 @@ pub(crate) fn insert_entry<K: AsBytes, V, const PREFIX_LEN: usize>(
     ensures untouched { IfErr result
         (λ fault. fault.refusal ≢ OutOfMemory → arena.new ≡ arena.old) }
     ensures no_room { IfErr result
-        (λ fault. fault.refusal ≡ OutOfMemory → LacksRoom arena.old) }
+        (λ fault. fault.refusal ≡ OutOfMemory → (kind : _) ×
+        LacksRoomToInsert K.text arena.old root (K.text key) kind) }
     ensures takes_no_memory { entry_at K.text arena.old (K.text key) ≢ None →
         SameRoom arena.old arena.new }
+    ensures memory { GrowsOnlyWhere arena.old arena.new
+        (LacksRoomToInsert K.text arena.old root (K.text key)) }
 {
     no_text_begins_another::<OpaqueNodePtr<K, V, PREFIX_LEN>>();
     if key.as_bytes().len() >= 1 << 32 {

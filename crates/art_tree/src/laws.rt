@@ -3,17 +3,19 @@
 //!
 //! A context is a tree with one subtree left out. With a subtree in that place it is a tree.
 ghost use Rattle.std.specs.Prelude.{◌≡◌, ◌↔◌, ℕ, ◌++◌, List, All, Contains, Some, None, map};
+ghost use Rattle.art_header.specs.declared.node_type.NodeType.{NodeType};
 ghost use Rattle.art_nodes.specs.Leaf.{leaf_key, leaf_value};
 ghost use Rattle.art_nodes.specs.Pointers.{node_kind};
 ghost use Rattle.art_nodes.specs.declared.pointers.OpaqueNodePtr.{OpaqueNodePtr as Pointer};
 ghost use Rattle.art_arena.specs.Arena.{ArenaOf, HeldLeaf, held};
 ghost use Rattle.art_arena.specs.Standing.{StandsIn};
-ghost use Rattle.art_arena.specs.Trees.{Tree, leaves, places, texts, IsSound, SameButPointers};
+ghost use Rattle.art_arena.specs.Trees.{Tree, leaves, places, texts, IsSound, IsWellFormed, SameButPointers};
 ghost use Rattle.art_tree.specs.Art.{IsAlone, IsArt};
 ghost use Rattle.art_tree.specs.Contexts.{Context, plug, path_to, leaves_before, leaves_after, IsExchanged};
 ghost use Rattle.art_tree.specs.Dictionary.{entry_at, Clashes, HasEntry, HasKeys, IsEmpty};
 ghost use Rattle.art_tree.specs.Insertion.{ClashesIn};
 ghost use Rattle.art_tree.specs.Loading.{HasSmallestKinds};
+ghost use Rattle.art_tree.specs.NodeCounts.{nodes_of};
 
 pub use art_arena::laws::{
     allocating_keeps_lists_spelled, allocating_leaves_trees_standing,
@@ -36,6 +38,19 @@ pub fn the_same_texts_make_the_same_tree<H, L>()
 {
     path_and_prefix_are_shared::<H>();
     path_and_prefix_are_shared::<L>();
+}
+
+/// Well-formed trees with the same texts have as many nodes of each kind. So the nodes that a change
+/// of a tree needs follow from the texts before and after it.
+pub fn the_same_texts_have_the_same_nodes<H, L>()
+    ensures { (tree : Tree H) (other : Tree L) (kind : NodeType) → IsWellFormed tree →
+        IsWellFormed other →
+        ((text : List ℕ) → Contains (texts tree) text ↔ Contains (texts other) text) →
+        nodes_of kind tree ≡ nodes_of kind other }
+{
+    texts_ascend::<H>();
+    texts_ascend::<L>();
+    the_same_texts_make_the_same_tree::<H, L>();
 }
 
 /// Two trees that are the same but for their pointers, each with the smallest kinds in its arena,

@@ -6,7 +6,7 @@ ghost use Rattle.art_header.specs.declared.node_type.NodeType.TheVariants.{Leaf}
 ghost use Rattle.art_nodes.specs.ChildMap.{IsAscending, key_bytes};
 ghost use Rattle.art_nodes.specs.Inner.{Inner, HasRoomFor, node_with_child};
 ghost use Rattle.art_nodes.specs.Pointers.{node_kind, slab_key, opaque_pointer};
-ghost use Rattle.art_arena.specs.Arena.{held, HeldInner, Nothing, room, Changes, SameRoom};
+ghost use Rattle.art_arena.specs.Arena.{held, HeldInner, Nothing, room, Changes, SameCapacity, SameRoom};
 ghost use Rattle.art_arena.specs.Links.{HoldsLeaf, text_at};
 ghost use Rattle.art_tree.specs.Hanging.{CanHang, IsHung};
 ghost use Rattle.art_tree.specs.Nodes.{node_of, IsPlaced, IsReplaced, FreesOne};
@@ -178,6 +178,7 @@ pub(crate) fn replace_node<
     ensures replaced { IfSome result
         (IsReplaced arena.old arena.new pointer R.TYPE (R.inner node)) }
     ensures succeeds { 0 < room arena.old R.TYPE → IsSome result }
+    ensures capacity { 0 < room arena.old R.TYPE → SameCapacity arena.old arena.new }
 {
     let Ok(placed) = arena.allocate_node_ptr(node) else {
         return None;

@@ -4,7 +4,7 @@ ghost use Rattle.art_header.specs.declared.node_type.NodeType.TheVariants as kin
 ghost use Rattle.art_nodes.specs.Inner.{Inner};
 ghost use Rattle.art_nodes.specs.Leaf.{leaf_key, leaf_value};
 ghost use Rattle.art_nodes.specs.Pointers.{slab_key};
-ghost use Rattle.art_arena.specs.Arena.{held, HeldInner, HeldLeaf, Nothing, SameNodes, room};
+ghost use Rattle.art_arena.specs.Arena.{held, HeldInner, HeldLeaf, Nothing, SameCapacity, SameNodes, room};
 ghost use Rattle.art_arena.specs.Links.{Spells};
 ghost use Rattle.art_arena.specs.Trees.{Leaf as LeafTree};
 ghost use Rattle.art_tree.specs.Art.{IsAlone, IsArt};
@@ -13,7 +13,7 @@ ghost use Rattle.art_tree.specs.Dictionary.{entry_at, SameEntries};
 ghost use Rattle.art_tree.specs.Dropping.{IsLeafSpot};
 ghost use Rattle.art_tree.specs.Edits.{StaysAt};
 ghost use Rattle.art_tree.specs.Removal.{IsLeft, IsRemoved, NeedsSmallerNode};
-ghost use Rattle.art_tree.specs.Room.{FreesOneEach, LacksRoom};
+ghost use Rattle.art_tree.specs.Room.{FreesOneEach, GrowsOnlyWhere, LacksRoomToRemove};
 ghost use Rattle.art_tree.specs.Search.{IsPathTo, leaf_pointer};
 ghost use Rattle.art_tree.specs.declared.path.TreePath.TheVariants.{Root};
 
@@ -104,6 +104,7 @@ fn remove_root<K: AsBytes, V, const PREFIX_LEN: usize>(
         IsArt K.text arena.new None × IsLeft K.text arena.old arena.new text ×
         (entry_at K.text arena.old text ≡ Some result) }
     ensures takes_no_memory { FreesOneEach arena.old arena.new }
+    ensures capacity { SameCapacity arena.old arena.new }
 {
     no_text_begins_another::<OpaqueNodePtr<K, V, PREFIX_LEN>>();
     take_leaf(arena, leaf)
@@ -130,7 +131,14 @@ fn remove_from_many<K: AsBytes, V, const PREFIX_LEN: usize>(
     ensures takes_no_memory { (tree : _) → IsAlone K.text arena.old root tree →
         (hangs : IsLeafSpot tree (leaf_pointer leaf) spot) →
         (¬ NeedsSmallerNode K.text arena.old hangs.text) → FreesOneEach arena.old arena.new }
-    ensures no_room { OnErr result (LacksRoom arena.old) }
+    ensures no_room { (tree : _) → IsAlone K.text arena.old root tree →
+        (hangs : IsLeafSpot tree (leaf_pointer leaf) spot) →
+        OnErr result ((kind : _) ×
+        LacksRoomToRemove K.text arena.old (Some root) hangs.text kind) }
+    ensures memory { (tree : _) → IsAlone K.text arena.old root tree →
+        (hangs : IsLeafSpot tree (leaf_pointer leaf) spot) →
+        GrowsOnlyWhere arena.old arena.new
+        (LacksRoomToRemove K.text arena.old (Some root) hangs.text) }
 {
     no_text_begins_another::<OpaqueNodePtr<K, V, PREFIX_LEN>>();
     each_pointer_is_at_one_place::<K, V, PREFIX_LEN>();
@@ -156,6 +164,7 @@ fn remove_from_two<K: AsBytes, V, const PREFIX_LEN: usize>(
         (hangs : IsLeafSpot tree (leaf_pointer leaf) spot) →
         IsRemoved K.text arena.old arena.new hangs.text result.0 result.1 }
     ensures takes_no_memory { FreesOneEach arena.old arena.new }
+    ensures capacity { SameCapacity arena.old arena.new }
 {
     no_text_begins_another::<OpaqueNodePtr<K, V, PREFIX_LEN>>();
     each_pointer_is_at_one_place::<K, V, PREFIX_LEN>();
@@ -185,7 +194,14 @@ fn remove_from<K: AsBytes, V, const PREFIX_LEN: usize>(
     ensures takes_no_memory { (tree : _) → IsAlone K.text arena.old root tree →
         (hangs : IsLeafSpot tree (leaf_pointer leaf) spot) →
         (¬ NeedsSmallerNode K.text arena.old hangs.text) → FreesOneEach arena.old arena.new }
-    ensures no_room { OnErr result (LacksRoom arena.old) }
+    ensures no_room { (tree : _) → IsAlone K.text arena.old root tree →
+        (hangs : IsLeafSpot tree (leaf_pointer leaf) spot) →
+        OnErr result ((kind : _) ×
+        LacksRoomToRemove K.text arena.old (Some root) hangs.text kind) }
+    ensures memory { (tree : _) → IsAlone K.text arena.old root tree →
+        (hangs : IsLeafSpot tree (leaf_pointer leaf) spot) →
+        GrowsOnlyWhere arena.old arena.new
+        (LacksRoomToRemove K.text arena.old (Some root) hangs.text) }
 {
     if num_children(arena, spot.parent) == 2 {
         Ok(remove_from_two(arena, root, spot, leaf))
@@ -213,7 +229,10 @@ pub(crate) fn remove_entry<K: AsBytes, V, const PREFIX_LEN: usize>(
     ensures nodes_kept { OnErr result (SameNodes arena.old arena.new) }
     ensures takes_no_memory { (¬ NeedsSmallerNode K.text arena.old key.now) →
         FreesOneEach arena.old arena.new }
-    ensures no_room { OnErr result (LacksRoom arena.old) }
+    ensures no_room { OnErr result ((kind : _) ×
+        LacksRoomToRemove K.text arena.old (Some root) key.now kind) }
+    ensures memory { GrowsOnlyWhere arena.old arena.new
+        (LacksRoomToRemove K.text arena.old (Some root) key.now) }
 {
     no_text_begins_another::<OpaqueNodePtr<K, V, PREFIX_LEN>>();
     let mut reader = ArenaReader::with_budget(arena, key.len() + 1);

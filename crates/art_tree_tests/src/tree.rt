@@ -7,6 +7,7 @@ mod matches;
 mod path;
 mod readme_examples;
 mod refusals;
+mod reserving;
 mod searches;
 mod tree_examples;
 

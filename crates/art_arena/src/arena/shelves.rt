@@ -50,7 +50,7 @@ pub trait ArenaNode<K, V, const PREFIX_LEN: usize>: Node<PREFIX_LEN, Key = K, Va
     + Shelved<NodeArena<K, V, PREFIX_LEN>> {
     ghost use Rattle.std.specs.Prelude.{◌≡◌, ◌≢◌, ◌↔◌, ℕ};
     ghost use Rattle.slab.specs.Slab.{Slab as Slots, get, ContainsKey};
-    ghost use Rattle.art_arena.specs.Arena.{ArenaOf, Held, Nothing, held_under, held_option, room, slab_room, SameOtherRoom};
+    ghost use Rattle.art_arena.specs.Arena.{ArenaOf, Held, Nothing, held_under, held_option, room, slab_room, capacity, SameOtherRoom, SameOtherCapacity};
     ghost use Rattle.art_nodes.specs.declared.pointers.OpaqueNodePtr.{OpaqueNodePtr};
     ghost use Rattle.art_nodes.specs.declared.leaf_node.LeafNode.{LeafNode};
     ghost use Rattle.art_header.specs.declared.node_type.NodeType.{NodeType};
@@ -83,6 +83,14 @@ pub trait ArenaNode<K, V, const PREFIX_LEN: usize>: Node<PREFIX_LEN, Key = K, Va
     /// Writing this slab leaves the spare capacity of the other kinds unchanged.
     ghost other_room: { (arena : ArenaOf K V PREFIX_LEN) (slots : Slots Self) →
         SameOtherRoom arena (Self.with_slab arena slots) Self.TYPE };
+
+    /// The capacity of the kind is that of its slab.
+    ghost capacity_of_slab: { (arena : ArenaOf K V PREFIX_LEN) →
+        capacity arena Self.TYPE ≡ (Self.slab_of arena).capacity };
+
+    /// Writing this slab leaves the capacity of the other kinds unchanged.
+    ghost other_capacity: { (arena : ArenaOf K V PREFIX_LEN) (slots : Slots Self) →
+        SameOtherCapacity arena (Self.with_slab arena slots) Self.TYPE };
 
     /// Writing this slab leaves the nodes of the other kinds unchanged.
     ghost others_kept: { (arena : ArenaOf K V PREFIX_LEN) (slots : Slots Self)
@@ -149,6 +157,10 @@ impl<K, V, const PREFIX_LEN: usize> ArenaNode<K, V, PREFIX_LEN> for InnerNode4<K
 
     ghost other_room = { Prim.search rules };
 
+    ghost capacity_of_slab = { Prim.search rules };
+
+    ghost other_capacity = { Prim.search rules };
+
     ghost others_kept = { Prim.search rules };
 }
 
@@ -194,6 +206,10 @@ impl<K, V, const PREFIX_LEN: usize> ArenaNode<K, V, PREFIX_LEN> for InnerNode16<
 
     ghost other_room = { Prim.search rules };
 
+    ghost capacity_of_slab = { Prim.search rules };
+
+    ghost other_capacity = { Prim.search rules };
+
     ghost others_kept = { Prim.search rules };
 }
 
@@ -238,6 +254,10 @@ impl<K, V, const PREFIX_LEN: usize> ArenaNode<K, V, PREFIX_LEN> for InnerNode48<
     ghost room_of_slab = { Prim.search rules };
 
     ghost other_room = { Prim.search rules };
+
+    ghost capacity_of_slab = { Prim.search rules };
+
+    ghost other_capacity = { Prim.search rules };
 
     ghost others_kept = { Prim.search rules };
 }
@@ -285,6 +305,10 @@ impl<K, V, const PREFIX_LEN: usize> ArenaNode<K, V, PREFIX_LEN>
 
     ghost other_room = { Prim.search rules };
 
+    ghost capacity_of_slab = { Prim.search rules };
+
+    ghost other_capacity = { Prim.search rules };
+
     ghost others_kept = { Prim.search rules };
 }
 
@@ -329,6 +353,10 @@ impl<K, V, const PREFIX_LEN: usize> ArenaNode<K, V, PREFIX_LEN> for LeafNode<K, 
     ghost room_of_slab = { Prim.search rules };
 
     ghost other_room = { Prim.search rules };
+
+    ghost capacity_of_slab = { Prim.search rules };
+
+    ghost other_capacity = { Prim.search rules };
 
     ghost others_kept = { Prim.search rules };
 }

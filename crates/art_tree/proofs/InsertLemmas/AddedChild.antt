@@ -36,7 +36,7 @@ use Rattle.art_tree.proofs.LoadLemmas.PlacedTrees.{smallest_kinds-split, stand-s
 use Rattle.art_tree.proofs.InsertLemmas.SubtreeLemmas.{HasChildPlace, child-place, in-taken, kind-grows, kind-stays, smallest_kinds-taken}
 
 -- the next kind of an inner node is no leaf's
-grown-inner : (kind : NodeType) → kind ≢ kinds.Leaf → grown_kind kind ≢ kinds.Leaf
+pub grown-inner : (kind : NodeType) → kind ≢ kinds.Leaf → grown_kind kind ≢ kinds.Leaf
 grown-inner kinds.Node4 inner = λ e. cc
 grown-inner kinds.Node16 inner = λ e. cc
 grown-inner kinds.Node48 inner = λ e. cc

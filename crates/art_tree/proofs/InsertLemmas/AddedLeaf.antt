@@ -236,6 +236,7 @@ module _ {K V : Type 0} {P : ℕ} (text : K → List ℕ) (old linked new : Aren
                 others = entries-but text old last root root_now (plug context part) (plug context taken) alone now apart new_apart (text key)
                     (λ p x inside differ. let was = leaf-was left right leaf (text key) (plug context part) (plug context taken) old-leaves new-leaves p x inside differ in (was, keeps p x was))
                     (λ p x inside differ. (leaf-stays left right leaf (text key) (plug context part) (plug context taken) old-leaves new-leaves p x inside, keeps p x inside));
+                leaves = λ p l is differ. (leaves-kept p l is).leaf l is;
               }
 
           -- the tree has the leaf, and its entries that of the leaf
@@ -248,4 +249,4 @@ module _ {K V : Type 0} {P : ℕ} (text : K → List ℕ) (old linked new : Aren
 pub entered-from : {K V : Type 0} {P : ℕ} (text : K → List ℕ) (old reserved last : ArenaOf K V P) (key : K) (value : V) (root : OpaqueNodePtr K V P) (tree : Tree (OpaqueNodePtr K V P)) → IsAlone text old root tree → AreApart (texts tree) → SameNodes old reserved
     → IsEntered text reserved last key value → IsEntered text old last key value
 entered-from text old reserved last key value root tree alone apart same entered =
-    record { entry = entered.entry; others = λ x differ. entered.others x differ ∙ entries-stay text old reserved same root tree alone apart x }
+    record { entry = entered.entry; others = λ x differ. entered.others x differ ∙ entries-stay text old reserved same root tree alone apart x; leaves = λ p l is differ. entered.leaves p l (same p ∙ is) differ }

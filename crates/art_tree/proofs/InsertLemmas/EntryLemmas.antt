@@ -11,7 +11,6 @@ use Rattle.art_tree.specs.Art.{IsAlone, IsArt}
 use Rattle.art_tree.specs.Contexts.{Context, plug, path_to, leaves_before, leaves_after}
 use Rattle.art_tree.specs.Dictionary.{entry_at, HasEntry, IsProperPrefixOf, Clashes, SameEntries}
 use Rattle.art_tree.specs.Insertion.{ClashesIn, IsEntered, IsRefused, MayEnter}
-use Rattle.art_tree.specs.Room.{LacksRoom}
 use Rattle.art_tree.specs.Places.{IsSpot, LacksChild, Parts, reach}
 use Rattle.art_tree.specs.declared.insert.InsertFault.{InsertFault}
 use Rattle.art_tree.specs.declared.insert.InsertRefusal.TheVariants.{OutOfMemory}
@@ -194,7 +193,7 @@ module _ {K V : Type 0} {P : ℕ} (text : K → List ℕ) (old new : ArenaOf K V
   empty-stays nothing x = empty-entry text new (λ p. same p ∙ nothing p) x ∙ sym (empty-entry text old nothing x)
 
 -- the result of an insert of a text without an entry
-module _ {K V : Type 0} {P : ℕ} (text : K → List ℕ) (old new : ArenaOf K V P) (key : K) (value : V) where
+module _ {K V : Type 0} {P : ℕ} (text : K → List ℕ) (old new : ArenaOf K V P) (key : K) (value : V) (Lacks : Type 0) where
   pub record IsAnswered (result : Result (OpaqueNodePtr K V P × Option (K × V)) (InsertFault K V)) : Type 0 where
     pub art : IfOk result (λ pair. IsArt text new (Some pair.0))
     pub replaced : IfOk result (λ pair. pair.1 ≡ entry_at text old (text key))
@@ -205,15 +204,15 @@ module _ {K V : Type 0} {P : ℕ} (text : K → List ℕ) (old new : ArenaOf K V
     pub same_entries : OnErr result (SameEntries text old new)
     pub nodes_kept : OnErr result (SameNodes old new)
     pub untouched : IfErr result (λ fault. fault.refusal ≢ OutOfMemory → new ≡ old)
-    pub no_room : IfErr result (λ fault. fault.refusal ≡ OutOfMemory → LacksRoom old)
+    pub no_room : IfErr result (λ fault. fault.refusal ≡ OutOfMemory → Lacks)
 
   -- it follows from what was added, where nothing but an allocation failure refuses the text
-  module _ (added : Result (OpaqueNodePtr K V P) (K × V)) (art : IfOk added (λ root. IsArt text new (Some root))) (entered : OnOk added (IsEntered text old new key value)) (entry_back : IfErr added (λ entry. entry ≡ (key, value))) (nodes_kept : OnErr added (SameNodes old new)) (lacks : OnErr added (LacksRoom old)) where
+  module _ (added : Result (OpaqueNodePtr K V P) (K × V)) (art : IfOk added (λ root. IsArt text new (Some root))) (entered : OnOk added (IsEntered text old new key value)) (entry_back : IfErr added (λ entry. entry ≡ (key, value))) (nodes_kept : OnErr added (SameNodes old new)) (lacks : OnErr added Lacks) where
     pub answered : IsRefused text old (text key) OutOfMemory → (SameNodes old new → SameEntries text old new) → (result : Result (OpaqueNodePtr K V P × Option (K × V)) (InsertFault K V)) → ((root : OpaqueNodePtr K V P) → added ≡ Ok root → result ≡ Ok (root, None))
         → ((k : K) (v : V) → added ≡ Err (k, v) → result ≡ Err (record { refusal = OutOfMemory; key = k; value = v })) → IsAnswered result
     answered is_new stay result told refused = by_added added refl art entered entry_back nodes_kept lacks
       where
-        by_added : (a : Result (OpaqueNodePtr K V P) (K × V)) → added ≡ a → IfOk a (λ root. IsArt text new (Some root)) → OnOk a (IsEntered text old new key value) → IfErr a (λ entry. entry ≡ (key, value)) → OnErr a (SameNodes old new) → OnErr a (LacksRoom old) → IsAnswered result
+        by_added : (a : Result (OpaqueNodePtr K V P) (K × V)) → added ≡ a → IfOk a (λ root. IsArt text new (Some root)) → OnOk a (IsEntered text old new key value) → IfErr a (λ entry. entry ≡ (key, value)) → OnErr a (SameNodes old new) → OnErr a Lacks → IsAnswered result
         by_added (Ok root) is is_art is_entered back kept none =
             subst IsAnswered (sym (told root is)) (record { art = is_art; replaced = sym is_new.1; entered = is_entered; no_refusal = is_new.0; refusal_due = tt; entry_back = tt; same_entries = tt; nodes_kept = tt; untouched = tt; no_room = tt })
         by_added (Err (k, v)) is is_art is_entered back kept none =

@@ -43,6 +43,7 @@ module _ {K V : Type 0} {P : ℕ} (text : K → List ℕ) (old new : ArenaOf K V
     first-entered alone apart = record {
       entry = ap (λ k. entry_at text new (text k)) (sym is_key) ∙ held-entry text new (leaf_pointer at) (Leaf (leaf_pointer at) (text key)) alone apart (leaf_pointer at) leaf changes.changed ∙ ap Some (λ i. (is_key i, is_value i));
       others = λ x differ. by_entry x differ (entry_at text new x) refl ∙ sym (empty-entry text old empty x);
+      leaves = λ p l is differ. (let wrong : HeldLeaf l ≡ Nothing = sym is ∙ empty p in absurd (cc));
     }
       where
         by_entry : (x : List ℕ) → x ≢ text key → (o : Option (K × V)) → entry_at text new x ≡ o → entry_at text new x ≡ None
@@ -79,6 +80,9 @@ module _ {K V : Type 0} {P : ℕ} (text : K → List ℕ) (old new : ArenaOf K V
         record {
           entry = ap (λ k. entry_at text new (text k)) (sym is_key) ∙ held-entry text new root tree after apart at now changes.changed ∙ ap Some (λ i. (is_key i, is_value i));
           others = entries-but text old new root root tree tree alone after apart apart (text key) keeps keeps;
+          leaves = λ q leaf holds differ.
+              let other : q ≢ at = λ same. differ (ap (λ l. text (leaf_key l)) (one-leaf (held old at) leaf was (ap (held old) (sym same) ∙ holds) is) ∙ same_text) in
+              (leaf, changes.others q other ∙ holds, refl, refl);
         }
 
   -- what was there

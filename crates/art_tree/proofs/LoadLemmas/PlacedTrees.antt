@@ -17,7 +17,7 @@ use Rattle.art_nodes.specs.declared.pointers.NodePtr.{NodePtr}
 use Rattle.art_nodes.specs.declared.pointers.OpaqueNodePtr.{OpaqueNodePtr}
 use Rattle.art_nodes.specs.declared.leaf_node.LeafNode.{LeafNode}
 use Rattle.art_nodes.proofs.KindLaws.{same_or_differ}
-use Rattle.art_arena.specs.Arena.{ArenaOf, Held, HeldInner, HeldLeaf, Nothing, held, held_leaf, room, SameOtherRoom, Changes}
+use Rattle.art_arena.specs.Arena.{ArenaOf, Held, HeldInner, HeldLeaf, Nothing, held, held_leaf, room, SameCapacity, SameOtherRoom, Changes}
 use Rattle.art_arena.specs.Links.{HoldsLeaf, leaf_at, text_at}
 use Rattle.art_arena.specs.Standing.{NodeStands, StandsIn, AllStandIn, leaf_text}
 use Rattle.art_arena.specs.Trees.{Tree, Leaf, Inner, Branches, NoBranch, Branch, branch_roots, branch_leaves, branch_places, leaves, places, root_of}
@@ -107,10 +107,10 @@ module _ {K V : Type 0} {P : ℕ} where
 
   -- the result of an allocation
   pub placed : (old new : ArenaOf K V P) (kind : NodeType) (key : ℕ) (node : nodes.Inner (OpaqueNodePtr K V P)) (at : OpaqueNodePtr K V P) → node_kind at ≡ kind → opaque_key at ≡ key → held old (opaque_pointer kind key) ≡ Nothing
-      → Changes old new (opaque_pointer kind key) (HeldInner node) → room old kind ≤ room new kind + 1 → SameOtherRoom old new kind → IsPlaced old new kind node at
-  placed old new kind key node at is_kind is_key free changes rooms others =
+      → Changes old new (opaque_pointer kind key) (HeldInner node) → room old kind ≤ room new kind + 1 → SameOtherRoom old new kind → SameCapacity old new → IsPlaced old new kind node at
+  placed old new kind key node at is_kind is_key free changes rooms others same_capacity =
       let same : opaque_pointer kind key ≡ at = λ i. record { node_type = (sym is_kind) i; key = (sym is_key) i; leaf = record {} } in
-      record { is_kind = is_kind; was_free = subst (λ p. held old p ≡ Nothing) same free; changes = subst (λ p. Changes old new p (HeldInner node)) same changes; room = rooms; other_room = others }
+      record { is_kind = is_kind; was_free = subst (λ p. held old p ≡ Nothing) same free; changes = subst (λ p. Changes old new p (HeldInner node)) same changes; room = rooms; other_room = others; capacity = same_capacity }
 
   module _ (text : K → List ℕ) (arena : ArenaOf K V P) where
     pub stand-join : (a b : Branches (OpaqueNodePtr K V P)) → AllStandIn text arena a → AllStandIn text arena b → AllStandIn text arena (join a b)

@@ -216,7 +216,7 @@ kind-shrinks n kind two is least = elim (cases_lt 4 (n + 1)) [
 ]
 
 -- where no text is a prefix of another, the text of a leaf is not among the others
-text-gone : {H : Type 0} (left right : List (H × List ℕ)) (leaf : H) (x : List ℕ) → AreApart (map (λ pair. pair.1) (left ++ (leaf, x) ∷ right)) → (p : H) → Contains (left ++ right) (p, x) → ⊥
+pub text-gone : {H : Type 0} (left right : List (H × List ℕ)) (leaf : H) (x : List ℕ) → AreApart (map (λ pair. pair.1) (left ++ (leaf, x) ∷ right)) → (p : H) → Contains (left ++ right) (p, x) → ⊥
 text-gone [] right leaf x apart p inside = not-later (leaf, x) right leaf p x apart refl inside
 text-gone (y ∷ left) right leaf x apart p inside = elim (Contains-append_cases (y ∷ []) (left ++ right) (p, x) inside) [
   | inl here ↦ not-later y (left ++ (leaf, x) ∷ right) p leaf x apart (the-one y (p, x) here) (Contains-append_right left ((leaf, x) ∷ right) (leaf, x) (0, omega arith, refl))

@@ -29,6 +29,7 @@ use Rattle.art_tree.specs.declared.path.TreePath.{TreePath}
 use Rattle.art_tree.proofs.SharedLemmas.DictionaryLemmas.{AreApart, empty-entry, held-entry, leaf-held-in, leaf-of-entry, scan-in}
 use Rattle.art_tree.proofs.SharedLemmas.ExchangedSubtree.{leaves-plug, stands-part, the-one}
 use Rattle.art_tree.proofs.InsertLemmas.NodeLemmas.{one-leaf}
+use Rattle.art_tree.proofs.SharedLemmas.RoomLemmas.{same-capacity, same-room}
 use Rattle.art_tree.proofs.LoadLemmas.PlacedTrees.{cases_held, cases_pointer, leaf-of}
 use Rattle.art_arena.proofs.StandingLaws.{leaf_kind}
 
@@ -86,18 +87,19 @@ module _ {K V : Type 0} {P : ℕ} (old linked : ArenaOf K V P) (this : ℕ) (sam
 -- no kind has less spare capacity, where a leaf is deallocated
 module _ {K V : Type 0} {P : ℕ} (old linked new : ArenaOf K V P) where
   pub no-less-room : SameRoom old linked → room linked kinds.Leaf ≤ room new kinds.Leaf → SameOtherRoom linked new kinds.Leaf → (kind : NodeType) → room old kind ≤ room new kind
-  no-less-room stays leaf others kinds.Node4 = omega (arith, stays kinds.Node4, others kinds.Node4 (λ e. cc))
-  no-less-room stays leaf others kinds.Node16 = omega (arith, stays kinds.Node16, others kinds.Node16 (λ e. cc))
-  no-less-room stays leaf others kinds.Node48 = omega (arith, stays kinds.Node48, others kinds.Node48 (λ e. cc))
-  no-less-room stays leaf others kinds.Node256 = omega (arith, stays kinds.Node256, others kinds.Node256 (λ e. cc))
-  no-less-room stays leaf others kinds.Leaf = omega (arith, stays kinds.Leaf, leaf)
+  no-less-room stays leaf others kinds.Node4 = omega (arith, same-room old linked stays kinds.Node4, others kinds.Node4 (λ e. cc))
+  no-less-room stays leaf others kinds.Node16 = omega (arith, same-room old linked stays kinds.Node16, others kinds.Node16 (λ e. cc))
+  no-less-room stays leaf others kinds.Node48 = omega (arith, same-room old linked stays kinds.Node48, others kinds.Node48 (λ e. cc))
+  no-less-room stays leaf others kinds.Node256 = omega (arith, same-room old linked stays kinds.Node256, others kinds.Node256 (λ e. cc))
+  no-less-room stays leaf others kinds.Leaf = omega (arith, same-room old linked stays kinds.Leaf, leaf)
 
 -- one kind after the other has spare capacity for one node more at most
 module _ {K V : Type 0} {P : ℕ} where
   pub frees-after : (old mid new : ArenaOf K V P) (kind : NodeType) → SameRoom old mid → FreesOne mid new kind → FreesOne old new kind
   frees-after old mid new kind stays frees = record {
-    one_more = omega (arith, stays kind, frees.one_more);
-    others = λ other differ. frees.others other differ ∙ stays other;
+    one_more = omega (arith, same-room old mid stays kind, frees.one_more);
+    others = λ other differ. frees.others other differ ∙ same-room old mid stays other;
+    capacity = λ other. frees.capacity other ∙ same-capacity old mid stays other;
   }
 
   pub frees-one : (old new : ArenaOf K V P) (kind : NodeType) → FreesOne old new kind → FreesOneEach old new
@@ -109,15 +111,15 @@ module _ {K V : Type 0} {P : ℕ} where
   -- a leaf, and then an inner node
   pub frees-two : (old cut joined new last : ArenaOf K V P) (kind : NodeType) → kind ≢ kinds.Leaf → FreesOne old cut kinds.Leaf → SameRoom cut joined → FreesOne joined new kind → SameRoom new last → FreesOneEach old last
   frees-two old cut joined new last kind inner leaf stays node ends other = elim (same_or_differ other kinds.Leaf) [
-    | inl same ↦ subst (λ k. room last k ≤ room old k + 1) (sym same) (omega (arith, leaf.one_more, stays kinds.Leaf, node.others kinds.Leaf (λ e. inner (sym e)), ends kinds.Leaf))
-    | inr differ ↦ omega (arith, leaf.others other differ, stays other, frees-one joined new kind node other, ends other)
+    | inl same ↦ subst (λ k. room last k ≤ room old k + 1) (sym same) (omega (arith, leaf.one_more, same-room cut joined stays kinds.Leaf, node.others kinds.Leaf (λ e. inner (sym e)), same-room new last ends kinds.Leaf))
+    | inr differ ↦ omega (arith, leaf.others other differ, same-room cut joined stays other, frees-one joined new kind node other, same-room new last ends other)
   ]
 
   -- a leaf whose parent has more than the fewest children of its kind
   pub frees-leaf : (old reserved cut new last : ArenaOf K V P) (parent top : OpaqueNodePtr K V P) (node now : nodes.Inner (OpaqueNodePtr K V P)) → SameRoom old reserved → FreesOne reserved cut kinds.Leaf
       → HasOneLess cut new parent node now top → length node.children ≢ least_children (node_kind parent) → SameRoom new last → FreesOneEach old last
   frees-leaf old reserved cut new last parent top node now stays leaf less more ends other = elim less [
-    | inl cutting ↦ omega (arith, stays other, frees-one reserved cut kinds.Leaf leaf other, cutting.same_room other, ends other)
+    | inl cutting ↦ omega (arith, same-room old reserved stays other, frees-one reserved cut kinds.Leaf leaf other, same-room cut new cutting.same_room other, same-room new last ends other)
     | inr shrunk ↦ absurd (more shrunk.least)
   ]
 
@@ -140,13 +142,22 @@ module _ {K V : Type 0} {P : ℕ} (text : K → List ℕ) (old new : ArenaOf K V
   ]
 
   pub root-left : IsLeft text old new x
-  root-left = record { gone = empty-entry text new root-empty x; others = λ y differ. empty-entry text new root-empty y ∙ sym (by_entry y differ (entry_at text old y) refl) }
+  root-left = record {
+    gone = empty-entry text new root-empty x;
+    others = λ y differ. empty-entry text new root-empty y ∙ sym (by_entry y differ (entry_at text old y) refl);
+    leaves = λ p l is differ. (others p (λ same. not-it p l is differ same)).keeps.leaf l is;
+  }
     where
       by_entry : (y : List ℕ) → y ≢ x → (o : Option (K × V)) → entry_at text old y ≡ o → entry_at text old y ≡ None
       by_entry y differ None is = is
       by_entry y differ (Some entry) is =
           let found = leaf-of-entry text old root (Leaf at x) alone y entry is in
           absurd (differ (sym (ap (λ pair. pair.1) (the-one (at, x) (found.pointer, y) found.inside))))
+
+      not-it : (p : OpaqueNodePtr K V P) (l : LeafNode K V P) → held old p ≡ HeldLeaf l → text (leaf_key l) ≢ x → p ≢ at
+      not-it p l is differ same =
+          let (own, own_held, own_text) = alone.is_tree.stands in
+          differ (ap (λ leaf. text (leaf_key leaf)) (one-leaf (held old at) l own (ap (held old) (sym same) ∙ is) own_held) ∙ own_text)
 
 -- the parent of a leaf is held
 pub parent-there : {K V : Type 0} {P : ℕ} (text : K → List ℕ) (arena : ArenaOf K V P) (root : OpaqueNodePtr K V P) (tree : Tree (OpaqueNodePtr K V P)) → IsAlone text arena root tree → (pointer parent : OpaqueNodePtr K V P) (byte : ℕ) (higher : Option (OpaqueNodePtr K V P × ℕ))

@@ -187,6 +187,13 @@ module _ {K V : Type 0} {P : ℕ} (text : K → List ℕ) (old cut new : ArenaOf
               has.freed in
               subst (λ r. IsAlone text last r (plug context now)) (hangs.at_root now has.at_root) whole
 
+          -- a leaf of another text is another leaf
+          other-leaf : IsAlone text old root (plug context part) → (p : OpaqueNodePtr K V P) (l : LeafNode K V P) → held old p ≡ HeldLeaf l → text (leaf_key l) ≢ x → p ≢ leaf
+          other-leaf alone p l is differ same =
+              let there : Contains (leaves (plug context part)) (leaf, x) = subst (λ all. Contains all (leaf, x)) (sym whole-was) (Contains-append_right left ((leaf, x) ∷ right) (leaf, x) (0, omega arith, refl)) in
+              let own = leaf-held-in text old (plug context part) alone.is_tree.stands leaf x there in
+              differ (ap (λ one. text (leaf_key one)) (one-leaf (held old leaf) l own.0 (ap (held old) (sym same) ∙ is) own.1) ∙ own.2)
+
           -- every other text has the entry that it had, and this one none
           cut-others : (alone : IsAlone text old root (plug context part)) → AreApart (texts (plug context part)) → AreApart (texts (plug context now)) → (y : List ℕ) → y ≢ x → entry_at text last y ≡ entry_at text old y
           cut-others alone apart apart_now =
@@ -211,6 +218,7 @@ module _ {K V : Type 0} {P : ℕ} (text : K → List ℕ) (old cut new : ArenaOf
                 left = record {
                   gone = gone-entry text last root_now (plug context now) alone_now (plug context part) apart_old left right leaf x whole-was whole-is;
                   others = cut-others alone apart_old apart_now;
+                  leaves = λ p l is differ. (leaves-kept p l is (other-leaf alone p l is differ)).leaf l is;
                 };
                 was = was apart_old;
               }
@@ -220,4 +228,4 @@ pub removed-from : {K V : Type 0} {P : ℕ} (text : K → List ℕ) (old reserve
     → IsRemoved text reserved last x root_now entry → IsRemoved text old last x root_now entry
 removed-from text old reserved last x root_now entry root tree alone apart same removed =
     let entries = entries-stay text old reserved same root tree alone apart in
-    record { art = removed.art; left = record { gone = removed.left.gone; others = λ y differ. removed.left.others y differ ∙ entries y }; was = sym (entries x) ∙ removed.was }
+    record { art = removed.art; left = record { gone = removed.left.gone; others = λ y differ. removed.left.others y differ ∙ entries y; leaves = λ p l is differ. removed.left.leaves p l (same p ∙ is) differ }; was = sym (entries x) ∙ removed.was }

@@ -15,6 +15,7 @@ use Rattle.art_nodes.specs.declared.pointers.OpaqueNodePtr.{OpaqueNodePtr}
 use Rattle.art_arena.specs.Arena.{ArenaOf, Held, HeldInner, HeldLeaf, Nothing, held, room, Changes, SameRoom}
 use Rattle.art_tree.specs.Cuts.{HasOneLess, HasRoomToShrink}
 use Rattle.art_tree.specs.Nodes.{IsReplaced}
+use Rattle.art_tree.proofs.SharedLemmas.RoomLemmas.{same-room}
 use Rattle.art_tree.proofs.InsertLemmas.NodeLemmas.{one-inner, some-inner}
 use Rattle.art_arena.proofs.StandingLaws.{leaf_kind}
 
@@ -153,7 +154,7 @@ module _ {K V : Type 0} {P : ℕ} where
           → ((node : Inner (OpaqueNodePtr K V P)) → held old pointer ≡ HeldInner node → (2 < length node.children) × (least_children (node_kind pointer) ≤ length node.children)) → 0 < room mid (shrunk_kind (node_kind pointer))
       room-left rooms same_room many =
           let has = rooms before.0 before.1 (many before.0 before.1).0 (fewest before.0 before.1) in
-          omega (arith, has, same_room (shrunk_kind (node_kind pointer)))
+          omega (arith, has, same-room old mid same_room (shrunk_kind (node_kind pointer)))
 
       -- and what it shrinks to stands for it
       pub shrunk-left : {new : ArenaOf K V P} {to : OpaqueNodePtr K V P} (node : Inner (OpaqueNodePtr K V P)) → held old pointer ≡ HeldInner node

@@ -58,7 +58,7 @@ module _ {H : Type 0} where
   bytes-same : (before : Branches H) (byte : ℕ) (old new : Tree H) (after : Branches H) → key_bytes (branch_roots (join before (Branch byte old after))) ≡ key_bytes (branch_roots (join before (Branch byte new after)))
   bytes-same before byte old new after = bytes-join before (Branch byte old after) ∙ sym (bytes-join before (Branch byte new after))
 
-  count-same : (before : Branches H) (byte : ℕ) (old new : Tree H) (after : Branches H) → length (branch_roots (join before (Branch byte old after))) ≡ length (branch_roots (join before (Branch byte new after)))
+  pub count-same : (before : Branches H) (byte : ℕ) (old new : Tree H) (after : Branches H) → length (branch_roots (join before (Branch byte old after))) ≡ length (branch_roots (join before (Branch byte new after)))
   count-same before byte old new after =
       sym (length-map (branch_roots (join before (Branch byte old after))) (λ pair. pair.0)) ∙ ap length (bytes-same before byte old new after) ∙ length-map (branch_roots (join before (Branch byte new after))) (λ pair. pair.0)
 

@@ -1,9 +1,10 @@
 -- Allocation failure: some kind has no spare capacity.
-use Rattle.std.proofs.Common.{◌≡◌, ◌∙◌, ℕ, zero, suc, ◌≤◌, Result, Ok, Err, OnErr, IsOk, true, false, refl, sym, subst, inl, inr, arith}
+use Rattle.std.proofs.Common.{◌≡◌, ◌⊎◌, ◌∙◌, ℕ, zero, suc, ◌≤◌, Result, Ok, Err, OnErr, IsOk, true, false, refl, sym, ap, subst, inl, inr, arith}
+use Rattle.std.proofs.lemmas.Bool.{cases_lt}
 use Rattle.art_header.specs.declared.node_type.NodeType.{NodeType}
+use Rattle.art_arena.specs.Arena.{ArenaOf, capacity, room, SameCapacity, SameOtherCapacity, SameRoom}
 use Rattle.art_nodes.proofs.KindLaws.{same_or_differ}
-use Rattle.art_arena.specs.Arena.{ArenaOf, room, SameOtherRoom}
-use Rattle.art_tree.specs.Room.{LacksRoom}
+use Rattle.art_tree.specs.Room.{GrowsOnlyWhere}
 
 -- what is refused, and is not where there is one, is refused where there is none
 pub none-left : {T E : Type 0} (r : Result T E) (n : ℕ) → (1 ≤ n → IsOk r) → (e : E) → r ≡ Err e → n ≡ 0
@@ -13,19 +14,49 @@ none-left {T} {E} r (suc n) ok e is =
     let never : false ≡ true = wrong in
     absurd (cc)
 
-module _ {K V : Type 0} {P : ℕ} where
-  pub lacks-on-err : {T E : Type 0} (r : Result T E) (arena : ArenaOf K V P) (kind : NodeType) → (1 ≤ room arena kind → IsOk r) → OnErr r (LacksRoom arena)
-  lacks-on-err (Ok x) arena kind ok = tt
-  lacks-on-err {T} {E} (Err e) arena kind ok = record { kind = kind; none = none-left {T = T} (Err e) (room arena kind) ok e refl }
+pub none-on-err : {K V : Type 0} {P : ℕ} {T E : Type 0} (r : Result T E) (arena : ArenaOf K V P) (kind : NodeType) → (1 ≤ room arena kind → IsOk r) → OnErr r (room arena kind ≡ 0)
+none-on-err (Ok x) arena kind ok = tt
+none-on-err {T = T} (Err e) arena kind ok = none-left {T = T} (Err e) (room arena kind) ok e refl
 
-  -- where a kind has no less spare capacity than before, and the others as much, what lacks it now
-  -- lacked it before
-  lacked : (old new : ArenaOf K V P) (kind : NodeType) → SameOtherRoom old new kind → room old kind ≤ room new kind → LacksRoom new → LacksRoom old
-  lacked old new kind others more lacks = elim (same_or_differ lacks.kind kind) [
-    | inl same ↦ record { kind = kind; none = omega (arith, more, subst (λ k. room new k ≡ 0) same lacks.none) }
-    | inr differ ↦ record { kind = lacks.kind; none = sym (others lacks.kind differ) ∙ lacks.none }
+-- what follows from what holds on an error holds on it
+pub on-err-then : {T E : Type 0} (r : Result T E) (A B : Type 0) → (A → B) → OnErr r A → OnErr r B
+on-err-then (Ok x) A B follows holds = tt
+on-err-then (Err e) A B follows holds = follows holds
+
+-- what has the same room and capacity has the same of each
+module _ {K V : Type 0} {P : ℕ} (old new : ArenaOf K V P) (same : SameRoom old new) where
+  pub same-room : (kind : NodeType) → room new kind ≡ room old kind
+  same-room kind = ap (λ both. both.0) (same kind)
+
+  pub same-capacity : SameCapacity old new
+  same-capacity kind = ap (λ both. both.1) (same kind)
+
+module _ {K V : Type 0} {P : ℕ} where
+  -- this is the kind that is asked for, and it has no room
+  abbrev pub IsAsked : ArenaOf K V P → NodeType → NodeType → Type 0
+  IsAsked old kind other = (other ≡ kind) × (room old other ≡ 0)
+
+  -- where one kind was asked for, none grows but that one, and that one only where it had no room
+  pub asked-grows : (old new : ArenaOf K V P) (kind : NodeType) → (1 ≤ room old kind → SameCapacity old new) → SameOtherCapacity old new kind → GrowsOnlyWhere old new (IsAsked old kind)
+  asked-grows old new kind had others other = elim (same_or_differ other kind) [
+    | inr differ ↦ inl (others other differ)
+    | inl same ↦ elim (cases_lt 0 (room old kind)) [
+      | inl some ↦ inl (had (omega (arith, some)) other)
+      | inr none ↦ inr (same, subst (λ k. room old k ≡ 0) (sym same) (omega (arith, none)))
+    ]
   ]
 
-  pub lacked-on-err : {T E : Type 0} (r : Result T E) (old new : ArenaOf K V P) (kind : NodeType) → SameOtherRoom old new kind → room old kind ≤ room new kind → OnErr r (LacksRoom new) → OnErr r (LacksRoom old)
-  lacked-on-err (Ok x) old new kind others more lacks = tt
-  lacked-on-err (Err e) old new kind others more lacks = lacked old new kind others more lacks
+  -- for what follows from what a kind was needed for, it was needed
+  pub grows-then : (old new : ArenaOf K V P) (A B : NodeType → Type 0) → ((kind : NodeType) → A kind → B kind) → GrowsOnlyWhere old new A → GrowsOnlyWhere old new B
+  grows-then old new A B follows grows kind = elim (grows kind) [ inl same ↦ inl same | inr needed ↦ inr (follows kind needed) ]
+
+  -- steps that take no memory after others
+  pub grows-on : (old mid new : ArenaOf K V P) (A : NodeType → Type 0) → GrowsOnlyWhere old mid A → SameCapacity mid new → GrowsOnlyWhere old new A
+  grows-on old mid new A grows same kind = elim (grows kind) [ inl before ↦ inl (same kind ∙ before) | inr needed ↦ inr needed ]
+
+  -- one step after the other
+  pub grows-twice : (old mid new : ArenaOf K V P) (A : NodeType → Type 0) → GrowsOnlyWhere old mid A → GrowsOnlyWhere mid new A → GrowsOnlyWhere old new A
+  grows-twice old mid new A first second kind = elim (second kind) [
+    | inr needed ↦ inr needed
+    | inl after ↦ elim (first kind) [ inl before ↦ inl (after ∙ before) | inr needed ↦ inr needed ]
+  ]

@@ -6,11 +6,12 @@ ghost use Rattle.art_header.specs.declared.node_type.NodeType.TheVariants.{Leaf,
 ghost use Rattle.art_nodes.specs.ChildMap.{child_at};
 ghost use Rattle.art_nodes.specs.Inner.{Inner, header_of, node_with_child};
 ghost use Rattle.art_nodes.specs.Pointers.{node_kind, slab_key};
-ghost use Rattle.art_arena.specs.Arena.{held, HeldInner, Nothing, room, Changes, SameNodes, SameRoom};
+ghost use Rattle.art_arena.specs.Arena.{held, HeldInner, Nothing, room, Changes, SameCapacity, SameNodes, SameRoom};
 ghost use Rattle.art_arena.specs.Links.{HoldsLeaf, text_at};
 ghost use Rattle.art_tree.specs.Edits.{HasOneMore, HasRoomToGrow, IsMoved, two_children};
 ghost use Rattle.art_tree.specs.Nodes.{node_of, IsPlaced, node_with_prefix};
-ghost use Rattle.art_tree.specs.Room.{LacksRoom};
+ghost use Rattle.art_tree.specs.Reserving.{LacksRoomToGrow};
+ghost use Rattle.art_tree.specs.Room.{GrowsOnlyWhere};
 ghost use Rattle.art_tree.specs.Search.{leaf_pointer};
 
 use crate::insert::place::Fork;
@@ -47,7 +48,8 @@ pub(crate) fn reserve_growth<K, V, const PREFIX_LEN: usize>(
     ensures room { OnOk result (HasRoomToGrow arena.new pointer) }
     ensures nodes_kept { SameNodes arena.old arena.new }
     ensures leaf_room { room arena.old Leaf ≤ room arena.new Leaf }
-    ensures no_room { OnErr result (LacksRoom arena.old) }
+    ensures no_room { OnErr result ((kind : _) × LacksRoomToGrow arena.old pointer kind) }
+    ensures memory { GrowsOnlyWhere arena.old arena.new (LacksRoomToGrow arena.old pointer) }
 {
     if !is_full(arena, pointer) {
         return Ok(());
@@ -93,8 +95,9 @@ fn grow_child<K, V, const PREFIX_LEN: usize>(
     requires absent { (node : Inner _) → held arena.old pointer ≡ HeldInner node →
         child_at node.children byte ≡ None }
     requires room { HasRoomToGrow arena.old pointer }
-    ensures { (node : Inner _) → held arena.old pointer ≡ HeldInner node →
+    ensures moved { (node : Inner _) → held arena.old pointer ≡ HeldInner node →
         IsMoved arena.old arena.new pointer node (node_with_child node byte child) result }
+    ensures capacity { SameCapacity arena.old arena.new }
 {
     match arena.node_ref(pointer) {
         AnyRef::Node4(node) => {
@@ -131,8 +134,9 @@ pub(crate) fn add_child<K, V, const PREFIX_LEN: usize>(
     requires absent { (node : Inner _) → held arena.old pointer ≡ HeldInner node →
         child_at node.children byte ≡ None }
     requires room { HasRoomToGrow arena.old pointer }
-    ensures { (node : Inner _) → held arena.old pointer ≡ HeldInner node →
+    ensures added { (node : Inner _) → held arena.old pointer ≡ HeldInner node →
         HasOneMore arena.old arena.new pointer node (node_with_child node byte child) result }
+    ensures capacity { SameCapacity arena.old arena.new }
 {
     if is_full(arena, pointer) {
         return grow_child(arena, pointer, byte, child);

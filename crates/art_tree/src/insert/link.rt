@@ -2,7 +2,7 @@
 ghost use Rattle.std.specs.Prelude.{◌≡◌, ◌≢◌, ◌<◌, ◌++◌, ◌∷◌, ℕ, List};
 ghost use Rattle.art_header.specs.declared.node_type.NodeType.TheVariants.{Leaf};
 ghost use Rattle.art_nodes.specs.Pointers.{slab_key};
-ghost use Rattle.art_arena.specs.Arena.{held, room, Nothing, SameOtherRoom};
+ghost use Rattle.art_arena.specs.Arena.{held, room, Nothing, SameCapacity, SameOtherRoom};
 ghost use Rattle.art_arena.specs.Links.{Spells, text_at};
 ghost use Rattle.art_tree.specs.Edits.{HasGap, HoldsEntry, IsBeside, LiesBeside, StaysAt};
 ghost use Rattle.art_tree.specs.Search.{leaf_pointer};
@@ -32,6 +32,7 @@ pub(crate) fn link_leaf<K: AsBytes, V, const PREFIX_LEN: usize>(
     ensures others { (pointer : _) → pointer ≢ leaf_pointer result →
         StaysAt arena.old arena.new pointer }
     ensures other_room { SameOtherRoom arena.old arena.new Leaf }
+    ensures capacity { SameCapacity arena.old arena.new }
 {
     each_leaf_of_a_list_is_knit::<K, V, PREFIX_LEN>();
     let leaf = arena

@@ -6,10 +6,11 @@ ghost use Rattle.art_header.specs.declared.node_type.NodeType.TheVariants.{Leaf,
 ghost use Rattle.art_nodes.specs.ChildMap.{child_at, first_pair, without_child};
 ghost use Rattle.art_nodes.specs.Inner.{Inner, header_of, node_without_child};
 ghost use Rattle.art_nodes.specs.Pointers.{node_kind};
-ghost use Rattle.art_arena.specs.Arena.{held, HeldInner, Nothing, room, Changes, SameNodes, SameRoom};
+ghost use Rattle.art_arena.specs.Arena.{held, HeldInner, Nothing, room, Changes, SameCapacity, SameNodes, SameRoom};
 ghost use Rattle.art_tree.specs.Cuts.{HasOneLess, HasRoomToShrink};
 ghost use Rattle.art_tree.specs.Nodes.{IsReplaced, node_with_prefix};
-ghost use Rattle.art_tree.specs.Room.{LacksRoom};
+ghost use Rattle.art_tree.specs.Reserving.{LacksRoomToShrink};
+ghost use Rattle.art_tree.specs.Room.{GrowsOnlyWhere};
 
 use crate::node::{num_children, replace_node};
 use art_arena::{AnyRef, NodeArena};
@@ -82,7 +83,8 @@ pub(crate) fn reserve_shrink<K, V, const PREFIX_LEN: usize>(
     ensures takes_no_memory { (node : Inner _) → held arena.old pointer ≡ HeldInner node →
         length node.children ≢ least_children (node_kind pointer) →
         SameRoom arena.old arena.new }
-    ensures no_room { OnErr result (LacksRoom arena.old) }
+    ensures no_room { OnErr result ((kind : _) × LacksRoomToShrink arena.old pointer kind) }
+    ensures memory { GrowsOnlyWhere arena.old arena.new (LacksRoomToShrink arena.old pointer) }
 {
     let shrunk = match pointer.node_type() {
         NodeType::Node16 => NodeType::Node4,
@@ -140,8 +142,9 @@ fn shrink_node<K, V, const PREFIX_LEN: usize>(
     requires few { (node : Inner _) → held arena.old pointer ≡ HeldInner node →
         length node.children < least_children (node_kind pointer) }
     requires room { 0 < room arena.old (shrunk_kind (node_kind pointer)) }
-    ensures { (node : Inner _) → held arena.old pointer ≡ HeldInner node →
+    ensures replaced { (node : Inner _) → held arena.old pointer ≡ HeldInner node →
         IsReplaced arena.old arena.new pointer (shrunk_kind (node_kind pointer)) node result }
+    ensures capacity { SameCapacity arena.old arena.new }
 {
     match arena.node_ref(pointer) {
         AnyRef::Node16(node) => {
@@ -175,8 +178,9 @@ pub(crate) fn take_child<K, V, const PREFIX_LEN: usize>(
     requires many { (node : Inner _) → held arena.old pointer ≡ HeldInner node →
         (2 < length node.children) × (least_children (node_kind pointer) ≤ length node.children) }
     requires room { HasRoomToShrink arena.old pointer }
-    ensures { (node : Inner _) → held arena.old pointer ≡ HeldInner node →
+    ensures taken { (node : Inner _) → held arena.old pointer ≡ HeldInner node →
         HasOneLess arena.old arena.new pointer node (node_without_child node byte) result }
+    ensures capacity { SameCapacity arena.old arena.new }
 {
     let fewest = has_fewest(arena, pointer);
     cut_child(arena, pointer, byte);

@@ -1,16 +1,19 @@
 //! Insertion and removal of entries of an [`ArtTree`].
-ghost use Rattle.std.specs.Prelude.{◌≡◌, ◌≢◌, None, IfNone, IfOk, IfErr, OnOk, OnErr};
-ghost use Rattle.art_arena.specs.Arena.{SameNodes, SameRoom};
+ghost use Rattle.std.specs.Prelude.{◌≡◌, ◌≢◌, ◌≤◌, None, IfNone, IfOk, IfErr, OnOk, OnErr, IsOk};
+ghost use Rattle.art_arena.specs.Arena.{room, SameNodes, SameOtherCapacity, SameOtherRoom, SameRoom};
 ghost use Rattle.art_tree.specs.Dictionary.{entry_at, HasKeys, IsEntry, SameEntries, SameOtherEntries};
 ghost use Rattle.art_tree.specs.Insertion.{IsRefused, MayEnter};
+ghost use Rattle.art_tree.specs.Leaves.{KeepsOtherLeaves};
 ghost use Rattle.art_tree.specs.Removal.{NeedsSmallerNode};
-ghost use Rattle.art_tree.specs.Room.{FreesOneEach, LacksRoom};
+ghost use Rattle.art_tree.specs.Room.{FreesOneEach, GrowsOnlyWhere, LacksRoomToInsert, LacksRoomToRemove};
 ghost use Rattle.art_tree.specs.declared.insert.InsertRefusal.TheVariants.{OutOfMemory};
 
 use crate::insert::{InsertFault, insert_entry};
+use crate::laws::no_text_begins_another;
 use crate::remove::remove_entry;
 use crate::tree::ArtTree;
 use art_bytes::AsBytes;
+use art_nodes::{NodeType, OpaqueNodePtr};
 use std::alloc::AllocError;
 
 impl<K: AsBytes, V, const PREFIX_LEN: usize> ArtTree<K, V, PREFIX_LEN> {
@@ -19,9 +22,13 @@ impl<K: AsBytes, V, const PREFIX_LEN: usize> ArtTree<K, V, PREFIX_LEN> {
     ///
     /// The first of these refusals that is due is returned, with key and value: [`KeyTooLong`], a
     /// key of 2^32 bytes or more; [`Prefix`], where the key is a proper prefix of one in the tree,
-    /// or one in the tree of the key; [`OutOfMemory`], only where no entry has the key bytes and
-    /// some kind of node has no spare capacity. After a refusal every node and the root are
-    /// unchanged. Where the key is at fault, the spare capacity is unchanged too.
+    /// or one in the tree of the key; [`OutOfMemory`], only where no entry has the key bytes, the
+    /// tree with them has more nodes of some kind, and that kind has no spare capacity. After a
+    /// refusal every node and the root are unchanged. Where the key is at fault, the spare capacity
+    /// is unchanged too.
+    ///
+    /// The capacity of a kind grows only where the tree with the key bytes has more nodes of the
+    /// kind and there is no spare capacity for it. Each other leaf keeps its pointer.
     ///
     /// Visits the nodes on the way to the key's place, and then those on the way to a leaf beside
     /// it: each time at most one inner node for each byte of a key. A prefix on the way that is
@@ -38,6 +45,8 @@ impl<K: AsBytes, V, const PREFIX_LEN: usize> ArtTree<K, V, PREFIX_LEN> {
         ensures entry { OnOk result (IsEntry K.text self.new.arena (key, value)) }
         ensures others { OnOk result
             (SameOtherEntries K.text self.old.arena self.new.arena (K.text key)) }
+        ensures leaves_stay { OnOk result
+            (KeepsOtherLeaves K.text self.old.arena self.new.arena (K.text key)) }
         ensures no_refusal { OnOk result (MayEnter K.text self.old.arena (K.text key)) }
         ensures refusal_due { IfErr result
             (λ fault. IsRefused K.text self.old.arena (K.text key) fault.refusal) }
@@ -48,9 +57,12 @@ impl<K: AsBytes, V, const PREFIX_LEN: usize> ArtTree<K, V, PREFIX_LEN> {
         ensures untouched { IfErr result
             (λ fault. fault.refusal ≢ OutOfMemory → self.new ≡ self.old) }
         ensures no_room { IfErr result
-            (λ fault. fault.refusal ≡ OutOfMemory → LacksRoom self.old.arena) }
+            (λ fault. fault.refusal ≡ OutOfMemory → (kind : _) ×
+            LacksRoomToInsert K.text self.old.arena self.old.root (K.text key) kind) }
         ensures takes_no_memory { entry_at K.text self.old.arena (K.text key) ≢ None →
             SameRoom self.old.arena self.new.arena }
+        ensures memory { GrowsOnlyWhere self.old.arena self.new.arena
+            (LacksRoomToInsert K.text self.old.arena self.old.root (K.text key)) }
         ensures is_key { K.is_key key }
         ensures are_keys { HasKeys K.text K.is_key self.old.arena }
     {
@@ -63,9 +75,10 @@ impl<K: AsBytes, V, const PREFIX_LEN: usize> ArtTree<K, V, PREFIX_LEN> {
     /// none, the tree is unchanged.
     ///
     /// An allocation may fail only where the parent of the entry's leaf has 5, 17 or 49 children,
-    /// since a node of a smaller kind takes its place, and not where each kind has spare capacity.
-    /// After a failure every node and the root are unchanged. In all other cases no memory is
-    /// taken, and each kind has spare capacity for at most one node more, the one that was freed.
+    /// since a node of a smaller kind takes its place, and only where that kind has no spare
+    /// capacity. After a failure every node and the root are unchanged. In all other cases no memory
+    /// is taken, and each kind has spare capacity for at most one node more, the one that was freed.
+    /// Each other leaf keeps its pointer.
     ///
     /// Searches for the entry as [`get`](Self::get) does: at most one node visit more than the key
     /// has bytes. Then it changes the leaf's neighbours and at most three inner nodes: the two
@@ -76,13 +89,18 @@ impl<K: AsBytes, V, const PREFIX_LEN: usize> ArtTree<K, V, PREFIX_LEN> {
         ensures gone { OnOk result (entry_at K.text self.new.arena key.now ≡ None) }
         ensures others { OnOk result
             (SameOtherEntries K.text self.old.arena self.new.arena key.now) }
+        ensures leaves_stay { OnOk result
+            (KeepsOtherLeaves K.text self.old.arena self.new.arena key.now) }
         ensures refused { OnErr result (NeedsSmallerNode K.text self.old.arena key.now) }
         ensures same_entries { OnErr result (SameEntries K.text self.old.arena self.new.arena) }
         ensures nodes_kept { OnErr result (SameNodes self.old.arena self.new.arena) }
         ensures root_kept { OnErr result (self.new.root ≡ self.old.root) }
-        ensures no_room { OnErr result (LacksRoom self.old.arena) }
+        ensures no_room { OnErr result ((kind : _) ×
+            LacksRoomToRemove K.text self.old.arena self.old.root key.now kind) }
         ensures takes_no_memory { (¬ NeedsSmallerNode K.text self.old.arena key.now) →
             FreesOneEach self.old.arena self.new.arena }
+        ensures memory { GrowsOnlyWhere self.old.arena self.new.arena
+            (LacksRoomToRemove K.text self.old.arena self.old.root key.now) }
     {
         let Some(root) = self.root else {
             return Ok(None);
@@ -92,5 +110,28 @@ impl<K: AsBytes, V, const PREFIX_LEN: usize> ArtTree<K, V, PREFIX_LEN> {
         };
         self.root = root;
         Ok(Some(entry))
+    }
+
+    /// Reserves memory for `additional` more nodes of the kind, as [`NodeArena::reserve`] does. Entries
+    /// and nodes stay as they are.
+    ///
+    /// An [`insert`](Self::insert) is refused for lack of memory only where some kind has no room, and
+    /// so is a [`remove`](Self::remove): with room for one node of each kind, neither is.
+    ///
+    /// [`NodeArena::reserve`]: art_arena::NodeArena::reserve
+    pub fn reserve(&mut self, kind: NodeType, additional: usize) -> Result<(), AllocError>
+        ensures room { OnOk result (additional ≤ room self.new.arena kind) }
+        ensures succeeds { additional ≤ room self.old.arena kind → IsOk result }
+        ensures had_room { additional ≤ room self.old.arena kind →
+            SameRoom self.old.arena self.new.arena }
+        ensures no_less_room { room self.old.arena kind ≤ room self.new.arena kind }
+        ensures other_room { SameOtherRoom self.old.arena self.new.arena kind }
+        ensures other_capacity { SameOtherCapacity self.old.arena self.new.arena kind }
+        ensures same_entries { SameEntries K.text self.old.arena self.new.arena }
+        ensures nodes_kept { SameNodes self.old.arena self.new.arena }
+        ensures root_kept { self.new.root ≡ self.old.root }
+    {
+        no_text_begins_another::<OpaqueNodePtr<K, V, PREFIX_LEN>>();
+        self.arena.reserve(kind, additional)
     }
 }

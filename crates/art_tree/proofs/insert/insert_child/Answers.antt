@@ -1,4 +1,4 @@
-use Rattle.std.proofs.Common.{◌≡◌, ◌≢◌, ◌<◌, [], None, refl, subst}
+use Rattle.std.proofs.Common.{◌≡◌, ◌≢◌, ◌∙◌, ◌<◌, [], None, refl, subst}
 use Rattle.art_header.specs.declared.node_type.NodeType.TheVariants.{Leaf}
 use Rattle.art_nodes.specs.ChildMap.{child_at}
 use Rattle.art_nodes.specs.Inner.{Inner}
@@ -8,8 +8,10 @@ use Rattle.art_arena.specs.Links.{text_at}
 use Rattle.art_tree.specs.Edits.{HasGap, HasRoomToGrow, LiesBeside}
 use Rattle.art_tree.specs.Hanging.{CanHang, HasPlaceAt}
 use Rattle.art_tree.specs.Search.{leaf_pointer}
-use Rattle.art_tree.proofs.InsertLemmas.AddedChild.{ChildAdded, child-added, child-gap, child-hangs, child-lies, child-reserved, linked-absent, linked-held, linked-room, place-there, there-held, there-inner}
+use Rattle.art_tree.proofs.InsertLemmas.AddedChild.{ChildAdded, alone-there, child-added, child-gap, child-hangs, child-lies, child-reserved, linked-absent, linked-held, linked-room, place-there, there-held, there-inner}
 use Rattle.art_tree.proofs.InsertLemmas.AddedLeaf.{entered-from}
+use Rattle.art_tree.proofs.InsertLemmas.NeededChild.{child-lacks}
+use Rattle.art_tree.proofs.SharedLemmas.RoomLemmas.{grows-on, grows-then, same-capacity}
 use Rattle.art_tree.proofs.SharedLemmas.ParentLemmas.{err-then, ok-then}
 use Rattle.art_tree.proofs.InsertLemmas.NodeLemmas.{leaf-pointer-fits}
 use Rattle.art_tree.proofs.insert.insert_child.Goals as goal
@@ -64,7 +66,7 @@ hang-requires g c =
     let link = c.link_leaf-leaf.ensures in
     let new = c.add_child-node.new.arena in
     let top = c.add_child-node.result in
-    let added = subst (λ child. ChildAdded linked new c.args.spot.node c.args.byte child top) c.to_opaque.ensures c.add_child-node.ensures in
+    let added = subst (λ child. ChildAdded linked new c.args.spot.node c.args.byte child top) c.to_opaque.ensures c.add_child-node.ensures.added in
     let can : CanHang new c.args.spot.parent = child-hangs place linked (leaf_pointer c.link_leaf-leaf.result) link.was_free link.others new top c.args.value link.entry c.each_pointer_is_at_one_place.ensures added in
     assumption leaf-pointer-fits
 
@@ -80,7 +82,7 @@ returns g c =
     let link = c.link_leaf-leaf.ensures in
     let new = c.add_child-node.new.arena in
     let top = c.add_child-node.result in
-    let more = subst (λ child. ChildAdded linked new c.args.spot.node c.args.byte child top) c.to_opaque.ensures c.add_child-node.ensures in
+    let more = subst (λ child. ChildAdded linked new c.args.spot.node c.args.byte child top) c.to_opaque.ensures c.add_child-node.ensures.added in
     let added = child-added place linked (leaf_pointer c.link_leaf-leaf.result) link.was_free link.others new top c.args.value link.entry c.each_pointer_is_at_one_place.ensures more
     c.hang.new.arena c.hang.result c.hang.ensures.hung c.requires.short c.leaf_beside-end.result.1 (slab_key c.leaf_beside-end.result.0) (c.leaf_beside-end.ensures (place-there place)) link.spelled c.no_text_begins_another.ensures in
     record {
@@ -89,7 +91,20 @@ returns g c =
       entry_back = tt;
       nodes_kept = tt;
       no_room = tt;
+      memory = grows-on old reserved c.hang.new.arena _
+          (grows-then old reserved _ _ (child-lacks (child-reserved old old c.requires.place (λ pointer. refl) c.ranges.byte.fits) c.requires.short (c.no_text_begins_another.ensures [] _ (alone-there (child-reserved old old c.requires.place (λ pointer. refl) c.ranges.byte.fits)).is_tree.sound)) c.reserve_for_child.ensures.memory)
+          (λ kind. same-capacity new c.hang.new.arena c.hang.ensures.room kind ∙ c.add_child-node.ensures.capacity kind ∙ link.capacity kind);
     }
 
 pub returns-then-is_err-clause-no_room : goal.returns-then-is_err-clause-no_room
-returns-then-is_err-clause-no_room g c = err-then c.reserve_for_child.result _ c.is_err.ensures.value c.if-is_err.true c.reserve_for_child.ensures.no_room
+returns-then-is_err-clause-no_room g c =
+    let old = c.args.arena.now in
+    let place = child-reserved old old c.requires.place (λ pointer. refl) c.ranges.byte.fits in
+    let (kind, lacks) = err-then c.reserve_for_child.result _ c.is_err.ensures.value c.if-is_err.true c.reserve_for_child.ensures.no_room in
+    (kind, child-lacks place c.requires.short (c.no_text_begins_another.ensures [] _ (alone-there place).is_tree.sound) kind lacks)
+
+pub returns-then-is_err-clause-memory : goal.returns-then-is_err-clause-memory
+returns-then-is_err-clause-memory g c =
+    let old = c.args.arena.now in
+    let place = child-reserved old old c.requires.place (λ pointer. refl) c.ranges.byte.fits in
+    grows-then old c.reserve_for_child.new.arena _ _ (child-lacks place c.requires.short (c.no_text_begins_another.ensures [] _ (alone-there place).is_tree.sound)) c.reserve_for_child.ensures.memory

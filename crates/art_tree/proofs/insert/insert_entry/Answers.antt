@@ -1,13 +1,16 @@
-use Rattle.std.proofs.Common.{◌<◌, ◌^◌, length, Contains, [], refl, sym, ap, subst, arith, ◌≤◌}
+use Rattle.std.proofs.Common.{◌<◌, ◌^◌, length, Contains, OnErr, [], refl, sym, ap, subst, inl, arith, ◌≤◌}
+use Rattle.art_header.specs.declared.node_type.NodeType.{NodeType}
 use Rattle.art_nodes.specs.Pointers.{slab_key}
 use Rattle.art_arena.specs.Links.{HoldsLeaf}
 use Rattle.art_arena.specs.Trees.{Tree, leaves, texts}
 use Rattle.art_tree.specs.Art.{IsArt, IsAlone}
 use Rattle.art_tree.specs.Dictionary.{Clashes}
 use Rattle.art_tree.specs.Places.{LacksChild, Parts}
+use Rattle.art_tree.specs.Room.{GrowsOnlyWhere, LacksRoomToInsert}
 use Rattle.art_tree.specs.Search.{leaf_pointer}
 use Rattle.art_tree.proofs.InsertLemmas.EntryLemmas.{answered, apart-new, child-apart, clash-entry, empty-new, empty-stays, fork-apart, leaf-is-held, no-clash}
 use Rattle.art_tree.proofs.SharedLemmas.ExchangedTree.{entries-stay}
+use Rattle.art_tree.proofs.SharedLemmas.RoomLemmas.{same-capacity}
 use Rattle.art_tree.proofs.InsertLemmas.NodeLemmas.{leaf-pointer-fits, spot-fits}
 use Rattle.art_tree.proofs.insert.insert_entry.Goals as goal
 
@@ -19,8 +22,9 @@ returns-in_default g c =
     let first = c.insert_first.ensures in
     let nothing = subst (IsArt text old) c.in_default.is c.requires.art in
     let is_new = empty-new text old nothing (text c.args.key) (omega (arith, c.if-as_bytes.false, ap length c.as_bytes.ensures.text)) in
-    let is = answered text old new c.args.key c.args.value c.insert_first.result first.art first.entered first.entry_back first.nodes_kept first.no_room is_new (λ same. empty-stays text old new same nothing) c.newly_added.result c.newly_added.ensures.added c.newly_added.ensures.refused in
-    record { art = is.art; replaced = is.replaced; entered = is.entered; is_key = c.as_bytes.ensures.key; no_refusal = is.no_refusal; refusal_due = is.refusal_due; entry_back = is.entry_back; same_entries = is.same_entries; nodes_kept = is.nodes_kept; untouched = is.untouched; no_room = is.no_room; takes_no_memory = λ has. absurd (has is_new.1) }
+    let is = answered text old new c.args.key c.args.value ((kind : NodeType) × LacksRoomToInsert text old c.args.root (text c.args.key) kind) c.insert_first.result first.art first.entered first.entry_back first.nodes_kept
+    (subst (λ root. OnErr c.insert_first.result ((kind : NodeType) × LacksRoomToInsert text old root (text c.args.key) kind)) (sym c.in_default.is) first.no_room) is_new (λ same. empty-stays text old new same nothing) c.newly_added.result c.newly_added.ensures.added c.newly_added.ensures.refused in
+    record { art = is.art; replaced = is.replaced; entered = is.entered; is_key = c.as_bytes.ensures.key; no_refusal = is.no_refusal; refusal_due = is.refusal_due; entry_back = is.entry_back; same_entries = is.same_entries; nodes_kept = is.nodes_kept; untouched = is.untouched; no_room = is.no_room; takes_no_memory = λ has. absurd (has is_new.1); memory = subst (λ root. GrowsOnlyWhere old new (LacksRoomToInsert text old root (text c.args.key))) (sym c.in_default.is) c.insert_first.ensures.memory }
 
 pub replace_entry-requires : goal.replace_entry-requires
 replace_entry-requires g c =
@@ -52,6 +56,7 @@ returns-in-Present g c =
       untouched = tt;
       no_room = tt;
       takes_no_memory = λ _. c.replace_entry.ensures.takes_no_memory;
+      memory = λ kind. inl (same-capacity arena c.replace_entry.new.arena c.replace_entry.ensures.takes_no_memory kind);
     }
 
 pub returns-in-Clash-clause-refusal_due : goal.returns-in-Clash-clause-refusal_due
@@ -88,8 +93,9 @@ returns-in-Child g c =
     let short : length key < 2 ^ 32 = omega (arith, c.if-as_bytes.false, ap length c.as_bytes.ensures.text) in
     let lacks = subst (λ x. LacksChild art.0 x c.in-Child.spot c.in-Child.byte) c.as_bytes-2.ensures.text (c.in-Child.ensures art.0 art.1.is_tree) in
     let is_new = apart-new text old c.in-Some.root art.0 art.1 key short (child-apart law art.0 art.1.is_tree.sound key short c.in-Child.spot c.in-Child.byte lacks) in
-    let is = answered text old new c.args.key c.args.value c.insert_child.result child.art child.entered child.entry_back child.nodes_kept child.no_room is_new (λ same. entries-stay text old new same c.in-Some.root art.0 art.1 (law art.0 art.1.is_tree.sound)) c.newly_added-in-Child.result c.newly_added-in-Child.ensures.added c.newly_added-in-Child.ensures.refused in
-    record { art = is.art; replaced = is.replaced; entered = is.entered; is_key = c.as_bytes.ensures.key; no_refusal = is.no_refusal; refusal_due = is.refusal_due; entry_back = is.entry_back; same_entries = is.same_entries; nodes_kept = is.nodes_kept; untouched = is.untouched; no_room = is.no_room; takes_no_memory = λ has. absurd (has is_new.1) }
+    let is = answered text old new c.args.key c.args.value ((kind : NodeType) × LacksRoomToInsert text old c.args.root key kind) c.insert_child.result child.art child.entered child.entry_back child.nodes_kept
+    (subst (λ root. OnErr c.insert_child.result ((kind : NodeType) × LacksRoomToInsert text old root key kind)) (sym c.in-Some.is) child.no_room) is_new (λ same. entries-stay text old new same c.in-Some.root art.0 art.1 (law art.0 art.1.is_tree.sound)) c.newly_added-in-Child.result c.newly_added-in-Child.ensures.added c.newly_added-in-Child.ensures.refused in
+    record { art = is.art; replaced = is.replaced; entered = is.entered; is_key = c.as_bytes.ensures.key; no_refusal = is.no_refusal; refusal_due = is.refusal_due; entry_back = is.entry_back; same_entries = is.same_entries; nodes_kept = is.nodes_kept; untouched = is.untouched; no_room = is.no_room; takes_no_memory = λ has. absurd (has is_new.1); memory = subst (λ root. GrowsOnlyWhere old new (LacksRoomToInsert text old root (key))) (sym c.in-Some.is) c.insert_child.ensures.memory }
 
 pub insert_fork-requires : goal.insert_fork-requires
 insert_fork-requires g c =
@@ -113,8 +119,9 @@ returns-in-Fork g c =
     let short : length key < 2 ^ 32 = omega (arith, c.if-as_bytes.false, ap length c.as_bytes.ensures.text) in
     let parts = subst (λ x. Parts art.0 x c.in-Fork.spot c.in-Fork.fork) c.as_bytes-2.ensures.text (c.in-Fork.ensures art.0 art.1.is_tree) in
     let is_new = apart-new text old c.in-Some.root art.0 art.1 key short (fork-apart law art.0 art.1.is_tree.sound key short c.in-Fork.spot c.in-Fork.fork parts) in
-    let is = answered text old new c.args.key c.args.value c.insert_fork.result fork.art fork.entered fork.entry_back fork.nodes_kept fork.no_room is_new (λ same. entries-stay text old new same c.in-Some.root art.0 art.1 (law art.0 art.1.is_tree.sound)) c.newly_added-in-Fork.result c.newly_added-in-Fork.ensures.added c.newly_added-in-Fork.ensures.refused in
-    record { art = is.art; replaced = is.replaced; entered = is.entered; is_key = c.as_bytes.ensures.key; no_refusal = is.no_refusal; refusal_due = is.refusal_due; entry_back = is.entry_back; same_entries = is.same_entries; nodes_kept = is.nodes_kept; untouched = is.untouched; no_room = is.no_room; takes_no_memory = λ has. absurd (has is_new.1) }
+    let is = answered text old new c.args.key c.args.value ((kind : NodeType) × LacksRoomToInsert text old c.args.root key kind) c.insert_fork.result fork.art fork.entered fork.entry_back fork.nodes_kept
+    (subst (λ root. OnErr c.insert_fork.result ((kind : NodeType) × LacksRoomToInsert text old root key kind)) (sym c.in-Some.is) fork.no_room) is_new (λ same. entries-stay text old new same c.in-Some.root art.0 art.1 (law art.0 art.1.is_tree.sound)) c.newly_added-in-Fork.result c.newly_added-in-Fork.ensures.added c.newly_added-in-Fork.ensures.refused in
+    record { art = is.art; replaced = is.replaced; entered = is.entered; is_key = c.as_bytes.ensures.key; no_refusal = is.no_refusal; refusal_due = is.refusal_due; entry_back = is.entry_back; same_entries = is.same_entries; nodes_kept = is.nodes_kept; untouched = is.untouched; no_room = is.no_room; takes_no_memory = λ has. absurd (has is_new.1); memory = subst (λ root. GrowsOnlyWhere old new (LacksRoomToInsert text old root (key))) (sym c.in-Some.is) c.insert_fork.ensures.memory }
 
 pub returns-then-as_bytes-clause-refusal_due : goal.returns-then-as_bytes-clause-refusal_due
 returns-then-as_bytes-clause-refusal_due g c = subst (λ text. 2 ^ 32 ≤ length text) c.as_bytes.ensures.text c.if-as_bytes.true
@@ -133,3 +140,9 @@ returns-then-as_bytes-clause-same_entries g c = λ x. refl
 
 pub returns-then-as_bytes-clause-takes_no_memory : goal.returns-then-as_bytes-clause-takes_no_memory
 returns-then-as_bytes-clause-takes_no_memory g c = λ has kind. refl
+
+pub returns-then-as_bytes-clause-memory : goal.returns-then-as_bytes-clause-memory
+returns-then-as_bytes-clause-memory g c = λ kind. inl refl
+
+pub returns-in-Clash-clause-memory : goal.returns-in-Clash-clause-memory
+returns-in-Clash-clause-memory g c = λ kind. inl refl

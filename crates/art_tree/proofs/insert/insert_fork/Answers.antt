@@ -10,7 +10,9 @@ use Rattle.art_tree.specs.Edits.{HasGap, LiesBeside}
 use Rattle.art_tree.specs.Hanging.{CanHang}
 use Rattle.art_tree.specs.Search.{leaf_pointer}
 use Rattle.art_tree.proofs.InsertLemmas.AddedLeaf.{entered-from}
-use Rattle.art_tree.proofs.InsertLemmas.AddedFork.{beside-there, fork-added, fork-hangs, fork-reserved, gap-there, index-within, lies-there, linked-held, new-leaf-held, sibling-held, text-there, tree-there, within-there}
+use Rattle.art_tree.proofs.InsertLemmas.NeededFork.{fork-lacks}
+use Rattle.art_tree.proofs.InsertLemmas.AddedFork.{alone-there, beside-there, fork-added, fork-hangs, fork-reserved, gap-there, index-within, lies-there, linked-held, new-leaf-held, sibling-held, text-there, tree-there, within-there}
+use Rattle.art_tree.proofs.SharedLemmas.RoomLemmas.{grows-on, grows-then, same-capacity, same-room}
 use Rattle.art_tree.proofs.SharedLemmas.ParentLemmas.{err-then, ok-then}
 use Rattle.art_tree.proofs.InsertLemmas.NodeLemmas.{leaf-pointer-fits}
 use Rattle.art_tree.proofs.insert.insert_fork.Goals as goal
@@ -70,6 +72,7 @@ fork_node-node-requires g c =
     let slot = slab_key c.link_leaf-leaf.result in
     let leaf = leaf_pointer c.link_leaf-leaf.result in
     let link = c.link_leaf-leaf.ensures in
+    let linked = c.link_leaf-leaf.new.arena in
     let cut = c.trim.new.arena in
     let is_held : HoldsLeaf cut slot = new-leaf-held place linked leaf link.was_free link.others end sibling at_end cut c.trim.ensures.leaf c.trim.ensures.trimmed c.args.value link.entry slot refl in
     let ordered : spot.depth ≤ fork.index = place.parts.later in
@@ -77,7 +80,7 @@ fork_node-node-requires g c =
     let short : fork.index < 2 ^ 32 = omega (arith, slice_get_within (text c.args.key) fork.index fork.byte place.parts.byte, c.requires.short) in
     let differ : fork.byte ≢ fork.node_byte = place.parts.differ in
     let was_room : 0 < room reserved Node4 = ok-then c.reserve_for_fork.result (0 < room reserved Node4) c.is_err.ensures.value c.if-is_err.false c.reserve_for_fork.ensures.node_room in
-    let has_room : 0 < room cut Node4 = subst (λ n. 0 < n) (sym (c.trim.ensures.room Node4 ∙ link.other_room Node4 (λ e. cc))) was_room in
+    let has_room : 0 < room cut Node4 = subst (λ n. 0 < n) (sym (same-room linked cut c.trim.ensures.room Node4 ∙ link.other_room Node4 (λ e. cc))) was_room in
     assumption leaf-pointer-fits
 
 pub hang-requires : goal.hang-requires
@@ -108,7 +111,20 @@ returns g c =
       entry_back = tt;
       nodes_kept = tt;
       no_room = tt;
+      memory = grows-on old reserved c.hang.new.arena _
+          (grows-then old reserved _ _ (fork-lacks (fork-reserved old old c.requires.place (λ pointer. refl) c.near_end-end.ensures.bytes) c.requires.short (c.no_text_begins_another.ensures [] _ (alone-there (fork-reserved old old c.requires.place (λ pointer. refl) c.near_end-end.ensures.bytes)).is_tree.sound)) c.reserve_for_fork.ensures.memory)
+          (λ kind. same-capacity c.fork_node-node.new.arena c.hang.new.arena c.hang.ensures.room kind ∙ c.fork_node-node.ensures.capacity kind ∙ same-capacity c.link_leaf-leaf.new.arena c.trim.new.arena c.trim.ensures.room kind ∙ link.capacity kind);
     }
 
 pub returns-then-is_err-clause-no_room : goal.returns-then-is_err-clause-no_room
-returns-then-is_err-clause-no_room g c = err-then c.reserve_for_fork.result _ c.is_err.ensures.value c.if-is_err.true c.reserve_for_fork.ensures.no_room
+returns-then-is_err-clause-no_room g c =
+    let old = c.args.arena.now in
+    let place = fork-reserved old old c.requires.place (λ pointer. refl) c.near_end-end.ensures.bytes in
+    let (kind, lacks) = err-then c.reserve_for_fork.result _ c.is_err.ensures.value c.if-is_err.true c.reserve_for_fork.ensures.no_room in
+    (kind, fork-lacks place c.requires.short (c.no_text_begins_another.ensures [] _ (alone-there place).is_tree.sound) kind lacks)
+
+pub returns-then-is_err-clause-memory : goal.returns-then-is_err-clause-memory
+returns-then-is_err-clause-memory g c =
+    let old = c.args.arena.now in
+    let place = fork-reserved old old c.requires.place (λ pointer. refl) c.near_end-end.ensures.bytes in
+    grows-then old c.reserve_for_fork.new.arena _ _ (fork-lacks place c.requires.short (c.no_text_begins_another.ensures [] _ (alone-there place).is_tree.sound)) c.reserve_for_fork.ensures.memory

@@ -1,8 +1,10 @@
-use Rattle.std.proofs.Common.{◌∙◌, ◌<◌, arith}
+use Rattle.std.proofs.Common.{◌≡◌, ◌∙◌, ◌<◌, lit<, refl, sym, inl, inr, arith}
 use Rattle.art_header.specs.declared.node_type.NodeType.TheVariants.{Leaf, Node4}
 use Rattle.art_arena.specs.Arena.{room}
+use Rattle.art_tree.specs.Reserving.{LacksRoomForFork}
+use Rattle.art_tree.proofs.InsertLemmas.NodeLemmas.{kinds-apart}
 use Rattle.art_tree.proofs.SharedLemmas.ParentLemmas.{always-err, always-ok}
-use Rattle.art_tree.proofs.SharedLemmas.RoomLemmas.{lacked-on-err, lacks-on-err, none-left}
+use Rattle.art_tree.proofs.SharedLemmas.RoomLemmas.{IsAsked, asked-grows, grows-then, grows-twice, none-left, none-on-err, on-err-then, same-capacity}
 use Rattle.art_tree.proofs.insert.reserve_for_fork.Goals as goal
 
 pub returns-clause-leaf_room : goal.returns-clause-leaf_room
@@ -15,8 +17,23 @@ returns-clause-nodes_kept g c = λ pointer. c.reserve-2.ensures.nodes_kept point
 
 pub returns-clause-no_room : goal.returns-clause-no_room
 returns-clause-no_room g c =
-    let lacks = lacks-on-err c.reserve-2.result c.reserve.new.self Node4 c.reserve-2.ensures.succeeds in
-    lacked-on-err c.reserve-2.result c.args.arena.now c.reserve.new.self Leaf c.reserve.ensures.other_room c.reserve.ensures.no_less_room lacks
+    on-err-then c.reserve-2.result (room c.reserve.new.self Node4 ≡ 0) _ (λ none. (Node4, (inr refl, sym (c.reserve.ensures.other_room Node4 (λ e. cc)) ∙ none))) (none-on-err c.reserve-2.result c.reserve.new.self Node4 c.reserve-2.ensures.succeeds)
 
 pub returns-in_err-reserve-clause-no_room : goal.returns-in_err-reserve-clause-no_room
-returns-in_err-reserve-clause-no_room g c = always-err c.from_residual.result _ (record { kind = Leaf; none = none-left c.reserve.result _ c.reserve.ensures.succeeds _ c.in_err-reserve.was })
+returns-in_err-reserve-clause-no_room g c = always-err c.from_residual.result _ (Leaf, (inl refl, none-left c.reserve.result _ c.reserve.ensures.succeeds _ c.in_err-reserve.was))
+
+pub returns-in_err-reserve-clause-memory : goal.returns-in_err-reserve-clause-memory
+returns-in_err-reserve-clause-memory g c =
+    let old = c.args.arena.now in
+    let new = c.reserve.new.self in
+    grows-then old new (IsAsked old Leaf) (LacksRoomForFork old) (λ kind (same, none). (inl same, none)) (asked-grows old new Leaf (λ some. same-capacity old new (c.reserve.ensures.had_room some)) c.reserve.ensures.other_capacity)
+
+pub returns-clause-memory : goal.returns-clause-memory
+returns-clause-memory g c =
+    let old = c.args.arena.now in
+    let mid = c.reserve.new.self in
+    let new = c.reserve-2.new.self in
+    let first = grows-then old mid (IsAsked old Leaf) (LacksRoomForFork old) (λ kind (same, none). (inl same, none)) (asked-grows old mid Leaf (λ some. same-capacity old mid (c.reserve.ensures.had_room some)) c.reserve.ensures.other_capacity) in
+    let second = grows-then mid new (IsAsked mid Node4) (LacksRoomForFork old) (λ kind (same, none). (inr same, sym (c.reserve.ensures.other_room kind (λ leaf. kinds-apart {a = Leaf} {b = Node4} (lit< tt) (sym leaf ∙ same))) ∙ none))
+    (asked-grows mid new Node4 (λ some. same-capacity mid new (c.reserve-2.ensures.had_room some)) c.reserve-2.ensures.other_capacity) in
+    grows-twice old mid new _ first second

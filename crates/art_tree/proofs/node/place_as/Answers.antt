@@ -19,7 +19,7 @@ returns g c =
     (if-ok (λ ptr. held old (opaque_pointer kind (slab_key ptr)) ≡ Nothing) answer c.unwrap.result c.unwrap.ensures c.allocate_node_ptr.ensures.was_free)
     (subst (Changes old new (opaque_pointer kind (slab_key c.unwrap.result))) node (if-ok (λ ptr. Changes old new (opaque_pointer kind (slab_key ptr)) (g.N.ArenaNode.held_as c.inner_node-node.result)) answer c.unwrap.result c.unwrap.ensures c.allocate_node_ptr.ensures.added))
     (on-ok (room old kind ≤ room new kind + 1) answer c.unwrap.result c.unwrap.ensures c.allocate_node_ptr.ensures.room)
-    c.allocate_node_ptr.ensures.other_room
+    c.allocate_node_ptr.ensures.other_room (c.allocate_node_ptr.ensures.no_growth c.requires.room)
 
 pub slice_bounds-inner_node-end : goal.slice_bounds-inner_node-end
 slice_bounds-inner_node-end g c =

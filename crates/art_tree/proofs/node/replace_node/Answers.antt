@@ -1,4 +1,4 @@
-use Rattle.std.proofs.Common.{◌≢◌, sym, subst}
+use Rattle.std.proofs.Common.{◌≢◌, ◌∙◌, sym, subst}
 use Rattle.art_nodes.specs.Pointers.{slab_key, opaque_pointer}
 use Rattle.art_arena.specs.Arena.{held, Nothing, Changes}
 use Rattle.art_tree.proofs.LoadLemmas.LeafLists.{kept-at}
@@ -20,3 +20,6 @@ returns-clause-replaced g c =
     let now = c.allocate_node_ptr.new.self in
     let placed = opaque_pointer g.R.Node.TYPE (slab_key c.in-Ok.placed) in
     replaced old now c.give_up.new.arena (g.R.InnerNodeCommon.inner c.args.node) c.to_opaque.ensures c.in-Ok.ensures.was_free c.requires.held (subst (Changes old now placed) (g.met.R.ArenaInnerNode.shown c.args.node) c.in-Ok.ensures.added) c.give_up.ensures.gone
+
+pub returns-clause-capacity : goal.returns-clause-capacity
+returns-clause-capacity g c = λ some kind. c.give_up.ensures.room.capacity kind ∙ c.in-Ok.ensures.no_growth some kind

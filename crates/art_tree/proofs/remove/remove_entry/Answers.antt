@@ -1,10 +1,12 @@
-use Rattle.std.proofs.Common.{◌∙◌, ℕ, List, [], Contains, arith, refl, ap, sym, subst}
+use Rattle.std.proofs.Common.{◌∙◌, ℕ, List, [], Contains, Some, arith, refl, ap, sym, subst, inl}
+use Rattle.art_header.specs.declared.node_type.NodeType.{NodeType}
 use Rattle.art_arena.specs.Standing.{IsTreeIn}
 use Rattle.art_arena.specs.Trees.{Tree, Leaf, leaves}
 use Rattle.art_tree.specs.Art.{IsAlone}
 use Rattle.art_tree.specs.Dictionary.{entry_at}
 use Rattle.art_tree.specs.Dropping.{IsLeafSpot}
 use Rattle.art_tree.specs.Removal.{IsLeft, NeedsSmallerNode}
+use Rattle.art_tree.specs.Room.{GrowsOnlyWhere, LacksRoomToRemove}
 use Rattle.art_tree.specs.Search.{IsPathTo, leaf_pointer}
 use Rattle.art_tree.proofs.SharedLemmas.DictionaryLemmas.{no-entry}
 use Rattle.art_tree.proofs.SharedLemmas.ExchangedTree.{entries-stay}
@@ -107,4 +109,40 @@ returns-clause-takes_no_memory g c = λ enough.
     c.remove_from.ensures.takes_no_memory tree alone hangs (λ needs. enough (subst (NeedsSmallerNode text arena) same needs))
 
 pub returns-in_err-root-clause-no_room : goal.returns-in_err-root-clause-no_room
-returns-in_err-root-clause-no_room g c = always-err c.from_residual.result _ c.in_err-root.ensures.no_room
+returns-in_err-root-clause-no_room g c =
+    let text = g.K.AsBytes.text in
+    let arena = c.args.arena.now in
+    let at = leaf_pointer c.in-Some.leaf in
+    let (tree, alone) = c.requires.art in
+    let found = is-found text arena c.with_budget-reader.result.arena c.with_budget-reader.ensures.arena c.args.root tree alone.is_tree c.in-Some.leaf c.in-Some.path c.args.key.now c.in-Some.ensures.answer c.in-Some.ensures.path in
+    let hangs = c.in-Some-leaf_spot.ensures.spot tree at found.way in
+    let same = found.has hangs.text (hangs-in hangs) in
+    always-err c.from_residual.result _ (subst (λ x. (kind : NodeType) × LacksRoomToRemove text arena (Some c.args.root) x kind) same (c.in_err-root.ensures.no_room tree alone hangs))
+
+pub returns-in_err-root-clause-memory : goal.returns-in_err-root-clause-memory
+returns-in_err-root-clause-memory g c =
+    let text = g.K.AsBytes.text in
+    let arena = c.args.arena.now in
+    let at = leaf_pointer c.in-Some.leaf in
+    let (tree, alone) = c.requires.art in
+    let found = is-found text arena c.with_budget-reader.result.arena c.with_budget-reader.ensures.arena c.args.root tree alone.is_tree c.in-Some.leaf c.in-Some.path c.args.key.now c.in-Some.ensures.answer c.in-Some.ensures.path in
+    let hangs = c.in-Some-leaf_spot.ensures.spot tree at found.way in
+    let same = found.has hangs.text (hangs-in hangs) in
+    subst (λ x. GrowsOnlyWhere arena c.remove_from.new.arena (LacksRoomToRemove text arena (Some c.args.root) x)) same (c.remove_from.ensures.memory tree alone hangs)
+
+pub returns-clause-memory : goal.returns-clause-memory
+returns-clause-memory g c =
+    let text = g.K.AsBytes.text in
+    let arena = c.args.arena.now in
+    let at = leaf_pointer c.in-Some.leaf in
+    let (tree, alone) = c.requires.art in
+    let found = is-found text arena c.with_budget-reader.result.arena c.with_budget-reader.ensures.arena c.args.root tree alone.is_tree c.in-Some.leaf c.in-Some.path c.args.key.now c.in-Some.ensures.answer c.in-Some.ensures.path in
+    let hangs = c.in-Some-leaf_spot.ensures.spot tree at found.way in
+    let same = found.has hangs.text (hangs-in hangs) in
+    subst (λ x. GrowsOnlyWhere arena c.remove_from.new.arena (LacksRoomToRemove text arena (Some c.args.root) x)) same (c.remove_from.ensures.memory tree alone hangs)
+
+pub returns-in_default-clause-memory : goal.returns-in_default-clause-memory
+returns-in_default-clause-memory g c = λ kind. inl refl
+
+pub returns-in_default-leaf_spot-clause-memory : goal.returns-in_default-leaf_spot-clause-memory
+returns-in_default-leaf_spot-clause-memory g c = λ kind. inl (c.remove_root.ensures.capacity kind)

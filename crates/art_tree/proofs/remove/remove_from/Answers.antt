@@ -1,4 +1,4 @@
-use Rattle.std.proofs.Common.{◌≡◌, ◌≢◌, ◌∙◌, length, sym}
+use Rattle.std.proofs.Common.{◌≡◌, ◌≢◌, ◌∙◌, length, sym, inl}
 use Rattle.art_header.specs.declared.node_type.NodeType.TheVariants as kinds
 use Rattle.art_nodes.specs.Inner.{Inner}
 use Rattle.art_nodes.specs.Pointers.{node_kind}
@@ -32,3 +32,6 @@ remove_from_many-requires g c =
     let place : (tree : Tree _) × IsAlone g.K.AsBytes.text c.args.arena.now c.args.root tree × IsLeafSpot tree (leaf_pointer c.args.leaf) c.args.spot = c.requires in
     let many : (node : Inner _) → held c.args.arena.now c.args.spot.parent ≡ HeldInner node → length node.children ≢ 2 = λ node is two. c.if-num_children-eq2.false (c.num_children.ensures.count node is ∙ two) in
     search
+
+pub returns-then-num_children-eq2-clause-memory : goal.returns-then-num_children-eq2-clause-memory
+returns-then-num_children-eq2-clause-memory g c = λ tree alone hangs kind. inl (c.remove_from_two.ensures.capacity kind)

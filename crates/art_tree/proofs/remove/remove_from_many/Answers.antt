@@ -1,5 +1,6 @@
-use Rattle.std.proofs.Common.{◌≡◌, ◌≢◌, ◌<◌, ◌≤◌, ◌∙◌, ℕ, List, [], ◌∷◌, ◌++◌, None, length, sym, subst}
+use Rattle.std.proofs.Common.{◌≡◌, ◌≢◌, ◌<◌, ◌≤◌, ◌∙◌, ℕ, List, [], ◌∷◌, ◌++◌, None, Some, length, sym, subst}
 use Rattle.art_header.specs.NodeType.{least_children}
+use Rattle.art_header.specs.declared.node_type.NodeType.{NodeType}
 use Rattle.art_header.specs.declared.node_type.NodeType.TheVariants.{Leaf}
 use Rattle.art_nodes.specs.ChildMap.{child_at}
 use Rattle.art_nodes.specs.Inner.{Inner}
@@ -9,11 +10,14 @@ use Rattle.art_arena.specs.Links.{Spells}
 use Rattle.art_tree.specs.Cuts.{HasRoomToShrink}
 use Rattle.art_tree.specs.Hanging.{CanHang}
 use Rattle.art_tree.specs.Removal.{IsRemoved, NeedsSmallerNode}
+use Rattle.art_tree.specs.Room.{LacksRoomToRemove}
 use Rattle.art_tree.proofs.RemoveLemmas.RemovedLeaf.{removed-from}
 use Rattle.art_tree.proofs.RemoveLemmas.RemovedChild.{cut-held, cut-many, cut-room, cut-there, is-cut, many-hangs, many-removed, needs-smaller, not-least}
 use Rattle.art_tree.proofs.SharedLemmas.ExchangedTree.{alone-same}
 use Rattle.art_tree.proofs.SharedLemmas.ParentLemmas.{always-err}
+use Rattle.art_tree.proofs.SharedLemmas.RoomLemmas.{grows-on, grows-then, same-capacity}
 use Rattle.art_tree.proofs.RemoveLemmas.LeafParent.{leaf-place}
+use Rattle.art_tree.proofs.RemoveLemmas.NeededNodes.{removal-lacks}
 use Rattle.art_tree.proofs.RemoveLemmas.RemovalLemmas.{frees-leaf}
 use Rattle.art_tree.proofs.remove.remove_from_many.Goals as goal
 
@@ -66,7 +70,7 @@ hang-requires g c =
     let cut = c.take_leaf-entry.new.arena in
     let many : length place.node.children ≢ 2 = c.requires.many place.node (sym (c.reserve_shrink.ensures.nodes_kept parent) ∙ place.is_held) in
     let new = c.take_child-node.new.arena in
-    let can : CanHang new higher = many-hangs place cut c.take_leaf-entry.ensures.gone c.take_leaf-entry.ensures.others many new c.take_child-node.result (c.each_pointer_is_at_one_place.ensures reserved [] _ place.alone.is_tree.stands place.alone.is_tree.sound) (c.take_child-node.ensures _ (is-cut place cut c.take_leaf-entry.ensures.gone c.take_leaf-entry.ensures.others)) in
+    let can : CanHang new higher = many-hangs place cut c.take_leaf-entry.ensures.gone c.take_leaf-entry.ensures.others many new c.take_child-node.result (c.each_pointer_is_at_one_place.ensures reserved [] _ place.alone.is_tree.stands place.alone.is_tree.sound) (c.take_child-node.ensures.taken _ (is-cut place cut c.take_leaf-entry.ensures.gone c.take_leaf-entry.ensures.others)) in
     assumption
 
 pub returns-clause-removed : goal.returns-clause-removed
@@ -79,7 +83,7 @@ returns-clause-removed g c = λ tree alone0 hangs.
     let cut = c.take_leaf-entry.new.arena in
     let many : length place.node.children ≢ 2 = c.requires.many place.node (sym (c.reserve_shrink.ensures.nodes_kept parent) ∙ place.is_held) in
     let new = c.take_child-node.new.arena in
-    let removed = many-removed place cut c.take_leaf-entry.ensures.gone c.take_leaf-entry.ensures.others many new c.take_child-node.result (c.each_pointer_is_at_one_place.ensures reserved [] _ place.alone.is_tree.stands place.alone.is_tree.sound) (c.take_child-node.ensures _ (is-cut place cut c.take_leaf-entry.ensures.gone c.take_leaf-entry.ensures.others)) c.hang.new.arena c.hang.result c.hang.ensures.hung c.take_leaf-entry.ensures.spelled c.no_text_begins_another.ensures in
+    let removed = many-removed place cut c.take_leaf-entry.ensures.gone c.take_leaf-entry.ensures.others many new c.take_child-node.result (c.each_pointer_is_at_one_place.ensures reserved [] _ place.alone.is_tree.stands place.alone.is_tree.sound) (c.take_child-node.ensures.taken _ (is-cut place cut c.take_leaf-entry.ensures.gone c.take_leaf-entry.ensures.others)) c.hang.new.arena c.hang.result c.hang.ensures.hung c.take_leaf-entry.ensures.spelled c.no_text_begins_another.ensures in
     removed-from text c.args.arena.now reserved c.hang.new.arena hangs.text c.hang.result c.take_leaf-entry.result c.args.root tree alone0 (c.no_text_begins_another.ensures [] tree alone0.is_tree.sound) c.reserve_shrink.ensures.nodes_kept
     (subst (IsRemoved text reserved c.hang.new.arena hangs.text c.hang.result) (sym (c.take_leaf-entry.ensures.entry place.own place.own_held)) removed)
 
@@ -101,11 +105,29 @@ returns-clause-takes_no_memory g c = λ tree alone0 hangs enough.
     let more = not-least place0 (c.requires.many place0.node place0.is_held) enough in
     frees-leaf old reserved cut c.take_child-node.new.arena c.hang.new.arena parent c.take_child-node.result place.node _
     (c.reserve_shrink.ensures.takes_no_memory place0.node place0.is_held (more place0.node place0.is_held)) c.take_leaf-entry.ensures.takes_no_memory
-    (c.take_child-node.ensures _ (is-cut place cut c.take_leaf-entry.ensures.gone c.take_leaf-entry.ensures.others)) (more place.node (sym (kept parent) ∙ place.is_held)) c.hang.ensures.room
+    (c.take_child-node.ensures.taken _ (is-cut place cut c.take_leaf-entry.ensures.gone c.take_leaf-entry.ensures.others)) (more place.node (sym (kept parent) ∙ place.is_held)) c.hang.ensures.room
 
 pub returns-in_err-reserve_shrink-clause-takes_no_memory : goal.returns-in_err-reserve_shrink-clause-takes_no_memory
 returns-in_err-reserve_shrink-clause-takes_no_memory g c = λ tree alone hangs enough.
     absurd (enough (needs-smaller (leaf-place alone hangs) c.in_err-reserve_shrink.ensures.refused))
 
 pub returns-in_err-reserve_shrink-clause-no_room : goal.returns-in_err-reserve_shrink-clause-no_room
-returns-in_err-reserve_shrink-clause-no_room g c = always-err c.from_residual.result _ c.in_err-reserve_shrink.ensures.no_room
+returns-in_err-reserve_shrink-clause-no_room g c = λ tree alone hangs.
+    let place = leaf-place alone hangs in
+    let (kind, lacks) = c.in_err-reserve_shrink.ensures.no_room in
+    always-err c.from_residual.result ((kind : NodeType) × LacksRoomToRemove g.K.AsBytes.text c.args.arena.now (Some c.args.root) hangs.text kind)
+    (kind, removal-lacks place (c.no_text_begins_another.ensures [] _ place.alone.is_tree.sound) kind lacks)
+
+pub returns-in_err-reserve_shrink-clause-memory : goal.returns-in_err-reserve_shrink-clause-memory
+returns-in_err-reserve_shrink-clause-memory g c = λ tree alone hangs.
+    let place = leaf-place alone hangs in
+    grows-then c.args.arena.now c.reserve_shrink.new.arena _ _ (removal-lacks place (c.no_text_begins_another.ensures [] _ place.alone.is_tree.sound)) c.reserve_shrink.ensures.memory
+
+pub returns-clause-memory : goal.returns-clause-memory
+returns-clause-memory g c = λ tree alone hangs.
+    let place = leaf-place alone hangs in
+    let old = c.args.arena.now in
+    let reserved = c.reserve_shrink.new.arena in
+    grows-on old reserved c.hang.new.arena _
+    (grows-then old reserved _ _ (removal-lacks place (c.no_text_begins_another.ensures [] _ place.alone.is_tree.sound)) c.reserve_shrink.ensures.memory)
+    (λ kind. same-capacity c.take_child-node.new.arena c.hang.new.arena c.hang.ensures.room kind ∙ c.take_child-node.ensures.capacity kind ∙ c.take_leaf-entry.ensures.takes_no_memory.capacity kind)

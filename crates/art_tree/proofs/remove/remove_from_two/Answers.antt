@@ -1,10 +1,11 @@
-use Rattle.std.proofs.Common.{◌≡◌, ◌≢◌, ◌<◌, ◌≤◌, ◌+◌, ◌^◌, ◌++◌, ◌∷◌, ℕ, List, length, lit<}
+use Rattle.std.proofs.Common.{◌∙◌, ◌≡◌, ◌≢◌, ◌<◌, ◌≤◌, ◌+◌, ◌^◌, ◌++◌, ◌∷◌, ℕ, List, length, lit<}
 use Rattle.art_header.specs.declared.node_type.NodeType.TheVariants.{Leaf}
 use Rattle.art_nodes.specs.Inner.{Inner}
 use Rattle.art_nodes.specs.Pointers.{node_kind, slab_key}
 use Rattle.art_arena.specs.Arena.{held, HeldInner, Nothing}
 use Rattle.art_arena.specs.Links.{Spells}
 use Rattle.art_tree.specs.Hanging.{CanHang}
+use Rattle.art_tree.proofs.SharedLemmas.RoomLemmas.{same-capacity}
 use Rattle.art_tree.proofs.RemoveLemmas.MergedNode.{child-held, parent-held, parent-joined, parent-two, short-there, two-hangs, two-removed}
 use Rattle.art_tree.proofs.RemoveLemmas.LeafParent.{leaf-place}
 use Rattle.art_tree.proofs.RemoveLemmas.RemovalLemmas.{frees-two}
@@ -85,3 +86,8 @@ pub returns-clause-takes_no_memory : goal.returns-clause-takes_no_memory
 returns-clause-takes_no_memory g c =
     let (tree, alone, hangs) = c.requires.place in
     frees-two c.args.arena.now c.take_leaf-entry.new.arena c.join_prefix.new.arena c.give_up.new.arena c.hang.new.arena (node_kind c.args.spot.parent) (leaf-place alone hangs).inner c.take_leaf-entry.ensures.takes_no_memory c.join_prefix.ensures.room c.give_up.ensures.room c.hang.ensures.room
+
+pub returns-clause-capacity : goal.returns-clause-capacity
+returns-clause-capacity g c = λ kind.
+    same-capacity c.give_up.new.arena c.hang.new.arena c.hang.ensures.room kind ∙ c.give_up.ensures.room.capacity kind ∙ same-capacity c.take_leaf-entry.new.arena c.join_prefix.new.arena c.join_prefix.ensures.room kind
+    ∙ c.take_leaf-entry.ensures.takes_no_memory.capacity kind

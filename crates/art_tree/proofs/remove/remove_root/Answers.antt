@@ -28,3 +28,6 @@ returns-clause-removed g c = λ root text_is alone.
 
 pub returns-clause-takes_no_memory : goal.returns-clause-takes_no_memory
 returns-clause-takes_no_memory g c = frees-one c.args.arena.now c.take_leaf.new.arena kinds.Leaf c.take_leaf.ensures.takes_no_memory
+
+pub returns-clause-capacity : goal.returns-clause-capacity
+returns-clause-capacity g c = c.take_leaf.ensures.takes_no_memory.capacity

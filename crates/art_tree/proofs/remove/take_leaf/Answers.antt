@@ -40,4 +40,4 @@ returns-clause-room g c =
 pub returns-clause-takes_no_memory : goal.returns-clause-takes_no_memory
 returns-clause-takes_no_memory g c =
     let taken = c.deallocate_node_ptr in
-    frees-after c.args.arena.now c.remove_self.new.arena taken.new.self Leaf c.remove_self.ensures.room (record { one_more = taken.ensures.takes_no_memory; others = taken.ensures.other_room })
+    frees-after c.args.arena.now c.remove_self.new.arena taken.new.self Leaf c.remove_self.ensures.room (record { one_more = taken.ensures.takes_no_memory; others = taken.ensures.other_room; capacity = taken.ensures.capacity })

@@ -1,7 +1,7 @@
 use Rattle.std.proofs.Common.{◌∙◌, Some, ap, sym, arith}
 use Rattle.slab.specs.Slab.{get}
 use Rattle.art_arena.specs.Arena.{slab_room, held_option}
-use Rattle.art_arena.proofs.ArenaLemmas.{Changes-called, SameNodes-written, get-called, room-written}
+use Rattle.art_arena.proofs.ArenaLemmas.{Changes-called, SameCapacity-written, SameNodes-written, get-called, room-written}
 use Rattle.art_arena.proofs.arena.NodeArena+K+V+PREFIX_LEN.allocate_node_ptr.Goals as goal
 
 pub returns-in-Ok-clause-added : goal.returns-in-Ok-clause-added
@@ -55,3 +55,25 @@ returns-in-Ok-clause-takes_no_memory g c = λ some.
     let len = c.in-Ok.ensures.len in
     let capacity = c.in-Ok.ensures.had_room (omega (arith, some, before, lent)) in
     omega (arith, some, before, after, lent, len, capacity)
+
+pub returns-in-Ok-clause-other_capacity : goal.returns-in-Ok-clause-other_capacity
+returns-in-Ok-clause-other_capacity g c = g.met.N.ArenaNode.other_capacity c.args.self.now c.insert.new.self
+
+pub returns-in-Ok-clause-no_growth : goal.returns-in-Ok-clause-no_growth
+returns-in-Ok-clause-no_growth g c = λ some.
+    let laws = g.met.N.ArenaNode in
+    let before = laws.room_of_slab c.args.self.now in
+    let lent = ap slab_room c.slab_mut.ensures.value in
+    SameCapacity-written g.N.Node.TYPE g.N.Shelved.slab_of g.N.Shelved.with_slab g.N.ArenaNode.held_as laws.held_in_slab laws.slab_written laws.others_kept laws.room_of_slab laws.other_room laws.capacity_of_slab laws.other_capacity c.args.self.now c.insert.new.self
+    (c.in-Ok.ensures.had_room (omega (arith, some, before, lent)) ∙ ap (λ s. s.capacity) c.slab_mut.ensures.value)
+
+pub returns-in-Err-clause-other_capacity : goal.returns-in-Err-clause-other_capacity
+returns-in-Err-clause-other_capacity g c = g.met.N.ArenaNode.other_capacity c.args.self.now c.insert.new.self
+
+pub returns-in-Err-clause-no_growth : goal.returns-in-Err-clause-no_growth
+returns-in-Err-clause-no_growth g c = λ some.
+    let laws = g.met.N.ArenaNode in
+    let before = laws.room_of_slab c.args.self.now in
+    let lent = ap slab_room c.slab_mut.ensures.value in
+    SameCapacity-written g.N.Node.TYPE g.N.Shelved.slab_of g.N.Shelved.with_slab g.N.ArenaNode.held_as laws.held_in_slab laws.slab_written laws.others_kept laws.room_of_slab laws.other_room laws.capacity_of_slab laws.other_capacity c.args.self.now c.insert.new.self
+    (c.in-Err.ensures.had_room (omega (arith, some, before, lent)) ∙ ap (λ s. s.capacity) c.slab_mut.ensures.value)

@@ -16,7 +16,7 @@ returns g c =
         writes_back = tt;
         node = laws.held_in_slab c.args.self.now c.args.ptr.key ∙ ap (held_option g.N.ArenaNode.held_as) found;
         changes = λ now. Changes-written g.N.Node.TYPE g.N.Shelved.slab_of g.N.Shelved.with_slab g.N.ArenaNode.held_as laws.held_in_slab laws.slab_written laws.others_kept c.args.self.now _ c.args.ptr.key (Some now) (Updates-with_value _ _ now within);
-        room = λ now. SameRoom-with_value g.N.Node.TYPE g.N.Shelved.slab_of g.N.Shelved.with_slab g.N.ArenaNode.held_as laws.held_in_slab laws.slab_written laws.others_kept laws.room_of_slab laws.other_room c.args.self.now c.args.ptr.key now within;
+        room = λ now. SameRoom-with_value g.N.Node.TYPE g.N.Shelved.slab_of g.N.Shelved.with_slab g.N.ArenaNode.held_as laws.held_in_slab laws.slab_written laws.others_kept laws.room_of_slab laws.other_room laws.capacity_of_slab laws.other_capacity c.args.self.now c.args.ptr.key now within;
       },
     )
 

@@ -1,7 +1,7 @@
 use Rattle.std.proofs.Common.{◌≡◌, ◌∙◌, IsSome, Some, None, arith, sym, ap, subst}
 use Rattle.slab.specs.Slab.{get}
 use Rattle.art_arena.specs.Arena.{slab_room, held_option}
-use Rattle.art_arena.proofs.ArenaLemmas.{Changes-called, get-called, room-written}
+use Rattle.art_arena.proofs.ArenaLemmas.{Changes-called, SameCapacity-written, get-called, room-written}
 use Rattle.art_arena.proofs.arena.NodeArena+K+V+PREFIX_LEN.deallocate_node_ptr.Goals as goal
 
 pub returns-clause-removed : goal.returns-clause-removed
@@ -42,3 +42,9 @@ returns-clause-takes_no_memory g c =
     let len = c.remove.ensures.len in
     let capacity = c.remove.ensures.capacity in
     omega arith
+
+pub returns-clause-capacity : goal.returns-clause-capacity
+returns-clause-capacity g c =
+    let laws = g.met.N.ArenaNode in
+    SameCapacity-written g.N.Node.TYPE g.N.Shelved.slab_of g.N.Shelved.with_slab g.N.ArenaNode.held_as laws.held_in_slab laws.slab_written laws.others_kept laws.room_of_slab laws.other_room laws.capacity_of_slab laws.other_capacity c.args.self.now c.remove.new.self
+    (c.remove.ensures.capacity ∙ ap (λ s. s.capacity) c.slab_mut.ensures.value)

@@ -18,7 +18,7 @@ returns-clause-had_room g c = λ asks.
     let laws = g.met.N.ArenaNode in
     let bound : c.args.additional ≤ slab_room c.slab_mut.result.now = rw (c.slab_mut.ensures.value, ← laws.room_of_slab c.args.self.now) asks in
     let same = c.reserve.ensures.had_room (omega (arith, bound)) in
-    SameRoom-written g.N.Node.TYPE g.N.Shelved.slab_of g.N.Shelved.with_slab g.N.ArenaNode.held_as laws.held_in_slab laws.slab_written laws.others_kept laws.room_of_slab laws.other_room c.args.self.now c.reserve.new.self (ap slab_room (same ∙ c.slab_mut.ensures.value))
+    SameRoom-written g.N.Node.TYPE g.N.Shelved.slab_of g.N.Shelved.with_slab g.N.ArenaNode.held_as laws.held_in_slab laws.slab_written laws.others_kept laws.room_of_slab laws.other_room laws.capacity_of_slab laws.other_capacity c.args.self.now c.reserve.new.self (ap slab_room (same ∙ c.slab_mut.ensures.value)) (ap (λ s. s.capacity) (same ∙ c.slab_mut.ensures.value))
 
 pub returns-clause-nodes_kept : goal.returns-clause-nodes_kept
 returns-clause-nodes_kept g c =
@@ -49,3 +49,9 @@ returns-clause-no_less_room g c =
 
 pub returns-clause-other_room : goal.returns-clause-other_room
 returns-clause-other_room g c = g.met.N.ArenaNode.other_room c.args.self.now c.reserve.new.self
+
+pub returns-then-additional-eq0-clause-other_capacity : goal.returns-then-additional-eq0-clause-other_capacity
+returns-then-additional-eq0-clause-other_capacity g c = search rules
+
+pub returns-clause-other_capacity : goal.returns-clause-other_capacity
+returns-clause-other_capacity g c = g.met.N.ArenaNode.other_capacity c.args.self.now c.reserve.new.self

@@ -1,17 +1,21 @@
 use Rattle.std.proofs.Common.{lit<, refl, inl, inr}
+use Rattle.art_tree.proofs.SharedLemmas.RoomLemmas.{same-capacity}
 use Rattle.art_tree.proofs.insert.added_child.add_child.Goals as goal
 
 pub grow_child-requires : goal.grow_child-requires
 grow_child-requires g c = (search, (search, (search, (search, (search, (lit< tt, (c.requires.held, (c.requires.inner, (λ node is. (c.is_full.ensures.full node is).0 c.if-is_full.true, (c.requires.absent, c.requires.room))))))))))
 
-pub returns-then-is_full : goal.returns-then-is_full
-returns-then-is_full g c = λ node is. inr (c.grow_child.ensures node is)
+pub returns-then-is_full-clause-added : goal.returns-then-is_full-clause-added
+returns-then-is_full-clause-added g c = λ node is. inr (c.grow_child.ensures.moved node is)
 
 pub write_child-requires : goal.write_child-requires
 write_child-requires g c = (search, (search, (search, (search, (search, (lit< tt, (c.requires.held, (c.requires.inner, λ node is absent. c.is_full.ensures.has_room node is (λ full. (let not_full = c.if-is_full.false in cc))))))))))
 
-pub returns : goal.returns
-returns g c = λ node is.
+pub returns-clause-capacity : goal.returns-clause-capacity
+returns-clause-capacity g c = same-capacity c.args.arena.now c.write_child.new.arena c.write_child.ensures.room
+
+pub returns-clause-added : goal.returns-clause-added
+returns-clause-added g c = λ node is.
     inl (record {
       few = c.is_full.ensures.has_room node is (λ full. (let not_full = c.if-is_full.false in cc));
       same = refl;

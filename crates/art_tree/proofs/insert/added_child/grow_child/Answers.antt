@@ -11,8 +11,8 @@ unwrap-requires g c =
     let some : IsSome c.replace_node.result = c.replace_node.ensures.succeeds (room-of-kind c.args.arena.now c.args.pointer _ is_kind there (c.requires.full _ there) c.requires.room) in
     search
 
-pub returns-in-Node4 : goal.returns-in-Node4
-returns-in-Node4 g c = λ node is.
+pub returns-in-Node4-clause-moved : goal.returns-in-Node4-clause-moved
+returns-in-Node4-clause-moved g c = λ node is.
     let there = c.node_ref.ensures.node ∙ ap shown c.in-Node4.is in
     let is_kind = sym c.node_ref.ensures.kind ∙ ap shown_kind c.in-Node4.is in
     moved-there c.args.arena.now c.replace_node.new.arena c.args.pointer c.replace_node.result c.args.byte c.args.child is_kind there (c.requires.full _ there) c.with_child_more-grown.ensures is c.unwrap.ensures c.replace_node.ensures.replaced
@@ -24,8 +24,8 @@ unwrap-requires-in-Node16 g c =
     let some : IsSome c.replace_node-in-Node16.result = c.replace_node-in-Node16.ensures.succeeds (room-of-kind c.args.arena.now c.args.pointer _ is_kind there (c.requires.full _ there) c.requires.room) in
     search
 
-pub returns-in-Node16 : goal.returns-in-Node16
-returns-in-Node16 g c = λ node is.
+pub returns-in-Node16-clause-moved : goal.returns-in-Node16-clause-moved
+returns-in-Node16-clause-moved g c = λ node is.
     let there = c.node_ref.ensures.node ∙ ap shown c.in-Node16.is in
     let is_kind = sym c.node_ref.ensures.kind ∙ ap shown_kind c.in-Node16.is in
     moved-there c.args.arena.now c.replace_node-in-Node16.new.arena c.args.pointer c.replace_node-in-Node16.result c.args.byte c.args.child is_kind there (c.requires.full _ there) c.with_child_more-grown-in-Node16.ensures is c.unwrap-in-Node16.ensures c.replace_node-in-Node16.ensures.replaced
@@ -37,8 +37,8 @@ unwrap-requires-in-Node48 g c =
     let some : IsSome c.replace_node-in-Node48.result = c.replace_node-in-Node48.ensures.succeeds (room-of-kind c.args.arena.now c.args.pointer _ is_kind there (c.requires.full _ there) c.requires.room) in
     search
 
-pub returns-in-Node48 : goal.returns-in-Node48
-returns-in-Node48 g c = λ node is.
+pub returns-in-Node48-clause-moved : goal.returns-in-Node48-clause-moved
+returns-in-Node48-clause-moved g c = λ node is.
     let there = c.node_ref.ensures.node ∙ ap shown c.in-Node48.is in
     let is_kind = sym c.node_ref.ensures.kind ∙ ap shown_kind c.in-Node48.is in
     moved-there c.args.arena.now c.replace_node-in-Node48.new.arena c.args.pointer c.replace_node-in-Node48.result c.args.byte c.args.child is_kind there (c.requires.full _ there) c.with_child_more-grown-in-Node48.ensures is c.unwrap-in-Node48.ensures c.replace_node-in-Node48.ensures.replaced
@@ -59,3 +59,21 @@ unreachable-requires g c =
 
 pub unreachable-requires-in-LeafNode : goal.unreachable-requires-in-LeafNode
 unreachable-requires-in-LeafNode g c = c.requires.inner (sym c.node_ref.ensures.kind ∙ ap shown_kind c.in-LeafNode.is)
+
+pub returns-in-Node4-clause-capacity : goal.returns-in-Node4-clause-capacity
+returns-in-Node4-clause-capacity g c =
+    let there = c.node_ref.ensures.node ∙ ap shown c.in-Node4.is in
+    let is_kind = sym c.node_ref.ensures.kind ∙ ap shown_kind c.in-Node4.is in
+    c.replace_node.ensures.capacity (room-of-kind c.args.arena.now c.args.pointer _ is_kind there (c.requires.full _ there) c.requires.room)
+
+pub returns-in-Node16-clause-capacity : goal.returns-in-Node16-clause-capacity
+returns-in-Node16-clause-capacity g c =
+    let there = c.node_ref.ensures.node ∙ ap shown c.in-Node16.is in
+    let is_kind = sym c.node_ref.ensures.kind ∙ ap shown_kind c.in-Node16.is in
+    c.replace_node-in-Node16.ensures.capacity (room-of-kind c.args.arena.now c.args.pointer _ is_kind there (c.requires.full _ there) c.requires.room)
+
+pub returns-in-Node48-clause-capacity : goal.returns-in-Node48-clause-capacity
+returns-in-Node48-clause-capacity g c =
+    let there = c.node_ref.ensures.node ∙ ap shown c.in-Node48.is in
+    let is_kind = sym c.node_ref.ensures.kind ∙ ap shown_kind c.in-Node48.is in
+    c.replace_node-in-Node48.ensures.capacity (room-of-kind c.args.arena.now c.args.pointer _ is_kind there (c.requires.full _ there) c.requires.room)

@@ -8,6 +8,7 @@ use Rattle.art_tree.specs.Edits.{IsBeside, LiesBeside}
 use Rattle.art_tree.proofs.InsertLemmas.LinkLemmas.{new-held, new-unlinked, new-apart, sibling-knit, still-spelled, new-text, sibling-text, entry-held, others-stay, spelled-before, spelled-after}
 use Rattle.art_tree.proofs.LoadLemmas.LeafLists.{less-same}
 use Rattle.art_tree.proofs.LoadLemmas.PlacedTrees.{if-ok}
+use Rattle.art_tree.proofs.SharedLemmas.RoomLemmas.{same-capacity, same-room}
 use Rattle.art_tree.proofs.insert.link.link_leaf.Goals as goal
 
 pub insert_before-requires : goal.insert_before-requires
@@ -66,7 +67,8 @@ returns-in-First g c =
       entry = entry-held old now this leaf free changes new linked.contents c.args.key c.args.value c.with_no_siblings.ensures.key c.with_no_siblings.ensures.value;
       spelled = λ left right spelled beside. spelled-before now new this (slab_key c.args.sibling) left right linked.spelled (still-spelled old now this leaf free changes (left ++ right) spelled) (subst (λ end. IsBeside end left right (slab_key c.args.sibling)) c.in-First.is beside);
       others = others-stay old now this leaf free changes new linked.contents;
-      other_room = λ other differ. linked.room other ∙ c.allocate_node_ptr.ensures.other_room other differ;
+      other_room = λ other differ. same-room now new linked.room other ∙ c.allocate_node_ptr.ensures.other_room other differ;
+      capacity = λ kind. same-capacity now new linked.room kind ∙ c.allocate_node_ptr.ensures.no_growth c.requires.room kind;
     }
 
 pub insert_after-requires : goal.insert_after-requires
@@ -125,5 +127,6 @@ returns-in-Last g c =
       entry = entry-held old now this leaf free changes new linked.contents c.args.key c.args.value c.with_no_siblings.ensures.key c.with_no_siblings.ensures.value;
       spelled = λ left right spelled beside. spelled-after now new this (slab_key c.args.sibling) left right linked.spelled (still-spelled old now this leaf free changes (left ++ right) spelled) (subst (λ end. IsBeside end left right (slab_key c.args.sibling)) c.in-Last.is beside);
       others = others-stay old now this leaf free changes new linked.contents;
-      other_room = λ other differ. linked.room other ∙ c.allocate_node_ptr.ensures.other_room other differ;
+      other_room = λ other differ. same-room now new linked.room other ∙ c.allocate_node_ptr.ensures.other_room other differ;
+      capacity = λ kind. same-capacity now new linked.room kind ∙ c.allocate_node_ptr.ensures.no_growth c.requires.room kind;
     }

@@ -8,6 +8,7 @@ use Rattle.art_tree.specs.Loading.{AreLinked}
 use Rattle.art_tree.proofs.LoadLemmas.LeafLists.{none-linked, allocated, first-linked, next-linked, unlinked, sibling-knit, two-texts, last-split, none-left, less-same}
 use Rattle.art_tree.proofs.LoadLemmas.RefusalLemmas.{forks-less}
 use Rattle.art_tree.proofs.LoadLemmas.PlacedTrees.{if-ok, on-ok}
+use Rattle.art_tree.proofs.SharedLemmas.RoomLemmas.{same-room}
 use Rattle.art_tree.proofs.loading.leaves.link_leaves.Goals as goal
 use Rattle.art_tree.proofs.loading.leaves.link_leaves.Goals.{in-Some-last, in_default-last}
 
@@ -92,9 +93,9 @@ moving-preserved g c =
           let linked = next-linked old new w.insert_after.new.arena linking.done before front entry this sibling split (c.each_leaf_of_a_list_is_knit.ensures.next new) a w.insert_after.ensures.contents w.insert_after.ensures.placed w.insert_after.ensures.spelled in
           record {
             linking = record { done = linking.done ++ entry ∷ []; split = whole; linked = subst (λ x. AreLinked old x (linking.done ++ entry ∷ []) c.push_reserved.new.self.items) (sym w.arena-is) (subst (AreLinked old w.insert_after.new.arena (linking.done ++ entry ∷ [])) (sym c.push_reserved.ensures.items) linked) };
-            room = omega (arith, ap (λ x. room x Leaf) w.arena-is, w.insert_after.ensures.room Leaf, rooms, one, c.next.ensures.len, c.moving.invariant.room);
+            room = omega (arith, ap (λ x. room x Leaf) w.arena-is, same-room new w.insert_after.new.arena w.insert_after.ensures.room Leaf, rooms, one, c.next.ensures.len, c.moving.invariant.room);
             memory = omega (arith, pushed, one, c.next.ensures.len, c.push_reserved.ensures.capacity, c.moving.invariant.memory);
-            other_room = λ other differ. ap (λ x. room x other) w.arena-is ∙ w.insert_after.ensures.room other ∙ c.allocate_node_ptr.ensures.other_room other differ ∙ c.moving.invariant.other_room other differ;
+            other_room = λ other differ. ap (λ x. room x other) w.arena-is ∙ same-room new w.insert_after.new.arena w.insert_after.ensures.room other ∙ c.allocate_node_ptr.ensures.other_room other differ ∙ c.moving.invariant.other_room other differ;
           }
       | in_default-last w ↦
           let none = none-left before (ap (λ xs. slice_get xs (length xs - 1)) (sym c.deref.ensures.value) ∙ sym c.last.ensures.value ∙ ap option_copied w.in_default-last.is) in

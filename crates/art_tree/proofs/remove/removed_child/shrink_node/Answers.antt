@@ -17,8 +17,8 @@ unwrap-requires g c =
     let some : IsSome c.replace_node.result = c.replace_node.ensures.succeeds (smaller-room c.args.arena.now c.args.pointer kind c.requires.room) in
     search
 
-pub returns-in-Node16 : goal.returns-in-Node16
-returns-in-Node16 g c = λ node is.
+pub returns-in-Node16-clause-replaced : goal.returns-in-Node16-clause-replaced
+returns-in-Node16-clause-replaced g c = λ node is.
     let there = c.node_ref.ensures.node ∙ ap shown c.in-Node16.is in
     let kind = sym c.node_ref.ensures.kind ∙ ap shown_kind c.in-Node16.is in
     replaced-there c.args.arena.now c.args.pointer kind there c.shrink-shrunk.ensures is (if-some c.replace_node.result _ c.unwrap.result c.unwrap.ensures c.replace_node.ensures.replaced)
@@ -36,8 +36,8 @@ unwrap-requires-in-Node48 g c =
     let some : IsSome c.replace_node-in-Node48.result = c.replace_node-in-Node48.ensures.succeeds (smaller-room c.args.arena.now c.args.pointer kind c.requires.room) in
     search
 
-pub returns-in-Node48 : goal.returns-in-Node48
-returns-in-Node48 g c = λ node is.
+pub returns-in-Node48-clause-replaced : goal.returns-in-Node48-clause-replaced
+returns-in-Node48-clause-replaced g c = λ node is.
     let there = c.node_ref.ensures.node ∙ ap shown c.in-Node48.is in
     let kind = sym c.node_ref.ensures.kind ∙ ap shown_kind c.in-Node48.is in
     replaced-there c.args.arena.now c.args.pointer kind there c.shrink-shrunk-in-Node48.ensures is (if-some c.replace_node-in-Node48.result _ c.unwrap-in-Node48.result c.unwrap-in-Node48.ensures c.replace_node-in-Node48.ensures.replaced)
@@ -55,8 +55,8 @@ unwrap-requires-in-Node256 g c =
     let some : IsSome c.replace_node-in-Node256.result = c.replace_node-in-Node256.ensures.succeeds (smaller-room c.args.arena.now c.args.pointer kind c.requires.room) in
     search
 
-pub returns-in-Node256 : goal.returns-in-Node256
-returns-in-Node256 g c = λ node is.
+pub returns-in-Node256-clause-replaced : goal.returns-in-Node256-clause-replaced
+returns-in-Node256-clause-replaced g c = λ node is.
     let there = c.node_ref.ensures.node ∙ ap shown c.in-Node256.is in
     let kind = sym c.node_ref.ensures.kind ∙ ap shown_kind c.in-Node256.is in
     replaced-there c.args.arena.now c.args.pointer kind there c.shrink-shrunk-in-Node256.ensures is (if-some c.replace_node-in-Node256.result _ c.unwrap-in-Node256.result c.unwrap-in-Node256.ensures c.replace_node-in-Node256.ensures.replaced)
@@ -66,3 +66,18 @@ unreachable-requires g c = elim c.in-Node4.is [
   | inl e ↦ c.requires.large (sym c.node_ref.ensures.kind ∙ ap shown_kind e.1)
   | inr e ↦ c.requires.inner (sym c.node_ref.ensures.kind ∙ ap shown_kind e.1)
 ]
+
+pub returns-in-Node16-clause-capacity : goal.returns-in-Node16-clause-capacity
+returns-in-Node16-clause-capacity g c =
+    let kind = sym c.node_ref.ensures.kind ∙ ap shown_kind c.in-Node16.is in
+    c.replace_node.ensures.capacity (smaller-room c.args.arena.now c.args.pointer kind c.requires.room)
+
+pub returns-in-Node48-clause-capacity : goal.returns-in-Node48-clause-capacity
+returns-in-Node48-clause-capacity g c =
+    let kind = sym c.node_ref.ensures.kind ∙ ap shown_kind c.in-Node48.is in
+    c.replace_node-in-Node48.ensures.capacity (smaller-room c.args.arena.now c.args.pointer kind c.requires.room)
+
+pub returns-in-Node256-clause-capacity : goal.returns-in-Node256-clause-capacity
+returns-in-Node256-clause-capacity g c =
+    let kind = sym c.node_ref.ensures.kind ∙ ap shown_kind c.in-Node256.is in
+    c.replace_node-in-Node256.ensures.capacity (smaller-room c.args.arena.now c.args.pointer kind c.requires.room)

@@ -1,18 +1,25 @@
-use Rattle.std.proofs.Common.{length, lit<, refl, inl}
+use Rattle.std.proofs.Common.{◌∙◌, length, lit<, refl, inl}
 use Rattle.art_header.specs.NodeType.{least_children}
 use Rattle.art_nodes.specs.Pointers.{node_kind}
 use Rattle.art_tree.proofs.RemoveLemmas.ShrunkNode.{less-where-differ, cut-held, few-left, not-smallest, room-left, shrunk-left}
+use Rattle.art_tree.proofs.SharedLemmas.RoomLemmas.{same-capacity}
 use Rattle.art_tree.proofs.remove.removed_child.take_child.Goals as goal
 
 pub shrink_node-requires : goal.shrink_node-requires
 shrink_node-requires g c =
     (search, (search, (search, (search, (search, (lit< tt, (cut-held c.args.arena.now c.cut_child.new.arena c.args.pointer c.args.byte c.requires.held c.requires.inner c.cut_child.ensures.cut, (c.requires.inner, (not-smallest c.args.arena.now c.cut_child.new.arena c.args.pointer c.args.byte c.requires.held c.requires.inner c.cut_child.ensures.cut (λ node is. (c.has_fewest-fewest.ensures node is).0 c.if-fewest.true) c.requires.many, (few-left c.args.arena.now c.cut_child.new.arena c.args.pointer c.args.byte c.requires.held c.requires.inner c.cut_child.ensures.cut (λ node is. (c.has_fewest-fewest.ensures node is).0 c.if-fewest.true) c.requires.there, room-left c.args.arena.now c.cut_child.new.arena c.args.pointer c.args.byte c.requires.held c.requires.inner c.cut_child.ensures.cut (λ node is. (c.has_fewest-fewest.ensures node is).0 c.if-fewest.true) c.requires.room c.cut_child.ensures.room c.requires.many))))))))))
 
-pub returns-then-fewest : goal.returns-then-fewest
-returns-then-fewest g c = λ node is. shrunk-left c.args.arena.now c.cut_child.new.arena c.args.pointer c.args.byte c.requires.held c.requires.inner c.cut_child.ensures.cut (λ node is. (c.has_fewest-fewest.ensures node is).0 c.if-fewest.true) node is c.shrink_node.ensures
+pub returns-then-fewest-clause-capacity : goal.returns-then-fewest-clause-capacity
+returns-then-fewest-clause-capacity g c = λ kind. c.shrink_node.ensures.capacity kind ∙ same-capacity c.args.arena.now c.cut_child.new.arena c.cut_child.ensures.room kind
 
-pub returns : goal.returns
-returns g c = λ node is.
+pub returns-then-fewest-clause-taken : goal.returns-then-fewest-clause-taken
+returns-then-fewest-clause-taken g c = λ node is. shrunk-left c.args.arena.now c.cut_child.new.arena c.args.pointer c.args.byte c.requires.held c.requires.inner c.cut_child.ensures.cut (λ node is. (c.has_fewest-fewest.ensures node is).0 c.if-fewest.true) node is c.shrink_node.ensures.replaced
+
+pub returns-clause-capacity : goal.returns-clause-capacity
+returns-clause-capacity g c = same-capacity c.args.arena.now c.cut_child.new.arena c.cut_child.ensures.room
+
+pub returns-clause-taken : goal.returns-clause-taken
+returns-clause-taken g c = λ node is.
     inl (record {
       many = less-where-differ (least_children (node_kind c.args.pointer)) (length node.children) (c.requires.many node is).1 (λ fewest. (let yes = (c.has_fewest-fewest.ensures node is).1 fewest in let no = c.if-fewest.false in cc));
       same = refl;

@@ -2,6 +2,8 @@ use Rattle.std.proofs.Common.{◌≢◌, ◌∙◌, None, ap, subst}
 use Rattle.art_arena.specs.Arena.{SameRoom}
 use Rattle.art_tree.specs.Dictionary.{HasKeys, entry_at}
 use Rattle.art_tree.specs.Insertion.{MayEnter}
+use Rattle.art_tree.specs.Leaves.{KeepsOtherLeaves}
+use Rattle.art_tree.specs.Room.{GrowsOnlyWhere, LacksRoomToInsert}
 use Rattle.art_tree.proofs.SharedLemmas.ExchangedTree.{art-same}
 use Rattle.art_tree.proofs.SharedLemmas.KeyLemmas.{keys-entered, keys-same}
 use Rattle.art_tree.proofs.tree.changes.ArtTree+K+V+PREFIX_LEN.insert.Goals as goal
@@ -28,3 +30,12 @@ returns-clause-no_refusal g c = subst (λ seen. MayEnter g.K.AsBytes.text seen.a
 
 pub returns-clause-takes_no_memory : goal.returns-clause-takes_no_memory
 returns-clause-takes_no_memory g c = subst (λ seen. entry_at g.K.AsBytes.text seen.arena (g.K.AsBytes.text c.args.key) ≢ None → SameRoom seen.arena c.insert_entry.new.arena) c.self.view_is c.insert_entry.ensures.takes_no_memory
+
+pub returns-clause-leaves_stay : goal.returns-clause-leaves_stay
+returns-clause-leaves_stay g c = subst (λ seen. KeepsOtherLeaves g.K.AsBytes.text seen.arena c.insert_entry.new.arena (g.K.AsBytes.text c.args.key)) c.self.view_is c.in_ok-root.ensures.entered.leaves
+
+pub returns-clause-memory : goal.returns-clause-memory
+returns-clause-memory g c = subst (λ seen. GrowsOnlyWhere seen.arena c.insert_entry.new.arena (LacksRoomToInsert g.K.AsBytes.text seen.arena seen.root (g.K.AsBytes.text c.args.key))) c.self.view_is c.insert_entry.ensures.memory
+
+pub returns-in_err-root-clause-memory : goal.returns-in_err-root-clause-memory
+returns-in_err-root-clause-memory g c = subst (λ seen. GrowsOnlyWhere seen.arena c.insert_entry.new.arena (LacksRoomToInsert g.K.AsBytes.text seen.arena seen.root (g.K.AsBytes.text c.args.key))) c.self.view_is c.insert_entry.ensures.memory

@@ -1,11 +1,15 @@
-use Rattle.std.proofs.Common.{◌≡◌, ◌∙◌, Some, ap, sym, subst}
+use Rattle.std.proofs.Common.{◌≡◌, ◌∙◌, Some, refl, ap, sym, subst, inl}
+use Rattle.art_header.specs.declared.node_type.NodeType.{NodeType}
+use Rattle.art_arena.specs.Arena.{held}
 use Rattle.art_tree.specs.Art.{IsArt}
 use Rattle.art_tree.specs.Dictionary.{HasKeys, entry_at}
 use Rattle.art_tree.specs.Removal.{IsLeft, NeedsSmallerNode}
-use Rattle.art_tree.specs.Room.{FreesOneEach}
+use Rattle.art_tree.specs.Leaves.{KeepsOtherLeaves}
+use Rattle.art_tree.specs.Room.{FreesOneEach, GrowsOnlyWhere, LacksRoomToRemove}
 use Rattle.art_tree.proofs.SharedLemmas.DictionaryLemmas.{empty-entry}
 use Rattle.art_tree.proofs.SharedLemmas.ExchangedTree.{art-same}
 use Rattle.art_tree.proofs.SharedLemmas.KeyLemmas.{keys-same, keys-left}
+use Rattle.art_tree.proofs.SharedLemmas.ParentLemmas.{always-err}
 use Rattle.art_tree.proofs.InsertLemmas.NodeLemmas.{if-some}
 use Rattle.art_tree.proofs.RemoveLemmas.RemovalLemmas.{from-if-none}
 use Rattle.art_tree.proofs.tree.changes.ArtTree+K+V+PREFIX_LEN.remove.Goals as goal
@@ -57,3 +61,57 @@ returns-clause-takes_no_memory g c = subst (λ seen. (¬ NeedsSmallerNode g.K.As
 
 pub returns-in_err-root-clause-takes_no_memory : goal.returns-in_err-root-clause-takes_no_memory
 returns-in_err-root-clause-takes_no_memory g c = subst (λ seen. (¬ NeedsSmallerNode g.K.AsBytes.text seen.arena c.args.key.now) → FreesOneEach seen.arena c.remove_entry.new.arena) c.self.view_is c.remove_entry.ensures.takes_no_memory
+
+pub returns-clause-leaves_stay : goal.returns-clause-leaves_stay
+returns-clause-leaves_stay g c =
+    let text = g.K.AsBytes.text in
+    let old = c.self.inside.arena in
+    let new = c.remove_entry.new.arena in
+    let key = c.args.key.now in
+    let done = if-some c.in_ok-root.field-0 (λ pair. IsArt text new pair.0 × IsLeft text old new key × (entry_at text old key ≡ Some pair.1)) (c.in-Some-2.root, c.in-Some-2.entry) c.in-Some-2.is c.in_ok-root.ensures.removed in
+    subst (λ seen. KeepsOtherLeaves text seen.arena new key) c.self.view_is done.1.leaves
+
+pub returns-in_default-2-clause-leaves_stay : goal.returns-in_default-2-clause-leaves_stay
+returns-in_default-2-clause-leaves_stay g c = λ pointer leaf is differ.
+    let same = from-if-none c.in_ok-root.field-0 (c.remove_entry.new.arena ≡ c.self.inside.arena) c.in_default-2.is c.in_ok-root.ensures.absent_kept in
+    (leaf, ap (λ arena. held arena pointer) same ∙ ap (λ seen. held seen.arena pointer) c.self.view_is ∙ is, refl, refl)
+
+pub returns-in_default-clause-leaves_stay : goal.returns-in_default-clause-leaves_stay
+returns-in_default-clause-leaves_stay g c = λ pointer leaf is differ. (leaf, is, refl, refl)
+
+pub returns-in_err-root-clause-no_room : goal.returns-in_err-root-clause-no_room
+returns-in_err-root-clause-no_room g c =
+    let text = g.K.AsBytes.text in
+    let key = c.args.key.now in
+    let here = subst (λ root. (kind : NodeType) × LacksRoomToRemove text c.self.inside.arena root key) (sym c.in-Some.is) c.in_err-root.ensures.no_room in
+    always-err c.from_residual.result _ (subst (λ seen. (kind : NodeType) × LacksRoomToRemove text seen.arena seen.root key) c.self.view_is here)
+
+pub returns-clause-memory : goal.returns-clause-memory
+returns-clause-memory g c =
+    let text = g.K.AsBytes.text in
+    let key = c.args.key.now in
+    let old = c.self.inside.arena in
+    let new = c.remove_entry.new.arena in
+    let here = subst (λ root. GrowsOnlyWhere old new (LacksRoomToRemove text old root key)) (sym c.in-Some.is) c.remove_entry.ensures.memory in
+    subst (λ seen. GrowsOnlyWhere seen.arena new (LacksRoomToRemove text seen.arena seen.root key)) c.self.view_is here
+
+pub returns-in_err-root-clause-memory : goal.returns-in_err-root-clause-memory
+returns-in_err-root-clause-memory g c =
+    let text = g.K.AsBytes.text in
+    let key = c.args.key.now in
+    let old = c.self.inside.arena in
+    let new = c.remove_entry.new.arena in
+    let here = subst (λ root. GrowsOnlyWhere old new (LacksRoomToRemove text old root key)) (sym c.in-Some.is) c.remove_entry.ensures.memory in
+    subst (λ seen. GrowsOnlyWhere seen.arena new (LacksRoomToRemove text seen.arena seen.root key)) c.self.view_is here
+
+pub returns-in_default-2-clause-memory : goal.returns-in_default-2-clause-memory
+returns-in_default-2-clause-memory g c =
+    let text = g.K.AsBytes.text in
+    let key = c.args.key.now in
+    let old = c.self.inside.arena in
+    let new = c.remove_entry.new.arena in
+    let here = subst (λ root. GrowsOnlyWhere old new (LacksRoomToRemove text old root key)) (sym c.in-Some.is) c.remove_entry.ensures.memory in
+    subst (λ seen. GrowsOnlyWhere seen.arena new (LacksRoomToRemove text seen.arena seen.root key)) c.self.view_is here
+
+pub returns-in_default-clause-memory : goal.returns-in_default-clause-memory
+returns-in_default-clause-memory g c = λ kind. inl refl

@@ -1,0 +1,88 @@
+-- What nodes a tree needs more with a leaf more.
+use Rattle.std.proofs.Common.{◌≡◌, ◌⊎◌, ◌∙◌, ℕ, ◌+◌, ◌<◌, ◌^◌, List, [], ◌∷◌, ◌++◌, length, map, Contains, None, Some, refl, sym, ap, subst, inl, inr, arith}
+use Rattle.art_bytes.specs.Text.{IsPrefixOf}
+use Rattle.art_header.specs.NodeType.{kind_for}
+use Rattle.art_header.specs.declared.node_type.NodeType.{NodeType}
+use Rattle.art_header.specs.declared.node_type.NodeType.TheVariants as kinds
+use Rattle.art_nodes.specs.Pointers.{opaque_pointer}
+use Rattle.art_nodes.specs.declared.pointers.OpaqueNodePtr.{OpaqueNodePtr}
+use Rattle.art_arena.specs.Arena.{ArenaOf, Nothing, held, room}
+use Rattle.art_arena.specs.Trees.{Tree, Leaf, Branches, Branch, branch_roots, leaves, branch_leaves, texts}
+use Rattle.art_tree.specs.Art.{IsAlone}
+use Rattle.art_tree.specs.Contexts.{Context, plug, path_to, leaves_before, leaves_after, join}
+use Rattle.art_tree.specs.Dictionary.{HasEntry}
+use Rattle.art_tree.specs.NodeCounts.{one_if_same, nodes_of, branch_nodes_of}
+use Rattle.art_tree.specs.Room.{LacksRoomToInsert}
+use Rattle.art_tree.proofs.InsertLemmas.AddedLeaf.{leaves-filled, leaves-parted}
+use Rattle.art_tree.proofs.InsertLemmas.SubtreeLemmas.{HasPlace, taken-count, taken-sound, with_leaf}
+use Rattle.art_tree.proofs.SharedLemmas.DictionaryLemmas.{AreApart, empty-entry, entry-of-text, text-of-entry}
+use Rattle.art_tree.proofs.SharedLemmas.ExchangedSubtree.{sound-whole, the-one}
+use Rattle.art_tree.proofs.SharedLemmas.NodeCounts.{more-around, nodes-join}
+use Rattle.art_tree.proofs.SharedLemmas.TextLists.{text-new, text-or-new, text-stays}
+
+abbrev texts_of : {H : Type 0} → List (H × List ℕ) → List (List ℕ)
+texts_of all = map (λ leaf. leaf.1) all
+
+-- the nodes of a node with a leaf at a place are its own, the leaf and those of the branches
+pub nodes-taken : {H : Type 0} (kind : NodeType) (pointer : H) (prefix : List ℕ) (before : Branches H) (byte : ℕ) (leaf : H) (x : List ℕ) (after : Branches H)
+    → nodes_of kind (with_leaf pointer prefix before byte leaf x after) ≡ one_if_same kind (kind_for (length (branch_roots (join before after)) + 1)) + (branch_nodes_of kind (join before after) + one_if_same kind kinds.Leaf)
+nodes-taken kind pointer prefix before byte leaf x after =
+    let own = ap (λ n. one_if_same kind (kind_for n)) (taken-count before byte leaf x after) in
+    let with_it = nodes-join kind before (Branch byte (Leaf leaf x) after) in
+    let without = nodes-join kind before after in
+    omega (arith, own, with_it, without)
+
+module _ {K V : Type 0} {P : ℕ} (text : K → List ℕ) (old : ArenaOf K V P) where
+  -- the first text needs a leaf
+  pub first-lacks : ((pointer : OpaqueNodePtr K V P) → held old pointer ≡ Nothing) → (x : List ℕ) → length x < 2 ^ 32 → room old kinds.Leaf ≡ 0 → LacksRoomToInsert text old None x kinds.Leaf
+  first-lacks nothing x short none = record {
+    tree = Leaf (opaque_pointer kinds.Leaf 0) x;
+    sound = ((x, refl), omega (arith, short));
+    texts_are = λ other. (
+      λ inside. inr (sym (the-one x other inside)),
+      λ either. elim either [
+        | inl has ↦ absurd (has (empty-entry text old nothing other))
+        | inr same ↦ (0, omega arith, sym same)
+      ],
+    );
+    needed = omega arith;
+    none = none;
+  }
+
+  -- where a part with the leaf has more nodes of a kind, a tree with the text needs one more of it
+  module _ (root : OpaqueNodePtr K V P) (context : Context (OpaqueNodePtr K V P)) (part : Tree (OpaqueNodePtr K V P)) (prefix : List ℕ) (before : Branches (OpaqueNodePtr K V P)) (byte : ℕ) (after : Branches (OpaqueNodePtr K V P)) (x : List ℕ)
+      (alone : IsAlone text old root (plug context part)) (same_leaves : leaves part ≡ branch_leaves before ++ branch_leaves after) (place : HasPlace (path_to context) prefix before byte after) (leads : IsPrefixOf ((path_to context ++ prefix) ++ byte ∷ []) x) (short : length x < 2 ^ 32)
+      (apart : AreApart (texts (plug context part))) where
+    abbrev now : Tree (OpaqueNodePtr K V P)
+    now = with_leaf root prefix before byte root x after
+
+    abbrev left : List (OpaqueNodePtr K V P × List ℕ)
+    left = leaves_before context ++ branch_leaves before
+
+    abbrev right : List (OpaqueNodePtr K V P × List ℕ)
+    right = branch_leaves after ++ leaves_after context
+
+    old-texts : texts (plug context part) ≡ texts_of (left ++ right)
+    old-texts = ap texts_of (leaves-parted context part before after same_leaves)
+
+    new-texts : texts (plug context now) ≡ texts_of (left ++ (root, x) ∷ right)
+    new-texts = ap texts_of (leaves-filled context prefix root before byte root x after)
+
+    is-text : (other : List ℕ) → Contains (texts (plug context now)) other → HasEntry text old other ⊎ (other ≡ x)
+    is-text other inside = elim (text-or-new left right root x other (subst (λ all. Contains all other) new-texts inside)) [
+      | inl was ↦ inl (entry-of-text text old root (plug context part) alone apart other (subst (λ all. Contains all other) (sym old-texts) was))
+      | inr same ↦ inr same
+    ]
+
+    has-text : (other : List ℕ) → HasEntry text old other ⊎ (other ≡ x) → Contains (texts (plug context now)) other
+    has-text other (inl has) = subst (λ all. Contains all other) (sym new-texts) (text-stays left right root x other (subst (λ all. Contains all other) old-texts (text-of-entry text old root (plug context part) alone other has)))
+    has-text other (inr same) = subst (λ all. Contains all other) (sym new-texts) (text-new left right root x other same)
+
+    pub insert-lacks : (kind : NodeType) → nodes_of kind part < nodes_of kind (with_leaf root prefix before byte root x after) → room old kind ≡ 0 → LacksRoomToInsert text old (Some root) x kind
+    insert-lacks kind more none = record {
+      tree = plug context now;
+      sound = sound-whole context part now alone.is_tree.sound (taken-sound (path_to context) prefix root before byte root x after place leads (omega (arith, short)));
+      texts_are = λ other. (is-text other, has-text other);
+      needed = (plug context part, alone, more-around kind context part now more);
+      none = none;
+    }

@@ -1,0 +1,83 @@
+-- What nodes a tree needs more with a leaf less.
+use Rattle.std.proofs.Common.{◌≡◌, ◌≢◌, ◌∙◌, ℕ, ◌+◌, ◌<◌, ◌≤◌, List, ◌∷◌, ◌++◌, length, map, Contains, Option, Some, refl, sym, ap, subst, inl, inr, arith}
+use Rattle.art_header.specs.NodeType.{kind_for, least_children, shrunk_kind}
+use Rattle.art_header.specs.declared.node_type.NodeType.{NodeType}
+use Rattle.art_header.specs.declared.node_type.NodeType.TheVariants as kinds
+use Rattle.art_nodes.specs.Pointers.{node_kind}
+use Rattle.art_nodes.specs.declared.pointers.OpaqueNodePtr.{OpaqueNodePtr}
+use Rattle.art_arena.specs.Arena.{ArenaOf, room}
+use Rattle.art_arena.specs.Trees.{Tree, Leaf, Inner, branch_roots, leaves, texts}
+use Rattle.art_tree.specs.Contexts.{plug, path_to, join}
+use Rattle.art_tree.specs.Dictionary.{HasEntry}
+use Rattle.art_tree.specs.Dropping.{HangsUnder}
+use Rattle.art_tree.specs.NodeCounts.{one_if_same}
+use Rattle.art_tree.specs.Reserving.{LacksRoomToShrink}
+use Rattle.art_tree.specs.Room.{LacksRoomToRemove}
+use Rattle.art_tree.proofs.InsertLemmas.AddedLeaf.{leaves-filled, leaves-parted}
+use Rattle.art_tree.proofs.InsertLemmas.NeededNodes.{nodes-taken}
+use Rattle.art_tree.proofs.RemoveLemmas.LeafParent.{LeafPlace, left_there, part_there, right_there}
+use Rattle.art_tree.proofs.RemoveLemmas.RemainingTree.{dropped-sound, kind-shrinks, text-gone}
+use Rattle.art_tree.proofs.SharedLemmas.BranchLemmas.{leaves-join}
+use Rattle.art_tree.proofs.SharedLemmas.DictionaryLemmas.{AreApart, entry-of-text, leaf-with, text-of-entry}
+use Rattle.art_tree.proofs.SharedLemmas.ExchangedSubtree.{sound-whole}
+use Rattle.art_tree.proofs.SharedLemmas.NodeCounts.{more-around, one-same, shrunk-no-leaf, shrunk-other}
+use Rattle.art_tree.proofs.SharedLemmas.TextLists.{text-or-new, text-stays}
+
+abbrev texts_of : {H : Type 0} → List (H × List ℕ) → List (List ℕ)
+texts_of all = map (λ leaf. leaf.1) all
+
+module _ {K V : Type 0} {P : ℕ} {text : K → List ℕ} {old : ArenaOf K V P} {root leaf parent : OpaqueNodePtr K V P} {byte : ℕ} {higher : Option (OpaqueNodePtr K V P × ℕ)} {tree : Tree (OpaqueNodePtr K V P)} {hangs : HangsUnder tree leaf parent byte higher} (place : LeafPlace text old root hangs)
+    (apart : AreApart (texts (plug hangs.upper (part_there hangs)))) where
+  abbrev now : Tree (OpaqueNodePtr K V P)
+  now = Inner parent hangs.prefix (join hangs.before hangs.after)
+
+  abbrev left : List (OpaqueNodePtr K V P × List ℕ)
+  left = left_there hangs
+
+  abbrev right : List (OpaqueNodePtr K V P × List ℕ)
+  right = right_there hangs
+
+  old-leaves : leaves (plug hangs.upper (part_there hangs)) ≡ left ++ (leaf, hangs.text) ∷ right
+  old-leaves = leaves-filled hangs.upper hangs.prefix parent hangs.before byte leaf hangs.text hangs.after
+
+  old-texts : texts (plug hangs.upper (part_there hangs)) ≡ texts_of (left ++ (leaf, hangs.text) ∷ right)
+  old-texts = ap texts_of old-leaves
+
+  new-texts : texts (plug hangs.upper now) ≡ texts_of (left ++ right)
+  new-texts = ap texts_of (leaves-parted hangs.upper now hangs.before hangs.after (leaves-join hangs.before hangs.after))
+
+  is-text : (other : List ℕ) → Contains (texts (plug hangs.upper now)) other → HasEntry text old other × (other ≢ hangs.text)
+  is-text other inside =
+      let there = subst (λ all. Contains all other) new-texts inside in (
+        entry-of-text text old root (plug hangs.upper (part_there hangs)) place.alone apart other (subst (λ all. Contains all other) (sym old-texts) (text-stays left right leaf hangs.text other there)),
+        λ same.
+            let found = leaf-with (left ++ right) hangs.text (subst (Contains (texts_of (left ++ right))) same there) in
+            text-gone left right leaf hangs.text (subst AreApart old-texts apart) found.0 found.1,
+      )
+
+  has-text : (other : List ℕ) → HasEntry text old other × (other ≢ hangs.text) → Contains (texts (plug hangs.upper now)) other
+  has-text other (has, differ) = elim (text-or-new left right leaf hangs.text other (subst (λ all. Contains all other) old-texts (text-of-entry text old root (plug hangs.upper (part_there hangs)) place.alone other has))) [
+    | inl there ↦ subst (λ all. Contains all other) (sym new-texts) there
+    | inr same ↦ absurd (differ same)
+  ]
+
+  -- a node of the kind that the parent shrinks to
+  pub removal-lacks : (kind : NodeType) → LacksRoomToShrink old parent kind → LacksRoomToRemove text old (Some root) hangs.text kind
+  removal-lacks kind lacks =
+      let ((many, least), (same, none)) = lacks place.node place.is_held in
+      let count = length (branch_roots (join hangs.before hangs.after)) in
+      let two : 2 ≤ count = omega (arith, many, place.count) in
+      let own : node_kind parent ≡ kind_for (count + 1) = place.smallest_kinds.0 ∙ ap (λ children. kind_for (length children)) (sym place.shows.children) ∙ ap kind_for place.count in
+      let shrunk = shrunk_kind (node_kind parent) in
+      let is : shrunk ≡ kind_for count = kind-shrinks count (node_kind parent) two own (sym place.count ∙ least) in
+      let large : node_kind parent ≢ kinds.Node4 = λ small. omega (arith, many, least, ap least_children small) in
+      let none_before : one_if_same shrunk (kind_for (count + 1)) ≡ 0 = ap (one_if_same shrunk) (sym own) ∙ shrunk-other (node_kind parent) large place.inner in
+      let one_after : one_if_same shrunk (kind_for count) ≡ 1 = ap (one_if_same shrunk) (sym is) ∙ one-same shrunk in
+      let before = nodes-taken shrunk parent hangs.prefix hangs.before byte leaf hangs.text hangs.after in
+      subst (LacksRoomToRemove text old (Some root) hangs.text) (sym same) (record {
+        tree = plug hangs.upper now;
+        sound = sound-whole hangs.upper (part_there hangs) now place.alone.is_tree.sound (dropped-sound hangs.before byte (Leaf leaf hangs.text) hangs.after (path_to hangs.upper) hangs.prefix parent place.sound parent two);
+        texts_are = λ other. (is-text other, has-text other);
+        needed = (plug hangs.upper (part_there hangs), place.alone, more-around shrunk hangs.upper (part_there hangs) now (omega (arith, before, none_before, shrunk-no-leaf (node_kind parent) place.inner, one_after)));
+        none = subst (λ k. room old k ≡ 0) same none;
+      })

@@ -1,0 +1,51 @@
+//! Memory that is reserved first, so that no insert after it is refused for lack of memory.
+ghost use Rattle.std.specs.Prelude.{◌≢◌, ◌≤◌, IfErr, IfOk, OnOk};
+ghost use Rattle.art_arena.specs.Arena.{room};
+ghost use Rattle.art_tree.specs.Dictionary.{SameEntries};
+ghost use Rattle.art_tree.specs.declared.insert.InsertRefusal.TheVariants.{OutOfMemory};
+
+use super::*;
+use art_tree::InsertFault;
+
+/// Reserves memory for one node of each kind.
+fn reserve_one_of_each<K: AsBytes, V, const PREFIX_LEN: usize>(
+    tree: &mut ArtTree<K, V, PREFIX_LEN>,
+) -> Result<(), AllocError>
+    ensures room { OnOk result ((kind : _) → 1 ≤ room tree.new.arena kind) }
+    ensures same_entries { SameEntries K.text tree.old.arena tree.new.arena }
+{
+    tree.reserve(NodeType::Leaf, 1)?;
+    tree.reserve(NodeType::Node4, 1)?;
+    tree.reserve(NodeType::Node16, 1)?;
+    tree.reserve(NodeType::Node48, 1)?;
+    tree.reserve(NodeType::Node256, 1)
+}
+
+/// Adds an entry. Memory is refused before the insert, or not at all.
+fn insert_reserved<K: AsBytes + Drop, V: Drop, const PREFIX_LEN: usize>(
+    tree: &mut ArtTree<K, V, PREFIX_LEN>,
+    key: K,
+    value: V,
+) -> Result<Result<Option<(K, V)>, InsertFault<K, V>>, AllocError>
+    ensures { IfOk result
+        (λ answer. IfErr answer (λ fault. fault.refusal ≢ OutOfMemory)) }
+{
+    reserve_one_of_each(tree)?;
+    Ok(tree.insert(key, value))
+}
+
+fn insert_two(rt: &impl Abort, tree: &mut ArtTree<[u8; 2], u8, 2>) -> Result<(), AllocError> {
+    for key in [[1, 2], [1, 3]] {
+        let answer = insert_reserved(tree, key, key[1])?;
+        assert!(rt; matches!(&answer, Ok(None)));
+    }
+    assert!(rt; tree.get(&[1, 2]) == Some(&2));
+    assert!(rt; tree.get(&[1, 3]) == Some(&3));
+    Ok(())
+}
+
+#[test]
+fn entries_enter_reserved_memory(rt: HostRuntime) -> Result<(), Fail> {
+    insert_two(&rt, &mut ArtTree::new(rt.alloc()))?;
+    Ok(())
+}
