@@ -7,6 +7,7 @@ ghost use Rattle.art_nodes.specs.Pointers.{slab_key};
 ghost use Rattle.art_nodes.specs.Leaf.{leaf_key, leaf_value, previous_key, next_key, with_links, LendsValue, LendsEntry};
 
 use crate::inner_nodes::traits::node::Node;
+use crate::no_bytes::NoBytes;
 use crate::pointers::NodePtr;
 use crate::sealed::Sealed;
 use art_bytes::AsBytes;
@@ -33,6 +34,7 @@ pub struct LeafNode<K, V, const PREFIX_LEN: usize> {
     value: V,
     previous: Option<usize>,
     next: Option<usize>,
+    no_bytes: NoBytes<K, PREFIX_LEN>,
 }
 
 impl<K, V, const PREFIX_LEN: usize> Sealed for LeafNode<K, V, PREFIX_LEN> {}
@@ -62,6 +64,7 @@ impl<K, V, const PREFIX_LEN: usize> LeafNode<K, V, PREFIX_LEN> {
             value,
             previous: None,
             next: None,
+            no_bytes: NoBytes::new(),
         }
     }
 
@@ -126,6 +129,7 @@ impl<K, V, const PREFIX_LEN: usize> LeafNode<K, V, PREFIX_LEN> {
             value,
             previous: _,
             next: _,
+            no_bytes: _,
         } = self;
         (key, value)
     }

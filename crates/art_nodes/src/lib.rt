@@ -19,6 +19,7 @@ mod commands;
 mod inner_nodes;
 mod iteration;
 mod leaf_node;
+mod no_bytes;
 mod pointers;
 mod sealed;
 

@@ -45,6 +45,7 @@ use Rattle.std.proofs.raw_atomic.Walks.{proved, leaves}
 use Rattle.std.specs.contracts.option.Option as option
 use Rattle.art_nodes.specs.Leaf.{with_entry}
 use Rattle.art_nodes.specs.contracts.leaf_node.LeafNode.{the_row, the_type}
+use Rattle.art_nodes.specs.contracts.no_bytes.NoBytes as no_bytes
 use Rattle.art_nodes.specs.contracts.leaf_node.LeafNode.entry_mut.{ended, clauses}
 use Rattle.art_nodes.specs.contracts.leaf_node.LeafNode.entry_mut.Key.{name as #self}
 use Rattle.art_nodes.proofs.leaf_node.LeafNode.TheLaws.{the_loose}
@@ -67,8 +68,11 @@ module _ (K V : RattleType) (N : ℕ) where
   abbrev link : Member
   link = record { row = (option.the_field usize).row; ty = layout (option.the_field usize).row }
 
+  abbrev filler : Member
+  filler = let row = (no_bytes.the_field Key (param 2 (number N))).row in record { row = row; ty = layout row }
+
   abbrev members : List Member
-  members = record { row = Key; ty = layout K } ∷ record { row = Value; ty = layout V } ∷ link ∷ link ∷ []
+  members = record { row = Key; ty = layout K } ∷ record { row = Value; ty = layout V } ∷ link ∷ link ∷ filler ∷ []
 
   abbrev key_place : ℕ
   key_place = up (align (layout K)) 0
@@ -113,12 +117,12 @@ module _ (K V : RattleType) (N : ℕ) where
       abbrev LeafAt : Leaf.Denot → Fml
       LeafAt x = part_at Leaf full_share x b o
 
-      -- the fields side by side, the two links, and the way back to a leaf
+      -- the fields side by side, those behind the value, and the way back to a leaf
       abbrev Parts : Denots (rows_of members) → Fml
       Parts x = parts_at full_share members zero x b o
 
       abbrev Links : Fml
-      Links = parts_at full_share (link ∷ link ∷ []) (value_place + size (layout V)) (form.to leaf).1.1 b o
+      Links = parts_at full_share (link ∷ link ∷ filler ∷ []) (value_place + size (layout V)) (form.to leaf).1.1 b o
 
       abbrev Struct_at : Denots (rows_of members) → Fml
       Struct_at x = part_at (Struct (shape_of form.name members)) full_share x b o
@@ -158,7 +162,7 @@ module _ (K V : RattleType) (N : ℕ) where
             let was = Leaf.coded.code leaf in
             qed 𝓛 (‵ (fobs γ was) ∷ ‵ (fbor κ (Body (mem Leaf) b o γ)) ∷ ‵ (flft κ q) ∷ []) ∵ updating ! $ open_ref ! tt (mem Leaf) {b = b} {o = o} $
             use1 𝓛 (‵ (Parts (form.to leaf)) ⊛ raw Whole) cut $ split ! $ fsplit3 ! $
-            -- [the key; the value; the links; the way back; the open borrow; obs; auth]
+            -- [the key; the value; the other fields; the way back; the open borrow; obs; auth]
             move ! (2 ∷ 3 ∷ []) $ join ! $ move ! (3 ∷ 4 ∷ 5 ∷ 1 ∷ 2 ∷ 0 ∷ []) $ group ! 6 $
             use1 𝓛 (later (some (λ (γs : GName × GName).
             (‵ (fobs γs.0 (Key.coded.code leaf.key)) ⊛ ‵ (fbor κ (Body (mem Key) b (o + key_place) γs.0)))
