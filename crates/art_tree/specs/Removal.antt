@@ -1,11 +1,10 @@
 -- Removal: its refusals and its results.
-use Rattle.std.specs.Prelude.{◌≡◌, ◌⊎◌, ℕ, ◌≤◌, ◌+◌, List, Contains, Some, None, length}
-use Rattle.art_header.specs.declared.node_type.NodeType.{NodeType}
+use Rattle.std.specs.Prelude.{◌≡◌, ◌⊎◌, ℕ, List, Contains, Some, None, length}
 use Rattle.art_nodes.specs.Inner.{Inner}
 use Rattle.art_nodes.specs.Leaf.{leaf_key}
 use Rattle.art_nodes.specs.declared.pointers.OpaqueNodePtr.{OpaqueNodePtr}
 use Rattle.art_nodes.specs.declared.leaf_node.LeafNode.{LeafNode}
-use Rattle.art_arena.specs.Arena.{ArenaOf, HeldInner, HeldLeaf, held, room}
+use Rattle.art_arena.specs.Arena.{ArenaOf, HeldInner, HeldLeaf, held}
 use Rattle.art_tree.specs.Art.{IsArt}
 use Rattle.art_tree.specs.Dictionary.{entry_at, SameOtherEntries}
 use Rattle.art_tree.specs.Leaves.{KeepsOtherLeaves}

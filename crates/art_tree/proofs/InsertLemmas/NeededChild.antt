@@ -43,7 +43,7 @@ module _ {K V : Type 0} {P : ℕ} {text : K → List ℕ} {old : ArenaOf K V P} 
   child-lacks kind (inr grows) =
       let node = node-is child_spot in
       let shows = shown-there child_spot in
-      let (full, (is, none)) = grows node (is-there child_spot) in
+      let (full, is, none) = grows node (is-there child_spot) in
       let grown = grown_kind (node_kind spot.node) in
       let same : length node.children ≡ count = ap length shows.children ∙ ap (λ b. length (branch_roots b)) (sym (gap-there child_spot).same) in
       let own : node_kind spot.node ≡ kind_for count = (smallest_kinds-there child_spot).0 ∙ ap (λ b. kind_for (length (branch_roots b))) (sym (gap-there child_spot).same) in

@@ -1,5 +1,5 @@
 -- What nodes a tree needs more with a leaf less.
-use Rattle.std.proofs.Common.{◌≡◌, ◌≢◌, ◌∙◌, ℕ, ◌+◌, ◌<◌, ◌≤◌, List, ◌∷◌, ◌++◌, length, map, Contains, Option, Some, refl, sym, ap, subst, inl, inr, arith}
+use Rattle.std.proofs.Common.{◌≡◌, ◌≢◌, ◌∙◌, ℕ, ◌+◌, ◌≤◌, List, ◌∷◌, ◌++◌, length, map, Contains, Option, Some, sym, ap, subst, inl, inr, arith}
 use Rattle.art_header.specs.NodeType.{kind_for, least_children, shrunk_kind}
 use Rattle.art_header.specs.declared.node_type.NodeType.{NodeType}
 use Rattle.art_header.specs.declared.node_type.NodeType.TheVariants as kinds
@@ -64,7 +64,7 @@ module _ {K V : Type 0} {P : ℕ} {text : K → List ℕ} {old : ArenaOf K V P} 
   -- a node of the kind that the parent shrinks to
   pub removal-lacks : (kind : NodeType) → LacksRoomToShrink old parent kind → LacksRoomToRemove text old (Some root) hangs.text kind
   removal-lacks kind lacks =
-      let ((many, least), (same, none)) = lacks place.node place.is_held in
+      let ((many, least), same, none) = lacks place.node place.is_held in
       let count = length (branch_roots (join hangs.before hangs.after)) in
       let two : 2 ≤ count = omega (arith, many, place.count) in
       let own : node_kind parent ≡ kind_for (count + 1) = place.smallest_kinds.0 ∙ ap (λ children. kind_for (length children)) (sym place.shows.children) ∙ ap kind_for place.count in

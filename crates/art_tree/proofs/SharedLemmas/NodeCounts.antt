@@ -1,5 +1,5 @@
 -- How many nodes of a kind trees have.
-use Rattle.std.proofs.Common.{◌≡◌, ◌≢◌, ◌∙◌, ℕ, ◌+◌, ◌<◌, length, refl, sym, ap, inl, inr, arith}
+use Rattle.std.proofs.Common.{◌≡◌, ◌≢◌, ℕ, ◌+◌, ◌<◌, length, refl, ap, inl, inr, arith}
 use Rattle.std.proofs.lemmas.Bool.{cases_lt}
 use Rattle.art_header.specs.NodeType.{kind_for, grown_kind, shrunk_kind}
 use Rattle.art_header.specs.declared.node_type.NodeType.{NodeType}
@@ -55,7 +55,7 @@ no-leaf-kind n = elim (cases_lt 4 n) [
 
 module _ {H : Type 0} (kind : NodeType) where
   pub nodes-join : (a b : Branches H) → branch_nodes_of kind (join a b) ≡ branch_nodes_of kind a + branch_nodes_of kind b
-  nodes-join NoBranch b = refl
+  nodes-join NoBranch b = omega arith
   nodes-join (Branch byte tree others) b = let rest = nodes-join others b in omega (arith, rest)
 
   -- where a part has more nodes of the kind than the one before it, so has the whole

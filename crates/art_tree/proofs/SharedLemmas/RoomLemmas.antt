@@ -1,8 +1,8 @@
 -- Allocation failure: some kind has no spare capacity.
-use Rattle.std.proofs.Common.{◌≡◌, ◌⊎◌, ◌∙◌, ℕ, zero, suc, ◌≤◌, Result, Ok, Err, OnErr, IsOk, true, false, refl, sym, ap, subst, inl, inr, arith}
+use Rattle.std.proofs.Common.{◌≡◌, ◌∙◌, ℕ, zero, suc, ◌≤◌, Result, Ok, Err, OnErr, IsOk, true, false, refl, sym, ap, subst, inl, inr, arith}
 use Rattle.std.proofs.lemmas.Bool.{cases_lt}
 use Rattle.art_header.specs.declared.node_type.NodeType.{NodeType}
-use Rattle.art_arena.specs.Arena.{ArenaOf, capacity, room, SameCapacity, SameOtherCapacity, SameRoom}
+use Rattle.art_arena.specs.Arena.{ArenaOf, room, SameCapacity, SameOtherCapacity, SameRoom}
 use Rattle.art_nodes.proofs.KindLaws.{same_or_differ}
 use Rattle.art_tree.specs.Room.{GrowsOnlyWhere}
 

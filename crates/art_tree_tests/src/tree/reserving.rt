@@ -1,5 +1,6 @@
 //! Memory that is reserved first, so that no insert after it is refused for lack of memory.
-ghost use Rattle.std.specs.Prelude.{◌≢◌, ◌≤◌, IfErr, IfOk, OnOk};
+ghost use Rattle.std.specs.Prelude.{◌≡◌, ◌≢◌, ◌≤◌, None, IfErr, IfOk, OnOk};
+ghost use Rattle.art_header.specs.declared.node_type.NodeType.TheVariants.{Leaf};
 ghost use Rattle.art_arena.specs.Arena.{room};
 ghost use Rattle.art_tree.specs.Dictionary.{SameEntries};
 ghost use Rattle.art_tree.specs.declared.insert.InsertRefusal.TheVariants.{OutOfMemory};
@@ -32,6 +33,25 @@ fn insert_reserved<K: AsBytes + Drop, V: Drop, const PREFIX_LEN: usize>(
 {
     reserve_one_of_each(tree)?;
     Ok(tree.insert(key, value))
+}
+
+/// Adds the first entry of a tree that has room for a leaf. A tree of one key has no other node.
+fn insert_first_reserved<K: AsBytes, V, const PREFIX_LEN: usize>(
+    tree: &mut ArtTree<K, V, PREFIX_LEN>,
+    key: K,
+    value: V,
+) -> Result<Option<(K, V)>, InsertFault<K, V>>
+    requires empty { tree.old.root ≡ None }
+    requires room { 1 ≤ room tree.old.arena Leaf }
+    ensures { IfErr result (λ fault. fault.refusal ≢ OutOfMemory) }
+{
+    laws::entries_are_what_leaves_hold::<K, V, PREFIX_LEN>();
+    laws::the_same_texts_have_the_same_nodes::<
+        OpaqueNodePtr<K, V, PREFIX_LEN>,
+        OpaqueNodePtr<K, V, PREFIX_LEN>,
+    >();
+    tree.root();
+    tree.insert(key, value)
 }
 
 fn insert_two(rt: &impl Abort, tree: &mut ArtTree<[u8; 2], u8, 2>) -> Result<(), AllocError> {

@@ -22,9 +22,9 @@ pub returns-clause-no_room : goal.returns-clause-no_room
 returns-clause-no_room g c = on-err-then c.reserve_growth.result ((kind : NodeType) × LacksRoomToGrow c.reserve.new.self c.args.pointer kind) _ (λ (kind, grows). (
   kind,
   inr (λ node is.
-      let (full, (grown, none)) = grows node (c.reserve.ensures.nodes_kept c.args.pointer ∙ is) in
+      let (full, grown, none) = grows node (c.reserve.ensures.nodes_kept c.args.pointer ∙ is) in
       let other : kind ≢ Leaf = λ leaf. grown-inner (node_kind c.args.pointer) c.requires.inner (sym grown ∙ leaf) in
-      (full, (grown, sym (c.reserve.ensures.other_room kind other) ∙ none))),
+      (full, grown, sym (c.reserve.ensures.other_room kind other) ∙ none)),
 )) c.reserve_growth.ensures.no_room
 
 pub returns-in_err-reserve-clause-no_room : goal.returns-in_err-reserve-clause-no_room
@@ -43,7 +43,7 @@ returns-clause-memory g c =
     let new = c.reserve_growth.new.arena in
     let first = grows-then old mid (IsAsked old Leaf) (LacksRoomForChild old c.args.pointer) (λ kind needed. inl needed) (asked-grows old mid Leaf (λ some. same-capacity old mid (c.reserve.ensures.had_room some)) c.reserve.ensures.other_capacity) in
     let second = grows-then mid new (LacksRoomToGrow mid c.args.pointer) (LacksRoomForChild old c.args.pointer) (λ kind grows. inr (λ node is.
-    let (full, (grown, none)) = grows node (c.reserve.ensures.nodes_kept c.args.pointer ∙ is) in
+    let (full, grown, none) = grows node (c.reserve.ensures.nodes_kept c.args.pointer ∙ is) in
     let other : kind ≢ Leaf = λ leaf. grown-inner (node_kind c.args.pointer) c.requires.inner (sym grown ∙ leaf) in
-    (full, (grown, sym (c.reserve.ensures.other_room kind other) ∙ none)))) c.reserve_growth.ensures.memory in
+    (full, grown, sym (c.reserve.ensures.other_room kind other) ∙ none))) c.reserve_growth.ensures.memory in
     grows-twice old mid new _ first second

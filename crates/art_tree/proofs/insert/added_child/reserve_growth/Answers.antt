@@ -39,7 +39,7 @@ returns-clause-no_room g c =
         ]
       ]
     ] in
-    on-err-then c.reserve.result (room c.args.arena.now c.match-node_type.grown ≡ 0) _ (λ none. (c.match-node_type.grown, λ node is. ((c.is_full.ensures.full node is).0 c.if-not-is_full.false, (kind, none)))) (none-on-err c.reserve.result c.args.arena.now c.match-node_type.grown c.reserve.ensures.succeeds)
+    on-err-then c.reserve.result (room c.args.arena.now c.match-node_type.grown ≡ 0) _ (λ none. (c.match-node_type.grown, λ node is. ((c.is_full.ensures.full node is).0 c.if-not-is_full.false, kind, none))) (none-on-err c.reserve.result c.args.arena.now c.match-node_type.grown c.reserve.ensures.succeeds)
 
 pub returns-clause-memory : goal.returns-clause-memory
 returns-clause-memory g c =
@@ -56,7 +56,7 @@ returns-clause-memory g c =
     ] in
     let old = c.args.arena.now in
     let new = c.reserve.new.self in
-    grows-then old new (IsAsked old c.match-node_type.grown) (LacksRoomToGrow old c.args.pointer) (λ other (same, none) node is. ((c.is_full.ensures.full node is).0 c.if-not-is_full.false, (same ∙ kind, none)))
+    grows-then old new (IsAsked old c.match-node_type.grown) (LacksRoomToGrow old c.args.pointer) (λ other (same, none) node is. ((c.is_full.ensures.full node is).0 c.if-not-is_full.false, same ∙ kind, none))
     (asked-grows old new c.match-node_type.grown (λ some. same-capacity old new (c.reserve.ensures.had_room some)) c.reserve.ensures.other_capacity)
 
 pub returns-then-not-is_full-clause-memory : goal.returns-then-not-is_full-clause-memory

@@ -48,7 +48,7 @@ returns-clause-no_room g c =
       c.match-node_type.shrunk,
       λ node is.
           let fewest = (c.has_fewest.ensures node is).0 c.if-not-has_fewest.false in
-          ((omega (arith, many, fewest), fewest), (kind, none)),
+          ((omega (arith, many, fewest), fewest), kind, none),
     )) (none-on-err c.reserve.result c.args.arena.now c.match-node_type.shrunk c.reserve.ensures.succeeds)
 
 pub returns-clause-memory : goal.returns-clause-memory
@@ -67,7 +67,7 @@ returns-clause-memory g c =
     let new = c.reserve.new.self in
     grows-then old new (IsAsked old c.match-node_type.shrunk) (LacksRoomToShrink old c.args.pointer) (λ other (same, none) node is.
     let fewest = (c.has_fewest.ensures node is).0 c.if-not-has_fewest.false in
-    ((omega (arith, many, fewest), fewest), (same ∙ kind, none)))
+    ((omega (arith, many, fewest), fewest), same ∙ kind, none))
     (asked-grows old new c.match-node_type.shrunk (λ some. same-capacity old new (c.reserve.ensures.had_room some)) c.reserve.ensures.other_capacity)
 
 pub returns-in-Node4-clause-memory : goal.returns-in-Node4-clause-memory

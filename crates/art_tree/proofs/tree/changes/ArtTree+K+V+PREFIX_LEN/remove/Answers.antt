@@ -83,8 +83,8 @@ pub returns-in_err-root-clause-no_room : goal.returns-in_err-root-clause-no_room
 returns-in_err-root-clause-no_room g c =
     let text = g.K.AsBytes.text in
     let key = c.args.key.now in
-    let here = subst (λ root. (kind : NodeType) × LacksRoomToRemove text c.self.inside.arena root key) (sym c.in-Some.is) c.in_err-root.ensures.no_room in
-    always-err c.from_residual.result _ (subst (λ seen. (kind : NodeType) × LacksRoomToRemove text seen.arena seen.root key) c.self.view_is here)
+    let here = subst (λ root. (kind : NodeType) × LacksRoomToRemove text c.self.inside.arena root key kind) (sym c.in-Some.is) c.in_err-root.ensures.no_room in
+    always-err c.from_residual.result _ (subst (λ seen. (kind : NodeType) × LacksRoomToRemove text seen.arena seen.root key kind) c.self.view_is here)
 
 pub returns-clause-memory : goal.returns-clause-memory
 returns-clause-memory g c =
@@ -115,3 +115,6 @@ returns-in_default-2-clause-memory g c =
 
 pub returns-in_default-clause-memory : goal.returns-in_default-clause-memory
 returns-in_default-clause-memory g c = λ kind. inl refl
+
+pub returns-in_err-root-clause-same_entries : goal.returns-in_err-root-clause-same_entries
+returns-in_err-root-clause-same_entries g c = always-err c.from_residual.result _ (λ x. c.in_err-root.ensures.same_entries x ∙ ap (λ seen. entry_at g.K.AsBytes.text seen.arena x) c.self.view_is)
