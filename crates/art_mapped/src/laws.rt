@@ -3,10 +3,6 @@
 //! `BytesMapping::is_value` returns whether some value has the bytes. These laws state for which
 //! bytes there is one, so that `from_bytes` can be called where `is_value` was not.
 ghost use Rattle.std.specs.Prelude.{◌≡◌, ◌≢◌, ◌↔◌, ℕ, List, ◌++◌, ◌+◌, ◌*◌, ◌/◌, ◌%◌, ◌<◌, ◌∷◌, length, take, drop, replicate, Vec};
-ghost use Rattle.std.specs.Int.NonZero.{non_zero_u8_get, non_zero_u16_get, non_zero_u32_get};
-ghost use Rattle.std.specs.Int.NonZero.{non_zero_u64_get, non_zero_u128_get, non_zero_usize_get};
-ghost use Rattle.std.specs.Int.NonZero.{non_zero_i8_get, non_zero_i16_get, non_zero_i32_get};
-ghost use Rattle.std.specs.Int.NonZero.{non_zero_i64_get, non_zero_i128_get, non_zero_isize_get};
 ghost use Rattle.std.specs.Net.Addr.{ipv4_octets, ipv6_octets};
 ghost use Rattle.std.specs.Vec.{vec_items};
 ghost use Rattle.std.specs.declared.alloc.Global.{Global};
@@ -20,7 +16,13 @@ use crate::element::Element;
 use crate::fixed::FixedBytes;
 use crate::mapping::BytesMapping;
 use crate::sequence::IntegerForm;
+use crate::signed::Signed;
 use crate::tuple::ConcatTuple;
+use crate::unsigned::Unsigned;
+use std::num::{
+    NonZeroI8, NonZeroI16, NonZeroI32, NonZeroI64, NonZeroI128, NonZeroIsize, NonZeroU8,
+    NonZeroU16, NonZeroU32, NonZeroU64, NonZeroU128, NonZeroUsize,
+};
 
 /// Any bytes of an integer's width, or of an address's, are those of a value.
 pub fn any_bytes_are_a_value()
@@ -45,47 +47,47 @@ pub fn parts_have_their_widths()
 
 /// Bytes are those of a `NonZero` type of unsigned integers exactly where they are not all zero.
 pub fn bytes_of_non_zero_unsigned_integers()
-    ensures u8 { (bytes : List ℕ) → HasWidth 1 bytes →
-        IsTextOfSome (λ n. IsUnsigned 1 (non_zero_u8_get n)) (λ n. digits 1 (non_zero_u8_get n)) bytes
-        ↔ (bytes ≢ replicate 1 0) }
-    ensures u16 { (bytes : List ℕ) → HasWidth 2 bytes →
-        IsTextOfSome (λ n. IsUnsigned 2 (non_zero_u16_get n)) (λ n. digits 2 (non_zero_u16_get n))
-        bytes ↔ (bytes ≢ replicate 2 0) }
-    ensures u32 { (bytes : List ℕ) → HasWidth 4 bytes →
-        IsTextOfSome (λ n. IsUnsigned 4 (non_zero_u32_get n)) (λ n. digits 4 (non_zero_u32_get n))
-        bytes ↔ (bytes ≢ replicate 4 0) }
-    ensures u64 { (bytes : List ℕ) → HasWidth 8 bytes →
-        IsTextOfSome (λ n. IsUnsigned 8 (non_zero_u64_get n)) (λ n. digits 8 (non_zero_u64_get n))
-        bytes ↔ (bytes ≢ replicate 8 0) }
-    ensures u128 { (bytes : List ℕ) → HasWidth 16 bytes →
-        IsTextOfSome (λ n. IsUnsigned 16 (non_zero_u128_get n))
-        (λ n. digits 16 (non_zero_u128_get n)) bytes ↔ (bytes ≢ replicate 16 0) }
-    ensures usize { (bytes : List ℕ) → HasWidth 8 bytes →
-        IsTextOfSome (λ n. IsUnsigned 8 (non_zero_usize_get n))
-        (λ n. digits 8 (non_zero_usize_get n)) bytes ↔ (bytes ≢ replicate 8 0) }
+    ensures u8 { (bytes : List ℕ) → HasWidth 1 bytes → IsTextOfSome
+        ⟦<NonZeroU8 as Element<Unsigned>>⟧.is_in_range
+        ⟦<NonZeroU8 as Element<Unsigned>>⟧.text_of bytes ↔ (bytes ≢ replicate 1 0) }
+    ensures u16 { (bytes : List ℕ) → HasWidth 2 bytes → IsTextOfSome
+        ⟦<NonZeroU16 as Element<Unsigned>>⟧.is_in_range
+        ⟦<NonZeroU16 as Element<Unsigned>>⟧.text_of bytes ↔ (bytes ≢ replicate 2 0) }
+    ensures u32 { (bytes : List ℕ) → HasWidth 4 bytes → IsTextOfSome
+        ⟦<NonZeroU32 as Element<Unsigned>>⟧.is_in_range
+        ⟦<NonZeroU32 as Element<Unsigned>>⟧.text_of bytes ↔ (bytes ≢ replicate 4 0) }
+    ensures u64 { (bytes : List ℕ) → HasWidth 8 bytes → IsTextOfSome
+        ⟦<NonZeroU64 as Element<Unsigned>>⟧.is_in_range
+        ⟦<NonZeroU64 as Element<Unsigned>>⟧.text_of bytes ↔ (bytes ≢ replicate 8 0) }
+    ensures u128 { (bytes : List ℕ) → HasWidth 16 bytes → IsTextOfSome
+        ⟦<NonZeroU128 as Element<Unsigned>>⟧.is_in_range
+        ⟦<NonZeroU128 as Element<Unsigned>>⟧.text_of bytes ↔ (bytes ≢ replicate 16 0) }
+    ensures usize { (bytes : List ℕ) → HasWidth 8 bytes → IsTextOfSome
+        ⟦<NonZeroUsize as Element<Unsigned>>⟧.is_in_range
+        ⟦<NonZeroUsize as Element<Unsigned>>⟧.text_of bytes ↔ (bytes ≢ replicate 8 0) }
 {}
 
 /// Bytes are those of a `NonZero` type of signed integers exactly where they are not 128 followed
 /// by zeros.
 pub fn bytes_of_non_zero_signed_integers()
-    ensures i8 { (bytes : List ℕ) → HasWidth 1 bytes →
-        IsTextOfSome (λ n. IsSigned 1 (non_zero_i8_get n)) (λ n. signed_text 1 (non_zero_i8_get n))
-        bytes ↔ (bytes ≢ 128 ∷ replicate 0 0) }
-    ensures i16 { (bytes : List ℕ) → HasWidth 2 bytes →
-        IsTextOfSome (λ n. IsSigned 2 (non_zero_i16_get n))
-        (λ n. signed_text 2 (non_zero_i16_get n)) bytes ↔ (bytes ≢ 128 ∷ replicate 1 0) }
-    ensures i32 { (bytes : List ℕ) → HasWidth 4 bytes →
-        IsTextOfSome (λ n. IsSigned 4 (non_zero_i32_get n))
-        (λ n. signed_text 4 (non_zero_i32_get n)) bytes ↔ (bytes ≢ 128 ∷ replicate 3 0) }
-    ensures i64 { (bytes : List ℕ) → HasWidth 8 bytes →
-        IsTextOfSome (λ n. IsSigned 8 (non_zero_i64_get n))
-        (λ n. signed_text 8 (non_zero_i64_get n)) bytes ↔ (bytes ≢ 128 ∷ replicate 7 0) }
-    ensures i128 { (bytes : List ℕ) → HasWidth 16 bytes →
-        IsTextOfSome (λ n. IsSigned 16 (non_zero_i128_get n))
-        (λ n. signed_text 16 (non_zero_i128_get n)) bytes ↔ (bytes ≢ 128 ∷ replicate 15 0) }
-    ensures isize { (bytes : List ℕ) → HasWidth 8 bytes →
-        IsTextOfSome (λ n. IsSigned 8 (non_zero_isize_get n))
-        (λ n. signed_text 8 (non_zero_isize_get n)) bytes ↔ (bytes ≢ 128 ∷ replicate 7 0) }
+    ensures i8 { (bytes : List ℕ) → HasWidth 1 bytes → IsTextOfSome
+        ⟦<NonZeroI8 as Element<Signed>>⟧.is_in_range
+        ⟦<NonZeroI8 as Element<Signed>>⟧.text_of bytes ↔ (bytes ≢ 128 ∷ replicate 0 0) }
+    ensures i16 { (bytes : List ℕ) → HasWidth 2 bytes → IsTextOfSome
+        ⟦<NonZeroI16 as Element<Signed>>⟧.is_in_range
+        ⟦<NonZeroI16 as Element<Signed>>⟧.text_of bytes ↔ (bytes ≢ 128 ∷ replicate 1 0) }
+    ensures i32 { (bytes : List ℕ) → HasWidth 4 bytes → IsTextOfSome
+        ⟦<NonZeroI32 as Element<Signed>>⟧.is_in_range
+        ⟦<NonZeroI32 as Element<Signed>>⟧.text_of bytes ↔ (bytes ≢ 128 ∷ replicate 3 0) }
+    ensures i64 { (bytes : List ℕ) → HasWidth 8 bytes → IsTextOfSome
+        ⟦<NonZeroI64 as Element<Signed>>⟧.is_in_range
+        ⟦<NonZeroI64 as Element<Signed>>⟧.text_of bytes ↔ (bytes ≢ 128 ∷ replicate 7 0) }
+    ensures i128 { (bytes : List ℕ) → HasWidth 16 bytes → IsTextOfSome
+        ⟦<NonZeroI128 as Element<Signed>>⟧.is_in_range
+        ⟦<NonZeroI128 as Element<Signed>>⟧.text_of bytes ↔ (bytes ≢ 128 ∷ replicate 15 0) }
+    ensures isize { (bytes : List ℕ) → HasWidth 8 bytes → IsTextOfSome
+        ⟦<NonZeroIsize as Element<Signed>>⟧.is_in_range
+        ⟦<NonZeroIsize as Element<Signed>>⟧.text_of bytes ↔ (bytes ≢ 128 ∷ replicate 7 0) }
 {}
 
 /// Bytes are those of an array of `N` elements exactly where there are `N` times as many as an
@@ -111,13 +113,15 @@ where
     M0: BytesMapping<A, Bytes = K0>,
     M1: BytesMapping<B, Bytes = K1>,
     ensures length { (bytes : Vec ℕ Global) →
-        StandsForSome ⟦<ConcatTuple<(M0, M1)> as BytesMapping<(A, B)>>⟧.is_in_domain
+        StandsForSome
+        ⟦<ConcatTuple<(M0, M1)> as BytesMapping<(A, B)>>⟧.is_in_domain
         ⟦<ConcatTuple<(M0, M1)> as BytesMapping<(A, B)>>⟧.stands_for bytes →
         length (vec_items bytes) ≡ K0.WIDTH + K1.WIDTH }
     ensures parts { (bytes : Vec ℕ Global) (first : K0) (second : K1) →
         K0.is_key first → K1.is_key second →
         vec_items bytes ≡ K0.text first ++ K1.text second →
-        StandsForSome ⟦<ConcatTuple<(M0, M1)> as BytesMapping<(A, B)>>⟧.is_in_domain
+        StandsForSome
+        ⟦<ConcatTuple<(M0, M1)> as BytesMapping<(A, B)>>⟧.is_in_domain
         ⟦<ConcatTuple<(M0, M1)> as BytesMapping<(A, B)>>⟧.stands_for bytes ↔
         (StandsForSome M0.is_in_domain M0.stands_for first
         × StandsForSome M1.is_in_domain M1.stands_for second) }
@@ -140,13 +144,15 @@ where
     M1: BytesMapping<B, Bytes = K1>,
     M2: BytesMapping<C, Bytes = K2>,
     ensures length { (bytes : Vec ℕ Global) →
-        StandsForSome ⟦<ConcatTuple<(M0, M1, M2)> as BytesMapping<(A, B, C)>>⟧.is_in_domain
+        StandsForSome
+        ⟦<ConcatTuple<(M0, M1, M2)> as BytesMapping<(A, B, C)>>⟧.is_in_domain
         ⟦<ConcatTuple<(M0, M1, M2)> as BytesMapping<(A, B, C)>>⟧.stands_for bytes →
         length (vec_items bytes) ≡ (K0.WIDTH + K1.WIDTH) + K2.WIDTH }
     ensures parts { (bytes : Vec ℕ Global) (first : K0) (second : K1) (third : K2) →
         K0.is_key first → K1.is_key second → K2.is_key third →
         vec_items bytes ≡ (K0.text first ++ K1.text second) ++ K2.text third →
-        StandsForSome ⟦<ConcatTuple<(M0, M1, M2)> as BytesMapping<(A, B, C)>>⟧.is_in_domain
+        StandsForSome
+        ⟦<ConcatTuple<(M0, M1, M2)> as BytesMapping<(A, B, C)>>⟧.is_in_domain
         ⟦<ConcatTuple<(M0, M1, M2)> as BytesMapping<(A, B, C)>>⟧.stands_for bytes ↔
         (StandsForSome M0.is_in_domain M0.stands_for first
         × StandsForSome M1.is_in_domain M1.stands_for second
@@ -174,7 +180,8 @@ where
     M2: BytesMapping<C, Bytes = K2>,
     M3: BytesMapping<D, Bytes = K3>,
     ensures length { (bytes : Vec ℕ Global) →
-        StandsForSome ⟦<ConcatTuple<(M0, M1, M2, M3)> as BytesMapping<(A, B, C, D)>>⟧.is_in_domain
+        StandsForSome
+        ⟦<ConcatTuple<(M0, M1, M2, M3)> as BytesMapping<(A, B, C, D)>>⟧.is_in_domain
         ⟦<ConcatTuple<(M0, M1, M2, M3)> as BytesMapping<(A, B, C, D)>>⟧.stands_for bytes →
         length (vec_items bytes) ≡ ((K0.WIDTH + K1.WIDTH) + K2.WIDTH) + K3.WIDTH }
     ensures parts { (bytes : Vec ℕ Global) (first : K0) (second : K1) (third : K2) (fourth : K3) →
@@ -182,7 +189,8 @@ where
         K3.is_key fourth →
         vec_items bytes ≡ ((K0.text first ++ K1.text second) ++ K2.text third)
         ++ K3.text fourth →
-        StandsForSome ⟦<ConcatTuple<(M0, M1, M2, M3)> as BytesMapping<(A, B, C, D)>>⟧.is_in_domain
+        StandsForSome
+        ⟦<ConcatTuple<(M0, M1, M2, M3)> as BytesMapping<(A, B, C, D)>>⟧.is_in_domain
         ⟦<ConcatTuple<(M0, M1, M2, M3)> as BytesMapping<(A, B, C, D)>>⟧.stands_for bytes ↔
         (StandsForSome M0.is_in_domain M0.stands_for first
         × StandsForSome M1.is_in_domain M1.stands_for second
@@ -215,15 +223,18 @@ where
     M3: BytesMapping<D, Bytes = K3>,
     M4: BytesMapping<E, Bytes = K4>,
     ensures length { (bytes : Vec ℕ Global) →
-        StandsForSome ⟦<ConcatTuple<(M0, M1, M2, M3, M4)> as BytesMapping<(A, B, C, D, E)>>⟧.is_in_domain
+        StandsForSome
+        ⟦<ConcatTuple<(M0, M1, M2, M3, M4)> as BytesMapping<(A, B, C, D, E)>>⟧.is_in_domain
         ⟦<ConcatTuple<(M0, M1, M2, M3, M4)> as BytesMapping<(A, B, C, D, E)>>⟧.stands_for bytes →
         length (vec_items bytes) ≡ (((K0.WIDTH + K1.WIDTH) + K2.WIDTH) + K3.WIDTH) + K4.WIDTH }
-    ensures parts { (bytes : Vec ℕ Global) (first : K0) (second : K1) (third : K2) (fourth : K3) (fifth : K4) →
+    ensures parts { (bytes : Vec ℕ Global) (first : K0) (second : K1) (third : K2)
+        (fourth : K3) (fifth : K4) →
         K0.is_key first → K1.is_key second → K2.is_key third →
         K3.is_key fourth → K4.is_key fifth →
         vec_items bytes ≡ (((K0.text first ++ K1.text second) ++ K2.text third)
         ++ K3.text fourth) ++ K4.text fifth →
-        StandsForSome ⟦<ConcatTuple<(M0, M1, M2, M3, M4)> as BytesMapping<(A, B, C, D, E)>>⟧.is_in_domain
+        StandsForSome
+        ⟦<ConcatTuple<(M0, M1, M2, M3, M4)> as BytesMapping<(A, B, C, D, E)>>⟧.is_in_domain
         ⟦<ConcatTuple<(M0, M1, M2, M3, M4)> as BytesMapping<(A, B, C, D, E)>>⟧.stands_for bytes ↔
         (StandsForSome M0.is_in_domain M0.stands_for first
         × StandsForSome M1.is_in_domain M1.stands_for second
@@ -261,16 +272,22 @@ where
     M4: BytesMapping<E, Bytes = K4>,
     M5: BytesMapping<F, Bytes = K5>,
     ensures length { (bytes : Vec ℕ Global) →
-        StandsForSome ⟦<ConcatTuple<(M0, M1, M2, M3, M4, M5)> as BytesMapping<(A, B, C, D, E, F)>>⟧.is_in_domain
-        ⟦<ConcatTuple<(M0, M1, M2, M3, M4, M5)> as BytesMapping<(A, B, C, D, E, F)>>⟧.stands_for bytes →
-        length (vec_items bytes) ≡ ((((K0.WIDTH + K1.WIDTH) + K2.WIDTH) + K3.WIDTH) + K4.WIDTH) + K5.WIDTH }
-    ensures parts { (bytes : Vec ℕ Global) (first : K0) (second : K1) (third : K2) (fourth : K3) (fifth : K4) (sixth : K5) →
+        StandsForSome
+        ⟦<ConcatTuple<(M0, M1, M2, M3, M4, M5)> as BytesMapping<(A, B, C, D, E, F)>>⟧.is_in_domain
+        ⟦<ConcatTuple<(M0, M1, M2, M3, M4, M5)> as BytesMapping<(A, B, C, D, E, F)>>⟧.stands_for
+        bytes →
+        length (vec_items bytes) ≡
+        ((((K0.WIDTH + K1.WIDTH) + K2.WIDTH) + K3.WIDTH) + K4.WIDTH) + K5.WIDTH }
+    ensures parts { (bytes : Vec ℕ Global) (first : K0) (second : K1) (third : K2)
+        (fourth : K3) (fifth : K4) (sixth : K5) →
         K0.is_key first → K1.is_key second → K2.is_key third →
         K3.is_key fourth → K4.is_key fifth → K5.is_key sixth →
         vec_items bytes ≡ ((((K0.text first ++ K1.text second) ++ K2.text third)
         ++ K3.text fourth) ++ K4.text fifth) ++ K5.text sixth →
-        StandsForSome ⟦<ConcatTuple<(M0, M1, M2, M3, M4, M5)> as BytesMapping<(A, B, C, D, E, F)>>⟧.is_in_domain
-        ⟦<ConcatTuple<(M0, M1, M2, M3, M4, M5)> as BytesMapping<(A, B, C, D, E, F)>>⟧.stands_for bytes ↔
+        StandsForSome
+        ⟦<ConcatTuple<(M0, M1, M2, M3, M4, M5)> as BytesMapping<(A, B, C, D, E, F)>>⟧.is_in_domain
+        ⟦<ConcatTuple<(M0, M1, M2, M3, M4, M5)> as BytesMapping<(A, B, C, D, E, F)>>⟧.stands_for
+        bytes ↔
         (StandsForSome M0.is_in_domain M0.stands_for first
         × StandsForSome M1.is_in_domain M1.stands_for second
         × StandsForSome M2.is_in_domain M2.stands_for third

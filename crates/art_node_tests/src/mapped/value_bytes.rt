@@ -1,6 +1,7 @@
 //! Which bytes are a value's: facts that a caller gets from the laws of `art_mapped`.
 ghost use Rattle.std.specs.Prelude.{◌≡◌, ◌≢◌, ◌↔◌, ◌%◌, ◌<◌, ◌∷◌, [], ℕ, IsTrue, IsOk, IfOk, length, replicate, take, drop};
 ghost use Rattle.std.specs.Net.Addr.{ipv4_octets};
+ghost use Rattle.art_bytes.specs.Text.{IsText};
 ghost use Rattle.art_mapped.specs.Sequences.{part};
 
 use super::*;
@@ -97,6 +98,99 @@ fn is_host(bytes: &Vec<u8>) -> bool
     <ConcatTuple<(ToOctets, ToUBE)> as BytesMapping<(Ipv4Addr, NonZeroU16)>>::is_value(bytes)
 }
 
+// Any bytes that are one for each part are those of a tuple of three to six such numbers.
+fn are_three_bytes(bytes: &Vec<u8>) -> bool
+    ensures length { IsTrue result → length bytes.now.items ≡ 3 }
+    ensures all { (a b c : ℕ) → IsText (a ∷ b ∷ c ∷ []) →
+        bytes.now.items ≡ a ∷ b ∷ c ∷ [] → IsTrue result }
+{
+    laws::any_bytes_are_a_value();
+    laws::bytes_of_tuples_of_three::<u8, u8, u8, [u8; 1], [u8; 1], [u8; 1], ToUBE, ToUBE, ToUBE>();
+    <ConcatTuple<(ToUBE, ToUBE, ToUBE)> as BytesMapping<(u8, u8, u8)>>::is_value(bytes)
+}
+
+fn are_four_bytes(bytes: &Vec<u8>) -> bool
+    ensures length { IsTrue result → length bytes.now.items ≡ 4 }
+    ensures all { (a b c d : ℕ) → IsText (a ∷ b ∷ c ∷ d ∷ []) →
+        bytes.now.items ≡ a ∷ b ∷ c ∷ d ∷ [] → IsTrue result }
+{
+    laws::any_bytes_are_a_value();
+    laws::bytes_of_tuples_of_four::<
+        u8,
+        u8,
+        u8,
+        u8,
+        [u8; 1],
+        [u8; 1],
+        [u8; 1],
+        [u8; 1],
+        ToUBE,
+        ToUBE,
+        ToUBE,
+        ToUBE,
+    >();
+    <ConcatTuple<(ToUBE, ToUBE, ToUBE, ToUBE)> as BytesMapping<(u8, u8, u8, u8)>>::is_value(bytes)
+}
+
+fn are_five_bytes(bytes: &Vec<u8>) -> bool
+    ensures length { IsTrue result → length bytes.now.items ≡ 5 }
+    ensures all { (a b c d e : ℕ) → IsText (a ∷ b ∷ c ∷ d ∷ e ∷ []) →
+        bytes.now.items ≡ a ∷ b ∷ c ∷ d ∷ e ∷ [] → IsTrue result }
+{
+    laws::any_bytes_are_a_value();
+    laws::bytes_of_tuples_of_five::<
+        u8,
+        u8,
+        u8,
+        u8,
+        u8,
+        [u8; 1],
+        [u8; 1],
+        [u8; 1],
+        [u8; 1],
+        [u8; 1],
+        ToUBE,
+        ToUBE,
+        ToUBE,
+        ToUBE,
+        ToUBE,
+    >();
+    <ConcatTuple<(ToUBE, ToUBE, ToUBE, ToUBE, ToUBE)> as BytesMapping<
+        (u8, u8, u8, u8, u8),
+    >>::is_value(bytes)
+}
+
+fn are_six_bytes(bytes: &Vec<u8>) -> bool
+    ensures length { IsTrue result → length bytes.now.items ≡ 6 }
+    ensures all { (a b c d e f : ℕ) → IsText (a ∷ b ∷ c ∷ d ∷ e ∷ f ∷ []) →
+        bytes.now.items ≡ a ∷ b ∷ c ∷ d ∷ e ∷ f ∷ [] → IsTrue result }
+{
+    laws::any_bytes_are_a_value();
+    laws::bytes_of_tuples_of_six::<
+        u8,
+        u8,
+        u8,
+        u8,
+        u8,
+        u8,
+        [u8; 1],
+        [u8; 1],
+        [u8; 1],
+        [u8; 1],
+        [u8; 1],
+        [u8; 1],
+        ToUBE,
+        ToUBE,
+        ToUBE,
+        ToUBE,
+        ToUBE,
+        ToUBE,
+    >();
+    <ConcatTuple<(ToUBE, ToUBE, ToUBE, ToUBE, ToUBE, ToUBE)> as BytesMapping<
+        (u8, u8, u8, u8, u8, u8),
+    >>::is_value(bytes)
+}
+
 #[test]
 fn any_bytes_of_their_width_are_values(rt: HostRuntime) -> Result<(), Fail> {
     assert!(rt; address_of(rt.alloc(), [127, 0, 0, 1])? == Ipv4Addr::LOCALHOST);
@@ -122,5 +216,17 @@ fn sequences_and_tuples_are_values_by_their_parts(rt: HostRuntime) -> Result<(),
     assert!(rt; are_ports(&six) && !are_ports(&five));
     assert!(rt; !are_two_counts(&six) && are_two_counts(&vec![in alloc; 7; 4]?));
     assert!(rt; !is_host(&six) && is_host(&vec![in alloc; 7; 6]?));
+    Ok(())
+}
+
+#[test]
+fn bytes_are_tuples_by_their_number(rt: HostRuntime) -> Result<(), Fail> {
+    let alloc = rt.alloc();
+    let (three, four) = (vec![in alloc; 7; 3]?, vec![in alloc; 0; 4]?);
+    let (five, six) = (vec![in alloc; 255; 5]?, vec![in alloc; 1; 6]?);
+    assert!(rt; are_three_bytes(&three) && !are_three_bytes(&four));
+    assert!(rt; are_four_bytes(&four) && !are_four_bytes(&five));
+    assert!(rt; are_five_bytes(&five) && !are_five_bytes(&six));
+    assert!(rt; are_six_bytes(&six) && !are_six_bytes(&three));
     Ok(())
 }

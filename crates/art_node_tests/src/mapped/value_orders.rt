@@ -133,3 +133,99 @@ fn by_address_then_port_then_cost(
     orders::tuples_of_three_compare_by_parts::<Ipv4Addr, u16, i32>();
     a.cmp(b)
 }
+
+// Tuples of four to six parts too, under any ordered mapping.
+fn by_first_of_four<M, A: Ord, B: Ord, C: Ord, D: Ord>(
+    a: &Mapped<M, (A, B, C, D)>,
+    b: &Mapped<M, (A, B, C, D)>,
+) -> Ordering
+where
+    M: OrderedMapping<(A, B, C, D)>,
+    ensures { (x y : A × B × C × D) → HoldsValue a.now x → HoldsValue b.now y →
+        ByFirstPart result (A.cmp x.0 y.0 ∷ B.cmp x.1 y.1 ∷ C.cmp x.2 y.2 ∷ D.cmp x.3 y.3 ∷ []) }
+{
+    orders::tuples_of_four_compare_by_parts::<A, B, C, D>();
+    a.cmp(b)
+}
+
+fn by_first_of_five<M, A: Ord, B: Ord, C: Ord, D: Ord, E: Ord>(
+    a: &Mapped<M, (A, B, C, D, E)>,
+    b: &Mapped<M, (A, B, C, D, E)>,
+) -> Ordering
+where
+    M: OrderedMapping<(A, B, C, D, E)>,
+    ensures { (x y : A × B × C × D × E) → HoldsValue a.now x → HoldsValue b.now y →
+        ByFirstPart result (A.cmp x.0 y.0 ∷ B.cmp x.1 y.1 ∷ C.cmp x.2 y.2 ∷ D.cmp x.3 y.3
+        ∷ E.cmp x.4 y.4 ∷ []) }
+{
+    orders::tuples_of_five_compare_by_parts::<A, B, C, D, E>();
+    a.cmp(b)
+}
+
+fn by_first_of_six<M, A: Ord, B: Ord, C: Ord, D: Ord, E: Ord, F: Ord>(
+    a: &Mapped<M, (A, B, C, D, E, F)>,
+    b: &Mapped<M, (A, B, C, D, E, F)>,
+) -> Ordering
+where
+    M: OrderedMapping<(A, B, C, D, E, F)>,
+    ensures { (x y : A × B × C × D × E × F) → HoldsValue a.now x → HoldsValue b.now y →
+        ByFirstPart result (A.cmp x.0 y.0 ∷ B.cmp x.1 y.1 ∷ C.cmp x.2 y.2 ∷ D.cmp x.3 y.3
+        ∷ E.cmp x.4 y.4 ∷ F.cmp x.5 y.5 ∷ []) }
+{
+    orders::tuples_of_six_compare_by_parts::<A, B, C, D, E, F>();
+    a.cmp(b)
+}
+
+#[test]
+fn numbers_and_addresses_compare(rt: HostRuntime) -> Result<(), Fail> {
+    let alloc = rt.alloc();
+    let less = Ordering::Less;
+    assert!(rt; by_size(&Mapped::new(alloc, 255)?, &Mapped::new(alloc, 256)?) == less);
+    assert!(rt; by_signed_size(&Mapped::new(alloc, -1)?, &Mapped::new(alloc, 0)?) == less);
+    let (low, high) = (NonZeroU64::MIN, NonZeroU64::MAX);
+    assert!(rt; by_count(&Mapped::new(alloc, low)?, &Mapped::new(alloc, high)?) == less);
+    let (low, high) = (NonZeroI8::MIN, NonZeroI8::MAX);
+    assert!(rt; by_signed_count(&Mapped::new(alloc, low)?, &Mapped::new(alloc, high)?) == less);
+    let (low, high) = (Ipv4Addr::LOCALHOST, Ipv4Addr::BROADCAST);
+    assert!(rt; by_ipv4_octet(&Mapped::new(alloc, low)?, &Mapped::new(alloc, high)?) == less);
+    let (low, high) = (Ipv6Addr::UNSPECIFIED, Ipv6Addr::LOCALHOST);
+    assert!(rt; by_ipv6_octet(&Mapped::new(alloc, low)?, &Mapped::new(alloc, high)?) == less);
+    Ok(())
+}
+
+#[test]
+fn sequences_compare(rt: HostRuntime) -> Result<(), Fail> {
+    let alloc = rt.alloc();
+    let (less, more) = (
+        Mapped::new(alloc, [1u16, 2, 9])?,
+        Mapped::new(alloc, [1, 3, 0])?,
+    );
+    assert!(rt; by_first_element::<Unsigned, u16, 3>(&less, &more) == Ordering::Less);
+    assert!(rt; by_first_port(&more, &less) == Ordering::Greater);
+    let less = Mapped::new(alloc, vec![in alloc; -1i16]?)?;
+    let more = Mapped::new(alloc, vec![in alloc; -1, -2]?)?;
+    assert!(rt; by_first_element_or_end::<Signed, i16>(&less, &more) == Ordering::Less);
+    assert!(rt; by_first_step(&less, &less) == Ordering::Equal);
+    Ok(())
+}
+
+#[test]
+fn tuples_compare(rt: HostRuntime) -> Result<(), Fail> {
+    let alloc = rt.alloc();
+    let (here, all) = (Ipv4Addr::LOCALHOST, Ipv4Addr::BROADCAST);
+    let (a, b) = (
+        Mapped::new(alloc, (here, 7))?,
+        Mapped::new(alloc, (all, -7))?,
+    );
+    assert!(rt; by_address_then_cost(&a, &b) == Ordering::Less);
+    let (a, b) = (
+        Mapped::new(alloc, (here, 80, 7))?,
+        Mapped::new(alloc, (here, 80, -7))?,
+    );
+    assert!(rt; by_address_then_port_then_cost(&a, &b) == Ordering::Greater);
+    type Four = ConcatTuple<(ToUBE, ToUBE, ToUBE, ToUBE)>;
+    let a = Mapped::<Four, (u8, u8, u8, u8)>::new(alloc, (1, 2, 3, 4))?;
+    let b = Mapped::<Four, (u8, u8, u8, u8)>::new(alloc, (1, 2, 4, 0))?;
+    assert!(rt; by_first_of_four(&a, &b) == Ordering::Less);
+    Ok(())
+}

@@ -1,0 +1,34 @@
+use Rattle.std.proofs.Common.{ℕ, zero, suc, ◌<◌, [], ◌∷◌, length, refl, arith}
+use Rattle.std.specs.Prelude.{slice_index}
+use Rattle.std.proofs.lemmas.List.Elements.{All-head, All-tail}
+use Rattle.art_bytes.specs.Text.{IsByte}
+use Rattle.art_mapped.specs.ValueBytes.{HasWidth}
+use Rattle.art_node_tests.proofs.mapped.value_bytes.are_six_bytes.Goals as goal
+
+-- a byte alone has width 1
+one_byte : (byte : ℕ) → IsByte byte → HasWidth 1 (byte ∷ [])
+one_byte byte is = (refl, only)
+  where
+    only : (k : ℕ) → k < length (byte ∷ []) → slice_index (byte ∷ []) k < 256
+    only zero below = is
+    only (suc k) below = absurd (omega arith)
+
+pub returns-clause-length : goal.returns-clause-length
+returns-clause-length c = λ yes. c.bytes_of_tuples_of_six.ensures.length c.args.bytes.now (c.is_value.ensures.0 yes)
+
+pub returns-clause-all : goal.returns-clause-all
+returns-clause-all c = λ p q r s t u are same.
+    let rest0 = are in
+    let byte0 = one_byte p (All-head IsByte p (q ∷ r ∷ s ∷ t ∷ u ∷ []) rest0) in
+    let rest1 = All-tail IsByte p (q ∷ r ∷ s ∷ t ∷ u ∷ []) rest0 in
+    let byte1 = one_byte q (All-head IsByte q (r ∷ s ∷ t ∷ u ∷ []) rest1) in
+    let rest2 = All-tail IsByte q (r ∷ s ∷ t ∷ u ∷ []) rest1 in
+    let byte2 = one_byte r (All-head IsByte r (s ∷ t ∷ u ∷ []) rest2) in
+    let rest3 = All-tail IsByte r (s ∷ t ∷ u ∷ []) rest2 in
+    let byte3 = one_byte s (All-head IsByte s (t ∷ u ∷ []) rest3) in
+    let rest4 = All-tail IsByte s (t ∷ u ∷ []) rest3 in
+    let byte4 = one_byte t (All-head IsByte t (u ∷ []) rest4) in
+    let rest5 = All-tail IsByte t (u ∷ []) rest4 in
+    let byte5 = one_byte u (All-head IsByte u ([]) rest5) in
+    let number = c.any_bytes_are_a_value.ensures.unsigned 1 in
+    c.is_value.ensures.1 ((c.bytes_of_tuples_of_six.ensures.parts c.args.bytes.now (p ∷ []) (q ∷ []) (r ∷ []) (s ∷ []) (t ∷ []) (u ∷ []) byte0.0 byte1.0 byte2.0 byte3.0 byte4.0 byte5.0 same).1 (number (p ∷ []) byte0, number (q ∷ []) byte1, number (r ∷ []) byte2, number (s ∷ []) byte3, number (t ∷ []) byte4, number (u ∷ []) byte5))
