@@ -69,7 +69,8 @@ pub trait BytesMapping<D> {
             IfOk result (λ read. are_same read value) }
         ensures takes_no_memory { READ_ALLOCATES ≡ false → IsOk result };
 
-    /// Whether some value has these bytes. Takes no memory.
+    /// Whether some value has these bytes. Takes no memory. The laws of [`laws`](crate::laws) state
+    /// which bytes these are.
     fn is_value(bytes: &Self::Bytes) -> bool
         ensures { IsTrue result ↔ StandsForSome is_in_domain stands_for bytes.now };
 
@@ -128,7 +129,8 @@ pub trait InjectiveMapping<D>: BytesMapping<D> {
         Self.text_of x ≡ Self.text_of y → Self.are_same x y };
 }
 
-/// A mapping whose bytes keep the order of the domain.
+/// A mapping whose bytes keep the order of the domain. The laws of [`orders`](crate::orders) state
+/// that order in the terms of each domain.
 ///
 /// (from crates/art_node_tests/src/mapped/mapped_callers.rt)
 /// ```rust
