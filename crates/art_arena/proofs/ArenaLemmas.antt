@@ -74,14 +74,14 @@ module _ {K V : Type 0} {P : ℕ} {N : Type 0} (kind : NodeType) (slab_of : Aren
       capacity-written : (arena : ArenaOf K V P) (slots : Slab N) → slots.capacity ≡ (slab_of arena).capacity → capacity (with_slab arena slots) kind ≡ capacity arena kind
       capacity-written arena slots kept = capacity_of_slab (with_slab arena slots) ∙ ap (λ s. s.capacity) (slab_written arena slots) ∙ kept ∙ sym (capacity_of_slab arena)
 
-      -- a slab of the same capacity changes no capacity
+      -- writing a slab of the same capacity changes no capacity of the arena
       pub SameCapacity-written : (arena : ArenaOf K V P) (slots : Slab N) → slots.capacity ≡ (slab_of arena).capacity → SameCapacity arena (with_slab arena slots)
       SameCapacity-written arena slots kept = λ other. elim (same_or_differ other kind) [
         | inr differ ↦ other_capacity arena slots other differ
         | inl same ↦ subst (λ k. capacity (with_slab arena slots) k ≡ capacity arena k) (sym same) (capacity-written arena slots kept)
       ]
 
-      -- a slab of the same room and capacity changes no room and no capacity
+      -- writing a slab of the same spare capacity and capacity changes neither of the arena
       pub SameRoom-written : (arena : ArenaOf K V P) (slots : Slab N) → slab_room slots ≡ slab_room (slab_of arena) → slots.capacity ≡ (slab_of arena).capacity → SameRoom arena (with_slab arena slots)
       SameRoom-written arena slots kept capacity_kept = λ other. elim (same_or_differ other kind) [
         | inr differ ↦ λ i. (other_room arena slots other differ i, other_capacity arena slots other differ i)
@@ -92,7 +92,7 @@ module _ {K V : Type 0} {P : ℕ} {N : Type 0} (kind : NodeType) (slab_of : Aren
             subst (λ k. space (with_slab arena slots) k ≡ space arena k) (sym same) both
       ]
 
-      -- a node in the place of another changes neither
+      -- replacing a node changes neither
       pub SameRoom-with_value : (arena : ArenaOf K V P) (key : ℕ) (node : N) → ContainsKey (slab_of arena) key → SameRoom arena (with_slab arena (with_value (slab_of arena) key node))
       SameRoom-with_value arena key node within = SameRoom-written arena (with_value (slab_of arena) key node) (slab_room-with_value (slab_of arena) key node within) refl
 

@@ -56,11 +56,11 @@ module _ {H L : Type 0} where
   abbrev pub SameRoom : Arena H L → Arena H L → Type 0
   SameRoom old new = (kind : NodeType) → space new kind ≡ space old kind
 
-  -- every kind has the capacity that it had
+  -- the capacity of every kind is unchanged
   abbrev pub SameCapacity : Arena H L → Arena H L → Type 0
   SameCapacity old new = (kind : NodeType) → capacity new kind ≡ capacity old kind
 
-  -- every kind but this one has the capacity that it had
+  -- the capacity of every kind but this one is unchanged
   abbrev pub SameOtherCapacity : Arena H L → Arena H L → NodeType → Type 0
   SameOtherCapacity old new kind = (other : NodeType) → other ≢ kind → capacity new other ≡ capacity old other
 

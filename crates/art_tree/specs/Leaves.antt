@@ -1,4 +1,4 @@
--- The leaves that a change of a tree leaves where they are.
+-- The leaves that keep their pointers in a change of a tree.
 use Rattle.std.specs.Prelude.{◌≡◌, ◌≢◌, ℕ, List}
 use Rattle.art_nodes.specs.Leaf.{leaf_key, leaf_value}
 use Rattle.art_nodes.specs.declared.pointers.OpaqueNodePtr.{OpaqueNodePtr}

@@ -1,4 +1,4 @@
--- What nodes a tree needs more with a child more.
+-- The nodes that a tree needs for a child more.
 use Rattle.std.proofs.Common.{◌≡◌, ◌≢◌, ◌∙◌, ℕ, ◌+◌, ◌<◌, ◌^◌, List, length, Some, sym, ap, subst, inl, inr, arith}
 use Rattle.art_header.specs.NodeType.{kind_for, most_children, grown_kind}
 use Rattle.art_header.specs.declared.node_type.NodeType.{NodeType}
@@ -25,7 +25,7 @@ module _ {K V : Type 0} {P : ℕ} {text : K → List ℕ} {old : ArenaOf K V P} 
   abbrev count : ℕ
   count = length (branch_roots (join (gap-there child_spot).before (gap-there child_spot).after))
 
-  -- the nodes of the node that is there
+  -- the nodes below the parent before the insert
   nodes-there : (kind : NodeType) → nodes_of kind (node_there child_spot) ≡ one_if_same kind (kind_for count) + branch_nodes_of kind (join (gap-there child_spot).before (gap-there child_spot).after)
   nodes-there kind = ap (λ b. one_if_same kind (kind_for (length (branch_roots b))) + branch_nodes_of kind b) (sym (gap-there child_spot).same)
 
@@ -36,7 +36,7 @@ module _ {K V : Type 0} {P : ℕ} {text : K → List ℕ} {old : ArenaOf K V P} 
   lacks-one : (kind : NodeType) → nodes_of kind (node_there child_spot) < nodes_of kind (with_leaf root child_spot.lacks.prefix (gap-there child_spot).before byte root (text key) (gap-there child_spot).after) → room old kind ≡ 0 → LacksRoomToInsert text old (Some root) (text key) kind
   lacks-one = insert-lacks text old root (around_it child_spot) (node_there child_spot) child_spot.lacks.prefix (gap-there child_spot).before byte (gap-there child_spot).after (text key) (alone-there child_spot) (leaves-there child_spot) (gap-there child_spot).place child_spot.lacks.leads short apart
 
-  -- a leaf, and a node of the next kind where the node is full
+  -- it needs a leaf, and a node of the next kind where the parent is full
   pub child-lacks : (kind : NodeType) → LacksRoomForChild old spot.node kind → LacksRoomToInsert text old (Some root) (text key) kind
   child-lacks kind (inl (is, none)) =
       subst (LacksRoomToInsert text old (Some root) (text key)) (sym is) (lacks-one kinds.Leaf (omega (arith, nodes-there kinds.Leaf, no-leaf-kind count, nodes-more kinds.Leaf)) (subst (λ k. room old k ≡ 0) is none))

@@ -1,4 +1,4 @@
--- What nodes a tree needs more with a leaf more beside a node that its key parts from.
+-- The nodes that a tree needs for a leaf that forks from a subtree.
 use Rattle.std.proofs.Common.{◌≡◌, ℕ, ◌+◌, ◌<◌, ◌^◌, List, length, Some, refl, sym, ap, subst, inl, inr, arith}
 use Rattle.art_header.specs.NodeType.{kind_for}
 use Rattle.art_header.specs.declared.node_type.NodeType.{NodeType}
@@ -24,7 +24,7 @@ nodes-trimmed kind len (Inner pointer prefix branches) = refl
 
 module _ {K V : Type 0} {P : ℕ} {text : K → List ℕ} {old : ArenaOf K V P} {root : OpaqueNodePtr K V P} {spot : Spot K V P} {fork : Fork} {key : K} (fork_place : ForkPlace text old root spot fork key) (short : length (text key) < 2 ^ 32)
     (apart : AreApart (texts (plug (around_it fork_place) (part_there fork_place)))) where
-  -- on both sides of the byte there is the one tree
+  -- the branches on both sides of the byte are the one subtree
   nodes-there : (kind : NodeType) → branch_nodes_of kind (join (left_there fork_place) (right_there fork_place)) ≡ nodes_of kind (part_there fork_place)
   nodes-there kind =
       let both = ap (branch_nodes_of kind) (both-sides fork.byte fork.node_byte (trimmed_there fork_place)) in
@@ -42,7 +42,7 @@ module _ {K V : Type 0} {P : ℕ} {text : K → List ℕ} {old : ArenaOf K V P} 
   lacks-one =
       insert-lacks text old root (around_it fork_place) (part_there fork_place) (shared_there fork_place) (left_there fork_place) fork.byte (right_there fork_place) (text key) (alone-there fork_place) (leaves-there fork_place) (fork-there fork_place).place (fork-there fork_place).leads short apart
 
-  -- a leaf, and a node of the smallest kind
+  -- it needs a leaf, and a Node4
   pub fork-lacks : (kind : NodeType) → LacksRoomForFork old kind → LacksRoomToInsert text old (Some root) (text key) kind
   fork-lacks kind (inl is, none) = subst (LacksRoomToInsert text old (Some root) (text key)) (sym is) (lacks-one kinds.Leaf (omega (arith, nodes-there kinds.Leaf, nodes-more kinds.Leaf)) (subst (λ k. room old k ≡ 0) is none))
   fork-lacks kind (inr is, none) =

@@ -1,4 +1,4 @@
--- What nodes a tree needs more with a leaf more.
+-- The nodes that a tree needs for a leaf more.
 use Rattle.std.proofs.Common.{◌≡◌, ◌⊎◌, ℕ, ◌+◌, ◌<◌, ◌^◌, List, [], ◌∷◌, ◌++◌, length, map, Contains, None, Some, refl, sym, ap, subst, inl, inr, arith}
 use Rattle.art_bytes.specs.Text.{IsPrefixOf}
 use Rattle.art_header.specs.NodeType.{kind_for}
@@ -23,7 +23,7 @@ use Rattle.art_tree.proofs.SharedLemmas.TextLists.{text-new, text-or-new, text-s
 abbrev texts_of : {H : Type 0} → List (H × List ℕ) → List (List ℕ)
 texts_of all = map (λ leaf. leaf.1) all
 
--- the nodes of a node with a leaf at a place are its own, the leaf and those of the branches
+-- the nodes of a subtree with a new leaf are its top node, the leaf and those of the other branches
 pub nodes-taken : {H : Type 0} (kind : NodeType) (pointer : H) (prefix : List ℕ) (before : Branches H) (byte : ℕ) (leaf : H) (x : List ℕ) (after : Branches H)
     → nodes_of kind (with_leaf pointer prefix before byte leaf x after) ≡ one_if_same kind (kind_for (length (branch_roots (join before after)) + 1)) + (branch_nodes_of kind (join before after) + one_if_same kind kinds.Leaf)
 nodes-taken kind pointer prefix before byte leaf x after =
@@ -49,7 +49,7 @@ module _ {K V : Type 0} {P : ℕ} (text : K → List ℕ) (old : ArenaOf K V P) 
     none = none;
   }
 
-  -- where a part with the leaf has more nodes of a kind, a tree with the text needs one more of it
+  -- where a subtree with the leaf has more nodes of a kind, so has the tree with the text
   module _ (root : OpaqueNodePtr K V P) (context : Context (OpaqueNodePtr K V P)) (part : Tree (OpaqueNodePtr K V P)) (prefix : List ℕ) (before : Branches (OpaqueNodePtr K V P)) (byte : ℕ) (after : Branches (OpaqueNodePtr K V P)) (x : List ℕ)
       (alone : IsAlone text old root (plug context part)) (same_leaves : leaves part ≡ branch_leaves before ++ branch_leaves after) (place : HasPlace (path_to context) prefix before byte after) (leads : IsPrefixOf ((path_to context ++ prefix) ++ byte ∷ []) x) (short : length x < 2 ^ 32)
       (apart : AreApart (texts (plug context part))) where

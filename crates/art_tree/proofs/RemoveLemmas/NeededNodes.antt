@@ -1,4 +1,4 @@
--- What nodes a tree needs more with a leaf less.
+-- The nodes that a tree needs for a leaf less.
 use Rattle.std.proofs.Common.{◌≡◌, ◌≢◌, ◌∙◌, ℕ, ◌+◌, ◌≤◌, List, ◌∷◌, ◌++◌, length, map, Contains, Option, Some, sym, ap, subst, inl, inr, arith}
 use Rattle.art_header.specs.NodeType.{kind_for, least_children, shrunk_kind}
 use Rattle.art_header.specs.declared.node_type.NodeType.{NodeType}
@@ -61,7 +61,7 @@ module _ {K V : Type 0} {P : ℕ} {text : K → List ℕ} {old : ArenaOf K V P} 
     | inr same ↦ absurd (differ same)
   ]
 
-  -- a node of the kind that the parent shrinks to
+  -- it needs a node of the kind that the parent shrinks to
   pub removal-lacks : (kind : NodeType) → LacksRoomToShrink old parent kind → LacksRoomToRemove text old (Some root) hangs.text kind
   removal-lacks kind lacks =
       let ((many, least), same, none) = lacks place.node place.is_held in

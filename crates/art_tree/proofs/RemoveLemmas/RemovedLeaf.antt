@@ -187,7 +187,7 @@ module _ {K V : Type 0} {P : ℕ} (text : K → List ℕ) (old cut new : ArenaOf
               has.freed in
               subst (λ r. IsAlone text last r (plug context now)) (hangs.at_root now has.at_root) whole
 
-          -- a leaf of another text is another leaf
+          -- a leaf with another text is not the removed one
           other-leaf : IsAlone text old root (plug context part) → (p : OpaqueNodePtr K V P) (l : LeafNode K V P) → held old p ≡ HeldLeaf l → text (leaf_key l) ≢ x → p ≢ leaf
           other-leaf alone p l is differ same =
               let there : Contains (leaves (plug context part)) (leaf, x) = subst (λ all. Contains all (leaf, x)) (sym whole-was) (Contains-append_right left ((leaf, x) ∷ right) (leaf, x) (0, omega arith, refl)) in

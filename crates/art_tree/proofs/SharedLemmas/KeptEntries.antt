@@ -1,4 +1,4 @@
--- Where nodes stay, entries stay.
+-- Where all nodes are unchanged, all entries are.
 use Rattle.std.proofs.Common.{ℕ, List, [], Option, None, Some}
 use Rattle.art_nodes.specs.declared.pointers.OpaqueNodePtr.{OpaqueNodePtr}
 use Rattle.art_arena.specs.Arena.{ArenaOf, SameNodes}

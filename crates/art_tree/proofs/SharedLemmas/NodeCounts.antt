@@ -17,7 +17,7 @@ one-same kinds.Node48 = refl
 one-same kinds.Node256 = refl
 one-same kinds.Leaf = refl
 
--- the kind that an inner node grows to is another
+-- the kind that an inner node grows to is a different one
 pub grown-other : (kind : NodeType) → kind ≢ kinds.Node256 → kind ≢ kinds.Leaf → one_if_same (grown_kind kind) kind ≡ 0
 grown-other kinds.Node4 small inner = refl
 grown-other kinds.Node16 small inner = refl
@@ -58,7 +58,7 @@ module _ {H : Type 0} (kind : NodeType) where
   nodes-join NoBranch b = omega arith
   nodes-join (Branch byte tree others) b = let rest = nodes-join others b in omega (arith, rest)
 
-  -- where a part has more nodes of the kind than the one before it, so has the whole
+  -- where a subtree has more nodes of the kind than the one that it replaces, so has the whole tree
   pub more-around : (context : Context H) (old new : Tree H) → nodes_of kind old < nodes_of kind new → nodes_of kind (plug context old) < nodes_of kind (plug context new)
   more-around Whole old new more = more
   more-around (Under above pointer prefix before byte after) old new more =

@@ -18,12 +18,12 @@ pub none-on-err : {K V : Type 0} {P : ℕ} {T E : Type 0} (r : Result T E) (aren
 none-on-err (Ok x) arena kind ok = tt
 none-on-err {T = T} (Err e) arena kind ok = none-left {T = T} (Err e) (room arena kind) ok e refl
 
--- what follows from what holds on an error holds on it
+-- an implication holds on an error
 pub on-err-then : {T E : Type 0} (r : Result T E) (A B : Type 0) → (A → B) → OnErr r A → OnErr r B
 on-err-then (Ok x) A B follows holds = tt
 on-err-then (Err e) A B follows holds = follows holds
 
--- what has the same room and capacity has the same of each
+-- the same spare capacity and capacity are the same spare capacity, and the same capacity
 module _ {K V : Type 0} {P : ℕ} (old new : ArenaOf K V P) (same : SameRoom old new) where
   pub same-room : (kind : NodeType) → room new kind ≡ room old kind
   same-room kind = ap (λ both. both.0) (same kind)
@@ -32,11 +32,11 @@ module _ {K V : Type 0} {P : ℕ} (old new : ArenaOf K V P) (same : SameRoom old
   same-capacity kind = ap (λ both. both.1) (same kind)
 
 module _ {K V : Type 0} {P : ℕ} where
-  -- this is the kind that is asked for, and it has no room
+  -- this is the reserved kind, and it has no spare capacity
   abbrev pub IsAsked : ArenaOf K V P → NodeType → NodeType → Type 0
   IsAsked old kind other = (other ≡ kind) × (room old other ≡ 0)
 
-  -- where one kind was asked for, none grows but that one, and that one only where it had no room
+  -- reserving a kind changes the capacity of that kind alone, and only where it had no spare capacity
   pub asked-grows : (old new : ArenaOf K V P) (kind : NodeType) → (1 ≤ room old kind → SameCapacity old new) → SameOtherCapacity old new kind → GrowsOnlyWhere old new (IsAsked old kind)
   asked-grows old new kind had others other = elim (same_or_differ other kind) [
     | inr differ ↦ inl (others other differ)
@@ -46,15 +46,15 @@ module _ {K V : Type 0} {P : ℕ} where
     ]
   ]
 
-  -- for what follows from what a kind was needed for, it was needed
+  -- the condition on a kind may be weakened
   pub grows-then : (old new : ArenaOf K V P) (A B : NodeType → Type 0) → ((kind : NodeType) → A kind → B kind) → GrowsOnlyWhere old new A → GrowsOnlyWhere old new B
   grows-then old new A B follows grows kind = elim (grows kind) [ inl same ↦ inl same | inr needed ↦ inr (follows kind needed) ]
 
-  -- steps that take no memory after others
+  -- later steps that change no capacity
   pub grows-on : (old mid new : ArenaOf K V P) (A : NodeType → Type 0) → GrowsOnlyWhere old mid A → SameCapacity mid new → GrowsOnlyWhere old new A
   grows-on old mid new A grows same kind = elim (grows kind) [ inl before ↦ inl (same kind ∙ before) | inr needed ↦ inr needed ]
 
-  -- one step after the other
+  -- two steps with one condition
   pub grows-twice : (old mid new : ArenaOf K V P) (A : NodeType → Type 0) → GrowsOnlyWhere old mid A → GrowsOnlyWhere mid new A → GrowsOnlyWhere old new A
   grows-twice old mid new A first second kind = elim (second kind) [
     | inr needed ↦ inr needed

@@ -1,4 +1,4 @@
--- The texts of leaves with one leaf more, and with one less.
+-- The texts of a list of leaves, with a leaf more or less.
 use Rattle.std.proofs.Common.{◌≡◌, ◌⊎◌, ℕ, List, [], ◌∷◌, ◌++◌, map, Contains, sym, subst, inl, inr, arith}
 use Rattle.std.proofs.lemmas.List.{map-append}
 use Rattle.std.proofs.lemmas.List.Elements.{Contains-append_left, Contains-append_right, Contains-append_cases}
@@ -11,7 +11,7 @@ module _ {H : Type 0} (left right : List (H × List ℕ)) (leaf : H) (x y : List
   abbrev rights : List (List ℕ)
   rights = map (λ l. l.1) right
 
-  -- a text is one of the others or the new one
+  -- each text is one of the others or that of the leaf
   pub text-or-new : Contains (map (λ l. l.1) (left ++ (leaf, x) ∷ right)) y → Contains (map (λ l. l.1) (left ++ right)) y ⊎ (y ≡ x)
   text-or-new inside = elim (Contains-append_cases lefts (x ∷ rights) y (subst (λ all. Contains all y) (map-append (λ l. l.1) left ((leaf, x) ∷ right)) inside)) [
     | inl earlier ↦ inl (subst (λ all. Contains all y) (sym (map-append (λ l. l.1) left right)) (Contains-append_left lefts rights y earlier))
@@ -21,13 +21,13 @@ module _ {H : Type 0} (left right : List (H × List ℕ)) (leaf : H) (x y : List
     ]
   ]
 
-  -- the others are there with it
+  -- the others are among them
   pub text-stays : Contains (map (λ l. l.1) (left ++ right)) y → Contains (map (λ l. l.1) (left ++ (leaf, x) ∷ right)) y
   text-stays inside = elim (Contains-append_cases lefts rights y (subst (λ all. Contains all y) (map-append (λ l. l.1) left right) inside)) [
     | inl earlier ↦ subst (λ all. Contains all y) (sym (map-append (λ l. l.1) left ((leaf, x) ∷ right))) (Contains-append_left lefts (x ∷ rights) y earlier)
     | inr later ↦ subst (λ all. Contains all y) (sym (map-append (λ l. l.1) left ((leaf, x) ∷ right))) (Contains-append_right lefts (x ∷ rights) y (Contains-append_right (x ∷ []) rights y later))
   ]
 
-  -- and so is itself
+  -- and so is that of the leaf
   pub text-new : y ≡ x → Contains (map (λ l. l.1) (left ++ (leaf, x) ∷ right)) y
   text-new is = subst (λ all. Contains all y) (sym (map-append (λ l. l.1) left ((leaf, x) ∷ right))) (Contains-append_right lefts (x ∷ rights) y (0, omega arith, sym is))

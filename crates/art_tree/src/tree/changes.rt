@@ -112,11 +112,11 @@ impl<K: AsBytes, V, const PREFIX_LEN: usize> ArtTree<K, V, PREFIX_LEN> {
         Ok(Some(entry))
     }
 
-    /// Reserves memory for `additional` more nodes of the kind, as [`NodeArena::reserve`] does. Entries
-    /// and nodes stay as they are.
+    /// Reserves memory for `additional` more nodes of the kind, as [`NodeArena::reserve`] does. Every
+    /// entry, every node and the root are unchanged.
     ///
-    /// An [`insert`](Self::insert) is refused for lack of memory only where some kind has no room, and
-    /// so is a [`remove`](Self::remove): with room for one node of each kind, neither is.
+    /// With spare capacity for one node of each kind, no allocation fails in
+    /// [`insert`](Self::insert) and [`remove`](Self::remove).
     ///
     /// [`NodeArena::reserve`]: art_arena::NodeArena::reserve
     pub fn reserve(&mut self, kind: NodeType, additional: usize) -> Result<(), AllocError>

@@ -1,4 +1,4 @@
-//! Memory that is reserved first, so that no insert after it is refused for lack of memory.
+//! Memory is reserved first. No allocation fails in an insert after that.
 ghost use Rattle.std.specs.Prelude.{◌≡◌, ◌≢◌, ◌≤◌, None, IfErr, IfOk, OnOk};
 ghost use Rattle.art_header.specs.declared.node_type.NodeType.TheVariants.{Leaf};
 ghost use Rattle.art_arena.specs.Arena.{room};
@@ -22,7 +22,7 @@ fn reserve_one_of_each<K: AsBytes, V, const PREFIX_LEN: usize>(
     tree.reserve(NodeType::Node256, 1)
 }
 
-/// Adds an entry. Memory is refused before the insert, or not at all.
+/// Adds an entry. An allocation may fail before the insert, but not in it.
 fn insert_reserved<K: AsBytes + Drop, V: Drop, const PREFIX_LEN: usize>(
     tree: &mut ArtTree<K, V, PREFIX_LEN>,
     key: K,
@@ -35,7 +35,8 @@ fn insert_reserved<K: AsBytes + Drop, V: Drop, const PREFIX_LEN: usize>(
     Ok(tree.insert(key, value))
 }
 
-/// Adds the first entry of a tree that has room for a leaf. A tree of one key has no other node.
+/// Adds the first entry of a tree that has spare capacity for a leaf. No allocation fails: a tree of
+/// one key has no other node.
 fn insert_first_reserved<K: AsBytes, V, const PREFIX_LEN: usize>(
     tree: &mut ArtTree<K, V, PREFIX_LEN>,
     key: K,
