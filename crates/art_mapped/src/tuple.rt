@@ -9,6 +9,23 @@ use crate::mapping::{BytesMapping, InjectiveMapping, NoPrefixesMapping, OrderedM
 use std::alloc::{AllocError, Global};
 use std::marker::PhantomData;
 
+mod sealed {
+    /// No other crate can name this trait, so no other crate can add an impl.
+    pub trait Sealed {}
+
+    impl<A, B> Sealed for (A, B) {}
+
+    impl<A, B, C> Sealed for (A, B, C) {}
+
+    impl<A, B, C, D> Sealed for (A, B, C, D) {}
+
+    impl<A, B, C, D, E> Sealed for (A, B, C, D, E) {}
+
+    impl<A, B, C, D, E, F> Sealed for (A, B, C, D, E, F) {}
+}
+
+use sealed::Sealed;
+
 /// Tuples of two to six values, as their bytes joined: `ConcatTuple<(M0, M1)>` maps the first value
 /// by `M0` and the second by `M1`. Writing a tuple takes memory; reading one does only where
 /// reading a part does.
@@ -28,10 +45,11 @@ use std::marker::PhantomData;
 /// ```
 pub struct ConcatTuple<T>(PhantomData<T>);
 
-/// Two to six mappings, for the parts of a tuple.
+/// Two to six mappings, for the parts of a tuple. The trait is sealed: no other type can implement
+/// it.
 ///
 /// [`ConcatTuple`] has an example.
-pub trait TupleMappings {
+pub trait TupleMappings: Sealed {
     /// An array type with one place for each mapping.
     type Places;
 
@@ -39,10 +57,11 @@ pub trait TupleMappings {
     type Joint;
 }
 
-/// A tuple of two to six values, and the same values nested in pairs, as `((A, B), C)`.
+/// A tuple of two to six values, and the same values nested in pairs, as `((A, B), C)`. The trait is
+/// sealed: no other type can implement it.
 ///
 /// [`ConcatTuple`] has an example.
-pub trait TupleValues: Sized {
+pub trait TupleValues: Sealed + Sized {
     /// An array type with one place for each value. It distinguishes a pair whose first value is a
     /// pair from a tuple of three.
     type Places;
@@ -66,6 +85,9 @@ pub trait TupleValues: Sized {
 
     /// Pairing up undoes flattening.
     ghost pairs_flat: { (value : Self.Pairs) → in_pairs (flat value) ≡ value };
+
+    /// Flattening undoes pairing up.
+    ghost flat_pairs: { (value : Self) → flat (in_pairs value) ≡ value };
 }
 
 /// A tuple that compares as its nested pairs do.
@@ -174,6 +196,8 @@ impl<A, B> TupleValues for (A, B) {
 
     ghost pairs_flat = { λ _. refl };
 
+    ghost flat_pairs = { λ _. refl };
+
     fn pair_up(self) -> (A, B) {
         let (a, b) = self;
         (a, b)
@@ -204,6 +228,8 @@ impl<A, B, C> TupleValues for (A, B, C) {
     ghost flat = { λ value. (value.0.0, value.0.1, value.1) };
 
     ghost pairs_flat = { λ _. refl };
+
+    ghost flat_pairs = { λ _. refl };
 
     fn pair_up(self) -> ((A, B), C) {
         let (a, b, c) = self;
@@ -236,6 +262,8 @@ impl<A, B, C, D> TupleValues for (A, B, C, D) {
 
     ghost pairs_flat = { λ _. refl };
 
+    ghost flat_pairs = { λ _. refl };
+
     fn pair_up(self) -> (((A, B), C), D) {
         let (a, b, c, d) = self;
         (((a, b), c), d)
@@ -266,6 +294,8 @@ impl<A, B, C, D, E> TupleValues for (A, B, C, D, E) {
     ghost flat = { λ value. (value.0.0.0.0, value.0.0.0.1, value.0.0.1, value.0.1, value.1) };
 
     ghost pairs_flat = { λ _. refl };
+
+    ghost flat_pairs = { λ _. refl };
 
     fn pair_up(self) -> ((((A, B), C), D), E) {
         let (a, b, c, d, e) = self;
@@ -302,6 +332,8 @@ impl<A, B, C, D, E, F> TupleValues for (A, B, C, D, E, F) {
         (value.0.0.0.0.0, value.0.0.0.0.1, value.0.0.0.1, value.0.0.1, value.0.1, value.1) };
 
     ghost pairs_flat = { λ _. refl };
+
+    ghost flat_pairs = { λ _. refl };
 
     fn pair_up(self) -> (((((A, B), C), D), E), F) {
         let (a, b, c, d, e, f) = self;
