@@ -13,9 +13,6 @@ use std::marker::PhantomData;
 /// Mappings of fixed width whose bytes are joined: the parts of a tuple, nested in pairs from the
 /// first part on.
 pub trait Joint<D> {
-    /// The types that the parts are built on, as `Inner` of `BytesMapping`.
-    type Inner;
-
     /// Whether `read` takes memory. Where it is false, `read` never fails.
     const READ_ALLOCATES: bool;
 
@@ -80,8 +77,6 @@ pub trait OrderedJoint<D: Ord>: Joint<D> {
 pub struct Part<M>(PhantomData<M>);
 
 impl<D, K: FixedBytes, M: BytesMapping<D, Bytes = K>> Joint<D> for Part<M> {
-    type Inner = (K, M::Inner);
-
     const READ_ALLOCATES: bool = M::READ_ALLOCATES;
 
     ghost READ_ALLOCATES = { M.READ_ALLOCATES };
@@ -128,8 +123,6 @@ impl<D: Ord, K: FixedBytes, M: OrderedMapping<D, Bytes = K>> OrderedJoint<D> for
 pub struct Then<F, L>(PhantomData<(F, L)>);
 
 impl<A: Drop, B: Drop, F: Joint<A>, L: Joint<B>> Joint<(A, B)> for Then<F, L> {
-    type Inner = (F::Inner, L::Inner);
-
     const READ_ALLOCATES: bool = F::READ_ALLOCATES || L::READ_ALLOCATES;
 
     ghost READ_ALLOCATES = { F.READ_ALLOCATES || L.READ_ALLOCATES };

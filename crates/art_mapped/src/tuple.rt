@@ -107,7 +107,7 @@ where
 {
     type Bytes = Vec<u8>;
 
-    type Inner = (N, P, J, J::Inner);
+    type Inner = ();
 
     const ALLOCATES: bool = true;
 
