@@ -22,8 +22,8 @@ pub trait BytesMapping<D> {
     /// The bytes that a value is converted to.
     type Bytes: AsBytes + Drop;
 
-    /// The types that the mapping is built on and that neither `Self` nor `D` names: `Single<Unsigned>`
-    /// for `ToUBE` at `u32`, and `()` where there are none.
+    /// The types behind the mapping that neither `Self` nor `D` names: `Single<Unsigned>` for `ToUBE`
+    /// at `u32`. `()` where there are none, and for tuples.
     ///
     /// A `Mapped` names them, so that a function which takes a key can pass it on: the check reads
     /// the parameters of an impl from the types in a signature.
