@@ -47,3 +47,18 @@ fn kinds_know_how_many_children_they_hold(rt: HostRuntime) {
     assert!(rt; kinds_ascend());
     assert!(rt; NodeType::Node4 < NodeType::Leaf);
 }
+
+#[test]
+fn kinds_grow_and_shrink_in_their_order(rt: HostRuntime) {
+    let rows = [
+        (NodeType::Node4, NodeType::Node16, NodeType::Node4),
+        (NodeType::Node16, NodeType::Node48, NodeType::Node4),
+        (NodeType::Node48, NodeType::Node256, NodeType::Node16),
+        (NodeType::Node256, NodeType::Node256, NodeType::Node48),
+        (NodeType::Leaf, NodeType::Leaf, NodeType::Leaf),
+    ];
+    for (row, (kind, grown, shrunk)) in rows.into_iter().enumerate() {
+        assert!(rt; kind.grown() == grown, "row {row}");
+        assert!(rt; kind.shrunk() == shrunk, "row {row}");
+    }
+}

@@ -63,3 +63,13 @@ fn some_child_is_a_leaf_where_there_is_one(rt: HostRuntime) {
     assert!(rt; preferred(small_node(1), leaf(2)) == leaf(2));
     assert!(rt; preferred(small_node(1), small_node(2)).node_type() == NodeType::Node4);
 }
+
+#[test]
+fn a_builder_reports_its_greatest_byte(rt: HostRuntime) {
+    let none = InnerNode4::<u8, u8, 16>::builder(b"prefix", 6);
+    assert!(rt; none.last_byte() == None);
+    let one = none.write_child(200, leaf(7));
+    assert!(rt; one.last_byte() == Some(200));
+    let two = one.write_child(3, leaf(8));
+    assert!(rt; two.last_byte() == Some(200));
+}
