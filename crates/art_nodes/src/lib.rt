@@ -40,6 +40,7 @@ pub use inner_nodes::representations::inner_node_sorted::{
     InnerNode4, InnerNode16, InnerNodeSorted,
 };
 pub use inner_nodes::traits::inner_node::InnerNode;
+pub use inner_nodes::traits::inner_node_read::InnerNodeRead;
 pub use inner_nodes::traits::node::{InnerNodeCommon, Node};
 pub use iteration::bounds::valid_range_bounds;
 pub use iteration::child_iter::{ChildIter, PairIter};

@@ -1,6 +1,6 @@
 //! Nodes built child by child. (`node_fixtures` builds those of the greater kinds.)
 use super::node_fixtures::{Pointer, leaf};
-use art_nodes::{InnerNode4, InnerNodeCommon, NodePtr, NodeType};
+use art_nodes::{InnerNode4, InnerNodeCommon, InnerNodeRead, NodePtr, NodeType};
 use std::process::Abort;
 
 // The pointer to the small node with a slab key.

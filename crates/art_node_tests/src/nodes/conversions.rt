@@ -5,7 +5,7 @@ ghost use Rattle.std.specs.Mem.{FitsInMemory};
 use super::node_fixtures::{all_bytes, first_of, has_children, node_of, with_bytes, write};
 use art_nodes::{
     Header, InnerNode, InnerNode4, InnerNode16, InnerNode48, InnerNodeCommon, InnerNodeDirect,
-    InnerNodeIndirect, InnerNodeSorted,
+    InnerNodeIndirect, InnerNodeRead, InnerNodeSorted,
 };
 use std::process::Abort;
 

@@ -1,6 +1,6 @@
 //! Direct nodes with children on both sides of each border between their words of bits.
 use super::node_fixtures::{has_range, leaf, node_of};
-use art_nodes::{InnerNodeCommon, InnerNodeDirect};
+use art_nodes::{InnerNodeCommon, InnerNodeDirect, InnerNodeRead};
 use std::ops::Bound::{Excluded, Included, Unbounded};
 use std::process::Abort;
 

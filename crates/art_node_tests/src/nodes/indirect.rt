@@ -1,6 +1,6 @@
 //! The order of an indirect node's children, which no contract states.
 use super::node_fixtures::{leaf, node_of};
-use art_nodes::{InnerNode48, InnerNodeCommon};
+use art_nodes::{InnerNode48, InnerNodeCommon, InnerNodeRead};
 
 #[test]
 fn a_removal_moves_the_last_pointer_into_the_freed_place(rt: HostRuntime) {

@@ -5,14 +5,16 @@ ghost use Rattle.std.specs.Cmp.Lexicographic.{pointwise};
 ghost use Rattle.art_header.specs.Header.{capped};
 ghost use Rattle.art_header.specs.NodeType.{least_children, most_children, shrunk_kind};
 ghost use Rattle.art_header.specs.declared.node_type.NodeType.TheVariants.{Node4, Node16, Node48, Node256, Leaf};
-ghost use Rattle.art_nodes.specs.ChildMap.{child_at, first_pair, last_pair};
+ghost use Rattle.art_nodes.specs.ChildMap.{child_at, first_pair, last_pair, pairs_within};
+ghost use Rattle.std.specs.Option.{option_map};
+ghost use Rattle.std.specs.declared.ops.Bound.TheVariants.{Excluded, Unbounded};
 ghost use Rattle.art_nodes.specs.Inner.{HasRoomFor, node_with_child};
 ghost use Rattle.art_nodes.specs.Pointers.{node_kind, opaque_key, opaque_pointer, slab_key};
 
 use art_nodes::{
     ChildCommand, ChildReply, ConcreteInnerNodePtr, ConcreteNodePtr, HasOneChild, InnerNode,
     InnerNode4, InnerNode16, InnerNode48, InnerNodeBuilder, InnerNodeCommon, InnerNodeDirect,
-    InnerNodeSorted, LeafNode, Node, NodePtr, OpaqueNodePtr, OptimisticMismatch,
+    InnerNodeRead, InnerNodeSorted, LeafNode, Node, NodePtr, OpaqueNodePtr, OptimisticMismatch,
     PessimisticMismatch, Sequence,
 };
 
@@ -179,6 +181,18 @@ fn look_up_the_least<K, V, const PREFIX_LEN: usize, N: InnerNodeCommon<K, V, PRE
 {
     let (byte, _) = node.min();
     node.lookup_child(byte)
+}
+
+// The least byte above another that has a child, of a node or of a reference to one.
+fn least_above<K, V, const PREFIX_LEN: usize, N: InnerNodeRead<K, V, PREFIX_LEN>>(
+    node: &N,
+    byte: u8,
+) -> Option<u8>
+    ensures { result ≡ option_map (λ pair. pair.0)
+        (first_pair (pairs_within (N.inner node.now).children (Excluded byte) Unbounded)) }
+{
+    let (above, _) = node.child_above(byte)?;
+    Some(above)
 }
 
 // Sequences are equal where their items are.

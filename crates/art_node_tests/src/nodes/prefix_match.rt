@@ -3,7 +3,7 @@ use super::node_fixtures::{leaf, pair};
 use art_header::{NodeType, NonMaxIndex};
 use art_mapped::Identity;
 use art_nodes::{
-    AttemptOptimisticPrefixMatch, InnerNode4, InnerNodeCommon, OptimisticMismatch,
+    AttemptOptimisticPrefixMatch, InnerNode4, InnerNodeCommon, InnerNodeRead, OptimisticMismatch,
     PessimisticMismatch, PrefixMatch, common_prefix_len,
 };
 use std::fmt::Debug;

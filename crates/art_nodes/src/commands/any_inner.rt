@@ -9,6 +9,7 @@ use crate::inner_nodes::representations::inner_node_direct::InnerNodeDirect;
 use crate::inner_nodes::representations::inner_node_indirect::InnerNode48;
 use crate::inner_nodes::representations::inner_node_sorted::{InnerNode4, InnerNode16};
 use crate::inner_nodes::traits::inner_node::InnerNode;
+use crate::inner_nodes::traits::inner_node_read::InnerNodeRead;
 use crate::inner_nodes::traits::node::InnerNodeCommon;
 use crate::iteration::child_iter::ChildIter;
 use crate::pointers::OpaqueNodePtr;

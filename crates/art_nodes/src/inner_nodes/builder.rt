@@ -6,6 +6,7 @@ ghost use Rattle.art_nodes.specs.ChildMap.{child_at, key_bytes, last_pair};
 ghost use Rattle.art_nodes.specs.Inner.{HasRoomFor, empty_inner, node_with_child};
 
 use crate::inner_nodes::representations::inner_node_sorted::InnerNode4;
+use crate::inner_nodes::traits::inner_node_read::InnerNodeRead;
 use crate::inner_nodes::traits::node::InnerNodeCommon;
 use crate::pointers::OpaqueNodePtr;
 use crate::sealed::{InThisCrate, Sealed};

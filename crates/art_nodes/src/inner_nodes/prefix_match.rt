@@ -5,7 +5,7 @@ use crate::pointers::NodePtr;
 use std::cmp::Ordering;
 
 /// A prefix was matched. The result of
-/// [`InnerNodeCommon::optimistic_match_prefix`](crate::InnerNodeCommon::optimistic_match_prefix).
+/// [`InnerNodeRead::optimistic_match_prefix`](crate::InnerNodeRead::optimistic_match_prefix).
 ///
 /// (from crates/art_node_tests/src/nodes/prefix_match.rt)
 /// ```rust
@@ -22,7 +22,7 @@ pub struct PrefixMatch {
 }
 
 /// A prefix was matched, or skipped where the node does not store all of it. The result of
-/// [`InnerNodeCommon::attempt_pessimistic_match_prefix`](crate::InnerNodeCommon::attempt_pessimistic_match_prefix).
+/// [`InnerNodeRead::attempt_pessimistic_match_prefix`](crate::InnerNodeRead::attempt_pessimistic_match_prefix).
 ///
 /// (from crates/art_tree_tests/src/tree/matches.rt)
 /// ```rust

@@ -4,6 +4,7 @@ ghost use Rattle.std.specs.Prelude.{◌≡◌};
 use crate::inner_nodes::representations::inner_node_direct::InnerNodeDirect;
 use crate::inner_nodes::representations::inner_node_indirect::InnerNodeIndirect;
 use crate::inner_nodes::representations::inner_node_sorted::InnerNodeSorted;
+use crate::inner_nodes::traits::inner_node_read::InnerNodeRead;
 use crate::inner_nodes::traits::node::InnerNodeCommon;
 
 /// The same node with a place for each byte. Takes no memory.

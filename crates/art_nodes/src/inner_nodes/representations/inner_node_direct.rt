@@ -1,5 +1,6 @@
 //! Inner nodes with a place for each byte: `Node256`.
 use crate::inner_nodes::tables::child_table::ChildTable;
+use crate::inner_nodes::traits::inner_node_read::InnerNodeRead;
 use crate::inner_nodes::traits::node::{InnerNodeCommon, Node};
 use crate::iteration::child_iter::ChildIter;
 use crate::iteration::table_pairs::TablePairs;
@@ -91,7 +92,7 @@ impl<K, V, const PREFIX_LEN: usize> InnerNodeDirect<K, V, PREFIX_LEN> {
         }
     }
 
-    /// The children by ascending byte, as [`InnerNodeCommon::iter`] has them.
+    /// The children by ascending byte, as [`InnerNodeRead::iter`] has them.
     #[inline]
     pub(crate) fn pairs(&self) -> TablePairs<'_, OpaqueNodePtr<K, V, PREFIX_LEN>>
         ensures pairs { result ≡ self.now.children }
@@ -120,16 +121,11 @@ impl<K, V, const PREFIX_LEN: usize> InnerNodeDirect<K, V, PREFIX_LEN> {
     }
 }
 
-impl<K, V, const PREFIX_LEN: usize> InnerNodeCommon<K, V, PREFIX_LEN>
+impl<K, V, const PREFIX_LEN: usize> InnerNodeRead<K, V, PREFIX_LEN>
     for InnerNodeDirect<K, V, PREFIX_LEN> {
-    ghost use Rattle.std.specs.Prelude.{◌≡◌, refl};
-    ghost use Rattle.art_nodes.specs.Inner.{HasRoomFor, node_with_child};
-
     ghost inner = { λ n. n };
 
     ghost room = { 256 };
-
-    ghost starts_empty = { λ _. refl };
 
     fn header(&self) -> &Header<PREFIX_LEN> {
         &self.header
@@ -147,16 +143,40 @@ impl<K, V, const PREFIX_LEN: usize> InnerNodeCommon<K, V, PREFIX_LEN>
         self.header.read_prefix()
     }
 
+    fn lookup_child(&self, key_fragment: u8) -> Option<OpaqueNodePtr<K, V, PREFIX_LEN>> {
+        self.child_pointers.child(key_fragment)
+    }
+
+    fn iter(&self) -> ChildIter<'_, K, V, PREFIX_LEN> {
+        ChildIter::over_table(&self.child_pointers)
+    }
+
+    fn range(&self, start: Bound<u8>, end: Bound<u8>) -> ChildIter<'_, K, V, PREFIX_LEN> {
+        ChildIter::over_table_range(&self.child_pointers, start, end)
+    }
+
+    fn min(&self) -> (u8, OpaqueNodePtr<K, V, PREFIX_LEN>) {
+        self.child_pointers.pairs().next().unwrap()
+    }
+
+    fn max(&self) -> (u8, OpaqueNodePtr<K, V, PREFIX_LEN>) {
+        self.child_pointers.pairs().next_back().unwrap()
+    }
+}
+
+impl<K, V, const PREFIX_LEN: usize> InnerNodeCommon<K, V, PREFIX_LEN>
+    for InnerNodeDirect<K, V, PREFIX_LEN> {
+    ghost use Rattle.std.specs.Prelude.{◌≡◌, refl};
+    ghost use Rattle.art_nodes.specs.Inner.{HasRoomFor, node_with_child};
+
+    ghost starts_empty = { λ _. refl };
+
     fn capacity(&self) -> usize {
         256
     }
 
     fn set_prefix(&mut self, header: &Header<PREFIX_LEN>) {
         self.header.set_prefix(header);
-    }
-
-    fn lookup_child(&self, key_fragment: u8) -> Option<OpaqueNodePtr<K, V, PREFIX_LEN>> {
-        self.child_pointers.child(key_fragment)
     }
 
     fn write_child(&mut self, key_fragment: u8, child_pointer: OpaqueNodePtr<K, V, PREFIX_LEN>)
@@ -174,21 +194,5 @@ impl<K, V, const PREFIX_LEN: usize> InnerNodeCommon<K, V, PREFIX_LEN>
         self.child_pointers.clear(key_fragment);
         self.header.dec_num_children();
         Some(removed_child)
-    }
-
-    fn iter(&self) -> ChildIter<'_, K, V, PREFIX_LEN> {
-        ChildIter::over_table(&self.child_pointers)
-    }
-
-    fn range(&self, start: Bound<u8>, end: Bound<u8>) -> ChildIter<'_, K, V, PREFIX_LEN> {
-        ChildIter::over_table_range(&self.child_pointers, start, end)
-    }
-
-    fn min(&self) -> (u8, OpaqueNodePtr<K, V, PREFIX_LEN>) {
-        self.child_pointers.pairs().next().unwrap()
-    }
-
-    fn max(&self) -> (u8, OpaqueNodePtr<K, V, PREFIX_LEN>) {
-        self.child_pointers.pairs().next_back().unwrap()
     }
 }

@@ -1,6 +1,7 @@
 //! Inner nodes with an index for each byte: `Node48`.
 use crate::inner_nodes::representations::inner_node_sorted::copy_of;
 use crate::inner_nodes::tables::index_table::IndexTable;
+use crate::inner_nodes::traits::inner_node_read::InnerNodeRead;
 use crate::inner_nodes::traits::node::{InnerNodeCommon, Node};
 use crate::iteration::child_iter::ChildIter;
 use crate::iteration::index_pairs::IndexPairs;
@@ -123,7 +124,7 @@ impl<K, V, const PREFIX_LEN: usize, const SIZE: usize> InnerNodeIndirect<K, V, P
         }
     }
 
-    /// The children by ascending byte, as [`InnerNodeCommon::iter`] has them.
+    /// The children by ascending byte, as [`InnerNodeRead::iter`] has them.
     #[inline]
     pub(crate) fn pairs(&self) -> IndexPairs<'_, OpaqueNodePtr<K, V, PREFIX_LEN>>
         ensures pairs { result ≡ self.now.children }
@@ -170,16 +171,13 @@ impl<K, V, const PREFIX_LEN: usize, const SIZE: usize> InnerNodeIndirect<K, V, P
     }
 }
 
-impl<K, V, const PREFIX_LEN: usize, const SIZE: usize> InnerNodeCommon<K, V, PREFIX_LEN>
+impl<K, V, const PREFIX_LEN: usize, const SIZE: usize> InnerNodeRead<K, V, PREFIX_LEN>
     for InnerNodeIndirect<K, V, PREFIX_LEN, SIZE> {
-    ghost use Rattle.std.specs.Prelude.{◌≡◌, refl};
-    ghost use Rattle.art_nodes.specs.Inner.{HasRoomFor, indirect_room, node_with_child};
+    ghost use Rattle.art_nodes.specs.Inner.{indirect_room};
 
     ghost inner = { λ n. n };
 
     ghost room = { indirect_room SIZE };
-
-    ghost starts_empty = { λ _. refl };
 
     fn header(&self) -> &Header<PREFIX_LEN> {
         &self.header
@@ -197,17 +195,41 @@ impl<K, V, const PREFIX_LEN: usize, const SIZE: usize> InnerNodeCommon<K, V, PRE
         self.header.read_prefix()
     }
 
+    fn lookup_child(&self, key_fragment: u8) -> Option<OpaqueNodePtr<K, V, PREFIX_LEN>> {
+        let index = self.child_indices.get(key_fragment)?;
+        Some(self.child_pointers[usize::from(index)])
+    }
+
+    fn iter(&self) -> ChildIter<'_, K, V, PREFIX_LEN> {
+        ChildIter::over_indices(self.pairs())
+    }
+
+    fn range(&self, start: Bound<u8>, end: Bound<u8>) -> ChildIter<'_, K, V, PREFIX_LEN> {
+        ChildIter::over_indices_range(&self.child_indices, &self.child_pointers, start, end)
+    }
+
+    fn min(&self) -> (u8, OpaqueNodePtr<K, V, PREFIX_LEN>) {
+        self.pairs().next().unwrap()
+    }
+
+    fn max(&self) -> (u8, OpaqueNodePtr<K, V, PREFIX_LEN>) {
+        self.pairs().next_back().unwrap()
+    }
+}
+
+impl<K, V, const PREFIX_LEN: usize, const SIZE: usize> InnerNodeCommon<K, V, PREFIX_LEN>
+    for InnerNodeIndirect<K, V, PREFIX_LEN, SIZE> {
+    ghost use Rattle.std.specs.Prelude.{◌≡◌, refl};
+    ghost use Rattle.art_nodes.specs.Inner.{HasRoomFor, indirect_room, node_with_child};
+
+    ghost starts_empty = { λ _. refl };
+
     fn capacity(&self) -> usize {
         SIZE.min(255)
     }
 
     fn set_prefix(&mut self, header: &Header<PREFIX_LEN>) {
         self.header.set_prefix(header);
-    }
-
-    fn lookup_child(&self, key_fragment: u8) -> Option<OpaqueNodePtr<K, V, PREFIX_LEN>> {
-        let index = self.child_indices.get(key_fragment)?;
-        Some(self.child_pointers[usize::from(index)])
     }
 
     fn write_child(&mut self, key_fragment: u8, child_pointer: OpaqueNodePtr<K, V, PREFIX_LEN>)
@@ -230,21 +252,5 @@ impl<K, V, const PREFIX_LEN: usize, const SIZE: usize> InnerNodeCommon<K, V, PRE
         self.keys.swap_remove(freed);
         self.header.dec_num_children();
         Some(self.child_pointers.swap_remove(freed))
-    }
-
-    fn iter(&self) -> ChildIter<'_, K, V, PREFIX_LEN> {
-        ChildIter::over_indices(self.pairs())
-    }
-
-    fn range(&self, start: Bound<u8>, end: Bound<u8>) -> ChildIter<'_, K, V, PREFIX_LEN> {
-        ChildIter::over_indices_range(&self.child_indices, &self.child_pointers, start, end)
-    }
-
-    fn min(&self) -> (u8, OpaqueNodePtr<K, V, PREFIX_LEN>) {
-        self.pairs().next().unwrap()
-    }
-
-    fn max(&self) -> (u8, OpaqueNodePtr<K, V, PREFIX_LEN>) {
-        self.pairs().next_back().unwrap()
     }
 }

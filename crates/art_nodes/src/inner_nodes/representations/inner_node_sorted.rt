@@ -3,6 +3,7 @@ ghost use Rattle.std.specs.Prelude.{◌≡◌, ◌≢◌, ℕ, ◌<◌, ◌≤�
 ghost use Rattle.art_nodes.specs.ChildMap.{IsAscending};
 ghost use Rattle.art_nodes.specs.WritePoint.{IsByteAt, IsGapFor};
 
+use crate::inner_nodes::traits::inner_node_read::InnerNodeRead;
 use crate::inner_nodes::traits::node::{InnerNodeCommon, Node};
 use crate::iteration::child_iter::ChildIter;
 use crate::pointers::OpaqueNodePtr;
@@ -200,16 +201,11 @@ fn find_write_point(keys: &[u8], key_fragment: u8) -> Result<usize, usize>
     }
 }
 
-impl<K, V, const PREFIX_LEN: usize, const SIZE: usize> InnerNodeCommon<K, V, PREFIX_LEN>
+impl<K, V, const PREFIX_LEN: usize, const SIZE: usize> InnerNodeRead<K, V, PREFIX_LEN>
     for InnerNodeSorted<K, V, PREFIX_LEN, SIZE> {
-    ghost use Rattle.std.specs.Prelude.{◌≡◌, refl};
-    ghost use Rattle.art_nodes.specs.Inner.{HasRoomFor, node_with_child};
-
     ghost inner = { λ n. n };
 
     ghost room = { SIZE };
-
-    ghost starts_empty = { λ _. refl };
 
     fn header(&self) -> &Header<PREFIX_LEN> {
         &self.header
@@ -227,17 +223,42 @@ impl<K, V, const PREFIX_LEN: usize, const SIZE: usize> InnerNodeCommon<K, V, PRE
         self.header.read_prefix()
     }
 
+    fn lookup_child(&self, key_fragment: u8) -> Option<OpaqueNodePtr<K, V, PREFIX_LEN>> {
+        let index = place_of(&self.keys, key_fragment)?;
+        Some(self.child_pointers[index])
+    }
+
+    fn iter(&self) -> ChildIter<'_, K, V, PREFIX_LEN> {
+        ChildIter::over_sorted(&self.keys, &self.child_pointers)
+    }
+
+    fn range(&self, start: Bound<u8>, end: Bound<u8>) -> ChildIter<'_, K, V, PREFIX_LEN> {
+        ChildIter::over_sorted_range(&self.keys, &self.child_pointers, start, end)
+    }
+
+    fn min(&self) -> (u8, OpaqueNodePtr<K, V, PREFIX_LEN>) {
+        (self.keys[0], self.child_pointers[0])
+    }
+
+    fn max(&self) -> (u8, OpaqueNodePtr<K, V, PREFIX_LEN>) {
+        let last = self.keys.len() - 1;
+        (self.keys[last], self.child_pointers[last])
+    }
+}
+
+impl<K, V, const PREFIX_LEN: usize, const SIZE: usize> InnerNodeCommon<K, V, PREFIX_LEN>
+    for InnerNodeSorted<K, V, PREFIX_LEN, SIZE> {
+    ghost use Rattle.std.specs.Prelude.{◌≡◌, refl};
+    ghost use Rattle.art_nodes.specs.Inner.{HasRoomFor, node_with_child};
+
+    ghost starts_empty = { λ _. refl };
+
     fn capacity(&self) -> usize {
         SIZE
     }
 
     fn set_prefix(&mut self, header: &Header<PREFIX_LEN>) {
         self.header.set_prefix(header);
-    }
-
-    fn lookup_child(&self, key_fragment: u8) -> Option<OpaqueNodePtr<K, V, PREFIX_LEN>> {
-        let index = place_of(&self.keys, key_fragment)?;
-        Some(self.child_pointers[index])
     }
 
     fn write_child(&mut self, key_fragment: u8, child_pointer: OpaqueNodePtr<K, V, PREFIX_LEN>)
@@ -263,22 +284,5 @@ impl<K, V, const PREFIX_LEN: usize, const SIZE: usize> InnerNodeCommon<K, V, PRE
             }
             Err(_) => None,
         }
-    }
-
-    fn iter(&self) -> ChildIter<'_, K, V, PREFIX_LEN> {
-        ChildIter::over_sorted(&self.keys, &self.child_pointers)
-    }
-
-    fn range(&self, start: Bound<u8>, end: Bound<u8>) -> ChildIter<'_, K, V, PREFIX_LEN> {
-        ChildIter::over_sorted_range(&self.keys, &self.child_pointers, start, end)
-    }
-
-    fn min(&self) -> (u8, OpaqueNodePtr<K, V, PREFIX_LEN>) {
-        (self.keys[0], self.child_pointers[0])
-    }
-
-    fn max(&self) -> (u8, OpaqueNodePtr<K, V, PREFIX_LEN>) {
-        let last = self.keys.len() - 1;
-        (self.keys[last], self.child_pointers[last])
     }
 }

@@ -7,6 +7,7 @@ ghost use Rattle.art_nodes.specs.Inner.{HasRoomFor};
 use crate::inner_nodes::representations::inner_node_direct::InnerNodeDirect;
 use crate::inner_nodes::representations::inner_node_indirect::InnerNode48;
 use crate::inner_nodes::representations::inner_node_sorted::{InnerNode4, InnerNode16};
+use crate::inner_nodes::traits::inner_node_read::InnerNodeRead;
 use crate::inner_nodes::traits::node::{InnerNodeCommon, Node};
 
 /// An inner node of one of the four kinds, and the kinds next to it.

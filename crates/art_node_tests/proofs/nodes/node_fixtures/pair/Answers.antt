@@ -15,7 +15,7 @@ write_child-requires g c = (
 
 pub write_child-requires-2 : goal.write_child-requires-2
 write_child-requires-2 g c =
-    let first : (g.N.InnerNodeCommon.inner c.write_child.result).children ≡ (3, c.args.child) ∷ [] =
+    let first : (g.N.InnerNodeRead.inner c.write_child.result).children ≡ (3, c.args.child) ∷ [] =
     ap (λ node. node.children) c.write_child.ensures ∙ ap (λ node. with_child node.children 3 c.args.child) c.builder.ensures in (
       builder_fits _ c.requires.memory,
       (

@@ -5,5 +5,5 @@ use Rattle.art_nodes.proofs.inner_nodes.builder.InnerNodeBuilder.last_byte.Goals
 
 pub returns-clause-above : goal.returns-clause-above
 returns-clause-above g c = λ byte less.
-    let below = all_below_greater (g.N.InnerNodeCommon.inner c.self.inside.node).children c.max-byte.result byte c.max-byte.ensures.sound.ascending c.max-byte.ensures.pair less in
-    subst (λ node. All (λ other. other < byte) (key_bytes (g.N.InnerNodeCommon.inner node).children)) c.self.view_is below
+    let below = all_below_greater (g.N.InnerNodeRead.inner c.self.inside.node).children c.max-byte.result byte c.max-byte.ensures.sound.ascending c.max-byte.ensures.pair less in
+    subst (λ node. All (λ other. other < byte) (key_bytes (g.N.InnerNodeRead.inner node).children)) c.self.view_is below

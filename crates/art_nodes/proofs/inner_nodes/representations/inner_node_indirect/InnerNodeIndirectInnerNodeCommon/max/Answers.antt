@@ -1,8 +1,0 @@
-use Rattle.std.proofs.Common.{ap, sym, ◌∙◌}
-use Rattle.art_nodes.specs.ChildMap.{last_pair}
-use Rattle.art_nodes.proofs.ListLemmas.{last_yielded}
-use Rattle.art_nodes.proofs.inner_nodes.representations.inner_node_indirect.InnerNodeIndirectInnerNodeCommon.max.Goals as goal
-
-pub returns-clause-pair : goal.returns-clause-pair
-returns-clause-pair g c =
-    ap last_pair (sym c.pairs.ensures.pairs) ∙ sym (last_yielded c.pairs.result _ _ c.next_back.ensures.steps) ∙ c.unwrap.ensures
