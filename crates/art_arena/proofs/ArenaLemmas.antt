@@ -7,13 +7,15 @@ use Rattle.slab.proofs.SlabLemmas.{ContainsKey-within}
 use Rattle.std.proofs.lemmas.List.Sums.{sum_by-set}
 use Rattle.art_header.specs.declared.node_type.NodeType.{NodeType}
 use Rattle.art_header.specs.declared.node_type.NodeType.TheVariants.{Node4, Node16, Node48, Node256, Leaf}
-use Rattle.art_header.specs.Header.{Header}
 use Rattle.art_header.specs.NodeType.{most_children}
-use Rattle.art_nodes.specs.Inner.{Inner, IsInner, node_with_prefix_of}
+use Rattle.art_nodes.specs.ChildMap.{child_at}
+use Rattle.art_nodes.specs.Inner as nodes
+use Rattle.art_nodes.specs.Inner.{Inner, IsInner}
 use Rattle.art_nodes.specs.Pointers.{node_kind, opaque_key, opaque_pointer}
 use Rattle.art_nodes.specs.declared.pointers.OpaqueNodePtr.{OpaqueNodePtr}
 use Rattle.art_nodes.specs.declared.leaf_node.LeafNode.{LeafNode}
 use Rattle.art_nodes.proofs.KindLaws.{same_or_differ}
+use Rattle.art_arena.proofs.StandingLaws.{one-inner}
 use Rattle.art_arena.specs.Arena.{ArenaOf, Held, HeldInner, Nothing, held, held_inner, held_leaf, held_under, held_option, Changes, SameNodes, room, slab_room, capacity, space, SameRoom, SameOtherRoom, SameCapacity, SameOtherCapacity}
 
 -- a slab returns a reference where it has a value
@@ -96,11 +98,24 @@ module _ {K V : Type 0} {P : ℕ} {N : Type 0} (kind : NodeType) (slab_of : Aren
       pub SameRoom-with_value : (arena : ArenaOf K V P) (key : ℕ) (node : N) → ContainsKey (slab_of arena) key → SameRoom arena (with_slab arena (with_value (slab_of arena) key node))
       SameRoom-with_value arena key node within = SameRoom-written arena (with_value (slab_of arena) key node) (slab_room-with_value (slab_of arena) key node within) refl
 
--- the node at a pointer, changed to have another prefix, as the pointer's caller names it
-pub Changes-prefix : {K V : Type 0} {P : ℕ} {old new : ArenaOf K V P} {at pointer : OpaqueNodePtr K V P} {there now node : Inner (OpaqueNodePtr K V P)} (header : Header) → at ≡ pointer → held old at ≡ HeldInner there → now ≡ node_with_prefix_of there header → Changes old new at (HeldInner now) → held old pointer ≡ HeldInner node → Changes old new pointer (HeldInner (node_with_prefix_of node header))
-Changes-prefix {old = old} {new = new} {at = at} {there = there} {node = node} header same held_there made changes is =
-    let same_node : there ≡ node = search rules in
-    subst (λ p. Changes old new p (HeldInner (node_with_prefix_of node header))) same (subst (λ n. Changes old new at (HeldInner n)) (made ∙ ap (λ n. node_with_prefix_of n header) same_node) changes)
+module _ {K V : Type 0} {P : ℕ} where
+  -- the node at a pointer has space for a child, by each name of the pointer
+  pub room-there : (arena : ArenaOf K V P) {at pointer : OpaqueNodePtr K V P} {there : Inner (OpaqueNodePtr K V P)} (byte : ℕ) → at ≡ pointer → held arena at ≡ HeldInner there
+      → ((node : Inner (OpaqueNodePtr K V P)) → held arena pointer ≡ HeldInner node → nodes.HasRoomFor (most_children (node_kind pointer)) node byte) → nodes.HasRoomFor (most_children (node_kind at)) there byte
+  room-there arena {there = there} byte same here has_room = subst (λ p. held arena p ≡ HeldInner there → nodes.HasRoomFor (most_children (node_kind p)) there byte) (sym same) (has_room there) here
+
+  -- the node that an edit was made of is the one that was held
+  pub edited-there : (edit : Inner (OpaqueNodePtr K V P) → Inner (OpaqueNodePtr K V P)) (old new : ArenaOf K V P) {at pointer : OpaqueNodePtr K V P} {there now node : Inner (OpaqueNodePtr K V P)} → at ≡ pointer → held old at ≡ HeldInner there
+      → now ≡ edit there → Changes old new at (HeldInner now) → held old pointer ≡ HeldInner node → Changes old new pointer (HeldInner (edit node))
+  edited-there edit old new {at = at} {there = there} {node = node} same here edited changes is =
+      let one = one-inner (held old at) there node here (ap (held old) same ∙ is) in
+      subst (λ p. Changes old new p (HeldInner (edit node))) same (subst (λ n. Changes old new at (HeldInner n)) (edited ∙ ap edit one) changes)
+
+  -- what a removal returned is the child of the node that was held
+  pub child-there : (arena : ArenaOf K V P) {at pointer : OpaqueNodePtr K V P} {there node : Inner (OpaqueNodePtr K V P)} {child : Option (OpaqueNodePtr K V P)} (byte : ℕ) → at ≡ pointer → held arena at ≡ HeldInner there
+      → child ≡ child_at there.children byte → held arena pointer ≡ HeldInner node → child ≡ child_at node.children byte
+  child-there arena {at = at} {there = there} {node = node} byte same here returned is =
+      returned ∙ ap (λ n. child_at n.children byte) (one-inner (held arena at) there node here (ap (held arena) same ∙ is))
 
 -- the node that is held at a pointer of a kind is sound for the pointer's own kind
 pub IsInner-held : {K V : Type 0} {P : ℕ} (arena : ArenaOf K V P) (pointer : OpaqueNodePtr K V P) {kind : NodeType} {there node : Inner (OpaqueNodePtr K V P)} → kind ≡ node_kind pointer → held arena pointer ≡ HeldInner there → IsInner P (most_children kind) there → held arena pointer ≡ HeldInner node → IsInner P (most_children (node_kind pointer)) node

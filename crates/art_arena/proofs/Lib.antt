@@ -1,6 +1,7 @@
 mod ArenaLemmas
 mod BelowLemmas
 mod EndLemmas
+mod InnerRefLemmas
 mod KeptLemmas
 mod KnitLemmas
 mod LeafLemmas

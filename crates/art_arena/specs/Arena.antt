@@ -90,6 +90,12 @@ module _ {H L : Type 0} where
   inner_or other (HeldInner node) = node
   inner_or other (HeldLeaf leaf) = other
 
+  -- the inner node that is held, if it is one
+  abbrev pub as_inner : Held H L → Option (Inner H)
+  as_inner Nothing = None
+  as_inner (HeldInner node) = Some node
+  as_inner (HeldLeaf leaf) = None
+
   -- the leaf that is held, or this other one
   abbrev pub leaf_or : L → Held H L → L
   leaf_or other Nothing = other

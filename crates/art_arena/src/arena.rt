@@ -4,7 +4,8 @@ ghost use Rattle.std.specs.Borrow.{sem};
 ghost use Rattle.std.specs.Option.{option_copied, option_map};
 ghost use Rattle.art_header.specs.declared.node_type.NodeType.TheVariants as NodeType;
 ghost use Rattle.art_header.specs.NodeType.{most_children};
-ghost use Rattle.art_nodes.specs.Inner.{IsInner, node_with_prefix_of};
+ghost use Rattle.art_nodes.specs.ChildMap.{child_at};
+ghost use Rattle.art_nodes.specs.Inner.{HasRoomFor, IsInner, node_with_child, node_with_prefix_of, node_without_child};
 ghost use Rattle.art_nodes.specs.Leaf.{leaf_key, leaf_value, with_value};
 ghost use Rattle.art_nodes.specs.Pointers.{slab_key, node_kind, opaque_pointer};
 ghost use Rattle.art_arena.specs.Links.{HoldsLeaf, leaf_at, with_value_at};
@@ -16,8 +17,8 @@ mod shelves;
 
 use crate::reader::{AnyRef, NodeRef};
 use art_nodes::{
-    ConcreteNodePtr, Header, InnerNode4, InnerNode16, InnerNode48, InnerNodeCommon,
-    InnerNodeDirect, LeafNode, Node, NodePtr, NodeType, OpaqueNodePtr,
+    ConcreteNodePtr, Header, InnerNode4, InnerNode16, InnerNode48, InnerNode256, InnerNodeCommon,
+    InnerNodeRead, LeafNode, Node, NodePtr, NodeType, OpaqueNodePtr,
 };
 pub use shelves::{ArenaInnerNode, ArenaNode};
 use slab::Slab;
@@ -76,7 +77,7 @@ pub type NodeArena<K, V, const PREFIX_LEN: usize> = Slabs<
     InnerNode4<K, V, PREFIX_LEN>,
     InnerNode16<K, V, PREFIX_LEN>,
     InnerNode48<K, V, PREFIX_LEN>,
-    InnerNodeDirect<K, V, PREFIX_LEN>,
+    InnerNode256<K, V, PREFIX_LEN>,
     LeafNode<K, V, PREFIX_LEN>,
 >;
 
@@ -170,7 +171,7 @@ impl<K, V, const PREFIX_LEN: usize> NodeArena<K, V, PREFIX_LEN> {
             NodeType::Node16 => self.reserve_slots::<InnerNode16<K, V, PREFIX_LEN>>(additional),
             NodeType::Node48 => self.reserve_slots::<InnerNode48<K, V, PREFIX_LEN>>(additional),
             NodeType::Node256 => {
-                self.reserve_slots::<InnerNodeDirect<K, V, PREFIX_LEN>>(additional)
+                self.reserve_slots::<InnerNode256<K, V, PREFIX_LEN>>(additional)
             }
             NodeType::Leaf => self.reserve_slots::<LeafNode<K, V, PREFIX_LEN>>(additional),
         }
@@ -351,6 +352,97 @@ impl<K, V, const PREFIX_LEN: usize> NodeArena<K, V, PREFIX_LEN> {
             ConcreteNodePtr::Node16(node) => self.as_mut(node).set_prefix(header),
             ConcreteNodePtr::Node48(node) => self.as_mut(node).set_prefix(header),
             ConcreteNodePtr::Node256(node) => self.as_mut(node).set_prefix(header),
+            ConcreteNodePtr::LeafNode(_) => unreachable!(),
+        }
+    }
+
+    /// Writes the child under the byte of an inner node, and replaces any that is there. The node's
+    /// prefix and every other node are unchanged. The arena must hold a node at the pointer, and not
+    /// a leaf; under a new byte, the node has fewer children than its kind holds. Takes no memory.
+    pub fn write_child(
+        &mut self,
+        pointer: OpaqueNodePtr<K, V, PREFIX_LEN>,
+        key_fragment: u8,
+        child_pointer: OpaqueNodePtr<K, V, PREFIX_LEN>,
+    )
+        requires held { held self.old pointer ≢ Nothing }
+        requires inner { node_kind pointer ≢ NodeType.Leaf }
+        requires has_room { (node : _) → held self.old pointer ≡ HeldInner node →
+            HasRoomFor (most_children (node_kind pointer)) node key_fragment }
+        ensures written { (node : _) → held self.old pointer ≡ HeldInner node →
+            Changes self.old self.new pointer
+            (HeldInner (node_with_child node key_fragment child_pointer)) }
+        ensures room { SameRoom self.old self.new }
+    {
+        match pointer.to_node_ptr() {
+            ConcreteNodePtr::Node4(node) => {
+                self.as_mut(node).write_child(key_fragment, child_pointer)
+            }
+            ConcreteNodePtr::Node16(node) => {
+                self.as_mut(node).write_child(key_fragment, child_pointer)
+            }
+            ConcreteNodePtr::Node48(node) => {
+                self.as_mut(node).write_child(key_fragment, child_pointer)
+            }
+            ConcreteNodePtr::Node256(node) => {
+                self.as_mut(node).write_child(key_fragment, child_pointer)
+            }
+            ConcreteNodePtr::LeafNode(_) => unreachable!(),
+        }
+    }
+
+    /// Removes the child under the byte of an inner node and returns it. Without a child there it
+    /// returns None and changes nothing. The node's prefix and kind and every other node are
+    /// unchanged; it may be left with one child or none. The arena must hold a node at the pointer,
+    /// and not a leaf. Takes no memory.
+    pub fn remove_child(
+        &mut self,
+        pointer: OpaqueNodePtr<K, V, PREFIX_LEN>,
+        key_fragment: u8,
+    ) -> Option<OpaqueNodePtr<K, V, PREFIX_LEN>>
+        requires held { held self.old pointer ≢ Nothing }
+        requires inner { node_kind pointer ≢ NodeType.Leaf }
+        ensures child { (node : _) → held self.old pointer ≡ HeldInner node →
+            result ≡ child_at node.children key_fragment }
+        ensures removed { (node : _) → held self.old pointer ≡ HeldInner node →
+            Changes self.old self.new pointer
+            (HeldInner (node_without_child node key_fragment)) }
+        ensures room { SameRoom self.old self.new }
+    {
+        match pointer.to_node_ptr() {
+            ConcreteNodePtr::Node4(node) => self.as_mut(node).remove_child(key_fragment),
+            ConcreteNodePtr::Node16(node) => self.as_mut(node).remove_child(key_fragment),
+            ConcreteNodePtr::Node48(node) => self.as_mut(node).remove_child(key_fragment),
+            ConcreteNodePtr::Node256(node) => self.as_mut(node).remove_child(key_fragment),
+            ConcreteNodePtr::LeafNode(_) => unreachable!(),
+        }
+    }
+
+    /// Removes an inner node from the arena. Its children stay where they are. The arena must hold a
+    /// node at the pointer, and not a leaf, and holds nothing there afterwards. Takes no memory.
+    pub fn deallocate(&mut self, pointer: OpaqueNodePtr<K, V, PREFIX_LEN>)
+        requires held { held self.old pointer ≢ Nothing }
+        requires inner { node_kind pointer ≢ NodeType.Leaf }
+        ensures removed { Changes self.old self.new pointer Nothing }
+        ensures room { room self.old (node_kind pointer) ≤ room self.new (node_kind pointer) }
+        ensures takes_no_memory { let kind = node_kind pointer in
+            room self.new kind ≤ room self.old kind + 1 }
+        ensures capacity { SameCapacity self.old self.new }
+        ensures other_room { SameOtherRoom self.old self.new (node_kind pointer) }
+    {
+        match pointer.to_node_ptr() {
+            ConcreteNodePtr::Node4(node) => {
+                self.deallocate_node_ptr(node);
+            }
+            ConcreteNodePtr::Node16(node) => {
+                self.deallocate_node_ptr(node);
+            }
+            ConcreteNodePtr::Node48(node) => {
+                self.deallocate_node_ptr(node);
+            }
+            ConcreteNodePtr::Node256(node) => {
+                self.deallocate_node_ptr(node);
+            }
             ConcreteNodePtr::LeafNode(_) => unreachable!(),
         }
     }

@@ -1,8 +1,8 @@
 //! The first and the last leaf of a tree.
-ghost use Rattle.std.specs.Prelude.{◌≡◌, ◌≢◌, ◌<◌, ℕ, length, Some, IfOk, IfErr};
+ghost use Rattle.std.specs.Prelude.{◌≡◌, ◌≢◌, ◌<◌, ℕ, length, Some, IfSome, IfNone};
 ghost use Rattle.art_header.specs.declared.node_type.NodeType.TheVariants.{Leaf};
 ghost use Rattle.art_nodes.specs.Inner.{Inner};
-ghost use Rattle.art_nodes.specs.Pointers.{slab_key, opaque_pointer};
+ghost use Rattle.art_nodes.specs.Pointers.{node_kind, slab_key, opaque_pointer};
 ghost use Rattle.art_arena.specs.Arena.{held, HeldInner, Nothing};
 ghost use Rattle.art_arena.specs.Ends.{end_pair, IsAtEnd};
 ghost use Rattle.art_arena.specs.Links.{HoldsLeaf};
@@ -10,9 +10,8 @@ ghost use Rattle.art_arena.specs.Standing.{TreeAt};
 ghost use Rattle.art_arena.specs.Trees.{leaves};
 
 use crate::arena::NodeArena;
-use crate::reader::AnyRef;
 use art_bytes::AsBytes;
-use art_nodes::{InnerNodeCommon, LeafNode, NodePtr, OpaqueNodePtr};
+use art_nodes::{InnerNodeRead, LeafNode, NodePtr, OpaqueNodePtr};
 
 /// One end of the leaves of a tree, for [`end_leaf`], which has an example.
 #[derive(Clone, Copy, Debug, PartialEq, Eq)]
@@ -24,7 +23,7 @@ pub enum End {
 }
 
 // The child under the least byte, or under the greatest.
-fn end_child<K, V, const PREFIX_LEN: usize, N: InnerNodeCommon<K, V, PREFIX_LEN>>(
+fn end_child<K, V, const PREFIX_LEN: usize, N: InnerNodeRead<K, V, PREFIX_LEN>>(
     node: &N,
     end: End,
 ) -> OpaqueNodePtr<K, V, PREFIX_LEN>
@@ -38,27 +37,22 @@ fn end_child<K, V, const PREFIX_LEN: usize, N: InnerNodeCommon<K, V, PREFIX_LEN>
     child
 }
 
-// The same for the inner node at this pointer, or the leaf that is there.
+// The same for the inner node at this pointer. A leaf has none.
 fn step_to_end<K, V, const PREFIX_LEN: usize>(
     arena: &NodeArena<K, V, PREFIX_LEN>,
     pointer: OpaqueNodePtr<K, V, PREFIX_LEN>,
     end: End,
-) -> Result<OpaqueNodePtr<K, V, PREFIX_LEN>, NodePtr<PREFIX_LEN, LeafNode<K, V, PREFIX_LEN>>>
+) -> Option<OpaqueNodePtr<K, V, PREFIX_LEN>>
     requires held { held arena.now pointer ≢ Nothing }
     requires has_child { (node : Inner _) → held arena.now pointer ≡ HeldInner node →
         0 < length node.children }
-    ensures child { IfOk result (λ child. (node : Inner _) × (byte : ℕ) ×
+    ensures child { IfSome result (λ child. (node : Inner _) × (byte : ℕ) ×
         (held arena.now pointer ≡ HeldInner node) ×
         (end_pair end node.children ≡ Some (byte, child))) }
-    ensures leaf { IfErr result (λ leaf. pointer ≡ opaque_pointer Leaf (slab_key leaf)) }
+    ensures leaf { IfNone result (node_kind pointer ≡ Leaf) }
 {
-    match arena.node_ref(pointer) {
-        AnyRef::Node4(node) => Ok(end_child(node, end)),
-        AnyRef::Node16(node) => Ok(end_child(node, end)),
-        AnyRef::Node48(node) => Ok(end_child(node, end)),
-        AnyRef::Node256(node) => Ok(end_child(node, end)),
-        AnyRef::LeafNode(_) => Err(pointer.cast().unwrap()),
-    }
+    let node = arena.node_ref(pointer).inner()?;
+    Some(end_child(&node, end))
 }
 
 /// The first or the last leaf of the tree that stands at this pointer: the one with the least or
@@ -93,12 +87,12 @@ pub fn end_leaf<K: AsBytes, V, const PREFIX_LEN: usize>(
     let mut passed: usize = 0;
     'way: loop {
         match step_to_end(arena, at, end) {
-            Ok(child) => {
+            Some(child) => {
                 at = child;
                 passed += 1;
             }
-            Err(leaf) => {
-                return leaf;
+            None => {
+                return at.cast().unwrap();
             }
         }
     }

@@ -12,7 +12,7 @@ ghost use Rattle.art_arena.specs.Trees.{texts};
 use crate::arena::NodeArena;
 use crate::ends::{End, end_leaf};
 use art_bytes::AsBytes;
-use art_nodes::{ExplicitMismatch, InnerNodeCommon, NodePrefix, PrefixMatch, common_prefix_len};
+use art_nodes::{ExplicitMismatch, InnerNodeRead, NodePrefix, PrefixMatch, common_prefix_len};
 
 /// An inner node whose whole compressed prefix can be read, with the arena that holds the nodes
 /// below it.
@@ -28,7 +28,7 @@ use art_nodes::{ExplicitMismatch, InnerNodeCommon, NodePrefix, PrefixMatch, comm
 /// assert!(rt; prefix == expected);
 /// assert!(rt; leaf.is_some() == (PREFIX_LEN < expected.len()));
 /// ```
-pub trait FullPrefix<K: AsBytes, V, const PREFIX_LEN: usize>: InnerNodeCommon<K, V, PREFIX_LEN> {
+pub trait FullPrefix<K: AsBytes, V, const PREFIX_LEN: usize>: InnerNodeRead<K, V, PREFIX_LEN> {
     /// The whole compressed prefix of the node: the bytes that the keys of all leaves below share
     /// from `depth` on. `depth` is the number of bytes on the path to the node. Where the prefix is
     /// longer than `PREFIX_LEN`, the leaf that it was read from is returned too: some leaf below
@@ -131,7 +131,7 @@ pub trait FullPrefix<K: AsBytes, V, const PREFIX_LEN: usize>: InnerNodeCommon<K,
     }
 }
 
-impl<K: AsBytes, V, const PREFIX_LEN: usize, N: InnerNodeCommon<K, V, PREFIX_LEN>> FullPrefix<
+impl<K: AsBytes, V, const PREFIX_LEN: usize, N: InnerNodeRead<K, V, PREFIX_LEN>> FullPrefix<
     K,
     V,
     PREFIX_LEN,

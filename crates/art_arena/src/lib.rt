@@ -9,6 +9,7 @@
 mod arena;
 mod ends;
 mod full_prefix;
+mod inner_ref;
 pub mod laws;
 mod leaf_links;
 mod reader;
@@ -17,5 +18,6 @@ pub use arena::{ArenaInnerNode, ArenaNode, NodeArena};
 pub use art_nodes::{ExplicitMismatch, NodePrefix};
 pub use ends::{End, end_leaf};
 pub use full_prefix::FullPrefix;
+pub use inner_ref::{AnyInnerRef, InnerRef};
 pub use leaf_links::LeafLinks;
 pub use reader::{AnyRef, ArenaReader, NodeRef};

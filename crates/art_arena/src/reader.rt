@@ -5,7 +5,7 @@ ghost use Rattle.art_nodes.specs.Pointers.{node_kind};
 ghost use Rattle.art_arena.specs.Reader.{shown, shown_kind};
 
 use crate::arena::NodeArena;
-use art_nodes::{InnerNode4, InnerNode16, InnerNode48, InnerNodeDirect, LeafNode, OpaqueNodePtr};
+use art_nodes::{InnerNode4, InnerNode16, InnerNode48, InnerNode256, LeafNode, OpaqueNodePtr};
 use std::marker::Model;
 
 /// A reference to a node of one of five types. Callers name it [`NodeRef`]; see [`ArenaReader`] for
@@ -31,7 +31,7 @@ pub type NodeRef<'a, K, V, const PREFIX_LEN: usize> = AnyRef<
     InnerNode4<K, V, PREFIX_LEN>,
     InnerNode16<K, V, PREFIX_LEN>,
     InnerNode48<K, V, PREFIX_LEN>,
-    InnerNodeDirect<K, V, PREFIX_LEN>,
+    InnerNode256<K, V, PREFIX_LEN>,
     LeafNode<K, V, PREFIX_LEN>,
 >;
 

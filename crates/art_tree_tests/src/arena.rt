@@ -7,7 +7,7 @@ ghost use Rattle.art_arena.specs.Standing.{TreeUnder};
 
 use art_arena::{ArenaNode, FullPrefix, NodeArena};
 use art_bytes::AsBytes;
-use art_nodes::{InnerNode4, InnerNodeCommon, NodePtr};
+use art_nodes::{InnerNode4, InnerNodeCommon, InnerNodeRead, NodePtr};
 use std::cmp::Ordering;
 use std::process::Abort;
 

@@ -5,7 +5,7 @@ ghost use Rattle.art_arena.specs.Lending.{slab_row};
 
 use crate::arena::NodeArena;
 use art_nodes::{
-    InnerNode4, InnerNode16, InnerNode48, InnerNodeCommon, InnerNodeDirect, LeafNode, Node,
+    InnerNode4, InnerNode16, InnerNode48, InnerNode256, InnerNodeCommon, LeafNode, Node,
 };
 use slab::Slab;
 
@@ -270,7 +270,7 @@ impl<K, V, const PREFIX_LEN: usize> ArenaInnerNode<K, V, PREFIX_LEN>
 }
 
 impl<K, V, const PREFIX_LEN: usize> Shelved<NodeArena<K, V, PREFIX_LEN>>
-    for InnerNodeDirect<K, V, PREFIX_LEN> {
+    for InnerNode256<K, V, PREFIX_LEN> {
     ghost slab_of = { λ a. a.node256 };
 
     ghost with_slab = { λ a s. record a { node256 = s } };
@@ -284,8 +284,7 @@ impl<K, V, const PREFIX_LEN: usize> Shelved<NodeArena<K, V, PREFIX_LEN>>
     }
 }
 
-impl<K, V, const PREFIX_LEN: usize> ArenaNode<K, V, PREFIX_LEN>
-    for InnerNodeDirect<K, V, PREFIX_LEN> {
+impl<K, V, const PREFIX_LEN: usize> ArenaNode<K, V, PREFIX_LEN> for InnerNode256<K, V, PREFIX_LEN> {
     ghost use Rattle.art_arena.specs.Arena.{HeldInner, IsSomething, inner_or};
     ghost use Rattle.std.proofs.Common.{ap, subst, rules};
 
@@ -313,7 +312,7 @@ impl<K, V, const PREFIX_LEN: usize> ArenaNode<K, V, PREFIX_LEN>
 }
 
 impl<K, V, const PREFIX_LEN: usize> ArenaInnerNode<K, V, PREFIX_LEN>
-    for InnerNodeDirect<K, V, PREFIX_LEN> {
+    for InnerNode256<K, V, PREFIX_LEN> {
     ghost use Rattle.std.proofs.Common.{refl};
 
     ghost shown = { λ node. refl };

@@ -1,9 +1,9 @@
 //! Tests of every call of the arena, and of its nodes after an allocation failure.
 use super::put;
 use crate::ALL_STANDS;
-use art_arena::{ArenaNode, NodeArena};
+use art_arena::{ArenaNode, InnerRef, NodeArena};
 use art_nodes::{
-    Header, InnerNode, InnerNode4, InnerNodeCommon, LeafNode, NodePtr, NodeType, OpaqueNodePtr,
+    Header, InnerNode, InnerNode4, InnerNodeCommon, InnerNodeRead, LeafNode, NodePtr, NodeType, OpaqueNodePtr,
 };
 use std::alloc::AllocError;
 use std::process::Abort;
@@ -62,6 +62,40 @@ fn check_inner<N: ArenaNode<Key, u16, 16> + InnerNodeCommon<Key, u16, 16> + Drop
     assert!(rt; !arena.holds_opaque(pointer));
 }
 
+// A reference to an inner node of any kind, with children under 3 and 5.
+fn check_reading(rt: &impl Abort, node: InnerRef<'_, Key, u16, 16>) {
+    assert!(rt; node.header().num_children() == 2 && node.num_children() == 2);
+    assert!(rt; node.prefix_len() == 2 && node.stored_prefix() == b"ab".as_slice());
+    assert!(rt; node.lookup_child(5) == Some(child()) && node.lookup_child(4).is_none());
+    assert!(rt; node.min() == (3, child()) && node.max() == (5, child()));
+    assert!(rt; node.child_above(3) == Some((5, child())) && node.child_above(5).is_none());
+    assert!(rt; node.iter().count() == 2);
+    assert!(rt; node.any_child_prefer_leaf() == child());
+    assert!(rt; node.optimistic_match_prefix(b"xy").is_ok());
+    assert!(rt; node.attempt_pessimistic_match_prefix(b"xy").is_err());
+}
+
+// The calls at an opaque pointer, of an inner node with children under 3 and 5.
+fn check_opaque_inner<N: ArenaNode<Key, u16, 16> + Drop>(
+    rt: &impl Abort,
+    arena: &mut Arena,
+    node: N,
+) {
+    let pointer = put(rt, arena, node).to_opaque();
+    assert!(rt; arena.holds_opaque(pointer));
+    let Some(inner) = arena.node_ref(pointer).inner() else {
+        panic!(rt; "a leaf");
+    };
+    check_reading(rt, inner);
+    assert!(rt; pointer.node_type() != NodeType::Leaf);
+    assert!(rt; arena.remove_child(pointer, 3) == Some(child()));
+    assert!(rt; arena.holds_opaque(pointer));
+    assert!(rt; arena.remove_child(pointer, 3).is_none());
+    assert!(rt; arena.holds_opaque(pointer));
+    arena.deallocate(pointer);
+    assert!(rt; !arena.holds_opaque(pointer));
+}
+
 // A pointer to be a child of nodes, which nothing follows.
 fn child() -> Pointer {
     NodePtr::<16, Leaf>::from_key(9).to_opaque()
@@ -117,6 +151,22 @@ fn check_each_kind(rt: &impl Abort, arena: &mut Arena) {
     check_inner(rt, arena, forty_eight.clone(), forty_eight);
     check_inner(rt, arena, all.clone(), all);
     check_leaf(rt, arena);
+}
+
+fn check_each_opaque_kind(rt: &impl Abort, arena: &mut Arena) {
+    let four = InnerNode4::builder(b"ab", 2)
+        .write_child(3, child())
+        .write_child(5, child())
+        .build();
+    check_opaque_inner(rt, arena, four.grow());
+    check_opaque_inner(rt, arena, four.grow().grow());
+    check_opaque_inner(rt, arena, four.grow().grow().grow());
+    check_opaque_inner(rt, arena, four);
+}
+
+#[test]
+fn an_inner_node_of_any_kind_is_read_changed_and_given_up(rt: HostRuntime) {
+    check_each_opaque_kind(&rt, &mut Arena::new(rt.alloc()));
 }
 
 #[test]

@@ -2,7 +2,7 @@
 use super::{numbered, shape};
 use crate::ALL_STANDS;
 use art_tree::{
-    AnyRef, ArenaReader, InnerNode4, InnerNodeCommon, InsertRefusal, LeafNode, LoadFault,
+    AnyRef, ArenaReader, InnerNode4, InnerNodeCommon, InnerNodeRead, InsertRefusal, LeafNode, LoadFault,
     LoadRefusal, NodeArena, NodePtr, NodeType, OpaqueNodePtr, load,
 };
 use std::alloc::{AllocError, Global};

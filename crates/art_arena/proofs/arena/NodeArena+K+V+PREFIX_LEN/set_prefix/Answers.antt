@@ -1,27 +1,28 @@
 use Rattle.std.proofs.Common.{rules}
-use Rattle.art_arena.proofs.ArenaLemmas.{Changes-prefix}
+use Rattle.art_nodes.specs.Inner.{node_with_prefix_of}
+use Rattle.art_arena.proofs.ArenaLemmas.{edited-there}
 use Rattle.art_arena.proofs.arena.NodeArena+K+V+PREFIX_LEN.set_prefix.Goals as goal
 
 pub returns-in-Node4-clause-prefix : goal.returns-in-Node4-clause-prefix
-returns-in-Node4-clause-prefix g c = λ node is. Changes-prefix c.args.header.now c.in-Node4.ensures.undone c.as_mut.ensures.node c.set_prefix.ensures (c.as_mut.ensures.changes c.set_prefix.new.self) is
+returns-in-Node4-clause-prefix g c = λ node is. edited-there (λ n. node_with_prefix_of n c.args.header.now) c.args.self.now _ c.in-Node4.ensures.undone c.as_mut.ensures.node c.set_prefix.ensures (c.as_mut.ensures.changes c.set_prefix.new.self) is
 
 pub returns-in-Node4-clause-room : goal.returns-in-Node4-clause-room
 returns-in-Node4-clause-room g c = c.as_mut.ensures.room c.set_prefix.new.self
 
 pub returns-in-Node16-clause-prefix : goal.returns-in-Node16-clause-prefix
-returns-in-Node16-clause-prefix g c = λ node is. Changes-prefix c.args.header.now c.in-Node16.ensures.undone c.as_mut-in-Node16.ensures.node c.set_prefix-in-Node16.ensures (c.as_mut-in-Node16.ensures.changes c.set_prefix-in-Node16.new.self) is
+returns-in-Node16-clause-prefix g c = λ node is. edited-there (λ n. node_with_prefix_of n c.args.header.now) c.args.self.now _ c.in-Node16.ensures.undone c.as_mut-in-Node16.ensures.node c.set_prefix-in-Node16.ensures (c.as_mut-in-Node16.ensures.changes c.set_prefix-in-Node16.new.self) is
 
 pub returns-in-Node16-clause-room : goal.returns-in-Node16-clause-room
 returns-in-Node16-clause-room g c = c.as_mut-in-Node16.ensures.room c.set_prefix-in-Node16.new.self
 
 pub returns-in-Node48-clause-prefix : goal.returns-in-Node48-clause-prefix
-returns-in-Node48-clause-prefix g c = λ node is. Changes-prefix c.args.header.now c.in-Node48.ensures.undone c.as_mut-in-Node48.ensures.node c.set_prefix-in-Node48.ensures (c.as_mut-in-Node48.ensures.changes c.set_prefix-in-Node48.new.self) is
+returns-in-Node48-clause-prefix g c = λ node is. edited-there (λ n. node_with_prefix_of n c.args.header.now) c.args.self.now _ c.in-Node48.ensures.undone c.as_mut-in-Node48.ensures.node c.set_prefix-in-Node48.ensures (c.as_mut-in-Node48.ensures.changes c.set_prefix-in-Node48.new.self) is
 
 pub returns-in-Node48-clause-room : goal.returns-in-Node48-clause-room
 returns-in-Node48-clause-room g c = c.as_mut-in-Node48.ensures.room c.set_prefix-in-Node48.new.self
 
 pub returns-in-Node256-clause-prefix : goal.returns-in-Node256-clause-prefix
-returns-in-Node256-clause-prefix g c = λ node is. Changes-prefix c.args.header.now c.in-Node256.ensures.undone c.as_mut-in-Node256.ensures.node (search rules) (c.as_mut-in-Node256.ensures.changes _) is
+returns-in-Node256-clause-prefix g c = λ node is. edited-there (λ n. node_with_prefix_of n c.args.header.now) c.args.self.now _ c.in-Node256.ensures.undone c.as_mut-in-Node256.ensures.node (search rules) (c.as_mut-in-Node256.ensures.changes _) is
 
 pub returns-in-Node256-clause-room : goal.returns-in-Node256-clause-room
 returns-in-Node256-clause-room g c = c.as_mut-in-Node256.ensures.room _

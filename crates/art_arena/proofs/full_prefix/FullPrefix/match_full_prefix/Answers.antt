@@ -31,7 +31,7 @@ pub returns-then-matched_bytes-prefix-clause-begun : goal.returns-then-matched_b
 returns-then-matched_bytes-prefix-clause-begun g c = λ below shared is begins ok.
     let prefix = c.read_full_prefix-leaf_ptr.result.0.now in
     let counted = counted_in_rest prefix c.args.key.now c.args.depth c.common_prefix_len-matched_bytes.result c.common_prefix_len-matched_bytes.ensures in
-    let node = g.Self.InnerNodeCommon.inner c.args.self.now in
+    let node = g.Self.InnerNodeRead.inner c.args.self.now in
     let same = IsSharedFrom-same c.args.depth (texts below.tree) prefix shared (c.read_full_prefix-leaf_ptr.ensures.shared below) is in
     let whole : common_prefix_len nat_eq shared (drop c.args.depth c.args.key.now) ≡ length shared =
     subst (λ q. common_prefix_len nat_eq q (drop c.args.depth c.args.key.now) ≡ length q) same (sym counted ∙ c.if-matched_bytes-prefix.true) in
@@ -92,7 +92,7 @@ pub returns-clause-side : goal.returns-clause-side
 returns-clause-side g c = λ below begins.
     let prefix = c.read_full_prefix-leaf_ptr.result.0.now in
     let rest = drop c.args.depth c.args.key.now in
-    let node = g.Self.InnerNodeCommon.inner c.args.self.now in
+    let node = g.Self.InnerNodeRead.inner c.args.self.now in
     let counted = counted_in_rest prefix c.args.key.now c.args.depth c.common_prefix_len-matched_bytes.result c.common_prefix_len-matched_bytes.ensures in
     let order = order_in_rest prefix c.args.key.now c.args.depth c.min.result c.cmp.result c.min.ensures c.cmp.ensures in
     let parted : common_prefix_len nat_eq prefix rest ≢ length prefix = λ whole. c.if-matched_bytes-prefix.false (counted ∙ whole) in

@@ -8,7 +8,7 @@ use Rattle.art_tree_tests.proofs.tree.tree_examples.least_below.Goals as goal
 pub end_leaf-requires : goal.end_leaf-requires
 end_leaf-requires g c =
     let arena = c.args.arena.now in
-    let node = g.N.InnerNodeCommon.inner c.as_ref.result.now in
+    let node = g.N.InnerNodeRead.inner c.as_ref.result.now in
     let is : held arena (opaque_pointer g.N.Node.TYPE (slab_key c.args.node)) ≡ HeldInner node = c.as_ref.ensures ∙ g.met.N.ArenaInnerNode.shown c.as_ref.result.now in
     let some : child_at node.children c.args.byte ≡ Some c.in_ok-child.child = sym c.lookup_child.ensures.child ∙ c.in_ok-child.was in
     let found : TreeAt g.K.AsBytes.text arena c.in_ok-child.child = (c.each_node_of_a_tree_has_a_tree.ensures.child arena (opaque_pointer g.N.Node.TYPE (slab_key c.args.node)) c.in_ok-child.child node c.args.byte c.requires is some).0 in

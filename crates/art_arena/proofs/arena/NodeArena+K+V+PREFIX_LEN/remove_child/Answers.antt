@@ -1,0 +1,44 @@
+use Rattle.std.proofs.Common.{sym, ap}
+use Rattle.art_nodes.specs.Inner.{node_without_child}
+use Rattle.art_nodes.specs.Pointers.{node_kind}
+use Rattle.art_arena.proofs.ArenaLemmas.{child-there, edited-there}
+use Rattle.art_arena.proofs.arena.NodeArena+K+V+PREFIX_LEN.remove_child.Goals as goal
+
+pub returns-in-Node4-clause-removed : goal.returns-in-Node4-clause-removed
+returns-in-Node4-clause-removed g c = λ node is. edited-there (λ n. node_without_child n c.args.key_fragment) c.args.self.now _ c.in-Node4.ensures.undone c.as_mut.ensures.node c.remove_child.ensures.removed (c.as_mut.ensures.changes c.remove_child.new.self) is
+
+pub returns-in-Node4-clause-child : goal.returns-in-Node4-clause-child
+returns-in-Node4-clause-child g c = λ node is. child-there c.args.self.now c.args.key_fragment c.in-Node4.ensures.undone c.as_mut.ensures.node c.remove_child.ensures.child is
+
+pub returns-in-Node4-clause-room : goal.returns-in-Node4-clause-room
+returns-in-Node4-clause-room g c = c.as_mut.ensures.room c.remove_child.new.self
+
+pub returns-in-Node16-clause-removed : goal.returns-in-Node16-clause-removed
+returns-in-Node16-clause-removed g c = λ node is. edited-there (λ n. node_without_child n c.args.key_fragment) c.args.self.now _ c.in-Node16.ensures.undone c.as_mut-in-Node16.ensures.node c.remove_child-in-Node16.ensures.removed (c.as_mut-in-Node16.ensures.changes c.remove_child-in-Node16.new.self) is
+
+pub returns-in-Node16-clause-child : goal.returns-in-Node16-clause-child
+returns-in-Node16-clause-child g c = λ node is. child-there c.args.self.now c.args.key_fragment c.in-Node16.ensures.undone c.as_mut-in-Node16.ensures.node c.remove_child-in-Node16.ensures.child is
+
+pub returns-in-Node16-clause-room : goal.returns-in-Node16-clause-room
+returns-in-Node16-clause-room g c = c.as_mut-in-Node16.ensures.room c.remove_child-in-Node16.new.self
+
+pub returns-in-Node48-clause-removed : goal.returns-in-Node48-clause-removed
+returns-in-Node48-clause-removed g c = λ node is. edited-there (λ n. node_without_child n c.args.key_fragment) c.args.self.now _ c.in-Node48.ensures.undone c.as_mut-in-Node48.ensures.node c.remove_child-in-Node48.ensures.removed (c.as_mut-in-Node48.ensures.changes c.remove_child-in-Node48.new.self) is
+
+pub returns-in-Node48-clause-child : goal.returns-in-Node48-clause-child
+returns-in-Node48-clause-child g c = λ node is. child-there c.args.self.now c.args.key_fragment c.in-Node48.ensures.undone c.as_mut-in-Node48.ensures.node c.remove_child-in-Node48.ensures.child is
+
+pub returns-in-Node48-clause-room : goal.returns-in-Node48-clause-room
+returns-in-Node48-clause-room g c = c.as_mut-in-Node48.ensures.room c.remove_child-in-Node48.new.self
+
+pub returns-in-Node256-clause-removed : goal.returns-in-Node256-clause-removed
+returns-in-Node256-clause-removed g c = λ node is. edited-there (λ n. node_without_child n c.args.key_fragment) c.args.self.now _ c.in-Node256.ensures.undone c.as_mut-in-Node256.ensures.node c.remove_child-in-Node256.ensures.removed (c.as_mut-in-Node256.ensures.changes c.remove_child-in-Node256.new.self) is
+
+pub returns-in-Node256-clause-child : goal.returns-in-Node256-clause-child
+returns-in-Node256-clause-child g c = λ node is. child-there c.args.self.now c.args.key_fragment c.in-Node256.ensures.undone c.as_mut-in-Node256.ensures.node c.remove_child-in-Node256.ensures.child is
+
+pub returns-in-Node256-clause-room : goal.returns-in-Node256-clause-room
+returns-in-Node256-clause-room g c = c.as_mut-in-Node256.ensures.room c.remove_child-in-Node256.new.self
+
+pub unreachable-requires : goal.unreachable-requires
+unreachable-requires g c = c.requires.inner (sym (ap node_kind c.in-LeafNode.ensures.undone))
