@@ -53,7 +53,7 @@ fn direct_from_indirect<K, V, const PREFIX_LEN: usize, const SIZE: usize>(
 {
     let mut direct = InnerNodeDirect::from_header(node.header().clone().unwrap());
     for (byte, child) in node.pairs() {
-        direct.write_child(byte, child);
+        direct.write_child(byte, child.to_opaque());
     }
     direct
 }
@@ -70,7 +70,7 @@ impl<K, V, const PREFIX_LEN: usize, const SIZE: usize> InnerNodeIndirect<K, V, P
     {
         let mut indirect = Self::from_header(node.header().clone().unwrap());
         for (byte, child) in node.pairs() {
-            indirect.add_child(byte, child);
+            indirect.add_child(byte, child.to_opaque());
         }
         indirect
     }
@@ -99,7 +99,7 @@ impl<K, V, const PREFIX_LEN: usize, const SIZE: usize> InnerNodeSorted<K, V, PRE
     {
         let mut sorted = Self::from_header(node.header().clone().unwrap());
         for (byte, child) in node.pairs() {
-            sorted.write_child_unchecked(byte, child);
+            sorted.write_child_unchecked(byte, child.to_opaque());
         }
         sorted
     }
@@ -114,7 +114,7 @@ impl<K, V, const PREFIX_LEN: usize, const SIZE: usize> InnerNodeSorted<K, V, PRE
     {
         let mut sorted = Self::from_header(node.header().clone().unwrap());
         for (byte, child) in node.pairs() {
-            sorted.write_child_unchecked(byte, child);
+            sorted.write_child_unchecked(byte, child.to_opaque());
         }
         sorted
     }
