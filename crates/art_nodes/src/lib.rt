@@ -46,4 +46,5 @@ pub use iteration::bounds::valid_range_bounds;
 pub use iteration::child_iter::{ChildIter, PairIter};
 pub use leaf_node::LeafNode;
 pub use pointers::concrete::{ConcreteInnerNodePtr, ConcreteNodePtr};
+pub use pointers::packed::PackedNodePtr;
 pub use pointers::{NodePtr, OpaqueNodePtr};

@@ -31,9 +31,9 @@ pub use art_nodes::{
     ChildReply, ConcreteInnerNodePtr, ConcreteNodePtr, HasChild, HasOneChild, Header, InnerNode,
     InnerNode4, InnerNode16, InnerNode48, InnerNode256, InnerNodeBuilder, InnerNodeCommon,
     InnerNodeDirect, InnerNodeIndirect, InnerNodeSorted, LeafNode, NoChild, Node, NodePtr,
-    NodeType, NonMaxIndex, OpaqueNodePtr, OptimisticMismatch, PairIter, PessimisticMismatch,
-    PrefixMatch, Replayed, Sequence, TryFromByteError, common_prefix_len, replay,
-    valid_range_bounds,
+    NodeType, NonMaxIndex, OpaqueNodePtr, OptimisticMismatch, PackedNodePtr, PairIter,
+    PessimisticMismatch, PrefixMatch, Replayed, Sequence, TryFromByteError, common_prefix_len,
+    replay, valid_range_bounds,
 };
 pub use find::find_leaf;
 pub use insert::{InsertFault, InsertRefusal};

@@ -38,7 +38,7 @@ fn a_node_is_built_child_by_child(rt: HostRuntime) {
     has_what_was_written(&rt, &unsearched);
     let (bytes, children) = unsearched.initialized_portion();
     assert!(rt; bytes == [0, 1, 200].as_slice());
-    assert!(rt; children.len() == 3 && children[2] == leaf(10));
+    assert!(rt; children.len() == 3 && children[2].to_opaque() == leaf(10));
 }
 
 #[test]

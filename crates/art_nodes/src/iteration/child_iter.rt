@@ -12,6 +12,7 @@ use crate::iteration::index_pairs::IndexPairs;
 use crate::iteration::sorted_pairs::{SortedPairs, count_below};
 use crate::iteration::table_pairs::TablePairs;
 use crate::pointers::OpaqueNodePtr;
+use crate::pointers::packed::PackedNodePtr;
 use std::iter::FusedIterator;
 use std::marker::Model;
 use std::ops::Bound;
@@ -20,7 +21,7 @@ use std::ops::Bound;
 /// byte. [`PairIter`] has an example.
 pub type ChildIter<'a, K, V, const PREFIX_LEN: usize> = PairIter<
     'a,
-    OpaqueNodePtr<K, V, PREFIX_LEN>,
+    PackedNodePtr<K, V, PREFIX_LEN>,
 >;
 
 /// An iterator over pairs of a byte and the item under it, by ascending byte.
@@ -141,28 +142,24 @@ impl<'a, H: Copy> PairIter<'a, H> {
             source: Source::Indexed(IndexPairs::new(bytes.start, places, children)),
         }
     }
-}
 
-impl<'a, H: Copy> Iterator for PairIter<'a, H> {
-    type Item = (u8, H);
-
-    ghost next_gives = { YieldsFirst (λ pairs. pairs) };
-
-    ghost remaining = { item_count (λ pairs. pairs) };
-
-    fn next(&mut self) -> Option<(u8, H)> {
+    // Removes and returns the first pair.
+    #[inline]
+    fn next_pair(&mut self) -> Option<(u8, H)>
+        ensures { YieldsFirst (λ pairs. pairs) self.old result self.new }
+    {
         match &mut self.source {
             Source::Sorted(pairs) => pairs.next(),
             Source::Table(pairs) => pairs.next(),
             Source::Indexed(pairs) => pairs.next(),
         }
     }
-}
 
-impl<'a, H: Copy> DoubleEndedIterator for PairIter<'a, H> {
-    ghost next_back_gives = { YieldsLast (λ pairs. pairs) };
-
-    fn next_back(&mut self) -> Option<(u8, H)> {
+    // Removes and returns the last pair.
+    #[inline]
+    fn last_pair(&mut self) -> Option<(u8, H)>
+        ensures { YieldsLast (λ pairs. pairs) self.old result self.new }
+    {
         match &mut self.source {
             Source::Sorted(pairs) => pairs.next_back(),
             Source::Table(pairs) => pairs.next_back(),
@@ -171,4 +168,28 @@ impl<'a, H: Copy> DoubleEndedIterator for PairIter<'a, H> {
     }
 }
 
-impl<'a, H: Copy> FusedIterator for PairIter<'a, H> {}
+impl<'a, K, V, const PREFIX_LEN: usize> Iterator for PairIter<'a, PackedNodePtr<K, V, PREFIX_LEN>> {
+    type Item = (u8, OpaqueNodePtr<K, V, PREFIX_LEN>);
+
+    ghost next_gives = { YieldsFirst (λ pairs. pairs) };
+
+    ghost remaining = { item_count (λ pairs. pairs) };
+
+    fn next(&mut self) -> Option<(u8, OpaqueNodePtr<K, V, PREFIX_LEN>)> {
+        let (byte, child) = self.next_pair()?;
+        Some((byte, child.to_opaque()))
+    }
+}
+
+impl<'a, K, V, const PREFIX_LEN: usize> DoubleEndedIterator
+    for PairIter<'a, PackedNodePtr<K, V, PREFIX_LEN>> {
+    ghost next_back_gives = { YieldsLast (λ pairs. pairs) };
+
+    fn next_back(&mut self) -> Option<(u8, OpaqueNodePtr<K, V, PREFIX_LEN>)> {
+        let (byte, child) = self.last_pair()?;
+        Some((byte, child.to_opaque()))
+    }
+}
+
+impl<'a, K, V, const PREFIX_LEN: usize> FusedIterator
+    for PairIter<'a, PackedNodePtr<K, V, PREFIX_LEN>> {}

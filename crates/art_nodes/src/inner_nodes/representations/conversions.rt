@@ -54,7 +54,7 @@ fn direct_from_indirect<K, V, const PREFIX_LEN: usize, const SIZE: usize>(
 {
     let mut direct = InnerNodeDirect::from_header(node.header().clone().unwrap());
     for (byte, child) in node.pairs() {
-        direct.write_child(byte, child);
+        direct.write_child(byte, child.to_opaque());
     }
     direct
 }
@@ -71,7 +71,7 @@ impl<K, V, const PREFIX_LEN: usize, const SIZE: usize> InnerNodeIndirect<K, V, P
     {
         let mut indirect = Self::from_header(node.header().clone().unwrap());
         for (byte, child) in node.pairs() {
-            indirect.add_child(byte, child);
+            indirect.add_child(byte, child.to_opaque());
         }
         indirect
     }
@@ -100,7 +100,7 @@ impl<K, V, const PREFIX_LEN: usize, const SIZE: usize> InnerNodeSorted<K, V, PRE
     {
         let mut sorted = Self::from_header(node.header().clone().unwrap());
         for (byte, child) in node.pairs() {
-            sorted.write_child_unchecked(byte, child);
+            sorted.write_child_unchecked(byte, child.to_opaque());
         }
         sorted
     }
@@ -115,7 +115,7 @@ impl<K, V, const PREFIX_LEN: usize, const SIZE: usize> InnerNodeSorted<K, V, PRE
     {
         let mut sorted = Self::from_header(node.header().clone().unwrap());
         for (byte, child) in node.pairs() {
-            sorted.write_child_unchecked(byte, child);
+            sorted.write_child_unchecked(byte, child.to_opaque());
         }
         sorted
     }

@@ -5,6 +5,7 @@ use crate::inner_nodes::traits::node::{InnerNodeCommon, Node};
 use crate::iteration::child_iter::ChildIter;
 use crate::iteration::table_pairs::TablePairs;
 use crate::pointers::OpaqueNodePtr;
+use crate::pointers::packed::PackedNodePtr;
 use crate::sealed::{InThisCrate, InnerNodeInit, Sealed};
 use art_header::{Header, NodeType};
 use std::marker::Model;
@@ -29,7 +30,7 @@ pub struct InnerNodeDirect<K, V, const PREFIX_LEN: usize> {
     // The prefix, and the number of children.
     header: Header<PREFIX_LEN>,
     // A place for each byte, with its child if it has one.
-    child_pointers: ChildTable<OpaqueNodePtr<K, V, PREFIX_LEN>>,
+    child_pointers: ChildTable<PackedNodePtr<K, V, PREFIX_LEN>>,
 }
 
 /// A direct node, by the name of its kind.
@@ -88,13 +89,13 @@ impl<K, V, const PREFIX_LEN: usize> InnerNodeDirect<K, V, PREFIX_LEN> {
         header.reset_num_children();
         InnerNodeDirect {
             header,
-            child_pointers: ChildTable::new(OpaqueNodePtr::default()),
+            child_pointers: ChildTable::new(PackedNodePtr::default()),
         }
     }
 
     /// The children by ascending byte, as [`InnerNodeRead::iter`] has them.
     #[inline]
-    pub(crate) fn pairs(&self) -> TablePairs<'_, OpaqueNodePtr<K, V, PREFIX_LEN>>
+    pub(crate) fn pairs(&self) -> TablePairs<'_, PackedNodePtr<K, V, PREFIX_LEN>>
         ensures pairs { result ≡ self.now.children }
         ensures sound { IsInner PREFIX_LEN 256 self.now }
     {
@@ -144,7 +145,8 @@ impl<K, V, const PREFIX_LEN: usize> InnerNodeRead<K, V, PREFIX_LEN>
     }
 
     fn lookup_child(&self, key_fragment: u8) -> Option<OpaqueNodePtr<K, V, PREFIX_LEN>> {
-        self.child_pointers.child(key_fragment)
+        let child = self.child_pointers.child(key_fragment)?;
+        Some(child.to_opaque())
     }
 
     fn iter(&self) -> ChildIter<'_, K, V, PREFIX_LEN> {
@@ -156,11 +158,13 @@ impl<K, V, const PREFIX_LEN: usize> InnerNodeRead<K, V, PREFIX_LEN>
     }
 
     fn min(&self) -> (u8, OpaqueNodePtr<K, V, PREFIX_LEN>) {
-        self.child_pointers.pairs().next().unwrap()
+        let (byte, child) = self.child_pointers.pairs().next().unwrap();
+        (byte, child.to_opaque())
     }
 
     fn max(&self) -> (u8, OpaqueNodePtr<K, V, PREFIX_LEN>) {
-        self.child_pointers.pairs().next_back().unwrap()
+        let (byte, child) = self.child_pointers.pairs().next_back().unwrap();
+        (byte, child.to_opaque())
     }
 }
 
@@ -186,13 +190,14 @@ impl<K, V, const PREFIX_LEN: usize> InnerNodeCommon<K, V, PREFIX_LEN>
         if self.child_pointers.child(key_fragment).is_none() {
             self.header.inc_num_children();
         }
-        self.child_pointers.fill(key_fragment, child_pointer);
+        self.child_pointers
+            .fill(key_fragment, PackedNodePtr::new(child_pointer));
     }
 
     fn remove_child(&mut self, key_fragment: u8) -> Option<OpaqueNodePtr<K, V, PREFIX_LEN>> {
         let removed_child = self.child_pointers.child(key_fragment)?;
         self.child_pointers.clear(key_fragment);
         self.header.dec_num_children();
-        Some(removed_child)
+        Some(removed_child.to_opaque())
     }
 }

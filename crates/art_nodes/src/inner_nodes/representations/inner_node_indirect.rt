@@ -6,6 +6,7 @@ use crate::inner_nodes::traits::node::{InnerNodeCommon, Node};
 use crate::iteration::child_iter::ChildIter;
 use crate::iteration::index_pairs::IndexPairs;
 use crate::pointers::OpaqueNodePtr;
+use crate::pointers::packed::PackedNodePtr;
 use crate::sealed::{InThisCrate, InnerNodeInit, Sealed};
 use arrayvec::ArrayVec;
 use art_header::{Header, NodeType, NonMaxIndex};
@@ -34,7 +35,7 @@ pub struct InnerNodeIndirect<K, V, const PREFIX_LEN: usize, const SIZE: usize> {
     // The byte of each pointer, at the same index.
     keys: ArrayVec<u8, SIZE>,
     // The children, in the order of their writes, except after removals.
-    child_pointers: ArrayVec<OpaqueNodePtr<K, V, PREFIX_LEN>, SIZE>,
+    child_pointers: ArrayVec<PackedNodePtr<K, V, PREFIX_LEN>, SIZE>,
 }
 
 /// An indirect node for at most 48 children.
@@ -108,7 +109,7 @@ impl<K, V, const PREFIX_LEN: usize, const SIZE: usize> InnerNodeIndirect<K, V, P
     pub(crate) fn from_ascending(
         header: &Header<PREFIX_LEN>,
         bytes: &[u8],
-        children: &[OpaqueNodePtr<K, V, PREFIX_LEN>],
+        children: &[PackedNodePtr<K, V, PREFIX_LEN>],
     ) -> Self
         requires beside { length children.now ≡ length bytes.now }
         requires counted { header.now.count ≡ length bytes.now }
@@ -126,7 +127,7 @@ impl<K, V, const PREFIX_LEN: usize, const SIZE: usize> InnerNodeIndirect<K, V, P
 
     /// The children by ascending byte, as [`InnerNodeRead::iter`] has them.
     #[inline]
-    pub(crate) fn pairs(&self) -> IndexPairs<'_, OpaqueNodePtr<K, V, PREFIX_LEN>>
+    pub(crate) fn pairs(&self) -> IndexPairs<'_, PackedNodePtr<K, V, PREFIX_LEN>>
         ensures pairs { result ≡ self.now.children }
         ensures sound { IsInner PREFIX_LEN (indirect_room SIZE) self.now }
     {
@@ -147,7 +148,7 @@ impl<K, V, const PREFIX_LEN: usize, const SIZE: usize> InnerNodeIndirect<K, V, P
         let index = NonMaxIndex::new_unchecked(self.child_pointers.len() as u8);
         self.child_indices.set(key_fragment, index);
         self.keys.push(key_fragment);
-        self.child_pointers.push(child_pointer);
+        self.child_pointers.push(PackedNodePtr::new(child_pointer));
         self.header.inc_num_children();
     }
 
@@ -164,7 +165,7 @@ impl<K, V, const PREFIX_LEN: usize, const SIZE: usize> InnerNodeIndirect<K, V, P
     }
 
     /// The child of each byte, in an order that is not specified.
-    pub fn initialized_child_pointers(&self) -> &[OpaqueNodePtr<K, V, PREFIX_LEN>]
+    pub fn initialized_child_pointers(&self) -> &[PackedNodePtr<K, V, PREFIX_LEN>]
         ensures { IsPermutation (map (λ p. p.1) self.now.children) result.now }
     {
         self.child_pointers.as_slice()
@@ -197,7 +198,7 @@ impl<K, V, const PREFIX_LEN: usize, const SIZE: usize> InnerNodeRead<K, V, PREFI
 
     fn lookup_child(&self, key_fragment: u8) -> Option<OpaqueNodePtr<K, V, PREFIX_LEN>> {
         let index = self.child_indices.get(key_fragment)?;
-        Some(self.child_pointers[usize::from(index)])
+        Some(self.child_pointers[usize::from(index)].to_opaque())
     }
 
     fn iter(&self) -> ChildIter<'_, K, V, PREFIX_LEN> {
@@ -209,11 +210,13 @@ impl<K, V, const PREFIX_LEN: usize, const SIZE: usize> InnerNodeRead<K, V, PREFI
     }
 
     fn min(&self) -> (u8, OpaqueNodePtr<K, V, PREFIX_LEN>) {
-        self.pairs().next().unwrap()
+        let (byte, child) = self.pairs().next().unwrap();
+        (byte, child.to_opaque())
     }
 
     fn max(&self) -> (u8, OpaqueNodePtr<K, V, PREFIX_LEN>) {
-        self.pairs().next_back().unwrap()
+        let (byte, child) = self.pairs().next_back().unwrap();
+        (byte, child.to_opaque())
     }
 }
 
@@ -237,7 +240,9 @@ impl<K, V, const PREFIX_LEN: usize, const SIZE: usize> InnerNodeCommon<K, V, PRE
         ensures written { self.new ≡ node_with_child self.old key_fragment child_pointer }
     {
         match self.child_indices.get(key_fragment) {
-            Some(index) => self.child_pointers[usize::from(index)] = child_pointer,
+            Some(index) => {
+                self.child_pointers[usize::from(index)] = PackedNodePtr::new(child_pointer);
+            }
             None => self.add_child(key_fragment, child_pointer),
         }
     }
@@ -251,6 +256,6 @@ impl<K, V, const PREFIX_LEN: usize, const SIZE: usize> InnerNodeCommon<K, V, PRE
         self.child_indices.clear(key_fragment);
         self.keys.swap_remove(freed);
         self.header.dec_num_children();
-        Some(self.child_pointers.swap_remove(freed))
+        Some(self.child_pointers.swap_remove(freed).to_opaque())
     }
 }

@@ -7,6 +7,7 @@ use crate::inner_nodes::traits::inner_node_read::InnerNodeRead;
 use crate::inner_nodes::traits::node::{InnerNodeCommon, Node};
 use crate::iteration::child_iter::ChildIter;
 use crate::pointers::OpaqueNodePtr;
+use crate::pointers::packed::PackedNodePtr;
 use crate::sealed::{InThisCrate, InnerNodeInit, Sealed};
 use arrayvec::ArrayVec;
 use art_header::{Header, NodeType};
@@ -34,7 +35,7 @@ pub struct InnerNodeSorted<K, V, const PREFIX_LEN: usize, const SIZE: usize> {
     // The bytes that have a child, ascending.
     keys: ArrayVec<u8, SIZE>,
     // The child of each byte, at the same index.
-    child_pointers: ArrayVec<OpaqueNodePtr<K, V, PREFIX_LEN>, SIZE>,
+    child_pointers: ArrayVec<PackedNodePtr<K, V, PREFIX_LEN>, SIZE>,
 }
 
 /// A sorted node for at most 4 children.
@@ -130,7 +131,7 @@ impl<K, V, const PREFIX_LEN: usize, const SIZE: usize> InnerNodeSorted<K, V, PRE
     }
 
     /// The bytes in ascending order, and the children in the same order.
-    pub fn initialized_portion(&self) -> (&[u8], &[OpaqueNodePtr<K, V, PREFIX_LEN>])
+    pub fn initialized_portion(&self) -> (&[u8], &[PackedNodePtr<K, V, PREFIX_LEN>])
         ensures bytes { result.0.now ≡ key_bytes self.now.children }
         ensures children { result.1.now ≡ map (λ p. p.1) self.now.children }
     {
@@ -149,7 +150,7 @@ impl<K, V, const PREFIX_LEN: usize, const SIZE: usize> InnerNodeSorted<K, V, PRE
         ensures { self.new ≡ node_with_child self.old key_fragment child_pointer }
     {
         self.keys.push(key_fragment);
-        self.child_pointers.push(child_pointer);
+        self.child_pointers.push(PackedNodePtr::new(child_pointer));
         self.header.inc_num_children();
     }
 
@@ -225,7 +226,7 @@ impl<K, V, const PREFIX_LEN: usize, const SIZE: usize> InnerNodeRead<K, V, PREFI
 
     fn lookup_child(&self, key_fragment: u8) -> Option<OpaqueNodePtr<K, V, PREFIX_LEN>> {
         let index = place_of(&self.keys, key_fragment)?;
-        Some(self.child_pointers[index])
+        Some(self.child_pointers[index].to_opaque())
     }
 
     fn iter(&self) -> ChildIter<'_, K, V, PREFIX_LEN> {
@@ -237,12 +238,12 @@ impl<K, V, const PREFIX_LEN: usize, const SIZE: usize> InnerNodeRead<K, V, PREFI
     }
 
     fn min(&self) -> (u8, OpaqueNodePtr<K, V, PREFIX_LEN>) {
-        (self.keys[0], self.child_pointers[0])
+        (self.keys[0], self.child_pointers[0].to_opaque())
     }
 
     fn max(&self) -> (u8, OpaqueNodePtr<K, V, PREFIX_LEN>) {
         let last = self.keys.len() - 1;
-        (self.keys[last], self.child_pointers[last])
+        (self.keys[last], self.child_pointers[last].to_opaque())
     }
 }
 
@@ -266,10 +267,11 @@ impl<K, V, const PREFIX_LEN: usize, const SIZE: usize> InnerNodeCommon<K, V, PRE
         ensures written { self.new ≡ node_with_child self.old key_fragment child_pointer }
     {
         match find_write_point(&self.keys, key_fragment) {
-            Ok(index) => self.child_pointers[index] = child_pointer,
+            Ok(index) => self.child_pointers[index] = PackedNodePtr::new(child_pointer),
             Err(index) => {
                 self.keys.insert(index, key_fragment);
-                self.child_pointers.insert(index, child_pointer);
+                self.child_pointers
+                    .insert(index, PackedNodePtr::new(child_pointer));
                 self.header.inc_num_children();
             }
         }
@@ -280,7 +282,7 @@ impl<K, V, const PREFIX_LEN: usize, const SIZE: usize> InnerNodeCommon<K, V, PRE
             Ok(index) => {
                 self.keys.remove(index);
                 self.header.dec_num_children();
-                Some(self.child_pointers.remove(index))
+                Some(self.child_pointers.remove(index).to_opaque())
             }
             Err(_) => None,
         }

@@ -6,7 +6,7 @@ use Rattle.art_nodes.proofs.inner_nodes.representations.conversions.direct_from_
 pub loop-byte-preserved : goal.loop-byte-preserved
 loop-byte-preserved g c =
     let next = copying_next _ _ _ _ _ _ _ c.pairs-byte-items.ensures.sound.ascending c.loop-byte.invariant c.in-Some.ensures.steps in
-    rw c.write_child.ensures.written next.copying
+    rw (c.write_child.ensures.written, c.to_opaque.ensures) next.copying
 
 pub write_child-requires : goal.write_child-requires
 write_child-requires g c =

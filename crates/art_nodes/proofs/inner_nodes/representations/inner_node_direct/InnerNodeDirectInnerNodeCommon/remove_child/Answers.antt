@@ -34,7 +34,7 @@ pub returns-clause-child : goal.returns-clause-child
 returns-clause-child g c =
     let byte = c.args.key_fragment in
     let child = child_at-table 0 c.self.inside.child_pointers byte byte (omega arith) (omega (arith, c.self.invariant.all_bytes)) in
-    rw (← c.self.view_is) (c.in_ok-removed_child.ensures ∙ sym child)
+    rw (← c.self.view_is, c.to_opaque.ensures) (c.in_ok-removed_child.ensures ∙ sym child)
 
 pub returns-clause-removed : goal.returns-clause-removed
 returns-clause-removed g c =

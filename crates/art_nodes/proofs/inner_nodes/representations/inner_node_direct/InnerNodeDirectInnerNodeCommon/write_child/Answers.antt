@@ -14,8 +14,8 @@ invariant_of-self g c =
     let filled = direct-filled _ _ _ c.self.invariant c.args.key_fragment c.ranges.key_fragment.fits in
     let was = ap is_some (sym c.child.ensures) ∙ c.is_none.ensures in
     elim c.if-is_none.branch [
-      | then-is_none w ↦ rw (c.fill.ensures, w.self-inside-is) (filled false (was ∙ ap not w.if-is_none.true) c.args.child_pointer _ w.inc_num_children.ensures)
-      | else-is_none w ↦ rw (c.fill.ensures, w.self-inside-is) (filled true (was ∙ ap not w.if-is_none.false) c.args.child_pointer _ refl)
+      | then-is_none w ↦ rw (c.fill.ensures, w.self-inside-is) (filled false (was ∙ ap not w.if-is_none.true) c.new.result _ w.inc_num_children.ensures)
+      | else-is_none w ↦ rw (c.fill.ensures, w.self-inside-is) (filled true (was ∙ ap not w.if-is_none.false) c.new.result _ refl)
     ]
 
 pub returns : goal.returns
@@ -23,8 +23,8 @@ returns g c =
     let table = c.self.inside.child_pointers in
     let byte = c.args.key_fragment in
     let within : byte < length table = omega (arith, c.self.invariant.all_bytes, c.ranges.key_fragment.fits) in
-    let written = with_child-table 0 table byte byte c.args.child_pointer (omega arith) within (omega (arith, c.self.invariant.all_bytes)) in
+    let written = with_child-table 0 table byte byte c.new.result (omega arith) within (omega (arith, c.self.invariant.all_bytes)) in
     elim c.if-is_none.branch [
-      | then-is_none w ↦ record { written = rw (← c.self.view_is, c.fill.ensures, w.self-inside-is, w.inc_num_children.ensures, written) refl }
-      | else-is_none w ↦ record { written = rw (← c.self.view_is, c.fill.ensures, w.self-inside-is, written) refl }
+      | then-is_none w ↦ record { written = rw (← c.self.view_is, ← c.new.ensures, c.fill.ensures, w.self-inside-is, w.inc_num_children.ensures, written) refl }
+      | else-is_none w ↦ record { written = rw (← c.self.view_is, ← c.new.ensures, c.fill.ensures, w.self-inside-is, written) refl }
     ]

@@ -56,7 +56,7 @@ invariant_of-self g c =
     (rw index (subst (IsNamedOnce (set indices c.args.key_fragment (Some (length pointers)))) grown once))
     (omega (arith, c.self.invariant.beside, c.push.ensures.len, grown))
     (rw (index, c.push.ensures.items, ← c.self.invariant.beside) (kept-push indices bytes c.args.key_fragment c.self.invariant.kept within empty))
-    (rw (c.inc_num_children.ensures, c.push-2.ensures.items, index) sound))
+    (rw (c.inc_num_children.ensures, c.push-2.ensures.items, index, c.new.ensures) sound))
 
 pub returns : goal.returns
 returns g c =
@@ -66,4 +66,4 @@ returns g c =
     let empty = unnamed-absent pointers indices c.args.key_fragment c.args.child_pointer c.self.invariant.named_once within (omega (arith, c.self.invariant.places)) (rw (← c.self.view_is) at c.requires.absent) in
     let index : c.new_unchecked-index.result ≡ length pointers = c.new_unchecked-index.ensures ∙ c.len.ensures.value in
     let written = with_child-pushed pointers indices c.args.key_fragment c.self.invariant.places within c.args.child_pointer c.self.invariant.named_once in
-    rw (← c.self.view_is, c.set.ensures, c.inc_num_children.ensures, c.push-2.ensures.items, index, written) refl
+    rw (← c.self.view_is, c.set.ensures, c.inc_num_children.ensures, c.push-2.ensures.items, index, c.new.ensures, written) refl

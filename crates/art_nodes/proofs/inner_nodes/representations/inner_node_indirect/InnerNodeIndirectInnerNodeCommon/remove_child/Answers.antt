@@ -72,7 +72,7 @@ returns-clause-child g c =
     let filled = sym c.in_ok-index.ensures in
     let named = named_within indices _ c.args.key_fragment c.in_ok-index.index c.self.invariant.named_once within filled in
     let child = child_at-named pointers indices c.args.key_fragment c.in_ok-index.index c.swap_remove-2.result within (omega (arith, c.self.invariant.places)) filled named in
-    rw (← c.self.view_is) (ap Some (c.swap_remove-2.ensures.value ∙ ap (λ n. get_or pointers n c.swap_remove-2.result) (sym c.from-freed.ensures)) ∙ sym child)
+    rw (← c.self.view_is, c.to_opaque.ensures) (ap Some (c.swap_remove-2.ensures.value ∙ ap (λ n. get_or pointers n c.swap_remove-2.result) (sym c.from-freed.ensures)) ∙ sym child)
 
 pub returns-clause-removed : goal.returns-clause-removed
 returns-clause-removed g c =

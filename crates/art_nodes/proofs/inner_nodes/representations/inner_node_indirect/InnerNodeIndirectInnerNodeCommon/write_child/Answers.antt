@@ -36,7 +36,7 @@ invariant_of-self g c =
     let sound = subst (λ cs. IsInner g.row.PREFIX_LEN (indirect_room g.row.SIZE) (inner_with header cs)) written (sound_written g.row.PREFIX_LEN (indirect_room g.row.SIZE) (inner_with header children) c.args.key_fragment c.args.child_pointer c.self.invariant.sound c.ranges.key_fragment.fits (rw (← c.self.view_is) at c.requires)) in
     let whole = take_at over (drop (length over) pointers) (length pointers) (simp length-set) in
     let fields = indirect_fields g.row.PREFIX_LEN (indirect_room g.row.SIZE) header indices c.self.inside.keys.items over c.self.invariant.places (omega (arith, pointers_counted c.self.invariant, same)) (omega (arith, c.self.invariant.fits, same)) (subst (IsNamedOnce indices) (sym same) c.self.invariant.named_once) (omega (arith, c.self.invariant.beside, same)) c.self.invariant.kept sound in
-    rw (c.deref_mut.ensures.value, ← c.from.ensures, whole) fields
+    rw (c.deref_mut.ensures.value, ← c.from.ensures, c.new.ensures, whole) fields
 
 pub returns-in-Some : goal.returns-in-Some
 returns-in-Some g c =
@@ -47,7 +47,7 @@ returns-in-Some g c =
     let written = with_child-named pointers indices c.args.key_fragment c.self.invariant.places within c.in-Some.index c.args.child_pointer c.self.invariant.named_once filled in
     let over = set pointers c.in-Some.index c.args.child_pointer in
     let whole = take_at over (drop (length over) pointers) (length pointers) (simp length-set) in
-    record { written = rw (← c.self.view_is, c.deref_mut.ensures.value, ← c.from.ensures, whole, written) refl }
+    record { written = rw (← c.self.view_is, c.deref_mut.ensures.value, ← c.from.ensures, c.new.ensures, whole, written) refl }
 
 pub add_child-requires : goal.add_child-requires
 add_child-requires g c =

@@ -5,4 +5,4 @@ use Rattle.art_nodes.proofs.inner_nodes.representations.inner_node_indirect.Inne
 
 pub returns-clause-pair : goal.returns-clause-pair
 returns-clause-pair g c =
-    ap last_pair (sym c.pairs.ensures.pairs) ∙ sym (last_yielded c.pairs.result _ _ c.next_back.ensures.steps) ∙ c.unwrap.ensures
+    rw c.to_opaque.ensures (ap last_pair (sym c.pairs.ensures.pairs) ∙ sym (last_yielded c.pairs.result _ _ c.next_back.ensures.steps) ∙ c.unwrap-byte.ensures)

@@ -10,4 +10,4 @@ write_child_unchecked-requires g c =
 pub loop-byte-preserved : goal.loop-byte-preserved
 loop-byte-preserved g c =
     let next = copying_next _ _ _ _ _ _ _ c.pairs-byte-items.ensures.sound.ascending c.loop-byte.invariant c.in-Some.ensures.steps in
-    rw c.write_child_unchecked.ensures next.copying
+    rw (c.write_child_unchecked.ensures, c.to_opaque.ensures) next.copying

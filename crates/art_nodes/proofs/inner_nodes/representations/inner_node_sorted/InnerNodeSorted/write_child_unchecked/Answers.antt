@@ -31,4 +31,4 @@ invariant_of-self g c =
 pub returns : goal.returns
 returns g c =
     let above = subst (λ n. All (λ b. b < c.args.key_fragment) (key_bytes n.children)) (sym c.self.view_is) c.requires.above in
-    rw (← c.self.view_is, c.inc_num_children.ensures, c.push.ensures.items, c.push-2.ensures.items) (ap (λ children. record { prefix_len = c.self.inside.header.prefix_len; stored = c.self.inside.header.stored; children = children }) (sym (with_child-push _ _ _ _ _ c.self.invariant _ above _)))
+    rw (← c.self.view_is, ← c.new.ensures, c.inc_num_children.ensures, c.push.ensures.items, c.push-2.ensures.items) (ap (λ children. record { prefix_len = c.self.inside.header.prefix_len; stored = c.self.inside.header.stored; children = children }) (sym (with_child-push _ _ _ _ _ c.self.invariant _ above _)))

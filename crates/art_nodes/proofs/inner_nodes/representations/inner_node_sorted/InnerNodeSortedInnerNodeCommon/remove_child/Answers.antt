@@ -12,7 +12,7 @@ pub returns-in-Ok-clause-child : goal.returns-in-Ok-clause-child
 returns-in-Ok-clause-child g c =
     let at = rw c.deref.ensures.0 at c.in-Ok.ensures.existing in
     let in_range : c.in-Ok.index < length c.self.inside.child_pointers.items = omega (arith, at.in_range, c.self.invariant.beside) in
-    rw (← c.self.view_is) (sym (child_at-zip 0 _ _ _ _ c.self.invariant.beside c.self.invariant.ascending at ∙ slice_get_read _ _ _ _ refl in_range c.remove-in-Ok.ensures.value))
+    rw (← c.self.view_is, c.to_opaque.ensures) (sym (child_at-zip 0 _ _ _ _ c.self.invariant.beside c.self.invariant.ascending at ∙ slice_get_read _ _ _ _ refl in_range c.remove-in-Ok.ensures.value))
 
 pub returns-in-Ok-clause-removed : goal.returns-in-Ok-clause-removed
 returns-in-Ok-clause-removed g c =

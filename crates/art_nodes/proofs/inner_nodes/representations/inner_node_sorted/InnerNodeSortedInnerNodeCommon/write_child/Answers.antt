@@ -30,9 +30,9 @@ invariant_of-self g c =
 pub returns-in-Ok : goal.returns-in-Ok
 returns-in-Ok g c =
     let at = rw c.deref.ensures.0 at c.in-Ok.ensures.existing in
-    record { written = rw (← c.self.view_is, c.deref_mut.ensures.value, refill-set) (ap (λ children. record { prefix_len = c.self.inside.header.prefix_len; stored = c.self.inside.header.stored; children = children }) (sym (with_child-zip_set 0 _ _ _ _ _ c.self.invariant.beside c.self.invariant.ascending at))) }
+    record { written = rw (← c.self.view_is, ← c.new.ensures, c.deref_mut.ensures.value, refill-set) (ap (λ children. record { prefix_len = c.self.inside.header.prefix_len; stored = c.self.inside.header.stored; children = children }) (sym (with_child-zip_set 0 _ _ _ _ _ c.self.invariant.beside c.self.invariant.ascending at))) }
 
 pub returns-in-Err : goal.returns-in-Err
 returns-in-Err g c =
     let gap = rw c.deref.ensures.0 at c.in-Err.ensures.absent in
-    record { written = rw (← c.self.view_is, c.inc_num_children.ensures, c.insert.ensures.items, c.insert-in-Err.ensures.items) (ap (λ children. record { prefix_len = c.self.inside.header.prefix_len; stored = c.self.inside.header.stored; children = children }) (sym (with_child-zip_insert 0 _ _ _ _ _ c.self.invariant.beside c.self.invariant.ascending gap))) }
+    record { written = rw (← c.self.view_is, ← c.new-in-Err.ensures, c.inc_num_children.ensures, c.insert.ensures.items, c.insert-in-Err.ensures.items) (ap (λ children. record { prefix_len = c.self.inside.header.prefix_len; stored = c.self.inside.header.stored; children = children }) (sym (with_child-zip_insert 0 _ _ _ _ _ c.self.invariant.beside c.self.invariant.ascending gap))) }

@@ -1,0 +1,5 @@
+use Rattle.std.proofs.Common.{rules}
+use Rattle.art_nodes.proofs.iteration.child_iter.PairIter.last_pair.Goals as goal
+
+pub returns : goal.returns
+returns g c = search rules

@@ -1,5 +1,0 @@
-use Rattle.std.proofs.Common.{rules}
-use Rattle.art_nodes.proofs.iteration.child_iter.PairIterDoubleEndedIterator.next_back.Goals as goal
-
-pub returns-clause-steps : goal.returns-clause-steps
-returns-clause-steps g c = search rules
