@@ -1,11 +1,13 @@
 -- Insertion: the place of a text in a tree. No public clause cites it.
-use Rattle.std.specs.Prelude.{◌≡◌, ◌≢◌, ℕ, ◌≤◌, List, [], ◌∷◌, ◌++◌, length, take, Contains, Option, Some, None, slice_get}
+use Rattle.std.specs.Prelude.{◌≡◌, ◌≢◌, ◌==◌, ℕ, ◌+◌, ◌≤◌, if◌then◌else◌, List, [], ◌∷◌, ◌++◌, length, take, drop, Contains, Option, Some, None, IfSome, slice_get}
+use Rattle.std.specs.Option.{option_and_then, option_map_or}
 use Rattle.art_bytes.specs.Text.{IsPrefixOf}
 use Rattle.art_nodes.specs.ChildMap.{child_at}
+use Rattle.art_nodes.specs.Inner as nodes
 use Rattle.art_nodes.specs.declared.pointers.OpaqueNodePtr.{OpaqueNodePtr}
 use Rattle.art_arena.specs.Arena.{ArenaOf}
 use Rattle.art_arena.specs.Standing.{StandsIn}
-use Rattle.art_arena.specs.Trees.{Tree, Leaf, Inner, Branches, branch_roots, root_of, leaves, texts, IsWellFormed}
+use Rattle.art_arena.specs.Trees.{Tree, Leaf, Inner, Branches, NoBranch, Branch, branch_roots, root_of, leaves, texts, IsWellFormed}
 use Rattle.art_tree.specs.Contexts.{Context, Whole, Under, plug, path_to}
 use Rattle.art_tree.specs.Dictionary.{Clashes}
 use Rattle.art_tree.specs.Search.{leaf_pointer}
@@ -13,12 +15,36 @@ use Rattle.art_tree.specs.declared.insert.place.Fork.{Fork}
 use Rattle.art_tree.specs.declared.insert.place.Place.{Place}
 use Rattle.art_tree.specs.declared.insert.place.Place.TheVariants as places
 use Rattle.art_tree.specs.declared.insert.place.Spot.{Spot}
+use Rattle.art_tree.specs.declared.insert.place.Visited.{Visited}
 
 module _ {H : Type 0} where
   -- the node above the place, with the byte of the place
   abbrev pub above : Context H → Option (H × ℕ)
   above Whole = None
   above (Under rest pointer prefix before byte after) = Some (pointer, byte)
+
+  -- the prefix of the topmost node
+  abbrev pub prefix_of : Tree H → List ℕ
+  prefix_of (Leaf pointer text) = []
+  prefix_of (Inner pointer prefix branches) = prefix
+
+  abbrev mutual
+    -- the subtree at whose topmost node a search for the rest of a key ends that compares no prefix
+    pub toward : List ℕ → Tree H → Tree H
+    toward rest (Leaf pointer text) = Leaf pointer text
+    toward rest (Inner pointer prefix branches) =
+        option_map_or (λ byte. toward_under byte (drop (length prefix + 1) rest) branches (Inner pointer prefix branches))
+        (slice_get rest (length prefix)) (Inner pointer prefix branches)
+
+    -- the same below the branch under this byte, or this tree where there is none
+    pub toward_under : ℕ → List ℕ → Branches H → Tree H → Tree H
+    toward_under byte rest NoBranch tree = tree
+    toward_under byte rest (Branch b below others) tree =
+        if b == byte then toward rest below else toward_under byte rest others tree
+
+  -- one of the leaves has this text
+  abbrev pub HasLeafText : Tree H → List ℕ → Type 0
+  HasLeafText tree text = (pointer : H) × Contains (leaves tree) (pointer, text)
 
   -- the first bytes of the texts of a tree, by its topmost node, where this is the path to it
   abbrev pub reach : List ℕ → Tree H → List ℕ
@@ -58,6 +84,17 @@ pub record IsSpotIn {K V : Type 0} {P : ℕ} (text : K → List ℕ) (arena : Ar
   pub stands : StandsIn text arena tree
   pub sound : IsWellFormed tree
   pub at : IsSpot tree key spot
+
+-- such a node, and where the text of a leaf is known, one of those toward which the key leads below
+pub record IsDescentIn {K V : Type 0} {P : ℕ} (text : K → List ℕ) (arena : ArenaOf K V P) (tree : Tree (OpaqueNodePtr K V P)) (key : List ℕ) (spot : Spot K V P) (known : Option (List ℕ)) : Type 0 where
+  pub spot_in : IsSpotIn text arena tree key spot
+  pub below : IfSome known (HasLeafText (toward (drop spot.depth key) spot_in.at.part))
+
+-- what a visit for the rest of a key reads of an inner node
+pub record IsVisited {K V : Type 0} {P : ℕ} (node : nodes.Inner (OpaqueNodePtr K V P)) (rest : List ℕ) (visited : Visited K V P) : Type 0 where
+  pub prefix_len : visited.prefix_len ≡ node.prefix_len
+  pub stored : visited.stored_prefix.now ≡ node.stored
+  pub child : visited.child ≡ option_and_then (child_at node.children) (slice_get rest node.prefix_len)
 
 module _ {K V : Type 0} {P : ℕ} (tree : Tree (OpaqueNodePtr K V P)) (key : List ℕ) where
   -- the key belongs to this place of the tree

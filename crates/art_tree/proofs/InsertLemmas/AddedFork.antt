@@ -50,7 +50,7 @@ module _ {H : Type 0} where
     text-begins path (Inner pointer prefix branches) sound p x inside = prefix-shorter path prefix x (branch-text-begins (path ++ prefix) branches sound.2 p x inside)
 
     -- and with the prefix of its top node
-    branch-text-begins : (path : List ℕ) (branches : Branches H) → AreSound path branches → (p : H) (x : List ℕ) → Contains (branch_leaves branches) (p, x) → IsPrefixOf path x
+    pub branch-text-begins : (path : List ℕ) (branches : Branches H) → AreSound path branches → (p : H) (x : List ℕ) → Contains (branch_leaves branches) (p, x) → IsPrefixOf path x
     branch-text-begins path NoBranch sound p x (k, inside, is) = absurd (omega (arith, inside))
     branch-text-begins path (Branch byte tree others) sound p x inside = elim (Contains-append_cases (leaves tree) (branch_leaves others) (p, x) inside) [
       | inl here ↦ prefix-shorter path (byte ∷ []) x (text-begins (path ++ byte ∷ []) tree sound.0 p x here)

@@ -1,25 +1,28 @@
 -- Insertion: the place of a key, by the nodes that it meets on its way down.
-use Rattle.std.proofs.Common.{◌≡◌, ◌≢◌, ◌∙◌, ◌⊎◌, ℕ, zero, suc, ◌+◌, ◌-◌, ◌<◌, ◌≤◌, nat_eq, List, [], ◌∷◌, ◌++◌, length, length-append, map, take, drop, Contains, Some, None, Result, Ok, Err, slice_get, get_or, refl, sym, ap, subst, inl, inr, arith, append_assoc, append-nil}
+use Rattle.std.proofs.Common.{◌≡◌, ◌≢◌, ◌∙◌, ◌⊎◌, ℕ, zero, suc, ◌+◌, ◌-◌, ◌<◌, ◌≤◌, nat_eq, List, [], ◌∷◌, ◌++◌, length, length-append, map, take, drop, Contains, Option, Some, None, IfSome, slice_get, get_or, refl, sym, ap, subst, inl, inr, arith, append_assoc, append-nil}
 use Rattle.std.specs.List.{common_prefix_len}
+use Rattle.std.specs.Option.{option_and_then}
 use Rattle.std.proofs.lemmas.Bool.Decides.{eqb_tells}
-use Rattle.std.proofs.lemmas.List.{nil_from_length, drop_at, map-append, take_rest}
+use Rattle.std.proofs.lemmas.List.{nil_from_length, drop-drop, drop_at, map-append, take_all, take_at, take_rest}
 use Rattle.std.proofs.lemmas.List.Elements.{Contains-append_left, Contains-append_right}
 use Rattle.std.proofs.lemmas.List.Sums.{common_prefix_len-le}
 use Rattle.std.proofs.lemmas.Option.{slice_get-get_or}
 use Rattle.art_bytes.specs.Text.{IsPrefixOf}
+use Rattle.art_header.specs.Header.{capped}
 use Rattle.art_nodes.specs.ChildMap.{child_at}
 use Rattle.art_nodes.specs.Inner as nodes
 use Rattle.art_nodes.specs.declared.pointers.OpaqueNodePtr.{OpaqueNodePtr}
 use Rattle.art_nodes.specs.declared.leaf_node.LeafNode.{LeafNode}
 use Rattle.art_arena.specs.Arena.{ArenaOf, HeldInner, HeldLeaf, Nothing, held}
-use Rattle.art_arena.specs.CommonPrefix.{IsLongestCommonPrefix, IsSharedFrom, Parting, full_match}
-use Rattle.art_arena.specs.Standing.{StandsIn, AllStandIn, NodeStands, TreeUnder, leaf_text}
+use Rattle.art_arena.specs.Standing.{StandsIn, AllStandIn, NodeStands, TreeAt, leaf_text}
 use Rattle.art_arena.specs.Trees.{Tree, Leaf, Inner, Branches, NoBranch, Branch, branch_roots, root_of, leaves, texts, branch_texts, branch_leaves, IsSound, AreSound, IsWellFormed}
 use Rattle.art_tree.specs.Contexts.{Context, Under, plug, path_to, leaves_before, leaves_after, join}
 use Rattle.art_tree.specs.Dictionary.{Clashes, IsProperPrefixOf}
-use Rattle.art_tree.specs.Places.{reach, IsSpotIn, LacksChild, Parts}
+use Rattle.art_tree.specs.Places.{reach, toward, HasLeafText, IsDescentIn, IsSpotIn, LacksChild, Parts}
 use Rattle.art_tree.specs.declared.insert.place.Spot.{Spot}
 use Rattle.art_tree.proofs.FindLemmas.DescentLemmas.{slice_get-drop}
+use Rattle.art_tree.proofs.InsertLemmas.AddedFork.{branch-text-begins}
+use Rattle.art_tree.proofs.InsertLemmas.TowardLemmas.{IsSplit, split-at, toward-child}
 use Rattle.art_tree.proofs.SharedLemmas.ExchangedSubtree.{leaves-plug, sound-part, stands-part}
 use Rattle.art_bytes.proofs.PrefixLaws.{prefix-on}
 
@@ -126,24 +129,6 @@ module _ (a b : List ℕ) (n : ℕ) (both : AreAlike a b n) where
       let taken : take n b ≡ both.front = ap (take n) both.b_is ∙ take-seam both.front both.right n both.long in
       (both.part x y left right, subst (λ f. IsPrefixOf (f ++ x ∷ []) a) (sym taken) (prefix-byte both.front a n x both.long (both.left, both.a_is) in_a))
 
--- the equal bytes of a full match
-abbrev pub Tells : List ℕ → List ℕ → Result ℕ Parting → Type 0
-Tells prefix rest (Ok n) = (n ≡ common_prefix_len nat_eq prefix rest) × (n ≡ length prefix)
-Tells prefix rest (Err parting) = (parting.equal_bytes ≡ common_prefix_len nat_eq prefix rest) × (parting.equal_bytes < length prefix) × (parting.prefix_byte ≡ get_or prefix parting.equal_bytes 0)
-
-match-tells : (prefix rest : List ℕ) → Tells prefix rest (full_match prefix rest)
-match-tells prefix rest = elim (eqb_tells (common_prefix_len nat_eq prefix rest) (length prefix)) [
-  | inl same ↦ rw same.0 (refl, same.1)
-  | inr differ ↦ let within = common_prefix_len-le nat_eq prefix rest in rw differ.0 (refl, omega (arith, within.0, differ.1), refl)
-]
-
-matched-tells : (prefix rest : List ℕ) (answer : Result ℕ Parting) → answer ≡ full_match prefix rest → Tells prefix rest answer
-matched-tells prefix rest answer is = subst (Tells prefix rest) (sym is) (match-tells prefix rest)
-
--- the law of what the texts of a sound tree share
-abbrev pub AreShared : Type 0 → Type 0
-AreShared H = (path prefix : List ℕ) (pointer : H) (branches : Branches H) → IsSound path (Inner pointer prefix branches) → IsLongestCommonPrefix (texts (Inner pointer prefix branches)) (path ++ prefix)
-
 -- one of these texts begins with the path
 pub record HasText (path : List ℕ) (all : List (List ℕ)) : Type 0 where
   pub text : List ℕ
@@ -189,36 +174,20 @@ module _ {H : Type 0} where
           },
         )
 
-  -- the branches around the one under a byte
-  record IsSplit (branches : Branches H) (byte : ℕ) (child : H) : Type 0 where
-    pub before : Branches H
-    pub tree : Tree H
-    pub after : Branches H
-    pub at_root : root_of tree ≡ child
-    pub whole : join before (Branch byte tree after) ≡ branches
-
-  split-at : (branches : Branches H) (byte : ℕ) (child : H) → child_at (branch_roots branches) byte ≡ Some child → IsSplit branches byte child
-  split-at NoBranch byte child is = absurd (cc)
-  split-at (Branch b tree others) byte child is = elim (eqb_tells b byte) [
-    | inl same ↦
-        let one : Some (root_of tree) ≡ Some child = rw same.0 at is in
-        record { before = NoBranch; tree = tree; after = others; at_root = cc; whole = ap (λ z. Branch z tree others) (sym same.1) }
-    | inr differ ↦
-        let later : child_at (branch_roots others) byte ≡ Some child = rw differ.0 at is in
-        let rest = split-at others byte child later in
-        record { before = Branch b tree rest.before; tree = rest.tree; after = rest.after; at_root = rest.at_root; whole = ap (Branch b tree) rest.whole }
-  ]
-
 module _ {K V : Type 0} {P : ℕ} (text : K → List ℕ) (arena : ArenaOf K V P) (tree : Tree (OpaqueNodePtr K V P)) (key : List ℕ) where
   module _ (spot : Spot K V P) (is : IsSpotIn text arena tree key spot) where
     pub depth-within : spot.depth ≤ length key
     depth-within = omega (arith, is.at.deep, ap length is.at.leads.1, length-append (path_to is.at.context) is.at.leads.0)
 
-    part-stands : StandsIn text arena is.at.part
+    pub part-stands : StandsIn text arena is.at.part
     part-stands = stands-part text arena arena is.at.context is.at.part (subst (StandsIn text arena) (sym is.at.whole) is.stands)
 
-    part-sound : IsSound (path_to is.at.context) is.at.part
+    pub part-sound : IsSound (path_to is.at.context) is.at.part
     part-sound = sound-part is.at.context is.at.part (subst IsWellFormed (sym is.at.whole) is.sound)
+
+    -- the tree at the spot
+    abbrev pub spot-tree : TreeAt text arena spot.node
+    spot-tree = record { tree = is.at.part; path = path_to is.at.context; at_root = is.at.at_root; stands = part-stands; sound = part-sound }
 
     -- a text of the part that begins with the key, or that the key begins with, clashes
     clash-in-part : (other : List ℕ) → Contains (texts is.at.part) other → IsProperPrefixOf other key ⊎ IsProperPrefixOf key other → Clashes (texts tree) key
@@ -294,20 +263,26 @@ module _ {K V : Type 0} {P : ℕ} (text : K → List ℕ) (arena : ArenaOf K V P
       way-long : length way ≡ spot.depth + length here.prefix
       way-long = omega (arith, length-append (path_to is.at.context) here.prefix, is.at.deep)
 
-      -- the node is one that a full match may be asked of
-      abbrev pub below : TreeUnder text arena node spot.depth
-      below = record { tree = Inner spot.node here.prefix here.branches; path = path_to is.at.context; stands = (here.shows, here.stand); sound = here.sound; deep = is.at.deep }
+      -- a text of a leaf below has the prefix
+      pub prefix-in-text : (x : List ℕ) → HasLeafText is.at.part x → (spot.depth + length here.prefix ≤ length x) × (take (length here.prefix) (drop spot.depth x) ≡ here.prefix)
+      prefix-in-text x (pointer, inside) =
+          let begins = branch-text-begins way here.branches here.sound.2 pointer x (subst (λ part. Contains (leaves part) (pointer, x)) here.part inside) in
+          let rest : drop spot.depth x ≡ here.prefix ++ begins.0 = ap (drop spot.depth) (begins.1 ∙ append_assoc (path_to is.at.context) here.prefix begins.0) ∙ drop_at (path_to is.at.context) (here.prefix ++ begins.0) spot.depth is.at.deep in
+          (omega (arith, way-long, ap length begins.1, length-append way begins.0), ap (take (length here.prefix)) rest ∙ take_at here.prefix begins.0 (length here.prefix) refl)
 
-      -- the result of a full match of it
-      pub node-tells : AreShared (OpaqueNodePtr K V P) → (answer : Result ℕ Parting)
-          → ((under : TreeUnder text arena node spot.depth) (shared : List ℕ) → IsSharedFrom spot.depth (texts under.tree) shared → answer ≡ full_match shared (drop spot.depth key)) → Tells here.prefix (drop spot.depth key) answer
-      node-tells law answer asked = matched-tells here.prefix (drop spot.depth key) answer (asked below here.prefix (
-        way,
-        law (path_to is.at.context) here.prefix spot.node here.branches here.sound,
-        sym (drop_at (path_to is.at.context) here.prefix spot.depth is.at.deep),
-      ))
+      -- a prefix that is stored whole
+      pub prefix-stored : node.prefix_len ≤ P → node.stored ≡ here.prefix
+      prefix-stored few = here.shows.stored ∙ take_all (capped P (length here.prefix)) here.prefix (omega (arith, few, here.shows.prefix_len))
+
+      -- how far a prefix that was read matches what is left of the key
+      pub read-counted : (prefix : List ℕ) (n : ℕ) → prefix ≡ here.prefix → n ≡ common_prefix_len nat_eq prefix (take (length key - spot.depth) (drop spot.depth key)) → n ≡ common_prefix_len nat_eq here.prefix (drop spot.depth key)
+      read-counted prefix n same counted = counted ∙ ap (λ p. common_prefix_len nat_eq p (take (length key - spot.depth) (drop spot.depth key))) same ∙ ap (common_prefix_len nat_eq here.prefix) (take_rest key spot.depth)
 
       module _ (n : ℕ) (counted : n ≡ common_prefix_len nat_eq here.prefix (drop spot.depth key)) where
+        -- the whole prefix is matched, or the key differs from it
+        pub matched-whole : length here.prefix ≤ n → n ≡ length here.prefix
+        matched-whole all = omega (arith, (common_prefix_len-le nat_eq here.prefix (drop spot.depth key)).0, counted)
+
         node-alike : AreAlike way key (spot.depth + n)
         node-alike = alike-below (path_to is.at.context) here.prefix key spot.depth n is.at.deep is.at.leads counted
 
@@ -345,6 +320,13 @@ module _ {K V : Type 0} {P : ℕ} (text : K → List ℕ) (arena : ArenaOf K V P
           leads-on = prefix-byte way key (spot.depth + n) (get_or key (spot.depth + n) 0) (omega (arith, way-long, whole))
               (alike-first way key (spot.depth + n) node-alike (omega (arith, way-long, whole))) (slice_get-get_or key (spot.depth + n) 0 inside)
 
+          next-at : slice_get (drop spot.depth key) n ≡ Some (get_or key (spot.depth + n) 0)
+          next-at = slice_get-drop key spot.depth n ∙ slice_get-get_or key (spot.depth + n) 0 inside
+
+          -- the child that a visit finds
+          pub next-child : (found : Option (OpaqueNodePtr K V P)) → found ≡ option_and_then (child_at node.children) (slice_get (drop spot.depth key) node.prefix_len) → child_at node.children (get_or key (spot.depth + n) 0) ≡ found
+          next-child found read = sym (read ∙ ap (option_and_then (child_at node.children)) (ap (slice_get (drop spot.depth key)) (here.shows.prefix_len ∙ sym whole) ∙ next-at))
+
           -- under which there is no child
           pub node-lacks : child_at node.children (get_or key (spot.depth + n) 0) ≡ None → LacksChild tree key spot (get_or key (spot.depth + n) 0)
           node-lacks none = record {
@@ -357,22 +339,34 @@ module _ {K V : Type 0} {P : ℕ} (text : K → List ℕ) (arena : ArenaOf K V P
           }
 
           -- or one, where its way goes on
-          pub node-leads : (child : OpaqueNodePtr K V P) → child_at node.children (get_or key (spot.depth + n) 0) ≡ Some child → IsSpotIn text arena tree key (record { node = child; depth = spot.depth + n + 1; parent = Some (spot.node, get_or key (spot.depth + n) 0) })
-          node-leads child some =
-              let split = split-at here.branches (get_or key (spot.depth + n) 0) child (ap (λ children. child_at children (get_or key (spot.depth + n) 0)) (sym here.shows.children) ∙ some) in
-              record {
-                stands = is.stands;
-                sound = is.sound;
-                at = record {
-                  context = Under is.at.context spot.node here.prefix split.before (get_or key (spot.depth + n) 0) split.after;
-                  part = split.tree;
-                  whole = ap (plug is.at.context) (ap (Inner spot.node here.prefix) split.whole ∙ sym here.part) ∙ is.at.whole;
-                  at_root = split.at_root;
-                  leads = leads-on;
-                  deep = omega (arith, length-append way (get_or key (spot.depth + n) 0 ∷ []), way-long, whole);
-                  hangs = refl;
-                };
-              }
+          module _ (child : OpaqueNodePtr K V P) (some : child_at node.children (get_or key (spot.depth + n) 0) ≡ Some child) where
+            split : IsSplit here.branches (get_or key (spot.depth + n) 0) child
+            split = split-at here.branches (get_or key (spot.depth + n) 0) child (ap (λ children. child_at children (get_or key (spot.depth + n) 0)) (sym here.shows.children) ∙ some)
+
+            abbrev node-leads : IsSpotIn text arena tree key (record { node = child; depth = spot.depth + n + 1; parent = Some (spot.node, get_or key (spot.depth + n) 0) })
+            node-leads = record {
+              stands = is.stands;
+              sound = is.sound;
+              at = record {
+                context = Under is.at.context spot.node here.prefix split.before (get_or key (spot.depth + n) 0) split.after;
+                part = split.tree;
+                whole = ap (plug is.at.context) (ap (Inner spot.node here.prefix) split.whole ∙ sym here.part) ∙ is.at.whole;
+                at_root = split.at_root;
+                leads = leads-on;
+                deep = omega (arith, length-append way (get_or key (spot.depth + n) 0 ∷ []), way-long, whole);
+                hangs = refl;
+              };
+            }
+
+            toward-next : toward (drop spot.depth key) is.at.part ≡ toward (drop (spot.depth + n + 1) key) split.tree
+            toward-next =
+                let past : spot.depth + (n + 1) ≡ spot.depth + n + 1 = omega arith in
+                ap (toward (drop spot.depth key)) here.part
+                ∙ toward-child spot.node here.prefix here.branches (get_or key (spot.depth + n) 0) child split (drop spot.depth key) (ap (slice_get (drop spot.depth key)) (sym whole) ∙ next-at)
+                ∙ ap (λ rest. toward rest split.tree) (ap (λ m. drop (m + 1) (drop spot.depth key)) (sym whole) ∙ drop-drop (n + 1) spot.depth key ∙ ap (λ m. drop m key) past)
+
+            pub node-descends : (known : Option (List ℕ)) → IfSome known (HasLeafText (toward (drop spot.depth key) is.at.part)) → IsDescentIn text arena tree key (record { node = child; depth = spot.depth + n + 1; parent = Some (spot.node, get_or key (spot.depth + n) 0) }) known
+            node-descends known below = record { spot_in = node-leads; below = subst (λ part. IfSome known (HasLeafText part)) toward-next below }
 
     module _ (leaf : LeafNode K V P) (here : IsAtLeaf leaf) where
       pub leaf-deep : spot.depth ≤ length (leaf_text text leaf)

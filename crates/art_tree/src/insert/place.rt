@@ -1,11 +1,14 @@
 //! Insertion: the place of a key in a tree.
-ghost use Rattle.std.specs.Prelude.{◌≡◌, ◌<◌, IfOk, IfErr};
-ghost use Rattle.art_arena.specs.Arena.{held, HeldInner};
-ghost use Rattle.art_tree.specs.Places.{Belongs, IsSpotIn};
+ghost use Rattle.std.specs.Prelude.{◌≡◌, ◌≢◌, ◌<◌, length, drop, option_copied, IfSome, IfNone, IfOk, IfErr};
+ghost use Rattle.art_header.specs.declared.node_type.NodeType.TheVariants.{Leaf};
+ghost use Rattle.art_nodes.specs.Inner.{Inner};
+ghost use Rattle.art_nodes.specs.Pointers.{node_kind};
+ghost use Rattle.art_arena.specs.Arena.{held, HeldInner, Nothing};
+ghost use Rattle.art_arena.specs.Standing.{TreeAt};
+ghost use Rattle.art_tree.specs.Places.{Belongs, HasLeafText, IsDescentIn, IsSpotIn, IsVisited, prefix_of, toward};
 ghost use Rattle.art_tree.specs.Search.{HasTree, EachTree, leaf_pointer};
 
-use crate::laws::path_and_prefix_are_shared;
-use art_arena::{AnyRef, FullPrefix, NodeArena};
+use art_arena::{AnyRef, End, NodeArena, end_leaf};
 use art_bytes::AsBytes;
 use art_nodes::{InnerNodeCommon, LeafNode, NodePtr, OpaqueNodePtr, common_prefix_len};
 
@@ -44,72 +47,197 @@ pub(crate) enum Place<K, V, const PREFIX_LEN: usize> {
     },
 }
 
-// The child of this inner node where the search goes on, or else the place of the key.
-fn next_spot_in<K: AsBytes, V, const PREFIX_LEN: usize, N: InnerNodeCommon<K, V, PREFIX_LEN>>(
+// What a visit of an inner node reads for the rest of a key: the node's prefix as far as it is
+// stored, and the child under the byte of the rest after as many bytes as the prefix has.
+#[derive_where(Clone, Copy)]
+struct Visited<'a, K, V, const PREFIX_LEN: usize> {
+    prefix_len: usize,
+    stored_prefix: &'a [u8],
+    child: Option<OpaqueNodePtr<K, V, PREFIX_LEN>>,
+}
+
+fn visit_in<'a, K, V, const PREFIX_LEN: usize, N: InnerNodeCommon<K, V, PREFIX_LEN>>(
+    node: &'a N,
+    rest: &[u8],
+) -> Visited<'a, K, V, PREFIX_LEN>
+    ensures { IsVisited (N.inner node.now) rest.now result }
+{
+    let prefix_len = node.prefix_len();
+    let child = match rest.get(prefix_len) {
+        Some(byte) => node.lookup_child(*byte),
+        None => None,
+    };
+    Visited {
+        prefix_len,
+        stored_prefix: node.stored_prefix(),
+        child,
+    }
+}
+
+// The same for the inner node at this pointer. None for a leaf.
+fn visit<'a, K, V, const PREFIX_LEN: usize>(
+    arena: &'a NodeArena<K, V, PREFIX_LEN>,
+    pointer: OpaqueNodePtr<K, V, PREFIX_LEN>,
+    rest: &[u8],
+) -> Option<Visited<'a, K, V, PREFIX_LEN>>
+    requires { held arena.now pointer ≢ Nothing }
+    ensures inner { IfSome result (λ visited. (node : Inner _) ×
+        (held arena.now pointer ≡ HeldInner node) × IsVisited node rest.now visited) }
+    ensures leaf { IfNone result (node_kind pointer ≡ Leaf) }
+{
+    match arena.node_ref(pointer) {
+        AnyRef::Node4(node) => Some(visit_in(node, rest)),
+        AnyRef::Node16(node) => Some(visit_in(node, rest)),
+        AnyRef::Node48(node) => Some(visit_in(node, rest)),
+        AnyRef::Node256(node) => Some(visit_in(node, rest)),
+        AnyRef::LeafNode(_) => None,
+    }
+}
+
+// The child of the node at this pointer to which the rest of a key goes, whatever the prefix, and
+// what is left of the key below it.
+fn child_toward<'b, K: AsBytes, V, const PREFIX_LEN: usize>(
     arena: &NodeArena<K, V, PREFIX_LEN>,
-    node: &N,
+    pointer: OpaqueNodePtr<K, V, PREFIX_LEN>,
+    rest: &'b [u8],
+) -> Option<(OpaqueNodePtr<K, V, PREFIX_LEN>, &'b [u8])>
+    requires tree { TreeAt K.text arena.now pointer }
+    ensures child { (found : TreeAt K.text arena.now pointer) → IfSome result (λ (child, left).
+        (below : TreeAt K.text arena.now child) ×
+        (toward rest.now found.tree ≡ toward left.now below.tree)) }
+    ensures shorter { IfSome result (λ (child, left). length left.now < length rest.now) }
+    ensures none { (found : TreeAt K.text arena.now pointer) →
+        IfNone result (toward rest.now found.tree ≡ found.tree) }
+{
+    let visited = visit(arena, pointer, rest)?;
+    let child = visited.child?;
+    Some((child, &rest[visited.prefix_len + 1..]))
+}
+
+// The key bytes of a leaf in the direction of the rest of a key: below the node where a search for
+// it ends that compares no prefix.
+fn text_toward<'a, K: AsBytes, V, const PREFIX_LEN: usize>(
+    arena: &'a NodeArena<K, V, PREFIX_LEN>,
+    pointer: OpaqueNodePtr<K, V, PREFIX_LEN>,
+    rest: &[u8],
+) -> &'a [u8]
+    requires tree { TreeAt K.text arena.now pointer }
+    ensures { (found : TreeAt K.text arena.now pointer) →
+        HasLeafText (toward rest.now found.tree) result.now }
+{
+    let mut at = pointer;
+    let mut left = rest;
+    'way: loop {
+        match child_toward(arena, at, left) {
+            Some((child, after)) => {
+                at = child;
+                left = after;
+            }
+            None => {
+                let leaf = end_leaf(arena, at, End::First);
+                return arena.as_ref(leaf).key_ref().as_bytes();
+            }
+        }
+    }
+}
+
+// The same below a spot, where these bytes may be known.
+fn text_below_spot<'a, K: AsBytes, V, const PREFIX_LEN: usize>(
+    arena: &'a NodeArena<K, V, PREFIX_LEN>,
     spot: Spot<K, V, PREFIX_LEN>,
     key: &[u8],
-) -> Result<Spot<K, V, PREFIX_LEN>, Place<K, V, PREFIX_LEN>>
-    requires held { held arena.now spot.node ≡ HeldInner (N.inner node.now) }
-    requires spot { (tree : _) × IsSpotIn K.text arena.now tree key.now spot }
-    ensures on { (tree : _) → IsSpotIn K.text arena.now tree key.now spot →
-        IfOk result (IsSpotIn K.text arena.now tree key.now) }
-    ensures deeper { IfOk result (λ next. spot.depth < next.depth) }
-    ensures place { (tree : _) → IsSpotIn K.text arena.now tree key.now spot →
+    known: Option<&'a [u8]>,
+) -> &'a [u8]
+    requires { (tree : _) ×
+        IsDescentIn K.text arena.now tree key.now spot (option_copied known) }
+    ensures { (tree : _)
+        (on : IsDescentIn K.text arena.now tree key.now spot (option_copied known.entry)) →
+        HasLeafText (toward (drop spot.depth key.now) on.spot_in.at.part) result.now }
+{
+    match known {
+        Some(text) => text,
+        None => text_toward(arena, spot.node, &key[spot.depth..]),
+    }
+}
+
+// The whole prefix of the inner node at a spot, from the node where it stores all of it, and else
+// from the key bytes of a leaf below, which are returned too.
+fn whole_prefix<'a, K: AsBytes, V, const PREFIX_LEN: usize>(
+    arena: &'a NodeArena<K, V, PREFIX_LEN>,
+    spot: Spot<K, V, PREFIX_LEN>,
+    key: &[u8],
+    visited: Visited<'a, K, V, PREFIX_LEN>,
+    known: Option<&'a [u8]>,
+) -> (&'a [u8], Option<&'a [u8]>)
+    requires visited { (node : Inner _) × (held arena.now spot.node ≡ HeldInner node) ×
+        IsVisited node (drop spot.depth key.now) visited }
+    requires spot { (tree : _) ×
+        IsDescentIn K.text arena.now tree key.now spot (option_copied known) }
+    ensures prefix { (tree : _)
+        (on : IsDescentIn K.text arena.now tree key.now spot (option_copied known.entry)) →
+        result.0.now ≡ prefix_of on.spot_in.at.part }
+    ensures known { (tree : _)
+        (on : IsDescentIn K.text arena.now tree key.now spot (option_copied known.entry)) →
+        IfSome (option_copied result.1)
+        (HasLeafText (toward (drop spot.depth key.now) on.spot_in.at.part)) }
+{
+    let prefix_len = visited.prefix_len;
+    if prefix_len <= PREFIX_LEN {
+        return (visited.stored_prefix, known);
+    }
+    let text = text_below_spot(arena, spot, key, known);
+    (&text[spot.depth..spot.depth + prefix_len], Some(text))
+}
+
+// The spot of the child where the search goes on, or else the place of the key. A prefix that is
+// longer than `PREFIX_LEN` is read from the key bytes of one leaf, which serve for all nodes on the
+// way: wherever the search goes on, that leaf is below.
+fn next_spot<'a, K: AsBytes, V, const PREFIX_LEN: usize>(
+    arena: &'a NodeArena<K, V, PREFIX_LEN>,
+    spot: Spot<K, V, PREFIX_LEN>,
+    key: &[u8],
+    known: Option<&'a [u8]>,
+) -> Result<(Spot<K, V, PREFIX_LEN>, Option<&'a [u8]>), Place<K, V, PREFIX_LEN>>
+    requires { (tree : _) ×
+        IsDescentIn K.text arena.now tree key.now spot (option_copied known) }
+    ensures on { (tree : _) →
+        IsDescentIn K.text arena.now tree key.now spot (option_copied known.entry) →
+        IfOk result (λ (next, text).
+        IsDescentIn K.text arena.now tree key.now next (option_copied text)) }
+    ensures deeper { IfOk result (λ (next, text). spot.depth < next.depth) }
+    ensures place { (tree : _) →
+        IsDescentIn K.text arena.now tree key.now spot (option_copied known.entry) →
         IfErr result (Belongs tree key.now) }
 {
-    // By this law a full match compares the key with the prefix that the tree has for the node.
-    path_and_prefix_are_shared::<OpaqueNodePtr<K, V, PREFIX_LEN>>();
-    let matched = match node.match_full_prefix(arena, key, spot.depth) {
-        Ok(matched) => matched,
-        Err(mismatch) => {
-            let index = spot.depth + mismatch.matched_bytes;
-            if index == key.len() {
-                return Err(Place::Clash);
-            }
-            let fork = Fork {
-                index,
-                byte: key[index],
-                node_byte: mismatch.prefix_byte,
-            };
-            return Err(Place::Fork { spot, fork });
-        }
+    let rest = &key[spot.depth..];
+    let Some(visited) = visit(arena, spot.node, rest) else {
+        return Err(place_at_leaf(arena, spot.node.cast().unwrap(), spot, key));
     };
-    let index = spot.depth + matched.matched_bytes;
+    let (prefix, text) = whole_prefix(arena, spot, key, visited, known);
+    let matched = common_prefix_len(prefix, rest);
+    let index = spot.depth + matched;
     if index == key.len() {
         return Err(Place::Clash);
     }
     let byte = key[index];
-    match node.lookup_child(byte) {
-        Some(child) => Ok(Spot {
-            node: child,
-            depth: index + 1,
-            parent: Some((spot.node, byte)),
-        }),
-        None => Err(Place::Child { spot, byte }),
+    if matched < prefix.len() {
+        let fork = Fork {
+            index,
+            byte,
+            node_byte: prefix[matched],
+        };
+        return Err(Place::Fork { spot, fork });
     }
-}
-
-// The same for a node of any kind.
-fn next_spot<K: AsBytes, V, const PREFIX_LEN: usize>(
-    arena: &NodeArena<K, V, PREFIX_LEN>,
-    spot: Spot<K, V, PREFIX_LEN>,
-    key: &[u8],
-) -> Result<Spot<K, V, PREFIX_LEN>, Place<K, V, PREFIX_LEN>>
-    requires { (tree : _) × IsSpotIn K.text arena.now tree key.now spot }
-    ensures on { (tree : _) → IsSpotIn K.text arena.now tree key.now spot →
-        IfOk result (IsSpotIn K.text arena.now tree key.now) }
-    ensures deeper { IfOk result (λ next. spot.depth < next.depth) }
-    ensures place { (tree : _) → IsSpotIn K.text arena.now tree key.now spot →
-        IfErr result (Belongs tree key.now) }
-{
-    match arena.node_ref(spot.node) {
-        AnyRef::Node4(node) => next_spot_in(arena, node, spot, key),
-        AnyRef::Node16(node) => next_spot_in(arena, node, spot, key),
-        AnyRef::Node48(node) => next_spot_in(arena, node, spot, key),
-        AnyRef::Node256(node) => next_spot_in(arena, node, spot, key),
-        AnyRef::LeafNode(_) => Err(place_at_leaf(arena, spot.node.cast().unwrap(), spot, key)),
+    match visited.child {
+        Some(child) => {
+            let next = Spot {
+                node: child,
+                depth: index + 1,
+                parent: Some((spot.node, byte)),
+            };
+            Ok((next, text))
+        }
+        None => Err(Place::Child { spot, byte }),
     }
 }
 
@@ -157,10 +285,12 @@ pub(crate) fn find_place<K: AsBytes, V, const PREFIX_LEN: usize>(
         depth: 0,
         parent: None,
     };
+    let mut known = None;
     'way: loop {
-        match next_spot(arena, spot, key) {
-            Ok(next) => {
+        match next_spot(arena, spot, key, known) {
+            Ok((next, text)) => {
                 spot = next;
+                known = text;
             }
             Err(place) => {
                 return place;

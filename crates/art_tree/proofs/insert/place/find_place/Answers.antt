@@ -14,4 +14,4 @@ returns-in-Err g c = λ tree is. c.in-Err.ensures.place tree (c.way.invariant tr
 pub way-smaller : goal.way-smaller
 way-smaller g c =
     let (tree, is) = c.requires.tree in
-    smaller _ _ _ c.in-Ok.ensures.deeper (depth-within g.K.AsBytes.text c.args.arena.now tree c.args.key.now c.in-Ok.next (c.in-Ok.ensures.on tree (c.way.invariant tree is)))
+    smaller _ _ _ c.in-Ok.ensures.deeper (depth-within g.K.AsBytes.text c.args.arena.now tree c.args.key.now c.in-Ok.next (c.in-Ok.ensures.on tree (c.way.invariant tree is)).spot_in)
