@@ -14,3 +14,5 @@ pub mod NodeCounts
 pub mod TextLists
 pub mod KeptEntries
 pub mod PrefixLemmas
+pub mod EntryLists
+pub mod EntryCounts
