@@ -16,3 +16,4 @@ pub mod KeptEntries
 pub mod PrefixLemmas
 pub mod EntryLists
 pub mod EntryCounts
+pub mod LentValue

@@ -1,10 +1,10 @@
 -- The dictionary of an arena that holds one tree.
-use Rattle.std.proofs.Common.{Bor, filter, ◌<◌, ◌^◌, length, ◌≢◌, ◌≡◌, ◌∙◌, ℕ, zero, suc, Bool, true, false, List, [], ◌∷◌, map, get_or, All, AllPairs, Contains, Option, Some, None, slice_index_or, nat_eq, refl, sym, ap, subst, inl, inr, arith, append-nil, ◌++◌, IfSome}
+use Rattle.std.proofs.Common.{Bor, filter, ◌<◌, ◌^◌, length, ◌≢◌, ◌≡◌, ◌∙◌, ℕ, zero, suc, Bool, true, false, not, IsTrue, List, [], ◌∷◌, map, get_or, All, AllPairs, Contains, Option, Some, None, slice_index_or, nat_eq, refl, sym, ap, subst, inl, inr, arith, append-nil, ◌++◌, IfSome}
 use Rattle.std.specs.Cmp.Lexicographic.{pointwise}
 use Rattle.std.specs.Cmp.{nat_cmp_is}
 use Rattle.std.specs.Cmp.Lexicographic.{nat_list_cmp_total}
 use Rattle.std.specs.Ordering.{ordering_reverse}
-use Rattle.std.specs.Option.{option_copied, option_map}
+use Rattle.std.specs.Option.{is_some, option_copied, option_map}
 use Rattle.std.specs.declared.cmp.Ordering.TheVariants.{Less, Equal, Greater}
 use Rattle.std.proofs.lemmas.List.{length-map}
 use Rattle.std.proofs.lemmas.Option.{same_Some}
@@ -20,8 +20,8 @@ use Rattle.art_arena.specs.Arena.{ArenaOf, Nothing, HeldInner, HeldLeaf, held, h
 use Rattle.art_arena.specs.Links.{leaf_at}
 use Rattle.art_arena.specs.Standing.{StandsIn, AllStandIn}
 use Rattle.art_arena.specs.Trees.{Tree, Leaf, Inner, Branches, NoBranch, Branch, leaves, branch_leaves, texts, places, branch_places}
-use Rattle.art_tree.specs.Art.{IsAlone}
-use Rattle.art_tree.specs.Dictionary.{entry_among, entry_at}
+use Rattle.art_tree.specs.Art.{IsAlone, IsArt}
+use Rattle.art_tree.specs.Dictionary.{entry_among, entry_at, HasEntry, IsEmpty}
 use Rattle.art_arena.specs.Ends.{IsAtEnd}
 use Rattle.art_tree.specs.Ends.{IsWithin}
 use Rattle.art_arena.specs.declared.ends.End.{End}
@@ -126,6 +126,20 @@ module _ {K V : Type 0} {P : ℕ} (text : K → List ℕ) where
 -- no text is a prefix of another
 abbrev pub AreApart : List (List ℕ) → Type 0
 AreApart texts = AllPairs (λ a b. (IsPrefixOf a b → ⊥) × (IsPrefixOf b a → ⊥)) texts
+
+-- an arena has no entry just where it has no root
+pub empty-if-none : {K V : Type 0} {P : ℕ} (text : K → List ℕ) (arena : ArenaOf K V P) → ((root : OpaqueNodePtr K V P) (tree : Tree (OpaqueNodePtr K V P)) → IsAlone text arena root tree → (x : List ℕ) × HasEntry text arena x) → (root : Option (OpaqueNodePtr K V P)) → IsArt text arena root → (t : Bool) → is_some root ≡ not t
+    → (IsTrue t → IsEmpty text arena) × (IsEmpty text arena → IsTrue t)
+empty-if-none text arena some None nothing t is = (λ _. empty-entry text arena nothing, λ _. is_none t is)
+  where
+    is_none : (t : Bool) → false ≡ not t → IsTrue t
+    is_none true same = refl
+    is_none false same = absurd (cc)
+empty-if-none text arena some (Some root) (tree, alone) t is = (λ holds. absurd (never t is holds), λ none. absurd ((some root tree alone).1 (none (some root tree alone).0)))
+  where
+    never : (t : Bool) → true ≡ not t → IsTrue t → ⊥
+    never true same holds = absurd (cc)
+    never false same holds = absurd (cc)
 
 -- what a function makes of a list it makes of each member
 at-map : {A B : Type 0} (f : A → B) (xs : List A) (k : ℕ) (d : A) → get_or (map f xs) k (f d) ≡ f (get_or xs k d)
