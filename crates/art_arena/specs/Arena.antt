@@ -48,6 +48,10 @@ module _ {H L : Type 0} where
   capacity arena Node256 = arena.node256.capacity
   capacity arena Leaf = arena.leaf.capacity
 
+  -- how many leaves an arena holds
+  abbrev pub leaf_count : Arena H L → ℕ
+  leaf_count arena = slab_len arena.leaf
+
   -- spare capacity and capacity of a kind
   abbrev pub space : Arena H L → NodeType → ℕ × ℕ
   space arena kind = (room arena kind, capacity arena kind)

@@ -11,7 +11,7 @@ ghost use Rattle.art_nodes.specs.Pointers.{slab_key, node_kind, opaque_pointer};
 ghost use Rattle.art_arena.specs.Links.{HoldsLeaf, leaf_at, with_value_at};
 ghost use Rattle.art_arena.specs.Reader.{shown, shown_kind};
 ghost use Rattle.art_arena.specs.Lending.{LendsNode, LendsValue};
-ghost use Rattle.art_arena.specs.Arena.{held, held_option, Nothing, HeldInner, HeldLeaf, held_header, Changes, SameNodes, room, SameRoom, SameOtherRoom, SameCapacity, SameOtherCapacity, with_node};
+ghost use Rattle.art_arena.specs.Arena.{held, held_option, Nothing, HeldInner, HeldLeaf, held_header, Changes, SameNodes, capacity, leaf_count, room, SameRoom, SameOtherRoom, SameCapacity, SameOtherCapacity, with_node};
 
 mod shelves;
 
@@ -94,6 +94,13 @@ impl<K, V, const PREFIX_LEN: usize> NodeArena<K, V, PREFIX_LEN> {
             node256: Slab::new(alloc),
             leaf: Slab::new(alloc),
         }
+    }
+
+    /// The number of leaves in the arena. Takes no memory.
+    pub fn leaf_count(&self) -> usize
+        ensures { result ≡ leaf_count self.now }
+    {
+        self.leaf.len()
     }
 
     /// Whether the arena holds a node of this type at the pointer.
@@ -478,5 +485,20 @@ impl<K, V, const PREFIX_LEN: usize> NodeArena<K, V, PREFIX_LEN> {
             ),
             ConcreteNodePtr::LeafNode(leaf) => AnyRef::LeafNode(self.leaf.get(leaf.key()).unwrap()),
         }
+    }
+}
+
+impl<K: Drop, V: Drop, const PREFIX_LEN: usize> NodeArena<K, V, PREFIX_LEN> {
+    /// Removes every node. The capacity of each kind is unchanged. Takes no memory.
+    pub fn clear(&mut self)
+        ensures empty { (pointer : _) → held self.new pointer ≡ Nothing }
+        ensures room { (kind : NodeType) → room self.new kind ≡ capacity self.old kind }
+        ensures capacity { SameCapacity self.old self.new }
+    {
+        self.node4.clear();
+        self.node16.clear();
+        self.node48.clear();
+        self.node256.clear();
+        self.leaf.clear();
     }
 }

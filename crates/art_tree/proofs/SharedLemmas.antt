@@ -14,3 +14,6 @@ pub mod NodeCounts
 pub mod TextLists
 pub mod KeptEntries
 pub mod PrefixLemmas
+pub mod EntryLists
+pub mod EntryCounts
+pub mod LentValue

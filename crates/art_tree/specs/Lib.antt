@@ -22,3 +22,5 @@ pub mod Dropping
 pub mod Removal
 pub mod Reserving
 pub mod Room
+pub mod Entries
+pub mod TreeLending

@@ -2,20 +2,23 @@
 //! work: the contract of each is a law.
 //!
 //! A context is a tree with one subtree left out. With a subtree in that place it is a tree.
-ghost use Rattle.std.specs.Prelude.{◌≡◌, ◌↔◌, ℕ, ◌++◌, List, All, Contains, Some, None, map};
+ghost use Rattle.std.specs.Prelude.{◌≡◌, ◌↔◌, ◌≤◌, ℕ, ◌++◌, [], List, All, Contains, Some, None, length, map};
 ghost use Rattle.art_header.specs.declared.node_type.NodeType.{NodeType};
 ghost use Rattle.art_nodes.specs.Leaf.{leaf_key, leaf_value};
 ghost use Rattle.art_nodes.specs.Pointers.{node_kind};
 ghost use Rattle.art_nodes.specs.declared.pointers.OpaqueNodePtr.{OpaqueNodePtr as Pointer};
-ghost use Rattle.art_arena.specs.Arena.{ArenaOf, HeldLeaf, held};
+ghost use Rattle.art_arena.specs.Arena.{ArenaOf, HeldLeaf, held, leaf_count};
+ghost use Rattle.art_arena.specs.Links.{Spells};
 ghost use Rattle.art_arena.specs.Standing.{StandsIn};
 ghost use Rattle.art_arena.specs.Trees.{Tree, leaves, places, texts, IsSound, IsWellFormed, SameButPointers};
 ghost use Rattle.art_tree.specs.Art.{IsAlone, IsArt};
 ghost use Rattle.art_tree.specs.Contexts.{Context, plug, path_to, leaves_before, leaves_after, IsExchanged};
-ghost use Rattle.art_tree.specs.Dictionary.{entry_at, Clashes, HasEntry, HasKeys, IsEmpty};
+ghost use Rattle.art_tree.specs.Dictionary.{entry_at, Clashes, HasEntry, HasKeys, IsEmpty, IsEntry, SameEntries, SameOtherEntries};
+ghost use Rattle.art_tree.specs.Entries.{AreEntries, entries_of, put_entry, without_text};
 ghost use Rattle.art_tree.specs.Insertion.{ClashesIn};
 ghost use Rattle.art_tree.specs.Loading.{HasSmallestKinds};
 ghost use Rattle.art_tree.specs.NodeCounts.{nodes_of};
+ghost use Rattle.art_tree.specs.Refusals.{texts_of};
 
 pub use art_arena::laws::{
     allocating_keeps_lists_spelled, allocating_leaves_trees_standing,
@@ -138,4 +141,49 @@ pub fn the_same_entries_make_the_same_tree<K: AsBytes, V, const PREFIX_LEN: usiz
     >();
     the_same_tree_has_the_same_kinds::<K, V, PREFIX_LEN>();
     entries_are_what_leaves_hold::<K, V, PREFIX_LEN>();
+}
+
+/// The entries of an arena are one list, ascending by key bytes. An entry is one of them exactly
+/// where its key bytes have it. No other list has all entries in that order.
+pub fn entries_are_one_list<K: AsBytes, V, const PREFIX_LEN: usize>()
+    ensures list { (arena : ArenaOf K V PREFIX_LEN) →
+        AreEntries K.text arena (entries_of K.text arena) }
+    ensures only { (arena : ArenaOf K V PREFIX_LEN) (entries others : _) →
+        AreEntries K.text arena entries → AreEntries K.text arena others → entries ≡ others }
+    ensures members { (arena : ArenaOf K V PREFIX_LEN) (entry : _) →
+        Contains (entries_of K.text arena) entry ↔ IsEntry K.text arena entry }
+    ensures none { (arena : ArenaOf K V PREFIX_LEN) →
+        IsEmpty K.text arena → entries_of K.text arena ≡ [] }
+{}
+
+/// The list of the entries after a change: the same where each entry is, with an entry put at its
+/// place where that one is new or has a new value, and without the entry of some key bytes where
+/// that one is gone.
+pub fn the_list_of_entries_changes_with_them<K: AsBytes, V, const PREFIX_LEN: usize>()
+    ensures same { (old new : ArenaOf K V PREFIX_LEN) → SameEntries K.text old new →
+        entries_of K.text new ≡ entries_of K.text old }
+    ensures put { (old new : ArenaOf K V PREFIX_LEN) (entry : _) → IsEntry K.text new entry →
+        SameOtherEntries K.text old new (K.text entry.0) →
+        entries_of K.text new ≡ put_entry K.text (entries_of K.text old) entry }
+    ensures without { (old new : ArenaOf K V PREFIX_LEN) (text : List ℕ) →
+        entry_at K.text new text ≡ None → SameOtherEntries K.text old new text →
+        entries_of K.text new ≡ without_text K.text (entries_of K.text old) text }
+{}
+
+/// The leaves of a tree that is alone in its arena have, from left to right, the key bytes of the
+/// list of the entries. They are as many as the arena has leaves. A list that links spell is no
+/// longer.
+pub fn entries_are_as_many_as_leaves<K: AsBytes, V, const PREFIX_LEN: usize>()
+    ensures texts { (arena : ArenaOf K V PREFIX_LEN) (root : _) (tree : _) →
+        IsAlone K.text arena root tree →
+        texts_of K.text (entries_of K.text arena) ≡ texts tree }
+    ensures leaves { (arena : ArenaOf K V PREFIX_LEN) (root : _) (tree : _) →
+        IsAlone K.text arena root tree → length (leaves tree) ≡ leaf_count arena }
+    ensures entries { (arena : ArenaOf K V PREFIX_LEN) (root : _) → IsArt K.text arena root →
+        length (entries_of K.text arena) ≡ leaf_count arena }
+    ensures spelled { (arena : ArenaOf K V PREFIX_LEN) (keys : List ℕ) → Spells arena keys →
+        length keys ≤ leaf_count arena }
+{
+    no_text_begins_another::<OpaqueNodePtr<K, V, PREFIX_LEN>>();
+    texts_ascend::<OpaqueNodePtr<K, V, PREFIX_LEN>>();
 }

@@ -10,6 +10,8 @@ ghost use Rattle.art_tree.specs.Ends.{IsWithin};
 ghost use Rattle.art_tree.specs.Refusals.{texts_of, HaveNoFault, IsDue};
 
 mod changes;
+mod lending;
+mod reading;
 
 use crate::find::find_leaf;
 use crate::laws::{no_text_begins_another, texts_ascend};

@@ -1,10 +1,10 @@
 -- The dictionary of an arena that holds one tree.
-use Rattle.std.proofs.Common.{Bor, filter, ◌<◌, ◌^◌, length, ◌≢◌, ◌≡◌, ◌∙◌, ℕ, zero, suc, Bool, true, false, List, [], ◌∷◌, map, get_or, All, AllPairs, Contains, Option, Some, None, slice_index_or, nat_eq, refl, sym, ap, subst, inl, inr, arith, append-nil, ◌++◌, IfSome}
+use Rattle.std.proofs.Common.{Bor, filter, ◌<◌, ◌^◌, length, ◌≢◌, ◌≡◌, ◌∙◌, ℕ, zero, suc, Bool, true, false, not, IsTrue, List, [], ◌∷◌, map, get_or, All, AllPairs, Contains, Option, Some, None, slice_index_or, nat_eq, refl, sym, ap, subst, inl, inr, arith, append-nil, ◌++◌, IfSome}
 use Rattle.std.specs.Cmp.Lexicographic.{pointwise}
 use Rattle.std.specs.Cmp.{nat_cmp_is}
 use Rattle.std.specs.Cmp.Lexicographic.{nat_list_cmp_total}
 use Rattle.std.specs.Ordering.{ordering_reverse}
-use Rattle.std.specs.Option.{option_copied, option_map}
+use Rattle.std.specs.Option.{is_some, option_copied, option_map}
 use Rattle.std.specs.declared.cmp.Ordering.TheVariants.{Less, Equal, Greater}
 use Rattle.std.proofs.lemmas.List.{length-map}
 use Rattle.std.proofs.lemmas.Option.{same_Some}
@@ -20,8 +20,8 @@ use Rattle.art_arena.specs.Arena.{ArenaOf, Nothing, HeldInner, HeldLeaf, held, h
 use Rattle.art_arena.specs.Links.{leaf_at}
 use Rattle.art_arena.specs.Standing.{StandsIn, AllStandIn}
 use Rattle.art_arena.specs.Trees.{Tree, Leaf, Inner, Branches, NoBranch, Branch, leaves, branch_leaves, texts, places, branch_places}
-use Rattle.art_tree.specs.Art.{IsAlone}
-use Rattle.art_tree.specs.Dictionary.{entry_among, entry_at}
+use Rattle.art_tree.specs.Art.{IsAlone, IsArt}
+use Rattle.art_tree.specs.Dictionary.{entry_among, entry_at, HasEntry, IsEmpty}
 use Rattle.art_arena.specs.Ends.{IsAtEnd}
 use Rattle.art_tree.specs.Ends.{IsWithin}
 use Rattle.art_arena.specs.declared.ends.End.{End}
@@ -92,7 +92,7 @@ module _ {K V : Type 0} {P : ℕ} (text : K → List ℕ) where
   module _ (arena : ArenaOf K V P) where
     mutual
       -- a place of a tree that holds a leaf is one of its leaves
-      leaf-in : (tree : Tree (OpaqueNodePtr K V P)) → StandsIn text arena tree → (q : OpaqueNodePtr K V P) (leaf : LeafNode K V P) → Contains (places tree) q → held arena q ≡ HeldLeaf leaf → Contains (leaves tree) (q, text (leaf_key leaf))
+      pub leaf-in : (tree : Tree (OpaqueNodePtr K V P)) → StandsIn text arena tree → (q : OpaqueNodePtr K V P) (leaf : LeafNode K V P) → Contains (places tree) q → held arena q ≡ HeldLeaf leaf → Contains (leaves tree) (q, text (leaf_key leaf))
       leaf-in (Leaf pointer x) (own, holds, has) q leaf inside is =
           let same : pointer ≡ q = the-one pointer q inside in
           let texts_same : x ≡ text (leaf_key leaf) = sym has ∙ ap (λ l. text (leaf_key l)) (one-leaf (held arena pointer) own leaf holds (ap (held arena) same ∙ is)) in
@@ -126,6 +126,20 @@ module _ {K V : Type 0} {P : ℕ} (text : K → List ℕ) where
 -- no text is a prefix of another
 abbrev pub AreApart : List (List ℕ) → Type 0
 AreApart texts = AllPairs (λ a b. (IsPrefixOf a b → ⊥) × (IsPrefixOf b a → ⊥)) texts
+
+-- an arena has no entry just where it has no root
+pub empty-if-none : {K V : Type 0} {P : ℕ} (text : K → List ℕ) (arena : ArenaOf K V P) → ((root : OpaqueNodePtr K V P) (tree : Tree (OpaqueNodePtr K V P)) → IsAlone text arena root tree → (x : List ℕ) × HasEntry text arena x) → (root : Option (OpaqueNodePtr K V P)) → IsArt text arena root → (t : Bool) → is_some root ≡ not t
+    → (IsTrue t → IsEmpty text arena) × (IsEmpty text arena → IsTrue t)
+empty-if-none text arena some None nothing t is = (λ _. empty-entry text arena nothing, λ _. is_none t is)
+  where
+    is_none : (t : Bool) → false ≡ not t → IsTrue t
+    is_none true same = refl
+    is_none false same = absurd (cc)
+empty-if-none text arena some (Some root) (tree, alone) t is = (λ holds. absurd (never t is holds), λ none. absurd ((some root tree alone).1 (none (some root tree alone).0)))
+  where
+    never : (t : Bool) → true ≡ not t → IsTrue t → ⊥
+    never true same holds = absurd (cc)
+    never false same holds = absurd (cc)
 
 -- what a function makes of a list it makes of each member
 at-map : {A B : Type 0} (f : A → B) (xs : List A) (k : ℕ) (d : A) → get_or (map f xs) k (f d) ≡ f (get_or xs k d)
@@ -245,6 +259,16 @@ module _ {K V : Type 0} {P : ℕ} (text : K → List ℕ) (arena : ArenaOf K V P
       let slot = leaf-of (leaf_at arena (slab_key leaf)) there.0 there.1 in
       ap (option_map (λ (entry : K × V). entry.1)) (ap (entry_at text arena) (sym there.2) ∙ entry-of-leaf apart (slab_key leaf) there.0 slot) ∙ sym (ap (option_map leaf_value) slot) ∙ is
 
+  -- key and value of that leaf are the entry
+  pub scanned-pair : AreApart (texts tree) → (x : List ℕ) (leaf : NodePtr P (LeafNode K V P)) → scan tree x ≡ (leaf_pointer leaf, x) ∷ [] → (key : K) (value : V) → option_map leaf_key (leaf_at arena (slab_key leaf)) ≡ Some key → option_map leaf_value (leaf_at arena (slab_key leaf)) ≡ Some value → entry_at text arena x ≡ Some (key, value)
+  scanned-pair apart x leaf one key value is_key is_value =
+      let inside = scan-in (leaves tree) (leaf_pointer leaf) x (subst (λ all. Contains all (leaf_pointer leaf, x)) (sym one) (0, omega arith, refl)) in
+      let there = leaf-held-in text arena tree alone.is_tree.stands (leaf_pointer leaf) x inside in
+      let slot = leaf-of (leaf_at arena (slab_key leaf)) there.0 there.1 in
+      let same_key = same_Some (leaf_key there.0) key (sym (ap (option_map leaf_key) slot) ∙ is_key) in
+      let same_value = same_Some (leaf_value there.0) value (sym (ap (option_map leaf_value) slot) ∙ is_value) in
+      ap (entry_at text arena) (sym there.2) ∙ entry-of-leaf apart (slab_key leaf) there.0 slot ∙ ap Some (λ i. (same_key i, same_value i))
+
   -- an entry that a leaf of the tree holds is that of its text
   pub held-entry : AreApart (texts tree) → (pointer : OpaqueNodePtr K V P) (leaf : LeafNode K V P) → held arena pointer ≡ HeldLeaf leaf → entry_at text arena (text (leaf_key leaf)) ≡ Some (leaf_key leaf, leaf_value leaf)
   held-entry apart pointer leaf is =
@@ -333,6 +357,9 @@ module _ {K V : Type 0} {P : ℕ} (text : K → List ℕ) (arena : ArenaOf K V P
 pub nothing-got : {K V : Type 0} (result : Option (Bor V)) (entry : Option (K × V)) → result ≡ None → entry ≡ None → option_copied result ≡ option_map (λ (e : K × V). e.1) entry
 nothing-got result entry none no_entry = ap option_copied none ∙ sym (ap (option_map (λ (e : _ × _). e.1)) no_entry)
 
+pub nothing-mapped : {A B : Type 0} (f : A → B) (result : Option A) (entry : Option B) → result ≡ None → entry ≡ None → option_map f result ≡ entry
+nothing-mapped f result entry none no_entry = ap (option_map f) none ∙ sym no_entry
+
 -- the entry at an end
 module _ {H : Type 0} (R : List ℕ → List ℕ → Type 0) where
   pub after-first : (y : H × List ℕ) (ys : List (H × List ℕ)) (q : H) (z : List ℕ) → AllPairs R (map (λ pair. pair.1) (y ∷ ys)) → Contains ys (q, z) → R y.1 z
@@ -346,7 +373,7 @@ module _ {H : Type 0} (R : List ℕ → List ℕ → Type 0) where
     | inr later ↦ before-last ys p x q z (λ i j d before within. pairs (suc i) (suc j) d (omega (arith, before)) (omega (arith, within))) later
   ]
 
-itself : (x : List ℕ) → text_order x x ≡ Equal
+pub itself : (x : List ℕ) → text_order x x ≡ Equal
 itself [] = refl
 itself (n ∷ x) = rw (sym (nat_cmp_is n n Equal refl)) (itself x)
 

@@ -6,13 +6,13 @@ use Rattle.std.specs.declared.cmp.Ordering.TheVariants.{Less, Greater}
 use Rattle.std.proofs.lemmas.List.Elements.{Contains-append_cases, Contains-append_right}
 use Rattle.art_bytes.specs.Text.{text_order}
 
-abbrev Ascend : List (List ℕ) → Type 0
+abbrev pub Ascend : List (List ℕ) → Type 0
 Ascend texts = AllPairs (λ a b. text_order a b ≡ Less) texts
 
 first-least : (x : List ℕ) (xs : List (List ℕ)) (z : List ℕ) → Ascend (x ∷ xs) → Contains xs z → text_order x z ≡ Less
 first-least x xs z ascend (k, inside, is) = subst (λ other. text_order x other ≡ Less) is (ascend 0 (suc k) z (omega arith) (omega (arith, inside)))
 
-others-ascend : (x : List ℕ) (xs : List (List ℕ)) → Ascend (x ∷ xs) → Ascend xs
+pub others-ascend : (x : List ℕ) (xs : List (List ℕ)) → Ascend (x ∷ xs) → Ascend xs
 others-ascend x xs ascend = λ i j d before inside. ascend (suc i) (suc j) d (omega (arith, before)) (omega (arith, inside))
 
 -- of two texts just one is less

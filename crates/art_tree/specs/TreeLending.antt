@@ -1,0 +1,35 @@
+-- What a tree ends as, where a value of it is borrowed.
+use Rattle.std.specs.Prelude.{◌≡◌, ◌≢◌, ℕ, List, Some, Option, OnSome}
+use Rattle.std.specs.Borrow.{RattleType, Fml, MutBor, LendsSo}
+use Rattle.std.specs.Option.{option_map}
+use Rattle.art_nodes.specs.Leaf.{leaf_key, with_value}
+use Rattle.art_nodes.specs.declared.leaf_node.LeafNode.{LeafNode}
+use Rattle.art_nodes.specs.declared.pointers.OpaqueNodePtr.{OpaqueNodePtr}
+use Rattle.art_nodes.specs.contracts.pointers.OpaqueNodePtr as pointer
+use Rattle.art_arena.specs.Arena.{ArenaOf, HeldLeaf, Changes, SameRoom, held}
+use Rattle.art_arena.specs.Lending.{arena_row}
+use Rattle.art_tree.specs.Art.{Art, IsArt}
+use Rattle.art_tree.specs.Dictionary.{HasKeys, SameOtherEntries, entry_at}
+use Rattle.art_tree.specs.contracts.tree.Rooted.{the_row}
+
+-- the type of a tree with its arena, as the logic names it
+abbrev pub tree_row : (K V P : RattleType) → (K.Denot → List ℕ) → (K.Denot → Type 0) → RattleType
+tree_row K V P text is_key =
+    the_row (arena_row K V P) (pointer.the_row K V P) (record { holds_one_tree = λ arena root. IsArt text arena root × HasKeys text is_key arena })
+
+module _ {K V : Type 0} {P : ℕ} (text : K → List ℕ) where
+  -- the entry of this text has this value now; its key, every other entry, every node but its leaf, the root and
+  -- spare capacity are unchanged
+  pub record HasValueNow (old new : Art (ArenaOf K V P) (OpaqueNodePtr K V P)) (x : List ℕ) (value : V) : Type 0 where
+    pub entry : entry_at text new.arena x ≡ option_map (λ entry. (entry.0, value)) (entry_at text old.arena x)
+    pub others : SameOtherEntries text old.arena new.arena x
+    pub nodes : (at : OpaqueNodePtr K V P) × (leaf : LeafNode K V P) × (held old.arena at ≡ HeldLeaf leaf) × (text (leaf_key leaf) ≡ x)
+        × Changes old.arena new.arena at (HeldLeaf (with_value leaf value))
+    pub room : SameRoom old.arena new.arena
+    pub root : new.root ≡ old.root
+
+-- a tree ends with the value that was left behind the reference in the entry of this text, or unchanged
+abbrev pub LendsValueAt : (K V P : RattleType) (text : K.Denot → List ℕ) (is_key : K.Denot → Type 0) →
+    MutBor (tree_row K V P text is_key).Denot → List ℕ → Option (MutBor V.Denot) → Fml
+LendsValueAt K V P text is_key tree x result =
+    LendsSo (tree_row K V P text is_key) V tree result (λ now value. OnSome result (HasValueNow text tree.now now x value)) (λ now. now ≡ tree.now)

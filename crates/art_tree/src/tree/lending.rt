@@ -1,0 +1,37 @@
+//! The value of an entry of an [`ArtTree`], to be changed in place.
+ghost use Rattle.std.specs.Prelude.{◌≡◌};
+ghost use Rattle.std.specs.Borrow.{sem};
+ghost use Rattle.std.specs.Option.{option_copied_mut, option_map};
+ghost use Rattle.art_tree.specs.Dictionary.{entry_at};
+ghost use Rattle.art_tree.specs.TreeLending.{LendsValueAt};
+
+use crate::find::find_leaf;
+use crate::laws::{
+    lists_are_spelled_where_links_are_kept, no_text_begins_another,
+    trees_stand_where_texts_are_kept,
+};
+use crate::tree::ArtTree;
+use art_arena::ArenaReader;
+use art_bytes::AsBytes;
+use art_nodes::OpaqueNodePtr;
+
+impl<K: AsBytes, V, const PREFIX_LEN: usize> ArtTree<K, V, PREFIX_LEN> {
+    /// A mutable reference to the value of the entry with these key bytes, or None where there is
+    /// none. The entry ends with the value that the caller leaves there. Its key, every other
+    /// entry, every other node and the root are unchanged. Where there is none, the tree is
+    /// unchanged. Costs as much as [`get`](Self::get). Takes no memory.
+    pub fn get_mut(&mut self, key: &[u8]) -> Option<&mut V>
+        ensures* writes_back { sem 𝓛 (LendsValueAt K.row V.row PREFIX_LEN.row K.text K.is_key
+            self.entry key.now result) }
+        ensures value { option_copied_mut result
+            ≡ option_map (λ entry. entry.1) (entry_at K.text self.old.arena key.now) }
+    {
+        no_text_begins_another::<OpaqueNodePtr<K, V, PREFIX_LEN>>();
+        trees_stand_where_texts_are_kept::<K, V, PREFIX_LEN>();
+        lists_are_spelled_where_links_are_kept::<K, V, PREFIX_LEN>();
+        let root = self.root?;
+        let mut reader = ArenaReader::with_budget(&self.arena, key.len() + 1);
+        let (leaf, _) = find_leaf(&mut reader, root, key)?;
+        Some(self.arena.as_value_mut(leaf))
+    }
+}
