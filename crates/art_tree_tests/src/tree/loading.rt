@@ -1,6 +1,5 @@
 //! Tests of loads: the refusals, and the loaded tree.
 use super::{numbered, shape};
-use crate::ALL_STANDS;
 use art_tree::{
     AnyRef, ArenaReader, InnerNode4, InnerNodeCommon, InsertRefusal, LeafNode, LoadFault,
     LoadRefusal, NodeArena, NodePtr, NodeType, OpaqueNodePtr, load,
@@ -138,7 +137,7 @@ fn load_beside(
     for root in standing {
         check_root(rt, arena, *root, 2);
     }
-    Err(ALL_STANDS.into())
+    Err("load refused, and all stands".into())
 }
 
 fn load_in_turn(rt: &impl Abort, alloc: Global, arena: &mut Texts) -> Result<(), Fail> {
