@@ -71,13 +71,13 @@ fn check_all_refused(rt: &impl Abort, alloc: Global, arena: &mut Texts) -> Resul
 // The refusal is the same where memory is short: a fault of the entries comes before any
 // allocation.
 #[test]
-fn the_lowest_entry_at_fault_is_told(rt: HostRuntime) -> Result<(), Fail> {
+fn the_lowest_entry_at_fault_is_reported(rt: HostRuntime) -> Result<(), Fail> {
     check_all_refused(&rt, rt.alloc(), &mut Texts::new(rt.alloc()))?;
     Ok(())
 }
 
 #[test]
-fn refusals_are_told(rt: HostRuntime) -> Result<(), Fail> {
+fn refusals_are_printed(rt: HostRuntime) -> Result<(), Fail> {
     let of_a_load = [
         (LoadRefusal::Empty, "no entries"),
         (LoadRefusal::KeyTooLong(0), "entry 0: key too long"),

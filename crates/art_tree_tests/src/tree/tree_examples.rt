@@ -115,11 +115,11 @@ fn exchange_child<K: AsBytes, V, const PREFIX_LEN: usize, N: ArenaInnerNode<K, V
         held arena.old (opaque_pointer N.TYPE (slab_key node)) ≡ HeldInner own →
         child_at own.children byte ≢ None }
     ensures { (above : _) (prefix : List ℕ) (before after : _) (part now : _) →
-        (λ context. StandsIn K.text arena.old (plug context part) → IsWellFormed (plug context part)
-        → root_of now ≡ child → IsSound (path_to context) now → StandsIn K.text arena.old now →
+        let context = Under above (opaque_pointer N.TYPE (slab_key node)) prefix before byte after in
+        StandsIn K.text arena.old (plug context part) → IsWellFormed (plug context part) →
+        root_of now ≡ child → IsSound (path_to context) now → StandsIn K.text arena.old now →
         All (λ pointer. pointer ≢ opaque_pointer N.TYPE (slab_key node)) (places now) →
-        StandsIn K.text arena.new (plug context now) × IsWellFormed (plug context now))
-        (Under above (opaque_pointer N.TYPE (slab_key node)) prefix before byte after) }
+        StandsIn K.text arena.new (plug context now) × IsWellFormed (plug context now) }
 {
     laws::a_subtree_may_be_exchanged::<K, V, PREFIX_LEN>();
     laws::trees_stand_where_their_nodes_are_kept::<K, V, PREFIX_LEN>();
@@ -252,7 +252,7 @@ fn change_a_tree(rt: &impl Abort, tree: &mut ArtTree<StrKey<'_>, u32, 2>) -> Res
 }
 
 #[test]
-fn the_first_examples_answer_so(rt: HostRuntime) -> Result<(), Fail> {
+fn the_examples_of_the_documents_hold(rt: HostRuntime) -> Result<(), Fail> {
     find_one_of_two(&rt, rt.alloc(), &mut NodeArena::new(rt.alloc()))?;
     change_a_tree(&rt, &mut ArtTree::new(rt.alloc()))
 }
