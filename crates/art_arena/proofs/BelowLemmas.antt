@@ -7,10 +7,11 @@ use Rattle.art_nodes.specs.ChildMap.{child_at}
 use Rattle.art_nodes.specs.Inner as nodes
 use Rattle.art_nodes.specs.PrefixMatch.{HasPrefix}
 use Rattle.art_nodes.specs.declared.pointers.OpaqueNodePtr.{OpaqueNodePtr}
-use Rattle.art_arena.specs.Arena.{ArenaOf, Nothing, HeldInner, HeldLeaf, held}
+use Rattle.art_arena.specs.Arena.{ArenaOf, Nothing, HeldInner, HeldLeaf, Changes, held}
 use Rattle.art_arena.specs.CommonPrefix.{IsSharedFrom}
 use Rattle.art_arena.specs.Standing.{NodeStands, StandsIn, StandsUnder, AllStandIn, TreeAt, TreeUnder, leaf_text}
-use Rattle.art_arena.specs.Trees.{Tree, Leaf, Inner, Branches, NoBranch, Branch, branch_leaves, branch_roots, leaves, root_of, texts, IsSound, AreSound}
+use Rattle.art_arena.specs.Trees.{Tree, Leaf, Inner, Branches, NoBranch, Branch, branch_leaves, branch_roots, leaves, root_of, texts, IsSound, AreSound, SameButPointers, SameBranches}
+use Rattle.art_arena.proofs.PlaceLemmas.{all-beside}
 use Rattle.art_arena.proofs.StandingLaws.{shown-prefix}
 use Rattle.art_arena.proofs.TreeLemmas.{IsLongestCommonPrefix-node}
 
@@ -77,3 +78,26 @@ module _ {K V : Type 0} {P : ℕ} (text : K → List ℕ) (arena : ArenaOf K V P
       by_tree : (tree : Tree (OpaqueNodePtr K V P)) → StandsUnder P (leaf_text text) (held arena) node tree → IsSound under.path tree → (shared : List ℕ) × IsSharedFrom depth (texts tree) shared
       by_tree (Leaf p x) stands sound = absurd stands
       by_tree (Inner p prefix branches) stands sound = (prefix, (under.path ++ prefix, IsLongestCommonPrefix-node under.path p prefix branches sound, sym (drop_at under.path prefix depth under.deep)))
+
+mutual
+  -- a tree is the same as itself
+  same-tree : {H : Type 0} (tree : Tree H) → SameButPointers tree tree
+  same-tree (Leaf pointer text) = refl
+  same-tree (Inner pointer prefix branches) = (refl, same-branches branches)
+
+  same-branches : {H : Type 0} (branches : Branches H) → SameBranches branches branches
+  same-branches NoBranch = tt
+  same-branches (Branch byte tree others) = (refl, same-tree tree, same-branches others)
+
+-- a node that has a tree as a value has it under its pointer once it is allocated
+pub allocated-under : {K V : Type 0} {P : ℕ} (text : K → List ℕ) (old new : ArenaOf K V P) (pointer : OpaqueNodePtr K V P) (node : nodes.Inner (OpaqueNodePtr K V P)) (depth : ℕ) (under : TreeUnder text old node depth) → held old pointer ≡ Nothing → Changes old new pointer (HeldInner node)
+    → (at : TreeAt text new pointer) × (at.path ≡ under.path) × SameButPointers at.tree under.tree
+allocated-under {K = K} {V = V} {P = P} text old new pointer node depth under was_free changes = by_tree under.tree under.stands under.sound
+  where
+    by_tree : (tree : Tree (OpaqueNodePtr K V P)) → StandsUnder P (leaf_text text) (held old) node tree → IsSound under.path tree → (at : TreeAt text new pointer) × (at.path ≡ under.path) × SameButPointers at.tree tree
+    by_tree (Leaf p x) stands sound = absurd stands
+    by_tree (Inner p prefix branches) (shows, stand) sound = (
+      record { tree = Inner pointer prefix branches; path = under.path; at_root = refl; stands = (node, changes.changed, shows, all-beside P (leaf_text text) (held old) (held new) pointer was_free changes.others branches stand); sound = sound },
+      refl,
+      (refl, same-branches branches),
+    )

@@ -32,3 +32,8 @@ full_match prefix rest =
     if equal_bytes == length prefix
     then Ok equal_bytes
     else Err (record { equal_bytes = equal_bytes; prefix_byte = slice_index prefix equal_bytes; order = prefix_order prefix rest })
+
+-- this is how what the texts share from this depth on compares with what a key has there
+abbrev pub IsFullMatch : ℕ → List (List ℕ) → List ℕ → Result ℕ Parting → Type 0
+IsFullMatch depth texts key found =
+    (shared : List ℕ) → IsSharedFrom depth texts shared → found ≡ full_match shared (drop depth key)

@@ -15,7 +15,7 @@ ghost use Rattle.art_nodes.specs.PrefixMatch.{HasPrefix};
 ghost use Rattle.art_nodes.specs.declared.pointers.OpaqueNodePtr.{OpaqueNodePtr};
 ghost use Rattle.art_arena.specs.Arena.{ArenaOf, HeldInner, HeldLeaf, Nothing, Changes, held};
 ghost use Rattle.art_arena.specs.Links.{AreDistinct, IsKnit, SameButLinks, Spells, leaf_at, next_at, previous_at};
-ghost use Rattle.art_arena.specs.CommonPrefix.{IsLongestCommonPrefix, IsSharedFrom};
+ghost use Rattle.art_arena.specs.CommonPrefix.{IsFullMatch, IsLongestCommonPrefix, IsSharedFrom};
 ghost use Rattle.art_arena.specs.Standing.{NodeStands, StandsIn, AllStandIn, TreeAt, TreeUnder, IsTreeIn};
 ghost use Rattle.art_arena.specs.Trees.{Tree, Inner, Branches, branch_roots, leaves, texts, places, IsSound, AreSound, SameButPointers};
 
@@ -56,6 +56,25 @@ pub fn same_trees_have_the_same_texts<H, L>()
         IsSharedFrom depth (texts other) shared }
 {}
 
+/// Nodes of two trees that are the same but for their pointers match each key alike, however many
+/// bytes of the prefix each of them stores. The arenas may be of different `PREFIX_LEN`.
+pub fn same_trees_match_alike<
+    K: AsBytes,
+    V,
+    const PREFIX_LEN: usize,
+    L: AsBytes,
+    W,
+    const OTHER_PREFIX_LEN: usize,
+>()
+    ensures { (arena : ArenaOf K V PREFIX_LEN) (other_arena : ArenaOf L W OTHER_PREFIX_LEN)
+        (node other : _) (depth : ℕ) (key : List ℕ) (found other_found : _)
+        (under : TreeUnder K.text arena node depth)
+        (other_under : TreeUnder L.text other_arena other depth) →
+        SameButPointers under.tree other_under.tree →
+        IsFullMatch depth (texts under.tree) key found →
+        IsFullMatch depth (texts other_under.tree) key other_found → found ≡ other_found }
+{}
+
 /// Each node of a tree has a tree, so the calls that require one can be made on the way down. The
 /// root of a well-formed tree has it. Where a tree stands, something is held. If that is an inner
 /// node, the node has the tree under the same path, and its child under a byte has one under the
@@ -83,15 +102,25 @@ pub fn each_node_of_a_tree_has_a_tree<K: AsBytes, V, const PREFIX_LEN: usize>()
         (shared : List ℕ) × IsSharedFrom depth (texts under.tree) shared }
 {}
 
-/// A node over sound trees that stand makes, once allocated, a tree that stands and is sound.
+/// A node over sound trees that stand makes, once allocated, a tree that stands and is sound. So a
+/// node that has a tree as a value has it under its pointer once it is allocated.
 pub fn an_allocated_node_makes_a_tree<K: AsBytes, V, const PREFIX_LEN: usize>()
     ensures stands { (old new : ArenaOf K V PREFIX_LEN) (pointer : _) (node : _) (prefix : List ℕ)
         (branches : _) → held old pointer ≡ Nothing → Changes old new pointer (HeldInner node) →
         NodeStands PREFIX_LEN node prefix branches → AllStandIn K.text old branches →
         StandsIn K.text new (Inner pointer prefix branches) }
-    ensures sound { (pointer : OpaqueNodePtr K V PREFIX_LEN) (path prefix : List ℕ) (branches : _) →
-        2 ≤ length (branch_roots branches) → IsAscending (key_bytes (branch_roots branches)) →
-        AreSound (path ++ prefix) branches → IsSound path (Inner pointer prefix branches) }
+    ensures tree { (old new : ArenaOf K V PREFIX_LEN) (pointer : _) (node : _)
+        (path prefix : List ℕ) (branches : _) → held old pointer ≡ Nothing →
+        Changes old new pointer (HeldInner node) → NodeStands PREFIX_LEN node prefix branches →
+        2 ≤ length node.children → IsAscending (key_bytes node.children) →
+        AllStandIn K.text old branches → AreSound (path ++ prefix) branches →
+        StandsIn K.text new (Inner pointer prefix branches) ×
+        IsSound path (Inner pointer prefix branches) }
+    ensures under { (old new : ArenaOf K V PREFIX_LEN) (pointer : _) (node : _) (depth : ℕ)
+        (under : TreeUnder K.text old node depth) → held old pointer ≡ Nothing →
+        Changes old new pointer (HeldInner node) →
+        (at : TreeAt K.text new pointer) × (at.path ≡ under.path) ×
+        SameButPointers at.tree under.tree }
 {}
 
 /// A tree still stands in an arena that holds all that was held, as it was held.

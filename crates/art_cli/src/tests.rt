@@ -25,7 +25,7 @@ const ANSWERS: &str =
 
 // How a test ends whose run failed to allocate, after the next run succeeded. `checks/refusals`
 // searches for it.
-const ALL_STANDS: &str = "refused, and all stands";
+const ALL_STANDS: &str = "run refused, and all stands";
 
 fn words(alloc: Global, texts: &[&str]) -> Result<Vec<String>, AllocError> {
     let mut words = Vec::new(alloc);

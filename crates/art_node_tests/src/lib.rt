@@ -6,6 +6,10 @@
 //! type. The modules `key_examples`, `mapped_examples`, `mapped_callers`, `header_callers` and
 //! `node_callers` show how a crate uses each layer. The tests of the arena and of trees are in
 //! `art_tree_tests`, so that a change there does not prove these again.
+//!
+//! A test in which a call fails to allocate compares all else, makes the call again, which succeeds,
+//! and ends with the error `CALL refused, and all stands`. `checks/refusals` counts these ends by
+//! call.
 #![tactic(auto)]
 
 #[cfg(test)]
@@ -18,8 +22,3 @@ mod header;
 mod mapped;
 #[cfg(test)]
 mod nodes;
-
-/// How a test ends in which an allocation failed, after it compared what is left and the next call
-/// succeeded. `checks/refusals` looks for this text.
-#[cfg(test)]
-const ALL_STANDS: &str = "refused, and all stands";

@@ -1,4 +1,5 @@
 pub mod DescentLemmas
+pub mod MetLemmas
 pub mod OnlyWayLemmas
 pub mod PathNodes
 pub mod PathSteps

@@ -7,6 +7,7 @@ pub mod ExchangedSubtree
 pub mod UniqueTree
 pub mod ParentLemmas
 pub mod KeyLemmas
+pub mod LoadedTexts
 pub mod ExchangedTree
 pub mod ChangedTree
 pub mod RoomLemmas

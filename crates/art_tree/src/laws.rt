@@ -8,7 +8,7 @@ ghost use Rattle.art_nodes.specs.Leaf.{leaf_key, leaf_value};
 ghost use Rattle.art_nodes.specs.Pointers.{node_kind};
 ghost use Rattle.art_nodes.specs.declared.pointers.OpaqueNodePtr.{OpaqueNodePtr as Pointer};
 ghost use Rattle.art_arena.specs.Arena.{ArenaOf, HeldLeaf, held, leaf_count};
-ghost use Rattle.art_arena.specs.Links.{Spells};
+ghost use Rattle.art_arena.specs.Links.{AreDistinct, Spells};
 ghost use Rattle.art_arena.specs.Standing.{StandsIn};
 ghost use Rattle.art_arena.specs.Trees.{Tree, leaves, places, texts, IsSound, IsWellFormed, SameButPointers};
 ghost use Rattle.art_tree.specs.Art.{IsAlone, IsArt};
@@ -16,17 +16,18 @@ ghost use Rattle.art_tree.specs.Contexts.{Context, plug, path_to, leaves_before,
 ghost use Rattle.art_tree.specs.Dictionary.{entry_at, Clashes, HasEntry, HasKeys, IsEmpty, IsEntry, SameEntries, SameOtherEntries};
 ghost use Rattle.art_tree.specs.Entries.{AreEntries, entries_of, put_entry, without_text};
 ghost use Rattle.art_tree.specs.Insertion.{ClashesIn};
-ghost use Rattle.art_tree.specs.Loading.{HasSmallestKinds};
+ghost use Rattle.art_tree.specs.Loading.{HasSmallestKinds, IsLoaded};
 ghost use Rattle.art_tree.specs.NodeCounts.{nodes_of};
 ghost use Rattle.art_tree.specs.Refusals.{texts_of};
+ghost use Rattle.art_tree.specs.Search.{met};
 
 pub use art_arena::laws::{
     allocating_keeps_lists_spelled, allocating_leaves_trees_standing,
     an_allocated_node_makes_a_tree, each_leaf_of_a_list_is_knit, each_node_of_a_tree_has_a_tree,
     each_pointer_is_at_one_place, lists_are_spelled_where_links_are_kept,
     lists_are_spelled_where_their_leaves_are_kept, no_text_begins_another,
-    path_and_prefix_are_shared, same_trees_have_the_same_texts, texts_ascend,
-    trees_stand_where_all_is_kept, trees_stand_where_texts_are_kept,
+    path_and_prefix_are_shared, same_trees_have_the_same_texts, same_trees_match_alike,
+    texts_ascend, trees_stand_where_all_is_kept, trees_stand_where_texts_are_kept,
     trees_stand_where_their_nodes_are_kept,
 };
 use art_bytes::{AsBytes, NoPrefixesBytes};
@@ -54,6 +55,22 @@ pub fn the_same_texts_have_the_same_nodes<H, L>()
     texts_ascend::<H>();
     texts_ascend::<L>();
     the_same_texts_make_the_same_tree::<H, L>();
+}
+
+/// The tree that `load` makes has the key bytes of its entries, in their order.
+pub fn a_loaded_tree_has_the_texts_of_its_entries<K: AsBytes, V, const PREFIX_LEN: usize>()
+    ensures { (old new : ArenaOf K V PREFIX_LEN) (entries : List (K × V)) (root : _) (tree : _) →
+        IsLoaded K.text old new entries root tree → texts tree ≡ texts_of K.text entries }
+{}
+
+/// A search visits no node twice: the nodes that a key meets on its way down are distinct, whichever
+/// prefixes are stored whole.
+pub fn the_nodes_that_a_key_meets_are_distinct<K: AsBytes, V, const PREFIX_LEN: usize>()
+    ensures { (arena : ArenaOf K V PREFIX_LEN) (path : List ℕ) (tree : _) (room : ℕ)
+        (key : List ℕ) → StandsIn K.text arena tree → IsSound path tree →
+        AreDistinct (met room tree key) }
+{
+    each_pointer_is_at_one_place::<K, V, PREFIX_LEN>();
 }
 
 /// Two trees that are the same but for their pointers, each with the smallest kinds in its arena,

@@ -44,7 +44,7 @@ fn indices_ascend_as_their_numbers(rt: HostRuntime) {
 }
 
 #[test]
-fn a_number_that_is_no_index_is_told(rt: HostRuntime) -> Result<(), Fail> {
+fn a_number_that_is_no_index_is_printed(rt: HostRuntime) -> Result<(), Fail> {
     let text = format!(in rt.alloc(); "{}", TryFromByteError)?;
     assert!(rt; text.as_str() == "out of range integral type conversion attempted");
     Ok(())

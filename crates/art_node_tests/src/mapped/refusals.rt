@@ -1,6 +1,5 @@
 //! Sequences and tuples with one allocation failure: the next call succeeds, and the test ends.
 use super::*;
-use crate::ALL_STANDS;
 
 const REFUSED_ONCE: &str = "memory was refused once";
 
@@ -20,7 +19,7 @@ fn check_key<B: BytesMapping<D>, D: Drop>(
         Err(AllocError) => {
             let key = Mapped::<B, D>::new(alloc, again).expect(rt, REFUSED_ONCE);
             assert!(rt; key.as_bytes() == text);
-            Err(ALL_STANDS.into())
+            Err("Mapped::new refused, and all stands".into())
         }
     }
 }
@@ -40,7 +39,7 @@ fn check_copy<B: BytesMapping<D, Bytes = Vec<u8>>, D>(
             assert!(rt; key.as_bytes() == text);
             let copy = key.clone().expect(rt, REFUSED_ONCE);
             assert!(rt; copy.as_bytes() == text);
-            Err(ALL_STANDS.into())
+            Err("Mapped::clone refused, and all stands".into())
         }
     }
 }
@@ -61,7 +60,7 @@ fn check_get<B: BytesMapping<D>, D: PartialEq + Drop>(
         Err(AllocError) => {
             let read = again.get(alloc).expect(rt, REFUSED_ONCE);
             assert!(rt; read == *wanted);
-            Err(ALL_STANDS.into())
+            Err("Mapped::get refused, and all stands".into())
         }
     }
 }
@@ -82,7 +81,7 @@ fn check_to_bytes<B: BytesMapping<D, Bytes = Vec<u8>>, D: Drop>(
         Err(AllocError) => {
             let bytes = B::to_bytes(alloc, again).expect(rt, REFUSED_ONCE);
             assert!(rt; bytes.as_slice() == text);
-            Err(ALL_STANDS.into())
+            Err("to_bytes refused, and all stands".into())
         }
     }
 }
@@ -104,7 +103,7 @@ fn check_from_bytes<B: BytesMapping<D>, D: PartialEq + Drop>(
         Err(AllocError) => {
             let read = B::from_bytes(alloc, same).expect(rt, REFUSED_ONCE);
             assert!(rt; read == *wanted);
-            Err(ALL_STANDS.into())
+            Err("from_bytes refused, and all stands".into())
         }
     }
 }
@@ -134,7 +133,7 @@ fn check_asked<B: BytesMapping<D, Bytes = Vec<u8>>, D: PartialEq + Drop>(
         Err(AllocError) => {
             let read = B::checked_from_bytes(alloc, same).expect(rt, REFUSED_ONCE);
             assert!(rt; is_some_of(&read, wanted));
-            Err(ALL_STANDS.into())
+            Err("checked_from_bytes refused, and all stands".into())
         }
     }
 }

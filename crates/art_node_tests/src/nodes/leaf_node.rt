@@ -1,5 +1,4 @@
 //! The parts of a leaf, and comparisons of its key.
-use crate::ALL_STANDS;
 use art_nodes::{LeafNode, NodePtr};
 use std::alloc::AllocError;
 use std::cmp::Ordering;
@@ -107,7 +106,7 @@ fn a_refused_clone_leaves_the_leaf(rt: HostRuntime) -> Result<(), Fail> {
                 .expect(&rt, "memory was refused once");
             check_texts(&rt, &copy, None);
             check_texts(&rt, &leaf, previous);
-            Err(ALL_STANDS.into())
+            Err("clone_without_siblings refused, and all stands".into())
         }
     }
 }

@@ -1,6 +1,5 @@
 //! Whole runs, at the steps that a reader would try by hand.
 use super::node_fixtures::leaf;
-use crate::ALL_STANDS;
 use art_nodes::{ChildCommand, ChildNode, ChildReply, Header, NodeType, Sequence, replay};
 use std::alloc::{AllocError, Global};
 use std::ops::Bound;
@@ -93,7 +92,7 @@ fn check_run(
                 "memory was refused once",
             );
             check_answer(rt, &answer, wanted, left);
-            Err(ALL_STANDS.into())
+            Err("replay refused, and all stands".into())
         }
     }
 }
@@ -359,7 +358,7 @@ fn a_refused_range_leaves_the_node(rt: HostRuntime) -> Result<(), Fail> {
                 .expect(&rt, "memory was refused once");
             check_leaves(&rt, &reply, &[3, 4, 5, 6, 7, 8]);
             assert!(rt; node.num_children() == 9);
-            Err(ALL_STANDS.into())
+            Err("apply refused, and all stands".into())
         }
     }
 }

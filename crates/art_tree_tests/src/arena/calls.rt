@@ -1,9 +1,9 @@
 //! Tests of every call of the arena, and of its nodes after an allocation failure.
 use super::put;
-use crate::ALL_STANDS;
 use art_arena::{ArenaNode, InnerRef, NodeArena};
 use art_nodes::{
-    Header, InnerNode, InnerNode4, InnerNodeCommon, InnerNodeRead, LeafNode, NodePtr, NodeType, OpaqueNodePtr,
+    Header, InnerNode, InnerNode4, InnerNodeCommon, InnerNodeRead, LeafNode, NodePtr, NodeType,
+    OpaqueNodePtr,
 };
 use std::alloc::AllocError;
 use std::process::Abort;
@@ -264,6 +264,28 @@ fn check_entries(rt: &impl Abort, arena: &Arena, entries: &[Pointer]) {
     }
 }
 
+// How a test ends after the allocation of a node of this kind failed.
+fn refused_allocation(kind: NodeType) -> &'static str {
+    match kind {
+        NodeType::Node4 => "allocate_node_ptr of Node4 refused, and all stands",
+        NodeType::Node16 => "allocate_node_ptr of Node16 refused, and all stands",
+        NodeType::Node48 => "allocate_node_ptr of Node48 refused, and all stands",
+        NodeType::Node256 => "allocate_node_ptr of Node256 refused, and all stands",
+        NodeType::Leaf => "allocate_node_ptr of Leaf refused, and all stands",
+    }
+}
+
+// How it ends after a reserve of the kind failed.
+fn refused_reserve(kind: NodeType) -> &'static str {
+    match kind {
+        NodeType::Node4 => "reserve of Node4 refused, and all stands",
+        NodeType::Node16 => "reserve of Node16 refused, and all stands",
+        NodeType::Node48 => "reserve of Node48 refused, and all stands",
+        NodeType::Node256 => "reserve of Node256 refused, and all stands",
+        NodeType::Leaf => "reserve of Leaf refused, and all stands",
+    }
+}
+
 // Adds a node beside these. After an allocation failure the others are unchanged, the node is added
 // again, and the test ends.
 fn put_beside<N: ArenaNode<Key, u16, 16> + Drop>(
@@ -279,7 +301,7 @@ fn put_beside<N: ArenaNode<Key, u16, 16> + Drop>(
             let pointer = put(rt, arena, node).to_opaque();
             check_entries(rt, arena, entries);
             check_entry(rt, arena, pointer, entries.len());
-            Err(ALL_STANDS.into())
+            Err(refused_allocation(N::TYPE).into())
         }
     }
 }
@@ -319,7 +341,7 @@ fn reserve_beside(
         check_entries(rt, arena, entries);
         assert!(rt; arena.reserve(kind, 9).is_ok());
         check_entries(rt, arena, entries);
-        return Err(ALL_STANDS.into());
+        return Err(refused_reserve(kind).into());
     }
     check_entries(rt, arena, entries);
     Ok(())

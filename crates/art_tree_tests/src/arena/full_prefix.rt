@@ -1,23 +1,27 @@
 //! Tests of whole prefixes, of nodes that are built by hand, however much they store.
 ghost use Rattle.std.specs.Prelude.{◌≡◌, ◌≤◌, ◌++◌, ◌∷◌, [], ℕ, length, IfOk};
+ghost use Rattle.art_nodes.specs.Pointers.{opaque_pointer, slab_key};
 ghost use Rattle.art_arena.specs.FullPrefix.{match_of};
 ghost use Rattle.art_arena.specs.Standing.{TreeAt, TreeUnder};
 ghost use Rattle.art_arena.specs.Trees.{SameButPointers};
 
 use super::{Full, full_match};
-use art_arena::laws::{allocating_leaves_trees_standing, same_trees_have_the_same_texts};
-use art_arena::{FullPrefix, NodeArena};
+use art_arena::laws::{
+    allocating_leaves_trees_standing, an_allocated_node_makes_a_tree, same_trees_match_alike,
+};
+use art_arena::{ArenaInnerNode, FullPrefix, NodeArena};
 use art_bytes::AsBytes;
 use art_nodes::{
-    ExplicitMismatch, InnerNode4, InnerNodeCommon, InnerNodeRead, LeafNode, OpaqueNodePtr, PrefixMatch,
+    ExplicitMismatch, InnerNode4, InnerNodeCommon, InnerNodeRead, LeafNode, NodePtr, OpaqueNodePtr,
+    PrefixMatch,
 };
 use std::alloc::{AllocError, Global};
 use std::cmp::Ordering::{Greater, Less};
 use std::process::Abort;
 use std::test::Fail;
 
-// Nodes of two trees that are the same but for their pointers match a key alike, also where one
-// stores fewer bytes of its prefix than the other. The leaves of the two mismatches may differ.
+// Nodes of two trees that are the same but for their pointers match a key alike. The leaves of the
+// two mismatches may differ.
 fn match_alike<
     K: AsBytes,
     V,
@@ -44,13 +48,25 @@ fn match_alike<
         × SameButPointers under.tree other_under.tree }
     ensures { match_of result.0 ≡ match_of result.1 }
 {
-    same_trees_have_the_same_texts::<OpaqueNodePtr<K, V, P>, OpaqueNodePtr<L, W, Q>>();
-    // Called for its clauses: there are bytes that all texts below share.
-    let (_prefix, _) = node.read_full_prefix(arena, depth);
+    same_trees_match_alike::<K, V, P, L, W, Q>();
     (
         node.match_full_prefix(arena, key, depth),
         other.match_full_prefix(other_arena, key, depth),
     )
+}
+
+// Allocates a node that has a tree below it. The node's pointer has that tree.
+fn plant_node<K: AsBytes, V, const PREFIX_LEN: usize, N: ArenaInnerNode<K, V, PREFIX_LEN>>(
+    arena: &mut NodeArena<K, V, PREFIX_LEN>,
+    node: N,
+    depth: usize,
+) -> Result<NodePtr<PREFIX_LEN, N>, (AllocError, N)>
+    ensures { (under : TreeUnder K.text arena.old (N.inner node) depth) → IfOk result (λ pointer.
+        (found : TreeAt K.text arena.new (opaque_pointer N.TYPE (slab_key pointer))) ×
+        (found.path ≡ under.path) × SameButPointers found.tree under.tree) }
+{
+    an_allocated_node_makes_a_tree::<K, V, PREFIX_LEN>();
+    arena.allocate_node_ptr(node)
 }
 
 // A path, a prefix and one byte.

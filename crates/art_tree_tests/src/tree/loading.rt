@@ -1,9 +1,8 @@
 //! Tests of loads: the refusals, and the loaded tree.
 use super::{numbered, shape};
-use crate::ALL_STANDS;
 use art_tree::{
-    AnyRef, ArenaReader, InnerNode4, InnerNodeCommon, InnerNodeRead, InsertRefusal, LeafNode, LoadFault,
-    LoadRefusal, NodeArena, NodePtr, NodeType, OpaqueNodePtr, load,
+    AnyRef, ArenaReader, InnerNode4, InnerNodeCommon, InnerNodeRead, InsertRefusal, LeafNode,
+    LoadFault, LoadRefusal, NodeArena, NodePtr, NodeType, OpaqueNodePtr, load,
 };
 use std::alloc::{AllocError, Global};
 use std::process::Abort;
@@ -72,13 +71,13 @@ fn check_all_refused(rt: &impl Abort, alloc: Global, arena: &mut Texts) -> Resul
 // The refusal is the same where memory is short: a fault of the entries comes before any
 // allocation.
 #[test]
-fn the_lowest_entry_at_fault_is_told(rt: HostRuntime) -> Result<(), Fail> {
+fn the_lowest_entry_at_fault_is_reported(rt: HostRuntime) -> Result<(), Fail> {
     check_all_refused(&rt, rt.alloc(), &mut Texts::new(rt.alloc()))?;
     Ok(())
 }
 
 #[test]
-fn refusals_are_told(rt: HostRuntime) -> Result<(), Fail> {
+fn refusals_are_printed(rt: HostRuntime) -> Result<(), Fail> {
     let of_a_load = [
         (LoadRefusal::Empty, "no entries"),
         (LoadRefusal::KeyTooLong(0), "entry 0: key too long"),
@@ -138,7 +137,7 @@ fn load_beside(
     for root in standing {
         check_root(rt, arena, *root, 2);
     }
-    Err(ALL_STANDS.into())
+    Err("load refused, and all stands".into())
 }
 
 fn load_in_turn(rt: &impl Abort, alloc: Global, arena: &mut Texts) -> Result<(), Fail> {

@@ -2,7 +2,6 @@
 //! ends.
 use super::changes::{Bytes, root_shape};
 use super::*;
-use crate::ALL_STANDS;
 use art_tree::InsertRefusal;
 
 type Words = ArtTree<[u8; 7], usize, 2>;
@@ -50,7 +49,7 @@ fn insert_word(
     let again = tree.insert(fault.key, fault.value);
     assert!(rt; matches!(&again, Ok(None)));
     assert!(rt; tree.get(&word).copied() == Some(number));
-    Err(ALL_STANDS.into())
+    Err("insert refused, and all stands".into())
 }
 
 fn insert_words(rt: &impl Abort, tree: &mut Words) -> Result<(), Fail> {
@@ -108,7 +107,7 @@ fn load_bytes(rt: &impl Abort, alloc: Global, end: usize) -> Result<Bytes, Fail>
         panic!(rt; "refused twice");
     };
     check_bytes(rt, &tree, end);
-    Err(ALL_STANDS.into())
+    Err("ArtTree::load refused, and all stands".into())
 }
 
 #[test]
@@ -137,7 +136,7 @@ fn grow(rt: &impl Abort, tree: &mut Bytes, byte: u8) -> Result<(), Fail> {
     let again = tree.insert(fault.key, fault.value);
     assert!(rt; matches!(&again, Ok(None)));
     check_bytes(rt, tree, end + 1);
-    Err(ALL_STANDS.into())
+    Err("insert refused, and all stands".into())
 }
 
 // The root is full: a node of the next larger kind replaces it.
@@ -158,7 +157,7 @@ fn shrink(rt: &impl Abort, tree: &mut Bytes, last: u8) -> Result<(), Fail> {
         check_bytes(rt, tree, usize::from(last) + 1);
         assert!(rt; tree.remove(&[last]) == Ok(Some(([last], last))));
         check_bytes(rt, tree, usize::from(last));
-        return Err(ALL_STANDS.into());
+        return Err("remove refused, and all stands".into());
     }
     check_bytes(rt, tree, usize::from(last));
     Ok(())
@@ -171,5 +170,28 @@ fn a_refused_removal_leaves_the_tree(rt: HostRuntime) -> Result<(), Fail> {
     for (end, last) in [(5, 4), (17, 16), (49, 48)] {
         shrink(&rt, &mut load_bytes(&rt, rt.alloc(), end)?, last)?;
     }
+    Ok(())
+}
+
+// Reserves memory for nodes of the kind. After an allocation failure the tree is unchanged, the next
+// call succeeds, and the test ends.
+fn reserve(rt: &impl Abort, tree: &mut Bytes, kind: NodeType) -> Result<(), Fail> {
+    let root = tree.root();
+    if tree.reserve(kind, 9).is_ok() {
+        return Ok(());
+    }
+    assert!(rt; tree.root() == root);
+    check_bytes(rt, tree, 2);
+    assert!(rt; tree.reserve(kind, 9).is_ok());
+    check_bytes(rt, tree, 2);
+    Err("ArtTree::reserve refused, and all stands".into())
+}
+
+#[test]
+fn a_refused_reserve_leaves_the_tree(rt: HostRuntime) -> Result<(), Fail> {
+    let mut tree = load_bytes(&rt, rt.alloc(), 2)?;
+    reserve(&rt, &mut tree, NodeType::Leaf)?;
+    reserve(&rt, &mut tree, NodeType::Node48)?;
+    check_bytes(&rt, &tree, 2);
     Ok(())
 }

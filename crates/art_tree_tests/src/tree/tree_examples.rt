@@ -1,11 +1,14 @@
 //! How a crate uses `art_tree`: values that are loaded once and read by key, and values that are
 //! inserted into a tree and removed from it.
-ghost use Rattle.std.specs.Prelude.{◌≡◌, ◌≢◌, ◌≤◌, ◌↔◌, ℕ, List, [], length, map, Contains, None, IsNone, IsTrue, IfSome, IfErr};
+ghost use Rattle.std.specs.Prelude.{◌≡◌, ◌≢◌, ◌≤◌, ◌↔◌, ℕ, List, [], length, map, All, Contains, None, IsNone, IsTrue, IfSome, IfErr};
+ghost use Rattle.art_nodes.specs.ChildMap.{child_at};
 ghost use Rattle.art_nodes.specs.Pointers.{node_kind, opaque_pointer, slab_key};
+ghost use Rattle.art_arena.specs.Arena.{held, HeldInner, Nothing};
 ghost use Rattle.art_arena.specs.Links.{HoldsLeaf};
-ghost use Rattle.art_arena.specs.Standing.{TreeAt};
-ghost use Rattle.art_arena.specs.Trees.{places, SameButPointers};
+ghost use Rattle.art_arena.specs.Standing.{IsTreeIn, StandsIn, TreeAt};
+ghost use Rattle.art_arena.specs.Trees.{places, root_of, texts, IsSound, IsWellFormed, SameButPointers};
 ghost use Rattle.art_tree.specs.Art.{IsAlone};
+ghost use Rattle.art_tree.specs.Contexts.{Under, path_to, plug};
 ghost use Rattle.art_tree.specs.Dictionary.{entry_at, HasEntry, IsEntry};
 ghost use Rattle.art_tree.specs.Refusals.{texts_of};
 ghost use Rattle.art_tree.specs.Search.{HasTree, EachTree, scan};
@@ -17,14 +20,17 @@ use art_tree::{
     NodePtr, StrKey, end_leaf,
 };
 
-/// The root of a tree of these entries, if they are in order and no allocation fails.
+/// The root of a tree with the key bytes of these entries, if they are in order and no allocation
+/// fails.
 fn table<K: AsBytes + Drop, V: Drop, const PREFIX_LEN: usize>(
     alloc: Global,
     arena: &mut NodeArena<K, V, PREFIX_LEN>,
     entries: Vec<(K, V)>,
 ) -> Option<OpaqueNodePtr<K, V, PREFIX_LEN>>
-    ensures { IfSome result (λ root. HasTree K.text arena.new root) }
+    ensures { IfSome result (λ root. (tree : _) × IsTreeIn K.text arena.new root tree ×
+        (texts tree ≡ texts_of K.text entries.items)) }
 {
+    laws::a_loaded_tree_has_the_texts_of_its_entries::<K, V, PREFIX_LEN>();
     load(alloc, arena, entries).ok()
 }
 
@@ -94,6 +100,30 @@ fn set_value<K: AsBytes, V: Drop, const PREFIX_LEN: usize>(
     };
     *arena.as_value_mut(leaf) = value;
     true
+}
+
+/// Puts a subtree in the place of the child that a node of a tree has under a byte. The whole is a
+/// tree again. The new subtree must stand beside the node and be sound under the path to its place.
+fn exchange_child<K: AsBytes, V, const PREFIX_LEN: usize, N: ArenaInnerNode<K, V, PREFIX_LEN>>(
+    arena: &mut NodeArena<K, V, PREFIX_LEN>,
+    node: NodePtr<PREFIX_LEN, N>,
+    byte: u8,
+    child: OpaqueNodePtr<K, V, PREFIX_LEN>,
+)
+    requires held { held arena.old (opaque_pointer N.TYPE (slab_key node)) ≢ Nothing }
+    requires has_child { (own : _) →
+        held arena.old (opaque_pointer N.TYPE (slab_key node)) ≡ HeldInner own →
+        child_at own.children byte ≢ None }
+    ensures { (above : _) (prefix : List ℕ) (before after : _) (part now : _) →
+        let context = Under above (opaque_pointer N.TYPE (slab_key node)) prefix before byte after in
+        StandsIn K.text arena.old (plug context part) → IsWellFormed (plug context part) →
+        root_of now ≡ child → IsSound (path_to context) now → StandsIn K.text arena.old now →
+        All (λ pointer. pointer ≢ opaque_pointer N.TYPE (slab_key node)) (places now) →
+        StandsIn K.text arena.new (plug context now) × IsWellFormed (plug context now) }
+{
+    laws::a_subtree_may_be_exchanged::<K, V, PREFIX_LEN>();
+    laws::trees_stand_where_their_nodes_are_kept::<K, V, PREFIX_LEN>();
+    arena.as_mut(node).write_child(byte, child);
 }
 
 /// Inserts a value under a key. Where that succeeds, the key's bytes have this entry.
@@ -222,7 +252,7 @@ fn change_a_tree(rt: &impl Abort, tree: &mut ArtTree<StrKey<'_>, u32, 2>) -> Res
 }
 
 #[test]
-fn the_first_examples_answer_so(rt: HostRuntime) -> Result<(), Fail> {
+fn the_examples_of_the_documents_hold(rt: HostRuntime) -> Result<(), Fail> {
     find_one_of_two(&rt, rt.alloc(), &mut NodeArena::new(rt.alloc()))?;
     change_a_tree(&rt, &mut ArtTree::new(rt.alloc()))
 }

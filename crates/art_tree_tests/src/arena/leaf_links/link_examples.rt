@@ -1,11 +1,19 @@
 //! How a crate uses `art_arena`: leaves are linked by ascending key, and visited in that order.
-ghost use Rattle.std.specs.Prelude.{◌≡◌, ◌≢◌, ◌++◌, ◌∷◌, [], List};
+ghost use Rattle.std.specs.Prelude.{◌≡◌, ◌≢◌, ◌++◌, ◌∷◌, [], List, All, IfOk};
 ghost use Rattle.std.specs.declared.cmp.Ordering.TheVariants.{Less};
 ghost use Rattle.art_bytes.specs.Text.{text_order};
-ghost use Rattle.art_nodes.specs.Pointers.{slab_key};
+ghost use Rattle.art_header.specs.declared.node_type.NodeType.TheVariants as NodeType;
+ghost use Rattle.art_nodes.specs.Pointers.{opaque_pointer, slab_key};
 ghost use Rattle.art_arena.specs.Links.{Spells, HoldsLeaf, IsUnlinked, IsKnit, text_at};
+ghost use Rattle.art_arena.specs.Standing.{IsTreeIn};
+ghost use Rattle.art_arena.specs.Trees.{places};
 
 use super::*;
+use art_arena::laws::{
+    allocating_keeps_lists_spelled, lists_are_spelled_where_their_leaves_are_kept,
+    trees_stand_where_their_nodes_are_kept,
+};
+use std::alloc::AllocError;
 
 /// Adds a leaf at the end of a list. Its key is greater than that of the last leaf.
 fn push_back<K: AsBytes, V, const PREFIX_LEN: usize>(
@@ -23,6 +31,39 @@ fn push_back<K: AsBytes, V, const PREFIX_LEN: usize>(
         Spells arena.new (leaves ++ slab_key last ∷ slab_key this ∷ []) }
 {
     LeafNode::insert_after(arena, this, last);
+}
+
+/// Allocates a leaf. Each list of other leaves is unchanged.
+fn allocate_leaf<K, V, const PREFIX_LEN: usize>(
+    arena: &mut NodeArena<K, V, PREFIX_LEN>,
+    key: K,
+    value: V,
+) -> Result<
+    NodePtr<PREFIX_LEN, LeafNode<K, V, PREFIX_LEN>>,
+    (AllocError, LeafNode<K, V, PREFIX_LEN>),
+>
+    ensures { IfOk result (λ _. (leaves : List _) →
+        Spells arena.old leaves → Spells arena.new leaves) }
+{
+    allocating_keeps_lists_spelled::<K, V, PREFIX_LEN>();
+    arena.allocate_node_ptr(LeafNode::with_no_siblings(key, value))
+}
+
+/// Deallocates a leaf. Each list that it is not in, and each tree, is unchanged.
+fn deallocate_leaf<K: AsBytes, V, const PREFIX_LEN: usize>(
+    arena: &mut NodeArena<K, V, PREFIX_LEN>,
+    leaf: NodePtr<PREFIX_LEN, LeafNode<K, V, PREFIX_LEN>>,
+) -> LeafNode<K, V, PREFIX_LEN>
+    requires { HoldsLeaf arena.old (slab_key leaf) }
+    ensures list { (leaves : List _) → All (λ key. key ≢ slab_key leaf) leaves →
+        Spells arena.old leaves → Spells arena.new leaves }
+    ensures tree { (root : _) (tree : _) →
+        All (λ pointer. pointer ≢ opaque_pointer NodeType.Leaf (slab_key leaf)) (places tree) →
+        IsTreeIn K.text arena.old root tree → IsTreeIn K.text arena.new root tree }
+{
+    lists_are_spelled_where_their_leaves_are_kept::<K, V, PREFIX_LEN>();
+    trees_stand_where_their_nodes_are_kept::<K, V, PREFIX_LEN>();
+    arena.deallocate_node_ptr(leaf)
 }
 
 // A new leaf at the end of the list.
@@ -57,6 +98,17 @@ fn append_and_walk(rt: &impl Abort, arena: &mut Arena) {
     let second = append(rt, arena, first, b'b');
     append(rt, arena, second, b'c');
     walk(rt, arena, first, b"abc");
+    allocate_and_deallocate(rt, arena);
+    walk(rt, arena, first, b"abc");
+}
+
+// A leaf beside the list comes and goes.
+fn allocate_and_deallocate(rt: &impl Abort, arena: &mut Arena) {
+    let Ok(leaf) = allocate_leaf(arena, [b'd'], 4) else {
+        panic!(rt; "an allocation was refused");
+    };
+    assert!(rt; arena.holds(leaf));
+    assert!(rt; *deallocate_leaf(arena, leaf).value_ref() == 4);
 }
 
 #[test]
