@@ -18,3 +18,4 @@ mod PlaceLemmas
 mod PrefixLemmas
 mod PushLemmas
 mod RangeLemmas
+mod ShiftLemmas

@@ -2,3 +2,4 @@
 pub(crate) mod byte_set;
 pub(crate) mod child_table;
 pub(crate) mod index_table;
+pub(crate) mod shifts;
