@@ -1,5 +1,5 @@
 -- Trees that tests build by hand.
-use Rattle.std.proofs.Common.{◌≡◌, ◌∙◌, ℕ, ◌<◌, ◌^◌, List, [], ◌∷◌, ◌++◌, length, take, refl, sym, ap, subst, arith}
+use Rattle.std.proofs.Common.{◌≡◌, ◌∙◌, ℕ, ◌<◌, ◌^◌, List, [], ◌∷◌, ◌++◌, length, take, Result, Ok, Err, IfOk, refl, sym, ap, subst, arith}
 use Rattle.std.proofs.lemmas.Bool.Decides.{nat_tests}
 use Rattle.art_bytes.specs.Text.{IsPrefixOf}
 use Rattle.art_header.specs.Header.{capped, empty_header}
@@ -10,6 +10,11 @@ use Rattle.art_nodes.specs.declared.leaf_node.LeafNode.{LeafNode}
 use Rattle.art_arena.specs.Arena.{ArenaOf, HeldLeaf, Changes}
 use Rattle.art_arena.specs.Standing.{StandsIn, TreeAt, TreeUnder, leaf_text}
 use Rattle.art_arena.specs.Trees.{Tree, Leaf, Inner, Branches, NoBranch, Branch, branch_roots, root_of, IsSound}
+
+-- what two facts of a value give
+pub each-value : {T E : Type 0} {P Q R : T → Type 0} (r : Result T E) → IfOk r P → IfOk r Q → ((x : T) → P x → Q x → R x) → IfOk r R
+each-value (Ok x) p q gives = gives x p q
+each-value (Err e) p q gives = tt
 
 -- two children written one after the other
 pub two_children : {H : Type 0} (low high : ℕ) (first second : H) → low < high → with_child (with_child [] low first) high second ≡ (low, first) ∷ (high, second) ∷ []

@@ -3,9 +3,9 @@ use Rattle.std.proofs.lemmas.List.Elements.{All-weaker}
 use Rattle.art_nodes.specs.ChildMap.{child_at}
 use Rattle.art_nodes.specs.Inner.{HasRoomFor, node_with_child}
 use Rattle.art_nodes.specs.Pointers.{opaque_pointer, slab_key}
-use Rattle.art_arena.specs.Arena.{HeldInner, held}
+use Rattle.art_arena.specs.Arena.{HeldInner, held, with_node}
 use Rattle.art_arena.specs.Trees.{places}
-use Rattle.art_tree.specs.Contexts.{Under}
+use Rattle.art_tree.specs.Contexts.{Under, IsExchanged}
 use Rattle.art_tree_tests.proofs.tree.tree_examples.exchange_child.Goals as goal
 
 not-none : {A : Type 0} (o : Option A) → o ≢ None → IsNone o → ⊥
@@ -28,10 +28,11 @@ returns g c = λ above prefix before after part now stood sound root now_sound n
     let context = Under above pointer prefix before c.args.byte after in
     let own = g.N.InnerNodeCommon.inner c.as_mut.result.now in
     let was : held old pointer ≡ HeldInner own = c.as_mut.ensures.node ∙ g.met.N.ArenaInnerNode.shown c.as_mut.result.now in
+    let new = with_node g.N.Shelved.slab_of g.N.Shelved.with_slab old (slab_key c.args.node) c.write_child.new.self in
     let changes = c.as_mut.ensures.changes c.write_child.new.self in
-    let exchanged = record {
+    let exchanged : IsExchanged old new g.K.AsBytes.text context part now = record {
       stood = stood;
-      stands = c.trees_stand_where_their_nodes_are_kept.ensures old _ now (All-weaker (λ q. q ≢ pointer) _ changes.others (places now) apart) now_stands;
+      stands = c.trees_stand_where_their_nodes_are_kept.ensures old new now (All-weaker (λ q. q ≢ pointer) (λ q. held new q ≡ held old q) changes.others (places now) apart) now_stands;
       adopted = λ node is.
           let one : HeldInner own ≡ HeldInner node = sym was ∙ is in
           let same : own ≡ node = cc in
@@ -40,4 +41,4 @@ returns g c = λ above prefix before after part now stood sound root now_sound n
           let kept = changes.others q (λ same. other (ap (λ p. Some p) (sym same))) in
           record { inner = λ node is. kept ∙ is; leaf = λ leaf is. (leaf, kept ∙ is, refl, refl) };
     } in
-    (c.a_subtree_may_be_exchanged.ensures.stands old _ [] context part now sound exchanged, c.a_subtree_may_be_exchanged.ensures.sound [] context part now sound now_sound)
+    (c.a_subtree_may_be_exchanged.ensures.stands old new [] context part now sound exchanged, c.a_subtree_may_be_exchanged.ensures.sound [] context part now sound now_sound)
