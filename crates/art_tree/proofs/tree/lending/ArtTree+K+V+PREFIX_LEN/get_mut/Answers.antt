@@ -38,8 +38,7 @@ pub returns-in_err-root : goal.returns-in_err-root
 returns-in_err-root g c =
     let text = g.K.AsBytes.text in
     let nothing = subst (IsArt text c.self.inside.arena) c.in_err-root.was c.self.invariant.0 in
-    let none = ap (λ seen. entry_at text seen.arena c.args.key.now) (sym c.self.view_is) ∙ empty-entry text c.self.inside.arena nothing c.args.key.now in
-    (
+    let none = ap (λ seen. entry_at text seen.arena c.args.key.now) (sym c.self.view_is) ∙ empty-entry text c.self.inside.arena nothing c.args.key.now in (
       (sym (ap ghost_name_of c.from_residual.ensures), λ w. on-some-none c.from_residual.result _ c.from_residual.ensures, c.self.view_is),
       record { writes_back = tt; value = ap option_copied_mut c.from_residual.ensures ∙ sym (ap (option_map (λ entry. entry.1)) none) },
     )
@@ -49,8 +48,7 @@ returns-in_err-leaf g c =
     let text = g.K.AsBytes.text in
     let (tree, alone) = subst (IsArt text c.self.inside.arena) c.in_ok-root.was c.self.invariant.0 in
     let read = subst (λ arena. IsTreeIn text arena c.in_ok-root.root tree) (sym c.with_budget-reader.ensures.arena) alone.is_tree in
-    let none = ap (λ seen. entry_at text seen.arena c.args.key.now) (sym c.self.view_is) ∙ no-entry text c.self.inside.arena c.in_ok-root.root tree alone c.args.key.now (c.in_err-leaf.ensures.answer tree read) in
-    (
+    let none = ap (λ seen. entry_at text seen.arena c.args.key.now) (sym c.self.view_is) ∙ no-entry text c.self.inside.arena c.in_ok-root.root tree alone c.args.key.now (c.in_err-leaf.ensures.answer tree read) in (
       (sym (ap ghost_name_of c.from_residual-in_err-leaf.ensures), λ w. on-some-none c.from_residual-in_err-leaf.result _ c.from_residual-in_err-leaf.ensures, c.self.view_is),
       record { writes_back = tt; value = ap option_copied_mut c.from_residual-in_err-leaf.ensures ∙ sym (ap (option_map (λ entry. entry.1)) none) },
     )
@@ -68,8 +66,7 @@ returns g c =
     let scanned = c.in_ok-leaf.ensures.answer tree read in
     let was = (lent-leaf text old root tree alone apart leaf c.args.key.now scanned).0 in
     let found = lent-found text old root tree alone apart leaf c.args.key.now scanned in
-    let got = scanned-entry text old root tree alone apart c.args.key.now leaf scanned c.as_value_mut.result.now c.as_value_mut.ensures.value in
-    (
+    let got = scanned-entry text old root tree alone apart c.args.key.now leaf scanned c.as_value_mut.result.now c.as_value_mut.ensures.value in (
       (
         refl,
         λ w.
