@@ -7,3 +7,4 @@ pub mod ShrunkNode
 pub mod MergedNode
 pub mod RemovalLemmas
 pub mod NeededNodes
+pub mod EndPlaces

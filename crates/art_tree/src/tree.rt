@@ -10,6 +10,7 @@ ghost use Rattle.art_tree.specs.Ends.{IsWithin};
 ghost use Rattle.art_tree.specs.Refusals.{texts_of, HaveNoFault, IsDue};
 
 mod changes;
+mod ends;
 mod lending;
 mod reading;
 

@@ -5,6 +5,7 @@ mod dictionary;
 mod loading;
 mod matches;
 mod path;
+mod reading;
 mod readme_examples;
 mod refusals;
 mod reserving;
