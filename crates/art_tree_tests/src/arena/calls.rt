@@ -3,7 +3,8 @@ use super::put;
 use crate::ALL_STANDS;
 use art_arena::{ArenaNode, InnerRef, NodeArena};
 use art_nodes::{
-    Header, InnerNode, InnerNode4, InnerNodeCommon, InnerNodeRead, LeafNode, NodePtr, NodeType, OpaqueNodePtr,
+    Header, InnerNode, InnerNode4, InnerNodeCommon, InnerNodeRead, LeafNode, NodePtr, NodeType,
+    OpaqueNodePtr,
 };
 use std::alloc::AllocError;
 use std::process::Abort;

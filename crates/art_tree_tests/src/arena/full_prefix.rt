@@ -9,7 +9,8 @@ use art_arena::laws::{allocating_leaves_trees_standing, same_trees_have_the_same
 use art_arena::{FullPrefix, NodeArena};
 use art_bytes::AsBytes;
 use art_nodes::{
-    ExplicitMismatch, InnerNode4, InnerNodeCommon, InnerNodeRead, LeafNode, OpaqueNodePtr, PrefixMatch,
+    ExplicitMismatch, InnerNode4, InnerNodeCommon, InnerNodeRead, LeafNode, OpaqueNodePtr,
+    PrefixMatch,
 };
 use std::alloc::{AllocError, Global};
 use std::cmp::Ordering::{Greater, Less};

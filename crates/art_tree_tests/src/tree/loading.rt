@@ -2,8 +2,8 @@
 use super::{numbered, shape};
 use crate::ALL_STANDS;
 use art_tree::{
-    AnyRef, ArenaReader, InnerNode4, InnerNodeCommon, InnerNodeRead, InsertRefusal, LeafNode, LoadFault,
-    LoadRefusal, NodeArena, NodePtr, NodeType, OpaqueNodePtr, load,
+    AnyRef, ArenaReader, InnerNode4, InnerNodeCommon, InnerNodeRead, InsertRefusal, LeafNode,
+    LoadFault, LoadRefusal, NodeArena, NodePtr, NodeType, OpaqueNodePtr, load,
 };
 use std::alloc::{AllocError, Global};
 use std::process::Abort;

@@ -8,7 +8,7 @@ pub match_full_prefix-requires : goal.match_full_prefix-requires
 match_full_prefix-requires g c =
     let text = g.K.AsBytes.text in
     let arena = c.args.arena.now in
-    let node = g.N.InnerNodeCommon.inner c.args.node.now in
+    let node = g.N.InnerNodeRead.inner c.args.node.now in
     let within : c.args.spot.depth ≤ length c.args.key.now = depth-within text arena c.requires.spot.0 c.args.key.now c.args.spot c.requires.spot.1 in
     let under : g.row.PREFIX_LEN < node.prefix_len → TreeUnder text arena node c.args.spot.depth =
     λ _. below text arena c.requires.spot.0 c.args.key.now c.args.spot c.requires.spot.1 node (at-inner text arena c.requires.spot.0 c.args.key.now c.args.spot c.requires.spot.1 node c.requires.held) in
@@ -18,7 +18,7 @@ pub overflow_add-index : goal.overflow_add-index
 overflow_add-index g c =
     let text = g.K.AsBytes.text in
     let arena = c.args.arena.now in
-    let node = g.N.InnerNodeCommon.inner c.args.node.now in
+    let node = g.N.InnerNodeRead.inner c.args.node.now in
     let here = at-inner text arena c.requires.spot.0 c.args.key.now c.args.spot c.requires.spot.1 node c.requires.held in
     let told = node-tells text arena c.requires.spot.0 c.args.key.now c.args.spot c.requires.spot.1 node here c.path_and_prefix_are_shared.ensures _ c.in-Err.ensures.matched in
     omega (arith, matched-within text arena c.requires.spot.0 c.args.key.now c.args.spot c.requires.spot.1 node here c.in-Err.mismatch.matched_bytes told.0)
@@ -27,7 +27,7 @@ pub returns-then-index-key-clause-place : goal.returns-then-index-key-clause-pla
 returns-then-index-key-clause-place g c = λ tree is.
     let text = g.K.AsBytes.text in
     let arena = c.args.arena.now in
-    let node = g.N.InnerNodeCommon.inner c.args.node.now in
+    let node = g.N.InnerNodeRead.inner c.args.node.now in
     let here = at-inner text arena tree c.args.key.now c.args.spot is node c.requires.held in
     let told = node-tells text arena tree c.args.key.now c.args.spot is node here c.path_and_prefix_are_shared.ensures _ c.in-Err.ensures.matched in
     node-clash text arena tree c.args.key.now c.args.spot is node here c.in-Err.mismatch.matched_bytes told.0 c.if-index-key.true
@@ -36,7 +36,7 @@ pub bounds-key-index : goal.bounds-key-index
 bounds-key-index g c =
     let text = g.K.AsBytes.text in
     let arena = c.args.arena.now in
-    let node = g.N.InnerNodeCommon.inner c.args.node.now in
+    let node = g.N.InnerNodeRead.inner c.args.node.now in
     let here = at-inner text arena c.requires.spot.0 c.args.key.now c.args.spot c.requires.spot.1 node c.requires.held in
     let told = node-tells text arena c.requires.spot.0 c.args.key.now c.args.spot c.requires.spot.1 node here c.path_and_prefix_are_shared.ensures _ c.in-Err.ensures.matched in
     omega (arith, matched-within text arena c.requires.spot.0 c.args.key.now c.args.spot c.requires.spot.1 node here c.in-Err.mismatch.matched_bytes told.0, c.if-index-key.false)
@@ -45,7 +45,7 @@ pub returns-in-Err-clause-place : goal.returns-in-Err-clause-place
 returns-in-Err-clause-place g c = λ tree is.
     let text = g.K.AsBytes.text in
     let arena = c.args.arena.now in
-    let node = g.N.InnerNodeCommon.inner c.args.node.now in
+    let node = g.N.InnerNodeRead.inner c.args.node.now in
     let here = at-inner text arena tree c.args.key.now c.args.spot is node c.requires.held in
     let told = node-tells text arena tree c.args.key.now c.args.spot is node here c.path_and_prefix_are_shared.ensures _ c.in-Err.ensures.matched in
     node-parts text arena tree c.args.key.now c.args.spot is node here c.in-Err.mismatch.matched_bytes told.0 told.1 (omega (arith, matched-within text arena tree c.args.key.now c.args.spot is node here c.in-Err.mismatch.matched_bytes told.0, c.if-index-key.false)) c.in-Err.mismatch.prefix_byte told.2
@@ -54,7 +54,7 @@ pub overflow_add-index-2 : goal.overflow_add-index-2
 overflow_add-index-2 g c =
     let text = g.K.AsBytes.text in
     let arena = c.args.arena.now in
-    let node = g.N.InnerNodeCommon.inner c.args.node.now in
+    let node = g.N.InnerNodeRead.inner c.args.node.now in
     let here = at-inner text arena c.requires.spot.0 c.args.key.now c.args.spot c.requires.spot.1 node c.requires.held in
     let told = node-tells text arena c.requires.spot.0 c.args.key.now c.args.spot c.requires.spot.1 node here c.path_and_prefix_are_shared.ensures _ c.in-Ok.ensures.matched in
     omega (arith, matched-within text arena c.requires.spot.0 c.args.key.now c.args.spot c.requires.spot.1 node here c.in-Ok.matched.matched_bytes told.0)
@@ -63,7 +63,7 @@ pub returns-then-index-key-2-clause-place : goal.returns-then-index-key-2-clause
 returns-then-index-key-2-clause-place g c = λ tree is.
     let text = g.K.AsBytes.text in
     let arena = c.args.arena.now in
-    let node = g.N.InnerNodeCommon.inner c.args.node.now in
+    let node = g.N.InnerNodeRead.inner c.args.node.now in
     let here = at-inner text arena tree c.args.key.now c.args.spot is node c.requires.held in
     let told = node-tells text arena tree c.args.key.now c.args.spot is node here c.path_and_prefix_are_shared.ensures _ c.in-Ok.ensures.matched in
     node-clash text arena tree c.args.key.now c.args.spot is node here c.in-Ok.matched.matched_bytes told.0 c.if-index-key-2.true
@@ -72,7 +72,7 @@ pub bounds-key-index-2 : goal.bounds-key-index-2
 bounds-key-index-2 g c =
     let text = g.K.AsBytes.text in
     let arena = c.args.arena.now in
-    let node = g.N.InnerNodeCommon.inner c.args.node.now in
+    let node = g.N.InnerNodeRead.inner c.args.node.now in
     let here = at-inner text arena c.requires.spot.0 c.args.key.now c.args.spot c.requires.spot.1 node c.requires.held in
     let told = node-tells text arena c.requires.spot.0 c.args.key.now c.args.spot c.requires.spot.1 node here c.path_and_prefix_are_shared.ensures _ c.in-Ok.ensures.matched in
     omega (arith, matched-within text arena c.requires.spot.0 c.args.key.now c.args.spot c.requires.spot.1 node here c.in-Ok.matched.matched_bytes told.0, c.if-index-key-2.false)
@@ -81,7 +81,7 @@ pub overflow_add-result : goal.overflow_add-result
 overflow_add-result g c =
     let text = g.K.AsBytes.text in
     let arena = c.args.arena.now in
-    let node = g.N.InnerNodeCommon.inner c.args.node.now in
+    let node = g.N.InnerNodeRead.inner c.args.node.now in
     let here = at-inner text arena c.requires.spot.0 c.args.key.now c.args.spot c.requires.spot.1 node c.requires.held in
     let told = node-tells text arena c.requires.spot.0 c.args.key.now c.args.spot c.requires.spot.1 node here c.path_and_prefix_are_shared.ensures _ c.in-Ok.ensures.matched in
     omega (arith, matched-within text arena c.requires.spot.0 c.args.key.now c.args.spot c.requires.spot.1 node here c.in-Ok.matched.matched_bytes told.0, c.if-index-key-2.false)
@@ -90,7 +90,7 @@ pub returns-in-Some-clause-on : goal.returns-in-Some-clause-on
 returns-in-Some-clause-on g c = λ tree is.
     let text = g.K.AsBytes.text in
     let arena = c.args.arena.now in
-    let node = g.N.InnerNodeCommon.inner c.args.node.now in
+    let node = g.N.InnerNodeRead.inner c.args.node.now in
     let here = at-inner text arena tree c.args.key.now c.args.spot is node c.requires.held in
     let told = node-tells text arena tree c.args.key.now c.args.spot is node here c.path_and_prefix_are_shared.ensures _ c.in-Ok.ensures.matched in
     node-leads text arena tree c.args.key.now c.args.spot is node here c.in-Ok.matched.matched_bytes told.0 told.1 (omega (arith, matched-within text arena tree c.args.key.now c.args.spot is node here c.in-Ok.matched.matched_bytes told.0, c.if-index-key-2.false)) c.in-Some.child (sym c.lookup_child.ensures.child ∙ c.in-Some.is)
@@ -99,7 +99,7 @@ pub returns-in-None-clause-place : goal.returns-in-None-clause-place
 returns-in-None-clause-place g c = λ tree is.
     let text = g.K.AsBytes.text in
     let arena = c.args.arena.now in
-    let node = g.N.InnerNodeCommon.inner c.args.node.now in
+    let node = g.N.InnerNodeRead.inner c.args.node.now in
     let here = at-inner text arena tree c.args.key.now c.args.spot is node c.requires.held in
     let told = node-tells text arena tree c.args.key.now c.args.spot is node here c.path_and_prefix_are_shared.ensures _ c.in-Ok.ensures.matched in
     node-lacks text arena tree c.args.key.now c.args.spot is node here c.in-Ok.matched.matched_bytes told.0 told.1 (omega (arith, matched-within text arena tree c.args.key.now c.args.spot is node here c.in-Ok.matched.matched_bytes told.0, c.if-index-key-2.false)) (sym c.lookup_child.ensures.child ∙ c.in-None.is)
