@@ -10,11 +10,12 @@ use crate::laws::each_pointer_is_at_one_place;
 use crate::path::{TreePath, TreePathSearch};
 use art_arena::{AnyRef, ArenaReader, NodeRef};
 use art_bytes::AsBytes;
-use art_nodes::{InnerNodeCommon, LeafNode, NodePtr, OpaqueNodePtr};
+use art_nodes::{InnerNodeRead, LeafNode, NodePtr, OpaqueNodePtr};
 
 // The index in the key of the byte that leads from the node to its child, and the child under that
 // byte.
-fn next_child_in<K, V, const PREFIX_LEN: usize, N: InnerNodeCommon<K, V, PREFIX_LEN>>(
+#[inline(always)]
+fn next_child_in<K, V, const PREFIX_LEN: usize, N: InnerNodeRead<K, V, PREFIX_LEN>>(
     node: &N,
     key: &[u8],
     depth: usize,
@@ -32,6 +33,7 @@ fn next_child_in<K, V, const PREFIX_LEN: usize, N: InnerNodeCommon<K, V, PREFIX_
 }
 
 // The same for a node of any kind. No child of a leaf has the key.
+#[inline(always)]
 fn next_child<K, V, const PREFIX_LEN: usize>(
     node: NodeRef<'_, K, V, PREFIX_LEN>,
     key: &[u8],
@@ -42,13 +44,8 @@ fn next_child<K, V, const PREFIX_LEN: usize>(
     ensures within { IfSome result (λ (index, child). index < length key.now) }
     ensures nowhere { IfNone result (LeadsNowhereFrom PREFIX_LEN (shown node.entry) key.now depth) }
 {
-    match node {
-        AnyRef::Node4(node) => next_child_in(node, key, depth),
-        AnyRef::Node16(node) => next_child_in(node, key, depth),
-        AnyRef::Node48(node) => next_child_in(node, key, depth),
-        AnyRef::Node256(node) => next_child_in(node, key, depth),
-        AnyRef::LeafNode(_) => None,
-    }
+    let inner = node.inner()?;
+    next_child_in(&inner, key, depth)
 }
 
 /// The leaf with this key in the tree at `root`, with its path, or None where no leaf has the key.

@@ -33,13 +33,12 @@ use crate::laws::{
     texts_ascend, trees_stand_where_texts_are_kept,
 };
 use crate::node::hang;
-use art_arena::{AnyRef, End, NodeArena, end_leaf};
+use art_arena::{End, NodeArena, end_leaf};
 use art_bytes::AsBytes;
-use art_nodes::{InnerNodeCommon, LeafNode, NodePtr, NodeType, OpaqueNodePtr};
+use art_nodes::{InnerNodeRead, LeafNode, NodePtr, NodeType, OpaqueNodePtr};
 use std::alloc::AllocError;
 use std::error::Error;
 use std::fmt;
-use std::ops::Bound;
 
 /// Why [`ArtTree::insert`](crate::ArtTree::insert) refuses an entry. See [`InsertFault`] for an
 /// example.
@@ -142,19 +141,7 @@ fn replace_entry<K: AsBytes, V, const PREFIX_LEN: usize>(
     arena.replace(leaf, new).into_entry()
 }
 
-// The child of the inner node under the least byte above this one.
-fn child_above_in<K, V, const PREFIX_LEN: usize, N: InnerNodeCommon<K, V, PREFIX_LEN>>(
-    node: &N,
-    byte: u8,
-) -> Option<OpaqueNodePtr<K, V, PREFIX_LEN>>
-    ensures { result ≡ option_map (λ pair. pair.1)
-        (first_pair (pairs_within (N.inner node.now).children (Excluded byte) Unbounded)) }
-{
-    let (_, child) = node.range(Bound::Excluded(byte), Bound::Unbounded).next()?;
-    Some(child)
-}
-
-// The same for the inner node at this pointer. A leaf has none.
+// The child under the least byte above this one of the inner node at the pointer. A leaf has none.
 fn child_above<K, V, const PREFIX_LEN: usize>(
     arena: &NodeArena<K, V, PREFIX_LEN>,
     pointer: OpaqueNodePtr<K, V, PREFIX_LEN>,
@@ -164,13 +151,9 @@ fn child_above<K, V, const PREFIX_LEN: usize>(
     ensures { (node : Inner _) → held arena.now pointer ≡ HeldInner node → result ≡ option_map
         (λ pair. pair.1) (first_pair (pairs_within node.children (Excluded byte) Unbounded)) }
 {
-    match arena.node_ref(pointer) {
-        AnyRef::Node4(node) => child_above_in(node, byte),
-        AnyRef::Node16(node) => child_above_in(node, byte),
-        AnyRef::Node48(node) => child_above_in(node, byte),
-        AnyRef::Node256(node) => child_above_in(node, byte),
-        AnyRef::LeafNode(_) => None,
-    }
+    let node = arena.node_ref(pointer).inner()?;
+    let (_, child) = node.child_above(byte)?;
+    Some(child)
 }
 
 // The leaf beside the place of a child under the byte: the first one after it, or else the last one

@@ -15,8 +15,8 @@ mod remove;
 mod tree;
 
 pub use art_arena::{
-    AnyRef, ArenaInnerNode, ArenaNode, ArenaReader, End, ExplicitMismatch, FullPrefix, LeafLinks,
-    NodeArena, NodePrefix, NodeRef, end_leaf,
+    AnyInnerRef, AnyRef, ArenaInnerNode, ArenaNode, ArenaReader, End, ExplicitMismatch, FullPrefix,
+    InnerRef, LeafLinks, NodeArena, NodePrefix, NodeRef, end_leaf,
 };
 pub use art_bytes::{
     AsBytes, CStringKey, CStringKeyError, NoPrefixesBytes, OrderedBytes, SliceKey, StrKey,
@@ -30,8 +30,8 @@ pub use art_nodes::{
     AttemptOptimisticPrefixMatch, BuilderState, ChildCommand, ChildIter, ChildNode, ChildPairs,
     ChildReply, ConcreteInnerNodePtr, ConcreteNodePtr, HasChild, HasOneChild, Header, InnerNode,
     InnerNode4, InnerNode16, InnerNode48, InnerNode256, InnerNodeBuilder, InnerNodeCommon,
-    InnerNodeDirect, InnerNodeIndirect, InnerNodeSorted, LeafNode, NoChild, Node, NodePtr,
-    NodeType, NonMaxIndex, OpaqueNodePtr, OptimisticMismatch, PackedNodePtr, PairIter,
+    InnerNodeDirect, InnerNodeIndirect, InnerNodeRead, InnerNodeSorted, LeafNode, NoChild, Node,
+    NodePtr, NodeType, NonMaxIndex, OpaqueNodePtr, OptimisticMismatch, PackedNodePtr, PairIter,
     PessimisticMismatch, PrefixMatch, Replayed, Sequence, TryFromByteError, common_prefix_len,
     replay, valid_range_bounds,
 };

@@ -4,16 +4,16 @@ ghost use Rattle.std.specs.Mem.{FitsInMemory};
 ghost use Rattle.art_header.specs.NodeType.{most_children};
 ghost use Rattle.art_header.specs.declared.node_type.NodeType.TheVariants.{Leaf};
 ghost use Rattle.art_nodes.specs.ChildMap.{IsAscending, key_bytes};
-ghost use Rattle.art_nodes.specs.Inner.{Inner, HasRoomFor, node_with_child};
-ghost use Rattle.art_nodes.specs.Pointers.{node_kind, slab_key, opaque_pointer};
-ghost use Rattle.art_arena.specs.Arena.{held, HeldInner, Nothing, room, Changes, SameCapacity, SameRoom};
+ghost use Rattle.art_nodes.specs.Inner.{Inner};
+ghost use Rattle.art_nodes.specs.Pointers.{node_kind, slab_key};
+ghost use Rattle.art_arena.specs.Arena.{held, HeldInner, Nothing, room, SameCapacity, SameRoom};
 ghost use Rattle.art_arena.specs.Links.{HoldsLeaf, text_at};
 ghost use Rattle.art_tree.specs.Hanging.{CanHang, IsHung};
-ghost use Rattle.art_tree.specs.Nodes.{node_of, IsPlaced, IsReplaced, FreesOne};
+ghost use Rattle.art_tree.specs.Nodes.{node_of, IsPlaced, IsReplaced};
 
-use art_arena::{ArenaInnerNode, ArenaNode, NodeArena};
+use art_arena::{ArenaInnerNode, NodeArena};
 use art_bytes::AsBytes;
-use art_nodes::{ConcreteNodePtr, InnerNodeCommon, LeafNode, Node, NodePtr, OpaqueNodePtr};
+use art_nodes::{InnerNodeCommon, LeafNode, Node, NodePtr, OpaqueNodePtr};
 
 /// How many children the inner node at the pointer has.
 pub(crate) fn num_children<K, V, const PREFIX_LEN: usize>(
@@ -30,30 +30,6 @@ pub(crate) fn num_children<K, V, const PREFIX_LEN: usize>(
     arena.header(pointer).unwrap().num_children()
 }
 
-/// Writes the child under the byte of the inner node at the pointer, which must have space for it.
-pub(crate) fn write_child<K, V, const PREFIX_LEN: usize>(
-    arena: &mut NodeArena<K, V, PREFIX_LEN>,
-    pointer: OpaqueNodePtr<K, V, PREFIX_LEN>,
-    byte: u8,
-    child: OpaqueNodePtr<K, V, PREFIX_LEN>,
-)
-    requires held { held arena.old pointer ≢ Nothing }
-    requires inner { node_kind pointer ≢ Leaf }
-    requires has_room { (node : Inner _) → held arena.old pointer ≡ HeldInner node →
-        HasRoomFor (most_children (node_kind pointer)) node byte }
-    ensures written { (node : Inner _) → held arena.old pointer ≡ HeldInner node →
-        Changes arena.old arena.new pointer (HeldInner (node_with_child node byte child)) }
-    ensures room { SameRoom arena.old arena.new }
-{
-    match pointer.to_node_ptr() {
-        ConcreteNodePtr::Node4(node) => arena.as_mut(node).write_child(byte, child),
-        ConcreteNodePtr::Node16(node) => arena.as_mut(node).write_child(byte, child),
-        ConcreteNodePtr::Node48(node) => arena.as_mut(node).write_child(byte, child),
-        ConcreteNodePtr::Node256(node) => arena.as_mut(node).write_child(byte, child),
-        ConcreteNodePtr::LeafNode(_) => unreachable!(),
-    }
-}
-
 /// Puts a node where another one was, under its parent or as the root. Returns the root.
 pub(crate) fn hang<K, V, const PREFIX_LEN: usize>(
     arena: &mut NodeArena<K, V, PREFIX_LEN>,
@@ -68,7 +44,7 @@ pub(crate) fn hang<K, V, const PREFIX_LEN: usize>(
     let Some((parent, byte)) = parent else {
         return node;
     };
-    write_child(arena, parent, byte, node);
+    arena.write_child(parent, byte, node);
     root
 }
 
@@ -128,37 +104,6 @@ pub(crate) fn place_as<
     arena.allocate_node_ptr(node).unwrap().to_opaque()
 }
 
-// Deallocates a node of one type.
-fn give_up_node<K, V, const PREFIX_LEN: usize, N: ArenaNode<K, V, PREFIX_LEN> + Drop>(
-    arena: &mut NodeArena<K, V, PREFIX_LEN>,
-    node: NodePtr<PREFIX_LEN, N>,
-)
-    requires { held arena.old (opaque_pointer N.TYPE (slab_key node)) ≢ Nothing }
-    ensures gone { Changes arena.old arena.new (opaque_pointer N.TYPE (slab_key node)) Nothing }
-    ensures room { FreesOne arena.old arena.new N.TYPE }
-{
-    arena.deallocate_node_ptr(node);
-}
-
-/// Deallocates the inner node at the pointer.
-pub(crate) fn give_up<K, V, const PREFIX_LEN: usize>(
-    arena: &mut NodeArena<K, V, PREFIX_LEN>,
-    pointer: OpaqueNodePtr<K, V, PREFIX_LEN>,
-)
-    requires held { held arena.old pointer ≢ Nothing }
-    requires inner { node_kind pointer ≢ Leaf }
-    ensures gone { Changes arena.old arena.new pointer Nothing }
-    ensures room { FreesOne arena.old arena.new (node_kind pointer) }
-{
-    match pointer.to_node_ptr() {
-        ConcreteNodePtr::Node4(node) => give_up_node(arena, node),
-        ConcreteNodePtr::Node16(node) => give_up_node(arena, node),
-        ConcreteNodePtr::Node48(node) => give_up_node(arena, node),
-        ConcreteNodePtr::Node256(node) => give_up_node(arena, node),
-        ConcreteNodePtr::LeafNode(_) => unreachable!(),
-    }
-}
-
 /// Replaces the inner node at the pointer by this one of another kind, and returns where that is,
 /// or None on allocation failure. It never fails where the kind has spare capacity.
 // Kept out of its caller, whose stack would have the nodes of each kind several times.
@@ -183,6 +128,6 @@ pub(crate) fn replace_node<
     let Ok(placed) = arena.allocate_node_ptr(node) else {
         return None;
     };
-    give_up(arena, pointer);
+    arena.deallocate(pointer);
     Some(placed.to_opaque())
 }

@@ -24,7 +24,7 @@ use crate::find::find_leaf;
 use crate::laws::{
     each_leaf_of_a_list_is_knit, each_pointer_is_at_one_place, no_text_begins_another,
 };
-use crate::node::{give_up, hang, num_children};
+use crate::node::{hang, num_children};
 use crate::path::TreePath;
 use crate::remove::removed_child::{join_prefix, other_child, reserve_shrink, take_child};
 use art_arena::{ArenaReader, LeafLinks, NodeArena};
@@ -172,7 +172,7 @@ fn remove_from_two<K: AsBytes, V, const PREFIX_LEN: usize>(
     let entry = take_leaf(arena, leaf);
     let (other_byte, child) = other_child(arena, spot.parent, spot.byte);
     join_prefix(arena, spot.parent, other_byte, child);
-    give_up(arena, spot.parent);
+    arena.deallocate(spot.parent);
     (hang(arena, root, spot.above, child), entry)
 }
 

@@ -4,10 +4,8 @@ use Rattle.std.specs.Cmp.Lexicographic.{pointwise}
 use Rattle.std.proofs.Math.Seq.{drop-append_seam}
 use Rattle.std.proofs.lemmas.List.{drop-drop, append-nil}
 use Rattle.art_bytes.specs.Text.{IsPrefixOf}
-use Rattle.art_header.specs.declared.node_type.NodeType.TheVariants as kinds
 use Rattle.art_nodes.specs.ChildMap.{child_at}
 use Rattle.art_nodes.specs.Inner as nodes
-use Rattle.art_nodes.specs.Pointers.{node_kind, opaque_key, slab_key}
 use Rattle.art_nodes.specs.declared.pointers.NodePtr.{NodePtr}
 use Rattle.art_nodes.specs.declared.pointers.OpaqueNodePtr.{OpaqueNodePtr}
 use Rattle.art_nodes.specs.declared.leaf_node.LeafNode.{LeafNode}
@@ -17,7 +15,7 @@ use Rattle.art_arena.specs.declared.reader.AnyRef.{AnyRef}
 use Rattle.art_arena.specs.declared.reader.AnyRef.TheVariants as references
 use Rattle.art_arena.specs.Standing.{StandsIn, AllStandIn, NodeStands, IsTreeIn, leaf_text}
 use Rattle.art_arena.specs.Trees.{Tree, Leaf, Inner, Branches, IsSound, root_of, branch_roots}
-use Rattle.art_arena.proofs.StandingLaws.{shown-prefix}
+use Rattle.art_arena.proofs.StandingLaws.{at-some, shown-prefix}
 use Rattle.art_tree.specs.declared.path.TreePathSearch.{TreePathSearch}
 use Rattle.art_tree.specs.Descent.{LeadsOn, LeadsNowhere, LeadsOnFrom, LeadsNowhereFrom}
 use Rattle.art_tree.specs.Paths.{Steps, HasVisited}
@@ -51,9 +49,6 @@ drop-front : (path front key : List ℕ) (depth : ℕ) → length path ≡ depth
 drop-front path front key depth deep (rest, is) = (rest, subst (λ m. drop m key ≡ front ++ rest) deep (ap (drop (length path)) (is ∙ append_assoc path front rest) ∙ drop-append_seam path (front ++ rest)))
 
 module _ {K V : Type 0} {P : ℕ} where
-  -- the pointer to a leaf is the pointer that it was cast from
-  pub leaf-pointer-is : (at : OpaqueNodePtr K V P) (leaf : NodePtr P (LeafNode K V P)) → node_kind at ≡ kinds.Leaf → slab_key leaf ≡ opaque_key at → leaf_pointer leaf ≡ at
-  leaf-pointer-is at leaf kind key = λ i. record { node_type = sym kind i; key = key i; leaf = record {} }
 
 module _ {K V : Type 0} {P : ℕ} (text : K → List ℕ) (arena : ArenaOf K V P) (whole : Tree (OpaqueNodePtr K V P)) (key : List ℕ) where
   pub here-start : (root : OpaqueNodePtr K V P) (search : TreePathSearch K V P) (budget : ℕ) → IsTreeIn text arena root whole → HasVisited search [] → IsHere text arena whole key root 0 search budget budget
@@ -209,10 +204,6 @@ module _ {K V : Type 0} {P : ℕ} (arena now : ArenaOf K V P) (key : List ℕ) (
   told (references.LeafNode leaf) holds no_leaf on nowhere = absurd (no_leaf leaf refl)
 
 module _ {A : Type 0} where
-  pub at-some : (Holds : A → Type 0) (o : Option A) (x : A) → o ≡ Some x → IfSome o Holds → Holds x
-  at-some Holds None x is holds = absurd (cc)
-  at-some Holds (Some y) x is holds = let same : y ≡ x = cc in subst Holds same holds
-
   pub at-none : (Holds : Type 0) (o : Option A) → o ≡ None → IfNone o Holds → Holds
   at-none Holds None is holds = holds
   at-none Holds (Some y) is holds = absurd (cc)

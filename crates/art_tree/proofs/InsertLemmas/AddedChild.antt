@@ -31,7 +31,8 @@ use Rattle.art_tree.proofs.SharedLemmas.ExchangedSubtree.{the-one, distinct-part
 use Rattle.art_tree.proofs.InsertLemmas.GapLemmas.{beside-key, gap, keys_of, lies, spelled-parts}
 use Rattle.art_tree.proofs.SharedLemmas.ExchangedTree.{alone-same}
 use Rattle.art_tree.proofs.SharedLemmas.ParentLemmas.{inner-kind}
-use Rattle.art_tree.proofs.InsertLemmas.NodeLemmas.{few-where-absent, one-inner}
+use Rattle.art_arena.proofs.StandingLaws.{one-inner}
+use Rattle.art_tree.proofs.InsertLemmas.NodeLemmas.{few-where-absent}
 use Rattle.art_tree.proofs.LoadLemmas.PlacedTrees.{smallest_kinds-split, stand-split}
 use Rattle.art_tree.proofs.InsertLemmas.SubtreeLemmas.{HasChildPlace, child-place, in-taken, kind-grows, kind-stays, smallest_kinds-taken}
 

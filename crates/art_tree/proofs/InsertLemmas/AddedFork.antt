@@ -37,10 +37,9 @@ use Rattle.art_tree.proofs.SharedLemmas.ExchangedSubtree.{the-one, distinct-part
 use Rattle.art_bytes.proofs.PrefixLaws.{prefix-shorter}
 use Rattle.art_tree.proofs.InsertLemmas.GapLemmas.{beside-key, gap, keys_of, lies, spelled-parts}
 use Rattle.art_tree.proofs.SharedLemmas.ExchangedTree.{alone-same}
-use Rattle.art_tree.proofs.InsertLemmas.NodeLemmas.{one-inner}
 use Rattle.art_tree.proofs.LoadLemmas.PlacedTrees.{cases_pointer, text-held}
 use Rattle.art_tree.proofs.InsertLemmas.SubtreeLemmas.{HasForkPlace, fork-place, in-taken, leaves-sides, leaves-trimmed, places-sides, places-trimmed, smallest_kinds-sides, smallest_kinds-taken, smallest_kinds-trimmed, both-sides, ltrimmed, branches_left, branches_right}
-use Rattle.art_arena.proofs.StandingLaws.{leaf_kind}
+use Rattle.art_arena.proofs.StandingLaws.{leaf_kind, one-inner}
 
 module _ {H : Type 0} where
   mutual

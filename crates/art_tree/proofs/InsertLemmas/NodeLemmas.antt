@@ -7,13 +7,14 @@ use Rattle.art_header.specs.Header.{Header}
 use Rattle.art_header.specs.NodeType.{most_children, grown_kind}
 use Rattle.art_header.specs.declared.node_type.NodeType.{NodeType}
 use Rattle.art_nodes.specs.ChildMap.{child_at, IsAscending, key_bytes}
-use Rattle.art_nodes.specs.Inner.{Inner, HasRoomFor, header_of, node_with_child}
+use Rattle.art_nodes.specs.Inner.{Inner, header_of, node_with_child}
 use Rattle.art_nodes.specs.Leaf.{leaf_key}
 use Rattle.art_nodes.specs.Pointers.{node_kind}
 use Rattle.art_nodes.specs.declared.pointers.OpaqueNodePtr.{OpaqueNodePtr}
 use Rattle.art_nodes.specs.declared.leaf_node.LeafNode.{LeafNode}
 use Rattle.art_nodes.proofs.ChildMapLaws.{length_absent}
-use Rattle.art_arena.specs.Arena.{ArenaOf, Changes, Held, HeldInner, HeldLeaf, Nothing, held, held_header, room}
+use Rattle.art_arena.proofs.StandingLaws.{one-inner}
+use Rattle.art_arena.specs.Arena.{ArenaOf, Held, HeldInner, HeldLeaf, Nothing, held, held_header, room}
 use Rattle.art_tree.specs.Edits.{HasRoomToGrow, IsMoved, two_children}
 use Rattle.art_tree.specs.Nodes.{IsReplaced}
 
@@ -57,10 +58,7 @@ if-none None Q holds = holds
 if-none (Some x) Q holds = tt
 
 module _ {K V : Type 0} {P : ℕ} where
-  -- a pointer holds one inner node, or one leaf
-  pub one-inner : (h : Held (OpaqueNodePtr K V P) (LeafNode K V P)) (a b : Inner (OpaqueNodePtr K V P)) → h ≡ HeldInner a → h ≡ HeldInner b → a ≡ b
-  one-inner h a b first second = cc
-
+  -- a pointer holds one leaf
   pub one-leaf : (h : Held (OpaqueNodePtr K V P) (LeafNode K V P)) (a b : LeafNode K V P) → h ≡ HeldLeaf a → h ≡ HeldLeaf b → a ≡ b
   one-leaf h a b first second = cc
 
@@ -80,18 +78,6 @@ module _ {K V : Type 0} {P : ℕ} where
   header-held Nothing header e = absurd (cc)
   header-held (HeldInner node) header e = (node, refl, cc)
   header-held (HeldLeaf leaf) header e = absurd (cc)
-
-  -- the node at a pointer has space for a child, by each name of the pointer
-  pub room-there : (arena : ArenaOf K V P) {at pointer : OpaqueNodePtr K V P} {there : Inner (OpaqueNodePtr K V P)} (byte : ℕ) → at ≡ pointer → held arena at ≡ HeldInner there
-      → ((node : Inner (OpaqueNodePtr K V P)) → held arena pointer ≡ HeldInner node → HasRoomFor (most_children (node_kind pointer)) node byte) → HasRoomFor (most_children (node_kind at)) there byte
-  room-there arena {there = there} byte same here has_room = subst (λ p. held arena p ≡ HeldInner there → HasRoomFor (most_children (node_kind p)) there byte) (sym same) (has_room there) here
-
-  -- the node that an edit was made of is the one that was held
-  pub edited-there : (edit : Inner (OpaqueNodePtr K V P) → Inner (OpaqueNodePtr K V P)) (old new : ArenaOf K V P) {at pointer : OpaqueNodePtr K V P} {there now node : Inner (OpaqueNodePtr K V P)} → at ≡ pointer → held old at ≡ HeldInner there
-      → now ≡ edit there → Changes old new at (HeldInner now) → held old pointer ≡ HeldInner node → Changes old new pointer (HeldInner (edit node))
-  edited-there edit old new {at = at} {there = there} {node = node} same here edited changes is =
-      let one = one-inner (held old at) there node here (ap (held old) same ∙ is) in
-      subst (λ p. Changes old new p (HeldInner (edit node))) same (subst (λ n. Changes old new at (HeldInner n)) (edited ∙ ap edit one) changes)
 
   -- the text of a leaf is that of its key
   pub text-of-key : (text : K → List ℕ) (leaf : Option (LeafNode K V P)) (key : K) → option_map leaf_key leaf ≡ Some key → option_map_or (λ (l : LeafNode K V P). text (leaf_key l)) leaf [] ≡ text key

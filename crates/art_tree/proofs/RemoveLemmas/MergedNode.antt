@@ -31,10 +31,10 @@ use Rattle.art_tree.proofs.RemoveLemmas.RemainingTree.{HasOneLeft, dropped-roots
 use Rattle.art_tree.proofs.SharedLemmas.ExchangedSubtree.{kept-branches}
 use Rattle.art_tree.proofs.SharedLemmas.ExchangedTree.{texts-part}
 use Rattle.art_tree.proofs.RemoveLemmas.LeafParent.{IsOther, LeafPlace, is-other, part_there, place-cases}
-use Rattle.art_tree.proofs.InsertLemmas.NodeLemmas.{one-inner, some-inner}
+use Rattle.art_tree.proofs.InsertLemmas.NodeLemmas.{some-inner}
 use Rattle.art_tree.proofs.FindLemmas.OnlyWayLemmas.{All-left, All-right}
 use Rattle.art_tree.proofs.InsertLemmas.SubtreeLemmas.{leaves-taken}
-use Rattle.art_arena.proofs.StandingLaws.{leaf_kind}
+use Rattle.art_arena.proofs.StandingLaws.{leaf_kind, one-inner}
 
 -- a node stands for the prefix that it has
 stands-for : {H : Type 0} (room : ℕ) (node : nodes.Inner H) (prefix : List ℕ) (branches : Branches H) → NodeStands room node prefix branches → StandsFor room (header_of node) prefix

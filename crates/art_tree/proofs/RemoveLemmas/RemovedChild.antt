@@ -29,10 +29,10 @@ use Rattle.art_tree.proofs.SharedLemmas.DictionaryLemmas.{AreApart}
 use Rattle.art_tree.proofs.RemoveLemmas.RemainingTree.{dropped-child, dropped-roots, dropped-sound, kind-lasts, kind-shrinks, left-smallest_kinds}
 use Rattle.art_tree.proofs.SharedLemmas.ExchangedSubtree.{kept-branches}
 use Rattle.art_tree.proofs.RemoveLemmas.LeafParent.{LeafPlace, is-other, part_there, place-cases}
-use Rattle.art_tree.proofs.InsertLemmas.NodeLemmas.{one-inner, some-inner}
+use Rattle.art_tree.proofs.InsertLemmas.NodeLemmas.{some-inner}
 use Rattle.art_tree.proofs.LoadLemmas.PlacedTrees.{kind-4, kind-16, kind-48, kind-256}
 use Rattle.art_tree.proofs.InsertLemmas.SubtreeLemmas.{leaves-taken}
-use Rattle.art_arena.proofs.StandingLaws.{leaf_kind}
+use Rattle.art_arena.proofs.StandingLaws.{leaf_kind, one-inner}
 
 -- the fewest children of the kind for so many are no more
 least-fits : (n : ℕ) → 2 ≤ n → least_children (kind_for n) ≤ n

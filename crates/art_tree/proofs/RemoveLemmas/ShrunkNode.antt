@@ -16,8 +16,8 @@ use Rattle.art_arena.specs.Arena.{ArenaOf, Held, HeldInner, HeldLeaf, Nothing, h
 use Rattle.art_tree.specs.Cuts.{HasOneLess, HasRoomToShrink}
 use Rattle.art_tree.specs.Nodes.{IsReplaced}
 use Rattle.art_tree.proofs.SharedLemmas.RoomLemmas.{same-room}
-use Rattle.art_tree.proofs.InsertLemmas.NodeLemmas.{one-inner, some-inner}
-use Rattle.art_arena.proofs.StandingLaws.{leaf_kind}
+use Rattle.art_tree.proofs.InsertLemmas.NodeLemmas.{some-inner}
+use Rattle.art_arena.proofs.StandingLaws.{leaf_kind, one-inner}
 
 -- what is at most a number and is not it is less
 pub less-where-differ : (least count : ℕ) → least ≤ count → count ≢ least → least < count
@@ -25,6 +25,14 @@ less-where-differ least count most differ = elim (cases_lt least count) [
   | inl less ↦ less
   | inr upto ↦ absurd (differ (omega (arith, most, upto)))
 ]
+
+-- a node larger than a Node4 has more than two children
+pub more-than-two : (kind : NodeType) → kind ≢ kinds.Leaf → kind ≢ kinds.Node4 → 2 < least_children kind
+more-than-two kinds.Node4 inner larger = absurd (larger refl)
+more-than-two kinds.Node16 inner larger = omega arith
+more-than-two kinds.Node48 inner larger = omega arith
+more-than-two kinds.Node256 inner larger = omega arith
+more-than-two kinds.Leaf inner larger = absurd (inner refl)
 
 -- a test whether a count is the least one
 pub counted : (count start : ℕ) {all least : ℕ} → count ≡ all → start ≡ least → IsTrue (count == start) ↔ (all ≡ least)

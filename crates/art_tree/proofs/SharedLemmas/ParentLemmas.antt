@@ -21,7 +21,8 @@ use Rattle.art_tree.specs.Contexts.{join}
 use Rattle.art_arena.specs.declared.ends.End.TheVariants.{First, Last}
 use Rattle.art_tree.proofs.SharedLemmas.BranchLemmas.{leaves-join}
 use Rattle.art_tree.proofs.SharedLemmas.ExchangedSubtree.{sound-split}
-use Rattle.art_tree.proofs.InsertLemmas.NodeLemmas.{one-inner, some-inner}
+use Rattle.art_arena.proofs.StandingLaws.{one-inner}
+use Rattle.art_tree.proofs.InsertLemmas.NodeLemmas.{some-inner}
 use Rattle.art_tree.proofs.LoadLemmas.PlacedTrees.{stand-split}
 
 pub always-ok : {T E : Type 0} (r : Result T E) (Q : Type 0) → Q → OnOk r Q

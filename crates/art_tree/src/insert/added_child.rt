@@ -15,11 +15,11 @@ ghost use Rattle.art_tree.specs.Room.{GrowsOnlyWhere};
 ghost use Rattle.art_tree.specs.Search.{leaf_pointer};
 
 use crate::insert::place::Fork;
-use crate::node::{num_children, place_as, replace_node, write_child};
+use crate::node::{num_children, place_as, replace_node};
 use art_arena::{AnyRef, NodeArena};
 use art_bytes::AsBytes;
 use art_nodes::{
-    InnerNode, InnerNode4, InnerNodeCommon, LeafNode, NodePtr, NodeType, OpaqueNodePtr,
+    InnerNode, InnerNode4, InnerNodeCommon, InnerNodeRead, LeafNode, NodePtr, OpaqueNodePtr,
 };
 use std::alloc::AllocError;
 
@@ -54,13 +54,7 @@ pub(crate) fn reserve_growth<K, V, const PREFIX_LEN: usize>(
     if !is_full(arena, pointer) {
         return Ok(());
     }
-    let grown = match pointer.node_type() {
-        NodeType::Node4 => NodeType::Node16,
-        NodeType::Node16 => NodeType::Node48,
-        // A leaf is never full, and no byte is new to a full Node256.
-        NodeType::Node48 | NodeType::Node256 | NodeType::Leaf => NodeType::Node256,
-    };
-    arena.reserve(grown, 1)
+    arena.reserve(pointer.node_type().grown(), 1)
 }
 
 // The same node of the next kind with one child more. Kept out of its caller, whose stack would
@@ -141,7 +135,7 @@ pub(crate) fn add_child<K, V, const PREFIX_LEN: usize>(
     if is_full(arena, pointer) {
         return grow_child(arena, pointer, byte, child);
     }
-    write_child(arena, pointer, byte, child);
+    arena.write_child(pointer, byte, child);
     pointer
 }
 

@@ -14,7 +14,7 @@ ghost use Rattle.art_tree.specs.Room.{GrowsOnlyWhere};
 
 use crate::node::{num_children, replace_node};
 use art_arena::{AnyRef, NodeArena};
-use art_nodes::{ConcreteNodePtr, InnerNode, InnerNodeCommon, NodeType, OpaqueNodePtr};
+use art_nodes::{InnerNode, InnerNodeRead, NodeType, OpaqueNodePtr};
 use std::alloc::AllocError;
 
 // Whether the inner node at the pointer has the fewest children of its kind.
@@ -31,7 +31,7 @@ fn has_fewest<K, V, const PREFIX_LEN: usize>(
 }
 
 // The least byte of the node that is not this one, with its child.
-fn other_child_in<K, V, const PREFIX_LEN: usize, N: InnerNodeCommon<K, V, PREFIX_LEN>>(
+fn other_child_in<K, V, const PREFIX_LEN: usize, N: InnerNodeRead<K, V, PREFIX_LEN>>(
     node: &N,
     byte: u8,
 ) -> (u8, OpaqueNodePtr<K, V, PREFIX_LEN>)
@@ -59,13 +59,8 @@ pub(crate) fn other_child<K, V, const PREFIX_LEN: usize>(
     ensures { (node : Inner _) → held arena.now pointer ≡ HeldInner node →
         first_pair (without_child node.children byte) ≡ Some result }
 {
-    match arena.node_ref(pointer) {
-        AnyRef::Node4(node) => other_child_in(node, byte),
-        AnyRef::Node16(node) => other_child_in(node, byte),
-        AnyRef::Node48(node) => other_child_in(node, byte),
-        AnyRef::Node256(node) => other_child_in(node, byte),
-        AnyRef::LeafNode(_) => unreachable!(),
-    }
+    let node = arena.node_ref(pointer).inner().unwrap();
+    other_child_in(&node, byte)
 }
 
 /// Makes spare capacity for the node that an inner node with the fewest children of its kind
@@ -86,46 +81,15 @@ pub(crate) fn reserve_shrink<K, V, const PREFIX_LEN: usize>(
     ensures no_room { OnErr result ((kind : _) × LacksRoomToShrink arena.old pointer kind) }
     ensures memory { GrowsOnlyWhere arena.old arena.new (LacksRoomToShrink arena.old pointer) }
 {
-    let shrunk = match pointer.node_type() {
-        NodeType::Node16 => NodeType::Node4,
-        NodeType::Node48 => NodeType::Node16,
-        NodeType::Node256 => NodeType::Node48,
-        // The fewest of the smallest kind are two.
-        NodeType::Node4 | NodeType::Leaf => return Ok(()),
-    };
+    let kind = pointer.node_type();
+    // The fewest of the smallest kind are two.
+    if kind == NodeType::Node4 {
+        return Ok(());
+    }
     if !has_fewest(arena, pointer) {
         return Ok(());
     }
-    arena.reserve(shrunk, 1)
-}
-
-// Removes the child under the byte from the inner node at the pointer, in its place.
-fn cut_child<K, V, const PREFIX_LEN: usize>(
-    arena: &mut NodeArena<K, V, PREFIX_LEN>,
-    pointer: OpaqueNodePtr<K, V, PREFIX_LEN>,
-    byte: u8,
-)
-    requires held { held arena.old pointer ≢ Nothing }
-    requires inner { node_kind pointer ≢ Leaf }
-    ensures cut { (node : Inner _) → held arena.old pointer ≡ HeldInner node →
-        Changes arena.old arena.new pointer (HeldInner (node_without_child node byte)) }
-    ensures room { SameRoom arena.old arena.new }
-{
-    match pointer.to_node_ptr() {
-        ConcreteNodePtr::Node4(node) => {
-            arena.as_mut(node).remove_child(byte);
-        }
-        ConcreteNodePtr::Node16(node) => {
-            arena.as_mut(node).remove_child(byte);
-        }
-        ConcreteNodePtr::Node48(node) => {
-            arena.as_mut(node).remove_child(byte);
-        }
-        ConcreteNodePtr::Node256(node) => {
-            arena.as_mut(node).remove_child(byte);
-        }
-        ConcreteNodePtr::LeafNode(_) => unreachable!(),
-    }
+    arena.reserve(kind.shrunk(), 1)
 }
 
 // Replaces the inner node at the pointer, which has too few children for its kind, by one of the
@@ -183,7 +147,7 @@ pub(crate) fn take_child<K, V, const PREFIX_LEN: usize>(
     ensures capacity { SameCapacity arena.old arena.new }
 {
     let fewest = has_fewest(arena, pointer);
-    cut_child(arena, pointer, byte);
+    arena.remove_child(pointer, byte);
     if fewest {
         return shrink_node(arena, pointer);
     }

@@ -8,8 +8,8 @@ use Rattle.art_tree.specs.Search.{IsWay, LeadsTo, leaf_pointer}
 use Rattle.art_tree.specs.Paths.{HasVisited, path_of}
 use Rattle.art_tree.proofs.FindLemmas.OnlyWayLemmas.{one-way}
 use Rattle.art_tree.proofs.FindLemmas.PathNodes.{way-leads}
-use Rattle.art_arena.proofs.StandingLaws.{leaf_kind}
-use Rattle.art_tree.proofs.FindLemmas.WayLemmas.{here-start, here-held, here-leaf, here-nowhere-scan, here-nowhere-met, here-on, still-held, leaf-pointer-is, told, told-on, told-nowhere, told-later, at-some, leaf-hit, leaf-miss, not-true}
+use Rattle.art_arena.proofs.StandingLaws.{at-some, leaf-pointer-is, leaf_kind}
+use Rattle.art_tree.proofs.FindLemmas.WayLemmas.{here-start, here-held, here-leaf, here-nowhere-scan, here-nowhere-met, here-on, still-held, told, told-on, told-nowhere, told-later, leaf-hit, leaf-miss, not-true}
 use Rattle.art_tree.proofs.find.find_leaf.Goals as goal
 
 pub way-init : goal.way-init

@@ -5,8 +5,8 @@ use Rattle.art_tree.proofs.LoadLemmas.LeafLists.{kept-at}
 use Rattle.art_tree.proofs.RemoveLemmas.ShrunkNode.{replaced}
 use Rattle.art_tree.proofs.node.replace_node.Goals as goal
 
-pub give_up-requires : goal.give_up-requires
-give_up-requires g c =
+pub deallocate-requires : goal.deallocate-requires
+deallocate-requires g c =
     let old = c.args.arena.now in
     let now = c.allocate_node_ptr.new.self in
     let placed = opaque_pointer g.R.Node.TYPE (slab_key c.in-Ok.placed) in
@@ -19,7 +19,7 @@ returns-clause-replaced g c =
     let old = c.args.arena.now in
     let now = c.allocate_node_ptr.new.self in
     let placed = opaque_pointer g.R.Node.TYPE (slab_key c.in-Ok.placed) in
-    replaced old now c.give_up.new.arena (g.R.InnerNodeCommon.inner c.args.node) c.to_opaque.ensures c.in-Ok.ensures.was_free c.requires.held (subst (Changes old now placed) (g.met.R.ArenaInnerNode.shown c.args.node) c.in-Ok.ensures.added) c.give_up.ensures.gone
+    replaced old now c.deallocate.new.self (g.R.InnerNodeRead.inner c.args.node) c.to_opaque.ensures c.in-Ok.ensures.was_free c.requires.held (subst (Changes old now placed) (g.met.R.ArenaInnerNode.shown c.args.node) c.in-Ok.ensures.added) c.deallocate.ensures.removed
 
 pub returns-clause-capacity : goal.returns-clause-capacity
-returns-clause-capacity g c = λ some kind. c.give_up.ensures.room.capacity kind ∙ c.in-Ok.ensures.no_growth some kind
+returns-clause-capacity g c = λ some kind. c.deallocate.ensures.capacity kind ∙ c.in-Ok.ensures.no_growth some kind

@@ -46,8 +46,8 @@ join_prefix-requires g c =
     let short : (upper lower : Inner _) → held cut parent ≡ HeldInner upper → held cut child ≡ HeldInner lower → upper.prefix_len + (1 + lower.prefix_len) < 2 ^ 32 = short-there place c.each_pointer_is_at_one_place.ensures c.requires.two cut taken.gone taken.others other child c.other_child-other_byte.ensures in
     assumption
 
-pub give_up-requires : goal.give_up-requires
-give_up-requires g c =
+pub deallocate-requires : goal.deallocate-requires
+deallocate-requires g c =
     let (tree, alone, hangs) = c.requires.place in
     let place = leaf-place alone hangs in
     let parent = c.args.spot.parent in
@@ -67,8 +67,8 @@ hang-requires g c =
     let taken = c.take_leaf-entry.ensures in
     let (other, child) = c.other_child-other_byte.result in
     let joined = c.join_prefix.new.arena in
-    let new = c.give_up.new.arena in
-    let can : CanHang new c.args.spot.above = two-hangs place c.each_pointer_is_at_one_place.ensures c.requires.two cut taken.gone taken.others other child c.other_child-other_byte.ensures joined c.join_prefix.ensures.leaf c.join_prefix.ensures.joined new c.give_up.ensures.gone in
+    let new = c.deallocate.new.self in
+    let can : CanHang new c.args.spot.above = two-hangs place c.each_pointer_is_at_one_place.ensures c.requires.two cut taken.gone taken.others other child c.other_child-other_byte.ensures joined c.join_prefix.ensures.leaf c.join_prefix.ensures.joined new c.deallocate.ensures.removed in
     assumption
 
 pub returns-clause-removed : goal.returns-clause-removed
@@ -78,16 +78,16 @@ returns-clause-removed g c = λ tree alone hangs.
     let taken = c.take_leaf-entry.ensures in
     let (other, child) = c.other_child-other_byte.result in
     let joined = c.join_prefix.new.arena in
-    let new = c.give_up.new.arena in
-    two-removed place c.each_pointer_is_at_one_place.ensures c.requires.two cut taken.gone taken.others other child c.other_child-other_byte.ensures joined c.join_prefix.ensures.leaf c.join_prefix.ensures.joined new c.give_up.ensures.gone
+    let new = c.deallocate.new.self in
+    two-removed place c.each_pointer_is_at_one_place.ensures c.requires.two cut taken.gone taken.others other child c.other_child-other_byte.ensures joined c.join_prefix.ensures.leaf c.join_prefix.ensures.joined new c.deallocate.ensures.removed
     c.hang.new.arena c.hang.result c.hang.ensures.hung taken.spelled c.no_text_begins_another.ensures c.take_leaf-entry.result taken.entry
 
 pub returns-clause-takes_no_memory : goal.returns-clause-takes_no_memory
 returns-clause-takes_no_memory g c =
     let (tree, alone, hangs) = c.requires.place in
-    frees-two c.args.arena.now c.take_leaf-entry.new.arena c.join_prefix.new.arena c.give_up.new.arena c.hang.new.arena (node_kind c.args.spot.parent) (leaf-place alone hangs).inner c.take_leaf-entry.ensures.takes_no_memory c.join_prefix.ensures.room c.give_up.ensures.room c.hang.ensures.room
+    frees-two c.args.arena.now c.take_leaf-entry.new.arena c.join_prefix.new.arena c.deallocate.new.self c.hang.new.arena (node_kind c.args.spot.parent) (leaf-place alone hangs).inner c.take_leaf-entry.ensures.takes_no_memory c.join_prefix.ensures.room (record { one_more = c.deallocate.ensures.takes_no_memory; others = c.deallocate.ensures.other_room; capacity = c.deallocate.ensures.capacity }) c.hang.ensures.room
 
 pub returns-clause-capacity : goal.returns-clause-capacity
 returns-clause-capacity g c = λ kind.
-    same-capacity c.give_up.new.arena c.hang.new.arena c.hang.ensures.room kind ∙ c.give_up.ensures.room.capacity kind ∙ same-capacity c.take_leaf-entry.new.arena c.join_prefix.new.arena c.join_prefix.ensures.room kind
+    same-capacity c.deallocate.new.self c.hang.new.arena c.hang.ensures.room kind ∙ c.deallocate.ensures.capacity kind ∙ same-capacity c.take_leaf-entry.new.arena c.join_prefix.new.arena c.join_prefix.ensures.room kind
     ∙ c.take_leaf-entry.ensures.takes_no_memory.capacity kind

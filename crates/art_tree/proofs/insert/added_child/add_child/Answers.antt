@@ -12,7 +12,7 @@ pub write_child-requires : goal.write_child-requires
 write_child-requires g c = (search, (search, (search, (search, (search, (lit< tt, (c.requires.held, (c.requires.inner, λ node is absent. c.is_full.ensures.has_room node is (λ full. (let not_full = c.if-is_full.false in cc))))))))))
 
 pub returns-clause-capacity : goal.returns-clause-capacity
-returns-clause-capacity g c = same-capacity c.args.arena.now c.write_child.new.arena c.write_child.ensures.room
+returns-clause-capacity g c = same-capacity c.args.arena.now c.write_child.new.self c.write_child.ensures.room
 
 pub returns-clause-added : goal.returns-clause-added
 returns-clause-added g c = λ node is.

@@ -6,7 +6,8 @@ use Rattle.art_nodes.specs.Pointers.{slab_key}
 use Rattle.art_arena.specs.Arena.{held, HeldInner, Changes}
 use Rattle.art_arena.specs.Links.{leaf_at}
 use Rattle.art_tree.proofs.SharedLemmas.ParentLemmas.{inner-kind}
-use Rattle.art_tree.proofs.InsertLemmas.NodeLemmas.{header-held, one-inner, text-of-key}
+use Rattle.art_arena.proofs.StandingLaws.{one-inner}
+use Rattle.art_tree.proofs.InsertLemmas.NodeLemmas.{header-held, text-of-key}
 use Rattle.art_tree.proofs.insert.added_child.trim.Goals as goal
 
 pub ltrim_by_with_leaf-requires : goal.ltrim_by_with_leaf-requires

@@ -5,7 +5,8 @@ use Rattle.art_nodes.specs.Inner.{header_of, node_with_prefix_of}
 use Rattle.art_arena.specs.Arena.{held, HeldInner, Changes}
 use Rattle.art_tree.proofs.RemoveLemmas.ShrunkNode.{joined-stands}
 use Rattle.art_tree.proofs.SharedLemmas.ParentLemmas.{inner-kind}
-use Rattle.art_tree.proofs.InsertLemmas.NodeLemmas.{header-held, one-inner}
+use Rattle.art_arena.proofs.StandingLaws.{one-inner}
+use Rattle.art_tree.proofs.InsertLemmas.NodeLemmas.{header-held}
 use Rattle.art_tree.proofs.remove.removed_child.join_prefix.Goals as goal
 
 pub push_prefix-requires : goal.push_prefix-requires
