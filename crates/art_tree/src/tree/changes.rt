@@ -31,10 +31,9 @@ impl<K: AsBytes, V, const PREFIX_LEN: usize> ArtTree<K, V, PREFIX_LEN> {
     /// kind and there is no spare capacity for it. Each other leaf keeps its pointer.
     ///
     /// Visits the nodes on the way to the key's place, and then those on the way to a leaf beside
-    /// it: each time at most one inner node for each byte of a key. A prefix on the way that is
-    /// longer than `PREFIX_LEN` is read from the first leaf below it, which is one more way down;
-    /// so where each node on the way has such a prefix, the node visits grow with the square of the
-    /// depth.
+    /// it. Where a prefix on the way to the place is longer than `PREFIX_LEN`, it also visits those
+    /// on the way to one leaf below, whose key has all such prefixes. Each time it visits at most
+    /// one inner node for each byte of a key, so the visits are linear in the lengths of the keys.
     ///
     /// [`KeyTooLong`]: crate::InsertRefusal::KeyTooLong
     /// [`Prefix`]: crate::InsertRefusal::Prefix
