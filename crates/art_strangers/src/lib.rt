@@ -6,7 +6,6 @@
 
 pub mod addresses;
 pub mod arena;
-pub mod arena_pool;
 pub mod arrays;
 pub mod c_strings;
 pub mod commands;
@@ -23,7 +22,6 @@ pub mod loads_generic;
 pub mod nodes;
 pub mod numbers;
 pub mod ports;
-pub mod set;
 pub mod strings;
 pub mod tuples;
 pub mod word_set;

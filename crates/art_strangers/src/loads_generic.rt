@@ -8,7 +8,3 @@ pub fn index_of<K: AsBytes + Drop, V: Drop, const P: usize>(
 ) -> Result<ArtTree<K, V, P>, LoadFault<K, V>> {
     ArtTree::load(alloc, entries)
 }
-
-pub fn is_loaded<K: AsBytes + Drop, const P: usize>(alloc: Global, entries: Vec<(K, u32)>) -> bool {
-    index_of::<K, u32, P>(alloc, entries).is_ok()
-}

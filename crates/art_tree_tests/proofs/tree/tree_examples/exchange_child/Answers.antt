@@ -10,7 +10,7 @@ use Rattle.art_tree_tests.proofs.tree.tree_examples.exchange_child.Goals as goal
 
 not-none : {A : Type 0} (o : Option A) → o ≢ None → IsNone o → ⊥
 not-none None differs none = differs refl
-not-none (Some x) differs none = none
+not-none (Some x) differs none = absurd (cc)
 
 pub write_child-requires : goal.write_child-requires
 write_child-requires g c =
