@@ -18,4 +18,3 @@ mod PlaceLemmas
 mod PrefixLemmas
 mod PushLemmas
 mod RangeLemmas
-mod ShiftLemmas

@@ -2,4 +2,3 @@
 pub(crate) mod byte_set;
 pub(crate) mod child_table;
 pub(crate) mod index_table;
-pub(crate) mod shifts;

@@ -3,7 +3,6 @@ ghost use Rattle.std.specs.Prelude.{◌≡◌, ◌≢◌, ℕ, ◌<◌, ◌≤�
 ghost use Rattle.art_nodes.specs.ChildMap.{IsAscending};
 ghost use Rattle.art_nodes.specs.WritePoint.{IsByteAt, IsGapFor};
 
-use crate::inner_nodes::tables::shifts::{insert, remove};
 use crate::inner_nodes::traits::inner_node_read::InnerNodeRead;
 use crate::inner_nodes::traits::node::{InnerNodeCommon, Node};
 use crate::iteration::child_iter::ChildIter;
@@ -270,12 +269,9 @@ impl<K, V, const PREFIX_LEN: usize, const SIZE: usize> InnerNodeCommon<K, V, PRE
         match find_write_point(&self.keys, key_fragment) {
             Ok(index) => self.child_pointers[index] = PackedNodePtr::new(child_pointer),
             Err(index) => {
-                insert(&mut self.keys, index, key_fragment);
-                insert(
-                    &mut self.child_pointers,
-                    index,
-                    PackedNodePtr::new(child_pointer),
-                );
+                self.keys.insert(index, key_fragment);
+                self.child_pointers
+                    .insert(index, PackedNodePtr::new(child_pointer));
                 self.header.inc_num_children();
             }
         }
@@ -284,9 +280,9 @@ impl<K, V, const PREFIX_LEN: usize, const SIZE: usize> InnerNodeCommon<K, V, PRE
     fn remove_child(&mut self, key_fragment: u8) -> Option<OpaqueNodePtr<K, V, PREFIX_LEN>> {
         match find_write_point(&self.keys, key_fragment) {
             Ok(index) => {
-                remove(&mut self.keys, index);
+                self.keys.remove(index);
                 self.header.dec_num_children();
-                Some(remove(&mut self.child_pointers, index).to_opaque())
+                Some(self.child_pointers.remove(index).to_opaque())
             }
             Err(_) => None,
         }
