@@ -1,0 +1,7 @@
+mod EntryLemmas
+mod LinkLemmas
+mod ListLemmas
+mod PartLemmas
+mod RangeLemmas
+mod RunLemmas
+mod TextLemmas
