@@ -1,6 +1,7 @@
 mod EntryLemmas
 mod LinkLemmas
 mod ListLemmas
+mod LoadedLemmas
 mod PartLemmas
 mod RangeLemmas
 mod RunLemmas

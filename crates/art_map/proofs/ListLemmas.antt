@@ -110,7 +110,7 @@ module _ {K V : Type 0} {P : ℕ} (text : K → List ℕ) where
         let is = All-head (IsEntry text arena) entry others all in
         All-cons (HasEntry text arena) (text entry.0) (texts_of text others) (λ none. let wrong : Some entry ≡ None = sym is ∙ none in absurd (cc)) (have-each others (All-tail (IsEntry text arena) entry others all))
 
-    clashes-in : (x : List ℕ) → Clashes (texts_of text entries) x → ClashesIn text arena x
+    pub clashes-in : (x : List ℕ) → Clashes (texts_of text entries) x → ClashesIn text arena x
     clashes-in x (other, inside, part) = (other, All-contains (HasEntry text arena) (texts_of text entries) other (have-each entries are.each) inside, part)
 
     -- the refusals of the arena are those of the list

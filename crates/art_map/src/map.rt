@@ -1,12 +1,14 @@
 //! The map.
-ghost use Rattle.std.specs.Prelude.{◌≡◌, []};
+ghost use Rattle.std.specs.Prelude.{◌≡◌, ◌≢◌, [], IfOk, IfErr};
+ghost use Rattle.art_tree.specs.Refusals.{texts_of, IsDue};
 
 mod changes;
+mod laws;
 mod reading;
 
 use art_bytes::AsBytes;
-use art_tree::ArtTree;
 use art_tree::laws::entries_are_one_list;
+use art_tree::{ArtTree, LoadFault};
 use std::alloc::Global;
 use std::marker::{Model, PhantomData};
 
@@ -73,6 +75,36 @@ impl<K: AsBytes, V, const PREFIX_LEN: usize> ArtMap<K, V, PREFIX_LEN> {
         MapOver {
             tree,
             entry: PhantomData,
+        }
+    }
+}
+
+impl<K: AsBytes + Drop, V: Drop, const PREFIX_LEN: usize> ArtMap<K, V, PREFIX_LEN> {
+    /// Makes a map of these entries, whose keys must ascend and of which none may be a prefix of
+    /// another. Without entries it is the empty map.
+    ///
+    /// The refusals are those of [`ArtTree::load`] but for that of no entries: a key of 2^32 bytes or
+    /// more, keys that do not ascend, a key that is a proper prefix of the next one, and out of
+    /// memory. A refusal returns the entries in their order.
+    ///
+    /// Takes time linear in the key bytes of all entries together.
+    pub fn from_ascending(alloc: Global, entries: Vec<(K, V)>) -> Result<Self, LoadFault<K, V>>
+        ensures entries { IfOk result (λ map. map ≡ entries.items) }
+        ensures refusal_due { IfErr result
+            (λ fault. IsDue (texts_of K.text entries.items) fault.refusal) }
+        ensures entries_back { IfErr result (λ fault. fault.entries ≡ entries) }
+        ensures empty_is_fine { IfErr result (λ fault. entries.items ≢ []) }
+    {
+        entries_are_one_list::<K, V, PREFIX_LEN>();
+        if entries.is_empty() {
+            return Ok(ArtMap::new(alloc));
+        }
+        match ArtTree::load(alloc, entries) {
+            Ok(tree) => Ok(MapOver {
+                tree,
+                entry: PhantomData,
+            }),
+            Err(fault) => Err(fault),
         }
     }
 }
