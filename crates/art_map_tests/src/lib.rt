@@ -1,0 +1,14 @@
+//! Tests of maps, which use public names alone, as another crate does.
+//!
+//! The rules for tests that `art_node_tests` states hold here too. `map_examples` shows how a crate
+//! uses `art_map`. `scripts/map_tables` makes the tables of ranges and prefixes, by Python's `bisect`
+//! over a sorted list.
+#![tactic(auto)]
+
+#[cfg(test)]
+mod map;
+
+/// How a test ends whose call failed to allocate, after everything else was compared and the next
+/// call succeeded. `checks/refusals` searches for it.
+#[cfg(test)]
+const ALL_STANDS: &str = "refused, and all stands";
