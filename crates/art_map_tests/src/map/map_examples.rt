@@ -6,6 +6,7 @@ ghost use Rattle.art_map.specs.Entries.{entry_with};
 
 use super::*;
 use art_tree::AsBytes;
+use std::alloc::AllocError;
 
 /// Sets a price. Where that succeeds, the list has the entry in its place.
 fn set_price<K: AsBytes + Drop, const PREFIX_LEN: usize>(
@@ -59,7 +60,7 @@ fn the_first_example_answers_so(rt: HostRuntime) -> Result<(), Fail> {
 fn fill_prices(rt: &impl Abort, prices: &mut ArtMap<[u8; 3], u32, 2>) -> Result<(), Fail> {
     for (name, price) in [(*b"tin", 50), (*b"tan", 7), (*b"tip", 9)] {
         if !set_price(prices, name, price) {
-            return Err("not set".into());
+            return Err(AllocError.into());
         }
     }
     assert!(rt; price_of(prices, b"tan") == Some(7));
