@@ -1,20 +1,15 @@
 -- What the leaves of a tree hold, in order.
-use Rattle.std.proofs.Common.{◌≡◌, ◌≢◌, ◌∙◌, ℕ, zero, suc, ◌<◌, List, [], ◌∷◌, ◌++◌, length, map, All, AllPairs, Contains, Option, Some, None, refl, sym, ap, subst, arith}
+use Rattle.std.proofs.Common.{◌≡◌, ◌∙◌, ℕ, List, [], ◌∷◌, map, All, AllPairs, Contains, Some, refl, sym, ap, subst, arith}
 use Rattle.std.specs.declared.cmp.Ordering.TheVariants.{Less}
-use Rattle.std.proofs.lemmas.List.{append-nil, map-append}
-use Rattle.std.proofs.lemmas.Option.{same_Some}
 use Rattle.std.proofs.lemmas.List.Elements.{All-nil, All-cons, Contains-append_right}
 use Rattle.art_bytes.specs.Text.{text_order}
-use Rattle.art_header.specs.declared.node_type.NodeType.TheVariants as kinds
 use Rattle.art_nodes.specs.Leaf.{leaf_key, leaf_value}
-use Rattle.art_nodes.specs.Pointers.{node_kind, opaque_key, opaque_pointer}
+use Rattle.art_nodes.specs.Pointers.{opaque_key}
 use Rattle.art_nodes.specs.declared.pointers.OpaqueNodePtr.{OpaqueNodePtr}
 use Rattle.art_nodes.specs.declared.leaf_node.LeafNode.{LeafNode}
-use Rattle.art_arena.specs.Arena.{ArenaOf, HeldLeaf, held, held_leaf}
-use Rattle.art_arena.specs.Ends.{IsAtEnd}
-use Rattle.art_arena.specs.Links.{Spells, SpellsAfter, leaf_at}
+use Rattle.art_arena.specs.Arena.{ArenaOf, HeldLeaf, held}
+use Rattle.art_arena.specs.Links.{leaf_at}
 use Rattle.art_arena.specs.Trees.{Tree, leaves, texts}
-use Rattle.art_arena.specs.declared.ends.End.TheVariants.{First, Last}
 use Rattle.art_arena.proofs.StandingLaws.{leaf_place}
 use Rattle.art_tree.specs.Art.{IsAlone}
 use Rattle.art_tree.specs.Dictionary.{entry_at, IsEntry, HasEntry}

@@ -1,13 +1,13 @@
 -- Parts of a tree on the way to a place in the order of texts.
-use Rattle.std.proofs.Common.{◌≡◌, ◌≢◌, ◌∙◌, ℕ, suc, ◌+◌, ◌<◌, ◌≤◌, Bool, true, false, List, [], ◌∷◌, ◌++◌, length, length-append, map, drop, All, Contains, Option, Some, None, Result, Ok, Err, get_or, refl, sym, ap, subst, inl, inr, arith, slice_get, append_assoc, append-nil, nat_le, nat_eq, lit<, ◌^◌}
+use Rattle.std.proofs.Common.{◌≡◌, ◌≢◌, ◌∙◌, ℕ, suc, ◌+◌, ◌<◌, ◌≤◌, true, false, List, [], ◌∷◌, ◌++◌, length, length-append, drop, All, Some, None, Ok, Err, get_or, refl, sym, ap, subst, inl, inr, arith, slice_get, append_assoc, append-nil, nat_eq, lit<, ◌^◌}
 use Rattle.std.specs.List.{common_prefix_len}
-use Rattle.std.specs.declared.cmp.Ordering.TheVariants.{Less, Equal, Greater}
+use Rattle.std.specs.declared.cmp.Ordering.TheVariants.{Greater}
 use Rattle.std.specs.declared.ops.Bound.TheVariants.{Included, Unbounded}
 use Rattle.std.proofs.lemmas.Bool.Decides.{eqb_tells, leb_tells}
 use Rattle.std.proofs.lemmas.List.{drop_at, get_or_at, nil_from_length}
 use Rattle.std.proofs.lemmas.List.Elements.{All-nil, All-cons, All-head, All-tail, All-append, All-weaker}
 use Rattle.std.proofs.lemmas.Option.{same_Some}
-use Rattle.art_bytes.specs.Text.{IsPrefixOf, text_order}
+use Rattle.art_bytes.specs.Text.{IsPrefixOf}
 use Rattle.art_bytes.proofs.PrefixLaws.{prefix-shorter}
 use Rattle.art_nodes.specs.ChildMap.{IsAscendingFrom, key_bytes, pairs_within}
 use Rattle.art_nodes.specs.Inner as nodes

@@ -1,26 +1,23 @@
 -- The leaves between two places in the order of texts, and what they hold.
-use Rattle.std.proofs.Common.{◌≡◌, ◌≢◌, ◌∙◌, ℕ, ◌⊎◌, suc, ◌+◌, ◌<◌, cond, Bool, true, false, not, ◌&&◌, List, [], ◌∷◌, ◌++◌, length, map, filter, All, AllPairs, Contains, Option, Some, None, refl, sym, ap, subst, inl, inr, arith, get_or, slice_get, append_assoc, append-nil}
-use Rattle.std.specs.Option.{option_and_then, option_map}
+use Rattle.std.proofs.Common.{◌≡◌, ◌≢◌, ◌∙◌, ℕ, ◌⊎◌, cond, Bool, true, false, not, ◌&&◌, List, [], ◌∷◌, ◌++◌, map, filter, All, AllPairs, Contains, Option, Some, None, refl, sym, ap, subst, inl, inr, arith, get_or, append_assoc, append-nil}
+use Rattle.std.specs.Option.{option_map}
 use Rattle.std.specs.declared.cmp.Ordering.TheVariants.{Less}
 use Rattle.std.proofs.lemmas.List.{map-append}
 use Rattle.std.proofs.lemmas.List.Elements.{All-nil, All-cons, All-head, All-tail, All-append, All-weaker, Contains-append_right, filter-append, filter_map-append}
 use Rattle.art_bytes.specs.Text.{text_order}
-use Rattle.art_header.specs.declared.node_type.NodeType.TheVariants as kinds
 use Rattle.art_nodes.specs.Leaf.{leaf_key, leaf_value}
-use Rattle.art_nodes.specs.Pointers.{opaque_key, opaque_pointer, slab_key}
+use Rattle.art_nodes.specs.Pointers.{opaque_key, slab_key}
 use Rattle.art_nodes.specs.declared.pointers.NodePtr.{NodePtr}
 use Rattle.art_nodes.specs.declared.pointers.OpaqueNodePtr.{OpaqueNodePtr}
 use Rattle.art_nodes.specs.declared.leaf_node.LeafNode.{LeafNode}
 use Rattle.art_arena.specs.Arena.{ArenaOf, Held, HeldLeaf, Nothing, held}
-use Rattle.art_arena.specs.Links.{AreDistinct, Spells, SpellsAfter, leaf_at, next_at, previous_at}
+use Rattle.art_arena.specs.Links.{AreDistinct, Spells, SpellsAfter, leaf_at}
 use Rattle.art_arena.specs.Trees.{Tree, leaves, texts}
-use Rattle.art_arena.specs.declared.ends.End.TheVariants.{First, Last}
-use Rattle.art_arena.proofs.StandingLaws.{leaf_place}
 use Rattle.art_tree.specs.Art.{IsAlone}
 use Rattle.art_tree.specs.Dictionary.{entry_at, HasEntry}
 use Rattle.art_tree.specs.Entries.{entries_of, AreEntries}
 use Rattle.art_tree.specs.Search.{leaf_pointer}
-use Rattle.art_map.specs.Cuts.{is_before, is_between, AreOn, IsCut, IsFirstAfter, IsLastBefore}
+use Rattle.art_map.specs.Cuts.{is_before, is_between, AreOn, IsFirstAfter, IsLastBefore}
 use Rattle.art_map.specs.Runs.{EndsIn, LeadsOver, leaf_entry, entries_under, run_of}
 use Rattle.art_map.specs.declared.cut.Side.{Side}
 use Rattle.art_map.proofs.EntryLemmas.{AllHold, entries-of-leaves, keys_of, leaves-hold}

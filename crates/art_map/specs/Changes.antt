@@ -1,5 +1,5 @@
 -- Changes of a map: their refusals.
-use Rattle.std.specs.Prelude.{◌≡◌, ℕ, ◌<◌, ◌≤◌, ◌^◌, List, length, Some, None}
+use Rattle.std.specs.Prelude.{◌≡◌, ℕ, ◌<◌, ◌≤◌, ◌^◌, List, length, None}
 use Rattle.art_tree.specs.Dictionary.{Clashes}
 use Rattle.art_tree.specs.Refusals.{texts_of}
 use Rattle.art_tree.specs.declared.insert.InsertRefusal.{InsertRefusal}

@@ -1,4 +1,4 @@
-use Rattle.std.proofs.Common.{◌≡◌, ◌∙◌, sym, ap, subst}
+use Rattle.std.proofs.Common.{◌∙◌, sym, ap}
 use Rattle.art_arena.specs.Standing.{TreeAt}
 use Rattle.art_tree.specs.Search.{leaf_pointer}
 use Rattle.art_map.specs.Cuts.{is_before}

@@ -1,4 +1,4 @@
-use Rattle.std.proofs.Common.{◌≡◌, ◌≢◌, ◌∙◌, ◌+◌, ◌<◌, ◌≤◌, length, refl, sym, ap, subst, arith, get_or, lit<, ◌^◌}
+use Rattle.std.proofs.Common.{◌∙◌, ◌+◌, ◌<◌, ◌≤◌, length, refl, sym, arith, get_or}
 use Rattle.art_arena.specs.CommonPrefix.{Parting}
 use Rattle.art_arena.specs.Standing.{TreeUnder}
 use Rattle.art_map.proofs.PartLemmas.{beside-all, beside-apart, beside-child, beside-ended, goes-on, inner-way, key-begins, match-fits, under, way-within}

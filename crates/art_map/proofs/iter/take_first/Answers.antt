@@ -4,7 +4,7 @@ use Rattle.art_nodes.specs.Pointers.{slab_key}
 use Rattle.art_nodes.specs.Leaf.{next_key}
 use Rattle.art_arena.specs.Links.{leaf_at}
 use Rattle.art_map.proofs.ListLemmas.{slot-of}
-use Rattle.art_map.proofs.RunLemmas.{span, take-only, take-more, not-last, rest-leads}
+use Rattle.art_map.proofs.RunLemmas.{span, take-only, take-more, rest-leads}
 use Rattle.art_map.proofs.iter.take_first.Goals as goal
 
 pub returns-then-key-clause-first : goal.returns-then-key-clause-first

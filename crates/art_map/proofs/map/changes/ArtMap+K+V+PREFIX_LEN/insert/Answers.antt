@@ -1,4 +1,4 @@
-use Rattle.std.proofs.Common.{◌≡◌, ◌∙◌, Result, Ok, Err, IfOk, IfErr, OnOk, OnErr, sym, ap, subst}
+use Rattle.std.proofs.Common.{◌≡◌, ◌∙◌, sym, ap, subst}
 use Rattle.art_tree.specs.Dictionary.{IsEntry, SameEntries, SameOtherEntries}
 use Rattle.art_tree.specs.Entries.{entries_of, put_entry}
 use Rattle.art_tree.specs.Insertion as tree

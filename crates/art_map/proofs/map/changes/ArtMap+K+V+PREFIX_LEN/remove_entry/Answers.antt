@@ -1,6 +1,6 @@
-use Rattle.std.proofs.Common.{◌≡◌, ◌≢◌, ◌∙◌, None, sym, ap, subst}
+use Rattle.std.proofs.Common.{◌≡◌, ◌≢◌, ◌∙◌, None, sym, ap}
 use Rattle.art_tree.specs.Dictionary.{entry_at, SameEntries, SameOtherEntries}
-use Rattle.art_tree.specs.Entries.{entries_of, without_text}
+use Rattle.art_tree.specs.Entries.{without_text}
 use Rattle.art_tree.specs.Removal.{NeedsSmallerNode}
 use Rattle.art_map.specs.Entries.{entry_with}
 use Rattle.art_map.proofs.ListLemmas.{entries-find, if-ok, leaf-found, on-err, on-ok-both}

@@ -1,6 +1,4 @@
 use Rattle.std.proofs.Common.{◌∙◌}
-use Rattle.art_map.specs.Cuts.{is_between}
-use Rattle.art_map.specs.declared.cut.Side.TheVariants.{Before, AfterBegun}
 use Rattle.art_map.proofs.TextLemmas.{all-between, filter-all}
 use Rattle.art_map.proofs.map.reading.ArtMap+K+V+PREFIX_LEN.iter.Goals as goal
 

@@ -1,8 +1,6 @@
-use Rattle.std.proofs.Common.{◌∙◌, filter, ap, nat_eq}
+use Rattle.std.proofs.Common.{◌∙◌, ap, nat_eq}
 use Rattle.std.specs.List.{starts_with}
-use Rattle.art_map.specs.Cuts.{is_between}
 use Rattle.art_map.specs.Ranges.{entries_with_prefix}
-use Rattle.art_map.specs.declared.cut.Side.TheVariants.{Before, AfterBegun}
 use Rattle.art_map.proofs.TextLemmas.{filter-same, prefix-between}
 use Rattle.art_map.proofs.map.reading.ArtMap+K+V+PREFIX_LEN.prefix.Goals as goal
 
