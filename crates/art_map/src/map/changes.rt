@@ -50,6 +50,17 @@ impl<K: AsBytes, V, const PREFIX_LEN: usize> ArtMap<K, V, PREFIX_LEN> {
     /// Only a key without an entry is refused, as [`insert`](Self::insert) refuses it. Visits at most
     /// one node more than the key has bytes, and then costs as much as [`insert`](Self::insert) where
     /// there is no such entry.
+    ///
+    /// A map in which `tin` has the value 50:
+    ///
+    /// (from crates/art_map_tests/src/map/taken_entries.rt)
+    /// ```rust
+    /// let back = prices
+    ///     .try_insert(StrKey::new("tin"), 1)
+    ///     .map_err(|fault| fault.refusal)?;
+    /// assert!(rt; back.is_some());
+    /// assert!(rt; prices.get(b"tin") == Some(&50));
+    /// ```
     pub fn try_insert(&mut self, key: K, value: V) -> Result<Option<(K, V)>, InsertFault<K, V>>
         ensures kept { IfOk result (λ back. IfSome back (λ entry.
             (entry ≡ (key, value)) × (self.new ≡ self.old)

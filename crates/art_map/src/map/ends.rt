@@ -14,6 +14,16 @@ impl<K: AsBytes, V, const PREFIX_LEN: usize> ArtMap<K, V, PREFIX_LEN> {
     ///
     /// Visits the nodes on the way to the entry twice, each time at most one for each byte of its key
     /// and one more, and changes at most three of them.
+    ///
+    /// A map with `tin`, `titanium`, `iron` and `zinc`:
+    ///
+    /// (from crates/art_map_tests/src/map/taken_entries.rt)
+    /// ```rust
+    /// let Some((name, price)) = prices.pop_first()? else {
+    ///     panic!(rt; "no first entry");
+    /// };
+    /// assert!(rt; name.get() == "iron" && price == 26);
+    /// ```
     pub fn pop_first(&mut self) -> Result<Option<(K, V)>, AllocError>
         ensures first { IfOk result (λ removed.
             IfSome removed (λ entry. self.old ≡ entry ∷ self.new)) }
@@ -29,6 +39,16 @@ impl<K: AsBytes, V, const PREFIX_LEN: usize> ArtMap<K, V, PREFIX_LEN> {
 
     /// Removes the entry with the greatest key and returns it, or None where there is no entry. Fails
     /// and costs as [`pop_first`](Self::pop_first).
+    ///
+    /// A map with `tin`, `titanium` and `zinc`:
+    ///
+    /// (from crates/art_map_tests/src/map/taken_entries.rt)
+    /// ```rust
+    /// let Some((name, price)) = prices.pop_last()? else {
+    ///     panic!(rt; "no last entry");
+    /// };
+    /// assert!(rt; name.get() == "zinc" && price == 30);
+    /// ```
     pub fn pop_last(&mut self) -> Result<Option<(K, V)>, AllocError>
         ensures last { IfOk result (λ removed.
             IfSome removed (λ entry. self.old ≡ self.new ++ entry ∷ [])) }
@@ -46,6 +66,12 @@ impl<K: AsBytes, V, const PREFIX_LEN: usize> ArtMap<K, V, PREFIX_LEN> {
 impl<K: AsBytes + Drop, V: Drop, const PREFIX_LEN: usize> ArtMap<K, V, PREFIX_LEN> {
     /// Removes every entry. Takes time linear in the number of entries, and no memory: the nodes'
     /// memory is kept for later entries.
+    ///
+    /// (from crates/art_map_tests/src/map/taken_entries.rt)
+    /// ```rust
+    /// prices.clear();
+    /// assert!(rt; prices.is_empty());
+    /// ```
     pub fn clear(&mut self)
         ensures { self.new ≡ [] }
     {

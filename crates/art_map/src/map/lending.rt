@@ -13,6 +13,14 @@ impl<K: AsBytes, V, const PREFIX_LEN: usize> ArtMap<K, V, PREFIX_LEN> {
     /// A mutable reference to the value of the entry with the bytes of this key, or None where there
     /// is none. The map ends with the same keys in the same places, and this entry with the value
     /// that the caller leaves there. Costs as much as [`get`](Self::get). Takes no memory.
+    ///
+    /// (from crates/art_map_tests/src/map/taken_entries.rt)
+    /// ```rust
+    /// if let Some(price) = prices.get_mut(b"tin") {
+    ///     *price = 100;
+    /// }
+    /// assert!(rt; prices.get(b"tin") == Some(&100));
+    /// ```
     pub fn get_mut<Q: AsBytes>(&mut self, key: &Q) -> Option<&mut V>
         ensures* writes_back { sem 𝓛 (LendsValueIn K.row V.row PREFIX_LEN.row K.text K.is_key
             self.entry (Q.text key.now) result) }

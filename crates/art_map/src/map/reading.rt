@@ -122,6 +122,14 @@ impl<K: AsBytes, V, const PREFIX_LEN: usize> ArtMap<K, V, PREFIX_LEN> {
 
     /// The keys, in ascending order of their bytes, and from the back in descending order. Costs as
     /// much as [`iter`](Self::iter). Takes no memory.
+    ///
+    /// (from crates/art_map_tests/src/map/taken_entries.rt)
+    /// ```rust
+    /// let mut names = prices.keys();
+    /// let Some(first) = names.next() else {
+    ///     panic!(rt; "no first key");
+    /// };
+    /// ```
     pub fn keys(&self) -> Keys<'_, K, V, PREFIX_LEN>
         ensures { result ≡ map (λ entry. entry.0) self.now }
     {
@@ -130,6 +138,12 @@ impl<K: AsBytes, V, const PREFIX_LEN: usize> ArtMap<K, V, PREFIX_LEN> {
 
     /// The values, in ascending order of the bytes of their keys, and from the back in descending
     /// order. Costs as much as [`iter`](Self::iter). Takes no memory.
+    ///
+    /// (from crates/art_map_tests/src/map/taken_entries.rt)
+    /// ```rust
+    /// let mut values = prices.values();
+    /// assert!(rt; values.next() == Some(&26) && values.next_back() == Some(&30));
+    /// ```
     pub fn values(&self) -> Values<'_, K, V, PREFIX_LEN>
         ensures { result ≡ map (λ entry. entry.1) self.now }
     {

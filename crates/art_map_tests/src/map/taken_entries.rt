@@ -1,0 +1,101 @@
+//! Tests of entries taken from the ends of a map, of keys and values alone, and of values changed or
+//! kept.
+use super::*;
+
+type Prices = ArtMap<StrKey<'static>, u32, 16>;
+
+fn insert_prices(prices: &mut Prices) -> Result<(), Fail> {
+    for (name, price) in [("tin", 50), ("titanium", 22), ("iron", 26), ("zinc", 30)] {
+        prices
+            .insert(StrKey::new(name), price)
+            .map_err(|fault| fault.refusal)?;
+    }
+    Ok(())
+}
+
+// The entry at the front, then that at the back.
+fn take_both_ends(rt: &impl Abort, prices: &mut Prices) -> Result<(), Fail> {
+    let Some((name, price)) = prices.pop_first()? else {
+        panic!(rt; "no first entry");
+    };
+    assert!(rt; name.get() == "iron" && price == 26);
+    let Some((name, price)) = prices.pop_last()? else {
+        panic!(rt; "no last entry");
+    };
+    assert!(rt; name.get() == "zinc" && price == 30);
+    assert!(rt; prices.len() == 2);
+    Ok(())
+}
+
+#[test]
+fn entries_are_taken_from_both_ends(rt: HostRuntime) -> Result<(), Fail> {
+    let mut prices = ArtMap::new(rt.alloc());
+    insert_prices(&mut prices)?;
+    take_both_ends(&rt, &mut prices)?;
+    prices.clear();
+    assert!(rt; prices.is_empty());
+    assert!(rt; prices.pop_first()?.is_none() && prices.pop_last()?.is_none());
+    Ok(())
+}
+
+fn double_a_price(rt: &impl Abort, prices: &mut Prices) {
+    if let Some(price) = prices.get_mut(b"tin") {
+        *price = 100;
+    }
+    assert!(rt; prices.get(b"tin") == Some(&100));
+    assert!(rt; prices.get(b"titanium") == Some(&22));
+    assert!(rt; prices.get_mut(b"ti").is_none());
+}
+
+#[test]
+fn a_value_is_changed_in_place(rt: HostRuntime) -> Result<(), Fail> {
+    let mut prices = ArtMap::new(rt.alloc());
+    insert_prices(&mut prices)?;
+    double_a_price(&rt, &mut prices);
+    Ok(())
+}
+
+fn keep_a_price(rt: &impl Abort, prices: &mut Prices) -> Result<(), Fail> {
+    let back = prices
+        .try_insert(StrKey::new("tin"), 1)
+        .map_err(|fault| fault.refusal)?;
+    assert!(rt; back.is_some());
+    assert!(rt; prices.get(b"tin") == Some(&50));
+    let back = prices
+        .try_insert(StrKey::new("gold"), 60)
+        .map_err(|fault| fault.refusal)?;
+    assert!(rt; back.is_none());
+    assert!(rt; prices.get(b"gold") == Some(&60));
+    Ok(())
+}
+
+#[test]
+fn a_present_value_is_kept(rt: HostRuntime) -> Result<(), Fail> {
+    let mut prices = ArtMap::new(rt.alloc());
+    insert_prices(&mut prices)?;
+    keep_a_price(&rt, &mut prices)
+}
+
+fn read_keys_and_values(rt: &impl Abort, prices: &Prices) {
+    let mut names = prices.keys();
+    let Some(first) = names.next() else {
+        panic!(rt; "no first key");
+    };
+    let Some(last) = names.next_back() else {
+        panic!(rt; "no last key");
+    };
+    assert!(rt; first.get() == "iron" && last.get() == "zinc");
+    assert!(rt; names.next().is_some() && names.next().is_some() && names.next().is_none());
+    let mut values = prices.values();
+    assert!(rt; values.next() == Some(&26) && values.next_back() == Some(&30));
+    assert!(rt; values.next() == Some(&50) && values.next() == Some(&22));
+    assert!(rt; values.next().is_none());
+}
+
+#[test]
+fn keys_and_values_are_read_alone(rt: HostRuntime) -> Result<(), Fail> {
+    let mut prices = ArtMap::new(rt.alloc());
+    insert_prices(&mut prices)?;
+    read_keys_and_values(&rt, &prices);
+    Ok(())
+}
