@@ -7,7 +7,7 @@ use std::io::Read;
 use std::time::CpuClock;
 
 /// What a run does with the keys.
-#[derive(Clone, Copy, PartialEq, Eq)]
+#[derive(Clone, Copy)]
 pub(crate) enum Mode {
     /// Runs the calls, and prints what they found.
     Check,
@@ -45,62 +45,47 @@ pub(crate) fn run_calls<K: AsBytes + Ord + Copy>(
     shape: &str,
     keys: &mut [K],
 ) -> io::Result<()> {
-    let alloc = rt.alloc();
     let (entries, misses) = keys.split_at_mut(keys.len() / 2);
-    let mut tree = Tree::<K>::new(alloc);
-    let mut map = Map::<K>::new(alloc);
     shuffle(entries, 1);
     shuffle(misses, 2);
     match mode {
-        Mode::Check | Mode::Time => {
-            let is_timed = mode == Mode::Time;
-            compare(
-                rt,
-                is_timed,
-                shape,
-                Call::Insert,
-                (&mut tree, &mut map),
-                entries,
-            )?;
-            shuffle(entries, 3);
-            compare(
-                rt,
-                is_timed,
-                shape,
-                Call::Get,
-                (&mut tree, &mut map),
-                entries,
-            )?;
-            compare(
-                rt,
-                is_timed,
-                shape,
-                Call::Miss,
-                (&mut tree, &mut map),
-                misses,
-            )?;
-            compare(
-                rt,
-                is_timed,
-                shape,
-                Call::Walk,
-                (&mut tree, &mut map),
-                entries,
-            )?;
-            shuffle(entries, 4);
-            compare(
-                rt,
-                is_timed,
-                shape,
-                Call::Remove,
-                (&mut tree, &mut map),
-                entries,
-            )
-        }
-        Mode::HoldTree => hold(rt, answers_of(Call::Insert, &mut tree, entries)),
-        Mode::HoldMap => hold(rt, answers_of(Call::Insert, &mut map, entries)),
+        Mode::Check => compare_both(rt, false, shape, entries, misses),
+        Mode::Time => compare_both(rt, true, shape, entries, misses),
+        Mode::HoldTree => hold_tree(rt, entries),
+        Mode::HoldMap => hold_map(rt, entries),
         Mode::HoldNothing => hold(rt, Answers::new()),
     }
+}
+
+// Makes a tree and a map, and runs all calls on them.
+fn compare_both<K: AsBytes + Ord + Copy>(
+    rt: &HostRuntime,
+    is_timed: bool,
+    shape: &str,
+    entries: &mut [K],
+    misses: &[K],
+) -> io::Result<()> {
+    let mut tree = Tree::<K>::new(rt.alloc());
+    let mut map = Map::<K>::new(rt.alloc());
+    compare_all(rt, is_timed, shape, (&mut tree, &mut map), entries, misses)
+}
+
+// Runs all calls, each on the tree and on the map.
+fn compare_all<K: AsBytes + Ord + Copy>(
+    rt: &HostRuntime,
+    is_timed: bool,
+    shape: &str,
+    (tree, map): (&mut Tree<K>, &mut Map<K>),
+    entries: &mut [K],
+    misses: &[K],
+) -> io::Result<()> {
+    compare(rt, is_timed, shape, Call::Insert, (tree, map), entries)?;
+    shuffle(entries, 3);
+    compare(rt, is_timed, shape, Call::Get, (tree, map), entries)?;
+    compare(rt, is_timed, shape, Call::Miss, (tree, map), misses)?;
+    compare(rt, is_timed, shape, Call::Walk, (tree, map), entries)?;
+    shuffle(entries, 4);
+    compare(rt, is_timed, shape, Call::Remove, (tree, map), entries)
 }
 
 // Runs the calls on the tree and then on the map, and prints a line. Fails where they differ.
@@ -135,6 +120,18 @@ fn name_of(call: Call) -> &'static str {
         Call::Walk => "walk",
         Call::Remove => "remove",
     }
+}
+
+// Holds the entries in a tree.
+fn hold_tree<K: AsBytes + Copy>(rt: &HostRuntime, entries: &[K]) -> io::Result<()> {
+    let mut tree = Tree::<K>::new(rt.alloc());
+    hold(rt, insert_all(&mut tree, entries))
+}
+
+// Holds the entries in a map.
+fn hold_map<K: Ord + Copy>(rt: &HostRuntime, entries: &[K]) -> io::Result<()> {
+    let mut map = Map::<K>::new(rt.alloc());
+    hold(rt, insert_all(&mut map, entries))
 }
 
 // Prints how many entries there are not, and waits for the end of the input.
