@@ -15,7 +15,6 @@ use Rattle.art_tree.specs.declared.insert.place.Fork.{Fork}
 use Rattle.art_tree.specs.declared.insert.place.Place.{Place}
 use Rattle.art_tree.specs.declared.insert.place.Place.TheVariants as places
 use Rattle.art_tree.specs.declared.insert.place.Spot.{Spot}
-use Rattle.art_tree.specs.declared.insert.place.Visited.{Visited}
 
 module _ {H : Type 0} where
   -- the node above the place, with the byte of the place
@@ -41,6 +40,10 @@ module _ {H : Type 0} where
     toward_under byte rest NoBranch tree = tree
     toward_under byte rest (Branch b below others) tree =
         if b == byte then toward rest below else toward_under byte rest others tree
+
+  -- the child under the byte of the rest of a key after as many bytes as the prefix has
+  abbrev pub child_after : nodes.Inner H → List ℕ → Option H
+  child_after node rest = option_and_then (child_at node.children) (slice_get rest node.prefix_len)
 
   -- one of the leaves has this text
   abbrev pub HasLeafText : Tree H → List ℕ → Type 0
@@ -89,12 +92,6 @@ pub record IsSpotIn {K V : Type 0} {P : ℕ} (text : K → List ℕ) (arena : Ar
 pub record IsDescentIn {K V : Type 0} {P : ℕ} (text : K → List ℕ) (arena : ArenaOf K V P) (tree : Tree (OpaqueNodePtr K V P)) (key : List ℕ) (spot : Spot K V P) (known : Option (List ℕ)) : Type 0 where
   pub spot_in : IsSpotIn text arena tree key spot
   pub below : IfSome known (HasLeafText (toward (drop spot.depth key) spot_in.at.part))
-
--- what a visit for the rest of a key reads of an inner node
-pub record IsVisited {K V : Type 0} {P : ℕ} (node : nodes.Inner (OpaqueNodePtr K V P)) (rest : List ℕ) (visited : Visited K V P) : Type 0 where
-  pub prefix_len : visited.prefix_len ≡ node.prefix_len
-  pub stored : visited.stored_prefix.now ≡ node.stored
-  pub child : visited.child ≡ option_and_then (child_at node.children) (slice_get rest node.prefix_len)
 
 module _ {K V : Type 0} {P : ℕ} (tree : Tree (OpaqueNodePtr K V P)) (key : List ℕ) where
   -- the key belongs to this place of the tree

@@ -211,6 +211,40 @@ fn remove_from<K: AsBytes, V, const PREFIX_LEN: usize>(
     }
 }
 
+// Removes the leaf at the end of a path from the tree that an arena holds. Returns the root that is
+// left, if there is one, and the entry.
+fn remove_leaf<K: AsBytes, V, const PREFIX_LEN: usize>(
+    arena: &mut NodeArena<K, V, PREFIX_LEN>,
+    root: OpaqueNodePtr<K, V, PREFIX_LEN>,
+    leaf: NodePtr<PREFIX_LEN, LeafNode<K, V, PREFIX_LEN>>,
+    path: TreePath<K, V, PREFIX_LEN>,
+) -> Result<(Option<OpaqueNodePtr<K, V, PREFIX_LEN>>, (K, V)), AllocError>
+    requires place { (tree : _) × IsAlone K.text arena.old root tree ×
+        IsPathTo tree (leaf_pointer leaf) path }
+    ensures removed { (node : _) → held arena.old (leaf_pointer leaf) ≡ HeldLeaf node →
+        IfOk result (λ (root, entry). IsArt K.text arena.new root ×
+        IsLeft K.text arena.old arena.new (K.text (leaf_key node)) ×
+        (entry_at K.text arena.old (K.text (leaf_key node)) ≡ Some entry)) }
+    ensures refused { (node : _) → held arena.old (leaf_pointer leaf) ≡ HeldLeaf node →
+        OnErr result (NeedsSmallerNode K.text arena.old (K.text (leaf_key node))) }
+    ensures nodes_kept { OnErr result (SameNodes arena.old arena.new) }
+    ensures takes_no_memory { (node : _) → held arena.old (leaf_pointer leaf) ≡ HeldLeaf node →
+        (¬ NeedsSmallerNode K.text arena.old (K.text (leaf_key node))) →
+        FreesOneEach arena.old arena.new }
+    ensures no_room { (node : _) → held arena.old (leaf_pointer leaf) ≡ HeldLeaf node →
+        OnErr result ((kind : _) ×
+        LacksRoomToRemove K.text arena.old (Some root) (K.text (leaf_key node)) kind) }
+    ensures memory { (node : _) → held arena.old (leaf_pointer leaf) ≡ HeldLeaf node →
+        GrowsOnlyWhere arena.old arena.new
+        (LacksRoomToRemove K.text arena.old (Some root) (K.text (leaf_key node))) }
+{
+    let Some(spot) = leaf_spot(path) else {
+        return Ok((None, remove_root(arena, leaf)));
+    };
+    let (root, entry) = remove_from(arena, root, spot, leaf)?;
+    Ok((Some(root), entry))
+}
+
 /// Removes the entry with these key bytes from the tree that an arena holds, if there is one, and
 /// returns the root that is left, if there is one, and the entry.
 pub(crate) fn remove_entry<K: AsBytes, V, const PREFIX_LEN: usize>(
@@ -240,9 +274,6 @@ pub(crate) fn remove_entry<K: AsBytes, V, const PREFIX_LEN: usize>(
     let Some((leaf, path)) = find_leaf(&mut reader, root, key) else {
         return Ok(None);
     };
-    let Some(spot) = leaf_spot(path) else {
-        return Ok(Some((None, remove_root(arena, leaf))));
-    };
-    let (root, entry) = remove_from(arena, root, spot, leaf)?;
-    Ok(Some((Some(root), entry)))
+    let removed = remove_leaf(arena, root, leaf, path)?;
+    Ok(Some(removed))
 }

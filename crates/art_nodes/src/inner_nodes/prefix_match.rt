@@ -101,7 +101,7 @@ pub struct ExplicitMismatch<K, V, const PREFIX_LEN: usize> {
 ///
 /// (from crates/art_tree_tests/src/arena/full_prefix.rt)
 /// ```rust
-/// let (_prefix, _) = node.read_full_prefix(arena, depth);
+/// let (prefix, leaf) = node.read_full_prefix(arena, depth);
 /// ```
 pub type NodePrefix<'a, K, V, const PREFIX_LEN: usize> = (
     &'a [u8],

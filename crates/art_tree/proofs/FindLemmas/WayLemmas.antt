@@ -48,8 +48,6 @@ pub record IsHere {K V : Type 0} {P : ℕ} (text : K → List ℕ) (arena : Aren
 drop-front : (path front key : List ℕ) (depth : ℕ) → length path ≡ depth → IsPrefixOf (path ++ front) key → IsPrefixOf front (drop depth key)
 drop-front path front key depth deep (rest, is) = (rest, subst (λ m. drop m key ≡ front ++ rest) deep (ap (drop (length path)) (is ∙ append_assoc path front rest) ∙ drop-append_seam path (front ++ rest)))
 
-module _ {K V : Type 0} {P : ℕ} where
-
 module _ {K V : Type 0} {P : ℕ} (text : K → List ℕ) (arena : ArenaOf K V P) (whole : Tree (OpaqueNodePtr K V P)) (key : List ℕ) where
   pub here-start : (root : OpaqueNodePtr K V P) (search : TreePathSearch K V P) (budget : ℕ) → IsTreeIn text arena root whole → HasVisited search [] → IsHere text arena whole key root 0 search budget budget
   here-start root search budget is empty = record { part = whole; path = []; steps = []; at_root = is.at_root; stands = is.stands; sound = is.sound; deep = refl; same_scan = refl; same_met = omega arith; way_on = λ more pointer way. way; remembered = empty; counted = omega arith; few = omega arith }

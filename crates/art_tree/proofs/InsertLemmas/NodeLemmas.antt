@@ -18,15 +18,12 @@ use Rattle.art_arena.specs.Arena.{ArenaOf, Held, HeldInner, HeldLeaf, Nothing, h
 use Rattle.art_tree.specs.Edits.{HasRoomToGrow, IsMoved, two_children}
 use Rattle.art_tree.specs.Nodes.{IsReplaced}
 
--- the sizes in memory of a pointer to a leaf, of a slice, of what a visit reads and of a spot
+-- the sizes in memory of a pointer to a leaf, of a slice and of a spot
 pub leaf-pointer-fits : 8 < 2 ^ 63
 leaf-pointer-fits = lit< tt
 
 pub slice-fits : 16 < 2 ^ 63
 slice-fits = lit< tt
-
-pub visited-fits : 48 < 2 ^ 63
-visited-fits = lit< tt
 
 pub spot-fits : 56 < 2 ^ 63
 spot-fits = lit< tt

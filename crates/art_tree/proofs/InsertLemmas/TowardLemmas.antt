@@ -16,7 +16,7 @@ use Rattle.art_tree.specs.Contexts.{join}
 use Rattle.art_tree.specs.Places.{HasLeafText, toward, toward_under}
 use Rattle.art_tree.proofs.SharedLemmas.ExchangedSubtree.{sound-split}
 use Rattle.art_tree.proofs.SharedLemmas.ParentLemmas.{inner-kind}
-use Rattle.art_tree.proofs.InsertLemmas.NodeLemmas.{one-inner}
+use Rattle.art_arena.proofs.StandingLaws.{one-inner}
 use Rattle.art_tree.proofs.LoadLemmas.PlacedTrees.{stand-split}
 
 -- a child that a byte leads to: the rest has that byte

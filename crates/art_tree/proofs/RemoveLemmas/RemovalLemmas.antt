@@ -167,25 +167,22 @@ parent-there text arena root tree alone pointer parent byte higher hangs =
     let stands = stands-part text arena arena hangs.upper part (subst (StandsIn text arena) (sym hangs.whole) alone.is_tree.stands) in
     (stands.0, stands.1)
 
--- the path leads to the leaf at the pointer, which has the key and no other text
-pub record IsFound {K V : Type 0} {P : ℕ} (tree : Tree (OpaqueNodePtr K V P)) (pointer : OpaqueNodePtr K V P) (key : List ℕ) (path : TreePath K V P) : Type 0 where
+-- the path leads to the leaf at the pointer, which is held and has the key
+pub record IsFound {K V : Type 0} {P : ℕ} (text : K → List ℕ) (arena : ArenaOf K V P) (tree : Tree (OpaqueNodePtr K V P)) (pointer : OpaqueNodePtr K V P) (key : List ℕ) (path : TreePath K V P) : Type 0 where
   pub way : IsPathTo tree pointer path
-  pub has : (x : List ℕ) → Contains (leaves tree) (pointer, x) → x ≡ key
+  pub leaf : LeafNode K V P
+  pub is_held : held arena pointer ≡ HeldLeaf leaf
+  pub has : text (leaf_key leaf) ≡ key
 
 -- so it is with what a search finds in the arena that it reads
 pub is-found : {K V : Type 0} {P : ℕ} (text : K → List ℕ) (arena seen : ArenaOf K V P) → seen ≡ arena → (root : OpaqueNodePtr K V P) (tree : Tree (OpaqueNodePtr K V P)) → IsTreeIn text arena root tree → (leaf : NodePtr P (LeafNode K V P)) (path : TreePath K V P) (key : List ℕ)
-    → EachTree text seen root (λ tree. scan tree key ≡ (leaf_pointer leaf, key) ∷ []) → EachTree text seen root (λ tree. IsPathTo tree (leaf_pointer leaf) path) → IsFound tree (leaf_pointer leaf) key path
+    → EachTree text seen root (λ tree. scan tree key ≡ (leaf_pointer leaf, key) ∷ []) → EachTree text seen root (λ tree. IsPathTo tree (leaf_pointer leaf) path) → IsFound text arena tree (leaf_pointer leaf) key path
 is-found text arena seen same root tree is leaf path key answer way =
     let at = leaf_pointer leaf in
     let read = subst (λ a. IsTreeIn text a root tree) (sym same) is in
     let inside : Contains (leaves tree) (at, key) = scan-in (leaves tree) at key (subst (λ all. Contains all (at, key)) (sym (answer tree read)) (0, omega arith, refl)) in
-    record {
-      way = way tree read;
-      has = λ x there.
-          let (one, holds, has) = leaf-held-in text arena tree is.stands at x there in
-          let (other, here, had) = leaf-held-in text arena tree is.stands at key inside in
-          sym has ∙ ap (λ l. text (leaf_key l)) (one-leaf (held arena at) one other holds here) ∙ had;
-    }
+    let (found, there, has) = leaf-held-in text arena tree is.stands at key inside in
+    record { way = way tree read; leaf = found; is_held = there; has = has }
 
 -- a leaf at a spot of a tree is one of its leaves
 pub hangs-in : {H : Type 0} {tree : Tree H} {pointer parent : H} {byte : ℕ} {higher : Option (H × ℕ)} (hangs : HangsUnder tree pointer parent byte higher) → Contains (leaves tree) (pointer, hangs.text)

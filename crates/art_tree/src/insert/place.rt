@@ -1,16 +1,13 @@
 //! Insertion: the place of a key in a tree.
-ghost use Rattle.std.specs.Prelude.{◌≡◌, ◌≢◌, ◌<◌, length, drop, option_copied, IfSome, IfNone, IfOk, IfErr};
-ghost use Rattle.art_header.specs.declared.node_type.NodeType.TheVariants.{Leaf};
-ghost use Rattle.art_nodes.specs.Inner.{Inner};
-ghost use Rattle.art_nodes.specs.Pointers.{node_kind};
-ghost use Rattle.art_arena.specs.Arena.{held, HeldInner, Nothing};
+ghost use Rattle.std.specs.Prelude.{◌≡◌, ◌<◌, length, drop, option_copied, IfSome, IfNone, IfOk, IfErr};
+ghost use Rattle.art_arena.specs.Arena.{held, HeldInner};
 ghost use Rattle.art_arena.specs.Standing.{TreeAt};
-ghost use Rattle.art_tree.specs.Places.{Belongs, HasLeafText, IsDescentIn, IsSpotIn, IsVisited, prefix_of, toward};
+ghost use Rattle.art_tree.specs.Places.{Belongs, HasLeafText, IsDescentIn, IsSpotIn, child_after, prefix_of, toward};
 ghost use Rattle.art_tree.specs.Search.{HasTree, EachTree, leaf_pointer};
 
-use art_arena::{AnyRef, End, NodeArena, end_leaf};
+use art_arena::{End, NodeArena, end_leaf};
 use art_bytes::AsBytes;
-use art_nodes::{InnerNodeCommon, LeafNode, NodePtr, OpaqueNodePtr, common_prefix_len};
+use art_nodes::{InnerNodeRead, LeafNode, NodePtr, OpaqueNodePtr, common_prefix_len};
 
 /// A node of a tree: how many bytes lead to it, and its parent, with the byte.
 #[derive_where(Clone, Copy)]
@@ -47,50 +44,16 @@ pub(crate) enum Place<K, V, const PREFIX_LEN: usize> {
     },
 }
 
-// What a visit of an inner node reads for the rest of a key: the node's prefix as far as it is
-// stored, and the child under the byte of the rest after as many bytes as the prefix has.
-#[derive_where(Clone, Copy)]
-struct Visited<'a, K, V, const PREFIX_LEN: usize> {
-    prefix_len: usize,
-    stored_prefix: &'a [u8],
-    child: Option<OpaqueNodePtr<K, V, PREFIX_LEN>>,
-}
-
-fn visit_in<'a, K, V, const PREFIX_LEN: usize, N: InnerNodeCommon<K, V, PREFIX_LEN>>(
-    node: &'a N,
+// The child of an inner node to which the rest of a key goes, whatever the prefix.
+fn child_after_prefix<K, V, const PREFIX_LEN: usize, N: InnerNodeRead<K, V, PREFIX_LEN>>(
+    node: &N,
     rest: &[u8],
-) -> Visited<'a, K, V, PREFIX_LEN>
-    ensures { IsVisited (N.inner node.now) rest.now result }
+) -> Option<OpaqueNodePtr<K, V, PREFIX_LEN>>
+    ensures { result ≡ child_after (N.inner node.now) rest.now }
 {
-    let prefix_len = node.prefix_len();
-    let child = match rest.get(prefix_len) {
+    match rest.get(node.prefix_len()) {
         Some(byte) => node.lookup_child(*byte),
         None => None,
-    };
-    Visited {
-        prefix_len,
-        stored_prefix: node.stored_prefix(),
-        child,
-    }
-}
-
-// The same for the inner node at this pointer. None for a leaf.
-fn visit<'a, K, V, const PREFIX_LEN: usize>(
-    arena: &'a NodeArena<K, V, PREFIX_LEN>,
-    pointer: OpaqueNodePtr<K, V, PREFIX_LEN>,
-    rest: &[u8],
-) -> Option<Visited<'a, K, V, PREFIX_LEN>>
-    requires { held arena.now pointer ≢ Nothing }
-    ensures inner { IfSome result (λ visited. (node : Inner _) ×
-        (held arena.now pointer ≡ HeldInner node) × IsVisited node rest.now visited) }
-    ensures leaf { IfNone result (node_kind pointer ≡ Leaf) }
-{
-    match arena.node_ref(pointer) {
-        AnyRef::Node4(node) => Some(visit_in(node, rest)),
-        AnyRef::Node16(node) => Some(visit_in(node, rest)),
-        AnyRef::Node48(node) => Some(visit_in(node, rest)),
-        AnyRef::Node256(node) => Some(visit_in(node, rest)),
-        AnyRef::LeafNode(_) => None,
     }
 }
 
@@ -109,9 +72,9 @@ fn child_toward<'b, K: AsBytes, V, const PREFIX_LEN: usize>(
     ensures none { (found : TreeAt K.text arena.now pointer) →
         IfNone result (toward rest.now found.tree ≡ found.tree) }
 {
-    let visited = visit(arena, pointer, rest)?;
-    let child = visited.child?;
-    Some((child, &rest[visited.prefix_len + 1..]))
+    let node = arena.node_ref(pointer).inner()?;
+    let child = child_after_prefix(&node, rest)?;
+    Some((child, &rest[node.prefix_len() + 1..]))
 }
 
 // The key bytes of a leaf in the direction of the rest of a key: below the node where a search for
@@ -162,15 +125,21 @@ fn text_below_spot<'a, K: AsBytes, V, const PREFIX_LEN: usize>(
 
 // The whole prefix of the inner node at a spot, from the node where it stores all of it, and else
 // from the key bytes of a leaf below, which are returned too.
-fn whole_prefix<'a, K: AsBytes, V, const PREFIX_LEN: usize>(
+fn whole_prefix<
+    'n,
+    'a: 'n,
+    K: AsBytes,
+    V,
+    const PREFIX_LEN: usize,
+    N: InnerNodeRead<K, V, PREFIX_LEN>,
+>(
     arena: &'a NodeArena<K, V, PREFIX_LEN>,
+    node: &'n N,
     spot: Spot<K, V, PREFIX_LEN>,
     key: &[u8],
-    visited: Visited<'a, K, V, PREFIX_LEN>,
     known: Option<&'a [u8]>,
-) -> (&'a [u8], Option<&'a [u8]>)
-    requires visited { (node : Inner _) × (held arena.now spot.node ≡ HeldInner node) ×
-        IsVisited node (drop spot.depth key.now) visited }
+) -> (&'n [u8], Option<&'a [u8]>)
+    requires node { held arena.now spot.node ≡ HeldInner (N.inner node.now) }
     requires spot { (tree : _) ×
         IsDescentIn K.text arena.now tree key.now spot (option_copied known) }
     ensures prefix { (tree : _)
@@ -181,9 +150,9 @@ fn whole_prefix<'a, K: AsBytes, V, const PREFIX_LEN: usize>(
         IfSome (option_copied result.1)
         (HasLeafText (toward (drop spot.depth key.now) on.spot_in.at.part)) }
 {
-    let prefix_len = visited.prefix_len;
+    let prefix_len = node.prefix_len();
     if prefix_len <= PREFIX_LEN {
-        return (visited.stored_prefix, known);
+        return (node.stored_prefix(), known);
     }
     let text = text_below_spot(arena, spot, key, known);
     (&text[spot.depth..spot.depth + prefix_len], Some(text))
@@ -210,10 +179,10 @@ fn next_spot<'a, K: AsBytes, V, const PREFIX_LEN: usize>(
         IfErr result (Belongs tree key.now) }
 {
     let rest = &key[spot.depth..];
-    let Some(visited) = visit(arena, spot.node, rest) else {
+    let Some(node) = arena.node_ref(spot.node).inner() else {
         return Err(place_at_leaf(arena, spot.node.cast().unwrap(), spot, key));
     };
-    let (prefix, text) = whole_prefix(arena, spot, key, visited, known);
+    let (prefix, text) = whole_prefix(arena, &node, spot, key, known);
     let matched = common_prefix_len(prefix, rest);
     let index = spot.depth + matched;
     if index == key.len() {
@@ -228,7 +197,7 @@ fn next_spot<'a, K: AsBytes, V, const PREFIX_LEN: usize>(
         };
         return Err(Place::Fork { spot, fork });
     }
-    match visited.child {
+    match child_after_prefix(&node, rest) {
         Some(child) => {
             let next = Spot {
                 node: child,

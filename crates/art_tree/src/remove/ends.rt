@@ -1,17 +1,16 @@
 //! Removal of the entry at one end of a tree.
-ghost use Rattle.std.specs.Prelude.{◌≡◌, Some, IfOk, OnErr};
-ghost use Rattle.art_nodes.specs.Leaf.{leaf_key};
-ghost use Rattle.art_arena.specs.Arena.{held, HeldLeaf, SameNodes};
+ghost use Rattle.std.specs.Prelude.{Some, IfOk, OnErr};
+ghost use Rattle.art_arena.specs.Arena.{SameNodes};
 ghost use Rattle.art_arena.specs.Ends.{IsAtEnd};
 ghost use Rattle.art_arena.specs.Trees.{leaves};
 ghost use Rattle.art_tree.specs.Art.{IsAlone, IsArt};
-ghost use Rattle.art_tree.specs.Dictionary.{entry_at, SameEntries};
+ghost use Rattle.art_tree.specs.Dictionary.{SameEntries};
 ghost use Rattle.art_tree.specs.Ends.{IsEndEntry, EndMeets};
 ghost use Rattle.art_tree.specs.Removal.{IsLeft, NeedsSmallerNode};
 ghost use Rattle.art_tree.specs.Room.{FreesOneEach, GrowsOnlyWhere, LacksRoomToRemove};
 ghost use Rattle.art_tree.specs.Search.{IsPathTo, leaf_pointer};
 
-use super::{leaf_spot, remove_from, remove_root};
+use super::remove_leaf;
 use crate::find::find_leaf;
 use crate::laws::{no_text_begins_another, texts_ascend};
 use crate::path::TreePath;
@@ -42,40 +41,6 @@ fn end_place<K: AsBytes, V, const PREFIX_LEN: usize>(
         unreachable!()
     };
     (leaf, path)
-}
-
-// Removes the leaf at the end of a path from the tree that an arena holds. Returns the root that is
-// left, if there is one, and the entry.
-fn remove_leaf<K: AsBytes, V, const PREFIX_LEN: usize>(
-    arena: &mut NodeArena<K, V, PREFIX_LEN>,
-    root: OpaqueNodePtr<K, V, PREFIX_LEN>,
-    leaf: NodePtr<PREFIX_LEN, LeafNode<K, V, PREFIX_LEN>>,
-    path: TreePath<K, V, PREFIX_LEN>,
-) -> Result<(Option<OpaqueNodePtr<K, V, PREFIX_LEN>>, (K, V)), AllocError>
-    requires place { (tree : _) × IsAlone K.text arena.old root tree ×
-        IsPathTo tree (leaf_pointer leaf) path }
-    ensures removed { (node : _) → held arena.old (leaf_pointer leaf) ≡ HeldLeaf node →
-        IfOk result (λ (root, entry). IsArt K.text arena.new root ×
-        IsLeft K.text arena.old arena.new (K.text (leaf_key node)) ×
-        (entry_at K.text arena.old (K.text (leaf_key node)) ≡ Some entry)) }
-    ensures refused { (node : _) → held arena.old (leaf_pointer leaf) ≡ HeldLeaf node →
-        OnErr result (NeedsSmallerNode K.text arena.old (K.text (leaf_key node))) }
-    ensures nodes_kept { OnErr result (SameNodes arena.old arena.new) }
-    ensures takes_no_memory { (node : _) → held arena.old (leaf_pointer leaf) ≡ HeldLeaf node →
-        (¬ NeedsSmallerNode K.text arena.old (K.text (leaf_key node))) →
-        FreesOneEach arena.old arena.new }
-    ensures no_room { (node : _) → held arena.old (leaf_pointer leaf) ≡ HeldLeaf node →
-        OnErr result ((kind : _) ×
-        LacksRoomToRemove K.text arena.old (Some root) (K.text (leaf_key node)) kind) }
-    ensures memory { (node : _) → held arena.old (leaf_pointer leaf) ≡ HeldLeaf node →
-        GrowsOnlyWhere arena.old arena.new
-        (LacksRoomToRemove K.text arena.old (Some root) (K.text (leaf_key node))) }
-{
-    let Some(spot) = leaf_spot(path) else {
-        return Ok((None, remove_root(arena, leaf)));
-    };
-    let (root, entry) = remove_from(arena, root, spot, leaf)?;
-    Ok((Some(root), entry))
 }
 
 /// Removes the entry at one end of the tree that an arena holds. Returns the root that is left, if

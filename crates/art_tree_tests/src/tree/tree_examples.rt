@@ -27,7 +27,8 @@ fn table<K: AsBytes + Drop, V: Drop, const PREFIX_LEN: usize>(
     arena: &mut NodeArena<K, V, PREFIX_LEN>,
     entries: Vec<(K, V)>,
 ) -> Option<OpaqueNodePtr<K, V, PREFIX_LEN>>
-    ensures { IfSome result (λ root. (tree : _) × IsTreeIn K.text arena.new root tree ×
+    ensures loaded { IfSome result (λ root. HasTree K.text arena.new root) }
+    ensures texts { IfSome result (λ root. (tree : _) × IsTreeIn K.text arena.new root tree ×
         (texts tree ≡ texts_of K.text entries.items)) }
 {
     laws::a_loaded_tree_has_the_texts_of_its_entries::<K, V, PREFIX_LEN>();

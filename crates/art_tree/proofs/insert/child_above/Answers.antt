@@ -21,4 +21,4 @@ pub returns : goal.returns
 returns g c = λ node is.
     let there = c.node_ref.ensures.node ∙ inner-there (shown c.node_ref.result) c.inner.result c.inner.ensures.node c.in_ok-node.node c.in_ok-node.was in
     let same = one-inner (held c.args.arena.now c.args.pointer) (inner_shown c.in_ok-node.node) node there is in
-    subst (λ n. _ ≡ option_map (λ pair. pair.1) (first_pair (pairs_within n.children (Excluded c.args.byte) Unbounded))) same (ap (option_map (λ pair. pair.1)) (sym c.in_ok-child.was ∙ c.child_above.ensures))
+    ap (option_map (λ pair. pair.1)) (sym c.in_ok-child.was ∙ c.child_above.ensures) ∙ ap (λ n. option_map (λ pair. pair.1) (first_pair (pairs_within n.children (Excluded c.args.byte) Unbounded))) same

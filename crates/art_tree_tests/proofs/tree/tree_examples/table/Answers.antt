@@ -6,7 +6,7 @@ some-of-ok : {T E : Type 0} {P R : T → Type 0} (r : Result T E) (o : Option T)
 some-of-ok {R = R} (Ok x) o is p gives = subst (λ s. IfSome s R) (sym is) (gives x p)
 some-of-ok {R = R} (Err e) o is p gives = subst (λ s. IfSome s R) (sym is) tt
 
-pub returns : goal.returns
-returns g c =
+pub returns-clause-texts : goal.returns-clause-texts
+returns-clause-texts g c =
     some-of-ok c.load.result c.ok.result c.ok.ensures.value c.load.ensures.loaded (λ root loaded.
     (loaded.0, loaded.1.is_tree, c.a_loaded_tree_has_the_texts_of_its_entries.ensures c.args.arena.now c.load.new.arena c.args.entries.items root loaded.0 loaded.1))

@@ -13,7 +13,7 @@ use Rattle.art_tree.proofs.RemoveLemmas.EndPlaces.{held-text}
 use Rattle.art_tree.proofs.RemoveLemmas.RemovalLemmas.{hangs-in}
 use Rattle.art_tree.proofs.RemoveLemmas.WayContexts.{leaf-root}
 use Rattle.art_tree.proofs.InsertLemmas.NodeLemmas.{leaf-pointer-fits, spot-fits}
-use Rattle.art_tree.proofs.remove.ends.remove_leaf.Goals as goal
+use Rattle.art_tree.proofs.remove.remove_leaf.Goals as goal
 
 pub remove_root-requires : goal.remove_root-requires
 remove_root-requires g c =

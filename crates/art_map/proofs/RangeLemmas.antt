@@ -1,0 +1,272 @@
+-- The leaves between two places in the order of texts, and what they hold.
+use Rattle.std.proofs.Common.{◌≡◌, ◌≢◌, ◌∙◌, ℕ, ◌⊎◌, cond, Bool, true, false, not, ◌&&◌, List, [], ◌∷◌, ◌++◌, map, filter, All, AllPairs, Contains, Option, Some, None, refl, sym, ap, subst, inl, inr, arith, get_or, append_assoc, append-nil}
+use Rattle.std.specs.Option.{option_map}
+use Rattle.std.specs.declared.cmp.Ordering.TheVariants.{Less}
+use Rattle.std.proofs.lemmas.List.{map-append}
+use Rattle.std.proofs.lemmas.List.Elements.{All-nil, All-cons, All-head, All-tail, All-append, All-weaker, Contains-append_right, filter-append, filter_map-append}
+use Rattle.art_bytes.specs.Text.{text_order}
+use Rattle.art_nodes.specs.Leaf.{leaf_key, leaf_value}
+use Rattle.art_nodes.specs.Pointers.{opaque_key, slab_key}
+use Rattle.art_nodes.specs.declared.pointers.NodePtr.{NodePtr}
+use Rattle.art_nodes.specs.declared.pointers.OpaqueNodePtr.{OpaqueNodePtr}
+use Rattle.art_nodes.specs.declared.leaf_node.LeafNode.{LeafNode}
+use Rattle.art_arena.specs.Arena.{ArenaOf, Held, HeldLeaf, Nothing, held}
+use Rattle.art_arena.specs.Links.{AreDistinct, Spells, SpellsAfter, leaf_at}
+use Rattle.art_arena.specs.Trees.{Tree, leaves, texts}
+use Rattle.art_tree.specs.Art.{IsAlone}
+use Rattle.art_tree.specs.Dictionary.{entry_at, HasEntry}
+use Rattle.art_tree.specs.Entries.{entries_of, AreEntries}
+use Rattle.art_tree.specs.Search.{leaf_pointer}
+use Rattle.art_map.specs.Cuts.{is_before, is_between, AreOn, IsFirstAfter, IsLastBefore}
+use Rattle.art_map.specs.Runs.{EndsIn, LeadsOver, leaf_entry, entries_under, run_of}
+use Rattle.art_map.specs.declared.cut.Side.{Side}
+use Rattle.art_map.proofs.EntryLemmas.{AllHold, entries-of-leaves, keys_of, leaves-hold}
+use Rattle.art_map.proofs.RunLemmas.{ends-push, entries-cons, run-is}
+
+pub keys-append : {K V : Type 0} {P : ℕ} (a b : List (OpaqueNodePtr K V P × List ℕ)) → keys_of (a ++ b) ≡ keys_of a ++ keys_of b
+keys-append a b = ap (map opaque_key) (map-append (λ leaf. leaf.0) a b) ∙ map-append opaque_key (map (λ leaf. leaf.0) a) (map (λ leaf. leaf.0) b)
+
+-- a list is empty or has a last member
+pub snoc : {X : Type 0} (xs : List X) → (xs ≡ []) ⊎ ((ys : List X) × (y : X) × (xs ≡ ys ++ y ∷ []))
+snoc [] = inl refl
+snoc (x ∷ xs) = elim (snoc xs) [
+  | inl none ↦ inr ([], x, ap (λ zs. x ∷ zs) none)
+  | inr (ys, y, is) ↦ inr (x ∷ ys, y, ap (λ zs. x ∷ zs) is)
+]
+
+all-left : {X : Type 0} (Q : X → Type 0) (xs ys : List X) → All Q (xs ++ ys) → All Q xs
+all-left Q [] ys all = All-nil Q
+all-left Q (x ∷ xs) ys all = All-cons Q x xs (All-head Q x (xs ++ ys) all) (all-left Q xs ys (All-tail Q x (xs ++ ys) all))
+
+all-right : {X : Type 0} (Q : X → Type 0) (xs ys : List X) → All Q (xs ++ ys) → All Q ys
+all-right Q [] ys all = all
+all-right Q (x ∷ xs) ys all = all-right Q xs ys (All-tail Q x (xs ++ ys) all)
+
+-- of two cuts of one list, what is after the one and not before the other
+align : {X : Type 0} (Q : X → Type 0) (A B L : List X) (f : X) (R : List X) → A ++ B ≡ L ++ f ∷ R → All (λ x. Q x → ⊥) B → Q f → (rest : List X) × (A ≡ L ++ f ∷ rest) × (R ≡ rest ++ B)
+align Q [] B L f R is out inside = absurd (All-head (λ x. Q x → ⊥) f R (all-right (λ x. Q x → ⊥) L (f ∷ R) (subst (All (λ x. Q x → ⊥)) is out)) inside)
+align Q (a ∷ A) B [] f R is out inside =
+    let same : a ≡ f = cc in
+    let tails : A ++ B ≡ R = cc in
+    (A, ap (λ x. x ∷ A) same, sym tails)
+align Q (a ∷ A) B (l ∷ L) f R is out inside =
+    let same : a ≡ l = cc in
+    let tails : A ++ B ≡ L ++ f ∷ R = cc in
+    let (rest, left, right) = align Q A B L f R tails out inside in
+    (rest, (λ i. same i ∷ left i), right)
+
+-- and where the other is not before it
+align-past : {X : Type 0} (Q : X → Type 0) (A B L : List X) (f : X) (R : List X) → A ++ B ≡ L ++ f ∷ R → All (λ x. Q x → ⊥) A → Q f → (rest : List X) × (B ≡ rest ++ f ∷ R)
+align-past Q [] B L f R is out inside = (L, is)
+align-past Q (a ∷ A) B [] f R is out inside =
+    let same : a ≡ f = cc in absurd (All-head (λ x. Q x → ⊥) a A out (subst Q (sym same) inside))
+align-past Q (a ∷ A) B (l ∷ L) f R is out inside =
+    let tails : A ++ B ≡ L ++ f ∷ R = cc in align-past Q A B L f R tails (All-tail (λ x. Q x → ⊥) a A out) inside
+
+ends-part : (xs : List ℕ) (j : ℕ) (js : List ℕ) (back : ℕ) → EndsIn (xs ++ j ∷ js) back → EndsIn (j ∷ js) back
+ends-part [] j js back ends = ends
+ends-part (x ∷ []) j js back ends = ends
+ends-part (x ∷ y ∷ xs) j js back ends = ends-part (y ∷ xs) j js back ends
+
+distinct-right : (xs ys : List ℕ) → AreDistinct (xs ++ ys) → AreDistinct ys
+distinct-right [] ys distinct = distinct
+distinct-right (x ∷ xs) ys distinct = distinct-right xs ys distinct.1
+
+distinct-left : (xs ys : List ℕ) → AreDistinct (xs ++ ys) → AreDistinct xs
+distinct-left [] ys distinct = tt
+distinct-left (x ∷ xs) ys distinct = (all-left (λ y. y ≢ x) xs ys distinct.0, distinct-left xs ys distinct.1)
+
+-- two tests that come to something
+not-both : (b : Bool) → b ≡ true → b ≡ false → ⊥
+not-both b is_true is_false = let wrong : true ≡ false = sym is_true ∙ is_false in absurd (cc)
+
+between-no : (a b : Bool) → a ≡ true → (b && not a) ≡ false
+between-no a true before = ap not before
+between-no a false before = refl
+
+between-past : (a b : Bool) → b ≡ false → (b && not a) ≡ false
+between-past a b past = ap (λ b. b && not a) past
+
+between-yes : (a b : Bool) → a ≡ false → b ≡ true → (b && not a) ≡ true
+between-yes a b after before = ap (λ b. b && not a) before ∙ ap not after
+
+module _ {K V : Type 0} {P : ℕ} (text : K → List ℕ) (arena : ArenaOf K V P) where
+  spells-drop : (before : Option ℕ) (xs ys : List ℕ) → SpellsAfter arena before (xs ++ ys) → (last : Option ℕ) × SpellsAfter arena last ys
+  spells-drop before [] ys spelled = (before, spelled)
+  spells-drop before (x ∷ xs) ys spelled = spells-drop (Some x) xs ys spelled.1
+
+  hold-left : (a b : List (OpaqueNodePtr K V P × List ℕ)) → AllHold text arena (a ++ b) → AllHold text arena a
+  hold-left [] b hold = tt
+  hold-left (x ∷ a) b hold = (hold.0, hold-left a b hold.1)
+
+  hold-right : (a b : List (OpaqueNodePtr K V P × List ℕ)) → AllHold text arena (a ++ b) → AllHold text arena b
+  hold-right [] b hold = hold
+  hold-right (x ∷ a) b hold = hold-right a b hold.1
+
+  -- the entries of some leaves
+  abbrev pub held_by : List (OpaqueNodePtr K V P × List ℕ) → List (K × V)
+  held_by pairs = entries_under arena (keys_of pairs)
+
+  held-append : (a b : List (OpaqueNodePtr K V P × List ℕ)) → held_by (a ++ b) ≡ held_by a ++ held_by b
+  held-append a b = ap (entries_under arena) (keys-append a b) ∙ filter_map-append (λ key. option_map leaf_entry (leaf_at arena key)) (keys_of a) (keys_of b)
+
+  module _ (start_side : Side) (start : List ℕ) (end_side : Side) (end : List ℕ) where
+    abbrev passes : K × V → Bool
+    passes entry = is_between start_side start end_side end (text entry.0)
+
+    pub keep : (pairs : List (OpaqueNodePtr K V P × List ℕ)) → AllHold text arena pairs → All (λ leaf. is_between start_side start end_side end leaf.1 ≡ true) pairs → filter passes (held_by pairs) ≡ held_by pairs
+    keep [] hold all = refl
+    keep (pair ∷ pairs) hold all =
+        let cons = entries-cons arena (opaque_key pair.0) (keys_of pairs) hold.0.leaf hold.0.at in
+        let test : passes (leaf_entry hold.0.leaf) ≡ true = ap (is_between start_side start end_side end) hold.0.has ∙ All-head (λ leaf. is_between start_side start end_side end leaf.1 ≡ true) pair pairs all in
+        let rest = keep pairs hold.1 (All-tail (λ leaf. is_between start_side start end_side end leaf.1 ≡ true) pair pairs all) in
+        ap (filter passes) cons ∙ ap (λ b. cond b (leaf_entry hold.0.leaf ∷ filter passes (held_by pairs)) (filter passes (held_by pairs))) test ∙ ap (λ es. leaf_entry hold.0.leaf ∷ es) rest ∙ sym cons
+
+    pub leave : (pairs : List (OpaqueNodePtr K V P × List ℕ)) → AllHold text arena pairs → All (λ leaf. is_between start_side start end_side end leaf.1 ≡ false) pairs → filter passes (held_by pairs) ≡ []
+    leave [] hold all = refl
+    leave (pair ∷ pairs) hold all =
+        let cons = entries-cons arena (opaque_key pair.0) (keys_of pairs) hold.0.leaf hold.0.at in
+        let test : passes (leaf_entry hold.0.leaf) ≡ false = ap (is_between start_side start end_side end) hold.0.has ∙ All-head (λ leaf. is_between start_side start end_side end leaf.1 ≡ false) pair pairs all in
+        let rest = leave pairs hold.1 (All-tail (λ leaf. is_between start_side start end_side end leaf.1 ≡ false) pair pairs all) in
+        ap (filter passes) cons ∙ ap (λ b. cond b (leaf_entry hold.0.leaf ∷ filter passes (held_by pairs)) (filter passes (held_by pairs))) test ∙ rest
+
+    before-start : (pairs : List (OpaqueNodePtr K V P × List ℕ)) → AreOn start_side start true pairs → All (λ leaf. is_between start_side start end_side end leaf.1 ≡ false) pairs
+    before-start pairs before =
+        All-weaker (λ leaf. is_before start_side start leaf.1 ≡ true) (λ leaf. is_between start_side start end_side end leaf.1 ≡ false) (λ leaf early. between-no (is_before start_side start leaf.1) (is_before end_side end leaf.1) early) pairs before
+
+    past-end : (pairs : List (OpaqueNodePtr K V P × List ℕ)) → AreOn end_side end false pairs → All (λ leaf. is_between start_side start end_side end leaf.1 ≡ false) pairs
+    past-end pairs past =
+        All-weaker (λ leaf. is_before end_side end leaf.1 ≡ false) (λ leaf. is_between start_side start end_side end leaf.1 ≡ false) (λ leaf late. between-past (is_before start_side start leaf.1) (is_before end_side end leaf.1) late) pairs past
+
+    between : (pairs : List (OpaqueNodePtr K V P × List ℕ)) → AreOn start_side start false pairs → AreOn end_side end true pairs → All (λ leaf. is_between start_side start end_side end leaf.1 ≡ true) pairs
+    between pairs after before = λ k d inside. between-yes (is_before start_side start (get_or pairs k d).1) (is_before end_side end (get_or pairs k d).1) (after k d inside) (before k d inside)
+
+    module _ (tree : Tree (OpaqueNodePtr K V P)) (hold : AllHold text arena (leaves tree)) where
+      -- where all is before the start, or past the end, nothing is within
+      pub none-low : AreOn start_side start true (leaves tree) → filter passes (held_by (leaves tree)) ≡ []
+      none-low before = leave (leaves tree) hold (before-start (leaves tree) before)
+
+      pub none-high : AreOn end_side end false (leaves tree) → filter passes (held_by (leaves tree)) ≡ []
+      none-high past = leave (leaves tree) hold (past-end (leaves tree) past)
+
+      -- where what is after the start is past the end
+      pub none-between : (left right : List (OpaqueNodePtr K V P × List ℕ)) → leaves tree ≡ left ++ right → AreOn start_side start true left → AreOn end_side end false right → filter passes (held_by (leaves tree)) ≡ []
+      none-between left right is before past =
+          leave (leaves tree) hold (subst (All (λ leaf. is_between start_side start end_side end leaf.1 ≡ false)) (sym is) (All-append (λ leaf. is_between start_side start end_side end leaf.1 ≡ false) left right (before-start left before) (past-end right past)))
+
+      module _ (L R left B : List (OpaqueNodePtr K V P × List ℕ)) (f b : OpaqueNodePtr K V P × List ℕ)
+          (is_low : leaves tree ≡ L ++ f ∷ R) (before_L : AreOn start_side start true L) (after_low : AreOn start_side start false (f ∷ R))
+          (is_high : leaves tree ≡ left ++ b ∷ B) (before_A : AreOn end_side end true (left ++ b ∷ [])) (after_B : AreOn end_side end false B) where
+        both : (left ++ b ∷ []) ++ B ≡ L ++ f ∷ R
+        both = append_assoc left (b ∷ []) B ∙ sym is_high ∙ is_low
+
+        -- the first leaf after the start is past the end
+        pub none-within : is_before end_side end f.1 ≡ false → filter passes (held_by (leaves tree)) ≡ []
+        none-within past =
+            let outside = All-weaker (λ leaf. is_before end_side end leaf.1 ≡ true) (λ leaf. is_before end_side end leaf.1 ≡ false → ⊥) (λ leaf early late. not-both (is_before end_side end leaf.1) early late) (left ++ b ∷ []) before_A in
+            let parts = align-past (λ leaf. is_before end_side end leaf.1 ≡ false) (left ++ b ∷ []) B L f R both outside past in
+            none-between L (f ∷ R) is_low before_L (all-right (λ leaf. is_before end_side end leaf.1 ≡ false) parts.0 (f ∷ R) (subst (AreOn end_side end false) parts.1 after_B))
+
+        module _ (spelled : Spells arena (keys_of (leaves tree))) (inside : is_before end_side end f.1 ≡ true) where
+          pub aligned : (rest : List (OpaqueNodePtr K V P × List ℕ)) × (left ++ b ∷ [] ≡ L ++ f ∷ rest) × (R ≡ rest ++ B)
+          aligned =
+              let outside = All-weaker (λ leaf. is_before end_side end leaf.1 ≡ false) (λ leaf. is_before end_side end leaf.1 ≡ true → ⊥) (λ leaf late early. not-both (is_before end_side end leaf.1) early late) B after_B in
+              align (λ leaf. is_before end_side end leaf.1 ≡ true) (left ++ b ∷ []) B L f R both outside inside
+
+          -- the leaves from the first to the last
+          abbrev pub mid : List (OpaqueNodePtr K V P × List ℕ)
+          mid = f ∷ aligned.0
+
+          whole : leaves tree ≡ L ++ (mid ++ B)
+          whole = is_low ∙ ap (λ r. L ++ f ∷ r) aligned.2
+
+          keys-whole : keys_of (leaves tree) ≡ keys_of L ++ (keys_of mid ++ keys_of B)
+          keys-whole = ap keys_of whole ∙ keys-append L (mid ++ B) ∙ ap (λ ks. keys_of L ++ ks) (keys-append mid B)
+
+          pub range-leads : LeadsOver arena (opaque_key f.0) (opaque_key b.0) (keys_of mid)
+          range-leads =
+              let there = spells-drop None (keys_of L) (keys_of mid ++ keys_of B) (subst (SpellsAfter arena None) keys-whole spelled.spelled) in
+              record {
+                before = there.0;
+                after = keys_of B;
+                spelled = there.1;
+                distinct = distinct-left (keys_of mid) (keys_of B) (distinct-right (keys_of L) (keys_of mid ++ keys_of B) (subst AreDistinct keys-whole spelled.distinct));
+                rest = keys_of aligned.0;
+                begins = refl;
+                ends = ends-part (keys_of L) (opaque_key f.0) (keys_of aligned.0) (opaque_key b.0) (subst (λ ks. EndsIn ks (opaque_key b.0)) (sym (keys-append left (b ∷ [])) ∙ ap keys_of aligned.1 ∙ keys-append L mid) (ends-push (keys_of left) (opaque_key b.0)));
+              }
+
+          pub range-is : filter passes (held_by (leaves tree)) ≡ held_by mid
+          range-is =
+              let parts = subst (AllHold text arena) whole hold in
+              let tail = hold-right L (mid ++ B) parts in
+              let in_left = leave L (hold-left L (mid ++ B) parts) (before-start L before_L) in
+              let after = all-left (λ leaf. is_before start_side start leaf.1 ≡ false) mid B (subst (AreOn start_side start false) (ap (λ r. f ∷ r) aligned.2) after_low) in
+              let before = all-right (λ leaf. is_before end_side end leaf.1 ≡ true) L mid (subst (AreOn end_side end true) aligned.1 before_A) in
+              let in_mid = keep mid (hold-left mid B tail) (between mid after before) in
+              let in_right = leave B (hold-right mid B tail) (past-end B after_B) in
+              ap (λ pairs. filter passes (held_by pairs)) whole
+              ∙ ap (filter passes) (held-append L (mid ++ B) ∙ ap (λ es. held_by L ++ es) (held-append mid B))
+              ∙ filter-append passes (held_by L) (held_by mid ++ held_by B)
+              ∙ ap (λ es. es ++ filter passes (held_by mid ++ held_by B)) in_left
+              ∙ filter-append passes (held_by mid) (held_by B)
+              ∙ ap (λ es. es ++ filter passes (held_by B)) in_mid
+              ∙ ap (λ es. held_by mid ++ es) in_right ∙ append-nil (held_by mid)
+
+module _ {K V : Type 0} {P : ℕ} (text : K → List ℕ) (arena : ArenaOf K V P) (root : OpaqueNodePtr K V P) (tree : Tree (OpaqueNodePtr K V P)) (alone : IsAlone text arena root tree)
+    (held_law : (pointer : OpaqueNodePtr K V P) (x : List ℕ) → Contains (leaves tree) (pointer, x) → (leaf : LeafNode K V P) × (held arena pointer ≡ HeldLeaf leaf) × (text (leaf_key leaf) ≡ x))
+    (leaves_law : (pointer : OpaqueNodePtr K V P) (x : List ℕ) (leaf : LeafNode K V P) → Contains (leaves tree) (pointer, x) → held arena pointer ≡ HeldLeaf leaf → entry_at text arena x ≡ Some (leaf_key leaf, leaf_value leaf))
+    (texts_law : (x : List ℕ) → HasEntry text arena x → Contains (texts tree) x)
+    (ascend : AllPairs (λ a b. text_order a b ≡ Less) (texts tree)) (only_law : (entries : List (K × V)) → AreEntries text arena entries → entries ≡ entries_of text arena) (start_side : Side) (start : List ℕ) (end_side : Side) (end : List ℕ) where
+  abbrev pub hold : AllHold text arena (leaves tree)
+  hold = leaves-hold text arena root tree alone held_law leaves_law texts_law ascend
+
+  abbrev within : List (K × V) → List (K × V)
+  within entries = filter (λ entry. is_between start_side start end_side end (text entry.0)) entries
+
+  of-leaves : (part : List (K × V)) → within (held_by text arena (leaves tree)) ≡ part → part ≡ within (entries_of text arena)
+  of-leaves part is = sym is ∙ ap within (only_law (held_by text arena (leaves tree)) (entries-of-leaves text arena root tree alone held_law leaves_law texts_law ascend))
+
+  pub range-low : IsFirstAfter start_side start (leaves tree) None → [] ≡ within (entries_of text arena)
+  range-low before = of-leaves [] (none-low text arena start_side start end_side end tree hold before)
+
+  pub range-high : IsLastBefore end_side end (leaves tree) None → [] ≡ within (entries_of text arena)
+  range-high past = of-leaves [] (none-high text arena start_side start end_side end tree hold past)
+
+  module _ (front : NodePtr P (LeafNode K V P)) (low : IsFirstAfter start_side start (leaves tree) (Some (leaf_pointer front))) where
+    front-inside : Contains (leaves tree) (leaf_pointer front, low.0)
+    front-inside = subst (λ all. Contains all (leaf_pointer front, low.0)) (sym low.3) (Contains-append_right low.1 ((leaf_pointer front, low.0) ∷ low.2) (leaf_pointer front, low.0) (0, omega arith, refl))
+
+    pub front-held : (leaf : LeafNode K V P) × (held arena (leaf_pointer front) ≡ HeldLeaf leaf) × (text (leaf_key leaf) ≡ low.0)
+    front-held = held_law (leaf_pointer front) low.0 front-inside
+
+    pub front-text : (leaf : LeafNode K V P) → held arena (leaf_pointer front) ≡ HeldLeaf leaf → text (leaf_key leaf) ≡ low.0
+    front-text leaf is =
+        let one : HeldLeaf leaf ≡ HeldLeaf front-held.0 = sym is ∙ front-held.1 in
+        let same : leaf ≡ front-held.0 = cc in ap (λ l. text (leaf_key l)) same ∙ front-held.2
+
+    module _ (back : NodePtr P (LeafNode K V P)) (high : IsLastBefore end_side end (leaves tree) (Some (leaf_pointer back))) where
+      abbrev f : OpaqueNodePtr K V P × List ℕ
+      f = (leaf_pointer front, low.0)
+
+      abbrev b : OpaqueNodePtr K V P × List ℕ
+      b = (leaf_pointer back, high.0)
+
+      pub range-apart : is_before end_side end low.0 ≡ false → [] ≡ within (entries_of text arena)
+      range-apart past = of-leaves [] (none-within text arena start_side start end_side end tree hold low.1 low.2 high.1 high.2 f b low.3 low.4 low.5 high.3 high.4 high.5 past)
+
+      module _ (inside : is_before end_side end low.0 ≡ true) where
+        abbrev pub mid-keys : List ℕ
+        mid-keys = keys_of (mid text arena start_side start end_side end tree hold low.1 low.2 high.1 high.2 f b low.3 low.4 low.5 high.3 high.4 high.5 alone.spelled inside)
+
+        abbrev pub range-run : (keys : List ℕ) × LeadsOver arena (slab_key front) (slab_key back) keys
+        range-run = (mid-keys, range-leads text arena start_side start end_side end tree hold low.1 low.2 high.1 high.2 f b low.3 low.4 low.5 high.3 high.4 high.5 alone.spelled inside)
+
+        pub range-some : run_of arena (Some (front, back)) ≡ within (entries_of text arena)
+        range-some =
+            of-leaves (run_of arena (Some (front, back)))
+            (range-is text arena start_side start end_side end tree hold low.1 low.2 high.1 high.2 f b low.3 low.4 low.5 high.3 high.4 high.5 alone.spelled inside
+            ∙ ap (entries_under arena) (sym (run-is arena (slab_key front) (slab_key back) range-run.0 range-run.1)))
+
+pub something-held : {H L : Type 0} (at : Held H L) (leaf : L) → at ≡ HeldLeaf leaf → at ≢ Nothing
+something-held at leaf is none = let wrong : HeldLeaf leaf ≡ Nothing = sym is ∙ none in absurd (cc)

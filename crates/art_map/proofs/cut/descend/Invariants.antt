@@ -1,0 +1,14 @@
+use Rattle.std.proofs.Common.{◌-◌, length}
+use Rattle.art_nodes.specs.declared.pointers.OpaqueNodePtr.{OpaqueNodePtr as PointerTo}
+use Rattle.art_arena.specs.Standing.{IsTreeIn}
+use Rattle.art_arena.specs.Trees.{Tree}
+use Rattle.art_map.specs.Cuts.{IsOnWay}
+use Rattle.art_map.proofs.cut.descend.Given as goal
+
+-- the node is on the way in each tree that stands at the root
+abbrev pub invariant-way : goal.invariant-way
+invariant-way g l =
+    (tree : Tree (PointerTo g.row.K.Denot g.row.V.Denot g.row.PREFIX_LEN)) → IsTreeIn g.K.AsBytes.text l.arena l.fn.root tree → IsOnWay g.K.AsBytes.text l.arena tree l.side l.key l.at l.depth
+
+abbrev pub decreases-way : goal.decreases-way
+decreases-way g l = length l.key - l.depth

@@ -1,0 +1,46 @@
+use Rattle.std.proofs.Common.{◌≡◌, ◌∙◌, sym, ap, subst}
+use Rattle.art_tree.specs.Dictionary.{IsEntry, SameEntries, SameOtherEntries}
+use Rattle.art_tree.specs.Entries.{entries_of, put_entry}
+use Rattle.art_tree.specs.Insertion as tree
+use Rattle.art_map.specs.Changes.{IsRefused, MayEnter}
+use Rattle.art_map.specs.Entries.{entry_with}
+use Rattle.art_map.proofs.ListLemmas.{entries-find, if-err, if-ok, is-refused, may-enter, on-err, on-ok, on-ok-both}
+use Rattle.art_map.proofs.map.changes.ArtMap+K+V+PREFIX_LEN.insert.Goals as goal
+
+pub returns-clause-replaced : goal.returns-clause-replaced
+returns-clause-replaced g c =
+    let text = g.K.AsBytes.text in
+    let arena = c.self.inside.tree.arena in
+    let x = text c.args.key in
+    if-ok c.insert.result _ (λ before. before ≡ entry_with text c.args.self.now x) (λ before is. is ∙ sym (entries-find text arena x) ∙ ap (λ entries. entry_with text entries x) c.self.view_is) c.insert.ensures.replaced
+
+pub returns-clause-entries : goal.returns-clause-entries
+returns-clause-entries g c =
+    let text = g.K.AsBytes.text in
+    let arena = c.self.inside.tree.arena in
+    let new = c.insert.new.self.arena in
+    let entry : g.row.K.Denot × g.row.V.Denot = (c.args.key, c.args.value) in
+    on-ok-both c.insert.result (IsEntry text new entry) (SameOtherEntries text arena new (text c.args.key)) _
+    (λ is others. c.the_list_of_entries_changes_with_them.ensures.put arena new entry is others ∙ ap (λ entries. put_entry text entries entry) c.self.view_is) c.insert.ensures.entry c.insert.ensures.others
+
+pub returns-clause-no_refusal : goal.returns-clause-no_refusal
+returns-clause-no_refusal g c =
+    let text = g.K.AsBytes.text in
+    let arena = c.self.inside.tree.arena in
+    let x = text c.args.key in
+    on-ok c.insert.result (tree.MayEnter text arena x) (MayEnter text c.args.self.now x)
+    (λ may. subst (λ entries. MayEnter text entries x) c.self.view_is (may-enter text arena (entries_of text arena) (c.entries_are_one_list.ensures.list arena) x may)) c.insert.ensures.no_refusal
+
+pub returns-clause-refusal_due : goal.returns-clause-refusal_due
+returns-clause-refusal_due g c =
+    let text = g.K.AsBytes.text in
+    let arena = c.self.inside.tree.arena in
+    let x = text c.args.key in
+    if-err c.insert.result (λ fault. tree.IsRefused text arena x fault.refusal) (λ fault. IsRefused text c.args.self.now x fault.refusal)
+    (λ fault due. subst (λ entries. IsRefused text entries x fault.refusal) c.self.view_is (is-refused text arena (entries_of text arena) (c.entries_are_one_list.ensures.list arena) x fault.refusal (entries-find text arena x) due)) c.insert.ensures.refusal_due
+
+pub returns-clause-same_entries : goal.returns-clause-same_entries
+returns-clause-same_entries g c =
+    let text = g.K.AsBytes.text in
+    let arena = c.self.inside.tree.arena in
+    on-err c.insert.result (SameEntries text arena c.insert.new.self.arena) _ (λ same. c.the_list_of_entries_changes_with_them.ensures.same arena c.insert.new.self.arena same ∙ c.self.view_is) c.insert.ensures.same_entries

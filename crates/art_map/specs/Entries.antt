@@ -1,0 +1,8 @@
+-- A map as the list of its entries: the entry of a key.
+use Rattle.std.specs.Prelude.{ℕ, List, [], ◌∷◌, Option, Some, None, nat_eq, if◌then◌else◌}
+use Rattle.std.specs.Cmp.Lexicographic.{pointwise}
+
+-- the first of these entries whose key has this text
+abbrev pub entry_with : {K V : Type 0} → (K → List ℕ) → List (K × V) → List ℕ → Option (K × V)
+entry_with text [] x = None
+entry_with text (entry ∷ entries) x = if pointwise nat_eq (text entry.0) x then Some entry else entry_with text entries x

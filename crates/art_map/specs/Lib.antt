@@ -1,0 +1,5 @@
+pub mod Changes
+pub mod Cuts
+pub mod Entries
+pub mod Ranges
+pub mod Runs

@@ -1,0 +1,11 @@
+//! An ordered map over an adaptive radix tree: `ArtMap`, whose contracts see it as the list of its
+//! entries. `CALLING.md` shows how it is used.
+#![tactic(auto)]
+
+mod cut;
+mod iter;
+mod map;
+mod range;
+
+pub use iter::{HasRuns, Iter, Run};
+pub use map::{ArtMap, DEFAULT_PREFIX_LEN, HasEntries, MapOver};

@@ -1,0 +1,80 @@
+//! Calls that change a map.
+ghost use Rattle.std.specs.Prelude.{◌≡◌, ◌≢◌, IfOk, IfErr, OnOk, OnErr, None};
+ghost use Rattle.std.specs.Option.{option_map};
+ghost use Rattle.art_map.specs.Changes.{IsRefused, MayEnter};
+ghost use Rattle.art_tree.specs.Entries.{put_entry, without_text};
+ghost use Rattle.art_map.specs.Entries.{entry_with};
+
+use crate::map::ArtMap;
+use art_bytes::AsBytes;
+use art_tree::InsertFault;
+use art_tree::laws::{entries_are_one_list, the_list_of_entries_changes_with_them};
+use std::alloc::AllocError;
+
+impl<K: AsBytes, V, const PREFIX_LEN: usize> ArtMap<K, V, PREFIX_LEN> {
+    /// Adds an entry. Where an entry has the same key bytes, its key and its value are replaced and
+    /// returned.
+    ///
+    /// The first of these refusals that is due is returned, with key and value: [`KeyTooLong`], a
+    /// key of 2^32 bytes or more; [`Prefix`], where the key is a proper prefix of a key of the map,
+    /// or one of the map of the key; [`OutOfMemory`], only where no entry has the key bytes. After a
+    /// refusal the entries are unchanged.
+    ///
+    /// Visits the nodes on the way to the key's place, and then those on the way to a leaf beside
+    /// it, as [`ArtTree::insert`] does.
+    ///
+    /// [`ArtTree::insert`]: art_tree::ArtTree::insert
+    /// [`KeyTooLong`]: art_tree::InsertRefusal::KeyTooLong
+    /// [`Prefix`]: art_tree::InsertRefusal::Prefix
+    /// [`OutOfMemory`]: art_tree::InsertRefusal::OutOfMemory
+    pub fn insert(&mut self, key: K, value: V) -> Result<Option<(K, V)>, InsertFault<K, V>>
+        ensures replaced { IfOk result
+            (λ before. before ≡ entry_with K.text self.old (K.text key)) }
+        ensures entries { OnOk result
+            (self.new ≡ put_entry K.text self.old (key, value)) }
+        ensures no_refusal { OnOk result (MayEnter K.text self.old (K.text key)) }
+        ensures refusal_due { IfErr result
+            (λ fault. IsRefused K.text self.old (K.text key) fault.refusal) }
+        ensures entry_back { IfErr result (λ fault. (fault.key ≡ key) × (fault.value ≡ value)) }
+        ensures same_entries { OnErr result (self.new ≡ self.old) }
+        ensures is_key { K.is_key key }
+    {
+        entries_are_one_list::<K, V, PREFIX_LEN>();
+        the_list_of_entries_changes_with_them::<K, V, PREFIX_LEN>();
+        self.tree.insert(key, value)
+    }
+
+    /// Removes the entry with the bytes of this key, if there is one, and returns it.
+    ///
+    /// An allocation may fail only where there is such an entry, since a smaller node may take the
+    /// place of a node on the way. After a failure the entries are unchanged.
+    ///
+    /// Visits at most one node more than the key has bytes, and changes at most three of them.
+    pub fn remove_entry<Q: AsBytes>(&mut self, key: &Q) -> Result<Option<(K, V)>, AllocError>
+        ensures removed { IfOk result
+            (λ entry. entry ≡ entry_with K.text self.old (Q.text key.now)) }
+        ensures entries { OnOk result (self.new ≡ without_text K.text self.old (Q.text key.now)) }
+        ensures refused { OnErr result (entry_with K.text self.old (Q.text key.now) ≢ None) }
+        ensures same_entries { OnErr result (self.new ≡ self.old) }
+    {
+        the_list_of_entries_changes_with_them::<K, V, PREFIX_LEN>();
+        self.tree.remove(key.as_bytes())
+    }
+}
+
+impl<K: AsBytes + Drop, V, const PREFIX_LEN: usize> ArtMap<K, V, PREFIX_LEN> {
+    /// Removes the entry with the bytes of this key, if there is one, and returns its value. Fails and
+    /// costs as [`remove_entry`](Self::remove_entry).
+    pub fn remove<Q: AsBytes>(&mut self, key: &Q) -> Result<Option<V>, AllocError>
+        ensures removed { IfOk result (λ value. value
+            ≡ option_map (λ entry. entry.1) (entry_with K.text self.old (Q.text key.now))) }
+        ensures entries { OnOk result (self.new ≡ without_text K.text self.old (Q.text key.now)) }
+        ensures refused { OnErr result (entry_with K.text self.old (Q.text key.now) ≢ None) }
+        ensures same_entries { OnErr result (self.new ≡ self.old) }
+    {
+        let Some((_, value)) = self.remove_entry(key)? else {
+            return Ok(None);
+        };
+        Ok(Some(value))
+    }
+}

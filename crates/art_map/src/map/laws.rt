@@ -1,0 +1,43 @@
+//! Laws of every map. The calls do no work: the contract of each is a law.
+ghost use Rattle.std.specs.Prelude.{◌≡◌, All, AllPairs};
+ghost use Rattle.std.specs.declared.cmp.Ordering.TheVariants.{Less};
+ghost use Rattle.art_bytes.specs.Text.{IsPrefixOf, text_order};
+ghost use Rattle.art_tree.specs.Dictionary.{Clashes};
+ghost use Rattle.art_tree.specs.Refusals.{texts_of};
+
+use crate::map::ArtMap;
+use art_bytes::{AsBytes, NoPrefixesBytes};
+use art_nodes::OpaqueNodePtr;
+use art_tree::laws::{
+    entries_are_as_many_as_leaves, entries_are_one_list, entries_are_what_leaves_hold,
+    keys_without_prefixes_never_clash, no_text_begins_another,
+};
+
+impl<K: AsBytes, V, const PREFIX_LEN: usize> ArtMap<K, V, PREFIX_LEN> {
+    /// The entries ascend strictly by the bytes of their keys, so no two have the same bytes. No key
+    /// is a prefix of another, and the laws of keys hold for each. Does no work.
+    pub fn entries_ascend(&self)
+        ensures ascending { AllPairs (λ a b. text_order a b ≡ Less) (texts_of K.text self.now) }
+        ensures no_prefixes { AllPairs (λ a b. (¬ IsPrefixOf a b) × (¬ IsPrefixOf b a))
+            (texts_of K.text self.now) }
+        ensures keys { All (λ entry. K.is_key entry.0) self.now }
+    {
+        entries_are_one_list::<K, V, PREFIX_LEN>();
+        entries_are_as_many_as_leaves::<K, V, PREFIX_LEN>();
+        entries_are_what_leaves_hold::<K, V, PREFIX_LEN>();
+        no_text_begins_another::<OpaqueNodePtr<K, V, PREFIX_LEN>>();
+        let _arena = self.tree.arena();
+    }
+}
+
+impl<K: NoPrefixesBytes, V, const PREFIX_LEN: usize> ArtMap<K, V, PREFIX_LEN> {
+    /// No key of a type without prefixes clashes with a key of the map, so no insert refuses one with
+    /// `Prefix`. Does no work.
+    pub fn keys_never_clash(&self)
+        ensures { (key : K) → K.is_key key → ¬ Clashes (texts_of K.text self.now) (K.text key) }
+    {
+        entries_are_one_list::<K, V, PREFIX_LEN>();
+        keys_without_prefixes_never_clash::<K, V, PREFIX_LEN>();
+        let _arena = self.tree.arena();
+    }
+}

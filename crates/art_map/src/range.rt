@@ -1,0 +1,44 @@
+//! The ends of the entries between two places.
+ghost use Rattle.std.specs.Prelude.{◌≡◌, filter};
+ghost use Rattle.art_map.specs.Cuts.{is_between};
+ghost use Rattle.art_tree.specs.Entries.{entries_of};
+ghost use Rattle.art_map.specs.Runs.{run_of, IsRun};
+
+use crate::cut::{Side, first_after, is_before, last_before};
+use art_bytes::AsBytes;
+use art_nodes::{LeafNode, NodePtr, OpaqueNodePtr};
+use art_tree::ArtTree;
+use art_tree::laws::{entries_are_one_list, entries_are_what_leaves_hold, texts_ascend};
+
+/// The first and the last leaf after the one place and before the other, if there is one. Takes no
+/// memory.
+pub(crate) fn ends_between<K: AsBytes, V, const PREFIX_LEN: usize>(
+    tree: &ArtTree<K, V, PREFIX_LEN>,
+    start_side: Side,
+    start: &[u8],
+    end_side: Side,
+    end: &[u8],
+) -> Option<
+    (
+        NodePtr<PREFIX_LEN, LeafNode<K, V, PREFIX_LEN>>,
+        NodePtr<PREFIX_LEN, LeafNode<K, V, PREFIX_LEN>>,
+    ),
+>
+    ensures run { IsRun tree.now.arena result }
+    ensures entries { run_of tree.now.arena result ≡ filter
+        (λ entry. is_between start_side start.now end_side end.now (K.text entry.0))
+        (entries_of K.text tree.now.arena) }
+{
+    texts_ascend::<OpaqueNodePtr<K, V, PREFIX_LEN>>();
+    entries_are_what_leaves_hold::<K, V, PREFIX_LEN>();
+    entries_are_one_list::<K, V, PREFIX_LEN>();
+    let _root = tree.root()?;
+    let first = first_after(tree, start_side, start)?;
+    let last = last_before(tree, end_side, end)?;
+    let text = tree.arena().as_ref(first).key_ref().as_bytes();
+    if is_before(end_side, end, text) {
+        Some((first, last))
+    } else {
+        None
+    }
+}

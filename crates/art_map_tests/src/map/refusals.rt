@@ -1,0 +1,53 @@
+//! A test with one allocation failure: the map is unchanged, the next call succeeds, and the test
+//! ends.
+use super::*;
+use art_tree::InsertRefusal;
+
+type Words = ArtMap<StrKey<'static>, usize, 2>;
+
+// The first words have their numbers, and the others no entry.
+fn check_words(rt: &impl Abort, map: &Words, count: usize) {
+    assert!(rt; map.len() == count);
+    for (number, word) in WORDS.iter().enumerate() {
+        let value = map.get(&StrKey::new(word)).copied();
+        assert!(rt; value == if number < count { Some(number) } else { None });
+    }
+}
+
+// Inserts a word. After an allocation failure the map is unchanged, the next insert succeeds, and
+// the test ends.
+fn insert_word(
+    rt: &impl Abort,
+    map: &mut Words,
+    word: &'static str,
+    number: usize,
+) -> Result<(), Fail> {
+    let fault = match map.insert(StrKey::new(word), number) {
+        Ok(before) => {
+            assert!(rt; before.is_none());
+            return Ok(());
+        }
+        Err(fault) => fault,
+    };
+    assert!(rt; fault.refusal == InsertRefusal::OutOfMemory);
+    assert!(rt; fault.key.get() == word && fault.value == number);
+    check_words(rt, map, number);
+    let again = map.insert(fault.key, fault.value);
+    assert!(rt; matches!(&again, Ok(None)));
+    assert!(rt; map.len() > number);
+    check_words(rt, map, map.len());
+    Err("ArtMap::insert refused, and all stands".into())
+}
+
+fn insert_words(rt: &impl Abort, map: &mut Words) -> Result<(), Fail> {
+    for (number, word) in WORDS.iter().enumerate() {
+        insert_word(rt, map, word, number)?;
+    }
+    check_words(rt, map, WORDS.len());
+    Ok(())
+}
+
+#[test]
+fn a_refused_insert_leaves_the_map(rt: HostRuntime) -> Result<(), Fail> {
+    insert_words(&rt, &mut ArtMap::new(rt.alloc()))
+}

@@ -1,0 +1,22 @@
+//! Keys that are numbers.
+use art_map::ArtMap;
+use art_tree::{Mapped, ToUBE};
+use std::ops::Bound;
+
+type Key = Mapped<ToUBE, u32>;
+
+type Index = ArtMap<Key, u32, 16>;
+
+fn put(index: &mut Index, key: Key, value: u32) -> bool {
+    index.insert(key, value).is_ok()
+}
+
+pub fn hand_on(index: &mut Index, key: Key) -> bool {
+    put(index, key, 1)
+}
+
+pub fn first_within(index: &Index, start: &Key, end: &Key) -> Option<u32> {
+    let mut within = index.range(Bound::Included(start), Bound::Excluded(end));
+    let (_, value) = within.next()?;
+    Some(*value)
+}
