@@ -44,8 +44,13 @@ fn next_child<K, V, const PREFIX_LEN: usize>(
     ensures within { IfSome result (λ (index, child). index < length key.now) }
     ensures nowhere { IfNone result (LeadsNowhereFrom PREFIX_LEN (shown node.entry) key.now depth) }
 {
-    let inner = node.inner()?;
-    next_child_in(&inner, key, depth)
+    match node {
+        AnyRef::Node4(node) => next_child_in(node, key, depth),
+        AnyRef::Node16(node) => next_child_in(node, key, depth),
+        AnyRef::Node48(node) => next_child_in(node, key, depth),
+        AnyRef::Node256(node) => next_child_in(node, key, depth),
+        AnyRef::LeafNode(_) => None,
+    }
 }
 
 /// The leaf with this key in the tree at `root`, with its path, or None where no leaf has the key.

@@ -1,15 +1,28 @@
-use Rattle.art_arena.specs.InnerRef.{inner_shown}
+use Rattle.std.proofs.Common.{ap}
 use Rattle.art_arena.specs.Reader.{shown}
-use Rattle.art_arena.proofs.StandingLaws.{inner-there, no-inner-there}
 use Rattle.art_tree.proofs.FindLemmas.DescentLemmas.{leads-on-from, leads-nowhere-from}
-use Rattle.art_tree.proofs.InsertLemmas.NodeLemmas.{if-none}
 use Rattle.art_tree.proofs.find.next_child.Goals as goal
 
-pub returns-in_err-inner-clause-nowhere : goal.returns-in_err-inner-clause-nowhere
-returns-in_err-inner-clause-nowhere g c = if-none c.from_residual.result _ (λ node is. no-inner-there (shown c.args.node) c.inner.result c.inner.ensures.node node c.in_err-inner.was is)
+pub returns-in-Node4-clause-on : goal.returns-in-Node4-clause-on
+returns-in-Node4-clause-on g c = leads-on-from g.row.PREFIX_LEN (shown c.args.node) c.in-Node4.node.now c.args.key.now c.args.depth (ap shown c.in-Node4.is) c.next_child_in.result c.next_child_in.ensures.on
 
-pub returns-clause-on : goal.returns-clause-on
-returns-clause-on g c = leads-on-from g.row.PREFIX_LEN (shown c.args.node) (inner_shown c.in_ok-inner.inner) c.args.key.now c.args.depth (inner-there (shown c.args.node) c.inner.result c.inner.ensures.node c.in_ok-inner.inner c.in_ok-inner.was) c.next_child_in.result c.next_child_in.ensures.on
+pub returns-in-Node4-clause-nowhere : goal.returns-in-Node4-clause-nowhere
+returns-in-Node4-clause-nowhere g c = leads-nowhere-from g.row.PREFIX_LEN (shown c.args.node) c.in-Node4.node.now c.args.key.now c.args.depth (ap shown c.in-Node4.is) c.next_child_in.result c.next_child_in.ensures.nowhere
 
-pub returns-clause-nowhere : goal.returns-clause-nowhere
-returns-clause-nowhere g c = leads-nowhere-from g.row.PREFIX_LEN (shown c.args.node) (inner_shown c.in_ok-inner.inner) c.args.key.now c.args.depth (inner-there (shown c.args.node) c.inner.result c.inner.ensures.node c.in_ok-inner.inner c.in_ok-inner.was) c.next_child_in.result c.next_child_in.ensures.nowhere
+pub returns-in-Node16-clause-on : goal.returns-in-Node16-clause-on
+returns-in-Node16-clause-on g c = leads-on-from g.row.PREFIX_LEN (shown c.args.node) c.in-Node16.node.now c.args.key.now c.args.depth (ap shown c.in-Node16.is) c.next_child_in-in-Node16.result c.next_child_in-in-Node16.ensures.on
+
+pub returns-in-Node16-clause-nowhere : goal.returns-in-Node16-clause-nowhere
+returns-in-Node16-clause-nowhere g c = leads-nowhere-from g.row.PREFIX_LEN (shown c.args.node) c.in-Node16.node.now c.args.key.now c.args.depth (ap shown c.in-Node16.is) c.next_child_in-in-Node16.result c.next_child_in-in-Node16.ensures.nowhere
+
+pub returns-in-Node48-clause-on : goal.returns-in-Node48-clause-on
+returns-in-Node48-clause-on g c = leads-on-from g.row.PREFIX_LEN (shown c.args.node) c.in-Node48.node.now c.args.key.now c.args.depth (ap shown c.in-Node48.is) c.next_child_in-in-Node48.result c.next_child_in-in-Node48.ensures.on
+
+pub returns-in-Node48-clause-nowhere : goal.returns-in-Node48-clause-nowhere
+returns-in-Node48-clause-nowhere g c = leads-nowhere-from g.row.PREFIX_LEN (shown c.args.node) c.in-Node48.node.now c.args.key.now c.args.depth (ap shown c.in-Node48.is) c.next_child_in-in-Node48.result c.next_child_in-in-Node48.ensures.nowhere
+
+pub returns-in-Node256-clause-on : goal.returns-in-Node256-clause-on
+returns-in-Node256-clause-on g c = leads-on-from g.row.PREFIX_LEN (shown c.args.node) c.in-Node256.node.now c.args.key.now c.args.depth (ap shown c.in-Node256.is) c.next_child_in-in-Node256.result c.next_child_in-in-Node256.ensures.on
+
+pub returns-in-Node256-clause-nowhere : goal.returns-in-Node256-clause-nowhere
+returns-in-Node256-clause-nowhere g c = leads-nowhere-from g.row.PREFIX_LEN (shown c.args.node) c.in-Node256.node.now c.args.key.now c.args.depth (ap shown c.in-Node256.is) c.next_child_in-in-Node256.result c.next_child_in-in-Node256.ensures.nowhere
