@@ -38,36 +38,25 @@ struct Timed {
     nanoseconds: u128,
 }
 
-/// Runs the mode on these keys, of which the first half becomes the entries.
+/// Runs the mode on an empty tree, an empty map and these keys, of which the first half becomes the
+/// entries.
 pub(crate) fn run_calls<K: AsBytes + Ord + Copy>(
     rt: &HostRuntime,
     mode: Mode,
     shape: &str,
+    (tree, map): (&mut Tree<K>, &mut Map<K>),
     keys: &mut [K],
 ) -> io::Result<()> {
     let (entries, misses) = keys.split_at_mut(keys.len() / 2);
     shuffle(entries, 1);
     shuffle(misses, 2);
     match mode {
-        Mode::Check => compare_both(rt, false, shape, entries, misses),
-        Mode::Time => compare_both(rt, true, shape, entries, misses),
-        Mode::HoldTree => hold_tree(rt, entries),
-        Mode::HoldMap => hold_map(rt, entries),
+        Mode::Check => compare_all(rt, false, shape, (tree, map), entries, misses),
+        Mode::Time => compare_all(rt, true, shape, (tree, map), entries, misses),
+        Mode::HoldTree => hold(rt, insert_all(tree, entries)),
+        Mode::HoldMap => hold(rt, insert_all(map, entries)),
         Mode::HoldNothing => hold(rt, Answers::new()),
     }
-}
-
-// Makes a tree and a map, and runs all calls on them.
-fn compare_both<K: AsBytes + Ord + Copy>(
-    rt: &HostRuntime,
-    is_timed: bool,
-    shape: &str,
-    entries: &mut [K],
-    misses: &[K],
-) -> io::Result<()> {
-    let mut tree = Tree::<K>::new(rt.alloc());
-    let mut map = Map::<K>::new(rt.alloc());
-    compare_all(rt, is_timed, shape, (&mut tree, &mut map), entries, misses)
 }
 
 // Runs all calls, each on the tree and on the map.
@@ -120,18 +109,6 @@ fn name_of(call: Call) -> &'static str {
         Call::Walk => "walk",
         Call::Remove => "remove",
     }
-}
-
-// Holds the entries in a tree.
-fn hold_tree<K: AsBytes + Copy>(rt: &HostRuntime, entries: &[K]) -> io::Result<()> {
-    let mut tree = Tree::<K>::new(rt.alloc());
-    hold(rt, insert_all(&mut tree, entries))
-}
-
-// Holds the entries in a map.
-fn hold_map<K: Ord + Copy>(rt: &HostRuntime, entries: &[K]) -> io::Result<()> {
-    let mut map = Map::<K>::new(rt.alloc());
-    hold(rt, insert_all(&mut map, entries))
 }
 
 // Prints how many entries there are not, and waits for the end of the input.

@@ -17,8 +17,10 @@ mod keys;
 mod words;
 
 use crate::calls::{Mode, run_calls};
+use crate::dictionary::{Map, Tree};
 use crate::keys::{addresses, dense_numbers, random_numbers};
 use crate::words::{word_keys, word_texts};
+use art_tree::SliceKey;
 use std::{env, io};
 
 const SHAPES: [&str; 4] = ["dense", "random", "words", "addresses"];
@@ -50,15 +52,44 @@ fn check(rt: &HostRuntime, count: u64) -> io::Result<()> {
 fn run(rt: &HostRuntime, mode: Mode, shape: &str, count: u64) -> io::Result<()> {
     let alloc = rt.alloc();
     match shape {
-        "dense" => run_calls(rt, mode, shape, &mut dense_numbers(alloc, count)?),
-        "random" => run_calls(rt, mode, shape, &mut random_numbers(alloc, count)?),
-        "addresses" => run_calls(rt, mode, shape, &mut addresses(alloc, count)?),
+        "dense" => run_numbers(rt, mode, shape, &mut dense_numbers(alloc, count)?),
+        "random" => run_numbers(rt, mode, shape, &mut random_numbers(alloc, count)?),
+        "addresses" => run_addresses(rt, mode, shape, &mut addresses(alloc, count)?),
         "words" => {
             let texts = word_texts(alloc, count)?;
-            run_calls(rt, mode, shape, &mut word_keys(alloc, &texts)?)
+            run_words(rt, mode, shape, &mut word_keys(alloc, &texts)?)
         }
         _ => Err(bad_words()),
     }
+}
+
+// The tree and the map are made where the type of the keys is known, one function for each type.
+fn run_numbers(rt: &HostRuntime, mode: Mode, shape: &str, keys: &mut [[u8; 8]]) -> io::Result<()> {
+    let alloc = rt.alloc();
+    let both = (&mut Tree::new(alloc), &mut Map::new(alloc));
+    run_calls(rt, mode, shape, both, keys)
+}
+
+fn run_addresses(
+    rt: &HostRuntime,
+    mode: Mode,
+    shape: &str,
+    keys: &mut [[u8; 4]],
+) -> io::Result<()> {
+    let alloc = rt.alloc();
+    let both = (&mut Tree::new(alloc), &mut Map::new(alloc));
+    run_calls(rt, mode, shape, both, keys)
+}
+
+fn run_words(
+    rt: &HostRuntime,
+    mode: Mode,
+    shape: &str,
+    keys: &mut [SliceKey<'_>],
+) -> io::Result<()> {
+    let alloc = rt.alloc();
+    let both = (&mut Tree::new(alloc), &mut Map::new(alloc));
+    run_calls(rt, mode, shape, both, keys)
 }
 
 fn word_at(words: &[String], index: usize) -> &str {
