@@ -1,10 +1,11 @@
 //! Keys of a fixed length. The first half of each list is for entries, the second half for keys that
-//! have none. All keys of a list differ.
+//! have none. All keys of a list differ. A list is allocated once, so that no memory that its growth has
+//! freed is there for the entries.
 use std::alloc::{AllocError, Global};
 
 /// The numbers from 0 on.
 pub(crate) fn dense_numbers(alloc: Global, count: u64) -> Result<Vec<[u8; 8]>, AllocError> {
-    let mut keys = Vec::new(alloc);
+    let mut keys = Vec::with_capacity(alloc, count.wrapping_mul(2) as usize)?;
     for number in 0..count.wrapping_mul(2) {
         keys.push(number.to_be_bytes())?;
     }
@@ -13,7 +14,7 @@ pub(crate) fn dense_numbers(alloc: Global, count: u64) -> Result<Vec<[u8; 8]>, A
 
 /// Numbers of 64 random bits.
 pub(crate) fn random_numbers(alloc: Global, count: u64) -> Result<Vec<[u8; 8]>, AllocError> {
-    let mut keys = Vec::new(alloc);
+    let mut keys = Vec::with_capacity(alloc, count.wrapping_mul(2) as usize)?;
     for number in 0..count.wrapping_mul(2) {
         keys.push(mix(number).to_be_bytes())?;
     }
@@ -22,7 +23,7 @@ pub(crate) fn random_numbers(alloc: Global, count: u64) -> Result<Vec<[u8; 8]>, 
 
 /// IPv4 addresses, by their four octets.
 pub(crate) fn addresses(alloc: Global, count: u64) -> Result<Vec<[u8; 4]>, AllocError> {
-    let mut keys = Vec::new(alloc);
+    let mut keys = Vec::with_capacity(alloc, count.wrapping_mul(2) as usize)?;
     for number in 0..count.wrapping_mul(2) {
         keys.push(mix_32((number & 0xffff_ffff) as u32).to_be_bytes())?;
     }

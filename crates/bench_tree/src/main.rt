@@ -57,7 +57,7 @@ fn run(rt: &HostRuntime, mode: Mode, shape: &str, count: u64) -> io::Result<()> 
         "addresses" => run_addresses(rt, mode, shape, &mut addresses(alloc, count)?),
         "words" => {
             let texts = word_texts(alloc, count)?;
-            run_words(rt, mode, shape, &mut word_keys(alloc, &texts)?)
+            run_words(rt, mode, shape, &mut word_keys(alloc, count, &texts)?)
         }
         _ => Err(bad_words()),
     }
