@@ -1,4 +1,6 @@
+mod EndLemmas
 mod EntryLemmas
+mod LentLemmas
 mod LinkLemmas
 mod ListLemmas
 mod LoadedLemmas

@@ -27,17 +27,17 @@ pub slot-of : {K V : Type 0} {P : ℕ} (o : Option (LeafNode K V P)) (leaf : Lea
 slot-of None leaf is = absurd (cc)
 slot-of (Some other) leaf is = cc
 
-text-itself : (a : List ℕ) → pointwise nat_eq a a ≡ true
+pub text-itself : (a : List ℕ) → pointwise nat_eq a a ≡ true
 text-itself a = (bytes_decides a a).1 refl
 
-texts-same : (a b : List ℕ) → pointwise nat_eq a b ≡ true → a ≡ b
+pub texts-same : (a b : List ℕ) → pointwise nat_eq a b ≡ true → a ≡ b
 texts-same a b = (bytes_decides a b).0
 
 -- texts of different orders differ
 texts-apart : (a b : List ℕ) → text_order a b ≡ Greater → pointwise nat_eq a b ≡ true → ⊥
 texts-apart a b greater same = let wrong : true ≡ false = sym same ∙ texts_ties a b ∙ ap is_eq greater in absurd (cc)
 
-order-same : (a b : List ℕ) → text_order a b ≡ Equal → a ≡ b
+pub order-same : (a b : List ℕ) → text_order a b ≡ Equal → a ≡ b
 order-same a b equal = texts-same a b (texts_ties a b ∙ ap is_eq equal)
 
 module _ {K V : Type 0} (text : K → List ℕ) (entry : K × V) (x : List ℕ) where

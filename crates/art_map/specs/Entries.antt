@@ -1,8 +1,12 @@
--- A map as the list of its entries: the entry of a key.
-use Rattle.std.specs.Prelude.{ℕ, List, [], ◌∷◌, Option, Some, None, nat_eq, if◌then◌else◌}
+-- A map as the list of its entries: the entry of a key, and the list with another value in it.
+use Rattle.std.specs.Prelude.{ℕ, List, [], ◌∷◌, map, Option, Some, None, nat_eq, if◌then◌else◌}
 use Rattle.std.specs.Cmp.Lexicographic.{pointwise}
 
 -- the first of these entries whose key has this text
 abbrev pub entry_with : {K V : Type 0} → (K → List ℕ) → List (K × V) → List ℕ → Option (K × V)
 entry_with text [] x = None
 entry_with text (entry ∷ entries) x = if pointwise nat_eq (text entry.0) x then Some entry else entry_with text entries x
+
+-- these entries, of which the one whose key has this text has this value
+abbrev pub with_value : {K V : Type 0} → (K → List ℕ) → List (K × V) → List ℕ → V → List (K × V)
+with_value text entries x value = map (λ entry. (entry.0, if pointwise nat_eq (text entry.0) x then value else entry.1)) entries

@@ -1,5 +1,6 @@
 pub mod Changes
 pub mod Cuts
 pub mod Entries
+pub mod MapLending
 pub mod Ranges
 pub mod Runs

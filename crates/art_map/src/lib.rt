@@ -4,8 +4,10 @@
 
 mod cut;
 mod iter;
+mod keys;
 mod map;
 mod range;
 
 pub use iter::{HasRuns, Iter, Run};
+pub use keys::{Keys, RunKeys, RunValues, Values};
 pub use map::{ArtMap, DEFAULT_PREFIX_LEN, HasEntries, MapOver};

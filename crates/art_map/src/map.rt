@@ -3,7 +3,9 @@ ghost use Rattle.std.specs.Prelude.{◌≡◌, ◌≢◌, [], IfOk, IfErr};
 ghost use Rattle.art_tree.specs.Refusals.{texts_of, IsDue};
 
 mod changes;
+mod ends;
 mod laws;
+mod lending;
 mod reading;
 
 use art_bytes::AsBytes;

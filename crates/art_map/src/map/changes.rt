@@ -1,5 +1,5 @@
 //! Calls that change a map.
-ghost use Rattle.std.specs.Prelude.{◌≡◌, ◌≢◌, IfOk, IfErr, OnOk, OnErr, None};
+ghost use Rattle.std.specs.Prelude.{◌≡◌, ◌≢◌, IfOk, IfErr, IfNone, IfSome, OnOk, OnErr, None};
 ghost use Rattle.std.specs.Option.{option_map};
 ghost use Rattle.art_map.specs.Changes.{IsRefused, MayEnter};
 ghost use Rattle.art_tree.specs.Entries.{put_entry, without_text};
@@ -42,6 +42,33 @@ impl<K: AsBytes, V, const PREFIX_LEN: usize> ArtMap<K, V, PREFIX_LEN> {
         entries_are_one_list::<K, V, PREFIX_LEN>();
         the_list_of_entries_changes_with_them::<K, V, PREFIX_LEN>();
         self.tree.insert(key, value)
+    }
+
+    /// Adds an entry where none has the same key bytes. Where one has, it is kept, and key and value
+    /// are returned.
+    ///
+    /// Only a key without an entry is refused, as [`insert`](Self::insert) refuses it. Visits at most
+    /// one node more than the key has bytes, and then costs as much as [`insert`](Self::insert) where
+    /// there is no such entry.
+    pub fn try_insert(&mut self, key: K, value: V) -> Result<Option<(K, V)>, InsertFault<K, V>>
+        ensures kept { IfOk result (λ back. IfSome back (λ entry.
+            (entry ≡ (key, value)) × (self.new ≡ self.old)
+            × (entry_with K.text self.old (K.text key) ≢ None))) }
+        ensures added { IfOk result (λ back. IfNone back (
+            (entry_with K.text self.old (K.text key) ≡ None)
+            × (self.new ≡ put_entry K.text self.old (key, value)))) }
+        ensures refusal_due { IfErr result
+            (λ fault. IsRefused K.text self.old (K.text key) fault.refusal) }
+        ensures no_entry { OnErr result (entry_with K.text self.old (K.text key) ≡ None) }
+        ensures entry_back { IfErr result (λ fault. (fault.key ≡ key) × (fault.value ≡ value)) }
+        ensures same_entries { OnErr result (self.new ≡ self.old) }
+        ensures is_key { K.is_key key }
+    {
+        let _bytes = key.as_bytes();
+        if self.contains_key(&key) {
+            return Ok(Some((key, value)));
+        }
+        self.insert(key, value)
     }
 
     /// Removes the entry with the bytes of this key, if there is one, and returns it.

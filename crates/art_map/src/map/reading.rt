@@ -1,5 +1,5 @@
 //! Calls that read a map: entries by key, in order, within bounds, with a prefix.
-ghost use Rattle.std.specs.Prelude.{◌≡◌, ◌-◌, ◌↔◌, IsTrue, filter, length, not, slice_get};
+ghost use Rattle.std.specs.Prelude.{◌≡◌, ◌-◌, ◌↔◌, IsTrue, filter, length, map, not, slice_get};
 ghost use Rattle.std.specs.Option.{option_copied, option_map, is_some};
 ghost use Rattle.art_map.specs.Cuts.{is_before, is_between};
 ghost use Rattle.art_map.specs.Entries.{entry_with};
@@ -7,6 +7,7 @@ ghost use Rattle.art_map.specs.Ranges.{entries_above, entries_from, entries_with
 
 use crate::cut::Side;
 use crate::iter::{Iter, run_between};
+use crate::keys::{Keys, Values, keys_of, values_of};
 use crate::map::ArtMap;
 use crate::range::ends_between;
 use art_bytes::AsBytes;
@@ -117,6 +118,22 @@ impl<K: AsBytes, V, const PREFIX_LEN: usize> ArtMap<K, V, PREFIX_LEN> {
         ensures { result ≡ self.now }
     {
         self.between(Side::Before, &[], Side::AfterBegun, &[])
+    }
+
+    /// The keys, in ascending order of their bytes, and from the back in descending order. Costs as
+    /// much as [`iter`](Self::iter). Takes no memory.
+    pub fn keys(&self) -> Keys<'_, K, V, PREFIX_LEN>
+        ensures { result ≡ map (λ entry. entry.0) self.now }
+    {
+        keys_of(self.iter())
+    }
+
+    /// The values, in ascending order of the bytes of their keys, and from the back in descending
+    /// order. Costs as much as [`iter`](Self::iter). Takes no memory.
+    pub fn values(&self) -> Values<'_, K, V, PREFIX_LEN>
+        ensures { result ≡ map (λ entry. entry.1) self.now }
+    {
+        values_of(self.iter())
     }
 
     /// The entries whose keys are within the two bounds, in ascending order, and from the back in

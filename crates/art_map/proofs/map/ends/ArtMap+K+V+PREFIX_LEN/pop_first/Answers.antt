@@ -1,0 +1,41 @@
+use Rattle.std.proofs.Common.{◌≡◌, ◌≢◌, ◌∙◌, [], ◌∷◌, sym, ap}
+use Rattle.art_arena.specs.declared.ends.End.TheVariants.{First}
+use Rattle.art_tree.specs.Dictionary.{IsEmpty, SameEntries}
+use Rattle.art_tree.specs.Ends.{IsEndEntry, EndMeets}
+use Rattle.art_tree.specs.Entries.{entries_of}
+use Rattle.art_tree.specs.Removal.{IsLeft, NeedsSmallerNode}
+use Rattle.art_map.proofs.EndLemmas.{first-and-left, end-there, if-none-both, if-some-both}
+use Rattle.art_map.proofs.ListLemmas.{on-err}
+use Rattle.art_map.proofs.map.ends.ArtMap+K+V+PREFIX_LEN.pop_first.Goals as goal
+
+pub returns-clause-first : goal.returns-clause-first
+returns-clause-first g c =
+    let text = g.K.AsBytes.text in
+    let old = c.self.inside.tree.arena in
+    let new = c.pop_first.new.self.arena in
+    let left = entries_of text new in
+    if-some-both c.pop_first.result (IsEndEntry text old First) (λ entry. IsLeft text old new (text entry.0)) (λ entry. c.args.self.now ≡ entry ∷ left)
+    (λ entry end gone. sym c.self.view_is ∙ c.entries_are_one_list.ensures.only old (entries_of text old) (entry ∷ left) (c.entries_are_one_list.ensures.list old)
+    (first-and-left text old new entry gone end.is_entry left (c.entries_are_one_list.ensures.list new) end)) c.pop_first.ensures.removed c.pop_first.ensures.left
+
+pub returns-clause-none : goal.returns-clause-none
+returns-clause-none g c =
+    let text = g.K.AsBytes.text in
+    let old = c.self.inside.tree.arena in
+    if-none-both c.pop_first.result (IsEmpty text old) (c.pop_first.new.self ≡ c.self.inside.tree) ((c.args.self.now ≡ []) × (entries_of text c.pop_first.new.self.arena ≡ []))
+    (λ empty kept.
+    let nothing = c.entries_are_one_list.ensures.none old empty in
+    (sym c.self.view_is ∙ nothing, ap (λ tree. entries_of text tree.arena) kept ∙ nothing)) c.pop_first.ensures.none c.pop_first.ensures.empty_kept
+
+pub returns-clause-refused : goal.returns-clause-refused
+returns-clause-refused g c =
+    let text = g.K.AsBytes.text in
+    let old = c.self.inside.tree.arena in
+    on-err c.pop_first.result (EndMeets text old First (NeedsSmallerNode text old)) (c.args.self.now ≢ [])
+    (λ meets nil. end-there meets.0 (entries_of text old) ((c.entries_are_one_list.ensures.members old meets.0).1 meets.1.is_entry) (c.self.view_is ∙ nil)) c.pop_first.ensures.refused
+
+pub returns-clause-same_entries : goal.returns-clause-same_entries
+returns-clause-same_entries g c =
+    let text = g.K.AsBytes.text in
+    let old = c.self.inside.tree.arena in
+    on-err c.pop_first.result (SameEntries text old c.pop_first.new.self.arena) _ (λ same. c.the_list_of_entries_changes_with_them.ensures.same old c.pop_first.new.self.arena same ∙ c.self.view_is) c.pop_first.ensures.same_entries

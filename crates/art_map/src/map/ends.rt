@@ -1,0 +1,55 @@
+//! Calls that take entries from the two ends of a map, or all of them.
+ghost use Rattle.std.specs.Prelude.{◌≡◌, ◌≢◌, ◌∷◌, ◌++◌, [], IfOk, IfNone, IfSome, OnErr};
+
+use crate::map::ArtMap;
+use art_bytes::AsBytes;
+use art_tree::laws::{entries_are_one_list, the_list_of_entries_changes_with_them};
+use std::alloc::AllocError;
+
+impl<K: AsBytes, V, const PREFIX_LEN: usize> ArtMap<K, V, PREFIX_LEN> {
+    /// Removes the entry with the least key and returns it, or None where there is no entry.
+    ///
+    /// An allocation may fail only where there is an entry, since a smaller node may take the place
+    /// of a node on the way. After a failure the entries are unchanged.
+    ///
+    /// Visits the nodes on the way to the entry twice, each time at most one for each byte of its key
+    /// and one more, and changes at most three of them.
+    pub fn pop_first(&mut self) -> Result<Option<(K, V)>, AllocError>
+        ensures first { IfOk result (λ removed.
+            IfSome removed (λ entry. self.old ≡ entry ∷ self.new)) }
+        ensures none { IfOk result (λ removed.
+            IfNone removed ((self.old ≡ []) × (self.new ≡ []))) }
+        ensures refused { OnErr result (self.old ≢ []) }
+        ensures same_entries { OnErr result (self.new ≡ self.old) }
+    {
+        entries_are_one_list::<K, V, PREFIX_LEN>();
+        the_list_of_entries_changes_with_them::<K, V, PREFIX_LEN>();
+        self.tree.pop_first()
+    }
+
+    /// Removes the entry with the greatest key and returns it, or None where there is no entry. Fails
+    /// and costs as [`pop_first`](Self::pop_first).
+    pub fn pop_last(&mut self) -> Result<Option<(K, V)>, AllocError>
+        ensures last { IfOk result (λ removed.
+            IfSome removed (λ entry. self.old ≡ self.new ++ entry ∷ [])) }
+        ensures none { IfOk result (λ removed.
+            IfNone removed ((self.old ≡ []) × (self.new ≡ []))) }
+        ensures refused { OnErr result (self.old ≢ []) }
+        ensures same_entries { OnErr result (self.new ≡ self.old) }
+    {
+        entries_are_one_list::<K, V, PREFIX_LEN>();
+        the_list_of_entries_changes_with_them::<K, V, PREFIX_LEN>();
+        self.tree.pop_last()
+    }
+}
+
+impl<K: AsBytes + Drop, V: Drop, const PREFIX_LEN: usize> ArtMap<K, V, PREFIX_LEN> {
+    /// Removes every entry. Takes time linear in the number of entries, and no memory: the nodes'
+    /// memory is kept for later entries.
+    pub fn clear(&mut self)
+        ensures { self.new ≡ [] }
+    {
+        entries_are_one_list::<K, V, PREFIX_LEN>();
+        self.tree.clear();
+    }
+}
