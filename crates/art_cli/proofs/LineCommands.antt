@@ -17,9 +17,10 @@ module _ {C F : Type 0} (Say : List ℕ → C → Type 0) (IsAtFault : List ℕ 
         rw (pushed, append_assoc) (so_far (command ∷ more) fault this)
 
     -- a bad line
-    pub say_bad : (fault : F) → SayUntil Say IsAtFault (lines_of rest) [] (Some fault) → SayUntil Say IsAtFault all items (Some fault)
-    say_bad fault bad =
-        let all_said : SayUntil Say IsAtFault all (items ++ []) (Some fault) = so_far [] (Some fault) bad in
+    pub say_bad : (line after : List ℕ) (fault : F) → lines_of rest ≡ line ∷ lines_of after → IsAtFault line fault → SayUntil Say IsAtFault all items (Some fault)
+    say_bad line after fault cut bad =
+        let this : SayUntil Say IsAtFault (lines_of rest) [] (Some fault) = rw cut bad in
+        let all_said : SayUntil Say IsAtFault all (items ++ []) (Some fault) = so_far [] (Some fault) this in
         rw append-nil at all_said
 
     -- the end

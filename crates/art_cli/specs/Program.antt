@@ -57,6 +57,12 @@ failure_for line refusals.KeyTooLong = BadLine line KeyTooLong
 failure_for line refusals.Prefix = BadLine line PrefixOfOther
 failure_for line refusals.OutOfMemory = OutOfMemory
 
+-- the failures of commands: the entry in the line of this number is the first that is refused
+abbrev pub IsEntryFailure : List (TreeCommand (List ℕ)) → Failure → Type 0
+IsEntryFailure commands (BadLine number fault) = AreRefused commands number fault
+IsEntryFailure commands OutOfMemory = Unit {0}
+IsEntryFailure commands _ = ⊥
+
 -- the failures of an input of `find`: the line of this number is the first that gives no command;
 -- or each gives one, and the entry there is the first that is refused
 abbrev pub IsFindFailure : List ℕ → Failure → Type 0

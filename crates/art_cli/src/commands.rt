@@ -1,5 +1,5 @@
 //! Lines to commands, for `replay` and for `find`.
-ghost use Rattle.std.specs.Prelude.{◌≡◌, ◌<◌, ◌∷◌, ℕ, List, [], Some, length, IfOk, IfErr};
+ghost use Rattle.std.specs.Prelude.{ℕ, List, IfOk, IfErr};
 ghost use Rattle.art_cli.specs.Lines.{lines_of, SayUntil};
 
 use crate::failure::LineFault;
@@ -22,22 +22,6 @@ pub(crate) trait LineCommand<'a>: Sized {
         ensures refused { IfErr result (is_at_fault line.now) };
 }
 
-/// The command of the first line, and the bytes after that line; or the fault of that line. There
-/// must be a byte.
-pub(crate) fn first_command<'a, C: LineCommand<'a>>(
-    bytes: &'a [u8],
-) -> Result<(C, &'a [u8]), LineFault>
-    requires { 0 < length bytes.now }
-    ensures said { IfOk result (λ first. (line : List ℕ) × (lines_of bytes.now
-        ≡ line ∷ lines_of first.1.now) × C.says line first.0) }
-    ensures shorter { IfOk result (λ first. length first.1.now < length bytes.now) }
-    ensures refused { IfErr result
-        (λ fault. SayUntil C.says C.is_at_fault (lines_of bytes.now) [] (Some fault)) }
-{
-    let (line, after) = first_line(bytes);
-    Ok((C::of_line(line)?, after))
-}
-
 /// The commands of the lines up to the first bad one, one a line, and the fault of that one. A line
 /// ends at byte 10, and a last line without one counts where it has a byte.
 ///
@@ -53,13 +37,12 @@ pub(crate) fn commands_of<'a, C: LineCommand<'a> + Drop>(
     let mut commands = Vec::with_capacity(alloc, lines)?;
     let mut rest = input;
     while !rest.is_empty() {
-        match first_command(rest) {
-            Ok((command, after)) => {
-                commands.push(command)?;
-                rest = after;
-            }
+        let (line, after) = first_line(rest);
+        match C::of_line(line) {
+            Ok(command) => commands.push(command)?,
             Err(fault) => return Ok((commands, Some(fault))),
         }
+        rest = after;
     }
     Ok((commands, None))
 }

@@ -1,4 +1,5 @@
 //! Single inner nodes.
+use art_tree::InnerNodeRead;
 use art_tree::{InnerNode, InnerNode4, InnerNodeCommon, Mapped, OpaqueNodePtr, ToUBE};
 
 type Key = Mapped<ToUBE, u32>;

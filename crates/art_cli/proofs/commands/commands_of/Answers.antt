@@ -9,11 +9,11 @@ loop-rest-init g c more fault said =
 
 pub returns-in-Err : goal.returns-in-Err
 returns-in-Err g c =
-    say_bad g.C.LineCommand.says g.C.LineCommand.is_at_fault (lines_of c.args.input.now) c.loop-rest.commands.items c.loop-rest.rest.now c.loop-rest.invariant c.in-Err.fault c.in-Err.ensures.refused
+    say_bad g.C.LineCommand.says g.C.LineCommand.is_at_fault (lines_of c.args.input.now) c.loop-rest.commands.items c.loop-rest.rest.now c.loop-rest.invariant c.first_line.result.0.now c.first_line.result.1.now c.in-Err.fault c.first_line.ensures.lines c.in-Err.ensures.refused
 
 pub loop-rest-preserved : goal.loop-rest-preserved
 loop-rest-preserved g c more fault said =
-    say_next g.C.LineCommand.says g.C.LineCommand.is_at_fault (lines_of c.args.input.now) c.loop-rest.commands.items c.loop-rest.rest.now c.loop-rest.invariant c.in-Ok.ensures.said.0 c.in-Ok.after.now c.in-Ok.command c.push.new.self.items more fault c.in-Ok.ensures.said.1 c.in-Ok.ensures.said.2 c.in_ok-push-in-Ok.ensures.items said
+    say_next g.C.LineCommand.says g.C.LineCommand.is_at_fault (lines_of c.args.input.now) c.loop-rest.commands.items c.loop-rest.rest.now c.loop-rest.invariant c.first_line.result.0.now c.first_line.result.1.now c.in-Ok.command c.push.new.self.items more fault c.first_line.ensures.lines c.in-Ok.ensures.said c.in_ok-push-in-Ok.ensures.items said
 
 pub returns : goal.returns
 returns g c =

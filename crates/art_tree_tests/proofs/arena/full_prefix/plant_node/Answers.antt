@@ -9,5 +9,5 @@ returns g c = λ under.
     let old = c.args.arena.now in
     let new = c.allocate_node_ptr.new.self in
     each-value c.allocate_node_ptr.result c.allocate_node_ptr.ensures.was_free c.allocate_node_ptr.ensures.added (λ pointer was_free added.
-    c.an_allocated_node_makes_a_tree.ensures.under old new (opaque_pointer g.N.Node.TYPE (slab_key pointer)) (g.N.InnerNodeCommon.inner c.args.node) c.args.depth under was_free
+    c.an_allocated_node_makes_a_tree.ensures.under old new (opaque_pointer g.N.Node.TYPE (slab_key pointer)) (g.N.InnerNodeRead.inner c.args.node) c.args.depth under was_free
     (subst (Changes old new (opaque_pointer g.N.Node.TYPE (slab_key pointer))) (g.met.N.ArenaInnerNode.shown c.args.node) added))

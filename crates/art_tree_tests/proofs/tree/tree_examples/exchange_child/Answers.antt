@@ -14,9 +14,9 @@ not-none (Some x) differs none = absurd (cc)
 
 pub write_child-requires : goal.write_child-requires
 write_child-requires g c =
-    let node = g.N.InnerNodeCommon.inner c.as_mut.result.now in
+    let node = g.N.InnerNodeRead.inner c.as_mut.result.now in
     let is : held c.args.arena.now (opaque_pointer g.N.Node.TYPE (slab_key c.args.node)) ≡ HeldInner node = c.as_mut.ensures.node ∙ g.met.N.ArenaInnerNode.shown c.as_mut.result.now in
-    let has_room : HasRoomFor g.N.InnerNodeCommon.room node c.args.byte = λ none. absurd (not-none (child_at node.children c.args.byte) (c.requires.has_child node is) none) in
+    let has_room : HasRoomFor g.N.InnerNodeRead.room node c.args.byte = λ none. absurd (not-none (child_at node.children c.args.byte) (c.requires.has_child node is) none) in
     -- the size in memory of a pointer
     let fits : 16 < 2 ^ 63 = lit< tt in
     search
@@ -26,7 +26,7 @@ returns g c = λ above prefix before after part now stood sound root now_sound n
     let old = c.args.arena.now in
     let pointer = opaque_pointer g.N.Node.TYPE (slab_key c.args.node) in
     let context = Under above pointer prefix before c.args.byte after in
-    let own = g.N.InnerNodeCommon.inner c.as_mut.result.now in
+    let own = g.N.InnerNodeRead.inner c.as_mut.result.now in
     let was : held old pointer ≡ HeldInner own = c.as_mut.ensures.node ∙ g.met.N.ArenaInnerNode.shown c.as_mut.result.now in
     let new = with_node g.N.Shelved.slab_of g.N.Shelved.with_slab old (slab_key c.args.node) c.write_child.new.self in
     let changes = c.as_mut.ensures.changes c.write_child.new.self in
