@@ -7,7 +7,9 @@ mod iter;
 mod keys;
 mod map;
 mod range;
+mod set;
 
 pub use iter::{HasRuns, Iter, Run};
 pub use keys::{Keys, RunKeys, RunValues, Values};
 pub use map::{ArtMap, DEFAULT_PREFIX_LEN, HasEntries, MapOver};
+pub use set::{ArtSet, SetOver};
