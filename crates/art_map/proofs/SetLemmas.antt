@@ -2,7 +2,7 @@
 use Rattle.std.proofs.Common.{◌≡◌, ◌∙◌, ℕ, zero, suc, ◌<◌, ◌^◌, Bool, true, false, cond, List, [], ◌∷◌, length, map, filter, AllPairs, Option, Some, None, Result, Ok, Err, IfOk, IfErr, IfSome, IfNone, OnOk, OnErr, slice_index_or, refl, sym, ap, subst, arith, nat_eq}
 use Rattle.std.specs.Cmp.Lexicographic.{pointwise, nat_list_cmp_total, texts_ties}
 use Rattle.std.specs.Option.{is_none, is_some}
-use Rattle.std.specs.Ordering.{is_eq, match_ordering, ordering_reverse}
+use Rattle.std.specs.Ordering.{is_eq, ordering_reverse}
 use Rattle.std.specs.Result.{result_map_both}
 use Rattle.std.specs.declared.cmp.Ordering.{Ordering}
 use Rattle.std.specs.declared.cmp.Ordering.TheVariants.{Less, Equal, Greater}
@@ -61,6 +61,10 @@ module _ {K V : Type 0} (text : K → List ℕ) where
   pub texts-in : (entries : List (K × V)) → map text (keys_in entries) ≡ texts_of text entries
   texts-in [] = refl
   texts-in (entry ∷ entries) = ap (λ all. text entry.0 ∷ all) (texts-in entries)
+
+  pub keys-there : (entries : List (K × V)) → (entries ≡ [] → ⊥) → keys_in entries ≡ [] → ⊥
+  keys-there [] there none = there refl
+  keys-there (entry ∷ entries) there none = absurd (cc)
 
   -- an entry of a text is a key of it
   pub key-of-entry : (entries : List (K × V)) (x : List ℕ) → is_some (entry_with text entries x) ≡ true → HasKey text (keys_in entries) x

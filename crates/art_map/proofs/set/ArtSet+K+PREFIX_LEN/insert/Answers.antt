@@ -1,4 +1,4 @@
-use Rattle.std.proofs.Common.{◌≡◌, ◌↔◌, ◌∙◌, Bool, true, false, IsTrue, IfErr, IfOk, OnErr, OnOk, map, refl, sym, ap, subst}
+use Rattle.std.proofs.Common.{◌≡◌, ◌↔◌, ◌∙◌, false, IsTrue, IfErr, IfOk, OnErr, OnOk, map, refl, sym, ap, subst}
 use Rattle.art_map.specs.Changes.{IsRefused}
 use Rattle.art_map.specs.Entries.{entry_with}
 use Rattle.art_map.specs.Sets.{HasKey, put_key, IsKeyRefused, KeyMayEnter}
