@@ -1,5 +1,6 @@
 //! An ordered map over an adaptive radix tree: `ArtMap`, whose contracts see it as the list of its
-//! entries. `CALLING.md` shows how it is used.
+//! entries. `ArtSet` is an ordered set, seen as the list of its keys. `CALLING.md` shows how they are
+//! used.
 #![tactic(auto)]
 
 mod cut;
