@@ -7,4 +7,5 @@ mod LoadedLemmas
 mod PartLemmas
 mod RangeLemmas
 mod RunLemmas
+mod SetLemmas
 mod TextLemmas

@@ -34,7 +34,7 @@ pub texts-same : (a b : List ℕ) → pointwise nat_eq a b ≡ true → a ≡ b
 texts-same a b = (bytes_decides a b).0
 
 -- texts of different orders differ
-texts-apart : (a b : List ℕ) → text_order a b ≡ Greater → pointwise nat_eq a b ≡ true → ⊥
+pub texts-apart : (a b : List ℕ) → text_order a b ≡ Greater → pointwise nat_eq a b ≡ true → ⊥
 texts-apart a b greater same = let wrong : true ≡ false = sym same ∙ texts_ties a b ∙ ap is_eq greater in absurd (cc)
 
 pub order-same : (a b : List ℕ) → text_order a b ≡ Equal → a ≡ b

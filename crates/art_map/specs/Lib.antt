@@ -4,3 +4,4 @@ pub mod Entries
 pub mod MapLending
 pub mod Ranges
 pub mod Runs
+pub mod Sets

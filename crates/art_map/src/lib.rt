@@ -1,5 +1,6 @@
 //! An ordered map over an adaptive radix tree: `ArtMap`, whose contracts see it as the list of its
-//! entries. `CALLING.md` shows how it is used.
+//! entries. `ArtSet` is an ordered set, seen as the list of its keys. `CALLING.md` shows how they are
+//! used.
 #![tactic(auto)]
 
 mod cut;
@@ -7,7 +8,9 @@ mod iter;
 mod keys;
 mod map;
 mod range;
+mod set;
 
 pub use iter::{HasRuns, Iter, Run};
 pub use keys::{Keys, RunKeys, RunValues, Values};
 pub use map::{ArtMap, DEFAULT_PREFIX_LEN, HasEntries, MapOver};
+pub use set::{ArtSet, SetOver};

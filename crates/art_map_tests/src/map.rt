@@ -1,6 +1,7 @@
 //! Tests of a map: tables of ranges and prefixes, changes, and one allocation failure.
 mod map_examples;
 mod refusals;
+mod set_examples;
 mod taken_entries;
 
 use art_map::{ArtMap, Iter};

@@ -68,6 +68,7 @@ impl<K: AsBytes, V, const PREFIX_LEN: usize> ArtMap<K, V, PREFIX_LEN> {
         ensures added { IfOk result (λ back. IfNone back (
             (entry_with K.text self.old (K.text key) ≡ None)
             × (self.new ≡ put_entry K.text self.old (key, value)))) }
+        ensures no_refusal { IfOk result (λ back. IfNone back (MayEnter K.text self.old (K.text key))) }
         ensures refusal_due { IfErr result
             (λ fault. IsRefused K.text self.old (K.text key) fault.refusal) }
         ensures no_entry { OnErr result (entry_with K.text self.old (K.text key) ≡ None) }

@@ -1,0 +1,33 @@
+use Rattle.std.proofs.Common.{◌≡◌, ◌∙◌, not, nat_eq, sym, ap, subst}
+use Rattle.std.specs.Cmp.Lexicographic.{pointwise}
+use Rattle.std.specs.Option.{is_some}
+use Rattle.art_map.specs.Entries.{entry_with}
+use Rattle.art_map.specs.Sets.{HasKey, without_key}
+use Rattle.art_map.proofs.SetLemmas.{entry-of-key, key-of-entry, keys_in, map-of-filter, on-err-so, some-of}
+use Rattle.art_map.proofs.set.ArtSet+K+PREFIX_LEN.remove.Goals as goal
+
+pub returns-in_err-removed-clause-refused : goal.returns-in_err-removed-clause-refused
+returns-in_err-removed-clause-refused g c =
+    let text = g.K.AsBytes.text in
+    let entries = c.self.inside.entries in
+    let x = g.Q.AsBytes.text c.args.key.now in
+    on-err-so c.from_residual.result (HasKey text c.args.self.now x)
+    (subst (λ keys. HasKey text keys x) c.self.view_is (key-of-entry text entries x (some-of (entry_with text entries x) c.in_err-removed.ensures.refused)))
+
+pub returns-clause-was_there : goal.returns-clause-was_there
+returns-clause-was_there g c =
+    let text = g.K.AsBytes.text in
+    let entries = c.self.inside.entries in
+    let x = g.Q.AsBytes.text c.args.key.now in
+    let found : c.is_some.result ≡ is_some (entry_with text entries x) = c.is_some.ensures ∙ ap is_some c.in_ok-removed.ensures.removed in (
+      λ some. subst (λ keys. HasKey text keys x) c.self.view_is (key-of-entry text entries x (sym found ∙ some)),
+      λ has. found ∙ entry-of-key text entries x (subst (λ keys. HasKey text keys x) (sym c.self.view_is) has),
+    )
+
+pub returns-clause-keys : goal.returns-clause-keys
+returns-clause-keys g c =
+    let text = g.K.AsBytes.text in
+    let x = g.Q.AsBytes.text c.args.key.now in
+    ap (keys_in text) c.in_ok-removed.ensures.entries
+    ∙ map-of-filter (λ entry. entry.0) (λ key. not (pointwise nat_eq (text key) x)) c.self.inside.entries
+    ∙ ap (λ keys. without_key text keys x) c.self.view_is

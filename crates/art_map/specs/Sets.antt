@@ -1,0 +1,45 @@
+-- A set as the list of its keys, ascending by text.
+use Rattle.std.specs.Prelude.{ℕ, ◌<◌, ◌≤◌, ◌^◌, ◌&&◌, not, List, [], ◌∷◌, length, map, filter, Contains, nat_eq}
+use Rattle.std.specs.Borrow.{Bor}
+use Rattle.std.specs.Cmp.Lexicographic.{pointwise}
+use Rattle.std.specs.List.{starts_with}
+use Rattle.std.specs.Ordering.{match_ordering}
+use Rattle.std.specs.declared.ops.Bound.{Bound}
+use Rattle.art_bytes.specs.Text.{text_order}
+use Rattle.art_tree.specs.Dictionary.{Clashes}
+use Rattle.art_tree.specs.declared.insert.InsertRefusal.{InsertRefusal}
+use Rattle.art_tree.specs.declared.insert.InsertRefusal.TheVariants.{KeyTooLong, Prefix, OutOfMemory}
+use Rattle.art_map.specs.Ranges.{is_from, is_up_to}
+
+module _ {K : Type 0} (text : K → List ℕ) where
+  -- one of these keys has this text
+  abbrev pub HasKey : List K → List ℕ → Type 0
+  HasKey keys x = Contains (map text keys) x
+
+  -- the keys with this one before the first of a greater text, unchanged where one has its text
+  abbrev pub put_key : List K → K → List K
+  put_key [] key = key ∷ []
+  put_key (other ∷ keys) key =
+      match_ordering (text_order (text key) (text other)) (key ∷ other ∷ keys) (other ∷ keys) (other ∷ put_key keys key)
+
+  -- the keys without those of this text
+  abbrev pub without_key : List K → List ℕ → List K
+  without_key keys x = filter (λ key. not (pointwise nat_eq (text key) x)) keys
+
+  -- the keys within two bounds
+  abbrev pub keys_within : {Q : Type 0} → (Q → List ℕ) → Bound (Bor Q) → Bound (Bor Q) → List K → List K
+  keys_within bound_text start end keys = filter (λ key. is_up_to bound_text end (text key) && is_from bound_text start (text key)) keys
+
+  -- the keys that begin with these bytes
+  abbrev pub keys_with_prefix : List ℕ → List K → List K
+  keys_with_prefix x keys = filter (λ key. starts_with nat_eq (text key) x) keys
+
+  -- nothing but an allocation failure refuses a key with this text
+  abbrev pub KeyMayEnter : List K → List ℕ → Type 0
+  KeyMayEnter keys x = (length x < 2 ^ 32) × (¬ Clashes (map text keys) x)
+
+  -- the first refusal that is due to a key with this text, which no key of the set has
+  abbrev pub IsKeyRefused : List K → List ℕ → InsertRefusal → Type 0
+  IsKeyRefused keys x KeyTooLong = 2 ^ 32 ≤ length x
+  IsKeyRefused keys x Prefix = (length x < 2 ^ 32) × Clashes (map text keys) x
+  IsKeyRefused keys x OutOfMemory = KeyMayEnter keys x

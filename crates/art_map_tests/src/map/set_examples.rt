@@ -1,0 +1,70 @@
+//! How a crate uses a set: names that are added, looked up in order, and taken.
+use super::*;
+use art_map::ArtSet;
+
+type Names = ArtSet<StrKey<'static>, 16>;
+
+fn insert_names(rt: &impl Abort, names: &mut Names) -> Result<(), Fail> {
+    for name in ["tin", "titanium", "iron", "zinc"] {
+        let added = names
+            .insert(StrKey::new(name))
+            .map_err(|fault| fault.refusal)?;
+        assert!(rt; added);
+    }
+    let added = names
+        .insert(StrKey::new("tin"))
+        .map_err(|fault| fault.refusal)?;
+    assert!(rt; !added);
+    assert!(rt; names.len() == 4 && !names.is_empty());
+    Ok(())
+}
+
+fn read_names(rt: &impl Abort, names: &Names) {
+    assert!(rt; names.contains(b"tin") && !names.contains(b"ti"));
+    let (Some(first), Some(last)) = (names.first(), names.last()) else {
+        panic!(rt; "no key");
+    };
+    assert!(rt; first.get() == "iron" && last.get() == "zinc");
+    let mut keys = names.iter();
+    let (Some(first), Some(last)) = (keys.next(), keys.next_back()) else {
+        panic!(rt; "no key");
+    };
+    assert!(rt; first.get() == "iron" && last.get() == "zinc");
+    assert!(rt; keys.next().is_some() && keys.next().is_some() && keys.next().is_none());
+}
+
+fn read_some_names(rt: &impl Abort, names: &Names) {
+    let mut with_ti = names.prefix(b"ti");
+    assert!(rt; with_ti.next().is_some() && with_ti.next().is_some() && with_ti.next().is_none());
+    let mut from_u = names.range(Bound::Included(b"u"), Bound::Unbounded);
+    let Some(name) = from_u.next() else {
+        panic!(rt; "no key");
+    };
+    assert!(rt; name.get() == "zinc" && from_u.next().is_none());
+}
+
+fn take_names(rt: &impl Abort, names: &mut Names) -> Result<(), Fail> {
+    assert!(rt; names.remove(b"titanium")? && !names.remove(b"titanium")?);
+    let Some(first) = names.pop_first()? else {
+        panic!(rt; "no first key");
+    };
+    assert!(rt; first.get() == "iron");
+    let Some(last) = names.pop_last()? else {
+        panic!(rt; "no last key");
+    };
+    assert!(rt; last.get() == "zinc");
+    assert!(rt; names.len() == 1);
+    names.clear();
+    assert!(rt; names.is_empty());
+    assert!(rt; names.pop_first()?.is_none() && names.pop_last()?.is_none());
+    Ok(())
+}
+
+#[test]
+fn names_are_added_read_and_taken(rt: HostRuntime) -> Result<(), Fail> {
+    let mut names = ArtSet::new(rt.alloc());
+    insert_names(&rt, &mut names)?;
+    read_names(&rt, &names);
+    read_some_names(&rt, &names);
+    take_names(&rt, &mut names)
+}
