@@ -1,6 +1,7 @@
 //! Single inner nodes.
-use art_tree::InnerNodeRead;
-use art_tree::{InnerNode, InnerNode4, InnerNodeCommon, Mapped, OpaqueNodePtr, ToUBE};
+use art_tree::{
+    InnerNode, InnerNode4, InnerNodeCommon, InnerNodeRead, Mapped, OpaqueNodePtr, ToUBE,
+};
 
 type Key = Mapped<ToUBE, u32>;
 
