@@ -17,7 +17,7 @@ ghost use Rattle.art_tree.specs.Room.{FreesOneEach, GrowsOnlyWhere, LacksRoomToR
 ghost use Rattle.art_tree.specs.Search.{IsPathTo, leaf_pointer};
 ghost use Rattle.art_tree.specs.declared.path.TreePath.TheVariants.{Root};
 
-pub(crate) mod ends;
+pub(crate) mod end_removal;
 mod removed_child;
 
 use crate::find::find_leaf;

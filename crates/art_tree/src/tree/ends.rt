@@ -7,7 +7,7 @@ ghost use Rattle.art_tree.specs.Ends.{IsEndEntry, EndMeets};
 ghost use Rattle.art_tree.specs.Removal.{IsLeft, NeedsSmallerNode};
 ghost use Rattle.art_tree.specs.Room.{FreesOneEach, GrowsOnlyWhere, LacksRoomToRemove};
 
-use crate::remove::ends::remove_end;
+use crate::remove::end_removal::remove_end;
 use crate::tree::ArtTree;
 use art_arena::End;
 use art_bytes::AsBytes;

@@ -12,7 +12,7 @@ use Rattle.art_tree.proofs.SharedLemmas.DictionaryLemmas.{end-held}
 use Rattle.art_tree.proofs.SharedLemmas.ExchangedTree.{entries-stay}
 use Rattle.art_tree.proofs.RemoveLemmas.EndPlaces.{end-is}
 use Rattle.art_tree.proofs.InsertLemmas.NodeLemmas.{leaf-pointer-fits, spot-fits}
-use Rattle.art_tree.proofs.remove.ends.remove_end.Goals as goal
+use Rattle.art_tree.proofs.remove.end_removal.remove_end.Goals as goal
 
 pub remove_leaf-requires : goal.remove_leaf-requires
 remove_leaf-requires g c =

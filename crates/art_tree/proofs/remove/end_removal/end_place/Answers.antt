@@ -2,7 +2,7 @@ use Rattle.std.proofs.Common.{[], Contains, subst, sym}
 use Rattle.art_arena.specs.Trees.{leaves}
 use Rattle.art_tree.specs.Search.{leaf_pointer}
 use Rattle.art_tree.proofs.RemoveLemmas.EndPlaces.{end-text, search-finds, search-path}
-use Rattle.art_tree.proofs.remove.ends.end_place.Goals as goal
+use Rattle.art_tree.proofs.remove.end_removal.end_place.Goals as goal
 
 pub unreachable-requires : goal.unreachable-requires
 unreachable-requires g c =
