@@ -16,7 +16,7 @@ use Rattle.art_nodes.specs.declared.pointers.OpaqueNodePtr.{OpaqueNodePtr}
 use Rattle.art_nodes.specs.declared.leaf_node.LeafNode.{LeafNode}
 use Rattle.art_nodes.proofs.KindLaws.{same_or_differ}
 use Rattle.art_arena.proofs.StandingLaws.{one-inner}
-use Rattle.art_arena.specs.Arena.{ArenaOf, Held, HeldInner, Nothing, held, held_inner, held_leaf, held_under, held_option, Changes, SameNodes, room, slab_room, capacity, space, SameRoom, SameOtherRoom, SameCapacity, SameOtherCapacity}
+use Rattle.art_arena.specs.Arena.{NodeArena, Held, HeldInner, Nothing, held, held_inner, held_leaf, held_under, held_option, Changes, SameNodes, room, slab_room, capacity, space, SameRoom, SameOtherRoom, SameCapacity, SameOtherCapacity}
 
 -- a slab returns a reference where it has a value
 pub IsSome-lent : {T : Type 0} (lent : Option (Bor T)) {slot : Option T} → option_copied lent ≡ slot → IsSome slot → IsSome lent
@@ -39,11 +39,11 @@ slab_room-with_value slab key value within =
     let same = rw within at counted in
     ap (λ n. slab.capacity - n) (let e : slab_len (with_value slab key value) ≡ slab_len slab = omega arith in e)
 
-module _ {K V : Type 0} {P : ℕ} {N : Type 0} (kind : NodeType) (slab_of : ArenaOf K V P → Slab N) (with_slab : ArenaOf K V P → Slab N → ArenaOf K V P) (held_as : N → Held (OpaqueNodePtr K V P) (LeafNode K V P))
-    (held_in_slab : (arena : ArenaOf K V P) (key : ℕ) → held_under arena kind key ≡ held_option held_as (get (slab_of arena) key))
-    (slab_written : (arena : ArenaOf K V P) (slots : Slab N) → slab_of (with_slab arena slots) ≡ slots)
-    (others_kept : (arena : ArenaOf K V P) (slots : Slab N) (other : NodeType) (key : ℕ) → other ≢ kind → held_under (with_slab arena slots) other key ≡ held_under arena other key) where
-  pub Changes-written : (arena : ArenaOf K V P) (slots : Slab N) (key : ℕ) (slot : Option N) → Updates (slab_of arena) slots key slot → Changes arena (with_slab arena slots) (opaque_pointer kind key) (held_option held_as slot)
+module _ {K V : Type 0} {P : ℕ} {N : Type 0} (kind : NodeType) (slab_of : NodeArena K V P → Slab N) (with_slab : NodeArena K V P → Slab N → NodeArena K V P) (held_as : N → Held (OpaqueNodePtr K V P) (LeafNode K V P))
+    (held_in_slab : (arena : NodeArena K V P) (key : ℕ) → held_under arena kind key ≡ held_option held_as (get (slab_of arena) key))
+    (slab_written : (arena : NodeArena K V P) (slots : Slab N) → slab_of (with_slab arena slots) ≡ slots)
+    (others_kept : (arena : NodeArena K V P) (slots : Slab N) (other : NodeType) (key : ℕ) → other ≢ kind → held_under (with_slab arena slots) other key ≡ held_under arena other key) where
+  pub Changes-written : (arena : NodeArena K V P) (slots : Slab N) (key : ℕ) (slot : Option N) → Updates (slab_of arena) slots key slot → Changes arena (with_slab arena slots) (opaque_pointer kind key) (held_option held_as slot)
   Changes-written arena slots key slot updates = record {
     changed = held_in_slab (with_slab arena slots) key ∙ ap (λ s. held_option held_as (get s key)) (slab_written arena slots) ∙ ap (held_option held_as) updates.changed;
     others = λ pointer other. elim (same_or_differ (node_kind pointer) kind) [
@@ -54,37 +54,37 @@ module _ {K V : Type 0} {P : ℕ} {N : Type 0} (kind : NodeType) (slab_of : Aren
   }
 
   -- the same in the words of the slab's contract
-  pub Changes-called : (arena : ArenaOf K V P) (before slots : Slab N) (key at : ℕ) (slot : Option N) → before ≡ slab_of arena → key ≡ at → Updates before slots key slot → Changes arena (with_slab arena slots) (opaque_pointer kind at) (held_option held_as slot)
+  pub Changes-called : (arena : NodeArena K V P) (before slots : Slab N) (key at : ℕ) (slot : Option N) → before ≡ slab_of arena → key ≡ at → Updates before slots key slot → Changes arena (with_slab arena slots) (opaque_pointer kind at) (held_option held_as slot)
   Changes-called arena before slots key at slot lent same updates =
       subst (λ k. Changes arena (with_slab arena slots) (opaque_pointer kind k) (held_option held_as slot)) same (Changes-written arena slots key slot (subst (λ s. Updates s slots key slot) lent updates))
 
   -- a slab that gives the same value under each key changes no node
-  pub SameNodes-written : (arena : ArenaOf K V P) (slots : Slab N) → ((key : ℕ) → get slots key ≡ get (slab_of arena) key) → SameNodes arena (with_slab arena slots)
+  pub SameNodes-written : (arena : NodeArena K V P) (slots : Slab N) → ((key : ℕ) → get slots key ≡ get (slab_of arena) key) → SameNodes arena (with_slab arena slots)
   SameNodes-written arena slots kept = λ pointer. elim (same_or_differ (node_kind pointer) kind) [
     | inr differ ↦ others_kept arena slots _ _ differ
     | inl same ↦ let key = opaque_key pointer in
         ap (λ k. held_under (with_slab arena slots) k key) same ∙ held_in_slab (with_slab arena slots) key ∙ ap (λ s. held_option held_as (get s key)) (slab_written arena slots) ∙ ap (held_option held_as) (kept key) ∙ sym (held_in_slab arena key) ∙ sym (ap (λ k. held_under arena k key) same)
   ]
 
-  module _ (room_of_slab : (arena : ArenaOf K V P) → room arena kind ≡ slab_room (slab_of arena))
-      (other_room : (arena : ArenaOf K V P) (slots : Slab N) → SameOtherRoom arena (with_slab arena slots) kind) where
-    pub room-written : (arena : ArenaOf K V P) (slots : Slab N) → room (with_slab arena slots) kind ≡ slab_room slots
+  module _ (room_of_slab : (arena : NodeArena K V P) → room arena kind ≡ slab_room (slab_of arena))
+      (other_room : (arena : NodeArena K V P) (slots : Slab N) → SameOtherRoom arena (with_slab arena slots) kind) where
+    pub room-written : (arena : NodeArena K V P) (slots : Slab N) → room (with_slab arena slots) kind ≡ slab_room slots
     room-written arena slots = room_of_slab (with_slab arena slots) ∙ ap slab_room (slab_written arena slots)
 
-    module _ (capacity_of_slab : (arena : ArenaOf K V P) → capacity arena kind ≡ (slab_of arena).capacity)
-        (other_capacity : (arena : ArenaOf K V P) (slots : Slab N) → SameOtherCapacity arena (with_slab arena slots) kind) where
-      capacity-written : (arena : ArenaOf K V P) (slots : Slab N) → slots.capacity ≡ (slab_of arena).capacity → capacity (with_slab arena slots) kind ≡ capacity arena kind
+    module _ (capacity_of_slab : (arena : NodeArena K V P) → capacity arena kind ≡ (slab_of arena).capacity)
+        (other_capacity : (arena : NodeArena K V P) (slots : Slab N) → SameOtherCapacity arena (with_slab arena slots) kind) where
+      capacity-written : (arena : NodeArena K V P) (slots : Slab N) → slots.capacity ≡ (slab_of arena).capacity → capacity (with_slab arena slots) kind ≡ capacity arena kind
       capacity-written arena slots kept = capacity_of_slab (with_slab arena slots) ∙ ap (λ s. s.capacity) (slab_written arena slots) ∙ kept ∙ sym (capacity_of_slab arena)
 
       -- writing a slab of the same capacity changes no capacity of the arena
-      pub SameCapacity-written : (arena : ArenaOf K V P) (slots : Slab N) → slots.capacity ≡ (slab_of arena).capacity → SameCapacity arena (with_slab arena slots)
+      pub SameCapacity-written : (arena : NodeArena K V P) (slots : Slab N) → slots.capacity ≡ (slab_of arena).capacity → SameCapacity arena (with_slab arena slots)
       SameCapacity-written arena slots kept = λ other. elim (same_or_differ other kind) [
         | inr differ ↦ other_capacity arena slots other differ
         | inl same ↦ subst (λ k. capacity (with_slab arena slots) k ≡ capacity arena k) (sym same) (capacity-written arena slots kept)
       ]
 
       -- writing a slab of the same spare capacity and capacity changes neither of the arena
-      pub SameRoom-written : (arena : ArenaOf K V P) (slots : Slab N) → slab_room slots ≡ slab_room (slab_of arena) → slots.capacity ≡ (slab_of arena).capacity → SameRoom arena (with_slab arena slots)
+      pub SameRoom-written : (arena : NodeArena K V P) (slots : Slab N) → slab_room slots ≡ slab_room (slab_of arena) → slots.capacity ≡ (slab_of arena).capacity → SameRoom arena (with_slab arena slots)
       SameRoom-written arena slots kept capacity_kept = λ other. elim (same_or_differ other kind) [
         | inr differ ↦ λ i. (other_room arena slots other differ i, other_capacity arena slots other differ i)
         | inl same ↦
@@ -95,30 +95,30 @@ module _ {K V : Type 0} {P : ℕ} {N : Type 0} (kind : NodeType) (slab_of : Aren
       ]
 
       -- replacing a node changes neither
-      pub SameRoom-with_value : (arena : ArenaOf K V P) (key : ℕ) (node : N) → ContainsKey (slab_of arena) key → SameRoom arena (with_slab arena (with_value (slab_of arena) key node))
+      pub SameRoom-with_value : (arena : NodeArena K V P) (key : ℕ) (node : N) → ContainsKey (slab_of arena) key → SameRoom arena (with_slab arena (with_value (slab_of arena) key node))
       SameRoom-with_value arena key node within = SameRoom-written arena (with_value (slab_of arena) key node) (slab_room-with_value (slab_of arena) key node within) refl
 
 module _ {K V : Type 0} {P : ℕ} where
   -- the node at a pointer has space for a child, by each name of the pointer
-  pub room-there : (arena : ArenaOf K V P) {at pointer : OpaqueNodePtr K V P} {there : Inner (OpaqueNodePtr K V P)} (byte : ℕ) → at ≡ pointer → held arena at ≡ HeldInner there
+  pub room-there : (arena : NodeArena K V P) {at pointer : OpaqueNodePtr K V P} {there : Inner (OpaqueNodePtr K V P)} (byte : ℕ) → at ≡ pointer → held arena at ≡ HeldInner there
       → ((node : Inner (OpaqueNodePtr K V P)) → held arena pointer ≡ HeldInner node → nodes.HasRoomFor (most_children (node_kind pointer)) node byte) → nodes.HasRoomFor (most_children (node_kind at)) there byte
   room-there arena {there = there} byte same here has_room = subst (λ p. held arena p ≡ HeldInner there → nodes.HasRoomFor (most_children (node_kind p)) there byte) (sym same) (has_room there) here
 
   -- the node that an edit was made of is the one that was held
-  pub edited-there : (edit : Inner (OpaqueNodePtr K V P) → Inner (OpaqueNodePtr K V P)) (old new : ArenaOf K V P) {at pointer : OpaqueNodePtr K V P} {there now node : Inner (OpaqueNodePtr K V P)} → at ≡ pointer → held old at ≡ HeldInner there
+  pub edited-there : (edit : Inner (OpaqueNodePtr K V P) → Inner (OpaqueNodePtr K V P)) (old new : NodeArena K V P) {at pointer : OpaqueNodePtr K V P} {there now node : Inner (OpaqueNodePtr K V P)} → at ≡ pointer → held old at ≡ HeldInner there
       → now ≡ edit there → Changes old new at (HeldInner now) → held old pointer ≡ HeldInner node → Changes old new pointer (HeldInner (edit node))
   edited-there edit old new {at = at} {there = there} {node = node} same here edited changes is =
       let one = one-inner (held old at) there node here (ap (held old) same ∙ is) in
       subst (λ p. Changes old new p (HeldInner (edit node))) same (subst (λ n. Changes old new at (HeldInner n)) (edited ∙ ap edit one) changes)
 
   -- what a removal returned is the child of the node that was held
-  pub child-there : (arena : ArenaOf K V P) {at pointer : OpaqueNodePtr K V P} {there node : Inner (OpaqueNodePtr K V P)} {child : Option (OpaqueNodePtr K V P)} (byte : ℕ) → at ≡ pointer → held arena at ≡ HeldInner there
+  pub child-there : (arena : NodeArena K V P) {at pointer : OpaqueNodePtr K V P} {there node : Inner (OpaqueNodePtr K V P)} {child : Option (OpaqueNodePtr K V P)} (byte : ℕ) → at ≡ pointer → held arena at ≡ HeldInner there
       → child ≡ child_at there.children byte → held arena pointer ≡ HeldInner node → child ≡ child_at node.children byte
   child-there arena {at = at} {there = there} {node = node} byte same here returned is =
       returned ∙ ap (λ n. child_at n.children byte) (one-inner (held arena at) there node here (ap (held arena) same ∙ is))
 
 -- the node that is held at a pointer of a kind is sound for the pointer's own kind
-pub IsInner-held : {K V : Type 0} {P : ℕ} (arena : ArenaOf K V P) (pointer : OpaqueNodePtr K V P) {kind : NodeType} {there node : Inner (OpaqueNodePtr K V P)} → kind ≡ node_kind pointer → held arena pointer ≡ HeldInner there → IsInner P (most_children kind) there → held arena pointer ≡ HeldInner node → IsInner P (most_children (node_kind pointer)) node
+pub IsInner-held : {K V : Type 0} {P : ℕ} (arena : NodeArena K V P) (pointer : OpaqueNodePtr K V P) {kind : NodeType} {there node : Inner (OpaqueNodePtr K V P)} → kind ≡ node_kind pointer → held arena pointer ≡ HeldInner there → IsInner P (most_children kind) there → held arena pointer ≡ HeldInner node → IsInner P (most_children (node_kind pointer)) node
 IsInner-held {P = P} arena pointer {kind = kind} {there = there} {node = node} same held_there sound is =
     let same_node : there ≡ node = search rules in
     subst (λ kind. IsInner P (most_children kind) node) same (subst (IsInner P (most_children kind)) same_node sound)
@@ -129,7 +129,7 @@ made_room (Ok _) slab additional fits = omega (arith, fits)
 made_room (Err _) slab additional fits = tt
 
 -- five slabs with no slots hold nothing
-pub held-empty : {K V : Type 0} {P : ℕ} (arena : ArenaOf K V P) → arena.node4.slots ≡ [] → arena.node16.slots ≡ [] → arena.node48.slots ≡ [] → arena.node256.slots ≡ [] → arena.leaf.slots ≡ [] → (kind : NodeType) (key : ℕ) → held_under arena kind key ≡ Nothing
+pub held-empty : {K V : Type 0} {P : ℕ} (arena : NodeArena K V P) → arena.node4.slots ≡ [] → arena.node16.slots ≡ [] → arena.node48.slots ≡ [] → arena.node256.slots ≡ [] → arena.leaf.slots ≡ [] → (kind : NodeType) (key : ℕ) → held_under arena kind key ≡ Nothing
 held-empty arena four sixteen many all leaves Node4 key = ap (λ slots. held_inner (slice_index_or slots key None)) four
 held-empty arena four sixteen many all leaves Node16 key = ap (λ slots. held_inner (slice_index_or slots key None)) sixteen
 held-empty arena four sixteen many all leaves Node48 key = ap (λ slots. held_inner (slice_index_or slots key None)) many

@@ -7,7 +7,7 @@ use Rattle.art_nodes.specs.ChildMap.{child_at}
 use Rattle.art_nodes.specs.Inner as nodes
 use Rattle.art_nodes.specs.PrefixMatch.{HasPrefix}
 use Rattle.art_nodes.specs.declared.pointers.OpaqueNodePtr.{OpaqueNodePtr}
-use Rattle.art_arena.specs.Arena.{ArenaOf, Nothing, HeldInner, HeldLeaf, Changes, held}
+use Rattle.art_arena.specs.Arena.{NodeArena, Nothing, HeldInner, HeldLeaf, Changes, held}
 use Rattle.art_arena.specs.CommonPrefix.{IsSharedFrom}
 use Rattle.art_arena.specs.Standing.{NodeStands, StandsIn, StandsUnder, AllStandIn, TreeAt, TreeUnder, leaf_text}
 use Rattle.art_arena.specs.Trees.{Tree, Leaf, Inner, Branches, NoBranch, Branch, branch_leaves, branch_roots, leaves, root_of, texts, IsSound, AreSound, SameButPointers, SameBranches}
@@ -15,7 +15,7 @@ use Rattle.art_arena.proofs.PlaceLemmas.{all-beside}
 use Rattle.art_arena.proofs.StandingLaws.{shown-prefix}
 use Rattle.art_arena.proofs.TreeLemmas.{IsLongestCommonPrefix-node}
 
-module _ {K V : Type 0} {P : ℕ} (text : K → List ℕ) (arena : ArenaOf K V P) where
+module _ {K V : Type 0} {P : ℕ} (text : K → List ℕ) (arena : NodeArena K V P) where
   -- something is held at the root of a tree that stands
   pub tree-held : (tree : Tree (OpaqueNodePtr K V P)) (pointer : OpaqueNodePtr K V P) → root_of tree ≡ pointer → StandsIn text arena tree → held arena pointer ≢ Nothing
   tree-held (Leaf p x) pointer root (leaf, holds, has) free = let one : HeldLeaf leaf ≡ Nothing = sym holds ∙ ap (held arena) root ∙ free in absurd (cc)
@@ -90,7 +90,7 @@ mutual
   same-branches (Branch byte tree others) = (refl, same-tree tree, same-branches others)
 
 -- a node that has a tree as a value has it under its pointer once it is allocated
-pub allocated-under : {K V : Type 0} {P : ℕ} (text : K → List ℕ) (old new : ArenaOf K V P) (pointer : OpaqueNodePtr K V P) (node : nodes.Inner (OpaqueNodePtr K V P)) (depth : ℕ) (under : TreeUnder text old node depth) → held old pointer ≡ Nothing → Changes old new pointer (HeldInner node)
+pub allocated-under : {K V : Type 0} {P : ℕ} (text : K → List ℕ) (old new : NodeArena K V P) (pointer : OpaqueNodePtr K V P) (node : nodes.Inner (OpaqueNodePtr K V P)) (depth : ℕ) (under : TreeUnder text old node depth) → held old pointer ≡ Nothing → Changes old new pointer (HeldInner node)
     → (at : TreeAt text new pointer) × (at.path ≡ under.path) × SameButPointers at.tree under.tree
 allocated-under {K = K} {V = V} {P = P} text old new pointer node depth under was_free changes = by_tree under.tree under.stands under.sound
   where

@@ -6,7 +6,7 @@ use Rattle.art_nodes.specs.ChildMap.{first_pair, last_pair}
 use Rattle.art_nodes.specs.Inner as nodes
 use Rattle.art_nodes.specs.declared.pointers.OpaqueNodePtr.{OpaqueNodePtr}
 use Rattle.art_nodes.specs.declared.leaf_node.LeafNode.{LeafNode}
-use Rattle.art_arena.specs.Arena.{ArenaOf, Nothing, HeldInner, HeldLeaf, held}
+use Rattle.art_arena.specs.Arena.{NodeArena, Nothing, HeldInner, HeldLeaf, held}
 use Rattle.art_arena.specs.Ends.{put_at, end_pair, IsAtEnd}
 use Rattle.art_arena.specs.Standing.{StandsIn, AllStandIn, StandsUnder, leaf_text}
 use Rattle.art_arena.specs.Trees.{Tree, Leaf, Inner, Branches, NoBranch, Branch, leaves, branch_leaves, branch_roots, root_of, IsSound, AreSound}
@@ -38,7 +38,7 @@ module _ {H : Type 0} where
       append-none [] = refl
       append-none (x ∷ all) = ap (λ rest. x ∷ rest) (append-none all)
 
-module _ {K V : Type 0} {P : ℕ} (text : K → List ℕ) (arena : ArenaOf K V P) (end : End) where
+module _ {K V : Type 0} {P : ℕ} (text : K → List ℕ) (arena : NodeArena K V P) (end : End) where
   -- the branch at the end
   record EndBranch (path : List ℕ) (branches : Branches (OpaqueNodePtr K V P)) (byte : ℕ) (child : OpaqueNodePtr K V P) : Type 0 where
     pub tree : Tree (OpaqueNodePtr K V P)
@@ -47,7 +47,7 @@ module _ {K V : Type 0} {P : ℕ} (text : K → List ℕ) (arena : ArenaOf K V P
     pub sound : IsSound (path ++ byte ∷ []) tree
     pub ends : (leaf : OpaqueNodePtr K V P × List ℕ) → EndsIn end (leaves tree) leaf → EndsIn end (branch_leaves branches) leaf
 
-module _ {K V : Type 0} {P : ℕ} (text : K → List ℕ) (arena : ArenaOf K V P) where
+module _ {K V : Type 0} {P : ℕ} (text : K → List ℕ) (arena : NodeArena K V P) where
   first-branch : (path : List ℕ) (branches : Branches (OpaqueNodePtr K V P)) (byte : ℕ) (child : OpaqueNodePtr K V P) → AllStandIn text arena branches → AreSound path branches → first_pair (branch_roots branches) ≡ Some (byte, child) → EndBranch text arena First path branches byte child
   first-branch path NoBranch byte child stand sound is = absurd (cc)
   first-branch path (Branch b tree others) byte child (stands, stand) sound is =
@@ -75,7 +75,7 @@ module _ {K V : Type 0} {P : ℕ} (text : K → List ℕ) (arena : ArenaOf K V P
   end-branch First path branches byte child stand sound is = first-branch path branches byte child stand sound is
   end-branch Last path branches byte child stand sound is = last-branch path branches byte child stand sound is
 
-module _ {K V : Type 0} {P : ℕ} (text : K → List ℕ) (arena : ArenaOf K V P) (end : End) (whole : Tree (OpaqueNodePtr K V P)) where
+module _ {K V : Type 0} {P : ℕ} (text : K → List ℕ) (arena : NodeArena K V P) (end : End) (whole : Tree (OpaqueNodePtr K V P)) where
   -- where the descent is: at the root of a part whose end is that of the whole, after at least so
   -- many bytes
   pub record IsToEnd (at : OpaqueNodePtr K V P) (passed : ℕ) : Type 0 where

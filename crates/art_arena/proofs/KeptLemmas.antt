@@ -9,7 +9,7 @@ use Rattle.art_nodes.specs.Leaf.{leaf_key, previous_key, next_key}
 use Rattle.art_nodes.specs.Pointers.{node_kind, opaque_key, opaque_pointer}
 use Rattle.art_nodes.specs.declared.pointers.OpaqueNodePtr.{OpaqueNodePtr}
 use Rattle.art_nodes.specs.declared.leaf_node.LeafNode.{LeafNode}
-use Rattle.art_arena.specs.Arena.{ArenaOf, Held, HeldInner, HeldLeaf, held, held_leaf, Changes}
+use Rattle.art_arena.specs.Arena.{NodeArena, Held, HeldInner, HeldLeaf, held, held_leaf, Changes}
 use Rattle.art_arena.specs.Links.{SameButLinks, Spells, SpellsAfter, leaf_at}
 use Rattle.art_arena.specs.Standing.{StandsIn, AllStandIn}
 use Rattle.art_arena.specs.Trees.{Tree, Leaf, Inner, Branches, NoBranch, Branch}
@@ -17,10 +17,10 @@ use Rattle.art_arena.proofs.StandingLaws.{leaf_place}
 use Rattle.art_arena.proofs.LeafLemmas.{Spells-kept, held_leaf-same, leaf_at-changed, leaf_at-other}
 
 module _ {K V : Type 0} {P : ℕ} where
-  leaf_under : (arena : ArenaOf K V P) (pointer : OpaqueNodePtr K V P) (leaf : LeafNode K V P) → held arena pointer ≡ HeldLeaf leaf → leaf_at arena (opaque_key pointer) ≡ Some leaf
+  leaf_under : (arena : NodeArena K V P) (pointer : OpaqueNodePtr K V P) (leaf : LeafNode K V P) → held arena pointer ≡ HeldLeaf leaf → leaf_at arena (opaque_key pointer) ≡ Some leaf
   leaf_under arena pointer leaf is = held_leaf-same (leaf_at arena (opaque_key pointer)) (Some leaf) (ap (held arena) (leaf_place arena pointer leaf is) ∙ is)
 
-module _ {K V : Type 0} {P : ℕ} (text : K → List ℕ) (old new : ArenaOf K V P) where
+module _ {K V : Type 0} {P : ℕ} (text : K → List ℕ) (old new : NodeArena K V P) where
   -- inner nodes are held as they were, and leaves with the texts that they had
   record KeepsTexts : Type 0 where
     pub inner : (pointer : OpaqueNodePtr K V P) (node : nodes.Inner (OpaqueNodePtr K V P)) → held old pointer ≡ HeldInner node → held new pointer ≡ HeldInner node
@@ -59,7 +59,7 @@ module _ {K V : Type 0} {P : ℕ} (text : K → List ℕ) (old new : ArenaOf K V
           ];
         }
 
-module _ {K V : Type 0} {P : ℕ} (old new : ArenaOf K V P) where
+module _ {K V : Type 0} {P : ℕ} (old new : NodeArena K V P) where
   module _ (key : ℕ) (was now : LeafNode K V P) (found : leaf_at old key ≡ Some was) (changes : Changes old new (opaque_pointer kinds.Leaf key) (HeldLeaf now)) (same_previous : previous_key now ≡ previous_key was) (same_next : next_key now ≡ next_key was) where
     spelled_on : (before : Option ℕ) (keys : List ℕ) → SpellsAfter old before keys → SpellsAfter new before keys
     spelled_on before [] spelled = tt

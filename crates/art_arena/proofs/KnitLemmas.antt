@@ -3,11 +3,11 @@ use Rattle.std.proofs.Common.{◌≡◌, ◌⊎◌, ◌∙◌, ℕ, List, [], �
 use Rattle.std.specs.Option.{option_and_then}
 use Rattle.art_nodes.specs.Leaf.{previous_key, next_key}
 use Rattle.art_nodes.specs.declared.leaf_node.LeafNode.{LeafNode}
-use Rattle.art_arena.specs.Arena.{ArenaOf}
+use Rattle.art_arena.specs.Arena.{NodeArena}
 use Rattle.art_arena.specs.Links.{IsKnit, Spells, SpellsAfter, leaf_at, next_at, previous_at}
 use Rattle.art_arena.proofs.LeafLemmas.{HoldsLeaf-found}
 
-module _ {K V : Type 0} {P : ℕ} (arena : ArenaOf K V P) where
+module _ {K V : Type 0} {P : ℕ} (arena : NodeArena K V P) where
   -- the first leaf of what follows names the one before it
   names-back : (key : ℕ) (back : List ℕ) (next : Option ℕ) → next ≡ slice_get back 0 → SpellsAfter arena (Some key) back → (other : ℕ) → next ≡ Some other → previous_at arena other ≡ Some key
   names-back key [] next is h other e = absurd (let never : None ≡ Some other = sym is ∙ e in cc)

@@ -12,7 +12,7 @@ use Rattle.art_nodes.specs.declared.pointers.NodePtr.{NodePtr}
 use Rattle.art_nodes.specs.Leaf.{leaf_key, leaf_value, previous_key, next_key, with_value}
 use Rattle.art_nodes.specs.declared.pointers.OpaqueNodePtr.{OpaqueNodePtr}
 use Rattle.art_nodes.specs.declared.leaf_node.LeafNode.{LeafNode}
-use Rattle.art_arena.specs.Arena.{ArenaOf, Held, Nothing, HeldInner, HeldLeaf, held_leaf, held, Changes}
+use Rattle.art_arena.specs.Arena.{NodeArena, Held, Nothing, HeldInner, HeldLeaf, held_leaf, held, Changes}
 use Rattle.art_arena.specs.Links.{leaf_at, previous_at, next_at, Spells, SpellsAfter, HoldsLeaf, IsUnlinked, IsKnit, SameButLinks, Joins, StandsBetween, TakesPlace, with_value_at}
 use Rattle.art_arena.specs.Relinking.{SetsNext, SetsPrevious}
 use Rattle.art_arena.proofs.LinkedLists.{first_or, last_or, last_or-push, last_or-each, first_or-each, first_or-slice_get, Linked, Linked-split, Linked-exchanged, unlinked_is_apart, Each-append, Each-split, Each-weaker, Distinct-from, AreDistinct-from, Distinct-insert, Distinct-remove}
@@ -46,17 +46,17 @@ module _ {K V : Type 0} {P : ℕ} where
   leaf_there None = inl refl
   leaf_there (Some leaf) = inr (leaf, refl)
 
-  pub leaf_at-changed : (old new : ArenaOf K V P) (key : ℕ) (leaf : LeafNode K V P) → Changes old new (opaque_pointer kinds.Leaf key) (HeldLeaf leaf) → leaf_at new key ≡ Some leaf
+  pub leaf_at-changed : (old new : NodeArena K V P) (key : ℕ) (leaf : LeafNode K V P) → Changes old new (opaque_pointer kinds.Leaf key) (HeldLeaf leaf) → leaf_at new key ≡ Some leaf
   leaf_at-changed old new key leaf changes = held_leaf-same (leaf_at new key) (Some leaf) changes.changed
 
-  pub leaf_at-other : (old new : ArenaOf K V P) (key : ℕ) (now : Held (OpaqueNodePtr K V P) (LeafNode K V P)) → Changes old new (opaque_pointer kinds.Leaf key) now → (other : ℕ) → other ≢ key → leaf_at new other ≡ leaf_at old other
+  pub leaf_at-other : (old new : NodeArena K V P) (key : ℕ) (now : Held (OpaqueNodePtr K V P) (LeafNode K V P)) → Changes old new (opaque_pointer kinds.Leaf key) now → (other : ℕ) → other ≢ key → leaf_at new other ≡ leaf_at old other
   leaf_at-other old new key now changes other differ =
       held_leaf-same (leaf_at new other) (leaf_at old other) (changes.others (opaque_pointer kinds.Leaf other) (λ same. differ (ap opaque_key same)))
 
-  pub SameButLinks-refl : (arena : ArenaOf K V P) → SameButLinks arena arena
+  pub SameButLinks-refl : (arena : NodeArena K V P) → SameButLinks arena arena
   SameButLinks-refl arena = record { nothing = λ pointer free. free; inner = λ pointer node held. held; leaf = λ key leaf found. (leaf, found, refl, refl) }
 
-  pub SameButLinks-trans : (old mid new : ArenaOf K V P) → SameButLinks old mid → SameButLinks mid new → SameButLinks old new
+  pub SameButLinks-trans : (old mid new : NodeArena K V P) → SameButLinks old mid → SameButLinks mid new → SameButLinks old new
   SameButLinks-trans old mid new first second = record {
     nothing = λ pointer free. second.nothing pointer (first.nothing pointer free);
     inner = λ pointer node held. second.inner pointer node (first.inner pointer node held);
@@ -66,7 +66,7 @@ module _ {K V : Type 0} {P : ℕ} where
         (two.0, two.1, two.2 ∙ one.2, two.3 ∙ one.3);
   }
 
-  SameButLinks-written : (old new : ArenaOf K V P) (key : ℕ) (leaf now : LeafNode K V P) → Changes old new (opaque_pointer kinds.Leaf key) (HeldLeaf now) → leaf_at old key ≡ Some leaf → leaf_key now ≡ leaf_key leaf → leaf_value now ≡ leaf_value leaf → SameButLinks old new
+  SameButLinks-written : (old new : NodeArena K V P) (key : ℕ) (leaf now : LeafNode K V P) → Changes old new (opaque_pointer kinds.Leaf key) (HeldLeaf now) → leaf_at old key ≡ Some leaf → leaf_key now ≡ leaf_key leaf → leaf_value now ≡ leaf_value leaf → SameButLinks old new
   SameButLinks-written old new key leaf now changes found same_key same_value =
       let stood : held old (opaque_pointer kinds.Leaf key) ≡ HeldLeaf leaf = ap held_leaf found in
       record {
@@ -80,7 +80,7 @@ module _ {K V : Type 0} {P : ℕ} where
         ];
       }
 
-  pub SetsNext-written : (old new : ArenaOf K V P) (key : ℕ) (leaf now : LeafNode K V P) (next : Option ℕ) → Changes old new (opaque_pointer kinds.Leaf key) (HeldLeaf now) → leaf_at old key ≡ Some leaf → leaf_key now ≡ leaf_key leaf → leaf_value now ≡ leaf_value leaf → previous_key now ≡ previous_key leaf → next_key now ≡ next → SetsNext old new (Some key) next
+  pub SetsNext-written : (old new : NodeArena K V P) (key : ℕ) (leaf now : LeafNode K V P) (next : Option ℕ) → Changes old new (opaque_pointer kinds.Leaf key) (HeldLeaf now) → leaf_at old key ≡ Some leaf → leaf_key now ≡ leaf_key leaf → leaf_value now ≡ leaf_value leaf → previous_key now ≡ previous_key leaf → next_key now ≡ next → SetsNext old new (Some key) next
   SetsNext-written old new key leaf now next changes found same_key same_value same_previous new_next = record {
     set = λ k named. ap (next_at new) (sym (same_Some _ _ named)) ∙ ap (option_and_then next_key) (leaf_at-changed old new key now changes) ∙ new_next;
     other_next = λ k other. ap (option_and_then next_key) (leaf_at-other old new key (HeldLeaf now) changes k (λ same. other (ap Some (sym same))));
@@ -92,7 +92,7 @@ module _ {K V : Type 0} {P : ℕ} where
     contents = SameButLinks-written old new key leaf now changes found same_key same_value;
   }
 
-  pub SetsPrevious-written : (old new : ArenaOf K V P) (key : ℕ) (leaf now : LeafNode K V P) (previous : Option ℕ) → Changes old new (opaque_pointer kinds.Leaf key) (HeldLeaf now) → leaf_at old key ≡ Some leaf → leaf_key now ≡ leaf_key leaf → leaf_value now ≡ leaf_value leaf → next_key now ≡ next_key leaf → previous_key now ≡ previous → SetsPrevious old new (Some key) previous
+  pub SetsPrevious-written : (old new : NodeArena K V P) (key : ℕ) (leaf now : LeafNode K V P) (previous : Option ℕ) → Changes old new (opaque_pointer kinds.Leaf key) (HeldLeaf now) → leaf_at old key ≡ Some leaf → leaf_key now ≡ leaf_key leaf → leaf_value now ≡ leaf_value leaf → next_key now ≡ next_key leaf → previous_key now ≡ previous → SetsPrevious old new (Some key) previous
   SetsPrevious-written old new key leaf now previous changes found same_key same_value same_next new_previous = record {
     set = λ k named. ap (previous_at new) (sym (same_Some _ _ named)) ∙ ap (option_and_then previous_key) (leaf_at-changed old new key now changes) ∙ new_previous;
     other_previous = λ k other. ap (option_and_then previous_key) (leaf_at-other old new key (HeldLeaf now) changes k (λ same. other (ap Some (sym same))));
@@ -104,19 +104,19 @@ module _ {K V : Type 0} {P : ℕ} where
     contents = SameButLinks-written old new key leaf now changes found same_key same_value;
   }
 
-  pub SetsNext-none : (arena : ArenaOf K V P) (leaf next : Option ℕ) → leaf ≡ None → SetsNext arena arena leaf next
+  pub SetsNext-none : (arena : NodeArena K V P) (leaf next : Option ℕ) → leaf ≡ None → SetsNext arena arena leaf next
   SetsNext-none arena leaf next none = record { set = λ k named. let e : None ≡ Some k = sym none ∙ named in cc; other_next = λ k other. refl; previous = λ k. refl; other_leaves = λ k other. refl; contents = SameButLinks-refl arena }
 
-  pub SetsNext-some : (old new : ArenaOf K V P) (key : ℕ) (leaf next : Option ℕ) → leaf ≡ Some key → SetsNext old new (Some key) next → SetsNext old new leaf next
+  pub SetsNext-some : (old new : NodeArena K V P) (key : ℕ) (leaf next : Option ℕ) → leaf ≡ Some key → SetsNext old new (Some key) next → SetsNext old new leaf next
   SetsNext-some old new key leaf next named sets = subst (λ l. SetsNext old new l next) (sym named) sets
 
-  pub SetsPrevious-none : (arena : ArenaOf K V P) (leaf previous : Option ℕ) → leaf ≡ None → SetsPrevious arena arena leaf previous
+  pub SetsPrevious-none : (arena : NodeArena K V P) (leaf previous : Option ℕ) → leaf ≡ None → SetsPrevious arena arena leaf previous
   SetsPrevious-none arena leaf previous none = record { set = λ k named. let e : None ≡ Some k = sym none ∙ named in cc; other_previous = λ k other. refl; next = λ k. refl; other_leaves = λ k other. refl; contents = SameButLinks-refl arena }
 
-  pub SetsPrevious-some : (old new : ArenaOf K V P) (key : ℕ) (leaf previous : Option ℕ) → leaf ≡ Some key → SetsPrevious old new (Some key) previous → SetsPrevious old new leaf previous
+  pub SetsPrevious-some : (old new : NodeArena K V P) (key : ℕ) (leaf previous : Option ℕ) → leaf ≡ Some key → SetsPrevious old new (Some key) previous → SetsPrevious old new leaf previous
   SetsPrevious-some old new key leaf previous named sets = subst (λ l. SetsPrevious old new l previous) (sym named) sets
 
-  pub Joins-set : (old mid new : ArenaOf K V P) (before after : Option ℕ) → SetsNext old mid before after → SetsPrevious mid new after before → Joins old new before after
+  pub Joins-set : (old mid new : NodeArena K V P) (before after : Option ℕ) → SetsNext old mid before after → SetsPrevious mid new after before → Joins old new before after
   Joins-set old mid new before after first second = record {
     next = λ k named. second.next k ∙ first.set k named;
     previous = λ k named. second.set k named;
@@ -126,7 +126,7 @@ module _ {K V : Type 0} {P : ℕ} where
   }
 
   -- joined to what is to be before it and then to what is to be after it
-  pub StandsBetween-joined : (old mid new : ArenaOf K V P) (before : Option ℕ) (this : ℕ) (after : Option ℕ) → before ≢ Some this → after ≢ Some this → Joins old mid before (Some this) → Joins mid new (Some this) after → StandsBetween old new before this after
+  pub StandsBetween-joined : (old mid new : NodeArena K V P) (before : Option ℕ) (this : ℕ) (after : Option ℕ) → before ≢ Some this → after ≢ Some this → Joins old mid before (Some this) → Joins mid new (Some this) after → StandsBetween old new before this after
   StandsBetween-joined old mid new before this after not_before not_after first second = record {
     previous = second.other_previous this not_after ∙ first.previous this refl;
     next = second.next this refl;
@@ -138,46 +138,46 @@ module _ {K V : Type 0} {P : ℕ} where
   }
 
   -- a leaf that is held, as a leaf that may be there
-  pub ForSome-held : (arena : ArenaOf K V P) (leaf : NodePtr P (LeafNode K V P)) → HoldsLeaf arena (slab_key leaf) → ForSome (Some leaf) (λ l. HoldsLeaf arena (slab_key l))
+  pub ForSome-held : (arena : NodeArena K V P) (leaf : NodePtr P (LeafNode K V P)) → HoldsLeaf arena (slab_key leaf) → ForSome (Some leaf) (λ l. HoldsLeaf arena (slab_key l))
   ForSome-held arena leaf held = λ l named. subst (λ p. HoldsLeaf arena (slab_key p)) (same_Some _ _ named) held
 
-  pub ForSome-none : (arena : ArenaOf K V P) → ForSome {T = NodePtr P (LeafNode K V P)} None (λ l. HoldsLeaf arena (slab_key l))
+  pub ForSome-none : (arena : NodeArena K V P) → ForSome {T = NodePtr P (LeafNode K V P)} None (λ l. HoldsLeaf arena (slab_key l))
   ForSome-none arena = λ l named. cc
 
-  pub HoldsLeaf-kept : (old new : ArenaOf K V P) (key : ℕ) → SameButLinks old new → HoldsLeaf old key → HoldsLeaf new key
+  pub HoldsLeaf-kept : (old new : NodeArena K V P) (key : ℕ) → SameButLinks old new → HoldsLeaf old key → HoldsLeaf new key
   HoldsLeaf-kept old new key same holds = elim (leaf_there (leaf_at old key)) [
     | inl none ↦ absurd (holds (ap held_leaf none))
     | inr some ↦ let now = same.leaf key some.0 some.1 in λ gone. let e : HeldLeaf now.0 ≡ Nothing = sym (ap held_leaf now.1) ∙ gone in cc
   ]
 
-  pub leaf_held : (arena : ArenaOf K V P) (key : ℕ) → HoldsLeaf arena key → (leaf : LeafNode K V P) × (leaf_at arena key ≡ Some leaf)
+  pub leaf_held : (arena : NodeArena K V P) (key : ℕ) → HoldsLeaf arena key → (leaf : LeafNode K V P) × (leaf_at arena key ≡ Some leaf)
   leaf_held arena key holds = elim (leaf_there (leaf_at arena key)) [ inl none ↦ absurd (holds (ap held_leaf none)) | inr some ↦ some ]
 
-  pub HoldsLeaf-found : (arena : ArenaOf K V P) (key : ℕ) (leaf : LeafNode K V P) → leaf_at arena key ≡ Some leaf → HoldsLeaf arena key
+  pub HoldsLeaf-found : (arena : NodeArena K V P) (key : ℕ) (leaf : LeafNode K V P) → leaf_at arena key ≡ Some leaf → HoldsLeaf arena key
   HoldsLeaf-found arena key leaf found = λ gone. let e : HeldLeaf leaf ≡ Nothing = sym (ap held_leaf found) ∙ gone in cc
 
   -- whoever has a neighbour is held
-  pub HoldsLeaf-previous : (arena : ArenaOf K V P) (key other : ℕ) → previous_at arena key ≡ Some other → HoldsLeaf arena key
+  pub HoldsLeaf-previous : (arena : NodeArena K V P) (key other : ℕ) → previous_at arena key ≡ Some other → HoldsLeaf arena key
   HoldsLeaf-previous arena key other named = elim (leaf_there (leaf_at arena key)) [
     | inl none ↦ absurd (let e : None ≡ Some other = sym (ap (option_and_then previous_key) none) ∙ named in cc)
     | inr some ↦ HoldsLeaf-found arena key some.0 some.1
   ]
 
-  pub HoldsLeaf-next : (arena : ArenaOf K V P) (key other : ℕ) → next_at arena key ≡ Some other → HoldsLeaf arena key
+  pub HoldsLeaf-next : (arena : NodeArena K V P) (key other : ℕ) → next_at arena key ≡ Some other → HoldsLeaf arena key
   HoldsLeaf-next arena key other named = elim (leaf_there (leaf_at arena key)) [
     | inl none ↦ absurd (let e : None ≡ Some other = sym (ap (option_and_then next_key) none) ∙ named in cc)
     | inr some ↦ HoldsLeaf-found arena key some.0 some.1
   ]
 
   -- a knit leaf names no leaf that names no neighbour
-  pub apart-from_next : (arena : ArenaOf K V P) (sibling this : ℕ) → IsKnit arena sibling → IsUnlinked arena this → next_at arena sibling ≢ Some this
+  pub apart-from_next : (arena : NodeArena K V P) (sibling this : ℕ) → IsKnit arena sibling → IsUnlinked arena this → next_at arena sibling ≢ Some this
   apart-from_next arena sibling this knit unlinked = λ named. let e : None ≡ Some sibling = sym unlinked.0 ∙ knit.next this named in cc
 
-  pub apart-from_previous : (arena : ArenaOf K V P) (sibling this : ℕ) → IsKnit arena sibling → IsUnlinked arena this → previous_at arena sibling ≢ Some this
+  pub apart-from_previous : (arena : NodeArena K V P) (sibling this : ℕ) → IsKnit arena sibling → IsUnlinked arena this → previous_at arena sibling ≢ Some this
   apart-from_previous arena sibling this knit unlinked = λ named. let e : None ≡ Some sibling = sym unlinked.1 ∙ knit.previous this named in cc
 
   -- inserted where the old leaf is, whose links are then cut on both sides
-  pub TakesPlace-joined : (old mid cut new : ArenaOf K V P) (gone this : ℕ) → this ≢ gone → StandsBetween old mid (previous_at old gone) this (next_at old gone) → Joins mid cut None (Some gone) → Joins cut new (Some gone) None → TakesPlace old new gone this
+  pub TakesPlace-joined : (old mid cut new : NodeArena K V P) (gone this : ℕ) → this ≢ gone → StandsBetween old mid (previous_at old gone) this (next_at old gone) → Joins mid cut None (Some gone) → Joins cut new (Some gone) None → TakesPlace old new gone this
   TakesPlace-joined old mid cut new gone this apart placed second third = record {
     unlinked = (third.other_previous gone (none_differs gone) ∙ second.previous gone refl, third.next gone refl);
     previous = third.other_previous this (none_differs this) ∙ second.other_previous this (some_differs gone this apart) ∙ placed.previous;
@@ -189,50 +189,50 @@ module _ {K V : Type 0} {P : ℕ} where
     other_leaves = λ k not_this not_gone not_before not_after. third.other_leaves k (some_differs gone k not_gone) (none_differs k) ∙ second.other_leaves k (none_differs k) (some_differs gone k not_gone) ∙ placed.other_leaves k not_this not_before not_after;
   }
 
-  Linked-from : (arena : ArenaOf K V P) (before : Option ℕ) (keys : List ℕ) → SpellsAfter arena before keys → Linked (next_at arena) (previous_at arena) before keys None
+  Linked-from : (arena : NodeArena K V P) (before : Option ℕ) (keys : List ℕ) → SpellsAfter arena before keys → Linked (next_at arena) (previous_at arena) before keys None
   Linked-from arena before [] spelled = tt
   Linked-from arena before (key ∷ keys) spelled =
       (ap (option_and_then previous_key) spelled.0.1 ∙ spelled.0.2, ap (option_and_then next_key) spelled.0.1 ∙ spelled.0.3 ∙ sym (first_or-slice_get keys), Linked-from arena (Some key) keys spelled.1)
 
-  Held-from : (arena : ArenaOf K V P) (before : Option ℕ) (keys : List ℕ) → SpellsAfter arena before keys → AllByRecursion (HoldsLeaf arena) keys
+  Held-from : (arena : NodeArena K V P) (before : Option ℕ) (keys : List ℕ) → SpellsAfter arena before keys → AllByRecursion (HoldsLeaf arena) keys
   Held-from arena before [] spelled = tt
   Held-from arena before (key ∷ keys) spelled = (HoldsLeaf-found arena key spelled.0.0 spelled.0.1, Held-from arena (Some key) keys spelled.1)
 
-  SpellsAfter-from : (arena : ArenaOf K V P) (before : Option ℕ) (keys : List ℕ) → AllByRecursion (HoldsLeaf arena) keys → Linked (next_at arena) (previous_at arena) before keys None → SpellsAfter arena before keys
+  SpellsAfter-from : (arena : NodeArena K V P) (before : Option ℕ) (keys : List ℕ) → AllByRecursion (HoldsLeaf arena) keys → Linked (next_at arena) (previous_at arena) before keys None → SpellsAfter arena before keys
   SpellsAfter-from arena before [] held linked = tt
   SpellsAfter-from arena before (key ∷ keys) held linked =
       let some = leaf_held arena key held.0 in
       ((some.0, some.1, sym (ap (option_and_then previous_key) some.1) ∙ linked.0, sym (ap (option_and_then next_key) some.1) ∙ linked.1 ∙ first_or-slice_get keys), SpellsAfter-from arena (Some key) keys held.1 linked.2)
 
-  Held-kept : (old new : ArenaOf K V P) (keys : List ℕ) → SameButLinks old new → AllByRecursion (HoldsLeaf old) keys → AllByRecursion (HoldsLeaf new) keys
+  Held-kept : (old new : NodeArena K V P) (keys : List ℕ) → SameButLinks old new → AllByRecursion (HoldsLeaf old) keys → AllByRecursion (HoldsLeaf new) keys
   Held-kept old new keys same held = Each-weaker (HoldsLeaf old) (HoldsLeaf new) (λ key holds. HoldsLeaf-kept old new key same holds) keys held
 
-  kept-leaves : (old new : ArenaOf K V P) (keys : List ℕ) → All (λ key. leaf_at new key ≡ leaf_at old key) keys → AllByRecursion (λ key. leaf_at new key ≡ leaf_at old key) keys
+  kept-leaves : (old new : NodeArena K V P) (keys : List ℕ) → All (λ key. leaf_at new key ≡ leaf_at old key) keys → AllByRecursion (λ key. leaf_at new key ≡ leaf_at old key) keys
   kept-leaves old new [] kept = tt
   kept-leaves old new (key ∷ keys) kept = (All-head (λ k. leaf_at new k ≡ leaf_at old k) key keys kept, kept-leaves old new keys (All-tail (λ k. leaf_at new k ≡ leaf_at old k) key keys kept))
 
   -- a list is still spelled where none of its leaves changed
-  pub Spells-kept : (old new : ArenaOf K V P) (keys : List ℕ) → AllByRecursion (λ key. leaf_at new key ≡ leaf_at old key) keys → Spells old keys → Spells new keys
+  pub Spells-kept : (old new : NodeArena K V P) (keys : List ℕ) → AllByRecursion (λ key. leaf_at new key ≡ leaf_at old key) keys → Spells old keys → Spells new keys
   Spells-kept old new keys same spells = record { distinct = spells.distinct; spelled = kept None keys same spells.spelled }
     where
       kept : (before : Option ℕ) (keys : List ℕ) → AllByRecursion (λ key. leaf_at new key ≡ leaf_at old key) keys → SpellsAfter old before keys → SpellsAfter new before keys
       kept before [] same spelled = tt
       kept before (key ∷ keys) same spelled = ((spelled.0.0, same.0 ∙ spelled.0.1, spelled.0.2, spelled.0.3), kept (Some key) keys same.1 spelled.1)
 
-  pub Spells-where_kept : (old new : ArenaOf K V P) (keys : List ℕ) → All (λ key. leaf_at new key ≡ leaf_at old key) keys → Spells old keys → Spells new keys
+  pub Spells-where_kept : (old new : NodeArena K V P) (keys : List ℕ) → All (λ key. leaf_at new key ≡ leaf_at old key) keys → Spells old keys → Spells new keys
   Spells-where_kept old new keys kept spells = Spells-kept old new keys (kept-leaves old new keys kept) spells
 
   -- in particular after an allocation
-  pub Spells-allocated : (old new : ArenaOf K V P) (pointer : OpaqueNodePtr K V P) (now : Held (OpaqueNodePtr K V P) (LeafNode K V P)) (keys : List ℕ) → held old pointer ≡ Nothing → Changes old new pointer now → Spells old keys → Spells new keys
+  pub Spells-allocated : (old new : NodeArena K V P) (pointer : OpaqueNodePtr K V P) (now : Held (OpaqueNodePtr K V P) (LeafNode K V P)) (keys : List ℕ) → held old pointer ≡ Nothing → Changes old new pointer now → Spells old keys → Spells new keys
   Spells-allocated old new pointer now keys free changes spells =
       Spells-kept old new keys
       (Each-weaker (HoldsLeaf old) (λ key. leaf_at new key ≡ leaf_at old key) (λ key holds. held_leaf-same (leaf_at new key) (leaf_at old key) (changes.others (opaque_pointer kinds.Leaf key) (λ same. holds (ap (held old) same ∙ free)))) keys (Held-from old None keys spells.spelled))
       spells
 
-  pub StandsBetween-at : (old new : ArenaOf K V P) (before before' : Option ℕ) (this : ℕ) (after after' : Option ℕ) → before ≡ before' → after ≡ after' → StandsBetween old new before this after → StandsBetween old new before' this after'
+  pub StandsBetween-at : (old new : NodeArena K V P) (before before' : Option ℕ) (this : ℕ) (after after' : Option ℕ) → before ≡ before' → after ≡ after' → StandsBetween old new before this after → StandsBetween old new before' this after'
   StandsBetween-at old new before before' this after after' same_before same_after placed = subst (λ a. StandsBetween old new before' this a) same_after (subst (λ b. StandsBetween old new b this after) same_before placed)
 
-  Spells-placed : (old new : ArenaOf K V P) (front back : List ℕ) (this : ℕ) → StandsBetween old new (last_or None front) this (first_or back None) → SameButLinks old new → HoldsLeaf old this → AllByRecursion (λ k. k ≢ this) (front ++ back) → Spells old (front ++ back) → Spells new (front ++ this ∷ back)
+  Spells-placed : (old new : NodeArena K V P) (front back : List ℕ) (this : ℕ) → StandsBetween old new (last_or None front) this (first_or back None) → SameButLinks old new → HoldsLeaf old this → AllByRecursion (λ k. k ≢ this) (front ++ back) → Spells old (front ++ back) → Spells new (front ++ this ∷ back)
   Spells-placed old new front back this placed same holds apart spells =
       let parts = Each-split (λ k. k ≢ this) front back apart in
       let held = Each-split (HoldsLeaf old) front back (Held-from old None (front ++ back) spells.spelled) in
@@ -244,7 +244,7 @@ module _ {K V : Type 0} {P : ℕ} where
             placed.before_next placed.after_previous placed.other_next placed.other_previous (placed.previous, placed.next, tt) (Linked-from old None (front ++ back) spells.spelled));
       }
 
-  pub Spells-placed_after : (old new : ArenaOf K V P) (before after : List ℕ) (sibling this : ℕ) → StandsBetween old new (Some sibling) this (next_at old sibling) → SameButLinks old new → HoldsLeaf old this → IsUnlinked old this → this ≢ sibling → Spells old (before ++ sibling ∷ after) → Spells new (before ++ sibling ∷ this ∷ after)
+  pub Spells-placed_after : (old new : NodeArena K V P) (before after : List ℕ) (sibling this : ℕ) → StandsBetween old new (Some sibling) this (next_at old sibling) → SameButLinks old new → HoldsLeaf old this → IsUnlinked old this → this ≢ sibling → Spells old (before ++ sibling ∷ after) → Spells new (before ++ sibling ∷ this ∷ after)
   Spells-placed_after old new before after sibling this placed same holds unlinked differ spells =
       let linked = Linked-from old None (before ++ sibling ∷ after) spells.spelled in
       let at_sibling = (Linked-split (next_at old) (previous_at old) None before (sibling ∷ after) None linked).1 in
@@ -256,7 +256,7 @@ module _ {K V : Type 0} {P : ℕ} where
       (subst (AllByRecursion (λ k. k ≢ this)) (sym regroup) (unlinked_is_apart (next_at old) (previous_at old) before after sibling this linked unlinked.0 unlinked.1 differ))
       (subst (Spells old) (sym regroup) spells))
 
-  pub Spells-placed_before : (old new : ArenaOf K V P) (before after : List ℕ) (sibling this : ℕ) → StandsBetween old new (previous_at old sibling) this (Some sibling) → SameButLinks old new → HoldsLeaf old this → IsUnlinked old this → this ≢ sibling → Spells old (before ++ sibling ∷ after) → Spells new (before ++ this ∷ sibling ∷ after)
+  pub Spells-placed_before : (old new : NodeArena K V P) (before after : List ℕ) (sibling this : ℕ) → StandsBetween old new (previous_at old sibling) this (Some sibling) → SameButLinks old new → HoldsLeaf old this → IsUnlinked old this → this ≢ sibling → Spells old (before ++ sibling ∷ after) → Spells new (before ++ this ∷ sibling ∷ after)
   Spells-placed_before old new before after sibling this placed same holds unlinked differ spells =
       let linked = Linked-from old None (before ++ sibling ∷ after) spells.spelled in
       let at_sibling = (Linked-split (next_at old) (previous_at old) None before (sibling ∷ after) None linked).1 in
@@ -264,7 +264,7 @@ module _ {K V : Type 0} {P : ℕ} where
       (StandsBetween-at old new (previous_at old sibling) (last_or None before) this (Some sibling) (Some sibling) at_sibling.0 refl placed)
       same holds (unlinked_is_apart (next_at old) (previous_at old) before after sibling this linked unlinked.0 unlinked.1 differ) spells
 
-  pub Spells-removed : (old new : ArenaOf K V P) (before after : List ℕ) (this : ℕ) → Joins old new (previous_at old this) (next_at old this) → SameButLinks old new → Spells old (before ++ this ∷ after) → Spells new (before ++ after)
+  pub Spells-removed : (old new : NodeArena K V P) (before after : List ℕ) (this : ℕ) → Joins old new (previous_at old this) (next_at old this) → SameButLinks old new → Spells old (before ++ this ∷ after) → Spells new (before ++ after)
   Spells-removed old new before after this joined same spells =
       let linked = Linked-from old None (before ++ this ∷ after) spells.spelled in
       let at_this = (Linked-split (next_at old) (previous_at old) None before (this ∷ after) None linked).1 in
@@ -285,7 +285,7 @@ module _ {K V : Type 0} {P : ℕ} where
       any [] = tt
       any (x ∷ xs) = (tt, any xs)
 
-  pub Spells-replaced : (old new : ArenaOf K V P) (before after : List ℕ) (gone this : ℕ) → TakesPlace old new gone this → SameButLinks old new → HoldsLeaf old this → IsUnlinked old this → this ≢ gone → Spells old (before ++ gone ∷ after) → Spells new (before ++ this ∷ after)
+  pub Spells-replaced : (old new : NodeArena K V P) (before after : List ℕ) (gone this : ℕ) → TakesPlace old new gone this → SameButLinks old new → HoldsLeaf old this → IsUnlinked old this → this ≢ gone → Spells old (before ++ gone ∷ after) → Spells new (before ++ this ∷ after)
   Spells-replaced old new before after gone this placed same holds unlinked differ spells =
       let linked = Linked-from old None (before ++ gone ∷ after) spells.spelled in
       let at_gone = (Linked-split (next_at old) (previous_at old) None before (gone ∷ after) None linked).1 in
@@ -309,11 +309,11 @@ module _ {K V : Type 0} {P : ℕ} where
       pairs [] a b = tt
       pairs (x ∷ xs) a b = ((a.0, b.0), pairs xs a.1 b.1)
 
-  pub Joins-at : (old new : ArenaOf K V P) (before before' after after' : Option ℕ) → before ≡ before' → after ≡ after' → Joins old new before after → Joins old new before' after'
+  pub Joins-at : (old new : NodeArena K V P) (before before' after after' : Option ℕ) → before ≡ before' → after ≡ after' → Joins old new before after → Joins old new before' after'
   Joins-at old new before before' after after' same_before same_after joined = subst (λ a. Joins old new before' a) same_after (subst (λ b. Joins old new b after) same_before joined)
 
   -- a leaf whose neighbours are joined keeps its own links
-  pub own_links : (old new : ArenaOf K V P) (this : ℕ) → IsKnit old this → Joins old new (previous_at old this) (next_at old this) → (previous_at new this ≡ previous_at old this) × (next_at new this ≡ next_at old this)
+  pub own_links : (old new : NodeArena K V P) (this : ℕ) → IsKnit old this → Joins old new (previous_at old this) (next_at old this) → (previous_at new this ≡ previous_at old this) × (next_at new this ≡ next_at old this)
   own_links old new this knit joined = (
     elim (same_option (next_at old this) this) [
       | inl own ↦ joined.previous this own
@@ -326,5 +326,5 @@ module _ {K V : Type 0} {P : ℕ} where
   )
 
   -- the arena with another value in a leaf is the arena with that leaf in its place
-  pub with_value_at-found : (arena : ArenaOf K V P) (key : ℕ) (leaf : LeafNode K V P) (value : V) → leaf_at arena key ≡ Some leaf → with_value_at arena key value ≡ record arena { leaf = slabs.with_value arena.leaf key (with_value leaf value) }
+  pub with_value_at-found : (arena : NodeArena K V P) (key : ℕ) (leaf : LeafNode K V P) (value : V) → leaf_at arena key ≡ Some leaf → with_value_at arena key value ≡ record arena { leaf = slabs.with_value arena.leaf key (with_value leaf value) }
   with_value_at-found arena key leaf value found = ap (λ (slot : Option (LeafNode K V P)). record arena { leaf = record arena.leaf { slots = slice_set arena.leaf.slots key (option_map (λ l. with_value l value) slot) } }) found

@@ -7,7 +7,7 @@ use Rattle.art_nodes.specs.Pointers.{slab_key, opaque_pointer}
 use Rattle.art_nodes.specs.declared.pointers.NodePtr.{NodePtr}
 use Rattle.art_nodes.specs.declared.pointers.OpaqueNodePtr.{OpaqueNodePtr}
 use Rattle.art_nodes.specs.declared.leaf_node.LeafNode.{LeafNode}
-use Rattle.art_arena.specs.Arena.{ArenaOf, held, HeldLeaf}
+use Rattle.art_arena.specs.Arena.{NodeArena, held, HeldLeaf}
 use Rattle.art_arena.specs.Ends.{IsAtEnd}
 use Rattle.art_arena.specs.Standing.{TreeAt, TreeUnder, leaf_text, IsLeafOf}
 use Rattle.art_arena.specs.Trees.{leaves}
@@ -15,7 +15,7 @@ use Rattle.art_arena.specs.declared.ends.End.TheVariants.{First}
 use Rattle.art_arena.proofs.EndLemmas.{IsToEnd, end-contains, to-end-under}
 use Rattle.art_arena.proofs.WayLemmas.{IsCut, IsCut-leaf, leaf-text}
 
-module _ {K V : Type 0} {P : ℕ} (text : K → List ℕ) (arena : ArenaOf K V P) (node : nodes.Inner (OpaqueNodePtr K V P)) (depth : ℕ) (least : ℕ × OpaqueNodePtr K V P) (first : first_pair node.children ≡ Some least) where
+module _ {K V : Type 0} {P : ℕ} (text : K → List ℕ) (arena : NodeArena K V P) (node : nodes.Inner (OpaqueNodePtr K V P)) (depth : ℕ) (least : ℕ × OpaqueNodePtr K V P) (first : first_pair node.children ≡ Some least) where
   way_to_child : (below : TreeUnder text arena node depth) → IsToEnd text arena First below.tree least.1 0
   way_to_child below = to-end-under text arena First below.tree node below.path least.0 least.1 below.stands below.sound first
 

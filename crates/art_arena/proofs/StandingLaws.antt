@@ -13,7 +13,7 @@ use Rattle.art_nodes.specs.PrefixMatch.{HasPrefix}
 use Rattle.art_nodes.specs.declared.pointers.NodePtr.{NodePtr}
 use Rattle.art_nodes.specs.declared.pointers.OpaqueNodePtr.{OpaqueNodePtr}
 use Rattle.art_nodes.specs.declared.leaf_node.LeafNode.{LeafNode}
-use Rattle.art_arena.specs.Arena.{ArenaOf, Held, Nothing, HeldInner, HeldLeaf, as_inner, held, held_inner, held_under}
+use Rattle.art_arena.specs.Arena.{NodeArena, Held, Nothing, HeldInner, HeldLeaf, as_inner, held, held_inner, held_under}
 use Rattle.art_arena.specs.InnerRef.{inner_shown}
 use Rattle.art_arena.specs.declared.inner_ref.AnyInnerRef.{AnyInnerRef}
 use Rattle.art_arena.specs.Standing.{NodeStands}
@@ -67,7 +67,7 @@ module _ {K V : Type 0} {P : ℕ} where
   inner_is_no_leaf (Some node) leaf is = absurd (cc)
 
   -- only a pointer of the kind of leaves has a leaf
-  pub leaf_kind : (arena : ArenaOf K V P) (kind : NodeType) (key : ℕ) (leaf : LeafNode K V P) → held_under arena kind key ≡ HeldLeaf leaf → kind ≡ kinds.Leaf
+  pub leaf_kind : (arena : NodeArena K V P) (kind : NodeType) (key : ℕ) (leaf : LeafNode K V P) → held_under arena kind key ≡ HeldLeaf leaf → kind ≡ kinds.Leaf
   leaf_kind arena kinds.Node4 key leaf is = inner_is_no_leaf _ leaf is
   leaf_kind arena kinds.Node16 key leaf is = inner_is_no_leaf _ leaf is
   leaf_kind arena kinds.Node48 key leaf is = inner_is_no_leaf _ leaf is
@@ -75,5 +75,5 @@ module _ {K V : Type 0} {P : ℕ} where
   leaf_kind arena kinds.Leaf key leaf is = refl
 
   -- where a leaf is held, it is held under the pointer's slab key
-  pub leaf_place : (arena : ArenaOf K V P) (pointer : OpaqueNodePtr K V P) (leaf : LeafNode K V P) → held arena pointer ≡ HeldLeaf leaf → opaque_pointer kinds.Leaf (opaque_key pointer) ≡ pointer
+  pub leaf_place : (arena : NodeArena K V P) (pointer : OpaqueNodePtr K V P) (leaf : LeafNode K V P) → held arena pointer ≡ HeldLeaf leaf → opaque_pointer kinds.Leaf (opaque_key pointer) ≡ pointer
   leaf_place arena pointer leaf is = let kind = leaf_kind arena (node_kind pointer) (opaque_key pointer) leaf is in λ i. record { node_type = (sym kind) i; key = opaque_key pointer; leaf = record {} }

@@ -10,7 +10,7 @@ use Rattle.art_nodes.specs.declared.pointers.OpaqueNodePtr.{OpaqueNodePtr}
 use Rattle.art_nodes.specs.declared.leaf_node.LeafNode.{LeafNode}
 
 -- the nodes of each kind, by slab key
-pub record Shelves (A B C D L : Type 0) : Type 0 where
+pub record Slabs (A B C D L : Type 0) : Type 0 where
   pub node4 : Slab A
   pub node16 : Slab B
   pub node48 : Slab C
@@ -19,7 +19,7 @@ pub record Shelves (A B C D L : Type 0) : Type 0 where
 
 -- those of an arena
 abbrev pub Arena : Type 0 → Type 0 → Type 0
-Arena H L = Shelves (Inner H) (Inner H) (Inner H) (Inner H) L
+Arena H L = Slabs (Inner H) (Inner H) (Inner H) (Inner H) L
 
 -- what is held at a pointer
 pub data Held (H L : Type 0) : Type 0 where
@@ -126,24 +126,24 @@ module _ {H L : Type 0} where
   held_header (HeldLeaf leaf) = None
 
 -- what a `NodeArena` shows
-abbrev pub ArenaOf : Type 0 → Type 0 → ℕ → Type 0
-ArenaOf K V P = Arena (OpaqueNodePtr K V P) (LeafNode K V P)
+abbrev pub NodeArena : Type 0 → Type 0 → ℕ → Type 0
+NodeArena K V P = Arena (OpaqueNodePtr K V P) (LeafNode K V P)
 
 module _ {K V : Type 0} {P : ℕ} where
   -- what is held at a pointer
-  abbrev pub held : ArenaOf K V P → OpaqueNodePtr K V P → Held (OpaqueNodePtr K V P) (LeafNode K V P)
+  abbrev pub held : NodeArena K V P → OpaqueNodePtr K V P → Held (OpaqueNodePtr K V P) (LeafNode K V P)
   held arena pointer = held_under arena (node_kind pointer) (opaque_key pointer)
 
   -- this pointer holds this now, and every other pointer what it held
-  pub record Changes (old new : ArenaOf K V P) (at : OpaqueNodePtr K V P) (now : Held (OpaqueNodePtr K V P) (LeafNode K V P)) : Type 0 where
+  pub record Changes (old new : NodeArena K V P) (at : OpaqueNodePtr K V P) (now : Held (OpaqueNodePtr K V P) (LeafNode K V P)) : Type 0 where
     pub changed : held new at ≡ now
     pub others : (pointer : OpaqueNodePtr K V P) → pointer ≢ at → held new pointer ≡ held old pointer
 
   -- every pointer holds what it held
-  abbrev pub SameNodes : ArenaOf K V P → ArenaOf K V P → Type 0
+  abbrev pub SameNodes : NodeArena K V P → NodeArena K V P → Type 0
   SameNodes old new = (pointer : OpaqueNodePtr K V P) → held new pointer ≡ held old pointer
 
   -- the arena with this node in place of the one under a slab key
-  abbrev pub with_node : {N : Type 0} → (ArenaOf K V P → Slab N) →
-      (ArenaOf K V P → Slab N → ArenaOf K V P) → ArenaOf K V P → ℕ → N → ArenaOf K V P
+  abbrev pub with_node : {N : Type 0} → (NodeArena K V P → Slab N) →
+      (NodeArena K V P → Slab N → NodeArena K V P) → NodeArena K V P → ℕ → N → NodeArena K V P
   with_node slab_of with_slab arena key node = with_slab arena (with_value (slab_of arena) key node)

@@ -8,7 +8,7 @@ use Rattle.art_nodes.specs.Pointers.{slab_key, opaque_pointer}
 use Rattle.art_nodes.specs.declared.pointers.NodePtr.{NodePtr}
 use Rattle.art_nodes.specs.declared.pointers.OpaqueNodePtr.{OpaqueNodePtr}
 use Rattle.art_nodes.specs.declared.leaf_node.LeafNode.{LeafNode}
-use Rattle.art_arena.specs.Arena.{ArenaOf, Held, HeldInner, HeldLeaf, held}
+use Rattle.art_arena.specs.Arena.{NodeArena, Held, HeldInner, HeldLeaf, held}
 use Rattle.art_arena.specs.Trees.{Tree, Leaf, Inner, Branches, NoBranch, Branch, root_of, branch_roots, leaves, IsSound, IsWellFormed}
 
 -- the node has this prefix, as far as it stores it, and these branches as its children
@@ -44,16 +44,16 @@ module _ {K V : Type 0} {P : ℕ} (text : K → List ℕ) where
   leaf_text leaf = text (leaf_key leaf)
 
   -- the tree stands in an arena
-  abbrev pub StandsIn : ArenaOf K V P → Tree (OpaqueNodePtr K V P) → Type 0
+  abbrev pub StandsIn : NodeArena K V P → Tree (OpaqueNodePtr K V P) → Type 0
   StandsIn arena tree = Stands P leaf_text (held arena) tree
 
   -- the same of branches
-  abbrev pub AllStandIn : ArenaOf K V P → Branches (OpaqueNodePtr K V P) → Type 0
+  abbrev pub AllStandIn : NodeArena K V P → Branches (OpaqueNodePtr K V P) → Type 0
   AllStandIn arena branches = AllStand P leaf_text (held arena) branches
 
   -- a tree of a node given as a value: its branches stand in an arena, and it is sound under a path
   -- of this depth
-  pub record TreeUnder (arena : ArenaOf K V P) (node : nodes.Inner (OpaqueNodePtr K V P)) (depth : ℕ) : Type 0 where
+  pub record TreeUnder (arena : NodeArena K V P) (node : nodes.Inner (OpaqueNodePtr K V P)) (depth : ℕ) : Type 0 where
     pub tree : Tree (OpaqueNodePtr K V P)
     pub path : List ℕ
     pub stands : StandsUnder P leaf_text (held arena) node tree
@@ -61,7 +61,7 @@ module _ {K V : Type 0} {P : ℕ} (text : K → List ℕ) where
     pub deep : length path ≡ depth
 
   -- a tree that stands in an arena at this pointer and is sound under some path
-  pub record TreeAt (arena : ArenaOf K V P) (pointer : OpaqueNodePtr K V P) : Type 0 where
+  pub record TreeAt (arena : NodeArena K V P) (pointer : OpaqueNodePtr K V P) : Type 0 where
     pub tree : Tree (OpaqueNodePtr K V P)
     pub path : List ℕ
     pub at_root : root_of tree ≡ pointer
@@ -69,7 +69,7 @@ module _ {K V : Type 0} {P : ℕ} (text : K → List ℕ) where
     pub sound : IsSound path tree
 
   -- a well-formed tree that stands in an arena at this pointer
-  pub record IsTreeIn (arena : ArenaOf K V P) (root : OpaqueNodePtr K V P) (tree : Tree (OpaqueNodePtr K V P)) : Type 0 where
+  pub record IsTreeIn (arena : NodeArena K V P) (root : OpaqueNodePtr K V P) (tree : Tree (OpaqueNodePtr K V P)) : Type 0 where
     pub at_root : root_of tree ≡ root
     pub stands : StandsIn arena tree
     pub sound : IsWellFormed tree

@@ -13,14 +13,14 @@ ghost use Rattle.art_arena.specs.Reader.{shown, shown_kind};
 ghost use Rattle.art_arena.specs.Lending.{LendsNode, LendsValue};
 ghost use Rattle.art_arena.specs.Arena.{held, held_option, Nothing, HeldInner, HeldLeaf, held_header, Changes, SameNodes, capacity, leaf_count, room, SameRoom, SameOtherRoom, SameCapacity, SameOtherCapacity, with_node};
 
-mod shelves;
+mod arena_node;
 
-use crate::reader::{AnyRef, NodeRef};
+use crate::reader::{AnyNodeRef, NodeRef};
+pub use arena_node::{ArenaInnerNode, ArenaNode};
 use art_nodes::{
     ConcreteNodePtr, Header, InnerNode4, InnerNode16, InnerNode48, InnerNode256, InnerNodeCommon,
     InnerNodeRead, LeafNode, Node, NodePtr, NodeType, OpaqueNodePtr,
 };
-pub use shelves::{ArenaInnerNode, ArenaNode};
 use slab::Slab;
 use std::alloc::{AllocError, Global};
 use std::marker::Model;
@@ -37,9 +37,9 @@ pub struct Slabs<A, B, C, D, L> {
 }
 
 impl<A, B, C, D, L> Model for Slabs<A, B, C, D, L> {
-    ghost use Rattle.art_arena.specs.Arena.{Shelves};
+    ghost use Rattle.art_arena.specs.Arena.{Slabs as Shown};
 
-    ghost Value = { Shelves A B C D L };
+    ghost Value = { Shown A B C D L };
 
     ghost view = { λ a. record {
       node4 = a.node4;
@@ -331,11 +331,11 @@ impl<K, V, const PREFIX_LEN: usize> NodeArena<K, V, PREFIX_LEN> {
             IsInner PREFIX_LEN (most_children (node_kind pointer)) node }
     {
         match self.node_ref(pointer) {
-            AnyRef::Node4(node) => Some(node.header()),
-            AnyRef::Node16(node) => Some(node.header()),
-            AnyRef::Node48(node) => Some(node.header()),
-            AnyRef::Node256(node) => Some(node.header()),
-            AnyRef::LeafNode(_) => None,
+            AnyNodeRef::Node4(node) => Some(node.header()),
+            AnyNodeRef::Node16(node) => Some(node.header()),
+            AnyNodeRef::Node48(node) => Some(node.header()),
+            AnyNodeRef::Node256(node) => Some(node.header()),
+            AnyNodeRef::LeafNode(_) => None,
         }
     }
 
@@ -477,13 +477,19 @@ impl<K, V, const PREFIX_LEN: usize> NodeArena<K, V, PREFIX_LEN> {
         ensures kind { shown_kind result ≡ node_kind pointer }
     {
         match pointer.to_node_ptr() {
-            ConcreteNodePtr::Node4(node) => AnyRef::Node4(self.node4.get(node.key()).unwrap()),
-            ConcreteNodePtr::Node16(node) => AnyRef::Node16(self.node16.get(node.key()).unwrap()),
-            ConcreteNodePtr::Node48(node) => AnyRef::Node48(self.node48.get(node.key()).unwrap()),
-            ConcreteNodePtr::Node256(node) => AnyRef::Node256(
+            ConcreteNodePtr::Node4(node) => AnyNodeRef::Node4(self.node4.get(node.key()).unwrap()),
+            ConcreteNodePtr::Node16(node) => AnyNodeRef::Node16(
+                self.node16.get(node.key()).unwrap(),
+            ),
+            ConcreteNodePtr::Node48(node) => AnyNodeRef::Node48(
+                self.node48.get(node.key()).unwrap(),
+            ),
+            ConcreteNodePtr::Node256(node) => AnyNodeRef::Node256(
                 self.node256.get(node.key()).unwrap(),
             ),
-            ConcreteNodePtr::LeafNode(leaf) => AnyRef::LeafNode(self.leaf.get(leaf.key()).unwrap()),
+            ConcreteNodePtr::LeafNode(leaf) => AnyNodeRef::LeafNode(
+                self.leaf.get(leaf.key()).unwrap(),
+            ),
         }
     }
 }

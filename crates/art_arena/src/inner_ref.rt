@@ -6,7 +6,7 @@ ghost use Rattle.art_arena.specs.Arena.{as_inner};
 ghost use Rattle.art_arena.specs.InnerRef.{inner_shown};
 ghost use Rattle.art_arena.specs.Reader.{shown, shown_kind};
 
-use crate::reader::{AnyRef, NodeRef};
+use crate::reader::{AnyNodeRef, NodeRef};
 use art_nodes::{
     ChildIter, Header, InnerNode4, InnerNode16, InnerNode48, InnerNode256, InnerNodeRead,
     OpaqueNodePtr,
@@ -27,7 +27,7 @@ pub enum AnyInnerRef<'a, A, B, C, D> {
 }
 
 /// A reference to an inner node of any kind, with the calls of [`InnerNodeRead`]. A call looks at
-/// the kind once for each call of that trait that it makes. [`NodeRef::inner`](AnyRef::inner)
+/// the kind once for each call of that trait that it makes. [`NodeRef::inner`](AnyNodeRef::inner)
 /// returns one.
 pub type InnerRef<'a, K, V, const PREFIX_LEN: usize> = AnyInnerRef<
     'a,
@@ -107,11 +107,11 @@ impl<'a, K, V, const PREFIX_LEN: usize> NodeRef<'a, K, V, PREFIX_LEN> {
         ensures leaf { IsNone result ↔ (shown_kind self.entry ≡ Leaf) }
     {
         match self {
-            AnyRef::Node4(node) => Some(AnyInnerRef::Node4(node)),
-            AnyRef::Node16(node) => Some(AnyInnerRef::Node16(node)),
-            AnyRef::Node48(node) => Some(AnyInnerRef::Node48(node)),
-            AnyRef::Node256(node) => Some(AnyInnerRef::Node256(node)),
-            AnyRef::LeafNode(_) => None,
+            AnyNodeRef::Node4(node) => Some(AnyInnerRef::Node4(node)),
+            AnyNodeRef::Node16(node) => Some(AnyInnerRef::Node16(node)),
+            AnyNodeRef::Node48(node) => Some(AnyInnerRef::Node48(node)),
+            AnyNodeRef::Node256(node) => Some(AnyInnerRef::Node256(node)),
+            AnyNodeRef::LeafNode(_) => None,
         }
     }
 }

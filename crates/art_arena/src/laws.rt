@@ -13,7 +13,7 @@ ghost use Rattle.art_nodes.specs.Leaf.{leaf_key, previous_key, next_key};
 ghost use Rattle.art_nodes.specs.Pointers.{node_kind, opaque_pointer};
 ghost use Rattle.art_nodes.specs.PrefixMatch.{HasPrefix};
 ghost use Rattle.art_nodes.specs.declared.pointers.OpaqueNodePtr.{OpaqueNodePtr};
-ghost use Rattle.art_arena.specs.Arena.{ArenaOf, HeldInner, HeldLeaf, Nothing, Changes, held};
+ghost use Rattle.art_arena.specs.Arena.{NodeArena, HeldInner, HeldLeaf, Nothing, Changes, held};
 ghost use Rattle.art_arena.specs.Links.{AreDistinct, IsKnit, SameButLinks, Spells, leaf_at, next_at, previous_at};
 ghost use Rattle.art_arena.specs.CommonPrefix.{IsFullMatch, IsLongestCommonPrefix, IsSharedFrom};
 ghost use Rattle.art_arena.specs.Standing.{NodeStands, StandsIn, AllStandIn, TreeAt, TreeUnder, IsTreeIn};
@@ -42,7 +42,7 @@ pub fn no_text_begins_another<H>()
 
 /// Each pointer of a sound tree that stands in an arena is at one place of it.
 pub fn each_pointer_is_at_one_place<K: AsBytes, V, const PREFIX_LEN: usize>()
-    ensures { (arena : ArenaOf K V PREFIX_LEN) (path : List ℕ) (tree : _) →
+    ensures { (arena : NodeArena K V PREFIX_LEN) (path : List ℕ) (tree : _) →
         StandsIn K.text arena tree → IsSound path tree → AreDistinct (places tree) }
 {}
 
@@ -66,7 +66,7 @@ pub fn same_trees_match_alike<
     W,
     const OTHER_PREFIX_LEN: usize,
 >()
-    ensures { (arena : ArenaOf K V PREFIX_LEN) (other_arena : ArenaOf L W OTHER_PREFIX_LEN)
+    ensures { (arena : NodeArena K V PREFIX_LEN) (other_arena : NodeArena L W OTHER_PREFIX_LEN)
         (node other : _) (depth : ℕ) (key : List ℕ) (found other_found : _)
         (under : TreeUnder K.text arena node depth)
         (other_under : TreeUnder L.text other_arena other depth) →
@@ -82,22 +82,22 @@ pub fn same_trees_match_alike<
 /// keys below a node share a common prefix from its depth on, which `match_full_prefix` compares
 /// with a key.
 pub fn each_node_of_a_tree_has_a_tree<K: AsBytes, V, const PREFIX_LEN: usize>()
-    ensures root { (arena : ArenaOf K V PREFIX_LEN) (root : _) (tree : _) →
+    ensures root { (arena : NodeArena K V PREFIX_LEN) (root : _) (tree : _) →
         IsTreeIn K.text arena root tree → (at : TreeAt K.text arena root) × (at.path ≡ []) }
-    ensures held { (arena : ArenaOf K V PREFIX_LEN) (pointer : _) →
+    ensures held { (arena : NodeArena K V PREFIX_LEN) (pointer : _) →
         TreeAt K.text arena pointer → held arena pointer ≢ Nothing }
-    ensures node { (arena : ArenaOf K V PREFIX_LEN) (pointer : _) (node : _)
+    ensures node { (arena : NodeArena K V PREFIX_LEN) (pointer : _) (node : _)
         (at : TreeAt K.text arena pointer) → held arena pointer ≡ HeldInner node →
         (under : TreeUnder K.text arena node (length at.path)) ×
         (under.tree ≡ at.tree) × (under.path ≡ at.path) }
-    ensures child { (arena : ArenaOf K V PREFIX_LEN) (pointer child : _) (node : _) (byte : ℕ)
+    ensures child { (arena : NodeArena K V PREFIX_LEN) (pointer child : _) (node : _) (byte : ℕ)
         (at : TreeAt K.text arena pointer) → held arena pointer ≡ HeldInner node →
         child_at node.children byte ≡ Some child →
         (below : TreeAt K.text arena child) × ((prefix : List ℕ) × HasPrefix node prefix ×
         (below.path ≡ (at.path ++ prefix) ++ byte ∷ [])) ×
         ((left : List _) × (right : List _) ×
         (leaves at.tree ≡ left ++ (leaves below.tree ++ right))) }
-    ensures shared { (arena : ArenaOf K V PREFIX_LEN) (node : _) (depth : ℕ)
+    ensures shared { (arena : NodeArena K V PREFIX_LEN) (node : _) (depth : ℕ)
         (under : TreeUnder K.text arena node depth) →
         (shared : List ℕ) × IsSharedFrom depth (texts under.tree) shared }
 {}
@@ -105,18 +105,18 @@ pub fn each_node_of_a_tree_has_a_tree<K: AsBytes, V, const PREFIX_LEN: usize>()
 /// A node over sound trees that stand makes, once allocated, a tree that stands and is sound. So a
 /// node that has a tree as a value has it under its pointer once it is allocated.
 pub fn an_allocated_node_makes_a_tree<K: AsBytes, V, const PREFIX_LEN: usize>()
-    ensures stands { (old new : ArenaOf K V PREFIX_LEN) (pointer : _) (node : _) (prefix : List ℕ)
+    ensures stands { (old new : NodeArena K V PREFIX_LEN) (pointer : _) (node : _) (prefix : List ℕ)
         (branches : _) → held old pointer ≡ Nothing → Changes old new pointer (HeldInner node) →
         NodeStands PREFIX_LEN node prefix branches → AllStandIn K.text old branches →
         StandsIn K.text new (Inner pointer prefix branches) }
-    ensures tree { (old new : ArenaOf K V PREFIX_LEN) (pointer : _) (node : _)
+    ensures tree { (old new : NodeArena K V PREFIX_LEN) (pointer : _) (node : _)
         (path prefix : List ℕ) (branches : _) → held old pointer ≡ Nothing →
         Changes old new pointer (HeldInner node) → NodeStands PREFIX_LEN node prefix branches →
         2 ≤ length node.children → IsAscending (key_bytes node.children) →
         AllStandIn K.text old branches → AreSound (path ++ prefix) branches →
         StandsIn K.text new (Inner pointer prefix branches) ×
         IsSound path (Inner pointer prefix branches) }
-    ensures under { (old new : ArenaOf K V PREFIX_LEN) (pointer : _) (node : _) (depth : ℕ)
+    ensures under { (old new : NodeArena K V PREFIX_LEN) (pointer : _) (node : _) (depth : ℕ)
         (under : TreeUnder K.text old node depth) → held old pointer ≡ Nothing →
         Changes old new pointer (HeldInner node) →
         (at : TreeAt K.text new pointer) × (at.path ≡ under.path) ×
@@ -125,14 +125,14 @@ pub fn an_allocated_node_makes_a_tree<K: AsBytes, V, const PREFIX_LEN: usize>()
 
 /// A tree still stands in an arena that holds all that was held, as it was held.
 pub fn trees_stand_where_all_is_kept<K: AsBytes, V, const PREFIX_LEN: usize>()
-    ensures { (old new : ArenaOf K V PREFIX_LEN) (tree : _) →
+    ensures { (old new : NodeArena K V PREFIX_LEN) (tree : _) →
         ((pointer : _) → held old pointer ≢ Nothing → held new pointer ≡ held old pointer) →
         StandsIn K.text old tree → StandsIn K.text new tree }
 {}
 
 /// A tree still stands where each of its pointers holds what it held, whatever changes elsewhere.
 pub fn trees_stand_where_their_nodes_are_kept<K: AsBytes, V, const PREFIX_LEN: usize>()
-    ensures { (old new : ArenaOf K V PREFIX_LEN) (tree : _) →
+    ensures { (old new : NodeArena K V PREFIX_LEN) (tree : _) →
         All (λ pointer. held new pointer ≡ held old pointer) (places tree) →
         StandsIn K.text old tree → StandsIn K.text new tree }
 {}
@@ -140,9 +140,9 @@ pub fn trees_stand_where_their_nodes_are_kept<K: AsBytes, V, const PREFIX_LEN: u
 /// A tree still stands where links of leaves change, and where a leaf is replaced by one with the
 /// same key bytes, for example one with another value.
 pub fn trees_stand_where_texts_are_kept<K: AsBytes, V, const PREFIX_LEN: usize>()
-    ensures links { (old new : ArenaOf K V PREFIX_LEN) (tree : _) →
+    ensures links { (old new : NodeArena K V PREFIX_LEN) (tree : _) →
         SameButLinks old new → StandsIn K.text old tree → StandsIn K.text new tree }
-    ensures leaf { (old new : ArenaOf K V PREFIX_LEN) (key : ℕ) (was now : _) (tree : _) →
+    ensures leaf { (old new : NodeArena K V PREFIX_LEN) (key : ℕ) (was now : _) (tree : _) →
         leaf_at old key ≡ Some was →
         Changes old new (opaque_pointer NodeType.Leaf key) (HeldLeaf now) →
         K.text (leaf_key now) ≡ K.text (leaf_key was) →
@@ -151,17 +151,17 @@ pub fn trees_stand_where_texts_are_kept<K: AsBytes, V, const PREFIX_LEN: usize>(
 
 /// Each tree that stands still stands after an allocation.
 pub fn allocating_leaves_trees_standing<K: AsBytes, V, const PREFIX_LEN: usize>()
-    ensures tree { (old new : ArenaOf K V PREFIX_LEN) (pointer : _) (now : _) (tree : _) →
+    ensures tree { (old new : NodeArena K V PREFIX_LEN) (pointer : _) (now : _) (tree : _) →
         held old pointer ≡ Nothing → Changes old new pointer now →
         StandsIn K.text old tree → StandsIn K.text new tree }
-    ensures branches { (old new : ArenaOf K V PREFIX_LEN) (pointer : _) (now : _) (branches : _) →
+    ensures branches { (old new : NodeArena K V PREFIX_LEN) (pointer : _) (now : _) (branches : _) →
         held old pointer ≡ Nothing → Changes old new pointer now →
         AllStandIn K.text old branches → AllStandIn K.text new branches }
 {}
 
 /// Each list that links spell is still spelled after an allocation.
 pub fn allocating_keeps_lists_spelled<K, V, const PREFIX_LEN: usize>()
-    ensures { (old new : ArenaOf K V PREFIX_LEN) (pointer : _) (now : _) (keys : List ℕ) →
+    ensures { (old new : NodeArena K V PREFIX_LEN) (pointer : _) (now : _) (keys : List ℕ) →
         held old pointer ≡ Nothing → Changes old new pointer now →
         Spells old keys → Spells new keys }
 {}
@@ -169,10 +169,10 @@ pub fn allocating_keeps_lists_spelled<K, V, const PREFIX_LEN: usize>()
 /// A list of leaves is still spelled where an inner node changes, and where a leaf is replaced by
 /// one that names the same neighbours, for example one with another value.
 pub fn lists_are_spelled_where_links_are_kept<K, V, const PREFIX_LEN: usize>()
-    ensures inner { (old new : ArenaOf K V PREFIX_LEN) (pointer : _) (now : _) (keys : List ℕ) →
+    ensures inner { (old new : NodeArena K V PREFIX_LEN) (pointer : _) (now : _) (keys : List ℕ) →
         node_kind pointer ≢ NodeType.Leaf → Changes old new pointer now →
         Spells old keys → Spells new keys }
-    ensures leaf { (old new : ArenaOf K V PREFIX_LEN) (key : ℕ) (was now : _) (keys : List ℕ) →
+    ensures leaf { (old new : NodeArena K V PREFIX_LEN) (key : ℕ) (was now : _) (keys : List ℕ) →
         leaf_at old key ≡ Some was →
         Changes old new (opaque_pointer NodeType.Leaf key) (HeldLeaf now) →
         previous_key now ≡ previous_key was → next_key now ≡ next_key was →
@@ -182,19 +182,19 @@ pub fn lists_are_spelled_where_links_are_kept<K, V, const PREFIX_LEN: usize>()
 /// A list of leaves is still spelled where each of its leaves is unchanged, whatever changes
 /// elsewhere, for example where a leaf is deallocated that was removed from the list.
 pub fn lists_are_spelled_where_their_leaves_are_kept<K, V, const PREFIX_LEN: usize>()
-    ensures { (old new : ArenaOf K V PREFIX_LEN) (keys : List ℕ) →
+    ensures { (old new : NodeArena K V PREFIX_LEN) (keys : List ℕ) →
         All (λ key. leaf_at new key ≡ leaf_at old key) keys → Spells old keys → Spells new keys }
 {}
 
 /// Each leaf of a list that links spell is knit, so the calls of `LeafLinks` may be made with it,
 /// and it names the leaves beside it in the list.
 pub fn each_leaf_of_a_list_is_knit<K, V, const PREFIX_LEN: usize>()
-    ensures knit { (arena : ArenaOf K V PREFIX_LEN) (before after : List ℕ) (key : ℕ) →
+    ensures knit { (arena : NodeArena K V PREFIX_LEN) (before after : List ℕ) (key : ℕ) →
         Spells arena (before ++ key ∷ after) → IsKnit arena key }
-    ensures next { (arena : ArenaOf K V PREFIX_LEN) (before after : List ℕ) (key : ℕ) →
+    ensures next { (arena : NodeArena K V PREFIX_LEN) (before after : List ℕ) (key : ℕ) →
         Spells arena (before ++ key ∷ after) → next_at arena key ≡ slice_get after 0 }
-    ensures previous { (arena : ArenaOf K V PREFIX_LEN) (before after : List ℕ) (other key : ℕ) →
+    ensures previous { (arena : NodeArena K V PREFIX_LEN) (before after : List ℕ) (other key : ℕ) →
         Spells arena (before ++ other ∷ key ∷ after) → previous_at arena key ≡ Some other }
-    ensures first { (arena : ArenaOf K V PREFIX_LEN) (after : List ℕ) (key : ℕ) →
+    ensures first { (arena : NodeArena K V PREFIX_LEN) (after : List ℕ) (key : ℕ) →
         Spells arena (key ∷ after) → previous_at arena key ≡ None }
 {}

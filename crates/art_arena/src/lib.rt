@@ -20,4 +20,4 @@ pub use ends::{End, end_leaf};
 pub use full_prefix::FullPrefix;
 pub use inner_ref::{AnyInnerRef, InnerRef};
 pub use leaf_links::LeafLinks;
-pub use reader::{AnyRef, ArenaReader, NodeRef};
+pub use reader::{AnyNodeRef, ArenaReader, NodeRef};

@@ -11,7 +11,7 @@ use std::marker::Model;
 /// A reference to a node of one of five types. Callers name it [`NodeRef`]; see [`ArenaReader`] for
 /// an example.
 #[derive_where(Clone, Copy)]
-pub enum AnyRef<'a, A, B, C, D, L> {
+pub enum AnyNodeRef<'a, A, B, C, D, L> {
     /// An inner node of kind `Node4`.
     Node4(&'a A),
     /// An inner node of kind `Node16`.
@@ -26,7 +26,7 @@ pub enum AnyRef<'a, A, B, C, D, L> {
 
 /// A reference to a node of any kind, for as long as the arena is borrowed. See [`ArenaReader`] for
 /// an example.
-pub type NodeRef<'a, K, V, const PREFIX_LEN: usize> = AnyRef<
+pub type NodeRef<'a, K, V, const PREFIX_LEN: usize> = AnyNodeRef<
     'a,
     InnerNode4<K, V, PREFIX_LEN>,
     InnerNode16<K, V, PREFIX_LEN>,
@@ -61,7 +61,7 @@ impl<'a, A> Model for Reader<'a, A> {
 /// let entries = vec![in alloc; (*b"abc1", 0), (*b"abc2", 1)]?;
 /// let root = load(alloc, arena, entries).map_err(|fault| fault.refusal)?;
 /// let mut reader = ArenaReader::with_budget(arena, 3);
-/// let AnyRef::Node4(node) = reader.look(root) else {
+/// let AnyNodeRef::Node4(node) = reader.look(root) else {
 ///     panic!(rt; "no Node4");
 /// };
 /// ```

@@ -13,7 +13,7 @@ use Rattle.art_nodes.specs.Pointers.{slab_key}
 use Rattle.art_nodes.specs.declared.leaf_node.LeafNode.{LeafNode}
 use Rattle.art_nodes.specs.declared.pointers.NodePtr.{NodePtr}
 use Rattle.art_nodes.specs.declared.pointers.OpaqueNodePtr.{OpaqueNodePtr}
-use Rattle.art_arena.specs.Arena.{ArenaOf, HeldLeaf, held, held_leaf}
+use Rattle.art_arena.specs.Arena.{NodeArena, HeldLeaf, held, held_leaf}
 use Rattle.art_arena.specs.Links.{leaf_at}
 use Rattle.art_arena.specs.Trees.{Tree, leaves, texts}
 use Rattle.art_tree.specs.Dictionary.{entry_at, HasEntry, IsEmpty, IsEntry}
@@ -52,7 +52,7 @@ valued_leaf (Some leaf) number is = (leaf, refl, same_Some (leaf_value leaf) num
 
 module _ {K : Type 0} {P : ℕ} (text : K → List ℕ) where
   -- one text's number is another now
-  module _ (old new : ArenaOf K ℕ P) (number_of : List ℕ → Option ℕ) (key : List ℕ) (number : Option ℕ)
+  module _ (old new : NodeArena K ℕ P) (number_of : List ℕ → Option ℕ) (key : List ℕ) (number : Option ℕ)
       (before : (x : List ℕ) → option_map (λ entry. entry.1) (entry_at text old x) ≡ number_of x)
       (this : option_map (λ entry. entry.1) (entry_at text new key) ≡ number)
       (others : (x : List ℕ) → x ≢ key → entry_at text new x ≡ entry_at text old x) where
@@ -67,7 +67,7 @@ module _ {K : Type 0} {P : ℕ} (text : K → List ℕ) where
             let apart = not_from_Decides (bytes_eq key x) (bytes_eq-Decides key x) is in
             ap (option_map (λ entry. entry.1)) (others x (λ same. apart (sym same))) ∙ before x ∙ sym (update_other bytes_eq number_of key number x is)
 
-  module _ (old new : ArenaOf K ℕ P) (entries : Entries) (holds : HoldsEntries text old entries) where
+  module _ (old new : NodeArena K ℕ P) (entries : Entries) (holds : HoldsEntries text old entries) where
     -- one entry more, or one with another number
     pub holds_inserted : (key : K) (number : ℕ) → IsEntry text new (key, number) → ((x : List ℕ) → x ≢ text key → entry_at text new x ≡ entry_at text old x) → number ≡ entries.next → HoldsEntries text new (after entries (Insert (text key)))
     holds_inserted key number entry others next =
@@ -77,7 +77,7 @@ module _ {K : Type 0} {P : ℕ} (text : K → List ℕ) where
     pub holds_removed : (key : List ℕ) → entry_at text new key ≡ None → ((x : List ℕ) → x ≢ key → entry_at text new x ≡ entry_at text old x) → HoldsEntries text new (after entries (Remove key))
     holds_removed key gone others = holds_changed old new entries.number_of key None holds (ap (option_map (λ e. e.1)) gone) others
 
-  module _ (arena : ArenaOf K ℕ P) (entries : Entries) (holds : HoldsEntries text arena entries) where
+  module _ (arena : NodeArena K ℕ P) (entries : Entries) (holds : HoldsEntries text arena entries) where
     -- a text has a number where it has an entry
     has_entry : (x : List ℕ) → entries.number_of x ≢ None → HasEntry text arena x
     has_entry x some none = some (sym (holds x) ∙ ap (option_map (λ entry. entry.1)) none)
@@ -127,7 +127,7 @@ replies_one K P entries (c ∷ commands) command output first (one, others, text
     (one, others ++ first, ap (λ o. o ++ first) text ∙ append_assoc one others first, reply, replies_one K P (after entries c) commands command others first are is)
 
 -- what is true after some commands
-pub record SoFar {K : Type 0} {P : ℕ} (text : K → List ℕ) (arena : ArenaOf K ℕ P) (commands : List (TreeCommand (List ℕ))) (next : ℕ) (output : List ℕ) : Type 0 where
+pub record SoFar {K : Type 0} {P : ℕ} (text : K → List ℕ) (arena : NodeArena K ℕ P) (commands : List (TreeCommand (List ℕ))) (next : ℕ) (output : List ℕ) : Type 0 where
   pub admitted_all : AreAdmitted no_entries commands
   pub replies : AreReplies K P no_entries commands output
   pub holds : HoldsEntries text arena (after_all no_entries commands)
@@ -136,7 +136,7 @@ pub record SoFar {K : Type 0} {P : ℕ} (text : K → List ℕ) (arena : ArenaOf
 
 module _ {K : Type 0} {P : ℕ} (text : K → List ℕ) where
   -- after one more
-  pub so_far_one : (old new : ArenaOf K ℕ P) (commands all : List (TreeCommand (List ℕ))) (command : TreeCommand (List ℕ)) (next more : ℕ) (output first longer : List ℕ) → SoFar text old commands next output → all ≡ commands ++ command ∷ [] → IsAdmitted (after_all no_entries commands) command → IsReply K P (after_all no_entries commands) command first → HoldsEntries text new (after (after_all no_entries commands) command) → more ≡ (after (after_all no_entries commands) command).next → more ≤ next + 1 → longer ≡ output ++ first → SoFar text new all more longer
+  pub so_far_one : (old new : NodeArena K ℕ P) (commands all : List (TreeCommand (List ℕ))) (command : TreeCommand (List ℕ)) (next more : ℕ) (output first longer : List ℕ) → SoFar text old commands next output → all ≡ commands ++ command ∷ [] → IsAdmitted (after_all no_entries commands) command → IsReply K P (after_all no_entries commands) command first → HoldsEntries text new (after (after_all no_entries commands) command) → more ≡ (after (after_all no_entries commands) command).next → more ≤ next + 1 → longer ≡ output ++ first → SoFar text new all more longer
   so_far_one old new commands all command next more output first longer before longer_by is reply holds next_is few printed =
       let state = sym (after_one no_entries commands command) in
       rw longer_by record {

@@ -2,7 +2,7 @@
 use Rattle.std.specs.Prelude.{◌≡◌, ◌≢◌, ◌↔◌, ◌⊎◌, ℕ, ◌++◌, List, [], ◌∷◌, Option, None, Some, Contains, option_map, codes, length}
 use Rattle.std.specs.Fmt.{decimal}
 use Rattle.art_nodes.specs.declared.pointers.OpaqueNodePtr.{OpaqueNodePtr}
-use Rattle.art_arena.specs.Arena.{ArenaOf}
+use Rattle.art_arena.specs.Arena.{NodeArena}
 use Rattle.art_arena.specs.Trees.{Tree, texts, IsWellFormed}
 use Rattle.art_tree.specs.Dictionary.{entry_at}
 use Rattle.art_tree.specs.Search.{scan, met, IsPathTo}
@@ -52,7 +52,7 @@ module _ {K : Type 0} {P : ℕ} where
       ⊎ ((tree : Tree (OpaqueNodePtr K ℕ P)) × IsWellFormed tree × HasTheTexts entries tree × IsScanned entries tree query answer × (reads ≡ length (met P tree query)))
 
   -- the arena's entries are these, by their numbers
-  abbrev pub HoldsEntries : (K → List ℕ) → ArenaOf K ℕ P → Entries → Type 0
+  abbrev pub HoldsEntries : (K → List ℕ) → NodeArena K ℕ P → Entries → Type 0
   HoldsEntries text arena entries = (x : List ℕ) → option_map (λ entry. entry.1) (entry_at text arena x) ≡ entries.number_of x
 
 module _ (K : Type 0) (P : ℕ) where

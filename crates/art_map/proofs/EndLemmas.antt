@@ -9,7 +9,7 @@ use Rattle.std.proofs.lemmas.List.Kept.{AllPairs-cons}
 use Rattle.std.proofs.lemmas.List.Quantifiers.{all_pairs_push}
 use Rattle.std.proofs.lemmas.List.Elements.{All-nil, All-cons, All-append, All-map, All-weaker, Contains-append_left, Contains-append_right}
 use Rattle.art_bytes.specs.Text.{text_order}
-use Rattle.art_arena.specs.Arena.{ArenaOf}
+use Rattle.art_arena.specs.Arena.{NodeArena}
 use Rattle.art_arena.specs.declared.ends.End.TheVariants.{First, Last}
 use Rattle.art_tree.specs.Dictionary.{entry_at, HasEntry, IsEntry}
 use Rattle.art_tree.specs.Ends.{IsEndEntry}
@@ -28,7 +28,7 @@ greater-of Less high apart = absurd (high refl)
 greater-of Equal high apart = absurd (apart refl)
 greater-of Greater high apart = refl
 
-module _ {K V : Type 0} {P : ℕ} (text : K → List ℕ) (old new : ArenaOf K V P) (entry : K × V) (left : IsLeft text old new (text entry.0)) (is : IsEntry text old entry) (entries : List (K × V)) (are : AreEntries text new entries) where
+module _ {K V : Type 0} {P : ℕ} (text : K → List ℕ) (old new : NodeArena K V P) (entry : K × V) (left : IsLeft text old new (text entry.0)) (is : IsEntry text old entry) (entries : List (K × V)) (are : AreEntries text new entries) where
   apart : (e : K × V) → IsEntry text new e → text e.0 ≢ text entry.0
   apart e is_new same = let wrong : Some e ≡ None = sym is_new ∙ ap (entry_at text new) same ∙ left.gone in absurd (cc)
 

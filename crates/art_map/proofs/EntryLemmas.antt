@@ -7,7 +7,7 @@ use Rattle.art_nodes.specs.Leaf.{leaf_key, leaf_value}
 use Rattle.art_nodes.specs.Pointers.{opaque_key}
 use Rattle.art_nodes.specs.declared.pointers.OpaqueNodePtr.{OpaqueNodePtr}
 use Rattle.art_nodes.specs.declared.leaf_node.LeafNode.{LeafNode}
-use Rattle.art_arena.specs.Arena.{ArenaOf, HeldLeaf, held}
+use Rattle.art_arena.specs.Arena.{NodeArena, HeldLeaf, held}
 use Rattle.art_arena.specs.Links.{leaf_at}
 use Rattle.art_arena.specs.Trees.{Tree, leaves, texts}
 use Rattle.art_arena.proofs.StandingLaws.{leaf_place}
@@ -23,7 +23,7 @@ use Rattle.art_map.proofs.RunLemmas.{entries-cons}
 abbrev pub keys_of : {K V : Type 0} {P : ℕ} → List (OpaqueNodePtr K V P × List ℕ) → List ℕ
 keys_of all = map opaque_key (map (λ leaf. leaf.0) all)
 
-module _ {K V : Type 0} {P : ℕ} (text : K → List ℕ) (arena : ArenaOf K V P) where
+module _ {K V : Type 0} {P : ℕ} (text : K → List ℕ) (arena : NodeArena K V P) where
   -- a leaf holds the entry of this text
   pub record HoldsEntryOf (pointer : OpaqueNodePtr K V P) (x : List ℕ) : Type 0 where
     pub leaf : LeafNode K V P

@@ -5,7 +5,7 @@ use Rattle.std.specs.Option.{option_map}
 use Rattle.std.specs.declared.cmp.Ordering.TheVariants.{Less}
 use Rattle.std.proofs.lemmas.List.Elements.{All-map, All-weaker}
 use Rattle.art_bytes.specs.Text.{text_order}
-use Rattle.art_arena.specs.Arena.{ArenaOf}
+use Rattle.art_arena.specs.Arena.{NodeArena}
 use Rattle.art_tree.specs.Dictionary.{entry_at, HasEntry, IsEntry, SameOtherEntries}
 use Rattle.art_tree.specs.Entries.{AreEntries}
 use Rattle.art_tree.specs.Refusals.{texts_of}
@@ -21,7 +21,7 @@ module _ {K V : Type 0} (text : K → List ℕ) (x : List ℕ) (value : V) where
   texts-kept [] = refl
   texts-kept (entry ∷ entries) = ap (λ rest. text entry.0 ∷ rest) (texts-kept entries)
 
-  module _ {P : ℕ} (old new : ArenaOf K V P) (entries : List (K × V)) (are : AreEntries text old entries)
+  module _ {P : ℕ} (old new : NodeArena K V P) (entries : List (K × V)) (are : AreEntries text old entries)
       (here : entry_at text new x ≡ option_map (λ (entry : K × V). (entry.0, value)) (entry_at text old x)) (others : SameOtherEntries text old new x) where
     each-now : (e : K × V) → IsEntry text old e → IsEntry text new (e.0, cond (pointwise nat_eq (text e.0) x) value e.1)
     each-now e is = by_test (pointwise nat_eq (text e.0) x) refl

@@ -8,7 +8,7 @@ use Rattle.art_nodes.specs.Pointers.{opaque_key, opaque_pointer, slab_key}
 use Rattle.art_nodes.specs.declared.pointers.NodePtr.{NodePtr}
 use Rattle.art_nodes.specs.declared.pointers.OpaqueNodePtr.{OpaqueNodePtr}
 use Rattle.art_nodes.specs.declared.leaf_node.LeafNode.{LeafNode}
-use Rattle.art_arena.specs.Arena.{ArenaOf, HeldLeaf, held}
+use Rattle.art_arena.specs.Arena.{NodeArena, HeldLeaf, held}
 use Rattle.art_arena.specs.Links.{Spells, next_at, previous_at}
 use Rattle.art_arena.specs.Trees.{Tree, leaves}
 use Rattle.art_arena.specs.declared.ends.End.TheVariants.{First, Last}
@@ -24,7 +24,7 @@ pub as-pointers : {K V : Type 0} {P : ℕ} (o : Option (NodePtr P (LeafNode K V 
 as-pointers None = refl
 as-pointers (Some leaf) = refl
 
-module _ {K V : Type 0} {P : ℕ} (text : K → List ℕ) (arena : ArenaOf K V P) (root : OpaqueNodePtr K V P) (tree : Tree (OpaqueNodePtr K V P)) (alone : IsAlone text arena root tree) (side : Side) (key : List ℕ)
+module _ {K V : Type 0} {P : ℕ} (text : K → List ℕ) (arena : NodeArena K V P) (root : OpaqueNodePtr K V P) (tree : Tree (OpaqueNodePtr K V P)) (alone : IsAlone text arena root tree) (side : Side) (key : List ℕ)
     (held_law : (pointer : OpaqueNodePtr K V P) (x : List ℕ) → Contains (leaves tree) (pointer, x) → (leaf : LeafNode K V P) × (held arena pointer ≡ HeldLeaf leaf) × (text (leaf_key leaf) ≡ x)) where
   abbrev FirstAfter : Option ℕ → Type 0
   FirstAfter o = IsFirstAfter side key (leaves tree) (option_map (opaque_pointer {K = K} {V = V} {P = P} kinds.Leaf) o)

@@ -10,7 +10,7 @@ use Rattle.art_nodes.specs.Leaf.{leaf_key, leaf_value}
 use Rattle.art_nodes.specs.Pointers.{opaque_key}
 use Rattle.art_nodes.specs.declared.pointers.OpaqueNodePtr.{OpaqueNodePtr}
 use Rattle.art_nodes.specs.declared.leaf_node.LeafNode.{LeafNode}
-use Rattle.art_arena.specs.Arena.{ArenaOf, HeldLeaf, held, held_leaf}
+use Rattle.art_arena.specs.Arena.{NodeArena, HeldLeaf, held, held_leaf}
 use Rattle.art_arena.specs.Links.{leaf_at}
 use Rattle.art_arena.proofs.StandingLaws.{leaf_place}
 use Rattle.art_tree.specs.Dictionary.{entry_among, entry_at, Clashes, HasEntry, IsEntry}
@@ -94,16 +94,16 @@ module _ {K V : Type 0} {P : ℕ} (text : K → List ℕ) where
           let wrong : true ≡ false = sym (ap (λ l. pointwise nat_eq (text (leaf_key l)) (text (leaf_key leaf))) one ∙ text-itself (text (leaf_key leaf))) ∙ differ in absurd (cc)
       by_test onwards false differ (suc k) at = let later : entry_among text slots (text (leaf_key leaf)) ≡ None = rw differ at none in onwards k at later
 
-  pub leaf-found : (arena : ArenaOf K V P) (pointer : OpaqueNodePtr K V P) (leaf : LeafNode K V P) (x : List ℕ) → held arena pointer ≡ HeldLeaf leaf → text (leaf_key leaf) ≡ x → entry_at text arena x ≢ None
+  pub leaf-found : (arena : NodeArena K V P) (pointer : OpaqueNodePtr K V P) (leaf : LeafNode K V P) (x : List ℕ) → held arena pointer ≡ HeldLeaf leaf → text (leaf_key leaf) ≡ x → entry_at text arena x ≢ None
   leaf-found arena pointer leaf x is has none =
       let place = ap (held arena) (leaf_place arena pointer leaf is) ∙ is in
       slot-found arena.leaf.slots (opaque_key pointer) leaf (slot-of (leaf_at arena (opaque_key pointer)) leaf place) (ap (entry_at text arena) has ∙ none)
 
   -- the entry of a text is the arena's
-  pub entries-find : (arena : ArenaOf K V P) (x : List ℕ) → entry_with text (entries_of text arena) x ≡ entry_at text arena x
+  pub entries-find : (arena : NodeArena K V P) (x : List ℕ) → entry_with text (entries_of text arena) x ≡ entry_at text arena x
   entries-find arena x = among-finds arena.leaf.slots x
 
-  module _ (arena : ArenaOf K V P) (entries : List (K × V)) (are : AreEntries text arena entries) where
+  module _ (arena : NodeArena K V P) (entries : List (K × V)) (are : AreEntries text arena entries) where
     have-each : (some : List (K × V)) → All (IsEntry text arena) some → All (HasEntry text arena) (texts_of text some)
     have-each [] all = All-nil (HasEntry text arena)
     have-each (entry ∷ others) all =

@@ -14,7 +14,7 @@ use Rattle.art_nodes.specs.Inner as nodes
 use Rattle.art_nodes.specs.Leaf.{leaf_key}
 use Rattle.art_nodes.specs.declared.pointers.OpaqueNodePtr.{OpaqueNodePtr}
 use Rattle.art_nodes.specs.declared.leaf_node.LeafNode.{LeafNode}
-use Rattle.art_arena.specs.Arena.{ArenaOf, HeldInner, HeldLeaf, held}
+use Rattle.art_arena.specs.Arena.{NodeArena, HeldInner, HeldLeaf, held}
 use Rattle.art_arena.specs.CommonPrefix.{IsLongestCommonPrefix, IsSharedFrom, Parting, full_match}
 use Rattle.art_arena.specs.Ends.{IsAtEnd}
 use Rattle.art_arena.specs.Standing.{StandsIn, AllStandIn, NodeStands, TreeAt, TreeUnder, IsTreeIn}
@@ -107,7 +107,7 @@ module _ {H : Type 0} where
           All-append (λ leaf. is_before side key leaf.1 ≡ true) (leaves tree) (branch_leaves others) (all-before b tree sound.0 past.1) (none-from others (suc b) sound.1 ascend.2 rest)
     ]
 
-module _ {K V : Type 0} {P : ℕ} (text : K → List ℕ) (arena : ArenaOf K V P) (side : Side) (path key : List ℕ) (byte : ℕ) (leads : IsPrefixOf (path ++ byte ∷ []) key) where
+module _ {K V : Type 0} {P : ℕ} (text : K → List ℕ) (arena : NodeArena K V P) (side : Side) (path key : List ℕ) (byte : ℕ) (leads : IsPrefixOf (path ++ byte ∷ []) key) where
   -- the branch under the least byte that is not below the key's, what is left of it, and what is right
   pub record IsSplit (branches : Branches (OpaqueNodePtr K V P)) (b : ℕ) (child : OpaqueNodePtr K V P) : Type 0 where
     pub sub : Tree (OpaqueNodePtr K V P)
@@ -156,7 +156,7 @@ module _ {K V : Type 0} {P : ℕ} (text : K → List ℕ) (arena : ArenaOf K V P
         }
   ]
 
-module _ {K V : Type 0} {P : ℕ} (text : K → List ℕ) (arena : ArenaOf K V P) (tree : Tree (OpaqueNodePtr K V P)) (side : Side) (key : List ℕ) (at : OpaqueNodePtr K V P) (depth : ℕ) where
+module _ {K V : Type 0} {P : ℕ} (text : K → List ℕ) (arena : NodeArena K V P) (tree : Tree (OpaqueNodePtr K V P)) (side : Side) (key : List ℕ) (at : OpaqueNodePtr K V P) (depth : ℕ) where
   -- the way at an inner node
   pub record IsInnerWay (node : nodes.Inner (OpaqueNodePtr K V P)) : Type 0 where
     pub prefix : List ℕ
@@ -326,7 +326,7 @@ module _ {K V : Type 0} {P : ℕ} (text : K → List ℕ) (arena : ArenaOf K V P
                 one_side = all-after side (way.path ++ way.prefix) key byte leads-byte least parts.sub parts.sound (omega (arith, parts.not_below, differ));
               }
 
-module _ {K V : Type 0} {P : ℕ} (text : K → List ℕ) (arena : ArenaOf K V P) (tree : Tree (OpaqueNodePtr K V P)) (side : Side) (key : List ℕ) where
+module _ {K V : Type 0} {P : ℕ} (text : K → List ℕ) (arena : NodeArena K V P) (tree : Tree (OpaqueNodePtr K V P)) (side : Side) (key : List ℕ) where
   leaf-part : (at : OpaqueNodePtr K V P) (part : Tree (OpaqueNodePtr K V P)) → root_of part ≡ at → StandsIn text arena part → (node : LeafNode K V P) → held arena at ≡ HeldLeaf node → leaves part ≡ (at, text (leaf_key node)) ∷ []
   leaf-part at (Leaf pointer x) at_root stands node is =
       let one : HeldLeaf stands.0 ≡ HeldLeaf node = sym stands.1 ∙ ap (held arena) at_root ∙ is in

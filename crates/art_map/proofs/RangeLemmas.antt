@@ -10,7 +10,7 @@ use Rattle.art_nodes.specs.Pointers.{opaque_key, slab_key}
 use Rattle.art_nodes.specs.declared.pointers.NodePtr.{NodePtr}
 use Rattle.art_nodes.specs.declared.pointers.OpaqueNodePtr.{OpaqueNodePtr}
 use Rattle.art_nodes.specs.declared.leaf_node.LeafNode.{LeafNode}
-use Rattle.art_arena.specs.Arena.{ArenaOf, Held, HeldLeaf, Nothing, held}
+use Rattle.art_arena.specs.Arena.{NodeArena, Held, HeldLeaf, Nothing, held}
 use Rattle.art_arena.specs.Links.{AreDistinct, Spells, SpellsAfter, leaf_at}
 use Rattle.art_arena.specs.Trees.{Tree, leaves, texts}
 use Rattle.art_tree.specs.Art.{IsAlone}
@@ -90,7 +90,7 @@ between-past a b past = ap (λ b. b && not a) past
 between-yes : (a b : Bool) → a ≡ false → b ≡ true → (b && not a) ≡ true
 between-yes a b after before = ap (λ b. b && not a) before ∙ ap not after
 
-module _ {K V : Type 0} {P : ℕ} (text : K → List ℕ) (arena : ArenaOf K V P) where
+module _ {K V : Type 0} {P : ℕ} (text : K → List ℕ) (arena : NodeArena K V P) where
   spells-drop : (before : Option ℕ) (xs ys : List ℕ) → SpellsAfter arena before (xs ++ ys) → (last : Option ℕ) × SpellsAfter arena last ys
   spells-drop before [] ys spelled = (before, spelled)
   spells-drop before (x ∷ xs) ys spelled = spells-drop (Some x) xs ys spelled.1
@@ -213,7 +213,7 @@ module _ {K V : Type 0} {P : ℕ} (text : K → List ℕ) (arena : ArenaOf K V P
               ∙ ap (λ es. es ++ filter passes (held_by B)) in_mid
               ∙ ap (λ es. held_by mid ++ es) in_right ∙ append-nil (held_by mid)
 
-module _ {K V : Type 0} {P : ℕ} (text : K → List ℕ) (arena : ArenaOf K V P) (root : OpaqueNodePtr K V P) (tree : Tree (OpaqueNodePtr K V P)) (alone : IsAlone text arena root tree)
+module _ {K V : Type 0} {P : ℕ} (text : K → List ℕ) (arena : NodeArena K V P) (root : OpaqueNodePtr K V P) (tree : Tree (OpaqueNodePtr K V P)) (alone : IsAlone text arena root tree)
     (held_law : (pointer : OpaqueNodePtr K V P) (x : List ℕ) → Contains (leaves tree) (pointer, x) → (leaf : LeafNode K V P) × (held arena pointer ≡ HeldLeaf leaf) × (text (leaf_key leaf) ≡ x))
     (leaves_law : (pointer : OpaqueNodePtr K V P) (x : List ℕ) (leaf : LeafNode K V P) → Contains (leaves tree) (pointer, x) → held arena pointer ≡ HeldLeaf leaf → entry_at text arena x ≡ Some (leaf_key leaf, leaf_value leaf))
     (texts_law : (x : List ℕ) → HasEntry text arena x → Contains (texts tree) x)

@@ -5,7 +5,7 @@ use Rattle.std.specs.Ordering.{is_lt, is_le}
 use Rattle.std.specs.declared.cmp.Ordering.{Ordering}
 use Rattle.art_bytes.specs.Text.{IsPrefixOf, text_order}
 use Rattle.art_nodes.specs.declared.pointers.OpaqueNodePtr.{OpaqueNodePtr}
-use Rattle.art_arena.specs.Arena.{ArenaOf}
+use Rattle.art_arena.specs.Arena.{NodeArena}
 use Rattle.art_arena.specs.Standing.{StandsIn}
 use Rattle.art_arena.specs.Trees.{Tree, leaves, root_of, IsSound}
 use Rattle.art_arena.specs.declared.ends.End.{End}
@@ -61,7 +61,7 @@ module _ {H : Type 0} (side : Side) (key : List ℕ) where
       (text : List ℕ) × (left : List (H × List ℕ)) × (right : List (H × List ℕ)) × (leaves ≡ left ++ (pointer, text) ∷ right)
       × AreOn true (left ++ (pointer, text) ∷ []) × AreOn false right
 
-module _ {K V : Type 0} {P : ℕ} (text : K → List ℕ) (arena : ArenaOf K V P) where
+module _ {K V : Type 0} {P : ℕ} (text : K → List ℕ) (arena : NodeArena K V P) where
   -- a part of a tree at this node: what is left of it is before the place, and what is right of it after
   pub record HasPart (tree : Tree (OpaqueNodePtr K V P)) (side : Side) (key : List ℕ) (at : OpaqueNodePtr K V P) : Type 0 where
     pub part : Tree (OpaqueNodePtr K V P)

@@ -7,7 +7,7 @@ ghost use Rattle.art_tree.specs.Art.{IsAlone};
 ghost use Rattle.art_tree.specs.Search.{EachTree, HasTree, leaf_pointer};
 ghost use Rattle.art_map.specs.Cuts.{is_before, HasCutBeside, HasWay, IsBeside, IsCut, IsFirstAfter, IsLastBefore, IsOnWay};
 
-use art_arena::{AnyRef, End, FullPrefix, NodeArena, end_leaf};
+use art_arena::{AnyNodeRef, End, FullPrefix, NodeArena, end_leaf};
 use art_bytes::AsBytes;
 use art_nodes::{InnerNodeCommon, LeafNode, NodePtr, OpaqueNodePtr};
 use art_tree::ArtTree;
@@ -97,11 +97,11 @@ fn step<K: AsBytes, V, const PREFIX_LEN: usize>(
         IfErr result (λ stop. IsBeside K.text arena.now tree side key.now stop) }
 {
     match arena.node_ref(at) {
-        AnyRef::Node4(node) => step_in(arena, node, at, side, key, depth),
-        AnyRef::Node16(node) => step_in(arena, node, at, side, key, depth),
-        AnyRef::Node48(node) => step_in(arena, node, at, side, key, depth),
-        AnyRef::Node256(node) => step_in(arena, node, at, side, key, depth),
-        AnyRef::LeafNode(_) => Err(at),
+        AnyNodeRef::Node4(node) => step_in(arena, node, at, side, key, depth),
+        AnyNodeRef::Node16(node) => step_in(arena, node, at, side, key, depth),
+        AnyNodeRef::Node48(node) => step_in(arena, node, at, side, key, depth),
+        AnyNodeRef::Node256(node) => step_in(arena, node, at, side, key, depth),
+        AnyNodeRef::LeafNode(_) => Err(at),
     }
 }
 

@@ -51,7 +51,7 @@ pub struct ConcatTuple<T>(PhantomData<T>);
 /// [`ConcatTuple`] has an example.
 pub trait TupleMappings: Sealed {
     /// An array type with one place for each mapping.
-    type Places;
+    type PartCount;
 
     /// The same mappings, nested in pairs.
     type Joint;
@@ -64,7 +64,7 @@ pub trait TupleMappings: Sealed {
 pub trait TupleValues: Sealed + Sized {
     /// An array type with one place for each value. It distinguishes a pair whose first value is a
     /// pair from a tuple of three.
-    type Places;
+    type PartCount;
 
     /// The values, nested in pairs.
     type Pairs;
@@ -101,9 +101,9 @@ pub trait OrderedTuple<P: Ord>: TupleValues<Pairs = P> + Ord {
 /// Writing a tuple takes memory. Reading one does where reading a part does.
 impl<N, D, P, J, T> BytesMapping<D> for ConcatTuple<T>
 where
-    D: TupleValues<Places = N, Pairs = P> + Drop,
+    D: TupleValues<PartCount = N, Pairs = P> + Drop,
     J: Joint<P>,
-    T: TupleMappings<Places = N, Joint = J>,
+    T: TupleMappings<PartCount = N, Joint = J>,
 {
     type Bytes = Vec<u8>;
 
@@ -152,19 +152,19 @@ where
 
 impl<N, D, P, J, T> InjectiveMapping<D> for ConcatTuple<T>
 where
-    D: TupleValues<Places = N, Pairs = P> + Drop,
+    D: TupleValues<PartCount = N, Pairs = P> + Drop,
     J: Joint<P>,
-    T: TupleMappings<Places = N, Joint = J>,
+    T: TupleMappings<PartCount = N, Joint = J>,
 {
     ghost decided_by_text = { λ x y. same_from_one_text J.laws (D.in_pairs x) (D.in_pairs y) };
 }
 
 impl<N, D, P, J, T> OrderedMapping<D> for ConcatTuple<T>
 where
-    D: OrderedTuple<P> + TupleValues<Places = N, Pairs = P> + Drop,
+    D: OrderedTuple<P> + TupleValues<PartCount = N, Pairs = P> + Drop,
     P: Ord,
     J: OrderedJoint<P>,
-    T: TupleMappings<Places = N, Joint = J>,
+    T: TupleMappings<PartCount = N, Joint = J>,
 {
     ghost keeps_order = { λ x y x_in y_in.
         D.same_order x y ∙ J.order.keeps (D.in_pairs x) (D.in_pairs y) x_in y_in };
@@ -172,21 +172,21 @@ where
 
 impl<N, D, P, J, T> NoPrefixesMapping<D> for ConcatTuple<T>
 where
-    D: TupleValues<Places = N, Pairs = P> + Drop,
+    D: TupleValues<PartCount = N, Pairs = P> + Drop,
     J: Joint<P>,
-    T: TupleMappings<Places = N, Joint = J>,
+    T: TupleMappings<PartCount = N, Joint = J>,
 {
     ghost no_prefixes = { λ x y. wide_prefix_is_whole J.laws (D.in_pairs x) (D.in_pairs y) };
 }
 
 impl<M0, M1> TupleMappings for (M0, M1) {
-    type Places = [(); 2];
+    type PartCount = [(); 2];
 
     type Joint = Then<Part<M0>, Part<M1>>;
 }
 
 impl<A, B> TupleValues for (A, B) {
-    type Places = [(); 2];
+    type PartCount = [(); 2];
 
     type Pairs = (A, B);
 
@@ -213,13 +213,13 @@ impl<A: Ord, B: Ord> OrderedTuple<(A, B)> for (A, B) {
 }
 
 impl<M0, M1, M2> TupleMappings for (M0, M1, M2) {
-    type Places = [(); 3];
+    type PartCount = [(); 3];
 
     type Joint = Then<Then<Part<M0>, Part<M1>>, Part<M2>>;
 }
 
 impl<A, B, C> TupleValues for (A, B, C) {
-    type Places = [(); 3];
+    type PartCount = [(); 3];
 
     type Pairs = ((A, B), C);
 
@@ -246,13 +246,13 @@ impl<A: Ord, B: Ord, C: Ord> OrderedTuple<((A, B), C)> for (A, B, C) {
 }
 
 impl<M0, M1, M2, M3> TupleMappings for (M0, M1, M2, M3) {
-    type Places = [(); 4];
+    type PartCount = [(); 4];
 
     type Joint = Then<Then<Then<Part<M0>, Part<M1>>, Part<M2>>, Part<M3>>;
 }
 
 impl<A, B, C, D> TupleValues for (A, B, C, D) {
-    type Places = [(); 4];
+    type PartCount = [(); 4];
 
     type Pairs = (((A, B), C), D);
 
@@ -279,13 +279,13 @@ impl<A: Ord, B: Ord, C: Ord, D: Ord> OrderedTuple<(((A, B), C), D)> for (A, B, C
 }
 
 impl<M0, M1, M2, M3, M4> TupleMappings for (M0, M1, M2, M3, M4) {
-    type Places = [(); 5];
+    type PartCount = [(); 5];
 
     type Joint = Then<Then<Then<Then<Part<M0>, Part<M1>>, Part<M2>>, Part<M3>>, Part<M4>>;
 }
 
 impl<A, B, C, D, E> TupleValues for (A, B, C, D, E) {
-    type Places = [(); 5];
+    type PartCount = [(); 5];
 
     type Pairs = ((((A, B), C), D), E);
 
@@ -313,7 +313,7 @@ impl<A: Ord, B: Ord, C: Ord, D: Ord, E: Ord> OrderedTuple<((((A, B), C), D), E)>
 }
 
 impl<M0, M1, M2, M3, M4, M5> TupleMappings for (M0, M1, M2, M3, M4, M5) {
-    type Places = [(); 6];
+    type PartCount = [(); 6];
 
     type Joint = Then<
         Then<Then<Then<Then<Part<M0>, Part<M1>>, Part<M2>>, Part<M3>>, Part<M4>>,
@@ -322,7 +322,7 @@ impl<M0, M1, M2, M3, M4, M5> TupleMappings for (M0, M1, M2, M3, M4, M5) {
 }
 
 impl<A, B, C, D, E, F> TupleValues for (A, B, C, D, E, F) {
-    type Places = [(); 6];
+    type PartCount = [(); 6];
 
     type Pairs = (((((A, B), C), D), E), F);
 

@@ -2,7 +2,7 @@
 use Rattle.std.specs.Prelude.{◌≡◌, ◌≢◌, ℕ, ◌<◌, ◌^◌, List, length, map, All, Contains, Option, Some, None}
 use Rattle.art_nodes.specs.Pointers.{opaque_key}
 use Rattle.art_nodes.specs.declared.pointers.OpaqueNodePtr.{OpaqueNodePtr}
-use Rattle.art_arena.specs.Arena.{ArenaOf, Nothing, held}
+use Rattle.art_arena.specs.Arena.{NodeArena, Nothing, held}
 use Rattle.art_arena.specs.Links.{Spells}
 use Rattle.art_arena.specs.Standing.{IsTreeIn}
 use Rattle.art_arena.specs.Trees.{Tree, places, texts}
@@ -13,7 +13,7 @@ pub record Art (A R : Type 0) : Type 0 where
   pub arena : A
   pub root : Option R
 
-module _ {K V : Type 0} {P : ℕ} (text : K → List ℕ) (arena : ArenaOf K V P) where
+module _ {K V : Type 0} {P : ℕ} (text : K → List ℕ) (arena : NodeArena K V P) where
   -- a well-formed tree with the smallest kinds stands at the root, each text has fewer than 2^32
   -- bytes, its leaves are linked in their order, and the arena holds nothing else
   pub record IsAlone (root : OpaqueNodePtr K V P) (tree : Tree (OpaqueNodePtr K V P)) : Type 0 where

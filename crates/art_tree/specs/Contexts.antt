@@ -4,7 +4,7 @@ use Rattle.art_nodes.specs.Inner as nodes
 use Rattle.art_nodes.specs.Leaf.{leaf_key, leaf_value}
 use Rattle.art_nodes.specs.declared.pointers.OpaqueNodePtr.{OpaqueNodePtr}
 use Rattle.art_nodes.specs.declared.leaf_node.LeafNode.{LeafNode}
-use Rattle.art_arena.specs.Arena.{ArenaOf, HeldInner, HeldLeaf, held}
+use Rattle.art_arena.specs.Arena.{NodeArena, HeldInner, HeldLeaf, held}
 use Rattle.art_arena.specs.Standing.{StandsIn}
 use Rattle.art_arena.specs.Trees.{Tree, Inner, Branches, NoBranch, Branch, branch_leaves, places, root_of}
 
@@ -44,7 +44,7 @@ module _ {H : Type 0} where
   parent Whole = None
   parent (Under above pointer prefix before byte after) = Some pointer
 
-module _ {K V : Type 0} {P : ℕ} (old new : ArenaOf K V P) where
+module _ {K V : Type 0} {P : ℕ} (old new : NodeArena K V P) where
   -- this pointer holds what it held, but for the links of a leaf
   pub record KeepsAt (pointer : OpaqueNodePtr K V P) : Type 0 where
     pub inner : (node : nodes.Inner (OpaqueNodePtr K V P)) → held old pointer ≡ HeldInner node →

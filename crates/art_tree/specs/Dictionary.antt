@@ -4,7 +4,7 @@ use Rattle.std.specs.Cmp.Lexicographic.{pointwise}
 use Rattle.art_bytes.specs.Text.{IsPrefixOf}
 use Rattle.art_nodes.specs.Leaf.{leaf_key, leaf_value}
 use Rattle.art_nodes.specs.declared.leaf_node.LeafNode.{LeafNode}
-use Rattle.art_arena.specs.Arena.{ArenaOf}
+use Rattle.art_arena.specs.Arena.{NodeArena}
 
 module _ {K V : Type 0} {P : ℕ} (text : K → List ℕ) where
   -- key and value of the first of these leaves whose key has the text
@@ -15,31 +15,31 @@ module _ {K V : Type 0} {P : ℕ} (text : K → List ℕ) where
       if pointwise nat_eq (text (leaf_key leaf)) x then Some (leaf_key leaf, leaf_value leaf) else entry_among slots x
 
   -- the dictionary of an arena: the entry with this text that its leaves hold
-  abbrev pub entry_at : ArenaOf K V P → List ℕ → Option (K × V)
+  abbrev pub entry_at : NodeArena K V P → List ℕ → Option (K × V)
   entry_at arena x = entry_among arena.leaf.slots x
 
   -- this is the entry with its key's text
-  abbrev pub IsEntry : ArenaOf K V P → K × V → Type 0
+  abbrev pub IsEntry : NodeArena K V P → K × V → Type 0
   IsEntry arena entry = entry_at arena (text entry.0) ≡ Some entry
 
   -- some entry has this text
-  abbrev pub HasEntry : ArenaOf K V P → List ℕ → Type 0
+  abbrev pub HasEntry : NodeArena K V P → List ℕ → Type 0
   HasEntry arena x = entry_at arena x ≢ None
 
   -- the laws of keys hold for the key of each entry
-  abbrev pub HasKeys : (K → Type 0) → ArenaOf K V P → Type 0
+  abbrev pub HasKeys : (K → Type 0) → NodeArena K V P → Type 0
   HasKeys is_key arena = (entry : K × V) → IsEntry arena entry → is_key entry.0
 
   -- every text has the entry that it had
-  abbrev pub SameEntries : ArenaOf K V P → ArenaOf K V P → Type 0
+  abbrev pub SameEntries : NodeArena K V P → NodeArena K V P → Type 0
   SameEntries old new = (x : List ℕ) → entry_at new x ≡ entry_at old x
 
   -- every text but this one has the entry that it had
-  abbrev pub SameOtherEntries : ArenaOf K V P → ArenaOf K V P → List ℕ → Type 0
+  abbrev pub SameOtherEntries : NodeArena K V P → NodeArena K V P → List ℕ → Type 0
   SameOtherEntries old new x = (other : List ℕ) → other ≢ x → entry_at new other ≡ entry_at old other
 
   -- no text has an entry
-  abbrev pub IsEmpty : ArenaOf K V P → Type 0
+  abbrev pub IsEmpty : NodeArena K V P → Type 0
   IsEmpty arena = (x : List ℕ) → entry_at arena x ≡ None
 
 -- a is a prefix of b, and shorter

@@ -9,7 +9,7 @@ use Rattle.art_nodes.specs.Leaf.{leaf_key, leaf_value}
 use Rattle.art_nodes.specs.Pointers.{node_kind}
 use Rattle.art_nodes.specs.declared.pointers.OpaqueNodePtr.{OpaqueNodePtr}
 use Rattle.art_nodes.specs.declared.leaf_node.LeafNode.{LeafNode}
-use Rattle.art_arena.specs.Arena.{ArenaOf, HeldInner, HeldLeaf, Nothing, held, room, Changes}
+use Rattle.art_arena.specs.Arena.{NodeArena, HeldInner, HeldLeaf, Nothing, held, room, Changes}
 use Rattle.art_arena.specs.Links.{Spells}
 use Rattle.art_tree.specs.Contexts.{KeepsAt}
 use Rattle.art_tree.specs.Nodes.{IsReplaced}
@@ -35,43 +35,43 @@ two_children byte child other node =
 
 module _ {K V : Type 0} {P : ℕ} where
   -- the links spell a list with a gap beside this leaf
-  pub record HasGap (arena : ArenaOf K V P) (end : End) (sibling : ℕ) : Type 0 where
+  pub record HasGap (arena : NodeArena K V P) (end : End) (sibling : ℕ) : Type 0 where
     pub left : List ℕ
     pub right : List ℕ
     pub spelled : Spells arena (left ++ right)
     pub beside : IsBeside end left right sibling
 
   -- the pointer holds what it held, but for the links of a leaf
-  pub record StaysAt (old new : ArenaOf K V P) (pointer : OpaqueNodePtr K V P) : Type 0 where
+  pub record StaysAt (old new : NodeArena K V P) (pointer : OpaqueNodePtr K V P) : Type 0 where
     pub nothing : held old pointer ≡ Nothing → held new pointer ≡ Nothing
     pub keeps : KeepsAt old new pointer
 
   -- a leaf with this key and this value is at the pointer
-  pub record HoldsEntry (arena : ArenaOf K V P) (pointer : OpaqueNodePtr K V P) (k : K) (v : V) : Type 0 where
+  pub record HoldsEntry (arena : NodeArena K V P) (pointer : OpaqueNodePtr K V P) (k : K) (v : V) : Type 0 where
     pub leaf : LeafNode K V P
     pub is_held : held arena pointer ≡ HeldLeaf leaf
     pub key : leaf_key leaf ≡ k
     pub value : leaf_value leaf ≡ v
 
   -- where the inner node at the pointer is full, there is spare capacity for one of the next kind
-  abbrev pub HasRoomToGrow : ArenaOf K V P → OpaqueNodePtr K V P → Type 0
+  abbrev pub HasRoomToGrow : NodeArena K V P → OpaqueNodePtr K V P → Type 0
   HasRoomToGrow arena pointer =
       (node : Inner (OpaqueNodePtr K V P)) → held arena pointer ≡ HeldInner node →
       length node.children ≡ most_children (node_kind pointer) →
       0 < room arena (grown_kind (node_kind pointer))
 
   -- the node is written in its place
-  pub record IsWritten (old new : ArenaOf K V P) (pointer : OpaqueNodePtr K V P) (node now : Inner (OpaqueNodePtr K V P)) (at : OpaqueNodePtr K V P) : Type 0 where
+  pub record IsWritten (old new : NodeArena K V P) (pointer : OpaqueNodePtr K V P) (node now : Inner (OpaqueNodePtr K V P)) (at : OpaqueNodePtr K V P) : Type 0 where
     pub few : length node.children < most_children (node_kind pointer)
     pub same : at ≡ pointer
     pub changes : Changes old new pointer (HeldInner now)
 
   -- the node, which was full, is replaced by one of the next kind
-  pub record IsMoved (old new : ArenaOf K V P) (pointer : OpaqueNodePtr K V P) (node now : Inner (OpaqueNodePtr K V P)) (at : OpaqueNodePtr K V P) : Type 0 where
+  pub record IsMoved (old new : NodeArena K V P) (pointer : OpaqueNodePtr K V P) (node now : Inner (OpaqueNodePtr K V P)) (at : OpaqueNodePtr K V P) : Type 0 where
     pub full : length node.children ≡ most_children (node_kind pointer)
     pub replaced : IsReplaced old new pointer (grown_kind (node_kind pointer)) now at
 
   -- the inner node has one child more, at its place or at a new one
-  abbrev pub HasOneMore : ArenaOf K V P → ArenaOf K V P → OpaqueNodePtr K V P →
+  abbrev pub HasOneMore : NodeArena K V P → NodeArena K V P → OpaqueNodePtr K V P →
       Inner (OpaqueNodePtr K V P) → Inner (OpaqueNodePtr K V P) → OpaqueNodePtr K V P → Type 0
   HasOneMore old new pointer node now at = IsWritten old new pointer node now at ⊎ IsMoved old new pointer node now at

@@ -6,7 +6,7 @@ use Rattle.std.specs.declared.cmp.Ordering.TheVariants.{Less}
 use Rattle.art_bytes.specs.Text.{text_order}
 use Rattle.art_nodes.specs.Leaf.{leaf_key, leaf_value}
 use Rattle.art_nodes.specs.declared.leaf_node.LeafNode.{LeafNode}
-use Rattle.art_arena.specs.Arena.{ArenaOf}
+use Rattle.art_arena.specs.Arena.{NodeArena}
 use Rattle.art_tree.specs.Dictionary.{IsEntry, HasEntry}
 use Rattle.art_tree.specs.Refusals.{texts_of}
 
@@ -29,11 +29,11 @@ module _ {K V : Type 0} {P : ℕ} (text : K → List ℕ) where
   entries_among (Some leaf ∷ slots) = put_entry text (entries_among slots) (leaf_key leaf, leaf_value leaf)
 
   -- the list of an arena's entries, ascending by text
-  abbrev pub entries_of : ArenaOf K V P → List (K × V)
+  abbrev pub entries_of : NodeArena K V P → List (K × V)
   entries_of arena = entries_among arena.leaf.slots
 
   -- these are the entries of an arena, all of them, ascending by text
-  pub record AreEntries (arena : ArenaOf K V P) (entries : List (K × V)) : Type 0 where
+  pub record AreEntries (arena : NodeArena K V P) (entries : List (K × V)) : Type 0 where
     pub ascending : AllPairs (λ a b. text_order a b ≡ Less) (texts_of text entries)
     pub each : All (IsEntry text arena) entries
     pub all : (x : List ℕ) → HasEntry text arena x → Contains (texts_of text entries) x

@@ -5,7 +5,7 @@ use Rattle.std.specs.declared.ops.Bound.TheVariants.{Excluded, Unbounded}
 use Rattle.art_nodes.specs.ChildMap.{child_at, pairs_within}
 use Rattle.art_nodes.specs.Inner as nodes
 use Rattle.art_nodes.specs.declared.pointers.OpaqueNodePtr.{OpaqueNodePtr}
-use Rattle.art_arena.specs.Arena.{ArenaOf, HeldInner, held, Changes, SameNodes}
+use Rattle.art_arena.specs.Arena.{NodeArena, HeldInner, held, Changes, SameNodes}
 use Rattle.art_arena.specs.Standing.{StandsIn}
 use Rattle.art_arena.specs.Trees.{Inner, Branches, branch_roots, IsSound}
 use Rattle.art_tree.specs.Edits.{IsBeside}
@@ -18,7 +18,7 @@ StandsBeside end left right pointer = (text : List ℕ) × IsBeside end left rig
 
 module _ {K V : Type 0} {P : ℕ} where
   -- a sound inner node stands at the pointer, and a new byte goes between these of its branches
-  pub record HasPlaceAt (text : K → List ℕ) (arena : ArenaOf K V P) (pointer : OpaqueNodePtr K V P) (byte : ℕ) : Type 0 where
+  pub record HasPlaceAt (text : K → List ℕ) (arena : NodeArena K V P) (pointer : OpaqueNodePtr K V P) (byte : ℕ) : Type 0 where
     pub path : List ℕ
     pub prefix : List ℕ
     pub before : Branches (OpaqueNodePtr K V P)
@@ -28,14 +28,14 @@ module _ {K V : Type 0} {P : ℕ} where
     pub later : pairs_within (branch_roots (join before after)) (Excluded byte) Unbounded ≡ branch_roots after
 
   -- the parent, if there is one, is an inner node with a child under the byte
-  abbrev pub CanHang : ArenaOf K V P → Option (OpaqueNodePtr K V P × ℕ) → Type 0
+  abbrev pub CanHang : NodeArena K V P → Option (OpaqueNodePtr K V P × ℕ) → Type 0
   CanHang arena None = Unit {0}
   CanHang arena (Some (parent, byte)) =
       (node : nodes.Inner (OpaqueNodePtr K V P)) × (held arena parent ≡ HeldInner node)
       × (child_at node.children byte ≢ None)
 
   -- the node is the child of the parent under the byte now; or, where there is no parent, the root
-  abbrev pub IsHung : ArenaOf K V P → ArenaOf K V P → Option (OpaqueNodePtr K V P × ℕ) →
+  abbrev pub IsHung : NodeArena K V P → NodeArena K V P → Option (OpaqueNodePtr K V P × ℕ) →
       OpaqueNodePtr K V P → OpaqueNodePtr K V P → OpaqueNodePtr K V P → Type 0
   IsHung old new None node root now = SameNodes old new × (now ≡ node)
   IsHung old new (Some (parent, byte)) node root now =

@@ -14,7 +14,7 @@ pub mod Raising
 pub mod Refusals
 pub mod RefusalTexts
 pub mod Edits
-pub mod Places
+pub mod InsertionPoints
 pub mod Insertion
 pub mod Hanging
 pub mod Cuts

@@ -6,7 +6,7 @@ use Rattle.art_nodes.specs.ChildMap.{ChildMap}
 use Rattle.art_nodes.specs.Inner.{Inner}
 use Rattle.art_nodes.specs.Pointers.{node_kind}
 use Rattle.art_nodes.specs.declared.pointers.OpaqueNodePtr.{OpaqueNodePtr}
-use Rattle.art_arena.specs.Arena.{ArenaOf, HeldInner, Nothing, held, room, Changes, SameCapacity, SameOtherRoom}
+use Rattle.art_arena.specs.Arena.{NodeArena, HeldInner, Nothing, held, room, Changes, SameCapacity, SameOtherRoom}
 
 -- the node with these children and a prefix of which it stores at most so many bytes
 abbrev pub node_of : {H : Type 0} → ℕ → List ℕ → ChildMap H → Inner H
@@ -18,7 +18,7 @@ node_with_prefix most node prefix = node_of most prefix node.children
 
 module _ {K V : Type 0} {P : ℕ} where
   -- a new node of this kind is at a place that was free
-  pub record IsPlaced (old new : ArenaOf K V P) (kind : NodeType) (node : Inner (OpaqueNodePtr K V P)) (at : OpaqueNodePtr K V P) : Type 0 where
+  pub record IsPlaced (old new : NodeArena K V P) (kind : NodeType) (node : Inner (OpaqueNodePtr K V P)) (at : OpaqueNodePtr K V P) : Type 0 where
     pub is_kind : node_kind at ≡ kind
     pub was_free : held old at ≡ Nothing
     pub changes : Changes old new at (HeldInner node)
@@ -27,7 +27,7 @@ module _ {K V : Type 0} {P : ℕ} where
     pub capacity : SameCapacity old new
 
   -- the node at a pointer is replaced by this one, which is at a new place as one of this kind
-  pub record IsReplaced (old new : ArenaOf K V P) (pointer : OpaqueNodePtr K V P) (new_kind : NodeType) (now : Inner (OpaqueNodePtr K V P)) (at : OpaqueNodePtr K V P) : Type 0 where
+  pub record IsReplaced (old new : NodeArena K V P) (pointer : OpaqueNodePtr K V P) (new_kind : NodeType) (now : Inner (OpaqueNodePtr K V P)) (at : OpaqueNodePtr K V P) : Type 0 where
     pub kind : node_kind at ≡ new_kind
     pub was_free : held old at ≡ Nothing
     pub is_held : held new at ≡ HeldInner now
@@ -35,7 +35,7 @@ module _ {K V : Type 0} {P : ℕ} where
     pub others : (other : OpaqueNodePtr K V P) → other ≢ at → other ≢ pointer → held new other ≡ held old other
 
   -- this kind has spare capacity for one node more at most, and the others as before
-  pub record FreesOne (old new : ArenaOf K V P) (kind : NodeType) : Type 0 where
+  pub record FreesOne (old new : NodeArena K V P) (kind : NodeType) : Type 0 where
     pub one_more : room new kind ≤ room old kind + 1
     pub others : SameOtherRoom old new kind
     pub capacity : SameCapacity old new

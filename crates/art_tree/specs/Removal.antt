@@ -4,7 +4,7 @@ use Rattle.art_nodes.specs.Inner.{Inner}
 use Rattle.art_nodes.specs.Leaf.{leaf_key}
 use Rattle.art_nodes.specs.declared.pointers.OpaqueNodePtr.{OpaqueNodePtr}
 use Rattle.art_nodes.specs.declared.leaf_node.LeafNode.{LeafNode}
-use Rattle.art_arena.specs.Arena.{ArenaOf, HeldInner, HeldLeaf, held}
+use Rattle.art_arena.specs.Arena.{NodeArena, HeldInner, HeldLeaf, held}
 use Rattle.art_tree.specs.Art.{IsArt}
 use Rattle.art_tree.specs.Dictionary.{entry_at, SameOtherEntries}
 use Rattle.art_tree.specs.Leaves.{KeepsOtherLeaves}
@@ -12,7 +12,7 @@ use Rattle.art_tree.specs.Leaves.{KeepsOtherLeaves}
 module _ {K V : Type 0} {P : ℕ} (text : K → List ℕ) where
   -- a leaf has this text, and its parent has 5, 17 or 49 children: without the leaf the parent is
   -- of a smaller kind
-  pub record NeedsSmallerNode (arena : ArenaOf K V P) (x : List ℕ) : Type 0 where
+  pub record NeedsSmallerNode (arena : NodeArena K V P) (x : List ℕ) : Type 0 where
     pub pointer : OpaqueNodePtr K V P
     pub leaf : LeafNode K V P
     pub is_held : held arena pointer ≡ HeldLeaf leaf
@@ -25,13 +25,13 @@ module _ {K V : Type 0} {P : ℕ} (text : K → List ℕ) where
     pub count : (length node.children ≡ 5) ⊎ ((length node.children ≡ 17) ⊎ (length node.children ≡ 49))
 
   -- the text has no entry now, and every other text the entry that it had
-  pub record IsLeft (old new : ArenaOf K V P) (x : List ℕ) : Type 0 where
+  pub record IsLeft (old new : NodeArena K V P) (x : List ℕ) : Type 0 where
     pub gone : entry_at text new x ≡ None
     pub others : SameOtherEntries text old new x
     pub leaves : KeepsOtherLeaves text old new x
 
   -- a tree stands at this root that has all entries but that of the text, which is this one
-  pub record IsRemoved (old new : ArenaOf K V P) (x : List ℕ) (root : OpaqueNodePtr K V P) (entry : K × V) : Type 0 where
+  pub record IsRemoved (old new : NodeArena K V P) (x : List ℕ) (root : OpaqueNodePtr K V P) (entry : K × V) : Type 0 where
     pub art : IsArt text new (Some root)
     pub left : IsLeft old new x
     pub was : entry_at text old x ≡ Some entry

@@ -6,9 +6,9 @@ use Rattle.art_header.specs.declared.node_type.NodeType.TheVariants.{Leaf, Node4
 use Rattle.art_nodes.specs.Inner.{Inner}
 use Rattle.art_nodes.specs.Pointers.{node_kind}
 use Rattle.art_nodes.specs.declared.pointers.OpaqueNodePtr.{OpaqueNodePtr}
-use Rattle.art_arena.specs.Arena.{ArenaOf, HeldInner, held, room}
+use Rattle.art_arena.specs.Arena.{NodeArena, HeldInner, held, room}
 
-module _ {K V : Type 0} {P : ℕ} (arena : ArenaOf K V P) where
+module _ {K V : Type 0} {P : ℕ} (arena : NodeArena K V P) where
   -- the inner node at the pointer is full, and this kind, which it grows to, has no spare capacity
   abbrev pub LacksRoomToGrow : OpaqueNodePtr K V P → NodeType → Type 0
   LacksRoomToGrow pointer kind =

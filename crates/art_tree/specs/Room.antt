@@ -2,13 +2,13 @@
 use Rattle.std.specs.Prelude.{◌≡◌, ◌≢◌, ◌⊎◌, ◌↔◌, ℕ, ◌<◌, ◌≤◌, ◌+◌, List, Contains, Option, Some, None}
 use Rattle.art_header.specs.declared.node_type.NodeType.{NodeType}
 use Rattle.art_nodes.specs.declared.pointers.OpaqueNodePtr.{OpaqueNodePtr}
-use Rattle.art_arena.specs.Arena.{ArenaOf, capacity, room}
+use Rattle.art_arena.specs.Arena.{NodeArena, capacity, room}
 use Rattle.art_arena.specs.Trees.{Tree, texts, IsWellFormed}
 use Rattle.art_tree.specs.Art.{IsAlone}
 use Rattle.art_tree.specs.Dictionary.{HasEntry}
 use Rattle.art_tree.specs.NodeCounts.{nodes_of}
 
-module _ {K V : Type 0} {P : ℕ} (text : K → List ℕ) (arena : ArenaOf K V P) where
+module _ {K V : Type 0} {P : ℕ} (text : K → List ℕ) (arena : NodeArena K V P) where
   -- the tree at this root, if there is one, has fewer nodes of a kind than this
   abbrev pub HasFewer : Option (OpaqueNodePtr K V P) → NodeType → ℕ → Type 0
   HasFewer None kind count = 0 < count
@@ -32,9 +32,9 @@ module _ {K V : Type 0} {P : ℕ} (text : K → List ℕ) (arena : ArenaOf K V P
 
 module _ {K V : Type 0} {P : ℕ} where
   -- the capacity of each kind is unchanged, or this is true of the kind
-  abbrev pub GrowsOnlyWhere : ArenaOf K V P → ArenaOf K V P → (NodeType → Type 0) → Type 0
+  abbrev pub GrowsOnlyWhere : NodeArena K V P → NodeArena K V P → (NodeType → Type 0) → Type 0
   GrowsOnlyWhere old new IsNeeded = (kind : NodeType) → (capacity new kind ≡ capacity old kind) ⊎ IsNeeded kind
 
   -- each kind has spare capacity for at most one node more than before
-  abbrev pub FreesOneEach : ArenaOf K V P → ArenaOf K V P → Type 0
+  abbrev pub FreesOneEach : NodeArena K V P → NodeArena K V P → Type 0
   FreesOneEach old new = (kind : NodeType) → room new kind ≤ room old kind + 1

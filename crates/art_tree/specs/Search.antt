@@ -9,7 +9,7 @@ use Rattle.art_nodes.specs.Pointers.{slab_key, opaque_pointer}
 use Rattle.art_nodes.specs.declared.pointers.NodePtr.{NodePtr}
 use Rattle.art_nodes.specs.declared.pointers.OpaqueNodePtr.{OpaqueNodePtr}
 use Rattle.art_nodes.specs.declared.leaf_node.LeafNode.{LeafNode}
-use Rattle.art_arena.specs.Arena.{ArenaOf, HeldInner, held}
+use Rattle.art_arena.specs.Arena.{NodeArena, HeldInner, held}
 use Rattle.art_arena.specs.Standing.{IsTreeIn}
 use Rattle.art_arena.specs.Trees.{Tree, Leaf, Inner, Branches, NoBranch, Branch, leaves}
 use Rattle.art_tree.specs.declared.path.TreePath.{TreePath}
@@ -70,23 +70,23 @@ module _ {K V : Type 0} {P : ℕ} where
   IsPathTo tree pointer path = (steps : Steps K V P) × IsOnlyWay tree steps pointer × (path ≡ path_of steps)
 
   -- the inner node at the parent has this child under the byte
-  abbrev pub HasChildAt : ArenaOf K V P → OpaqueNodePtr K V P → ℕ → OpaqueNodePtr K V P → Type 0
+  abbrev pub HasChildAt : NodeArena K V P → OpaqueNodePtr K V P → ℕ → OpaqueNodePtr K V P → Type 0
   HasChildAt arena parent byte child =
       (node : nodes.Inner (OpaqueNodePtr K V P)) × (held arena parent ≡ HeldInner node)
       × (child_at node.children byte ≡ Some child)
 
   -- the arena holds the path's nodes, each with the one below, the last one with the leaf, under the path's
   -- byte; a path of one step begins at the root, and one of none is the root itself
-  abbrev pub LeadsTo : ArenaOf K V P → OpaqueNodePtr K V P → TreePath K V P → OpaqueNodePtr K V P → Type 0
+  abbrev pub LeadsTo : NodeArena K V P → OpaqueNodePtr K V P → TreePath K V P → OpaqueNodePtr K V P → Type 0
   LeadsTo arena root Root leaf = root ≡ leaf
   LeadsTo arena root (ChildOfRoot parent byte) leaf = (parent ≡ root) × HasChildAt arena parent byte leaf
   LeadsTo arena root (Normal grandparent parent_byte parent byte) leaf =
       HasChildAt arena grandparent parent_byte parent × HasChildAt arena parent byte leaf
 
   -- for every well-formed tree that stands at this pointer of an arena
-  abbrev pub EachTree : (K → List ℕ) → ArenaOf K V P → OpaqueNodePtr K V P → (Tree (OpaqueNodePtr K V P) → Type 0) → Type 0
+  abbrev pub EachTree : (K → List ℕ) → NodeArena K V P → OpaqueNodePtr K V P → (Tree (OpaqueNodePtr K V P) → Type 0) → Type 0
   EachTree text arena root Holds = (tree : Tree (OpaqueNodePtr K V P)) → IsTreeIn text arena root tree → Holds tree
 
   -- a well-formed tree stands at this pointer of an arena
-  abbrev pub HasTree : (K → List ℕ) → ArenaOf K V P → OpaqueNodePtr K V P → Type 0
+  abbrev pub HasTree : (K → List ℕ) → NodeArena K V P → OpaqueNodePtr K V P → Type 0
   HasTree text arena root = (tree : Tree (OpaqueNodePtr K V P)) × IsTreeIn text arena root tree

@@ -6,7 +6,7 @@ use Rattle.art_nodes.specs.Leaf.{leaf_key, with_value}
 use Rattle.art_nodes.specs.declared.leaf_node.LeafNode.{LeafNode}
 use Rattle.art_nodes.specs.declared.pointers.OpaqueNodePtr.{OpaqueNodePtr}
 use Rattle.art_nodes.specs.contracts.pointers.OpaqueNodePtr as pointer
-use Rattle.art_arena.specs.Arena.{ArenaOf, HeldLeaf, Changes, SameRoom, held}
+use Rattle.art_arena.specs.Arena.{NodeArena, HeldLeaf, Changes, SameRoom, held}
 use Rattle.art_arena.specs.Lending.{arena_row}
 use Rattle.art_tree.specs.Art.{Art, IsArt}
 use Rattle.art_tree.specs.Dictionary.{HasKeys, SameOtherEntries, entry_at}
@@ -20,7 +20,7 @@ tree_row K V P text is_key =
 module _ {K V : Type 0} {P : ℕ} (text : K → List ℕ) where
   -- the entry of this text has this value now; its key, every other entry, every node but its leaf, the root and
   -- spare capacity are unchanged
-  pub record HasValueNow (old new : Art (ArenaOf K V P) (OpaqueNodePtr K V P)) (x : List ℕ) (value : V) : Type 0 where
+  pub record HasValueNow (old new : Art (NodeArena K V P) (OpaqueNodePtr K V P)) (x : List ℕ) (value : V) : Type 0 where
     pub entry : entry_at text new.arena x ≡ option_map (λ entry. (entry.0, value)) (entry_at text old.arena x)
     pub others : SameOtherEntries text old.arena new.arena x
     pub nodes : (at : OpaqueNodePtr K V P) × (leaf : LeafNode K V P) × (held old.arena at ≡ HeldLeaf leaf) × (text (leaf_key leaf) ≡ x)

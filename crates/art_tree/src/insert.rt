@@ -14,7 +14,7 @@ ghost use Rattle.art_tree.specs.Dictionary.{entry_at, SameEntries};
 ghost use Rattle.art_tree.specs.Edits.{HasRoomToGrow};
 ghost use Rattle.art_tree.specs.Hanging.{HasPlaceAt, StandsBeside};
 ghost use Rattle.art_tree.specs.Insertion.{IsEntered, IsRefused, MayEnter};
-ghost use Rattle.art_tree.specs.Places.{LacksChild, Parts};
+ghost use Rattle.art_tree.specs.InsertionPoints.{LacksChild, Parts};
 ghost use Rattle.art_tree.specs.Reserving.{LacksRoomForChild, LacksRoomForFork};
 ghost use Rattle.art_tree.specs.Room.{GrowsOnlyWhere, LacksRoomToInsert};
 ghost use Rattle.art_tree.specs.Search.{leaf_pointer};
@@ -22,12 +22,12 @@ ghost use Rattle.art_arena.specs.declared.ends.End.TheVariants.{First, Last};
 ghost use Rattle.art_tree.specs.declared.insert.InsertRefusal.TheVariants.{OutOfMemory};
 
 mod added_child;
+mod insertion_point;
 mod link;
-mod place;
 
 use crate::insert::added_child::{add_child, fork_node, reserve_growth, trim};
+use crate::insert::insertion_point::{InsertionPoint, Mismatch, Spot, find_insertion_point};
 use crate::insert::link::link_leaf;
-use crate::insert::place::{Fork, Place, Spot, find_place};
 use crate::laws::{
     each_pointer_is_at_one_place, lists_are_spelled_where_links_are_kept, no_text_begins_another,
     texts_ascend, trees_stand_where_texts_are_kept,
@@ -240,11 +240,11 @@ fn insert_child<K: AsBytes, V, const PREFIX_LEN: usize>(
 }
 
 // The end of the leaves below a node that is next to a key which differs from all of them.
-fn near_end(fork: Fork) -> End
-    ensures end { result ≡ (if nat_lt fork.byte fork.node_byte then First else Last) }
-    ensures bytes { (fork.byte < 256) × (fork.node_byte < 256) }
+fn near_end(mismatch: Mismatch) -> End
+    ensures end { result ≡ (if nat_lt mismatch.byte mismatch.node_byte then First else Last) }
+    ensures bytes { (mismatch.byte < 256) × (mismatch.node_byte < 256) }
 {
-    if fork.byte < fork.node_byte {
+    if mismatch.byte < mismatch.node_byte {
         End::First
     } else {
         End::Last
@@ -257,13 +257,13 @@ fn insert_fork<K: AsBytes, V, const PREFIX_LEN: usize>(
     arena: &mut NodeArena<K, V, PREFIX_LEN>,
     root: OpaqueNodePtr<K, V, PREFIX_LEN>,
     spot: Spot<K, V, PREFIX_LEN>,
-    fork: Fork,
+    mismatch: Mismatch,
     key: K,
     value: V,
 ) -> Result<OpaqueNodePtr<K, V, PREFIX_LEN>, (K, V)>
     requires short { length (K.text key) < 2 ^ 32 }
     requires place { (tree : _) × IsAlone K.text arena.old root tree ×
-        Parts tree (K.text key) spot fork }
+        Parts tree (K.text key) spot mismatch }
     ensures art { IfOk result (λ root. IsArt K.text arena.new (Some root)) }
     ensures entered { OnOk result (IsEntered K.text arena.old arena.new key value) }
     ensures entry_back { IfErr result (λ entry. entry ≡ (key, value)) }
@@ -276,7 +276,7 @@ fn insert_fork<K: AsBytes, V, const PREFIX_LEN: usize>(
     no_text_begins_another::<OpaqueNodePtr<K, V, PREFIX_LEN>>();
     texts_ascend::<OpaqueNodePtr<K, V, PREFIX_LEN>>();
     each_pointer_is_at_one_place::<K, V, PREFIX_LEN>();
-    let end = near_end(fork);
+    let end = near_end(mismatch);
     if reserve_for_fork(arena).is_err() {
         return Err((key, value));
     }
@@ -286,10 +286,10 @@ fn insert_fork<K: AsBytes, V, const PREFIX_LEN: usize>(
         arena,
         spot.node,
         spot.depth,
-        fork.index + 1 - spot.depth,
+        mismatch.index + 1 - spot.depth,
         sibling,
     );
-    let node = fork_node(arena, leaf, spot.node, spot.depth, fork);
+    let node = fork_node(arena, leaf, spot.node, spot.depth, mismatch);
     Ok(hang(arena, root, spot.parent, node))
 }
 
@@ -352,16 +352,18 @@ pub(crate) fn insert_entry<K: AsBytes, V, const PREFIX_LEN: usize>(
     let Some(root) = root else {
         return newly_added(insert_first(arena, key, value));
     };
-    match find_place(arena, root, key.as_bytes()) {
-        Place::Present(leaf) => Ok((root, Some(replace_entry(arena, leaf, key, value)))),
-        Place::Clash => Err(InsertFault {
+    match find_insertion_point(arena, root, key.as_bytes()) {
+        InsertionPoint::Present(leaf) => Ok((root, Some(replace_entry(arena, leaf, key, value)))),
+        InsertionPoint::Clash => Err(InsertFault {
             refusal: InsertRefusal::Prefix,
             key,
             value,
         }),
-        Place::Child { spot, byte } => newly_added(insert_child(
+        InsertionPoint::Child { spot, byte } => newly_added(insert_child(
             arena, root, spot, byte, key, value,
         )),
-        Place::Fork { spot, fork } => newly_added(insert_fork(arena, root, spot, fork, key, value)),
+        InsertionPoint::Fork { spot, mismatch } => newly_added(insert_fork(
+            arena, root, spot, mismatch, key, value,
+        )),
     }
 }

@@ -7,7 +7,7 @@ ghost use Rattle.art_header.specs.declared.node_type.NodeType.{NodeType};
 ghost use Rattle.art_nodes.specs.Leaf.{leaf_key, leaf_value};
 ghost use Rattle.art_nodes.specs.Pointers.{node_kind};
 ghost use Rattle.art_nodes.specs.declared.pointers.OpaqueNodePtr.{OpaqueNodePtr as Pointer};
-ghost use Rattle.art_arena.specs.Arena.{ArenaOf, HeldLeaf, held, leaf_count};
+ghost use Rattle.art_arena.specs.Arena.{NodeArena, HeldLeaf, held, leaf_count};
 ghost use Rattle.art_arena.specs.Links.{AreDistinct, Spells};
 ghost use Rattle.art_arena.specs.Standing.{StandsIn};
 ghost use Rattle.art_arena.specs.Trees.{Tree, leaves, places, texts, IsSound, IsWellFormed, SameButPointers};
@@ -59,14 +59,14 @@ pub fn the_same_texts_have_the_same_nodes<H, L>()
 
 /// The tree that `load` makes has the key bytes of its entries, in their order.
 pub fn a_loaded_tree_has_the_texts_of_its_entries<K: AsBytes, V, const PREFIX_LEN: usize>()
-    ensures { (old new : ArenaOf K V PREFIX_LEN) (entries : List (K × V)) (root : _) (tree : _) →
+    ensures { (old new : NodeArena K V PREFIX_LEN) (entries : List (K × V)) (root : _) (tree : _) →
         IsLoaded K.text old new entries root tree → texts tree ≡ texts_of K.text entries }
 {}
 
 /// A search visits no node twice: the nodes that a key meets on its way down are distinct, whichever
 /// prefixes are stored whole.
 pub fn the_nodes_that_a_key_meets_are_distinct<K: AsBytes, V, const PREFIX_LEN: usize>()
-    ensures { (arena : ArenaOf K V PREFIX_LEN) (path : List ℕ) (tree : _) (room : ℕ)
+    ensures { (arena : NodeArena K V PREFIX_LEN) (path : List ℕ) (tree : _) (room : ℕ)
         (key : List ℕ) → StandsIn K.text arena tree → IsSound path tree →
         AreDistinct (met room tree key) }
 {
@@ -77,7 +77,7 @@ pub fn the_nodes_that_a_key_meets_are_distinct<K: AsBytes, V, const PREFIX_LEN: 
 /// are of the same kinds node for node. So a tree made by inserts and removals is, but for its
 /// pointers, the tree that `load` makes of its entries.
 pub fn the_same_tree_has_the_same_kinds<K: AsBytes, V, const PREFIX_LEN: usize>()
-    ensures { (arena other_arena : ArenaOf K V PREFIX_LEN) (tree other : _) →
+    ensures { (arena other_arena : NodeArena K V PREFIX_LEN) (tree other : _) →
         StandsIn K.text arena tree → StandsIn K.text other_arena other →
         HasSmallestKinds tree → HasSmallestKinds other → SameButPointers tree other →
         map node_kind (places tree) ≡ map node_kind (places other) }
@@ -91,7 +91,7 @@ pub fn the_same_tree_has_the_same_kinds<K: AsBytes, V, const PREFIX_LEN: usize>(
 pub fn a_subtree_may_be_exchanged<K: AsBytes, V, const PREFIX_LEN: usize>()
     ensures part { (path : List ℕ) (context : Context (Pointer K V PREFIX_LEN)) (part : _) →
         IsSound path (plug context part) → IsSound (path ++ path_to context) part }
-    ensures part_stands { (arena : ArenaOf K V PREFIX_LEN) (context : _) (part : _) →
+    ensures part_stands { (arena : NodeArena K V PREFIX_LEN) (context : _) (part : _) →
         StandsIn K.text arena (plug context part) → StandsIn K.text arena part }
     ensures sound { (path : List ℕ) (context : Context (Pointer K V PREFIX_LEN)) (part now : _) →
         IsSound path (plug context part) → IsSound (path ++ path_to context) now →
@@ -100,7 +100,7 @@ pub fn a_subtree_may_be_exchanged<K: AsBytes, V, const PREFIX_LEN: usize>()
         leaves (plug context part) ≡ leaves_before context ++ (leaves part ++ leaves_after context) }
     ensures smallest_kinds { (context : Context (Pointer K V PREFIX_LEN)) (part now : _) →
         HasSmallestKinds (plug context part) → HasSmallestKinds now → HasSmallestKinds (plug context now) }
-    ensures stands { (old new : ArenaOf K V PREFIX_LEN) (path : List ℕ) (context : _) (part now : _) →
+    ensures stands { (old new : NodeArena K V PREFIX_LEN) (path : List ℕ) (context : _) (part now : _) →
         IsSound path (plug context part) → IsExchanged old new K.text context part now →
         StandsIn K.text new (plug context now) }
 {
@@ -112,7 +112,7 @@ pub fn a_subtree_may_be_exchanged<K: AsBytes, V, const PREFIX_LEN: usize>()
 pub fn keys_without_prefixes_never_clash<K: NoPrefixesBytes, V, const PREFIX_LEN: usize>()
     ensures keys { (keys : List K) (key : K) → All K.is_key keys → K.is_key key →
         ¬ Clashes (map K.text keys) (K.text key) }
-    ensures entries { (arena : ArenaOf K V PREFIX_LEN) (key : K) →
+    ensures entries { (arena : NodeArena K V PREFIX_LEN) (key : K) →
         HasKeys K.text K.is_key arena → K.is_key key → ¬ ClashesIn K.text arena (K.text key) }
 {}
 
@@ -121,20 +121,20 @@ pub fn keys_without_prefixes_never_clash<K: NoPrefixesBytes, V, const PREFIX_LEN
 /// has the entry of its key bytes. An arena has an entry exactly where it has a root. The key of an
 /// entry has the entry's bytes.
 pub fn entries_are_what_leaves_hold<K: AsBytes, V, const PREFIX_LEN: usize>()
-    ensures none { (arena : ArenaOf K V PREFIX_LEN) → IsArt K.text arena None →
+    ensures none { (arena : NodeArena K V PREFIX_LEN) → IsArt K.text arena None →
         IsEmpty K.text arena }
-    ensures some { (arena : ArenaOf K V PREFIX_LEN) (root : _) (tree : _) →
+    ensures some { (arena : NodeArena K V PREFIX_LEN) (root : _) (tree : _) →
         IsAlone K.text arena root tree → (text : List ℕ) × HasEntry K.text arena text }
-    ensures text { (arena : ArenaOf K V PREFIX_LEN) (text : List ℕ) (entry : _) →
+    ensures text { (arena : NodeArena K V PREFIX_LEN) (text : List ℕ) (entry : _) →
         entry_at K.text arena text ≡ Some entry → K.text entry.0 ≡ text }
-    ensures texts { (arena : ArenaOf K V PREFIX_LEN) (root : _) (tree : _) →
+    ensures texts { (arena : NodeArena K V PREFIX_LEN) (root : _) (tree : _) →
         IsAlone K.text arena root tree → (text : List ℕ) →
         HasEntry K.text arena text ↔ Contains (texts tree) text }
-    ensures held { (arena : ArenaOf K V PREFIX_LEN) (root : _) (tree : _) →
+    ensures held { (arena : NodeArena K V PREFIX_LEN) (root : _) (tree : _) →
         IsAlone K.text arena root tree → (pointer : _) (text : _) →
         Contains (leaves tree) (pointer, text) → (leaf : _) ×
         (held arena pointer ≡ HeldLeaf leaf) × (K.text (leaf_key leaf) ≡ text) }
-    ensures leaves { (arena : ArenaOf K V PREFIX_LEN) (root : _) (tree : _) →
+    ensures leaves { (arena : NodeArena K V PREFIX_LEN) (root : _) (tree : _) →
         IsAlone K.text arena root tree → (pointer : _) (text : _) (leaf : _) →
         Contains (leaves tree) (pointer, text) → held arena pointer ≡ HeldLeaf leaf →
         entry_at K.text arena text ≡ Some (leaf_key leaf, leaf_value leaf) }
@@ -146,7 +146,7 @@ pub fn entries_are_what_leaves_hold<K: AsBytes, V, const PREFIX_LEN: usize>()
 /// pointers, kinds included, whichever calls made them. So each is the tree that `load` makes of
 /// its entries.
 pub fn the_same_entries_make_the_same_tree<K: AsBytes, V, const PREFIX_LEN: usize>()
-    ensures { (arena other_arena : ArenaOf K V PREFIX_LEN) (root other_root : _) (tree other : _) →
+    ensures { (arena other_arena : NodeArena K V PREFIX_LEN) (root other_root : _) (tree other : _) →
         IsAlone K.text arena root tree → IsAlone K.text other_arena other_root other →
         ((text : List ℕ) → HasEntry K.text arena text ↔ HasEntry K.text other_arena text) →
         SameButPointers tree other × (map node_kind (places tree) ≡ map node_kind (places other)) }
@@ -163,13 +163,13 @@ pub fn the_same_entries_make_the_same_tree<K: AsBytes, V, const PREFIX_LEN: usiz
 /// The entries of an arena are one list, ascending by key bytes. An entry is one of them exactly
 /// where its key bytes have it. No other list has all entries in that order.
 pub fn entries_are_one_list<K: AsBytes, V, const PREFIX_LEN: usize>()
-    ensures list { (arena : ArenaOf K V PREFIX_LEN) →
+    ensures list { (arena : NodeArena K V PREFIX_LEN) →
         AreEntries K.text arena (entries_of K.text arena) }
-    ensures only { (arena : ArenaOf K V PREFIX_LEN) (entries others : _) →
+    ensures only { (arena : NodeArena K V PREFIX_LEN) (entries others : _) →
         AreEntries K.text arena entries → AreEntries K.text arena others → entries ≡ others }
-    ensures members { (arena : ArenaOf K V PREFIX_LEN) (entry : _) →
+    ensures members { (arena : NodeArena K V PREFIX_LEN) (entry : _) →
         Contains (entries_of K.text arena) entry ↔ IsEntry K.text arena entry }
-    ensures none { (arena : ArenaOf K V PREFIX_LEN) →
+    ensures none { (arena : NodeArena K V PREFIX_LEN) →
         IsEmpty K.text arena → entries_of K.text arena ≡ [] }
 {}
 
@@ -177,12 +177,12 @@ pub fn entries_are_one_list<K: AsBytes, V, const PREFIX_LEN: usize>()
 /// place where that one is new or has a new value, and without the entry of some key bytes where
 /// that one is gone.
 pub fn the_list_of_entries_changes_with_them<K: AsBytes, V, const PREFIX_LEN: usize>()
-    ensures same { (old new : ArenaOf K V PREFIX_LEN) → SameEntries K.text old new →
+    ensures same { (old new : NodeArena K V PREFIX_LEN) → SameEntries K.text old new →
         entries_of K.text new ≡ entries_of K.text old }
-    ensures put { (old new : ArenaOf K V PREFIX_LEN) (entry : _) → IsEntry K.text new entry →
+    ensures put { (old new : NodeArena K V PREFIX_LEN) (entry : _) → IsEntry K.text new entry →
         SameOtherEntries K.text old new (K.text entry.0) →
         entries_of K.text new ≡ put_entry K.text (entries_of K.text old) entry }
-    ensures without { (old new : ArenaOf K V PREFIX_LEN) (text : List ℕ) →
+    ensures without { (old new : NodeArena K V PREFIX_LEN) (text : List ℕ) →
         entry_at K.text new text ≡ None → SameOtherEntries K.text old new text →
         entries_of K.text new ≡ without_text K.text (entries_of K.text old) text }
 {}
@@ -191,14 +191,14 @@ pub fn the_list_of_entries_changes_with_them<K: AsBytes, V, const PREFIX_LEN: us
 /// list of the entries. They are as many as the arena has leaves. A list that links spell is no
 /// longer.
 pub fn entries_are_as_many_as_leaves<K: AsBytes, V, const PREFIX_LEN: usize>()
-    ensures texts { (arena : ArenaOf K V PREFIX_LEN) (root : _) (tree : _) →
+    ensures texts { (arena : NodeArena K V PREFIX_LEN) (root : _) (tree : _) →
         IsAlone K.text arena root tree →
         texts_of K.text (entries_of K.text arena) ≡ texts tree }
-    ensures leaves { (arena : ArenaOf K V PREFIX_LEN) (root : _) (tree : _) →
+    ensures leaves { (arena : NodeArena K V PREFIX_LEN) (root : _) (tree : _) →
         IsAlone K.text arena root tree → length (leaves tree) ≡ leaf_count arena }
-    ensures entries { (arena : ArenaOf K V PREFIX_LEN) (root : _) → IsArt K.text arena root →
+    ensures entries { (arena : NodeArena K V PREFIX_LEN) (root : _) → IsArt K.text arena root →
         length (entries_of K.text arena) ≡ leaf_count arena }
-    ensures spelled { (arena : ArenaOf K V PREFIX_LEN) (keys : List ℕ) → Spells arena keys →
+    ensures spelled { (arena : NodeArena K V PREFIX_LEN) (keys : List ℕ) → Spells arena keys →
         length keys ≤ leaf_count arena }
 {
     no_text_begins_another::<OpaqueNodePtr<K, V, PREFIX_LEN>>();

@@ -15,8 +15,8 @@ mod remove;
 mod tree;
 
 pub use art_arena::{
-    AnyInnerRef, AnyRef, ArenaInnerNode, ArenaNode, ArenaReader, End, ExplicitMismatch, FullPrefix,
-    InnerRef, LeafLinks, NodeArena, NodePrefix, NodeRef, end_leaf,
+    AnyInnerRef, AnyNodeRef, ArenaInnerNode, ArenaNode, ArenaReader, End, ExplicitMismatch,
+    FullPrefix, InnerRef, LeafLinks, NodeArena, NodePrefix, NodeRef, end_leaf,
 };
 pub use art_bytes::{
     AsBytes, CStringKey, CStringKeyError, NoPrefixesBytes, OrderedBytes, SliceKey, StrKey,

@@ -16,7 +16,7 @@ ghost use Rattle.std.specs.Prelude.{IfOk};
 ghost use Rattle.art_tree.specs.Search.{HasTree};
 
 use art_tree::{
-    AnyRef, ArenaReader, ArtTree, AsBytes, CStringKey, ConcatTuple, InnerNodeCommon, InnerNodeRead,
+    AnyNodeRef, ArenaReader, ArtTree, AsBytes, CStringKey, ConcatTuple, InnerNodeCommon, InnerNodeRead,
     LoadRefusal, Mapped, NodeArena, NodeType, OpaqueNodePtr, SliceKey, ToIBE, ToOctets, TreePath,
     find_leaf, laws, load,
 };

@@ -3,13 +3,13 @@ use Rattle.std.proofs.Common.{◌≡◌, ◌∙◌, ℕ, suc, ◌≤◌, List, [
 use Rattle.std.proofs.lemmas.Bool.{eq-eqb, ne_eqb}
 use Rattle.art_nodes.specs.ChildMap.{IsAscendingFrom, key_bytes, child_at}
 use Rattle.art_nodes.specs.declared.pointers.OpaqueNodePtr.{OpaqueNodePtr}
-use Rattle.art_arena.specs.Arena.{ArenaOf}
+use Rattle.art_arena.specs.Arena.{NodeArena}
 use Rattle.art_arena.specs.Standing.{StandsIn, AllStandIn}
 use Rattle.art_arena.specs.Trees.{Tree, Leaf, Inner, Branches, NoBranch, Branch, branch_roots, root_of, IsSound, AreSound}
 use Rattle.art_tree.specs.Paths.{Steps, path_of}
 use Rattle.art_tree.specs.Search.{IsWay, IsWayUnder, HasChildAt, LeadsTo}
 
-module _ {K V : Type 0} {P : ℕ} (text : K → List ℕ) (arena : ArenaOf K V P) where
+module _ {K V : Type 0} {P : ℕ} (text : K → List ℕ) (arena : NodeArena K V P) where
   -- a path of two steps or more leads on from any root
   from-any : (root other : OpaqueNodePtr K V P) (first second : OpaqueNodePtr K V P × ℕ) (steps : Steps K V P) (leaf : OpaqueNodePtr K V P) → LeadsTo arena root (path_of (first ∷ second ∷ steps)) leaf → LeadsTo arena other (path_of (first ∷ second ∷ steps)) leaf
   from-any root other first second [] leaf leads = leads

@@ -9,10 +9,10 @@ use Rattle.art_nodes.specs.Inner as nodes
 use Rattle.art_nodes.specs.declared.pointers.NodePtr.{NodePtr}
 use Rattle.art_nodes.specs.declared.pointers.OpaqueNodePtr.{OpaqueNodePtr}
 use Rattle.art_nodes.specs.declared.leaf_node.LeafNode.{LeafNode}
-use Rattle.art_arena.specs.Arena.{ArenaOf, Held, Nothing, HeldInner, HeldLeaf, held}
+use Rattle.art_arena.specs.Arena.{NodeArena, Held, Nothing, HeldInner, HeldLeaf, held}
 use Rattle.art_arena.specs.Reader.{shown}
-use Rattle.art_arena.specs.declared.reader.AnyRef.{AnyRef}
-use Rattle.art_arena.specs.declared.reader.AnyRef.TheVariants as references
+use Rattle.art_arena.specs.declared.reader.AnyNodeRef.{AnyNodeRef}
+use Rattle.art_arena.specs.declared.reader.AnyNodeRef.TheVariants as references
 use Rattle.art_arena.specs.Standing.{StandsIn, AllStandIn, NodeStands, IsTreeIn, leaf_text}
 use Rattle.art_arena.specs.Trees.{Tree, Leaf, Inner, Branches, IsSound, root_of, branch_roots}
 use Rattle.art_arena.proofs.StandingLaws.{at-some, shown-prefix}
@@ -24,13 +24,13 @@ use Rattle.art_tree.proofs.FindLemmas.DescentLemmas.{prefix-goes}
 use Rattle.art_tree.proofs.FindLemmas.ScanLemmas.{scan-nowhere, met-nowhere, branching, other-text, text-itself}
 
 -- a leaf that was looked at is held on
-pub still-held : {K V : Type 0} {P : ℕ} (now arena : ArenaOf K V P) (at : OpaqueNodePtr K V P) (leaf : NodePtr P (LeafNode K V P)) (node : LeafNode K V P) → now ≡ arena → leaf_pointer leaf ≡ at → held arena at ≡ HeldLeaf node → held now (leaf_pointer leaf) ≢ Nothing
+pub still-held : {K V : Type 0} {P : ℕ} (now arena : NodeArena K V P) (at : OpaqueNodePtr K V P) (leaf : NodePtr P (LeafNode K V P)) (node : LeafNode K V P) → now ≡ arena → leaf_pointer leaf ≡ at → held arena at ≡ HeldLeaf node → held now (leaf_pointer leaf) ≢ Nothing
 still-held now arena at leaf node same pointer holds nothing =
     let one : HeldLeaf node ≡ Nothing = sym holds ∙ ap (held arena) (sym pointer) ∙ ap (λ a. held a (leaf_pointer leaf)) (sym same) ∙ nothing in absurd (cc)
 
 -- a search is at this pointer, after so many bytes and node visits: what the whole tree has of the
 -- key is what this part has
-pub record IsHere {K V : Type 0} {P : ℕ} (text : K → List ℕ) (arena : ArenaOf K V P) (whole : Tree (OpaqueNodePtr K V P)) (key : List ℕ) (at : OpaqueNodePtr K V P) (depth : ℕ) (search : TreePathSearch K V P) (budget left : ℕ) : Type 0 where
+pub record IsHere {K V : Type 0} {P : ℕ} (text : K → List ℕ) (arena : NodeArena K V P) (whole : Tree (OpaqueNodePtr K V P)) (key : List ℕ) (at : OpaqueNodePtr K V P) (depth : ℕ) (search : TreePathSearch K V P) (budget left : ℕ) : Type 0 where
   pub part : Tree (OpaqueNodePtr K V P)
   pub path : List ℕ
   pub steps : Steps K V P
@@ -48,7 +48,7 @@ pub record IsHere {K V : Type 0} {P : ℕ} (text : K → List ℕ) (arena : Aren
 drop-front : (path front key : List ℕ) (depth : ℕ) → length path ≡ depth → IsPrefixOf (path ++ front) key → IsPrefixOf front (drop depth key)
 drop-front path front key depth deep (rest, is) = (rest, subst (λ m. drop m key ≡ front ++ rest) deep (ap (drop (length path)) (is ∙ append_assoc path front rest) ∙ drop-append_seam path (front ++ rest)))
 
-module _ {K V : Type 0} {P : ℕ} (text : K → List ℕ) (arena : ArenaOf K V P) (whole : Tree (OpaqueNodePtr K V P)) (key : List ℕ) where
+module _ {K V : Type 0} {P : ℕ} (text : K → List ℕ) (arena : NodeArena K V P) (whole : Tree (OpaqueNodePtr K V P)) (key : List ℕ) where
   pub here-start : (root : OpaqueNodePtr K V P) (search : TreePathSearch K V P) (budget : ℕ) → IsTreeIn text arena root whole → HasVisited search [] → IsHere text arena whole key root 0 search budget budget
   here-start root search budget is empty = record { part = whole; path = []; steps = []; at_root = is.at_root; stands = is.stands; sound = is.sound; deep = refl; same_scan = refl; same_met = omega arith; way_on = λ more pointer way. way; remembered = empty; counted = omega arith; few = omega arith }
 
@@ -164,15 +164,15 @@ module _ {K V : Type 0} {P : ℕ} (text : K → List ℕ) (arena : ArenaOf K V P
       here-on next on visited visits after looked = on-at at_node next on visited visits after looked
 
 -- the result of a step from the inner node that was visited
-pub record Told {K V : Type 0} {P : ℕ} (arena : ArenaOf K V P) (key : List ℕ) (at : OpaqueNodePtr K V P) (depth : ℕ) (next : Option (ℕ × OpaqueNodePtr K V P)) : Type 0 where
+pub record Told {K V : Type 0} {P : ℕ} (arena : NodeArena K V P) (key : List ℕ) (at : OpaqueNodePtr K V P) (depth : ℕ) (next : Option (ℕ × OpaqueNodePtr K V P)) : Type 0 where
   pub node : nodes.Inner (OpaqueNodePtr K V P)
   pub is : held arena at ≡ HeldInner node
   pub on : IfSome next (LeadsOn P node key depth)
   pub nowhere : IfNone next (LeadsNowhere P node key depth)
 
-module _ {K V : Type 0} {P : ℕ} (arena now : ArenaOf K V P) (key : List ℕ) (at : OpaqueNodePtr K V P) (depth : ℕ) (next : Option (ℕ × OpaqueNodePtr K V P)) (same : now ≡ arena) where
+module _ {K V : Type 0} {P : ℕ} (arena now : NodeArena K V P) (key : List ℕ) (at : OpaqueNodePtr K V P) (depth : ℕ) (next : Option (ℕ × OpaqueNodePtr K V P)) (same : now ≡ arena) where
   abbrev Ref : Type 0
-  Ref = AnyRef (nodes.Inner (OpaqueNodePtr K V P)) (nodes.Inner (OpaqueNodePtr K V P)) (nodes.Inner (OpaqueNodePtr K V P)) (nodes.Inner (OpaqueNodePtr K V P)) (LeafNode K V P)
+  Ref = AnyNodeRef (nodes.Inner (OpaqueNodePtr K V P)) (nodes.Inner (OpaqueNodePtr K V P)) (nodes.Inner (OpaqueNodePtr K V P)) (nodes.Inner (OpaqueNodePtr K V P)) (LeafNode K V P)
 
   abbrev inner-held : nodes.Inner (OpaqueNodePtr K V P) → Held (OpaqueNodePtr K V P) (LeafNode K V P)
   inner-held node = HeldInner node
@@ -206,7 +206,7 @@ module _ {A : Type 0} where
   at-none Holds None is holds = holds
   at-none Holds (Some y) is holds = absurd (cc)
 
-module _ {K V : Type 0} {P : ℕ} (arena : ArenaOf K V P) (key : List ℕ) (at : OpaqueNodePtr K V P) (depth : ℕ) (next : Option (ℕ × OpaqueNodePtr K V P)) (t : Told arena key at depth next) where
+module _ {K V : Type 0} {P : ℕ} (arena : NodeArena K V P) (key : List ℕ) (at : OpaqueNodePtr K V P) (depth : ℕ) (next : Option (ℕ × OpaqueNodePtr K V P)) (t : Told arena key at depth next) where
   pub told-on : (way : ℕ × OpaqueNodePtr K V P) → next ≡ Some way → LeadsOn P t.node key depth way
   told-on way is = at-some (LeadsOn P t.node key depth) next way is t.on
 

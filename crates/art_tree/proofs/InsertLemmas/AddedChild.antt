@@ -11,7 +11,7 @@ use Rattle.art_nodes.specs.ChildMap.{IsAscending, key_bytes, child_at, with_chil
 use Rattle.art_nodes.specs.Inner as nodes
 use Rattle.art_nodes.specs.Pointers.{node_kind, opaque_key, opaque_pointer}
 use Rattle.art_nodes.specs.declared.pointers.OpaqueNodePtr.{OpaqueNodePtr}
-use Rattle.art_arena.specs.Arena.{ArenaOf, HeldInner, HeldLeaf, Nothing, held, SameNodes, SameOtherRoom}
+use Rattle.art_arena.specs.Arena.{NodeArena, HeldInner, HeldLeaf, Nothing, held, SameNodes, SameOtherRoom}
 use Rattle.art_arena.specs.Links.{AreDistinct, Spells, text_at}
 use Rattle.art_arena.specs.Standing.{NodeStands, StandsIn, AllStandIn}
 use Rattle.art_arena.specs.Trees.{Tree, Inner, branch_roots, leaves, branch_leaves, texts, places, branch_places, IsSound}
@@ -21,9 +21,9 @@ use Rattle.art_tree.specs.Edits.{HasGap, IsBeside, HoldsEntry, HasOneMore, HasRo
 use Rattle.art_tree.specs.Hanging.{CanHang, HasPlaceAt, IsHung, StandsBeside}
 use Rattle.art_tree.specs.Insertion.{IsEntered}
 use Rattle.art_tree.specs.Loading.{HasSmallestKinds, HaveSmallestKinds}
-use Rattle.art_tree.specs.Places.{above, LacksChild}
+use Rattle.art_tree.specs.InsertionPoints.{above, LacksChild}
 use Rattle.art_arena.specs.declared.ends.End.{End}
-use Rattle.art_tree.specs.declared.insert.place.Spot.{Spot}
+use Rattle.art_tree.specs.declared.insert.insertion_point.Spot.{Spot}
 use Rattle.art_tree.proofs.InsertLemmas.AddedLeaf.{AreSteps, HasTaken, below-kept, can-hang, last-others, tree-added}
 use Rattle.art_tree.proofs.SharedLemmas.BranchLemmas.{leaves-join, places-join}
 use Rattle.art_tree.proofs.SharedLemmas.DictionaryLemmas.{AreApart}
@@ -45,18 +45,18 @@ grown-inner kinds.Node256 inner = λ e. cc
 grown-inner kinds.Leaf inner = absurd (inner refl)
 
 -- an inner node of a tree that is alone in an arena has no child under a key's next byte
-pub record ChildSpot {K V : Type 0} {P : ℕ} (text : K → List ℕ) (arena : ArenaOf K V P) (root : OpaqueNodePtr K V P) (spot : Spot K V P) (byte : ℕ) (key : K) : Type 0 where
+pub record ChildSpot {K V : Type 0} {P : ℕ} (text : K → List ℕ) (arena : NodeArena K V P) (root : OpaqueNodePtr K V P) (spot : Spot K V P) (byte : ℕ) (key : K) : Type 0 where
   pub tree : Tree (OpaqueNodePtr K V P)
   pub alone : IsAlone text arena root tree
   pub lacks : LacksChild tree (text key) spot byte
   pub fits : byte < 256
 
 -- also after spare capacity was made in the arena
-pub child-reserved : {K V : Type 0} {P : ℕ} {text : K → List ℕ} (old reserved : ArenaOf K V P) {root : OpaqueNodePtr K V P} {spot : Spot K V P} {byte : ℕ} {key : K} → (tree : Tree (OpaqueNodePtr K V P)) × IsAlone text old root tree × LacksChild tree (text key) spot byte → SameNodes old reserved
+pub child-reserved : {K V : Type 0} {P : ℕ} {text : K → List ℕ} (old reserved : NodeArena K V P) {root : OpaqueNodePtr K V P} {spot : Spot K V P} {byte : ℕ} {key : K} → (tree : Tree (OpaqueNodePtr K V P)) × IsAlone text old root tree × LacksChild tree (text key) spot byte → SameNodes old reserved
     → byte < 256 → ChildSpot text reserved root spot byte key
 child-reserved {text = text} old reserved {root = root} (tree, alone, lacks) same fits = record { tree = tree; alone = alone-same text old reserved same root tree alone; lacks = lacks; fits = fits }
 
-module _ {K V : Type 0} {P : ℕ} {text : K → List ℕ} {old : ArenaOf K V P} {root : OpaqueNodePtr K V P} {spot : Spot K V P} {byte : ℕ} {key : K} (child_spot : ChildSpot text old root spot byte key) where
+module _ {K V : Type 0} {P : ℕ} {text : K → List ℕ} {old : NodeArena K V P} {root : OpaqueNodePtr K V P} {spot : Spot K V P} {byte : ℕ} {key : K} (child_spot : ChildSpot text old root spot byte key) where
   abbrev lacks : LacksChild child_spot.tree (text key) spot byte
   lacks = child_spot.lacks
 
@@ -122,7 +122,7 @@ module _ {K V : Type 0} {P : ℕ} {text : K → List ℕ} {old : ArenaOf K V P} 
   there-inner = inner-kind old spot.node node-is is-there
 
   -- the node is as it was once the leaf is linked
-  module _ (linked : ArenaOf K V P) (leaf : OpaqueNodePtr K V P) (free : held old leaf ≡ Nothing) (stays : (p : OpaqueNodePtr K V P) → p ≢ leaf → StaysAt old linked p) where
+  module _ (linked : NodeArena K V P) (leaf : OpaqueNodePtr K V P) (free : held old leaf ≡ Nothing) (stays : (p : OpaqueNodePtr K V P) → p ≢ leaf → StaysAt old linked p) where
     pub is-linked : held linked spot.node ≡ HeldInner node-is
     is-linked = (stays spot.node (λ same. there-held (ap (held old) same ∙ free))).keeps.inner node-is is-there
 
@@ -141,7 +141,7 @@ module _ {K V : Type 0} {P : ℕ} {text : K → List ℕ} {old : ArenaOf K V P} 
         subst (λ n. 0 < n) (sym (others (grown_kind (node_kind spot.node)) (grown-inner (node_kind spot.node) there-inner))) was
 
     -- the leaf is a child of the node, which may be at another place
-    module _ (new : ArenaOf K V P) (top : OpaqueNodePtr K V P) (value : V) (entry : HoldsEntry linked leaf key value) (distinct : AreDistinct (places (plug around_it node_there))) (more : HasOneMore linked new spot.node node-is (nodes.node_with_child node-is byte leaf) top) where
+    module _ (new : NodeArena K V P) (top : OpaqueNodePtr K V P) (value : V) (entry : HoldsEntry linked leaf key value) (distinct : AreDistinct (places (plug around_it node_there))) (more : HasOneMore linked new spot.node node-is (nodes.node_with_child node-is byte leaf) top) where
       pub child-steps : AreSteps text old linked new around_it node_there root leaf top key value
       child-steps = record {
         stood = alone-there.is_tree.stands;
@@ -173,7 +173,7 @@ module _ {K V : Type 0} {P : ℕ} {text : K → List ℕ} {old : ArenaOf K V P} 
             | inr moved ↦ moved.replaced.kind ∙ ap grown_kind kind ∙ sym (kind-grows n (moved.full ∙ ap most_children kind) few) ∙ ap (λ m. kind_for (m + 1)) count
           ]
 
-      pub child-taken : (last : ArenaOf K V P) (root_now : OpaqueNodePtr K V P) (hung : IsHung new last (above around_it) top root root_now) (short : length (text key) < 2 ^ 32) (spelled : Spells linked (keys_of (leaves_before around_it ++ branch_leaves gap-there.before) ++ opaque_key leaf ∷ keys_of (branch_leaves gap-there.after ++ leaves_after around_it)))
+      pub child-taken : (last : NodeArena K V P) (root_now : OpaqueNodePtr K V P) (hung : IsHung new last (above around_it) top root root_now) (short : length (text key) < 2 ^ 32) (spelled : Spells linked (keys_of (leaves_before around_it ++ branch_leaves gap-there.before) ++ opaque_key leaf ∷ keys_of (branch_leaves gap-there.after ++ leaves_after around_it)))
           → HasTaken text old linked new around_it node_there root leaf top key value child-steps last root_now hung lacks.prefix gap-there.before gap-there.after byte
       child-taken last root_now hung short spelled = record {
         place = gap-there.place;
@@ -210,12 +210,12 @@ module _ {K V : Type 0} {P : ℕ} {text : K → List ℕ} {old : ArenaOf K V P} 
               (All-contains (λ other. other ≢ spot.node) (branch_places lacks.branches) q (distinct-part around_it node_there distinct).0 below)
 
 -- an inner node has a child more, whatever node it is
-abbrev pub ChildAdded : {K V : Type 0} {P : ℕ} → ArenaOf K V P → ArenaOf K V P → OpaqueNodePtr K V P → ℕ → OpaqueNodePtr K V P → OpaqueNodePtr K V P → Type 0
+abbrev pub ChildAdded : {K V : Type 0} {P : ℕ} → NodeArena K V P → NodeArena K V P → OpaqueNodePtr K V P → ℕ → OpaqueNodePtr K V P → OpaqueNodePtr K V P → Type 0
 ChildAdded linked new pointer byte child top = (node : nodes.Inner (OpaqueNodePtr _ _ _)) → held linked pointer ≡ HeldInner node → HasOneMore linked new pointer node (nodes.node_with_child node byte child) top
 
-module _ {K V : Type 0} {P : ℕ} {text : K → List ℕ} {old : ArenaOf K V P} {root : OpaqueNodePtr K V P} {spot : Spot K V P} {byte : ℕ} {key : K} (child_spot : ChildSpot text old root spot byte key)
-    (linked : ArenaOf K V P) (leaf : OpaqueNodePtr K V P) (free : held old leaf ≡ Nothing) (stays : (p : OpaqueNodePtr K V P) → p ≢ leaf → StaysAt old linked p) (new : ArenaOf K V P) (top : OpaqueNodePtr K V P) (value : V) (entry : HoldsEntry linked leaf key value)
-    (one_place : (arena : ArenaOf K V P) (path : List ℕ) (t : Tree (OpaqueNodePtr K V P)) → StandsIn text arena t → IsSound path t → AreDistinct (places t)) (added : ChildAdded linked new spot.node byte leaf top) where
+module _ {K V : Type 0} {P : ℕ} {text : K → List ℕ} {old : NodeArena K V P} {root : OpaqueNodePtr K V P} {spot : Spot K V P} {byte : ℕ} {key : K} (child_spot : ChildSpot text old root spot byte key)
+    (linked : NodeArena K V P) (leaf : OpaqueNodePtr K V P) (free : held old leaf ≡ Nothing) (stays : (p : OpaqueNodePtr K V P) → p ≢ leaf → StaysAt old linked p) (new : NodeArena K V P) (top : OpaqueNodePtr K V P) (value : V) (entry : HoldsEntry linked leaf key value)
+    (one_place : (arena : NodeArena K V P) (path : List ℕ) (t : Tree (OpaqueNodePtr K V P)) → StandsIn text arena t → IsSound path t → AreDistinct (places t)) (added : ChildAdded linked new spot.node byte leaf top) where
   abbrev context : Context (OpaqueNodePtr K V P)
   context = around_it child_spot
 
@@ -243,7 +243,7 @@ module _ {K V : Type 0} {P : ℕ} {text : K → List ℕ} {old : ArenaOf K V P} 
   pub child-hangs : CanHang new spot.parent
   child-hangs = subst (CanHang new) child_spot.lacks.at.hangs (can-hang text old linked new context part root leaf top key value steps-there)
 
-  module _ (last : ArenaOf K V P) (root_now : OpaqueNodePtr K V P) (hung : IsHung new last spot.parent top root root_now) (short : length (text key) < 2 ^ 32) (end : End) (sibling : ℕ) (beside : StandsBeside end (branch_leaves there.before) (branch_leaves there.after) (opaque_pointer kinds.Leaf sibling))
+  module _ (last : NodeArena K V P) (root_now : OpaqueNodePtr K V P) (hung : IsHung new last spot.parent top root root_now) (short : length (text key) < 2 ^ 32) (end : End) (sibling : ℕ) (beside : StandsBeside end (branch_leaves there.before) (branch_leaves there.after) (opaque_pointer kinds.Leaf sibling))
       (spells : (left right : List ℕ) → Spells old (left ++ right) → IsBeside end left right sibling → Spells linked (left ++ opaque_key leaf ∷ right)) where
     hung-there : IsHung new last (above context) top root root_now
     hung-there = subst (λ parent. IsHung new last parent top root root_now) (sym child_spot.lacks.at.hangs) hung

@@ -13,7 +13,7 @@ use Rattle.art_nodes.specs.Leaf.{leaf_key}
 use Rattle.art_nodes.specs.Pointers.{node_kind, opaque_key, opaque_pointer}
 use Rattle.art_nodes.specs.declared.pointers.OpaqueNodePtr.{OpaqueNodePtr}
 use Rattle.art_nodes.specs.declared.leaf_node.LeafNode.{LeafNode}
-use Rattle.art_arena.specs.Arena.{ArenaOf, Held, HeldInner, HeldLeaf, Nothing, held, Changes, SameNodes}
+use Rattle.art_arena.specs.Arena.{NodeArena, Held, HeldInner, HeldLeaf, Nothing, held, Changes, SameNodes}
 use Rattle.art_arena.specs.Links.{AreDistinct, HoldsLeaf, Spells, text_at}
 use Rattle.art_arena.specs.Standing.{NodeStands, StandsIn, AllStandIn, TreeAt}
 use Rattle.art_arena.specs.Trees.{Tree, Leaf, Inner, Branches, NoBranch, Branch, branch_roots, root_of, leaves, branch_leaves, texts, places, branch_places, IsSound, AreSound}
@@ -23,12 +23,12 @@ use Rattle.art_tree.specs.Edits.{HasGap, HoldsEntry, IsBeside, LiesBeside, Stays
 use Rattle.art_arena.specs.Ends.{IsAtEnd}
 use Rattle.art_tree.specs.Hanging.{CanHang, IsHung, StandsBeside}
 use Rattle.art_tree.specs.Insertion.{IsEntered}
-use Rattle.art_tree.specs.Places.{above, Parts}
+use Rattle.art_tree.specs.InsertionPoints.{above, Parts}
 use Rattle.art_tree.specs.Nodes.{IsPlaced, node_of, node_with_prefix}
 use Rattle.art_arena.specs.declared.ends.End.{End}
 use Rattle.art_arena.specs.declared.ends.End.TheVariants.{First, Last}
-use Rattle.art_tree.specs.declared.insert.place.Fork.{Fork}
-use Rattle.art_tree.specs.declared.insert.place.Spot.{Spot}
+use Rattle.art_tree.specs.declared.insert.insertion_point.Mismatch.{Mismatch}
+use Rattle.art_tree.specs.declared.insert.insertion_point.Spot.{Spot}
 use Rattle.art_tree.proofs.InsertLemmas.AddedLeaf.{AreSteps, HasTaken, below-kept, can-hang, last-others, leaves-kept, tree-added}
 use Rattle.art_tree.proofs.SharedLemmas.BranchLemmas.{leaves-join, one_branch}
 use Rattle.art_tree.proofs.SharedLemmas.ChangedTree.{place-held, root-place}
@@ -75,20 +75,20 @@ module _ {H : Type 0} where
           subst (λ e. StandsBeside e (branch_leaves (branches_left byte other (ltrimmed len part))) (branch_leaves (branches_right byte other (ltrimmed len part))) p) (sym last) (rw upto (x, (others, alone ∙ at)))
 
 -- a key differs from the texts at a spot of a tree that is alone in an arena
-pub record ForkPlace {K V : Type 0} {P : ℕ} (text : K → List ℕ) (arena : ArenaOf K V P) (root : OpaqueNodePtr K V P) (spot : Spot K V P) (fork : Fork) (key : K) : Type 0 where
+pub record ForkPoint {K V : Type 0} {P : ℕ} (text : K → List ℕ) (arena : NodeArena K V P) (root : OpaqueNodePtr K V P) (spot : Spot K V P) (mismatch : Mismatch) (key : K) : Type 0 where
   pub tree : Tree (OpaqueNodePtr K V P)
   pub alone : IsAlone text arena root tree
-  pub parts : Parts tree (text key) spot fork
-  pub fits : fork.byte < 256
-  pub node_fits : fork.node_byte < 256
+  pub parts : Parts tree (text key) spot mismatch
+  pub fits : mismatch.byte < 256
+  pub node_fits : mismatch.node_byte < 256
 
 -- also after spare capacity was made in the arena
-pub fork-reserved : {K V : Type 0} {P : ℕ} {text : K → List ℕ} (old reserved : ArenaOf K V P) {root : OpaqueNodePtr K V P} {spot : Spot K V P} {fork : Fork} {key : K} → (tree : Tree (OpaqueNodePtr K V P)) × IsAlone text old root tree × Parts tree (text key) spot fork → SameNodes old reserved
-    → (fork.byte < 256) × (fork.node_byte < 256) → ForkPlace text reserved root spot fork key
+pub fork-reserved : {K V : Type 0} {P : ℕ} {text : K → List ℕ} (old reserved : NodeArena K V P) {root : OpaqueNodePtr K V P} {spot : Spot K V P} {mismatch : Mismatch} {key : K} → (tree : Tree (OpaqueNodePtr K V P)) × IsAlone text old root tree × Parts tree (text key) spot mismatch → SameNodes old reserved
+    → (mismatch.byte < 256) × (mismatch.node_byte < 256) → ForkPoint text reserved root spot mismatch key
 fork-reserved {text = text} old reserved {root = root} (tree, alone, parts) same (fits, node_fits) = record { tree = tree; alone = alone-same text old reserved same root tree alone; parts = parts; fits = fits; node_fits = node_fits }
 
-module _ {K V : Type 0} {P : ℕ} {text : K → List ℕ} {old : ArenaOf K V P} {root : OpaqueNodePtr K V P} {spot : Spot K V P} {fork : Fork} {key : K} (fork_place : ForkPlace text old root spot fork key) where
-  abbrev parts : Parts fork_place.tree (text key) spot fork
+module _ {K V : Type 0} {P : ℕ} {text : K → List ℕ} {old : NodeArena K V P} {root : OpaqueNodePtr K V P} {spot : Spot K V P} {mismatch : Mismatch} {key : K} (fork_place : ForkPoint text old root spot mismatch key) where
+  abbrev parts : Parts fork_place.tree (text key) spot mismatch
   parts = fork_place.parts
 
   abbrev pub around_it : Context (OpaqueNodePtr K V P)
@@ -99,19 +99,19 @@ module _ {K V : Type 0} {P : ℕ} {text : K → List ℕ} {old : ArenaOf K V P} 
 
   -- what the key shares with the part, and how many bytes the part's prefix is trimmed by
   abbrev pub shared_there : List ℕ
-  shared_there = take (fork.index - length (path_to around_it)) (drop (length (path_to around_it)) (text key))
+  shared_there = take (mismatch.index - length (path_to around_it)) (drop (length (path_to around_it)) (text key))
 
   abbrev pub len_there : ℕ
-  len_there = fork.index + 1 - length (path_to around_it)
+  len_there = mismatch.index + 1 - length (path_to around_it)
 
   abbrev pub trimmed_there : Tree (OpaqueNodePtr K V P)
   trimmed_there = ltrimmed len_there part_there
 
   abbrev pub left_there : Branches (OpaqueNodePtr K V P)
-  left_there = branches_left fork.byte fork.node_byte trimmed_there
+  left_there = branches_left mismatch.byte mismatch.node_byte trimmed_there
 
   abbrev pub right_there : Branches (OpaqueNodePtr K V P)
-  right_there = branches_right fork.byte fork.node_byte trimmed_there
+  right_there = branches_right mismatch.byte mismatch.node_byte trimmed_there
 
   pub alone-there : IsAlone text old root (plug around_it part_there)
   alone-there = subst (IsAlone text old root) (sym parts.at.whole) fork_place.alone
@@ -122,35 +122,35 @@ module _ {K V : Type 0} {P : ℕ} {text : K → List ℕ} {old : ArenaOf K V P} 
   pub sound-there : IsSound (path_to around_it) part_there
   sound-there = sound-part around_it part_there alone-there.is_tree.sound
 
-  pub past-there : length (path_to around_it) ≤ fork.index
+  pub past-there : length (path_to around_it) ≤ mismatch.index
   past-there = omega (arith, parts.at.deep, parts.later)
 
-  pub fork-there : HasForkPlace (path_to around_it) shared_there (text key) fork.byte fork.node_byte len_there part_there
-  fork-there = fork-place (path_to around_it) part_there (text key) fork.index fork.byte fork.node_byte sound-there parts.at.leads past-there parts.byte fork_place.fits fork_place.node_fits parts.differ parts.node
+  pub fork-there : HasForkPlace (path_to around_it) shared_there (text key) mismatch.byte mismatch.node_byte len_there part_there
+  fork-there = fork-place (path_to around_it) part_there (text key) mismatch.index mismatch.byte mismatch.node_byte sound-there parts.at.leads past-there parts.byte fork_place.fits fork_place.node_fits parts.differ parts.node
 
   abbrev pub tree-there : TreeAt text old spot.node
   tree-there = record { tree = part_there; path = path_to around_it; at_root = parts.at.at_root; stands = stands-there; sound = sound-there }
 
   pub leaves-there : leaves part_there ≡ branch_leaves left_there ++ branch_leaves right_there
-  leaves-there = sym (leaves-trimmed len_there part_there) ∙ sym (leaves-sides fork.byte fork.node_byte trimmed_there) ∙ leaves-join left_there right_there
+  leaves-there = sym (leaves-trimmed len_there part_there) ∙ sym (leaves-sides mismatch.byte mismatch.node_byte trimmed_there) ∙ leaves-join left_there right_there
 
   -- the leaf on the key's side of the part is beside the gap for the key
-  module _ (end : End) (sibling : ℕ) (at_end : IsAtEnd end (leaves part_there) (opaque_pointer kinds.Leaf sibling)) (end_is : end ≡ (if nat_lt fork.byte fork.node_byte then First else Last)) where
+  module _ (end : End) (sibling : ℕ) (at_end : IsAtEnd end (leaves part_there) (opaque_pointer kinds.Leaf sibling)) (end_is : end ≡ (if nat_lt mismatch.byte mismatch.node_byte then First else Last)) where
     pub beside-there : StandsBeside end (branch_leaves left_there) (branch_leaves right_there) (opaque_pointer kinds.Leaf sibling)
-    beside-there = beside-tree fork.byte fork.node_byte len_there part_there end (opaque_pointer kinds.Leaf sibling) end_is at_end
+    beside-there = beside-tree mismatch.byte mismatch.node_byte len_there part_there end (opaque_pointer kinds.Leaf sibling) end_is at_end
 
   module _ (end : End) (sibling : ℕ) (beside : StandsBeside end (branch_leaves left_there) (branch_leaves right_there) (opaque_pointer kinds.Leaf sibling)) where
     pub gap-there : HasGap old end sibling
     gap-there = gap text old root around_it part_there left_there right_there alone-there leaves-there end sibling beside
 
     pub lies-there : length (text key) < 2 ^ 32 → ((path : List ℕ) (t : Tree (OpaqueNodePtr K V P)) → IsSound path t → AllPairs (λ a b. text_order a b ≡ Less) (texts t)) → LiesBeside end (text key) (text_at text old sibling)
-    lies-there short ascend = lies text old root around_it part_there left_there right_there alone-there leaves-there end sibling beside shared_there fork.byte (text key) fork-there.place fork-there.leads (omega (arith, short)) ascend
+    lies-there short ascend = lies text old root around_it part_there left_there right_there alone-there leaves-there end sibling beside shared_there mismatch.byte (text key) fork-there.place fork-there.leads (omega (arith, short)) ascend
 
   pub there-held : held old spot.node ≢ Nothing
   there-held = subst (λ p. held old p ≢ Nothing) parts.at.at_root (place-held text old part_there stands-there (root_of part_there) (root-place part_there))
 
   -- the node is as it was once the leaf is linked, but for a leaf's links
-  module _ (linked : ArenaOf K V P) (leaf : OpaqueNodePtr K V P) (free : held old leaf ≡ Nothing) (stays : (p : OpaqueNodePtr K V P) → p ≢ leaf → StaysAt old linked p) where
+  module _ (linked : NodeArena K V P) (leaf : OpaqueNodePtr K V P) (free : held old leaf ≡ Nothing) (stays : (p : OpaqueNodePtr K V P) → p ≢ leaf → StaysAt old linked p) where
     not-new : (p : OpaqueNodePtr K V P) → held old p ≢ Nothing → p ≢ leaf
     not-new p was same = was (ap (held old) same ∙ free)
 
@@ -192,7 +192,7 @@ module _ {K V : Type 0} {P : ℕ} {text : K → List ℕ} {old : ArenaOf K V P} 
         by_held (HeldInner node) is = let wrong : HeldInner node ≡ Nothing = sym (linked-inner node is) ∙ none in absurd (cc)
         by_held (HeldLeaf l) is = let now = (stays spot.node (not-new spot.node there-held)).keeps.leaf l is in let wrong : HeldLeaf now.0 ≡ Nothing = sym now.1 ∙ none in absurd (cc)
 
-    pub within-there : (node : nodes.Inner (OpaqueNodePtr K V P)) → held linked spot.node ≡ HeldInner node → fork.index + 1 - spot.depth ≤ node.prefix_len
+    pub within-there : (node : nodes.Inner (OpaqueNodePtr K V P)) → held linked spot.node ≡ HeldInner node → mismatch.index + 1 - spot.depth ≤ node.prefix_len
     within-there node is =
         let inner = linked-there node is in
         let enough = fork-there.fits spot.node inner.prefix inner.branches inner.part in
@@ -235,8 +235,8 @@ module _ {K V : Type 0} {P : ℕ} {text : K → List ℕ} {old : ArenaOf K V P} 
           omega (arith, parts.at.deep, inner.shows.prefix_len, length-append (path_to around_it) inner.prefix, ap length begins.1, length-append (path_to around_it ++ inner.prefix) begins.0, ap length sibling-has)
 
       -- the arena once the node is trimmed
-      module _ (cut : ArenaOf K V P) (leaf_same : node_kind spot.node ≡ kinds.Leaf → SameNodes linked cut)
-          (trims : (node : nodes.Inner (OpaqueNodePtr K V P)) (path prefix rest : List ℕ) → held linked spot.node ≡ HeldInner node → length path ≡ spot.depth → text_at text linked sibling ≡ path ++ prefix ++ rest → StandsFor P (header_of node) prefix → Changes linked cut spot.node (HeldInner (node_with_prefix P node (drop (fork.index + 1 - spot.depth) prefix)))) where
+      module _ (cut : NodeArena K V P) (leaf_same : node_kind spot.node ≡ kinds.Leaf → SameNodes linked cut)
+          (trims : (node : nodes.Inner (OpaqueNodePtr K V P)) (path prefix rest : List ℕ) → held linked spot.node ≡ HeldInner node → length path ≡ spot.depth → text_at text linked sibling ≡ path ++ prefix ++ rest → StandsFor P (header_of node) prefix → Changes linked cut spot.node (HeldInner (node_with_prefix P node (drop (mismatch.index + 1 - spot.depth) prefix)))) where
         pub record IsTrimmed : Type 0 where
           pub others : (p : OpaqueNodePtr K V P) → (p ≡ spot.node → (l : LeafNode K V P) × (held linked p ≡ HeldLeaf l)) → held cut p ≡ held linked p
           pub is_held : held cut spot.node ≢ Nothing
@@ -256,16 +256,16 @@ module _ {K V : Type 0} {P : ℕ} {text : K → List ℕ} {old : ArenaOf K V P} 
                 let changes = trims node (path_to around_it) inner.prefix begins.0 is parts.at.deep (sibling-has ∙ begins.1) (λ i. record { count = length node.children; prefix_len = inner.shows.prefix_len i; stored = inner.shows.stored i }) in
                 record {
                   others = λ p there. elim (cases_pointer p spot.node) [ inr differ ↦ changes.others p differ | inl same ↦ (let l = there same in let wrong : HeldInner node ≡ HeldLeaf l.0 = sym is ∙ ap (held linked) (sym same) ∙ l.1 in absurd (cc)) ];
-                  is_held = λ none. (let wrong : HeldInner (node_with_prefix P node (drop (fork.index + 1 - spot.depth) inner.prefix)) ≡ Nothing = sym changes.changed ∙ none in absurd (cc));
+                  is_held = λ none. (let wrong : HeldInner (node_with_prefix P node (drop (mismatch.index + 1 - spot.depth) inner.prefix)) ≡ Nothing = sym changes.changed ∙ none in absurd (cc));
                   inner = λ own own_is.
                       let one = one-inner (held linked spot.node) node own is own_is in (
-                        node_with_prefix P node (drop (fork.index + 1 - spot.depth) inner.prefix),
+                        node_with_prefix P node (drop (mismatch.index + 1 - spot.depth) inner.prefix),
                         changes.changed,
                         λ prefix branches same.
                             let both : Inner spot.node inner.prefix inner.branches ≡ Inner spot.node prefix branches = sym inner.part ∙ same in
                             let prefix_is : inner.prefix ≡ prefix = cc in
                             let branches_are : inner.branches ≡ branches = cc in
-                            let len_is : drop (fork.index + 1 - spot.depth) inner.prefix ≡ drop len_there prefix = ap (λ p. drop (fork.index + 1 - spot.depth) p) prefix_is ∙ ap (λ d. drop (fork.index + 1 - d) prefix) (sym parts.at.deep) in
+                            let len_is : drop (mismatch.index + 1 - spot.depth) inner.prefix ≡ drop len_there prefix = ap (λ p. drop (mismatch.index + 1 - spot.depth) p) prefix_is ∙ ap (λ d. drop (mismatch.index + 1 - d) prefix) (sym parts.at.deep) in
                             record {
                               prefix_len = ap length len_is;
                               stored = ap (λ p. take (capped P (length p)) p) len_is;
@@ -288,11 +288,11 @@ module _ {K V : Type 0} {P : ℕ} {text : K → List ℕ} {old : ArenaOf K V P} 
           pub text-cut : text_at text cut slot ≡ text key
           text-cut = text-held text cut slot entry.leaf (ap (held cut) (sym leaf_is) ∙ leaf-cut) ∙ ap text entry.key
 
-          pub index-within : fork.index ≤ length (text_at text cut slot)
-          index-within = omega (arith, slice_get_within (text key) fork.index fork.byte parts.byte, ap length text-cut)
+          pub index-within : mismatch.index ≤ length (text_at text cut slot)
+          index-within = omega (arith, slice_get_within (text key) mismatch.index mismatch.byte parts.byte, ap length text-cut)
 
-          module _ (new : ArenaOf K V P) (top : OpaqueNodePtr K V P) (one_place : (arena : ArenaOf K V P) (path : List ℕ) (t : Tree (OpaqueNodePtr K V P)) → StandsIn text arena t → IsSound path t → AreDistinct (places t))
-              (placed : IsPlaced cut new kinds.Node4 (node_of P (take (fork.index - spot.depth) (drop spot.depth (text_at text cut slot))) (two_children fork.byte leaf fork.node_byte spot.node)) top) where
+          module _ (new : NodeArena K V P) (top : OpaqueNodePtr K V P) (one_place : (arena : NodeArena K V P) (path : List ℕ) (t : Tree (OpaqueNodePtr K V P)) → StandsIn text arena t → IsSound path t → AreDistinct (places t))
+              (placed : IsPlaced cut new kinds.Node4 (node_of P (take (mismatch.index - spot.depth) (drop spot.depth (text_at text cut slot))) (two_children mismatch.byte leaf mismatch.node_byte spot.node)) top) where
             distinct-there : AreDistinct (places (plug around_it part_there))
             distinct-there = one_place old [] (plug around_it part_there) alone-there.is_tree.stands alone-there.is_tree.sound
 
@@ -314,7 +314,7 @@ module _ {K V : Type 0} {P : ℕ} {text : K → List ℕ} {old : ArenaOf K V P} 
             pub fork-hangs : CanHang new spot.parent
             fork-hangs = subst (CanHang new) parts.at.hangs (can-hang text old linked new around_it part_there root leaf top key value fork-steps)
 
-            module _ (last : ArenaOf K V P) (root_now : OpaqueNodePtr K V P) (hung : IsHung new last spot.parent top root root_now) (short : length (text key) < 2 ^ 32) (end_is : end ≡ (if nat_lt fork.byte fork.node_byte then First else Last))
+            module _ (last : NodeArena K V P) (root_now : OpaqueNodePtr K V P) (hung : IsHung new last spot.parent top root root_now) (short : length (text key) < 2 ^ 32) (end_is : end ≡ (if nat_lt mismatch.byte mismatch.node_byte then First else Last))
                 (spells : (left right : List ℕ) → Spells old (left ++ right) → IsBeside end left right sibling → Spells linked (left ++ opaque_key leaf ∷ right)) where
               hung-there : IsHung new last (above around_it) top root root_now
               hung-there = subst (λ parent. IsHung new last parent top root root_now) (sym parts.at.hangs) hung
@@ -346,33 +346,33 @@ module _ {K V : Type 0} {P : ℕ} {text : K → List ℕ} {old : ArenaOf K V P} 
                       )
 
               sides-stand : AllStandIn text last left_there × AllStandIn text last right_there
-              sides-stand = by_test (nat_lt fork.byte fork.node_byte) refl
+              sides-stand = by_test (nat_lt mismatch.byte mismatch.node_byte) refl
                 where
-                  by_test : (test : Bool) → nat_lt fork.byte fork.node_byte ≡ test → AllStandIn text last left_there × AllStandIn text last right_there
+                  by_test : (test : Bool) → nat_lt mismatch.byte mismatch.node_byte ≡ test → AllStandIn text last left_there × AllStandIn text last right_there
                   by_test true is = rw is (tt, (trimmed-stands, tt))
                   by_test false is = rw is ((trimmed-stands, tt), tt)
 
-              shared-is : take (fork.index - spot.depth) (drop spot.depth (text_at text cut slot)) ≡ shared_there
-              shared-is = ap (λ t. take (fork.index - spot.depth) (drop spot.depth t)) text-cut ∙ ap (λ d. take (fork.index - d) (drop d (text key))) (sym parts.at.deep)
+              shared-is : take (mismatch.index - spot.depth) (drop spot.depth (text_at text cut slot)) ≡ shared_there
+              shared-is = ap (λ t. take (mismatch.index - spot.depth) (drop spot.depth t)) text-cut ∙ ap (λ d. take (mismatch.index - d) (drop d (text key))) (sym parts.at.deep)
 
-              taken-there : HasTaken text old linked new around_it part_there root leaf top key value fork-steps last root_now hung-there shared_there left_there right_there fork.byte
+              taken-there : HasTaken text old linked new around_it part_there root leaf top key value fork-steps last root_now hung-there shared_there left_there right_there mismatch.byte
               taken-there = record {
                 place = fork-there.place;
                 leads = fork-there.leads;
                 short = short;
-                node = node_of P shared_there (two_children fork.byte leaf fork.node_byte spot.node);
-                is_held = placed.changes.changed ∙ ap (λ s. HeldInner (node_of P s (two_children fork.byte leaf fork.node_byte spot.node))) shared-is;
-                shows = record { prefix_len = refl; stored = refl; children = ap (two_children fork.byte leaf fork.node_byte) (sym parts.at.at_root) ∙ fork-there.written leaf (text key) };
+                node = node_of P shared_there (two_children mismatch.byte leaf mismatch.node_byte spot.node);
+                is_held = placed.changes.changed ∙ ap (λ s. HeldInner (node_of P s (two_children mismatch.byte leaf mismatch.node_byte spot.node))) shared-is;
+                shows = record { prefix_len = refl; stored = refl; children = ap (two_children mismatch.byte leaf mismatch.node_byte) (sym parts.at.at_root) ∙ fork-there.written leaf (text key) };
                 stand_before = sides-stand.0;
                 stand_after = sides-stand.1;
                 same_leaves = leaves-there;
                 spelled = spelled-there;
-                gone = λ p inside. inl (in-taken shared_there top left_there fork.byte leaf (text key) right_there p (inr (inr (subst (λ all. Contains all p) (sym (places-sides fork.byte fork.node_byte trimmed_there ∙ places-trimmed len_there part_there)) inside))));
-                smallest_kinds = (let sides = smallest_kinds-sides fork.byte fork.node_byte trimmed_there (smallest_kinds-trimmed len_there part_there (smallest_kinds-part around_it part_there alone-there.smallest_kinds)) in
-                    smallest_kinds-taken top shared_there left_there fork.byte leaf (text key) right_there (placed.is_kind ∙ ap (λ b. kind_for (length (branch_roots b) + 1)) (sym (both-sides fork.byte fork.node_byte trimmed_there))) sides.0 sides.1);
+                gone = λ p inside. inl (in-taken shared_there top left_there mismatch.byte leaf (text key) right_there p (inr (inr (subst (λ all. Contains all p) (sym (places-sides mismatch.byte mismatch.node_byte trimmed_there ∙ places-trimmed len_there part_there)) inside))));
+                smallest_kinds = (let sides = smallest_kinds-sides mismatch.byte mismatch.node_byte trimmed_there (smallest_kinds-trimmed len_there part_there (smallest_kinds-part around_it part_there alone-there.smallest_kinds)) in
+                    smallest_kinds-taken top shared_there left_there mismatch.byte leaf (text key) right_there (placed.is_kind ∙ ap (λ b. kind_for (length (branch_roots b) + 1)) (sym (both-sides mismatch.byte mismatch.node_byte trimmed_there))) sides.0 sides.1);
               }
 
               -- the tree has the leaf, and its entries that of the leaf
               pub fork-added : ((path : List ℕ) (t : Tree (OpaqueNodePtr K V P)) → IsSound path t → AreApart (texts t)) → IsArt text last (Some root_now) × IsEntered text old last key value
               fork-added =
-                  tree-added text old linked new around_it part_there root leaf top key value fork-steps last root_now hung-there shared_there left_there right_there fork.byte taken-there alone-there
+                  tree-added text old linked new around_it part_there root leaf top key value fork-steps last root_now hung-there shared_there left_there right_there mismatch.byte taken-there alone-there

@@ -8,7 +8,7 @@ use Rattle.art_nodes.specs.Inner as nodes
 use Rattle.art_nodes.specs.Pointers.{opaque_key, opaque_pointer}
 use Rattle.art_nodes.specs.declared.pointers.OpaqueNodePtr.{OpaqueNodePtr}
 use Rattle.art_nodes.specs.declared.leaf_node.LeafNode.{LeafNode}
-use Rattle.art_arena.specs.Arena.{ArenaOf, HeldInner, HeldLeaf, Nothing, held, held_leaf, SameNodes}
+use Rattle.art_arena.specs.Arena.{NodeArena, HeldInner, HeldLeaf, Nothing, held, held_leaf, SameNodes}
 use Rattle.art_arena.specs.Links.{AreDistinct, Spells, leaf_at}
 use Rattle.art_arena.specs.Standing.{NodeStands, StandsIn, AllStandIn}
 use Rattle.art_arena.specs.Trees.{Tree, Leaf, Branches, Branch, leaves, branch_leaves, texts, branch_texts, places, root_of, IsSound}
@@ -19,7 +19,7 @@ use Rattle.art_tree.specs.Edits.{HoldsEntry, StaysAt}
 use Rattle.art_tree.specs.Hanging.{CanHang, IsHung}
 use Rattle.art_tree.specs.Insertion.{IsEntered}
 use Rattle.art_tree.specs.Loading.{HasSmallestKinds, leaf_pointers}
-use Rattle.art_tree.specs.Places.{above}
+use Rattle.art_tree.specs.InsertionPoints.{above}
 use Rattle.art_tree.proofs.SharedLemmas.ChangedTree.{HangsAt, IsAbove, can-hang-at, hangs-at, held-on, keeps-on, leaf-no-parent, parent-above, place-held, root-place, was-leaf}
 use Rattle.art_tree.proofs.SharedLemmas.DictionaryLemmas.{AreApart, held-entry, leaf-held-in}
 use Rattle.art_tree.proofs.SharedLemmas.ExchangedSubtree.{in-part, leaves-plug}
@@ -56,7 +56,7 @@ texts-filled P part prefix top before byte leaf x after same each new =
 
 -- the steps of an insert: from the first arena to the next a leaf is linked, from there to the
 -- third the node at the place is changed, and then a node is put there
-module _ {K V : Type 0} {P : ℕ} (text : K → List ℕ) (old linked new : ArenaOf K V P) (context : Context (OpaqueNodePtr K V P)) (part : Tree (OpaqueNodePtr K V P)) (root leaf top : OpaqueNodePtr K V P) (key : K) (value : V) where
+module _ {K V : Type 0} {P : ℕ} (text : K → List ℕ) (old linked new : NodeArena K V P) (context : Context (OpaqueNodePtr K V P)) (part : Tree (OpaqueNodePtr K V P)) (root leaf top : OpaqueNodePtr K V P) (key : K) (value : V) where
   pub record AreSteps : Type 0 where
     pub stood : StandsIn text old (plug context part)
     pub was_root : root_of (plug context part) ≡ root
@@ -96,7 +96,7 @@ module _ {K V : Type 0} {P : ℕ} (text : K → List ℕ) (old linked new : Aren
     pub can-hang : CanHang new (above context)
     can-hang = can-hang-at text old new context part steps.stood parent-kept
 
-    module _ (last : ArenaOf K V P) (root_now : OpaqueNodePtr K V P) (hung : IsHung new last (above context) top root root_now) where
+    module _ (last : NodeArena K V P) (root_now : OpaqueNodePtr K V P) (hung : IsHung new last (above context) top root root_now) where
       hangs : HangsAt old new last context top root_now part
       hangs = hangs-at text old new last context part top root root_now steps.stood steps.was_root parent-kept hung
 
@@ -246,7 +246,7 @@ module _ {K V : Type 0} {P : ℕ} (text : K → List ℕ) (old linked new : Aren
               ((plug context taken, now), added-entered alone (apart [] (plug context part) alone.is_tree.sound) (apart [] (plug context taken) now.is_tree.sound))
 
 -- where the first step only made spare capacity, what is added after it is added by both
-pub entered-from : {K V : Type 0} {P : ℕ} (text : K → List ℕ) (old reserved last : ArenaOf K V P) (key : K) (value : V) (root : OpaqueNodePtr K V P) (tree : Tree (OpaqueNodePtr K V P)) → IsAlone text old root tree → AreApart (texts tree) → SameNodes old reserved
+pub entered-from : {K V : Type 0} {P : ℕ} (text : K → List ℕ) (old reserved last : NodeArena K V P) (key : K) (value : V) (root : OpaqueNodePtr K V P) (tree : Tree (OpaqueNodePtr K V P)) → IsAlone text old root tree → AreApart (texts tree) → SameNodes old reserved
     → IsEntered text reserved last key value → IsEntered text old last key value
 entered-from text old reserved last key value root tree alone apart same entered =
     record { entry = entered.entry; others = λ x differ. entered.others x differ ∙ entries-stay text old reserved same root tree alone apart x; leaves = λ p l is differ. entered.leaves p l (same p ∙ is) differ }

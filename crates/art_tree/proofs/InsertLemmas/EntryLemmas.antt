@@ -5,17 +5,17 @@ use Rattle.std.proofs.lemmas.List.Elements.{Contains-append_right, Contains-appe
 use Rattle.art_bytes.specs.Text.{IsPrefixOf}
 use Rattle.art_nodes.specs.ChildMap.{child_at}
 use Rattle.art_nodes.specs.declared.pointers.OpaqueNodePtr.{OpaqueNodePtr}
-use Rattle.art_arena.specs.Arena.{ArenaOf, Nothing, held, SameNodes}
+use Rattle.art_arena.specs.Arena.{NodeArena, Nothing, held, SameNodes}
 use Rattle.art_arena.specs.Trees.{Tree, Leaf, Inner, Branches, NoBranch, Branch, branch_roots, root_of, leaves, branch_leaves, texts, IsSound, AreSound, IsWellFormed}
 use Rattle.art_tree.specs.Art.{IsAlone, IsArt}
 use Rattle.art_tree.specs.Contexts.{Context, plug, path_to, leaves_before, leaves_after}
 use Rattle.art_tree.specs.Dictionary.{entry_at, HasEntry, IsProperPrefixOf, Clashes, SameEntries}
 use Rattle.art_tree.specs.Insertion.{ClashesIn, IsEntered, IsRefused, MayEnter}
-use Rattle.art_tree.specs.Places.{IsSpot, LacksChild, Parts, reach}
+use Rattle.art_tree.specs.InsertionPoints.{IsSpot, LacksChild, Parts, reach}
 use Rattle.art_tree.specs.declared.insert.InsertFault.{InsertFault}
 use Rattle.art_tree.specs.declared.insert.InsertRefusal.TheVariants.{OutOfMemory}
-use Rattle.art_tree.specs.declared.insert.place.Fork.{Fork}
-use Rattle.art_tree.specs.declared.insert.place.Spot.{Spot}
+use Rattle.art_tree.specs.declared.insert.insertion_point.Mismatch.{Mismatch}
+use Rattle.art_tree.specs.declared.insert.insertion_point.Spot.{Spot}
 use Rattle.art_tree.proofs.SharedLemmas.DictionaryLemmas.{AreApart, after-first, empty-entry, held-entry, leaf-held-in, leaf-of-entry, leaf-with}
 use Rattle.art_tree.proofs.SharedLemmas.ExchangedSubtree.{the-one, leaves-plug, sound-part, sound-whole}
 use Rattle.art_bytes.proofs.PrefixLaws.{prefix-shorter, prefix-on}
@@ -125,14 +125,14 @@ module _ {K V : Type 0} {P : ℕ} (law : (tree : Tree (OpaqueNodePtr K V P)) →
       spot-apart lacks.at (λ q x inside. no-branch-apart (path ++ lacks.prefix) lacks.branches byte key under.2 lacks.absent lacks.leads q x (subst (λ part. Contains (leaves part) (q, x)) lacks.part inside))
 
   -- and so is one that differs from the texts at a node
-  pub fork-apart : (fork : Fork) → Parts tree key spot fork → (q : OpaqueNodePtr K V P) (x : List ℕ) → Contains (leaves tree) (q, x) → IsApart x key
-  fork-apart fork parts =
+  pub fork-apart : (mismatch : Mismatch) → Parts tree key spot mismatch → (q : OpaqueNodePtr K V P) (x : List ℕ) → Contains (leaves tree) (q, x) → IsApart x key
+  fork-apart mismatch parts =
       let path = path_to parts.at.context in
-      let front = take fork.index key in
-      spot-apart parts.at (λ q x inside. parted-apart front fork.node_byte fork.byte x key (λ same. parts.differ (sym same))
-      (prefix-on (front ++ fork.node_byte ∷ []) (reach path parts.at.part) x parts.node (reach-begins path parts.at.part q x (part-sound parts.at) inside)) (key-on key fork.index fork.byte parts.byte))
+      let front = take mismatch.index key in
+      spot-apart parts.at (λ q x inside. parted-apart front mismatch.node_byte mismatch.byte x key (λ same. parts.differ (sym same))
+      (prefix-on (front ++ mismatch.node_byte ∷ []) (reach path parts.at.part) x parts.node (reach-begins path parts.at.part q x (part-sound parts.at) inside)) (key-on key mismatch.index mismatch.byte parts.byte))
 
-module _ {K V : Type 0} {P : ℕ} (text : K → List ℕ) (arena : ArenaOf K V P) where
+module _ {K V : Type 0} {P : ℕ} (text : K → List ℕ) (arena : NodeArena K V P) where
   -- in an empty arena nothing but an allocation failure refuses a short text
   pub empty-new : ((pointer : OpaqueNodePtr K V P) → held arena pointer ≡ Nothing) → (key : List ℕ) → length key < 2 ^ 32 → IsRefused text arena key OutOfMemory
   empty-new nothing key short = ((short, λ clash. clash.1 (empty-entry text arena nothing clash.0)), empty-entry text arena nothing key)
@@ -188,12 +188,12 @@ module _ {K V : Type 0} {P : ℕ} (text : K → List ℕ) (arena : ArenaOf K V P
             absurd ((apart leaf.pointer key leaf.inside).0 ([], sym (append-nil key)))
 
 -- an arena that stays without nodes has no entry before and after
-module _ {K V : Type 0} {P : ℕ} (text : K → List ℕ) (old new : ArenaOf K V P) (same : SameNodes old new) where
+module _ {K V : Type 0} {P : ℕ} (text : K → List ℕ) (old new : NodeArena K V P) (same : SameNodes old new) where
   pub empty-stays : ((pointer : OpaqueNodePtr K V P) → held old pointer ≡ Nothing) → SameEntries text old new
   empty-stays nothing x = empty-entry text new (λ p. same p ∙ nothing p) x ∙ sym (empty-entry text old nothing x)
 
 -- the result of an insert of a text without an entry
-module _ {K V : Type 0} {P : ℕ} (text : K → List ℕ) (old new : ArenaOf K V P) (key : K) (value : V) (Lacks : Type 0) where
+module _ {K V : Type 0} {P : ℕ} (text : K → List ℕ) (old new : NodeArena K V P) (key : K) (value : V) (Lacks : Type 0) where
   pub record IsAnswered (result : Result (OpaqueNodePtr K V P × Option (K × V)) (InsertFault K V)) : Type 0 where
     pub art : IfOk result (λ pair. IsArt text new (Some pair.0))
     pub replaced : IfOk result (λ pair. pair.1 ≡ entry_at text old (text key))

@@ -6,7 +6,7 @@ use Rattle.art_nodes.specs.Pointers.{slab_key}
 use Rattle.art_nodes.specs.declared.pointers.NodePtr.{NodePtr}
 use Rattle.art_nodes.specs.declared.pointers.OpaqueNodePtr.{OpaqueNodePtr}
 use Rattle.art_nodes.specs.declared.leaf_node.LeafNode.{LeafNode}
-use Rattle.art_arena.specs.Arena.{ArenaOf, HeldLeaf, Nothing, held, Changes}
+use Rattle.art_arena.specs.Arena.{NodeArena, HeldLeaf, Nothing, held, Changes}
 use Rattle.art_arena.specs.Links.{Spells, leaf_at}
 use Rattle.art_arena.specs.Standing.{StandsIn}
 use Rattle.art_arena.specs.Trees.{Tree, Leaf, leaves, texts}
@@ -21,7 +21,7 @@ use Rattle.art_tree.proofs.SharedLemmas.ExchangedTree.{entries-but}
 use Rattle.art_tree.proofs.InsertLemmas.NodeLemmas.{one-leaf}
 use Rattle.art_tree.proofs.LoadLemmas.PlacedTrees.{cases_pointer, leaf-of}
 
-module _ {K V : Type 0} {P : ℕ} (text : K → List ℕ) (old new : ArenaOf K V P) (key : K) (value : V) where
+module _ {K V : Type 0} {P : ℕ} (text : K → List ℕ) (old new : NodeArena K V P) (key : K) (value : V) where
   -- a leaf alone in an arena is a tree
   module _ (empty : (pointer : OpaqueNodePtr K V P) → held old pointer ≡ Nothing) (at : NodePtr P (LeafNode K V P)) (leaf : LeafNode K V P) (changes : Changes old new (leaf_pointer at) (HeldLeaf leaf)) (is_key : leaf_key leaf ≡ key) (is_value : leaf_value leaf ≡ value) where
     alone-there : Tree (OpaqueNodePtr K V P)
@@ -54,7 +54,7 @@ module _ {K V : Type 0} {P : ℕ} (text : K → List ℕ) (old new : ArenaOf K V
             absurd (differ (sym (ap (λ pair. pair.1) one)))
 
 -- a leaf with another entry of the same text
-module _ {K V : Type 0} {P : ℕ} (text : K → List ℕ) (old new : ArenaOf K V P) (key : K) (value : V) (at : OpaqueNodePtr K V P) (was now : LeafNode K V P) (is : held old at ≡ HeldLeaf was) (changes : Changes old new at (HeldLeaf now)) (is_key : leaf_key now ≡ key) (is_value : leaf_value now ≡ value) where
+module _ {K V : Type 0} {P : ℕ} (text : K → List ℕ) (old new : NodeArena K V P) (key : K) (value : V) (at : OpaqueNodePtr K V P) (was now : LeafNode K V P) (is : held old at ≡ HeldLeaf was) (changes : Changes old new at (HeldLeaf now)) (is_key : leaf_key now ≡ key) (is_value : leaf_value now ≡ value) where
   module _ (same_text : text (leaf_key was) ≡ text key) (tree : Tree (OpaqueNodePtr K V P)) (stands_on : StandsIn text old tree → StandsIn text new tree) (spelled_on : (keys : List ℕ) → Spells old keys → Spells new keys) where
     pub replaced-alone : (root : OpaqueNodePtr K V P) → IsAlone text old root tree → IsAlone text new root tree
     replaced-alone root alone = record {

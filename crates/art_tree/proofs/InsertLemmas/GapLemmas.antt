@@ -8,7 +8,7 @@ use Rattle.art_header.specs.declared.node_type.NodeType.TheVariants as kinds
 use Rattle.art_nodes.specs.Leaf.{leaf_key}
 use Rattle.art_nodes.specs.Pointers.{opaque_key, opaque_pointer}
 use Rattle.art_nodes.specs.declared.pointers.OpaqueNodePtr.{OpaqueNodePtr}
-use Rattle.art_arena.specs.Arena.{ArenaOf, HeldLeaf, held}
+use Rattle.art_arena.specs.Arena.{NodeArena, HeldLeaf, held}
 use Rattle.art_arena.specs.Links.{Spells, text_at}
 use Rattle.art_arena.specs.Trees.{Tree, Branches, leaves, branch_leaves, texts, IsSound, IsWellFormed}
 use Rattle.art_tree.specs.Art.{IsAlone}
@@ -45,7 +45,7 @@ module _ {K V : Type 0} {P : ℕ} where
   keys-beside First left right p x (others, is) = (keys_of others, ap keys_of is)
   keys-beside Last left right p x (others, is) = (keys_of others, ap keys_of is ∙ keys-append others ((p, x) ∷ []))
 
-module _ {K V : Type 0} {P : ℕ} (text : K → List ℕ) (arena : ArenaOf K V P) (root : OpaqueNodePtr K V P) (context : Context (OpaqueNodePtr K V P)) (part : Tree (OpaqueNodePtr K V P)) (before after : Branches (OpaqueNodePtr K V P)) (alone : IsAlone text arena root (plug context part)) (same_leaves : leaves part ≡ branch_leaves before ++ branch_leaves after) where
+module _ {K V : Type 0} {P : ℕ} (text : K → List ℕ) (arena : NodeArena K V P) (root : OpaqueNodePtr K V P) (context : Context (OpaqueNodePtr K V P)) (part : Tree (OpaqueNodePtr K V P)) (before after : Branches (OpaqueNodePtr K V P)) (alone : IsAlone text arena root (plug context part)) (same_leaves : leaves part ≡ branch_leaves before ++ branch_leaves after) where
   abbrev left : List (OpaqueNodePtr K V P × List ℕ)
   left = leaves_before context ++ branch_leaves before
 

@@ -6,7 +6,7 @@ use Rattle.art_nodes.specs.Leaf.{leaf_key, leaf_value, previous_key, next_key}
 use Rattle.art_nodes.specs.Pointers.{node_kind, opaque_key, opaque_pointer}
 use Rattle.art_nodes.specs.declared.pointers.OpaqueNodePtr.{OpaqueNodePtr}
 use Rattle.art_nodes.specs.declared.leaf_node.LeafNode.{LeafNode}
-use Rattle.art_arena.specs.Arena.{ArenaOf, HeldLeaf, Nothing, held, held_leaf, Changes}
+use Rattle.art_arena.specs.Arena.{NodeArena, HeldLeaf, Nothing, held, held_leaf, Changes}
 use Rattle.art_arena.specs.Links.{HoldsLeaf, IsKnit, IsUnlinked, SameButLinks, Spells, leaf_at, text_at}
 use Rattle.art_tree.specs.Edits.{HasGap, HoldsEntry, IsBeside, StaysAt}
 use Rattle.art_arena.specs.declared.ends.End.{End}
@@ -17,19 +17,19 @@ use Rattle.art_arena.proofs.StandingLaws.{leaf_kind}
 
 module _ {K V : Type 0} {P : ℕ} where
   -- the leaf beside a gap is knit
-  pub knit-beside : (arena : ArenaOf K V P) (end : End) (key : ℕ) → AreKnit arena → HasGap arena end key → IsKnit arena key
+  pub knit-beside : (arena : NodeArena K V P) (end : End) (key : ℕ) → AreKnit arena → HasGap arena end key → IsKnit arena key
   knit-beside arena First key knit gap = knit gap.left gap.beside.0 key (subst (λ right. Spells arena (gap.left ++ right)) gap.beside.1 gap.spelled)
   knit-beside arena Last key knit gap =
       knit gap.beside.0 gap.right key (subst (Spells arena) (ap (λ left. left ++ gap.right) gap.beside.1 ∙ append_assoc gap.beside.0 (key ∷ []) gap.right) gap.spelled)
 
   -- a leaf linked before the first one right of a gap, and one linked after the last one left of it
-  pub spelled-before : (now new : ArenaOf K V P) (this sibling : ℕ) (left right : List ℕ)
+  pub spelled-before : (now new : NodeArena K V P) (this sibling : ℕ) (left right : List ℕ)
       → ((front back : List ℕ) → Spells now (front ++ sibling ∷ back) → Spells new (front ++ this ∷ sibling ∷ back))
       → Spells now (left ++ right) → IsBeside First left right sibling → Spells new (left ++ this ∷ right)
   spelled-before now new this sibling left right links s beside =
       subst (λ r. Spells new (left ++ this ∷ r)) (sym beside.1) (links left beside.0 (subst (λ r. Spells now (left ++ r)) beside.1 s))
 
-  pub spelled-after : (now new : ArenaOf K V P) (this sibling : ℕ) (left right : List ℕ)
+  pub spelled-after : (now new : NodeArena K V P) (this sibling : ℕ) (left right : List ℕ)
       → ((front back : List ℕ) → Spells now (front ++ sibling ∷ back) → Spells new (front ++ sibling ∷ this ∷ back))
       → Spells now (left ++ right) → IsBeside Last left right sibling → Spells new (left ++ this ∷ right)
   spelled-after now new this sibling left right links s beside =
@@ -37,7 +37,7 @@ module _ {K V : Type 0} {P : ℕ} where
       subst (Spells new) (sym (joined (this ∷ right))) (links beside.0 right (subst (Spells now) (joined right) s))
 
 -- a new leaf is allocated, and then linked
-module _ {K V : Type 0} {P : ℕ} (old now : ArenaOf K V P) (this : ℕ) (leaf : LeafNode K V P) (free : held old (opaque_pointer kinds.Leaf this) ≡ Nothing) (changes : Changes old now (opaque_pointer kinds.Leaf this) (HeldLeaf leaf)) where
+module _ {K V : Type 0} {P : ℕ} (old now : NodeArena K V P) (this : ℕ) (leaf : LeafNode K V P) (free : held old (opaque_pointer kinds.Leaf this) ≡ Nothing) (changes : Changes old now (opaque_pointer kinds.Leaf this) (HeldLeaf leaf)) where
   kept : (pointer : OpaqueNodePtr K V P) → held old pointer ≢ Nothing → held now pointer ≡ held old pointer
   kept = kept-at old now (opaque_pointer kinds.Leaf this) (HeldLeaf leaf) free changes
 
@@ -66,7 +66,7 @@ module _ {K V : Type 0} {P : ℕ} (old now : ArenaOf K V P) (this : ℕ) (leaf :
   pub sibling-text : (text : K → List ℕ) (end : End) (sibling : ℕ) → AreKnit old → HasGap old end sibling → text_at text old sibling ≡ text_at text now sibling
   sibling-text text end sibling knit gap = sym (text-kept text old now sibling (knit-beside old end sibling knit gap).held kept).1
 
-  module _ (new : ArenaOf K V P) (same : SameButLinks now new) where
+  module _ (new : NodeArena K V P) (same : SameButLinks now new) where
     -- the new leaf has its entry
     pub entry-held : (key : K) (value : V) → leaf_key leaf ≡ key → leaf_value leaf ≡ value → HoldsEntry new (opaque_pointer kinds.Leaf this) key value
     entry-held key value is_key is_value =

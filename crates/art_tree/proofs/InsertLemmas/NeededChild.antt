@@ -6,13 +6,13 @@ use Rattle.art_header.specs.declared.node_type.NodeType.TheVariants as kinds
 use Rattle.art_nodes.specs.ChildMap.{IsAscending, key_bytes, child_at}
 use Rattle.art_nodes.specs.Pointers.{node_kind}
 use Rattle.art_nodes.specs.declared.pointers.OpaqueNodePtr.{OpaqueNodePtr}
-use Rattle.art_arena.specs.Arena.{ArenaOf, room}
+use Rattle.art_arena.specs.Arena.{NodeArena, room}
 use Rattle.art_arena.specs.Trees.{branch_roots, texts}
 use Rattle.art_tree.specs.Contexts.{plug, join}
 use Rattle.art_tree.specs.NodeCounts.{one_if_same, nodes_of, branch_nodes_of}
 use Rattle.art_tree.specs.Reserving.{LacksRoomForChild}
 use Rattle.art_tree.specs.Room.{LacksRoomToInsert}
-use Rattle.art_tree.specs.declared.insert.place.Spot.{Spot}
+use Rattle.art_tree.specs.declared.insert.insertion_point.Spot.{Spot}
 use Rattle.art_tree.proofs.InsertLemmas.AddedChild.{ChildSpot, alone-there, around_it, gap-there, is-there, leaves-there, node-is, node_there, shown-there, smallest_kinds-there, sound-there, there-inner}
 use Rattle.art_tree.proofs.InsertLemmas.NeededNodes.{insert-lacks, nodes-taken}
 use Rattle.art_tree.proofs.InsertLemmas.NodeLemmas.{few-where-absent}
@@ -20,7 +20,7 @@ use Rattle.art_tree.proofs.InsertLemmas.SubtreeLemmas.{kind-grows, with_leaf}
 use Rattle.art_tree.proofs.SharedLemmas.DictionaryLemmas.{AreApart}
 use Rattle.art_tree.proofs.SharedLemmas.NodeCounts.{grown-other, no-leaf-kind, one-same}
 
-module _ {K V : Type 0} {P : ℕ} {text : K → List ℕ} {old : ArenaOf K V P} {root : OpaqueNodePtr K V P} {spot : Spot K V P} {byte : ℕ} {key : K} (child_spot : ChildSpot text old root spot byte key) (short : length (text key) < 2 ^ 32)
+module _ {K V : Type 0} {P : ℕ} {text : K → List ℕ} {old : NodeArena K V P} {root : OpaqueNodePtr K V P} {spot : Spot K V P} {byte : ℕ} {key : K} (child_spot : ChildSpot text old root spot byte key) (short : length (text key) < 2 ^ 32)
     (apart : AreApart (texts (plug (around_it child_spot) (node_there child_spot)))) where
   abbrev count : ℕ
   count = length (branch_roots (join (gap-there child_spot).before (gap-there child_spot).after))

@@ -4,15 +4,15 @@ use Rattle.art_header.specs.NodeType.{kind_for}
 use Rattle.art_header.specs.declared.node_type.NodeType.{NodeType}
 use Rattle.art_header.specs.declared.node_type.NodeType.TheVariants as kinds
 use Rattle.art_nodes.specs.declared.pointers.OpaqueNodePtr.{OpaqueNodePtr}
-use Rattle.art_arena.specs.Arena.{ArenaOf, room}
+use Rattle.art_arena.specs.Arena.{NodeArena, room}
 use Rattle.art_arena.specs.Trees.{Tree, Leaf, Inner, branch_roots, texts}
 use Rattle.art_tree.specs.Contexts.{plug, join}
 use Rattle.art_tree.specs.NodeCounts.{one_if_same, nodes_of, branch_nodes_of}
 use Rattle.art_tree.specs.Reserving.{LacksRoomForFork}
 use Rattle.art_tree.specs.Room.{LacksRoomToInsert}
-use Rattle.art_tree.specs.declared.insert.place.Fork.{Fork}
-use Rattle.art_tree.specs.declared.insert.place.Spot.{Spot}
-use Rattle.art_tree.proofs.InsertLemmas.AddedFork.{ForkPlace, alone-there, around_it, fork-there, leaves-there, left_there, len_there, part_there, right_there, shared_there, trimmed_there}
+use Rattle.art_tree.specs.declared.insert.insertion_point.Mismatch.{Mismatch}
+use Rattle.art_tree.specs.declared.insert.insertion_point.Spot.{Spot}
+use Rattle.art_tree.proofs.InsertLemmas.AddedFork.{ForkPoint, alone-there, around_it, fork-there, leaves-there, left_there, len_there, part_there, right_there, shared_there, trimmed_there}
 use Rattle.art_tree.proofs.InsertLemmas.NeededNodes.{insert-lacks, nodes-taken}
 use Rattle.art_tree.proofs.InsertLemmas.SubtreeLemmas.{both-sides, ltrimmed, with_leaf}
 use Rattle.art_tree.proofs.SharedLemmas.DictionaryLemmas.{AreApart}
@@ -22,25 +22,25 @@ nodes-trimmed : {H : Type 0} (kind : NodeType) (len : ℕ) (part : Tree H) → n
 nodes-trimmed kind len (Leaf pointer x) = refl
 nodes-trimmed kind len (Inner pointer prefix branches) = refl
 
-module _ {K V : Type 0} {P : ℕ} {text : K → List ℕ} {old : ArenaOf K V P} {root : OpaqueNodePtr K V P} {spot : Spot K V P} {fork : Fork} {key : K} (fork_place : ForkPlace text old root spot fork key) (short : length (text key) < 2 ^ 32)
+module _ {K V : Type 0} {P : ℕ} {text : K → List ℕ} {old : NodeArena K V P} {root : OpaqueNodePtr K V P} {spot : Spot K V P} {mismatch : Mismatch} {key : K} (fork_place : ForkPoint text old root spot mismatch key) (short : length (text key) < 2 ^ 32)
     (apart : AreApart (texts (plug (around_it fork_place) (part_there fork_place)))) where
   -- the branches on both sides of the byte are the one subtree
   nodes-there : (kind : NodeType) → branch_nodes_of kind (join (left_there fork_place) (right_there fork_place)) ≡ nodes_of kind (part_there fork_place)
   nodes-there kind =
-      let both = ap (branch_nodes_of kind) (both-sides fork.byte fork.node_byte (trimmed_there fork_place)) in
+      let both = ap (branch_nodes_of kind) (both-sides mismatch.byte mismatch.node_byte (trimmed_there fork_place)) in
       let trimmed = nodes-trimmed kind (len_there fork_place) (part_there fork_place) in
       omega (arith, both, trimmed)
 
   one-there : length (branch_roots (join (left_there fork_place) (right_there fork_place))) ≡ 1
-  one-there = ap (λ b. length (branch_roots b)) (both-sides fork.byte fork.node_byte (trimmed_there fork_place))
+  one-there = ap (λ b. length (branch_roots b)) (both-sides mismatch.byte mismatch.node_byte (trimmed_there fork_place))
 
   nodes-more : (kind : NodeType)
-      → nodes_of kind (with_leaf root (shared_there fork_place) (left_there fork_place) fork.byte root (text key) (right_there fork_place)) ≡ one_if_same kind (kind_for (length (branch_roots (join (left_there fork_place) (right_there fork_place))) + 1)) + (branch_nodes_of kind (join (left_there fork_place) (right_there fork_place)) + one_if_same kind kinds.Leaf)
-  nodes-more kind = nodes-taken kind root (shared_there fork_place) (left_there fork_place) fork.byte root (text key) (right_there fork_place)
+      → nodes_of kind (with_leaf root (shared_there fork_place) (left_there fork_place) mismatch.byte root (text key) (right_there fork_place)) ≡ one_if_same kind (kind_for (length (branch_roots (join (left_there fork_place) (right_there fork_place))) + 1)) + (branch_nodes_of kind (join (left_there fork_place) (right_there fork_place)) + one_if_same kind kinds.Leaf)
+  nodes-more kind = nodes-taken kind root (shared_there fork_place) (left_there fork_place) mismatch.byte root (text key) (right_there fork_place)
 
-  lacks-one : (kind : NodeType) → nodes_of kind (part_there fork_place) < nodes_of kind (with_leaf root (shared_there fork_place) (left_there fork_place) fork.byte root (text key) (right_there fork_place)) → room old kind ≡ 0 → LacksRoomToInsert text old (Some root) (text key) kind
+  lacks-one : (kind : NodeType) → nodes_of kind (part_there fork_place) < nodes_of kind (with_leaf root (shared_there fork_place) (left_there fork_place) mismatch.byte root (text key) (right_there fork_place)) → room old kind ≡ 0 → LacksRoomToInsert text old (Some root) (text key) kind
   lacks-one =
-      insert-lacks text old root (around_it fork_place) (part_there fork_place) (shared_there fork_place) (left_there fork_place) fork.byte (right_there fork_place) (text key) (alone-there fork_place) (leaves-there fork_place) (fork-there fork_place).place (fork-there fork_place).leads short apart
+      insert-lacks text old root (around_it fork_place) (part_there fork_place) (shared_there fork_place) (left_there fork_place) mismatch.byte (right_there fork_place) (text key) (alone-there fork_place) (leaves-there fork_place) (fork-there fork_place).place (fork-there fork_place).leads short apart
 
   -- it needs a leaf, and a Node4
   pub fork-lacks : (kind : NodeType) → LacksRoomForFork old kind → LacksRoomToInsert text old (Some root) (text key) kind

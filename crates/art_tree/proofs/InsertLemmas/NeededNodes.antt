@@ -6,7 +6,7 @@ use Rattle.art_header.specs.declared.node_type.NodeType.{NodeType}
 use Rattle.art_header.specs.declared.node_type.NodeType.TheVariants as kinds
 use Rattle.art_nodes.specs.Pointers.{opaque_pointer}
 use Rattle.art_nodes.specs.declared.pointers.OpaqueNodePtr.{OpaqueNodePtr}
-use Rattle.art_arena.specs.Arena.{ArenaOf, Nothing, held, room}
+use Rattle.art_arena.specs.Arena.{NodeArena, Nothing, held, room}
 use Rattle.art_arena.specs.Trees.{Tree, Leaf, Branches, Branch, branch_roots, leaves, branch_leaves, texts}
 use Rattle.art_tree.specs.Art.{IsAlone}
 use Rattle.art_tree.specs.Contexts.{Context, plug, path_to, leaves_before, leaves_after, join}
@@ -32,7 +32,7 @@ nodes-taken kind pointer prefix before byte leaf x after =
     let without = nodes-join kind before after in
     omega (arith, own, with_it, without)
 
-module _ {K V : Type 0} {P : ℕ} (text : K → List ℕ) (old : ArenaOf K V P) where
+module _ {K V : Type 0} {P : ℕ} (text : K → List ℕ) (old : NodeArena K V P) where
   -- the first text needs a leaf
   pub first-lacks : ((pointer : OpaqueNodePtr K V P) → held old pointer ≡ Nothing) → (x : List ℕ) → length x < 2 ^ 32 → room old kinds.Leaf ≡ 0 → LacksRoomToInsert text old None x kinds.Leaf
   first-lacks nothing x short none = record {

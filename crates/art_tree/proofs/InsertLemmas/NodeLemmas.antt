@@ -14,7 +14,7 @@ use Rattle.art_nodes.specs.declared.pointers.OpaqueNodePtr.{OpaqueNodePtr}
 use Rattle.art_nodes.specs.declared.leaf_node.LeafNode.{LeafNode}
 use Rattle.art_nodes.proofs.ChildMapLaws.{length_absent}
 use Rattle.art_arena.proofs.StandingLaws.{one-inner}
-use Rattle.art_arena.specs.Arena.{ArenaOf, Held, HeldInner, HeldLeaf, Nothing, held, held_header, room}
+use Rattle.art_arena.specs.Arena.{NodeArena, Held, HeldInner, HeldLeaf, Nothing, held, held_header, room}
 use Rattle.art_tree.specs.Edits.{HasRoomToGrow, IsMoved, two_children}
 use Rattle.art_tree.specs.Nodes.{IsReplaced}
 
@@ -82,12 +82,12 @@ module _ {K V : Type 0} {P : ℕ} where
   text-of-key text (Some leaf) key e = let same : leaf_key leaf ≡ key = cc in ap text same
 
   -- a full node of a kind grows to one of the next, for which there is spare capacity
-  pub room-of-kind : (arena : ArenaOf K V P) (pointer : OpaqueNodePtr K V P) {kind : NodeType} (there : Inner (OpaqueNodePtr K V P)) → node_kind pointer ≡ kind → held arena pointer ≡ HeldInner there
+  pub room-of-kind : (arena : NodeArena K V P) (pointer : OpaqueNodePtr K V P) {kind : NodeType} (there : Inner (OpaqueNodePtr K V P)) → node_kind pointer ≡ kind → held arena pointer ≡ HeldInner there
       → length there.children ≡ most_children (node_kind pointer) → HasRoomToGrow arena pointer → 0 < room arena (grown_kind kind)
   room-of-kind arena pointer there is_kind here full rooms = subst (λ kind. 0 < room arena (grown_kind kind)) is_kind (rooms there here full)
 
   -- the node that grew is the one that was held, which it replaced
-  pub moved-there : (arena new : ArenaOf K V P) (pointer : OpaqueNodePtr K V P) {kind : NodeType} {there node grown : Inner (OpaqueNodePtr K V P)} {to : OpaqueNodePtr K V P} (placed : Option (OpaqueNodePtr K V P)) (byte : ℕ) (child : OpaqueNodePtr K V P) → node_kind pointer ≡ kind → held arena pointer ≡ HeldInner there → length there.children ≡ most_children (node_kind pointer)
+  pub moved-there : (arena new : NodeArena K V P) (pointer : OpaqueNodePtr K V P) {kind : NodeType} {there node grown : Inner (OpaqueNodePtr K V P)} {to : OpaqueNodePtr K V P} (placed : Option (OpaqueNodePtr K V P)) (byte : ℕ) (child : OpaqueNodePtr K V P) → node_kind pointer ≡ kind → held arena pointer ≡ HeldInner there → length there.children ≡ most_children (node_kind pointer)
       → grown ≡ node_with_child there byte child → held arena pointer ≡ HeldInner node → placed ≡ Some to → IfSome placed (IsReplaced arena new pointer (grown_kind kind) grown) → IsMoved arena new pointer node (node_with_child node byte child) to
   moved-there arena new pointer {kind = kind} {there = there} {node = node} {grown = grown} {to = to} placed byte child is_kind here full grows is at replaced =
       let now = subst (λ k. IsReplaced arena new pointer (grown_kind k) grown to) (sym is_kind) (if-some placed (IsReplaced arena new pointer (grown_kind kind) grown) to at replaced) in

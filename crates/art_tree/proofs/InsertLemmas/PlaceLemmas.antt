@@ -13,13 +13,13 @@ use Rattle.art_nodes.specs.ChildMap.{child_at}
 use Rattle.art_nodes.specs.Inner as nodes
 use Rattle.art_nodes.specs.declared.pointers.OpaqueNodePtr.{OpaqueNodePtr}
 use Rattle.art_nodes.specs.declared.leaf_node.LeafNode.{LeafNode}
-use Rattle.art_arena.specs.Arena.{ArenaOf, HeldInner, HeldLeaf, Nothing, held}
+use Rattle.art_arena.specs.Arena.{NodeArena, HeldInner, HeldLeaf, Nothing, held}
 use Rattle.art_arena.specs.Standing.{StandsIn, AllStandIn, NodeStands, TreeAt, leaf_text}
 use Rattle.art_arena.specs.Trees.{Tree, Leaf, Inner, Branches, NoBranch, Branch, branch_roots, root_of, leaves, texts, branch_texts, branch_leaves, IsSound, AreSound, IsWellFormed}
 use Rattle.art_tree.specs.Contexts.{Context, Under, plug, path_to, leaves_before, leaves_after, join}
 use Rattle.art_tree.specs.Dictionary.{Clashes, IsProperPrefixOf}
-use Rattle.art_tree.specs.Places.{reach, toward, HasLeafText, IsDescentIn, IsSpotIn, LacksChild, Parts}
-use Rattle.art_tree.specs.declared.insert.place.Spot.{Spot}
+use Rattle.art_tree.specs.InsertionPoints.{reach, toward, HasLeafText, IsDescentIn, IsSpotIn, LacksChild, Parts}
+use Rattle.art_tree.specs.declared.insert.insertion_point.Spot.{Spot}
 use Rattle.art_tree.proofs.FindLemmas.DescentLemmas.{slice_get-drop}
 use Rattle.art_tree.proofs.InsertLemmas.AddedFork.{branch-text-begins}
 use Rattle.art_tree.proofs.InsertLemmas.TowardLemmas.{IsSplit, split-at, toward-child}
@@ -174,7 +174,7 @@ module _ {H : Type 0} where
           },
         )
 
-module _ {K V : Type 0} {P : ℕ} (text : K → List ℕ) (arena : ArenaOf K V P) (tree : Tree (OpaqueNodePtr K V P)) (key : List ℕ) where
+module _ {K V : Type 0} {P : ℕ} (text : K → List ℕ) (arena : NodeArena K V P) (tree : Tree (OpaqueNodePtr K V P)) (key : List ℕ) where
   module _ (spot : Spot K V P) (is : IsSpotIn text arena tree key spot) where
     pub depth-within : spot.depth ≤ length key
     depth-within = omega (arith, is.at.deep, ap length is.at.leads.1, length-append (path_to is.at.context) is.at.leads.0)

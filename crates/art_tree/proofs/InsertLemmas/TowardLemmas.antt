@@ -9,11 +9,11 @@ use Rattle.art_nodes.specs.ChildMap.{child_at}
 use Rattle.art_nodes.specs.Inner as nodes
 use Rattle.art_nodes.specs.Pointers.{node_kind}
 use Rattle.art_nodes.specs.declared.pointers.OpaqueNodePtr.{OpaqueNodePtr}
-use Rattle.art_arena.specs.Arena.{ArenaOf, HeldInner, HeldLeaf, held}
+use Rattle.art_arena.specs.Arena.{NodeArena, HeldInner, HeldLeaf, held}
 use Rattle.art_arena.specs.Standing.{NodeStands, StandsIn, AllStandIn, TreeAt}
 use Rattle.art_arena.specs.Trees.{Tree, Leaf, Inner, Branches, NoBranch, Branch, branch_roots, root_of, leaves, branch_leaves, IsSound, AreSound}
 use Rattle.art_tree.specs.Contexts.{join}
-use Rattle.art_tree.specs.Places.{HasLeafText, toward, toward_under}
+use Rattle.art_tree.specs.InsertionPoints.{HasLeafText, toward, toward_under}
 use Rattle.art_tree.proofs.SharedLemmas.ExchangedSubtree.{sound-split}
 use Rattle.art_tree.proofs.SharedLemmas.ParentLemmas.{inner-kind}
 use Rattle.art_arena.proofs.StandingLaws.{one-inner}
@@ -112,7 +112,7 @@ module _ {H : Type 0} where
         | Some byte ↦ λ absent. under-none branches byte (drop (length prefix + 1) rest) (Inner pointer prefix branches) absent
       ] none
 
-module _ {K V : Type 0} {P : ℕ} (text : K → List ℕ) (arena : ArenaOf K V P) (pointer : OpaqueNodePtr K V P) (rest : List ℕ) (found : TreeAt text arena pointer) where
+module _ {K V : Type 0} {P : ℕ} (text : K → List ℕ) (arena : NodeArena K V P) (pointer : OpaqueNodePtr K V P) (rest : List ℕ) (found : TreeAt text arena pointer) where
   -- the tree of the child toward which the rest leads
   pub record IsToward (child : OpaqueNodePtr K V P) (left : List ℕ) : Type 0 where
     pub below : TreeAt text arena child

@@ -13,7 +13,7 @@ use Rattle.art_nodes.specs.Pointers.{node_kind, opaque_key, slab_key, opaque_poi
 use Rattle.art_nodes.specs.declared.pointers.NodePtr.{NodePtr}
 use Rattle.art_nodes.specs.declared.pointers.OpaqueNodePtr.{OpaqueNodePtr}
 use Rattle.art_nodes.specs.declared.leaf_node.LeafNode.{LeafNode}
-use Rattle.art_arena.specs.Arena.{ArenaOf, Held, HeldInner, HeldLeaf, Nothing, held, held_leaf, Changes}
+use Rattle.art_arena.specs.Arena.{NodeArena, Held, HeldInner, HeldLeaf, Nothing, held, held_leaf, Changes}
 use Rattle.art_arena.specs.Links.{HoldsLeaf, IsKnit, IsUnlinked, SameButLinks, StandsBetween, Spells, SpellsAfter, leaf_at, next_at, text_at}
 use Rattle.art_tree.specs.Refusals.{text_of_entry, texts_of}
 use Rattle.art_tree.specs.Raising.{leaf_texts}
@@ -25,25 +25,25 @@ use Rattle.art_arena.proofs.StandingLaws.{leaf_place}
 
 module _ {K V : Type 0} {P : ℕ} where
   -- what stays where a free place is taken
-  pub kept-at : (now new : ArenaOf K V P) (at : OpaqueNodePtr K V P) (there : Held (OpaqueNodePtr K V P) (LeafNode K V P)) → held now at ≡ Nothing → Changes now new at there → (pointer : OpaqueNodePtr K V P) → held now pointer ≢ Nothing → held new pointer ≡ held now pointer
+  pub kept-at : (now new : NodeArena K V P) (at : OpaqueNodePtr K V P) (there : Held (OpaqueNodePtr K V P) (LeafNode K V P)) → held now at ≡ Nothing → Changes now new at there → (pointer : OpaqueNodePtr K V P) → held now pointer ≢ Nothing → held new pointer ≡ held now pointer
   kept-at now new at there free changes pointer was = changes.others pointer (λ same. was (ap (held now) same ∙ free))
 
   -- leaves hold entries on where what is held stays
-  pub hold-kept : (now new : ArenaOf K V P) → ((pointer : OpaqueNodePtr K V P) → held now pointer ≢ Nothing → held new pointer ≡ held now pointer) → (pointers : List (OpaqueNodePtr K V P)) (entries : List (K × V)) → HoldEntries now pointers entries → HoldEntries new pointers entries
+  pub hold-kept : (now new : NodeArena K V P) → ((pointer : OpaqueNodePtr K V P) → held now pointer ≢ Nothing → held new pointer ≡ held now pointer) → (pointers : List (OpaqueNodePtr K V P)) (entries : List (K × V)) → HoldEntries now pointers entries → HoldEntries new pointers entries
   hold-kept now new kept [] [] h = tt
   hold-kept now new kept [] (entry ∷ entries) h = absurd h
   hold-kept now new kept (pointer ∷ pointers) [] h = absurd h
   hold-kept now new kept (pointer ∷ pointers) (entry ∷ entries) h =
       ((h.0.0, kept pointer (subst (λ there. there ≢ Nothing) (sym h.0.1) (λ e. cc)) ∙ h.0.1, h.0.2, h.0.3), hold-kept now new kept pointers entries h.1)
 
-  hold-last : (arena : ArenaOf K V P) (at : OpaqueNodePtr K V P) (leaf : LeafNode K V P) (entry : K × V) → held arena at ≡ HeldLeaf leaf → leaf_key leaf ≡ entry.0 → leaf_value leaf ≡ entry.1
+  hold-last : (arena : NodeArena K V P) (at : OpaqueNodePtr K V P) (leaf : LeafNode K V P) (entry : K × V) → held arena at ≡ HeldLeaf leaf → leaf_key leaf ≡ entry.0 → leaf_value leaf ≡ entry.1
       → (pointers : List (OpaqueNodePtr K V P)) (entries : List (K × V)) → HoldEntries arena pointers entries → HoldEntries arena (pointers ++ at ∷ []) (entries ++ entry ∷ [])
   hold-last arena at leaf entry is key value [] [] h = ((leaf, is, key, value), tt)
   hold-last arena at leaf entry is key value [] (e ∷ entries) h = absurd h
   hold-last arena at leaf entry is key value (pointer ∷ pointers) [] h = absurd h
   hold-last arena at leaf entry is key value (pointer ∷ pointers) (e ∷ entries) h = (h.0, hold-last arena at leaf entry is key value pointers entries h.1)
 
-  hold-links : (now new : ArenaOf K V P) → SameButLinks now new → (of : List (NodePtr P (LeafNode K V P))) (entries : List (K × V)) → HoldEntries now (map leaf_pointer of) entries → HoldEntries new (map leaf_pointer of) entries
+  hold-links : (now new : NodeArena K V P) → SameButLinks now new → (of : List (NodePtr P (LeafNode K V P))) (entries : List (K × V)) → HoldEntries now (map leaf_pointer of) entries → HoldEntries new (map leaf_pointer of) entries
   hold-links now new same [] [] h = tt
   hold-links now new same [] (entry ∷ entries) h = absurd h
   hold-links now new same (at ∷ of) [] h = absurd h
@@ -51,14 +51,14 @@ module _ {K V : Type 0} {P : ℕ} where
       let after = same.leaf (slab_key at) h.0.0 (leaf-of (leaf_at now (slab_key at)) h.0.0 h.0.1) in
       ((after.0, ap held_leaf after.1, after.2 ∙ h.0.2, after.3 ∙ h.0.3), hold-links now new same of entries h.1)
 
-  pub hold-count : (arena : ArenaOf K V P) (of : List (NodePtr P (LeafNode K V P))) (entries : List (K × V)) → HoldEntries arena (map leaf_pointer of) entries → length of ≡ length entries
+  pub hold-count : (arena : NodeArena K V P) (of : List (NodePtr P (LeafNode K V P))) (entries : List (K × V)) → HoldEntries arena (map leaf_pointer of) entries → length of ≡ length entries
   hold-count arena [] [] h = refl
   hold-count arena [] (entry ∷ entries) h = absurd h
   hold-count arena (at ∷ of) [] h = absurd h
   hold-count arena (at ∷ of) (entry ∷ entries) h = ap suc (hold-count arena of entries h.1)
 
   -- the texts of leaves are those of the entries that they hold
-  pub hold-texts : (text : K → List ℕ) (arena : ArenaOf K V P) (of : List (NodePtr P (LeafNode K V P))) (entries : List (K × V)) → HoldEntries arena (map leaf_pointer of) entries → leaf_texts text arena of ≡ texts_of text entries
+  pub hold-texts : (text : K → List ℕ) (arena : NodeArena K V P) (of : List (NodePtr P (LeafNode K V P))) (entries : List (K × V)) → HoldEntries arena (map leaf_pointer of) entries → leaf_texts text arena of ≡ texts_of text entries
   hold-texts text arena [] [] h = refl
   hold-texts text arena [] (entry ∷ entries) h = absurd h
   hold-texts text arena (at ∷ of) [] h = absurd h
@@ -66,26 +66,26 @@ module _ {K V : Type 0} {P : ℕ} where
       ap (λ x. x ∷ leaf_texts text arena of) (text-held text arena (slab_key at) h.0.0 h.0.1 ∙ ap text h.0.2) ∙ ap (λ rest. text entry.0 ∷ rest) (hold-texts text arena of entries h.1)
 
   -- and each of them is held
-  pub hold-held : (arena : ArenaOf K V P) (of : List (NodePtr P (LeafNode K V P))) (entries : List (K × V)) → HoldEntries arena (map leaf_pointer of) entries → (i : ℕ) (d : NodePtr P (LeafNode K V P)) → i < length of → HoldsLeaf arena (slab_key (get_or of i d))
+  pub hold-held : (arena : NodeArena K V P) (of : List (NodePtr P (LeafNode K V P))) (entries : List (K × V)) → HoldEntries arena (map leaf_pointer of) entries → (i : ℕ) (d : NodePtr P (LeafNode K V P)) → i < length of → HoldsLeaf arena (slab_key (get_or of i d))
   hold-held arena [] entries h i d lt = absurd (omega arith)
   hold-held arena (at ∷ of) [] h i d lt = absurd h
   hold-held arena (at ∷ of) (entry ∷ entries) h zero d lt = subst (λ there. there ≢ Nothing) (sym h.0.1) (λ e. cc)
   hold-held arena (at ∷ of) (entry ∷ entries) h (suc i) d lt = hold-held arena of entries h.1 i d (omega arith)
 
-  spells-after : (now new : ArenaOf K V P) → ((key : ℕ) (leaf : LeafNode K V P) → leaf_at now key ≡ Some leaf → leaf_at new key ≡ Some leaf) → (before : Option ℕ) (keys : List ℕ) → SpellsAfter now before keys → SpellsAfter new before keys
+  spells-after : (now new : NodeArena K V P) → ((key : ℕ) (leaf : LeafNode K V P) → leaf_at now key ≡ Some leaf → leaf_at new key ≡ Some leaf) → (before : Option ℕ) (keys : List ℕ) → SpellsAfter now before keys → SpellsAfter new before keys
   spells-after now new kept before [] h = tt
   spells-after now new kept before (key ∷ keys) ((leaf, at, previous, next), rest) = ((leaf, kept key leaf at, previous, next), spells-after now new kept (Some key) keys rest)
 
   -- a list is spelled on where its leaves are kept, and so where all nodes are
-  pub spells-on : (now new : ArenaOf K V P) → ((key : ℕ) (leaf : LeafNode K V P) → leaf_at now key ≡ Some leaf → leaf_at new key ≡ Some leaf) → (keys : List ℕ) → Spells now keys → Spells new keys
+  pub spells-on : (now new : NodeArena K V P) → ((key : ℕ) (leaf : LeafNode K V P) → leaf_at now key ≡ Some leaf → leaf_at new key ≡ Some leaf) → (keys : List ℕ) → Spells now keys → Spells new keys
   spells-on now new kept keys s = record { distinct = s.distinct; spelled = spells-after now new kept None keys s.spelled }
 
-  pub Spells-kept : (now new : ArenaOf K V P) → ((pointer : OpaqueNodePtr K V P) → held now pointer ≢ Nothing → held new pointer ≡ held now pointer) → (keys : List ℕ) → Spells now keys → Spells new keys
+  pub Spells-kept : (now new : NodeArena K V P) → ((pointer : OpaqueNodePtr K V P) → held now pointer ≢ Nothing → held new pointer ≡ held now pointer) → (keys : List ℕ) → Spells now keys → Spells new keys
   Spells-kept now new kept = spells-on now new (λ key leaf at.
       let there : held now (opaque_pointer kinds.Leaf key) ≡ HeldLeaf leaf = ap held_leaf at in
       leaf-of (leaf_at new key) leaf (kept (opaque_pointer kinds.Leaf key) (subst (λ x. x ≢ Nothing) (sym there) (λ e. cc)) ∙ there))
 
-  module _ (now new : ArenaOf K V P) (same : SameButLinks now new) (this sibling : ℕ) (others : (key : ℕ) → key ≢ this → key ≢ sibling → leaf_at new key ≡ leaf_at now key) where
+  module _ (now new : NodeArena K V P) (same : SameButLinks now new) (this sibling : ℕ) (others : (key : ℕ) → key ≢ this → key ≢ sibling → leaf_at new key ≡ leaf_at now key) where
     stays : (pointer : OpaqueNodePtr K V P) → (opaque_key pointer ≡ this → node_kind pointer ≡ kinds.Leaf → ⊥) → (opaque_key pointer ≡ sibling → node_kind pointer ≡ kinds.Leaf → ⊥) → held new pointer ≡ held now pointer
     stays pointer not_this not_sibling = go (held now pointer) refl
       where
@@ -109,7 +109,7 @@ module _ {K V : Type 0} {P : ℕ} where
             subst (λ x. x ≢ Nothing) (sym (ap (held new) (sym place) ∙ ap held_leaf after.1)) (λ none. cc)
 
     -- links change only in new leaves
-    adds-links : (old : ArenaOf K V P) (xs : List (OpaqueNodePtr K V P)) → Contains xs (opaque_pointer kinds.Leaf this) → Contains xs (opaque_pointer kinds.Leaf sibling) → Adds old now xs → Adds old new xs
+    adds-links : (old : NodeArena K V P) (xs : List (OpaqueNodePtr K V P)) → Contains xs (opaque_pointer kinds.Leaf this) → Contains xs (opaque_pointer kinds.Leaf sibling) → Adds old now xs → Adds old new xs
     adds-links old xs has_this has_sibling a =
         let apart : (pointer : OpaqueNodePtr K V P) → held old pointer ≢ Nothing → (key : ℕ) → Contains xs (opaque_pointer kinds.Leaf key) → opaque_key pointer ≡ key → node_kind pointer ≡ kinds.Leaf → ⊥ =
         λ pointer was key has is_key is_kind.
@@ -123,10 +123,10 @@ module _ {K V : Type 0} {P : ℕ} where
         }
 
   -- `each_leaf_of_a_list_is_knit`, of an arena
-  abbrev pub AreKnit : ArenaOf K V P → Type 0
+  abbrev pub AreKnit : NodeArena K V P → Type 0
   AreKnit arena = (before after : List ℕ) (key : ℕ) → Spells arena (before ++ key ∷ after) → IsKnit arena key
 
-  abbrev pub NameNext : ArenaOf K V P → Type 0
+  abbrev pub NameNext : NodeArena K V P → Type 0
   NameNext arena = (before after : List ℕ) (key : ℕ) → Spells arena (before ++ key ∷ after) → next_at arena key ≡ slice_get after 0
 
 pub last-split : {A : Type 0} (xs : List A) (x : A) → slice_get xs (length xs - 1) ≡ Some x → xs ≡ take (length xs - 1) xs ++ x ∷ []
@@ -136,7 +136,7 @@ last-split xs x e =
 
 module _ {K V : Type 0} {P : ℕ} where
   -- a new leaf holds the next entry, and is not linked yet
-  pub record IsAllocated (old new : ArenaOf K V P) (done : List (K × V)) (before : List (NodePtr P (LeafNode K V P))) (entry : K × V) (this : NodePtr P (LeafNode K V P)) : Type 0 where
+  pub record IsAllocated (old new : NodeArena K V P) (done : List (K × V)) (before : List (NodePtr P (LeafNode K V P))) (entry : K × V) (this : NodePtr P (LeafNode K V P)) : Type 0 where
     pub entries : HoldEntries new (map leaf_pointer (before ++ this ∷ [])) (done ++ entry ∷ [])
     pub spelled : Spells new (map slab_key before)
     pub adds : Adds old new (map leaf_pointer (before ++ this ∷ []))
@@ -146,7 +146,7 @@ module _ {K V : Type 0} {P : ℕ} where
     pub no_next : next_key leaf ≡ None
     pub apart : (front : List (NodePtr P (LeafNode K V P))) (sibling : NodePtr P (LeafNode K V P)) → before ≡ front ++ sibling ∷ [] → slab_key this ≢ slab_key sibling
 
-  pub allocated : (old now new : ArenaOf K V P) (done : List (K × V)) (before : List (NodePtr P (LeafNode K V P))) (entry : K × V) (this : NodePtr P (LeafNode K V P)) (leaf : LeafNode K V P) → AreLinked old now done before
+  pub allocated : (old now new : NodeArena K V P) (done : List (K × V)) (before : List (NodePtr P (LeafNode K V P))) (entry : K × V) (this : NodePtr P (LeafNode K V P)) (leaf : LeafNode K V P) → AreLinked old now done before
       → held now (leaf_pointer this) ≡ Nothing → Changes now new (leaf_pointer this) (HeldLeaf leaf) → leaf_key leaf ≡ entry.0 → leaf_value leaf ≡ entry.1 → previous_key leaf ≡ None → next_key leaf ≡ None → IsAllocated old new done before entry this
   allocated old now new done before entry this leaf l free changes key value no_previous no_next =
       let kept = kept-at now new (leaf_pointer this) (HeldLeaf leaf) free changes in
@@ -170,7 +170,7 @@ module _ {K V : Type 0} {P : ℕ} where
       }
 
   -- the first leaf is a list of its own
-  pub first-linked : (old new : ArenaOf K V P) (done : List (K × V)) (before : List (NodePtr P (LeafNode K V P))) (entry : K × V) (this : NodePtr P (LeafNode K V P)) → before ≡ [] → IsAllocated old new done before entry this → AreLinked old new (done ++ entry ∷ []) (before ++ this ∷ [])
+  pub first-linked : (old new : NodeArena K V P) (done : List (K × V)) (before : List (NodePtr P (LeafNode K V P))) (entry : K × V) (this : NodePtr P (LeafNode K V P)) → before ≡ [] → IsAllocated old new done before entry this → AreLinked old new (done ++ entry ∷ []) (before ++ this ∷ [])
   first-linked old new done before entry this none a = record {
     hold = a.entries;
     spelled = subst (λ z. Spells new (map slab_key (z ++ this ∷ []))) (sym none) (record { distinct = ((λ k d lt. absurd (omega (arith, lt))), tt); spelled = ((a.leaf, a.at_key, a.no_previous, a.no_next), tt) });
@@ -178,7 +178,7 @@ module _ {K V : Type 0} {P : ℕ} where
   }
 
   -- a leaf that is linked after the last one
-  pub next-linked : (old now new : ArenaOf K V P) (done : List (K × V)) (before front : List (NodePtr P (LeafNode K V P))) (entry : K × V) (this sibling : NodePtr P (LeafNode K V P)) → before ≡ front ++ sibling ∷ [] → NameNext now → IsAllocated old now done before entry this
+  pub next-linked : (old now new : NodeArena K V P) (done : List (K × V)) (before front : List (NodePtr P (LeafNode K V P))) (entry : K × V) (this sibling : NodePtr P (LeafNode K V P)) → before ≡ front ++ sibling ∷ [] → NameNext now → IsAllocated old now done before entry this
       → SameButLinks now new → StandsBetween now new (Some (slab_key sibling)) (slab_key this) (next_at now (slab_key sibling))
       → ((first last : List ℕ) → Spells now (first ++ slab_key sibling ∷ last) → Spells new (first ++ slab_key sibling ∷ slab_key this ∷ last)) → AreLinked old new (done ++ entry ∷ []) (before ++ this ∷ [])
   next-linked old now new done before front entry this sibling split name_next a same placed spells =
@@ -199,15 +199,15 @@ module _ {K V : Type 0} {P : ℕ} where
       }
 
   -- what linking it asks
-  pub unlinked : (old now : ArenaOf K V P) (done : List (K × V)) (before : List (NodePtr P (LeafNode K V P))) (entry : K × V) (this : NodePtr P (LeafNode K V P)) → IsAllocated old now done before entry this → HoldsLeaf now (slab_key this) × IsUnlinked now (slab_key this)
+  pub unlinked : (old now : NodeArena K V P) (done : List (K × V)) (before : List (NodePtr P (LeafNode K V P))) (entry : K × V) (this : NodePtr P (LeafNode K V P)) → IsAllocated old now done before entry this → HoldsLeaf now (slab_key this) × IsUnlinked now (slab_key this)
   unlinked old now done before entry this a =
       (subst (λ x. x ≢ Nothing) (sym (ap held_leaf a.at_key)) (λ e. cc), (ap (option_and_then previous_key) a.at_key ∙ a.no_previous, ap (option_and_then next_key) a.at_key ∙ a.no_next))
 
-  pub sibling-knit : (old now : ArenaOf K V P) (done : List (K × V)) (before front : List (NodePtr P (LeafNode K V P))) (entry : K × V) (this sibling : NodePtr P (LeafNode K V P)) → before ≡ front ++ sibling ∷ [] → AreKnit now → IsAllocated old now done before entry this → IsKnit now (slab_key sibling)
+  pub sibling-knit : (old now : NodeArena K V P) (done : List (K × V)) (before front : List (NodePtr P (LeafNode K V P))) (entry : K × V) (this sibling : NodePtr P (LeafNode K V P)) → before ≡ front ++ sibling ∷ [] → AreKnit now → IsAllocated old now done before entry this → IsKnit now (slab_key sibling)
   sibling-knit old now done before front entry this sibling split knit a = knit (map slab_key front) [] (slab_key sibling) (subst (Spells now) (ap (map slab_key) split ∙ map-append slab_key front (sibling ∷ [])) a.spelled)
 
   -- the texts of the last two leaves are neighbours among those of the entries
-  pub two-texts : (text : K → List ℕ) (old now : ArenaOf K V P) (all done left : List (K × V)) (before front : List (NodePtr P (LeafNode K V P))) (entry : K × V) (this sibling : NodePtr P (LeafNode K V P)) → before ≡ front ++ sibling ∷ [] → all ≡ (done ++ entry ∷ []) ++ left → IsAllocated old now done before entry this
+  pub two-texts : (text : K → List ℕ) (old now : NodeArena K V P) (all done left : List (K × V)) (before front : List (NodePtr P (LeafNode K V P))) (entry : K × V) (this sibling : NodePtr P (LeafNode K V P)) → before ≡ front ++ sibling ∷ [] → all ≡ (done ++ entry ∷ []) ++ left → IsAllocated old now done before entry this
       → (length front + 1 < length (texts_of text all)) × (text_of_entry (texts_of text all) (length front) ≡ text_at text now (slab_key sibling)) × (text_of_entry (texts_of text all) (length front + 1) ≡ text_at text now (slab_key this))
   two-texts text old now all done left before front entry this sibling split whole a =
       let f : NodePtr P (LeafNode K V P) → List ℕ = λ leaf. text_at text now (slab_key leaf) in
@@ -224,13 +224,13 @@ module _ {K V : Type 0} {P : ℕ} where
       )
 
 -- the leaves so far hold the entries so far
-pub record IsLinking {K V : Type 0} {P : ℕ} (old now : ArenaOf K V P) (all left : List (K × V)) (leaves : List (NodePtr P (LeafNode K V P))) : Type 0 where
+pub record IsLinking {K V : Type 0} {P : ℕ} (old now : NodeArena K V P) (all left : List (K × V)) (leaves : List (NodePtr P (LeafNode K V P))) : Type 0 where
   pub done : List (K × V)
   pub split : all ≡ done ++ left
   pub linked : AreLinked old now done leaves
 
 -- before the first entry
-pub none-linked : {K V : Type 0} {P : ℕ} (old : ArenaOf K V P) (leaves : List (NodePtr P (LeafNode K V P))) → leaves ≡ [] → AreLinked old old [] leaves
+pub none-linked : {K V : Type 0} {P : ℕ} (old : NodeArena K V P) (leaves : List (NodePtr P (LeafNode K V P))) → leaves ≡ [] → AreLinked old old [] leaves
 none-linked old leaves none = subst (AreLinked old old []) (sym none) (record {
   hold = tt;
   spelled = record { distinct = tt; spelled = tt };

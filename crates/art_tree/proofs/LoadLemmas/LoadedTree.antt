@@ -6,7 +6,7 @@ use Rattle.art_nodes.specs.Pointers.{opaque_key, slab_key}
 use Rattle.art_nodes.specs.declared.pointers.NodePtr.{NodePtr}
 use Rattle.art_nodes.specs.declared.pointers.OpaqueNodePtr.{OpaqueNodePtr}
 use Rattle.art_nodes.specs.declared.leaf_node.LeafNode.{LeafNode}
-use Rattle.art_arena.specs.Arena.{ArenaOf, Nothing, SameNodes}
+use Rattle.art_arena.specs.Arena.{NodeArena, Nothing, SameNodes}
 use Rattle.art_arena.specs.Links.{Spells}
 use Rattle.art_arena.specs.Trees.{Tree}
 use Rattle.art_tree.specs.Plan.{AreLoadable}
@@ -23,7 +23,7 @@ all-short texts l i = elim (cases_lt i (length texts)) [
   | inr past ↦ let none = ap length (get_or_past texts i [] past) in omega (arith, none)
 ]
 
-module _ {K V : Type 0} {P : ℕ} (text : K → List ℕ) (old middle new : ArenaOf K V P) where
+module _ {K V : Type 0} {P : ℕ} (text : K → List ℕ) (old middle new : NodeArena K V P) where
   pointers-of : (of : List (NodePtr P (LeafNode K V P))) → map (λ (pair : OpaqueNodePtr K V P × List ℕ). pair.0) (leaf_pairs text middle of) ≡ map leaf_pointer of
   pointers-of [] = refl
   pointers-of (leaf ∷ of) = ap (λ rest. leaf_pointer leaf ∷ rest) (pointers-of of)

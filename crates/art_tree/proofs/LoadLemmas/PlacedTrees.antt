@@ -17,7 +17,7 @@ use Rattle.art_nodes.specs.declared.pointers.NodePtr.{NodePtr}
 use Rattle.art_nodes.specs.declared.pointers.OpaqueNodePtr.{OpaqueNodePtr}
 use Rattle.art_nodes.specs.declared.leaf_node.LeafNode.{LeafNode}
 use Rattle.art_nodes.proofs.KindLaws.{same_or_differ}
-use Rattle.art_arena.specs.Arena.{ArenaOf, Held, HeldInner, HeldLeaf, Nothing, held, held_leaf, room, SameCapacity, SameOtherRoom, Changes}
+use Rattle.art_arena.specs.Arena.{NodeArena, Held, HeldInner, HeldLeaf, Nothing, held, held_leaf, room, SameCapacity, SameOtherRoom, Changes}
 use Rattle.art_arena.specs.Links.{HoldsLeaf, leaf_at, text_at}
 use Rattle.art_arena.specs.Standing.{NodeStands, StandsIn, AllStandIn, leaf_text}
 use Rattle.art_arena.specs.Trees.{Tree, Leaf, Inner, Branches, NoBranch, Branch, branch_roots, branch_leaves, branch_places, leaves, places, root_of}
@@ -102,17 +102,17 @@ module _ {K V : Type 0} {P : ℕ} where
   leaf-held None h = absurd (h refl)
   leaf-held (Some leaf) h = (leaf, refl)
 
-  pub text-held : (text : K → List ℕ) (arena : ArenaOf K V P) (key : ℕ) (leaf : LeafNode K V P) → held arena (opaque_pointer kinds.Leaf key) ≡ HeldLeaf leaf → text_at text arena key ≡ text (leaf_key leaf)
+  pub text-held : (text : K → List ℕ) (arena : NodeArena K V P) (key : ℕ) (leaf : LeafNode K V P) → held arena (opaque_pointer kinds.Leaf key) ≡ HeldLeaf leaf → text_at text arena key ≡ text (leaf_key leaf)
   text-held text arena key leaf e = ap (λ o. option_map_or (λ (l : LeafNode K V P). text (leaf_key l)) o []) (leaf-of (leaf_at arena key) leaf e)
 
   -- the result of an allocation
-  pub placed : (old new : ArenaOf K V P) (kind : NodeType) (key : ℕ) (node : nodes.Inner (OpaqueNodePtr K V P)) (at : OpaqueNodePtr K V P) → node_kind at ≡ kind → opaque_key at ≡ key → held old (opaque_pointer kind key) ≡ Nothing
+  pub placed : (old new : NodeArena K V P) (kind : NodeType) (key : ℕ) (node : nodes.Inner (OpaqueNodePtr K V P)) (at : OpaqueNodePtr K V P) → node_kind at ≡ kind → opaque_key at ≡ key → held old (opaque_pointer kind key) ≡ Nothing
       → Changes old new (opaque_pointer kind key) (HeldInner node) → room old kind ≤ room new kind + 1 → SameOtherRoom old new kind → SameCapacity old new → IsPlaced old new kind node at
   placed old new kind key node at is_kind is_key free changes rooms others same_capacity =
       let same : opaque_pointer kind key ≡ at = λ i. record { node_type = (sym is_kind) i; key = (sym is_key) i; leaf = record {} } in
       record { is_kind = is_kind; was_free = subst (λ p. held old p ≡ Nothing) same free; changes = subst (λ p. Changes old new p (HeldInner node)) same changes; room = rooms; other_room = others; capacity = same_capacity }
 
-  module _ (text : K → List ℕ) (arena : ArenaOf K V P) where
+  module _ (text : K → List ℕ) (arena : NodeArena K V P) where
     pub stand-join : (a b : Branches (OpaqueNodePtr K V P)) → AllStandIn text arena a → AllStandIn text arena b → AllStandIn text arena (join a b)
     stand-join NoBranch b first second = second
     stand-join (Branch byte tree others) b first second = (first.0, stand-join others b first.1 second)
@@ -130,7 +130,7 @@ module _ {K V : Type 0} {P : ℕ} where
   smallest_kinds-split (Branch byte tree others) b both = let rest = smallest_kinds-split others b both.1 in ((both.0, rest.0), rest.1)
 
   -- a node more at a free place
-  pub adds-more : (before old new : ArenaOf K V P) (at : OpaqueNodePtr K V P) (now : Held (OpaqueNodePtr K V P) (LeafNode K V P)) (xs ys : List (OpaqueNodePtr K V P)) → Adds before old xs → held old at ≡ Nothing → Changes old new at now → now ≢ Nothing
+  pub adds-more : (before old new : NodeArena K V P) (at : OpaqueNodePtr K V P) (now : Held (OpaqueNodePtr K V P) (LeafNode K V P)) (xs ys : List (OpaqueNodePtr K V P)) → Adds before old xs → held old at ≡ Nothing → Changes old new at now → now ≢ Nothing
       → ((pointer : OpaqueNodePtr K V P) → Contains ys pointer → (pointer ≡ at) ⊎ Contains xs pointer) → Contains ys at → ((pointer : OpaqueNodePtr K V P) → Contains xs pointer → Contains ys pointer) → Adds before new ys
   adds-more before old new at now xs ys a free changes some cases has keeps =
       let apart : (pointer : OpaqueNodePtr K V P) → held old pointer ≢ Nothing → pointer ≢ at = λ pointer is_held same. is_held (ap (held old) same ∙ free) in
@@ -218,7 +218,7 @@ on-ok Q (Err y) x e h = absurd (cc)
 
 module _ {K V : Type 0} {P : ℕ} (text : K → List ℕ) (pairs : List (OpaqueNodePtr K V P × List ℕ)) (pointers : List (OpaqueNodePtr K V P)) where
   -- some steps are done: trees of the first leaves stand, and the steps that are left lead to one tree of all
-  pub record IsRising (old now : ArenaOf K V P) (next : ℕ) (pending : List (ℕ × OpaqueNodePtr K V P)) (steps : List Step) : Type 0 where
+  pub record IsRising (old now : NodeArena K V P) (next : ℕ) (pending : List (ℕ × OpaqueNodePtr K V P)) (steps : List Step) : Type 0 where
     pub stack : Branches (OpaqueNodePtr K V P)
     pub roots : branch_roots stack ≡ pending
     pub leads : Leads pairs next stack steps
@@ -226,12 +226,12 @@ module _ {K V : Type 0} {P : ℕ} (text : K → List ℕ) (pairs : List (OpaqueN
     pub smallest_kinds : HaveSmallestKinds stack
     pub in_order : branch_leaves stack ≡ take next pairs
     pub kept : (pointer : OpaqueNodePtr K V P) → held old pointer ≢ Nothing → held now pointer ≡ held old pointer
-    pub adds : (before : ArenaOf K V P) → Adds before old pointers → Adds before now (branch_places stack ++ drop next pointers)
+    pub adds : (before : NodeArena K V P) → Adds before old pointers → Adds before now (branch_places stack ++ drop next pointers)
     pub few : length (branch_roots stack) ≤ next
     pub rooms : (kind : NodeType) → kind ≢ kinds.Leaf → needed kind steps ≤ room now kind
 
   -- a leaf is taken
-  pub rise-leaf : (old now : ArenaOf K V P) (next byte : ℕ) (pending after : List (ℕ × OpaqueNodePtr K V P)) (steps : List Step) (at : OpaqueNodePtr K V P) (x : List ℕ) (leaf : LeafNode K V P) → slice_get pairs next ≡ Some (at, x) → slice_get pointers next ≡ Some at
+  pub rise-leaf : (old now : NodeArena K V P) (next byte : ℕ) (pending after : List (ℕ × OpaqueNodePtr K V P)) (steps : List Step) (at : OpaqueNodePtr K V P) (x : List ℕ) (leaf : LeafNode K V P) → slice_get pairs next ≡ Some (at, x) → slice_get pointers next ≡ Some at
       → held old at ≡ HeldLeaf leaf → leaf_text text leaf ≡ x → after ≡ pending ++ (byte, at) ∷ [] → IsRising old now next pending (step.Leaf byte ∷ steps) → IsRising old now (next + 1) after steps
   rise-leaf old now next byte pending after steps at x leaf pair pointer is_held is_text is_after r =
       let same : r.leads.0 ≡ (at, x) = some-same r.leads.0 (at, x) (sym r.leads.1 ∙ pair) in
@@ -250,7 +250,7 @@ module _ {K V : Type 0} {P : ℕ} (text : K → List ℕ) (pairs : List (OpaqueN
       }
 
   -- what a step that makes a node finds
-  pub record IsReady (now : ArenaOf K V P) (last : List ℕ) (pending : List (ℕ × OpaqueNodePtr K V P)) (start end children : ℕ) : Type 0 where
+  pub record IsReady (now : NodeArena K V P) (last : List ℕ) (pending : List (ℕ × OpaqueNodePtr K V P)) (start end children : ℕ) : Type 0 where
     pub enough : children ≤ length pending
     pub count : length (drop (length pending - children) pending) ≡ children
     pub two : 2 ≤ children
@@ -260,7 +260,7 @@ module _ {K V : Type 0} {P : ℕ} (text : K → List ℕ) (pairs : List (OpaqueN
     pub within : end ≤ length last
     pub rooms : 0 < room now (kind_for children)
 
-  ready : (now : ArenaOf K V P) (last : List ℕ) (stack : Branches (OpaqueNodePtr K V P)) (pending : List (ℕ × OpaqueNodePtr K V P)) (byte start end children : ℕ) (steps : List Step) → branch_roots stack ≡ pending → Takes last stack start end children
+  ready : (now : NodeArena K V P) (last : List ℕ) (stack : Branches (OpaqueNodePtr K V P)) (pending : List (ℕ × OpaqueNodePtr K V P)) (byte start end children : ℕ) (steps : List Step) → branch_roots stack ≡ pending → Takes last stack start end children
       → ((kind : NodeType) → kind ≢ kinds.Leaf → needed kind (step.Inner byte start end children ∷ steps) ≤ room now kind) → IsReady now last pending start end children
   ready now last stack pending byte start end children steps roots t rooms =
       let split : pending ≡ branch_roots t.front ++ branch_roots t.branches = sym roots ∙ ap branch_roots t.splits ∙ roots-join t.front t.branches in
@@ -282,20 +282,20 @@ module _ {K V : Type 0} {P : ℕ} (text : K → List ℕ) (pairs : List (OpaqueN
         rooms = omega (arith, need, own);
       }
 
-  pub rise-ready : (old now : ArenaOf K V P) (next byte start end children : ℕ) (pending : List (ℕ × OpaqueNodePtr K V P)) (steps : List Step) (r : IsRising old now next pending (step.Inner byte start end children ∷ steps)) → IsReady now r.leads.0.1 pending start end children
+  pub rise-ready : (old now : NodeArena K V P) (next byte start end children : ℕ) (pending : List (ℕ × OpaqueNodePtr K V P)) (steps : List Step) (r : IsRising old now next pending (step.Inner byte start end children ∷ steps)) → IsReady now r.leads.0.1 pending start end children
   rise-ready old now next byte start end children pending steps r = ready now r.leads.0.1 r.stack pending byte start end children steps r.roots r.leads.3 r.rooms
 
   -- the laws of the arena, of an allocation
   abbrev pub LeavesStanding : Type 0
-  LeavesStanding = (old new : ArenaOf K V P) (pointer : OpaqueNodePtr K V P) (now : Held (OpaqueNodePtr K V P) (LeafNode K V P)) (branches : Branches (OpaqueNodePtr K V P)) → held old pointer ≡ Nothing → Changes old new pointer now
+  LeavesStanding = (old new : NodeArena K V P) (pointer : OpaqueNodePtr K V P) (now : Held (OpaqueNodePtr K V P) (LeafNode K V P)) (branches : Branches (OpaqueNodePtr K V P)) → held old pointer ≡ Nothing → Changes old new pointer now
       → AllStandIn text old branches → AllStandIn text new branches
 
   abbrev pub MakesTree : Type 0
-  MakesTree = (old new : ArenaOf K V P) (pointer : OpaqueNodePtr K V P) (node : nodes.Inner (OpaqueNodePtr K V P)) (prefix : List ℕ) (branches : Branches (OpaqueNodePtr K V P)) → held old pointer ≡ Nothing → Changes old new pointer (HeldInner node)
+  MakesTree = (old new : NodeArena K V P) (pointer : OpaqueNodePtr K V P) (node : nodes.Inner (OpaqueNodePtr K V P)) (prefix : List ℕ) (branches : Branches (OpaqueNodePtr K V P)) → held old pointer ≡ Nothing → Changes old new pointer (HeldInner node)
       → NodeStands P node prefix branches → AllStandIn text old branches → StandsIn text new (Inner pointer prefix branches)
 
   -- a node is made
-  pub rise-inner : (old now new : ArenaOf K V P) (next byte start end children : ℕ) (pending after : List (ℕ × OpaqueNodePtr K V P)) (steps : List Step) (at : OpaqueNodePtr K V P) (r : IsRising old now next pending (step.Inner byte start end children ∷ steps))
+  pub rise-inner : (old now new : NodeArena K V P) (next byte start end children : ℕ) (pending after : List (ℕ × OpaqueNodePtr K V P)) (steps : List Step) (at : OpaqueNodePtr K V P) (r : IsRising old now next pending (step.Inner byte start end children ∷ steps))
       → IsPlaced now new (kind_for (length (drop (length pending - children) pending))) (node_of P (take (end - start) (drop start r.leads.0.1)) (drop (length pending - children) pending)) at
       → after ≡ take (length pending - children) pending ++ (byte, at) ∷ [] → LeavesStanding → MakesTree → IsRising old new next after steps
   rise-inner old now new next byte start end children pending after steps at r p is_after leaves_standing makes_tree =
@@ -342,7 +342,7 @@ module _ {K V : Type 0} {P : ℕ} (text : K → List ℕ) (pairs : List (OpaqueN
       }
 
   -- the same as the code calls it
-  pub rise-inner-called : (old now new : ArenaOf K V P) (next byte start end children : ℕ) (pending after kids : List (ℕ × OpaqueNodePtr K V P)) (last : List ℕ) (steps : List Step) (at : OpaqueNodePtr K V P) (r : IsRising old now next pending (step.Inner byte start end children ∷ steps))
+  pub rise-inner-called : (old now new : NodeArena K V P) (next byte start end children : ℕ) (pending after kids : List (ℕ × OpaqueNodePtr K V P)) (last : List ℕ) (steps : List Step) (at : OpaqueNodePtr K V P) (r : IsRising old now next pending (step.Inner byte start end children ∷ steps))
       → kids ≡ drop (length pending - children) pending → last ≡ r.leads.0.1 → IsPlaced now new (kind_for (length kids)) (node_of P (take (end - start) (drop start last)) kids) at
       → after ≡ take (length pending - children) pending ++ (byte, at) ∷ [] → LeavesStanding → MakesTree → IsRising old new next after steps
   rise-inner-called old now new next byte start end children pending after kids last steps at r is_kids is_last p is_after leaves_standing makes_tree =
@@ -351,26 +351,26 @@ module _ {K V : Type 0} {P : ℕ} (text : K → List ℕ) (pairs : List (OpaqueN
       (subst (λ k. IsPlaced now new (kind_for (length k)) (node_of P (take (end - start) (drop start last)) k) at) is_kids p)) is_after leaves_standing makes_tree
 
   -- the next leaf is there, and so is the last one
-  pub leaf-within : (old now : ArenaOf K V P) (next byte : ℕ) (pending : List (ℕ × OpaqueNodePtr K V P)) (steps : List Step) → IsRising old now next pending (step.Leaf byte ∷ steps) → next < length pairs
+  pub leaf-within : (old now : NodeArena K V P) (next byte : ℕ) (pending : List (ℕ × OpaqueNodePtr K V P)) (steps : List Step) → IsRising old now next pending (step.Leaf byte ∷ steps) → next < length pairs
   leaf-within old now next byte pending steps r = slice_get_within pairs next r.leads.0 r.leads.1
 
-  pub inner-within : (old now : ArenaOf K V P) (next byte start end children : ℕ) (pending : List (ℕ × OpaqueNodePtr K V P)) (steps : List Step) → IsRising old now next pending (step.Inner byte start end children ∷ steps) → (0 < next) × (next - 1 < length pairs)
+  pub inner-within : (old now : NodeArena K V P) (next byte start end children : ℕ) (pending : List (ℕ × OpaqueNodePtr K V P)) (steps : List Step) → IsRising old now next pending (step.Inner byte start end children ∷ steps) → (0 < next) × (next - 1 < length pairs)
   inner-within old now next byte start end children pending steps r = (r.leads.1, slice_get_within pairs (next - 1) r.leads.0 r.leads.2)
 
-  pub few-pending : (old now : ArenaOf K V P) (next : ℕ) (pending : List (ℕ × OpaqueNodePtr K V P)) (steps : List Step) → IsRising old now next pending steps → length pending ≤ next
+  pub few-pending : (old now : NodeArena K V P) (next : ℕ) (pending : List (ℕ × OpaqueNodePtr K V P)) (steps : List Step) → IsRising old now next pending steps → length pending ≤ next
   few-pending old now next pending steps r = omega (arith, r.few, ap length r.roots)
 
   -- after the last step one tree is pending
-  pub one-pending : (old now : ArenaOf K V P) (next : ℕ) (pending : List (ℕ × OpaqueNodePtr K V P)) (steps : List Step) (index : ℕ) → length steps ≤ index → IsRising old now next pending (drop index steps) → length pending ≡ 1
+  pub one-pending : (old now : NodeArena K V P) (next : ℕ) (pending : List (ℕ × OpaqueNodePtr K V P)) (steps : List Step) (index : ℕ) → length steps ≤ index → IsRising old now next pending (drop index steps) → length pending ≡ 1
   one-pending old now next pending steps index past r =
       let done = subst (IsRising old now next pending) (drop_all index steps past) r in
       ap length (sym done.roots) ∙ ap (λ stack. length (branch_roots stack)) done.leads.3
 
   -- before the first step
-  pub rising-none : (old : ArenaOf K V P) (steps : List Step) (pending : List (ℕ × OpaqueNodePtr K V P)) → pending ≡ [] → Leads pairs 0 NoBranch steps → ((kind : NodeType) → kind ≢ kinds.Leaf → needed kind steps ≤ room old kind) → IsRising old old 0 pending steps
+  pub rising-none : (old : NodeArena K V P) (steps : List Step) (pending : List (ℕ × OpaqueNodePtr K V P)) → pending ≡ [] → Leads pairs 0 NoBranch steps → ((kind : NodeType) → kind ≢ kinds.Leaf → needed kind steps ≤ room old kind) → IsRising old old 0 pending steps
   rising-none old steps pending none leads rooms = record { stack = NoBranch; roots = sym none; leads = leads; stands = tt; smallest_kinds = tt; in_order = refl; kept = λ pointer was. refl; adds = λ before a. a; few = omega arith; rooms = rooms }
 
-module _ {K V : Type 0} {P : ℕ} (text : K → List ℕ) (old : ArenaOf K V P) where
+module _ {K V : Type 0} {P : ℕ} (text : K → List ℕ) (old : NodeArena K V P) where
   pub texts-of-pairs : (of : List (NodePtr P (LeafNode K V P))) → map (λ (pair : OpaqueNodePtr K V P × List ℕ). pair.1) (leaf_pairs text old of) ≡ leaf_texts text old of
   texts-of-pairs [] = refl
   texts-of-pairs (leaf ∷ of) = ap (λ rest. text_at text old (slab_key leaf) ∷ rest) (texts-of-pairs of)
@@ -392,7 +392,7 @@ module _ {K V : Type 0} {P : ℕ} (text : K → List ℕ) (old : ArenaOf K V P) 
       (found.0, ap held_leaf found.1, ap (λ o. option_map_or (λ (l : LeafNode K V P). text (leaf_key l)) o []) (sym found.1))
 
   -- and its text stays
-  pub text-kept : (now : ArenaOf K V P) (key : ℕ) → HoldsLeaf old key → ((pointer : OpaqueNodePtr K V P) → held old pointer ≢ Nothing → held now pointer ≡ held old pointer) → HoldsLeaf now key × (text_at text now key ≡ text_at text old key)
+  pub text-kept : (now : NodeArena K V P) (key : ℕ) → HoldsLeaf old key → ((pointer : OpaqueNodePtr K V P) → held old pointer ≢ Nothing → held now pointer ≡ held old pointer) → HoldsLeaf now key × (text_at text now key ≡ text_at text old key)
   text-kept now key is_held kept =
       let found = leaf-there key is_held in
       let same = kept (opaque_pointer kinds.Leaf key) is_held in
@@ -408,14 +408,14 @@ module _ {K V : Type 0} {P : ℕ} (text : K → List ℕ) (old : ArenaOf K V P) 
   pairs-count (leaf ∷ of) = ap suc (pairs-count of)
 
 -- what the next step finds, over the leaves themselves
-module _ {K V : Type 0} {P : ℕ} (text : K → List ℕ) (old : ArenaOf K V P) (of : List (NodePtr P (LeafNode K V P))) where
-  abbrev Rising : ArenaOf K V P → ℕ → List (ℕ × OpaqueNodePtr K V P) → List Step → Type 0
+module _ {K V : Type 0} {P : ℕ} (text : K → List ℕ) (old : NodeArena K V P) (of : List (NodePtr P (LeafNode K V P))) where
+  abbrev Rising : NodeArena K V P → ℕ → List (ℕ × OpaqueNodePtr K V P) → List Step → Type 0
   Rising now next pending steps = IsRising text (leaf_pairs text old of) (map leaf_pointer of) old now next pending steps
 
-  at_step : (now : ArenaOf K V P) (next : ℕ) (pending : List (ℕ × OpaqueNodePtr K V P)) (steps : List Step) (index : ℕ) (d this : Step) → index < length steps → get_or steps index d ≡ this → Rising now next pending (drop index steps) → Rising now next pending (this ∷ drop (index + 1) steps)
+  at_step : (now : NodeArena K V P) (next : ℕ) (pending : List (ℕ × OpaqueNodePtr K V P)) (steps : List Step) (index : ℕ) (d this : Step) → index < length steps → get_or steps index d ≡ this → Rising now next pending (drop index steps) → Rising now next pending (this ∷ drop (index + 1) steps)
   at_step now next pending steps index d this inside is rising = subst (Rising now next pending) (drop_more steps index d inside ∙ ap (λ s. s ∷ drop (index + 1) steps) is) rising
 
-  pub at_leaf : (now : ArenaOf K V P) (next : ℕ) (pending : List (ℕ × OpaqueNodePtr K V P)) (steps : List Step) (index : ℕ) (d : Step) (byte : ℕ) → index < length steps → get_or steps index d ≡ step.Leaf byte → Rising now next pending (drop index steps)
+  pub at_leaf : (now : NodeArena K V P) (next : ℕ) (pending : List (ℕ × OpaqueNodePtr K V P)) (steps : List Step) (index : ℕ) (d : Step) (byte : ℕ) → index < length steps → get_or steps index d ≡ step.Leaf byte → Rising now next pending (drop index steps)
       → record {
         rising : Rising now next pending (step.Leaf byte ∷ drop (index + 1) steps);
         inside : next < length of;
@@ -430,7 +430,7 @@ module _ {K V : Type 0} {P : ℕ} (text : K → List ℕ) (old : ArenaOf K V P) 
       }
 
   -- the last leaf that is below the node has the text that the step is about
-  pub at_inner : (now : ArenaOf K V P) (next : ℕ) (pending : List (ℕ × OpaqueNodePtr K V P)) (steps : List Step) (index : ℕ) (d : Step) (byte start end children : ℕ) → index < length steps → get_or steps index d ≡ step.Inner byte start end children → Rising now next pending (drop index steps) → HoldLeaves old of
+  pub at_inner : (now : NodeArena K V P) (next : ℕ) (pending : List (ℕ × OpaqueNodePtr K V P)) (steps : List Step) (index : ℕ) (d : Step) (byte start end children : ℕ) → index < length steps → get_or steps index d ≡ step.Inner byte start end children → Rising now next pending (drop index steps) → HoldLeaves old of
       → record {
         rising : Rising now next pending (step.Inner byte start end children ∷ drop (index + 1) steps);
         some : 0 < next;
@@ -465,7 +465,7 @@ module _ {K V : Type 0} {P : ℕ} (text : K → List ℕ) (old : ArenaOf K V P) 
       }
 
   -- after the last step the tree of all leaves stands
-  pub risen : (now : ArenaOf K V P) (next : ℕ) (pending : List (ℕ × OpaqueNodePtr K V P)) (steps : List Step) (index : ℕ) (first : ℕ × OpaqueNodePtr K V P) → length steps ≤ index → Rising now next pending (drop index steps)
+  pub risen : (now : NodeArena K V P) (next : ℕ) (pending : List (ℕ × OpaqueNodePtr K V P)) (steps : List Step) (index : ℕ) (first : ℕ × OpaqueNodePtr K V P) → length steps ≤ index → Rising now next pending (drop index steps)
       → first ≡ get_or pending 0 first → (tree : Tree (OpaqueNodePtr K V P)) × IsRaised text old now of first.1 tree
   risen now next pending steps index first past r here =
       let done = subst (Rising now next pending) (drop_all index steps past) r in
@@ -489,6 +489,6 @@ module _ {K V : Type 0} {P : ℕ} (text : K → List ℕ) (old : ArenaOf K V P) 
         },
       )
 
-module _ {K V : Type 0} {P : ℕ} {old new : ArenaOf K V P} {node : nodes.Inner (OpaqueNodePtr K V P)} {at : OpaqueNodePtr K V P} where
+module _ {K V : Type 0} {P : ℕ} {old new : NodeArena K V P} {node : nodes.Inner (OpaqueNodePtr K V P)} {at : OpaqueNodePtr K V P} where
   pub placed-kind : (kind other : NodeType) → other ≡ kind → IsPlaced old new kind node at → IsPlaced old new other node at
   placed-kind kind other same p = subst (λ k. IsPlaced old new k node at) (sym same) p

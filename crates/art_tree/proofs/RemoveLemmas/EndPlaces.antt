@@ -9,7 +9,7 @@ use Rattle.art_nodes.specs.Pointers.{slab_key}
 use Rattle.art_nodes.specs.declared.pointers.NodePtr.{NodePtr}
 use Rattle.art_nodes.specs.declared.pointers.OpaqueNodePtr.{OpaqueNodePtr}
 use Rattle.art_nodes.specs.declared.leaf_node.LeafNode.{LeafNode}
-use Rattle.art_arena.specs.Arena.{ArenaOf, HeldLeaf, held}
+use Rattle.art_arena.specs.Arena.{NodeArena, HeldLeaf, held}
 use Rattle.art_arena.specs.Ends.{IsAtEnd}
 use Rattle.art_arena.specs.Links.{leaf_at}
 use Rattle.art_arena.specs.Standing.{IsTreeIn}
@@ -24,7 +24,7 @@ use Rattle.art_tree.proofs.SharedLemmas.ExchangedSubtree.{the-one}
 use Rattle.art_tree.proofs.InsertLemmas.NodeLemmas.{one-leaf}
 
 -- a search for the text of a leaf finds that leaf
-module _ {K V : Type 0} {P : ℕ} (text : K → List ℕ) (arena seen : ArenaOf K V P) (same : seen ≡ arena) (root : OpaqueNodePtr K V P) (tree : Tree (OpaqueNodePtr K V P)) (is : IsTreeIn text arena root tree) (leaf : NodePtr P (LeafNode K V P)) (key : List ℕ) (inside : Contains (leaves tree) (leaf_pointer leaf, key)) where
+module _ {K V : Type 0} {P : ℕ} (text : K → List ℕ) (arena seen : NodeArena K V P) (same : seen ≡ arena) (root : OpaqueNodePtr K V P) (tree : Tree (OpaqueNodePtr K V P)) (is : IsTreeIn text arena root tree) (leaf : NodePtr P (LeafNode K V P)) (key : List ℕ) (inside : Contains (leaves tree) (leaf_pointer leaf, key)) where
   read : IsTreeIn text seen root tree
   read = subst (λ arena. IsTreeIn text arena root tree) (sym same) is
 
@@ -37,7 +37,7 @@ module _ {K V : Type 0} {P : ℕ} (text : K → List ℕ) (arena seen : ArenaOf 
       let one = the-one (leaf_pointer other, key) (leaf_pointer leaf, key) (subst (λ all. Contains all (leaf_pointer leaf, key)) (answer tree read) (in-scan (leaves tree) (leaf_pointer leaf) key inside)) in
       subst (λ p. IsPathTo tree p path) (ap (λ pair. pair.0) one) (way tree read)
 
-module _ {K V : Type 0} {P : ℕ} (text : K → List ℕ) (arena : ArenaOf K V P) (end : End) (root : OpaqueNodePtr K V P) (tree : Tree (OpaqueNodePtr K V P)) (alone : IsAlone text arena root tree) (leaf : NodePtr P (LeafNode K V P)) (at_end : IsAtEnd end (leaves tree) (leaf_pointer leaf)) where
+module _ {K V : Type 0} {P : ℕ} (text : K → List ℕ) (arena : NodeArena K V P) (end : End) (root : OpaqueNodePtr K V P) (tree : Tree (OpaqueNodePtr K V P)) (alone : IsAlone text arena root tree) (leaf : NodePtr P (LeafNode K V P)) (at_end : IsAtEnd end (leaves tree) (leaf_pointer leaf)) where
   -- the leaf at an end has the text of this key
   pub end-text : (key : K) → option_map leaf_key (leaf_at arena (slab_key leaf)) ≡ Some key → Contains (leaves tree) (leaf_pointer leaf, text key)
   end-text key is_key =
@@ -58,7 +58,7 @@ module _ {K V : Type 0} {P : ℕ} (text : K → List ℕ) (arena : ArenaOf K V P
         }
 
 -- a leaf that is held has the text that the tree gives it
-pub held-text : {K V : Type 0} {P : ℕ} (text : K → List ℕ) (arena : ArenaOf K V P) (root : OpaqueNodePtr K V P) (tree : Tree (OpaqueNodePtr K V P)) → IsAlone text arena root tree → (at : OpaqueNodePtr K V P) (x : List ℕ) → Contains (leaves tree) (at, x) → (node : LeafNode K V P) → held arena at ≡ HeldLeaf node → x ≡ text (leaf_key node)
+pub held-text : {K V : Type 0} {P : ℕ} (text : K → List ℕ) (arena : NodeArena K V P) (root : OpaqueNodePtr K V P) (tree : Tree (OpaqueNodePtr K V P)) → IsAlone text arena root tree → (at : OpaqueNodePtr K V P) (x : List ℕ) → Contains (leaves tree) (at, x) → (node : LeafNode K V P) → held arena at ≡ HeldLeaf node → x ≡ text (leaf_key node)
 held-text text arena root tree alone at x inside node is =
     let (own, there, has) = leaf-held-in text arena tree alone.is_tree.stands at x inside in
     sym has ∙ ap (λ l. text (leaf_key l)) (one-leaf (held arena at) own node there is)

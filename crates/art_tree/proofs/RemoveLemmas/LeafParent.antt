@@ -7,7 +7,7 @@ use Rattle.art_nodes.specs.Leaf.{leaf_key, leaf_value}
 use Rattle.art_nodes.specs.Pointers.{node_kind, opaque_key}
 use Rattle.art_nodes.specs.declared.pointers.OpaqueNodePtr.{OpaqueNodePtr}
 use Rattle.art_nodes.specs.declared.leaf_node.LeafNode.{LeafNode}
-use Rattle.art_arena.specs.Arena.{ArenaOf, HeldInner, HeldLeaf, Nothing, held}
+use Rattle.art_arena.specs.Arena.{NodeArena, HeldInner, HeldLeaf, Nothing, held}
 use Rattle.art_arena.specs.Links.{AreDistinct, Spells}
 use Rattle.art_arena.specs.Standing.{NodeStands, StandsIn, AllStandIn}
 use Rattle.art_arena.specs.Trees.{Tree, Leaf, Inner, Branch, branch_roots, branch_leaves, texts, places, branch_places, IsSound}
@@ -38,7 +38,7 @@ module _ {K V : Type 0} {P : ℕ} {leaf parent : OpaqueNodePtr K V P} {byte : �
   right_there hangs = branch_leaves hangs.after ++ leaves_after hangs.upper
 
   -- the leaf and the node, in the tree and in the arena
-  pub record LeafPlace (text : K → List ℕ) (old : ArenaOf K V P) (root : OpaqueNodePtr K V P) (hangs : HangsUnder tree leaf parent byte higher) : Type 0 where
+  pub record LeafPlace (text : K → List ℕ) (old : NodeArena K V P) (root : OpaqueNodePtr K V P) (hangs : HangsUnder tree leaf parent byte higher) : Type 0 where
     pub alone : IsAlone text old root (plug hangs.upper (part_there hangs))
     pub stands : StandsIn text old (part_there hangs)
     pub sound : IsSound (path_to hangs.upper) (part_there hangs)
@@ -59,7 +59,7 @@ module _ {K V : Type 0} {P : ℕ} {leaf parent : OpaqueNodePtr K V P} {byte : �
     pub inside : Contains (places (part_there hangs)) leaf
     pub spelled : Spells old (keys_of (left_there hangs) ++ opaque_key leaf ∷ keys_of (right_there hangs))
 
-  pub leaf-place : {text : K → List ℕ} {old : ArenaOf K V P} {root : OpaqueNodePtr K V P} → IsAlone text old root tree → (hangs : HangsUnder tree leaf parent byte higher) → LeafPlace text old root hangs
+  pub leaf-place : {text : K → List ℕ} {old : NodeArena K V P} {root : OpaqueNodePtr K V P} → IsAlone text old root tree → (hangs : HangsUnder tree leaf parent byte higher) → LeafPlace text old root hangs
   leaf-place {text = text} {old = old} {root = root} within hangs =
       let part = part_there hangs in
       let before = hangs.before in

@@ -12,7 +12,7 @@ use Rattle.art_nodes.specs.Leaf.{leaf_key, leaf_value}
 use Rattle.art_nodes.specs.Pointers.{node_kind, opaque_key}
 use Rattle.art_nodes.specs.declared.pointers.OpaqueNodePtr.{OpaqueNodePtr}
 use Rattle.art_nodes.specs.declared.leaf_node.LeafNode.{LeafNode}
-use Rattle.art_arena.specs.Arena.{ArenaOf, Held, HeldInner, HeldLeaf, Nothing, held, Changes, SameNodes}
+use Rattle.art_arena.specs.Arena.{NodeArena, Held, HeldInner, HeldLeaf, Nothing, held, Changes, SameNodes}
 use Rattle.art_arena.specs.Links.{AreDistinct, Spells}
 use Rattle.art_arena.specs.Standing.{NodeStands, StandsIn, AllStandIn}
 use Rattle.art_arena.specs.Trees.{Tree, Leaf, Inner, Branches, Branch, root_of, branch_leaves, texts, places, branch_places, branch_roots, IsSound, AreSound}
@@ -22,7 +22,7 @@ use Rattle.art_tree.specs.Edits.{StaysAt}
 use Rattle.art_tree.specs.Nodes.{node_with_prefix}
 use Rattle.art_tree.specs.Hanging.{CanHang, IsHung}
 use Rattle.art_tree.specs.Loading.{HasSmallestKinds, HaveSmallestKinds}
-use Rattle.art_tree.specs.Places.{above}
+use Rattle.art_tree.specs.InsertionPoints.{above}
 use Rattle.art_tree.specs.Removal.{IsRemoved}
 use Rattle.art_tree.proofs.SharedLemmas.ChangedTree.{held-on, place-held, root-place}
 use Rattle.art_tree.proofs.RemoveLemmas.RemovedLeaf.{AreCuts, HasDropped, can-hang, cut-removed, inside-kept, last-inside, leaves-kept, top-last}
@@ -40,7 +40,7 @@ use Rattle.art_arena.proofs.StandingLaws.{leaf_kind, one-inner}
 stands-for : {H : Type 0} (room : ℕ) (node : nodes.Inner H) (prefix : List ℕ) (branches : Branches H) → NodeStands room node prefix branches → StandsFor room (header_of node) prefix
 stands-for room node prefix branches shows = λ i. record { count = length node.children; prefix_len = shows.prefix_len i; stored = shows.stored i }
 
-module _ {K V : Type 0} {P : ℕ} {text : K → List ℕ} {old : ArenaOf K V P} {root leaf parent : OpaqueNodePtr K V P} {byte : ℕ} {higher : Option (OpaqueNodePtr K V P × ℕ)} {tree : Tree (OpaqueNodePtr K V P)} {hangs : HangsUnder tree leaf parent byte higher} (place : LeafPlace text old root hangs) where
+module _ {K V : Type 0} {P : ℕ} {text : K → List ℕ} {old : NodeArena K V P} {root leaf parent : OpaqueNodePtr K V P} {byte : ℕ} {higher : Option (OpaqueNodePtr K V P × ℕ)} {tree : Tree (OpaqueNodePtr K V P)} {hangs : HangsUnder tree leaf parent byte higher} (place : LeafPlace text old root hangs) where
   abbrev leaf_there : Tree (OpaqueNodePtr K V P)
   leaf_there = Leaf leaf hangs.text
 
@@ -53,7 +53,7 @@ module _ {K V : Type 0} {P : ℕ} {text : K → List ℕ} {old : ArenaOf K V P} 
       let all = subst (All Q) (ap of (leaves-taken hangs.prefix parent hangs.before byte leaf hangs.text hangs.after) ∙ map-append (λ l. l.1) lefts ((leaf, hangs.text) ∷ rights)) each in
       subst (All Q) (sym (map-append (λ l. l.1) lefts rights)) (All-append Q (of lefts) (of rights) (All-left Q (of lefts) (hangs.text ∷ of rights) all) (All-tail Q hangs.text (of rights) (All-right Q (of lefts) (hangs.text ∷ of rights) all)))
 
-  module _ (one_place : (arena : ArenaOf K V P) (path : List ℕ) (t : Tree (OpaqueNodePtr K V P)) → StandsIn text arena t → IsSound path t → AreDistinct (places t)) where
+  module _ (one_place : (arena : NodeArena K V P) (path : List ℕ) (t : Tree (OpaqueNodePtr K V P)) → StandsIn text arena t → IsSound path t → AreDistinct (places t)) where
     distinct-there : AreDistinct (places (plug hangs.upper (part_there hangs)))
     distinct-there = one_place old [] (plug hangs.upper (part_there hangs)) place.alone.is_tree.stands place.alone.is_tree.sound
 
@@ -75,7 +75,7 @@ module _ {K V : Type 0} {P : ℕ} {text : K → List ℕ} {old : ArenaOf K V P} 
       only-distinct = one_place old ((path_to hangs.upper ++ hangs.prefix) ++ one-there.other ∷ []) only_there only-stands (subst (AreSound (path_to hangs.upper ++ hangs.prefix)) one-there.is (left-sound hangs.before byte leaf_there hangs.after (path_to hangs.upper) hangs.prefix parent place.sound)).0
 
       -- the arena once the leaf is gone
-      module _ (cut : ArenaOf K V P) (gone : held cut leaf ≡ Nothing) (stays : (p : OpaqueNodePtr K V P) → p ≢ leaf → StaysAt old cut p) where
+      module _ (cut : NodeArena K V P) (gone : held cut leaf ≡ Nothing) (stays : (p : OpaqueNodePtr K V P) → p ≢ leaf → StaysAt old cut p) where
         parent-cut : held cut parent ≡ HeldInner place.node
         parent-cut = (stays parent place.apart).keeps.inner place.node place.is_held
 
@@ -146,7 +146,7 @@ module _ {K V : Type 0} {P : ℕ} {text : K → List ℕ} {old : ArenaOf K V P} 
               omega (arith, fits, place.shows.prefix_len, low.shows.prefix_len, ap (λ n. n.prefix_len) same)
 
           -- the arena once the child has the longer prefix
-          module _ (joined : ArenaOf K V P) (leaf_same : node_kind child ≡ kinds.Leaf → SameNodes cut joined)
+          module _ (joined : NodeArena K V P) (leaf_same : node_kind child ≡ kinds.Leaf → SameNodes cut joined)
               (joins : (upper lower : nodes.Inner (OpaqueNodePtr K V P)) (front back : List ℕ) → held cut parent ≡ HeldInner upper → held cut child ≡ HeldInner lower → StandsFor P (header_of upper) front → StandsFor P (header_of lower) back → Changes cut joined child (HeldInner (node_with_prefix P lower (front ++ other ∷ back)))) where
             record IsJoined : Type 0 where
               pub others : (p : OpaqueNodePtr K V P) → p ≢ child → held joined p ≡ held cut p
@@ -200,7 +200,7 @@ module _ {K V : Type 0} {P : ℕ} {text : K → List ℕ} {old : ArenaOf K V P} 
             parent-joined none = parent-held (sym parent-same ∙ none)
 
             -- the arena after the node is deallocated
-            module _ (new : ArenaOf K V P) (given : Changes joined new parent Nothing) where
+            module _ (new : NodeArena K V P) (given : Changes joined new parent Nothing) where
               two-cuts : AreCuts text old cut new hangs.upper (part_there hangs) root leaf child
               two-cuts = record {
                 stood = place.alone.is_tree.stands;
@@ -219,7 +219,7 @@ module _ {K V : Type 0} {P : ℕ} {text : K → List ℕ} {old : ArenaOf K V P} 
               pub two-hangs : CanHang new higher
               two-hangs = subst (CanHang new) hangs.hangs (can-hang text old cut new hangs.upper (part_there hangs) root leaf child two-cuts)
 
-              module _ (last : ArenaOf K V P) (root_now : OpaqueNodePtr K V P) (hung : IsHung new last higher child root root_now) (spells : (left right : List ℕ) → Spells old (left ++ opaque_key leaf ∷ right) → Spells cut (left ++ right)) where
+              module _ (last : NodeArena K V P) (root_now : OpaqueNodePtr K V P) (hung : IsHung new last higher child root root_now) (spells : (left right : List ℕ) → Spells old (left ++ opaque_key leaf ∷ right) → Spells cut (left ++ right)) where
                 hung-there : IsHung new last (above hangs.upper) child root root_now
                 hung-there = subst (λ parent. IsHung new last parent child root root_now) (sym hangs.hangs) hung
 

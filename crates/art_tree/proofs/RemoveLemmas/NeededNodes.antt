@@ -5,7 +5,7 @@ use Rattle.art_header.specs.declared.node_type.NodeType.{NodeType}
 use Rattle.art_header.specs.declared.node_type.NodeType.TheVariants as kinds
 use Rattle.art_nodes.specs.Pointers.{node_kind}
 use Rattle.art_nodes.specs.declared.pointers.OpaqueNodePtr.{OpaqueNodePtr}
-use Rattle.art_arena.specs.Arena.{ArenaOf, room}
+use Rattle.art_arena.specs.Arena.{NodeArena, room}
 use Rattle.art_arena.specs.Trees.{Tree, Leaf, Inner, branch_roots, leaves, texts}
 use Rattle.art_tree.specs.Contexts.{plug, path_to, join}
 use Rattle.art_tree.specs.Dictionary.{HasEntry}
@@ -26,7 +26,7 @@ use Rattle.art_tree.proofs.SharedLemmas.TextLists.{text-or-new, text-stays}
 abbrev texts_of : {H : Type 0} → List (H × List ℕ) → List (List ℕ)
 texts_of all = map (λ leaf. leaf.1) all
 
-module _ {K V : Type 0} {P : ℕ} {text : K → List ℕ} {old : ArenaOf K V P} {root leaf parent : OpaqueNodePtr K V P} {byte : ℕ} {higher : Option (OpaqueNodePtr K V P × ℕ)} {tree : Tree (OpaqueNodePtr K V P)} {hangs : HangsUnder tree leaf parent byte higher} (place : LeafPlace text old root hangs)
+module _ {K V : Type 0} {P : ℕ} {text : K → List ℕ} {old : NodeArena K V P} {root leaf parent : OpaqueNodePtr K V P} {byte : ℕ} {higher : Option (OpaqueNodePtr K V P × ℕ)} {tree : Tree (OpaqueNodePtr K V P)} {hangs : HangsUnder tree leaf parent byte higher} (place : LeafPlace text old root hangs)
     (apart : AreApart (texts (plug hangs.upper (part_there hangs)))) where
   abbrev now : Tree (OpaqueNodePtr K V P)
   now = Inner parent hangs.prefix (join hangs.before hangs.after)

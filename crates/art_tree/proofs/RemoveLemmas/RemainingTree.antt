@@ -7,7 +7,7 @@ use Rattle.art_header.specs.declared.node_type.NodeType.{NodeType}
 use Rattle.art_nodes.specs.ChildMap.{ChildMap, IsAscending, IsAscendingFrom, key_bytes, child_at, without_child}
 use Rattle.art_nodes.specs.declared.pointers.OpaqueNodePtr.{OpaqueNodePtr}
 use Rattle.art_nodes.proofs.ChildMapLaws.{ascending_removed, child_at_removed}
-use Rattle.art_arena.specs.Arena.{ArenaOf}
+use Rattle.art_arena.specs.Arena.{NodeArena}
 use Rattle.art_arena.specs.Trees.{Tree, Leaf, Inner, Branches, NoBranch, Branch, branch_roots, root_of, leaves, branch_leaves, texts, branch_texts, places, branch_places, IsSound, AreSound}
 use Rattle.art_tree.specs.Art.{IsAlone}
 use Rattle.art_tree.specs.Dictionary.{entry_at}
@@ -223,7 +223,7 @@ text-gone (y ∷ left) right leaf x apart p inside = elim (Contains-append_cases
   | inr later ↦ text-gone left right leaf x (λ i j d earlier within. apart (suc i) (suc j) d (omega (arith, earlier)) (omega (arith, within))) p later
 ]
 
-module _ {K V : Type 0} {P : ℕ} (text : K → List ℕ) (new : ArenaOf K V P) where
+module _ {K V : Type 0} {P : ℕ} (text : K → List ℕ) (new : NodeArena K V P) where
   -- so the text of a leaf that a tree is without has no entry
   pub gone-entry : (root_now : OpaqueNodePtr K V P) (now : Tree (OpaqueNodePtr K V P)) → IsAlone text new root_now now → (tree : Tree (OpaqueNodePtr K V P)) → AreApart (texts tree) → (left right : List (OpaqueNodePtr K V P × List ℕ)) (leaf : OpaqueNodePtr K V P) (x : List ℕ)
       → leaves tree ≡ left ++ (leaf, x) ∷ right → leaves now ≡ left ++ right → entry_at text new x ≡ None

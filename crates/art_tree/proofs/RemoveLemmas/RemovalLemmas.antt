@@ -11,7 +11,7 @@ use Rattle.art_nodes.specs.Pointers.{node_kind, opaque_key, opaque_pointer}
 use Rattle.art_nodes.specs.declared.pointers.NodePtr.{NodePtr}
 use Rattle.art_nodes.specs.declared.pointers.OpaqueNodePtr.{OpaqueNodePtr}
 use Rattle.art_nodes.specs.declared.leaf_node.LeafNode.{LeafNode}
-use Rattle.art_arena.specs.Arena.{ArenaOf, HeldInner, HeldLeaf, Nothing, held, held_leaf, room, Changes, SameRoom, SameOtherRoom}
+use Rattle.art_arena.specs.Arena.{NodeArena, HeldInner, HeldLeaf, Nothing, held, held_leaf, room, Changes, SameRoom, SameOtherRoom}
 use Rattle.art_arena.specs.Links.{AreDistinct, HoldsLeaf, IsKnit, SameButLinks, Spells, SpellsAfter, leaf_at}
 use Rattle.art_arena.specs.Standing.{IsTreeIn, StandsIn}
 use Rattle.art_arena.specs.Trees.{Tree, Leaf, Inner, Branch, leaves, texts}
@@ -41,7 +41,7 @@ apart-from (first ∷ front) this back distinct =
     All-cons (λ other. other ≢ this) first (front ++ back) (λ same. differ (sym same)) (apart-from front this back distinct.1)
 
 -- a leaf is removed from its list, and then from the arena
-module _ {K V : Type 0} {P : ℕ} (old linked : ArenaOf K V P) (this : ℕ) (same : SameButLinks old linked) where
+module _ {K V : Type 0} {P : ℕ} (old linked : NodeArena K V P) (this : ℕ) (same : SameButLinks old linked) where
   -- it is still held when it is out of its list
   pub still-held : IsKnit old this → HoldsLeaf linked this
   still-held knit none = by_slot (leaf_at old this) refl
@@ -57,7 +57,7 @@ module _ {K V : Type 0} {P : ℕ} (old linked : ArenaOf K V P) (this : ℕ) (sam
       let one : taken ≡ after.0 = one-leaf (held linked (opaque_pointer kinds.Leaf this)) taken after.0 is (ap held_leaf after.1) in
       λ i. ((key ∙ ap leaf_key one ∙ after.2) i, (value ∙ ap leaf_value one ∙ after.3) i)
 
-  module _ (new : ArenaOf K V P) (changes : Changes linked new (opaque_pointer kinds.Leaf this) Nothing) where
+  module _ (new : NodeArena K V P) (changes : Changes linked new (opaque_pointer kinds.Leaf this) Nothing) where
     -- a list without the leaf is spelled on
     spells-without : (before : Option ℕ) (keys : List ℕ) → All (λ other. other ≢ this) keys → SpellsAfter linked before keys → SpellsAfter new before keys
     spells-without before [] apart spelled = tt
@@ -85,7 +85,7 @@ module _ {K V : Type 0} {P : ℕ} (old linked : ArenaOf K V P) (this : ℕ) (sam
         }
 
 -- no kind has less spare capacity, where a leaf is deallocated
-module _ {K V : Type 0} {P : ℕ} (old linked new : ArenaOf K V P) where
+module _ {K V : Type 0} {P : ℕ} (old linked new : NodeArena K V P) where
   pub no-less-room : SameRoom old linked → room linked kinds.Leaf ≤ room new kinds.Leaf → SameOtherRoom linked new kinds.Leaf → (kind : NodeType) → room old kind ≤ room new kind
   no-less-room stays leaf others kinds.Node4 = omega (arith, same-room old linked stays kinds.Node4, others kinds.Node4 (λ e. cc))
   no-less-room stays leaf others kinds.Node16 = omega (arith, same-room old linked stays kinds.Node16, others kinds.Node16 (λ e. cc))
@@ -95,28 +95,28 @@ module _ {K V : Type 0} {P : ℕ} (old linked new : ArenaOf K V P) where
 
 -- one kind after the other has spare capacity for one node more at most
 module _ {K V : Type 0} {P : ℕ} where
-  pub frees-after : (old mid new : ArenaOf K V P) (kind : NodeType) → SameRoom old mid → FreesOne mid new kind → FreesOne old new kind
+  pub frees-after : (old mid new : NodeArena K V P) (kind : NodeType) → SameRoom old mid → FreesOne mid new kind → FreesOne old new kind
   frees-after old mid new kind stays frees = record {
     one_more = omega (arith, same-room old mid stays kind, frees.one_more);
     others = λ other differ. frees.others other differ ∙ same-room old mid stays other;
     capacity = λ other. frees.capacity other ∙ same-capacity old mid stays other;
   }
 
-  pub frees-one : (old new : ArenaOf K V P) (kind : NodeType) → FreesOne old new kind → FreesOneEach old new
+  pub frees-one : (old new : NodeArena K V P) (kind : NodeType) → FreesOne old new kind → FreesOneEach old new
   frees-one old new kind frees other = elim (same_or_differ other kind) [
     | inl same ↦ subst (λ k. room new k ≤ room old k + 1) (sym same) frees.one_more
     | inr differ ↦ omega (arith, frees.others other differ)
   ]
 
   -- a leaf, and then an inner node
-  pub frees-two : (old cut joined new last : ArenaOf K V P) (kind : NodeType) → kind ≢ kinds.Leaf → FreesOne old cut kinds.Leaf → SameRoom cut joined → FreesOne joined new kind → SameRoom new last → FreesOneEach old last
+  pub frees-two : (old cut joined new last : NodeArena K V P) (kind : NodeType) → kind ≢ kinds.Leaf → FreesOne old cut kinds.Leaf → SameRoom cut joined → FreesOne joined new kind → SameRoom new last → FreesOneEach old last
   frees-two old cut joined new last kind inner leaf stays node ends other = elim (same_or_differ other kinds.Leaf) [
     | inl same ↦ subst (λ k. room last k ≤ room old k + 1) (sym same) (omega (arith, leaf.one_more, same-room cut joined stays kinds.Leaf, node.others kinds.Leaf (λ e. inner (sym e)), same-room new last ends kinds.Leaf))
     | inr differ ↦ omega (arith, leaf.others other differ, same-room cut joined stays other, frees-one joined new kind node other, same-room new last ends other)
   ]
 
   -- a leaf whose parent has more than the fewest children of its kind
-  pub frees-leaf : (old reserved cut new last : ArenaOf K V P) (parent top : OpaqueNodePtr K V P) (node now : nodes.Inner (OpaqueNodePtr K V P)) → SameRoom old reserved → FreesOne reserved cut kinds.Leaf
+  pub frees-leaf : (old reserved cut new last : NodeArena K V P) (parent top : OpaqueNodePtr K V P) (node now : nodes.Inner (OpaqueNodePtr K V P)) → SameRoom old reserved → FreesOne reserved cut kinds.Leaf
       → HasOneLess cut new parent node now top → length node.children ≢ least_children (node_kind parent) → SameRoom new last → FreesOneEach old last
   frees-leaf old reserved cut new last parent top node now stays leaf less more ends other = elim less [
     | inl cutting ↦ omega (arith, same-room old reserved stays other, frees-one reserved cut kinds.Leaf leaf other, same-room cut new cutting.same_room other, same-room new last ends other)
@@ -124,14 +124,14 @@ module _ {K V : Type 0} {P : ℕ} where
   ]
 
 -- the entry of a leaf's text is what the leaf holds
-pub entry-was : {K V : Type 0} {P : ℕ} (text : K → List ℕ) (arena : ArenaOf K V P) (root : OpaqueNodePtr K V P) (tree : Tree (OpaqueNodePtr K V P)) → IsAlone text arena root tree → AreApart (texts tree) → (at : OpaqueNodePtr K V P) (x : List ℕ) → Contains (leaves tree) (at, x)
+pub entry-was : {K V : Type 0} {P : ℕ} (text : K → List ℕ) (arena : NodeArena K V P) (root : OpaqueNodePtr K V P) (tree : Tree (OpaqueNodePtr K V P)) → IsAlone text arena root tree → AreApart (texts tree) → (at : OpaqueNodePtr K V P) (x : List ℕ) → Contains (leaves tree) (at, x)
     → (entry : K × V) → ((leaf : LeafNode K V P) → held arena at ≡ HeldLeaf leaf → entry ≡ (leaf_key leaf, leaf_value leaf)) → entry_at text arena x ≡ Some entry
 entry-was text arena root tree alone apart at x inside entry is =
     let (leaf, there, has) = leaf-held-in text arena tree alone.is_tree.stands at x inside in
     ap (entry_at text arena) (sym has) ∙ held-entry text arena root tree alone apart at leaf there ∙ ap Some (sym (is leaf there))
 
 -- the only leaf of a tree is gone, and nothing was added
-module _ {K V : Type 0} {P : ℕ} (text : K → List ℕ) (old new : ArenaOf K V P) (root at : OpaqueNodePtr K V P) (x : List ℕ) (alone : IsAlone text old root (Leaf at x)) (gone : held new at ≡ Nothing) (others : (p : OpaqueNodePtr K V P) → p ≢ at → StaysAt old new p) where
+module _ {K V : Type 0} {P : ℕ} (text : K → List ℕ) (old new : NodeArena K V P) (root at : OpaqueNodePtr K V P) (x : List ℕ) (alone : IsAlone text old root (Leaf at x)) (gone : held new at ≡ Nothing) (others : (p : OpaqueNodePtr K V P) → p ≢ at → StaysAt old new p) where
   pub root-empty : IsArt text new None
   root-empty p = elim (cases_pointer p at) [
     | inl same ↦ ap (held new) same ∙ gone
@@ -160,7 +160,7 @@ module _ {K V : Type 0} {P : ℕ} (text : K → List ℕ) (old new : ArenaOf K V
           differ (ap (λ leaf. text (leaf_key leaf)) (one-leaf (held old at) l own (ap (held old) (sym same) ∙ is) own_held) ∙ own_text)
 
 -- the parent of a leaf is held
-pub parent-there : {K V : Type 0} {P : ℕ} (text : K → List ℕ) (arena : ArenaOf K V P) (root : OpaqueNodePtr K V P) (tree : Tree (OpaqueNodePtr K V P)) → IsAlone text arena root tree → (pointer parent : OpaqueNodePtr K V P) (byte : ℕ) (higher : Option (OpaqueNodePtr K V P × ℕ))
+pub parent-there : {K V : Type 0} {P : ℕ} (text : K → List ℕ) (arena : NodeArena K V P) (root : OpaqueNodePtr K V P) (tree : Tree (OpaqueNodePtr K V P)) → IsAlone text arena root tree → (pointer parent : OpaqueNodePtr K V P) (byte : ℕ) (higher : Option (OpaqueNodePtr K V P × ℕ))
     → HangsUnder tree pointer parent byte higher → (node : nodes.Inner (OpaqueNodePtr K V P)) × (held arena parent ≡ HeldInner node)
 parent-there text arena root tree alone pointer parent byte higher hangs =
     let part = Inner parent hangs.prefix (join hangs.before (Branch byte (Leaf pointer hangs.text) hangs.after)) in
@@ -168,14 +168,14 @@ parent-there text arena root tree alone pointer parent byte higher hangs =
     (stands.0, stands.1)
 
 -- the path leads to the leaf at the pointer, which is held and has the key
-pub record IsFound {K V : Type 0} {P : ℕ} (text : K → List ℕ) (arena : ArenaOf K V P) (tree : Tree (OpaqueNodePtr K V P)) (pointer : OpaqueNodePtr K V P) (key : List ℕ) (path : TreePath K V P) : Type 0 where
+pub record IsFound {K V : Type 0} {P : ℕ} (text : K → List ℕ) (arena : NodeArena K V P) (tree : Tree (OpaqueNodePtr K V P)) (pointer : OpaqueNodePtr K V P) (key : List ℕ) (path : TreePath K V P) : Type 0 where
   pub way : IsPathTo tree pointer path
   pub leaf : LeafNode K V P
   pub is_held : held arena pointer ≡ HeldLeaf leaf
   pub has : text (leaf_key leaf) ≡ key
 
 -- so it is with what a search finds in the arena that it reads
-pub is-found : {K V : Type 0} {P : ℕ} (text : K → List ℕ) (arena seen : ArenaOf K V P) → seen ≡ arena → (root : OpaqueNodePtr K V P) (tree : Tree (OpaqueNodePtr K V P)) → IsTreeIn text arena root tree → (leaf : NodePtr P (LeafNode K V P)) (path : TreePath K V P) (key : List ℕ)
+pub is-found : {K V : Type 0} {P : ℕ} (text : K → List ℕ) (arena seen : NodeArena K V P) → seen ≡ arena → (root : OpaqueNodePtr K V P) (tree : Tree (OpaqueNodePtr K V P)) → IsTreeIn text arena root tree → (leaf : NodePtr P (LeafNode K V P)) (path : TreePath K V P) (key : List ℕ)
     → EachTree text seen root (λ tree. scan tree key ≡ (leaf_pointer leaf, key) ∷ []) → EachTree text seen root (λ tree. IsPathTo tree (leaf_pointer leaf) path) → IsFound text arena tree (leaf_pointer leaf) key path
 is-found text arena seen same root tree is leaf path key answer way =
     let at = leaf_pointer leaf in

@@ -11,7 +11,7 @@ use Rattle.art_nodes.specs.Leaf.{leaf_key, leaf_value}
 use Rattle.art_nodes.specs.Pointers.{node_kind, opaque_key}
 use Rattle.art_nodes.specs.declared.pointers.OpaqueNodePtr.{OpaqueNodePtr}
 use Rattle.art_nodes.specs.declared.leaf_node.LeafNode.{LeafNode}
-use Rattle.art_arena.specs.Arena.{ArenaOf, HeldInner, HeldLeaf, Nothing, held, room}
+use Rattle.art_arena.specs.Arena.{NodeArena, HeldInner, HeldLeaf, Nothing, held, room}
 use Rattle.art_arena.specs.Links.{AreDistinct, Spells}
 use Rattle.art_arena.specs.Standing.{AllStandIn}
 use Rattle.art_arena.specs.Trees.{Tree, Leaf, Inner, Branch, branch_roots, branch_leaves, texts, places, branch_places, IsSound}
@@ -20,7 +20,7 @@ use Rattle.art_tree.specs.Cuts.{HasOneLess, HasRoomToShrink}
 use Rattle.art_tree.specs.Dropping.{HangsUnder}
 use Rattle.art_tree.specs.Edits.{StaysAt}
 use Rattle.art_tree.specs.Hanging.{CanHang, IsHung}
-use Rattle.art_tree.specs.Places.{above}
+use Rattle.art_tree.specs.InsertionPoints.{above}
 use Rattle.art_tree.specs.Removal.{IsRemoved, NeedsSmallerNode}
 use Rattle.art_tree.proofs.SharedLemmas.BranchLemmas.{leaves-join, places-join, roots-join}
 use Rattle.art_tree.proofs.SharedLemmas.ChangedTree.{held-on, place-held}
@@ -54,7 +54,7 @@ shrunk-inner kinds.Node48 inner = λ e. cc
 shrunk-inner kinds.Node256 inner = λ e. cc
 shrunk-inner kinds.Leaf inner = absurd (inner refl)
 
-module _ {K V : Type 0} {P : ℕ} {text : K → List ℕ} {old : ArenaOf K V P} {root leaf parent : OpaqueNodePtr K V P} {byte : ℕ} {higher : Option (OpaqueNodePtr K V P × ℕ)} {tree : Tree (OpaqueNodePtr K V P)} {hangs : HangsUnder tree leaf parent byte higher} (place : LeafPlace text old root hangs) where
+module _ {K V : Type 0} {P : ℕ} {text : K → List ℕ} {old : NodeArena K V P} {root leaf parent : OpaqueNodePtr K V P} {byte : ℕ} {higher : Option (OpaqueNodePtr K V P × ℕ)} {tree : Tree (OpaqueNodePtr K V P)} {hangs : HangsUnder tree leaf parent byte higher} (place : LeafPlace text old root hangs) where
   -- a node that would be of a smaller kind without the leaf has 5, 17 or 49 children
   least-counts : (kind : NodeType) → kind ≢ kinds.Leaf → 2 < length place.node.children → length place.node.children ≡ least_children kind → (length place.node.children ≡ 5) ⊎ ((length place.node.children ≡ 17) ⊎ (length place.node.children ≡ 49))
   least-counts kinds.Node4 inner two least = absurd (omega (arith, two, least))
@@ -87,7 +87,7 @@ module _ {K V : Type 0} {P : ℕ} {text : K → List ℕ} {old : ArenaOf K V P} 
       (omega (arith, same, many, ap length place.shows.children, place.sound.0), ap (λ n. length n.children) (one-inner (held old parent) other node there is) ∙ least)))
 
   -- the node is as it was once the leaf is taken
-  module _ (cut : ArenaOf K V P) (gone : held cut leaf ≡ Nothing) (stays : (p : OpaqueNodePtr K V P) → p ≢ leaf → StaysAt old cut p) where
+  module _ (cut : NodeArena K V P) (gone : held cut leaf ≡ Nothing) (stays : (p : OpaqueNodePtr K V P) → p ≢ leaf → StaysAt old cut p) where
     pub is-cut : held cut parent ≡ HeldInner place.node
     is-cut = (stays parent place.apart).keeps.inner place.node place.is_held
 
@@ -121,7 +121,7 @@ module _ {K V : Type 0} {P : ℕ} {text : K → List ℕ} {old : ArenaOf K V P} 
           omega (arith, was, more (shrunk_kind (node_kind parent)))
 
       -- the node has a child less, and may be at another place
-      module _ (new : ArenaOf K V P) (top : OpaqueNodePtr K V P) (distinct : AreDistinct (places (plug hangs.upper (part_there hangs)))) (less : HasOneLess cut new parent place.node (nodes.node_without_child place.node byte) top) where
+      module _ (new : NodeArena K V P) (top : OpaqueNodePtr K V P) (distinct : AreDistinct (places (plug hangs.upper (part_there hangs)))) (less : HasOneLess cut new parent place.node (nodes.node_without_child place.node byte) top) where
         top-held : held new top ≡ HeldInner (nodes.node_without_child place.node byte)
         top-held = elim less [ inl cutting ↦ ap (held new) cutting.same ∙ cutting.changes.changed | inr shrunk ↦ shrunk.replaced.is_held ]
 
@@ -155,7 +155,7 @@ module _ {K V : Type 0} {P : ℕ} {text : K → List ℕ} {old : ArenaOf K V P} 
         pub many-hangs : CanHang new higher
         many-hangs = subst (CanHang new) hangs.hangs (can-hang text old cut new hangs.upper (part_there hangs) root leaf top many-cuts)
 
-        module _ (last : ArenaOf K V P) (root_now : OpaqueNodePtr K V P) (hung : IsHung new last higher top root root_now)
+        module _ (last : NodeArena K V P) (root_now : OpaqueNodePtr K V P) (hung : IsHung new last higher top root root_now)
             (spells : (left right : List ℕ) → Spells old (left ++ opaque_key leaf ∷ right) → Spells cut (left ++ right)) where
           hung-there : IsHung new last (above hangs.upper) top root root_now
           hung-there = subst (λ h. IsHung new last h top root root_now) (sym hangs.hangs) hung

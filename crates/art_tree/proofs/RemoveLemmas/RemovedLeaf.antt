@@ -7,7 +7,7 @@ use Rattle.art_nodes.specs.Pointers.{opaque_pointer}
 use Rattle.art_nodes.specs.Leaf.{leaf_key}
 use Rattle.art_nodes.specs.declared.pointers.OpaqueNodePtr.{OpaqueNodePtr}
 use Rattle.art_nodes.specs.declared.leaf_node.LeafNode.{LeafNode}
-use Rattle.art_arena.specs.Arena.{ArenaOf, HeldLeaf, Nothing, held, held_leaf, SameNodes}
+use Rattle.art_arena.specs.Arena.{NodeArena, HeldLeaf, Nothing, held, held_leaf, SameNodes}
 use Rattle.art_arena.specs.Links.{AreDistinct, Spells, leaf_at}
 use Rattle.art_arena.specs.Standing.{StandsIn}
 use Rattle.art_arena.specs.Trees.{Tree, leaves, places, root_of, texts, IsSound}
@@ -17,7 +17,7 @@ use Rattle.art_tree.specs.Dictionary.{entry_at}
 use Rattle.art_tree.specs.Edits.{StaysAt}
 use Rattle.art_tree.specs.Hanging.{CanHang, IsHung}
 use Rattle.art_tree.specs.Loading.{HasSmallestKinds}
-use Rattle.art_tree.specs.Places.{above}
+use Rattle.art_tree.specs.InsertionPoints.{above}
 use Rattle.art_tree.specs.Removal.{IsRemoved}
 use Rattle.art_tree.proofs.SharedLemmas.ChangedTree.{HangsAt, IsAbove, can-hang-at, hangs-at, held-on, keeps-on, leaf-no-parent, parent-above, place-held, root-place, was-leaf}
 use Rattle.art_tree.proofs.SharedLemmas.DictionaryLemmas.{AreApart, leaf-held-in}
@@ -32,7 +32,7 @@ use Rattle.art_tree.proofs.LoadLemmas.PlacedTrees.{cases_pointer, leaf-of}
 
 -- the steps of a removal: from the first arena to the next a leaf is removed, from there to the
 -- third its parent is changed or replaced, and then the new node is put there
-module _ {K V : Type 0} {P : ℕ} (text : K → List ℕ) (old cut new : ArenaOf K V P) (context : Context (OpaqueNodePtr K V P)) (part : Tree (OpaqueNodePtr K V P)) (root leaf top : OpaqueNodePtr K V P) where
+module _ {K V : Type 0} {P : ℕ} (text : K → List ℕ) (old cut new : NodeArena K V P) (context : Context (OpaqueNodePtr K V P)) (part : Tree (OpaqueNodePtr K V P)) (root leaf top : OpaqueNodePtr K V P) where
   pub record AreCuts : Type 0 where
     pub stood : StandsIn text old (plug context part)
     pub was_root : root_of (plug context part) ≡ root
@@ -80,7 +80,7 @@ module _ {K V : Type 0} {P : ℕ} (text : K → List ℕ) (old cut new : ArenaOf
     pub can-hang : CanHang new (above context)
     can-hang = can-hang-at text old new context part steps.stood parent-kept
 
-    module _ (last : ArenaOf K V P) (root_now : OpaqueNodePtr K V P) (hung : IsHung new last (above context) top root root_now) where
+    module _ (last : NodeArena K V P) (root_now : OpaqueNodePtr K V P) (hung : IsHung new last (above context) top root root_now) where
       hangs : HangsAt old new last context top root_now part
       hangs = hangs-at text old new last context part top root root_now steps.stood steps.was_root parent-kept hung
 
@@ -224,7 +224,7 @@ module _ {K V : Type 0} {P : ℕ} (text : K → List ℕ) (old cut new : ArenaOf
               }
 
 -- where the first step only made spare capacity, what is removed after it is removed by both
-pub removed-from : {K V : Type 0} {P : ℕ} (text : K → List ℕ) (old reserved last : ArenaOf K V P) (x : List ℕ) (root_now : OpaqueNodePtr K V P) (entry : K × V) (root : OpaqueNodePtr K V P) (tree : Tree (OpaqueNodePtr K V P)) → IsAlone text old root tree → AreApart (texts tree) → SameNodes old reserved
+pub removed-from : {K V : Type 0} {P : ℕ} (text : K → List ℕ) (old reserved last : NodeArena K V P) (x : List ℕ) (root_now : OpaqueNodePtr K V P) (entry : K × V) (root : OpaqueNodePtr K V P) (tree : Tree (OpaqueNodePtr K V P)) → IsAlone text old root tree → AreApart (texts tree) → SameNodes old reserved
     → IsRemoved text reserved last x root_now entry → IsRemoved text old last x root_now entry
 removed-from text old reserved last x root_now entry root tree alone apart same removed =
     let entries = entries-stay text old reserved same root tree alone apart in

@@ -12,7 +12,7 @@ use Rattle.art_nodes.specs.Inner.{Inner, node_without_child}
 use Rattle.art_nodes.specs.Pointers.{node_kind, opaque_key}
 use Rattle.art_nodes.specs.declared.leaf_node.LeafNode.{LeafNode}
 use Rattle.art_nodes.specs.declared.pointers.OpaqueNodePtr.{OpaqueNodePtr}
-use Rattle.art_arena.specs.Arena.{ArenaOf, Held, HeldInner, HeldLeaf, Nothing, held, room, Changes, SameRoom}
+use Rattle.art_arena.specs.Arena.{NodeArena, Held, HeldInner, HeldLeaf, Nothing, held, room, Changes, SameRoom}
 use Rattle.art_tree.specs.Cuts.{HasOneLess, HasRoomToShrink}
 use Rattle.art_tree.specs.Nodes.{IsReplaced}
 use Rattle.art_tree.proofs.SharedLemmas.RoomLemmas.{same-room}
@@ -100,7 +100,7 @@ joined-stands size above below front back byte stands_above stands_below =
 
 module _ {K V : Type 0} {P : ℕ} where
   -- what stands at a pointer that is no leaf's is an inner node
-  pub inner-there : (arena : ArenaOf K V P) (pointer : OpaqueNodePtr K V P) → held arena pointer ≢ Nothing → node_kind pointer ≢ kinds.Leaf → (node : Inner (OpaqueNodePtr K V P)) × (held arena pointer ≡ HeldInner node)
+  pub inner-there : (arena : NodeArena K V P) (pointer : OpaqueNodePtr K V P) → held arena pointer ≢ Nothing → node_kind pointer ≢ kinds.Leaf → (node : Inner (OpaqueNodePtr K V P)) × (held arena pointer ≡ HeldInner node)
   inner-there arena pointer was inner = go (held arena pointer) refl
     where
       go : (there : Held (OpaqueNodePtr K V P) (LeafNode K V P)) → held arena pointer ≡ there → (node : Inner (OpaqueNodePtr K V P)) × (held arena pointer ≡ HeldInner node)
@@ -109,7 +109,7 @@ module _ {K V : Type 0} {P : ℕ} where
       go (HeldLeaf leaf) is = absurd (inner (leaf_kind arena (node_kind pointer) (opaque_key pointer) leaf is))
 
   -- a node is replaced by one of another kind
-  pub replaced : (old now new : ArenaOf K V P) (after : Inner (OpaqueNodePtr K V P)) {at made pointer : OpaqueNodePtr K V P} → at ≡ made → held old made ≡ Nothing → held old pointer ≢ Nothing
+  pub replaced : (old now new : NodeArena K V P) (after : Inner (OpaqueNodePtr K V P)) {at made pointer : OpaqueNodePtr K V P} → at ≡ made → held old made ≡ Nothing → held old pointer ≢ Nothing
       → Changes old now made (HeldInner after) → Changes now new pointer Nothing → IsReplaced old new pointer (node_kind made) after at
   replaced old now new after {made = made} {pointer = pointer} same free was made_there given_up =
       subst (λ p. IsReplaced old new pointer (node_kind made) after p) (sym same) (record {
@@ -121,7 +121,7 @@ module _ {K V : Type 0} {P : ℕ} where
       })
 
   -- a node of a kind that is replaced by one of the next smaller kind
-  module _ (old : ArenaOf K V P) (pointer : OpaqueNodePtr K V P) {kind : NodeType} (is_kind : node_kind pointer ≡ kind) where
+  module _ (old : NodeArena K V P) (pointer : OpaqueNodePtr K V P) {kind : NodeType} (is_kind : node_kind pointer ≡ kind) where
     pub smaller-room : 0 < room old (shrunk_kind (node_kind pointer)) → 0 < room old (shrunk_kind kind)
     smaller-room has = subst (λ kind. 0 < room old (shrunk_kind kind)) is_kind has
 
@@ -129,14 +129,14 @@ module _ {K V : Type 0} {P : ℕ} where
       pub few-there : ((node : Inner (OpaqueNodePtr K V P)) → held old pointer ≡ HeldInner node → length node.children < least_children (node_kind pointer)) → length there.children < least_children kind
       few-there few = subst (λ kind. length there.children < least_children kind) is_kind (few there here)
 
-      pub replaced-there : {new : ArenaOf K V P} {node shrunk : Inner (OpaqueNodePtr K V P)} {to : OpaqueNodePtr K V P} → shrunk ≡ there → held old pointer ≡ HeldInner node
+      pub replaced-there : {new : NodeArena K V P} {node shrunk : Inner (OpaqueNodePtr K V P)} {to : OpaqueNodePtr K V P} → shrunk ≡ there → held old pointer ≡ HeldInner node
           → IsReplaced old new pointer (shrunk_kind kind) shrunk to → IsReplaced old new pointer (shrunk_kind (node_kind pointer)) node to
       replaced-there {new = new} {node = node} {to = to} shrinks is is_replaced =
           let one = shrinks ∙ one-inner (held old pointer) there node here is in
           subst (λ kind. IsReplaced old new pointer (shrunk_kind kind) node to) (sym is_kind) (subst (λ n. IsReplaced old new pointer (shrunk_kind kind) n to) one is_replaced)
 
   -- a node from which a child is taken in its place
-  module _ (old mid : ArenaOf K V P) (pointer : OpaqueNodePtr K V P) (byte : ℕ) (was : held old pointer ≢ Nothing) (inner : node_kind pointer ≢ kinds.Leaf)
+  module _ (old mid : NodeArena K V P) (pointer : OpaqueNodePtr K V P) (byte : ℕ) (was : held old pointer ≢ Nothing) (inner : node_kind pointer ≢ kinds.Leaf)
       (cut : (node : Inner (OpaqueNodePtr K V P)) → held old pointer ≡ HeldInner node → Changes old mid pointer (HeldInner (node_without_child node byte))) where
     before : (node : Inner (OpaqueNodePtr K V P)) × (held old pointer ≡ HeldInner node)
     before = inner-there old pointer was inner
@@ -165,7 +165,7 @@ module _ {K V : Type 0} {P : ℕ} where
           omega (arith, has, same-room old mid same_room (shrunk_kind (node_kind pointer)))
 
       -- and what it shrinks to stands for it
-      pub shrunk-left : {new : ArenaOf K V P} {to : OpaqueNodePtr K V P} (node : Inner (OpaqueNodePtr K V P)) → held old pointer ≡ HeldInner node
+      pub shrunk-left : {new : NodeArena K V P} {to : OpaqueNodePtr K V P} (node : Inner (OpaqueNodePtr K V P)) → held old pointer ≡ HeldInner node
           → ((there : Inner (OpaqueNodePtr K V P)) → held mid pointer ≡ HeldInner there → IsReplaced mid new pointer (shrunk_kind (node_kind pointer)) there to) → HasOneLess old new pointer node (node_without_child node byte) to
       shrunk-left {to = to} node is replaces =
           let here = (cut node is).changed in

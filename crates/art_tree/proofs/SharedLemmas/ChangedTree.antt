@@ -6,19 +6,19 @@ use Rattle.art_nodes.specs.ChildMap.{ChildMap, child_at}
 use Rattle.art_nodes.specs.Inner as nodes
 use Rattle.art_nodes.specs.declared.pointers.OpaqueNodePtr.{OpaqueNodePtr}
 use Rattle.art_nodes.specs.declared.leaf_node.LeafNode.{LeafNode}
-use Rattle.art_arena.specs.Arena.{ArenaOf, Held, HeldInner, HeldLeaf, Nothing, held}
+use Rattle.art_arena.specs.Arena.{NodeArena, Held, HeldInner, HeldLeaf, Nothing, held}
 use Rattle.art_arena.specs.Links.{AreDistinct}
 use Rattle.art_arena.specs.Standing.{StandsIn, AllStandIn}
 use Rattle.art_arena.specs.Trees.{Tree, Leaf, Inner, Branches, NoBranch, Branch, places, branch_places, branch_roots, root_of}
 use Rattle.art_tree.specs.Contexts.{Context, Whole, Under, plug, parent, Adopts, KeepsAt, join}
 use Rattle.art_tree.specs.Edits.{StaysAt}
 use Rattle.art_tree.specs.Hanging.{CanHang, IsHung}
-use Rattle.art_tree.specs.Places.{above}
+use Rattle.art_tree.specs.InsertionPoints.{above}
 use Rattle.art_tree.proofs.SharedLemmas.BranchLemmas.{roots-join}
 use Rattle.art_tree.proofs.SharedLemmas.ExchangedSubtree.{the-one, around, stands-part}
 use Rattle.art_tree.proofs.SharedLemmas.ExchangedTree.{root-under}
 
-module _ {K V : Type 0} {P : ℕ} (text : K → List ℕ) (arena : ArenaOf K V P) where
+module _ {K V : Type 0} {P : ℕ} (text : K → List ℕ) (arena : NodeArena K V P) where
   mutual
     -- the places of a tree that stands hold nodes
     pub place-held : (tree : Tree (OpaqueNodePtr K V P)) → StandsIn text arena tree → (q : OpaqueNodePtr K V P) → Contains (places tree) q → held arena q ≢ Nothing
@@ -42,12 +42,12 @@ root-place (Inner pointer prefix branches) = (0, omega arith, refl)
 
 module _ {K V : Type 0} {P : ℕ} where
   -- the parent of a place is an inner node outside of the subtree there
-  pub record IsAbove (text : K → List ℕ) (arena : ArenaOf K V P) (part : Tree (OpaqueNodePtr K V P)) (pointer : OpaqueNodePtr K V P) : Type 0 where
+  pub record IsAbove (text : K → List ℕ) (arena : NodeArena K V P) (part : Tree (OpaqueNodePtr K V P)) (pointer : OpaqueNodePtr K V P) : Type 0 where
     pub node : nodes.Inner (OpaqueNodePtr K V P)
     pub is : held arena pointer ≡ HeldInner node
     pub outside : Contains (places part) pointer → ⊥
 
-  pub parent-above : (text : K → List ℕ) (arena : ArenaOf K V P) (context : Context (OpaqueNodePtr K V P)) (part : Tree (OpaqueNodePtr K V P)) → StandsIn text arena (plug context part) → AreDistinct (places (plug context part)) → (pointer : OpaqueNodePtr K V P) → parent context ≡ Some pointer → IsAbove text arena part pointer
+  pub parent-above : (text : K → List ℕ) (arena : NodeArena K V P) (context : Context (OpaqueNodePtr K V P)) (part : Tree (OpaqueNodePtr K V P)) → StandsIn text arena (plug context part) → AreDistinct (places (plug context part)) → (pointer : OpaqueNodePtr K V P) → parent context ≡ Some pointer → IsAbove text arena part pointer
   parent-above text arena Whole part stands distinct pointer is = absurd (cc)
   parent-above text arena (Under higher p prefix before byte after) part stands distinct pointer is =
       let (node, holds, shows, stand) = stands-part text arena arena higher (Inner p prefix (join before (Branch byte part after))) stands in
@@ -59,18 +59,18 @@ module _ {K V : Type 0} {P : ℕ} where
       }
 
   -- no leaf is the parent of a place
-  pub leaf-no-parent : (text : K → List ℕ) (arena : ArenaOf K V P) (context : Context (OpaqueNodePtr K V P)) (part : Tree (OpaqueNodePtr K V P)) → StandsIn text arena (plug context part) → AreDistinct (places (plug context part)) → (p : OpaqueNodePtr K V P) (l : LeafNode K V P) → held arena p ≡ HeldLeaf l → parent context ≢ Some p
+  pub leaf-no-parent : (text : K → List ℕ) (arena : NodeArena K V P) (context : Context (OpaqueNodePtr K V P)) (part : Tree (OpaqueNodePtr K V P)) → StandsIn text arena (plug context part) → AreDistinct (places (plug context part)) → (p : OpaqueNodePtr K V P) (l : LeafNode K V P) → held arena p ≡ HeldLeaf l → parent context ≢ Some p
   leaf-no-parent text arena context part stands distinct p l is above_it =
       let at = parent-above text arena context part stands distinct p above_it in
       let wrong : HeldLeaf l ≡ HeldInner at.node = sym is ∙ at.is in absurd (cc)
 
   -- what hanging a node in the place of a subtree leaves
-  pub record HangsAt (old new last : ArenaOf K V P) (context : Context (OpaqueNodePtr K V P)) (top root : OpaqueNodePtr K V P) (part : Tree (OpaqueNodePtr K V P)) : Type 0 where
+  pub record HangsAt (old new last : NodeArena K V P) (context : Context (OpaqueNodePtr K V P)) (top root : OpaqueNodePtr K V P) (part : Tree (OpaqueNodePtr K V P)) : Type 0 where
     pub adopted : Adopts old last context top
     pub others : (p : OpaqueNodePtr K V P) → parent context ≢ Some p → held last p ≡ held new p
     pub at_root : (now : Tree (OpaqueNodePtr K V P)) → root_of now ≡ top → root_of (plug context now) ≡ root
 
-  pub hangs-at : (text : K → List ℕ) (old new last : ArenaOf K V P) (context : Context (OpaqueNodePtr K V P)) (part : Tree (OpaqueNodePtr K V P)) (top root root_now : OpaqueNodePtr K V P) → StandsIn text old (plug context part) → root_of (plug context part) ≡ root
+  pub hangs-at : (text : K → List ℕ) (old new last : NodeArena K V P) (context : Context (OpaqueNodePtr K V P)) (part : Tree (OpaqueNodePtr K V P)) (top root root_now : OpaqueNodePtr K V P) → StandsIn text old (plug context part) → root_of (plug context part) ≡ root
       → ((p : OpaqueNodePtr K V P) → parent context ≡ Some p → held new p ≡ held old p) → IsHung new last (above context) top root root_now → HangsAt old new last context top root_now part
   hangs-at text old new last Whole part top root root_now stands at_root kept (same, is) = record { adopted = tt; others = λ p differ. same p; at_root = λ now top_is. top_is ∙ sym is }
   hangs-at text old new last (Under higher p prefix before byte after) part top root root_now stands at_root kept (is, written) =
@@ -94,7 +94,7 @@ there-at (x ∷ xs) byte child ys = by_test (x.0 == byte) (there-at xs byte chil
     by_test true rest = λ none. absurd (cc)
     by_test false rest = rest
 
-pub can-hang-at : {K V : Type 0} {P : ℕ} (text : K → List ℕ) (old new : ArenaOf K V P) (context : Context (OpaqueNodePtr K V P)) (part : Tree (OpaqueNodePtr K V P)) → StandsIn text old (plug context part) → ((p : OpaqueNodePtr K V P) → parent context ≡ Some p → held new p ≡ held old p) → CanHang new (above context)
+pub can-hang-at : {K V : Type 0} {P : ℕ} (text : K → List ℕ) (old new : NodeArena K V P) (context : Context (OpaqueNodePtr K V P)) (part : Tree (OpaqueNodePtr K V P)) → StandsIn text old (plug context part) → ((p : OpaqueNodePtr K V P) → parent context ≡ Some p → held new p ≡ held old p) → CanHang new (above context)
 can-hang-at text old new Whole part stands kept = tt
 can-hang-at text old new (Under higher p prefix before byte after) part stands kept =
     let (node, holds, shows, stand) = stands-part text old old higher (Inner p prefix (join before (Branch byte part after))) stands in
@@ -108,7 +108,7 @@ module _ {K V : Type 0} {P : ℕ} where
   held-case (HeldLeaf l) = inr (inr (l, refl))
 
   -- what is held stays held
-  pub held-on : (old new : ArenaOf K V P) (p : OpaqueNodePtr K V P) → StaysAt old new p → held old p ≢ Nothing → held new p ≢ Nothing
+  pub held-on : (old new : NodeArena K V P) (p : OpaqueNodePtr K V P) → StaysAt old new p → held old p ≢ Nothing → held new p ≢ Nothing
   held-on old new p stays was none = elim (held-case (held old p)) [
     | inl free ↦ was free
     | inr (inl (node, is)) ↦ (let wrong : HeldInner node ≡ Nothing = sym (stays.keeps.inner node is) ∙ none in absurd (cc))
@@ -116,7 +116,7 @@ module _ {K V : Type 0} {P : ℕ} where
   ]
 
   -- a leaf that stayed was a leaf
-  pub was-leaf : (old new : ArenaOf K V P) (p : OpaqueNodePtr K V P) (l : LeafNode K V P) → StaysAt old new p → held new p ≡ HeldLeaf l → (was : LeafNode K V P) × (held old p ≡ HeldLeaf was)
+  pub was-leaf : (old new : NodeArena K V P) (p : OpaqueNodePtr K V P) (l : LeafNode K V P) → StaysAt old new p → held new p ≡ HeldLeaf l → (was : LeafNode K V P) × (held old p ≡ HeldLeaf was)
   was-leaf old new p l stays there = elim (held-case (held old p)) [
     | inl free ↦ absurd (let wrong : HeldLeaf l ≡ Nothing = sym there ∙ stays.nothing free in cc)
     | inr (inl (node, is)) ↦ absurd (let wrong : HeldLeaf l ≡ HeldInner node = sym there ∙ stays.keeps.inner node is in cc)
@@ -124,5 +124,5 @@ module _ {K V : Type 0} {P : ℕ} where
   ]
 
   -- what stayed is kept to the end where it stays the same from there
-  pub keeps-on : (old new last : ArenaOf K V P) (p : OpaqueNodePtr K V P) → StaysAt old new p → held last p ≡ held new p → KeepsAt old last p
+  pub keeps-on : (old new last : NodeArena K V P) (p : OpaqueNodePtr K V P) → StaysAt old new p → held last p ≡ held new p → KeepsAt old last p
   keeps-on old new last p stays same = record { inner = λ node is. same ∙ stays.keeps.inner node is; leaf = λ l is. let now = stays.keeps.leaf l is in (now.0, same ∙ now.1, now.2, now.3) }

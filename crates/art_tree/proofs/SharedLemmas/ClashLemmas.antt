@@ -2,7 +2,7 @@
 use Rattle.std.proofs.Common.{◌≡◌, ◌∙◌, ◌⊎◌, ℕ, List, [], ◌∷◌, map, All, Contains, Option, Some, None, refl, sym, subst, inl, inr, arith}
 use Rattle.std.proofs.lemmas.List.Elements.{All-contains, Contains-append_cases, Contains-append_right}
 use Rattle.art_bytes.specs.Text.{IsPrefixOf}
-use Rattle.art_arena.specs.Arena.{ArenaOf}
+use Rattle.art_arena.specs.Arena.{NodeArena}
 use Rattle.art_tree.specs.Dictionary.{Clashes, HasKeys, IsProperPrefixOf, entry_at}
 use Rattle.art_tree.specs.Insertion.{ClashesIn}
 use Rattle.art_tree.proofs.SharedLemmas.DictionaryLemmas.{text-found}
@@ -29,7 +29,7 @@ module _ {K : Type 0} (text : K → List ℕ) (is_key : K → Type 0) (no_prefix
       let from = mapped-from text keys other inside in
       unlike other clash from.0 (All-contains is_key keys from.0 all from.1) from.2
 
-  pub never-clash-in : {V : Type 0} {P : ℕ} (arena : ArenaOf K V P) → HasKeys text is_key arena → ClashesIn text arena (text key) → ⊥
+  pub never-clash-in : {V : Type 0} {P : ℕ} (arena : NodeArena K V P) → HasKeys text is_key arena → ClashesIn text arena (text key) → ⊥
   never-clash-in {V} arena keys (other, has, clash) = by_entry (entry_at text arena other) refl
     where
       by_entry : (o : Option (K × V)) → entry_at text arena other ≡ o → ⊥

@@ -16,7 +16,7 @@ use Rattle.art_nodes.specs.Pointers.{node_kind, opaque_key, slab_key, opaque_poi
 use Rattle.art_nodes.specs.declared.pointers.NodePtr.{NodePtr}
 use Rattle.art_nodes.specs.declared.pointers.OpaqueNodePtr.{OpaqueNodePtr}
 use Rattle.art_nodes.specs.declared.leaf_node.LeafNode.{LeafNode}
-use Rattle.art_arena.specs.Arena.{ArenaOf, Nothing, HeldInner, HeldLeaf, held, held_leaf, held_under}
+use Rattle.art_arena.specs.Arena.{NodeArena, Nothing, HeldInner, HeldLeaf, held, held_leaf, held_under}
 use Rattle.art_arena.specs.Links.{leaf_at}
 use Rattle.art_arena.specs.Standing.{StandsIn, AllStandIn}
 use Rattle.art_arena.specs.Trees.{Tree, Leaf, Inner, Branches, NoBranch, Branch, leaves, branch_leaves, texts, places, branch_places}
@@ -61,7 +61,7 @@ module _ {K V : Type 0} {P : ℕ} (text : K → List ℕ) where
           record { key = suc rest.key; leaf = rest.leaf; at = rest.at; has = rest.has; is = rest.is }
 
   -- and so it has the text
-  pub text-found : (arena : ArenaOf K V P) (x : List ℕ) (entry : K × V) → entry_at text arena x ≡ Some entry → text entry.0 ≡ x
+  pub text-found : (arena : NodeArena K V P) (x : List ℕ) (entry : K × V) → entry_at text arena x ≡ Some entry → text entry.0 ≡ x
   text-found arena x entry found = let slot = entry-from arena.leaf.slots x entry found in ap (λ e. text e.0) (sym slot.is) ∙ slot.has
 
   -- where a slot has a leaf with the text, an entry is found
@@ -80,7 +80,7 @@ module _ {K V : Type 0} {P : ℕ} (text : K → List ℕ) where
       by_test rest false differ = (rest.0, rw differ rest.1)
 
   -- an arena that holds nothing has no entry
-  pub empty-entry : (arena : ArenaOf K V P) → ((pointer : OpaqueNodePtr K V P) → held arena pointer ≡ Nothing) → (x : List ℕ) → entry_at text arena x ≡ None
+  pub empty-entry : (arena : NodeArena K V P) → ((pointer : OpaqueNodePtr K V P) → held arena pointer ≡ Nothing) → (x : List ℕ) → entry_at text arena x ≡ None
   empty-entry arena nothing x = by_entry (entry_at text arena x) refl
     where
       by_entry : (o : Option (K × V)) → entry_at text arena x ≡ o → entry_at text arena x ≡ None
@@ -89,7 +89,7 @@ module _ {K V : Type 0} {P : ℕ} (text : K → List ℕ) where
           let slot = entry-from arena.leaf.slots x entry is in
           let wrong : HeldLeaf slot.leaf ≡ Nothing = sym (ap (held_leaf {H = OpaqueNodePtr K V P}) slot.at) ∙ nothing (opaque_pointer kinds.Leaf slot.key) in absurd (cc)
 
-  module _ (arena : ArenaOf K V P) where
+  module _ (arena : NodeArena K V P) where
     mutual
       -- a place of a tree that holds a leaf is one of its leaves
       pub leaf-in : (tree : Tree (OpaqueNodePtr K V P)) → StandsIn text arena tree → (q : OpaqueNodePtr K V P) (leaf : LeafNode K V P) → Contains (places tree) q → held arena q ≡ HeldLeaf leaf → Contains (leaves tree) (q, text (leaf_key leaf))
@@ -128,7 +128,7 @@ abbrev pub AreApart : List (List ℕ) → Type 0
 AreApart texts = AllPairs (λ a b. (IsPrefixOf a b → ⊥) × (IsPrefixOf b a → ⊥)) texts
 
 -- an arena has no entry just where it has no root
-pub empty-if-none : {K V : Type 0} {P : ℕ} (text : K → List ℕ) (arena : ArenaOf K V P) → ((root : OpaqueNodePtr K V P) (tree : Tree (OpaqueNodePtr K V P)) → IsAlone text arena root tree → (x : List ℕ) × HasEntry text arena x) → (root : Option (OpaqueNodePtr K V P)) → IsArt text arena root → (t : Bool) → is_some root ≡ not t
+pub empty-if-none : {K V : Type 0} {P : ℕ} (text : K → List ℕ) (arena : NodeArena K V P) → ((root : OpaqueNodePtr K V P) (tree : Tree (OpaqueNodePtr K V P)) → IsAlone text arena root tree → (x : List ℕ) × HasEntry text arena x) → (root : Option (OpaqueNodePtr K V P)) → IsArt text arena root → (t : Bool) → is_some root ≡ not t
     → (IsTrue t → IsEmpty text arena) × (IsEmpty text arena → IsTrue t)
 empty-if-none text arena some None nothing t is = (λ _. empty-entry text arena nothing, λ _. is_none t is)
   where
@@ -210,7 +210,7 @@ module _ {H : Type 0} where
           let rest : Contains (filter (λ leaf. pointwise nat_eq leaf.1 x) ys) (p, x) = rw is at inside in
           Contains-append_right (y ∷ []) ys (p, x) (onwards rest)
 
-module _ {K V : Type 0} {P : ℕ} (text : K → List ℕ) (arena : ArenaOf K V P) (root : OpaqueNodePtr K V P) (tree : Tree (OpaqueNodePtr K V P)) (alone : IsAlone text arena root tree) where
+module _ {K V : Type 0} {P : ℕ} (text : K → List ℕ) (arena : NodeArena K V P) (root : OpaqueNodePtr K V P) (tree : Tree (OpaqueNodePtr K V P)) (alone : IsAlone text arena root tree) where
   -- the entry of the dictionary is held at a leaf of the tree
   pub record IsLeafWith (x : List ℕ) (entry : K × V) : Type 0 where
     pub pointer : OpaqueNodePtr K V P
@@ -297,7 +297,7 @@ module _ {K V : Type 0} {P : ℕ} (text : K → List ℕ) (arena : ArenaOf K V P
       let same = one-leaf (held arena pointer) leaf there.0 is there.1 in
       ap (entry_at text arena) (sym there.2 ∙ ap (λ l. text (leaf_key l)) (sym same)) ∙ held-entry apart pointer leaf is
 
-module _ {K V : Type 0} {P : ℕ} (text : K → List ℕ) (arena : ArenaOf K V P) where
+module _ {K V : Type 0} {P : ℕ} (text : K → List ℕ) (arena : NodeArena K V P) where
   -- the texts of entries that leaves hold
   text-of-held : (pointers : List (OpaqueNodePtr K V P)) (entries : List (K × V)) (q : OpaqueNodePtr K V P) (leaf : LeafNode K V P) → HoldEntries arena pointers entries → Contains pointers q → held arena q ≡ HeldLeaf leaf → Contains (texts_of text entries) (text (leaf_key leaf))
   text-of-held [] entries q leaf hold (k, inside, is) there = absurd (omega (arith, inside))
@@ -324,7 +324,7 @@ module _ {K V : Type 0} {P : ℕ} (text : K → List ℕ) (arena : ArenaOf K V P
   entry-held (p ∷ pointers) (entry ∷ entries) hold zero d inside = record { pointer = p; leaf = hold.0.0; is_held = hold.0.1; key = hold.0.2; value = hold.0.3 }
   entry-held (p ∷ pointers) (entry ∷ entries) hold (suc k) d inside = entry-held pointers entries hold.1 k d (omega (arith, inside))
 
-  module _ (old : ArenaOf K V P) (free : (pointer : OpaqueNodePtr K V P) → held old pointer ≡ Nothing) (entries : List (K × V)) (root : OpaqueNodePtr K V P) (tree : Tree (OpaqueNodePtr K V P)) (is : IsLoaded text old arena entries root tree) (short : All (λ x. length x < 2 ^ 32) (texts_of text entries)) where
+  module _ (old : NodeArena K V P) (free : (pointer : OpaqueNodePtr K V P) → held old pointer ≡ Nothing) (entries : List (K × V)) (root : OpaqueNodePtr K V P) (tree : Tree (OpaqueNodePtr K V P)) (is : IsLoaded text old arena entries root tree) (short : All (λ x. length x < 2 ^ 32) (texts_of text entries)) where
     -- a text of the tree is that of an entry, and so is short
     short-there : All (λ x. length x < 2 ^ 32) (texts tree)
     short-there = All-map (λ x. length x < 2 ^ 32) (λ (pair : OpaqueNodePtr K V P × List ℕ). pair.1) (leaves tree) (λ k d inside.
@@ -391,7 +391,7 @@ pub end-in : {H : Type 0} (end : End) (all : List (H × List ℕ)) (p : H) (at_e
 end-in First all p (x, others, is) = subst (λ l. Contains l (p, x)) (sym is) (0, omega arith, refl)
 end-in Last all p (x, others, is) = subst (λ l. Contains l (p, x)) (sym is) (Contains-append_right others ((p, x) ∷ []) (p, x) (0, omega arith, refl))
 
-module _ {K V : Type 0} {P : ℕ} (text : K → List ℕ) (arena : ArenaOf K V P) (end : End) (root : OpaqueNodePtr K V P) (tree : Tree (OpaqueNodePtr K V P)) (alone : IsAlone text arena root tree) (leaf : NodePtr P (LeafNode K V P)) (at_end : IsAtEnd end (leaves tree) (leaf_pointer leaf)) where
+module _ {K V : Type 0} {P : ℕ} (text : K → List ℕ) (arena : NodeArena K V P) (end : End) (root : OpaqueNodePtr K V P) (tree : Tree (OpaqueNodePtr K V P)) (alone : IsAlone text arena root tree) (leaf : NodePtr P (LeafNode K V P)) (at_end : IsAtEnd end (leaves tree) (leaf_pointer leaf)) where
   -- the leaf at an end is held, with its text
   pub end-held : (node : LeafNode K V P) × (leaf_at arena (slab_key leaf) ≡ Some node) × (text (leaf_key node) ≡ at_end.0)
   end-held = let there = leaf-held-in text arena tree alone.is_tree.stands (leaf_pointer leaf) at_end.0 (end-in end (leaves tree) (leaf_pointer leaf) at_end) in (there.0, leaf-of (leaf_at arena (slab_key leaf)) there.0 there.1, there.2)
@@ -420,5 +420,5 @@ pub if-some-none : {X : Type 0} (o : Option X) (Q : X → Type 0) → o ≡ None
 if-some-none None Q none = tt
 if-some-none (Some x) Q none = absurd (cc)
 
-pub slot-held : {K V : Type 0} {P : ℕ} (arena : ArenaOf K V P) (key : ℕ) (leaf : LeafNode K V P) → leaf_at arena key ≡ Some leaf → held arena (opaque_pointer kinds.Leaf key) ≢ Nothing
+pub slot-held : {K V : Type 0} {P : ℕ} (arena : NodeArena K V P) (key : ℕ) (leaf : LeafNode K V P) → leaf_at arena key ≡ Some leaf → held arena (opaque_pointer kinds.Leaf key) ≢ Nothing
 slot-held arena key leaf is none = let wrong : HeldLeaf leaf ≡ Nothing = sym (ap held_leaf is) ∙ none in absurd (cc)

@@ -12,7 +12,7 @@ use Rattle.art_nodes.specs.Leaf.{leaf_key, leaf_value}
 use Rattle.art_nodes.specs.Pointers.{opaque_key, opaque_pointer}
 use Rattle.art_nodes.specs.declared.pointers.OpaqueNodePtr.{OpaqueNodePtr}
 use Rattle.art_nodes.specs.declared.leaf_node.LeafNode.{LeafNode}
-use Rattle.art_arena.specs.Arena.{ArenaOf, HeldLeaf, Nothing, held, held_leaf, leaf_count}
+use Rattle.art_arena.specs.Arena.{NodeArena, HeldLeaf, Nothing, held, held_leaf, leaf_count}
 use Rattle.art_arena.specs.Links.{AreDistinct, Spells, SpellsAfter}
 use Rattle.art_arena.specs.Trees.{Tree, leaves, texts}
 use Rattle.art_tree.specs.Art.{IsAlone, IsArt}
@@ -77,7 +77,7 @@ module _ {X : Type 0} where
       let more : count_by is_some (Some x ∷ slots) ≡ 1 + count_by is_some slots = sum_by-cons (λ (o : Option X). cond (is_some o) 1 0) (Some x) slots in
       omega (arith, low.long, rest, more)
 
-module _ {K V : Type 0} {P : ℕ} (arena : ArenaOf K V P) where
+module _ {K V : Type 0} {P : ℕ} (arena : NodeArena K V P) where
   spelled-held : (before : Option ℕ) (keys : List ℕ) → SpellsAfter arena before keys → HasEach arena.leaf.slots keys
   spelled-held before [] spelled = All-nil (λ k. slice_index_or arena.leaf.slots k None ≢ None)
   spelled-held before (k ∷ keys) ((leaf, at, previous, next), rest) =
@@ -106,7 +106,7 @@ module _ {K V : Type 0} {P : ℕ} (text : K → List ℕ) where
       let more : count_by is_some (Some leaf ∷ slots) ≡ 1 + count_by is_some slots = sum_by-cons (λ (o : Option (LeafNode K V P)). cond (is_some o) 1 0) (Some leaf) slots in
       omega (arith, long, rest, more)
 
-  module _ (arena : ArenaOf K V P) where
+  module _ (arena : NodeArena K V P) where
     pub art-counted : ((root : OpaqueNodePtr K V P) (tree : Tree (OpaqueNodePtr K V P)) → IsAlone text arena root tree → AreApart (texts tree)) → (root : Option (OpaqueNodePtr K V P)) → IsArt text arena root → length (entries_of text arena) ≡ leaf_count arena
     art-counted apart None nothing = counted arena.leaf.slots (λ i j a b at_i at_j same. let wrong : HeldLeaf a ≡ Nothing = sym (ap (held_leaf {H = OpaqueNodePtr K V P}) at_i) ∙ nothing (opaque_pointer kinds.Leaf i) in absurd (cc))
     art-counted apart (Some root) (tree, alone) = counted arena.leaf.slots (λ i j a b at_i at_j same.

@@ -12,7 +12,7 @@ use Rattle.std.proofs.lemmas.Option.{same_Some}
 use Rattle.art_bytes.specs.Text.{text_order}
 use Rattle.art_nodes.specs.Leaf.{leaf_key, leaf_value}
 use Rattle.art_nodes.specs.declared.leaf_node.LeafNode.{LeafNode}
-use Rattle.art_arena.specs.Arena.{ArenaOf}
+use Rattle.art_arena.specs.Arena.{NodeArena}
 use Rattle.art_tree.specs.Dictionary.{entry_among, entry_at, HasEntry, IsEmpty, IsEntry, SameEntries, SameOtherEntries}
 use Rattle.art_tree.specs.Entries.{AreEntries, entries_among, entries_of, put_entry, without_text}
 use Rattle.art_tree.specs.Refusals.{texts_of}
@@ -203,10 +203,10 @@ module _ {K V : Type 0} {P : ℕ} (text : K → List ℕ) where
       by_test onwards false is = put-keeps text (entries_among text slots) (leaf_key leaf, leaf_value leaf) x (onwards (λ none. some (rw is none)))
 
   -- the list of the entries is one
-  pub are-entries : (arena : ArenaOf K V P) → AreEntries text arena (entries_of text arena)
+  pub are-entries : (arena : NodeArena K V P) → AreEntries text arena (entries_of text arena)
   are-entries arena = record { ascending = among-ascends arena.leaf.slots; each = among-each arena.leaf.slots; all = among-all arena.leaf.slots }
 
-  same-list : (arena : ArenaOf K V P) (a b : List (K × V)) → texts_of text a ≡ texts_of text b → All (IsEntry text arena) a → All (IsEntry text arena) b → a ≡ b
+  same-list : (arena : NodeArena K V P) (a b : List (K × V)) → texts_of text a ≡ texts_of text b → All (IsEntry text arena) a → All (IsEntry text arena) b → a ≡ b
   same-list arena [] [] same in_a in_b = refl
   same-list arena [] (y ∷ b) same in_a in_b = absurd (cc)
   same-list arena (x ∷ a) [] same in_a in_b = absurd (cc)
@@ -216,33 +216,33 @@ module _ {K V : Type 0} {P : ℕ} (text : K → List ℕ) where
       let one = same_Some x y (sym (All-head (IsEntry text arena) x a in_a) ∙ ap (entry_at text arena) first ∙ All-head (IsEntry text arena) y b in_b) in
       ap (λ e. e ∷ a) one ∙ ap (λ es. y ∷ es) (same-list arena a b others (All-tail (IsEntry text arena) x a in_a) (All-tail (IsEntry text arena) y b in_b))
 
-  pub has-entry : (arena : ArenaOf K V P) (a : List (K × V)) (x : List ℕ) → All (IsEntry text arena) a → Contains (texts_of text a) x → HasEntry text arena x
+  pub has-entry : (arena : NodeArena K V P) (a : List (K × V)) (x : List ℕ) → All (IsEntry text arena) a → Contains (texts_of text a) x → HasEntry text arena x
   has-entry arena a x each inside none =
       let from = mapped-from (λ e. text e.0) a x inside in
       let wrong : None ≡ Some from.0 = sym none ∙ ap (entry_at text arena) (sym from.2) ∙ All-contains (IsEntry text arena) a from.0 each from.1 in
       absurd (cc)
 
-  pub one-list : (arena : ArenaOf K V P) (a b : List (K × V)) → AreEntries text arena a → AreEntries text arena b → a ≡ b
+  pub one-list : (arena : NodeArena K V P) (a b : List (K × V)) → AreEntries text arena a → AreEntries text arena b → a ≡ b
   one-list arena a b is_a is_b =
       same-list arena a b
       (same-texts (texts_of text a) (texts_of text b) is_a.ascending is_b.ascending (λ x inside. is_b.all x (has-entry arena a x is_a.each inside)) (λ x inside. is_a.all x (has-entry arena b x is_b.each inside)))
       is_a.each is_b.each
 
   -- an entry is a member of the list
-  pub entry-listed : (arena : ArenaOf K V P) (e : K × V) → IsEntry text arena e → Contains (entries_of text arena) e
+  pub entry-listed : (arena : NodeArena K V P) (e : K × V) → IsEntry text arena e → Contains (entries_of text arena) e
   entry-listed arena e is =
       let list = are-entries arena in
       let from = mapped-from (λ e. text e.0) (entries_of text arena) (text e.0) (list.all (text e.0) (λ none. let wrong : None ≡ Some e = sym none ∙ is in absurd (cc))) in
       let one = same_Some from.0 e (sym (All-contains (IsEntry text arena) (entries_of text arena) from.0 list.each from.1) ∙ ap (entry_at text arena) from.2 ∙ is) in
       subst (Contains (entries_of text arena)) one from.1
 
-  pub listed-entry : (arena : ArenaOf K V P) (e : K × V) → Contains (entries_of text arena) e → IsEntry text arena e
+  pub listed-entry : (arena : NodeArena K V P) (e : K × V) → Contains (entries_of text arena) e → IsEntry text arena e
   listed-entry arena e inside = All-contains (IsEntry text arena) (entries_of text arena) e (are-entries arena).each inside
 
-  pub no-list : (arena : ArenaOf K V P) → IsEmpty text arena → entries_of text arena ≡ []
+  pub no-list : (arena : NodeArena K V P) → IsEmpty text arena → entries_of text arena ≡ []
   no-list arena empty = one-list arena (entries_of text arena) [] (are-entries arena) (record { ascending = λ i j d before inside. absurd (omega (arith, inside)); each = All-nil (IsEntry text arena); all = λ x has. absurd (has (empty x)) })
 
-  module _ (old new : ArenaOf K V P) where
+  module _ (old new : NodeArena K V P) where
     pub list-same : SameEntries text old new → entries_of text new ≡ entries_of text old
     list-same same =
         let was = are-entries old in

@@ -7,7 +7,7 @@ use Rattle.art_header.specs.NodeType.{kind_for}
 use Rattle.art_nodes.specs.ChildMap.{ChildMap, IsAscendingFrom, key_bytes, with_child}
 use Rattle.art_nodes.specs.Inner as nodes
 use Rattle.art_nodes.specs.declared.pointers.OpaqueNodePtr.{OpaqueNodePtr}
-use Rattle.art_arena.specs.Arena.{ArenaOf, HeldInner, held}
+use Rattle.art_arena.specs.Arena.{NodeArena, HeldInner, held}
 use Rattle.art_arena.specs.Links.{AreDistinct}
 use Rattle.art_arena.specs.Standing.{NodeStands, StandsIn, AllStandIn}
 use Rattle.art_arena.specs.Trees.{Tree, Leaf, Inner, Branches, NoBranch, Branch, leaves, branch_leaves, places, branch_places, branch_roots, root_of, IsSound, AreSound, IsWellFormed}
@@ -181,7 +181,7 @@ module _ {K V : Type 0} {P : ℕ} where
       smallest_kinds-whole above (Inner pointer prefix (join before (Branch byte old after))) (Inner pointer prefix (join before (Branch byte new after))) smallest_kinds
       (node.0 ∙ ap kind_for (count-same before byte old new after), smallest_kinds-join before (Branch byte new after) parts.0 (new_smallest_kinds, parts.1.1))
 
-module _ {K V : Type 0} {P : ℕ} (text : K → List ℕ) (old new : ArenaOf K V P) where
+module _ {K V : Type 0} {P : ℕ} (text : K → List ℕ) (old new : NodeArena K V P) where
   mutual
     -- a tree still stands where each of its pointers holds what it held, but for links
     pub kept-tree : (tree : Tree (OpaqueNodePtr K V P)) → StandsIn text old tree → ((q : OpaqueNodePtr K V P) → Contains (places tree) q → KeepsAt old new q) → StandsIn text new tree

@@ -4,7 +4,7 @@ use Rattle.std.proofs.lemmas.List.{map-append}
 use Rattle.std.proofs.lemmas.List.Elements.{All-append, Contains-append_left, Contains-append_right, Contains-append_cases}
 use Rattle.art_nodes.specs.Pointers.{opaque_key}
 use Rattle.art_nodes.specs.declared.pointers.OpaqueNodePtr.{OpaqueNodePtr}
-use Rattle.art_arena.specs.Arena.{ArenaOf, Nothing, held, SameNodes}
+use Rattle.art_arena.specs.Arena.{NodeArena, Nothing, held, SameNodes}
 use Rattle.art_arena.specs.Links.{AreDistinct, Spells}
 use Rattle.art_arena.specs.Trees.{Tree, Inner, Branches, Branch, leaves, texts, places, branch_places, root_of, IsSound}
 use Rattle.art_tree.specs.Art.{IsAlone, IsArt}
@@ -87,7 +87,7 @@ module _ {H : Type 0} where
       ]
     ]
 
-module _ {K V : Type 0} {P : ℕ} (text : K → List ℕ) (old new : ArenaOf K V P) where
+module _ {K V : Type 0} {P : ℕ} (text : K → List ℕ) (old new : NodeArena K V P) where
   -- a tree whose part is exchanged is alone, where all that is new stands in the new part, and what was in the old part and is not in the new one is gone
   pub alone-grown : (root : OpaqueNodePtr K V P) (context : Context (OpaqueNodePtr K V P)) (part now : Tree (OpaqueNodePtr K V P)) → IsAlone text old root (plug context part) → AreDistinct (places (plug context part)) → IsExchanged old new text context part now
       → IsSound (path_to context) now → HasSmallestKinds now → All (λ x. length x < 2 ^ 32) (texts now) → Spells new (map opaque_key (leaf_pointers (plug context now)))

@@ -3,7 +3,7 @@ use Rattle.std.proofs.Common.{◌≡◌, ◌≢◌, ◌∙◌, ℕ, Bool, true, 
 use Rattle.std.specs.Cmp.Lexicographic.{pointwise}
 use Rattle.std.proofs.lemmas.Option.{same_Some}
 use Rattle.std.proofs.lemmas.List.Elements.{All-contains}
-use Rattle.art_arena.specs.Arena.{ArenaOf}
+use Rattle.art_arena.specs.Arena.{NodeArena}
 use Rattle.art_tree.specs.Dictionary.{HasEntry, HasKeys, IsEmpty, IsEntry, entry_at, SameEntries}
 use Rattle.art_tree.specs.Insertion.{IsEntered}
 use Rattle.art_tree.specs.Refusals.{texts_of}
@@ -12,16 +12,16 @@ use Rattle.art_tree.proofs.SharedLemmas.ClashLemmas.{mapped-from}
 use Rattle.art_tree.proofs.FindLemmas.ScanLemmas.{same-text, text-itself}
 
 module _ {K V : Type 0} {P : ℕ} (text : K → List ℕ) (is_key : K → Type 0) where
-  pub keys-none : (arena : ArenaOf K V P) → IsEmpty text arena → HasKeys text is_key arena
+  pub keys-none : (arena : NodeArena K V P) → IsEmpty text arena → HasKeys text is_key arena
   keys-none arena empty entry is = let none = sym (empty (text entry.0)) ∙ is in absurd (cc)
 
-  pub keys-loaded : (arena : ArenaOf K V P) (entries : List (K × V)) → All (λ entry. is_key entry.0) entries → All (IsEntry text arena) entries → ((x : List ℕ) → HasEntry text arena x → Contains (texts_of text entries) x) → HasKeys text is_key arena
+  pub keys-loaded : (arena : NodeArena K V P) (entries : List (K × V)) → All (λ entry. is_key entry.0) entries → All (IsEntry text arena) entries → ((x : List ℕ) → HasEntry text arena x → Contains (texts_of text entries) x) → HasKeys text is_key arena
   keys-loaded arena entries all_keys all_entries no_others entry is =
       let from = mapped-from (λ e. text e.0) entries (text entry.0) (no_others (text entry.0) (λ none. absurd (cc))) in
       let one = same_Some from.0 entry (sym (All-contains (IsEntry text arena) entries from.0 all_entries from.1) ∙ ap (entry_at text arena) from.2 ∙ is) in
       subst (λ e. is_key e.0) one (All-contains (λ e. is_key e.0) entries from.0 all_keys from.1)
 
-  module _ (old new : ArenaOf K V P) (keys : HasKeys text is_key old) where
+  module _ (old new : NodeArena K V P) (keys : HasKeys text is_key old) where
     -- entries that are the same, one that comes, one that goes: the keys that are there are keys
     pub keys-same : SameEntries text old new → HasKeys text is_key new
     keys-same same entry is = keys entry (sym (same (text entry.0)) ∙ is)

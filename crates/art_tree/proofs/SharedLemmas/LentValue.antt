@@ -6,7 +6,7 @@ use Rattle.art_nodes.specs.Pointers.{slab_key}
 use Rattle.art_nodes.specs.declared.pointers.NodePtr.{NodePtr}
 use Rattle.art_nodes.specs.declared.pointers.OpaqueNodePtr.{OpaqueNodePtr}
 use Rattle.art_nodes.specs.declared.leaf_node.LeafNode.{LeafNode}
-use Rattle.art_arena.specs.Arena.{ArenaOf, HeldLeaf, Changes, SameRoom, held}
+use Rattle.art_arena.specs.Arena.{NodeArena, HeldLeaf, Changes, SameRoom, held}
 use Rattle.art_arena.specs.Links.{Spells, leaf_at, with_value_at}
 use Rattle.art_arena.specs.Standing.{StandsIn}
 use Rattle.art_arena.specs.Trees.{Tree, leaves, texts}
@@ -23,7 +23,7 @@ pub on-some-none : {X : Type 0} (o : Option X) (Q : Type 0) → o ≡ None → O
 on-some-none None Q none = tt
 on-some-none (Some x) Q none = absurd (cc)
 
-module _ {K V : Type 0} {P : ℕ} (text : K → List ℕ) (old : ArenaOf K V P) (root : OpaqueNodePtr K V P) (tree : Tree (OpaqueNodePtr K V P)) (alone : IsAlone text old root tree) (apart : AreApart (texts tree)) (leaf : NodePtr P (LeafNode K V P)) (x : List ℕ) (scanned : scan tree x ≡ (leaf_pointer leaf, x) ∷ []) where
+module _ {K V : Type 0} {P : ℕ} (text : K → List ℕ) (old : NodeArena K V P) (root : OpaqueNodePtr K V P) (tree : Tree (OpaqueNodePtr K V P)) (alone : IsAlone text old root tree) (apart : AreApart (texts tree)) (leaf : NodePtr P (LeafNode K V P)) (x : List ℕ) (scanned : scan tree x ≡ (leaf_pointer leaf, x) ∷ []) where
   inside : Contains (leaves tree) (leaf_pointer leaf, x)
   inside = scan-in (leaves tree) (leaf_pointer leaf) x (subst (λ all. Contains all (leaf_pointer leaf, x)) (sym scanned) (0, omega arith, refl))
 
@@ -42,7 +42,7 @@ module _ {K V : Type 0} {P : ℕ} (text : K → List ℕ) (old : ArenaOf K V P) 
   lent-is-entry = ap (entry_at text old) lent-leaf.2 ∙ lent-was
 
   module _ (w : V) (changes : Changes old (with_value_at old (slab_key leaf) w) (leaf_pointer leaf) (HeldLeaf (with_value lent-leaf.0 w))) (stands_on : StandsIn text old tree → StandsIn text (with_value_at old (slab_key leaf) w) tree) (spelled_on : (keys : List ℕ) → Spells old keys → Spells (with_value_at old (slab_key leaf) w) keys) where
-    abbrev new : ArenaOf K V P
+    abbrev new : NodeArena K V P
     new = with_value_at old (slab_key leaf) w
 
     pub lent-alone : IsAlone text new root tree

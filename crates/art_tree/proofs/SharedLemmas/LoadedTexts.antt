@@ -4,13 +4,13 @@ use Rattle.std.proofs.lemmas.List.Elements.{Contains-append_right}
 use Rattle.art_nodes.specs.Leaf.{leaf_key}
 use Rattle.art_nodes.specs.declared.pointers.OpaqueNodePtr.{OpaqueNodePtr}
 use Rattle.art_nodes.specs.declared.leaf_node.LeafNode.{LeafNode}
-use Rattle.art_arena.specs.Arena.{ArenaOf, HeldLeaf, held}
+use Rattle.art_arena.specs.Arena.{NodeArena, HeldLeaf, held}
 use Rattle.art_arena.specs.Trees.{Tree, leaves, texts}
 use Rattle.art_tree.specs.Loading.{HoldEntries, IsLoaded}
 use Rattle.art_tree.specs.Refusals.{texts_of}
 use Rattle.art_tree.proofs.SharedLemmas.DictionaryLemmas.{leaf-held-in}
 
-module _ {K V : Type 0} {P : ℕ} (text : K → List ℕ) (arena : ArenaOf K V P) where
+module _ {K V : Type 0} {P : ℕ} (text : K → List ℕ) (arena : NodeArena K V P) where
   -- leaves that hold entries have their texts
   texts-of-held : (of : List (OpaqueNodePtr K V P × List ℕ)) → ((q : OpaqueNodePtr K V P) (x : List ℕ) → Contains of (q, x) → (leaf : LeafNode K V P) × (held arena q ≡ HeldLeaf leaf) × (text (leaf_key leaf) ≡ x))
       → (entries : List (K × V)) → HoldEntries arena (map (λ leaf. leaf.0) of) entries → map (λ leaf. leaf.1) of ≡ texts_of text entries
@@ -25,5 +25,5 @@ module _ {K V : Type 0} {P : ℕ} (text : K → List ℕ) (arena : ArenaOf K V P
       ap (λ x. x ∷ map (λ leaf. leaf.1) of) read
       ∙ ap (λ rest. text entry.0 ∷ rest) (texts-of-held of (λ q x inside. are q x (Contains-append_right (first ∷ []) of (q, x) inside)) entries hold.1)
 
-  pub loaded-texts : (old : ArenaOf K V P) (entries : List (K × V)) (root : OpaqueNodePtr K V P) (tree : Tree (OpaqueNodePtr K V P)) → IsLoaded text old arena entries root tree → texts tree ≡ texts_of text entries
+  pub loaded-texts : (old : NodeArena K V P) (entries : List (K × V)) (root : OpaqueNodePtr K V P) (tree : Tree (OpaqueNodePtr K V P)) → IsLoaded text old arena entries root tree → texts tree ≡ texts_of text entries
   loaded-texts old entries root tree l = texts-of-held (leaves tree) (leaf-held-in text arena tree l.is_tree.stands) entries l.hold

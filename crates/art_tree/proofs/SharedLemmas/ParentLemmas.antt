@@ -12,7 +12,7 @@ use Rattle.art_nodes.specs.Inner.{HasRoomFor}
 use Rattle.art_nodes.specs.Pointers.{node_kind, opaque_key}
 use Rattle.art_nodes.specs.declared.pointers.OpaqueNodePtr.{OpaqueNodePtr}
 use Rattle.art_nodes.specs.declared.leaf_node.LeafNode.{LeafNode}
-use Rattle.art_arena.specs.Arena.{ArenaOf, HeldInner, Nothing, held, held_leaf, held_under}
+use Rattle.art_arena.specs.Arena.{NodeArena, HeldInner, Nothing, held, held_leaf, held_under}
 use Rattle.art_arena.specs.Standing.{TreeAt, AllStandIn}
 use Rattle.art_arena.specs.Trees.{Tree, Inner, Branches, NoBranch, Branch, leaves, branch_leaves, branch_roots, root_of, AreSound}
 use Rattle.art_arena.specs.Ends.{IsAtEnd}
@@ -35,11 +35,11 @@ module _ {K V : Type 0} {P : ℕ} where
   no-inner (Some leaf) node is = cc
 
   -- no inner node is held at a pointer of the kind of leaves
-  pub inner-kind : (arena : ArenaOf K V P) (pointer : OpaqueNodePtr K V P) (node : nodes.Inner (OpaqueNodePtr K V P)) → held arena pointer ≡ HeldInner node → node_kind pointer ≢ kinds.Leaf
+  pub inner-kind : (arena : NodeArena K V P) (pointer : OpaqueNodePtr K V P) (node : nodes.Inner (OpaqueNodePtr K V P)) → held arena pointer ≡ HeldInner node → node_kind pointer ≢ kinds.Leaf
   inner-kind arena pointer node is leaf = no-inner _ node (sym (ap (λ kind. held_under arena kind (opaque_key pointer)) leaf) ∙ is)
 
   -- a parent that has a child under the byte
-  pub record IsParent (arena : ArenaOf K V P) (parent : OpaqueNodePtr K V P) (byte : ℕ) : Type 0 where
+  pub record IsParent (arena : NodeArena K V P) (parent : OpaqueNodePtr K V P) (byte : ℕ) : Type 0 where
     pub is_held : held arena parent ≢ Nothing
     pub is_inner : node_kind parent ≢ kinds.Leaf
     pub has_room : (node : nodes.Inner (OpaqueNodePtr K V P)) → held arena parent ≡ HeldInner node → HasRoomFor (most_children (node_kind parent)) node byte
@@ -48,7 +48,7 @@ module _ {K V : Type 0} {P : ℕ} where
   there-already None A some none = absurd (some refl)
   there-already (Some child) A some none = absurd (cc)
 
-  pub is-parent : (arena : ArenaOf K V P) (above : Option (OpaqueNodePtr K V P × ℕ)) (parent : OpaqueNodePtr K V P) (byte : ℕ) → CanHang arena above → above ≡ Some (parent, byte) → IsParent arena parent byte
+  pub is-parent : (arena : NodeArena K V P) (above : Option (OpaqueNodePtr K V P × ℕ)) (parent : OpaqueNodePtr K V P) (byte : ℕ) → CanHang arena above → above ≡ Some (parent, byte) → IsParent arena parent byte
   is-parent arena None parent byte can is = absurd (cc)
   is-parent arena (Some (p, b)) parent byte (node, holds, some) is =
       let one : (p, b) ≡ (parent, byte) = same_Some (p, b) (parent, byte) is in
@@ -92,7 +92,7 @@ none-is : {H : Type 0} (branches : Branches H) → option_map (λ (pair : ℕ ×
 none-is NoBranch is = refl
 none-is (Branch byte tree others) is = absurd (cc)
 
-module _ {K V : Type 0} {P : ℕ} (text : K → List ℕ) (arena : ArenaOf K V P) (pointer : OpaqueNodePtr K V P) (byte : ℕ) (place : HasPlaceAt text arena pointer byte) where
+module _ {K V : Type 0} {P : ℕ} (text : K → List ℕ) (arena : NodeArena K V P) (pointer : OpaqueNodePtr K V P) (byte : ℕ) (place : HasPlaceAt text arena pointer byte) where
   -- the child that was found past the byte is that of the first branch after it
   module _ (found : Option (OpaqueNodePtr K V P)) (answer : (node : nodes.Inner (OpaqueNodePtr K V P)) → held arena pointer ≡ HeldInner node → found ≡ option_map (λ (pair : ℕ × OpaqueNodePtr K V P). pair.1) (first_pair (pairs_within node.children (Excluded byte) Unbounded))) where
     found-is : option_map (λ (pair : ℕ × OpaqueNodePtr K V P). pair.1) (first_pair (branch_roots place.after)) ≡ found

@@ -2,7 +2,7 @@
 use Rattle.std.proofs.Common.{◌≡◌, ◌∙◌, ℕ, zero, suc, ◌≤◌, Result, Ok, Err, OnErr, IsOk, true, false, refl, sym, ap, subst, inl, inr, arith}
 use Rattle.std.proofs.lemmas.Bool.{cases_lt}
 use Rattle.art_header.specs.declared.node_type.NodeType.{NodeType}
-use Rattle.art_arena.specs.Arena.{ArenaOf, room, SameCapacity, SameOtherCapacity, SameRoom}
+use Rattle.art_arena.specs.Arena.{NodeArena, room, SameCapacity, SameOtherCapacity, SameRoom}
 use Rattle.art_nodes.proofs.KindLaws.{same_or_differ}
 use Rattle.art_tree.specs.Room.{GrowsOnlyWhere}
 
@@ -14,7 +14,7 @@ none-left {T} {E} r (suc n) ok e is =
     let never : false ≡ true = wrong in
     absurd (cc)
 
-pub none-on-err : {K V : Type 0} {P : ℕ} {T E : Type 0} (r : Result T E) (arena : ArenaOf K V P) (kind : NodeType) → (1 ≤ room arena kind → IsOk r) → OnErr r (room arena kind ≡ 0)
+pub none-on-err : {K V : Type 0} {P : ℕ} {T E : Type 0} (r : Result T E) (arena : NodeArena K V P) (kind : NodeType) → (1 ≤ room arena kind → IsOk r) → OnErr r (room arena kind ≡ 0)
 none-on-err (Ok x) arena kind ok = tt
 none-on-err {T = T} (Err e) arena kind ok = none-left {T = T} (Err e) (room arena kind) ok e refl
 
@@ -24,7 +24,7 @@ on-err-then (Ok x) A B follows holds = tt
 on-err-then (Err e) A B follows holds = follows holds
 
 -- the same spare capacity and capacity are the same spare capacity, and the same capacity
-module _ {K V : Type 0} {P : ℕ} (old new : ArenaOf K V P) (same : SameRoom old new) where
+module _ {K V : Type 0} {P : ℕ} (old new : NodeArena K V P) (same : SameRoom old new) where
   pub same-room : (kind : NodeType) → room new kind ≡ room old kind
   same-room kind = ap (λ both. both.0) (same kind)
 
@@ -33,11 +33,11 @@ module _ {K V : Type 0} {P : ℕ} (old new : ArenaOf K V P) (same : SameRoom old
 
 module _ {K V : Type 0} {P : ℕ} where
   -- this is the reserved kind, and it has no spare capacity
-  abbrev pub IsAsked : ArenaOf K V P → NodeType → NodeType → Type 0
+  abbrev pub IsAsked : NodeArena K V P → NodeType → NodeType → Type 0
   IsAsked old kind other = (other ≡ kind) × (room old other ≡ 0)
 
   -- reserving a kind changes the capacity of that kind alone, and only where it had no spare capacity
-  pub asked-grows : (old new : ArenaOf K V P) (kind : NodeType) → (1 ≤ room old kind → SameCapacity old new) → SameOtherCapacity old new kind → GrowsOnlyWhere old new (IsAsked old kind)
+  pub asked-grows : (old new : NodeArena K V P) (kind : NodeType) → (1 ≤ room old kind → SameCapacity old new) → SameOtherCapacity old new kind → GrowsOnlyWhere old new (IsAsked old kind)
   asked-grows old new kind had others other = elim (same_or_differ other kind) [
     | inr differ ↦ inl (others other differ)
     | inl same ↦ elim (cases_lt 0 (room old kind)) [
@@ -47,15 +47,15 @@ module _ {K V : Type 0} {P : ℕ} where
   ]
 
   -- the condition on a kind may be weakened
-  pub grows-then : (old new : ArenaOf K V P) (A B : NodeType → Type 0) → ((kind : NodeType) → A kind → B kind) → GrowsOnlyWhere old new A → GrowsOnlyWhere old new B
+  pub grows-then : (old new : NodeArena K V P) (A B : NodeType → Type 0) → ((kind : NodeType) → A kind → B kind) → GrowsOnlyWhere old new A → GrowsOnlyWhere old new B
   grows-then old new A B follows grows kind = elim (grows kind) [ inl same ↦ inl same | inr needed ↦ inr (follows kind needed) ]
 
   -- later steps that change no capacity
-  pub grows-on : (old mid new : ArenaOf K V P) (A : NodeType → Type 0) → GrowsOnlyWhere old mid A → SameCapacity mid new → GrowsOnlyWhere old new A
+  pub grows-on : (old mid new : NodeArena K V P) (A : NodeType → Type 0) → GrowsOnlyWhere old mid A → SameCapacity mid new → GrowsOnlyWhere old new A
   grows-on old mid new A grows same kind = elim (grows kind) [ inl before ↦ inl (same kind ∙ before) | inr needed ↦ inr needed ]
 
   -- two steps with one condition
-  pub grows-twice : (old mid new : ArenaOf K V P) (A : NodeType → Type 0) → GrowsOnlyWhere old mid A → GrowsOnlyWhere mid new A → GrowsOnlyWhere old new A
+  pub grows-twice : (old mid new : NodeArena K V P) (A : NodeType → Type 0) → GrowsOnlyWhere old mid A → GrowsOnlyWhere mid new A → GrowsOnlyWhere old new A
   grows-twice old mid new A first second kind = elim (second kind) [
     | inr needed ↦ inr needed
     | inl after ↦ elim (first kind) [ inl before ↦ inl (after ∙ before) | inr needed ↦ inr needed ]

@@ -5,13 +5,13 @@ use Rattle.art_header.specs.NodeType.{kind_for}
 use Rattle.art_header.specs.declared.node_type.NodeType.{NodeType}
 use Rattle.art_nodes.specs.Pointers.{node_kind, opaque_key}
 use Rattle.art_nodes.specs.declared.pointers.OpaqueNodePtr.{OpaqueNodePtr}
-use Rattle.art_arena.specs.Arena.{ArenaOf}
+use Rattle.art_arena.specs.Arena.{NodeArena}
 use Rattle.art_arena.specs.Standing.{StandsIn, AllStandIn}
 use Rattle.art_arena.specs.Trees.{Tree, Leaf, Inner, Branches, NoBranch, Branch, branch_roots, places, branch_places, SameButPointers, SameBranches}
 use Rattle.art_tree.specs.Loading.{HasSmallestKinds, HaveSmallestKinds}
 use Rattle.art_arena.proofs.StandingLaws.{leaf_kind}
 
-module _ {K V : Type 0} {P : ℕ} (text : K → List ℕ) (a b : ArenaOf K V P) where
+module _ {K V : Type 0} {P : ℕ} (text : K → List ℕ) (a b : NodeArena K V P) where
   same-count : (branches more : Branches (OpaqueNodePtr K V P)) → SameBranches branches more → length (branch_roots branches) ≡ length (branch_roots more)
   same-count NoBranch NoBranch same = refl
   same-count NoBranch (Branch byte tree more) same = absurd same

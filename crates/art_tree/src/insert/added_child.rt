@@ -14,9 +14,9 @@ ghost use Rattle.art_tree.specs.Reserving.{LacksRoomToGrow};
 ghost use Rattle.art_tree.specs.Room.{GrowsOnlyWhere};
 ghost use Rattle.art_tree.specs.Search.{leaf_pointer};
 
-use crate::insert::place::Fork;
+use crate::insert::insertion_point::Mismatch;
 use crate::node::{num_children, place_as, replace_node};
-use art_arena::{AnyRef, NodeArena};
+use art_arena::{AnyNodeRef, NodeArena};
 use art_bytes::AsBytes;
 use art_nodes::{
     InnerNode, InnerNode4, InnerNodeCommon, InnerNodeRead, LeafNode, NodePtr, OpaqueNodePtr,
@@ -94,24 +94,24 @@ fn grow_child<K, V, const PREFIX_LEN: usize>(
     ensures capacity { SameCapacity arena.old arena.new }
 {
     match arena.node_ref(pointer) {
-        AnyRef::Node4(node) => {
+        AnyNodeRef::Node4(node) => {
             let grown = with_child_more(node, byte, child);
             replace_node(arena, pointer, grown).unwrap()
         }
-        AnyRef::Node16(node) => {
+        AnyNodeRef::Node16(node) => {
             let grown = with_child_more(node, byte, child);
             replace_node(arena, pointer, grown).unwrap()
         }
-        AnyRef::Node48(node) => {
+        AnyNodeRef::Node48(node) => {
             let grown = with_child_more(node, byte, child);
             replace_node(arena, pointer, grown).unwrap()
         }
         // A node of 256 children has one under every byte.
-        AnyRef::Node256(node) => {
+        AnyNodeRef::Node256(node) => {
             prove!(node.num_children() < 256);
             unreachable!()
         }
-        AnyRef::LeafNode(_) => unreachable!(),
+        AnyNodeRef::LeafNode(_) => unreachable!(),
     }
 }
 
@@ -179,27 +179,31 @@ pub(crate) fn fork_node<K: AsBytes, V, const PREFIX_LEN: usize>(
     leaf: NodePtr<PREFIX_LEN, LeafNode<K, V, PREFIX_LEN>>,
     node: OpaqueNodePtr<K, V, PREFIX_LEN>,
     depth: usize,
-    fork: Fork,
+    mismatch: Mismatch,
 ) -> OpaqueNodePtr<K, V, PREFIX_LEN>
     requires held { HoldsLeaf arena.old (slab_key leaf) }
-    requires ordered { depth ≤ fork.index }
-    requires within { fork.index ≤ length (text_at K.text arena.old (slab_key leaf)) }
-    requires short { fork.index < 2 ^ 32 }
-    requires differ { fork.byte ≢ fork.node_byte }
+    requires ordered { depth ≤ mismatch.index }
+    requires within { mismatch.index ≤ length (text_at K.text arena.old (slab_key leaf)) }
+    requires short { mismatch.index < 2 ^ 32 }
+    requires differ { mismatch.byte ≢ mismatch.node_byte }
     requires room { 0 < room arena.old Node4 }
     ensures { IsPlaced arena.old arena.new Node4
         (node_of PREFIX_LEN
-        (take (fork.index - depth) (drop depth (text_at K.text arena.old (slab_key leaf))))
-        (two_children fork.byte (leaf_pointer leaf) fork.node_byte node)) result }
+        (take (mismatch.index - depth) (drop depth (text_at K.text arena.old (slab_key leaf))))
+        (two_children mismatch.byte (leaf_pointer leaf) mismatch.node_byte node)) result }
 {
-    let child = (fork.byte, leaf.to_opaque());
-    let other = (fork.node_byte, node);
-    let children = if fork.byte < fork.node_byte {
+    let child = (mismatch.byte, leaf.to_opaque());
+    let other = (mismatch.node_byte, node);
+    let children = if mismatch.byte < mismatch.node_byte {
         [child, other]
     } else {
         [other, child]
     };
     place_as::<K, V, PREFIX_LEN, InnerNode4<K, V, PREFIX_LEN>>(
-        arena, leaf, depth, fork.index, &children,
+        arena,
+        leaf,
+        depth,
+        mismatch.index,
+        &children,
     )
 }

@@ -33,7 +33,7 @@ struct Open {
 }
 
 // How many bytes two keys share. The first one's next byte must be less.
-fn fork(text: &[u8], next: &[u8]) -> usize
+fn fork_index(text: &[u8], next: &[u8]) -> usize
     requires { Forks text.now next.now }
     ensures { IsFork text.now next.now result }
 {
@@ -70,7 +70,7 @@ pub(crate) fn plan<K: AsBytes, V>(
     for i in 0..entries.len() {
         let text = entries[i].0.as_bytes();
         let shared = if i + 1 < entries.len() {
-            fork(text, entries[i + 1].0.as_bytes()) + 1
+            fork_index(text, entries[i + 1].0.as_bytes()) + 1
         } else {
             0
         };

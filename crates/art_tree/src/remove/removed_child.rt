@@ -13,7 +13,7 @@ ghost use Rattle.art_tree.specs.Reserving.{LacksRoomToShrink};
 ghost use Rattle.art_tree.specs.Room.{GrowsOnlyWhere};
 
 use crate::node::{num_children, replace_node};
-use art_arena::{AnyRef, NodeArena};
+use art_arena::{AnyNodeRef, NodeArena};
 use art_nodes::{InnerNode, InnerNodeRead, NodeType, OpaqueNodePtr};
 use std::alloc::AllocError;
 
@@ -111,19 +111,19 @@ fn shrink_node<K, V, const PREFIX_LEN: usize>(
     ensures capacity { SameCapacity arena.old arena.new }
 {
     match arena.node_ref(pointer) {
-        AnyRef::Node16(node) => {
+        AnyNodeRef::Node16(node) => {
             let shrunk = node.shrink();
             replace_node(arena, pointer, shrunk).unwrap()
         }
-        AnyRef::Node48(node) => {
+        AnyNodeRef::Node48(node) => {
             let shrunk = node.shrink();
             replace_node(arena, pointer, shrunk).unwrap()
         }
-        AnyRef::Node256(node) => {
+        AnyNodeRef::Node256(node) => {
             let shrunk = node.shrink();
             replace_node(arena, pointer, shrunk).unwrap()
         }
-        AnyRef::Node4(_) | AnyRef::LeafNode(_) => unreachable!(),
+        AnyNodeRef::Node4(_) | AnyNodeRef::LeafNode(_) => unreachable!(),
     }
 }
 

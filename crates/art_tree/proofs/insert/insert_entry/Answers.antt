@@ -5,7 +5,7 @@ use Rattle.art_arena.specs.Links.{HoldsLeaf}
 use Rattle.art_arena.specs.Trees.{Tree, leaves, texts}
 use Rattle.art_tree.specs.Art.{IsArt, IsAlone}
 use Rattle.art_tree.specs.Dictionary.{Clashes}
-use Rattle.art_tree.specs.Places.{LacksChild, Parts}
+use Rattle.art_tree.specs.InsertionPoints.{LacksChild, Parts}
 use Rattle.art_tree.specs.Room.{GrowsOnlyWhere, LacksRoomToInsert}
 use Rattle.art_tree.specs.Search.{leaf_pointer}
 use Rattle.art_tree.proofs.InsertLemmas.EntryLemmas.{answered, apart-new, child-apart, clash-entry, empty-new, empty-stays, fork-apart, leaf-is-held, no-clash}
@@ -103,8 +103,8 @@ insert_fork-requires g c =
     let arena = c.args.arena.now in
     let art = subst (IsArt text arena) c.in-Some.is c.requires.art in
     let short : length (text c.args.key) < 2 ^ 32 = omega (arith, c.if-as_bytes.false, ap length c.as_bytes.ensures.text) in
-    let place : (tree : Tree _) × IsAlone text arena c.in-Some.root tree × Parts tree (text c.args.key) c.in-Fork.spot c.in-Fork.fork =
-    (art.0, art.1, subst (λ key. Parts art.0 key c.in-Fork.spot c.in-Fork.fork) c.as_bytes-2.ensures.text (c.in-Fork.ensures art.0 art.1.is_tree)) in
+    let place : (tree : Tree _) × IsAlone text arena c.in-Some.root tree × Parts tree (text c.args.key) c.in-Fork.spot c.in-Fork.mismatch =
+    (art.0, art.1, subst (λ key. Parts art.0 key c.in-Fork.spot c.in-Fork.mismatch) c.as_bytes-2.ensures.text (c.in-Fork.ensures art.0 art.1.is_tree)) in
     assumption (leaf-pointer-fits, spot-fits)
 
 pub returns-in-Fork : goal.returns-in-Fork
@@ -113,14 +113,14 @@ returns-in-Fork g c =
     let key = text c.args.key in
     let old = c.args.arena.now in
     let new = c.insert_fork.new.arena in
-    let fork = c.insert_fork.ensures in
+    let mismatch = c.insert_fork.ensures in
     let law = c.no_text_begins_another.ensures [] in
     let art = subst (IsArt text old) c.in-Some.is c.requires.art in
     let short : length key < 2 ^ 32 = omega (arith, c.if-as_bytes.false, ap length c.as_bytes.ensures.text) in
-    let parts = subst (λ x. Parts art.0 x c.in-Fork.spot c.in-Fork.fork) c.as_bytes-2.ensures.text (c.in-Fork.ensures art.0 art.1.is_tree) in
-    let is_new = apart-new text old c.in-Some.root art.0 art.1 key short (fork-apart law art.0 art.1.is_tree.sound key short c.in-Fork.spot c.in-Fork.fork parts) in
-    let is = answered text old new c.args.key c.args.value ((kind : NodeType) × LacksRoomToInsert text old c.args.root key kind) c.insert_fork.result fork.art fork.entered fork.entry_back fork.nodes_kept
-    (subst (λ root. OnErr c.insert_fork.result ((kind : NodeType) × LacksRoomToInsert text old root key kind)) (sym c.in-Some.is) fork.no_room) is_new (λ same. entries-stay text old new same c.in-Some.root art.0 art.1 (law art.0 art.1.is_tree.sound)) c.newly_added-in-Fork.result c.newly_added-in-Fork.ensures.added c.newly_added-in-Fork.ensures.refused in
+    let parts = subst (λ x. Parts art.0 x c.in-Fork.spot c.in-Fork.mismatch) c.as_bytes-2.ensures.text (c.in-Fork.ensures art.0 art.1.is_tree) in
+    let is_new = apart-new text old c.in-Some.root art.0 art.1 key short (fork-apart law art.0 art.1.is_tree.sound key short c.in-Fork.spot c.in-Fork.mismatch parts) in
+    let is = answered text old new c.args.key c.args.value ((kind : NodeType) × LacksRoomToInsert text old c.args.root key kind) c.insert_fork.result mismatch.art mismatch.entered mismatch.entry_back mismatch.nodes_kept
+    (subst (λ root. OnErr c.insert_fork.result ((kind : NodeType) × LacksRoomToInsert text old root key kind)) (sym c.in-Some.is) mismatch.no_room) is_new (λ same. entries-stay text old new same c.in-Some.root art.0 art.1 (law art.0 art.1.is_tree.sound)) c.newly_added-in-Fork.result c.newly_added-in-Fork.ensures.added c.newly_added-in-Fork.ensures.refused in
     record { art = is.art; replaced = is.replaced; entered = is.entered; is_key = c.as_bytes.ensures.key; no_refusal = is.no_refusal; refusal_due = is.refusal_due; entry_back = is.entry_back; same_entries = is.same_entries; nodes_kept = is.nodes_kept; untouched = is.untouched; no_room = is.no_room; takes_no_memory = λ has. absurd (has is_new.1); memory = subst (λ root. GrowsOnlyWhere old new (LacksRoomToInsert text old root (key))) (sym c.in-Some.is) c.insert_fork.ensures.memory }
 
 pub returns-then-as_bytes-clause-refusal_due : goal.returns-then-as_bytes-clause-refusal_due

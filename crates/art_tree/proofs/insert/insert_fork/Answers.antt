@@ -37,10 +37,10 @@ link_leaf-leaf-requires g c =
     let order : LiesBeside end (text c.args.key) (text_at text reserved sibling) = lies-there place end sibling beside c.requires.short c.texts_ascend.ensures in
     assumption leaf-pointer-fits
 
-pub overflow_add-fork : goal.overflow_add-fork
-overflow_add-fork g c =
+pub overflow_add-mismatch : goal.overflow_add-mismatch
+overflow_add-mismatch g c =
     let (tree, alone, parts) = c.requires.place in
-    omega (arith, slice_get_within (g.K.AsBytes.text c.args.key) c.args.fork.index c.args.fork.byte parts.byte, c.requires.short)
+    omega (arith, slice_get_within (g.K.AsBytes.text c.args.key) c.args.mismatch.index c.args.mismatch.byte parts.byte, c.requires.short)
 
 pub trim-requires : goal.trim-requires
 trim-requires g c =
@@ -54,7 +54,7 @@ trim-requires g c =
     let link = c.link_leaf-leaf.ensures in
     let is_held : held linked spot.node ≢ Nothing = linked-held place linked leaf link.was_free link.others in
     let leaf_held : HoldsLeaf linked sibling = sibling-held place linked leaf link.was_free link.others end sibling at_end in
-    let within : (node : Inner _) → held linked spot.node ≡ HeldInner node → c.args.fork.index + 1 - spot.depth ≤ node.prefix_len = within-there place linked leaf link.was_free link.others in
+    let within : (node : Inner _) → held linked spot.node ≡ HeldInner node → c.args.mismatch.index + 1 - spot.depth ≤ node.prefix_len = within-there place linked leaf link.was_free link.others in
     let long : (node : Inner _) → held linked spot.node ≡ HeldInner node → spot.depth + node.prefix_len ≤ length (text_at g.K.AsBytes.text linked sibling) = text-there place linked leaf link.was_free link.others end sibling at_end in
     assumption leaf-pointer-fits
 
@@ -62,7 +62,7 @@ pub fork_node-node-requires : goal.fork_node-node-requires
 fork_node-node-requires g c =
     let text = g.K.AsBytes.text in
     let spot = c.args.spot in
-    let fork = c.args.fork in
+    let mismatch = c.args.mismatch in
     let reserved = c.reserve_for_fork.new.arena in
     let place = fork-reserved c.args.arena.now reserved c.requires.place c.reserve_for_fork.ensures.nodes_kept c.near_end-end.ensures.bytes in
     let end = c.near_end-end.result in
@@ -75,10 +75,10 @@ fork_node-node-requires g c =
     let linked = c.link_leaf-leaf.new.arena in
     let cut = c.trim.new.arena in
     let is_held : HoldsLeaf cut slot = new-leaf-held place linked leaf link.was_free link.others end sibling at_end cut c.trim.ensures.leaf c.trim.ensures.trimmed c.args.value link.entry slot refl in
-    let ordered : spot.depth ≤ fork.index = place.parts.later in
-    let within : fork.index ≤ length (text_at text cut slot) = index-within place linked leaf link.was_free link.others end sibling at_end cut c.trim.ensures.leaf c.trim.ensures.trimmed c.args.value link.entry slot refl in
-    let short : fork.index < 2 ^ 32 = omega (arith, slice_get_within (text c.args.key) fork.index fork.byte place.parts.byte, c.requires.short) in
-    let differ : fork.byte ≢ fork.node_byte = place.parts.differ in
+    let ordered : spot.depth ≤ mismatch.index = place.parts.later in
+    let within : mismatch.index ≤ length (text_at text cut slot) = index-within place linked leaf link.was_free link.others end sibling at_end cut c.trim.ensures.leaf c.trim.ensures.trimmed c.args.value link.entry slot refl in
+    let short : mismatch.index < 2 ^ 32 = omega (arith, slice_get_within (text c.args.key) mismatch.index mismatch.byte place.parts.byte, c.requires.short) in
+    let differ : mismatch.byte ≢ mismatch.node_byte = place.parts.differ in
     let was_room : 0 < room reserved Node4 = ok-then c.reserve_for_fork.result (0 < room reserved Node4) c.is_err.ensures.value c.if-is_err.false c.reserve_for_fork.ensures.node_room in
     let has_room : 0 < room cut Node4 = subst (λ n. 0 < n) (sym (same-room linked cut c.trim.ensures.room Node4 ∙ link.other_room Node4 (λ e. cc))) was_room in
     assumption leaf-pointer-fits

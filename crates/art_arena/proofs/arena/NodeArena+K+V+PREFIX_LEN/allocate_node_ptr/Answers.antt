@@ -7,12 +7,12 @@ use Rattle.art_arena.proofs.arena.NodeArena+K+V+PREFIX_LEN.allocate_node_ptr.Goa
 pub returns-in-Ok-clause-added : goal.returns-in-Ok-clause-added
 returns-in-Ok-clause-added g c =
     let laws = g.met.N.ArenaNode in
-    Changes-called g.N.Node.TYPE g.N.Shelved.slab_of g.N.Shelved.with_slab g.N.ArenaNode.held_as laws.held_in_slab laws.slab_written laws.others_kept _ _ _ _ _ (Some c.args.node) c.slab_mut.ensures.value (sym c.from_key.ensures) c.in-Ok.ensures.updates
+    Changes-called g.N.Node.TYPE g.N.InSlab.slab_of g.N.InSlab.with_slab g.N.ArenaNode.held_as laws.held_in_slab laws.slab_written laws.others_kept _ _ _ _ _ (Some c.args.node) c.slab_mut.ensures.value (sym c.from_key.ensures) c.in-Ok.ensures.updates
 
 pub returns-in-Err-clause-nodes_kept : goal.returns-in-Err-clause-nodes_kept
 returns-in-Err-clause-nodes_kept g c =
     let laws = g.met.N.ArenaNode in
-    SameNodes-written g.N.Node.TYPE g.N.Shelved.slab_of g.N.Shelved.with_slab g.N.ArenaNode.held_as laws.held_in_slab laws.slab_written laws.others_kept c.args.self.now c.insert.new.self
+    SameNodes-written g.N.Node.TYPE g.N.InSlab.slab_of g.N.InSlab.with_slab g.N.ArenaNode.held_as laws.held_in_slab laws.slab_written laws.others_kept c.args.self.now c.insert.new.self
     (λ key. ap (λ s. get s key) c.in-Err.ensures.err ∙ ap (λ s. get s key) c.slab_mut.ensures.value)
 
 pub returns-in-Ok-clause-was_free : goal.returns-in-Ok-clause-was_free
@@ -25,7 +25,7 @@ pub returns-in-Ok-clause-room : goal.returns-in-Ok-clause-room
 returns-in-Ok-clause-room g c =
     let laws = g.met.N.ArenaNode in
     let before = laws.room_of_slab c.args.self.now in
-    let after = room-written g.N.Node.TYPE g.N.Shelved.slab_of g.N.Shelved.with_slab g.N.ArenaNode.held_as laws.held_in_slab laws.slab_written laws.others_kept laws.room_of_slab laws.other_room c.args.self.now c.insert.new.self in
+    let after = room-written g.N.Node.TYPE g.N.InSlab.slab_of g.N.InSlab.with_slab g.N.ArenaNode.held_as laws.held_in_slab laws.slab_written laws.others_kept laws.room_of_slab laws.other_room c.args.self.now c.insert.new.self in
     let lent = ap slab_room c.slab_mut.ensures.value in
     let len = c.in-Ok.ensures.len in
     let capacity = c.in-Ok.ensures.capacity in
@@ -50,7 +50,7 @@ pub returns-in-Ok-clause-takes_no_memory : goal.returns-in-Ok-clause-takes_no_me
 returns-in-Ok-clause-takes_no_memory g c = λ some.
     let laws = g.met.N.ArenaNode in
     let before = laws.room_of_slab c.args.self.now in
-    let after = room-written g.N.Node.TYPE g.N.Shelved.slab_of g.N.Shelved.with_slab g.N.ArenaNode.held_as laws.held_in_slab laws.slab_written laws.others_kept laws.room_of_slab laws.other_room c.args.self.now c.insert.new.self in
+    let after = room-written g.N.Node.TYPE g.N.InSlab.slab_of g.N.InSlab.with_slab g.N.ArenaNode.held_as laws.held_in_slab laws.slab_written laws.others_kept laws.room_of_slab laws.other_room c.args.self.now c.insert.new.self in
     let lent = ap slab_room c.slab_mut.ensures.value in
     let len = c.in-Ok.ensures.len in
     let capacity = c.in-Ok.ensures.had_room (omega (arith, some, before, lent)) in
@@ -64,7 +64,7 @@ returns-in-Ok-clause-no_growth g c = λ some.
     let laws = g.met.N.ArenaNode in
     let before = laws.room_of_slab c.args.self.now in
     let lent = ap slab_room c.slab_mut.ensures.value in
-    SameCapacity-written g.N.Node.TYPE g.N.Shelved.slab_of g.N.Shelved.with_slab g.N.ArenaNode.held_as laws.held_in_slab laws.slab_written laws.others_kept laws.room_of_slab laws.other_room laws.capacity_of_slab laws.other_capacity c.args.self.now c.insert.new.self
+    SameCapacity-written g.N.Node.TYPE g.N.InSlab.slab_of g.N.InSlab.with_slab g.N.ArenaNode.held_as laws.held_in_slab laws.slab_written laws.others_kept laws.room_of_slab laws.other_room laws.capacity_of_slab laws.other_capacity c.args.self.now c.insert.new.self
     (c.in-Ok.ensures.had_room (omega (arith, some, before, lent)) ∙ ap (λ s. s.capacity) c.slab_mut.ensures.value)
 
 pub returns-in-Err-clause-other_capacity : goal.returns-in-Err-clause-other_capacity
@@ -75,5 +75,5 @@ returns-in-Err-clause-no_growth g c = λ some.
     let laws = g.met.N.ArenaNode in
     let before = laws.room_of_slab c.args.self.now in
     let lent = ap slab_room c.slab_mut.ensures.value in
-    SameCapacity-written g.N.Node.TYPE g.N.Shelved.slab_of g.N.Shelved.with_slab g.N.ArenaNode.held_as laws.held_in_slab laws.slab_written laws.others_kept laws.room_of_slab laws.other_room laws.capacity_of_slab laws.other_capacity c.args.self.now c.insert.new.self
+    SameCapacity-written g.N.Node.TYPE g.N.InSlab.slab_of g.N.InSlab.with_slab g.N.ArenaNode.held_as laws.held_in_slab laws.slab_written laws.others_kept laws.room_of_slab laws.other_room laws.capacity_of_slab laws.other_capacity c.args.self.now c.insert.new.self
     (c.in-Err.ensures.had_room (omega (arith, some, before, lent)) ∙ ap (λ s. s.capacity) c.slab_mut.ensures.value)

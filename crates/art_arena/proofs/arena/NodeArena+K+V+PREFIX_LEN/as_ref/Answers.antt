@@ -13,5 +13,5 @@ unwrap-requires g c =
 pub returns : goal.returns
 returns g c =
     let key = c.args.ptr.key in
-    let found : get (g.N.Shelved.slab_of c.args.self.now) key ≡ Some c.unwrap.result.now = sym (get-called _ _ _ _ c.slab.ensures c.key.ensures) ∙ sym c.get.ensures ∙ ap option_copied c.unwrap.ensures in
+    let found : get (g.N.InSlab.slab_of c.args.self.now) key ≡ Some c.unwrap.result.now = sym (get-called _ _ _ _ c.slab.ensures c.key.ensures) ∙ sym c.get.ensures ∙ ap option_copied c.unwrap.ensures in
     g.met.N.ArenaNode.held_in_slab c.args.self.now key ∙ ap (held_option g.N.ArenaNode.held_as) found

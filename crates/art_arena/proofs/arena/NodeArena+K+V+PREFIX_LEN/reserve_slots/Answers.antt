@@ -18,12 +18,12 @@ returns-clause-had_room g c = λ asks.
     let laws = g.met.N.ArenaNode in
     let bound : c.args.additional ≤ slab_room c.slab_mut.result.now = rw (c.slab_mut.ensures.value, ← laws.room_of_slab c.args.self.now) asks in
     let same = c.reserve.ensures.had_room (omega (arith, bound)) in
-    SameRoom-written g.N.Node.TYPE g.N.Shelved.slab_of g.N.Shelved.with_slab g.N.ArenaNode.held_as laws.held_in_slab laws.slab_written laws.others_kept laws.room_of_slab laws.other_room laws.capacity_of_slab laws.other_capacity c.args.self.now c.reserve.new.self (ap slab_room (same ∙ c.slab_mut.ensures.value)) (ap (λ s. s.capacity) (same ∙ c.slab_mut.ensures.value))
+    SameRoom-written g.N.Node.TYPE g.N.InSlab.slab_of g.N.InSlab.with_slab g.N.ArenaNode.held_as laws.held_in_slab laws.slab_written laws.others_kept laws.room_of_slab laws.other_room laws.capacity_of_slab laws.other_capacity c.args.self.now c.reserve.new.self (ap slab_room (same ∙ c.slab_mut.ensures.value)) (ap (λ s. s.capacity) (same ∙ c.slab_mut.ensures.value))
 
 pub returns-clause-nodes_kept : goal.returns-clause-nodes_kept
 returns-clause-nodes_kept g c =
     let laws = g.met.N.ArenaNode in
-    SameNodes-written g.N.Node.TYPE g.N.Shelved.slab_of g.N.Shelved.with_slab g.N.ArenaNode.held_as laws.held_in_slab laws.slab_written laws.others_kept c.args.self.now c.reserve.new.self
+    SameNodes-written g.N.Node.TYPE g.N.InSlab.slab_of g.N.InSlab.with_slab g.N.ArenaNode.held_as laws.held_in_slab laws.slab_written laws.others_kept c.args.self.now c.reserve.new.self
     (λ key. ap (λ s. get s key) c.reserve.ensures.rest_kept ∙ ap (λ s. get s key) c.slab_mut.ensures.value)
 
 pub returns-clause-succeeds : goal.returns-clause-succeeds
@@ -35,13 +35,13 @@ returns-clause-succeeds g c = λ asks.
 pub returns-clause-room : goal.returns-clause-room
 returns-clause-room g c =
     let laws = g.met.N.ArenaNode in
-    rw (room-written g.N.Node.TYPE g.N.Shelved.slab_of g.N.Shelved.with_slab g.N.ArenaNode.held_as laws.held_in_slab laws.slab_written laws.others_kept laws.room_of_slab laws.other_room c.args.self.now c.reserve.new.self) (made_room c.reserve.result c.reserve.new.self c.args.additional c.reserve.ensures.room)
+    rw (room-written g.N.Node.TYPE g.N.InSlab.slab_of g.N.InSlab.with_slab g.N.ArenaNode.held_as laws.held_in_slab laws.slab_written laws.others_kept laws.room_of_slab laws.other_room c.args.self.now c.reserve.new.self) (made_room c.reserve.result c.reserve.new.self c.args.additional c.reserve.ensures.room)
 
 pub returns-clause-no_less_room : goal.returns-clause-no_less_room
 returns-clause-no_less_room g c =
     let laws = g.met.N.ArenaNode in
     let before = laws.room_of_slab c.args.self.now in
-    let after = room-written g.N.Node.TYPE g.N.Shelved.slab_of g.N.Shelved.with_slab g.N.ArenaNode.held_as laws.held_in_slab laws.slab_written laws.others_kept laws.room_of_slab laws.other_room c.args.self.now c.reserve.new.self in
+    let after = room-written g.N.Node.TYPE g.N.InSlab.slab_of g.N.InSlab.with_slab g.N.ArenaNode.held_as laws.held_in_slab laws.slab_written laws.others_kept laws.room_of_slab laws.other_room c.args.self.now c.reserve.new.self in
     let lent = ap slab_room c.slab_mut.ensures.value in
     let len = ap slab_len c.reserve.ensures.rest_kept in
     let capacity = c.reserve.ensures.capacity in

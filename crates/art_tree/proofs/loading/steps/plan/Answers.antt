@@ -9,8 +9,8 @@ use Rattle.art_tree.proofs.LoadLemmas.OpenNodes.{IsPlanned, IsClosing, Parts, en
 use Rattle.art_tree.proofs.loading.steps.plan.Goals as goal
 use Rattle.art_tree.proofs.loading.steps.plan.Goals.{then-i-entries, else-i-entries, then-top-shared+in_ok-push-3, else-top-shared}
 
-pub fork-requires : goal.fork-requires
-fork-requires g c =
+pub fork_index-requires : goal.fork_index-requires
+fork_index-requires g c =
     let text_of = λ (e : g.row.K.Denot × g.row.V.Denot). g.K.AsBytes.text e.0 in
     let entries = c.args.entries.now in
     let first = c.as_bytes-text.ensures.text ∙ ap text_of (sym c.index-entries-i.is) ∙ sym (entry-text text_of entries c.loop-i.i c.index-entries-i.result c.loop-i-test.true c.index-entries-i.is) in
@@ -26,7 +26,7 @@ byte_to-leaf_byte-requires g c =
     let path = planned-path (texts_of g.K.AsBytes.text entries) c.loop-i.i c.loop-i.top c.loop-i.open.items c.loop-i.steps.items (c.loop-i.invariant.before_next c.loop-i-test.true) in
     let long = ap length first in
     elim c.if-i-entries.branch [
-      | then-i-entries w ↦ omega (arith, path, long, c.max.ensures, w.shared-is, w.fork.ensures.in_first)
+      | then-i-entries w ↦ omega (arith, path, long, c.max.ensures, w.shared-is, w.fork_index.ensures.in_first)
       | else-i-entries w ↦ omega (arith, path, long, c.max.ensures, w.shared-is)
     ]
 
@@ -45,7 +45,7 @@ closing-init g c =
       parts = elim c.if-i-entries.branch [
         | then-i-entries w ↦
             let is_next : w.as_bytes.result.now ≡ text_of_entry texts (c.loop-i.i + 1) = w.as_bytes.ensures.text ∙ ap text_of (sym w.index-entries-i-then-i-entries.is) ∙ sym (entry-text text_of entries (c.loop-i.i + 1) w.index-entries-i-then-i-entries.result w.if-i-entries.true w.index-entries-i-then-i-entries.is) in
-            subst (Parts texts c.loop-i.i text) (sym w.shared-is) (parts-between texts c.loop-i.i text w.as_bytes.result.now w.fork.result (omega (arith, count, w.if-i-entries.true)) is_next w.fork.ensures)
+            subst (Parts texts c.loop-i.i text) (sym w.shared-is) (parts-between texts c.loop-i.i text w.as_bytes.result.now w.fork_index.result (omega (arith, count, w.if-i-entries.true)) is_next w.fork_index.ensures)
         | else-i-entries w ↦ subst (Parts texts c.loop-i.i text) (sym w.shared-is) (parts-last texts c.loop-i.i text (omega (arith, count, w.if-i-entries.false)))
       ];
       finished = subst (IsClosing texts c.loop-i.i text c.if-i-entries.shared c.loop-i.top c.loop-i.open.items) (sym (c.in_ok-push.ensures.items ∙ ap (λ b. c.loop-i.steps.items ++ step.Leaf b ∷ []) (c.byte_to-leaf_byte.ensures ∙ ap (byte_before text) c.max.ensures)))

@@ -1,14 +1,14 @@
 use Rattle.std.proofs.Common.{◌≡◌, ◌≢◌, ◌∙◌, ℕ, ◌≤◌, Result, Ok, Err, OnOk, arith}
 use Rattle.art_header.specs.declared.node_type.NodeType.{NodeType}
 use Rattle.art_header.specs.declared.node_type.NodeType.TheVariants as kinds
-use Rattle.art_arena.specs.Arena.{ArenaOf, room}
+use Rattle.art_arena.specs.Arena.{NodeArena, room}
 use Rattle.art_tree_tests.proofs.tree.reserving.reserve_one_of_each.Goals as goal
 
 on-ok-then : {A E : Type 0} (r : Result A E) (P Q : Type 0) → (P → Q) → OnOk r P → OnOk r Q
 on-ok-then (Ok a) P Q follows holds = follows holds
 on-ok-then (Err e) P Q follows holds = tt
 
-by-kind : {K V : Type 0} {P : ℕ} (arena : ArenaOf K V P) → 1 ≤ room arena kinds.Leaf → 1 ≤ room arena kinds.Node4 → 1 ≤ room arena kinds.Node16 → 1 ≤ room arena kinds.Node48 → 1 ≤ room arena kinds.Node256 → (kind : NodeType) → 1 ≤ room arena kind
+by-kind : {K V : Type 0} {P : ℕ} (arena : NodeArena K V P) → 1 ≤ room arena kinds.Leaf → 1 ≤ room arena kinds.Node4 → 1 ≤ room arena kinds.Node16 → 1 ≤ room arena kinds.Node48 → 1 ≤ room arena kinds.Node256 → (kind : NodeType) → 1 ≤ room arena kind
 by-kind arena leaf four sixteen many all kinds.Leaf = leaf
 by-kind arena leaf four sixteen many all kinds.Node4 = four
 by-kind arena leaf four sixteen many all kinds.Node16 = sixteen

@@ -1,13 +1,13 @@
 use Rattle.std.proofs.Common.{◌≡◌, ◌∙◌, ℕ, List, All, Option, Result, Ok, Err, IfOk, IfSome, sym, subst}
 use Rattle.std.proofs.lemmas.List.Elements.{All-contains, All-map}
 use Rattle.std.specs.Result.{result_ok}
-use Rattle.art_arena.specs.Arena.{ArenaOf}
+use Rattle.art_arena.specs.Arena.{NodeArena}
 use Rattle.art_tree.specs.Dictionary.{HasEntry, IsEntry}
 use Rattle.art_tree.specs.Refusals.{texts_of}
 use Rattle.art_tree_tests.proofs.tree.tree_examples.loaded.Goals as goal
 
 -- each text of entries has one
-have-entries : {K V : Type 0} {P : ℕ} (text : K → List ℕ) (arena : ArenaOf K V P) (entries : List (K × V)) → All (IsEntry text arena) entries → All (HasEntry text arena) (texts_of text entries)
+have-entries : {K V : Type 0} {P : ℕ} (text : K → List ℕ) (arena : NodeArena K V P) (entries : List (K × V)) → All (IsEntry text arena) entries → All (HasEntry text arena) (texts_of text entries)
 have-entries text arena entries are = All-map (HasEntry text arena) (λ entry. text entry.0) entries (λ k d within none. let wrong = sym (are k d within) ∙ none in cc)
 
 -- what two facts of an `Ok` give, where the value alone is kept

@@ -3,7 +3,7 @@ use Rattle.std.specs.declared.cmp.Ordering.TheVariants.{Less}
 use Rattle.std.proofs.lemmas.List.Elements.{All-weaker}
 use Rattle.art_bytes.specs.Text.{IsPrefixOf, text_order}
 use Rattle.art_nodes.specs.declared.pointers.OpaqueNodePtr.{OpaqueNodePtr}
-use Rattle.art_arena.specs.Arena.{ArenaOf}
+use Rattle.art_arena.specs.Arena.{NodeArena}
 use Rattle.art_arena.specs.Trees.{Tree, texts, IsSound}
 use Rattle.art_tree.specs.Art.{IsAlone, IsArt}
 use Rattle.art_tree.specs.Dictionary.{IsEntry}
@@ -23,7 +23,7 @@ returns-clause-keys g c =
     subst (All (λ entry. g.K.AsBytes.is_key entry.0)) c.self.view_is
     (All-weaker (IsEntry text arena) (λ entry. g.K.AsBytes.is_key entry.0) (λ entry is. c.arena-arena.ensures.keys entry is) (entries_of text arena) (c.entries_are_one_list.ensures.list arena).each)
 
-module _ {K V : Type 0} {P : ℕ} (text : K → List ℕ) (arena : ArenaOf K V P) where
+module _ {K V : Type 0} {P : ℕ} (text : K → List ℕ) (arena : NodeArena K V P) where
   abbrev Apart : List (List ℕ) → Type 0
   Apart all = AllPairs (λ a b. (¬ IsPrefixOf a b) × (¬ IsPrefixOf b a)) all
 

@@ -1,8 +1,8 @@
 use Rattle.std.proofs.Common.{◌≡◌, ◌∙◌, ◌+◌, ◌-◌, length, take, drop, sym, ap, arith}
-use Rattle.art_tree.specs.Places.{prefix_of}
+use Rattle.art_tree.specs.InsertionPoints.{prefix_of}
 use Rattle.art_tree.proofs.InsertLemmas.PlaceLemmas.{at-inner, prefix-in-text, prefix-stored}
 use Rattle.art_tree.proofs.InsertLemmas.TowardLemmas.{toward-text}
-use Rattle.art_tree.proofs.insert.place.whole_prefix.Goals as goal
+use Rattle.art_tree.proofs.insert.insertion_point.whole_prefix.Goals as goal
 
 pub returns-then-prefix_len-clause-prefix : goal.returns-then-prefix_len-clause-prefix
 returns-then-prefix_len-clause-prefix g c = λ tree on.

@@ -1,10 +1,10 @@
 use Rattle.std.proofs.Common.{subst}
 use Rattle.std.proofs.lemmas.List.{take_rest}
 use Rattle.art_arena.specs.Standing.{TreeAt}
-use Rattle.art_tree.specs.Places.{HasLeafText, toward}
+use Rattle.art_tree.specs.InsertionPoints.{HasLeafText, toward}
 use Rattle.art_tree.proofs.InsertLemmas.NodeLemmas.{slice-fits}
 use Rattle.art_tree.proofs.InsertLemmas.PlaceLemmas.{depth-within, spot-tree}
-use Rattle.art_tree.proofs.insert.place.text_below_spot.Goals as goal
+use Rattle.art_tree.proofs.insert.insertion_point.text_below_spot.Goals as goal
 
 pub slice_bounds-text_toward-count : goal.slice_bounds-text_toward-count
 slice_bounds-text_toward-count g c = let (tree, on) = c.requires in depth-within g.K.AsBytes.text c.args.arena.now tree c.args.key.now c.args.spot on.spot_in

@@ -1,6 +1,6 @@
 use Rattle.std.proofs.Common.{ℕ, ◌-◌, ◌<◌, ◌≤◌, arith}
 use Rattle.art_tree.proofs.InsertLemmas.PlaceLemmas.{depth-within}
-use Rattle.art_tree.proofs.insert.place.find_place.Goals as goal
+use Rattle.art_tree.proofs.insert.insertion_point.find_insertion_point.Goals as goal
 
 smaller : (all now next : ℕ) → now < next → next ≤ all → all - next < all - now
 smaller all now next more within = omega (arith, more, within)

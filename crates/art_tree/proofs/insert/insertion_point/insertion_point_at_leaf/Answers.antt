@@ -3,11 +3,11 @@ use Rattle.art_arena.specs.Arena.{Nothing, held}
 use Rattle.art_arena.specs.Standing.{leaf_text}
 use Rattle.art_arena.specs.Trees.{leaves}
 use Rattle.art_tree.specs.Search.{leaf_pointer}
-use Rattle.art_tree.specs.Places.{Parts}
+use Rattle.art_tree.specs.InsertionPoints.{Parts}
 use Rattle.art_tree.proofs.InsertLemmas.PlaceLemmas.{depth-within, spot-held, at-leaf, leaf-deep, leaf-present, rests-counted, leaf-within, leaf-clash, leaf-parts}
 use Rattle.art_tree.proofs.FindLemmas.WayLemmas.{not-true}
-use Rattle.art_tree.proofs.insert.place.place_at_leaf.Goals.{then-index-text-via-then-index-text, then-index-text-via-else-index-text+then-index-key}
-use Rattle.art_tree.proofs.insert.place.place_at_leaf.Goals as goal
+use Rattle.art_tree.proofs.insert.insertion_point.insertion_point_at_leaf.Goals.{then-index-text-via-then-index-text, then-index-text-via-else-index-text+then-index-key}
+use Rattle.art_tree.proofs.insert.insertion_point.insertion_point_at_leaf.Goals as goal
 
 pub as_ref-node-requires : goal.as_ref-node-requires
 as_ref-node-requires g c =

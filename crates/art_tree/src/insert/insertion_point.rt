@@ -2,7 +2,7 @@
 ghost use Rattle.std.specs.Prelude.{◌≡◌, ◌<◌, length, drop, option_copied, IfSome, IfNone, IfOk, IfErr};
 ghost use Rattle.art_arena.specs.Arena.{held, HeldInner};
 ghost use Rattle.art_arena.specs.Standing.{TreeAt};
-ghost use Rattle.art_tree.specs.Places.{Belongs, HasLeafText, IsDescentIn, IsSpotIn, child_after, prefix_of, toward};
+ghost use Rattle.art_tree.specs.InsertionPoints.{Belongs, HasLeafText, IsDescentIn, IsSpotIn, child_after, prefix_of, toward};
 ghost use Rattle.art_tree.specs.Search.{HasTree, EachTree, leaf_pointer};
 
 use art_arena::{End, NodeArena, end_leaf};
@@ -19,7 +19,7 @@ pub(crate) struct Spot<K, V, const PREFIX_LEN: usize> {
 
 /// The index at which a key differs from all keys below a node, with its byte there and theirs.
 #[derive(Clone, Copy)]
-pub(crate) struct Fork {
+pub(crate) struct Mismatch {
     pub(crate) index: usize,
     pub(crate) byte: u8,
     pub(crate) node_byte: u8,
@@ -27,7 +27,7 @@ pub(crate) struct Fork {
 
 /// The place of a key in a tree.
 #[derive_where(Clone, Copy)]
-pub(crate) enum Place<K, V, const PREFIX_LEN: usize> {
+pub(crate) enum InsertionPoint<K, V, const PREFIX_LEN: usize> {
     /// A leaf has the key.
     Present(NodePtr<PREFIX_LEN, LeafNode<K, V, PREFIX_LEN>>),
     /// The key is a proper prefix of one in the tree, or one in the tree is a proper prefix of it.
@@ -40,7 +40,7 @@ pub(crate) enum Place<K, V, const PREFIX_LEN: usize> {
     /// The key differs from that of a leaf, or inside the prefix of an inner node.
     Fork {
         spot: Spot<K, V, PREFIX_LEN>,
-        fork: Fork,
+        mismatch: Mismatch,
     },
 }
 
@@ -166,7 +166,7 @@ fn next_spot<'a, K: AsBytes, V, const PREFIX_LEN: usize>(
     spot: Spot<K, V, PREFIX_LEN>,
     key: &[u8],
     known: Option<&'a [u8]>,
-) -> Result<(Spot<K, V, PREFIX_LEN>, Option<&'a [u8]>), Place<K, V, PREFIX_LEN>>
+) -> Result<(Spot<K, V, PREFIX_LEN>, Option<&'a [u8]>), InsertionPoint<K, V, PREFIX_LEN>>
     requires { (tree : _) ×
         IsDescentIn K.text arena.now tree key.now spot (option_copied known) }
     ensures on { (tree : _) →
@@ -180,22 +180,22 @@ fn next_spot<'a, K: AsBytes, V, const PREFIX_LEN: usize>(
 {
     let rest = &key[spot.depth..];
     let Some(node) = arena.node_ref(spot.node).inner() else {
-        return Err(place_at_leaf(arena, spot.node.cast().unwrap(), spot, key));
+        return Err(insertion_point_at_leaf(arena, spot.node.cast().unwrap(), spot, key));
     };
     let (prefix, text) = whole_prefix(arena, &node, spot, key, known);
     let matched = common_prefix_len(prefix, rest);
     let index = spot.depth + matched;
     if index == key.len() {
-        return Err(Place::Clash);
+        return Err(InsertionPoint::Clash);
     }
     let byte = key[index];
     if matched < prefix.len() {
-        let fork = Fork {
+        let mismatch = Mismatch {
             index,
             byte,
             node_byte: prefix[matched],
         };
-        return Err(Place::Fork { spot, fork });
+        return Err(InsertionPoint::Fork { spot, mismatch });
     }
     match child_after_prefix(&node, rest) {
         Some(child) => {
@@ -206,17 +206,17 @@ fn next_spot<'a, K: AsBytes, V, const PREFIX_LEN: usize>(
             };
             Ok((next, text))
         }
-        None => Err(Place::Child { spot, byte }),
+        None => Err(InsertionPoint::Child { spot, byte }),
     }
 }
 
 // The place of a key whose search ends at this leaf.
-fn place_at_leaf<K: AsBytes, V, const PREFIX_LEN: usize>(
+fn insertion_point_at_leaf<K: AsBytes, V, const PREFIX_LEN: usize>(
     arena: &NodeArena<K, V, PREFIX_LEN>,
     leaf: NodePtr<PREFIX_LEN, LeafNode<K, V, PREFIX_LEN>>,
     spot: Spot<K, V, PREFIX_LEN>,
     key: &[u8],
-) -> Place<K, V, PREFIX_LEN>
+) -> InsertionPoint<K, V, PREFIX_LEN>
     requires leaf { spot.node ≡ leaf_pointer leaf }
     requires spot { (tree : _) × IsSpotIn K.text arena.now tree key.now spot }
     ensures { (tree : _) → IsSpotIn K.text arena.now tree key.now spot →
@@ -224,28 +224,28 @@ fn place_at_leaf<K: AsBytes, V, const PREFIX_LEN: usize>(
 {
     let node = arena.as_ref(leaf);
     if node.matches_full_key(key) {
-        return Place::Present(leaf);
+        return InsertionPoint::Present(leaf);
     }
     let text = node.key_ref().as_bytes();
     let depth = spot.depth;
     let index = depth + common_prefix_len(&text[depth..], &key[depth..]);
     if index == text.len() || index == key.len() {
-        return Place::Clash;
+        return InsertionPoint::Clash;
     }
-    let fork = Fork {
+    let mismatch = Mismatch {
         index,
         byte: key[index],
         node_byte: text[index],
     };
-    Place::Fork { spot, fork }
+    InsertionPoint::Fork { spot, mismatch }
 }
 
 /// The place of the key in the tree at `root`. Takes no memory.
-pub(crate) fn find_place<K: AsBytes, V, const PREFIX_LEN: usize>(
+pub(crate) fn find_insertion_point<K: AsBytes, V, const PREFIX_LEN: usize>(
     arena: &NodeArena<K, V, PREFIX_LEN>,
     root: OpaqueNodePtr<K, V, PREFIX_LEN>,
     key: &[u8],
-) -> Place<K, V, PREFIX_LEN>
+) -> InsertionPoint<K, V, PREFIX_LEN>
     requires tree { HasTree K.text arena.now root }
     ensures { EachTree K.text arena.now root (λ tree. Belongs tree key.now result) }
 {

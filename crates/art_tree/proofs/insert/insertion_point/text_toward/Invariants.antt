@@ -1,7 +1,7 @@
 use Rattle.std.proofs.Common.{◌≡◌, length}
 use Rattle.art_arena.specs.Standing.{TreeAt}
 use Rattle.art_tree.proofs.InsertLemmas.TowardLemmas.{IsToward}
-use Rattle.art_tree.proofs.insert.place.text_toward.Given as goal
+use Rattle.art_tree.proofs.insert.insertion_point.text_toward.Given as goal
 
 -- at the top of the subtree of each tree at the pointer toward which the bytes that are passed lead
 abbrev pub invariant-way : goal.invariant-way

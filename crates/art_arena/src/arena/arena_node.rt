@@ -10,7 +10,7 @@ use art_nodes::{
 use slab::Slab;
 
 /// A node that is kept in one slab of an arena.
-pub trait Shelved<A>: Sized {
+pub trait InSlab<A>: Sized {
     ghost use Rattle.slab.specs.Slab.{Slab as Slots};
 
     /// The slab of these nodes in an arena.
@@ -47,10 +47,10 @@ pub trait Shelved<A>: Sized {
 /// }
 /// ```
 pub trait ArenaNode<K, V, const PREFIX_LEN: usize>: Node<PREFIX_LEN, Key = K, Value = V>
-    + Shelved<NodeArena<K, V, PREFIX_LEN>> {
+    + InSlab<NodeArena<K, V, PREFIX_LEN>> {
     ghost use Rattle.std.specs.Prelude.{◌≡◌, ◌≢◌, ◌↔◌, ℕ};
     ghost use Rattle.slab.specs.Slab.{Slab as Slots, get, ContainsKey};
-    ghost use Rattle.art_arena.specs.Arena.{ArenaOf, Held, Nothing, held_under, held_option, room, slab_room, capacity, SameOtherRoom, SameOtherCapacity};
+    ghost use Rattle.art_arena.specs.Arena.{NodeArena, Held, Nothing, held_under, held_option, room, slab_room, capacity, SameOtherRoom, SameOtherCapacity};
     ghost use Rattle.art_nodes.specs.declared.pointers.OpaqueNodePtr.{OpaqueNodePtr};
     ghost use Rattle.art_nodes.specs.declared.leaf_node.LeafNode.{LeafNode};
     ghost use Rattle.art_header.specs.declared.node_type.NodeType.{NodeType};
@@ -65,35 +65,35 @@ pub trait ArenaNode<K, V, const PREFIX_LEN: usize>: Node<PREFIX_LEN, Key = K, Va
     ghost is_held: { (node : Self) → held_as node ≢ Nothing };
 
     /// What the arena holds under a key of this kind is what the node's slab has there.
-    ghost held_in_slab: { (arena : ArenaOf K V PREFIX_LEN) (key : ℕ) →
+    ghost held_in_slab: { (arena : NodeArena K V PREFIX_LEN) (key : ℕ) →
         held_under arena Self.TYPE key ≡ held_option held_as (get (Self.slab_of arena) key) };
 
     /// A slab that is written is the one that is read.
-    ghost slab_written: { (arena : ArenaOf K V PREFIX_LEN) (slots : Slots Self) →
+    ghost slab_written: { (arena : NodeArena K V PREFIX_LEN) (slots : Slots Self) →
         Self.slab_of (Self.with_slab arena slots) ≡ slots };
 
     /// The slab has a key exactly where the arena holds a node there.
-    ghost held_where_contained: { (arena : ArenaOf K V PREFIX_LEN) (key : ℕ) →
+    ghost held_where_contained: { (arena : NodeArena K V PREFIX_LEN) (key : ℕ) →
         ContainsKey (Self.slab_of arena) key ↔ (held_under arena Self.TYPE key ≢ Nothing) };
 
     /// The spare capacity of the kind is that of its slab.
-    ghost room_of_slab: { (arena : ArenaOf K V PREFIX_LEN) →
+    ghost room_of_slab: { (arena : NodeArena K V PREFIX_LEN) →
         room arena Self.TYPE ≡ slab_room (Self.slab_of arena) };
 
     /// Writing this slab leaves the spare capacity of the other kinds unchanged.
-    ghost other_room: { (arena : ArenaOf K V PREFIX_LEN) (slots : Slots Self) →
+    ghost other_room: { (arena : NodeArena K V PREFIX_LEN) (slots : Slots Self) →
         SameOtherRoom arena (Self.with_slab arena slots) Self.TYPE };
 
     /// The capacity of the kind is that of its slab.
-    ghost capacity_of_slab: { (arena : ArenaOf K V PREFIX_LEN) →
+    ghost capacity_of_slab: { (arena : NodeArena K V PREFIX_LEN) →
         capacity arena Self.TYPE ≡ (Self.slab_of arena).capacity };
 
     /// Writing this slab leaves the capacity of the other kinds unchanged.
-    ghost other_capacity: { (arena : ArenaOf K V PREFIX_LEN) (slots : Slots Self) →
+    ghost other_capacity: { (arena : NodeArena K V PREFIX_LEN) (slots : Slots Self) →
         SameOtherCapacity arena (Self.with_slab arena slots) Self.TYPE };
 
     /// Writing this slab leaves the nodes of the other kinds unchanged.
-    ghost others_kept: { (arena : ArenaOf K V PREFIX_LEN) (slots : Slots Self)
+    ghost others_kept: { (arena : NodeArena K V PREFIX_LEN) (slots : Slots Self)
         (kind : NodeType) (key : ℕ) →
         kind ≢ Self.TYPE →
         held_under (Self.with_slab arena slots) kind key ≡ held_under arena kind key };
@@ -122,7 +122,7 @@ pub trait ArenaInnerNode<K, V, const PREFIX_LEN: usize>: ArenaNode<K, V, PREFIX_
     ghost shown: { (node : Self) → Self.held_as node ≡ HeldInner (Self.inner node) };
 }
 
-impl<K, V, const PREFIX_LEN: usize> Shelved<NodeArena<K, V, PREFIX_LEN>>
+impl<K, V, const PREFIX_LEN: usize> InSlab<NodeArena<K, V, PREFIX_LEN>>
     for InnerNode4<K, V, PREFIX_LEN> {
     ghost slab_of = { λ a. a.node4 };
 
@@ -171,7 +171,7 @@ impl<K, V, const PREFIX_LEN: usize> ArenaInnerNode<K, V, PREFIX_LEN>
     ghost shown = { λ node. refl };
 }
 
-impl<K, V, const PREFIX_LEN: usize> Shelved<NodeArena<K, V, PREFIX_LEN>>
+impl<K, V, const PREFIX_LEN: usize> InSlab<NodeArena<K, V, PREFIX_LEN>>
     for InnerNode16<K, V, PREFIX_LEN> {
     ghost slab_of = { λ a. a.node16 };
 
@@ -220,7 +220,7 @@ impl<K, V, const PREFIX_LEN: usize> ArenaInnerNode<K, V, PREFIX_LEN>
     ghost shown = { λ node. refl };
 }
 
-impl<K, V, const PREFIX_LEN: usize> Shelved<NodeArena<K, V, PREFIX_LEN>>
+impl<K, V, const PREFIX_LEN: usize> InSlab<NodeArena<K, V, PREFIX_LEN>>
     for InnerNode48<K, V, PREFIX_LEN> {
     ghost slab_of = { λ a. a.node48 };
 
@@ -269,7 +269,7 @@ impl<K, V, const PREFIX_LEN: usize> ArenaInnerNode<K, V, PREFIX_LEN>
     ghost shown = { λ node. refl };
 }
 
-impl<K, V, const PREFIX_LEN: usize> Shelved<NodeArena<K, V, PREFIX_LEN>>
+impl<K, V, const PREFIX_LEN: usize> InSlab<NodeArena<K, V, PREFIX_LEN>>
     for InnerNode256<K, V, PREFIX_LEN> {
     ghost slab_of = { λ a. a.node256 };
 
@@ -318,7 +318,7 @@ impl<K, V, const PREFIX_LEN: usize> ArenaInnerNode<K, V, PREFIX_LEN>
     ghost shown = { λ node. refl };
 }
 
-impl<K, V, const PREFIX_LEN: usize> Shelved<NodeArena<K, V, PREFIX_LEN>>
+impl<K, V, const PREFIX_LEN: usize> InSlab<NodeArena<K, V, PREFIX_LEN>>
     for LeafNode<K, V, PREFIX_LEN> {
     ghost slab_of = { λ a. a.leaf };
 

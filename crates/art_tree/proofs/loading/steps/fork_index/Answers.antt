@@ -1,7 +1,7 @@
 use Rattle.std.proofs.Common.{◌∙◌, sym, subst}
 use Rattle.art_tree.specs.Plan.{IsFork}
 use Rattle.art_tree.proofs.LoadLemmas.RefusalLemmas.{fork-shared}
-use Rattle.art_tree.proofs.loading.steps.fork.Goals as goal
+use Rattle.art_tree.proofs.loading.steps.fork_index.Goals as goal
 
 pub returns : goal.returns
 returns c =

@@ -4,12 +4,12 @@ use Rattle.art_arena.specs.Arena.{held}
 use Rattle.art_arena.specs.Standing.{TreeAt}
 use Rattle.art_arena.specs.Trees.{leaves}
 use Rattle.art_arena.specs.declared.ends.End.TheVariants.{First}
-use Rattle.art_tree.specs.Places.{HasLeafText}
+use Rattle.art_tree.specs.InsertionPoints.{HasLeafText}
 use Rattle.art_tree.specs.Search.{leaf_pointer}
 use Rattle.art_tree.proofs.InsertLemmas.NodeLemmas.{leaf-pointer-fits, one-leaf}
 use Rattle.art_tree.proofs.InsertLemmas.TowardLemmas.{IsToward}
 use Rattle.art_tree.proofs.SharedLemmas.DictionaryLemmas.{end-in, leaf-held-in}
-use Rattle.art_tree.proofs.insert.place.text_toward.Goals as goal
+use Rattle.art_tree.proofs.insert.insertion_point.text_toward.Goals as goal
 
 pub way-init : goal.way-init
 way-init g c = λ found. record { below = found; same = refl }

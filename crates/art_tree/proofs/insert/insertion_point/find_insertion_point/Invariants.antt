@@ -2,8 +2,8 @@ use Rattle.std.proofs.Common.{◌-◌, length, option_copied}
 use Rattle.art_nodes.specs.declared.pointers.OpaqueNodePtr.{OpaqueNodePtr as PointerTo}
 use Rattle.art_arena.specs.Standing.{IsTreeIn}
 use Rattle.art_arena.specs.Trees.{Tree}
-use Rattle.art_tree.specs.Places.{IsDescentIn}
-use Rattle.art_tree.proofs.insert.place.find_place.Given as goal
+use Rattle.art_tree.specs.InsertionPoints.{IsDescentIn}
+use Rattle.art_tree.proofs.insert.insertion_point.find_insertion_point.Given as goal
 
 -- the key leads to the spot in each tree that stands at the root
 abbrev pub invariant-way : goal.invariant-way

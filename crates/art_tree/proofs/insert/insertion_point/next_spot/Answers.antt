@@ -7,12 +7,12 @@ use Rattle.art_arena.specs.InnerRef.{inner_shown}
 use Rattle.art_arena.specs.Reader.{shown}
 use Rattle.art_arena.specs.Trees.{Tree}
 use Rattle.art_arena.proofs.StandingLaws.{inner-there}
-use Rattle.art_tree.specs.Places.{IsSpotIn, child_after, prefix_of}
+use Rattle.art_tree.specs.InsertionPoints.{IsSpotIn, child_after, prefix_of}
 use Rattle.art_tree.specs.Search.{leaf_pointer}
 use Rattle.art_tree.proofs.InsertLemmas.NodeLemmas.{leaf-pointer-fits, slice-fits, spot-fits}
 use Rattle.art_tree.proofs.InsertLemmas.PlaceLemmas.{depth-within, at-inner, spot-held, read-counted, matched-within, matched-whole, next-child, node-clash, node-descends, node-lacks, node-parts}
 use Rattle.art_arena.proofs.StandingLaws.{at-some}
-use Rattle.art_tree.proofs.insert.place.next_spot.Goals as goal
+use Rattle.art_tree.proofs.insert.insertion_point.next_spot.Goals as goal
 
 pub node_ref-requires : goal.node_ref-requires
 node_ref-requires g c =
@@ -20,8 +20,8 @@ node_ref-requires g c =
     let there : held c.args.arena.now c.args.spot.node ≢ Nothing = spot-held g.K.AsBytes.text c.args.arena.now tree c.args.key.now c.args.spot on.spot_in in
     assumption slice-fits
 
-pub place_at_leaf-requires : goal.place_at_leaf-requires
-place_at_leaf-requires g c =
+pub insertion_point_at_leaf-requires : goal.insertion_point_at_leaf-requires
+insertion_point_at_leaf-requires g c =
     let (tree, on) = c.requires in
     let spot = c.args.spot in
     let kind : node_kind spot.node ≡ Leaf = sym c.node_ref.ensures.kind ∙ c.inner.ensures.leaf.0 (subst IsNone (sym c.in_default.is) refl) in
@@ -31,7 +31,7 @@ place_at_leaf-requires g c =
     assumption (slice-fits, leaf-pointer-fits, spot-fits)
 
 pub returns-in_default-clause-place : goal.returns-in_default-clause-place
-returns-in_default-clause-place g c = λ tree on. c.place_at_leaf.ensures tree on.spot_in
+returns-in_default-clause-place g c = λ tree on. c.insertion_point_at_leaf.ensures tree on.spot_in
 
 pub whole_prefix-requires : goal.whole_prefix-requires
 whole_prefix-requires g c =

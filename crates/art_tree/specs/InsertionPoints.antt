@@ -5,16 +5,16 @@ use Rattle.art_bytes.specs.Text.{IsPrefixOf}
 use Rattle.art_nodes.specs.ChildMap.{child_at}
 use Rattle.art_nodes.specs.Inner as nodes
 use Rattle.art_nodes.specs.declared.pointers.OpaqueNodePtr.{OpaqueNodePtr}
-use Rattle.art_arena.specs.Arena.{ArenaOf}
+use Rattle.art_arena.specs.Arena.{NodeArena}
 use Rattle.art_arena.specs.Standing.{StandsIn}
 use Rattle.art_arena.specs.Trees.{Tree, Leaf, Inner, Branches, NoBranch, Branch, branch_roots, root_of, leaves, texts, IsWellFormed}
 use Rattle.art_tree.specs.Contexts.{Context, Whole, Under, plug, path_to}
 use Rattle.art_tree.specs.Dictionary.{Clashes}
 use Rattle.art_tree.specs.Search.{leaf_pointer}
-use Rattle.art_tree.specs.declared.insert.place.Fork.{Fork}
-use Rattle.art_tree.specs.declared.insert.place.Place.{Place}
-use Rattle.art_tree.specs.declared.insert.place.Place.TheVariants as places
-use Rattle.art_tree.specs.declared.insert.place.Spot.{Spot}
+use Rattle.art_tree.specs.declared.insert.insertion_point.Mismatch.{Mismatch}
+use Rattle.art_tree.specs.declared.insert.insertion_point.InsertionPoint.{InsertionPoint}
+use Rattle.art_tree.specs.declared.insert.insertion_point.InsertionPoint.TheVariants as points
+use Rattle.art_tree.specs.declared.insert.insertion_point.Spot.{Spot}
 
 module _ {H : Type 0} where
   -- the node above the place, with the byte of the place
@@ -75,28 +75,28 @@ module _ {K V : Type 0} {P : ℕ} (tree : Tree (OpaqueNodePtr K V P)) (key : Lis
     pub absent : child_at (branch_roots branches) byte ≡ None
 
   -- at this index the key has another byte than all texts at the node, and the same bytes before
-  pub record Parts (fork : Fork) : Type 0 where
+  pub record Parts (mismatch : Mismatch) : Type 0 where
     pub at : IsSpot
-    pub later : spot.depth ≤ fork.index
-    pub byte : slice_get key fork.index ≡ Some fork.byte
-    pub node : IsPrefixOf (take fork.index key ++ fork.node_byte ∷ []) (reach (path_to at.context) at.part)
-    pub differ : fork.byte ≢ fork.node_byte
+    pub later : spot.depth ≤ mismatch.index
+    pub byte : slice_get key mismatch.index ≡ Some mismatch.byte
+    pub node : IsPrefixOf (take mismatch.index key ++ mismatch.node_byte ∷ []) (reach (path_to at.context) at.part)
+    pub differ : mismatch.byte ≢ mismatch.node_byte
 
 -- the key leads to this node of a well-formed tree that stands in an arena
-pub record IsSpotIn {K V : Type 0} {P : ℕ} (text : K → List ℕ) (arena : ArenaOf K V P) (tree : Tree (OpaqueNodePtr K V P)) (key : List ℕ) (spot : Spot K V P) : Type 0 where
+pub record IsSpotIn {K V : Type 0} {P : ℕ} (text : K → List ℕ) (arena : NodeArena K V P) (tree : Tree (OpaqueNodePtr K V P)) (key : List ℕ) (spot : Spot K V P) : Type 0 where
   pub stands : StandsIn text arena tree
   pub sound : IsWellFormed tree
   pub at : IsSpot tree key spot
 
 -- such a node, and where the text of a leaf is known, one of those toward which the key leads below
-pub record IsDescentIn {K V : Type 0} {P : ℕ} (text : K → List ℕ) (arena : ArenaOf K V P) (tree : Tree (OpaqueNodePtr K V P)) (key : List ℕ) (spot : Spot K V P) (known : Option (List ℕ)) : Type 0 where
+pub record IsDescentIn {K V : Type 0} {P : ℕ} (text : K → List ℕ) (arena : NodeArena K V P) (tree : Tree (OpaqueNodePtr K V P)) (key : List ℕ) (spot : Spot K V P) (known : Option (List ℕ)) : Type 0 where
   pub spot_in : IsSpotIn text arena tree key spot
   pub below : IfSome known (HasLeafText (toward (drop spot.depth key) spot_in.at.part))
 
 module _ {K V : Type 0} {P : ℕ} (tree : Tree (OpaqueNodePtr K V P)) (key : List ℕ) where
   -- the key belongs to this place of the tree
-  abbrev pub Belongs : Place K V P → Type 0
-  Belongs (places.Present leaf) = Contains (leaves tree) (leaf_pointer leaf, key)
-  Belongs places.Clash = Clashes (texts tree) key
-  Belongs (places.Child spot byte) = LacksChild tree key spot byte
-  Belongs (places.Fork spot fork) = Parts tree key spot fork
+  abbrev pub Belongs : InsertionPoint K V P → Type 0
+  Belongs (points.Present leaf) = Contains (leaves tree) (leaf_pointer leaf, key)
+  Belongs points.Clash = Clashes (texts tree) key
+  Belongs (points.Child spot byte) = LacksChild tree key spot byte
+  Belongs (points.Fork spot mismatch) = Parts tree key spot mismatch
