@@ -1,13 +1,15 @@
 -- Removal: its refusals and its results.
-use Rattle.std.specs.Prelude.{◌≡◌, ◌⊎◌, ℕ, List, Contains, Some, None, length}
+use Rattle.std.specs.Prelude.{◌≡◌, ◌⊎◌, ℕ, List, Contains, Some, None, length, Result, IfOk, OnErr}
+use Rattle.art_header.specs.declared.node_type.NodeType.{NodeType}
 use Rattle.art_nodes.specs.Inner.{Inner}
 use Rattle.art_nodes.specs.Leaf.{leaf_key}
 use Rattle.art_nodes.specs.declared.pointers.OpaqueNodePtr.{OpaqueNodePtr}
 use Rattle.art_nodes.specs.declared.leaf_node.LeafNode.{LeafNode}
-use Rattle.art_arena.specs.Arena.{NodeArena, HeldInner, HeldLeaf, held}
+use Rattle.art_arena.specs.Arena.{NodeArena, HeldInner, HeldLeaf, held, SameNodes}
 use Rattle.art_tree.specs.Art.{IsArt}
 use Rattle.art_tree.specs.Dictionary.{entry_at, SameOtherEntries}
 use Rattle.art_tree.specs.Leaves.{KeepsOtherLeaves}
+use Rattle.art_tree.specs.Room.{FreesOneEach, GrowsOnlyWhere, LacksRoomToRemove}
 
 module _ {K V : Type 0} {P : ℕ} (text : K → List ℕ) where
   -- a leaf has this text, and its parent has 5, 17 or 49 children: without the leaf the parent is
@@ -35,3 +37,13 @@ module _ {K V : Type 0} {P : ℕ} (text : K → List ℕ) where
     pub art : IsArt text new (Some root)
     pub left : IsLeft old new x
     pub was : entry_at text old x ≡ Some entry
+
+  -- the entry of a text is removed below this root, and returned with the root; or nothing changes,
+  -- where a parent needs a smaller node and its kind has no room
+  pub record RemovesEntry {E : Type 0} (old new : NodeArena K V P) (root : OpaqueNodePtr K V P) (x : List ℕ) (result : Result (OpaqueNodePtr K V P × (K × V)) E) : Type 0 where
+    pub removed : IfOk result (λ (root, entry). IsRemoved old new x root entry)
+    pub refused : OnErr result (NeedsSmallerNode old x)
+    pub nodes_kept : OnErr result (SameNodes old new)
+    pub takes_no_memory : (¬ NeedsSmallerNode old x) → FreesOneEach old new
+    pub no_room : OnErr result ((kind : NodeType) × LacksRoomToRemove text old (Some root) x kind)
+    pub memory : GrowsOnlyWhere old new (LacksRoomToRemove text old (Some root) x)

@@ -13,7 +13,7 @@ ghost use Rattle.art_tree.specs.Art.{IsArt, IsAlone};
 ghost use Rattle.art_tree.specs.Dictionary.{entry_at, SameEntries};
 ghost use Rattle.art_tree.specs.Edits.{HasRoomToGrow};
 ghost use Rattle.art_tree.specs.Hanging.{HasPlaceAt, StandsBeside};
-ghost use Rattle.art_tree.specs.Insertion.{IsEntered, IsRefused, MayEnter};
+ghost use Rattle.art_tree.specs.Insertion.{AddsEntry, IsEntered, IsRefused, MayEnter};
 ghost use Rattle.art_tree.specs.InsertionPoints.{LacksChild, Parts};
 ghost use Rattle.art_tree.specs.Reserving.{LacksRoomForChild, LacksRoomForFork};
 ghost use Rattle.art_tree.specs.Room.{GrowsOnlyWhere, LacksRoomToInsert};
@@ -101,14 +101,7 @@ fn insert_first<K: AsBytes, V, const PREFIX_LEN: usize>(
 ) -> Result<OpaqueNodePtr<K, V, PREFIX_LEN>, (K, V)>
     requires empty { IsArt K.text arena.old None }
     requires short { length (K.text key) < 2 ^ 32 }
-    ensures art { IfOk result (λ root. IsArt K.text arena.new (Some root)) }
-    ensures entered { OnOk result (IsEntered K.text arena.old arena.new key value) }
-    ensures entry_back { IfErr result (λ entry. entry ≡ (key, value)) }
-    ensures nodes_kept { OnErr result (SameNodes arena.old arena.new) }
-    ensures no_room { OnErr result ((kind : _) ×
-        LacksRoomToInsert K.text arena.old None (K.text key) kind) }
-    ensures memory { GrowsOnlyWhere arena.old arena.new
-        (LacksRoomToInsert K.text arena.old None (K.text key)) }
+    ensures { AddsEntry K.text arena.old arena.new None key value result }
 {
     no_text_begins_another::<OpaqueNodePtr<K, V, PREFIX_LEN>>();
     match arena.allocate_node_ptr(LeafNode::with_no_siblings(key, value)) {
@@ -218,14 +211,7 @@ fn insert_child<K: AsBytes, V, const PREFIX_LEN: usize>(
     requires short { length (K.text key) < 2 ^ 32 }
     requires place { (tree : _) × IsAlone K.text arena.old root tree ×
         LacksChild tree (K.text key) spot byte }
-    ensures art { IfOk result (λ root. IsArt K.text arena.new (Some root)) }
-    ensures entered { OnOk result (IsEntered K.text arena.old arena.new key value) }
-    ensures entry_back { IfErr result (λ entry. entry ≡ (key, value)) }
-    ensures nodes_kept { OnErr result (SameNodes arena.old arena.new) }
-    ensures no_room { OnErr result ((kind : _) ×
-        LacksRoomToInsert K.text arena.old (Some root) (K.text key) kind) }
-    ensures memory { GrowsOnlyWhere arena.old arena.new
-        (LacksRoomToInsert K.text arena.old (Some root) (K.text key)) }
+    ensures { AddsEntry K.text arena.old arena.new (Some root) key value result }
 {
     no_text_begins_another::<OpaqueNodePtr<K, V, PREFIX_LEN>>();
     texts_ascend::<OpaqueNodePtr<K, V, PREFIX_LEN>>();
@@ -264,14 +250,7 @@ fn insert_fork<K: AsBytes, V, const PREFIX_LEN: usize>(
     requires short { length (K.text key) < 2 ^ 32 }
     requires place { (tree : _) × IsAlone K.text arena.old root tree ×
         Parts tree (K.text key) spot mismatch }
-    ensures art { IfOk result (λ root. IsArt K.text arena.new (Some root)) }
-    ensures entered { OnOk result (IsEntered K.text arena.old arena.new key value) }
-    ensures entry_back { IfErr result (λ entry. entry ≡ (key, value)) }
-    ensures nodes_kept { OnErr result (SameNodes arena.old arena.new) }
-    ensures no_room { OnErr result ((kind : _) ×
-        LacksRoomToInsert K.text arena.old (Some root) (K.text key) kind) }
-    ensures memory { GrowsOnlyWhere arena.old arena.new
-        (LacksRoomToInsert K.text arena.old (Some root) (K.text key)) }
+    ensures { AddsEntry K.text arena.old arena.new (Some root) key value result }
 {
     no_text_begins_another::<OpaqueNodePtr<K, V, PREFIX_LEN>>();
     texts_ascend::<OpaqueNodePtr<K, V, PREFIX_LEN>>();

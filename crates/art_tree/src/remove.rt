@@ -12,7 +12,7 @@ ghost use Rattle.art_tree.specs.Nodes.{FreesOne};
 ghost use Rattle.art_tree.specs.Dictionary.{entry_at, SameEntries};
 ghost use Rattle.art_tree.specs.Dropping.{IsLeafSpot};
 ghost use Rattle.art_tree.specs.Edits.{StaysAt};
-ghost use Rattle.art_tree.specs.Removal.{IsLeft, IsRemoved, NeedsSmallerNode};
+ghost use Rattle.art_tree.specs.Removal.{IsLeft, IsRemoved, NeedsSmallerNode, RemovesEntry};
 ghost use Rattle.art_tree.specs.Room.{FreesOneEach, GrowsOnlyWhere, LacksRoomToRemove};
 ghost use Rattle.art_tree.specs.Search.{IsPathTo, leaf_pointer};
 ghost use Rattle.art_tree.specs.declared.path.TreePath.TheVariants.{Root};
@@ -122,24 +122,9 @@ fn remove_from_many<K: AsBytes, V, const PREFIX_LEN: usize>(
         IsLeafSpot tree (leaf_pointer leaf) spot }
     requires many { (node : Inner _) → held arena.old spot.parent ≡ HeldInner node →
         length node.children ≢ 2 }
-    ensures removed { (tree : _) → IsAlone K.text arena.old root tree →
+    ensures { (tree : _) → IsAlone K.text arena.old root tree →
         (hangs : IsLeafSpot tree (leaf_pointer leaf) spot) →
-        IfOk result (λ (root, entry). IsRemoved K.text arena.old arena.new hangs.text root entry) }
-    ensures refused { (tree : _) → IsAlone K.text arena.old root tree →
-        (hangs : IsLeafSpot tree (leaf_pointer leaf) spot) →
-        OnErr result (NeedsSmallerNode K.text arena.old hangs.text) }
-    ensures nodes_kept { OnErr result (SameNodes arena.old arena.new) }
-    ensures takes_no_memory { (tree : _) → IsAlone K.text arena.old root tree →
-        (hangs : IsLeafSpot tree (leaf_pointer leaf) spot) →
-        (¬ NeedsSmallerNode K.text arena.old hangs.text) → FreesOneEach arena.old arena.new }
-    ensures no_room { (tree : _) → IsAlone K.text arena.old root tree →
-        (hangs : IsLeafSpot tree (leaf_pointer leaf) spot) →
-        OnErr result ((kind : _) ×
-        LacksRoomToRemove K.text arena.old (Some root) hangs.text kind) }
-    ensures memory { (tree : _) → IsAlone K.text arena.old root tree →
-        (hangs : IsLeafSpot tree (leaf_pointer leaf) spot) →
-        GrowsOnlyWhere arena.old arena.new
-        (LacksRoomToRemove K.text arena.old (Some root) hangs.text) }
+        RemovesEntry K.text arena.old arena.new root hangs.text result }
 {
     no_text_begins_another::<OpaqueNodePtr<K, V, PREFIX_LEN>>();
     each_pointer_is_at_one_place::<K, V, PREFIX_LEN>();
@@ -185,24 +170,9 @@ fn remove_from<K: AsBytes, V, const PREFIX_LEN: usize>(
 ) -> Result<(OpaqueNodePtr<K, V, PREFIX_LEN>, (K, V)), AllocError>
     requires { (tree : _) × IsAlone K.text arena.old root tree ×
         IsLeafSpot tree (leaf_pointer leaf) spot }
-    ensures removed { (tree : _) → IsAlone K.text arena.old root tree →
+    ensures { (tree : _) → IsAlone K.text arena.old root tree →
         (hangs : IsLeafSpot tree (leaf_pointer leaf) spot) →
-        IfOk result (λ (root, entry). IsRemoved K.text arena.old arena.new hangs.text root entry) }
-    ensures refused { (tree : _) → IsAlone K.text arena.old root tree →
-        (hangs : IsLeafSpot tree (leaf_pointer leaf) spot) →
-        OnErr result (NeedsSmallerNode K.text arena.old hangs.text) }
-    ensures nodes_kept { OnErr result (SameNodes arena.old arena.new) }
-    ensures takes_no_memory { (tree : _) → IsAlone K.text arena.old root tree →
-        (hangs : IsLeafSpot tree (leaf_pointer leaf) spot) →
-        (¬ NeedsSmallerNode K.text arena.old hangs.text) → FreesOneEach arena.old arena.new }
-    ensures no_room { (tree : _) → IsAlone K.text arena.old root tree →
-        (hangs : IsLeafSpot tree (leaf_pointer leaf) spot) →
-        OnErr result ((kind : _) ×
-        LacksRoomToRemove K.text arena.old (Some root) hangs.text kind) }
-    ensures memory { (tree : _) → IsAlone K.text arena.old root tree →
-        (hangs : IsLeafSpot tree (leaf_pointer leaf) spot) →
-        GrowsOnlyWhere arena.old arena.new
-        (LacksRoomToRemove K.text arena.old (Some root) hangs.text) }
+        RemovesEntry K.text arena.old arena.new root hangs.text result }
 {
     if num_children(arena, spot.parent) == 2 {
         Ok(remove_from_two(arena, root, spot, leaf))

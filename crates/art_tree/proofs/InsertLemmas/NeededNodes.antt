@@ -1,23 +1,24 @@
 -- The nodes that a tree needs for a leaf more.
-use Rattle.std.proofs.Common.{◌≡◌, ◌⊎◌, ℕ, ◌+◌, ◌<◌, ◌^◌, List, [], ◌∷◌, ◌++◌, length, map, Contains, None, Some, refl, sym, ap, subst, inl, inr, arith}
+use Rattle.std.proofs.Common.{◌≡◌, ◌⊎◌, ℕ, ◌+◌, ◌<◌, ◌≤◌, ◌^◌, List, [], ◌∷◌, ◌++◌, length, map, Contains, None, Some, refl, sym, ap, subst, inl, inr, arith}
 use Rattle.art_bytes.specs.Text.{IsPrefixOf}
 use Rattle.art_header.specs.NodeType.{kind_for}
 use Rattle.art_header.specs.declared.node_type.NodeType.{NodeType}
 use Rattle.art_header.specs.declared.node_type.NodeType.TheVariants as kinds
 use Rattle.art_nodes.specs.Pointers.{opaque_pointer}
 use Rattle.art_nodes.specs.declared.pointers.OpaqueNodePtr.{OpaqueNodePtr}
-use Rattle.art_arena.specs.Arena.{NodeArena, Nothing, held, room}
+use Rattle.art_arena.specs.Arena.{NodeArena, Nothing, SameCapacity, SameOtherCapacity, held, room}
 use Rattle.art_arena.specs.Trees.{Tree, Leaf, Branches, Branch, branch_roots, leaves, branch_leaves, texts}
 use Rattle.art_tree.specs.Art.{IsAlone}
 use Rattle.art_tree.specs.Contexts.{Context, plug, path_to, leaves_before, leaves_after, join}
 use Rattle.art_tree.specs.Dictionary.{HasEntry}
 use Rattle.art_tree.specs.NodeCounts.{one_if_same, nodes_of, branch_nodes_of}
-use Rattle.art_tree.specs.Room.{LacksRoomToInsert}
+use Rattle.art_tree.specs.Room.{GrowsOnlyWhere, LacksRoomToInsert}
 use Rattle.art_tree.proofs.InsertLemmas.AddedLeaf.{leaves-filled, leaves-parted}
 use Rattle.art_tree.proofs.InsertLemmas.SubtreeLemmas.{HasPlace, taken-count, taken-sound, with_leaf}
 use Rattle.art_tree.proofs.SharedLemmas.DictionaryLemmas.{AreApart, empty-entry, entry-of-text, text-of-entry}
 use Rattle.art_tree.proofs.SharedLemmas.ExchangedSubtree.{sound-whole, the-one}
 use Rattle.art_tree.proofs.SharedLemmas.NodeCounts.{more-around, nodes-join}
+use Rattle.art_tree.proofs.SharedLemmas.RoomLemmas.{IsAsked, asked-grows, grows-then}
 use Rattle.art_tree.proofs.SharedLemmas.TextLists.{text-new, text-or-new, text-stays}
 
 abbrev texts_of : {H : Type 0} → List (H × List ℕ) → List (List ℕ)
@@ -48,6 +49,13 @@ module _ {K V : Type 0} {P : ℕ} (text : K → List ℕ) (old : NodeArena K V P
     needed = omega arith;
     none = none;
   }
+
+  -- an allocation of a leaf changes the capacity only where the first text needs it
+  pub first-memory : (new : NodeArena K V P) (key : K) → ((pointer : OpaqueNodePtr K V P) → held old pointer ≡ Nothing) → length (text key) < 2 ^ 32 → (1 ≤ room old kinds.Leaf → SameCapacity old new) → SameOtherCapacity old new kinds.Leaf → GrowsOnlyWhere old new (LacksRoomToInsert text old None (text key))
+  first-memory new key nothing short had others =
+      let lacks = LacksRoomToInsert text old None (text key) in
+      grows-then old new (IsAsked old kinds.Leaf) lacks (λ kind (same, none). subst lacks (sym same) (first-lacks nothing (text key) short (subst (λ k. room old k ≡ 0) same none)))
+      (asked-grows old new kinds.Leaf had others)
 
   -- where a subtree with the leaf has more nodes of a kind, so has the tree with the text
   module _ (root : OpaqueNodePtr K V P) (context : Context (OpaqueNodePtr K V P)) (part : Tree (OpaqueNodePtr K V P)) (prefix : List ℕ) (before : Branches (OpaqueNodePtr K V P)) (byte : ℕ) (after : Branches (OpaqueNodePtr K V P)) (x : List ℕ)

@@ -96,15 +96,16 @@ returns g c =
           (λ kind. same-capacity new c.hang.new.arena c.hang.ensures.room kind ∙ c.add_child-node.ensures.capacity kind ∙ link.capacity kind);
     }
 
-pub returns-then-is_err-clause-no_room : goal.returns-then-is_err-clause-no_room
-returns-then-is_err-clause-no_room g c =
+pub returns-then-is_err : goal.returns-then-is_err
+returns-then-is_err g c =
     let old = c.args.arena.now in
     let place = child-reserved old old c.requires.place (λ pointer. refl) c.ranges.byte.fits in
     let (kind, lacks) = err-then c.reserve_for_child.result _ c.is_err.ensures.value c.if-is_err.true c.reserve_for_child.ensures.no_room in
-    (kind, child-lacks place c.requires.short (c.no_text_begins_another.ensures [] _ (alone-there place).is_tree.sound) kind lacks)
-
-pub returns-then-is_err-clause-memory : goal.returns-then-is_err-clause-memory
-returns-then-is_err-clause-memory g c =
-    let old = c.args.arena.now in
-    let place = child-reserved old old c.requires.place (λ pointer. refl) c.ranges.byte.fits in
-    grows-then old c.reserve_for_child.new.arena _ _ (child-lacks place c.requires.short (c.no_text_begins_another.ensures [] _ (alone-there place).is_tree.sound)) c.reserve_for_child.ensures.memory
+    record {
+      art = tt;
+      entered = tt;
+      entry_back = refl;
+      nodes_kept = c.reserve_for_child.ensures.nodes_kept;
+      no_room = (kind, child-lacks place c.requires.short (c.no_text_begins_another.ensures [] _ (alone-there place).is_tree.sound) kind lacks);
+      memory = grows-then old c.reserve_for_child.new.arena _ _ (child-lacks place c.requires.short (c.no_text_begins_another.ensures [] _ (alone-there place).is_tree.sound)) c.reserve_for_child.ensures.memory;
+    }

@@ -116,15 +116,16 @@ returns g c =
           (λ kind. same-capacity c.fork_node-node.new.arena c.hang.new.arena c.hang.ensures.room kind ∙ c.fork_node-node.ensures.capacity kind ∙ same-capacity c.link_leaf-leaf.new.arena c.trim.new.arena c.trim.ensures.room kind ∙ link.capacity kind);
     }
 
-pub returns-then-is_err-clause-no_room : goal.returns-then-is_err-clause-no_room
-returns-then-is_err-clause-no_room g c =
+pub returns-then-is_err : goal.returns-then-is_err
+returns-then-is_err g c =
     let old = c.args.arena.now in
     let place = fork-reserved old old c.requires.place (λ pointer. refl) c.near_end-end.ensures.bytes in
     let (kind, lacks) = err-then c.reserve_for_fork.result _ c.is_err.ensures.value c.if-is_err.true c.reserve_for_fork.ensures.no_room in
-    (kind, fork-lacks place c.requires.short (c.no_text_begins_another.ensures [] _ (alone-there place).is_tree.sound) kind lacks)
-
-pub returns-then-is_err-clause-memory : goal.returns-then-is_err-clause-memory
-returns-then-is_err-clause-memory g c =
-    let old = c.args.arena.now in
-    let place = fork-reserved old old c.requires.place (λ pointer. refl) c.near_end-end.ensures.bytes in
-    grows-then old c.reserve_for_fork.new.arena _ _ (fork-lacks place c.requires.short (c.no_text_begins_another.ensures [] _ (alone-there place).is_tree.sound)) c.reserve_for_fork.ensures.memory
+    record {
+      art = tt;
+      entered = tt;
+      entry_back = refl;
+      nodes_kept = c.reserve_for_fork.ensures.nodes_kept;
+      no_room = (kind, fork-lacks place c.requires.short (c.no_text_begins_another.ensures [] _ (alone-there place).is_tree.sound) kind lacks);
+      memory = grows-then old c.reserve_for_fork.new.arena _ _ (fork-lacks place c.requires.short (c.no_text_begins_another.ensures [] _ (alone-there place).is_tree.sound)) c.reserve_for_fork.ensures.memory;
+    }

@@ -33,5 +33,14 @@ remove_from_many-requires g c =
     let many : (node : Inner _) → held c.args.arena.now c.args.spot.parent ≡ HeldInner node → length node.children ≢ 2 = λ node is two. c.if-num_children-eq2.false (c.num_children.ensures.count node is ∙ two) in
     search
 
-pub returns-then-num_children-eq2-clause-memory : goal.returns-then-num_children-eq2-clause-memory
-returns-then-num_children-eq2-clause-memory g c = λ tree alone hangs kind. inl (c.remove_from_two.ensures.capacity kind)
+pub returns-then-num_children-eq2 : goal.returns-then-num_children-eq2
+returns-then-num_children-eq2 g c = λ tree alone hangs.
+    let two = c.remove_from_two.ensures in
+    record {
+      removed = two.removed tree alone hangs;
+      refused = tt;
+      nodes_kept = tt;
+      takes_no_memory = λ enough. two.takes_no_memory;
+      no_room = tt;
+      memory = λ kind. inl (two.capacity kind);
+    }

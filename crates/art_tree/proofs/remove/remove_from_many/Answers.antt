@@ -5,7 +5,7 @@ use Rattle.art_header.specs.declared.node_type.NodeType.TheVariants.{Leaf}
 use Rattle.art_nodes.specs.ChildMap.{child_at}
 use Rattle.art_nodes.specs.Inner.{Inner}
 use Rattle.art_nodes.specs.Pointers.{node_kind, slab_key}
-use Rattle.art_arena.specs.Arena.{held, HeldInner, Nothing}
+use Rattle.art_arena.specs.Arena.{held, HeldInner, Nothing, SameNodes}
 use Rattle.art_arena.specs.Links.{Spells}
 use Rattle.art_tree.specs.Cuts.{HasRoomToShrink}
 use Rattle.art_tree.specs.Hanging.{CanHang}
@@ -73,27 +73,8 @@ hang-requires g c =
     let can : CanHang new higher = many-hangs place cut c.take_leaf-entry.ensures.gone c.take_leaf-entry.ensures.others many new c.take_child-node.result (c.each_pointer_is_at_one_place.ensures reserved [] _ place.alone.is_tree.stands place.alone.is_tree.sound) (c.take_child-node.ensures.taken _ (is-cut place cut c.take_leaf-entry.ensures.gone c.take_leaf-entry.ensures.others)) in
     assumption
 
-pub returns-clause-removed : goal.returns-clause-removed
-returns-clause-removed g c = λ tree alone0 hangs.
-    let text = g.K.AsBytes.text in
-    let parent = c.args.spot.parent in
-    let reserved = c.reserve_shrink.new.arena in
-    let alone = alone-same text c.args.arena.now reserved c.reserve_shrink.ensures.nodes_kept c.args.root tree alone0 in
-    let place = leaf-place alone hangs in
-    let cut = c.take_leaf-entry.new.arena in
-    let many : length place.node.children ≢ 2 = c.requires.many place.node (sym (c.reserve_shrink.ensures.nodes_kept parent) ∙ place.is_held) in
-    let new = c.take_child-node.new.arena in
-    let removed = many-removed place cut c.take_leaf-entry.ensures.gone c.take_leaf-entry.ensures.others many new c.take_child-node.result (c.each_pointer_is_at_one_place.ensures reserved [] _ place.alone.is_tree.stands place.alone.is_tree.sound) (c.take_child-node.ensures.taken _ (is-cut place cut c.take_leaf-entry.ensures.gone c.take_leaf-entry.ensures.others)) c.hang.new.arena c.hang.result c.hang.ensures.hung c.take_leaf-entry.ensures.spelled c.no_text_begins_another.ensures in
-    removed-from text c.args.arena.now reserved c.hang.new.arena hangs.text c.hang.result c.take_leaf-entry.result c.args.root tree alone0 (c.no_text_begins_another.ensures [] tree alone0.is_tree.sound) c.reserve_shrink.ensures.nodes_kept
-    (subst (IsRemoved text reserved c.hang.new.arena hangs.text c.hang.result) (sym (c.take_leaf-entry.ensures.entry place.own place.own_held)) removed)
-
-pub returns-in_err-reserve_shrink-clause-refused : goal.returns-in_err-reserve_shrink-clause-refused
-returns-in_err-reserve_shrink-clause-refused g c = λ tree alone hangs.
-    always-err c.from_residual.result (NeedsSmallerNode g.K.AsBytes.text c.args.arena.now hangs.text)
-    (needs-smaller (leaf-place alone hangs) c.in_err-reserve_shrink.ensures.refused)
-
-pub returns-clause-takes_no_memory : goal.returns-clause-takes_no_memory
-returns-clause-takes_no_memory g c = λ tree alone0 hangs enough.
+pub returns : goal.returns
+returns g c = λ tree alone0 hangs.
     let text = g.K.AsBytes.text in
     let old = c.args.arena.now in
     let parent = c.args.spot.parent in
@@ -102,32 +83,39 @@ returns-clause-takes_no_memory g c = λ tree alone0 hangs enough.
     let place0 = leaf-place alone0 hangs in
     let place = leaf-place (alone-same text old reserved kept c.args.root tree alone0) hangs in
     let cut = c.take_leaf-entry.new.arena in
-    let more = not-least place0 (c.requires.many place0.node place0.is_held) enough in
-    frees-leaf old reserved cut c.take_child-node.new.arena c.hang.new.arena parent c.take_child-node.result place.node _
-    (c.reserve_shrink.ensures.takes_no_memory place0.node place0.is_held (more place0.node place0.is_held)) c.take_leaf-entry.ensures.takes_no_memory
-    (c.take_child-node.ensures.taken _ (is-cut place cut c.take_leaf-entry.ensures.gone c.take_leaf-entry.ensures.others)) (more place.node (sym (kept parent) ∙ place.is_held)) c.hang.ensures.room
+    let many : length place.node.children ≢ 2 = c.requires.many place.node (sym (kept parent) ∙ place.is_held) in
+    let new = c.take_child-node.new.arena in
+    let apart = c.no_text_begins_another.ensures in
+    let more = λ enough. not-least place0 (c.requires.many place0.node place0.is_held) enough in
+    let taken = c.take_child-node.ensures.taken _ (is-cut place cut c.take_leaf-entry.ensures.gone c.take_leaf-entry.ensures.others) in
+    let removed = many-removed place cut c.take_leaf-entry.ensures.gone c.take_leaf-entry.ensures.others many new c.take_child-node.result (c.each_pointer_is_at_one_place.ensures reserved [] _ place.alone.is_tree.stands place.alone.is_tree.sound) taken c.hang.new.arena c.hang.result c.hang.ensures.hung c.take_leaf-entry.ensures.spelled apart in
+    record {
+      removed = removed-from text old reserved c.hang.new.arena hangs.text c.hang.result c.take_leaf-entry.result c.args.root tree alone0 (apart [] tree alone0.is_tree.sound) kept
+          (subst (IsRemoved text reserved c.hang.new.arena hangs.text c.hang.result) (sym (c.take_leaf-entry.ensures.entry place.own place.own_held)) removed);
+      refused = tt;
+      nodes_kept = tt;
+      takes_no_memory = λ enough. frees-leaf old reserved cut new c.hang.new.arena parent c.take_child-node.result place.node _
+          (c.reserve_shrink.ensures.takes_no_memory place0.node place0.is_held (more enough place0.node place0.is_held)) c.take_leaf-entry.ensures.takes_no_memory
+          taken (more enough place.node (sym (kept parent) ∙ place.is_held)) c.hang.ensures.room;
+      no_room = tt;
+      memory = grows-on old reserved c.hang.new.arena _
+          (grows-then old reserved _ _ (removal-lacks place0 (apart [] _ place0.alone.is_tree.sound)) c.reserve_shrink.ensures.memory)
+          (λ kind. same-capacity new c.hang.new.arena c.hang.ensures.room kind ∙ c.take_child-node.ensures.capacity kind ∙ c.take_leaf-entry.ensures.takes_no_memory.capacity kind);
+    }
 
-pub returns-in_err-reserve_shrink-clause-takes_no_memory : goal.returns-in_err-reserve_shrink-clause-takes_no_memory
-returns-in_err-reserve_shrink-clause-takes_no_memory g c = λ tree alone hangs enough.
-    absurd (enough (needs-smaller (leaf-place alone hangs) c.in_err-reserve_shrink.ensures.refused))
-
-pub returns-in_err-reserve_shrink-clause-no_room : goal.returns-in_err-reserve_shrink-clause-no_room
-returns-in_err-reserve_shrink-clause-no_room g c = λ tree alone hangs.
-    let place = leaf-place alone hangs in
-    let (kind, lacks) = c.in_err-reserve_shrink.ensures.no_room in
-    always-err c.from_residual.result ((kind : NodeType) × LacksRoomToRemove g.K.AsBytes.text c.args.arena.now (Some c.args.root) hangs.text kind)
-    (kind, removal-lacks place (c.no_text_begins_another.ensures [] _ place.alone.is_tree.sound) kind lacks)
-
-pub returns-in_err-reserve_shrink-clause-memory : goal.returns-in_err-reserve_shrink-clause-memory
-returns-in_err-reserve_shrink-clause-memory g c = λ tree alone hangs.
-    let place = leaf-place alone hangs in
-    grows-then c.args.arena.now c.reserve_shrink.new.arena _ _ (removal-lacks place (c.no_text_begins_another.ensures [] _ place.alone.is_tree.sound)) c.reserve_shrink.ensures.memory
-
-pub returns-clause-memory : goal.returns-clause-memory
-returns-clause-memory g c = λ tree alone hangs.
-    let place = leaf-place alone hangs in
+pub returns-in_err-reserve_shrink : goal.returns-in_err-reserve_shrink
+returns-in_err-reserve_shrink g c = λ tree alone hangs.
+    let text = g.K.AsBytes.text in
     let old = c.args.arena.now in
-    let reserved = c.reserve_shrink.new.arena in
-    grows-on old reserved c.hang.new.arena _
-    (grows-then old reserved _ _ (removal-lacks place (c.no_text_begins_another.ensures [] _ place.alone.is_tree.sound)) c.reserve_shrink.ensures.memory)
-    (λ kind. same-capacity c.take_child-node.new.arena c.hang.new.arena c.hang.ensures.room kind ∙ c.take_child-node.ensures.capacity kind ∙ c.take_leaf-entry.ensures.takes_no_memory.capacity kind)
+    let place = leaf-place alone hangs in
+    let needs = needs-smaller place c.in_err-reserve_shrink.ensures.refused in
+    let lacks = removal-lacks place (c.no_text_begins_another.ensures [] _ place.alone.is_tree.sound) in
+    let (kind, lacking) = c.in_err-reserve_shrink.ensures.no_room in
+    record {
+      removed = search;
+      refused = always-err c.from_residual.result (NeedsSmallerNode text old hangs.text) needs;
+      nodes_kept = always-err c.from_residual.result (SameNodes old c.reserve_shrink.new.arena) c.reserve_shrink.ensures.nodes_kept;
+      takes_no_memory = λ enough. absurd (enough needs);
+      no_room = always-err c.from_residual.result ((kind : NodeType) × LacksRoomToRemove text old (Some c.args.root) hangs.text kind) (kind, lacks kind lacking);
+      memory = grows-then old c.reserve_shrink.new.arena _ _ lacks c.reserve_shrink.ensures.memory;
+    }

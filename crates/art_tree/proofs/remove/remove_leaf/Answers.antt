@@ -52,7 +52,7 @@ returns-in_err-root-clause-refused g c = λ node held.
     let (tree, alone, way) = c.requires.place in
     let hangs = c.in-Some.ensures.spot tree at way in
     let same = held-text text arena c.args.root tree alone at hangs.text (hangs-in hangs) node held in
-    always-err c.from_residual.result _ (subst (NeedsSmallerNode text arena) same (c.in_err-root.ensures.refused tree alone hangs))
+    always-err c.from_residual.result _ (subst (NeedsSmallerNode text arena) same ((c.in_err-root.ensures tree alone hangs).refused))
 
 pub returns-clause-removed : goal.returns-clause-removed
 returns-clause-removed g c = λ node held.
@@ -62,7 +62,7 @@ returns-clause-removed g c = λ node held.
     let (tree, alone, way) = c.requires.place in
     let hangs = c.in-Some.ensures.spot tree at way in
     let same = held-text text arena c.args.root tree alone at hangs.text (hangs-in hangs) node held in
-    let done = c.in_ok-root.ensures.removed tree alone hangs in
+    let done = (c.in_ok-root.ensures tree alone hangs).removed in
     (done.art, subst (IsLeft text arena c.remove_from.new.arena) same done.left, ap (entry_at text arena) (sym same) ∙ done.was)
 
 pub returns-in_err-root-clause-takes_no_memory : goal.returns-in_err-root-clause-takes_no_memory
@@ -73,7 +73,7 @@ returns-in_err-root-clause-takes_no_memory g c = λ node held enough.
     let (tree, alone, way) = c.requires.place in
     let hangs = c.in-Some.ensures.spot tree at way in
     let same = held-text text arena c.args.root tree alone at hangs.text (hangs-in hangs) node held in
-    absurd (enough (subst (NeedsSmallerNode text arena) same (c.in_err-root.ensures.refused tree alone hangs)))
+    absurd (enough (subst (NeedsSmallerNode text arena) same ((c.in_err-root.ensures tree alone hangs).refused)))
 
 pub returns-clause-takes_no_memory : goal.returns-clause-takes_no_memory
 returns-clause-takes_no_memory g c = λ node held enough.
@@ -83,7 +83,7 @@ returns-clause-takes_no_memory g c = λ node held enough.
     let (tree, alone, way) = c.requires.place in
     let hangs = c.in-Some.ensures.spot tree at way in
     let same = held-text text arena c.args.root tree alone at hangs.text (hangs-in hangs) node held in
-    c.remove_from.ensures.takes_no_memory tree alone hangs (λ needs. enough (subst (NeedsSmallerNode text arena) same needs))
+    (c.remove_from.ensures tree alone hangs).takes_no_memory (λ needs. enough (subst (NeedsSmallerNode text arena) same needs))
 
 pub returns-in_err-root-clause-no_room : goal.returns-in_err-root-clause-no_room
 returns-in_err-root-clause-no_room g c = λ node held.
@@ -93,7 +93,7 @@ returns-in_err-root-clause-no_room g c = λ node held.
     let (tree, alone, way) = c.requires.place in
     let hangs = c.in-Some.ensures.spot tree at way in
     let same = held-text text arena c.args.root tree alone at hangs.text (hangs-in hangs) node held in
-    always-err c.from_residual.result _ (subst (λ x. (kind : NodeType) × LacksRoomToRemove text arena (Some c.args.root) x kind) same (c.in_err-root.ensures.no_room tree alone hangs))
+    always-err c.from_residual.result _ (subst (λ x. (kind : NodeType) × LacksRoomToRemove text arena (Some c.args.root) x kind) same ((c.in_err-root.ensures tree alone hangs).no_room))
 
 pub returns-in_err-root-clause-memory : goal.returns-in_err-root-clause-memory
 returns-in_err-root-clause-memory g c = λ node held.
@@ -103,7 +103,7 @@ returns-in_err-root-clause-memory g c = λ node held.
     let (tree, alone, way) = c.requires.place in
     let hangs = c.in-Some.ensures.spot tree at way in
     let same = held-text text arena c.args.root tree alone at hangs.text (hangs-in hangs) node held in
-    subst (λ x. GrowsOnlyWhere arena c.remove_from.new.arena (LacksRoomToRemove text arena (Some c.args.root) x)) same (c.remove_from.ensures.memory tree alone hangs)
+    subst (λ x. GrowsOnlyWhere arena c.remove_from.new.arena (LacksRoomToRemove text arena (Some c.args.root) x)) same ((c.remove_from.ensures tree alone hangs).memory)
 
 pub returns-clause-memory : goal.returns-clause-memory
 returns-clause-memory g c = λ node held.
@@ -113,7 +113,7 @@ returns-clause-memory g c = λ node held.
     let (tree, alone, way) = c.requires.place in
     let hangs = c.in-Some.ensures.spot tree at way in
     let same = held-text text arena c.args.root tree alone at hangs.text (hangs-in hangs) node held in
-    subst (λ x. GrowsOnlyWhere arena c.remove_from.new.arena (LacksRoomToRemove text arena (Some c.args.root) x)) same (c.remove_from.ensures.memory tree alone hangs)
+    subst (λ x. GrowsOnlyWhere arena c.remove_from.new.arena (LacksRoomToRemove text arena (Some c.args.root) x)) same ((c.remove_from.ensures tree alone hangs).memory)
 
 pub returns-in_default-clause-memory : goal.returns-in_default-clause-memory
 returns-in_default-clause-memory g c = λ node held kind. inl (c.remove_root.ensures.capacity kind)
