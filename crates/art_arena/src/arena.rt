@@ -15,7 +15,7 @@ ghost use Rattle.art_arena.specs.Arena.{held, held_option, Nothing, HeldInner, H
 
 mod arena_node;
 
-use crate::reader::{AnyNodeRef, NodeRef};
+use crate::reader::NodeRef;
 pub use arena_node::{ArenaInnerNode, ArenaNode};
 use art_nodes::{
     ConcreteNodePtr, Header, InnerNode4, InnerNode16, InnerNode48, InnerNode256, InnerNodeCommon,
@@ -331,11 +331,11 @@ impl<K, V, const PREFIX_LEN: usize> NodeArena<K, V, PREFIX_LEN> {
             IsInner PREFIX_LEN (most_children (node_kind pointer)) node }
     {
         match self.node_ref(pointer) {
-            AnyNodeRef::Node4(node) => Some(node.header()),
-            AnyNodeRef::Node16(node) => Some(node.header()),
-            AnyNodeRef::Node48(node) => Some(node.header()),
-            AnyNodeRef::Node256(node) => Some(node.header()),
-            AnyNodeRef::LeafNode(_) => None,
+            NodeRef::Node4(node) => Some(node.header()),
+            NodeRef::Node16(node) => Some(node.header()),
+            NodeRef::Node48(node) => Some(node.header()),
+            NodeRef::Node256(node) => Some(node.header()),
+            NodeRef::LeafNode(_) => None,
         }
     }
 
@@ -477,17 +477,13 @@ impl<K, V, const PREFIX_LEN: usize> NodeArena<K, V, PREFIX_LEN> {
         ensures kind { shown_kind result ≡ node_kind pointer }
     {
         match pointer.to_node_ptr() {
-            ConcreteNodePtr::Node4(node) => AnyNodeRef::Node4(self.node4.get(node.key()).unwrap()),
-            ConcreteNodePtr::Node16(node) => AnyNodeRef::Node16(
-                self.node16.get(node.key()).unwrap(),
-            ),
-            ConcreteNodePtr::Node48(node) => AnyNodeRef::Node48(
-                self.node48.get(node.key()).unwrap(),
-            ),
-            ConcreteNodePtr::Node256(node) => AnyNodeRef::Node256(
+            ConcreteNodePtr::Node4(node) => NodeRef::Node4(self.node4.get(node.key()).unwrap()),
+            ConcreteNodePtr::Node16(node) => NodeRef::Node16(self.node16.get(node.key()).unwrap()),
+            ConcreteNodePtr::Node48(node) => NodeRef::Node48(self.node48.get(node.key()).unwrap()),
+            ConcreteNodePtr::Node256(node) => NodeRef::Node256(
                 self.node256.get(node.key()).unwrap(),
             ),
-            ConcreteNodePtr::LeafNode(leaf) => AnyNodeRef::LeafNode(
+            ConcreteNodePtr::LeafNode(leaf) => NodeRef::LeafNode(
                 self.leaf.get(leaf.key()).unwrap(),
             ),
         }

@@ -6,7 +6,7 @@ ghost use Rattle.art_arena.specs.Arena.{as_inner};
 ghost use Rattle.art_arena.specs.InnerRef.{inner_shown};
 ghost use Rattle.art_arena.specs.Reader.{shown, shown_kind};
 
-use crate::reader::{AnyNodeRef, NodeRef};
+use crate::reader::NodeRef;
 use art_nodes::{
     ChildIter, Header, InnerNode4, InnerNode16, InnerNode48, InnerNode256, InnerNodeRead,
     OpaqueNodePtr,
@@ -41,10 +41,10 @@ pub type InnerRef<'a, K, V, const PREFIX_LEN: usize> = AnyInnerRef<
 macro_rules! with_node {
     ($any:expr, $node:ident => $run:expr) => {
         match $any {
-            AnyInnerRef::Node4($node) => $run,
-            AnyInnerRef::Node16($node) => $run,
-            AnyInnerRef::Node48($node) => $run,
-            AnyInnerRef::Node256($node) => $run,
+            InnerRef::Node4($node) => $run,
+            InnerRef::Node16($node) => $run,
+            InnerRef::Node48($node) => $run,
+            InnerRef::Node256($node) => $run,
         }
     };
 }
@@ -107,11 +107,11 @@ impl<'a, K, V, const PREFIX_LEN: usize> NodeRef<'a, K, V, PREFIX_LEN> {
         ensures leaf { IsNone result ↔ (shown_kind self.entry ≡ Leaf) }
     {
         match self {
-            AnyNodeRef::Node4(node) => Some(AnyInnerRef::Node4(node)),
-            AnyNodeRef::Node16(node) => Some(AnyInnerRef::Node16(node)),
-            AnyNodeRef::Node48(node) => Some(AnyInnerRef::Node48(node)),
-            AnyNodeRef::Node256(node) => Some(AnyInnerRef::Node256(node)),
-            AnyNodeRef::LeafNode(_) => None,
+            NodeRef::Node4(node) => Some(InnerRef::Node4(node)),
+            NodeRef::Node16(node) => Some(InnerRef::Node16(node)),
+            NodeRef::Node48(node) => Some(InnerRef::Node48(node)),
+            NodeRef::Node256(node) => Some(InnerRef::Node256(node)),
+            NodeRef::LeafNode(_) => None,
         }
     }
 }

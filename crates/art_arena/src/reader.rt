@@ -61,7 +61,7 @@ impl<'a, A> Model for Reader<'a, A> {
 /// let entries = vec![in alloc; (*b"abc1", 0), (*b"abc2", 1)]?;
 /// let root = load(alloc, arena, entries).map_err(|fault| fault.refusal)?;
 /// let mut reader = ArenaReader::with_budget(arena, 3);
-/// let AnyNodeRef::Node4(node) = reader.look(root) else {
+/// let NodeRef::Node4(node) = reader.look(root) else {
 ///     panic!(rt; "no Node4");
 /// };
 /// ```

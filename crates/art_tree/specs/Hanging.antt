@@ -1,8 +1,8 @@
 -- Insertion: the place of a new leaf among the leaves, and of a node under its parent. No public
 -- clause cites it.
-use Rattle.std.specs.Prelude.{◌≡◌, ◌≢◌, ℕ, List, Option, Some, None}
+use Rattle.std.specs.Prelude.{◌≡◌, ℕ, List, Option, Some, None}
 use Rattle.std.specs.declared.ops.Bound.TheVariants.{Excluded, Unbounded}
-use Rattle.art_nodes.specs.ChildMap.{child_at, pairs_within}
+use Rattle.art_nodes.specs.ChildMap.{IsAscending, child_at, key_bytes, pairs_within}
 use Rattle.art_nodes.specs.Inner as nodes
 use Rattle.art_nodes.specs.declared.pointers.OpaqueNodePtr.{OpaqueNodePtr}
 use Rattle.art_arena.specs.Arena.{NodeArena, HeldInner, held, Changes, SameNodes}
@@ -27,12 +27,12 @@ module _ {K V : Type 0} {P : ℕ} where
     pub sound : IsSound path (Inner pointer prefix (join before after))
     pub later : pairs_within (branch_roots (join before after)) (Excluded byte) Unbounded ≡ branch_roots after
 
-  -- the parent, if there is one, is an inner node with a child under the byte
-  abbrev pub CanHang : NodeArena K V P → Option (OpaqueNodePtr K V P × ℕ) → Type 0
-  CanHang arena None = Unit {0}
-  CanHang arena (Some (parent, byte)) =
+  -- the parent, if there is one, is an inner node whose bytes ascend, with this child under the byte
+  abbrev pub CanHang : NodeArena K V P → Option (OpaqueNodePtr K V P × ℕ) → OpaqueNodePtr K V P → Type 0
+  CanHang arena None child = Unit {0}
+  CanHang arena (Some (parent, byte)) child =
       (node : nodes.Inner (OpaqueNodePtr K V P)) × (held arena parent ≡ HeldInner node)
-      × (child_at node.children byte ≢ None)
+      × (child_at node.children byte ≡ Some child) × IsAscending (key_bytes node.children)
 
   -- the node is the child of the parent under the byte now; or, where there is no parent, the root
   abbrev pub IsHung : NodeArena K V P → NodeArena K V P → Option (OpaqueNodePtr K V P × ℕ) →

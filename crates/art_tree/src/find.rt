@@ -8,7 +8,7 @@ ghost use Rattle.art_tree.specs.Search.{HasTree, EachTree, scan, found, met, IsW
 
 use crate::laws::each_pointer_is_at_one_place;
 use crate::path::{TreePath, TreePathSearch};
-use art_arena::{AnyNodeRef, ArenaReader, NodeRef};
+use art_arena::{ArenaReader, NodeRef};
 use art_bytes::AsBytes;
 use art_nodes::{InnerNodeRead, LeafNode, NodePtr, OpaqueNodePtr};
 
@@ -45,11 +45,11 @@ fn next_child<K, V, const PREFIX_LEN: usize>(
     ensures nowhere { IfNone result (LeadsNowhereFrom PREFIX_LEN (shown node.entry) key.now depth) }
 {
     match node {
-        AnyNodeRef::Node4(node) => next_child_in(node, key, depth),
-        AnyNodeRef::Node16(node) => next_child_in(node, key, depth),
-        AnyNodeRef::Node48(node) => next_child_in(node, key, depth),
-        AnyNodeRef::Node256(node) => next_child_in(node, key, depth),
-        AnyNodeRef::LeafNode(_) => None,
+        NodeRef::Node4(node) => next_child_in(node, key, depth),
+        NodeRef::Node16(node) => next_child_in(node, key, depth),
+        NodeRef::Node48(node) => next_child_in(node, key, depth),
+        NodeRef::Node256(node) => next_child_in(node, key, depth),
+        NodeRef::LeafNode(_) => None,
     }
 }
 
@@ -115,7 +115,7 @@ pub fn find_leaf<K: AsBytes, V, const PREFIX_LEN: usize>(
     let mut depth = 0;
     'way: loop {
         let node = reader.look(at);
-        if let AnyNodeRef::LeafNode(leaf) = node {
+        if let NodeRef::LeafNode(leaf) = node {
             return if leaf.matches_full_key(key) {
                 Some((at.cast().unwrap(), search.finish()))
             } else {

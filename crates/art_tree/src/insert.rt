@@ -222,7 +222,7 @@ fn insert_child<K: AsBytes, V, const PREFIX_LEN: usize>(
     let (sibling, end) = leaf_beside(arena, spot.node, byte);
     let leaf = link_leaf(arena, key, value, sibling, end);
     let node = add_child(arena, spot.node, byte, leaf.to_opaque());
-    Ok(hang(arena, root, spot.parent, node))
+    Ok(hang(arena, root, spot.parent, spot.node, node))
 }
 
 // The end of the leaves below a node that is next to a key which differs from all of them.
@@ -269,7 +269,7 @@ fn insert_fork<K: AsBytes, V, const PREFIX_LEN: usize>(
         sibling,
     );
     let node = fork_node(arena, leaf, spot.node, spot.depth, mismatch);
-    Ok(hang(arena, root, spot.parent, node))
+    Ok(hang(arena, root, spot.parent, spot.node, node))
 }
 
 // The result of an insert of new key bytes: the root, and no replaced entry.

@@ -30,20 +30,25 @@ pub(crate) fn num_children<K, V, const PREFIX_LEN: usize>(
     arena.header(pointer).unwrap().num_children()
 }
 
-/// Puts a node where another one was, under its parent or as the root. Returns the root.
+/// Puts a node where another one was, under its parent or as the root. Returns the root. Writes nothing
+/// where it is the same node.
 pub(crate) fn hang<K, V, const PREFIX_LEN: usize>(
     arena: &mut NodeArena<K, V, PREFIX_LEN>,
     root: OpaqueNodePtr<K, V, PREFIX_LEN>,
     parent: Option<(OpaqueNodePtr<K, V, PREFIX_LEN>, u8)>,
+    before: OpaqueNodePtr<K, V, PREFIX_LEN>,
     node: OpaqueNodePtr<K, V, PREFIX_LEN>,
 ) -> OpaqueNodePtr<K, V, PREFIX_LEN>
-    requires { CanHang arena.old parent }
+    requires { CanHang arena.old parent before }
     ensures hung { IsHung arena.old arena.new parent node root result }
     ensures room { SameRoom arena.old arena.new }
 {
     let Some((parent, byte)) = parent else {
         return node;
     };
+    if node == before {
+        return root;
+    }
     arena.write_child(parent, byte, node);
     root
 }

@@ -131,7 +131,7 @@ fn remove_from_many<K: AsBytes, V, const PREFIX_LEN: usize>(
     reserve_shrink(arena, spot.parent)?;
     let entry = take_leaf(arena, leaf);
     let node = take_child(arena, spot.parent, spot.byte);
-    Ok((hang(arena, root, spot.above, node), entry))
+    Ok((hang(arena, root, spot.above, spot.parent, node), entry))
 }
 
 // Removes a leaf from a node of two children, whose other child takes the node's place. Returns the
@@ -158,7 +158,7 @@ fn remove_from_two<K: AsBytes, V, const PREFIX_LEN: usize>(
     let (other_byte, child) = other_child(arena, spot.parent, spot.byte);
     join_prefix(arena, spot.parent, other_byte, child);
     arena.deallocate(spot.parent);
-    (hang(arena, root, spot.above, child), entry)
+    (hang(arena, root, spot.above, spot.parent, child), entry)
 }
 
 // Removes a leaf from its parent. Returns the root and the entry.

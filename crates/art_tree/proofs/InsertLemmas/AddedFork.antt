@@ -302,6 +302,7 @@ module _ {K V : Type 0} {P : ℕ} {text : K → List ℕ} {old : NodeArena K V P
             abbrev fork-steps : AreSteps text old linked new around_it part_there root leaf top key value
             fork-steps = record {
               stood = alone-there.is_tree.stands;
+              sound = alone-there.is_tree.sound;
               was_root = alone-there.is_tree.at_root;
               distinct = distinct-there;
               free = free;
@@ -311,8 +312,8 @@ module _ {K V : Type 0} {P : ℕ} {text : K → List ℕ} {old : NodeArena K V P
               same = λ p other leaf_there. placed.changes.others p other ∙ is-trimmed.others p (λ same. leaf_there (same ∙ sym parts.at.at_root));
             }
 
-            pub fork-hangs : CanHang new spot.parent
-            fork-hangs = subst (CanHang new) parts.at.hangs (can-hang text old linked new around_it part_there root leaf top key value fork-steps)
+            pub fork-hangs : CanHang new spot.parent spot.node
+            fork-hangs = subst (CanHang new spot.parent) parts.at.at_root (subst (λ above. CanHang new above (root_of part_there)) parts.at.hangs (can-hang text old linked new around_it part_there root leaf top key value fork-steps))
 
             module _ (last : NodeArena K V P) (root_now : OpaqueNodePtr K V P) (hung : IsHung new last spot.parent top root root_now) (short : length (text key) < 2 ^ 32) (end_is : end ≡ (if nat_lt mismatch.byte mismatch.node_byte then First else Last))
                 (spells : (left right : List ℕ) → Spells old (left ++ right) → IsBeside end left right sibling → Spells linked (left ++ opaque_key leaf ∷ right)) where

@@ -59,6 +59,7 @@ texts-filled P part prefix top before byte leaf x after same each new =
 module _ {K V : Type 0} {P : ℕ} (text : K → List ℕ) (old linked new : NodeArena K V P) (context : Context (OpaqueNodePtr K V P)) (part : Tree (OpaqueNodePtr K V P)) (root leaf top : OpaqueNodePtr K V P) (key : K) (value : V) where
   pub record AreSteps : Type 0 where
     pub stood : StandsIn text old (plug context part)
+    pub sound : IsWellFormed (plug context part)
     pub was_root : root_of (plug context part) ≡ root
     pub distinct : AreDistinct (places (plug context part))
     pub free : held old leaf ≡ Nothing
@@ -93,8 +94,8 @@ module _ {K V : Type 0} {P : ℕ} (text : K → List ℕ) (old linked new : Node
         let other : p ≢ root_of part = λ same. at.outside (subst (Contains (places part)) (sym same) (root-place part)) in
         steps.same p (not-top p was other) (λ same. absurd (other same)) ∙ (steps.stays p (not-leaf p was)).keeps.inner at.node at.is ∙ sym at.is
 
-    pub can-hang : CanHang new (above context)
-    can-hang = can-hang-at text old new context part steps.stood parent-kept
+    pub can-hang : CanHang new (above context) (root_of part)
+    can-hang = can-hang-at text old new context part steps.stood steps.sound parent-kept
 
     module _ (last : NodeArena K V P) (root_now : OpaqueNodePtr K V P) (hung : IsHung new last (above context) top root root_now) where
       hangs : HangsAt old new last context top root_now part

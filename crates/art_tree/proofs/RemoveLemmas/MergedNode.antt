@@ -204,6 +204,7 @@ module _ {K V : Type 0} {P : ℕ} {text : K → List ℕ} {old : NodeArena K V P
               two-cuts : AreCuts text old cut new hangs.upper (part_there hangs) root leaf child
               two-cuts = record {
                 stood = place.alone.is_tree.stands;
+                sound = place.alone.is_tree.sound;
                 was_root = place.alone.is_tree.at_root;
                 distinct = distinct-there;
                 inside = place.inside;
@@ -216,8 +217,8 @@ module _ {K V : Type 0} {P : ℕ} {text : K → List ℕ} {old : NodeArena K V P
                 same = λ p not_top not_node. given.others p not_node ∙ is-joined.others p not_top;
               }
 
-              pub two-hangs : CanHang new higher
-              two-hangs = subst (CanHang new) hangs.hangs (can-hang text old cut new hangs.upper (part_there hangs) root leaf child two-cuts)
+              pub two-hangs : CanHang new higher parent
+              two-hangs = subst (λ above. CanHang new above parent) hangs.hangs (can-hang text old cut new hangs.upper (part_there hangs) root leaf child two-cuts)
 
               module _ (last : NodeArena K V P) (root_now : OpaqueNodePtr K V P) (hung : IsHung new last higher child root root_now) (spells : (left right : List ℕ) → Spells old (left ++ opaque_key leaf ∷ right) → Spells cut (left ++ right)) where
                 hung-there : IsHung new last (above hangs.upper) child root root_now

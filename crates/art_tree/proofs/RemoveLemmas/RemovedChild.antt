@@ -140,6 +140,7 @@ module _ {K V : Type 0} {P : ℕ} {text : K → List ℕ} {old : NodeArena K V P
         abbrev many-cuts : AreCuts text old cut new hangs.upper (part_there hangs) root leaf top
         many-cuts = record {
           stood = place.alone.is_tree.stands;
+          sound = place.alone.is_tree.sound;
           was_root = place.alone.is_tree.at_root;
           distinct = distinct;
           inside = place.inside;
@@ -152,8 +153,8 @@ module _ {K V : Type 0} {P : ℕ} {text : K → List ℕ} {old : NodeArena K V P
           same = λ p not_top not_parent. elim less [ inl cutting ↦ cutting.changes.others p not_parent | inr shrunk ↦ shrunk.replaced.others p not_top not_parent ];
         }
 
-        pub many-hangs : CanHang new higher
-        many-hangs = subst (CanHang new) hangs.hangs (can-hang text old cut new hangs.upper (part_there hangs) root leaf top many-cuts)
+        pub many-hangs : CanHang new higher parent
+        many-hangs = subst (λ above. CanHang new above parent) hangs.hangs (can-hang text old cut new hangs.upper (part_there hangs) root leaf top many-cuts)
 
         module _ (last : NodeArena K V P) (root_now : OpaqueNodePtr K V P) (hung : IsHung new last higher top root root_now)
             (spells : (left right : List ℕ) → Spells old (left ++ opaque_key leaf ∷ right) → Spells cut (left ++ right)) where

@@ -35,6 +35,7 @@ use Rattle.art_tree.proofs.LoadLemmas.PlacedTrees.{cases_pointer, leaf-of}
 module _ {K V : Type 0} {P : ℕ} (text : K → List ℕ) (old cut new : NodeArena K V P) (context : Context (OpaqueNodePtr K V P)) (part : Tree (OpaqueNodePtr K V P)) (root leaf top : OpaqueNodePtr K V P) where
   pub record AreCuts : Type 0 where
     pub stood : StandsIn text old (plug context part)
+    pub sound : IsWellFormed (plug context part)
     pub was_root : root_of (plug context part) ≡ root
     pub distinct : AreDistinct (places (plug context part))
     pub inside : Contains (places part) leaf
@@ -77,8 +78,8 @@ module _ {K V : Type 0} {P : ℕ} (text : K → List ℕ) (old cut new : NodeAre
         let was = parent-held p is in
         steps.same p (outside-top p was at.outside) (outside-node p at.outside) ∙ (steps.stays p (outside-not p was at.outside)).keeps.inner at.node at.is ∙ sym at.is
 
-    pub can-hang : CanHang new (above context)
-    can-hang = can-hang-at text old new context part steps.stood parent-kept
+    pub can-hang : CanHang new (above context) (root_of part)
+    can-hang = can-hang-at text old new context part steps.stood steps.sound parent-kept
 
     module _ (last : NodeArena K V P) (root_now : OpaqueNodePtr K V P) (hung : IsHung new last (above context) top root root_now) where
       hangs : HangsAt old new last context top root_now part

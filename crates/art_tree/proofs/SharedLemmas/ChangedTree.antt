@@ -1,21 +1,21 @@
 -- Insertion and removal: the tree and its arena after a change.
-use Rattle.std.proofs.Common.{◌≡◌, ◌≢◌, ◌⊎◌, ◌∙◌, ℕ, ◌==◌, Bool, true, false, if◌then◌else◌, List, [], ◌∷◌, ◌++◌, Contains, Some, None, refl, sym, ap, subst, inl, inr, arith}
+use Rattle.std.proofs.Common.{◌≡◌, ◌≢◌, ◌⊎◌, ◌∙◌, ℕ, suc, ◌≤◌, true, false, nat_eq, List, [], ◌∷◌, ◌++◌, Contains, Some, None, refl, sym, ap, subst, inl, inr, arith}
 use Rattle.std.proofs.lemmas.Bool.Decides.{nat_tests}
 use Rattle.std.proofs.lemmas.List.Elements.{Contains-append_cases}
-use Rattle.art_nodes.specs.ChildMap.{ChildMap, child_at}
+use Rattle.art_nodes.specs.ChildMap.{ChildMap, IsAscending, IsAscendingFrom, child_at, key_bytes}
 use Rattle.art_nodes.specs.Inner as nodes
 use Rattle.art_nodes.specs.declared.pointers.OpaqueNodePtr.{OpaqueNodePtr}
 use Rattle.art_nodes.specs.declared.leaf_node.LeafNode.{LeafNode}
 use Rattle.art_arena.specs.Arena.{NodeArena, Held, HeldInner, HeldLeaf, Nothing, held}
 use Rattle.art_arena.specs.Links.{AreDistinct}
 use Rattle.art_arena.specs.Standing.{StandsIn, AllStandIn}
-use Rattle.art_arena.specs.Trees.{Tree, Leaf, Inner, Branches, NoBranch, Branch, places, branch_places, branch_roots, root_of}
+use Rattle.art_arena.specs.Trees.{Tree, Leaf, Inner, Branches, NoBranch, Branch, places, branch_places, branch_roots, root_of, IsWellFormed}
 use Rattle.art_tree.specs.Contexts.{Context, Whole, Under, plug, parent, Adopts, KeepsAt, join}
 use Rattle.art_tree.specs.Edits.{StaysAt}
 use Rattle.art_tree.specs.Hanging.{CanHang, IsHung}
 use Rattle.art_tree.specs.InsertionPoints.{above}
 use Rattle.art_tree.proofs.SharedLemmas.BranchLemmas.{roots-join}
-use Rattle.art_tree.proofs.SharedLemmas.ExchangedSubtree.{the-one, around, stands-part}
+use Rattle.art_tree.proofs.SharedLemmas.ExchangedSubtree.{the-one, around, sound-part, stands-part}
 use Rattle.art_tree.proofs.SharedLemmas.ExchangedTree.{root-under}
 
 module _ {K V : Type 0} {P : ℕ} (text : K → List ℕ) (arena : NodeArena K V P) where
@@ -81,24 +81,34 @@ module _ {K V : Type 0} {P : ℕ} where
         at_root = λ now top_is. root-under higher p prefix before byte after part now ∙ at_root ∙ sym is;
       }
 
--- a node is where it was in an arena that keeps the parent
-there-at : {H : Type 0} (xs : ChildMap H) (byte : ℕ) (child : H) (ys : ChildMap H) → child_at (xs ++ (byte, child) ∷ ys) byte ≢ None
-there-at [] byte child ys = by_test (byte == byte) (grind (arith, nat_tests))
-  where
-    by_test : (test : Bool) → test ≡ true → (if test then Some child else child_at ys byte) ≢ None
-    by_test true is = λ none. absurd (cc)
-    by_test false is = absurd (cc)
-there-at (x ∷ xs) byte child ys = by_test (x.0 == byte) (there-at xs byte child ys)
-  where
-    by_test : (test : Bool) → child_at (xs ++ (byte, child) ∷ ys) byte ≢ None → (if test then Some x.1 else child_at (xs ++ (byte, child) ∷ ys) byte) ≢ None
-    by_test true rest = λ none. absurd (cc)
-    by_test false rest = rest
+-- a byte is at least the least of the list that it stands in
+byte-above : {H : Type 0} (low : ℕ) (xs : ChildMap H) (byte : ℕ) (child : H) (ys : ChildMap H) → IsAscendingFrom low (key_bytes (xs ++ (byte, child) ∷ ys)) → low ≤ byte
+byte-above low [] byte child ys above = above.0
+byte-above low (x ∷ xs) byte child ys above = omega (arith, above.0, byte-above (suc x.0) xs byte child ys above.2)
 
-pub can-hang-at : {K V : Type 0} {P : ℕ} (text : K → List ℕ) (old new : NodeArena K V P) (context : Context (OpaqueNodePtr K V P)) (part : Tree (OpaqueNodePtr K V P)) → StandsIn text old (plug context part) → ((p : OpaqueNodePtr K V P) → parent context ≡ Some p → held new p ≡ held old p) → CanHang new (above context)
-can-hang-at text old new Whole part stands kept = tt
-can-hang-at text old new (Under higher p prefix before byte after) part stands kept =
+eq-false : (a b : ℕ) → a ≢ b → nat_eq a b ≡ false
+eq-false a b h = grind (arith, nat_tests)
+
+eq-true : (a : ℕ) → nat_eq a a ≡ true
+eq-true a = grind (arith, nat_tests)
+
+-- and the list has its child under the byte
+there-at : {H : Type 0} (low : ℕ) (xs : ChildMap H) (byte : ℕ) (child : H) (ys : ChildMap H) → IsAscendingFrom low (key_bytes (xs ++ (byte, child) ∷ ys)) → child_at (xs ++ (byte, child) ∷ ys) byte ≡ Some child
+there-at low [] byte child ys above = rw (eq-true byte) refl
+there-at low (x ∷ xs) byte child ys above =
+    let later = byte-above (suc x.0) xs byte child ys above.2 in
+    rw (eq-false x.0 byte (λ same. omega (arith, later, same))) (there-at (suc x.0) xs byte child ys above.2)
+
+-- a node is where it was in an arena that keeps the parent
+pub can-hang-at : {K V : Type 0} {P : ℕ} (text : K → List ℕ) (old new : NodeArena K V P) (context : Context (OpaqueNodePtr K V P)) (part : Tree (OpaqueNodePtr K V P)) → StandsIn text old (plug context part) → IsWellFormed (plug context part)
+    → ((p : OpaqueNodePtr K V P) → parent context ≡ Some p → held new p ≡ held old p) → CanHang new (above context) (root_of part)
+can-hang-at text old new Whole part stands sound kept = tt
+can-hang-at text old new (Under higher p prefix before byte after) part stands sound kept =
     let (node, holds, shows, stand) = stands-part text old old higher (Inner p prefix (join before (Branch byte part after))) stands in
-    (node, kept p refl ∙ holds, subst (λ children. child_at children byte ≢ None) (sym (shows.children ∙ roots-join before (Branch byte part after))) (there-at (branch_roots before) byte (root_of part) (branch_roots after)))
+    let (two, ascend, below) = sound-part higher (Inner p prefix (join before (Branch byte part after))) sound in
+    let children = shows.children ∙ roots-join before (Branch byte part after) in
+    let ascending = subst (λ children. IsAscending (key_bytes children)) (roots-join before (Branch byte part after)) ascend in
+    (node, kept p refl ∙ holds, subst (λ children. child_at children byte ≡ Some (root_of part)) (sym children) (there-at 0 (branch_roots before) byte (root_of part) (branch_roots after) ascending), subst (λ children. IsAscending (key_bytes children)) (sym children) ascending)
 
 module _ {K V : Type 0} {P : ℕ} where
   -- a place is free, or it holds an inner node or a leaf

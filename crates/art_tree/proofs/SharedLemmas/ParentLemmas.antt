@@ -6,7 +6,7 @@ use Rattle.art_header.specs.declared.node_type.NodeType.TheVariants as kinds
 use Rattle.std.specs.Option.{option_map}
 use Rattle.std.specs.Result.{is_err}
 use Rattle.std.specs.declared.ops.Bound.TheVariants.{Excluded, Unbounded}
-use Rattle.art_nodes.specs.ChildMap.{child_at, first_pair, pairs_within}
+use Rattle.art_nodes.specs.ChildMap.{IsAscending, child_at, first_pair, key_bytes, pairs_within}
 use Rattle.art_nodes.specs.Inner as nodes
 use Rattle.art_nodes.specs.Inner.{HasRoomFor}
 use Rattle.art_nodes.specs.Pointers.{node_kind, opaque_key}
@@ -16,11 +16,12 @@ use Rattle.art_arena.specs.Arena.{NodeArena, HeldInner, Nothing, held, held_leaf
 use Rattle.art_arena.specs.Standing.{TreeAt, AllStandIn}
 use Rattle.art_arena.specs.Trees.{Tree, Inner, Branches, NoBranch, Branch, leaves, branch_leaves, branch_roots, root_of, AreSound}
 use Rattle.art_arena.specs.Ends.{IsAtEnd}
-use Rattle.art_tree.specs.Hanging.{CanHang, HasPlaceAt, StandsBeside}
+use Rattle.art_tree.specs.Hanging.{CanHang, HasPlaceAt, IsHung, StandsBeside}
 use Rattle.art_tree.specs.Contexts.{join}
 use Rattle.art_arena.specs.declared.ends.End.TheVariants.{First, Last}
 use Rattle.art_tree.proofs.SharedLemmas.BranchLemmas.{leaves-join}
 use Rattle.art_tree.proofs.SharedLemmas.ExchangedSubtree.{sound-split}
+use Rattle.art_nodes.proofs.ChildMapLaws.{written_over}
 use Rattle.art_arena.proofs.StandingLaws.{one-inner}
 use Rattle.art_tree.proofs.InsertLemmas.NodeLemmas.{some-inner}
 use Rattle.art_tree.proofs.LoadLemmas.PlacedTrees.{stand-split}
@@ -48,9 +49,9 @@ module _ {K V : Type 0} {P : ℕ} where
   there-already None A some none = absurd (some refl)
   there-already (Some child) A some none = absurd (cc)
 
-  pub is-parent : (arena : NodeArena K V P) (above : Option (OpaqueNodePtr K V P × ℕ)) (parent : OpaqueNodePtr K V P) (byte : ℕ) → CanHang arena above → above ≡ Some (parent, byte) → IsParent arena parent byte
-  is-parent arena None parent byte can is = absurd (cc)
-  is-parent arena (Some (p, b)) parent byte (node, holds, some) is =
+  pub is-parent : (arena : NodeArena K V P) (above : Option (OpaqueNodePtr K V P × ℕ)) (parent : OpaqueNodePtr K V P) (byte : ℕ) (child : OpaqueNodePtr K V P) → CanHang arena above child → above ≡ Some (parent, byte) → IsParent arena parent byte
+  is-parent arena None parent byte child can is = absurd (cc)
+  is-parent arena (Some (p, b)) parent byte child (node, holds, some, ascend) is =
       let one : (p, b) ≡ (parent, byte) = same_Some (p, b) (parent, byte) is in
       let here : held arena parent ≡ HeldInner node = ap (held arena) (sym (ap (λ pair. pair.0) one)) ∙ holds in
       record {
@@ -58,8 +59,22 @@ module _ {K V : Type 0} {P : ℕ} where
         is_inner = inner-kind arena parent node here;
         has_room = λ own is_own.
             let same : node ≡ own = one-inner (held arena parent) node own here is_own in
-            there-already (child_at own.children byte) _ (λ none. some (ap (child_at node.children) (ap (λ pair. pair.1) one) ∙ ap (λ n. child_at n.children byte) same ∙ none));
+            there-already (child_at own.children byte) _ (λ none. let wrong : Some child ≡ None = sym some ∙ ap (child_at node.children) (ap (λ pair. pair.1) one) ∙ ap (λ n. child_at n.children byte) same ∙ none in absurd (cc));
       }
+
+-- a node that is put where it is leaves the parent as it is
+pub hung-there : {K V : Type 0} {P : ℕ} (arena : NodeArena K V P) (above : Option (OpaqueNodePtr K V P × ℕ)) (parent : OpaqueNodePtr K V P) (byte : ℕ) (child root : OpaqueNodePtr K V P) → CanHang arena above child → above ≡ Some (parent, byte) → IsHung arena arena above child root root
+hung-there arena None parent byte child root can is = absurd (cc)
+hung-there arena (Some (p, b)) parent byte child root (node, holds, some, ascend) is = (
+  refl,
+  λ own is_own.
+      let same : node ≡ own = one-inner (held arena p) node own holds is_own in
+      let over = written_over own.children b child (subst (λ n. IsAscending (key_bytes n.children)) same ascend) (ap (λ n. child_at n.children b) (sym same) ∙ some) in
+      record {
+        changed = is_own ∙ ap (λ children. HeldInner (nodes.with_children own children)) (sym over);
+        others = λ pointer differs. refl;
+      },
+)
 
 -- what always holds, holds on an error
 pub always-err : {T E : Type 0} (r : Result T E) (Q : Type 0) → Q → OnErr r Q

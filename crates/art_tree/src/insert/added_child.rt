@@ -16,7 +16,7 @@ ghost use Rattle.art_tree.specs.Search.{leaf_pointer};
 
 use crate::insert::insertion_point::Mismatch;
 use crate::node::{num_children, place_as, replace_node};
-use art_arena::{AnyNodeRef, NodeArena};
+use art_arena::{NodeArena, NodeRef};
 use art_bytes::AsBytes;
 use art_nodes::{
     InnerNode, InnerNode4, InnerNodeCommon, InnerNodeRead, LeafNode, NodePtr, OpaqueNodePtr,
@@ -94,24 +94,24 @@ fn grow_child<K, V, const PREFIX_LEN: usize>(
     ensures capacity { SameCapacity arena.old arena.new }
 {
     match arena.node_ref(pointer) {
-        AnyNodeRef::Node4(node) => {
+        NodeRef::Node4(node) => {
             let grown = with_child_more(node, byte, child);
             replace_node(arena, pointer, grown).unwrap()
         }
-        AnyNodeRef::Node16(node) => {
+        NodeRef::Node16(node) => {
             let grown = with_child_more(node, byte, child);
             replace_node(arena, pointer, grown).unwrap()
         }
-        AnyNodeRef::Node48(node) => {
+        NodeRef::Node48(node) => {
             let grown = with_child_more(node, byte, child);
             replace_node(arena, pointer, grown).unwrap()
         }
         // A node of 256 children has one under every byte.
-        AnyNodeRef::Node256(node) => {
+        NodeRef::Node256(node) => {
             prove!(node.num_children() < 256);
             unreachable!()
         }
-        AnyNodeRef::LeafNode(_) => unreachable!(),
+        NodeRef::LeafNode(_) => unreachable!(),
     }
 }
 

@@ -13,7 +13,7 @@ ghost use Rattle.art_tree.specs.Reserving.{LacksRoomToShrink};
 ghost use Rattle.art_tree.specs.Room.{GrowsOnlyWhere};
 
 use crate::node::{num_children, replace_node};
-use art_arena::{AnyNodeRef, NodeArena};
+use art_arena::{NodeArena, NodeRef};
 use art_nodes::{InnerNode, InnerNodeRead, NodeType, OpaqueNodePtr};
 use std::alloc::AllocError;
 
@@ -111,19 +111,19 @@ fn shrink_node<K, V, const PREFIX_LEN: usize>(
     ensures capacity { SameCapacity arena.old arena.new }
 {
     match arena.node_ref(pointer) {
-        AnyNodeRef::Node16(node) => {
+        NodeRef::Node16(node) => {
             let shrunk = node.shrink();
             replace_node(arena, pointer, shrunk).unwrap()
         }
-        AnyNodeRef::Node48(node) => {
+        NodeRef::Node48(node) => {
             let shrunk = node.shrink();
             replace_node(arena, pointer, shrunk).unwrap()
         }
-        AnyNodeRef::Node256(node) => {
+        NodeRef::Node256(node) => {
             let shrunk = node.shrink();
             replace_node(arena, pointer, shrunk).unwrap()
         }
-        AnyNodeRef::Node4(_) | AnyNodeRef::LeafNode(_) => unreachable!(),
+        NodeRef::Node4(_) | NodeRef::LeafNode(_) => unreachable!(),
     }
 }
 

@@ -80,11 +80,11 @@ fn check_removed(
 fn least_child(rt: &impl Abort, arena: &Nodes, pointer: Pointer) -> Pointer {
     assert!(rt; arena.holds_opaque(pointer));
     let (_, child) = match arena.node_ref(pointer) {
-        AnyNodeRef::Node4(node) => {
+        NodeRef::Node4(node) => {
             assert!(rt; node.num_children() > 0);
             node.min()
         }
-        AnyNodeRef::Node16(node) => {
+        NodeRef::Node16(node) => {
             assert!(rt; node.num_children() > 0);
             node.min()
         }
@@ -163,7 +163,7 @@ fn check_inner(
 // The child of a Node4 under a byte.
 fn child_of(rt: &impl Abort, arena: &Nodes, pointer: Pointer, byte: u8) -> Pointer {
     assert!(rt; arena.holds_opaque(pointer));
-    let AnyNodeRef::Node4(node) = arena.node_ref(pointer) else {
+    let NodeRef::Node4(node) = arena.node_ref(pointer) else {
         panic!(rt; "no Node4");
     };
     match node.lookup_child(byte) {

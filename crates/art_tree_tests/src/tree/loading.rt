@@ -1,8 +1,8 @@
 //! Tests of loads: the refusals, and the loaded tree.
 use super::{numbered, shape};
 use art_tree::{
-    AnyNodeRef, ArenaReader, InnerNode4, InnerNodeCommon, InnerNodeRead, InsertRefusal, LeafNode,
-    LoadFault, LoadRefusal, NodeArena, NodePtr, NodeType, OpaqueNodePtr, load,
+    ArenaReader, InnerNode4, InnerNodeCommon, InnerNodeRead, InsertRefusal, LeafNode, LoadFault,
+    LoadRefusal, NodeArena, NodePtr, NodeRef, NodeType, OpaqueNodePtr, load,
 };
 use std::alloc::{AllocError, Global};
 use std::process::Abort;
@@ -230,7 +230,7 @@ fn link_two_leaves(rt: &impl Abort, alloc: Global, arena: &mut Shared) -> Result
     let entries = vec![in alloc; (*b"abc1", 0), (*b"abc2", 1)]?;
     let root = load(alloc, arena, entries).map_err(|fault| fault.refusal)?;
     let mut reader = ArenaReader::with_budget(arena, 3);
-    let AnyNodeRef::Node4(node) = reader.look(root) else {
+    let NodeRef::Node4(node) = reader.look(root) else {
         panic!(rt; "no Node4");
     };
     let (first, second) = leaves_below(rt, node);

@@ -33,7 +33,7 @@ pub(super) fn check_match<K: AsBytes, const PREFIX_LEN: usize>(
     requires { HasTree K.text arena.now root }
 {
     let mut reader = ArenaReader::with_budget(arena, 1);
-    let AnyNodeRef::Node4(node) = reader.look(root) else {
+    let NodeRef::Node4(node) = reader.look(root) else {
         panic!(rt; "no Node4");
     };
     assert!(rt; cheap_match(node, key) == cheap);

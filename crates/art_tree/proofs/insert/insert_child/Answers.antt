@@ -67,7 +67,7 @@ hang-requires g c =
     let new = c.add_child-node.new.arena in
     let top = c.add_child-node.result in
     let added = subst (λ child. ChildAdded linked new c.args.spot.node c.args.byte child top) c.to_opaque.ensures c.add_child-node.ensures.added in
-    let can : CanHang new c.args.spot.parent = child-hangs place linked (leaf_pointer c.link_leaf-leaf.result) link.was_free link.others new top c.args.value link.entry c.each_pointer_is_at_one_place.ensures added in
+    let can : CanHang new c.args.spot.parent c.args.spot.node = child-hangs place linked (leaf_pointer c.link_leaf-leaf.result) link.was_free link.others new top c.args.value link.entry c.each_pointer_is_at_one_place.ensures added in
     assumption leaf-pointer-fits
 
 pub returns : goal.returns

@@ -1,4 +1,4 @@
-use Rattle.std.proofs.Common.{◌≡◌, [], None, sym, subst, arith}
+use Rattle.std.proofs.Common.{◌≡◌, ◌∙◌, [], None, ap, sym, subst, arith}
 use Rattle.art_header.specs.declared.node_type.NodeType.TheVariants as kinds
 use Rattle.art_arena.specs.Trees.{Leaf}
 use Rattle.art_tree.specs.Art.{IsAlone}
@@ -28,10 +28,13 @@ pub returns-in-Err : goal.returns-in-Err
 returns-in-Err g c =
     let text = g.K.AsBytes.text in
     let old = c.args.arena.now in
+    let key : c.into_entry.result.0 ≡ c.args.key = search in
+    let value : c.into_entry.result.1 ≡ c.args.value = search in
+    let entry : c.into_entry.result ≡ (c.args.key, c.args.value) = ap (λ k. (k, c.into_entry.result.1)) key ∙ ap (λ v. (c.args.key, v)) value in
     record {
       art = tt;
       entered = tt;
-      entry_back = search;
+      entry_back = entry;
       nodes_kept = c.in-Err.ensures.nodes_kept;
       no_room = (kinds.Leaf, first-lacks text old c.requires.empty (text c.args.key) c.requires.short (none-left c.allocate_node_ptr.result _ (λ some. c.allocate_node_ptr.ensures.succeeds (omega (arith, some))) _ c.in-Err.is));
       memory = first-memory text old c.allocate_node_ptr.new.self c.args.key c.requires.empty c.requires.short (λ some. c.allocate_node_ptr.ensures.no_growth (omega (arith, some))) c.allocate_node_ptr.ensures.other_capacity;

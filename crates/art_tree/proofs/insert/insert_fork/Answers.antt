@@ -89,7 +89,7 @@ hang-requires g c =
     let at_end = c.end_leaf-sibling.ensures.at_end (tree-there place) in
     let link = c.link_leaf-leaf.ensures in
     let new = c.fork_node-node.new.arena in
-    let can : CanHang new c.args.spot.parent = fork-hangs place c.link_leaf-leaf.new.arena (leaf_pointer c.link_leaf-leaf.result) link.was_free link.others c.near_end-end.result (slab_key c.end_leaf-sibling.result) at_end c.trim.new.arena c.trim.ensures.leaf c.trim.ensures.trimmed c.args.value link.entry (slab_key c.link_leaf-leaf.result) refl
+    let can : CanHang new c.args.spot.parent c.args.spot.node = fork-hangs place c.link_leaf-leaf.new.arena (leaf_pointer c.link_leaf-leaf.result) link.was_free link.others c.near_end-end.result (slab_key c.end_leaf-sibling.result) at_end c.trim.new.arena c.trim.ensures.leaf c.trim.ensures.trimmed c.args.value link.entry (slab_key c.link_leaf-leaf.result) refl
     new c.fork_node-node.result c.each_pointer_is_at_one_place.ensures c.fork_node-node.ensures in
     assumption leaf-pointer-fits
 

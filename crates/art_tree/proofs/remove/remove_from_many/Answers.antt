@@ -1,4 +1,5 @@
 use Rattle.std.proofs.Common.{◌≡◌, ◌≢◌, ◌<◌, ◌≤◌, ◌∙◌, ℕ, List, [], ◌∷◌, ◌++◌, None, Some, length, sym, subst}
+use Rattle.std.proofs.lemmas.Result.{IfOk-from_err}
 use Rattle.art_header.specs.NodeType.{least_children}
 use Rattle.art_header.specs.declared.node_type.NodeType.{NodeType}
 use Rattle.art_header.specs.declared.node_type.NodeType.TheVariants.{Leaf}
@@ -70,7 +71,7 @@ hang-requires g c =
     let cut = c.take_leaf-entry.new.arena in
     let many : length place.node.children ≢ 2 = c.requires.many place.node (sym (c.reserve_shrink.ensures.nodes_kept parent) ∙ place.is_held) in
     let new = c.take_child-node.new.arena in
-    let can : CanHang new higher = many-hangs place cut c.take_leaf-entry.ensures.gone c.take_leaf-entry.ensures.others many new c.take_child-node.result (c.each_pointer_is_at_one_place.ensures reserved [] _ place.alone.is_tree.stands place.alone.is_tree.sound) (c.take_child-node.ensures.taken _ (is-cut place cut c.take_leaf-entry.ensures.gone c.take_leaf-entry.ensures.others)) in
+    let can : CanHang new higher parent = many-hangs place cut c.take_leaf-entry.ensures.gone c.take_leaf-entry.ensures.others many new c.take_child-node.result (c.each_pointer_is_at_one_place.ensures reserved [] _ place.alone.is_tree.stands place.alone.is_tree.sound) (c.take_child-node.ensures.taken _ (is-cut place cut c.take_leaf-entry.ensures.gone c.take_leaf-entry.ensures.others)) in
     assumption
 
 pub returns : goal.returns
@@ -86,7 +87,6 @@ returns g c = λ tree alone0 hangs.
     let many : length place.node.children ≢ 2 = c.requires.many place.node (sym (kept parent) ∙ place.is_held) in
     let new = c.take_child-node.new.arena in
     let apart = c.no_text_begins_another.ensures in
-    let more = λ enough. not-least place0 (c.requires.many place0.node place0.is_held) enough in
     let taken = c.take_child-node.ensures.taken _ (is-cut place cut c.take_leaf-entry.ensures.gone c.take_leaf-entry.ensures.others) in
     let removed = many-removed place cut c.take_leaf-entry.ensures.gone c.take_leaf-entry.ensures.others many new c.take_child-node.result (c.each_pointer_is_at_one_place.ensures reserved [] _ place.alone.is_tree.stands place.alone.is_tree.sound) taken c.hang.new.arena c.hang.result c.hang.ensures.hung c.take_leaf-entry.ensures.spelled apart in
     record {
@@ -95,8 +95,8 @@ returns g c = λ tree alone0 hangs.
       refused = tt;
       nodes_kept = tt;
       takes_no_memory = λ enough. frees-leaf old reserved cut new c.hang.new.arena parent c.take_child-node.result place.node _
-          (c.reserve_shrink.ensures.takes_no_memory place0.node place0.is_held (more enough place0.node place0.is_held)) c.take_leaf-entry.ensures.takes_no_memory
-          taken (more enough place.node (sym (kept parent) ∙ place.is_held)) c.hang.ensures.room;
+          (c.reserve_shrink.ensures.takes_no_memory place0.node place0.is_held (not-least place0 (c.requires.many place0.node place0.is_held) enough place0.node place0.is_held)) c.take_leaf-entry.ensures.takes_no_memory
+          taken (not-least place0 (c.requires.many place0.node place0.is_held) enough place.node (sym (kept parent) ∙ place.is_held)) c.hang.ensures.room;
       no_room = tt;
       memory = grows-on old reserved c.hang.new.arena _
           (grows-then old reserved _ _ (removal-lacks place0 (apart [] _ place0.alone.is_tree.sound)) c.reserve_shrink.ensures.memory)
@@ -112,7 +112,7 @@ returns-in_err-reserve_shrink g c = λ tree alone hangs.
     let lacks = removal-lacks place (c.no_text_begins_another.ensures [] _ place.alone.is_tree.sound) in
     let (kind, lacking) = c.in_err-reserve_shrink.ensures.no_room in
     record {
-      removed = search;
+      removed = IfOk-from_err c.from_residual.result _ c.from_residual.ensures.0;
       refused = always-err c.from_residual.result (NeedsSmallerNode text old hangs.text) needs;
       nodes_kept = always-err c.from_residual.result (SameNodes old c.reserve_shrink.new.arena) c.reserve_shrink.ensures.nodes_kept;
       takes_no_memory = λ enough. absurd (enough needs);

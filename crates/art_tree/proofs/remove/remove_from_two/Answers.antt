@@ -68,7 +68,7 @@ hang-requires g c =
     let (other, child) = c.other_child-other_byte.result in
     let joined = c.join_prefix.new.arena in
     let new = c.deallocate.new.self in
-    let can : CanHang new c.args.spot.above = two-hangs place c.each_pointer_is_at_one_place.ensures c.requires.two cut taken.gone taken.others other child c.other_child-other_byte.ensures joined c.join_prefix.ensures.leaf c.join_prefix.ensures.joined new c.deallocate.ensures.removed in
+    let can : CanHang new c.args.spot.above c.args.spot.parent = two-hangs place c.each_pointer_is_at_one_place.ensures c.requires.two cut taken.gone taken.others other child c.other_child-other_byte.ensures joined c.join_prefix.ensures.leaf c.join_prefix.ensures.joined new c.deallocate.ensures.removed in
     assumption
 
 pub returns-clause-removed : goal.returns-clause-removed

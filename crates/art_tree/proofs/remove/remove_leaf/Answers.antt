@@ -65,6 +65,12 @@ returns-clause-removed g c = λ node held.
     let done = (c.in_ok-root.ensures tree alone hangs).removed in
     (done.art, subst (IsLeft text arena c.remove_from.new.arena) same done.left, ap (entry_at text arena) (sym same) ∙ done.was)
 
+pub returns-in_err-root-clause-nodes_kept : goal.returns-in_err-root-clause-nodes_kept
+returns-in_err-root-clause-nodes_kept g c =
+    let (tree, alone, way) = c.requires.place in
+    let hangs = c.in-Some.ensures.spot tree (leaf_pointer c.args.leaf) way in
+    always-err c.from_residual.result _ (c.in_err-root.ensures tree alone hangs).nodes_kept
+
 pub returns-in_err-root-clause-takes_no_memory : goal.returns-in_err-root-clause-takes_no_memory
 returns-in_err-root-clause-takes_no_memory g c = λ node held enough.
     let text = g.K.AsBytes.text in
