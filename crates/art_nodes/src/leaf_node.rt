@@ -9,6 +9,7 @@ ghost use Rattle.art_nodes.specs.Leaf.{leaf_key, leaf_value, previous_key, next_
 use crate::inner_nodes::traits::node::Node;
 use crate::no_bytes::NoBytes;
 use crate::pointers::NodePtr;
+use crate::pointers::link::Link;
 use crate::sealed::Sealed;
 use art_bytes::AsBytes;
 use art_header::NodeType;
@@ -32,8 +33,8 @@ use std::cmp::Ordering;
 pub struct LeafNode<K, V, const PREFIX_LEN: usize> {
     key: K,
     value: V,
-    previous: Option<usize>,
-    next: Option<usize>,
+    previous: Link,
+    next: Link,
     no_bytes: NoBytes<K, PREFIX_LEN>,
 }
 
@@ -62,8 +63,8 @@ impl<K, V, const PREFIX_LEN: usize> LeafNode<K, V, PREFIX_LEN> {
         LeafNode {
             key,
             value,
-            previous: None,
-            next: None,
+            previous: Link::new(None),
+            next: Link::new(None),
             no_bytes: NoBytes::new(),
         }
     }
@@ -189,14 +190,14 @@ impl<K, V, const PREFIX_LEN: usize> LeafNode<K, V, PREFIX_LEN> {
     pub fn previous(&self) -> Option<NodePtr<PREFIX_LEN, Self>>
         ensures { option_map slab_key result ≡ previous_key self.now }
     {
-        Some(NodePtr::from_key(self.previous?))
+        Some(NodePtr::from_key(self.previous.key()?))
     }
 
     /// The leaf after this one in its list, if there is one.
     pub fn next(&self) -> Option<NodePtr<PREFIX_LEN, Self>>
         ensures { option_map slab_key result ≡ next_key self.now }
     {
-        Some(NodePtr::from_key(self.next?))
+        Some(NodePtr::from_key(self.next.key()?))
     }
 
     /// Sets the links of this leaf to these neighbours, `None` at an end of the list. Key and value
@@ -209,8 +210,8 @@ impl<K, V, const PREFIX_LEN: usize> LeafNode<K, V, PREFIX_LEN> {
         ensures { self.new ≡ with_links self.old (option_map slab_key previous)
             (option_map slab_key next) }
     {
-        self.previous = key_of(previous);
-        self.next = key_of(next);
+        self.previous = Link::new(key_of(previous));
+        self.next = Link::new(key_of(next));
     }
 }
 

@@ -7,6 +7,7 @@ use art_header::NodeType;
 use std::marker::PhantomData;
 
 pub(crate) mod concrete;
+pub(crate) mod link;
 pub(crate) mod packed;
 
 /// A pointer to a node of the type `N`: the slab key of the node.

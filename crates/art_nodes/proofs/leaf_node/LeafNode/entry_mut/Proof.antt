@@ -24,7 +24,7 @@ use types.SemTy.{Body}
 use types.Mut.{open_ref}
 use types.Follow.{after₂, takes_two}
 use denote.RattleType.{RattleType, Denots, Valss, owns}
-use denote.Builtin.{RefMutOf, usize}
+use denote.Builtin.{RefMutOf}
 use denote.Exit.{no}
 use denote.Follow.{both_by, follows_both}
 use denote.Memory.{mem, part_at}
@@ -42,10 +42,10 @@ use denote.Struct.Struct.{Struct, within}
 use denote.Struct.Tuple.{tuple_type}
 use denote.Triple.Walked.{Stays, stay_dropped, walk_of, Goes-spent_ref}
 use Rattle.std.proofs.raw_atomic.Walks.{proved, leaves}
-use Rattle.std.specs.contracts.option.Option as option
 use Rattle.art_nodes.specs.Leaf.{with_entry}
 use Rattle.art_nodes.specs.contracts.leaf_node.LeafNode.{the_row, the_type}
 use Rattle.art_nodes.specs.contracts.no_bytes.NoBytes as no_bytes
+use Rattle.art_nodes.specs.contracts.pointers.link.Link as links
 use Rattle.art_nodes.specs.contracts.leaf_node.LeafNode.entry_mut.{ended, clauses}
 use Rattle.art_nodes.specs.contracts.leaf_node.LeafNode.entry_mut.Key.{name as #self}
 use Rattle.art_nodes.proofs.leaf_node.LeafNode.TheLaws.{the_loose}
@@ -66,7 +66,7 @@ module _ (K V : RattleType) (N : ℕ) where
   form = the_type Key Value (param 2 (number N))
 
   abbrev link : Member
-  link = record { row = (option.the_field usize).row; ty = layout (option.the_field usize).row }
+  link = let row = links.the_field.row in record { row = row; ty = layout row }
 
   abbrev filler : Member
   filler = let row = (no_bytes.the_field Key (param 2 (number N))).row in record { row = row; ty = layout row }
