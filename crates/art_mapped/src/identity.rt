@@ -2,7 +2,7 @@
 ghost use Rattle.std.specs.Prelude.{◌≡◌, false, refl};
 ghost use Rattle.std.proofs.Math.Logic.{∥∥₁_map};
 
-use crate::mapping::{BytesMapping, NoPrefixesMapping};
+use crate::mapping::{BytesMapping, NoPrefixesMapping, prove_is_key};
 use art_bytes::{AsBytes, NoPrefixesBytes};
 use std::alloc::{AllocError, Global};
 
@@ -52,20 +52,17 @@ impl<D: AsBytes + Drop> BytesMapping<D> for Identity {
     ghost kept_by_text = { λ a b is_key _ some. ∥∥₁_map some (λ _. (b, is_key, refl)) };
 
     fn to_bytes(_alloc: Global, value: D) -> Result<D, AllocError> {
-        // Reading its bytes shows that the value is a key.
-        let _text = value.as_bytes();
+        prove_is_key(&value);
         Ok(value)
     }
 
     fn from_bytes(_alloc: Global, bytes: D) -> Result<D, AllocError> {
-        // As in `to_bytes`.
-        let _text = bytes.as_bytes();
+        prove_is_key(&bytes);
         Ok(bytes)
     }
 
     fn is_value(bytes: &D) -> bool {
-        // As in `to_bytes`.
-        let _text = bytes.as_bytes();
+        prove_is_key(bytes);
         true
     }
 }

@@ -2,7 +2,7 @@
 ghost use Rattle.std.specs.Prelude.{◌≡◌, IsOk, IfOk, false};
 ghost use Rattle.art_mapped.specs.Mapping.{StandsForSome};
 
-use crate::mapping::{BytesMapping, NoPrefixesMapping, OrderedMapping};
+use crate::mapping::{BytesMapping, NoPrefixesMapping, OrderedMapping, prove_is_key};
 use art_bytes::{AsBytes, NoPrefixesBytes, OrderedBytes};
 use std::alloc::{AllocError, Global};
 use std::cmp::Ordering;
@@ -95,8 +95,7 @@ impl<B: BytesMapping<D>, D> Mapped<B, D> {
         ensures takes_no_memory { B.Bytes.is_infallible (mapped_bytes self.now) → IsOk result }
     {
         let repr = self.repr.clone()?;
-        // Reading its bytes shows that the clone is a key too.
-        let _text = repr.as_bytes();
+        prove_is_key(&repr);
         Ok(Mapped {
             repr,
             mapping: PhantomData,

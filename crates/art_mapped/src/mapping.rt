@@ -165,3 +165,12 @@ pub trait NoPrefixesMapping<D>: BytesMapping<D> {
     ghost no_prefixes: { (x y : D) → Self.is_in_domain x → Self.is_in_domain y →
         IsPrefixOf (Self.text_of x) (Self.text_of y) → Self.text_of x ≡ Self.text_of y };
 }
+
+/// Shows that this value is a key: only the contract of [`AsBytes::as_bytes`] says which values are.
+/// So that call is made, here alone; `prove!` calls nothing through a bound.
+#[inline]
+pub(crate) fn prove_is_key<K: AsBytes>(key: &K)
+    ensures { K.is_key key.now }
+{
+    let _text = key.as_bytes();
+}
