@@ -1,12 +1,13 @@
 -- Child maps: laws for proofs in crates above, of look-ups after a write and a removal, order, sizes and ends.
 use Rattle.std.proofs.Common.{◌≡◌, ℕ, zero, suc, ◌+◌, ◌-◌, ◌<◌, ◌≤◌, ◌≢◌, nat_lt, [], ◌∷◌, ◌++◌, length, Some, None, IsSome, IsNone, refl, if◌then◌else◌, true, false, sym, ◌∙◌, ap, arith, filter, slice_get, inl, inr, All}
 use Rattle.std.proofs.lemmas.Bool.{cases_lt}
+use Rattle.std.proofs.lemmas.Option.{same_Some}
 use Rattle.std.specs.Option.{is_some}
 use Rattle.std.proofs.lemmas.List.{length-map}
 use Rattle.std.proofs.lemmas.List.Elements.{All-nil, All-cons}
 use Rattle.art_nodes.specs.ChildMap.{ChildMap, IsAscending, child_at, with_child, without_child, key_bytes, first_pair, last_pair}
 use Rattle.art_nodes.specs.Inner.{Inner, HasRoomFor, IsInner, with_children}
-use Rattle.art_nodes.proofs.ChildMapLemmas.{IsAbove, child_at-same, child_at-later, cases_eq, eq-false, eq-true, lt-true, lt-false, above-with_child, above-without_child, length-with_child, length-without_child, ascending-length}
+use Rattle.art_nodes.proofs.ChildMapLemmas.{IsAbove, child_at-front, child_at-same, child_at-later, with_child-later, with_child-same, cases_eq, eq-false, eq-true, lt-true, lt-false, above-with_child, above-without_child, length-with_child, length-without_child, ascending-length}
 
 module _ {H : Type 0} where
   -- in one map before another
@@ -65,6 +66,24 @@ module _ {H : Type 0} where
   child_at_written children byte child =
       child_at-after (filter (λ p. nat_lt p.0 byte) children) ((byte, child) ∷ filter (λ p. nat_lt byte p.0) children) byte (child_at-not_lesser children byte byte (omega arith))
       ∙ rw (eq-true byte byte refl) refl
+
+  -- a child that is written where it is changes nothing
+  above-written_over : (low : ℕ) (children : ChildMap H) (byte : ℕ) (child : H) → IsAbove low children → child_at children byte ≡ Some child → with_child children byte child ≡ children
+  above-written_over low [] byte child above some = absurd (cc)
+  above-written_over low (x ∷ children) byte child above some = elim (cases_lt byte x.0) [
+    | inl before ↦ (let wrong : None ≡ Some child = sym (child_at-front x.0 byte (x ∷ children) before (omega arith, above.1, above.2)) ∙ some in absurd (cc))
+    | inr from ↦ elim (cases_lt x.0 byte) [
+      | inl after ↦ with_child-later x.0 byte x.1 children child after ∙ ap (λ rest. x ∷ rest) (above-written_over (suc x.0) children byte child above.2 (sym (child_at-later x.0 byte x.1 children (λ e. omega arith)) ∙ some))
+      | inr upto ↦
+          let same : x.0 ≡ byte = omega arith in
+          let own : x.1 ≡ child = same_Some x.1 child (sym (child_at-same x.0 byte x.1 children same) ∙ some) in
+          let pair : (byte, child) ≡ (x.0, x.1) = sym (ap (λ n. (n, x.1)) same ∙ ap (λ h. (byte, h)) own) in
+          with_child-same x.0 byte x.1 children child same above.2 ∙ ap (λ first. first ∷ children) pair
+    ]
+  ]
+
+  pub written_over : (children : ChildMap H) (byte : ℕ) (child : H) → IsAscending (key_bytes children) → child_at children byte ≡ Some child → with_child children byte child ≡ children
+  written_over = above-written_over 0
 
   -- and every other byte has the child that it had
   pub child_at_written_other : (children : ChildMap H) (byte other : ℕ) (child : H) → other ≢ byte → child_at (with_child children byte child) other ≡ child_at children other

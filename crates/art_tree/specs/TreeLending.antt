@@ -1,5 +1,5 @@
 -- What a tree ends as, where a value of it is borrowed.
-use Rattle.std.specs.Prelude.{◌≡◌, ◌≢◌, ℕ, List, Some, Option, OnSome}
+use Rattle.std.specs.Prelude.{◌≡◌, ℕ, List, Option, OnSome}
 use Rattle.std.specs.Borrow.{RattleType, Fml, MutBor, LendsSo}
 use Rattle.std.specs.Option.{option_map}
 use Rattle.art_nodes.specs.Leaf.{leaf_key, with_value}

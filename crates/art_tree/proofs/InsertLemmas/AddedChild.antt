@@ -242,7 +242,7 @@ module _ {K V : Type 0} {P : ℕ} {text : K → List ℕ} {old : NodeArena K V P
   steps-there = child-steps child_spot linked leaf free stays new top value entry distinct-there more-there
 
   pub child-hangs : CanHang new spot.parent spot.node
-  child-hangs = subst (CanHang new spot.parent) child_spot.lacks.at.at_root (subst (λ above. CanHang new above (root_of part)) child_spot.lacks.at.hangs (can-hang text old linked new context part root leaf top key value steps-there))
+  child-hangs = subst (λ above. CanHang new above spot.node) child_spot.lacks.at.hangs (can-hang text old linked new context part root leaf top key value steps-there)
 
   module _ (last : NodeArena K V P) (root_now : OpaqueNodePtr K V P) (hung : IsHung new last spot.parent top root root_now) (short : length (text key) < 2 ^ 32) (end : End) (sibling : ℕ) (beside : StandsBeside end (branch_leaves there.before) (branch_leaves there.after) (opaque_pointer kinds.Leaf sibling))
       (spells : (left right : List ℕ) → Spells old (left ++ right) → IsBeside end left right sibling → Spells linked (left ++ opaque_key leaf ∷ right)) where

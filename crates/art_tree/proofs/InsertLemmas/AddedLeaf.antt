@@ -11,7 +11,7 @@ use Rattle.art_nodes.specs.declared.leaf_node.LeafNode.{LeafNode}
 use Rattle.art_arena.specs.Arena.{NodeArena, HeldInner, HeldLeaf, Nothing, held, held_leaf, SameNodes}
 use Rattle.art_arena.specs.Links.{AreDistinct, Spells, leaf_at}
 use Rattle.art_arena.specs.Standing.{NodeStands, StandsIn, AllStandIn}
-use Rattle.art_arena.specs.Trees.{Tree, Leaf, Branches, Branch, leaves, branch_leaves, texts, branch_texts, places, root_of, IsSound}
+use Rattle.art_arena.specs.Trees.{Tree, Leaf, Branches, Branch, leaves, branch_leaves, texts, branch_texts, places, root_of, IsSound, IsWellFormed}
 use Rattle.art_tree.specs.Art.{IsAlone, IsArt}
 use Rattle.art_tree.specs.Contexts.{Context, plug, path_to, leaves_before, leaves_after, parent, KeepsAt, IsExchanged, join}
 use Rattle.art_tree.specs.Dictionary.{entry_at}

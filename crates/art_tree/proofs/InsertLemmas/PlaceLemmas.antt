@@ -16,7 +16,7 @@ use Rattle.art_nodes.specs.declared.leaf_node.LeafNode.{LeafNode}
 use Rattle.art_arena.specs.Arena.{NodeArena, HeldInner, HeldLeaf, Nothing, held}
 use Rattle.art_arena.specs.Standing.{StandsIn, AllStandIn, NodeStands, TreeAt, leaf_text}
 use Rattle.art_arena.specs.Trees.{Tree, Leaf, Inner, Branches, NoBranch, Branch, branch_roots, root_of, leaves, texts, branch_texts, branch_leaves, IsSound, AreSound, IsWellFormed}
-use Rattle.art_tree.specs.Contexts.{Context, Under, plug, path_to, leaves_before, leaves_after, join}
+use Rattle.art_tree.specs.Contexts.{Context, Under, plug, path_to, leaves_before, leaves_after}
 use Rattle.art_tree.specs.Dictionary.{Clashes, IsProperPrefixOf}
 use Rattle.art_tree.specs.InsertionPoints.{reach, toward, HasLeafText, IsDescentIn, IsSpotIn, LacksChild, Parts}
 use Rattle.art_tree.specs.declared.insert.insertion_point.Spot.{Spot}

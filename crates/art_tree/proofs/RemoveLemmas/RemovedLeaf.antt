@@ -10,7 +10,7 @@ use Rattle.art_nodes.specs.declared.leaf_node.LeafNode.{LeafNode}
 use Rattle.art_arena.specs.Arena.{NodeArena, HeldLeaf, Nothing, held, held_leaf, SameNodes}
 use Rattle.art_arena.specs.Links.{AreDistinct, Spells, leaf_at}
 use Rattle.art_arena.specs.Standing.{StandsIn}
-use Rattle.art_arena.specs.Trees.{Tree, leaves, places, root_of, texts, IsSound}
+use Rattle.art_arena.specs.Trees.{Tree, leaves, places, root_of, texts, IsSound, IsWellFormed}
 use Rattle.art_tree.specs.Art.{IsAlone}
 use Rattle.art_tree.specs.Contexts.{Context, plug, path_to, leaves_before, leaves_after, parent, Adopts, KeepsAt, IsExchanged}
 use Rattle.art_tree.specs.Dictionary.{entry_at}

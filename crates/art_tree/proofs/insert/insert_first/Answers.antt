@@ -1,5 +1,6 @@
-use Rattle.std.proofs.Common.{◌≡◌, ◌∙◌, [], None, ap, sym, subst, arith}
+use Rattle.std.proofs.Common.{◌≡◌, ◌∙◌, [], ap, sym, subst, arith}
 use Rattle.art_header.specs.declared.node_type.NodeType.TheVariants as kinds
+use Rattle.art_nodes.specs.Leaf.{leaf_key, leaf_value}
 use Rattle.art_arena.specs.Trees.{Leaf}
 use Rattle.art_tree.specs.Art.{IsAlone}
 use Rattle.art_tree.specs.Search.{leaf_pointer}
@@ -28,8 +29,8 @@ pub returns-in-Err : goal.returns-in-Err
 returns-in-Err g c =
     let text = g.K.AsBytes.text in
     let old = c.args.arena.now in
-    let key : c.into_entry.result.0 ≡ c.args.key = search in
-    let value : c.into_entry.result.1 ≡ c.args.value = search in
+    let key : c.into_entry.result.0 ≡ c.args.key = c.into_entry.ensures.key ∙ ap leaf_key c.in-Err.ensures.node_back ∙ c.with_no_siblings.ensures.key in
+    let value : c.into_entry.result.1 ≡ c.args.value = c.into_entry.ensures.value ∙ ap leaf_value c.in-Err.ensures.node_back ∙ c.with_no_siblings.ensures.value in
     let entry : c.into_entry.result ≡ (c.args.key, c.args.value) = ap (λ k. (k, c.into_entry.result.1)) key ∙ ap (λ v. (c.args.key, v)) value in
     record {
       art = tt;

@@ -1,9 +1,13 @@
-use Rattle.std.proofs.Common.{◌≡◌, ◌≢◌}
+use Rattle.std.proofs.Common.{◌≡◌, ◌≢◌, ◌∙◌, ◌&&◌, Bool, true, false, refl, sym, subst, arith, rules}
+use denote.Enum.Bare.{same_true}
+use Rattle.std.proofs.lemmas.Bool.Decides.{nat_tests}
+use Rattle.art_header.specs.contracts.node_type.NodeType.{the_type}
 use Rattle.art_header.specs.NodeType.{most_children}
 use Rattle.art_header.specs.declared.node_type.NodeType.TheVariants.{Leaf}
 use Rattle.art_nodes.specs.Inner.{Inner, HasRoomFor}
-use Rattle.art_nodes.specs.Pointers.{node_kind}
+use Rattle.art_nodes.specs.Pointers.{node_kind, opaque_key}
 use Rattle.art_arena.specs.Arena.{held, HeldInner, Nothing}
+use Rattle.art_tree.specs.Hanging.{IsHung}
 use Rattle.art_tree.proofs.SharedLemmas.ParentLemmas.{hung-there, is-parent}
 use Rattle.art_tree.proofs.node.hang.Goals as goal
 
@@ -18,3 +22,18 @@ write_child-requires g c =
 
 pub returns-clause-room : goal.returns-clause-room
 returns-clause-room g c = c.write_child.ensures.room
+
+both : (a b : Bool) → a && b ≡ true → (a ≡ true) × (b ≡ true)
+both true b is = (refl, is)
+both false b is = absurd (cc)
+
+pub returns-then-eq-clause-hung : goal.returns-then-eq-clause-hung
+returns-then-eq-clause-hung g c =
+    let arena = c.args.arena.now in
+    let node = c.args.node in
+    let before = c.args.before in
+    let equal = both _ _ (sym c.eq.ensures ∙ c.if-eq.true) in
+    let kind : node_kind node ≡ node_kind before = same_true the_type (search rules) _ _ equal.0 in
+    let key : opaque_key node ≡ opaque_key before = grind (arith, nat_tests, equal.1) in
+    let same : node ≡ before = (λ i. record { node_type = kind i; key = key i; leaf = record {} }) in
+    subst (λ child. IsHung arena arena c.args.parent child c.args.root c.args.root) (sym same) (hung-there arena c.args.parent c.in-Some.parent c.in-Some.byte before c.args.root c.requires c.in-Some.is)

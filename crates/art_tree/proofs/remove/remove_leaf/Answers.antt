@@ -1,6 +1,5 @@
-use Rattle.std.proofs.Common.{◌≡◌, ◌∙◌, ℕ, List, [], Contains, Some, arith, refl, ap, sym, subst, inl}
+use Rattle.std.proofs.Common.{◌∙◌, ℕ, List, Contains, Some, arith, refl, ap, sym, subst, inl}
 use Rattle.art_header.specs.declared.node_type.NodeType.{NodeType}
-use Rattle.art_nodes.specs.Leaf.{leaf_key}
 use Rattle.art_arena.specs.Trees.{Tree, Leaf, leaves}
 use Rattle.art_tree.specs.Art.{IsAlone}
 use Rattle.art_tree.specs.Dictionary.{entry_at}

@@ -1,11 +1,11 @@
-use Rattle.std.proofs.Common.{◌≡◌, ◌∙◌, ◌+◌, ◌-◌, drop, length, sym, ap, arith}
+use Rattle.std.proofs.Common.{◌≡◌, ◌∙◌, ◌+◌, drop, sym, ap, arith}
 use Rattle.std.proofs.lemmas.List.{take_rest}
 use Rattle.art_arena.specs.InnerRef.{inner_shown}
 use Rattle.art_arena.specs.Reader.{shown}
 use Rattle.art_arena.proofs.StandingLaws.{inner-there}
 use Rattle.art_tree.specs.InsertionPoints.{toward}
 use Rattle.art_tree.proofs.InsertLemmas.NodeLemmas.{if-none}
-use Rattle.art_tree.proofs.InsertLemmas.TowardLemmas.{child-byte, child-toward, none-toward, leaf-toward}
+use Rattle.art_tree.proofs.InsertLemmas.TowardLemmas.{child-byte, child-toward, none-toward}
 use Rattle.art_tree.proofs.insert.insertion_point.child_toward.Goals as goal
 
 pub returns-in_err-child-clause-none : goal.returns-in_err-child-clause-none

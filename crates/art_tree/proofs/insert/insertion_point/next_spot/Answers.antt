@@ -10,7 +10,7 @@ use Rattle.art_arena.proofs.StandingLaws.{inner-there}
 use Rattle.art_tree.specs.InsertionPoints.{IsSpotIn, child_after, prefix_of}
 use Rattle.art_tree.specs.Search.{leaf_pointer}
 use Rattle.art_tree.proofs.InsertLemmas.NodeLemmas.{leaf-pointer-fits, slice-fits, spot-fits}
-use Rattle.art_tree.proofs.InsertLemmas.PlaceLemmas.{depth-within, at-inner, spot-held, read-counted, matched-within, matched-whole, next-child, node-clash, node-descends, node-lacks, node-parts}
+use Rattle.art_tree.proofs.InsertLemmas.PlaceLemmas.{at-inner, spot-held, read-counted, matched-within, matched-whole, next-child, node-clash, node-descends, node-lacks, node-parts}
 use Rattle.art_arena.proofs.StandingLaws.{at-some}
 use Rattle.art_tree.proofs.insert.insertion_point.next_spot.Goals as goal
 

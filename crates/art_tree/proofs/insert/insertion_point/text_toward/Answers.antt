@@ -7,7 +7,6 @@ use Rattle.art_arena.specs.declared.ends.End.TheVariants.{First}
 use Rattle.art_tree.specs.InsertionPoints.{HasLeafText}
 use Rattle.art_tree.specs.Search.{leaf_pointer}
 use Rattle.art_tree.proofs.InsertLemmas.NodeLemmas.{leaf-pointer-fits, one-leaf}
-use Rattle.art_tree.proofs.InsertLemmas.TowardLemmas.{IsToward}
 use Rattle.art_tree.proofs.SharedLemmas.DictionaryLemmas.{end-in, leaf-held-in}
 use Rattle.art_tree.proofs.insert.insertion_point.text_toward.Goals as goal
 

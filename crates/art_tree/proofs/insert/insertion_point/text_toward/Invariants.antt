@@ -1,4 +1,4 @@
-use Rattle.std.proofs.Common.{◌≡◌, length}
+use Rattle.std.proofs.Common.{length}
 use Rattle.art_arena.specs.Standing.{TreeAt}
 use Rattle.art_tree.proofs.InsertLemmas.TowardLemmas.{IsToward}
 use Rattle.art_tree.proofs.insert.insertion_point.text_toward.Given as goal

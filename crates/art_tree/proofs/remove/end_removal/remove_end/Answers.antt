@@ -1,4 +1,4 @@
-use Rattle.std.proofs.Common.{◌≡◌, ◌∙◌, ℕ, List, [], Option, Some, arith, refl, ap, sym, subst, inl, inr}
+use Rattle.std.proofs.Common.{◌≡◌, ◌∙◌, [], Some, ap, sym, subst, inl, inr}
 use Rattle.std.proofs.lemmas.Result.{IfOk-weaker, on_err_weaker}
 use Rattle.std.proofs.lemmas.Option.{same_Some}
 use Rattle.art_arena.specs.Arena.{held_leaf}

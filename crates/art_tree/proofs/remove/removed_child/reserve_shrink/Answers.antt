@@ -1,5 +1,5 @@
-use Rattle.std.proofs.Common.{rules, ◌≡◌, ◌≢◌, ◌∙◌, ◌<◌, sym, ap, arith}
-use Rattle.art_header.specs.NodeType.{least_children, shrunk_kind}
+use Rattle.std.proofs.Common.{rules, ◌≡◌, ◌≢◌, ◌∙◌, ap, arith}
+use Rattle.art_header.specs.NodeType.{shrunk_kind}
 use Rattle.art_header.specs.declared.node_type.NodeType.TheVariants.{Node4}
 use Rattle.art_nodes.specs.Pointers.{node_kind}
 use Rattle.art_tree.specs.Reserving.{LacksRoomToShrink}

@@ -1,4 +1,4 @@
-use Rattle.std.proofs.Common.{◌≡◌, ◌∙◌, ap, inl, refl, sym, subst}
+use Rattle.std.proofs.Common.{◌∙◌, ap, inl, refl, sym, subst}
 use Rattle.art_header.specs.declared.node_type.NodeType.{NodeType}
 use Rattle.art_arena.specs.Arena.{SameNodes}
 use Rattle.art_tree.specs.Art.{IsArt}

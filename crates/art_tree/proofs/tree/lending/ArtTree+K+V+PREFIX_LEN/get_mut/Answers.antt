@@ -1,4 +1,4 @@
-use Rattle.std.proofs.Common.{◌≡◌, ◌∙◌, ℕ, List, [], refl, ap, sym, subst}
+use Rattle.std.proofs.Common.{◌∙◌, ℕ, List, [], refl, ap, sym, subst}
 use Rattle.std.specs.Option.{ghost_name_of, option_copied_mut, option_map}
 use Rattle.art_nodes.specs.Leaf.{leaf_key, leaf_value, with_value}
 use Rattle.art_nodes.specs.Pointers.{slab_key}

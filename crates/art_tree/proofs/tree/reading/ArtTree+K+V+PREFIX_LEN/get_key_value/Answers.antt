@@ -1,5 +1,4 @@
 use Rattle.std.proofs.Common.{◌∙◌, ap, sym, subst, []}
-use Rattle.std.specs.Option.{option_map}
 use Rattle.art_arena.specs.Standing.{IsTreeIn}
 use Rattle.art_tree.specs.Art.{IsArt}
 use Rattle.art_tree.specs.Dictionary.{entry_at}

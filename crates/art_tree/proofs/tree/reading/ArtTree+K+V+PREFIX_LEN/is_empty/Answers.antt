@@ -1,7 +1,4 @@
-use Rattle.std.proofs.Common.{◌≡◌, ◌∙◌, IsTrue, subst}
-use Rattle.std.specs.Option.{is_some}
-use Rattle.art_nodes.specs.declared.pointers.OpaqueNodePtr.{OpaqueNodePtr}
-use Rattle.art_tree.specs.Art.{IsArt}
+use Rattle.std.proofs.Common.{IsTrue, subst}
 use Rattle.art_tree.specs.Dictionary.{IsEmpty}
 use Rattle.art_tree.proofs.SharedLemmas.DictionaryLemmas.{empty-if-none}
 use Rattle.art_tree.proofs.tree.reading.ArtTree+K+V+PREFIX_LEN.is_empty.Goals as goal
