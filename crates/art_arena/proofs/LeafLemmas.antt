@@ -14,7 +14,7 @@ use Rattle.art_nodes.specs.declared.pointers.OpaqueNodePtr.{OpaqueNodePtr}
 use Rattle.art_nodes.specs.declared.leaf_node.LeafNode.{LeafNode}
 use Rattle.art_arena.specs.Arena.{NodeArena, Held, Nothing, HeldInner, HeldLeaf, held_leaf, held, Changes}
 use Rattle.art_arena.specs.Links.{leaf_at, previous_at, next_at, Spells, SpellsAfter, HoldsLeaf, IsUnlinked, IsKnit, SameButLinks, Joins, StandsBetween, TakesPlace, with_value_at}
-use Rattle.art_arena.specs.Relinking.{SetsNext, SetsPrevious}
+use Rattle.art_arena.specs.Relinking.{SetsBoth, SetsNext, SetsPrevious}
 use Rattle.art_arena.proofs.LinkedLists.{first_or, last_or, last_or-push, last_or-each, first_or-each, first_or-slice_get, Linked, Linked-split, Linked-exchanged, unlinked_is_apart, Each-append, Each-split, Each-weaker, Distinct-from, AreDistinct-from, Distinct-insert, Distinct-remove}
 
 none_differs : (k : ℕ) → None ≢ Some k
@@ -125,17 +125,34 @@ module _ {K V : Type 0} {P : ℕ} where
     other_leaves = λ k not_before not_after. second.other_leaves k not_after ∙ first.other_leaves k not_before;
   }
 
-  -- joined to what is to be before it and then to what is to be after it
-  pub StandsBetween-joined : (old mid new : NodeArena K V P) (before : Option ℕ) (this : ℕ) (after : Option ℕ) → before ≢ Some this → after ≢ Some this → Joins old mid before (Some this) → Joins mid new (Some this) after → StandsBetween old new before this after
-  StandsBetween-joined old mid new before this after not_before not_after first second = record {
-    previous = second.other_previous this not_after ∙ first.previous this refl;
-    next = second.next this refl;
-    before_next = λ k named. second.other_next k (λ same. not_before (named ∙ sym same)) ∙ first.next k named;
-    after_previous = λ k named. second.previous k named;
-    other_next = λ k differ other. second.other_next k (some_differs this k differ) ∙ first.other_next k other;
-    other_previous = λ k differ other. second.other_previous k other ∙ first.other_previous k (some_differs this k differ);
-    other_leaves = λ k differ before_other after_other. second.other_leaves k (some_differs this k differ) after_other ∙ first.other_leaves k before_other (some_differs this k differ);
+  pub SetsBoth-written : (old new : NodeArena K V P) (key : ℕ) (leaf now : LeafNode K V P) (previous next : Option ℕ) → Changes old new (opaque_pointer kinds.Leaf key) (HeldLeaf now) → leaf_at old key ≡ Some leaf → leaf_key now ≡ leaf_key leaf → leaf_value now ≡ leaf_value leaf → previous_key now ≡ previous → next_key now ≡ next → SetsBoth old new key previous next
+  SetsBoth-written old new key leaf now previous next changes found same_key same_value new_previous new_next = record {
+    set_previous = ap (option_and_then previous_key) (leaf_at-changed old new key now changes) ∙ new_previous;
+    set_next = ap (option_and_then next_key) (leaf_at-changed old new key now changes) ∙ new_next;
+    other_leaves = λ k differ. leaf_at-other old new key (HeldLeaf now) changes k differ;
+    contents = SameButLinks-written old new key leaf now changes found same_key same_value;
   }
+
+  SetsBoth-other_previous : (old new : NodeArena K V P) (leaf : ℕ) (previous next : Option ℕ) → SetsBoth old new leaf previous next → (key : ℕ) → key ≢ leaf → previous_at new key ≡ previous_at old key
+  SetsBoth-other_previous old new leaf previous next sets key differ = ap (option_and_then previous_key) (sets.other_leaves key differ)
+
+  SetsBoth-other_next : (old new : NodeArena K V P) (leaf : ℕ) (previous next : Option ℕ) → SetsBoth old new leaf previous next → (key : ℕ) → key ≢ leaf → next_at new key ≡ next_at old key
+  SetsBoth-other_next old new leaf previous next sets key differ = ap (option_and_then next_key) (sets.other_leaves key differ)
+
+  -- named by what is to be before it, then given both neighbours, then named by what is to be after
+  -- it
+  pub StandsBetween-set : (old one two new : NodeArena K V P) (before : Option ℕ) (this : ℕ) (after : Option ℕ) → before ≢ Some this → after ≢ Some this → SetsNext old one before (Some this) → SetsBoth one two this before after → SetsPrevious two new after (Some this) → StandsBetween old new before this after
+  StandsBetween-set old one two new before this after not_before not_after first second third =
+      let apart : (o : Option ℕ) (k : ℕ) → o ≢ Some this → o ≡ Some k → k ≢ this = λ o k other named same. other (named ∙ ap Some same) in
+      record {
+        previous = third.other_previous this not_after ∙ second.set_previous;
+        next = third.next this ∙ second.set_next;
+        before_next = λ k named. third.next k ∙ SetsBoth-other_next one two this before after second k (apart before k not_before named) ∙ first.set k named;
+        after_previous = λ k named. third.set k named;
+        other_next = λ k differ other. third.next k ∙ SetsBoth-other_next one two this before after second k differ ∙ first.other_next k other;
+        other_previous = λ k differ other. third.other_previous k other ∙ SetsBoth-other_previous one two this before after second k differ ∙ first.previous k;
+        other_leaves = λ k differ before_other after_other. third.other_leaves k after_other ∙ second.other_leaves k differ ∙ first.other_leaves k before_other;
+      }
 
   -- a leaf that is held, as a leaf that may be there
   pub ForSome-held : (arena : NodeArena K V P) (leaf : NodePtr P (LeafNode K V P)) → HoldsLeaf arena (slab_key leaf) → ForSome (Some leaf) (λ l. HoldsLeaf arena (slab_key l))
@@ -176,18 +193,21 @@ module _ {K V : Type 0} {P : ℕ} where
   pub apart-from_previous : (arena : NodeArena K V P) (sibling this : ℕ) → IsKnit arena sibling → IsUnlinked arena this → previous_at arena sibling ≢ Some this
   apart-from_previous arena sibling this knit unlinked = λ named. let e : None ≡ Some sibling = sym unlinked.1 ∙ knit.previous this named in cc
 
-  -- inserted where the old leaf is, whose links are then cut on both sides
-  pub TakesPlace-joined : (old mid cut new : NodeArena K V P) (gone this : ℕ) → this ≢ gone → StandsBetween old mid (previous_at old gone) this (next_at old gone) → Joins mid cut None (Some gone) → Joins cut new (Some gone) None → TakesPlace old new gone this
-  TakesPlace-joined old mid cut new gone this apart placed second third = record {
-    unlinked = (third.other_previous gone (none_differs gone) ∙ second.previous gone refl, third.next gone refl);
-    previous = third.other_previous this (none_differs this) ∙ second.other_previous this (some_differs gone this apart) ∙ placed.previous;
-    next = third.other_next this (some_differs gone this apart) ∙ second.other_next this (none_differs this) ∙ placed.next;
-    before_next = λ k differ named. third.other_next k (some_differs gone k differ) ∙ second.other_next k (none_differs k) ∙ placed.before_next k named;
-    after_previous = λ k differ named. third.other_previous k (none_differs k) ∙ second.other_previous k (some_differs gone k differ) ∙ placed.after_previous k named;
-    other_next = λ k not_this not_gone other. third.other_next k (some_differs gone k not_gone) ∙ second.other_next k (none_differs k) ∙ placed.other_next k not_this other;
-    other_previous = λ k not_this not_gone other. third.other_previous k (none_differs k) ∙ second.other_previous k (some_differs gone k not_gone) ∙ placed.other_previous k not_this other;
-    other_leaves = λ k not_this not_gone not_before not_after. third.other_leaves k (some_differs gone k not_gone) (none_differs k) ∙ second.other_leaves k (none_differs k) (some_differs gone k not_gone) ∙ placed.other_leaves k not_this not_before not_after;
-  }
+  -- inserted where the old leaf is, whose links are then cut
+  pub TakesPlace-cut : (old mid new : NodeArena K V P) (gone this : ℕ) → this ≢ gone → StandsBetween old mid (previous_at old gone) this (next_at old gone) → SetsBoth mid new gone None None → TakesPlace old new gone this
+  TakesPlace-cut old mid new gone this apart placed cut =
+      let kept_previous : (k : ℕ) → k ≢ gone → previous_at new k ≡ previous_at mid k = λ k differ. SetsBoth-other_previous mid new gone None None cut k differ in
+      let kept_next : (k : ℕ) → k ≢ gone → next_at new k ≡ next_at mid k = λ k differ. SetsBoth-other_next mid new gone None None cut k differ in
+      record {
+        unlinked = (cut.set_previous, cut.set_next);
+        previous = kept_previous this apart ∙ placed.previous;
+        next = kept_next this apart ∙ placed.next;
+        before_next = λ k differ named. kept_next k differ ∙ placed.before_next k named;
+        after_previous = λ k differ named. kept_previous k differ ∙ placed.after_previous k named;
+        other_next = λ k not_this not_gone other. kept_next k not_gone ∙ placed.other_next k not_this other;
+        other_previous = λ k not_this not_gone other. kept_previous k not_gone ∙ placed.other_previous k not_this other;
+        other_leaves = λ k not_this not_gone not_before not_after. cut.other_leaves k not_gone ∙ placed.other_leaves k not_this not_before not_after;
+      }
 
   Linked-from : (arena : NodeArena K V P) (before : Option ℕ) (keys : List ℕ) → SpellsAfter arena before keys → Linked (next_at arena) (previous_at arena) before keys None
   Linked-from arena before [] spelled = tt

@@ -20,3 +20,10 @@ module _ {K V : Type 0} {P : ℕ} where
     pub next : (key : ℕ) → next_at new key ≡ next_at old key
     pub other_leaves : (key : ℕ) → leaf ≢ Some key → leaf_at new key ≡ leaf_at old key
     pub contents : SameButLinks old new
+
+  -- the neighbours of this leaf are these now, each of which may be none, and no other link changed
+  pub record SetsBoth (old new : NodeArena K V P) (leaf : ℕ) (previous next : Option ℕ) : Type 0 where
+    pub set_previous : previous_at new leaf ≡ previous
+    pub set_next : next_at new leaf ≡ next
+    pub other_leaves : (key : ℕ) → key ≢ leaf → leaf_at new key ≡ leaf_at old key
+    pub contents : SameButLinks old new

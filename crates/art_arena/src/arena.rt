@@ -235,7 +235,7 @@ impl<K, V, const PREFIX_LEN: usize> NodeArena<K, V, PREFIX_LEN> {
         ensures room { (now : _) →
             SameRoom self.old (with_node N.slab_of N.with_slab self.old (slab_key ptr) now) }
     {
-        N::slab_mut(self).get_mut(ptr.key()).unwrap()
+        &mut N::slab_mut(self)[ptr.key()]
     }
 
     /// Replaces the node at the pointer and returns the old one. The arena must hold one there.

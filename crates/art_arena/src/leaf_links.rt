@@ -6,7 +6,7 @@ ghost use Rattle.art_bytes.specs.Text.{text_order};
 ghost use Rattle.art_nodes.specs.Pointers.{slab_key};
 ghost use Rattle.art_arena.specs.Arena.{SameRoom};
 ghost use Rattle.art_arena.specs.Links.{Spells, HoldsLeaf, IsUnlinked, IsKnit, SameButLinks, Joins, StandsBetween, TakesPlace, previous_at, next_at, text_at};
-ghost use Rattle.art_arena.specs.Relinking.{SetsNext, SetsPrevious};
+ghost use Rattle.art_arena.specs.Relinking.{SetsBoth, SetsNext, SetsPrevious};
 
 use crate::arena::NodeArena;
 use art_bytes::AsBytes;
@@ -195,11 +195,9 @@ impl<K: AsBytes, V, const PREFIX_LEN: usize> LeafLinks<K, V, PREFIX_LEN>
         ensures contents { SameButLinks arena.old arena.new }
         ensures room { SameRoom arena.old arena.new }
     {
-        let before = previous_of(arena, old);
-        let after = next_of(arena, old);
+        let (before, after) = neighbours_of(arena, old);
         place(arena, before, this, after);
-        join(arena, None, Some(old));
-        join(arena, Some(old), None);
+        set_both(arena, old, None, None);
     }
 
     fn remove_self(arena: &mut NodeArena<K, V, PREFIX_LEN>, this: NodePtr<PREFIX_LEN, Self>)
@@ -215,8 +213,7 @@ impl<K: AsBytes, V, const PREFIX_LEN: usize> LeafLinks<K, V, PREFIX_LEN>
         ensures contents { SameButLinks arena.old arena.new }
         ensures room { SameRoom arena.old arena.new }
     {
-        let before = previous_of(arena, this);
-        let after = next_of(arena, this);
+        let (before, after) = neighbours_of(arena, this);
         join(arena, before, after);
     }
 
@@ -253,6 +250,23 @@ fn next_of<K, V, const PREFIX_LEN: usize>(
     ensures { option_map slab_key result ≡ next_at arena.now (slab_key leaf) }
 {
     arena.get(leaf)?.next()
+}
+
+// The leaves that this one names as the previous and the next one. The arena must hold it.
+#[inline]
+fn neighbours_of<K, V, const PREFIX_LEN: usize>(
+    arena: &NodeArena<K, V, PREFIX_LEN>,
+    leaf: NodePtr<PREFIX_LEN, LeafNode<K, V, PREFIX_LEN>>,
+) -> (
+    Option<NodePtr<PREFIX_LEN, LeafNode<K, V, PREFIX_LEN>>>,
+    Option<NodePtr<PREFIX_LEN, LeafNode<K, V, PREFIX_LEN>>>,
+)
+    requires { HoldsLeaf arena.now (slab_key leaf) }
+    ensures previous { option_map slab_key result.0 ≡ previous_at arena.now (slab_key leaf) }
+    ensures next { option_map slab_key result.1 ≡ next_at arena.now (slab_key leaf) }
+{
+    let leaf = arena.as_ref(leaf);
+    (leaf.previous(), leaf.next())
 }
 
 // Whether the leaf that this one names as the previous one names it back, if it names one.
@@ -315,8 +329,9 @@ fn place<K, V, const PREFIX_LEN: usize>(
     ensures contents { SameButLinks arena.old arena.new }
     ensures room { SameRoom arena.old arena.new }
 {
-    join(arena, before, Some(this));
-    join(arena, Some(this), after);
+    set_next(arena, before, Some(this));
+    set_both(arena, this, before, after);
+    set_previous(arena, after, Some(this));
 }
 
 // Makes these two neighbours, each of which may be none.
@@ -336,7 +351,24 @@ fn join<K, V, const PREFIX_LEN: usize>(
     set_previous(arena, after, before);
 }
 
+// Sets both neighbours of the leaf, each of which may be none.
+#[inline]
+fn set_both<K, V, const PREFIX_LEN: usize>(
+    arena: &mut NodeArena<K, V, PREFIX_LEN>,
+    leaf: NodePtr<PREFIX_LEN, LeafNode<K, V, PREFIX_LEN>>,
+    previous: Option<NodePtr<PREFIX_LEN, LeafNode<K, V, PREFIX_LEN>>>,
+    next: Option<NodePtr<PREFIX_LEN, LeafNode<K, V, PREFIX_LEN>>>,
+)
+    requires held { HoldsLeaf arena.old (slab_key leaf) }
+    ensures set { SetsBoth arena.old arena.new (slab_key leaf) (option_map slab_key previous)
+        (option_map slab_key next) }
+    ensures room { SameRoom arena.old arena.new }
+{
+    arena.as_mut(leaf).set_links(previous, next);
+}
+
 // Sets the next neighbour of the leaf, which may be none.
+#[inline]
 fn set_next<K, V, const PREFIX_LEN: usize>(
     arena: &mut NodeArena<K, V, PREFIX_LEN>,
     leaf: Option<NodePtr<PREFIX_LEN, LeafNode<K, V, PREFIX_LEN>>>,
@@ -355,6 +387,7 @@ fn set_next<K, V, const PREFIX_LEN: usize>(
 }
 
 // Sets the previous neighbour of the leaf, which may be none.
+#[inline]
 fn set_previous<K, V, const PREFIX_LEN: usize>(
     arena: &mut NodeArena<K, V, PREFIX_LEN>,
     leaf: Option<NodePtr<PREFIX_LEN, LeafNode<K, V, PREFIX_LEN>>>,

@@ -1,16 +1,15 @@
-use Rattle.std.proofs.Common.{◌≡◌, ◌∙◌, Some, refl, sym, ap, rules}
-use Rattle.std.specs.Option.{option_copied_mut}
-use Rattle.slab.specs.Slab.{get}
+use Rattle.std.proofs.Common.{◌≡◌, ◌∙◌, Some, refl, sym, ap, subst, rules}
+use Rattle.slab.specs.Slab.{get, ContainsKey}
 use Rattle.art_arena.specs.Arena.{held_option}
 use Rattle.slab.proofs.SlabLemmas.{Updates-with_value}
-use Rattle.art_arena.proofs.ArenaLemmas.{Changes-written, IsSome-lent_mut, SameRoom-with_value, get-called}
+use Rattle.art_arena.proofs.ArenaLemmas.{Changes-written, SameRoom-with_value}
 use Rattle.art_arena.proofs.arena.NodeArena+K+V+PREFIX_LEN.as_mut.Goals as goal
 
 pub returns : goal.returns
 returns g c =
     let laws = g.met.N.ArenaNode in
     let within = (laws.held_where_contained c.args.self.now c.args.ptr.key).1 c.requires in
-    let found : get (g.N.InSlab.slab_of c.args.self.now) c.args.ptr.key ≡ Some c.unwrap.result.now = sym (ap (λ s. get s c.args.ptr.key) c.slab_mut.ensures.value) ∙ sym (ap (get c.slab_mut.result.now) c.key.ensures) ∙ sym c.get_mut.ensures.value ∙ ap option_copied_mut c.unwrap.ensures in (
+    let found : get (g.N.InSlab.slab_of c.args.self.now) c.args.ptr.key ≡ Some c.index_mut.result.now = sym (ap (λ s. get s c.args.ptr.key) c.slab_mut.ensures.value) ∙ sym (ap (get c.slab_mut.result.now) c.key.ensures) ∙ c.index_mut.ensures.value in (
       (refl, λ w. search rules),
       record {
         writes_back = tt;
@@ -20,7 +19,7 @@ returns g c =
       },
     )
 
-pub unwrap-requires : goal.unwrap-requires
-unwrap-requires g c =
+pub index_mut-requires : goal.index_mut-requires
+index_mut-requires g c =
     let within = (g.met.N.ArenaNode.held_where_contained c.args.self.now c.args.ptr.key).1 c.requires in
-    IsSome-lent_mut c.get_mut.result (c.get_mut.ensures.value ∙ get-called _ _ _ _ c.slab_mut.ensures.value c.key.ensures) within
+    subst (λ s. ContainsKey s c.key.result) (sym c.slab_mut.ensures.value) (subst (ContainsKey (g.N.InSlab.slab_of c.args.self.now)) (sym c.key.ensures) within)
