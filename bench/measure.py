@@ -5,6 +5,7 @@ longer than a short run, and as long for any input.
 """
 
 import fcntl
+import os
 import pathlib
 import subprocess
 import sys
@@ -36,13 +37,13 @@ def output_and_peak(words, given_path):
     The program takes no memory once it writes, and it cannot end before its output is read, since
     the pipe holds less. So its peak is looked up when the first byte has come.
     """
-    with open(given_path, "rb") as given:
-        with subprocess.Popen(
-            [PROGRAM, *words], stdin=given, stdout=subprocess.PIPE, bufsize=0
-        ) as child:
-            fcntl.fcntl(child.stdout, fcntl.F_SETPIPE_SZ, 4096)
-            first = child.stdout.read(1)
+    reader, writer = os.pipe()
+    fcntl.fcntl(writer, fcntl.F_SETPIPE_SZ, 4096)  # before the program writes
+    with open(given_path, "rb") as given, open(reader, "rb", buffering=0) as answers:
+        with subprocess.Popen([PROGRAM, *words], stdin=given, stdout=writer) as child:
+            os.close(writer)
+            first = answers.read(1)
             status = pathlib.Path(f"/proc/{child.pid}/status").read_text()
-            output = first + child.stdout.read()
+            output = first + answers.read()
     peak = next(line.split()[1] for line in status.splitlines() if line.startswith("VmHWM:"))
     return output, int(peak) * 1024

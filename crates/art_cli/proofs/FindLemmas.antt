@@ -1,7 +1,6 @@
 -- The entries of a tree after each command, and what the commands print.
-use Rattle.std.proofs.Common.{◌≡◌, ◌≢◌, ◌∙◌, ℕ, ◌+◌, ◌<◌, ◌≤◌, Bool, true, false, List, [], ◌∷◌, ◌++◌, length, map, All, Contains, Option, None, Some, option_map, IsSomeAnd, MatchOption, bytes_eq, refl, sym, ap, arith, append-nil, append_assoc, subst, take, drop, get_or, add-one}
-use Rattle.std.proofs.Math.Seq.{take-suc}
-use Rattle.std.proofs.lemmas.List.{length-append, map-append, take-append-drop}
+use Rattle.std.proofs.Common.{◌≡◌, ◌≢◌, ◌∙◌, ℕ, ◌+◌, ◌<◌, ◌≤◌, Bool, true, false, List, [], ◌∷◌, ◌++◌, length, All, Contains, Option, None, Some, option_map, IsSomeAnd, MatchOption, bytes_eq, refl, sym, ap, arith, append-nil, append_assoc, subst}
+use Rattle.std.proofs.lemmas.List.{length-append}
 use Rattle.std.proofs.lemmas.Bool.Decides.{not_from_Decides}
 use Rattle.std.proofs.lemmas.List.Elements.{All-filter, Contains-get_or}
 use Rattle.std.proofs.lemmas.Map.{update_same, update_other}
@@ -22,11 +21,11 @@ use Rattle.art_tree.specs.Insertion.{ClashesIn, MayEnter, IsRefused}
 use Rattle.art_tree.specs.declared.insert.InsertRefusal.{InsertRefusal}
 use Rattle.art_tree.specs.declared.insert.InsertRefusal.TheVariants.{KeyTooLong, Prefix, OutOfMemory}
 use Rattle.art_cli.specs.declared.find.command.TreeCommand.{TreeCommand}
-use Rattle.art_cli.specs.declared.find.command.TreeCommand.TheVariants.{Insert, Remove}
+use Rattle.art_cli.specs.declared.find.command.TreeCommand.TheVariants.{Insert, Remove, Find}
 use Rattle.art_cli.specs.declared.failure.Failure.{Failure}
-use Rattle.art_cli.specs.Find.{Entries, no_entries, after, after_all, with_text, IsPrefixOfOther, IsAdmitted, AreAdmitted}
-use Rattle.art_cli.specs.Answer.{HasTheTexts, HoldsEntries, IsReply, AreReplies}
-use Rattle.art_cli.specs.Program.{IsEntryFailure, failure_for}
+use Rattle.art_cli.specs.Find.{Entries, no_entries, after, after_all, IsPrefixOfOther, IsAdmitted, AreAdmitted}
+use Rattle.art_cli.specs.Answer.{HasTheTexts, HoldsEntries, IsCarriedOut, IsReply, AreReplies}
+use Rattle.art_cli.specs.Program.{IsCommandFailure, failure_for}
 
 -- what has no number is no entry
 no_entry : {K : Type 0} (o : Option (K × ℕ)) → option_map (λ entry. entry.1) o ≡ None → o ≡ None
@@ -93,10 +92,10 @@ module _ {K : Type 0} {P : ℕ} (text : K → List ℕ) where
     clashes x clash = (clash.0, has_number clash.0 clash.1, clash.2)
 
     -- and its refusals are those of the entries
-    pub refused : (all before others : List (TreeCommand (List ℕ))) (x : List ℕ) (line : ℕ) (refusal : InsertRefusal) (failure : Failure) → all ≡ before ++ Insert x ∷ others → entries ≡ after_all no_entries before → AreAdmitted no_entries before → line ≡ length before + 1 → IsRefused text arena x refusal → failure ≡ failure_for line refusal → IsEntryFailure all failure
-    refused all before others x line KeyTooLong failure is state are count due told = rw told (before, x, others, is, count, are, due)
-    refused all before others x line Prefix failure is state are count due told = rw told (before, x, others, is, count, are, (due.0, rw (← state) (clashes x due.1)))
-    refused all before others x line OutOfMemory failure is state are count due told = rw told tt
+    pub refused : (x : List ℕ) (line : ℕ) (refusal : InsertRefusal) (failure : Failure) → IsRefused text arena x refusal → failure ≡ failure_for line refusal → IsCommandFailure entries line (Insert x) failure
+    refused x line KeyTooLong failure due is = rw is (refl, due)
+    refused x line Prefix failure due is = rw is (refl, (due.0, clashes x due.1))
+    refused x line OutOfMemory failure due is = rw is tt
 
     -- the texts with entries are those of a tree that has them
     pub same_texts : (tree : Tree (OpaqueNodePtr K ℕ P)) → ((x : List ℕ) → (HasEntry text arena x → Contains (texts tree) x) × (Contains (texts tree) x → HasEntry text arena x)) → HasTheTexts entries tree
@@ -134,28 +133,20 @@ pub record SoFar {K : Type 0} {P : ℕ} (text : K → List ℕ) (arena : NodeAre
   pub next_is : next ≡ (after_all no_entries commands).next
   pub few : next ≤ length commands
 
-module _ {K : Type 0} {P : ℕ} (text : K → List ℕ) where
-  -- after one more
-  pub so_far_one : (old new : NodeArena K ℕ P) (commands all : List (TreeCommand (List ℕ))) (command : TreeCommand (List ℕ)) (next more : ℕ) (output first longer : List ℕ) → SoFar text old commands next output → all ≡ commands ++ command ∷ [] → IsAdmitted (after_all no_entries commands) command → IsReply K P (after_all no_entries commands) command first → HoldsEntries text new (after (after_all no_entries commands) command) → more ≡ (after (after_all no_entries commands) command).next → more ≤ next + 1 → longer ≡ output ++ first → SoFar text new all more longer
-  so_far_one old new commands all command next more output first longer before longer_by is reply holds next_is few printed =
-      let state = sym (after_one no_entries commands command) in
-      rw longer_by record {
-        admitted_all = admitted_one no_entries commands command before.admitted_all is;
-        replies = rw printed (replies_one K P no_entries commands command output first before.replies reply);
-        holds = subst (HoldsEntries text new) state holds;
-        next_is = next_is ∙ ap (λ e. e.next) state;
-        few = omega (arith, few, before.few, length-append commands (command ∷ []));
-      }
+-- the number of the next entry grows by one at most
+next_at_most : (entries : Entries) (command : TreeCommand (List ℕ)) → (after entries command).next ≤ entries.next + 1
+next_at_most entries (Insert key) = omega arith
+next_at_most entries (Remove key) = omega arith
+next_at_most entries (Find key) = omega arith
 
-module _ {K : Type 0} (text : K → List ℕ) where
-  -- the commands up to an index, and the one there
-  pub one_more : (commands : List (TreeCommand K)) (index : ℕ) (item other : TreeCommand K) (command : TreeCommand (List ℕ)) → index < length commands → item ≡ get_or commands index other → with_text text item ≡ command → map (with_text text) (take (index + 1) commands) ≡ map (with_text text) (take index commands) ++ command ∷ []
-  one_more commands index item other command below here is =
-      let cut : take (index + 1) commands ≡ take index commands ++ item ∷ [] = rw (add-one, here) (take-suc commands index other below) in
-      ap (map (with_text text)) cut ∙ map-append (with_text text) (take index commands) (item ∷ []) ∙ ap (λ one. map (with_text text) (take index commands) ++ one ∷ []) is
-
-  -- all of them, with the one at an index
-  pub cut_there : (commands : List (TreeCommand K)) (index : ℕ) (item other : TreeCommand K) (command : TreeCommand (List ℕ)) → index < length commands → item ≡ get_or commands index other → with_text text item ≡ command → map (with_text text) commands ≡ map (with_text text) (take index commands) ++ command ∷ map (with_text text) (drop (index + 1) commands)
-  cut_there commands index item other command below here is =
-      ap (map (with_text text)) (sym (take-append-drop (index + 1) commands)) ∙ map-append (with_text text) (take (index + 1) commands) (drop (index + 1) commands)
-      ∙ ap (λ front. front ++ map (with_text text) (drop (index + 1) commands)) (one_more commands index item other command below here is) ∙ append_assoc (map (with_text text) (take index commands)) (command ∷ []) (map (with_text text) (drop (index + 1) commands))
+-- after one more
+pub so_far_one : {K : Type 0} {P : ℕ} (text : K → List ℕ) (old new : NodeArena K ℕ P) (commands : List (TreeCommand (List ℕ))) (command : TreeCommand (List ℕ)) (next more : ℕ) (output longer : List ℕ) → SoFar text old commands next output → IsCarriedOut text (after_all no_entries commands) command new output longer more → SoFar text new (commands ++ command ∷ []) more longer
+so_far_one {K} {P} text old new commands command next more output longer before one =
+    let state = sym (after_one no_entries commands command) in
+    record {
+      admitted_all = admitted_one no_entries commands command before.admitted_all one.admitted;
+      replies = rw one.reply.1 (replies_one K P no_entries commands command output one.reply.0 before.replies one.reply.2);
+      holds = subst (HoldsEntries text new) state one.holds;
+      next_is = one.next_is ∙ ap (λ e. e.next) state;
+      few = omega (arith, one.next_is, next_at_most (after_all no_entries commands) command, before.next_is, before.few, length-append commands (command ∷ []));
+    }

@@ -4,3 +4,4 @@ mod Numbers
 mod Parts
 mod Writes
 mod FindLemmas
+mod FindLines

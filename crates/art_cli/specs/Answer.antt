@@ -8,7 +8,7 @@ use Rattle.art_tree.specs.Dictionary.{entry_at}
 use Rattle.art_tree.specs.Search.{scan, met, IsPathTo}
 use Rattle.art_tree.specs.declared.path.TreePath.{TreePath}
 use Rattle.art_tree.specs.declared.path.TreePath.TheVariants.{Root, ChildOfRoot, Normal}
-use Rattle.art_cli.specs.Find.{Entries, after}
+use Rattle.art_cli.specs.Find.{Entries, after, IsAdmitted}
 use Rattle.art_cli.specs.Lines.{line}
 use Rattle.art_cli.specs.declared.find.command.TreeCommand.{TreeCommand}
 use Rattle.art_cli.specs.declared.find.command.TreeCommand.TheVariants.{Insert, Remove, Find}
@@ -68,3 +68,12 @@ module _ (K : Type 0) (P : ℕ) where
   AreReplies entries [] output = output ≡ []
   AreReplies entries (command ∷ commands) output =
       (first others : List ℕ) × (output ≡ first ++ others) × IsReply entries command first × AreReplies (after entries command) commands others
+
+module _ {K : Type 0} {P : ℕ} (text : K → List ℕ) where
+  -- a command inserts no entry that is refused beside these, prints what is new in the output, and
+  -- leaves the arena with the entries after it. No public clause cites it
+  pub record IsCarriedOut (entries : Entries) (command : TreeCommand (List ℕ)) (arena : NodeArena K ℕ P) (old new : List ℕ) (next : ℕ) : Type 0 where
+    pub admitted : IsAdmitted entries command
+    pub reply : (printed : List ℕ) × (new ≡ old ++ printed) × IsReply K P entries command printed
+    pub holds : HoldsEntries text arena (after entries command)
+    pub next_is : next ≡ (after entries command).next

@@ -14,9 +14,10 @@ use Rattle.art_cli.specs.Lines.{lines_of, line, SayAll}
 use Rattle.art_cli.specs.Request.{AskFor, AreTaken}
 use Rattle.art_cli.specs.Command.{SayCommands, IsFaultAfter}
 use Rattle.art_cli.specs.Reply.{output_of}
-use Rattle.art_cli.specs.Find.{SayTreeCommand, no_entries, AreAdmitted, AreRefused}
+use Rattle.art_cli.specs.Find.{SayTreeCommand, Entries, no_entries, IsRefusedLine, AreAdmitted, AreRefused}
 use Rattle.art_cli.specs.Answer.{AreReplies}
 use Rattle.art_cli.specs.declared.find.command.TreeCommand.{TreeCommand}
+use Rattle.art_cli.specs.declared.find.command.TreeCommand.TheVariants.{Insert}
 use Rattle.art_tree.specs.declared.insert.InsertRefusal.{InsertRefusal}
 use Rattle.art_tree.specs.declared.insert.InsertRefusal.TheVariants as refusals
 
@@ -57,11 +58,12 @@ failure_for line refusals.KeyTooLong = BadLine line KeyTooLong
 failure_for line refusals.Prefix = BadLine line PrefixOfOther
 failure_for line refusals.OutOfMemory = OutOfMemory
 
--- the failures of commands: the entry in the line of this number is the first that is refused
-abbrev pub IsEntryFailure : List (TreeCommand (List ℕ)) → Failure → Type 0
-IsEntryFailure commands (BadLine number fault) = AreRefused commands number fault
-IsEntryFailure commands OutOfMemory = Unit {0}
-IsEntryFailure commands _ = ⊥
+-- the failures of the command in this line, beside these entries: its entry is refused. No public
+-- clause cites it
+abbrev pub IsCommandFailure : Entries → ℕ → TreeCommand (List ℕ) → Failure → Type 0
+IsCommandFailure entries line (Insert key) (BadLine number fault) = (number ≡ line) × IsRefusedLine entries key fault
+IsCommandFailure entries line command OutOfMemory = Unit {0}
+IsCommandFailure entries line command _ = ⊥
 
 -- the failures of an input of `find`: the line of this number is the first that gives no command;
 -- or each gives one, and the entry there is the first that is refused

@@ -1,4 +1,4 @@
-//! Lines to commands, for `replay` and for `find`.
+//! Lines to commands, for `replay`.
 ghost use Rattle.std.specs.Prelude.{ℕ, List, IfOk, IfErr};
 ghost use Rattle.art_cli.specs.Lines.{lines_of, SayUntil};
 

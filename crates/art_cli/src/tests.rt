@@ -80,7 +80,7 @@ fn nones(alloc: Global, count: usize) -> Result<String, AllocError> {
 }
 
 #[test]
-fn the_longest_failure_is_told_whole(rt: HostRuntime) -> Result<(), Fail> {
+fn the_longest_failure_is_written_whole(rt: HostRuntime) -> Result<(), Fail> {
     let line = "line 18446744073709551615: one key is a front of the other\n";
     let mut errors = Vec::new(rt.alloc());
     let status = Failure::BadLine(usize::MAX, LineFault::PrefixOfOther).report(&mut errors);

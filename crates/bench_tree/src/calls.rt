@@ -1,7 +1,6 @@
 //! The calls that are timed, and the comparison of what they return.
-use crate::dictionary::{Answers, Dictionary, Map, Tree};
-use crate::keys::shuffle;
-use art_tree::AsBytes;
+use crate::dictionary::{Answers, Dictionary, Map, RANGE, Tree};
+use crate::keys::{Key, shuffle};
 use std::io;
 use std::io::Read;
 use std::time::CpuClock;
@@ -21,13 +20,15 @@ pub(crate) enum Mode {
     HoldNothing,
 }
 
-/// A call for each of the keys, or a walk through all entries.
+/// A call for each of the keys, or one that visits all entries. A prefix has so many bytes of a key.
 #[derive(Clone, Copy)]
 enum Call {
     Insert,
     Get,
     Miss,
-    Walk,
+    Iterate,
+    Range,
+    Prefix(usize),
     Remove,
 }
 
@@ -40,7 +41,7 @@ struct Timed {
 
 /// Runs the mode on an empty tree, an empty map and these keys, of which the first half becomes the
 /// entries.
-pub(crate) fn run_calls<K: AsBytes + Ord + Copy>(
+pub(crate) fn run_calls<K: Key>(
     rt: &HostRuntime,
     mode: Mode,
     shape: &str,
@@ -60,7 +61,7 @@ pub(crate) fn run_calls<K: AsBytes + Ord + Copy>(
 }
 
 // Runs all calls, each on the tree and on the map.
-fn compare_all<K: AsBytes + Ord + Copy>(
+fn compare_all<K: Key>(
     rt: &HostRuntime,
     is_timed: bool,
     shape: &str,
@@ -72,13 +73,17 @@ fn compare_all<K: AsBytes + Ord + Copy>(
     shuffle(entries, 3);
     compare(rt, is_timed, shape, Call::Get, (tree, map), entries)?;
     compare(rt, is_timed, shape, Call::Miss, (tree, map), misses)?;
-    compare(rt, is_timed, shape, Call::Walk, (tree, map), entries)?;
+    compare(rt, is_timed, shape, Call::Iterate, (tree, map), entries)?;
+    let (some, _) = entries.split_at(entries.len() / RANGE);
+    compare(rt, is_timed, shape, Call::Range, (tree, map), some)?;
+    let prefix = Call::Prefix(prefix_length(shape));
+    compare(rt, is_timed, shape, prefix, (tree, map), some)?;
     shuffle(entries, 4);
     compare(rt, is_timed, shape, Call::Remove, (tree, map), entries)
 }
 
 // Runs the calls on the tree and then on the map, and prints a line. Fails where they differ.
-fn compare<K: AsBytes + Ord + Copy>(
+fn compare<K: Key>(
     rt: &HostRuntime,
     is_timed: bool,
     shape: &str,
@@ -101,12 +106,24 @@ fn compare<K: AsBytes + Ord + Copy>(
     }
 }
 
+// How many bytes a prefix has. With 100,000 entries, one that some key has stands for 256 dense
+// numbers, and on average for 2.5 random ones or addresses and for some words.
+fn prefix_length(shape: &str) -> usize {
+    match shape {
+        "dense" => 7,
+        "words" => 3,
+        _ => 2,
+    }
+}
+
 fn name_of(call: Call) -> &'static str {
     match call {
         Call::Insert => "insert",
         Call::Get => "get",
         Call::Miss => "miss",
-        Call::Walk => "walk",
+        Call::Iterate => "iterate",
+        Call::Range => "range",
+        Call::Prefix(_) => "prefix",
         Call::Remove => "remove",
     }
 }
@@ -121,7 +138,7 @@ fn hold(rt: &HostRuntime, answers: Answers) -> io::Result<()> {
 }
 
 // The calls, with the time of the processor that they took.
-fn time_calls<K: Copy, D: Dictionary<K>>(
+fn time_calls<K: Key, D: Dictionary<K>>(
     clock: &impl CpuClock,
     call: Call,
     dictionary: &mut D,
@@ -136,17 +153,19 @@ fn time_calls<K: Copy, D: Dictionary<K>>(
     })
 }
 
-fn answers_of<K: Copy, D: Dictionary<K>>(call: Call, dictionary: &mut D, keys: &[K]) -> Answers {
+fn answers_of<K: Key, D: Dictionary<K>>(call: Call, dictionary: &mut D, keys: &[K]) -> Answers {
     match call {
         Call::Insert => insert_all(dictionary, keys),
         Call::Get | Call::Miss => get_all(dictionary, keys),
-        Call::Walk => dictionary.walk(),
+        Call::Iterate => iterate(dictionary),
+        Call::Range => range_from_all(dictionary, keys),
+        Call::Prefix(length) => prefix_of_all(dictionary, length, keys),
         Call::Remove => remove_all(dictionary, keys),
     }
 }
 
 #[inline(never)]
-fn insert_all<K: Copy, D: Dictionary<K>>(dictionary: &mut D, keys: &[K]) -> Answers {
+fn insert_all<K: Key, D: Dictionary<K>>(dictionary: &mut D, keys: &[K]) -> Answers {
     let mut answers = Answers::new();
     for (number, key) in keys.iter().enumerate() {
         answers.add_result(dictionary.insert(*key, number as u64));
@@ -155,7 +174,7 @@ fn insert_all<K: Copy, D: Dictionary<K>>(dictionary: &mut D, keys: &[K]) -> Answ
 }
 
 #[inline(never)]
-fn get_all<K: Copy, D: Dictionary<K>>(dictionary: &D, keys: &[K]) -> Answers {
+fn get_all<K: Key, D: Dictionary<K>>(dictionary: &D, keys: &[K]) -> Answers {
     let mut answers = Answers::new();
     for key in keys {
         answers.add(dictionary.get(key));
@@ -164,10 +183,37 @@ fn get_all<K: Copy, D: Dictionary<K>>(dictionary: &D, keys: &[K]) -> Answers {
 }
 
 #[inline(never)]
-fn remove_all<K: Copy, D: Dictionary<K>>(dictionary: &mut D, keys: &[K]) -> Answers {
+fn remove_all<K: Key, D: Dictionary<K>>(dictionary: &mut D, keys: &[K]) -> Answers {
     let mut answers = Answers::new();
     for key in keys {
         answers.add_result(dictionary.remove(key));
+    }
+    answers
+}
+
+#[inline(never)]
+fn iterate<K: Key, D: Dictionary<K>>(dictionary: &D) -> Answers {
+    let mut answers = Answers::new();
+    dictionary.iterate(&mut answers);
+    answers
+}
+
+#[inline(never)]
+fn range_from_all<K: Key, D: Dictionary<K>>(dictionary: &D, keys: &[K]) -> Answers {
+    let mut answers = Answers::new();
+    for key in keys {
+        dictionary.range(key, &mut answers);
+    }
+    answers
+}
+
+#[inline(never)]
+fn prefix_of_all<K: Key, D: Dictionary<K>>(dictionary: &D, length: usize, keys: &[K]) -> Answers {
+    let mut answers = Answers::new();
+    for key in keys {
+        let bytes = key.as_bytes();
+        let start = key.least_with_prefix(length);
+        dictionary.prefix(&start, bytes.get(..length).unwrap_or(bytes), &mut answers);
     }
     answers
 }

@@ -1,9 +1,15 @@
-//! What is measured: the calls of a dictionary, for the tree and for std's map.
-use art_tree::{ArtTree, AsBytes, End, end_leaf};
+//! What is measured: the calls of a dictionary, for the map of `art_map` and for that of std.
+use crate::keys::Key;
+use art_map::{ArtMap, DEFAULT_PREFIX_LEN};
+use art_tree::SliceKey;
 use std::collections::BTreeMap;
+use std::ops::Bound;
 
-/// The tree, whose nodes store 16 bytes of a prefix.
-pub(crate) type Tree<K> = ArtTree<K, u64, 16>;
+/// How many entries are visited from a key on.
+pub(crate) const RANGE: usize = 100;
+
+/// The map over an adaptive radix tree.
+pub(crate) type Tree<K> = ArtMap<K, u64, DEFAULT_PREFIX_LEN>;
 
 /// Std's map.
 pub(crate) type Map<K> = BTreeMap<K, u64>;
@@ -66,56 +72,63 @@ pub(crate) trait Dictionary<K> {
     /// Removes the entry of a key, and returns its number.
     fn remove(&mut self, key: &K) -> Result<Option<u64>, Refused>;
 
-    /// Visits the entries in order, from the first to the last.
-    fn walk(&self) -> Answers;
+    /// Visits all entries in order.
+    fn iterate(&self, answers: &mut Answers);
+
+    /// Visits the first [`RANGE`] entries from this key on.
+    fn range(&self, start: &K, answers: &mut Answers);
+
+    /// Visits the entries whose keys begin with these bytes. None of those keys is below `start`.
+    fn prefix(&self, start: &K, bytes: &[u8], answers: &mut Answers);
 }
 
-impl<K: AsBytes + Copy> Dictionary<K> for Tree<K> {
+impl<K: Key> Dictionary<K> for Tree<K> {
     #[inline]
     fn insert(&mut self, key: K, number: u64) -> Result<Option<u64>, Refused> {
-        match ArtTree::insert(self, key, number) {
-            Ok(replaced) => Ok(number_of(replaced)),
+        match ArtMap::insert(self, key, number) {
+            Ok(Some((_, replaced))) => Ok(Some(replaced)),
+            Ok(None) => Ok(None),
             Err(_) => Err(Refused),
         }
     }
 
     #[inline]
     fn get(&self, key: &K) -> Option<u64> {
-        Some(*ArtTree::get(self, key.as_bytes())?)
+        Some(*ArtMap::get(self, key)?)
     }
 
     #[inline]
     fn remove(&mut self, key: &K) -> Result<Option<u64>, Refused> {
-        match ArtTree::remove(self, key.as_bytes()) {
-            Ok(removed) => Ok(number_of(removed)),
+        match ArtMap::remove(self, key) {
+            Ok(removed) => Ok(removed),
             Err(_) => Err(Refused),
         }
     }
 
     #[inline(never)]
-    fn walk(&self) -> Answers {
-        let mut answers = Answers::new();
-        let arena = self.arena();
-        let mut next = match self.root() {
-            Some(root) => Some(end_leaf(arena, root, End::First)),
-            None => None,
-        };
-        for _ in 0..u64::MAX {
-            let Some(leaf) = next else {
-                break;
-            };
-            if !arena.holds(leaf) {
-                break;
-            }
-            let leaf = arena.as_ref(leaf);
-            answers.add(Some(*leaf.value_ref()));
-            next = leaf.next();
+    fn iterate(&self, answers: &mut Answers) {
+        for (_, number) in self.iter() {
+            answers.add(Some(*number));
         }
-        answers
+    }
+
+    #[inline(never)]
+    fn range(&self, start: &K, answers: &mut Answers) {
+        let entries = ArtMap::range(self, Bound::Included(start), Bound::Unbounded);
+        for (_, number) in entries.take(RANGE) {
+            answers.add(Some(*number));
+        }
+    }
+
+    #[inline(never)]
+    fn prefix(&self, _start: &K, bytes: &[u8], answers: &mut Answers) {
+        for (_, number) in ArtMap::prefix(self, &SliceKey::new(bytes)) {
+            answers.add(Some(*number));
+        }
     }
 }
 
-impl<K: Ord + Copy> Dictionary<K> for Map<K> {
+impl<K: Key> Dictionary<K> for Map<K> {
     #[inline]
     fn insert(&mut self, key: K, number: u64) -> Result<Option<u64>, Refused> {
         match BTreeMap::insert(self, key, number) {
@@ -135,16 +148,27 @@ impl<K: Ord + Copy> Dictionary<K> for Map<K> {
     }
 
     #[inline(never)]
-    fn walk(&self) -> Answers {
-        let mut answers = Answers::new();
+    fn iterate(&self, answers: &mut Answers) {
         for (_, number) in self.iter() {
             answers.add(Some(*number));
         }
-        answers
     }
-}
 
-fn number_of<K: Copy>(entry: Option<(K, u64)>) -> Option<u64> {
-    let (_, number) = entry?;
-    Some(number)
+    #[inline(never)]
+    fn range(&self, start: &K, answers: &mut Answers) {
+        let entries = BTreeMap::range(self, (Bound::Included(start), Bound::Unbounded));
+        for (_, number) in entries.take(RANGE) {
+            answers.add(Some(*number));
+        }
+    }
+
+    #[inline(never)]
+    fn prefix(&self, start: &K, bytes: &[u8], answers: &mut Answers) {
+        for (key, number) in BTreeMap::range(self, (Bound::Included(start), Bound::Unbounded)) {
+            if !key.as_bytes().starts_with(bytes) {
+                break;
+            }
+            answers.add(Some(*number));
+        }
+    }
 }

@@ -1,7 +1,32 @@
 //! Keys of a fixed length. The first half of each list is for entries, the second half for keys that
 //! have none. All keys of a list differ. A list is allocated once, so that no memory that its growth has
 //! freed is there for the entries.
+use art_tree::{AsBytes, SliceKey};
 use std::alloc::{AllocError, Global};
+
+/// A key that a benchmark takes a prefix of.
+pub(crate) trait Key: AsBytes + Ord + Copy {
+    /// A key that begins with the first bytes of this one, so many or all. No key that begins with
+    /// them is below it.
+    fn least_with_prefix(&self, count: usize) -> Self;
+}
+
+impl<const N: usize> Key for [u8; N] {
+    fn least_with_prefix(&self, count: usize) -> [u8; N] {
+        let mut least = *self;
+        for byte in least.iter_mut().skip(count) {
+            *byte = 0;
+        }
+        least
+    }
+}
+
+impl<'a> Key for SliceKey<'a> {
+    fn least_with_prefix(&self, count: usize) -> SliceKey<'a> {
+        let bytes = self.get();
+        SliceKey::new(bytes.get(..count).unwrap_or(bytes))
+    }
+}
 
 /// The numbers from 0 on.
 pub(crate) fn dense_numbers(alloc: Global, count: u64) -> Result<Vec<[u8; 8]>, AllocError> {

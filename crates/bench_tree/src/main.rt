@@ -1,4 +1,4 @@
-//! The program `bench_tree`: `ArtTree` beside `BTreeMap` of std on the same calls. `bench/tree` runs
+//! The program `bench_tree`: `ArtMap` beside `BTreeMap` of std on the same calls. `bench/tree` runs
 //! it.
 //!
 //! - `check N`: the calls for each shape of keys, with N entries; prints how many keys each call

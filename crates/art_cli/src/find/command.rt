@@ -1,13 +1,12 @@
 //! The lines of `find` to its commands.
-ghost use Rattle.std.specs.Prelude.{◌≡◌, map, is_none, IfOk, IfSome};
+ghost use Rattle.std.specs.Prelude.{◌≡◌, ◌<◌, ◌∷◌, [], false, length, IfOk, IfErr};
 ghost use Rattle.art_bytes.specs.SliceKey.{slice_key_text};
 ghost use Rattle.art_cli.specs.Lines.{lines_of, SayAll};
-ghost use Rattle.art_cli.specs.Find.{SayTreeCommand, with_text};
+ghost use Rattle.art_cli.specs.Find.{SayTreeCommand, command_line, with_text};
 
-use crate::commands::{LineCommand, commands_of};
-use crate::failure::LineFault;
+use crate::failure::{Failure, LineFault};
+use crate::lines::first_line;
 use art_tree::SliceKey;
-use std::alloc::{AllocError, Global};
 
 /// A command on the tree, by the key of an entry.
 #[derive(Clone, Copy)]
@@ -20,41 +19,46 @@ pub(crate) enum TreeCommand<K> {
     Find(K),
 }
 
-/// The commands of the lines up to the first that gives none, one a line, and the fault of that
-/// one: it is no command.
+/// The command of the first line, and the bytes after that line. There must be a byte.
 ///
-/// An error is an allocation failure.
-pub(crate) fn parse(
-    alloc: Global,
-    input: &[u8],
-) -> Result<(Vec<TreeCommand<SliceKey<'_>>>, Option<LineFault>), AllocError>
-    ensures said { IfOk result (λ parsed. SayAll SayTreeCommand (lines_of input.now)
-        (map (with_text slice_key_text) parsed.0.items) (is_none parsed.1)) }
-    ensures fault { IfOk result (λ parsed. IfSome parsed.1
-        (λ fault. fault ≡ LineFault.UnknownCommand)) }
+/// A line that gives no command is the failure of the line with this number.
+pub(crate) fn first_command(
+    number: usize,
+    bytes: &[u8],
+) -> Result<(TreeCommand<SliceKey<'_>>, &[u8]), Failure>
+    requires { 0 < length bytes.now }
+    ensures said { IfOk result (λ first. lines_of bytes.now
+        ≡ command_line (with_text slice_key_text first.0) ∷ lines_of first.1.now) }
+    ensures shorter { IfOk result (λ first. length first.1.now < length bytes.now) }
+    ensures nothing_said { IfErr result (λ failure.
+        (failure ≡ Failure.BadLine number LineFault.UnknownCommand)
+        × SayAll SayTreeCommand (lines_of bytes.now) [] false) }
 {
-    commands_of(alloc, input)
+    let (line, after) = first_line(bytes);
+    match TreeCommand::of_line(line) {
+        Some(command) => Ok((command, after)),
+        None => Err(Failure::BadLine(number, LineFault::UnknownCommand)),
+    }
 }
 
-impl<'a> LineCommand<'a> for TreeCommand<SliceKey<'a>> {
-    ghost use Rattle.std.specs.Prelude.{◌≡◌, ℕ, List};
+impl<'a> TreeCommand<SliceKey<'a>> {
+    ghost use Rattle.std.specs.Prelude.{ℕ, List, MatchOption};
     ghost use Rattle.art_bytes.specs.SliceKey.{slice_key_text};
     ghost use Rattle.art_cli.specs.Find.{SayTreeCommand, with_text};
     ghost use Rattle.art_cli.specs.declared.find.command.TreeCommand.{TreeCommand};
-    ghost use Rattle.art_cli.specs.declared.failure.LineFault.TheVariants.{UnknownCommand};
 
-    ghost says = { λ line command. SayTreeCommand line (with_text slice_key_text command) };
-
-    ghost is_at_fault = { λ line fault. (fault ≡ UnknownCommand)
-        × ((command : TreeCommand (List ℕ)) → ¬ SayTreeCommand line command) };
-
-    // The first byte of a line decides its command.
-    fn of_line(line: &'a [u8]) -> Result<TreeCommand<SliceKey<'a>>, LineFault> {
+    /// The command of a line, without the byte that ends it, or None where it gives none. Its first
+    /// byte decides.
+    fn of_line(line: &'a [u8]) -> Option<TreeCommand<SliceKey<'a>>>
+        ensures { MatchOption result
+            ((command : TreeCommand (List ℕ)) → ¬ SayTreeCommand line.now command)
+            (λ command. SayTreeCommand line.now (with_text slice_key_text command)) }
+    {
         match line {
-            [b'+', key @ ..] => Ok(TreeCommand::Insert(SliceKey::new(key))),
-            [b'-', key @ ..] => Ok(TreeCommand::Remove(SliceKey::new(key))),
-            [b'?', key @ ..] => Ok(TreeCommand::Find(SliceKey::new(key))),
-            _ => Err(LineFault::UnknownCommand),
+            [b'+', key @ ..] => Some(TreeCommand::Insert(SliceKey::new(key))),
+            [b'-', key @ ..] => Some(TreeCommand::Remove(SliceKey::new(key))),
+            [b'?', key @ ..] => Some(TreeCommand::Find(SliceKey::new(key))),
+            _ => None,
         }
     }
 }

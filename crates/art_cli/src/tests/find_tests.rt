@@ -219,7 +219,7 @@ fn entries_nested_200_deep_are_entered_and_removed(rt: HostRuntime) -> Result<()
 }
 
 #[test]
-fn the_first_fault_of_lines_and_entries_is_told(rt: HostRuntime) -> Result<(), Fail> {
+fn the_first_fault_of_lines_and_entries_is_reported(rt: HostRuntime) -> Result<(), Fail> {
     let cases: [(&[u8], &str); 12] = [
         (b"+b\n+a\nx\n", "line 3: unknown command\n"),
         (b"+a\n+ab\n", "line 2: one key is a front of the other\n"),

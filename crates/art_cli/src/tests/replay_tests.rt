@@ -72,7 +72,7 @@ fn the_node_grows_and_shrinks_with_its_children(rt: HostRuntime) -> Result<(), F
 }
 
 #[test]
-fn the_first_fault_of_a_line_is_told(rt: HostRuntime) -> Result<(), Fail> {
+fn the_first_fault_of_a_line_is_reported(rt: HostRuntime) -> Result<(), Fail> {
     let cases: [(&[u8], &str); 30] = [
         (b"w 1 1\nw 256 1\n", "line 2: bad number\n"),
         (b"w 1\n", "line 1: wrong number of words\n"),
