@@ -1,6 +1,11 @@
 //! Nodes built child by child. (`node_fixtures` builds those of the greater kinds.)
-use super::node_fixtures::{Pointer, leaf};
-use art_nodes::{InnerNode4, InnerNodeCommon, InnerNodeRead, NodePtr, NodeType};
+ghost use Rattle.std.specs.Prelude.{◌≤◌};
+ghost use Rattle.std.specs.Mem.{FitsInMemory};
+
+use super::node_fixtures::{Pointer, leaf, pair, write};
+use art_nodes::{
+    InnerNode4, InnerNode16, InnerNode48, InnerNodeCommon, InnerNodeDirect, InnerNodeRead, NodePtr,
+};
 use std::process::Abort;
 
 // The pointer to the small node with a slab key.
@@ -49,19 +54,26 @@ fn a_builder_tells_what_was_written(rt: HostRuntime) {
     assert!(rt; builder.lookup_child(0).is_none());
 }
 
-// The child that a node with these two returns from `any_child_prefer_leaf`.
-fn preferred(low: Pointer, high: Pointer) -> Pointer {
-    InnerNode4::<u8, u8, 16>::builder(&[], 0)
-        .write_child(1, low)
-        .write_child(2, high)
-        .build()
-        .any_child_prefer_leaf()
+// A node with a child that is an inner node under 3 and 5 prefers a leaf under a greater byte.
+fn prefers_a_leaf<N: InnerNodeCommon<u8, u8, 16> + Drop>(rt: &impl Abort)
+    requires memory { FitsInMemory N.row }
+    requires room { 2 ≤ N.room }
+{
+    let mut node: N = pair(rt, &[], small_node(1));
+    assert!(rt; node.num_children() >= 2);
+    assert!(rt; node.any_child_prefer_leaf() == small_node(1));
+    node.remove_child(5);
+    write::<16, N>(rt, &mut node, 5, 2);
+    assert!(rt; node.num_children() >= 2);
+    assert!(rt; node.any_child_prefer_leaf() == leaf(2));
 }
 
 #[test]
-fn some_child_is_a_leaf_where_there_is_one(rt: HostRuntime) {
-    assert!(rt; preferred(small_node(1), leaf(2)) == leaf(2));
-    assert!(rt; preferred(small_node(1), small_node(2)).node_type() == NodeType::Node4);
+fn each_kind_prefers_a_child_that_is_a_leaf(rt: HostRuntime) {
+    prefers_a_leaf::<InnerNode4<u8, u8, 16>>(&rt);
+    prefers_a_leaf::<InnerNode16<u8, u8, 16>>(&rt);
+    prefers_a_leaf::<InnerNode48<u8, u8, 16>>(&rt);
+    prefers_a_leaf::<InnerNodeDirect<u8, u8, 16>>(&rt);
 }
 
 #[test]

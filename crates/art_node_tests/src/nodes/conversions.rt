@@ -74,7 +74,7 @@ where
     let mut node: N = with_bytes(rt, &[]);
     for byte in bytes {
         assert!(rt; !node.is_full());
-        write(rt, &mut node, *byte, 0);
+        write::<16, N>(rt, &mut node, *byte, 0);
     }
     assert!(rt; node.is_full());
     node.remove_child(0);
@@ -94,7 +94,7 @@ fn takes_over_a_prefix<N: InnerNodeCommon<u8, u8, 16> + Drop>(rt: &impl Abort)
     requires memory { FitsInMemory N.row }
     requires room { 2 ≤ N.room }
 {
-    let mut node: N = node_of(rt, b"other", &[(7, 7)]);
+    let mut node: N = node_of::<16, N>(rt, b"other", &[(7, 7)]);
     node.set_prefix(&Header::new(b"prefix", 6));
     has_children(rt, &node, &[7]);
 }
@@ -116,5 +116,12 @@ fn each_representation_becomes_each_other(rt: HostRuntime) {
     sorted_has(&rt, &InnerNode4::from_direct(&direct), &bytes);
     assert!(&rt; indirect.num_children() <= 4);
     sorted_has(&rt, &InnerNode4::from_indirect(&indirect), &bytes);
+}
+
+#[test]
+fn each_kind_takes_over_a_prefix(rt: HostRuntime) {
     takes_over_a_prefix::<InnerNode4<u8, u8, 16>>(&rt);
+    takes_over_a_prefix::<InnerNode16<u8, u8, 16>>(&rt);
+    takes_over_a_prefix::<InnerNode48<u8, u8, 16>>(&rt);
+    takes_over_a_prefix::<InnerNodeDirect<u8, u8, 16>>(&rt);
 }

@@ -75,7 +75,7 @@ fn keeps_children<N: InnerNodeCommon<u8, u8, 16> + Drop>(rt: &impl Abort, bytes:
     requires memory { FitsInMemory N.row }
     requires room { 2 ≤ N.room }
 {
-    let node: N = node_of(rt, &[], &[(1, 1), (3, 2), (123, 3)]);
+    let node: N = node_of::<16, N>(rt, &[], &[(1, 1), (3, 2), (123, 3)]);
     assert!(rt; node.lookup_child(123) == Some(leaf(3)));
     assert!(rt; node.lookup_child(3) == Some(leaf(2)));
     assert!(rt; node.lookup_child(4) == None);

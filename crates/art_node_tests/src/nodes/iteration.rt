@@ -2,17 +2,25 @@
 ghost use Rattle.std.specs.Prelude.{◌≤◌};
 ghost use Rattle.std.specs.Mem.{FitsInMemory};
 
-use super::node_fixtures::{Pointer, has_range, leaf, node_of};
+use super::node_fixtures::{has_range, leaf, node_of};
 use art_nodes::{
-    InnerNode4, InnerNode16, InnerNode48, InnerNodeCommon, InnerNodeDirect, valid_range_bounds,
+    InnerNode4, InnerNode16, InnerNode48, InnerNodeCommon, InnerNodeDirect, OpaqueNodePtr,
+    valid_range_bounds,
 };
 use std::iter::FusedIterator;
 use std::ops::Bound::{self, Excluded, Included, Unbounded};
 use std::process::Abort;
 
+// A byte with the pointer to its child.
+type Pair<const PREFIX_LEN: usize> = (u8, OpaqueNodePtr<u8, u8, PREFIX_LEN>);
+
 fn is_fused<I: FusedIterator>(_iter: &I) {}
 
-fn goes_up<N: InnerNodeCommon<u8, u8, 16>>(rt: &impl Abort, node: &N, sorted: &[(u8, Pointer)]) {
+fn goes_up<const PREFIX_LEN: usize, N: InnerNodeCommon<u8, u8, PREFIX_LEN>>(
+    rt: &impl Abort,
+    node: &N,
+    sorted: &[Pair<PREFIX_LEN>],
+) {
     let mut pairs = node.iter();
     is_fused(&pairs);
     for pair in sorted {
@@ -22,7 +30,11 @@ fn goes_up<N: InnerNodeCommon<u8, u8, 16>>(rt: &impl Abort, node: &N, sorted: &[
     assert!(rt; pairs.next() == None);
 }
 
-fn goes_down<N: InnerNodeCommon<u8, u8, 16>>(rt: &impl Abort, node: &N, sorted: &[(u8, Pointer)]) {
+fn goes_down<const PREFIX_LEN: usize, N: InnerNodeCommon<u8, u8, PREFIX_LEN>>(
+    rt: &impl Abort,
+    node: &N,
+    sorted: &[Pair<PREFIX_LEN>],
+) {
     let mut pairs = node.iter();
     for pair in sorted.iter().rev() {
         assert!(rt; pairs.next_back() == Some(*pair));
@@ -31,10 +43,10 @@ fn goes_down<N: InnerNodeCommon<u8, u8, 16>>(rt: &impl Abort, node: &N, sorted: 
     assert!(rt; pairs.next() == None);
 }
 
-fn goes_from_both_ends<N: InnerNodeCommon<u8, u8, 16>>(
+fn goes_from_both_ends<const PREFIX_LEN: usize, N: InnerNodeCommon<u8, u8, PREFIX_LEN>>(
     rt: &impl Abort,
     node: &N,
-    [first, second, third, fourth]: [(u8, Pointer); 4],
+    [first, second, third, fourth]: [Pair<PREFIX_LEN>; 4],
 ) {
     let mut pairs = node.iter();
     assert!(rt; pairs.next() == Some(first));
@@ -46,15 +58,17 @@ fn goes_from_both_ends<N: InnerNodeCommon<u8, u8, 16>>(
 }
 
 // Up, down, and from both ends in turn. After the last pair every call returns `None`.
-fn goes_both_ways<N: InnerNodeCommon<u8, u8, 16> + Drop>(rt: &impl Abort)
+fn goes_both_ways<const PREFIX_LEN: usize, N: InnerNodeCommon<u8, u8, PREFIX_LEN> + Drop>(
+    rt: &impl Abort,
+)
     requires memory { FitsInMemory N.row }
     requires room { 2 ≤ N.room }
 {
-    let node: N = node_of(rt, &[], &[(3, 1), (255, 2), (0, 3), (85, 4)]);
-    let sorted: [(u8, Pointer); 4] = [(0, leaf(3)), (3, leaf(1)), (85, leaf(4)), (255, leaf(2))];
-    goes_up(rt, &node, &sorted);
-    goes_down(rt, &node, &sorted);
-    goes_from_both_ends(rt, &node, sorted);
+    let node: N = node_of::<PREFIX_LEN, N>(rt, &[], &[(3, 1), (255, 2), (0, 3), (85, 4)]);
+    let sorted: [Pair<PREFIX_LEN>; 4] = [(0, leaf(3)), (3, leaf(1)), (85, leaf(4)), (255, leaf(2))];
+    goes_up::<PREFIX_LEN, N>(rt, &node, &sorted);
+    goes_down::<PREFIX_LEN, N>(rt, &node, &sorted);
+    goes_from_both_ends::<PREFIX_LEN, N>(rt, &node, sorted);
 }
 
 // Two bounds, and the bytes between them, each with the key of the leaf under it.
@@ -97,29 +111,53 @@ const SECOND_RANGES: [Range; 13] = [
     (Excluded(255), Unbounded, &[]),
 ];
 
-fn has_ranges<N: InnerNodeCommon<u8, u8, 16>>(rt: &impl Abort, node: &N, ranges: &[Range]) {
+fn has_ranges<const PREFIX_LEN: usize, N: InnerNodeCommon<u8, u8, PREFIX_LEN>>(
+    rt: &impl Abort,
+    node: &N,
+    ranges: &[Range],
+) {
     for (start, end, written) in ranges {
-        has_range(rt, node, *start, *end, written);
+        has_range::<PREFIX_LEN, N>(rt, node, *start, *end, written);
     }
 }
 
-fn iterates<N: InnerNodeCommon<u8, u8, 16> + Drop>(rt: &impl Abort)
+fn iterates<const PREFIX_LEN: usize, N: InnerNodeCommon<u8, u8, PREFIX_LEN> + Drop>(rt: &impl Abort)
     requires memory { FitsInMemory N.row }
     requires room { 2 ≤ N.room }
 {
-    goes_both_ways::<N>(rt);
-    let first: N = node_of(rt, &[], &[(3, 1), (255, 2), (0, 3), (85, 4)]);
-    has_ranges(rt, &first, &FIRST_RANGES);
-    let second: N = node_of(rt, &[], &[(3, 1), (254, 2), (2, 3), (85, 4)]);
-    has_ranges(rt, &second, &SECOND_RANGES);
+    goes_both_ways::<PREFIX_LEN, N>(rt);
+    let first: N = node_of::<PREFIX_LEN, N>(rt, &[], &[(3, 1), (255, 2), (0, 3), (85, 4)]);
+    has_ranges::<PREFIX_LEN, N>(rt, &first, &FIRST_RANGES);
+    let second: N = node_of::<PREFIX_LEN, N>(rt, &[], &[(3, 1), (254, 2), (2, 3), (85, 4)]);
+    has_ranges::<PREFIX_LEN, N>(rt, &second, &SECOND_RANGES);
+}
+
+#[test]
+fn each_kind_iterates_with_no_stored_byte(rt: HostRuntime) {
+    iterates::<0, InnerNode4<u8, u8, 0>>(&rt);
+    iterates::<0, InnerNode16<u8, u8, 0>>(&rt);
+    iterates::<0, InnerNode48<u8, u8, 0>>(&rt);
+    iterates::<0, InnerNodeDirect<u8, u8, 0>>(&rt);
+}
+
+#[test]
+fn each_kind_iterates_with_two_stored_bytes(rt: HostRuntime) {
+    iterates::<2, InnerNode4<u8, u8, 2>>(&rt);
+    iterates::<2, InnerNode16<u8, u8, 2>>(&rt);
+    iterates::<2, InnerNode48<u8, u8, 2>>(&rt);
+    iterates::<2, InnerNodeDirect<u8, u8, 2>>(&rt);
 }
 
 #[test]
 fn each_kind_iterates(rt: HostRuntime) {
-    iterates::<InnerNode4<u8, u8, 16>>(&rt);
-    iterates::<InnerNode16<u8, u8, 16>>(&rt);
-    iterates::<InnerNode48<u8, u8, 16>>(&rt);
-    iterates::<InnerNodeDirect<u8, u8, 16>>(&rt);
+    iterates::<16, InnerNode4<u8, u8, 16>>(&rt);
+    iterates::<16, InnerNode16<u8, u8, 16>>(&rt);
+    iterates::<16, InnerNode48<u8, u8, 16>>(&rt);
+    iterates::<16, InnerNodeDirect<u8, u8, 16>>(&rt);
+}
+
+#[test]
+fn bounds_that_no_byte_can_meet_are_invalid(rt: HostRuntime) {
     assert!(rt; !valid_range_bounds(Excluded(80), Excluded(80)));
     assert!(rt; !valid_range_bounds(Excluded(80), Included(0)));
     assert!(rt; valid_range_bounds(Excluded(80), Included(80)));

@@ -14,7 +14,7 @@ pub(crate) fn leaf<const PREFIX_LEN: usize>(key: usize) -> OpaqueNodePtr<u8, u8,
 }
 
 /// Writes the leaf with this key under a new byte. Condition: the node has spare capacity.
-pub(crate) fn write<N: InnerNodeCommon<u8, u8, 16>>(
+pub(crate) fn write<const PREFIX_LEN: usize, N: InnerNodeCommon<u8, u8, PREFIX_LEN>>(
     rt: &impl Abort,
     node: &mut N,
     byte: u8,
@@ -25,10 +25,10 @@ pub(crate) fn write<N: InnerNodeCommon<u8, u8, 16>>(
 }
 
 /// A node with this prefix, of at most 16 bytes, and this child under each of the bytes 3 and 5.
-pub(crate) fn pair<K, V, N: InnerNodeCommon<K, V, 16> + Drop>(
+pub(crate) fn pair<K, V, const PREFIX_LEN: usize, N: InnerNodeCommon<K, V, PREFIX_LEN> + Drop>(
     rt: &impl Abort,
     prefix: &[u8],
-    child: OpaqueNodePtr<K, V, 16>,
+    child: OpaqueNodePtr<K, V, PREFIX_LEN>,
 ) -> N
     requires memory { FitsInMemory N.row }
     requires room { 2 ≤ N.room }
@@ -42,7 +42,7 @@ pub(crate) fn pair<K, V, N: InnerNodeCommon<K, V, 16> + Drop>(
 
 /// A node with this prefix, of at most 16 bytes, and the leaf beside each byte, written in this
 /// order.
-pub(crate) fn node_of<N: InnerNodeCommon<u8, u8, 16> + Drop>(
+pub(crate) fn node_of<const PREFIX_LEN: usize, N: InnerNodeCommon<u8, u8, PREFIX_LEN> + Drop>(
     rt: &impl Abort,
     prefix: &[u8],
     pairs: &[(u8, usize)],
@@ -50,11 +50,11 @@ pub(crate) fn node_of<N: InnerNodeCommon<u8, u8, 16> + Drop>(
     requires memory { FitsInMemory N.row }
     requires room { 2 ≤ N.room }
 {
-    let mut node: N = pair(rt, prefix, leaf(0));
+    let mut node: N = pair::<u8, u8, PREFIX_LEN, N>(rt, prefix, leaf(0));
     node.remove_child(3);
     node.remove_child(5);
     for (byte, key) in pairs {
-        write(rt, &mut node, *byte, *key);
+        write::<PREFIX_LEN, N>(rt, &mut node, *byte, *key);
     }
     node
 }
@@ -81,7 +81,7 @@ pub(crate) fn write_bytes<N: InnerNodeCommon<u8, u8, 16>>(
     bytes: &[u8],
 ) {
     for byte in bytes {
-        write(rt, node, *byte, usize::from(*byte));
+        write::<16, N>(rt, node, *byte, usize::from(*byte));
     }
 }
 
@@ -90,7 +90,7 @@ pub(crate) fn with_bytes<N: InnerNodeCommon<u8, u8, 16> + Drop>(rt: &impl Abort,
     requires memory { FitsInMemory N.row }
     requires room { 2 ≤ N.room }
 {
-    let mut node: N = node_of(rt, b"prefix", &[]);
+    let mut node: N = node_of::<16, N>(rt, b"prefix", &[]);
     write_bytes(rt, &mut node, bytes);
     node
 }
@@ -113,7 +113,7 @@ pub(crate) fn has_children<N: InnerNodeCommon<u8, u8, 16>>(
 }
 
 /// The range has exactly the leaf beside each of these bytes, from the start and from the end.
-pub(crate) fn has_range<N: InnerNodeCommon<u8, u8, 16>>(
+pub(crate) fn has_range<const PREFIX_LEN: usize, N: InnerNodeCommon<u8, u8, PREFIX_LEN>>(
     rt: &impl Abort,
     node: &N,
     start: Bound<u8>,

@@ -10,6 +10,12 @@ type Command = ChildCommand<u8, u8, 2>;
 
 type Reply = ChildReply<u8, u8, 2>;
 
+// The replies to some commands, and the node after them.
+type Answer<const PREFIX_LEN: usize> = (
+    Vec<ChildReply<u8, u8, PREFIX_LEN>>,
+    ChildNode<u8, u8, PREFIX_LEN>,
+);
+
 // The replies to these commands, and the node after them.
 fn run(
     rt: &(impl Abort + AllocGlobal),
@@ -19,57 +25,69 @@ fn run(
 }
 
 // A run that has each command, and goes from one kind to the next and back.
-fn steps() -> [Command; 15] {
+fn steps<const PREFIX_LEN: usize>() -> [ChildCommand<u8, u8, PREFIX_LEN>; 15] {
     [
-        Command::Write(0, leaf(1)),
-        Command::Write(1, leaf(2)),
-        Command::Write(2, leaf(3)),
-        Command::Write(3, leaf(4)),
-        Command::Write(3, leaf(5)),
-        Command::Write(4, leaf(6)),
-        Command::Remove(0),
-        Command::Remove(9),
-        Command::Range(Bound::Excluded(1), Bound::Excluded(1)),
-        Command::Remove(1),
-        Command::Remove(2),
-        Command::Remove(3),
-        Command::Remove(4),
-        Command::Min,
-        Command::Lookup(3),
+        ChildCommand::Write(0, leaf(1)),
+        ChildCommand::Write(1, leaf(2)),
+        ChildCommand::Write(2, leaf(3)),
+        ChildCommand::Write(3, leaf(4)),
+        ChildCommand::Write(3, leaf(5)),
+        ChildCommand::Write(4, leaf(6)),
+        ChildCommand::Remove(0),
+        ChildCommand::Remove(9),
+        ChildCommand::Range(Bound::Excluded(1), Bound::Excluded(1)),
+        ChildCommand::Remove(1),
+        ChildCommand::Remove(2),
+        ChildCommand::Remove(3),
+        ChildCommand::Remove(4),
+        ChildCommand::Min,
+        ChildCommand::Lookup(3),
     ]
 }
 
 // The reply to each step.
-fn replies_to_steps() -> [Reply; 15] {
+fn replies_to_steps<const PREFIX_LEN: usize>() -> [ChildReply<u8, u8, PREFIX_LEN>; 15] {
     [
-        Reply::Child(None),
-        Reply::Child(None),
-        Reply::Child(None),
-        Reply::Child(None),
-        Reply::Child(Some(leaf(4))),
-        Reply::Child(None),
-        Reply::Child(Some(leaf(1))),
-        Reply::Child(None),
-        Reply::InvalidBounds,
-        Reply::Child(Some(leaf(2))),
-        Reply::Child(Some(leaf(3))),
-        Reply::Child(Some(leaf(5))),
-        Reply::Child(Some(leaf(6))),
-        Reply::Pair(None),
-        Reply::Child(None),
+        ChildReply::Child(None),
+        ChildReply::Child(None),
+        ChildReply::Child(None),
+        ChildReply::Child(None),
+        ChildReply::Child(Some(leaf(4))),
+        ChildReply::Child(None),
+        ChildReply::Child(Some(leaf(1))),
+        ChildReply::Child(None),
+        ChildReply::InvalidBounds,
+        ChildReply::Child(Some(leaf(2))),
+        ChildReply::Child(Some(leaf(3))),
+        ChildReply::Child(Some(leaf(5))),
+        ChildReply::Child(Some(leaf(6))),
+        ChildReply::Pair(None),
+        ChildReply::Child(None),
     ]
 }
 
 // The replies, and the kind and the number of children of the node after them.
-fn check_answer(
+fn check_answer<const PREFIX_LEN: usize>(
     rt: &impl Abort,
-    answer: &(Vec<Reply>, ChildNode<u8, u8, 2>),
-    wanted: &[Reply],
+    answer: &Answer<PREFIX_LEN>,
+    wanted: &[ChildReply<u8, u8, PREFIX_LEN>],
     left: (NodeType, usize),
 ) {
     let (replies, node) = answer;
     assert!(rt; replies.as_slice() == wanted);
     assert!(rt; (node.node_type(), node.num_children()) == left);
+}
+
+#[test]
+fn the_steps_have_these_replies_however_much_a_node_stores(rt: HostRuntime) -> Result<(), Fail> {
+    let left = (NodeType::Node4, 0);
+    let answer = replay(rt.alloc(), Header::<0>::new(b"", 0), &steps())?;
+    check_answer(&rt, &answer, &replies_to_steps(), left);
+    let answer = replay(rt.alloc(), Header::<2>::new(b"", 0), &steps())?;
+    check_answer(&rt, &answer, &replies_to_steps(), left);
+    let answer = replay(rt.alloc(), Header::<16>::new(b"", 0), &steps())?;
+    check_answer(&rt, &answer, &replies_to_steps(), left);
+    Ok(())
 }
 
 // The replies to these commands. A run in which an allocation fails returns nothing, the next one
@@ -238,13 +256,44 @@ fn commands_and_replies_of_other_values_differ(rt: HostRuntime) -> Result<(), Fa
     Ok(())
 }
 
-// The kind and the number of children of the node after these commands.
-fn left_by(
-    rt: &(impl Abort + AllocGlobal),
-    commands: &[Command],
-) -> Result<(NodeType, usize), Fail> {
-    let (_, node) = run(rt, commands)?;
-    Ok((node.node_type(), node.num_children()))
+// A write of the leaf of each byte, and then so many removals, by ascending byte.
+fn writes_and_removals<const PREFIX_LEN: usize>(
+    alloc: Global,
+    removals: usize,
+) -> Result<Vec<ChildCommand<u8, u8, PREFIX_LEN>>, AllocError> {
+    let mut commands = Vec::new(alloc);
+    for byte in 0..=255u8 {
+        commands.push(ChildCommand::Write(byte, leaf(usize::from(byte))))?;
+    }
+    for byte in (0..=255u8).take(removals) {
+        commands.push(ChildCommand::Remove(byte))?;
+    }
+    Ok(commands)
+}
+
+// The kind and the number of children of the node after them.
+fn shape<const PREFIX_LEN: usize>(answer: &Answer<PREFIX_LEN>) -> (NodeType, usize) {
+    (answer.1.node_type(), answer.1.num_children())
+}
+
+#[test]
+fn grows_to_256_children_and_shrinks_again(rt: HostRuntime) -> Result<(), Fail> {
+    let alloc = rt.alloc();
+    let rows = [
+        (0, (NodeType::Node256, 256)),
+        (208, (NodeType::Node48, 48)),
+        (209, (NodeType::Node48, 47)),
+        (256, (NodeType::Node4, 0)),
+    ];
+    for (removals, left) in rows {
+        let commands = writes_and_removals::<0>(alloc, removals)?;
+        assert!(rt; shape(&replay(alloc, Header::<0>::new(b"", 0), &commands)?) == left);
+        let commands = writes_and_removals::<2>(alloc, removals)?;
+        assert!(rt; shape(&replay(alloc, Header::<2>::new(b"", 0), &commands)?) == left);
+        let commands = writes_and_removals::<16>(alloc, removals)?;
+        assert!(rt; shape(&replay(alloc, Header::<16>::new(b"", 0), &commands)?) == left);
+    }
+    Ok(())
 }
 
 // A range without bounds returns the leaf of each byte.
@@ -264,29 +313,18 @@ fn check_all_leaves(rt: &(impl Abort + AllocGlobal), writes: &[Command]) -> Resu
 }
 
 #[test]
-fn grows_to_256_children_and_shrinks_again(rt: HostRuntime) -> Result<(), Fail> {
-    let mut commands = Vec::new(rt.alloc());
-    for byte in 0..=255u8 {
-        commands.push(Command::Write(byte, leaf(usize::from(byte))))?;
-    }
-    assert!(rt; left_by(&rt, &commands)? == (NodeType::Node256, 256));
+fn a_full_node_is_overwritten_in_place(rt: HostRuntime) -> Result<(), Fail> {
+    let mut commands: Vec<Command> = writes_and_removals(rt.alloc(), 0)?;
     check_all_leaves(&rt, &commands)?;
     commands.push(Command::Write(255, leaf(1000)))?;
-    let (replies, node) = run(&rt, &commands)?;
-    assert!(rt; replies.last() == Some(&Reply::Child(Some(leaf(255)))));
-    assert!(rt; node.node_type() == NodeType::Node256);
-    assert!(rt; node.num_children() == 256);
-    for byte in 0..=207u8 {
-        commands.push(Command::Remove(byte))?;
-    }
-    assert!(rt; left_by(&rt, &commands)? == (NodeType::Node48, 48));
-    commands.push(Command::Remove(208))?;
-    assert!(rt; left_by(&rt, &commands)? == (NodeType::Node48, 47));
-    for byte in 209..=255u8 {
-        commands.push(Command::Remove(byte))?;
-    }
-    assert!(rt; left_by(&rt, &commands)? == (NodeType::Node4, 0));
+    let answer = run(&rt, &commands)?;
+    assert!(rt; answer.0.last() == Some(&Reply::Child(Some(leaf(255)))));
+    assert!(rt; shape(&answer) == (NodeType::Node256, 256));
+    Ok(())
+}
 
+#[test]
+fn a_run_begins_with_no_children(rt: HostRuntime) -> Result<(), Fail> {
     let mut header = Header::<2>::new(b"abc", 3);
     header.inc_num_children();
     let (replies, node) = replay(rt.alloc(), header, &[] as &[Command])?;
@@ -299,8 +337,8 @@ fn grows_to_256_children_and_shrinks_again(rt: HostRuntime) -> Result<(), Fail> 
 
 #[test]
 fn a_run_keeps_the_prefix(rt: HostRuntime) -> Result<(), Fail> {
-    let (commands, wanted) = (steps(), replies_to_steps());
-    let answer = replay(rt.alloc(), Header::new(b"abc", 3), &commands[..6])?;
+    let (commands, wanted) = (steps::<2>(), replies_to_steps::<2>());
+    let answer = replay(rt.alloc(), Header::<2>::new(b"abc", 3), &commands[..6])?;
     check_answer(&rt, &answer, &wanted[..6], (NodeType::Node16, 5));
     assert!(rt; answer.1.header().prefix_len() == 3);
     assert!(rt; answer.1.header().read_prefix() == b"ab".as_slice());
