@@ -16,9 +16,9 @@ ghost use Rattle.std.specs.Prelude.{IfOk};
 ghost use Rattle.art_tree.specs.Search.{HasTree};
 
 use art_tree::{
-    AnyNodeRef, ArenaReader, ArtTree, AsBytes, CStringKey, ConcatTuple, InnerNodeCommon, InnerNodeRead,
-    LoadRefusal, Mapped, NodeArena, NodeType, OpaqueNodePtr, SliceKey, ToIBE, ToOctets, TreePath,
-    find_leaf, laws, load,
+    AnyNodeRef, ArenaReader, ArtTree, AsBytes, CStringKey, ConcatTuple, InnerNodeCommon,
+    InnerNodeRead, LoadRefusal, Mapped, NodeArena, NodeType, OpaqueNodePtr, SliceKey, ToIBE,
+    ToOctets, TreePath, find_leaf, laws, load,
 };
 use std::alloc::{AllocError, Global};
 use std::process::Abort;
