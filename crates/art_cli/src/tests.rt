@@ -323,23 +323,28 @@ fn a_failed_writer_has_what_it_took(rt: HostRuntime) -> Result<(), Fail> {
     Ok(())
 }
 
-// Runs these words where each growth is the run's own, since words and writers have their memory
-// before it. A run with an allocation failure prints nothing, and the next one succeeds. Returns
-// whether there was one.
-fn is_refused(rt: &impl Abort, alloc: Global, texts: &[&str], case: &Case) -> Result<bool, Fail> {
-    let words = words(alloc, texts)?;
+// The bytes that a writer over this room took, where so many places are left.
+fn written(room: &[u8], left: usize) -> &[u8] {
+    &room[..room.len().saturating_sub(left)]
+}
+
+// Runs these words over writers that are arrays, so that each growth is the run's own. A run with an
+// allocation failure prints nothing, and the next one succeeds. Returns whether there was one.
+fn is_refused(rt: &impl Abort, alloc: Global, words: &[String], case: &Case) -> bool {
     let mut input = case.input;
-    let mut output = Vec::with_capacity(alloc, 512)?;
-    let mut errors = Vec::with_capacity(alloc, 512)?;
-    let status = run(alloc, &words, &mut input, &mut output, &mut errors);
+    let (mut output_room, mut errors_room) = ([0; 512], [0; 512]);
+    let (mut output, mut errors) = (&mut output_room[..], &mut errors_room[..]);
+    let status = run(alloc, words, &mut input, &mut output, &mut errors);
+    let (output_left, errors_left) = (output.len(), errors.len());
+    let output = written(&output_room, output_left);
+    let errors = written(&errors_room, errors_left);
     if status != 1 {
-        compare(rt, &output, &errors, status, case);
-        return Ok(false);
+        compare(rt, output, errors, status, case);
+        return false;
     }
     let refusal = case_of(case.input, "", "out of memory\n", 1);
-    compare(rt, &output, &errors, status, &refusal);
-    check(rt, alloc, texts, case)?;
-    Ok(true)
+    compare(rt, output, errors, status, &refusal);
+    true
 }
 
 #[test]
@@ -349,7 +354,9 @@ fn a_refused_run_prints_nothing(rt: HostRuntime) -> Result<(), Fail> {
         (&["find", "2"], case_of(SEARCHES.as_bytes(), ANSWERS, "", 0)),
     ];
     for (texts, case) in cases {
-        if is_refused(&rt, rt.alloc(), texts, &case)? {
+        let words = words(rt.alloc(), texts)?;
+        if is_refused(&rt, rt.alloc(), &words, &case) {
+            check(&rt, rt.alloc(), texts, &case)?;
             return Err(ALL_STANDS.into());
         }
     }

@@ -10,17 +10,26 @@ mod link_examples;
 
 type Key = [u8; 1];
 
-type Arena = NodeArena<Key, u8, 16>;
+type Arena<const PREFIX_LEN: usize> = NodeArena<Key, u8, PREFIX_LEN>;
 
-type Leaf = LeafNode<Key, u8, 16>;
+type Leaf<const PREFIX_LEN: usize> = LeafNode<Key, u8, PREFIX_LEN>;
 
-type Pointer = NodePtr<16, Leaf>;
+type Pointer<const PREFIX_LEN: usize> = NodePtr<PREFIX_LEN, Leaf<PREFIX_LEN>>;
 
-fn put_leaf(rt: &impl Abort, arena: &mut Arena, key: u8) -> Pointer {
+fn put_leaf<const PREFIX_LEN: usize>(
+    rt: &impl Abort,
+    arena: &mut Arena<PREFIX_LEN>,
+    key: u8,
+) -> Pointer<PREFIX_LEN> {
     put(rt, arena, Leaf::with_no_siblings([key], key))
 }
 
-fn insert_after(rt: &impl Abort, arena: &mut Arena, this: Pointer, sibling: Pointer) {
+fn insert_after<const PREFIX_LEN: usize>(
+    rt: &impl Abort,
+    arena: &mut Arena<PREFIX_LEN>,
+    this: Pointer<PREFIX_LEN>,
+    sibling: Pointer<PREFIX_LEN>,
+) {
     assert!(rt; arena.holds(this));
     assert!(rt; !Leaf::is_linked(arena, this));
     assert!(rt; this != sibling);
@@ -30,7 +39,12 @@ fn insert_after(rt: &impl Abort, arena: &mut Arena, this: Pointer, sibling: Poin
     Leaf::insert_after(arena, this, sibling);
 }
 
-fn insert_before(rt: &impl Abort, arena: &mut Arena, this: Pointer, sibling: Pointer) {
+fn insert_before<const PREFIX_LEN: usize>(
+    rt: &impl Abort,
+    arena: &mut Arena<PREFIX_LEN>,
+    this: Pointer<PREFIX_LEN>,
+    sibling: Pointer<PREFIX_LEN>,
+) {
     assert!(rt; arena.holds(this));
     assert!(rt; !Leaf::is_linked(arena, this));
     assert!(rt; this != sibling);
@@ -40,12 +54,21 @@ fn insert_before(rt: &impl Abort, arena: &mut Arena, this: Pointer, sibling: Poi
     Leaf::insert_before(arena, this, sibling);
 }
 
-fn remove_self(rt: &impl Abort, arena: &mut Arena, this: Pointer) {
+fn remove_self<const PREFIX_LEN: usize>(
+    rt: &impl Abort,
+    arena: &mut Arena<PREFIX_LEN>,
+    this: Pointer<PREFIX_LEN>,
+) {
     assert!(rt; Leaf::is_knit(arena, this));
     Leaf::remove_self(arena, this);
 }
 
-fn replace(rt: &impl Abort, arena: &mut Arena, this: Pointer, old: Pointer) {
+fn replace<const PREFIX_LEN: usize>(
+    rt: &impl Abort,
+    arena: &mut Arena<PREFIX_LEN>,
+    this: Pointer<PREFIX_LEN>,
+    old: Pointer<PREFIX_LEN>,
+) {
     assert!(rt; arena.holds(this));
     assert!(rt; !Leaf::is_linked(arena, this));
     assert!(rt; this != old);
@@ -53,13 +76,28 @@ fn replace(rt: &impl Abort, arena: &mut Arena, this: Pointer, old: Pointer) {
     Leaf::replace(arena, this, old, true);
 }
 
-// A leaf that was removed still names its neighbours.
-fn check_removed(
+// Without force the two leaves have the same key bytes.
+fn replace_by_the_same_key<const PREFIX_LEN: usize>(
     rt: &impl Abort,
-    arena: &Arena,
-    leaf: Pointer,
-    previous: Option<Pointer>,
-    next: Option<Pointer>,
+    arena: &mut Arena<PREFIX_LEN>,
+    this: Pointer<PREFIX_LEN>,
+    old: Pointer<PREFIX_LEN>,
+) {
+    assert!(rt; arena.holds(this));
+    assert!(rt; !Leaf::is_linked(arena, this));
+    assert!(rt; this != old);
+    assert!(rt; Leaf::is_knit(arena, old));
+    assert!(rt; arena.as_key_ref(this).as_bytes() == arena.as_key_ref(old).as_bytes());
+    Leaf::replace(arena, this, old, false);
+}
+
+// A leaf that was removed still names its neighbours.
+fn check_removed<const PREFIX_LEN: usize>(
+    rt: &impl Abort,
+    arena: &Arena<PREFIX_LEN>,
+    leaf: Pointer<PREFIX_LEN>,
+    previous: Option<Pointer<PREFIX_LEN>>,
+    next: Option<Pointer<PREFIX_LEN>>,
 ) {
     assert!(rt; arena.holds(leaf));
     assert!(rt; Leaf::is_linked(arena, leaf));
@@ -69,7 +107,11 @@ fn check_removed(
 }
 
 // From this leaf on, the list has these leaves, and each of them names its neighbours.
-fn check_list(rt: &impl Abort, arena: &Arena, leaves: &[Pointer]) {
+fn check_list<const PREFIX_LEN: usize>(
+    rt: &impl Abort,
+    arena: &Arena<PREFIX_LEN>,
+    leaves: &[Pointer<PREFIX_LEN>],
+) {
     let mut previous = None;
     let mut next = leaves.first().copied();
     for leaf in leaves {
@@ -83,7 +125,10 @@ fn check_list(rt: &impl Abort, arena: &Arena, leaves: &[Pointer]) {
     assert!(rt; next.is_none());
 }
 
-fn change_the_middle_and_the_end(rt: &impl Abort, arena: &mut Arena) {
+fn change_the_middle_and_the_end<const PREFIX_LEN: usize>(
+    rt: &impl Abort,
+    arena: &mut Arena<PREFIX_LEN>,
+) {
     let a = put_leaf(rt, arena, b'a');
     let b = put_leaf(rt, arena, b'b');
     let c = put_leaf(rt, arena, b'c');
@@ -101,9 +146,15 @@ fn change_the_middle_and_the_end(rt: &impl Abort, arena: &mut Arena) {
     check_list(rt, arena, &[a, d]);
     assert!(rt; arena.holds(c));
     assert!(rt; !Leaf::is_linked(arena, c));
+
+    let other_a = put_leaf(rt, arena, b'a');
+    replace_by_the_same_key(rt, arena, other_a, a);
+    check_list(rt, arena, &[other_a, d]);
+    assert!(rt; arena.holds(a));
+    assert!(rt; !Leaf::is_linked(arena, a));
 }
 
-fn change_the_beginning(rt: &impl Abort, arena: &mut Arena) {
+fn change_the_beginning<const PREFIX_LEN: usize>(rt: &impl Abort, arena: &mut Arena<PREFIX_LEN>) {
     let a = put_leaf(rt, arena, b'a');
     let b = put_leaf(rt, arena, b'b');
     let c = put_leaf(rt, arena, b'c');
@@ -119,12 +170,12 @@ fn change_the_beginning(rt: &impl Abort, arena: &mut Arena) {
 
 #[test]
 fn inserts_removes_and_replaces_leaves_of_a_list(rt: HostRuntime) {
-    let mut arena = Arena::new(rt.alloc());
-    change_the_middle_and_the_end(&rt, &mut arena);
+    change_the_middle_and_the_end::<0>(&rt, &mut NodeArena::new(rt.alloc()));
+    change_the_middle_and_the_end::<2>(&rt, &mut NodeArena::new(rt.alloc()));
+    change_the_middle_and_the_end::<16>(&rt, &mut NodeArena::new(rt.alloc()));
 }
 
 #[test]
 fn a_list_begins_with_another_leaf(rt: HostRuntime) {
-    let mut arena = Arena::new(rt.alloc());
-    change_the_beginning(&rt, &mut arena);
+    change_the_beginning::<16>(&rt, &mut NodeArena::new(rt.alloc()));
 }

@@ -6,19 +6,19 @@ use super::*;
 use art_tree::{InsertRefusal, LeafNode, NodePtr};
 use std::cmp::Ordering;
 
-type Keys = ArtTree<String, usize, 2>;
+type Keys<const PREFIX_LEN: usize> = ArtTree<String, usize, PREFIX_LEN>;
 
-type Nodes = NodeArena<String, usize, 2>;
+type Nodes<const PREFIX_LEN: usize> = NodeArena<String, usize, PREFIX_LEN>;
 
-type Pointer = OpaqueNodePtr<String, usize, 2>;
+type Pointer<const PREFIX_LEN: usize> = OpaqueNodePtr<String, usize, PREFIX_LEN>;
 
-type Leaf = NodePtr<2, LeafNode<String, usize, 2>>;
+type Leaf<const PREFIX_LEN: usize> = NodePtr<PREFIX_LEN, LeafNode<String, usize, PREFIX_LEN>>;
 
 // Inserts a key that is not there, with its number.
-fn add(
+fn add<const PREFIX_LEN: usize>(
     rt: &impl Abort,
     alloc: Global,
-    tree: &mut Keys,
+    tree: &mut Keys<PREFIX_LEN>,
     text: &str,
     number: usize,
 ) -> Result<(), AllocError> {
@@ -35,10 +35,10 @@ fn add(
 }
 
 // Inserts keys that are not there, each with its index as its number.
-fn add_all(
+fn add_all<const PREFIX_LEN: usize>(
     rt: &impl Abort,
     alloc: Global,
-    tree: &mut Keys,
+    tree: &mut Keys<PREFIX_LEN>,
     texts: &[&str],
 ) -> Result<(), AllocError> {
     for (number, text) in texts.iter().enumerate() {
@@ -47,10 +47,10 @@ fn add_all(
     Ok(())
 }
 
-fn check_clash(
+fn check_clash<const PREFIX_LEN: usize>(
     rt: &impl Abort,
     alloc: Global,
-    tree: &mut Keys,
+    tree: &mut Keys<PREFIX_LEN>,
     text: &str,
 ) -> Result<(), AllocError> {
     let Err(fault) = tree.insert(String::from_str(alloc, text)?, 9) else {
@@ -62,9 +62,9 @@ fn check_clash(
 }
 
 // Removes a key, which has this number.
-fn check_removed(
+fn check_removed<const PREFIX_LEN: usize>(
     rt: &impl Abort,
-    tree: &mut Keys,
+    tree: &mut Keys<PREFIX_LEN>,
     text: &str,
     number: usize,
 ) -> Result<(), AllocError> {
@@ -77,23 +77,24 @@ fn check_removed(
 }
 
 // The child under the least byte.
-fn least_child(rt: &impl Abort, arena: &Nodes, pointer: Pointer) -> Pointer {
+fn least_child<const PREFIX_LEN: usize>(
+    rt: &impl Abort,
+    arena: &Nodes<PREFIX_LEN>,
+    pointer: Pointer<PREFIX_LEN>,
+) -> Pointer<PREFIX_LEN> {
     assert!(rt; arena.holds_opaque(pointer));
-    let (_, child) = match arena.node_ref(pointer) {
-        NodeRef::Node4(node) => {
-            assert!(rt; node.num_children() > 0);
-            node.min()
-        }
-        NodeRef::Node16(node) => {
-            assert!(rt; node.num_children() > 0);
-            node.min()
-        }
-        _ => panic!(rt; "another kind"),
+    let Some(node) = arena.node_ref(pointer).inner() else {
+        panic!(rt; "a leaf");
     };
-    child
+    assert!(rt; node.num_children() > 0);
+    node.min().1
 }
 
-fn least_leaf(rt: &impl Abort, arena: &Nodes, root: Pointer) -> Leaf {
+fn least_leaf<const PREFIX_LEN: usize>(
+    rt: &impl Abort,
+    arena: &Nodes<PREFIX_LEN>,
+    root: Pointer<PREFIX_LEN>,
+) -> Leaf<PREFIX_LEN> {
     let mut at = root;
     for _ in 0..3 {
         if let Some(leaf) = at.cast() {
@@ -105,7 +106,7 @@ fn least_leaf(rt: &impl Abort, arena: &Nodes, root: Pointer) -> Leaf {
 }
 
 // The root of a tree that has one.
-fn root_of(rt: &impl Abort, tree: &Keys) -> Pointer
+fn root_of<const PREFIX_LEN: usize>(rt: &impl Abort, tree: &Keys<PREFIX_LEN>) -> Pointer<PREFIX_LEN>
     ensures { HasTree ⟦<String as AsBytes>⟧.text tree.now.arena result }
 {
     let Some(root) = tree.root() else {
@@ -120,7 +121,11 @@ fn text_of<'a>(entry: Option<(&'a String, &usize)>) -> Option<&'a [u8]> {
 }
 
 // The leaves of the tree are linked in this order, and each key has its number.
-fn check_texts(rt: &impl Abort, tree: &Keys, entries: &[(&str, usize)]) {
+fn check_texts<const PREFIX_LEN: usize>(
+    rt: &impl Abort,
+    tree: &Keys<PREFIX_LEN>,
+    entries: &[(&str, usize)],
+) {
     let arena = tree.arena();
     let mut previous = None;
     let mut next = Some(least_leaf(rt, arena, root_of(rt, tree)));
@@ -139,15 +144,14 @@ fn check_texts(rt: &impl Abort, tree: &Keys, entries: &[(&str, usize)]) {
     assert!(rt; next.is_none());
 }
 
-// The inner node has this kind, a prefix of this length, of which it stores so many bytes, and so
+// The inner node has this kind, this prefix, of which it stores the first `PREFIX_LEN` bytes, and so
 // many children.
-fn check_inner(
+fn check_inner<const PREFIX_LEN: usize>(
     rt: &impl Abort,
-    arena: &Nodes,
-    pointer: Pointer,
+    arena: &Nodes<PREFIX_LEN>,
+    pointer: Pointer<PREFIX_LEN>,
     kind: NodeType,
-    prefix_len: usize,
-    stored: &str,
+    prefix: &str,
     children: usize,
 ) {
     assert!(rt; pointer.node_type() == kind);
@@ -155,16 +159,22 @@ fn check_inner(
     let Some(header) = arena.header(pointer) else {
         panic!(rt; "a leaf");
     };
-    assert!(rt; header.prefix_len() == prefix_len);
-    assert!(rt; header.read_prefix() == stored.as_bytes());
+    assert!(rt; header.prefix_len() == prefix.len());
+    let stored = PREFIX_LEN.min(prefix.len());
+    assert!(rt; header.read_prefix() == &prefix.as_bytes()[..stored]);
     assert!(rt; header.num_children() == children);
 }
 
-// The child of a Node4 under a byte.
-fn child_of(rt: &impl Abort, arena: &Nodes, pointer: Pointer, byte: u8) -> Pointer {
+// The child of an inner node under a byte.
+fn child_of<const PREFIX_LEN: usize>(
+    rt: &impl Abort,
+    arena: &Nodes<PREFIX_LEN>,
+    pointer: Pointer<PREFIX_LEN>,
+    byte: u8,
+) -> Pointer<PREFIX_LEN> {
     assert!(rt; arena.holds_opaque(pointer));
-    let NodeRef::Node4(node) = arena.node_ref(pointer) else {
-        panic!(rt; "no Node4");
+    let Some(node) = arena.node_ref(pointer).inner() else {
+        panic!(rt; "a leaf");
     };
     match node.lookup_child(byte) {
         Some(child) => child,
@@ -172,10 +182,14 @@ fn child_of(rt: &impl Abort, arena: &Nodes, pointer: Pointer, byte: u8) -> Point
     }
 }
 
-fn insert_in_any_order(rt: &impl Abort, alloc: Global, tree: &mut Keys) -> Result<(), AllocError> {
+fn insert_in_any_order(
+    rt: &impl Abort,
+    alloc: Global,
+    tree: &mut Keys<2>,
+) -> Result<(), AllocError> {
     add_all(rt, alloc, tree, &["b", "a", "d", "c", "e"])?;
     let root = root_of(rt, tree);
-    check_inner(rt, tree.arena(), root, NodeType::Node16, 0, "", 5);
+    check_inner(rt, tree.arena(), root, NodeType::Node16, "", 5);
     assert!(rt; text_of(tree.first()) == Some(b"a".as_slice()));
     assert!(rt; text_of(tree.last()) == Some(b"e".as_slice()));
     check_texts(
@@ -198,17 +212,21 @@ fn insert_in_any_order(rt: &impl Abort, alloc: Global, tree: &mut Keys) -> Resul
 // A test that keeps its tree and changes it itself takes the check ten times as long.
 #[test]
 fn inserted_leaves_are_linked_in_order(rt: HostRuntime) -> Result<(), Fail> {
-    let mut tree = Keys::new(rt.alloc());
+    let mut tree = Keys::<2>::new(rt.alloc());
     insert_in_any_order(&rt, rt.alloc(), &mut tree)?;
     Ok(())
 }
 
-fn part_inside_a_prefix(rt: &impl Abort, alloc: Global, tree: &mut Keys) -> Result<(), AllocError> {
+fn part_inside_a_prefix(
+    rt: &impl Abort,
+    alloc: Global,
+    tree: &mut Keys<2>,
+) -> Result<(), AllocError> {
     add_all(rt, alloc, tree, &["abcdef1", "abcdef2", "abcx"])?;
     let root = root_of(rt, tree);
-    check_inner(rt, tree.arena(), root, NodeType::Node4, 3, "ab", 2);
+    check_inner(rt, tree.arena(), root, NodeType::Node4, "abc", 2);
     let lower = child_of(rt, tree.arena(), root, 100);
-    check_inner(rt, tree.arena(), lower, NodeType::Node4, 2, "ef", 2);
+    check_inner(rt, tree.arena(), lower, NodeType::Node4, "ef", 2);
     assert!(rt; child_of(rt, tree.arena(), root, 120).node_type() == NodeType::Leaf);
     check_clash(rt, alloc, tree, "abcdef")?;
     check_clash(rt, alloc, tree, "abcdef12")?;
@@ -218,21 +236,21 @@ fn part_inside_a_prefix(rt: &impl Abort, alloc: Global, tree: &mut Keys) -> Resu
 
 #[test]
 fn a_text_that_parts_inside_a_prefix_makes_a_node(rt: HostRuntime) -> Result<(), Fail> {
-    let mut tree = Keys::new(rt.alloc());
+    let mut tree = Keys::<2>::new(rt.alloc());
     part_inside_a_prefix(&rt, rt.alloc(), &mut tree)?;
     Ok(())
 }
 
 // A tree loaded of the two keys that remain.
-fn pair_loaded(alloc: Global) -> Result<Keys, Fail> {
+fn pair_loaded(alloc: Global) -> Result<Keys<2>, Fail> {
     let first = (String::from_str(alloc, "abcde1")?, 0);
     let second = (String::from_str(alloc, "abcde2")?, 1);
-    Ok(Keys::load(alloc, vec![in alloc; first, second]?).map_err(|fault| fault.refusal)?)
+    Ok(Keys::<2>::load(alloc, vec![in alloc; first, second]?).map_err(|fault| fault.refusal)?)
 }
 
 // The root is over `abcde1` and `abcde2`, and stores two bytes of what they share. Its children are
 // leaves.
-fn check_joined(rt: &impl Abort, tree: &Keys) {
+fn check_joined(rt: &impl Abort, tree: &Keys<2>) {
     let root = root_of(rt, tree);
     assert!(rt; child_of(rt, tree.arena(), root, 49).node_type() == NodeType::Leaf);
     assert!(rt; child_of(rt, tree.arena(), root, 50).node_type() == NodeType::Leaf);
@@ -245,11 +263,15 @@ fn check_joined(rt: &impl Abort, tree: &Keys) {
     check_match(rt, tree.arena(), root, b"abXde2", Ok((5, true)), full);
 }
 
-fn remove_down_to_none(rt: &impl Abort, alloc: Global, tree: &mut Keys) -> Result<(), AllocError> {
+fn remove_down_to_none(
+    rt: &impl Abort,
+    alloc: Global,
+    tree: &mut Keys<2>,
+) -> Result<(), AllocError> {
     add_all(rt, alloc, tree, &["abcde1", "abcde2", "abz"])?;
     check_removed(rt, tree, "abz", 2)?;
     let root = root_of(rt, tree);
-    check_inner(rt, tree.arena(), root, NodeType::Node4, 5, "ab", 2);
+    check_inner(rt, tree.arena(), root, NodeType::Node4, "abcde", 2);
     check_texts(rt, tree, &[("abcde1", 0), ("abcde2", 1)]);
     check_joined(rt, tree);
     check_removed(rt, tree, "abcde1", 0)?;
@@ -262,7 +284,7 @@ fn remove_down_to_none(rt: &impl Abort, alloc: Global, tree: &mut Keys) -> Resul
 
 #[test]
 fn a_node_of_one_child_goes(rt: HostRuntime) -> Result<(), Fail> {
-    let mut tree = Keys::new(rt.alloc());
+    let mut tree = Keys::<2>::new(rt.alloc());
     remove_down_to_none(&rt, rt.alloc(), &mut tree)?;
     Ok(())
 }
@@ -274,21 +296,21 @@ fn a_joined_prefix_is_that_of_a_loaded_tree(rt: HostRuntime) -> Result<(), Fail>
     Ok(())
 }
 
-fn put_and_remove_a_branch(
+fn put_and_remove_a_branch<const PREFIX_LEN: usize>(
     rt: &impl Abort,
     alloc: Global,
-    tree: &mut Keys,
+    tree: &mut Keys<PREFIX_LEN>,
 ) -> Result<(), AllocError> {
     add_all(rt, alloc, tree, &["abc1", "abc2", "abd"])?;
     let root = root_of(rt, tree);
-    check_inner(rt, tree.arena(), root, NodeType::Node4, 2, "ab", 2);
+    check_inner(rt, tree.arena(), root, NodeType::Node4, "ab", 2);
     assert!(rt; child_of(rt, tree.arena(), root, 99).node_type() == NodeType::Node4);
     assert!(rt; child_of(rt, tree.arena(), root, 100).node_type() == NodeType::Leaf);
     check_texts(rt, tree, &[("abc1", 0), ("abc2", 1), ("abd", 2)]);
     check_clash(rt, alloc, tree, "ab")?;
     check_removed(rt, tree, "abd", 2)?;
     let root = root_of(rt, tree);
-    check_inner(rt, tree.arena(), root, NodeType::Node4, 3, "ab", 2);
+    check_inner(rt, tree.arena(), root, NodeType::Node4, "abc", 2);
     assert!(rt; child_of(rt, tree.arena(), root, 49).node_type() == NodeType::Leaf);
     assert!(rt; child_of(rt, tree.arena(), root, 50).node_type() == NodeType::Leaf);
     check_texts(rt, tree, &[("abc1", 0), ("abc2", 1)]);
@@ -297,8 +319,10 @@ fn put_and_remove_a_branch(
 
 #[test]
 fn a_text_comes_and_goes(rt: HostRuntime) -> Result<(), Fail> {
-    let mut tree = Keys::new(rt.alloc());
-    put_and_remove_a_branch(&rt, rt.alloc(), &mut tree)?;
+    let alloc = rt.alloc();
+    put_and_remove_a_branch::<0>(&rt, alloc, &mut ArtTree::new(alloc))?;
+    put_and_remove_a_branch::<2>(&rt, alloc, &mut ArtTree::new(alloc))?;
+    put_and_remove_a_branch::<16>(&rt, alloc, &mut ArtTree::new(alloc))?;
     Ok(())
 }
 

@@ -8,7 +8,7 @@ use std::alloc::{AllocError, Global};
 use std::process::Abort;
 use std::test::Fail;
 
-type Texts = NodeArena<String, usize, 2>;
+type Texts<const PREFIX_LEN: usize> = NodeArena<String, usize, PREFIX_LEN>;
 
 type Root = OpaqueNodePtr<String, usize, 2>;
 
@@ -37,10 +37,10 @@ fn check_fault(
 }
 
 // The load of these texts has this refusal.
-fn check_refused(
+fn check_refused<const PREFIX_LEN: usize>(
     rt: &impl Abort,
     alloc: Global,
-    arena: &mut Texts,
+    arena: &mut Texts<PREFIX_LEN>,
     texts: &[&str],
     refusal: LoadRefusal,
 ) -> Result<(), AllocError> {
@@ -51,7 +51,11 @@ fn check_refused(
     Ok(())
 }
 
-fn check_all_refused(rt: &impl Abort, alloc: Global, arena: &mut Texts) -> Result<(), AllocError> {
+fn check_all_refused<const PREFIX_LEN: usize>(
+    rt: &impl Abort,
+    alloc: Global,
+    arena: &mut Texts<PREFIX_LEN>,
+) -> Result<(), AllocError> {
     let cases: [(&[&str], LoadRefusal); 8] = [
         (&[], LoadRefusal::Empty),
         (&["a", "a"], LoadRefusal::NotAscending(0)),
@@ -72,7 +76,10 @@ fn check_all_refused(rt: &impl Abort, alloc: Global, arena: &mut Texts) -> Resul
 // allocation.
 #[test]
 fn the_lowest_entry_at_fault_is_reported(rt: HostRuntime) -> Result<(), Fail> {
-    check_all_refused(&rt, rt.alloc(), &mut Texts::new(rt.alloc()))?;
+    let alloc = rt.alloc();
+    check_all_refused::<0>(&rt, alloc, &mut NodeArena::new(alloc))?;
+    check_all_refused::<2>(&rt, alloc, &mut NodeArena::new(alloc))?;
+    check_all_refused::<16>(&rt, alloc, &mut NodeArena::new(alloc))?;
     Ok(())
 }
 
@@ -105,7 +112,7 @@ fn refusals_are_printed(rt: HostRuntime) -> Result<(), Fail> {
     Ok(())
 }
 
-fn check_root(rt: &impl Abort, arena: &Texts, root: Root, children: usize) {
+fn check_root(rt: &impl Abort, arena: &Texts<2>, root: Root, children: usize) {
     let (_, count) = shape(rt, arena, root);
     assert!(rt; count == children);
 }
@@ -115,7 +122,7 @@ fn check_root(rt: &impl Abort, arena: &Texts, root: Root, children: usize) {
 fn load_beside(
     rt: &impl Abort,
     alloc: Global,
-    arena: &mut Texts,
+    arena: &mut Texts<2>,
     standing: &[Root],
     (texts, children): (&[&str], usize),
 ) -> Result<Root, Fail> {
@@ -140,7 +147,7 @@ fn load_beside(
     Err("load refused, and all stands".into())
 }
 
-fn load_in_turn(rt: &impl Abort, alloc: Global, arena: &mut Texts) -> Result<(), Fail> {
+fn load_in_turn(rt: &impl Abort, alloc: Global, arena: &mut Texts<2>) -> Result<(), Fail> {
     let low = load_beside(rt, alloc, arena, &[], (&["aa", "ab", "b"], 2))?;
     let rows: [(&[&str], usize); 3] = [
         (&["a1x", "a1y", "b"], 2),
@@ -156,7 +163,7 @@ fn load_in_turn(rt: &impl Abort, alloc: Global, arena: &mut Texts) -> Result<(),
 
 #[test]
 fn refused_memory_gives_the_entries_back(rt: HostRuntime) -> Result<(), Fail> {
-    load_in_turn(&rt, rt.alloc(), &mut Texts::new(rt.alloc()))
+    load_in_turn(&rt, rt.alloc(), &mut NodeArena::new(rt.alloc()))
 }
 
 type Bytes = NodeArena<[u8; 1], u8, 2>;

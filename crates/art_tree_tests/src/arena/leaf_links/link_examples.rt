@@ -67,7 +67,7 @@ fn deallocate_leaf<K: AsBytes, V, const PREFIX_LEN: usize>(
 }
 
 // A new leaf at the end of the list.
-fn append(rt: &impl Abort, arena: &mut Arena, last: Pointer, key: u8) -> Pointer {
+fn append(rt: &impl Abort, arena: &mut Arena<16>, last: Pointer<16>, key: u8) -> Pointer<16> {
     let this = put_leaf(rt, arena, key);
     assert!(rt; arena.holds(this));
     assert!(rt; !Leaf::is_linked(arena, this));
@@ -80,7 +80,7 @@ fn append(rt: &impl Abort, arena: &mut Arena, last: Pointer, key: u8) -> Pointer
 }
 
 // From this leaf on, the list has these keys.
-fn walk(rt: &impl Abort, arena: &Arena, first: Pointer, keys: &[u8]) {
+fn walk(rt: &impl Abort, arena: &Arena<16>, first: Pointer<16>, keys: &[u8]) {
     let mut next = Some(first);
     for key in keys {
         let Some(leaf) = next else {
@@ -93,7 +93,7 @@ fn walk(rt: &impl Abort, arena: &Arena, first: Pointer, keys: &[u8]) {
     assert!(rt; next.is_none());
 }
 
-fn append_and_walk(rt: &impl Abort, arena: &mut Arena) {
+fn append_and_walk(rt: &impl Abort, arena: &mut Arena<16>) {
     let first = put_leaf(rt, arena, b'a');
     let second = append(rt, arena, first, b'b');
     append(rt, arena, second, b'c');
@@ -103,7 +103,7 @@ fn append_and_walk(rt: &impl Abort, arena: &mut Arena) {
 }
 
 // A leaf beside the list comes and goes.
-fn allocate_and_deallocate(rt: &impl Abort, arena: &mut Arena) {
+fn allocate_and_deallocate(rt: &impl Abort, arena: &mut Arena<16>) {
     let Ok(leaf) = allocate_leaf(arena, [b'd'], 4) else {
         panic!(rt; "an allocation was refused");
     };
@@ -113,5 +113,5 @@ fn allocate_and_deallocate(rt: &impl Abort, arena: &mut Arena) {
 
 #[test]
 fn walks_three_leaves_in_order(rt: HostRuntime) {
-    append_and_walk(&rt, &mut Arena::new(rt.alloc()));
+    append_and_walk(&rt, &mut NodeArena::new(rt.alloc()));
 }
