@@ -13,7 +13,7 @@ returns-in_err-next-clause-refused g c =
     let cut = c.in_ok-command.ensures.said in
     let left = c.in_ok-command.after.now in
     let due = c.in_err-next.ensures.refused (after_all no_entries before.commands) before.so_far.holds in
-    let failed : IsFindFailure c.args.input.now c.in_err-next.field-0 = read_refused c.args.input.now c.loop-rest.rest.now c.loop-rest.number before.commands before.read command left cut (others_give c.loop-rest.rest.now left command cut before.ahead) before.so_far.admitted_all c.in_err-next.field-0 due in
+    let failed : IsFindFailure c.args.input.now c.in_err-next.field-0.0 = read_refused c.args.input.now c.loop-rest.rest.now c.loop-rest.number before.commands before.read command left cut (others_give c.loop-rest.rest.now left command cut before.ahead) before.so_far.admitted_all c.in_err-next.field-0.0 due in
     search rules
 
 pub loop-rest-preserved : goal.loop-rest-preserved
