@@ -1,4 +1,5 @@
 //! Tests of trees that are made by `load` and by inserts and removals.
+mod branches;
 mod changes;
 mod composite;
 mod dictionary;
@@ -16,9 +17,9 @@ ghost use Rattle.std.specs.Prelude.{IfOk};
 ghost use Rattle.art_tree.specs.Search.{HasTree};
 
 use art_tree::{
-    AnyNodeRef, ArenaReader, ArtTree, AsBytes, CStringKey, ConcatTuple, InnerNodeCommon, InnerNodeRead,
-    LoadRefusal, Mapped, NodeArena, NodeType, OpaqueNodePtr, SliceKey, ToIBE, ToOctets, TreePath,
-    find_leaf, laws, load,
+    AnyNodeRef, ArenaReader, ArtTree, AsBytes, CStringKey, ConcatTuple, InnerNodeCommon,
+    InnerNodeRead, LoadRefusal, Mapped, NodeArena, NodeType, OpaqueNodePtr, SliceKey, ToIBE,
+    ToOctets, TreePath, find_leaf, laws, load,
 };
 use std::alloc::{AllocError, Global};
 use std::process::Abort;
