@@ -1,9 +1,9 @@
 -- Parts of a tree on the way to a place in the order of texts.
-use Rattle.std.proofs.Common.{◌≡◌, ◌≢◌, ◌∙◌, ℕ, suc, ◌+◌, ◌<◌, ◌≤◌, true, false, List, [], ◌∷◌, ◌++◌, length, length-append, take, drop, map, All, Contains, Option, Some, None, IfSome, get_or, refl, sym, ap, subst, inl, inr, arith, slice_get, append_assoc, append-nil, nat_eq, lit<, ◌^◌}
+use Rattle.std.proofs.Common.{◌≡◌, ◌≢◌, ◌∙◌, ℕ, suc, ◌+◌, ◌<◌, ◌≤◌, true, false, List, [], ◌∷◌, ◌++◌, length, length-append, take, drop, All, Contains, Option, Some, None, IfSome, get_or, refl, sym, ap, subst, inl, inr, arith, slice_get, append_assoc, append-nil, nat_eq, lit<, ◌^◌}
 use Rattle.std.specs.List.{starts_with}
 use Rattle.std.specs.declared.cmp.Ordering.TheVariants.{Greater}
 use Rattle.std.specs.declared.ops.Bound.TheVariants.{Included, Unbounded}
-use Rattle.std.proofs.lemmas.Bool.Decides.{eqb_tells, leb_tells}
+use Rattle.std.proofs.lemmas.Bool.Decides.{leb_tells}
 use Rattle.std.proofs.lemmas.List.{drop_at, get_or_at, map-append, nil_from_length, take_all, take_at}
 use Rattle.std.proofs.lemmas.List.Elements.{All-nil, All-cons, All-contains, All-head, All-map, All-tail, All-append, All-weaker, Contains-append_cases}
 use Rattle.std.proofs.lemmas.Option.{same_Some}

@@ -271,7 +271,7 @@ module _ {K V : Type 0} {P : ℕ} (text : K → List ℕ) (arena : NodeArena K V
 
 -- a filter of one list behind another, and the last member of such a list
 last-of : {X : Type 0} (xs : List X) (x : X) → slice_get (xs ++ x ∷ []) (length (xs ++ x ∷ []) - 1) ≡ Some x
-last-of xs x = ap (slice_get (xs ++ x ∷ [])) (omega (arith, length-append xs (x ∷ []))) ∙ behind xs
+last-of {X = X} xs x = ap (slice_get (xs ++ x ∷ [])) (omega (arith, length-append xs (x ∷ []))) ∙ behind xs
   where
     behind : (xs : List X) → slice_get (xs ++ x ∷ []) (length xs) ≡ Some x
     behind [] = refl

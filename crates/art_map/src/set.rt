@@ -57,7 +57,7 @@ fn is_added<K: Drop>(
 
 // The key of an entry, if there is one.
 fn key_alone<'a, K>(found: Option<(&'a K, &'a ())>) -> Option<&'a K>
-    ensures { option_copied result ≡ option_map (λ entry. entry.0)
+    ensures { option_copied result ≡ option_map (λ (key, value). key)
         (option_map (λ (key, value). (key.now, value.now)) found.entry) }
 {
     match found {

@@ -1,4 +1,4 @@
-use Rattle.std.proofs.Common.{◌≡◌, ◌∙◌, ◌+◌, ◌<◌, option_copied, length, refl, sym, ap, arith, get_or}
+use Rattle.std.proofs.Common.{◌∙◌, ◌+◌, ◌<◌, option_copied, length, refl, sym, arith, get_or}
 use Rattle.art_map.proofs.StepLemmas.{all-before, ended, inside, on-child, parts, past}
 use Rattle.art_map.proofs.cut.step_in.Goals as goal
 

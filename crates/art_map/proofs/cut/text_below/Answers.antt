@@ -1,6 +1,5 @@
 use Rattle.std.proofs.Common.{option_copied}
-use Rattle.art_arena.specs.Standing.{TreeAt}
-use Rattle.art_map.proofs.PartLemmas.{way-tree, way-within}
+use Rattle.art_map.proofs.PartLemmas.{way-tree}
 use Rattle.art_map.proofs.cut.text_below.Goals as goal
 
 pub returns-in-None : goal.returns-in-None

@@ -1,5 +1,5 @@
 use Rattle.std.proofs.Common.{◌≡◌, ◌∙◌, ◌+◌, ◌-◌, Contains, length, take, drop, option_copied, sym, subst, ap, arith}
-use Rattle.art_arena.specs.Trees.{branch_texts, texts}
+use Rattle.art_arena.specs.Trees.{texts}
 use Rattle.art_tree.specs.InsertionPoints.{prefix_of}
 use Rattle.art_map.proofs.PartLemmas.{inner-way, part-is, prefix-in-text, prefix-stored}
 use Rattle.art_map.proofs.cut.whole_prefix.Goals as goal
