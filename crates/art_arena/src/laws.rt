@@ -4,7 +4,7 @@
 //! its pointer, its prefix and its branches by ascending byte. It is sound under a path where the
 //! key bytes of each leaf begin with the way to it and each inner node has two branches or more. It
 //! stands in an arena where each of its pointers holds its node.
-ghost use Rattle.std.specs.Prelude.{◌≡◌, ◌≢◌, ◌≤◌, ◌++◌, [], ◌∷◌, ℕ, List, Some, None, length, slice_get, All, AllPairs};
+ghost use Rattle.std.specs.Prelude.{◌≡◌, ◌≢◌, ◌<◌, ◌≤◌, ◌++◌, [], ◌∷◌, ℕ, List, Some, None, length, slice_get, All, AllPairs};
 ghost use Rattle.std.specs.declared.cmp.Ordering.TheVariants.{Less};
 ghost use Rattle.art_bytes.specs.Text.{IsPrefixOf, text_order};
 ghost use Rattle.art_nodes.specs.ChildMap.{IsAscending, child_at, key_bytes};
@@ -26,6 +26,29 @@ pub fn path_and_prefix_are_shared<H>()
     ensures { (path prefix : List ℕ) (pointer : H) (branches : Branches H) →
         IsSound path (Inner pointer prefix branches) →
         IsLongestCommonPrefix (texts (Inner pointer prefix branches)) (path ++ prefix) }
+{}
+
+/// The keys of a sound tree begin with the path to it. Those below an inner node go on, after the path
+/// and the prefix, by at least one byte.
+pub fn texts_begin_with_their_path<H>()
+    ensures path { (path : List ℕ) (tree : Tree H) → IsSound path tree →
+        All (IsPrefixOf path) (texts tree) }
+    ensures prefix { (path prefix : List ℕ) (pointer : H) (branches : Branches H) →
+        IsSound path (Inner pointer prefix branches) →
+        All (λ text. (byte : ℕ) × IsPrefixOf ((path ++ prefix) ++ byte ∷ []) text)
+        (texts (Inner pointer prefix branches)) }
+{}
+
+/// Trees part at a byte, as the branches of a node do: where the path to a sound tree ends with a
+/// lesser byte than a key has there, all keys of the tree come before that key, and where it ends with
+/// a greater one, all come behind it.
+pub fn texts_part_at_a_byte<H>()
+    ensures before { (path key : List ℕ) (byte other : ℕ) (tree : Tree H) →
+        IsSound (path ++ byte ∷ []) tree → IsPrefixOf (path ++ other ∷ []) key → byte < other →
+        All (λ text. text_order text key ≡ Less) (texts tree) }
+    ensures behind { (path key : List ℕ) (byte other : ℕ) (tree : Tree H) →
+        IsSound (path ++ byte ∷ []) tree → IsPrefixOf (path ++ other ∷ []) key → other < byte →
+        All (λ text. text_order key text ≡ Less) (texts tree) }
 {}
 
 /// The keys of a sound tree ascend strictly, from left to right.

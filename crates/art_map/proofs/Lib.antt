@@ -8,4 +8,5 @@ mod PartLemmas
 mod RangeLemmas
 mod RunLemmas
 mod SetLemmas
+mod StepLemmas
 mod TextLemmas

@@ -1,35 +1,32 @@
 -- Parts of a tree on the way to a place in the order of texts.
-use Rattle.std.proofs.Common.{◌≡◌, ◌≢◌, ◌∙◌, ℕ, suc, ◌+◌, ◌<◌, ◌≤◌, true, false, List, [], ◌∷◌, ◌++◌, length, length-append, drop, All, Some, None, Ok, Err, get_or, refl, sym, ap, subst, inl, inr, arith, slice_get, append_assoc, append-nil, nat_eq, lit<, ◌^◌}
-use Rattle.std.specs.List.{common_prefix_len}
+use Rattle.std.proofs.Common.{◌≡◌, ◌≢◌, ◌∙◌, ℕ, suc, ◌+◌, ◌<◌, ◌≤◌, true, false, List, [], ◌∷◌, ◌++◌, length, length-append, take, drop, All, Contains, Option, Some, None, IfSome, get_or, refl, sym, ap, subst, inl, inr, arith, slice_get, append_assoc, append-nil, nat_eq, lit<, ◌^◌}
+use Rattle.std.specs.List.{starts_with}
 use Rattle.std.specs.declared.cmp.Ordering.TheVariants.{Greater}
 use Rattle.std.specs.declared.ops.Bound.TheVariants.{Included, Unbounded}
-use Rattle.std.proofs.lemmas.Bool.Decides.{eqb_tells, leb_tells}
-use Rattle.std.proofs.lemmas.List.{drop_at, get_or_at, nil_from_length}
-use Rattle.std.proofs.lemmas.List.Elements.{All-nil, All-cons, All-head, All-tail, All-append, All-weaker}
+use Rattle.std.proofs.lemmas.Bool.Decides.{leb_tells}
+use Rattle.std.proofs.lemmas.List.{drop_at, get_or_at, map-append, nil_from_length, take_all, take_at}
+use Rattle.std.proofs.lemmas.List.Elements.{All-nil, All-cons, All-contains, All-head, All-map, All-tail, All-append, All-weaker, Contains-append_cases}
 use Rattle.std.proofs.lemmas.Option.{same_Some}
 use Rattle.art_bytes.specs.Text.{IsPrefixOf}
 use Rattle.art_bytes.proofs.PrefixLaws.{prefix-shorter}
+use Rattle.art_header.specs.Header.{capped}
 use Rattle.art_nodes.specs.ChildMap.{IsAscendingFrom, key_bytes, pairs_within}
 use Rattle.art_nodes.specs.Inner as nodes
 use Rattle.art_nodes.specs.Leaf.{leaf_key}
 use Rattle.art_nodes.specs.declared.pointers.OpaqueNodePtr.{OpaqueNodePtr}
 use Rattle.art_nodes.specs.declared.leaf_node.LeafNode.{LeafNode}
 use Rattle.art_arena.specs.Arena.{NodeArena, HeldInner, HeldLeaf, held}
-use Rattle.art_arena.specs.CommonPrefix.{IsLongestCommonPrefix, IsSharedFrom, Parting, full_match}
 use Rattle.art_arena.specs.Ends.{IsAtEnd}
-use Rattle.art_arena.specs.Standing.{StandsIn, AllStandIn, NodeStands, TreeAt, TreeUnder, IsTreeIn}
-use Rattle.art_arena.specs.Trees.{Tree, Leaf, Inner, Branches, NoBranch, Branch, branch_roots, root_of, leaves, texts, branch_leaves, IsSound, AreSound}
+use Rattle.art_arena.specs.Standing.{StandsIn, AllStandIn, NodeStands, TreeAt, IsTreeIn}
+use Rattle.art_arena.specs.Trees.{Tree, Leaf, Inner, Branches, NoBranch, Branch, branch_roots, root_of, leaves, texts, branch_leaves, branch_texts, IsSound, AreSound}
 use Rattle.art_arena.specs.declared.ends.End.TheVariants.{First, Last}
 use Rattle.art_map.specs.Cuts.{comes_before, is_before, AreOn, HasPart, IsBeside, IsCut, IsOnWay}
 use Rattle.art_map.specs.declared.cut.Side.{Side}
-use Rattle.art_map.proofs.TextLemmas.{common-all, ends-within, parts-after, parts-before, side-of-prefix}
+use Rattle.art_map.proofs.TextLemmas.{byte-behind, ends-within, parts-after, parts-before, prefix-starts, side-of-prefix, starts-prefix}
 
--- the sizes in memory of a pointer to a leaf and of a match
+-- the size in memory of a pointer to a leaf
 pub leaf-pointer-fits : 8 < 2 ^ 63
 leaf-pointer-fits = lit< tt
-
-pub match-fits : 40 < 2 ^ 63
-match-fits = lit< tt
 
 -- a text that begins with a prefix begins with the byte after it too
 prefix-next : (front key : List ℕ) (index : ℕ) → IsPrefixOf front key → length front ≡ index → index < length key → IsPrefixOf (front ++ get_or key index 0 ∷ []) key
@@ -49,18 +46,10 @@ whole-prefix front key (rest, is) short =
 pub prefix-within : (front key : List ℕ) → IsPrefixOf front key → length front ≤ length key
 prefix-within front key (rest, is) = omega (arith, ap length is, length-append front rest)
 
--- a prefix matches all of what begins with it
-full-all : (prefix rest : List ℕ) → full_match prefix (prefix ++ rest) ≡ Ok (length prefix)
-full-all prefix rest = elim (eqb_tells (common_prefix_len nat_eq prefix (prefix ++ rest)) (length prefix)) [
-  | inl same ↦ rw same.0 (ap (λ n. Ok n) same.1)
-  | inr differ ↦ absurd (differ.1 (common-all prefix rest))
-]
-
--- so a prefix that does not match is no prefix of the key
-pub no-prefix : (path prefix key : List ℕ) (depth : ℕ) (parting : Parting) → length path ≡ depth → Err parting ≡ full_match prefix (drop depth key) → IsPrefixOf (path ++ prefix) key → ⊥
-no-prefix path prefix key depth parting deep is (rest, key_is) =
-    let behind : drop depth key ≡ prefix ++ rest = ap (drop depth) (key_is ∙ append_assoc path prefix rest) ∙ drop_at path (prefix ++ rest) depth deep in
-    let wrong : Err parting ≡ Ok (length prefix) = is ∙ ap (full_match prefix) behind ∙ full-all prefix rest in absurd (cc)
+-- what follows from a fact of what an option may hold
+pub some-weaker : {A : Type 0} (o : Option A) (Q R : A → Type 0) → ((x : A) → Q x → R x) → IfSome o Q → IfSome o R
+some-weaker None Q R f is = is
+some-weaker (Some x) Q R f is = f x is
 
 -- a text goes on past a path by some byte
 pub record GoesOn (path text : List ℕ) : Type 0 where
@@ -107,6 +96,21 @@ module _ {H : Type 0} where
           All-append (λ leaf. is_before side key leaf.1 ≡ true) (leaves tree) (branch_leaves others) (all-before b tree sound.0 past.1) (none-from others (suc b) sound.1 ascend.2 rest)
     ]
 
+module _ {H : Type 0} (path : List ℕ) where
+  -- a text of a tree under one byte has no other byte there
+  byte-of : (b : ℕ) (tree : Tree H) → IsSound (path ++ b ∷ []) tree → (x : List ℕ) → Contains (texts tree) x → slice_get x (length path) ≡ Some b
+  byte-of b tree sound x inside =
+      byte-behind path b x (All-contains (IsPrefixOf (path ++ b ∷ [])) (texts tree) x (All-map (IsPrefixOf (path ++ b ∷ [])) (λ leaf. leaf.1) (leaves tree) (leaves-begin (path ++ b ∷ []) tree sound)) inside)
+
+  no-byte : (byte : ℕ) (branches : Branches H) (low : ℕ) → AreSound path branches → IsAscendingFrom low (key_bytes (branch_roots branches)) → byte < low
+      → (x : List ℕ) → Contains (branch_texts branches) x → slice_get x (length path) ≡ Some byte → ⊥
+  no-byte byte NoBranch low sound ascend less x inside at = absurd (omega (arith, inside.1))
+  no-byte byte (Branch c tree others) low sound ascend less x inside at =
+      elim (Contains-append_cases (texts tree) (branch_texts others) x (subst (λ xs. Contains xs x) (map-append (λ leaf. leaf.1) (leaves tree) (branch_leaves others)) inside)) [
+        | inl here ↦ let same = same_Some c byte (sym (byte-of c tree sound.0 x here) ∙ at) in absurd (omega (arith, same, ascend.0, less))
+        | inr later ↦ no-byte byte others (suc c) sound.1 ascend.2 (omega (arith, ascend.0, less)) x later at
+      ]
+
 module _ {K V : Type 0} {P : ℕ} (text : K → List ℕ) (arena : NodeArena K V P) (side : Side) (path key : List ℕ) (byte : ℕ) (leads : IsPrefixOf (path ++ byte ∷ []) key) where
   -- the branch under the least byte that is not below the key's, what is left of it, and what is right
   pub record IsSplit (branches : Branches (OpaqueNodePtr K V P)) (b : ℕ) (child : OpaqueNodePtr K V P) : Type 0 where
@@ -120,6 +124,7 @@ module _ {K V : Type 0} {P : ℕ} (text : K → List ℕ) (arena : NodeArena K V
     pub left_before : AreOn side key true left
     pub right_after : AreOn side key false right
     pub not_below : byte ≤ b
+    pub inside : b ≡ byte → (x : List ℕ) → Contains (branch_texts branches) x → slice_get x (length path) ≡ Some byte → Contains (texts sub) x
 
   pub split : (branches : Branches (OpaqueNodePtr K V P)) (low : ℕ) → AllStandIn text arena branches → AreSound path branches → IsAscendingFrom low (key_bytes (branch_roots branches)) → (b : ℕ) (child : OpaqueNodePtr K V P) → slice_get (pairs_within (branch_roots branches) (Included byte) Unbounded) 0 ≡ Some (b, child) → IsSplit branches b child
   split NoBranch low stand sound ascend b child some = absurd (cc)
@@ -138,6 +143,11 @@ module _ {K V : Type 0} {P : ℕ} (text : K → List ℕ) (arena : NodeArena K V
           left_before = All-nil (λ leaf. is_before side key leaf.1 ≡ true);
           right_after = rest-after side path key byte leads others (suc c) sound.1 ascend.2 (omega (arith, here.1));
           not_below = subst (λ b. byte ≤ b) (ap (λ pair. pair.0) same) here.1;
+          inside = λ one x among at.
+              elim (Contains-append_cases (texts tree) (branch_texts others) x (subst (λ xs. Contains xs x) (map-append (λ leaf. leaf.1) (leaves tree) (branch_leaves others)) among)) [
+                | inl under ↦ under
+                | inr later ↦ absurd (no-byte path byte others (suc c) sound.1 ascend.2 (omega (arith, one, ap (λ pair. pair.0) same)) x later at)
+              ];
         }
     | inr past ↦
         let later : slice_get (pairs_within (branch_roots others) (Included byte) Unbounded) 0 ≡ Some (b, child) = rw past.0 at some in
@@ -153,10 +163,15 @@ module _ {K V : Type 0} {P : ℕ} (text : K → List ℕ) (arena : NodeArena K V
           left_before = All-append (λ leaf. is_before side key leaf.1 ≡ true) (leaves tree) rest.left (all-before side path key byte leads c tree sound.0 past.1) rest.left_before;
           right_after = rest.right_after;
           not_below = rest.not_below;
+          inside = λ one x among at.
+              elim (Contains-append_cases (texts tree) (branch_texts others) x (subst (λ xs. Contains xs x) (map-append (λ leaf. leaf.1) (leaves tree) (branch_leaves others)) among)) [
+                | inl under ↦ let same = same_Some c byte (sym (byte-of path c tree sound.0 x under) ∙ at) in absurd (omega (arith, same, past.1))
+                | inr later ↦ rest.inside one x later at
+              ];
         }
   ]
 
-module _ {K V : Type 0} {P : ℕ} (text : K → List ℕ) (arena : NodeArena K V P) (tree : Tree (OpaqueNodePtr K V P)) (side : Side) (key : List ℕ) (at : OpaqueNodePtr K V P) (depth : ℕ) where
+module _ {K V : Type 0} {P : ℕ} (text : K → List ℕ) (arena : NodeArena K V P) (tree : Tree (OpaqueNodePtr K V P)) (side : Side) (key : List ℕ) (at : OpaqueNodePtr K V P) (depth : ℕ) (known : Option (List ℕ)) where
   -- the way at an inner node
   pub record IsInnerWay (node : nodes.Inner (OpaqueNodePtr K V P)) : Type 0 where
     pub prefix : List ℕ
@@ -173,6 +188,7 @@ module _ {K V : Type 0} {P : ℕ} (text : K → List ℕ) (arena : NodeArena K V
     pub whole : leaves tree ≡ left ++ (branch_leaves branches ++ right)
     pub left_before : AreOn side key true left
     pub right_after : AreOn side key false right
+    pub known_below : IfSome known (Contains (branch_texts branches))
 
   inner-of : (part : Tree (OpaqueNodePtr K V P)) → root_of part ≡ at → StandsIn text arena part → (node : nodes.Inner (OpaqueNodePtr K V P)) → held arena at ≡ HeldInner node → (prefix : List ℕ) × (branches : Branches (OpaqueNodePtr K V P)) × (part ≡ Inner at prefix branches) × NodeStands P node prefix branches × AllStandIn text arena branches
   inner-of (Leaf pointer x) at_root stands node is = let wrong : HeldLeaf stands.0 ≡ HeldInner node = sym stands.1 ∙ ap (held arena) at_root ∙ is in absurd (cc)
@@ -181,7 +197,7 @@ module _ {K V : Type 0} {P : ℕ} (text : K → List ℕ) (arena : NodeArena K V
       let same : stands.0 ≡ node = cc in
       (prefix, branches, ap (λ p. Inner p prefix branches) at_root, subst (λ n. NodeStands P n prefix branches) same stands.2, stands.3)
 
-  pub inner-way : (node : nodes.Inner (OpaqueNodePtr K V P)) → held arena at ≡ HeldInner node → IsOnWay text arena tree side key at depth → IsInnerWay node
+  pub inner-way : (node : nodes.Inner (OpaqueNodePtr K V P)) → held arena at ≡ HeldInner node → IsOnWay text arena tree side key at depth known → IsInnerWay node
   inner-way node is way =
       let inner = inner-of way.around.part way.around.at_root way.around.stands node is in
       record {
@@ -199,15 +215,21 @@ module _ {K V : Type 0} {P : ℕ} (text : K → List ℕ) (arena : NodeArena K V
         whole = way.around.whole ∙ ap (λ part. way.around.left ++ (leaves part ++ way.around.right)) inner.2;
         left_before = way.around.left_before;
         right_after = way.around.right_after;
+        known_below = subst (λ part. IfSome known (Contains (texts part))) inner.2 way.below;
       }
 
-  pub way-within : IsOnWay text arena tree side key at depth → depth ≤ length key
+  pub part-is : (node : nodes.Inner (OpaqueNodePtr K V P)) (is : held arena at ≡ HeldInner node) (way : IsOnWay text arena tree side key at depth known) → way.around.part ≡ Inner at (inner-way node is way).prefix (inner-way node is way).branches
+  unfolding inner-way inner-of
+  part-is node is way = (inner-of way.around.part way.around.at_root way.around.stands node is).2
+
+  -- the tree at the node
+  abbrev pub way-tree : IsOnWay text arena tree side key at depth known → TreeAt text arena at
+  way-tree way = record { tree = way.around.part; path = way.around.path; at_root = way.around.at_root; stands = way.around.stands; sound = way.around.sound }
+
+  pub way-within : IsOnWay text arena tree side key at depth known → depth ≤ length key
   way-within way = omega (arith, way.deep, prefix-within way.around.path key way.leads)
 
   module _ (node : nodes.Inner (OpaqueNodePtr K V P)) (way : IsInnerWay node) where
-    abbrev pub under : TreeUnder text arena node depth
-    under = record { tree = Inner at way.prefix way.branches; path = way.path; stands = (way.shows, way.stand); sound = way.sound; deep = way.deep }
-
     abbrev here : HasPart text arena tree side key at
     here =
         record {
@@ -226,31 +248,41 @@ module _ {K V : Type 0} {P : ℕ} (text : K → List ℕ) (arena : NodeArena K V
     opens : All (λ leaf. GoesOn (way.path ++ way.prefix) leaf.1) (branch_leaves way.branches)
     opens = branches-begin (way.path ++ way.prefix) way.branches way.sound.2
 
-    shared-here : IsLongestCommonPrefix (texts (Inner at way.prefix way.branches)) (way.path ++ way.prefix) → IsSharedFrom depth (texts (Inner at way.prefix way.branches)) way.prefix
-    shared-here shares = (way.path ++ way.prefix, shares, sym (drop_at way.path way.prefix depth way.deep))
+    -- the prefix, as the node stores it or a text below has it
+    pub prefix-stored : node.prefix_len ≤ P → node.stored ≡ way.prefix
+    prefix-stored few = way.shows.stored ∙ take_all (capped P (length way.prefix)) way.prefix (omega (arith, few, way.shows.prefix_len))
+
+    pub prefix-in-text : (x : List ℕ) → Contains (branch_texts way.branches) x → (depth + length way.prefix ≤ length x) × (take (length way.prefix) (drop depth x) ≡ way.prefix)
+    prefix-in-text x inside =
+        let q = way.path ++ way.prefix in
+        let goes = All-contains (GoesOn q) (branch_texts way.branches) x (All-map (GoesOn q) (λ leaf. leaf.1) (branch_leaves way.branches) opens) inside in
+        let begins = prefix-shorter q (goes.byte ∷ []) x goes.on in
+        let rest : drop depth x ≡ way.prefix ++ begins.0 = ap (drop depth) (begins.1 ∙ append_assoc way.path way.prefix begins.0) ∙ drop_at way.path (way.prefix ++ begins.0) depth way.deep in
+        (omega (arith, way.deep, length-append way.path way.prefix, ap length begins.1, length-append q begins.0), ap (take (length way.prefix)) rest ∙ take_at way.prefix begins.0 (length way.prefix) refl)
+
+    -- the key begins with the prefix too, or not
+    pub key-begins : starts_with nat_eq (drop depth key) way.prefix ≡ true → IsPrefixOf (way.path ++ way.prefix) key
+    key-begins starts =
+        let (rest, is) = starts-prefix (drop depth key) way.prefix starts in
+        let behind : drop depth key ≡ way.leads.0 = ap (drop depth) way.leads.1 ∙ drop_at way.path way.leads.0 depth way.deep in
+        (rest, way.leads.1 ∙ ap (λ r. way.path ++ r) (sym behind ∙ is) ∙ sym (append_assoc way.path way.prefix rest))
+
+    key-parts : starts_with nat_eq (drop depth key) way.prefix ≡ false → IsPrefixOf (way.path ++ way.prefix) key → ⊥
+    key-parts differ (rest, is) =
+        let behind : drop depth key ≡ way.prefix ++ rest = ap (drop depth) (is ∙ append_assoc way.path way.prefix rest) ∙ drop_at way.path (way.prefix ++ rest) depth way.deep in
+        let wrong : true ≡ false = sym (prefix-starts way.prefix rest) ∙ ap (λ t. starts_with nat_eq t way.prefix) (sym behind) ∙ differ in absurd (cc)
 
     -- the key parts from the prefix, or ends within it
-    pub beside-apart : IsLongestCommonPrefix (texts (Inner at way.prefix way.branches)) (way.path ++ way.prefix)
-        → (parting : Parting)
-        → ((shared : List ℕ) → IsSharedFrom depth (texts (Inner at way.prefix way.branches)) shared → Err parting ≡ full_match shared (drop depth key))
-        → IsBeside text arena tree side key at
-    beside-apart shares parting matched =
+    pub beside-apart : starts_with nat_eq (drop depth key) way.prefix ≡ false → IsBeside text arena tree side key at
+    beside-apart differ =
         let q = way.path ++ way.prefix in
-        let never = no-prefix way.path way.prefix key depth parting way.deep (matched way.prefix (shared-here shares)) in
         record {
           around = here;
           before = is_before side key q;
           one_side =
               All-weaker (λ leaf. GoesOn q leaf.1) (λ leaf. is_before side key leaf.1 ≡ is_before side key q)
-              (λ leaf goes. side-of-prefix side q key leaf.1 never (prefix-shorter q (goes.byte ∷ []) leaf.1 goes.on)) (branch_leaves way.branches) opens;
+              (λ leaf goes. side-of-prefix side q key leaf.1 (key-parts differ) (prefix-shorter q (goes.byte ∷ []) leaf.1 goes.on)) (branch_leaves way.branches) opens;
         }
-
-    -- where all of the prefix is matched, the key begins with it
-    pub key-begins : IsLongestCommonPrefix (texts (Inner at way.prefix way.branches)) (way.path ++ way.prefix)
-        → ((shared : List ℕ) → IsSharedFrom depth (texts (Inner at way.prefix way.branches)) shared → All (IsPrefixOf (way.path ++ shared)) (key ∷ texts (Inner at way.prefix way.branches)))
-        → IsPrefixOf (way.path ++ way.prefix) key
-    key-begins shares begun =
-        All-head (IsPrefixOf (way.path ++ way.prefix)) key (texts (Inner at way.prefix way.branches)) (begun way.prefix (shared-here shares))
 
     module _ (begins : IsPrefixOf (way.path ++ way.prefix) key) (matched : ℕ) (is_whole : matched ≡ node.prefix_len) where
       long : length (way.path ++ way.prefix) ≡ depth + matched
@@ -308,13 +340,17 @@ module _ {K V : Type 0} {P : ℕ} (text : K → List ℕ) (arena : NodeArena K V
                 right_after = All-append (λ leaf. is_before side key leaf.1 ≡ false) parts.right way.right parts.right_after way.right_after;
               }
 
-          -- the key goes on to the child
-          pub goes-on : least ≡ byte → IsOnWay text arena tree side key child (depth + matched + 1)
-          goes-on same =
+          -- the key goes on to the child, and so does a text below the node that has the byte there
+          pub goes-on : least ≡ byte → (next : Option (List ℕ)) → IfSome next (λ x. Contains (branch_texts way.branches) x × (slice_get x (depth + matched) ≡ Some byte))
+              → IsOnWay text arena tree side key child (depth + matched + 1) next
+          goes-on same next known_there =
               record {
                 around = child-part;
                 leads = subst (λ b. IsPrefixOf ((way.path ++ way.prefix) ++ b ∷ []) key) (sym same) leads-byte;
                 deep = omega (arith, length-append (way.path ++ way.prefix) (least ∷ []), long);
+                below =
+                    some-weaker next (λ x. Contains (branch_texts way.branches) x × (slice_get x (depth + matched) ≡ Some byte)) (Contains (texts parts.sub))
+                    (λ x is. parts.inside same x is.0 (ap (slice_get x) long ∙ is.1)) known_there;
               }
 
           -- the child is past the key
@@ -335,8 +371,8 @@ module _ {K V : Type 0} {P : ℕ} (text : K → List ℕ) (arena : NodeArena K V
   leaf-part at (Inner pointer prefix branches) at_root stands node is = let wrong : HeldInner stands.0 ≡ HeldLeaf node = sym stands.1 ∙ ap (held arena) at_root ∙ is in absurd (cc)
 
   -- a leaf lies on one side
-  pub beside-leaf : (at : OpaqueNodePtr K V P) (depth : ℕ) → IsOnWay text arena tree side key at depth → (node : LeafNode K V P) → held arena at ≡ HeldLeaf node → IsBeside text arena tree side key at
-  beside-leaf at depth way node is =
+  pub beside-leaf : (at : OpaqueNodePtr K V P) (depth : ℕ) (known : Option (List ℕ)) → IsOnWay text arena tree side key at depth known → (node : LeafNode K V P) → held arena at ≡ HeldLeaf node → IsBeside text arena tree side key at
+  beside-leaf at depth known way node is =
       let x = text (leaf_key node) in
       record {
         around = way.around;
@@ -347,7 +383,7 @@ module _ {K V : Type 0} {P : ℕ} (text : K → List ℕ) (arena : NodeArena K V
       }
 
   -- at the root nothing is left or right
-  pub starts : (root : OpaqueNodePtr K V P) → IsTreeIn text arena root tree → IsOnWay text arena tree side key root 0
+  pub starts : (root : OpaqueNodePtr K V P) → IsTreeIn text arena root tree → IsOnWay text arena tree side key root 0 None
   starts root is =
       record {
         around =
@@ -365,6 +401,7 @@ module _ {K V : Type 0} {P : ℕ} (text : K → List ℕ) (arena : NodeArena K V
             };
         leads = (key, refl);
         deep = refl;
+        below = tt;
       }
 
   -- a leaf is held, and has its text

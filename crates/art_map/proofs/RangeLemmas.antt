@@ -1,8 +1,9 @@
 -- The leaves between two places in the order of texts, and what they hold.
-use Rattle.std.proofs.Common.{◌≡◌, ◌≢◌, ◌∙◌, ℕ, ◌⊎◌, cond, Bool, true, false, not, ◌&&◌, List, [], ◌∷◌, ◌++◌, map, filter, All, AllPairs, Contains, Option, Some, None, refl, sym, ap, subst, inl, inr, arith, get_or, append_assoc, append-nil}
+use Rattle.std.proofs.Common.{◌≡◌, ◌≢◌, ◌∙◌, ℕ, ◌-◌, ◌⊎◌, cond, Bool, true, false, not, ◌&&◌, List, [], ◌∷◌, ◌++◌, length, length-append, map, filter, slice_get, All, AllPairs, Contains, Option, Some, None, refl, sym, ap, subst, inl, inr, arith, get_or, append_assoc, append-nil}
 use Rattle.std.specs.Option.{option_map}
 use Rattle.std.specs.declared.cmp.Ordering.TheVariants.{Less}
 use Rattle.std.proofs.lemmas.List.{map-append}
+use Rattle.std.proofs.lemmas.Option.{same_Some}
 use Rattle.std.proofs.lemmas.List.Elements.{All-nil, All-cons, All-head, All-tail, All-append, All-weaker, Contains-append_right, filter-append, filter_map-append}
 use Rattle.art_bytes.specs.Text.{text_order}
 use Rattle.art_nodes.specs.Leaf.{leaf_key, leaf_value}
@@ -267,6 +268,120 @@ module _ {K V : Type 0} {P : ℕ} (text : K → List ℕ) (arena : NodeArena K V
             of-leaves (run_of arena (Some (front, back)))
             (range-is text arena start_side start end_side end tree hold low.1 low.2 high.1 high.2 f b low.3 low.4 low.5 high.3 high.4 high.5 alone.spelled inside
             ∙ ap (entries_under arena) (sym (run-is arena (slab_key front) (slab_key back) range-run.0 range-run.1)))
+
+-- a filter of one list behind another, and the last member of such a list
+last-of : {X : Type 0} (xs : List X) (x : X) → slice_get (xs ++ x ∷ []) (length (xs ++ x ∷ []) - 1) ≡ Some x
+last-of {X = X} xs x = ap (slice_get (xs ++ x ∷ [])) (omega (arith, length-append xs (x ∷ []))) ∙ behind xs
+  where
+    behind : (xs : List X) → slice_get (xs ++ x ∷ []) (length xs) ≡ Some x
+    behind [] = refl
+    behind (y ∷ xs) = behind xs
+
+module _ {K V : Type 0} {P : ℕ} (text : K → List ℕ) (arena : NodeArena K V P) (test : List ℕ → Bool) where
+  abbrev kept : List (K × V) → List (K × V)
+  kept entries = filter (λ entry. test (text entry.0)) entries
+
+  keep-all : (pairs : List (OpaqueNodePtr K V P × List ℕ)) → AllHold text arena pairs → All (λ leaf. test leaf.1 ≡ true) pairs → kept (held_by text arena pairs) ≡ held_by text arena pairs
+  keep-all [] hold all = refl
+  keep-all (pair ∷ pairs) hold all =
+      let cons = entries-cons arena (opaque_key pair.0) (keys_of pairs) hold.0.leaf hold.0.at in
+      let here : test (text (leaf_entry hold.0.leaf).0) ≡ true = ap test hold.0.has ∙ All-head (λ leaf. test leaf.1 ≡ true) pair pairs all in
+      let rest = keep-all pairs hold.1 (All-tail (λ leaf. test leaf.1 ≡ true) pair pairs all) in
+      ap kept cons ∙ ap (λ b. cond b (leaf_entry hold.0.leaf ∷ kept (held_by text arena pairs)) (kept (held_by text arena pairs))) here ∙ ap (λ es. leaf_entry hold.0.leaf ∷ es) rest ∙ sym cons
+
+  leave-all : (pairs : List (OpaqueNodePtr K V P × List ℕ)) → AllHold text arena pairs → All (λ leaf. test leaf.1 ≡ false) pairs → kept (held_by text arena pairs) ≡ []
+  leave-all [] hold all = refl
+  leave-all (pair ∷ pairs) hold all =
+      let cons = entries-cons arena (opaque_key pair.0) (keys_of pairs) hold.0.leaf hold.0.at in
+      let here : test (text (leaf_entry hold.0.leaf).0) ≡ false = ap test hold.0.has ∙ All-head (λ leaf. test leaf.1 ≡ false) pair pairs all in
+      let rest = leave-all pairs hold.1 (All-tail (λ leaf. test leaf.1 ≡ false) pair pairs all) in
+      ap kept cons ∙ ap (λ b. cond b (leaf_entry hold.0.leaf ∷ kept (held_by text arena pairs)) (kept (held_by text arena pairs))) here ∙ rest
+
+  -- where the test fails up to one part, and holds from it on, or the other way round
+  kept-right : (whole left right : List (OpaqueNodePtr K V P × List ℕ)) → whole ≡ left ++ right → AllHold text arena whole → All (λ leaf. test leaf.1 ≡ false) left → All (λ leaf. test leaf.1 ≡ true) right → kept (held_by text arena whole) ≡ held_by text arena right
+  kept-right whole left right is hold out inside =
+      let parts = subst (AllHold text arena) is hold in
+      ap (λ pairs. kept (held_by text arena pairs)) is ∙ ap kept (held-append text arena left right)
+      ∙ filter-append (λ entry. test (text entry.0)) (held_by text arena left) (held_by text arena right)
+      ∙ ap (λ es. es ++ kept (held_by text arena right)) (leave-all left (hold-left text arena left right parts) out) ∙ keep-all right (hold-right text arena left right parts) inside
+
+  kept-left : (whole left right : List (OpaqueNodePtr K V P × List ℕ)) → whole ≡ left ++ right → AllHold text arena whole → All (λ leaf. test leaf.1 ≡ true) left → All (λ leaf. test leaf.1 ≡ false) right → kept (held_by text arena whole) ≡ held_by text arena left
+  kept-left whole left right is hold inside out =
+      let parts = subst (AllHold text arena) is hold in
+      ap (λ pairs. kept (held_by text arena pairs)) is ∙ ap kept (held-append text arena left right)
+      ∙ filter-append (λ entry. test (text entry.0)) (held_by text arena left) (held_by text arena right)
+      ∙ ap (λ es. kept (held_by text arena left) ++ es) (leave-all right (hold-right text arena left right parts) out)
+      ∙ append-nil (kept (held_by text arena left)) ∙ keep-all left (hold-left text arena left right parts) inside
+
+module _ {K V : Type 0} {P : ℕ} (text : K → List ℕ) (arena : NodeArena K V P) (root : OpaqueNodePtr K V P) (tree : Tree (OpaqueNodePtr K V P)) (alone : IsAlone text arena root tree)
+    (held_law : (pointer : OpaqueNodePtr K V P) (x : List ℕ) → Contains (leaves tree) (pointer, x) → (leaf : LeafNode K V P) × (held arena pointer ≡ HeldLeaf leaf) × (text (leaf_key leaf) ≡ x))
+    (leaves_law : (pointer : OpaqueNodePtr K V P) (x : List ℕ) (leaf : LeafNode K V P) → Contains (leaves tree) (pointer, x) → held arena pointer ≡ HeldLeaf leaf → entry_at text arena x ≡ Some (leaf_key leaf, leaf_value leaf))
+    (texts_law : (x : List ℕ) → HasEntry text arena x → Contains (texts tree) x)
+    (ascend : AllPairs (λ a b. text_order a b ≡ Less) (texts tree)) (only_law : (entries : List (K × V)) → AreEntries text arena entries → entries ≡ entries_of text arena) (side : Side) (key : List ℕ) where
+  all-hold : AllHold text arena (leaves tree)
+  all-hold = leaves-hold text arena root tree alone held_law leaves_law texts_law ascend
+
+  entries-are : held_by text arena (leaves tree) ≡ entries_of text arena
+  entries-are = only_law (held_by text arena (leaves tree)) (entries-of-leaves text arena root tree alone held_law leaves_law texts_law ascend)
+
+  abbrev from-place : List (K × V) → List (K × V)
+  from-place entries = kept text arena (λ x. not (is_before side key x)) entries
+
+  abbrev to-place : List (K × V) → List (K × V)
+  to-place entries = kept text arena (is_before side key) entries
+
+  turned : (before : Bool) (pairs : List (OpaqueNodePtr K V P × List ℕ)) → AreOn side key before pairs → All (λ leaf. not (is_before side key leaf.1) ≡ not before) pairs
+  turned before pairs on = All-weaker (λ leaf. is_before side key leaf.1 ≡ before) (λ leaf. not (is_before side key leaf.1) ≡ not before) (λ leaf is. ap not is) pairs on
+
+  pub none-after : IsFirstAfter side key (leaves tree) None → slice_get (from-place (entries_of text arena)) 0 ≡ None
+  none-after before =
+      ap (λ es. slice_get (from-place es) 0) (sym entries-are)
+      ∙ ap (λ es. slice_get es 0) (leave-all text arena (λ x. not (is_before side key x)) (leaves tree) all-hold (turned true (leaves tree) before))
+
+  pub none-before : IsLastBefore side key (leaves tree) None → slice_get (to-place (entries_of text arena)) (length (to-place (entries_of text arena)) - 1) ≡ None
+  none-before past =
+      let none = ap to-place (sym entries-are) ∙ leave-all text arena (is_before side key) (leaves tree) all-hold past in
+      ap (λ es. slice_get es (length es - 1)) none
+
+  module _ (at : NodePtr P (LeafNode K V P)) where
+    pub first-after : (low : IsFirstAfter side key (leaves tree) (Some (leaf_pointer at))) → slice_get (from-place (entries_of text arena)) 0 ≡ option_map leaf_entry (leaf_at arena (slab_key at))
+    first-after (x, left, right, is, before, after) =
+        let later = (leaf_pointer at, x) ∷ right in
+        let hold = hold-right text arena left later (subst (AllHold text arena) is all-hold) in
+        ap (λ es. slice_get (from-place es) 0) (sym entries-are)
+        ∙ ap (λ es. slice_get es 0) (kept-right text arena (λ x. not (is_before side key x)) (leaves tree) left later is all-hold (turned true left before) (turned false later after)
+        ∙ entries-cons arena (slab_key at) (keys_of right) hold.0.leaf hold.0.at)
+        ∙ sym (ap (option_map leaf_entry) hold.0.at)
+
+    pub last-before : (high : IsLastBefore side key (leaves tree) (Some (leaf_pointer at))) → slice_get (to-place (entries_of text arena)) (length (to-place (entries_of text arena)) - 1) ≡ option_map leaf_entry (leaf_at arena (slab_key at))
+    last-before (x, left, right, is, before, after) =
+        let here = (leaf_pointer at, x) ∷ [] in
+        let earlier = left ++ here in
+        let split : leaves tree ≡ earlier ++ right = is ∙ sym (append_assoc left here right) in
+        let hold = hold-right text arena left here (hold-left text arena earlier right (subst (AllHold text arena) split all-hold)) in
+        let all : to-place (entries_of text arena) ≡ held_by text arena left ++ leaf_entry hold.0.leaf ∷ [] =
+        ap to-place (sym entries-are) ∙ kept-left text arena (is_before side key) (leaves tree) earlier right split all-hold before after
+        ∙ held-append text arena left here ∙ ap (λ es. held_by text arena left ++ es) (entries-cons arena (slab_key at) [] hold.0.leaf hold.0.at) in
+        ap (λ es. slice_get es (length es - 1)) all ∙ last-of (held_by text arena left) (leaf_entry hold.0.leaf) ∙ sym (ap (option_map leaf_entry) hold.0.at)
+
+    -- the leaf is held
+    pub first-held : IsFirstAfter side key (leaves tree) (Some (leaf_pointer at)) → (leaf : LeafNode K V P) × (held arena (leaf_pointer at) ≡ HeldLeaf leaf)
+    first-held (x, left, right, is, before, after) =
+        let there = held_law (leaf_pointer at) x (subst (λ all. Contains all (leaf_pointer at, x)) (sym is) (Contains-append_right left ((leaf_pointer at, x) ∷ right) (leaf_pointer at, x) (0, omega arith, refl))) in
+        (there.0, there.1)
+
+    pub last-held : IsLastBefore side key (leaves tree) (Some (leaf_pointer at)) → (leaf : LeafNode K V P) × (held arena (leaf_pointer at) ≡ HeldLeaf leaf)
+    last-held (x, left, right, is, before, after) =
+        let there = held_law (leaf_pointer at) x (subst (λ all. Contains all (leaf_pointer at, x)) (sym is) (Contains-append_right left ((leaf_pointer at, x) ∷ right) (leaf_pointer at, x) (0, omega arith, refl))) in
+        (there.0, there.1)
+
+-- key and value of a leaf make its entry
+pub entry-of-parts : {K V : Type 0} {P : ℕ} (o : Option (LeafNode K V P)) (key : K) (value : V) → option_map leaf_key o ≡ Some key → option_map leaf_value o ≡ Some value → Some (key, value) ≡ option_map leaf_entry o
+entry-of-parts None key value at_key at_value = absurd (cc)
+entry-of-parts (Some leaf) key value at_key at_value =
+    let same = same_Some (leaf_key leaf) key at_key in
+    let same_value = same_Some (leaf_value leaf) value at_value in
+    λ i. Some (sym same i, sym same_value i)
 
 pub something-held : {H L : Type 0} (at : Held H L) (leaf : L) → at ≡ HeldLeaf leaf → at ≢ Nothing
 something-held at leaf is none = let wrong : HeldLeaf leaf ≡ Nothing = sym is ∙ none in absurd (cc)

@@ -1,8 +1,8 @@
 -- On which side of a place in the order of texts a text lies.
-use Rattle.std.proofs.Common.{◌≡◌, ◌∙◌, ℕ, ◌<◌, Bool, true, false, not, ◌&&◌, List, [], ◌∷◌, ◌++◌, length, filter, refl, sym, ap, inl, inr, arith, nat_eq, append_assoc, append-nil}
+use Rattle.std.proofs.Common.{◌≡◌, ◌∙◌, ℕ, ◌<◌, Bool, true, false, not, ◌&&◌, List, [], ◌∷◌, ◌++◌, length, filter, Some, slice_get, refl, sym, ap, inl, inr, arith, nat_eq, append_assoc, append-nil}
 use Rattle.std.specs.Cmp.{nat_cmp_is}
 use Rattle.std.specs.Cmp.Lexicographic.{slice_cmp}
-use Rattle.std.specs.List.{common_prefix_len, starts_with}
+use Rattle.std.specs.List.{starts_with}
 use Rattle.std.specs.Ordering.{nat_cmp, ordering_then, is_lt, is_le, is_gt, is_ge}
 use Rattle.std.specs.declared.cmp.Ordering.{Ordering}
 use Rattle.std.specs.declared.cmp.Ordering.TheVariants.{Less, Equal, Greater}
@@ -63,7 +63,7 @@ longer : (b : ℕ) (t : List ℕ) → Compares (b ∷ t) [] Greater true
 longer b t = record { order_is = refl; begun_is = refl }
 
 -- a text that begins with a longer prefix, as it has it
-opened : (path : List ℕ) (a : ℕ) (text : List ℕ) (front : IsPrefixOf (path ++ a ∷ []) text) → text ≡ path ++ a ∷ front.0
+pub opened : (path : List ℕ) (a : ℕ) (text : List ℕ) (front : IsPrefixOf (path ++ a ∷ []) text) → text ≡ path ++ a ∷ front.0
 opened path a text front = front.1 ∙ append_assoc path (a ∷ []) front.0
 
 before-less : (side : Side) → comes_before side Less false ≡ true
@@ -124,13 +124,33 @@ pub side-of-prefix : (side : Side) (q key text : List ℕ) → (IsPrefixOf q key
 side-of-prefix side q key text never (rest, is) =
     ap (is_before side key) is ∙ lies side key (q ++ rest) (text_order q key) (starts_with nat_eq q key) (parts-from-prefix q key rest never)
 
--- a prefix has all its bytes in common with what begins with it
-pub common-all : (prefix rest : List ℕ) → common_prefix_len nat_eq prefix (prefix ++ rest) ≡ length prefix
-common-all [] rest = refl
-common-all (x ∷ prefix) rest = elim (eqb_tells x x) [
-  | inl same ↦ rw same.0 (let later = common-all prefix rest in omega (arith, later))
+-- a text that is found to start with a prefix begins with it, and the other way round
+pub starts-prefix : (text prefix : List ℕ) → starts_with nat_eq text prefix ≡ true → IsPrefixOf prefix text
+starts-prefix text [] is = (text, refl)
+starts-prefix [] (y ∷ prefix) is = absurd (cc)
+starts-prefix (x ∷ text) (y ∷ prefix) is = elim (eqb_tells y x) [
+  | inl same ↦
+      let later : starts_with nat_eq text prefix ≡ true = rw same.0 at is in
+      let (rest, whole) = starts-prefix text prefix later in
+      (rest, (λ i. sym same.1 i ∷ whole i))
+  | inr differ ↦ let wrong : false ≡ true = rw differ.0 at is in absurd (cc)
+]
+
+pub prefix-starts : (prefix rest : List ℕ) → starts_with nat_eq (prefix ++ rest) prefix ≡ true
+prefix-starts [] [] = refl
+prefix-starts [] (x ∷ rest) = refl
+prefix-starts (x ∷ prefix) rest = elim (eqb_tells x x) [
+  | inl same ↦ rw same.0 (prefix-starts prefix rest)
   | inr differ ↦ absurd (differ.1 refl)
 ]
+
+-- the byte behind a prefix
+pub byte-behind : (path : List ℕ) (a : ℕ) (text : List ℕ) → IsPrefixOf (path ++ a ∷ []) text → slice_get text (length path) ≡ Some a
+byte-behind path a text front = ap (λ t. slice_get t (length path)) (opened path a text front) ∙ past path front.0
+  where
+    past : (path rest : List ℕ) → slice_get (path ++ a ∷ rest) (length path) ≡ Some a
+    past [] rest = refl
+    past (x ∷ path) rest = past path rest
 
 -- nothing comes before the empty key, and everything before the end of all that begins with it
 pub none-before : (text : List ℕ) → is_before Before [] text ≡ false
@@ -190,10 +210,3 @@ filter-all {A} p all xs = filter-same p (λ _. true) all xs ∙ keep xs
     keep : (xs : List A) → filter (λ _. true) xs ≡ xs
     keep [] = refl
     keep (x ∷ xs) = ap (λ ys. x ∷ ys) (keep xs)
-
--- what is between a key and the end of all texts is not below the key, or above it
-pub from-between : (key text : List ℕ) → is_between Before key AfterBegun [] text ≡ is_ge (text_order text key)
-from-between key text = (λ i. all-before text i && not (is_before Before key text)) ∙ not-lt (text_order text key)
-
-pub above-between : (key text : List ℕ) → is_between After key AfterBegun [] text ≡ is_gt (text_order text key)
-above-between key text = (λ i. all-before text i && not (is_before After key text)) ∙ not-le (text_order text key)

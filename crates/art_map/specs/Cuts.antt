@@ -1,5 +1,5 @@
 -- A place in the order of texts, and the leaves of a tree before and after it.
-use Rattle.std.specs.Prelude.{◌≡◌, ℕ, Bool, true, false, not, ◌&&◌, ◌||◌, List, [], ◌∷◌, ◌++◌, length, All, Option, Some, None, nat_eq}
+use Rattle.std.specs.Prelude.{◌≡◌, ℕ, Bool, true, false, not, ◌&&◌, ◌||◌, List, [], ◌∷◌, ◌++◌, length, All, Contains, Option, Some, None, IfSome, nat_eq}
 use Rattle.std.specs.List.{starts_with}
 use Rattle.std.specs.Ordering.{is_lt, is_le}
 use Rattle.std.specs.declared.cmp.Ordering.{Ordering}
@@ -7,7 +7,7 @@ use Rattle.art_bytes.specs.Text.{IsPrefixOf, text_order}
 use Rattle.art_nodes.specs.declared.pointers.OpaqueNodePtr.{OpaqueNodePtr}
 use Rattle.art_arena.specs.Arena.{NodeArena}
 use Rattle.art_arena.specs.Standing.{StandsIn}
-use Rattle.art_arena.specs.Trees.{Tree, leaves, root_of, IsSound}
+use Rattle.art_arena.specs.Trees.{Tree, leaves, texts, root_of, IsSound}
 use Rattle.art_arena.specs.declared.ends.End.{End}
 use Rattle.art_arena.specs.declared.ends.End.TheVariants.{First, Last}
 use Rattle.art_map.specs.declared.cut.Side.{Side}
@@ -75,11 +75,12 @@ module _ {K V : Type 0} {P : ℕ} (text : K → List ℕ) (arena : NodeArena K V
     pub left_before : AreOn side key true left
     pub right_after : AreOn side key false right
 
-  -- the key goes on to this node, by as many bytes
-  pub record IsOnWay (tree : Tree (OpaqueNodePtr K V P)) (side : Side) (key : List ℕ) (at : OpaqueNodePtr K V P) (depth : ℕ) : Type 0 where
+  -- the key goes on to this node, by as many bytes; where the text of a leaf is known, it is below
+  pub record IsOnWay (tree : Tree (OpaqueNodePtr K V P)) (side : Side) (key : List ℕ) (at : OpaqueNodePtr K V P) (depth : ℕ) (known : Option (List ℕ)) : Type 0 where
     pub around : HasPart tree side key at
     pub leads : IsPrefixOf around.path key
     pub deep : length around.path ≡ depth
+    pub below : IfSome known (Contains (texts around.part))
 
   -- the leaves below this node lie on one side of the place
   pub record IsBeside (tree : Tree (OpaqueNodePtr K V P)) (side : Side) (key : List ℕ) (at : OpaqueNodePtr K V P) : Type 0 where
@@ -88,8 +89,8 @@ module _ {K V : Type 0} {P : ℕ} (text : K → List ℕ) (arena : NodeArena K V
     pub one_side : AreOn side key before (leaves around.part)
 
   -- the node is on the way in some tree
-  abbrev pub HasWay : Side → List ℕ → OpaqueNodePtr K V P → ℕ → Type 0
-  HasWay side key at depth = (tree : Tree (OpaqueNodePtr K V P)) × IsOnWay tree side key at depth
+  abbrev pub HasWay : Side → List ℕ → OpaqueNodePtr K V P → ℕ → Option (List ℕ) → Type 0
+  HasWay side key at depth known = (tree : Tree (OpaqueNodePtr K V P)) × IsOnWay tree side key at depth known
 
   -- the leaves below the node lie on one side of the place, in some tree
   abbrev pub HasCutBeside : Side → List ℕ → OpaqueNodePtr K V P → Type 0

@@ -3,7 +3,7 @@ use Rattle.std.specs.Prelude.{ℕ, ◌<◌, ◌≤◌, ◌^◌, ◌&&◌, not, L
 use Rattle.std.specs.Borrow.{Bor}
 use Rattle.std.specs.Cmp.Lexicographic.{pointwise}
 use Rattle.std.specs.List.{starts_with}
-use Rattle.std.specs.Ordering.{match_ordering}
+use Rattle.std.specs.Ordering.{is_ge, is_gt, match_ordering}
 use Rattle.std.specs.declared.ops.Bound.{Bound}
 use Rattle.art_bytes.specs.Text.{text_order}
 use Rattle.art_tree.specs.Dictionary.{Clashes}
@@ -29,6 +29,14 @@ module _ {K : Type 0} (text : K → List ℕ) where
   -- the keys within two bounds
   abbrev pub keys_within : {Q : Type 0} → (Q → List ℕ) → Bound (Bor Q) → Bound (Bor Q) → List K → List K
   keys_within bound_text start end keys = filter (λ key. is_up_to bound_text end (text key) && is_from bound_text start (text key)) keys
+
+  -- the keys that are not below these bytes
+  abbrev pub keys_from : List ℕ → List K → List K
+  keys_from x keys = filter (λ key. is_ge (text_order (text key) x)) keys
+
+  -- the keys that are above these bytes
+  abbrev pub keys_above : List ℕ → List K → List K
+  keys_above x keys = filter (λ key. is_gt (text_order (text key) x)) keys
 
   -- the keys that begin with these bytes
   abbrev pub keys_with_prefix : List ℕ → List K → List K

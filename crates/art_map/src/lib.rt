@@ -4,9 +4,11 @@
 #![tactic(auto)]
 
 mod cut;
+mod debug;
 mod iter;
 mod keys;
 mod map;
+mod nearest;
 mod range;
 mod set;
 

@@ -1,16 +1,17 @@
 //! The set.
 ghost use Rattle.std.specs.Prelude.{All, AllPairs, map, ◌≡◌, ◌≢◌, ◌-◌, ◌↔◌, ◌∷◌, ◌++◌, [], false, length, slice_get, IsTrue, IfErr, IfNone, IfOk, IfSome, OnErr, OnOk};
-ghost use Rattle.std.specs.Option.{is_none, option_copied};
+ghost use Rattle.std.specs.Option.{is_none, option_copied, option_map};
 ghost use Rattle.std.specs.Result.{result_map_both};
 ghost use Rattle.std.specs.declared.cmp.Ordering.TheVariants.{Less};
 ghost use Rattle.art_bytes.specs.Text.{IsPrefixOf, text_order};
 ghost use Rattle.art_tree.specs.Dictionary.{Clashes};
-ghost use Rattle.art_map.specs.Sets.{HasKey, put_key, without_key, keys_within, keys_with_prefix, IsKeyRefused, KeyMayEnter};
+ghost use Rattle.art_tree.specs.Refusals.{texts_of, IsDue};
+ghost use Rattle.art_map.specs.Sets.{HasKey, put_key, without_key, keys_above, keys_from, keys_within, keys_with_prefix, IsKeyRefused, KeyMayEnter};
 
 use crate::keys::{Keys, keys_of};
 use crate::map::{ArtMap, HasEntries, MapOver};
 use art_bytes::{AsBytes, NoPrefixesBytes};
-use art_tree::{ArtTree, InsertFault};
+use art_tree::{ArtTree, InsertFault, LoadFault};
 use std::alloc::{AllocError, Global};
 use std::marker::Model;
 use std::ops::Bound;
@@ -51,6 +52,17 @@ fn is_added<K: Drop>(
     match tried {
         Ok(back) => Ok(back.is_none()),
         Err(fault) => Err(fault),
+    }
+}
+
+// The key of an entry, if there is one.
+fn key_alone<'a, K>(found: Option<(&'a K, &'a ())>) -> Option<&'a K>
+    ensures { option_copied result ≡ option_map (λ (key, value). key)
+        (option_map (λ (key, value). (key.now, value.now)) found.entry) }
+{
+    match found {
+        Some((key, _)) => Some(key),
+        None => None,
     }
 }
 
@@ -192,6 +204,46 @@ impl<K: AsBytes, const PREFIX_LEN: usize> ArtSet<K, PREFIX_LEN> {
         keys_of(self.entries.prefix(prefix))
     }
 
+    /// The first key that is not below this one, or None where all are below it. Costs as much as
+    /// [`ArtMap::lower_bound`]. Takes no memory.
+    ///
+    /// A set with `tin`, `titanium`, `iron` and `zinc`:
+    ///
+    /// (from crates/art_map_tests/src/map/set_examples.rt)
+    /// ```rust
+    /// let (Some(here), Some(above)) = (names.lower_bound(b"tin"), names.upper_bound(b"tin")) else {
+    ///     panic!(rt; "no key");
+    /// };
+    /// assert!(rt; here.get() == "tin" && above.get() == "titanium");
+    /// ```
+    pub fn lower_bound<Q: AsBytes>(&self, key: &Q) -> Option<&K>
+        ensures { option_copied result
+            ≡ slice_get (keys_from K.text (Q.text key.now) self.now) 0 }
+    {
+        key_alone(self.entries.lower_bound(key))
+    }
+
+    /// The first key that is above this one, or None where none is. Costs as much as
+    /// [`ArtMap::upper_bound`]. Takes no memory. See [`lower_bound`](Self::lower_bound) for an example.
+    pub fn upper_bound<Q: AsBytes>(&self, key: &Q) -> Option<&K>
+        ensures { option_copied result
+            ≡ slice_get (keys_above K.text (Q.text key.now) self.now) 0 }
+    {
+        key_alone(self.entries.upper_bound(key))
+    }
+
+    /// Reserves memory for `additional` more keys, as [`ArtMap::reserve`] does for entries.
+    ///
+    /// (from crates/art_map_tests/src/map/set_examples.rt)
+    /// ```rust
+    /// names.reserve(4)?;
+    /// ```
+    pub fn reserve(&mut self, additional: usize) -> Result<(), AllocError>
+        ensures same_keys { self.new ≡ self.old }
+    {
+        self.entries.reserve(additional)
+    }
+
     /// Removes the least key and returns it, or None where there is no key.
     ///
     /// An allocation may fail only where there is a key, since a smaller node may take the place of a
@@ -260,6 +312,28 @@ impl<K: AsBytes, const PREFIX_LEN: usize> ArtSet<K, PREFIX_LEN> {
 }
 
 impl<K: AsBytes + Drop, const PREFIX_LEN: usize> ArtSet<K, PREFIX_LEN> {
+    /// Makes a set of these keys, each with `()`, which must ascend and of which none may be a prefix of
+    /// another. Without keys it is the empty set. Its refusals and its cost are those of
+    /// [`ArtMap::from_ascending`]. A refusal returns the keys in their order.
+    ///
+    /// (from crates/art_map_tests/src/map/set_examples.rt)
+    /// ```rust
+    /// let keys = vec![in alloc; (StrKey::new("iron"), ()), (StrKey::new("tin"), ())]?;
+    /// let names = Names::from_ascending(alloc, keys).map_err(|fault| fault.refusal)?;
+    /// ```
+    pub fn from_ascending(alloc: Global, keys: Vec<(K, ())>) -> Result<Self, LoadFault<K, ()>>
+        ensures keys { IfOk result (λ set. set ≡ map (λ entry. entry.0) keys.items) }
+        ensures refusal_due { IfErr result
+            (λ fault. IsDue (texts_of K.text keys.items) fault.refusal) }
+        ensures keys_back { IfErr result (λ fault. fault.entries ≡ keys) }
+        ensures empty_is_fine { IfErr result (λ fault. keys.items ≢ []) }
+    {
+        match ArtMap::from_ascending(alloc, keys) {
+            Ok(entries) => Ok(SetOver { entries }),
+            Err(fault) => Err(fault),
+        }
+    }
+
     /// Adds a key where none has the same bytes, and returns whether it did. Where one has, that one
     /// is kept, and the new key is dropped.
     ///

@@ -1,5 +1,7 @@
 //! Tests of a map: tables of ranges and prefixes, changes, and one allocation failure.
+mod ascending_entries;
 mod map_examples;
+mod random_calls;
 mod refusals;
 mod set_examples;
 mod taken_entries;

@@ -1,21 +1,23 @@
-//! A set of words.
-use art_tree::{ArtTree, AsBytes};
-use std::alloc::Global;
+//! A set of words, kept in a struct.
+use art_map::ArtSet;
+use art_tree::StrKey;
+use std::alloc::{AllocError, Global};
+use std::ops::Bound;
 
 #[derive(Drop)]
 pub struct Words {
-    tree: ArtTree<String, (), 16>,
+    words: ArtSet<String, 16>,
 }
 
 impl Words {
     pub fn new(alloc: Global) -> Words {
         Words {
-            tree: ArtTree::new(alloc),
+            words: ArtSet::new(alloc),
         }
     }
 
     pub fn add(&mut self, word: String) -> bool {
-        self.tree.insert(word, ()).is_ok()
+        self.words.insert(word).is_ok()
     }
 
     pub fn add_two(&mut self, a: String, b: String) -> bool {
@@ -23,10 +25,29 @@ impl Words {
     }
 
     pub fn has(&self, word: &str) -> bool {
-        self.tree.get(word.as_bytes()).is_some()
+        self.words.contains(&StrKey::new(word))
     }
 
     pub fn first(&self) -> Option<&String> {
-        Some(self.tree.first()?.0)
+        self.words.first()
+    }
+
+    pub fn first_from(&self, word: &str) -> Option<&String> {
+        let start = StrKey::new(word);
+        self.words
+            .range(Bound::Included(&start), Bound::Unbounded)
+            .next()
+    }
+
+    pub fn count_with(&self, prefix: &str) -> usize {
+        let mut count: usize = 0;
+        for _word in self.words.prefix(&StrKey::new(prefix)) {
+            count = count.wrapping_add(1);
+        }
+        count
+    }
+
+    pub fn take_last(&mut self) -> Result<Option<String>, AllocError> {
+        self.words.pop_last()
     }
 }

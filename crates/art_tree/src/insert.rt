@@ -26,6 +26,7 @@ mod insertion_point;
 mod link;
 
 use crate::insert::added_child::{add_child, fork_node, reserve_growth, trim};
+pub use crate::insert::insertion_point::text_toward;
 use crate::insert::insertion_point::{InsertionPoint, Mismatch, Spot, find_insertion_point};
 use crate::insert::link::link_leaf;
 use crate::laws::{

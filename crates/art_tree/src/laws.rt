@@ -27,8 +27,8 @@ pub use art_arena::laws::{
     each_pointer_is_at_one_place, lists_are_spelled_where_links_are_kept,
     lists_are_spelled_where_their_leaves_are_kept, no_text_begins_another,
     path_and_prefix_are_shared, same_trees_have_the_same_texts, same_trees_match_alike,
-    texts_ascend, trees_stand_where_all_is_kept, trees_stand_where_texts_are_kept,
-    trees_stand_where_their_nodes_are_kept,
+    texts_ascend, texts_begin_with_their_path, texts_part_at_a_byte, trees_stand_where_all_is_kept,
+    trees_stand_where_texts_are_kept, trees_stand_where_their_nodes_are_kept,
 };
 use art_bytes::{AsBytes, NoPrefixesBytes};
 use art_nodes::OpaqueNodePtr;

@@ -36,7 +36,7 @@ pub use art_nodes::{
     replay, valid_range_bounds,
 };
 pub use find::find_leaf;
-pub use insert::{InsertFault, InsertRefusal};
+pub use insert::{InsertFault, InsertRefusal, text_toward};
 pub use loading::{LoadFault, LoadRefusal, load};
 pub use path::{TreePath, TreePathSearch};
 pub use tree::{ArtTree, HoldsOneTree, Rooted};

@@ -1,4 +1,5 @@
 //! Tests of trees that are made by `load` and by inserts and removals.
+mod branches;
 mod changes;
 mod composite;
 mod dictionary;

@@ -7,6 +7,7 @@ ghost use Rattle.art_map.specs.Entries.{entry_with};
 
 use crate::map::ArtMap;
 use art_bytes::AsBytes;
+use art_header::NodeType;
 use art_tree::InsertFault;
 use art_tree::laws::{entries_are_one_list, the_list_of_entries_changes_with_them};
 use std::alloc::AllocError;
@@ -81,6 +82,36 @@ impl<K: AsBytes, V, const PREFIX_LEN: usize> ArtMap<K, V, PREFIX_LEN> {
             return Ok(Some((key, value)));
         }
         self.insert(key, value)
+    }
+
+    /// Reserves memory for `additional` more entries, so that so many inserts of new keys need none: for
+    /// as many leaves, and for as many inner nodes of each kind as so many inserts can add. Where that
+    /// memory is there already, it succeeds. The entries are unchanged, also after a failure.
+    ///
+    /// An inner node has two children or more, one of a larger kind at least 5, 17 or 49, so a map of n
+    /// entries has fewer than n inner nodes, and of the larger kinds at most n/4, n/16 and n/48.
+    ///
+    /// (from crates/art_map_tests/src/map/refusals.rt)
+    /// ```rust
+    /// map.reserve(WORDS.len())?;
+    /// ```
+    pub fn reserve(&mut self, additional: usize) -> Result<(), AllocError>
+        ensures same_entries { self.new ≡ self.old }
+    {
+        let entries = self.len().saturating_add(additional);
+        self.reserve_kind(NodeType::Leaf, additional)?;
+        self.reserve_kind(NodeType::Node4, additional)?;
+        self.reserve_kind(NodeType::Node16, additional.min(entries / 4))?;
+        self.reserve_kind(NodeType::Node48, additional.min(entries / 16))?;
+        self.reserve_kind(NodeType::Node256, additional.min(entries / 48))
+    }
+
+    // Reserves memory for so many more nodes of the kind.
+    fn reserve_kind(&mut self, kind: NodeType, additional: usize) -> Result<(), AllocError>
+        ensures { self.new ≡ self.old }
+    {
+        the_list_of_entries_changes_with_them::<K, V, PREFIX_LEN>();
+        self.tree.reserve(kind, additional)
     }
 
     /// Removes the entry with the bytes of this key, if there is one, and returns it.

@@ -9,6 +9,7 @@ use crate::cut::Side;
 use crate::iter::{Iter, run_between};
 use crate::keys::{Keys, Values, keys_of, values_of};
 use crate::map::ArtMap;
+use crate::nearest::{first_entry_after, last_entry_before};
 use crate::range::ends_between;
 use art_bytes::AsBytes;
 use std::ops::Bound;
@@ -33,26 +34,6 @@ fn end_of<'a, Q: AsBytes>(bound: Bound<&'a Q>) -> (Side, &'a [u8])
         Bound::Excluded(key) => (Side::Before, key.as_bytes()),
         Bound::Unbounded => (Side::AfterBegun, &[]),
     }
-}
-
-// The first of the entries that are left.
-fn first_of<'a, K, V, const PREFIX_LEN: usize>(
-    mut entries: Iter<'a, K, V, PREFIX_LEN>,
-) -> Option<(&'a K, &'a V)>
-    ensures { option_map (λ (key, value). (key.now, value.now)) result
-        ≡ slice_get entries.entry 0 }
-{
-    entries.next()
-}
-
-// The last of them.
-fn last_of<'a, K, V, const PREFIX_LEN: usize>(
-    mut entries: Iter<'a, K, V, PREFIX_LEN>,
-) -> Option<(&'a K, &'a V)>
-    ensures { option_map (λ (key, value). (key.now, value.now)) result
-        ≡ slice_get entries.entry (length entries.entry - 1) }
-{
-    entries.next_back()
 }
 
 impl<K: AsBytes, V, const PREFIX_LEN: usize> ArtMap<K, V, PREFIX_LEN> {
@@ -112,8 +93,8 @@ impl<K: AsBytes, V, const PREFIX_LEN: usize> ArtMap<K, V, PREFIX_LEN> {
     }
 
     /// The entries, in ascending order of the bytes of their keys, and from the back in descending
-    /// order. Visits the nodes on the way to the first and to the last entry, at most one for each
-    /// byte of their keys; then each entry takes constant time. Takes no memory.
+    /// order. Visits the nodes on the way to the first entry, twice, and to the last one, at most one
+    /// for each byte of their keys; then each entry takes constant time. Takes no memory.
     pub fn iter(&self) -> Iter<'_, K, V, PREFIX_LEN>
         ensures { result ≡ self.now }
     {
@@ -174,35 +155,35 @@ impl<K: AsBytes, V, const PREFIX_LEN: usize> ArtMap<K, V, PREFIX_LEN> {
         self.between(Side::Before, bytes, Side::AfterBegun, bytes)
     }
 
-    /// The entry with the least key, or None where there is no entry. Costs as much as
-    /// [`iter`](Self::iter). Takes no memory.
+    /// The entry with the least key, or None where there is no entry. Visits the nodes on the way to
+    /// it, at most one for each byte of its key and one more. Takes no memory.
     pub fn first(&self) -> Option<(&K, &V)>
         ensures { option_map (λ (key, value). (key.now, value.now)) result
             ≡ slice_get self.now 0 }
     {
-        first_of(self.iter())
+        first_entry_after(&self.tree, Side::Before, &[])
     }
 
-    /// The entry with the greatest key, or None where there is no entry. Costs as much as
-    /// [`iter`](Self::iter). Takes no memory.
+    /// The entry with the greatest key, or None where there is no entry. Visits the nodes on the way to
+    /// the first entry and to it, at most one for each byte of their keys. Takes no memory.
     pub fn last(&self) -> Option<(&K, &V)>
         ensures { option_map (λ (key, value). (key.now, value.now)) result
             ≡ slice_get self.now (length self.now - 1) }
     {
-        last_of(self.iter())
+        last_entry_before(&self.tree, Side::AfterBegun, &[])
     }
 
     /// The first entry whose key is not below this one, or None where all are below it.
     ///
-    /// Goes down to the place of the key, and from there to an entry beside it: each time it visits
-    /// at most one node for each byte of a key. A prefix on the way that is longer than `PREFIX_LEN`
-    /// is read from the first entry below it, which is one more way down. Then it goes to the last
-    /// entry. Takes no memory.
+    /// Goes down to the place of the key, and from there to an entry beside it. Where a prefix on the
+    /// way is longer than `PREFIX_LEN`, it goes down once more to an entry in the direction of the
+    /// key, whose bytes serve for all such prefixes. Each time it visits at most one node for each byte
+    /// of a key. Takes no memory.
     pub fn lower_bound<Q: AsBytes>(&self, key: &Q) -> Option<(&K, &V)>
         ensures { option_map (λ (key, value). (key.now, value.now)) result
             ≡ slice_get (entries_from K.text (Q.text key.now) self.now) 0 }
     {
-        first_of(self.between(Side::Before, key.as_bytes(), Side::AfterBegun, &[]))
+        first_entry_after(&self.tree, Side::Before, key.as_bytes())
     }
 
     /// The first entry whose key is above this one, or None where none is. Costs as much as
@@ -211,6 +192,6 @@ impl<K: AsBytes, V, const PREFIX_LEN: usize> ArtMap<K, V, PREFIX_LEN> {
         ensures { option_map (λ (key, value). (key.now, value.now)) result
             ≡ slice_get (entries_above K.text (Q.text key.now) self.now) 0 }
     {
-        first_of(self.between(Side::After, key.as_bytes(), Side::AfterBegun, &[]))
+        first_entry_after(&self.tree, Side::After, key.as_bytes())
     }
 }

@@ -1,5 +1,4 @@
-//! A test with one allocation failure: the map is unchanged, the next call succeeds, and the test
-//! ends.
+//! Tests with one allocation failure: the map is unchanged, the next call succeeds, and the test ends.
 use super::*;
 use art_tree::InsertRefusal;
 
@@ -50,4 +49,24 @@ fn insert_words(rt: &impl Abort, map: &mut Words) -> Result<(), Fail> {
 #[test]
 fn a_refused_insert_leaves_the_map(rt: HostRuntime) -> Result<(), Fail> {
     insert_words(&rt, &mut ArtMap::new(rt.alloc()))
+}
+
+// After an allocation failure the map is unchanged, the next reserve succeeds, and the test ends. All
+// inserts behind a reserve succeed, so none of them took memory.
+fn reserve_and_insert(rt: &impl Abort, map: &mut Words) -> Result<(), Fail> {
+    if map.reserve(WORDS.len()).is_err() {
+        check_words(rt, map, 0);
+        map.reserve(WORDS.len())?;
+        return Err("ArtMap::reserve refused, and all stands".into());
+    }
+    for (number, word) in WORDS.iter().enumerate() {
+        assert!(rt; map.insert(StrKey::new(word), number).is_ok());
+    }
+    check_words(rt, map, WORDS.len());
+    Ok(())
+}
+
+#[test]
+fn a_refused_reserve_leaves_the_map(rt: HostRuntime) -> Result<(), Fail> {
+    reserve_and_insert(&rt, &mut ArtMap::new(rt.alloc()))
 }

@@ -43,6 +43,14 @@ fn read_some_names(rt: &impl Abort, names: &Names) {
     assert!(rt; name.get() == "zinc" && from_u.next().is_none());
 }
 
+fn read_bounds(rt: &impl Abort, names: &Names) {
+    let (Some(here), Some(above)) = (names.lower_bound(b"tin"), names.upper_bound(b"tin")) else {
+        panic!(rt; "no key");
+    };
+    assert!(rt; here.get() == "tin" && above.get() == "titanium");
+    assert!(rt; names.lower_bound(b"zz").is_none() && names.upper_bound(b"zinc").is_none());
+}
+
 fn take_names(rt: &impl Abort, names: &mut Names) -> Result<(), Fail> {
     assert!(rt; names.remove(b"titanium")? && !names.remove(b"titanium")?);
     let Some(first) = names.pop_first()? else {
@@ -63,8 +71,19 @@ fn take_names(rt: &impl Abort, names: &mut Names) -> Result<(), Fail> {
 #[test]
 fn names_are_added_read_and_taken(rt: HostRuntime) -> Result<(), Fail> {
     let mut names = ArtSet::new(rt.alloc());
+    names.reserve(4)?;
     insert_names(&rt, &mut names)?;
     read_names(&rt, &names);
     read_some_names(&rt, &names);
+    read_bounds(&rt, &names);
     take_names(&rt, &mut names)
+}
+
+#[test]
+fn keys_that_ascend_make_a_set(rt: HostRuntime) -> Result<(), Fail> {
+    let alloc = rt.alloc();
+    let keys = vec![in alloc; (StrKey::new("iron"), ()), (StrKey::new("tin"), ())]?;
+    let names = Names::from_ascending(alloc, keys).map_err(|fault| fault.refusal)?;
+    assert!(rt; names.len() == 2 && names.contains(b"tin"));
+    Ok(())
 }

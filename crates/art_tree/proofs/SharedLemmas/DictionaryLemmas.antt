@@ -147,7 +147,7 @@ at-map f [] k d = refl
 at-map f (x ∷ xs) zero d = refl
 at-map f (x ∷ xs) (suc k) d = at-map f xs k d
 
-in-map : {A B : Type 0} (f : A → B) (xs : List A) (x : A) → Contains xs x → Contains (map f xs) (f x)
+pub in-map : {A B : Type 0} (f : A → B) (xs : List A) (x : A) → Contains xs x → Contains (map f xs) (f x)
 in-map f xs x (k, inside, is) = (k, omega (arith, inside, length-map xs f), at-map f xs k x ∙ ap f is)
 
 module _ {H : Type 0} where

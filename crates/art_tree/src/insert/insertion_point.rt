@@ -1,7 +1,8 @@
 //! Insertion: the place of a key in a tree.
-ghost use Rattle.std.specs.Prelude.{◌≡◌, ◌<◌, length, drop, option_copied, IfSome, IfNone, IfOk, IfErr};
+ghost use Rattle.std.specs.Prelude.{◌≡◌, ◌<◌, Contains, length, drop, option_copied, IfSome, IfNone, IfOk, IfErr};
 ghost use Rattle.art_arena.specs.Arena.{held, HeldInner};
 ghost use Rattle.art_arena.specs.Standing.{TreeAt};
+ghost use Rattle.art_arena.specs.Trees.{texts};
 ghost use Rattle.art_tree.specs.InsertionPoints.{Belongs, HasLeafText, IsDescentIn, IsSpotIn, child_after, prefix_of, toward};
 ghost use Rattle.art_tree.specs.Search.{HasTree, EachTree, leaf_pointer};
 
@@ -77,15 +78,28 @@ fn child_toward<'b, K: AsBytes, V, const PREFIX_LEN: usize>(
     Some((child, &rest[node.prefix_len() + 1..]))
 }
 
-// The key bytes of a leaf in the direction of the rest of a key: below the node where a search for
-// it ends that compares no prefix.
-fn text_toward<'a, K: AsBytes, V, const PREFIX_LEN: usize>(
+/// The key bytes of a leaf of the tree that stands at this pointer, in the direction of the rest of a
+/// key: below the node where a search for it ends that compares no prefix. So a search that comes to a
+/// node by this rest has that leaf below it, and reads each prefix on its way from these bytes.
+///
+/// A tree must stand at the pointer, sound under some path. Visits at most one inner node for each
+/// byte of that leaf's key. Takes no memory.
+///
+/// In a tree with the keys `abc1`, `abc2` and `b`, `axx2` leads to `abc2` (`expected`):
+///
+/// (from crates/art_tree_tests/src/tree/searches.rt)
+/// ```rust
+/// assert!(rt; text_toward(arena, root, key) == expected);
+/// ```
+pub fn text_toward<'a, K: AsBytes, V, const PREFIX_LEN: usize>(
     arena: &'a NodeArena<K, V, PREFIX_LEN>,
     pointer: OpaqueNodePtr<K, V, PREFIX_LEN>,
     rest: &[u8],
 ) -> &'a [u8]
     requires tree { TreeAt K.text arena.now pointer }
-    ensures { (found : TreeAt K.text arena.now pointer) →
+    ensures leaf { (found : TreeAt K.text arena.now pointer) →
+        Contains (texts found.tree) result.now }
+    ensures direction { (found : TreeAt K.text arena.now pointer) →
         HasLeafText (toward rest.now found.tree) result.now }
 {
     let mut at = pointer;

@@ -3,7 +3,7 @@ ghost use Rattle.art_tree.specs.Search.{HasTree};
 
 use super::Answer::{Child, Normal, Nothing, Root};
 use super::*;
-use art_tree::{End, end_leaf};
+use art_tree::{End, end_leaf, text_toward};
 
 // The searches for these keys have these results in the tree of these texts.
 fn check_texts<'a, const PREFIX_LEN: usize>(
@@ -152,6 +152,19 @@ fn check_ends<K: AsBytes, const PREFIX_LEN: usize>(
     assert!(rt; arena.holds(leaf) && *arena.as_value_ref(leaf) == last);
 }
 
+// The key bytes in the direction of these are those.
+fn check_toward<K: AsBytes, const PREFIX_LEN: usize>(
+    rt: &impl Abort,
+    arena: &NodeArena<K, usize, PREFIX_LEN>,
+    root: OpaqueNodePtr<K, usize, PREFIX_LEN>,
+    key: &[u8],
+    expected: &[u8],
+)
+    requires { HasTree K.text arena.now root }
+{
+    assert!(rt; text_toward(arena, root, key) == expected);
+}
+
 fn check_ends_of_three<const PREFIX_LEN: usize>(
     rt: &impl Abort,
     alloc: Global,
@@ -159,6 +172,9 @@ fn check_ends_of_three<const PREFIX_LEN: usize>(
 ) -> Result<(), Fail> {
     let root = load_texts(alloc, arena, &[b"abc1", b"abc2", b"b"])?;
     check_ends(rt, arena, root, 0, 2);
+    check_toward(rt, arena, root, b"abc2", b"abc2");
+    check_toward(rt, arena, root, b"axx2", b"abc2");
+    check_toward(rt, arena, root, b"abc9", b"abc1");
     Ok(())
 }
 

@@ -1,4 +1,4 @@
-use Rattle.std.proofs.Common.{ℕ, ◌-◌, ◌<◌, ◌≤◌, arith}
+use Rattle.std.proofs.Common.{ℕ, ◌-◌, ◌<◌, ◌≤◌, arith, option_copied}
 use Rattle.art_map.proofs.PartLemmas.{starts, way-within}
 use Rattle.art_map.proofs.cut.descend.Goals as goal
 
@@ -17,4 +17,4 @@ returns-in-Err g c = λ tree is. c.in-Err.ensures.beside tree (c.way.invariant t
 pub way-smaller : goal.way-smaller
 way-smaller g c =
     let (tree, is) = c.requires in
-    smaller _ _ _ c.in-Ok.ensures.deeper (way-within g.K.AsBytes.text c.args.arena.now tree c.args.side c.args.key.now c.in-Ok.next.0 c.in-Ok.next.1 (c.in-Ok.ensures.on tree (c.way.invariant tree is)))
+    smaller _ _ _ c.in-Ok.ensures.deeper (way-within g.K.AsBytes.text c.args.arena.now tree c.args.side c.args.key.now c.in-Ok.child c.in-Ok.next (option_copied c.in-Ok.text) (c.in-Ok.ensures.on tree (c.way.invariant tree is)))

@@ -1,4 +1,4 @@
-use Rattle.std.proofs.Common.{◌-◌, length}
+use Rattle.std.proofs.Common.{◌-◌, length, option_copied}
 use Rattle.art_nodes.specs.declared.pointers.OpaqueNodePtr.{OpaqueNodePtr as PointerTo}
 use Rattle.art_arena.specs.Standing.{IsTreeIn}
 use Rattle.art_arena.specs.Trees.{Tree}
@@ -8,7 +8,7 @@ use Rattle.art_map.proofs.cut.descend.Given as goal
 -- the node is on the way in each tree that stands at the root
 abbrev pub invariant-way : goal.invariant-way
 invariant-way g l =
-    (tree : Tree (PointerTo g.row.K.Denot g.row.V.Denot g.row.PREFIX_LEN)) → IsTreeIn g.K.AsBytes.text l.arena l.fn.root tree → IsOnWay g.K.AsBytes.text l.arena tree l.side l.key l.at l.depth
+    (tree : Tree (PointerTo g.row.K.Denot g.row.V.Denot g.row.PREFIX_LEN)) → IsTreeIn g.K.AsBytes.text l.arena l.fn.root tree → IsOnWay g.K.AsBytes.text l.arena tree l.side l.key l.at l.depth (option_copied l.known)
 
 abbrev pub decreases-way : goal.decreases-way
 decreases-way g l = length l.key - l.depth

@@ -20,4 +20,4 @@ returns-in-None g c = λ tree on.
     let text = g.K.AsBytes.text in
     let arena = c.args.arena.now in
     let key = c.args.key.now in
-    subst (λ rest. HasLeafText (toward rest on.spot_in.at.part) c.text_toward.result.now) (take_rest key c.args.spot.depth) (c.text_toward.ensures (spot-tree text arena tree key c.args.spot on.spot_in))
+    subst (λ rest. HasLeafText (toward rest on.spot_in.at.part) c.text_toward.result.now) (take_rest key c.args.spot.depth) (c.text_toward.ensures.direction (spot-tree text arena tree key c.args.spot on.spot_in))

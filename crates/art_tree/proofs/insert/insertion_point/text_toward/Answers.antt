@@ -7,7 +7,8 @@ use Rattle.art_arena.specs.declared.ends.End.TheVariants.{First}
 use Rattle.art_tree.specs.InsertionPoints.{HasLeafText}
 use Rattle.art_tree.specs.Search.{leaf_pointer}
 use Rattle.art_tree.proofs.InsertLemmas.NodeLemmas.{leaf-pointer-fits, one-leaf}
-use Rattle.art_tree.proofs.SharedLemmas.DictionaryLemmas.{end-in, leaf-held-in}
+use Rattle.art_tree.proofs.InsertLemmas.TowardLemmas.{IsToward, toward-text}
+use Rattle.art_tree.proofs.SharedLemmas.DictionaryLemmas.{end-in, in-map, leaf-held-in}
 use Rattle.art_tree.proofs.insert.insertion_point.text_toward.Goals as goal
 
 pub way-init : goal.way-init
@@ -29,8 +30,8 @@ end_leaf-leaf-requires g c =
     let here : TreeAt g.K.AsBytes.text c.args.arena.now c.way.at = (c.way.invariant c.requires.tree).below in
     assumption leaf-pointer-fits
 
-pub returns-in-None : goal.returns-in-None
-returns-in-None g c = λ found.
+pub returns-in-None-clause-direction : goal.returns-in-None-clause-direction
+returns-in-None-clause-direction g c = λ found.
     let text = g.K.AsBytes.text in
     let arena = c.args.arena.now in
     let on = c.way.invariant found in
@@ -42,3 +43,10 @@ returns-in-None g c = λ found.
     let text_is : c.as_bytes.result.now ≡ at_end.0 = c.as_bytes.ensures.text ∙ ap text c.key_ref.ensures ∙ ap (λ l. text (leaf_key l)) one ∙ there.2 in
     subst (λ tree. HasLeafText tree c.as_bytes.result.now) (sym (on.same ∙ c.in-None.ensures.none on.below))
     (subst (HasLeafText on.below.tree) (sym text_is) (leaf, inside))
+
+pub returns-in-None-clause-leaf : goal.returns-in-None-clause-leaf
+returns-in-None-clause-leaf g c = λ found.
+    let bytes = c.as_bytes.result.now in
+    let toward = returns-in-None-clause-direction g c found in
+    let inside = toward-text c.args.rest.now found.tree bytes toward in
+    in-map (λ leaf. leaf.1) (leaves found.tree) (inside.0, bytes) inside.1

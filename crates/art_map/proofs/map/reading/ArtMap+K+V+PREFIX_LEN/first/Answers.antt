@@ -1,5 +1,13 @@
-use Rattle.std.proofs.Common.{◌∙◌, ap, slice_get}
+use Rattle.std.proofs.Common.{◌∙◌, [], ap, not, slice_get}
+use Rattle.art_tree.specs.Entries.{entries_of}
+use Rattle.art_map.specs.Cuts.{is_before}
+use Rattle.art_map.specs.declared.cut.Side.TheVariants.{Before}
+use Rattle.art_map.proofs.TextLemmas.{filter-all, none-before}
 use Rattle.art_map.proofs.map.reading.ArtMap+K+V+PREFIX_LEN.first.Goals as goal
 
 pub returns : goal.returns
-returns g c = c.first_of.ensures ∙ ap (λ entries. slice_get entries 0) c.iter.ensures
+returns g c =
+    let text = g.K.AsBytes.text in
+    let entries = entries_of text c.self.inside.tree.arena in
+    c.first_entry_after.ensures ∙ ap (λ entries. slice_get entries 0) (filter-all (λ entry. not (is_before Before [] (text entry.0))) (λ entry. ap not (none-before (text entry.0))) entries)
+    ∙ ap (λ entries. slice_get entries 0) c.self.view_is

@@ -1,15 +1,18 @@
 use Rattle.std.proofs.Common.{◌∙◌, ap, slice_get}
 use Rattle.std.specs.Ordering.{is_ge}
 use Rattle.art_bytes.specs.Text.{text_order}
+use Rattle.art_tree.specs.Entries.{entries_of}
 use Rattle.art_map.specs.Ranges.{entries_from}
-use Rattle.art_map.proofs.TextLemmas.{from-between, filter-same}
+use Rattle.art_map.proofs.TextLemmas.{filter-same, not-lt}
 use Rattle.art_map.proofs.map.reading.ArtMap+K+V+PREFIX_LEN.lower_bound.Goals as goal
 
 pub returns : goal.returns
 returns g c =
     let text = g.K.AsBytes.text in
     let bytes = c.as_bytes.result.now in
-    c.first_of.ensures
+    let entries = entries_of text c.self.inside.tree.arena in
+    c.first_entry_after.ensures
     ∙ ap (λ entries. slice_get entries 0)
-    (c.between.ensures ∙ filter-same _ (λ entry. is_ge (text_order (text entry.0) bytes)) (λ entry. from-between bytes (text entry.0)) c.args.self.now
-    ∙ ap (λ x. entries_from text x c.args.self.now) c.as_bytes.ensures.text)
+    (filter-same _ (λ entry. is_ge (text_order (text entry.0) bytes)) (λ entry. not-lt (text_order (text entry.0) bytes)) entries
+    ∙ ap (λ x. entries_from text x entries) c.as_bytes.ensures.text)
+    ∙ ap (λ entries. slice_get (entries_from text (g.Q.AsBytes.text c.args.key.now) entries) 0) c.self.view_is
