@@ -1,0 +1,4 @@
+mod Parts
+mod Writes
+mod SaidLemmas
+mod Runs
