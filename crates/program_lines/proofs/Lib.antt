@@ -2,3 +2,4 @@ mod Parts
 mod Writes
 mod SaidLemmas
 mod Runs
+mod NumberLemmas

@@ -5,12 +5,14 @@
 
 mod failure;
 mod lines;
+mod numbers;
 mod program;
 mod process;
 mod writing;
 
 pub use failure::{BadLine, Failure, Place};
 pub use lines::{FromLine, first_line, said};
+pub use numbers::number_of;
 pub use program::{Program, run};
 pub use process::start;
 pub use writing::push_line;
