@@ -1,3 +1,4 @@
+pub mod Cuts
 mod Parts
 mod Writes
 mod SaidLemmas

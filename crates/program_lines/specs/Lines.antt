@@ -1,5 +1,5 @@
 -- Lines of bytes, and what they say.
-use Rattle.std.specs.Prelude.{◌≡◌, ℕ, ◌+◌, ◌==◌, List, [], ◌∷◌, ◌++◌, length}
+use Rattle.std.specs.Prelude.{◌≡◌, ◌≢◌, ℕ, ◌+◌, ◌==◌, List, [], ◌∷◌, ◌++◌, All, length}
 use Rattle.std.specs.List.{slice_split}
 
 -- parts but for a last one that is empty
@@ -29,3 +29,11 @@ module _ {C : Type 0} (Say : List ℕ → C → Type 0) where
   IsFirstBad lines number =
       (before after : List (List ℕ)) × (bad : List ℕ) × (items : List C) × (lines ≡ before ++ bad ∷ after) × (number ≡ length before + 1)
       × SayAll before items × ((item : C) → ¬ Say bad item)
+
+-- no byte is this one
+abbrev pub HasNo : ℕ → List ℕ → Type 0
+HasNo at bytes = All (λ byte. byte ≢ at) bytes
+
+-- the bytes are cut at the first such byte
+abbrev pub IsCutAt : ℕ → List ℕ → List ℕ → List ℕ → Type 0
+IsCutAt at bytes before after = (bytes ≡ before ++ at ∷ after) × HasNo at before

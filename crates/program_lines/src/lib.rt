@@ -11,7 +11,7 @@ mod process;
 mod writing;
 
 pub use failure::{BadLine, Failure, Place};
-pub use lines::{FromLine, first_line, said};
+pub use lines::{FromLine, first_line, said, split_once};
 pub use numbers::number_of;
 pub use program::{Program, run};
 pub use process::start;

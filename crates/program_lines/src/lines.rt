@@ -1,6 +1,6 @@
 //! Lines of bytes, and what they say.
-ghost use Rattle.std.specs.Prelude.{◌≡◌, ◌==◌, ◌<◌, ◌∷◌, length, position, IfOk, IfErr, IfSome};
-ghost use Rattle.program_lines.specs.Lines.{lines_of, SayAll, IsFirstBad};
+ghost use Rattle.std.specs.Prelude.{◌≡◌, ◌==◌, ◌<◌, ◌∷◌, length, position, IfOk, IfErr, IfSome, IfNone};
+ghost use Rattle.program_lines.specs.Lines.{lines_of, SayAll, IsFirstBad, IsCutAt, HasNo};
 ghost use Rattle.program_lines.specs.Failures.{IfBadLine};
 
 use crate::failure::{BadLine, Failure, Place};
@@ -64,16 +64,27 @@ pub fn first_line(bytes: &[u8]) -> (&[u8], &[u8])
     ensures lines { lines_of bytes.now ≡ result.0.now ∷ lines_of result.1.now }
     ensures shorter { length result.1.now < length bytes.now }
 {
-    match end_of_line(bytes) {
+    match position_of(bytes, b'\n') {
         Some(end) => (&bytes[..end], &bytes[end + 1..]),
         None => (bytes, &[]),
     }
 }
 
-// The index of the first byte 10, or None where there is none.
-fn end_of_line(bytes: &[u8]) -> Option<usize>
-    ensures place { result ≡ position (λ b. b == 10) bytes.now }
-    ensures within { IfSome result (λ at. at < length bytes.now) }
+// The index of the first such byte, or None where there is none.
+fn position_of(bytes: &[u8], at: u8) -> Option<usize>
+    ensures place { result ≡ position (λ b. b == at) bytes.now }
+    ensures within { IfSome result (λ place. place < length bytes.now) }
 {
-    bytes.iter().position(|byte| *byte == b'\n')
+    bytes.iter().position(|byte| *byte == at)
+}
+
+/// What comes before the first such byte and after it, or None where there is none.
+pub fn split_once(bytes: &[u8], at: u8) -> Option<(&[u8], &[u8])>
+    ensures cut { IfSome result (λ parts. IsCutAt at bytes.now parts.0.now parts.1.now) }
+    ensures none { IfNone result (HasNo at bytes.now) }
+{
+    match position_of(bytes, at) {
+        Some(place) => Some((&bytes[..place], &bytes[place + 1..])),
+        None => None,
+    }
 }
