@@ -6,13 +6,13 @@
 mod failure;
 mod lines;
 mod numbers;
-mod program;
 mod process;
+mod program;
 mod writing;
 
 pub use failure::{BadLine, Failure, Place};
 pub use lines::{FromLine, first_line, said, split_once};
 pub use numbers::number_of;
-pub use program::{Program, run};
 pub use process::start;
+pub use program::{Program, run};
 pub use writing::push_line;

@@ -29,11 +29,7 @@ pub trait Program {
     fn usage() -> &'static str;
 
     /// The whole output.
-    fn answer(
-        alloc: Global,
-        file: &[u8],
-        input: &[u8],
-    ) -> Result<Vec<u8>, Failure<Self::Fault>>
+    fn answer(alloc: Global, file: &[u8], input: &[u8]) -> Result<Vec<u8>, Failure<Self::Fault>>
         ensures output { IfOk result (λ output. is_output file.now input.now output.items) }
         ensures refused { IfErr result (IfBadLine (is_bad file.now input.now)) };
 }
