@@ -9,8 +9,8 @@ use crate::fault::Fault;
 use crate::query::without_zero;
 use art_bytes::{AsBytes, CStringKey};
 use art_map::{ArtSet, DEFAULT_PREFIX_LEN};
-use program_lines::{Failure, FromLine};
-use std::alloc::Global;
+use program_lines::FromLine;
+use std::alloc::{AllocError, Global};
 
 /// The words of a list. A word's key is its bytes and a zero byte.
 pub(crate) type Dictionary = ArtSet<CStringKey, DEFAULT_PREFIX_LEN>;
@@ -38,15 +38,16 @@ impl<'a> FromLine<'a> for Word<'a> {
 }
 
 /// The dictionary of these words.
-pub(crate) fn dictionary_of(alloc: Global, words: &[Word<'_>]) -> Result<Dictionary, Failure<Fault>>
+pub(crate) fn dictionary_of(alloc: Global, words: &[Word<'_>]) -> Result<Dictionary, AllocError>
     ensures { IfOk result (λ set.
         IsDictionary (map (λ word. word.bytes.now) words.now) (map word_of_key set)) }
 {
     let mut dictionary = ArtSet::new(alloc);
     for word in words {
         let key = key_of(alloc, word.bytes)?;
-        if dictionary.insert(key).is_err() {
-            return Err(Failure::OutOfMemory);
+        match dictionary.insert(key) {
+            Ok(_) => {}
+            Err(_) => return Err(AllocError),
         }
     }
     dictionary.keys_ascend();
@@ -54,11 +55,11 @@ pub(crate) fn dictionary_of(alloc: Global, words: &[Word<'_>]) -> Result<Diction
 }
 
 /// The key of a word. An allocation may fail, and nothing else where no byte is zero.
-pub(crate) fn key_of(alloc: Global, word: &[u8]) -> Result<CStringKey, Failure<Fault>>
+pub(crate) fn key_of(alloc: Global, word: &[u8]) -> Result<CStringKey, AllocError>
     ensures text { IfOk result (λ key. c_string_key_text key ≡ word.now ++ 0 ∷ []) }
 {
     let bytes = word.to_vec(alloc)?;
-    CStringKey::new(bytes).map_err(|_| Failure::OutOfMemory)
+    CStringKey::new(bytes).map_err(|_| AllocError)
 }
 
 /// The word of a key.

@@ -1,11 +1,12 @@
 //! Queries, and the lines that say them.
-ghost use Rattle.std.specs.Prelude.{◌≡◌, ◌≢◌, ◌==◌, ◌∷◌, ◌<◌, All, IfOk, IfSome, OnErr, length, position};
+ghost use Rattle.std.specs.Prelude.{◌≡◌, ℕ, ◌∷◌, IfOk, OnErr};
 ghost use Rattle.art_bytes.specs.CString.{HasNoZero};
-ghost use Rattle.words.specs.Queries.{SayQuery};
+ghost use Rattle.program_lines.specs.Numbers.{IsNumber};
+ghost use Rattle.words.specs.Queries.{SayQuery, IsFirstOf};
 ghost use Rattle.words.specs.declared.query.Query.{Query};
 
 use crate::fault::Fault;
-use program_lines::{FromLine, number_of};
+use program_lines::{FromLine, number_of, split_once};
 
 /// A query about the words of the list.
 #[derive(Clone, Copy)]
@@ -45,15 +46,21 @@ fn beginning(rest: &[u8]) -> Result<Query<'_>, Fault>
     ensures said { IfOk result (SayQuery (63 ∷ rest.now)) }
     ensures refused { OnErr result ((query : Query) → ¬ SayQuery (63 ∷ rest.now) query) }
 {
-    match rest.iter().position(|byte| *byte == b' ') {
+    match split_once(rest, b' ') {
         None => Ok(Query::Begin(without_zero(rest)?)),
-        Some(end) => {
-            let prefix = without_zero(&rest[..end])?;
-            match number_of(&rest[end + 1..]) {
-                Some(most) => Ok(Query::FirstOf(prefix, most)),
-                None => Err(Fault::BadNumber),
-            }
-        }
+        Some((prefix, digits)) => first_of(without_zero(prefix)?, digits),
+    }
+}
+
+// The query for the first words with a prefix, as many as the digits give.
+fn first_of<'a>(prefix: &'a [u8], digits: &[u8]) -> Result<Query<'a>, Fault>
+    ensures number { IfOk result (λ query. (most : ℕ)
+        × IsFirstOf query prefix.now most × IsNumber digits.now most) }
+    ensures refused { OnErr result ((most : ℕ) → ¬ IsNumber digits.now most) }
+{
+    match number_of(digits) {
+        Some(most) => Ok(Query::FirstOf(prefix, most)),
+        None => Err(Fault::BadNumber),
     }
 }
 
