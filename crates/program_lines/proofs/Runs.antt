@@ -1,7 +1,6 @@
 -- Failures of a run.
 use Rattle.std.proofs.Common.{◌≡◌, ◌∙◌, ℕ, List, [], ◌++◌, ap, sym, subst}
 use Rattle.std.specs.Prelude.{Option, None, Some, IfSome, Result, Ok, Err, IfErr}
-use Rattle.std.specs.Io.KnownBytes.{Keeps}
 use Rattle.program_lines.specs.declared.failure.BadLine.{BadLine}
 use Rattle.program_lines.specs.declared.failure.Failure.{Failure}
 use Rattle.program_lines.specs.declared.failure.Failure.TheVariants.{BadLine as AtLine, OutOfMemory, NoFile, Device}

@@ -1,5 +1,5 @@
 -- A line that begins with `?`.
-use Rattle.std.proofs.Common.{◌≡◌, ℕ, List, [], ◌∷◌, ◌++◌, ◌∙◌, sym, ap, arith, subst}
+use Rattle.std.proofs.Common.{◌≡◌, ℕ, List, ◌∷◌, ◌++◌, ◌∙◌, sym, ap, arith, subst}
 use Rattle.std.specs.Prelude.{Result, Ok, Err, OnErr}
 use Rattle.art_bytes.specs.CString.{HasNoZero}
 use Rattle.program_lines.specs.Lines.{HasNo, IsCutAt}

@@ -1,9 +1,10 @@
 -- The keys of a set beside the words of a dictionary.
-use Rattle.std.proofs.Common.{◌≡◌, ◌∙◌, ℕ, zero, suc, ◌+◌, ◌-◌, ◌<◌, Bool, true, false, cond, ◌&&◌, List, [], ◌∷◌, ◌++◌, length, take, map, filter, All, AllPairs, Contains, refl, sym, ap, subst, arith, get_or, append_assoc, append-nil, add-one}
+use Rattle.std.proofs.Common.{◌≡◌, ◌∙◌, ℕ, zero, suc, ◌+◌, ◌-◌, ◌<◌, ◌≤◌, Bool, true, false, cond, ◌&&◌, List, [], ◌∷◌, ◌++◌, length, take, map, filter, All, AllPairs, Contains, refl, sym, ap, subst, arith, inl, inr, get_or, append_assoc, append-nil, add-one}
 use Rattle.std.specs.Prelude.{nat_eq, Option, slice_get}
 use Rattle.std.specs.Borrow.{Bor}
 use Rattle.std.specs.Fmt.{decimal}
 use Rattle.std.specs.Option.{option_map}
+use Rattle.std.proofs.lemmas.Bool.{cases_Bool}
 use Rattle.std.proofs.lemmas.Option.{slice_get-map}
 use Rattle.std.specs.List.{starts_with, flat_map}
 use Rattle.std.proofs.lemmas.List.Concat.{flat_map-cons}
@@ -14,7 +15,7 @@ use Rattle.std.proofs.Math.Logic.{∥∥₁_elim}
 use Rattle.std.proofs.Props.{props}
 use Rattle.std.proofs.Math.ListN.{get_or-map as get_or-map_same}
 use Rattle.std.proofs.lemmas.List.{length-map, get_or-map}
-use Rattle.std.proofs.lemmas.List.Elements.{All-head, All-tail}
+use Rattle.std.proofs.lemmas.List.Elements.{All-cons, All-head, All-nil, All-tail}
 use Rattle.art_bytes.specs.CString.{HasNoZero, IsCString}
 use Rattle.art_bytes.specs.CStringKey.{c_string_key_text}
 use Rattle.art_bytes.specs.Text.{text_order}
@@ -191,6 +192,18 @@ said_at [] (query ∷ queries) said k d below = absurd said
 said_at (first ∷ lines) [] said k d below = absurd said
 said_at (first ∷ lines) (query ∷ queries) said zero d below = (first, said.0)
 said_at (first ∷ lines) (query ∷ queries) said (suc k) d below = said_at lines queries said.1 k d (omega (arith, below))
+
+-- a filter gives no more
+pub no_more : {X : Type 0} (p : X → Bool) (xs : List X) → length (filter p xs) ≤ length xs
+no_more p [] = omega arith
+no_more p (x ∷ xs) = elim (cases_Bool (p x)) [ inl e ↦ rw e (omega (arith, no_more p xs)) | inr e ↦ rw e (omega (arith, no_more p xs)) ]
+
+-- so all queries are said
+pub all_said : (lines : List (List ℕ)) (queries : List Query) → SayAll SayQuery lines queries → All IsSaid queries
+all_said [] [] said = All-nil IsSaid
+all_said [] (query ∷ queries) said = absurd said
+all_said (first ∷ lines) [] said = absurd said
+all_said (first ∷ lines) (query ∷ queries) said = All-cons IsSaid query queries (first, said.0) (all_said lines queries said.1)
 
 -- one reply more
 pub reply_more : (words : List (List ℕ)) (queries : List Query) (k : ℕ) (d : Query) (start output longer : List ℕ) → k < length queries → output ≡ start ++ flat_map (reply words) (take k queries) → longer ≡ output ++ reply words (get_or queries k d) → longer ≡ start ++ flat_map (reply words) (take (k + 1) queries)

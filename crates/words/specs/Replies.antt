@@ -1,5 +1,5 @@
 -- The output for a list and queries, and which lines are bad.
-use Rattle.std.specs.Prelude.{◌≡◌, ◌⊎◌, ℕ, ◌-◌, List, [], ◌++◌, Option, None, Some, codes, filter, length, map, nat_eq, slice_get, take}
+use Rattle.std.specs.Prelude.{◌≡◌, ◌⊎◌, ℕ, ◌-◌, List, ◌++◌, Option, None, Some, codes, filter, length, nat_eq, slice_get, take}
 use Rattle.std.specs.Fmt.{decimal}
 use Rattle.std.specs.List.{flat_map, starts_with}
 use Rattle.std.specs.Ordering.{is_lt, is_gt}

@@ -1,5 +1,5 @@
 //! The replies to queries.
-ghost use Rattle.std.specs.Prelude.{◌≡◌, ◌-◌, ◌++◌, OnOk, codes, length, map, slice_get, take};
+ghost use Rattle.std.specs.Prelude.{◌≡◌, ◌-◌, ◌≤◌, ◌++◌, All, OnOk, codes, length, map, slice_get, take};
 ghost use Rattle.std.specs.Fmt.{decimal};
 ghost use Rattle.std.specs.List.{flat_map};
 ghost use Rattle.std.specs.Option.{option_copied, option_map};
@@ -45,11 +45,26 @@ impl Program for Words {
         let dictionary = dictionary_of(alloc, &words)?;
         let mut output = Vec::new(alloc);
         push_counts(alloc, dictionary.len(), words.len(), &mut output)?;
-        for query in &queries {
-            push_reply(alloc, &dictionary, query, &mut output)?;
-        }
+        push_replies(alloc, &dictionary, &queries, &mut output)?;
         Ok(output)
     }
+}
+
+// Appends what the queries print, one after another.
+fn push_replies(
+    alloc: Global,
+    dictionary: &Dictionary,
+    queries: &[Query<'_>],
+    output: &mut Vec<u8>,
+) -> Result<(), AllocError>
+    requires { All IsSaid queries.now }
+    ensures { OnOk result (output.new.items
+        ≡ output.old.items ++ flat_map (reply (map word_of_key dictionary.now)) queries.now) }
+{
+    for query in queries {
+        push_reply(alloc, dictionary, query, output)?;
+    }
+    Ok(())
 }
 
 // Appends what a query prints.
@@ -72,7 +87,8 @@ fn push_reply(
             push_first_words(dictionary.prefix(&SliceKey::new(prefix)), most, output)?;
         }
         Query::Count(prefix) => {
-            let count = count_of(dictionary.prefix(&SliceKey::new(prefix)));
+            let words = dictionary.prefix(&SliceKey::new(prefix));
+            let count = count_of(words, dictionary.len());
             push_number(alloc, count, output)?;
         }
         Query::Before(word) => {
@@ -103,8 +119,9 @@ fn push_counts(
     push_line(output, text.as_bytes())
 }
 
-// How many keys there are.
-fn count_of(keys: Keys<'_, CStringKey, (), DEFAULT_PREFIX_LEN>) -> usize
+// How many keys there are. The set has no fewer.
+fn count_of(keys: Keys<'_, CStringKey, (), DEFAULT_PREFIX_LEN>, most: usize) -> usize
+    requires { length keys ≤ most }
     ensures { result ≡ length keys.entry }
 {
     keys.count()

@@ -1,4 +1,4 @@
-use Rattle.std.proofs.Common.{◌≡◌, ◌+◌, length, arith, refl}
+use Rattle.std.proofs.Common.{◌+◌, arith, refl}
 use Rattle.program_lines.specs.Lines.{lines_of}
 use Rattle.program_lines.proofs.SaidLemmas.{said_next, said_bad}
 use Rattle.program_lines.proofs.lines.said.Goals as goal

@@ -1,4 +1,4 @@
-use Rattle.std.proofs.Common.{◌++◌, ◌∷◌, [], ◌≡◌, map, take, length, arith, subst}
+use Rattle.std.proofs.Common.{◌++◌, ◌∷◌, [], ◌≡◌, map, take, arith, subst}
 use Rattle.std.proofs.Math.Seq.{take_all}
 use Rattle.art_bytes.specs.CStringKey.{c_string_key_text}
 use Rattle.words.proofs.ReplyLemmas.{is_dictionary}

@@ -1,4 +1,4 @@
-use Rattle.words.proofs.QueryLemmas.{says_first, says_none, on_err, anyway}
+use Rattle.words.proofs.QueryLemmas.{says_none, on_err, anyway}
 use Rattle.words.proofs.query.beginning.Goals as goal
 
 pub returns-in_err-without_zero-in-Some-clause-refused : goal.returns-in_err-without_zero-in-Some-clause-refused

@@ -1,5 +1,4 @@
 use Rattle.std.proofs.Common.{◌++◌, ◌∙◌, ap}
-use Rattle.std.specs.List.{flat_map}
 use Rattle.program_lines.specs.Lines.{line}
 use Rattle.words.proofs.ReplyLemmas.{first_line_more}
 use Rattle.words.proofs.replies.push_first_words.Goals as goal

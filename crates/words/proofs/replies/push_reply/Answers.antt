@@ -3,8 +3,11 @@ use Rattle.std.specs.Fmt.{decimal}
 use Rattle.std.specs.Option.{option_copied}
 use Rattle.art_bytes.specs.CStringKey.{c_string_key_text}
 use Rattle.program_lines.specs.Lines.{line}
-use Rattle.words.proofs.ReplyLemmas.{reply_begin, reply_first, reply_count, reply_before, reply_after}
+use Rattle.words.proofs.ReplyLemmas.{no_more, reply_begin, reply_first, reply_count, reply_before, reply_after}
 use Rattle.words.proofs.replies.push_reply.Goals as goal
+
+pub count_of-count-requires : goal.count_of-count-requires
+count_of-count-requires c = rw (c.prefix-words.ensures, c.len.ensures) (no_more _ c.args.dictionary.now)
 
 pub returns-in_ok-push_words-in-Begin : goal.returns-in_ok-push_words-in-Begin
 returns-in_ok-push_words-in-Begin c =
@@ -16,7 +19,7 @@ returns-in_ok-push_first_words-in-FirstOf c =
 
 pub returns-in_ok-push_number-in-Count : goal.returns-in_ok-push_number-in-Count
 returns-in_ok-push_number-in-Count c =
-    reply_count c.args.dictionary.now c.keys_ascend.ensures.keys c.args.output.now.items c.push_number.new.output.items c.args.query.now c.requires c.prefix-in-Count.result c.in-Count.prefix _ c.in-Count.is c.new-in-Count.ensures c.prefix-in-Count.ensures (c.in_ok-push_number-in-Count.ensures ∙ ap (λ n. c.args.output.now.items ++ line (decimal n)) c.count_of-count.ensures)
+    reply_count c.args.dictionary.now c.keys_ascend.ensures.keys c.args.output.now.items c.push_number.new.output.items c.args.query.now c.requires c.prefix-words.result c.in-Count.prefix _ c.in-Count.is c.new-in-Count.ensures c.prefix-words.ensures (c.in_ok-push_number-in-Count.ensures ∙ ap (λ n. c.args.output.now.items ++ line (decimal n)) c.count_of-count.ensures)
 
 pub returns-in_ok-push_neighbour-in-Before : goal.returns-in_ok-push_neighbour-in-Before
 returns-in_ok-push_neighbour-in-Before c =
