@@ -1,0 +1,12 @@
+use Rattle.std.proofs.Common.{◌+◌, arith, refl}
+use Rattle.program_lines.specs.Lines.{lines_of}
+use Rattle.program_lines.proofs.SaidLemmas.{said_next, said_bad}
+use Rattle.program_lines.proofs.lines.said.Goals as goal
+
+pub returns-in-Err-clause-first_bad : goal.returns-in-Err-clause-first_bad
+returns-in-Err-clause-first_bad g c =
+    (refl, said_bad g.T.FromLine.says (lines_of c.args.bytes.now) c.loop-rest.rest.now c.loop-rest.items.items c.loop-rest.invariant c.first_line.result.0.now c.first_line.result.1.now c.first_line.ensures.lines (c.len.result + 1) (omega (arith, c.len.ensures)) c.in-Err.ensures.refused)
+
+pub loop-rest-preserved : goal.loop-rest-preserved
+loop-rest-preserved g c =
+    said_next g.T.FromLine.says (lines_of c.args.bytes.now) c.loop-rest.rest.now c.loop-rest.items.items c.loop-rest.invariant c.first_line.result.0.now c.first_line.result.1.now c.first_line.ensures.lines c.in-Ok.item c.push.new.self.items c.in-Ok.ensures.said c.in_ok-push-in-Ok.ensures.items

@@ -1,0 +1,4 @@
+pub mod Lines
+pub mod Failures
+pub mod Programs
+pub mod Numbers

@@ -1,0 +1,124 @@
+//! Failures: what ends a run before its output is written.
+ghost use Rattle.std.specs.Prelude.{◌≡◌};
+
+use crate::writing::write_line;
+use std::alloc::{AllocError, AllocFailed};
+use std::fmt::Display;
+use std::io::Write;
+use std::{fmt, io};
+
+/// Which of its two inputs a program reads a line from.
+#[derive(Clone, Copy, Debug, PartialEq, Eq)]
+pub enum Place {
+    /// The file that the program is given.
+    File,
+    /// Standard input.
+    Input,
+}
+
+impl Display for Place {
+    fn fmt<W: fmt::Write>(&self, f: &mut fmt::Formatter<W>) -> fmt::Result {
+        match self {
+            Place::File => write!(f, "file"),
+            Place::Input => write!(f, "input"),
+        }
+    }
+}
+
+/// A line at fault.
+#[derive(Clone, Copy, Debug, PartialEq, Eq)]
+pub struct BadLine<F> {
+    /// Where the line is read.
+    pub place: Place,
+    /// The number of the line there, from 1.
+    pub number: usize,
+    /// What is wrong with it.
+    pub fault: F,
+}
+
+/// Why a run ends without its output. Its text is the line for standard error.
+#[derive(Clone, Copy, Debug, PartialEq, Eq)]
+pub enum Failure<F> {
+    /// A line is at fault.
+    BadLine(BadLine<F>),
+    /// An allocation failed.
+    OutOfMemory,
+    /// The file cannot be read.
+    NoFile,
+    /// Another read or a write failed.
+    Device,
+}
+
+impl<F> Failure<F> {
+    ghost use Rattle.program_lines.specs.Failures.{status_of};
+
+    /// The exit status: 2 for a bad line, 1 for an allocation failure, a file that cannot be read or a
+    /// failed device.
+    pub fn status(&self) -> u8
+        ensures { result ≡ status_of self.now }
+    {
+        match self {
+            Failure::BadLine(_) => 2,
+            Failure::OutOfMemory | Failure::NoFile | Failure::Device => 1,
+        }
+    }
+}
+
+impl<F: Display + Copy> Failure<F> {
+    ghost use Rattle.program_lines.specs.Failures.{status_of};
+
+    /// Writes the line of the failure, as far as the writer takes it, and returns the status, also
+    /// where the write fails.
+    pub fn report<E: Write>(self, errors: &mut E) -> u8
+        ensures { result ≡ status_of self }
+    {
+        write_line(errors, self);
+        self.status()
+    }
+}
+
+impl<F: Display> Display for Failure<F> {
+    fn fmt<W: fmt::Write>(&self, f: &mut fmt::Formatter<W>) -> fmt::Result {
+        match self {
+            Failure::BadLine(bad) => write!(f, "{} line {}: {}", bad.place, bad.number, bad.fault),
+            Failure::OutOfMemory => write!(f, "out of memory"),
+            Failure::NoFile => write!(f, "file cannot be read"),
+            Failure::Device => write!(f, "device failed"),
+        }
+    }
+}
+
+impl<F> From<AllocError> for Failure<F> {
+    ghost use Rattle.program_lines.specs.declared.failure.Failure.TheVariants.{OutOfMemory};
+
+    ghost from_gives = { λ _ failure. failure ≡ OutOfMemory };
+
+    fn from(_error: AllocError) -> Failure<F> {
+        Failure::OutOfMemory
+    }
+}
+
+impl<F, T: Drop> From<AllocFailed<T>> for Failure<F> {
+    ghost use Rattle.program_lines.specs.declared.failure.Failure.TheVariants.{OutOfMemory};
+
+    ghost from_gives = { λ _ failure. failure ≡ OutOfMemory };
+
+    fn from(_error: AllocFailed<T>) -> Failure<F> {
+        Failure::OutOfMemory
+    }
+}
+
+impl<F> From<io::Error> for Failure<F> {
+    ghost use Rattle.std.specs.Prelude.{◌≡◌};
+    ghost use Rattle.program_lines.specs.Failures.{status_of};
+
+    ghost from_gives = { λ error failure. status_of failure ≡ 1 };
+
+    fn from(error: io::Error) -> Failure<F> {
+        if error.kind() == io::ErrorKind::OutOfMemory {
+            Failure::OutOfMemory
+        } else {
+            Failure::Device
+        }
+    }
+}

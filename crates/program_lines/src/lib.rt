@@ -1,0 +1,18 @@
+//! What the programs on an ordered map share: lines of bytes to what they say, failures and their exit
+//! statuses, and the run over a file, a reader and two writers. [`run`] is proved once, for every
+//! [`Program`].
+#![tactic(auto)]
+
+mod failure;
+mod lines;
+mod numbers;
+mod process;
+mod program;
+mod writing;
+
+pub use failure::{BadLine, Failure, Place};
+pub use lines::{FromLine, first_line, said, split_once};
+pub use numbers::number_of;
+pub use process::start;
+pub use program::{Program, run};
+pub use writing::push_line;

@@ -1,0 +1,57 @@
+//! The `main` of a program.
+use crate::failure::Failure;
+use crate::program::{Program, run};
+use crate::writing::write_out;
+use std::process::ExitCode;
+use std::{env, fs, io};
+
+/// Runs a program as a process: its one word names the file, and the standard streams are the rest.
+///
+/// The word `--help` prints how the program is called, with status 0; other words print it on
+/// standard error, with status 2. Where the file cannot be read a line says so, with status 1.
+pub fn start<P: Program>(rt: &HostRuntime) -> ExitCode {
+    let status = match words_after_name(rt) {
+        Ok(words) => status::<P>(rt, &words),
+        Err(error) if error.kind() == io::ErrorKind::OutOfMemory => {
+            Failure::<P::Fault>::OutOfMemory.report(&mut rt.stderr())
+        }
+        Err(_) => status::<P>(rt, &[]),
+    };
+    ExitCode::from(status)
+}
+
+fn status<P: Program>(rt: &HostRuntime, words: &[String]) -> u8 {
+    let mut errors = rt.stderr();
+    let [word] = words else {
+        let _ = write_out(&mut errors, P::usage().as_bytes());
+        return 2;
+    };
+    if word.as_str() == "--help" {
+        return match write_out(&mut rt.stdout(), P::usage().as_bytes()) {
+            Ok(()) => 0,
+            Err(_) => 1,
+        };
+    }
+    match fs::read(rt, word.as_str()) {
+        Ok(file) => run::<P, _, _, _>(
+            rt.alloc(),
+            &file,
+            &mut rt.stdin(),
+            &mut rt.stdout(),
+            &mut errors,
+        ),
+        Err(error) => {
+            let failure = match error.kind() {
+                io::ErrorKind::OutOfMemory => Failure::<P::Fault>::OutOfMemory,
+                _ => Failure::NoFile,
+            };
+            failure.report(&mut errors)
+        }
+    }
+}
+
+// A word that is not UTF-8 names no file.
+fn words_after_name(rt: &HostRuntime) -> io::Result<Vec<String>> {
+    let words = env::args(rt)?;
+    Ok(words.skip(1).collect(rt.alloc())?)
+}

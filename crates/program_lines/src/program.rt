@@ -1,0 +1,89 @@
+//! A program over a file, a reader and two writers.
+ghost use Rattle.std.specs.Prelude.{◌≡◌, ◌≢◌, ◌≤◌, IfSome, IfOk, IfErr};
+ghost use Rattle.std.specs.Io.KnownBytes.{Keeps};
+ghost use Rattle.program_lines.specs.Failures.{status_of};
+ghost use Rattle.program_lines.specs.Programs.{Prints, PrintsBeginning, HasBadLine};
+
+use crate::failure::{BadLine, Failure};
+use crate::writing::write_out;
+use std::alloc::Global;
+use std::fmt::Display;
+use std::io::{ErrorKind, Read, Write};
+
+/// A program that answers the lines of its input from the lines of a file.
+pub trait Program {
+    ghost use Rattle.std.specs.Prelude.{ℕ, List, IfOk, IfErr};
+    ghost use Rattle.program_lines.specs.Failures.{IfBadLine};
+    ghost use Rattle.program_lines.specs.declared.failure.BadLine.{BadLine};
+
+    /// What may be wrong with a line.
+    type Fault: Display + Copy;
+
+    /// The bytes of the file and of the input have this output.
+    ghost is_output: { List ℕ → List ℕ → List ℕ → Type 0 };
+
+    /// In the file and the input this line is at fault.
+    ghost is_bad: { List ℕ → List ℕ → BadLine Self.Fault → Type 0 };
+
+    /// How the program is called, on one or more lines.
+    fn usage() -> &'static str;
+
+    /// The whole output.
+    fn answer(alloc: Global, file: &[u8], input: &[u8]) -> Result<Vec<u8>, Failure<Self::Fault>>
+        ensures output { IfOk result (λ output. is_output file.now input.now output.items) }
+        ensures refused { IfErr result (IfBadLine (is_bad file.now input.now)) };
+}
+
+/// Runs a program on the bytes of its file, and returns its exit status.
+///
+/// `input` is read to its end, and only then anything is written. With status 0 the whole output
+/// was written. With status 2 a line is at fault, and nothing is written to `output`. With status 1
+/// an allocation, a read or a write failed; the first part of the output may have been written.
+///
+/// A failure writes its line to `errors`, except where the reader of `output` has closed it: that
+/// ends the run quietly, with status 1.
+pub fn run<P: Program, R: Read, W: Write, E: Write>(
+    alloc: Global,
+    file: &[u8],
+    input: &mut R,
+    output: &mut W,
+    errors: &mut E,
+) -> u8
+    ensures status { result ≤ 2 }
+    ensures answers { result ≡ 0 → IfSome (R.remaining input.old)
+        (λ given. Prints (P.is_output file.now given) (W.contents output.old) (W.contents output.new)) }
+    ensures failed_run_prints_a_beginning { result ≡ 1 → IfSome (R.remaining input.old)
+        (λ given. PrintsBeginning (P.is_output file.now given) (W.contents output.old) (W.contents output.new)) }
+    ensures refused { result ≡ 2 → IfSome (R.remaining input.old)
+        (λ given. HasBadLine (P.is_bad file.now given)) }
+    ensures bad_input_prints_nothing { result ≡ 2 →
+        Keeps (W.contents output.old) (W.contents output.new) }
+    ensures success_is_quiet { result ≡ 0 →
+        Keeps (E.contents errors.old) (E.contents errors.new) }
+{
+    let text = match answer::<P, R>(alloc, file, input) {
+        Ok(text) => text,
+        Err(failure) => return failure.report(errors),
+    };
+    match write_out(output, &text) {
+        Ok(()) => 0,
+        Err(error) if error.kind() == ErrorKind::BrokenPipe => 1,
+        Err(_) => Failure::<P::Fault>::Device.report(errors),
+    }
+}
+
+// The whole output for what a reader has.
+fn answer<P: Program, R: Read>(
+    alloc: Global,
+    file: &[u8],
+    input: &mut R,
+) -> Result<Vec<u8>, Failure<P::Fault>>
+    ensures output { IfOk result (λ output. IfSome (R.remaining input.old)
+        (λ given. P.is_output file.now given output.items)) }
+    ensures refused { IfErr result (λ failure. status_of failure ≡ 2 → IfSome (R.remaining input.old)
+        (λ given. HasBadLine (P.is_bad file.now given))) }
+{
+    let mut bytes = Vec::new(alloc);
+    input.read_to_end(&mut bytes)?;
+    P::answer(alloc, file, &bytes)
+}

@@ -1,0 +1,4 @@
+mod KeyLemmas
+mod ReplyLemmas
+mod SetLemmas
+mod QueryLemmas

@@ -1,0 +1,56 @@
+-- The output for a list and queries, and which lines are bad.
+use Rattle.std.specs.Prelude.{◌≡◌, ◌⊎◌, ℕ, ◌-◌, List, ◌++◌, Option, None, Some, codes, filter, length, nat_eq, slice_get, take}
+use Rattle.std.specs.Fmt.{decimal}
+use Rattle.std.specs.List.{flat_map, starts_with}
+use Rattle.std.specs.Ordering.{is_lt, is_gt}
+use Rattle.art_bytes.specs.Text.{text_order}
+use Rattle.program_lines.specs.Lines.{line, lines_of, SayAll, IsFirstBad}
+use Rattle.program_lines.specs.declared.failure.BadLine.{BadLine}
+use Rattle.program_lines.specs.declared.failure.Place.TheVariants.{File, Input}
+use Rattle.words.specs.declared.dictionary.Word.{Word}
+use Rattle.words.specs.declared.fault.Fault.{Fault}
+use Rattle.words.specs.declared.query.Query.{Query}
+use Rattle.words.specs.declared.query.Query.TheVariants.{Begin, FirstOf, Count, Before, After}
+use Rattle.words.specs.Queries.{SayWord, SayQuery}
+use Rattle.words.specs.Dictionaries.{IsDictionary}
+
+-- the words that begin with the prefix
+abbrev pub with_prefix : List ℕ → List (List ℕ) → List (List ℕ)
+with_prefix prefix words = filter (λ word. starts_with nat_eq word prefix) words
+
+-- the words below this one, and those above it
+abbrev pub below : List ℕ → List (List ℕ) → List (List ℕ)
+below this words = filter (λ word. is_lt (text_order word this)) words
+
+abbrev pub above : List ℕ → List (List ℕ) → List (List ℕ)
+above this words = filter (λ word. is_gt (text_order word this)) words
+
+-- a line with the word, or with none
+abbrev pub neighbour : Option (List ℕ) → List ℕ
+neighbour None = line (codes "none")
+neighbour (Some word) = line word
+
+-- what a query prints, where these are the words in order
+abbrev pub reply : List (List ℕ) → Query → List ℕ
+reply words (Begin prefix) = flat_map line (with_prefix prefix.now words)
+reply words (FirstOf prefix most) = flat_map line (take most (with_prefix prefix.now words))
+reply words (Count prefix) = line (decimal (length (with_prefix prefix.now words)))
+reply words (Before word) = neighbour (slice_get (below word.now words) (length (below word.now words) - 1))
+reply words (After word) = neighbour (slice_get (above word.now words) 0)
+
+-- the first line of the output: how many words there are, in how many lines
+abbrev pub counts : List (List ℕ) → List (List ℕ) → List ℕ
+counts words list = line (decimal (length words) ++ codes " words in " ++ decimal (length list) ++ codes " lines")
+
+-- each line of the list is a word and each line of the input a query, and the output is the counts
+-- and the replies, one after another
+abbrev pub IsOutput : List ℕ → List ℕ → List ℕ → Type 0
+IsOutput list input output =
+    (given : List Word) × (queries : List Query) × (words : List (List ℕ)) × SayAll SayWord (lines_of list) given
+    × SayAll SayQuery (lines_of input) queries × IsDictionary (lines_of list) words
+    × (output ≡ counts words (lines_of list) ++ flat_map (reply words) queries)
+
+-- this is the first line of the list that is no word, or of the input that is no query
+abbrev pub IsBad : List ℕ → List ℕ → BadLine Fault → Type 0
+IsBad list input bad =
+    ((bad.place ≡ File) × IsFirstBad SayWord (lines_of list) bad.number) ⊎ ((bad.place ≡ Input) × IsFirstBad SayQuery (lines_of input) bad.number)

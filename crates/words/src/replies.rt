@@ -1,0 +1,195 @@
+//! The replies to queries.
+ghost use Rattle.std.specs.Prelude.{◌≡◌, ◌-◌, ◌≤◌, ◌++◌, All, OnOk, codes, length, map, slice_get, take};
+ghost use Rattle.std.specs.Fmt.{decimal};
+ghost use Rattle.std.specs.List.{flat_map};
+ghost use Rattle.std.specs.Option.{option_copied, option_map};
+ghost use Rattle.program_lines.specs.Lines.{line};
+ghost use Rattle.words.specs.Dictionaries.{word_of as word_of_key};
+ghost use Rattle.words.specs.Queries.{IsSaid};
+ghost use Rattle.words.specs.Replies.{reply, neighbour};
+
+use crate::dictionary::{Dictionary, Word, dictionary_of, key_of, word_of};
+use crate::fault::Fault;
+use crate::query::Query;
+use art_bytes::{CStringKey, SliceKey};
+use art_map::{DEFAULT_PREFIX_LEN, Keys};
+use program_lines::{Failure, Place, Program, push_line, said};
+use std::alloc::{AllocError, Global};
+use std::ops::Bound;
+
+/// The program, over the bytes of the list and of the queries.
+pub struct Words;
+
+impl Program for Words {
+    ghost use Rattle.words.specs.Replies.{IsOutput, IsBad};
+
+    type Fault = Fault;
+
+    ghost is_output = { IsOutput };
+
+    ghost is_bad = { IsBad };
+
+    fn usage() -> &'static str {
+        "usage: words FILE\n\
+        FILE is a list of words, one a line. Queries are lines of standard input:\n\
+        ?PREFIX    the words that begin with the prefix, in order\n\
+        ?PREFIX N  the first N of them\n\
+        #PREFIX    how many they are\n\
+        <WORD      the last word below this one, or none\n\
+        >WORD      the first word above this one, or none\n"
+    }
+
+    fn answer(alloc: Global, list: &[u8], input: &[u8]) -> Result<Vec<u8>, Failure<Fault>> {
+        let words: Vec<Word<'_>> = said(alloc, Place::File, list)?;
+        let queries: Vec<Query<'_>> = said(alloc, Place::Input, input)?;
+        let dictionary = dictionary_of(alloc, &words)?;
+        let mut output = Vec::new(alloc);
+        push_counts(alloc, dictionary.len(), words.len(), &mut output)?;
+        push_replies(alloc, &dictionary, &queries, &mut output)?;
+        Ok(output)
+    }
+}
+
+// Appends what the queries print, one after another.
+fn push_replies(
+    alloc: Global,
+    dictionary: &Dictionary,
+    queries: &[Query<'_>],
+    output: &mut Vec<u8>,
+) -> Result<(), AllocError>
+    requires { All IsSaid queries.now }
+    ensures { OnOk result (output.new.items
+        ≡ output.old.items ++ flat_map (reply (map word_of_key dictionary.now)) queries.now) }
+{
+    for query in queries {
+        push_reply(alloc, dictionary, query, output)?;
+    }
+    Ok(())
+}
+
+// Appends what a query prints.
+fn push_reply(
+    alloc: Global,
+    dictionary: &Dictionary,
+    query: &Query<'_>,
+    output: &mut Vec<u8>,
+) -> Result<(), AllocError>
+    requires { IsSaid query.now }
+    ensures { OnOk result (output.new.items
+        ≡ output.old.items ++ reply (map word_of_key dictionary.now) query.now) }
+{
+    dictionary.keys_ascend();
+    match *query {
+        Query::Begin(prefix) => {
+            push_words(dictionary.prefix(&SliceKey::new(prefix)), output)?;
+        }
+        Query::FirstOf(prefix, most) => {
+            push_first_words(dictionary.prefix(&SliceKey::new(prefix)), most, output)?;
+        }
+        Query::Count(prefix) => {
+            let words = dictionary.prefix(&SliceKey::new(prefix));
+            let count = count_of(words, dictionary.len());
+            push_number(alloc, count, output)?;
+        }
+        Query::Before(word) => {
+            let key = key_of(alloc, word)?;
+            let below = dictionary.range(Bound::Unbounded, Bound::Excluded(&key));
+            push_neighbour(last_of(below), output)?;
+        }
+        Query::After(word) => {
+            let key = key_of(alloc, word)?;
+            let above = dictionary.range(Bound::Excluded(&key), Bound::Unbounded);
+            push_neighbour(first_of(above), output)?;
+        }
+    }
+    Ok(())
+}
+
+// Appends the first line.
+fn push_counts(
+    alloc: Global,
+    words: usize,
+    lines: usize,
+    output: &mut Vec<u8>,
+) -> Result<(), AllocError>
+    ensures { OnOk result (output.new.items ≡ output.old.items
+        ++ line (decimal words ++ codes " words in " ++ decimal lines ++ codes " lines")) }
+{
+    let text = format!(in alloc; "{words} words in {lines} lines")?;
+    push_line(output, text.as_bytes())
+}
+
+// How many keys there are. The set has no fewer.
+fn count_of(keys: Keys<'_, CStringKey, (), DEFAULT_PREFIX_LEN>, most: usize) -> usize
+    requires { length keys ≤ most }
+    ensures { result ≡ length keys.entry }
+{
+    keys.count()
+}
+
+// Appends a line with a number.
+fn push_number(alloc: Global, number: usize, output: &mut Vec<u8>) -> Result<(), AllocError>
+    ensures { OnOk result (output.new.items ≡ output.old.items ++ line (decimal number)) }
+{
+    let text = format!(in alloc; "{number}")?;
+    push_line(output, text.as_bytes())
+}
+
+// Appends a line for each word.
+fn push_words(
+    keys: Keys<'_, CStringKey, (), DEFAULT_PREFIX_LEN>,
+    output: &mut Vec<u8>,
+) -> Result<(), AllocError>
+    ensures { OnOk result (output.new.items
+        ≡ output.old.items ++ flat_map line (map word_of_key keys.entry)) }
+{
+    for key in keys {
+        push_line(output, word_of(key))?;
+    }
+    Ok(())
+}
+
+// Appends a line for each of the first words, at most so many.
+fn push_first_words(
+    keys: Keys<'_, CStringKey, (), DEFAULT_PREFIX_LEN>,
+    most: u64,
+    output: &mut Vec<u8>,
+) -> Result<(), AllocError>
+    ensures { OnOk result (output.new.items
+        ≡ output.old.items ++ flat_map line (take most (map word_of_key keys.entry))) }
+{
+    let mut left = most;
+    for key in keys {
+        if left == 0 {
+            return Ok(());
+        }
+        left -= 1;
+        push_line(output, word_of(key))?;
+    }
+    Ok(())
+}
+
+// Appends a line with the word of a key, or with none.
+fn push_neighbour(key: Option<&CStringKey>, output: &mut Vec<u8>) -> Result<(), AllocError>
+    ensures { OnOk result (output.new.items
+        ≡ output.old.items ++ neighbour (option_map word_of_key (option_copied key.entry))) }
+{
+    match key {
+        Some(key) => push_line(output, word_of(key)),
+        None => push_line(output, b"none"),
+    }
+}
+
+// The first of these keys.
+fn first_of<'a>(mut keys: Keys<'a, CStringKey, (), DEFAULT_PREFIX_LEN>) -> Option<&'a CStringKey>
+    ensures { option_copied result ≡ slice_get keys.entry 0 }
+{
+    keys.next()
+}
+
+// The last of them.
+fn last_of<'a>(mut keys: Keys<'a, CStringKey, (), DEFAULT_PREFIX_LEN>) -> Option<&'a CStringKey>
+    ensures { option_copied result ≡ slice_get keys.entry (length keys.entry - 1) }
+{
+    keys.next_back()
+}
