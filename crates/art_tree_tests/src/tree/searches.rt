@@ -165,16 +165,27 @@ fn check_toward<K: AsBytes, const PREFIX_LEN: usize>(
     assert!(rt; text_toward(arena, root, key) == expected);
 }
 
+// The ends of the tree of abc1, abc2 and b, and the directions of three keys.
+fn check_tree_of_three<K: AsBytes, const PREFIX_LEN: usize>(
+    rt: &impl Abort,
+    arena: &NodeArena<K, usize, PREFIX_LEN>,
+    root: OpaqueNodePtr<K, usize, PREFIX_LEN>,
+)
+    requires { HasTree K.text arena.now root }
+{
+    check_ends(rt, arena, root, 0, 2);
+    check_toward(rt, arena, root, b"abc2", b"abc2");
+    check_toward(rt, arena, root, b"axx2", b"abc2");
+    check_toward(rt, arena, root, b"abc9", b"abc1");
+}
+
 fn check_ends_of_three<const PREFIX_LEN: usize>(
     rt: &impl Abort,
     alloc: Global,
     arena: &mut NodeArena<SliceKey, usize, PREFIX_LEN>,
 ) -> Result<(), Fail> {
     let root = load_texts(alloc, arena, &[b"abc1", b"abc2", b"b"])?;
-    check_ends(rt, arena, root, 0, 2);
-    check_toward(rt, arena, root, b"abc2", b"abc2");
-    check_toward(rt, arena, root, b"axx2", b"abc2");
-    check_toward(rt, arena, root, b"abc9", b"abc1");
+    check_tree_of_three(rt, arena, root);
     Ok(())
 }
 
