@@ -114,7 +114,8 @@ impl<K: Key> Dictionary<K> for Tree<K> {
 
     #[inline(never)]
     fn range(&self, start: &K, answers: &mut Answers) {
-        let entries = ArtMap::range(self, Bound::Included(start), Bound::Unbounded);
+        let start = SliceKey::new(start.as_bytes());
+        let entries = ArtMap::range(self, Bound::Included(&start), Bound::Unbounded);
         for (_, number) in entries.take(RANGE) {
             answers.add(Some(*number));
         }
