@@ -8,7 +8,7 @@ ghost use Rattle.art_tree.specs.InsertionPoints.{prefix_of};
 ghost use Rattle.art_tree.specs.Search.{EachTree, HasTree, leaf_pointer};
 ghost use Rattle.art_map.specs.Cuts.{is_before, HasCutBeside, HasWay, IsBeside, IsCut, IsFirstAfter, IsLastBefore, IsOnWay};
 
-use art_arena::{AnyNodeRef, End, NodeArena, end_leaf};
+use art_arena::{End, NodeArena, NodeRef, end_leaf};
 use art_bytes::AsBytes;
 use art_nodes::{InnerNodeCommon, LeafNode, NodePtr, OpaqueNodePtr};
 use art_tree::laws::{each_leaf_of_a_list_is_knit, entries_are_what_leaves_hold};
@@ -176,11 +176,11 @@ fn step<'a, K: AsBytes, V, const PREFIX_LEN: usize>(
         IfErr result (λ stop. IsBeside K.text arena.now tree side key.now stop) }
 {
     match arena.node_ref(at) {
-        AnyNodeRef::Node4(node) => step_in(arena, node, at, side, key, depth, known),
-        AnyNodeRef::Node16(node) => step_in(arena, node, at, side, key, depth, known),
-        AnyNodeRef::Node48(node) => step_in(arena, node, at, side, key, depth, known),
-        AnyNodeRef::Node256(node) => step_in(arena, node, at, side, key, depth, known),
-        AnyNodeRef::LeafNode(_) => Err(at),
+        NodeRef::Node4(node) => step_in(arena, node, at, side, key, depth, known),
+        NodeRef::Node16(node) => step_in(arena, node, at, side, key, depth, known),
+        NodeRef::Node48(node) => step_in(arena, node, at, side, key, depth, known),
+        NodeRef::Node256(node) => step_in(arena, node, at, side, key, depth, known),
+        NodeRef::LeafNode(_) => Err(at),
     }
 }
 

@@ -1,4 +1,4 @@
--- Insertion: the place of a text in a tree. No public clause cites it.
+-- Insertion: the place of a text in a tree. No public clause cites it but for `toward`.
 use Rattle.std.specs.Prelude.{◌≡◌, ◌≢◌, ◌==◌, ℕ, ◌+◌, ◌≤◌, if◌then◌else◌, List, [], ◌∷◌, ◌++◌, length, take, drop, Contains, Option, Some, None, IfSome, slice_get}
 use Rattle.std.specs.Option.{option_and_then, option_map_or}
 use Rattle.art_bytes.specs.Text.{IsPrefixOf}
