@@ -17,7 +17,7 @@ use Rattle.art_tree.specs.Art.{IsAlone}
 use Rattle.art_tree.specs.Search.{leaf_pointer}
 use Rattle.art_map.specs.Cuts.{is_before, AreOn, IsCut, IsFirstAfter, IsLastBefore}
 use Rattle.art_map.specs.declared.cut.Side.{Side}
-use Rattle.art_map.proofs.EntryLemmas.{keys_of}
+use Rattle.art_map.specs.LeafEntries.{keys_of}
 use Rattle.art_map.proofs.RangeLemmas.{keys-append, snoc}
 
 pub as-pointers : {K V : Type 0} {P : ℕ} (o : Option (NodePtr P (LeafNode K V P))) → option_map (leaf_pointer {K = K} {V = V} {P = P}) o ≡ option_map (opaque_pointer {K = K} {V = V} {P = P} kinds.Leaf) (option_map slab_key o)

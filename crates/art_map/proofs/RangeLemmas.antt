@@ -19,9 +19,9 @@ use Rattle.art_tree.specs.Dictionary.{entry_at, HasEntry}
 use Rattle.art_tree.specs.Entries.{entries_of, AreEntries}
 use Rattle.art_tree.specs.Search.{leaf_pointer}
 use Rattle.art_map.specs.Cuts.{is_before, is_between, AreOn, IsFirstAfter, IsLastBefore}
+use Rattle.art_map.specs.LeafEntries.{keys_of, HoldsEntryOf, AllHold}
 use Rattle.art_map.specs.Runs.{EndsIn, LeadsOver, leaf_entry, entries_under, run_of}
 use Rattle.art_map.specs.declared.cut.Side.{Side}
-use Rattle.art_map.proofs.EntryLemmas.{AllHold, entries-of-leaves, keys_of, leaves-hold}
 use Rattle.art_map.proofs.RunLemmas.{ends-push, entries-cons, run-is}
 
 pub keys-append : {K V : Type 0} {P : ℕ} (a b : List (OpaqueNodePtr K V P × List ℕ)) → keys_of (a ++ b) ≡ keys_of a ++ keys_of b
@@ -104,6 +104,10 @@ module _ {K V : Type 0} {P : ℕ} (text : K → List ℕ) (arena : NodeArena K V
   hold-right [] b hold = hold
   hold-right (x ∷ a) b hold = hold-right a b hold.1
 
+  -- one of the leaves holds its entry
+  pub holds-one : (whole left right : List (OpaqueNodePtr K V P × List ℕ)) (leaf : OpaqueNodePtr K V P × List ℕ) → whole ≡ left ++ leaf ∷ right → AllHold text arena whole → HoldsEntryOf text arena leaf.0 leaf.1
+  holds-one whole left right leaf is hold = (hold-right left (leaf ∷ right) (subst (AllHold text arena) is hold)).0
+
   -- the entries of some leaves
   abbrev pub held_by : List (OpaqueNodePtr K V P × List ℕ) → List (K × V)
   held_by pairs = entries_under arena (keys_of pairs)
@@ -111,25 +115,51 @@ module _ {K V : Type 0} {P : ℕ} (text : K → List ℕ) (arena : NodeArena K V
   held-append : (a b : List (OpaqueNodePtr K V P × List ℕ)) → held_by (a ++ b) ≡ held_by a ++ held_by b
   held-append a b = ap (entries_under arena) (keys-append a b) ∙ filter_map-append (λ key. option_map leaf_entry (leaf_at arena key)) (keys_of a) (keys_of b)
 
+  module _ (test : List ℕ → Bool) where
+    abbrev kept : List (K × V) → List (K × V)
+    kept entries = filter (λ entry. test (text entry.0)) entries
+
+    keep-all : (pairs : List (OpaqueNodePtr K V P × List ℕ)) → AllHold text arena pairs → All (λ leaf. test leaf.1 ≡ true) pairs → kept (held_by pairs) ≡ held_by pairs
+    keep-all [] hold all = refl
+    keep-all (pair ∷ pairs) hold all =
+        let cons = entries-cons arena (opaque_key pair.0) (keys_of pairs) hold.0.leaf hold.0.at in
+        let here : test (text (leaf_entry hold.0.leaf).0) ≡ true = ap test hold.0.has ∙ All-head (λ leaf. test leaf.1 ≡ true) pair pairs all in
+        let rest = keep-all pairs hold.1 (All-tail (λ leaf. test leaf.1 ≡ true) pair pairs all) in
+        ap kept cons ∙ ap (λ b. cond b (leaf_entry hold.0.leaf ∷ kept (held_by pairs)) (kept (held_by pairs))) here ∙ ap (λ es. leaf_entry hold.0.leaf ∷ es) rest ∙ sym cons
+
+    leave-all : (pairs : List (OpaqueNodePtr K V P × List ℕ)) → AllHold text arena pairs → All (λ leaf. test leaf.1 ≡ false) pairs → kept (held_by pairs) ≡ []
+    leave-all [] hold all = refl
+    leave-all (pair ∷ pairs) hold all =
+        let cons = entries-cons arena (opaque_key pair.0) (keys_of pairs) hold.0.leaf hold.0.at in
+        let here : test (text (leaf_entry hold.0.leaf).0) ≡ false = ap test hold.0.has ∙ All-head (λ leaf. test leaf.1 ≡ false) pair pairs all in
+        let rest = leave-all pairs hold.1 (All-tail (λ leaf. test leaf.1 ≡ false) pair pairs all) in
+        ap kept cons ∙ ap (λ b. cond b (leaf_entry hold.0.leaf ∷ kept (held_by pairs)) (kept (held_by pairs))) here ∙ rest
+
+    -- where the test fails up to one part, and holds from it on, or the other way round
+    kept-right : (whole left right : List (OpaqueNodePtr K V P × List ℕ)) → whole ≡ left ++ right → AllHold text arena whole → All (λ leaf. test leaf.1 ≡ false) left → All (λ leaf. test leaf.1 ≡ true) right → kept (held_by whole) ≡ held_by right
+    kept-right whole left right is hold out inside =
+        let parts = subst (AllHold text arena) is hold in
+        ap (λ pairs. kept (held_by pairs)) is ∙ ap kept (held-append left right)
+        ∙ filter-append (λ entry. test (text entry.0)) (held_by left) (held_by right)
+        ∙ ap (λ es. es ++ kept (held_by right)) (leave-all left (hold-left left right parts) out) ∙ keep-all right (hold-right left right parts) inside
+
+    kept-left : (whole left right : List (OpaqueNodePtr K V P × List ℕ)) → whole ≡ left ++ right → AllHold text arena whole → All (λ leaf. test leaf.1 ≡ true) left → All (λ leaf. test leaf.1 ≡ false) right → kept (held_by whole) ≡ held_by left
+    kept-left whole left right is hold inside out =
+        let parts = subst (AllHold text arena) is hold in
+        ap (λ pairs. kept (held_by pairs)) is ∙ ap kept (held-append left right)
+        ∙ filter-append (λ entry. test (text entry.0)) (held_by left) (held_by right)
+        ∙ ap (λ es. kept (held_by left) ++ es) (leave-all right (hold-right left right parts) out)
+        ∙ append-nil (kept (held_by left)) ∙ keep-all left (hold-left left right parts) inside
+
   module _ (start_side : Side) (start : List ℕ) (end_side : Side) (end : List ℕ) where
     abbrev passes : K × V → Bool
     passes entry = is_between start_side start end_side end (text entry.0)
 
-    pub keep : (pairs : List (OpaqueNodePtr K V P × List ℕ)) → AllHold text arena pairs → All (λ leaf. is_between start_side start end_side end leaf.1 ≡ true) pairs → filter passes (held_by pairs) ≡ held_by pairs
-    keep [] hold all = refl
-    keep (pair ∷ pairs) hold all =
-        let cons = entries-cons arena (opaque_key pair.0) (keys_of pairs) hold.0.leaf hold.0.at in
-        let test : passes (leaf_entry hold.0.leaf) ≡ true = ap (is_between start_side start end_side end) hold.0.has ∙ All-head (λ leaf. is_between start_side start end_side end leaf.1 ≡ true) pair pairs all in
-        let rest = keep pairs hold.1 (All-tail (λ leaf. is_between start_side start end_side end leaf.1 ≡ true) pair pairs all) in
-        ap (filter passes) cons ∙ ap (λ b. cond b (leaf_entry hold.0.leaf ∷ filter passes (held_by pairs)) (filter passes (held_by pairs))) test ∙ ap (λ es. leaf_entry hold.0.leaf ∷ es) rest ∙ sym cons
+    keep : (pairs : List (OpaqueNodePtr K V P × List ℕ)) → AllHold text arena pairs → All (λ leaf. is_between start_side start end_side end leaf.1 ≡ true) pairs → filter passes (held_by pairs) ≡ held_by pairs
+    keep = keep-all (is_between start_side start end_side end)
 
-    pub leave : (pairs : List (OpaqueNodePtr K V P × List ℕ)) → AllHold text arena pairs → All (λ leaf. is_between start_side start end_side end leaf.1 ≡ false) pairs → filter passes (held_by pairs) ≡ []
-    leave [] hold all = refl
-    leave (pair ∷ pairs) hold all =
-        let cons = entries-cons arena (opaque_key pair.0) (keys_of pairs) hold.0.leaf hold.0.at in
-        let test : passes (leaf_entry hold.0.leaf) ≡ false = ap (is_between start_side start end_side end) hold.0.has ∙ All-head (λ leaf. is_between start_side start end_side end leaf.1 ≡ false) pair pairs all in
-        let rest = leave pairs hold.1 (All-tail (λ leaf. is_between start_side start end_side end leaf.1 ≡ false) pair pairs all) in
-        ap (filter passes) cons ∙ ap (λ b. cond b (leaf_entry hold.0.leaf ∷ filter passes (held_by pairs)) (filter passes (held_by pairs))) test ∙ rest
+    leave : (pairs : List (OpaqueNodePtr K V P × List ℕ)) → AllHold text arena pairs → All (λ leaf. is_between start_side start end_side end leaf.1 ≡ false) pairs → filter passes (held_by pairs) ≡ []
+    leave = leave-all (is_between start_side start end_side end)
 
     before-start : (pairs : List (OpaqueNodePtr K V P × List ℕ)) → AreOn start_side start true pairs → All (λ leaf. is_between start_side start end_side end leaf.1 ≡ false) pairs
     before-start pairs before =
@@ -214,19 +244,13 @@ module _ {K V : Type 0} {P : ℕ} (text : K → List ℕ) (arena : NodeArena K V
               ∙ ap (λ es. es ++ filter passes (held_by B)) in_mid
               ∙ ap (λ es. held_by mid ++ es) in_right ∙ append-nil (held_by mid)
 
-module _ {K V : Type 0} {P : ℕ} (text : K → List ℕ) (arena : NodeArena K V P) (root : OpaqueNodePtr K V P) (tree : Tree (OpaqueNodePtr K V P)) (alone : IsAlone text arena root tree)
-    (held_law : (pointer : OpaqueNodePtr K V P) (x : List ℕ) → Contains (leaves tree) (pointer, x) → (leaf : LeafNode K V P) × (held arena pointer ≡ HeldLeaf leaf) × (text (leaf_key leaf) ≡ x))
-    (leaves_law : (pointer : OpaqueNodePtr K V P) (x : List ℕ) (leaf : LeafNode K V P) → Contains (leaves tree) (pointer, x) → held arena pointer ≡ HeldLeaf leaf → entry_at text arena x ≡ Some (leaf_key leaf, leaf_value leaf))
-    (texts_law : (x : List ℕ) → HasEntry text arena x → Contains (texts tree) x)
-    (ascend : AllPairs (λ a b. text_order a b ≡ Less) (texts tree)) (only_law : (entries : List (K × V)) → AreEntries text arena entries → entries ≡ entries_of text arena) (start_side : Side) (start : List ℕ) (end_side : Side) (end : List ℕ) where
-  abbrev pub hold : AllHold text arena (leaves tree)
-  hold = leaves-hold text arena root tree alone held_law leaves_law texts_law ascend
-
+module _ {K V : Type 0} {P : ℕ} (text : K → List ℕ) (arena : NodeArena K V P) (tree : Tree (OpaqueNodePtr K V P))
+    (hold : AllHold text arena (leaves tree)) (are : held_by text arena (leaves tree) ≡ entries_of text arena) (start_side : Side) (start : List ℕ) (end_side : Side) (end : List ℕ) where
   abbrev within : List (K × V) → List (K × V)
   within entries = filter (λ entry. is_between start_side start end_side end (text entry.0)) entries
 
   of-leaves : (part : List (K × V)) → within (held_by text arena (leaves tree)) ≡ part → part ≡ within (entries_of text arena)
-  of-leaves part is = sym is ∙ ap within (only_law (held_by text arena (leaves tree)) (entries-of-leaves text arena root tree alone held_law leaves_law texts_law ascend))
+  of-leaves part is = sym is ∙ ap within are
 
   pub range-low : IsFirstAfter start_side start (leaves tree) None → [] ≡ within (entries_of text arena)
   range-low before = of-leaves [] (none-low text arena start_side start end_side end tree hold before)
@@ -235,16 +259,13 @@ module _ {K V : Type 0} {P : ℕ} (text : K → List ℕ) (arena : NodeArena K V
   range-high past = of-leaves [] (none-high text arena start_side start end_side end tree hold past)
 
   module _ (front : NodePtr P (LeafNode K V P)) (low : IsFirstAfter start_side start (leaves tree) (Some (leaf_pointer front))) where
-    front-inside : Contains (leaves tree) (leaf_pointer front, low.0)
-    front-inside = subst (λ all. Contains all (leaf_pointer front, low.0)) (sym low.3) (Contains-append_right low.1 ((leaf_pointer front, low.0) ∷ low.2) (leaf_pointer front, low.0) (0, omega arith, refl))
-
-    pub front-held : (leaf : LeafNode K V P) × (held arena (leaf_pointer front) ≡ HeldLeaf leaf) × (text (leaf_key leaf) ≡ low.0)
-    front-held = held_law (leaf_pointer front) low.0 front-inside
+    pub front-held : HoldsEntryOf text arena (leaf_pointer front) low.0
+    front-held = holds-one text arena (leaves tree) low.1 low.2 (leaf_pointer front, low.0) low.3 hold
 
     pub front-text : (leaf : LeafNode K V P) → held arena (leaf_pointer front) ≡ HeldLeaf leaf → text (leaf_key leaf) ≡ low.0
     front-text leaf is =
-        let one : HeldLeaf leaf ≡ HeldLeaf front-held.0 = sym is ∙ front-held.1 in
-        let same : leaf ≡ front-held.0 = cc in ap (λ l. text (leaf_key l)) same ∙ front-held.2
+        let one : HeldLeaf leaf ≡ HeldLeaf front-held.leaf = sym is ∙ front-held.there in
+        let same : leaf ≡ front-held.leaf = cc in ap (λ l. text (leaf_key l)) same ∙ front-held.has
 
     module _ (back : NodePtr P (LeafNode K V P)) (high : IsLastBefore end_side end (leaves tree) (Some (leaf_pointer back))) where
       abbrev f : OpaqueNodePtr K V P × List ℕ
@@ -256,17 +277,17 @@ module _ {K V : Type 0} {P : ℕ} (text : K → List ℕ) (arena : NodeArena K V
       pub range-apart : is_before end_side end low.0 ≡ false → [] ≡ within (entries_of text arena)
       range-apart past = of-leaves [] (none-within text arena start_side start end_side end tree hold low.1 low.2 high.1 high.2 f b low.3 low.4 low.5 high.3 high.4 high.5 past)
 
-      module _ (inside : is_before end_side end low.0 ≡ true) where
+      module _ (spelled : Spells arena (keys_of (leaves tree))) (inside : is_before end_side end low.0 ≡ true) where
         abbrev pub mid-keys : List ℕ
-        mid-keys = keys_of (mid text arena start_side start end_side end tree hold low.1 low.2 high.1 high.2 f b low.3 low.4 low.5 high.3 high.4 high.5 alone.spelled inside)
+        mid-keys = keys_of (mid text arena start_side start end_side end tree hold low.1 low.2 high.1 high.2 f b low.3 low.4 low.5 high.3 high.4 high.5 spelled inside)
 
         abbrev pub range-run : (keys : List ℕ) × LeadsOver arena (slab_key front) (slab_key back) keys
-        range-run = (mid-keys, range-leads text arena start_side start end_side end tree hold low.1 low.2 high.1 high.2 f b low.3 low.4 low.5 high.3 high.4 high.5 alone.spelled inside)
+        range-run = (mid-keys, range-leads text arena start_side start end_side end tree hold low.1 low.2 high.1 high.2 f b low.3 low.4 low.5 high.3 high.4 high.5 spelled inside)
 
         pub range-some : run_of arena (Some (front, back)) ≡ within (entries_of text arena)
         range-some =
             of-leaves (run_of arena (Some (front, back)))
-            (range-is text arena start_side start end_side end tree hold low.1 low.2 high.1 high.2 f b low.3 low.4 low.5 high.3 high.4 high.5 alone.spelled inside
+            (range-is text arena start_side start end_side end tree hold low.1 low.2 high.1 high.2 f b low.3 low.4 low.5 high.3 high.4 high.5 spelled inside
             ∙ ap (entries_under arena) (sym (run-is arena (slab_key front) (slab_key back) range-run.0 range-run.1)))
 
 -- a filter of one list behind another, and the last member of such a list
@@ -277,53 +298,8 @@ last-of {X = X} xs x = ap (slice_get (xs ++ x ∷ [])) (omega (arith, length-app
     behind [] = refl
     behind (y ∷ xs) = behind xs
 
-module _ {K V : Type 0} {P : ℕ} (text : K → List ℕ) (arena : NodeArena K V P) (test : List ℕ → Bool) where
-  abbrev kept : List (K × V) → List (K × V)
-  kept entries = filter (λ entry. test (text entry.0)) entries
-
-  keep-all : (pairs : List (OpaqueNodePtr K V P × List ℕ)) → AllHold text arena pairs → All (λ leaf. test leaf.1 ≡ true) pairs → kept (held_by text arena pairs) ≡ held_by text arena pairs
-  keep-all [] hold all = refl
-  keep-all (pair ∷ pairs) hold all =
-      let cons = entries-cons arena (opaque_key pair.0) (keys_of pairs) hold.0.leaf hold.0.at in
-      let here : test (text (leaf_entry hold.0.leaf).0) ≡ true = ap test hold.0.has ∙ All-head (λ leaf. test leaf.1 ≡ true) pair pairs all in
-      let rest = keep-all pairs hold.1 (All-tail (λ leaf. test leaf.1 ≡ true) pair pairs all) in
-      ap kept cons ∙ ap (λ b. cond b (leaf_entry hold.0.leaf ∷ kept (held_by text arena pairs)) (kept (held_by text arena pairs))) here ∙ ap (λ es. leaf_entry hold.0.leaf ∷ es) rest ∙ sym cons
-
-  leave-all : (pairs : List (OpaqueNodePtr K V P × List ℕ)) → AllHold text arena pairs → All (λ leaf. test leaf.1 ≡ false) pairs → kept (held_by text arena pairs) ≡ []
-  leave-all [] hold all = refl
-  leave-all (pair ∷ pairs) hold all =
-      let cons = entries-cons arena (opaque_key pair.0) (keys_of pairs) hold.0.leaf hold.0.at in
-      let here : test (text (leaf_entry hold.0.leaf).0) ≡ false = ap test hold.0.has ∙ All-head (λ leaf. test leaf.1 ≡ false) pair pairs all in
-      let rest = leave-all pairs hold.1 (All-tail (λ leaf. test leaf.1 ≡ false) pair pairs all) in
-      ap kept cons ∙ ap (λ b. cond b (leaf_entry hold.0.leaf ∷ kept (held_by text arena pairs)) (kept (held_by text arena pairs))) here ∙ rest
-
-  -- where the test fails up to one part, and holds from it on, or the other way round
-  kept-right : (whole left right : List (OpaqueNodePtr K V P × List ℕ)) → whole ≡ left ++ right → AllHold text arena whole → All (λ leaf. test leaf.1 ≡ false) left → All (λ leaf. test leaf.1 ≡ true) right → kept (held_by text arena whole) ≡ held_by text arena right
-  kept-right whole left right is hold out inside =
-      let parts = subst (AllHold text arena) is hold in
-      ap (λ pairs. kept (held_by text arena pairs)) is ∙ ap kept (held-append text arena left right)
-      ∙ filter-append (λ entry. test (text entry.0)) (held_by text arena left) (held_by text arena right)
-      ∙ ap (λ es. es ++ kept (held_by text arena right)) (leave-all left (hold-left text arena left right parts) out) ∙ keep-all right (hold-right text arena left right parts) inside
-
-  kept-left : (whole left right : List (OpaqueNodePtr K V P × List ℕ)) → whole ≡ left ++ right → AllHold text arena whole → All (λ leaf. test leaf.1 ≡ true) left → All (λ leaf. test leaf.1 ≡ false) right → kept (held_by text arena whole) ≡ held_by text arena left
-  kept-left whole left right is hold inside out =
-      let parts = subst (AllHold text arena) is hold in
-      ap (λ pairs. kept (held_by text arena pairs)) is ∙ ap kept (held-append text arena left right)
-      ∙ filter-append (λ entry. test (text entry.0)) (held_by text arena left) (held_by text arena right)
-      ∙ ap (λ es. kept (held_by text arena left) ++ es) (leave-all right (hold-right text arena left right parts) out)
-      ∙ append-nil (kept (held_by text arena left)) ∙ keep-all left (hold-left text arena left right parts) inside
-
-module _ {K V : Type 0} {P : ℕ} (text : K → List ℕ) (arena : NodeArena K V P) (root : OpaqueNodePtr K V P) (tree : Tree (OpaqueNodePtr K V P)) (alone : IsAlone text arena root tree)
-    (held_law : (pointer : OpaqueNodePtr K V P) (x : List ℕ) → Contains (leaves tree) (pointer, x) → (leaf : LeafNode K V P) × (held arena pointer ≡ HeldLeaf leaf) × (text (leaf_key leaf) ≡ x))
-    (leaves_law : (pointer : OpaqueNodePtr K V P) (x : List ℕ) (leaf : LeafNode K V P) → Contains (leaves tree) (pointer, x) → held arena pointer ≡ HeldLeaf leaf → entry_at text arena x ≡ Some (leaf_key leaf, leaf_value leaf))
-    (texts_law : (x : List ℕ) → HasEntry text arena x → Contains (texts tree) x)
-    (ascend : AllPairs (λ a b. text_order a b ≡ Less) (texts tree)) (only_law : (entries : List (K × V)) → AreEntries text arena entries → entries ≡ entries_of text arena) (side : Side) (key : List ℕ) where
-  all-hold : AllHold text arena (leaves tree)
-  all-hold = leaves-hold text arena root tree alone held_law leaves_law texts_law ascend
-
-  entries-are : held_by text arena (leaves tree) ≡ entries_of text arena
-  entries-are = only_law (held_by text arena (leaves tree)) (entries-of-leaves text arena root tree alone held_law leaves_law texts_law ascend)
-
+module _ {K V : Type 0} {P : ℕ} (text : K → List ℕ) (arena : NodeArena K V P) (tree : Tree (OpaqueNodePtr K V P))
+    (hold : AllHold text arena (leaves tree)) (are : held_by text arena (leaves tree) ≡ entries_of text arena) (side : Side) (key : List ℕ) where
   abbrev from-place : List (K × V) → List (K × V)
   from-place entries = kept text arena (λ x. not (is_before side key x)) entries
 
@@ -335,45 +311,33 @@ module _ {K V : Type 0} {P : ℕ} (text : K → List ℕ) (arena : NodeArena K V
 
   pub none-after : IsFirstAfter side key (leaves tree) None → slice_get (from-place (entries_of text arena)) 0 ≡ None
   none-after before =
-      ap (λ es. slice_get (from-place es) 0) (sym entries-are)
-      ∙ ap (λ es. slice_get es 0) (leave-all text arena (λ x. not (is_before side key x)) (leaves tree) all-hold (turned true (leaves tree) before))
+      ap (λ es. slice_get (from-place es) 0) (sym are)
+      ∙ ap (λ es. slice_get es 0) (leave-all text arena (λ x. not (is_before side key x)) (leaves tree) hold (turned true (leaves tree) before))
 
   pub none-before : IsLastBefore side key (leaves tree) None → slice_get (to-place (entries_of text arena)) (length (to-place (entries_of text arena)) - 1) ≡ None
   none-before past =
-      let none = ap to-place (sym entries-are) ∙ leave-all text arena (is_before side key) (leaves tree) all-hold past in
+      let none = ap to-place (sym are) ∙ leave-all text arena (is_before side key) (leaves tree) hold past in
       ap (λ es. slice_get es (length es - 1)) none
 
   module _ (at : NodePtr P (LeafNode K V P)) where
     pub first-after : (low : IsFirstAfter side key (leaves tree) (Some (leaf_pointer at))) → slice_get (from-place (entries_of text arena)) 0 ≡ option_map leaf_entry (leaf_at arena (slab_key at))
     first-after (x, left, right, is, before, after) =
-        let later = (leaf_pointer at, x) ∷ right in
-        let hold = hold-right text arena left later (subst (AllHold text arena) is all-hold) in
-        ap (λ es. slice_get (from-place es) 0) (sym entries-are)
-        ∙ ap (λ es. slice_get es 0) (kept-right text arena (λ x. not (is_before side key x)) (leaves tree) left later is all-hold (turned true left before) (turned false later after)
-        ∙ entries-cons arena (slab_key at) (keys_of right) hold.0.leaf hold.0.at)
-        ∙ sym (ap (option_map leaf_entry) hold.0.at)
+        let here : OpaqueNodePtr K V P × List ℕ = (leaf_pointer at, x) in
+        let holds = holds-one text arena (leaves tree) left right here is hold in
+        ap (λ es. slice_get (from-place es) 0) (sym are)
+        ∙ ap (λ es. slice_get es 0) (kept-right text arena (λ x. not (is_before side key x)) (leaves tree) left (here ∷ right) is hold (turned true left before) (turned false (here ∷ right) after)
+        ∙ entries-cons arena (slab_key at) (keys_of right) holds.leaf holds.at)
+        ∙ sym (ap (option_map leaf_entry) holds.at)
 
     pub last-before : (high : IsLastBefore side key (leaves tree) (Some (leaf_pointer at))) → slice_get (to-place (entries_of text arena)) (length (to-place (entries_of text arena)) - 1) ≡ option_map leaf_entry (leaf_at arena (slab_key at))
     last-before (x, left, right, is, before, after) =
-        let here = (leaf_pointer at, x) ∷ [] in
-        let earlier = left ++ here in
-        let split : leaves tree ≡ earlier ++ right = is ∙ sym (append_assoc left here right) in
-        let hold = hold-right text arena left here (hold-left text arena earlier right (subst (AllHold text arena) split all-hold)) in
-        let all : to-place (entries_of text arena) ≡ held_by text arena left ++ leaf_entry hold.0.leaf ∷ [] =
-        ap to-place (sym entries-are) ∙ kept-left text arena (is_before side key) (leaves tree) earlier right split all-hold before after
-        ∙ held-append text arena left here ∙ ap (λ es. held_by text arena left ++ es) (entries-cons arena (slab_key at) [] hold.0.leaf hold.0.at) in
-        ap (λ es. slice_get es (length es - 1)) all ∙ last-of (held_by text arena left) (leaf_entry hold.0.leaf) ∙ sym (ap (option_map leaf_entry) hold.0.at)
-
-    -- the leaf is held
-    pub first-held : IsFirstAfter side key (leaves tree) (Some (leaf_pointer at)) → (leaf : LeafNode K V P) × (held arena (leaf_pointer at) ≡ HeldLeaf leaf)
-    first-held (x, left, right, is, before, after) =
-        let there = held_law (leaf_pointer at) x (subst (λ all. Contains all (leaf_pointer at, x)) (sym is) (Contains-append_right left ((leaf_pointer at, x) ∷ right) (leaf_pointer at, x) (0, omega arith, refl))) in
-        (there.0, there.1)
-
-    pub last-held : IsLastBefore side key (leaves tree) (Some (leaf_pointer at)) → (leaf : LeafNode K V P) × (held arena (leaf_pointer at) ≡ HeldLeaf leaf)
-    last-held (x, left, right, is, before, after) =
-        let there = held_law (leaf_pointer at) x (subst (λ all. Contains all (leaf_pointer at, x)) (sym is) (Contains-append_right left ((leaf_pointer at, x) ∷ right) (leaf_pointer at, x) (0, omega arith, refl))) in
-        (there.0, there.1)
+        let here : OpaqueNodePtr K V P × List ℕ = (leaf_pointer at, x) in
+        let holds = holds-one text arena (leaves tree) left right here is hold in
+        let earlier = left ++ here ∷ [] in
+        let all : to-place (entries_of text arena) ≡ held_by text arena left ++ leaf_entry holds.leaf ∷ [] =
+        ap to-place (sym are) ∙ kept-left text arena (is_before side key) (leaves tree) earlier right (is ∙ sym (append_assoc left (here ∷ []) right)) hold before after
+        ∙ held-append text arena left (here ∷ []) ∙ ap (λ es. held_by text arena left ++ es) (entries-cons arena (slab_key at) [] holds.leaf holds.at) in
+        ap (λ es. slice_get es (length es - 1)) all ∙ last-of (held_by text arena left) (leaf_entry holds.leaf) ∙ sym (ap (option_map leaf_entry) holds.at)
 
 -- key and value of a leaf make its entry
 pub entry-of-parts : {K V : Type 0} {P : ℕ} (o : Option (LeafNode K V P)) (key : K) (value : V) → option_map leaf_key o ≡ Some key → option_map leaf_value o ≡ Some value → Some (key, value) ≡ option_map leaf_entry o

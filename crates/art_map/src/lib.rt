@@ -7,6 +7,7 @@ mod cut;
 mod debug;
 mod iter;
 mod keys;
+mod leaf_entries;
 mod map;
 mod nearest;
 mod range;

@@ -5,10 +5,9 @@ ghost use Rattle.art_tree.specs.Entries.{entries_of};
 ghost use Rattle.art_map.specs.Cuts.{is_before};
 
 use crate::cut::{Side, first_after, last_before};
+use crate::leaf_entries::leaves_hold_the_entries;
 use art_bytes::AsBytes;
-use art_nodes::OpaqueNodePtr;
 use art_tree::ArtTree;
-use art_tree::laws::{entries_are_one_list, entries_are_what_leaves_hold, texts_ascend};
 
 /// The first entry after the place at the key, or None where all are before it. Takes no memory.
 pub(crate) fn first_entry_after<'a, K: AsBytes, V, const PREFIX_LEN: usize>(
@@ -19,9 +18,7 @@ pub(crate) fn first_entry_after<'a, K: AsBytes, V, const PREFIX_LEN: usize>(
     ensures { option_map (λ (key, value). (key.now, value.now)) result ≡ slice_get
         (filter (λ entry. not (is_before side key.now (K.text entry.0))) (entries_of K.text tree.now.arena)) 0 }
 {
-    texts_ascend::<OpaqueNodePtr<K, V, PREFIX_LEN>>();
-    entries_are_what_leaves_hold::<K, V, PREFIX_LEN>();
-    entries_are_one_list::<K, V, PREFIX_LEN>();
+    leaves_hold_the_entries::<K, V, PREFIX_LEN>();
     let _root = tree.root()?;
     let leaf = first_after(tree, side, key)?;
     Some(tree.arena().as_key_value_ref(leaf))
@@ -36,9 +33,7 @@ pub(crate) fn last_entry_before<'a, K: AsBytes, V, const PREFIX_LEN: usize>(
     ensures { let entries = filter (λ entry. is_before side key.now (K.text entry.0)) (entries_of K.text tree.now.arena) in
         option_map (λ (key, value). (key.now, value.now)) result ≡ slice_get entries (length entries - 1) }
 {
-    texts_ascend::<OpaqueNodePtr<K, V, PREFIX_LEN>>();
-    entries_are_what_leaves_hold::<K, V, PREFIX_LEN>();
-    entries_are_one_list::<K, V, PREFIX_LEN>();
+    leaves_hold_the_entries::<K, V, PREFIX_LEN>();
     let _root = tree.root()?;
     let leaf = last_before(tree, side, key)?;
     Some(tree.arena().as_key_value_ref(leaf))

@@ -5,10 +5,10 @@ ghost use Rattle.art_tree.specs.Entries.{entries_of};
 ghost use Rattle.art_map.specs.Runs.{run_of, IsRun};
 
 use crate::cut::{Side, first_after, is_before, last_before};
+use crate::leaf_entries::leaves_hold_the_entries;
 use art_bytes::AsBytes;
-use art_nodes::{LeafNode, NodePtr, OpaqueNodePtr};
+use art_nodes::{LeafNode, NodePtr};
 use art_tree::ArtTree;
-use art_tree::laws::{entries_are_one_list, entries_are_what_leaves_hold, texts_ascend};
 
 /// The first and the last leaf after the one place and before the other, if there is one. Takes no
 /// memory.
@@ -29,9 +29,7 @@ pub(crate) fn ends_between<K: AsBytes, V, const PREFIX_LEN: usize>(
         (λ entry. is_between start_side start.now end_side end.now (K.text entry.0))
         (entries_of K.text tree.now.arena) }
 {
-    texts_ascend::<OpaqueNodePtr<K, V, PREFIX_LEN>>();
-    entries_are_what_leaves_hold::<K, V, PREFIX_LEN>();
-    entries_are_one_list::<K, V, PREFIX_LEN>();
+    leaves_hold_the_entries::<K, V, PREFIX_LEN>();
     let _root = tree.root()?;
     let first = first_after(tree, start_side, start)?;
     let last = last_before(tree, end_side, end)?;
