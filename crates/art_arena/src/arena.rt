@@ -160,6 +160,26 @@ impl<K, V, const PREFIX_LEN: usize> NodeArena<K, V, PREFIX_LEN> {
         }
     }
 
+    /// Allocates a node of a kind with spare capacity, and returns its pointer. Unlike
+    /// [`NodeArena::allocate_node_ptr`] it cannot fail, so it copies the node once less. Condition:
+    /// there is spare capacity for the kind. Takes no memory.
+    pub fn allocate_reserved<N: ArenaNode<K, V, PREFIX_LEN>>(
+        &mut self,
+        node: N,
+    ) -> NodePtr<PREFIX_LEN, N>
+        requires { 0 < room self.old N.TYPE }
+        ensures was_free { held self.old (opaque_pointer N.TYPE (slab_key result)) ≡ Nothing }
+        ensures added { Changes self.old self.new (opaque_pointer N.TYPE (slab_key result))
+            (N.held_as node) }
+        ensures is_held { held self.new (opaque_pointer N.TYPE (slab_key result)) ≢ Nothing }
+        ensures room { room self.old N.TYPE ≡ room self.new N.TYPE + 1 }
+        ensures other_room { SameOtherRoom self.old self.new N.TYPE }
+        ensures capacity { SameCapacity self.old self.new }
+    {
+        let key = N::slab_mut(self).insert_reserved(node);
+        NodePtr::from_key(key)
+    }
+
     /// Makes spare capacity for `additional` more nodes of the kind: that many allocations of the
     /// kind then succeed. Where there is so much already, it succeeds and nothing grows. On
     /// allocation failure every node and the spare capacity of the other kinds are unchanged, and

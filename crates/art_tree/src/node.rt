@@ -106,7 +106,7 @@ pub(crate) fn place_as<
 {
     let text = arena.as_key_ref(leaf).as_bytes();
     let node: N = inner_node(&text[start..end], children);
-    arena.allocate_node_ptr(node).unwrap().to_opaque()
+    arena.allocate_reserved(node).to_opaque()
 }
 
 /// Replaces the inner node at the pointer by this one of another kind, and returns where that is,

@@ -35,9 +35,7 @@ pub(crate) fn link_leaf<K: AsBytes, V, const PREFIX_LEN: usize>(
     ensures capacity { SameCapacity arena.old arena.new }
 {
     each_leaf_of_a_list_is_knit::<K, V, PREFIX_LEN>();
-    let leaf = arena
-        .allocate_node_ptr(LeafNode::with_no_siblings(key, value))
-        .unwrap();
+    let leaf = arena.allocate_reserved(LeafNode::with_no_siblings(key, value));
     match end {
         End::First => LeafNode::insert_before(arena, leaf, sibling),
         End::Last => LeafNode::insert_after(arena, leaf, sibling),
