@@ -1,11 +1,10 @@
 -- What the private calls say of a table and of the output. No public clause cites it.
-use Rattle.std.specs.Prelude.{◌≡◌, ℕ, ◌≤◌, ◌-◌, ◌%◌, ◌^◌, false, true, List, ◌++◌, All, Contains, Some, slice_index_or}
-use Rattle.std.specs.List.{flat_map}
+use Rattle.std.specs.Prelude.{◌≡◌, ℕ, ◌≤◌, ◌-◌, ◌%◌, ◌^◌, Bool, false, true, List, ◌++◌, All, Contains, Some, slice_index_or}
+use Rattle.std.specs.List.{AllZip, flat_map}
 use Rattle.art_map.specs.Entries.{entry_with}
-use Rattle.program_lines.specs.Lines.{line, SayAll}
+use Rattle.program_lines.specs.Lines.{line}
 use Rattle.routes.specs.declared.route.Route.{Route}
 use Rattle.routes.specs.declared.route.Query.{Query}
-use Rattle.routes.specs.declared.table.Table.{Table}
 use Rattle.routes.specs.Addresses.{IsAddress}
 use Rattle.routes.specs.Networks.{key_text}
 use Rattle.routes.specs.Replies.{IsReply}
@@ -24,18 +23,18 @@ itself key = key
 abbrev pub key_of_route : Route → List ℕ
 key_of_route route = key_text route.network.address route.network.length
 
--- the table has just these routes
-pub record Holds (routes : List Route) (table : Table) : Type 0 where
+-- the map has just these routes by their keys, and each length that one has is marked
+pub record Holds (routes : List Route) (map : List (List ℕ × Route)) (has_length : List Bool) : Type 0 where
   pub are_routes : All IsRoute routes
-  pub lengths : All (λ route. slice_index_or table.has_length route.network.length false ≡ true) routes
-  pub found : All (λ route. entry_with itself table.routes (key_of_route route) ≡ Some (key_of_route route, route)) routes
-  pub only : (key : List ℕ) (entry : List ℕ × Route) → entry_with itself table.routes key ≡ Some entry → Contains routes entry.1 × (key_of_route entry.1 ≡ key)
+  pub lengths : All (λ route. slice_index_or has_length route.network.length false ≡ true) routes
+  pub found : All (λ route. entry_with itself map (key_of_route route) ≡ Some (key_of_route route, route)) routes
+  pub only : (key : List ℕ) (entry : List ℕ × Route) → entry_with itself map key ≡ Some entry → Contains routes entry.1 × (key_of_route entry.1 ≡ key)
 
 -- a line with the reply to this address is written
 abbrev pub AppendsReply : List Route → Query → List ℕ → List ℕ → Type 0
-AppendsReply routes query old new = (text : List ℕ) × IsReply routes text query × (new ≡ old ++ line text)
+AppendsReply routes query old new = (text : List ℕ) × IsReply routes query text × (new ≡ old ++ line text)
 
 -- a line with the reply to each address is written
 abbrev pub AppendsReplies : List Route → List Query → List ℕ → List ℕ → Type 0
 AppendsReplies routes queries old new =
-    (replies : List (List ℕ)) × SayAll (IsReply routes) replies queries × (new ≡ old ++ flat_map line replies)
+    (replies : List (List ℕ)) × AllZip (IsReply routes) queries replies × (new ≡ old ++ flat_map line replies)

@@ -1,6 +1,6 @@
 -- The output for a table and addresses, and which lines are bad.
 use Rattle.std.specs.Prelude.{◌≡◌, ◌⊎◌, ℕ, List, ◌++◌, codes}
-use Rattle.std.specs.List.{flat_map}
+use Rattle.std.specs.List.{AllZip, flat_map}
 use Rattle.program_lines.specs.Lines.{line, lines_of, SayAll, IsFirstBad}
 use Rattle.program_lines.specs.declared.failure.BadLine.{BadLine}
 use Rattle.program_lines.specs.declared.failure.Place.TheVariants.{File, Input}
@@ -11,8 +11,8 @@ use Rattle.routes.specs.Lines.{SayRoute, SayQuery}
 use Rattle.routes.specs.Tables.{AreDistinct, IsFirstDuplicate, HasNone, IsLongest}
 
 -- the reply to an address: it and the line of the longest route that matches, or it and none
-abbrev pub IsReply : List Route → List ℕ → Query → Type 0
-IsReply routes text query =
+abbrev pub IsReply : List Route → Query → List ℕ → Type 0
+IsReply routes query text =
     ((route : Route) × IsLongest routes query.address route × (text ≡ query.line.now ++ codes " " ++ route.line.now))
     ⊎ (HasNone routes query.address × (text ≡ query.line.now ++ codes " none"))
 
@@ -21,7 +21,7 @@ IsReply routes text query =
 abbrev pub IsOutput : List ℕ → List ℕ → List ℕ → Type 0
 IsOutput table input output =
     (routes : List Route) × (queries : List Query) × (replies : List (List ℕ)) × SayAll SayRoute (lines_of table) routes
-    × AreDistinct routes × SayAll SayQuery (lines_of input) queries × SayAll (IsReply routes) replies queries
+    × AreDistinct routes × SayAll SayQuery (lines_of input) queries × AllZip (IsReply routes) queries replies
     × (output ≡ flat_map line replies)
 
 -- this is the first line of the table that is no route, or that has the network of an earlier one, or the

@@ -45,7 +45,7 @@ fn push_replies(
     output: &mut Vec<u8>,
 ) -> Result<(), AllocError>
     requires { All (λ query. IsAddress query.address) queries.now }
-    ensures { OnOk result ((routes : _) → Holds routes table.now →
+    ensures { OnOk result ((routes : _) → Holds routes table.now.routes table.now.has_length →
         AppendsReplies routes queries.now output.old.items output.new.items) }
 {
     for query in queries {
@@ -61,7 +61,7 @@ fn push_reply(
     output: &mut Vec<u8>,
 ) -> Result<(), AllocError>
     requires { IsAddress query.now.address }
-    ensures { OnOk result ((routes : _) → Holds routes table.now →
+    ensures { OnOk result ((routes : _) → Holds routes table.now.routes table.now.has_length →
         AppendsReply routes query.now output.old.items output.new.items) }
 {
     output.extend_from_slice(query.line)?;

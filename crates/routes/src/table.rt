@@ -33,7 +33,7 @@ pub(crate) fn table_of<'a>(
     routes: &[Route<'a>],
 ) -> Result<Table<'a>, Failure<Fault>>
     requires { All IsRoute routes.now }
-    ensures holds { IfOk result (Holds routes.now) }
+    ensures holds { IfOk result (λ table. Holds routes.now table.routes table.has_length) }
     ensures distinct { OnOk result (AreDistinct routes.now) }
     ensures duplicate { IfErr result (IfBadLine (λ bad.
         (bad.place ≡ File) × IsFirstDuplicate routes.now bad.number)) }
@@ -79,7 +79,7 @@ fn add<'a>(table: &mut Table<'a>, route: Route<'a>) -> Result<bool, AllocError>
 /// has, from the longest, by one look-up in the map.
 pub(crate) fn longest_match<'a>(table: &Table<'a>, address: Address) -> Option<Route<'a>>
     requires { IsAddress address }
-    ensures { (routes : _) → Holds routes table.now →
+    ensures { (routes : _) → Holds routes table.now.routes table.now.has_length →
         MatchOption result (HasNone routes address) (IsLongest routes address) }
 {
     for behind in 0..=address.width {
