@@ -1,10 +1,12 @@
 -- The map of a table, beside its routes.
-use Rattle.std.proofs.Common.{◌≡◌, ◌≢◌, ◌∙◌, ℕ, suc, ◌+◌, ◌-◌, ◌*◌, ◌/◌, ◌%◌, ◌^◌, ◌<◌, ◌≤◌, ◌⊎◌, inl, inr, Bool, true, false, cond, List, [], ◌∷◌, ◌++◌, All, AllPairs, Contains, Option, Some, None, length, get_or, set, refl, sym, ap, subst, arith, nat_eq}
+use Rattle.std.proofs.Common.{◌≡◌, ◌≢◌, ◌∙◌, ℕ, suc, ◌+◌, ◌-◌, ◌*◌, ◌/◌, ◌%◌, ◌^◌, ◌<◌, ◌≤◌, ◌⊎◌, inl, inr, Bool, true, false, cond, List, [], ◌∷◌, ◌++◌, All, AllPairs, Contains, Option, Some, None, length, get_or, set, take, refl, sym, ap, subst, arith, nat_eq}
 use Rattle.std.specs.Cmp.Lexicographic.{pointwise, bytes_decides, texts_ties}
 use Rattle.std.specs.Int.{w128, to_be_bytes}
+use Rattle.std.specs.Option.{option_map}
 use Rattle.std.specs.Ordering.{match_ordering, is_eq}
 use Rattle.std.specs.declared.cmp.Ordering.{Ordering}
 use Rattle.std.specs.declared.cmp.Ordering.TheVariants.{Less, Equal, Greater}
+use Rattle.std.proofs.Math.Seq.{take_all}
 use Rattle.std.proofs.Math.Nat.{pow-le-pow_right, div-le_self}
 use Rattle.std.proofs.lemmas.Bool.{cases_lt}
 use Rattle.std.proofs.lemmas.List.{length-append, length-set}
@@ -22,8 +24,9 @@ use Rattle.routes.specs.declared.network.Network.{Network}
 use Rattle.routes.specs.declared.route.Route.{Route}
 use Rattle.routes.specs.Addresses.{IsAddress}
 use Rattle.routes.specs.Networks.{first_bits, IsIn, key_text}
-use Rattle.routes.specs.Tables.{AreDistinct, HasNone, IsLongest}
-use Rattle.routes.specs.Maps.{IsRoute, itself, key_of_route, Holds}
+use Rattle.routes.specs.Tables.{AreDistinct, IsFirstDuplicate, HasNone, IsLongest}
+use Rattle.routes.specs.Maps.{IsRoute, itself, key_of_route, Holds, HasNoneOf, HasLength}
+use Rattle.routes.proofs.ReplyLemmas.{one_more, duplicate_at}
 
 -- nothing is found and not found
 found_none : (entry : List ℕ × Route) (o : Option (List ℕ × Route)) → o ≡ Some entry → o ≡ None → ⊥
@@ -202,48 +205,102 @@ module _ (routes : List Route) (map : List (List ℕ × Route)) (has_length : Li
 in_key : (address : Address) (network : Network) → IsIn address network → key_text address network.length ≡ key_text network.address network.length
 in_key address network is i = is.0 i ∷ network.length ∷ to_be_bytes w128 (is.1 i)
 
--- no route matches the address by one of so many of the greatest lengths
-abbrev pub AreTried : List Route → Address → ℕ → Type 0
-AreTried routes address count = All (λ route. IsIn address route.network → route.network.length + count ≤ address.width) routes
-
 module _ (routes : List Route) (map : List (List ℕ × Route)) (has_length : List Bool) (holds : Holds routes map has_length) (address : Address) where
-  pub none_tried : AreTried routes address 0
+  -- no route of a length that is not marked, or whose key is not found
+  pub no_such_length : (count : ℕ) → get_or has_length count false ≡ false → HasNoneOf routes address count
+  no_such_length count none k d within matches same =
+      let marked = holds.lengths k d within in
+      let wrong : true ≡ false = sym marked ∙ ap (λ n. get_or has_length n false) same ∙ none in
+      absurd (cc)
+
+  pub not_found : (count : ℕ) → entry_with itself map (key_text address count) ≡ None → HasNoneOf routes address count
+  not_found count none k d within matches same =
+      let key = in_key address (get_or routes k d).network matches in
+      found_none (key_of_route (get_or routes k d), get_or routes k d) (entry_with itself map (key_of_route (get_or routes k d))) (holds.found k d within) (ap (entry_with itself map) (sym key ∙ ap (key_text address) same) ∙ none)
+
+  pub found_there : (count : ℕ) → IsAddress address → (entry : List ℕ × Route) → entry_with itself map (key_text address count) ≡ Some entry → HasLength routes address count entry.1
+  found_there count is entry at =
+      let only = holds.only (key_text address count) entry at in
+      let route : IsRoute entry.1 = All-contains IsRoute routes entry.1 holds.are_routes only.0 in
+      let first = same_key entry.1.network.address address entry.1.network.length count route.address is only.1 in
+      record {
+        listed = only.0;
+        matches = (sym first.widths, ap (first_bits address) first.lengths ∙ sym first.bits);
+        long = first.lengths;
+      }
+
+  -- what the value of an entry is
+  pub found_value : (count : ℕ) → IsAddress address → (route : Route) → Some route ≡ option_map (λ entry. entry.1) (entry_with itself map (key_text address count)) → HasLength routes address count route
+  found_value count is route same = by_entry (entry_with itself map (key_text address count)) refl same
+    where
+      by_entry : (o : Option (List ℕ × Route)) → entry_with itself map (key_text address count) ≡ o → Some route ≡ option_map (λ entry. entry.1) o → HasLength routes address count route
+      by_entry None at same = absurd (cc)
+      by_entry (Some entry) at same = let one : entry.1 ≡ route = cc in subst (HasLength routes address count) one (found_there count is entry at)
+
+  pub found_no_value : (count : ℕ) → None ≡ option_map (λ entry. entry.1) (entry_with itself map (key_text address count)) → HasNoneOf routes address count
+  found_no_value count same = by_entry (entry_with itself map (key_text address count)) refl same
+    where
+      by_entry : (o : Option (List ℕ × Route)) → entry_with itself map (key_text address count) ≡ o → None ≡ option_map (λ entry. entry.1) o → HasNoneOf routes address count
+      by_entry None at same = not_found count at
+      by_entry (Some entry) at same = absurd (cc)
+
+  -- no route matches by one of so many of the greatest lengths
+  abbrev pub AreTried : ℕ → Type 0
+  AreTried count = All (λ route. IsIn address route.network → route.network.length + count ≤ address.width) routes
+
+  pub none_tried : AreTried 0
   none_tried k d within matches =
       let fits = (holds.are_routes k d within).fits in
       omega (arith, fits, matches.0)
 
-  pub all_tried : (count : ℕ) → AreTried routes address count → address.width < count → HasNone routes address
+  pub all_tried : (count : ℕ) → AreTried count → address.width < count → HasNone routes address
   all_tried count tried all k d within matches = let most = tried k d within matches in absurd (omega (arith, most, all))
 
-  module _ (count : ℕ) (tried : AreTried routes address count) (within : count ≤ address.width) where
-    abbrev this_length : ℕ
-    this_length = address.width - count
-
-    one_tried : ((k : ℕ) (d : Route) → k < length routes → IsIn address (get_or routes k d).network → (get_or routes k d).network.length ≡ this_length → ⊥) → AreTried routes address (count + 1)
+  module _ (count : ℕ) (tried : AreTried count) (within : count ≤ address.width) where
+    pub one_tried : HasNoneOf routes address (address.width - count) → AreTried (count + 1)
     one_tried none k d inside matches =
         let most = tried k d inside matches in
-        elim (cases_lt (get_or routes k d).network.length this_length) [
+        elim (cases_lt (get_or routes k d).network.length (address.width - count)) [
           inl less ↦ omega (arith, most, less)
-        | inr not_less ↦ let same : (get_or routes k d).network.length ≡ this_length = omega (arith, most, not_less) in absurd (none k d inside matches same) ]
+        | inr not_less ↦ let same : (get_or routes k d).network.length ≡ address.width - count = omega (arith, most, not_less) in absurd (none k d inside matches same) ]
 
-    pub no_such_length : get_or has_length this_length false ≡ false → AreTried routes address (count + 1)
-    no_such_length none = one_tried (λ k d inside matches same.
-        let marked = holds.lengths k d inside in
-        let wrong : true ≡ false = sym marked ∙ ap (λ n. get_or has_length n false) same ∙ none in
-        absurd (cc))
+    pub is_longest : (route : Route) → HasLength routes address (address.width - count) route → IsLongest routes address route
+    is_longest route has = record {
+      listed = has.listed;
+      matches = has.matches;
+      longest = λ k d inside matches. let most = tried k d inside matches in omega (arith, most, has.long, within);
+    }
 
-    pub not_found : entry_with itself map (key_text address this_length) ≡ None → AreTried routes address (count + 1)
-    not_found none = one_tried (λ k d inside matches same.
-        let key = in_key address (get_or routes k d).network matches in
-        found_none (key_of_route (get_or routes k d), get_or routes k d) (entry_with itself map (key_of_route (get_or routes k d))) (holds.found k d inside) (ap (entry_with itself map) (sym key ∙ ap (key_text address) same) ∙ none))
+-- so many routes have been put into the map
+pub record AreAdded (routes : List Route) (map : List (List ℕ × Route)) (has_length : List Bool) (count : ℕ) : Type 0 where
+  pub holds : Holds (take count routes) map has_length
+  pub distinct : AreDistinct (take count routes)
+  pub wide : length has_length ≡ 129
 
-    pub found_longest : IsAddress address → (entry : List ℕ × Route) → entry_with itself map (key_text address this_length) ≡ Some entry → IsLongest routes address entry.1
-    found_longest is entry at =
-        let only = holds.only (key_text address this_length) entry at in
-        let route : IsRoute entry.1 = All-contains IsRoute routes entry.1 holds.are_routes only.0 in
-        let first = same_key entry.1.network.address address entry.1.network.length this_length route.address is only.1 in
-        record {
-          listed = only.0;
-          matches = (sym first.widths, ap (first_bits address) first.lengths ∙ sym first.bits);
-          longest = λ k d inside matches. let most = tried k d inside matches in omega (arith, most, first.lengths, within);
-        }
+none_distinct : AreDistinct []
+none_distinct i j d before within = absurd (omega (arith, within))
+
+pub none_added : (routes : List Route) (has_length : List Bool) → length has_length ≡ 129 → AreAdded routes [] has_length 0
+none_added routes has_length wide = record { holds = holds_none has_length; distinct = none_distinct; wide = wide }
+
+pub all_added : (routes : List Route) (map : List (List ℕ × Route)) (has_length : List Bool) (count : ℕ) → AreAdded routes map has_length count → length routes ≤ count → Holds routes map has_length × AreDistinct routes
+all_added routes map has_length count added all =
+    let whole = take_all count routes all in
+    (subst (λ these. Holds these map has_length) whole added.holds, subst AreDistinct whole added.distinct)
+
+module _ (routes : List Route) (are : All IsRoute routes) (map : List (List ℕ × Route)) (has_length : List Bool) (k : ℕ) (added : AreAdded routes map has_length k) (d : Route) (within : k < length routes) where
+  abbrev next : Route
+  next = get_or routes k d
+
+  pub duplicate : entry_with itself map (key_of_route next) ≢ None → IsFirstDuplicate routes (k + 1)
+  duplicate some = duplicate_at routes k d within added.distinct (earlier_same (take k routes) map has_length added.holds next (are k d within) some)
+
+  pub one_added : (longer : List (List ℕ × Route)) (marked : List Bool) → entry_with itself map (key_of_route next) ≡ None → longer ≡ put_entry itself map (key_of_route next, next) → marked ≡ set has_length next.network.length true → AreAdded routes longer marked (k + 1)
+  one_added longer marked none put mark =
+      let is = are k d within in
+      let wide : next.network.length < length has_length = omega (arith, added.wide, is.fits, is.address.0) in
+      record {
+        holds = rw (one_more routes k d within, put, mark) (holds_more (take k routes) map has_length added.holds next is none wide);
+        distinct = rw (one_more routes k d within) (distinct_more (take k routes) map has_length added.holds next is none wide added.distinct);
+        wide = ap length mark ∙ length-set has_length next.network.length true ∙ added.wide;
+      }

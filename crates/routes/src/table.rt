@@ -1,12 +1,12 @@
 //! Tables of routes, and the longest of them that matches an address.
-ghost use Rattle.std.specs.Prelude.{◌≡◌, ◌≢◌, ℕ, true, false, All, IsTrue, IfOk, IfErr, OnOk, None, MatchOption, slice_set};
+ghost use Rattle.std.specs.Prelude.{◌≡◌, ◌≢◌, ◌≤◌, true, false, All, IsTrue, IfOk, IfErr, OnOk, None, MatchOption, slice_set};
 ghost use Rattle.program_lines.specs.Failures.{IfBadLine};
 ghost use Rattle.program_lines.specs.declared.failure.Place.TheVariants.{File};
 ghost use Rattle.art_map.specs.Entries.{entry_with};
 ghost use Rattle.art_tree.specs.Entries.{put_entry};
 ghost use Rattle.routes.specs.Addresses.{IsAddress};
 ghost use Rattle.routes.specs.Tables.{AreDistinct, IsFirstDuplicate, HasNone, IsLongest};
-ghost use Rattle.routes.specs.Maps.{IsRoute, key_of_route, itself, Holds};
+ghost use Rattle.routes.specs.Maps.{IsRoute, key_of_route, itself, Holds, HasNoneOf, HasLength};
 
 use crate::address::Address;
 use crate::fault::Fault;
@@ -83,13 +83,22 @@ pub(crate) fn longest_match<'a>(table: &Table<'a>, address: Address) -> Option<R
         MatchOption result (HasNone routes address) (IsLongest routes address) }
 {
     for behind in 0..=address.width {
-        let length = address.width - behind;
-        if table.has_length[usize::from(length)] {
-            let found = table.routes.get(&key_of(address, length));
-            if let Some(route) = found {
-                return Some(*route);
-            }
+        if let Some(route) = match_of_length(table, address, address.width - behind) {
+            return Some(route);
         }
     }
     None
+}
+
+// The route of this length that matches an address.
+fn match_of_length<'a>(table: &Table<'a>, address: Address, length: u8) -> Option<Route<'a>>
+    requires address { IsAddress address }
+    requires length { length ≤ address.width }
+    ensures { (routes : _) → Holds routes table.now.routes table.now.has_length →
+        MatchOption result (HasNoneOf routes address length) (HasLength routes address length) }
+{
+    if !table.has_length[usize::from(length)] {
+        return None;
+    }
+    table.routes.get(&key_of(address, length)).copied()
 }
