@@ -1,6 +1,6 @@
 -- What a run says and writes, line by line.
 use Rattle.std.proofs.Common.{◌≡◌, ◌∙◌, ℕ, zero, suc, ◌+◌, ◌<◌, List, [], ◌∷◌, ◌++◌, All, Contains, length, take, drop, get_or, refl, sym, ap, arith, append_assoc, append-nil, add-one}
-use Rattle.std.specs.Prelude.{codes}
+use Rattle.std.specs.Prelude.{codes, Result, Ok, Err, OnOk}
 use Rattle.std.specs.List.{AllZip, flat_map}
 use Rattle.std.proofs.Math.Seq.{take-suc, drop-cons}
 use Rattle.std.proofs.lemmas.Grind.{flat_map-append}
@@ -81,3 +81,8 @@ replies_more routes queries k d old output longer within (replies, all, is) (tex
     more ∙ ap (λ o. o ++ line text) is ∙ append_assoc old (flat_map line replies) (line text)
     ∙ ap (λ rest. old ++ (flat_map line replies ++ rest)) (sym one) ∙ ap (λ rest. old ++ rest) (sym (flat_map-append line replies (text ∷ []))) in
     (replies ++ text ∷ [], rw (one_more queries k d within) (zip_one_more (IsReply routes) (take k queries) replies (get_or queries k d) text all reply), whole)
+
+-- what is so of a success
+pub on_ok : {X E : Type 0} {P Q : Type 0} (result : Result X E) → (P → Q) → OnOk result P → OnOk result Q
+on_ok (Ok x) more so = more so
+on_ok (Err e) more so = tt

@@ -58,13 +58,13 @@ pub(crate) fn table_of<'a>(
 fn add<'a>(table: &mut Table<'a>, route: Route<'a>) -> Result<bool, AllocError>
     requires { IsRoute route }
     ensures none_before { IfOk result (λ added. IsTrue added →
-        entry_with itself table.old.routes (key_of_route route) ≡ None) }
+        entry_with itself table.old.routes (key_of_route route.entry) ≡ None) }
     ensures added { IfOk result (λ added. IsTrue added →
-        table.new.routes ≡ put_entry itself table.old.routes (key_of_route route, route)) }
+        table.new.routes ≡ put_entry itself table.old.routes (key_of_route route.entry, route.entry)) }
     ensures one_before { IfOk result (λ added. added ≡ false →
-        entry_with itself table.old.routes (key_of_route route) ≢ None) }
+        entry_with itself table.old.routes (key_of_route route.entry) ≢ None) }
     ensures has_length { OnOk result
-        (table.new.has_length ≡ slice_set table.old.has_length route.network.length true) }
+        (table.new.has_length ≡ slice_set table.old.has_length route.entry.network.length true) }
 {
     let length = route.network.length;
     let key = key_of(route.network.address, length);
