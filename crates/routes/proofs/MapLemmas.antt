@@ -2,7 +2,8 @@
 use Rattle.std.proofs.Common.{◌≡◌, ◌≢◌, ◌∙◌, ℕ, suc, ◌+◌, ◌-◌, ◌*◌, ◌/◌, ◌%◌, ◌^◌, ◌<◌, ◌≤◌, ◌⊎◌, inl, inr, Bool, true, false, cond, List, [], ◌∷◌, ◌++◌, All, AllPairs, Contains, Option, Some, None, length, get_or, set, take, refl, sym, ap, subst, arith, nat_eq}
 use Rattle.std.specs.Cmp.Lexicographic.{pointwise, bytes_decides, texts_ties}
 use Rattle.std.specs.Int.{w128, to_be_bytes}
-use Rattle.std.specs.Option.{option_map}
+use Rattle.std.specs.Prelude.{MatchOption, IfSome, IfNone, not}
+use Rattle.std.specs.Option.{is_some, option_map}
 use Rattle.std.specs.Ordering.{match_ordering, is_eq}
 use Rattle.std.specs.declared.cmp.Ordering.{Ordering}
 use Rattle.std.specs.declared.cmp.Ordering.TheVariants.{Less, Equal, Greater}
@@ -114,6 +115,16 @@ module _ {V : Type 0} (entry : List ℕ × V) (x : List ℕ) where
           by_test true at = let apart = off at is_at refl in rw (at, apart) refl
           by_test false at = rw at rest
 
+-- what `try_insert` says of an entry that is added, and of one that is there
+module _ (map longer : List (List ℕ × Route)) (key text : List ℕ) (route : Route) (at : key ≡ text) where
+  pub entry_added : (before : Option (List ℕ × Route)) (added : Bool) → is_some before ≡ not added → IfNone before ((entry_with itself map key ≡ None) × (longer ≡ put_entry itself map (key, route))) → added ≡ true → longer ≡ put_entry itself map (text, route)
+  entry_added None added is so was = so.1 ∙ ap (λ k. put_entry itself map (k, route)) at
+  entry_added (Some entry) added is so was = let wrong : true ≡ false = is ∙ ap not was in absurd (cc)
+
+  pub entry_there : (before : Option (List ℕ × Route)) (added : Bool) → is_some before ≡ not added → IfSome before (λ entry. (entry ≡ (key, route)) × (longer ≡ map) × (entry_with itself map key ≢ None)) → added ≡ false → entry_with itself map text ≢ None
+  entry_there None added is so was = let wrong : false ≡ true = is ∙ ap not was in absurd (cc)
+  entry_there (Some entry) added is so was = subst (λ k. entry_with itself map k ≢ None) at so.2
+
 -- a table without routes
 pub holds_none : (has_length : List Bool) → Holds [] [] has_length
 holds_none has_length = record {
@@ -151,10 +162,12 @@ module _ (routes : List Route) (map : List (List ℕ × Route)) (has_length : Li
 
     mark_kept : (n : ℕ) → get_or has_length n false ≡ true → get_or marked n false ≡ true
     mark_kept n at = elim (cases_lt n route.network.length) [
-        inl less ↦ kept (omega (arith, less))
+      | inl less ↦ kept (omega (arith, less))
       | inr not_less ↦ elim (cases_lt route.network.length n) [
-          inl more ↦ kept (omega (arith, more))
-        | inr neither ↦ here (omega (arith, not_less, neither)) ] ]
+        | inl more ↦ kept (omega (arith, more))
+        | inr neither ↦ here (omega (arith, not_less, neither))
+      ]
+    ]
       where
         kept : n ≢ route.network.length → get_or marked n false ≡ true
         kept differ = get_or-set_other has_length route.network.length n true false differ ∙ at
@@ -230,19 +243,23 @@ module _ (routes : List Route) (map : List (List ℕ × Route)) (has_length : Li
       }
 
   -- what the value of an entry is
-  pub found_value : (count : ℕ) → IsAddress address → (route : Route) → Some route ≡ option_map (λ entry. entry.1) (entry_with itself map (key_text address count)) → HasLength routes address count route
+  found_value : (count : ℕ) → IsAddress address → (route : Route) → Some route ≡ option_map (λ entry. entry.1) (entry_with itself map (key_text address count)) → HasLength routes address count route
   found_value count is route same = by_entry (entry_with itself map (key_text address count)) refl same
     where
       by_entry : (o : Option (List ℕ × Route)) → entry_with itself map (key_text address count) ≡ o → Some route ≡ option_map (λ entry. entry.1) o → HasLength routes address count route
       by_entry None at same = absurd (cc)
       by_entry (Some entry) at same = let one : entry.1 ≡ route = cc in subst (HasLength routes address count) one (found_there count is entry at)
 
-  pub found_no_value : (count : ℕ) → None ≡ option_map (λ entry. entry.1) (entry_with itself map (key_text address count)) → HasNoneOf routes address count
+  found_no_value : (count : ℕ) → None ≡ option_map (λ entry. entry.1) (entry_with itself map (key_text address count)) → HasNoneOf routes address count
   found_no_value count same = by_entry (entry_with itself map (key_text address count)) refl same
     where
       by_entry : (o : Option (List ℕ × Route)) → entry_with itself map (key_text address count) ≡ o → None ≡ option_map (λ entry. entry.1) o → HasNoneOf routes address count
       by_entry None at same = not_found count at
       by_entry (Some entry) at same = absurd (cc)
+
+  pub found_or_none : (count : ℕ) → IsAddress address → (result : Option Route) → result ≡ option_map (λ entry. entry.1) (entry_with itself map (key_text address count)) → MatchOption result (HasNoneOf routes address count) (HasLength routes address count)
+  found_or_none count is None same = found_no_value count same
+  found_or_none count is (Some route) same = found_value count is route same
 
   -- no route matches by one of so many of the greatest lengths
   abbrev pub AreTried : ℕ → Type 0
@@ -261,8 +278,9 @@ module _ (routes : List Route) (map : List (List ℕ × Route)) (has_length : Li
     one_tried none k d inside matches =
         let most = tried k d inside matches in
         elim (cases_lt (get_or routes k d).network.length (address.width - count)) [
-          inl less ↦ omega (arith, most, less)
-        | inr not_less ↦ let same : (get_or routes k d).network.length ≡ address.width - count = omega (arith, most, not_less) in absurd (none k d inside matches same) ]
+          | inl less ↦ omega (arith, most, less)
+          | inr not_less ↦ let same : (get_or routes k d).network.length ≡ address.width - count = omega (arith, most, not_less) in absurd (none k d inside matches same)
+        ]
 
     pub is_longest : (route : Route) → HasLength routes address (address.width - count) route → IsLongest routes address route
     is_longest route has = record {

@@ -84,5 +84,9 @@ fn first_bits(address: Address, length: u8) -> u128
     ensures { result ≡ bits_before address length }
 {
     let behind = address.width - length;
-    if behind == 128 { 0 } else { address.bits >> behind }
+    if behind == 128 {
+        0
+    } else {
+        address.bits >> behind
+    }
 }

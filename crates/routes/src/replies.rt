@@ -55,11 +55,7 @@ fn push_replies(
 }
 
 // Appends the line for an address.
-fn push_reply(
-    table: &Table<'_>,
-    query: &Query<'_>,
-    output: &mut Vec<u8>,
-) -> Result<(), AllocError>
+fn push_reply(table: &Table<'_>, query: &Query<'_>, output: &mut Vec<u8>) -> Result<(), AllocError>
     requires { IsAddress query.now.address }
     ensures { OnOk result ((routes : _) → Holds routes table.now.routes table.now.has_length →
         AppendsReply routes query.now output.old.items output.new.items) }

@@ -28,10 +28,7 @@ pub(crate) struct Table<'a> {
 /// The table of these routes.
 ///
 /// Refuses the first that has the network of an earlier one. An allocation may fail.
-pub(crate) fn table_of<'a>(
-    alloc: Global,
-    routes: &[Route<'a>],
-) -> Result<Table<'a>, Failure<Fault>>
+pub(crate) fn table_of<'a>(alloc: Global, routes: &[Route<'a>]) -> Result<Table<'a>, Failure<Fault>>
     requires { All IsRoute routes.now }
     ensures holds { IfOk result (λ table. Holds routes.now table.routes table.has_length) }
     ensures distinct { OnOk result (AreDistinct routes.now) }

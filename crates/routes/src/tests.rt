@@ -22,7 +22,13 @@ fn check(rt: &impl Abort, alloc: Global, case: &Case<'_>) {
     let mut addresses = case.addresses;
     let mut output = Vec::new(alloc);
     let mut errors = Vec::new(alloc);
-    let status = run::<Routes, _, _, _>(alloc, case.table, &mut addresses, &mut output, &mut errors);
+    let status = run::<Routes, _, _, _>(
+        alloc,
+        case.table,
+        &mut addresses,
+        &mut output,
+        &mut errors,
+    );
     assert!(rt; output.as_slice() == case.output.as_bytes());
     assert!(rt; errors.as_slice() == case.errors.as_bytes());
     assert!(rt; status == case.status);
@@ -47,7 +53,11 @@ fn each_address_has_its_longest_route(rt: HostRuntime) -> Result<(), Fail> {
 #[test]
 fn bad_lines_are_refused_with_their_number(rt: HostRuntime) -> Result<(), Fail> {
     let refusals: [(&[u8], &[u8], &str); 13] = [
-        (b"10.0.0.0/8 a\n10.0.0/8 b", b"", "file line 2: bad address\n"),
+        (
+            b"10.0.0.0/8 a\n10.0.0/8 b",
+            b"",
+            "file line 2: bad address\n",
+        ),
         (b"10.0.0.0/8 a\n\n", b"", "file line 2: no next hop\n"),
         (b"10.0.0.0/8 ", b"", "file line 1: no next hop\n"),
         (b"10.0.0.0/8", b"", "file line 1: no next hop\n"),
@@ -55,9 +65,21 @@ fn bad_lines_are_refused_with_their_number(rt: HostRuntime) -> Result<(), Fail> 
         (b"10.0.0.0/33 a", b"", "file line 1: bad length\n"),
         (b"::/129 a", b"", "file line 1: bad length\n"),
         (b"10.0.0.0/x a", b"", "file line 1: bad length\n"),
-        (b"10.0.0.1/31 a", b"", "file line 1: bits set behind the length\n"),
-        (b"8000::/0 a", b"", "file line 1: bits set behind the length\n"),
-        (b"::/0 a\n10.0.0.0/8 a\n10.0.0.0/08 b", b"x", "file line 3: duplicate route\n"),
+        (
+            b"10.0.0.1/31 a",
+            b"",
+            "file line 1: bits set behind the length\n",
+        ),
+        (
+            b"8000::/0 a",
+            b"",
+            "file line 1: bits set behind the length\n",
+        ),
+        (
+            b"::/0 a\n10.0.0.0/8 a\n10.0.0.0/08 b",
+            b"x",
+            "file line 3: duplicate route\n",
+        ),
         (b"::/0 a", b"::\n10.0.0.256", "input line 2: bad address\n"),
         (b"::/0 a", b"::\n\n::", "input line 2: bad address\n"),
     ];

@@ -14,7 +14,8 @@ loop-behind-preserved c = λ routes holds.
 pub returns : goal.returns
 returns c =
     elim c.loop-behind-test.branch [
-      else-loop-behind-test w ↦ λ routes holds.
-        all_tried routes c.args.table.now.routes c.args.table.now.has_length holds c.args.address c.loop-behind.behind (c.loop-behind.invariant routes holds) (omega arith)
-    | then-loop-behind-test+in_default+else-behind-behind-end w ↦ λ routes holds.
-        all_tried routes c.args.table.now.routes c.args.table.now.has_length holds c.args.address (c.loop-behind.behind + 1) (one_tried routes c.args.table.now.routes c.args.table.now.has_length holds c.args.address c.loop-behind.behind (c.loop-behind.invariant routes holds) w.loop-behind-test.true (w.in_default.ensures routes holds)) (omega arith) ]
+      | else-loop-behind-test w ↦ λ routes holds.
+          all_tried routes c.args.table.now.routes c.args.table.now.has_length holds c.args.address c.loop-behind.behind (c.loop-behind.invariant routes holds) (omega arith)
+      | then-loop-behind-test+in_default+else-behind-behind-end w ↦ λ routes holds.
+          all_tried routes c.args.table.now.routes c.args.table.now.has_length holds c.args.address (c.loop-behind.behind + 1) (one_tried routes c.args.table.now.routes c.args.table.now.has_length holds c.args.address c.loop-behind.behind (c.loop-behind.invariant routes holds) w.loop-behind-test.true (w.in_default.ensures routes holds)) (omega arith)
+    ]
