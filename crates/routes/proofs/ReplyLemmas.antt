@@ -1,0 +1,88 @@
+-- What a run says and writes, line by line.
+use Rattle.std.proofs.Common.{◌≡◌, ◌∙◌, ℕ, zero, suc, ◌+◌, ◌<◌, List, [], ◌∷◌, ◌++◌, All, Contains, length, take, drop, get_or, refl, sym, ap, arith, append_assoc, append-nil, add-one}
+use Rattle.std.specs.Prelude.{codes, Result, Ok, Err, OnOk}
+use Rattle.std.specs.List.{AllZip, flat_map}
+use Rattle.std.proofs.Math.Seq.{take-suc, drop-cons}
+use Rattle.std.proofs.lemmas.Grind.{flat_map-append}
+use Rattle.std.proofs.lemmas.List.Concat.{flat_map-cons}
+use Rattle.std.proofs.lemmas.List.Elements.{All-cons, All-nil}
+use Rattle.program_lines.specs.Lines.{line, SayAll}
+use Rattle.routes.specs.declared.route.Route.{Route}
+use Rattle.routes.specs.declared.route.Query.{Query}
+use Rattle.routes.specs.Addresses.{IsAddress}
+use Rattle.routes.specs.Lines.{SayRoute, SayQuery}
+use Rattle.routes.specs.Tables.{AreDistinct, IsFirstDuplicate}
+use Rattle.routes.specs.Replies.{IsReply}
+use Rattle.routes.specs.Maps.{IsRoute, AppendsReply, AppendsReplies}
+
+-- what the lines say are routes and addresses
+route_said : (line : List ℕ) (route : Route) → SayRoute line route → IsRoute route
+route_said line route (text, next_hop, same, cut, some, (prefix, digits, at, (ip, spelled, is, fits), (number, most, none))) =
+    record { address = fits; fits = most; none_behind = none }
+
+pub all_routes : (lines : List (List ℕ)) (routes : List Route) → SayAll SayRoute lines routes → All IsRoute routes
+all_routes [] [] said = All-nil IsRoute
+all_routes [] (route ∷ routes) said = absurd said
+all_routes (first ∷ lines) [] said = absurd said
+all_routes (first ∷ lines) (route ∷ routes) said = All-cons IsRoute route routes (route_said first route said.0) (all_routes lines routes said.1)
+
+abbrev pub OfAddress : Query → Type 0
+OfAddress query = IsAddress query.address
+
+address_said : (line : List ℕ) (query : Query) → SayQuery line query → OfAddress query
+address_said line query (same, (ip, spelled, is, fits)) = fits
+
+pub all_addresses : (lines : List (List ℕ)) (queries : List Query) → SayAll SayQuery lines queries → All OfAddress queries
+all_addresses [] [] said = All-nil OfAddress
+all_addresses [] (query ∷ queries) said = absurd said
+all_addresses (first ∷ lines) [] said = absurd said
+all_addresses (first ∷ lines) (query ∷ queries) said = All-cons OfAddress query queries (address_said first query said.0) (all_addresses lines queries said.1)
+
+-- a list is what comes before an item, the item, and what comes after
+around : {X : Type 0} (xs : List X) (k : ℕ) (d : X) → k < length xs → xs ≡ take k xs ++ get_or xs k d ∷ drop (suc k) xs
+around [] k d within = absurd (omega (arith, within))
+around (x ∷ xs) zero d within = refl
+around (x ∷ xs) (suc k) d within = ap (λ rest. x ∷ rest) (around xs k d (omega (arith, within)))
+
+pub one_more : {X : Type 0} (xs : List X) (k : ℕ) (d : X) → k < length xs → take (k + 1) xs ≡ take k xs ++ get_or xs k d ∷ []
+one_more xs k d within = rw add-one (take-suc xs k d within)
+
+pub duplicate_at : (routes : List Route) (k : ℕ) (d : Route) → k < length routes → AreDistinct (take k routes) → ((earlier : Route) × Contains (take k routes) earlier × (earlier.network ≡ (get_or routes k d).network)) → IsFirstDuplicate routes (k + 1)
+duplicate_at routes k d within distinct (earlier, listed, same) =
+    let many : length (take k routes) ≡ k = first_are routes k within in
+    (take k routes, drop (suc k) routes, earlier, get_or routes k d, around routes k d within, ap (λ n. n + 1) (sym many), distinct, listed, same)
+  where
+    first_are : {X : Type 0} (xs : List X) (k : ℕ) → k < length xs → length (take k xs) ≡ k
+    first_are [] k within = absurd (omega (arith, within))
+    first_are (x ∷ xs) zero within = refl
+    first_are (x ∷ xs) (suc k) within = ap suc (first_are xs k (omega (arith, within)))
+
+-- the line of a reply, written in parts
+pub route_line : (old one two new query route : List ℕ) → one ≡ old ++ query → two ≡ one ++ 32 ∷ [] → new ≡ two ++ line route → new ≡ old ++ line (query ++ codes " " ++ route)
+route_line old one two new query route first second third = third ∙ ap (λ text. text ++ line route) (second ∙ ap (λ text. text ++ 32 ∷ []) first) ∙ simp append_assoc
+
+pub none_line : (old one new query : List ℕ) → one ≡ old ++ query → new ≡ one ++ line (codes " none") → new ≡ old ++ line (query ++ codes " none")
+none_line old one new query first second = second ∙ ap (λ text. text ++ line (codes " none")) first ∙ simp append_assoc
+
+zip_one_more : {A B : Type 0} (R : A → B → Type 0) (xs : List A) (ys : List B) (x : A) (y : B) → AllZip R xs ys → R x y → AllZip R (xs ++ x ∷ []) (ys ++ y ∷ [])
+zip_one_more R [] [] x y all one = (one, tt)
+zip_one_more R [] (other ∷ ys) x y all one = absurd all
+zip_one_more R (other ∷ xs) [] x y all one = absurd all
+zip_one_more R (first ∷ xs) (second ∷ ys) x y all one = (all.0, zip_one_more R xs ys x y all.1 one)
+
+-- one reply more
+pub no_replies : (routes : List Route) (queries : List Query) (old : List ℕ) → AppendsReplies routes (take 0 queries) old old
+no_replies routes queries old = ([], tt, sym (append-nil old))
+
+pub replies_more : (routes : List Route) (queries : List Query) (k : ℕ) (d : Query) (old output longer : List ℕ) → k < length queries → AppendsReplies routes (take k queries) old output → AppendsReply routes (get_or queries k d) output longer → AppendsReplies routes (take (k + 1) queries) old longer
+replies_more routes queries k d old output longer within (replies, all, is) (text, reply, more) =
+    let one : flat_map line (text ∷ []) ≡ line text = flat_map-cons line text [] ∙ append-nil (line text) in
+    let whole : longer ≡ old ++ flat_map line (replies ++ text ∷ []) =
+    more ∙ ap (λ o. o ++ line text) is ∙ append_assoc old (flat_map line replies) (line text)
+    ∙ ap (λ rest. old ++ (flat_map line replies ++ rest)) (sym one) ∙ ap (λ rest. old ++ rest) (sym (flat_map-append line replies (text ∷ []))) in
+    (replies ++ text ∷ [], rw (one_more queries k d within) (zip_one_more (IsReply routes) (take k queries) replies (get_or queries k d) text all reply), whole)
+
+-- what is so of a success
+pub on_ok : {X E : Type 0} {P Q : Type 0} (result : Result X E) → (P → Q) → OnOk result P → OnOk result Q
+on_ok (Ok x) more so = more so
+on_ok (Err e) more so = tt

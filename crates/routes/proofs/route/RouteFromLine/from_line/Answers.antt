@@ -1,0 +1,16 @@
+use Rattle.std.proofs.Common.{◌≡◌, length, arith}
+use Rattle.routes.proofs.LineLemmas.{no_space, no_next_hop, no_network, anyway}
+use Rattle.routes.proofs.route.RouteFromLine.from_line.Goals as goal
+
+pub returns-in_default-clause-refused : goal.returns-in_default-clause-refused
+returns-in_default-clause-refused c = no_space c.args.line.now c.in_default.ensures.none
+
+pub returns-then-is_empty-clause-refused : goal.returns-then-is_empty-clause-refused
+returns-then-is_empty-clause-refused c =
+    let test = c.if-is_empty.ensures in
+    let none : length c.in-Some.next_hop.now ≡ 0 = grind (arith, test) in
+    no_next_hop c.args.line.now c.in-Some.network.now c.in-Some.next_hop.now c.in-Some.ensures.cut none
+
+pub returns-in_err-network-clause-refused : goal.returns-in_err-network-clause-refused
+returns-in_err-network-clause-refused c =
+    anyway c.from_residual.result (no_network c.args.line.now c.in-Some.network.now c.in-Some.next_hop.now c.in-Some.ensures.cut c.in_err-network.ensures.refused)

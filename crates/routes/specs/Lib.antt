@@ -1,0 +1,6 @@
+pub mod Addresses
+pub mod Networks
+pub mod Lines
+pub mod Tables
+pub mod Replies
+pub mod Maps

@@ -1,0 +1,58 @@
+//! Lines of the table and of the input.
+ghost use Rattle.std.specs.Prelude.{IfOk, OnErr};
+ghost use Rattle.routes.specs.Lines.{SayRoute, SayQuery};
+
+use crate::address::{Address, address_of};
+use crate::fault::Fault;
+use crate::network::{Network, network_of};
+use program_lines::{FromLine, split_once};
+
+/// A line of the table: `PREFIX/LEN NEXTHOP`.
+#[derive(Clone, Copy)]
+pub struct Route<'a> {
+    /// The whole line.
+    pub(crate) line: &'a [u8],
+    /// The network before the first space.
+    pub(crate) network: Network,
+}
+
+/// A line of the input: an address.
+#[derive(Clone, Copy)]
+pub struct Query<'a> {
+    /// The whole line.
+    pub(crate) line: &'a [u8],
+    /// What it writes.
+    pub(crate) address: Address,
+}
+
+impl<'a> FromLine<'a> for Route<'a> {
+    ghost use Rattle.routes.specs.Lines.{SayRoute};
+
+    type Fault = Fault;
+
+    ghost says = { SayRoute };
+
+    fn from_line(line: &'a [u8]) -> Result<Route<'a>, Fault> {
+        let Some((network, next_hop)) = split_once(line, b' ') else {
+            return Err(Fault::NoNextHop);
+        };
+        if next_hop.is_empty() {
+            return Err(Fault::NoNextHop);
+        }
+        let network = network_of(network)?;
+        Ok(Route { line, network })
+    }
+}
+
+impl<'a> FromLine<'a> for Query<'a> {
+    ghost use Rattle.routes.specs.Lines.{SayQuery};
+
+    type Fault = Fault;
+
+    ghost says = { SayQuery };
+
+    fn from_line(line: &'a [u8]) -> Result<Query<'a>, Fault> {
+        let address = address_of(line)?;
+        Ok(Query { line, address })
+    }
+}
