@@ -1,14 +1,32 @@
 //! The `main` of a program.
 use crate::failure::Failure;
 use crate::program::{Program, run};
-use crate::writing::write_out;
+use crate::writing::{write_line, write_out};
+use std::fmt::Display;
+use std::io::{IsTerminal, Write};
 use std::process::ExitCode;
-use std::{env, fs, io};
+use std::{env, fmt, fs, io};
+
+// A file of so many bytes takes about a second to load.
+const LARGE_FILE: usize = 8 << 20;
+
+// That a file of so many bytes is being loaded.
+#[derive(Clone, Copy)]
+struct Loading {
+    bytes: usize,
+}
+
+impl Display for Loading {
+    fn fmt<W: fmt::Write>(&self, f: &mut fmt::Formatter<W>) -> fmt::Result {
+        write!(f, "loading {} MiB", self.bytes >> 20)
+    }
+}
 
 /// Runs a program as a process: its one word names the file, and the standard streams are the rest.
 ///
 /// The word `--help` prints how the program is called, with status 0; other words print it on
-/// standard error, with status 2. Where the file cannot be read a line says so, with status 1.
+/// standard error, with status 2. Where the file cannot be read a line says so, with status 1. Where
+/// standard error is a terminal, a line says that a file of 8 MiB or more is being loaded.
 pub fn start<P: Program>(rt: &HostRuntime) -> ExitCode {
     let status = match words_after_name(rt) {
         Ok(words) => status::<P>(rt, &words),
@@ -33,13 +51,16 @@ fn status<P: Program>(rt: &HostRuntime, words: &[String]) -> u8 {
         };
     }
     match fs::read(rt, word.as_str()) {
-        Ok(file) => run::<P, _, _, _>(
-            rt.alloc(),
-            &file,
-            &mut rt.stdin(),
-            &mut rt.stdout(),
-            &mut errors,
-        ),
+        Ok(file) => {
+            say_large(&mut errors, file.len());
+            run::<P, _, _, _>(
+                rt.alloc(),
+                &file,
+                &mut rt.stdin(),
+                &mut rt.stdout(),
+                &mut errors,
+            )
+        }
         Err(error) => {
             let failure = match error.kind() {
                 io::ErrorKind::OutOfMemory => Failure::<P::Fault>::OutOfMemory,
@@ -47,6 +68,12 @@ fn status<P: Program>(rt: &HostRuntime, words: &[String]) -> u8 {
             };
             failure.report(&mut errors)
         }
+    }
+}
+
+fn say_large<E: Write + IsTerminal>(errors: &mut E, bytes: usize) {
+    if bytes >= LARGE_FILE && errors.is_terminal() {
+        write_line(errors, Loading { bytes });
     }
 }
 
