@@ -1,4 +1,4 @@
-use Rattle.std.proofs.Common.{◌≡◌, ℕ, List, []}
+use Rattle.std.proofs.Common.{ℕ, List, []}
 use Rattle.art_tree.specs.Entries.{entries_of}
 use Rattle.art_map.proofs.EntryLemmas.{entries-of-leaves, leaves-hold}
 use Rattle.art_map.proofs.leaf_entries.leaves_hold_the_entries.Goals as goal

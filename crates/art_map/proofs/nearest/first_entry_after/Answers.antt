@@ -1,4 +1,4 @@
-use Rattle.std.proofs.Common.{◌≡◌, ◌≢◌, ◌∙◌, ℕ, List, [], filter, not, slice_get, sym, ap, subst}
+use Rattle.std.proofs.Common.{◌≢◌, ◌∙◌, filter, not, slice_get, sym, ap, subst}
 use Rattle.std.specs.Option.{option_map}
 use Rattle.art_nodes.specs.Pointers.{slab_key}
 use Rattle.art_arena.specs.Arena.{Nothing, held}

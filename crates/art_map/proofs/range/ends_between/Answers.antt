@@ -1,4 +1,4 @@
-use Rattle.std.proofs.Common.{◌≢◌, ◌∙◌, ℕ, List, [], filter, sym, ap, subst}
+use Rattle.std.proofs.Common.{◌≢◌, ◌∙◌, filter, sym, ap, subst}
 use Rattle.std.specs.Option.{option_map}
 use Rattle.art_arena.specs.Arena.{Nothing, held}
 use Rattle.art_arena.specs.Trees.{leaves}
