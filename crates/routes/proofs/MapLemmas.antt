@@ -1,5 +1,5 @@
 -- The map of a table, beside its routes.
-use Rattle.std.proofs.Common.{◌≡◌, ◌≢◌, ◌∙◌, ℕ, suc, ◌+◌, ◌-◌, ◌*◌, ◌/◌, ◌%◌, ◌^◌, ◌<◌, ◌≤◌, ◌⊎◌, inl, inr, Bool, true, false, cond, List, [], ◌∷◌, ◌++◌, All, AllPairs, Contains, Option, Some, None, length, get_or, set, take, refl, sym, ap, subst, arith, nat_eq}
+use Rattle.std.proofs.Common.{◌≡◌, ◌≢◌, ◌∙◌, ℕ, ◌+◌, ◌-◌, ◌*◌, ◌/◌, ◌%◌, ◌^◌, ◌<◌, ◌≤◌, inl, inr, Bool, true, false, cond, List, [], ◌∷◌, ◌++◌, All, Contains, Option, Some, None, length, get_or, set, take, refl, sym, ap, subst, arith, nat_eq}
 use Rattle.std.specs.Cmp.Lexicographic.{pointwise, bytes_decides, texts_ties}
 use Rattle.std.specs.Int.{w128, to_be_bytes}
 use Rattle.std.specs.Prelude.{MatchOption, IfSome, IfNone, not}
@@ -10,14 +10,13 @@ use Rattle.std.specs.declared.cmp.Ordering.TheVariants.{Less, Equal, Greater}
 use Rattle.std.proofs.Math.Seq.{take_all}
 use Rattle.std.proofs.Math.Nat.{pow-le-pow_right, div-le_self}
 use Rattle.std.proofs.lemmas.Bool.{cases_lt}
-use Rattle.std.proofs.lemmas.List.{length-append, length-set}
+use Rattle.std.proofs.lemmas.List.{length-set}
 use Rattle.std.proofs.lemmas.List.{get_or-set_same, get_or-set_other}
 use Rattle.std.proofs.lemmas.List.Elements.{All-push, All-nil, All-contains, Contains-push, Contains-append_left}
 use Rattle.std.proofs.lemmas.List.Quantifiers.{all_pairs_push}
 use Rattle.std.proofs.lemmas.Nat.{shr_split}
 use Rattle.art_bytes.specs.Text.{text_order}
 use Rattle.art_mapped.specs.DigitLaws.{number_of, number_of-digits}
-use Rattle.art_mapped.specs.Numbers.{digits}
 use Rattle.art_map.specs.Entries.{entry_with}
 use Rattle.art_tree.specs.Entries.{put_entry}
 use Rattle.routes.specs.declared.address.Address.{Address}

@@ -1,4 +1,4 @@
-use Rattle.std.proofs.Common.{arith, subst}
+use Rattle.std.proofs.Common.{subst}
 use Rattle.std.proofs.Math.Seq.{take_all}
 use Rattle.routes.specs.Maps.{AppendsReplies}
 use Rattle.routes.proofs.ReplyLemmas.{replies_more}

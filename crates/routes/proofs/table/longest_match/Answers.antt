@@ -1,4 +1,4 @@
-use Rattle.std.proofs.Common.{◌+◌, ◌≤◌, arith}
+use Rattle.std.proofs.Common.{◌+◌, arith}
 use Rattle.routes.proofs.MapLemmas.{one_tried, all_tried, is_longest}
 use Rattle.routes.proofs.table.longest_match.Goals as goal
 use Rattle.routes.proofs.table.longest_match.Goals.{else-loop-behind-test, then-loop-behind-test+in_default+else-behind-behind-end}

@@ -1,4 +1,4 @@
-use Rattle.std.proofs.Common.{◌≡◌, ◌++◌, ◌∙◌, subst, sym, ap}
+use Rattle.std.proofs.Common.{◌++◌, ◌∙◌, subst, sym, ap}
 use Rattle.std.specs.List.{flat_map}
 use Rattle.program_lines.specs.Lines.{line, lines_of, SayAll}
 use Rattle.routes.specs.Lines.{SayRoute, SayQuery}
