@@ -1,0 +1,70 @@
+-- What lines of the input say.
+use Rattle.std.proofs.Common.{◌≡◌, ◌≢◌, ◌∙◌, inl, inr, ℕ, ℤ, List, ◌∷◌, ◌++◌, sym, ap, subst, arith}
+use Rattle.std.specs.Prelude.{codes, Result, Ok, Err, OnErr}
+use Rattle.std.specs.declared.net.Ipv6Addr.{Ipv6Addr}
+use Rattle.program_lines.specs.Lines.{HasNo, IsCutAt}
+use Rattle.program_lines.proofs.Cuts.{same_cut, cut_has_one}
+use Rattle.index.specs.declared.query.Query.{Query}
+use Rattle.index.specs.declared.query.Query.TheVariants.{Host, First, Last, Count}
+use Rattle.index.specs.Fields.{IsAddress, IsTime}
+use Rattle.index.specs.Queries.{AreBounds, SayHost, SayQuery}
+
+-- what is so anyway, is so of an error
+pub anyway : {X E : Type 0} {Q : Type 0} (result : Result X E) → Q → OnErr result Q
+anyway (Ok x) so = tt
+anyway (Err e) so = so
+
+heads : {a b : ℕ} {xs ys : List ℕ} → a ∷ xs ≡ b ∷ ys → a ≡ b
+heads same = cc
+
+-- what is no pair of bounds
+module _ (text rest : List ℕ) (begins : text ≡ codes "from " ++ rest) where
+  rest_is : (first last : List ℕ) → text ≡ codes "from " ++ (first ++ (codes " to " ++ last)) → rest ≡ first ++ (codes " to " ++ last)
+  rest_is first last is =
+      let both : codes "from " ++ rest ≡ codes "from " ++ (first ++ (codes " to " ++ last)) = sym begins ∙ is in
+      cc
+
+  pub no_space : HasNo 32 rest → (from to : ℤ) → AreBounds text from to → ⊥
+  no_space none from to (first, last, is, none_first, first_is, last_is) = cut_has_one 32 first (codes "to " ++ last) (subst (HasNo 32) (rest_is first last is) none)
+
+  module _ (first next : List ℕ) (cut : IsCutAt 32 rest first next) where
+    parts_are : (other last : List ℕ) → text ≡ codes "from " ++ (other ++ (codes " to " ++ last)) → HasNo 32 other → (first ≡ other) × (next ≡ codes "to " ++ last)
+    parts_are other last is none = same_cut 32 first other next (codes "to " ++ last) cut.1 none (sym cut.0 ∙ rest_is other last is)
+
+    pub no_last : ((last : List ℕ) → next ≢ codes "to " ++ last) → (from to : ℤ) → AreBounds text from to → ⊥
+    no_last refused from to (other, last, is, none, other_is, last_is) = refused last (parts_are other last is none).1
+
+    pub no_times : (last : List ℕ) → next ≡ codes "to " ++ last → ((from to : ℤ) → IsTime first from → IsTime last to → ⊥) → (from to : ℤ) → AreBounds text from to → ⊥
+    no_times last ends refused from to (other, later, is, none, other_is, later_is) =
+        let same = parts_are other later is none in
+        let both : codes "to " ++ last ≡ codes "to " ++ later = sym ends ∙ same.1 in
+        let last_is : last ≡ later = cc in
+        refused from to (subst (λ t. IsTime t from) (sym same.0) other_is) (subst (λ t. IsTime t to) (sym last_is) later_is)
+
+    pub says_bounds : (last : List ℕ) (from to : ℤ) → next ≡ codes "to " ++ last → IsTime first from → IsTime last to → AreBounds text from to
+    says_bounds last from to ends from_is to_is =
+        (first, last, begins ∙ ap (λ r. codes "from " ++ r) (cut.0 ∙ ap (λ n. first ++ 32 ∷ n) ends), cut.1, from_is, to_is)
+
+-- what is no host
+pub no_address : (text : List ℕ) → HasNo 32 text → ((address : Ipv6Addr) → IsAddress text address → ⊥) → (address : Ipv6Addr) (from to : ℤ) → SayHost text address from to → ⊥
+no_address text none refused address from to (inl alone) = refused address alone.1
+no_address text none refused address from to (inr (host, bounds, is, none_host, host_is, are)) = cut_has_one 32 host bounds (subst (HasNo 32) is none)
+
+pub no_host : (text host bounds : List ℕ) → IsCutAt 32 text host bounds → ((address : Ipv6Addr) (from to : ℤ) → IsAddress host address → AreBounds bounds from to → ⊥) → (address : Ipv6Addr) (from to : ℤ) → SayHost text address from to → ⊥
+no_host text host bounds cut refused address from to (inl alone) = cut_has_one 32 host bounds (subst (HasNo 32) cut.0 alone.0)
+no_host text host bounds cut refused address from to (inr (other, later, is, none, is_address, are)) =
+    let same = same_cut 32 host other bounds later cut.1 none (sym cut.0 ∙ is) in
+    refused address from to (subst (λ h. IsAddress h address) (sym same.0) is_address) (subst (λ b. AreBounds b from to) (sym same.1) are)
+
+apart : {a b : ℕ} {xs ys : List ℕ} → a ∷ xs ≡ b ∷ ys → a ≢ b → ⊥
+apart same differ = differ (heads same)
+
+-- a line that begins so is no other query
+pub no_host_query : (line rest : List ℕ) → line ≡ codes "host " ++ rest → ((address : Ipv6Addr) (from to : ℤ) → SayHost rest address from to → ⊥) → (query : Query) → SayQuery line query → ⊥
+no_host_query line rest begins refused (Host address from to) (text, is, said) =
+    let both : codes "host " ++ rest ≡ codes "host " ++ text = sym begins ∙ is in
+    let same : rest ≡ text = cc in
+    refused address from to (subst (λ t. SayHost t address from to) (sym same) said)
+no_host_query line rest begins refused First is = absurd (apart (sym begins ∙ is) (omega arith))
+no_host_query line rest begins refused Last is = absurd (apart (sym begins ∙ is) (omega arith))
+no_host_query line rest begins refused Count is = absurd (apart (sym begins ∙ is) (omega arith))

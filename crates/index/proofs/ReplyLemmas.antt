@@ -1,0 +1,59 @@
+-- What queries print.
+use Rattle.std.proofs.Common.{◌≡◌, ◌∙◌, ℕ, ◌+◌, ◌-◌, ◌<◌, ℤ, List, [], ◌∷◌, ◌++◌, length, take, filter, Option, Some, None, refl, sym, ap, get_or, append_assoc, append-nil, add-one}
+use Rattle.std.specs.Prelude.{slice_get}
+use Rattle.std.specs.Borrow.{Bor}
+use Rattle.std.specs.Fmt.{decimal}
+use Rattle.std.specs.List.{flat_map}
+use Rattle.std.specs.Option.{option_map}
+use Rattle.std.specs.declared.net.Ipv6Addr.{Ipv6Addr}
+use Rattle.std.proofs.Math.Seq.{take-suc}
+use Rattle.std.proofs.lemmas.Grind.{flat_map-append}
+use Rattle.std.proofs.lemmas.List.{length-map}
+use Rattle.std.proofs.lemmas.List.Concat.{flat_map-cons}
+use Rattle.std.proofs.lemmas.Option.{slice_get-map}
+use Rattle.program_lines.specs.Lines.{line}
+use Rattle.index.specs.declared.query.Query.{Query}
+use Rattle.index.specs.declared.query.Query.TheVariants.{Host, First, Last, Count}
+use Rattle.index.specs.declared.rows.Row.{Row}
+use Rattle.index.specs.Replies.{end_line, is_within, reply, row_line}
+use Rattle.index.proofs.EntryLemmas.{values_of}
+
+-- one reply more
+pub reply_more : (rows : List Row) (queries : List Query) (k : ℕ) (d : Query) (start output longer : List ℕ) → k < length queries → output ≡ start ++ flat_map (reply rows) (take k queries) → longer ≡ output ++ reply rows (get_or queries k d) → longer ≡ start ++ flat_map (reply rows) (take (k + 1) queries)
+reply_more rows queries k d start output longer below before pushed =
+    let cut : take (k + 1) queries ≡ take k queries ++ get_or queries k d ∷ [] = rw add-one (take-suc queries k d below) in
+    let one : flat_map (reply rows) (get_or queries k d ∷ []) ≡ reply rows (get_or queries k d) = flat_map-cons (reply rows) (get_or queries k d) [] ∙ append-nil (reply rows (get_or queries k d)) in
+    pushed ∙ ap (λ o. o ++ reply rows (get_or queries k d)) before ∙ append_assoc start (flat_map (reply rows) (take k queries)) (reply rows (get_or queries k d))
+    ∙ ap (λ more. start ++ (flat_map (reply rows) (take k queries) ++ more)) (sym one) ∙ ap (λ more. start ++ more) (sym (flat_map-append (reply rows) (take k queries) (get_or queries k d ∷ [])) ∙ ap (flat_map (reply rows)) (sym cut))
+
+module _ {K : Type 0} (entries : List (K × Row)) where
+  abbrev row_of : K × Row → Row
+  row_of entry = entry.1
+
+  abbrev shown_entry : Bor K × Bor Row → K × Row
+  shown_entry e = (e.0.now, e.1.now)
+
+  abbrev shown_row : Bor K × Bor Row → Row
+  shown_row e = e.1.now
+
+  -- the row at an end
+  end_row : (o : Option (Bor K × Bor Row)) (n : ℕ) → option_map shown_entry o ≡ slice_get entries n → option_map shown_row o ≡ slice_get (values_of entries) n
+  end_row o n is = both o ∙ ap (option_map row_of) is ∙ sym (slice_get-map row_of entries n)
+    where
+      both : (o : Option (Bor K × Bor Row)) → option_map shown_row o ≡ option_map row_of (option_map shown_entry o)
+      both None = refl
+      both (Some e) = refl
+
+  module _ (output longer : List ℕ) (query : Query) where
+    pub reply_host : (address : Ipv6Addr) (from to : ℤ) (shown : List (K × Row)) → query ≡ Host address from to → values_of shown ≡ filter (is_within address from to) (values_of entries) → longer ≡ output ++ flat_map row_line (values_of shown) → longer ≡ output ++ reply (values_of entries) query
+    reply_host address from to shown is rows pushed = pushed ∙ ap (λ r. output ++ flat_map row_line r) rows ∙ ap (λ q. output ++ reply (values_of entries) q) (sym is)
+
+    pub reply_first : (o : Option (Bor K × Bor Row)) → query ≡ First → option_map shown_entry o ≡ slice_get entries 0 → longer ≡ output ++ end_line (option_map shown_row o) → longer ≡ output ++ reply (values_of entries) query
+    reply_first o is first pushed = pushed ∙ ap (λ e. output ++ end_line e) (end_row o 0 first) ∙ ap (λ q. output ++ reply (values_of entries) q) (sym is)
+
+    pub reply_last : (o : Option (Bor K × Bor Row)) → query ≡ Last → option_map shown_entry o ≡ slice_get entries (length entries - 1) → longer ≡ output ++ end_line (option_map shown_row o) → longer ≡ output ++ reply (values_of entries) query
+    reply_last o is last pushed =
+        pushed ∙ ap (λ e. output ++ end_line e) (end_row o (length entries - 1) last ∙ ap (λ n. slice_get (values_of entries) (n - 1)) (sym (length-map entries row_of))) ∙ ap (λ q. output ++ reply (values_of entries) q) (sym is)
+
+    pub reply_count : (n : ℕ) → query ≡ Count → n ≡ length entries → longer ≡ output ++ line (decimal n) → longer ≡ output ++ reply (values_of entries) query
+    reply_count n is many pushed = pushed ∙ ap (λ m. output ++ line (decimal m)) (many ∙ sym (length-map entries row_of)) ∙ ap (λ q. output ++ reply (values_of entries) q) (sym is)

@@ -1,0 +1,6 @@
+pub mod Fields
+pub mod Readings
+pub mod Queries
+pub mod Rows
+pub mod Replies
+pub mod Keys

@@ -1,0 +1,49 @@
+-- The output for a table and queries, and which lines are bad.
+use Rattle.std.specs.Prelude.{◌≡◌, ◌⊎◌, ℕ, ◌-◌, ℤ, Bool, ◌&&◌, List, Option, None, Some, codes, filter, length, slice_get}
+use Rattle.std.specs.Fmt.{decimal}
+use Rattle.std.specs.List.{flat_map}
+use Rattle.std.specs.Ordering.{int_cmp, is_eq, is_le, is_ge}
+use Rattle.std.specs.declared.net.Ipv6Addr.{Ipv6Addr}
+use Rattle.program_lines.specs.Lines.{line, lines_of, SayAll, IsFirstBad}
+use Rattle.program_lines.specs.declared.failure.BadLine.{BadLine}
+use Rattle.program_lines.specs.declared.failure.Place.TheVariants.{Input}
+use Rattle.index.specs.declared.fault.Fault.{Fault}
+use Rattle.index.specs.declared.query.Query.{Query}
+use Rattle.index.specs.declared.query.Query.TheVariants.{Host, First, Last, Count}
+use Rattle.index.specs.declared.reading.Reading.{Reading}
+use Rattle.index.specs.declared.rows.Row.{Row}
+use Rattle.index.specs.Readings.{SayReading, row_lines, IsBadRow}
+use Rattle.index.specs.Queries.{SayQuery}
+use Rattle.index.specs.Rows.{address_order, IsIndex}
+
+-- whether a row is of this host, from the one time to the other
+abbrev pub is_within : Ipv6Addr → ℤ → ℤ → Row → Bool
+is_within address from to row =
+    is_eq (address_order row.reading.address address) && (is_ge (int_cmp row.reading.time from) && is_le (int_cmp row.reading.time to))
+
+-- the line of a row
+abbrev pub row_line : Row → List ℕ
+row_line row = line row.reading.line.now
+
+-- the line of a row, or one with none
+abbrev pub end_line : Option Row → List ℕ
+end_line None = line (codes "none")
+end_line (Some row) = row_line row
+
+-- what a query prints, where these are the rows in order
+abbrev pub reply : List Row → Query → List ℕ
+reply rows (Host address from to) = flat_map row_line (filter (is_within address from to) rows)
+reply rows First = end_line (slice_get rows 0)
+reply rows Last = end_line (slice_get rows (length rows - 1))
+reply rows Count = line (decimal (length rows))
+
+-- each line of the file after the header is a reading and each line of the input a query, and the
+-- output is the replies, one after another
+abbrev pub IsOutput : List ℕ → List ℕ → List ℕ → Type 0
+IsOutput file input output =
+    (table : List Reading) × (queries : List Query) × (rows : List Row) × SayAll SayReading (row_lines file) table
+    × SayAll SayQuery (lines_of input) queries × IsIndex table rows × (output ≡ flat_map (reply rows) queries)
+
+-- this is the first bad line of the file, or the first line of the input that is no query
+abbrev pub IsBad : List ℕ → List ℕ → BadLine Fault → Type 0
+IsBad file input bad = IsBadRow file bad ⊎ ((bad.place ≡ Input) × IsFirstBad SayQuery (lines_of input) bad.number)

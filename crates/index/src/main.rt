@@ -1,0 +1,24 @@
+//! The program `index`: reads a table of readings from a file, and answers queries on standard input by
+//! host and time.
+//!
+//! [`ReadingIndex`] is the whole program, as a [`Program`](program_lines::Program) over the bytes of the
+//! table and of the queries.
+#![tactic(auto)]
+
+mod fault;
+mod fields;
+mod query;
+mod reading;
+mod replies;
+mod row_key;
+mod rows;
+#[cfg(test)]
+mod tests;
+
+pub use fault::Fault;
+pub use replies::ReadingIndex;
+use std::process::ExitCode;
+
+fn main(rt: HostRuntime) -> ExitCode {
+    program_lines::start::<ReadingIndex>(&rt)
+}
