@@ -86,17 +86,20 @@ impl<K, V, const PREFIX_LEN: usize> AnyInner<K, V, PREFIX_LEN> {
         with_node!(self, node => node.lookup_child(key_fragment))
     }
 
-    pub(crate) fn write_child(
+    /// Writes the child under the byte and returns the one that was there. Condition: under a new
+    /// byte, the node has spare capacity.
+    pub(crate) fn insert_child(
         &mut self,
         key_fragment: u8,
         child_pointer: OpaqueNodePtr<K, V, PREFIX_LEN>,
-    )
+    ) -> Option<OpaqueNodePtr<K, V, PREFIX_LEN>>
         requires { HasRoomFor (most_children (kind_of self.old)) (inner_of self.old) key_fragment }
+        ensures old_child { result ≡ child_at (inner_of self.old).children key_fragment }
         ensures written { inner_of self.new ≡
             node_with_child (inner_of self.old) key_fragment child_pointer }
         ensures kind { kind_of self.new ≡ kind_of self.old }
     {
-        with_node!(self, node => node.write_child(key_fragment, child_pointer))
+        with_node!(self, node => node.insert_child(key_fragment, child_pointer))
     }
 
     pub(crate) fn remove_child(

@@ -115,12 +115,10 @@ impl<K, V, const PREFIX_LEN: usize> ChildNode<K, V, PREFIX_LEN> {
         ensures old_child { result ≡ child_at self.old.children byte }
         ensures written { self.new ≡ node_with_child self.old byte child }
     {
-        let old_child = self.node.lookup_child(byte);
-        if self.node.is_full() && old_child.is_none() {
+        if self.node.is_full() && self.node.lookup_child(byte).is_none() {
             self.node.grow();
         }
-        self.node.write_child(byte, child);
-        old_child
+        self.node.insert_child(byte, child)
     }
 
     // Returns the child that was there.

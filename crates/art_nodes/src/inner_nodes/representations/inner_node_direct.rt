@@ -80,7 +80,7 @@ impl<K, V, const PREFIX_LEN: usize> InnerNodeDirect<K, V, PREFIX_LEN> {
     ghost use Rattle.std.specs.Prelude.{◌≡◌, ℕ, ◌<◌, is_some};
     ghost use Rattle.art_nodes.specs.ByteSet.{has_byte};
     ghost use Rattle.art_nodes.specs.ChildMap.{child_at};
-    ghost use Rattle.art_nodes.specs.Inner.{empty_inner, IsInner};
+    ghost use Rattle.art_nodes.specs.Inner.{empty_inner, node_with_child, IsInner};
 
     /// A node with the prefix of this header and no children, whatever the header's count.
     pub(crate) fn from_header(mut header: Header<PREFIX_LEN>) -> Self
@@ -109,6 +109,25 @@ impl<K, V, const PREFIX_LEN: usize> InnerNodeDirect<K, V, PREFIX_LEN> {
             has_byte result byte ≡ is_some (child_at self.now.children byte) }
     {
         self.child_pointers.filled_words()
+    }
+
+    /// Writes the child under the byte and returns the one that was there.
+    #[inline]
+    pub(crate) fn insert_child(
+        &mut self,
+        key_fragment: u8,
+        child_pointer: OpaqueNodePtr<K, V, PREFIX_LEN>,
+    ) -> Option<OpaqueNodePtr<K, V, PREFIX_LEN>>
+        ensures old_child { result ≡ child_at self.old.children key_fragment }
+        ensures written { self.new ≡ node_with_child self.old key_fragment child_pointer }
+    {
+        let old_child = self.lookup_child(key_fragment);
+        if old_child.is_none() {
+            self.header.inc_num_children();
+        }
+        self.child_pointers
+            .fill(key_fragment, PackedNodePtr::new(child_pointer));
+        old_child
     }
 
     /// A copy. Takes no memory.
@@ -187,11 +206,7 @@ impl<K, V, const PREFIX_LEN: usize> InnerNodeCommon<K, V, PREFIX_LEN>
         requires { HasRoomFor 256 self.old key_fragment }
         ensures written { self.new ≡ node_with_child self.old key_fragment child_pointer }
     {
-        if self.child_pointers.child(key_fragment).is_none() {
-            self.header.inc_num_children();
-        }
-        self.child_pointers
-            .fill(key_fragment, PackedNodePtr::new(child_pointer));
+        self.insert_child(key_fragment, child_pointer);
     }
 
     fn remove_child(&mut self, key_fragment: u8) -> Option<OpaqueNodePtr<K, V, PREFIX_LEN>> {

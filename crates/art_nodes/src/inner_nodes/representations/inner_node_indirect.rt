@@ -89,7 +89,7 @@ impl<K, V, const PREFIX_LEN: usize, const SIZE: usize> InnerNodeIndirect<K, V, P
     ghost use Rattle.std.specs.Prelude.{◌≡◌, ◌<◌, None, length, map};
     ghost use Rattle.std.specs.List.Sorted.{IsPermutation};
     ghost use Rattle.art_nodes.specs.ChildMap.{child_at};
-    ghost use Rattle.art_nodes.specs.Inner.{empty_inner, indirect_room, inner_with, node_with_child, sorted_children, IsInner};
+    ghost use Rattle.art_nodes.specs.Inner.{HasRoomFor, empty_inner, indirect_room, inner_with, node_with_child, sorted_children, IsInner};
 
     /// A node with the prefix of this header and no children, whatever the header's count.
     pub(crate) fn from_header(mut header: Header<PREFIX_LEN>) -> Self
@@ -150,6 +150,32 @@ impl<K, V, const PREFIX_LEN: usize, const SIZE: usize> InnerNodeIndirect<K, V, P
         self.keys.push(key_fragment);
         self.child_pointers.push(PackedNodePtr::new(child_pointer));
         self.header.inc_num_children();
+    }
+
+    /// Writes the child under the byte and returns the one that was there. Condition: that of
+    /// [`InnerNodeCommon::write_child`].
+    #[inline]
+    pub(crate) fn insert_child(
+        &mut self,
+        key_fragment: u8,
+        child_pointer: OpaqueNodePtr<K, V, PREFIX_LEN>,
+    ) -> Option<OpaqueNodePtr<K, V, PREFIX_LEN>>
+        requires { HasRoomFor (indirect_room SIZE) self.old key_fragment }
+        ensures old_child { result ≡ child_at self.old.children key_fragment }
+        ensures written { self.new ≡ node_with_child self.old key_fragment child_pointer }
+    {
+        match self.child_indices.get(key_fragment) {
+            Some(index) => {
+                let place = usize::from(index);
+                let old_child = self.child_pointers[place].to_opaque();
+                self.child_pointers[place] = PackedNodePtr::new(child_pointer);
+                Some(old_child)
+            }
+            None => {
+                self.add_child(key_fragment, child_pointer);
+                None
+            }
+        }
     }
 
     /// A copy. Takes no memory.
@@ -239,12 +265,7 @@ impl<K, V, const PREFIX_LEN: usize, const SIZE: usize> InnerNodeCommon<K, V, PRE
         requires { HasRoomFor (indirect_room SIZE) self.old key_fragment }
         ensures written { self.new ≡ node_with_child self.old key_fragment child_pointer }
     {
-        match self.child_indices.get(key_fragment) {
-            Some(index) => {
-                self.child_pointers[usize::from(index)] = PackedNodePtr::new(child_pointer);
-            }
-            None => self.add_child(key_fragment, child_pointer),
-        }
+        self.insert_child(key_fragment, child_pointer);
     }
 
     fn remove_child(&mut self, key_fragment: u8) -> Option<OpaqueNodePtr<K, V, PREFIX_LEN>> {

@@ -107,8 +107,8 @@ impl<K, V, const PREFIX_LEN: usize> Node<PREFIX_LEN> for InnerNode16<K, V, PREFI
 
 impl<K, V, const PREFIX_LEN: usize, const SIZE: usize> InnerNodeSorted<K, V, PREFIX_LEN, SIZE> {
     ghost use Rattle.std.specs.Prelude.{◌≡◌, ◌<◌, ◌≤◌, All, length, map};
-    ghost use Rattle.art_nodes.specs.ChildMap.{key_bytes};
-    ghost use Rattle.art_nodes.specs.Inner.{empty_inner, node_with_child};
+    ghost use Rattle.art_nodes.specs.ChildMap.{child_at, key_bytes};
+    ghost use Rattle.art_nodes.specs.Inner.{HasRoomFor, empty_inner, node_with_child};
 
     /// A node with the prefix of this header and no children, whatever the header's count.
     pub(crate) fn from_header(mut header: Header<PREFIX_LEN>) -> Self
@@ -152,6 +152,34 @@ impl<K, V, const PREFIX_LEN: usize, const SIZE: usize> InnerNodeSorted<K, V, PRE
         self.keys.push(key_fragment);
         self.child_pointers.push(PackedNodePtr::new(child_pointer));
         self.header.inc_num_children();
+    }
+
+    /// Writes the child under the byte and returns the one that was there. Condition: that of
+    /// [`InnerNodeCommon::write_child`].
+    #[inline]
+    pub(crate) fn insert_child(
+        &mut self,
+        key_fragment: u8,
+        child_pointer: OpaqueNodePtr<K, V, PREFIX_LEN>,
+    ) -> Option<OpaqueNodePtr<K, V, PREFIX_LEN>>
+        requires { HasRoomFor SIZE self.old key_fragment }
+        ensures old_child { result ≡ child_at self.old.children key_fragment }
+        ensures written { self.new ≡ node_with_child self.old key_fragment child_pointer }
+    {
+        match find_write_point(&self.keys, key_fragment) {
+            Ok(index) => {
+                let old_child = self.child_pointers[index].to_opaque();
+                self.child_pointers[index] = PackedNodePtr::new(child_pointer);
+                Some(old_child)
+            }
+            Err(index) => {
+                self.keys.insert(index, key_fragment);
+                self.child_pointers
+                    .insert(index, PackedNodePtr::new(child_pointer));
+                self.header.inc_num_children();
+                None
+            }
+        }
     }
 
     /// The same node with capacity for `NEW_SIZE` children. Condition: its children fit.
@@ -266,15 +294,7 @@ impl<K, V, const PREFIX_LEN: usize, const SIZE: usize> InnerNodeCommon<K, V, PRE
         requires { HasRoomFor SIZE self.old key_fragment }
         ensures written { self.new ≡ node_with_child self.old key_fragment child_pointer }
     {
-        match find_write_point(&self.keys, key_fragment) {
-            Ok(index) => self.child_pointers[index] = PackedNodePtr::new(child_pointer),
-            Err(index) => {
-                self.keys.insert(index, key_fragment);
-                self.child_pointers
-                    .insert(index, PackedNodePtr::new(child_pointer));
-                self.header.inc_num_children();
-            }
-        }
+        self.insert_child(key_fragment, child_pointer);
     }
 
     fn remove_child(&mut self, key_fragment: u8) -> Option<OpaqueNodePtr<K, V, PREFIX_LEN>> {

@@ -1,6 +1,7 @@
-use Rattle.std.proofs.Common.{arith, rules, ap, sym}
-use Rattle.art_nodes.proofs.SortedLemmas.{count_fits, not_full, sorted-insert, sorted-set, refill-set, with_child-zip_set, with_child-zip_insert}
-use Rattle.art_nodes.proofs.inner_nodes.representations.inner_node_sorted.InnerNodeSortedInnerNodeCommon.write_child.Goals as goal
+use Rattle.std.proofs.Common.{◌<◌, length, refl, arith, rules, ap, sym, ◌∙◌}
+use Rattle.std.proofs.lemmas.Option.{slice_get_read}
+use Rattle.art_nodes.proofs.SortedLemmas.{child_at-zip, child_at-zip_gap, count_fits, not_full, sorted-insert, sorted-set, refill-set, with_child-zip_set, with_child-zip_insert}
+use Rattle.art_nodes.proofs.inner_nodes.representations.inner_node_sorted.InnerNodeSorted.insert_child.Goals as goal
 
 pub insert-requires : goal.insert-requires
 insert-requires g c =
@@ -30,9 +31,17 @@ invariant_of-self g c =
 pub returns-in-Ok : goal.returns-in-Ok
 returns-in-Ok g c =
     let at = rw c.deref.ensures.0 at c.in-Ok.ensures.existing in
-    record { written = rw (← c.self.view_is, ← c.new.ensures, c.deref_mut.ensures.value, refill-set) (ap (λ children. record { prefix_len = c.self.inside.header.prefix_len; stored = c.self.inside.header.stored; children = children }) (sym (with_child-zip_set 0 _ _ _ _ _ c.self.invariant.beside c.self.invariant.ascending at))) }
+    let in_range : c.in-Ok.index < length c.self.inside.child_pointers.items = omega (arith, at.in_range, c.self.invariant.beside) in
+    let read = rw c.deref-in-Ok.ensures.0 at c.index-deref-index.is in
+    record {
+      old_child = rw (← c.self.view_is, c.to_opaque-old_child.ensures) (sym (child_at-zip 0 _ _ _ _ c.self.invariant.beside c.self.invariant.ascending at ∙ slice_get_read _ _ _ _ refl in_range read));
+      written = rw (← c.self.view_is, ← c.new.ensures, c.deref_mut.ensures.value, refill-set) (ap (λ children. record { prefix_len = c.self.inside.header.prefix_len; stored = c.self.inside.header.stored; children = children }) (sym (with_child-zip_set 0 _ _ _ _ _ c.self.invariant.beside c.self.invariant.ascending at)));
+    }
 
 pub returns-in-Err : goal.returns-in-Err
 returns-in-Err g c =
     let gap = rw c.deref.ensures.0 at c.in-Err.ensures.absent in
-    record { written = rw (← c.self.view_is, ← c.new-in-Err.ensures, c.inc_num_children.ensures, c.insert.ensures.items, c.insert-in-Err.ensures.items) (ap (λ children. record { prefix_len = c.self.inside.header.prefix_len; stored = c.self.inside.header.stored; children = children }) (sym (with_child-zip_insert 0 _ _ _ _ _ c.self.invariant.beside c.self.invariant.ascending gap))) }
+    record {
+      old_child = rw (← c.self.view_is) (sym (child_at-zip_gap 0 _ _ _ _ c.self.invariant.beside c.self.invariant.ascending gap));
+      written = rw (← c.self.view_is, ← c.new-in-Err.ensures, c.inc_num_children.ensures, c.insert.ensures.items, c.insert-in-Err.ensures.items) (ap (λ children. record { prefix_len = c.self.inside.header.prefix_len; stored = c.self.inside.header.stored; children = children }) (sym (with_child-zip_insert 0 _ _ _ _ _ c.self.invariant.beside c.self.invariant.ascending gap)));
+    }
