@@ -127,6 +127,8 @@ fn step_to_leaf<K, V, const PREFIX_LEN: usize>(
 /// ```rust
 /// assert!(rt; arena.holds(any_leaf(arena, root)));
 /// ```
+// Out of line: within an insert it costs those that meet no long prefix.
+#[inline(never)]
 pub fn any_leaf<K: AsBytes, V, const PREFIX_LEN: usize>(
     arena: &NodeArena<K, V, PREFIX_LEN>,
     pointer: OpaqueNodePtr<K, V, PREFIX_LEN>,
