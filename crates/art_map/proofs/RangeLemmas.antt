@@ -1,5 +1,5 @@
 -- The leaves between two places in the order of texts, and what they hold.
-use Rattle.std.proofs.Common.{◌≡◌, ◌≢◌, ◌∙◌, ℕ, ◌-◌, ◌⊎◌, cond, Bool, true, false, not, ◌&&◌, List, [], ◌∷◌, ◌++◌, length, length-append, map, filter, slice_get, All, AllPairs, Contains, Option, Some, None, refl, sym, ap, subst, inl, inr, arith, get_or, append_assoc, append-nil}
+use Rattle.std.proofs.Common.{◌≡◌, ◌≢◌, ◌∙◌, ℕ, ◌⊎◌, cond, Bool, true, false, not, ◌&&◌, List, [], ◌∷◌, ◌++◌, map, filter, slice_get, All, AllPairs, Contains, Option, Some, None, refl, sym, ap, subst, inl, inr, arith, get_or, append_assoc, append-nil}
 use Rattle.std.specs.Option.{option_map}
 use Rattle.std.specs.declared.cmp.Ordering.TheVariants.{Less}
 use Rattle.std.proofs.lemmas.List.{map-append}
@@ -22,7 +22,7 @@ use Rattle.art_map.specs.Cuts.{is_before, is_between, AreOn, IsFirstAfter, IsLas
 use Rattle.art_map.specs.Runs.{EndsIn, LeadsOver, leaf_entry, entries_under, run_of}
 use Rattle.art_map.specs.declared.cut.Side.{Side}
 use Rattle.art_map.proofs.EntryLemmas.{AllHold, entries-of-leaves, keys_of, leaves-hold}
-use Rattle.art_map.proofs.RunLemmas.{ends-push, entries-cons, run-is}
+use Rattle.art_map.proofs.RunLemmas.{ends-push, entries-cons, run-is, spelled-links}
 
 pub keys-append : {K V : Type 0} {P : ℕ} (a b : List (OpaqueNodePtr K V P × List ℕ)) → keys_of (a ++ b) ≡ keys_of a ++ keys_of b
 keys-append a b = ap (map opaque_key) (map-append (λ leaf. leaf.0) a b) ∙ map-append opaque_key (map (λ leaf. leaf.0) a) (map (λ leaf. leaf.0) b)
@@ -189,8 +189,8 @@ module _ {K V : Type 0} {P : ℕ} (text : K → List ℕ) (arena : NodeArena K V
               let there = spells-drop None (keys_of L) (keys_of mid ++ keys_of B) (subst (SpellsAfter arena None) keys-whole spelled.spelled) in
               record {
                 before = there.0;
-                after = keys_of B;
-                spelled = there.1;
+                after = slice_get (keys_of B) 0;
+                linked = spelled-links arena there.0 (keys_of mid) (keys_of B) there.1;
                 distinct = distinct-left (keys_of mid) (keys_of B) (distinct-right (keys_of L) (keys_of mid ++ keys_of B) (subst AreDistinct keys-whole spelled.distinct));
                 rest = keys_of aligned.0;
                 begins = refl;
@@ -269,14 +269,7 @@ module _ {K V : Type 0} {P : ℕ} (text : K → List ℕ) (arena : NodeArena K V
             (range-is text arena start_side start end_side end tree hold low.1 low.2 high.1 high.2 f b low.3 low.4 low.5 high.3 high.4 high.5 alone.spelled inside
             ∙ ap (entries_under arena) (sym (run-is arena (slab_key front) (slab_key back) range-run.0 range-run.1)))
 
--- a filter of one list behind another, and the last member of such a list
-last-of : {X : Type 0} (xs : List X) (x : X) → slice_get (xs ++ x ∷ []) (length (xs ++ x ∷ []) - 1) ≡ Some x
-last-of {X = X} xs x = ap (slice_get (xs ++ x ∷ [])) (omega (arith, length-append xs (x ∷ []))) ∙ behind xs
-  where
-    behind : (xs : List X) → slice_get (xs ++ x ∷ []) (length xs) ≡ Some x
-    behind [] = refl
-    behind (y ∷ xs) = behind xs
-
+-- a filter of one list behind another
 module _ {K V : Type 0} {P : ℕ} (text : K → List ℕ) (arena : NodeArena K V P) (test : List ℕ → Bool) where
   abbrev kept : List (K × V) → List (K × V)
   kept entries = filter (λ entry. test (text entry.0)) entries
@@ -297,21 +290,13 @@ module _ {K V : Type 0} {P : ℕ} (text : K → List ℕ) (arena : NodeArena K V
       let rest = leave-all pairs hold.1 (All-tail (λ leaf. test leaf.1 ≡ false) pair pairs all) in
       ap kept cons ∙ ap (λ b. cond b (leaf_entry hold.0.leaf ∷ kept (held_by text arena pairs)) (kept (held_by text arena pairs))) here ∙ rest
 
-  -- where the test fails up to one part, and holds from it on, or the other way round
+  -- where the test fails up to one part, and holds from it on
   kept-right : (whole left right : List (OpaqueNodePtr K V P × List ℕ)) → whole ≡ left ++ right → AllHold text arena whole → All (λ leaf. test leaf.1 ≡ false) left → All (λ leaf. test leaf.1 ≡ true) right → kept (held_by text arena whole) ≡ held_by text arena right
   kept-right whole left right is hold out inside =
       let parts = subst (AllHold text arena) is hold in
       ap (λ pairs. kept (held_by text arena pairs)) is ∙ ap kept (held-append text arena left right)
       ∙ filter-append (λ entry. test (text entry.0)) (held_by text arena left) (held_by text arena right)
       ∙ ap (λ es. es ++ kept (held_by text arena right)) (leave-all left (hold-left text arena left right parts) out) ∙ keep-all right (hold-right text arena left right parts) inside
-
-  kept-left : (whole left right : List (OpaqueNodePtr K V P × List ℕ)) → whole ≡ left ++ right → AllHold text arena whole → All (λ leaf. test leaf.1 ≡ true) left → All (λ leaf. test leaf.1 ≡ false) right → kept (held_by text arena whole) ≡ held_by text arena left
-  kept-left whole left right is hold inside out =
-      let parts = subst (AllHold text arena) is hold in
-      ap (λ pairs. kept (held_by text arena pairs)) is ∙ ap kept (held-append text arena left right)
-      ∙ filter-append (λ entry. test (text entry.0)) (held_by text arena left) (held_by text arena right)
-      ∙ ap (λ es. kept (held_by text arena left) ++ es) (leave-all right (hold-right text arena left right parts) out)
-      ∙ append-nil (kept (held_by text arena left)) ∙ keep-all left (hold-left text arena left right parts) inside
 
 module _ {K V : Type 0} {P : ℕ} (text : K → List ℕ) (arena : NodeArena K V P) (root : OpaqueNodePtr K V P) (tree : Tree (OpaqueNodePtr K V P)) (alone : IsAlone text arena root tree)
     (held_law : (pointer : OpaqueNodePtr K V P) (x : List ℕ) → Contains (leaves tree) (pointer, x) → (leaf : LeafNode K V P) × (held arena pointer ≡ HeldLeaf leaf) × (text (leaf_key leaf) ≡ x))
@@ -327,9 +312,6 @@ module _ {K V : Type 0} {P : ℕ} (text : K → List ℕ) (arena : NodeArena K V
   abbrev from-place : List (K × V) → List (K × V)
   from-place entries = kept text arena (λ x. not (is_before side key x)) entries
 
-  abbrev to-place : List (K × V) → List (K × V)
-  to-place entries = kept text arena (is_before side key) entries
-
   turned : (before : Bool) (pairs : List (OpaqueNodePtr K V P × List ℕ)) → AreOn side key before pairs → All (λ leaf. not (is_before side key leaf.1) ≡ not before) pairs
   turned before pairs on = All-weaker (λ leaf. is_before side key leaf.1 ≡ before) (λ leaf. not (is_before side key leaf.1) ≡ not before) (λ leaf is. ap not is) pairs on
 
@@ -337,11 +319,6 @@ module _ {K V : Type 0} {P : ℕ} (text : K → List ℕ) (arena : NodeArena K V
   none-after before =
       ap (λ es. slice_get (from-place es) 0) (sym entries-are)
       ∙ ap (λ es. slice_get es 0) (leave-all text arena (λ x. not (is_before side key x)) (leaves tree) all-hold (turned true (leaves tree) before))
-
-  pub none-before : IsLastBefore side key (leaves tree) None → slice_get (to-place (entries_of text arena)) (length (to-place (entries_of text arena)) - 1) ≡ None
-  none-before past =
-      let none = ap to-place (sym entries-are) ∙ leave-all text arena (is_before side key) (leaves tree) all-hold past in
-      ap (λ es. slice_get es (length es - 1)) none
 
   module _ (at : NodePtr P (LeafNode K V P)) where
     pub first-after : (low : IsFirstAfter side key (leaves tree) (Some (leaf_pointer at))) → slice_get (from-place (entries_of text arena)) 0 ≡ option_map leaf_entry (leaf_at arena (slab_key at))
@@ -353,25 +330,9 @@ module _ {K V : Type 0} {P : ℕ} (text : K → List ℕ) (arena : NodeArena K V
         ∙ entries-cons arena (slab_key at) (keys_of right) hold.0.leaf hold.0.at)
         ∙ sym (ap (option_map leaf_entry) hold.0.at)
 
-    pub last-before : (high : IsLastBefore side key (leaves tree) (Some (leaf_pointer at))) → slice_get (to-place (entries_of text arena)) (length (to-place (entries_of text arena)) - 1) ≡ option_map leaf_entry (leaf_at arena (slab_key at))
-    last-before (x, left, right, is, before, after) =
-        let here = (leaf_pointer at, x) ∷ [] in
-        let earlier = left ++ here in
-        let split : leaves tree ≡ earlier ++ right = is ∙ sym (append_assoc left here right) in
-        let hold = hold-right text arena left here (hold-left text arena earlier right (subst (AllHold text arena) split all-hold)) in
-        let all : to-place (entries_of text arena) ≡ held_by text arena left ++ leaf_entry hold.0.leaf ∷ [] =
-        ap to-place (sym entries-are) ∙ kept-left text arena (is_before side key) (leaves tree) earlier right split all-hold before after
-        ∙ held-append text arena left here ∙ ap (λ es. held_by text arena left ++ es) (entries-cons arena (slab_key at) [] hold.0.leaf hold.0.at) in
-        ap (λ es. slice_get es (length es - 1)) all ∙ last-of (held_by text arena left) (leaf_entry hold.0.leaf) ∙ sym (ap (option_map leaf_entry) hold.0.at)
-
     -- the leaf is held
     pub first-held : IsFirstAfter side key (leaves tree) (Some (leaf_pointer at)) → (leaf : LeafNode K V P) × (held arena (leaf_pointer at) ≡ HeldLeaf leaf)
     first-held (x, left, right, is, before, after) =
-        let there = held_law (leaf_pointer at) x (subst (λ all. Contains all (leaf_pointer at, x)) (sym is) (Contains-append_right left ((leaf_pointer at, x) ∷ right) (leaf_pointer at, x) (0, omega arith, refl))) in
-        (there.0, there.1)
-
-    pub last-held : IsLastBefore side key (leaves tree) (Some (leaf_pointer at)) → (leaf : LeafNode K V P) × (held arena (leaf_pointer at) ≡ HeldLeaf leaf)
-    last-held (x, left, right, is, before, after) =
         let there = held_law (leaf_pointer at) x (subst (λ all. Contains all (leaf_pointer at, x)) (sym is) (Contains-append_right left ((leaf_pointer at, x) ∷ right) (leaf_pointer at, x) (0, omega arith, refl))) in
         (there.0, there.1)
 
