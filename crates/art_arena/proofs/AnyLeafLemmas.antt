@@ -5,7 +5,7 @@ use Rattle.art_nodes.specs.Inner as nodes
 use Rattle.art_nodes.specs.declared.pointers.OpaqueNodePtr.{OpaqueNodePtr}
 use Rattle.art_nodes.specs.declared.leaf_node.LeafNode.{LeafNode}
 use Rattle.art_arena.specs.Arena.{NodeArena, Nothing, HeldInner, HeldLeaf, held}
-use Rattle.art_arena.specs.Standing.{StandsIn, AllStandIn}
+use Rattle.art_arena.specs.Standing.{StandsIn, AllStandIn, StandsUnder, leaf_text}
 use Rattle.art_arena.specs.Trees.{Tree, Leaf, Inner, Branches, NoBranch, Branch, leaves, branch_leaves, branch_roots, root_of, IsSound, AreSound}
 use Rattle.art_arena.proofs.BelowLemmas.{tree-held}
 use Rattle.art_arena.proofs.TreeLemmas.{path-fits}
@@ -87,3 +87,13 @@ module _ {K V : Type 0} {P : ℕ} (text : K → List ℕ) (arena : NodeArena K V
       by_part : (part : Tree (OpaqueNodePtr K V P)) → root_of part ≡ at → StandsIn text arena part → ((leaf : OpaqueNodePtr K V P × List ℕ) → Contains (leaves part) leaf → Contains (leaves whole) leaf) → (x : List ℕ) × Contains (leaves whole) (at, x)
       by_part (Leaf pointer x) root stands among = (x, among (at, x) (subst (λ p. Contains {X = OpaqueNodePtr K V P × List ℕ} ((p, x) ∷ []) (at, x)) (sym root) (0, omega arith, refl)))
       by_part (Inner pointer prefix branches) root (own, holds, shows, stand) among = let one : HeldInner own ≡ HeldLeaf leaf = sym holds ∙ ap (held arena) root ∙ is in absurd (cc)
+
+  -- from a node to one of its children
+  pub to-any-under : (node : nodes.Inner (OpaqueNodePtr K V P)) (path : List ℕ) (child : OpaqueNodePtr K V P) → StandsUnder P (leaf_text text) (held arena) node whole → IsSound path whole → Contains (map (λ pair. pair.1) node.children) child → IsToAny child 0
+  to-any-under node path child stands sound inside = by_tree whole stands sound (λ leaf there. there)
+    where
+      by_tree : (tree : Tree (OpaqueNodePtr K V P)) → StandsUnder P (leaf_text text) (held arena) node tree → IsSound path tree → ((leaf : OpaqueNodePtr K V P × List ℕ) → Contains (leaves tree) leaf → Contains (leaves whole) leaf) → IsToAny child 0
+      by_tree (Leaf pointer x) stands sound among = absurd stands
+      by_tree (Inner pointer prefix branches) (shows, stand) sound among =
+          let branch = branch-of text arena (path ++ prefix) branches child stand sound.2 (subst (λ children. Contains (map (λ pair. pair.1) children) child) shows.children inside) in
+          record { part = branch.tree; path = (path ++ prefix) ++ branch.byte ∷ []; at_root = branch.at_root; stands = branch.stands; sound = branch.sound; deep = omega arith; among = λ leaf there. among leaf (branch.among leaf there) }
