@@ -25,9 +25,9 @@ module _ {K V : Type 0} {P : ℕ} (text : K → List ℕ) (arena : NodeArena K V
   branch-of path (Branch b tree others) child (stands, stand) sound inside =
       elim (Contains-append_cases (root_of tree ∷ []) (map (λ pair. pair.1) (branch_roots others)) child inside) [
         | inl first ↦ elim (Contains-push_cases [] (root_of tree) child first) [
-            | inl none ↦ absurd (omega (arith, none.1))
-            | inr same ↦ record { byte = b; tree = tree; at_root = same; stands = stands; sound = sound.0; among = λ leaf there. Contains-append_left (leaves tree) (branch_leaves others) leaf there }
-          ]
+          | inl none ↦ absurd (omega (arith, none.1))
+          | inr same ↦ record { byte = b; tree = tree; at_root = same; stands = stands; sound = sound.0; among = λ leaf there. Contains-append_left (leaves tree) (branch_leaves others) leaf there }
+        ]
         | inr later ↦
             let found = branch-of path others child stand sound.1 later in
             record { byte = found.byte; tree = found.tree; at_root = found.at_root; stands = found.stands; sound = found.sound; among = λ leaf there. Contains-append_right (leaves tree) (branch_leaves others) leaf (found.among leaf there) }

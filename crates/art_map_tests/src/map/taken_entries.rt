@@ -103,7 +103,8 @@ fn keys_and_values_are_read_alone(rt: HostRuntime) -> Result<(), Fail> {
 // The entries themselves, by value, from both ends.
 fn take_apart(rt: &impl Abort, prices: Prices) {
     let mut entries = prices.into_iter();
-    let (Some((first, least)), Some((last, greatest))) = (entries.next(), entries.next_back()) else {
+    let (Some((first, least)), Some((last, greatest))) = (entries.next(), entries.next_back())
+    else {
         panic!(rt; "no entry");
     };
     assert!(rt; first.get() == "iron" && least == 26);
