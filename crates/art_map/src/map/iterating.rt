@@ -24,7 +24,8 @@ impl<K: AsBytes + Drop, V: Drop, const PREFIX_LEN: usize> IntoIterator
     /// (from crates/art_map_tests/src/map/taken_entries.rt)
     /// ```rust
     /// let mut entries = prices.into_iter();
-    /// let (Some((first, least)), Some((last, greatest))) = (entries.next(), entries.next_back()) else {
+    /// let (Some((first, least)), Some((last, greatest))) = (entries.next(), entries.next_back())
+    /// else {
     ///     panic!(rt; "no entry");
     /// };
     /// assert!(rt; first.get() == "iron" && least == 26);
