@@ -1,3 +1,4 @@
+mod AnyLeafLemmas
 mod ArenaLemmas
 mod BelowLemmas
 mod EndLemmas

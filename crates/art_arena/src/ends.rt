@@ -1,12 +1,12 @@
-//! The first and the last leaf of a tree.
-ghost use Rattle.std.specs.Prelude.{◌≡◌, ◌≢◌, ◌<◌, ℕ, length, Some, IfSome, IfNone};
+//! The first and the last leaf of a tree, and some leaf of it.
+ghost use Rattle.std.specs.Prelude.{◌≡◌, ◌≢◌, ◌<◌, ◌≤◌, ℕ, length, map, Contains, Some, IfSome, IfNone};
 ghost use Rattle.art_header.specs.declared.node_type.NodeType.TheVariants.{Leaf};
 ghost use Rattle.art_nodes.specs.Inner.{Inner};
 ghost use Rattle.art_nodes.specs.Pointers.{node_kind, slab_key, opaque_pointer};
 ghost use Rattle.art_arena.specs.Arena.{held, HeldInner, Nothing};
 ghost use Rattle.art_arena.specs.Ends.{end_pair, IsAtEnd};
 ghost use Rattle.art_arena.specs.Links.{HoldsLeaf};
-ghost use Rattle.art_arena.specs.Standing.{TreeAt};
+ghost use Rattle.art_arena.specs.Standing.{IsLeafOf, TreeAt};
 ghost use Rattle.art_arena.specs.Trees.{leaves};
 
 use crate::arena::NodeArena;
@@ -87,6 +87,61 @@ pub fn end_leaf<K: AsBytes, V, const PREFIX_LEN: usize>(
     let mut passed: usize = 0;
     'way: loop {
         match step_to_end(arena, at, end) {
+            Some(child) => {
+                at = child;
+                passed += 1;
+            }
+            None => {
+                return at.cast().unwrap();
+            }
+        }
+    }
+}
+
+// A child of the inner node at this pointer: a leaf, where one is. A leaf has none.
+fn step_to_leaf<K, V, const PREFIX_LEN: usize>(
+    arena: &NodeArena<K, V, PREFIX_LEN>,
+    pointer: OpaqueNodePtr<K, V, PREFIX_LEN>,
+) -> Option<OpaqueNodePtr<K, V, PREFIX_LEN>>
+    requires held { held arena.now pointer ≢ Nothing }
+    requires two { (node : Inner _) → held arena.now pointer ≡ HeldInner node →
+        2 ≤ length node.children }
+    ensures child { IfSome result (λ child. (node : Inner _) ×
+        (held arena.now pointer ≡ HeldInner node) ×
+        Contains (map (λ pair. pair.1) node.children) child) }
+    ensures leaf { IfNone result (node_kind pointer ≡ Leaf) }
+{
+    let node = arena.node_ref(pointer).inner()?;
+    Some(node.any_child_prefer_leaf())
+}
+
+/// Some leaf of the tree that stands at this pointer. At each node the way goes to a child that is a
+/// leaf, where there is one.
+///
+/// A tree must stand at the pointer, sound under some path. Takes no memory, and visits at most one
+/// inner node for each byte of that leaf's key.
+///
+/// In any tree:
+///
+/// (from crates/art_tree_tests/src/tree/searches.rt)
+/// ```rust
+/// assert!(rt; arena.holds(any_leaf(arena, root)));
+/// ```
+// Out of line: within an insert it costs those that meet no long prefix.
+#[inline(never)]
+pub fn any_leaf<K: AsBytes, V, const PREFIX_LEN: usize>(
+    arena: &NodeArena<K, V, PREFIX_LEN>,
+    pointer: OpaqueNodePtr<K, V, PREFIX_LEN>,
+) -> NodePtr<PREFIX_LEN, LeafNode<K, V, PREFIX_LEN>>
+    requires tree { TreeAt K.text arena.now pointer }
+    ensures leaf { (found : TreeAt K.text arena.now pointer) → IsLeafOf found.tree result }
+    ensures held { HoldsLeaf arena.now (slab_key result) }
+{
+    let mut at = pointer;
+    // A counter that proves that the loop ends, as in `end_leaf`.
+    let mut passed: usize = 0;
+    'way: loop {
+        match step_to_leaf(arena, at) {
             Some(child) => {
                 at = child;
                 passed += 1;

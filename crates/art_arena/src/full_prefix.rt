@@ -10,7 +10,7 @@ ghost use Rattle.art_arena.specs.Standing.{IsLeafOf, TreeUnder};
 ghost use Rattle.art_arena.specs.Trees.{texts};
 
 use crate::arena::NodeArena;
-use crate::ends::{End, end_leaf};
+use crate::ends::any_leaf;
 use art_bytes::AsBytes;
 use art_nodes::{ExplicitMismatch, InnerNodeRead, NodePrefix, PrefixMatch, common_prefix_len};
 
@@ -59,8 +59,7 @@ pub trait FullPrefix<K: AsBytes, V, const PREFIX_LEN: usize>: InnerNodeRead<K, V
         if prefix_len <= PREFIX_LEN {
             return (self.stored_prefix(), None);
         }
-        let (_, child) = self.min();
-        let leaf = end_leaf(arena, child, End::First);
+        let leaf = any_leaf(arena, self.any_child_prefer_leaf());
         let text = arena.as_ref(leaf).key_ref().as_bytes();
         (&text[depth..depth + prefix_len], Some(leaf))
     }

@@ -16,7 +16,7 @@ mod reader;
 
 pub use arena::{ArenaInnerNode, ArenaNode, NodeArena};
 pub use art_nodes::{ExplicitMismatch, NodePrefix};
-pub use ends::{End, end_leaf};
+pub use ends::{End, any_leaf, end_leaf};
 pub use full_prefix::FullPrefix;
 pub use inner_ref::{AnyInnerRef, InnerRef};
 pub use leaf_links::LeafLinks;

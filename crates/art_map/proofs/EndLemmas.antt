@@ -1,17 +1,19 @@
 -- The list of the entries once the first or the last of them is gone.
-use Rattle.std.proofs.Common.{◌≡◌, ◌≢◌, ◌∙◌, ℕ, Bool, true, false, List, [], ◌∷◌, ◌++◌, All, AllPairs, Contains, Option, Some, None, Result, Ok, Err, IfOk, IfSome, IfNone, refl, sym, ap, subst, arith, nat_eq}
+use Rattle.std.proofs.Common.{◌≡◌, ◌≢◌, ◌∙◌, ℕ, zero, suc, ◌-◌, Bool, true, false, List, [], ◌∷◌, ◌++◌, length, slice_get, All, AllPairs, Contains, Option, Some, None, Result, Ok, Err, IfOk, IfSome, IfNone, refl, sym, ap, subst, arith, nat_eq}
 use Rattle.std.specs.Cmp.Lexicographic.{pointwise, nat_list_cmp_total}
+use Rattle.std.specs.Borrow.{Bor}
+use Rattle.std.specs.Option.{option_map}
 use Rattle.std.specs.Ordering.{ordering_reverse}
 use Rattle.std.specs.declared.cmp.Ordering.{Ordering}
 use Rattle.std.specs.declared.cmp.Ordering.TheVariants.{Less, Equal, Greater}
 use Rattle.std.proofs.lemmas.List.{map-append}
 use Rattle.std.proofs.lemmas.List.Kept.{AllPairs-cons}
 use Rattle.std.proofs.lemmas.List.Quantifiers.{all_pairs_push}
-use Rattle.std.proofs.lemmas.List.Elements.{All-nil, All-cons, All-append, All-map, All-weaker, Contains-append_left, Contains-append_right}
+use Rattle.std.proofs.lemmas.List.Elements.{All-nil, All-cons, All-head, All-tail, All-append, All-map, All-weaker, Contains-append_left, Contains-append_right}
 use Rattle.art_bytes.specs.Text.{text_order}
 use Rattle.art_arena.specs.Arena.{NodeArena}
 use Rattle.art_arena.specs.declared.ends.End.TheVariants.{First, Last}
-use Rattle.art_tree.specs.Dictionary.{entry_at, HasEntry, IsEntry}
+use Rattle.art_tree.specs.Dictionary.{entry_at, HasEntry, IsEmpty, IsEntry}
 use Rattle.art_tree.specs.Ends.{IsEndEntry}
 use Rattle.art_tree.specs.Entries.{AreEntries}
 use Rattle.art_tree.specs.Refusals.{texts_of}
@@ -94,3 +96,23 @@ module _ {A E : Type 0} where
   if-none-both (Ok None) P Q R f p q = f p q
   if-none-both (Ok (Some x)) P Q R f p q = tt
   if-none-both (Err e) P Q R f p q = tt
+
+-- the entry of the greatest text is the last one
+module _ {K V : Type 0} (text : K → List ℕ) where
+  last-is : (entries : List (K × V)) → AllPairs (λ a b. text_order a b ≡ Less) (texts_of text entries) → (entry : K × V) → Contains entries entry → All (λ other. text_order (text entry.0) (text other.0) ≢ Less) entries → slice_get entries (length entries - 1) ≡ Some entry
+  last-is [] ascending entry inside high = absurd (omega (arith, inside.1))
+  last-is (x ∷ []) ascending entry (zero, inside, is) high = ap Some is
+  last-is (x ∷ []) ascending entry (suc k, inside, is) high = absurd (omega (arith, inside))
+  last-is (x ∷ y ∷ rest) ascending entry (zero, inside, is) high =
+      absurd (All-head (λ other. text_order (text entry.0) (text other.0) ≢ Less) y rest (All-tail (λ other. text_order (text entry.0) (text other.0) ≢ Less) x (y ∷ rest) high)
+      (ap (λ e. text_order (text e.0) (text y.0)) (sym is) ∙ ascending 0 1 [] (omega arith) (omega arith)))
+  last-is (x ∷ y ∷ rest) ascending entry (suc k, inside, is) high =
+      let longer : length (x ∷ y ∷ rest) - 1 ≡ suc (length (y ∷ rest) - 1) = omega arith in
+      ap (slice_get (x ∷ y ∷ rest)) longer
+      ∙ last-is (y ∷ rest) (λ i j d less within. ascending (suc i) (suc j) d (omega (arith, less)) (omega (arith, within))) entry (k, omega (arith, inside), is) (All-tail (λ other. text_order (text entry.0) (text other.0) ≢ Less) x (y ∷ rest) high)
+
+  module _ {P : ℕ} (arena : NodeArena K V P) (entries : List (K × V)) (are : AreEntries text arena entries) (members : (entry : K × V) → IsEntry text arena entry → Contains entries entry) (empty : IsEmpty text arena → entries ≡ []) where
+    pub last-found : (o : Option (Bor K × Bor V)) → IfSome o (λ (key, value). IsEntry text arena (key.now, value.now)) → IfSome o (λ (key, value). (other : List ℕ) → HasEntry text arena other → text_order (text key.now) other ≢ Less) → IfNone o (IsEmpty text arena) → option_map (λ (key, value). (key.now, value.now)) o ≡ slice_get entries (length entries - 1)
+    last-found None is high none = sym (ap (λ es. slice_get es (length es - 1)) (empty none))
+    last-found (Some (key, value)) is high none =
+        sym (last-is entries are.ascending (key.now, value.now) (members (key.now, value.now) is) (All-weaker (IsEntry text arena) (λ other. text_order (text key.now) (text other.0) ≢ Less) (λ other there. high (text other.0) (λ gone. let wrong : Some other ≡ None = sym there ∙ gone in absurd (cc))) entries are.each))

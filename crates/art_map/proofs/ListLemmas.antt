@@ -27,6 +27,12 @@ pub slot-of : {K V : Type 0} {P : ℕ} (o : Option (LeafNode K V P)) (leaf : Lea
 slot-of None leaf is = absurd (cc)
 slot-of (Some other) leaf is = cc
 
+pub slots-same : {K V : Type 0} {P : ℕ} (a b : Option (LeafNode K V P)) → held_leaf {H = OpaqueNodePtr K V P} a ≡ held_leaf b → a ≡ b
+slots-same None None same = refl
+slots-same None (Some b) same = absurd (cc)
+slots-same (Some a) None same = absurd (cc)
+slots-same (Some a) (Some b) same = cc
+
 pub text-itself : (a : List ℕ) → pointwise nat_eq a a ≡ true
 text-itself a = (bytes_decides a a).1 refl
 

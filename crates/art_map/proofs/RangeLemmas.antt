@@ -1,5 +1,5 @@
 -- The leaves between two places in the order of texts, and what they hold.
-use Rattle.std.proofs.Common.{◌≡◌, ◌≢◌, ◌∙◌, ℕ, ◌-◌, ◌⊎◌, cond, Bool, true, false, not, ◌&&◌, List, [], ◌∷◌, ◌++◌, length, length-append, map, filter, slice_get, All, Option, Some, None, refl, sym, ap, subst, inl, inr, arith, get_or, append_assoc, append-nil}
+use Rattle.std.proofs.Common.{◌≡◌, ◌≢◌, ◌∙◌, ℕ, ◌⊎◌, cond, Bool, true, false, not, ◌&&◌, List, [], ◌∷◌, ◌++◌, map, filter, slice_get, All, Option, Some, None, refl, sym, ap, subst, inl, inr, get_or, append_assoc, append-nil}
 use Rattle.std.specs.Option.{option_map}
 use Rattle.std.proofs.lemmas.List.{map-append}
 use Rattle.std.proofs.lemmas.Option.{same_Some}
@@ -18,7 +18,7 @@ use Rattle.art_map.specs.Cuts.{is_before, is_between, AreOn, IsFirstAfter, IsLas
 use Rattle.art_map.specs.LeafEntries.{keys_of, HoldsEntryOf, AllHold}
 use Rattle.art_map.specs.Runs.{EndsIn, LeadsOver, leaf_entry, entries_under, run_of}
 use Rattle.art_map.specs.declared.cut.Side.{Side}
-use Rattle.art_map.proofs.RunLemmas.{ends-push, entries-cons, run-is}
+use Rattle.art_map.proofs.RunLemmas.{ends-push, entries-cons, run-is, spelled-links}
 
 pub keys-append : {K V : Type 0} {P : ℕ} (a b : List (OpaqueNodePtr K V P × List ℕ)) → keys_of (a ++ b) ≡ keys_of a ++ keys_of b
 keys-append a b = ap (map opaque_key) (map-append (λ leaf. leaf.0) a b) ∙ map-append opaque_key (map (λ leaf. leaf.0) a) (map (λ leaf. leaf.0) b)
@@ -131,21 +131,13 @@ module _ {K V : Type 0} {P : ℕ} (text : K → List ℕ) (arena : NodeArena K V
         let rest = leave-all pairs hold.1 (All-tail (λ leaf. test leaf.1 ≡ false) pair pairs all) in
         ap kept cons ∙ ap (λ b. cond b (leaf_entry hold.0.leaf ∷ kept (held_by pairs)) (kept (held_by pairs))) here ∙ rest
 
-    -- where the test fails up to one part, and holds from it on, or the other way round
+    -- where the test fails up to one part, and holds from it on
     kept-right : (whole left right : List (OpaqueNodePtr K V P × List ℕ)) → whole ≡ left ++ right → AllHold text arena whole → All (λ leaf. test leaf.1 ≡ false) left → All (λ leaf. test leaf.1 ≡ true) right → kept (held_by whole) ≡ held_by right
     kept-right whole left right is hold out inside =
         let parts = subst (AllHold text arena) is hold in
         ap (λ pairs. kept (held_by pairs)) is ∙ ap kept (held-append left right)
         ∙ filter-append (λ entry. test (text entry.0)) (held_by left) (held_by right)
         ∙ ap (λ es. es ++ kept (held_by right)) (leave-all left (hold-left left right parts) out) ∙ keep-all right (hold-right left right parts) inside
-
-    kept-left : (whole left right : List (OpaqueNodePtr K V P × List ℕ)) → whole ≡ left ++ right → AllHold text arena whole → All (λ leaf. test leaf.1 ≡ true) left → All (λ leaf. test leaf.1 ≡ false) right → kept (held_by whole) ≡ held_by left
-    kept-left whole left right is hold inside out =
-        let parts = subst (AllHold text arena) is hold in
-        ap (λ pairs. kept (held_by pairs)) is ∙ ap kept (held-append left right)
-        ∙ filter-append (λ entry. test (text entry.0)) (held_by left) (held_by right)
-        ∙ ap (λ es. kept (held_by left) ++ es) (leave-all right (hold-right left right parts) out)
-        ∙ append-nil (kept (held_by left)) ∙ keep-all left (hold-left left right parts) inside
 
   module _ (start_side : Side) (start : List ℕ) (end_side : Side) (end : List ℕ) where
     abbrev passes : K × V → Bool
@@ -215,8 +207,8 @@ module _ {K V : Type 0} {P : ℕ} (text : K → List ℕ) (arena : NodeArena K V
               let there = spells-drop None (keys_of L) (keys_of mid ++ keys_of B) (subst (SpellsAfter arena None) keys-whole spelled.spelled) in
               record {
                 before = there.0;
-                after = keys_of B;
-                spelled = there.1;
+                after = slice_get (keys_of B) 0;
+                linked = spelled-links arena there.0 (keys_of mid) (keys_of B) there.1;
                 distinct = distinct-left (keys_of mid) (keys_of B) (distinct-right (keys_of L) (keys_of mid ++ keys_of B) (subst AreDistinct keys-whole spelled.distinct));
                 rest = keys_of aligned.0;
                 begins = refl;
@@ -286,21 +278,10 @@ module _ {K V : Type 0} {P : ℕ} (text : K → List ℕ) (arena : NodeArena K V
             (range-is text arena start_side start end_side end tree hold low.1 low.2 high.1 high.2 f b low.3 low.4 low.5 high.3 high.4 high.5 spelled inside
             ∙ ap (entries_under arena) (sym (run-is arena (slab_key front) (slab_key back) range-run.0 range-run.1)))
 
--- a filter of one list behind another, and the last member of such a list
-last-of : {X : Type 0} (xs : List X) (x : X) → slice_get (xs ++ x ∷ []) (length (xs ++ x ∷ []) - 1) ≡ Some x
-last-of {X = X} xs x = ap (slice_get (xs ++ x ∷ [])) (omega (arith, length-append xs (x ∷ []))) ∙ behind xs
-  where
-    behind : (xs : List X) → slice_get (xs ++ x ∷ []) (length xs) ≡ Some x
-    behind [] = refl
-    behind (y ∷ xs) = behind xs
-
 module _ {K V : Type 0} {P : ℕ} (text : K → List ℕ) (arena : NodeArena K V P) (tree : Tree (OpaqueNodePtr K V P))
     (hold : AllHold text arena (leaves tree)) (are : held_by text arena (leaves tree) ≡ entries_of text arena) (side : Side) (key : List ℕ) where
   abbrev from-place : List (K × V) → List (K × V)
   from-place entries = kept text arena (λ x. not (is_before side key x)) entries
-
-  abbrev to-place : List (K × V) → List (K × V)
-  to-place entries = kept text arena (is_before side key) entries
 
   turned : (before : Bool) (pairs : List (OpaqueNodePtr K V P × List ℕ)) → AreOn side key before pairs → All (λ leaf. not (is_before side key leaf.1) ≡ not before) pairs
   turned before pairs on = All-weaker (λ leaf. is_before side key leaf.1 ≡ before) (λ leaf. not (is_before side key leaf.1) ≡ not before) (λ leaf is. ap not is) pairs on
@@ -309,11 +290,6 @@ module _ {K V : Type 0} {P : ℕ} (text : K → List ℕ) (arena : NodeArena K V
   none-after before =
       ap (λ es. slice_get (from-place es) 0) (sym are)
       ∙ ap (λ es. slice_get es 0) (leave-all text arena (λ x. not (is_before side key x)) (leaves tree) hold (turned true (leaves tree) before))
-
-  pub none-before : IsLastBefore side key (leaves tree) None → slice_get (to-place (entries_of text arena)) (length (to-place (entries_of text arena)) - 1) ≡ None
-  none-before past =
-      let none = ap to-place (sym are) ∙ leave-all text arena (is_before side key) (leaves tree) hold past in
-      ap (λ es. slice_get es (length es - 1)) none
 
   module _ (at : NodePtr P (LeafNode K V P)) where
     pub first-after : (low : IsFirstAfter side key (leaves tree) (Some (leaf_pointer at))) → slice_get (from-place (entries_of text arena)) 0 ≡ option_map leaf_entry (leaf_at arena (slab_key at))
@@ -324,16 +300,6 @@ module _ {K V : Type 0} {P : ℕ} (text : K → List ℕ) (arena : NodeArena K V
         ∙ ap (λ es. slice_get es 0) (kept-right text arena (λ x. not (is_before side key x)) (leaves tree) left (here ∷ right) is hold (turned true left before) (turned false (here ∷ right) after)
         ∙ entries-cons arena (slab_key at) (keys_of right) holds.leaf holds.at)
         ∙ sym (ap (option_map leaf_entry) holds.at)
-
-    pub last-before : (high : IsLastBefore side key (leaves tree) (Some (leaf_pointer at))) → slice_get (to-place (entries_of text arena)) (length (to-place (entries_of text arena)) - 1) ≡ option_map leaf_entry (leaf_at arena (slab_key at))
-    last-before (x, left, right, is, before, after) =
-        let here : OpaqueNodePtr K V P × List ℕ = (leaf_pointer at, x) in
-        let holds = holds-one text arena (leaves tree) left right here is hold in
-        let earlier = left ++ here ∷ [] in
-        let all : to-place (entries_of text arena) ≡ held_by text arena left ++ leaf_entry holds.leaf ∷ [] =
-        ap to-place (sym are) ∙ kept-left text arena (is_before side key) (leaves tree) earlier right (is ∙ sym (append_assoc left (here ∷ []) right)) hold before after
-        ∙ held-append text arena left (here ∷ []) ∙ ap (λ es. held_by text arena left ++ es) (entries-cons arena (slab_key at) [] holds.leaf holds.at) in
-        ap (λ es. slice_get es (length es - 1)) all ∙ last-of (held_by text arena left) (leaf_entry holds.leaf) ∙ sym (ap (option_map leaf_entry) holds.at)
 
 -- key and value of a leaf make its entry
 pub entry-of-parts : {K V : Type 0} {P : ℕ} (o : Option (LeafNode K V P)) (key : K) (value : V) → option_map leaf_key o ≡ Some key → option_map leaf_value o ≡ Some value → Some (key, value) ≡ option_map leaf_entry o

@@ -5,6 +5,7 @@
 
 mod cut;
 mod debug;
+mod into_iter;
 mod iter;
 mod keys;
 mod leaf_entries;
@@ -13,6 +14,7 @@ mod nearest;
 mod range;
 mod set;
 
+pub use into_iter::{IntoIter, IntoKeys, OwnedKeys, OwnedRun};
 pub use iter::{HasRuns, Iter, Run};
 pub use keys::{Keys, RunKeys, RunValues, Values};
 pub use map::{ArtMap, DEFAULT_PREFIX_LEN, HasEntries, MapOver};

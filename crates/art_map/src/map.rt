@@ -4,6 +4,7 @@ ghost use Rattle.art_tree.specs.Refusals.{texts_of, IsDue};
 
 mod changes;
 mod ends;
+mod iterating;
 mod laws;
 mod lending;
 mod reading;

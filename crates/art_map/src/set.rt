@@ -8,6 +8,7 @@ ghost use Rattle.art_tree.specs.Dictionary.{Clashes};
 ghost use Rattle.art_tree.specs.Refusals.{texts_of, IsDue};
 ghost use Rattle.art_map.specs.Sets.{HasKey, put_key, without_key, keys_above, keys_from, keys_within, keys_with_prefix, IsKeyRefused, KeyMayEnter};
 
+use crate::into_iter::{IntoKeys, keys_taken};
 use crate::keys::{Keys, keys_of};
 use crate::map::{ArtMap, HasEntries, MapOver};
 use art_bytes::{AsBytes, NoPrefixesBytes};
@@ -232,6 +233,63 @@ impl<K: AsBytes, const PREFIX_LEN: usize> ArtSet<K, PREFIX_LEN> {
         key_alone(self.entries.upper_bound(key))
     }
 
+    /// Whether each key of this set has the bytes of a key of the other one. Visits, for each key of this
+    /// set, at most one node more than it has bytes. Takes no memory.
+    ///
+    /// The sets `{iron, tin}` and `{iron, tin, zinc}`:
+    ///
+    /// (from crates/art_map_tests/src/map/set_examples.rt)
+    /// ```rust
+    /// assert!(rt; few.is_subset(&many) && !many.is_subset(&few));
+    /// ```
+    pub fn is_subset(&self, other: &Self) -> bool
+        ensures { IsTrue result ↔ All (λ key. HasKey K.text other.now (K.text key)) self.now }
+    {
+        let mut keys = self.iter();
+        'each: while let Some(key) = keys.next() {
+            if !other.contains(key) {
+                return false;
+            }
+        }
+        true
+    }
+
+    /// Whether each key of the other set has the bytes of a key of this one. Costs as much as
+    /// [`is_subset`](Self::is_subset) of the other set. Takes no memory.
+    ///
+    /// The sets `{iron, tin}` and `{iron, tin, zinc}`:
+    ///
+    /// (from crates/art_map_tests/src/map/set_examples.rt)
+    /// ```rust
+    /// assert!(rt; many.is_superset(&few) && !few.is_superset(&many));
+    /// ```
+    pub fn is_superset(&self, other: &Self) -> bool
+        ensures { IsTrue result ↔ All (λ key. HasKey K.text self.now (K.text key)) other.now }
+    {
+        other.is_subset(self)
+    }
+
+    /// Whether no key of this set has the bytes of a key of the other one. Costs as much as
+    /// [`is_subset`](Self::is_subset). Takes no memory.
+    ///
+    /// The sets `{iron, tin}` and `{iron, tin, zinc}`:
+    ///
+    /// (from crates/art_map_tests/src/map/set_examples.rt)
+    /// ```rust
+    /// assert!(rt; !few.is_disjoint(&many) && few.is_disjoint(&none));
+    /// ```
+    pub fn is_disjoint(&self, other: &Self) -> bool
+        ensures { IsTrue result ↔ All (λ key. ¬ HasKey K.text other.now (K.text key)) self.now }
+    {
+        let mut keys = self.iter();
+        'each: while let Some(key) = keys.next() {
+            if other.contains(key) {
+                return false;
+            }
+        }
+        true
+    }
+
     /// Reserves memory for `additional` more keys, as [`ArtMap::reserve`] does for entries.
     ///
     /// (from crates/art_map_tests/src/map/set_examples.rt)
@@ -409,6 +467,45 @@ impl<K: AsBytes + Drop, const PREFIX_LEN: usize> ArtSet<K, PREFIX_LEN> {
         ensures { self.new ≡ [] }
     {
         self.entries.clear();
+    }
+}
+
+impl<K: AsBytes + Drop, const PREFIX_LEN: usize> IntoIterator for ArtSet<K, PREFIX_LEN> {
+    type Item = K;
+
+    type IntoIter = IntoKeys<K, (), PREFIX_LEN>;
+
+    ghost into_iter_gives = { λ set keys. keys ≡ set };
+
+    /// The keys themselves, in ascending order of their bytes, and from the back in descending order.
+    /// Costs as much as [`ArtMap::iter`]. Takes no memory and never fails.
+    ///
+    /// A set with `iron` and `tin`:
+    ///
+    /// (from crates/art_map_tests/src/map/set_examples.rt)
+    /// ```rust
+    /// let mut keys = names.into_iter();
+    /// let (Some(last), Some(first)) = (keys.next_back(), keys.next()) else {
+    ///     panic!(rt; "no key");
+    /// };
+    /// assert!(rt; last.get() == "tin" && first.get() == "iron");
+    /// ```
+    fn into_iter(self) -> IntoKeys<K, (), PREFIX_LEN> {
+        let SetOver { entries } = self;
+        keys_taken(entries.into_iter())
+    }
+}
+
+impl<'a, K: AsBytes, const PREFIX_LEN: usize> IntoIterator for &'a ArtSet<K, PREFIX_LEN> {
+    type Item = &'a K;
+
+    type IntoIter = Keys<'a, K, (), PREFIX_LEN>;
+
+    ghost into_iter_gives = { λ set keys. keys ≡ set.now };
+
+    /// As [`iter`](ArtSet::iter).
+    fn into_iter(self) -> Keys<'a, K, (), PREFIX_LEN> {
+        self.iter()
     }
 }
 

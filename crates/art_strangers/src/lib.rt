@@ -26,6 +26,7 @@ pub mod map_numbers;
 pub mod map_signed;
 pub mod map_str;
 pub mod map_strings;
+pub mod map_taken;
 pub mod map_tuples;
 pub mod map_words;
 pub mod nodes;

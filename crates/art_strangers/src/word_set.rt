@@ -47,6 +47,14 @@ impl Words {
         count
     }
 
+    pub fn has_all_of(&self, other: &Words) -> bool {
+        other.words.is_subset(&self.words)
+    }
+
+    pub fn shares_none_with(&self, other: &Words) -> bool {
+        self.words.is_disjoint(&other.words)
+    }
+
     pub fn take_last(&mut self) -> Result<Option<String>, AllocError> {
         self.words.pop_last()
     }

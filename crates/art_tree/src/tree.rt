@@ -168,6 +168,14 @@ impl<K: AsBytes, V, const PREFIX_LEN: usize> ArtTree<K, V, PREFIX_LEN> {
     {
         self.root
     }
+
+    /// The arena alone, with all nodes of the tree. Takes constant time and no memory.
+    pub fn into_arena(self) -> NodeArena<K, V, PREFIX_LEN>
+        ensures { result ≡ self.arena }
+    {
+        let Rooted { arena, root: _ } = self;
+        arena
+    }
 }
 
 impl<K: AsBytes + Drop, V: Drop, const PREFIX_LEN: usize> ArtTree<K, V, PREFIX_LEN> {

@@ -9,9 +9,10 @@ use crate::cut::Side;
 use crate::iter::{Iter, run_between};
 use crate::keys::{Keys, Values, keys_of, values_of};
 use crate::map::ArtMap;
-use crate::nearest::{first_entry_after, last_entry_before};
+use crate::nearest::first_entry_after;
 use crate::range::ends_between;
 use art_bytes::AsBytes;
+use art_tree::laws::entries_are_one_list;
 use std::ops::Bound;
 
 // The place of a start bound.
@@ -165,12 +166,13 @@ impl<K: AsBytes, V, const PREFIX_LEN: usize> ArtMap<K, V, PREFIX_LEN> {
     }
 
     /// The entry with the greatest key, or None where there is no entry. Visits the nodes on the way to
-    /// the first entry and to it, at most one for each byte of their keys. Takes no memory.
+    /// it, at most one for each byte of its key and one more. Takes no memory.
     pub fn last(&self) -> Option<(&K, &V)>
         ensures { option_map (λ (key, value). (key.now, value.now)) result
             ≡ slice_get self.now (length self.now - 1) }
     {
-        last_entry_before(&self.tree, Side::AfterBegun, &[])
+        entries_are_one_list::<K, V, PREFIX_LEN>();
+        self.tree.last()
     }
 
     /// The first entry whose key is not below this one, or None where all are below it.

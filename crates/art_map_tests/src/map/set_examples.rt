@@ -87,3 +87,48 @@ fn keys_that_ascend_make_a_set(rt: HostRuntime) -> Result<(), Fail> {
     assert!(rt; names.len() == 2 && names.contains(b"tin"));
     Ok(())
 }
+
+fn take_names_apart(rt: &impl Abort, names: Names) {
+    let mut count: usize = 0;
+    for name in &names {
+        assert!(rt; name.get() == "iron" || name.get() == "tin");
+        count = count.wrapping_add(1);
+    }
+    assert!(rt; count == 2);
+    let mut keys = names.into_iter();
+    let (Some(last), Some(first)) = (keys.next_back(), keys.next()) else {
+        panic!(rt; "no key");
+    };
+    assert!(rt; last.get() == "tin" && first.get() == "iron");
+    assert!(rt; keys.next().is_none() && keys.next_back().is_none());
+}
+
+#[test]
+fn a_set_is_taken_apart(rt: HostRuntime) -> Result<(), Fail> {
+    let alloc = rt.alloc();
+    let keys = vec![in alloc; (StrKey::new("iron"), ()), (StrKey::new("tin"), ())]?;
+    let names = Names::from_ascending(alloc, keys).map_err(|fault| fault.refusal)?;
+    take_names_apart(&rt, names);
+    Ok(())
+}
+
+fn names_of(alloc: Global, names: &[&'static str]) -> Result<Names, Fail> {
+    let mut set = ArtSet::new(alloc);
+    for name in names {
+        set.insert(StrKey::new(name))
+            .map_err(|fault| fault.refusal)?;
+    }
+    Ok(set)
+}
+
+#[test]
+fn sets_are_compared(rt: HostRuntime) -> Result<(), Fail> {
+    let few = names_of(rt.alloc(), &["tin", "iron"])?;
+    let many = names_of(rt.alloc(), &["zinc", "iron", "tin"])?;
+    let none = names_of(rt.alloc(), &[])?;
+    assert!(rt; few.is_subset(&many) && !many.is_subset(&few));
+    assert!(rt; many.is_superset(&few) && !few.is_superset(&many));
+    assert!(rt; !few.is_disjoint(&many) && few.is_disjoint(&none));
+    assert!(rt; none.is_subset(&few) && none.is_disjoint(&few) && few.is_subset(&few));
+    Ok(())
+}

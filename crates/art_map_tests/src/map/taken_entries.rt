@@ -99,3 +99,55 @@ fn keys_and_values_are_read_alone(rt: HostRuntime) -> Result<(), Fail> {
     read_keys_and_values(&rt, &prices);
     Ok(())
 }
+
+// The entries themselves, by value, from both ends.
+fn take_apart(rt: &impl Abort, prices: Prices) {
+    let mut entries = prices.into_iter();
+    let (Some((first, least)), Some((last, greatest))) = (entries.next(), entries.next_back())
+    else {
+        panic!(rt; "no entry");
+    };
+    assert!(rt; first.get() == "iron" && least == 26);
+    assert!(rt; last.get() == "zinc" && greatest == 30);
+    let (Some((next, price)), Some((one_left, _))) = (entries.next_back(), entries.next()) else {
+        panic!(rt; "no entry between");
+    };
+    assert!(rt; next.get() == "titanium" && price == 22);
+    assert!(rt; one_left.get() == "tin");
+    assert!(rt; entries.next().is_none() && entries.next_back().is_none());
+}
+
+fn sum_of_prices(prices: &Prices) -> u32 {
+    let mut sum: u32 = 0;
+    for (_, price) in prices {
+        sum = sum.saturating_add(*price);
+    }
+    sum
+}
+
+fn sum_of_taken(prices: Prices) -> u32 {
+    let mut sum: u32 = 0;
+    for (_, price) in prices {
+        sum = sum.saturating_add(price);
+    }
+    sum
+}
+
+#[test]
+fn a_map_is_taken_apart(rt: HostRuntime) -> Result<(), Fail> {
+    let mut prices = ArtMap::new(rt.alloc());
+    insert_prices(&mut prices)?;
+    take_apart(&rt, prices);
+    let empty = Prices::new(rt.alloc());
+    assert!(rt; empty.into_iter().next().is_none());
+    Ok(())
+}
+
+#[test]
+fn a_loop_goes_over_a_map(rt: HostRuntime) -> Result<(), Fail> {
+    let mut prices = ArtMap::new(rt.alloc());
+    insert_prices(&mut prices)?;
+    assert!(rt; sum_of_prices(&prices) == 128);
+    assert!(rt; sum_of_taken(prices) == 128);
+    Ok(())
+}

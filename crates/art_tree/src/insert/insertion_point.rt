@@ -6,7 +6,7 @@ ghost use Rattle.art_arena.specs.Trees.{texts};
 ghost use Rattle.art_tree.specs.InsertionPoints.{Belongs, HasLeafText, IsDescentIn, IsSpotIn, child_after, prefix_of, toward};
 ghost use Rattle.art_tree.specs.Search.{HasTree, EachTree, leaf_pointer};
 
-use art_arena::{End, NodeArena, end_leaf};
+use art_arena::{NodeArena, any_leaf};
 use art_bytes::AsBytes;
 use art_nodes::{InnerNodeRead, LeafNode, NodePtr, OpaqueNodePtr, common_prefix_len};
 
@@ -111,7 +111,7 @@ pub fn text_toward<'a, K: AsBytes, V, const PREFIX_LEN: usize>(
                 left = after;
             }
             None => {
-                let leaf = end_leaf(arena, at, End::First);
+                let leaf = any_leaf(arena, at);
                 return arena.as_ref(leaf).key_ref().as_bytes();
             }
         }

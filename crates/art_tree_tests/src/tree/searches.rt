@@ -3,7 +3,7 @@ ghost use Rattle.art_tree.specs.Search.{HasTree};
 
 use super::Answer::{Child, Normal, Nothing, Root};
 use super::*;
-use art_tree::{End, end_leaf, text_toward};
+use art_tree::{End, any_leaf, end_leaf, text_toward};
 
 // The searches for these keys have these results in the tree of these texts.
 fn check_texts<'a, const PREFIX_LEN: usize>(
@@ -150,6 +150,7 @@ fn check_ends<K: AsBytes, const PREFIX_LEN: usize>(
     assert!(rt; arena.holds(leaf) && *arena.as_value_ref(leaf) == first);
     let leaf = end_leaf(arena, root, End::Last);
     assert!(rt; arena.holds(leaf) && *arena.as_value_ref(leaf) == last);
+    assert!(rt; arena.holds(any_leaf(arena, root)));
 }
 
 // The key bytes in the direction of these are those.

@@ -17,31 +17,31 @@ returns-then-prefix_len-clause-shared g c = λ below.
     let is = IsSharedFrom-stored g.row.PREFIX_LEN (leaf_text g.K.AsBytes.text) (held c.args.arena.now) node below.tree below.path c.args.depth below.stands below.sound below.deep (omega (arith, c.if-prefix_len.true, c.prefix_len-prefix_len.ensures.value)) in
     (is.0, is.1, c.stored_prefix.ensures.stored ∙ is.2)
 
-pub end_leaf-leaf-requires : goal.end_leaf-leaf-requires
-end_leaf-leaf-requires g c =
+pub any_leaf-leaf-requires : goal.any_leaf-leaf-requires
+any_leaf-leaf-requires g c =
     let below = c.requires.tree (omega (arith, c.if-prefix_len.false, c.prefix_len-prefix_len.ensures.value)) in
-    let at : TreeAt g.K.AsBytes.text c.args.arena.now c.min.result.1 = child_tree g.K.AsBytes.text c.args.arena.now (g.Self.InnerNodeRead.inner c.args.self.now) c.args.depth c.min.result c.min.ensures.pair below in
+    let at : TreeAt g.K.AsBytes.text c.args.arena.now c.any_child_prefer_leaf.result = child_tree g.K.AsBytes.text c.args.arena.now (g.Self.InnerNodeRead.inner c.args.self.now) c.args.depth c.any_child_prefer_leaf.result c.any_child_prefer_leaf.ensures below in
     search rules
 
 pub overflow_add-result : goal.overflow_add-result
 overflow_add-result g c =
     let below = c.requires.tree (omega (arith, c.if-prefix_len.false, c.prefix_len-prefix_len.ensures.value)) in
-    let cut = prefix_in_leaf g.K.AsBytes.text c.args.arena.now (g.Self.InnerNodeRead.inner c.args.self.now) c.args.depth c.min.result c.min.ensures.pair c.end_leaf-leaf.result c.end_leaf-leaf.ensures.at_end below c.as_ref.result.now c.prefix_len-prefix_len.result c.as_bytes-text.result.now c.as_ref.ensures (c.as_bytes-text.ensures.text ∙ ap g.K.AsBytes.text c.key_ref.ensures) c.prefix_len-prefix_len.ensures.value in
+    let cut = prefix_in_leaf g.K.AsBytes.text c.args.arena.now (g.Self.InnerNodeRead.inner c.args.self.now) c.args.depth c.any_child_prefer_leaf.result c.any_child_prefer_leaf.ensures c.any_leaf-leaf.result c.any_leaf-leaf.ensures.leaf below c.as_ref.result.now c.prefix_len-prefix_len.result c.as_bytes-text.result.now c.as_ref.ensures (c.as_bytes-text.ensures.text ∙ ap g.K.AsBytes.text c.key_ref.ensures) c.prefix_len-prefix_len.ensures.value in
     omega (arith, cut.fits)
 
 pub slice_bounds-result-end : goal.slice_bounds-result-end
 slice_bounds-result-end g c =
     let below = c.requires.tree (omega (arith, c.if-prefix_len.false, c.prefix_len-prefix_len.ensures.value)) in
-    let cut = prefix_in_leaf g.K.AsBytes.text c.args.arena.now (g.Self.InnerNodeRead.inner c.args.self.now) c.args.depth c.min.result c.min.ensures.pair c.end_leaf-leaf.result c.end_leaf-leaf.ensures.at_end below c.as_ref.result.now c.prefix_len-prefix_len.result c.as_bytes-text.result.now c.as_ref.ensures (c.as_bytes-text.ensures.text ∙ ap g.K.AsBytes.text c.key_ref.ensures) c.prefix_len-prefix_len.ensures.value in
+    let cut = prefix_in_leaf g.K.AsBytes.text c.args.arena.now (g.Self.InnerNodeRead.inner c.args.self.now) c.args.depth c.any_child_prefer_leaf.result c.any_child_prefer_leaf.ensures c.any_leaf-leaf.result c.any_leaf-leaf.ensures.leaf below c.as_ref.result.now c.prefix_len-prefix_len.result c.as_bytes-text.result.now c.as_ref.ensures (c.as_bytes-text.ensures.text ∙ ap g.K.AsBytes.text c.key_ref.ensures) c.prefix_len-prefix_len.ensures.value in
     omega (arith, cut.fits)
 
 pub returns-clause-shared : goal.returns-clause-shared
 returns-clause-shared g c = λ below.
-    (prefix_in_leaf g.K.AsBytes.text c.args.arena.now (g.Self.InnerNodeRead.inner c.args.self.now) c.args.depth c.min.result c.min.ensures.pair c.end_leaf-leaf.result c.end_leaf-leaf.ensures.at_end below c.as_ref.result.now c.prefix_len-prefix_len.result c.as_bytes-text.result.now c.as_ref.ensures (c.as_bytes-text.ensures.text ∙ ap g.K.AsBytes.text c.key_ref.ensures) c.prefix_len-prefix_len.ensures.value).shared
+    (prefix_in_leaf g.K.AsBytes.text c.args.arena.now (g.Self.InnerNodeRead.inner c.args.self.now) c.args.depth c.any_child_prefer_leaf.result c.any_child_prefer_leaf.ensures c.any_leaf-leaf.result c.any_leaf-leaf.ensures.leaf below c.as_ref.result.now c.prefix_len-prefix_len.result c.as_bytes-text.result.now c.as_ref.ensures (c.as_bytes-text.ensures.text ∙ ap g.K.AsBytes.text c.key_ref.ensures) c.prefix_len-prefix_len.ensures.value).shared
 
 pub returns-clause-leaf_below : goal.returns-clause-leaf_below
 returns-clause-leaf_below g c = λ below.
-    leaf_below g.K.AsBytes.text c.args.arena.now (g.Self.InnerNodeRead.inner c.args.self.now) c.args.depth c.min.result c.min.ensures.pair c.end_leaf-leaf.result c.end_leaf-leaf.ensures.at_end below
+    leaf_below g.K.AsBytes.text c.args.arena.now (g.Self.InnerNodeRead.inner c.args.self.now) c.args.depth c.any_child_prefer_leaf.result c.any_child_prefer_leaf.ensures c.any_leaf-leaf.result c.any_leaf-leaf.ensures.leaf below
 
 pub returns-then-prefix_len-clause-leaf_below : goal.returns-then-prefix_len-clause-leaf_below
 returns-then-prefix_len-clause-leaf_below g c = λ _. tt

@@ -3,12 +3,11 @@ use Rattle.art_nodes.specs.Leaf.{leaf_key}
 use Rattle.art_arena.specs.Arena.{held}
 use Rattle.art_arena.specs.Standing.{TreeAt}
 use Rattle.art_arena.specs.Trees.{leaves}
-use Rattle.art_arena.specs.declared.ends.End.TheVariants.{First}
 use Rattle.art_tree.specs.InsertionPoints.{HasLeafText}
 use Rattle.art_tree.specs.Search.{leaf_pointer}
 use Rattle.art_tree.proofs.InsertLemmas.NodeLemmas.{leaf-pointer-fits, one-leaf}
 use Rattle.art_tree.proofs.InsertLemmas.TowardLemmas.{IsToward, toward-text}
-use Rattle.art_tree.proofs.SharedLemmas.DictionaryLemmas.{end-in, in-map, leaf-held-in}
+use Rattle.art_tree.proofs.SharedLemmas.DictionaryLemmas.{in-map, leaf-held-in}
 use Rattle.art_tree.proofs.insert.insertion_point.text_toward.Goals as goal
 
 pub way-init : goal.way-init
@@ -25,8 +24,8 @@ way-preserved g c = λ found.
     let next = c.in-Some.ensures.child on.below in
     record { below = next.0; same = on.same ∙ next.1 }
 
-pub end_leaf-leaf-requires : goal.end_leaf-leaf-requires
-end_leaf-leaf-requires g c =
+pub any_leaf-leaf-requires : goal.any_leaf-leaf-requires
+any_leaf-leaf-requires g c =
     let here : TreeAt g.K.AsBytes.text c.args.arena.now c.way.at = (c.way.invariant c.requires.tree).below in
     assumption leaf-pointer-fits
 
@@ -35,12 +34,11 @@ returns-in-None-clause-direction g c = λ found.
     let text = g.K.AsBytes.text in
     let arena = c.args.arena.now in
     let on = c.way.invariant found in
-    let leaf = leaf_pointer c.end_leaf-leaf.result in
-    let at_end = c.end_leaf-leaf.ensures.at_end on.below in
-    let inside = end-in First (leaves on.below.tree) leaf at_end in
-    let there = leaf-held-in text arena on.below.tree on.below.stands leaf at_end.0 inside in
+    let leaf = leaf_pointer c.any_leaf-leaf.result in
+    let (x, inside) = c.any_leaf-leaf.ensures.leaf on.below in
+    let there = leaf-held-in text arena on.below.tree on.below.stands leaf x inside in
     let one = one-leaf (held arena leaf) c.as_ref.result.now there.0 c.as_ref.ensures there.1 in
-    let text_is : c.as_bytes.result.now ≡ at_end.0 = c.as_bytes.ensures.text ∙ ap text c.key_ref.ensures ∙ ap (λ l. text (leaf_key l)) one ∙ there.2 in
+    let text_is : c.as_bytes.result.now ≡ x = c.as_bytes.ensures.text ∙ ap text c.key_ref.ensures ∙ ap (λ l. text (leaf_key l)) one ∙ there.2 in
     subst (λ tree. HasLeafText tree c.as_bytes.result.now) (sym (on.same ∙ c.in-None.ensures.none on.below))
     (subst (HasLeafText on.below.tree) (sym text_is) (leaf, inside))
 

@@ -1,0 +1,213 @@
+//! The entries of a map that is taken apart, one by one.
+ghost use Rattle.std.specs.Prelude.{◌≡◌, ◌∷◌, ◌++◌, [], Some, map};
+ghost use Rattle.std.specs.Iterator.{YieldsFirst, YieldsLast, item_count};
+ghost use Rattle.art_map.specs.Runs.{run_of, IsRun};
+
+use crate::iter::HasRuns;
+use art_arena::NodeArena;
+use art_nodes::{LeafNode, NodePtr};
+use std::iter::FusedIterator;
+use std::marker::{Model, PhantomData};
+
+/// The entries of a run of linked leaves that are left, in order, with the arena that holds them.
+/// Callers name it [`IntoIter`].
+#[derive(Drop)]
+pub struct OwnedRun<A: HasRuns<L, K, V>, L, K, V> {
+    arena: A,
+    // The first leaf that is left and the last one, if any is.
+    ends: Option<(L, L)>,
+    entry: PhantomData<(K, V)>,
+}
+
+impl<A: HasRuns<L, K, V>, L, K, V> Model for OwnedRun<A, L, K, V> {
+    ghost use Rattle.std.specs.Prelude.{List};
+
+    ghost Value = { List (K × V) };
+
+    ghost view = { λ r. A.run r.arena r.ends };
+
+    ghost invariant = { λ r. A.is_run r.arena r.ends };
+}
+
+/// The entries of a map that was taken apart, in ascending order of the bytes of their keys, and from
+/// the back in descending order. Contracts see the list of those that are left. Each takes constant
+/// time, and no memory. What is left is freed when the iterator is dropped.
+pub type IntoIter<K, V, const PREFIX_LEN: usize> = OwnedRun<
+    NodeArena<K, V, PREFIX_LEN>,
+    NodePtr<PREFIX_LEN, LeafNode<K, V, PREFIX_LEN>>,
+    K,
+    V,
+>;
+
+// Takes the entry at the front of a run out of the arena, and returns the ends of what is left.
+fn take_out_first<K, V, const PREFIX_LEN: usize>(
+    arena: &mut NodeArena<K, V, PREFIX_LEN>,
+    front: NodePtr<PREFIX_LEN, LeafNode<K, V, PREFIX_LEN>>,
+    back: NodePtr<PREFIX_LEN, LeafNode<K, V, PREFIX_LEN>>,
+) -> (
+    (K, V),
+    Option<
+        (
+            NodePtr<PREFIX_LEN, LeafNode<K, V, PREFIX_LEN>>,
+            NodePtr<PREFIX_LEN, LeafNode<K, V, PREFIX_LEN>>,
+        ),
+    >,
+)
+    requires { IsRun arena.old (Some (front, back)) }
+    ensures first { run_of arena.old (Some (front, back)) ≡ result.0 ∷ run_of arena.new result.1 }
+    ensures rest { IsRun arena.new result.1 }
+{
+    let leaf = arena.deallocate_node_ptr(front);
+    let next = leaf.next();
+    let entry = leaf.into_entry();
+    if front.key() == back.key() {
+        return (entry, None);
+    }
+    match next {
+        Some(next) => (entry, Some((next, back))),
+        None => (entry, None),
+    }
+}
+
+// Takes the entry at the back of a run out of the arena, and returns the ends of what is left.
+fn take_out_last<K, V, const PREFIX_LEN: usize>(
+    arena: &mut NodeArena<K, V, PREFIX_LEN>,
+    front: NodePtr<PREFIX_LEN, LeafNode<K, V, PREFIX_LEN>>,
+    back: NodePtr<PREFIX_LEN, LeafNode<K, V, PREFIX_LEN>>,
+) -> (
+    (K, V),
+    Option<
+        (
+            NodePtr<PREFIX_LEN, LeafNode<K, V, PREFIX_LEN>>,
+            NodePtr<PREFIX_LEN, LeafNode<K, V, PREFIX_LEN>>,
+        ),
+    >,
+)
+    requires { IsRun arena.old (Some (front, back)) }
+    ensures last { run_of arena.old (Some (front, back)) ≡ run_of arena.new result.1 ++ result.0 ∷ [] }
+    ensures rest { IsRun arena.new result.1 }
+{
+    let leaf = arena.deallocate_node_ptr(back);
+    let previous = leaf.previous();
+    let entry = leaf.into_entry();
+    if front.key() == back.key() {
+        return (entry, None);
+    }
+    match previous {
+        Some(previous) => (entry, Some((front, previous))),
+        None => (entry, None),
+    }
+}
+
+impl<K: Drop, V: Drop, const PREFIX_LEN: usize> Iterator for IntoIter<K, V, PREFIX_LEN> {
+    type Item = (K, V);
+
+    ghost next_gives = { YieldsFirst (λ rest. rest) };
+
+    ghost remaining = { item_count (λ rest. rest) };
+
+    fn next(&mut self) -> Option<(K, V)> {
+        let (front, back) = self.ends?;
+        let (entry, ends) = take_out_first(&mut self.arena, front, back);
+        self.ends = ends;
+        Some(entry)
+    }
+}
+
+impl<K: Drop, V: Drop, const PREFIX_LEN: usize> DoubleEndedIterator for IntoIter<K, V, PREFIX_LEN> {
+    ghost next_back_gives = { YieldsLast (λ rest. rest) };
+
+    fn next_back(&mut self) -> Option<(K, V)> {
+        let (front, back) = self.ends?;
+        let (entry, ends) = take_out_last(&mut self.arena, front, back);
+        self.ends = ends;
+        Some(entry)
+    }
+}
+
+impl<K: Drop, V: Drop, const PREFIX_LEN: usize> FusedIterator for IntoIter<K, V, PREFIX_LEN> {}
+
+/// The keys of the entries of a run that are left, with the arena. Callers name it [`IntoKeys`].
+#[derive(Drop)]
+pub struct OwnedKeys<A: HasRuns<L, K, V>, L, K, V> {
+    entries: OwnedRun<A, L, K, V>,
+}
+
+impl<A: HasRuns<L, K, V>, L, K, V> Model for OwnedKeys<A, L, K, V> {
+    ghost use Rattle.std.specs.Prelude.{List, map};
+
+    ghost Value = { List K };
+
+    ghost view = { λ keys. map (λ entry. entry.0) keys.entries };
+}
+
+/// The keys of a map that was taken apart, as [`IntoIter`] has its entries. Contracts see the list of
+/// those that are left.
+pub type IntoKeys<K, V, const PREFIX_LEN: usize> = OwnedKeys<
+    NodeArena<K, V, PREFIX_LEN>,
+    NodePtr<PREFIX_LEN, LeafNode<K, V, PREFIX_LEN>>,
+    K,
+    V,
+>;
+
+impl<K: Drop, V: Drop, const PREFIX_LEN: usize> Iterator for IntoKeys<K, V, PREFIX_LEN> {
+    type Item = K;
+
+    ghost next_gives = { YieldsFirst (λ rest. rest) };
+
+    ghost remaining = { item_count (λ rest. rest) };
+
+    fn next(&mut self) -> Option<K> {
+        match self.entries.next() {
+            Some((key, _)) => Some(key),
+            None => None,
+        }
+    }
+
+    // Written out: the trait's own body gets no proof where the item lacks a type of the iterator.
+    fn size_hint(&self) -> (usize, Option<usize>) {
+        (0, None)
+    }
+}
+
+impl<K: Drop, V: Drop, const PREFIX_LEN: usize> DoubleEndedIterator for IntoKeys<K, V, PREFIX_LEN> {
+    ghost next_back_gives = { YieldsLast (λ rest. rest) };
+
+    fn next_back(&mut self) -> Option<K> {
+        match self.entries.next_back() {
+            Some((key, _)) => Some(key),
+            None => None,
+        }
+    }
+}
+
+impl<K: Drop, V: Drop, const PREFIX_LEN: usize> FusedIterator for IntoKeys<K, V, PREFIX_LEN> {}
+
+/// The keys of these entries.
+pub(crate) fn keys_taken<K, V, const PREFIX_LEN: usize>(
+    entries: IntoIter<K, V, PREFIX_LEN>,
+) -> IntoKeys<K, V, PREFIX_LEN>
+    ensures { result ≡ map (λ entry. entry.0) entries }
+{
+    OwnedKeys { entries }
+}
+
+/// The run of this arena between these ends, with the arena.
+pub(crate) fn run_taken<K, V, const PREFIX_LEN: usize>(
+    arena: NodeArena<K, V, PREFIX_LEN>,
+    ends: Option<
+        (
+            NodePtr<PREFIX_LEN, LeafNode<K, V, PREFIX_LEN>>,
+            NodePtr<PREFIX_LEN, LeafNode<K, V, PREFIX_LEN>>,
+        ),
+    >,
+) -> IntoIter<K, V, PREFIX_LEN>
+    requires { IsRun arena ends }
+    ensures { result ≡ run_of arena ends }
+{
+    OwnedRun {
+        arena,
+        ends,
+        entry: PhantomData,
+    }
+}

@@ -1,0 +1,47 @@
+//! Maps and sets that loops go over and take apart.
+use art_map::{ArtMap, ArtSet};
+use art_tree::{AsBytes, StrKey};
+
+pub fn sum(prices: &ArtMap<StrKey<'_>, u64, 16>) -> u64 {
+    let mut sum: u64 = 0;
+    for (_name, price) in prices {
+        sum = sum.saturating_add(*price);
+    }
+    sum
+}
+
+pub fn sum_of_all(prices: ArtMap<StrKey<'_>, u64, 16>) -> u64 {
+    let mut sum: u64 = 0;
+    for (_name, price) in prices {
+        sum = sum.saturating_add(price);
+    }
+    sum
+}
+
+pub fn dearest(prices: ArtMap<[u8; 4], u64, 16>) -> Option<([u8; 4], u64)> {
+    prices.into_iter().next_back()
+}
+
+pub fn count<K: AsBytes + Drop, V: Drop, const P: usize>(index: ArtMap<K, V, P>) -> usize {
+    let mut count: usize = 0;
+    for _entry in index {
+        count = count.wrapping_add(1);
+    }
+    count
+}
+
+pub fn longest(names: ArtSet<String, 16>) -> usize {
+    let mut longest: usize = 0;
+    for name in names {
+        longest = longest.max(name.len());
+    }
+    longest
+}
+
+pub fn total(names: &ArtSet<String, 16>) -> usize {
+    let mut total: usize = 0;
+    for name in names {
+        total = total.saturating_add(name.len());
+    }
+    total
+}
