@@ -18,7 +18,8 @@ use std::alloc::{AllocError, Global};
 use std::ops::Bound;
 
 /// An inner node of any kind. Its calls are those of [`InnerNodeCommon`], except that `min` and
-/// `max` return `None` where there is no child.
+/// `max` return `None` where there is no child, and that `insert_child`, which returns the old
+/// child, takes the place of `write_child`.
 #[derive(Drop)]
 pub(crate) enum AnyInner<K, V, const PREFIX_LEN: usize> {
     Node4(InnerNode4<K, V, PREFIX_LEN>),
