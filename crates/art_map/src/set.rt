@@ -240,7 +240,7 @@ impl<K: AsBytes, const PREFIX_LEN: usize> ArtSet<K, PREFIX_LEN> {
     ///
     /// (from crates/art_map_tests/src/map/set_examples.rt)
     /// ```rust
-    /// assert!(rt; few.is_subset(&many) && !many.is_subset(&few));
+    /// assert!(rt; few.is_subset(many) && !many.is_subset(few));
     /// ```
     pub fn is_subset(&self, other: &Self) -> bool
         ensures { IsTrue result ↔ All (λ key. HasKey K.text other.now (K.text key)) self.now }
@@ -261,7 +261,7 @@ impl<K: AsBytes, const PREFIX_LEN: usize> ArtSet<K, PREFIX_LEN> {
     ///
     /// (from crates/art_map_tests/src/map/set_examples.rt)
     /// ```rust
-    /// assert!(rt; many.is_superset(&few) && !few.is_superset(&many));
+    /// assert!(rt; many.is_superset(few) && !few.is_superset(many));
     /// ```
     pub fn is_superset(&self, other: &Self) -> bool
         ensures { IsTrue result ↔ All (λ key. HasKey K.text self.now (K.text key)) other.now }
@@ -276,7 +276,7 @@ impl<K: AsBytes, const PREFIX_LEN: usize> ArtSet<K, PREFIX_LEN> {
     ///
     /// (from crates/art_map_tests/src/map/set_examples.rt)
     /// ```rust
-    /// assert!(rt; !few.is_disjoint(&many) && few.is_disjoint(&none));
+    /// assert!(rt; !few.is_disjoint(many) && few.is_disjoint(none));
     /// ```
     pub fn is_disjoint(&self, other: &Self) -> bool
         ensures { IsTrue result ↔ All (λ key. ¬ HasKey K.text other.now (K.text key)) self.now }

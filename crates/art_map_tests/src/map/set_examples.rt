@@ -121,14 +121,24 @@ fn names_of(alloc: Global, names: &[&'static str]) -> Result<Names, Fail> {
     Ok(set)
 }
 
+// A set, and one with a key more.
+fn compare_with_more(rt: &impl Abort, few: &Names, many: &Names) {
+    assert!(rt; few.is_subset(many) && !many.is_subset(few));
+    assert!(rt; many.is_superset(few) && !few.is_superset(many));
+}
+
+// The same, and a set without keys.
+fn compare_keys_in_common(rt: &impl Abort, few: &Names, many: &Names, none: &Names) {
+    assert!(rt; !few.is_disjoint(many) && few.is_disjoint(none));
+    assert!(rt; none.is_subset(few) && few.is_subset(few));
+}
+
 #[test]
 fn sets_are_compared(rt: HostRuntime) -> Result<(), Fail> {
     let few = names_of(rt.alloc(), &["tin", "iron"])?;
     let many = names_of(rt.alloc(), &["zinc", "iron", "tin"])?;
     let none = names_of(rt.alloc(), &[])?;
-    assert!(rt; few.is_subset(&many) && !many.is_subset(&few));
-    assert!(rt; many.is_superset(&few) && !few.is_superset(&many));
-    assert!(rt; !few.is_disjoint(&many) && few.is_disjoint(&none));
-    assert!(rt; none.is_subset(&few) && none.is_disjoint(&few) && few.is_subset(&few));
+    compare_with_more(&rt, &few, &many);
+    compare_keys_in_common(&rt, &few, &many, &none);
     Ok(())
 }
