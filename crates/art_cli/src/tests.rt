@@ -23,10 +23,6 @@ const SEARCHES: &str = "+abc1\n+abc2\n?abc2\n?abd2\n?abc\n?\n?abc22\n";
 const ANSWERS: &str =
     "found 1 child 50 reads 2\nnone reads 2\nnone reads 1\nnone reads 1\nnone reads 2\n";
 
-// How a test ends whose run failed to allocate, after the next run succeeded. `checks/refusals`
-// searches for it.
-const ALL_STANDS: &str = "run refused, and all stands";
-
 fn words(alloc: Global, texts: &[&str]) -> Result<Vec<String>, AllocError> {
     let mut words = Vec::new(alloc);
     for text in texts {
@@ -347,17 +343,25 @@ fn is_refused(rt: &impl Abort, alloc: Global, words: &[String], case: &Case) -> 
     true
 }
 
+// A run that failed to allocate, after which the next one succeeded, ends the test with its text, which
+// names the command. `checks/refusals` searches for it.
 #[test]
 fn a_refused_run_prints_nothing(rt: HostRuntime) -> Result<(), Fail> {
-    let cases: [(&[&str], Case); 2] = [
-        (&["replay"], case_of(COMMANDS.as_bytes(), REPLIES, "", 0)),
-        (&["find", "2"], case_of(SEARCHES.as_bytes(), ANSWERS, "", 0)),
+    let replays = case_of(COMMANDS.as_bytes(), REPLIES, "", 0);
+    let finds = case_of(SEARCHES.as_bytes(), ANSWERS, "", 0);
+    let cases: [(&[&str], Case, &'static str); 2] = [
+        (
+            &["replay"],
+            replays,
+            "run of replay refused, and all stands",
+        ),
+        (&["find", "2"], finds, "run of find refused, and all stands"),
     ];
-    for (texts, case) in cases {
+    for (texts, case, all_stands) in cases {
         let words = words(rt.alloc(), texts)?;
         if is_refused(&rt, rt.alloc(), &words, &case) {
             check(&rt, rt.alloc(), texts, &case)?;
-            return Err(ALL_STANDS.into());
+            return Err(all_stands.into());
         }
     }
     Ok(())
