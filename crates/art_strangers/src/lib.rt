@@ -9,6 +9,7 @@ pub mod arena;
 pub mod arrays;
 pub mod c_strings;
 pub mod commands;
+pub mod composite_key;
 pub mod ends;
 pub mod ends_generic;
 pub mod find;
