@@ -12,10 +12,10 @@ ghost use Rattle.art_nodes.specs.Inner.{HasRoomFor, node_with_child};
 ghost use Rattle.art_nodes.specs.Pointers.{node_kind, opaque_key, opaque_pointer, slab_key};
 
 use art_nodes::{
-    ChildCommand, ChildReply, ConcreteInnerNodePtr, ConcreteNodePtr, HasOneChild, InnerNode,
-    InnerNode4, InnerNode16, InnerNode48, InnerNodeBuilder, InnerNodeCommon, InnerNodeDirect,
-    InnerNodeRead, InnerNodeSorted, LeafNode, Node, NodePtr, OpaqueNodePtr, OptimisticMismatch,
-    PessimisticMismatch, Sequence,
+    ChildCommand, ChildPairs, ChildReply, ConcreteInnerNodePtr, ConcreteNodePtr, HasOneChild,
+    InnerNode, InnerNode4, InnerNode16, InnerNode48, InnerNodeBuilder, InnerNodeCommon,
+    InnerNodeDirect, InnerNodeRead, InnerNodeSorted, LeafNode, Node, NodePtr, OpaqueNodePtr,
+    OptimisticMismatch, PessimisticMismatch, Sequence,
 };
 
 // A child that is written is found.
@@ -378,6 +378,16 @@ fn same_pair_reply<K, V, const PREFIX_LEN: usize>(
     ensures { IsTrue result ↔ (a ≡ b) }
 {
     ChildReply::Pair(a) == ChildReply::Pair(b)
+}
+
+// Replies with pairs are equal where they have the same ones, in the same order.
+fn same_pairs_reply<K, V, const PREFIX_LEN: usize>(
+    a: ChildPairs<K, V, PREFIX_LEN>,
+    b: ChildPairs<K, V, PREFIX_LEN>,
+) -> bool
+    ensures { IsTrue result ↔ (a ≡ b) }
+{
+    ChildReply::Pairs(a) == ChildReply::Pairs(b)
 }
 
 // A reply with a child equals none of another kind.
