@@ -1,3 +1,5 @@
+pub mod CallLaws
+mod CalledLemmas
 mod EndLemmas
 mod EntryLemmas
 mod LentLemmas

@@ -5,6 +5,7 @@
 
 mod cut;
 mod debug;
+mod each_value;
 mod into_iter;
 mod iter;
 mod keys;

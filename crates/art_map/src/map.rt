@@ -48,7 +48,8 @@ impl<T: HasEntries<K, V>, K, V> Model for MapOver<T, K, V> {
 pub const DEFAULT_PREFIX_LEN: usize = 16;
 
 /// An ordered map: the list of its entries, in ascending order of the bytes of their keys. No key is
-/// a proper prefix of another. No call has a condition.
+/// a proper prefix of another. No call has a condition but
+/// [`for_each_value_mut`](MapOver::for_each_value_mut): its closure may be called at any entry.
 ///
 /// `PREFIX_LEN` is how many bytes of its compressed prefix an inner node of the tree stores, for
 /// example [`DEFAULT_PREFIX_LEN`]. It changes no result of a call.

@@ -1,4 +1,4 @@
-//! Maps and sets that loops go over and take apart.
+//! Maps and sets that loops go over and take apart, and maps whose values are changed.
 use art_map::{ArtMap, ArtSet};
 use art_tree::{AsBytes, StrKey};
 
@@ -44,4 +44,16 @@ pub fn total(names: &ArtSet<String, 16>) -> usize {
         total = total.saturating_add(name.len());
     }
     total
+}
+
+pub fn raise(prices: &mut ArtMap<StrKey<'_>, u64, 16>, by: u64) {
+    prices.for_each_value_mut(|_name, price| *price = price.saturating_add(by));
+}
+
+pub fn number<K: AsBytes, const P: usize>(places: &mut ArtMap<K, usize, P>) {
+    let mut next: usize = 0;
+    places.for_each_value_mut(|_key, place| {
+        *place = next;
+        next = next.wrapping_add(1);
+    });
 }

@@ -1,6 +1,6 @@
 -- What a tree ends as, where a value of it is borrowed.
 use Rattle.std.specs.Prelude.{◌≡◌, ℕ, List, Option, OnSome}
-use Rattle.std.specs.Borrow.{RattleType, Fml, MutBor, LendsSo}
+use Rattle.std.specs.Borrow.{RattleType, Fml, MutBor, Lends, LendsSo}
 use Rattle.std.specs.Option.{option_map}
 use Rattle.art_nodes.specs.Leaf.{leaf_key, with_value}
 use Rattle.art_nodes.specs.declared.leaf_node.LeafNode.{LeafNode}
@@ -8,6 +8,7 @@ use Rattle.art_nodes.specs.declared.pointers.OpaqueNodePtr.{OpaqueNodePtr}
 use Rattle.art_nodes.specs.contracts.pointers.OpaqueNodePtr as pointer
 use Rattle.art_arena.specs.Arena.{NodeArena, HeldLeaf, Changes, SameRoom, held}
 use Rattle.art_arena.specs.Lending.{arena_row}
+use Rattle.art_arena.specs.Links.{with_value_at}
 use Rattle.art_tree.specs.Art.{Art, IsArt}
 use Rattle.art_tree.specs.Dictionary.{HasKeys, SameOtherEntries, entry_at}
 use Rattle.art_tree.specs.contracts.tree.Rooted.{the_row}
@@ -33,3 +34,9 @@ abbrev pub LendsValueAt : (K V P : RattleType) (text : K.Denot → List ℕ) (is
     MutBor (tree_row K V P text is_key).Denot → List ℕ → Option (MutBor V.Denot) → Fml
 LendsValueAt K V P text is_key tree x result =
     LendsSo (tree_row K V P text is_key) V tree result (λ now value. OnSome result (HasValueNow text tree.now now x value)) (λ now. now ≡ tree.now)
+
+-- a tree ends with the value that was left behind the reference in the leaf under this slab key
+abbrev pub LendsLeafValue : (K V P : RattleType) (text : K.Denot → List ℕ) (is_key : K.Denot → Type 0) →
+    MutBor (tree_row K V P text is_key).Denot → ℕ → MutBor V.Denot → Fml
+LendsLeafValue K V P text is_key tree key result =
+    Lends (tree_row K V P text is_key) V tree result (λ value. record { arena = with_value_at tree.now.arena key value; root = tree.now.root })

@@ -1,10 +1,12 @@
-//! The value of an entry of a map, to be changed in place.
-ghost use Rattle.std.specs.Prelude.{◌≡◌};
+//! Values of a map, to be changed in place: one of them, or each.
+ghost use Rattle.std.specs.Prelude.{◌≡◌, map};
 ghost use Rattle.std.specs.Borrow.{sem};
 ghost use Rattle.std.specs.Option.{option_copied_mut, option_map};
+ghost use Rattle.art_map.specs.Calls.{ChangesInTurn};
 ghost use Rattle.art_map.specs.Entries.{entry_with};
 ghost use Rattle.art_map.specs.MapLending.{LendsValueIn};
 
+use crate::each_value::for_each_entry;
 use crate::map::ArtMap;
 use art_bytes::AsBytes;
 use art_tree::laws::entries_are_one_list;
@@ -29,5 +31,25 @@ impl<K: AsBytes, V, const PREFIX_LEN: usize> ArtMap<K, V, PREFIX_LEN> {
     {
         entries_are_one_list::<K, V, PREFIX_LEN>();
         self.tree.get_mut(key.as_bytes())
+    }
+
+    /// Calls the closure at each entry, in ascending order of the bytes of their keys. It may change
+    /// the value, and the map ends with the same keys, each with the value that its call left. Takes
+    /// time linear in the number of entries, and no memory.
+    ///
+    /// Where each call leaves what a function makes of key and value, and changes nothing else, the
+    /// lemma `values_same` of `proofs/CallLaws.antt` has the entries afterwards.
+    ///
+    /// (from crates/art_map_tests/src/map/taken_entries.rt)
+    /// ```rust
+    /// prices.for_each_value_mut(|_, price| *price = price.wrapping_add(1));
+    /// assert!(rt; prices.get(b"tin") == Some(&51));
+    /// ```
+    pub fn for_each_value_mut<F: FnMut(&K, &mut V)>(&mut self, f: F)
+        requires { F.IsAlwaysCallable f }
+        ensures in_turn { ChangesInTurn F.FnMut f self.old self.new }
+        ensures same_keys { map (λ entry. entry.0) self.new ≡ map (λ entry. entry.0) self.old }
+    {
+        for_each_entry(&mut self.tree, f);
     }
 }

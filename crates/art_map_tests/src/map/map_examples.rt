@@ -1,5 +1,5 @@
 //! How a crate uses `art_map`: a price list that is read by name and by prefix.
-ghost use Rattle.std.specs.Prelude.{◌≡◌, IsTrue};
+ghost use Rattle.std.specs.Prelude.{◌≡◌, ◌+◌, ◌-◌, ◌^◌, IsTrue, map, min};
 ghost use Rattle.std.specs.Option.{option_map};
 ghost use Rattle.art_tree.specs.Entries.{put_entry};
 ghost use Rattle.art_map.specs.Entries.{entry_with};
@@ -28,6 +28,13 @@ fn price_of<K: AsBytes, const PREFIX_LEN: usize>(
         ≡ option_map (λ entry. entry.1) (entry_with K.text prices.now (K.text name.now)) }
 {
     prices.get(name).copied()
+}
+
+/// Raises each price by one, but for the greatest number.
+fn raise_prices<K: AsBytes, const PREFIX_LEN: usize>(prices: &mut ArtMap<K, u32, PREFIX_LEN>)
+    ensures { prices.new ≡ map (λ entry. (entry.0, min (entry.1 + 1) (2 ^ 32 - 1))) prices.old }
+{
+    prices.for_each_value_mut(|_, price| *price = price.saturating_add(1));
 }
 
 // A map, an example of the documents.
@@ -65,6 +72,8 @@ fn fill_prices(rt: &impl Abort, prices: &mut ArtMap<[u8; 3], u32, 2>) -> Result<
     }
     assert!(rt; price_of(prices, b"tan") == Some(7));
     assert!(rt; price_of(prices, b"tap").is_none());
+    raise_prices(prices);
+    assert!(rt; price_of(prices, b"tan") == Some(8) && price_of(prices, b"tip") == Some(10));
     let mut with_ti = prices.prefix(b"ti");
     assert!(rt; with_ti.next().is_some() && with_ti.next().is_some() && with_ti.next().is_none());
     Ok(())

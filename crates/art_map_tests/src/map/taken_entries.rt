@@ -55,6 +55,40 @@ fn a_value_is_changed_in_place(rt: HostRuntime) -> Result<(), Fail> {
     Ok(())
 }
 
+fn raise_each_price(rt: &impl Abort, prices: &mut Prices) {
+    prices.for_each_value_mut(|_, price| *price = price.wrapping_add(1));
+    assert!(rt; prices.get(b"tin") == Some(&51));
+    assert!(rt; prices.get(b"titanium") == Some(&23) && prices.get(b"iron") == Some(&27));
+    assert!(rt; prices.get(b"zinc") == Some(&31) && prices.len() == 4);
+}
+
+// Each value becomes the place of its entry, and that of `tin` ten times as much.
+fn number_the_prices(rt: &impl Abort, prices: &mut Prices) {
+    let mut place: u32 = 0;
+    prices.for_each_value_mut(|name, price| {
+        *price = place;
+        if name.get() == "tin" {
+            *price = place.wrapping_mul(10);
+        }
+        place = place.wrapping_add(1);
+    });
+    let mut values = prices.values();
+    assert!(rt; values.next() == Some(&0) && values.next() == Some(&10));
+    assert!(rt; values.next() == Some(&2) && values.next() == Some(&3));
+    assert!(rt; values.next().is_none());
+}
+
+#[test]
+fn each_value_is_changed_in_turn(rt: HostRuntime) -> Result<(), Fail> {
+    let mut prices = ArtMap::new(rt.alloc());
+    prices.for_each_value_mut(|_, price| *price = 0);
+    assert!(rt; prices.is_empty());
+    insert_prices(&mut prices)?;
+    raise_each_price(&rt, &mut prices);
+    number_the_prices(&rt, &mut prices);
+    Ok(())
+}
+
 fn keep_a_price(rt: &impl Abort, prices: &mut Prices) -> Result<(), Fail> {
     let back = prices
         .try_insert(StrKey::new("tin"), 1)

@@ -1,0 +1,22 @@
+-- What a closure did with the values of a map.
+use Rattle.std.specs.Prelude.{◌≡◌, List, [], ◌∷◌}
+use Rattle.std.specs.Fn.{Called}
+use denote.Param.Members.{Mut}
+use denote.Ref.{Bor, MutBor}
+
+module _ {F K V : Type 0} (g : Mut F (Bor K × (MutBor V × Unit {0})) (Unit {0} × (MutBor V × Unit {0}))) where
+  -- a call of f at a `&` to the key and a `&mut` to the value may leave another value there, and f as f'
+  pub record ChangesValue (f : F) (key : K) (value now : V) (f' : F) : Type 0 where
+    pub shown : Bor K
+    pub lent : MutBor V
+    pub shows : (shown.now ≡ key) × (lent.now ≡ value)
+    pub left : MutBor V
+    pub called : Called g f (shown, (lent, tt)) (tt, (left, tt)) f'
+    pub leaves : left.now ≡ now
+
+  -- f was called at each entry in turn, each time as the call before left it, and these are the entries with the
+  -- values that it left
+  abbrev pub ChangesInTurn : F → List (K × V) → List (K × V) → Type 0
+  ChangesInTurn f [] new = new ≡ []
+  ChangesInTurn f (entry ∷ entries) new =
+      (value : V) × (f' : F) × (rest : List (K × V)) × ChangesValue f entry.0 entry.1 value f' × ChangesInTurn f' entries rest × (new ≡ (entry.0, value) ∷ rest)
