@@ -1,15 +1,12 @@
 -- What queries print.
-use Rattle.std.proofs.Common.{◌≡◌, ◌∙◌, ℕ, ◌+◌, ◌-◌, ◌<◌, ℤ, List, [], ◌∷◌, ◌++◌, length, take, filter, Option, Some, None, refl, sym, ap, get_or, append_assoc, append-nil, add-one}
+use Rattle.std.proofs.Common.{◌≡◌, ◌∙◌, ℕ, ◌-◌, ℤ, List, ◌++◌, length, filter, Option, Some, None, refl, sym, ap}
 use Rattle.std.specs.Prelude.{slice_get}
 use Rattle.std.specs.Borrow.{Bor}
 use Rattle.std.specs.Fmt.{decimal}
 use Rattle.std.specs.List.{flat_map}
 use Rattle.std.specs.Option.{option_map}
 use Rattle.std.specs.declared.net.Ipv6Addr.{Ipv6Addr}
-use Rattle.std.proofs.Math.Seq.{take-suc}
-use Rattle.std.proofs.lemmas.Grind.{flat_map-append}
 use Rattle.std.proofs.lemmas.List.{length-map}
-use Rattle.std.proofs.lemmas.List.Concat.{flat_map-cons}
 use Rattle.std.proofs.lemmas.Option.{slice_get-map}
 use Rattle.program_lines.specs.Lines.{line}
 use Rattle.index.specs.declared.query.Query.{Query}
@@ -17,14 +14,6 @@ use Rattle.index.specs.declared.query.Query.TheVariants.{Host, First, Last, Coun
 use Rattle.index.specs.declared.rows.Row.{Row}
 use Rattle.index.specs.Replies.{end_line, is_within, reply, row_line}
 use Rattle.index.proofs.EntryLemmas.{values_of}
-
--- one reply more
-pub reply_more : (rows : List Row) (queries : List Query) (k : ℕ) (d : Query) (start output longer : List ℕ) → k < length queries → output ≡ start ++ flat_map (reply rows) (take k queries) → longer ≡ output ++ reply rows (get_or queries k d) → longer ≡ start ++ flat_map (reply rows) (take (k + 1) queries)
-reply_more rows queries k d start output longer below before pushed =
-    let cut : take (k + 1) queries ≡ take k queries ++ get_or queries k d ∷ [] = rw add-one (take-suc queries k d below) in
-    let one : flat_map (reply rows) (get_or queries k d ∷ []) ≡ reply rows (get_or queries k d) = flat_map-cons (reply rows) (get_or queries k d) [] ∙ append-nil (reply rows (get_or queries k d)) in
-    pushed ∙ ap (λ o. o ++ reply rows (get_or queries k d)) before ∙ append_assoc start (flat_map (reply rows) (take k queries)) (reply rows (get_or queries k d))
-    ∙ ap (λ more. start ++ (flat_map (reply rows) (take k queries) ++ more)) (sym one) ∙ ap (λ more. start ++ more) (sym (flat_map-append (reply rows) (take k queries) (get_or queries k d ∷ [])) ∙ ap (flat_map (reply rows)) (sym cut))
 
 module _ {K : Type 0} (entries : List (K × Row)) where
   abbrev row_of : K × Row → Row

@@ -1,7 +1,5 @@
 -- The times of readings and queries have 64 bits.
-use Rattle.std.proofs.Common.{inl, inr, ℕ, ◌-◌, ◌^◌, pos, neg_ℤ, List, [], ◌∷◌, All, FitsSigned, rules, w64}
-use Rattle.std.proofs.lemmas.List.Elements.{All-cons, All-nil}
-use Rattle.program_lines.specs.Lines.{SayAll}
+use Rattle.std.proofs.Common.{inl, inr, ℕ, ◌-◌, ◌^◌, pos, neg_ℤ, List, FitsSigned, rules, w64}
 use Rattle.index.specs.Keys.{HasTime, HasTimes}
 use Rattle.index.specs.Queries.{SayHost, SayQuery}
 use Rattle.index.specs.Readings.{SayReading}
@@ -15,14 +13,11 @@ least_fits = search rules
 greatest_fits : FitsSigned w64 (pos (2 ^ 63 - 1))
 greatest_fits = search rules
 
--- the times of lines
-pub times_fit : (lines : List (List ℕ)) (table : List Reading) → SayAll SayReading lines table → All HasTime table
-times_fit [] [] said = All-nil HasTime
-times_fit [] (reading ∷ table) said = absurd said
-times_fit (line ∷ lines) [] said = absurd said
-times_fit (line ∷ lines) (reading ∷ table) said = All-cons HasTime reading table said.0.7.2 (times_fit lines table said.1)
+-- the times of a line
+pub time_fits : (line : List ℕ) (reading : Reading) → SayReading line reading → HasTime reading
+time_fits line reading said = said.7.2
 
-query_fits : (line : List ℕ) (query : Query) → SayQuery line query → HasTimes query
+pub query_fits : (line : List ℕ) (query : Query) → SayQuery line query → HasTimes query
 query_fits line (Host address from to) said = by_side said.2
   where
     by_side : SayHost said.0 address from to → HasTimes (Host address from to)
@@ -31,9 +26,3 @@ query_fits line (Host address from to) said = by_side said.2
 query_fits line First said = tt
 query_fits line Last said = tt
 query_fits line Count said = tt
-
-pub queries_fit : (lines : List (List ℕ)) (queries : List Query) → SayAll SayQuery lines queries → All HasTimes queries
-queries_fit [] [] said = All-nil HasTimes
-queries_fit [] (query ∷ queries) said = absurd said
-queries_fit (line ∷ lines) [] said = absurd said
-queries_fit (line ∷ lines) (query ∷ queries) said = All-cons HasTimes query queries (query_fits line query said.0) (queries_fit lines queries said.1)

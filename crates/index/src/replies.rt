@@ -1,9 +1,7 @@
 //! The replies to queries.
 ghost use Rattle.std.specs.Prelude.{◌≡◌, ◌++◌, All, OnOk, map};
-ghost use Rattle.std.specs.Fmt.{decimal};
 ghost use Rattle.std.specs.List.{flat_map};
 ghost use Rattle.std.specs.Option.{option_map};
-ghost use Rattle.program_lines.specs.Lines.{line};
 ghost use Rattle.index.specs.Keys.{AreKeyed, HasTimes, row_key_text};
 ghost use Rattle.index.specs.Replies.{end_line, reply, row_line};
 
@@ -13,7 +11,7 @@ use crate::reading::table_of;
 use crate::row_key::RowKey;
 use crate::rows::{Row, RowMap, index_of};
 use art_map::{DEFAULT_PREFIX_LEN, Iter};
-use program_lines::{Failure, Place, Program, push_line, said};
+use program_lines::{Failure, Place, Program, push_line, push_number, said};
 use std::alloc::{AllocError, Global};
 use std::ops::Bound;
 
@@ -117,12 +115,4 @@ fn push_end(entry: Option<(&RowKey, &Row<'_>)>, output: &mut Vec<u8>) -> Result<
         Some((_, row)) => push_line(output, row.reading.line),
         None => push_line(output, b"none"),
     }
-}
-
-// Appends a line with a number.
-fn push_number(alloc: Global, number: usize, output: &mut Vec<u8>) -> Result<(), AllocError>
-    ensures { OnOk result (output.new.items ≡ output.old.items ++ line (decimal number)) }
-{
-    let text = format!(in alloc; "{number}")?;
-    push_line(output, text.as_bytes())
 }

@@ -1,4 +1,5 @@
 pub mod Cuts
+pub mod Replies
 mod Parts
 mod Writes
 mod SaidLemmas

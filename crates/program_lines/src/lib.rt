@@ -14,5 +14,5 @@ pub use failure::{BadLine, Failure, Place};
 pub use lines::{FromLine, first_line, said, split_once};
 pub use numbers::number_of;
 pub use process::start;
-pub use program::{Program, run};
-pub use writing::push_line;
+pub use program::{Outcome, Program, run, run_in_memory};
+pub use writing::{push_line, push_number};

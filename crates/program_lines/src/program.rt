@@ -1,5 +1,5 @@
 //! A program over a file, a reader and two writers.
-ghost use Rattle.std.specs.Prelude.{◌≡◌, ◌≢◌, ◌≤◌, IfSome, IfOk, IfErr};
+ghost use Rattle.std.specs.Prelude.{◌≡◌, ◌≢◌, ◌≤◌, ◌↔◌, [], IfSome, IfOk, IfErr, IsTrue};
 ghost use Rattle.std.specs.Io.KnownBytes.{Keeps};
 ghost use Rattle.program_lines.specs.Failures.{status_of};
 ghost use Rattle.program_lines.specs.Programs.{Prints, PrintsBeginning, HasBadLine};
@@ -86,4 +86,54 @@ fn answer<P: Program, R: Read>(
     let mut bytes = Vec::new(alloc);
     input.read_to_end(&mut bytes)?;
     P::answer(alloc, file, &bytes)
+}
+
+/// What a run over bytes in memory wrote, and its status.
+#[derive(Drop)]
+pub struct Outcome {
+    /// The exit status.
+    pub status: u8,
+    /// What it wrote to its output.
+    pub output: Vec<u8>,
+    /// What it wrote to its errors.
+    pub errors: Vec<u8>,
+}
+
+impl Outcome {
+    /// Whether these are the status, the output and the errors.
+    pub fn is(&self, status: u8, output: &[u8], errors: &[u8]) -> bool
+        ensures { IsTrue result ↔ (self.now.status ≡ status)
+            × (self.now.output.items ≡ output.now) × (self.now.errors.items ≡ errors.now) }
+    {
+        self.status == status
+            && self.output.as_slice() == output
+            && self.errors.as_slice() == errors
+    }
+}
+
+/// Runs a program on the bytes of its file and of its input, as [`run`] does, and returns what it wrote.
+///
+/// A list with `tin`, `titanium`, `iron`, `ti`, `zinc`, and an empty word:
+///
+/// (from crates/words/src/tests.rt)
+/// ```rust
+/// let outcome = run_in_memory::<Words>(rt.alloc(), LIST, b"#ti\n#tin\n#zinc\n#x\n#");
+/// assert!(rt; outcome.is(0, b"6 words in 7 lines\n3\n1\n1\n0\n6\n", b""));
+/// ```
+pub fn run_in_memory<P: Program>(alloc: Global, file: &[u8], input: &[u8]) -> Outcome
+    ensures status { result.status ≤ 2 }
+    ensures answers { result.status ≡ 0 → P.is_output file.now input.now result.output.items }
+    ensures refused { result.status ≡ 2 → HasBadLine (P.is_bad file.now input.now) }
+    ensures bad_input_prints_nothing { result.status ≡ 2 → result.output.items ≡ [] }
+    ensures success_is_quiet { result.status ≡ 0 → result.errors.items ≡ [] }
+{
+    let mut input = input;
+    let mut output = Vec::new(alloc);
+    let mut errors = Vec::new(alloc);
+    let status = run::<P, _, _, _>(alloc, file, &mut input, &mut output, &mut errors);
+    Outcome {
+        status,
+        output,
+        errors,
+    }
 }

@@ -1,11 +1,12 @@
 //! Lines of the output, and writes with contracts that name what a failed one has written.
 ghost use Rattle.std.specs.Prelude.{◌≡◌, ◌++◌, OnOk, OnErr};
+ghost use Rattle.std.specs.Fmt.{decimal};
 ghost use Rattle.std.specs.Io.KnownBytes.{Appends};
 ghost use Rattle.program_lines.specs.Lines.{line};
 ghost use Rattle.program_lines.specs.Programs.{AppendsBeginning};
 
 use arrayvec::ArrayString;
-use std::alloc::AllocError;
+use std::alloc::{AllocError, Global};
 use std::fmt::Display;
 use std::io::Write;
 use std::{fmt, io};
@@ -17,6 +18,14 @@ pub fn push_line(output: &mut Vec<u8>, text: &[u8]) -> Result<(), AllocError>
     output.extend_from_slice(text)?;
     output.push(b'\n')?;
     Ok(())
+}
+
+/// Appends a line with a number.
+pub fn push_number(alloc: Global, number: usize, output: &mut Vec<u8>) -> Result<(), AllocError>
+    ensures { OnOk result (output.new.items ≡ output.old.items ++ line (decimal number)) }
+{
+    let text = format!(in alloc; "{number}")?;
+    push_line(output, text.as_bytes())
 }
 
 /// Writes the text, and flushes the writer. Unlike that of `write_all` its contract names what a

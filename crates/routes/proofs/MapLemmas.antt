@@ -25,7 +25,7 @@ use Rattle.routes.specs.declared.route.Route.{Route}
 use Rattle.routes.specs.Addresses.{IsAddress}
 use Rattle.routes.specs.Networks.{first_bits, IsIn, key_text}
 use Rattle.routes.specs.Tables.{AreDistinct, IsFirstDuplicate, HasNone, IsLongest}
-use Rattle.routes.specs.Maps.{IsRoute, itself, key_of_route, Holds, HasNoneOf, HasLength}
+use Rattle.routes.specs.Maps.{IsRoute, itself, key_of_route, mark_of, Holds, HasNoneOf, HasLength}
 use Rattle.routes.proofs.ReplyLemmas.{one_more, duplicate_at}
 
 -- nothing is found and not found
@@ -128,7 +128,7 @@ module _ (map longer : List (List ℕ × Route)) (key text : List ℕ) (route : 
 pub holds_none : (has_length : List Bool) → Holds [] [] has_length
 holds_none has_length = record {
   are_routes = All-nil IsRoute;
-  lengths = All-nil (λ route. get_or has_length route.network.length false ≡ true);
+  lengths = All-nil (λ route. get_or has_length (mark_of route) false ≡ true);
   found = All-nil (λ route. entry_with itself [] (key_of_route route) ≡ Some (key_of_route route, route));
   only = λ key entry is. absurd (cc);
 }
@@ -149,7 +149,7 @@ module _ (routes : List Route) (map : List (List ℕ × Route)) (has_length : Li
           let only = holds.only (key_of_route route) entry at in
           (entry.1, only.0, same_network entry.1 route (All-contains IsRoute routes entry.1 holds.are_routes only.0) is only.1)
 
-  module _ (none : entry_with itself map (key_of_route route) ≡ None) (wide : route.network.length < length has_length) where
+  module _ (none : entry_with itself map (key_of_route route) ≡ None) (wide : mark_of route < length has_length) where
     abbrev more : List Route
     more = routes ++ route ∷ []
 
@@ -157,22 +157,22 @@ module _ (routes : List Route) (map : List (List ℕ × Route)) (has_length : Li
     map_more = put_entry itself map (key_of_route route, route)
 
     abbrev marked : List Bool
-    marked = set has_length route.network.length true
+    marked = set has_length (mark_of route) true
 
     mark_kept : (n : ℕ) → get_or has_length n false ≡ true → get_or marked n false ≡ true
-    mark_kept n at = elim (cases_lt n route.network.length) [
+    mark_kept n at = elim (cases_lt n (mark_of route)) [
       | inl less ↦ kept (omega (arith, less))
-      | inr not_less ↦ elim (cases_lt route.network.length n) [
+      | inr not_less ↦ elim (cases_lt (mark_of route) n) [
         | inl more ↦ kept (omega (arith, more))
         | inr neither ↦ here (omega (arith, not_less, neither))
       ]
     ]
       where
-        kept : n ≢ route.network.length → get_or marked n false ≡ true
-        kept differ = get_or-set_other has_length route.network.length n true false differ ∙ at
+        kept : n ≢ mark_of route → get_or marked n false ≡ true
+        kept differ = get_or-set_other has_length (mark_of route) n true false differ ∙ at
 
-        here : n ≡ route.network.length → get_or marked n false ≡ true
-        here same = ap (λ m. get_or marked m false) same ∙ get_or-set_same has_length route.network.length true false wide
+        here : n ≡ mark_of route → get_or marked n false ≡ true
+        here same = ap (λ m. get_or marked m false) same ∙ get_or-set_same has_length (mark_of route) true false wide
 
     finds : (x : List ℕ) → entry_with itself map_more x ≡ cond (pointwise nat_eq (key_of_route route) x) (Some (key_of_route route, route)) (entry_with itself map x)
     finds x = put_finds (key_of_route route, route) x map
@@ -205,7 +205,7 @@ module _ (routes : List Route) (map : List (List ℕ × Route)) (has_length : Li
     pub holds_more : Holds more map_more marked
     holds_more = record {
       are_routes = All-push IsRoute routes route holds.are_routes is;
-      lengths = All-push (λ other. get_or marked other.network.length false ≡ true) routes route (λ k d within. mark_kept (get_or routes k d).network.length (holds.lengths k d within)) (get_or-set_same has_length route.network.length true false wide);
+      lengths = All-push (λ other. get_or marked (mark_of other) false ≡ true) routes route (λ k d within. mark_kept (mark_of (get_or routes k d)) (holds.lengths k d within)) (get_or-set_same has_length (mark_of route) true false wide);
       found = All-push (λ other. entry_with itself map_more (key_of_route other) ≡ Some (key_of_route other, other)) routes route (λ k d within. finds_old (get_or routes k d) (holds.found k d within)) finds_new;
       only = finds_only;
     }
@@ -219,10 +219,11 @@ in_key address network is i = is.0 i ∷ network.length ∷ to_be_bytes w128 (is
 
 module _ (routes : List Route) (map : List (List ℕ × Route)) (has_length : List Bool) (holds : Holds routes map has_length) (address : Address) where
   -- no route of a length that is not marked, or whose key is not found
-  pub no_such_length : (count : ℕ) → get_or has_length count false ≡ false → HasNoneOf routes address count
+  pub no_such_length : (count : ℕ) → get_or has_length (address.width + count) false ≡ false → HasNoneOf routes address count
   no_such_length count none k d within matches same =
       let marked = holds.lengths k d within in
-      let wrong : true ≡ false = sym marked ∙ ap (λ n. get_or has_length n false) same ∙ none in
+      let sums : mark_of (get_or routes k d) ≡ address.width + count = omega (arith, matches.0, same) in
+      let wrong : true ≡ false = sym marked ∙ ap (λ n. get_or has_length n false) sums ∙ none in
       absurd (cc)
 
   pub not_found : (count : ℕ) → entry_with itself map (key_text address count) ≡ None → HasNoneOf routes address count
@@ -292,12 +293,12 @@ module _ (routes : List Route) (map : List (List ℕ × Route)) (has_length : Li
 pub record AreAdded (routes : List Route) (map : List (List ℕ × Route)) (has_length : List Bool) (count : ℕ) : Type 0 where
   pub holds : Holds (take count routes) map has_length
   pub distinct : AreDistinct (take count routes)
-  pub wide : length has_length ≡ 129
+  pub wide : length has_length ≡ 257
 
 none_distinct : AreDistinct []
 none_distinct i j d before within = absurd (omega (arith, within))
 
-pub none_added : (routes : List Route) (has_length : List Bool) → length has_length ≡ 129 → AreAdded routes [] has_length 0
+pub none_added : (routes : List Route) (has_length : List Bool) → length has_length ≡ 257 → AreAdded routes [] has_length 0
 none_added routes has_length wide = record { holds = holds_none has_length; distinct = none_distinct; wide = wide }
 
 pub all_added : (routes : List Route) (map : List (List ℕ × Route)) (has_length : List Bool) (count : ℕ) → AreAdded routes map has_length count → length routes ≤ count → Holds routes map has_length × AreDistinct routes
@@ -312,12 +313,12 @@ module _ (routes : List Route) (are : All IsRoute routes) (map : List (List ℕ 
   pub duplicate : entry_with itself map (key_of_route next) ≢ None → IsFirstDuplicate routes (k + 1)
   duplicate some = duplicate_at routes k d within added.distinct (earlier_same (take k routes) map has_length added.holds next (are k d within) some)
 
-  pub one_added : (longer : List (List ℕ × Route)) (marked : List Bool) → entry_with itself map (key_of_route next) ≡ None → longer ≡ put_entry itself map (key_of_route next, next) → marked ≡ set has_length next.network.length true → AreAdded routes longer marked (k + 1)
+  pub one_added : (longer : List (List ℕ × Route)) (marked : List Bool) → entry_with itself map (key_of_route next) ≡ None → longer ≡ put_entry itself map (key_of_route next, next) → marked ≡ set has_length (mark_of next) true → AreAdded routes longer marked (k + 1)
   one_added longer marked none put mark =
       let is = are k d within in
-      let wide : next.network.length < length has_length = omega (arith, added.wide, is.fits, is.address.0) in
+      let wide : mark_of next < length has_length = omega (arith, added.wide, is.fits, is.address.0) in
       record {
         holds = rw (one_more routes k d within, put, mark) (holds_more (take k routes) map has_length added.holds next is none wide);
         distinct = rw (one_more routes k d within) (distinct_more (take k routes) map has_length added.holds next is none wide added.distinct);
-        wide = ap length mark ∙ length-set has_length next.network.length true ∙ added.wide;
+        wide = ap length mark ∙ length-set has_length (mark_of next) true ∙ added.wide;
       }

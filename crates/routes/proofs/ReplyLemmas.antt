@@ -1,12 +1,11 @@
 -- What a run says and writes, line by line.
-use Rattle.std.proofs.Common.{◌≡◌, ◌∙◌, ℕ, zero, suc, ◌+◌, ◌<◌, List, [], ◌∷◌, ◌++◌, All, Contains, length, take, drop, get_or, refl, sym, ap, arith, append_assoc, append-nil, add-one}
+use Rattle.std.proofs.Common.{◌≡◌, ◌∙◌, ℕ, zero, suc, ◌+◌, ◌<◌, List, [], ◌∷◌, ◌++◌, Contains, length, take, drop, get_or, refl, sym, ap, arith, append_assoc, append-nil, add-one}
 use Rattle.std.specs.Prelude.{codes, Result, Ok, Err, OnOk}
 use Rattle.std.specs.List.{AllZip, flat_map}
 use Rattle.std.proofs.Math.Seq.{take-suc}
 use Rattle.std.proofs.lemmas.Grind.{flat_map-append}
 use Rattle.std.proofs.lemmas.List.Concat.{flat_map-cons}
-use Rattle.std.proofs.lemmas.List.Elements.{All-cons, All-nil}
-use Rattle.program_lines.specs.Lines.{line, SayAll}
+use Rattle.program_lines.specs.Lines.{line}
 use Rattle.routes.specs.declared.route.Route.{Route}
 use Rattle.routes.specs.declared.route.Query.{Query}
 use Rattle.routes.specs.Addresses.{IsAddress}
@@ -16,27 +15,15 @@ use Rattle.routes.specs.Replies.{IsReply}
 use Rattle.routes.specs.Maps.{IsRoute, AppendsReply, AppendsReplies}
 
 -- what the lines say are routes and addresses
-route_said : (line : List ℕ) (route : Route) → SayRoute line route → IsRoute route
+pub route_said : (line : List ℕ) (route : Route) → SayRoute line route → IsRoute route
 route_said line route (text, next_hop, same, cut, some, (prefix, digits, at, (ip, spelled, is, fits), (number, most, none))) =
     record { address = fits; fits = most; none_behind = none }
-
-pub all_routes : (lines : List (List ℕ)) (routes : List Route) → SayAll SayRoute lines routes → All IsRoute routes
-all_routes [] [] said = All-nil IsRoute
-all_routes [] (route ∷ routes) said = absurd said
-all_routes (first ∷ lines) [] said = absurd said
-all_routes (first ∷ lines) (route ∷ routes) said = All-cons IsRoute route routes (route_said first route said.0) (all_routes lines routes said.1)
 
 abbrev pub OfAddress : Query → Type 0
 OfAddress query = IsAddress query.address
 
-address_said : (line : List ℕ) (query : Query) → SayQuery line query → OfAddress query
+pub address_said : (line : List ℕ) (query : Query) → SayQuery line query → OfAddress query
 address_said line query (same, (ip, spelled, is, fits)) = fits
-
-pub all_addresses : (lines : List (List ℕ)) (queries : List Query) → SayAll SayQuery lines queries → All OfAddress queries
-all_addresses [] [] said = All-nil OfAddress
-all_addresses [] (query ∷ queries) said = absurd said
-all_addresses (first ∷ lines) [] said = absurd said
-all_addresses (first ∷ lines) (query ∷ queries) said = All-cons OfAddress query queries (address_said first query said.0) (all_addresses lines queries said.1)
 
 -- a list is what comes before an item, the item, and what comes after
 around : {X : Type 0} (xs : List X) (k : ℕ) (d : X) → k < length xs → xs ≡ take k xs ++ get_or xs k d ∷ drop (suc k) xs

@@ -1,5 +1,5 @@
 -- What the private calls say of a table and of the output. No public clause cites it.
-use Rattle.std.specs.Prelude.{◌≡◌, ◌≢◌, ℕ, ◌≤◌, ◌-◌, ◌%◌, ◌^◌, Bool, false, true, List, ◌++◌, All, Contains, Some, slice_index_or}
+use Rattle.std.specs.Prelude.{◌≡◌, ◌≢◌, ℕ, ◌+◌, ◌≤◌, ◌-◌, ◌%◌, ◌^◌, Bool, false, true, List, ◌++◌, All, Contains, Some, slice_index_or}
 use Rattle.std.specs.List.{AllZip, flat_map}
 use Rattle.art_map.specs.Entries.{entry_with}
 use Rattle.program_lines.specs.Lines.{line}
@@ -24,10 +24,14 @@ itself key = key
 abbrev pub key_of_route : Route → List ℕ
 key_of_route route = key_text route.network.address route.network.length
 
--- the map has just these routes by their keys, and each length that one has is marked
+-- the mark of a route: the sum of the bits of its address and its length
+abbrev pub mark_of : Route → ℕ
+mark_of route = route.network.address.width + route.network.length
+
+-- the map has just these routes by their keys, and the mark of each is set
 pub record Holds (routes : List Route) (map : List (List ℕ × Route)) (has_length : List Bool) : Type 0 where
   pub are_routes : All IsRoute routes
-  pub lengths : All (λ route. slice_index_or has_length route.network.length false ≡ true) routes
+  pub lengths : All (λ route. slice_index_or has_length (mark_of route) false ≡ true) routes
   pub found : All (λ route. entry_with itself map (key_of_route route) ≡ Some (key_of_route route, route)) routes
   pub only : (key : List ℕ) (entry : List ℕ × Route) → entry_with itself map key ≡ Some entry → Contains routes entry.1 × (key_of_route entry.1 ≡ key)
 

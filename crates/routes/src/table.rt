@@ -6,7 +6,7 @@ ghost use Rattle.art_map.specs.Entries.{entry_with};
 ghost use Rattle.art_tree.specs.Entries.{put_entry};
 ghost use Rattle.routes.specs.Addresses.{IsAddress};
 ghost use Rattle.routes.specs.Tables.{AreDistinct, IsFirstDuplicate, HasNone, IsLongest};
-ghost use Rattle.routes.specs.Maps.{IsRoute, key_of_route, itself, Holds, HasNoneOf, HasLength};
+ghost use Rattle.routes.specs.Maps.{IsRoute, key_of_route, mark_of, itself, Holds, HasNoneOf, HasLength};
 
 use crate::address::Address;
 use crate::fault::Fault;
@@ -16,13 +16,17 @@ use art_map::{ArtMap, DEFAULT_PREFIX_LEN};
 use program_lines::{BadLine, Failure, Place};
 use std::alloc::{AllocError, Global};
 
+/// One mark for each sum of the bits of an address, 32 or 128, and a length, which is no greater.
+const MARKS: usize = 257;
+
 /// The routes of a table.
 #[derive(Drop)]
 pub(crate) struct Table<'a> {
     /// The routes by the keys of their networks.
     routes: ArtMap<[u8; KEY_LEN], Route<'a>, DEFAULT_PREFIX_LEN>,
-    /// Whether some route has the length. A length that none has is not looked for.
-    has_length: [bool; 129],
+    /// Whether some route has a length, for addresses of as many bits, at the sum of both. A length
+    /// that none has is not looked for.
+    has_length: [bool; MARKS],
 }
 
 /// The table of these routes.
@@ -37,7 +41,7 @@ pub(crate) fn table_of<'a>(alloc: Global, routes: &[Route<'a>]) -> Result<Table<
 {
     let mut table = Table {
         routes: ArtMap::new(alloc),
-        has_length: [false; 129],
+        has_length: [false; MARKS],
     };
     for (index, route) in routes.iter().enumerate() {
         if !add(&mut table, *route)? {
@@ -61,11 +65,11 @@ fn add<'a>(table: &mut Table<'a>, route: Route<'a>) -> Result<bool, AllocError>
     ensures one_before { IfOk result (λ added. added ≡ false →
         entry_with itself table.old.routes (key_of_route route.entry) ≢ None) }
     ensures has_length { OnOk result
-        (table.new.has_length ≡ slice_set table.old.has_length route.entry.network.length true) }
+        (table.new.has_length ≡ slice_set table.old.has_length (mark_of route.entry) true) }
 {
     let length = route.network.length;
     let key = key_of(route.network.address, length);
-    table.has_length[usize::from(length)] = true;
+    table.has_length[usize::from(route.network.address.width) + usize::from(length)] = true;
     match table.routes.try_insert(key, route) {
         Ok(before) => Ok(before.is_none()),
         Err(_) => Err(AllocError),
@@ -73,7 +77,7 @@ fn add<'a>(table: &mut Table<'a>, route: Route<'a>) -> Result<bool, AllocError>
 }
 
 /// The longest route that matches an address, or None where none does. Tries each length that a route
-/// has, from the longest, by one look-up in the map.
+/// of addresses of as many bits has, from the longest, by one look-up in the map.
 pub(crate) fn longest_match<'a>(table: &Table<'a>, address: Address) -> Option<Route<'a>>
     requires { IsAddress address }
     ensures { (routes : _) → Holds routes table.now.routes table.now.has_length →
@@ -94,7 +98,7 @@ fn match_of_length<'a>(table: &Table<'a>, address: Address, length: u8) -> Optio
     ensures { (routes : _) → Holds routes table.now.routes table.now.has_length →
         MatchOption result (HasNoneOf routes address length) (HasLength routes address length) }
 {
-    if !table.has_length[usize::from(length)] {
+    if !table.has_length[usize::from(address.width) + usize::from(length)] {
         return None;
     }
     table.routes.get(&key_of(address, length)).copied()

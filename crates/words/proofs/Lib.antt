@@ -1,4 +1,5 @@
 mod KeyLemmas
+mod PlaceLemmas
 mod ReplyLemmas
 mod SetLemmas
 mod QueryLemmas

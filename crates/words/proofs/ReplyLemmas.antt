@@ -1,6 +1,6 @@
--- The keys of a set beside the words of a dictionary.
+-- The keys of a set and the entries of a map beside the words of a dictionary.
 use Rattle.std.proofs.Common.{◌≡◌, ◌∙◌, ℕ, zero, suc, ◌+◌, ◌-◌, ◌<◌, ◌≤◌, Bool, true, false, cond, ◌&&◌, List, [], ◌∷◌, ◌++◌, length, take, map, filter, All, AllPairs, Contains, refl, sym, ap, subst, arith, inl, inr, get_or, append_assoc, append-nil, add-one}
-use Rattle.std.specs.Prelude.{nat_eq, Option, slice_get}
+use Rattle.std.specs.Prelude.{nat_eq, Option, None, Some, slice_get}
 use Rattle.std.specs.Borrow.{Bor}
 use Rattle.std.specs.Fmt.{decimal}
 use Rattle.std.specs.Option.{option_map}
@@ -20,7 +20,9 @@ use Rattle.art_bytes.specs.CString.{HasNoZero, IsCString}
 use Rattle.art_bytes.specs.CStringKey.{c_string_key_text}
 use Rattle.art_bytes.specs.Text.{text_order}
 use Rattle.art_bytes.specs.declared.c_string_key.CStringKey.{CStringKey}
+use Rattle.art_map.specs.Ranges.{entries_above, entries_with_prefix}
 use Rattle.words.specs.Dictionaries.{IsDictionary, word_of}
+use Rattle.words.specs.Places.{words_of}
 use Rattle.words.specs.declared.query.Query.{Query}
 use Rattle.words.specs.declared.query.Query.TheVariants.{Begin, FirstOf, Count, Before, After}
 use Rattle.std.proofs.Math.Seq.{take-suc}
@@ -46,20 +48,35 @@ text_is key is = ∥∥₁_elim is (hlevel props) (λ x. x.2 ∙ ap with_zero (s
 pub none_zero : (key : CStringKey) → IsKey key → HasNoZero (word_of key)
 none_zero key is = ∥∥₁_elim is (hlevel props) (λ x. subst HasNoZero (sym (ap without_last x.2 ∙ cut_off x.0)) x.1)
 
--- the words of some keys are some of the words
-filter_words : (p : CStringKey → Bool) (q : List ℕ → Bool) → ((key : CStringKey) → IsKey key → p key ≡ q (word_of key)) → (keys : List CStringKey) → All IsKey keys → map word_of (filter p keys) ≡ filter q (map word_of keys)
+abbrev Entry : Type 0
+Entry = CStringKey × ℕ
+
+abbrev IsEntry : Entry → Type 0
+IsEntry entry = IsKey entry.0
+
+abbrev word_at : Entry → List ℕ
+word_at entry = word_of entry.0
+
+abbrev shown_entry : Bor CStringKey × Bor ℕ → Entry
+shown_entry found = (found.0.now, found.1.now)
+
+abbrev shown_word : Bor CStringKey × Bor ℕ → List ℕ
+shown_word found = word_of found.0.now
+
+-- the words of some entries are some of the words
+filter_words : (p : Entry → Bool) (q : List ℕ → Bool) → ((entry : Entry) → IsEntry entry → p entry ≡ q (word_of entry.0)) → (entries : List Entry) → All IsEntry entries → words_of (filter p entries) ≡ filter q (words_of entries)
 filter_words p q same [] are = refl
-filter_words p q same (key ∷ keys) are = by_test (p key) (q (word_of key)) (same key (All-head IsKey key keys are)) (filter_words p q same keys (All-tail IsKey key keys are))
+filter_words p q same (entry ∷ entries) are = by_test (p entry) (q (word_of entry.0)) (same entry (All-head IsEntry entry entries are)) (filter_words p q same entries (All-tail IsEntry entry entries are))
   where
-    by_test : (t u : Bool) → t ≡ u → map word_of (filter p keys) ≡ filter q (map word_of keys) → map word_of (cond t (key ∷ filter p keys) (filter p keys)) ≡ cond u (word_of key ∷ filter q (map word_of keys)) (filter q (map word_of keys))
-    by_test true true is rest = ap (λ words. word_of key ∷ words) rest
+    by_test : (t u : Bool) → t ≡ u → words_of (filter p entries) ≡ filter q (words_of entries) → words_of (cond t (entry ∷ filter p entries) (filter p entries)) ≡ cond u (word_of entry.0 ∷ filter q (words_of entries)) (filter q (words_of entries))
+    by_test true true is rest = ap (λ words. word_of entry.0 ∷ words) rest
     by_test true false is rest = absurd (cc)
     by_test false true is rest = absurd (cc)
     by_test false false is rest = rest
 
-pub prefix_words : (prefix : List ℕ) (keys : List CStringKey) → HasNoZero prefix → All IsKey keys → map word_of (filter (λ key. starts_with nat_eq (c_string_key_text key) prefix) keys) ≡ with_prefix prefix (map word_of keys)
-prefix_words prefix keys none are =
-    filter_words (λ key. starts_with nat_eq (c_string_key_text key) prefix) (λ word. starts_with nat_eq word prefix) (λ key is. ap (λ text. starts_with nat_eq text prefix) (text_is key is) ∙ same_prefixes (word_of key) prefix none) keys are
+pub prefix_words : (prefix : List ℕ) (entries : List Entry) → HasNoZero prefix → All IsEntry entries → words_of (entries_with_prefix c_string_key_text prefix entries) ≡ with_prefix prefix (words_of entries)
+prefix_words prefix entries none are =
+    filter_words (λ entry. starts_with nat_eq (c_string_key_text entry.0) prefix) (λ word. starts_with nat_eq word prefix) (λ entry is. ap (λ text. starts_with nat_eq text prefix) (text_is entry.0 is) ∙ same_prefixes (word_of entry.0) prefix none) entries are
 
 same_place : (key : CStringKey) → IsKey key → (this text : List ℕ) → HasNoZero this → text ≡ this ++ 0 ∷ [] → text_order (c_string_key_text key) text ≡ text_order (word_of key) this
 same_place key is this text none at =
@@ -69,13 +86,13 @@ and_true : (b : Bool) → (b && true) ≡ b
 and_true true = refl
 and_true false = refl
 
-pub below_words : (this text : List ℕ) (keys : List CStringKey) → HasNoZero this → text ≡ this ++ 0 ∷ [] → All IsKey keys → map word_of (filter (λ key. is_lt (text_order (c_string_key_text key) text) && true) keys) ≡ below this (map word_of keys)
-below_words this text keys none at are =
-    filter_words (λ key. is_lt (text_order (c_string_key_text key) text) && true) (λ word. is_lt (text_order word this)) (λ key is. and_true (is_lt (text_order (c_string_key_text key) text)) ∙ ap is_lt (same_place key is this text none at)) keys are
+pub below_words : (this text : List ℕ) (entries : List Entry) → HasNoZero this → text ≡ this ++ 0 ∷ [] → All IsEntry entries → words_of (filter (λ entry. is_lt (text_order (c_string_key_text entry.0) text) && true) entries) ≡ below this (words_of entries)
+below_words this text entries none at are =
+    filter_words (λ entry. is_lt (text_order (c_string_key_text entry.0) text) && true) (λ word. is_lt (text_order word this)) (λ entry is. and_true (is_lt (text_order (c_string_key_text entry.0) text)) ∙ ap is_lt (same_place entry.0 is this text none at)) entries are
 
-pub above_words : (this text : List ℕ) (keys : List CStringKey) → HasNoZero this → text ≡ this ++ 0 ∷ [] → All IsKey keys → map word_of (filter (λ key. true && is_gt (text_order (c_string_key_text key) text)) keys) ≡ above this (map word_of keys)
-above_words this text keys none at are =
-    filter_words (λ key. true && is_gt (text_order (c_string_key_text key) text)) (λ word. is_gt (text_order word this)) (λ key is. ap is_gt (same_place key is this text none at)) keys are
+pub above_words : (this text : List ℕ) (entries : List Entry) → HasNoZero this → text ≡ this ++ 0 ∷ [] → All IsEntry entries → words_of (entries_above c_string_key_text text entries) ≡ above this (words_of entries)
+above_words this text entries none at are =
+    filter_words (λ entry. is_gt (text_order (c_string_key_text entry.0) text)) (λ word. is_gt (text_order word this)) (λ entry is. ap is_gt (same_place entry.0 is this text none at)) entries are
 
 -- a member, and what a function gives of it
 Contains-map : {A B : Type 0} (f : A → B) (xs : List A) (x : A) → Contains xs x → Contains (map f xs) (f x)
@@ -136,47 +153,53 @@ module _ (keys : List CStringKey) (list : List (List ℕ)) (are : All IsKey keys
   is_dictionary = record { ascending = words_ascend; same_words = λ word. (word_there word, word_here word) }
 
 -- one line more of the first ones
-pub first_line_more : (left : ℕ) (keys rest : List CStringKey) (key : CStringKey) (output longer whole : List ℕ) → (left ≡ 0 → ⊥) → keys ≡ key ∷ rest → longer ≡ output ++ line (word_of key) → output ++ flat_map line (take left (map word_of keys)) ≡ whole → longer ++ flat_map line (take (left - 1) (map word_of rest)) ≡ whole
-first_line_more zero keys rest key output longer whole some is pushed before = absurd (some refl)
-first_line_more (suc n) keys rest key output longer whole some is pushed before =
+pub first_line_more : (left : ℕ) (entries rest : List Entry) (entry : Entry) (output longer whole : List ℕ) → (left ≡ 0 → ⊥) → entries ≡ entry ∷ rest → longer ≡ output ++ line (word_of entry.0) → output ++ flat_map line (take left (words_of entries)) ≡ whole → longer ++ flat_map line (take (left - 1) (words_of rest)) ≡ whole
+first_line_more zero entries rest entry output longer whole some is pushed before = absurd (some refl)
+first_line_more (suc n) entries rest entry output longer whole some is pushed before =
     let less : suc n - 1 ≡ n = omega arith in
-    let others : List ℕ = flat_map line (take n (map word_of rest)) in
-    let now : output ++ flat_map line (word_of key ∷ take n (map word_of rest)) ≡ whole = rw is at before in
-    ap (λ m. longer ++ flat_map line (take m (map word_of rest))) less ∙ ap (λ o. o ++ others) pushed ∙ append_assoc output (line (word_of key)) others
-    ∙ ap (λ text. output ++ text) (sym (flat_map-cons line (word_of key) (take n (map word_of rest)))) ∙ now
+    let others : List ℕ = flat_map line (take n (words_of rest)) in
+    let now : output ++ flat_map line (word_of entry.0 ∷ take n (words_of rest)) ≡ whole = rw is at before in
+    ap (λ m. longer ++ flat_map line (take m (words_of rest))) less ∙ ap (λ o. o ++ others) pushed ∙ append_assoc output (line (word_of entry.0)) others
+    ∙ ap (λ text. output ++ text) (sym (flat_map-cons line (word_of entry.0) (take n (words_of rest)))) ∙ now
+
+-- the word of an entry, if there is one
+word_found : (found : Option (Bor CStringKey × Bor ℕ)) → option_map shown_word found ≡ option_map word_at (option_map shown_entry found)
+word_found None = refl
+word_found (Some entry) = refl
 
 -- what each query prints
-module _ (keys : List CStringKey) (are : All IsKey keys) (output longer : List ℕ) (query : Query) (said : IsSaid query) (shown : List CStringKey) where
-  pub reply_begin : (prefix : Bor (List ℕ)) (x : List ℕ) → query ≡ Begin prefix → x ≡ prefix.now → shown ≡ filter (λ key. starts_with nat_eq (c_string_key_text key) x) keys → longer ≡ output ++ flat_map line (map word_of shown) → longer ≡ output ++ reply (map word_of keys) query
+module _ (entries : List Entry) (are : All IsEntry entries) (output longer : List ℕ) (query : Query) (said : IsSaid query) (shown : List Entry) where
+  pub reply_begin : (prefix : Bor (List ℕ)) (x : List ℕ) → query ≡ Begin prefix → x ≡ prefix.now → shown ≡ entries_with_prefix c_string_key_text x entries → longer ≡ output ++ flat_map line (words_of shown) → longer ≡ output ++ reply (words_of entries) query
   reply_begin prefix x is at given pushed =
       let this : IsSaid (Begin prefix) = subst IsSaid is said in
-      let words : map word_of shown ≡ with_prefix prefix.now (map word_of keys) = ap (map word_of) (given ∙ ap (λ y. filter (λ key. starts_with nat_eq (c_string_key_text key) y) keys) at) ∙ prefix_words prefix.now keys this.1.1.0 are in
-      pushed ∙ ap (λ ws. output ++ flat_map line ws) words ∙ ap (λ q. output ++ reply (map word_of keys) q) (sym is)
+      let words : words_of shown ≡ with_prefix prefix.now (words_of entries) = ap words_of (given ∙ ap (λ y. entries_with_prefix c_string_key_text y entries) at) ∙ prefix_words prefix.now entries this.1.1.0 are in
+      pushed ∙ ap (λ ws. output ++ flat_map line ws) words ∙ ap (λ q. output ++ reply (words_of entries) q) (sym is)
 
-  pub reply_first : (prefix : Bor (List ℕ)) (most : ℕ) (x : List ℕ) → query ≡ FirstOf prefix most → x ≡ prefix.now → shown ≡ filter (λ key. starts_with nat_eq (c_string_key_text key) x) keys → longer ≡ output ++ flat_map line (take most (map word_of shown)) → longer ≡ output ++ reply (map word_of keys) query
+  pub reply_first : (prefix : Bor (List ℕ)) (most : ℕ) (x : List ℕ) → query ≡ FirstOf prefix most → x ≡ prefix.now → shown ≡ entries_with_prefix c_string_key_text x entries → longer ≡ output ++ flat_map line (take most (words_of shown)) → longer ≡ output ++ reply (words_of entries) query
   reply_first prefix most x is at given pushed =
       let this : IsSaid (FirstOf prefix most) = subst IsSaid is said in
-      let words : map word_of shown ≡ with_prefix prefix.now (map word_of keys) = ap (map word_of) (given ∙ ap (λ y. filter (λ key. starts_with nat_eq (c_string_key_text key) y) keys) at) ∙ prefix_words prefix.now keys this.1.2.0 are in
-      pushed ∙ ap (λ ws. output ++ flat_map line (take most ws)) words ∙ ap (λ q. output ++ reply (map word_of keys) q) (sym is)
+      let words : words_of shown ≡ with_prefix prefix.now (words_of entries) = ap words_of (given ∙ ap (λ y. entries_with_prefix c_string_key_text y entries) at) ∙ prefix_words prefix.now entries this.1.2.0 are in
+      pushed ∙ ap (λ ws. output ++ flat_map line (take most ws)) words ∙ ap (λ q. output ++ reply (words_of entries) q) (sym is)
 
-  pub reply_count : (prefix : Bor (List ℕ)) (x : List ℕ) → query ≡ Count prefix → x ≡ prefix.now → shown ≡ filter (λ key. starts_with nat_eq (c_string_key_text key) x) keys → longer ≡ output ++ line (decimal (length shown)) → longer ≡ output ++ reply (map word_of keys) query
+  pub reply_count : (prefix : Bor (List ℕ)) (x : List ℕ) → query ≡ Count prefix → x ≡ prefix.now → shown ≡ entries_with_prefix c_string_key_text x entries → longer ≡ output ++ line (decimal (length shown)) → longer ≡ output ++ reply (words_of entries) query
   reply_count prefix x is at given pushed =
       let this : IsSaid (Count prefix) = subst IsSaid is said in
-      let words : map word_of shown ≡ with_prefix prefix.now (map word_of keys) = ap (map word_of) (given ∙ ap (λ y. filter (λ key. starts_with nat_eq (c_string_key_text key) y) keys) at) ∙ prefix_words prefix.now keys this.1.1 are in
-      pushed ∙ ap (λ n. output ++ line (decimal n)) (sym (length-map shown word_of) ∙ ap length words) ∙ ap (λ q. output ++ reply (map word_of keys) q) (sym is)
+      let words : words_of shown ≡ with_prefix prefix.now (words_of entries) = ap words_of (given ∙ ap (λ y. entries_with_prefix c_string_key_text y entries) at) ∙ prefix_words prefix.now entries this.1.1 are in
+      pushed ∙ ap (λ n. output ++ line (decimal n)) (sym (length-map shown word_at) ∙ ap length words) ∙ ap (λ q. output ++ reply (words_of entries) q) (sym is)
 
-  pub reply_before : (word : Bor (List ℕ)) (text : List ℕ) (found : Option CStringKey) → query ≡ Before word → text ≡ word.now ++ 0 ∷ [] → shown ≡ filter (λ key. is_lt (text_order (c_string_key_text key) text) && true) keys → found ≡ slice_get shown (length shown - 1) → longer ≡ output ++ neighbour (option_map word_of found) → longer ≡ output ++ reply (map word_of keys) query
+  pub reply_before : (word : Bor (List ℕ)) (text : List ℕ) (found : Option (Bor CStringKey × Bor ℕ)) → query ≡ Before word → text ≡ word.now ++ 0 ∷ [] → shown ≡ filter (λ entry. is_lt (text_order (c_string_key_text entry.0) text) && true) entries → option_map shown_entry found ≡ slice_get shown (length shown - 1) → longer ≡ output ++ neighbour (option_map shown_word found) → longer ≡ output ++ reply (words_of entries) query
   reply_before word text found is at given last pushed =
       let this : IsSaid (Before word) = subst IsSaid is said in
-      let words : map word_of shown ≡ below word.now (map word_of keys) = ap (map word_of) given ∙ below_words word.now text keys this.1.1 at are in
-      pushed ∙ ap (λ o. output ++ neighbour o) (ap (option_map word_of) last ∙ sym (slice_get-map word_of shown (length shown - 1)) ∙ ap (λ n. slice_get (map word_of shown) (n - 1)) (sym (length-map shown word_of)) ∙ ap (λ ws. slice_get ws (length ws - 1)) words)
-      ∙ ap (λ q. output ++ reply (map word_of keys) q) (sym is)
+      let words : words_of shown ≡ below word.now (words_of entries) = ap words_of given ∙ below_words word.now text entries this.1.1 at are in
+      pushed ∙ ap (λ o. output ++ neighbour o) (word_found found ∙ ap (option_map word_at) last ∙ sym (slice_get-map word_at shown (length shown - 1)) ∙ ap (λ n. slice_get (words_of shown) (n - 1)) (sym (length-map shown word_at)) ∙ ap (λ ws. slice_get ws (length ws - 1)) words)
+      ∙ ap (λ q. output ++ reply (words_of entries) q) (sym is)
 
-  pub reply_after : (word : Bor (List ℕ)) (text : List ℕ) (found : Option CStringKey) → query ≡ After word → text ≡ word.now ++ 0 ∷ [] → shown ≡ filter (λ key. true && is_gt (text_order (c_string_key_text key) text)) keys → found ≡ slice_get shown 0 → longer ≡ output ++ neighbour (option_map word_of found) → longer ≡ output ++ reply (map word_of keys) query
+  pub reply_after : (word : Bor (List ℕ)) (text : List ℕ) (found : Option (Bor CStringKey × Bor ℕ)) → query ≡ After word → text ≡ word.now ++ 0 ∷ [] → shown ≡ entries_above c_string_key_text text entries → option_map shown_entry found ≡ slice_get shown 0 → longer ≡ output ++ neighbour (option_map shown_word found) → longer ≡ output ++ reply (words_of entries) query
   reply_after word text found is at given first pushed =
       let this : IsSaid (After word) = subst IsSaid is said in
-      let words : map word_of shown ≡ above word.now (map word_of keys) = ap (map word_of) given ∙ above_words word.now text keys this.1.1 at are in
-      pushed ∙ ap (λ o. output ++ neighbour o) (ap (option_map word_of) first ∙ sym (slice_get-map word_of shown 0) ∙ ap (λ ws. slice_get ws 0) words) ∙ ap (λ q. output ++ reply (map word_of keys) q) (sym is)
+      let words : words_of shown ≡ above word.now (words_of entries) = ap words_of given ∙ above_words word.now text entries this.1.1 at are in
+      pushed ∙ ap (λ o. output ++ neighbour o) (word_found found ∙ ap (option_map word_at) first ∙ sym (slice_get-map word_at shown 0) ∙ ap (λ ws. slice_get ws 0) words)
+      ∙ ap (λ q. output ++ reply (words_of entries) q) (sym is)
 
 -- the lines of the list are its words
 pub lines_are : (lines : List (List ℕ)) (words : List Word) → SayAll SayWord lines words → map (λ word. word.bytes.now) words ≡ lines
@@ -185,30 +208,7 @@ lines_are [] (word ∷ words) said = absurd said
 lines_are (first ∷ lines) [] said = absurd said
 lines_are (first ∷ lines) (word ∷ words) said = ap (λ bytes. bytes ∷ map (λ word. word.bytes.now) words) said.0.0 ∙ ap (λ rest. first ∷ rest) (lines_are lines words said.1)
 
--- each query is said
-pub said_at : (lines : List (List ℕ)) (queries : List Query) → SayAll SayQuery lines queries → (k : ℕ) (d : Query) → k < length queries → IsSaid (get_or queries k d)
-said_at [] [] said k d below = absurd (omega (arith, below))
-said_at [] (query ∷ queries) said k d below = absurd said
-said_at (first ∷ lines) [] said k d below = absurd said
-said_at (first ∷ lines) (query ∷ queries) said zero d below = (first, said.0)
-said_at (first ∷ lines) (query ∷ queries) said (suc k) d below = said_at lines queries said.1 k d (omega (arith, below))
-
 -- a filter gives no more
 pub no_more : {X : Type 0} (p : X → Bool) (xs : List X) → length (filter p xs) ≤ length xs
 no_more p [] = omega arith
 no_more p (x ∷ xs) = elim (cases_Bool (p x)) [ inl e ↦ rw e (omega (arith, no_more p xs)) | inr e ↦ rw e (omega (arith, no_more p xs)) ]
-
--- so all queries are said
-pub all_said : (lines : List (List ℕ)) (queries : List Query) → SayAll SayQuery lines queries → All IsSaid queries
-all_said [] [] said = All-nil IsSaid
-all_said [] (query ∷ queries) said = absurd said
-all_said (first ∷ lines) [] said = absurd said
-all_said (first ∷ lines) (query ∷ queries) said = All-cons IsSaid query queries (first, said.0) (all_said lines queries said.1)
-
--- one reply more
-pub reply_more : (words : List (List ℕ)) (queries : List Query) (k : ℕ) (d : Query) (start output longer : List ℕ) → k < length queries → output ≡ start ++ flat_map (reply words) (take k queries) → longer ≡ output ++ reply words (get_or queries k d) → longer ≡ start ++ flat_map (reply words) (take (k + 1) queries)
-reply_more words queries k d start output longer below before pushed =
-    let cut : take (k + 1) queries ≡ take k queries ++ get_or queries k d ∷ [] = rw add-one (take-suc queries k d below) in
-    let one : flat_map (reply words) (get_or queries k d ∷ []) ≡ reply words (get_or queries k d) = flat_map-cons (reply words) (get_or queries k d) [] ∙ append-nil (reply words (get_or queries k d)) in
-    pushed ∙ ap (λ o. o ++ reply words (get_or queries k d)) before ∙ append_assoc start (flat_map (reply words) (take k queries)) (reply words (get_or queries k d))
-    ∙ ap (λ more. start ++ (flat_map (reply words) (take k queries) ++ more)) (sym one) ∙ ap (λ more. start ++ more) (sym (flat_map-append (reply words) (take k queries) (get_or queries k d ∷ [])) ∙ ap (flat_map (reply words)) (sym cut))

@@ -1,3 +1,4 @@
 pub mod Queries
 pub mod Dictionaries
+pub mod Places
 pub mod Replies

@@ -3,17 +3,19 @@ ghost use Rattle.std.specs.Prelude.{◌≡◌, ◌≤◌, ◌<◌, ◌^◌, ◌+
 ghost use Rattle.art_bytes.specs.CString.{HasNoZero};
 ghost use Rattle.art_bytes.specs.CStringKey.{c_string_key_text};
 ghost use Rattle.words.specs.Dictionaries.{IsDictionary, word_of as word_of_key};
+ghost use Rattle.words.specs.Places.{CountsFrom, words_of};
 ghost use Rattle.words.specs.Queries.{SayWord};
 
 use crate::fault::Fault;
 use crate::query::without_zero;
 use art_bytes::{AsBytes, CStringKey};
-use art_map::{ArtSet, DEFAULT_PREFIX_LEN};
+use art_map::{ArtMap, ArtSet, DEFAULT_PREFIX_LEN};
 use program_lines::FromLine;
 use std::alloc::{AllocError, Global};
 
-/// The words of a list. A word's key is its bytes and a zero byte.
-pub(crate) type Dictionary = ArtSet<CStringKey, DEFAULT_PREFIX_LEN>;
+/// The words of a list. A word's key is its bytes and a zero byte, and its value how many words come
+/// before it in order, so that words with one prefix are counted by the places of the first and the last.
+pub(crate) type Dictionary = ArtMap<CStringKey, usize, DEFAULT_PREFIX_LEN>;
 
 /// A line of the list.
 #[derive(Clone, Copy)]
@@ -39,26 +41,56 @@ impl<'a> FromLine<'a> for Word<'a> {
 
 /// The dictionary of these words.
 pub(crate) fn dictionary_of(alloc: Global, words: &[Word<'_>]) -> Result<Dictionary, AllocError>
-    ensures { IfOk result (λ set.
-        IsDictionary (map (λ word. word.bytes.now) words.now) (map word_of_key set)) }
+    ensures words { IfOk result (λ entries.
+        IsDictionary (map (λ word. word.bytes.now) words.now) (words_of entries)) }
+    ensures places { IfOk result (CountsFrom 0) }
 {
-    let mut dictionary = ArtSet::new(alloc);
+    let keys = keys_of(alloc, words)?;
+    with_places(alloc, keys)
+}
+
+// The keys of these words.
+fn keys_of(
+    alloc: Global,
+    words: &[Word<'_>],
+) -> Result<ArtSet<CStringKey, DEFAULT_PREFIX_LEN>, AllocError>
+    ensures { IfOk result (λ keys.
+        IsDictionary (map (λ word. word.bytes.now) words.now) (map word_of_key keys)) }
+{
+    let mut keys = ArtSet::new(alloc);
     for word in words {
         let key = key_of(alloc, word.bytes)?;
-        match dictionary.insert(key) {
+        match keys.insert(key) {
             Ok(_) => {}
             Err(_) => return Err(AllocError),
         }
     }
-    dictionary.keys_ascend();
-    Ok(dictionary)
+    keys.keys_ascend();
+    Ok(keys)
+}
+
+// The dictionary of the words of these keys.
+fn with_places(
+    alloc: Global,
+    keys: ArtSet<CStringKey, DEFAULT_PREFIX_LEN>,
+) -> Result<Dictionary, AllocError>
+    ensures words { IfOk result (λ entries. words_of entries ≡ map word_of_key keys) }
+    ensures places { IfOk result (CountsFrom 0) }
+{
+    let mut entries = Vec::with_capacity(alloc, keys.len())?;
+    for key in keys {
+        let place = entries.len();
+        entries.push((key, place))?;
+    }
+    ArtMap::from_ascending(alloc, entries).map_err(|_| AllocError)
 }
 
 /// The key of a word. An allocation may fail, and nothing else where no byte is zero.
 pub(crate) fn key_of(alloc: Global, word: &[u8]) -> Result<CStringKey, AllocError>
     ensures text { IfOk result (λ key. c_string_key_text key ≡ word.now ++ 0 ∷ []) }
 {
-    let bytes = word.to_vec(alloc)?;
+    let mut bytes = Vec::with_capacity(alloc, word.len() + 1)?;
+    bytes.extend_from_slice(word)?;
     CStringKey::new(bytes).map_err(|_| AllocError)
 }
 

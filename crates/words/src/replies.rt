@@ -2,9 +2,10 @@
 ghost use Rattle.std.specs.Prelude.{◌≡◌, ◌-◌, ◌≤◌, ◌++◌, All, OnOk, codes, length, map, slice_get, take};
 ghost use Rattle.std.specs.Fmt.{decimal};
 ghost use Rattle.std.specs.List.{flat_map};
-ghost use Rattle.std.specs.Option.{option_copied, option_map};
+ghost use Rattle.std.specs.Option.{option_map};
 ghost use Rattle.program_lines.specs.Lines.{line};
 ghost use Rattle.words.specs.Dictionaries.{word_of as word_of_key};
+ghost use Rattle.words.specs.Places.{Counts, CountsFrom, words_of};
 ghost use Rattle.words.specs.Queries.{IsSaid};
 ghost use Rattle.words.specs.Replies.{reply, neighbour};
 
@@ -12,8 +13,8 @@ use crate::dictionary::{Dictionary, Word, dictionary_of, key_of, word_of};
 use crate::fault::Fault;
 use crate::query::Query;
 use art_bytes::{CStringKey, SliceKey};
-use art_map::{DEFAULT_PREFIX_LEN, Keys};
-use program_lines::{Failure, Place, Program, push_line, said};
+use art_map::{DEFAULT_PREFIX_LEN, Iter};
+use program_lines::{Failure, Place, Program, push_line, push_number, said};
 use std::alloc::{AllocError, Global};
 use std::ops::Bound;
 
@@ -50,6 +51,9 @@ impl Program for Words {
     }
 }
 
+// Words of a dictionary in order, each with its place.
+type Entries<'a> = Iter<'a, CStringKey, usize, DEFAULT_PREFIX_LEN>;
+
 // Appends what the queries print, one after another.
 fn push_replies(
     alloc: Global,
@@ -57,9 +61,10 @@ fn push_replies(
     queries: &[Query<'_>],
     output: &mut Vec<u8>,
 ) -> Result<(), AllocError>
-    requires { All IsSaid queries.now }
+    requires places { CountsFrom 0 dictionary.now }
+    requires said { All IsSaid queries.now }
     ensures { OnOk result (output.new.items
-        ≡ output.old.items ++ flat_map (reply (map word_of_key dictionary.now)) queries.now) }
+        ≡ output.old.items ++ flat_map (reply (words_of dictionary.now)) queries.now) }
 {
     for query in queries {
         push_reply(alloc, dictionary, query, output)?;
@@ -74,11 +79,12 @@ fn push_reply(
     query: &Query<'_>,
     output: &mut Vec<u8>,
 ) -> Result<(), AllocError>
-    requires { IsSaid query.now }
+    requires places { CountsFrom 0 dictionary.now }
+    requires said { IsSaid query.now }
     ensures { OnOk result (output.new.items
-        ≡ output.old.items ++ reply (map word_of_key dictionary.now) query.now) }
+        ≡ output.old.items ++ reply (words_of dictionary.now) query.now) }
 {
-    dictionary.keys_ascend();
+    dictionary.entries_ascend();
     match *query {
         Query::Begin(prefix) => {
             push_words(dictionary.prefix(&SliceKey::new(prefix)), output)?;
@@ -87,8 +93,8 @@ fn push_reply(
             push_first_words(dictionary.prefix(&SliceKey::new(prefix)), most, output)?;
         }
         Query::Count(prefix) => {
-            let words = dictionary.prefix(&SliceKey::new(prefix));
-            let count = count_of(words, dictionary.len());
+            let entries = dictionary.prefix(&SliceKey::new(prefix));
+            let count = count_of(entries, dictionary.len());
             push_number(alloc, count, output)?;
         }
         Query::Before(word) => {
@@ -98,8 +104,7 @@ fn push_reply(
         }
         Query::After(word) => {
             let key = key_of(alloc, word)?;
-            let above = dictionary.range(Bound::Excluded(&key), Bound::Unbounded);
-            push_neighbour(first_of(above), output)?;
+            push_neighbour(dictionary.upper_bound(&key), output)?;
         }
     }
     Ok(())
@@ -119,47 +124,39 @@ fn push_counts(
     push_line(output, text.as_bytes())
 }
 
-// How many keys there are. The set has no fewer.
-fn count_of(keys: Keys<'_, CStringKey, (), DEFAULT_PREFIX_LEN>, most: usize) -> usize
-    requires { length keys ≤ most }
-    ensures { result ≡ length keys.entry }
+// How many entries there are, by their places. The dictionary has no fewer.
+fn count_of(mut entries: Entries<'_>, most: usize) -> usize
+    requires places { Counts entries }
+    requires most { length entries ≤ most }
+    ensures { result ≡ length entries.entry }
 {
-    keys.count()
-}
-
-// Appends a line with a number.
-fn push_number(alloc: Global, number: usize, output: &mut Vec<u8>) -> Result<(), AllocError>
-    ensures { OnOk result (output.new.items ≡ output.old.items ++ line (decimal number)) }
-{
-    let text = format!(in alloc; "{number}")?;
-    push_line(output, text.as_bytes())
+    let Some((_, first)) = entries.next() else {
+        return 0;
+    };
+    match entries.next_back() {
+        Some((_, last)) => *last - *first + 1,
+        None => 1,
+    }
 }
 
 // Appends a line for each word.
-fn push_words(
-    keys: Keys<'_, CStringKey, (), DEFAULT_PREFIX_LEN>,
-    output: &mut Vec<u8>,
-) -> Result<(), AllocError>
+fn push_words(entries: Entries<'_>, output: &mut Vec<u8>) -> Result<(), AllocError>
     ensures { OnOk result (output.new.items
-        ≡ output.old.items ++ flat_map line (map word_of_key keys.entry)) }
+        ≡ output.old.items ++ flat_map line (words_of entries.entry)) }
 {
-    for key in keys {
+    for (key, _) in entries {
         push_line(output, word_of(key))?;
     }
     Ok(())
 }
 
 // Appends a line for each of the first words, at most so many.
-fn push_first_words(
-    keys: Keys<'_, CStringKey, (), DEFAULT_PREFIX_LEN>,
-    most: u64,
-    output: &mut Vec<u8>,
-) -> Result<(), AllocError>
+fn push_first_words(entries: Entries<'_>, most: u64, output: &mut Vec<u8>) -> Result<(), AllocError>
     ensures { OnOk result (output.new.items
-        ≡ output.old.items ++ flat_map line (take most (map word_of_key keys.entry))) }
+        ≡ output.old.items ++ flat_map line (take most (words_of entries.entry))) }
 {
     let mut left = most;
-    for key in keys {
+    for (key, _) in entries {
         if left == 0 {
             return Ok(());
         }
@@ -169,27 +166,24 @@ fn push_first_words(
     Ok(())
 }
 
-// Appends a line with the word of a key, or with none.
-fn push_neighbour(key: Option<&CStringKey>, output: &mut Vec<u8>) -> Result<(), AllocError>
-    ensures { OnOk result (output.new.items
-        ≡ output.old.items ++ neighbour (option_map word_of_key (option_copied key.entry))) }
+// Appends a line with the word of an entry, or with none.
+fn push_neighbour(
+    entry: Option<(&CStringKey, &usize)>,
+    output: &mut Vec<u8>,
+) -> Result<(), AllocError>
+    ensures { OnOk result (output.new.items ≡ output.old.items
+        ++ neighbour (option_map (λ (key, place). word_of_key key.now) entry.entry)) }
 {
-    match key {
-        Some(key) => push_line(output, word_of(key)),
+    match entry {
+        Some((key, _)) => push_line(output, word_of(key)),
         None => push_line(output, b"none"),
     }
 }
 
-// The first of these keys.
-fn first_of<'a>(mut keys: Keys<'a, CStringKey, (), DEFAULT_PREFIX_LEN>) -> Option<&'a CStringKey>
-    ensures { option_copied result ≡ slice_get keys.entry 0 }
+// The last of these entries.
+fn last_of<'a>(mut entries: Entries<'a>) -> Option<(&'a CStringKey, &'a usize)>
+    ensures { option_map (λ (key, place). (key.now, place.now)) result
+        ≡ slice_get entries.entry (length entries.entry - 1) }
 {
-    keys.next()
-}
-
-// The last of them.
-fn last_of<'a>(mut keys: Keys<'a, CStringKey, (), DEFAULT_PREFIX_LEN>) -> Option<&'a CStringKey>
-    ensures { option_copied result ≡ slice_get keys.entry (length keys.entry - 1) }
-{
-    keys.next_back()
+    entries.next_back()
 }

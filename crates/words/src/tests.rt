@@ -1,65 +1,49 @@
-//! Whole runs over a reader and writers in memory.
+//! Whole runs over bytes in memory.
 use super::*;
-use program_lines::run;
-use std::alloc::Global;
-use std::process::Abort;
+use program_lines::run_in_memory;
 use std::test::Fail;
 
 const LIST: &[u8] = b"tin\ntitanium\niron\ntin\n\nzinc\nti";
 
-// What one run reads and writes to the two writers, and its status.
-#[derive(Clone, Copy)]
-struct Case<'a> {
-    list: &'a [u8],
-    queries: &'a [u8],
-    output: &'a str,
-    errors: &'a str,
-    status: u8,
-}
-
-fn check(rt: &impl Abort, alloc: Global, case: &Case<'_>) {
-    let mut queries = case.queries;
-    let mut output = Vec::new(alloc);
-    let mut errors = Vec::new(alloc);
-    let status = run::<Words, _, _, _>(alloc, case.list, &mut queries, &mut output, &mut errors);
-    assert!(rt; output.as_slice() == case.output.as_bytes());
-    assert!(rt; errors.as_slice() == case.errors.as_bytes());
-    assert!(rt; status == case.status);
+#[test]
+fn each_query_is_answered_in_its_turn(rt: HostRuntime) -> Result<(), Fail> {
+    let queries = b"?ti\n?ti 2\n?ti 0\n?\n<tin\n>tin\n>zinc\n<\n>";
+    let output =
+        b"6 words in 7 lines\nti\ntin\ntitanium\nti\ntin\n\niron\nti\ntin\ntitanium\nzinc\nti\n\
+        titanium\nnone\nnone\niron\n";
+    assert!(rt; run_in_memory::<Words>(rt.alloc(), LIST, queries).is(0, output, b""));
+    Ok(())
 }
 
 #[test]
-fn each_query_is_answered_in_its_turn(rt: HostRuntime) -> Result<(), Fail> {
-    let case = Case {
-        list: LIST,
-        queries: b"?ti\n?ti 2\n?ti 0\n?\n#ti\n#x\n<tin\n>tin\n>zinc\n<\n>",
-        output: "6 words in 7 lines\nti\ntin\ntitanium\nti\ntin\n\niron\nti\ntin\ntitanium\nzinc\n3\n0\nti\n\
-            titanium\nnone\nnone\niron\n",
-        errors: "",
-        status: 0,
-    };
-    check(&rt, rt.alloc(), &case);
+fn words_with_a_prefix_are_counted(rt: HostRuntime) -> Result<(), Fail> {
+    let outcome = run_in_memory::<Words>(rt.alloc(), LIST, b"#ti\n#tin\n#zinc\n#x\n#");
+    assert!(rt; outcome.is(0, b"6 words in 7 lines\n3\n1\n1\n0\n6\n", b""));
+    Ok(())
+}
+
+#[test]
+fn an_empty_list_has_no_words(rt: HostRuntime) -> Result<(), Fail> {
+    let outcome = run_in_memory::<Words>(rt.alloc(), b"", b"?\n#\n<x\n>");
+    assert!(rt; outcome.is(0, b"0 words in 0 lines\n0\nnone\nnone\n", b""));
     Ok(())
 }
 
 #[test]
 fn bad_lines_are_refused_with_their_number(rt: HostRuntime) -> Result<(), Fail> {
-    let refusals: [(&[u8], &[u8], &str); 6] = [
-        (b"tin\nti\0n", b"?", "file line 2: zero byte\n"),
-        (b"tin", b"?\ntin", "input line 2: unknown query\n"),
-        (b"tin", b"?\n\n?", "input line 2: unknown query\n"),
-        (b"tin", b"?t x", "input line 1: bad number\n"),
-        (b"tin", b"?t 1 1", "input line 1: bad number\n"),
-        (b"tin", b"#\0", "input line 1: zero byte\n"),
+    let refusals: [(&[u8], &[u8], &[u8]); 9] = [
+        (b"tin\nti\0n", b"?", b"file line 2: zero byte\n"),
+        (b"tin", b"?\ntin", b"input line 2: unknown query\n"),
+        (b"tin", b"?\n\n?", b"input line 2: unknown query\n"),
+        (b"tin", b"?t x", b"input line 1: bad number\n"),
+        (b"tin", b"?t 1 1", b"input line 1: bad number\n"),
+        (b"tin", b"?t 12345678901", b"input line 1: bad number\n"),
+        (b"tin", b"#\0", b"input line 1: zero byte\n"),
+        (b"tin", b"?\0 1", b"input line 1: zero byte\n"),
+        (b"tin", b"<tin\n>\0", b"input line 2: zero byte\n"),
     ];
     for (list, queries, errors) in refusals {
-        let case = Case {
-            list,
-            queries,
-            output: "",
-            errors,
-            status: 2,
-        };
-        check(&rt, rt.alloc(), &case);
+        assert!(rt; run_in_memory::<Words>(rt.alloc(), list, queries).is(2, b"", errors));
     }
     Ok(())
 }

@@ -1,15 +1,15 @@
-use Rattle.std.proofs.Common.{◌++◌, ◌∙◌, map, arith, ap}
+use Rattle.std.proofs.Common.{◌++◌, ◌∙◌, arith, ap}
 use Rattle.std.proofs.Math.Seq.{take_all}
 use Rattle.std.specs.List.{flat_map}
-use Rattle.words.specs.Dictionaries.{word_of}
+use Rattle.words.specs.Places.{words_of}
 use Rattle.words.specs.Replies.{reply}
-use Rattle.words.proofs.ReplyLemmas.{reply_more}
+use Rattle.program_lines.proofs.Replies.{reply_more}
 use Rattle.words.proofs.replies.push_replies.Goals as goal
 
 pub loop-query-preserved : goal.loop-query-preserved
 loop-query-preserved c =
-    reply_more (map word_of c.args.dictionary.now) c.args.queries.now c.loop-query.query-index _ c.args.output.now.items c.loop-query.output.items c.push_reply.new.output.items (omega (arith, c.loop-query-test.true)) c.loop-query.invariant c.in_ok-push_reply.ensures
+    reply_more (reply (words_of c.args.dictionary.now)) c.args.queries.now c.loop-query.query-index _ c.args.output.now.items c.loop-query.output.items c.push_reply.new.output.items (omega (arith, c.loop-query-test.true)) c.loop-query.invariant c.in_ok-push_reply.ensures
 
 pub returns : goal.returns
 returns c =
-    c.loop-query.invariant ∙ ap (λ queries. c.args.output.now.items ++ flat_map (reply (map word_of c.args.dictionary.now)) queries) (take_all c.loop-query.query-index c.args.queries.now (omega (arith, c.loop-query-test.false)))
+    c.loop-query.invariant ∙ ap (λ queries. c.args.output.now.items ++ flat_map (reply (words_of c.args.dictionary.now)) queries) (take_all c.loop-query.query-index c.args.queries.now (omega (arith, c.loop-query-test.false)))

@@ -1,0 +1,17 @@
+-- The words of entries and their places in order. No public clause cites this.
+use Rattle.std.specs.Prelude.{◌≡◌, ℕ, suc, List, [], ◌∷◌, map}
+use Rattle.art_bytes.specs.declared.c_string_key.CStringKey.{CStringKey}
+use Rattle.words.specs.Dictionaries.{word_of}
+
+-- the words of these entries, each of a key and a place
+abbrev pub words_of : List (CStringKey × ℕ) → List (List ℕ)
+words_of entries = map (λ entry. word_of entry.0) entries
+
+-- the places count up from this number
+abbrev pub CountsFrom : {K : Type 0} → ℕ → List (K × ℕ) → Type 0
+CountsFrom n [] = Unit {0}
+CountsFrom n (entry ∷ entries) = (entry.1 ≡ n) × CountsFrom (suc n) entries
+
+-- they count up from some number
+abbrev pub Counts : {K : Type 0} → List (K × ℕ) → Type 0
+Counts entries = (n : ℕ) × CountsFrom n entries
