@@ -37,5 +37,6 @@ pub mod set_numbers;
 pub mod stock;
 pub mod strings;
 pub mod tuples;
+pub mod tuples_generic;
 pub mod word_set;
 pub mod words;
