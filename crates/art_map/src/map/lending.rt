@@ -34,8 +34,9 @@ impl<K: AsBytes, V, const PREFIX_LEN: usize> ArtMap<K, V, PREFIX_LEN> {
     }
 
     /// Calls the closure at each entry, in ascending order of the bytes of their keys. It may change
-    /// the value, and the map ends with the same keys, each with the value that its call left. Takes
-    /// time linear in the number of entries, and no memory.
+    /// the value, and the map ends with the same keys, each with the value that its call left. Visits
+    /// the nodes on the way to the first entry; then each entry takes constant time beside its call.
+    /// Takes no memory and never fails.
     ///
     /// Where each call leaves what a function makes of key and value, and changes nothing else, the
     /// lemma `values_same` of `proofs/CallLaws.antt` has the entries afterwards.
