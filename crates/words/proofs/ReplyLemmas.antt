@@ -1,5 +1,5 @@
 -- The keys of a set and the entries of a map beside the words of a dictionary.
-use Rattle.std.proofs.Common.{◌≡◌, ◌∙◌, ℕ, zero, suc, ◌+◌, ◌-◌, ◌<◌, ◌≤◌, Bool, true, false, cond, ◌&&◌, List, [], ◌∷◌, ◌++◌, length, take, map, filter, All, AllPairs, Contains, refl, sym, ap, subst, arith, inl, inr, get_or, append_assoc, append-nil, add-one}
+use Rattle.std.proofs.Common.{◌≡◌, ◌∙◌, ℕ, zero, suc, ◌-◌, ◌<◌, ◌≤◌, Bool, true, false, cond, ◌&&◌, List, [], ◌∷◌, ◌++◌, length, take, map, filter, All, AllPairs, Contains, refl, sym, ap, subst, arith, inl, inr, get_or, append_assoc}
 use Rattle.std.specs.Prelude.{nat_eq, Option, None, Some, slice_get}
 use Rattle.std.specs.Borrow.{Bor}
 use Rattle.std.specs.Fmt.{decimal}
@@ -15,7 +15,7 @@ use Rattle.std.proofs.Math.Logic.{∥∥₁_elim}
 use Rattle.std.proofs.Props.{props}
 use Rattle.std.proofs.Math.ListN.{get_or-map as get_or-map_same}
 use Rattle.std.proofs.lemmas.List.{length-map, get_or-map}
-use Rattle.std.proofs.lemmas.List.Elements.{All-cons, All-head, All-nil, All-tail}
+use Rattle.std.proofs.lemmas.List.Elements.{All-head, All-tail}
 use Rattle.art_bytes.specs.CString.{HasNoZero, IsCString}
 use Rattle.art_bytes.specs.CStringKey.{c_string_key_text}
 use Rattle.art_bytes.specs.Text.{text_order}
@@ -25,10 +25,8 @@ use Rattle.words.specs.Dictionaries.{IsDictionary, word_of}
 use Rattle.words.specs.Places.{words_of}
 use Rattle.words.specs.declared.query.Query.{Query}
 use Rattle.words.specs.declared.query.Query.TheVariants.{Begin, FirstOf, Count, Before, After}
-use Rattle.std.proofs.Math.Seq.{take-suc}
-use Rattle.std.proofs.lemmas.Grind.{flat_map-append}
 use Rattle.words.specs.declared.dictionary.Word.{Word}
-use Rattle.words.specs.Queries.{IsSaid, SayWord, SayQuery}
+use Rattle.words.specs.Queries.{IsSaid, SayWord}
 use Rattle.words.specs.Replies.{with_prefix, below, above, neighbour, reply}
 use Rattle.words.proofs.KeyLemmas.{same_order, same_prefixes, cut_off}
 

@@ -1,6 +1,5 @@
-use Rattle.std.proofs.Common.{◌≡◌, ◌++◌, map}
+use Rattle.std.proofs.Common.{map}
 use Rattle.words.specs.Dictionaries.{word_of}
-use Rattle.words.specs.Places.{CountsFrom, words_of}
 use Rattle.words.proofs.PlaceLemmas.{PlacedSoFar}
 use Rattle.words.proofs.dictionary.with_places.Given as goal
 
