@@ -147,9 +147,10 @@ fn read_neighbours(rt: &impl Abort, prices: &Prices) {
         panic!(rt; "no entry");
     };
     assert!(rt; *least == 26 && *greatest == 30);
-    let (Some((_, here)), Some((_, above))) =
-        (prices.lower_bound(b"tin"), prices.upper_bound(b"tin"))
-    else {
+    let (Some((_, here)), Some((_, above))) = (
+        prices.lower_bound(b"tin"),
+        prices.upper_bound(b"tin"),
+    ) else {
         panic!(rt; "no entry");
     };
     assert!(rt; *here == 50 && *above == 22);
