@@ -13,8 +13,6 @@ mod lines;
 mod program;
 mod replay;
 mod request;
-#[cfg(test)]
-mod tests;
 mod writing;
 
 pub use failure::{Failure, LineFault};

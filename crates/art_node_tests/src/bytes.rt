@@ -114,15 +114,6 @@ fn various_types_as_bytes(rt: HostRuntime) -> Result<(), Fail> {
 }
 
 #[test]
-fn a_proper_prefix_is_less_and_else_the_first_byte_that_differs_decides(rt: HostRuntime) {
-    let strings = ["", "a", "ab", "b", "ba", "\u{7f}", "\u{80}"];
-    check_ascending(&rt, &strings.map(StrKey::new));
-
-    let slices: [&[u8]; 7] = [&[], &[0], &[0, 0], &[0, 255], &[1], &[127], &[128]];
-    check_ascending(&rt, &slices.map(SliceKey::new));
-}
-
-#[test]
 fn arrays_and_wrapped_keys_ascend_and_none_begins_another(rt: HostRuntime) -> Result<(), Fail> {
     let alloc = rt.alloc();
     let pairs = [[0, 0], [0, 255], [1, 0], [127, 1], [128, 0]];

@@ -2,7 +2,6 @@
 mod builder;
 mod conversions;
 mod direct;
-mod each_kind;
 mod indirect;
 mod iteration;
 mod leaf_node;

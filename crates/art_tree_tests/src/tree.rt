@@ -1,8 +1,6 @@
 //! Tests of trees that are made by `load` and by inserts and removals.
 mod branches;
 mod changes;
-mod composite;
-mod dictionary;
 mod loading;
 mod matches;
 mod path;
@@ -86,71 +84,4 @@ fn load_texts<'a, const PREFIX_LEN: usize>(
         HasTree ⟦<SliceKey<'a> as AsBytes>⟧.text arena.new root) }
 {
     load_all(alloc, arena, slice_keys(alloc, texts)?)
-}
-
-// The number of the entry that is found, and the bytes of its path from the grandparent on.
-#[derive(Clone, Copy, PartialEq)]
-enum Answer {
-    Nothing,
-    Root(usize),
-    Child(usize, u8),
-    Normal(usize, u8, u8),
-}
-
-// A key, the result of a search for it, and its node visits.
-type Row<'a> = (&'a [u8], Answer, usize);
-
-// The result of a search for the key, and its node visits.
-fn search<K: AsBytes, const PREFIX_LEN: usize>(
-    arena: &NodeArena<K, usize, PREFIX_LEN>,
-    root: OpaqueNodePtr<K, usize, PREFIX_LEN>,
-    key: &[u8],
-) -> (Answer, usize)
-    requires { HasTree K.text arena.now root }
-{
-    let budget = key.len() + 1;
-    let mut reader = ArenaReader::with_budget(arena, budget);
-    let found = find_leaf(&mut reader, root, key);
-    let visits = budget - reader.remaining();
-    let Some((leaf, path)) = found else {
-        return (Answer::Nothing, visits);
-    };
-    let number = *arena.as_ref(leaf).value_ref();
-    let answer = match path {
-        TreePath::Root => Answer::Root(number),
-        TreePath::ChildOfRoot { child_key_byte, .. } => Answer::Child(number, child_key_byte),
-        TreePath::Normal {
-            parent_key_byte,
-            child_key_byte,
-            ..
-        } => Answer::Normal(number, parent_key_byte, child_key_byte),
-    };
-    (answer, visits)
-}
-
-// The searches for these keys have these results.
-fn check<K: AsBytes, const PREFIX_LEN: usize>(
-    rt: &impl Abort,
-    arena: &NodeArena<K, usize, PREFIX_LEN>,
-    root: OpaqueNodePtr<K, usize, PREFIX_LEN>,
-    rows: &[Row],
-)
-    requires { HasTree K.text arena.now root }
-{
-    for (row, (key, answer, visits)) in rows.iter().enumerate() {
-        assert!(rt; search(arena, root, key) == (*answer, *visits), "row {row}");
-    }
-}
-
-// The searches for these keys have these results in the tree of `keys`.
-fn check_keys<K: AsBytes + Drop, const PREFIX_LEN: usize>(
-    rt: &impl Abort,
-    alloc: Global,
-    mut arena: NodeArena<K, usize, PREFIX_LEN>,
-    keys: Vec<K>,
-    rows: &[Row],
-) -> Result<(), Fail> {
-    let root = load_all(alloc, &mut arena, keys)?;
-    check(rt, &arena, root, rows);
-    Ok(())
 }

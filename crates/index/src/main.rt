@@ -12,8 +12,6 @@ mod reading;
 mod replies;
 mod row_key;
 mod rows;
-#[cfg(test)]
-mod tests;
 
 pub use fault::Fault;
 pub use replies::ReadingIndex;

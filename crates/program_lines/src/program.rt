@@ -115,7 +115,7 @@ impl Outcome {
 ///
 /// A list with `tin`, `titanium`, `iron`, `ti`, `zinc`, and an empty word:
 ///
-/// (from crates/words/src/tests.rt)
+/// (from tests/words/tests.rt.txt)
 /// ```rust
 /// let outcome = run_in_memory::<Words>(rt.alloc(), LIST, b"#ti\n#tin\n#zinc\n#x\n#");
 /// assert!(rt; outcome.is(0, b"6 words in 7 lines\n3\n1\n1\n0\n6\n", b""));

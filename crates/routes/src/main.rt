@@ -10,8 +10,6 @@ mod network;
 mod replies;
 mod route;
 mod table;
-#[cfg(test)]
-mod tests;
 
 pub use fault::Fault;
 pub use replies::Routes;

@@ -8,8 +8,6 @@ mod dictionary;
 mod fault;
 mod query;
 mod replies;
-#[cfg(test)]
-mod tests;
 
 pub use fault::Fault;
 pub use replies::Words;

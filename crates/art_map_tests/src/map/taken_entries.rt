@@ -134,6 +134,39 @@ fn keys_and_values_are_read_alone(rt: HostRuntime) -> Result<(), Fail> {
     Ok(())
 }
 
+fn read_a_key(rt: &impl Abort, prices: &Prices) {
+    assert!(rt; prices.contains_key(b"tin") && !prices.contains_key(b"ti"));
+    let Some((name, price)) = prices.get_key_value(b"tin") else {
+        panic!(rt; "no such entry");
+    };
+    assert!(rt; name.get() == "tin" && *price == 50);
+}
+
+fn read_neighbours(rt: &impl Abort, prices: &Prices) {
+    let (Some((_, least)), Some((_, greatest))) = (prices.first(), prices.last()) else {
+        panic!(rt; "no entry");
+    };
+    assert!(rt; *least == 26 && *greatest == 30);
+    let (Some((_, here)), Some((_, above))) = (
+        prices.lower_bound(b"tin"),
+        prices.upper_bound(b"tin"),
+    ) else {
+        panic!(rt; "no entry");
+    };
+    assert!(rt; *here == 50 && *above == 22);
+    assert!(rt; prices.iter().count() == prices.len());
+}
+
+#[test]
+fn entries_are_read_by_key_and_neighbour(rt: HostRuntime) -> Result<(), Fail> {
+    let mut prices = ArtMap::new(rt.alloc());
+    insert_prices(&mut prices)?;
+    read_a_key(&rt, &prices);
+    read_neighbours(&rt, &prices);
+    assert!(rt; prices.remove_entry(b"tin")?.is_some());
+    Ok(())
+}
+
 // The entries themselves, by value, from both ends.
 fn take_apart(rt: &impl Abort, prices: Prices) {
     let mut entries = prices.into_iter();

@@ -9,11 +9,7 @@ ghost use Rattle.art_mapped.specs.Numbers.{signed_text};
 ghost use Rattle.art_mapped.specs.Sequences.{joined};
 
 use super::*;
-use crate::bytes::has_prefix;
-use crate::bytes::key_examples::order_of_texts;
 use crate::fixtures::hash_of;
-use crate::nodes::node_fixtures::all_bytes;
-use art_bytes::NoPrefixesBytes;
 use std::hash::{DefaultHasher, Hash, Hasher};
 
 // The key of an address is its octets. The call never fails.
@@ -146,14 +142,6 @@ fn feed<B: BytesMapping<D>, D, H: Hasher>(key: &Mapped<B, D>, hasher: &mut H)
     key.hash(hasher);
 }
 
-// Two keys that ascend, and of which none is a prefix of the other.
-fn ascend<K: OrderedBytes + NoPrefixesBytes>(rt: &impl Abort, less: &K, more: &K) {
-    assert!(rt; order_of_texts(less, more) == Ordering::Less);
-    assert!(rt; order_of_texts(more, less) == Ordering::Greater);
-    assert!(rt; !has_prefix(more, less) && !has_prefix(less, more));
-    assert!(rt; has_prefix(less, less));
-}
-
 #[test]
 fn callers_make_keys(rt: HostRuntime) -> Result<(), Fail> {
     let alloc = rt.alloc();
@@ -213,86 +201,5 @@ fn callers_clone_and_hash_a_key(rt: HostRuntime) -> Result<(), Fail> {
     let mut hasher = DefaultHasher::new();
     feed(&port, &mut hasher);
     assert!(rt; hasher.finish() == hash_of(&[1u8, 187].as_slice()));
-    Ok(())
-}
-
-// The keys of two values that ascend.
-fn keys_ascend<B, D: Ord + Drop>(
-    rt: &impl Abort,
-    alloc: Global,
-    less: D,
-    more: D,
-) -> Result<(), AllocError>
-where
-    B: OrderedMapping<D> + NoPrefixesMapping<D>,
-{
-    let less = Mapped::<B, D>::new(alloc, less)?;
-    let more = Mapped::<B, D>::new(alloc, more)?;
-    ascend(rt, &less, &more);
-    Ok(())
-}
-
-#[test]
-fn keys_are_in_order_and_none_begins_another(rt: HostRuntime) -> Result<(), Fail> {
-    let alloc = rt.alloc();
-    keys_ascend::<ToUBE, u16>(&rt, alloc, 1, 256)?;
-    keys_ascend::<ToIBE, NonZeroIsize>(&rt, alloc, NonZeroIsize::MIN, NonZeroIsize::MAX)?;
-    keys_ascend::<ToUBE, [u8; 3]>(&rt, alloc, [1, 2, 3], [1, 3, 0])?;
-    keys_ascend::<ToOctets, Ipv4Addr>(&rt, alloc, Ipv4Addr::LOCALHOST, Ipv4Addr::BROADCAST)?;
-    Ok(())
-}
-
-// How the bytes of two values' keys compare.
-fn order_of_bytes<B: OrderedMapping<D>, D: Ord + Drop>(
-    alloc: Global,
-    a: D,
-    b: D,
-) -> Result<Ordering, AllocError> {
-    let a = Mapped::<B, D>::new(alloc, a)?;
-    let b = Mapped::<B, D>::new(alloc, b)?;
-    Ok(order_of_texts(&a, &b))
-}
-
-// Whether the key of `key` begins with the key of `prefix`.
-fn begins_with<D: NoPrefixesBytes + Drop>(
-    alloc: Global,
-    key: D,
-    prefix: D,
-) -> Result<bool, AllocError> {
-    let key = Mapped::<Identity, D>::new(alloc, key)?;
-    let prefix = Mapped::<Identity, D>::new(alloc, prefix)?;
-    Ok(has_prefix(&key, &prefix))
-}
-
-#[test]
-fn prefixes_differ_from_keys(rt: HostRuntime) -> Result<(), Fail> {
-    let alloc = rt.alloc();
-    let (prefix, whole) = (vec![in alloc; 7]?, vec![in alloc; 7, 7]?);
-    assert!(rt; order_of_bytes::<ToIBE, Vec<i8>>(alloc, prefix, whole)? == Ordering::Less);
-    assert!(rt; !begins_with(alloc, [1, 1], [1, 0])?);
-    assert!(rt; begins_with(alloc, [1, 0], [1, 0])?);
-    Ok(())
-}
-
-// The key of these numbers has these bytes, and they are read back from it.
-fn there_and_back<E: Element<Unsigned>>(
-    rt: &impl Abort,
-    alloc: Global,
-    numbers: &[E],
-    bytes: &[u8],
-) -> Result<(), AllocError> {
-    written_in::<Unsigned, Vec<E>>(rt, alloc, numbers.to_vec(alloc)?, bytes)?;
-    let read = vector_back::<Unsigned, E>(alloc, numbers.to_vec(alloc)?)?;
-    assert!(rt; read.as_slice() == numbers);
-    Ok(())
-}
-
-#[test]
-fn long_vectors_of_the_least_and_greatest_width(rt: HostRuntime) -> Result<(), Fail> {
-    let bytes = all_bytes();
-    there_and_back::<u8>(&rt, rt.alloc(), &bytes, &bytes)?;
-    let (mut numbers, mut text) = ([0; 300], [0; 4800]);
-    (numbers[299], text[4784]) = (1 << 120, 1);
-    there_and_back::<u128>(&rt, rt.alloc(), &numbers, &text)?;
     Ok(())
 }

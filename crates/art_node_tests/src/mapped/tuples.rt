@@ -149,22 +149,6 @@ where
 }
 
 #[test]
-fn copy_tuple_as_bytes(rt: HostRuntime) -> Result<(), Fail> {
-    let alloc = rt.alloc();
-    type Pair = ConcatTuple<(Identity, Identity)>;
-    let text = [0, 0, 0, 0, 0, 10, 10, 10, 10, 10];
-    written::<Pair, ([u8; 5], [u8; 5])>(&rt, alloc, ([0; 5], [10; 5]), &text)?;
-    written::<Pair, ([u8; 3], [u8; 2])>(&rt, alloc, (*b"aaa", *b"bb"), b"aaabb")?;
-    type Mixed = ConcatTuple<(ToIBE, ToOctets)>;
-    let value = (
-        NonZeroI16::new(256).expect(&rt, "256 is not 0"),
-        Ipv4Addr::LOCALHOST,
-    );
-    written::<Mixed, (NonZeroI16, Ipv4Addr)>(&rt, alloc, value, &[129, 0, 127, 0, 0, 1])?;
-    Ok(())
-}
-
-#[test]
 fn three_parts_stand_in_their_own_places(rt: HostRuntime) -> Result<(), Fail> {
     let key = priced(rt.alloc(), Ipv4Addr::LOCALHOST, 258, -1)?;
     assert!(rt; key.as_bytes() == [127, 0, 0, 1, 1, 2, 127, 255, 255, 255].as_slice());
@@ -220,69 +204,8 @@ fn keys_of_two_parts_are_one_where_both_are(rt: HostRuntime) -> Result<(), Fail>
 }
 
 #[test]
-fn wide_parts_come_back(rt: HostRuntime) -> Result<(), Fail> {
-    let alloc = rt.alloc();
-    let bytes = <Named as BytesMapping<([u8; 300], u16)>>::to_bytes(alloc, ([7; 300], 258))?;
-    assert!(rt; bytes.len() == 302);
-    assert!(rt; &bytes[..300] == [7; 300].as_slice());
-    assert!(rt; &bytes[300..] == [1, 2].as_slice());
-    assert!(rt; <Named as BytesMapping<([u8; 300], u16)>>::is_value(&bytes));
-    let read = <Named as BytesMapping<([u8; 300], u16)>>::from_bytes(alloc, bytes)?;
-    assert!(rt; read == ([7; 300], 258));
-    Ok(())
-}
-
-#[test]
-fn concat_tuple_ord_matches_tuple_ord(rt: HostRuntime) -> Result<(), Fail> {
-    type By = ConcatTuple<(ToOctets, ToIBE, ToOctets)>;
-    let alloc = rt.alloc();
-    let (none, here) = (Ipv4Addr::UNSPECIFIED, Ipv4Addr::LOCALHOST);
-    let (low, high) = (Ipv6Addr::UNSPECIFIED, Ipv6Addr::LOCALHOST);
-    let tuples = [
-        (none, -212i32, low),
-        (none, -212, high),
-        (none, 212, high),
-        (here, 212, high),
-    ];
-    for place in 0..3 {
-        ascend::<By, (Ipv4Addr, i32, Ipv6Addr)>(&rt, alloc, tuples[place], tuples[place + 1])?;
-    }
-    Ok(())
-}
-
-#[test]
 fn tuples_of_four_parts_are_ordered(rt: HostRuntime) -> Result<(), Fail> {
     type Four = ConcatTuple<(ToUBE, ToUBE, ToUBE, ToUBE)>;
     ascend::<Four, (u8, u8, u8, u8)>(&rt, rt.alloc(), (1, 2, 3, 255), (1, 2, 4, 0))?;
-    Ok(())
-}
-
-#[test]
-fn tuples_of_five_parts_are_ordered(rt: HostRuntime) -> Result<(), Fail> {
-    type Five = ConcatTuple<(ToUBE, ToUBE, ToUBE, ToUBE, ToIBE)>;
-    let (less, more) = ((1, 2, 3, 4, 5), (1, 256, 0, 0, 0));
-    ascend::<Five, (u8, u16, u8, u8, i8)>(&rt, rt.alloc(), less, more)?;
-    Ok(())
-}
-
-#[test]
-fn tuples_of_six_parts_are_ordered(rt: HostRuntime) -> Result<(), Fail> {
-    type Six = ConcatTuple<(ToUBE, ToUBE, ToUBE, ToUBE, ToIBE, ToUBE)>;
-    let (less, more) = ((1, 2, 3, 4, 5, 6), (1, 2, 3, 4, 5, 7));
-    ascend::<Six, (u8, u16, u8, u8, i8, u8)>(&rt, rt.alloc(), less, more)?;
-    Ok(())
-}
-
-#[test]
-fn bytes_of_no_tuple_are_refused(rt: HostRuntime) -> Result<(), Fail> {
-    let alloc = rt.alloc();
-    type By = ConcatTuple<(ToUBE, ToUBE)>;
-    refused::<By, (u8, NonZeroU16)>(&rt, alloc, vec![in alloc; 7, 0, 0]?)?;
-    refused::<By, (u8, u16)>(&rt, alloc, vec![in alloc; 7, 0]?)?;
-    let read = <By as BytesMapping<(u8, u16)>>::checked_from_bytes(
-        alloc,
-        vec![in alloc; 7, 1, 0]?,
-    )?;
-    assert!(rt; read == Some((7, 256)));
     Ok(())
 }

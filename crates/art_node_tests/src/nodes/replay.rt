@@ -1,7 +1,7 @@
 //! Whole runs, at the steps that a reader would try by hand.
 use super::node_fixtures::leaf;
 use art_nodes::{ChildCommand, ChildNode, ChildReply, Header, NodeType, Sequence, replay};
-use std::alloc::{AllocError, Global};
+use std::alloc::AllocError;
 use std::ops::Bound;
 use std::process::Abort;
 use std::test::Fail;
@@ -15,14 +15,6 @@ type Answer<const PREFIX_LEN: usize> = (
     Vec<ChildReply<u8, u8, PREFIX_LEN>>,
     ChildNode<u8, u8, PREFIX_LEN>,
 );
-
-// The replies to these commands, and the node after them.
-fn run(
-    rt: &(impl Abort + AllocGlobal),
-    commands: &[Command],
-) -> Result<(Vec<Reply>, ChildNode<u8, u8, 2>), Fail> {
-    Ok(replay(rt.alloc(), Header::new(b"", 0), commands)?)
-}
 
 // A run that has each command, and goes from one kind to the next and back.
 fn steps<const PREFIX_LEN: usize>() -> [ChildCommand<u8, u8, PREFIX_LEN>; 15] {
@@ -76,18 +68,6 @@ fn check_answer<const PREFIX_LEN: usize>(
     let (replies, node) = answer;
     assert!(rt; replies.as_slice() == wanted);
     assert!(rt; (node.node_type(), node.num_children()) == left);
-}
-
-#[test]
-fn the_steps_have_these_replies_however_much_a_node_stores(rt: HostRuntime) -> Result<(), Fail> {
-    let left = (NodeType::Node4, 0);
-    let answer = replay(rt.alloc(), Header::<0>::new(b"", 0), &steps())?;
-    check_answer(&rt, &answer, &replies_to_steps(), left);
-    let answer = replay(rt.alloc(), Header::<2>::new(b"", 0), &steps())?;
-    check_answer(&rt, &answer, &replies_to_steps(), left);
-    let answer = replay(rt.alloc(), Header::<16>::new(b"", 0), &steps())?;
-    check_answer(&rt, &answer, &replies_to_steps(), left);
-    Ok(())
 }
 
 // The replies to these commands. A run in which an allocation fails returns nothing, the next one
@@ -199,130 +179,6 @@ fn apply_answers_each_command(rt: HostRuntime) -> Result<(), Fail> {
     Ok(())
 }
 
-// Each equals only itself.
-fn equal_themselves_alone<T: PartialEq>(rt: &impl Abort, values: &[T]) {
-    for (index, value) in values.iter().enumerate() {
-        for (place, other) in values.iter().enumerate() {
-            assert!(rt; (value == other) == (index == place), "{index} and {place}");
-        }
-    }
-}
-
-// One pair, within bounds.
-fn one_pair(alloc: Global, byte: u8, key: usize) -> Result<Reply, AllocError> {
-    let pairs = vec![in alloc; (byte, leaf(key))]?;
-    Ok(Reply::Pairs(Sequence::from_vec(pairs)))
-}
-
-#[test]
-fn commands_and_replies_of_other_values_differ(rt: HostRuntime) -> Result<(), Fail> {
-    let commands: [Command; 13] = [
-        Command::Write(3, leaf(1)),
-        Command::Write(4, leaf(1)),
-        Command::Write(3, leaf(2)),
-        Command::Remove(3),
-        Command::Remove(4),
-        Command::Lookup(3),
-        Command::Lookup(4),
-        Command::Min,
-        Command::Max,
-        Command::Range(Bound::Included(3), Bound::Included(4)),
-        Command::Range(Bound::Included(2), Bound::Included(4)),
-        Command::Range(Bound::Included(3), Bound::Included(5)),
-        Command::Range(Bound::Excluded(3), Bound::Included(4)),
-    ];
-    equal_themselves_alone(&rt, &commands);
-
-    let (pairs, other_byte, other_child) = (
-        one_pair(rt.alloc(), 3, 1)?,
-        one_pair(rt.alloc(), 4, 1)?,
-        one_pair(rt.alloc(), 3, 2)?,
-    );
-    let replies: [Reply; 12] = [
-        Reply::Child(None),
-        Reply::Child(Some(leaf(1))),
-        Reply::Child(Some(leaf(2))),
-        Reply::Pair(None),
-        Reply::Pair(Some((3, leaf(1)))),
-        Reply::Pair(Some((4, leaf(1)))),
-        Reply::Pair(Some((3, leaf(2)))),
-        Reply::Pairs(Sequence::from_vec(Vec::new(rt.alloc()))),
-        pairs,
-        other_byte,
-        other_child,
-        Reply::InvalidBounds,
-    ];
-    equal_themselves_alone(&rt, &replies);
-    Ok(())
-}
-
-// A write of the leaf of each byte, and then so many removals, by ascending byte.
-fn writes_and_removals<const PREFIX_LEN: usize>(
-    alloc: Global,
-    removals: usize,
-) -> Result<Vec<ChildCommand<u8, u8, PREFIX_LEN>>, AllocError> {
-    let mut commands = Vec::new(alloc);
-    for byte in 0..=255u8 {
-        commands.push(ChildCommand::Write(byte, leaf(usize::from(byte))))?;
-    }
-    for byte in (0..=255u8).take(removals) {
-        commands.push(ChildCommand::Remove(byte))?;
-    }
-    Ok(commands)
-}
-
-// The kind and the number of children of the node after them.
-fn shape<const PREFIX_LEN: usize>(answer: &Answer<PREFIX_LEN>) -> (NodeType, usize) {
-    (answer.1.node_type(), answer.1.num_children())
-}
-
-#[test]
-fn grows_to_256_children_and_shrinks_again(rt: HostRuntime) -> Result<(), Fail> {
-    let alloc = rt.alloc();
-    let rows = [
-        (0, (NodeType::Node256, 256)),
-        (208, (NodeType::Node48, 48)),
-        (209, (NodeType::Node48, 47)),
-        (256, (NodeType::Node4, 0)),
-    ];
-    for (removals, left) in rows {
-        let commands = writes_and_removals::<0>(alloc, removals)?;
-        assert!(rt; shape(&replay(alloc, Header::<0>::new(b"", 0), &commands)?) == left);
-        let commands = writes_and_removals::<2>(alloc, removals)?;
-        assert!(rt; shape(&replay(alloc, Header::<2>::new(b"", 0), &commands)?) == left);
-        let commands = writes_and_removals::<16>(alloc, removals)?;
-        assert!(rt; shape(&replay(alloc, Header::<16>::new(b"", 0), &commands)?) == left);
-    }
-    Ok(())
-}
-
-// A range without bounds returns the leaf of each byte.
-fn check_all_leaves(rt: &(impl Abort + AllocGlobal), writes: &[Command]) -> Result<(), Fail> {
-    let mut node = ChildNode::from_header(Header::<2>::new(b"", 0));
-    let mut bytes = Vec::new(rt.alloc());
-    for (byte, write) in (0..=255u8).zip(writes) {
-        node.apply(rt.alloc(), write)?;
-        bytes.push(byte)?;
-    }
-    let reply = node.apply(
-        rt.alloc(),
-        &Command::Range(Bound::Unbounded, Bound::Unbounded),
-    )?;
-    check_leaves(rt, &reply, &bytes);
-    Ok(())
-}
-
-#[test]
-fn a_full_node_is_overwritten_in_place(rt: HostRuntime) -> Result<(), Fail> {
-    let mut commands: Vec<Command> = writes_and_removals(rt.alloc(), 0)?;
-    check_all_leaves(&rt, &commands)?;
-    commands.push(Command::Write(255, leaf(1000)))?;
-    let answer = run(&rt, &commands)?;
-    assert!(rt; answer.0.last() == Some(&Reply::Child(Some(leaf(255)))));
-    assert!(rt; shape(&answer) == (NodeType::Node256, 256));
-    Ok(())
-}
-
 #[test]
 fn a_run_begins_with_no_children(rt: HostRuntime) -> Result<(), Fail> {
     let mut header = Header::<2>::new(b"abc", 3);
@@ -332,16 +188,6 @@ fn a_run_begins_with_no_children(rt: HostRuntime) -> Result<(), Fail> {
     assert!(rt; node.num_children() == 0);
     assert!(rt; node.header().prefix_len() == 3);
     assert!(rt; node.header().read_prefix() == b"ab".as_slice());
-    Ok(())
-}
-
-#[test]
-fn a_run_keeps_the_prefix(rt: HostRuntime) -> Result<(), Fail> {
-    let (commands, wanted) = (steps::<2>(), replies_to_steps::<2>());
-    let answer = replay(rt.alloc(), Header::<2>::new(b"abc", 3), &commands[..6])?;
-    check_answer(&rt, &answer, &wanted[..6], (NodeType::Node16, 5));
-    assert!(rt; answer.1.header().prefix_len() == 3);
-    assert!(rt; answer.1.header().read_prefix() == b"ab".as_slice());
     Ok(())
 }
 

@@ -76,36 +76,6 @@ fn replace<const PREFIX_LEN: usize>(
     Leaf::replace(arena, this, old, true);
 }
 
-// Without force the two leaves have the same key bytes.
-fn replace_by_the_same_key<const PREFIX_LEN: usize>(
-    rt: &impl Abort,
-    arena: &mut Arena<PREFIX_LEN>,
-    this: Pointer<PREFIX_LEN>,
-    old: Pointer<PREFIX_LEN>,
-) {
-    assert!(rt; arena.holds(this));
-    assert!(rt; !Leaf::is_linked(arena, this));
-    assert!(rt; this != old);
-    assert!(rt; Leaf::is_knit(arena, old));
-    assert!(rt; arena.as_key_ref(this).as_bytes() == arena.as_key_ref(old).as_bytes());
-    Leaf::replace(arena, this, old, false);
-}
-
-// A leaf that was removed still names its neighbours.
-fn check_removed<const PREFIX_LEN: usize>(
-    rt: &impl Abort,
-    arena: &Arena<PREFIX_LEN>,
-    leaf: Pointer<PREFIX_LEN>,
-    previous: Option<Pointer<PREFIX_LEN>>,
-    next: Option<Pointer<PREFIX_LEN>>,
-) {
-    assert!(rt; arena.holds(leaf));
-    assert!(rt; Leaf::is_linked(arena, leaf));
-    assert!(rt; !Leaf::is_knit(arena, leaf));
-    assert!(rt; arena.as_ref(leaf).previous() == previous);
-    assert!(rt; arena.as_ref(leaf).next() == next);
-}
-
 // From this leaf on, the list has these leaves, and each of them names its neighbours.
 fn check_list<const PREFIX_LEN: usize>(
     rt: &impl Abort,
@@ -125,35 +95,6 @@ fn check_list<const PREFIX_LEN: usize>(
     assert!(rt; next.is_none());
 }
 
-fn change_the_middle_and_the_end<const PREFIX_LEN: usize>(
-    rt: &impl Abort,
-    arena: &mut Arena<PREFIX_LEN>,
-) {
-    let a = put_leaf(rt, arena, b'a');
-    let b = put_leaf(rt, arena, b'b');
-    let c = put_leaf(rt, arena, b'c');
-    let d = put_leaf(rt, arena, b'd');
-    insert_after(rt, arena, c, a);
-    check_list(rt, arena, &[a, c]);
-    insert_after(rt, arena, b, a);
-    check_list(rt, arena, &[a, b, c]);
-
-    remove_self(rt, arena, b);
-    check_list(rt, arena, &[a, c]);
-    check_removed(rt, arena, b, Some(a), Some(c));
-
-    replace(rt, arena, d, c);
-    check_list(rt, arena, &[a, d]);
-    assert!(rt; arena.holds(c));
-    assert!(rt; !Leaf::is_linked(arena, c));
-
-    let other_a = put_leaf(rt, arena, b'a');
-    replace_by_the_same_key(rt, arena, other_a, a);
-    check_list(rt, arena, &[other_a, d]);
-    assert!(rt; arena.holds(a));
-    assert!(rt; !Leaf::is_linked(arena, a));
-}
-
 fn change_the_beginning<const PREFIX_LEN: usize>(rt: &impl Abort, arena: &mut Arena<PREFIX_LEN>) {
     let a = put_leaf(rt, arena, b'a');
     let b = put_leaf(rt, arena, b'b');
@@ -166,13 +107,9 @@ fn change_the_beginning<const PREFIX_LEN: usize>(rt: &impl Abort, arena: &mut Ar
     check_list(rt, arena, &[b, c]);
     assert!(rt; arena.holds(a));
     assert!(rt; arena.as_ref(a).next() == Some(b));
-}
-
-#[test]
-fn inserts_removes_and_replaces_leaves_of_a_list(rt: HostRuntime) {
-    change_the_middle_and_the_end::<0>(&rt, &mut NodeArena::new(rt.alloc()));
-    change_the_middle_and_the_end::<2>(&rt, &mut NodeArena::new(rt.alloc()));
-    change_the_middle_and_the_end::<16>(&rt, &mut NodeArena::new(rt.alloc()));
+    let d = put_leaf(rt, arena, b'd');
+    replace(rt, arena, d, c);
+    check_list(rt, arena, &[b, d]);
 }
 
 #[test]

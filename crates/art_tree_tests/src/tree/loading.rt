@@ -83,35 +83,6 @@ fn the_lowest_entry_at_fault_is_reported(rt: HostRuntime) -> Result<(), Fail> {
     Ok(())
 }
 
-#[test]
-fn refusals_are_printed(rt: HostRuntime) -> Result<(), Fail> {
-    let of_a_load = [
-        (LoadRefusal::Empty, "no entries"),
-        (LoadRefusal::KeyTooLong(0), "entry 0: key too long"),
-        (
-            LoadRefusal::NotAscending(9),
-            "entry 9: key is not below the next one",
-        ),
-        (
-            LoadRefusal::Prefix(10),
-            "entry 10: key is a front of the next one",
-        ),
-        (LoadRefusal::OutOfMemory, "out of memory"),
-    ];
-    for (refusal, text) in of_a_load {
-        assert!(rt; format!(in rt.alloc(); "{refusal}")?.as_str() == text);
-    }
-    let of_an_insert = [
-        (InsertRefusal::KeyTooLong, "key too long"),
-        (InsertRefusal::Prefix, "one key is a front of the other"),
-        (InsertRefusal::OutOfMemory, "out of memory"),
-    ];
-    for (refusal, text) in of_an_insert {
-        assert!(rt; format!(in rt.alloc(); "{refusal}")?.as_str() == text);
-    }
-    Ok(())
-}
-
 fn check_root(rt: &impl Abort, arena: &Texts<2>, root: Root, children: usize) {
     let (_, count) = shape(rt, arena, root);
     assert!(rt; count == children);
@@ -164,43 +135,6 @@ fn load_in_turn(rt: &impl Abort, alloc: Global, arena: &mut Texts<2>) -> Result<
 #[test]
 fn refused_memory_gives_the_entries_back(rt: HostRuntime) -> Result<(), Fail> {
     load_in_turn(&rt, rt.alloc(), &mut NodeArena::new(rt.alloc()))
-}
-
-type Bytes = NodeArena<[u8; 1], u8, 2>;
-
-// The kind of the root over so many keys of one byte, and how many children it has.
-fn root_over(
-    rt: &impl Abort,
-    alloc: Global,
-    arena: &mut Bytes,
-    count: usize,
-) -> Result<(NodeType, usize), Fail> {
-    let mut entries = Vec::new(alloc);
-    for byte in (0..=255u8).take(count) {
-        entries.push(([byte], byte))?;
-    }
-    let root = load(alloc, arena, entries).map_err(|fault| fault.refusal)?;
-    Ok(shape(rt, arena, root))
-}
-
-#[test]
-fn each_node_is_of_the_smallest_kind(rt: HostRuntime) -> Result<(), Fail> {
-    let cases = [
-        (1, NodeType::Leaf, 0),
-        (2, NodeType::Node4, 2),
-        (4, NodeType::Node4, 4),
-        (5, NodeType::Node16, 5),
-        (16, NodeType::Node16, 16),
-        (17, NodeType::Node48, 17),
-        (48, NodeType::Node48, 48),
-        (49, NodeType::Node256, 49),
-        (256, NodeType::Node256, 256),
-    ];
-    for (count, kind, children) in cases {
-        let root = root_over(&rt, rt.alloc(), &mut Bytes::new(rt.alloc()), count)?;
-        assert!(rt; root == (kind, children), "over {count}");
-    }
-    Ok(())
 }
 
 type Shared = NodeArena<[u8; 4], usize, 2>;

@@ -1,6 +1,5 @@
 //! Tests with one allocation failure: the tree is unchanged, the next call succeeds, and the test
 //! ends.
-use super::changes::{Bytes, root_shape};
 use super::*;
 use art_tree::InsertRefusal;
 
@@ -63,6 +62,14 @@ fn insert_words(rt: &impl Abort, tree: &mut Words) -> Result<(), Fail> {
 #[test]
 fn a_refused_insert_leaves_the_tree(rt: HostRuntime) -> Result<(), Fail> {
     insert_words(&rt, &mut Words::new(rt.alloc()))
+}
+
+pub(super) type Bytes = ArtTree<[u8; 1], u8, 0>;
+
+// The kind of the root and how many children it has.
+pub(super) fn root_shape(rt: &impl Abort, tree: &Bytes) -> Option<(NodeType, usize)> {
+    let root = tree.root()?;
+    Some(shape(rt, tree.arena(), root))
 }
 
 // The root over so many keys of one byte.
