@@ -11,7 +11,7 @@ ghost use Rattle.art_nodes.specs.Pointers.{slab_key, node_kind, opaque_pointer};
 ghost use Rattle.art_arena.specs.Links.{HoldsLeaf, leaf_at, with_value_at};
 ghost use Rattle.art_arena.specs.Reader.{shown, shown_kind};
 ghost use Rattle.art_arena.specs.Lending.{LendsNode, LendsValue};
-ghost use Rattle.art_arena.specs.Arena.{held, held_option, Nothing, HeldInner, HeldLeaf, held_header, Changes, SameNodes, capacity, leaf_count, room, SameRoom, SameOtherRoom, SameCapacity, SameOtherCapacity, with_node};
+ghost use Rattle.art_arena.specs.Arena.{held, held_option, Nothing, HeldInner, HeldLeaf, held_header, Changes, SameNodes, capacity, leaf_count, room, SameRoom, SameOtherRoom, SameCapacity, SameOtherCapacity, slab_room, with_node};
 
 mod arena_node;
 
@@ -54,8 +54,8 @@ impl<A, B, C, D, L> Model for Slabs<A, B, C, D, L> {
 ///
 /// A contract sees the node at each pointer (`held`), and for each kind its spare capacity
 /// (`room`): how many more nodes of the kind can be allocated without memory. A call changes at
-/// most the node that it names. Only `allocate_node_ptr` and `reserve` take memory. Each call takes
-/// a constant number of steps, unless a slab grows.
+/// most the node that it names. Only `allocate_node_ptr` and `reserve` take memory. Each call but
+/// `clear` takes a constant number of steps, unless a slab grows.
 ///
 /// The type names its nodes, so whoever has an arena knows that they fit in memory.
 ///
@@ -80,6 +80,13 @@ pub type NodeArena<K, V, const PREFIX_LEN: usize> = Slabs<
     InnerNode256<K, V, PREFIX_LEN>,
     LeafNode<K, V, PREFIX_LEN>,
 >;
+
+// Whether a slab takes one more value without memory.
+fn has_spare_slot<T>(slots: &Slab<T>) -> bool
+    ensures { IsTrue result ↔ (0 < slab_room slots.now) }
+{
+    slots.len() < slots.capacity()
+}
 
 impl<K, V, const PREFIX_LEN: usize> NodeArena<K, V, PREFIX_LEN> {
     /// An arena without nodes. It takes no memory, and keeps the allocator.
@@ -160,9 +167,23 @@ impl<K, V, const PREFIX_LEN: usize> NodeArena<K, V, PREFIX_LEN> {
         }
     }
 
+    /// Whether there is spare capacity for a node of the kind: one more can be allocated without
+    /// memory. Takes constant time and no memory.
+    pub fn has_room(&self, kind: NodeType) -> bool
+        ensures { IsTrue result ↔ (0 < room self.now kind) }
+    {
+        match kind {
+            NodeType::Node4 => has_spare_slot(&self.node4),
+            NodeType::Node16 => has_spare_slot(&self.node16),
+            NodeType::Node48 => has_spare_slot(&self.node48),
+            NodeType::Node256 => has_spare_slot(&self.node256),
+            NodeType::Leaf => has_spare_slot(&self.leaf),
+        }
+    }
+
     /// Allocates a node of a kind with spare capacity, and returns its pointer. Unlike
     /// [`NodeArena::allocate_node_ptr`] it cannot fail, so it copies the node once less. Condition:
-    /// there is spare capacity for the kind. Takes no memory.
+    /// there is spare capacity for the kind, which [`NodeArena::has_room`] tests. Takes no memory.
     pub fn allocate_reserved<N: ArenaNode<K, V, PREFIX_LEN>>(
         &mut self,
         node: N,
@@ -511,7 +532,8 @@ impl<K, V, const PREFIX_LEN: usize> NodeArena<K, V, PREFIX_LEN> {
 }
 
 impl<K: Drop, V: Drop, const PREFIX_LEN: usize> NodeArena<K, V, PREFIX_LEN> {
-    /// Removes every node. The capacity of each kind is unchanged. Takes no memory.
+    /// Removes every node. The capacity of each kind is unchanged. Takes no memory, and time linear in
+    /// the most nodes of each kind that were there at once since the arena was made or last cleared.
     pub fn clear(&mut self)
         ensures empty { (pointer : _) → held self.new pointer ≡ Nothing }
         ensures room { (kind : NodeType) → room self.new kind ≡ capacity self.old kind }

@@ -188,6 +188,17 @@ fn reserves_room_of_each_kind(rt: HostRuntime) -> Result<(), Fail> {
     Ok(())
 }
 
+#[test]
+fn has_room_for_a_leaf_where_it_was_reserved(rt: HostRuntime) -> Result<(), Fail> {
+    let mut arena = Arena::new(rt.alloc());
+    assert!(rt; !arena.has_room(NodeType::Leaf));
+    arena.reserve(NodeType::Leaf, 1)?;
+    assert!(rt; arena.has_room(NodeType::Leaf));
+    let leaf = arena.allocate_reserved(Leaf::with_no_siblings([1], 1));
+    assert!(rt; arena.holds(leaf));
+    Ok(())
+}
+
 // The pointer to a node of one kind knows that kind, and the node.
 fn check_kind<N: ArenaNode<Key, u16, 16> + InnerNodeCommon<Key, u16, 16> + Drop>(
     rt: &impl Abort,
