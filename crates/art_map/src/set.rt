@@ -455,7 +455,7 @@ impl<K: AsBytes + Drop, const PREFIX_LEN: usize> ArtSet<K, PREFIX_LEN> {
         Ok(removed.is_some())
     }
 
-    /// Removes every key. Takes time linear in the number of keys, and no memory: the nodes' memory is
+    /// Removes every key. Costs as much as [`ArtMap::clear`], and takes no memory: the nodes' memory is
     /// kept for later keys.
     ///
     /// (from crates/art_map_tests/src/map/set_examples.rt)

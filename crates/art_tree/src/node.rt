@@ -1,5 +1,5 @@
 //! Loading, insertion and removal: operations on one inner node of an arena.
-ghost use Rattle.std.specs.Prelude.{◌≡◌, ◌≢◌, ◌<◌, ◌≤◌, ◌-◌, ◌^◌, length, take, drop, IfSome, IsSome};
+ghost use Rattle.std.specs.Prelude.{◌≡◌, ◌≢◌, ◌<◌, ◌≤◌, ◌-◌, ◌^◌, length, take, drop};
 ghost use Rattle.std.specs.Mem.{FitsInMemory};
 ghost use Rattle.art_header.specs.NodeType.{most_children};
 ghost use Rattle.art_header.specs.declared.node_type.NodeType.TheVariants.{Leaf};
@@ -109,30 +109,27 @@ pub(crate) fn place_as<
     arena.allocate_reserved(node).to_opaque()
 }
 
-/// Replaces the inner node at the pointer by this one of another kind, and returns where that is,
-/// or None on allocation failure. It never fails where the kind has spare capacity.
+/// Replaces the inner node at the pointer by this one of another kind, for which there must be spare
+/// capacity. Returns where that is.
 // Kept out of its caller, whose stack would have the nodes of each kind several times.
 #[inline(never)]
 pub(crate) fn replace_node<
     K,
     V,
     const PREFIX_LEN: usize,
-    R: ArenaInnerNode<K, V, PREFIX_LEN> + Node<PREFIX_LEN, Key = K, Value = V> + Drop,
+    R: ArenaInnerNode<K, V, PREFIX_LEN> + Node<PREFIX_LEN, Key = K, Value = V>,
 >(
     arena: &mut NodeArena<K, V, PREFIX_LEN>,
     pointer: OpaqueNodePtr<K, V, PREFIX_LEN>,
     node: R,
-) -> Option<OpaqueNodePtr<K, V, PREFIX_LEN>>
+) -> OpaqueNodePtr<K, V, PREFIX_LEN>
     requires held { held arena.old pointer ≢ Nothing }
     requires inner { node_kind pointer ≢ Leaf }
-    ensures replaced { IfSome result
-        (IsReplaced arena.old arena.new pointer R.TYPE (R.inner node)) }
-    ensures succeeds { 0 < room arena.old R.TYPE → IsSome result }
-    ensures capacity { 0 < room arena.old R.TYPE → SameCapacity arena.old arena.new }
+    requires room { 0 < room arena.old R.TYPE }
+    ensures replaced { IsReplaced arena.old arena.new pointer R.TYPE (R.inner node) result }
+    ensures capacity { SameCapacity arena.old arena.new }
 {
-    let Ok(placed) = arena.allocate_node_ptr(node) else {
-        return None;
-    };
+    let placed = arena.allocate_reserved(node);
     arena.deallocate(pointer);
-    Some(placed.to_opaque())
+    placed.to_opaque()
 }

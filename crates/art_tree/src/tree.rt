@@ -14,10 +14,9 @@ mod ends;
 mod lending;
 mod reading;
 
-use crate::find::find_leaf;
 use crate::laws::{no_text_begins_another, texts_ascend};
 use crate::loading::{LoadFault, load};
-use art_arena::{ArenaReader, End, NodeArena, end_leaf};
+use art_arena::{End, NodeArena, end_leaf};
 use art_bytes::AsBytes;
 use art_nodes::OpaqueNodePtr;
 use std::alloc::Global;
@@ -101,16 +100,14 @@ impl<K: AsBytes, V, const PREFIX_LEN: usize> ArtTree<K, V, PREFIX_LEN> {
     }
 
     /// The value of the entry with these key bytes, or None where there is none. Costs one
-    /// [`find_leaf`]: at most one node visit more than the key has bytes. Takes no memory.
+    /// [`find_leaf`](crate::find_leaf): at most one node visit more than the key has bytes. Takes no
+    /// memory.
     pub fn get(&self, key: &[u8]) -> Option<&V>
         ensures { option_copied result
             ≡ option_map (λ entry. entry.1) (entry_at K.text self.now.arena key.now) }
     {
-        no_text_begins_another::<OpaqueNodePtr<K, V, PREFIX_LEN>>();
-        let root = self.root?;
-        let mut reader = ArenaReader::with_budget(&self.arena, key.len() + 1);
-        let (leaf, _) = find_leaf(&mut reader, root, key)?;
-        Some(self.arena.as_value_ref(leaf))
+        let (_, value) = self.get_key_value(key)?;
+        Some(value)
     }
 
     /// Key and value of the entry with the least key bytes, or None where there is no entry. Visits

@@ -64,8 +64,8 @@ impl<K: AsBytes, V, const PREFIX_LEN: usize> ArtMap<K, V, PREFIX_LEN> {
 }
 
 impl<K: AsBytes + Drop, V: Drop, const PREFIX_LEN: usize> ArtMap<K, V, PREFIX_LEN> {
-    /// Removes every entry. Takes time linear in the number of entries, and no memory: the nodes'
-    /// memory is kept for later entries.
+    /// Removes every entry. Takes time linear in the most entries that there were since the map was
+    /// made or last cleared, and no memory: the nodes' memory is kept for later entries.
     ///
     /// (from crates/art_map_tests/src/map/taken_entries.rt)
     /// ```rust

@@ -87,8 +87,8 @@ module _ {K V : Type 0} {P : ℕ} where
   room-of-kind arena pointer there is_kind here full rooms = subst (λ kind. 0 < room arena (grown_kind kind)) is_kind (rooms there here full)
 
   -- the node that grew is the one that was held, which it replaced
-  pub moved-there : (arena new : NodeArena K V P) (pointer : OpaqueNodePtr K V P) {kind : NodeType} {there node grown : Inner (OpaqueNodePtr K V P)} {to : OpaqueNodePtr K V P} (placed : Option (OpaqueNodePtr K V P)) (byte : ℕ) (child : OpaqueNodePtr K V P) → node_kind pointer ≡ kind → held arena pointer ≡ HeldInner there → length there.children ≡ most_children (node_kind pointer)
-      → grown ≡ node_with_child there byte child → held arena pointer ≡ HeldInner node → placed ≡ Some to → IfSome placed (IsReplaced arena new pointer (grown_kind kind) grown) → IsMoved arena new pointer node (node_with_child node byte child) to
-  moved-there arena new pointer {kind = kind} {there = there} {node = node} {grown = grown} {to = to} placed byte child is_kind here full grows is at replaced =
-      let now = subst (λ k. IsReplaced arena new pointer (grown_kind k) grown to) (sym is_kind) (if-some placed (IsReplaced arena new pointer (grown_kind kind) grown) to at replaced) in
+  pub moved-there : (arena new : NodeArena K V P) (pointer : OpaqueNodePtr K V P) {kind : NodeType} {there node grown : Inner (OpaqueNodePtr K V P)} {to : OpaqueNodePtr K V P} (byte : ℕ) (child : OpaqueNodePtr K V P) → node_kind pointer ≡ kind → held arena pointer ≡ HeldInner there → length there.children ≡ most_children (node_kind pointer)
+      → grown ≡ node_with_child there byte child → held arena pointer ≡ HeldInner node → IsReplaced arena new pointer (grown_kind kind) grown to → IsMoved arena new pointer node (node_with_child node byte child) to
+  moved-there arena new pointer {kind = kind} {there = there} {node = node} {grown = grown} {to = to} byte child is_kind here full grows is replaced =
+      let now = subst (λ k. IsReplaced arena new pointer (grown_kind k) grown to) (sym is_kind) replaced in
       subst (λ n. IsMoved arena new pointer n (node_with_child n byte child) to) (one-inner (held arena pointer) there node here is) (record { full = full; replaced = subst (λ n. IsReplaced arena new pointer (grown_kind (node_kind pointer)) n to) grows now })

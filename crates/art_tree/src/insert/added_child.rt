@@ -96,15 +96,15 @@ fn grow_child<K, V, const PREFIX_LEN: usize>(
     match arena.node_ref(pointer) {
         NodeRef::Node4(node) => {
             let grown = with_child_more(node, byte, child);
-            replace_node(arena, pointer, grown).unwrap()
+            replace_node(arena, pointer, grown)
         }
         NodeRef::Node16(node) => {
             let grown = with_child_more(node, byte, child);
-            replace_node(arena, pointer, grown).unwrap()
+            replace_node(arena, pointer, grown)
         }
         NodeRef::Node48(node) => {
             let grown = with_child_more(node, byte, child);
-            replace_node(arena, pointer, grown).unwrap()
+            replace_node(arena, pointer, grown)
         }
         // A node of 256 children has one under every byte.
         NodeRef::Node256(node) => {

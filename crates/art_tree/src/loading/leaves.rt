@@ -28,9 +28,7 @@ pub(crate) fn link_leaves<K: AsBytes, V, const PREFIX_LEN: usize>(
     each_leaf_of_a_list_is_knit::<K, V, PREFIX_LEN>();
     let mut rest = entries.into_iter();
     'moving: while let Some((key, value)) = rest.next() {
-        let leaf = arena
-            .allocate_node_ptr(LeafNode::with_no_siblings(key, value))
-            .unwrap();
+        let leaf = arena.allocate_reserved(LeafNode::with_no_siblings(key, value));
         if let Some(sibling) = leaves.last() {
             LeafNode::insert_after(arena, leaf, *sibling);
         }

@@ -113,15 +113,15 @@ fn shrink_node<K, V, const PREFIX_LEN: usize>(
     match arena.node_ref(pointer) {
         NodeRef::Node16(node) => {
             let shrunk = node.shrink();
-            replace_node(arena, pointer, shrunk).unwrap()
+            replace_node(arena, pointer, shrunk)
         }
         NodeRef::Node48(node) => {
             let shrunk = node.shrink();
-            replace_node(arena, pointer, shrunk).unwrap()
+            replace_node(arena, pointer, shrunk)
         }
         NodeRef::Node256(node) => {
             let shrunk = node.shrink();
-            replace_node(arena, pointer, shrunk).unwrap()
+            replace_node(arena, pointer, shrunk)
         }
         NodeRef::Node4(_) | NodeRef::LeafNode(_) => unreachable!(),
     }

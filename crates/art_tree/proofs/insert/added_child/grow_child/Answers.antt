@@ -1,47 +1,47 @@
-use Rattle.std.proofs.Common.{◌∙◌, IsSome, sym, ap, arith}
+use Rattle.std.proofs.Common.{◌∙◌, sym, ap, arith}
 use Rattle.art_header.specs.NodeType.{most_children}
 use Rattle.art_arena.specs.Reader.{shown, shown_kind}
 use Rattle.art_tree.proofs.InsertLemmas.NodeLemmas.{few-where-absent, room-of-kind, moved-there}
 use Rattle.art_tree.proofs.insert.added_child.grow_child.Goals as goal
 
-pub unwrap-requires : goal.unwrap-requires
-unwrap-requires g c =
+pub replace_node-requires : goal.replace_node-requires
+replace_node-requires g c =
     let there = c.node_ref.ensures.node ∙ ap shown c.in-Node4.is in
     let is_kind = sym c.node_ref.ensures.kind ∙ ap shown_kind c.in-Node4.is in
-    let some : IsSome c.replace_node.result = c.replace_node.ensures.succeeds (room-of-kind c.args.arena.now c.args.pointer _ is_kind there (c.requires.full _ there) c.requires.room) in
+    let room = room-of-kind c.args.arena.now c.args.pointer _ is_kind there (c.requires.full _ there) c.requires.room in
     search
 
 pub returns-in-Node4-clause-moved : goal.returns-in-Node4-clause-moved
 returns-in-Node4-clause-moved g c = λ node is.
     let there = c.node_ref.ensures.node ∙ ap shown c.in-Node4.is in
     let is_kind = sym c.node_ref.ensures.kind ∙ ap shown_kind c.in-Node4.is in
-    moved-there c.args.arena.now c.replace_node.new.arena c.args.pointer c.replace_node.result c.args.byte c.args.child is_kind there (c.requires.full _ there) c.with_child_more-grown.ensures is c.unwrap.ensures c.replace_node.ensures.replaced
+    moved-there c.args.arena.now c.replace_node.new.arena c.args.pointer c.args.byte c.args.child is_kind there (c.requires.full _ there) c.with_child_more-grown.ensures is c.replace_node.ensures.replaced
 
-pub unwrap-requires-in-Node16 : goal.unwrap-requires-in-Node16
-unwrap-requires-in-Node16 g c =
+pub replace_node-requires-in-Node16 : goal.replace_node-requires-in-Node16
+replace_node-requires-in-Node16 g c =
     let there = c.node_ref.ensures.node ∙ ap shown c.in-Node16.is in
     let is_kind = sym c.node_ref.ensures.kind ∙ ap shown_kind c.in-Node16.is in
-    let some : IsSome c.replace_node-in-Node16.result = c.replace_node-in-Node16.ensures.succeeds (room-of-kind c.args.arena.now c.args.pointer _ is_kind there (c.requires.full _ there) c.requires.room) in
+    let room = room-of-kind c.args.arena.now c.args.pointer _ is_kind there (c.requires.full _ there) c.requires.room in
     search
 
 pub returns-in-Node16-clause-moved : goal.returns-in-Node16-clause-moved
 returns-in-Node16-clause-moved g c = λ node is.
     let there = c.node_ref.ensures.node ∙ ap shown c.in-Node16.is in
     let is_kind = sym c.node_ref.ensures.kind ∙ ap shown_kind c.in-Node16.is in
-    moved-there c.args.arena.now c.replace_node-in-Node16.new.arena c.args.pointer c.replace_node-in-Node16.result c.args.byte c.args.child is_kind there (c.requires.full _ there) c.with_child_more-grown-in-Node16.ensures is c.unwrap-in-Node16.ensures c.replace_node-in-Node16.ensures.replaced
+    moved-there c.args.arena.now c.replace_node-in-Node16.new.arena c.args.pointer c.args.byte c.args.child is_kind there (c.requires.full _ there) c.with_child_more-grown-in-Node16.ensures is c.replace_node-in-Node16.ensures.replaced
 
-pub unwrap-requires-in-Node48 : goal.unwrap-requires-in-Node48
-unwrap-requires-in-Node48 g c =
+pub replace_node-requires-in-Node48 : goal.replace_node-requires-in-Node48
+replace_node-requires-in-Node48 g c =
     let there = c.node_ref.ensures.node ∙ ap shown c.in-Node48.is in
     let is_kind = sym c.node_ref.ensures.kind ∙ ap shown_kind c.in-Node48.is in
-    let some : IsSome c.replace_node-in-Node48.result = c.replace_node-in-Node48.ensures.succeeds (room-of-kind c.args.arena.now c.args.pointer _ is_kind there (c.requires.full _ there) c.requires.room) in
+    let room = room-of-kind c.args.arena.now c.args.pointer _ is_kind there (c.requires.full _ there) c.requires.room in
     search
 
 pub returns-in-Node48-clause-moved : goal.returns-in-Node48-clause-moved
 returns-in-Node48-clause-moved g c = λ node is.
     let there = c.node_ref.ensures.node ∙ ap shown c.in-Node48.is in
     let is_kind = sym c.node_ref.ensures.kind ∙ ap shown_kind c.in-Node48.is in
-    moved-there c.args.arena.now c.replace_node-in-Node48.new.arena c.args.pointer c.replace_node-in-Node48.result c.args.byte c.args.child is_kind there (c.requires.full _ there) c.with_child_more-grown-in-Node48.ensures is c.unwrap-in-Node48.ensures c.replace_node-in-Node48.ensures.replaced
+    moved-there c.args.arena.now c.replace_node-in-Node48.new.arena c.args.pointer c.args.byte c.args.child is_kind there (c.requires.full _ there) c.with_child_more-grown-in-Node48.ensures is c.replace_node-in-Node48.ensures.replaced
 
 pub prove-unreachable-requires : goal.prove-unreachable-requires
 prove-unreachable-requires g c =
@@ -61,19 +61,10 @@ pub unreachable-requires-in-LeafNode : goal.unreachable-requires-in-LeafNode
 unreachable-requires-in-LeafNode g c = c.requires.inner (sym c.node_ref.ensures.kind ∙ ap shown_kind c.in-LeafNode.is)
 
 pub returns-in-Node4-clause-capacity : goal.returns-in-Node4-clause-capacity
-returns-in-Node4-clause-capacity g c =
-    let there = c.node_ref.ensures.node ∙ ap shown c.in-Node4.is in
-    let is_kind = sym c.node_ref.ensures.kind ∙ ap shown_kind c.in-Node4.is in
-    c.replace_node.ensures.capacity (room-of-kind c.args.arena.now c.args.pointer _ is_kind there (c.requires.full _ there) c.requires.room)
+returns-in-Node4-clause-capacity g c = c.replace_node.ensures.capacity
 
 pub returns-in-Node16-clause-capacity : goal.returns-in-Node16-clause-capacity
-returns-in-Node16-clause-capacity g c =
-    let there = c.node_ref.ensures.node ∙ ap shown c.in-Node16.is in
-    let is_kind = sym c.node_ref.ensures.kind ∙ ap shown_kind c.in-Node16.is in
-    c.replace_node-in-Node16.ensures.capacity (room-of-kind c.args.arena.now c.args.pointer _ is_kind there (c.requires.full _ there) c.requires.room)
+returns-in-Node16-clause-capacity g c = c.replace_node-in-Node16.ensures.capacity
 
 pub returns-in-Node48-clause-capacity : goal.returns-in-Node48-clause-capacity
-returns-in-Node48-clause-capacity g c =
-    let there = c.node_ref.ensures.node ∙ ap shown c.in-Node48.is in
-    let is_kind = sym c.node_ref.ensures.kind ∙ ap shown_kind c.in-Node48.is in
-    c.replace_node-in-Node48.ensures.capacity (room-of-kind c.args.arena.now c.args.pointer _ is_kind there (c.requires.full _ there) c.requires.room)
+returns-in-Node48-clause-capacity g c = c.replace_node-in-Node48.ensures.capacity

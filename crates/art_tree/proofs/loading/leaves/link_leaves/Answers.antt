@@ -7,7 +7,6 @@ use Rattle.art_arena.specs.Arena.{held, room, Nothing, HeldLeaf, Changes}
 use Rattle.art_tree.specs.Loading.{AreLinked}
 use Rattle.art_tree.proofs.LoadLemmas.LeafLists.{none-linked, allocated, first-linked, next-linked, unlinked, sibling-knit, two-texts, last-split, none-left, less-same}
 use Rattle.art_tree.proofs.LoadLemmas.RefusalLemmas.{forks-less}
-use Rattle.art_tree.proofs.LoadLemmas.PlacedTrees.{if-ok, on-ok}
 use Rattle.art_tree.proofs.SharedLemmas.RoomLemmas.{same-room}
 use Rattle.art_tree.proofs.loading.leaves.link_leaves.Goals as goal
 use Rattle.art_tree.proofs.loading.leaves.link_leaves.Goals.{in-Some-last, in_default-last}
@@ -35,16 +34,15 @@ insert_after-requires g c = (
             lit< tt,
             let old = c.args.arena.now in
                 let now = c.moving.arena in
-                let new = c.allocate_node_ptr.new.self in
+                let new = c.allocate_reserved-leaf.new.self in
                 let before = c.moving.leaves.items in
-                let this = c.unwrap-leaf.result in
+                let this = c.allocate_reserved-leaf.result in
                 let linking = c.moving.invariant.linking in
                 let entry : g.row.K.Denot × g.row.V.Denot = (c.in-Some.key, c.in-Some.value) in
                 let left = into_iter_items c.next.new.self in
-                let answer = c.allocate_node_ptr.result in
                 let a = allocated old now new linking.done before entry this c.with_no_siblings.result linking.linked
-                (if-ok (λ ptr. held now (opaque_pointer Leaf (slab_key ptr)) ≡ Nothing) answer this c.unwrap-leaf.ensures c.allocate_node_ptr.ensures.was_free)
-                (if-ok (λ ptr. Changes now new (opaque_pointer Leaf (slab_key ptr)) (HeldLeaf c.with_no_siblings.result)) answer this c.unwrap-leaf.ensures c.allocate_node_ptr.ensures.added)
+                c.allocate_reserved-leaf.ensures.was_free
+                c.allocate_reserved-leaf.ensures.added
                 c.with_no_siblings.ensures.key c.with_no_siblings.ensures.value c.with_no_siblings.ensures.previous c.with_no_siblings.ensures.next in
                 let items = c.next.ensures.items ∙ ap (λ o. option_to_list o ++ left) c.in-Some.is in
                 let whole : c.args.entries.items ≡ (linking.done ++ entry ∷ []) ++ left = linking.split ∙ ap (λ z. linking.done ++ z) items ∙ sym (append_assoc linking.done (entry ∷ []) left) in
@@ -68,21 +66,20 @@ pub moving-preserved : goal.moving-preserved
 moving-preserved g c =
     let old = c.args.arena.now in
     let now = c.moving.arena in
-    let new = c.allocate_node_ptr.new.self in
+    let new = c.allocate_reserved-leaf.new.self in
     let before = c.moving.leaves.items in
-    let this = c.unwrap-leaf.result in
+    let this = c.allocate_reserved-leaf.result in
     let linking = c.moving.invariant.linking in
     let entry : g.row.K.Denot × g.row.V.Denot = (c.in-Some.key, c.in-Some.value) in
     let left = into_iter_items c.next.new.self in
-    let answer = c.allocate_node_ptr.result in
     let a = allocated old now new linking.done before entry this c.with_no_siblings.result linking.linked
-    (if-ok (λ ptr. held now (opaque_pointer Leaf (slab_key ptr)) ≡ Nothing) answer this c.unwrap-leaf.ensures c.allocate_node_ptr.ensures.was_free)
-    (if-ok (λ ptr. Changes now new (opaque_pointer Leaf (slab_key ptr)) (HeldLeaf c.with_no_siblings.result)) answer this c.unwrap-leaf.ensures c.allocate_node_ptr.ensures.added)
+    c.allocate_reserved-leaf.ensures.was_free
+    c.allocate_reserved-leaf.ensures.added
     c.with_no_siblings.ensures.key c.with_no_siblings.ensures.value c.with_no_siblings.ensures.previous c.with_no_siblings.ensures.next in
     let items = c.next.ensures.items ∙ ap (λ o. option_to_list o ++ left) c.in-Some.is in
     let whole : c.args.entries.items ≡ (linking.done ++ entry ∷ []) ++ left = linking.split ∙ ap (λ z. linking.done ++ z) items ∙ sym (append_assoc linking.done (entry ∷ []) left) in
     let one = ap (λ o. length (option_to_list o)) c.in-Some.is in
-    let rooms = on-ok (room now Leaf ≤ room new Leaf + 1) answer this c.unwrap-leaf.ensures c.allocate_node_ptr.ensures.room in
+    let rooms = c.allocate_reserved-leaf.ensures.room in
     let pushed = ap length c.push_reserved.ensures.items ∙ length-append before (this ∷ []) in
     elim c.match-last.branch [
       | in-Some-last w ↦
@@ -95,7 +92,7 @@ moving-preserved g c =
             linking = record { done = linking.done ++ entry ∷ []; split = whole; linked = subst (λ x. AreLinked old x (linking.done ++ entry ∷ []) c.push_reserved.new.self.items) (sym w.arena-is) (subst (AreLinked old w.insert_after.new.arena (linking.done ++ entry ∷ [])) (sym c.push_reserved.ensures.items) linked) };
             room = omega (arith, ap (λ x. room x Leaf) w.arena-is, same-room new w.insert_after.new.arena w.insert_after.ensures.room Leaf, rooms, one, c.next.ensures.len, c.moving.invariant.room);
             memory = omega (arith, pushed, one, c.next.ensures.len, c.push_reserved.ensures.capacity, c.moving.invariant.memory);
-            other_room = λ other differ. ap (λ x. room x other) w.arena-is ∙ same-room new w.insert_after.new.arena w.insert_after.ensures.room other ∙ c.allocate_node_ptr.ensures.other_room other differ ∙ c.moving.invariant.other_room other differ;
+            other_room = λ other differ. ap (λ x. room x other) w.arena-is ∙ same-room new w.insert_after.new.arena w.insert_after.ensures.room other ∙ c.allocate_reserved-leaf.ensures.other_room other differ ∙ c.moving.invariant.other_room other differ;
           }
       | in_default-last w ↦
           let none = none-left before (ap (λ xs. slice_get xs (length xs - 1)) (sym c.deref.ensures.value) ∙ sym c.last.ensures.value ∙ ap option_copied w.in_default-last.is) in
@@ -104,6 +101,6 @@ moving-preserved g c =
             linking = record { done = linking.done ++ entry ∷ []; split = whole; linked = subst (λ x. AreLinked old x (linking.done ++ entry ∷ []) c.push_reserved.new.self.items) (sym w.arena-is) (subst (AreLinked old new (linking.done ++ entry ∷ [])) (sym c.push_reserved.ensures.items) linked) };
             room = omega (arith, ap (λ x. room x Leaf) w.arena-is, rooms, one, c.next.ensures.len, c.moving.invariant.room);
             memory = omega (arith, pushed, one, c.next.ensures.len, c.push_reserved.ensures.capacity, c.moving.invariant.memory);
-            other_room = λ other differ. ap (λ x. room x other) w.arena-is ∙ c.allocate_node_ptr.ensures.other_room other differ ∙ c.moving.invariant.other_room other differ;
+            other_room = λ other differ. ap (λ x. room x other) w.arena-is ∙ c.allocate_reserved-leaf.ensures.other_room other differ ∙ c.moving.invariant.other_room other differ;
           }
     ]

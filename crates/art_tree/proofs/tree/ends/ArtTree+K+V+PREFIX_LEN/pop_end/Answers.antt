@@ -1,4 +1,5 @@
-use Rattle.std.proofs.Common.{◌∙◌, ap, inl, refl, sym, subst}
+use Rattle.std.proofs.Common.{◌∙◌, ap, inl, refl, sym, subst, arith}
+use Rattle.std.proofs.lemmas.Result.{IfOk-from_err}
 use Rattle.art_header.specs.declared.node_type.NodeType.{NodeType}
 use Rattle.art_arena.specs.Arena.{SameNodes}
 use Rattle.art_tree.specs.Art.{IsArt}
@@ -11,12 +12,6 @@ use Rattle.art_tree.proofs.SharedLemmas.ExchangedTree.{art-same}
 use Rattle.art_tree.proofs.SharedLemmas.KeyLemmas.{keys-same, keys-left}
 use Rattle.art_tree.proofs.SharedLemmas.ParentLemmas.{always-err}
 use Rattle.art_tree.proofs.tree.ends.ArtTree+K+V+PREFIX_LEN.pop_end.Goals as goal
-
-pub returns-in_default-clause-none : goal.returns-in_default-clause-none
-returns-in_default-clause-none g c = λ key.
-    let text = g.K.AsBytes.text in
-    let nothing = subst (IsArt text c.self.inside.arena) c.in_default.is c.self.invariant.0 in
-    ap (λ seen. entry_at text seen.arena key) (sym c.self.view_is) ∙ empty-entry text c.self.inside.arena nothing key
 
 pub invariant_of-self : goal.invariant_of-self
 invariant_of-self g c =
@@ -31,52 +26,61 @@ invariant_of-self-2 g c =
     let (art, first, left) = c.in_ok-root.ensures.removed in
     (art, keys-left text g.K.AsBytes.is_key c.self.inside.arena c.remove_end.new.arena c.self.invariant.1 (text c.in_ok-root.entry.0) left)
 
-pub returns-clause-removed : goal.returns-clause-removed
-returns-clause-removed g c = subst (λ seen. IsEndEntry g.K.AsBytes.text seen.arena c.args.end c.in_ok-root.entry) c.self.view_is c.in_ok-root.ensures.removed.1
-
-pub returns-clause-left : goal.returns-clause-left
-returns-clause-left g c = subst (λ seen. IsLeft g.K.AsBytes.text seen.arena c.remove_end.new.arena (g.K.AsBytes.text c.in_ok-root.entry.0)) c.self.view_is c.in_ok-root.ensures.removed.2
-
-pub returns-clause-takes_no_memory : goal.returns-clause-takes_no_memory
-returns-clause-takes_no_memory g c = subst (λ seen. (¬ EndMeets g.K.AsBytes.text seen.arena c.args.end (NeedsSmallerNode g.K.AsBytes.text seen.arena)) → FreesOneEach seen.arena c.remove_end.new.arena) c.self.view_is c.remove_end.ensures.takes_no_memory
-
-pub returns-in_err-root-clause-takes_no_memory : goal.returns-in_err-root-clause-takes_no_memory
-returns-in_err-root-clause-takes_no_memory g c =
-    subst (λ seen. (¬ EndMeets g.K.AsBytes.text seen.arena c.args.end (NeedsSmallerNode g.K.AsBytes.text seen.arena)) → FreesOneEach seen.arena c.remove_end.new.arena) c.self.view_is c.remove_end.ensures.takes_no_memory
-
-pub returns-in_err-root-clause-refused : goal.returns-in_err-root-clause-refused
-returns-in_err-root-clause-refused g c =
-    always-err c.from_residual.result _ (subst (λ seen. EndMeets g.K.AsBytes.text seen.arena c.args.end (NeedsSmallerNode g.K.AsBytes.text seen.arena)) c.self.view_is c.in_err-root.ensures.refused)
-
-pub returns-in_err-root-clause-same_entries : goal.returns-in_err-root-clause-same_entries
-returns-in_err-root-clause-same_entries g c = always-err c.from_residual.result _ (λ x. c.in_err-root.ensures.same_entries x ∙ ap (λ seen. entry_at g.K.AsBytes.text seen.arena x) c.self.view_is)
-
-pub returns-in_err-root-clause-no_room : goal.returns-in_err-root-clause-no_room
-returns-in_err-root-clause-no_room g c =
+pub returns-in_default : goal.returns-in_default
+returns-in_default g c =
     let text = g.K.AsBytes.text in
-    let old = c.self.inside.arena in
-    let here = subst (λ root. (kind : NodeType) × EndMeets text old c.args.end (λ x. LacksRoomToRemove text old root x kind)) (sym c.in-Some.is) c.in_err-root.ensures.no_room in
-    always-err c.from_residual.result _ (subst (λ seen. (kind : NodeType) × EndMeets text seen.arena c.args.end (λ x. LacksRoomToRemove text seen.arena seen.root x kind)) c.self.view_is here)
+    let nothing = subst (IsArt text c.self.inside.arena) c.in_default.is c.self.invariant.0 in
+    record {
+      removed = tt;
+      none = λ key. ap (λ seen. entry_at text seen.arena key) (sym c.self.view_is) ∙ empty-entry text c.self.inside.arena nothing key;
+      empty_kept = search;
+      left = tt;
+      refused = tt;
+      same_entries = tt;
+      nodes_kept = tt;
+      root_kept = tt;
+      no_room = tt;
+      takes_no_memory = λ never kind. omega arith;
+      memory = λ kind. inl refl;
+    }
 
-pub returns-clause-memory : goal.returns-clause-memory
-returns-clause-memory g c =
+pub returns-in_err-root : goal.returns-in_err-root
+returns-in_err-root g c =
     let text = g.K.AsBytes.text in
     let old = c.self.inside.arena in
     let new = c.remove_end.new.arena in
-    let here = subst (λ root. GrowsOnlyWhere old new (λ kind. EndMeets text old c.args.end (λ x. LacksRoomToRemove text old root x kind))) (sym c.in-Some.is) c.remove_end.ensures.memory in
-    subst (λ seen. GrowsOnlyWhere seen.arena new (λ kind. EndMeets text seen.arena c.args.end (λ x. LacksRoomToRemove text seen.arena seen.root x kind))) c.self.view_is here
+    let refusal = c.from_residual.result in
+    record {
+      removed = IfOk-from_err refusal _ c.from_residual.ensures.0;
+      none = IfOk-from_err refusal _ c.from_residual.ensures.0;
+      empty_kept = IfOk-from_err refusal _ c.from_residual.ensures.0;
+      left = IfOk-from_err refusal _ c.from_residual.ensures.0;
+      refused = always-err refusal _ (subst (λ seen. EndMeets text seen.arena c.args.end (NeedsSmallerNode text seen.arena)) c.self.view_is c.in_err-root.ensures.refused);
+      same_entries = always-err refusal _ (λ x. c.in_err-root.ensures.same_entries x ∙ ap (λ seen. entry_at text seen.arena x) c.self.view_is);
+      nodes_kept = always-err refusal _ (subst (λ seen. SameNodes seen.arena new) c.self.view_is c.in_err-root.ensures.nodes_kept);
+      root_kept = always-err refusal _ (ap (λ seen. seen.root) c.self.view_is);
+      no_room = always-err refusal _ (subst (λ seen. (kind : NodeType) × EndMeets text seen.arena c.args.end (λ x. LacksRoomToRemove text seen.arena seen.root x kind)) c.self.view_is
+          (subst (λ root. (kind : NodeType) × EndMeets text old c.args.end (λ x. LacksRoomToRemove text old root x kind)) (sym c.in-Some.is) c.in_err-root.ensures.no_room));
+      takes_no_memory = subst (λ seen. (¬ EndMeets text seen.arena c.args.end (NeedsSmallerNode text seen.arena)) → FreesOneEach seen.arena new) c.self.view_is c.remove_end.ensures.takes_no_memory;
+      memory = subst (λ seen. GrowsOnlyWhere seen.arena new (λ kind. EndMeets text seen.arena c.args.end (λ x. LacksRoomToRemove text seen.arena seen.root x kind))) c.self.view_is
+          (subst (λ root. GrowsOnlyWhere old new (λ kind. EndMeets text old c.args.end (λ x. LacksRoomToRemove text old root x kind))) (sym c.in-Some.is) c.remove_end.ensures.memory);
+    }
 
-pub returns-in_err-root-clause-memory : goal.returns-in_err-root-clause-memory
-returns-in_err-root-clause-memory g c =
+pub returns : goal.returns
+returns g c =
     let text = g.K.AsBytes.text in
     let old = c.self.inside.arena in
     let new = c.remove_end.new.arena in
-    let here = subst (λ root. GrowsOnlyWhere old new (λ kind. EndMeets text old c.args.end (λ x. LacksRoomToRemove text old root x kind))) (sym c.in-Some.is) c.remove_end.ensures.memory in
-    subst (λ seen. GrowsOnlyWhere seen.arena new (λ kind. EndMeets text seen.arena c.args.end (λ x. LacksRoomToRemove text seen.arena seen.root x kind))) c.self.view_is here
-
-pub returns-in_default-clause-memory : goal.returns-in_default-clause-memory
-returns-in_default-clause-memory g c = λ kind. inl refl
-
-pub returns-in_err-root-clause-nodes_kept : goal.returns-in_err-root-clause-nodes_kept
-returns-in_err-root-clause-nodes_kept g c =
-    always-err c.from_residual.result _ (subst (λ seen. SameNodes seen.arena c.remove_end.new.arena) c.self.view_is c.in_err-root.ensures.nodes_kept)
+    record {
+      removed = subst (λ seen. IsEndEntry text seen.arena c.args.end c.in_ok-root.entry) c.self.view_is c.in_ok-root.ensures.removed.1;
+      none = tt;
+      empty_kept = tt;
+      left = subst (λ seen. IsLeft text seen.arena new (text c.in_ok-root.entry.0)) c.self.view_is c.in_ok-root.ensures.removed.2;
+      refused = tt;
+      same_entries = tt;
+      nodes_kept = tt;
+      root_kept = tt;
+      no_room = tt;
+      takes_no_memory = subst (λ seen. (¬ EndMeets text seen.arena c.args.end (NeedsSmallerNode text seen.arena)) → FreesOneEach seen.arena new) c.self.view_is c.remove_end.ensures.takes_no_memory;
+      memory = subst (λ seen. GrowsOnlyWhere seen.arena new (λ kind. EndMeets text seen.arena c.args.end (λ x. LacksRoomToRemove text seen.arena seen.root x kind))) c.self.view_is (subst (λ root. GrowsOnlyWhere old new (λ kind. EndMeets text old c.args.end (λ x. LacksRoomToRemove text old root x kind))) (sym c.in-Some.is) c.remove_end.ensures.memory);
+    }
