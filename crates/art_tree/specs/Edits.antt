@@ -1,5 +1,5 @@
 -- Insertion: the changes of inner nodes and of the list of leaves. No public clause cites it.
-use Rattle.std.specs.Prelude.{◌≡◌, ◌⊎◌, ℕ, ◌<◌, List, [], ◌∷◌, ◌++◌, length, nat_lt, if◌then◌else◌}
+use Rattle.std.specs.Prelude.{◌≡◌, ◌↔◌, ◌⊎◌, ℕ, ◌<◌, ◌≤◌, Bool, IsTrue, List, [], ◌∷◌, ◌++◌, length, nat_lt, if◌then◌else◌}
 use Rattle.art_header.specs.NodeType.{most_children, grown_kind}
 use Rattle.std.specs.declared.cmp.Ordering.TheVariants.{Less}
 use Rattle.art_bytes.specs.Text.{text_order}
@@ -52,6 +52,13 @@ module _ {K V : Type 0} {P : ℕ} where
     pub is_held : held arena pointer ≡ HeldLeaf leaf
     pub key : leaf_key leaf ≡ k
     pub value : leaf_value leaf ≡ v
+
+  -- this says whether the inner node at the pointer has as many children as its kind holds
+  abbrev pub TellsFull : NodeArena K V P → OpaqueNodePtr K V P → Bool → Type 0
+  TellsFull arena pointer full =
+      (node : Inner (OpaqueNodePtr K V P)) → held arena pointer ≡ HeldInner node →
+      (IsTrue full ↔ (length node.children ≡ most_children (node_kind pointer))) ×
+      (length node.children ≤ most_children (node_kind pointer))
 
   -- where the inner node at the pointer is full, there is spare capacity for one of the next kind
   abbrev pub HasRoomToGrow : NodeArena K V P → OpaqueNodePtr K V P → Type 0

@@ -11,7 +11,7 @@ ghost use Rattle.art_arena.specs.Links.{HoldsLeaf};
 ghost use Rattle.art_arena.specs.Trees.{leaves, branch_leaves};
 ghost use Rattle.art_tree.specs.Art.{IsArt, IsAlone};
 ghost use Rattle.art_tree.specs.Dictionary.{entry_at, SameEntries};
-ghost use Rattle.art_tree.specs.Edits.{HasRoomToGrow};
+ghost use Rattle.art_tree.specs.Edits.{HasRoomToGrow, TellsFull};
 ghost use Rattle.art_tree.specs.Hanging.{HasPlaceAt, StandsBeside};
 ghost use Rattle.art_tree.specs.Insertion.{AddsEntry, IsEntered, IsRefused, MayEnter};
 ghost use Rattle.art_tree.specs.InsertionPoints.{LacksChild, Parts};
@@ -25,7 +25,7 @@ mod added_child;
 mod insertion_point;
 mod link;
 
-use crate::insert::added_child::{add_child, fork_node, reserve_growth, trim};
+use crate::insert::added_child::{add_child, fork_node, is_full, reserve_growth, trim};
 pub use crate::insert::insertion_point::text_toward;
 use crate::insert::insertion_point::{InsertionPoint, Mismatch, Spot, find_insertion_point};
 use crate::insert::link::link_leaf;
@@ -172,9 +172,10 @@ fn leaf_beside<K: AsBytes, V, const PREFIX_LEN: usize>(
 fn reserve_for_child<K, V, const PREFIX_LEN: usize>(
     arena: &mut NodeArena<K, V, PREFIX_LEN>,
     pointer: OpaqueNodePtr<K, V, PREFIX_LEN>,
+    full: bool,
 ) -> Result<(), AllocError>
-    requires held { held arena.old pointer ≢ Nothing }
     requires inner { node_kind pointer ≢ Leaf }
+    requires full { TellsFull arena.old pointer full }
     ensures leaf_room { OnOk result (0 < room arena.new Leaf) }
     ensures room { OnOk result (HasRoomToGrow arena.new pointer) }
     ensures nodes_kept { SameNodes arena.old arena.new }
@@ -182,7 +183,7 @@ fn reserve_for_child<K, V, const PREFIX_LEN: usize>(
     ensures memory { GrowsOnlyWhere arena.old arena.new (LacksRoomForChild arena.old pointer) }
 {
     arena.reserve(NodeType::Leaf, 1)?;
-    reserve_growth(arena, pointer)
+    reserve_growth(arena, pointer, full)
 }
 
 // Makes spare capacity for a new leaf and for its new parent.
@@ -217,12 +218,13 @@ fn insert_child<K: AsBytes, V, const PREFIX_LEN: usize>(
     no_text_begins_another::<OpaqueNodePtr<K, V, PREFIX_LEN>>();
     texts_ascend::<OpaqueNodePtr<K, V, PREFIX_LEN>>();
     each_pointer_is_at_one_place::<K, V, PREFIX_LEN>();
-    if reserve_for_child(arena, spot.node).is_err() {
+    let full = is_full(arena, spot.node);
+    if reserve_for_child(arena, spot.node, full).is_err() {
         return Err((key, value));
     }
     let (sibling, end) = leaf_beside(arena, spot.node, byte);
     let leaf = link_leaf(arena, key, value, sibling, end);
-    let node = add_child(arena, spot.node, byte, leaf.to_opaque());
+    let node = add_child(arena, spot.node, byte, leaf.to_opaque(), full);
     Ok(hang(arena, root, spot.parent, spot.node, node))
 }
 

@@ -1,5 +1,5 @@
 -- Insertion: a new leaf under a node that has no child under its byte.
-use Rattle.std.proofs.Common.{◌≡◌, ◌≢◌, ◌∙◌, ℕ, ◌+◌, ◌<◌, ◌^◌, List, [], ◌∷◌, ◌++◌, length, AllPairs, Contains, Some, None, refl, sym, ap, subst, inl, inr, arith}
+use Rattle.std.proofs.Common.{◌≡◌, ◌≢◌, ◌∙◌, ◌↔◌, Bool, IsTrue, ℕ, ◌+◌, ◌<◌, ◌≤◌, ◌^◌, List, [], ◌∷◌, ◌++◌, length, AllPairs, Contains, Some, None, refl, sym, ap, subst, inl, inr, arith}
 use Rattle.std.proofs.lemmas.List.Elements.{All-contains, Contains-append_left, Contains-append_right, Contains-append_cases}
 use Rattle.art_header.specs.NodeType.{kind_for, most_children, grown_kind}
 use Rattle.art_header.specs.declared.node_type.NodeType.{NodeType}
@@ -17,7 +17,7 @@ use Rattle.art_arena.specs.Standing.{NodeStands, StandsIn, AllStandIn}
 use Rattle.art_arena.specs.Trees.{Tree, Inner, branch_roots, leaves, branch_leaves, texts, places, branch_places, IsSound}
 use Rattle.art_tree.specs.Art.{IsAlone, IsArt}
 use Rattle.art_tree.specs.Contexts.{Context, plug, path_to, leaves_before, leaves_after, KeepsAt, join}
-use Rattle.art_tree.specs.Edits.{HasGap, IsBeside, HoldsEntry, HasOneMore, HasRoomToGrow, LiesBeside, StaysAt}
+use Rattle.art_tree.specs.Edits.{HasGap, IsBeside, HoldsEntry, HasOneMore, HasRoomToGrow, LiesBeside, StaysAt, TellsFull}
 use Rattle.art_tree.specs.Hanging.{CanHang, HasPlaceAt, IsHung, StandsBeside}
 use Rattle.art_tree.specs.Insertion.{IsEntered}
 use Rattle.art_tree.specs.Loading.{HasSmallestKinds, HaveSmallestKinds}
@@ -133,6 +133,9 @@ module _ {K V : Type 0} {P : ℕ} {text : K → List ℕ} {old : NodeArena K V P
     linked-absent node is =
         let same = one-inner (held linked spot.node) node-is node is-linked is in
         ap (λ n. child_at n.children byte) (sym same) ∙ ap (λ children. child_at children byte) shown-there.children ∙ lacks.absent
+
+    pub linked-full : {full : Bool} → TellsFull old spot.node full → TellsFull linked spot.node full
+    linked-full {full = full} tells node is = subst (λ n. (IsTrue full ↔ (length n.children ≡ most_children (node_kind spot.node))) × (length n.children ≤ most_children (node_kind spot.node))) (one-inner (held linked spot.node) node-is node is-linked is) (tells node-is is-there)
 
     pub linked-room : HasRoomToGrow old spot.node → SameOtherRoom old linked kinds.Leaf → HasRoomToGrow linked spot.node
     linked-room rooms others node is full =

@@ -1,6 +1,6 @@
 -- Insertion: inner nodes with one child more, or with another prefix.
-use Rattle.std.proofs.Common.{◌≡◌, ◌≢◌, ◌∙◌, ℕ, ◌<◌, ◌≤◌, ◌^◌, List, [], ◌∷◌, length, Option, Some, None, IsNone, IfSome, IfNone, lit<, refl, sym, ap, subst, arith}
-use Rattle.std.proofs.lemmas.Bool.{le-ltb, lt-ltb}
+use Rattle.std.proofs.Common.{◌≡◌, ◌≢◌, ◌∙◌, ℕ, Bool, false, ◌<◌, ◌≤◌, ◌^◌, List, [], ◌∷◌, length, Option, Some, None, IsNone, IfSome, IfNone, lit<, refl, sym, ap, subst, arith}
+use Rattle.std.proofs.lemmas.Bool.{false≢true, le-ltb, lt-ltb}
 use Rattle.std.proofs.lemmas.Option.{same_Some}
 use Rattle.std.specs.Option.{option_map, option_map_or}
 use Rattle.art_header.specs.Header.{Header}
@@ -15,7 +15,7 @@ use Rattle.art_nodes.specs.declared.leaf_node.LeafNode.{LeafNode}
 use Rattle.art_nodes.proofs.ChildMapLaws.{length_absent}
 use Rattle.art_arena.proofs.StandingLaws.{one-inner}
 use Rattle.art_arena.specs.Arena.{NodeArena, Held, HeldInner, HeldLeaf, Nothing, held, held_header, room}
-use Rattle.art_tree.specs.Edits.{HasRoomToGrow, IsMoved, two_children}
+use Rattle.art_tree.specs.Edits.{HasRoomToGrow, IsMoved, TellsFull, two_children}
 use Rattle.art_tree.specs.Nodes.{IsReplaced}
 
 -- the sizes in memory of a pointer to a leaf, of a slice and of a spot
@@ -80,6 +80,13 @@ module _ {K V : Type 0} {P : ℕ} where
   pub text-of-key : (text : K → List ℕ) (leaf : Option (LeafNode K V P)) (key : K) → option_map leaf_key leaf ≡ Some key → option_map_or (λ (l : LeafNode K V P). text (leaf_key l)) leaf [] ≡ text key
   text-of-key text None key e = absurd (cc)
   text-of-key text (Some leaf) key e = let same : leaf_key leaf ≡ key = cc in ap text same
+
+  -- a node that is not full has space for a child more
+  pub not-full : (arena : NodeArena K V P) (pointer : OpaqueNodePtr K V P) {full : Bool} → TellsFull arena pointer full → full ≡ false → (node : Inner (OpaqueNodePtr K V P)) → held arena pointer ≡ HeldInner node → length node.children < most_children (node_kind pointer)
+  not-full arena pointer tells untrue node is =
+      let (all, most) = tells node is in
+      let differ : length node.children ≢ most_children (node_kind pointer) = λ same. false≢true (sym untrue ∙ all.1 same) in
+      omega (arith, differ, most)
 
   -- a full node of a kind grows to one of the next, for which there is spare capacity
   pub room-of-kind : (arena : NodeArena K V P) (pointer : OpaqueNodePtr K V P) {kind : NodeType} (there : Inner (OpaqueNodePtr K V P)) → node_kind pointer ≡ kind → held arena pointer ≡ HeldInner there

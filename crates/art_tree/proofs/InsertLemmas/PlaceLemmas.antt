@@ -390,6 +390,13 @@ module _ {K V : Type 0} {P : ℕ} (text : K → List ℕ) (arena : NodeArena K V
           omega (arith, ap length leaf-alike.b_is, length-append leaf-alike.front leaf-alike.right, leaf-alike.long),
         )
 
+        -- they end together
+        pub leaf-same : spot.depth + n ≡ length (leaf_text text leaf) → spot.depth + n ≡ length key → leaf_text text leaf ≡ key
+        leaf-same first second =
+            let left : leaf-alike.left ≡ [] = nil_from_length leaf-alike.left (omega (arith, first, ap length leaf-alike.a_is, length-append leaf-alike.front leaf-alike.left, leaf-alike.long)) in
+            let right : leaf-alike.right ≡ [] = nil_from_length leaf-alike.right (omega (arith, second, ap length leaf-alike.b_is, length-append leaf-alike.front leaf-alike.right, leaf-alike.long)) in
+            leaf-alike.a_is ∙ ap (λ z. leaf-alike.front ++ z) (left ∙ sym right) ∙ sym leaf-alike.b_is
+
         -- one is a prefix of the other
         pub leaf-clash : leaf_text text leaf ≢ key → (spot.depth + n ≡ length (leaf_text text leaf)) ⊎ (spot.depth + n ≡ length key) → Clashes (texts tree) key
         leaf-clash differ ends = clash-in-part (leaf_text text leaf) (subst (λ part. Contains (texts part) (leaf_text text leaf)) (sym here.part) (0, omega arith, refl)) (elim ends [

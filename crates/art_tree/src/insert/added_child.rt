@@ -8,7 +8,7 @@ ghost use Rattle.art_nodes.specs.Inner.{Inner, header_of, node_with_child};
 ghost use Rattle.art_nodes.specs.Pointers.{node_kind, slab_key};
 ghost use Rattle.art_arena.specs.Arena.{held, HeldInner, Nothing, room, Changes, SameCapacity, SameNodes, SameRoom};
 ghost use Rattle.art_arena.specs.Links.{HoldsLeaf, text_at};
-ghost use Rattle.art_tree.specs.Edits.{HasOneMore, HasRoomToGrow, IsMoved, two_children};
+ghost use Rattle.art_tree.specs.Edits.{HasOneMore, HasRoomToGrow, IsMoved, TellsFull, two_children};
 ghost use Rattle.art_tree.specs.Nodes.{node_of, IsPlaced, node_with_prefix};
 ghost use Rattle.art_tree.specs.Reserving.{LacksRoomToGrow};
 ghost use Rattle.art_tree.specs.Room.{GrowsOnlyWhere};
@@ -23,35 +23,33 @@ use art_nodes::{
 };
 use std::alloc::AllocError;
 
-// Whether the inner node at the pointer is full.
-fn is_full<K, V, const PREFIX_LEN: usize>(
+/// Whether the inner node at the pointer is full.
+pub(crate) fn is_full<K, V, const PREFIX_LEN: usize>(
     arena: &NodeArena<K, V, PREFIX_LEN>,
     pointer: OpaqueNodePtr<K, V, PREFIX_LEN>,
 ) -> bool
     requires held { held arena.now pointer ≢ Nothing }
     requires inner { node_kind pointer ≢ Leaf }
-    ensures full { (node : Inner _) → held arena.now pointer ≡ HeldInner node →
-        IsTrue result ↔ (length node.children ≡ most_children (node_kind pointer)) }
-    ensures has_room { (node : Inner _) → held arena.now pointer ≡ HeldInner node →
-        ¬ (IsTrue result) → length node.children < most_children (node_kind pointer) }
+    ensures { TellsFull arena.now pointer result }
 {
     num_children(arena, pointer) == *pointer.node_type().capacity_range().end()
 }
 
-/// Makes spare capacity for the node that a full inner node grows to.
+/// Makes spare capacity for the node that the inner node at the pointer grows to where it is full.
 pub(crate) fn reserve_growth<K, V, const PREFIX_LEN: usize>(
     arena: &mut NodeArena<K, V, PREFIX_LEN>,
     pointer: OpaqueNodePtr<K, V, PREFIX_LEN>,
+    full: bool,
 ) -> Result<(), AllocError>
-    requires held { held arena.old pointer ≢ Nothing }
     requires inner { node_kind pointer ≢ Leaf }
+    requires full { TellsFull arena.old pointer full }
     ensures room { OnOk result (HasRoomToGrow arena.new pointer) }
     ensures nodes_kept { SameNodes arena.old arena.new }
     ensures leaf_room { room arena.old Leaf ≤ room arena.new Leaf }
     ensures no_room { OnErr result ((kind : _) × LacksRoomToGrow arena.old pointer kind) }
     ensures memory { GrowsOnlyWhere arena.old arena.new (LacksRoomToGrow arena.old pointer) }
 {
-    if !is_full(arena, pointer) {
+    if !full {
         return Ok(());
     }
     arena.reserve(pointer.node_type().grown(), 1)
@@ -122,17 +120,19 @@ pub(crate) fn add_child<K, V, const PREFIX_LEN: usize>(
     pointer: OpaqueNodePtr<K, V, PREFIX_LEN>,
     byte: u8,
     child: OpaqueNodePtr<K, V, PREFIX_LEN>,
+    full: bool,
 ) -> OpaqueNodePtr<K, V, PREFIX_LEN>
     requires held { held arena.old pointer ≢ Nothing }
     requires inner { node_kind pointer ≢ Leaf }
     requires absent { (node : Inner _) → held arena.old pointer ≡ HeldInner node →
         child_at node.children byte ≡ None }
+    requires full { TellsFull arena.old pointer full }
     requires room { HasRoomToGrow arena.old pointer }
     ensures added { (node : Inner _) → held arena.old pointer ≡ HeldInner node →
         HasOneMore arena.old arena.new pointer node (node_with_child node byte child) result }
     ensures capacity { SameCapacity arena.old arena.new }
 {
-    if is_full(arena, pointer) {
+    if full {
         return grow_child(arena, pointer, byte, child);
     }
     arena.write_child(pointer, byte, child);

@@ -236,14 +236,18 @@ fn insertion_point_at_leaf<K: AsBytes, V, const PREFIX_LEN: usize>(
     ensures { (tree : _) → IsSpotIn K.text arena.now tree key.now spot →
         Belongs tree key.now result }
 {
-    let node = arena.as_ref(leaf);
-    if node.matches_full_key(key) {
-        return InsertionPoint::Present(leaf);
-    }
-    let text = node.key_ref().as_bytes();
+    let text = arena.as_ref(leaf).key_ref().as_bytes();
+    // The way to the leaf has compared all bytes before.
     let depth = spot.depth;
     let index = depth + common_prefix_len(&text[depth..], &key[depth..]);
-    if index == text.len() || index == key.len() {
+    if index == text.len() {
+        return if index == key.len() {
+            InsertionPoint::Present(leaf)
+        } else {
+            InsertionPoint::Clash
+        };
+    }
+    if index == key.len() {
         return InsertionPoint::Clash;
     }
     let mismatch = Mismatch {

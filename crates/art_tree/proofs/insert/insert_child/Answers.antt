@@ -1,14 +1,14 @@
-use Rattle.std.proofs.Common.{◌≡◌, ◌≢◌, ◌∙◌, ◌<◌, [], None, refl, subst}
+use Rattle.std.proofs.Common.{◌≡◌, ◌≢◌, ◌∙◌, ◌<◌, [], None, refl, sym, subst}
 use Rattle.art_header.specs.declared.node_type.NodeType.TheVariants.{Leaf}
 use Rattle.art_nodes.specs.ChildMap.{child_at}
 use Rattle.art_nodes.specs.Inner.{Inner}
 use Rattle.art_nodes.specs.Pointers.{node_kind, slab_key}
 use Rattle.art_arena.specs.Arena.{held, HeldInner, Nothing, room}
 use Rattle.art_arena.specs.Links.{text_at}
-use Rattle.art_tree.specs.Edits.{HasGap, HasRoomToGrow, LiesBeside}
+use Rattle.art_tree.specs.Edits.{HasGap, HasRoomToGrow, LiesBeside, TellsFull}
 use Rattle.art_tree.specs.Hanging.{CanHang, HasPlaceAt}
 use Rattle.art_tree.specs.Search.{leaf_pointer}
-use Rattle.art_tree.proofs.InsertLemmas.AddedChild.{ChildAdded, alone-there, child-added, child-gap, child-hangs, child-lies, child-reserved, linked-absent, linked-held, linked-room, place-there, there-held, there-inner}
+use Rattle.art_tree.proofs.InsertLemmas.AddedChild.{ChildAdded, alone-there, child-added, child-gap, child-hangs, child-lies, child-reserved, linked-absent, linked-full, linked-held, linked-room, place-there, there-held, there-inner}
 use Rattle.art_tree.proofs.InsertLemmas.AddedLeaf.{entered-from}
 use Rattle.art_tree.proofs.InsertLemmas.NeededChild.{child-lacks}
 use Rattle.art_tree.proofs.SharedLemmas.RoomLemmas.{grows-on, grows-then, same-capacity}
@@ -16,11 +16,18 @@ use Rattle.art_tree.proofs.SharedLemmas.ParentLemmas.{err-then, ok-then}
 use Rattle.art_tree.proofs.InsertLemmas.NodeLemmas.{leaf-pointer-fits}
 use Rattle.art_tree.proofs.insert.insert_child.Goals as goal
 
+pub is_full-full-requires : goal.is_full-full-requires
+is_full-full-requires g c =
+    let old = c.args.arena.now in
+    let place = child-reserved old old c.requires.place (λ pointer. refl) c.ranges.byte.fits in
+    let is_held : held old c.args.spot.node ≢ Nothing = there-held place in
+    let is_inner : node_kind c.args.spot.node ≢ Leaf = there-inner place in
+    search
+
 pub reserve_for_child-requires : goal.reserve_for_child-requires
 reserve_for_child-requires g c =
     let old = c.args.arena.now in
     let place = child-reserved old old c.requires.place (λ pointer. refl) c.ranges.byte.fits in
-    let is_held : held old c.args.spot.node ≢ Nothing = there-held place in
     let is_inner : node_kind c.args.spot.node ≢ Leaf = there-inner place in
     search
 
@@ -56,6 +63,7 @@ add_child-node-requires g c =
     let is_held : held linked node ≢ Nothing = linked-held place linked leaf link.was_free link.others in
     let is_inner : node_kind node ≢ Leaf = there-inner place in
     let absent : (own : Inner _) → held linked node ≡ HeldInner own → child_at own.children c.args.byte ≡ None = linked-absent place linked leaf link.was_free link.others in
+    let full : TellsFull linked node c.is_full-full.result = linked-full place linked leaf link.was_free link.others (λ own is. c.is_full-full.ensures own (sym (c.reserve_for_child.ensures.nodes_kept node) ∙ is)) in
     let has_room : HasRoomToGrow linked node = linked-room place linked leaf link.was_free link.others rooms link.other_room in
     assumption leaf-pointer-fits
 

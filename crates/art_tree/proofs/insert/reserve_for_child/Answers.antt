@@ -1,8 +1,7 @@
-use Rattle.std.proofs.Common.{◌≢◌, ◌∙◌, lit<, refl, sym, subst, inl, inr, arith}
+use Rattle.std.proofs.Common.{◌≢◌, ◌∙◌, lit<, refl, sym, inl, inr, arith}
 use Rattle.art_header.specs.declared.node_type.NodeType.{NodeType}
 use Rattle.art_header.specs.declared.node_type.NodeType.TheVariants.{Leaf}
 use Rattle.art_nodes.specs.Pointers.{node_kind}
-use Rattle.art_arena.specs.Arena.{Nothing}
 use Rattle.art_tree.specs.Reserving.{LacksRoomForChild, LacksRoomToGrow}
 use Rattle.art_tree.proofs.InsertLemmas.AddedChild.{grown-inner}
 use Rattle.art_tree.proofs.SharedLemmas.ParentLemmas.{always-err, always-ok}
@@ -10,7 +9,7 @@ use Rattle.art_tree.proofs.SharedLemmas.RoomLemmas.{IsAsked, asked-grows, grows-
 use Rattle.art_tree.proofs.insert.reserve_for_child.Goals as goal
 
 pub reserve_growth-requires : goal.reserve_growth-requires
-reserve_growth-requires g c = (search, (search, (search, (search, (search, (lit< tt, (subst (λ h. h ≢ Nothing) (sym (c.reserve.ensures.nodes_kept c.args.pointer)) c.requires.held, c.requires.inner)))))))
+reserve_growth-requires g c = (search, (search, (search, (search, (search, (lit< tt, (c.requires.inner, λ node is. c.requires.full node (sym (c.reserve.ensures.nodes_kept c.args.pointer) ∙ is))))))))
 
 pub returns-clause-nodes_kept : goal.returns-clause-nodes_kept
 returns-clause-nodes_kept g c = λ pointer. c.reserve_growth.ensures.nodes_kept pointer ∙ c.reserve.ensures.nodes_kept pointer

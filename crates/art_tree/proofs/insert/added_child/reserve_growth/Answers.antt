@@ -18,24 +18,21 @@ returns-clause-leaf_room g c = elim (same_or_differ Leaf c.grown.result) [
   | inr differ ↦ least _ _ (c.reserve.ensures.other_room Leaf differ)
 ]
 
-pub is_full-requires : goal.is_full-requires
-is_full-requires g c = search
-
-pub returns-then-not-is_full-clause-room : goal.returns-then-not-is_full-clause-room
-returns-then-not-is_full-clause-room g c = λ node is full. absurd (false≢true (sym c.if-not-is_full.true ∙ (c.is_full.ensures.full node is).1 full))
+pub returns-then-not-full-clause-room : goal.returns-then-not-full-clause-room
+returns-then-not-full-clause-room g c = λ node is full. absurd (false≢true (sym c.if-not-full.true ∙ (c.requires.full node is).0.1 full))
 
 pub returns-clause-no_room : goal.returns-clause-no_room
 returns-clause-no_room g c =
     let kind : c.grown.result ≡ grown_kind (node_kind c.args.pointer) = c.grown.ensures ∙ ap grown_kind c.node_type.ensures in
-    on-err-then c.reserve.result (room c.args.arena.now c.grown.result ≡ 0) _ (λ none. (c.grown.result, λ node is. ((c.is_full.ensures.full node is).0 c.if-not-is_full.false, kind, none))) (none-on-err c.reserve.result c.args.arena.now c.grown.result c.reserve.ensures.succeeds)
+    on-err-then c.reserve.result (room c.args.arena.now c.grown.result ≡ 0) _ (λ none. (c.grown.result, λ node is. ((c.requires.full node is).0.0 c.if-not-full.false, kind, none))) (none-on-err c.reserve.result c.args.arena.now c.grown.result c.reserve.ensures.succeeds)
 
 pub returns-clause-memory : goal.returns-clause-memory
 returns-clause-memory g c =
     let kind : c.grown.result ≡ grown_kind (node_kind c.args.pointer) = c.grown.ensures ∙ ap grown_kind c.node_type.ensures in
     let old = c.args.arena.now in
     let new = c.reserve.new.self in
-    grows-then old new (IsAsked old c.grown.result) (LacksRoomToGrow old c.args.pointer) (λ other (same, none) node is. ((c.is_full.ensures.full node is).0 c.if-not-is_full.false, same ∙ kind, none))
+    grows-then old new (IsAsked old c.grown.result) (LacksRoomToGrow old c.args.pointer) (λ other (same, none) node is. ((c.requires.full node is).0.0 c.if-not-full.false, same ∙ kind, none))
     (asked-grows old new c.grown.result (λ some. same-capacity old new (c.reserve.ensures.had_room some)) c.reserve.ensures.other_capacity)
 
-pub returns-then-not-is_full-clause-memory : goal.returns-then-not-is_full-clause-memory
-returns-then-not-is_full-clause-memory g c = λ kind. inl refl
+pub returns-then-not-full-clause-memory : goal.returns-then-not-full-clause-memory
+returns-then-not-full-clause-memory g c = λ kind. inl refl

@@ -6,7 +6,7 @@ use Rattle.art_arena.specs.Trees.{leaves}
 use Rattle.art_tree.specs.InsertionPoints.{HasLeafText}
 use Rattle.art_tree.specs.Search.{leaf_pointer}
 use Rattle.art_tree.proofs.InsertLemmas.NodeLemmas.{leaf-pointer-fits, one-leaf}
-use Rattle.art_tree.proofs.InsertLemmas.TowardLemmas.{IsToward, toward-text}
+use Rattle.art_tree.proofs.InsertLemmas.TowardLemmas.{toward-text}
 use Rattle.art_tree.proofs.SharedLemmas.DictionaryLemmas.{in-map, leaf-held-in}
 use Rattle.art_tree.proofs.insert.insertion_point.text_toward.Goals as goal
 

@@ -1,9 +1,8 @@
-use Rattle.std.proofs.Common.{◌≡◌, ◌∙◌, ◌+◌, ◌-◌, ◌≤◌, [], ◌∷◌, ◌++◌, length, length-append, take, slice_get, Some, sym, ap, subst, arith, refl, lit<, append_assoc}
+use Rattle.std.proofs.Common.{◌≡◌, ◌∙◌, ◌-◌, [], ◌∷◌, ◌++◌, length, length-append, take, slice_get, Some, sym, ap, subst, arith, refl, lit<, append_assoc}
 use Rattle.std.specs.Option.{option_copied, option_to_list}
 use Rattle.std.specs.Vec.Iter.{into_iter_items}
 use Rattle.art_header.specs.declared.node_type.NodeType.TheVariants.{Leaf}
-use Rattle.art_nodes.specs.Pointers.{slab_key, opaque_pointer}
-use Rattle.art_arena.specs.Arena.{held, room, Nothing, HeldLeaf, Changes}
+use Rattle.art_arena.specs.Arena.{room}
 use Rattle.art_tree.specs.Loading.{AreLinked}
 use Rattle.art_tree.proofs.LoadLemmas.LeafLists.{none-linked, allocated, first-linked, next-linked, unlinked, sibling-knit, two-texts, last-split, none-left, less-same}
 use Rattle.art_tree.proofs.LoadLemmas.RefusalLemmas.{forks-less}
