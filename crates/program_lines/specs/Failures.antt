@@ -28,6 +28,13 @@ module _ {F : Type 0} where
   IfBadLine P NoFile = Unit {0}
   IfBadLine P Device = Unit {0}
 
+  -- the failure is one of a line, of which this holds, or one of memory
+  abbrev pub IsLineFailure : (BadLine F → Type 0) → Failure F → Type 0
+  IsLineFailure P (AtLine bad) = P bad
+  IsLineFailure P OutOfMemory = Unit {0}
+  IsLineFailure P NoFile = ⊥
+  IsLineFailure P Device = ⊥
+
   -- why a run ends without its output, by the text of a line's fault
   abbrev pub failure_text : (F → List ℕ) → Failure F → List ℕ
   failure_text fault_text (AtLine bad) = place_text bad.place ++ codes "line " ++ decimal bad.number ++ codes ": " ++ fault_text bad.fault

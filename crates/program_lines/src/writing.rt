@@ -54,7 +54,7 @@ pub fn write_out<W: Write>(output: &mut W, text: &[u8]) -> io::Result<()>
 
 /// Writes the line of a text, as far as the writer takes it, without an allocation. A text has up
 /// to 127 bytes: nothing is written of a longer one.
-pub(crate) fn write_line<W: Write, D: Display + Drop>(output: &mut W, text: D)
+pub fn write_line<W: Write, D: Display + Drop>(output: &mut W, text: D)
     ensures { IfSome (D.output text) (λ shown.
         AppendsBeginning (W.contents output.old) (W.contents output.new) (line shown)) }
 {
