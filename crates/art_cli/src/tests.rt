@@ -3,8 +3,9 @@ mod find_tests;
 mod replay_tests;
 
 use super::*;
+use crate::failure::failure_at;
 use std::alloc::{AllocError, Global};
-use std::io::{ErrorKind, Read, Write};
+use std::io::{self, ErrorKind, Read, Write};
 use std::process::Abort;
 use std::test::Fail;
 
@@ -79,7 +80,7 @@ fn nones(alloc: Global, count: usize) -> Result<String, AllocError> {
 fn the_longest_failure_is_written_whole(rt: HostRuntime) -> Result<(), Fail> {
     let line = "line 18446744073709551615: one key is a front of the other\n";
     let mut errors = Vec::new(rt.alloc());
-    let status = Failure::BadLine(usize::MAX, LineFault::PrefixOfOther).report(&mut errors);
+    let status = failure_at(usize::MAX, LineFault::PrefixOfOther).report(&mut errors);
     compare(&rt, b"", &errors, status, &case_of(b"", "", line, 2));
     Ok(())
 }
