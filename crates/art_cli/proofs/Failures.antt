@@ -1,12 +1,21 @@
--- The bytes that a failed run has written.
-use Rattle.std.proofs.Common.{◌≡◌, ◌∙◌, ℕ, List, [], ◌++◌, length, ap, inl, inr, refl, subst}
-use Rattle.std.specs.Prelude.{Option, None, Some, Result, Ok, Err, String, IfSome, OnOk, OnErr}
-use Rattle.std.specs.Fmt.{WritesText, with_newline}
-use Rattle.std.proofs.lemmas.Fmt.{contents_after_writes}
-use Rattle.art_cli.specs.Lines.{line}
-use Rattle.std.specs.Io.KnownBytes.{Keeps, Appends}
-use Rattle.art_cli.specs.Program.{IsAsked, AppendsBeginning, PrintsBeginning}
-use Rattle.std.proofs.Math.Seq.{take-length}
+-- Failures of a run, and what it has written.
+use Rattle.std.proofs.Common.{◌≡◌, ℕ, List, inl, inr, refl, sym}
+use Rattle.std.specs.Prelude.{Option, None, Some, IfSome, String}
+use Rattle.std.specs.Io.KnownBytes.{Keeps}
+use Rattle.program_lines.specs.declared.failure.Failure.{Failure}
+use Rattle.program_lines.specs.declared.failure.Failure.TheVariants.{BadLine, OutOfMemory, NoFile, Device}
+use Rattle.program_lines.specs.Failures.{status_of, IfBadLine, IsLineFailure, failure_text, shown_failure}
+use Rattle.program_lines.specs.declared.failure.Place.TheVariants.{OnlyInput}
+use Rattle.program_lines.specs.Lines.{lines_of, line_at, line, IsFirstBad}
+use Rattle.program_lines.specs.Programs.{AppendsBeginning, PrintsBeginning}
+use Rattle.art_cli.specs.declared.failure.LineFault.{LineFault}
+use Rattle.art_cli.specs.declared.request.Request.{Request}
+use Rattle.art_cli.specs.declared.request.Request.TheVariants.{Replay, Find0, Find2, Find16}
+use Rattle.art_cli.specs.Command.{SayReplayLine, IsFaultOf}
+use Rattle.art_cli.specs.Failure.{fault_text}
+use Rattle.art_cli.specs.Program.{IsReplayFailure, IsFailure, Tells}
+use Rattle.art_cli.specs.Request.{AskFor}
+use Rattle.art_cli.specs.Words.{words_of}
 
 -- what is as it was keeps its known bytes
 pub keeps_itself : (known : Option (List ℕ)) → Keeps known known
@@ -14,24 +23,35 @@ keeps_itself None = tt
 keeps_itself (Some bytes) = refl
 
 -- nothing is written, which is a beginning
-pub nothing_printed : {A : Type 0} (words : List (String A)) (input known : Option (List ℕ)) → IfSome input (λ given. PrintsBeginning words given known known)
-nothing_printed words None known = tt
-nothing_printed words (Some given) known = inl (keeps_itself known)
+pub nothing_printed : (IsOutput : List ℕ → List ℕ → Type 0) (input known : Option (List ℕ)) → IfSome input (λ given. PrintsBeginning (IsOutput given) known known)
+nothing_printed IsOutput None known = tt
+nothing_printed IsOutput (Some given) known = inl (keeps_itself known)
 
--- a failed write has printed a beginning of what the words ask for
-pub beginning_printed : {A : Type 0} (words : List (String A)) (input : Option (List ℕ)) (output shown : List ℕ) (old new : Option (List ℕ)) → IfSome input (λ given. IsAsked words given output) → shown ≡ output → AppendsBeginning old new shown → IfSome input (λ given. PrintsBeginning words given old new)
-beginning_printed words None output shown old new asked same wrote = tt
-beginning_printed words (Some given) output shown old new asked same wrote = inr (output, asked, subst (AppendsBeginning old new) same wrote)
+-- the text of a failure is known, since that of its fault is
+pub text_told : (failure : Failure LineFault) (old new : Option (List ℕ)) → IfSome (shown_failure (λ fault. Some (fault_text fault)) failure) (λ text. AppendsBeginning old new (line text)) → AppendsBeginning old new (line (failure_text fault_text failure))
+text_told (BadLine bad) old new wrote = wrote
+text_told OutOfMemory old new wrote = wrote
+text_told NoFile old new wrote = wrote
+text_told Device old new wrote = wrote
 
--- the whole is a beginning
-a_beginning : {T E : Type 0} (old new : Option (List ℕ)) (text : List ℕ) (result : Result T E) → OnOk result (Appends old new text) → OnErr result (AppendsBeginning old new text) → AppendsBeginning old new text
-a_beginning old new text (Ok value) whole beginning = (length text, rw take-length whole)
-a_beginning old new text (Err error) whole beginning = beginning
+-- the first bad line of `replay`, and its fault
+pub first_bad_line : (input : List ℕ) (failure : Failure LineFault) → IfBadLine (λ bad. (bad.place ≡ OnlyInput) × IsFirstBad SayReplayLine (lines_of input) bad.number) failure → IsLineFailure (λ bad. IsFaultOf (words_of (line_at (lines_of input) bad.number)) bad.fault) failure → IsReplayFailure input failure
+first_bad_line input (BadLine bad) first fault = (first.0, first.1, fault)
+first_bad_line input OutOfMemory first fault = tt
+first_bad_line input NoFile first fault = absurd fault
+first_bad_line input Device first fault = absurd fault
 
--- the line that is put into an empty buffer is written, or its first part is
-pub line_told : {B T E : Type 0} (contents : B → List ℕ) (shown : Option (List ℕ)) (empty full : B) (bytes : List ℕ) (old new : Option (List ℕ)) (result : Result T E) → contents empty ≡ [] → WritesText (λ b text b'. contents b' ≡ contents b ++ text) empty (with_newline shown) full → bytes ≡ contents full → OnOk result (Appends old new bytes) → OnErr result (AppendsBeginning old new bytes) → IfSome shown (λ text. AppendsBeginning old new (line text))
-line_told contents None empty full bytes old new result none wrote same whole beginning = tt
-line_told contents (Some text) empty full bytes old new result none wrote same whole beginning =
-    let held : contents full ≡ contents empty ++ line text = contents_after_writes (λ b more b'. contents b' ≡ contents b ++ more) contents (λ _ _ _ h. h) empty (line text) full wrote in
-    let out : bytes ≡ line text = same ∙ held ∙ ap (λ start. start ++ line text) none in
-    subst (AppendsBeginning old new) out (a_beginning old new bytes result whole beginning)
+-- the device may fail at any input
+may_fail : (request : Request) (input : List ℕ) → IsFailure request input Device
+may_fail Replay input = tt
+may_fail Find0 input = tt
+may_fail Find2 input = tt
+may_fail Find16 input = tt
+
+pub device_told : {A : Type 0} (words : List (String A)) (request : Request) (input : Option (List ℕ)) (status : ℕ) (old new : Option (List ℕ)) → AskFor words request → status ≡ status_of {F = LineFault} Device → IfSome (shown_failure (λ fault. Some (fault_text fault)) Device) (λ text. AppendsBeginning old new (line text)) → Tells words input status old new
+device_told words request input status old new asked is wrote =
+    inr (Device, sym is, (request, asked, at_input input), text_told Device old new wrote)
+  where
+    at_input : (input : Option (List ℕ)) → IfSome input (λ given. IsFailure request given Device)
+    at_input None = tt
+    at_input (Some given) = may_fail request given

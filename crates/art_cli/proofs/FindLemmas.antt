@@ -1,5 +1,5 @@
 -- The entries of a tree after each command, and what the commands print.
-use Rattle.std.proofs.Common.{◌≡◌, ◌≢◌, ◌∙◌, ℕ, ◌+◌, ◌<◌, ◌≤◌, Bool, true, false, List, [], ◌∷◌, ◌++◌, length, All, Contains, Option, None, Some, option_map, IsSomeAnd, MatchOption, bytes_eq, refl, sym, ap, arith, append-nil, append_assoc, subst}
+use Rattle.std.proofs.Common.{◌≡◌, ◌≢◌, ◌∙◌, ℕ, ◌+◌, ◌≤◌, Bool, true, false, List, [], ◌∷◌, ◌++◌, length, All, Contains, Option, None, Some, option_map, IsSomeAnd, MatchOption, bytes_eq, refl, sym, ap, arith, append-nil, append_assoc, subst}
 use Rattle.std.proofs.lemmas.List.{length-append}
 use Rattle.std.proofs.lemmas.Bool.Decides.{not_from_Decides}
 use Rattle.std.proofs.lemmas.List.Elements.{All-filter, Contains-get_or}
@@ -22,7 +22,8 @@ use Rattle.art_tree.specs.declared.insert.InsertRefusal.{InsertRefusal}
 use Rattle.art_tree.specs.declared.insert.InsertRefusal.TheVariants.{KeyTooLong, Prefix, OutOfMemory}
 use Rattle.art_cli.specs.declared.find.command.TreeCommand.{TreeCommand}
 use Rattle.art_cli.specs.declared.find.command.TreeCommand.TheVariants.{Insert, Remove, Find}
-use Rattle.art_cli.specs.declared.failure.Failure.{Failure}
+use Rattle.program_lines.specs.declared.failure.Failure.{Failure}
+use Rattle.art_cli.specs.declared.failure.LineFault.{LineFault}
 use Rattle.art_cli.specs.Find.{Entries, no_entries, after, after_all, IsPrefixOfOther, IsAdmitted, AreAdmitted}
 use Rattle.art_cli.specs.Answer.{HasTheTexts, HoldsEntries, IsCarriedOut, IsReply, AreReplies}
 use Rattle.art_cli.specs.Program.{IsCommandFailure, failure_for}
@@ -92,9 +93,9 @@ module _ {K : Type 0} {P : ℕ} (text : K → List ℕ) where
     clashes x clash = (clash.0, has_number clash.0 clash.1, clash.2)
 
     -- and its refusals are those of the entries
-    pub refused : (x : List ℕ) (line : ℕ) (refusal : InsertRefusal) (failure : Failure) → IsRefused text arena x refusal → failure ≡ failure_for line refusal → IsCommandFailure entries line (Insert x) failure
-    refused x line KeyTooLong failure due is = rw is (refl, due)
-    refused x line Prefix failure due is = rw is (refl, (due.0, clashes x due.1))
+    pub refused : (x : List ℕ) (line : ℕ) (refusal : InsertRefusal) (failure : Failure LineFault) → IsRefused text arena x refusal → failure ≡ failure_for line refusal → IsCommandFailure entries line (Insert x) failure
+    refused x line KeyTooLong failure due is = rw is (refl, refl, due)
+    refused x line Prefix failure due is = rw is (refl, refl, (due.0, clashes x due.1))
     refused x line OutOfMemory failure due is = rw is tt
 
     -- the texts with entries are those of a tree that has them

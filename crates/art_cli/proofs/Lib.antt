@@ -1,7 +1,4 @@
-mod LineCommands
 mod Failures
-mod Numbers
-mod Parts
-mod Writes
+mod WordLemmas
 mod FindLemmas
 mod FindLines

@@ -9,7 +9,7 @@ use Rattle.art_tree.specs.Search.{scan, met, IsPathTo}
 use Rattle.art_tree.specs.declared.path.TreePath.{TreePath}
 use Rattle.art_tree.specs.declared.path.TreePath.TheVariants.{Root, ChildOfRoot, Normal}
 use Rattle.art_cli.specs.Find.{Entries, after, IsAdmitted}
-use Rattle.art_cli.specs.Lines.{line}
+use Rattle.program_lines.specs.Lines.{line}
 use Rattle.art_cli.specs.declared.find.command.TreeCommand.{TreeCommand}
 use Rattle.art_cli.specs.declared.find.command.TreeCommand.TheVariants.{Insert, Remove, Find}
 

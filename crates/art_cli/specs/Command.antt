@@ -1,23 +1,15 @@
 -- The commands that the lines of `replay` give.
-use Rattle.std.specs.Prelude.{◌≡◌, ℕ, ◌^◌, ◌<◌, ◌≤◌, List, All, [], ◌∷◌, ◌⊎◌, Bool, codes, length, slice_index_or}
-use Rattle.std.specs.Int.{IsInRange}
-use Rattle.std.specs.Str.Parse.{digits_value}
+use Rattle.std.specs.Prelude.{◌≡◌, ℕ, ◌^◌, ◌<◌, List, [], ◌∷◌, ◌⊎◌, codes}
 use Rattle.std.specs.declared.ops.Bound.{Bound}
 use Rattle.std.specs.declared.ops.Bound.TheVariants.{Included, Excluded, Unbounded}
-use Rattle.art_cli.specs.Lines.{words_of, SayAll}
+use Rattle.program_lines.specs.Numbers.{IsNumber}
+use Rattle.art_cli.specs.Words.{words_of}
 use Rattle.art_cli.specs.declared.failure.LineFault.{LineFault}
 use Rattle.art_cli.specs.declared.failure.LineFault.TheVariants.{UnknownCommand, WrongNumberOfWords, BadNumber}
 use Rattle.art_nodes.specs.declared.NodeType.TheVariants.{Leaf}
 use Rattle.art_nodes.specs.Pointers.{node_kind, opaque_key}
 use Rattle.art_nodes.specs.declared.ChildCommand.{ChildCommand}
 use Rattle.art_nodes.specs.declared.ChildCommand.TheVariants.{Write, Remove, Lookup, Min, Max, Range}
-
--- one to ten decimal digits that give the number
-pub record IsNumber (word : List ℕ) (number : ℕ) : Type 0 where
-  pub has_digit : 0 < length word
-  pub has_room : length word ≤ 10
-  pub digits : All (IsInRange 48 57) word
-  pub value : digits_value 10 word ≡ number
 
 -- a number below 256
 abbrev pub IsByteNumber : List ℕ → ℕ → Type 0
@@ -43,7 +35,11 @@ module _ {K V : Type 0} {P : ℕ} where
   SayCommand words Max = words ≡ codes "max" ∷ []
   SayCommand words (Range start end) = (low high : List ℕ) × (words ≡ codes "range" ∷ low ∷ high ∷ []) × IsBound low start × IsBound high end
 
--- words that give no command
+-- a line gives a command, by its words
+abbrev pub SayReplayLine : List ℕ → ChildCommand (Unit {0}) (Unit {0}) 16 → Type 0
+SayReplayLine line = SayCommand (words_of line)
+
+-- words that give no command. No public clause cites it
 abbrev pub SayNothing : List (List ℕ) → Type 0
 SayNothing words = (command : ChildCommand (Unit {0}) (Unit {0}) 16) → SayCommand words command → ⊥
 
@@ -70,12 +66,3 @@ IsFaultOf words UnknownCommand = ¬ BeginWithName words
 IsFaultOf words WrongNumberOfWords = BeginWithName words × (¬ HaveTheirNumber words)
 IsFaultOf words BadNumber = HaveTheirNumber words
 IsFaultOf words _ = ⊥
-
--- the line that comes after so many has this fault
-abbrev pub IsFaultAfter : List (List ℕ) → ℕ → LineFault → Type 0
-IsFaultAfter lines count = IsFaultOf (words_of (slice_index_or lines count []))
-
-module _ {K V : Type 0} {P : ℕ} where
-  -- lines and their commands, one a line, up to a line that gives none where they are not the whole
-  abbrev pub SayCommands : List (List ℕ) → List (ChildCommand K V P) → Bool → Type 0
-  SayCommands = SayAll (λ line. SayCommand (words_of line))

@@ -1,8 +1,8 @@
 -- The commands that the lines of `find` give, and the entries after them.
-use Rattle.std.specs.Prelude.{◌≡◌, ◌≢◌, ℕ, ◌+◌, ◌<◌, ◌≤◌, ◌^◌, List, [], ◌∷◌, ◌++◌, Option, None, Some, bytes_eq, length, true}
+use Rattle.std.specs.Prelude.{◌≡◌, ◌≢◌, ℕ, ◌+◌, ◌<◌, ◌≤◌, ◌^◌, List, [], ◌∷◌, ◌++◌, Option, None, Some, bytes_eq, length}
 use Rattle.std.specs.Map.{update}
 use Rattle.art_tree.specs.Dictionary.{OneIsProperPrefix}
-use Rattle.art_cli.specs.Lines.{lines_of, SayAll}
+use Rattle.program_lines.specs.Lines.{lines_of, SayAll}
 use Rattle.art_cli.specs.declared.failure.LineFault.{LineFault}
 use Rattle.art_cli.specs.declared.failure.LineFault.TheVariants.{KeyTooLong, PrefixOfOther}
 use Rattle.art_cli.specs.declared.find.command.TreeCommand.{TreeCommand}
@@ -20,7 +20,7 @@ SayTreeCommand line command = line ≡ command_line command
 
 -- each line gives a command. No public clause cites it
 abbrev pub GiveCommands : List ℕ → Type 0
-GiveCommands input = (commands : List (TreeCommand (List ℕ))) × SayAll SayTreeCommand (lines_of input) commands true
+GiveCommands input = (commands : List (TreeCommand (List ℕ))) × SayAll SayTreeCommand (lines_of input) commands
 
 -- a command by the text of its key
 abbrev pub with_text : {K : Type 0} → (K → List ℕ) → TreeCommand K → TreeCommand (List ℕ)

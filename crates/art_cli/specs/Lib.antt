@@ -1,5 +1,4 @@
 pub mod Failure
-pub mod Lines
 pub mod Command
 pub mod Words
 pub mod Request

@@ -3,7 +3,7 @@ use Rattle.std.specs.Prelude.{ℕ, ◌++◌, List, None, Some, codes}
 use Rattle.std.specs.List.{flat_map}
 use Rattle.std.specs.Fmt.{decimal}
 use Rattle.art_header.specs.NodeType.{kind_for}
-use Rattle.art_cli.specs.Lines.{line}
+use Rattle.program_lines.specs.Lines.{line}
 use Rattle.art_nodes.specs.declared.NodeType.{NodeType}
 use Rattle.art_nodes.specs.declared.NodeType.TheVariants.{Node4, Node16, Node48, Node256, Leaf}
 use Rattle.art_nodes.specs.Pointers.{node_kind, opaque_key}

@@ -6,20 +6,16 @@
 //! `main` passes it the words and the standard streams.
 #![tactic(auto)]
 
-mod commands;
 mod failure;
 mod find;
-mod lines;
 mod program;
 mod replay;
 mod request;
-mod writing;
 
 pub use failure::{Failure, LineFault};
 pub use program::run;
+use program_lines::words_after_name;
 use std::process::ExitCode;
-use std::rt::Env;
-use std::{env, io};
 
 fn main(rt: HostRuntime) -> ExitCode {
     let mut errors = rt.stderr();
@@ -31,16 +27,7 @@ fn main(rt: HostRuntime) -> ExitCode {
             &mut rt.stdout(),
             &mut errors,
         ),
-        Err(failure) => failure.report(&mut errors),
+        Err(error) => Failure::from(error).report(&mut errors),
     };
     ExitCode::from(status)
-}
-
-// A word that is not UTF-8 is none that the program takes.
-fn words_after_name<R: Env + AllocGlobal>(rt: &R) -> Result<Vec<String>, Failure> {
-    match env::args(rt) {
-        Ok(words) => Ok(words.skip(1).collect(rt.alloc())?),
-        Err(error) if error.kind() == io::ErrorKind::OutOfMemory => Err(Failure::OutOfMemory),
-        Err(_) => Err(Failure::Usage),
-    }
 }

@@ -1,21 +1,25 @@
 //! The program over any reader and writers.
 ghost use Rattle.std.specs.Prelude.{◌≡◌, ◌≢◌, ◌≤◌, ◌⊎◌, IfOk, IfErr, OnOk, IfSome, string_bytes};
 ghost use Rattle.std.specs.Io.KnownBytes.{Keeps, IsAtEnd};
-ghost use Rattle.art_cli.specs.declared.failure.Failure.TheVariants.{Device};
-ghost use Rattle.art_cli.specs.Failure.{status_of, failure_text};
-ghost use Rattle.art_cli.specs.Lines.{line};
+ghost use Rattle.program_lines.specs.declared.failure.Failure.TheVariants.{Device};
+ghost use Rattle.program_lines.specs.Failures.{status_of, failure_text};
+ghost use Rattle.program_lines.specs.Lines.{line};
+ghost use Rattle.program_lines.specs.Programs.{Prints, PrintsBeginning, AppendsBeginning};
+ghost use Rattle.art_cli.specs.Failure.{fault_text};
 ghost use Rattle.art_cli.specs.Request.{AreTaken};
-ghost use Rattle.art_cli.specs.Program.{IsOutput, IsFailure, IsAsked, IsBad, IsRunFailure};
-ghost use Rattle.art_cli.specs.Program.{Prints, PrintsBeginning, AppendsBeginning, Tells};
+ghost use Rattle.art_cli.specs.Program.{IsOutput, IsFailure, IsAsked, IsBad, Tells};
 
 use crate::failure::Failure;
 use crate::find::find_text;
 use crate::replay::replay_text;
 use crate::request::{Request, request_of};
-use crate::writing::write_out;
 use art_tree::ArtTree;
+use program_lines::{write_line, write_out};
 use std::alloc::Global;
 use std::io::{Read, Write};
+
+// The line for words that the program does not take.
+const USAGE: &str = "usage: artnodes replay | artnodes find 0|2|16";
 
 /// Runs the program on the words that follow its name, and returns its exit status.
 ///
@@ -45,9 +49,9 @@ pub fn run<R: Read, W: Write, E: Write>(
 
     // What each status means.
     ensures answers { result ≡ 0 → IfSome (R.remaining input.old)
-        (λ given. Prints words.now given (W.contents output.old) (W.contents output.new)) }
+        (λ given. Prints (IsAsked words.now given) (W.contents output.old) (W.contents output.new)) }
     ensures failed_run_prints_a_beginning { result ≡ 1 → IfSome (R.remaining input.old)
-        (λ given. PrintsBeginning words.now given (W.contents output.old) (W.contents output.new)) }
+        (λ given. PrintsBeginning (IsAsked words.now given) (W.contents output.old) (W.contents output.new)) }
     ensures refused { result ≡ 2 → AreTaken words.now →
         IfSome (R.remaining input.old) (IsBad words.now) }
 
@@ -57,7 +61,7 @@ pub fn run<R: Read, W: Write, E: Write>(
     ensures refused_memory_prints_nothing { result ≡ 1 →
         Keeps (W.contents output.old) (W.contents output.new)
         ⊎ AppendsBeginning (E.contents errors.old) (E.contents errors.new)
-        (line (failure_text Device)) }
+        (line (failure_text fault_text Device)) }
     ensures success_is_quiet { result ≡ 0 →
         Keeps (E.contents errors.old) (E.contents errors.new) }
 
@@ -65,7 +69,11 @@ pub fn run<R: Read, W: Write, E: Write>(
     ensures told { result ≢ 0 → Tells words.now (R.remaining input.old) result
         (E.contents errors.old) (E.contents errors.new) }
 {
-    let text = match answer(alloc, words, input) {
+    let Some(request) = request_of(words) else {
+        write_line(errors, USAGE);
+        return 2;
+    };
+    let text = match answer(alloc, request, input) {
         Ok(text) => text,
         Err(failure) => return failure.report(errors),
     };
@@ -75,22 +83,16 @@ pub fn run<R: Read, W: Write, E: Write>(
     }
 }
 
-// The whole output.
-fn answer<R: Read>(alloc: Global, words: &[String], input: &mut R) -> Result<String, Failure>
-    ensures usage { result ≢ Err Failure.Usage → AreTaken words.now }
-    ensures unread { ¬ (AreTaken words.now) → input.new ≡ input.old }
+// The output of a request for what a reader has.
+fn answer<R: Read>(alloc: Global, request: Request, input: &mut R) -> Result<String, Failure>
     ensures read_where_good { OnOk result (IsAtEnd (R.remaining input.new)) }
-    ensures read_where_bad { IfErr result (λ failure. AreTaken words.now →
-        status_of failure ≡ 2 → IsAtEnd (R.remaining input.new)) }
-    ensures refused { IfErr result (λ failure. AreTaken words.now → status_of failure ≡ 2 →
-        IfSome (R.remaining input.old) (IsBad words.now)) }
-    ensures failure { IfErr result (IsRunFailure words.now (R.remaining input.old)) }
+    ensures read_where_bad { IfErr result (λ failure. status_of failure ≡ 2 →
+        IsAtEnd (R.remaining input.new)) }
     ensures text { IfOk result (λ text. IfSome (R.remaining input.old)
-        (λ given. IsAsked words.now given (string_bytes text))) }
+        (λ given. IsOutput request given (string_bytes text))) }
+    ensures refused { IfErr result (λ failure. IfSome (R.remaining input.old)
+        (λ given. IsFailure request given failure)) }
 {
-    let Some(request) = request_of(words) else {
-        return Err(Failure::Usage);
-    };
     let mut bytes = Vec::new(alloc);
     input.read_to_end(&mut bytes)?;
     requested_text(alloc, request, bytes)

@@ -10,9 +10,9 @@ mod print_reply_lines;
 
 use crate::failure::Failure;
 use crate::replay::nodes::Command;
-use crate::replay::parse::parse;
 use crate::replay::print_reply_lines::text_of;
 use art_tree::{Header, replay};
+use program_lines::{Place, said};
 use std::alloc::{AllocError, Global};
 
 /// The output for the commands of this input. The input is freed before the replies are made.
@@ -20,12 +20,9 @@ pub(crate) fn replay_text(alloc: Global, input: Vec<u8>) -> Result<String, Failu
     ensures text { IfOk result (λ text. IsReplayOutput input.items (string_bytes text)) }
     ensures refused { IfErr result (IsReplayFailure input.items) }
 {
-    let (commands, fault) = parse(alloc, &input)?;
+    let commands: Vec<Command> = said(alloc, Place::OnlyInput, &input)?;
     drop(input);
-    match fault {
-        Some(fault) => Err(Failure::BadLine(commands.len() + 1, fault)),
-        None => Ok(replies_text(alloc, commands)?),
-    }
+    Ok(replies_text(alloc, commands)?)
 }
 
 // A line for each reply to the commands, and one for the node that they leave.

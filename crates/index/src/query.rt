@@ -22,10 +22,8 @@ pub enum Query {
     Count,
 }
 
-impl<'a> FromLine<'a> for Query {
+impl<'a> FromLine<'a, Fault> for Query {
     ghost use Rattle.index.specs.Queries.{SayQuery};
-
-    type Fault = Fault;
 
     ghost says = { SayQuery };
 

@@ -21,10 +21,8 @@ pub struct Reading<'a> {
     pub line: &'a [u8],
 }
 
-impl<'a> FromLine<'a> for Reading<'a> {
+impl<'a> FromLine<'a, Fault> for Reading<'a> {
     ghost use Rattle.index.specs.Readings.{SayReading};
-
-    type Fault = Fault;
 
     ghost says = { SayReading };
 

@@ -1,12 +1,12 @@
 -- Bytes that are cut at the first byte of a kind.
-use Rattle.std.proofs.Common.{◌≡◌, ◌≢◌, ℕ, zero, suc, ◌+◌, ◌-◌, ◌<◌, ◌≤◌, ◌==◌, false, List, [], ◌∷◌, ◌++◌, length, take, drop, refl, ap, arith, get_or, add-one}
-use Rattle.std.specs.Prelude.{position, Some, None}
-use Rattle.std.specs.List.{position_or_len}
+use Rattle.std.proofs.Common.{◌≡◌, ◌≢◌, ℕ, zero, suc, ◌+◌, ◌-◌, ◌<◌, ◌≤◌, ◌==◌, false, List, [], ◌∷◌, ◌++◌, length, take, drop, refl, sym, ◌∙◌, ap, arith, get_or, add-one, subst}
+use Rattle.std.specs.Prelude.{position, Option, Some, None}
+use Rattle.std.specs.List.{slice_split, position_or_len}
 use Rattle.std.proofs.lemmas.List.Elements.{All-head, All-tail}
 use Rattle.std.proofs.lemmas.List.Sums.{fails_before_first}
 use Rattle.std.proofs.lemmas.List.Quantifiers.{position-Some}
 use Rattle.program_lines.specs.Lines.{HasNo, IsCutAt}
-use Rattle.program_lines.proofs.Parts.{rest_whole}
+use Rattle.program_lines.proofs.Parts.{rest_whole, alone, cut}
 
 -- two ways to cut at a first byte are one
 pub same_cut : (at : ℕ) (a b x y : List ℕ) → HasNo at a → HasNo at b → a ++ at ∷ x ≡ b ++ at ∷ y → (a ≡ b) × (x ≡ y)
@@ -56,3 +56,22 @@ none_at at xs none k d below =
     let before : k < position_or_len (λ b. b == at) xs = omega arith in
     let apart = fails_before_first (λ b. b == at) xs k d before in
     λ same. absurd (grind (arith, apart, same))
+
+-- bytes that are cut at each such byte: the first part, and the parts of what comes after it
+pub parts_cut : (at : ℕ) (bytes before after : List ℕ) → IsCutAt at bytes before after → slice_split (λ b. b == at) bytes ≡ before ∷ slice_split (λ b. b == at) after
+parts_cut at bytes before after is = by_place (position (λ b. b == at) bytes) refl
+  where
+    by_place : (place : Option ℕ) → position (λ b. b == at) bytes ≡ place → slice_split (λ b. b == at) bytes ≡ before ∷ slice_split (λ b. b == at) after
+    by_place None none = absurd (cut_has_one at before after (subst (HasNo at) is.0 (none_at at bytes none)))
+    by_place (Some i) found =
+        let here = cut_at at bytes i found in
+        let same = same_cut at (take i bytes) before (take (length bytes - (i + 1)) (drop (i + 1) bytes)) after here.1 is.1 (sym here.0 ∙ is.0) in
+        cut at bytes i found ∙ (λ j. same.0 j ∷ slice_split (λ b. b == at) (same.1 j))
+
+-- one part, where there is no such byte
+pub parts_alone : (at : ℕ) (bytes : List ℕ) → HasNo at bytes → slice_split (λ b. b == at) bytes ≡ bytes ∷ []
+parts_alone at bytes none = by_place (position (λ b. b == at) bytes) refl
+  where
+    by_place : (place : Option ℕ) → position (λ b. b == at) bytes ≡ place → slice_split (λ b. b == at) bytes ≡ bytes ∷ []
+    by_place None is = alone at bytes is
+    by_place (Some i) found = absurd (cut_has_one at (take i bytes) _ (subst (HasNo at) (cut_at at bytes i found).0 none))

@@ -2,6 +2,6 @@ pub mod Cuts
 pub mod Replies
 mod Parts
 mod Writes
-mod SaidLemmas
+pub mod SaidLines
 mod Runs
 mod NumberLemmas

@@ -1,4 +1,4 @@
--- Texts that are cut into lines.
+-- Texts that are cut at a byte, and into lines.
 use Rattle.std.proofs.Common.{◌≡◌, ℕ, ◌+◌, ◌-◌, ◌<◌, ◌≤◌, ◌==◌, List, [], ◌∷◌, length, take, drop, refl, arith, ◌∙◌, ap}
 use Rattle.std.specs.Prelude.{position, Some, None}
 use Rattle.std.specs.List.{slice_split, position_or_len}
@@ -14,12 +14,12 @@ pub rest_whole : (k : ℕ) (xs : List ℕ) → take (length xs - k) (drop k xs) 
 rest_whole k xs = rw (← length-drop k xs) (take-length (drop k xs))
 
 module _ (c : ℕ) (bytes : List ℕ) where
-  alone : position (λ b. b == c) bytes ≡ None → slice_split (λ b. b == c) bytes ≡ bytes ∷ []
+  pub alone : position (λ b. b == c) bytes ≡ None → slice_split (λ b. b == c) bytes ≡ bytes ∷ []
   alone none =
       let far : length bytes ≤ position_or_len (λ b. b == c) bytes = grind arith in
       slice_split_none (λ b. b == c) bytes (λ k d below. let before : k < position_or_len (λ b. b == c) bytes = omega arith in fails_before_first (λ b. b == c) bytes k d before)
 
-  cut : (i : ℕ) → position (λ b. b == c) bytes ≡ Some i → slice_split (λ b. b == c) bytes ≡ take i bytes ∷ slice_split (λ b. b == c) (take (length bytes - (i + 1)) (drop (i + 1) bytes))
+  pub cut : (i : ℕ) → position (λ b. b == c) bytes ≡ Some i → slice_split (λ b. b == c) bytes ≡ take i bytes ∷ slice_split (λ b. b == c) (take (length bytes - (i + 1)) (drop (i + 1) bytes))
   cut i found =
       let at = position-Some (λ b. b == c) bytes i 0 found in
       let most : i ≤ length bytes = omega arith in

@@ -1,9 +1,13 @@
 -- The bytes written by several writes in a row.
-use Rattle.std.proofs.Common.{ℕ, ◌+◌, ◌-◌, ◌≤◌, List, length, take, drop}
-use Rattle.std.specs.Prelude.{Option}
-use Rattle.std.proofs.Math.Seq.{take-add, take_all}
+use Rattle.std.proofs.Common.{◌≡◌, ◌∙◌, ℕ, ◌+◌, ◌-◌, ◌≤◌, List, [], ◌++◌, length, take, drop, ap, subst}
+use Rattle.std.specs.Prelude.{Option, None, Some, Result, Ok, Err, IfSome, OnOk, OnErr}
+use Rattle.std.proofs.Math.Seq.{take-add, take_all, take-length}
+use Rattle.std.specs.Fmt.{WritesText, with_newline}
+use Rattle.std.proofs.lemmas.Fmt.{contents_after_writes}
 use Rattle.std.specs.Io.KnownBytes.{Keeps, Appends}
 use Rattle.std.proofs.KnownBytes.{Appends-trans, Appends-kept}
+use Rattle.program_lines.specs.Lines.{line}
+use Rattle.program_lines.specs.Programs.{AppendsBeginning}
 use Rattle.program_lines.proofs.Parts.{rest_whole}
 
 module _ (old now new : Option (List ℕ)) (text : List ℕ) (done : ℕ) (wrote : Appends old now (take done text)) where
@@ -18,3 +22,16 @@ module _ (old now new : Option (List ℕ)) (text : List ℕ) (done : ℕ) (wrote
   appends_whole far kept =
       let whole : Appends old now text = rw (take_all done text far) at wrote in
       Appends-kept old now new text whole kept
+
+-- the whole is a beginning
+a_beginning : {T E : Type 0} (old new : Option (List ℕ)) (text : List ℕ) (result : Result T E) → OnOk result (Appends old new text) → OnErr result (AppendsBeginning old new text) → AppendsBeginning old new text
+a_beginning old new text (Ok value) whole beginning = (length text, rw take-length whole)
+a_beginning old new text (Err error) whole beginning = beginning
+
+-- the line that is put into an empty buffer is written, or its first part is
+pub line_told : {B T E : Type 0} (contents : B → List ℕ) (shown : Option (List ℕ)) (empty full : B) (bytes : List ℕ) (old new : Option (List ℕ)) (result : Result T E) → contents empty ≡ [] → WritesText (λ b text b'. contents b' ≡ contents b ++ text) empty (with_newline shown) full → bytes ≡ contents full → OnOk result (Appends old new bytes) → OnErr result (AppendsBeginning old new bytes) → IfSome shown (λ text. AppendsBeginning old new (line text))
+line_told contents None empty full bytes old new result none wrote same whole beginning = tt
+line_told contents (Some text) empty full bytes old new result none wrote same whole beginning =
+    let held : contents full ≡ contents empty ++ line text = contents_after_writes (λ b more b'. contents b' ≡ contents b ++ more) contents (λ _ _ _ h. h) empty (line text) full wrote in
+    let out : bytes ≡ line text = same ∙ held ∙ ap (λ start. start ++ line text) none in
+    subst (AppendsBeginning old new) out (a_beginning old new bytes result whole beginning)

@@ -1,5 +1,5 @@
 -- Lines of bytes, and what they say.
-use Rattle.std.specs.Prelude.{◌≡◌, ◌≢◌, ℕ, ◌+◌, ◌==◌, List, [], ◌∷◌, ◌++◌, All, length}
+use Rattle.std.specs.Prelude.{◌≡◌, ◌≢◌, ℕ, ◌+◌, ◌-◌, ◌==◌, List, [], ◌∷◌, ◌++◌, All, length, slice_index_or}
 use Rattle.std.specs.List.{slice_split}
 
 -- parts but for a last one that is empty
@@ -11,6 +11,10 @@ without_empty_last (part ∷ parts) = part ∷ without_empty_last parts
 -- a line ends at byte 10, and a last line without one counts where it has a byte
 abbrev pub lines_of : List ℕ → List (List ℕ)
 lines_of bytes = without_empty_last (slice_split (λ b. b == 10) bytes)
+
+-- the line of this number, from 1
+abbrev pub line_at : List (List ℕ) → ℕ → List ℕ
+line_at lines number = slice_index_or lines (number - 1) []
 
 -- a line of the output is its bytes and byte 10
 abbrev pub line : List ℕ → List ℕ

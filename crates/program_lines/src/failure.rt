@@ -7,20 +7,28 @@ use std::fmt::Display;
 use std::io::Write;
 use std::{fmt, io};
 
-/// Which of its two inputs a program reads a line from.
+/// Where a program reads a line.
 #[derive(Clone, Copy, Debug, PartialEq, Eq)]
 pub enum Place {
     /// The file that the program is given.
     File,
-    /// Standard input.
+    /// Standard input, beside a file.
     Input,
+    /// Standard input, where the program reads nothing else: a failure's line does not name it.
+    OnlyInput,
 }
 
 impl Display for Place {
+    ghost use Rattle.std.specs.Prelude.{Some};
+    ghost use Rattle.program_lines.specs.Failures.{place_text};
+
+    ghost output = { λ place. Some (place_text place) };
+
     fn fmt<W: fmt::Write>(&self, f: &mut fmt::Formatter<W>) -> fmt::Result {
         match self {
-            Place::File => write!(f, "file"),
-            Place::Input => write!(f, "input"),
+            Place::File => write!(f, "file "),
+            Place::Input => write!(f, "input "),
+            Place::OnlyInput => Ok(()),
         }
     }
 }
@@ -65,12 +73,17 @@ impl<F> Failure<F> {
 }
 
 impl<F: Display + Copy> Failure<F> {
-    ghost use Rattle.program_lines.specs.Failures.{status_of};
+    ghost use Rattle.std.specs.Prelude.{IfSome};
+    ghost use Rattle.program_lines.specs.Failures.{status_of, shown_failure};
+    ghost use Rattle.program_lines.specs.Lines.{line};
+    ghost use Rattle.program_lines.specs.Programs.{AppendsBeginning};
 
     /// Writes the line of the failure, as far as the writer takes it, and returns the status, also
     /// where the write fails.
     pub fn report<E: Write>(self, errors: &mut E) -> u8
-        ensures { result ≡ status_of self }
+        ensures status { result ≡ status_of self }
+        ensures told { IfSome (shown_failure F.output self) (λ text.
+            AppendsBeginning (E.contents errors.old) (E.contents errors.new) (line text)) }
     {
         write_line(errors, self);
         self.status()
@@ -78,9 +91,13 @@ impl<F: Display + Copy> Failure<F> {
 }
 
 impl<F: Display> Display for Failure<F> {
+    ghost use Rattle.program_lines.specs.Failures.{shown_failure};
+
+    ghost output = { shown_failure F.output };
+
     fn fmt<W: fmt::Write>(&self, f: &mut fmt::Formatter<W>) -> fmt::Result {
         match self {
-            Failure::BadLine(bad) => write!(f, "{} line {}: {}", bad.place, bad.number, bad.fault),
+            Failure::BadLine(bad) => write!(f, "{}line {}: {}", bad.place, bad.number, bad.fault),
             Failure::OutOfMemory => write!(f, "out of memory"),
             Failure::NoFile => write!(f, "file cannot be read"),
             Failure::Device => write!(f, "device failed"),
@@ -109,10 +126,15 @@ impl<F, T: Drop> From<AllocFailed<T>> for Failure<F> {
 }
 
 impl<F> From<io::Error> for Failure<F> {
-    ghost use Rattle.std.specs.Prelude.{◌≡◌};
+    ghost use Rattle.std.specs.Prelude.{◌≡◌, ◌≢◌};
+    ghost use Rattle.std.specs.IoError.{error_kind};
+    ghost use Rattle.std.specs.declared.io.ErrorKind.TheVariants.{OutOfMemory as MemoryKind};
     ghost use Rattle.program_lines.specs.Failures.{status_of};
+    ghost use Rattle.program_lines.specs.declared.failure.Failure.TheVariants.{OutOfMemory, Device};
 
-    ghost from_gives = { λ error failure. status_of failure ≡ 1 };
+    ghost from_gives = { λ error failure. (status_of failure ≡ 1)
+        × (error_kind error ≡ MemoryKind → failure ≡ OutOfMemory)
+        × (error_kind error ≢ MemoryKind → failure ≡ Device) };
 
     fn from(error: io::Error) -> Failure<F> {
         if error.kind() == io::ErrorKind::OutOfMemory {

@@ -1,41 +1,44 @@
 //! Lines of bytes, and what they say.
 ghost use Rattle.std.specs.Prelude.{◌≡◌, ◌==◌, ◌<◌, ◌∷◌, length, position, IfOk, IfErr, IfSome, IfNone};
-ghost use Rattle.program_lines.specs.Lines.{lines_of, SayAll, IsFirstBad, IsCutAt, HasNo};
-ghost use Rattle.program_lines.specs.Failures.{IfBadLine};
+ghost use Rattle.program_lines.specs.Lines.{lines_of, line_at, SayAll, IsFirstBad, IsCutAt, HasNo};
+ghost use Rattle.program_lines.specs.Failures.{IfBadLine, IsLineFailure};
 
 use crate::failure::{BadLine, Failure, Place};
 use std::alloc::Global;
 
-/// What one line says.
-pub trait FromLine<'a>: Sized {
-    ghost use Rattle.std.specs.Prelude.{ℕ, List, IfOk, OnErr};
-
-    /// What may be wrong with a line.
-    type Fault: Copy;
+/// What one line says. A line that says nothing has a fault.
+pub trait FromLine<'a, Fault>: Sized {
+    ghost use Rattle.std.specs.Prelude.{ℕ, List, IfOk, IfErr, OnErr};
 
     /// The line says this.
     ghost says: { List ℕ → Self → Type 0 };
 
+    /// This is what is wrong with the line.
+    ghost has_fault: { List ℕ → Fault → Type 0 } = { λ _ _. Unit {0} };
+
     /// What a line says, without the byte that ends it.
     ///
     /// Refuses a line that says nothing.
-    fn from_line(line: &'a [u8]) -> Result<Self, Self::Fault>
+    fn from_line(line: &'a [u8]) -> Result<Self, Fault>
         ensures said { IfOk result (says line.now) }
-        ensures refused { OnErr result ((item : Self) → ¬ says line.now item) };
+        ensures refused { OnErr result ((item : Self) → ¬ says line.now item) }
+        ensures fault { IfErr result (has_fault line.now) };
 }
 
 /// What the lines say, one item a line. A line ends at byte 10, and a last line without one counts
 /// where it has a byte.
 ///
 /// Refuses the first line that says nothing. An allocation may fail.
-pub fn said<'a, T: FromLine<'a> + Drop>(
+pub fn said<'a, Fault: Copy, T: FromLine<'a, Fault> + Drop>(
     alloc: Global,
     place: Place,
     bytes: &'a [u8],
-) -> Result<Vec<T>, Failure<T::Fault>>
+) -> Result<Vec<T>, Failure<Fault>>
     ensures all { IfOk result (λ items. SayAll T.says (lines_of bytes.now) items.items) }
     ensures first_bad { IfErr result (IfBadLine (λ bad.
         (bad.place ≡ place) × IsFirstBad T.says (lines_of bytes.now) bad.number)) }
+    ensures fault { IfErr result (IsLineFailure (λ bad.
+        T.has_fault (line_at (lines_of bytes.now) bad.number) bad.fault)) }
 {
     let lines = bytes.iter().filter(|byte| **byte == b'\n').count() + 1;
     let mut items = Vec::with_capacity(alloc, lines)?;

@@ -2,6 +2,7 @@
 use crate::failure::Failure;
 use crate::program::{Program, run};
 use crate::writing::{write_line, write_out};
+use std::alloc::AllocError;
 use std::fmt::Display;
 use std::io::{IsTerminal, Write};
 use std::process::ExitCode;
@@ -30,10 +31,7 @@ impl Display for Loading {
 pub fn start<P: Program>(rt: &HostRuntime) -> ExitCode {
     let status = match words_after_name(rt) {
         Ok(words) => status::<P>(rt, &words),
-        Err(error) if error.kind() == io::ErrorKind::OutOfMemory => {
-            Failure::<P::Fault>::OutOfMemory.report(&mut rt.stderr())
-        }
-        Err(_) => status::<P>(rt, &[]),
+        Err(error) => Failure::<P::Fault>::from(error).report(&mut rt.stderr()),
     };
     ExitCode::from(status)
 }
@@ -77,8 +75,11 @@ fn say_large<E: Write + IsTerminal>(errors: &mut E, bytes: usize) {
     }
 }
 
-// A word that is not UTF-8 names no file.
-fn words_after_name(rt: &HostRuntime) -> io::Result<Vec<String>> {
-    let words = env::args(rt)?;
-    Ok(words.skip(1).collect(rt.alloc())?)
+/// The words after the program's name, or none where one is not UTF-8: no program takes such a word.
+pub fn words_after_name(rt: &HostRuntime) -> Result<Vec<String>, AllocError> {
+    match env::args(rt) {
+        Ok(words) => Ok(words.skip(1).collect(rt.alloc())?),
+        Err(error) if error.kind() == io::ErrorKind::OutOfMemory => Err(AllocError),
+        Err(_) => Ok(Vec::new(rt.alloc())),
+    }
 }

@@ -1,5 +1,5 @@
 //! Lines of the output, and writes with contracts that name what a failed one has written.
-ghost use Rattle.std.specs.Prelude.{◌≡◌, ◌++◌, OnOk, OnErr};
+ghost use Rattle.std.specs.Prelude.{◌≡◌, ◌++◌, OnOk, OnErr, IfSome};
 ghost use Rattle.std.specs.Fmt.{decimal};
 ghost use Rattle.std.specs.Io.KnownBytes.{Appends};
 ghost use Rattle.program_lines.specs.Lines.{line};
@@ -31,7 +31,7 @@ pub fn push_number(alloc: Global, number: usize, output: &mut Vec<u8>) -> Result
 /// Writes the text, and flushes the writer. Unlike that of `write_all` its contract names what a
 /// failed write has written.
 #[tactic(auto, using(crate::proofs::Writes::appends_more, crate::proofs::Writes::appends_whole))]
-pub(crate) fn write_out<W: Write>(output: &mut W, text: &[u8]) -> io::Result<()>
+pub fn write_out<W: Write>(output: &mut W, text: &[u8]) -> io::Result<()>
     ensures whole { OnOk result
         (Appends (W.contents output.old) (W.contents output.new) text.now) }
     ensures beginning { OnErr result
@@ -54,7 +54,10 @@ pub(crate) fn write_out<W: Write>(output: &mut W, text: &[u8]) -> io::Result<()>
 
 /// Writes the line of a text, as far as the writer takes it, without an allocation. A text has up
 /// to 127 bytes: nothing is written of a longer one.
-pub(crate) fn write_line<W: Write, D: Display + Drop>(output: &mut W, text: D) {
+pub fn write_line<W: Write, D: Display + Drop>(output: &mut W, text: D)
+    ensures { IfSome (D.output text) (λ shown.
+        AppendsBeginning (W.contents output.old) (W.contents output.new) (line shown)) }
+{
     let mut buffer = ArrayString::<128>::new();
     if let Ok(()) = fmt::Write::writeln(&mut buffer, text) {
         let _ = write_out(output, buffer.as_str().as_bytes());

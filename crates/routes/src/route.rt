@@ -25,10 +25,8 @@ pub struct Query<'a> {
     pub(crate) address: Address,
 }
 
-impl<'a> FromLine<'a> for Route<'a> {
+impl<'a> FromLine<'a, Fault> for Route<'a> {
     ghost use Rattle.routes.specs.Lines.{SayRoute};
-
-    type Fault = Fault;
 
     ghost says = { SayRoute };
 
@@ -44,10 +42,8 @@ impl<'a> FromLine<'a> for Route<'a> {
     }
 }
 
-impl<'a> FromLine<'a> for Query<'a> {
+impl<'a> FromLine<'a, Fault> for Query<'a> {
     ghost use Rattle.routes.specs.Lines.{SayQuery};
-
-    type Fault = Fault;
 
     ghost says = { SayQuery };
 

@@ -23,10 +23,8 @@ pub(crate) struct Word<'a> {
     bytes: &'a [u8],
 }
 
-impl<'a> FromLine<'a> for Word<'a> {
+impl<'a> FromLine<'a, Fault> for Word<'a> {
     ghost use Rattle.words.specs.Queries.{SayWord};
-
-    type Fault = Fault;
 
     ghost says = { SayWord };
 

@@ -23,10 +23,8 @@ pub enum Query<'a> {
     After(&'a [u8]),
 }
 
-impl<'a> FromLine<'a> for Query<'a> {
+impl<'a> FromLine<'a, Fault> for Query<'a> {
     ghost use Rattle.words.specs.Queries.{SayQuery};
-
-    type Fault = Fault;
 
     ghost says = { SayQuery };
 

@@ -4,7 +4,7 @@ ghost use Rattle.art_cli.specs.Find.{Entries, with_text};
 ghost use Rattle.art_cli.specs.Answer.{HoldsEntries, IsCarriedOut};
 ghost use Rattle.art_cli.specs.Program.{IsCommandFailure, failure_for};
 
-use crate::failure::{Failure, LineFault};
+use crate::failure::{Failure, LineFault, failure_at};
 use crate::find::answer::answer;
 use crate::find::command::TreeCommand;
 use crate::find::print_found::{print_answer, print_removal};
@@ -49,8 +49,8 @@ fn failure_of(line: usize, refusal: InsertRefusal) -> Failure
     ensures { result ≡ failure_for line refusal }
 {
     match refusal {
-        InsertRefusal::KeyTooLong => Failure::BadLine(line, LineFault::KeyTooLong),
-        InsertRefusal::Prefix => Failure::BadLine(line, LineFault::PrefixOfOther),
+        InsertRefusal::KeyTooLong => failure_at(line, LineFault::KeyTooLong),
+        InsertRefusal::Prefix => failure_at(line, LineFault::PrefixOfOther),
         InsertRefusal::OutOfMemory => Failure::OutOfMemory,
     }
 }

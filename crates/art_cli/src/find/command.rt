@@ -1,12 +1,13 @@
 //! The lines of `find` to its commands.
-ghost use Rattle.std.specs.Prelude.{◌≡◌, ◌<◌, ◌∷◌, [], false, length, IfOk, IfErr};
+ghost use Rattle.std.specs.Prelude.{◌≡◌, ◌<◌, ◌∷◌, length, IfOk, IfErr};
 ghost use Rattle.art_bytes.specs.SliceKey.{slice_key_text};
-ghost use Rattle.art_cli.specs.Lines.{lines_of, SayAll};
+ghost use Rattle.program_lines.specs.Lines.{lines_of, IsFirstBad};
+ghost use Rattle.art_cli.specs.Failure.{failure_at};
 ghost use Rattle.art_cli.specs.Find.{SayTreeCommand, command_line, with_text};
 
-use crate::failure::{Failure, LineFault};
-use crate::lines::first_line;
+use crate::failure::{Failure, LineFault, failure_at};
 use art_tree::SliceKey;
+use program_lines::first_line;
 
 /// A command on the tree, by the key of an entry.
 #[derive(Clone, Copy)]
@@ -31,13 +32,13 @@ pub(crate) fn first_command(
         ≡ command_line (with_text slice_key_text first.0) ∷ lines_of first.1.now) }
     ensures shorter { IfOk result (λ first. length first.1.now < length bytes.now) }
     ensures nothing_said { IfErr result (λ failure.
-        (failure ≡ Failure.BadLine number LineFault.UnknownCommand)
-        × SayAll SayTreeCommand (lines_of bytes.now) [] false) }
+        (failure ≡ failure_at number LineFault.UnknownCommand)
+        × IsFirstBad SayTreeCommand (lines_of bytes.now) 1) }
 {
     let (line, after) = first_line(bytes);
     match TreeCommand::of_line(line) {
         Some(command) => Ok((command, after)),
-        None => Err(Failure::BadLine(number, LineFault::UnknownCommand)),
+        None => Err(failure_at(number, LineFault::UnknownCommand)),
     }
 }
 

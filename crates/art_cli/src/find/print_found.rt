@@ -1,6 +1,6 @@
 //! The results of `find` to lines.
 ghost use Rattle.std.specs.Prelude.{◌≡◌, ◌++◌, OnOk, string_bytes};
-ghost use Rattle.art_cli.specs.Lines.{line};
+ghost use Rattle.program_lines.specs.Lines.{line};
 ghost use Rattle.art_cli.specs.Answer.{answer_text, removal_text};
 
 use crate::find::answer::Found;

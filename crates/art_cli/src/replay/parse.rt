@@ -1,46 +1,27 @@
 //! The lines of `replay` to its commands.
-ghost use Rattle.std.specs.Prelude.{◌≡◌, ◌≢◌, ℕ, ◌<◌, ◌≤◌, ◌↔◌, [], ◌∷◌, MatchOption, OnErr, IfErr, All, IsTrue, IfOk, is_none, IfSome, length};
-ghost use Rattle.std.specs.Int.{IsInRange};
+ghost use Rattle.std.specs.Prelude.{◌≡◌, ◌≢◌, ℕ, ◌<◌, ◌≤◌, [], ◌∷◌, MatchOption, OnErr, IfErr, IfOk};
 ghost use Rattle.std.specs.declared.ops.Bound.{Bound};
-ghost use Rattle.art_cli.specs.Lines.{lines_of, words_of};
-ghost use Rattle.art_cli.specs.Command.{IsNumber, IsByteNumber, IsBound, SayCommand, SayCommands, SayNothing};
-ghost use Rattle.art_cli.specs.Command.{IsName, BeginWithName, HaveTheirNumber, IsFaultAfter};
+ghost use Rattle.program_lines.specs.Numbers.{IsNumber};
+ghost use Rattle.art_cli.specs.Words.{words_of};
+ghost use Rattle.art_cli.specs.Command.{IsByteNumber, IsBound, SayCommand, SayNothing};
+ghost use Rattle.art_cli.specs.Command.{IsName, BeginWithName, HaveTheirNumber};
 ghost use Rattle.art_cli.specs.Words.{AreWords};
 
-use crate::commands::{LineCommand, commands_of};
 use crate::failure::LineFault;
-use crate::lines::end_of_part;
 use crate::replay::nodes::{Command, child_of};
 use art_tree::ChildCommand;
-use std::alloc::{AllocError, Global};
+use program_lines::{FromLine, number_of, split_once};
 use std::ops::Bound;
-use std::str;
 
-/// The commands of the lines up to the first bad one, one a line, and the fault of that one.
-///
-/// An error is an allocation failure.
-pub(crate) fn parse(
-    alloc: Global,
-    input: &[u8],
-) -> Result<(Vec<Command>, Option<LineFault>), AllocError>
-    ensures said { IfOk result (λ parsed.
-        SayCommands (lines_of input.now) parsed.0.items (is_none parsed.1)) }
-    ensures fault { IfOk result (λ parsed. IfSome parsed.1
-        (IsFaultAfter (lines_of input.now) (length parsed.0.items))) }
-{
-    commands_of(alloc, input)
-}
+impl FromLine<'_, LineFault> for Command {
+    ghost use Rattle.art_cli.specs.Words.{words_of};
+    ghost use Rattle.art_cli.specs.Command.{SayReplayLine, IsFaultOf};
 
-impl LineCommand<'_> for Command {
-    ghost use Rattle.art_cli.specs.Lines.{words_of};
-    ghost use Rattle.art_cli.specs.Command.{SayCommand, SayNothing, IsFaultOf};
+    ghost says = { SayReplayLine };
 
-    ghost says = { λ line command. SayCommand (words_of line) command };
+    ghost has_fault = { λ line. IsFaultOf (words_of line) };
 
-    ghost is_at_fault = { λ line fault. SayNothing (words_of line)
-        × IsFaultOf (words_of line) fault };
-
-    fn of_line(line: &[u8]) -> Result<Command, LineFault> {
+    fn from_line(line: &[u8]) -> Result<Command, LineFault> {
         command(line)
     }
 }
@@ -119,8 +100,8 @@ fn first_word(line: &[u8]) -> (&[u8], Option<&[u8]>)
     ensures { MatchOption result.1 (words_of line.now ≡ result.0.now ∷ [])
         (λ rest. words_of line.now ≡ result.0.now ∷ words_of rest.now) }
 {
-    match end_of_part(line, b' ') {
-        Some(end) => (&line[..end], Some(&line[end + 1..])),
+    match split_once(line, b' ') {
+        Some((word, rest)) => (word, Some(rest)),
         None => (line, None),
     }
 }
@@ -148,26 +129,13 @@ fn byte_number(word: &[u8]) -> Result<u8, LineFault>
 }
 
 // The number below a bound that one to ten decimal digits give.
-#[tactic(auto, using(crate::proofs::Numbers::number_is_text, crate::proofs::Numbers::refused_number))]
 fn number_below(word: &[u8], bound: u64) -> Result<u64, LineFault>
     ensures said { IfOk result (λ n. IsNumber word.now n × (n < bound)) }
     ensures refused { OnErr result ((n : ℕ) → IsNumber word.now n → bound ≤ n) }
     ensures fault { IfErr result (λ fault. fault ≡ LineFault.BadNumber) }
 {
-    if word.is_empty() || word.len() > 10 || !are_digits(word) {
-        return Err(LineFault::BadNumber);
-    }
-    let Ok(digits) = str::from_utf8(word) else {
-        return Err(LineFault::BadNumber);
-    };
-    match digits.parse() {
-        Ok(number) if number < bound => Ok(number),
+    match number_of(word) {
+        Some(number) if number < bound => Ok(number),
         _ => Err(LineFault::BadNumber),
     }
-}
-
-fn are_digits(word: &[u8]) -> bool
-    ensures { IsTrue result ↔ All (IsInRange 48 57) word.now }
-{
-    word.iter().all(|byte| byte.is_ascii_digit())
 }

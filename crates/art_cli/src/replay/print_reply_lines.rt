@@ -1,7 +1,7 @@
 //! Replies to lines.
 ghost use Rattle.std.specs.Prelude.{◌≡◌, ◌++◌, length, IfOk, OnOk, string_bytes};
 ghost use Rattle.std.specs.List.{flat_map};
-ghost use Rattle.art_cli.specs.Lines.{line};
+ghost use Rattle.program_lines.specs.Lines.{line};
 ghost use Rattle.art_cli.specs.Reply.{kind_text, pair_text, reply_text, output_of};
 
 use crate::replay::nodes::{Child, Leaf, Node, Reply};

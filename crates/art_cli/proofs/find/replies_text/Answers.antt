@@ -1,10 +1,17 @@
-use Rattle.std.proofs.Common.{◌≡◌, ◌+◌, ◌++◌, [], ◌∷◌, string_bytes, rules}
+use Rattle.std.proofs.Common.{◌++◌, [], ◌∷◌, string_bytes, rules}
 use Rattle.art_bytes.specs.SliceKey.{slice_key_text}
 use Rattle.art_cli.specs.Find.{with_text, no_entries, after_all}
 use Rattle.art_cli.specs.Program.{IsFindFailure}
 use Rattle.art_cli.proofs.FindLemmas.{so_far_one}
-use Rattle.art_cli.proofs.FindLines.{read_one, read_refused, others_give}
+use Rattle.art_cli.proofs.FindLines.{read_one, read_bad, read_refused, others_give}
 use Rattle.art_cli.proofs.find.replies_text.Goals as goal
+
+pub returns-in_err-command-clause-refused : goal.returns-in_err-command-clause-refused
+returns-in_err-command-clause-refused g c =
+    let before = c.loop-rest.invariant in
+    let bad = c.in_err-command.ensures.nothing_said in
+    let failed : IsFindFailure c.args.input.now c.in_err-command.field-0.0 = read_bad c.args.input.now c.loop-rest.rest.now c.loop-rest.number before.commands before.read c.in_err-command.field-0.0 bad.0 bad.1 in
+    search rules
 
 pub returns-in_err-next-clause-refused : goal.returns-in_err-next-clause-refused
 returns-in_err-next-clause-refused g c =

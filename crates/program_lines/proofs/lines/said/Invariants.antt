@@ -1,6 +1,6 @@
 use Rattle.std.proofs.Common.{length}
 use Rattle.program_lines.specs.Lines.{lines_of}
-use Rattle.program_lines.proofs.SaidLemmas.{SaidSoFar}
+use Rattle.program_lines.proofs.SaidLines.{SaidSoFar}
 use Rattle.program_lines.proofs.lines.said.Given as goal
 
 -- the lines before the rest say the items

@@ -2,7 +2,7 @@ use Rattle.std.proofs.Common.{◌≡◌, ◌∙◌, ℕ, ◌+◌, [], string_byt
 use Rattle.art_tree.specs.Dictionary.{entry_at}
 use Rattle.art_cli.specs.Find.{with_text}
 use Rattle.art_cli.specs.Answer.{IsCarriedOut, IsAnswer, answer_text, removal_text}
-use Rattle.art_cli.specs.Lines.{line}
+use Rattle.program_lines.specs.Lines.{line}
 use Rattle.art_cli.proofs.FindLemmas.{number_taken, admitted, holds_inserted, holds_removed}
 use Rattle.art_cli.proofs.find.carry_out.carry_out.Goals as goal
 

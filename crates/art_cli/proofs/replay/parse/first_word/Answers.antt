@@ -1,9 +1,8 @@
-use Rattle.std.proofs.Common.{sym, ◌∙◌}
-use Rattle.art_cli.proofs.Parts.{words_cut, words_alone}
+use Rattle.program_lines.proofs.Cuts.{parts_cut, parts_alone}
 use Rattle.art_cli.proofs.replay.parse.first_word.Goals as goal
 
 pub returns-in-Some : goal.returns-in-Some
-returns-in-Some c = words_cut c.args.line.now c.in-Some.end (sym c.end_of_part.ensures.place ∙ c.in-Some.is)
+returns-in-Some c = parts_cut 32 c.args.line.now c.in-Some.word.now c.in-Some.rest.now c.in-Some.ensures.cut
 
 pub returns-in-None : goal.returns-in-None
-returns-in-None c = words_alone c.args.line.now (sym c.end_of_part.ensures.place ∙ c.in-None.is)
+returns-in-None c = parts_alone 32 c.args.line.now c.in-None.ensures.none

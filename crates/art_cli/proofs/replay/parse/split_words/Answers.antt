@@ -1,4 +1,4 @@
-use Rattle.art_cli.proofs.Parts.{more_words}
+use Rattle.art_cli.proofs.WordLemmas.{more_words}
 use Rattle.art_cli.proofs.replay.parse.split_words.Goals as goal
 
 pub returns-in-Some-rest-2 : goal.returns-in-Some-rest-2

@@ -1,6 +1,6 @@
 use Rattle.std.proofs.Common.{◌≡◌, take, string_bytes}
 use Rattle.std.specs.List.{flat_map}
-use Rattle.art_cli.specs.Lines.{line}
+use Rattle.program_lines.specs.Lines.{line}
 use Rattle.art_cli.specs.Reply.{reply_text}
 use Rattle.art_cli.proofs.replay.print_reply_lines.text_of.Given as goal
 

@@ -1,7 +1,7 @@
 use Rattle.std.proofs.Common.{◌∙◌}
 use Rattle.arrayvec.specs.ArrayString.{ArrayString}
-use Rattle.art_cli.proofs.Failures.{line_told}
-use Rattle.art_cli.proofs.writing.write_line.Goals as goal
+use Rattle.program_lines.proofs.Writes.{line_told}
+use Rattle.program_lines.proofs.writing.write_line.Goals as goal
 
 pub returns-in-Ok : goal.returns-in-Ok
 returns-in-Ok g c =

@@ -1,9 +1,0 @@
-use Rattle.std.proofs.Common.{sym, ◌∙◌}
-use Rattle.art_cli.proofs.Parts.{lines_cut, lines_alone}
-use Rattle.art_cli.proofs.lines.first_line.Goals as goal
-
-pub returns-in-Some-clause-lines : goal.returns-in-Some-clause-lines
-returns-in-Some-clause-lines c = lines_cut c.args.bytes.now c.in-Some.end (sym c.end_of_part.ensures.place ∙ c.in-Some.is)
-
-pub returns-in-None-clause-lines : goal.returns-in-None-clause-lines
-returns-in-None-clause-lines c = lines_alone c.args.bytes.now c.requires (sym c.end_of_part.ensures.place ∙ c.in-None.is)
