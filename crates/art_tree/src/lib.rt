@@ -1,8 +1,8 @@
 //! Adaptive radix trees over an arena of nodes: load, search, and [`ArtTree`], a tree with its
 //! arena as one value, with inserts and removals.
 //!
-//! The crate re-exports every public name of the crates below it, so a crate that uses trees lists
-//! this one alone.
+//! The crate re-exports every public name of the crates below it but the laws of `art_mapped`, so a
+//! crate that uses trees lists this one alone.
 #![tactic(auto)]
 
 mod find;

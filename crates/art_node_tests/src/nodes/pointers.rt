@@ -3,7 +3,7 @@ use super::node_fixtures::{Pointer, leaf};
 use crate::fixtures::hash_of;
 use art_nodes::{
     ConcreteInnerNodePtr, ConcreteNodePtr, InnerNode4, InnerNode16, InnerNode48, InnerNodeDirect,
-    LeafNode, NodePtr, NodeType,
+    LeafNode, NodePtr, NodeType, PackedNodePtr,
 };
 use std::process::Abort;
 
@@ -95,4 +95,18 @@ fn pointers_know_their_kind_and_go_there_and_back(rt: HostRuntime) {
     stand_by_kind(&rt);
     inner_ones_stand_by_kind(&rt);
     greatest_ones_stand_by_kind(&rt);
+}
+
+#[test]
+fn packed_pointers_are_compared_converted_and_hashed(rt: HostRuntime) {
+    let packed = PackedNodePtr::from(leaf::<16>(1 << 40));
+    assert!(rt; packed.equals(&leaf(1 << 40)));
+    assert!(rt; leaf(1 << 40).equals(&packed));
+    assert!(rt; !packed.equals(&leaf(0)));
+    assert!(rt; !leaf(0).equals(&packed));
+    assert!(rt; packed == PackedNodePtr::new(leaf(1 << 40)));
+    assert!(rt; packed != PackedNodePtr::new(leaf(0)));
+    assert!(rt; Pointer::from(packed) == leaf(1 << 40));
+    assert!(rt; hash_of(&packed) == hash_of(&leaf::<16>(1 << 40)));
+    assert!(rt; hash_of(&packed) != hash_of(&leaf::<16>(0)));
 }

@@ -11,6 +11,7 @@ use crate::inner_nodes::representations::inner_node_sorted::{InnerNode4, InnerNo
 use crate::inner_nodes::traits::inner_node::InnerNode;
 use crate::inner_nodes::traits::inner_node_read::InnerNodeRead;
 use crate::inner_nodes::traits::node::InnerNodeCommon;
+use crate::iteration::bounds::byte_range;
 use crate::iteration::child_iter::ChildIter;
 use crate::pointers::OpaqueNodePtr;
 use art_header::{Header, NodeType};
@@ -19,7 +20,8 @@ use std::ops::Bound;
 
 /// An inner node of any kind. Its calls are those of [`InnerNodeCommon`], except that `min` and
 /// `max` return `None` where there is no child, and that `insert_child`, which returns the old
-/// child, takes the place of `write_child`.
+/// child, takes the place of `write_child`. It is no [`InnerNodeRead`], whose `room` is the same for
+/// all nodes of a type: here it is that of the kind.
 #[derive(Drop)]
 pub(crate) enum AnyInner<K, V, const PREFIX_LEN: usize> {
     Node4(InnerNode4<K, V, PREFIX_LEN>),
@@ -28,15 +30,15 @@ pub(crate) enum AnyInner<K, V, const PREFIX_LEN: usize> {
     Node256(InnerNodeDirect<K, V, PREFIX_LEN>),
 }
 
-// The pairs in a vector with capacity for so many.
+// The pairs in a vector that begins with capacity for so many.
 fn gathered<K, V, const PREFIX_LEN: usize>(
     alloc: Global,
     pairs: ChildIter<'_, K, V, PREFIX_LEN>,
-    count: usize,
+    most: usize,
 ) -> Result<Vec<(u8, OpaqueNodePtr<K, V, PREFIX_LEN>)>, AllocError>
     ensures { IfOk result (λ gathered. gathered.items ≡ pairs.entry) }
 {
-    let mut gathered = Vec::with_capacity(alloc, count)?;
+    let mut gathered = Vec::with_capacity(alloc, most)?;
     for pair in pairs {
         gathered.push(pair)?;
     }
@@ -144,11 +146,10 @@ impl<K, V, const PREFIX_LEN: usize> AnyInner<K, V, PREFIX_LEN> {
         ensures { let children = (inner_of self.now).children in
             IfOk result (λ pairs. pairs.items ≡ pairs_within children start end) }
     {
-        let counted = with_node!(self, node => node.range(start, end));
-        // The capacity to reserve. It has no effect on the result.
-        let count = counted.fold(0, |count: usize, _| count.saturating_add(1));
+        // There are no more pairs than children, nor than bytes within the bounds.
+        let most = self.num_children().min(byte_range(start, end).len());
         let pairs = with_node!(self, node => node.range(start, end));
-        gathered(alloc, pairs, count)
+        gathered(alloc, pairs, most)
     }
 
     /// Whether the node has as many children as its kind holds.

@@ -1,12 +1,16 @@
 //! The pointers that inner nodes store, in nine bytes each.
-ghost use Rattle.std.specs.Prelude.{◌≡◌};
+ghost use Rattle.std.specs.Prelude.{◌≡◌, ◌↔◌, IsTrue};
 
 use crate::pointers::OpaqueNodePtr;
 use art_header::NodeType;
+use std::hash::{Hash, Hasher};
 use std::marker::{Model, PhantomData};
 
 /// An [`OpaqueNodePtr`] in nine bytes, as inner nodes store their children. It may lie at any
 /// address. Contracts see the pointer that it was made of.
+///
+/// `==` compares two of them; [`PackedNodePtr::equals`] and [`OpaqueNodePtr::equals`] compare one
+/// with a pointer.
 ///
 /// (from crates/art_node_tests/src/nodes/indirect.rt)
 /// ```rust
@@ -15,7 +19,7 @@ use std::marker::{Model, PhantomData};
 /// assert!(rt; children[0] == PackedNodePtr::new(leaf(3)));
 /// assert!(rt; children[1].to_opaque() == leaf(2));
 /// ```
-#[derive_where(Clone, Copy, PartialEq, Eq)]
+#[derive_where(Clone, Copy)]
 pub struct PackedNodePtr<K, V, const PREFIX_LEN: usize> {
     node_type: NodeType,
     // The slab key, lowest byte first.
@@ -71,6 +75,83 @@ impl<K, V, const PREFIX_LEN: usize> PackedNodePtr<K, V, PREFIX_LEN> {
             key: usize::from_le_bytes(self.key),
             leaf: PhantomData,
         }
+    }
+
+    /// Whether this one was made of the pointer.
+    #[inline]
+    pub fn equals(&self, pointer: &OpaqueNodePtr<K, V, PREFIX_LEN>) -> bool
+        ensures { IsTrue result ↔ (self.now ≡ pointer.now) }
+    {
+        self.to_opaque() == *pointer
+    }
+}
+
+impl<K, V, const PREFIX_LEN: usize> OpaqueNodePtr<K, V, PREFIX_LEN> {
+    /// Whether the packed pointer was made of this one.
+    #[inline]
+    pub fn equals(&self, packed: &PackedNodePtr<K, V, PREFIX_LEN>) -> bool
+        ensures { IsTrue result ↔ (self.now ≡ packed.now) }
+    {
+        packed.equals(self)
+    }
+}
+
+/// The pointer in nine bytes.
+impl<K, V, const PREFIX_LEN: usize> From<OpaqueNodePtr<K, V, PREFIX_LEN>>
+    for PackedNodePtr<K, V, PREFIX_LEN> {
+    ghost use Rattle.std.specs.Prelude.{◌≡◌};
+
+    ghost from_gives = { λ pointer packed. packed ≡ pointer };
+
+    fn from(value: OpaqueNodePtr<K, V, PREFIX_LEN>) -> Self {
+        PackedNodePtr::new(value)
+    }
+}
+
+/// The pointer that the packed one was made of.
+impl<K, V, const PREFIX_LEN: usize> From<PackedNodePtr<K, V, PREFIX_LEN>>
+    for OpaqueNodePtr<K, V, PREFIX_LEN> {
+    ghost use Rattle.std.specs.Prelude.{◌≡◌};
+
+    ghost from_gives = { λ packed pointer. pointer ≡ packed };
+
+    fn from(value: PackedNodePtr<K, V, PREFIX_LEN>) -> Self {
+        value.to_opaque()
+    }
+}
+
+/// Packed pointers are equal where the pointers that they were made of are.
+impl<K, V, const PREFIX_LEN: usize> PartialEq for PackedNodePtr<K, V, PREFIX_LEN> {
+    ghost use Rattle.std.proofs.Common.{rules};
+    ghost use Rattle.std.specs.Cmp.Rules.{comparing};
+
+    ghost eq = { ⟦<OpaqueNodePtr<K, V, PREFIX_LEN> as PartialEq>⟧.eq };
+
+    ghost laws = { Prim.search (comparing, rules) };
+
+    fn eq(&self, other: &Self) -> bool {
+        self.to_opaque() == other.to_opaque()
+    }
+}
+
+impl<K, V, const PREFIX_LEN: usize> Eq for PackedNodePtr<K, V, PREFIX_LEN> {
+    ghost use Rattle.std.proofs.Common.{rules};
+    ghost use Rattle.std.specs.Cmp.Rules.{comparing};
+
+    ghost laws = { Prim.search (comparing, rules) };
+}
+
+/// A packed pointer is hashed as the pointer that it was made of.
+impl<K, V, const PREFIX_LEN: usize> Hash for PackedNodePtr<K, V, PREFIX_LEN> {
+    ghost use Rattle.std.proofs.Common.{rules};
+    ghost use Rattle.std.specs.Cmp.Rules.{hashing};
+
+    ghost hash_input = { ⟦<OpaqueNodePtr<K, V, PREFIX_LEN> as Hash>⟧.hash_input };
+
+    ghost respects_eq = { Prim.search (hashing, rules) };
+
+    fn hash<H: Hasher>(&self, state: &mut H) {
+        self.to_opaque().hash(state);
     }
 }
 

@@ -98,11 +98,7 @@ impl<K, V, const PREFIX_LEN: usize, const SIZE: usize> InnerNodeSorted<K, V, PRE
         requires { length node.now.children ≤ SIZE }
         ensures { result ≡ node.now }
     {
-        let mut sorted = Self::from_header(node.header().clone().unwrap());
-        for (byte, child) in node.pairs() {
-            sorted.write_child_unchecked(byte, child.to_opaque());
-        }
-        sorted
+        Self::from_node(node)
     }
 
     /// The same node with its bytes sorted. Takes no memory. Condition: it has at most `SIZE`
@@ -113,9 +109,17 @@ impl<K, V, const PREFIX_LEN: usize, const SIZE: usize> InnerNodeSorted<K, V, PRE
         requires { length node.now.children ≤ SIZE }
         ensures { result ≡ node.now }
     {
+        Self::from_node(node)
+    }
+
+    // The same node with its bytes sorted, whichever way it has them. Condition: its children fit.
+    fn from_node<N: InnerNodeRead<K, V, PREFIX_LEN>>(node: &N) -> Self
+        requires { length (N.inner node.now).children ≤ SIZE }
+        ensures { result ≡ N.inner node.now }
+    {
         let mut sorted = Self::from_header(node.header().clone().unwrap());
-        for (byte, child) in node.pairs() {
-            sorted.write_child_unchecked(byte, child.to_opaque());
+        for (byte, child) in node.iter() {
+            sorted.write_child_unchecked(byte, child);
         }
         sorted
     }
