@@ -9,7 +9,7 @@ ghost use Rattle.art_arena.specs.Reader.{shown, shown_kind};
 use crate::reader::NodeRef;
 use art_nodes::{
     ChildIter, Header, InnerNode4, InnerNode16, InnerNode48, InnerNode256, InnerNodeRead,
-    OpaqueNodePtr,
+    OpaqueNodePtr, with_node,
 };
 use std::ops::Bound;
 
@@ -37,18 +37,6 @@ pub type InnerRef<'a, K, V, const PREFIX_LEN: usize> = AnyInnerRef<
     InnerNode256<K, V, PREFIX_LEN>,
 >;
 
-// Evaluates an expression on the node, whichever kind it is.
-macro_rules! with_node {
-    ($any:expr, $node:ident => $run:expr) => {
-        match $any {
-            InnerRef::Node4($node) => $run,
-            InnerRef::Node16($node) => $run,
-            InnerRef::Node48($node) => $run,
-            InnerRef::Node256($node) => $run,
-        }
-    };
-}
-
 impl<'a, K, V, const PREFIX_LEN: usize> InnerNodeRead<K, V, PREFIX_LEN>
     for InnerRef<'a, K, V, PREFIX_LEN> {
     ghost use Rattle.art_arena.specs.InnerRef.{inner_shown};
@@ -59,44 +47,44 @@ impl<'a, K, V, const PREFIX_LEN: usize> InnerNodeRead<K, V, PREFIX_LEN>
 
     #[tactic(auto, using(crate::proofs::InnerRefLemmas::of_node4, crate::proofs::InnerRefLemmas::of_node16, crate::proofs::InnerRefLemmas::of_node48))]
     fn header(&self) -> &Header<PREFIX_LEN> {
-        with_node!(*self, node => node.header())
+        with_node!(InnerRef, *self, node => node.header())
     }
 
     #[tactic(auto, using(crate::proofs::InnerRefLemmas::of_node4, crate::proofs::InnerRefLemmas::of_node16, crate::proofs::InnerRefLemmas::of_node48))]
     fn num_children(&self) -> usize {
-        with_node!(*self, node => node.num_children())
+        with_node!(InnerRef, *self, node => node.num_children())
     }
 
     fn prefix_len(&self) -> usize {
-        with_node!(*self, node => node.prefix_len())
+        with_node!(InnerRef, *self, node => node.prefix_len())
     }
 
     fn stored_prefix(&self) -> &[u8] {
-        with_node!(*self, node => node.stored_prefix())
+        with_node!(InnerRef, *self, node => node.stored_prefix())
     }
 
     #[tactic(auto, using(crate::proofs::InnerRefLemmas::of_node4, crate::proofs::InnerRefLemmas::of_node16, crate::proofs::InnerRefLemmas::of_node48))]
     fn lookup_child(&self, key_fragment: u8) -> Option<OpaqueNodePtr<K, V, PREFIX_LEN>> {
-        with_node!(*self, node => node.lookup_child(key_fragment))
+        with_node!(InnerRef, *self, node => node.lookup_child(key_fragment))
     }
 
     #[tactic(auto, using(crate::proofs::InnerRefLemmas::of_node4, crate::proofs::InnerRefLemmas::of_node16, crate::proofs::InnerRefLemmas::of_node48))]
     fn iter(&self) -> ChildIter<'_, K, V, PREFIX_LEN> {
-        with_node!(*self, node => node.iter())
+        with_node!(InnerRef, *self, node => node.iter())
     }
 
     fn range(&self, start: Bound<u8>, end: Bound<u8>) -> ChildIter<'_, K, V, PREFIX_LEN> {
-        with_node!(*self, node => node.range(start, end))
+        with_node!(InnerRef, *self, node => node.range(start, end))
     }
 
     #[tactic(auto, using(crate::proofs::InnerRefLemmas::of_node4, crate::proofs::InnerRefLemmas::of_node16, crate::proofs::InnerRefLemmas::of_node48))]
     fn min(&self) -> (u8, OpaqueNodePtr<K, V, PREFIX_LEN>) {
-        with_node!(*self, node => node.min())
+        with_node!(InnerRef, *self, node => node.min())
     }
 
     #[tactic(auto, using(crate::proofs::InnerRefLemmas::of_node4, crate::proofs::InnerRefLemmas::of_node16, crate::proofs::InnerRefLemmas::of_node48))]
     fn max(&self) -> (u8, OpaqueNodePtr<K, V, PREFIX_LEN>) {
-        with_node!(*self, node => node.max())
+        with_node!(InnerRef, *self, node => node.max())
     }
 }
 

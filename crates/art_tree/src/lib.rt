@@ -33,7 +33,7 @@ pub use art_nodes::{
     InnerNodeDirect, InnerNodeIndirect, InnerNodeRead, InnerNodeSorted, LeafNode, NoChild, Node,
     NodePtr, NodeType, NonMaxIndex, OpaqueNodePtr, OptimisticMismatch, PackedNodePtr, PairIter,
     PessimisticMismatch, PrefixMatch, Replayed, Sequence, TryFromByteError, common_prefix_len,
-    replay, valid_range_bounds,
+    replay, valid_range_bounds, with_node,
 };
 pub use find::find_leaf;
 pub use insert::{InsertFault, InsertRefusal, text_toward};

@@ -14,6 +14,7 @@ use crate::inner_nodes::traits::node::InnerNodeCommon;
 use crate::iteration::bounds::byte_range;
 use crate::iteration::child_iter::ChildIter;
 use crate::pointers::OpaqueNodePtr;
+use crate::with_node;
 use art_header::{Header, NodeType};
 use std::alloc::{AllocError, Global};
 use std::ops::Bound;
@@ -45,24 +46,12 @@ fn gathered<K, V, const PREFIX_LEN: usize>(
     Ok(gathered)
 }
 
-// Evaluates an expression on the node, whichever kind it is.
-macro_rules! with_node {
-    ($any:expr, $node:ident => $run:expr) => {
-        match $any {
-            AnyInner::Node4($node) => $run,
-            AnyInner::Node16($node) => $run,
-            AnyInner::Node48($node) => $run,
-            AnyInner::Node256($node) => $run,
-        }
-    };
-}
-
 impl<K, V, const PREFIX_LEN: usize> AnyInner<K, V, PREFIX_LEN> {
     pub(crate) fn header(&self) -> &Header<PREFIX_LEN>
         ensures header { result.now ≡ header_of (inner_of self.now) }
         ensures sound { IsInner PREFIX_LEN (most_children (kind_of self.now)) (inner_of self.now) }
     {
-        with_node!(self, node => node.header())
+        with_node!(AnyInner, self, node => node.header())
     }
 
     pub(crate) fn num_children(&self) -> usize
@@ -86,7 +75,7 @@ impl<K, V, const PREFIX_LEN: usize> AnyInner<K, V, PREFIX_LEN> {
     pub(crate) fn lookup_child(&self, key_fragment: u8) -> Option<OpaqueNodePtr<K, V, PREFIX_LEN>>
         ensures { result ≡ child_at (inner_of self.now).children key_fragment }
     {
-        with_node!(self, node => node.lookup_child(key_fragment))
+        with_node!(AnyInner, self, node => node.lookup_child(key_fragment))
     }
 
     /// Writes the child under the byte and returns the one that was there. Condition: under a new
@@ -102,7 +91,7 @@ impl<K, V, const PREFIX_LEN: usize> AnyInner<K, V, PREFIX_LEN> {
             node_with_child (inner_of self.old) key_fragment child_pointer }
         ensures kind { kind_of self.new ≡ kind_of self.old }
     {
-        with_node!(self, node => node.insert_child(key_fragment, child_pointer))
+        with_node!(AnyInner, self, node => node.insert_child(key_fragment, child_pointer))
     }
 
     pub(crate) fn remove_child(
@@ -114,13 +103,13 @@ impl<K, V, const PREFIX_LEN: usize> AnyInner<K, V, PREFIX_LEN> {
         ensures sound { IsInner PREFIX_LEN (most_children (kind_of self.old)) (inner_of self.old) }
         ensures kind { kind_of self.new ≡ kind_of self.old }
     {
-        with_node!(self, node => node.remove_child(key_fragment))
+        with_node!(AnyInner, self, node => node.remove_child(key_fragment))
     }
 
     pub(crate) fn iter(&self) -> ChildIter<'_, K, V, PREFIX_LEN>
         ensures { result ≡ (inner_of self.now).children }
     {
-        with_node!(self, node => node.iter())
+        with_node!(AnyInner, self, node => node.iter())
     }
 
     pub(crate) fn min(&self) -> Option<(u8, OpaqueNodePtr<K, V, PREFIX_LEN>)>
@@ -148,7 +137,7 @@ impl<K, V, const PREFIX_LEN: usize> AnyInner<K, V, PREFIX_LEN> {
     {
         // There are no more pairs than children, nor than bytes within the bounds.
         let most = self.num_children().min(byte_range(start, end).len());
-        let pairs = with_node!(self, node => node.range(start, end));
+        let pairs = with_node!(AnyInner, self, node => node.range(start, end));
         gathered(alloc, pairs, most)
     }
 
