@@ -3,7 +3,7 @@ use Rattle.std.proofs.lemmas.Int.{to_z-of_z}
 use Rattle.index.specs.Fields.{IsTime}
 use Rattle.index.proofs.QueryLemmas.{anyway}
 use Rattle.index.proofs.ReadingLemmas.{no_comma, no_second, no_fields}
-use Rattle.index.proofs.reading.ReadingFromLine.from_line.Goals as goal
+use Rattle.index.proofs.reading.ReadingFromLineFault.from_line.Goals as goal
 
 pub returns-in_default-clause-refused : goal.returns-in_default-clause-refused
 returns-in_default-clause-refused c = no_comma c.args.line.now c.in_default.ensures.none

@@ -1,5 +1,5 @@
 use Rattle.index.proofs.QueryLemmas.{anyway, no_host_query}
-use Rattle.index.proofs.query.QueryFromLine.from_line.Goals as goal
+use Rattle.index.proofs.query.QueryFromLineFault.from_line.Goals as goal
 
 pub returns-in_err-address-clause-refused : goal.returns-in_err-address-clause-refused
 returns-in_err-address-clause-refused c =

@@ -1,5 +1,5 @@
 use Rattle.routes.proofs.LineLemmas.{anyway}
-use Rattle.routes.proofs.route.QueryFromLine.from_line.Goals as goal
+use Rattle.routes.proofs.route.QueryFromLineFault.from_line.Goals as goal
 
 pub returns-in_err-address-clause-refused : goal.returns-in_err-address-clause-refused
 returns-in_err-address-clause-refused c =
