@@ -5,12 +5,11 @@ ghost use Rattle.art_bytes.specs.CStringKey.{c_string_key_text};
 ghost use Rattle.art_bytes.specs.SliceKey.{slice_key_text};
 ghost use Rattle.art_bytes.specs.StrKey.{str_key_text};
 
-use crate::fixtures::{c_string, hash_of};
+use crate::fixtures::c_string;
 use art_bytes::{
     AsBytes, CStringKey, CStringKeyError, NoPrefixesBytes, OrderedBytes, SliceKey, StrKey,
 };
-use std::alloc::Global;
-use std::hash::{DefaultHasher, Hash, Hasher};
+use std::hash::{Hash, Hasher};
 use std::process::Abort;
 use std::rc::Rc;
 use std::test::Fail;
@@ -114,76 +113,12 @@ fn various_types_as_bytes(rt: HostRuntime) -> Result<(), Fail> {
 }
 
 #[test]
-fn arrays_and_wrapped_keys_ascend_and_none_begins_another(rt: HostRuntime) -> Result<(), Fail> {
+fn a_zero_byte_is_refused(rt: HostRuntime) -> Result<(), Fail> {
     let alloc = rt.alloc();
-    let pairs = [[0, 0], [0, 255], [1, 0], [127, 1], [128, 0]];
-    check_apart(&rt, &pairs);
-    check_no_prefixes(&rt, &[[0; 0]]);
-
-    let (low, high) = ([7, 200], [8, 0]);
-
-    let borrowed = [&low, &high];
-    check_apart(&rt, &borrowed);
-    let boxed = [Box::new(alloc, low)?, Box::new(alloc, high)?];
-    check_apart(&rt, &boxed);
-    let counted = [Rc::new(alloc, low)?, Rc::new(alloc, high)?];
-    check_apart(&rt, &counted);
-    Ok(())
-}
-
-// As Rust's derives on a struct of one field: the hash is that of the string, or of the bytes.
-#[test]
-fn borrowed_keys_hash_as_what_they_borrow(rt: HostRuntime) {
-    let mut hasher = DefaultHasher::new();
-    feed_str_key(&StrKey::new("hello world"), &mut hasher);
-    assert!(rt; hasher.finish() == hash_of(&"hello world"));
-
-    let mut hasher = DefaultHasher::new();
-    feed_slice_key(&SliceKey::new(HELLO), &mut hasher);
-    assert!(rt; hasher.finish() == hash_of(&HELLO));
-}
-
-// The bytes are refused, with the index of the first zero byte, and are returned.
-fn check_zero_at(rt: &impl Abort, alloc: Global, bytes: &[u8], first: usize) -> Result<(), Fail> {
-    let Err(
-        CStringKeyError::InteriorZero {
-            position,
-            bytes: back,
-        },
-    ) = CStringKey::new(bytes.to_vec(alloc)?)
-    else {
-        panic!(rt; "no zero was found");
-    };
-    assert!(rt; position == first);
-    assert!(rt; back.as_slice() == bytes);
-    Ok(())
-}
-
-#[test]
-fn c_strings_have_one_zero_the_last(rt: HostRuntime) -> Result<(), Fail> {
-    let alloc = rt.alloc();
-    let texts: [&[u8]; 6] = [b"", b"a", b"ab", b"b", b"\x7f", b"\xff"];
-    let mut keys = Vec::new(alloc);
-    for text in texts {
-        keys.push(c_string(alloc, text)?)?;
-    }
-    check_apart(&rt, &keys);
-    let long = vec![in alloc; 7; 1000]?;
-    assert!(rt; text_of(&c_string(alloc, &long)?).len() == 1001);
-
-    check_zero_at(&rt, alloc, &[1, 0, 2, 0], 1)?;
     let Err(refusal) = CStringKey::new(vec![in alloc; 1, 0]?) else {
         panic!(rt; "no zero was found");
     };
     assert!(rt; format!(in alloc; "{refusal}")?.as_str() == "zero byte at position 1");
-    let refusal = CStringKeyError::OutOfMemory {
-        bytes: Vec::new(alloc),
-    };
-    assert!(rt; format!(in alloc; "{refusal}")?.as_str() == "out of memory");
-
-    let mut hasher = DefaultHasher::new();
-    feed_c_string_key(&c_string(alloc, b"ab")?, &mut hasher);
-    assert!(rt; hasher.finish() == hash_of(&b"ab\0".as_slice()));
     Ok(())
 }
 

