@@ -21,3 +21,10 @@ text_prefix_is_whole is_in_domain stands_for text text_of has_text no_prefixes a
     let a_text = has_text a x.0 x.1 x.2 in
     let b_text = has_text b y.0 y.1 y.2 in
     a_text ∙ no_prefixes x.0 y.0 x.1 y.1 (rw (a_text, b_text) at front) ∙ sym b_text))
+
+-- a fact in two truncations, and in one
+pub out_of_two : {A : Type 0} → ∥ ∥ A ∥₁ ∥₁ → ∥ A ∥₁
+out_of_two some = ∥∥₁_elim some (hlevel props) (λ one. one)
+
+pub in_two : {A : Type 0} → ∥ A ∥₁ → ∥ ∥ A ∥₁ ∥₁
+in_two some = ∣ some ∣₁

@@ -3,21 +3,34 @@ ghost use Rattle.std.specs.Prelude.{◌≡◌, true, false};
 ghost use Rattle.std.specs.Vec.{vec_items};
 ghost use Rattle.std.proofs.Common.{ap, refl};
 ghost use Rattle.art_mapped.specs.Mapping.{HasTextOf};
-ghost use Rattle.art_mapped.specs.MappingLaws.{kept_by_text};
+ghost use Rattle.art_mapped.specs.MappingLaws.{kept_by_text, out_of_two, in_two};
 ghost use Rattle.art_mapped.specs.Sequences.{joined, IsArray};
 ghost use Rattle.art_mapped.specs.SequenceLaws.{same_from_joined, joined_keep, joined_prefix_is_whole};
+ghost use Rattle.art_mapped.specs.ValueBytes.{IsTextOfSome};
+ghost use Rattle.art_mapped.specs.VecLaws.{held_by_vec};
 
 use crate::element::Element;
 use crate::fixed::FixedBytes;
-use crate::mapping::{BytesMapping, InjectiveMapping, NoPrefixesMapping, OrderedMapping};
+use crate::mapping::{
+    BytesMapping, InjectiveMapping, NoPrefixesMapping, OrderedMapping, ValueTexts,
+};
 use crate::sequence::{IntegerForm, Joined, are_elements, array_of, joined_bytes};
+use crate::written::Written;
 use std::alloc::{AllocError, Global};
 
 /// Arrays of exactly `N` elements. Writing one takes memory, reading one does not.
-impl<F: IntegerForm, E: Element<F>, const N: usize> BytesMapping<[E; N]> for Joined<F> {
-    type Bytes = Vec<u8>;
+impl<F: IntegerForm, E: Written<F>, const N: usize> ValueTexts<[E; N]> for Joined<F> {
+    ghost has_value = { IsTextOfSome (IsArray N E.is_in_range) (joined E.text_of) };
+}
 
-    type Inner = E::Bytes;
+impl<F: IntegerForm, E: Element<F>, const N: usize> BytesMapping<[E; N]> for Joined<F> {
+    ghost known = { λ _ _ some. out_of_two some };
+
+    ghost shown = { λ _ some. in_two some };
+
+    ghost held = { λ other text fits _. held_by_vec (λ _. tt) other text fits };
+
+    type Bytes = Vec<u8>;
 
     const ALLOCATES: bool = true;
 

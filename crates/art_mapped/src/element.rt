@@ -1,13 +1,19 @@
 //! What integers and addresses share: bytes of one width, in the order of the values.
 ghost use Rattle.std.specs.Prelude.{◌≡◌, ◌≢◌, ℕ, List, false, IfSome, IfNone, refl};
-ghost use Rattle.std.proofs.Common.{ap};
+ghost use Rattle.std.proofs.Common.{ap, ◌∙◌};
+ghost use Rattle.std.specs.Prelude.{length};
 ghost use Rattle.art_mapped.specs.Elements.{KeepsOrder};
 ghost use Rattle.art_mapped.specs.Mapping.{HasTextOf};
-ghost use Rattle.art_mapped.specs.MappingLaws.{kept_by_text};
+ghost use Rattle.art_mapped.specs.MappingLaws.{kept_by_text, out_of_two, in_two};
+ghost use Rattle.art_mapped.specs.ValueBytes.{IsTextOfSome};
+ghost use Rattle.std.proofs.Math.Logic.{∥∥₁_map};
 ghost use Rattle.art_mapped.specs.SequenceLaws.{same_from_text, prefix_is_whole};
 
 use crate::fixed::FixedBytes;
-use crate::mapping::{BytesMapping, InjectiveMapping, NoPrefixesMapping, OrderedMapping};
+use crate::mapping::{
+    BytesMapping, InjectiveMapping, NoPrefixesMapping, OrderedMapping, ValueTexts,
+};
+use crate::written::Written;
 use std::alloc::{AllocError, Global};
 use std::marker::PhantomData;
 
@@ -24,31 +30,25 @@ use std::marker::PhantomData;
 /// // ..
 /// assert!(rt; element_back::<Unsigned, u64>(alloc, 1 << 40)? == 1 << 40);
 /// ```
-pub trait Element<F>: Copy + Ord {
+pub trait Element<F>: Written<F> + Copy + Ord {
     /// The bytes of a value.
     type Bytes: FixedBytes;
-
-    /// Which values the type has, as 0 to 65535 for `u16`.
-    ghost is_in_range: { Self → Type 0 };
-
-    /// The bytes of a value, as a list.
-    ghost text_of: { Self → List ℕ };
 
     /// The bytes of a value. Takes no memory.
     fn encode(self) -> Self::Bytes
         ensures key { Self.Bytes.is_key result }
-        ensures text { Self.Bytes.text result ≡ text_of self }
-        ensures in_range { is_in_range self };
+        ensures text { Self.Bytes.text result ≡ Self.text_of self }
+        ensures in_range { Self.is_in_range self };
 
     /// The value with these bytes, and `None` exactly where no value has them. Takes no memory.
     fn decode(bytes: Self::Bytes) -> Option<Self>
         ensures some { IfSome result (λ value.
-            is_in_range value × (Self.Bytes.text bytes ≡ text_of value)) }
-        ensures none { IfNone result ((value : Self) → is_in_range value →
-            Self.Bytes.text bytes ≢ text_of value) };
+            Self.is_in_range value × (Self.Bytes.text bytes ≡ Self.text_of value)) }
+        ensures none { IfNone result ((value : Self) → Self.is_in_range value →
+            Self.Bytes.text bytes ≢ Self.text_of value) };
 
     /// All values have bytes of one width, in the order of the values.
-    ghost keeps: { KeepsOrder is_in_range text_of Self.cmp Self.Bytes.WIDTH };
+    ghost keeps: { KeepsOrder Self.is_in_range Self.text_of Self.cmp Self.Bytes.WIDTH };
 }
 
 /// The mapping of one element to its bytes.
@@ -56,10 +56,19 @@ pub trait Element<F>: Copy + Ord {
 /// [`Element`] has an example.
 pub struct Single<F>(PhantomData<F>);
 
-impl<F, E: Element<F>> BytesMapping<E> for Single<F> {
-    type Bytes = E::Bytes;
+impl<F, E: Written<F>> ValueTexts<E> for Single<F> {
+    ghost has_value = { IsTextOfSome E.is_in_range E.text_of };
+}
 
-    type Inner = ();
+impl<F, E: Element<F>> BytesMapping<E> for Single<F> {
+    ghost known = { λ _ _ some. out_of_two some };
+
+    ghost shown = { λ _ some. in_two some };
+
+    ghost held = { λ _ text _ some. ∥∥₁_map (out_of_two some) (λ of.
+        E.Bytes.held text (ap length of.2 ∙ E.keeps.long of.0 of.1)) };
+
+    type Bytes = E::Bytes;
 
     const ALLOCATES: bool = false;
 

@@ -1,8 +1,11 @@
 //! The mapping of keys to themselves.
 ghost use Rattle.std.specs.Prelude.{◌≡◌, false, refl};
 ghost use Rattle.std.proofs.Math.Logic.{∥∥₁_map};
+ghost use Rattle.art_mapped.specs.MappingLaws.{out_of_two, in_two};
+ghost use Rattle.std.proofs.Common.{sym};
+ghost use Rattle.art_mapped.specs.ValueBytes.{IsTextOfSome};
 
-use crate::mapping::{BytesMapping, NoPrefixesMapping, prove_is_key};
+use crate::mapping::{BytesMapping, NoPrefixesMapping, ValueTexts, prove_is_key};
 use art_bytes::{AsBytes, NoPrefixesBytes};
 use std::alloc::{AllocError, Global};
 
@@ -22,10 +25,18 @@ use std::alloc::{AllocError, Global};
 #[derive(Debug)]
 pub struct Identity;
 
-impl<D: AsBytes + Drop> BytesMapping<D> for Identity {
-    type Bytes = D;
+impl<D: AsBytes> ValueTexts<D> for Identity {
+    ghost has_value = { IsTextOfSome D.is_key D.text };
+}
 
-    type Inner = ();
+impl<D: AsBytes + Drop> BytesMapping<D> for Identity {
+    ghost known = { λ bytes is_key some. ∥∥₁_map some (λ _. (bytes, is_key, refl)) };
+
+    ghost shown = { λ _ some. in_two (∥∥₁_map some (λ of. (of.0, of.1, Prim.cc))) };
+
+    ghost held = { λ _ _ _ some. ∥∥₁_map (out_of_two some) (λ of. (of.0, of.1, sym of.2)) };
+
+    type Bytes = D;
 
     const ALLOCATES: bool = false;
 

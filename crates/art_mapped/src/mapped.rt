@@ -2,7 +2,7 @@
 ghost use Rattle.std.specs.Prelude.{◌≡◌, IsOk, IfOk, false};
 ghost use Rattle.art_mapped.specs.Mapping.{StandsForSome};
 
-use crate::mapping::{BytesMapping, NoPrefixesMapping, OrderedMapping, prove_is_key};
+use crate::mapping::{BytesMapping, NoPrefixesMapping, OrderedMapping, ValueTexts, prove_is_key};
 use art_bytes::{AsBytes, NoPrefixesBytes, OrderedBytes};
 use std::alloc::{AllocError, Global};
 use std::cmp::Ordering;
@@ -26,22 +26,25 @@ use std::marker::PhantomData;
 /// assert!(rt; key != other);
 /// assert!(rt; key.partial_cmp(&other) == Some(Ordering::Less));
 /// ```
-pub struct Mapped<B: BytesMapping<D>, D> {
-    repr: B::Bytes,
-    mapping: PhantomData<(B, D, B::Inner)>,
-    ghost of_a_value: { StandsForSome B.is_in_domain B.stands_for repr },
+pub struct MappedOver<B: ValueTexts<D>, D, K: AsBytes> {
+    repr: K,
+    mapping: PhantomData<(B, D)>,
+    ghost of_a_value: { ∥ B.has_value (K.text repr) ∥₁ },
 }
 
-impl<B: BytesMapping<D>, D> Drop for Mapped<B, D> {
+/// A key made of a value of `D` by the mapping `B`, as [`MappedOver`] says.
+pub type Mapped<B, D> = MappedOver<B, D, <B as BytesMapping<D>>::Bytes>;
+
+impl<B: ValueTexts<D>, D, K: AsBytes + Drop> Drop for MappedOver<B, D, K> {
     fn drop(self) {
-        let Mapped {
+        let MappedOver {
             repr: _,
             mapping: _,
         } = self;
     }
 }
 
-impl<B: BytesMapping<D>, D> Mapped<B, D> {
+impl<K: AsBytes + Drop, B: BytesMapping<D, Bytes = K>, D> MappedOver<B, D, K> {
     ghost use Rattle.art_mapped.specs.Mapped.{mapped_bytes, mapped_text, HoldsValue};
 
     /// The key of a value. Its bytes are those of the value under `B`.
@@ -49,12 +52,13 @@ impl<B: BytesMapping<D>, D> Mapped<B, D> {
     /// Error: [`AllocError`] on an allocation failure, and never where `B::ALLOCATES` is false. The
     /// value has then been dropped.
     pub fn new(alloc: Global, value: D) -> Result<Self, AllocError>
-        ensures value { IfOk result (λ mapped. HoldsValue mapped value) }
+        ensures value { IfOk result (λ mapped. HoldsValue B.is_in_domain B.stands_for mapped value) }
         ensures text { IfOk result (λ mapped. mapped_text mapped ≡ B.text_of value) }
         ensures takes_no_memory { B.ALLOCATES ≡ false → IsOk result }
     {
         let repr = B::to_bytes(alloc, value)?;
-        Ok(Mapped {
+        prove_is_key(&repr);
+        Ok(MappedOver {
             repr,
             mapping: PhantomData,
         })
@@ -65,13 +69,14 @@ impl<B: BytesMapping<D>, D> Mapped<B, D> {
     /// Error: [`AllocError`] on an allocation failure, and never where `B::READ_ALLOCATES` is
     /// false. The key has then been dropped.
     pub fn get(self, alloc: Global) -> Result<D, AllocError>
-        ensures value { IfOk result (λ read. HoldsValue self read) }
+        ensures value { IfOk result (λ read. HoldsValue B.is_in_domain B.stands_for self read) }
         ensures text { IfOk result (λ read. mapped_text self ≡ B.text_of read) }
-        ensures inverts { (value : D) → HoldsValue self value →
+        ensures inverts { (value : D) → HoldsValue B.is_in_domain B.stands_for self value →
             IfOk result (λ read. B.are_same read value) }
         ensures takes_no_memory { B.READ_ALLOCATES ≡ false → IsOk result }
     {
-        let Mapped { repr, mapping: _ } = self;
+        let MappedOver { repr, mapping: _ } = self;
+        prove_is_key(&repr);
         B::from_bytes(alloc, repr)
     }
 
@@ -82,21 +87,21 @@ impl<B: BytesMapping<D>, D> Mapped<B, D> {
     /// unchanged.
     pub fn clone(&self) -> Result<Self, AllocError>
     where
-        B::Bytes: Clone,
-        requires { (bytes : B.Bytes) → B.Bytes.is_clone (mapped_bytes self.now) bytes →
-            B.Bytes.text bytes ≡ mapped_text self.now }
+        K: Clone,
+        requires { (bytes : K) → K.is_clone (mapped_bytes self.now) bytes →
+            K.text bytes ≡ mapped_text self.now }
         ensures bytes { IfOk result (λ mapped.
-            B.Bytes.is_clone (mapped_bytes self.now) (mapped_bytes mapped)) }
+            K.is_clone (mapped_bytes self.now) (mapped_bytes mapped)) }
         ensures text { IfOk result (λ mapped. mapped_text mapped ≡ mapped_text self.now) }
-        ensures value { (value : D) → HoldsValue self.now value →
-            ((bytes : B.Bytes) → B.Bytes.is_clone (mapped_bytes self.now) bytes →
+        ensures value { (value : D) → HoldsValue B.is_in_domain B.stands_for self.now value →
+            ((bytes : K) → K.is_clone (mapped_bytes self.now) bytes →
             B.stands_for bytes value) →
-            IfOk result (λ mapped. HoldsValue mapped value) }
-        ensures takes_no_memory { B.Bytes.is_infallible (mapped_bytes self.now) → IsOk result }
+            IfOk result (λ mapped. HoldsValue B.is_in_domain B.stands_for mapped value) }
+        ensures takes_no_memory { K.is_infallible (mapped_bytes self.now) → IsOk result }
     {
         let repr = self.repr.clone()?;
         prove_is_key(&repr);
-        Ok(Mapped {
+        Ok(MappedOver {
             repr,
             mapping: PhantomData,
         })
@@ -104,12 +109,12 @@ impl<B: BytesMapping<D>, D> Mapped<B, D> {
 }
 
 /// The bytes of the key are those of its value.
-impl<B: BytesMapping<D>, D> AsBytes for Mapped<B, D> {
+impl<B: ValueTexts<D>, D, K: AsBytes> AsBytes for MappedOver<B, D, K> {
     ghost use Rattle.art_mapped.specs.Mapped.{mapped_bytes, mapped_text};
 
     ghost text = { mapped_text };
 
-    ghost is_key = { λ mapped. StandsForSome B.is_in_domain B.stands_for (mapped_bytes mapped) };
+    ghost is_key = { λ mapped. K.is_key (mapped_bytes mapped) × ∥ B.has_value (mapped_text mapped) ∥₁ };
 
     fn as_bytes(&self) -> &[u8] {
         self.repr.as_bytes()
@@ -118,15 +123,17 @@ impl<B: BytesMapping<D>, D> AsBytes for Mapped<B, D> {
 
 /// No key is a proper prefix of another where the mapping has that law: for integers, addresses,
 /// arrays and tuples, and under [`Identity`] where the keys have it. Vectors do not.
-impl<B: NoPrefixesMapping<D>, D> NoPrefixesBytes for Mapped<B, D> {
+impl<K: AsBytes, B: NoPrefixesMapping<D> + BytesMapping<D, Bytes = K>, D> NoPrefixesBytes
+    for MappedOver<B, D, K> {
     ghost use Rattle.art_mapped.specs.MappingLaws.{text_prefix_is_whole};
 
     ghost no_prefixes = { λ a b a_some b_some.
-        text_prefix_is_whole _ _ _ _ B.has_text B.no_prefixes a.repr b.repr a_some b_some };
+        text_prefix_is_whole _ _ _ _ B.has_text B.no_prefixes a.repr b.repr
+        (B.known a.repr a_some.0 a_some.1) (B.known b.repr b_some.0 b_some.1) };
 }
 
 /// Keys are equal where their bytes are.
-impl<B: BytesMapping<D>, D> PartialEq for Mapped<B, D> {
+impl<B: ValueTexts<D>, D, K: AsBytes> PartialEq for MappedOver<B, D, K> {
     ghost use Rattle.std.specs.Prelude.{nat_eq};
     ghost use Rattle.std.specs.Ordering.{on};
     ghost use Rattle.std.specs.Cmp.{partial_equiv_from_equiv};
@@ -143,7 +150,7 @@ impl<B: BytesMapping<D>, D> PartialEq for Mapped<B, D> {
     }
 }
 
-impl<B: BytesMapping<D>, D> Eq for Mapped<B, D> {
+impl<B: ValueTexts<D>, D, K: AsBytes> Eq for MappedOver<B, D, K> {
     ghost use Rattle.std.proofs.lemmas.Cmp.{on_equiv, nat_list_eq_equiv};
     ghost use Rattle.art_mapped.specs.Mapped.{mapped_text};
 
@@ -151,7 +158,7 @@ impl<B: BytesMapping<D>, D> Eq for Mapped<B, D> {
 }
 
 /// A key is hashed by its bytes.
-impl<B: BytesMapping<D>, D> Hash for Mapped<B, D> {
+impl<B: ValueTexts<D>, D, K: AsBytes> Hash for MappedOver<B, D, K> {
     ghost use Rattle.std.proofs.Common.{rules};
     ghost use Rattle.std.specs.Cmp.Rules.{hashing};
     ghost use Rattle.std.specs.Hash as fed;
@@ -167,7 +174,8 @@ impl<B: BytesMapping<D>, D> Hash for Mapped<B, D> {
 }
 
 /// Keys of an ordered mapping have the order of their bytes, which is that of the values.
-impl<B: OrderedMapping<D>, D: Ord> Ord for Mapped<B, D> {
+impl<K: AsBytes, B: OrderedMapping<D> + BytesMapping<D, Bytes = K>, D: Ord> Ord
+    for MappedOver<B, D, K> {
     ghost use Rattle.std.specs.Ordering.{on};
     ghost use Rattle.std.proofs.Common.{rules};
     ghost use Rattle.std.specs.Cmp.Rules.{comparing};
@@ -185,14 +193,15 @@ impl<B: OrderedMapping<D>, D: Ord> Ord for Mapped<B, D> {
 
     fn cmp(&self, other: &Self) -> Ordering
         ensures texts { result ≡ text_order (mapped_text self.now) (mapped_text other.now) }
-        ensures values { (x y : D) → HoldsValue self.now x → HoldsValue other.now y →
+        ensures values { (x y : D) → HoldsValue B.is_in_domain B.stands_for self.now x → HoldsValue B.is_in_domain B.stands_for other.now y →
             result ≡ D.cmp x y }
     {
         self.as_bytes().cmp(other.as_bytes())
     }
 }
 
-impl<B: OrderedMapping<D>, D: Ord> PartialOrd for Mapped<B, D> {
+impl<K: AsBytes, B: OrderedMapping<D> + BytesMapping<D, Bytes = K>, D: Ord> PartialOrd
+    for MappedOver<B, D, K> {
     ghost use Rattle.std.specs.Ordering.{on, as_partial_cmp};
     ghost use Rattle.std.proofs.Common.{rules};
     ghost use Rattle.std.specs.Cmp.{partial_order_from_own_ties};
@@ -210,7 +219,8 @@ impl<B: OrderedMapping<D>, D: Ord> PartialOrd for Mapped<B, D> {
     }
 }
 
-impl<B: OrderedMapping<D>, D: Ord> OrderedBytes for Mapped<B, D> {
+impl<K: AsBytes, B: OrderedMapping<D> + BytesMapping<D, Bytes = K>, D: Ord> OrderedBytes
+    for MappedOver<B, D, K> {
     ghost use Rattle.std.specs.Prelude.{refl};
 
     ghost ordered = { λ _ _ _ _. refl };

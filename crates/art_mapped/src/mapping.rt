@@ -1,10 +1,18 @@
 //! Mappings between values and bytes, and their laws.
-ghost use Rattle.std.specs.Prelude.{◌≡◌, ◌↔◌, ℕ, List, Bool, false, IsTrue, IsOk, IfOk, OnErr, IfSome, IfNone};
+ghost use Rattle.std.specs.Vec.{vec_items};
+ghost use Rattle.std.specs.declared.alloc.Global.{Global};
+ghost use Rattle.std.specs.Prelude.{◌≤◌, length, Vec, ◌≡◌, ◌↔◌, ℕ, List, Bool, false, IsTrue, IsOk, IfOk, OnErr, IfSome, IfNone};
 ghost use Rattle.art_bytes.specs.Text.{IsPrefixOf, text_order};
 ghost use Rattle.art_mapped.specs.Mapping.{StandsForSome};
 
 use art_bytes::AsBytes;
 use std::alloc::{AllocError, Global};
+
+/// Which lists of bytes are those of a value, under a mapping. A key names this trait alone.
+pub trait ValueTexts<D> {
+    /// The list is the bytes of some value.
+    ghost has_value: { List ℕ → Type 0 };
+}
 
 /// A reversible conversion of the values of a domain `D` to bytes.
 ///
@@ -18,16 +26,9 @@ use std::alloc::{AllocError, Global};
 /// assert!(rt; <ToIBE as BytesMapping<[i16; 2]>>::is_value(&bytes));
 /// assert!(rt; <ToIBE as BytesMapping<[i16; 2]>>::from_bytes(alloc, bytes)? == [-1, 0]);
 /// ```
-pub trait BytesMapping<D> {
+pub trait BytesMapping<D>: ValueTexts<D> {
     /// The bytes that a value is converted to.
     type Bytes: AsBytes + Drop;
-
-    /// The types behind the mapping that neither `Self` nor `D` names: `Single<Unsigned>` for `ToUBE`
-    /// at `u32`. `()` where there are none, and for tuples.
-    ///
-    /// A `Mapped` names them, so that a function which takes a key can pass it on: the check reads
-    /// the parameters of an impl from the types in a signature.
-    type Inner;
 
     /// Whether `to_bytes` takes memory. Where it is false, `to_bytes` never fails.
     const ALLOCATES: bool;
@@ -93,6 +94,19 @@ pub trait BytesMapping<D> {
             Ok(None)
         }
     }
+
+    /// A key with the bytes of some value stands for some value.
+    ghost known: { (bytes : Self.Bytes) → Self.Bytes.is_key bytes →
+        ∥ Self.has_value (Self.Bytes.text bytes) ∥₁ → StandsForSome is_in_domain stands_for bytes };
+
+    /// A key that stands for some value has the bytes of some value.
+    ghost shown: { (bytes : Self.Bytes) → StandsForSome is_in_domain stands_for bytes →
+        ∥ Self.has_value (Self.Bytes.text bytes) ∥₁ };
+
+    /// The bytes of a value are those of some key, where they are no more than some vector has.
+    ghost held: { (other : Vec ℕ Global) (text : List ℕ) → length text ≤ length (vec_items other) →
+        ∥ Self.has_value text ∥₁ →
+        ∥ ((bytes : Self.Bytes) × Self.Bytes.is_key bytes × (Self.Bytes.text bytes ≡ text)) ∥₁ };
 
     /// The bytes that stand for a value are its bytes.
     ghost has_text: { (bytes : Self.Bytes) (value : D) → is_in_domain value →

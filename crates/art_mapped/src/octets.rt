@@ -4,13 +4,13 @@ ghost use Rattle.art_mapped.specs.Addresses.{IsIpv4, IsIpv6};
 ghost use Rattle.art_mapped.specs.AddressLaws.{ipv4_keep, ipv6_keep};
 
 use crate::element::{Element, Single};
-use crate::written::{Domain, ToBigEndian};
+use crate::written::{Domain, ToBigEndian, Written};
 use std::net::{Ipv4Addr, Ipv6Addr};
 
 /// The form of IP addresses: their octets in order.
 ///
 /// [`ToBigEndian`] has an example.
-pub struct Octets;
+pub type Octets = char;
 
 /// IP addresses, `Ipv4Addr` and `Ipv6Addr`, as their 4 or 16 octets in order. Takes no memory.
 ///
@@ -29,14 +29,20 @@ pub type ToOctets = ToBigEndian<Octets>;
 
 impl Domain<Octets> for Ipv4Addr {
     type Mapping = Single<Octets>;
+
+    ghost agrees = { λ _. (λ some. some, λ some. some) };
 }
 
-impl Element<Octets> for Ipv4Addr {
-    type Bytes = [u8; 4];
+impl Written<Octets> for Ipv4Addr {
+    type By = ToBigEndian<Octets>;
 
     ghost is_in_range = { IsIpv4 };
 
     ghost text_of = { ipv4_octets };
+}
+
+impl Element<Octets> for Ipv4Addr {
+    type Bytes = [u8; 4];
 
     ghost keeps = { ipv4_keep };
 
@@ -51,14 +57,20 @@ impl Element<Octets> for Ipv4Addr {
 
 impl Domain<Octets> for Ipv6Addr {
     type Mapping = Single<Octets>;
+
+    ghost agrees = { λ _. (λ some. some, λ some. some) };
 }
 
-impl Element<Octets> for Ipv6Addr {
-    type Bytes = [u8; 16];
+impl Written<Octets> for Ipv6Addr {
+    type By = ToBigEndian<Octets>;
 
     ghost is_in_range = { IsIpv6 };
 
     ghost text_of = { ipv6_octets };
+}
+
+impl Element<Octets> for Ipv6Addr {
+    type Bytes = [u8; 16];
 
     ghost keeps = { ipv6_keep };
 

@@ -1,11 +1,17 @@
 //! Tuples as their bytes joined.
-ghost use Rattle.std.specs.Prelude.{◌≡◌, true, refl};
+ghost use Rattle.std.specs.Prelude.{◌≡◌, ◌++◌, ℕ, List, true, refl};
 ghost use Rattle.std.specs.Vec.{vec_items};
 ghost use Rattle.std.proofs.Common.{◌∙◌};
-ghost use Rattle.art_mapped.specs.TupleLaws.{kept_by_items, same_from_one_text, wide_prefix_is_whole};
+ghost use Rattle.art_mapped.specs.TupleLaws.{tuple_known, tuple_shown, kept_by_items, same_from_one_text, wide_prefix_is_whole};
+ghost use Rattle.std.specs.Prelude.{◌↔◌};
+ghost use Rattle.std.proofs.Math.Logic.{∥∥₁_map};
+ghost use Rattle.art_mapped.specs.Tuples.{IsJoined};
+ghost use Rattle.art_mapped.specs.VecLaws.{held_by_vec};
 
-use crate::joint::{Joint, OrderedJoint, Part, Then};
-use crate::mapping::{BytesMapping, InjectiveMapping, NoPrefixesMapping, OrderedMapping};
+use crate::joint::{Joint, JointTexts, OrderedJoint, Part, Then};
+use crate::mapping::{
+    BytesMapping, InjectiveMapping, NoPrefixesMapping, OrderedMapping, ValueTexts,
+};
 use std::alloc::{AllocError, Global};
 use std::marker::PhantomData;
 
@@ -98,16 +104,167 @@ pub trait OrderedTuple<P: Ord>: TupleValues<Pairs = P> + Ord {
     ghost same_order: { (x y : Self) → Self.cmp x y ≡ P.cmp (Self.in_pairs x) (Self.in_pairs y) };
 }
 
+impl<A, B, M0: ValueTexts<A>, M1: ValueTexts<B>> PartTexts<(A, B)> for (M0, M1) {
+    ghost has_value = { IsJoined M0.has_value M1.has_value };
+}
+
+impl<A, B, M0: ValueTexts<A>, M1: ValueTexts<B>> TupleTexts<
+    (A, B),
+    (A, B),
+    Then<Part<M0>, Part<M1>>,
+> for (M0, M1) {
+    ghost agrees = { λ _. (λ some. some, λ some. some) };
+}
+
+impl<A, B, C, M0: ValueTexts<A>, M1: ValueTexts<B>, M2: ValueTexts<C>> PartTexts<(A, B, C)>
+    for (M0, M1, M2) {
+    ghost has_value = { IsJoined (IsJoined M0.has_value M1.has_value) M2.has_value };
+}
+
+impl<A, B, C, M0: ValueTexts<A>, M1: ValueTexts<B>, M2: ValueTexts<C>> TupleTexts<
+    (A, B, C),
+    ((A, B), C),
+    Then<Then<Part<M0>, Part<M1>>, Part<M2>>,
+> for (M0, M1, M2) {
+    ghost agrees = { λ _. (λ some. some, λ some. some) };
+}
+
+impl<
+    A,
+    B,
+    C,
+    D,
+    M0: ValueTexts<A>,
+    M1: ValueTexts<B>,
+    M2: ValueTexts<C>,
+    M3: ValueTexts<D>,
+> PartTexts<(A, B, C, D)> for (M0, M1, M2, M3) {
+    ghost has_value = { IsJoined (IsJoined (IsJoined M0.has_value M1.has_value) M2.has_value) M3.has_value };
+}
+
+impl<
+    A,
+    B,
+    C,
+    D,
+    M0: ValueTexts<A>,
+    M1: ValueTexts<B>,
+    M2: ValueTexts<C>,
+    M3: ValueTexts<D>,
+> TupleTexts<
+    (A, B, C, D),
+    (((A, B), C), D),
+    Then<Then<Then<Part<M0>, Part<M1>>, Part<M2>>, Part<M3>>,
+> for (M0, M1, M2, M3) {
+    ghost agrees = { λ _. (λ some. some, λ some. some) };
+}
+
+impl<
+    A,
+    B,
+    C,
+    D,
+    E,
+    M0: ValueTexts<A>,
+    M1: ValueTexts<B>,
+    M2: ValueTexts<C>,
+    M3: ValueTexts<D>,
+    M4: ValueTexts<E>,
+> PartTexts<(A, B, C, D, E)> for (M0, M1, M2, M3, M4) {
+    ghost has_value = { IsJoined (IsJoined (IsJoined (IsJoined M0.has_value M1.has_value) M2.has_value) M3.has_value) M4.has_value };
+}
+
+impl<
+    A,
+    B,
+    C,
+    D,
+    E,
+    M0: ValueTexts<A>,
+    M1: ValueTexts<B>,
+    M2: ValueTexts<C>,
+    M3: ValueTexts<D>,
+    M4: ValueTexts<E>,
+> TupleTexts<
+    (A, B, C, D, E),
+    ((((A, B), C), D), E),
+    Then<Then<Then<Then<Part<M0>, Part<M1>>, Part<M2>>, Part<M3>>, Part<M4>>,
+> for (M0, M1, M2, M3, M4) {
+    ghost agrees = { λ _. (λ some. some, λ some. some) };
+}
+
+impl<
+    A,
+    B,
+    C,
+    D,
+    E,
+    F,
+    M0: ValueTexts<A>,
+    M1: ValueTexts<B>,
+    M2: ValueTexts<C>,
+    M3: ValueTexts<D>,
+    M4: ValueTexts<E>,
+    M5: ValueTexts<F>,
+> PartTexts<(A, B, C, D, E, F)> for (M0, M1, M2, M3, M4, M5) {
+    ghost has_value = { IsJoined (IsJoined (IsJoined (IsJoined (IsJoined M0.has_value M1.has_value) M2.has_value) M3.has_value) M4.has_value) M5.has_value };
+}
+
+impl<
+    A,
+    B,
+    C,
+    D,
+    E,
+    F,
+    M0: ValueTexts<A>,
+    M1: ValueTexts<B>,
+    M2: ValueTexts<C>,
+    M3: ValueTexts<D>,
+    M4: ValueTexts<E>,
+    M5: ValueTexts<F>,
+> TupleTexts<
+    (A, B, C, D, E, F),
+    (((((A, B), C), D), E), F),
+    Then<Then<Then<Then<Then<Part<M0>, Part<M1>>, Part<M2>>, Part<M3>>, Part<M4>>, Part<M5>>,
+> for (M0, M1, M2, M3, M4, M5) {
+    ghost agrees = { λ _. (λ some. some, λ some. some) };
+}
+
+/// Which lists of bytes are those of a tuple. The trait is for the tuples of this crate.
+pub trait PartTexts<D> {
+    /// The list is the bytes of some tuple.
+    ghost has_value: { List ℕ → Type 0 };
+}
+
+impl<D, T: PartTexts<D>> ValueTexts<D> for ConcatTuple<T> {
+    ghost has_value = { T.has_value };
+}
+
+/// The texts of a tuple are those of its nested pairs. The trait is for the tuples of this crate.
+pub trait TupleTexts<D, P, J: JointTexts<P>>: PartTexts<D> {
+    /// The texts of a tuple are those of its nested pairs.
+    ghost agrees: { (text : List ℕ) → Self.has_value text ↔ J.has_value text };
+}
+
 /// Writing a tuple takes memory. Reading one does where reading a part does.
 impl<N, D, P, J, T> BytesMapping<D> for ConcatTuple<T>
 where
     D: TupleValues<PartCount = N, Pairs = P> + Drop,
     J: Joint<P>,
-    T: TupleMappings<PartCount = N, Joint = J>,
+    T: TupleMappings<PartCount = N, Joint = J> + TupleTexts<D, P, J>,
 {
-    type Bytes = Vec<u8>;
+    ghost known = { λ bytes _ some.
+        tuple_known D.in_pairs D.flat D.pairs_flat J.is_in_domain J.stands_for J.has_value
+        (vec_items bytes) (J.known bytes) (∥∥₁_map some (T.agrees _).0) };
 
-    type Inner = ();
+    ghost shown = { λ bytes some. ∥∥₁_map
+        (tuple_shown D.in_pairs J.is_in_domain J.stands_for J.has_value J.shown
+        (vec_items bytes) some) (T.agrees _).1 };
+
+    ghost held = { λ other text fits _. held_by_vec (λ _. tt) other text fits };
+
+    type Bytes = Vec<u8>;
 
     const ALLOCATES: bool = true;
 
@@ -154,7 +311,7 @@ impl<N, D, P, J, T> InjectiveMapping<D> for ConcatTuple<T>
 where
     D: TupleValues<PartCount = N, Pairs = P> + Drop,
     J: Joint<P>,
-    T: TupleMappings<PartCount = N, Joint = J>,
+    T: TupleMappings<PartCount = N, Joint = J> + TupleTexts<D, P, J>,
 {
     ghost decided_by_text = { λ x y. same_from_one_text J.laws (D.in_pairs x) (D.in_pairs y) };
 }
@@ -164,7 +321,7 @@ where
     D: OrderedTuple<P> + TupleValues<PartCount = N, Pairs = P> + Drop,
     P: Ord,
     J: OrderedJoint<P>,
-    T: TupleMappings<PartCount = N, Joint = J>,
+    T: TupleMappings<PartCount = N, Joint = J> + TupleTexts<D, P, J>,
 {
     ghost keeps_order = { λ x y x_in y_in.
         D.same_order x y ∙ J.order.keeps (D.in_pairs x) (D.in_pairs y) x_in y_in };
@@ -174,7 +331,7 @@ impl<N, D, P, J, T> NoPrefixesMapping<D> for ConcatTuple<T>
 where
     D: TupleValues<PartCount = N, Pairs = P> + Drop,
     J: Joint<P>,
-    T: TupleMappings<PartCount = N, Joint = J>,
+    T: TupleMappings<PartCount = N, Joint = J> + TupleTexts<D, P, J>,
 {
     ghost no_prefixes = { λ x y. wide_prefix_is_whole J.laws (D.in_pairs x) (D.in_pairs y) };
 }

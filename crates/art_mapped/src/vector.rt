@@ -3,21 +3,33 @@ ghost use Rattle.std.specs.Prelude.{◌≡◌, true};
 ghost use Rattle.std.specs.Vec.{vec_items};
 ghost use Rattle.std.proofs.Common.{ap, refl};
 ghost use Rattle.art_mapped.specs.Mapping.{HasTextOf};
-ghost use Rattle.art_mapped.specs.MappingLaws.{kept_by_text};
+ghost use Rattle.art_mapped.specs.MappingLaws.{kept_by_text, out_of_two, in_two};
 ghost use Rattle.art_mapped.specs.Sequences.{joined, IsVec, vec_text};
 ghost use Rattle.art_mapped.specs.SequenceLaws.{same_from_joined, joined_keep};
+ghost use Rattle.art_mapped.specs.ValueBytes.{IsTextOfSome};
+ghost use Rattle.art_mapped.specs.VecLaws.{held_by_vec};
+ghost use Rattle.std.specs.declared.alloc.Global.{Global as GlobalAlloc};
 
 use crate::element::Element;
-use crate::mapping::{BytesMapping, InjectiveMapping, OrderedMapping};
+use crate::mapping::{BytesMapping, InjectiveMapping, OrderedMapping, ValueTexts};
 use crate::sequence::{IntegerForm, Joined, are_elements, joined_bytes, vec_of};
+use crate::written::Written;
 use std::alloc::{AllocError, Global};
 
 /// Vectors of any length; a proper prefix of a vector sorts before it. Writing and reading take
 /// memory. The bytes of one vector may be a prefix of another's, so these keys have no prefix law.
-impl<F: IntegerForm, E: Element<F>> BytesMapping<Vec<E>> for Joined<F> {
-    type Bytes = Vec<u8>;
+impl<F: IntegerForm, E: Written<F>> ValueTexts<Vec<E>> for Joined<F> {
+    ghost has_value = { IsTextOfSome (IsVec {A = GlobalAlloc} E.is_in_range) (vec_text {A = GlobalAlloc} E.text_of) };
+}
 
-    type Inner = E::Bytes;
+impl<F: IntegerForm, E: Element<F>> BytesMapping<Vec<E>> for Joined<F> {
+    ghost known = { λ _ _ some. out_of_two some };
+
+    ghost shown = { λ _ some. in_two some };
+
+    ghost held = { λ other text fits _. held_by_vec (λ _. tt) other text fits };
+
+    type Bytes = Vec<u8>;
 
     const ALLOCATES: bool = true;
 

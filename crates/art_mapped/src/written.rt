@@ -1,6 +1,13 @@
 //! The mappings of integers and addresses: one type, generic in the form of its elements.
+ghost use Rattle.std.specs.Prelude.{◌↔◌, ℕ, List};
+ghost use Rattle.art_mapped.specs.Sequences.{joined, IsArray, IsVec, vec_text};
+ghost use Rattle.art_mapped.specs.ValueBytes.{IsTextOfSome};
+ghost use Rattle.std.proofs.Math.Logic.{∥∥₁_map};
+
 use crate::element::{Element, Single};
-use crate::mapping::{BytesMapping, InjectiveMapping, NoPrefixesMapping, OrderedMapping};
+use crate::mapping::{
+    BytesMapping, InjectiveMapping, NoPrefixesMapping, OrderedMapping, ValueTexts,
+};
 use crate::sequence::{IntegerForm, Joined};
 use std::alloc::{AllocError, Global};
 use std::marker::PhantomData;
@@ -21,27 +28,72 @@ use std::marker::PhantomData;
 /// ```
 pub struct ToBigEndian<F>(PhantomData<F>);
 
+/// Which values a mapping of the form `F` takes, and their bytes.
+pub trait Written<F> {
+    /// The mapping by which keys hold the values.
+    type By;
+
+    /// Which values the type has, as 0 to 65535 for `u16`.
+    ghost is_in_range: { Self → Type 0 };
+
+    /// The bytes of a value, as a list.
+    ghost text_of: { Self → List ℕ };
+}
+
+impl<F: IntegerForm, E: Written<F>, const N: usize> Written<F> for [E; N] {
+    type By = ToBigEndian<F>;
+
+    ghost is_in_range = { IsArray N E.is_in_range };
+
+    ghost text_of = { joined E.text_of };
+}
+
+impl<F: IntegerForm, E: Written<F>> Written<F> for Vec<E> {
+    type By = ToBigEndian<F>;
+
+    ghost is_in_range = { IsVec E.is_in_range };
+
+    ghost text_of = { vec_text E.text_of };
+}
+
 /// What a mapping of the form `F` takes: one element, or an array or a vector of integers.
 ///
 /// [`ToBigEndian`] has an example.
-pub trait Domain<F>: Ord {
+pub trait Domain<F>: Written<F> + Ord {
+    /// The mapping has the values of the domain, with their bytes.
+    ghost agrees: { (text : List ℕ) → IsTextOfSome Self.is_in_range Self.text_of text ↔ Self.Mapping.has_value text };
+
     /// How a value is written: as one element, or as several joined.
     type Mapping: OrderedMapping<Self>;
 }
 
 impl<F: IntegerForm, E: Element<F>, const N: usize> Domain<F> for [E; N] {
     type Mapping = Joined<F>;
+
+    ghost agrees = { λ _. (λ some. some, λ some. some) };
 }
 
 impl<F: IntegerForm, E: Element<F>> Domain<F> for Vec<E> {
     type Mapping = Joined<F>;
+
+    ghost agrees = { λ _. (λ some. some, λ some. some) };
+}
+
+impl<F, D: Written<F>> ValueTexts<D> for ToBigEndian<F> {
+    ghost has_value = { IsTextOfSome D.is_in_range D.text_of };
 }
 
 /// One element or several.
 impl<F, D: Domain<F>> BytesMapping<D> for ToBigEndian<F> {
-    type Bytes = <D::Mapping as BytesMapping<D>>::Bytes;
+    ghost known = { λ bytes is_key some.
+        D.Mapping.known bytes is_key (∥∥₁_map some (D.agrees _).0) };
 
-    type Inner = (D::Mapping, <D::Mapping as BytesMapping<D>>::Inner);
+    ghost shown = { λ bytes some. ∥∥₁_map (D.Mapping.shown bytes some) (D.agrees _).1 };
+
+    ghost held = { λ other text fits some.
+        D.Mapping.held other text fits (∥∥₁_map some (D.agrees _).0) };
+
+    type Bytes = <D::Mapping as BytesMapping<D>>::Bytes;
 
     const ALLOCATES: bool = <D::Mapping as BytesMapping<D>>::ALLOCATES;
 

@@ -1,5 +1,5 @@
 use Rattle.std.proofs.Common.{rules}
-use Rattle.art_mapped.proofs.mapped.MappedOrd.cmp.Goals as goal
+use Rattle.art_mapped.proofs.mapped.MappedOverOrd.cmp.Goals as goal
 
 pub returns-clause-texts : goal.returns-clause-texts
 returns-clause-texts g c = search rules
