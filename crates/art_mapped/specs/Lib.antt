@@ -2,6 +2,8 @@ pub mod AddressLaws
 pub mod Addresses
 pub mod DigitLaws
 pub mod Elements
+pub mod Escaped
+pub mod EscapedLaws
 pub mod Mapped
 pub mod Mapping
 pub mod MappingLaws

@@ -12,6 +12,7 @@
 
 mod array;
 mod element;
+mod escaped;
 mod fixed;
 mod identity;
 mod joint;
@@ -28,6 +29,7 @@ mod vector;
 mod written;
 
 pub use element::{Element, Single};
+pub use escaped::{Escaped, escaped_prefix};
 pub use fixed::FixedBytes;
 pub use identity::Identity;
 pub use mapped::{Mapped, MappedOver};
