@@ -3,6 +3,7 @@ pub mod Addresses
 pub mod DigitLaws
 pub mod Elements
 pub mod Escaped
+pub mod EscapedKey
 pub mod EscapedLaws
 pub mod Mapped
 pub mod Mapping

@@ -13,6 +13,7 @@
 mod array;
 mod element;
 mod escaped;
+mod escaped_key;
 mod fixed;
 mod identity;
 mod joint;
@@ -30,6 +31,7 @@ mod written;
 
 pub use element::{Element, Single};
 pub use escaped::{Escaped, escaped_prefix};
+pub use escaped_key::EscapedKey;
 pub use fixed::FixedBytes;
 pub use identity::Identity;
 pub use mapped::{Mapped, MappedOver};
