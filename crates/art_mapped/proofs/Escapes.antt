@@ -1,6 +1,7 @@
 -- Escaped texts, read byte by byte.
 use Rattle.std.proofs.Common.{◌≡◌, ◌+◌, ◌<◌, ◌≤◌, ℕ, zero, suc, List, [], ◌∷◌, ◌++◌, Bool, true, false, length, drop, get_or, nat_eq, refl, sym, ap, ◌∙◌, arith, append_assoc, length-drop, add-one, subst, inl, inr}
-use Rattle.std.specs.Prelude.{◌≢◌, ◌↔◌, IsTrue}
+use Rattle.std.specs.Vec.{vec_items}
+use Rattle.std.specs.Prelude.{◌&&◌, Vec, ⊤, ◌≢◌, ◌↔◌, IsTrue}
 use Rattle.std.proofs.lemmas.Bool.{eqb-true, eq-eqb}
 use Rattle.std.proofs.lemmas.Bool.Decides.{eqb_tells}
 use Rattle.std.proofs.lemmas.List.{drop_all}
@@ -8,8 +9,10 @@ use Rattle.std.proofs.lemmas.Grind.{flat_map-append}
 use Rattle.std.proofs.Math.Logic.{∥∥₁_elim, ∥∥₁_map}
 use Rattle.std.proofs.Math.Seq.{drop-cons}
 use Rattle.std.proofs.Props.{props}
-use Rattle.art_mapped.specs.Escaped.{escaped, escaped_text, IsEscaped}
-use Rattle.art_mapped.specs.EscapedLaws.{escaped_apart, escaped_text-append}
+use Rattle.art_mapped.specs.Escaped.{is_escaped, vec_escaped_text, escaped, escaped_text, IsEscaped}
+use Rattle.art_mapped.specs.Mapping.{StandsForSome, HasTextOf}
+use Rattle.art_mapped.specs.MappingLaws.{in_two}
+use Rattle.art_mapped.specs.EscapedLaws.{known_escaped, escaped_apart, escaped_text-append}
 
 -- what is still to be read, with the zero before it whose meaning the next byte decides
 abbrev pub pending : Bool → List ℕ → List ℕ
@@ -140,3 +143,35 @@ module _ (text : List ℕ) (i : ℕ) (z : Bool) where
       let here = rw (is, later_is text i below) at (still_escaped bytes so_far whole) in
       let byte = escape_here (get_or text i 0) (drop (i + 1) text) some here in
       so_far ∙ rw (is, later_is text i below, byte, flat_map-append) (sym (append_assoc (escaped bytes) (0 ∷ 255 ∷ []) (drop (i + 1) text)))
+
+-- every escaped text is read to its end
+read_to_end : (bytes : List ℕ) → is_escaped (escaped_text bytes) ≡ true
+read_to_end [] = refl
+read_to_end (zero ∷ bytes) = read_to_end bytes
+read_to_end (suc b ∷ bytes) = read_to_end bytes
+
+both_true : (a b : Bool) → (a && b) ≡ true → (a ≡ true) × (b ≡ true)
+both_true true b are = (refl, are)
+both_true false b are = let clash : false ≡ true = are in cc
+
+zero_read : (b : ℕ) (rest bytes : List ℕ) → b ≡ 255 → rest ≡ escaped_text bytes → 0 ∷ b ∷ rest ≡ escaped_text (0 ∷ bytes)
+zero_read b rest bytes escape later = rw (escape, later) refl
+
+-- a list that is read to its end is the escaped text of what is read
+bytes_read : (text : List ℕ) → is_escaped text ≡ true → (bytes : List ℕ) × (text ≡ escaped_text bytes)
+bytes_read [] is = let clash : false ≡ true = is in cc
+bytes_read (zero ∷ []) is = let clash : false ≡ true = is in cc
+bytes_read (zero ∷ zero ∷ []) is = ([], refl)
+bytes_read (zero ∷ zero ∷ b ∷ rest) is = let clash : false ≡ true = is in cc
+bytes_read (zero ∷ suc b ∷ rest) is =
+    let both = both_true (nat_eq (suc b) 255) (is_escaped rest) is in
+    let later = bytes_read rest both.1 in
+    (0 ∷ later.0, zero_read (suc b) rest later.0 (eqb-true (suc b) 255 both.0) later.1)
+bytes_read (suc b ∷ rest) is = let later = bytes_read rest is in (suc b ∷ later.0, rw later.1 refl)
+
+-- bytes are those of a byte string exactly where they are read to their end
+pub escaped_value : {Z : Type 0} (text : Vec ℕ Z) → StandsForSome {D = Vec ℕ Z} (λ _. ⊤) (HasTextOf vec_items vec_escaped_text) text ↔ IsTrue (is_escaped (vec_items text))
+escaped_value text = (
+  λ some. ∥∥₁_elim some (hlevel props) (λ of. ap is_escaped of.2 ∙ read_to_end (vec_items of.0)),
+  λ is. known_escaped text (in_two ∣ bytes_read (vec_items text) is ∣₁),
+)

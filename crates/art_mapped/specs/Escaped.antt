@@ -1,5 +1,5 @@
 -- Byte strings with their zero bytes escaped, ended by two zero bytes.
-use Rattle.std.specs.Prelude.{◌≡◌, ℕ, zero, suc, List, [], ◌∷◌, ◌++◌, Vec}
+use Rattle.std.specs.Prelude.{◌≡◌, ℕ, zero, suc, List, [], ◌∷◌, ◌++◌, Bool, true, false, ◌&&◌, nat_eq, Vec}
 use Rattle.std.specs.List.{flat_map}
 use Rattle.std.specs.Vec.{vec_items}
 
@@ -19,6 +19,15 @@ escaped_text bytes = escaped bytes ++ 0 ∷ 0 ∷ []
 -- the list is the escaped text of some bytes
 abbrev pub IsEscaped : List ℕ → Type 0
 IsEscaped text = ∥ ((bytes : List ℕ) × (text ≡ escaped_text bytes)) ∥₁
+
+-- whether a list is an escaped text, read from its begin: each zero is followed by 255, or by a zero that ends the list
+abbrev pub is_escaped : List ℕ → Bool
+is_escaped [] = false
+is_escaped (zero ∷ []) = false
+is_escaped (zero ∷ zero ∷ []) = true
+is_escaped (zero ∷ zero ∷ b ∷ rest) = false
+is_escaped (zero ∷ suc b ∷ rest) = nat_eq (suc b) 255 && is_escaped rest
+is_escaped (suc b ∷ rest) = is_escaped rest
 
 -- the escaped text of the vector's bytes
 abbrev pub vec_escaped_text : {A : Type 0} → Vec ℕ A → List ℕ
