@@ -19,6 +19,13 @@ use std::alloc::{AllocError, Global};
 ///
 /// So every byte string has a key, no key is a prefix of another, and keys sort as the bytes do.
 /// Writing and reading take memory, and time linear in the bytes.
+///
+/// (from crates/art_node_tests/src/mapped/escaped_examples.rt)
+/// ```rust
+/// let (tin, tins) = (key_of(alloc, b"tin")?, key_of(alloc, b"tins")?);
+/// assert!(rt; tin.as_bytes() == b"tin\0\0".as_slice());
+/// assert!(rt; tin < tins && !has_prefix(&tins, &tin));
+/// ```
 #[derive(Debug)]
 pub struct Escaped;
 

@@ -9,6 +9,13 @@ use std::alloc::{AllocError, Global};
 
 /// The key of a byte string under [`Escaped`](crate::Escaped), in a buffer that can be used again
 /// for the next key. Keys are equal, ordered and hashed by their bytes.
+///
+/// (from crates/art_node_tests/src/mapped/escaped_examples.rt)
+/// ```rust
+/// let mut looked_up = EscapedKey::new(alloc, b"a\0b")?;
+/// assert!(rt; looked_up.as_bytes() == b"a\0\xffb\0\0".as_slice());
+/// looked_up.set(b"tin")?;
+/// ```
 #[derive(Drop, PartialEq, Eq, PartialOrd, Ord, Hash)]
 pub struct EscapedKey {
     text: Vec<u8>,
