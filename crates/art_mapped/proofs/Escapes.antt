@@ -34,7 +34,7 @@ one_later (suc b) rest =
     rw is_not (escaped_later (suc b ∷ []) rest)
 
 -- a zero with no escape is the first of two that end the text
-ends_here : (b : ℕ) (rest : List ℕ) → b ≢ 255 → IsEscaped (0 ∷ b ∷ rest) → (b ≡ 0) × (rest ≡ [])
+pub ends_here : (b : ℕ) (rest : List ℕ) → b ≢ 255 → IsEscaped (0 ∷ b ∷ rest) → (b ≡ 0) × (rest ≡ [])
 ends_here b rest none is = ∥∥₁_elim is (hlevel props) (λ of. at_end of.0 of.1)
   where
     at_end : (bytes : List ℕ) → 0 ∷ b ∷ rest ≡ escaped_text bytes → (b ≡ 0) × (rest ≡ [])

@@ -90,7 +90,7 @@ escaped_prefix_exactly front bytes = (
 )
 
 -- escaping makes no bytes fewer
-escaped_longer : (bytes : List ℕ) → length bytes ≤ length (escaped bytes)
+pub escaped_longer : (bytes : List ℕ) → length bytes ≤ length (escaped bytes)
 escaped_longer [] = omega arith
 escaped_longer (zero ∷ bytes) = let rest = escaped_longer bytes in omega arith
 escaped_longer (suc b ∷ bytes) = let rest = escaped_longer bytes in omega arith

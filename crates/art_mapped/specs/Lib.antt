@@ -5,6 +5,8 @@ pub mod Elements
 pub mod Escaped
 pub mod EscapedKey
 pub mod EscapedLaws
+pub mod EscapedStringLaws
+pub mod EscapedStrings
 pub mod Mapped
 pub mod Mapping
 pub mod MappingLaws

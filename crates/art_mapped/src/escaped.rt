@@ -99,7 +99,7 @@ fn is_escaped(text: &[u8]) -> bool
 }
 
 /// The bytes whose escaped text this is. Condition: there are such bytes.
-fn unescaped(alloc: Global, text: &[u8]) -> Result<Vec<u8>, AllocError>
+pub(crate) fn unescaped(alloc: Global, text: &[u8]) -> Result<Vec<u8>, AllocError>
     requires { IsEscaped text.now }
     ensures { IfOk result (λ bytes. text.now ≡ escaped_text bytes.items) }
 {

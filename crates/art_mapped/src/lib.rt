@@ -15,6 +15,7 @@ mod array;
 mod element;
 mod escaped;
 mod escaped_key;
+mod escaped_string;
 mod fixed;
 mod identity;
 mod joint;
