@@ -1,17 +1,19 @@
 -- Escaped texts of UTF-8, read from zero to zero.
 use Rattle.std.proofs.Common.{◌≡◌, ◌-◌, ◌<◌, ◌≤◌, ℕ, zero, suc, List, [], ◌∷◌, ◌++◌, length, take, drop, get_or, refl, sym, ap, ◌∙◌, arith, subst, length-append, length-drop, nat_eq}
-use Rattle.std.specs.Prelude.{◌≢◌, ◌↔◌, IsTrue}
+use Rattle.std.specs.Prelude.{Vec, String, string_bytes, ⊤, ◌≢◌, ◌↔◌, IsTrue}
 use Rattle.std.proofs.lemmas.Bool.{eqb-true, eq-eqb}
+use Rattle.std.specs.Vec.{vec_items}
 use Rattle.std.specs.Str.{IsUtf8, IsCharBoundary}
 use Rattle.std.proofs.lemmas.List.{append-nil, nil_from_length, take-append-drop}
-use Rattle.std.proofs.lemmas.Str.{IsUtf8-append, IsUtf8-drop, IsUtf8-from_ascii, IsUtf8-had, IsUtf8-nil, IsUtf8-take, IsCharBoundary-after_ascii, IsCharBoundary-before_ascii, IsCharBoundary-end}
+use Rattle.std.proofs.lemmas.Str.{IsUtf8-append, IsUtf8-drop, IsUtf8-from_ascii, IsUtf8-had, IsUtf8-nil, IsUtf8-string_bytes, IsUtf8-take, IsCharBoundary-after_ascii, IsCharBoundary-before_ascii, IsCharBoundary-end}
 use Rattle.std.proofs.Math.Logic.{∥∥₁_elim, ∥∥₁_map}
 use Rattle.std.proofs.Math.Seq.{drop-append_seam, take-append_seam, drop-cons}
 use Rattle.std.proofs.Props.{props}
 use Rattle.art_mapped.specs.Escaped.{escaped, escaped_text, IsEscaped}
 use Rattle.art_mapped.specs.EscapedLaws.{escaped_apart, escaped_text-append}
-use Rattle.art_mapped.specs.EscapedStrings.{IsEscapedUtf8}
-use Rattle.art_mapped.proofs.Escapes.{ends_here}
+use Rattle.art_mapped.specs.EscapedStrings.{IsEscapedUtf8, string_escaped_text}
+use Rattle.art_mapped.specs.Mapping.{StandsForSome, HasTextOf}
+use Rattle.art_mapped.proofs.Escapes.{ends_here, vec_of_escaped}
 
 -- bytes of which none is zero are not escaped
 escaped_run : (run : List ℕ) → ((k : ℕ) → k < length run → get_or run k 0 ≢ 0) → escaped run ≡ run
@@ -186,3 +188,14 @@ module _ (text rest : List ℕ) (run : ℕ) (is : IsRun rest run) (so_far : IsEs
 -- an empty list is no text
 pub not_empty : (text rest : List ℕ) → (IsEscapedUtf8 text → IsEscapedUtf8 rest) → length rest ≡ 0 → IsEscapedUtf8 text → ⊥
 not_empty text rest so_far none whole = let long = at_least_two rest (is_escaped_utf8 rest (so_far whole)) in omega arith
+
+-- a vector with the escaped text of some UTF-8 stands for some string
+pub stands_for_string : {Z : Type 0} (text : Vec ℕ Z) → IsEscapedUtf8 (vec_items text) → StandsForSome {D = String Z} (λ _. ⊤) (HasTextOf vec_items string_escaped_text) text
+stands_for_string text is = ∥∥₁_map is (λ of.
+    let v = vec_of_escaped text of.0 of.2 in
+    let utf8 : IsUtf8 (vec_items v.0) = subst IsUtf8 (sym v.1) of.1 in
+    (record { bytes = v.0; ok = ∣ utf8 ∣₁ }, tt, of.2 ∙ ap escaped_text (sym v.1)))
+
+-- and where it stands for one it has such a text
+pub is_escaped_string : {Z : Type 0} (text : Vec ℕ Z) → StandsForSome {D = String Z} (λ _. ⊤) (HasTextOf vec_items string_escaped_text) text → IsEscapedUtf8 (vec_items text)
+is_escaped_string text some = ∥∥₁_map some (λ of. (string_bytes of.0, IsUtf8-string_bytes of.0, of.2))

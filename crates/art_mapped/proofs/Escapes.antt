@@ -1,5 +1,5 @@
 -- Escaped texts, read byte by byte.
-use Rattle.std.proofs.Common.{◌≡◌, ◌+◌, ◌<◌, ◌≤◌, ℕ, zero, suc, List, [], ◌∷◌, ◌++◌, Bool, true, false, length, drop, get_or, nat_eq, refl, sym, ap, ◌∙◌, arith, append_assoc, length-drop, add-one, subst, inl, inr}
+use Rattle.std.proofs.Common.{◌≡◌, ◌+◌, ◌<◌, ◌≤◌, ℕ, zero, suc, List, [], ◌∷◌, ◌++◌, Bool, true, false, length, drop, get_or, nat_eq, refl, sym, ap, ◌∙◌, arith, append_assoc, length-append, length-drop, add-one, subst, inl, inr}
 use Rattle.std.specs.Vec.{vec_items}
 use Rattle.std.specs.Prelude.{◌&&◌, Vec, ⊤, ◌≢◌, ◌↔◌, IsTrue}
 use Rattle.std.proofs.lemmas.Bool.{eqb-true, eq-eqb}
@@ -11,8 +11,8 @@ use Rattle.std.proofs.Math.Seq.{drop-cons}
 use Rattle.std.proofs.Props.{props}
 use Rattle.art_mapped.specs.Escaped.{is_escaped, vec_escaped_text, escaped, escaped_text, IsEscaped}
 use Rattle.art_mapped.specs.Mapping.{StandsForSome, HasTextOf}
-use Rattle.art_mapped.specs.MappingLaws.{in_two}
-use Rattle.art_mapped.specs.EscapedLaws.{known_escaped, escaped_apart, escaped_text-append}
+use Rattle.art_mapped.specs.VecLaws.{vec_with}
+use Rattle.art_mapped.specs.EscapedLaws.{escaped_apart, escaped_text-append}
 
 -- what is still to be read, with the zero before it whose meaning the next byte decides
 abbrev pub pending : Bool → List ℕ → List ℕ
@@ -144,6 +144,22 @@ module _ (text : List ℕ) (i : ℕ) (z : Bool) where
       let byte = escape_here (get_or text i 0) (drop (i + 1) text) some here in
       so_far ∙ rw (is, later_is text i below, byte, flat_map-append) (sym (append_assoc (escaped bytes) (0 ∷ 255 ∷ []) (drop (i + 1) text)))
 
+-- escaping makes no bytes fewer
+escaped_longer : (bytes : List ℕ) → length bytes ≤ length (escaped bytes)
+escaped_longer [] = omega arith
+escaped_longer (zero ∷ bytes) = let rest = escaped_longer bytes in omega arith
+escaped_longer (suc b ∷ bytes) = let rest = escaped_longer bytes in omega arith
+
+-- where a vector has the escaped text of some bytes, a vector has those bytes
+pub vec_of_escaped : {Z : Type 0} (text : Vec ℕ Z) (bytes : List ℕ) → vec_items text ≡ escaped_text bytes → (v : Vec ℕ Z) × (vec_items v ≡ bytes)
+vec_of_escaped text bytes same =
+    let size : length (vec_items text) ≡ length (escaped_text bytes) = ap length same in
+    vec_with text bytes (omega (arith, escaped_longer bytes, length-append (escaped bytes) (0 ∷ 0 ∷ []), size))
+
+-- a vector with an escaped text stands for some vector's bytes
+pub stands_for_bytes : {Z : Type 0} (text : Vec ℕ Z) → IsEscaped (vec_items text) → StandsForSome {D = Vec ℕ Z} (λ _. ⊤) (HasTextOf vec_items vec_escaped_text) text
+stands_for_bytes text is = ∥∥₁_map is (λ of. let v = vec_of_escaped text of.0 of.1 in (v.0, tt, of.1 ∙ ap escaped_text (sym v.1)))
+
 -- every escaped text is read to its end
 read_to_end : (bytes : List ℕ) → is_escaped (escaped_text bytes) ≡ true
 read_to_end [] = refl
@@ -173,5 +189,5 @@ bytes_read (suc b ∷ rest) is = let later = bytes_read rest is in (suc b ∷ la
 pub escaped_value : {Z : Type 0} (text : Vec ℕ Z) → StandsForSome {D = Vec ℕ Z} (λ _. ⊤) (HasTextOf vec_items vec_escaped_text) text ↔ IsTrue (is_escaped (vec_items text))
 escaped_value text = (
   λ some. ∥∥₁_elim some (hlevel props) (λ of. ap is_escaped of.2 ∙ read_to_end (vec_items of.0)),
-  λ is. known_escaped text (in_two ∣ bytes_read (vec_items text) is ∣₁),
+  λ is. stands_for_bytes text ∣ bytes_read (vec_items text) is ∣₁,
 )

@@ -88,22 +88,3 @@ escaped_prefix_exactly front bytes = (
   λ is. let apart = escaped_apart front bytes is.0 is.1 in (apart.0, apart.1),
   λ is. (escaped_text is.0, ap escaped_text is.1 ∙ escaped_text-append front is.0),
 )
-
--- escaping makes no bytes fewer
-pub escaped_longer : (bytes : List ℕ) → length bytes ≤ length (escaped bytes)
-escaped_longer [] = omega arith
-escaped_longer (zero ∷ bytes) = let rest = escaped_longer bytes in omega arith
-escaped_longer (suc b ∷ bytes) = let rest = escaped_longer bytes in omega arith
-
--- a vector with an escaped text stands for some vector's bytes
-pub known_escaped : {Z : Type 0} (text : Vec ℕ Z) → ∥ IsEscaped (vec_items text) ∥₁ → StandsForSome {D = Vec ℕ Z} (λ _. ⊤) (HasTextOf vec_items vec_escaped_text) text
-known_escaped text some =
-    ∥∥₁_elim some (hlevel props) (λ is. ∥∥₁_map is (λ of.
-    let size : length (vec_items text) ≡ length (escaped_text of.0) = ap length of.1 in
-    let fits : length of.0 ≤ length (vec_items text) = omega (arith, escaped_longer of.0, length-append (escaped of.0) (0 ∷ 0 ∷ []), size) in
-    let bytes = vec_with text of.0 fits in
-    (bytes.0, tt, of.1 ∙ ap escaped_text (sym bytes.1))))
-
--- a vector that stands for some vector's bytes has an escaped text
-pub shown_escaped : {Z : Type 0} (text : Vec ℕ Z) → StandsForSome {D = Vec ℕ Z} (λ _. ⊤) (HasTextOf vec_items vec_escaped_text) text → ∥ IsEscaped (vec_items text) ∥₁
-shown_escaped text some = ∣ ∥∥₁_map some (λ of. (vec_items of.0, of.2)) ∣₁

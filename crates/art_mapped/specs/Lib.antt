@@ -5,7 +5,6 @@ pub mod Elements
 pub mod Escaped
 pub mod EscapedKey
 pub mod EscapedLaws
-pub mod EscapedStringLaws
 pub mod EscapedStrings
 pub mod Mapped
 pub mod Mapping

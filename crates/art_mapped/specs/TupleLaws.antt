@@ -1,5 +1,5 @@
 -- Joined parts of a tuple: they come apart again, and keep their order. No public clause cites this.
-use Rattle.std.specs.Prelude.{◌≡◌, ℕ, ◌+◌, ◌≤◌, List, [], ◌∷◌, ◌++◌, length, refl}
+use Rattle.std.specs.Prelude.{◌≡◌, ◌↔◌, ℕ, ◌+◌, ◌≤◌, List, [], ◌∷◌, ◌++◌, length, refl}
 use Rattle.std.specs.Ordering.{ordering_then}
 use Rattle.std.specs.declared.cmp.Ordering.{Ordering}
 use Rattle.std.proofs.Common.{sym, ap, ◌∙◌, subst, arith, length-append}
@@ -7,9 +7,7 @@ use Rattle.art_bytes.specs.Text.{IsPrefixOf}
 use Rattle.art_bytes.specs.Laws.{prefix_of_length}
 use Rattle.art_mapped.specs.Mapping.{StandsForSome}
 use Rattle.art_mapped.specs.SequenceLaws.{text_order-append}
-use Rattle.std.proofs.Math.Logic.{∥∥₁_elim, ∥∥₁_map, ∥∥₁_map₂}
-use Rattle.std.proofs.Props.{props}
-use Rattle.art_mapped.specs.Tuples.{IsPart, IsTextOf, IsJoined, Both, both_texts, AreSameBoth, StandsForBoth, TextLaws, OrderLaws}
+use Rattle.art_mapped.specs.Tuples.{IsPart, IsTextOf, Both, both_texts, AreSameBoth, StandsForBoth, TextLaws, OrderLaws}
 
 -- joined texts are equal part by part where the first parts have one length
 append_split : (a b c d : List ℕ) → length a ≡ length c → a ++ b ≡ c ++ d → (a ≡ c) × (b ≡ d)
@@ -109,62 +107,42 @@ kept_by_items nested is_in_domain stands_for a b same some =
     let At : List ℕ → Type 0 = StandsForSome (λ value. is_in_domain (nested value)) (λ text value. stands_for text (nested value)) in
     subst At same some
 
--- a text of a part's values that a key has stands for some value
-pub part_known : {K D : Type 0} {is_key : K → Type 0} {text : K → List ℕ} {is_in_domain : D → Type 0} {text_of : D → List ℕ} {stands_for : K → D → Type 0} {width : ℕ}
+-- a list is a part's text exactly where the part has the value and the list stands for it
+pub part_text : {K D Is : Type 0} {is_key : K → Type 0} {text : K → List ℕ} {is_in_domain : D → Type 0} {text_of : D → List ℕ} {stands_for : K → D → Type 0} {width : ℕ}
     → ((bytes : K) (value : D) → is_in_domain value → stands_for bytes value → text bytes ≡ text_of value)
-    → ((key : K) → is_key key → length (text key) ≡ width)
-    → (has_value : List ℕ → Type 0) → ((key : K) → is_key key → ∥ has_value (text key) ∥₁ → StandsForSome is_in_domain stands_for key)
-    → (given : List ℕ) → ∥ ((key : K) × is_key key × (text key ≡ given)) ∥₁ → ∥ has_value given ∥₁
-    → StandsForSome (IsPart is_in_domain text_of (IsTextOf is_key text stands_for) width) (IsTextOf is_key text stands_for) given
-part_known has_text long has_value known given held has =
-    ∥∥₁_elim held (hlevel props) (λ of.
-    let At : List ℕ → Type 0 = λ list. ∥ has_value list ∥₁ in
-    ∥∥₁_map (known of.0 of.1 (subst At (sym of.2) has)) (λ some.
-    let its_text = has_text of.0 some.0 some.1 some.2 in
-    (some.0, (some.1, sym (ap length its_text) ∙ long of.0 of.1, (of.0, of.1, its_text, some.2)), (of.0, of.1, of.2, some.2))))
+    → ((key : K) → is_key key → length (text key) ≡ width) → (given : List ℕ) (value : D)
+    → Is ↔ ((bytes : K) × is_key bytes × (text bytes ≡ given) × is_in_domain value × stands_for bytes value)
+    → Is ↔ (IsPart is_in_domain text_of (IsTextOf is_key text stands_for) width value × IsTextOf is_key text stands_for given value)
+part_text has_text long given value is = (
+  λ a_text.
+      let of = is.0 a_text in
+      let its_text = has_text of.0 value of.3 of.4 in
+      ((of.3, sym (ap length its_text) ∙ long of.0 of.1, (of.0, of.1, its_text, of.4)), (of.0, of.1, of.2, of.4)),
+  λ both.
+      let part = both.0 in
+      let of = both.1 in
+      is.1 (of.0, of.1, of.2, part.0, of.3),
+)
 
--- a text that stands for a part's value is one of its values' texts
-pub part_shown : {K D : Type 0} {is_key : K → Type 0} {text : K → List ℕ} {is_in_domain : D → Type 0} {text_of : D → List ℕ} {stands_for : K → D → Type 0} {width : ℕ}
-    → (has_value : List ℕ → Type 0) → ((key : K) → StandsForSome is_in_domain stands_for key → ∥ has_value (text key) ∥₁)
-    → (given : List ℕ) → StandsForSome (IsPart is_in_domain text_of (IsTextOf is_key text stands_for) width) (IsTextOf is_key text stands_for) given → ∥ has_value given ∥₁
-part_shown has_value shown given some =
-    ∥∥₁_elim some (hlevel props) (λ of.
-    let At : List ℕ → Type 0 = λ list. ∥ has_value list ∥₁ in
-    subst At of.2.2 (shown of.2.0 ∣ (of.0, of.1.0, of.2.3) ∣₁))
-
-module _ {A B : Type 0} {front_in : A → Type 0} {front_stands : List ℕ → A → Type 0} {last_in : B → Type 0} {last_stands : List ℕ → B → Type 0} (front_has last_has : List ℕ → Type 0) where
-  -- a text that is one of the front's and then one of the last's stands for some value
-  pub both_known : (most : ℕ) → ((text : List ℕ) → length text ≤ most → ∥ front_has text ∥₁ → StandsForSome front_in front_stands text)
-      → ((text : List ℕ) → length text ≤ most → ∥ last_has text ∥₁ → StandsForSome last_in last_stands text)
-      → (text : List ℕ) → length text ≤ most → ∥ IsJoined front_has last_has text ∥₁ → StandsForSome (Both front_in last_in) (StandsForBoth front_stands last_stands) text
-  both_known most front last text fits has =
-      ∥∥₁_elim has (hlevel props) (λ some. ∥∥₁_elim some (hlevel props) (λ of.
+-- a list is the parts' text, where it is one of those before the last and then one of the last
+pub both_text : {A B : Type 0} {front_is : List ℕ → A → Type 0} {last_is : List ℕ → B → Type 0} {front_in : A → Type 0} {front_stands : List ℕ → A → Type 0} {last_in : B → Type 0} {last_stands : List ℕ → B → Type 0} (most : ℕ)
+    → ((text : List ℕ) (value : A) → length text ≤ most → front_is text value ↔ (front_in value × front_stands text value))
+    → ((text : List ℕ) (value : B) → length text ≤ most → last_is text value ↔ (last_in value × last_stands text value))
+    → (text : List ℕ) (value : A × B) → length text ≤ most
+    → StandsForBoth front_is last_is text value ↔ (Both front_in last_in value × StandsForBoth front_stands last_stands text value)
+both_text most front last text value fits = (
+  λ of.
       let size = ap length of.2 in
       let sum = length-append of.0 of.1 in
-      let first = front of.0 (omega (arith, sum, size, fits)) ∣ of.3 ∣₁ in
-      let later = last of.1 (omega (arith, sum, size, fits)) ∣ of.4 ∣₁ in
-      ∥∥₁_map₂ first later (λ a b. ((a.0, b.0), (a.1, b.1), (of.0, of.1, of.2, a.2, b.2)))))
-
-  -- a text that stands for the parts is one of the front's and then one of the last's
-  pub both_shown : ((text : List ℕ) → StandsForSome front_in front_stands text → ∥ front_has text ∥₁) → ((text : List ℕ) → StandsForSome last_in last_stands text → ∥ last_has text ∥₁)
-      → (text : List ℕ) → StandsForSome (Both front_in last_in) (StandsForBoth front_stands last_stands) text → ∥ IsJoined front_has last_has text ∥₁
-  both_shown front last text some =
-      ∥∥₁_elim some (hlevel props) (λ of.
-      let first = front of.2.0 ∣ (of.0.0, of.1.0, of.2.3) ∣₁ in
-      let later = last of.2.1 ∣ (of.0.1, of.1.1, of.2.4) ∣₁ in
-      ∣ ∥∥₁_map₂ first later (λ f l. (of.2.0, of.2.1, of.2.2, f, l)) ∣₁)
-
--- a text of the parts' values stands for some tuple
-pub tuple_known : {D N : Type 0} (nested : D → N) (flat : N → D) → ((value : N) → nested (flat value) ≡ value) → (is_in_domain : N → Type 0) (stands_for : List ℕ → N → Type 0) (has_value : List ℕ → Type 0) (items : List ℕ)
-    → ((text : List ℕ) → length text ≤ length items → ∥ has_value text ∥₁ → StandsForSome is_in_domain stands_for text) → ∥ has_value items ∥₁
-    → StandsForSome (λ value. is_in_domain (nested value)) (λ text value. stands_for text (nested value)) items
-tuple_known nested flat undone is_in_domain stands_for has_value items known has =
-    ∥∥₁_map (known items (omega arith) has) (λ of.
-    let Stands : _ → Type 0 = λ value. stands_for items value in
-    (flat of.0, subst is_in_domain (sym (undone of.0)) of.1, subst Stands (sym (undone of.0)) of.2))
-
--- a text that stands for some tuple is one of the parts' values
-pub tuple_shown : {D N : Type 0} (nested : D → N) (is_in_domain : N → Type 0) (stands_for : List ℕ → N → Type 0) (has_value : List ℕ → Type 0)
-    → ((text : List ℕ) → StandsForSome is_in_domain stands_for text → ∥ has_value text ∥₁)
-    → (items : List ℕ) → StandsForSome (λ value. is_in_domain (nested value)) (λ text value. stands_for text (nested value)) items → ∥ has_value items ∥₁
-tuple_shown nested is_in_domain stands_for has_value shown items some = shown items (∥∥₁_map some (λ of. (nested of.0, of.1, of.2)))
+      let first = (front of.0 value.0 (omega (arith, sum, size, fits))).0 of.3 in
+      let later = (last of.1 value.1 (omega (arith, sum, size, fits))).0 of.4 in
+      ((first.0, later.0), (of.0, of.1, of.2, first.1, later.1)),
+  λ both.
+      let ins = both.0 in
+      let of = both.1 in
+      let size = ap length of.2 in
+      let sum = length-append of.0 of.1 in
+      let first = (front of.0 value.0 (omega (arith, sum, size, fits))).1 (ins.0, of.3) in
+      let later = (last of.1 value.1 (omega (arith, sum, size, fits))).1 (ins.1, of.4) in
+      (of.0, of.1, of.2, first, later),
+)

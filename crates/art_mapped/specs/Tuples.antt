@@ -27,10 +27,6 @@ AreSameBoth front last x y = front x.0 y.0 × last x.1 y.1
 abbrev pub StandsForBoth : {A B : Type 0} → (List ℕ → A → Type 0) → (List ℕ → B → Type 0) → List ℕ → A × B → Type 0
 StandsForBoth front last text value = (a : List ℕ) × (b : List ℕ) × (text ≡ a ++ b) × front a value.0 × last b value.1
 
--- the text is one of the parts before the last, and then one of the last
-abbrev pub IsJoined : (List ℕ → Type 0) → (List ℕ → Type 0) → List ℕ → Type 0
-IsJoined front last text = ∥ ((a : List ℕ) × (b : List ℕ) × (text ≡ a ++ b) × front a × last b) ∥₁
-
 -- a text stands for at most one value, whose text it is; each value's text stands for it; all values have texts of one width
 pub record TextLaws {D : Type 0} (is_in_domain : D → Type 0) (text_of : D → List ℕ) (stands_for : List ℕ → D → Type 0) (are_same : D → D → Type 0) (width : ℕ) : Type 0 where
   pub has_text : (text : List ℕ) (value : D) → is_in_domain value → stands_for text value → text ≡ text_of value

@@ -1,19 +1,17 @@
 //! What integers and addresses share: bytes of one width, in the order of the values.
 ghost use Rattle.std.specs.Prelude.{◌≡◌, ◌≢◌, ℕ, List, false, IfSome, IfNone, refl};
-ghost use Rattle.std.proofs.Common.{ap, ◌∙◌};
-ghost use Rattle.std.specs.Prelude.{length};
+ghost use Rattle.std.proofs.Common.{ap};
 ghost use Rattle.art_mapped.specs.Elements.{KeepsOrder};
-ghost use Rattle.art_mapped.specs.Mapping.{HasTextOf};
-ghost use Rattle.art_mapped.specs.MappingLaws.{kept_by_text, out_of_two, in_two};
-ghost use Rattle.art_mapped.specs.ValueBytes.{IsTextOfSome};
-ghost use Rattle.std.proofs.Math.Logic.{∥∥₁_map};
+ghost use Rattle.art_mapped.specs.Mapping.{HasTextInRange, HasTextOf};
+ghost use Rattle.art_mapped.specs.MappingLaws.{kept_by_text, text_of_a_key};
 ghost use Rattle.art_mapped.specs.SequenceLaws.{same_from_text, prefix_is_whole};
 
 use crate::fixed::FixedBytes;
 use crate::mapping::{
-    BytesMapping, InjectiveMapping, NoPrefixesMapping, OrderedMapping, ValueTexts,
+    BytesMapping, Holds, InjectiveMapping, NoPrefixesMapping, OrderedMapping, ValueTexts,
 };
 use crate::written::Written;
+use art_bytes::AsBytes;
 use std::alloc::{AllocError, Global};
 use std::marker::PhantomData;
 
@@ -56,17 +54,19 @@ pub trait Element<F>: Written<F> + Copy + Ord {
 /// [`Element`] has an example.
 pub struct Single<F>(PhantomData<F>);
 
+impl<F, E: Written<F>, K: AsBytes> Holds<E, K> for Single<F> {
+    ghost holds = { HasTextInRange E.is_in_range K.text E.text_of };
+}
+
 impl<F, E: Written<F>> ValueTexts<E> for Single<F> {
-    ghost has_value = { IsTextOfSome E.is_in_range E.text_of };
+    ghost is_text = { HasTextInRange E.is_in_range (λ text. text) E.text_of };
 }
 
 impl<F, E: Element<F>> BytesMapping<E> for Single<F> {
-    ghost known = { λ _ _ some. out_of_two some };
+    ghost holds_value = { λ _ _. (λ holds. holds, λ holds. holds) };
 
-    ghost shown = { λ _ some. in_two some };
-
-    ghost held = { λ _ text _ some. ∥∥₁_map (out_of_two some) (λ of.
-        E.Bytes.held text (ap length of.2 ∙ E.keeps.long of.0 of.1)) };
+    ghost is_text_of_a_key = { λ _ text value _. text_of_a_key E.Bytes.is_key E.Bytes.text E.is_in_range E.text_of text value (λ in_range.
+        E.Bytes.held (E.text_of value) (E.keeps.long value in_range)) };
 
     type Bytes = E::Bytes;
 

@@ -4,14 +4,16 @@ ghost use Rattle.std.specs.Vec.{vec_items};
 ghost use Rattle.std.proofs.Common.{ap, sym, refl};
 ghost use Rattle.art_bytes.specs.Text.{IsPrefixOf};
 ghost use Rattle.art_mapped.specs.Escaped.{escaped, escaped_text, vec_escaped_text, IsEscaped};
-ghost use Rattle.art_mapped.specs.EscapedLaws.{same_from_escaped, escaped_order, escaped_prefix_is_whole, known_escaped, shown_escaped};
-ghost use Rattle.art_mapped.specs.Mapping.{HasTextOf};
+ghost use Rattle.art_mapped.specs.EscapedLaws.{same_from_escaped, escaped_order, escaped_prefix_is_whole};
+ghost use Rattle.art_mapped.specs.Mapping.{HasTextInRange, HasTextOf};
 ghost use Rattle.art_mapped.specs.MappingLaws.{kept_by_text};
-ghost use Rattle.art_mapped.specs.VecLaws.{held_by_vec};
+ghost use Rattle.art_mapped.specs.VecLaws.{text_of_a_vec};
+ghost use Rattle.std.specs.declared.alloc.Global.{Global as GlobalAlloc};
 
 use crate::mapping::{
-    BytesMapping, InjectiveMapping, NoPrefixesMapping, OrderedMapping, ValueTexts,
+    BytesMapping, Holds, InjectiveMapping, NoPrefixesMapping, OrderedMapping, ValueTexts,
 };
+use art_bytes::AsBytes;
 use std::alloc::{AllocError, Global};
 
 /// Maps byte strings to their escaped text, as ordered key encodings of databases do: a zero byte
@@ -123,16 +125,19 @@ pub(crate) fn unescaped(alloc: Global, text: &[u8]) -> Result<Vec<u8>, AllocErro
     Ok(bytes)
 }
 
+impl<K: AsBytes> Holds<Vec<u8>, K> for Escaped {
+    ghost holds = { HasTextInRange (λ _. ⊤) K.text (vec_escaped_text {A = GlobalAlloc}) };
+}
+
 impl ValueTexts<Vec<u8>> for Escaped {
-    ghost has_value = { IsEscaped };
+    ghost is_text = { HasTextInRange (λ _. ⊤) (λ text. text) (vec_escaped_text {A = GlobalAlloc}) };
 }
 
 impl BytesMapping<Vec<u8>> for Escaped {
-    ghost known = { λ bytes _ some. known_escaped bytes some };
+    ghost holds_value = { λ _ _. (λ holds. holds, λ holds. holds) };
 
-    ghost shown = { λ bytes some. shown_escaped bytes some };
-
-    ghost held = { λ other text fits _. held_by_vec (λ _. tt) other text fits };
+    ghost is_text_of_a_key = { λ other text value fits. text_of_a_vec (λ _. tt) (λ _. ⊤)
+        (HasTextOf (λ text. text) vec_escaped_text) value other text fits (λ of. of, λ of. of) };
 
     type Bytes = Vec<u8>;
 

@@ -6,15 +6,16 @@ ghost use Rattle.std.proofs.Common.{ap, refl};
 ghost use Rattle.art_mapped.specs.Escaped.{escaped_text};
 ghost use Rattle.art_mapped.specs.EscapedLaws.{same_from_escaped, escaped_order, escaped_prefix_is_whole};
 ghost use Rattle.art_mapped.specs.EscapedStrings.{IsEscapedUtf8, string_escaped_text};
-ghost use Rattle.art_mapped.specs.EscapedStringLaws.{known_escaped_string, shown_escaped_string};
-ghost use Rattle.art_mapped.specs.Mapping.{HasTextOf};
+ghost use Rattle.art_mapped.specs.Mapping.{HasTextInRange, HasTextOf};
 ghost use Rattle.art_mapped.specs.MappingLaws.{kept_by_text};
-ghost use Rattle.art_mapped.specs.VecLaws.{held_by_vec};
+ghost use Rattle.art_mapped.specs.VecLaws.{text_of_a_vec};
+ghost use Rattle.std.specs.declared.alloc.Global.{Global as GlobalAlloc};
 
 use crate::escaped::{Escaped, text_of, unescaped};
 use crate::mapping::{
-    BytesMapping, InjectiveMapping, NoPrefixesMapping, OrderedMapping, ValueTexts,
+    BytesMapping, Holds, InjectiveMapping, NoPrefixesMapping, OrderedMapping, ValueTexts,
 };
+use art_bytes::AsBytes;
 use std::alloc::{AllocError, Global};
 use std::str::from_utf8;
 
@@ -74,17 +75,22 @@ fn is_escaped_utf8(text: &[u8]) -> bool
     false
 }
 
+impl<K: AsBytes> Holds<String, K> for Escaped {
+    ghost holds = { HasTextInRange (λ _. ⊤) K.text (string_escaped_text {A = GlobalAlloc}) };
+}
+
 impl ValueTexts<String> for Escaped {
-    ghost has_value = { IsEscapedUtf8 };
+    ghost is_text = { HasTextInRange (λ _. ⊤) (λ text. text)
+        (string_escaped_text {A = GlobalAlloc}) };
 }
 
 /// Strings, by their UTF-8.
 impl BytesMapping<String> for Escaped {
-    ghost known = { λ bytes _ some. known_escaped_string bytes some };
+    ghost holds_value = { λ _ _. (λ holds. holds, λ holds. holds) };
 
-    ghost shown = { λ bytes some. shown_escaped_string bytes some };
-
-    ghost held = { λ other text fits _. held_by_vec (λ _. tt) other text fits };
+    ghost is_text_of_a_key = { λ other text value fits. text_of_a_vec (λ _. tt) (λ _. ⊤)
+        (HasTextOf (λ text. text) string_escaped_text) value other text fits
+        (λ of. of, λ of. of) };
 
     type Bytes = Vec<u8>;
 

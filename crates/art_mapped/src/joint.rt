@@ -3,8 +3,8 @@ ghost use Rattle.std.specs.Prelude.{◌≡◌, ◌≤◌, length, Vec, ◌↔◌
 ghost use Rattle.std.specs.Vec.{vec_items};
 ghost use Rattle.std.specs.declared.alloc.Global.{Global};
 ghost use Rattle.art_mapped.specs.Mapping.{StandsForSome};
-ghost use Rattle.art_mapped.specs.Tuples.{IsJoined, IsPart, IsTextOf, Both, both_texts, AreSameBoth, StandsForBoth, TextLaws, OrderLaws};
-ghost use Rattle.art_mapped.specs.TupleLaws.{part_laws, part_known, part_shown, both_laws, both_known, both_shown, both_order};
+ghost use Rattle.art_mapped.specs.Tuples.{IsPart, IsTextOf, Both, both_texts, AreSameBoth, StandsForBoth, TextLaws, OrderLaws};
+ghost use Rattle.art_mapped.specs.TupleLaws.{part_laws, part_text, both_laws, both_text, both_order};
 
 use crate::fixed::FixedBytes;
 use crate::mapping::{BytesMapping, OrderedMapping, ValueTexts};
@@ -12,18 +12,18 @@ use art_bytes::AsBytes;
 use std::alloc::{AllocError, Global};
 use std::marker::PhantomData;
 
-/// Which lists of bytes are those of the parts, joined.
+/// Which lists are the bytes of the parts, joined.
 pub trait JointTexts<D> {
-    /// The list is the bytes of the parts.
-    ghost has_value: { List ℕ → Type 0 };
+    /// The list is the bytes of the value's parts.
+    ghost is_text: { List ℕ → D → Type 0 };
 }
 
 impl<D, M: ValueTexts<D>> JointTexts<D> for Part<M> {
-    ghost has_value = { M.has_value };
+    ghost is_text = { M.is_text };
 }
 
 impl<A, B, F: JointTexts<A>, L: JointTexts<B>> JointTexts<(A, B)> for Then<F, L> {
-    ghost has_value = { IsJoined F.has_value L.has_value };
+    ghost is_text = { StandsForBoth F.is_text L.is_text };
 }
 
 /// Mappings of fixed width whose bytes are joined: the parts of a tuple, nested in pairs from the
@@ -75,14 +75,10 @@ pub trait Joint<D>: JointTexts<D> {
             IfOk result (λ read. are_same read value) }
         ensures takes_no_memory { READ_ALLOCATES ≡ false → IsOk result };
 
-    /// The bytes of some value stand for one, where they are no more than some vector has.
-    ghost known: { (other : Vec ℕ Global) (text : List ℕ) →
+    /// A list is the bytes of the values that it stands for, where it is no longer than some vector.
+    ghost is_text_of_parts: { (other : Vec ℕ Global) (text : List ℕ) (value : D) →
         length text ≤ length (vec_items other) →
-        ∥ Self.has_value text ∥₁ → StandsForSome is_in_domain stands_for text };
-
-    /// Bytes that stand for some value are its bytes.
-    ghost shown: { (text : List ℕ) → StandsForSome is_in_domain stands_for text →
-        ∥ Self.has_value text ∥₁ };
+        Self.is_text text value ↔ (is_in_domain value × stands_for text value) };
 
     /// Equal values have the same bytes.
     ghost one_text: { (x y : D) → are_same x y → text_of x ≡ text_of y };
@@ -119,10 +115,8 @@ impl<D, K: FixedBytes, M: BytesMapping<D, Bytes = K>> Joint<D> for Part<M> {
 
     ghost one_text = { M.one_text };
 
-    ghost known = { λ other text fits some.
-        part_known M.has_text K.width M.has_value M.known text (M.held other text fits some) some };
-
-    ghost shown = { part_shown M.has_value M.shown };
+    ghost is_text_of_parts = { λ other text value fits.
+        part_text M.has_text K.width text value (M.is_text_of_a_key other text value fits) };
 
     ghost laws = { part_laws K.WIDTH M.has_text K.one_key M.reads_one };
 
@@ -170,10 +164,8 @@ impl<A: Drop, B: Drop, F: Joint<A>, L: Joint<B>> Joint<(A, B)> for Then<F, L> {
     ghost one_text = { λ x y same.
         Prim.rw (F.one_text x.0 y.0 same.0, L.one_text x.1 y.1 same.1) Prim.cc };
 
-    ghost known = { λ other. both_known F.has_value L.has_value (length (vec_items other))
-        (F.known other) (L.known other) };
-
-    ghost shown = { both_shown F.has_value L.has_value F.shown L.shown };
+    ghost is_text_of_parts = { λ other. both_text (length (vec_items other))
+        (F.is_text_of_parts other) (L.is_text_of_parts other) };
 
     ghost laws = { both_laws F.laws L.laws };
 

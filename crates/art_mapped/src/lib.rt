@@ -37,7 +37,9 @@ pub use escaped_key::EscapedKey;
 pub use fixed::FixedBytes;
 pub use identity::Identity;
 pub use mapped::{Mapped, MappedOver};
-pub use mapping::{BytesMapping, InjectiveMapping, NoPrefixesMapping, OrderedMapping, ValueTexts};
+pub use mapping::{
+    BytesMapping, Holds, InjectiveMapping, NoPrefixesMapping, OrderedMapping, ValueTexts,
+};
 pub use octets::{Octets, ToOctets};
 pub use sequence::{IntegerForm, Joined};
 pub use signed::{Signed, ToIBE};

@@ -1,8 +1,8 @@
 //! A key made of a value by a mapping.
 ghost use Rattle.std.specs.Prelude.{◌≡◌, IsOk, IfOk, false};
-ghost use Rattle.art_mapped.specs.Mapping.{StandsForSome};
+ghost use Rattle.art_mapped.specs.Mapping.{HoldsSome};
 
-use crate::mapping::{BytesMapping, NoPrefixesMapping, OrderedMapping, ValueTexts, prove_is_key};
+use crate::mapping::{BytesMapping, Holds, NoPrefixesMapping, OrderedMapping, prove_is_key};
 use art_bytes::{AsBytes, NoPrefixesBytes, OrderedBytes};
 use std::alloc::{AllocError, Global};
 use std::cmp::Ordering;
@@ -26,16 +26,16 @@ use std::marker::PhantomData;
 /// assert!(rt; key != other);
 /// assert!(rt; key.partial_cmp(&other) == Some(Ordering::Less));
 /// ```
-pub struct MappedOver<B: ValueTexts<D>, D, K: AsBytes> {
+pub struct MappedOver<B: Holds<D, K>, D, K: AsBytes> {
     repr: K,
     mapping: PhantomData<(B, D)>,
-    ghost of_a_value: { ∥ B.has_value (K.text repr) ∥₁ },
+    ghost of_a_value: { HoldsSome B.holds repr },
 }
 
 /// A key made of a value of `D` by the mapping `B`, as [`MappedOver`] says.
 pub type Mapped<B, D> = MappedOver<B, D, <B as BytesMapping<D>>::Bytes>;
 
-impl<B: ValueTexts<D>, D, K: AsBytes + Drop> Drop for MappedOver<B, D, K> {
+impl<B: Holds<D, K>, D, K: AsBytes + Drop> Drop for MappedOver<B, D, K> {
     fn drop(self) {
         let MappedOver {
             repr: _,
@@ -52,7 +52,7 @@ impl<K: AsBytes + Drop, B: BytesMapping<D, Bytes = K>, D> MappedOver<B, D, K> {
     /// Error: [`AllocError`] on an allocation failure, and never where `B::ALLOCATES` is false. The
     /// value has then been dropped.
     pub fn new(alloc: Global, value: D) -> Result<Self, AllocError>
-        ensures value { IfOk result (λ mapped. HoldsValue B.is_in_domain B.stands_for mapped value) }
+        ensures value { IfOk result (λ mapped. HoldsValue mapped value) }
         ensures text { IfOk result (λ mapped. mapped_text mapped ≡ B.text_of value) }
         ensures takes_no_memory { B.ALLOCATES ≡ false → IsOk result }
     {
@@ -69,9 +69,9 @@ impl<K: AsBytes + Drop, B: BytesMapping<D, Bytes = K>, D> MappedOver<B, D, K> {
     /// Error: [`AllocError`] on an allocation failure, and never where `B::READ_ALLOCATES` is
     /// false. The key has then been dropped.
     pub fn get(self, alloc: Global) -> Result<D, AllocError>
-        ensures value { IfOk result (λ read. HoldsValue B.is_in_domain B.stands_for self read) }
+        ensures value { IfOk result (λ read. HoldsValue self read) }
         ensures text { IfOk result (λ read. mapped_text self ≡ B.text_of read) }
-        ensures inverts { (value : D) → HoldsValue B.is_in_domain B.stands_for self value →
+        ensures inverts { (value : D) → HoldsValue self value →
             IfOk result (λ read. B.are_same read value) }
         ensures takes_no_memory { B.READ_ALLOCATES ≡ false → IsOk result }
     {
@@ -93,10 +93,10 @@ impl<K: AsBytes + Drop, B: BytesMapping<D, Bytes = K>, D> MappedOver<B, D, K> {
         ensures bytes { IfOk result (λ mapped.
             K.is_clone (mapped_bytes self.now) (mapped_bytes mapped)) }
         ensures text { IfOk result (λ mapped. mapped_text mapped ≡ mapped_text self.now) }
-        ensures value { (value : D) → HoldsValue B.is_in_domain B.stands_for self.now value →
+        ensures value { (value : D) → HoldsValue self.now value →
             ((bytes : K) → K.is_clone (mapped_bytes self.now) bytes →
             B.stands_for bytes value) →
-            IfOk result (λ mapped. HoldsValue B.is_in_domain B.stands_for mapped value) }
+            IfOk result (λ mapped. HoldsValue mapped value) }
         ensures takes_no_memory { K.is_infallible (mapped_bytes self.now) → IsOk result }
     {
         let repr = self.repr.clone()?;
@@ -109,12 +109,12 @@ impl<K: AsBytes + Drop, B: BytesMapping<D, Bytes = K>, D> MappedOver<B, D, K> {
 }
 
 /// The bytes of the key are those of its value.
-impl<B: ValueTexts<D>, D, K: AsBytes> AsBytes for MappedOver<B, D, K> {
+impl<B: Holds<D, K>, D, K: AsBytes> AsBytes for MappedOver<B, D, K> {
     ghost use Rattle.art_mapped.specs.Mapped.{mapped_bytes, mapped_text};
 
     ghost text = { mapped_text };
 
-    ghost is_key = { λ mapped. K.is_key (mapped_bytes mapped) × ∥ B.has_value (mapped_text mapped) ∥₁ };
+    ghost is_key = { λ mapped. K.is_key (mapped_bytes mapped) × HoldsSome B.holds (mapped_bytes mapped) };
 
     fn as_bytes(&self) -> &[u8] {
         self.repr.as_bytes()
@@ -125,15 +125,16 @@ impl<B: ValueTexts<D>, D, K: AsBytes> AsBytes for MappedOver<B, D, K> {
 /// arrays and tuples, and under [`Identity`] where the keys have it. Vectors do not.
 impl<K: AsBytes, B: NoPrefixesMapping<D> + BytesMapping<D, Bytes = K>, D> NoPrefixesBytes
     for MappedOver<B, D, K> {
-    ghost use Rattle.art_mapped.specs.MappingLaws.{text_prefix_is_whole};
+    ghost use Rattle.art_mapped.specs.MappingLaws.{stands_for_some, text_prefix_is_whole};
 
     ghost no_prefixes = { λ a b a_some b_some.
         text_prefix_is_whole _ _ _ _ B.has_text B.no_prefixes a.repr b.repr
-        (B.known a.repr a_some.0 a_some.1) (B.known b.repr b_some.0 b_some.1) };
+        (stands_for_some B.holds_value a.repr a_some.1)
+        (stands_for_some B.holds_value b.repr b_some.1) };
 }
 
 /// Keys are equal where their bytes are.
-impl<B: ValueTexts<D>, D, K: AsBytes> PartialEq for MappedOver<B, D, K> {
+impl<B: Holds<D, K>, D, K: AsBytes> PartialEq for MappedOver<B, D, K> {
     ghost use Rattle.std.specs.Prelude.{nat_eq};
     ghost use Rattle.std.specs.Ordering.{on};
     ghost use Rattle.std.specs.Cmp.{partial_equiv_from_equiv};
@@ -150,7 +151,7 @@ impl<B: ValueTexts<D>, D, K: AsBytes> PartialEq for MappedOver<B, D, K> {
     }
 }
 
-impl<B: ValueTexts<D>, D, K: AsBytes> Eq for MappedOver<B, D, K> {
+impl<B: Holds<D, K>, D, K: AsBytes> Eq for MappedOver<B, D, K> {
     ghost use Rattle.std.proofs.lemmas.Cmp.{on_equiv, nat_list_eq_equiv};
     ghost use Rattle.art_mapped.specs.Mapped.{mapped_text};
 
@@ -158,7 +159,7 @@ impl<B: ValueTexts<D>, D, K: AsBytes> Eq for MappedOver<B, D, K> {
 }
 
 /// A key is hashed by its bytes.
-impl<B: ValueTexts<D>, D, K: AsBytes> Hash for MappedOver<B, D, K> {
+impl<B: Holds<D, K>, D, K: AsBytes> Hash for MappedOver<B, D, K> {
     ghost use Rattle.std.proofs.Common.{rules};
     ghost use Rattle.std.specs.Cmp.Rules.{hashing};
     ghost use Rattle.std.specs.Hash as fed;
@@ -193,7 +194,7 @@ impl<K: AsBytes, B: OrderedMapping<D> + BytesMapping<D, Bytes = K>, D: Ord> Ord
 
     fn cmp(&self, other: &Self) -> Ordering
         ensures texts { result ≡ text_order (mapped_text self.now) (mapped_text other.now) }
-        ensures values { (x y : D) → HoldsValue B.is_in_domain B.stands_for self.now x → HoldsValue B.is_in_domain B.stands_for other.now y →
+        ensures values { (x y : D) → HoldsValue self.now x → HoldsValue other.now y →
             result ≡ D.cmp x y }
     {
         self.as_bytes().cmp(other.as_bytes())

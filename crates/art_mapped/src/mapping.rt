@@ -8,10 +8,18 @@ ghost use Rattle.art_mapped.specs.Mapping.{StandsForSome};
 use art_bytes::AsBytes;
 use std::alloc::{AllocError, Global};
 
-/// Which lists of bytes are those of a value, under a mapping. A key names this trait alone.
+/// Which values a key of the type `K` holds, under a mapping. It is the only trait of a mapping that
+/// the type [`Mapped`](crate::Mapped) names.
+pub trait Holds<D, K> {
+    /// The key holds the value.
+    ghost holds: { K → D → Type 0 };
+}
+
+/// Which lists are the bytes of a value, under a mapping. It is what a tuple asks of the mappings of
+/// its parts.
 pub trait ValueTexts<D> {
-    /// The list is the bytes of some value.
-    ghost has_value: { List ℕ → Type 0 };
+    /// The list is the bytes of the value.
+    ghost is_text: { List ℕ → D → Type 0 };
 }
 
 /// A reversible conversion of the values of a domain `D` to bytes.
@@ -26,7 +34,7 @@ pub trait ValueTexts<D> {
 /// assert!(rt; <ToIBE as BytesMapping<[i16; 2]>>::is_value(&bytes));
 /// assert!(rt; <ToIBE as BytesMapping<[i16; 2]>>::from_bytes(alloc, bytes)? == [-1, 0]);
 /// ```
-pub trait BytesMapping<D>: ValueTexts<D> {
+pub trait BytesMapping<D>: Holds<D, Self::Bytes> + ValueTexts<D> {
     /// The bytes that a value is converted to.
     type Bytes: AsBytes + Drop;
 
@@ -95,18 +103,16 @@ pub trait BytesMapping<D>: ValueTexts<D> {
         }
     }
 
-    /// A key with the bytes of some value stands for some value.
-    ghost known: { (bytes : Self.Bytes) → Self.Bytes.is_key bytes →
-        ∥ Self.has_value (Self.Bytes.text bytes) ∥₁ → StandsForSome is_in_domain stands_for bytes };
+    /// A key holds the values of the domain that it stands for.
+    ghost holds_value: { (bytes : Self.Bytes) (value : D) →
+        Self.holds bytes value ↔ (is_in_domain value × stands_for bytes value) };
 
-    /// A key that stands for some value has the bytes of some value.
-    ghost shown: { (bytes : Self.Bytes) → StandsForSome is_in_domain stands_for bytes →
-        ∥ Self.has_value (Self.Bytes.text bytes) ∥₁ };
-
-    /// The bytes of a value are those of some key, where they are no more than some vector has.
-    ghost held: { (other : Vec ℕ Global) (text : List ℕ) → length text ≤ length (vec_items other) →
-        ∥ Self.has_value text ∥₁ →
-        ∥ ((bytes : Self.Bytes) × Self.Bytes.is_key bytes × (Self.Bytes.text bytes ≡ text)) ∥₁ };
+    /// A list is the bytes of the values that a key with these bytes stands for. It is no longer than
+    /// some vector, so that there is such a key.
+    ghost is_text_of_a_key: { (other : Vec ℕ Global) (text : List ℕ) (value : D) →
+        length text ≤ length (vec_items other) →
+        Self.is_text text value ↔ ((bytes : Self.Bytes) × Self.Bytes.is_key bytes ×
+        (Self.Bytes.text bytes ≡ text) × is_in_domain value × stands_for bytes value) };
 
     /// The bytes that stand for a value are its bytes.
     ghost has_text: { (bytes : Self.Bytes) (value : D) → is_in_domain value →

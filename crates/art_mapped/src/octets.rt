@@ -10,7 +10,7 @@ use std::net::{Ipv4Addr, Ipv6Addr};
 /// The form of IP addresses: their octets in order.
 ///
 /// [`ToBigEndian`] has an example.
-pub type Octets = char;
+pub struct Octets;
 
 /// IP addresses, `Ipv4Addr` and `Ipv6Addr`, as their 4 or 16 octets in order. Takes no memory.
 ///
@@ -30,7 +30,9 @@ pub type ToOctets = ToBigEndian<Octets>;
 impl Domain<Octets> for Ipv4Addr {
     type Mapping = Single<Octets>;
 
-    ghost agrees = { λ _. (λ some. some, λ some. some) };
+    ghost same_keys = { λ _ _. (λ holds. holds, λ holds. holds) };
+
+    ghost same_texts = { λ _ _. (λ is. is, λ is. is) };
 }
 
 impl Written<Octets> for Ipv4Addr {
@@ -58,7 +60,9 @@ impl Element<Octets> for Ipv4Addr {
 impl Domain<Octets> for Ipv6Addr {
     type Mapping = Single<Octets>;
 
-    ghost agrees = { λ _. (λ some. some, λ some. some) };
+    ghost same_keys = { λ _ _. (λ holds. holds, λ holds. holds) };
+
+    ghost same_texts = { λ _ _. (λ is. is, λ is. is) };
 }
 
 impl Written<Octets> for Ipv6Addr {

@@ -15,7 +15,7 @@ use std::num::{NonZeroI8, NonZeroI16, NonZeroI32, NonZeroI64, NonZeroI128, NonZe
 /// those of its two's complement with the top bit flipped.
 ///
 /// [`ToBigEndian`] has an example.
-pub type Signed = i8;
+pub struct Signed;
 
 impl IntegerForm for Signed {}
 
@@ -36,7 +36,9 @@ pub type ToIBE = ToBigEndian<Signed>;
 impl Domain<Signed> for i8 {
     type Mapping = Single<Signed>;
 
-    ghost agrees = { λ _. (λ some. some, λ some. some) };
+    ghost same_keys = { λ _ _. (λ holds. holds, λ holds. holds) };
+
+    ghost same_texts = { λ _ _. (λ is. is, λ is. is) };
 }
 
 impl Written<Signed> for i8 {
@@ -64,7 +66,9 @@ impl Element<Signed> for i8 {
 impl Domain<Signed> for NonZeroI8 {
     type Mapping = Single<Signed>;
 
-    ghost agrees = { λ _. (λ some. some, λ some. some) };
+    ghost same_keys = { λ _ _. (λ holds. holds, λ holds. holds) };
+
+    ghost same_texts = { λ _ _. (λ is. is, λ is. is) };
 }
 
 impl Written<Signed> for NonZeroI8 {
@@ -94,7 +98,9 @@ impl Element<Signed> for NonZeroI8 {
 impl Domain<Signed> for i16 {
     type Mapping = Single<Signed>;
 
-    ghost agrees = { λ _. (λ some. some, λ some. some) };
+    ghost same_keys = { λ _ _. (λ holds. holds, λ holds. holds) };
+
+    ghost same_texts = { λ _ _. (λ is. is, λ is. is) };
 }
 
 impl Written<Signed> for i16 {
@@ -122,7 +128,9 @@ impl Element<Signed> for i16 {
 impl Domain<Signed> for NonZeroI16 {
     type Mapping = Single<Signed>;
 
-    ghost agrees = { λ _. (λ some. some, λ some. some) };
+    ghost same_keys = { λ _ _. (λ holds. holds, λ holds. holds) };
+
+    ghost same_texts = { λ _ _. (λ is. is, λ is. is) };
 }
 
 impl Written<Signed> for NonZeroI16 {
@@ -152,7 +160,9 @@ impl Element<Signed> for NonZeroI16 {
 impl Domain<Signed> for i32 {
     type Mapping = Single<Signed>;
 
-    ghost agrees = { λ _. (λ some. some, λ some. some) };
+    ghost same_keys = { λ _ _. (λ holds. holds, λ holds. holds) };
+
+    ghost same_texts = { λ _ _. (λ is. is, λ is. is) };
 }
 
 impl Written<Signed> for i32 {
@@ -180,7 +190,9 @@ impl Element<Signed> for i32 {
 impl Domain<Signed> for NonZeroI32 {
     type Mapping = Single<Signed>;
 
-    ghost agrees = { λ _. (λ some. some, λ some. some) };
+    ghost same_keys = { λ _ _. (λ holds. holds, λ holds. holds) };
+
+    ghost same_texts = { λ _ _. (λ is. is, λ is. is) };
 }
 
 impl Written<Signed> for NonZeroI32 {
@@ -210,7 +222,9 @@ impl Element<Signed> for NonZeroI32 {
 impl Domain<Signed> for i64 {
     type Mapping = Single<Signed>;
 
-    ghost agrees = { λ _. (λ some. some, λ some. some) };
+    ghost same_keys = { λ _ _. (λ holds. holds, λ holds. holds) };
+
+    ghost same_texts = { λ _ _. (λ is. is, λ is. is) };
 }
 
 impl Written<Signed> for i64 {
@@ -238,7 +252,9 @@ impl Element<Signed> for i64 {
 impl Domain<Signed> for NonZeroI64 {
     type Mapping = Single<Signed>;
 
-    ghost agrees = { λ _. (λ some. some, λ some. some) };
+    ghost same_keys = { λ _ _. (λ holds. holds, λ holds. holds) };
+
+    ghost same_texts = { λ _ _. (λ is. is, λ is. is) };
 }
 
 impl Written<Signed> for NonZeroI64 {
@@ -268,7 +284,9 @@ impl Element<Signed> for NonZeroI64 {
 impl Domain<Signed> for i128 {
     type Mapping = Single<Signed>;
 
-    ghost agrees = { λ _. (λ some. some, λ some. some) };
+    ghost same_keys = { λ _ _. (λ holds. holds, λ holds. holds) };
+
+    ghost same_texts = { λ _ _. (λ is. is, λ is. is) };
 }
 
 impl Written<Signed> for i128 {
@@ -296,7 +314,9 @@ impl Element<Signed> for i128 {
 impl Domain<Signed> for NonZeroI128 {
     type Mapping = Single<Signed>;
 
-    ghost agrees = { λ _. (λ some. some, λ some. some) };
+    ghost same_keys = { λ _ _. (λ holds. holds, λ holds. holds) };
+
+    ghost same_texts = { λ _ _. (λ is. is, λ is. is) };
 }
 
 impl Written<Signed> for NonZeroI128 {
@@ -326,7 +346,9 @@ impl Element<Signed> for NonZeroI128 {
 impl Domain<Signed> for isize {
     type Mapping = Single<Signed>;
 
-    ghost agrees = { λ _. (λ some. some, λ some. some) };
+    ghost same_keys = { λ _ _. (λ holds. holds, λ holds. holds) };
+
+    ghost same_texts = { λ _ _. (λ is. is, λ is. is) };
 }
 
 impl Written<Signed> for isize {
@@ -354,7 +376,9 @@ impl Element<Signed> for isize {
 impl Domain<Signed> for NonZeroIsize {
     type Mapping = Single<Signed>;
 
-    ghost agrees = { λ _. (λ some. some, λ some. some) };
+    ghost same_keys = { λ _ _. (λ holds. holds, λ holds. holds) };
+
+    ghost same_texts = { λ _ _. (λ is. is, λ is. is) };
 }
 
 impl Written<Signed> for NonZeroIsize {

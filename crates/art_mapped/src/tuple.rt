@@ -1,16 +1,15 @@
 //! Tuples as their bytes joined.
-ghost use Rattle.std.specs.Prelude.{◌≡◌, ◌++◌, ℕ, List, true, refl};
+ghost use Rattle.std.specs.Prelude.{◌≡◌, ◌↔◌, ℕ, List, true, refl};
 ghost use Rattle.std.specs.Vec.{vec_items};
-ghost use Rattle.std.proofs.Common.{◌∙◌};
-ghost use Rattle.art_mapped.specs.TupleLaws.{tuple_known, tuple_shown, kept_by_items, same_from_one_text, wide_prefix_is_whole};
-ghost use Rattle.std.specs.Prelude.{◌↔◌};
-ghost use Rattle.std.proofs.Math.Logic.{∥∥₁_map};
-ghost use Rattle.art_mapped.specs.Tuples.{IsJoined};
-ghost use Rattle.art_mapped.specs.VecLaws.{held_by_vec};
+ghost use Rattle.std.proofs.Common.{◌∙◌, arith};
+ghost use Rattle.art_mapped.specs.MappingLaws.{both_ways};
+ghost use Rattle.art_mapped.specs.Tuples.{StandsForBoth};
+ghost use Rattle.art_mapped.specs.TupleLaws.{kept_by_items, same_from_one_text, wide_prefix_is_whole};
+ghost use Rattle.art_mapped.specs.VecLaws.{text_of_a_vec};
 
 use crate::joint::{Joint, JointTexts, OrderedJoint, Part, Then};
 use crate::mapping::{
-    BytesMapping, InjectiveMapping, NoPrefixesMapping, OrderedMapping, ValueTexts,
+    BytesMapping, Holds, InjectiveMapping, NoPrefixesMapping, OrderedMapping, ValueTexts,
 };
 use std::alloc::{AllocError, Global};
 use std::marker::PhantomData;
@@ -104,29 +103,57 @@ pub trait OrderedTuple<P: Ord>: TupleValues<Pairs = P> + Ord {
     ghost same_order: { (x y : Self) → Self.cmp x y ≡ P.cmp (Self.in_pairs x) (Self.in_pairs y) };
 }
 
-impl<A, B, M0: ValueTexts<A>, M1: ValueTexts<B>> PartTexts<(A, B)> for (M0, M1) {
-    ghost has_value = { IsJoined M0.has_value M1.has_value };
+/// Which lists are the bytes of a tuple. The trait is sealed: no other type can implement it.
+///
+/// [`ConcatTuple`] has an example.
+pub trait TupleTexts<D>: Sealed {
+    /// The list is the bytes of the tuple.
+    ghost is_text: { List ℕ → D → Type 0 };
 }
 
-impl<A, B, M0: ValueTexts<A>, M1: ValueTexts<B>> TupleTexts<
-    (A, B),
-    (A, B),
-    Then<Part<M0>, Part<M1>>,
-> for (M0, M1) {
-    ghost agrees = { λ _. (λ some. some, λ some. some) };
+/// A tuple has the bytes of its nested pairs. The trait is sealed: no other type can implement it.
+///
+/// [`ConcatTuple`] has an example.
+pub trait SameTexts<D, P, J>: TupleTexts<D>
+where
+    D: TupleValues<Pairs = P>,
+    J: JointTexts<P>,
+{
+    /// A list is the bytes of a tuple exactly where it is those of the nested pairs.
+    ghost same_texts: { (text : List ℕ) (value : D) →
+        Self.is_text text value ↔ J.is_text text (D.in_pairs value) };
 }
 
-impl<A, B, C, M0: ValueTexts<A>, M1: ValueTexts<B>, M2: ValueTexts<C>> PartTexts<(A, B, C)>
+impl<D, T: TupleTexts<D>> Holds<D, Vec<u8>> for ConcatTuple<T> {
+    ghost holds = { λ bytes value. T.is_text (vec_items bytes) value };
+}
+
+impl<D, T: TupleTexts<D>> ValueTexts<D> for ConcatTuple<T> {
+    ghost is_text = { T.is_text };
+}
+
+impl<A, B, M0: ValueTexts<A>, M1: ValueTexts<B>> TupleTexts<(A, B)> for (M0, M1) {
+    ghost is_text = { λ text value. StandsForBoth M0.is_text M1.is_text text
+        (value.0, value.1) };
+}
+
+impl<A, B, M0: ValueTexts<A>, M1: ValueTexts<B>> SameTexts<(A, B), (A, B), Then<Part<M0>, Part<M1>>>
+    for (M0, M1) {
+    ghost same_texts = { λ _ _. (λ is. is, λ is. is) };
+}
+
+impl<A, B, C, M0: ValueTexts<A>, M1: ValueTexts<B>, M2: ValueTexts<C>> TupleTexts<(A, B, C)>
     for (M0, M1, M2) {
-    ghost has_value = { IsJoined (IsJoined M0.has_value M1.has_value) M2.has_value };
+    ghost is_text = { λ text value. StandsForBoth (StandsForBoth M0.is_text M1.is_text) M2.is_text text
+        ((value.0, value.1), value.2) };
 }
 
-impl<A, B, C, M0: ValueTexts<A>, M1: ValueTexts<B>, M2: ValueTexts<C>> TupleTexts<
+impl<A, B, C, M0: ValueTexts<A>, M1: ValueTexts<B>, M2: ValueTexts<C>> SameTexts<
     (A, B, C),
     ((A, B), C),
     Then<Then<Part<M0>, Part<M1>>, Part<M2>>,
 > for (M0, M1, M2) {
-    ghost agrees = { λ _. (λ some. some, λ some. some) };
+    ghost same_texts = { λ _ _. (λ is. is, λ is. is) };
 }
 
 impl<
@@ -138,8 +165,9 @@ impl<
     M1: ValueTexts<B>,
     M2: ValueTexts<C>,
     M3: ValueTexts<D>,
-> PartTexts<(A, B, C, D)> for (M0, M1, M2, M3) {
-    ghost has_value = { IsJoined (IsJoined (IsJoined M0.has_value M1.has_value) M2.has_value) M3.has_value };
+> TupleTexts<(A, B, C, D)> for (M0, M1, M2, M3) {
+    ghost is_text = { λ text value. StandsForBoth (StandsForBoth (StandsForBoth M0.is_text M1.is_text) M2.is_text) M3.is_text text
+        (((value.0, value.1), value.2), value.3) };
 }
 
 impl<
@@ -151,12 +179,12 @@ impl<
     M1: ValueTexts<B>,
     M2: ValueTexts<C>,
     M3: ValueTexts<D>,
-> TupleTexts<
+> SameTexts<
     (A, B, C, D),
     (((A, B), C), D),
     Then<Then<Then<Part<M0>, Part<M1>>, Part<M2>>, Part<M3>>,
 > for (M0, M1, M2, M3) {
-    ghost agrees = { λ _. (λ some. some, λ some. some) };
+    ghost same_texts = { λ _ _. (λ is. is, λ is. is) };
 }
 
 impl<
@@ -170,8 +198,9 @@ impl<
     M2: ValueTexts<C>,
     M3: ValueTexts<D>,
     M4: ValueTexts<E>,
-> PartTexts<(A, B, C, D, E)> for (M0, M1, M2, M3, M4) {
-    ghost has_value = { IsJoined (IsJoined (IsJoined (IsJoined M0.has_value M1.has_value) M2.has_value) M3.has_value) M4.has_value };
+> TupleTexts<(A, B, C, D, E)> for (M0, M1, M2, M3, M4) {
+    ghost is_text = { λ text value. StandsForBoth (StandsForBoth (StandsForBoth (StandsForBoth M0.is_text M1.is_text) M2.is_text) M3.is_text) M4.is_text text
+        ((((value.0, value.1), value.2), value.3), value.4) };
 }
 
 impl<
@@ -185,12 +214,12 @@ impl<
     M2: ValueTexts<C>,
     M3: ValueTexts<D>,
     M4: ValueTexts<E>,
-> TupleTexts<
+> SameTexts<
     (A, B, C, D, E),
     ((((A, B), C), D), E),
     Then<Then<Then<Then<Part<M0>, Part<M1>>, Part<M2>>, Part<M3>>, Part<M4>>,
 > for (M0, M1, M2, M3, M4) {
-    ghost agrees = { λ _. (λ some. some, λ some. some) };
+    ghost same_texts = { λ _ _. (λ is. is, λ is. is) };
 }
 
 impl<
@@ -206,8 +235,9 @@ impl<
     M3: ValueTexts<D>,
     M4: ValueTexts<E>,
     M5: ValueTexts<F>,
-> PartTexts<(A, B, C, D, E, F)> for (M0, M1, M2, M3, M4, M5) {
-    ghost has_value = { IsJoined (IsJoined (IsJoined (IsJoined (IsJoined M0.has_value M1.has_value) M2.has_value) M3.has_value) M4.has_value) M5.has_value };
+> TupleTexts<(A, B, C, D, E, F)> for (M0, M1, M2, M3, M4, M5) {
+    ghost is_text = { λ text value. StandsForBoth (StandsForBoth (StandsForBoth (StandsForBoth (StandsForBoth M0.is_text M1.is_text) M2.is_text) M3.is_text) M4.is_text) M5.is_text text
+        (((((value.0, value.1), value.2), value.3), value.4), value.5) };
 }
 
 impl<
@@ -223,28 +253,12 @@ impl<
     M3: ValueTexts<D>,
     M4: ValueTexts<E>,
     M5: ValueTexts<F>,
-> TupleTexts<
+> SameTexts<
     (A, B, C, D, E, F),
     (((((A, B), C), D), E), F),
     Then<Then<Then<Then<Then<Part<M0>, Part<M1>>, Part<M2>>, Part<M3>>, Part<M4>>, Part<M5>>,
 > for (M0, M1, M2, M3, M4, M5) {
-    ghost agrees = { λ _. (λ some. some, λ some. some) };
-}
-
-/// Which lists of bytes are those of a tuple. The trait is for the tuples of this crate.
-pub trait PartTexts<D> {
-    /// The list is the bytes of some tuple.
-    ghost has_value: { List ℕ → Type 0 };
-}
-
-impl<D, T: PartTexts<D>> ValueTexts<D> for ConcatTuple<T> {
-    ghost has_value = { T.has_value };
-}
-
-/// The texts of a tuple are those of its nested pairs. The trait is for the tuples of this crate.
-pub trait TupleTexts<D, P, J: JointTexts<P>>: PartTexts<D> {
-    /// The texts of a tuple are those of its nested pairs.
-    ghost agrees: { (text : List ℕ) → Self.has_value text ↔ J.has_value text };
+    ghost same_texts = { λ _ _. (λ is. is, λ is. is) };
 }
 
 /// Writing a tuple takes memory. Reading one does where reading a part does.
@@ -252,17 +266,15 @@ impl<N, D, P, J, T> BytesMapping<D> for ConcatTuple<T>
 where
     D: TupleValues<PartCount = N, Pairs = P> + Drop,
     J: Joint<P>,
-    T: TupleMappings<PartCount = N, Joint = J> + TupleTexts<D, P, J>,
+    T: TupleMappings<PartCount = N, Joint = J> + SameTexts<D, P, J>,
 {
-    ghost known = { λ bytes _ some.
-        tuple_known D.in_pairs D.flat D.pairs_flat J.is_in_domain J.stands_for J.has_value
-        (vec_items bytes) (J.known bytes) (∥∥₁_map some (T.agrees _).0) };
+    ghost holds_value = { λ bytes value. both_ways (T.same_texts (vec_items bytes) value)
+        (J.is_text_of_parts bytes (vec_items bytes) (D.in_pairs value) (Prim.omega arith)) };
 
-    ghost shown = { λ bytes some. ∥∥₁_map
-        (tuple_shown D.in_pairs J.is_in_domain J.stands_for J.has_value J.shown
-        (vec_items bytes) some) (T.agrees _).1 };
-
-    ghost held = { λ other text fits _. held_by_vec (λ _. tt) other text fits };
+    ghost is_text_of_a_key = { λ other text value fits.
+        text_of_a_vec (λ _. tt) J.is_in_domain J.stands_for (D.in_pairs value) other text fits
+        (both_ways (T.same_texts text value)
+        (J.is_text_of_parts other text (D.in_pairs value) fits)) };
 
     type Bytes = Vec<u8>;
 
@@ -311,7 +323,7 @@ impl<N, D, P, J, T> InjectiveMapping<D> for ConcatTuple<T>
 where
     D: TupleValues<PartCount = N, Pairs = P> + Drop,
     J: Joint<P>,
-    T: TupleMappings<PartCount = N, Joint = J> + TupleTexts<D, P, J>,
+    T: TupleMappings<PartCount = N, Joint = J> + SameTexts<D, P, J>,
 {
     ghost decided_by_text = { λ x y. same_from_one_text J.laws (D.in_pairs x) (D.in_pairs y) };
 }
@@ -321,7 +333,7 @@ where
     D: OrderedTuple<P> + TupleValues<PartCount = N, Pairs = P> + Drop,
     P: Ord,
     J: OrderedJoint<P>,
-    T: TupleMappings<PartCount = N, Joint = J> + TupleTexts<D, P, J>,
+    T: TupleMappings<PartCount = N, Joint = J> + SameTexts<D, P, J>,
 {
     ghost keeps_order = { λ x y x_in y_in.
         D.same_order x y ∙ J.order.keeps (D.in_pairs x) (D.in_pairs y) x_in y_in };
@@ -331,7 +343,7 @@ impl<N, D, P, J, T> NoPrefixesMapping<D> for ConcatTuple<T>
 where
     D: TupleValues<PartCount = N, Pairs = P> + Drop,
     J: Joint<P>,
-    T: TupleMappings<PartCount = N, Joint = J> + TupleTexts<D, P, J>,
+    T: TupleMappings<PartCount = N, Joint = J> + SameTexts<D, P, J>,
 {
     ghost no_prefixes = { λ x y. wide_prefix_is_whole J.laws (D.in_pairs x) (D.in_pairs y) };
 }

@@ -14,7 +14,7 @@ use std::num::{NonZeroU8, NonZeroU16, NonZeroU32, NonZeroU64, NonZeroU128, NonZe
 /// The form of unsigned integers: the digits in base 256 at full width, most significant first.
 ///
 /// [`ToBigEndian`] has an example.
-pub type Unsigned = u8;
+pub struct Unsigned;
 
 impl IntegerForm for Unsigned {}
 
@@ -40,7 +40,9 @@ pub type ToUBE = ToBigEndian<Unsigned>;
 impl Domain<Unsigned> for u8 {
     type Mapping = Single<Unsigned>;
 
-    ghost agrees = { λ _. (λ some. some, λ some. some) };
+    ghost same_keys = { λ _ _. (λ holds. holds, λ holds. holds) };
+
+    ghost same_texts = { λ _ _. (λ is. is, λ is. is) };
 }
 
 impl Written<Unsigned> for u8 {
@@ -68,7 +70,9 @@ impl Element<Unsigned> for u8 {
 impl Domain<Unsigned> for NonZeroU8 {
     type Mapping = Single<Unsigned>;
 
-    ghost agrees = { λ _. (λ some. some, λ some. some) };
+    ghost same_keys = { λ _ _. (λ holds. holds, λ holds. holds) };
+
+    ghost same_texts = { λ _ _. (λ is. is, λ is. is) };
 }
 
 impl Written<Unsigned> for NonZeroU8 {
@@ -98,7 +102,9 @@ impl Element<Unsigned> for NonZeroU8 {
 impl Domain<Unsigned> for u16 {
     type Mapping = Single<Unsigned>;
 
-    ghost agrees = { λ _. (λ some. some, λ some. some) };
+    ghost same_keys = { λ _ _. (λ holds. holds, λ holds. holds) };
+
+    ghost same_texts = { λ _ _. (λ is. is, λ is. is) };
 }
 
 impl Written<Unsigned> for u16 {
@@ -126,7 +132,9 @@ impl Element<Unsigned> for u16 {
 impl Domain<Unsigned> for NonZeroU16 {
     type Mapping = Single<Unsigned>;
 
-    ghost agrees = { λ _. (λ some. some, λ some. some) };
+    ghost same_keys = { λ _ _. (λ holds. holds, λ holds. holds) };
+
+    ghost same_texts = { λ _ _. (λ is. is, λ is. is) };
 }
 
 impl Written<Unsigned> for NonZeroU16 {
@@ -156,7 +164,9 @@ impl Element<Unsigned> for NonZeroU16 {
 impl Domain<Unsigned> for u32 {
     type Mapping = Single<Unsigned>;
 
-    ghost agrees = { λ _. (λ some. some, λ some. some) };
+    ghost same_keys = { λ _ _. (λ holds. holds, λ holds. holds) };
+
+    ghost same_texts = { λ _ _. (λ is. is, λ is. is) };
 }
 
 impl Written<Unsigned> for u32 {
@@ -184,7 +194,9 @@ impl Element<Unsigned> for u32 {
 impl Domain<Unsigned> for NonZeroU32 {
     type Mapping = Single<Unsigned>;
 
-    ghost agrees = { λ _. (λ some. some, λ some. some) };
+    ghost same_keys = { λ _ _. (λ holds. holds, λ holds. holds) };
+
+    ghost same_texts = { λ _ _. (λ is. is, λ is. is) };
 }
 
 impl Written<Unsigned> for NonZeroU32 {
@@ -214,7 +226,9 @@ impl Element<Unsigned> for NonZeroU32 {
 impl Domain<Unsigned> for u64 {
     type Mapping = Single<Unsigned>;
 
-    ghost agrees = { λ _. (λ some. some, λ some. some) };
+    ghost same_keys = { λ _ _. (λ holds. holds, λ holds. holds) };
+
+    ghost same_texts = { λ _ _. (λ is. is, λ is. is) };
 }
 
 impl Written<Unsigned> for u64 {
@@ -242,7 +256,9 @@ impl Element<Unsigned> for u64 {
 impl Domain<Unsigned> for NonZeroU64 {
     type Mapping = Single<Unsigned>;
 
-    ghost agrees = { λ _. (λ some. some, λ some. some) };
+    ghost same_keys = { λ _ _. (λ holds. holds, λ holds. holds) };
+
+    ghost same_texts = { λ _ _. (λ is. is, λ is. is) };
 }
 
 impl Written<Unsigned> for NonZeroU64 {
@@ -272,7 +288,9 @@ impl Element<Unsigned> for NonZeroU64 {
 impl Domain<Unsigned> for u128 {
     type Mapping = Single<Unsigned>;
 
-    ghost agrees = { λ _. (λ some. some, λ some. some) };
+    ghost same_keys = { λ _ _. (λ holds. holds, λ holds. holds) };
+
+    ghost same_texts = { λ _ _. (λ is. is, λ is. is) };
 }
 
 impl Written<Unsigned> for u128 {
@@ -300,7 +318,9 @@ impl Element<Unsigned> for u128 {
 impl Domain<Unsigned> for NonZeroU128 {
     type Mapping = Single<Unsigned>;
 
-    ghost agrees = { λ _. (λ some. some, λ some. some) };
+    ghost same_keys = { λ _ _. (λ holds. holds, λ holds. holds) };
+
+    ghost same_texts = { λ _ _. (λ is. is, λ is. is) };
 }
 
 impl Written<Unsigned> for NonZeroU128 {
@@ -330,7 +350,9 @@ impl Element<Unsigned> for NonZeroU128 {
 impl Domain<Unsigned> for usize {
     type Mapping = Single<Unsigned>;
 
-    ghost agrees = { λ _. (λ some. some, λ some. some) };
+    ghost same_keys = { λ _ _. (λ holds. holds, λ holds. holds) };
+
+    ghost same_texts = { λ _ _. (λ is. is, λ is. is) };
 }
 
 impl Written<Unsigned> for usize {
@@ -358,7 +380,9 @@ impl Element<Unsigned> for usize {
 impl Domain<Unsigned> for NonZeroUsize {
     type Mapping = Single<Unsigned>;
 
-    ghost agrees = { λ _. (λ some. some, λ some. some) };
+    ghost same_keys = { λ _ _. (λ holds. holds, λ holds. holds) };
+
+    ghost same_texts = { λ _ _. (λ is. is, λ is. is) };
 }
 
 impl Written<Unsigned> for NonZeroUsize {

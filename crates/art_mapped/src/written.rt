@@ -1,14 +1,15 @@
 //! The mappings of integers and addresses: one type, generic in the form of its elements.
 ghost use Rattle.std.specs.Prelude.{◌↔◌, ℕ, List};
 ghost use Rattle.art_mapped.specs.Sequences.{joined, IsArray, IsVec, vec_text};
-ghost use Rattle.art_mapped.specs.ValueBytes.{IsTextOfSome};
-ghost use Rattle.std.proofs.Math.Logic.{∥∥₁_map};
+ghost use Rattle.art_mapped.specs.Mapping.{HasTextInRange};
+ghost use Rattle.art_mapped.specs.MappingLaws.{both_ways};
 
 use crate::element::{Element, Single};
 use crate::mapping::{
-    BytesMapping, InjectiveMapping, NoPrefixesMapping, OrderedMapping, ValueTexts,
+    BytesMapping, Holds, InjectiveMapping, NoPrefixesMapping, OrderedMapping, ValueTexts,
 };
 use crate::sequence::{IntegerForm, Joined};
+use art_bytes::AsBytes;
 use std::alloc::{AllocError, Global};
 use std::marker::PhantomData;
 
@@ -60,38 +61,51 @@ impl<F: IntegerForm, E: Written<F>> Written<F> for Vec<E> {
 ///
 /// [`ToBigEndian`] has an example.
 pub trait Domain<F>: Written<F> + Ord {
-    /// The mapping has the values of the domain, with their bytes.
-    ghost agrees: { (text : List ℕ) → IsTextOfSome Self.is_in_range Self.text_of text ↔ Self.Mapping.has_value text };
-
     /// How a value is written: as one element, or as several joined.
     type Mapping: OrderedMapping<Self>;
+
+    /// A key of that mapping holds the values in range whose bytes it has.
+    ghost same_keys: { (bytes : Self.Mapping.Bytes) (value : Self) →
+        HasTextInRange Self.is_in_range Self.Mapping.Bytes.text Self.text_of bytes value ↔
+        Self.Mapping.holds bytes value };
+
+    /// A list is the bytes of a value in range exactly where that mapping says so.
+    ghost same_texts: { (text : List ℕ) (value : Self) →
+        HasTextInRange Self.is_in_range (λ text. text) Self.text_of text value ↔
+        Self.Mapping.is_text text value };
 }
 
 impl<F: IntegerForm, E: Element<F>, const N: usize> Domain<F> for [E; N] {
     type Mapping = Joined<F>;
 
-    ghost agrees = { λ _. (λ some. some, λ some. some) };
+    ghost same_keys = { λ _ _. (λ holds. holds, λ holds. holds) };
+
+    ghost same_texts = { λ _ _. (λ is. is, λ is. is) };
 }
 
 impl<F: IntegerForm, E: Element<F>> Domain<F> for Vec<E> {
     type Mapping = Joined<F>;
 
-    ghost agrees = { λ _. (λ some. some, λ some. some) };
+    ghost same_keys = { λ _ _. (λ holds. holds, λ holds. holds) };
+
+    ghost same_texts = { λ _ _. (λ is. is, λ is. is) };
+}
+
+impl<F, D: Written<F>, K: AsBytes> Holds<D, K> for ToBigEndian<F> {
+    ghost holds = { HasTextInRange D.is_in_range K.text D.text_of };
 }
 
 impl<F, D: Written<F>> ValueTexts<D> for ToBigEndian<F> {
-    ghost has_value = { IsTextOfSome D.is_in_range D.text_of };
+    ghost is_text = { HasTextInRange D.is_in_range (λ text. text) D.text_of };
 }
 
 /// One element or several.
 impl<F, D: Domain<F>> BytesMapping<D> for ToBigEndian<F> {
-    ghost known = { λ bytes is_key some.
-        D.Mapping.known bytes is_key (∥∥₁_map some (D.agrees _).0) };
+    ghost holds_value = { λ bytes value.
+        both_ways (D.same_keys bytes value) (D.Mapping.holds_value bytes value) };
 
-    ghost shown = { λ bytes some. ∥∥₁_map (D.Mapping.shown bytes some) (D.agrees _).1 };
-
-    ghost held = { λ other text fits some.
-        D.Mapping.held other text fits (∥∥₁_map some (D.agrees _).0) };
+    ghost is_text_of_a_key = { λ other text value fits. both_ways (D.same_texts text value)
+        (D.Mapping.is_text_of_a_key other text value fits) };
 
     type Bytes = <D::Mapping as BytesMapping<D>>::Bytes;
 
