@@ -13,3 +13,4 @@ pub mod Sequences
 pub mod TupleLaws
 pub mod Tuples
 pub mod ValueBytes
+pub mod VecLaws

@@ -2,22 +2,38 @@
 ghost use Rattle.std.specs.Prelude.{◌≡◌, true, false};
 ghost use Rattle.std.specs.Vec.{vec_items};
 ghost use Rattle.std.proofs.Common.{ap, refl};
-ghost use Rattle.art_mapped.specs.Mapping.{HasTextOf};
+ghost use Rattle.art_mapped.specs.Mapping.{HasTextInRange, HasTextOf};
 ghost use Rattle.art_mapped.specs.MappingLaws.{kept_by_text};
 ghost use Rattle.art_mapped.specs.Sequences.{joined, IsArray};
 ghost use Rattle.art_mapped.specs.SequenceLaws.{same_from_joined, joined_keep, joined_prefix_is_whole};
+ghost use Rattle.art_mapped.specs.VecLaws.{text_of_a_vec};
 
 use crate::element::Element;
 use crate::fixed::FixedBytes;
-use crate::mapping::{BytesMapping, InjectiveMapping, NoPrefixesMapping, OrderedMapping};
+use crate::mapping::{
+    BytesMapping, Holds, InjectiveMapping, NoPrefixesMapping, OrderedMapping, ValueTexts,
+};
 use crate::sequence::{IntegerForm, Joined, are_elements, array_of, joined_bytes};
+use crate::written::Written;
+use art_bytes::AsBytes;
 use std::alloc::{AllocError, Global};
+
+impl<F: IntegerForm, E: Written<F>, const N: usize, K: AsBytes> Holds<[E; N], K> for Joined<F> {
+    ghost holds = { HasTextInRange (IsArray N E.is_in_range) K.text (joined E.text_of) };
+}
+
+impl<F: IntegerForm, E: Written<F>, const N: usize> ValueTexts<[E; N]> for Joined<F> {
+    ghost is_text = { HasTextInRange (IsArray N E.is_in_range) (λ text. text) (joined E.text_of) };
+}
 
 /// Arrays of exactly `N` elements. Writing one takes memory, reading one does not.
 impl<F: IntegerForm, E: Element<F>, const N: usize> BytesMapping<[E; N]> for Joined<F> {
-    type Bytes = Vec<u8>;
+    ghost holds_value = { λ _ _. (λ holds. holds, λ holds. holds) };
 
-    type Inner = E::Bytes;
+    ghost is_text_of_a_key = { λ other text value fits. text_of_a_vec (λ _. tt) (IsArray N E.is_in_range)
+        (HasTextOf (λ text. text) (joined E.text_of)) value other text fits (λ of. of, λ of. of) };
+
+    type Bytes = Vec<u8>;
 
     const ALLOCATES: bool = true;
 

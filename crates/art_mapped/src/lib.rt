@@ -30,11 +30,13 @@ mod written;
 pub use element::{Element, Single};
 pub use fixed::FixedBytes;
 pub use identity::Identity;
-pub use mapped::Mapped;
-pub use mapping::{BytesMapping, InjectiveMapping, NoPrefixesMapping, OrderedMapping};
+pub use mapped::{Mapped, MappedOver};
+pub use mapping::{
+    BytesMapping, Holds, InjectiveMapping, NoPrefixesMapping, OrderedMapping, ValueTexts,
+};
 pub use octets::{Octets, ToOctets};
 pub use sequence::{IntegerForm, Joined};
 pub use signed::{Signed, ToIBE};
 pub use tuple::{ConcatTuple, OrderedTuple, TupleMappings, TupleValues};
 pub use unsigned::{ToUBE, Unsigned};
-pub use written::{Domain, ToBigEndian};
+pub use written::{Domain, ToBigEndian, Written};

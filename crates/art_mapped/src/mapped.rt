@@ -1,8 +1,8 @@
 //! A key made of a value by a mapping.
 ghost use Rattle.std.specs.Prelude.{◌≡◌, IsOk, IfOk, false};
-ghost use Rattle.art_mapped.specs.Mapping.{StandsForSome};
+ghost use Rattle.art_mapped.specs.Mapping.{HoldsSome};
 
-use crate::mapping::{BytesMapping, NoPrefixesMapping, OrderedMapping, prove_is_key};
+use crate::mapping::{BytesMapping, Holds, NoPrefixesMapping, OrderedMapping, prove_is_key};
 use art_bytes::{AsBytes, NoPrefixesBytes, OrderedBytes};
 use std::alloc::{AllocError, Global};
 use std::cmp::Ordering;
@@ -26,22 +26,25 @@ use std::marker::PhantomData;
 /// assert!(rt; key != other);
 /// assert!(rt; key.partial_cmp(&other) == Some(Ordering::Less));
 /// ```
-pub struct Mapped<B: BytesMapping<D>, D> {
-    repr: B::Bytes,
-    mapping: PhantomData<(B, D, B::Inner)>,
-    ghost of_a_value: { StandsForSome B.is_in_domain B.stands_for repr },
+pub struct MappedOver<B: Holds<D, K>, D, K: AsBytes> {
+    repr: K,
+    mapping: PhantomData<(B, D)>,
+    ghost of_a_value: { HoldsSome B.holds repr },
 }
 
-impl<B: BytesMapping<D>, D> Drop for Mapped<B, D> {
+/// A key made of a value of `D` by the mapping `B`, as [`MappedOver`] says.
+pub type Mapped<B, D> = MappedOver<B, D, <B as BytesMapping<D>>::Bytes>;
+
+impl<B: Holds<D, K>, D, K: AsBytes + Drop> Drop for MappedOver<B, D, K> {
     fn drop(self) {
-        let Mapped {
+        let MappedOver {
             repr: _,
             mapping: _,
         } = self;
     }
 }
 
-impl<B: BytesMapping<D>, D> Mapped<B, D> {
+impl<K: AsBytes + Drop, B: BytesMapping<D, Bytes = K>, D> MappedOver<B, D, K> {
     ghost use Rattle.art_mapped.specs.Mapped.{mapped_bytes, mapped_text, HoldsValue};
 
     /// The key of a value. Its bytes are those of the value under `B`.
@@ -54,7 +57,8 @@ impl<B: BytesMapping<D>, D> Mapped<B, D> {
         ensures takes_no_memory { B.ALLOCATES ≡ false → IsOk result }
     {
         let repr = B::to_bytes(alloc, value)?;
-        Ok(Mapped {
+        prove_is_key(&repr);
+        Ok(MappedOver {
             repr,
             mapping: PhantomData,
         })
@@ -71,7 +75,8 @@ impl<B: BytesMapping<D>, D> Mapped<B, D> {
             IfOk result (λ read. B.are_same read value) }
         ensures takes_no_memory { B.READ_ALLOCATES ≡ false → IsOk result }
     {
-        let Mapped { repr, mapping: _ } = self;
+        let MappedOver { repr, mapping: _ } = self;
+        prove_is_key(&repr);
         B::from_bytes(alloc, repr)
     }
 
@@ -82,21 +87,21 @@ impl<B: BytesMapping<D>, D> Mapped<B, D> {
     /// unchanged.
     pub fn clone(&self) -> Result<Self, AllocError>
     where
-        B::Bytes: Clone,
-        requires { (bytes : B.Bytes) → B.Bytes.is_clone (mapped_bytes self.now) bytes →
-            B.Bytes.text bytes ≡ mapped_text self.now }
+        K: Clone,
+        requires { (bytes : K) → K.is_clone (mapped_bytes self.now) bytes →
+            K.text bytes ≡ mapped_text self.now }
         ensures bytes { IfOk result (λ mapped.
-            B.Bytes.is_clone (mapped_bytes self.now) (mapped_bytes mapped)) }
+            K.is_clone (mapped_bytes self.now) (mapped_bytes mapped)) }
         ensures text { IfOk result (λ mapped. mapped_text mapped ≡ mapped_text self.now) }
         ensures value { (value : D) → HoldsValue self.now value →
-            ((bytes : B.Bytes) → B.Bytes.is_clone (mapped_bytes self.now) bytes →
+            ((bytes : K) → K.is_clone (mapped_bytes self.now) bytes →
             B.stands_for bytes value) →
             IfOk result (λ mapped. HoldsValue mapped value) }
-        ensures takes_no_memory { B.Bytes.is_infallible (mapped_bytes self.now) → IsOk result }
+        ensures takes_no_memory { K.is_infallible (mapped_bytes self.now) → IsOk result }
     {
         let repr = self.repr.clone()?;
         prove_is_key(&repr);
-        Ok(Mapped {
+        Ok(MappedOver {
             repr,
             mapping: PhantomData,
         })
@@ -104,12 +109,12 @@ impl<B: BytesMapping<D>, D> Mapped<B, D> {
 }
 
 /// The bytes of the key are those of its value.
-impl<B: BytesMapping<D>, D> AsBytes for Mapped<B, D> {
+impl<B: Holds<D, K>, D, K: AsBytes> AsBytes for MappedOver<B, D, K> {
     ghost use Rattle.art_mapped.specs.Mapped.{mapped_bytes, mapped_text};
 
     ghost text = { mapped_text };
 
-    ghost is_key = { λ mapped. StandsForSome B.is_in_domain B.stands_for (mapped_bytes mapped) };
+    ghost is_key = { λ mapped. K.is_key (mapped_bytes mapped) × HoldsSome B.holds (mapped_bytes mapped) };
 
     fn as_bytes(&self) -> &[u8] {
         self.repr.as_bytes()
@@ -118,15 +123,18 @@ impl<B: BytesMapping<D>, D> AsBytes for Mapped<B, D> {
 
 /// No key is a proper prefix of another where the mapping has that law: for integers, addresses,
 /// arrays and tuples, and under [`Identity`] where the keys have it. Vectors do not.
-impl<B: NoPrefixesMapping<D>, D> NoPrefixesBytes for Mapped<B, D> {
-    ghost use Rattle.art_mapped.specs.MappingLaws.{text_prefix_is_whole};
+impl<K: AsBytes, B: NoPrefixesMapping<D> + BytesMapping<D, Bytes = K>, D> NoPrefixesBytes
+    for MappedOver<B, D, K> {
+    ghost use Rattle.art_mapped.specs.MappingLaws.{stands_for_some, text_prefix_is_whole};
 
     ghost no_prefixes = { λ a b a_some b_some.
-        text_prefix_is_whole _ _ _ _ B.has_text B.no_prefixes a.repr b.repr a_some b_some };
+        text_prefix_is_whole _ _ _ _ B.has_text B.no_prefixes a.repr b.repr
+        (stands_for_some B.holds_value a.repr a_some.1)
+        (stands_for_some B.holds_value b.repr b_some.1) };
 }
 
 /// Keys are equal where their bytes are.
-impl<B: BytesMapping<D>, D> PartialEq for Mapped<B, D> {
+impl<B: Holds<D, K>, D, K: AsBytes> PartialEq for MappedOver<B, D, K> {
     ghost use Rattle.std.specs.Prelude.{nat_eq};
     ghost use Rattle.std.specs.Ordering.{on};
     ghost use Rattle.std.specs.Cmp.{partial_equiv_from_equiv};
@@ -143,7 +151,7 @@ impl<B: BytesMapping<D>, D> PartialEq for Mapped<B, D> {
     }
 }
 
-impl<B: BytesMapping<D>, D> Eq for Mapped<B, D> {
+impl<B: Holds<D, K>, D, K: AsBytes> Eq for MappedOver<B, D, K> {
     ghost use Rattle.std.proofs.lemmas.Cmp.{on_equiv, nat_list_eq_equiv};
     ghost use Rattle.art_mapped.specs.Mapped.{mapped_text};
 
@@ -151,7 +159,7 @@ impl<B: BytesMapping<D>, D> Eq for Mapped<B, D> {
 }
 
 /// A key is hashed by its bytes.
-impl<B: BytesMapping<D>, D> Hash for Mapped<B, D> {
+impl<B: Holds<D, K>, D, K: AsBytes> Hash for MappedOver<B, D, K> {
     ghost use Rattle.std.proofs.Common.{rules};
     ghost use Rattle.std.specs.Cmp.Rules.{hashing};
     ghost use Rattle.std.specs.Hash as fed;
@@ -167,7 +175,8 @@ impl<B: BytesMapping<D>, D> Hash for Mapped<B, D> {
 }
 
 /// Keys of an ordered mapping have the order of their bytes, which is that of the values.
-impl<B: OrderedMapping<D>, D: Ord> Ord for Mapped<B, D> {
+impl<K: AsBytes, B: OrderedMapping<D> + BytesMapping<D, Bytes = K>, D: Ord> Ord
+    for MappedOver<B, D, K> {
     ghost use Rattle.std.specs.Ordering.{on};
     ghost use Rattle.std.proofs.Common.{rules};
     ghost use Rattle.std.specs.Cmp.Rules.{comparing};
@@ -192,7 +201,8 @@ impl<B: OrderedMapping<D>, D: Ord> Ord for Mapped<B, D> {
     }
 }
 
-impl<B: OrderedMapping<D>, D: Ord> PartialOrd for Mapped<B, D> {
+impl<K: AsBytes, B: OrderedMapping<D> + BytesMapping<D, Bytes = K>, D: Ord> PartialOrd
+    for MappedOver<B, D, K> {
     ghost use Rattle.std.specs.Ordering.{on, as_partial_cmp};
     ghost use Rattle.std.proofs.Common.{rules};
     ghost use Rattle.std.specs.Cmp.{partial_order_from_own_ties};
@@ -210,7 +220,8 @@ impl<B: OrderedMapping<D>, D: Ord> PartialOrd for Mapped<B, D> {
     }
 }
 
-impl<B: OrderedMapping<D>, D: Ord> OrderedBytes for Mapped<B, D> {
+impl<K: AsBytes, B: OrderedMapping<D> + BytesMapping<D, Bytes = K>, D: Ord> OrderedBytes
+    for MappedOver<B, D, K> {
     ghost use Rattle.std.specs.Prelude.{refl};
 
     ghost ordered = { λ _ _ _ _. refl };
