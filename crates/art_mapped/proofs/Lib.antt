@@ -1,5 +1,6 @@
 mod Answered
 mod Cuts
+mod Escapes
 mod Flip
 mod OrderLemmas
 mod Pairs

@@ -2,6 +2,9 @@ pub mod AddressLaws
 pub mod Addresses
 pub mod DigitLaws
 pub mod Elements
+pub mod Escaped
+pub mod EscapedKey
+pub mod EscapedLaws
 pub mod Mapped
 pub mod Mapping
 pub mod MappingLaws

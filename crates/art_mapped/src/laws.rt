@@ -2,11 +2,12 @@
 //!
 //! `BytesMapping::is_value` returns whether some value has the bytes. These laws state for which
 //! bytes there is one, so that `from_bytes` can be called where `is_value` was not.
-ghost use Rattle.std.specs.Prelude.{◌≡◌, ◌≢◌, ◌↔◌, ℕ, List, ◌++◌, ◌+◌, ◌*◌, ◌/◌, ◌%◌, ◌<◌, ◌∷◌, length, take, drop, replicate, Vec};
+ghost use Rattle.std.specs.Prelude.{◌≡◌, ◌≢◌, ◌↔◌, ℕ, List, ◌++◌, ◌+◌, ◌*◌, ◌/◌, ◌%◌, ◌<◌, ◌∷◌, length, take, drop, replicate, Vec, IsTrue, ⊤};
 ghost use Rattle.std.specs.Net.Addr.{ipv4_octets, ipv6_octets};
 ghost use Rattle.std.specs.Vec.{vec_items};
 ghost use Rattle.std.specs.declared.alloc.Global.{Global};
 ghost use Rattle.art_mapped.specs.Addresses.{IsIpv4, IsIpv6};
+ghost use Rattle.art_mapped.specs.Escaped.{is_escaped, vec_escaped_text};
 ghost use Rattle.art_mapped.specs.Mapping.{StandsForSome, HasTextOf};
 ghost use Rattle.art_mapped.specs.Numbers.{digits, IsUnsigned, IsSigned, signed_text};
 ghost use Rattle.art_mapped.specs.Sequences.{joined, part, IsArray, IsVec, vec_text};
@@ -104,6 +105,14 @@ pub fn bytes_of_arrays_and_vectors<F: IntegerForm, E: Element<F>>()
         bytes ↔ ((length (vec_items bytes) % E.Bytes.WIDTH ≡ 0) ×
         ((k : ℕ) → k < length (vec_items bytes) / E.Bytes.WIDTH →
         IsTextOfSome E.is_in_range E.text_of (part E.Bytes.WIDTH k (vec_items bytes)))) }
+{}
+
+/// Bytes are those of a byte string under `Escaped` exactly where each zero among them is followed by
+/// 255, but for the two zeros that end them.
+pub fn bytes_of_escaped_strings()
+    ensures { (bytes : Vec ℕ Global) →
+        StandsForSome (λ _. ⊤) (HasTextOf vec_items (vec_escaped_text {A = Global})) bytes ↔
+        IsTrue (is_escaped (vec_items bytes)) }
 {}
 
 /// The bytes of a tuple are as many as those of its parts together. Bytes that are keys of the

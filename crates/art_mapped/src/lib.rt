@@ -2,9 +2,10 @@
 //!
 //! A [`BytesMapping`] gives each value of a domain its bytes, and reads the value back from them.
 //! [`ToUBE`] and [`ToIBE`] map integers, and arrays and vectors of integers; [`ToOctets`] maps IP
-//! addresses; [`Identity`] maps a key to itself; [`ConcatTuple`] maps tuples of two to six parts,
-//! for composite indexes. A [`Mapped`] is a key made of a value: it holds the value's bytes, and
-//! under an ordered mapping it compares as the value does.
+//! addresses; [`Escaped`] maps strings of any bytes; [`Identity`] maps a key to itself;
+//! [`ConcatTuple`] maps tuples of two to six parts, for composite indexes. A [`Mapped`] is a key made
+//! of a value: it holds the value's bytes, and under an ordered mapping it compares as the value
+//! does.
 //!
 //! The examples are lines of tests. There `rt` is the `HostRuntime` of the test, `alloc` is
 //! `rt.alloc()`, and `assert!(rt; c)` fails where `c` is false.
@@ -12,6 +13,8 @@
 
 mod array;
 mod element;
+mod escaped;
+mod escaped_key;
 mod fixed;
 mod identity;
 mod joint;
@@ -28,6 +31,8 @@ mod vector;
 mod written;
 
 pub use element::{Element, Single};
+pub use escaped::{Escaped, escaped_prefix};
+pub use escaped_key::EscapedKey;
 pub use fixed::FixedBytes;
 pub use identity::Identity;
 pub use mapped::{Mapped, MappedOver};
