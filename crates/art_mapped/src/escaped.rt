@@ -11,7 +11,8 @@ ghost use Rattle.art_mapped.specs.VecLaws.{text_of_a_vec};
 ghost use Rattle.std.specs.declared.alloc.Global.{Global as GlobalAlloc};
 
 use crate::mapping::{
-    BytesMapping, Holds, InjectiveMapping, NoPrefixesMapping, OrderedMapping, ValueTexts,
+    BorrowedMapping, BytesMapping, Holds, InjectiveMapping, NoPrefixesMapping, OrderedMapping,
+    ValueTexts,
 };
 use art_bytes::AsBytes;
 use std::alloc::{AllocError, Global};
@@ -175,6 +176,12 @@ impl BytesMapping<Vec<u8>> for Escaped {
 
     fn is_value(bytes: &Vec<u8>) -> bool {
         is_escaped(bytes)
+    }
+}
+
+impl BorrowedMapping<Vec<u8>> for Escaped {
+    fn read(alloc: Global, bytes: &Vec<u8>) -> Result<Vec<u8>, AllocError> {
+        unescaped(alloc, bytes)
     }
 }
 
