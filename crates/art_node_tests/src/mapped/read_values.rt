@@ -1,6 +1,6 @@
 //! Keys made without an allocator, and values read from a borrowed key.
-ghost use Rattle.std.specs.Prelude.{◌≡◌, ℕ, IfOk, List};
-ghost use Rattle.std.specs.Vec.{vec_items};
+ghost use Rattle.std.specs.Prelude.{◌≡◌, ℕ, IfOk, Vec};
+ghost use Rattle.std.specs.declared.alloc.Global.{Global as GlobalAlloc};
 ghost use Rattle.art_mapped.specs.Mapped.{mapped_text, HoldsValue};
 ghost use Rattle.art_mapped.specs.Numbers.{digits};
 
