@@ -64,3 +64,18 @@ order_of_held text holds_value has_text keeps_order a b x y a_holds b_holds =
     let x_of = (holds_value a x).0 a_holds in
     let y_of = (holds_value b y).0 b_holds in
     rw (has_text a x x_of.0 x_of.1, has_text b y y_of.0 y_of.1, keeps_order x y x_of.0 y_of.0) refl
+
+-- what is read from a key is a value that it holds, and the same as every such value
+pub read_of_held : {K D : Type 0} {holds : K → D → Type 0} {is_in_domain : D → Type 0} {stands_for : K → D → Type 0} {are_same : D → D → Type 0} {text : K → List ℕ} {text_of : D → List ℕ}
+    → ((key : K) (value : D) → holds key value ↔ (is_in_domain value × stands_for key value))
+    → ((key : K) (value : D) → is_in_domain value → stands_for key value → text key ≡ text_of value)
+    → ((key : K) (x y : D) → is_in_domain x → is_in_domain y → stands_for key x → stands_for key y → are_same x y)
+    → (key : K) (read : D) → is_in_domain read → stands_for key read
+    → holds key read × (text key ≡ text_of read) × ((value : D) → holds key value → are_same read value)
+read_of_held holds_value has_text reads_one key read in_domain stands = (
+  (holds_value key read).1 (in_domain, stands),
+  has_text key read in_domain stands,
+  λ value held.
+      let both = (holds_value key value).0 held in
+      reads_one key read value in_domain both.0 stands both.1,
+)

@@ -11,7 +11,8 @@ ghost use Rattle.art_mapped.specs.VecLaws.{text_of_a_vec};
 use crate::element::Element;
 use crate::fixed::FixedBytes;
 use crate::mapping::{
-    BytesMapping, Holds, InjectiveMapping, NoPrefixesMapping, OrderedMapping, ValueTexts,
+    BorrowedMapping, BytesMapping, Holds, InjectiveMapping, NoPrefixesMapping, OrderedMapping,
+    ValueTexts,
 };
 use crate::sequence::{IntegerForm, Several, are_elements, array_of, joined_bytes};
 use crate::written::DomainTexts;
@@ -72,6 +73,12 @@ impl<F: IntegerForm, E: Element<F>, const N: usize> BytesMapping<[E; N]> for Sev
 
     fn is_value(bytes: &Vec<u8>) -> bool {
         bytes.len() / E::Bytes::WIDTH == N && are_elements::<F, E>(bytes)
+    }
+}
+
+impl<F: IntegerForm, E: Element<F>, const N: usize> BorrowedMapping<[E; N]> for Several<F> {
+    fn read(_alloc: Global, bytes: &Vec<u8>) -> Result<[E; N], AllocError> {
+        Ok(array_of::<F, E, N>(bytes))
     }
 }
 

@@ -8,7 +8,8 @@ ghost use Rattle.art_mapped.specs.SequenceLaws.{same_from_text, prefix_is_whole}
 
 use crate::fixed::FixedBytes;
 use crate::mapping::{
-    BytesMapping, Holds, InjectiveMapping, NoPrefixesMapping, OrderedMapping, ValueTexts,
+    BorrowedMapping, BytesMapping, Holds, InPlaceMapping, InjectiveMapping, NoPrefixesMapping,
+    OrderedMapping, ValueTexts,
 };
 use crate::written::DomainTexts;
 use art_bytes::AsBytes;
@@ -108,6 +109,25 @@ impl<F, E: Element<F>> BytesMapping<E> for Single<F> {
 
     fn is_value(bytes: &E::Bytes) -> bool {
         E::decode(*bytes).is_some()
+    }
+}
+
+impl<F, E: Element<F>> InPlaceMapping<E> for Single<F> {
+    fn encode(value: E) -> E::Bytes {
+        value.encode()
+    }
+
+    fn decode(bytes: &E::Bytes) -> E {
+        match E::decode(*bytes) {
+            Some(value) => value,
+            None => unreachable!(),
+        }
+    }
+}
+
+impl<F, E: Element<F>> BorrowedMapping<E> for Single<F> {
+    fn read(_alloc: Global, bytes: &E::Bytes) -> Result<E, AllocError> {
+        Ok(<Single<F> as InPlaceMapping<E>>::decode(bytes))
     }
 }
 

@@ -1,5 +1,5 @@
 //! Strings of any bytes, with their zero bytes escaped.
-ghost use Rattle.std.specs.Prelude.{◌≡◌, ◌↔◌, ◌++◌, ◌+◌, ◌*◌, ◌<◌, ◌≤◌, ℕ, List, length, vec_len, vec_capacity, IsTrue, IfOk, OnOk, OnErr, true, ⊤};
+ghost use Rattle.std.specs.Prelude.{◌≡◌, ◌↔◌, ◌++◌, ◌+◌, ◌*◌, ◌<◌, ◌≤◌, ℕ, List, Vec, length, vec_len, vec_capacity, IsTrue, IfOk, OnOk, OnErr, true, ⊤};
 ghost use Rattle.std.specs.Vec.{vec_items};
 ghost use Rattle.std.proofs.Common.{ap, sym, refl};
 ghost use Rattle.art_bytes.specs.Text.{IsPrefixOf};
@@ -11,7 +11,8 @@ ghost use Rattle.art_mapped.specs.VecLaws.{text_of_a_vec};
 ghost use Rattle.std.specs.declared.alloc.Global.{Global as GlobalAlloc};
 
 use crate::mapping::{
-    BytesMapping, Holds, InjectiveMapping, NoPrefixesMapping, OrderedMapping, ValueTexts,
+    BorrowedMapping, BytesMapping, Holds, InjectiveMapping, NoPrefixesMapping, OrderedMapping,
+    ValueTexts,
 };
 use art_bytes::AsBytes;
 use std::alloc::{AllocError, Global};
@@ -175,6 +176,12 @@ impl BytesMapping<Vec<u8>> for Escaped {
 
     fn is_value(bytes: &Vec<u8>) -> bool {
         is_escaped(bytes)
+    }
+}
+
+impl BorrowedMapping<Vec<u8>> for Escaped {
+    fn read(alloc: Global, bytes: &Vec<u8>) -> Result<Vec<u8>, AllocError> {
+        unescaped(alloc, bytes)
     }
 }
 

@@ -1,5 +1,5 @@
 //! Strings, with their zero bytes escaped.
-ghost use Rattle.std.specs.Prelude.{◌≡◌, ◌≢◌, ◌↔◌, ◌<◌, ◌≤◌, ℕ, length, take, drop, slice_index, string_bytes, IsTrue, true, ⊤};
+ghost use Rattle.std.specs.Prelude.{◌≡◌, ◌≢◌, ◌↔◌, ◌<◌, ◌≤◌, ℕ, length, take, drop, slice_index, string_bytes, IfOk, IsTrue, true, ⊤};
 ghost use Rattle.std.specs.Str.{IsUtf8};
 ghost use Rattle.std.specs.Vec.{vec_items};
 ghost use Rattle.std.proofs.Common.{ap, refl};
@@ -13,7 +13,8 @@ ghost use Rattle.std.specs.declared.alloc.Global.{Global as GlobalAlloc};
 
 use crate::escaped::{Escaped, text_of, unescaped};
 use crate::mapping::{
-    BytesMapping, Holds, InjectiveMapping, NoPrefixesMapping, OrderedMapping, ValueTexts,
+    BorrowedMapping, BytesMapping, Holds, InjectiveMapping, NoPrefixesMapping, OrderedMapping,
+    ValueTexts,
 };
 use art_bytes::AsBytes;
 use std::alloc::{AllocError, Global};
@@ -75,6 +76,17 @@ fn is_escaped_utf8(text: &[u8]) -> bool
     false
 }
 
+/// The string whose escaped text this is. Condition: there is such a string.
+fn string_of(alloc: Global, text: &[u8]) -> Result<String, AllocError>
+    requires { IsEscapedUtf8 text.now }
+    ensures { IfOk result (λ read. text.now ≡ string_escaped_text read) }
+{
+    match String::from_utf8(unescaped(alloc, text)?) {
+        Ok(read) => Ok(read),
+        Err(_) => unreachable!(),
+    }
+}
+
 impl<K: AsBytes> Holds<String, K> for Escaped {
     ghost holds = { HasTextInRange (λ _. ⊤) K.text (string_escaped_text {A = GlobalAlloc}) };
 }
@@ -124,14 +136,17 @@ impl BytesMapping<String> for Escaped {
     }
 
     fn from_bytes(alloc: Global, bytes: Vec<u8>) -> Result<String, AllocError> {
-        match String::from_utf8(unescaped(alloc, &bytes)?) {
-            Ok(read) => Ok(read),
-            Err(_) => unreachable!(),
-        }
+        string_of(alloc, &bytes)
     }
 
     fn is_value(bytes: &Vec<u8>) -> bool {
         is_escaped_utf8(bytes)
+    }
+}
+
+impl BorrowedMapping<String> for Escaped {
+    fn read(alloc: Global, bytes: &Vec<u8>) -> Result<String, AllocError> {
+        string_of(alloc, bytes)
     }
 }
 

@@ -38,7 +38,8 @@ pub use fixed::FixedBytes;
 pub use identity::Identity;
 pub use mapped::{Mapped, MappedOver};
 pub use mapping::{
-    BytesMapping, Holds, InjectiveMapping, NoPrefixesMapping, OrderedMapping, ValueTexts,
+    BorrowedMapping, BytesMapping, Holds, InPlaceMapping, InjectiveMapping, NoPrefixesMapping,
+    OrderedMapping, ValueTexts,
 };
 pub use octets::{Octets, ToOctets};
 pub use sequence::{IntegerForm, Several};

@@ -2,10 +2,14 @@
 ghost use Rattle.std.specs.Prelude.{◌≡◌, IsOk, IfOk, false};
 ghost use Rattle.art_mapped.specs.Mapping.{HoldsSome};
 
-use crate::mapping::{BytesMapping, Holds, NoPrefixesMapping, OrderedMapping, prove_is_key};
+use crate::mapping::{
+    BorrowedMapping, BytesMapping, Holds, InPlaceMapping, NoPrefixesMapping, OrderedMapping,
+    prove_is_key,
+};
 use art_bytes::{AsBytes, NoPrefixesBytes, OrderedBytes};
 use std::alloc::{AllocError, Global};
 use std::cmp::Ordering;
+use std::fmt::{self, Debug, Display, Formatter, Write};
 use std::hash::{Hash, Hasher};
 use std::marker::PhantomData;
 
@@ -107,6 +111,50 @@ impl<K: AsBytes + Drop, B: BytesMapping<D, Bytes = K>, D> MappedOver<B, D, K> {
     }
 }
 
+impl<K: AsBytes + Drop, B: BorrowedMapping<D, Bytes = K>, D> MappedOver<B, D, K> {
+    ghost use Rattle.art_mapped.specs.Mapped.{mapped_text, HoldsValue};
+
+    /// The value that the key was made of. The key stays.
+    ///
+    /// Error: [`AllocError`] on an allocation failure, and never where `B::READ_ALLOCATES` is
+    /// false.
+    pub fn read(&self, alloc: Global) -> Result<D, AllocError>
+        ensures value { IfOk result (λ read. HoldsValue self.now read) }
+        ensures text { IfOk result (λ read. mapped_text self.now ≡ B.text_of read) }
+        ensures inverts { (value : D) → HoldsValue self.now value →
+            IfOk result (λ read. B.are_same read value) }
+        ensures takes_no_memory { B.READ_ALLOCATES ≡ false → IsOk result }
+    {
+        B::read(alloc, &self.repr)
+    }
+}
+
+impl<K: AsBytes + Drop, B: InPlaceMapping<D, Bytes = K>, D> MappedOver<B, D, K> {
+    ghost use Rattle.art_mapped.specs.Mapped.{mapped_text, HoldsValue};
+
+    /// The key of a value, as [`new`](MappedOver::new) returns it. Takes no memory.
+    pub fn of(value: D) -> Self
+        ensures value { HoldsValue result value }
+        ensures text { mapped_text result ≡ B.text_of value }
+    {
+        let repr = B::encode(value);
+        prove_is_key(&repr);
+        MappedOver {
+            repr,
+            mapping: PhantomData,
+        }
+    }
+
+    /// The value that the key was made of, as [`get`](MappedOver::get) returns it. Takes no memory.
+    pub fn value(&self) -> D
+        ensures value { HoldsValue self.now result }
+        ensures text { mapped_text self.now ≡ B.text_of result }
+        ensures inverts { (value : D) → HoldsValue self.now value → B.are_same result value }
+    {
+        B::decode(&self.repr)
+    }
+}
+
 /// The bytes of the key are those of its value.
 impl<B: Holds<D, K>, D, K: AsBytes> AsBytes for MappedOver<B, D, K> {
     ghost use Rattle.art_mapped.specs.Mapped.{mapped_bytes, mapped_text};
@@ -130,6 +178,22 @@ impl<K: AsBytes, B: NoPrefixesMapping<D> + BytesMapping<D, Bytes = K>, D> NoPref
         text_prefix_is_whole _ _ _ _ B.has_text B.no_prefixes a.repr b.repr
         (stands_for_some B.holds_value a.repr a_some)
         (stands_for_some B.holds_value b.repr b_some) };
+}
+
+/// The value, as its own type writes it. A map of such keys is written with it.
+impl<K: AsBytes + Drop, B: InPlaceMapping<D, Bytes = K>, D: Debug + Drop> Debug
+    for MappedOver<B, D, K> {
+    fn fmt<W: Write>(&self, f: &mut Formatter<W>) -> fmt::Result {
+        self.value().fmt(f)
+    }
+}
+
+/// The value, as its own type writes it.
+impl<K: AsBytes + Drop, B: InPlaceMapping<D, Bytes = K>, D: Display + Drop> Display
+    for MappedOver<B, D, K> {
+    fn fmt<W: Write>(&self, f: &mut Formatter<W>) -> fmt::Result {
+        self.value().fmt(f)
+    }
 }
 
 /// Keys are equal where their bytes are.

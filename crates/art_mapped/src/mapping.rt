@@ -186,6 +186,47 @@ pub trait NoPrefixesMapping<D>: BytesMapping<D> {
         IsPrefixOf (Self.text_of x) (Self.text_of y) → Self.text_of x ≡ Self.text_of y };
 }
 
+/// A mapping that also reads a value from bytes that it only borrows. Each but
+/// [`Identity`](crate::Identity) is one.
+///
+/// (from crates/art_node_tests/src/mapped/read_values.rt)
+/// ```rust
+/// let key = Mapped::<ToIBE, [i16; 2]>::new(alloc, [-1, 0])?;
+/// assert!(rt; key.read(alloc)? == [-1, 0]);
+/// ```
+pub trait BorrowedMapping<D>: BytesMapping<D> {
+    /// The value with these bytes. Condition: there is one, which `is_value` tests.
+    ///
+    /// Error: [`AllocError`] on an allocation failure, and never where `READ_ALLOCATES` is false.
+    fn read(alloc: Global, bytes: &Self::Bytes) -> Result<D, AllocError>
+        requires { StandsForSome Self.is_in_domain Self.stands_for bytes.now }
+        ensures in_domain { IfOk result (λ read. Self.is_in_domain read) }
+        ensures stands { IfOk result (λ read. Self.stands_for bytes.now read) }
+        ensures takes_no_memory { Self.READ_ALLOCATES ≡ false → IsOk result };
+}
+
+/// A mapping that takes no memory, so that no call fails: that of integers and addresses.
+///
+/// (from crates/art_node_tests/src/mapped/read_values.rt)
+/// ```rust
+/// type Port = Mapped<ToUBE, u16>;
+/// // ..
+///     let key = Port::of(443);
+///     assert!(rt; key.value() == 443);
+/// ```
+pub trait InPlaceMapping<D>: BytesMapping<D> {
+    /// The bytes of a value. Takes no memory.
+    fn encode(value: D) -> Self::Bytes
+        ensures in_domain { Self.is_in_domain value }
+        ensures stands { Self.stands_for result value };
+
+    /// The value with these bytes. Condition: there is one, which `is_value` tests. Takes no memory.
+    fn decode(bytes: &Self::Bytes) -> D
+        requires { StandsForSome Self.is_in_domain Self.stands_for bytes.now }
+        ensures in_domain { Self.is_in_domain result }
+        ensures stands { Self.stands_for bytes.now result };
+}
+
 /// Shows that this value is a key: only the contract of [`AsBytes::as_bytes`] says which values are.
 /// So that call is made, here alone; `prove!` calls nothing through a bound.
 #[inline]

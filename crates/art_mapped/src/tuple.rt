@@ -9,7 +9,8 @@ ghost use Rattle.art_mapped.specs.VecLaws.{text_of_a_vec};
 
 use crate::joint::{Joint, JointTexts, OrderedJoint, Part, Then};
 use crate::mapping::{
-    BytesMapping, Holds, InjectiveMapping, NoPrefixesMapping, OrderedMapping, ValueTexts,
+    BorrowedMapping, BytesMapping, Holds, InjectiveMapping, NoPrefixesMapping, OrderedMapping,
+    ValueTexts,
 };
 use std::alloc::{AllocError, Global};
 use std::marker::PhantomData;
@@ -316,6 +317,17 @@ where
 
     fn is_value(bytes: &Vec<u8>) -> bool {
         J::is_value(bytes)
+    }
+}
+
+impl<N, D, P, J, T> BorrowedMapping<D> for ConcatTuple<T>
+where
+    D: TupleValues<PartCount = N, Pairs = P> + Drop,
+    J: Joint<P>,
+    T: TupleMappings<PartCount = N, Joint = J> + SameTexts<D, P, J>,
+{
+    fn read(alloc: Global, bytes: &Vec<u8>) -> Result<D, AllocError> {
+        Ok(D::flatten(J::read(alloc, bytes)?))
     }
 }
 

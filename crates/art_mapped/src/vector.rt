@@ -10,7 +10,9 @@ ghost use Rattle.art_mapped.specs.VecLaws.{text_of_a_vec};
 ghost use Rattle.std.specs.declared.alloc.Global.{Global as GlobalAlloc};
 
 use crate::element::Element;
-use crate::mapping::{BytesMapping, Holds, InjectiveMapping, OrderedMapping, ValueTexts};
+use crate::mapping::{
+    BorrowedMapping, BytesMapping, Holds, InjectiveMapping, OrderedMapping, ValueTexts,
+};
 use crate::sequence::{IntegerForm, Several, are_elements, joined_bytes, vec_of};
 use crate::written::DomainTexts;
 use art_bytes::AsBytes;
@@ -70,6 +72,12 @@ impl<F: IntegerForm, E: Element<F>> BytesMapping<Vec<E>> for Several<F> {
 
     fn is_value(bytes: &Vec<u8>) -> bool {
         are_elements::<F, E>(bytes)
+    }
+}
+
+impl<F: IntegerForm, E: Element<F>> BorrowedMapping<Vec<E>> for Several<F> {
+    fn read(alloc: Global, bytes: &Vec<u8>) -> Result<Vec<E>, AllocError> {
+        vec_of::<F, E>(alloc, bytes)
     }
 }
 

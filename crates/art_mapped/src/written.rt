@@ -6,7 +6,8 @@ ghost use Rattle.art_mapped.specs.MappingLaws.{both_ways};
 
 use crate::element::{Element, Single};
 use crate::mapping::{
-    BytesMapping, Holds, InjectiveMapping, NoPrefixesMapping, OrderedMapping, ValueTexts,
+    BorrowedMapping, BytesMapping, Holds, InPlaceMapping, InjectiveMapping, NoPrefixesMapping,
+    OrderedMapping, ValueTexts,
 };
 use crate::sequence::{IntegerForm, Several};
 use art_bytes::AsBytes;
@@ -146,6 +147,29 @@ impl<F, D: Domain<F>> BytesMapping<D> for ToBigEndian<F> {
 
     fn is_value(bytes: &Self::Bytes) -> bool {
         D::Mapping::is_value(bytes)
+    }
+}
+
+/// Integers and addresses.
+impl<F, D: Domain<F>> InPlaceMapping<D> for ToBigEndian<F>
+where
+    D::Mapping: InPlaceMapping<D>,
+{
+    fn encode(value: D) -> Self::Bytes {
+        <D::Mapping as InPlaceMapping<D>>::encode(value)
+    }
+
+    fn decode(bytes: &Self::Bytes) -> D {
+        <D::Mapping as InPlaceMapping<D>>::decode(bytes)
+    }
+}
+
+impl<F, D: Domain<F>> BorrowedMapping<D> for ToBigEndian<F>
+where
+    D::Mapping: BorrowedMapping<D>,
+{
+    fn read(alloc: Global, bytes: &Self::Bytes) -> Result<D, AllocError> {
+        <D::Mapping as BorrowedMapping<D>>::read(alloc, bytes)
     }
 }
 

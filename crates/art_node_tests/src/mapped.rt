@@ -20,6 +20,7 @@ mod escaped_examples;
 mod mapped_callers;
 mod mapped_examples;
 mod ordered;
+mod read_values;
 mod refusals;
 mod tuples;
 mod value_bytes;
