@@ -1,4 +1,4 @@
--- Joined parts of a tuple: they come apart again, and keep their order. No public clause cites this.
+-- Several parts of a tuple: they come apart again, and keep their order. No public clause cites this.
 use Rattle.std.specs.Prelude.{◌≡◌, ◌↔◌, ℕ, ◌+◌, ◌≤◌, List, [], ◌∷◌, ◌++◌, length, refl}
 use Rattle.std.specs.Ordering.{ordering_then}
 use Rattle.std.specs.declared.cmp.Ordering.{Ordering}

@@ -13,21 +13,22 @@ use crate::fixed::FixedBytes;
 use crate::mapping::{
     BytesMapping, Holds, InjectiveMapping, NoPrefixesMapping, OrderedMapping, ValueTexts,
 };
-use crate::sequence::{IntegerForm, Joined, are_elements, array_of, joined_bytes};
-use crate::written::Written;
+use crate::sequence::{IntegerForm, Several, are_elements, array_of, joined_bytes};
+use crate::written::DomainTexts;
 use art_bytes::AsBytes;
 use std::alloc::{AllocError, Global};
 
-impl<F: IntegerForm, E: Written<F>, const N: usize, K: AsBytes> Holds<[E; N], K> for Joined<F> {
+impl<F: IntegerForm, E: DomainTexts<F>, const N: usize, K: AsBytes> Holds<[E; N], K>
+    for Several<F> {
     ghost holds = { HasTextInRange (IsArray N E.is_in_range) K.text (joined E.text_of) };
 }
 
-impl<F: IntegerForm, E: Written<F>, const N: usize> ValueTexts<[E; N]> for Joined<F> {
+impl<F: IntegerForm, E: DomainTexts<F>, const N: usize> ValueTexts<[E; N]> for Several<F> {
     ghost is_text = { HasTextInRange (IsArray N E.is_in_range) (λ text. text) (joined E.text_of) };
 }
 
 /// Arrays of exactly `N` elements. Writing one takes memory, reading one does not.
-impl<F: IntegerForm, E: Element<F>, const N: usize> BytesMapping<[E; N]> for Joined<F> {
+impl<F: IntegerForm, E: Element<F>, const N: usize> BytesMapping<[E; N]> for Several<F> {
     ghost holds_value = { λ _ _. (λ holds. holds, λ holds. holds) };
 
     ghost is_text_of_a_key = { λ other text value fits. text_of_a_vec (λ _. tt) (IsArray N E.is_in_range)
@@ -74,15 +75,15 @@ impl<F: IntegerForm, E: Element<F>, const N: usize> BytesMapping<[E; N]> for Joi
     }
 }
 
-impl<F: IntegerForm, E: Element<F>, const N: usize> InjectiveMapping<[E; N]> for Joined<F> {
+impl<F: IntegerForm, E: Element<F>, const N: usize> InjectiveMapping<[E; N]> for Several<F> {
     ghost decided_by_text = { λ x y x_in y_in same.
         same_from_joined E.keeps x y x_in.1 y_in.1 refl same };
 }
 
-impl<F: IntegerForm, E: Element<F>, const N: usize> OrderedMapping<[E; N]> for Joined<F> {
+impl<F: IntegerForm, E: Element<F>, const N: usize> OrderedMapping<[E; N]> for Several<F> {
     ghost keeps_order = { λ x y x_in y_in. joined_keep E.keeps x y x_in.1 y_in.1 };
 }
 
-impl<F: IntegerForm, E: Element<F>, const N: usize> NoPrefixesMapping<[E; N]> for Joined<F> {
+impl<F: IntegerForm, E: Element<F>, const N: usize> NoPrefixesMapping<[E; N]> for Several<F> {
     ghost no_prefixes = { joined_prefix_is_whole E.keeps N };
 }

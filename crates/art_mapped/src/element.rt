@@ -10,7 +10,7 @@ use crate::fixed::FixedBytes;
 use crate::mapping::{
     BytesMapping, Holds, InjectiveMapping, NoPrefixesMapping, OrderedMapping, ValueTexts,
 };
-use crate::written::Written;
+use crate::written::DomainTexts;
 use art_bytes::AsBytes;
 use std::alloc::{AllocError, Global};
 use std::marker::PhantomData;
@@ -28,7 +28,7 @@ use std::marker::PhantomData;
 /// // ..
 /// assert!(rt; element_back::<Unsigned, u64>(alloc, 1 << 40)? == 1 << 40);
 /// ```
-pub trait Element<F>: Written<F> + Copy + Ord {
+pub trait Element<F>: DomainTexts<F> + Copy + Ord {
     /// The bytes of a value.
     type Bytes: FixedBytes;
 
@@ -54,11 +54,11 @@ pub trait Element<F>: Written<F> + Copy + Ord {
 /// [`Element`] has an example.
 pub struct Single<F>(PhantomData<F>);
 
-impl<F, E: Written<F>, K: AsBytes> Holds<E, K> for Single<F> {
+impl<F, E: DomainTexts<F>, K: AsBytes> Holds<E, K> for Single<F> {
     ghost holds = { HasTextInRange E.is_in_range K.text E.text_of };
 }
 
-impl<F, E: Written<F>> ValueTexts<E> for Single<F> {
+impl<F, E: DomainTexts<F>> ValueTexts<E> for Single<F> {
     ghost is_text = { HasTextInRange E.is_in_range (λ text. text) E.text_of };
 }
 

@@ -20,7 +20,7 @@ use crate::sequence::IntegerForm;
 use crate::signed::Signed;
 use crate::tuple::ConcatTuple;
 use crate::unsigned::Unsigned;
-use crate::written::Written;
+use crate::written::DomainTexts;
 use std::num::{
     NonZeroI8, NonZeroI16, NonZeroI32, NonZeroI64, NonZeroI128, NonZeroIsize, NonZeroU8,
     NonZeroU16, NonZeroU32, NonZeroU64, NonZeroU128, NonZeroUsize,
@@ -50,46 +50,46 @@ pub fn parts_have_their_widths()
 /// Bytes are those of a `NonZero` type of unsigned integers exactly where they are not all zero.
 pub fn bytes_of_non_zero_unsigned_integers()
     ensures u8 { (bytes : List ℕ) → HasWidth 1 bytes → IsTextOfSome
-        ⟦<NonZeroU8 as Written<Unsigned>>⟧.is_in_range
-        ⟦<NonZeroU8 as Written<Unsigned>>⟧.text_of bytes ↔ (bytes ≢ replicate 1 0) }
+        ⟦<NonZeroU8 as DomainTexts<Unsigned>>⟧.is_in_range
+        ⟦<NonZeroU8 as DomainTexts<Unsigned>>⟧.text_of bytes ↔ (bytes ≢ replicate 1 0) }
     ensures u16 { (bytes : List ℕ) → HasWidth 2 bytes → IsTextOfSome
-        ⟦<NonZeroU16 as Written<Unsigned>>⟧.is_in_range
-        ⟦<NonZeroU16 as Written<Unsigned>>⟧.text_of bytes ↔ (bytes ≢ replicate 2 0) }
+        ⟦<NonZeroU16 as DomainTexts<Unsigned>>⟧.is_in_range
+        ⟦<NonZeroU16 as DomainTexts<Unsigned>>⟧.text_of bytes ↔ (bytes ≢ replicate 2 0) }
     ensures u32 { (bytes : List ℕ) → HasWidth 4 bytes → IsTextOfSome
-        ⟦<NonZeroU32 as Written<Unsigned>>⟧.is_in_range
-        ⟦<NonZeroU32 as Written<Unsigned>>⟧.text_of bytes ↔ (bytes ≢ replicate 4 0) }
+        ⟦<NonZeroU32 as DomainTexts<Unsigned>>⟧.is_in_range
+        ⟦<NonZeroU32 as DomainTexts<Unsigned>>⟧.text_of bytes ↔ (bytes ≢ replicate 4 0) }
     ensures u64 { (bytes : List ℕ) → HasWidth 8 bytes → IsTextOfSome
-        ⟦<NonZeroU64 as Written<Unsigned>>⟧.is_in_range
-        ⟦<NonZeroU64 as Written<Unsigned>>⟧.text_of bytes ↔ (bytes ≢ replicate 8 0) }
+        ⟦<NonZeroU64 as DomainTexts<Unsigned>>⟧.is_in_range
+        ⟦<NonZeroU64 as DomainTexts<Unsigned>>⟧.text_of bytes ↔ (bytes ≢ replicate 8 0) }
     ensures u128 { (bytes : List ℕ) → HasWidth 16 bytes → IsTextOfSome
-        ⟦<NonZeroU128 as Written<Unsigned>>⟧.is_in_range
-        ⟦<NonZeroU128 as Written<Unsigned>>⟧.text_of bytes ↔ (bytes ≢ replicate 16 0) }
+        ⟦<NonZeroU128 as DomainTexts<Unsigned>>⟧.is_in_range
+        ⟦<NonZeroU128 as DomainTexts<Unsigned>>⟧.text_of bytes ↔ (bytes ≢ replicate 16 0) }
     ensures usize { (bytes : List ℕ) → HasWidth 8 bytes → IsTextOfSome
-        ⟦<NonZeroUsize as Written<Unsigned>>⟧.is_in_range
-        ⟦<NonZeroUsize as Written<Unsigned>>⟧.text_of bytes ↔ (bytes ≢ replicate 8 0) }
+        ⟦<NonZeroUsize as DomainTexts<Unsigned>>⟧.is_in_range
+        ⟦<NonZeroUsize as DomainTexts<Unsigned>>⟧.text_of bytes ↔ (bytes ≢ replicate 8 0) }
 {}
 
 /// Bytes are those of a `NonZero` type of signed integers exactly where they are not 128 followed
 /// by zeros.
 pub fn bytes_of_non_zero_signed_integers()
     ensures i8 { (bytes : List ℕ) → HasWidth 1 bytes → IsTextOfSome
-        ⟦<NonZeroI8 as Written<Signed>>⟧.is_in_range
-        ⟦<NonZeroI8 as Written<Signed>>⟧.text_of bytes ↔ (bytes ≢ 128 ∷ replicate 0 0) }
+        ⟦<NonZeroI8 as DomainTexts<Signed>>⟧.is_in_range
+        ⟦<NonZeroI8 as DomainTexts<Signed>>⟧.text_of bytes ↔ (bytes ≢ 128 ∷ replicate 0 0) }
     ensures i16 { (bytes : List ℕ) → HasWidth 2 bytes → IsTextOfSome
-        ⟦<NonZeroI16 as Written<Signed>>⟧.is_in_range
-        ⟦<NonZeroI16 as Written<Signed>>⟧.text_of bytes ↔ (bytes ≢ 128 ∷ replicate 1 0) }
+        ⟦<NonZeroI16 as DomainTexts<Signed>>⟧.is_in_range
+        ⟦<NonZeroI16 as DomainTexts<Signed>>⟧.text_of bytes ↔ (bytes ≢ 128 ∷ replicate 1 0) }
     ensures i32 { (bytes : List ℕ) → HasWidth 4 bytes → IsTextOfSome
-        ⟦<NonZeroI32 as Written<Signed>>⟧.is_in_range
-        ⟦<NonZeroI32 as Written<Signed>>⟧.text_of bytes ↔ (bytes ≢ 128 ∷ replicate 3 0) }
+        ⟦<NonZeroI32 as DomainTexts<Signed>>⟧.is_in_range
+        ⟦<NonZeroI32 as DomainTexts<Signed>>⟧.text_of bytes ↔ (bytes ≢ 128 ∷ replicate 3 0) }
     ensures i64 { (bytes : List ℕ) → HasWidth 8 bytes → IsTextOfSome
-        ⟦<NonZeroI64 as Written<Signed>>⟧.is_in_range
-        ⟦<NonZeroI64 as Written<Signed>>⟧.text_of bytes ↔ (bytes ≢ 128 ∷ replicate 7 0) }
+        ⟦<NonZeroI64 as DomainTexts<Signed>>⟧.is_in_range
+        ⟦<NonZeroI64 as DomainTexts<Signed>>⟧.text_of bytes ↔ (bytes ≢ 128 ∷ replicate 7 0) }
     ensures i128 { (bytes : List ℕ) → HasWidth 16 bytes → IsTextOfSome
-        ⟦<NonZeroI128 as Written<Signed>>⟧.is_in_range
-        ⟦<NonZeroI128 as Written<Signed>>⟧.text_of bytes ↔ (bytes ≢ 128 ∷ replicate 15 0) }
+        ⟦<NonZeroI128 as DomainTexts<Signed>>⟧.is_in_range
+        ⟦<NonZeroI128 as DomainTexts<Signed>>⟧.text_of bytes ↔ (bytes ≢ 128 ∷ replicate 15 0) }
     ensures isize { (bytes : List ℕ) → HasWidth 8 bytes → IsTextOfSome
-        ⟦<NonZeroIsize as Written<Signed>>⟧.is_in_range
-        ⟦<NonZeroIsize as Written<Signed>>⟧.text_of bytes ↔ (bytes ≢ 128 ∷ replicate 7 0) }
+        ⟦<NonZeroIsize as DomainTexts<Signed>>⟧.is_in_range
+        ⟦<NonZeroIsize as DomainTexts<Signed>>⟧.text_of bytes ↔ (bytes ≢ 128 ∷ replicate 7 0) }
 {}
 
 /// Bytes are those of an array of `N` elements exactly where there are `N` times as many as an

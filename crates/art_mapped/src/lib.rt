@@ -41,8 +41,8 @@ pub use mapping::{
     BytesMapping, Holds, InjectiveMapping, NoPrefixesMapping, OrderedMapping, ValueTexts,
 };
 pub use octets::{Octets, ToOctets};
-pub use sequence::{IntegerForm, Joined};
+pub use sequence::{IntegerForm, Several};
 pub use signed::{Signed, ToIBE};
 pub use tuple::{ConcatTuple, OrderedTuple, TupleMappings, TupleValues};
 pub use unsigned::{ToUBE, Unsigned};
-pub use written::{Domain, ToBigEndian, Written};
+pub use written::{Domain, DomainTexts, ToBigEndian};

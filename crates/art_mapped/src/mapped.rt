@@ -9,6 +9,14 @@ use std::cmp::Ordering;
 use std::hash::{Hash, Hasher};
 use std::marker::PhantomData;
 
+/// A [`Mapped`] whose type of bytes, `K`, is a parameter. It names one trait of the mapping, so that a
+/// function over keys of any type gets its proof; code names the alias.
+pub struct MappedOver<B: Holds<D, K>, D, K: AsBytes> {
+    repr: K,
+    mapping: PhantomData<(B, D)>,
+    ghost of_a_value: { HoldsSome B.holds repr },
+}
+
 /// A key made of a value of `D`: the bytes of the value under the mapping `B`.
 ///
 /// Keys are equal, and hashed, by their bytes. Under an [`OrderedMapping`] they have the order of
@@ -26,13 +34,6 @@ use std::marker::PhantomData;
 /// assert!(rt; key != other);
 /// assert!(rt; key.partial_cmp(&other) == Some(Ordering::Less));
 /// ```
-pub struct MappedOver<B: Holds<D, K>, D, K: AsBytes> {
-    repr: K,
-    mapping: PhantomData<(B, D)>,
-    ghost of_a_value: { HoldsSome B.holds repr },
-}
-
-/// A key made of a value of `D` by the mapping `B`, as [`MappedOver`] says.
 pub type Mapped<B, D> = MappedOver<B, D, <B as BytesMapping<D>>::Bytes>;
 
 impl<B: Holds<D, K>, D, K: AsBytes + Drop> Drop for MappedOver<B, D, K> {
@@ -57,7 +58,6 @@ impl<K: AsBytes + Drop, B: BytesMapping<D, Bytes = K>, D> MappedOver<B, D, K> {
         ensures takes_no_memory { B.ALLOCATES ≡ false → IsOk result }
     {
         let repr = B::to_bytes(alloc, value)?;
-        prove_is_key(&repr);
         Ok(MappedOver {
             repr,
             mapping: PhantomData,
@@ -76,7 +76,6 @@ impl<K: AsBytes + Drop, B: BytesMapping<D, Bytes = K>, D> MappedOver<B, D, K> {
         ensures takes_no_memory { B.READ_ALLOCATES ≡ false → IsOk result }
     {
         let MappedOver { repr, mapping: _ } = self;
-        prove_is_key(&repr);
         B::from_bytes(alloc, repr)
     }
 
@@ -114,7 +113,7 @@ impl<B: Holds<D, K>, D, K: AsBytes> AsBytes for MappedOver<B, D, K> {
 
     ghost text = { mapped_text };
 
-    ghost is_key = { λ mapped. K.is_key (mapped_bytes mapped) × HoldsSome B.holds (mapped_bytes mapped) };
+    ghost is_key = { λ mapped. HoldsSome B.holds (mapped_bytes mapped) };
 
     fn as_bytes(&self) -> &[u8] {
         self.repr.as_bytes()
@@ -129,8 +128,8 @@ impl<K: AsBytes, B: NoPrefixesMapping<D> + BytesMapping<D, Bytes = K>, D> NoPref
 
     ghost no_prefixes = { λ a b a_some b_some.
         text_prefix_is_whole _ _ _ _ B.has_text B.no_prefixes a.repr b.repr
-        (stands_for_some B.holds_value a.repr a_some.1)
-        (stands_for_some B.holds_value b.repr b_some.1) };
+        (stands_for_some B.holds_value a.repr a_some)
+        (stands_for_some B.holds_value b.repr b_some) };
 }
 
 /// Keys are equal where their bytes are.

@@ -4,7 +4,7 @@ ghost use Rattle.art_mapped.specs.Addresses.{IsIpv4, IsIpv6};
 ghost use Rattle.art_mapped.specs.AddressLaws.{ipv4_keep, ipv6_keep};
 
 use crate::element::{Element, Single};
-use crate::written::{Domain, ToBigEndian, Written};
+use crate::written::{Domain, DomainTexts, ToBigEndian};
 use std::net::{Ipv4Addr, Ipv6Addr};
 
 /// The form of IP addresses: their octets in order.
@@ -35,8 +35,8 @@ impl Domain<Octets> for Ipv4Addr {
     ghost same_texts = { λ _ _. (λ is. is, λ is. is) };
 }
 
-impl Written<Octets> for Ipv4Addr {
-    type By = ToBigEndian<Octets>;
+impl DomainTexts<Octets> for Ipv4Addr {
+    type ToBytes = ToBigEndian<Octets>;
 
     ghost is_in_range = { IsIpv4 };
 
@@ -65,8 +65,8 @@ impl Domain<Octets> for Ipv6Addr {
     ghost same_texts = { λ _ _. (λ is. is, λ is. is) };
 }
 
-impl Written<Octets> for Ipv6Addr {
-    type By = ToBigEndian<Octets>;
+impl DomainTexts<Octets> for Ipv6Addr {
+    type ToBytes = ToBigEndian<Octets>;
 
     ghost is_in_range = { IsIpv6 };
 

@@ -8,7 +8,7 @@ ghost use Rattle.art_mapped.specs.NumberLaws.{signed_keep, keep_of, signed_decid
 
 use crate::element::{Element, Single};
 use crate::sequence::IntegerForm;
-use crate::written::{Domain, ToBigEndian, Written};
+use crate::written::{Domain, DomainTexts, ToBigEndian};
 use std::num::{NonZeroI8, NonZeroI16, NonZeroI32, NonZeroI64, NonZeroI128, NonZeroIsize};
 
 /// The form of signed integers: the digits of the number plus half of its type's range, which are
@@ -41,8 +41,8 @@ impl Domain<Signed> for i8 {
     ghost same_texts = { λ _ _. (λ is. is, λ is. is) };
 }
 
-impl Written<Signed> for i8 {
-    type By = ToBigEndian<Signed>;
+impl DomainTexts<Signed> for i8 {
+    type ToBytes = ToBigEndian<Signed>;
 
     ghost is_in_range = { IsSigned 1 };
 
@@ -71,8 +71,8 @@ impl Domain<Signed> for NonZeroI8 {
     ghost same_texts = { λ _ _. (λ is. is, λ is. is) };
 }
 
-impl Written<Signed> for NonZeroI8 {
-    type By = ToBigEndian<Signed>;
+impl DomainTexts<Signed> for NonZeroI8 {
+    type ToBytes = ToBigEndian<Signed>;
 
     ghost is_in_range = { λ n. IsSigned 1 (non_zero_i8_get n) };
 
@@ -103,8 +103,8 @@ impl Domain<Signed> for i16 {
     ghost same_texts = { λ _ _. (λ is. is, λ is. is) };
 }
 
-impl Written<Signed> for i16 {
-    type By = ToBigEndian<Signed>;
+impl DomainTexts<Signed> for i16 {
+    type ToBytes = ToBigEndian<Signed>;
 
     ghost is_in_range = { IsSigned 2 };
 
@@ -133,8 +133,8 @@ impl Domain<Signed> for NonZeroI16 {
     ghost same_texts = { λ _ _. (λ is. is, λ is. is) };
 }
 
-impl Written<Signed> for NonZeroI16 {
-    type By = ToBigEndian<Signed>;
+impl DomainTexts<Signed> for NonZeroI16 {
+    type ToBytes = ToBigEndian<Signed>;
 
     ghost is_in_range = { λ n. IsSigned 2 (non_zero_i16_get n) };
 
@@ -165,8 +165,8 @@ impl Domain<Signed> for i32 {
     ghost same_texts = { λ _ _. (λ is. is, λ is. is) };
 }
 
-impl Written<Signed> for i32 {
-    type By = ToBigEndian<Signed>;
+impl DomainTexts<Signed> for i32 {
+    type ToBytes = ToBigEndian<Signed>;
 
     ghost is_in_range = { IsSigned 4 };
 
@@ -195,8 +195,8 @@ impl Domain<Signed> for NonZeroI32 {
     ghost same_texts = { λ _ _. (λ is. is, λ is. is) };
 }
 
-impl Written<Signed> for NonZeroI32 {
-    type By = ToBigEndian<Signed>;
+impl DomainTexts<Signed> for NonZeroI32 {
+    type ToBytes = ToBigEndian<Signed>;
 
     ghost is_in_range = { λ n. IsSigned 4 (non_zero_i32_get n) };
 
@@ -227,8 +227,8 @@ impl Domain<Signed> for i64 {
     ghost same_texts = { λ _ _. (λ is. is, λ is. is) };
 }
 
-impl Written<Signed> for i64 {
-    type By = ToBigEndian<Signed>;
+impl DomainTexts<Signed> for i64 {
+    type ToBytes = ToBigEndian<Signed>;
 
     ghost is_in_range = { IsSigned 8 };
 
@@ -257,8 +257,8 @@ impl Domain<Signed> for NonZeroI64 {
     ghost same_texts = { λ _ _. (λ is. is, λ is. is) };
 }
 
-impl Written<Signed> for NonZeroI64 {
-    type By = ToBigEndian<Signed>;
+impl DomainTexts<Signed> for NonZeroI64 {
+    type ToBytes = ToBigEndian<Signed>;
 
     ghost is_in_range = { λ n. IsSigned 8 (non_zero_i64_get n) };
 
@@ -289,8 +289,8 @@ impl Domain<Signed> for i128 {
     ghost same_texts = { λ _ _. (λ is. is, λ is. is) };
 }
 
-impl Written<Signed> for i128 {
-    type By = ToBigEndian<Signed>;
+impl DomainTexts<Signed> for i128 {
+    type ToBytes = ToBigEndian<Signed>;
 
     ghost is_in_range = { IsSigned 16 };
 
@@ -319,8 +319,8 @@ impl Domain<Signed> for NonZeroI128 {
     ghost same_texts = { λ _ _. (λ is. is, λ is. is) };
 }
 
-impl Written<Signed> for NonZeroI128 {
-    type By = ToBigEndian<Signed>;
+impl DomainTexts<Signed> for NonZeroI128 {
+    type ToBytes = ToBigEndian<Signed>;
 
     ghost is_in_range = { λ n. IsSigned 16 (non_zero_i128_get n) };
 
@@ -351,8 +351,8 @@ impl Domain<Signed> for isize {
     ghost same_texts = { λ _ _. (λ is. is, λ is. is) };
 }
 
-impl Written<Signed> for isize {
-    type By = ToBigEndian<Signed>;
+impl DomainTexts<Signed> for isize {
+    type ToBytes = ToBigEndian<Signed>;
 
     ghost is_in_range = { IsSigned 8 };
 
@@ -381,8 +381,8 @@ impl Domain<Signed> for NonZeroIsize {
     ghost same_texts = { λ _ _. (λ is. is, λ is. is) };
 }
 
-impl Written<Signed> for NonZeroIsize {
-    type By = ToBigEndian<Signed>;
+impl DomainTexts<Signed> for NonZeroIsize {
+    type ToBytes = ToBigEndian<Signed>;
 
     ghost is_in_range = { λ n. IsSigned 8 (non_zero_isize_get n) };
 

@@ -8,7 +8,7 @@ ghost use Rattle.art_mapped.specs.NumberLaws.{unsigned_keep, keep_of, unsigned_d
 
 use crate::element::{Element, Single};
 use crate::sequence::IntegerForm;
-use crate::written::{Domain, ToBigEndian, Written};
+use crate::written::{Domain, DomainTexts, ToBigEndian};
 use std::num::{NonZeroU8, NonZeroU16, NonZeroU32, NonZeroU64, NonZeroU128, NonZeroUsize};
 
 /// The form of unsigned integers: the digits in base 256 at full width, most significant first.
@@ -45,8 +45,8 @@ impl Domain<Unsigned> for u8 {
     ghost same_texts = { λ _ _. (λ is. is, λ is. is) };
 }
 
-impl Written<Unsigned> for u8 {
-    type By = ToBigEndian<Unsigned>;
+impl DomainTexts<Unsigned> for u8 {
+    type ToBytes = ToBigEndian<Unsigned>;
 
     ghost is_in_range = { IsUnsigned 1 };
 
@@ -75,8 +75,8 @@ impl Domain<Unsigned> for NonZeroU8 {
     ghost same_texts = { λ _ _. (λ is. is, λ is. is) };
 }
 
-impl Written<Unsigned> for NonZeroU8 {
-    type By = ToBigEndian<Unsigned>;
+impl DomainTexts<Unsigned> for NonZeroU8 {
+    type ToBytes = ToBigEndian<Unsigned>;
 
     ghost is_in_range = { λ n. IsUnsigned 1 (non_zero_u8_get n) };
 
@@ -107,8 +107,8 @@ impl Domain<Unsigned> for u16 {
     ghost same_texts = { λ _ _. (λ is. is, λ is. is) };
 }
 
-impl Written<Unsigned> for u16 {
-    type By = ToBigEndian<Unsigned>;
+impl DomainTexts<Unsigned> for u16 {
+    type ToBytes = ToBigEndian<Unsigned>;
 
     ghost is_in_range = { IsUnsigned 2 };
 
@@ -137,8 +137,8 @@ impl Domain<Unsigned> for NonZeroU16 {
     ghost same_texts = { λ _ _. (λ is. is, λ is. is) };
 }
 
-impl Written<Unsigned> for NonZeroU16 {
-    type By = ToBigEndian<Unsigned>;
+impl DomainTexts<Unsigned> for NonZeroU16 {
+    type ToBytes = ToBigEndian<Unsigned>;
 
     ghost is_in_range = { λ n. IsUnsigned 2 (non_zero_u16_get n) };
 
@@ -169,8 +169,8 @@ impl Domain<Unsigned> for u32 {
     ghost same_texts = { λ _ _. (λ is. is, λ is. is) };
 }
 
-impl Written<Unsigned> for u32 {
-    type By = ToBigEndian<Unsigned>;
+impl DomainTexts<Unsigned> for u32 {
+    type ToBytes = ToBigEndian<Unsigned>;
 
     ghost is_in_range = { IsUnsigned 4 };
 
@@ -199,8 +199,8 @@ impl Domain<Unsigned> for NonZeroU32 {
     ghost same_texts = { λ _ _. (λ is. is, λ is. is) };
 }
 
-impl Written<Unsigned> for NonZeroU32 {
-    type By = ToBigEndian<Unsigned>;
+impl DomainTexts<Unsigned> for NonZeroU32 {
+    type ToBytes = ToBigEndian<Unsigned>;
 
     ghost is_in_range = { λ n. IsUnsigned 4 (non_zero_u32_get n) };
 
@@ -231,8 +231,8 @@ impl Domain<Unsigned> for u64 {
     ghost same_texts = { λ _ _. (λ is. is, λ is. is) };
 }
 
-impl Written<Unsigned> for u64 {
-    type By = ToBigEndian<Unsigned>;
+impl DomainTexts<Unsigned> for u64 {
+    type ToBytes = ToBigEndian<Unsigned>;
 
     ghost is_in_range = { IsUnsigned 8 };
 
@@ -261,8 +261,8 @@ impl Domain<Unsigned> for NonZeroU64 {
     ghost same_texts = { λ _ _. (λ is. is, λ is. is) };
 }
 
-impl Written<Unsigned> for NonZeroU64 {
-    type By = ToBigEndian<Unsigned>;
+impl DomainTexts<Unsigned> for NonZeroU64 {
+    type ToBytes = ToBigEndian<Unsigned>;
 
     ghost is_in_range = { λ n. IsUnsigned 8 (non_zero_u64_get n) };
 
@@ -293,8 +293,8 @@ impl Domain<Unsigned> for u128 {
     ghost same_texts = { λ _ _. (λ is. is, λ is. is) };
 }
 
-impl Written<Unsigned> for u128 {
-    type By = ToBigEndian<Unsigned>;
+impl DomainTexts<Unsigned> for u128 {
+    type ToBytes = ToBigEndian<Unsigned>;
 
     ghost is_in_range = { IsUnsigned 16 };
 
@@ -323,8 +323,8 @@ impl Domain<Unsigned> for NonZeroU128 {
     ghost same_texts = { λ _ _. (λ is. is, λ is. is) };
 }
 
-impl Written<Unsigned> for NonZeroU128 {
-    type By = ToBigEndian<Unsigned>;
+impl DomainTexts<Unsigned> for NonZeroU128 {
+    type ToBytes = ToBigEndian<Unsigned>;
 
     ghost is_in_range = { λ n. IsUnsigned 16 (non_zero_u128_get n) };
 
@@ -355,8 +355,8 @@ impl Domain<Unsigned> for usize {
     ghost same_texts = { λ _ _. (λ is. is, λ is. is) };
 }
 
-impl Written<Unsigned> for usize {
-    type By = ToBigEndian<Unsigned>;
+impl DomainTexts<Unsigned> for usize {
+    type ToBytes = ToBigEndian<Unsigned>;
 
     ghost is_in_range = { IsUnsigned 8 };
 
@@ -385,8 +385,8 @@ impl Domain<Unsigned> for NonZeroUsize {
     ghost same_texts = { λ _ _. (λ is. is, λ is. is) };
 }
 
-impl Written<Unsigned> for NonZeroUsize {
-    type By = ToBigEndian<Unsigned>;
+impl DomainTexts<Unsigned> for NonZeroUsize {
+    type ToBytes = ToBigEndian<Unsigned>;
 
     ghost is_in_range = { λ n. IsUnsigned 8 (non_zero_usize_get n) };
 

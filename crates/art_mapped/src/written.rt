@@ -8,7 +8,7 @@ use crate::element::{Element, Single};
 use crate::mapping::{
     BytesMapping, Holds, InjectiveMapping, NoPrefixesMapping, OrderedMapping, ValueTexts,
 };
-use crate::sequence::{IntegerForm, Joined};
+use crate::sequence::{IntegerForm, Several};
 use art_bytes::AsBytes;
 use std::alloc::{AllocError, Global};
 use std::marker::PhantomData;
@@ -30,9 +30,12 @@ use std::marker::PhantomData;
 pub struct ToBigEndian<F>(PhantomData<F>);
 
 /// Which values a mapping of the form `F` takes, and their bytes.
-pub trait Written<F> {
-    /// The mapping by which keys hold the values.
-    type By;
+///
+/// [`ToBigEndian`] has an example.
+pub trait DomainTexts<F> {
+    /// The mapping that writes the values, [`ToBigEndian`] over the form. It tells `u64` from `usize`,
+    /// which are one type in contracts, so that a function over either gets its proof.
+    type ToBytes;
 
     /// Which values the type has, as 0 to 65535 for `u16`.
     ghost is_in_range: { Self → Type 0 };
@@ -41,16 +44,16 @@ pub trait Written<F> {
     ghost text_of: { Self → List ℕ };
 }
 
-impl<F: IntegerForm, E: Written<F>, const N: usize> Written<F> for [E; N] {
-    type By = ToBigEndian<F>;
+impl<F: IntegerForm, E: DomainTexts<F>, const N: usize> DomainTexts<F> for [E; N] {
+    type ToBytes = ToBigEndian<F>;
 
     ghost is_in_range = { IsArray N E.is_in_range };
 
     ghost text_of = { joined E.text_of };
 }
 
-impl<F: IntegerForm, E: Written<F>> Written<F> for Vec<E> {
-    type By = ToBigEndian<F>;
+impl<F: IntegerForm, E: DomainTexts<F>> DomainTexts<F> for Vec<E> {
+    type ToBytes = ToBigEndian<F>;
 
     ghost is_in_range = { IsVec E.is_in_range };
 
@@ -60,7 +63,7 @@ impl<F: IntegerForm, E: Written<F>> Written<F> for Vec<E> {
 /// What a mapping of the form `F` takes: one element, or an array or a vector of integers.
 ///
 /// [`ToBigEndian`] has an example.
-pub trait Domain<F>: Written<F> + Ord {
+pub trait Domain<F>: DomainTexts<F> + Ord {
     /// How a value is written: as one element, or as several joined.
     type Mapping: OrderedMapping<Self>;
 
@@ -76,7 +79,7 @@ pub trait Domain<F>: Written<F> + Ord {
 }
 
 impl<F: IntegerForm, E: Element<F>, const N: usize> Domain<F> for [E; N] {
-    type Mapping = Joined<F>;
+    type Mapping = Several<F>;
 
     ghost same_keys = { λ _ _. (λ holds. holds, λ holds. holds) };
 
@@ -84,18 +87,18 @@ impl<F: IntegerForm, E: Element<F>, const N: usize> Domain<F> for [E; N] {
 }
 
 impl<F: IntegerForm, E: Element<F>> Domain<F> for Vec<E> {
-    type Mapping = Joined<F>;
+    type Mapping = Several<F>;
 
     ghost same_keys = { λ _ _. (λ holds. holds, λ holds. holds) };
 
     ghost same_texts = { λ _ _. (λ is. is, λ is. is) };
 }
 
-impl<F, D: Written<F>, K: AsBytes> Holds<D, K> for ToBigEndian<F> {
+impl<F, D: DomainTexts<F>, K: AsBytes> Holds<D, K> for ToBigEndian<F> {
     ghost holds = { HasTextInRange D.is_in_range K.text D.text_of };
 }
 
-impl<F, D: Written<F>> ValueTexts<D> for ToBigEndian<F> {
+impl<F, D: DomainTexts<F>> ValueTexts<D> for ToBigEndian<F> {
     ghost is_text = { HasTextInRange D.is_in_range (λ text. text) D.text_of };
 }
 

@@ -22,10 +22,10 @@ pub use art_bytes::{
     AsBytes, CStringKey, CStringKeyError, NoPrefixesBytes, OrderedBytes, SliceKey, StrKey,
 };
 pub use art_mapped::{
-    BytesMapping, ConcatTuple, Domain, Element, Escaped, EscapedKey, FixedBytes, Holds, Identity,
-    InjectiveMapping, IntegerForm, Joined, Mapped, MappedOver, NoPrefixesMapping, Octets,
-    OrderedMapping, OrderedTuple, Signed, Single, ToBigEndian, ToIBE, ToOctets, ToUBE,
-    TupleMappings, TupleValues, Unsigned, ValueTexts, Written, escaped_prefix,
+    BytesMapping, ConcatTuple, Domain, DomainTexts, Element, Escaped, EscapedKey, FixedBytes, Holds,
+    Identity, InjectiveMapping, IntegerForm, Mapped, MappedOver, NoPrefixesMapping, Octets,
+    OrderedMapping, OrderedTuple, Several, Signed, Single, ToBigEndian, ToIBE, ToOctets, ToUBE,
+    TupleMappings, TupleValues, Unsigned, ValueTexts, escaped_prefix,
 };
 pub use art_nodes::{
     AttemptOptimisticPrefixMatch, BuilderState, ChildCommand, ChildIter, ChildNode, ChildPairs,

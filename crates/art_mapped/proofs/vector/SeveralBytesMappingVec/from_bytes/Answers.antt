@@ -2,7 +2,7 @@ use Rattle.std.proofs.Common.{sym, ◌∙◌}
 use Rattle.art_mapped.specs.SequenceLaws.{same_from_joined}
 use Rattle.art_mapped.proofs.Answered.{if_ok_both}
 use Rattle.art_mapped.proofs.Vecs.{joined_from_vec}
-use Rattle.art_mapped.proofs.vector.JoinedBytesMappingVec.from_bytes.Goals as goal
+use Rattle.art_mapped.proofs.vector.SeveralBytesMappingVec.from_bytes.Goals as goal
 
 pub vec_of-requires : goal.vec_of-requires
 vec_of-requires g c = rw c.deref.ensures.value (joined_from_vec g.met.E.Element.keeps c.args.bytes.items c.requires)

@@ -1,5 +1,5 @@
 use Rattle.art_mapped.proofs.Vecs.{vec_from_joined, joined_from_vec}
-use Rattle.art_mapped.proofs.vector.JoinedBytesMappingVec.is_value.Goals as goal
+use Rattle.art_mapped.proofs.vector.SeveralBytesMappingVec.is_value.Goals as goal
 
 pub returns : goal.returns
 returns g c =

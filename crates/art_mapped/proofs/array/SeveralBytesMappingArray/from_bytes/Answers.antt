@@ -1,7 +1,7 @@
 use Rattle.std.proofs.Common.{rules, sym, ◌∙◌}
 use Rattle.art_mapped.specs.SequenceLaws.{same_from_joined}
 use Rattle.art_mapped.proofs.Parts.{size_of_array, joined_from_array}
-use Rattle.art_mapped.proofs.array.JoinedBytesMappingArray.from_bytes.Goals as goal
+use Rattle.art_mapped.proofs.array.SeveralBytesMappingArray.from_bytes.Goals as goal
 
 pub array_of-requires : goal.array_of-requires
 array_of-requires g c =

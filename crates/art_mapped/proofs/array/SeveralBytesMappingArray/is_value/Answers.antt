@@ -1,7 +1,7 @@
 use Rattle.std.proofs.Common.{◌≡◌, ◌∙◌, length, arith}
 use Rattle.std.proofs.lemmas.Bool.Decides.{nat_tests}
 use Rattle.art_mapped.proofs.Parts.{size_of_array, joined_from_array, array_from_joined}
-use Rattle.art_mapped.proofs.array.JoinedBytesMappingArray.is_value.Goals as goal
+use Rattle.art_mapped.proofs.array.SeveralBytesMappingArray.is_value.Goals as goal
 
 pub returns-then-len-WIDTH : goal.returns-then-len-WIDTH
 returns-then-len-WIDTH g c =

@@ -1,5 +1,5 @@
 use Rattle.std.proofs.Common.{rules}
-use Rattle.art_mapped.proofs.array.JoinedBytesMappingArray.to_bytes.Goals as goal
+use Rattle.art_mapped.proofs.array.SeveralBytesMappingArray.to_bytes.Goals as goal
 
 pub returns-clause-text : goal.returns-clause-text
 returns-clause-text g c = search rules
