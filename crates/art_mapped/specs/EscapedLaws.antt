@@ -1,19 +1,16 @@
 -- Escaped texts read back, keep the order of the bytes, and are no prefixes of each other. No public clause cites this.
-use Rattle.std.specs.Prelude.{◌≡◌, ◌↔◌, ℕ, zero, suc, List, [], ◌∷◌, ◌++◌, ◌≤◌, length, Vec, ⊤, refl}
+use Rattle.std.specs.Prelude.{◌≡◌, ◌↔◌, ℕ, zero, suc, List, [], ◌∷◌, ◌++◌, refl}
 use Rattle.std.specs.Cmp.{nat_cmp_is}
 use Rattle.std.specs.Ordering.{nat_cmp, ordering_then}
 use Rattle.std.specs.declared.cmp.Ordering.{Ordering}
 use Rattle.std.specs.declared.cmp.Ordering.TheVariants.{Less, Greater}
-use Rattle.std.specs.Vec.{vec_items}
-use Rattle.std.proofs.Common.{sym, ap, ◌∙◌, arith, append_assoc, length-append}
+use Rattle.std.proofs.Common.{sym, ap, ◌∙◌, arith, append_assoc}
 use Rattle.std.proofs.lemmas.List.{append-nil}
 use Rattle.std.proofs.lemmas.Grind.{flat_map-append}
-use Rattle.std.proofs.Math.Logic.{∥∥₁_elim, ∥∥₁_map}
+use Rattle.std.proofs.Math.Logic.{∥∥₁_elim}
 use Rattle.std.proofs.Props.{props}
 use Rattle.art_bytes.specs.Text.{IsPrefixOf, text_order}
-use Rattle.art_mapped.specs.Escaped.{escape, escaped, escaped_text, vec_escaped_text, IsEscaped}
-use Rattle.art_mapped.specs.Mapping.{StandsForSome, HasTextOf}
-use Rattle.art_mapped.specs.VecLaws.{vec_with}
+use Rattle.art_mapped.specs.Escaped.{escape, escaped, escaped_text, IsEscaped}
 
 -- the escaped text of bytes in two parts
 pub escaped_text-append : (front last : List ℕ) → escaped_text (front ++ last) ≡ escaped front ++ escaped_text last
