@@ -49,6 +49,22 @@ impl<B: Holds<D, K>, D, K: AsBytes + Drop> Drop for MappedOver<B, D, K> {
     }
 }
 
+/// A key is copied where its bytes are, as those of integers and addresses.
+impl<B: Holds<D, K>, D, K: AsBytes + Copy> Clone for MappedOver<B, D, K> {
+    ghost use Rattle.std.specs.Prelude.{◌≡◌, ⊤};
+
+    ghost is_clone = { λ mapped copy. copy ≡ mapped };
+
+    ghost is_infallible = { λ _. ⊤ };
+
+    fn clone(&self) -> Result<Self, AllocError> {
+        Ok(MappedOver {
+            repr: self.repr,
+            mapping: PhantomData,
+        })
+    }
+}
+
 impl<K: AsBytes + Drop, B: BytesMapping<D, Bytes = K>, D> MappedOver<B, D, K> {
     ghost use Rattle.art_mapped.specs.Mapped.{mapped_bytes, mapped_text, HoldsValue};
 
