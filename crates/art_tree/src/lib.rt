@@ -14,111 +14,30 @@ mod path;
 mod remove;
 mod tree;
 
-pub use art_arena::AnyInnerRef;
-pub use art_arena::AnyNodeRef;
-pub use art_arena::ArenaInnerNode;
-pub use art_arena::ArenaNode;
-pub use art_arena::ArenaReader;
-pub use art_arena::End;
-pub use art_arena::ExplicitMismatch;
-pub use art_arena::FullPrefix;
-pub use art_arena::InnerRef;
-pub use art_arena::LeafLinks;
-pub use art_arena::NodeArena;
-pub use art_arena::NodePrefix;
-pub use art_arena::NodeRef;
-pub use art_arena::any_leaf;
-pub use art_arena::end_leaf;
-pub use art_bytes::AsBytes;
-pub use art_bytes::CStringKey;
-pub use art_bytes::CStringKeyError;
-pub use art_bytes::NoPrefixesBytes;
-pub use art_bytes::OrderedBytes;
-pub use art_bytes::SliceKey;
-pub use art_bytes::StrKey;
-pub use art_mapped::BorrowedMapping;
-pub use art_mapped::BytesMapping;
-pub use art_mapped::ConcatTuple;
-pub use art_mapped::Domain;
-pub use art_mapped::Element;
-pub use art_mapped::Escaped;
-pub use art_mapped::EscapedKey;
-pub use art_mapped::FixedBytes;
-pub use art_mapped::Holds;
-pub use art_mapped::Identity;
-pub use art_mapped::InPlaceMapping;
-pub use art_mapped::InjectiveMapping;
-pub use art_mapped::IntegerForm;
-pub use art_mapped::Joined;
-pub use art_mapped::Mapped;
-pub use art_mapped::MappedOver;
-pub use art_mapped::NoPrefixesMapping;
-pub use art_mapped::Octets;
-pub use art_mapped::OrderedMapping;
-pub use art_mapped::OrderedTuple;
-pub use art_mapped::Signed;
-pub use art_mapped::Single;
-pub use art_mapped::ToBigEndian;
-pub use art_mapped::ToIBE;
-pub use art_mapped::ToOctets;
-pub use art_mapped::ToUBE;
-pub use art_mapped::TupleMappings;
-pub use art_mapped::TupleValues;
-pub use art_mapped::Unsigned;
-pub use art_mapped::ValueTexts;
-pub use art_mapped::Written;
-pub use art_mapped::escaped_prefix;
-pub use art_nodes::AttemptOptimisticPrefixMatch;
-pub use art_nodes::BuilderState;
-pub use art_nodes::ChildCommand;
-pub use art_nodes::ChildIter;
-pub use art_nodes::ChildNode;
-pub use art_nodes::ChildPairs;
-pub use art_nodes::ChildReply;
-pub use art_nodes::ConcreteInnerNodePtr;
-pub use art_nodes::ConcreteNodePtr;
-pub use art_nodes::HasChild;
-pub use art_nodes::HasOneChild;
-pub use art_nodes::Header;
-pub use art_nodes::InnerNode;
-pub use art_nodes::InnerNode4;
-pub use art_nodes::InnerNode16;
-pub use art_nodes::InnerNode48;
-pub use art_nodes::InnerNode256;
-pub use art_nodes::InnerNodeBuilder;
-pub use art_nodes::InnerNodeCommon;
-pub use art_nodes::InnerNodeDirect;
-pub use art_nodes::InnerNodeIndirect;
-pub use art_nodes::InnerNodeRead;
-pub use art_nodes::InnerNodeSorted;
-pub use art_nodes::LeafNode;
-pub use art_nodes::NoChild;
-pub use art_nodes::Node;
-pub use art_nodes::NodePtr;
-pub use art_nodes::NodeType;
-pub use art_nodes::NonMaxIndex;
-pub use art_nodes::OpaqueNodePtr;
-pub use art_nodes::OptimisticMismatch;
-pub use art_nodes::PackedNodePtr;
-pub use art_nodes::PairIter;
-pub use art_nodes::PessimisticMismatch;
-pub use art_nodes::PrefixMatch;
-pub use art_nodes::Replayed;
-pub use art_nodes::Sequence;
-pub use art_nodes::TryFromByteError;
-pub use art_nodes::common_prefix_len;
-pub use art_nodes::replay;
-pub use art_nodes::valid_range_bounds;
-pub use art_nodes::with_node;
+pub use art_arena::{
+    AnyInnerRef, AnyNodeRef, ArenaInnerNode, ArenaNode, ArenaReader, End, ExplicitMismatch,
+    FullPrefix, InnerRef, LeafLinks, NodeArena, NodePrefix, NodeRef, any_leaf, end_leaf,
+};
+pub use art_bytes::{
+    AsBytes, CStringKey, CStringKeyError, NoPrefixesBytes, OrderedBytes, SliceKey, StrKey,
+};
+pub use art_mapped::{
+    BorrowedMapping, BytesMapping, ConcatTuple, Domain, Element, Escaped, EscapedKey, FixedBytes,
+    Holds, Identity, InPlaceMapping, InjectiveMapping, IntegerForm, Joined, Mapped, MappedOver,
+    NoPrefixesMapping, Octets, OrderedMapping, OrderedTuple, Signed, Single, ToBigEndian, ToIBE,
+    ToOctets, ToUBE, TupleMappings, TupleValues, Unsigned, ValueTexts, Written, escaped_prefix,
+};
+pub use art_nodes::{
+    AttemptOptimisticPrefixMatch, BuilderState, ChildCommand, ChildIter, ChildNode, ChildPairs,
+    ChildReply, ConcreteInnerNodePtr, ConcreteNodePtr, HasChild, HasOneChild, Header, InnerNode,
+    InnerNode4, InnerNode16, InnerNode48, InnerNode256, InnerNodeBuilder, InnerNodeCommon,
+    InnerNodeDirect, InnerNodeIndirect, InnerNodeRead, InnerNodeSorted, LeafNode, NoChild, Node,
+    NodePtr, NodeType, NonMaxIndex, OpaqueNodePtr, OptimisticMismatch, PackedNodePtr, PairIter,
+    PessimisticMismatch, PrefixMatch, Replayed, Sequence, TryFromByteError, common_prefix_len,
+    replay, valid_range_bounds, with_node,
+};
 pub use find::find_leaf;
-pub use insert::InsertFault;
-pub use insert::InsertRefusal;
-pub use insert::text_toward;
-pub use loading::LoadFault;
-pub use loading::LoadRefusal;
-pub use loading::load;
-pub use path::TreePath;
-pub use path::TreePathSearch;
-pub use tree::ArtTree;
-pub use tree::HoldsOneTree;
-pub use tree::Rooted;
+pub use insert::{InsertFault, InsertRefusal, text_toward};
+pub use loading::{LoadFault, LoadRefusal, load};
+pub use path::{TreePath, TreePathSearch};
+pub use tree::{ArtTree, HoldsOneTree, Rooted};
