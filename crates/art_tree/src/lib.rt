@@ -21,6 +21,7 @@ pub use art_arena::{
 pub use art_bytes::{
     AsBytes, CStringKey, CStringKeyError, NoPrefixesBytes, OrderedBytes, SliceKey, StrKey,
 };
+// Values as keys.
 pub use art_mapped::{
     BorrowedMapping, BytesMapping, ConcatTuple, Domain, DomainTexts, Element, Escaped, EscapedKey,
     FixedBytes, Holds, Identity, InPlaceMapping, InjectiveMapping, IntegerForm, Mapped, MappedOver,
