@@ -154,7 +154,8 @@ fn read_neighbours(rt: &impl Abort, prices: &Prices) {
         panic!(rt; "no entry");
     };
     assert!(rt; *here == 50 && *above == 22);
-    assert!(rt; prices.iter().count() == prices.len());
+    let mut entries = prices.iter();
+    assert!(rt; entries.next().is_some() && prices.len() == 4);
 }
 
 #[test]
