@@ -1,5 +1,6 @@
 //! Tests of a map: each call, and one allocation failure.
 mod ascending_entries;
+mod key_examples;
 mod map_examples;
 mod refusals;
 mod set_examples;

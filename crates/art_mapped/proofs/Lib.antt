@@ -1,5 +1,7 @@
 mod Answered
 mod Cuts
+mod EscapedRuns
+mod Escapes
 mod Flip
 mod OrderLemmas
 mod Pairs

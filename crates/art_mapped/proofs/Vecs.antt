@@ -1,5 +1,5 @@
 -- Vectors and the lists of their items.
-use Rattle.std.proofs.Common.{◌≡◌, ◌≤◌, ◌*◌, ℕ, List, length, Vec, refl, ap, ◌∙◌, arith}
+use Rattle.std.proofs.Common.{◌≡◌, ◌≤◌, ◌*◌, ℕ, List, length, Vec, ap, ◌∙◌}
 use Rattle.std.proofs.Math.Logic.{∥∥₁_map}
 use Rattle.std.proofs.Math.Nat.{le-mul_of_pos_right}
 use Rattle.std.specs.declared.cmp.Ordering.{Ordering}
@@ -7,21 +7,7 @@ use Rattle.art_mapped.specs.Elements.{KeepsOrder}
 use Rattle.art_mapped.specs.Sequences.{AreJoined, IsVec, vec_text}
 use Rattle.art_mapped.specs.SequenceLaws.{length-joined}
 use Rattle.std.specs.Vec.{vec_items}
-
--- for a list that is no longer than some vector there is a vector with those items
-pub vec_with : {X Y Z : Type 0} (other : Vec X Z) (items : List Y) → length items ≤ length (vec_items other) → (v : Vec Y Z) × (vec_items v ≡ items)
-vec_with other items fits = (
-  record {
-    ptr = other.ptr;
-    len = length items;
-    cap = other.cap;
-    alloc = other.alloc;
-    items = items;
-    ok = (refl, omega (arith, other.ok.0, other.ok.1));
-    small = other.small;
-  },
-  refl,
-)
+use Rattle.art_mapped.specs.VecLaws.{vec_with}
 
 module _ {E : Type 0} {is_element : E → Type 0} {text : E → List ℕ} {order : E → E → Ordering} {width : ℕ} (laws : KeepsOrder is_element text order width) where
   -- bytes are some elements' joined exactly where they are those of some vector

@@ -2,6 +2,10 @@ pub mod AddressLaws
 pub mod Addresses
 pub mod DigitLaws
 pub mod Elements
+pub mod Escaped
+pub mod EscapedKey
+pub mod EscapedLaws
+pub mod EscapedStrings
 pub mod Mapped
 pub mod Mapping
 pub mod MappingLaws
@@ -13,3 +17,4 @@ pub mod Sequences
 pub mod TupleLaws
 pub mod Tuples
 pub mod ValueBytes
+pub mod VecLaws

@@ -1,4 +1,4 @@
--- Joined elements: length and order. No public clause cites this.
+-- Several elements: length and order. No public clause cites this.
 use Rattle.std.specs.Prelude.{◌≡◌, ℕ, ◌*◌, ◌<◌, List, [], ◌∷◌, ◌++◌, length, All, refl}
 use Rattle.std.specs.Ordering.{nat_cmp, ordering_then}
 use Rattle.std.specs.declared.cmp.Ordering.{Ordering}

@@ -1,5 +1,5 @@
--- Joined parts of a tuple: they come apart again, and keep their order. No public clause cites this.
-use Rattle.std.specs.Prelude.{◌≡◌, ℕ, ◌+◌, List, [], ◌∷◌, ◌++◌, length, refl}
+-- Several parts of a tuple: they come apart again, and keep their order. No public clause cites this.
+use Rattle.std.specs.Prelude.{◌≡◌, ◌↔◌, ℕ, ◌+◌, ◌≤◌, List, [], ◌∷◌, ◌++◌, length, refl}
 use Rattle.std.specs.Ordering.{ordering_then}
 use Rattle.std.specs.declared.cmp.Ordering.{Ordering}
 use Rattle.std.proofs.Common.{sym, ap, ◌∙◌, subst, arith, length-append}
@@ -106,3 +106,43 @@ pub kept_by_items : {D N : Type 0} (nested : D → N) (is_in_domain : N → Type
 kept_by_items nested is_in_domain stands_for a b same some =
     let At : List ℕ → Type 0 = StandsForSome (λ value. is_in_domain (nested value)) (λ text value. stands_for text (nested value)) in
     subst At same some
+
+-- a list is a part's text exactly where the part has the value and the list stands for it
+pub part_text : {K D Is : Type 0} {is_key : K → Type 0} {text : K → List ℕ} {is_in_domain : D → Type 0} {text_of : D → List ℕ} {stands_for : K → D → Type 0} {width : ℕ}
+    → ((bytes : K) (value : D) → is_in_domain value → stands_for bytes value → text bytes ≡ text_of value)
+    → ((key : K) → is_key key → length (text key) ≡ width) → (given : List ℕ) (value : D)
+    → Is ↔ ((bytes : K) × is_key bytes × (text bytes ≡ given) × is_in_domain value × stands_for bytes value)
+    → Is ↔ (IsPart is_in_domain text_of (IsTextOf is_key text stands_for) width value × IsTextOf is_key text stands_for given value)
+part_text has_text long given value is = (
+  λ a_text.
+      let of = is.0 a_text in
+      let its_text = has_text of.0 value of.3 of.4 in
+      ((of.3, sym (ap length its_text) ∙ long of.0 of.1, (of.0, of.1, its_text, of.4)), (of.0, of.1, of.2, of.4)),
+  λ both.
+      let part = both.0 in
+      let of = both.1 in
+      is.1 (of.0, of.1, of.2, part.0, of.3),
+)
+
+-- a list is the parts' text, where it is one of those before the last and then one of the last
+pub both_text : {A B : Type 0} {front_is : List ℕ → A → Type 0} {last_is : List ℕ → B → Type 0} {front_in : A → Type 0} {front_stands : List ℕ → A → Type 0} {last_in : B → Type 0} {last_stands : List ℕ → B → Type 0} (most : ℕ)
+    → ((text : List ℕ) (value : A) → length text ≤ most → front_is text value ↔ (front_in value × front_stands text value))
+    → ((text : List ℕ) (value : B) → length text ≤ most → last_is text value ↔ (last_in value × last_stands text value))
+    → (text : List ℕ) (value : A × B) → length text ≤ most
+    → StandsForBoth front_is last_is text value ↔ (Both front_in last_in value × StandsForBoth front_stands last_stands text value)
+both_text most front last text value fits = (
+  λ of.
+      let size = ap length of.2 in
+      let sum = length-append of.0 of.1 in
+      let first = (front of.0 value.0 (omega (arith, sum, size, fits))).0 of.3 in
+      let later = (last of.1 value.1 (omega (arith, sum, size, fits))).0 of.4 in
+      ((first.0, later.0), (of.0, of.1, of.2, first.1, later.1)),
+  λ both.
+      let ins = both.0 in
+      let of = both.1 in
+      let size = ap length of.2 in
+      let sum = length-append of.0 of.1 in
+      let first = (front of.0 value.0 (omega (arith, sum, size, fits))).1 (ins.0, of.3) in
+      let later = (last of.1 value.1 (omega (arith, sum, size, fits))).1 (ins.1, of.4) in
+      (of.0, of.1, of.2, first, later),
+)

@@ -2,12 +2,17 @@
 ghost use Rattle.std.specs.Prelude.{◌≡◌, ◌≢◌, ℕ, List, false, IfSome, IfNone, refl};
 ghost use Rattle.std.proofs.Common.{ap};
 ghost use Rattle.art_mapped.specs.Elements.{KeepsOrder};
-ghost use Rattle.art_mapped.specs.Mapping.{HasTextOf};
-ghost use Rattle.art_mapped.specs.MappingLaws.{kept_by_text};
+ghost use Rattle.art_mapped.specs.Mapping.{HasTextInRange, HasTextOf};
+ghost use Rattle.art_mapped.specs.MappingLaws.{kept_by_text, text_of_a_key};
 ghost use Rattle.art_mapped.specs.SequenceLaws.{same_from_text, prefix_is_whole};
 
 use crate::fixed::FixedBytes;
-use crate::mapping::{BytesMapping, InjectiveMapping, NoPrefixesMapping, OrderedMapping};
+use crate::mapping::{
+    BorrowedMapping, BytesMapping, Holds, InPlaceMapping, InjectiveMapping, NoPrefixesMapping,
+    OrderedMapping, ValueTexts,
+};
+use crate::written::DomainTexts;
+use art_bytes::AsBytes;
 use std::alloc::{AllocError, Global};
 use std::marker::PhantomData;
 
@@ -24,31 +29,25 @@ use std::marker::PhantomData;
 /// // ..
 /// assert!(rt; element_back::<Unsigned, u64>(alloc, 1 << 40)? == 1 << 40);
 /// ```
-pub trait Element<F>: Copy + Ord {
+pub trait Element<F>: DomainTexts<F> + Copy + Ord {
     /// The bytes of a value.
     type Bytes: FixedBytes;
-
-    /// Which values the type has, as 0 to 65535 for `u16`.
-    ghost is_in_range: { Self → Type 0 };
-
-    /// The bytes of a value, as a list.
-    ghost text_of: { Self → List ℕ };
 
     /// The bytes of a value. Takes no memory.
     fn encode(self) -> Self::Bytes
         ensures key { Self.Bytes.is_key result }
-        ensures text { Self.Bytes.text result ≡ text_of self }
-        ensures in_range { is_in_range self };
+        ensures text { Self.Bytes.text result ≡ Self.text_of self }
+        ensures in_range { Self.is_in_range self };
 
     /// The value with these bytes, and `None` exactly where no value has them. Takes no memory.
     fn decode(bytes: Self::Bytes) -> Option<Self>
         ensures some { IfSome result (λ value.
-            is_in_range value × (Self.Bytes.text bytes ≡ text_of value)) }
-        ensures none { IfNone result ((value : Self) → is_in_range value →
-            Self.Bytes.text bytes ≢ text_of value) };
+            Self.is_in_range value × (Self.Bytes.text bytes ≡ Self.text_of value)) }
+        ensures none { IfNone result ((value : Self) → Self.is_in_range value →
+            Self.Bytes.text bytes ≢ Self.text_of value) };
 
     /// All values have bytes of one width, in the order of the values.
-    ghost keeps: { KeepsOrder is_in_range text_of Self.cmp Self.Bytes.WIDTH };
+    ghost keeps: { KeepsOrder Self.is_in_range Self.text_of Self.cmp Self.Bytes.WIDTH };
 }
 
 /// The mapping of one element to its bytes.
@@ -56,10 +55,21 @@ pub trait Element<F>: Copy + Ord {
 /// [`Element`] has an example.
 pub struct Single<F>(PhantomData<F>);
 
-impl<F, E: Element<F>> BytesMapping<E> for Single<F> {
-    type Bytes = E::Bytes;
+impl<F, E: DomainTexts<F>, K: AsBytes> Holds<E, K> for Single<F> {
+    ghost holds = { HasTextInRange E.is_in_range K.text E.text_of };
+}
 
-    type Inner = ();
+impl<F, E: DomainTexts<F>> ValueTexts<E> for Single<F> {
+    ghost is_text = { HasTextInRange E.is_in_range (λ text. text) E.text_of };
+}
+
+impl<F, E: Element<F>> BytesMapping<E> for Single<F> {
+    ghost holds_value = { λ _ _. (λ holds. holds, λ holds. holds) };
+
+    ghost is_text_of_a_key = { λ _ text value _. text_of_a_key E.Bytes.is_key E.Bytes.text E.is_in_range E.text_of text value (λ in_range.
+        E.Bytes.held (E.text_of value) (E.keeps.long value in_range)) };
+
+    type Bytes = E::Bytes;
 
     const ALLOCATES: bool = false;
 
@@ -99,6 +109,25 @@ impl<F, E: Element<F>> BytesMapping<E> for Single<F> {
 
     fn is_value(bytes: &E::Bytes) -> bool {
         E::decode(*bytes).is_some()
+    }
+}
+
+impl<F, E: Element<F>> InPlaceMapping<E> for Single<F> {
+    fn encode(value: E) -> E::Bytes {
+        value.encode()
+    }
+
+    fn decode(bytes: &E::Bytes) -> E {
+        match E::decode(*bytes) {
+            Some(value) => value,
+            None => unreachable!(),
+        }
+    }
+}
+
+impl<F, E: Element<F>> BorrowedMapping<E> for Single<F> {
+    fn read(_alloc: Global, bytes: &E::Bytes) -> Result<E, AllocError> {
+        Ok(<Single<F> as InPlaceMapping<E>>::decode(bytes))
     }
 }
 

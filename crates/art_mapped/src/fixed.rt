@@ -1,5 +1,5 @@
 //! Keys of one length.
-ghost use Rattle.std.specs.Prelude.{◌≡◌, ℕ, length};
+ghost use Rattle.std.specs.Prelude.{◌≡◌, ℕ, List, length, refl};
 
 use art_bytes::AsBytes;
 
@@ -36,6 +36,10 @@ pub trait FixedBytes: AsBytes + Copy + Sealed {
     /// A key has exactly `WIDTH` bytes.
     ghost width: { (key : Self) → Self.is_key key → length (Self.text key) ≡ WIDTH };
 
+    /// Exactly so many bytes are those of some key.
+    ghost held: { (text : List ℕ) → length text ≡ WIDTH →
+        (key : Self) × Self.is_key key × (Self.text key ≡ text) };
+
     /// Keys with the same bytes are equal.
     ghost one_key: { (a b : Self) → Self.is_key a → Self.is_key b →
         Self.text a ≡ Self.text b → a ≡ b };
@@ -47,6 +51,8 @@ impl<const N: usize> FixedBytes for [u8; N] {
     ghost WIDTH = { N };
 
     ghost width = { λ key is_key. is_key };
+
+    ghost held = { λ text long. (text, long, refl) };
 
     ghost one_key = { λ a b _ _ same. same };
 

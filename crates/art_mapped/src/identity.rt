@@ -1,8 +1,10 @@
 //! The mapping of keys to themselves.
 ghost use Rattle.std.specs.Prelude.{◌≡◌, false, refl};
 ghost use Rattle.std.proofs.Math.Logic.{∥∥₁_map};
+ghost use Rattle.art_mapped.specs.Mapping.{HasTextInRange};
+ghost use Rattle.std.proofs.Common.{ap, sym, ◌∙◌};
 
-use crate::mapping::{BytesMapping, NoPrefixesMapping, prove_is_key};
+use crate::mapping::{BytesMapping, Holds, NoPrefixesMapping, ValueTexts, prove_is_key};
 use art_bytes::{AsBytes, NoPrefixesBytes};
 use std::alloc::{AllocError, Global};
 
@@ -22,10 +24,23 @@ use std::alloc::{AllocError, Global};
 #[derive(Debug)]
 pub struct Identity;
 
-impl<D: AsBytes + Drop> BytesMapping<D> for Identity {
-    type Bytes = D;
+impl<D: AsBytes> Holds<D, D> for Identity {
+    ghost holds = { λ bytes value. D.is_key value × (value ≡ bytes) };
+}
 
-    type Inner = ();
+impl<D: AsBytes> ValueTexts<D> for Identity {
+    ghost is_text = { HasTextInRange D.is_key (λ text. text) D.text };
+}
+
+impl<D: AsBytes + Drop> BytesMapping<D> for Identity {
+    ghost holds_value = { λ _ _. (λ holds. holds, λ holds. holds) };
+
+    ghost is_text_of_a_key = { λ _ text value _. (
+      λ of. (value, of.0, sym of.1, of.0, refl),
+      λ of. (of.3, sym of.2 ∙ ap D.text (sym of.4)),
+    ) };
+
+    type Bytes = D;
 
     const ALLOCATES: bool = false;
 

@@ -1,18 +1,34 @@
 //! Parts of fixed width, one after the other, as tuples are written.
-ghost use Rattle.std.specs.Prelude.{◌≡◌, ◌↔◌, ◌++◌, ◌+◌, ◌-◌, ◌^◌, ◌||◌, ℕ, List, Bool, false, IsTrue, IsOk, OnOk, IfOk, min};
+ghost use Rattle.std.specs.Prelude.{◌≡◌, ◌≤◌, length, Vec, ◌↔◌, ◌++◌, ◌+◌, ◌-◌, ◌^◌, ◌||◌, ℕ, List, Bool, false, IsTrue, IsOk, OnOk, IfOk, min};
+ghost use Rattle.std.specs.Vec.{vec_items};
+ghost use Rattle.std.specs.declared.alloc.Global.{Global};
 ghost use Rattle.art_mapped.specs.Mapping.{StandsForSome};
 ghost use Rattle.art_mapped.specs.Tuples.{IsPart, IsTextOf, Both, both_texts, AreSameBoth, StandsForBoth, TextLaws, OrderLaws};
-ghost use Rattle.art_mapped.specs.TupleLaws.{part_laws, both_laws, both_order};
+ghost use Rattle.art_mapped.specs.TupleLaws.{part_laws, part_text, both_laws, both_text, both_order};
 
 use crate::fixed::FixedBytes;
-use crate::mapping::{BytesMapping, OrderedMapping};
+use crate::mapping::{BytesMapping, OrderedMapping, ValueTexts};
 use art_bytes::AsBytes;
 use std::alloc::{AllocError, Global};
 use std::marker::PhantomData;
 
+/// Which lists are the bytes of the parts, joined.
+pub trait JointTexts<D> {
+    /// The list is the bytes of the value's parts.
+    ghost is_text: { List ℕ → D → Type 0 };
+}
+
+impl<D, M: ValueTexts<D>> JointTexts<D> for Part<M> {
+    ghost is_text = { M.is_text };
+}
+
+impl<A, B, F: JointTexts<A>, L: JointTexts<B>> JointTexts<(A, B)> for Then<F, L> {
+    ghost is_text = { StandsForBoth F.is_text L.is_text };
+}
+
 /// Mappings of fixed width whose bytes are joined: the parts of a tuple, nested in pairs from the
 /// first part on.
-pub trait Joint<D> {
+pub trait Joint<D>: JointTexts<D> {
     /// Whether `read` takes memory. Where it is false, `read` never fails.
     const READ_ALLOCATES: bool;
 
@@ -59,6 +75,11 @@ pub trait Joint<D> {
             IfOk result (λ read. are_same read value) }
         ensures takes_no_memory { READ_ALLOCATES ≡ false → IsOk result };
 
+    /// A list is the bytes of the values that it stands for, where it is no longer than some vector.
+    ghost is_text_of_parts: { (other : Vec ℕ Global) (text : List ℕ) (value : D) →
+        length text ≤ length (vec_items other) →
+        Self.is_text text value ↔ (is_in_domain value × stands_for text value) };
+
     /// Equal values have the same bytes.
     ghost one_text: { (x y : D) → are_same x y → text_of x ≡ text_of y };
 
@@ -93,6 +114,9 @@ impl<D, K: FixedBytes, M: BytesMapping<D, Bytes = K>> Joint<D> for Part<M> {
     ghost stands_for = { IsTextOf K.is_key K.text M.stands_for };
 
     ghost one_text = { M.one_text };
+
+    ghost is_text_of_parts = { λ other text value fits.
+        part_text M.has_text K.width text value (M.is_text_of_a_key other text value fits) };
 
     ghost laws = { part_laws K.WIDTH M.has_text K.one_key M.reads_one };
 
@@ -139,6 +163,9 @@ impl<A: Drop, B: Drop, F: Joint<A>, L: Joint<B>> Joint<(A, B)> for Then<F, L> {
 
     ghost one_text = { λ x y same.
         Prim.rw (F.one_text x.0 y.0 same.0, L.one_text x.1 y.1 same.1) Prim.cc };
+
+    ghost is_text_of_parts = { λ other. both_text (length (vec_items other))
+        (F.is_text_of_parts other) (L.is_text_of_parts other) };
 
     ghost laws = { both_laws F.laws L.laws };
 

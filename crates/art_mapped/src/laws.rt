@@ -2,11 +2,12 @@
 //!
 //! `BytesMapping::is_value` returns whether some value has the bytes. These laws state for which
 //! bytes there is one, so that `from_bytes` can be called where `is_value` was not.
-ghost use Rattle.std.specs.Prelude.{◌≡◌, ◌≢◌, ◌↔◌, ℕ, List, ◌++◌, ◌+◌, ◌*◌, ◌/◌, ◌%◌, ◌<◌, ◌∷◌, length, take, drop, replicate, Vec};
+ghost use Rattle.std.specs.Prelude.{◌≡◌, ◌≢◌, ◌↔◌, ℕ, List, ◌++◌, ◌+◌, ◌*◌, ◌/◌, ◌%◌, ◌<◌, ◌∷◌, length, take, drop, replicate, Vec, IsTrue, ⊤};
 ghost use Rattle.std.specs.Net.Addr.{ipv4_octets, ipv6_octets};
 ghost use Rattle.std.specs.Vec.{vec_items};
 ghost use Rattle.std.specs.declared.alloc.Global.{Global};
 ghost use Rattle.art_mapped.specs.Addresses.{IsIpv4, IsIpv6};
+ghost use Rattle.art_mapped.specs.Escaped.{is_escaped, vec_escaped_text};
 ghost use Rattle.art_mapped.specs.Mapping.{StandsForSome, HasTextOf};
 ghost use Rattle.art_mapped.specs.Numbers.{digits, IsUnsigned, IsSigned, signed_text};
 ghost use Rattle.art_mapped.specs.Sequences.{joined, part, IsArray, IsVec, vec_text};
@@ -19,6 +20,7 @@ use crate::sequence::IntegerForm;
 use crate::signed::Signed;
 use crate::tuple::ConcatTuple;
 use crate::unsigned::Unsigned;
+use crate::written::DomainTexts;
 use std::num::{
     NonZeroI8, NonZeroI16, NonZeroI32, NonZeroI64, NonZeroI128, NonZeroIsize, NonZeroU8,
     NonZeroU16, NonZeroU32, NonZeroU64, NonZeroU128, NonZeroUsize,
@@ -48,46 +50,46 @@ pub fn parts_have_their_widths()
 /// Bytes are those of a `NonZero` type of unsigned integers exactly where they are not all zero.
 pub fn bytes_of_non_zero_unsigned_integers()
     ensures u8 { (bytes : List ℕ) → HasWidth 1 bytes → IsTextOfSome
-        ⟦<NonZeroU8 as Element<Unsigned>>⟧.is_in_range
-        ⟦<NonZeroU8 as Element<Unsigned>>⟧.text_of bytes ↔ (bytes ≢ replicate 1 0) }
+        ⟦<NonZeroU8 as DomainTexts<Unsigned>>⟧.is_in_range
+        ⟦<NonZeroU8 as DomainTexts<Unsigned>>⟧.text_of bytes ↔ (bytes ≢ replicate 1 0) }
     ensures u16 { (bytes : List ℕ) → HasWidth 2 bytes → IsTextOfSome
-        ⟦<NonZeroU16 as Element<Unsigned>>⟧.is_in_range
-        ⟦<NonZeroU16 as Element<Unsigned>>⟧.text_of bytes ↔ (bytes ≢ replicate 2 0) }
+        ⟦<NonZeroU16 as DomainTexts<Unsigned>>⟧.is_in_range
+        ⟦<NonZeroU16 as DomainTexts<Unsigned>>⟧.text_of bytes ↔ (bytes ≢ replicate 2 0) }
     ensures u32 { (bytes : List ℕ) → HasWidth 4 bytes → IsTextOfSome
-        ⟦<NonZeroU32 as Element<Unsigned>>⟧.is_in_range
-        ⟦<NonZeroU32 as Element<Unsigned>>⟧.text_of bytes ↔ (bytes ≢ replicate 4 0) }
+        ⟦<NonZeroU32 as DomainTexts<Unsigned>>⟧.is_in_range
+        ⟦<NonZeroU32 as DomainTexts<Unsigned>>⟧.text_of bytes ↔ (bytes ≢ replicate 4 0) }
     ensures u64 { (bytes : List ℕ) → HasWidth 8 bytes → IsTextOfSome
-        ⟦<NonZeroU64 as Element<Unsigned>>⟧.is_in_range
-        ⟦<NonZeroU64 as Element<Unsigned>>⟧.text_of bytes ↔ (bytes ≢ replicate 8 0) }
+        ⟦<NonZeroU64 as DomainTexts<Unsigned>>⟧.is_in_range
+        ⟦<NonZeroU64 as DomainTexts<Unsigned>>⟧.text_of bytes ↔ (bytes ≢ replicate 8 0) }
     ensures u128 { (bytes : List ℕ) → HasWidth 16 bytes → IsTextOfSome
-        ⟦<NonZeroU128 as Element<Unsigned>>⟧.is_in_range
-        ⟦<NonZeroU128 as Element<Unsigned>>⟧.text_of bytes ↔ (bytes ≢ replicate 16 0) }
+        ⟦<NonZeroU128 as DomainTexts<Unsigned>>⟧.is_in_range
+        ⟦<NonZeroU128 as DomainTexts<Unsigned>>⟧.text_of bytes ↔ (bytes ≢ replicate 16 0) }
     ensures usize { (bytes : List ℕ) → HasWidth 8 bytes → IsTextOfSome
-        ⟦<NonZeroUsize as Element<Unsigned>>⟧.is_in_range
-        ⟦<NonZeroUsize as Element<Unsigned>>⟧.text_of bytes ↔ (bytes ≢ replicate 8 0) }
+        ⟦<NonZeroUsize as DomainTexts<Unsigned>>⟧.is_in_range
+        ⟦<NonZeroUsize as DomainTexts<Unsigned>>⟧.text_of bytes ↔ (bytes ≢ replicate 8 0) }
 {}
 
 /// Bytes are those of a `NonZero` type of signed integers exactly where they are not 128 followed
 /// by zeros.
 pub fn bytes_of_non_zero_signed_integers()
     ensures i8 { (bytes : List ℕ) → HasWidth 1 bytes → IsTextOfSome
-        ⟦<NonZeroI8 as Element<Signed>>⟧.is_in_range
-        ⟦<NonZeroI8 as Element<Signed>>⟧.text_of bytes ↔ (bytes ≢ 128 ∷ replicate 0 0) }
+        ⟦<NonZeroI8 as DomainTexts<Signed>>⟧.is_in_range
+        ⟦<NonZeroI8 as DomainTexts<Signed>>⟧.text_of bytes ↔ (bytes ≢ 128 ∷ replicate 0 0) }
     ensures i16 { (bytes : List ℕ) → HasWidth 2 bytes → IsTextOfSome
-        ⟦<NonZeroI16 as Element<Signed>>⟧.is_in_range
-        ⟦<NonZeroI16 as Element<Signed>>⟧.text_of bytes ↔ (bytes ≢ 128 ∷ replicate 1 0) }
+        ⟦<NonZeroI16 as DomainTexts<Signed>>⟧.is_in_range
+        ⟦<NonZeroI16 as DomainTexts<Signed>>⟧.text_of bytes ↔ (bytes ≢ 128 ∷ replicate 1 0) }
     ensures i32 { (bytes : List ℕ) → HasWidth 4 bytes → IsTextOfSome
-        ⟦<NonZeroI32 as Element<Signed>>⟧.is_in_range
-        ⟦<NonZeroI32 as Element<Signed>>⟧.text_of bytes ↔ (bytes ≢ 128 ∷ replicate 3 0) }
+        ⟦<NonZeroI32 as DomainTexts<Signed>>⟧.is_in_range
+        ⟦<NonZeroI32 as DomainTexts<Signed>>⟧.text_of bytes ↔ (bytes ≢ 128 ∷ replicate 3 0) }
     ensures i64 { (bytes : List ℕ) → HasWidth 8 bytes → IsTextOfSome
-        ⟦<NonZeroI64 as Element<Signed>>⟧.is_in_range
-        ⟦<NonZeroI64 as Element<Signed>>⟧.text_of bytes ↔ (bytes ≢ 128 ∷ replicate 7 0) }
+        ⟦<NonZeroI64 as DomainTexts<Signed>>⟧.is_in_range
+        ⟦<NonZeroI64 as DomainTexts<Signed>>⟧.text_of bytes ↔ (bytes ≢ 128 ∷ replicate 7 0) }
     ensures i128 { (bytes : List ℕ) → HasWidth 16 bytes → IsTextOfSome
-        ⟦<NonZeroI128 as Element<Signed>>⟧.is_in_range
-        ⟦<NonZeroI128 as Element<Signed>>⟧.text_of bytes ↔ (bytes ≢ 128 ∷ replicate 15 0) }
+        ⟦<NonZeroI128 as DomainTexts<Signed>>⟧.is_in_range
+        ⟦<NonZeroI128 as DomainTexts<Signed>>⟧.text_of bytes ↔ (bytes ≢ 128 ∷ replicate 15 0) }
     ensures isize { (bytes : List ℕ) → HasWidth 8 bytes → IsTextOfSome
-        ⟦<NonZeroIsize as Element<Signed>>⟧.is_in_range
-        ⟦<NonZeroIsize as Element<Signed>>⟧.text_of bytes ↔ (bytes ≢ 128 ∷ replicate 7 0) }
+        ⟦<NonZeroIsize as DomainTexts<Signed>>⟧.is_in_range
+        ⟦<NonZeroIsize as DomainTexts<Signed>>⟧.text_of bytes ↔ (bytes ≢ 128 ∷ replicate 7 0) }
 {}
 
 /// Bytes are those of an array of `N` elements exactly where there are `N` times as many as an
@@ -103,6 +105,14 @@ pub fn bytes_of_arrays_and_vectors<F: IntegerForm, E: Element<F>>()
         bytes ↔ ((length (vec_items bytes) % E.Bytes.WIDTH ≡ 0) ×
         ((k : ℕ) → k < length (vec_items bytes) / E.Bytes.WIDTH →
         IsTextOfSome E.is_in_range E.text_of (part E.Bytes.WIDTH k (vec_items bytes)))) }
+{}
+
+/// Bytes are those of a byte string under `Escaped` exactly where each zero among them is followed by
+/// 255, but for the two zeros that end them.
+pub fn bytes_of_escaped_strings()
+    ensures { (bytes : Vec ℕ Global) →
+        StandsForSome (λ _. ⊤) (HasTextOf vec_items (vec_escaped_text {A = Global})) bytes ↔
+        IsTrue (is_escaped (vec_items bytes)) }
 {}
 
 /// The bytes of a tuple are as many as those of its parts together. Bytes that are keys of the

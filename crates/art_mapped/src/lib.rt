@@ -2,9 +2,10 @@
 //!
 //! A [`BytesMapping`] gives each value of a domain its bytes, and reads the value back from them.
 //! [`ToUBE`] and [`ToIBE`] map integers, and arrays and vectors of integers; [`ToOctets`] maps IP
-//! addresses; [`Identity`] maps a key to itself; [`ConcatTuple`] maps tuples of two to six parts,
-//! for composite indexes. A [`Mapped`] is a key made of a value: it holds the value's bytes, and
-//! under an ordered mapping it compares as the value does.
+//! addresses; [`Escaped`] maps strings of any bytes; [`Identity`] maps a key to itself;
+//! [`ConcatTuple`] maps tuples of two to six parts, for composite indexes. A [`Mapped`] is a key made
+//! of a value: it holds the value's bytes, and under an ordered mapping it compares as the value
+//! does.
 //!
 //! The examples are lines of tests. There `rt` is the `HostRuntime` of the test, `alloc` is
 //! `rt.alloc()`, and `assert!(rt; c)` fails where `c` is false.
@@ -12,6 +13,9 @@
 
 mod array;
 mod element;
+mod escaped;
+mod escaped_key;
+mod escaped_string;
 mod fixed;
 mod identity;
 mod joint;
@@ -28,13 +32,18 @@ mod vector;
 mod written;
 
 pub use element::{Element, Single};
+pub use escaped::{Escaped, escaped_prefix};
+pub use escaped_key::EscapedKey;
 pub use fixed::FixedBytes;
 pub use identity::Identity;
-pub use mapped::Mapped;
-pub use mapping::{BytesMapping, InjectiveMapping, NoPrefixesMapping, OrderedMapping};
+pub use mapped::{Mapped, MappedOver};
+pub use mapping::{
+    BorrowedMapping, BytesMapping, Holds, InPlaceMapping, InjectiveMapping, NoPrefixesMapping,
+    OrderedMapping, ValueTexts,
+};
 pub use octets::{Octets, ToOctets};
-pub use sequence::{IntegerForm, Joined};
+pub use sequence::{IntegerForm, Several};
 pub use signed::{Signed, ToIBE};
 pub use tuple::{ConcatTuple, OrderedTuple, TupleMappings, TupleValues};
 pub use unsigned::{ToUBE, Unsigned};
-pub use written::{Domain, ToBigEndian};
+pub use written::{Domain, DomainTexts, ToBigEndian};

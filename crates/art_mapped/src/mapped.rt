@@ -1,13 +1,25 @@
 //! A key made of a value by a mapping.
 ghost use Rattle.std.specs.Prelude.{◌≡◌, IsOk, IfOk, false};
-ghost use Rattle.art_mapped.specs.Mapping.{StandsForSome};
+ghost use Rattle.art_mapped.specs.Mapping.{HoldsSome};
 
-use crate::mapping::{BytesMapping, NoPrefixesMapping, OrderedMapping, prove_is_key};
+use crate::mapping::{
+    BorrowedMapping, BytesMapping, Holds, InPlaceMapping, NoPrefixesMapping, OrderedMapping,
+    prove_is_key,
+};
 use art_bytes::{AsBytes, NoPrefixesBytes, OrderedBytes};
 use std::alloc::{AllocError, Global};
 use std::cmp::Ordering;
+use std::fmt::{self, Debug, Display, Formatter, Write};
 use std::hash::{Hash, Hasher};
 use std::marker::PhantomData;
+
+/// A [`Mapped`] whose type of bytes, `K`, is a parameter. It names one trait of the mapping, so that a
+/// function over keys of any type gets its proof; code names the alias.
+pub struct MappedOver<B: Holds<D, K>, D, K: AsBytes> {
+    repr: K,
+    mapping: PhantomData<(B, D)>,
+    ghost of_a_value: { HoldsSome B.holds repr },
+}
 
 /// A key made of a value of `D`: the bytes of the value under the mapping `B`.
 ///
@@ -26,22 +38,34 @@ use std::marker::PhantomData;
 /// assert!(rt; key != other);
 /// assert!(rt; key.partial_cmp(&other) == Some(Ordering::Less));
 /// ```
-pub struct Mapped<B: BytesMapping<D>, D> {
-    repr: B::Bytes,
-    mapping: PhantomData<(B, D, B::Inner)>,
-    ghost of_a_value: { StandsForSome B.is_in_domain B.stands_for repr },
-}
+pub type Mapped<B, D> = MappedOver<B, D, <B as BytesMapping<D>>::Bytes>;
 
-impl<B: BytesMapping<D>, D> Drop for Mapped<B, D> {
+impl<B: Holds<D, K>, D, K: AsBytes + Drop> Drop for MappedOver<B, D, K> {
     fn drop(self) {
-        let Mapped {
+        let MappedOver {
             repr: _,
             mapping: _,
         } = self;
     }
 }
 
-impl<B: BytesMapping<D>, D> Mapped<B, D> {
+/// A key is copied where its bytes are, as those of integers and addresses.
+impl<B: Holds<D, K>, D, K: AsBytes + Copy> Clone for MappedOver<B, D, K> {
+    ghost use Rattle.std.specs.Prelude.{◌≡◌, ⊤};
+
+    ghost is_clone = { λ mapped copy. copy ≡ mapped };
+
+    ghost is_infallible = { λ _. ⊤ };
+
+    fn clone(&self) -> Result<Self, AllocError> {
+        Ok(MappedOver {
+            repr: self.repr,
+            mapping: PhantomData,
+        })
+    }
+}
+
+impl<K: AsBytes + Drop, B: BytesMapping<D, Bytes = K>, D> MappedOver<B, D, K> {
     ghost use Rattle.art_mapped.specs.Mapped.{mapped_bytes, mapped_text, HoldsValue};
 
     /// The key of a value. Its bytes are those of the value under `B`.
@@ -54,7 +78,7 @@ impl<B: BytesMapping<D>, D> Mapped<B, D> {
         ensures takes_no_memory { B.ALLOCATES ≡ false → IsOk result }
     {
         let repr = B::to_bytes(alloc, value)?;
-        Ok(Mapped {
+        Ok(MappedOver {
             repr,
             mapping: PhantomData,
         })
@@ -71,7 +95,7 @@ impl<B: BytesMapping<D>, D> Mapped<B, D> {
             IfOk result (λ read. B.are_same read value) }
         ensures takes_no_memory { B.READ_ALLOCATES ≡ false → IsOk result }
     {
-        let Mapped { repr, mapping: _ } = self;
+        let MappedOver { repr, mapping: _ } = self;
         B::from_bytes(alloc, repr)
     }
 
@@ -82,34 +106,78 @@ impl<B: BytesMapping<D>, D> Mapped<B, D> {
     /// unchanged.
     pub fn clone(&self) -> Result<Self, AllocError>
     where
-        B::Bytes: Clone,
-        requires { (bytes : B.Bytes) → B.Bytes.is_clone (mapped_bytes self.now) bytes →
-            B.Bytes.text bytes ≡ mapped_text self.now }
+        K: Clone,
+        requires { (bytes : K) → K.is_clone (mapped_bytes self.now) bytes →
+            K.text bytes ≡ mapped_text self.now }
         ensures bytes { IfOk result (λ mapped.
-            B.Bytes.is_clone (mapped_bytes self.now) (mapped_bytes mapped)) }
+            K.is_clone (mapped_bytes self.now) (mapped_bytes mapped)) }
         ensures text { IfOk result (λ mapped. mapped_text mapped ≡ mapped_text self.now) }
         ensures value { (value : D) → HoldsValue self.now value →
-            ((bytes : B.Bytes) → B.Bytes.is_clone (mapped_bytes self.now) bytes →
+            ((bytes : K) → K.is_clone (mapped_bytes self.now) bytes →
             B.stands_for bytes value) →
             IfOk result (λ mapped. HoldsValue mapped value) }
-        ensures takes_no_memory { B.Bytes.is_infallible (mapped_bytes self.now) → IsOk result }
+        ensures takes_no_memory { K.is_infallible (mapped_bytes self.now) → IsOk result }
     {
         let repr = self.repr.clone()?;
         prove_is_key(&repr);
-        Ok(Mapped {
+        Ok(MappedOver {
             repr,
             mapping: PhantomData,
         })
     }
 }
 
+impl<K: AsBytes + Drop, B: BorrowedMapping<D, Bytes = K>, D> MappedOver<B, D, K> {
+    ghost use Rattle.art_mapped.specs.Mapped.{mapped_text, HoldsValue};
+
+    /// The value that the key was made of. The key stays.
+    ///
+    /// Error: [`AllocError`] on an allocation failure, and never where `B::READ_ALLOCATES` is
+    /// false.
+    pub fn read(&self, alloc: Global) -> Result<D, AllocError>
+        ensures value { IfOk result (λ read. HoldsValue self.now read) }
+        ensures text { IfOk result (λ read. mapped_text self.now ≡ B.text_of read) }
+        ensures inverts { (value : D) → HoldsValue self.now value →
+            IfOk result (λ read. B.are_same read value) }
+        ensures takes_no_memory { B.READ_ALLOCATES ≡ false → IsOk result }
+    {
+        B::read(alloc, &self.repr)
+    }
+}
+
+impl<K: AsBytes + Drop, B: InPlaceMapping<D, Bytes = K>, D> MappedOver<B, D, K> {
+    ghost use Rattle.art_mapped.specs.Mapped.{mapped_text, HoldsValue};
+
+    /// The key of a value, as [`new`](MappedOver::new) returns it. Takes no memory.
+    pub fn of(value: D) -> Self
+        ensures value { HoldsValue result value }
+        ensures text { mapped_text result ≡ B.text_of value }
+    {
+        let repr = B::encode(value);
+        prove_is_key(&repr);
+        MappedOver {
+            repr,
+            mapping: PhantomData,
+        }
+    }
+
+    /// The value that the key was made of, as [`get`](MappedOver::get) returns it. Takes no memory.
+    pub fn value(&self) -> D
+        ensures value { HoldsValue self.now result }
+        ensures text { mapped_text self.now ≡ B.text_of result }
+        ensures inverts { (value : D) → HoldsValue self.now value → B.are_same result value }
+    {
+        B::decode(&self.repr)
+    }
+}
+
 /// The bytes of the key are those of its value.
-impl<B: BytesMapping<D>, D> AsBytes for Mapped<B, D> {
+impl<B: Holds<D, K>, D, K: AsBytes> AsBytes for MappedOver<B, D, K> {
     ghost use Rattle.art_mapped.specs.Mapped.{mapped_bytes, mapped_text};
 
     ghost text = { mapped_text };
 
-    ghost is_key = { λ mapped. StandsForSome B.is_in_domain B.stands_for (mapped_bytes mapped) };
+    ghost is_key = { λ mapped. HoldsSome B.holds (mapped_bytes mapped) };
 
     fn as_bytes(&self) -> &[u8] {
         self.repr.as_bytes()
@@ -118,15 +186,34 @@ impl<B: BytesMapping<D>, D> AsBytes for Mapped<B, D> {
 
 /// No key is a proper prefix of another where the mapping has that law: for integers, addresses,
 /// arrays and tuples, and under [`Identity`] where the keys have it. Vectors do not.
-impl<B: NoPrefixesMapping<D>, D> NoPrefixesBytes for Mapped<B, D> {
-    ghost use Rattle.art_mapped.specs.MappingLaws.{text_prefix_is_whole};
+impl<K: AsBytes, B: NoPrefixesMapping<D> + BytesMapping<D, Bytes = K>, D> NoPrefixesBytes
+    for MappedOver<B, D, K> {
+    ghost use Rattle.art_mapped.specs.MappingLaws.{stands_for_some, text_prefix_is_whole};
 
     ghost no_prefixes = { λ a b a_some b_some.
-        text_prefix_is_whole _ _ _ _ B.has_text B.no_prefixes a.repr b.repr a_some b_some };
+        text_prefix_is_whole _ _ _ _ B.has_text B.no_prefixes a.repr b.repr
+        (stands_for_some B.holds_value a.repr a_some)
+        (stands_for_some B.holds_value b.repr b_some) };
+}
+
+/// The value, as its own type writes it. A map of such keys is written with it.
+impl<K: AsBytes + Drop, B: InPlaceMapping<D, Bytes = K>, D: Debug + Drop> Debug
+    for MappedOver<B, D, K> {
+    fn fmt<W: Write>(&self, f: &mut Formatter<W>) -> fmt::Result {
+        self.value().fmt(f)
+    }
+}
+
+/// The value, as its own type writes it.
+impl<K: AsBytes + Drop, B: InPlaceMapping<D, Bytes = K>, D: Display + Drop> Display
+    for MappedOver<B, D, K> {
+    fn fmt<W: Write>(&self, f: &mut Formatter<W>) -> fmt::Result {
+        self.value().fmt(f)
+    }
 }
 
 /// Keys are equal where their bytes are.
-impl<B: BytesMapping<D>, D> PartialEq for Mapped<B, D> {
+impl<B: Holds<D, K>, D, K: AsBytes> PartialEq for MappedOver<B, D, K> {
     ghost use Rattle.std.specs.Prelude.{nat_eq};
     ghost use Rattle.std.specs.Ordering.{on};
     ghost use Rattle.std.specs.Cmp.{partial_equiv_from_equiv};
@@ -143,7 +230,7 @@ impl<B: BytesMapping<D>, D> PartialEq for Mapped<B, D> {
     }
 }
 
-impl<B: BytesMapping<D>, D> Eq for Mapped<B, D> {
+impl<B: Holds<D, K>, D, K: AsBytes> Eq for MappedOver<B, D, K> {
     ghost use Rattle.std.proofs.lemmas.Cmp.{on_equiv, nat_list_eq_equiv};
     ghost use Rattle.art_mapped.specs.Mapped.{mapped_text};
 
@@ -151,7 +238,7 @@ impl<B: BytesMapping<D>, D> Eq for Mapped<B, D> {
 }
 
 /// A key is hashed by its bytes.
-impl<B: BytesMapping<D>, D> Hash for Mapped<B, D> {
+impl<B: Holds<D, K>, D, K: AsBytes> Hash for MappedOver<B, D, K> {
     ghost use Rattle.std.proofs.Common.{rules};
     ghost use Rattle.std.specs.Cmp.Rules.{hashing};
     ghost use Rattle.std.specs.Hash as fed;
@@ -167,7 +254,8 @@ impl<B: BytesMapping<D>, D> Hash for Mapped<B, D> {
 }
 
 /// Keys of an ordered mapping have the order of their bytes, which is that of the values.
-impl<B: OrderedMapping<D>, D: Ord> Ord for Mapped<B, D> {
+impl<K: AsBytes, B: OrderedMapping<D> + BytesMapping<D, Bytes = K>, D: Ord> Ord
+    for MappedOver<B, D, K> {
     ghost use Rattle.std.specs.Ordering.{on};
     ghost use Rattle.std.proofs.Common.{rules};
     ghost use Rattle.std.specs.Cmp.Rules.{comparing};
@@ -192,7 +280,8 @@ impl<B: OrderedMapping<D>, D: Ord> Ord for Mapped<B, D> {
     }
 }
 
-impl<B: OrderedMapping<D>, D: Ord> PartialOrd for Mapped<B, D> {
+impl<K: AsBytes, B: OrderedMapping<D> + BytesMapping<D, Bytes = K>, D: Ord> PartialOrd
+    for MappedOver<B, D, K> {
     ghost use Rattle.std.specs.Ordering.{on, as_partial_cmp};
     ghost use Rattle.std.proofs.Common.{rules};
     ghost use Rattle.std.specs.Cmp.{partial_order_from_own_ties};
@@ -210,7 +299,8 @@ impl<B: OrderedMapping<D>, D: Ord> PartialOrd for Mapped<B, D> {
     }
 }
 
-impl<B: OrderedMapping<D>, D: Ord> OrderedBytes for Mapped<B, D> {
+impl<K: AsBytes, B: OrderedMapping<D> + BytesMapping<D, Bytes = K>, D: Ord> OrderedBytes
+    for MappedOver<B, D, K> {
     ghost use Rattle.std.specs.Prelude.{refl};
 
     ghost ordered = { λ _ _ _ _. refl };

@@ -1,10 +1,26 @@
 //! Mappings between values and bytes, and their laws.
-ghost use Rattle.std.specs.Prelude.{◌≡◌, ◌↔◌, ℕ, List, Bool, false, IsTrue, IsOk, IfOk, OnErr, IfSome, IfNone};
+ghost use Rattle.std.specs.Vec.{vec_items};
+ghost use Rattle.std.specs.declared.alloc.Global.{Global};
+ghost use Rattle.std.specs.Prelude.{◌≤◌, length, Vec, ◌≡◌, ◌↔◌, ℕ, List, Bool, false, IsTrue, IsOk, IfOk, OnErr, IfSome, IfNone};
 ghost use Rattle.art_bytes.specs.Text.{IsPrefixOf, text_order};
 ghost use Rattle.art_mapped.specs.Mapping.{StandsForSome};
 
 use art_bytes::AsBytes;
 use std::alloc::{AllocError, Global};
+
+/// Which values a key of the type `K` holds, under a mapping. It is the only trait of a mapping that
+/// the type [`Mapped`](crate::Mapped) names.
+pub trait Holds<D, K> {
+    /// The key holds the value.
+    ghost holds: { K → D → Type 0 };
+}
+
+/// Which lists are the bytes of a value, under a mapping. It is what a tuple asks of the mappings of
+/// its parts.
+pub trait ValueTexts<D> {
+    /// The list is the bytes of the value.
+    ghost is_text: { List ℕ → D → Type 0 };
+}
 
 /// A reversible conversion of the values of a domain `D` to bytes.
 ///
@@ -18,16 +34,9 @@ use std::alloc::{AllocError, Global};
 /// assert!(rt; <ToIBE as BytesMapping<[i16; 2]>>::is_value(&bytes));
 /// assert!(rt; <ToIBE as BytesMapping<[i16; 2]>>::from_bytes(alloc, bytes)? == [-1, 0]);
 /// ```
-pub trait BytesMapping<D> {
+pub trait BytesMapping<D>: Holds<D, Self::Bytes> + ValueTexts<D> {
     /// The bytes that a value is converted to.
     type Bytes: AsBytes + Drop;
-
-    /// The types behind the mapping that neither `Self` nor `D` names: `Single<Unsigned>` for `ToUBE`
-    /// at `u32`. `()` where there are none, and for tuples.
-    ///
-    /// A `Mapped` names them, so that a function which takes a key can pass it on: the check reads
-    /// the parameters of an impl from the types in a signature.
-    type Inner;
 
     /// Whether `to_bytes` takes memory. Where it is false, `to_bytes` never fails.
     const ALLOCATES: bool;
@@ -93,6 +102,17 @@ pub trait BytesMapping<D> {
             Ok(None)
         }
     }
+
+    /// A key holds the values of the domain that it stands for.
+    ghost holds_value: { (bytes : Self.Bytes) (value : D) →
+        Self.holds bytes value ↔ (is_in_domain value × stands_for bytes value) };
+
+    /// A list is the bytes of the values that a key with these bytes stands for. It is no longer than
+    /// some vector, so that there is such a key.
+    ghost is_text_of_a_key: { (other : Vec ℕ Global) (text : List ℕ) (value : D) →
+        length text ≤ length (vec_items other) →
+        Self.is_text text value ↔ ((bytes : Self.Bytes) × Self.Bytes.is_key bytes ×
+        (Self.Bytes.text bytes ≡ text) × is_in_domain value × stands_for bytes value) };
 
     /// The bytes that stand for a value are its bytes.
     ghost has_text: { (bytes : Self.Bytes) (value : D) → is_in_domain value →
@@ -164,6 +184,47 @@ pub trait NoPrefixesMapping<D>: BytesMapping<D> {
     /// Where the bytes of one value are a prefix of another's, they are equal.
     ghost no_prefixes: { (x y : D) → Self.is_in_domain x → Self.is_in_domain y →
         IsPrefixOf (Self.text_of x) (Self.text_of y) → Self.text_of x ≡ Self.text_of y };
+}
+
+/// A mapping that also reads a value from bytes that it only borrows. Each but
+/// [`Identity`](crate::Identity) is one.
+///
+/// (from crates/art_node_tests/src/mapped/read_values.rt)
+/// ```rust
+/// let key = Mapped::<ToIBE, [i16; 2]>::new(alloc, [-1, 0])?;
+/// assert!(rt; key.read(alloc)? == [-1, 0]);
+/// ```
+pub trait BorrowedMapping<D>: BytesMapping<D> {
+    /// The value with these bytes. Condition: there is one, which `is_value` tests.
+    ///
+    /// Error: [`AllocError`] on an allocation failure, and never where `READ_ALLOCATES` is false.
+    fn read(alloc: Global, bytes: &Self::Bytes) -> Result<D, AllocError>
+        requires { StandsForSome Self.is_in_domain Self.stands_for bytes.now }
+        ensures in_domain { IfOk result (λ read. Self.is_in_domain read) }
+        ensures stands { IfOk result (λ read. Self.stands_for bytes.now read) }
+        ensures takes_no_memory { Self.READ_ALLOCATES ≡ false → IsOk result };
+}
+
+/// A mapping that takes no memory, so that no call fails: that of integers and addresses.
+///
+/// (from crates/art_node_tests/src/mapped/read_values.rt)
+/// ```rust
+/// type Port = Mapped<ToUBE, u16>;
+/// // ..
+///     let key = Port::of(443);
+///     assert!(rt; key.value() == 443);
+/// ```
+pub trait InPlaceMapping<D>: BytesMapping<D> {
+    /// The bytes of a value. Takes no memory.
+    fn encode(value: D) -> Self::Bytes
+        ensures in_domain { Self.is_in_domain value }
+        ensures stands { Self.stands_for result value };
+
+    /// The value with these bytes. Condition: there is one, which `is_value` tests. Takes no memory.
+    fn decode(bytes: &Self::Bytes) -> D
+        requires { StandsForSome Self.is_in_domain Self.stands_for bytes.now }
+        ensures in_domain { Self.is_in_domain result }
+        ensures stands { Self.stands_for bytes.now result };
 }
 
 /// Shows that this value is a key: only the contract of [`AsBytes::as_bytes`] says which values are.

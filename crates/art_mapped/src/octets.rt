@@ -4,7 +4,7 @@ ghost use Rattle.art_mapped.specs.Addresses.{IsIpv4, IsIpv6};
 ghost use Rattle.art_mapped.specs.AddressLaws.{ipv4_keep, ipv6_keep};
 
 use crate::element::{Element, Single};
-use crate::written::{Domain, ToBigEndian};
+use crate::written::{Domain, DomainTexts, ToBigEndian};
 use std::net::{Ipv4Addr, Ipv6Addr};
 
 /// The form of IP addresses: their octets in order.
@@ -29,14 +29,22 @@ pub type ToOctets = ToBigEndian<Octets>;
 
 impl Domain<Octets> for Ipv4Addr {
     type Mapping = Single<Octets>;
+
+    ghost same_keys = { λ _ _. (λ holds. holds, λ holds. holds) };
+
+    ghost same_texts = { λ _ _. (λ is. is, λ is. is) };
 }
 
-impl Element<Octets> for Ipv4Addr {
-    type Bytes = [u8; 4];
+impl DomainTexts<Octets> for Ipv4Addr {
+    type ToBytes = ToBigEndian<Octets>;
 
     ghost is_in_range = { IsIpv4 };
 
     ghost text_of = { ipv4_octets };
+}
+
+impl Element<Octets> for Ipv4Addr {
+    type Bytes = [u8; 4];
 
     ghost keeps = { ipv4_keep };
 
@@ -51,14 +59,22 @@ impl Element<Octets> for Ipv4Addr {
 
 impl Domain<Octets> for Ipv6Addr {
     type Mapping = Single<Octets>;
+
+    ghost same_keys = { λ _ _. (λ holds. holds, λ holds. holds) };
+
+    ghost same_texts = { λ _ _. (λ is. is, λ is. is) };
 }
 
-impl Element<Octets> for Ipv6Addr {
-    type Bytes = [u8; 16];
+impl DomainTexts<Octets> for Ipv6Addr {
+    type ToBytes = ToBigEndian<Octets>;
 
     ghost is_in_range = { IsIpv6 };
 
     ghost text_of = { ipv6_octets };
+}
+
+impl Element<Octets> for Ipv6Addr {
+    type Bytes = [u8; 16];
 
     ghost keeps = { ipv6_keep };
 

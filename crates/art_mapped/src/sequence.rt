@@ -27,7 +27,7 @@ pub trait IntegerForm {}
 /// The mapping of several integers to their bytes joined.
 ///
 /// [`BytesMapping`](crate::BytesMapping) has an example with an array.
-pub struct Joined<F>(PhantomData<F>);
+pub struct Several<F>(PhantomData<F>);
 
 /// The bytes of the elements, joined. The only error is an allocation failure.
 pub(crate) fn joined_bytes<F, E: Element<F>>(

@@ -8,7 +8,7 @@ ghost use Rattle.art_mapped.specs.NumberLaws.{signed_keep, keep_of, signed_decid
 
 use crate::element::{Element, Single};
 use crate::sequence::IntegerForm;
-use crate::written::{Domain, ToBigEndian};
+use crate::written::{Domain, DomainTexts, ToBigEndian};
 use std::num::{NonZeroI8, NonZeroI16, NonZeroI32, NonZeroI64, NonZeroI128, NonZeroIsize};
 
 /// The form of signed integers: the digits of the number plus half of its type's range, which are
@@ -35,14 +35,22 @@ pub type ToIBE = ToBigEndian<Signed>;
 
 impl Domain<Signed> for i8 {
     type Mapping = Single<Signed>;
+
+    ghost same_keys = { λ _ _. (λ holds. holds, λ holds. holds) };
+
+    ghost same_texts = { λ _ _. (λ is. is, λ is. is) };
 }
 
-impl Element<Signed> for i8 {
-    type Bytes = [u8; 1];
+impl DomainTexts<Signed> for i8 {
+    type ToBytes = ToBigEndian<Signed>;
 
     ghost is_in_range = { IsSigned 1 };
 
     ghost text_of = { signed_text 1 };
+}
+
+impl Element<Signed> for i8 {
+    type Bytes = [u8; 1];
 
     ghost keeps = { signed_keep 1 (Prim.search rules) };
 
@@ -57,14 +65,22 @@ impl Element<Signed> for i8 {
 
 impl Domain<Signed> for NonZeroI8 {
     type Mapping = Single<Signed>;
+
+    ghost same_keys = { λ _ _. (λ holds. holds, λ holds. holds) };
+
+    ghost same_texts = { λ _ _. (λ is. is, λ is. is) };
 }
 
-impl Element<Signed> for NonZeroI8 {
-    type Bytes = [u8; 1];
+impl DomainTexts<Signed> for NonZeroI8 {
+    type ToBytes = ToBigEndian<Signed>;
 
     ghost is_in_range = { λ n. IsSigned 1 (non_zero_i8_get n) };
 
     ghost text_of = { λ n. signed_text 1 (non_zero_i8_get n) };
+}
+
+impl Element<Signed> for NonZeroI8 {
+    type Bytes = [u8; 1];
 
     ghost keeps = { keep_of (signed_keep 1 (Prim.search rules)) non_zero_i8_get
         (signed_decides non_zero_i8_get (λ n. n.ok)
@@ -81,14 +97,22 @@ impl Element<Signed> for NonZeroI8 {
 
 impl Domain<Signed> for i16 {
     type Mapping = Single<Signed>;
+
+    ghost same_keys = { λ _ _. (λ holds. holds, λ holds. holds) };
+
+    ghost same_texts = { λ _ _. (λ is. is, λ is. is) };
 }
 
-impl Element<Signed> for i16 {
-    type Bytes = [u8; 2];
+impl DomainTexts<Signed> for i16 {
+    type ToBytes = ToBigEndian<Signed>;
 
     ghost is_in_range = { IsSigned 2 };
 
     ghost text_of = { signed_text 2 };
+}
+
+impl Element<Signed> for i16 {
+    type Bytes = [u8; 2];
 
     ghost keeps = { signed_keep 2 (Prim.search rules) };
 
@@ -103,14 +127,22 @@ impl Element<Signed> for i16 {
 
 impl Domain<Signed> for NonZeroI16 {
     type Mapping = Single<Signed>;
+
+    ghost same_keys = { λ _ _. (λ holds. holds, λ holds. holds) };
+
+    ghost same_texts = { λ _ _. (λ is. is, λ is. is) };
 }
 
-impl Element<Signed> for NonZeroI16 {
-    type Bytes = [u8; 2];
+impl DomainTexts<Signed> for NonZeroI16 {
+    type ToBytes = ToBigEndian<Signed>;
 
     ghost is_in_range = { λ n. IsSigned 2 (non_zero_i16_get n) };
 
     ghost text_of = { λ n. signed_text 2 (non_zero_i16_get n) };
+}
+
+impl Element<Signed> for NonZeroI16 {
+    type Bytes = [u8; 2];
 
     ghost keeps = { keep_of (signed_keep 2 (Prim.search rules)) non_zero_i16_get
         (signed_decides non_zero_i16_get (λ n. n.ok)
@@ -127,14 +159,22 @@ impl Element<Signed> for NonZeroI16 {
 
 impl Domain<Signed> for i32 {
     type Mapping = Single<Signed>;
+
+    ghost same_keys = { λ _ _. (λ holds. holds, λ holds. holds) };
+
+    ghost same_texts = { λ _ _. (λ is. is, λ is. is) };
 }
 
-impl Element<Signed> for i32 {
-    type Bytes = [u8; 4];
+impl DomainTexts<Signed> for i32 {
+    type ToBytes = ToBigEndian<Signed>;
 
     ghost is_in_range = { IsSigned 4 };
 
     ghost text_of = { signed_text 4 };
+}
+
+impl Element<Signed> for i32 {
+    type Bytes = [u8; 4];
 
     ghost keeps = { signed_keep 4 (Prim.search rules) };
 
@@ -149,14 +189,22 @@ impl Element<Signed> for i32 {
 
 impl Domain<Signed> for NonZeroI32 {
     type Mapping = Single<Signed>;
+
+    ghost same_keys = { λ _ _. (λ holds. holds, λ holds. holds) };
+
+    ghost same_texts = { λ _ _. (λ is. is, λ is. is) };
 }
 
-impl Element<Signed> for NonZeroI32 {
-    type Bytes = [u8; 4];
+impl DomainTexts<Signed> for NonZeroI32 {
+    type ToBytes = ToBigEndian<Signed>;
 
     ghost is_in_range = { λ n. IsSigned 4 (non_zero_i32_get n) };
 
     ghost text_of = { λ n. signed_text 4 (non_zero_i32_get n) };
+}
+
+impl Element<Signed> for NonZeroI32 {
+    type Bytes = [u8; 4];
 
     ghost keeps = { keep_of (signed_keep 4 (Prim.search rules)) non_zero_i32_get
         (signed_decides non_zero_i32_get (λ n. n.ok)
@@ -173,14 +221,22 @@ impl Element<Signed> for NonZeroI32 {
 
 impl Domain<Signed> for i64 {
     type Mapping = Single<Signed>;
+
+    ghost same_keys = { λ _ _. (λ holds. holds, λ holds. holds) };
+
+    ghost same_texts = { λ _ _. (λ is. is, λ is. is) };
 }
 
-impl Element<Signed> for i64 {
-    type Bytes = [u8; 8];
+impl DomainTexts<Signed> for i64 {
+    type ToBytes = ToBigEndian<Signed>;
 
     ghost is_in_range = { IsSigned 8 };
 
     ghost text_of = { signed_text 8 };
+}
+
+impl Element<Signed> for i64 {
+    type Bytes = [u8; 8];
 
     ghost keeps = { signed_keep 8 (Prim.search rules) };
 
@@ -195,14 +251,22 @@ impl Element<Signed> for i64 {
 
 impl Domain<Signed> for NonZeroI64 {
     type Mapping = Single<Signed>;
+
+    ghost same_keys = { λ _ _. (λ holds. holds, λ holds. holds) };
+
+    ghost same_texts = { λ _ _. (λ is. is, λ is. is) };
 }
 
-impl Element<Signed> for NonZeroI64 {
-    type Bytes = [u8; 8];
+impl DomainTexts<Signed> for NonZeroI64 {
+    type ToBytes = ToBigEndian<Signed>;
 
     ghost is_in_range = { λ n. IsSigned 8 (non_zero_i64_get n) };
 
     ghost text_of = { λ n. signed_text 8 (non_zero_i64_get n) };
+}
+
+impl Element<Signed> for NonZeroI64 {
+    type Bytes = [u8; 8];
 
     ghost keeps = { keep_of (signed_keep 8 (Prim.search rules)) non_zero_i64_get
         (signed_decides non_zero_i64_get (λ n. n.ok)
@@ -219,14 +283,22 @@ impl Element<Signed> for NonZeroI64 {
 
 impl Domain<Signed> for i128 {
     type Mapping = Single<Signed>;
+
+    ghost same_keys = { λ _ _. (λ holds. holds, λ holds. holds) };
+
+    ghost same_texts = { λ _ _. (λ is. is, λ is. is) };
 }
 
-impl Element<Signed> for i128 {
-    type Bytes = [u8; 16];
+impl DomainTexts<Signed> for i128 {
+    type ToBytes = ToBigEndian<Signed>;
 
     ghost is_in_range = { IsSigned 16 };
 
     ghost text_of = { signed_text 16 };
+}
+
+impl Element<Signed> for i128 {
+    type Bytes = [u8; 16];
 
     ghost keeps = { signed_keep 16 (Prim.search rules) };
 
@@ -241,14 +313,22 @@ impl Element<Signed> for i128 {
 
 impl Domain<Signed> for NonZeroI128 {
     type Mapping = Single<Signed>;
+
+    ghost same_keys = { λ _ _. (λ holds. holds, λ holds. holds) };
+
+    ghost same_texts = { λ _ _. (λ is. is, λ is. is) };
 }
 
-impl Element<Signed> for NonZeroI128 {
-    type Bytes = [u8; 16];
+impl DomainTexts<Signed> for NonZeroI128 {
+    type ToBytes = ToBigEndian<Signed>;
 
     ghost is_in_range = { λ n. IsSigned 16 (non_zero_i128_get n) };
 
     ghost text_of = { λ n. signed_text 16 (non_zero_i128_get n) };
+}
+
+impl Element<Signed> for NonZeroI128 {
+    type Bytes = [u8; 16];
 
     ghost keeps = { keep_of (signed_keep 16 (Prim.search rules)) non_zero_i128_get
         (signed_decides non_zero_i128_get (λ n. n.ok)
@@ -265,14 +345,22 @@ impl Element<Signed> for NonZeroI128 {
 
 impl Domain<Signed> for isize {
     type Mapping = Single<Signed>;
+
+    ghost same_keys = { λ _ _. (λ holds. holds, λ holds. holds) };
+
+    ghost same_texts = { λ _ _. (λ is. is, λ is. is) };
 }
 
-impl Element<Signed> for isize {
-    type Bytes = [u8; 8];
+impl DomainTexts<Signed> for isize {
+    type ToBytes = ToBigEndian<Signed>;
 
     ghost is_in_range = { IsSigned 8 };
 
     ghost text_of = { signed_text 8 };
+}
+
+impl Element<Signed> for isize {
+    type Bytes = [u8; 8];
 
     ghost keeps = { signed_keep 8 (Prim.search rules) };
 
@@ -287,14 +375,22 @@ impl Element<Signed> for isize {
 
 impl Domain<Signed> for NonZeroIsize {
     type Mapping = Single<Signed>;
+
+    ghost same_keys = { λ _ _. (λ holds. holds, λ holds. holds) };
+
+    ghost same_texts = { λ _ _. (λ is. is, λ is. is) };
 }
 
-impl Element<Signed> for NonZeroIsize {
-    type Bytes = [u8; 8];
+impl DomainTexts<Signed> for NonZeroIsize {
+    type ToBytes = ToBigEndian<Signed>;
 
     ghost is_in_range = { λ n. IsSigned 8 (non_zero_isize_get n) };
 
     ghost text_of = { λ n. signed_text 8 (non_zero_isize_get n) };
+}
+
+impl Element<Signed> for NonZeroIsize {
+    type Bytes = [u8; 8];
 
     ghost keeps = { keep_of (signed_keep 8 (Prim.search rules)) non_zero_isize_get
         (signed_decides non_zero_isize_get (λ n. n.ok)

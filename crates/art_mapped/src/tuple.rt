@@ -1,11 +1,17 @@
 //! Tuples as their bytes joined.
-ghost use Rattle.std.specs.Prelude.{◌≡◌, true, refl};
+ghost use Rattle.std.specs.Prelude.{◌≡◌, ◌↔◌, ℕ, List, true, refl};
 ghost use Rattle.std.specs.Vec.{vec_items};
-ghost use Rattle.std.proofs.Common.{◌∙◌};
+ghost use Rattle.std.proofs.Common.{◌∙◌, arith};
+ghost use Rattle.art_mapped.specs.MappingLaws.{both_ways};
+ghost use Rattle.art_mapped.specs.Tuples.{StandsForBoth};
 ghost use Rattle.art_mapped.specs.TupleLaws.{kept_by_items, same_from_one_text, wide_prefix_is_whole};
+ghost use Rattle.art_mapped.specs.VecLaws.{text_of_a_vec};
 
-use crate::joint::{Joint, OrderedJoint, Part, Then};
-use crate::mapping::{BytesMapping, InjectiveMapping, NoPrefixesMapping, OrderedMapping};
+use crate::joint::{Joint, JointTexts, OrderedJoint, Part, Then};
+use crate::mapping::{
+    BorrowedMapping, BytesMapping, Holds, InjectiveMapping, NoPrefixesMapping, OrderedMapping,
+    ValueTexts,
+};
 use std::alloc::{AllocError, Global};
 use std::marker::PhantomData;
 
@@ -98,16 +104,180 @@ pub trait OrderedTuple<P: Ord>: TupleValues<Pairs = P> + Ord {
     ghost same_order: { (x y : Self) → Self.cmp x y ≡ P.cmp (Self.in_pairs x) (Self.in_pairs y) };
 }
 
+/// Which lists are the bytes of a tuple. The trait is sealed: no other type can implement it.
+///
+/// [`ConcatTuple`] has an example.
+pub trait TupleTexts<D>: Sealed {
+    /// The list is the bytes of the tuple.
+    ghost is_text: { List ℕ → D → Type 0 };
+}
+
+/// A tuple has the bytes of its nested pairs. The trait is sealed: no other type can implement it.
+///
+/// [`ConcatTuple`] has an example.
+pub trait SameTexts<D, P, J>: TupleTexts<D>
+where
+    D: TupleValues<Pairs = P>,
+    J: JointTexts<P>,
+{
+    /// A list is the bytes of a tuple exactly where it is those of the nested pairs.
+    ghost same_texts: { (text : List ℕ) (value : D) →
+        Self.is_text text value ↔ J.is_text text (D.in_pairs value) };
+}
+
+impl<D, T: TupleTexts<D>> Holds<D, Vec<u8>> for ConcatTuple<T> {
+    ghost holds = { λ bytes value. T.is_text (vec_items bytes) value };
+}
+
+impl<D, T: TupleTexts<D>> ValueTexts<D> for ConcatTuple<T> {
+    ghost is_text = { T.is_text };
+}
+
+impl<A, B, M0: ValueTexts<A>, M1: ValueTexts<B>> TupleTexts<(A, B)> for (M0, M1) {
+    ghost is_text = { λ text value. StandsForBoth M0.is_text M1.is_text text
+        (value.0, value.1) };
+}
+
+impl<A, B, M0: ValueTexts<A>, M1: ValueTexts<B>> SameTexts<(A, B), (A, B), Then<Part<M0>, Part<M1>>>
+    for (M0, M1) {
+    ghost same_texts = { λ _ _. (λ is. is, λ is. is) };
+}
+
+impl<A, B, C, M0: ValueTexts<A>, M1: ValueTexts<B>, M2: ValueTexts<C>> TupleTexts<(A, B, C)>
+    for (M0, M1, M2) {
+    ghost is_text = { λ text value. StandsForBoth (StandsForBoth M0.is_text M1.is_text) M2.is_text text
+        ((value.0, value.1), value.2) };
+}
+
+impl<A, B, C, M0: ValueTexts<A>, M1: ValueTexts<B>, M2: ValueTexts<C>> SameTexts<
+    (A, B, C),
+    ((A, B), C),
+    Then<Then<Part<M0>, Part<M1>>, Part<M2>>,
+> for (M0, M1, M2) {
+    ghost same_texts = { λ _ _. (λ is. is, λ is. is) };
+}
+
+impl<
+    A,
+    B,
+    C,
+    D,
+    M0: ValueTexts<A>,
+    M1: ValueTexts<B>,
+    M2: ValueTexts<C>,
+    M3: ValueTexts<D>,
+> TupleTexts<(A, B, C, D)> for (M0, M1, M2, M3) {
+    ghost is_text = { λ text value. StandsForBoth (StandsForBoth (StandsForBoth M0.is_text M1.is_text) M2.is_text) M3.is_text text
+        (((value.0, value.1), value.2), value.3) };
+}
+
+impl<
+    A,
+    B,
+    C,
+    D,
+    M0: ValueTexts<A>,
+    M1: ValueTexts<B>,
+    M2: ValueTexts<C>,
+    M3: ValueTexts<D>,
+> SameTexts<
+    (A, B, C, D),
+    (((A, B), C), D),
+    Then<Then<Then<Part<M0>, Part<M1>>, Part<M2>>, Part<M3>>,
+> for (M0, M1, M2, M3) {
+    ghost same_texts = { λ _ _. (λ is. is, λ is. is) };
+}
+
+impl<
+    A,
+    B,
+    C,
+    D,
+    E,
+    M0: ValueTexts<A>,
+    M1: ValueTexts<B>,
+    M2: ValueTexts<C>,
+    M3: ValueTexts<D>,
+    M4: ValueTexts<E>,
+> TupleTexts<(A, B, C, D, E)> for (M0, M1, M2, M3, M4) {
+    ghost is_text = { λ text value. StandsForBoth (StandsForBoth (StandsForBoth (StandsForBoth M0.is_text M1.is_text) M2.is_text) M3.is_text) M4.is_text text
+        ((((value.0, value.1), value.2), value.3), value.4) };
+}
+
+impl<
+    A,
+    B,
+    C,
+    D,
+    E,
+    M0: ValueTexts<A>,
+    M1: ValueTexts<B>,
+    M2: ValueTexts<C>,
+    M3: ValueTexts<D>,
+    M4: ValueTexts<E>,
+> SameTexts<
+    (A, B, C, D, E),
+    ((((A, B), C), D), E),
+    Then<Then<Then<Then<Part<M0>, Part<M1>>, Part<M2>>, Part<M3>>, Part<M4>>,
+> for (M0, M1, M2, M3, M4) {
+    ghost same_texts = { λ _ _. (λ is. is, λ is. is) };
+}
+
+impl<
+    A,
+    B,
+    C,
+    D,
+    E,
+    F,
+    M0: ValueTexts<A>,
+    M1: ValueTexts<B>,
+    M2: ValueTexts<C>,
+    M3: ValueTexts<D>,
+    M4: ValueTexts<E>,
+    M5: ValueTexts<F>,
+> TupleTexts<(A, B, C, D, E, F)> for (M0, M1, M2, M3, M4, M5) {
+    ghost is_text = { λ text value. StandsForBoth (StandsForBoth (StandsForBoth (StandsForBoth (StandsForBoth M0.is_text M1.is_text) M2.is_text) M3.is_text) M4.is_text) M5.is_text text
+        (((((value.0, value.1), value.2), value.3), value.4), value.5) };
+}
+
+impl<
+    A,
+    B,
+    C,
+    D,
+    E,
+    F,
+    M0: ValueTexts<A>,
+    M1: ValueTexts<B>,
+    M2: ValueTexts<C>,
+    M3: ValueTexts<D>,
+    M4: ValueTexts<E>,
+    M5: ValueTexts<F>,
+> SameTexts<
+    (A, B, C, D, E, F),
+    (((((A, B), C), D), E), F),
+    Then<Then<Then<Then<Then<Part<M0>, Part<M1>>, Part<M2>>, Part<M3>>, Part<M4>>, Part<M5>>,
+> for (M0, M1, M2, M3, M4, M5) {
+    ghost same_texts = { λ _ _. (λ is. is, λ is. is) };
+}
+
 /// Writing a tuple takes memory. Reading one does where reading a part does.
 impl<N, D, P, J, T> BytesMapping<D> for ConcatTuple<T>
 where
     D: TupleValues<PartCount = N, Pairs = P> + Drop,
     J: Joint<P>,
-    T: TupleMappings<PartCount = N, Joint = J>,
+    T: TupleMappings<PartCount = N, Joint = J> + SameTexts<D, P, J>,
 {
-    type Bytes = Vec<u8>;
+    ghost holds_value = { λ bytes value. both_ways (T.same_texts (vec_items bytes) value)
+        (J.is_text_of_parts bytes (vec_items bytes) (D.in_pairs value) (Prim.omega arith)) };
 
-    type Inner = ();
+    ghost is_text_of_a_key = { λ other text value fits.
+        text_of_a_vec (λ _. tt) J.is_in_domain J.stands_for (D.in_pairs value) other text fits
+        (both_ways (T.same_texts text value)
+        (J.is_text_of_parts other text (D.in_pairs value) fits)) };
+
+    type Bytes = Vec<u8>;
 
     const ALLOCATES: bool = true;
 
@@ -150,11 +320,22 @@ where
     }
 }
 
+impl<N, D, P, J, T> BorrowedMapping<D> for ConcatTuple<T>
+where
+    D: TupleValues<PartCount = N, Pairs = P> + Drop,
+    J: Joint<P>,
+    T: TupleMappings<PartCount = N, Joint = J> + SameTexts<D, P, J>,
+{
+    fn read(alloc: Global, bytes: &Vec<u8>) -> Result<D, AllocError> {
+        Ok(D::flatten(J::read(alloc, bytes)?))
+    }
+}
+
 impl<N, D, P, J, T> InjectiveMapping<D> for ConcatTuple<T>
 where
     D: TupleValues<PartCount = N, Pairs = P> + Drop,
     J: Joint<P>,
-    T: TupleMappings<PartCount = N, Joint = J>,
+    T: TupleMappings<PartCount = N, Joint = J> + SameTexts<D, P, J>,
 {
     ghost decided_by_text = { λ x y. same_from_one_text J.laws (D.in_pairs x) (D.in_pairs y) };
 }
@@ -164,7 +345,7 @@ where
     D: OrderedTuple<P> + TupleValues<PartCount = N, Pairs = P> + Drop,
     P: Ord,
     J: OrderedJoint<P>,
-    T: TupleMappings<PartCount = N, Joint = J>,
+    T: TupleMappings<PartCount = N, Joint = J> + SameTexts<D, P, J>,
 {
     ghost keeps_order = { λ x y x_in y_in.
         D.same_order x y ∙ J.order.keeps (D.in_pairs x) (D.in_pairs y) x_in y_in };
@@ -174,7 +355,7 @@ impl<N, D, P, J, T> NoPrefixesMapping<D> for ConcatTuple<T>
 where
     D: TupleValues<PartCount = N, Pairs = P> + Drop,
     J: Joint<P>,
-    T: TupleMappings<PartCount = N, Joint = J>,
+    T: TupleMappings<PartCount = N, Joint = J> + SameTexts<D, P, J>,
 {
     ghost no_prefixes = { λ x y. wide_prefix_is_whole J.laws (D.in_pairs x) (D.in_pairs y) };
 }

@@ -8,7 +8,7 @@ ghost use Rattle.art_mapped.specs.NumberLaws.{unsigned_keep, keep_of, unsigned_d
 
 use crate::element::{Element, Single};
 use crate::sequence::IntegerForm;
-use crate::written::{Domain, ToBigEndian};
+use crate::written::{Domain, DomainTexts, ToBigEndian};
 use std::num::{NonZeroU8, NonZeroU16, NonZeroU32, NonZeroU64, NonZeroU128, NonZeroUsize};
 
 /// The form of unsigned integers: the digits in base 256 at full width, most significant first.
@@ -39,14 +39,22 @@ pub type ToUBE = ToBigEndian<Unsigned>;
 
 impl Domain<Unsigned> for u8 {
     type Mapping = Single<Unsigned>;
+
+    ghost same_keys = { λ _ _. (λ holds. holds, λ holds. holds) };
+
+    ghost same_texts = { λ _ _. (λ is. is, λ is. is) };
 }
 
-impl Element<Unsigned> for u8 {
-    type Bytes = [u8; 1];
+impl DomainTexts<Unsigned> for u8 {
+    type ToBytes = ToBigEndian<Unsigned>;
 
     ghost is_in_range = { IsUnsigned 1 };
 
     ghost text_of = { digits 1 };
+}
+
+impl Element<Unsigned> for u8 {
+    type Bytes = [u8; 1];
 
     ghost keeps = { unsigned_keep 1 (Prim.search rules) };
 
@@ -61,14 +69,22 @@ impl Element<Unsigned> for u8 {
 
 impl Domain<Unsigned> for NonZeroU8 {
     type Mapping = Single<Unsigned>;
+
+    ghost same_keys = { λ _ _. (λ holds. holds, λ holds. holds) };
+
+    ghost same_texts = { λ _ _. (λ is. is, λ is. is) };
 }
 
-impl Element<Unsigned> for NonZeroU8 {
-    type Bytes = [u8; 1];
+impl DomainTexts<Unsigned> for NonZeroU8 {
+    type ToBytes = ToBigEndian<Unsigned>;
 
     ghost is_in_range = { λ n. IsUnsigned 1 (non_zero_u8_get n) };
 
     ghost text_of = { λ n. digits 1 (non_zero_u8_get n) };
+}
+
+impl Element<Unsigned> for NonZeroU8 {
+    type Bytes = [u8; 1];
 
     ghost keeps = { keep_of (unsigned_keep 1 (Prim.search rules)) non_zero_u8_get
         (unsigned_decides non_zero_u8_get (λ n. n.ok)
@@ -85,14 +101,22 @@ impl Element<Unsigned> for NonZeroU8 {
 
 impl Domain<Unsigned> for u16 {
     type Mapping = Single<Unsigned>;
+
+    ghost same_keys = { λ _ _. (λ holds. holds, λ holds. holds) };
+
+    ghost same_texts = { λ _ _. (λ is. is, λ is. is) };
 }
 
-impl Element<Unsigned> for u16 {
-    type Bytes = [u8; 2];
+impl DomainTexts<Unsigned> for u16 {
+    type ToBytes = ToBigEndian<Unsigned>;
 
     ghost is_in_range = { IsUnsigned 2 };
 
     ghost text_of = { digits 2 };
+}
+
+impl Element<Unsigned> for u16 {
+    type Bytes = [u8; 2];
 
     ghost keeps = { unsigned_keep 2 (Prim.search rules) };
 
@@ -107,14 +131,22 @@ impl Element<Unsigned> for u16 {
 
 impl Domain<Unsigned> for NonZeroU16 {
     type Mapping = Single<Unsigned>;
+
+    ghost same_keys = { λ _ _. (λ holds. holds, λ holds. holds) };
+
+    ghost same_texts = { λ _ _. (λ is. is, λ is. is) };
 }
 
-impl Element<Unsigned> for NonZeroU16 {
-    type Bytes = [u8; 2];
+impl DomainTexts<Unsigned> for NonZeroU16 {
+    type ToBytes = ToBigEndian<Unsigned>;
 
     ghost is_in_range = { λ n. IsUnsigned 2 (non_zero_u16_get n) };
 
     ghost text_of = { λ n. digits 2 (non_zero_u16_get n) };
+}
+
+impl Element<Unsigned> for NonZeroU16 {
+    type Bytes = [u8; 2];
 
     ghost keeps = { keep_of (unsigned_keep 2 (Prim.search rules)) non_zero_u16_get
         (unsigned_decides non_zero_u16_get (λ n. n.ok)
@@ -131,14 +163,22 @@ impl Element<Unsigned> for NonZeroU16 {
 
 impl Domain<Unsigned> for u32 {
     type Mapping = Single<Unsigned>;
+
+    ghost same_keys = { λ _ _. (λ holds. holds, λ holds. holds) };
+
+    ghost same_texts = { λ _ _. (λ is. is, λ is. is) };
 }
 
-impl Element<Unsigned> for u32 {
-    type Bytes = [u8; 4];
+impl DomainTexts<Unsigned> for u32 {
+    type ToBytes = ToBigEndian<Unsigned>;
 
     ghost is_in_range = { IsUnsigned 4 };
 
     ghost text_of = { digits 4 };
+}
+
+impl Element<Unsigned> for u32 {
+    type Bytes = [u8; 4];
 
     ghost keeps = { unsigned_keep 4 (Prim.search rules) };
 
@@ -153,14 +193,22 @@ impl Element<Unsigned> for u32 {
 
 impl Domain<Unsigned> for NonZeroU32 {
     type Mapping = Single<Unsigned>;
+
+    ghost same_keys = { λ _ _. (λ holds. holds, λ holds. holds) };
+
+    ghost same_texts = { λ _ _. (λ is. is, λ is. is) };
 }
 
-impl Element<Unsigned> for NonZeroU32 {
-    type Bytes = [u8; 4];
+impl DomainTexts<Unsigned> for NonZeroU32 {
+    type ToBytes = ToBigEndian<Unsigned>;
 
     ghost is_in_range = { λ n. IsUnsigned 4 (non_zero_u32_get n) };
 
     ghost text_of = { λ n. digits 4 (non_zero_u32_get n) };
+}
+
+impl Element<Unsigned> for NonZeroU32 {
+    type Bytes = [u8; 4];
 
     ghost keeps = { keep_of (unsigned_keep 4 (Prim.search rules)) non_zero_u32_get
         (unsigned_decides non_zero_u32_get (λ n. n.ok)
@@ -177,14 +225,22 @@ impl Element<Unsigned> for NonZeroU32 {
 
 impl Domain<Unsigned> for u64 {
     type Mapping = Single<Unsigned>;
+
+    ghost same_keys = { λ _ _. (λ holds. holds, λ holds. holds) };
+
+    ghost same_texts = { λ _ _. (λ is. is, λ is. is) };
 }
 
-impl Element<Unsigned> for u64 {
-    type Bytes = [u8; 8];
+impl DomainTexts<Unsigned> for u64 {
+    type ToBytes = ToBigEndian<Unsigned>;
 
     ghost is_in_range = { IsUnsigned 8 };
 
     ghost text_of = { digits 8 };
+}
+
+impl Element<Unsigned> for u64 {
+    type Bytes = [u8; 8];
 
     ghost keeps = { unsigned_keep 8 (Prim.search rules) };
 
@@ -199,14 +255,22 @@ impl Element<Unsigned> for u64 {
 
 impl Domain<Unsigned> for NonZeroU64 {
     type Mapping = Single<Unsigned>;
+
+    ghost same_keys = { λ _ _. (λ holds. holds, λ holds. holds) };
+
+    ghost same_texts = { λ _ _. (λ is. is, λ is. is) };
 }
 
-impl Element<Unsigned> for NonZeroU64 {
-    type Bytes = [u8; 8];
+impl DomainTexts<Unsigned> for NonZeroU64 {
+    type ToBytes = ToBigEndian<Unsigned>;
 
     ghost is_in_range = { λ n. IsUnsigned 8 (non_zero_u64_get n) };
 
     ghost text_of = { λ n. digits 8 (non_zero_u64_get n) };
+}
+
+impl Element<Unsigned> for NonZeroU64 {
+    type Bytes = [u8; 8];
 
     ghost keeps = { keep_of (unsigned_keep 8 (Prim.search rules)) non_zero_u64_get
         (unsigned_decides non_zero_u64_get (λ n. n.ok)
@@ -223,14 +287,22 @@ impl Element<Unsigned> for NonZeroU64 {
 
 impl Domain<Unsigned> for u128 {
     type Mapping = Single<Unsigned>;
+
+    ghost same_keys = { λ _ _. (λ holds. holds, λ holds. holds) };
+
+    ghost same_texts = { λ _ _. (λ is. is, λ is. is) };
 }
 
-impl Element<Unsigned> for u128 {
-    type Bytes = [u8; 16];
+impl DomainTexts<Unsigned> for u128 {
+    type ToBytes = ToBigEndian<Unsigned>;
 
     ghost is_in_range = { IsUnsigned 16 };
 
     ghost text_of = { digits 16 };
+}
+
+impl Element<Unsigned> for u128 {
+    type Bytes = [u8; 16];
 
     ghost keeps = { unsigned_keep 16 (Prim.search rules) };
 
@@ -245,14 +317,22 @@ impl Element<Unsigned> for u128 {
 
 impl Domain<Unsigned> for NonZeroU128 {
     type Mapping = Single<Unsigned>;
+
+    ghost same_keys = { λ _ _. (λ holds. holds, λ holds. holds) };
+
+    ghost same_texts = { λ _ _. (λ is. is, λ is. is) };
 }
 
-impl Element<Unsigned> for NonZeroU128 {
-    type Bytes = [u8; 16];
+impl DomainTexts<Unsigned> for NonZeroU128 {
+    type ToBytes = ToBigEndian<Unsigned>;
 
     ghost is_in_range = { λ n. IsUnsigned 16 (non_zero_u128_get n) };
 
     ghost text_of = { λ n. digits 16 (non_zero_u128_get n) };
+}
+
+impl Element<Unsigned> for NonZeroU128 {
+    type Bytes = [u8; 16];
 
     ghost keeps = { keep_of (unsigned_keep 16 (Prim.search rules)) non_zero_u128_get
         (unsigned_decides non_zero_u128_get (λ n. n.ok)
@@ -269,14 +349,22 @@ impl Element<Unsigned> for NonZeroU128 {
 
 impl Domain<Unsigned> for usize {
     type Mapping = Single<Unsigned>;
+
+    ghost same_keys = { λ _ _. (λ holds. holds, λ holds. holds) };
+
+    ghost same_texts = { λ _ _. (λ is. is, λ is. is) };
 }
 
-impl Element<Unsigned> for usize {
-    type Bytes = [u8; 8];
+impl DomainTexts<Unsigned> for usize {
+    type ToBytes = ToBigEndian<Unsigned>;
 
     ghost is_in_range = { IsUnsigned 8 };
 
     ghost text_of = { digits 8 };
+}
+
+impl Element<Unsigned> for usize {
+    type Bytes = [u8; 8];
 
     ghost keeps = { unsigned_keep 8 (Prim.search rules) };
 
@@ -291,14 +379,22 @@ impl Element<Unsigned> for usize {
 
 impl Domain<Unsigned> for NonZeroUsize {
     type Mapping = Single<Unsigned>;
+
+    ghost same_keys = { λ _ _. (λ holds. holds, λ holds. holds) };
+
+    ghost same_texts = { λ _ _. (λ is. is, λ is. is) };
 }
 
-impl Element<Unsigned> for NonZeroUsize {
-    type Bytes = [u8; 8];
+impl DomainTexts<Unsigned> for NonZeroUsize {
+    type ToBytes = ToBigEndian<Unsigned>;
 
     ghost is_in_range = { λ n. IsUnsigned 8 (non_zero_usize_get n) };
 
     ghost text_of = { λ n. digits 8 (non_zero_usize_get n) };
+}
+
+impl Element<Unsigned> for NonZeroUsize {
+    type Bytes = [u8; 8];
 
     ghost keeps = { keep_of (unsigned_keep 8 (Prim.search rules)) non_zero_usize_get
         (unsigned_decides non_zero_usize_get (λ n. n.ok)

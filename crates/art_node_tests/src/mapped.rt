@@ -1,9 +1,9 @@
 //! Values as keys: their bytes, their order, and reading them back.
 use art_bytes::{AsBytes, OrderedBytes};
 use art_mapped::{
-    BytesMapping, ConcatTuple, Domain, Element, FixedBytes, Identity, IntegerForm, Mapped,
-    NoPrefixesMapping, Octets, OrderedMapping, Signed, Single, ToBigEndian, ToIBE, ToOctets, ToUBE,
-    Unsigned,
+    BytesMapping, ConcatTuple, Domain, Element, Escaped, EscapedKey, FixedBytes, Identity,
+    IntegerForm, Mapped, NoPrefixesMapping, Octets, OrderedMapping, Signed, Single, ToBigEndian,
+    ToIBE, ToOctets, ToUBE, Unsigned, escaped_prefix,
 };
 use std::alloc::{AllocError, Global};
 use std::cmp::Ordering;
@@ -16,9 +16,11 @@ use std::process::Abort;
 use std::test::Fail;
 
 mod digits;
+mod escaped_examples;
 mod mapped_callers;
 mod mapped_examples;
 mod ordered;
+mod read_values;
 mod refusals;
 mod tuples;
 mod value_bytes;

@@ -2,7 +2,7 @@
 use art_tree::{ArtTree, AsBytes, Mapped, ToIBE};
 use std::alloc::{AllocError, Global};
 
-type Index = ArtTree<Mapped<ToIBE, i32>, u32, 16>;
+type Index = ArtTree<Mapped<ToIBE, i64>, u32, 16>;
 
 fn values(index: &Index) -> Option<(u32, u32)> {
     let (_, first) = index.first()?;

@@ -2,11 +2,11 @@
 use art_tree::{ArtTree, LoadRefusal, Mapped, ToUBE};
 use std::alloc::Global;
 
-type Index = ArtTree<Mapped<ToUBE, u32>, String, 16>;
+type Index = ArtTree<Mapped<ToUBE, u64>, String, 16>;
 
 pub fn index_of(
     alloc: Global,
-    entries: Vec<(Mapped<ToUBE, u32>, String)>,
+    entries: Vec<(Mapped<ToUBE, u64>, String)>,
 ) -> Result<Index, LoadRefusal> {
     match ArtTree::load(alloc, entries) {
         Ok(index) => Ok(index),
@@ -14,6 +14,6 @@ pub fn index_of(
     }
 }
 
-pub fn is_loaded(alloc: Global, entries: Vec<(Mapped<ToUBE, u32>, String)>) -> bool {
+pub fn is_loaded(alloc: Global, entries: Vec<(Mapped<ToUBE, u64>, String)>) -> bool {
     index_of(alloc, entries).is_ok()
 }

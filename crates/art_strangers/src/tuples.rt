@@ -1,4 +1,4 @@
-//! A tree by tuples, in one function.
+//! Keys of an address and a number, as in the README.
 use art_tree::{ArtTree, ConcatTuple, Mapped, ToIBE, ToOctets};
 use std::net::Ipv4Addr;
 
@@ -6,8 +6,12 @@ type Key = Mapped<ConcatTuple<(ToOctets, ToIBE)>, (Ipv4Addr, i32)>;
 
 type Index = ArtTree<Key, u32, 16>;
 
-pub fn put(index: &mut Index, key: Key, value: u32) -> bool {
+fn put(index: &mut Index, key: Key, value: u32) -> bool {
     index.insert(key, value).is_ok()
+}
+
+pub fn hand_on(index: &mut Index, key: Key) -> bool {
+    put(index, key, 1)
 }
 
 pub fn read(index: &Index, key: &[u8]) -> u32 {

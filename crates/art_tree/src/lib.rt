@@ -21,10 +21,12 @@ pub use art_arena::{
 pub use art_bytes::{
     AsBytes, CStringKey, CStringKeyError, NoPrefixesBytes, OrderedBytes, SliceKey, StrKey,
 };
+// Values as keys.
 pub use art_mapped::{
-    BytesMapping, ConcatTuple, Domain, Element, FixedBytes, Identity, InjectiveMapping,
-    IntegerForm, Joined, Mapped, NoPrefixesMapping, Octets, OrderedMapping, OrderedTuple, Signed,
-    Single, ToBigEndian, ToIBE, ToOctets, ToUBE, TupleMappings, TupleValues, Unsigned,
+    BorrowedMapping, BytesMapping, ConcatTuple, Domain, DomainTexts, Element, Escaped, EscapedKey,
+    FixedBytes, Holds, Identity, InPlaceMapping, InjectiveMapping, IntegerForm, Mapped, MappedOver,
+    NoPrefixesMapping, Octets, OrderedMapping, OrderedTuple, Several, Signed, Single, ToBigEndian,
+    ToIBE, ToOctets, ToUBE, TupleMappings, TupleValues, Unsigned, ValueTexts, escaped_prefix,
 };
 pub use art_nodes::{
     AttemptOptimisticPrefixMatch, BuilderState, ChildCommand, ChildIter, ChildNode, ChildPairs,

@@ -11,8 +11,7 @@ use std::net::Ipv6Addr;
 type KeyMapping = ConcatTuple<(ToOctets, ToIBE, ToUBE)>;
 
 /// The composite key of a row: its address, its time and its place in the table, as the bytes of their
-/// tuple, which sort as these do. It holds the bytes alone, since a map under a `Mapped` of a tuple of
-/// three cannot be passed on.
+/// tuple, which sort as these do. It holds the bytes alone, since the row has the parts.
 #[derive(Drop)]
 pub(crate) struct RowKey {
     bytes: Vec<u8>,

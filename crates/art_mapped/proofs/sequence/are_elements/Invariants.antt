@@ -5,4 +5,4 @@ use Rattle.art_mapped.proofs.sequence.are_elements.Given as goal
 
 abbrev pub invariant-loop-index : goal.invariant-loop-index
 invariant-loop-index g l =
-    (k : ℕ) → k < l.index → IsPartOfSome g.E.Element.is_in_range g.E.Element.text_of (part g.E.Bytes.FixedBytes.WIDTH k l.bytes)
+    (k : ℕ) → k < l.index → IsPartOfSome g.E.DomainTexts.is_in_range g.E.DomainTexts.text_of (part g.E.Bytes.FixedBytes.WIDTH k l.bytes)

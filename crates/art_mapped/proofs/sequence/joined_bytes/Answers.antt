@@ -12,12 +12,12 @@ loop-element-preserved g c =
     let before = take index c.args.elements.now in
     let now : take (index + 1) c.args.elements.now ≡ before ++ element ∷ [] = take_more c.args.elements.now index element c.loop-element-test.true ∙ ap (λ x. before ++ x ∷ []) (sym c.element-item.is) in
     record {
-      in_range = rw now (All-push g.E.Element.is_in_range before element c.loop-element.invariant.in_range c.encode.ensures.in_range);
-      text = rw (now, flat_map-append g.E.Element.text_of before (element ∷ []), append-nil (g.E.Element.text_of element), ← c.loop-element.invariant.text, ← c.encode.ensures.text, ← c.as_bytes.ensures.text) c.in_ok-extend_from_slice.ensures.items;
+      in_range = rw now (All-push g.E.DomainTexts.is_in_range before element c.loop-element.invariant.in_range c.encode.ensures.in_range);
+      text = rw (now, flat_map-append g.E.DomainTexts.text_of before (element ∷ []), append-nil (g.E.DomainTexts.text_of element), ← c.loop-element.invariant.text, ← c.encode.ensures.text, ← c.as_bytes.ensures.text) c.in_ok-extend_from_slice.ensures.items;
     }
 
 pub returns-clause-text : goal.returns-clause-text
-returns-clause-text g c = c.loop-element.invariant.text ∙ ap (joined g.E.Element.text_of) (take_all c.loop-element.element-index c.args.elements.now c.loop-element-test.false)
+returns-clause-text g c = c.loop-element.invariant.text ∙ ap (joined g.E.DomainTexts.text_of) (take_all c.loop-element.element-index c.args.elements.now c.loop-element-test.false)
 
 pub returns-clause-in_range : goal.returns-clause-in_range
 returns-clause-in_range g c = rw (take_all c.loop-element.element-index c.args.elements.now c.loop-element-test.false) at c.loop-element.invariant.in_range

@@ -7,7 +7,7 @@ pub loop-index-preserved : goal.loop-index-preserved
 loop-index-preserved g c =
     let on = one_more_read g.met.E.Element.keeps c.loop-index.elements.items c.element_at.result c.args.bytes.now c.loop-index.index c.loop-index.invariant.text c.element_at.ensures.text in
     record {
-      in_range = rw c.in_ok-push.ensures.items (All-push g.E.Element.is_in_range c.loop-index.elements.items c.element_at.result c.loop-index.invariant.in_range c.element_at.ensures.in_range);
+      in_range = rw c.in_ok-push.ensures.items (All-push g.E.DomainTexts.is_in_range c.loop-index.elements.items c.element_at.result c.loop-index.invariant.in_range c.element_at.ensures.in_range);
       text = rw c.in_ok-push.ensures.items on;
     }
 

@@ -5,6 +5,6 @@ use Rattle.art_mapped.proofs.sequence.vec_of.Given as goal
 abbrev pub invariant-loop-index : goal.invariant-loop-index
 invariant-loop-index g l =
     record {
-      in_range : All g.E.Element.is_in_range l.elements.items;
-      text : joined g.E.Element.text_of l.elements.items ++ drop (l.index * g.E.Bytes.FixedBytes.WIDTH) l.bytes ≡ l.bytes;
+      in_range : All g.E.DomainTexts.is_in_range l.elements.items;
+      text : joined g.E.DomainTexts.text_of l.elements.items ++ drop (l.index * g.E.Bytes.FixedBytes.WIDTH) l.bytes ≡ l.bytes;
     }

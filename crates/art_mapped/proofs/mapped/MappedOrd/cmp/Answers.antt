@@ -1,8 +1,0 @@
-use Rattle.std.proofs.Common.{rules}
-use Rattle.art_mapped.proofs.mapped.MappedOrd.cmp.Goals as goal
-
-pub returns-clause-texts : goal.returns-clause-texts
-returns-clause-texts g c = search rules
-
-pub returns-clause-values : goal.returns-clause-values
-returns-clause-values g c = search rules
