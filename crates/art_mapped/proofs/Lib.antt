@@ -7,7 +7,6 @@ mod OrderLemmas
 mod Pairs
 mod Parts
 mod ReadBack
-mod TupleParts
 mod Turns
 mod Values
 mod Vecs

@@ -1,5 +1,5 @@
 -- Comparisons return the order of each domain.
-use Rattle.std.proofs.Common.{◌≡◌, ℕ, ℤ, List, [], ◌∷◌, ◌++◌, length, refl, sym, ap, ◌∙◌, inl, inr, arith, length-append, append_assoc}
+use Rattle.std.proofs.Common.{◌≡◌, ℕ, ℤ, List, [], ◌∷◌, length, refl, sym, ap, ◌∙◌, inl, inr, arith, length-append}
 use Rattle.std.specs.Prelude.{◌⊎◌}
 use Rattle.std.specs.Ordering.{MatchOrdering, ordering_then, ordering_reverse, nat_cmp, int_cmp}
 use Rattle.std.specs.declared.cmp.Ordering.{Ordering}
@@ -7,8 +7,7 @@ use Rattle.std.specs.declared.cmp.Ordering.TheVariants.{Less, Equal, Greater}
 use Rattle.std.specs.Cmp.{IsTotalOrder, int_ranks}
 use Rattle.std.specs.Cmp.Lexicographic.{slice_cmp}
 use Rattle.std.proofs.lemmas.Cmp.{ranked}
-use Rattle.std.proofs.lemmas.List.Elements.{All-nil, All-cons, All-append}
-use Rattle.art_mapped.specs.Orders.{BySize, BySignedSize, FirstDiffers, EndsFirst, ByFirstItem, ByFirstItemOrEnd, FirstUnequalIs, ByFirstPart}
+use Rattle.art_mapped.specs.Orders.{BySize, BySignedSize, FirstDiffers, EndsFirst, ByFirstItem, ByFirstItemOrEnd}
 
 pub nat_by_size : (x y : ℕ) → BySize (nat_cmp x y) x y
 nat_by_size x y = ranked x y (nat_cmp x y) refl
@@ -21,25 +20,6 @@ pub weaken : (o : Ordering) {P Q R S T U : Type 0} → (P → S) → (Q → T) �
 weaken Less p q r is = p is
 weaken Equal p q r is = q is
 weaken Greater p q r is = r is
-
--- one part decides by itself
-pub first_part : (o : Ordering) → ByFirstPart o (o ∷ [])
-first_part Less = record { equal = []; later = []; are_equal = All-nil (λ (part : Ordering). part ≡ Equal); first = refl }
-first_part Equal = All-cons (λ (part : Ordering). part ≡ Equal) Equal [] refl (All-nil (λ (part : Ordering). part ≡ Equal))
-first_part Greater = record { equal = []; later = []; are_equal = All-nil (λ (part : Ordering). part ≡ Equal); first = refl }
-
--- a later part does not change what was decided
-still_first : (o p : Ordering) (parts : List Ordering) → FirstUnequalIs o parts → FirstUnequalIs o (parts ++ p ∷ [])
-still_first o p parts at =
-    record { equal = at.equal; later = at.later ++ p ∷ []; are_equal = at.are_equal; first = ap (λ before. before ++ p ∷ []) at.first ∙ append_assoc at.equal (o ∷ at.later) (p ∷ []) }
-
--- one more part
-pub next_part : (o p : Ordering) (parts : List Ordering) → ByFirstPart o parts → ByFirstPart (ordering_then o p) (parts ++ p ∷ [])
-next_part Less p parts at = still_first Less p parts at
-next_part Greater p parts at = still_first Greater p parts at
-next_part Equal Less parts at = record { equal = parts; later = []; are_equal = at; first = refl }
-next_part Equal Equal parts at = All-append (λ (part : Ordering). part ≡ Equal) parts (Equal ∷ []) at (first_part Equal)
-next_part Equal Greater parts at = record { equal = parts; later = []; are_equal = at; first = refl }
 
 module _ {E : Type 0} (is_less : E → E → Type 0) where
   differs_later : (x y : E) (xs ys : List E) → x ≡ y → FirstDiffers is_less xs ys → FirstDiffers is_less (x ∷ xs) (y ∷ ys)

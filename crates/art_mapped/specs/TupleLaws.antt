@@ -2,12 +2,17 @@
 use Rattle.std.specs.Prelude.{◌≡◌, ◌↔◌, ℕ, ◌+◌, ◌≤◌, List, [], ◌∷◌, ◌++◌, length, refl}
 use Rattle.std.specs.Ordering.{ordering_then}
 use Rattle.std.specs.declared.cmp.Ordering.{Ordering}
-use Rattle.std.proofs.Common.{sym, ap, ◌∙◌, subst, arith, length-append}
+use Rattle.std.specs.declared.cmp.Ordering.TheVariants.{Less, Equal, Greater}
+use Rattle.std.proofs.Common.{sym, ap, ◌∙◌, subst, arith, length-append, append_assoc}
+use Rattle.std.proofs.lemmas.List.{append-nil}
+use Rattle.std.proofs.lemmas.List.Elements.{All-nil, All-cons, All-append}
+use Rattle.std.proofs.Math.Logic.{∥∥₁_map, ∥∥₁_map₂}
 use Rattle.art_bytes.specs.Text.{IsPrefixOf}
 use Rattle.art_bytes.specs.Laws.{prefix_of_length}
 use Rattle.art_mapped.specs.Mapping.{StandsForSome}
+use Rattle.art_mapped.specs.Orders.{FirstUnequalIs, ByFirstPart}
 use Rattle.art_mapped.specs.SequenceLaws.{text_order-append}
-use Rattle.art_mapped.specs.Tuples.{IsPart, IsTextOf, Both, both_texts, AreSameBoth, StandsForBoth, TextLaws, OrderLaws}
+use Rattle.art_mapped.specs.Tuples.{IsPart, IsTextOf, Both, both_texts, AreSameBoth, StandsForBoth, TextLaws, OrderLaws, KeyLaws}
 
 -- joined texts are equal part by part where the first parts have one length
 append_split : (a b c d : List ℕ) → length a ≡ length c → a ++ b ≡ c ++ d → (a ≡ c) × (b ≡ d)
@@ -41,6 +46,23 @@ part_laws {stands_for = stands_for} width has_text one_key reads_one =
       reads_one = λ given x y x_in y_in x_of y_of. reads_one x_of.0 x y x_in.0 y_in.0 x_of.3 (key_stands stands_for one_key x_of.0 given y x_of.1 x_of.2 y_of);
     }
 
+-- a key of one part has its text, which is some value's exactly where the key is
+pub part_key_laws : {K D : Type 0} {is_key : K → Type 0} {text : K → List ℕ} {is_in_domain : D → Type 0} {text_of : D → List ℕ} {stands_for : K → D → Type 0} {width : ℕ}
+    → ((bytes : K) (value : D) → is_in_domain value → stands_for bytes value → text bytes ≡ text_of value)
+    → ((a b : K) → is_key a → is_key b → text a ≡ text b → a ≡ b)
+    → ((key : K) → is_key key → length (text key) ≡ width)
+    → KeyLaws (IsPart is_in_domain text_of (IsTextOf is_key text stands_for) width) (IsTextOf is_key text stands_for) is_key text (StandsForSome is_in_domain stands_for) width
+part_key_laws {text = text} {stands_for = stands_for} has_text one_key long =
+    record {
+      long = long;
+      values = λ key is. (
+        λ some. ∥∥₁_map some (λ of. (of.0, of.1.0, key_stands stands_for one_key key (text key) of.0 is refl of.2)),
+        λ some. ∥∥₁_map some (λ of.
+            let its_text = has_text key of.0 of.1 of.2 in
+            (of.0, (of.1, sym (ap length its_text) ∙ long key is, (key, is, its_text, of.2)), (key, is, refl, of.2))),
+      );
+    }
+
 module _ {A B : Type 0} {front_in : A → Type 0} {front_text : A → List ℕ} {front_stands : List ℕ → A → Type 0} {front_same : A → A → Type 0} {front_width : ℕ}
     {last_in : B → Type 0} {last_text : B → List ℕ} {last_stands : List ℕ → B → Type 0} {last_same : B → B → Type 0} {last_width : ℕ}
     (front : TextLaws front_in front_text front_stands front_same front_width) (last : TextLaws last_in last_text last_stands last_same last_width) where
@@ -60,6 +82,43 @@ module _ {A B : Type 0} {front_in : A → Type 0} {front_text : A → List ℕ} 
   -- in a text that stands for the parts, the last part has its width
   pub last_long : (text : List ℕ) (value : A × B) → last_in value.1 → (of : StandsForBoth front_stands last_stands text value) → length of.1 ≡ last_width
   last_long text value v_in of = ap length (last.has_text of.1 value.1 v_in of.4) ∙ last.long value.1 v_in
+
+  -- each side of the cut stands for some value
+  pub cut : (text x y : List ℕ) → StandsForSome (Both front_in last_in) (StandsForBoth front_stands last_stands) text → text ≡ x ++ y → length y ≡ last_width
+      → StandsForSome front_in front_stands x × StandsForSome last_in last_stands y
+  cut text x y some same long = (
+    ∥∥₁_map some (λ of. let sides = split_both text x y of.0 of.1.1 of.2 same long in (of.0.0, of.1.0, sides.0)),
+    ∥∥₁_map some (λ of. let sides = split_both text x y of.0 of.1.1 of.2 same long in (of.0.1, of.1.1, sides.1)),
+  )
+
+  -- and both together stand for one
+  pub joined_again : (text x y : List ℕ) → StandsForSome front_in front_stands x → StandsForSome last_in last_stands y → text ≡ x ++ y
+      → StandsForSome (Both front_in last_in) (StandsForBoth front_stands last_stands) text
+  joined_again text x y front_some last_some same =
+      ∥∥₁_map₂ front_some last_some (λ a b. ((a.0, b.0), (a.1, b.1), (x, y, same, a.2, b.2)))
+
+  -- the laws of the keys of all parts
+  pub both_key_laws : {FrontKeys LastKeys : Type 0} {front_are_keys : FrontKeys → Type 0} {front_key_text : FrontKeys → List ℕ} {front_are_values : FrontKeys → Type 0}
+      {last_are_keys : LastKeys → Type 0} {last_key_text : LastKeys → List ℕ} {last_are_values : LastKeys → Type 0}
+      → KeyLaws front_in front_stands front_are_keys front_key_text front_are_values front_width → KeyLaws last_in last_stands last_are_keys last_key_text last_are_values last_width
+      → KeyLaws (Both front_in last_in) (StandsForBoth front_stands last_stands) (Both front_are_keys last_are_keys) (both_texts front_key_text last_key_text) (Both front_are_values last_are_values) (front_width + last_width)
+  both_key_laws {front_key_text = front_key_text} {last_key_text = last_key_text} front_keys last_keys =
+      record {
+        long = λ keys are.
+            let first = front_keys.long keys.0 are.0 in
+            let later = last_keys.long keys.1 are.1 in
+            omega (arith, length-append (front_key_text keys.0) (last_key_text keys.1), first, later);
+        values = λ keys are.
+            let x = front_key_text keys.0 in
+            let y = last_key_text keys.1 in
+            let first = front_keys.values keys.0 are.0 in
+            let later = last_keys.values keys.1 are.1 in (
+              λ some.
+                  let sides = cut (x ++ y) x y some refl (last_keys.long keys.1 are.1) in
+                  (first.0 sides.0, later.0 sides.1),
+              λ both. joined_again (x ++ y) x y (first.1 both.0) (later.1 both.1) refl,
+            );
+      }
 
   -- the laws of all parts
   pub both_laws : TextLaws (Both front_in last_in) (both_texts front_text last_text) (StandsForBoth front_stands last_stands) (AreSameBoth front_same last_same) (front_width + last_width)
@@ -146,3 +205,36 @@ both_text most front last text value fits = (
       let later = (last of.1 value.1 (omega (arith, sum, size, fits))).1 (ins.1, of.4) in
       (of.0, of.1, of.2, first, later),
 )
+
+-- one part decides by itself
+first_part : (o : Ordering) → ByFirstPart o (o ∷ [])
+first_part Less = record { equal = []; later = []; are_equal = All-nil (λ (part : Ordering). part ≡ Equal); first = refl }
+first_part Equal = All-cons (λ (part : Ordering). part ≡ Equal) Equal [] refl (All-nil (λ (part : Ordering). part ≡ Equal))
+first_part Greater = record { equal = []; later = []; are_equal = All-nil (λ (part : Ordering). part ≡ Equal); first = refl }
+
+-- a later part does not change what was decided
+still_first : (o p : Ordering) (parts : List Ordering) → FirstUnequalIs o parts → FirstUnequalIs o (parts ++ p ∷ [])
+still_first o p parts at =
+    record { equal = at.equal; later = at.later ++ p ∷ []; are_equal = at.are_equal; first = ap (λ before. before ++ p ∷ []) at.first ∙ append_assoc at.equal (o ∷ at.later) (p ∷ []) }
+
+-- one more part
+next_part : (o p : Ordering) (parts : List Ordering) → ByFirstPart o parts → ByFirstPart (ordering_then o p) (parts ++ p ∷ [])
+next_part Less p parts at = still_first Less p parts at
+next_part Greater p parts at = still_first Greater p parts at
+next_part Equal Less parts at = record { equal = parts; later = []; are_equal = at; first = refl }
+next_part Equal Equal parts at = All-append (λ (part : Ordering). part ≡ Equal) parts (Equal ∷ []) at (first_part Equal)
+next_part Equal Greater parts at = record { equal = parts; later = []; are_equal = at; first = refl }
+
+-- what the comparisons of all parts return together
+abbrev pub then_all : Ordering → List Ordering → Ordering
+then_all order [] = order
+then_all order (next ∷ rest) = then_all (ordering_then order next) rest
+
+later_parts : (order : Ordering) (before rest : List Ordering) → ByFirstPart order before → ByFirstPart (then_all order rest) (before ++ rest)
+later_parts order before [] at = subst (ByFirstPart order) (sym (append-nil before)) at
+later_parts order before (next ∷ rest) at =
+    subst (ByFirstPart (then_all (ordering_then order next) rest)) (append_assoc before (next ∷ []) rest) (later_parts (ordering_then order next) (before ++ next ∷ []) rest (next_part order next before at))
+
+-- the first part that is not equal decides
+pub by_first_part : (first : Ordering) (rest : List Ordering) → ByFirstPart (then_all first rest) (first ∷ rest)
+by_first_part first rest = later_parts first (first ∷ []) rest (first_part first)

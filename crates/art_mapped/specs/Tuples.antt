@@ -1,7 +1,8 @@
 -- The bytes of tuples: those of the parts, joined.
-use Rattle.std.specs.Prelude.{◌≡◌, ℕ, List, ◌++◌, length}
+use Rattle.std.specs.Prelude.{◌≡◌, ◌↔◌, ℕ, List, ◌++◌, length}
 use Rattle.std.specs.declared.cmp.Ordering.{Ordering}
 use Rattle.art_bytes.specs.Text.{text_order}
+use Rattle.art_mapped.specs.Mapping.{StandsForSome}
 
 -- a value of the part's mapping, with a text of the part's width that stands for it
 abbrev pub IsPart : {D : Type 0} → (D → Type 0) → (D → List ℕ) → (List ℕ → D → Type 0) → ℕ → D → Type 0
@@ -37,3 +38,8 @@ pub record TextLaws {D : Type 0} (is_in_domain : D → Type 0) (text_of : D → 
 -- the texts keep the order of the values
 pub record OrderLaws {D : Type 0} (is_in_domain : D → Type 0) (text_of : D → List ℕ) (order : D → D → Ordering) : Type 0 where
   pub keeps : (x y : D) → is_in_domain x → is_in_domain y → order x y ≡ text_order (text_of x) (text_of y)
+
+-- keys of all parts have texts of one width, joined, which is some value's exactly where each key is
+pub record KeyLaws {D Keys : Type 0} (is_in_domain : D → Type 0) (stands_for : List ℕ → D → Type 0) (are_keys : Keys → Type 0) (text : Keys → List ℕ) (are_values : Keys → Type 0) (width : ℕ) : Type 0 where
+  pub long : (keys : Keys) → are_keys keys → length (text keys) ≡ width
+  pub values : (keys : Keys) → are_keys keys → StandsForSome is_in_domain stands_for (text keys) ↔ are_values keys

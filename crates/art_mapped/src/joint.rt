@@ -3,8 +3,8 @@ ghost use Rattle.std.specs.Prelude.{◌≡◌, ◌≤◌, length, Vec, ◌↔◌
 ghost use Rattle.std.specs.Vec.{vec_items};
 ghost use Rattle.std.specs.declared.alloc.Global.{Global};
 ghost use Rattle.art_mapped.specs.Mapping.{StandsForSome};
-ghost use Rattle.art_mapped.specs.Tuples.{IsPart, IsTextOf, Both, both_texts, AreSameBoth, StandsForBoth, TextLaws, OrderLaws};
-ghost use Rattle.art_mapped.specs.TupleLaws.{part_laws, part_text, both_laws, both_text, both_order};
+ghost use Rattle.art_mapped.specs.Tuples.{IsPart, IsTextOf, Both, both_texts, AreSameBoth, StandsForBoth, TextLaws, OrderLaws, KeyLaws};
+ghost use Rattle.art_mapped.specs.TupleLaws.{part_laws, part_key_laws, part_text, both_laws, both_key_laws, both_text, both_order};
 
 use crate::fixed::FixedBytes;
 use crate::mapping::{BytesMapping, OrderedMapping, ValueTexts};
@@ -29,6 +29,9 @@ impl<A, B, F: JointTexts<A>, L: JointTexts<B>> JointTexts<(A, B)> for Then<F, L>
 /// Mappings of fixed width whose bytes are joined: the parts of a tuple, nested in pairs from the
 /// first part on.
 pub trait Joint<D>: JointTexts<D> {
+    /// A key for each part, nested in pairs as the parts are.
+    type Keys;
+
     /// Whether `read` takes memory. Where it is false, `read` never fails.
     const READ_ALLOCATES: bool;
 
@@ -49,6 +52,15 @@ pub trait Joint<D>: JointTexts<D> {
 
     /// The bytes stand for the value.
     ghost stands_for: { List ℕ → D → Type 0 };
+
+    /// Each is a key.
+    ghost are_keys: { Self.Keys → Type 0 };
+
+    /// The bytes of the keys, joined.
+    ghost text_of_keys: { Self.Keys → List ℕ };
+
+    /// Each key is some value's.
+    ghost are_values: { Self.Keys → Type 0 };
 
     /// How many bytes to reserve: those of all parts, and at most `usize::MAX`.
     fn room() -> usize
@@ -86,6 +98,9 @@ pub trait Joint<D>: JointTexts<D> {
     /// Bytes stand for at most one value, each value's bytes stand for it, and all values have
     /// bytes of one width.
     ghost laws: { TextLaws is_in_domain text_of stands_for are_same width };
+
+    /// All keys have bytes of that width, which joined are some value's exactly where each key is.
+    ghost key_laws: { KeyLaws is_in_domain stands_for are_keys text_of_keys are_values width };
 }
 
 /// Parts whose bytes keep the order of their values.
@@ -98,6 +113,8 @@ pub trait OrderedJoint<D: Ord>: Joint<D> {
 pub struct Part<M>(PhantomData<M>);
 
 impl<D, K: FixedBytes, M: BytesMapping<D, Bytes = K>> Joint<D> for Part<M> {
+    type Keys = K;
+
     const READ_ALLOCATES: bool = M::READ_ALLOCATES;
 
     ghost READ_ALLOCATES = { M.READ_ALLOCATES };
@@ -113,12 +130,20 @@ impl<D, K: FixedBytes, M: BytesMapping<D, Bytes = K>> Joint<D> for Part<M> {
 
     ghost stands_for = { IsTextOf K.is_key K.text M.stands_for };
 
+    ghost are_keys = { K.is_key };
+
+    ghost text_of_keys = { K.text };
+
+    ghost are_values = { StandsForSome M.is_in_domain M.stands_for };
+
     ghost one_text = { M.one_text };
 
     ghost is_text_of_parts = { λ other text value fits.
         part_text M.has_text K.width text value (M.is_text_of_a_key other text value fits) };
 
     ghost laws = { part_laws K.WIDTH M.has_text K.one_key M.reads_one };
+
+    ghost key_laws = { part_key_laws M.has_text K.one_key K.width };
 
     fn room() -> usize {
         K::WIDTH
@@ -147,6 +172,8 @@ impl<D: Ord, K: FixedBytes, M: OrderedMapping<D, Bytes = K>> OrderedJoint<D> for
 pub struct Then<F, L>(PhantomData<(F, L)>);
 
 impl<A: Drop, B: Drop, F: Joint<A>, L: Joint<B>> Joint<(A, B)> for Then<F, L> {
+    type Keys = (F::Keys, L::Keys);
+
     const READ_ALLOCATES: bool = F::READ_ALLOCATES || L::READ_ALLOCATES;
 
     ghost READ_ALLOCATES = { F.READ_ALLOCATES || L.READ_ALLOCATES };
@@ -161,6 +188,12 @@ impl<A: Drop, B: Drop, F: Joint<A>, L: Joint<B>> Joint<(A, B)> for Then<F, L> {
 
     ghost stands_for = { StandsForBoth F.stands_for L.stands_for };
 
+    ghost are_keys = { Both F.are_keys L.are_keys };
+
+    ghost text_of_keys = { both_texts F.text_of_keys L.text_of_keys };
+
+    ghost are_values = { Both F.are_values L.are_values };
+
     ghost one_text = { λ x y same.
         Prim.rw (F.one_text x.0 y.0 same.0, L.one_text x.1 y.1 same.1) Prim.cc };
 
@@ -168,6 +201,8 @@ impl<A: Drop, B: Drop, F: Joint<A>, L: Joint<B>> Joint<(A, B)> for Then<F, L> {
         (F.is_text_of_parts other) (L.is_text_of_parts other) };
 
     ghost laws = { both_laws F.laws L.laws };
+
+    ghost key_laws = { both_key_laws F.laws L.laws F.key_laws L.key_laws };
 
     fn room() -> usize {
         F::room().saturating_add(L::room())

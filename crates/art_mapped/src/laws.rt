@@ -2,7 +2,7 @@
 //!
 //! `BytesMapping::is_value` returns whether some value has the bytes. These laws state for which
 //! bytes there is one, so that `from_bytes` can be called where `is_value` was not.
-ghost use Rattle.std.specs.Prelude.{◌≡◌, ◌≢◌, ◌↔◌, ℕ, List, ◌++◌, ◌+◌, ◌*◌, ◌/◌, ◌%◌, ◌<◌, ◌∷◌, length, take, drop, replicate, Vec, IsTrue, ⊤};
+ghost use Rattle.std.specs.Prelude.{◌≡◌, ◌≢◌, ◌↔◌, ℕ, List, ◌+◌, ◌*◌, ◌/◌, ◌%◌, ◌<◌, ◌∷◌, length, take, drop, replicate, Vec, IsTrue, ⊤};
 ghost use Rattle.std.specs.Net.Addr.{ipv4_octets, ipv6_octets};
 ghost use Rattle.std.specs.Vec.{vec_items};
 ghost use Rattle.std.specs.declared.alloc.Global.{Global};
@@ -14,11 +14,11 @@ ghost use Rattle.art_mapped.specs.Sequences.{joined, part, IsArray, IsVec, vec_t
 ghost use Rattle.art_mapped.specs.ValueBytes.{HasWidth, IsTextOfSome};
 
 use crate::element::Element;
-use crate::fixed::FixedBytes;
+use crate::joint::Joint;
 use crate::mapping::BytesMapping;
 use crate::sequence::IntegerForm;
 use crate::signed::Signed;
-use crate::tuple::ConcatTuple;
+use crate::tuple::{ConcatTuple, SameTexts, TupleMappings, TupleValues};
 use crate::unsigned::Unsigned;
 use crate::written::DomainTexts;
 use std::num::{
@@ -115,193 +115,22 @@ pub fn bytes_of_escaped_strings()
         IsTrue (is_escaped (vec_items bytes)) }
 {}
 
-/// The bytes of a tuple are as many as those of its parts together. Bytes that are keys of the
-/// parts' widths, joined, are a tuple's exactly where each of the keys is some value's. There is
-/// one such law for each number of parts.
-pub fn bytes_of_tuples_of_two<A: Drop, B: Drop, K0: FixedBytes, K1: FixedBytes, M0, M1>()
+/// The bytes of a tuple are as many as those of its parts together. The bytes of keys of its parts,
+/// joined, are a tuple's exactly where each of the keys is some value's. [`Joint`] says what that is
+/// for one part, and for the parts of a pair.
+pub fn bytes_of_tuples<N, D, P, J, T>()
 where
-    M0: BytesMapping<A, Bytes = K0>,
-    M1: BytesMapping<B, Bytes = K1>,
+    D: TupleValues<PartCount = N, Pairs = P> + Drop,
+    J: Joint<P>,
+    T: TupleMappings<PartCount = N, Joint = J> + SameTexts<D, P, J>,
     ensures length { (bytes : Vec ℕ Global) →
         StandsForSome
-        ⟦<ConcatTuple<(M0, M1)> as BytesMapping<(A, B)>>⟧.is_in_domain
-        ⟦<ConcatTuple<(M0, M1)> as BytesMapping<(A, B)>>⟧.stands_for bytes →
-        length (vec_items bytes) ≡ K0.WIDTH + K1.WIDTH }
-    ensures parts { (bytes : Vec ℕ Global) (first : K0) (second : K1) →
-        K0.is_key first → K1.is_key second →
-        vec_items bytes ≡ K0.text first ++ K1.text second →
+        ⟦<ConcatTuple<T> as BytesMapping<D>>⟧.is_in_domain
+        ⟦<ConcatTuple<T> as BytesMapping<D>>⟧.stands_for bytes →
+        length (vec_items bytes) ≡ J.width }
+    ensures parts { (bytes : Vec ℕ Global) (keys : J.Keys) → J.are_keys keys →
+        vec_items bytes ≡ J.text_of_keys keys →
         StandsForSome
-        ⟦<ConcatTuple<(M0, M1)> as BytesMapping<(A, B)>>⟧.is_in_domain
-        ⟦<ConcatTuple<(M0, M1)> as BytesMapping<(A, B)>>⟧.stands_for bytes ↔
-        (StandsForSome M0.is_in_domain M0.stands_for first
-        × StandsForSome M1.is_in_domain M1.stands_for second) }
-{}
-
-/// The same for tuples of three.
-pub fn bytes_of_tuples_of_three<
-    A: Drop,
-    B: Drop,
-    C: Drop,
-    K0: FixedBytes,
-    K1: FixedBytes,
-    K2: FixedBytes,
-    M0,
-    M1,
-    M2,
->()
-where
-    M0: BytesMapping<A, Bytes = K0>,
-    M1: BytesMapping<B, Bytes = K1>,
-    M2: BytesMapping<C, Bytes = K2>,
-    ensures length { (bytes : Vec ℕ Global) →
-        StandsForSome
-        ⟦<ConcatTuple<(M0, M1, M2)> as BytesMapping<(A, B, C)>>⟧.is_in_domain
-        ⟦<ConcatTuple<(M0, M1, M2)> as BytesMapping<(A, B, C)>>⟧.stands_for bytes →
-        length (vec_items bytes) ≡ (K0.WIDTH + K1.WIDTH) + K2.WIDTH }
-    ensures parts { (bytes : Vec ℕ Global) (first : K0) (second : K1) (third : K2) →
-        K0.is_key first → K1.is_key second → K2.is_key third →
-        vec_items bytes ≡ (K0.text first ++ K1.text second) ++ K2.text third →
-        StandsForSome
-        ⟦<ConcatTuple<(M0, M1, M2)> as BytesMapping<(A, B, C)>>⟧.is_in_domain
-        ⟦<ConcatTuple<(M0, M1, M2)> as BytesMapping<(A, B, C)>>⟧.stands_for bytes ↔
-        (StandsForSome M0.is_in_domain M0.stands_for first
-        × StandsForSome M1.is_in_domain M1.stands_for second
-        × StandsForSome M2.is_in_domain M2.stands_for third) }
-{}
-
-/// The same for tuples of four.
-pub fn bytes_of_tuples_of_four<
-    A: Drop,
-    B: Drop,
-    C: Drop,
-    D: Drop,
-    K0: FixedBytes,
-    K1: FixedBytes,
-    K2: FixedBytes,
-    K3: FixedBytes,
-    M0,
-    M1,
-    M2,
-    M3,
->()
-where
-    M0: BytesMapping<A, Bytes = K0>,
-    M1: BytesMapping<B, Bytes = K1>,
-    M2: BytesMapping<C, Bytes = K2>,
-    M3: BytesMapping<D, Bytes = K3>,
-    ensures length { (bytes : Vec ℕ Global) →
-        StandsForSome
-        ⟦<ConcatTuple<(M0, M1, M2, M3)> as BytesMapping<(A, B, C, D)>>⟧.is_in_domain
-        ⟦<ConcatTuple<(M0, M1, M2, M3)> as BytesMapping<(A, B, C, D)>>⟧.stands_for bytes →
-        length (vec_items bytes) ≡ ((K0.WIDTH + K1.WIDTH) + K2.WIDTH) + K3.WIDTH }
-    ensures parts { (bytes : Vec ℕ Global) (first : K0) (second : K1) (third : K2) (fourth : K3) →
-        K0.is_key first → K1.is_key second → K2.is_key third →
-        K3.is_key fourth →
-        vec_items bytes ≡ ((K0.text first ++ K1.text second) ++ K2.text third)
-        ++ K3.text fourth →
-        StandsForSome
-        ⟦<ConcatTuple<(M0, M1, M2, M3)> as BytesMapping<(A, B, C, D)>>⟧.is_in_domain
-        ⟦<ConcatTuple<(M0, M1, M2, M3)> as BytesMapping<(A, B, C, D)>>⟧.stands_for bytes ↔
-        (StandsForSome M0.is_in_domain M0.stands_for first
-        × StandsForSome M1.is_in_domain M1.stands_for second
-        × StandsForSome M2.is_in_domain M2.stands_for third
-        × StandsForSome M3.is_in_domain M3.stands_for fourth) }
-{}
-
-/// The same for tuples of five.
-pub fn bytes_of_tuples_of_five<
-    A: Drop,
-    B: Drop,
-    C: Drop,
-    D: Drop,
-    E: Drop,
-    K0: FixedBytes,
-    K1: FixedBytes,
-    K2: FixedBytes,
-    K3: FixedBytes,
-    K4: FixedBytes,
-    M0,
-    M1,
-    M2,
-    M3,
-    M4,
->()
-where
-    M0: BytesMapping<A, Bytes = K0>,
-    M1: BytesMapping<B, Bytes = K1>,
-    M2: BytesMapping<C, Bytes = K2>,
-    M3: BytesMapping<D, Bytes = K3>,
-    M4: BytesMapping<E, Bytes = K4>,
-    ensures length { (bytes : Vec ℕ Global) →
-        StandsForSome
-        ⟦<ConcatTuple<(M0, M1, M2, M3, M4)> as BytesMapping<(A, B, C, D, E)>>⟧.is_in_domain
-        ⟦<ConcatTuple<(M0, M1, M2, M3, M4)> as BytesMapping<(A, B, C, D, E)>>⟧.stands_for bytes →
-        length (vec_items bytes) ≡ (((K0.WIDTH + K1.WIDTH) + K2.WIDTH) + K3.WIDTH) + K4.WIDTH }
-    ensures parts { (bytes : Vec ℕ Global) (first : K0) (second : K1) (third : K2)
-        (fourth : K3) (fifth : K4) →
-        K0.is_key first → K1.is_key second → K2.is_key third →
-        K3.is_key fourth → K4.is_key fifth →
-        vec_items bytes ≡ (((K0.text first ++ K1.text second) ++ K2.text third)
-        ++ K3.text fourth) ++ K4.text fifth →
-        StandsForSome
-        ⟦<ConcatTuple<(M0, M1, M2, M3, M4)> as BytesMapping<(A, B, C, D, E)>>⟧.is_in_domain
-        ⟦<ConcatTuple<(M0, M1, M2, M3, M4)> as BytesMapping<(A, B, C, D, E)>>⟧.stands_for bytes ↔
-        (StandsForSome M0.is_in_domain M0.stands_for first
-        × StandsForSome M1.is_in_domain M1.stands_for second
-        × StandsForSome M2.is_in_domain M2.stands_for third
-        × StandsForSome M3.is_in_domain M3.stands_for fourth
-        × StandsForSome M4.is_in_domain M4.stands_for fifth) }
-{}
-
-/// The same for tuples of six.
-pub fn bytes_of_tuples_of_six<
-    A: Drop,
-    B: Drop,
-    C: Drop,
-    D: Drop,
-    E: Drop,
-    F: Drop,
-    K0: FixedBytes,
-    K1: FixedBytes,
-    K2: FixedBytes,
-    K3: FixedBytes,
-    K4: FixedBytes,
-    K5: FixedBytes,
-    M0,
-    M1,
-    M2,
-    M3,
-    M4,
-    M5,
->()
-where
-    M0: BytesMapping<A, Bytes = K0>,
-    M1: BytesMapping<B, Bytes = K1>,
-    M2: BytesMapping<C, Bytes = K2>,
-    M3: BytesMapping<D, Bytes = K3>,
-    M4: BytesMapping<E, Bytes = K4>,
-    M5: BytesMapping<F, Bytes = K5>,
-    ensures length { (bytes : Vec ℕ Global) →
-        StandsForSome
-        ⟦<ConcatTuple<(M0, M1, M2, M3, M4, M5)> as BytesMapping<(A, B, C, D, E, F)>>⟧.is_in_domain
-        ⟦<ConcatTuple<(M0, M1, M2, M3, M4, M5)> as BytesMapping<(A, B, C, D, E, F)>>⟧.stands_for
-        bytes →
-        length (vec_items bytes) ≡
-        ((((K0.WIDTH + K1.WIDTH) + K2.WIDTH) + K3.WIDTH) + K4.WIDTH) + K5.WIDTH }
-    ensures parts { (bytes : Vec ℕ Global) (first : K0) (second : K1) (third : K2)
-        (fourth : K3) (fifth : K4) (sixth : K5) →
-        K0.is_key first → K1.is_key second → K2.is_key third →
-        K3.is_key fourth → K4.is_key fifth → K5.is_key sixth →
-        vec_items bytes ≡ ((((K0.text first ++ K1.text second) ++ K2.text third)
-        ++ K3.text fourth) ++ K4.text fifth) ++ K5.text sixth →
-        StandsForSome
-        ⟦<ConcatTuple<(M0, M1, M2, M3, M4, M5)> as BytesMapping<(A, B, C, D, E, F)>>⟧.is_in_domain
-        ⟦<ConcatTuple<(M0, M1, M2, M3, M4, M5)> as BytesMapping<(A, B, C, D, E, F)>>⟧.stands_for
-        bytes ↔
-        (StandsForSome M0.is_in_domain M0.stands_for first
-        × StandsForSome M1.is_in_domain M1.stands_for second
-        × StandsForSome M2.is_in_domain M2.stands_for third
-        × StandsForSome M3.is_in_domain M3.stands_for fourth
-        × StandsForSome M4.is_in_domain M4.stands_for fifth
-        × StandsForSome M5.is_in_domain M5.stands_for sixth) }
+        ⟦<ConcatTuple<T> as BytesMapping<D>>⟧.is_in_domain
+        ⟦<ConcatTuple<T> as BytesMapping<D>>⟧.stands_for bytes ↔ J.are_values keys }
 {}

@@ -19,6 +19,7 @@ ghost use Rattle.art_mapped.specs.Orders.{BySize, BySignedSize, ByFirstItem, ByF
 ghost use Rattle.art_mapped.specs.Sequences.{IsArray};
 
 use crate::element::Element;
+use crate::tuple::OrderedTuple;
 use std::net::{Ipv4Addr, Ipv6Addr};
 
 /// Numbers compare by size.
@@ -60,34 +61,7 @@ pub fn sequences_compare_by_elements<F, E: Element<F>, const N: usize>()
         (⟦<Vec<E> as Ord>⟧.cmp xs ys) (vec_items xs) (vec_items ys) }
 {}
 
-/// Tuples compare by the first part that differs. There is one such law for each number of parts.
-pub fn tuples_of_two_compare_by_parts<A: Ord, B: Ord>()
-    ensures { (x y : A × B) → ByFirstPart (⟦<(A, B) as Ord>⟧.cmp x y)
-        (A.cmp x.0 y.0 ∷ B.cmp x.1 y.1 ∷ []) }
-{}
-
-/// The same for tuples of three.
-pub fn tuples_of_three_compare_by_parts<A: Ord, B: Ord, C: Ord>()
-    ensures { (x y : A × B × C) → ByFirstPart (⟦<(A, B, C) as Ord>⟧.cmp x y)
-        (A.cmp x.0 y.0 ∷ B.cmp x.1 y.1 ∷ C.cmp x.2 y.2 ∷ []) }
-{}
-
-/// The same for tuples of four.
-pub fn tuples_of_four_compare_by_parts<A: Ord, B: Ord, C: Ord, D: Ord>()
-    ensures { (x y : A × B × C × D) → ByFirstPart (⟦<(A, B, C, D) as Ord>⟧.cmp x y)
-        (A.cmp x.0 y.0 ∷ B.cmp x.1 y.1 ∷ C.cmp x.2 y.2 ∷ D.cmp x.3 y.3 ∷ []) }
-{}
-
-/// The same for tuples of five.
-pub fn tuples_of_five_compare_by_parts<A: Ord, B: Ord, C: Ord, D: Ord, E: Ord>()
-    ensures { (x y : A × B × C × D × E) → ByFirstPart (⟦<(A, B, C, D, E) as Ord>⟧.cmp x y)
-        (A.cmp x.0 y.0 ∷ B.cmp x.1 y.1 ∷ C.cmp x.2 y.2 ∷ D.cmp x.3 y.3
-        ∷ E.cmp x.4 y.4 ∷ []) }
-{}
-
-/// The same for tuples of six.
-pub fn tuples_of_six_compare_by_parts<A: Ord, B: Ord, C: Ord, D: Ord, E: Ord, F: Ord>()
-    ensures { (x y : A × B × C × D × E × F) → ByFirstPart (⟦<(A, B, C, D, E, F) as Ord>⟧.cmp x y)
-        (A.cmp x.0 y.0 ∷ B.cmp x.1 y.1 ∷ C.cmp x.2 y.2 ∷ D.cmp x.3 y.3
-        ∷ E.cmp x.4 y.4 ∷ F.cmp x.5 y.5 ∷ []) }
+/// Tuples compare by the first part that differs.
+pub fn tuples_compare_by_parts<D: OrderedTuple<P>, P: Ord>()
+    ensures { (x y : D) → ByFirstPart (D.cmp x y) (D.comparisons x y) }
 {}

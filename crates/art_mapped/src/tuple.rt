@@ -1,10 +1,12 @@
 //! Tuples as their bytes joined.
-ghost use Rattle.std.specs.Prelude.{◌≡◌, ◌↔◌, ℕ, List, true, refl};
+ghost use Rattle.std.specs.Prelude.{◌≡◌, ◌↔◌, ℕ, List, [], ◌∷◌, true, refl};
 ghost use Rattle.std.specs.Vec.{vec_items};
 ghost use Rattle.std.proofs.Common.{◌∙◌, arith};
 ghost use Rattle.art_mapped.specs.MappingLaws.{both_ways};
+ghost use Rattle.std.specs.declared.cmp.Ordering.{Ordering};
+ghost use Rattle.art_mapped.specs.Orders.{ByFirstPart};
 ghost use Rattle.art_mapped.specs.Tuples.{StandsForBoth};
-ghost use Rattle.art_mapped.specs.TupleLaws.{kept_by_items, same_from_one_text, wide_prefix_is_whole};
+ghost use Rattle.art_mapped.specs.TupleLaws.{by_first_part, kept_by_items, same_from_one_text, wide_prefix_is_whole};
 ghost use Rattle.art_mapped.specs.VecLaws.{text_of_a_vec};
 
 use crate::joint::{Joint, JointTexts, OrderedJoint, Part, Then};
@@ -96,12 +98,18 @@ pub trait TupleValues: Sealed + Sized {
     ghost flat_pairs: { (value : Self) → flat (in_pairs value) ≡ value };
 }
 
-/// A tuple that compares as its nested pairs do.
+/// A tuple that compares as its nested pairs do: by the first part that differs.
 ///
 /// [`ConcatTuple`] has an example.
 pub trait OrderedTuple<P: Ord>: TupleValues<Pairs = P> + Ord {
     /// A tuple compares as its nested pairs do.
     ghost same_order: { (x y : Self) → Self.cmp x y ≡ P.cmp (Self.in_pairs x) (Self.in_pairs y) };
+
+    /// The comparisons of two tuples, part by part.
+    ghost comparisons: { Self → Self → List Ordering };
+
+    /// The first part that differs decides.
+    ghost by_first_part: { (x y : Self) → ByFirstPart (Self.cmp x y) (comparisons x y) };
 }
 
 /// Which lists are the bytes of a tuple. The trait is sealed: no other type can implement it.
@@ -391,6 +399,10 @@ impl<A, B> TupleValues for (A, B) {
 
 impl<A: Ord, B: Ord> OrderedTuple<(A, B)> for (A, B) {
     ghost same_order = { λ _ _. refl };
+
+    ghost comparisons = { λ x y. A.cmp x.0 y.0 ∷ B.cmp x.1 y.1 ∷ [] };
+
+    ghost by_first_part = { λ x y. by_first_part (A.cmp x.0 y.0) (B.cmp x.1 y.1 ∷ []) };
 }
 
 impl<M0, M1, M2> TupleMappings for (M0, M1, M2) {
@@ -424,6 +436,10 @@ impl<A, B, C> TupleValues for (A, B, C) {
 
 impl<A: Ord, B: Ord, C: Ord> OrderedTuple<((A, B), C)> for (A, B, C) {
     ghost same_order = { λ _ _. refl };
+
+    ghost comparisons = { λ x y. A.cmp x.0 y.0 ∷ B.cmp x.1 y.1 ∷ C.cmp x.2 y.2 ∷ [] };
+
+    ghost by_first_part = { λ x y. by_first_part (A.cmp x.0 y.0) (B.cmp x.1 y.1 ∷ C.cmp x.2 y.2 ∷ []) };
 }
 
 impl<M0, M1, M2, M3> TupleMappings for (M0, M1, M2, M3) {
@@ -457,6 +473,10 @@ impl<A, B, C, D> TupleValues for (A, B, C, D) {
 
 impl<A: Ord, B: Ord, C: Ord, D: Ord> OrderedTuple<(((A, B), C), D)> for (A, B, C, D) {
     ghost same_order = { λ _ _. refl };
+
+    ghost comparisons = { λ x y. A.cmp x.0 y.0 ∷ B.cmp x.1 y.1 ∷ C.cmp x.2 y.2 ∷ D.cmp x.3 y.3 ∷ [] };
+
+    ghost by_first_part = { λ x y. by_first_part (A.cmp x.0 y.0) (B.cmp x.1 y.1 ∷ C.cmp x.2 y.2 ∷ D.cmp x.3 y.3 ∷ []) };
 }
 
 impl<M0, M1, M2, M3, M4> TupleMappings for (M0, M1, M2, M3, M4) {
@@ -491,6 +511,12 @@ impl<A, B, C, D, E> TupleValues for (A, B, C, D, E) {
 impl<A: Ord, B: Ord, C: Ord, D: Ord, E: Ord> OrderedTuple<((((A, B), C), D), E)>
     for (A, B, C, D, E) {
     ghost same_order = { λ _ _. refl };
+
+    ghost comparisons = { λ x y. A.cmp x.0 y.0 ∷ B.cmp x.1 y.1 ∷ C.cmp x.2 y.2 ∷ D.cmp x.3 y.3
+        ∷ E.cmp x.4 y.4 ∷ [] };
+
+    ghost by_first_part = { λ x y. by_first_part (A.cmp x.0 y.0)
+        (B.cmp x.1 y.1 ∷ C.cmp x.2 y.2 ∷ D.cmp x.3 y.3 ∷ E.cmp x.4 y.4 ∷ []) };
 }
 
 impl<M0, M1, M2, M3, M4, M5> TupleMappings for (M0, M1, M2, M3, M4, M5) {
@@ -529,4 +555,10 @@ impl<A, B, C, D, E, F> TupleValues for (A, B, C, D, E, F) {
 impl<A: Ord, B: Ord, C: Ord, D: Ord, E: Ord, F: Ord> OrderedTuple<(((((A, B), C), D), E), F)>
     for (A, B, C, D, E, F) {
     ghost same_order = { λ _ _. refl };
+
+    ghost comparisons = { λ x y. A.cmp x.0 y.0 ∷ B.cmp x.1 y.1 ∷ C.cmp x.2 y.2 ∷ D.cmp x.3 y.3
+        ∷ E.cmp x.4 y.4 ∷ F.cmp x.5 y.5 ∷ [] };
+
+    ghost by_first_part = { λ x y. by_first_part (A.cmp x.0 y.0)
+        (B.cmp x.1 y.1 ∷ C.cmp x.2 y.2 ∷ D.cmp x.3 y.3 ∷ E.cmp x.4 y.4 ∷ F.cmp x.5 y.5 ∷ []) };
 }

@@ -94,7 +94,7 @@ fn is_host(bytes: &Vec<u8>) -> bool
     laws::any_bytes_are_a_value();
     laws::bytes_of_non_zero_unsigned_integers();
     laws::parts_have_their_widths();
-    laws::bytes_of_tuples_of_two::<Ipv4Addr, NonZeroU16, [u8; 4], [u8; 2], ToOctets, ToUBE>();
+    laws::bytes_of_tuples::<_, (Ipv4Addr, NonZeroU16), _, _, (ToOctets, ToUBE)>();
     <ConcatTuple<(ToOctets, ToUBE)> as BytesMapping<(Ipv4Addr, NonZeroU16)>>::is_value(bytes)
 }
 
@@ -105,7 +105,7 @@ fn are_three_bytes(bytes: &Vec<u8>) -> bool
         bytes.now.items ≡ a ∷ b ∷ c ∷ [] → IsTrue result }
 {
     laws::any_bytes_are_a_value();
-    laws::bytes_of_tuples_of_three::<u8, u8, u8, [u8; 1], [u8; 1], [u8; 1], ToUBE, ToUBE, ToUBE>();
+    laws::bytes_of_tuples::<_, (u8, u8, u8), _, _, (ToUBE, ToUBE, ToUBE)>();
     <ConcatTuple<(ToUBE, ToUBE, ToUBE)> as BytesMapping<(u8, u8, u8)>>::is_value(bytes)
 }
 
@@ -115,20 +115,7 @@ fn are_four_bytes(bytes: &Vec<u8>) -> bool
         bytes.now.items ≡ a ∷ b ∷ c ∷ d ∷ [] → IsTrue result }
 {
     laws::any_bytes_are_a_value();
-    laws::bytes_of_tuples_of_four::<
-        u8,
-        u8,
-        u8,
-        u8,
-        [u8; 1],
-        [u8; 1],
-        [u8; 1],
-        [u8; 1],
-        ToUBE,
-        ToUBE,
-        ToUBE,
-        ToUBE,
-    >();
+    laws::bytes_of_tuples::<_, (u8, u8, u8, u8), _, _, (ToUBE, ToUBE, ToUBE, ToUBE)>();
     <ConcatTuple<(ToUBE, ToUBE, ToUBE, ToUBE)> as BytesMapping<(u8, u8, u8, u8)>>::is_value(bytes)
 }
 
@@ -138,23 +125,7 @@ fn are_five_bytes(bytes: &Vec<u8>) -> bool
         bytes.now.items ≡ a ∷ b ∷ c ∷ d ∷ e ∷ [] → IsTrue result }
 {
     laws::any_bytes_are_a_value();
-    laws::bytes_of_tuples_of_five::<
-        u8,
-        u8,
-        u8,
-        u8,
-        u8,
-        [u8; 1],
-        [u8; 1],
-        [u8; 1],
-        [u8; 1],
-        [u8; 1],
-        ToUBE,
-        ToUBE,
-        ToUBE,
-        ToUBE,
-        ToUBE,
-    >();
+    laws::bytes_of_tuples::<_, (u8, u8, u8, u8, u8), _, _, (ToUBE, ToUBE, ToUBE, ToUBE, ToUBE)>();
     <ConcatTuple<(ToUBE, ToUBE, ToUBE, ToUBE, ToUBE)> as BytesMapping<
         (u8, u8, u8, u8, u8),
     >>::is_value(bytes)
@@ -166,25 +137,12 @@ fn are_six_bytes(bytes: &Vec<u8>) -> bool
         bytes.now.items ≡ a ∷ b ∷ c ∷ d ∷ e ∷ f ∷ [] → IsTrue result }
 {
     laws::any_bytes_are_a_value();
-    laws::bytes_of_tuples_of_six::<
-        u8,
-        u8,
-        u8,
-        u8,
-        u8,
-        u8,
-        [u8; 1],
-        [u8; 1],
-        [u8; 1],
-        [u8; 1],
-        [u8; 1],
-        [u8; 1],
-        ToUBE,
-        ToUBE,
-        ToUBE,
-        ToUBE,
-        ToUBE,
-        ToUBE,
+    laws::bytes_of_tuples::<
+        _,
+        (u8, u8, u8, u8, u8, u8),
+        _,
+        _,
+        (ToUBE, ToUBE, ToUBE, ToUBE, ToUBE, ToUBE),
     >();
     <ConcatTuple<(ToUBE, ToUBE, ToUBE, ToUBE, ToUBE, ToUBE)> as BytesMapping<
         (u8, u8, u8, u8, u8, u8),

@@ -116,7 +116,7 @@ fn by_address_then_cost(
     ensures { (x y : Ipv4Addr × ℤ) → HoldsValue a.now x → HoldsValue b.now y → ByFirstPart result
         (⟦<Ipv4Addr as Ord>⟧.cmp x.0 y.0 ∷ int_cmp x.1 y.1 ∷ []) }
 {
-    orders::tuples_of_two_compare_by_parts::<Ipv4Addr, i32>();
+    orders::tuples_compare_by_parts::<(Ipv4Addr, i32), _>();
     a.cmp(b)
 }
 
@@ -130,7 +130,7 @@ fn by_address_then_port_then_cost(
         ByFirstPart result
         (⟦<Ipv4Addr as Ord>⟧.cmp x.0 y.0 ∷ nat_cmp x.1 y.1 ∷ int_cmp x.2 y.2 ∷ []) }
 {
-    orders::tuples_of_three_compare_by_parts::<Ipv4Addr, u16, i32>();
+    orders::tuples_compare_by_parts::<(Ipv4Addr, u16, i32), _>();
     a.cmp(b)
 }
 
@@ -144,7 +144,7 @@ where
     ensures { (x y : A × B × C × D) → HoldsValue a.now x → HoldsValue b.now y →
         ByFirstPart result (A.cmp x.0 y.0 ∷ B.cmp x.1 y.1 ∷ C.cmp x.2 y.2 ∷ D.cmp x.3 y.3 ∷ []) }
 {
-    orders::tuples_of_four_compare_by_parts::<A, B, C, D>();
+    orders::tuples_compare_by_parts::<(A, B, C, D), _>();
     a.cmp(b)
 }
 
@@ -158,7 +158,7 @@ where
         ByFirstPart result (A.cmp x.0 y.0 ∷ B.cmp x.1 y.1 ∷ C.cmp x.2 y.2 ∷ D.cmp x.3 y.3
         ∷ E.cmp x.4 y.4 ∷ []) }
 {
-    orders::tuples_of_five_compare_by_parts::<A, B, C, D, E>();
+    orders::tuples_compare_by_parts::<(A, B, C, D, E), _>();
     a.cmp(b)
 }
 
@@ -172,7 +172,7 @@ where
         ByFirstPart result (A.cmp x.0 y.0 ∷ B.cmp x.1 y.1 ∷ C.cmp x.2 y.2 ∷ D.cmp x.3 y.3
         ∷ E.cmp x.4 y.4 ∷ F.cmp x.5 y.5 ∷ []) }
 {
-    orders::tuples_of_six_compare_by_parts::<A, B, C, D, E, F>();
+    orders::tuples_compare_by_parts::<(A, B, C, D, E, F), _>();
     a.cmp(b)
 }
 

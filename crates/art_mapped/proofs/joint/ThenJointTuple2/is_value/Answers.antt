@@ -1,5 +1,6 @@
 use Rattle.std.proofs.Common.{◌≡◌, length, true, false, sym, ◌∙◌, arith}
-use Rattle.art_mapped.proofs.Cuts.{cut, joined_again, long_enough}
+use Rattle.art_mapped.specs.TupleLaws.{cut, joined_again}
+use Rattle.art_mapped.proofs.Cuts.{long_enough}
 use Rattle.art_mapped.proofs.joint.ThenJointTuple2.is_value.Goals as goal
 
 pub returns-then-bytes-width : goal.returns-then-bytes-width

@@ -1,6 +1,6 @@
 use Rattle.std.proofs.Common.{◌≡◌, length, arith}
-use Rattle.art_mapped.specs.TupleLaws.{split_both}
-use Rattle.art_mapped.proofs.Cuts.{cut, long_enough}
+use Rattle.art_mapped.specs.TupleLaws.{cut, split_both}
+use Rattle.art_mapped.proofs.Cuts.{long_enough}
 use Rattle.art_mapped.proofs.joint.ThenJointTuple2.read.Goals as goal
 
 pub overflow_sub-bytes : goal.overflow_sub-bytes

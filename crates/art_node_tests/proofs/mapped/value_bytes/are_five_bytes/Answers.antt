@@ -14,7 +14,7 @@ one_byte byte is = (refl, only)
     only (suc k) below = absurd (omega arith)
 
 pub returns-clause-length : goal.returns-clause-length
-returns-clause-length c = λ yes. c.bytes_of_tuples_of_five.ensures.length c.args.bytes.now (c.is_value.ensures.0 yes)
+returns-clause-length c = λ yes. c.bytes_of_tuples.ensures.length c.args.bytes.now (c.is_value.ensures.0 yes)
 
 pub returns-clause-all : goal.returns-clause-all
 returns-clause-all c = λ p q r s t are same.
@@ -29,4 +29,4 @@ returns-clause-all c = λ p q r s t are same.
     let rest4 = All-tail IsByte s (t ∷ []) rest3 in
     let byte4 = one_byte t (All-head IsByte t ([]) rest4) in
     let number = c.any_bytes_are_a_value.ensures.unsigned 1 in
-    c.is_value.ensures.1 ((c.bytes_of_tuples_of_five.ensures.parts c.args.bytes.now (p ∷ []) (q ∷ []) (r ∷ []) (s ∷ []) (t ∷ []) byte0.0 byte1.0 byte2.0 byte3.0 byte4.0 same).1 (number (p ∷ []) byte0, number (q ∷ []) byte1, number (r ∷ []) byte2, number (s ∷ []) byte3, number (t ∷ []) byte4))
+    c.is_value.ensures.1 ((c.bytes_of_tuples.ensures.parts c.args.bytes.now ((((p ∷ [], q ∷ []), r ∷ []), s ∷ []), t ∷ []) ((((byte0.0, byte1.0), byte2.0), byte3.0), byte4.0) same).1 ((((number (p ∷ []) byte0, number (q ∷ []) byte1), number (r ∷ []) byte2), number (s ∷ []) byte3), number (t ∷ []) byte4))

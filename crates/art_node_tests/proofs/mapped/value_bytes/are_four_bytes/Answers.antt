@@ -14,7 +14,7 @@ one_byte byte is = (refl, only)
     only (suc k) below = absurd (omega arith)
 
 pub returns-clause-length : goal.returns-clause-length
-returns-clause-length c = λ yes. c.bytes_of_tuples_of_four.ensures.length c.args.bytes.now (c.is_value.ensures.0 yes)
+returns-clause-length c = λ yes. c.bytes_of_tuples.ensures.length c.args.bytes.now (c.is_value.ensures.0 yes)
 
 pub returns-clause-all : goal.returns-clause-all
 returns-clause-all c = λ p q r s are same.
@@ -27,4 +27,4 @@ returns-clause-all c = λ p q r s are same.
     let rest3 = All-tail IsByte r (s ∷ []) rest2 in
     let byte3 = one_byte s (All-head IsByte s ([]) rest3) in
     let number = c.any_bytes_are_a_value.ensures.unsigned 1 in
-    c.is_value.ensures.1 ((c.bytes_of_tuples_of_four.ensures.parts c.args.bytes.now (p ∷ []) (q ∷ []) (r ∷ []) (s ∷ []) byte0.0 byte1.0 byte2.0 byte3.0 same).1 (number (p ∷ []) byte0, number (q ∷ []) byte1, number (r ∷ []) byte2, number (s ∷ []) byte3))
+    c.is_value.ensures.1 ((c.bytes_of_tuples.ensures.parts c.args.bytes.now (((p ∷ [], q ∷ []), r ∷ []), s ∷ []) (((byte0.0, byte1.0), byte2.0), byte3.0) same).1 (((number (p ∷ []) byte0, number (q ∷ []) byte1), number (r ∷ []) byte2), number (s ∷ []) byte3))

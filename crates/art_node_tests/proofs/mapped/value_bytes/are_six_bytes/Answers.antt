@@ -14,7 +14,7 @@ one_byte byte is = (refl, only)
     only (suc k) below = absurd (omega arith)
 
 pub returns-clause-length : goal.returns-clause-length
-returns-clause-length c = λ yes. c.bytes_of_tuples_of_six.ensures.length c.args.bytes.now (c.is_value.ensures.0 yes)
+returns-clause-length c = λ yes. c.bytes_of_tuples.ensures.length c.args.bytes.now (c.is_value.ensures.0 yes)
 
 pub returns-clause-all : goal.returns-clause-all
 returns-clause-all c = λ p q r s t u are same.
@@ -31,4 +31,4 @@ returns-clause-all c = λ p q r s t u are same.
     let rest5 = All-tail IsByte t (u ∷ []) rest4 in
     let byte5 = one_byte u (All-head IsByte u ([]) rest5) in
     let number = c.any_bytes_are_a_value.ensures.unsigned 1 in
-    c.is_value.ensures.1 ((c.bytes_of_tuples_of_six.ensures.parts c.args.bytes.now (p ∷ []) (q ∷ []) (r ∷ []) (s ∷ []) (t ∷ []) (u ∷ []) byte0.0 byte1.0 byte2.0 byte3.0 byte4.0 byte5.0 same).1 (number (p ∷ []) byte0, number (q ∷ []) byte1, number (r ∷ []) byte2, number (s ∷ []) byte3, number (t ∷ []) byte4, number (u ∷ []) byte5))
+    c.is_value.ensures.1 ((c.bytes_of_tuples.ensures.parts c.args.bytes.now (((((p ∷ [], q ∷ []), r ∷ []), s ∷ []), t ∷ []), u ∷ []) (((((byte0.0, byte1.0), byte2.0), byte3.0), byte4.0), byte5.0) same).1 (((((number (p ∷ []) byte0, number (q ∷ []) byte1), number (r ∷ []) byte2), number (s ∷ []) byte3), number (t ∷ []) byte4), number (u ∷ []) byte5))

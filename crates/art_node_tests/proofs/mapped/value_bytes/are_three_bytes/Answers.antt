@@ -14,7 +14,7 @@ one_byte byte is = (refl, only)
     only (suc k) below = absurd (omega arith)
 
 pub returns-clause-length : goal.returns-clause-length
-returns-clause-length c = λ yes. c.bytes_of_tuples_of_three.ensures.length c.args.bytes.now (c.is_value.ensures.0 yes)
+returns-clause-length c = λ yes. c.bytes_of_tuples.ensures.length c.args.bytes.now (c.is_value.ensures.0 yes)
 
 pub returns-clause-all : goal.returns-clause-all
 returns-clause-all c = λ p q r are same.
@@ -25,4 +25,4 @@ returns-clause-all c = λ p q r are same.
     let rest2 = All-tail IsByte q (r ∷ []) rest1 in
     let byte2 = one_byte r (All-head IsByte r ([]) rest2) in
     let number = c.any_bytes_are_a_value.ensures.unsigned 1 in
-    c.is_value.ensures.1 ((c.bytes_of_tuples_of_three.ensures.parts c.args.bytes.now (p ∷ []) (q ∷ []) (r ∷ []) byte0.0 byte1.0 byte2.0 same).1 (number (p ∷ []) byte0, number (q ∷ []) byte1, number (r ∷ []) byte2))
+    c.is_value.ensures.1 ((c.bytes_of_tuples.ensures.parts c.args.bytes.now ((p ∷ [], q ∷ []), r ∷ []) ((byte0.0, byte1.0), byte2.0) same).1 ((number (p ∷ []) byte0, number (q ∷ []) byte1), number (r ∷ []) byte2))
