@@ -1,5 +1,5 @@
 -- Several elements: length and order. No public clause cites this.
-use Rattle.std.specs.Prelude.{◌≡◌, ℕ, ◌*◌, ◌<◌, List, [], ◌∷◌, ◌++◌, length, All, refl}
+use Rattle.std.specs.Prelude.{◌≡◌, ℕ, ◌+◌, ◌*◌, ◌<◌, List, [], ◌∷◌, ◌++◌, length, All, refl}
 use Rattle.std.specs.Ordering.{nat_cmp, ordering_then}
 use Rattle.std.specs.declared.cmp.Ordering.{Ordering}
 use Rattle.std.specs.declared.cmp.Ordering.TheVariants.{Less, Equal, Greater}
@@ -13,6 +13,7 @@ use Rattle.art_bytes.specs.Laws.{prefix_of_length}
 use Rattle.art_mapped.specs.DigitLaws.{then_assoc}
 use Rattle.art_mapped.specs.Elements.{KeepsOrder}
 use Rattle.art_mapped.specs.Sequences.{joined, IsArray}
+use Rattle.art_mapped.specs.Tuples.{Both, both_texts}
 
 -- where both first parts have one length, the first part that differs decides
 pub text_order-append : (a b c d : List ℕ) → length a ≡ length b → text_order (a ++ c) (b ++ d) ≡ ordering_then (text_order a b) (text_order c d)
@@ -23,6 +24,12 @@ text_order-append (x ∷ a) (y ∷ b) c d long =
     let short : length a ≡ length b = omega arith in
     rw (text_order-append a b c d short) (sym (then_assoc (nat_cmp x y) (text_order a b) (text_order c d)))
 
+-- where two comparisons tie one after the other, each ties
+tied_parts : (o p : Ordering) → ordering_then o p ≡ Equal → (o ≡ Equal) × (p ≡ Equal)
+tied_parts Less p tied = cc
+tied_parts Equal p tied = (refl, tied)
+tied_parts Greater p tied = cc
+
 -- where elements that tie are equal, lists that tie are equal
 exact_lists : {E : Type 0} (order : E → E → Ordering) → CmpEqualImpliesEq order → (xs ys : List E) → slice_cmp order xs ys ≡ Equal → xs ≡ ys
 exact_lists order exact [] [] tied = refl
@@ -31,11 +38,27 @@ exact_lists order exact (x ∷ xs) [] tied = cc
 exact_lists order exact (x ∷ xs) (y ∷ ys) tied =
     let both = tied_parts (order x y) (slice_cmp order xs ys) tied in
     rw (exact x y both.0, exact_lists order exact xs ys both.1) refl
-  where
-    tied_parts : (o p : Ordering) → ordering_then o p ≡ Equal → (o ≡ Equal) × (p ≡ Equal)
-    tied_parts Less p tied = cc
-    tied_parts Equal p tied = (refl, tied)
-    tied_parts Greater p tied = cc
+
+-- pairs of such values have the bytes of both, joined, and the order in which the first part that differs decides
+pub pair_keep : {A B : Type 0} {is_first : A → Type 0} {first_text : A → List ℕ} {first_order : A → A → Ordering} {first_width : ℕ}
+    {is_second : B → Type 0} {second_text : B → List ℕ} {second_order : B → B → Ordering} {second_width : ℕ}
+    → KeepsOrder is_first first_text first_order first_width → KeepsOrder is_second second_text second_order second_width
+    → KeepsOrder (Both is_first is_second) (both_texts first_text second_text) (λ x y. ordering_then (first_order x.0 y.0) (second_order x.1 y.1)) (first_width + second_width)
+pair_keep {first_text = first_text} {first_order = first_order} {second_text = second_text} {second_order = second_order} first second =
+    record {
+      some = omega (arith, first.some);
+      long = λ x x_in.
+          let one = first.long x.0 x_in.0 in
+          let other = second.long x.1 x_in.1 in
+          omega (arith, length-append (first_text x.0) (second_text x.1), one, other);
+      keeps = λ x y x_in y_in.
+          let one = first.keeps x.0 y.0 x_in.0 y_in.0 in
+          let other = second.keeps x.1 y.1 x_in.1 y_in.1 in
+          rw (text_order-append (first_text x.0) (first_text y.0) (second_text x.1) (second_text y.1) (first.long x.0 x_in.0 ∙ sym (first.long y.0 y_in.0)), ← one, ← other) refl;
+      exact = λ x y tied.
+          let both = tied_parts (first_order x.0 y.0) (second_order x.1 y.1) tied in
+          rw (first.exact x.0 y.0 both.0, second.exact x.1 y.1 both.1) refl;
+    }
 
 module _ {E : Type 0} {is_element : E → Type 0} {text : E → List ℕ} {order : E → E → Ordering} {width : ℕ} (laws : KeepsOrder is_element text order width) where
   pub length-joined : (xs : List E) → All is_element xs → length (joined text xs) ≡ length xs * width

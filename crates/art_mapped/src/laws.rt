@@ -115,9 +115,9 @@ pub fn bytes_of_escaped_strings()
         IsTrue (is_escaped (vec_items bytes)) }
 {}
 
-/// The bytes of a tuple are as many as those of its parts together. The bytes of keys of its parts,
-/// joined, are a tuple's exactly where each of the keys is some value's. [`Joint`] says what that is
-/// for one part, and for the parts of a pair.
+/// The bytes of a tuple are as many as those of its parts together. Bytes that are keys of the
+/// parts' widths, joined, are a tuple's exactly where each of the keys is some value's. The keys are
+/// nested in pairs, as `((first, second), third)`, and so is what holds of each.
 pub fn bytes_of_tuples<N, D, P, J, T>()
 where
     D: TupleValues<PartCount = N, Pairs = P> + Drop,

@@ -1,9 +1,9 @@
 //! Values as keys: their bytes, their order, and reading them back.
 use art_bytes::{AsBytes, OrderedBytes};
 use art_mapped::{
-    BytesMapping, ConcatTuple, Domain, Element, Escaped, EscapedKey, FixedBytes, Identity,
-    IntegerForm, Mapped, NoPrefixesMapping, Octets, OrderedMapping, Signed, Single, ToBigEndian,
-    ToIBE, ToOctets, ToUBE, Unsigned, escaped_prefix,
+    BytesMapping, ConcatTuple, Domain, DomainTexts, Element, Escaped, EscapedKey, FixedBytes,
+    Identity, IntegerForm, Mapped, NoPrefixesMapping, Octets, OrderedMapping, Signed, Single,
+    ToBigEndian, ToIBE, ToOctets, ToUBE, Unsigned, escaped_prefix,
 };
 use std::alloc::{AllocError, Global};
 use std::cmp::Ordering;
@@ -20,6 +20,7 @@ mod escaped_examples;
 mod mapped_callers;
 mod mapped_examples;
 mod ordered;
+mod own_mapping;
 mod read_values;
 mod refusals;
 mod tuples;
