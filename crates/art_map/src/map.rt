@@ -3,6 +3,7 @@ ghost use Rattle.std.specs.Prelude.{◌≡◌, ◌≢◌, [], IfOk, IfErr};
 ghost use Rattle.art_tree.specs.Refusals.{texts_of, IsDue};
 
 mod changes;
+mod compacting;
 mod ends;
 mod iterating;
 mod laws;

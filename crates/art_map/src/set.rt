@@ -468,6 +468,20 @@ impl<K: AsBytes + Drop, const PREFIX_LEN: usize> ArtSet<K, PREFIX_LEN> {
     {
         self.entries.clear();
     }
+
+    /// Puts the keys into memory in their order, with room for just them, as [`ArtMap::compact`] does
+    /// with entries: `shrink_to_fit` of the collections of std is half of it. Where memory is refused,
+    /// the set is exactly as it was. Takes time linear in the bytes of all keys together.
+    ///
+    /// (from crates/art_map_tests/src/map/set_examples.rt)
+    /// ```rust
+    /// names.compact()?;
+    /// ```
+    pub fn compact(&mut self) -> Result<(), AllocError>
+        ensures same_keys { self.new ≡ self.old }
+    {
+        self.entries.compact()
+    }
 }
 
 impl<K: AsBytes + Drop, const PREFIX_LEN: usize> IntoIterator for ArtSet<K, PREFIX_LEN> {

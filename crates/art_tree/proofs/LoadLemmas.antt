@@ -5,3 +5,4 @@ pub mod LoadedTree
 pub mod OpenNodes
 pub mod RefusalLemmas
 pub mod PlacedTrees
+pub mod ReloadedTree

@@ -12,6 +12,7 @@ pub mod Nodes
 pub mod Plan
 pub mod Raising
 pub mod Refusals
+pub mod Reloading
 pub mod RefusalTexts
 pub mod Edits
 pub mod InsertionPoints

@@ -1,5 +1,5 @@
 //! Loading: a tree from ascending entries.
-ghost use Rattle.std.specs.Prelude.{◌≡◌, ◌≢◌, ◌<◌, ◌≤◌, [], length, All, vec_len, vec_capacity, IfOk, IfErr, OnOk, OnErr};
+ghost use Rattle.std.specs.Prelude.{◌≡◌, ◌≢◌, ◌<◌, ◌≤◌, [], length, map, All, vec_len, vec_capacity, IfOk, IfErr, OnOk, OnErr};
 ghost use Rattle.art_header.specs.declared.node_type.NodeType.TheVariants as NodeType;
 ghost use Rattle.art_nodes.specs.declared.pointers.OpaqueNodePtr.{OpaqueNodePtr as Pointer};
 ghost use Rattle.art_arena.specs.Arena.{room, SameNodes};
@@ -10,11 +10,14 @@ ghost use Rattle.art_tree.specs.declared.loading.check.LoadRefusal.TheVariants.{
 ghost use Rattle.art_tree.specs.Loading.{IsLoaded};
 
 mod check;
+mod keys;
 mod leaves;
 mod raise;
+mod reloading;
 mod steps;
 
 use crate::loading::check::refusal_of;
+use crate::loading::keys::KeyIn;
 use crate::loading::leaves::link_leaves;
 use crate::loading::raise::raise;
 use crate::loading::steps::{Step, count_nodes, plan};
@@ -22,6 +25,7 @@ use art_arena::NodeArena;
 use art_bytes::AsBytes;
 use art_nodes::{LeafNode, NodePtr, NodeType, OpaqueNodePtr};
 pub use check::LoadRefusal;
+pub(crate) use reloading::reload;
 use std::alloc::{AllocError, Global};
 
 /// A refused load: why, and the entries, unchanged. They can be loaded again:
@@ -89,7 +93,7 @@ pub fn load<K: AsBytes, V, const PREFIX_LEN: usize>(
     if let Some(refusal) = refusal_of(&entries) {
         return Err(LoadFault { refusal, entries });
     }
-    match prepare(alloc, arena, &entries) {
+    match prepare(alloc, arena, &(), &entries) {
         Ok(prepared) => Ok(make(arena, entries, prepared)),
         Err(AllocError) => Err(LoadFault {
             refusal: LoadRefusal::OutOfMemory,
@@ -98,16 +102,18 @@ pub fn load<K: AsBytes, V, const PREFIX_LEN: usize>(
     }
 }
 
-// Plans the tree, and reserves all memory that the load needs.
-fn prepare<K: AsBytes, V, const PREFIX_LEN: usize>(
+// Plans the tree of what has these keys, and reserves all memory that the load needs.
+fn prepare<C, E: KeyIn<C>, K: AsBytes, V, const PREFIX_LEN: usize>(
     alloc: Global,
     arena: &mut NodeArena<K, V, PREFIX_LEN>,
-    entries: &[(K, V)],
+    context: &C,
+    entries: &[E],
 ) -> Result<Prepared<K, V, PREFIX_LEN>, AllocError>
     requires some { 0 < length entries.now }
-    requires loadable { AreLoadable (texts_of K.text entries.now) }
+    requires there { All (E.is_in context.now) entries.now }
+    requires loadable { AreLoadable (map (E.text_in context.now) entries.now) }
     ensures nodes_kept { SameNodes arena.old arena.new }
-    ensures plan { IfOk result (λ p. IsPlanOf (texts_of K.text entries.now) p.steps.items) }
+    ensures plan { IfOk result (λ p. IsPlanOf (map (E.text_in context.now) entries.now) p.steps.items) }
     ensures leaves { IfOk result
         (λ p. (p.leaves.items ≡ []) × (length entries.now ≤ vec_capacity p.leaves)) }
     ensures pending { IfOk result
@@ -116,7 +122,7 @@ fn prepare<K: AsBytes, V, const PREFIX_LEN: usize>(
         (λ p. (kind : _) → kind ≢ NodeType.Leaf → needed kind p.steps.items ≤ room arena.new kind) }
     ensures leaf_room { OnOk result (length entries.now ≤ room arena.new NodeType.Leaf) }
 {
-    let steps = plan(alloc, entries)?;
+    let steps = plan(alloc, context, entries)?;
     let leaves = Vec::with_capacity(alloc, entries.len())?;
     let pending = Vec::with_capacity(alloc, entries.len())?;
     arena.reserve(NodeType::Leaf, entries.len())?;

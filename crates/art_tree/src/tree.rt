@@ -10,6 +10,7 @@ ghost use Rattle.art_tree.specs.Ends.{IsWithin};
 ghost use Rattle.art_tree.specs.Refusals.{texts_of, HaveNoFault, IsDue};
 
 mod changes;
+mod compacting;
 mod ends;
 mod lending;
 mod reading;
@@ -46,6 +47,8 @@ impl<K: AsBytes, V, const PREFIX_LEN: usize> HoldsOneTree<OpaqueNodePtr<K, V, PR
 pub struct Rooted<A: HoldsOneTree<R>, R> {
     arena: A,
     root: Option<R>,
+    // That of the arena, for another one in its place.
+    alloc: Global,
 }
 
 impl<A: HoldsOneTree<R>, R> Model for Rooted<A, R> {
@@ -96,6 +99,7 @@ impl<K: AsBytes, V, const PREFIX_LEN: usize> ArtTree<K, V, PREFIX_LEN> {
         Rooted {
             arena: NodeArena::new(alloc),
             root: None,
+            alloc,
         }
     }
 
@@ -170,7 +174,11 @@ impl<K: AsBytes, V, const PREFIX_LEN: usize> ArtTree<K, V, PREFIX_LEN> {
     pub fn into_arena(self) -> NodeArena<K, V, PREFIX_LEN>
         ensures { result ≡ self.arena }
     {
-        let Rooted { arena, root: _ } = self;
+        let Rooted {
+            arena,
+            root: _,
+            alloc: _,
+        } = self;
         arena
     }
 }
@@ -199,6 +207,7 @@ impl<K: AsBytes + Drop, V: Drop, const PREFIX_LEN: usize> ArtTree<K, V, PREFIX_L
             Ok(root) => Ok(Rooted {
                 arena,
                 root: Some(root),
+                alloc,
             }),
             Err(fault) => Err(fault),
         }

@@ -12,8 +12,12 @@ pub(crate) enum Mode {
     Check,
     /// The same, and prints how long they took.
     Time,
+    /// Compacts the tree, and times the calls that read.
+    TimeCompacted,
     /// Holds the entries in a tree.
     HoldTree,
+    /// Holds the entries in a compacted tree.
+    HoldCompacted,
     /// Holds the entries in a map.
     HoldMap,
     /// Holds the keys alone.
@@ -54,7 +58,9 @@ pub(crate) fn run_calls<K: Key>(
     match mode {
         Mode::Check => compare_all(rt, false, shape, (tree, map), entries, misses),
         Mode::Time => compare_all(rt, true, shape, (tree, map), entries, misses),
+        Mode::TimeCompacted => compare_compacted(rt, shape, (tree, map), entries),
         Mode::HoldTree => hold(rt, insert_all(tree, entries)),
+        Mode::HoldCompacted => hold(rt, insert_and_compact(tree, entries)),
         Mode::HoldMap => hold(rt, insert_all(map, entries)),
         Mode::HoldNothing => hold(rt, Answers::new()),
     }
@@ -80,6 +86,25 @@ fn compare_all<K: Key>(
     compare(rt, is_timed, shape, prefix, (tree, map), some)?;
     shuffle(entries, 4);
     compare(rt, is_timed, shape, Call::Remove, (tree, map), entries)
+}
+
+// Runs the calls that read, each on a compacted tree and on the map.
+fn compare_compacted<K: Key>(
+    rt: &HostRuntime,
+    shape: &str,
+    (tree, map): (&mut Tree<K>, &mut Map<K>),
+    entries: &mut [K],
+) -> io::Result<()> {
+    if insert_and_compact(tree, entries) != insert_all(map, entries) {
+        return Err(io::Error::from(io::ErrorKind::InvalidData));
+    }
+    shuffle(entries, 3);
+    compare(rt, true, shape, Call::Get, (tree, map), entries)?;
+    compare(rt, true, shape, Call::Iterate, (tree, map), entries)?;
+    let (some, _) = entries.split_at(entries.len() / RANGE);
+    compare(rt, true, shape, Call::Range, (tree, map), some)?;
+    let prefix = Call::Prefix(prefix_length(shape));
+    compare(rt, true, shape, prefix, (tree, map), some)
 }
 
 // Runs the calls on the tree and then on the map, and prints a line. Fails where they differ.
@@ -169,6 +194,14 @@ fn insert_all<K: Key, D: Dictionary<K>>(dictionary: &mut D, keys: &[K]) -> Answe
     let mut answers = Answers::new();
     for (number, key) in keys.iter().enumerate() {
         answers.add_result(dictionary.insert(*key, number as u64));
+    }
+    answers
+}
+
+fn insert_and_compact<K: Key>(tree: &mut Tree<K>, keys: &[K]) -> Answers {
+    let mut answers = insert_all(tree, keys);
+    if tree.compact().is_err() {
+        answers.refused = answers.refused.wrapping_add(1);
     }
     answers
 }

@@ -5,8 +5,10 @@
 //!   found.
 //! - `time SHAPE N`: the same for one shape, with the nanoseconds of the processor that the calls on
 //!   the tree took, and those on the map.
-//! - `hold SHAPE N tree`, `map` or `nothing`: inserts the entries into the tree alone, the map alone
-//!   or neither, prints a line, and waits for the end of the input, so that its memory can be read.
+//! - `compacted SHAPE N`: the same of the calls that read, on a compacted tree.
+//! - `hold SHAPE N tree`, `compacted`, `map` or `nothing`: inserts the entries into the tree alone,
+//!   which may be compacted, the map alone or neither, prints a line, and waits for the end of the
+//!   input, so that its memory can be read.
 //!
 //! It fails where the tree and the map differ.
 #![tactic(auto)]
@@ -30,8 +32,10 @@ fn main(rt: HostRuntime) -> io::Result<()> {
     let mode = match word_at(&words, 0) {
         "check" => return check(&rt, count_of(word_at(&words, 1))?),
         "time" => Mode::Time,
+        "compacted" => Mode::TimeCompacted,
         "hold" => match word_at(&words, 3) {
             "tree" => Mode::HoldTree,
+            "compacted" => Mode::HoldCompacted,
             "map" => Mode::HoldMap,
             _ => Mode::HoldNothing,
         },

@@ -70,3 +70,22 @@ fn reserve_and_insert(rt: &impl Abort, map: &mut Words) -> Result<(), Fail> {
 fn a_refused_reserve_leaves_the_map(rt: HostRuntime) -> Result<(), Fail> {
     reserve_and_insert(&rt, &mut ArtMap::new(rt.alloc()))
 }
+
+// After an allocation failure the map is unchanged, the next compact succeeds, and the test ends.
+fn compact(rt: &impl Abort, map: &mut Words) -> Result<(), Fail> {
+    if map.compact().is_ok() {
+        check_words(rt, map, WORDS.len());
+        return Ok(());
+    }
+    check_words(rt, map, WORDS.len());
+    map.compact()?;
+    check_words(rt, map, WORDS.len());
+    Err("ArtMap::compact refused, and all stands".into())
+}
+
+#[test]
+fn a_refused_compact_leaves_the_map(rt: HostRuntime) -> Result<(), Fail> {
+    let mut map = ArtMap::new(rt.alloc());
+    insert_words(&rt, &mut map)?;
+    compact(&rt, &mut map)
+}

@@ -73,6 +73,7 @@ fn names_are_added_read_and_taken(rt: HostRuntime) -> Result<(), Fail> {
     let mut names = ArtSet::new(rt.alloc());
     names.reserve(4)?;
     insert_names(&rt, &mut names)?;
+    names.compact()?;
     read_names(&rt, &names);
     read_some_names(&rt, &names);
     read_bounds(&rt, &names);

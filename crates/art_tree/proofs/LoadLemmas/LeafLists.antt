@@ -36,7 +36,7 @@ module _ {K V : Type 0} {P : ℕ} where
   hold-kept now new kept (pointer ∷ pointers) (entry ∷ entries) h =
       ((h.0.0, kept pointer (subst (λ there. there ≢ Nothing) (sym h.0.1) (λ e. cc)) ∙ h.0.1, h.0.2, h.0.3), hold-kept now new kept pointers entries h.1)
 
-  hold-last : (arena : NodeArena K V P) (at : OpaqueNodePtr K V P) (leaf : LeafNode K V P) (entry : K × V) → held arena at ≡ HeldLeaf leaf → leaf_key leaf ≡ entry.0 → leaf_value leaf ≡ entry.1
+  pub hold-last : (arena : NodeArena K V P) (at : OpaqueNodePtr K V P) (leaf : LeafNode K V P) (entry : K × V) → held arena at ≡ HeldLeaf leaf → leaf_key leaf ≡ entry.0 → leaf_value leaf ≡ entry.1
       → (pointers : List (OpaqueNodePtr K V P)) (entries : List (K × V)) → HoldEntries arena pointers entries → HoldEntries arena (pointers ++ at ∷ []) (entries ++ entry ∷ [])
   hold-last arena at leaf entry is key value [] [] h = ((leaf, is, key, value), tt)
   hold-last arena at leaf entry is key value [] (e ∷ entries) h = absurd h

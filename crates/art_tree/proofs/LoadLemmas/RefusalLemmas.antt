@@ -13,7 +13,7 @@ use Rattle.art_tree.specs.Refusals.{text_of_entry, texts_of, HaveNoFault, IsRefu
 use Rattle.art_tree.specs.declared.loading.check.LoadRefusal.{LoadRefusal}
 use Rattle.art_tree.specs.declared.loading.check.LoadRefusal.TheVariants.{KeyTooLong}
 
-fork-later : (x y : ℕ) (a b : List ℕ) → x ≡ y → Forks a b → Forks (x ∷ a) (y ∷ b)
+pub fork-later : (x y : ℕ) (a b : List ℕ) → x ≡ y → Forks a b → Forks (x ∷ a) (y ∷ b)
 fork-later x y a b same (at, fork) = (suc at, record { in_first = omega (arith, fork.in_first); in_second = omega (arith, fork.in_second); shared = ap (λ z. z ∷ take at a) same ∙ ap (λ rest. y ∷ rest) fork.shared; less = fork.less })
 
 -- a text that is less than another, and no prefix of it, differs from it at some byte

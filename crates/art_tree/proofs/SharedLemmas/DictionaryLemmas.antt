@@ -310,14 +310,14 @@ module _ {K V : Type 0} {P : ℕ} (text : K → List ℕ) (arena : NodeArena K V
   ]
 
   -- the leaf that holds an entry
-  record HoldsEntry (entry : K × V) : Type 0 where
+  pub record HoldsEntry (entry : K × V) : Type 0 where
     pub pointer : OpaqueNodePtr K V P
     pub leaf : LeafNode K V P
     pub is_held : held arena pointer ≡ HeldLeaf leaf
     pub key : leaf_key leaf ≡ entry.0
     pub value : leaf_value leaf ≡ entry.1
 
-  entry-held : (pointers : List (OpaqueNodePtr K V P)) (entries : List (K × V)) → HoldEntries arena pointers entries → (k : ℕ) (d : K × V) → k < length entries → HoldsEntry (get_or entries k d)
+  pub entry-held : (pointers : List (OpaqueNodePtr K V P)) (entries : List (K × V)) → HoldEntries arena pointers entries → (k : ℕ) (d : K × V) → k < length entries → HoldsEntry (get_or entries k d)
   entry-held [] [] hold k d inside = absurd (omega (arith, inside))
   entry-held [] (entry ∷ entries) hold k d inside = absurd hold
   entry-held (p ∷ pointers) [] hold k d inside = absurd hold

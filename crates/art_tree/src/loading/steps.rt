@@ -1,9 +1,8 @@
 //! Loading: the plan of a tree, as steps that make each node after its children.
-ghost use Rattle.std.specs.Prelude.{◌≡◌, ◌+◌, ◌<◌, ◌≤◌, List, ◌∷◌, length, IfOk};
+ghost use Rattle.std.specs.Prelude.{◌≡◌, ◌+◌, ◌<◌, ◌≤◌, List, ◌∷◌, All, length, map, IfOk};
 ghost use Rattle.art_tree.specs.Plan.{IsFork, Forks, AreLoadable, IsPlanOf, byte_before, needed};
-ghost use Rattle.art_tree.specs.Refusals.{texts_of};
 
-use art_bytes::AsBytes;
+use crate::loading::keys::KeyIn;
 use art_nodes::{NodeType, common_prefix_len};
 use std::alloc::{AllocError, Global};
 
@@ -48,18 +47,20 @@ fn byte_to(text: &[u8], place: usize) -> u8
     if place == 0 { 0 } else { text[place - 1] }
 }
 
-/// The steps that make the tree of these entries. Their keys must ascend, none a prefix of the
+/// The steps that make the tree of what has these keys. The keys must ascend, none a prefix of the
 /// next.
 ///
-/// One pass over the entries with a stack of the nodes on the path to the last leaf: where two
+/// One pass over the keys with a stack of the nodes on the path to the last leaf: where two
 /// neighbours differ, the nodes further down are finished.
-pub(crate) fn plan<K: AsBytes, V>(
+pub(crate) fn plan<C, E: KeyIn<C>>(
     alloc: Global,
-    entries: &[(K, V)],
+    context: &C,
+    entries: &[E],
 ) -> Result<Vec<Step>, AllocError>
     requires some { 0 < length entries.now }
-    requires loadable { AreLoadable (texts_of K.text entries.now) }
-    ensures { IfOk result (λ steps. IsPlanOf (texts_of K.text entries.now) steps.items) }
+    requires there { All (E.is_in context.now) entries.now }
+    requires loadable { AreLoadable (map (E.text_in context.now) entries.now) }
+    ensures { IfOk result (λ steps. IsPlanOf (map (E.text_in context.now) entries.now) steps.items) }
 {
     let mut steps = Vec::with_capacity(alloc, entries.len())?;
     let mut open = Vec::new(alloc);
@@ -68,9 +69,9 @@ pub(crate) fn plan<K: AsBytes, V>(
         children: 0,
     };
     for i in 0..entries.len() {
-        let text = entries[i].0.as_bytes();
+        let text = entries[i].key_in(context);
         let shared = if i + 1 < entries.len() {
-            fork_index(text, entries[i + 1].0.as_bytes()) + 1
+            fork_index(text, entries[i + 1].key_in(context)) + 1
         } else {
             0
         };

@@ -202,3 +202,24 @@ fn a_refused_reserve_leaves_the_tree(rt: HostRuntime) -> Result<(), Fail> {
     check_bytes(&rt, &tree, 2);
     Ok(())
 }
+
+// Makes the tree anew. After an allocation failure the tree is unchanged, the next call succeeds, and
+// the test ends.
+fn compact(rt: &impl Abort, tree: &mut Bytes, count: usize) -> Result<(), Fail> {
+    let root = tree.root();
+    if tree.compact().is_ok() {
+        check_bytes(rt, tree, count);
+        return Ok(());
+    }
+    assert!(rt; tree.root() == root);
+    check_bytes(rt, tree, count);
+    tree.compact()?;
+    check_bytes(rt, tree, count);
+    Err("ArtTree::compact refused, and all stands".into())
+}
+
+#[test]
+fn a_refused_compact_leaves_the_tree(rt: HostRuntime) -> Result<(), Fail> {
+    let mut tree = load_bytes(&rt, rt.alloc(), 49)?;
+    compact(&rt, &mut tree, 49)
+}

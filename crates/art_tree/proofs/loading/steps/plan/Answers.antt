@@ -1,8 +1,8 @@
-use Rattle.std.proofs.Common.{◌≡◌, ◌∙◌, ◌<◌, ℕ, ◌+◌, ◌^◌, length, List, [], ◌∷◌, ◌++◌, get_or, sym, ap, subst, arith, refl}
+use Rattle.std.proofs.Common.{◌≡◌, ◌∙◌, ◌<◌, ℕ, ◌+◌, ◌^◌, length, map, List, [], ◌∷◌, ◌++◌, get_or, sym, ap, subst, arith, refl}
 use Rattle.std.specs.Option.{option_to_list}
 use Rattle.std.proofs.lemmas.List.{length-map}
 use Rattle.art_tree.specs.Plan.{Forks, byte_before}
-use Rattle.art_tree.specs.Refusals.{texts_of, text_of_entry}
+use Rattle.art_tree.specs.Refusals.{text_of_entry}
 use Rattle.art_tree.specs.declared.loading.steps.Open.{Open}
 use Rattle.art_tree.specs.declared.loading.steps.Step.TheVariants as step
 use Rattle.art_tree.proofs.LoadLemmas.OpenNodes.{IsPlanned, IsClosing, Parts, entry-text, bytes-at, planned-path, parts-between, parts-last, closing-leaf, closing-some, closing-below, closing-node-called, closing-count, hang-new, hang-last, closed}
@@ -11,19 +11,19 @@ use Rattle.art_tree.proofs.loading.steps.plan.Goals.{then-i-entries, else-i-entr
 
 pub fork_index-requires : goal.fork_index-requires
 fork_index-requires g c =
-    let text_of = λ (e : g.row.K.Denot × g.row.V.Denot). g.K.AsBytes.text e.0 in
+    let text_of = λ (e : g.row.E.Denot). g.E.KeyIn.text_in c.args.context.now e in
     let entries = c.args.entries.now in
-    let first = c.as_bytes-text.ensures.text ∙ ap text_of (sym c.index-entries-i.is) ∙ sym (entry-text text_of entries c.loop-i.i c.index-entries-i.result c.loop-i-test.true c.index-entries-i.is) in
-    let second = c.as_bytes.ensures.text ∙ ap text_of (sym c.index-entries-i-then-i-entries.is) ∙ sym (entry-text text_of entries (c.loop-i.i + 1) c.index-entries-i-then-i-entries.result c.if-i-entries.true c.index-entries-i-then-i-entries.is) in
+    let first = c.key_in-text.ensures.text ∙ sym (entry-text text_of entries c.loop-i.i c.index-entries-i.result c.loop-i-test.true c.index-entries-i.is) in
+    let second = c.key_in.ensures.text ∙ sym (entry-text text_of entries (c.loop-i.i + 1) c.index-entries-i-then-i-entries.result c.if-i-entries.true c.index-entries-i-then-i-entries.is) in
     let forks = c.requires.loadable.fork c.loop-i.i (omega (arith, c.if-i-entries.true, length-map entries text_of)) in
-    subst (λ t. Forks t c.as_bytes.result.now) (sym first) (subst (λ t. Forks (text_of_entry (texts_of g.K.AsBytes.text entries) c.loop-i.i) t) (sym second) forks)
+    subst (λ t. Forks t c.key_in.result.now) (sym first) (subst (λ t. Forks (text_of_entry (map (g.E.KeyIn.text_in c.args.context.now) entries) c.loop-i.i) t) (sym second) forks)
 
 pub byte_to-leaf_byte-requires : goal.byte_to-leaf_byte-requires
 byte_to-leaf_byte-requires g c =
-    let text_of = λ (e : g.row.K.Denot × g.row.V.Denot). g.K.AsBytes.text e.0 in
+    let text_of = λ (e : g.row.E.Denot). g.E.KeyIn.text_in c.args.context.now e in
     let entries = c.args.entries.now in
-    let first = c.as_bytes-text.ensures.text ∙ ap text_of (sym c.index-entries-i.is) ∙ sym (entry-text text_of entries c.loop-i.i c.index-entries-i.result c.loop-i-test.true c.index-entries-i.is) in
-    let path = planned-path (texts_of g.K.AsBytes.text entries) c.loop-i.i c.loop-i.top c.loop-i.open.items c.loop-i.steps.items (c.loop-i.invariant.before_next c.loop-i-test.true) in
+    let first = c.key_in-text.ensures.text ∙ sym (entry-text text_of entries c.loop-i.i c.index-entries-i.result c.loop-i-test.true c.index-entries-i.is) in
+    let path = planned-path (map (g.E.KeyIn.text_in c.args.context.now) entries) c.loop-i.i c.loop-i.top c.loop-i.open.items c.loop-i.steps.items (c.loop-i.invariant.before_next c.loop-i-test.true) in
     let long = ap length first in
     elim c.if-i-entries.branch [
       | then-i-entries w ↦ omega (arith, path, long, c.max.ensures, w.shared-is, w.fork_index.ensures.in_first)
@@ -32,11 +32,11 @@ byte_to-leaf_byte-requires g c =
 
 pub closing-init : goal.closing-init
 closing-init g c =
-    let text_of = λ (e : g.row.K.Denot × g.row.V.Denot). g.K.AsBytes.text e.0 in
+    let text_of = λ (e : g.row.E.Denot). g.E.KeyIn.text_in c.args.context.now e in
     let entries = c.args.entries.now in
-    let texts = texts_of g.K.AsBytes.text entries in
-    let text = c.as_bytes-text.result.now in
-    let is_text : text ≡ text_of_entry texts c.loop-i.i = c.as_bytes-text.ensures.text ∙ ap text_of (sym c.index-entries-i.is) ∙ sym (entry-text text_of entries c.loop-i.i c.index-entries-i.result c.loop-i-test.true c.index-entries-i.is) in
+    let texts = map (g.E.KeyIn.text_in c.args.context.now) entries in
+    let text = c.key_in-text.result.now in
+    let is_text : text ≡ text_of_entry texts c.loop-i.i = c.key_in-text.ensures.text ∙ sym (entry-text text_of entries c.loop-i.i c.index-entries-i.result c.loop-i-test.true c.index-entries-i.is) in
     let count = length-map entries text_of in
     let within : c.loop-i.i < length texts = omega (arith, count, c.loop-i-test.true) in
     let short : length text < 2 ^ 64 = omega (arith, ap length is_text, c.requires.loadable.short c.loop-i.i within) in
@@ -44,8 +44,8 @@ closing-init g c =
       is_text = is_text;
       parts = elim c.if-i-entries.branch [
         | then-i-entries w ↦
-            let is_next : w.as_bytes.result.now ≡ text_of_entry texts (c.loop-i.i + 1) = w.as_bytes.ensures.text ∙ ap text_of (sym w.index-entries-i-then-i-entries.is) ∙ sym (entry-text text_of entries (c.loop-i.i + 1) w.index-entries-i-then-i-entries.result w.if-i-entries.true w.index-entries-i-then-i-entries.is) in
-            subst (Parts texts c.loop-i.i text) (sym w.shared-is) (parts-between texts c.loop-i.i text w.as_bytes.result.now w.fork_index.result (omega (arith, count, w.if-i-entries.true)) is_next w.fork_index.ensures)
+            let is_next : w.key_in.result.now ≡ text_of_entry texts (c.loop-i.i + 1) = w.key_in.ensures.text ∙ sym (entry-text text_of entries (c.loop-i.i + 1) w.index-entries-i-then-i-entries.result w.if-i-entries.true w.index-entries-i-then-i-entries.is) in
+            subst (Parts texts c.loop-i.i text) (sym w.shared-is) (parts-between texts c.loop-i.i text w.key_in.result.now w.fork_index.result (omega (arith, count, w.if-i-entries.true)) is_next w.fork_index.ensures)
         | else-i-entries w ↦ subst (Parts texts c.loop-i.i text) (sym w.shared-is) (parts-last texts c.loop-i.i text (omega (arith, count, w.if-i-entries.false)))
       ];
       finished = subst (IsClosing texts c.loop-i.i text c.if-i-entries.shared c.loop-i.top c.loop-i.open.items) (sym (c.in_ok-push.ensures.items ∙ ap (λ b. c.loop-i.steps.items ++ step.Leaf b ∷ []) (c.byte_to-leaf_byte.ensures ∙ ap (byte_before text) c.max.ensures)))
@@ -54,29 +54,29 @@ closing-init g c =
 
 pub unwrap-below-requires : goal.unwrap-below-requires
 unwrap-below-requires g c =
-    let texts = texts_of g.K.AsBytes.text c.args.entries.now in
-    let some = closing-some texts c.loop-i.i c.as_bytes-text.result.now c.closing.invariant.is_text c.if-i-entries.shared c.closing.top c.closing.open.items c.closing.steps.items c.closing-test.true c.closing.invariant.finished in
+    let texts = map (g.E.KeyIn.text_in c.args.context.now) c.args.entries.now in
+    let some = closing-some texts c.loop-i.i c.key_in-text.result.now c.closing.invariant.is_text c.if-i-entries.shared c.closing.top c.closing.open.items c.closing.steps.items c.closing-test.true c.closing.invariant.finished in
     c.pop.ensures.variant.1 (omega (arith, some, c.closing.open.ok.0))
 
 pub byte_to-byte-requires : goal.byte_to-byte-requires
 byte_to-byte-requires g c =
-    let texts = texts_of g.K.AsBytes.text c.args.entries.now in
+    let texts = map (g.E.KeyIn.text_in c.args.context.now) c.args.entries.now in
     let popped = c.pop.ensures.items ∙ ap (λ o. c.pop.new.self.items ++ option_to_list o) c.unwrap-below.ensures in
-    let below = closing-below texts c.loop-i.i c.as_bytes-text.result.now c.closing.invariant.is_text c.if-i-entries.shared c.closing.top c.unwrap-below.result c.closing.open.items c.pop.new.self.items c.closing.steps.items popped c.closing-test.true c.closing.invariant.finished in
+    let below = closing-below texts c.loop-i.i c.key_in-text.result.now c.closing.invariant.is_text c.if-i-entries.shared c.closing.top c.unwrap-below.result c.closing.open.items c.pop.new.self.items c.closing.steps.items popped c.closing-test.true c.closing.invariant.finished in
     omega (arith, below, c.max-start.ensures, c.closing.invariant.parts.within)
 
 pub overflow_add-top : goal.overflow_add-top
 overflow_add-top g c =
-    let texts = texts_of g.K.AsBytes.text c.args.entries.now in
-    let bytes = bytes-at c.as_bytes-text.result.now (subst (λ t. (k d : ℕ) → k < length t → get_or t k d < 256) (sym c.as_bytes-text.ensures.text) c.as_bytes-text.ensures.bytes) in
-    let count = closing-count texts c.loop-i.i c.as_bytes-text.result.now c.closing.invariant.is_text bytes c.if-i-entries.shared c.closing.top c.closing.open.items c.closing.steps.items c.closing.invariant.finished in
+    let texts = map (g.E.KeyIn.text_in c.args.context.now) c.args.entries.now in
+    let bytes = bytes-at c.key_in-text.result.now (subst (λ t. (k d : ℕ) → k < length t → get_or t k d < 256) (sym c.key_in-text.ensures.text) c.key_in-text.ensures.bytes) in
+    let count = closing-count texts c.loop-i.i c.key_in-text.result.now c.closing.invariant.is_text bytes c.if-i-entries.shared c.closing.top c.closing.open.items c.closing.steps.items c.closing.invariant.finished in
     omega (arith, count)
 
 pub closing-preserved : goal.closing-preserved
 closing-preserved g c =
-    let texts = texts_of g.K.AsBytes.text c.args.entries.now in
-    let text = c.as_bytes-text.result.now in
-    let bytes = bytes-at text (subst (λ t. (k d : ℕ) → k < length t → get_or t k d < 256) (sym c.as_bytes-text.ensures.text) c.as_bytes-text.ensures.bytes) in
+    let texts = map (g.E.KeyIn.text_in c.args.context.now) c.args.entries.now in
+    let text = c.key_in-text.result.now in
+    let bytes = bytes-at text (subst (λ t. (k d : ℕ) → k < length t → get_or t k d < 256) (sym c.key_in-text.ensures.text) c.key_in-text.ensures.bytes) in
     let popped = c.pop.ensures.items ∙ ap (λ o. c.pop.new.self.items ++ option_to_list o) c.unwrap-below.ensures in
     record {
       is_text = c.closing.invariant.is_text;
@@ -86,9 +86,9 @@ closing-preserved g c =
 
 pub overflow_add-top-in-loop-i : goal.overflow_add-top-in-loop-i
 overflow_add-top-in-loop-i g c =
-    let texts = texts_of g.K.AsBytes.text c.args.entries.now in
-    let bytes = bytes-at c.as_bytes-text.result.now (subst (λ t. (k d : ℕ) → k < length t → get_or t k d < 256) (sym c.as_bytes-text.ensures.text) c.as_bytes-text.ensures.bytes) in
-    let count = closing-count texts c.loop-i.i c.as_bytes-text.result.now c.closing.invariant.is_text bytes c.if-i-entries.shared c.closing.top c.closing.open.items c.closing.steps.items c.closing.invariant.finished in
+    let texts = map (g.E.KeyIn.text_in c.args.context.now) c.args.entries.now in
+    let bytes = bytes-at c.key_in-text.result.now (subst (λ t. (k d : ℕ) → k < length t → get_or t k d < 256) (sym c.key_in-text.ensures.text) c.key_in-text.ensures.bytes) in
+    let count = closing-count texts c.loop-i.i c.key_in-text.result.now c.closing.invariant.is_text bytes c.if-i-entries.shared c.closing.top c.closing.open.items c.closing.steps.items c.closing.invariant.finished in
     elim c.if-top-shared.branch [
       | then-top-shared+in_ok-push-3 w ↦ let none = ap (λ o. o.children) w.top-is in omega (arith, none)
       | else-top-shared w ↦ let same = ap (λ o. o.children) w.top-is in omega (arith, same, count)
@@ -96,14 +96,14 @@ overflow_add-top-in-loop-i g c =
 
 pub loop-i-preserved : goal.loop-i-preserved
 loop-i-preserved g c =
-    let text_of = λ (e : g.row.K.Denot × g.row.V.Denot). g.K.AsBytes.text e.0 in
+    let text_of = λ (e : g.row.E.Denot). g.E.KeyIn.text_in c.args.context.now e in
     let entries = c.args.entries.now in
-    let texts = texts_of g.K.AsBytes.text entries in
-    let text = c.as_bytes-text.result.now in
+    let texts = map (g.E.KeyIn.text_in c.args.context.now) entries in
+    let text = c.key_in-text.result.now in
     let count = length-map entries text_of in
     let parts = c.closing.invariant.parts in
     let is_text = c.closing.invariant.is_text in
-    let bytes = bytes-at text (subst (λ t. (k d : ℕ) → k < length t → get_or t k d < 256) (sym c.as_bytes-text.ensures.text) c.as_bytes-text.ensures.bytes) in
+    let bytes = bytes-at text (subst (λ t. (k d : ℕ) → k < length t → get_or t k d < 256) (sym c.key_in-text.ensures.text) c.key_in-text.ensures.bytes) in
     let Then : Open → List Open → Type 0 = λ top items. IsPlanned texts (c.loop-i.i + 1) (record { path = top.path; children = top.children + 1 }) items c.closing.steps.items in
     record {
       before_next = λ lt.

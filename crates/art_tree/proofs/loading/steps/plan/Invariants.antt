@@ -1,21 +1,21 @@
-use Rattle.std.proofs.Common.{◌≡◌, ◌<◌, length}
+use Rattle.std.proofs.Common.{◌≡◌, ◌<◌, length, map}
 use Rattle.art_tree.specs.Plan.{IsPlanOf}
-use Rattle.art_tree.specs.Refusals.{texts_of, text_of_entry}
+use Rattle.art_tree.specs.Refusals.{text_of_entry}
 use Rattle.art_tree.proofs.LoadLemmas.OpenNodes.{IsPlanned, IsClosing, Parts}
 use Rattle.art_tree.proofs.loading.steps.plan.Given as goal
 
 -- a plan of the entries so far, and at the end of all of them
 abbrev pub invariant-loop-i : goal.invariant-loop-i
 invariant-loop-i g l = record {
-  before_next : l.i < length l.entries → IsPlanned (texts_of g.K.AsBytes.text l.entries) l.i l.top l.open.items l.steps.items;
-  after_last : l.i ≡ length l.entries → IsPlanOf (texts_of g.K.AsBytes.text l.entries) l.steps.items;
+  before_next : l.i < length l.entries → IsPlanned (map (g.E.KeyIn.text_in l.context) l.entries) l.i l.top l.open.items l.steps.items;
+  after_last : l.i ≡ length l.entries → IsPlanOf (map (g.E.KeyIn.text_in l.context) l.entries) l.steps.items;
 }
 
 abbrev pub invariant-closing : goal.invariant-closing
 invariant-closing g l = record {
-  is_text : l.text ≡ text_of_entry (texts_of g.K.AsBytes.text l.entries) l.i;
-  parts : Parts (texts_of g.K.AsBytes.text l.entries) l.i l.text l.shared;
-  finished : IsClosing (texts_of g.K.AsBytes.text l.entries) l.i l.text l.shared l.top l.open.items l.steps.items;
+  is_text : l.text ≡ text_of_entry (map (g.E.KeyIn.text_in l.context) l.entries) l.i;
+  parts : Parts (map (g.E.KeyIn.text_in l.context) l.entries) l.i l.text l.shared;
+  finished : IsClosing (map (g.E.KeyIn.text_in l.context) l.entries) l.i l.text l.shared l.top l.open.items l.steps.items;
 }
 
 abbrev pub decreases-closing : goal.decreases-closing
