@@ -12,7 +12,7 @@ pub(crate) enum Mode {
     Check,
     /// The same, and prints how long they took.
     Time,
-    /// Compacts the tree, and times the calls that read.
+    /// Compacts the tree, and times the calls that visit entries in order.
     TimeCompacted,
     /// Holds the entries in a tree.
     HoldTree,
@@ -88,18 +88,16 @@ fn compare_all<K: Key>(
     compare(rt, is_timed, shape, Call::Remove, (tree, map), entries)
 }
 
-// Runs the calls that read, each on a compacted tree and on the map.
+// Runs the calls that visit entries in order, each on a compacted tree and on the map.
 fn compare_compacted<K: Key>(
     rt: &HostRuntime,
     shape: &str,
     (tree, map): (&mut Tree<K>, &mut Map<K>),
-    entries: &mut [K],
+    entries: &[K],
 ) -> io::Result<()> {
     if insert_and_compact(tree, entries) != insert_all(map, entries) {
         return Err(io::Error::from(io::ErrorKind::InvalidData));
     }
-    shuffle(entries, 3);
-    compare(rt, true, shape, Call::Get, (tree, map), entries)?;
     compare(rt, true, shape, Call::Iterate, (tree, map), entries)?;
     let (some, _) = entries.split_at(entries.len() / RANGE);
     compare(rt, true, shape, Call::Range, (tree, map), some)?;

@@ -5,7 +5,7 @@
 //!   found.
 //! - `time SHAPE N`: the same for one shape, with the nanoseconds of the processor that the calls on
 //!   the tree took, and those on the map.
-//! - `compacted SHAPE N`: the same of the calls that read, on a compacted tree.
+//! - `compacted SHAPE N`: the same of the calls that visit entries in order, on a compacted tree.
 //! - `hold SHAPE N tree`, `compacted`, `map` or `nothing`: inserts the entries into the tree alone,
 //!   which may be compacted, the map alone or neither, prints a line, and waits for the end of the
 //!   input, so that its memory can be read.

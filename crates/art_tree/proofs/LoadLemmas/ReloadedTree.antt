@@ -13,12 +13,12 @@ use Rattle.art_nodes.specs.Pointers.{opaque_key, opaque_pointer, slab_key}
 use Rattle.art_nodes.specs.declared.leaf_node.LeafNode.{LeafNode}
 use Rattle.art_nodes.specs.declared.pointers.NodePtr.{NodePtr}
 use Rattle.art_nodes.specs.declared.pointers.OpaqueNodePtr.{OpaqueNodePtr}
-use Rattle.art_arena.specs.Arena.{NodeArena, Changes, Held, HeldLeaf, Nothing, held, leaf_count}
+use Rattle.art_arena.specs.Arena.{NodeArena, Changes, HeldLeaf, Nothing, held, leaf_count}
 use Rattle.art_arena.specs.Ends.{IsAtEnd}
 use Rattle.art_arena.specs.Links.{AreDistinct, HoldsLeaf, Spells, next_at, text_at}
 use Rattle.art_arena.specs.Trees.{Tree, leaves, texts}
 use Rattle.art_arena.specs.declared.ends.End.TheVariants.{First}
-use Rattle.art_tree.specs.Art.{IsAlone, IsArt}
+use Rattle.art_tree.specs.Art.{IsAlone}
 use Rattle.art_tree.specs.Dictionary.{HasEntry, IsEntry, SameEntries, entry_at}
 use Rattle.art_tree.specs.Loading.{HoldEntries, IsLoaded, leaf_pointers}
 use Rattle.art_tree.specs.Plan.{AreLoadable, Forks}
@@ -28,9 +28,9 @@ use Rattle.art_tree.specs.Reloading.{AreLeavesOf, IsReloaded}
 use Rattle.art_tree.specs.Search.{leaf_pointer}
 use Rattle.art_tree.proofs.LoadLemmas.LeafLists.{AreKnit, NameNext, hold-last, hold-texts}
 use Rattle.art_tree.proofs.LoadLemmas.PlacedTrees.{text-held}
-use Rattle.art_tree.proofs.LoadLemmas.RefusalLemmas.{each-short, fork-later, loadable}
+use Rattle.art_tree.proofs.LoadLemmas.RefusalLemmas.{fork-later}
 use Rattle.art_tree.proofs.SharedLemmas.ClashLemmas.{mapped-from}
-use Rattle.art_tree.proofs.SharedLemmas.DictionaryLemmas.{AreApart, alone-loaded, entry-held, held-entry, in-map, leaf-held-in, loaded-entry, loaded-text, text-of-entry}
+use Rattle.art_tree.proofs.SharedLemmas.DictionaryLemmas.{AreApart, alone-loaded, entry-held, held-entry, leaf-held-in, loaded-entry, loaded-text, text-of-entry}
 use Rattle.art_tree.proofs.InsertLemmas.PlaceLemmas.{some-text}
 use Rattle.art_arena.proofs.StandingLaws.{leaf_place}
 

@@ -10,13 +10,14 @@ use std::alloc::AllocError;
 
 impl<K: AsBytes + Drop, V: Drop, const PREFIX_LEN: usize> ArtTree<K, V, PREFIX_LEN> {
     /// Makes the tree anew, with the same entries, as [`load`](Self::load) makes it of them: leaves
-    /// and nodes lie in memory in the order of the keys, and the capacity of each kind is for those
-    /// that there are. So whoever goes over the entries in order goes through memory in order, and
-    /// spare capacity is given back, as `shrink_to_fit` of the collections of std does.
+    /// and nodes lie in memory in the order of the keys, and each kind has capacity for those that
+    /// there are (for four where they are fewer). So going over the entries in order goes through
+    /// memory in order, and spare capacity is given back, which is all that `shrink_to_fit` of the
+    /// collections of std does.
     ///
-    /// Leaves and nodes get new pointers. All memory is taken before an entry moves: for as long as
-    /// the call takes, for the old tree, for the new one, and for the entries once more. Where memory
-    /// is refused, the tree is unchanged, nodes and pointers too.
+    /// Leaves and nodes get new pointers. All memory is taken before an entry moves: while the call
+    /// runs, there are the old tree, the new one, the entries once more, and working memory of some
+    /// hundred bytes for each. Where memory is refused, the tree is unchanged, pointers too.
     ///
     /// Takes time linear in the key bytes of all entries together.
     ///

@@ -21,7 +21,7 @@ prepare-requires g c =
               search rules,
               (
                 lit< tt,
-                (omega (arith, fine.0, length-map c.deref-2.result.now text_of), loadable (texts_of g.K.AsBytes.text c.deref-2.result.now) fine.1),
+                (omega (arith, fine.0, length-map c.deref-2.result.now text_of), (λ k d within. tt, loadable (texts_of g.K.AsBytes.text c.deref-2.result.now) fine.1)),
               ),
             ),
           ),

@@ -1,4 +1,4 @@
-use Rattle.std.proofs.Common.{◌≡◌, ◌∙◌, ◌++◌, [], ◌∷◌, Some, length, length-append, sym, ap, subst, arith, lit<}
+use Rattle.std.proofs.Common.{◌∙◌, [], ◌∷◌, Some, length, length-append, sym, ap, subst, arith, lit<}
 use Rattle.std.specs.Option.{option_and_then, option_map}
 use Rattle.art_nodes.specs.Leaf.{next_key}
 use Rattle.art_nodes.specs.Pointers.{slab_key}

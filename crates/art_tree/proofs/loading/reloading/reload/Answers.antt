@@ -1,4 +1,4 @@
-use Rattle.std.proofs.Common.{◌∙◌, [], length, sym, subst, arith, lit<}
+use Rattle.std.proofs.Common.{◌∙◌, [], sym, subst, arith, lit<}
 use Rattle.art_tree.specs.Plan.{AreLoadable, IsPlanOf}
 use Rattle.art_tree.specs.Raising.{leaf_texts}
 use Rattle.art_tree.specs.Reloading.{AreLeavesOf}

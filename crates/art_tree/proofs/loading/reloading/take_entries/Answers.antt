@@ -1,4 +1,4 @@
-use Rattle.std.proofs.Common.{◌≡◌, ◌≢◌, ◌∙◌, ◌+◌, get_or, sym, subst, arith, lit<}
+use Rattle.std.proofs.Common.{◌≢◌, ◌+◌, get_or, sym, subst, arith, lit<}
 use Rattle.std.proofs.lemmas.List.{get_or_default}
 use Rattle.art_nodes.specs.Pointers.{slab_key}
 use Rattle.art_nodes.specs.declared.pointers.NodePtr.{NodePtr}

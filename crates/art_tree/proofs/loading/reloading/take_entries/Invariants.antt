@@ -1,7 +1,4 @@
-use Rattle.std.proofs.Common.{◌≡◌, ◌≤◌, ◌<◌, ℕ, get_or, length, map, take, vec_capacity}
-use Rattle.art_nodes.specs.declared.pointers.NodePtr.{NodePtr}
-use Rattle.art_nodes.specs.declared.leaf_node.LeafNode.{LeafNode}
-use Rattle.art_arena.specs.Arena.{held}
+use Rattle.std.proofs.Common.{◌≤◌, length, vec_capacity}
 use Rattle.art_tree.proofs.LoadLemmas.ReloadedTree.{IsTaking}
 use Rattle.art_tree.proofs.loading.reloading.take_entries.Given as goal
 
