@@ -14,7 +14,8 @@ pub mod Raising
 pub mod Refusals
 pub mod RefusalTexts
 pub mod Edits
-pub mod InsertionPoints
+pub mod Places
+pub mod Sides
 pub mod Insertion
 pub mod Hanging
 pub mod Cuts
