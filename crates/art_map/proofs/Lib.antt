@@ -6,9 +6,7 @@ mod LentLemmas
 mod LinkLemmas
 mod ListLemmas
 mod LoadedLemmas
-mod PartLemmas
 mod RangeLemmas
 mod RunLemmas
 mod SetLemmas
-mod StepLemmas
 mod TextLemmas

@@ -14,10 +14,11 @@ use Rattle.art_arena.specs.Links.{AreDistinct, Spells, SpellsAfter, leaf_at}
 use Rattle.art_arena.specs.Trees.{Tree, leaves}
 use Rattle.art_tree.specs.Entries.{entries_of}
 use Rattle.art_tree.specs.Search.{leaf_pointer}
-use Rattle.art_map.specs.Cuts.{is_before, is_between, AreOn, IsFirstAfter, IsLastBefore}
+use Rattle.art_tree.specs.Sides.{is_before, AreOn}
+use Rattle.art_map.specs.Nearest.{is_between, IsFirstAfter, IsLastBefore}
 use Rattle.art_map.specs.LeafEntries.{keys_of, HoldsEntryOf, AllHold}
 use Rattle.art_map.specs.Runs.{EndsIn, LeadsOver, leaf_entry, entries_under, run_of}
-use Rattle.art_map.specs.declared.cut.Side.{Side}
+use Rattle.art_tree.specs.declared.place.Side.{Side}
 use Rattle.art_map.proofs.RunLemmas.{ends-push, entries-cons, run-is, spelled-links}
 
 pub keys-append : {K V : Type 0} {P : ℕ} (a b : List (OpaqueNodePtr K V P × List ℕ)) → keys_of (a ++ b) ≡ keys_of a ++ keys_of b

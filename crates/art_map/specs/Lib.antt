@@ -1,9 +1,9 @@
 pub mod Calls
 pub mod Changes
-pub mod Cuts
 pub mod Entries
 pub mod LeafEntries
 pub mod MapLending
+pub mod Nearest
 pub mod Ranges
 pub mod Runs
 pub mod Sets

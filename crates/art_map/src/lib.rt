@@ -3,7 +3,6 @@
 //! used.
 #![tactic(auto)]
 
-mod cut;
 mod debug;
 mod each_value;
 mod into_iter;

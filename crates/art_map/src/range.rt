@@ -1,16 +1,29 @@
-//! The ends of the entries between two places.
+//! The ends of the entries between two sides of keys.
 ghost use Rattle.std.specs.Prelude.{◌≡◌, filter};
-ghost use Rattle.art_map.specs.Cuts.{is_between};
 ghost use Rattle.art_tree.specs.Entries.{entries_of};
+ghost use Rattle.art_tree.specs.Sides.{is_before};
+ghost use Rattle.art_map.specs.Nearest.{is_between};
 ghost use Rattle.art_map.specs.Runs.{run_of, IsRun};
 
-use crate::cut::{Side, first_after, is_before, last_before};
 use crate::leaf_entries::leaves_hold_the_entries;
+use crate::nearest::{first_after, last_before};
 use art_bytes::AsBytes;
 use art_nodes::{LeafNode, NodePtr};
-use art_tree::ArtTree;
+use art_tree::{ArtTree, Side};
 
-/// The first and the last leaf after the one place and before the other, if there is one. Takes no
+// Whether a text comes before this side of the key.
+fn is_before(side: Side, key: &[u8], text: &[u8]) -> bool
+    ensures { result ≡ is_before side key.now text.now }
+{
+    let order = text.cmp(key);
+    match side {
+        Side::Before => order.is_lt(),
+        Side::After => order.is_le(),
+        Side::AfterBegun => order.is_lt() || text.starts_with(key),
+    }
+}
+
+/// The first and the last leaf after the one side and before the other, if there is one. Takes no
 /// memory.
 pub(crate) fn ends_between<K: AsBytes, V, const PREFIX_LEN: usize>(
     tree: &ArtTree<K, V, PREFIX_LEN>,

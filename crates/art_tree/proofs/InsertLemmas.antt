@@ -3,8 +3,6 @@ pub mod SubtreeLemmas
 pub mod AddedLeaf
 pub mod LinkLemmas
 pub mod NodeLemmas
-pub mod TowardLemmas
-pub mod PlaceLemmas
 pub mod GapLemmas
 pub mod AddedChild
 pub mod AddedFork

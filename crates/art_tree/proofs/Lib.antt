@@ -1,5 +1,6 @@
 mod FindLemmas
 mod SharedLemmas
 mod LoadLemmas
+mod PlaceLemmas
 mod InsertLemmas
 mod RemoveLemmas

@@ -3,7 +3,7 @@ use Rattle.std.specs.Prelude.{◌≡◌, ℕ, List, Option}
 use Rattle.art_nodes.specs.declared.pointers.OpaqueNodePtr.{OpaqueNodePtr}
 use Rattle.art_arena.specs.Trees.{Tree, Leaf, Inner, Branches, Branch}
 use Rattle.art_tree.specs.Contexts.{Context, plug, join}
-use Rattle.art_tree.specs.InsertionPoints.{above}
+use Rattle.art_tree.specs.Places.{above}
 use Rattle.art_tree.specs.declared.remove.LeafSpot.{LeafSpot}
 
 -- the leaf is the child of its parent under this byte, and the parent that of its parent under this

@@ -15,7 +15,8 @@ pub mod Refusals
 pub mod Reloading
 pub mod RefusalTexts
 pub mod Edits
-pub mod InsertionPoints
+pub mod Places
+pub mod Sides
 pub mod Insertion
 pub mod Hanging
 pub mod Cuts

@@ -1,42 +1,34 @@
 //! Insertion: a new entry in a tree, or a new entry with the key bytes of an old one.
-ghost use Rattle.std.specs.Prelude.{◌≡◌, ◌≢◌, ◌<◌, ◌^◌, nat_lt, if◌then◌else◌, length, Contains, Some, None, Ok, Err, IfOk, IfErr, OnOk, OnErr};
-ghost use Rattle.std.specs.Option.{option_map};
-ghost use Rattle.std.specs.declared.ops.Bound.TheVariants.{Excluded, Unbounded};
+ghost use Rattle.std.specs.Prelude.{◌≡◌, ◌≢◌, ◌<◌, ◌^◌, length, Contains, Some, None, Ok, Err, IfOk, IfErr, OnOk, OnErr};
 ghost use Rattle.art_header.specs.declared.node_type.NodeType.TheVariants.{Leaf, Node4};
-ghost use Rattle.art_nodes.specs.ChildMap.{first_pair, pairs_within};
-ghost use Rattle.art_nodes.specs.Inner.{Inner};
 ghost use Rattle.art_nodes.specs.Pointers.{node_kind, slab_key};
-ghost use Rattle.art_arena.specs.Arena.{held, HeldInner, Nothing, room, SameNodes, SameRoom};
+ghost use Rattle.art_arena.specs.Arena.{room, SameNodes, SameRoom};
 ghost use Rattle.art_arena.specs.Links.{HoldsLeaf};
-ghost use Rattle.art_arena.specs.Trees.{leaves, branch_leaves};
+ghost use Rattle.art_arena.specs.Trees.{leaves};
 ghost use Rattle.art_tree.specs.Art.{IsArt, IsAlone};
 ghost use Rattle.art_tree.specs.Dictionary.{entry_at, SameEntries};
 ghost use Rattle.art_tree.specs.Edits.{HasRoomToGrow, TellsFull};
-ghost use Rattle.art_tree.specs.Hanging.{HasPlaceAt, StandsBeside};
 ghost use Rattle.art_tree.specs.Insertion.{AddsEntry, IsEntered, IsRefused, MayEnter};
-ghost use Rattle.art_tree.specs.InsertionPoints.{LacksChild, Parts};
+ghost use Rattle.art_tree.specs.Places.{LacksChild, Parts};
 ghost use Rattle.art_tree.specs.Reserving.{LacksRoomForChild, LacksRoomForFork};
 ghost use Rattle.art_tree.specs.Room.{GrowsOnlyWhere, LacksRoomToInsert};
 ghost use Rattle.art_tree.specs.Search.{leaf_pointer};
-ghost use Rattle.art_arena.specs.declared.ends.End.TheVariants.{First, Last};
 ghost use Rattle.art_tree.specs.declared.insert.InsertRefusal.TheVariants.{OutOfMemory};
 
 mod added_child;
-mod insertion_point;
 mod link;
 
 use crate::insert::added_child::{add_child, fork_node, is_full, reserve_growth, trim};
-pub use crate::insert::insertion_point::text_toward;
-use crate::insert::insertion_point::{InsertionPoint, Mismatch, Spot, find_insertion_point};
 use crate::insert::link::link_leaf;
 use crate::laws::{
     each_pointer_is_at_one_place, lists_are_spelled_where_links_are_kept, no_text_begins_another,
     texts_ascend, trees_stand_where_texts_are_kept,
 };
 use crate::node::hang;
-use art_arena::{End, NodeArena, end_leaf};
+use crate::place::{Mismatch, Place, Spot, find_place, leaf_beside_child, near_end};
+use art_arena::{NodeArena, end_leaf};
 use art_bytes::AsBytes;
-use art_nodes::{InnerNodeRead, LeafNode, NodePtr, NodeType, OpaqueNodePtr};
+use art_nodes::{LeafNode, NodePtr, NodeType, OpaqueNodePtr};
 use std::alloc::AllocError;
 use std::error::Error;
 use std::fmt;
@@ -135,38 +127,6 @@ fn replace_entry<K: AsBytes, V, const PREFIX_LEN: usize>(
     arena.replace(leaf, new).into_entry()
 }
 
-// The child under the least byte above this one of the inner node at the pointer. A leaf has none.
-fn child_above<K, V, const PREFIX_LEN: usize>(
-    arena: &NodeArena<K, V, PREFIX_LEN>,
-    pointer: OpaqueNodePtr<K, V, PREFIX_LEN>,
-    byte: u8,
-) -> Option<OpaqueNodePtr<K, V, PREFIX_LEN>>
-    requires { held arena.now pointer ≢ Nothing }
-    ensures { (node : Inner _) → held arena.now pointer ≡ HeldInner node → result ≡ option_map
-        (λ pair. pair.1) (first_pair (pairs_within node.children (Excluded byte) Unbounded)) }
-{
-    let node = arena.node_ref(pointer).inner()?;
-    let (_, child) = node.child_above(byte)?;
-    Some(child)
-}
-
-// The leaf beside the place of a child under the byte: the first one after it, or else the last one
-// before it.
-fn leaf_beside<K: AsBytes, V, const PREFIX_LEN: usize>(
-    arena: &NodeArena<K, V, PREFIX_LEN>,
-    pointer: OpaqueNodePtr<K, V, PREFIX_LEN>,
-    byte: u8,
-) -> (NodePtr<PREFIX_LEN, LeafNode<K, V, PREFIX_LEN>>, End)
-    requires { HasPlaceAt K.text arena.now pointer byte }
-    ensures { (place : HasPlaceAt K.text arena.now pointer byte) → StandsBeside result.1
-        (branch_leaves place.before) (branch_leaves place.after) (leaf_pointer result.0) }
-{
-    match child_above(arena, pointer, byte) {
-        Some(child) => (end_leaf(arena, child, End::First), End::First),
-        None => (end_leaf(arena, pointer, End::Last), End::Last),
-    }
-}
-
 // Makes spare capacity for a new leaf and, where the node at the pointer is full, for the node that
 // it grows to.
 fn reserve_for_child<K, V, const PREFIX_LEN: usize>(
@@ -222,22 +182,10 @@ fn insert_child<K: AsBytes, V, const PREFIX_LEN: usize>(
     if reserve_for_child(arena, spot.node, full).is_err() {
         return Err((key, value));
     }
-    let (sibling, end) = leaf_beside(arena, spot.node, byte);
+    let (sibling, end) = leaf_beside_child(arena, spot.node, byte);
     let leaf = link_leaf(arena, key, value, sibling, end);
     let node = add_child(arena, spot.node, byte, leaf.to_opaque(), full);
     Ok(hang(arena, root, spot.parent, spot.node, node))
-}
-
-// The end of the leaves below a node that is next to a key which differs from all of them.
-fn near_end(mismatch: Mismatch) -> End
-    ensures end { result ≡ (if nat_lt mismatch.byte mismatch.node_byte then First else Last) }
-    ensures bytes { (mismatch.byte < 256) × (mismatch.node_byte < 256) }
-{
-    if mismatch.byte < mismatch.node_byte {
-        End::First
-    } else {
-        End::Last
-    }
 }
 
 // Makes a new inner node over a new leaf and the node where the key differs. Returns the root. On
@@ -334,17 +282,17 @@ pub(crate) fn insert_entry<K: AsBytes, V, const PREFIX_LEN: usize>(
     let Some(root) = root else {
         return newly_added(insert_first(arena, key, value));
     };
-    match find_insertion_point(arena, root, key.as_bytes()) {
-        InsertionPoint::Present(leaf) => Ok((root, Some(replace_entry(arena, leaf, key, value)))),
-        InsertionPoint::Clash => Err(InsertFault {
+    match find_place(arena, root, key.as_bytes()) {
+        Place::Present(leaf) => Ok((root, Some(replace_entry(arena, leaf, key, value)))),
+        Place::Extends(_) | Place::Begins { .. } => Err(InsertFault {
             refusal: InsertRefusal::Prefix,
             key,
             value,
         }),
-        InsertionPoint::Child { spot, byte } => newly_added(insert_child(
+        Place::Absent { spot, byte } => newly_added(insert_child(
             arena, root, spot, byte, key, value,
         )),
-        InsertionPoint::Fork { spot, mismatch } => newly_added(insert_fork(
+        Place::Differs { spot, mismatch } => newly_added(insert_fork(
             arena, root, spot, mismatch, key, value,
         )),
     }

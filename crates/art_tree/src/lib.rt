@@ -11,6 +11,7 @@ pub mod laws;
 mod loading;
 mod node;
 mod path;
+mod place;
 mod remove;
 mod tree;
 
@@ -38,7 +39,8 @@ pub use art_nodes::{
     replay, valid_range_bounds, with_node,
 };
 pub use find::find_leaf;
-pub use insert::{InsertFault, InsertRefusal, text_toward};
+pub use insert::{InsertFault, InsertRefusal};
 pub use loading::{LoadFault, LoadRefusal, load};
 pub use path::{TreePath, TreePathSearch};
+pub use place::{Side, leaf_beside};
 pub use tree::{ArtTree, HoldsOneTree, Rooted};

@@ -1,12 +1,12 @@
 //! A map as what a `for` loop goes over.
 ghost use Rattle.std.specs.Prelude.{◌≡◌};
 
-use crate::cut::Side;
 use crate::into_iter::{IntoIter, run_taken};
 use crate::iter::Iter;
 use crate::map::{ArtMap, MapOver};
 use crate::range::ends_between;
 use art_bytes::AsBytes;
+use art_tree::Side;
 
 impl<K: AsBytes + Drop, V: Drop, const PREFIX_LEN: usize> IntoIterator
     for ArtMap<K, V, PREFIX_LEN> {

@@ -1,17 +1,18 @@
 //! Calls that read a map: entries by key, in order, within bounds, with a prefix.
 ghost use Rattle.std.specs.Prelude.{◌≡◌, ◌-◌, ◌↔◌, IsTrue, filter, length, map, not, slice_get};
 ghost use Rattle.std.specs.Option.{option_copied, option_map, is_some};
-ghost use Rattle.art_map.specs.Cuts.{is_before, is_between};
+ghost use Rattle.art_tree.specs.Sides.{is_before};
 ghost use Rattle.art_map.specs.Entries.{entry_with};
+ghost use Rattle.art_map.specs.Nearest.{is_between};
 ghost use Rattle.art_map.specs.Ranges.{entries_above, entries_from, entries_with_prefix, entries_within, is_from, is_up_to};
 
-use crate::cut::Side;
 use crate::iter::{Iter, run_between};
 use crate::keys::{Keys, Values, keys_of, values_of};
 use crate::map::ArtMap;
 use crate::nearest::first_entry_after;
 use crate::range::ends_between;
 use art_bytes::AsBytes;
+use art_tree::Side;
 use art_tree::laws::entries_are_one_list;
 use std::ops::Bound;
 

@@ -5,9 +5,8 @@ use Rattle.art_header.specs.NodeType.{kind_for, most_children, grown_kind}
 use Rattle.art_header.specs.declared.node_type.NodeType.{NodeType}
 use Rattle.art_header.specs.declared.node_type.NodeType.TheVariants as kinds
 use Rattle.std.specs.declared.cmp.Ordering.TheVariants.{Less}
-use Rattle.std.specs.declared.ops.Bound.TheVariants.{Excluded, Unbounded}
 use Rattle.art_bytes.specs.Text.{text_order}
-use Rattle.art_nodes.specs.ChildMap.{IsAscending, key_bytes, child_at, with_child, pairs_within}
+use Rattle.art_nodes.specs.ChildMap.{IsAscending, key_bytes, child_at, with_child}
 use Rattle.art_nodes.specs.Inner as nodes
 use Rattle.art_nodes.specs.Pointers.{node_kind, opaque_key, opaque_pointer}
 use Rattle.art_nodes.specs.declared.pointers.OpaqueNodePtr.{OpaqueNodePtr}
@@ -21,9 +20,9 @@ use Rattle.art_tree.specs.Edits.{HasGap, IsBeside, HoldsEntry, HasOneMore, HasRo
 use Rattle.art_tree.specs.Hanging.{CanHang, HasPlaceAt, IsHung, StandsBeside}
 use Rattle.art_tree.specs.Insertion.{IsEntered}
 use Rattle.art_tree.specs.Loading.{HasSmallestKinds, HaveSmallestKinds}
-use Rattle.art_tree.specs.InsertionPoints.{above, LacksChild}
+use Rattle.art_tree.specs.Places.{above, LacksChild}
 use Rattle.art_arena.specs.declared.ends.End.{End}
-use Rattle.art_tree.specs.declared.insert.insertion_point.Spot.{Spot}
+use Rattle.art_tree.specs.declared.place.Spot.{Spot}
 use Rattle.art_tree.proofs.InsertLemmas.AddedLeaf.{AreSteps, HasTaken, below-kept, can-hang, last-others, tree-added}
 use Rattle.art_tree.proofs.SharedLemmas.BranchLemmas.{leaves-join, places-join}
 use Rattle.art_tree.proofs.SharedLemmas.DictionaryLemmas.{AreApart}
@@ -33,6 +32,7 @@ use Rattle.art_tree.proofs.SharedLemmas.ExchangedTree.{alone-same}
 use Rattle.art_tree.proofs.SharedLemmas.ParentLemmas.{inner-kind}
 use Rattle.art_arena.proofs.StandingLaws.{one-inner}
 use Rattle.art_tree.proofs.InsertLemmas.NodeLemmas.{few-where-absent}
+use Rattle.art_tree.proofs.PlaceLemmas.SidesAround.{byte-place}
 use Rattle.art_tree.proofs.LoadLemmas.PlacedTrees.{smallest_kinds-split, stand-split}
 use Rattle.art_tree.proofs.InsertLemmas.SubtreeLemmas.{HasChildPlace, child-place, in-taken, kind-grows, kind-stays, smallest_kinds-taken}
 
@@ -85,15 +85,7 @@ module _ {K V : Type 0} {P : ℕ} {text : K → List ℕ} {old : NodeArena K V P
   gap-there = child-place (path_to around_it) lacks.prefix spot.node lacks.branches byte sound-there child_spot.fits lacks.absent
 
   abbrev pub place-there : HasPlaceAt text old spot.node byte
-  place-there = record {
-    path = path_to around_it;
-    prefix = lacks.prefix;
-    before = gap-there.before;
-    after = gap-there.after;
-    stands = subst (λ b. StandsIn text old (Inner spot.node lacks.prefix b)) (sym gap-there.same) stands-there;
-    sound = subst (λ b. IsSound (path_to around_it) (Inner spot.node lacks.prefix b)) (sym gap-there.same) sound-there;
-    later = subst (λ b. pairs_within (branch_roots b) (Excluded byte) Unbounded ≡ branch_roots gap-there.after) (sym gap-there.same) gap-there.later;
-  }
+  place-there = byte-place text old spot.node (path_to around_it) lacks.prefix lacks.branches byte gap-there stands-there sound-there
 
   pub leaves-there : leaves node_there ≡ branch_leaves gap-there.before ++ branch_leaves gap-there.after
   leaves-there = ap branch_leaves (sym gap-there.same) ∙ leaves-join gap-there.before gap-there.after

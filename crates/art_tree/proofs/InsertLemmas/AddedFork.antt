@@ -1,7 +1,7 @@
 -- Insertion: a new inner node over a new leaf and the node from which its key differs.
 use Rattle.std.proofs.Common.{◌≡◌, ◌≢◌, ◌∙◌, ℕ, ◌+◌, ◌-◌, ◌<◌, ◌≤◌, ◌^◌, Bool, true, false, nat_lt, if◌then◌else◌, List, [], ◌∷◌, ◌++◌, length, length-append, take, drop, All, AllPairs, Contains, Some, refl, sym, ap, subst, inl, inr, arith, append-nil}
 use Rattle.std.proofs.lemmas.Option.{slice_get_within}
-use Rattle.std.proofs.lemmas.List.Elements.{All-contains, Contains-append_right, Contains-append_cases}
+use Rattle.std.proofs.lemmas.List.Elements.{All-contains, Contains-append_right}
 use Rattle.std.specs.declared.cmp.Ordering.TheVariants.{Less}
 use Rattle.art_bytes.specs.Text.{IsPrefixOf, text_order}
 use Rattle.art_header.specs.Header.{StandsFor, capped}
@@ -16,46 +16,32 @@ use Rattle.art_nodes.specs.declared.leaf_node.LeafNode.{LeafNode}
 use Rattle.art_arena.specs.Arena.{NodeArena, Held, HeldInner, HeldLeaf, Nothing, held, Changes, SameNodes}
 use Rattle.art_arena.specs.Links.{AreDistinct, HoldsLeaf, Spells, text_at}
 use Rattle.art_arena.specs.Standing.{NodeStands, StandsIn, AllStandIn, TreeAt}
-use Rattle.art_arena.specs.Trees.{Tree, Leaf, Inner, Branches, NoBranch, Branch, branch_roots, root_of, leaves, branch_leaves, texts, places, branch_places, IsSound, AreSound}
+use Rattle.art_arena.specs.Trees.{Tree, Leaf, Inner, Branches, branch_roots, root_of, leaves, branch_leaves, texts, places, branch_places, IsSound}
 use Rattle.art_tree.specs.Art.{IsAlone, IsArt}
 use Rattle.art_tree.specs.Contexts.{Context, plug, path_to, leaves_before, leaves_after}
 use Rattle.art_tree.specs.Edits.{HasGap, HoldsEntry, IsBeside, LiesBeside, StaysAt, two_children}
 use Rattle.art_arena.specs.Ends.{IsAtEnd}
 use Rattle.art_tree.specs.Hanging.{CanHang, IsHung, StandsBeside}
 use Rattle.art_tree.specs.Insertion.{IsEntered}
-use Rattle.art_tree.specs.InsertionPoints.{above, Parts}
+use Rattle.art_tree.specs.Places.{above, Parts}
 use Rattle.art_tree.specs.Nodes.{IsPlaced, node_of, node_with_prefix}
 use Rattle.art_arena.specs.declared.ends.End.{End}
 use Rattle.art_arena.specs.declared.ends.End.TheVariants.{First, Last}
-use Rattle.art_tree.specs.declared.insert.insertion_point.Mismatch.{Mismatch}
-use Rattle.art_tree.specs.declared.insert.insertion_point.Spot.{Spot}
+use Rattle.art_tree.specs.declared.place.Mismatch.{Mismatch}
+use Rattle.art_tree.specs.declared.place.Spot.{Spot}
 use Rattle.art_tree.proofs.InsertLemmas.AddedLeaf.{AreSteps, HasTaken, below-kept, can-hang, last-others, leaves-kept, tree-added}
 use Rattle.art_tree.proofs.SharedLemmas.BranchLemmas.{leaves-join, one_branch}
 use Rattle.art_tree.proofs.SharedLemmas.ChangedTree.{place-held, root-place}
 use Rattle.art_tree.proofs.SharedLemmas.DictionaryLemmas.{AreApart, end-in, leaf-held-in}
-use Rattle.art_tree.proofs.SharedLemmas.ExchangedSubtree.{the-one, distinct-part, kept-branches, sound-part, smallest_kinds-part, stands-part}
-use Rattle.art_bytes.proofs.PrefixLaws.{prefix-shorter}
+use Rattle.art_tree.proofs.SharedLemmas.ExchangedSubtree.{distinct-part, kept-branches, sound-part, smallest_kinds-part, stands-part}
 use Rattle.art_tree.proofs.InsertLemmas.GapLemmas.{beside-key, gap, keys_of, lies, spelled-parts}
 use Rattle.art_tree.proofs.SharedLemmas.ExchangedTree.{alone-same}
 use Rattle.art_tree.proofs.LoadLemmas.PlacedTrees.{cases_pointer, text-held}
 use Rattle.art_tree.proofs.InsertLemmas.SubtreeLemmas.{HasForkPlace, fork-place, in-taken, leaves-sides, leaves-trimmed, places-sides, places-trimmed, smallest_kinds-sides, smallest_kinds-taken, smallest_kinds-trimmed, both-sides, ltrimmed, branches_left, branches_right}
+use Rattle.art_tree.proofs.PlaceLemmas.TextsBelow.{branch-text-begins}
 use Rattle.art_arena.proofs.StandingLaws.{leaf_kind, one-inner}
 
 module _ {H : Type 0} where
-  mutual
-    -- every text of a sound tree begins with the path to it
-    text-begins : (path : List ℕ) (tree : Tree H) → IsSound path tree → (p : H) (x : List ℕ) → Contains (leaves tree) (p, x) → IsPrefixOf path x
-    text-begins path (Leaf pointer y) sound p x inside = subst (IsPrefixOf path) (ap (λ pair. pair.1) (the-one (pointer, y) (p, x) inside)) sound.0
-    text-begins path (Inner pointer prefix branches) sound p x inside = prefix-shorter path prefix x (branch-text-begins (path ++ prefix) branches sound.2 p x inside)
-
-    -- and with the prefix of its top node
-    pub branch-text-begins : (path : List ℕ) (branches : Branches H) → AreSound path branches → (p : H) (x : List ℕ) → Contains (branch_leaves branches) (p, x) → IsPrefixOf path x
-    branch-text-begins path NoBranch sound p x (k, inside, is) = absurd (omega (arith, inside))
-    branch-text-begins path (Branch byte tree others) sound p x inside = elim (Contains-append_cases (leaves tree) (branch_leaves others) (p, x) inside) [
-      | inl here ↦ prefix-shorter path (byte ∷ []) x (text-begins (path ++ byte ∷ []) tree sound.0 p x here)
-      | inr later ↦ branch-text-begins path others sound.1 p x later
-    ]
-
   -- the leaf at the end of a tree on whose side a byte lies is beside the gap there
   beside-tree : (byte other len : ℕ) (part : Tree H) (end : End) (p : H) → end ≡ (if nat_lt byte other then First else Last) → IsAtEnd end (leaves part) p
       → StandsBeside end (branch_leaves (branches_left byte other (ltrimmed len part))) (branch_leaves (branches_right byte other (ltrimmed len part))) p
@@ -226,7 +212,7 @@ module _ {K V : Type 0} {P : ℕ} {text : K → List ℕ} {old : NodeArena K V P
       sibling-begins node is =
           let inner = linked-there node is in
           let sound : IsSound (path_to around_it) (Inner spot.node inner.prefix inner.branches) = subst (IsSound (path_to around_it)) inner.part sound-there in
-          branch-text-begins (path_to around_it ++ inner.prefix) inner.branches sound.2 (opaque_pointer kinds.Leaf sibling) x (subst (λ t. Contains (leaves t) (opaque_pointer kinds.Leaf sibling, x)) inner.part inside)
+          branch-text-begins (path_to around_it ++ inner.prefix) inner.branches (opaque_pointer kinds.Leaf sibling) x sound.2 (subst (λ t. Contains (leaves t) (opaque_pointer kinds.Leaf sibling, x)) inner.part inside)
 
       pub text-there : (node : nodes.Inner (OpaqueNodePtr K V P)) → held linked spot.node ≡ HeldInner node → spot.depth + node.prefix_len ≤ length (text_at text linked sibling)
       text-there node is =

@@ -6,19 +6,20 @@ use Rattle.art_bytes.specs.Text.{IsPrefixOf}
 use Rattle.art_nodes.specs.ChildMap.{child_at}
 use Rattle.art_nodes.specs.declared.pointers.OpaqueNodePtr.{OpaqueNodePtr}
 use Rattle.art_arena.specs.Arena.{NodeArena, Nothing, held, SameNodes}
-use Rattle.art_arena.specs.Trees.{Tree, Leaf, Inner, Branches, NoBranch, Branch, branch_roots, root_of, leaves, branch_leaves, texts, IsSound, AreSound, IsWellFormed}
+use Rattle.art_arena.specs.Trees.{Tree, Leaf, Branches, NoBranch, Branch, branch_roots, root_of, leaves, branch_leaves, texts, IsSound, AreSound, IsWellFormed}
 use Rattle.art_tree.specs.Art.{IsAlone, IsArt}
 use Rattle.art_tree.specs.Contexts.{Context, plug, path_to, leaves_before, leaves_after}
 use Rattle.art_tree.specs.Dictionary.{entry_at, HasEntry, IsProperPrefixOf, Clashes, SameEntries}
 use Rattle.art_tree.specs.Insertion.{ClashesIn, IsEntered, IsRefused, MayEnter}
-use Rattle.art_tree.specs.InsertionPoints.{IsSpot, LacksChild, Parts, reach}
+use Rattle.art_tree.specs.Places.{IsSpot, LacksChild, Parts, reach}
 use Rattle.art_tree.specs.declared.insert.InsertFault.{InsertFault}
 use Rattle.art_tree.specs.declared.insert.InsertRefusal.TheVariants.{OutOfMemory}
-use Rattle.art_tree.specs.declared.insert.insertion_point.Mismatch.{Mismatch}
-use Rattle.art_tree.specs.declared.insert.insertion_point.Spot.{Spot}
+use Rattle.art_tree.specs.declared.place.Mismatch.{Mismatch}
+use Rattle.art_tree.specs.declared.place.Spot.{Spot}
 use Rattle.art_tree.proofs.SharedLemmas.DictionaryLemmas.{AreApart, after-first, empty-entry, held-entry, leaf-held-in, leaf-of-entry, leaf-with}
 use Rattle.art_tree.proofs.SharedLemmas.ExchangedSubtree.{the-one, leaves-plug, sound-part, sound-whole}
-use Rattle.art_bytes.proofs.PrefixLaws.{prefix-shorter, prefix-on}
+use Rattle.art_bytes.proofs.PrefixLaws.{prefix-on}
+use Rattle.art_tree.proofs.PlaceLemmas.TextsBelow.{text-begins, text-reaches}
 use Rattle.art_tree.proofs.SharedLemmas.PrefixLemmas.{key-on}
 
 -- neither text is a prefix of the other
@@ -60,24 +61,6 @@ module _ {H : Type 0} where
     | inl here ↦ subst (λ text. IsApart text key) (ap (λ leaf. leaf.1) (the-one y (q, x) here)) (after-first IsApart y (left ++ (p, key) ∷ right) p key apart (Contains-append_right left ((p, key) ∷ right) (p, key) (0, omega arith, refl)))
     | inr later ↦ beside-apart left right p key q x (λ i j d before within. apart (suc i) (suc j) d (omega (arith, before)) (omega (arith, within))) (inl later)
   ]
-
-  mutual
-    -- the texts of a sound tree begin with its path
-    text-begins : (path : List ℕ) (tree : Tree H) (q : H) (x : List ℕ) → IsSound path tree → Contains (leaves tree) (q, x) → IsPrefixOf path x
-    text-begins path (Leaf pointer text) q x sound inside = subst (IsPrefixOf path) (ap (λ leaf. leaf.1) (the-one (pointer, text) (q, x) inside)) sound.0
-    text-begins path (Inner pointer prefix branches) q x sound inside = prefix-shorter path prefix x (branch-begins (path ++ prefix) branches q x sound.2 inside)
-
-    branch-begins : (path : List ℕ) (branches : Branches H) (q : H) (x : List ℕ) → AreSound path branches → Contains (branch_leaves branches) (q, x) → IsPrefixOf path x
-    branch-begins path NoBranch q x sound (k, inside, is) = absurd (omega (arith, inside))
-    branch-begins path (Branch byte tree others) q x sound inside = elim (Contains-append_cases (leaves tree) (branch_leaves others) (q, x) inside) [
-      | inl here ↦ prefix-shorter path (byte ∷ []) x (text-begins (path ++ byte ∷ []) tree q x sound.0 here)
-      | inr later ↦ branch-begins path others q x sound.1 later
-    ]
-
-  -- and with the first bytes of them that its top has
-  reach-begins : (path : List ℕ) (tree : Tree H) (q : H) (x : List ℕ) → IsSound path tree → Contains (leaves tree) (q, x) → IsPrefixOf (reach path tree) x
-  reach-begins path (Leaf pointer text) q x sound inside = ([], sym (ap (λ leaf. leaf.1) (the-one (pointer, text) (q, x) inside)) ∙ sym (append-nil text))
-  reach-begins path (Inner pointer prefix branches) q x sound inside = branch-begins (path ++ prefix) branches q x sound.2 inside
 
   -- a key that goes on with a byte that has no branch is apart from the texts of the branches
   no-branch-apart : (path : List ℕ) (branches : Branches H) (byte : ℕ) (key : List ℕ) → AreSound path branches → child_at (branch_roots branches) byte ≡ None → IsPrefixOf (path ++ byte ∷ []) key → (q : H) (x : List ℕ) → Contains (branch_leaves branches) (q, x) → IsApart x key
@@ -130,7 +113,7 @@ module _ {K V : Type 0} {P : ℕ} (law : (tree : Tree (OpaqueNodePtr K V P)) →
       let path = path_to parts.at.context in
       let front = take mismatch.index key in
       spot-apart parts.at (λ q x inside. parted-apart front mismatch.node_byte mismatch.byte x key (λ same. parts.differ (sym same))
-      (prefix-on (front ++ mismatch.node_byte ∷ []) (reach path parts.at.part) x parts.node (reach-begins path parts.at.part q x (part-sound parts.at) inside)) (key-on key mismatch.index mismatch.byte parts.byte))
+      (prefix-on (front ++ mismatch.node_byte ∷ []) (reach path parts.at.part) x parts.node (text-reaches path parts.at.part q x (part-sound parts.at) inside)) (key-on key mismatch.index mismatch.byte parts.byte))
 
 module _ {K V : Type 0} {P : ℕ} (text : K → List ℕ) (arena : NodeArena K V P) where
   -- in an empty arena nothing but an allocation failure refuses a short text

@@ -12,7 +12,7 @@ use Rattle.art_tree.specs.Contexts.{plug, join}
 use Rattle.art_tree.specs.NodeCounts.{one_if_same, nodes_of, branch_nodes_of}
 use Rattle.art_tree.specs.Reserving.{LacksRoomForChild}
 use Rattle.art_tree.specs.Room.{LacksRoomToInsert}
-use Rattle.art_tree.specs.declared.insert.insertion_point.Spot.{Spot}
+use Rattle.art_tree.specs.declared.place.Spot.{Spot}
 use Rattle.art_tree.proofs.InsertLemmas.AddedChild.{ChildSpot, alone-there, around_it, gap-there, is-there, leaves-there, node-is, node_there, shown-there, smallest_kinds-there, sound-there, there-inner}
 use Rattle.art_tree.proofs.InsertLemmas.NeededNodes.{insert-lacks, nodes-taken}
 use Rattle.art_tree.proofs.InsertLemmas.NodeLemmas.{few-where-absent}

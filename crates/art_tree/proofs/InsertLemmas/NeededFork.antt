@@ -10,8 +10,8 @@ use Rattle.art_tree.specs.Contexts.{plug, join}
 use Rattle.art_tree.specs.NodeCounts.{one_if_same, nodes_of, branch_nodes_of}
 use Rattle.art_tree.specs.Reserving.{LacksRoomForFork}
 use Rattle.art_tree.specs.Room.{LacksRoomToInsert}
-use Rattle.art_tree.specs.declared.insert.insertion_point.Mismatch.{Mismatch}
-use Rattle.art_tree.specs.declared.insert.insertion_point.Spot.{Spot}
+use Rattle.art_tree.specs.declared.place.Mismatch.{Mismatch}
+use Rattle.art_tree.specs.declared.place.Spot.{Spot}
 use Rattle.art_tree.proofs.InsertLemmas.AddedFork.{ForkPoint, alone-there, around_it, fork-there, leaves-there, left_there, len_there, part_there, right_there, shared_there, trimmed_there}
 use Rattle.art_tree.proofs.InsertLemmas.NeededNodes.{insert-lacks, nodes-taken}
 use Rattle.art_tree.proofs.InsertLemmas.SubtreeLemmas.{both-sides, ltrimmed, with_leaf}

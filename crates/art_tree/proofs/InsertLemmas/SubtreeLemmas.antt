@@ -17,7 +17,7 @@ use Rattle.art_tree.specs.Edits.{IsBeside, LiesBeside, two_children}
 use Rattle.art_arena.specs.declared.ends.End.{End}
 use Rattle.art_arena.specs.declared.ends.End.TheVariants.{First, Last}
 use Rattle.art_tree.specs.Loading.{HasSmallestKinds, HaveSmallestKinds}
-use Rattle.art_tree.specs.InsertionPoints.{reach}
+use Rattle.art_tree.specs.Places.{reach}
 use Rattle.art_tree.specs.Contexts.{join}
 use Rattle.art_tree.proofs.SharedLemmas.BranchLemmas.{roots-join, leaves-join, places-join, sound-join, one_branch}
 use Rattle.art_tree.proofs.SharedLemmas.DictionaryLemmas.{after-first}

@@ -22,7 +22,7 @@ use Rattle.art_tree.specs.Edits.{StaysAt}
 use Rattle.art_tree.specs.Nodes.{node_with_prefix}
 use Rattle.art_tree.specs.Hanging.{CanHang, IsHung}
 use Rattle.art_tree.specs.Loading.{HasSmallestKinds, HaveSmallestKinds}
-use Rattle.art_tree.specs.InsertionPoints.{above}
+use Rattle.art_tree.specs.Places.{above}
 use Rattle.art_tree.specs.Removal.{IsRemoved}
 use Rattle.art_tree.proofs.SharedLemmas.ChangedTree.{held-on, place-held, root-place}
 use Rattle.art_tree.proofs.RemoveLemmas.RemovedLeaf.{AreCuts, HasDropped, can-hang, cut-removed, inside-kept, last-inside, leaves-kept, top-last}

@@ -17,7 +17,7 @@ use Rattle.art_tree.proofs.SharedLemmas.BranchLemmas.{roots-join, leaves-join, p
 use Rattle.art_tree.proofs.SharedLemmas.DictionaryLemmas.{AreApart, leaf-of-entry, not-later}
 use Rattle.art_tree.proofs.SharedLemmas.ExchangedSubtree.{before-byte, sound-split, the-one}
 use Rattle.art_bytes.proofs.PrefixLaws.{prefix-shorter}
-use Rattle.art_tree.proofs.InsertLemmas.PlaceLemmas.{branch-text}
+use Rattle.art_tree.proofs.PlaceLemmas.WayPlaces.{branch-text}
 use Rattle.art_tree.proofs.LoadLemmas.PlacedTrees.{kind-4, kind-16, kind-48, kind-256, smallest_kinds-join, smallest_kinds-split}
 
 -- the tree with these bytes and this byte before its own prefix; a leaf is as it was

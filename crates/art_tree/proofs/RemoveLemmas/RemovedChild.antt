@@ -20,7 +20,7 @@ use Rattle.art_tree.specs.Cuts.{HasOneLess, HasRoomToShrink}
 use Rattle.art_tree.specs.Dropping.{HangsUnder}
 use Rattle.art_tree.specs.Edits.{StaysAt}
 use Rattle.art_tree.specs.Hanging.{CanHang, IsHung}
-use Rattle.art_tree.specs.InsertionPoints.{above}
+use Rattle.art_tree.specs.Places.{above}
 use Rattle.art_tree.specs.Removal.{IsRemoved, NeedsSmallerNode}
 use Rattle.art_tree.proofs.SharedLemmas.BranchLemmas.{leaves-join, places-join, roots-join}
 use Rattle.art_tree.proofs.SharedLemmas.ChangedTree.{held-on, place-held}

@@ -6,7 +6,7 @@ use Rattle.art_arena.specs.Trees.{Tree, Leaf, Inner, Branches, NoBranch, Branch}
 use Rattle.art_tree.specs.Contexts.{Context, Whole, Under, plug, join}
 use Rattle.art_tree.specs.Dropping.{HangsUnder}
 use Rattle.art_tree.specs.Paths.{path_of}
-use Rattle.art_tree.specs.InsertionPoints.{above}
+use Rattle.art_tree.specs.Places.{above}
 use Rattle.art_tree.specs.Search.{IsWay, IsWayUnder, IsPathTo}
 use Rattle.art_tree.specs.declared.path.TreePath.{TreePath}
 use Rattle.art_tree.specs.declared.path.TreePath.TheVariants.{Root, ChildOfRoot, Normal}

@@ -13,7 +13,7 @@ use Rattle.art_arena.specs.Trees.{Tree, Leaf, Inner, Branches, NoBranch, Branch,
 use Rattle.art_tree.specs.Contexts.{Context, Whole, Under, plug, parent, Adopts, KeepsAt, join}
 use Rattle.art_tree.specs.Edits.{StaysAt}
 use Rattle.art_tree.specs.Hanging.{CanHang, IsHung}
-use Rattle.art_tree.specs.InsertionPoints.{above}
+use Rattle.art_tree.specs.Places.{above}
 use Rattle.art_tree.proofs.SharedLemmas.BranchLemmas.{roots-join}
 use Rattle.art_tree.proofs.SharedLemmas.ExchangedSubtree.{the-one, around, sound-part, stands-part}
 use Rattle.art_tree.proofs.SharedLemmas.ExchangedTree.{root-under}

@@ -14,8 +14,8 @@ ghost use Rattle.art_tree.specs.Reserving.{LacksRoomToGrow};
 ghost use Rattle.art_tree.specs.Room.{GrowsOnlyWhere};
 ghost use Rattle.art_tree.specs.Search.{leaf_pointer};
 
-use crate::insert::insertion_point::Mismatch;
 use crate::node::{num_children, place_as, replace_node};
+use crate::place::Mismatch;
 use art_arena::{NodeArena, NodeRef};
 use art_bytes::AsBytes;
 use art_nodes::{

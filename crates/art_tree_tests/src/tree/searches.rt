@@ -1,8 +1,8 @@
-//! Tests of the ends of a tree, and of the direction of a key.
+//! Tests of the ends of a tree, and of the leaf beside a key.
 ghost use Rattle.art_tree.specs.Search.{HasTree};
 
 use super::*;
-use art_tree::{End, any_leaf, end_leaf, text_toward};
+use art_tree::{End, Side, any_leaf, end_leaf, leaf_beside};
 
 // The first leaf and the last one of the tree have these numbers.
 fn check_ends<K: AsBytes, const PREFIX_LEN: usize>(
@@ -21,20 +21,22 @@ fn check_ends<K: AsBytes, const PREFIX_LEN: usize>(
     assert!(rt; arena.holds(any_leaf(arena, root)));
 }
 
-// The key bytes in the direction of these are those.
-fn check_toward<K: AsBytes, const PREFIX_LEN: usize>(
+// The leaf beside this side of a key has this number, and is this end.
+fn check_beside<K: AsBytes, const PREFIX_LEN: usize>(
     rt: &impl Abort,
     arena: &NodeArena<K, usize, PREFIX_LEN>,
     root: OpaqueNodePtr<K, usize, PREFIX_LEN>,
     key: &[u8],
-    expected: &[u8],
+    side: Side,
+    expected: (usize, End),
 )
     requires { HasTree K.text arena.now root }
 {
-    assert!(rt; text_toward(arena, root, key) == expected);
+    let (leaf, end) = leaf_beside(arena, root, key, side);
+    assert!(rt; (*arena.as_value_ref(leaf), end) == expected);
 }
 
-// The ends of the tree of abc1, abc2 and b, and the directions of three keys.
+// The ends of the tree of abc1, abc2 and b, and the leaves beside three keys.
 fn check_tree_of_three<K: AsBytes, const PREFIX_LEN: usize>(
     rt: &impl Abort,
     arena: &NodeArena<K, usize, PREFIX_LEN>,
@@ -43,9 +45,9 @@ fn check_tree_of_three<K: AsBytes, const PREFIX_LEN: usize>(
     requires { HasTree K.text arena.now root }
 {
     check_ends(rt, arena, root, 0, 2);
-    check_toward(rt, arena, root, b"abc2", b"abc2");
-    check_toward(rt, arena, root, b"axx2", b"abc2");
-    check_toward(rt, arena, root, b"abc9", b"abc1");
+    check_beside(rt, arena, root, b"abc2", Side::After, (1, End::Last));
+    check_beside(rt, arena, root, b"ab", Side::Before, (0, End::First));
+    check_beside(rt, arena, root, b"ab", Side::AfterBegun, (1, End::Last));
 }
 
 fn check_ends_of_three<const PREFIX_LEN: usize>(

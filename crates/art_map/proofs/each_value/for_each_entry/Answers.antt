@@ -10,7 +10,7 @@ use Rattle.art_tree.specs.Entries.{entries_of}
 use Rattle.art_tree.specs.Search.{leaf_pointer}
 use Rattle.art_map.proofs.CalledLemmas.{IsAlong, along-end, along-held, along-less, along-next, along-start, left-from}
 use Rattle.art_map.proofs.ListLemmas.{slot-of}
-use Rattle.art_map.proofs.PartLemmas.{leaf-pointer-fits}
+use Rattle.art_map.proofs.LinkLemmas.{leaf-pointer-fits}
 use Rattle.art_map.proofs.each_value.for_each_entry.Goals as goal
 
 pub along-init : goal.along-init

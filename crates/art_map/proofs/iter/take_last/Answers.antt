@@ -9,7 +9,7 @@ use Rattle.art_tree.specs.Search.{leaf_pointer}
 use Rattle.art_map.proofs.ListLemmas.{slot-of}
 use Rattle.art_map.proofs.RangeLemmas.{something-held}
 use Rattle.art_map.proofs.RunLemmas.{span, init-last, back-init, back-leaf, init-leads, previous-is, take-back, take-back-only}
-use Rattle.art_map.proofs.PartLemmas.{leaf-pointer-fits}
+use Rattle.art_map.proofs.LinkLemmas.{leaf-pointer-fits}
 use Rattle.art_map.proofs.iter.take_last.Goals as goal
 
 pub returns-then-key-clause-last : goal.returns-then-key-clause-last

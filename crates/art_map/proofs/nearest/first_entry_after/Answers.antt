@@ -6,9 +6,10 @@ use Rattle.art_arena.specs.Links.{leaf_at}
 use Rattle.art_arena.specs.Trees.{leaves}
 use Rattle.art_tree.specs.Art.{IsArt}
 use Rattle.art_tree.specs.Search.{leaf_pointer}
-use Rattle.art_map.specs.Cuts.{is_before, IsFirstAfter}
+use Rattle.art_tree.specs.Sides.{is_before}
+use Rattle.art_map.specs.Nearest.{IsFirstAfter}
 use Rattle.art_map.specs.Runs.{leaf_entry}
-use Rattle.art_map.proofs.PartLemmas.{leaf-pointer-fits}
+use Rattle.art_map.proofs.LinkLemmas.{leaf-pointer-fits}
 use Rattle.art_map.proofs.RangeLemmas.{entry-of-parts, holds-one, first-after, none-after, something-held}
 use Rattle.art_map.proofs.nearest.first_entry_after.Goals as goal
 

@@ -4,9 +4,10 @@ use Rattle.art_arena.specs.Arena.{Nothing, held}
 use Rattle.art_arena.specs.Trees.{leaves}
 use Rattle.art_tree.specs.Art.{IsArt}
 use Rattle.art_tree.specs.Search.{leaf_pointer}
-use Rattle.art_map.specs.Cuts.{is_before, is_between, IsFirstAfter, IsLastBefore}
+use Rattle.art_tree.specs.Sides.{is_before}
+use Rattle.art_map.specs.Nearest.{is_between, IsFirstAfter, IsLastBefore}
 use Rattle.art_map.specs.Runs.{run_of}
-use Rattle.art_map.proofs.PartLemmas.{leaf-pointer-fits}
+use Rattle.art_map.proofs.LinkLemmas.{leaf-pointer-fits}
 use Rattle.art_map.proofs.RangeLemmas.{front-held, front-text, range-apart, range-high, range-low, range-run, range-some, something-held}
 use Rattle.art_map.proofs.range.ends_between.Goals as goal
 

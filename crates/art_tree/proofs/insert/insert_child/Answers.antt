@@ -31,8 +31,8 @@ reserve_for_child-requires g c =
     let is_inner : node_kind c.args.spot.node ≢ Leaf = there-inner place in
     search
 
-pub leaf_beside-end-requires : goal.leaf_beside-end-requires
-leaf_beside-end-requires g c =
+pub leaf_beside_child-end-requires : goal.leaf_beside_child-end-requires
+leaf_beside_child-end-requires g c =
     let reserved = c.reserve_for_child.new.arena in
     let place = child-reserved c.args.arena.now reserved c.requires.place c.reserve_for_child.ensures.nodes_kept c.ranges.byte.fits in
     let has_place : HasPlaceAt g.K.AsBytes.text reserved c.args.spot.node c.args.byte = place-there place in
@@ -43,9 +43,9 @@ link_leaf-leaf-requires g c =
     let text = g.K.AsBytes.text in
     let reserved = c.reserve_for_child.new.arena in
     let place = child-reserved c.args.arena.now reserved c.requires.place c.reserve_for_child.ensures.nodes_kept c.ranges.byte.fits in
-    let beside = c.leaf_beside-end.ensures (place-there place) in
-    let sibling = slab_key c.leaf_beside-end.result.0 in
-    let end = c.leaf_beside-end.result.1 in
+    let beside = c.leaf_beside_child-end.ensures.beside (place-there place) in
+    let sibling = slab_key c.leaf_beside_child-end.result.0 in
+    let end = c.leaf_beside_child-end.result.1 in
     let has_room : 0 < room reserved Leaf = ok-then c.reserve_for_child.result (0 < room reserved Leaf) c.is_err.ensures.value c.if-is_err.false c.reserve_for_child.ensures.leaf_room in
     let has_gap : HasGap reserved end sibling = child-gap place end sibling beside in
     let order : LiesBeside end (text c.args.key) (text_at text reserved sibling) = child-lies place end sibling beside c.requires.short c.texts_ascend.ensures in
@@ -92,7 +92,7 @@ returns g c =
     let top = c.add_child-node.result in
     let more = subst (λ child. ChildAdded linked new c.args.spot.node c.args.byte child top) c.to_opaque.ensures c.add_child-node.ensures.added in
     let added = child-added place linked (leaf_pointer c.link_leaf-leaf.result) link.was_free link.others new top c.args.value link.entry c.each_pointer_is_at_one_place.ensures more
-    c.hang.new.arena c.hang.result c.hang.ensures.hung c.requires.short c.leaf_beside-end.result.1 (slab_key c.leaf_beside-end.result.0) (c.leaf_beside-end.ensures (place-there place)) link.spelled c.no_text_begins_another.ensures in
+    c.hang.new.arena c.hang.result c.hang.ensures.hung c.requires.short c.leaf_beside_child-end.result.1 (slab_key c.leaf_beside_child-end.result.0) (c.leaf_beside_child-end.ensures.beside (place-there place)) link.spelled c.no_text_begins_another.ensures in
     record {
       art = added.0;
       entered = entered-from text old reserved c.hang.new.arena c.args.key c.args.value c.args.root tree alone (c.no_text_begins_another.ensures [] tree alone.is_tree.sound) kept added.1;

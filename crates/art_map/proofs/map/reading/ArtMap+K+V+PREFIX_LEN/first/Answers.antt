@@ -1,7 +1,7 @@
 use Rattle.std.proofs.Common.{◌∙◌, [], ap, not, slice_get}
 use Rattle.art_tree.specs.Entries.{entries_of}
-use Rattle.art_map.specs.Cuts.{is_before}
-use Rattle.art_map.specs.declared.cut.Side.TheVariants.{Before}
+use Rattle.art_tree.specs.Sides.{is_before}
+use Rattle.art_tree.specs.declared.place.Side.TheVariants.{Before}
 use Rattle.art_map.proofs.TextLemmas.{filter-all, none-before}
 use Rattle.art_map.proofs.map.reading.ArtMap+K+V+PREFIX_LEN.first.Goals as goal
 

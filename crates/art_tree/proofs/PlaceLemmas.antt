@@ -1,0 +1,5 @@
+pub mod TextsBelow
+pub mod TowardLemmas
+pub mod WayPlaces
+pub mod SideLemmas
+pub mod SidesAround
