@@ -31,7 +31,7 @@ use Rattle.art_tree.proofs.LoadLemmas.PlacedTrees.{text-held}
 use Rattle.art_tree.proofs.LoadLemmas.RefusalLemmas.{fork-later}
 use Rattle.art_tree.proofs.SharedLemmas.ClashLemmas.{mapped-from}
 use Rattle.art_tree.proofs.SharedLemmas.DictionaryLemmas.{AreApart, alone-loaded, entry-held, held-entry, leaf-held-in, loaded-entry, loaded-text, text-of-entry}
-use Rattle.art_tree.proofs.InsertLemmas.PlaceLemmas.{some-text}
+use Rattle.art_tree.proofs.PlaceLemmas.WayPlaces.{some-text}
 use Rattle.art_arena.proofs.StandingLaws.{leaf_place}
 
 -- a text that is less than another, and no prefix of it, differs from it at some byte
