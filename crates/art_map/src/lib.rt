@@ -6,6 +6,7 @@
 mod cut;
 mod debug;
 mod each_value;
+mod guide;
 mod into_iter;
 mod iter;
 mod keys;
