@@ -15,8 +15,10 @@ use std::ops::Bound;
 const LEAST_LEAVES: usize = 20_000;
 // How many entries come by the links before the way is sought, so that short ranges pay nothing.
 const FIRST_WAIT: usize = 6;
-// The same after the way was lost.
-const WAIT: usize = 64;
+// The same after the way was lost, or where nodes have few leaves: at first, and at most.
+const LEAST_PAUSE: usize = 64;
+
+const MOST_PAUSE: usize = 4096;
 // How deep a leaf may lie at most, so that each entry takes constant time.
 const DEEPEST: usize = 32;
 // How many nodes of the way are kept, the lowest ones.
@@ -27,6 +29,8 @@ const MOST_LEAVES: usize = 12;
 const ENOUGH_LEAVES: usize = 6;
 // How many nodes are visited at once.
 const VISITS: usize = 16;
+// Where a visit finds fewer leaves, twice in a row, the links are faster.
+const LEAVES_A_VISIT: usize = 3;
 
 /// A way down a tree, and the leaves that are expected next. Nodes and leaves are numbers here, and
 /// none needs to be there.
@@ -45,8 +49,11 @@ pub(crate) struct Guide {
     leaves: [usize; MOST_LEAVES],
     taken: usize,
     count: usize,
-    // How many more entries come by the links.
+    // How many more entries come by the links, and how many after the way is lost again.
     wait: usize,
+    pause: usize,
+    // Whether the last visits found few leaves.
+    is_thin: bool,
 }
 
 // Where a look at the children of a node stops.
@@ -141,6 +148,8 @@ impl Guide {
             } else {
                 FIRST_WAIT
             },
+            pause: LEAST_PAUSE,
+            is_thin: false,
         }
     }
 
@@ -172,9 +181,16 @@ impl Guide {
     #[cold]
     #[inline(never)]
     pub(crate) fn lose_way(&mut self) {
-        self.depth = 0;
         self.count = 0;
-        self.wait = WAIT;
+        self.pause();
+    }
+
+    // Gives up the way for a while, each time for longer.
+    fn pause(&mut self) {
+        self.depth = 0;
+        self.is_thin = false;
+        self.wait = self.pause;
+        self.pause = self.pause.saturating_mul(2).min(MOST_PAUSE);
     }
 
     // Expects nothing more, and takes entries from this end.
@@ -198,18 +214,33 @@ impl Guide {
         if self.depth == 0 {
             self.seek(arena, leaf);
         }
+        let mut due = 0;
         for _ in 0..VISITS {
             if self.count >= ENOUGH_LEAVES || self.depth == 0 {
                 break;
             }
             self.visit(arena);
+            due = LEAVES_A_VISIT.saturating_add(due);
         }
         if self.count == 0 {
             self.lose_way();
             return None;
         }
+        self.judge(due);
         self.taken = 1;
         Some(self.leaves[0])
+    }
+
+    // Goes on by the links where fewer leaves than these were found twice in a row.
+    fn judge(&mut self, due: usize) {
+        if self.count >= due {
+            self.is_thin = false;
+            self.pause = LEAST_PAUSE;
+        } else if self.is_thin {
+            self.pause();
+        } else {
+            self.is_thin = true;
+        }
     }
 
     // Goes down from the root toward this leaf.
