@@ -4,6 +4,7 @@ ghost use Rattle.std.specs.Iterator.{YieldsFirstBy, YieldsLastBy, item_count};
 
 use crate::iter::{HasRuns, Iter, Run};
 use art_arena::NodeArena;
+use art_bytes::AsBytes;
 use art_nodes::{LeafNode, NodePtr};
 use std::iter::FusedIterator;
 use std::marker::Model;
@@ -32,7 +33,7 @@ pub type Keys<'a, K, V, const PREFIX_LEN: usize> = RunKeys<
     V,
 >;
 
-impl<'a, K, V, const PREFIX_LEN: usize> Iterator for Keys<'a, K, V, PREFIX_LEN> {
+impl<'a, K: AsBytes, V, const PREFIX_LEN: usize> Iterator for Keys<'a, K, V, PREFIX_LEN> {
     type Item = &'a K;
 
     ghost next_gives = { YieldsFirstBy (λ item. item.now) (λ rest. rest) };
@@ -52,7 +53,8 @@ impl<'a, K, V, const PREFIX_LEN: usize> Iterator for Keys<'a, K, V, PREFIX_LEN> 
     }
 }
 
-impl<'a, K, V, const PREFIX_LEN: usize> DoubleEndedIterator for Keys<'a, K, V, PREFIX_LEN> {
+impl<'a, K: AsBytes, V, const PREFIX_LEN: usize> DoubleEndedIterator
+    for Keys<'a, K, V, PREFIX_LEN> {
     ghost next_back_gives = { YieldsLastBy (λ item. item.now) (λ rest. rest) };
 
     fn next_back(&mut self) -> Option<&'a K> {
@@ -63,7 +65,7 @@ impl<'a, K, V, const PREFIX_LEN: usize> DoubleEndedIterator for Keys<'a, K, V, P
     }
 }
 
-impl<'a, K, V, const PREFIX_LEN: usize> FusedIterator for Keys<'a, K, V, PREFIX_LEN> {}
+impl<'a, K: AsBytes, V, const PREFIX_LEN: usize> FusedIterator for Keys<'a, K, V, PREFIX_LEN> {}
 
 /// The values of the entries that are left. Callers name it [`Values`].
 #[derive(Drop)]
@@ -89,7 +91,7 @@ pub type Values<'a, K, V, const PREFIX_LEN: usize> = RunValues<
     V,
 >;
 
-impl<'a, K, V, const PREFIX_LEN: usize> Iterator for Values<'a, K, V, PREFIX_LEN> {
+impl<'a, K: AsBytes, V, const PREFIX_LEN: usize> Iterator for Values<'a, K, V, PREFIX_LEN> {
     type Item = &'a V;
 
     ghost next_gives = { YieldsFirstBy (λ item. item.now) (λ rest. rest) };
@@ -109,7 +111,8 @@ impl<'a, K, V, const PREFIX_LEN: usize> Iterator for Values<'a, K, V, PREFIX_LEN
     }
 }
 
-impl<'a, K, V, const PREFIX_LEN: usize> DoubleEndedIterator for Values<'a, K, V, PREFIX_LEN> {
+impl<'a, K: AsBytes, V, const PREFIX_LEN: usize> DoubleEndedIterator
+    for Values<'a, K, V, PREFIX_LEN> {
     ghost next_back_gives = { YieldsLastBy (λ item. item.now) (λ rest. rest) };
 
     fn next_back(&mut self) -> Option<&'a V> {
@@ -120,7 +123,7 @@ impl<'a, K, V, const PREFIX_LEN: usize> DoubleEndedIterator for Values<'a, K, V,
     }
 }
 
-impl<'a, K, V, const PREFIX_LEN: usize> FusedIterator for Values<'a, K, V, PREFIX_LEN> {}
+impl<'a, K: AsBytes, V, const PREFIX_LEN: usize> FusedIterator for Values<'a, K, V, PREFIX_LEN> {}
 
 /// The keys of these entries.
 pub(crate) fn keys_of<'a, K, V, const PREFIX_LEN: usize>(

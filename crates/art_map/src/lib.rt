@@ -5,6 +5,7 @@
 
 mod debug;
 mod each_value;
+mod guide;
 mod into_iter;
 mod iter;
 mod keys;

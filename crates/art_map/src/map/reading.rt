@@ -91,7 +91,7 @@ impl<K: AsBytes, V, const PREFIX_LEN: usize> ArtMap<K, V, PREFIX_LEN> {
             (λ entry. is_between start_side start.now end_side end.now (K.text entry.0)) self.now }
     {
         let ends = ends_between(&self.tree, start_side, start, end_side, end);
-        run_between(self.tree.arena(), ends)
+        run_between(self.tree.arena(), self.tree.root(), ends)
     }
 
     /// The entries, in ascending order of the bytes of their keys, and from the back in descending
