@@ -1,22 +1,65 @@
 //! The leaves, and the entry, next to a side of a key.
-ghost use Rattle.std.specs.Prelude.{◌≡◌, Some, filter, not, slice_get};
+ghost use Rattle.std.specs.Prelude.{◌≡◌, ℕ, List, Some, filter, not, slice_get};
 ghost use Rattle.std.specs.Option.{option_map};
+ghost use Rattle.art_nodes.specs.Pointers.{slab_key};
+ghost use Rattle.art_arena.specs.Links.{HoldsLeaf};
 ghost use Rattle.art_arena.specs.Trees.{leaves};
 ghost use Rattle.art_tree.specs.Art.{IsAlone};
 ghost use Rattle.art_tree.specs.Entries.{entries_of};
 ghost use Rattle.art_tree.specs.Search.{leaf_pointer};
-ghost use Rattle.art_tree.specs.Sides.{is_before};
+ghost use Rattle.art_tree.specs.Sides.{is_before, IsNextTo};
+ghost use Rattle.art_tree.specs.declared.place.Side.{Side};
 ghost use Rattle.art_map.specs.Nearest.{IsFirstAfter, IsLastBefore};
 
 use crate::leaf_entries::leaves_hold_the_entries;
 use art_bytes::AsBytes;
 use art_nodes::{LeafNode, NodePtr};
 use art_tree::laws::{each_leaf_of_a_list_is_knit, entries_are_what_leaves_hold};
-use art_tree::{ArtTree, End, Side, leaf_beside};
+use art_tree::{ArtTree, End, NodeArena, Side, leaf_beside};
+
+/// The first leaf after a side of a key, by the leaf beside that side, or None where all are before
+/// it.
+pub(crate) fn leaf_after<K: AsBytes, V, const PREFIX_LEN: usize>(
+    arena: &NodeArena<K, V, PREFIX_LEN>,
+    beside: (NodePtr<PREFIX_LEN, LeafNode<K, V, PREFIX_LEN>>, End),
+) -> Option<NodePtr<PREFIX_LEN, LeafNode<K, V, PREFIX_LEN>>>
+    requires { HoldsLeaf arena.now (slab_key beside.0) }
+    ensures { (root whole : _) (side : Side) (key : List ℕ) →
+        IsAlone K.text arena.now root whole →
+        IsNextTo side key (leaves whole) beside.1 (leaf_pointer beside.0) →
+        IsFirstAfter side key (leaves whole) (option_map leaf_pointer result) }
+{
+    each_leaf_of_a_list_is_knit::<K, V, PREFIX_LEN>();
+    entries_are_what_leaves_hold::<K, V, PREFIX_LEN>();
+    match beside.1 {
+        End::First => Some(beside.0),
+        End::Last => arena.as_ref(beside.0).next(),
+    }
+}
+
+/// The last leaf before a side of a key, by the leaf beside that side, or None where all are after
+/// it.
+pub(crate) fn leaf_before<K: AsBytes, V, const PREFIX_LEN: usize>(
+    arena: &NodeArena<K, V, PREFIX_LEN>,
+    beside: (NodePtr<PREFIX_LEN, LeafNode<K, V, PREFIX_LEN>>, End),
+) -> Option<NodePtr<PREFIX_LEN, LeafNode<K, V, PREFIX_LEN>>>
+    requires { HoldsLeaf arena.now (slab_key beside.0) }
+    ensures { (root whole : _) (side : Side) (key : List ℕ) →
+        IsAlone K.text arena.now root whole →
+        IsNextTo side key (leaves whole) beside.1 (leaf_pointer beside.0) →
+        IsLastBefore side key (leaves whole) (option_map leaf_pointer result) }
+{
+    each_leaf_of_a_list_is_knit::<K, V, PREFIX_LEN>();
+    entries_are_what_leaves_hold::<K, V, PREFIX_LEN>();
+    match beside.1 {
+        End::First => arena.as_ref(beside.0).previous(),
+        End::Last => Some(beside.0),
+    }
+}
 
 /// The first leaf of a tree after this side of the key, or None where all are before it. Takes no
 /// memory.
-pub(crate) fn first_after<K: AsBytes, V, const PREFIX_LEN: usize>(
+fn first_after<K: AsBytes, V, const PREFIX_LEN: usize>(
     tree: &ArtTree<K, V, PREFIX_LEN>,
     side: Side,
     key: &[u8],
@@ -25,37 +68,9 @@ pub(crate) fn first_after<K: AsBytes, V, const PREFIX_LEN: usize>(
         IsAlone K.text tree.now.arena root whole →
         IsFirstAfter side key.now (leaves whole) (option_map leaf_pointer result) }
 {
-    each_leaf_of_a_list_is_knit::<K, V, PREFIX_LEN>();
-    entries_are_what_leaves_hold::<K, V, PREFIX_LEN>();
     let root = tree.root()?;
     let arena = tree.arena();
-    let (leaf, end) = leaf_beside(arena, root, key, side);
-    match end {
-        End::First => Some(leaf),
-        End::Last => arena.as_ref(leaf).next(),
-    }
-}
-
-/// The last leaf of a tree before this side of the key, or None where all are after it. Takes no
-/// memory.
-pub(crate) fn last_before<K: AsBytes, V, const PREFIX_LEN: usize>(
-    tree: &ArtTree<K, V, PREFIX_LEN>,
-    side: Side,
-    key: &[u8],
-) -> Option<NodePtr<PREFIX_LEN, LeafNode<K, V, PREFIX_LEN>>>
-    ensures { (root whole : _) → tree.now.root ≡ Some root →
-        IsAlone K.text tree.now.arena root whole →
-        IsLastBefore side key.now (leaves whole) (option_map leaf_pointer result) }
-{
-    each_leaf_of_a_list_is_knit::<K, V, PREFIX_LEN>();
-    entries_are_what_leaves_hold::<K, V, PREFIX_LEN>();
-    let root = tree.root()?;
-    let arena = tree.arena();
-    let (leaf, end) = leaf_beside(arena, root, key, side);
-    match end {
-        End::First => arena.as_ref(leaf).previous(),
-        End::Last => Some(leaf),
-    }
+    leaf_after(arena, leaf_beside(arena, root, key, side))
 }
 
 /// The first entry after this side of the key, or None where all are before it. Takes no memory.

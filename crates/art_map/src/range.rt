@@ -6,10 +6,10 @@ ghost use Rattle.art_map.specs.Nearest.{is_between};
 ghost use Rattle.art_map.specs.Runs.{run_of, IsRun};
 
 use crate::leaf_entries::leaves_hold_the_entries;
-use crate::nearest::{first_after, last_before};
+use crate::nearest::{leaf_after, leaf_before};
 use art_bytes::AsBytes;
 use art_nodes::{LeafNode, NodePtr};
-use art_tree::{ArtTree, Side};
+use art_tree::{ArtTree, Side, leaves_beside};
 
 // Whether a text comes before this side of the key.
 fn is_before(side: Side, key: &[u8], text: &[u8]) -> bool
@@ -43,10 +43,12 @@ pub(crate) fn ends_between<K: AsBytes, V, const PREFIX_LEN: usize>(
         (entries_of K.text tree.now.arena) }
 {
     leaves_hold_the_entries::<K, V, PREFIX_LEN>();
-    let _root = tree.root()?;
-    let first = first_after(tree, start_side, start)?;
-    let last = last_before(tree, end_side, end)?;
-    let text = tree.arena().as_ref(first).key_ref().as_bytes();
+    let root = tree.root()?;
+    let arena = tree.arena();
+    let (from, to) = leaves_beside(arena, root, start, start_side, end, end_side);
+    let first = leaf_after(arena, from)?;
+    let last = leaf_before(arena, to)?;
+    let text = arena.as_ref(first).key_ref().as_bytes();
     if is_before(end_side, end, text) {
         Some((first, last))
     } else {

@@ -42,5 +42,5 @@ pub use find::find_leaf;
 pub use insert::{InsertFault, InsertRefusal};
 pub use loading::{LoadFault, LoadRefusal, load};
 pub use path::{TreePath, TreePathSearch};
-pub use place::{Side, leaf_beside};
+pub use place::{Side, leaf_beside, leaves_beside};
 pub use tree::{ArtTree, HoldsOneTree, Rooted};

@@ -1,5 +1,5 @@
 //! The place of a key in a tree, and the leaf beside it.
-ghost use Rattle.std.specs.Prelude.{◌≡◌, ◌≢◌, ◌<◌, ℕ, List, Contains, length, drop, option_copied, true, nat_lt, if◌then◌else◌, IfSome, IfNone, IfOk, IfErr};
+ghost use Rattle.std.specs.Prelude.{◌≡◌, ◌≢◌, ◌<◌, ◌≤◌, ◌⊎◌, ℕ, List, Contains, length, drop, option_copied, true, nat_lt, if◌then◌else◌, IfSome, IfNone, IfOk, IfErr};
 ghost use Rattle.std.specs.Option.{option_map};
 ghost use Rattle.std.specs.declared.cmp.Ordering.TheVariants.{Equal, Greater};
 ghost use Rattle.std.specs.declared.ops.Bound.TheVariants.{Excluded, Unbounded};
@@ -301,6 +301,31 @@ fn place_at_leaf<K: AsBytes, V, const PREFIX_LEN: usize>(
     Place::Differs { spot, mismatch }
 }
 
+// The place of a key, by a search that begins at a spot to which the key leads.
+fn find_place_from<K: AsBytes, V, const PREFIX_LEN: usize>(
+    arena: &NodeArena<K, V, PREFIX_LEN>,
+    spot: Spot<K, V, PREFIX_LEN>,
+    key: &[u8],
+) -> Place<K, V, PREFIX_LEN>
+    requires { (tree : _) × IsSpotIn K.text arena.now tree key.now spot }
+    ensures { (tree : _) → IsSpotIn K.text arena.now tree key.now spot →
+        Belongs tree key.now result }
+{
+    let mut at = spot;
+    let mut known = None;
+    'way: loop {
+        match next_spot(arena, at, key, known) {
+            Ok((next, text)) => {
+                at = next;
+                known = text;
+            }
+            Err(place) => {
+                return place;
+            }
+        }
+    }
+}
+
 /// The place of the key in the tree at `root`. Takes no memory.
 pub(crate) fn find_place<K: AsBytes, V, const PREFIX_LEN: usize>(
     arena: &NodeArena<K, V, PREFIX_LEN>,
@@ -310,20 +335,53 @@ pub(crate) fn find_place<K: AsBytes, V, const PREFIX_LEN: usize>(
     requires tree { HasTree K.text arena.now root }
     ensures { EachTree K.text arena.now root (λ tree. Belongs tree key.now result) }
 {
-    let mut spot = Spot {
+    let spot = Spot {
         node: root,
         depth: 0,
         parent: None,
     };
+    find_place_from(arena, spot, key)
+}
+
+// The next spot, where so many bytes lead to it, and else the one before.
+fn last_shared<K, V, const PREFIX_LEN: usize>(
+    before: Spot<K, V, PREFIX_LEN>,
+    next: Spot<K, V, PREFIX_LEN>,
+    shared: usize,
+) -> Spot<K, V, PREFIX_LEN>
+    ensures { ((next.depth ≤ shared) × (result ≡ next)) ⊎ (result ≡ before) }
+{
+    if next.depth <= shared { next } else { before }
+}
+
+// The places of two keys in the tree at `root`. The search goes down once as far as both lead.
+fn find_places<K: AsBytes, V, const PREFIX_LEN: usize>(
+    arena: &NodeArena<K, V, PREFIX_LEN>,
+    root: OpaqueNodePtr<K, V, PREFIX_LEN>,
+    first: &[u8],
+    second: &[u8],
+) -> (Place<K, V, PREFIX_LEN>, Place<K, V, PREFIX_LEN>)
+    requires tree { HasTree K.text arena.now root }
+    ensures first { EachTree K.text arena.now root (λ tree. Belongs tree first.now result.0) }
+    ensures second { EachTree K.text arena.now root (λ tree. Belongs tree second.now result.1) }
+{
+    let shared = common_prefix_len(first, second);
+    let mut at = Spot {
+        node: root,
+        depth: 0,
+        parent: None,
+    };
+    let mut fork = at;
     let mut known = None;
     'way: loop {
-        match next_spot(arena, spot, key, known) {
+        match next_spot(arena, at, first, known) {
             Ok((next, text)) => {
-                spot = next;
+                fork = last_shared(fork, next, shared);
+                at = next;
                 known = text;
             }
             Err(place) => {
-                return place;
+                return (place, find_place_from(arena, fork, second));
             }
         }
     }
@@ -479,4 +537,42 @@ pub fn leaf_beside<K: AsBytes, V, const PREFIX_LEN: usize>(
 {
     let place = find_place(arena, root, key);
     leaf_beside_place(arena, place, side)
+}
+
+/// The leaves beside two sides of keys in the tree at `root`, each as [`leaf_beside`] returns it. The
+/// search goes down once as far as both keys lead. Takes no memory.
+///
+/// In a tree with the keys `abc1`, `abc2` and `b`, whose values are 0, 1 and 2, `(0, End::First)` is
+/// `from` right before `ab`, and `(1, End::Last)` is `to` right after all that begins with it:
+///
+/// (from crates/art_tree_tests/src/tree/searches.rt)
+/// ```rust
+/// let ((leaf, end), last) = leaves_beside(arena, root, key, Side::Before, key, Side::AfterBegun);
+/// assert!(rt; (*arena.as_value_ref(leaf), end) == from);
+/// assert!(rt; (*arena.as_value_ref(last.0), last.1) == to);
+/// ```
+pub fn leaves_beside<K: AsBytes, V, const PREFIX_LEN: usize>(
+    arena: &NodeArena<K, V, PREFIX_LEN>,
+    root: OpaqueNodePtr<K, V, PREFIX_LEN>,
+    start: &[u8],
+    start_side: Side,
+    end: &[u8],
+    end_side: Side,
+) -> (
+    (NodePtr<PREFIX_LEN, LeafNode<K, V, PREFIX_LEN>>, End),
+    (NodePtr<PREFIX_LEN, LeafNode<K, V, PREFIX_LEN>>, End),
+)
+    requires tree { HasTree K.text arena.now root }
+    ensures start { EachTree K.text arena.now root (λ tree.
+        IsNextTo start_side start.now (leaves tree) result.0.1 (leaf_pointer result.0.0)) }
+    ensures end { EachTree K.text arena.now root (λ tree.
+        IsNextTo end_side end.now (leaves tree) result.1.1 (leaf_pointer result.1.0)) }
+    ensures start_held { HoldsLeaf arena.now (slab_key result.0.0) }
+    ensures end_held { HoldsLeaf arena.now (slab_key result.1.0) }
+{
+    let (first, second) = find_places(arena, root, start, end);
+    (
+        leaf_beside_place(arena, first, start_side),
+        leaf_beside_place(arena, second, end_side),
+    )
 }

@@ -2,7 +2,7 @@
 ghost use Rattle.art_tree.specs.Search.{HasTree};
 
 use super::*;
-use art_tree::{End, Side, any_leaf, end_leaf, leaf_beside};
+use art_tree::{End, Side, any_leaf, end_leaf, leaf_beside, leaves_beside};
 
 // The first leaf and the last one of the tree have these numbers.
 fn check_ends<K: AsBytes, const PREFIX_LEN: usize>(
@@ -36,6 +36,22 @@ fn check_beside<K: AsBytes, const PREFIX_LEN: usize>(
     assert!(rt; (*arena.as_value_ref(leaf), end) == expected);
 }
 
+// The leaves beside the keys that begin with this one have these numbers, and are these ends.
+fn check_begun<K: AsBytes, const PREFIX_LEN: usize>(
+    rt: &impl Abort,
+    arena: &NodeArena<K, usize, PREFIX_LEN>,
+    root: OpaqueNodePtr<K, usize, PREFIX_LEN>,
+    key: &[u8],
+    from: (usize, End),
+    to: (usize, End),
+)
+    requires { HasTree K.text arena.now root }
+{
+    let ((leaf, end), last) = leaves_beside(arena, root, key, Side::Before, key, Side::AfterBegun);
+    assert!(rt; (*arena.as_value_ref(leaf), end) == from);
+    assert!(rt; (*arena.as_value_ref(last.0), last.1) == to);
+}
+
 // The ends of the tree of abc1, abc2 and b, and the leaves beside three keys.
 fn check_tree_of_three<K: AsBytes, const PREFIX_LEN: usize>(
     rt: &impl Abort,
@@ -48,6 +64,7 @@ fn check_tree_of_three<K: AsBytes, const PREFIX_LEN: usize>(
     check_beside(rt, arena, root, b"abc2", Side::After, (1, End::Last));
     check_beside(rt, arena, root, b"ab", Side::Before, (0, End::First));
     check_beside(rt, arena, root, b"ab", Side::AfterBegun, (1, End::Last));
+    check_begun(rt, arena, root, b"ab", (0, End::First), (1, End::Last));
 }
 
 fn check_ends_of_three<const PREFIX_LEN: usize>(

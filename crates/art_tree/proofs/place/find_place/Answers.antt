@@ -1,17 +1,17 @@
-use Rattle.std.proofs.Common.{ℕ, ◌-◌, ◌<◌, ◌≤◌, arith}
-use Rattle.art_tree.proofs.PlaceLemmas.WayPlaces.{depth-within}
+use Rattle.std.proofs.Common.{None}
+use Rattle.art_arena.specs.Trees.{Tree}
+use Rattle.art_tree.specs.Places.{IsSpotIn}
+use Rattle.art_tree.proofs.InsertLemmas.NodeLemmas.{leaf-pointer-fits, slice-fits, spot-fits}
+use Rattle.art_tree.proofs.PlaceLemmas.SharedSpots.{root-spot}
 use Rattle.art_tree.proofs.place.find_place.Goals as goal
 
-smaller : (all now next : ℕ) → now < next → next ≤ all → all - next < all - now
-smaller all now next more within = omega (arith, more, within)
-
-pub way-preserved : goal.way-preserved
-way-preserved g c = λ tree is. c.in-Ok.ensures.on tree (c.way.invariant tree is)
-
-pub returns-in-Err : goal.returns-in-Err
-returns-in-Err g c = λ tree is. c.in-Err.ensures.place tree (c.way.invariant tree is)
-
-pub way-smaller : goal.way-smaller
-way-smaller g c =
+pub find_place_from-requires : goal.find_place_from-requires
+find_place_from-requires g c =
+    let text = g.K.AsBytes.text in
+    let arena = c.args.arena.now in
     let (tree, is) = c.requires.tree in
-    smaller _ _ _ c.in-Ok.ensures.deeper (depth-within g.K.AsBytes.text c.args.arena.now tree c.args.key.now c.in-Ok.next (c.in-Ok.ensures.on tree (c.way.invariant tree is)).spot_in)
+    let at_root : (t : Tree _) × IsSpotIn text arena t c.args.key.now (record { node = c.args.root; depth = 0; parent = None }) = (tree, root-spot text arena tree c.args.key.now c.args.root is) in
+    assumption (leaf-pointer-fits, slice-fits, spot-fits)
+
+pub returns : goal.returns
+returns g c = λ tree is. c.find_place_from.ensures tree (root-spot g.K.AsBytes.text c.args.arena.now tree c.args.key.now c.args.root is)
