@@ -29,7 +29,7 @@ const MOST_LEAVES: usize = 12;
 const ENOUGH_LEAVES: usize = 6;
 // How many nodes are visited at once.
 const VISITS: usize = 16;
-// Where a visit finds fewer leaves, twice in a row, the links are faster.
+// Where a visit finds fewer leaves, the links are faster.
 const LEAVES_A_VISIT: usize = 3;
 
 /// A way down a tree, and the leaves that are expected next. Nodes and leaves are numbers here, and
@@ -52,7 +52,7 @@ pub(crate) struct Guide {
     // How many more entries come by the links, and how many after the way is lost again.
     wait: usize,
     pause: usize,
-    // Whether the last visits found few leaves.
+    // Whether the last visits found few leaves, or there were none yet.
     is_thin: bool,
 }
 
@@ -149,7 +149,7 @@ impl Guide {
                 FIRST_WAIT
             },
             pause: LEAST_PAUSE,
-            is_thin: false,
+            is_thin: true,
         }
     }
 
@@ -188,7 +188,7 @@ impl Guide {
     // Gives up the way for a while, each time for longer.
     fn pause(&mut self) {
         self.depth = 0;
-        self.is_thin = false;
+        self.is_thin = true;
         self.wait = self.pause;
         self.pause = self.pause.saturating_mul(2).min(MOST_PAUSE);
     }
@@ -231,7 +231,7 @@ impl Guide {
         Some(self.leaves[0])
     }
 
-    // Goes on by the links where fewer leaves than these were found twice in a row.
+    // Goes on by the links where fewer leaves than these were found, at first or twice in a row.
     fn judge(&mut self, due: usize) {
         if self.count >= due {
             self.is_thin = false;
