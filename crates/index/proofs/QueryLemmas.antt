@@ -2,17 +2,24 @@
 use Rattle.std.proofs.Common.{◌≡◌, ◌≢◌, ◌∙◌, inl, inr, ℕ, ℤ, List, ◌∷◌, ◌++◌, sym, ap, subst, arith}
 use Rattle.std.specs.Prelude.{codes, Result, Ok, Err, OnErr}
 use Rattle.std.specs.declared.net.Ipv6Addr.{Ipv6Addr}
-use Rattle.program_lines.specs.Lines.{HasNo, IsCutAt}
+use Rattle.program_lines.specs.Lines.{EndsInReturn, HasNo, IsCutAt}
 use Rattle.program_lines.proofs.Cuts.{same_cut, cut_has_one}
+use Rattle.index.specs.declared.fault.Fault.{Fault}
+use Rattle.index.specs.declared.fault.Fault.TheVariants.{NoHeader, CarriageReturn, MissingField, BadAddress, BadTime, UnknownQuery}
 use Rattle.index.specs.declared.query.Query.{Query}
 use Rattle.index.specs.declared.query.Query.TheVariants.{Host, First, Last, Count}
 use Rattle.index.specs.Fields.{IsAddress, IsTime}
-use Rattle.index.specs.Queries.{AreBounds, SayHost, SayQuery}
+use Rattle.index.specs.Queries.{AreBounds, AskFor, HasBounds, IsAskFault, IsQueryFault, SayHost}
 
 -- what is so anyway, is so of an error
 pub anyway : {X E : Type 0} {Q : Type 0} (result : Result X E) → Q → OnErr result Q
 anyway (Ok x) so = tt
 anyway (Err e) so = so
+
+-- what follows of that an error says
+pub on_err : {X E : Type 0} {P Q : Type 0} (result : Result X E) → (P → Q) → OnErr result P → OnErr result Q
+on_err (Ok x) more so = tt
+on_err (Err e) more so = more so
 
 heads : {a b : ℕ} {xs ys : List ℕ} → a ∷ xs ≡ b ∷ ys → a ≡ b
 heads same = cc
@@ -24,26 +31,30 @@ module _ (text rest : List ℕ) (begins : text ≡ codes "from " ++ rest) where
       let both : codes "from " ++ rest ≡ codes "from " ++ (first ++ (codes " to " ++ last)) = sym begins ∙ is in
       cc
 
-  pub no_space : HasNo 32 rest → (from to : ℤ) → AreBounds text from to → ⊥
-  no_space none from to (first, last, is, none_first, first_is, last_is) = cut_has_one 32 first (codes "to " ++ last) (subst (HasNo 32) (rest_is first last is) none)
+  pub no_space : HasNo 32 rest → (first last : List ℕ) → HasBounds text first last → ⊥
+  no_space none first last (is, none_first) = cut_has_one 32 first (codes "to " ++ last) (subst (HasNo 32) (rest_is first last is) none)
 
   module _ (first next : List ℕ) (cut : IsCutAt 32 rest first next) where
     parts_are : (other last : List ℕ) → text ≡ codes "from " ++ (other ++ (codes " to " ++ last)) → HasNo 32 other → (first ≡ other) × (next ≡ codes "to " ++ last)
     parts_are other last is none = same_cut 32 first other next (codes "to " ++ last) cut.1 none (sym cut.0 ∙ rest_is other last is)
 
-    pub no_last : ((last : List ℕ) → next ≢ codes "to " ++ last) → (from to : ℤ) → AreBounds text from to → ⊥
-    no_last refused from to (other, last, is, none, other_is, last_is) = refused last (parts_are other last is none).1
+    pub no_last : ((last : List ℕ) → next ≢ codes "to " ++ last) → (other last : List ℕ) → HasBounds text other last → ⊥
+    no_last refused other last (is, none) = refused last (parts_are other last is none).1
 
-    pub no_times : (last : List ℕ) → next ≡ codes "to " ++ last → ((from to : ℤ) → IsTime first from → IsTime last to → ⊥) → (from to : ℤ) → AreBounds text from to → ⊥
-    no_times last ends refused from to (other, later, is, none, other_is, later_is) =
-        let same = parts_are other later is none in
-        let both : codes "to " ++ last ≡ codes "to " ++ later = sym ends ∙ same.1 in
-        let last_is : last ≡ later = cc in
-        refused from to (subst (λ t. IsTime t from) (sym same.0) other_is) (subst (λ t. IsTime t to) (sym last_is) later_is)
+    module _ (last : List ℕ) (ends : next ≡ codes "to " ++ last) where
+      pub no_times : ((from to : ℤ) → IsTime first from → IsTime last to → ⊥) → (from to : ℤ) → AreBounds text from to → ⊥
+      no_times refused from to (other, later, (is, none), other_is, later_is) =
+          let same = parts_are other later is none in
+          let both : codes "to " ++ last ≡ codes "to " ++ later = sym ends ∙ same.1 in
+          let last_is : last ≡ later = cc in
+          refused from to (subst (λ t. IsTime t from) (sym same.0) other_is) (subst (λ t. IsTime t to) (sym last_is) later_is)
 
-    pub says_bounds : (last : List ℕ) (from to : ℤ) → next ≡ codes "to " ++ last → IsTime first from → IsTime last to → AreBounds text from to
-    says_bounds last from to ends from_is to_is =
-        (first, last, begins ∙ ap (λ r. codes "from " ++ r) (cut.0 ∙ ap (λ n. first ++ 32 ∷ n) ends), cut.1, from_is, to_is)
+      pub has_bounds : HasBounds text first last
+      has_bounds = (begins ∙ ap (λ r. codes "from " ++ r) (cut.0 ∙ ap (λ n. first ++ 32 ∷ n) ends), cut.1)
+
+-- where the words are no bounds, there are no times
+pub no_bounds : (text : List ℕ) → ((first last : List ℕ) → HasBounds text first last → ⊥) → (from to : ℤ) → AreBounds text from to → ⊥
+no_bounds text none from to (first, last, has, first_is, last_is) = none first last has
 
 -- what is no host
 pub no_address : (text : List ℕ) → HasNo 32 text → ((address : Ipv6Addr) → IsAddress text address → ⊥) → (address : Ipv6Addr) (from to : ℤ) → SayHost text address from to → ⊥
@@ -56,11 +67,12 @@ no_host text host bounds cut refused address from to (inr (other, later, is, non
     let same = same_cut 32 host other bounds later cut.1 none (sym cut.0 ∙ is) in
     refused address from to (subst (λ h. IsAddress h address) (sym same.0) is_address) (subst (λ b. AreBounds b from to) (sym same.1) are)
 
+-- a line that begins with another byte is none
 apart : {a b : ℕ} {xs ys : List ℕ} → a ∷ xs ≡ b ∷ ys → a ≢ b → ⊥
 apart same differ = differ (heads same)
 
 -- a line that begins so is no other query
-pub no_host_query : (line rest : List ℕ) → line ≡ codes "host " ++ rest → ((address : Ipv6Addr) (from to : ℤ) → SayHost rest address from to → ⊥) → (query : Query) → SayQuery line query → ⊥
+pub no_host_query : (line rest : List ℕ) → line ≡ codes "host " ++ rest → ((address : Ipv6Addr) (from to : ℤ) → SayHost rest address from to → ⊥) → (query : Query) → AskFor line query → ⊥
 no_host_query line rest begins refused (Host address from to) (text, is, said) =
     let both : codes "host " ++ rest ≡ codes "host " ++ text = sym begins ∙ is in
     let same : rest ≡ text = cc in
@@ -68,3 +80,18 @@ no_host_query line rest begins refused (Host address from to) (text, is, said) =
 no_host_query line rest begins refused First is = absurd (apart (sym begins ∙ is) (omega arith))
 no_host_query line rest begins refused Last is = absurd (apart (sym begins ∙ is) (omega arith))
 no_host_query line rest begins refused Count is = absurd (apart (sym begins ∙ is) (omega arith))
+
+-- what is wrong with a line that asks for nothing is no carriage return
+no_return : (line : List ℕ) → IsAskFault line CarriageReturn → ⊥
+no_return line (inl (is, none)) = absurd (cc)
+no_return line (inr (text, begins, inl (none, (is, refused)))) = absurd (cc)
+no_return line (inr (text, begins, inr (host, bounds, cut, inl (is, refused)))) = absurd (cc)
+no_return line (inr (text, begins, inr (host, bounds, cut, inr never))) = never
+
+pub query_fault : (line : List ℕ) (fault : Fault) → (EndsInReturn line → ⊥) → IsAskFault line fault → IsQueryFault line fault
+query_fault line CarriageReturn whole is = absurd (no_return line is)
+query_fault line NoHeader whole is = (whole, is)
+query_fault line MissingField whole is = (whole, is)
+query_fault line BadAddress whole is = (whole, is)
+query_fault line BadTime whole is = (whole, is)
+query_fault line UnknownQuery whole is = (whole, is)

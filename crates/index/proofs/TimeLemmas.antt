@@ -15,14 +15,14 @@ greatest_fits = search rules
 
 -- the times of a line
 pub time_fits : (line : List ℕ) (reading : Reading) → SayReading line reading → HasTime reading
-time_fits line reading said = said.7.2
+time_fits line reading said = said.1.7.2
 
 pub query_fits : (line : List ℕ) (query : Query) → SayQuery line query → HasTimes query
-query_fits line (Host address from to) said = by_side said.2
+query_fits line (Host address from to) said = by_side said.1.2
   where
-    by_side : SayHost said.0 address from to → HasTimes (Host address from to)
+    by_side : SayHost said.1.0 address from to → HasTimes (Host address from to)
     by_side (inl alone) = (rw alone.2 (least_fits), rw alone.3 (greatest_fits))
-    by_side (inr bounded) = (bounded.5.4.2, bounded.5.5.2)
+    by_side (inr bounded) = (bounded.5.3.2, bounded.5.4.2)
 query_fits line First said = tt
 query_fits line Last said = tt
 query_fits line Count said = tt

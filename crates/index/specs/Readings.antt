@@ -1,25 +1,68 @@
 -- What the lines of the table say.
-use Rattle.std.specs.Prelude.{◌≡◌, ◌⊎◌, ℕ, ◌-◌, List, ◌∷◌, ◌++◌, drop}
-use Rattle.program_lines.specs.Lines.{HasNo, lines_of, IsFirstBad}
+use Rattle.std.specs.Prelude.{◌≡◌, ◌⊎◌, ℕ, ℤ, ◌+◌, List, ◌∷◌, ◌++◌, codes}
+use Rattle.std.specs.declared.net.Ipv6Addr.{Ipv6Addr}
+use Rattle.program_lines.specs.Lines.{EndsInReturn, HasNo, IsCutAt, IsFirstBad, line_at, lines_of}
 use Rattle.program_lines.specs.declared.failure.BadLine.{BadLine}
 use Rattle.program_lines.specs.declared.failure.Place.TheVariants.{File}
 use Rattle.index.specs.declared.fault.Fault.{Fault}
+use Rattle.index.specs.declared.fault.Fault.TheVariants.{NoHeader, CarriageReturn, MissingField, BadAddress, BadTime}
+use Rattle.index.specs.declared.reading.Header.{Header}
+use Rattle.index.specs.declared.reading.Header.TheVariants as headers
 use Rattle.index.specs.declared.reading.Reading.{Reading}
 use Rattle.index.specs.Fields.{IsAddress, IsTime}
 
 -- the line is an address, a comma, a time, a comma and a value of any bytes
-abbrev pub SayReading : List ℕ → Reading → Type 0
-SayReading line reading =
+abbrev pub HasFields : List ℕ → Reading → Type 0
+HasFields line reading =
     (address time value : List ℕ) × (line ≡ address ++ 44 ∷ (time ++ 44 ∷ value)) × HasNo 44 address × HasNo 44 time
     × IsAddress address reading.address × IsTime time reading.time × (reading.line.now ≡ line)
 
--- the lines after the first one, which is the header
-abbrev pub row_lines : List ℕ → List (List ℕ)
-row_lines file = drop 1 (lines_of file)
+-- a line of the table is a reading: it has these fields, and no carriage return at its end
+abbrev pub SayReading : List ℕ → Reading → Type 0
+SayReading line reading = (¬ EndsInReturn line) × HasFields line reading
 
--- the first line is a reading, or this is the first line after it that is none
-abbrev pub IsBadRow : List ℕ → BadLine Fault → Type 0
-IsBadRow file bad =
+-- the line is no reading: it has fewer than two commas, what comes before the first is no address, or what
+-- comes before the second no time
+abbrev pub IsFieldFault : List ℕ → Fault → Type 0
+IsFieldFault line MissingField = HasNo 44 line ⊎ ((first rest : List ℕ) × IsCutAt 44 line first rest × HasNo 44 rest)
+IsFieldFault line BadAddress = (first rest : List ℕ) × IsCutAt 44 line first rest × ((address : Ipv6Addr) → ¬ IsAddress first address)
+IsFieldFault line BadTime =
+    (first rest second value : List ℕ) × IsCutAt 44 line first rest × IsCutAt 44 rest second value × ((time : ℤ) → ¬ IsTime second time)
+IsFieldFault line _ = ⊥
+
+-- what is wrong with a line that is no reading
+abbrev pub IsReadingFault : List ℕ → Fault → Type 0
+IsReadingFault line CarriageReturn = EndsInReturn line
+IsReadingFault line fault = (¬ EndsInReturn line) × IsFieldFault line fault
+
+-- the first line of a table
+abbrev pub header_line : List ℕ
+header_line = codes "address,time,value"
+
+-- these are the lines of the rows: those after the header, or all of them where there is to be none
+abbrev pub AreRowLines : Header → List ℕ → List (List ℕ) → Type 0
+AreRowLines headers.Given file rows = lines_of file ≡ header_line ∷ rows
+AreRowLines headers.Absent file rows = lines_of file ≡ rows
+
+-- how many lines come before the rows
+abbrev pub lines_before : Header → ℕ
+lines_before headers.Given = 1
+lines_before headers.Absent = 0
+
+-- what is wrong with the first line, where it is to be the header
+abbrev pub IsHeaderFault : List ℕ → Fault → Type 0
+IsHeaderFault file CarriageReturn = EndsInReturn (line_at (lines_of file) 1)
+IsHeaderFault file NoHeader = (¬ EndsInReturn (line_at (lines_of file) 1)) × ((rows : List (List ℕ)) → ¬ AreRowLines headers.Given file rows)
+IsHeaderFault file _ = ⊥
+
+-- this is the first of the rows that is no reading, by its number in a file where so many lines come before
+abbrev pub IsFirstBadRow : ℕ → List (List ℕ) → BadLine Fault → Type 0
+IsFirstBadRow before rows bad =
+    (number : ℕ) × (bad.number ≡ number + before) × IsFirstBad SayReading rows number × IsReadingFault (line_at rows number) bad.fault
+
+-- the header is missing, or this is the first row that is no reading
+abbrev pub IsBadRow : Header → List ℕ → BadLine Fault → Type 0
+IsBadRow header file bad =
     (bad.place ≡ File)
-    × (((header : List ℕ) × (reading : Reading) × (lines_of file ≡ header ∷ row_lines file) × SayReading header reading × (bad.number ≡ 1))
-    ⊎ IsFirstBad SayReading (row_lines file) (bad.number - 1))
+    × (((header ≡ headers.Given) × (bad.number ≡ 1) × IsHeaderFault file bad.fault)
+    ⊎ ((rows : List (List ℕ)) × AreRowLines header file rows × IsFirstBadRow (lines_before header) rows bad))

@@ -4,16 +4,17 @@ use Rattle.std.specs.Fmt.{decimal}
 use Rattle.std.specs.List.{flat_map}
 use Rattle.std.specs.Ordering.{int_cmp, is_eq, is_le, is_ge}
 use Rattle.std.specs.declared.net.Ipv6Addr.{Ipv6Addr}
-use Rattle.program_lines.specs.Lines.{line, lines_of, SayAll, IsFirstBad}
+use Rattle.program_lines.specs.Lines.{line, lines_of, line_at, SayAll, IsFirstBad}
 use Rattle.program_lines.specs.declared.failure.BadLine.{BadLine}
 use Rattle.program_lines.specs.declared.failure.Place.TheVariants.{Input}
 use Rattle.index.specs.declared.fault.Fault.{Fault}
 use Rattle.index.specs.declared.query.Query.{Query}
 use Rattle.index.specs.declared.query.Query.TheVariants.{Host, First, Last, Count}
+use Rattle.index.specs.declared.reading.Header.{Header}
 use Rattle.index.specs.declared.reading.Reading.{Reading}
 use Rattle.index.specs.declared.rows.Row.{Row}
-use Rattle.index.specs.Readings.{SayReading, row_lines, IsBadRow}
-use Rattle.index.specs.Queries.{SayQuery}
+use Rattle.index.specs.Readings.{AreRowLines, SayReading, IsBadRow}
+use Rattle.index.specs.Queries.{IsQueryFault, SayQuery}
 use Rattle.index.specs.Rows.{address_order, IsIndex}
 
 -- whether a row is of this host, from the one time to the other
@@ -37,13 +38,15 @@ reply rows First = end_line (slice_get rows 0)
 reply rows Last = end_line (slice_get rows (length rows - 1))
 reply rows Count = line (decimal (length rows))
 
--- each line of the file after the header is a reading and each line of the input a query, and the
--- output is the replies, one after another
-abbrev pub IsOutput : List ℕ → List ℕ → List ℕ → Type 0
-IsOutput file input output =
-    (table : List Reading) × (queries : List Query) × (rows : List Row) × SayAll SayReading (row_lines file) table
-    × SayAll SayQuery (lines_of input) queries × IsIndex table rows × (output ≡ flat_map (reply rows) queries)
+-- each row of the file is a reading and each line of the input a query, and the output is the
+-- replies, one after another
+abbrev pub IsOutput : Header → List ℕ → List ℕ → List ℕ → Type 0
+IsOutput header file input output =
+    (lines : List (List ℕ)) × (table : List Reading) × (queries : List Query) × (rows : List Row) × AreRowLines header file lines
+    × SayAll SayReading lines table × SayAll SayQuery (lines_of input) queries × IsIndex table rows × (output ≡ flat_map (reply rows) queries)
 
 -- this is the first bad line of the file, or the first line of the input that is no query
-abbrev pub IsBad : List ℕ → List ℕ → BadLine Fault → Type 0
-IsBad file input bad = IsBadRow file bad ⊎ ((bad.place ≡ Input) × IsFirstBad SayQuery (lines_of input) bad.number)
+abbrev pub IsBad : Header → List ℕ → List ℕ → BadLine Fault → Type 0
+IsBad header file input bad =
+    IsBadRow header file bad
+    ⊎ ((bad.place ≡ Input) × IsFirstBad SayQuery (lines_of input) bad.number × IsQueryFault (line_at (lines_of input) bad.number) bad.fault)

@@ -4,8 +4,10 @@ use std::fmt;
 /// The fault of a line of the table, or of a query.
 #[derive(Clone, Copy, Debug, PartialEq, Eq)]
 pub enum Fault {
-    /// The first line of the table is a reading.
+    /// The first line of the table is not `address,time,value`.
     NoHeader,
+    /// The last byte of the line is a carriage return.
+    CarriageReturn,
     /// The line has fewer than three fields.
     MissingField,
     /// The host is no IPv4 or IPv6 address.
@@ -17,9 +19,15 @@ pub enum Fault {
 }
 
 impl fmt::Display for Fault {
+    ghost use Rattle.std.specs.Prelude.{Some};
+    ghost use Rattle.index.specs.Faults.{fault_text};
+
+    ghost output = { λ fault. Some (fault_text fault) };
+
     fn fmt<W: fmt::Write>(&self, f: &mut fmt::Formatter<W>) -> fmt::Result {
         match self {
             Fault::NoHeader => write!(f, "no header"),
+            Fault::CarriageReturn => write!(f, "ends with a carriage return"),
             Fault::MissingField => write!(f, "missing field"),
             Fault::BadAddress => write!(f, "bad address"),
             Fault::BadTime => write!(f, "bad time"),

@@ -2,7 +2,7 @@
 //! host and time.
 //!
 //! [`ReadingIndex`] is the whole program, as a [`Program`](program_lines::Program) over the bytes of the
-//! table and of the queries.
+//! table and of the queries, and [`HeaderlessIndex`] that of a table without a header.
 #![tactic(auto)]
 
 mod fault;
@@ -14,9 +14,9 @@ mod row_key;
 mod rows;
 
 pub use fault::Fault;
-pub use replies::ReadingIndex;
+pub use replies::{HeaderlessIndex, ReadingIndex};
 use std::process::ExitCode;
 
 fn main(rt: HostRuntime) -> ExitCode {
-    program_lines::start::<ReadingIndex>(&rt)
+    program_lines::start_with_flag::<ReadingIndex, HeaderlessIndex>(&rt, "--no-header")
 }

@@ -1,11 +1,12 @@
 //! Queries, and the lines that say them.
-ghost use Rattle.std.specs.Prelude.{◌≡◌, ◌≢◌, ◌++◌, ℕ, ℤ, List, IfOk, MatchOption, OnErr};
+ghost use Rattle.std.specs.Prelude.{◌≡◌, ◌≢◌, ◌++◌, ℕ, ℤ, List, IfErr, IfOk, MatchOption, OnErr};
 ghost use Rattle.std.specs.declared.net.Ipv6Addr.{Ipv6Addr};
-ghost use Rattle.index.specs.Queries.{AreBounds, SayHost};
+ghost use Rattle.index.specs.Queries.{AreBounds, AskFor, IsAskFault, IsBoundsFault, IsHostFault, SayHost};
+ghost use Rattle.index.specs.declared.query.Query.{Query};
 
 use crate::fault::Fault;
 use crate::fields::{address_of, time_of};
-use program_lines::{FromLine, split_once};
+use program_lines::{FromLine, ends_in_return, split_once};
 use std::net::Ipv6Addr;
 
 /// A query about the rows of the table.
@@ -23,26 +24,40 @@ pub enum Query {
 }
 
 impl<'a> FromLine<'a, Fault> for Query {
-    ghost use Rattle.index.specs.Queries.{SayQuery};
+    ghost use Rattle.index.specs.Queries.{IsQueryFault, SayQuery};
 
     ghost says = { SayQuery };
 
+    ghost has_fault = { IsQueryFault };
+
     fn from_line(line: &'a [u8]) -> Result<Query, Fault> {
-        if let Some(rest) = after(line, b"host ") {
-            let (address, from, to) = host_of(rest)?;
-            return Ok(Query::Host(address, from, to));
+        if ends_in_return(line) {
+            return Err(Fault::CarriageReturn);
         }
-        if line == b"first".as_slice() {
-            return Ok(Query::First);
-        }
-        if line == b"last".as_slice() {
-            return Ok(Query::Last);
-        }
-        if line == b"count".as_slice() {
-            return Ok(Query::Count);
-        }
-        Err(Fault::UnknownQuery)
+        query_of(line)
     }
+}
+
+// What a line asks for that has no carriage return at its end.
+fn query_of(line: &[u8]) -> Result<Query, Fault>
+    ensures said { IfOk result (AskFor line.now) }
+    ensures refused { OnErr result ((query : Query) → ¬ AskFor line.now query) }
+    ensures fault { IfErr result (IsAskFault line.now) }
+{
+    if let Some(rest) = after(line, b"host ") {
+        let (address, from, to) = host_of(rest)?;
+        return Ok(Query::Host(address, from, to));
+    }
+    if line == b"first".as_slice() {
+        return Ok(Query::First);
+    }
+    if line == b"last".as_slice() {
+        return Ok(Query::Last);
+    }
+    if line == b"count".as_slice() {
+        return Ok(Query::Count);
+    }
+    Err(Fault::UnknownQuery)
 }
 
 // What comes after the word, or None where the text does not begin with it.
@@ -58,6 +73,7 @@ fn host_of(text: &[u8]) -> Result<(Ipv6Addr, i64, i64), Fault>
     ensures said { IfOk result (λ host. SayHost text.now host.0 host.1 host.2) }
     ensures refused { OnErr result
         ((address : Ipv6Addr) (from to : ℤ) → ¬ SayHost text.now address from to) }
+    ensures fault { IfErr result (IsHostFault text.now) }
 {
     match split_once(text, b' ') {
         None => {
@@ -76,6 +92,7 @@ fn host_of(text: &[u8]) -> Result<(Ipv6Addr, i64, i64), Fault>
 fn bounds_of(text: &[u8]) -> Result<(i64, i64), Fault>
     ensures said { IfOk result (λ bounds. AreBounds text.now bounds.0 bounds.1) }
     ensures refused { OnErr result ((from to : ℤ) → ¬ AreBounds text.now from to) }
+    ensures fault { IfErr result (IsBoundsFault text.now) }
 {
     let Some(rest) = after(text, b"from ") else {
         return Err(Fault::UnknownQuery);

@@ -1,14 +1,28 @@
 //! Readings, and the table of them.
-ghost use Rattle.std.specs.Prelude.{IfOk, IfErr};
+ghost use Rattle.std.specs.Prelude.{◌≡◌, List, ℕ, IfErr, IfOk, OnErr};
 ghost use Rattle.program_lines.specs.Failures.{IfBadLine};
-ghost use Rattle.program_lines.specs.Lines.{SayAll};
-ghost use Rattle.index.specs.Readings.{SayReading, row_lines, IsBadRow};
+ghost use Rattle.program_lines.specs.Lines.{SayAll, lines_of};
+ghost use Rattle.index.specs.Readings.{AreRowLines, HasFields, IsBadRow, IsFieldFault, IsFirstBadRow, IsHeaderFault, SayReading};
+ghost use Rattle.program_lines.specs.declared.failure.Place.TheVariants.{File};
+ghost use Rattle.index.specs.declared.reading.Header.TheVariants.{Given};
+ghost use Rattle.index.specs.declared.reading.Reading.{Reading};
 
 use crate::fault::Fault;
 use crate::fields::{address_of, time_of};
-use program_lines::{BadLine, Failure, FromLine, Place, first_line, said, split_once};
+use program_lines::{
+    BadLine, Failure, FromLine, Place, ends_in_return, first_line, said, split_once,
+};
 use std::alloc::Global;
 use std::net::Ipv6Addr;
+
+/// Whether the first line of a table is a header.
+#[derive(Clone, Copy, Debug, PartialEq, Eq)]
+pub enum Header {
+    /// It is to be `address,time,value`.
+    Given,
+    /// It is a row as the others.
+    Absent,
+}
 
 /// A reading: what a line of the table says.
 #[derive(Clone, Copy)]
@@ -22,43 +36,90 @@ pub struct Reading<'a> {
 }
 
 impl<'a> FromLine<'a, Fault> for Reading<'a> {
-    ghost use Rattle.index.specs.Readings.{SayReading};
+    ghost use Rattle.index.specs.Readings.{IsReadingFault, SayReading};
 
     ghost says = { SayReading };
 
+    ghost has_fault = { IsReadingFault };
+
     fn from_line(line: &'a [u8]) -> Result<Reading<'a>, Fault> {
-        let Some((host, rest)) = split_once(line, b',') else {
-            return Err(Fault::MissingField);
-        };
-        let Some((seconds, _)) = split_once(rest, b',') else {
-            return Err(Fault::MissingField);
-        };
-        let address = address_of(host)?;
-        let time = time_of(seconds)?;
-        Ok(Reading {
-            address,
-            time,
-            line,
-        })
+        if ends_in_return(line) {
+            return Err(Fault::CarriageReturn);
+        }
+        reading_of(line)
     }
 }
 
-/// The readings of a table, whose first line is a header.
-pub(crate) fn table_of(alloc: Global, file: &[u8]) -> Result<Vec<Reading<'_>>, Failure<Fault>>
-    ensures all { IfOk result (λ table. SayAll SayReading (row_lines file.now) table.items) }
-    ensures first_bad { IfErr result (IfBadLine (IsBadRow file.now)) }
+// The reading of a line that has no carriage return at its end.
+fn reading_of(line: &[u8]) -> Result<Reading<'_>, Fault>
+    ensures said { IfOk result (HasFields line.now) }
+    ensures refused { OnErr result ((reading : Reading) → ¬ HasFields line.now reading) }
+    ensures fault { IfErr result (IsFieldFault line.now) }
+{
+    let Some((host, rest)) = split_once(line, b',') else {
+        return Err(Fault::MissingField);
+    };
+    let Some((seconds, _)) = split_once(rest, b',') else {
+        return Err(Fault::MissingField);
+    };
+    let address = address_of(host)?;
+    let time = time_of(seconds)?;
+    Ok(Reading {
+        address,
+        time,
+        line,
+    })
+}
+
+/// The readings of a table. An allocation may fail.
+///
+/// Refuses a table without its header, and else the first row that is no reading.
+pub(crate) fn table_of(
+    alloc: Global,
+    header: Header,
+    file: &[u8],
+) -> Result<Vec<Reading<'_>>, Failure<Fault>>
+    ensures all { IfOk result (λ table. (rows : List (List ℕ))
+        × AreRowLines header file.now rows × SayAll SayReading rows table.items) }
+    ensures first_bad { IfErr result (IfBadLine (IsBadRow header file.now)) }
+{
+    match header {
+        Header::Absent => said(alloc, Place::File, file),
+        Header::Given => match rows_of(file) {
+            Ok(rows) => rows_after_header(alloc, rows),
+            Err(fault) => Err(Failure::BadLine(BadLine {
+                place: Place::File,
+                number: 1,
+                fault,
+            })),
+        },
+    }
+}
+
+// What comes after the header of a table.
+fn rows_of(file: &[u8]) -> Result<&[u8], Fault>
+    ensures rows { IfOk result (λ rows. AreRowLines Given file.now (lines_of rows.now)) }
+    ensures fault { IfErr result (IsHeaderFault file.now) }
 {
     if file.is_empty() {
-        return Ok(Vec::new(alloc));
+        return Err(Fault::NoHeader);
     }
-    let (header, rows) = first_line(file);
-    if let Ok(_) = Reading::from_line(header) {
-        return Err(Failure::BadLine(BadLine {
-            place: Place::File,
-            number: 1,
-            fault: Fault::NoHeader,
-        }));
+    let (line, rows) = first_line(file);
+    if ends_in_return(line) {
+        return Err(Fault::CarriageReturn);
     }
+    if line != b"address,time,value".as_slice() {
+        return Err(Fault::NoHeader);
+    }
+    Ok(rows)
+}
+
+// The readings of the rows that come after the header. A bad line is numbered in the file.
+fn rows_after_header(alloc: Global, rows: &[u8]) -> Result<Vec<Reading<'_>>, Failure<Fault>>
+    ensures all { IfOk result (λ table. SayAll SayReading (lines_of rows.now) table.items) }
+    ensures first_bad { IfErr result (IfBadLine (λ bad.
+        (bad.place ≡ File) × IsFirstBadRow 1 (lines_of rows.now) bad)) }
+{
     match said(alloc, Place::File, rows) {
         Ok(table) => Ok(table),
         Err(Failure::BadLine(bad)) => Err(Failure::BadLine(BadLine {

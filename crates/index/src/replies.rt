@@ -1,13 +1,14 @@
 //! The replies to queries.
-ghost use Rattle.std.specs.Prelude.{◌≡◌, ◌++◌, All, OnOk, map};
+ghost use Rattle.std.specs.Prelude.{◌≡◌, ◌++◌, All, IfErr, IfOk, OnOk, map};
 ghost use Rattle.std.specs.List.{flat_map};
 ghost use Rattle.std.specs.Option.{option_map};
 ghost use Rattle.index.specs.Keys.{AreKeyed, HasTimes, row_key_text};
-ghost use Rattle.index.specs.Replies.{end_line, reply, row_line};
+ghost use Rattle.program_lines.specs.Failures.{IfBadLine};
+ghost use Rattle.index.specs.Replies.{IsBad, IsOutput, end_line, reply, row_line};
 
 use crate::fault::Fault;
 use crate::query::Query;
-use crate::reading::table_of;
+use crate::reading::{Header, table_of};
 use crate::row_key::RowKey;
 use crate::rows::{Row, RowMap, index_of};
 use art_map::{DEFAULT_PREFIX_LEN, Iter};
@@ -15,37 +16,75 @@ use program_lines::{Failure, Place, Program, push_line, push_number, said};
 use std::alloc::{AllocError, Global};
 use std::ops::Bound;
 
-/// The program, over the bytes of the table and of the queries.
+/// The program, over the bytes of a table with a header and of the queries.
 pub struct ReadingIndex;
 
 impl Program for ReadingIndex {
     ghost use Rattle.index.specs.Replies.{IsOutput, IsBad};
+    ghost use Rattle.index.specs.declared.reading.Header.TheVariants.{Given};
 
     type Fault = Fault;
 
-    ghost is_output = { IsOutput };
+    ghost is_output = { IsOutput Given };
 
-    ghost is_bad = { IsBad };
+    ghost is_bad = { IsBad Given };
 
     fn usage() -> &'static str {
-        "usage: index FILE\n\
-        FILE is a table of readings: a header, then a line ADDRESS,TIME,VALUE for each.\n\
-        Queries are lines of standard input:\n\
-        host ADDRESS                    the rows of this host, by time\n\
-        host ADDRESS from TIME to TIME  those from the one time to the other\n\
-        first                           the first row by address and time, or none\n\
-        last                            the last one, or none\n\
-        count                           how many rows there are\n"
+        USAGE
     }
 
     fn answer(alloc: Global, file: &[u8], input: &[u8]) -> Result<Vec<u8>, Failure<Fault>> {
-        let table = table_of(alloc, file)?;
-        let queries: Vec<Query> = said(alloc, Place::Input, input)?;
-        let index = index_of(alloc, &table)?;
-        let mut output = Vec::new(alloc);
-        push_replies(alloc, &index, &queries, &mut output)?;
-        Ok(output)
+        answer(alloc, Header::Given, file, input)
     }
+}
+
+/// The program, over the bytes of a table without a header and of the queries.
+pub struct HeaderlessIndex;
+
+impl Program for HeaderlessIndex {
+    ghost use Rattle.index.specs.Replies.{IsOutput, IsBad};
+    ghost use Rattle.index.specs.declared.reading.Header.TheVariants.{Absent};
+
+    type Fault = Fault;
+
+    ghost is_output = { IsOutput Absent };
+
+    ghost is_bad = { IsBad Absent };
+
+    fn usage() -> &'static str {
+        USAGE
+    }
+
+    fn answer(alloc: Global, file: &[u8], input: &[u8]) -> Result<Vec<u8>, Failure<Fault>> {
+        answer(alloc, Header::Absent, file, input)
+    }
+}
+
+const USAGE: &str = "usage: index [--no-header] FILE\n\
+    FILE is a table of readings: the header address,time,value, then a line ADDRESS,TIME,VALUE for\n\
+    each; with --no-header the first line is a reading too. Queries are lines of standard input:\n\
+    host ADDRESS                    the rows of this host, by time\n\
+    host ADDRESS from TIME to TIME  those from the one time to the other\n\
+    first                           the first row by address and time, or none\n\
+    last                            the last one, or none\n\
+    count                           how many rows there are\n";
+
+// The whole output.
+fn answer(
+    alloc: Global,
+    header: Header,
+    file: &[u8],
+    input: &[u8],
+) -> Result<Vec<u8>, Failure<Fault>>
+    ensures output { IfOk result (λ output. IsOutput header file.now input.now output.items) }
+    ensures refused { IfErr result (IfBadLine (IsBad header file.now input.now)) }
+{
+    let table = table_of(alloc, header, file)?;
+    let queries: Vec<Query> = said(alloc, Place::Input, input)?;
+    let index = index_of(alloc, &table)?;
+    let mut output = Vec::new(alloc);
+    push_replies(alloc, &index, &queries, &mut output)?;
+    Ok(output)
 }
 
 // Appends what the queries print, one after another.

@@ -5,6 +5,7 @@ use Rattle.std.proofs.Math.Seq.{take-suc}
 use Rattle.std.proofs.lemmas.Grind.{flat_map-append}
 use Rattle.std.proofs.lemmas.List.Concat.{flat_map-cons}
 use Rattle.std.proofs.lemmas.List.Elements.{All-cons, All-nil}
+use Rattle.std.specs.Prelude.{Result, Ok, Err, IfErr}
 use Rattle.program_lines.specs.Lines.{SayAll}
 
 -- what holds of an item that a line says holds of all that the lines say
@@ -21,3 +22,8 @@ reply_more reply items k d start output longer below before pushed =
     let one : flat_map reply (get_or items k d ∷ []) ≡ reply (get_or items k d) = flat_map-cons reply (get_or items k d) [] ∙ append-nil (reply (get_or items k d)) in
     pushed ∙ ap (λ o. o ++ reply (get_or items k d)) before ∙ append_assoc start (flat_map reply (take k items)) (reply (get_or items k d))
     ∙ ap (λ more. start ++ (flat_map reply (take k items) ++ more)) (sym one) ∙ ap (λ more. start ++ more) (sym (flat_map-append reply (take k items) (get_or items k d ∷ [])) ∙ ap (flat_map reply) (sym cut))
+
+-- what follows of an error
+pub on_error : {X E : Type 0} {P Q : E → Type 0} (result : Result X E) → IfErr result P → ((error : E) → P error → Q error) → IfErr result Q
+on_error (Ok x) so follows = tt
+on_error (Err error) so follows = follows error so

@@ -4,25 +4,23 @@ use Rattle.std.specs.Prelude.{Option, None, Some, IfSome, Result, Ok, Err, IfErr
 use Rattle.program_lines.specs.declared.failure.BadLine.{BadLine}
 use Rattle.program_lines.specs.declared.failure.Failure.{Failure}
 use Rattle.program_lines.specs.declared.failure.Failure.TheVariants.{BadLine as AtLine, OutOfMemory, NoFile, Device}
-use Rattle.program_lines.specs.Failures.{status_of, IfBadLine}
-use Rattle.program_lines.specs.Programs.{HasBadLine}
+use Rattle.program_lines.specs.Failures.{status_of, IfBadLine, shown_failure}
+use Rattle.program_lines.specs.Lines.{line}
+use Rattle.program_lines.specs.Programs.{AppendsBeginning, TellsBadLine}
 
-module _ {F : Type 0} (IsBad : List ℕ → BadLine F → Type 0) (known : Option (List ℕ)) (bytes read : List ℕ) where
-  -- a failure of status 2 is one of a line of what was read
-  of_line : (failure : Failure F) → IfSome known (λ xs. bytes ≡ xs) → IfBadLine (IsBad bytes) failure → status_of failure ≡ 2 → IfSome known (λ given. HasBadLine (IsBad given))
-  of_line (AtLine bad) same is two = by_known known same
-    where
-      by_known : (k : Option (List ℕ)) → IfSome k (λ xs. bytes ≡ xs) → IfSome k (λ given. HasBadLine (IsBad given))
-      by_known None so = tt
-      by_known (Some given) so = (bad, subst (λ b. IsBad b bad) so is)
-  of_line OutOfMemory same is two = absurd (cc)
-  of_line NoFile same is two = absurd (cc)
-  of_line Device same is two = absurd (cc)
+-- what is said of the bytes that were read is said of those that the reader had
+read_whole : (known : Option (List ℕ)) (old read bytes : List ℕ) (P : List ℕ → Type 0) → old ≡ [] → read ≡ bytes → IfSome known (λ xs. read ≡ old ++ xs) → P bytes → IfSome known P
+read_whole None old read bytes P none same so is = tt
+read_whole (Some given) old read bytes P none same so is = subst P (sym same ∙ so ∙ ap (λ o. o ++ given) none) is
 
-  read_whole : (k : Option (List ℕ)) (old : List ℕ) → old ≡ [] → read ≡ bytes → IfSome k (λ xs. read ≡ old ++ xs) → IfSome k (λ xs. bytes ≡ xs)
-  read_whole None old none same so = tt
-  read_whole (Some given) old none same so = sym same ∙ so ∙ ap (λ o. o ++ given) none
+pub refused_line : {F X : Type 0} (IsBad : List ℕ → BadLine F → Type 0) (known : Option (List ℕ)) (bytes read : List ℕ) (result : Result X (Failure F)) (old : List ℕ) → old ≡ [] → read ≡ bytes → IfSome known (λ xs. read ≡ old ++ xs) → IfErr result (IfBadLine (IsBad bytes)) → IfErr result (λ failure. IfSome known (λ given. IfBadLine (IsBad given) failure))
+refused_line IsBad known bytes read (Ok x) old none same so refused = tt
+refused_line IsBad known bytes read (Err failure) old none same so refused = read_whole known old read bytes (λ given. IfBadLine (IsBad given) failure) none same so refused
 
-  pub refused_line : {X : Type 0} (result : Result X (Failure F)) (old : List ℕ) → old ≡ [] → read ≡ bytes → IfSome known (λ xs. read ≡ old ++ xs) → IfErr result (IfBadLine (IsBad bytes)) → IfErr result (λ failure. status_of failure ≡ 2 → IfSome known (λ given. HasBadLine (IsBad given)))
-  refused_line (Ok x) old none same so refused = tt
-  refused_line (Err failure) old none same so refused = of_line failure (read_whole known old none same so) refused
+-- a failure of status 2 is one of a line, and its text tells that line
+pub told_line : {F : Type 0} (shown : F → Option (List ℕ)) (IsBad : List ℕ → BadLine F → Type 0) (known old new : Option (List ℕ)) (failure : Failure F) → status_of failure ≡ 2 → IfSome known (λ given. IfBadLine (IsBad given) failure) → IfSome (shown_failure shown failure) (λ text. AppendsBeginning old new (line text)) → IfSome known (λ given. TellsBadLine shown (IsBad given) old new)
+told_line shown IsBad None old new failure two refused wrote = tt
+told_line shown IsBad (Some given) old new (AtLine bad) two refused wrote = (bad, refused, wrote)
+told_line shown IsBad (Some given) old new OutOfMemory two refused wrote = absurd (cc)
+told_line shown IsBad (Some given) old new NoFile two refused wrote = absurd (cc)
+told_line shown IsBad (Some given) old new Device two refused wrote = absurd (cc)

@@ -1,5 +1,5 @@
 -- Lines of bytes, and what they say.
-use Rattle.std.specs.Prelude.{◌≡◌, ◌≢◌, ℕ, ◌+◌, ◌-◌, ◌==◌, List, [], ◌∷◌, ◌++◌, All, length, slice_index_or}
+use Rattle.std.specs.Prelude.{◌≡◌, ◌≢◌, ℕ, ◌+◌, ◌-◌, ◌==◌, List, [], ◌∷◌, ◌++◌, All, Some, length, slice_get, slice_index_or}
 use Rattle.std.specs.List.{slice_split}
 
 -- parts but for a last one that is empty
@@ -15,6 +15,10 @@ lines_of bytes = without_empty_last (slice_split (λ b. b == 10) bytes)
 -- the line of this number, from 1
 abbrev pub line_at : List (List ℕ) → ℕ → List ℕ
 line_at lines number = slice_index_or lines (number - 1) []
+
+-- the last byte is a carriage return
+abbrev pub EndsInReturn : List ℕ → Type 0
+EndsInReturn line = slice_get line (length line - 1) ≡ Some 13
 
 -- a line of the output is its bytes and byte 10
 abbrev pub line : List ℕ → List ℕ

@@ -11,8 +11,8 @@ mod program;
 mod writing;
 
 pub use failure::{BadLine, Failure, Place};
-pub use lines::{FromLine, first_line, said, split_once};
+pub use lines::{FromLine, ends_in_return, first_line, said, split_once};
 pub use numbers::number_of;
-pub use process::{start, words_after_name};
+pub use process::{start, start_with_flag, words_after_name};
 pub use program::{Outcome, Program, run, run_in_memory};
 pub use writing::{push_line, push_number, write_line, write_out};

@@ -1,6 +1,6 @@
 //! Lines of bytes, and what they say.
-ghost use Rattle.std.specs.Prelude.{◌≡◌, ◌==◌, ◌<◌, ◌∷◌, length, position, IfOk, IfErr, IfSome, IfNone};
-ghost use Rattle.program_lines.specs.Lines.{lines_of, line_at, SayAll, IsFirstBad, IsCutAt, HasNo};
+ghost use Rattle.std.specs.Prelude.{◌≡◌, ◌==◌, ◌<◌, ◌↔◌, ◌∷◌, length, position, IfOk, IfErr, IfSome, IfNone, IsTrue};
+ghost use Rattle.program_lines.specs.Lines.{lines_of, line_at, SayAll, IsFirstBad, IsCutAt, HasNo, EndsInReturn};
 ghost use Rattle.program_lines.specs.Failures.{IfBadLine, IsLineFailure};
 
 use crate::failure::{BadLine, Failure, Place};
@@ -90,4 +90,11 @@ pub fn split_once(bytes: &[u8], at: u8) -> Option<(&[u8], &[u8])>
         Some(place) => Some((&bytes[..place], &bytes[place + 1..])),
         None => None,
     }
+}
+
+/// Whether the last byte is a carriage return.
+pub fn ends_in_return(line: &[u8]) -> bool
+    ensures { IsTrue result ↔ EndsInReturn line.now }
+{
+    line.last().copied() == Some(b'\r')
 }

@@ -36,6 +36,19 @@ pub fn start<P: Program>(rt: &HostRuntime) -> ExitCode {
     ExitCode::from(status)
 }
 
+/// Runs the first program as [`start`] does, or the second one where the first word is this flag. The
+/// other words are then those of the second one.
+pub fn start_with_flag<P: Program, Q: Program>(rt: &HostRuntime, flag: &str) -> ExitCode {
+    let status = match words_after_name(rt) {
+        Ok(words) => match words.split_first() {
+            Some((first, others)) if first.as_str() == flag => status::<Q>(rt, others),
+            _ => status::<P>(rt, &words),
+        },
+        Err(error) => Failure::<P::Fault>::from(error).report(&mut rt.stderr()),
+    };
+    ExitCode::from(status)
+}
+
 fn status<P: Program>(rt: &HostRuntime, words: &[String]) -> u8 {
     let mut errors = rt.stderr();
     let [word] = words else {

@@ -1,8 +1,8 @@
 //! A program over a file, a reader and two writers.
 ghost use Rattle.std.specs.Prelude.{◌≡◌, ◌≢◌, ◌≤◌, ◌↔◌, [], IfSome, IfOk, IfErr, IsTrue};
 ghost use Rattle.std.specs.Io.KnownBytes.{Keeps};
-ghost use Rattle.program_lines.specs.Failures.{status_of};
-ghost use Rattle.program_lines.specs.Programs.{Prints, PrintsBeginning, HasBadLine};
+ghost use Rattle.program_lines.specs.Failures.{IfBadLine};
+ghost use Rattle.program_lines.specs.Programs.{HasBadLine, Prints, PrintsBeginning, TellsBadLine};
 
 use crate::failure::{BadLine, Failure};
 use crate::writing::write_out;
@@ -54,8 +54,8 @@ pub fn run<P: Program, R: Read, W: Write, E: Write>(
         (λ given. Prints (P.is_output file.now given) (W.contents output.old) (W.contents output.new)) }
     ensures failed_run_prints_a_beginning { result ≡ 1 → IfSome (R.remaining input.old)
         (λ given. PrintsBeginning (P.is_output file.now given) (W.contents output.old) (W.contents output.new)) }
-    ensures refused { result ≡ 2 → IfSome (R.remaining input.old)
-        (λ given. HasBadLine (P.is_bad file.now given)) }
+    ensures refused { result ≡ 2 → IfSome (R.remaining input.old) (λ given.
+        TellsBadLine P.Fault.output (P.is_bad file.now given) (E.contents errors.old) (E.contents errors.new)) }
     ensures bad_input_prints_nothing { result ≡ 2 →
         Keeps (W.contents output.old) (W.contents output.new) }
     ensures success_is_quiet { result ≡ 0 →
@@ -80,8 +80,8 @@ fn answer<P: Program, R: Read>(
 ) -> Result<Vec<u8>, Failure<P::Fault>>
     ensures output { IfOk result (λ output. IfSome (R.remaining input.old)
         (λ given. P.is_output file.now given output.items)) }
-    ensures refused { IfErr result (λ failure. status_of failure ≡ 2 → IfSome (R.remaining input.old)
-        (λ given. HasBadLine (P.is_bad file.now given))) }
+    ensures refused { IfErr result (λ failure. IfSome (R.remaining input.old)
+        (λ given. IfBadLine (P.is_bad file.now given) failure)) }
 {
     let mut bytes = Vec::new(alloc);
     input.read_to_end(&mut bytes)?;

@@ -1,30 +1,5 @@
-use Rattle.std.proofs.Common.{◌∷◌, ◌++◌, ◌∙◌, refl, sym, ap, subst, w64}
-use Rattle.std.proofs.lemmas.Int.{to_z-of_z}
-use Rattle.index.specs.Fields.{IsTime}
-use Rattle.index.proofs.QueryLemmas.{anyway}
-use Rattle.index.proofs.ReadingLemmas.{no_comma, no_second, no_fields}
+use Rattle.index.proofs.QueryLemmas.{on_err}
 use Rattle.index.proofs.reading.ReadingFromLineFault.from_line.Goals as goal
 
-pub returns-in_default-clause-refused : goal.returns-in_default-clause-refused
-returns-in_default-clause-refused c = no_comma c.args.line.now c.in_default.ensures.none
-
-pub returns-in_default-split_once-clause-refused :
-    goal.returns-in_default-split_once-clause-refused
-returns-in_default-split_once-clause-refused c = no_second c.args.line.now c.in-Some.host.now c.in-Some.rest.now c.in-Some.ensures.cut c.in_default-split_once.ensures.none
-
-pub returns-in_err-address-clause-refused : goal.returns-in_err-address-clause-refused
-returns-in_err-address-clause-refused c =
-    anyway c.from_residual.result (no_fields c.args.line.now c.in-Some.host.now c.in-Some.rest.now c.in-Some.ensures.cut c.in-Some-split_once.seconds.now c.in-Some-split_once.field-0-1.now c.in-Some-split_once.ensures.cut (λ address time is later. c.in_err-address.ensures.refused address is))
-
-pub returns-in_err-time-clause-refused : goal.returns-in_err-time-clause-refused
-returns-in_err-time-clause-refused c =
-    anyway c.from_residual-in_err-time.result (no_fields c.args.line.now c.in-Some.host.now c.in-Some.rest.now c.in-Some.ensures.cut c.in-Some-split_once.seconds.now c.in-Some-split_once.field-0-1.now c.in-Some-split_once.ensures.cut (λ address time is later. c.in_err-time.ensures.refused time later))
-
-pub returns-clause-said : goal.returns-clause-said
-returns-clause-said c =
-    let cut = c.in-Some.ensures.cut in
-    let next = c.in-Some-split_once.ensures.cut in
-    let host = c.in-Some.host.now in
-    let seconds = c.in-Some-split_once.seconds.now in
-    let time_is = c.in_ok-time.ensures.said in
-    (host, seconds, c.in-Some-split_once.field-0-1.now, cut.0 ∙ ap (λ rest. host ++ 44 ∷ rest) next.0, cut.1, next.1, c.in_ok-address.ensures.said, subst (IsTime seconds) (sym (to_z-of_z w64 c.in_ok-time.time time_is.2)) time_is, refl)
+pub returns-clause-refused : goal.returns-clause-refused
+returns-clause-refused c = on_err c.reading_of.result (λ refused reading said. refused reading said.1) c.reading_of.ensures.refused
