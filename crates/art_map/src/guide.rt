@@ -16,9 +16,11 @@ const LEAST_LEAVES: usize = 20_000;
 // How many entries come by the links before the way is sought, so that short ranges pay nothing.
 const FIRST_WAIT: usize = 6;
 // The same after the way was lost, or where nodes have few leaves: at first, and at most.
-const LEAST_PAUSE: usize = 64;
+const LEAST_PAUSE: usize = 128;
 
 const MOST_PAUSE: usize = 4096;
+// Where the slab keys of two leaves differ by no more, as after `compact`, the links are faster.
+const NEAR: usize = 8;
 // How deep a leaf may lie at most, so that each entry takes constant time.
 const DEEPEST: usize = 32;
 // How many nodes of the way are kept, the lowest ones.
@@ -123,6 +125,26 @@ fn step<K, V, const PREFIX_LEN: usize, N: ArenaInnerNode<K, V, PREFIX_LEN>>(
     Some((child, byte, passed.saturating_add(1)))
 }
 
+// Whether the leaf that the link names lies near this one in memory.
+fn is_next_near<K, V, const PREFIX_LEN: usize>(
+    arena: &NodeArena<K, V, PREFIX_LEN>,
+    leaf: NodePtr<PREFIX_LEN, LeafNode<K, V, PREFIX_LEN>>,
+    end: End,
+) -> bool {
+    if !arena.holds(leaf) {
+        return false;
+    }
+    let node = arena.as_ref(leaf);
+    let next = match end {
+        End::First => node.next(),
+        End::Last => node.previous(),
+    };
+    match next {
+        Some(next) => next.key().abs_diff(leaf.key()) <= NEAR,
+        None => false,
+    }
+}
+
 impl Guide {
     /// A guide in the tree at this root, with so many leaves. No leaf is expected yet.
     pub(crate) fn new<K, V, const PREFIX_LEN: usize>(
@@ -212,6 +234,10 @@ impl Guide {
     ) -> Option<usize> {
         self.count = 0;
         if self.depth == 0 {
+            if is_next_near(arena, leaf, self.end) {
+                self.pause();
+                return None;
+            }
             self.seek(arena, leaf);
         }
         let mut due = 0;
