@@ -14,7 +14,7 @@ use std::ops::Bound;
 // With fewer leaves the whole tree is in the processor's cache, and the links alone are faster.
 const LEAST_LEAVES: usize = 20_000;
 // How many entries come by the links before the way is sought, so that short ranges pay nothing.
-const FIRST_WAIT: usize = 6;
+const FIRST_WAIT: usize = 128;
 // The same after the way was lost, or where nodes have few leaves: at first, and at most.
 const LEAST_PAUSE: usize = 128;
 
@@ -38,6 +38,8 @@ const LEAVES_A_VISIT: usize = 3;
 /// none needs to be there.
 #[derive(Drop)]
 pub(crate) struct Guide {
+    // Whether there are too few leaves.
+    is_off: bool,
     root: Option<(NodeType, usize)>,
     // The end from which entries are taken.
     end: End,
@@ -156,6 +158,7 @@ impl Guide {
             None => None,
         };
         Guide {
+            is_off: leaf_count < LEAST_LEAVES,
             root,
             end: End::First,
             kinds: [NodeType::Leaf; LEVELS],
@@ -165,11 +168,7 @@ impl Guide {
             leaves: [0; MOST_LEAVES],
             taken: 0,
             count: 0,
-            wait: if leaf_count < LEAST_LEAVES {
-                usize::MAX
-            } else {
-                FIRST_WAIT
-            },
+            wait: FIRST_WAIT,
             pause: LEAST_PAUSE,
             is_thin: true,
         }
@@ -184,6 +183,9 @@ impl Guide {
         leaf: NodePtr<PREFIX_LEN, LeafNode<K, V, PREFIX_LEN>>,
         end: End,
     ) -> Option<usize> {
+        if self.is_off {
+            return None;
+        }
         if self.end != end {
             self.turn(end);
         }
