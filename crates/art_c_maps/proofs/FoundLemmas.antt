@@ -1,9 +1,10 @@
 -- An entry that was found, read as key and value.
-use Rattle.std.proofs.Common.{◌≡◌, ◌∙◌, ◌+◌, ◌-◌, ℕ, zero, suc, List, [], ◌∷◌, ◌++◌, length, map, Option, Some, None, Result, Ok, Err, IfOk, OnOk, refl, sym, ap, arith, length-append}
+use Rattle.std.proofs.Common.{◌≡◌, ◌≤◌, ◌∙◌, Bool, filter, ◌+◌, ◌-◌, ℕ, zero, suc, List, [], ◌∷◌, ◌++◌, length, map, Option, Some, None, Result, Ok, Err, IfOk, OnOk, refl, sym, ap, arith, length-append}
 use Rattle.std.specs.Option.{MatchOption, option_map}
 use Rattle.std.specs.Prelude.{slice_get}
 use Rattle.std.specs.Borrow.{Bor}
 use Rattle.std.proofs.lemmas.List.{length-map}
+use Rattle.std.proofs.lemmas.List.Sums.{count_by-le-length, length-filter}
 use Rattle.std.proofs.lemmas.Option.{slice_get-map}
 use Rattle.art_c_maps.specs.Entries.{entries_read, first_of, last_of}
 use Rattle.art_c_maps.specs.Unescaped.{len_and_value, unescaped}
@@ -56,3 +57,7 @@ module _ {A E : Type 0} where
   pub on-ok : (r : Result A E) (P Q : Type 0) → (P → Q) → OnOk r P → OnOk r Q
   on-ok (Ok x) P Q f p = f p
   on-ok (Err e) P Q f p = tt
+
+-- no more pass a test than there are
+pub filter-fewer : {X : Type 0} (p : X → Bool) (xs passed : List X) → passed ≡ filter p xs → length passed ≤ length xs
+filter-fewer p xs passed same = omega (arith, ap length same, length-filter p xs, count_by-le-length p xs)

@@ -91,12 +91,7 @@ impl BytesMap {
     /// Sets the value of a key, and returns the value that it had.
     ///
     /// After a refusal the entries are unchanged.
-    pub fn insert(
-        &mut self,
-        alloc: Global,
-        key: &[u8],
-        value: u64,
-    ) -> Result<Option<u64>, Refusal>
+    pub fn insert(&mut self, alloc: Global, key: &[u8], value: u64) -> Result<Option<u64>, Refusal>
         ensures replaced { IfOk result
             (λ before. before ≡ value_of text_order self.old key.now) }
         ensures entries { OnOk result (self.new ≡ put text_order self.old key.now value) }
@@ -211,6 +206,8 @@ impl BytesMap {
     {
         self.entries.entries_ascend();
         let escaped = escaped_prefix(alloc, prefix)?;
+        // The count is no greater, so it fits.
+        let _most = self.entries.len();
         Ok(self.entries.prefix(&escaped).count())
     }
 }

@@ -1,4 +1,4 @@
-use Rattle.std.proofs.Common.{◌≡◌, ◌∙◌, length, refl, sym, ap}
+use Rattle.std.proofs.Common.{◌≡◌, ◌≤◌, ◌∙◌, length, refl, sym, ap, arith, inl}
 use Rattle.std.specs.List.{starts_with}
 use Rattle.std.specs.Prelude.{nat_eq}
 use Rattle.std.proofs.lemmas.Iterator.Consumers.{YieldsList-from_first, count_from_yields_List}
@@ -9,7 +9,7 @@ use Rattle.art_mapped.specs.Mapped.{mapped_text}
 use Rattle.art_c_maps.specs.Entries.{entries_with_prefix}
 use Rattle.art_c_maps.specs.Unescaped.{unescaped}
 use Rattle.art_c_maps.proofs.ByteLemmas.{AnyBytes, word-texts, words-keep}
-use Rattle.art_c_maps.proofs.FoundLemmas.{entry_read, now_of}
+use Rattle.art_c_maps.proofs.FoundLemmas.{entry_read, filter-fewer, now_of}
 use Rattle.art_c_maps.proofs.ReadLemmas.{picked-read}
 use Rattle.art_c_maps.proofs.PrefixLemmas.{starts-escaped}
 use Rattle.art_c_maps.proofs.bytes_map.BytesMap.count_prefix.Goals as goal
@@ -24,3 +24,7 @@ returns c =
     (λ y y_is. ap (λ z. starts_with nat_eq z c.in_ok-escaped.escaped.items) y_is.1 ∙ ap (starts_with nat_eq (escaped_text (unescaped y))) c.in_ok-escaped.ensures.text ∙ starts-escaped (unescaped y) front)
     entries (word-texts mapped_text entries c.entries_ascend.ensures.keys))
     ∙ ap (λ seen. length (entries_with_prefix front seen)) c.self.view_is
+
+pub count-requires-clause-fits : goal.count-requires-clause-fits
+count-requires-clause-fits c =
+    inl (omega (arith, filter-fewer _ c.self.inside.entries c.prefix.result c.prefix.ensures, c.len-most.ensures, c.len-most.type_inv))
