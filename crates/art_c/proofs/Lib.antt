@@ -1,0 +1,2 @@
+mod BytesBox
+mod NumberBox

@@ -1,0 +1,56 @@
+-- The two fields move: what a live handle owns is what the parts own.
+use Rattle.std.proofs.Common.{List, [], ◌∷◌, ◌++◌, refl, sym, subst, ◌≡◌, Option, Some, None, IsSome}
+use base.Logic.{ent, id⊢}
+use base.Fml.{ftrue, fsep}
+use mir.Val.{Val}
+use prog.Wp.{WpFn}
+use contract.Running.{tables}
+use types.Kit.{‵, ◌⊛◌, ◌$◌, ◌∵◌, !, qed, move, drop, use1, join, split, fsplit, fjoin, suffices, done, raw, rewrite}
+use types.Part.{whole, sub, agg}
+use types.Run.{stop, fld, no_more, and_then, of_opd, returns, enter}
+use types.ByLocal.{alloc_all, pass_all, free_all, look_at, get, get_in, sets}
+use denote.Exit.{yes}
+use denote.Signature.{plain, type_at}
+use denote.Steps.{nothing, heard}
+use denote.Triple.Walked.{says, Stays, stay_dropped, walk_of, ends_at, Goes-dropped}
+use Rattle.std.proofs.raw_atomic.Walks.{proved_at}
+use contract.Monad.{fact}
+use Rattle.std_alloc.proofs.BoxSteps.Form.{D, B, word, box_typed}
+use Rattle.std_alloc.proofs.BoxSteps.Steps.{box_out, box_in}
+use Rattle.art_c.proofs.NumberBox.{E, FromHandle}
+use Rattle.art_c.specs.contracts.number_handle.NumberHandle as handles
+use Rattle.art_c.specs.contracts.number_handle.NumberHandle.into_parts as f
+use Rattle.art_c.proofs.number_handle.NumberHandle.into_parts.Statement.{statement}
+use Rattle.art_c.proofs.number_handle.NumberHandle.into_parts.Code as code
+
+held_by : {T : Type 0} (o : Option T) → IsSome o → (x : T) × (o ≡ Some x)
+held_by None some = absurd (cc)
+held_by (Some x) some = (x, refl)
+
+pub into_parts_spec : {M : Type 1} → statement M
+into_parts_spec 𝓤 𝓛 𝓜 𝓡 wired =
+    let H = 𝓛.H in let 𝓣 = tables 𝓤 H 𝓜 𝓡 𝓡.env in let c = f.clauses 𝓛 𝓜.mem 𝓡.returns in let fn = code.function in
+    let hs : Stays f.ended.signature.params f.ended.kept = (stay_dropped FromHandle yes, tt) in
+    proved_at 𝓛 f.ended hs c 𝓜 𝓡 (Goes-dropped 𝓛 0 FromHandle yes (λ κs x w. refl), tt) f.Key.name fn (code.unfolded 𝓤 H 𝓜 𝓡 wired) (λ z are.
+    let Post = (walk_of 𝓛 f.ended hs c).post z in
+    let source = z.0.3.0 in
+    let To = type_at f.signature.result tt in
+    qed 𝓛 ((‵ ftrue ⊛ ‵ (fsep (handles.the_row.own_val source z.0.4.0) ftrue)) ∷ raw (fact 𝓤 (IsSome source.held)) ∷ []) ∵ move ! (1 ∷ []) $ heard ! _ (λ live.
+    let held = held_by source.held live in
+    let boxed : D E = record { ptr = source.ptr; alloc = source.alloc; value = held.0 } in
+    let made : To.Denot = record { ptr = source.ptr; alloc = source.alloc; value = held.0 } in
+    split ! $ drop ! $ fsplit ! $
+    rewrite ! 0 (λ (o : Option E.row.Denot). ‵ (handles.the_row.own_val (record { ptr = source.ptr; alloc = source.alloc; held = o }) z.0.4.0)) held.1 refl $
+    use1 𝓛 (‵ ((B E).own_val boxed z.0.4.0)) (id⊢ 𝓤 _) $
+    box_out E ! boxed z.0.4.0 (λ b o handle e is_word fits. box_in E ! boxed b o boxed.value e refl $
+    let w = word E handle b o in let typed = box_typed E handle b o fits in
+    use1 𝓛 (‵ (To.own_val made (w ∷ []))) (id⊢ 𝓤 _) $ move ! (1 ∷ []) $ drop ! $
+    suffices ! (WpFn 𝓤 H 𝓣.C 𝓣.Λ fn (w ∷ []) Post) (subst (λ (us : List Val). ent 𝓤 (WpFn 𝓤 H 𝓣.C 𝓣.Λ fn (w ∷ []) Post) (WpFn 𝓤 H 𝓣.C 𝓣.Λ fn (us ++ []) Post)) (sym is_word) (id⊢ 𝓤 _)) $
+    enter ! 𝓣.C 𝓣.Λ fn (w ∷ []) _ $ alloc_all ! (λ l. pass_all ! refl (typed, tt) $
+    sets ! (of_opd ! (get_in ! (fld ! refl (stop !)) (sub ! 0 refl (whole !)))) refl (tt, tt) $
+    sets ! (of_opd ! (get_in ! (fld ! refl (stop !)) (sub ! 1 refl (whole !)))) refl fits $
+    sets ! (of_opd ! (get ! refl)) refl (tt, tt) $
+    sets ! (agg ! (and_then ! (get ! refl) (and_then ! (get ! refl) (no_more !)))) refl typed $
+    returns ! (look_at ! 0 refl) $ free_all ! refl $
+    suffices ! _ (ends_at 𝓛 f.ended hs c z w made (tt, tt) (tt, tt)) $ says ! (sym held.1) $
+    nothing ! $ nothing ! $ fjoin ! $ join ! $ nothing ! $ join ! $ done !))))

@@ -1,0 +1,75 @@
+//! A map by numbers behind a handle of C.
+ghost use Rattle.std.specs.Prelude.{◌≡◌, IsSome, None, Option, Some};
+ghost use Rattle.art_c.specs.Handles.{coded_behind, owns_behind, numbers_row};
+
+use crate::parts::Parts;
+use art_c_maps::NumberMap;
+use std::alloc::Global;
+use std::marker::Model;
+use std::mem;
+use std::ptr::null_mut;
+
+/// `art_u64_map` of the header: the address of a boxed map. For contracts the entries of that map, or none
+/// where the handle holds no map.
+#[repr(C)]
+#[derive(Drop)]
+pub struct NumberHandle {
+    ptr: *mut u8,
+    alloc: Global,
+    pub ghost held: { Option numbers_row.Denot } by { coded_behind numbers_row },
+}
+
+impl Model for NumberHandle {
+    ghost also_owns = { λ handle. owns_behind numbers_row handle.alloc handle.ptr handle.held };
+}
+
+impl NumberHandle {
+    /// A handle that holds no map.
+    pub(crate) fn empty(alloc: Global) -> NumberHandle
+        ensures { result.held ≡ None }
+    {
+        NumberHandle {
+            ptr: null_mut(),
+            alloc,
+        }
+    }
+
+    fn of_parts(parts: Parts<NumberMap, Global>) -> NumberHandle
+        ensures { result.held ≡ Some parts.value }
+    {
+        let Parts { ptr, alloc } = parts;
+        NumberHandle {
+            ptr: ptr as *mut u8,
+            alloc,
+        }
+    }
+
+    fn into_parts(self) -> Parts<NumberMap, Global>
+        requires { IsSome self.held }
+        ensures { Some result.value ≡ self.held }
+    {
+        let NumberHandle { ptr, alloc } = self;
+        Parts {
+            ptr: ptr as *mut NumberMap,
+            alloc,
+        }
+    }
+
+    /// Takes the map out of the handle.
+    pub(crate) fn take(&mut self, alloc: Global) -> Box<NumberMap>
+        requires { IsSome self.old.held }
+        ensures map { Some result.value ≡ self.old.held }
+        ensures none_left { self.new.held ≡ None }
+    {
+        mem::replace(self, NumberHandle::empty(alloc))
+            .into_parts()
+            .into_box()
+    }
+
+    /// Gives the handle this map.
+    pub(crate) fn hold(&mut self, map: Box<NumberMap>)
+        ensures { self.new.held ≡ Some map.value }
+    {
+        *self = NumberHandle::of_parts(Parts::of(map));
+    }
+}

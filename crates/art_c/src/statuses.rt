@@ -1,0 +1,11 @@
+//! The statuses that calls return, as the header names them.
+
+pub(crate) const NONE: u32 = 0;
+
+pub(crate) const SOME: u32 = 1;
+
+pub(crate) const NO_MEMORY: u32 = 2;
+
+pub(crate) const KEY_TOO_LONG: u32 = 3;
+
+pub(crate) const SMALL_BUFFER: u32 = 4;

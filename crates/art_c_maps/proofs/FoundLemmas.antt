@@ -1,0 +1,63 @@
+-- An entry that was found, read as key and value.
+use Rattle.std.proofs.Common.{◌≡◌, ◌≤◌, ◌∙◌, Bool, filter, ◌+◌, ◌-◌, ℕ, zero, suc, List, [], ◌∷◌, ◌++◌, length, map, Option, Some, None, Result, Ok, Err, IfOk, OnOk, refl, sym, ap, arith, length-append}
+use Rattle.std.specs.Option.{MatchOption, option_map}
+use Rattle.std.specs.Prelude.{slice_get}
+use Rattle.std.specs.Borrow.{Bor}
+use Rattle.std.proofs.lemmas.List.{length-map}
+use Rattle.std.proofs.lemmas.List.Sums.{count_by-le-length, length-filter}
+use Rattle.std.proofs.lemmas.Option.{slice_get-map}
+use Rattle.art_c_maps.specs.Entries.{entries_read, first_of, last_of}
+use Rattle.art_c_maps.specs.Unescaped.{len_and_value, unescaped}
+
+-- the last of a list is what it ends in
+get-last : {X : Type 0} (front : List X) (x : X) → slice_get (front ++ x ∷ []) (length front) ≡ Some x
+get-last [] x = refl
+get-last (y ∷ front) x = get-last front x
+
+pub last-yielded : {A B : Type 0} (view : A → B) (r : Option A) (all left : List B) (Empty : Type 0) → MatchOption r ((all ≡ []) × Empty) (λ x. all ≡ left ++ view x ∷ []) → option_map view r ≡ last_of all
+last-yielded view None all left Empty yields = rw yields.0 refl
+last-yielded view (Some x) all left Empty yields =
+    let long : length (left ++ view x ∷ []) - 1 ≡ length left = omega (arith, length-append left (view x ∷ [])) in
+    rw (yields, long, get-last left (view x)) refl
+
+module _ {T K V : Type 0} (read : List ℕ → K) (text : T → List ℕ) where
+  abbrev pub entry_read : T × V → K × V
+  entry_read entry = (read (text entry.0), entry.1)
+
+  -- behind references
+  abbrev pub now_of : Bor T × Bor V → T × V
+  now_of item = (item.0.now, item.1.now)
+
+  read-now : (found : Option (Bor T × Bor V)) → option_map (λ item. (read (text item.0.now), item.1.now)) found ≡ option_map entry_read (option_map now_of found)
+  read-now None = refl
+  read-now (Some item) = refl
+
+  -- an entry that was found among some is the one among those that are read
+  pub found-first : (found : Option (Bor T × Bor V)) (picked : List (T × V)) (all : List (K × V)) → option_map now_of found ≡ first_of picked → entries_read read text picked ≡ all
+      → option_map (λ item. (read (text item.0.now), item.1.now)) found ≡ first_of all
+  found-first found picked all is same = read-now found ∙ ap (option_map entry_read) is ∙ sym (slice_get-map entry_read picked 0) ∙ ap first_of same
+
+  pub found-last : (found : Option (Bor T × Bor V)) (picked : List (T × V)) (all : List (K × V)) → option_map now_of found ≡ last_of picked → entries_read read text picked ≡ all
+      → option_map (λ item. (read (text item.0.now), item.1.now)) found ≡ last_of all
+  found-last found picked all is same =
+      read-now found ∙ ap (option_map entry_read) is ∙ sym (slice_get-map entry_read picked (length picked - 1))
+      ∙ ap (λ n. slice_get (entries_read read text picked) (n - 1)) (sym (length-map picked entry_read)) ∙ ap last_of same
+
+-- key's length and value of an entry that was found
+pub lengths-of : {T : Type 0} (text : T → List ℕ) (found : Option (Bor T × Bor ℕ)) → option_map (λ item. (length (unescaped (text item.0.now)), item.1.now)) found
+    ≡ option_map len_and_value (option_map (λ item. (unescaped (text item.0.now), item.1.now)) found)
+lengths-of text None = refl
+lengths-of text (Some item) = refl
+
+module _ {A E : Type 0} where
+  pub if-ok : (r : Result A E) (P Q : A → Type 0) → ((x : A) → P x → Q x) → IfOk r P → IfOk r Q
+  if-ok (Ok x) P Q f p = f x p
+  if-ok (Err e) P Q f p = tt
+
+  pub on-ok : (r : Result A E) (P Q : Type 0) → (P → Q) → OnOk r P → OnOk r Q
+  on-ok (Ok x) P Q f p = f p
+  on-ok (Err e) P Q f p = tt
+
+-- no more pass a test than there are
+pub filter-fewer : {X : Type 0} (p : X → Bool) (xs passed : List X) → passed ≡ filter p xs → length passed ≤ length xs
+filter-fewer p xs passed same = omega (arith, ap length same, length-filter p xs, count_by-le-length p xs)

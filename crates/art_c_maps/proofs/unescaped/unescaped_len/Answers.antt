@@ -1,0 +1,7 @@
+use Rattle.std.proofs.Common.{rules, ◌≡◌, ◌≤◌, ◌++◌, drop, length, ℕ, ◌+◌, ◌<◌, List, [], ◌∷◌, arith, inl}
+use Rattle.art_c_maps.specs.Unescaped.{unescaped}
+use Rattle.art_c_maps.proofs.UnescapedLemmas.{length-unescaped}
+use Rattle.art_c_maps.proofs.unescaped.unescaped_len.Goals as goal
+
+pub count-requires-clause-fits : goal.count-requires-clause-fits
+count-requires-clause-fits c = inl (omega (arith, length-unescaped c.args.text.now, c.well_formed))

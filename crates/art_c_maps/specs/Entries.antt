@@ -1,0 +1,44 @@
+-- A map as the list of its entries, ascending by key: what calls read of it, and what they leave.
+use Rattle.std.specs.Prelude.{ℕ, ◌-◌, Bool, not, List, [], ◌∷◌, length, filter, map, min, take, Option, Some, None, nat_eq, slice_get, if◌then◌else◌}
+use Rattle.std.specs.List.{starts_with}
+use Rattle.std.specs.Ordering.{is_eq, is_ge, is_gt, is_le, is_lt, match_ordering}
+use Rattle.std.specs.declared.cmp.Ordering.{Ordering}
+
+module _ {K V : Type 0} (order : K → K → Ordering) where
+  -- the entries with this one before the first of a greater key, or in place of the one with its key
+  abbrev pub put : List (K × V) → K → V → List (K × V)
+  put [] key value = (key, value) ∷ []
+  put (other ∷ entries) key value =
+      match_ordering (order key other.0) ((key, value) ∷ other ∷ entries) ((key, value) ∷ entries) (other ∷ put entries key value)
+
+  -- the value of the entry with this key
+  abbrev pub value_of : List (K × V) → K → Option V
+  value_of [] key = None
+  value_of (entry ∷ entries) key = if is_eq (order entry.0 key) then Some entry.1 else value_of entries key
+
+  -- the entries without the one with this key
+  abbrev pub without : List (K × V) → K → List (K × V)
+  without entries key = filter (λ entry. not (is_eq (order entry.0 key))) entries
+
+  -- the entries at this key or after it; only after it where it is not included
+  abbrev pub entries_from : Bool → K → List (K × V) → List (K × V)
+  entries_from inclusive key entries = filter (λ entry. if inclusive then is_ge (order entry.0 key) else is_gt (order entry.0 key)) entries
+
+  -- the entries at this key or before it; only before it where it is not included
+  abbrev pub entries_to : Bool → K → List (K × V) → List (K × V)
+  entries_to inclusive key entries = filter (λ entry. if inclusive then is_le (order entry.0 key) else is_lt (order entry.0 key)) entries
+
+-- the entries whose keys begin with these bytes
+abbrev pub entries_with_prefix : {V : Type 0} → List ℕ → List (List ℕ × V) → List (List ℕ × V)
+entries_with_prefix prefix entries = filter (λ entry. starts_with nat_eq entry.0 prefix) entries
+
+-- the first and the last of these
+abbrev pub first_of : {X : Type 0} → List X → Option X
+first_of entries = slice_get entries 0
+
+abbrev pub last_of : {X : Type 0} → List X → Option X
+last_of entries = slice_get entries (length entries - 1)
+
+-- the entries with each key read from its text
+abbrev pub entries_read : {T K V : Type 0} → (List ℕ → K) → (T → List ℕ) → List (T × V) → List (K × V)
+entries_read read text entries = map (λ entry. (read (text entry.0), entry.1)) entries

@@ -1,0 +1,3 @@
+pub mod Entries
+pub mod Refusals
+pub mod Unescaped

@@ -1,0 +1,213 @@
+//! Maps by bytes.
+ghost use Rattle.std.specs.Prelude.{◌≡◌, ◌<◌, ◌^◌, [], length, IfErr, IfOk, OnErr, OnOk};
+ghost use Rattle.std.specs.Option.{option_map};
+ghost use Rattle.art_bytes.specs.Text.{text_order};
+ghost use Rattle.art_mapped.specs.Escaped.{escaped_text};
+ghost use Rattle.art_mapped.specs.Mapped.{mapped_text};
+ghost use Rattle.art_c_maps.specs.Entries.{entries_from, entries_to, entries_with_prefix, first_of, last_of, put, value_of, without};
+ghost use Rattle.art_c_maps.specs.Refusals.{IsRefused};
+ghost use Rattle.art_c_maps.specs.Unescaped.{key_written, len_and_value, unescaped};
+
+use crate::nearest::{bound_at, first_from, value_alone};
+use crate::refusal::Refusal;
+use crate::unescaped::write_unescaped;
+use art_bytes::AsBytes;
+use art_map::ArtMap;
+use art_tree::{Escaped, EscapedKey, InsertRefusal, Mapped, escaped_prefix};
+use std::alloc::{AllocError, Global};
+use std::marker::Model;
+use std::ops::Bound;
+
+type Word = Mapped<Escaped, Vec<u8>>;
+
+/// An ordered map from byte strings, any at all, to 64-bit values: the list of its entries, in ascending
+/// order of the bytes of their keys. No call has a condition.
+///
+/// A call that takes a key needs memory for it, twice its bytes, but where an earlier call had one as
+/// long: so it may fail with [`AllocError`]. The map is then unchanged.
+#[derive(Drop)]
+pub struct BytesMap {
+    entries: ArtMap<Word, u64, 16>,
+    sought: EscapedKey,
+}
+
+impl Model for BytesMap {
+    ghost use Rattle.std.specs.Prelude.{List, ℕ};
+    ghost use Rattle.art_mapped.specs.Mapped.{mapped_text};
+    ghost use Rattle.art_c_maps.specs.Entries.{entries_read};
+    ghost use Rattle.art_c_maps.specs.Unescaped.{unescaped};
+
+    ghost Value = { List (List ℕ × ℕ) };
+
+    ghost view = { λ map. entries_read unescaped mapped_text map.entries };
+}
+
+// Writes the key of an entry that was found, where it fits. Returns its length and the value.
+fn write_found(found: Option<(&Word, &u64)>, key_out: &mut [u8]) -> Option<(usize, u64)>
+    ensures found { result ≡ option_map
+        (λ (key, value). (length (unescaped (mapped_text key.now)), value.now)) found.entry }
+    ensures written { key_out.new ≡ key_written (option_map
+        (λ (key, value). (unescaped (mapped_text key.now), value.now)) found.entry) key_out.old }
+{
+    let (key, value) = found?;
+    let len = write_unescaped(key.as_bytes(), key_out);
+    Some((len, *value))
+}
+
+impl BytesMap {
+    /// A map with no entries.
+    pub fn new(alloc: Global) -> Result<BytesMap, AllocError>
+        ensures { IfOk result (λ map. map ≡ []) }
+    {
+        let sought = EscapedKey::new(alloc, &[])?;
+        Ok(BytesMap {
+            entries: ArtMap::new(alloc),
+            sought,
+        })
+    }
+
+    /// The number of entries. Takes constant time and no memory.
+    pub fn len(&self) -> usize
+        ensures { result ≡ length self.now }
+    {
+        self.entries.len()
+    }
+
+    /// Removes all entries. Keeps the memory.
+    pub fn clear(&mut self)
+        ensures { self.new ≡ [] }
+    {
+        self.entries.clear();
+    }
+
+    /// Reserves memory for `additional` more entries, but for their keys. The entries are unchanged, also
+    /// after a failure.
+    pub fn reserve(&mut self, additional: usize) -> Result<(), AllocError>
+        ensures same_entries { self.new ≡ self.old }
+    {
+        self.entries.reserve(additional)
+    }
+
+    /// Sets the value of a key, and returns the value that it had.
+    ///
+    /// After a refusal the entries are unchanged.
+    pub fn insert(&mut self, alloc: Global, key: &[u8], value: u64) -> Result<Option<u64>, Refusal>
+        ensures replaced { IfOk result
+            (λ before. before ≡ value_of text_order self.old key.now) }
+        ensures entries { OnOk result (self.new ≡ put text_order self.old key.now value) }
+        ensures not_too_long { OnOk result (length (escaped_text key.now) < 2 ^ 32) }
+        ensures refusal_due { IfErr result (IsRefused key.now) }
+        ensures same_entries { OnErr result (self.new ≡ self.old) }
+    {
+        self.entries.entries_ascend();
+        let Ok(bytes) = Vec::from_slice(alloc, key) else {
+            return Err(Refusal::OutOfMemory);
+        };
+        let Ok(word) = Word::new(alloc, bytes) else {
+            return Err(Refusal::OutOfMemory);
+        };
+        match self.entries.insert(word, value) {
+            Ok(before) => Ok(value_alone(before)),
+            Err(fault) => match fault.refusal {
+                InsertRefusal::KeyTooLong => Err(Refusal::KeyTooLong),
+                _ => Err(Refusal::OutOfMemory),
+            },
+        }
+    }
+
+    /// The value of a key, or None where there is none.
+    pub fn get(&mut self, key: &[u8]) -> Result<Option<u64>, AllocError>
+        ensures found { IfOk result (λ value. value ≡ value_of text_order self.old key.now) }
+        ensures same_entries { self.new ≡ self.old }
+    {
+        self.entries.entries_ascend();
+        self.sought.set(key)?;
+        Ok(self.entries.get(&self.sought).copied())
+    }
+
+    /// Removes a key, and returns the value that it had. After a failure the entries are unchanged.
+    pub fn remove(&mut self, key: &[u8]) -> Result<Option<u64>, AllocError>
+        ensures removed { IfOk result
+            (λ value. value ≡ value_of text_order self.old key.now) }
+        ensures entries { OnOk result (self.new ≡ without text_order self.old key.now) }
+        ensures same_entries { OnErr result (self.new ≡ self.old) }
+    {
+        self.entries.entries_ascend();
+        self.sought.set(key)?;
+        self.entries.remove(&self.sought)
+    }
+
+    /// Finds the first entry at a key or after it, only after it where it is not included. Writes its key
+    /// where it fits, and returns its key's length and its value.
+    pub fn next(
+        &mut self,
+        from: &[u8],
+        inclusive: bool,
+        key_out: &mut [u8],
+    ) -> Result<Option<(usize, u64)>, AllocError>
+        ensures found { IfOk result (λ found. found ≡ option_map len_and_value
+            (first_of (entries_from text_order inclusive from.now self.old))) }
+        ensures written { OnOk result (key_out.new ≡ key_written
+            (first_of (entries_from text_order inclusive from.now self.old)) key_out.old) }
+        ensures not_written { OnErr result (key_out.new ≡ key_out.old) }
+        ensures same_entries { self.new ≡ self.old }
+    {
+        self.entries.entries_ascend();
+        self.sought.set(from)?;
+        let found = first_from(&self.entries, &self.sought, inclusive);
+        Ok(write_found(found, key_out))
+    }
+
+    /// Finds the last entry at a key or before it, only before it where it is not included. Writes its key
+    /// where it fits, and returns its key's length and its value.
+    pub fn previous(
+        &mut self,
+        from: &[u8],
+        inclusive: bool,
+        key_out: &mut [u8],
+    ) -> Result<Option<(usize, u64)>, AllocError>
+        ensures found { IfOk result (λ found. found ≡ option_map len_and_value
+            (last_of (entries_to text_order inclusive from.now self.old))) }
+        ensures written { OnOk result (key_out.new ≡ key_written
+            (last_of (entries_to text_order inclusive from.now self.old)) key_out.old) }
+        ensures not_written { OnErr result (key_out.new ≡ key_out.old) }
+        ensures same_entries { self.new ≡ self.old }
+    {
+        self.entries.entries_ascend();
+        self.sought.set(from)?;
+        let end = bound_at(&self.sought, inclusive);
+        let found = self.entries.range(Bound::Unbounded, end).next_back();
+        Ok(write_found(found, key_out))
+    }
+
+    /// Finds the entry with the least key. Writes its key where it fits, and returns its key's length and
+    /// its value, or None where there is no entry. Takes no memory.
+    pub fn first(&self, key_out: &mut [u8]) -> Option<(usize, u64)>
+        ensures found { result ≡ option_map len_and_value (first_of self.now) }
+        ensures written { key_out.new ≡ key_written (first_of self.now) key_out.old }
+    {
+        write_found(self.entries.first(), key_out)
+    }
+
+    /// Finds the entry with the greatest key. Writes its key where it fits, and returns its key's length
+    /// and its value, or None where there is no entry. Takes no memory.
+    pub fn last(&self, key_out: &mut [u8]) -> Option<(usize, u64)>
+        ensures found { result ≡ option_map len_and_value (last_of self.now) }
+        ensures written { key_out.new ≡ key_written (last_of self.now) key_out.old }
+    {
+        write_found(self.entries.last(), key_out)
+    }
+
+    /// How many keys begin with these bytes. Takes time linear in their number, and memory for the
+    /// prefix.
+    pub fn count_prefix(&self, alloc: Global, prefix: &[u8]) -> Result<usize, AllocError>
+        ensures { IfOk result
+            (λ count. count ≡ length (entries_with_prefix prefix.now self.now)) }
+    {
+        self.entries.entries_ascend();
+        let escaped = escaped_prefix(alloc, prefix)?;
+        // The count is no greater, so it fits.
+        let _most = self.entries.len();
+        Ok(self.entries.prefix(&escaped).count())
+    }
+}

@@ -1,0 +1,14 @@
+//! Ordered maps as types without parameters, for the static library: `BytesMap` by any bytes and
+//! `NumberMap` by 64-bit numbers, both to 64-bit values. A contract sees a map as the list of its
+//! entries, ascending by key. `CALLING.md` shows how they are used.
+#![tactic(auto)]
+
+mod bytes_map;
+mod nearest;
+mod number_map;
+mod refusal;
+mod unescaped;
+
+pub use bytes_map::BytesMap;
+pub use number_map::NumberMap;
+pub use refusal::Refusal;

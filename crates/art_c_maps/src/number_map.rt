@@ -1,0 +1,145 @@
+//! Maps by 64-bit numbers.
+ghost use Rattle.std.specs.Prelude.{◌≡◌, [], length, IfOk, OnErr, OnOk};
+ghost use Rattle.std.specs.Int.{from_be_bytes, w64};
+ghost use Rattle.std.specs.Option.{option_map};
+ghost use Rattle.std.specs.Ordering.{nat_cmp};
+ghost use Rattle.art_mapped.specs.Mapped.{mapped_text};
+ghost use Rattle.art_c_maps.specs.Entries.{entries_from, entries_to, first_of, last_of, put, value_of, without};
+
+use crate::nearest::{bound_at, first_from, value_alone};
+use art_map::ArtMap;
+use art_tree::{Mapped, ToUBE};
+use std::alloc::{AllocError, Global};
+use std::marker::Model;
+use std::ops::Bound;
+
+type Number = Mapped<ToUBE, u64>;
+
+/// An ordered map from 64-bit numbers to 64-bit values: the list of its entries, in ascending order of
+/// their keys. No call has a condition.
+#[derive(Drop)]
+pub struct NumberMap {
+    entries: ArtMap<Number, u64, 16>,
+}
+
+impl Model for NumberMap {
+    ghost use Rattle.std.specs.Prelude.{List, ℕ};
+    ghost use Rattle.std.specs.Int.{from_be_bytes, w64};
+    ghost use Rattle.art_mapped.specs.Mapped.{mapped_text};
+    ghost use Rattle.art_c_maps.specs.Entries.{entries_read};
+
+    ghost Value = { List (ℕ × ℕ) };
+
+    ghost view = { λ map. entries_read (from_be_bytes w64) mapped_text map.entries };
+}
+
+// Key and value of an entry that was found.
+fn entry_of(found: Option<(&Number, &u64)>) -> Option<(u64, u64)>
+    ensures { result ≡ option_map
+        (λ (key, value). (from_be_bytes w64 (mapped_text key.now), value.now)) found.entry }
+{
+    let (key, value) = found?;
+    Some((key.value(), *value))
+}
+
+impl NumberMap {
+    /// A map with no entries. Takes no memory.
+    pub fn new(alloc: Global) -> NumberMap
+        ensures { result ≡ [] }
+    {
+        NumberMap {
+            entries: ArtMap::new(alloc),
+        }
+    }
+
+    /// The number of entries. Takes constant time and no memory.
+    pub fn len(&self) -> usize
+        ensures { result ≡ length self.now }
+    {
+        self.entries.len()
+    }
+
+    /// Removes all entries. Keeps the memory.
+    pub fn clear(&mut self)
+        ensures { self.new ≡ [] }
+    {
+        self.entries.clear();
+    }
+
+    /// Reserves memory for `additional` more entries. The entries are unchanged, also after a failure.
+    pub fn reserve(&mut self, additional: usize) -> Result<(), AllocError>
+        ensures same_entries { self.new ≡ self.old }
+    {
+        self.entries.reserve(additional)
+    }
+
+    /// Sets the value of a key, and returns the value that it had.
+    ///
+    /// Error: [`AllocError`] on an allocation failure. The entries are unchanged.
+    pub fn insert(&mut self, key: u64, value: u64) -> Result<Option<u64>, AllocError>
+        ensures replaced { IfOk result (λ before. before ≡ value_of nat_cmp self.old key) }
+        ensures entries { OnOk result (self.new ≡ put nat_cmp self.old key value) }
+        ensures same_entries { OnErr result (self.new ≡ self.old) }
+    {
+        self.entries.entries_ascend();
+        match self.entries.insert(Number::of(key), value) {
+            Ok(before) => Ok(value_alone(before)),
+            Err(_) => Err(AllocError),
+        }
+    }
+
+    /// The value of a key, or None where there is none. Takes no memory.
+    pub fn get(&self, key: u64) -> Option<u64>
+        ensures { result ≡ value_of nat_cmp self.now key }
+    {
+        self.entries.entries_ascend();
+        self.entries.get(&Number::of(key)).copied()
+    }
+
+    /// Removes a key, and returns the value that it had.
+    ///
+    /// Error: [`AllocError`] on an allocation failure, only where the key is there. The entries are
+    /// unchanged.
+    pub fn remove(&mut self, key: u64) -> Result<Option<u64>, AllocError>
+        ensures removed { IfOk result (λ value. value ≡ value_of nat_cmp self.old key) }
+        ensures entries { OnOk result (self.new ≡ without nat_cmp self.old key) }
+        ensures same_entries { OnErr result (self.new ≡ self.old) }
+    {
+        self.entries.entries_ascend();
+        self.entries.remove(&Number::of(key))
+    }
+
+    /// The first entry at a key or after it, only after it where it is not included. Takes no memory.
+    pub fn next(&self, from: u64, inclusive: bool) -> Option<(u64, u64)>
+        ensures { result ≡ first_of (entries_from nat_cmp inclusive from self.now) }
+    {
+        self.entries.entries_ascend();
+        let from = Number::of(from);
+        entry_of(first_from(&self.entries, &from, inclusive))
+    }
+
+    /// The last entry at a key or before it, only before it where it is not included. Takes no memory.
+    pub fn previous(&self, from: u64, inclusive: bool) -> Option<(u64, u64)>
+        ensures { result ≡ last_of (entries_to nat_cmp inclusive from self.now) }
+    {
+        self.entries.entries_ascend();
+        let from = Number::of(from);
+        let end = bound_at(&from, inclusive);
+        let mut entries = self.entries.range(Bound::Unbounded, end);
+        entry_of(entries.next_back())
+    }
+
+    /// The entry with the least key, or None where there is no entry. Takes no memory.
+    pub fn first(&self) -> Option<(u64, u64)>
+        ensures { result ≡ first_of self.now }
+    {
+        entry_of(self.entries.first())
+    }
+
+    /// The entry with the greatest key, or None where there is no entry. Takes no memory.
+    pub fn last(&self) -> Option<(u64, u64)>
+        ensures { result ≡ last_of self.now }
+    {
+        entry_of(self.entries.last())
+    }
+}

@@ -1,0 +1,64 @@
+//! The bytes of escaped texts.
+ghost use Rattle.std.specs.Prelude.{◌≡◌, ◌≤◌, ◌++◌, drop, length};
+ghost use Rattle.std.specs.Iterator.{YieldsFirst, item_count};
+ghost use Rattle.art_c_maps.specs.Unescaped.{unescaped, written};
+
+use std::marker::Model;
+
+// The bytes of an escaped text that are left.
+#[derive(Drop)]
+struct Unescaped<'a> {
+    text: &'a [u8],
+}
+
+impl<'a> Model for Unescaped<'a> {
+    ghost use Rattle.std.specs.Prelude.{List, ℕ};
+    ghost use Rattle.art_c_maps.specs.Unescaped.{unescaped};
+
+    ghost Value = { List ℕ };
+
+    ghost view = { λ bytes. unescaped bytes.text.now };
+}
+
+impl<'a> Iterator for Unescaped<'a> {
+    type Item = u8;
+
+    ghost next_gives = { YieldsFirst (λ rest. rest) };
+
+    ghost remaining = { item_count (λ rest. rest) };
+
+    fn next(&mut self) -> Option<u8> {
+        let (first, rest) = self.text.split_first()?;
+        if *first != 0 {
+            self.text = rest;
+            return Some(*first);
+        }
+        let (second, rest) = rest.split_first()?;
+        if *second == 0 {
+            return None;
+        }
+        self.text = rest;
+        Some(0)
+    }
+}
+
+// How many bytes an escaped text has.
+fn unescaped_len(text: &[u8]) -> usize
+    ensures { result ≡ length (unescaped text.now) }
+{
+    Unescaped { text }.count()
+}
+
+/// Writes the bytes of an escaped text, where they fit. Returns how many they are.
+pub(crate) fn write_unescaped(text: &[u8], out: &mut [u8]) -> usize
+    ensures len { result ≡ length (unescaped text.now) }
+    ensures written { out.new ≡ written (unescaped text.now) out.old }
+{
+    let len = unescaped_len(text);
+    if len <= out.len() {
+        for (index, byte) in (Unescaped { text }).enumerate() {
+            out[index] = byte;
+        }
+    }
+    len
+}
