@@ -32,7 +32,7 @@ const ENOUGH_LEAVES: usize = 6;
 // How many nodes are visited at once.
 const VISITS: usize = 16;
 // Where a visit finds fewer leaves, the links are faster.
-const LEAVES_A_VISIT: usize = 3;
+const LEAVES_A_VISIT: usize = 2;
 
 /// A way down a tree, and the leaves that are expected next. Nodes and leaves are numbers here, and
 /// none needs to be there.

@@ -156,6 +156,7 @@ fn text_below_spot<'a, K: AsBytes, V, const PREFIX_LEN: usize>(
 
 // The whole prefix of the inner node at a spot, from the node where it stores all of it, and else
 // from the key bytes of a leaf below, which are returned too.
+#[inline(always)]
 fn whole_prefix<
     'n,
     'a: 'n,
@@ -192,6 +193,7 @@ fn whole_prefix<
 // The spot of the child of an inner node where the search goes on, or else the place of the key. A
 // prefix that is longer than `PREFIX_LEN` is read from the key bytes of one leaf, which serve for all
 // nodes on the way: wherever the search goes on, that leaf is below.
+#[inline(always)]
 fn next_spot_in<'a, K: AsBytes, V, const PREFIX_LEN: usize, N: InnerNodeRead<K, V, PREFIX_LEN>>(
     arena: &'a NodeArena<K, V, PREFIX_LEN>,
     node: &N,
@@ -241,6 +243,7 @@ fn next_spot_in<'a, K: AsBytes, V, const PREFIX_LEN: usize, N: InnerNodeRead<K, 
 }
 
 // The same for a node of any kind.
+#[inline(always)]
 fn next_spot<'a, K: AsBytes, V, const PREFIX_LEN: usize>(
     arena: &'a NodeArena<K, V, PREFIX_LEN>,
     spot: Spot<K, V, PREFIX_LEN>,
