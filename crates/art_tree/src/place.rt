@@ -18,7 +18,7 @@ ghost use Rattle.art_tree.specs.Sides.{IsNextTo, comes_before, is_last};
 ghost use Rattle.art_tree.specs.declared.place.Place.TheVariants.{Absent, Differs};
 ghost use Rattle.art_tree.specs.declared.place.Side.{Side};
 
-use art_arena::{End, NodeArena, NodeRef, any_leaf, end_leaf};
+use art_arena::{End, NodeArena, any_leaf, end_leaf};
 use art_bytes::AsBytes;
 use art_nodes::{InnerNodeRead, LeafNode, NodePtr, OpaqueNodePtr, common_prefix_len};
 
@@ -261,13 +261,10 @@ fn next_spot<'a, K: AsBytes, V, const PREFIX_LEN: usize>(
         IsDescentIn K.text arena.now tree key.now spot (option_copied known.entry) →
         IfErr result (Belongs tree key.now) }
 {
-    match arena.node_ref(spot.node) {
-        NodeRef::Node4(node) => next_spot_in(arena, node, spot, key, known),
-        NodeRef::Node16(node) => next_spot_in(arena, node, spot, key, known),
-        NodeRef::Node48(node) => next_spot_in(arena, node, spot, key, known),
-        NodeRef::Node256(node) => next_spot_in(arena, node, spot, key, known),
-        NodeRef::LeafNode(_) => Err(place_at_leaf(arena, spot.node.cast().unwrap(), spot, key)),
-    }
+    let Some(node) = arena.node_ref(spot.node).inner() else {
+        return Err(place_at_leaf(arena, spot.node.cast().unwrap(), spot, key));
+    };
+    next_spot_in(arena, &node, spot, key, known)
 }
 
 // The place of a key whose search ends at this leaf.

@@ -1,10 +1,11 @@
-use Rattle.std.proofs.Common.{◌≡◌, ◌≢◌, ◌∙◌, ap, sym}
+use Rattle.std.proofs.Common.{◌≡◌, ◌≢◌, ◌∙◌, IsNone, refl, sym, subst}
 use Rattle.art_header.specs.declared.node_type.NodeType.TheVariants.{Leaf}
 use Rattle.art_nodes.specs.Pointers.{node_kind, opaque_key, slab_key}
 use Rattle.art_arena.specs.Arena.{Nothing, held}
+use Rattle.art_arena.specs.InnerRef.{inner_shown}
 use Rattle.art_arena.specs.Reader.{shown}
 use Rattle.art_arena.specs.Trees.{Tree}
-use Rattle.art_arena.proofs.StandingLaws.{at-some, leaf_kind}
+use Rattle.art_arena.proofs.StandingLaws.{at-some, inner-there}
 use Rattle.art_tree.specs.Places.{IsSpotIn}
 use Rattle.art_tree.specs.Search.{leaf_pointer}
 use Rattle.art_tree.proofs.InsertLemmas.NodeLemmas.{leaf-pointer-fits, slice-fits, spot-fits}
@@ -21,12 +22,17 @@ pub place_at_leaf-requires : goal.place_at_leaf-requires
 place_at_leaf-requires g c =
     let (tree, on) = c.requires in
     let spot = c.args.spot in
-    let arena = c.args.arena.now in
-    let kind : node_kind spot.node ≡ Leaf = leaf_kind arena (node_kind spot.node) (opaque_key spot.node) c.in-LeafNode.field-0.now (c.node_ref.ensures.node ∙ ap shown c.in-LeafNode.is) in
+    let kind : node_kind spot.node ≡ Leaf = sym c.node_ref.ensures.kind ∙ c.inner.ensures.leaf.0 (subst IsNone (sym c.in_default.is) refl) in
     let at = at-some (λ leaf. slab_key leaf ≡ opaque_key spot.node) c.cast.result c.unwrap.result c.unwrap.ensures c.cast.ensures.key in
     let same : spot.node ≡ leaf_pointer c.unwrap.result = λ i. record { node_type = kind i; key = (sym at) i; leaf = record {} } in
-    let is_spot : (tree : Tree _) × IsSpotIn g.K.AsBytes.text arena tree c.args.key.now spot = (tree, on.spot_in) in
+    let is_spot : (tree : Tree _) × IsSpotIn g.K.AsBytes.text c.args.arena.now tree c.args.key.now spot = (tree, on.spot_in) in
     assumption (slice-fits, leaf-pointer-fits, spot-fits)
 
-pub returns-in-LeafNode-clause-place : goal.returns-in-LeafNode-clause-place
-returns-in-LeafNode-clause-place g c = λ tree on. c.place_at_leaf.ensures tree on.spot_in
+pub returns-in_default-clause-place : goal.returns-in_default-clause-place
+returns-in_default-clause-place g c = λ tree on. c.place_at_leaf.ensures tree on.spot_in
+
+pub next_spot_in-requires : goal.next_spot_in-requires
+next_spot_in-requires g c =
+    let node = inner_shown c.in-Some.node in
+    let holds = c.node_ref.ensures.node ∙ inner-there (shown c.node_ref.result) c.inner.result c.inner.ensures.node c.in-Some.node c.in-Some.is in
+    assumption slice-fits
