@@ -268,6 +268,7 @@ fn next_spot<'a, K: AsBytes, V, const PREFIX_LEN: usize>(
 }
 
 // The place of a key whose search ends at this leaf.
+#[inline(always)]
 fn place_at_leaf<K: AsBytes, V, const PREFIX_LEN: usize>(
     arena: &NodeArena<K, V, PREFIX_LEN>,
     leaf: NodePtr<PREFIX_LEN, LeafNode<K, V, PREFIX_LEN>>,
@@ -302,6 +303,7 @@ fn place_at_leaf<K: AsBytes, V, const PREFIX_LEN: usize>(
 }
 
 // The place of a key, by a search that begins at a spot to which the key leads.
+#[inline(always)]
 fn find_place_from<K: AsBytes, V, const PREFIX_LEN: usize>(
     arena: &NodeArena<K, V, PREFIX_LEN>,
     spot: Spot<K, V, PREFIX_LEN>,
@@ -327,6 +329,7 @@ fn find_place_from<K: AsBytes, V, const PREFIX_LEN: usize>(
 }
 
 /// The place of the key in the tree at `root`. Takes no memory.
+#[inline(always)]
 pub(crate) fn find_place<K: AsBytes, V, const PREFIX_LEN: usize>(
     arena: &NodeArena<K, V, PREFIX_LEN>,
     root: OpaqueNodePtr<K, V, PREFIX_LEN>,
@@ -388,6 +391,7 @@ fn find_places<K: AsBytes, V, const PREFIX_LEN: usize>(
 }
 
 // The child under the least byte above this one of the inner node at the pointer. A leaf has none.
+#[inline(always)]
 fn child_above<K, V, const PREFIX_LEN: usize>(
     arena: &NodeArena<K, V, PREFIX_LEN>,
     pointer: OpaqueNodePtr<K, V, PREFIX_LEN>,
@@ -404,6 +408,7 @@ fn child_above<K, V, const PREFIX_LEN: usize>(
 
 /// The leaf beside the place of a child under the byte: the first one after it, or else the last one
 /// before it.
+#[inline(always)]
 pub(crate) fn leaf_beside_child<K: AsBytes, V, const PREFIX_LEN: usize>(
     arena: &NodeArena<K, V, PREFIX_LEN>,
     pointer: OpaqueNodePtr<K, V, PREFIX_LEN>,
