@@ -14,7 +14,7 @@ use Rattle.art_arena.specs.Standing.{StandsIn}
 use Rattle.art_arena.specs.Trees.{Tree, leaves}
 use Rattle.art_tree.specs.Art.{IsAlone}
 use Rattle.art_tree.specs.Entries.{entries_of}
-use Rattle.art_map.specs.Calls.{ChangesInTurn}
+use Rattle.art_map.specs.Calls.{ChangesInTurn, MayBeCalledInTurn, TakesEntry}
 use Rattle.art_map.specs.LeafEntries.{ChangesLeaf, keys_of}
 use Rattle.art_map.specs.Runs.{entries_under, leaf_entry}
 use Rattle.art_map.proofs.ListLemmas.{slot-of}
@@ -105,12 +105,13 @@ module _ {F K V : Type 0} {P : ℕ} (g : Mut F (Bor K × (MutBor V × Unit {0}))
     pub todo : List ℕ
     pub parts : keys_of (leaves tree) ≡ done ++ todo
     pub here : at ≡ slice_get todo 0
+    pub callable : MayBeCalledInTurn g f (entries_under now todo)
     pub whole : (rest : List (K × V)) → ChangesInTurn g f (entries_under now todo) rest → ChangesInTurn g start entries (entries_under now done ++ rest)
 
   -- before the first call
   pub along-start : (arena : NodeArena K V P) (root : OpaqueNodePtr K V P) (tree : Tree (OpaqueNodePtr K V P)) → IsAlone text arena root tree → entries_under arena (keys_of (leaves tree)) ≡ entries
-      → (pointer : OpaqueNodePtr K V P) (x : List ℕ) (others : List (OpaqueNodePtr K V P × List ℕ)) → leaves tree ≡ (pointer, x) ∷ others → IsAlong arena (Some (opaque_key pointer)) start
-  along-start arena root tree alone are pointer x others is = record {
+      → (pointer : OpaqueNodePtr K V P) (x : List ℕ) (others : List (OpaqueNodePtr K V P × List ℕ)) → leaves tree ≡ (pointer, x) ∷ others → MayBeCalledInTurn g start entries → IsAlong arena (Some (opaque_key pointer)) start
+  along-start arena root tree alone are pointer x others is may = record {
     root = root;
     tree = tree;
     alone = alone;
@@ -118,6 +119,7 @@ module _ {F K V : Type 0} {P : ℕ} (g : Mut F (Bor K × (MutBor V × Unit {0}))
     todo = keys_of (leaves tree);
     parts = refl;
     here = sym (ap (λ all. slice_get (keys_of all) 0) is);
+    callable = subst (MayBeCalledInTurn g start) (sym are) may;
     whole = λ rest turn. subst (λ es. ChangesInTurn g start es rest) are turn;
   }
 
@@ -126,6 +128,12 @@ module _ {F K V : Type 0} {P : ℕ} (g : Mut F (Bor K × (MutBor V × Unit {0}))
   along-held now at f along =
       let (keys, is) = first-is at along.todo along.here in
       first-held now along.done at keys (subst (Spells now) (along.parts ∙ ap (λ todo. along.done ++ todo) is) along.alone.spelled)
+
+  -- the closure may be called at the entry of that leaf
+  pub along-callable : (now : NodeArena K V P) (at : ℕ) (f : F) → IsAlong now (Some at) f → (leaf : LeafNode K V P) → leaf_at now at ≡ Some leaf → TakesEntry g f (leaf_entry leaf)
+  along-callable now at f along leaf there =
+      let (keys, is) = first-is at along.todo along.here in
+      along.callable.at [] (entries_under now keys) (leaf_entry leaf) f (ap (entries_under now) is ∙ entries-cons now at keys leaf there) refl
 
   -- after the last call
   pub along-end : (now : NodeArena K V P) (f : F) → IsAlong now None f → ((root : OpaqueNodePtr K V P) (tree : Tree (OpaqueNodePtr K V P)) → IsAlone text now root tree → entries_under now (keys_of (leaves tree)) ≡ entries_of text now)
@@ -173,6 +181,14 @@ module _ {F K V : Type 0} {P : ℕ} (g : Mut F (Bor K × (MutBor V × Unit {0}))
         let later = subst (λ es. ChangesInTurn g f' es rest) (entries-kept old new at others keys apart.1) turn in
         subst (λ es. ChangesInTurn g f es (now-entry ∷ rest)) (sym (ap (entries_under old) todo-is ∙ entries-cons old at keys called.leaf called.there)) (called.value, f', rest, called.called, later, refl)
 
+    -- it may be called on
+    callable-on : MayBeCalledInTurn g f' (entries_under new keys)
+    callable-on =
+        let apart = apart-at along.done at keys spells.distinct in
+        let first = leaf_entry called.leaf in
+        let todo : entries_under old along.todo ≡ first ∷ entries_under new keys = ap (entries_under old) todo-is ∙ entries-cons old at keys called.leaf called.there ∙ ap (λ es. first ∷ es) (sym (entries-kept old new at others keys apart.1)) in
+        record { at = λ before after entry f'' is left. along.callable.at (first ∷ before) after entry f'' (todo ∙ ap (λ es. first ∷ es) is) (f', (called.value, called.called), left) }
+
     -- after one more call, at the next leaf
     pub along-next : (next : Option ℕ) → next ≡ next_at new at → IsAlong new next f'
     along-next next is = record {
@@ -183,6 +199,7 @@ module _ {F K V : Type 0} {P : ℕ} (g : Mut F (Bor K × (MutBor V × Unit {0}))
       todo = keys;
       parts = parts ∙ sym (append_assoc along.done (at ∷ []) keys);
       here = is ∙ next-is new along.done at keys spells;
+      callable = callable-on;
       whole = λ rest turn. subst (ChangesInTurn g start entries) (sym (done-is rest)) (along.whole (now-entry ∷ rest) (turned rest turn));
     }
 

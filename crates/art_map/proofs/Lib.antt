@@ -6,9 +6,13 @@ mod LentLemmas
 mod LinkLemmas
 mod ListLemmas
 mod LoadedLemmas
+mod MergeLemmas
+mod OwnedKeyLemmas
 mod PartLemmas
 mod RangeLemmas
+mod RefusalLemmas
 mod RunLemmas
 mod SetLemmas
+mod SetOrders
 mod StepLemmas
 mod TextLemmas

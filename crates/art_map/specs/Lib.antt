@@ -4,6 +4,7 @@ pub mod Cuts
 pub mod Entries
 pub mod LeafEntries
 pub mod MapLending
+pub mod Merges
 pub mod Ranges
 pub mod Runs
 pub mod Sets

@@ -1,11 +1,12 @@
 //! A closure that is called at each entry of a tree, and may change the value.
-ghost use Rattle.std.specs.Prelude.{◌≡◌};
-ghost use Rattle.art_arena.specs.Links.{HoldsLeaf};
+ghost use Rattle.std.specs.Prelude.{◌≡◌, Some};
+ghost use Rattle.art_arena.specs.Links.{HoldsLeaf, leaf_at};
 ghost use Rattle.art_nodes.specs.Pointers.{slab_key};
 ghost use Rattle.art_tree.specs.Art.{IsAlone};
 ghost use Rattle.art_tree.specs.Entries.{entries_of};
-ghost use Rattle.art_map.specs.Calls.{ChangesInTurn};
+ghost use Rattle.art_map.specs.Calls.{ChangesInTurn, MayBeCalledInTurn, TakesEntry};
 ghost use Rattle.art_map.specs.LeafEntries.{ChangesLeaf};
+ghost use Rattle.art_map.specs.Runs.{leaf_entry};
 
 use crate::leaf_entries::leaves_hold_the_entries;
 use art_arena::{End, end_leaf};
@@ -22,8 +23,8 @@ fn call_at<K: AsBytes, V, const PREFIX_LEN: usize, F: FnMut(&K, &mut V)>(
     f: &mut F,
 )
     requires held { HoldsLeaf tree.old.arena (slab_key leaf) }
-    requires callable { F.IsAlwaysCallable f.old }
-    ensures callable { F.IsAlwaysCallable f.new }
+    requires callable { (held : _) → leaf_at tree.old.arena (slab_key leaf) ≡ Some held →
+        TakesEntry F.FnMut f.old (leaf_entry held) }
     ensures called { ChangesLeaf F.FnMut tree.old.arena tree.new.arena (slab_key leaf) f.old f.new }
     ensures alone { (root : _) (whole : _) → IsAlone K.text tree.old.arena root whole →
         IsAlone K.text tree.new.arena root whole }
@@ -39,7 +40,7 @@ pub(crate) fn for_each_entry<K: AsBytes, V, const PREFIX_LEN: usize, F: FnMut(&K
     tree: &mut ArtTree<K, V, PREFIX_LEN>,
     mut f: F,
 )
-    requires { F.IsAlwaysCallable f }
+    requires { MayBeCalledInTurn F.FnMut f (entries_of K.text tree.old.arena) }
     ensures { ChangesInTurn F.FnMut f (entries_of K.text tree.old.arena)
         (entries_of K.text tree.new.arena) }
 {

@@ -16,7 +16,8 @@ use Rattle.index.specs.Replies.{is_within}
 use Rattle.index.specs.Rows.{address_order, row_order, IsIndex}
 use Rattle.index.specs.declared.reading.Reading.{Reading}
 use Rattle.index.specs.declared.rows.Row.{Row}
-use Rattle.index.proofs.EntryLemmas.{values_of, put_there, put_only, put_all, filter_values, pairs_of_images}
+use Rattle.art_map.proofs.CallLaws.{all_after_put}
+use Rattle.index.proofs.EntryLemmas.{values_of, put_there, put_only, filter_values, pairs_of_images}
 use Rattle.index.proofs.KeyLemmas.{key_order, between_places}
 
 -- the row is one of the first ones
@@ -86,7 +87,7 @@ module _ {K : Type 0} (text : K → List ℕ) (table : List Reading) where
         by_side (inr same) = subst (IsAmong table (n + 1)) same (omega (arith, at), here)
 
     pub has_one_more : HasRows (n + 1) more
-    has_one_more = rw put record { keyed = put_all text (IsKeyed text) entries (key, row) has.keyed key_is; only = only_more; there = there_more }
+    has_one_more = rw put record { keyed = all_after_put text (IsKeyed text) entries (key, row) has.keyed key_is; only = only_more; there = there_more }
 
   -- all rows, in ascending order
   pub is_index : (n : ℕ) (entries : List (K × Row)) → HasRows n entries → n ≡ length table → AllPairs (λ a b. text_order a b ≡ Less) (map (λ entry. text entry.0) entries) → IsIndex table (values_of entries)

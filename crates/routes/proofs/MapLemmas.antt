@@ -1,12 +1,9 @@
 -- The map of a table, beside its routes.
 use Rattle.std.proofs.Common.{◌≡◌, ◌≢◌, ◌∙◌, ℕ, ◌+◌, ◌-◌, ◌*◌, ◌/◌, ◌%◌, ◌^◌, ◌<◌, ◌≤◌, inl, inr, Bool, true, false, cond, List, [], ◌∷◌, ◌++◌, All, Contains, Option, Some, None, length, get_or, set, take, refl, sym, ap, subst, arith, nat_eq}
-use Rattle.std.specs.Cmp.Lexicographic.{pointwise, bytes_decides, texts_ties}
+use Rattle.std.specs.Cmp.Lexicographic.{pointwise}
 use Rattle.std.specs.Int.{w128, to_be_bytes}
 use Rattle.std.specs.Prelude.{MatchOption, IfSome, IfNone, not}
 use Rattle.std.specs.Option.{is_some, option_map}
-use Rattle.std.specs.Ordering.{match_ordering, is_eq}
-use Rattle.std.specs.declared.cmp.Ordering.{Ordering}
-use Rattle.std.specs.declared.cmp.Ordering.TheVariants.{Less, Equal, Greater}
 use Rattle.std.proofs.Math.Seq.{take_all}
 use Rattle.std.proofs.Math.Nat.{pow-le-pow_right, div-le_self}
 use Rattle.std.proofs.lemmas.Bool.{cases_lt}
@@ -17,6 +14,7 @@ use Rattle.std.proofs.lemmas.List.Quantifiers.{all_pairs_push}
 use Rattle.std.proofs.lemmas.Nat.{shr_split}
 use Rattle.art_bytes.specs.Text.{text_order}
 use Rattle.art_mapped.specs.DigitLaws.{number_of, number_of-digits}
+use Rattle.art_map.proofs.CallLaws.{found_after_put, same_text, text_itself}
 use Rattle.art_map.specs.Entries.{entry_with}
 use Rattle.art_tree.specs.Entries.{put_entry}
 use Rattle.routes.specs.declared.address.Address.{Address}
@@ -70,49 +68,6 @@ same_network a b is also same =
 
 key_of_one : (a b : Route) → a.network ≡ b.network → key_of_route a ≡ key_of_route b
 key_of_one a b same i = key_text (same i).address (same i).length
-
--- what is found once an entry is in its place
-text_itself : (a : List ℕ) → pointwise nat_eq a a ≡ true
-text_itself a = (bytes_decides a a).1 refl
-
-same_text : (a b : List ℕ) → pointwise nat_eq a b ≡ true → a ≡ b
-same_text a b = (bytes_decides a b).0
-
-apart : (a b : List ℕ) → text_order a b ≡ Greater → pointwise nat_eq a b ≡ true → ⊥
-apart a b greater same = let wrong : true ≡ false = sym same ∙ texts_ties a b ∙ ap is_eq greater in absurd (cc)
-
-same_order : (a b : List ℕ) → text_order a b ≡ Equal → a ≡ b
-same_order a b equal = same_text a b (texts_ties a b ∙ ap is_eq equal)
-
-module _ {V : Type 0} (entry : List ℕ × V) (x : List ℕ) where
-  abbrev is_at : Bool
-  is_at = pointwise nat_eq entry.0 x
-
-  put_finds : (entries : List (List ℕ × V)) → entry_with itself (put_entry itself entries entry) x ≡ cond is_at (Some entry) (entry_with itself entries x)
-  put_finds [] = refl
-  put_finds (other ∷ others) = by_order (put_finds others) (text_order entry.0 other.0) refl
-    where
-      placed : (o : Ordering) → text_order entry.0 other.0 ≡ o → entry_with itself (put_entry itself (other ∷ others) entry) x ≡ entry_with itself (match_ordering o (entry ∷ other ∷ others) (entry ∷ others) (other ∷ put_entry itself others entry)) x
-      placed o is = ap (λ o. entry_with itself (match_ordering o (entry ∷ other ∷ others) (entry ∷ others) (other ∷ put_entry itself others entry)) x) is
-
-      by_order : (entry_with itself (put_entry itself others entry) x ≡ cond is_at (Some entry) (entry_with itself others x)) → (o : Ordering) → text_order entry.0 other.0 ≡ o → entry_with itself (put_entry itself (other ∷ others) entry) x ≡ cond is_at (Some entry) (entry_with itself (other ∷ others) x)
-      by_order rest Less is = placed Less is
-      by_order rest Equal is = placed Equal is ∙ by_test is_at refl
-        where
-          by_test : (t : Bool) → is_at ≡ t → entry_with itself (entry ∷ others) x ≡ cond is_at (Some entry) (entry_with itself (other ∷ others) x)
-          by_test true at = rw at refl
-          by_test false at =
-              let off : pointwise nat_eq other.0 x ≡ false = ap (λ y. pointwise nat_eq y x) (sym (same_order entry.0 other.0 is)) ∙ at in
-              rw (at, off) refl
-      by_order rest Greater is = placed Greater is ∙ by_test (pointwise nat_eq other.0 x) refl
-        where
-          off : pointwise nat_eq other.0 x ≡ true → (t : Bool) → is_at ≡ t → is_at ≡ false
-          off at true same = absurd (apart entry.0 other.0 is (ap (pointwise nat_eq entry.0) (same_text other.0 x at) ∙ same))
-          off at false differ = differ
-
-          by_test : (t : Bool) → pointwise nat_eq other.0 x ≡ t → entry_with itself (other ∷ put_entry itself others entry) x ≡ cond is_at (Some entry) (entry_with itself (other ∷ others) x)
-          by_test true at = let apart = off at is_at refl in rw (at, apart) refl
-          by_test false at = rw at rest
 
 -- what `try_insert` says of an entry that is added, and of one that is there
 module _ (map longer : List (List ℕ × Route)) (key text : List ℕ) (route : Route) (at : key ≡ text) where
@@ -175,7 +130,7 @@ module _ (routes : List Route) (map : List (List ℕ × Route)) (has_length : Li
         here same = ap (λ m. get_or marked m false) same ∙ get_or-set_same has_length (mark_of route) true false wide
 
     finds : (x : List ℕ) → entry_with itself map_more x ≡ cond (pointwise nat_eq (key_of_route route) x) (Some (key_of_route route, route)) (entry_with itself map x)
-    finds x = put_finds (key_of_route route, route) x map
+    finds x = found_after_put itself map (key_of_route route, route) x
 
     finds_old : (other : Route) → entry_with itself map (key_of_route other) ≡ Some (key_of_route other, other) → entry_with itself map_more (key_of_route other) ≡ Some (key_of_route other, other)
     finds_old other found = finds (key_of_route other) ∙ by_test (pointwise nat_eq (key_of_route route) (key_of_route other)) refl

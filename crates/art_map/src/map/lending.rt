@@ -2,7 +2,7 @@
 ghost use Rattle.std.specs.Prelude.{◌≡◌, map};
 ghost use Rattle.std.specs.Borrow.{sem};
 ghost use Rattle.std.specs.Option.{option_copied_mut, option_map};
-ghost use Rattle.art_map.specs.Calls.{ChangesInTurn};
+ghost use Rattle.art_map.specs.Calls.{ChangesInTurn, MayBeCalledInTurn};
 ghost use Rattle.art_map.specs.Entries.{entry_with};
 ghost use Rattle.art_map.specs.MapLending.{LendsValueIn};
 
@@ -36,10 +36,12 @@ impl<K: AsBytes, V, const PREFIX_LEN: usize> ArtMap<K, V, PREFIX_LEN> {
     /// Calls the closure at each entry, in ascending order of the bytes of their keys. It may change
     /// the value, and the map ends with the same keys, each with the value that its call left. Visits
     /// the nodes on the way to the first entry; then each entry takes constant time beside its call.
-    /// Takes no memory and never fails.
+    /// Takes no memory and never fails. Condition: the closure may be called at each entry, as the calls
+    /// before leave it.
     ///
     /// Where each call leaves what a function makes of key and value, and changes nothing else, the
-    /// lemma `values_same` of `proofs/CallLaws.antt` has the entries afterwards.
+    /// lemma `values_same` of `proofs/CallLaws.antt` has the entries afterwards. Where the closure may be
+    /// called at any argument, `always_in_turn` there shows the condition.
     ///
     /// (from crates/art_map_tests/src/map/taken_entries.rt)
     /// ```rust
@@ -47,7 +49,7 @@ impl<K: AsBytes, V, const PREFIX_LEN: usize> ArtMap<K, V, PREFIX_LEN> {
     /// assert!(rt; prices.get(b"tin") == Some(&51));
     /// ```
     pub fn for_each_value_mut<F: FnMut(&K, &mut V)>(&mut self, f: F)
-        requires { F.IsAlwaysCallable f }
+        requires { MayBeCalledInTurn F.FnMut f self.old }
         ensures in_turn { ChangesInTurn F.FnMut f self.old self.new }
         ensures same_keys { map (λ entry. entry.0) self.new ≡ map (λ entry. entry.0) self.old }
     {

@@ -7,6 +7,12 @@ use Rattle.art_arena.specs.Links.{Spells, leaf_at, with_value_at}
 use Rattle.art_map.proofs.CalledLemmas.{alone-kept, held-slot}
 use Rattle.art_map.proofs.each_value.call_at.Goals as goal
 
+pub f-requires : goal.f-requires
+f-requires g c =
+    let arena = c.args.tree.now.arena in
+    let (leaf, there) = held-slot (leaf_at arena (slab_key c.args.leaf)) c.requires.held in
+    c.requires.callable leaf there _ _ (same_Some _ _ (sym c.as_key_ref_value_mut-value.ensures.key ∙ ap (option_map leaf_key) there)) (same_Some _ _ (sym c.as_key_ref_value_mut-value.ensures.value ∙ ap (option_map leaf_value) there))
+
 pub returns-clause-called : goal.returns-clause-called
 returns-clause-called g c =
     let arena = c.args.tree.now.arena in

@@ -7,7 +7,7 @@ use Rattle.art_map.proofs.each_value.for_each_entry.Given as goal
 -- the closure was called at the leaves before this one, and may be called on
 abbrev pub invariant-along : goal.invariant-along
 invariant-along g l =
-    goal.F-IsAlwaysCallable g l.f × IsAlong g.F.FnMut g.K.AsBytes.text (entries_of g.K.AsBytes.text l.fn.tree.arena) l.fn.f l.tree.arena (option_map slab_key l.at) l.f
+    IsAlong g.F.FnMut g.K.AsBytes.text (entries_of g.K.AsBytes.text l.fn.tree.arena) l.fn.f l.tree.arena (option_map slab_key l.at) l.f
 
 abbrev pub decreases-along : goal.decreases-along
 decreases-along g l = left-from l.tree.arena (option_map slab_key l.at)
