@@ -1,12 +1,9 @@
 //! Tests of a map: each call, and one allocation failure.
 mod ascending_entries;
-mod comparing_examples;
 mod key_examples;
 mod map_examples;
-mod merged_sets;
 mod refusals;
 mod set_examples;
-mod taken_columns;
 mod taken_entries;
 
 use art_map::ArtMap;

@@ -32,7 +32,7 @@ impl<K: AsBytes + Clone, V: Clone, const PREFIX_LEN: usize> ArtMap<K, V, PREFIX_
     ///
     /// Clones each entry, and then costs as much as [`from_ascending`](Self::from_ascending).
     ///
-    /// (from crates/art_map_tests/src/map/comparing_examples.rt)
+    /// (from tests/art_map_tests/map/comparing_examples.rt.txt)
     /// ```rust
     /// let copy = prices.try_clone(rt.alloc())?;
     /// assert!(rt; copy == prices);

@@ -104,7 +104,7 @@ fn order_of<K: AsBytes + Ord, V: Ord, const PREFIX_LEN: usize>(
 
 /// Equal keys and equal values, one by one. Compares the numbers of entries first.
 ///
-/// (from crates/art_map_tests/src/map/comparing_examples.rt)
+/// (from tests/art_map_tests/map/comparing_examples.rt.txt)
 /// ```rust
 /// assert!(rt; prices == same && prices != dearer && prices < dearer);
 /// ```

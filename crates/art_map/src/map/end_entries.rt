@@ -8,7 +8,7 @@ use art_bytes::AsBytes;
 impl<K: AsBytes, V, const PREFIX_LEN: usize> ArtMap<K, V, PREFIX_LEN> {
     /// As [`first`](Self::first), by the name that `BTreeMap` has for it.
     ///
-    /// (from crates/art_map_tests/src/map/taken_columns.rt)
+    /// (from tests/art_map_tests/map/taken_columns.rt.txt)
     /// ```rust
     /// assert!(rt; prices.first_key_value().is_some() && prices.last_key_value().is_some());
     /// ```

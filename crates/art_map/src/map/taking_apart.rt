@@ -12,7 +12,7 @@ impl<K: AsBytes + Drop, V: Drop, const PREFIX_LEN: usize> ArtMap<K, V, PREFIX_LE
     ///
     /// A map with `iron` and `tin`:
     ///
-    /// (from crates/art_map_tests/src/map/taken_columns.rt)
+    /// (from tests/art_map_tests/map/taken_columns.rt.txt)
     /// ```rust
     /// let mut names = prices.into_keys();
     /// let (Some(last), Some(first)) = (names.next_back(), names.next()) else {
@@ -31,7 +31,7 @@ impl<K: AsBytes + Drop, V: Drop, const PREFIX_LEN: usize> ArtMap<K, V, PREFIX_LE
     ///
     /// A map with `iron` and `tin`:
     ///
-    /// (from crates/art_map_tests/src/map/taken_columns.rt)
+    /// (from tests/art_map_tests/map/taken_columns.rt.txt)
     /// ```rust
     /// let mut values = prices.into_values();
     /// assert!(rt; values.next() == Some(26) && values.next_back() == Some(50));

@@ -10,7 +10,7 @@ impl<K: AsBytes + Clone, const PREFIX_LEN: usize> ArtSet<K, PREFIX_LEN> {
     /// A set of clones of the keys, in their order. Fails and costs as
     /// [`ArtMap::try_clone`](crate::MapOver::try_clone).
     ///
-    /// (from crates/art_map_tests/src/map/merged_sets.rt)
+    /// (from tests/art_map_tests/map/merged_sets.rt.txt)
     /// ```rust
     /// let copy = few.try_clone(rt.alloc())?;
     /// assert!(rt; copy == few);

@@ -26,7 +26,7 @@ impl<K: AsBytes, const PREFIX_LEN: usize> ArtSet<K, PREFIX_LEN> {
     ///
     /// A set with `iron` and `tin`:
     ///
-    /// (from crates/art_map_tests/src/map/merged_sets.rt)
+    /// (from tests/art_map_tests/map/merged_sets.rt.txt)
     /// ```rust
     /// assert!(rt; few.get(b"tin").is_some() && few.get(b"ti").is_none());
     /// ```
@@ -41,7 +41,7 @@ impl<K: AsBytes, const PREFIX_LEN: usize> ArtSet<K, PREFIX_LEN> {
     ///
     /// A set with `iron` and `tin`:
     ///
-    /// (from crates/art_map_tests/src/map/merged_sets.rt)
+    /// (from tests/art_map_tests/map/merged_sets.rt.txt)
     /// ```rust
     /// let Some(name) = few.take(b"tin")? else {
     ///     panic!(rt; "no key");
@@ -66,7 +66,7 @@ impl<K: AsBytes, const PREFIX_LEN: usize> ArtSet<K, PREFIX_LEN> {
     ///
     /// A set that has `iron`:
     ///
-    /// (from crates/art_map_tests/src/map/merged_sets.rt)
+    /// (from tests/art_map_tests/map/merged_sets.rt.txt)
     /// ```rust
     /// let before = few
     ///     .replace(StrKey::new("iron"))

@@ -182,7 +182,7 @@ impl<K: AsBytes, const PREFIX_LEN: usize> ArtSet<K, PREFIX_LEN> {
     ///
     /// The sets `{iron, tin}` and `{gold, tin}`:
     ///
-    /// (from crates/art_map_tests/src/map/merged_sets.rt)
+    /// (from tests/art_map_tests/map/merged_sets.rt.txt)
     /// ```rust
     /// assert_yields(&rt, few.union(&others), &["gold", "iron", "tin"]);
     /// ```
@@ -199,7 +199,7 @@ impl<K: AsBytes, const PREFIX_LEN: usize> ArtSet<K, PREFIX_LEN> {
     ///
     /// The sets `{iron, tin}` and `{gold, tin}`:
     ///
-    /// (from crates/art_map_tests/src/map/merged_sets.rt)
+    /// (from tests/art_map_tests/map/merged_sets.rt.txt)
     /// ```rust
     /// assert_yields(&rt, few.intersection(&others), &["tin"]);
     /// ```
@@ -216,7 +216,7 @@ impl<K: AsBytes, const PREFIX_LEN: usize> ArtSet<K, PREFIX_LEN> {
     ///
     /// The sets `{iron, tin}` and `{gold, tin}`:
     ///
-    /// (from crates/art_map_tests/src/map/merged_sets.rt)
+    /// (from tests/art_map_tests/map/merged_sets.rt.txt)
     /// ```rust
     /// assert_yields(&rt, few.difference(&others), &["iron"]);
     /// ```
@@ -233,7 +233,7 @@ impl<K: AsBytes, const PREFIX_LEN: usize> ArtSet<K, PREFIX_LEN> {
     ///
     /// The sets `{iron, tin}` and `{gold, tin}`:
     ///
-    /// (from crates/art_map_tests/src/map/merged_sets.rt)
+    /// (from tests/art_map_tests/map/merged_sets.rt.txt)
     /// ```rust
     /// assert_yields(&rt, few.symmetric_difference(&others), &["gold", "iron"]);
     /// ```
