@@ -18,7 +18,7 @@ use Rattle.art_tree.specs.Ends.{IsEndEntry}
 use Rattle.art_tree.specs.Entries.{AreEntries}
 use Rattle.art_tree.specs.Refusals.{texts_of}
 use Rattle.art_tree.specs.Removal.{IsLeft}
-use Rattle.art_map.proofs.ListLemmas.{order-same, text-itself, texts-same}
+use Rattle.art_map.proofs.CallLaws.{same_order, same_text, text_itself}
 
 less-of : (o : Ordering) → o ≢ Greater → o ≢ Equal → o ≡ Less
 less-of Less low apart = refl
@@ -45,18 +45,18 @@ module _ {K V : Type 0} {P : ℕ} (text : K → List ℕ) (old new : NodeArena K
   here-or-left x some differ = are.all x (λ none. some (sym (left.others x differ) ∙ none))
 
   by_text : (x : List ℕ) (t : Bool) → pointwise nat_eq x (text entry.0) ≡ t → (Goal : Type 0) → (x ≡ text entry.0 → Goal) → ((x ≡ text entry.0 → ⊥) → Goal) → Goal
-  by_text x true at Goal here other = here (texts-same x (text entry.0) at)
-  by_text x false at Goal here other = other (λ same. let wrong : true ≡ false = sym (ap (λ y. pointwise nat_eq y (text entry.0)) same ∙ text-itself (text entry.0)) ∙ at in absurd (cc))
+  by_text x true at Goal here other = here (same_text x (text entry.0) at)
+  by_text x false at Goal here other = other (λ same. let wrong : true ≡ false = sym (ap (λ y. pointwise nat_eq y (text entry.0)) same ∙ text_itself (text entry.0)) ∙ at in absurd (cc))
 
   first-below : IsEndEntry text old First entry → All (λ b. text_order (text entry.0) b ≡ Less) (texts_of text entries)
   first-below end = All-map (λ b. text_order (text entry.0) b ≡ Less) (λ (e : K × V). text e.0) entries
       (All-weaker (IsEntry text new) (λ e. text_order (text entry.0) (text e.0) ≡ Less)
-      (λ e is_new. less-of (text_order (text entry.0) (text e.0)) (end.within (text e.0) (λ none. let wrong : Some e ≡ None = sym (was e is_new) ∙ none in absurd (cc))) (λ equal. apart e is_new (sym (order-same (text entry.0) (text e.0) equal)))) entries are.each)
+      (λ e is_new. less-of (text_order (text entry.0) (text e.0)) (end.within (text e.0) (λ none. let wrong : Some e ≡ None = sym (was e is_new) ∙ none in absurd (cc))) (λ equal. apart e is_new (sym (same_order (text entry.0) (text e.0) equal)))) entries are.each)
 
   last-above : IsEndEntry text old Last entry → All (λ b. text_order b (text entry.0) ≡ Less) (texts_of text entries)
   last-above end = All-map (λ b. text_order b (text entry.0) ≡ Less) (λ (e : K × V). text e.0) entries
       (All-weaker (IsEntry text new) (λ e. text_order (text e.0) (text entry.0) ≡ Less)
-      (λ e is_new. nat_list_cmp_total.antisymm (text e.0) (text entry.0) ∙ greater-of (text_order (text entry.0) (text e.0)) (end.within (text e.0) (λ none. let wrong : Some e ≡ None = sym (was e is_new) ∙ none in absurd (cc))) (λ equal. apart e is_new (sym (order-same (text entry.0) (text e.0) equal)))) entries are.each)
+      (λ e is_new. nat_list_cmp_total.antisymm (text e.0) (text entry.0) ∙ greater-of (text_order (text entry.0) (text e.0)) (end.within (text e.0) (λ none. let wrong : Some e ≡ None = sym (was e is_new) ∙ none in absurd (cc))) (λ equal. apart e is_new (sym (same_order (text entry.0) (text e.0) equal)))) entries are.each)
 
   -- with the first entry before them, those that are left are the entries of before
   pub first-and-left : IsEndEntry text old First entry → AreEntries text old (entry ∷ entries)

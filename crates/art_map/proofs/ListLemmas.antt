@@ -22,6 +22,7 @@ use Rattle.art_tree.specs.declared.insert.InsertRefusal.{InsertRefusal}
 use Rattle.art_tree.specs.declared.insert.InsertRefusal.TheVariants.{KeyTooLong, Prefix, OutOfMemory}
 use Rattle.art_map.specs.Changes.{IsRefused, MayEnter}
 use Rattle.art_map.specs.Entries.{entry_with}
+use Rattle.art_map.proofs.CallLaws.{found_after_put, text_itself}
 
 pub slot-of : {K V : Type 0} {P : ℕ} (o : Option (LeafNode K V P)) (leaf : LeafNode K V P) → held_leaf {H = OpaqueNodePtr K V P} o ≡ HeldLeaf leaf → o ≡ Some leaf
 slot-of None leaf is = absurd (cc)
@@ -33,56 +34,12 @@ slots-same None (Some b) same = absurd (cc)
 slots-same (Some a) None same = absurd (cc)
 slots-same (Some a) (Some b) same = cc
 
-pub text-itself : (a : List ℕ) → pointwise nat_eq a a ≡ true
-text-itself a = (bytes_decides a a).1 refl
-
-pub texts-same : (a b : List ℕ) → pointwise nat_eq a b ≡ true → a ≡ b
-texts-same a b = (bytes_decides a b).0
-
--- texts of different orders differ
-pub texts-apart : (a b : List ℕ) → text_order a b ≡ Greater → pointwise nat_eq a b ≡ true → ⊥
-texts-apart a b greater same = let wrong : true ≡ false = sym same ∙ texts_ties a b ∙ ap is_eq greater in absurd (cc)
-
-pub order-same : (a b : List ℕ) → text_order a b ≡ Equal → a ≡ b
-order-same a b equal = texts-same a b (texts_ties a b ∙ ap is_eq equal)
-
-module _ {K V : Type 0} (text : K → List ℕ) (entry : K × V) (x : List ℕ) where
-  abbrev at_entry : Bool
-  at_entry = pointwise nat_eq (text entry.0) x
-
-  -- what is found once an entry is in its place
-  put-finds : (entries : List (K × V)) → entry_with text (put_entry text entries entry) x ≡ cond at_entry (Some entry) (entry_with text entries x)
-  put-finds [] = refl
-  put-finds (other ∷ others) = by_order (put-finds others) (text_order (text entry.0) (text other.0)) refl
-    where
-      placed : (o : Ordering) → text_order (text entry.0) (text other.0) ≡ o → entry_with text (put_entry text (other ∷ others) entry) x ≡ entry_with text (match_ordering o (entry ∷ other ∷ others) (entry ∷ others) (other ∷ put_entry text others entry)) x
-      placed o is = ap (λ o. entry_with text (match_ordering o (entry ∷ other ∷ others) (entry ∷ others) (other ∷ put_entry text others entry)) x) is
-
-      by_order : (entry_with text (put_entry text others entry) x ≡ cond at_entry (Some entry) (entry_with text others x)) → (o : Ordering) → text_order (text entry.0) (text other.0) ≡ o → entry_with text (put_entry text (other ∷ others) entry) x ≡ cond at_entry (Some entry) (entry_with text (other ∷ others) x)
-      by_order rest Less is = placed Less is
-      by_order rest Equal is = placed Equal is ∙ by_test at_entry refl
-        where
-          by_test : (t : Bool) → at_entry ≡ t → entry_with text (entry ∷ others) x ≡ cond at_entry (Some entry) (entry_with text (other ∷ others) x)
-          by_test true at = rw at refl
-          by_test false at =
-              let off : pointwise nat_eq (text other.0) x ≡ false = ap (λ y. pointwise nat_eq y x) (sym (order-same (text entry.0) (text other.0) is)) ∙ at in
-              rw (at, off) refl
-      by_order rest Greater is = placed Greater is ∙ by_test (pointwise nat_eq (text other.0) x) refl
-        where
-          off : pointwise nat_eq (text other.0) x ≡ true → (t : Bool) → at_entry ≡ t → at_entry ≡ false
-          off at true same = absurd (texts-apart (text entry.0) (text other.0) is (ap (pointwise nat_eq (text entry.0)) (texts-same (text other.0) x at) ∙ same))
-          off at false differ = differ
-
-          by_test : (t : Bool) → pointwise nat_eq (text other.0) x ≡ t → entry_with text (other ∷ put_entry text others entry) x ≡ cond at_entry (Some entry) (entry_with text (other ∷ others) x)
-          by_test true at = let apart = off at at_entry refl in rw (at, apart) refl
-          by_test false at = rw at rest
-
 module _ {K V : Type 0} {P : ℕ} (text : K → List ℕ) where
   among-finds : (slots : List (Option (LeafNode K V P))) (x : List ℕ) → entry_with text (entries_among text slots) x ≡ entry_among text slots x
   among-finds [] x = refl
   among-finds (None ∷ slots) x = among-finds slots x
   among-finds (Some leaf ∷ slots) x =
-      put-finds text (leaf_key leaf, leaf_value leaf) x (entries_among text slots)
+      found_after_put text (entries_among text slots) (leaf_key leaf, leaf_value leaf) x
       ∙ ap (λ rest. cond (pointwise nat_eq (text (leaf_key leaf)) x) (Some (leaf_key leaf, leaf_value leaf)) rest) (among-finds slots x)
 
   -- a leaf's text has an entry
@@ -97,7 +54,7 @@ module _ {K V : Type 0} {P : ℕ} (text : K → List ℕ) where
       by_test onwards true same k at = let wrong : Some (leaf_key other, leaf_value other) ≡ None = rw same at none in absurd (cc)
       by_test onwards false differ zero at =
           let one : other ≡ leaf = cc in
-          let wrong : true ≡ false = sym (ap (λ l. pointwise nat_eq (text (leaf_key l)) (text (leaf_key leaf))) one ∙ text-itself (text (leaf_key leaf))) ∙ differ in absurd (cc)
+          let wrong : true ≡ false = sym (ap (λ l. pointwise nat_eq (text (leaf_key l)) (text (leaf_key leaf))) one ∙ text_itself (text (leaf_key leaf))) ∙ differ in absurd (cc)
       by_test onwards false differ (suc k) at = let later : entry_among text slots (text (leaf_key leaf)) ≡ None = rw differ at none in onwards k at later
 
   pub leaf-found : (arena : NodeArena K V P) (pointer : OpaqueNodePtr K V P) (leaf : LeafNode K V P) (x : List ℕ) → held arena pointer ≡ HeldLeaf leaf → text (leaf_key leaf) ≡ x → entry_at text arena x ≢ None

@@ -1,12 +1,14 @@
 -- The keys of a map's entries, as a set has them.
-use Rattle.std.proofs.Common.{◌≡◌, ◌∙◌, ℕ, zero, suc, ◌<◌, ◌^◌, Bool, true, false, cond, List, [], ◌∷◌, length, map, filter, AllPairs, Option, Some, None, Result, Ok, Err, IfOk, IfErr, IfSome, IfNone, OnOk, OnErr, slice_index_or, refl, sym, ap, subst, arith, nat_eq}
-use Rattle.std.specs.Cmp.Lexicographic.{pointwise, nat_list_cmp_total, texts_ties}
-use Rattle.std.specs.Option.{is_none, is_some}
-use Rattle.std.specs.Ordering.{is_eq, ordering_reverse}
+use Rattle.std.proofs.Common.{◌≡◌, ◌⊎◌, ◌∙◌, inl, inr, ℕ, zero, suc, ◌<◌, ◌≤◌, ◌^◌, not, get_or, All, Contains, Bool, true, false, cond, List, [], ◌∷◌, length, map, filter, AllPairs, Option, Some, None, Result, Ok, Err, IfOk, IfErr, IfSome, IfNone, OnOk, OnErr, slice_index_or, refl, sym, ap, subst, arith, nat_eq}
+use Rattle.std.specs.Cmp.Lexicographic.{pointwise, texts_ties}
+use Rattle.std.specs.Option.{is_none, is_some, option_map}
+use Rattle.std.specs.Ordering.{is_eq, match_ordering}
 use Rattle.std.specs.Result.{result_map_both}
 use Rattle.std.specs.declared.cmp.Ordering.{Ordering}
 use Rattle.std.specs.declared.cmp.Ordering.TheVariants.{Less, Equal, Greater}
-use Rattle.std.proofs.lemmas.List.Elements.{Contains-append_right}
+use Rattle.std.proofs.lemmas.List.{length-map}
+use Rattle.std.proofs.lemmas.List.Elements.{All-contains, Contains-append_right, Contains-get_or}
+use Rattle.std.proofs.lemmas.List.Filters.{length-filter_both}
 use Rattle.std.proofs.lemmas.Map.Made.{Contains-tail}
 use Rattle.art_bytes.specs.Text.{text_order}
 use Rattle.art_tree.specs.Dictionary.{Clashes}
@@ -16,8 +18,8 @@ use Rattle.art_tree.specs.declared.insert.InsertRefusal.{InsertRefusal}
 use Rattle.art_tree.specs.declared.insert.InsertRefusal.TheVariants.{KeyTooLong, Prefix, OutOfMemory}
 use Rattle.art_map.specs.Changes.{IsRefused, MayEnter}
 use Rattle.art_map.specs.Entries.{entry_with}
-use Rattle.art_map.specs.Sets.{HasKey, put_key, IsKeyRefused, KeyMayEnter}
-use Rattle.art_map.proofs.ListLemmas.{order-same, text-itself, texts-apart, texts-same}
+use Rattle.art_map.specs.Sets.{HasKey, key_with, put_key, replace_key, IsKeyRefused, KeyMayEnter}
+use Rattle.art_map.proofs.CallLaws.{Ascend, ascend_rest, first_or_later, first_there, image_inside, inside_image, inside_part, later_there, less_differs, none_below, none_inside, other_text, same_order, same_text, text_itself, texts_differ}
 
 -- a test of what a function gives, before it and behind it
 pub map-of-filter : {A B : Type 0} (f : A → B) (p : B → Bool) (xs : List A) → map f (filter (λ x. p (f x)) xs) ≡ filter p (map f xs)
@@ -28,31 +30,6 @@ map-of-filter {A} {B} f p (x ∷ xs) = by_test (p (f x)) (map-of-filter f p xs)
         → map f (cond t (x ∷ filter (λ x. p (f x)) xs) (filter (λ x. p (f x)) xs)) ≡ cond t (f x ∷ filter p (map f xs)) (filter p (map f xs))
     by_test true rest = ap (λ ys. f x ∷ ys) rest
     by_test false rest = rest
-
-abbrev pub Ascend : List (List ℕ) → Type 0
-Ascend texts = AllPairs (λ a b. text_order a b ≡ Less) texts
-
--- none of the texts that ascend is less than the first
-none-below : (x y : List ℕ) (xs : List (List ℕ)) → Ascend (x ∷ xs) → text_order y x ≡ Less → (k : ℕ) → k < length (x ∷ xs) → slice_index_or (x ∷ xs) k y ≡ y → ⊥
-none-below x y xs ascend less zero within is =
-    let wrong : true ≡ false = sym (text-itself x) ∙ ap (λ z. pointwise nat_eq z x) is ∙ texts_ties y x ∙ ap is_eq less in absurd (cc)
-none-below x y xs ascend less (suc k) within is =
-    let above : text_order x y ≡ Less = subst (λ z. text_order x z ≡ Less) is (ascend 0 (suc k) y (omega arith) within) in
-    let wrong : Greater ≡ Less = sym (nat_list_cmp_total.antisymm x y ∙ ap ordering_reverse less) ∙ above in absurd (cc)
-
-module _ {K : Type 0} (text : K → List ℕ) where
-  -- a key whose text is there changes nothing
-  pub key-kept : (keys : List K) (key : K) → Ascend (map text keys) → HasKey text keys (text key) → put_key text keys key ≡ keys
-  key-kept [] key ascend has = absurd (omega (arith, has.1))
-  key-kept (other ∷ keys) key ascend has =
-      by_order (key-kept keys key (λ i j d before within. ascend (suc i) (suc j) d (omega (arith, before)) (omega (arith, within)))) (text_order (text key) (text other)) refl
-    where
-      by_order : (HasKey text keys (text key) → put_key text keys key ≡ keys) → (o : Ordering) → text_order (text key) (text other) ≡ o → put_key text (other ∷ keys) key ≡ other ∷ keys
-      by_order rest Less is = absurd (none-below (text other) (text key) (map text keys) ascend is has.0 has.1 has.2)
-      by_order rest Equal is = rw is refl
-      by_order rest Greater is =
-          let apart : text other ≡ text key → ⊥ = λ same. texts-apart (text key) (text other) is (ap (pointwise nat_eq (text key)) same ∙ text-itself (text key)) in
-          rw is (ap (λ all. other ∷ all) (rest (Contains-tail (text other) (map text keys) (text key) apart has)))
 
 module _ {K V : Type 0} (text : K → List ℕ) where
   abbrev pub keys_in : List (K × V) → List K
@@ -72,7 +49,7 @@ module _ {K V : Type 0} (text : K → List ℕ) where
   key-of-entry (entry ∷ entries) x some = by_test (key-of-entry entries x) (pointwise nat_eq (text entry.0) x) refl
     where
       by_test : (is_some (entry_with text entries x) ≡ true → HasKey text (keys_in entries) x) → (t : Bool) → pointwise nat_eq (text entry.0) x ≡ t → HasKey text (keys_in (entry ∷ entries)) x
-      by_test rest true same = (0, omega arith, texts-same (text entry.0) x same)
+      by_test rest true same = (0, omega arith, same_text (text entry.0) x same)
       by_test rest false differ =
           let later : is_some (entry_with text entries x) ≡ true = rw differ at some in
           Contains-append_right (text entry.0 ∷ []) (map text (keys_in entries)) x (rest later)
@@ -84,7 +61,7 @@ module _ {K V : Type 0} (text : K → List ℕ) where
       by_test : (HasKey text (keys_in entries) x → is_some (entry_with text entries x) ≡ true) → (t : Bool) → pointwise nat_eq (text entry.0) x ≡ t → is_some (entry_with text (entry ∷ entries) x) ≡ true
       by_test rest true same = rw same refl
       by_test rest false differ =
-          let apart : text entry.0 ≡ x → ⊥ = λ is. let wrong : true ≡ false = sym (ap (λ y. pointwise nat_eq y x) is ∙ text-itself x) ∙ differ in absurd (cc) in
+          let apart : text entry.0 ≡ x → ⊥ = λ is. let wrong : true ≡ false = sym (ap (λ y. pointwise nat_eq y x) is ∙ text_itself x) ∙ differ in absurd (cc) in
           rw differ (rest (Contains-tail (text entry.0) (map text (keys_in entries)) x apart has))
 
   -- an entry of a new key is put where the key is
@@ -98,7 +75,7 @@ module _ {K V : Type 0} (text : K → List ℕ) where
       by_order rest o is true same = let wrong : Some other ≡ None = rw same at none in absurd (cc)
       by_order rest Less is false differ = rw is refl
       by_order rest Equal is false differ =
-          let wrong : true ≡ false = sym (ap (λ y. pointwise nat_eq y (text key)) (sym (order-same (text key) (text other.0) is)) ∙ text-itself (text key)) ∙ differ in absurd (cc)
+          let wrong : true ≡ false = sym (ap (λ y. pointwise nat_eq y (text key)) (sym (same_order (text key) (text other.0) is)) ∙ text_itself (text key)) ∙ differ in absurd (cc)
       by_order rest Greater is false differ =
           let later : entry_with text entries (text key) ≡ None = rw differ at none in
           rw is (ap (λ all. other.0 ∷ all) (rest later))
@@ -146,3 +123,63 @@ module _ {A E : Type 0} where
 pub on-err-so : {A E : Type 0} (r : Result A E) (P : Type 0) → P → OnErr r P
 on-err-so (Ok x) P p = tt
 on-err-so (Err e) P p = p
+
+-- texts that ascend and are all among others are no more than those
+fewer : (x : List ℕ) (ys : List (List ℕ)) → Contains ys x → length (filter (λ y. not (pointwise nat_eq y x)) ys) < length ys
+fewer x [] inside = absurd (none_inside x inside)
+fewer x (y ∷ ys) inside = by_test (pointwise nat_eq y x) refl (fewer x ys)
+  where
+    later : pointwise nat_eq y x ≡ false → (y ≡ x) ⊎ Contains ys x → Contains ys x
+    later differ (inl same) = absurd (texts_differ y x differ same)
+    later differ (inr there) = there
+
+    by_test : (t : Bool) → pointwise nat_eq y x ≡ t → (Contains ys x → length (filter (λ y. not (pointwise nat_eq y x)) ys) < length ys)
+        → length (cond (not t) (y ∷ filter (λ y. not (pointwise nat_eq y x)) ys) (filter (λ y. not (pointwise nat_eq y x)) ys)) < length (y ∷ ys)
+    by_test true is rest = omega (arith, length-filter_both (λ y. pointwise nat_eq y x) (λ y. not (pointwise nat_eq y x)) (λ _. refl) ys)
+    by_test false is rest = omega (arith, rest (later is (first_or_later y x ys inside)))
+
+no_more : (xs ys : List (List ℕ)) → Ascend xs → ((x : List ℕ) → Contains xs x → Contains ys x) → length xs ≤ length ys
+no_more [] ys ascend within = omega arith
+no_more (x ∷ xs) ys ascend within =
+    let others = filter (λ y. not (pointwise nat_eq y x)) ys in
+    let one = fewer x ys (within x (first_there x x xs refl)) in
+    let rest = no_more xs others (ascend_rest x xs ascend) (λ z inside.
+    let differ = other_text z x (λ same. less_differs x z (none_below x z xs ascend inside) (sym same)) in
+    inside_part (λ y. not (pointwise nat_eq y x)) ys z (within z (later_there x z xs inside)) (ap not differ)) in
+    omega (arith, one, rest)
+
+module _ {K : Type 0} (text : K → List ℕ) where
+  -- no set has more keys than one that has all its texts
+  pub subset_length : (keys others : List K) → Ascend (map text keys) → All (λ key. HasKey text others (text key)) keys → length keys ≤ length others
+  subset_length keys others ascend all =
+      let most = no_more (map text keys) (map text others) ascend (λ x inside.
+      let from = inside_image text keys x inside in
+      subst (HasKey text others) from.2 (All-contains (λ key. HasKey text others (text key)) keys from.0 all from.1)) in
+      omega (arith, most, length-map keys text, length-map others text)
+
+  -- where no key has a text of others, none of those has one of its
+  pub shared_either_way : (keys others : List K) → All (λ key. ¬ HasKey text others (text key)) keys → All (λ other. ¬ HasKey text keys (text other)) others
+  shared_either_way keys others none k d within there =
+      let other = get_or others k d in
+      let from = inside_image text keys (text other) there in
+      All-contains (λ key. ¬ HasKey text others (text key)) keys from.0 none from.1 (subst (HasKey text others) (sym from.2) (image_inside text others other (text other) refl (Contains-get_or others k d within)))
+
+  -- the key that is found by its text, and the keys with one in the place of its text
+  pub key_of_found : {V : Type 0} (entries : List (K × V)) (x : List ℕ) → option_map (λ entry. entry.0) (entry_with text entries x) ≡ key_with text (map (λ entry. entry.0) entries) x
+  key_of_found [] x = refl
+  key_of_found {V} (entry ∷ entries) x = by_test (pointwise nat_eq (text entry.0) x) (key_of_found entries x)
+    where
+      by_test : (t : Bool) → option_map (λ entry. entry.0) (entry_with text entries x) ≡ key_with text (map (λ entry. entry.0) entries) x
+          → option_map (λ (entry : K × V). entry.0) (cond t (Some entry) (entry_with text entries x)) ≡ cond t (Some entry.0) (key_with text (map (λ entry. entry.0) entries) x)
+      by_test true rest = refl
+      by_test false rest = rest
+
+  pub key_in_place : {V : Type 0} (entries : List (K × V)) (key : K) (value : V) → map (λ entry. entry.0) (put_entry text entries (key, value)) ≡ replace_key text (map (λ entry. entry.0) entries) key
+  key_in_place [] key value = refl
+  key_in_place {V} (other ∷ entries) key value = by_order (text_order (text key) (text other.0)) (key_in_place entries key value)
+    where
+      by_order : (o : Ordering) → map (λ entry. entry.0) (put_entry text entries (key, value)) ≡ replace_key text (map (λ entry. entry.0) entries) key
+          → map (λ (entry : K × V). entry.0) (match_ordering o ((key, value) ∷ other ∷ entries) ((key, value) ∷ entries) (other ∷ put_entry text entries (key, value))) ≡ match_ordering o (key ∷ other.0 ∷ map (λ entry. entry.0) entries) (key ∷ map (λ entry. entry.0) entries) (other.0 ∷ replace_key text (map (λ entry. entry.0) entries) key)
+      by_order Less rest = refl
+      by_order Equal rest = refl
+      by_order Greater rest = ap (λ all. other.0 ∷ all) rest

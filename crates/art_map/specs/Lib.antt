@@ -3,6 +3,7 @@ pub mod Changes
 pub mod Entries
 pub mod LeafEntries
 pub mod MapLending
+pub mod Merges
 pub mod Nearest
 pub mod Ranges
 pub mod Runs

@@ -1,5 +1,5 @@
 -- A set as the list of its keys, ascending by text.
-use Rattle.std.specs.Prelude.{ℕ, ◌<◌, ◌≤◌, ◌^◌, ◌&&◌, not, List, [], ◌∷◌, length, map, filter, Contains, nat_eq}
+use Rattle.std.specs.Prelude.{ℕ, ◌<◌, ◌≤◌, ◌^◌, ◌&&◌, not, List, [], ◌∷◌, length, map, filter, find, Contains, Option, nat_eq}
 use Rattle.std.specs.Borrow.{Bor}
 use Rattle.std.specs.Cmp.Lexicographic.{pointwise}
 use Rattle.std.specs.List.{starts_with}
@@ -21,6 +21,16 @@ module _ {K : Type 0} (text : K → List ℕ) where
   put_key [] key = key ∷ []
   put_key (other ∷ keys) key =
       match_ordering (text_order (text key) (text other)) (key ∷ other ∷ keys) (other ∷ keys) (other ∷ put_key keys key)
+
+  -- the keys with this one before the first of a greater text, or in place of the one with its text
+  abbrev pub replace_key : List K → K → List K
+  replace_key [] key = key ∷ []
+  replace_key (other ∷ keys) key =
+      match_ordering (text_order (text key) (text other)) (key ∷ other ∷ keys) (key ∷ keys) (other ∷ replace_key keys key)
+
+  -- the first of these keys that has this text
+  abbrev pub key_with : List K → List ℕ → Option K
+  key_with keys x = find (λ key. pointwise nat_eq (text key) x) keys
 
   -- the keys without those of this text
   abbrev pub without_key : List K → List ℕ → List K

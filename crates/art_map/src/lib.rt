@@ -7,6 +7,7 @@ mod debug;
 mod each_value;
 mod guide;
 mod into_iter;
+mod into_values;
 mod iter;
 mod keys;
 mod leaf_entries;
@@ -16,7 +17,8 @@ mod range;
 mod set;
 
 pub use into_iter::{IntoIter, IntoKeys, OwnedKeys, OwnedRun};
+pub use into_values::{IntoValues, OwnedValues};
 pub use iter::{HasRuns, Iter, Run};
 pub use keys::{Keys, RunKeys, RunValues, Values};
 pub use map::{ArtMap, DEFAULT_PREFIX_LEN, HasEntries, MapOver};
-pub use set::{ArtSet, SetOver};
+pub use set::{ArtSet, Merged, MergedKeys, PeekedKeys, SetOver};

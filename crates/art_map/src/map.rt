@@ -3,12 +3,16 @@ ghost use Rattle.std.specs.Prelude.{◌≡◌, ◌≢◌, [], IfOk, IfErr};
 ghost use Rattle.art_tree.specs.Refusals.{texts_of, IsDue};
 
 mod changes;
+mod cloning;
 mod compacting;
+mod comparing;
+mod end_entries;
 mod ends;
 mod iterating;
 mod laws;
 mod lending;
 mod reading;
+mod taking_apart;
 
 use art_bytes::AsBytes;
 use art_tree::laws::entries_are_one_list;

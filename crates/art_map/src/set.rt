@@ -8,11 +8,17 @@ ghost use Rattle.art_tree.specs.Dictionary.{Clashes};
 ghost use Rattle.art_tree.specs.Refusals.{texts_of, IsDue};
 ghost use Rattle.art_map.specs.Sets.{HasKey, put_key, without_key, keys_above, keys_from, keys_within, keys_with_prefix, IsKeyRefused, KeyMayEnter};
 
+mod cloning_sets;
+mod comparing_sets;
+mod keys_by_text;
+mod merging;
+
 use crate::into_iter::{IntoKeys, keys_taken};
 use crate::keys::{Keys, keys_of};
 use crate::map::{ArtMap, HasEntries, MapOver};
 use art_bytes::{AsBytes, NoPrefixesBytes};
 use art_tree::{ArtTree, InsertFault, LoadFault};
+pub use merging::{Merged, MergedKeys, PeekedKeys};
 use std::alloc::{AllocError, Global};
 use std::marker::Model;
 use std::ops::Bound;
@@ -233,8 +239,9 @@ impl<K: AsBytes, const PREFIX_LEN: usize> ArtSet<K, PREFIX_LEN> {
         key_alone(self.entries.upper_bound(key))
     }
 
-    /// Whether each key of this set has the bytes of a key of the other one. Visits, for each key of this
-    /// set, at most one node more than it has bytes. Takes no memory.
+    /// Whether each key of this set has the bytes of a key of the other one. Compares the numbers of keys
+    /// first. Then visits, for each key of this set, at most one node more than it has bytes. Takes no
+    /// memory.
     ///
     /// The sets `{iron, tin}` and `{iron, tin, zinc}`:
     ///
@@ -245,6 +252,10 @@ impl<K: AsBytes, const PREFIX_LEN: usize> ArtSet<K, PREFIX_LEN> {
     pub fn is_subset(&self, other: &Self) -> bool
         ensures { IsTrue result ↔ All (λ key. HasKey K.text other.now (K.text key)) self.now }
     {
+        self.keys_ascend();
+        if self.len() > other.len() {
+            return false;
+        }
         let mut keys = self.iter();
         'each: while let Some(key) = keys.next() {
             if !other.contains(key) {
@@ -269,8 +280,8 @@ impl<K: AsBytes, const PREFIX_LEN: usize> ArtSet<K, PREFIX_LEN> {
         other.is_subset(self)
     }
 
-    /// Whether no key of this set has the bytes of a key of the other one. Costs as much as
-    /// [`is_subset`](Self::is_subset). Takes no memory.
+    /// Whether no key of this set has the bytes of a key of the other one. Visits, for each key of the set
+    /// with fewer keys, at most one node more than it has bytes. Takes no memory.
     ///
     /// The sets `{iron, tin}` and `{iron, tin, zinc}`:
     ///
@@ -279,6 +290,17 @@ impl<K: AsBytes, const PREFIX_LEN: usize> ArtSet<K, PREFIX_LEN> {
     /// assert!(rt; !few.is_disjoint(many) && few.is_disjoint(none));
     /// ```
     pub fn is_disjoint(&self, other: &Self) -> bool
+        ensures { IsTrue result ↔ All (λ key. ¬ HasKey K.text other.now (K.text key)) self.now }
+    {
+        if self.len() <= other.len() {
+            self.shares_none(other)
+        } else {
+            other.shares_none(self)
+        }
+    }
+
+    // Whether no key of this set has the bytes of a key of the other one.
+    fn shares_none(&self, other: &Self) -> bool
         ensures { IsTrue result ↔ All (λ key. ¬ HasKey K.text other.now (K.text key)) self.now }
     {
         let mut keys = self.iter();

@@ -16,10 +16,10 @@ impl<K: AsBytes, V, const PREFIX_LEN: usize> ArtMap<K, V, PREFIX_LEN> {
     /// Adds an entry. Where an entry has the same key bytes, its key and its value are replaced and
     /// returned.
     ///
-    /// The first of these refusals that is due is returned, with key and value: [`KeyTooLong`], a
-    /// key of 2^32 bytes or more; [`Prefix`], where the key is a proper prefix of a key of the map,
-    /// or one of the map of the key; [`OutOfMemory`], only where no entry has the key bytes. After a
-    /// refusal the entries are unchanged.
+    /// Where an entry has the key bytes, it succeeds. Else the first of these refusals that is due is
+    /// returned, with key and value: [`KeyTooLong`], a key of 2^32 bytes or more; [`Prefix`], where the
+    /// key is a proper prefix of a key of the map, or one of the map of the key; [`OutOfMemory`]. After
+    /// a refusal the entries are unchanged.
     ///
     /// Visits the nodes on the way to the key's place, and then those on the way to a leaf beside
     /// it, as [`ArtTree::insert`] does.
@@ -36,10 +36,12 @@ impl<K: AsBytes, V, const PREFIX_LEN: usize> ArtMap<K, V, PREFIX_LEN> {
         ensures no_refusal { OnOk result (MayEnter K.text self.old (K.text key)) }
         ensures refusal_due { IfErr result
             (λ fault. IsRefused K.text self.old (K.text key) fault.refusal) }
+        ensures no_entry { OnErr result (entry_with K.text self.old (K.text key) ≡ None) }
         ensures entry_back { IfErr result (λ fault. (fault.key ≡ key) × (fault.value ≡ value)) }
         ensures same_entries { OnErr result (self.new ≡ self.old) }
         ensures is_key { K.is_key key }
     {
+        self.entries_ascend();
         entries_are_one_list::<K, V, PREFIX_LEN>();
         the_list_of_entries_changes_with_them::<K, V, PREFIX_LEN>();
         self.tree.insert(key, value)

@@ -1,5 +1,5 @@
 //! Laws of every map. The calls do no work: the contract of each is a law.
-ghost use Rattle.std.specs.Prelude.{◌≡◌, All, AllPairs};
+ghost use Rattle.std.specs.Prelude.{◌≡◌, ◌<◌, ◌^◌, All, AllPairs, length};
 ghost use Rattle.std.specs.declared.cmp.Ordering.TheVariants.{Less};
 ghost use Rattle.art_bytes.specs.Text.{IsPrefixOf, text_order};
 ghost use Rattle.art_tree.specs.Dictionary.{Clashes};
@@ -15,11 +15,13 @@ use art_tree::laws::{
 
 impl<K: AsBytes, V, const PREFIX_LEN: usize> ArtMap<K, V, PREFIX_LEN> {
     /// The entries ascend strictly by the bytes of their keys, so no two have the same bytes. No key
-    /// is a prefix of another, and the laws of keys hold for each. Does no work.
+    /// is a prefix of another, each has fewer than 2^32 bytes, and the laws of keys hold for each. Does
+    /// no work.
     pub fn entries_ascend(&self)
         ensures ascending { AllPairs (λ a b. text_order a b ≡ Less) (texts_of K.text self.now) }
         ensures no_prefixes { AllPairs (λ a b. (¬ IsPrefixOf a b) × (¬ IsPrefixOf b a))
             (texts_of K.text self.now) }
+        ensures short { All (λ x. length x < 2 ^ 32) (texts_of K.text self.now) }
         ensures keys { All (λ entry. K.is_key entry.0) self.now }
     {
         entries_are_one_list::<K, V, PREFIX_LEN>();

@@ -2,7 +2,8 @@ use Rattle.std.proofs.Common.{◌≡◌, ◌↔◌, ◌∙◌, false, IsTrue, If
 use Rattle.art_map.specs.Changes.{IsRefused}
 use Rattle.art_map.specs.Entries.{entry_with}
 use Rattle.art_map.specs.Sets.{HasKey, put_key, IsKeyRefused, KeyMayEnter}
-use Rattle.art_map.proofs.SetLemmas.{entry-of-key, if-added, if-fault, key-kept, key-may-enter, key-of-entry, key-refused, keys_in, none-some, on-added, on-fault, put-keys, some-of, texts-in, Ascend}
+use Rattle.art_map.proofs.CallLaws.{key_was_there, Ascend}
+use Rattle.art_map.proofs.SetLemmas.{entry-of-key, if-added, if-fault, key-may-enter, key-of-entry, key-refused, keys_in, none-some, on-added, on-fault, put-keys, some-of, texts-in}
 use Rattle.art_map.proofs.set.ArtSet+K+PREFIX_LEN.insert.Goals as goal
 
 pub returns-clause-was_there : goal.returns-clause-was_there
@@ -28,7 +29,7 @@ returns-clause-keys g c =
     (on-added c.try_insert.result _ _ (keys_in text c.try_insert.new.self ≡ put_key text keys key)
     (λ entry kept.
     let has = subst (λ keys. HasKey text keys (text key)) c.self.view_is (key-of-entry text entries (text key) (some-of (entry_with text entries (text key)) kept.2)) in
-    ap (keys_in text) kept.1 ∙ c.self.view_is ∙ sym (key-kept text keys key ascend has))
+    ap (keys_in text) kept.1 ∙ c.self.view_is ∙ sym (key_was_there text keys key ascend has))
     (λ added. ap (keys_in text) added.1 ∙ put-keys text entries key _ added.0 ∙ ap (λ keys. put_key text keys key) c.self.view_is)
     c.try_insert.ensures.kept c.try_insert.ensures.added)
 

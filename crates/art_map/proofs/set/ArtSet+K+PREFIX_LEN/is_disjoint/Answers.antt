@@ -1,29 +1,10 @@
-use Rattle.std.proofs.Common.{◌≡◌, ◌∙◌, true, false, All, refl, sym, subst}
-use Rattle.std.proofs.lemmas.List.Elements.{All-nil, All-cons, All-head, All-tail}
-use Rattle.art_map.specs.Sets.{HasKey}
+use Rattle.std.proofs.Common.{◌∙◌}
+use Rattle.art_map.proofs.SetLemmas.{shared_either_way}
 use Rattle.art_map.proofs.set.ArtSet+K+PREFIX_LEN.is_disjoint.Goals as goal
 
-pub each-init : goal.each-init
-each-init g c =
-    let Apart = λ (key : g.row.K.Denot). ¬ HasKey g.K.AsBytes.text c.args.other.now (g.K.AsBytes.text key) in
-    (λ all. subst (All Apart) c.iter-keys.ensures all, λ all. subst (All Apart) (sym c.iter-keys.ensures) all)
-
-pub returns-then-contains : goal.returns-then-contains
-returns-then-contains g c =
-    let Apart = λ (key : g.row.K.Denot). ¬ HasKey g.K.AsBytes.text c.args.other.now (g.K.AsBytes.text key) in (
-      λ is. let wrong : false ≡ true = is in absurd (cc),
-      λ all. absurd (All-head Apart c.in-Some.key.now c.next.new.self (subst (All Apart) c.in-Some.ensures.steps (c.each.invariant.1 all)) (c.contains.ensures.0 c.if-contains.true)),
-    )
-
-pub each-preserved : goal.each-preserved
-each-preserved g c =
-    let Apart = λ (key : g.row.K.Denot). ¬ HasKey g.K.AsBytes.text c.args.other.now (g.K.AsBytes.text key) in (
-      λ rest. c.each.invariant.0 (subst (All Apart) (sym c.in-Some.ensures.steps)
-          (All-cons Apart c.in-Some.key.now c.next.new.self (λ has. let wrong : true ≡ false = sym (c.contains.ensures.1 has) ∙ c.if-contains.false in absurd (cc)) rest)),
-      λ all. All-tail Apart c.in-Some.key.now c.next.new.self (subst (All Apart) c.in-Some.ensures.steps (c.each.invariant.1 all)),
-    )
-
-pub returns : goal.returns
-returns g c =
-    let Apart = λ (key : g.row.K.Denot). ¬ HasKey g.K.AsBytes.text c.args.other.now (g.K.AsBytes.text key) in
-    (λ is. c.each.invariant.0 (subst (All Apart) (sym c.in_default.ensures.steps.0) (All-nil Apart)), λ all. refl)
+pub returns-else-len : goal.returns-else-len
+returns-else-len g c =
+    let text = g.K.AsBytes.text in
+    let keys = c.args.self.now in
+    let others = c.args.other.now in
+    (λ is. shared_either_way text others keys (c.shares_none-else-len.ensures.0 is), λ none. c.shares_none-else-len.ensures.1 (shared_either_way text keys others none))

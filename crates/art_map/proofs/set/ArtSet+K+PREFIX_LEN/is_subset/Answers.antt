@@ -1,12 +1,21 @@
-use Rattle.std.proofs.Common.{◌≡◌, ◌∙◌, true, false, All, sym, subst}
+use Rattle.std.proofs.Common.{◌≡◌, ◌≤◌, ◌∙◌, true, false, length, map, All, arith, sym, subst}
 use Rattle.std.proofs.lemmas.List.Elements.{All-cons, All-head, All-tail}
 use Rattle.art_map.specs.Sets.{HasKey}
+use Rattle.art_map.proofs.SetLemmas.{subset_length}
 use Rattle.art_map.proofs.set.ArtSet+K+PREFIX_LEN.is_subset.Goals as goal
 
 pub each-init : goal.each-init
 each-init g c =
     let Among = λ (key : g.row.K.Denot). HasKey g.K.AsBytes.text c.args.other.now (g.K.AsBytes.text key) in
     (λ all. subst (All Among) c.iter-keys.ensures all, λ all. subst (All Among) (sym c.iter-keys.ensures) all)
+
+pub returns-then-len : goal.returns-then-len
+returns-then-len g c = (
+  λ is. let wrong : false ≡ true = is in absurd (cc),
+  λ all.
+      let most = subset_length g.K.AsBytes.text c.args.self.now c.args.other.now c.keys_ascend.ensures.ascending all in
+      absurd (omega (arith, most, c.len.ensures, c.len-2.ensures, c.if-len.true)),
+)
 
 pub returns-then-not-contains : goal.returns-then-not-contains
 returns-then-not-contains g c =

@@ -1,7 +1,8 @@
 use Rattle.std.proofs.Common.{All, AllPairs, map, sym, subst}
 use Rattle.std.proofs.lemmas.List.Elements.{All-map}
 use Rattle.art_bytes.specs.Text.{IsPrefixOf}
-use Rattle.art_map.proofs.SetLemmas.{texts-in, Ascend}
+use Rattle.art_map.proofs.CallLaws.{Ascend}
+use Rattle.art_map.proofs.SetLemmas.{texts-in}
 use Rattle.art_map.proofs.set.ArtSet+K+PREFIX_LEN.keys_ascend.Goals as goal
 
 pub returns-clause-ascending : goal.returns-clause-ascending

@@ -1,10 +1,11 @@
-use Rattle.std.proofs.Common.{◌≡◌, ◌∙◌, sym, ap, subst}
+use Rattle.std.proofs.Common.{◌≡◌, ◌∙◌, Err, None, Ok, Result, IfErr, OnErr, sym, ap, subst}
 use Rattle.art_tree.specs.Dictionary.{IsEntry, SameEntries, SameOtherEntries}
 use Rattle.art_tree.specs.Entries.{entries_of, put_entry}
 use Rattle.art_tree.specs.Insertion as tree
 use Rattle.art_map.specs.Changes.{IsRefused, MayEnter}
 use Rattle.art_map.specs.Entries.{entry_with}
 use Rattle.art_map.proofs.ListLemmas.{entries-find, if-err, if-ok, is-refused, may-enter, on-err, on-ok, on-ok-both}
+use Rattle.art_map.proofs.RefusalLemmas.{refused_not_there}
 use Rattle.art_map.proofs.map.changes.ArtMap+K+V+PREFIX_LEN.insert.Goals as goal
 
 pub returns-clause-replaced : goal.returns-clause-replaced
@@ -44,3 +45,19 @@ returns-clause-same_entries g c =
     let text = g.K.AsBytes.text in
     let arena = c.self.inside.tree.arena in
     on-err c.insert.result (SameEntries text arena c.insert.new.self.arena) _ (λ same. c.the_list_of_entries_changes_with_them.ensures.same arena c.insert.new.self.arena same ∙ c.self.view_is) c.insert.ensures.same_entries
+
+err_only : {A E : Type 0} (r : Result A E) (P : E → Type 0) (Q : Type 0) → ((e : E) → P e → Q) → IfErr r P → OnErr r Q
+err_only (Ok x) P Q f p = tt
+err_only (Err e) P Q f p = f e p
+
+pub returns-clause-no_entry : goal.returns-clause-no_entry
+returns-clause-no_entry g c =
+    let text = g.K.AsBytes.text in
+    let arena = c.self.inside.tree.arena in
+    let entries = c.args.self.now in
+    let x = text c.args.key in
+    err_only c.insert.result (λ fault. tree.IsRefused text arena x fault.refusal) (entry_with text entries x ≡ None)
+    (λ fault due.
+    refused_not_there text entries x c.entries_ascend.ensures.short c.entries_ascend.ensures.no_prefixes fault.refusal
+    (subst (λ entries. IsRefused text entries x fault.refusal) c.self.view_is (is-refused text arena (entries_of text arena) (c.entries_are_one_list.ensures.list arena) x fault.refusal (entries-find text arena x) due)))
+    c.insert.ensures.refusal_due

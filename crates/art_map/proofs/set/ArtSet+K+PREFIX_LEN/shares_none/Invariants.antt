@@ -1,6 +1,6 @@
 use Rattle.std.proofs.Common.{All, length}
 use Rattle.art_map.specs.Sets.{HasKey}
-use Rattle.art_map.proofs.set.ArtSet+K+PREFIX_LEN.is_disjoint.Given as goal
+use Rattle.art_map.proofs.set.ArtSet+K+PREFIX_LEN.shares_none.Given as goal
 
 -- the keys that were gone through meet the test
 abbrev pub invariant-each : goal.invariant-each

@@ -1,0 +1,38 @@
+use Rattle.std.proofs.Common.{◌≡◌, ◌≢◌, ◌∙◌, None, OnErr, OnOk, IfOk, map, not, nat_eq, sym, ap, subst}
+use Rattle.std.specs.Cmp.Lexicographic.{pointwise}
+use Rattle.std.specs.Option.{option_map}
+use Rattle.art_map.specs.Entries.{entry_with}
+use Rattle.art_map.specs.Sets.{key_with, without_key}
+use Rattle.art_map.proofs.OwnedKeyLemmas.{if-key, none-of-key, on-key, on-key-fault}
+use Rattle.art_map.proofs.SetLemmas.{key_of_found, keys_in, map-of-filter}
+use Rattle.art_map.proofs.set.keys_by_text.ArtSet+K+PREFIX_LEN.take.Goals as goal
+
+pub returns-clause-taken : goal.returns-clause-taken
+returns-clause-taken g c =
+    let text = g.K.AsBytes.text in
+    let x = g.Q.AsBytes.text c.args.key.now in
+    subst (λ r. IfOk r (λ taken. taken ≡ key_with text c.args.self.now x)) (sym c.owned_key.ensures)
+    (if-key c.remove_entry.result (λ entry. entry ≡ entry_with text c.self.inside.entries x) (λ taken. taken ≡ key_with text c.args.self.now x)
+    (λ entry is. ap (option_map (λ entry. entry.0)) is ∙ key_of_found text c.self.inside.entries x ∙ ap (λ keys. key_with text keys x) c.self.view_is) c.remove_entry.ensures.removed)
+
+pub returns-clause-keys : goal.returns-clause-keys
+returns-clause-keys g c =
+    let text = g.K.AsBytes.text in
+    let x = g.Q.AsBytes.text c.args.key.now in
+    subst (λ r. OnOk r (keys_in text c.remove_entry.new.self ≡ without_key text c.args.self.now x)) (sym c.owned_key.ensures)
+    (on-key c.remove_entry.result _ (keys_in text c.remove_entry.new.self ≡ without_key text c.args.self.now x)
+    (λ is. ap (keys_in text) is ∙ map-of-filter (λ entry. entry.0) (λ key. not (pointwise nat_eq (text key) x)) c.self.inside.entries ∙ ap (λ keys. without_key text keys x) c.self.view_is) c.remove_entry.ensures.entries)
+
+pub returns-clause-refused : goal.returns-clause-refused
+returns-clause-refused g c =
+    let text = g.K.AsBytes.text in
+    let x = g.Q.AsBytes.text c.args.key.now in
+    subst (λ r. OnErr r (key_with text c.args.self.now x ≢ None)) (sym c.owned_key.ensures)
+    (on-key-fault c.remove_entry.result (entry_with text c.self.inside.entries x ≢ None) (key_with text c.args.self.now x ≢ None)
+    (λ some none. some (none-of-key (entry_with text c.self.inside.entries x) (key_of_found text c.self.inside.entries x ∙ ap (λ keys. key_with text keys x) c.self.view_is ∙ none))) c.remove_entry.ensures.refused)
+
+pub returns-clause-same_keys : goal.returns-clause-same_keys
+returns-clause-same_keys g c =
+    let text = g.K.AsBytes.text in
+    subst (λ r. OnErr r (keys_in text c.remove_entry.new.self ≡ c.args.self.now)) (sym c.owned_key.ensures)
+    (on-key-fault c.remove_entry.result _ (keys_in text c.remove_entry.new.self ≡ c.args.self.now) (λ is. ap (keys_in text) is ∙ c.self.view_is) c.remove_entry.ensures.same_entries)
