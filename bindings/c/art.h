@@ -2,10 +2,10 @@
    bytes (a key before the longer ones that begin with it), or of their numbers. Any bytes are a key.
 
    What the caller owes, and no call tests:
-   - A map is zeroed and given to `new`. Where that returns ART_NONE the map is live until it is given to
-     `free`. All other calls take a live map. A map is never copied, and used by one call at a time.
+   - A handle is zeroed before its first call, is never copied, and is used by one call at a time. Zeroed, or
+     given to `free`, it holds no map: calls then return ART_NO_MAP, or 0, and change nothing.
    - `key` points to `len` bytes, `key_out` to `capacity` writable ones; where there are none it may be null.
-     The other pointers are not null, and no two arguments of a call overlap.
+     The other pointers are not null. What a call writes overlaps none of its other arguments.
    - No call is made from a signal handler, or from the forked child of a process with threads.
    - `malloc`, `realloc` and `free` are from one allocator, and align a block to each power of two up to 16
      that divides its size.
@@ -26,19 +26,23 @@ extern "C" {
 #define ART_SOME 1u         /* done; there was one, and it is written out */
 #define ART_NO_MEMORY 2u    /* nothing has changed */
 #define ART_KEY_TOO_LONG 3u /* nothing has changed; the key has 2^32 bytes or more, each zero twice and 2 more */
-#define ART_SMALL_BUFFER 4u /* there is an entry; its key has *key_len bytes, and none was written */
+#define ART_SMALL_BUFFER 4u /* nothing has changed; there is an entry; its key has *key_len bytes, and none was written */
+#define ART_NO_MAP 5u       /* nothing has changed; the handle holds no map */
+#define ART_HAS_MAP 6u      /* nothing has changed; the handle given to `new` holds a map */
 #define ART_NO_COUNT SIZE_MAX
 
 typedef struct { void *opaque; } art_bytes_map;
 typedef struct { void *opaque; } art_u64_map;
 
-/* ART_NONE or ART_NO_MEMORY. */
+/* ART_NONE, ART_NO_MEMORY or ART_HAS_MAP. */
 uint32_t art_bytes_new(art_bytes_map *map);
 void art_bytes_free(art_bytes_map *map);
 size_t art_bytes_len(art_bytes_map *map);
 void art_bytes_clear(art_bytes_map *map);
-/* Memory for so many more entries, but for their keys. ART_NONE or ART_NO_MEMORY. */
+/* Memory for so many more entries, but for their keys. */
 uint32_t art_bytes_reserve(art_bytes_map *map, size_t additional);
+/* Puts the entries in order of their keys into memory that just holds them. */
+uint32_t art_bytes_compact(art_bytes_map *map);
 uint32_t art_bytes_insert(art_bytes_map *map, const uint8_t *key, size_t len, uint64_t value, uint64_t *before);
 uint32_t art_bytes_get(art_bytes_map *map, const uint8_t *key, size_t len, uint64_t *value);
 uint32_t art_bytes_remove(art_bytes_map *map, const uint8_t *key, size_t len, uint64_t *value);
@@ -47,17 +51,25 @@ uint32_t art_bytes_next(art_bytes_map *map, const uint8_t *from, size_t len, boo
                         uint8_t *key_out, size_t capacity, size_t *key_len, uint64_t *value);
 uint32_t art_bytes_previous(art_bytes_map *map, const uint8_t *from, size_t len, bool inclusive,
                             uint8_t *key_out, size_t capacity, size_t *key_len, uint64_t *value);
+/* The first entry at or after a key, of those whose keys begin with a prefix. */
+uint32_t art_bytes_next_with_prefix(art_bytes_map *map, const uint8_t *prefix, size_t prefix_len,
+                                    const uint8_t *from, size_t len, bool inclusive,
+                                    uint8_t *key_out, size_t capacity, size_t *key_len, uint64_t *value);
 uint32_t art_bytes_first(art_bytes_map *map, uint8_t *key_out, size_t capacity, size_t *key_len, uint64_t *value);
 uint32_t art_bytes_last(art_bytes_map *map, uint8_t *key_out, size_t capacity, size_t *key_len, uint64_t *value);
+/* The same, and the entry is removed where its key fits (ART_SOME). */
+uint32_t art_bytes_pop_first(art_bytes_map *map, uint8_t *key_out, size_t capacity, size_t *key_len, uint64_t *value);
+uint32_t art_bytes_pop_last(art_bytes_map *map, uint8_t *key_out, size_t capacity, size_t *key_len, uint64_t *value);
 /* How many keys begin with a prefix, or ART_NO_COUNT where memory for the prefix is refused. */
 size_t art_bytes_count_prefix(art_bytes_map *map, const uint8_t *prefix, size_t len);
 
-/* Only new, reserve, insert and remove may return ART_NO_MEMORY. */
+/* Only new, reserve, compact, insert, remove and pops may return ART_NO_MEMORY. */
 uint32_t art_u64_new(art_u64_map *map);
 void art_u64_free(art_u64_map *map);
 size_t art_u64_len(art_u64_map *map);
 void art_u64_clear(art_u64_map *map);
 uint32_t art_u64_reserve(art_u64_map *map, size_t additional);
+uint32_t art_u64_compact(art_u64_map *map);
 uint32_t art_u64_insert(art_u64_map *map, uint64_t key, uint64_t value, uint64_t *before);
 uint32_t art_u64_get(art_u64_map *map, uint64_t key, uint64_t *value);
 uint32_t art_u64_remove(art_u64_map *map, uint64_t key, uint64_t *value);
@@ -65,6 +77,12 @@ uint32_t art_u64_next(art_u64_map *map, uint64_t from, bool inclusive, uint64_t 
 uint32_t art_u64_previous(art_u64_map *map, uint64_t from, bool inclusive, uint64_t *key, uint64_t *value);
 uint32_t art_u64_first(art_u64_map *map, uint64_t *key, uint64_t *value);
 uint32_t art_u64_last(art_u64_map *map, uint64_t *key, uint64_t *value);
+/* The same, and the entry is removed. */
+uint32_t art_u64_pop_first(art_u64_map *map, uint64_t *key, uint64_t *value);
+uint32_t art_u64_pop_last(art_u64_map *map, uint64_t *key, uint64_t *value);
+/* The next entries at or after a key, as many as the shorter of both arrays holds: how many were written. */
+size_t art_u64_next_many(art_u64_map *map, uint64_t from, bool inclusive,
+                         uint64_t *keys, size_t keys_len, uint64_t *values, size_t values_len);
 
 #ifdef __cplusplus
 }

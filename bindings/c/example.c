@@ -1,4 +1,4 @@
-/* Metals by their names and by their numbers: build with `cc example.c ../out/libart.a`. */
+/* Metals by their names and by their numbers: build it with `cc example.c ../out/libart.a`. */
 #include "art.h"
 #include <stdio.h>
 #include <string.h>
@@ -24,12 +24,12 @@ static int by_name(void) {
     size_t len = 0;
     uint32_t found = art_bytes_first(&map, key, sizeof key, &len, &value);
     while (found == ART_SOME) {
-        printf("%.*s ", (int)len, (const char *)key);
+        printf("%.*s\n", (int)len, (const char *)key);
         if (art_bytes_remove(&map, key, len, &value) != ART_SOME) return 3;
         found = art_bytes_next(&map, key, len, false, next, sizeof next, &len, &value);
         memcpy(key, next, sizeof key);
     }
-    printf("\n%zu are left\n", art_bytes_len(&map));
+    printf("%zu are left\n", art_bytes_len(&map));
     art_bytes_free(&map);
     return 0;
 }

@@ -1,2 +1,3 @@
+mod Behind
 mod BytesBox
 mod NumberBox

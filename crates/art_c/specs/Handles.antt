@@ -1,8 +1,8 @@
 -- What a handle owns, and the entries of the map behind it.
-use base.Fml.{Fml, ftrue}
+use base.Fml.{Fml, feq}
 use base.Stored.{Coded}
 use denote.RattleType.{RattleType}
-use denote.RawPtr.{Ptr}
+use denote.RawPtr.{Ptr, null_ptr}
 use Rattle.std.specs.Prelude.{List, [], Option, Some, None}
 use Rattle.std.specs.Box.Ownership.{box_owns}
 use Rattle.std.specs.Coded.{coded_option}
@@ -11,9 +11,9 @@ use Rattle.std_heap.specs.contracts.GlobalAllocator.TheImpl.{ghosts}
 use Rattle.art_c_maps.specs.contracts.bytes_map.BytesMap as bytes
 use Rattle.art_c_maps.specs.contracts.number_map.NumberMap as numbers
 
--- what a box of this value owns, or nothing
+-- what a box of this value owns; where there is none the address is null
 abbrev pub owns_behind : (R : RattleType) → Global → Ptr → Option R.Denot → Fml
-owns_behind R alloc p None = ftrue
+owns_behind R alloc p None = feq Ptr p null_ptr
 owns_behind R alloc p (Some value) = box_owns (ghosts.dealloc_token alloc) R p value
 
 -- the types of the maps, as the logic names them

@@ -1,5 +1,5 @@
 -- The statuses that calls return, as the header names them.
-use Rattle.std.specs.Prelude.{◌≡◌, ◌≢◌, ℕ, List, length, Option, Some, None, nat_le, if◌then◌else◌}
+use Rattle.std.specs.Prelude.{◌≡◌, ◌≢◌, ◌⊎◌, ℕ, List, length, Option, Some, None, nat_le, if◌then◌else◌}
 
 abbrev pub ART_NONE : ℕ
 ART_NONE = 0
@@ -16,9 +16,19 @@ ART_KEY_TOO_LONG = 3
 abbrev pub ART_SMALL_BUFFER : ℕ
 ART_SMALL_BUFFER = 4
 
--- neither refusal
+abbrev pub ART_NO_MAP : ℕ
+ART_NO_MAP = 5
+
+abbrev pub ART_HAS_MAP : ℕ
+ART_HAS_MAP = 6
+
+-- no refusal of a call that takes a map
 abbrev pub IsDone : ℕ → Type 0
-IsDone status = (status ≢ ART_NO_MEMORY) × (status ≢ ART_KEY_TOO_LONG)
+IsDone status = (status ≢ ART_NO_MEMORY) × (status ≢ ART_NO_MAP)
+
+-- such a refusal, or that of a key
+abbrev pub IsRefusal : ℕ → Type 0
+IsRefusal status = (status ≡ ART_NO_MEMORY) ⊎ (status ≡ ART_NO_MAP) ⊎ (status ≡ ART_KEY_TOO_LONG)
 
 -- whether there is such an entry
 abbrev pub status_of : {X : Type 0} → Option X → ℕ

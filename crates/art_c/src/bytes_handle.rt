@@ -1,5 +1,6 @@
 //! A map by bytes behind a handle of C.
-ghost use Rattle.std.specs.Prelude.{◌≡◌, IsSome, None, Option, Some};
+ghost use Rattle.std.specs.Prelude.{◌≡◌, None, Option, Some};
+ghost use Rattle.std.specs.Option.{option_map};
 ghost use Rattle.art_c.specs.Handles.{coded_behind, owns_behind, bytes_row};
 
 use crate::parts::Parts;
@@ -9,8 +10,8 @@ use std::marker::Model;
 use std::mem;
 use std::ptr::null_mut;
 
-/// `art_bytes_map` of the header: the address of a boxed map. For contracts the entries of that map, or none
-/// where the handle holds no map.
+/// `art_bytes_map` of the header: the address of a boxed map, or null where the handle holds none. For
+/// contracts the entries of that map, if there is one.
 #[repr(C)]
 #[derive(Drop)]
 pub struct BytesHandle {
@@ -44,26 +45,27 @@ impl BytesHandle {
         }
     }
 
-    fn into_parts(self) -> Parts<BytesMap, Global>
-        requires { IsSome self.held }
-        ensures { Some result.value ≡ self.held }
+    fn into_parts(self) -> Option<Parts<BytesMap, Global>>
+        ensures { option_map (λ parts. parts.value) result ≡ self.held }
     {
         let BytesHandle { ptr, alloc } = self;
-        Parts {
-            ptr: ptr as *mut BytesMap,
-            alloc,
+        if ptr.is_null() {
+            None
+        } else {
+            Some(Parts {
+                ptr: ptr as *mut BytesMap,
+                alloc,
+            })
         }
     }
 
-    /// Takes the map out of the handle.
-    pub(crate) fn take(&mut self, alloc: Global) -> Box<BytesMap>
-        requires { IsSome self.old.held }
-        ensures map { Some result.value ≡ self.old.held }
+    /// Takes the map out of the handle, where it holds one.
+    pub(crate) fn take(&mut self, alloc: Global) -> Option<Box<BytesMap>>
+        ensures map { option_map (λ map. map.value) result ≡ self.old.held }
         ensures none_left { self.new.held ≡ None }
     {
-        mem::replace(self, BytesHandle::empty(alloc))
-            .into_parts()
-            .into_box()
+        let parts = mem::replace(self, BytesHandle::empty(alloc)).into_parts()?;
+        Some(parts.into_box())
     }
 
     /// Gives the handle this map.

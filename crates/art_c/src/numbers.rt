@@ -1,12 +1,13 @@
 //! The exports for maps by numbers.
-ghost use Rattle.std.specs.Prelude.{◌≡◌, ◌≢◌, [], None, Some, IfOk, IsSome, OnErr, length};
+ghost use Rattle.std.specs.Prelude.{◌≡◌, ◌≢◌, ◌-◌, ◌⊎◌, ◌↔◌, [], None, Some, IfOk, IsSome, OnErr, drop, length, min, take};
+ghost use Rattle.std.specs.Option.{option_map};
 ghost use Rattle.std.specs.Ordering.{nat_cmp};
 ghost use Rattle.art_c.specs.Handles.{entries_of};
-ghost use Rattle.art_c.specs.Statuses.{ART_NONE, ART_NO_MEMORY, found_or, number_or, status_of, value_or};
-ghost use Rattle.art_c_maps.specs.Entries.{entries_from, entries_to, first_of, last_of, put, value_of, without};
+ghost use Rattle.art_c.specs.Statuses.{ART_HAS_MAP, ART_NONE, ART_NO_MAP, ART_NO_MEMORY, IsDone, IsRefusal, found_or, number_or, status_of, value_or};
+ghost use Rattle.art_c_maps.specs.Entries.{begun_with, entries_from, entries_to, first_of, keys_of, last_of, next_entries, put, value_of, values_of, without};
 
 use crate::number_handle::NumberHandle;
-use crate::statuses::{NO_MEMORY, NONE, SOME};
+use crate::statuses::{HAS_MAP, NO_MAP, NO_MEMORY, NONE, SOME};
 use art_c_maps::NumberMap;
 use std::alloc::{AllocError, Global};
 
@@ -51,41 +52,45 @@ fn entry_status(found: Option<(u64, u64)>, key: &mut u64, value: &mut u64) -> u3
     }
 }
 
-/// Makes an empty map behind the handle. It holds none where memory is refused.
+/// Makes an empty map behind a handle that holds none.
 #[unsafe(no_mangle)]
 pub extern "C" fn art_u64_new(alloc: Global, map: &mut NumberHandle) -> u32
-    ensures made { result ≢ ART_NO_MEMORY → (result ≡ ART_NONE) × (map.new.held ≡ Some []) }
-    ensures refused { result ≡ ART_NO_MEMORY → map.new.held ≡ None }
+    ensures has_map { (result ≡ ART_HAS_MAP) ↔ IsSome map.old.held }
+    ensures made { (result ≢ ART_HAS_MAP) × (result ≢ ART_NO_MEMORY) →
+        (result ≡ ART_NONE) × (map.new.held ≡ Some []) }
+    ensures refused { (result ≡ ART_HAS_MAP) ⊎ (result ≡ ART_NO_MEMORY) →
+        map.new.held ≡ map.old.held }
 {
+    if let Some(held) = map.take(alloc) {
+        map.hold(held);
+        return HAS_MAP;
+    }
     match Box::new(alloc, NumberMap::new(alloc)) {
         Ok(made) => {
             map.hold(made);
             NONE
         }
-        Err(_) => {
-            *map = NumberHandle::empty(alloc);
-            NO_MEMORY
-        }
+        Err(_) => NO_MEMORY,
     }
 }
 
-/// Frees the map. The handle then holds none.
+/// Frees the map, if there is one. The handle then holds none.
 #[unsafe(no_mangle)]
 pub extern "C" fn art_u64_free(alloc: Global, map: &mut NumberHandle)
-    requires { IsSome map.old.held }
     ensures { map.new.held ≡ None }
 {
     drop(map.take(alloc));
 }
 
-/// The number of entries.
+/// The number of entries, 0 where there is no map.
 #[unsafe(no_mangle)]
 pub extern "C" fn art_u64_len(alloc: Global, map: &mut NumberHandle) -> usize
-    requires { IsSome map.old.held }
     ensures len { result ≡ length (entries_of map.old.held) }
     ensures same_entries { map.new.held ≡ map.old.held }
 {
-    let held = map.take(alloc);
+    let Some(held) = map.take(alloc) else {
+        return 0;
+    };
     let len = held.len();
     map.hold(held);
     len
@@ -94,10 +99,11 @@ pub extern "C" fn art_u64_len(alloc: Global, map: &mut NumberHandle) -> usize
 /// Removes all entries.
 #[unsafe(no_mangle)]
 pub extern "C" fn art_u64_clear(alloc: Global, map: &mut NumberHandle)
-    requires { IsSome map.old.held }
-    ensures { map.new.held ≡ Some [] }
+    ensures { map.new.held ≡ option_map (λ _. []) map.old.held }
 {
-    let mut held = map.take(alloc);
+    let Some(mut held) = map.take(alloc) else {
+        return;
+    };
     held.clear();
     map.hold(held);
 }
@@ -105,14 +111,34 @@ pub extern "C" fn art_u64_clear(alloc: Global, map: &mut NumberHandle)
 /// Reserves memory for more entries.
 #[unsafe(no_mangle)]
 pub extern "C" fn art_u64_reserve(alloc: Global, map: &mut NumberHandle, additional: usize) -> u32
-    requires { IsSome map.old.held }
-    ensures status { result ≢ ART_NO_MEMORY → result ≡ ART_NONE }
+    ensures no_map { (result ≡ ART_NO_MAP) ↔ (map.old.held ≡ None) }
+    ensures status { IsDone result → result ≡ ART_NONE }
     ensures same_entries { map.new.held ≡ map.old.held }
 {
-    let mut held = map.take(alloc);
+    let Some(mut held) = map.take(alloc) else {
+        return NO_MAP;
+    };
     let reserved = held.reserve(additional);
     map.hold(held);
     match reserved {
+        Ok(_) => NONE,
+        Err(_) => NO_MEMORY,
+    }
+}
+
+/// Puts the entries into memory in the order of their keys, with room for just them.
+#[unsafe(no_mangle)]
+pub extern "C" fn art_u64_compact(alloc: Global, map: &mut NumberHandle) -> u32
+    ensures no_map { (result ≡ ART_NO_MAP) ↔ (map.old.held ≡ None) }
+    ensures status { IsDone result → result ≡ ART_NONE }
+    ensures same_entries { map.new.held ≡ map.old.held }
+{
+    let Some(mut held) = map.take(alloc) else {
+        return NO_MAP;
+    };
+    let compacted = held.compact();
+    map.hold(held);
+    match compacted {
         Ok(_) => NONE,
         Err(_) => NO_MEMORY,
     }
@@ -127,17 +153,19 @@ pub extern "C" fn art_u64_insert(
     value: u64,
     before: &mut u64,
 ) -> u32
-    requires { IsSome map.old.held }
-    ensures entries { result ≢ ART_NO_MEMORY →
+    ensures no_map { (result ≡ ART_NO_MAP) ↔ (map.old.held ≡ None) }
+    ensures entries { IsDone result →
         map.new.held ≡ Some (put nat_cmp (entries_of map.old.held) key value) }
-    ensures status { result ≢ ART_NO_MEMORY →
+    ensures status { IsDone result →
         result ≡ status_of (value_of nat_cmp (entries_of map.old.held) key) }
-    ensures before { result ≢ ART_NO_MEMORY →
+    ensures before { IsDone result →
         before.new ≡ found_or (value_of nat_cmp (entries_of map.old.held) key) before.old }
-    ensures refused { result ≡ ART_NO_MEMORY →
+    ensures refused { IsRefusal result →
         (map.new.held ≡ map.old.held) × (before.new ≡ before.old) }
 {
-    let mut held = map.take(alloc);
+    let Some(mut held) = map.take(alloc) else {
+        return NO_MAP;
+    };
     let inserted = held.insert(key, value);
     map.hold(held);
     changed_status(inserted, before)
@@ -151,13 +179,16 @@ pub extern "C" fn art_u64_get(
     key: u64,
     value: &mut u64,
 ) -> u32
-    requires { IsSome map.old.held }
-    ensures status { result ≡ status_of (value_of nat_cmp (entries_of map.old.held) key) }
+    ensures no_map { (result ≡ ART_NO_MAP) ↔ (map.old.held ≡ None) }
+    ensures status { result ≢ ART_NO_MAP →
+        result ≡ status_of (value_of nat_cmp (entries_of map.old.held) key) }
     ensures value { value.new
         ≡ found_or (value_of nat_cmp (entries_of map.old.held) key) value.old }
     ensures same_entries { map.new.held ≡ map.old.held }
 {
-    let held = map.take(alloc);
+    let Some(held) = map.take(alloc) else {
+        return NO_MAP;
+    };
     let found = held.get(key);
     map.hold(held);
     value_status(found, value)
@@ -171,17 +202,19 @@ pub extern "C" fn art_u64_remove(
     key: u64,
     value: &mut u64,
 ) -> u32
-    requires { IsSome map.old.held }
-    ensures entries { result ≢ ART_NO_MEMORY →
+    ensures no_map { (result ≡ ART_NO_MAP) ↔ (map.old.held ≡ None) }
+    ensures entries { IsDone result →
         map.new.held ≡ Some (without nat_cmp (entries_of map.old.held) key) }
-    ensures status { result ≢ ART_NO_MEMORY →
+    ensures status { IsDone result →
         result ≡ status_of (value_of nat_cmp (entries_of map.old.held) key) }
-    ensures value { result ≢ ART_NO_MEMORY →
+    ensures value { IsDone result →
         value.new ≡ found_or (value_of nat_cmp (entries_of map.old.held) key) value.old }
-    ensures refused { result ≡ ART_NO_MEMORY →
+    ensures refused { IsRefusal result →
         (map.new.held ≡ map.old.held) × (value.new ≡ value.old) }
 {
-    let mut held = map.take(alloc);
+    let Some(mut held) = map.take(alloc) else {
+        return NO_MAP;
+    };
     let removed = held.remove(key);
     map.hold(held);
     changed_status(removed, value)
@@ -197,8 +230,8 @@ pub extern "C" fn art_u64_next(
     key: &mut u64,
     value: &mut u64,
 ) -> u32
-    requires { IsSome map.old.held }
-    ensures status { result
+    ensures no_map { (result ≡ ART_NO_MAP) ↔ (map.old.held ≡ None) }
+    ensures status { result ≢ ART_NO_MAP → result
         ≡ status_of (first_of (entries_from nat_cmp inclusive from (entries_of map.old.held))) }
     ensures key { key.new ≡ number_or
         (first_of (entries_from nat_cmp inclusive from (entries_of map.old.held))) key.old }
@@ -206,7 +239,9 @@ pub extern "C" fn art_u64_next(
         (first_of (entries_from nat_cmp inclusive from (entries_of map.old.held))) value.old }
     ensures same_entries { map.new.held ≡ map.old.held }
 {
-    let held = map.take(alloc);
+    let Some(held) = map.take(alloc) else {
+        return NO_MAP;
+    };
     let found = held.next(from, inclusive);
     map.hold(held);
     entry_status(found, key, value)
@@ -222,8 +257,8 @@ pub extern "C" fn art_u64_previous(
     key: &mut u64,
     value: &mut u64,
 ) -> u32
-    requires { IsSome map.old.held }
-    ensures status { result
+    ensures no_map { (result ≡ ART_NO_MAP) ↔ (map.old.held ≡ None) }
+    ensures status { result ≢ ART_NO_MAP → result
         ≡ status_of (last_of (entries_to nat_cmp inclusive from (entries_of map.old.held))) }
     ensures key { key.new ≡ number_or
         (last_of (entries_to nat_cmp inclusive from (entries_of map.old.held))) key.old }
@@ -231,7 +266,9 @@ pub extern "C" fn art_u64_previous(
         (last_of (entries_to nat_cmp inclusive from (entries_of map.old.held))) value.old }
     ensures same_entries { map.new.held ≡ map.old.held }
 {
-    let held = map.take(alloc);
+    let Some(held) = map.take(alloc) else {
+        return NO_MAP;
+    };
     let found = held.previous(from, inclusive);
     map.hold(held);
     entry_status(found, key, value)
@@ -245,13 +282,15 @@ pub extern "C" fn art_u64_first(
     key: &mut u64,
     value: &mut u64,
 ) -> u32
-    requires { IsSome map.old.held }
-    ensures status { result ≡ status_of (first_of (entries_of map.old.held)) }
+    ensures no_map { (result ≡ ART_NO_MAP) ↔ (map.old.held ≡ None) }
+    ensures status { result ≢ ART_NO_MAP → result ≡ status_of (first_of (entries_of map.old.held)) }
     ensures key { key.new ≡ number_or (first_of (entries_of map.old.held)) key.old }
     ensures value { value.new ≡ value_or (first_of (entries_of map.old.held)) value.old }
     ensures same_entries { map.new.held ≡ map.old.held }
 {
-    let held = map.take(alloc);
+    let Some(held) = map.take(alloc) else {
+        return NO_MAP;
+    };
     let found = held.first();
     map.hold(held);
     entry_status(found, key, value)
@@ -265,14 +304,101 @@ pub extern "C" fn art_u64_last(
     key: &mut u64,
     value: &mut u64,
 ) -> u32
-    requires { IsSome map.old.held }
-    ensures status { result ≡ status_of (last_of (entries_of map.old.held)) }
+    ensures no_map { (result ≡ ART_NO_MAP) ↔ (map.old.held ≡ None) }
+    ensures status { result ≢ ART_NO_MAP → result ≡ status_of (last_of (entries_of map.old.held)) }
     ensures key { key.new ≡ number_or (last_of (entries_of map.old.held)) key.old }
     ensures value { value.new ≡ value_or (last_of (entries_of map.old.held)) value.old }
     ensures same_entries { map.new.held ≡ map.old.held }
 {
-    let held = map.take(alloc);
+    let Some(held) = map.take(alloc) else {
+        return NO_MAP;
+    };
     let found = held.last();
     map.hold(held);
     entry_status(found, key, value)
+}
+
+/// Removes the entry with the least key, and writes it out.
+#[unsafe(no_mangle)]
+pub extern "C" fn art_u64_pop_first(
+    alloc: Global,
+    map: &mut NumberHandle,
+    key: &mut u64,
+    value: &mut u64,
+) -> u32
+    ensures no_map { (result ≡ ART_NO_MAP) ↔ (map.old.held ≡ None) }
+    ensures entries { IsDone result → map.new.held ≡ Some (drop 1 (entries_of map.old.held)) }
+    ensures status { IsDone result → result ≡ status_of (first_of (entries_of map.old.held)) }
+    ensures key { IsDone result →
+        key.new ≡ number_or (first_of (entries_of map.old.held)) key.old }
+    ensures value { IsDone result →
+        value.new ≡ value_or (first_of (entries_of map.old.held)) value.old }
+    ensures refused { IsRefusal result →
+        (map.new.held ≡ map.old.held) × (key.new ≡ key.old) × (value.new ≡ value.old) }
+{
+    let Some(mut held) = map.take(alloc) else {
+        return NO_MAP;
+    };
+    let removed = held.pop_first();
+    map.hold(held);
+    match removed {
+        Ok(removed) => entry_status(removed, key, value),
+        Err(_) => NO_MEMORY,
+    }
+}
+
+/// Removes the entry with the greatest key, and writes it out.
+#[unsafe(no_mangle)]
+pub extern "C" fn art_u64_pop_last(
+    alloc: Global,
+    map: &mut NumberHandle,
+    key: &mut u64,
+    value: &mut u64,
+) -> u32
+    ensures no_map { (result ≡ ART_NO_MAP) ↔ (map.old.held ≡ None) }
+    ensures entries { IsDone result → map.new.held ≡ Some (take (length (entries_of map.old.held) - 1) (entries_of map.old.held)) }
+    ensures status { IsDone result → result ≡ status_of (last_of (entries_of map.old.held)) }
+    ensures key { IsDone result →
+        key.new ≡ number_or (last_of (entries_of map.old.held)) key.old }
+    ensures value { IsDone result →
+        value.new ≡ value_or (last_of (entries_of map.old.held)) value.old }
+    ensures refused { IsRefusal result →
+        (map.new.held ≡ map.old.held) × (key.new ≡ key.old) × (value.new ≡ value.old) }
+{
+    let Some(mut held) = map.take(alloc) else {
+        return NO_MAP;
+    };
+    let removed = held.pop_last();
+    map.hold(held);
+    match removed {
+        Ok(removed) => entry_status(removed, key, value),
+        Err(_) => NO_MEMORY,
+    }
+}
+
+/// Writes out the first entries at a key or after it, as many as the shorter of both arrays holds. Returns
+/// how many.
+#[unsafe(no_mangle)]
+pub extern "C" fn art_u64_next_many(
+    alloc: Global,
+    map: &mut NumberHandle,
+    from: u64,
+    inclusive: bool,
+    keys: &mut [u64],
+    values: &mut [u64],
+) -> usize
+    ensures count { result ≡ length (next_entries nat_cmp
+        (min (length keys.old) (length values.old)) inclusive from (entries_of map.old.held)) }
+    ensures keys { keys.new ≡ begun_with (keys_of (next_entries nat_cmp
+        (min (length keys.old) (length values.old)) inclusive from (entries_of map.old.held))) keys.old }
+    ensures values { values.new ≡ begun_with (values_of (next_entries nat_cmp
+        (min (length keys.old) (length values.old)) inclusive from (entries_of map.old.held))) values.old }
+    ensures same_entries { map.new.held ≡ map.old.held }
+{
+    let Some(held) = map.take(alloc) else {
+        return 0;
+    };
+    let count = held.next_many(from, inclusive, keys, values);
+    map.hold(held);
+    count
 }

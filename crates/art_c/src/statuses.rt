@@ -9,3 +9,7 @@ pub(crate) const NO_MEMORY: u32 = 2;
 pub(crate) const KEY_TOO_LONG: u32 = 3;
 
 pub(crate) const SMALL_BUFFER: u32 = 4;
+
+pub(crate) const NO_MAP: u32 = 5;
+
+pub(crate) const HAS_MAP: u32 = 6;

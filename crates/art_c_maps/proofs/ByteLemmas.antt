@@ -5,7 +5,7 @@ use Rattle.std.specs.Vec.{vec_items}
 use Rattle.std.specs.declared.alloc.Global.{Global}
 use Rattle.std.proofs.Math.Logic.{∥∥₁_map}
 use Rattle.art_bytes.specs.Text.{text_order}
-use Rattle.art_mapped.specs.Escaped.{escaped_text, IsEscaped}
+use Rattle.art_mapped.specs.Escaped.{escaped_text}
 use Rattle.art_mapped.specs.EscapedLaws.{escaped_order}
 use Rattle.art_c_maps.specs.Unescaped.{unescaped}
 use Rattle.art_c_maps.proofs.ReadLemmas.{IsTextOf, KeepsOrder}

@@ -1,9 +1,10 @@
 -- An entry that was found, read as key and value.
-use Rattle.std.proofs.Common.{◌≡◌, ◌≤◌, ◌∙◌, Bool, filter, ◌+◌, ◌-◌, ℕ, zero, suc, List, [], ◌∷◌, ◌++◌, length, map, Option, Some, None, Result, Ok, Err, IfOk, OnOk, refl, sym, ap, arith, length-append}
+use Rattle.std.proofs.Common.{◌≡◌, ◌≤◌, ◌∙◌, Bool, filter, ◌-◌, ℕ, List, [], ◌∷◌, ◌++◌, length, drop, take, Option, Some, None, IfSome, IfNone, Result, Ok, Err, IfOk, OnOk, refl, sym, ap, subst, arith, length-append}
 use Rattle.std.specs.Option.{MatchOption, option_map}
 use Rattle.std.specs.Prelude.{slice_get}
 use Rattle.std.specs.Borrow.{Bor}
-use Rattle.std.proofs.lemmas.List.{length-map}
+use Rattle.std.proofs.lemmas.List.{length-map, map-append}
+use Rattle.std.proofs.Math.Seq.{take-append_seam}
 use Rattle.std.proofs.lemmas.List.Sums.{count_by-le-length, length-filter}
 use Rattle.std.proofs.lemmas.Option.{slice_get-map}
 use Rattle.art_c_maps.specs.Entries.{entries_read, first_of, last_of}
@@ -43,11 +44,38 @@ module _ {T K V : Type 0} (read : List ℕ → K) (text : T → List ℕ) where
       read-now found ∙ ap (option_map entry_read) is ∙ sym (slice_get-map entry_read picked (length picked - 1))
       ∙ ap (λ n. slice_get (entries_read read text picked) (n - 1)) (sym (length-map picked entry_read)) ∙ ap last_of same
 
+  -- an entry that was removed at an end is the one there among those that are read
+  pub removed-first : (removed : Option (T × V)) (before after : List (T × V)) → IfSome removed (λ entry. before ≡ entry ∷ after) → IfNone removed ((before ≡ []) × (after ≡ []))
+      → (option_map entry_read removed ≡ first_of (entries_read read text before)) × (entries_read read text after ≡ drop 1 (entries_read read text before))
+  removed-first None before after some none = (rw none.0 refl, rw (none.0, none.1) refl)
+  removed-first (Some entry) before after some none = (rw some refl, rw some refl)
+
+  pub removed-last : (removed : Option (T × V)) (before after : List (T × V)) → IfSome removed (λ entry. before ≡ after ++ entry ∷ []) → IfNone removed ((before ≡ []) × (after ≡ []))
+      → (option_map entry_read removed ≡ last_of (entries_read read text before)) × (entries_read read text after ≡ take (length (entries_read read text before) - 1) (entries_read read text before))
+  removed-last None before after some none = (rw none.0 refl, rw (none.0, none.1) refl)
+  removed-last (Some entry) before after some none =
+      let rest = entries_read read text after in let last = entry_read entry in
+      let all : entries_read read text before ≡ rest ++ last ∷ [] = ap (entries_read read text) some ∙ map-append entry_read after (entry ∷ []) in
+      let long : length (rest ++ last ∷ []) - 1 ≡ length rest = omega (arith, length-append rest (last ∷ [])) in
+      (rw (all, long, get-last rest last) refl, rw (all, long, take-append_seam rest (last ∷ [])) refl)
+
+  -- the entry that comes next is the next of those that are read
+  pub first-yielded : (item : Option (Bor T × Bor V)) (all left : List (T × V)) (Empty : Type 0) → MatchOption item ((all ≡ []) × Empty) (λ x. all ≡ now_of x ∷ left)
+      → (found : Option (K × V)) → found ≡ option_map (λ x. (read (text x.0.now), x.1.now)) item
+      → MatchOption found (entries_read read text all ≡ []) (λ entry. entries_read read text all ≡ entry ∷ entries_read read text left)
+  first-yielded None all left Empty yields found is = subst (λ f. MatchOption f (entries_read read text all ≡ []) (λ entry. entries_read read text all ≡ entry ∷ entries_read read text left)) (sym is) (ap (entries_read read text) yields.0)
+  first-yielded (Some x) all left Empty yields found is = subst (λ f. MatchOption f (entries_read read text all ≡ []) (λ entry. entries_read read text all ≡ entry ∷ entries_read read text left)) (sym is) (ap (entries_read read text) yields)
+
 -- key's length and value of an entry that was found
 pub lengths-of : {T : Type 0} (text : T → List ℕ) (found : Option (Bor T × Bor ℕ)) → option_map (λ item. (length (unescaped (text item.0.now)), item.1.now)) found
     ≡ option_map len_and_value (option_map (λ item. (unescaped (text item.0.now), item.1.now)) found)
 lengths-of text None = refl
 lengths-of text (Some item) = refl
+
+pub removed-lengths : {T : Type 0} (text : T → List ℕ) (removed : Option (T × ℕ)) → option_map (λ item. (length (unescaped (text item.0)), item.1)) removed
+    ≡ option_map len_and_value (option_map (λ item. (unescaped (text item.0), item.1)) removed)
+removed-lengths text None = refl
+removed-lengths text (Some item) = refl
 
 module _ {A E : Type 0} where
   pub if-ok : (r : Result A E) (P Q : A → Type 0) → ((x : A) → P x → Q x) → IfOk r P → IfOk r Q

@@ -2,6 +2,7 @@ mod ByteLemmas
 mod FoundLemmas
 mod NumberLemmas
 mod PrefixLemmas
+mod PrefixOrderLemmas
 mod ReadLemmas
 mod UnescapedLemmas
 mod WriteLemmas

@@ -1,17 +1,18 @@
 -- Lists of entries, with each key read from its text: calls on the texts are calls on the keys.
-use Rattle.std.proofs.Common.{◌≡◌, ◌∙◌, ℕ, Bool, true, false, cond, not, List, [], ◌∷◌, length, map, filter, All, Option, Some, None, refl, sym, ap, subst, nat_eq}
+use Rattle.std.proofs.Common.{◌≡◌, ◌∙◌, ℕ, suc, Bool, true, false, cond, not, List, [], ◌∷◌, filter, All, AllPairs, Some, refl, sym, ap, subst, arith, nat_eq}
 use Rattle.std.specs.Cmp.Lexicographic.{pointwise, texts_ties}
 use Rattle.std.specs.Borrow.{Bor}
 use Rattle.std.specs.Option.{option_map}
-use Rattle.std.specs.Prelude.{◌&&◌}
+use Rattle.std.specs.Prelude.{◌&&◌, ⊤}
 use Rattle.std.specs.Ordering.{is_eq, is_ge, is_gt, is_le, is_lt, match_ordering}
 use Rattle.std.specs.declared.cmp.Ordering.{Ordering}
 use Rattle.std.specs.declared.cmp.Ordering.TheVariants.{Less, Equal, Greater}
 use Rattle.std.specs.declared.ops.Bound.{Bound}
-use Rattle.std.specs.declared.ops.Bound.TheVariants.{Included, Excluded, Unbounded}
+use Rattle.std.specs.declared.ops.Bound.TheVariants.{Unbounded}
 use Rattle.std.proofs.lemmas.List.Elements.{All-head, All-tail}
 use Rattle.art_bytes.specs.Text.{text_order}
 use Rattle.art_tree.specs.Entries.{put_entry, without_text}
+use Rattle.art_tree.specs.Refusals.{texts_of}
 use Rattle.art_map.specs.Entries.{entry_with}
 use Rattle.art_map.specs.Ranges.{entries_above as text_entries_above, entries_from as text_entries_from, entries_within, is_from, is_up_to}
 use Rattle.art_c_maps.specs.Entries.{entries_from, entries_read, entries_to, put, value_of, without}
@@ -19,6 +20,16 @@ use Rattle.art_c_maps.specs.Entries.{entries_from, entries_read, entries_to, put
 both : (t : Bool) → (t && true) ≡ t
 both true = refl
 both false = refl
+
+module _ {K V : Type 0} (order : K → K → Ordering) where
+  -- the key is below all of these
+  abbrev pub IsBelow : K → List (K × V) → Type 0
+  IsBelow key [] = ⊤
+  IsBelow key (entry ∷ entries) = (order key entry.0 ≡ Less) × IsBelow key entries
+
+  abbrev pub Ascend : List (K × V) → Type 0
+  Ascend [] = ⊤
+  Ascend (entry ∷ entries) = IsBelow entry.0 entries × Ascend entries
 
 module _ {K : Type 0} (order : K → K → Ordering) (write : K → List ℕ) (read : List ℕ → K) (Is : K → Type 0) where
   -- the text is that of a key
@@ -84,6 +95,21 @@ module _ {K : Type 0} (order : K → K → Ordering) (write : K → List ℕ) (r
               → reading (cond t (entry ∷ filter (λ e. p (text e.0)) entries) (filter (λ e. p (text e.0)) entries)) ≡ filter (λ e. q e.0) (reading (entry ∷ entries))
           by_test true is rest = rw (← is) (ap (λ all. (read (text entry.0), entry.1) ∷ all) rest)
           by_test false is rest = rw (← is) rest
+
+      below-read : (x : List ℕ) → IsTextOf x → (entries : List (T × V)) → AllTexts entries → All (λ y. text_order x y ≡ Less) (texts_of text entries) → IsBelow order (read x) (reading entries)
+      below-read x is [] all below = tt
+      below-read x is (entry ∷ entries) all below = (
+        sym (order-read x (text entry.0) is (here entry entries all)) ∙ All-head (λ y. text_order x y ≡ Less) (text entry.0) (texts_of text entries) below,
+        below-read x is entries (later entry entries all) (All-tail (λ y. text_order x y ≡ Less) (text entry.0) (texts_of text entries) below),
+      )
+
+      -- the entries as they are read ascend as their texts do
+      pub ascend-read : (entries : List (T × V)) → AllTexts entries → AllPairs (λ x y. text_order x y ≡ Less) (texts_of text entries) → Ascend order (reading entries)
+      ascend-read [] all ascend = tt
+      ascend-read (entry ∷ entries) all ascend = (
+        below-read (text entry.0) (here entry entries all) entries (later entry entries all) (λ k d within. ascend 0 (suc k) d (omega arith) (omega (arith, within))),
+        ascend-read entries (later entry entries all) (λ i j d less within. ascend (suc i) (suc j) d (omega (arith, less)) (omega (arith, within))),
+      )
 
       pub without-read : (entries : List (T × V)) (x : List ℕ) → AllTexts entries → IsTextOf x → reading (without_text text entries x) ≡ without order (reading entries) (read x)
       without-read entries x all is =

@@ -1,8 +1,8 @@
 -- An escaped text has its bytes again.
-use Rattle.std.proofs.Common.{◌≡◌, ◌≤◌, ◌∙◌, ℕ, zero, suc, List, [], ◌∷◌, ◌++◌, length, refl, sym, ap, arith}
+use Rattle.std.proofs.Common.{◌≡◌, ◌≤◌, ◌∙◌, ℕ, zero, suc, List, [], ◌∷◌, length, refl, sym, ap, arith}
 use Rattle.std.proofs.Math.Logic.{∥∥₁_elim}
 use Rattle.std.proofs.Props.{props}
-use Rattle.art_mapped.specs.Escaped.{escaped, escaped_text, IsEscaped}
+use Rattle.art_mapped.specs.Escaped.{escaped_text, IsEscaped}
 use Rattle.art_c_maps.specs.Unescaped.{unescaped}
 
 pub unescaped-escaped : (bytes : List ℕ) → unescaped (escaped_text bytes) ≡ bytes

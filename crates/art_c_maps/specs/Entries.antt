@@ -1,5 +1,5 @@
 -- A map as the list of its entries, ascending by key: what calls read of it, and what they leave.
-use Rattle.std.specs.Prelude.{ℕ, ◌-◌, Bool, not, List, [], ◌∷◌, length, filter, map, min, take, Option, Some, None, nat_eq, slice_get, if◌then◌else◌}
+use Rattle.std.specs.Prelude.{ℕ, ◌-◌, Bool, not, List, [], ◌∷◌, ◌++◌, drop, length, filter, map, take, Option, Some, None, nat_eq, slice_get, if◌then◌else◌}
 use Rattle.std.specs.List.{starts_with}
 use Rattle.std.specs.Ordering.{is_eq, is_ge, is_gt, is_le, is_lt, match_ordering}
 use Rattle.std.specs.declared.cmp.Ordering.{Ordering}
@@ -24,6 +24,10 @@ module _ {K V : Type 0} (order : K → K → Ordering) where
   abbrev pub entries_from : Bool → K → List (K × V) → List (K × V)
   entries_from inclusive key entries = filter (λ entry. if inclusive then is_ge (order entry.0 key) else is_gt (order entry.0 key)) entries
 
+  -- the first of these, so many at most
+  abbrev pub next_entries : ℕ → Bool → K → List (K × V) → List (K × V)
+  next_entries most inclusive key entries = take most (entries_from inclusive key entries)
+
   -- the entries at this key or before it; only before it where it is not included
   abbrev pub entries_to : Bool → K → List (K × V) → List (K × V)
   entries_to inclusive key entries = filter (λ entry. if inclusive then is_le (order entry.0 key) else is_lt (order entry.0 key)) entries
@@ -38,6 +42,17 @@ first_of entries = slice_get entries 0
 
 abbrev pub last_of : {X : Type 0} → List X → Option X
 last_of entries = slice_get entries (length entries - 1)
+
+-- their keys, and their values
+abbrev pub keys_of : {K V : Type 0} → List (K × V) → List K
+keys_of entries = map (λ entry. entry.0) entries
+
+abbrev pub values_of : {K V : Type 0} → List (K × V) → List V
+values_of entries = map (λ entry. entry.1) entries
+
+-- a buffer that begins with these items, and is unchanged behind them
+abbrev pub begun_with : {X : Type 0} → List X → List X → List X
+begun_with items buffer = items ++ drop (length items) buffer
 
 -- the entries with each key read from its text
 abbrev pub entries_read : {T K V : Type 0} → (List ℕ → K) → (T → List ℕ) → List (T × V) → List (K × V)

@@ -1,20 +1,22 @@
 //! Maps by bytes.
-ghost use Rattle.std.specs.Prelude.{◌≡◌, ◌<◌, ◌^◌, [], length, IfErr, IfOk, OnErr, OnOk};
+ghost use Rattle.std.specs.Prelude.{◌≡◌, ◌-◌, ◌<◌, ◌^◌, [], drop, length, take, true, IfErr, IfOk, OnErr, OnOk, if◌then◌else◌};
 ghost use Rattle.std.specs.Option.{option_map};
+ghost use Rattle.std.specs.Ordering.{is_lt};
 ghost use Rattle.art_bytes.specs.Text.{text_order};
 ghost use Rattle.art_mapped.specs.Escaped.{escaped_text};
 ghost use Rattle.art_mapped.specs.Mapped.{mapped_text};
 ghost use Rattle.art_c_maps.specs.Entries.{entries_from, entries_to, entries_with_prefix, first_of, last_of, put, value_of, without};
 ghost use Rattle.art_c_maps.specs.Refusals.{IsRefused};
-ghost use Rattle.art_c_maps.specs.Unescaped.{key_written, len_and_value, unescaped};
+ghost use Rattle.art_c_maps.specs.Unescaped.{key_fits, key_written, len_and_value, unescaped, with_prefix};
 
 use crate::nearest::{bound_at, first_from, value_alone};
 use crate::refusal::Refusal;
-use crate::unescaped::write_unescaped;
+use crate::unescaped::{unescaped_begins, unescaped_len, write_unescaped};
 use art_bytes::AsBytes;
 use art_map::ArtMap;
 use art_tree::{Escaped, EscapedKey, InsertRefusal, Mapped, escaped_prefix};
 use std::alloc::{AllocError, Global};
+use std::cmp::Ordering;
 use std::marker::Model;
 use std::ops::Bound;
 
@@ -54,6 +56,59 @@ fn write_found(found: Option<(&Word, &u64)>, key_out: &mut [u8]) -> Option<(usiz
     Some((len, *value))
 }
 
+// The same for an entry that was removed.
+fn write_removed(removed: Option<(Word, u64)>, key_out: &mut [u8]) -> Option<(usize, u64)>
+    ensures found { result ≡ option_map
+        (λ (key, value). (length (unescaped (mapped_text key)), value)) removed }
+    ensures written { key_out.new ≡ key_written
+        (option_map (λ (key, value). (unescaped (mapped_text key), value)) removed) key_out.old }
+{
+    let (key, value) = removed?;
+    let len = write_unescaped(key.as_bytes(), key_out);
+    Some((len, value))
+}
+
+// Whether an entry was found whose key fits into so many bytes.
+fn found_fits(found: Option<(&Word, &u64)>, room: usize) -> bool
+    ensures { result ≡ key_fits (option_map
+        (λ (key, value). (unescaped (mapped_text key.now), value.now)) found.entry) room }
+{
+    match found {
+        Some((key, _)) => unescaped_len(key.as_bytes()) <= room,
+        None => false,
+    }
+}
+
+// Where the search begins for the keys after a start that begin with a prefix, none of which is before it.
+fn later_start<'a>(prefix: &'a [u8], from: &'a [u8], inclusive: bool) -> (&'a [u8], bool)
+    ensures start { result.0.now
+        ≡ (if is_lt (text_order from.now prefix.now) then prefix.now else from.now) }
+    ensures included { result.1
+        ≡ (if is_lt (text_order from.now prefix.now) then true else inclusive) }
+{
+    match from.cmp(prefix) {
+        Ordering::Less => (prefix, true),
+        Ordering::Equal | Ordering::Greater => (from, inclusive),
+    }
+}
+
+// The entry that was found, if its key begins with these bytes.
+fn found_with_prefix<'a>(
+    found: Option<(&'a Word, &'a u64)>,
+    prefix: &[u8],
+) -> Option<(&'a Word, &'a u64)>
+    ensures { option_map (λ (key, value). (unescaped (mapped_text key.now), value.now)) result
+        ≡ with_prefix prefix.now (option_map
+        (λ (key, value). (unescaped (mapped_text key.now), value.now)) found.entry) }
+{
+    let (key, value) = found?;
+    if unescaped_begins(key.as_bytes(), prefix) {
+        Some((key, value))
+    } else {
+        None
+    }
+}
+
 impl BytesMap {
     /// A map with no entries.
     pub fn new(alloc: Global) -> Result<BytesMap, AllocError>
@@ -86,6 +141,14 @@ impl BytesMap {
         ensures same_entries { self.new ≡ self.old }
     {
         self.entries.reserve(additional)
+    }
+
+    /// Puts the entries into memory in the order of their keys, with room for just them. All memory is
+    /// taken before an entry moves: the entries are unchanged, also after a failure.
+    pub fn compact(&mut self) -> Result<(), AllocError>
+        ensures same_entries { self.new ≡ self.old }
+    {
+        self.entries.compact()
     }
 
     /// Sets the value of a key, and returns the value that it had.
@@ -180,6 +243,32 @@ impl BytesMap {
         Ok(write_found(found, key_out))
     }
 
+    /// Finds the first entry at a key or after it, only after it where it is not included, of those whose
+    /// keys begin with a prefix. Writes its key where it fits, and returns its key's length and its value.
+    pub fn next_with_prefix(
+        &mut self,
+        prefix: &[u8],
+        from: &[u8],
+        inclusive: bool,
+        key_out: &mut [u8],
+    ) -> Result<Option<(usize, u64)>, AllocError>
+        ensures found { IfOk result (λ found. found ≡ option_map len_and_value
+            (first_of (entries_from text_order inclusive from.now
+            (entries_with_prefix prefix.now self.old)))) }
+        ensures written { OnOk result (key_out.new ≡ key_written
+            (first_of (entries_from text_order inclusive from.now
+            (entries_with_prefix prefix.now self.old))) key_out.old) }
+        ensures not_written { OnErr result (key_out.new ≡ key_out.old) }
+        ensures same_entries { self.new ≡ self.old }
+    {
+        self.entries.entries_ascend();
+        // No key before the prefix begins with it.
+        let (start, inclusive) = later_start(prefix, from, inclusive);
+        self.sought.set(start)?;
+        let next = first_from(&self.entries, &self.sought, inclusive);
+        Ok(write_found(found_with_prefix(next, prefix), key_out))
+    }
+
     /// Finds the entry with the least key. Writes its key where it fits, and returns its key's length and
     /// its value, or None where there is no entry. Takes no memory.
     pub fn first(&self, key_out: &mut [u8]) -> Option<(usize, u64)>
@@ -196,6 +285,41 @@ impl BytesMap {
         ensures written { key_out.new ≡ key_written (last_of self.now) key_out.old }
     {
         write_found(self.entries.last(), key_out)
+    }
+
+    /// As [`first`](Self::first), and removes the entry where its key fits. After a failure the entries are
+    /// unchanged, and no key is written.
+    pub fn pop_first(&mut self, key_out: &mut [u8]) -> Result<Option<(usize, u64)>, AllocError>
+        ensures found { IfOk result (λ found. found ≡ option_map len_and_value (first_of self.old)) }
+        ensures written { OnOk result (key_out.new ≡ key_written (first_of self.old) key_out.old) }
+        ensures entries { OnOk result (self.new
+            ≡ (if key_fits (first_of self.old) (length key_out.old) then drop 1 self.old else self.old)) }
+        ensures not_written { OnErr result (key_out.new ≡ key_out.old) }
+        ensures same_entries { OnErr result (self.new ≡ self.old) }
+    {
+        if !found_fits(self.entries.first(), key_out.len()) {
+            return Ok(self.first(key_out));
+        }
+        let removed = self.entries.pop_first()?;
+        Ok(write_removed(removed, key_out))
+    }
+
+    /// As [`last`](Self::last), and removes the entry where its key fits. After a failure the entries are
+    /// unchanged, and no key is written.
+    pub fn pop_last(&mut self, key_out: &mut [u8]) -> Result<Option<(usize, u64)>, AllocError>
+        ensures found { IfOk result (λ found. found ≡ option_map len_and_value (last_of self.old)) }
+        ensures written { OnOk result (key_out.new ≡ key_written (last_of self.old) key_out.old) }
+        ensures entries { OnOk result (self.new
+            ≡ (if key_fits (last_of self.old) (length key_out.old)
+            then take (length self.old - 1) self.old else self.old)) }
+        ensures not_written { OnErr result (key_out.new ≡ key_out.old) }
+        ensures same_entries { OnErr result (self.new ≡ self.old) }
+    {
+        if !found_fits(self.entries.last(), key_out.len()) {
+            return Ok(self.last(key_out));
+        }
+        let removed = self.entries.pop_last()?;
+        Ok(write_removed(removed, key_out))
     }
 
     /// How many keys begin with these bytes. Takes time linear in their number, and memory for the

@@ -1,13 +1,13 @@
 //! Maps by 64-bit numbers.
-ghost use Rattle.std.specs.Prelude.{◌≡◌, [], length, IfOk, OnErr, OnOk};
+ghost use Rattle.std.specs.Prelude.{◌≡◌, ◌-◌, [], drop, length, min, take, IfOk, OnErr, OnOk};
 ghost use Rattle.std.specs.Int.{from_be_bytes, w64};
 ghost use Rattle.std.specs.Option.{option_map};
 ghost use Rattle.std.specs.Ordering.{nat_cmp};
 ghost use Rattle.art_mapped.specs.Mapped.{mapped_text};
-ghost use Rattle.art_c_maps.specs.Entries.{entries_from, entries_to, first_of, last_of, put, value_of, without};
+ghost use Rattle.art_c_maps.specs.Entries.{begun_with, entries_from, entries_read, entries_to, first_of, keys_of, last_of, next_entries, put, value_of, values_of, without};
 
 use crate::nearest::{bound_at, first_from, value_alone};
-use art_map::ArtMap;
+use art_map::{ArtMap, Iter};
 use art_tree::{Mapped, ToUBE};
 use std::alloc::{AllocError, Global};
 use std::marker::Model;
@@ -42,6 +42,41 @@ fn entry_of(found: Option<(&Number, &u64)>) -> Option<(u64, u64)>
     Some((key.value(), *value))
 }
 
+// Key and value of an entry that was removed.
+fn removed_entry(removed: Option<(Number, u64)>) -> Option<(u64, u64)>
+    ensures { result ≡ option_map
+        (λ (key, value). (from_be_bytes w64 (mapped_text key), value)) removed }
+{
+    let (key, value) = removed?;
+    Some((key.value(), value))
+}
+
+// Writes the first of these entries, as many as the shorter of both slices holds. Returns how many.
+fn write_entries(
+    mut entries: Iter<'_, Number, u64, 16>,
+    keys: &mut [u64],
+    values: &mut [u64],
+) -> usize
+    ensures count { result ≡ length (take (min (length keys.old) (length values.old))
+        (entries_read (from_be_bytes w64) mapped_text entries.entry)) }
+    ensures keys { keys.new ≡ begun_with (keys_of (take (min (length keys.old) (length values.old))
+        (entries_read (from_be_bytes w64) mapped_text entries.entry))) keys.old }
+    ensures values { values.new ≡ begun_with (values_of (take (min (length keys.old) (length values.old))
+        (entries_read (from_be_bytes w64) mapped_text entries.entry))) values.old }
+{
+    let room = keys.len().min(values.len());
+    for index in 0..room {
+        match entry_of(entries.next()) {
+            Some((key, value)) => {
+                keys[index] = key;
+                values[index] = value;
+            }
+            None => return index,
+        }
+    }
+    room
+}
+
 impl NumberMap {
     /// A map with no entries. Takes no memory.
     pub fn new(alloc: Global) -> NumberMap
@@ -71,6 +106,14 @@ impl NumberMap {
         ensures same_entries { self.new ≡ self.old }
     {
         self.entries.reserve(additional)
+    }
+
+    /// Puts the entries into memory in the order of their keys, with room for just them. All memory is
+    /// taken before an entry moves: the entries are unchanged, also after a failure.
+    pub fn compact(&mut self) -> Result<(), AllocError>
+        ensures same_entries { self.new ≡ self.old }
+    {
+        self.entries.compact()
     }
 
     /// Sets the value of a key, and returns the value that it had.
@@ -141,5 +184,51 @@ impl NumberMap {
         ensures { result ≡ last_of self.now }
     {
         entry_of(self.entries.last())
+    }
+    /// Removes the entry with the least key and returns it, or None where there is no entry.
+    ///
+    /// Error: [`AllocError`] on an allocation failure, only where there is an entry. The entries are
+    /// unchanged.
+    pub fn pop_first(&mut self) -> Result<Option<(u64, u64)>, AllocError>
+        ensures removed { IfOk result (λ removed. removed ≡ first_of self.old) }
+        ensures entries { OnOk result (self.new ≡ drop 1 self.old) }
+        ensures same_entries { OnErr result (self.new ≡ self.old) }
+    {
+        let removed = self.entries.pop_first()?;
+        Ok(removed_entry(removed))
+    }
+
+    /// Removes the entry with the greatest key and returns it, or None where there is no entry. Fails as
+    /// [`pop_first`](Self::pop_first).
+    pub fn pop_last(&mut self) -> Result<Option<(u64, u64)>, AllocError>
+        ensures removed { IfOk result (λ removed. removed ≡ last_of self.old) }
+        ensures entries { OnOk result (self.new ≡ take (length self.old - 1) self.old) }
+        ensures same_entries { OnErr result (self.new ≡ self.old) }
+    {
+        let removed = self.entries.pop_last()?;
+        Ok(removed_entry(removed))
+    }
+
+    /// Writes the first entries at a key or after it, only after it where it is not included: as many as
+    /// the shorter of both slices holds. Returns how many. Takes no memory.
+    pub fn next_many(
+        &self,
+        from: u64,
+        inclusive: bool,
+        keys: &mut [u64],
+        values: &mut [u64],
+    ) -> usize
+        ensures count { result ≡ length (next_entries nat_cmp
+            (min (length keys.old) (length values.old)) inclusive from self.now) }
+        ensures keys { keys.new ≡ begun_with (keys_of (next_entries nat_cmp
+            (min (length keys.old) (length values.old)) inclusive from self.now)) keys.old }
+        ensures values { values.new ≡ begun_with (values_of (next_entries nat_cmp
+            (min (length keys.old) (length values.old)) inclusive from self.now)) values.old }
+    {
+        self.entries.entries_ascend();
+        let from = Number::of(from);
+        let start = bound_at(&from, inclusive);
+        let entries = self.entries.range(start, Bound::Unbounded);
+        write_entries(entries, keys, values)
     }
 }

@@ -1,6 +1,7 @@
 //! The bytes of escaped texts.
-ghost use Rattle.std.specs.Prelude.{◌≡◌, ◌≤◌, ◌++◌, drop, length};
+ghost use Rattle.std.specs.Prelude.{◌≡◌, ◌≤◌, ◌++◌, drop, length, nat_eq};
 ghost use Rattle.std.specs.Iterator.{YieldsFirst, item_count};
+ghost use Rattle.std.specs.List.{starts_with};
 ghost use Rattle.art_c_maps.specs.Unescaped.{unescaped, written};
 
 use std::marker::Model;
@@ -42,8 +43,8 @@ impl<'a> Iterator for Unescaped<'a> {
     }
 }
 
-// How many bytes an escaped text has.
-fn unescaped_len(text: &[u8]) -> usize
+/// How many bytes an escaped text has.
+pub(crate) fn unescaped_len(text: &[u8]) -> usize
     ensures { result ≡ length (unescaped text.now) }
 {
     Unescaped { text }.count()
@@ -61,4 +62,17 @@ pub(crate) fn write_unescaped(text: &[u8], out: &mut [u8]) -> usize
         }
     }
     len
+}
+
+/// Whether the bytes of an escaped text begin with these.
+pub(crate) fn unescaped_begins(text: &[u8], prefix: &[u8]) -> bool
+    ensures { result ≡ starts_with nat_eq (unescaped text.now) prefix.now }
+{
+    let mut bytes = Unescaped { text };
+    for wanted in prefix {
+        if bytes.next() != Some(*wanted) {
+            return false;
+        }
+    }
+    true
 }

@@ -3,7 +3,7 @@ use Rattle.std.proofs.Common.{◌≡◌, ℕ, List, inl, inr, refl, sym}
 use Rattle.std.specs.Prelude.{Option, None, Some, IfSome, String}
 use Rattle.std.specs.Io.KnownBytes.{Keeps}
 use Rattle.program_lines.specs.declared.failure.Failure.{Failure}
-use Rattle.program_lines.specs.declared.failure.Failure.TheVariants.{BadLine, OutOfMemory, NoFile, Device}
+use Rattle.program_lines.specs.declared.failure.Failure.TheVariants.{BadLine, OutOfMemory, Device}
 use Rattle.program_lines.specs.Failures.{status_of, IfBadLine, IsLineFailure, failure_text, shown_failure}
 use Rattle.program_lines.specs.declared.failure.Place.TheVariants.{OnlyInput}
 use Rattle.program_lines.specs.Lines.{lines_of, line_at, line, IsFirstBad}
@@ -31,14 +31,12 @@ nothing_printed IsOutput (Some given) known = inl (keeps_itself known)
 pub text_told : (failure : Failure LineFault) (old new : Option (List ℕ)) → IfSome (shown_failure (λ fault. Some (fault_text fault)) failure) (λ text. AppendsBeginning old new (line text)) → AppendsBeginning old new (line (failure_text fault_text failure))
 text_told (BadLine bad) old new wrote = wrote
 text_told OutOfMemory old new wrote = wrote
-text_told NoFile old new wrote = wrote
 text_told Device old new wrote = wrote
 
 -- the first bad line of `replay`, and its fault
 pub first_bad_line : (input : List ℕ) (failure : Failure LineFault) → IfBadLine (λ bad. (bad.place ≡ OnlyInput) × IsFirstBad SayReplayLine (lines_of input) bad.number) failure → IsLineFailure (λ bad. IsFaultOf (words_of (line_at (lines_of input) bad.number)) bad.fault) failure → IsReplayFailure input failure
 first_bad_line input (BadLine bad) first fault = (first.0, first.1, fault)
 first_bad_line input OutOfMemory first fault = tt
-first_bad_line input NoFile first fault = absurd fault
 first_bad_line input Device first fault = absurd fault
 
 -- the device may fail at any input

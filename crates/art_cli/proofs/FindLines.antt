@@ -5,7 +5,7 @@ use Rattle.art_bytes.specs.SliceKey.{slice_key_text}
 use Rattle.art_bytes.specs.declared.slice_key.SliceKey.{SliceKey}
 use Rattle.art_arena.specs.Arena.{NodeArena}
 use Rattle.program_lines.specs.declared.failure.Failure.{Failure}
-use Rattle.program_lines.specs.declared.failure.Failure.TheVariants.{BadLine, OutOfMemory, NoFile, Device}
+use Rattle.program_lines.specs.declared.failure.Failure.TheVariants.{BadLine, OutOfMemory, Device}
 use Rattle.program_lines.specs.Lines.{lines_of, SayAll, IsFirstBad}
 use Rattle.program_lines.proofs.SaidLines.{SaidSoFar, said_first, said_rest, said_whole, said_next, said_bad}
 use Rattle.art_cli.specs.declared.find.command.TreeCommand.{TreeCommand}
@@ -80,9 +80,6 @@ module _ (input rest : List ℕ) (number : ℕ) (commands : List (TreeCommand (L
         by_command (Insert key) say given are (BadLine bad) due = (due.0, by_fault key given.0 (say given) are bad.number bad.fault due.1 due.2)
         by_command (Remove key) say given are (BadLine bad) due = absurd due
         by_command (Find key) say given are (BadLine bad) due = absurd due
-        by_command (Insert key) say given are NoFile due = absurd due
-        by_command (Remove key) say given are NoFile due = absurd due
-        by_command (Find key) say given are NoFile due = absurd due
         by_command command say given are OutOfMemory due = tt
         by_command command say given are Device due = tt
 

@@ -54,7 +54,6 @@ IsReplayFailure input (BadLine bad) =
     × IsFaultOf (words_of (line_at (lines_of input) bad.number)) bad.fault
 IsReplayFailure input OutOfMemory = Unit {0}
 IsReplayFailure input Device = Unit {0}
-IsReplayFailure input _ = ⊥
 
 -- the failure for a refusal of the entry in this line
 abbrev pub failure_for : ℕ → InsertRefusal → Failure LineFault
@@ -83,7 +82,6 @@ abbrev pub IsFindFailure : List ℕ → Failure LineFault → Type 0
 IsFindFailure input (BadLine bad) = (bad.place ≡ OnlyInput) × IsFindFault input bad.number bad.fault
 IsFindFailure input OutOfMemory = Unit {0}
 IsFindFailure input Device = Unit {0}
-IsFindFailure input _ = ⊥
 
 -- the failures of an input
 abbrev pub IsFailure : Request → List ℕ → Failure LineFault → Type 0

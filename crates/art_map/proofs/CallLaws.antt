@@ -1,16 +1,24 @@
--- What a caller shows of the list of a map's entries, of that of a set's keys, and of a closure that it passed.
-use Rattle.std.proofs.Common.{◌≡◌, ◌≢◌, ◌⊎◌, ◌∙◌, inl, inr, ℕ, zero, suc, ◌+◌, ◌<◌, Bool, true, false, cond, List, [], ◌∷◌, length, map, filter, All, AllPairs, Contains, Option, Some, None, slice_index_or, refl, sym, ap, subst, arith, nat_eq, get_or}
+-- What a caller shows of the list of a map's entries, of that of a set's keys, of removals, and of a closure that it
+-- passed.
+use Rattle.std.proofs.Common.{◌≡◌, ◌≢◌, ◌⊎◌, ◌∙◌, inl, inr, ℕ, zero, suc, ◌+◌, ◌<◌, ◌≤◌, Bool, true, false, not, ◌&&◌, cond, List, [], ◌∷◌, ◌++◌, length, length-append, map, filter, All, AllPairs, Contains, Option, Some, None, slice_index_or, refl, sym, ap, subst, arith, nat_eq, get_or}
+use Rattle.std.specs.Borrow.{Bor as Shared}
 use Rattle.std.specs.Cmp.Lexicographic.{pointwise, bytes_decides, nat_list_cmp_total, texts_ties}
-use Rattle.std.specs.Ordering.{match_ordering, is_eq, ordering_reverse}
+use Rattle.std.specs.List.{starts_with}
+use Rattle.std.specs.Ordering.{match_ordering, is_eq, is_ge, is_gt, ordering_reverse}
 use Rattle.std.specs.declared.cmp.Ordering.{Ordering}
 use Rattle.std.specs.declared.cmp.Ordering.TheVariants.{Less, Equal, Greater}
+use Rattle.std.specs.declared.ops.Bound.{Bound}
+use Rattle.std.proofs.lemmas.List.{get_or-map, length-map}
 use Rattle.std.proofs.lemmas.List.Elements.{All-nil, All-cons, All-head, All-tail, All-contains, Contains-append_right, Contains-get_or}
 use Rattle.art_bytes.specs.Text.{text_order}
+use Rattle.art_arena.specs.Trees.{Tree, Leaf, Inner, Branches, NoBranch, Branch, branch_roots, leaves, branch_leaves, IsSound, AreSound}
 use Rattle.art_tree.specs.Entries.{put_entry, without_text}
 use Rattle.art_tree.specs.Refusals.{texts_of}
 use Rattle.art_map.specs.Calls.{ChangesValue, ChangesInTurn}
 use Rattle.art_map.specs.Entries.{entry_with}
+use Rattle.art_map.specs.Ranges.{entries_above, entries_from, entries_with_prefix, entries_within, is_from, is_up_to}
 use Rattle.art_map.specs.Sets.{HasKey, put_key, without_key}
+use Rattle.art_map.specs.Shrinking.{IsFewest, NeedsNode, ShrinksWithout, SomeShrinksWithout}
 use denote.Param.Members.{Mut}
 use denote.Ref.{Bor, MutBor}
 
@@ -72,6 +80,15 @@ below_first x y xs ascend less (suc k, within, is) =
 pub distinct_texts : (texts : List (List ℕ)) → Ascend texts → AllPairs (λ a b. a ≢ b) texts
 distinct_texts texts ascend i j d before within = less_differs (slice_index_or texts i d) (slice_index_or texts j d) (ascend i j d before within)
 
+-- tests
+not_so : (b : Bool) → not b ≡ true → b ≡ false
+not_so true is = absurd (cc)
+not_so false is = refl
+
+both_so : (a b : Bool) → (a && b) ≡ true → (a ≡ true) × (b ≡ true)
+both_so true b is = (refl, is)
+both_so false b is = absurd (cc)
+
 -- lists: members of a list with one more in front, of a part, and of images
 
 module _ {X : Type 0} where
@@ -127,6 +144,13 @@ module _ {X Y : Type 0} (f : X → Y) where
       by_place : (f z ≡ y) ⊎ Contains (map f zs) y → (Contains (map f zs) y → (x : X) × Contains zs x × (f x ≡ y)) → (x : X) × Contains (z ∷ zs) x × (f x ≡ y)
       by_place (inl same) rest = (z, first_there z z zs refl, same)
       by_place (inr later) rest = let from = rest later in (from.0, later_there z from.0 zs from.1, from.2)
+
+  -- images that differ pair by pair are those of elements that do
+  pairs_of_texts : (xs : List X) → AllPairs (λ a b. a ≢ b) (map f xs) → AllPairs (λ a b. f a ≢ f b) xs
+  pairs_of_texts xs pairs i j d before within =
+      let there : j < length (map f xs) = omega (arith, within, length-map xs f) in
+      let first : i < length xs = omega (arith, before, within) in
+      rw (← get_or-map f xs i d (f d) first, ← get_or-map f xs j d (f d) within) (pairs i j (f d) before there)
 
 -- the entries of a map
 module _ {K V : Type 0} (text : K → List ℕ) where
@@ -307,6 +331,44 @@ module _ {K V : Type 0} (text : K → List ℕ) where
           let above = none_below (text other.0) x (texts_of text entries) ascend (image_inside (λ e. text e.0) entries entry x found.1 found.0) in
           absurd (less_differs (text other.0) x above same)
 
+  -- members after a removal: those of another text, and no others
+  pub left_there : (entries : List (K × V)) (x : List ℕ) (entry : K × V) → text entry.0 ≢ x → Contains entries entry → Contains (without_text text entries x) entry
+  left_there entries x entry differ inside = inside_part (λ e. not (pointwise nat_eq (text e.0) x)) entries entry inside (ap not (other_text (text entry.0) x differ))
+
+  pub left_only : (entries : List (K × V)) (x : List ℕ) (entry : K × V) → Contains (without_text text entries x) entry → Contains entries entry × (text entry.0 ≢ x)
+  left_only entries x entry inside =
+      let part = part_inside (λ e. not (pointwise nat_eq (text e.0) x)) entries entry inside in
+      (part.0, texts_differ (text entry.0) x (not_so (pointwise nat_eq (text entry.0) x) part.1))
+
+  -- members of a range: those within both bounds, and no others
+  pub range_there : {Q : Type 0} (bound_text : Q → List ℕ) (start end : Bound (Shared Q)) (entries : List (K × V)) (entry : K × V) → Contains entries entry → is_from bound_text start (text entry.0) ≡ true → is_up_to bound_text end (text entry.0) ≡ true → Contains (entries_within text bound_text start end entries) entry
+  range_there bound_text start end entries entry inside from up_to =
+      inside_part (λ e. is_up_to bound_text end (text e.0) && is_from bound_text start (text e.0)) entries entry inside (λ i. up_to i && from i)
+
+  pub range_only : {Q : Type 0} (bound_text : Q → List ℕ) (start end : Bound (Shared Q)) (entries : List (K × V)) (entry : K × V) → Contains (entries_within text bound_text start end entries) entry → Contains entries entry × (is_from bound_text start (text entry.0) ≡ true) × (is_up_to bound_text end (text entry.0) ≡ true)
+  range_only bound_text start end entries entry inside =
+      let part = part_inside (λ e. is_up_to bound_text end (text e.0) && is_from bound_text start (text e.0)) entries entry inside in
+      let both = both_so (is_up_to bound_text end (text entry.0)) (is_from bound_text start (text entry.0)) part.1 in
+      (part.0, both.1, both.0)
+
+  -- members with a prefix, not below some bytes, and above them
+  pub prefix_there : (x : List ℕ) (entries : List (K × V)) (entry : K × V) → Contains entries entry → starts_with nat_eq (text entry.0) x ≡ true → Contains (entries_with_prefix text x entries) entry
+  prefix_there x entries entry inside begins = inside_part (λ e. starts_with nat_eq (text e.0) x) entries entry inside begins
+
+  pub prefix_only : (x : List ℕ) (entries : List (K × V)) (entry : K × V) → Contains (entries_with_prefix text x entries) entry → Contains entries entry × (starts_with nat_eq (text entry.0) x ≡ true)
+  prefix_only x entries entry inside = part_inside (λ e. starts_with nat_eq (text e.0) x) entries entry inside
+
+  pub from_only : (x : List ℕ) (entries : List (K × V)) (entry : K × V) → Contains (entries_from text x entries) entry → Contains entries entry × (is_ge (text_order (text entry.0) x) ≡ true)
+  from_only x entries entry inside = part_inside (λ e. is_ge (text_order (text e.0) x)) entries entry inside
+
+  pub above_only : (x : List ℕ) (entries : List (K × V)) (entry : K × V) → Contains (entries_above text x entries) entry → Contains entries entry × (is_gt (text_order (text entry.0) x) ≡ true)
+  above_only x entries entry inside = part_inside (λ e. is_gt (text_order (text e.0) x)) entries entry inside
+
+  -- no two entries have the same text
+  pub distinct_keys : (entries : List (K × V)) → Ascend (texts_of text entries) → AllPairs (λ a b. text a.0 ≢ text b.0) entries
+  distinct_keys [] ascend i j d before within = absurd (omega (arith, within))
+  distinct_keys (entry ∷ entries) ascend i j d before within = pairs_of_texts (λ e. text e.0) (entry ∷ entries) (distinct_texts (texts_of text (entry ∷ entries)) ascend) i j d before within
+
 -- the keys of a set
 module _ {K : Type 0} (text : K → List ℕ) where
   put_key_cases : (Holds : List K → Type 0) (other : K) (keys : List K) (key : K) → (text_order (text key) (text other) ≡ Less → Holds (key ∷ other ∷ keys)) → (text_order (text key) (text other) ≡ Equal → Holds (other ∷ keys)) → (text_order (text key) (text other) ≡ Greater → Holds (other ∷ put_key text keys key))
@@ -368,6 +430,89 @@ module _ {K : Type 0} (text : K → List ℕ) where
   one_key_more (other ∷ keys) key never =
       put_key_cases (λ all. length all ≡ length (other ∷ keys) + 1) other keys key (λ _. omega arith) (λ equal. absurd (never (first_there (text other) (text key) (map text keys) (sym (same_order (text key) (text other) equal)))))
       (λ _. omega (arith, one_key_more keys key (λ later. never (later_there (text other) (text key) (map text keys) later))))
+
+  -- a key that is taken out: its text is gone, and no other
+  pub key_gone : (keys : List K) (x : List ℕ) → ¬ HasKey text (without_key text keys x) x
+  key_gone keys x inside =
+      let (key, there, is) = inside_image text (without_key text keys x) x inside in
+      let part = part_inside (λ k. not (pointwise nat_eq (text k) x)) keys key there in
+      texts_differ (text key) x (not_so (pointwise nat_eq (text key) x) part.1) is
+
+  pub key_stays : (keys : List K) (x y : List ℕ) → x ≢ y → HasKey text keys y → HasKey text (without_key text keys x) y
+  key_stays keys x y differ inside =
+      let (key, there, is) = inside_image text keys y inside in
+      image_inside text (without_key text keys x) key y is (inside_part (λ k. not (pointwise nat_eq (text k) x)) keys key there (ap not (other_text (text key) x (λ same. differ (sym same ∙ is)))))
+
+  pub key_was : (keys : List K) (x y : List ℕ) → HasKey text (without_key text keys x) y → HasKey text keys y
+  key_was keys x y inside =
+      let (key, there, is) = inside_image text (without_key text keys x) y inside in
+      image_inside text keys key y is (part_inside (λ k. not (pointwise nat_eq (text k) x)) keys key there).0
+
+  pub no_key_taken : (keys : List K) (x : List ℕ) → ¬ HasKey text keys x → without_key text keys x ≡ keys
+  no_key_taken [] x never = refl
+  no_key_taken (key ∷ keys) x never =
+      rw (other_text (text key) x (λ same. never (first_there (text key) x (map text keys) same))) (ap (λ all. key ∷ all) (no_key_taken keys x (λ later. never (later_there (text key) x (map text keys) later))))
+
+  pub one_key_fewer : (keys : List K) (x : List ℕ) → Ascend (map text keys) → HasKey text keys x → length (without_key text keys x) + 1 ≡ length keys
+  one_key_fewer [] x ascend has = absurd (none_inside x has)
+  one_key_fewer (key ∷ keys) x ascend has = by_test (pointwise nat_eq (text key) x) refl (λ later. one_key_fewer keys x (ascend_rest (text key) (map text keys) ascend) later)
+    where
+      by_test : (t : Bool) → pointwise nat_eq (text key) x ≡ t → (HasKey text keys x → length (without_key text keys x) + 1 ≡ length keys) → length (without_key text (key ∷ keys) x) + 1 ≡ length (key ∷ keys)
+      by_test true is rest =
+          let never : ¬ HasKey text keys x = λ later. less_differs (text key) x (none_below (text key) x (map text keys) ascend later) (same_text (text key) x is) in
+          let same = ap length (no_key_taken keys x never) in
+          rw is (omega (arith, same))
+      by_test false is rest =
+          let fewer = rest (by_place (first_or_later (text key) x (map text keys) has)) in
+          rw is (omega (arith, fewer))
+        where
+          by_place : (text key ≡ x) ⊎ Contains (map text keys) x → Contains (map text keys) x
+          by_place (inl same) = absurd (texts_differ (text key) x is same)
+          by_place (inr later) = later
+
+-- removals: where one needs a node, there are five entries or more
+five : (count : ℕ) → IsFewest count → 5 ≤ count
+five count (inl is) = omega (arith, is)
+five count (inr (inl is)) = omega (arith, is)
+five count (inr (inr is)) = omega (arith, is)
+
+module _ {H : Type 0} where
+  mutual
+    leaf_each : (path : List ℕ) (tree : Tree H) → IsSound path tree → 1 ≤ length (leaves tree)
+    leaf_each path (Leaf pointer text) sound = omega arith
+    leaf_each path (Inner pointer prefix branches) sound = let each = leaves_each (path ++ prefix) branches sound.2 in omega (arith, each, sound.0)
+
+    leaves_each : (path : List ℕ) (branches : Branches H) → AreSound path branches → length (branch_roots branches) ≤ length (branch_leaves branches)
+    leaves_each path NoBranch sound = omega arith
+    leaves_each path (Branch byte tree others) sound =
+        let first = leaf_each (path ++ byte ∷ []) tree sound.0 in
+        let rest = leaves_each path others sound.1 in
+        omega (arith, first, rest, length-append (leaves tree) (branch_leaves others))
+
+  mutual
+    five_leaves : (path : List ℕ) (tree : Tree H) (x : List ℕ) → IsSound path tree → ShrinksWithout tree x → 5 ≤ length (leaves tree)
+    five_leaves path (Leaf pointer text) x sound shrinks = absurd shrinks
+    five_leaves path (Inner pointer prefix branches) x sound (inl (fewest, has)) =
+        let each = leaves_each (path ++ prefix) branches sound.2 in
+        let most = five (length (branch_roots branches)) fewest in
+        omega (arith, each, most)
+    five_leaves path (Inner pointer prefix branches) x sound (inr below) = five_below (path ++ prefix) branches x sound.2 below
+
+    five_below : (path : List ℕ) (branches : Branches H) (x : List ℕ) → AreSound path branches → SomeShrinksWithout branches x → 5 ≤ length (branch_leaves branches)
+    five_below path NoBranch x sound shrinks = absurd shrinks
+    five_below path (Branch byte tree others) x sound (inl here) =
+        let first = five_leaves (path ++ byte ∷ []) tree x sound.0 here in
+        omega (arith, first, length-append (leaves tree) (branch_leaves others))
+    five_below path (Branch byte tree others) x sound (inr later) =
+        let rest = five_below path others x sound.1 later in
+        omega (arith, rest, length-append (leaves tree) (branch_leaves others))
+
+  pub needs_five : (all : List (List ℕ)) (x : List ℕ) → NeedsNode H all x → 5 ≤ length all
+  needs_five all x needs =
+      let leaves_there = five_leaves [] needs.tree x needs.sound needs.shrinks in
+      let long = length-map (leaves needs.tree) (λ leaf. leaf.1) in
+      let same = ap length needs.same_texts in
+      omega (arith, leaves_there, long, same)
 
 -- closures
 module _ {F K V : Type 0} (g : Mut F (Bor K × (MutBor V × Unit {0})) (Unit {0} × (MutBor V × Unit {0}))) (change : K → V → V) (f : F)

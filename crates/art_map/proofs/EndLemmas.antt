@@ -18,7 +18,7 @@ use Rattle.art_tree.specs.Ends.{IsEndEntry}
 use Rattle.art_tree.specs.Entries.{AreEntries}
 use Rattle.art_tree.specs.Refusals.{texts_of}
 use Rattle.art_tree.specs.Removal.{IsLeft}
-use Rattle.art_map.proofs.CallLaws.{same_order, same_text, text_itself}
+use Rattle.art_map.proofs.CallLaws.{image_inside, none_below, same_order, same_text, text_itself}
 
 less-of : (o : Ordering) → o ≢ Greater → o ≢ Equal → o ≡ Less
 less-of Less low apart = refl
@@ -116,3 +116,22 @@ module _ {K V : Type 0} (text : K → List ℕ) where
     last-found None is high none = sym (ap (λ es. slice_get es (length es - 1)) (empty none))
     last-found (Some (key, value)) is high none =
         sym (last-is entries are.ascending (key.now, value.now) (members (key.now, value.now) is) (All-weaker (IsEntry text arena) (λ other. text_order (text key.now) (text other.0) ≢ Less) (λ other there. high (text other.0) (λ gone. let wrong : Some other ≡ None = sym there ∙ gone in absurd (cc))) entries are.each))
+
+-- the entry at an end of an arena is that of the list
+module _ {K V : Type 0} {P : ℕ} (text : K → List ℕ) (arena : NodeArena K V P) (entries : List (K × V)) (are : AreEntries text arena entries) (entry : K × V) (inside : Contains entries entry) where
+  there : (e : K × V) → IsEntry text arena e → HasEntry text arena (text e.0)
+  there e is gone = let wrong : Some e ≡ None = sym is ∙ gone in absurd (cc)
+
+  first-is : (all : List (K × V)) → AllPairs (λ a b. text_order a b ≡ Less) (texts_of text all) → Contains all entry → All (λ other. text_order (text entry.0) (text other.0) ≢ Greater) all → slice_get all 0 ≡ Some entry
+  first-is [] ascending (k, within, is) low = absurd (omega (arith, within))
+  first-is (x ∷ rest) ascending (zero, within, is) low = ap Some is
+  first-is (x ∷ rest) ascending (suc k, within, is) low =
+      let later : Contains (texts_of text rest) (text entry.0) = image_inside (λ e. text e.0) rest entry (text entry.0) refl (k, omega (arith, within), is) in
+      let above = none_below (text x.0) (text entry.0) (texts_of text rest) ascending later in
+      absurd (All-head (λ other. text_order (text entry.0) (text other.0) ≢ Greater) x rest low (nat_list_cmp_total.antisymm (text entry.0) (text x.0) ∙ ap ordering_reverse above))
+
+  pub first-at : IsEndEntry text arena First entry → slice_get entries 0 ≡ Some entry
+  first-at end = first-is entries are.ascending inside (All-weaker (IsEntry text arena) (λ other. text_order (text entry.0) (text other.0) ≢ Greater) (λ other is. end.within (text other.0) (there other is)) entries are.each)
+
+  pub last-at : IsEndEntry text arena Last entry → slice_get entries (length entries - 1) ≡ Some entry
+  last-at end = last-is text entries are.ascending entry inside (All-weaker (IsEntry text arena) (λ other. text_order (text entry.0) (text other.0) ≢ Less) (λ other is. end.within (text other.0) (there other is)) entries are.each)

@@ -1,7 +1,9 @@
 pub mod CallLaws
 mod CalledLemmas
 mod EndLemmas
+mod EnteredLemmas
 mod EntryLemmas
+mod FrontLemmas
 mod LentLemmas
 mod LinkLemmas
 mod ListLemmas
@@ -13,4 +15,5 @@ mod RefusalLemmas
 mod RunLemmas
 mod SetLemmas
 mod SetOrders
+mod ShrinkLemmas
 mod TextLemmas

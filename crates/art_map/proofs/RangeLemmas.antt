@@ -1,5 +1,5 @@
 -- The leaves between two places in the order of texts, and what they hold.
-use Rattle.std.proofs.Common.{◌≡◌, ◌≢◌, ◌∙◌, ℕ, ◌⊎◌, cond, Bool, true, false, not, ◌&&◌, List, [], ◌∷◌, ◌++◌, map, filter, slice_get, All, Option, Some, None, refl, sym, ap, subst, inl, inr, get_or, append_assoc, append-nil}
+use Rattle.std.proofs.Common.{◌≡◌, ◌≢◌, ◌∙◌, ◌-◌, ℕ, suc, ◌⊎◌, cond, Bool, true, false, not, ◌&&◌, List, [], ◌∷◌, ◌++◌, length, map, filter, slice_get, All, Option, Some, None, refl, sym, ap, subst, inl, inr, get_or, append_assoc, append-nil, length-append, arith}
 use Rattle.std.specs.Option.{option_map}
 use Rattle.std.proofs.lemmas.List.{map-append}
 use Rattle.std.proofs.lemmas.Option.{same_Some}
@@ -31,6 +31,16 @@ snoc (x ∷ xs) = elim (snoc xs) [
   | inl none ↦ inr ([], x, ap (λ zs. x ∷ zs) none)
   | inr (ys, y, is) ↦ inr (x ∷ ys, y, ap (λ zs. x ∷ zs) is)
 ]
+
+-- the last of a list
+abbrev pub last_one : {X : Type 0} → List X → Option X
+last_one xs = slice_get xs (length xs - 1)
+
+pub last-pushed : {X : Type 0} (xs : List X) (x : X) → last_one (xs ++ x ∷ []) ≡ Some x
+last-pushed [] x = refl
+last-pushed (y ∷ xs) x =
+    let longer : length (y ∷ xs ++ x ∷ []) - 1 ≡ suc (length (xs ++ x ∷ []) - 1) = omega (arith, length-append xs (x ∷ [])) in
+    ap (slice_get (y ∷ xs ++ x ∷ [])) longer ∙ last-pushed xs x
 
 all-left : {X : Type 0} (Q : X → Type 0) (xs ys : List X) → All Q (xs ++ ys) → All Q xs
 all-left Q [] ys all = All-nil Q
@@ -139,6 +149,15 @@ module _ {K V : Type 0} {P : ℕ} (text : K → List ℕ) (arena : NodeArena K V
         ap (λ pairs. kept (held_by pairs)) is ∙ ap kept (held-append left right)
         ∙ filter-append (λ entry. test (text entry.0)) (held_by left) (held_by right)
         ∙ ap (λ es. es ++ kept (held_by right)) (leave-all left (hold-left left right parts) out) ∙ keep-all right (hold-right left right parts) inside
+
+    -- where it holds up to one part, and fails from it on
+    pub kept-left : (whole left right : List (OpaqueNodePtr K V P × List ℕ)) → whole ≡ left ++ right → AllHold text arena whole → All (λ leaf. test leaf.1 ≡ true) left → All (λ leaf. test leaf.1 ≡ false) right → kept (held_by whole) ≡ held_by left
+    kept-left whole left right is hold inside out =
+        let parts = subst (AllHold text arena) is hold in
+        ap (λ pairs. kept (held_by pairs)) is ∙ ap kept (held-append left right)
+        ∙ filter-append (λ entry. test (text entry.0)) (held_by left) (held_by right)
+        ∙ ap (λ es. es ++ kept (held_by right)) (keep-all left (hold-left left right parts) inside)
+        ∙ ap (λ es. held_by left ++ es) (leave-all right (hold-right left right parts) out) ∙ append-nil (held_by left)
 
   module _ (start_side : Side) (start : List ℕ) (end_side : Side) (end : List ℕ) where
     abbrev passes : K × V → Bool
@@ -300,6 +319,25 @@ module _ {K V : Type 0} {P : ℕ} (text : K → List ℕ) (arena : NodeArena K V
         ap (λ es. slice_get (from-place es) 0) (sym are)
         ∙ ap (λ es. slice_get es 0) (kept-right text arena (λ x. not (is_before side key x)) (leaves tree) left (here ∷ right) is hold (turned true left before) (turned false (here ∷ right) after)
         ∙ entries-cons arena (slab_key at) (keys_of right) holds.leaf holds.at)
+        ∙ sym (ap (option_map leaf_entry) holds.at)
+
+  -- the same for what is before the place
+  abbrev to-place : List (K × V) → List (K × V)
+  to-place entries = kept text arena (is_before side key) entries
+
+  pub none-before-it : IsLastBefore side key (leaves tree) None → last_one (to-place (entries_of text arena)) ≡ None
+  none-before-it after = ap (λ es. last_one (to-place es)) (sym are) ∙ ap last_one (leave-all text arena (is_before side key) (leaves tree) hold after)
+
+  module _ (at : NodePtr P (LeafNode K V P)) where
+    pub last-before-it : (high : IsLastBefore side key (leaves tree) (Some (leaf_pointer at))) → last_one (to-place (entries_of text arena)) ≡ option_map leaf_entry (leaf_at arena (slab_key at))
+    last-before-it (x, left, right, is, before, after) =
+        let here : OpaqueNodePtr K V P × List ℕ = (leaf_pointer at, x) in
+        let holds = holds-one text arena (leaves tree) left right here is hold in
+        let parts : leaves tree ≡ (left ++ here ∷ []) ++ right = is ∙ sym (append_assoc left (here ∷ []) right) in
+        ap (λ es. last_one (to-place es)) (sym are)
+        ∙ ap last_one (kept-left text arena (is_before side key) (leaves tree) (left ++ here ∷ []) right parts hold before after
+        ∙ held-append text arena left (here ∷ []) ∙ ap (λ es. held_by text arena left ++ es) (entries-cons arena (slab_key at) [] holds.leaf holds.at))
+        ∙ last-pushed (held_by text arena left) (leaf_entry holds.leaf)
         ∙ sym (ap (option_map leaf_entry) holds.at)
 
 -- key and value of a leaf make its entry

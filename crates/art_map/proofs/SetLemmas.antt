@@ -1,5 +1,5 @@
 -- The keys of a map's entries, as a set has them.
-use Rattle.std.proofs.Common.{◌≡◌, ◌⊎◌, ◌∙◌, inl, inr, ℕ, zero, suc, ◌<◌, ◌≤◌, ◌^◌, not, get_or, All, Contains, Bool, true, false, cond, List, [], ◌∷◌, length, map, filter, AllPairs, Option, Some, None, Result, Ok, Err, IfOk, IfErr, IfSome, IfNone, OnOk, OnErr, slice_index_or, refl, sym, ap, subst, arith, nat_eq}
+use Rattle.std.proofs.Common.{◌≡◌, ◌⊎◌, ◌∙◌, inl, inr, ℕ, zero, suc, ◌-◌, ◌<◌, ◌≤◌, ◌^◌, not, get_or, All, Contains, Bool, true, false, cond, List, [], ◌∷◌, length, map, filter, AllPairs, Option, Some, None, Result, Ok, Err, IfOk, IfErr, IfSome, IfNone, OnOk, OnErr, slice_get, slice_index_or, refl, sym, ap, subst, arith, nat_eq}
 use Rattle.std.specs.Cmp.Lexicographic.{pointwise, texts_ties}
 use Rattle.std.specs.Option.{is_none, is_some, option_map}
 use Rattle.std.specs.Ordering.{is_eq, match_ordering}
@@ -42,6 +42,28 @@ module _ {K V : Type 0} (text : K → List ℕ) where
   pub keys-there : (entries : List (K × V)) → (entries ≡ [] → ⊥) → keys_in entries ≡ [] → ⊥
   keys-there [] there none = there refl
   keys-there (entry ∷ entries) there none = absurd (cc)
+
+  -- what is so of the first entry among the texts is so of the first key, and of the last
+  one-key : (all : List (List ℕ)) (Holds : List (List ℕ) → List ℕ → Type 0) (o : Option (K × V)) → IfSome o (λ entry. Holds all (text entry.0)) → IfSome (option_map (λ entry. entry.0) o) (λ key. Holds all (text key))
+  one-key all Holds None is = tt
+  one-key all Holds (Some entry) is = is
+
+  key-at : (entries : List (K × V)) (i : ℕ) → option_map (λ entry. entry.0) (slice_get entries i) ≡ slice_get (keys_in entries) i
+  key-at [] i = refl
+  key-at (entry ∷ entries) zero = refl
+  key-at (entry ∷ entries) (suc i) = key-at entries i
+
+  at-key : (entries : List (K × V)) (i : ℕ) (Holds : List (List ℕ) → List ℕ → Type 0) → IfSome (slice_get entries i) (λ entry. Holds (texts_of text entries) (text entry.0)) → IfSome (slice_get (keys_in entries) i) (λ key. Holds (map text (keys_in entries)) (text key))
+  at-key entries i Holds is =
+      subst (λ all. IfSome (slice_get (keys_in entries) i) (λ key. Holds all (text key))) (sym (texts-in entries))
+      (subst (λ o. IfSome o (λ key. Holds (texts_of text entries) (text key))) (key-at entries i) (one-key (texts_of text entries) Holds (slice_get entries i) is))
+
+  pub first-key : (entries : List (K × V)) (Holds : List (List ℕ) → List ℕ → Type 0) → IfSome (slice_get entries 0) (λ entry. Holds (texts_of text entries) (text entry.0)) → IfSome (slice_get (keys_in entries) 0) (λ key. Holds (map text (keys_in entries)) (text key))
+  first-key entries = at-key entries 0
+
+  pub last-key : (entries : List (K × V)) (Holds : List (List ℕ) → List ℕ → Type 0) → IfSome (slice_get entries (length entries - 1)) (λ entry. Holds (texts_of text entries) (text entry.0)) → IfSome (slice_get (keys_in entries) (length (keys_in entries) - 1)) (λ key. Holds (map text (keys_in entries)) (text key))
+  last-key entries Holds is =
+      subst (λ n. IfSome (slice_get (keys_in entries) (n - 1)) (λ key. Holds (map text (keys_in entries)) (text key))) (sym (length-map entries (λ entry. entry.0))) (at-key entries (length entries - 1) Holds is)
 
   -- an entry of a text is a key of it
   pub key-of-entry : (entries : List (K × V)) (x : List ℕ) → is_some (entry_with text entries x) ≡ true → HasKey text (keys_in entries) x

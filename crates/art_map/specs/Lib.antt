@@ -1,5 +1,6 @@
 pub mod Calls
 pub mod Changes
+pub mod EnteredValues
 pub mod Entries
 pub mod LeafEntries
 pub mod MapLending
@@ -8,3 +9,4 @@ pub mod Nearest
 pub mod Ranges
 pub mod Runs
 pub mod Sets
+pub mod Shrinking

@@ -1,6 +1,6 @@
 -- What a map ends as, where a value of it is borrowed.
 use Rattle.std.specs.Prelude.{◌≡◌, ℕ, List, Option, OnSome}
-use Rattle.std.specs.Borrow.{RattleType, Fml, MutBor, LendsSo}
+use Rattle.std.specs.Borrow.{RattleType, Fml, MutBor, Lends, LendsSo}
 use Rattle.art_tree.specs.Entries.{entries_of}
 use Rattle.art_tree.specs.TreeLending.{tree_row}
 use Rattle.art_map.specs.Entries.{with_value}
@@ -15,3 +15,9 @@ abbrev pub LendsValueIn : (K V P : RattleType) (text : K.Denot → List ℕ) (is
     MutBor (List (K.Denot × V.Denot)) → List ℕ → Option (MutBor V.Denot) → Fml
 LendsValueIn K V P text is_key map x result =
     LendsSo (map_row K V P text is_key) V map result (λ now value. OnSome result (now ≡ with_value text map.now x value)) (λ now. now ≡ map.now)
+
+-- a map ends with the entries of the tree that was left behind the reference
+abbrev pub LendsTree : (K V P : RattleType) (text : K.Denot → List ℕ) (is_key : K.Denot → Type 0) →
+    MutBor (List (K.Denot × V.Denot)) → MutBor (tree_row K V P text is_key).Denot → Fml
+LendsTree K V P text is_key map result =
+    Lends (map_row K V P text is_key) (tree_row K V P text is_key) map result (λ tree. entries_of text tree.arena)

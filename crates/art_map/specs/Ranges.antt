@@ -33,6 +33,14 @@ module _ {K V : Type 0} (text : K → List ℕ) where
   abbrev pub entries_above : List ℕ → List (K × V) → List (K × V)
   entries_above x entries = filter (λ entry. is_gt (text_order (text entry.0) x)) entries
 
+  -- the entries whose keys are below these bytes
+  abbrev pub entries_below : List ℕ → List (K × V) → List (K × V)
+  entries_below x entries = filter (λ entry. is_lt (text_order (text entry.0) x)) entries
+
+  -- the entries whose keys are not above these bytes
+  abbrev pub entries_up_to : List ℕ → List (K × V) → List (K × V)
+  entries_up_to x entries = filter (λ entry. is_le (text_order (text entry.0) x)) entries
+
   -- the entries whose keys begin with these bytes
   abbrev pub entries_with_prefix : List ℕ → List (K × V) → List (K × V)
   entries_with_prefix x entries = filter (λ entry. starts_with nat_eq (text entry.0) x) entries

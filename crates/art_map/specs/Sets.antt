@@ -3,7 +3,7 @@ use Rattle.std.specs.Prelude.{ℕ, ◌<◌, ◌≤◌, ◌^◌, ◌&&◌, not, L
 use Rattle.std.specs.Borrow.{Bor}
 use Rattle.std.specs.Cmp.Lexicographic.{pointwise}
 use Rattle.std.specs.List.{starts_with}
-use Rattle.std.specs.Ordering.{is_ge, is_gt, match_ordering}
+use Rattle.std.specs.Ordering.{is_lt, is_le, is_ge, is_gt, match_ordering}
 use Rattle.std.specs.declared.ops.Bound.{Bound}
 use Rattle.art_bytes.specs.Text.{text_order}
 use Rattle.art_tree.specs.Dictionary.{Clashes}
@@ -47,6 +47,18 @@ module _ {K : Type 0} (text : K → List ℕ) where
   -- the keys that are above these bytes
   abbrev pub keys_above : List ℕ → List K → List K
   keys_above x keys = filter (λ key. is_gt (text_order (text key) x)) keys
+
+  -- the keys that are below these bytes
+  abbrev pub keys_below : List ℕ → List K → List K
+  keys_below x keys = filter (λ key. is_lt (text_order (text key) x)) keys
+
+  -- the keys that are not above these bytes
+  abbrev pub keys_up_to : List ℕ → List K → List K
+  keys_up_to x keys = filter (λ key. is_le (text_order (text key) x)) keys
+
+  -- the first of these keys that is a prefix of these bytes
+  abbrev pub prefix_key : List K → List ℕ → Option K
+  prefix_key keys x = find (λ key. starts_with nat_eq x (text key)) keys
 
   -- the keys that begin with these bytes
   abbrev pub keys_with_prefix : List ℕ → List K → List K

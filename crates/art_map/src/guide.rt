@@ -250,13 +250,30 @@ impl Guide {
             self.visit(arena);
             due = LEAVES_A_VISIT.saturating_add(due);
         }
-        if self.count == 0 {
+        if self.count == 0 || !self.are_held(arena) {
             self.lose_way();
             return None;
         }
         self.judge(due);
         self.taken = 1;
         Some(self.leaves[0])
+    }
+
+    // Whether the leaves that are expected are there. Their first reads do not wait for each other, so
+    // they come from memory at the same time.
+    #[inline(always)]
+    fn are_held<K, V, const PREFIX_LEN: usize>(&self, arena: &NodeArena<K, V, PREFIX_LEN>) -> bool {
+        let mut all = true;
+        for index in 0..MOST_LEAVES {
+            if index >= self.count {
+                break;
+            }
+            let leaf = NodePtr::<PREFIX_LEN, LeafNode<K, V, PREFIX_LEN>>::from_key(
+                self.leaves[index],
+            );
+            all = all && arena.holds(leaf);
+        }
+        all
     }
 
     // Goes on by the links where fewer leaves than these were found, at first or twice in a row.

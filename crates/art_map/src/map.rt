@@ -6,13 +6,17 @@ mod changes;
 mod cloning;
 mod compacting;
 mod comparing;
+mod counting;
 mod end_entries;
 mod ends;
+mod entering;
 mod iterating;
 mod laws;
 mod lending;
+mod predecessors;
 mod reading;
 mod taking_apart;
+mod underlying;
 
 use art_bytes::AsBytes;
 use art_tree::laws::entries_are_one_list;
@@ -53,8 +57,12 @@ impl<T: HasEntries<K, V>, K, V> Model for MapOver<T, K, V> {
 pub const DEFAULT_PREFIX_LEN: usize = 16;
 
 /// An ordered map: the list of its entries, in ascending order of the bytes of their keys. No key is
-/// a proper prefix of another. No call has a condition but
-/// [`for_each_value_mut`](MapOver::for_each_value_mut): its closure may be called at any entry.
+/// a proper prefix of another. No call has a condition but those that take a closure: it may be called.
+///
+/// A key to look for, a bound and a prefix are of any type with bytes. So those of another mapping than
+/// the keys' compile too, and answer by their bytes: a map by `Mapped<ToIBE, i64>` takes the bytes of a
+/// `Mapped<ToUBE, u64>` for those of another number. An alias of the key type, as `type Port =
+/// Mapped<ToUBE, u16>`, that is used for both avoids it.
 ///
 /// `PREFIX_LEN` is how many bytes of its compressed prefix an inner node of the tree stores, for
 /// example [`DEFAULT_PREFIX_LEN`]. It changes no result of a call.

@@ -1,5 +1,5 @@
 //! The leaves, and the entry, next to a side of a key.
-ghost use Rattle.std.specs.Prelude.{◌≡◌, ℕ, List, Some, filter, not, slice_get};
+ghost use Rattle.std.specs.Prelude.{◌≡◌, ◌-◌, ℕ, List, Some, filter, length, not, slice_get};
 ghost use Rattle.std.specs.Option.{option_map};
 ghost use Rattle.art_nodes.specs.Pointers.{slab_key};
 ghost use Rattle.art_arena.specs.Links.{HoldsLeaf};
@@ -85,5 +85,38 @@ pub(crate) fn first_entry_after<'a, K: AsBytes, V, const PREFIX_LEN: usize>(
     leaves_hold_the_entries::<K, V, PREFIX_LEN>();
     let _root = tree.root()?;
     let leaf = first_after(tree, side, key)?;
+    Some(tree.arena().as_key_value_ref(leaf))
+}
+
+/// The last leaf of a tree before this side of the key, or None where all are after it. Takes no
+/// memory.
+fn last_before<K: AsBytes, V, const PREFIX_LEN: usize>(
+    tree: &ArtTree<K, V, PREFIX_LEN>,
+    side: Side,
+    key: &[u8],
+) -> Option<NodePtr<PREFIX_LEN, LeafNode<K, V, PREFIX_LEN>>>
+    ensures { (root whole : _) → tree.now.root ≡ Some root →
+        IsAlone K.text tree.now.arena root whole →
+        IsLastBefore side key.now (leaves whole) (option_map leaf_pointer result) }
+{
+    let root = tree.root()?;
+    let arena = tree.arena();
+    leaf_before(arena, leaf_beside(arena, root, key, side))
+}
+
+/// The last entry before this side of the key, or None where all are after it. Takes no memory.
+pub(crate) fn last_entry_before<'a, K: AsBytes, V, const PREFIX_LEN: usize>(
+    tree: &'a ArtTree<K, V, PREFIX_LEN>,
+    side: Side,
+    key: &[u8],
+) -> Option<(&'a K, &'a V)>
+    ensures { let before = filter (λ entry. is_before side key.now (K.text entry.0))
+        (entries_of K.text tree.now.arena) in
+        option_map (λ (key, value). (key.now, value.now)) result
+        ≡ slice_get before (length before - 1) }
+{
+    leaves_hold_the_entries::<K, V, PREFIX_LEN>();
+    let _root = tree.root()?;
+    let leaf = last_before(tree, side, key)?;
     Some(tree.arena().as_key_value_ref(leaf))
 }

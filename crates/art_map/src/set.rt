@@ -4,14 +4,17 @@ ghost use Rattle.std.specs.Option.{is_none, option_copied, option_map};
 ghost use Rattle.std.specs.Result.{result_map_both};
 ghost use Rattle.std.specs.declared.cmp.Ordering.TheVariants.{Less};
 ghost use Rattle.art_bytes.specs.Text.{IsPrefixOf, text_order};
+ghost use Rattle.art_nodes.specs.declared.pointers.OpaqueNodePtr.{OpaqueNodePtr as Pointer};
 ghost use Rattle.art_tree.specs.Dictionary.{Clashes};
 ghost use Rattle.art_tree.specs.Refusals.{texts_of, IsDue};
 ghost use Rattle.art_map.specs.Sets.{HasKey, put_key, without_key, keys_above, keys_from, keys_within, keys_with_prefix, IsKeyRefused, KeyMayEnter};
+ghost use Rattle.art_map.specs.Shrinking.{NeedsNode};
 
 mod cloning_sets;
 mod comparing_sets;
 mod keys_by_text;
 mod merging;
+mod neighbouring_keys;
 
 use crate::into_iter::{IntoKeys, keys_taken};
 use crate::keys::{Keys, keys_of};
@@ -40,7 +43,8 @@ impl<T: HasEntries<K, ()>, K> Model for SetOver<T, K> {
 /// An ordered set: the list of its keys, in ascending order of their bytes. No key is a proper prefix
 /// of another. No call has a condition.
 ///
-/// It is an [`ArtMap`] without values, with the same `PREFIX_LEN`, which changes no result of a call.
+/// It is an [`ArtMap`] without values, with the same `PREFIX_LEN`, which changes no result of a call. As
+/// there, a key to look for and a bound answer by their bytes, whatever their type.
 ///
 /// A set with `tin`, `titanium`, `iron` and `zinc`:
 ///
@@ -326,9 +330,8 @@ impl<K: AsBytes, const PREFIX_LEN: usize> ArtSet<K, PREFIX_LEN> {
 
     /// Removes the least key and returns it, or None where there is no key.
     ///
-    /// An allocation may fail only where there is a key, since a smaller node may take the place of a
-    /// node on the way. After a failure the keys are unchanged. Costs as much as
-    /// [`ArtMap::pop_first`].
+    /// An allocation may fail only as in [`ArtMap::pop_first`]. After a failure the keys are unchanged.
+    /// Costs as much as [`ArtMap::pop_first`].
     ///
     /// A set with `tin`, `iron` and `zinc`:
     ///
@@ -345,6 +348,8 @@ impl<K: AsBytes, const PREFIX_LEN: usize> ArtSet<K, PREFIX_LEN> {
         ensures none { IfOk result (λ removed.
             IfNone removed ((self.old ≡ []) × (self.new ≡ []))) }
         ensures refused { OnErr result (self.old ≢ []) }
+        ensures needs_node { OnErr result (IfSome (slice_get self.old 0) (λ key.
+            NeedsNode (Pointer K (Unit {0}) PREFIX_LEN) (map K.text self.old) (K.text key))) }
         ensures same_keys { OnErr result (self.new ≡ self.old) }
     {
         let Some((key, _)) = self.entries.pop_first()? else {
@@ -371,6 +376,8 @@ impl<K: AsBytes, const PREFIX_LEN: usize> ArtSet<K, PREFIX_LEN> {
         ensures none { IfOk result (λ removed.
             IfNone removed ((self.old ≡ []) × (self.new ≡ []))) }
         ensures refused { OnErr result (self.old ≢ []) }
+        ensures needs_node { OnErr result (IfSome (slice_get self.old (length self.old - 1)) (λ key.
+            NeedsNode (Pointer K (Unit {0}) PREFIX_LEN) (map K.text self.old) (K.text key))) }
         ensures same_keys { OnErr result (self.new ≡ self.old) }
     {
         let Some((key, _)) = self.entries.pop_last()? else {
@@ -456,9 +463,8 @@ impl<K: AsBytes + Drop, const PREFIX_LEN: usize> ArtSet<K, PREFIX_LEN> {
 
     /// Removes the key with the bytes of this one, if there is one, and returns whether there was.
     ///
-    /// An allocation may fail only where there is such a key, since a smaller node may take the place
-    /// of a node on the way. After a failure the keys are unchanged. Costs as much as
-    /// [`ArtMap::remove_entry`].
+    /// An allocation may fail only as in [`ArtMap::remove_entry`]. After a failure the keys are
+    /// unchanged. Costs as much as [`ArtMap::remove_entry`].
     ///
     /// A set with `tin`, `titanium`, `iron` and `zinc`:
     ///
@@ -471,6 +477,8 @@ impl<K: AsBytes + Drop, const PREFIX_LEN: usize> ArtSet<K, PREFIX_LEN> {
             (λ removed. IsTrue removed ↔ HasKey K.text self.old (Q.text key.now)) }
         ensures keys { OnOk result (self.new ≡ without_key K.text self.old (Q.text key.now)) }
         ensures refused { OnErr result (HasKey K.text self.old (Q.text key.now)) }
+        ensures needs_node { OnErr result (NeedsNode (Pointer K (Unit {0}) PREFIX_LEN)
+            (map K.text self.old) (Q.text key.now)) }
         ensures same_keys { OnErr result (self.new ≡ self.old) }
     {
         let removed = self.entries.remove_entry(key)?;

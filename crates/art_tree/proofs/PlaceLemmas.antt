@@ -4,3 +4,4 @@ pub mod WayPlaces
 pub mod SharedSpots
 pub mod SideLemmas
 pub mod SidesAround
+pub mod ChildrenBeside

@@ -8,3 +8,4 @@ pub mod MergedNode
 pub mod RemovalLemmas
 pub mod NeededNodes
 pub mod EndPlaces
+pub mod EndWays

@@ -6,6 +6,8 @@ pub mod DictionaryLemmas
 pub mod ExchangedSubtree
 pub mod UniqueTree
 pub mod ParentLemmas
+pub mod EndBranches
+pub mod Heights
 pub mod KeyLemmas
 pub mod LoadedTexts
 pub mod ExchangedTree
@@ -18,3 +20,8 @@ pub mod PrefixLemmas
 pub mod EntryLists
 pub mod EntryCounts
 pub mod LentValue
+pub mod EnteredValue
+pub mod NodeBounds
+pub mod OneLeafLess
+pub mod HeldCounts
+pub mod RoomLasts

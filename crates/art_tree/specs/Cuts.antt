@@ -1,5 +1,5 @@
 -- Removal: the changes of inner nodes. No public clause cites it.
-use Rattle.std.specs.Prelude.{◌≡◌, ◌⊎◌, ℕ, ◌<◌, length}
+use Rattle.std.specs.Prelude.{◌≡◌, ◌↔◌, ◌⊎◌, ℕ, ◌<◌, Bool, IsTrue, length}
 use Rattle.art_header.specs.NodeType.{least_children, shrunk_kind}
 use Rattle.art_nodes.specs.Inner.{Inner}
 use Rattle.art_nodes.specs.Pointers.{node_kind}
@@ -8,6 +8,12 @@ use Rattle.art_arena.specs.Arena.{NodeArena, HeldInner, held, room, Changes, Sam
 use Rattle.art_tree.specs.Nodes.{IsReplaced}
 
 module _ {K V : Type 0} {P : ℕ} where
+  -- this says whether the inner node at the pointer has the fewest children of its kind
+  abbrev pub TellsFewest : NodeArena K V P → OpaqueNodePtr K V P → Bool → Type 0
+  TellsFewest arena pointer fewest =
+      (node : Inner (OpaqueNodePtr K V P)) → held arena pointer ≡ HeldInner node →
+      IsTrue fewest ↔ (length node.children ≡ least_children (node_kind pointer))
+
   -- where the inner node at the pointer has more than two children and the fewest of its kind,
   -- there is spare capacity for one of the next smaller kind
   abbrev pub HasRoomToShrink : NodeArena K V P → OpaqueNodePtr K V P → Type 0

@@ -1,10 +1,28 @@
 -- Removal: the place of the leaf in its tree. No public clause cites it.
-use Rattle.std.specs.Prelude.{◌≡◌, ℕ, List, Option}
+use Rattle.std.specs.Prelude.{◌≡◌, ℕ, List, [], ◌∷◌, ◌++◌, Option}
 use Rattle.art_nodes.specs.declared.pointers.OpaqueNodePtr.{OpaqueNodePtr}
 use Rattle.art_arena.specs.Trees.{Tree, Leaf, Inner, Branches, Branch}
-use Rattle.art_tree.specs.Contexts.{Context, plug, join}
+use Rattle.art_tree.specs.Contexts.{Context, Whole, Under, plug, join}
+use Rattle.art_tree.specs.Paths.{Steps, path_of}
 use Rattle.art_tree.specs.Places.{above}
+use Rattle.art_tree.specs.declared.path.TreePath.{TreePath}
 use Rattle.art_tree.specs.declared.remove.LeafSpot.{LeafSpot}
+
+-- the inner nodes above a place from the root down, each with the byte that is taken from it
+abbrev pub steps_to : {H : Type 0} → Context H → List (H × ℕ)
+steps_to Whole = []
+steps_to (Under above pointer prefix before byte after) = steps_to above ++ (pointer, byte) ∷ []
+
+-- the place of a leaf in a tree, to which these steps lead
+pub record HasLeafAt {H : Type 0} (tree : Tree H) (steps : List (H × ℕ)) (pointer : H) : Type 0 where
+  pub context : Context H
+  pub text : List ℕ
+  pub whole : plug context (Leaf pointer text) ≡ tree
+  pub same : steps_to context ≡ steps
+
+-- the leaf is at the end of this path in the tree
+abbrev pub IsAtPath : {K V : Type 0} {P : ℕ} → Tree (OpaqueNodePtr K V P) → OpaqueNodePtr K V P → TreePath K V P → Type 0
+IsAtPath {K = K} {V = V} {P = P} tree pointer path = (steps : Steps K V P) × HasLeafAt tree steps pointer × (path ≡ path_of steps)
 
 -- the leaf is the child of its parent under this byte, and the parent that of its parent under this
 -- one, if it is not the root

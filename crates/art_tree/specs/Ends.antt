@@ -1,5 +1,5 @@
 -- The entries at the two ends of a dictionary.
-use Rattle.std.specs.Prelude.{◌≡◌, ◌≢◌, ℕ, List, Option, Result, IfSome, IfNone, IfOk, OnErr}
+use Rattle.std.specs.Prelude.{◌≡◌, ◌≢◌, ℕ, ◌+◌, List, Option, Result, IfSome, IfNone, IfOk, IsOk, OnErr}
 use Rattle.std.specs.declared.cmp.Ordering.TheVariants.{Less, Greater}
 use Rattle.art_bytes.specs.Text.{text_order}
 use Rattle.art_header.specs.declared.node_type.NodeType.{NodeType}
@@ -10,7 +10,7 @@ use Rattle.art_arena.specs.declared.ends.End.TheVariants.{First, Last}
 use Rattle.art_tree.specs.Art.{Art}
 use Rattle.art_tree.specs.Dictionary.{IsEntry, HasEntry, IsEmpty, SameEntries}
 use Rattle.art_tree.specs.Removal.{IsLeft, NeedsSmallerNode}
-use Rattle.art_tree.specs.Room.{FreesOneEach, GrowsOnlyWhere, LacksRoomToRemove}
+use Rattle.art_tree.specs.Room.{FreesOneEach, GrowsOnlyWhere, HasRoomFor, LacksRoomToRemove}
 
 -- no text of the others is less than this one, or none is greater
 abbrev pub IsWithin : End → List ℕ → List ℕ → Type 0
@@ -48,3 +48,6 @@ module _ {K V : Type 0} {P : ℕ} (text : K → List ℕ) where
     -- memory is taken only for it
     pub takes_no_memory : (¬ EndMeets text old.arena end (NeedsSmallerNode text old.arena)) → FreesOneEach old.arena new.arena
     pub memory : GrowsOnlyWhere old.arena new.arena (λ kind. EndMeets text old.arena end (λ x. LacksRoomToRemove text old.arena old.root x kind))
+    -- room for some changes suffices, and there is room for one change fewer afterwards
+    pub room_suffices : (count : ℕ) → HasRoomFor old.arena (count + 1) → IsOk result
+    pub room_lasts : (count : ℕ) → HasRoomFor old.arena (count + 1) → HasRoomFor new.arena count

@@ -1,5 +1,5 @@
 -- How many nodes of each kind a tree has, as plain data.
-use Rattle.std.specs.Prelude.{ℕ, ◌+◌, length}
+use Rattle.std.specs.Prelude.{ℕ, ◌+◌, ◌/◌, length}
 use Rattle.art_header.specs.NodeType.{kind_for}
 use Rattle.art_header.specs.declared.node_type.NodeType.{NodeType}
 use Rattle.art_header.specs.declared.node_type.NodeType.TheVariants as kinds
@@ -24,3 +24,11 @@ module _ {H : Type 0} where
     pub branch_nodes_of : NodeType → Branches H → ℕ
     branch_nodes_of kind NoBranch = 0
     branch_nodes_of kind (Branch byte tree others) = nodes_of kind tree + branch_nodes_of kind others
+
+-- the most nodes of a kind that a tree of so many entries has
+abbrev pub most_nodes : NodeType → ℕ → ℕ
+most_nodes kinds.Node4 entries = entries
+most_nodes kinds.Node16 entries = entries / 4
+most_nodes kinds.Node48 entries = entries / 16
+most_nodes kinds.Node256 entries = entries / 48
+most_nodes kinds.Leaf entries = entries

@@ -4,6 +4,8 @@ use Rattle.std.specs.Option.{option_and_then, option_map_or}
 use Rattle.art_bytes.specs.Text.{IsPrefixOf}
 use Rattle.art_nodes.specs.ChildMap.{child_at}
 use Rattle.art_nodes.specs.Inner as nodes
+use Rattle.art_nodes.specs.declared.leaf_node.LeafNode.{LeafNode}
+use Rattle.art_nodes.specs.declared.pointers.NodePtr.{NodePtr}
 use Rattle.art_nodes.specs.declared.pointers.OpaqueNodePtr.{OpaqueNodePtr}
 use Rattle.art_arena.specs.Arena.{NodeArena}
 use Rattle.art_arena.specs.Standing.{StandsIn}
@@ -113,6 +115,15 @@ module _ {K V : Type 0} {P : ℕ} (tree : Tree (OpaqueNodePtr K V P)) (key : Lis
   Belongs (places.Begins spot) = BeginsAll tree key spot
   Belongs (places.Absent spot byte) = LacksChild tree key spot byte
   Belongs (places.Differs spot mismatch) = Parts tree key spot mismatch
+
+-- the root and the leaf with the key itself, where that is its place
+abbrev pub present_leaf : {K V : Type 0} {P : ℕ} → Option (OpaqueNodePtr K V P × Place K V P) → Option (OpaqueNodePtr K V P × NodePtr P (LeafNode K V P))
+present_leaf None = None
+present_leaf (Some (root, places.Present leaf)) = Some (root, leaf)
+present_leaf (Some (root, places.Extends leaf)) = None
+present_leaf (Some (root, places.Begins spot)) = None
+present_leaf (Some (root, places.Absent spot byte)) = None
+present_leaf (Some (root, places.Differs spot mismatch)) = None
 
 -- the place of the key in a well-formed tree that stands in an arena
 pub record IsPlaceIn {K V : Type 0} {P : ℕ} (text : K → List ℕ) (arena : NodeArena K V P) (tree : Tree (OpaqueNodePtr K V P)) (key : List ℕ) (place : Place K V P) : Type 0 where

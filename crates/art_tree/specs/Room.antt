@@ -1,8 +1,8 @@
 -- Spare capacity before and after a change of a tree.
-use Rattle.std.specs.Prelude.{◌≡◌, ◌≢◌, ◌⊎◌, ◌↔◌, ℕ, ◌<◌, ◌≤◌, ◌+◌, List, Contains, Option, Some, None}
+use Rattle.std.specs.Prelude.{◌≡◌, ◌≢◌, ◌⊎◌, ◌↔◌, ℕ, ◌<◌, ◌≤◌, ◌+◌, List, length, Contains, Option, Some, None}
 use Rattle.art_header.specs.declared.node_type.NodeType.{NodeType}
 use Rattle.art_nodes.specs.declared.pointers.OpaqueNodePtr.{OpaqueNodePtr}
-use Rattle.art_arena.specs.Arena.{NodeArena, capacity, room}
+use Rattle.art_arena.specs.Arena.{NodeArena, capacity, leaf_count, room}
 use Rattle.art_arena.specs.Trees.{Tree, texts, IsWellFormed}
 use Rattle.art_tree.specs.Art.{IsAlone}
 use Rattle.art_tree.specs.Dictionary.{HasEntry}
@@ -38,3 +38,17 @@ module _ {K V : Type 0} {P : ℕ} where
   -- each kind has spare capacity for at most one node more than before
   abbrev pub FreesOneEach : NodeArena K V P → NodeArena K V P → Type 0
   FreesOneEach old new = (kind : NodeType) → room new kind ≤ room old kind + 1
+
+  -- no well-formed tree of so many texts has more nodes of this kind than fit with no allocation
+  abbrev pub FitsEachTree : NodeArena K V P → NodeType → ℕ → Type 0
+  FitsEachTree arena kind most =
+      (tree : Tree (OpaqueNodePtr K V P)) → IsWellFormed tree → length (texts tree) ≤ most → nodes_of kind tree ≤ capacity arena kind
+
+  -- of this kind there is room for so many entries more: spare capacity for as many nodes, or capacity for each tree of
+  -- all those entries
+  abbrev pub HasRoomOf : NodeType → NodeArena K V P → ℕ → Type 0
+  HasRoomOf kind arena count = (count ≤ room arena kind) ⊎ FitsEachTree arena kind (leaf_count arena + count)
+
+  -- so many inserts and removals find room for each node that they need
+  abbrev pub HasRoomFor : NodeArena K V P → ℕ → Type 0
+  HasRoomFor arena count = (kind : NodeType) → HasRoomOf kind arena count

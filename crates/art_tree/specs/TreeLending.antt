@@ -1,16 +1,18 @@
 -- What a tree ends as, where a value of it is borrowed.
-use Rattle.std.specs.Prelude.{◌≡◌, ℕ, List, Option, OnSome}
-use Rattle.std.specs.Borrow.{RattleType, Fml, MutBor, Lends, LendsSo}
-use Rattle.std.specs.Option.{option_map}
+use Rattle.std.specs.Prelude.{◌≡◌, ℕ, List, Option, Some, Result, OnSome}
+use Rattle.std.specs.Borrow.{RattleType, Fml, MutBor, Lends, LendsSo, LendsSoOk}
+use Rattle.std.specs.Option.{option_map, option_map_or}
 use Rattle.art_nodes.specs.Leaf.{leaf_key, with_value}
 use Rattle.art_nodes.specs.declared.leaf_node.LeafNode.{LeafNode}
 use Rattle.art_nodes.specs.declared.pointers.OpaqueNodePtr.{OpaqueNodePtr}
 use Rattle.art_nodes.specs.contracts.pointers.OpaqueNodePtr as pointer
-use Rattle.art_arena.specs.Arena.{NodeArena, HeldLeaf, Changes, SameRoom, held}
+use Rattle.art_arena.specs.Arena.{NodeArena, HeldLeaf, Changes, SameNodes, SameRoom, held}
 use Rattle.art_arena.specs.Lending.{arena_row}
 use Rattle.art_arena.specs.Links.{with_value_at}
 use Rattle.art_tree.specs.Art.{Art, IsArt}
-use Rattle.art_tree.specs.Dictionary.{HasKeys, SameOtherEntries, entry_at}
+use Rattle.art_tree.specs.Dictionary.{HasKeys, SameEntries, SameOtherEntries, entry_at}
+use Rattle.art_tree.specs.Leaves.{KeepsOtherLeaves}
+use Rattle.art_tree.specs.Room.{GrowsOnlyWhere, LacksRoomToInsert}
 use Rattle.art_tree.specs.contracts.tree.Rooted.{the_row}
 
 -- the type of a tree with its arena, as the logic names it
@@ -34,6 +36,29 @@ abbrev pub LendsValueAt : (K V P : RattleType) (text : K.Denot → List ℕ) (is
     MutBor (tree_row K V P text is_key).Denot → List ℕ → Option (MutBor V.Denot) → Fml
 LendsValueAt K V P text is_key tree x result =
     LendsSo (tree_row K V P text is_key) V tree result (λ now value. OnSome result (HasValueNow text tree.now now x value)) (λ now. now ≡ tree.now)
+
+module _ {K V : Type 0} {P : ℕ} (text : K → List ℕ) (old new : Art (NodeArena K V P) (OpaqueNodePtr K V P)) where
+  -- the entry of the key's text has this value now, under the key that it had, or in a new entry of this key; every
+  -- other entry is unchanged and in its leaf, and memory was taken only for nodes that the new entry needs
+  pub record HasEntryNow (key : K) (value : V) : Type 0 where
+    pub entry : entry_at text new.arena (text key) ≡ Some (option_map_or (λ entry. entry.0) (entry_at text old.arena (text key)) key, value)
+    pub others : SameOtherEntries text old.arena new.arena (text key)
+    pub leaves : KeepsOtherLeaves text old.arena new.arena (text key)
+    pub memory : GrowsOnlyWhere old.arena new.arena (LacksRoomToInsert text old.arena old.root (text key))
+
+  -- every entry, every node and the root are unchanged, and memory was taken only for nodes that an entry of this
+  -- text needs
+  pub record IsSameTree (x : List ℕ) : Type 0 where
+    pub entries : SameEntries text old.arena new.arena
+    pub nodes : SameNodes old.arena new.arena
+    pub root : new.root ≡ old.root
+    pub memory : GrowsOnlyWhere old.arena new.arena (LacksRoomToInsert text old.arena old.root x)
+
+-- a tree ends with the value that was left behind the reference in the entry of the key's text, or unchanged
+abbrev pub LendsEntryValue : (K V P : RattleType) (text : K.Denot → List ℕ) (is_key : K.Denot → Type 0) {E : Type 0} →
+    MutBor (tree_row K V P text is_key).Denot → K.Denot → Result (MutBor V.Denot) E → Fml
+LendsEntryValue K V P text is_key tree key result =
+    LendsSoOk (tree_row K V P text is_key) V tree result (λ now value. HasEntryNow text tree.now now key value) (λ now. IsSameTree text tree.now now (text key))
 
 -- a tree ends with the value that was left behind the reference in the leaf under this slab key
 abbrev pub LendsLeafValue : (K V P : RattleType) (text : K.Denot → List ℕ) (is_key : K.Denot → Type 0) →

@@ -1,5 +1,6 @@
 //! Insertion: a new entry in a tree, or a new entry with the key bytes of an old one.
-ghost use Rattle.std.specs.Prelude.{◌≡◌, ◌≢◌, ◌<◌, ◌^◌, length, Contains, Some, None, Ok, Err, IfOk, IfErr, OnOk, OnErr};
+ghost use Rattle.std.specs.Prelude.{◌≡◌, ◌≢◌, ◌<◌, ◌^◌, length, Contains, Some, None, Ok, Err, IfOk, IfErr, IfSome, OnOk, OnErr};
+ghost use Rattle.std.specs.Option.{option_map};
 ghost use Rattle.art_header.specs.declared.node_type.NodeType.TheVariants.{Leaf, Node4};
 ghost use Rattle.art_nodes.specs.Pointers.{node_kind, slab_key};
 ghost use Rattle.art_arena.specs.Arena.{room, SameNodes, SameRoom};
@@ -7,12 +8,12 @@ ghost use Rattle.art_arena.specs.Links.{HoldsLeaf};
 ghost use Rattle.art_arena.specs.Trees.{leaves};
 ghost use Rattle.art_tree.specs.Art.{IsArt, IsAlone};
 ghost use Rattle.art_tree.specs.Dictionary.{entry_at, SameEntries};
-ghost use Rattle.art_tree.specs.Edits.{HasRoomToGrow, TellsFull};
-ghost use Rattle.art_tree.specs.Insertion.{AddsEntry, IsEntered, IsRefused, MayEnter};
-ghost use Rattle.art_tree.specs.Places.{LacksChild, Parts};
+ghost use Rattle.art_tree.specs.Edits.{HasRoomToGrow, HoldsEntry, TellsFull};
+ghost use Rattle.art_tree.specs.Insertion.{AddsEntry, FindsEntry, InsertsNew, IsEntered, IsRefused, MayEnter};
+ghost use Rattle.art_tree.specs.Places.{Belongs, LacksChild, Parts, present_leaf};
 ghost use Rattle.art_tree.specs.Reserving.{LacksRoomForChild, LacksRoomForFork};
 ghost use Rattle.art_tree.specs.Room.{GrowsOnlyWhere, LacksRoomToInsert};
-ghost use Rattle.art_tree.specs.Search.{leaf_pointer};
+ghost use Rattle.art_tree.specs.Search.{EachTree, leaf_pointer};
 ghost use Rattle.art_tree.specs.declared.insert.InsertRefusal.TheVariants.{OutOfMemory};
 
 mod added_child;
@@ -85,20 +86,26 @@ pub struct InsertFault<K, V> {
     pub value: V,
 }
 
-// Makes a tree of one leaf in an arena that holds nothing, and returns the root. On allocation
-// failure it returns the entry.
+/// The root of a tree, and a leaf of it.
+pub(crate) type RootAndLeaf<K, V, const PREFIX_LEN: usize> = (
+    OpaqueNodePtr<K, V, PREFIX_LEN>,
+    NodePtr<PREFIX_LEN, LeafNode<K, V, PREFIX_LEN>>,
+);
+
+// Makes a tree of one leaf in an arena that holds nothing, and returns the root and the leaf. On
+// allocation failure it returns the entry.
 fn insert_first<K: AsBytes, V, const PREFIX_LEN: usize>(
     arena: &mut NodeArena<K, V, PREFIX_LEN>,
     key: K,
     value: V,
-) -> Result<OpaqueNodePtr<K, V, PREFIX_LEN>, (K, V)>
+) -> Result<RootAndLeaf<K, V, PREFIX_LEN>, (K, V)>
     requires empty { IsArt K.text arena.old None }
     requires short { length (K.text key) < 2 ^ 32 }
     ensures { AddsEntry K.text arena.old arena.new None key value result }
 {
     no_text_begins_another::<OpaqueNodePtr<K, V, PREFIX_LEN>>();
     match arena.allocate_node_ptr(LeafNode::with_no_siblings(key, value)) {
-        Ok(leaf) => Ok(leaf.to_opaque()),
+        Ok(leaf) => Ok((leaf.to_opaque(), leaf)),
         Err((_, leaf)) => Err(leaf.into_entry()),
     }
 }
@@ -160,8 +167,8 @@ fn reserve_for_fork<K, V, const PREFIX_LEN: usize>(
     arena.reserve(NodeType::Node4, 1)
 }
 
-// Adds a new leaf under a byte of an inner node that has no child there. Returns the root. On
-// allocation failure it returns the entry.
+// Adds a new leaf under a byte of an inner node that has no child there. Returns the root and the
+// leaf. On allocation failure it returns the entry.
 fn insert_child<K: AsBytes, V, const PREFIX_LEN: usize>(
     arena: &mut NodeArena<K, V, PREFIX_LEN>,
     root: OpaqueNodePtr<K, V, PREFIX_LEN>,
@@ -169,7 +176,7 @@ fn insert_child<K: AsBytes, V, const PREFIX_LEN: usize>(
     byte: u8,
     key: K,
     value: V,
-) -> Result<OpaqueNodePtr<K, V, PREFIX_LEN>, (K, V)>
+) -> Result<RootAndLeaf<K, V, PREFIX_LEN>, (K, V)>
     requires short { length (K.text key) < 2 ^ 32 }
     requires place { (tree : _) × IsAlone K.text arena.old root tree ×
         LacksChild tree (K.text key) spot byte }
@@ -185,11 +192,11 @@ fn insert_child<K: AsBytes, V, const PREFIX_LEN: usize>(
     let (sibling, end) = leaf_beside_child(arena, spot.node, byte);
     let leaf = link_leaf(arena, key, value, sibling, end);
     let node = add_child(arena, spot.node, byte, leaf.to_opaque(), full);
-    Ok(hang(arena, root, spot.parent, spot.node, node))
+    Ok((hang(arena, root, spot.parent, spot.node, node), leaf))
 }
 
-// Makes a new inner node over a new leaf and the node where the key differs. Returns the root. On
-// allocation failure it returns the entry.
+// Makes a new inner node over a new leaf and the node where the key differs. Returns the root and the
+// leaf. On allocation failure it returns the entry.
 fn insert_fork<K: AsBytes, V, const PREFIX_LEN: usize>(
     arena: &mut NodeArena<K, V, PREFIX_LEN>,
     root: OpaqueNodePtr<K, V, PREFIX_LEN>,
@@ -197,7 +204,7 @@ fn insert_fork<K: AsBytes, V, const PREFIX_LEN: usize>(
     mismatch: Mismatch,
     key: K,
     value: V,
-) -> Result<OpaqueNodePtr<K, V, PREFIX_LEN>, (K, V)>
+) -> Result<RootAndLeaf<K, V, PREFIX_LEN>, (K, V)>
     requires short { length (K.text key) < 2 ^ 32 }
     requires place { (tree : _) × IsAlone K.text arena.old root tree ×
         Parts tree (K.text key) spot mismatch }
@@ -220,24 +227,98 @@ fn insert_fork<K: AsBytes, V, const PREFIX_LEN: usize>(
         sibling,
     );
     let node = fork_node(arena, leaf, spot.node, spot.depth, mismatch);
-    Ok(hang(arena, root, spot.parent, spot.node, node))
+    Ok((hang(arena, root, spot.parent, spot.node, node), leaf))
 }
 
-// The result of an insert of new key bytes: the root, and no replaced entry.
+// The result of an insert of new key bytes: the root and the leaf, or the refused entry.
 fn newly_added<K, V, const PREFIX_LEN: usize>(
-    added: Result<OpaqueNodePtr<K, V, PREFIX_LEN>, (K, V)>,
-) -> Result<(OpaqueNodePtr<K, V, PREFIX_LEN>, Option<(K, V)>), InsertFault<K, V>>
-    ensures added { (root : _) → added ≡ Ok root → result ≡ Ok (root, None) }
+    added: Result<RootAndLeaf<K, V, PREFIX_LEN>, (K, V)>,
+) -> Result<RootAndLeaf<K, V, PREFIX_LEN>, InsertFault<K, V>>
+    ensures added { (at : _) → added ≡ Ok at → result ≡ Ok at }
     ensures refused { (key value : _) → added ≡ Err (key, value) →
         result ≡ Err (record { refusal = OutOfMemory; key = key; value = value }) }
 {
     match added {
-        Ok(root) => Ok((root, None)),
+        Ok(at) => Ok(at),
         Err((key, value)) => Err(InsertFault {
             refusal: InsertRefusal::OutOfMemory,
             key,
             value,
         }),
+    }
+}
+
+// The place of a key in the tree at the root, with the root, or None where there is no tree.
+#[inline(always)]
+fn place_in<K: AsBytes, V, const PREFIX_LEN: usize>(
+    arena: &NodeArena<K, V, PREFIX_LEN>,
+    root: Option<OpaqueNodePtr<K, V, PREFIX_LEN>>,
+    key: &[u8],
+) -> Option<(OpaqueNodePtr<K, V, PREFIX_LEN>, Place<K, V, PREFIX_LEN>)>
+    requires art { IsArt K.text arena.now root }
+    ensures root { option_map (λ found. found.0) result ≡ root }
+    ensures place { IfSome result (λ found.
+        EachTree K.text arena.now found.0 (λ tree. Belongs tree key.now found.1)) }
+{
+    match root {
+        Some(root) => Some((root, find_place(arena, root, key))),
+        None => None,
+    }
+}
+
+// The root and the leaf that has the key, where the place of the key is such a leaf.
+#[inline(always)]
+fn present<K, V, const PREFIX_LEN: usize>(
+    found: Option<(OpaqueNodePtr<K, V, PREFIX_LEN>, Place<K, V, PREFIX_LEN>)>,
+) -> Option<RootAndLeaf<K, V, PREFIX_LEN>>
+    ensures { result ≡ present_leaf found }
+{
+    match found {
+        Some((root, Place::Present(leaf))) => Some((root, leaf)),
+        _ => None,
+    }
+}
+
+// Adds an entry with new key bytes at their place, and returns the root and the leaf. A refused entry
+// is returned.
+#[inline(always)]
+fn insert_new<K: AsBytes, V, const PREFIX_LEN: usize>(
+    arena: &mut NodeArena<K, V, PREFIX_LEN>,
+    found: Option<(OpaqueNodePtr<K, V, PREFIX_LEN>, Place<K, V, PREFIX_LEN>)>,
+    key: K,
+    value: V,
+) -> Result<RootAndLeaf<K, V, PREFIX_LEN>, InsertFault<K, V>>
+    requires art { IsArt K.text arena.old (option_map (λ place. place.0) found) }
+    requires place { IfSome found (λ place.
+        EachTree K.text arena.old place.0 (λ tree. Belongs tree (K.text key) place.1)) }
+    requires new { present_leaf found ≡ None }
+    ensures { InsertsNew K.text arena.old arena.new (option_map (λ place. place.0) found) key value
+        result }
+{
+    no_text_begins_another::<OpaqueNodePtr<K, V, PREFIX_LEN>>();
+    if key.as_bytes().len() >= 1 << 32 {
+        return Err(InsertFault {
+            refusal: InsertRefusal::KeyTooLong,
+            key,
+            value,
+        });
+    }
+    let Some((root, place)) = found else {
+        return newly_added(insert_first(arena, key, value));
+    };
+    match place {
+        Place::Present(_) => unreachable!(),
+        Place::Extends(_) | Place::Begins { .. } => Err(InsertFault {
+            refusal: InsertRefusal::Prefix,
+            key,
+            value,
+        }),
+        Place::Absent { spot, byte } => newly_added(insert_child(
+            arena, root, spot, byte, key, value,
+        )),
+        Place::Differs { spot, mismatch } => newly_added(insert_fork(
+            arena, root, spot, mismatch, key, value,
+        )),
     }
 }
 
@@ -272,28 +353,46 @@ pub(crate) fn insert_entry<K: AsBytes, V, const PREFIX_LEN: usize>(
         (LacksRoomToInsert K.text arena.old root (K.text key)) }
 {
     no_text_begins_another::<OpaqueNodePtr<K, V, PREFIX_LEN>>();
-    if key.as_bytes().len() >= 1 << 32 {
-        return Err(InsertFault {
-            refusal: InsertRefusal::KeyTooLong,
-            key,
-            value,
-        });
+    let found = place_in(arena, root, key.as_bytes());
+    match present(found) {
+        Some((root, leaf)) => Ok((root, Some(replace_entry(arena, leaf, key, value)))),
+        None => match insert_new(arena, found, key, value) {
+            Ok((root, _)) => Ok((root, None)),
+            Err(fault) => Err(fault),
+        },
     }
-    let Some(root) = root else {
-        return newly_added(insert_first(arena, key, value));
-    };
-    match find_place(arena, root, key.as_bytes()) {
-        Place::Present(leaf) => Ok((root, Some(replace_entry(arena, leaf, key, value)))),
-        Place::Extends(_) | Place::Begins { .. } => Err(InsertFault {
-            refusal: InsertRefusal::Prefix,
-            key,
-            value,
-        }),
-        Place::Absent { spot, byte } => newly_added(insert_child(
-            arena, root, spot, byte, key, value,
-        )),
-        Place::Differs { spot, mismatch } => newly_added(insert_fork(
-            arena, root, spot, mismatch, key, value,
-        )),
+}
+
+/// Finds the leaf with a key in the tree that an arena holds, or adds one with the value that the
+/// closure makes, and returns the root and the leaf. A refused entry is returned.
+pub(crate) fn find_or_insert<K: AsBytes + Drop, V, const PREFIX_LEN: usize, F: FnOnce() -> V>(
+    arena: &mut NodeArena<K, V, PREFIX_LEN>,
+    root: Option<OpaqueNodePtr<K, V, PREFIX_LEN>>,
+    key: K,
+    make: F,
+) -> Result<RootAndLeaf<K, V, PREFIX_LEN>, InsertFault<K, V>>
+    requires art { IsArt K.text arena.old root }
+    requires callable { F.pre make }
+    ensures art { IfOk result (λ at. IsArt K.text arena.new (Some at.0)) }
+    ensures found { IfOk result
+        (λ at. FindsEntry K.text arena.old arena.new key (F.post make) (leaf_pointer at.1)) }
+    ensures is_key { K.is_key key }
+    ensures no_refusal { OnOk result (MayEnter K.text arena.old (K.text key)) }
+    ensures refusal_due { IfErr result
+        (λ fault. IsRefused K.text arena.old (K.text key) fault.refusal) }
+    ensures entry_back { IfErr result (λ fault. (fault.key ≡ key) × F.post make fault.value) }
+    ensures same_entries { OnErr result (SameEntries K.text arena.old arena.new) }
+    ensures nodes_kept { OnErr result (SameNodes arena.old arena.new) }
+    ensures no_room { IfErr result
+        (λ fault. fault.refusal ≡ OutOfMemory → (kind : _) ×
+        LacksRoomToInsert K.text arena.old root (K.text key) kind) }
+    ensures memory { GrowsOnlyWhere arena.old arena.new
+        (LacksRoomToInsert K.text arena.old root (K.text key)) }
+{
+    no_text_begins_another::<OpaqueNodePtr<K, V, PREFIX_LEN>>();
+    let found = place_in(arena, root, key.as_bytes());
+    match present(found) {
+        Some(at) => Ok(at),
+        None => insert_new(arena, found, key, make()),
     }
 }

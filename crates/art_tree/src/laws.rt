@@ -2,12 +2,12 @@
 //! work: the contract of each is a law.
 //!
 //! A context is a tree with one subtree left out. With a subtree in that place it is a tree.
-ghost use Rattle.std.specs.Prelude.{◌≡◌, ◌↔◌, ◌≤◌, ℕ, ◌++◌, [], List, All, Contains, Some, None, length, map};
+ghost use Rattle.std.specs.Prelude.{◌≡◌, ◌↔◌, ◌≤◌, ℕ, ◌+◌, ◌++◌, [], List, All, Contains, Some, None, length, map};
 ghost use Rattle.art_header.specs.declared.node_type.NodeType.{NodeType};
 ghost use Rattle.art_nodes.specs.Leaf.{leaf_key, leaf_value};
 ghost use Rattle.art_nodes.specs.Pointers.{node_kind};
 ghost use Rattle.art_nodes.specs.declared.pointers.OpaqueNodePtr.{OpaqueNodePtr as Pointer};
-ghost use Rattle.art_arena.specs.Arena.{NodeArena, HeldLeaf, held, leaf_count};
+ghost use Rattle.art_arena.specs.Arena.{NodeArena, HeldLeaf, held, leaf_count, SameCapacity, SameNodes};
 ghost use Rattle.art_arena.specs.Links.{AreDistinct, Spells};
 ghost use Rattle.art_arena.specs.Standing.{StandsIn};
 ghost use Rattle.art_arena.specs.Trees.{Tree, leaves, places, texts, IsSound, IsWellFormed, SameButPointers};
@@ -19,6 +19,7 @@ ghost use Rattle.art_tree.specs.Insertion.{ClashesIn};
 ghost use Rattle.art_tree.specs.Loading.{HasSmallestKinds, IsLoaded};
 ghost use Rattle.art_tree.specs.NodeCounts.{nodes_of};
 ghost use Rattle.art_tree.specs.Refusals.{texts_of};
+ghost use Rattle.art_tree.specs.Room.{HasRoomFor, LacksRoomToInsert, LacksRoomToRemove};
 ghost use Rattle.art_tree.specs.Search.{met};
 
 pub use art_arena::laws::{
@@ -203,4 +204,37 @@ pub fn entries_are_as_many_as_leaves<K: AsBytes, V, const PREFIX_LEN: usize>()
 {
     no_text_begins_another::<OpaqueNodePtr<K, V, PREFIX_LEN>>();
     texts_ascend::<OpaqueNodePtr<K, V, PREFIX_LEN>>();
+}
+
+/// Room for so many inserts and removals suffices for the next one of them, and after it there is room
+/// for one fewer: where none takes memory, whatever their keys.
+pub fn room_lasts<K: AsBytes, V, const PREFIX_LEN: usize>()
+    ensures enough_to_insert { (arena : NodeArena K V PREFIX_LEN) (root : _) (text : List ℕ)
+        (kind : NodeType) (count : ℕ) → IsArt K.text arena root → HasRoomFor arena (count + 1) →
+        ¬ LacksRoomToInsert K.text arena root text kind }
+    ensures enough_to_remove { (arena : NodeArena K V PREFIX_LEN) (root : _) (text : List ℕ)
+        (kind : NodeType) (count : ℕ) → IsArt K.text arena root → HasRoomFor arena (count + 1) →
+        ¬ LacksRoomToRemove K.text arena root text kind }
+    ensures inserted { (old new : NodeArena K V PREFIX_LEN) (root new_root : _) (text : List ℕ)
+        (count : ℕ) → IsArt K.text old root → IsArt K.text new new_root →
+        SameOtherEntries K.text old new text → SameCapacity old new → HasEntry K.text new text →
+        HasRoomFor old (count + 1) → HasRoomFor new count }
+    ensures removed { (old new : NodeArena K V PREFIX_LEN) (root new_root : _) (text : List ℕ)
+        (count : ℕ) → IsArt K.text old root → IsArt K.text new new_root →
+        SameOtherEntries K.text old new text → SameCapacity old new →
+        entry_at K.text new text ≡ None → HasRoomFor old (count + 1) → HasRoomFor new count }
+    ensures kept { (old new : NodeArena K V PREFIX_LEN) (root : _) (count : ℕ) →
+        IsArt K.text old root → SameNodes old new → SameCapacity old new →
+        HasRoomFor old (count + 1) → HasRoomFor new count }
+    ensures fewer { (arena : NodeArena K V PREFIX_LEN) (count : ℕ) → HasRoomFor arena (count + 1) →
+        HasRoomFor arena count }
+    ensures same_count { (old new : NodeArena K V PREFIX_LEN) (root : _) → IsArt K.text old root →
+        SameNodes old new → leaf_count new ≡ leaf_count old }
+{
+    no_text_begins_another::<OpaqueNodePtr<K, V, PREFIX_LEN>>();
+    each_pointer_is_at_one_place::<K, V, PREFIX_LEN>();
+    the_same_texts_have_the_same_nodes::<
+        OpaqueNodePtr<K, V, PREFIX_LEN>,
+        OpaqueNodePtr<K, V, PREFIX_LEN>,
+    >();
 }

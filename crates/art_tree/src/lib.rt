@@ -5,6 +5,7 @@
 //! crate that uses trees lists this one alone.
 #![tactic(auto)]
 
+mod faults;
 mod find;
 mod insert;
 pub mod laws;

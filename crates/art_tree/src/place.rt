@@ -1,17 +1,15 @@
 //! The place of a key in a tree, and the leaf beside it.
-ghost use Rattle.std.specs.Prelude.{◌≡◌, ◌≢◌, ◌<◌, ◌≤◌, ◌⊎◌, ℕ, List, Contains, length, drop, option_copied, true, nat_lt, if◌then◌else◌, IfSome, IfNone, IfOk, IfErr};
-ghost use Rattle.std.specs.Option.{option_map};
+ghost use Rattle.std.specs.Prelude.{◌≡◌, ◌≢◌, ◌<◌, ◌≤◌, ◌⊎◌, ℕ, List, [], Contains, length, drop, option_copied, true, nat_lt, if◌then◌else◌, IfSome, IfNone, IfOk, IfErr};
 ghost use Rattle.std.specs.declared.cmp.Ordering.TheVariants.{Equal, Greater};
-ghost use Rattle.std.specs.declared.ops.Bound.TheVariants.{Excluded, Unbounded};
-ghost use Rattle.art_nodes.specs.ChildMap.{first_pair, pairs_within};
 ghost use Rattle.art_nodes.specs.Inner.{Inner};
 ghost use Rattle.art_nodes.specs.Pointers.{slab_key};
 ghost use Rattle.art_arena.specs.Arena.{held, HeldInner, Nothing};
 ghost use Rattle.art_arena.specs.Links.{HoldsLeaf};
 ghost use Rattle.art_arena.specs.Standing.{TreeAt};
 ghost use Rattle.art_arena.specs.Trees.{branch_leaves, leaves, texts};
+ghost use Rattle.art_arena.specs.declared.ends.End.{End};
 ghost use Rattle.art_arena.specs.declared.ends.End.TheVariants.{First, Last};
-ghost use Rattle.art_tree.specs.Hanging.{HasPlaceAt, StandsBeside};
+ghost use Rattle.art_tree.specs.Hanging.{HasPlaceAt, IsChildBeside, StandsBeside, pairs_on};
 ghost use Rattle.art_tree.specs.Places.{Belongs, HasLeafText, IsDescentIn, IsPlaceIn, IsSpotIn, child_after, prefix_of, toward};
 ghost use Rattle.art_tree.specs.Search.{HasTree, EachTree, leaf_pointer};
 ghost use Rattle.art_tree.specs.Sides.{IsNextTo, comes_before, is_last};
@@ -20,7 +18,8 @@ ghost use Rattle.art_tree.specs.declared.place.Side.{Side};
 
 use art_arena::{End, NodeArena, any_leaf, end_leaf};
 use art_bytes::AsBytes;
-use art_nodes::{InnerNodeRead, LeafNode, NodePtr, OpaqueNodePtr, common_prefix_len};
+use art_nodes::{InnerNodeRead, LeafNode, NodePtr, NodeType, OpaqueNodePtr, common_prefix_len};
+use std::ops::Bound;
 
 /// A node of a tree: how many bytes lead to it, and its parent, with the byte.
 #[derive_where(Clone, Copy)]
@@ -390,24 +389,78 @@ fn find_places<K: AsBytes, V, const PREFIX_LEN: usize>(
     }
 }
 
-// The child under the least byte above this one of the inner node at the pointer. A leaf has none.
+// The child of a node under the least byte above this one, which is next to it with its first leaf.
 #[inline(always)]
-fn child_above<K, V, const PREFIX_LEN: usize>(
+fn child_above<K, V, const PREFIX_LEN: usize, N: InnerNodeRead<K, V, PREFIX_LEN>>(
+    node: &N,
+    byte: u8,
+) -> Option<(OpaqueNodePtr<K, V, PREFIX_LEN>, End)>
+    ensures child { IfSome result (λ (child, end).
+        IsChildBeside end (N.inner node.now).children byte child) }
+    ensures none { IfNone result (pairs_on First (N.inner node.now).children byte ≡ []) }
+{
+    let mut children = node.range(Bound::Excluded(byte), Bound::Unbounded);
+    let (_, child) = children.next()?;
+    Some((child, End::First))
+}
+
+// The child under the greatest byte below this one, which is next to it with its last leaf.
+#[inline(always)]
+fn child_below<K, V, const PREFIX_LEN: usize, N: InnerNodeRead<K, V, PREFIX_LEN>>(
+    node: &N,
+    byte: u8,
+) -> Option<(OpaqueNodePtr<K, V, PREFIX_LEN>, End)>
+    ensures child { IfSome result (λ (child, end).
+        IsChildBeside end (N.inner node.now).children byte child) }
+    ensures none { IfNone result (pairs_on Last (N.inner node.now).children byte ≡ []) }
+{
+    let mut children = node.range(Bound::Unbounded, Bound::Excluded(byte));
+    let (_, child) = children.next_back()?;
+    Some((child, End::Last))
+}
+
+// The child of a node that is next to a byte, above it or below it: a leaf where one of them is.
+#[inline(always)]
+fn child_beside_in<K, V, const PREFIX_LEN: usize, N: InnerNodeRead<K, V, PREFIX_LEN>>(
+    node: &N,
+    byte: u8,
+) -> Option<(OpaqueNodePtr<K, V, PREFIX_LEN>, End)>
+    ensures child { IfSome result (λ (child, end).
+        IsChildBeside end (N.inner node.now).children byte child) }
+    ensures none { IfNone result
+        ((end : End) → pairs_on end (N.inner node.now).children byte ≡ []) }
+{
+    let Some(above) = child_above(node, byte) else {
+        return child_below(node, byte);
+    };
+    if above.0.node_type() == NodeType::Leaf {
+        return Some(above);
+    }
+    match child_below(node, byte) {
+        Some(below) if below.0.node_type() == NodeType::Leaf => Some(below),
+        _ => Some(above),
+    }
+}
+
+// The same of the inner node at the pointer. A leaf has no children.
+#[inline(always)]
+fn child_beside<K, V, const PREFIX_LEN: usize>(
     arena: &NodeArena<K, V, PREFIX_LEN>,
     pointer: OpaqueNodePtr<K, V, PREFIX_LEN>,
     byte: u8,
-) -> Option<OpaqueNodePtr<K, V, PREFIX_LEN>>
+) -> Option<(OpaqueNodePtr<K, V, PREFIX_LEN>, End)>
     requires { held arena.now pointer ≢ Nothing }
-    ensures { (node : Inner _) → held arena.now pointer ≡ HeldInner node → result ≡ option_map
-        (λ pair. pair.1) (first_pair (pairs_within node.children (Excluded byte) Unbounded)) }
+    ensures child { (node : Inner _) → held arena.now pointer ≡ HeldInner node → IfSome result
+        (λ (child, end). IsChildBeside end node.children byte child) }
+    ensures none { (node : Inner _) → held arena.now pointer ≡ HeldInner node → IfNone result
+        ((end : End) → pairs_on end node.children byte ≡ []) }
 {
     let node = arena.node_ref(pointer).inner()?;
-    let (_, child) = node.child_above(byte)?;
-    Some(child)
+    child_beside_in(&node, byte)
 }
 
-/// The leaf beside the place of a child under the byte: the first one after it, or else the last one
-/// before it.
+/// The leaf beside the place of a child under the byte: the first one after it, or the last one before
+/// it. Goes down only where neither child beside the place is a leaf.
 #[inline(always)]
 pub(crate) fn leaf_beside_child<K: AsBytes, V, const PREFIX_LEN: usize>(
     arena: &NodeArena<K, V, PREFIX_LEN>,
@@ -419,10 +472,10 @@ pub(crate) fn leaf_beside_child<K: AsBytes, V, const PREFIX_LEN: usize>(
         (branch_leaves place.before) (branch_leaves place.after) (leaf_pointer result.0) }
     ensures held { HoldsLeaf arena.now (slab_key result.0) }
 {
-    match child_above(arena, pointer, byte) {
-        Some(child) => (end_leaf(arena, child, End::First), End::First),
-        None => (end_leaf(arena, pointer, End::Last), End::Last),
-    }
+    let Some((child, end)) = child_beside(arena, pointer, byte) else {
+        unreachable!()
+    };
+    (end_leaf(arena, child, end), end)
 }
 
 /// The end of the leaves below a node that is next to a key which differs from all of them.

@@ -1,5 +1,6 @@
 //! Removal: an entry is removed from a tree.
-ghost use Rattle.std.specs.Prelude.{◌≡◌, ◌≢◌, ◌≤◌, ◌++◌, ◌∷◌, ℕ, List, length, Some, None, IfOk, OnErr, IfSome, IfNone};
+ghost use Rattle.std.specs.Prelude.{◌≡◌, ◌≢◌, ◌≤◌, ◌++◌, ◌∷◌, ◌↔◌, ℕ, List, length, Some, None, IfOk, OnErr, IfSome, IfNone, IsTrue};
+ghost use Rattle.art_header.specs.NodeType.{least_children};
 ghost use Rattle.art_header.specs.declared.node_type.NodeType.TheVariants as kinds;
 ghost use Rattle.art_nodes.specs.Inner.{Inner};
 ghost use Rattle.art_nodes.specs.Leaf.{leaf_key, leaf_value};
@@ -8,13 +9,14 @@ ghost use Rattle.art_arena.specs.Arena.{held, HeldInner, HeldLeaf, Nothing, Same
 ghost use Rattle.art_arena.specs.Links.{Spells};
 ghost use Rattle.art_arena.specs.Trees.{Leaf as LeafTree};
 ghost use Rattle.art_tree.specs.Art.{IsAlone, IsArt};
+ghost use Rattle.art_tree.specs.Cuts.{TellsFewest};
 ghost use Rattle.art_tree.specs.Nodes.{FreesOne};
 ghost use Rattle.art_tree.specs.Dictionary.{entry_at, SameEntries};
-ghost use Rattle.art_tree.specs.Dropping.{IsLeafSpot};
+ghost use Rattle.art_tree.specs.Dropping.{IsAtPath, IsLeafSpot};
 ghost use Rattle.art_tree.specs.Edits.{StaysAt};
 ghost use Rattle.art_tree.specs.Removal.{IsLeft, IsRemoved, NeedsSmallerNode, RemovesEntry};
 ghost use Rattle.art_tree.specs.Room.{FreesOneEach, GrowsOnlyWhere, LacksRoomToRemove};
-ghost use Rattle.art_tree.specs.Search.{IsPathTo, leaf_pointer};
+ghost use Rattle.art_tree.specs.Search.{leaf_pointer};
 ghost use Rattle.art_tree.specs.declared.path.TreePath.TheVariants.{Root};
 
 pub(crate) mod end_removal;
@@ -29,7 +31,7 @@ use crate::path::TreePath;
 use crate::remove::removed_child::{join_prefix, other_child, reserve_shrink, take_child};
 use art_arena::{ArenaReader, LeafLinks, NodeArena};
 use art_bytes::AsBytes;
-use art_nodes::{LeafNode, NodePtr, OpaqueNodePtr};
+use art_nodes::{LeafNode, NodePtr, NodeType, OpaqueNodePtr};
 use std::alloc::AllocError;
 
 // The parent of a leaf, with the leaf's byte, and the grandparent, with the parent's byte, if the
@@ -46,7 +48,7 @@ fn leaf_spot<K, V, const PREFIX_LEN: usize>(
     path: TreePath<K, V, PREFIX_LEN>,
 ) -> Option<LeafSpot<K, V, PREFIX_LEN>>
     ensures root { IfNone result (path ≡ Root) }
-    ensures spot { IfSome result (λ spot. (tree leaf : _) → IsPathTo tree leaf path →
+    ensures spot { IfSome result (λ spot. (tree leaf : _) → IsAtPath tree leaf path →
         IsLeafSpot tree leaf spot) }
 {
     match path {
@@ -117,20 +119,22 @@ fn remove_from_many<K: AsBytes, V, const PREFIX_LEN: usize>(
     root: OpaqueNodePtr<K, V, PREFIX_LEN>,
     spot: LeafSpot<K, V, PREFIX_LEN>,
     leaf: NodePtr<PREFIX_LEN, LeafNode<K, V, PREFIX_LEN>>,
+    fewest: bool,
 ) -> Result<(OpaqueNodePtr<K, V, PREFIX_LEN>, (K, V)), AllocError>
     requires place { (tree : _) × IsAlone K.text arena.old root tree ×
         IsLeafSpot tree (leaf_pointer leaf) spot }
     requires many { (node : Inner _) → held arena.old spot.parent ≡ HeldInner node →
         length node.children ≢ 2 }
+    requires fewest { TellsFewest arena.old spot.parent fewest }
     ensures { (tree : _) → IsAlone K.text arena.old root tree →
         (hangs : IsLeafSpot tree (leaf_pointer leaf) spot) →
         RemovesEntry K.text arena.old arena.new root hangs.text result }
 {
     no_text_begins_another::<OpaqueNodePtr<K, V, PREFIX_LEN>>();
     each_pointer_is_at_one_place::<K, V, PREFIX_LEN>();
-    reserve_shrink(arena, spot.parent)?;
+    reserve_shrink(arena, spot.parent, fewest)?;
     let entry = take_leaf(arena, leaf);
-    let node = take_child(arena, spot.parent, spot.byte);
+    let node = take_child(arena, spot.parent, spot.byte, fewest);
     Ok((hang(arena, root, spot.above, spot.parent, node), entry))
 }
 
@@ -161,6 +165,13 @@ fn remove_from_two<K: AsBytes, V, const PREFIX_LEN: usize>(
     (hang(arena, root, spot.above, spot.parent, child), entry)
 }
 
+// Whether so many children are the fewest of an inner node of this kind.
+fn are_fewest(kind: NodeType, count: usize) -> bool
+    ensures { IsTrue result ↔ (count ≡ least_children kind) }
+{
+    count == *kind.capacity_range().start()
+}
+
 // Removes a leaf from its parent. Returns the root and the entry.
 fn remove_from<K: AsBytes, V, const PREFIX_LEN: usize>(
     arena: &mut NodeArena<K, V, PREFIX_LEN>,
@@ -174,11 +185,12 @@ fn remove_from<K: AsBytes, V, const PREFIX_LEN: usize>(
         (hangs : IsLeafSpot tree (leaf_pointer leaf) spot) →
         RemovesEntry K.text arena.old arena.new root hangs.text result }
 {
-    if num_children(arena, spot.parent) == 2 {
-        Ok(remove_from_two(arena, root, spot, leaf))
-    } else {
-        remove_from_many(arena, root, spot, leaf)
+    let count = num_children(arena, spot.parent);
+    if count == 2 {
+        return Ok(remove_from_two(arena, root, spot, leaf));
     }
+    let fewest = are_fewest(spot.parent.node_type(), count);
+    remove_from_many(arena, root, spot, leaf, fewest)
 }
 
 // Removes the leaf at the end of a path from the tree that an arena holds. Returns the root that is
@@ -190,7 +202,7 @@ fn remove_leaf<K: AsBytes, V, const PREFIX_LEN: usize>(
     path: TreePath<K, V, PREFIX_LEN>,
 ) -> Result<(Option<OpaqueNodePtr<K, V, PREFIX_LEN>>, (K, V)), AllocError>
     requires place { (tree : _) × IsAlone K.text arena.old root tree ×
-        IsPathTo tree (leaf_pointer leaf) path }
+        IsAtPath tree (leaf_pointer leaf) path }
     ensures removed { (node : _) → held arena.old (leaf_pointer leaf) ≡ HeldLeaf node →
         IfOk result (λ (root, entry). IsArt K.text arena.new root ×
         IsLeft K.text arena.old arena.new (K.text (leaf_key node)) ×

@@ -12,8 +12,10 @@ ghost use Rattle.art_tree.specs.Refusals.{texts_of, HaveNoFault, IsDue};
 mod changes;
 mod compacting;
 mod ends;
+mod getting;
 mod lending;
 mod reading;
+mod reserving;
 
 use crate::laws::{no_text_begins_another, texts_ascend};
 use crate::loading::{LoadFault, load};
@@ -168,6 +170,11 @@ impl<K: AsBytes, V, const PREFIX_LEN: usize> ArtTree<K, V, PREFIX_LEN> {
         ensures one_tree { IsArt K.text self.now.arena self.now.root }
     {
         self.root
+    }
+
+    /// The allocator of the nodes.
+    pub fn alloc(&self) -> Global {
+        self.alloc
     }
 
     /// The arena alone, with all nodes of the tree. Takes constant time and no memory.

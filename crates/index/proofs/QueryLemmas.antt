@@ -2,14 +2,12 @@
 use Rattle.std.proofs.Common.{◌≡◌, ◌≢◌, ◌∙◌, inl, inr, ℕ, ℤ, List, ◌∷◌, ◌++◌, sym, ap, subst, arith}
 use Rattle.std.specs.Prelude.{codes, Result, Ok, Err, OnErr}
 use Rattle.std.specs.declared.net.Ipv6Addr.{Ipv6Addr}
-use Rattle.program_lines.specs.Lines.{EndsInReturn, HasNo, IsCutAt}
+use Rattle.program_lines.specs.Lines.{HasNo, IsCutAt}
 use Rattle.program_lines.proofs.Cuts.{same_cut, cut_has_one}
-use Rattle.index.specs.declared.fault.Fault.{Fault}
-use Rattle.index.specs.declared.fault.Fault.TheVariants.{NoHeader, CarriageReturn, MissingField, BadAddress, BadTime, UnknownQuery}
 use Rattle.index.specs.declared.query.Query.{Query}
 use Rattle.index.specs.declared.query.Query.TheVariants.{Host, First, Last, Count}
 use Rattle.index.specs.Fields.{IsAddress, IsTime}
-use Rattle.index.specs.Queries.{AreBounds, AskFor, HasBounds, IsAskFault, IsQueryFault, SayHost}
+use Rattle.index.specs.Queries.{AreBounds, AskFor, HasBounds, SayHost}
 
 -- what is so anyway, is so of an error
 pub anyway : {X E : Type 0} {Q : Type 0} (result : Result X E) → Q → OnErr result Q
@@ -80,18 +78,3 @@ no_host_query line rest begins refused (Host address from to) (text, is, said) =
 no_host_query line rest begins refused First is = absurd (apart (sym begins ∙ is) (omega arith))
 no_host_query line rest begins refused Last is = absurd (apart (sym begins ∙ is) (omega arith))
 no_host_query line rest begins refused Count is = absurd (apart (sym begins ∙ is) (omega arith))
-
--- what is wrong with a line that asks for nothing is no carriage return
-no_return : (line : List ℕ) → IsAskFault line CarriageReturn → ⊥
-no_return line (inl (is, none)) = absurd (cc)
-no_return line (inr (text, begins, inl (none, (is, refused)))) = absurd (cc)
-no_return line (inr (text, begins, inr (host, bounds, cut, inl (is, refused)))) = absurd (cc)
-no_return line (inr (text, begins, inr (host, bounds, cut, inr never))) = never
-
-pub query_fault : (line : List ℕ) (fault : Fault) → (EndsInReturn line → ⊥) → IsAskFault line fault → IsQueryFault line fault
-query_fault line CarriageReturn whole is = absurd (no_return line is)
-query_fault line NoHeader whole is = (whole, is)
-query_fault line MissingField whole is = (whole, is)
-query_fault line BadAddress whole is = (whole, is)
-query_fault line BadTime whole is = (whole, is)
-query_fault line UnknownQuery whole is = (whole, is)

@@ -7,16 +7,18 @@ use Rattle.std.proofs.lemmas.List.Sums.{count_by-le-length}
 use Rattle.std.specs.Prelude.{Result, Ok, Err, IfErr}
 use Rattle.program_lines.specs.declared.failure.BadLine.{BadLine}
 use Rattle.program_lines.specs.declared.failure.Failure.{Failure}
-use Rattle.program_lines.specs.declared.failure.Failure.TheVariants.{BadLine as AtLine, OutOfMemory, NoFile, Device}
+use Rattle.program_lines.specs.declared.failure.Failure.TheVariants.{BadLine as AtLine, OutOfMemory, Device}
 use Rattle.program_lines.specs.declared.failure.Place.TheVariants.{File}
 use Rattle.program_lines.specs.Failures.{IfBadLine, IsLineFailure}
+use Rattle.program_lines.specs.Faults.{IsLineFault}
+use Rattle.program_lines.specs.declared.line_fault.LineFault.{LineFault}
 use Rattle.index.specs.declared.fault.Fault.{Fault}
 use Rattle.index.specs.declared.reading.Header.TheVariants.{Given, Absent}
 use Rattle.program_lines.specs.Lines.{HasNo, IsCutAt, IsFirstBad, line_at, lines_of, without_empty_last}
 use Rattle.program_lines.proofs.Cuts.{same_cut, cut_has_one}
 use Rattle.index.specs.declared.reading.Reading.{Reading}
 use Rattle.index.specs.Fields.{IsAddress, IsTime}
-use Rattle.index.specs.Readings.{AreRowLines, HasFields, IsBadRow, IsFirstBadRow, IsReadingFault, SayReading}
+use Rattle.index.specs.Readings.{AreRowLines, HasFields, IsBadRow, IsFieldFault, IsFirstBadRow, SayReading}
 
 pub no_comma : (line : List ℕ) → HasNo 44 line → (reading : Reading) → HasFields line reading → ⊥
 no_comma line none reading (address, time, value, is, no_first, no_other, is_address, is_time, kept) = cut_has_one 44 address (time ++ 44 ∷ value) (subst (HasNo 44) is none)
@@ -56,16 +58,14 @@ number_below Say bytes number (before, after, bad, items, is, counted, said, non
     omega (arith, size, length-append before (bad ∷ after), counted, many_lines bytes)
 
 -- the first bad row is a bad line of the file
-pub absent_bad : {X : Type 0} (file : List ℕ) (result : Result X (Failure Fault)) → IfErr result (IfBadLine (λ bad. (bad.place ≡ File) × IsFirstBad SayReading (lines_of file) bad.number)) → IfErr result (IsLineFailure (λ bad. IsReadingFault (line_at (lines_of file) bad.number) bad.fault)) → IfErr result (IfBadLine (IsBadRow Absent file))
+pub absent_bad : {X : Type 0} (file : List ℕ) (result : Result X (Failure (LineFault Fault))) → IfErr result (IfBadLine (λ bad. (bad.place ≡ File) × IsFirstBad SayReading (lines_of file) bad.number)) → IfErr result (IsLineFailure (λ bad. IsLineFault IsFieldFault (line_at (lines_of file) bad.number) bad.fault)) → IfErr result (IfBadLine (IsBadRow Absent file))
 absent_bad file (Ok x) first fault = tt
 absent_bad file (Err (AtLine bad)) first fault = let same : bad.number ≡ bad.number + 0 = omega arith in (first.0, inr (lines_of file, refl, (bad.number, same, first.1, fault)))
 absent_bad file (Err OutOfMemory) first fault = tt
-absent_bad file (Err NoFile) first fault = tt
 absent_bad file (Err Device) first fault = tt
 
-pub given_bad : {X : Type 0} (file rows : List ℕ) (result : Result X (Failure Fault)) → AreRowLines Given file (lines_of rows) → IfErr result (IfBadLine (λ bad. (bad.place ≡ File) × IsFirstBadRow 1 (lines_of rows) bad)) → IfErr result (IfBadLine (IsBadRow Given file))
+pub given_bad : {X : Type 0} (file rows : List ℕ) (result : Result X (Failure (LineFault Fault))) → AreRowLines Given file (lines_of rows) → IfErr result (IfBadLine (λ bad. (bad.place ≡ File) × IsFirstBadRow 1 (lines_of rows) bad)) → IfErr result (IfBadLine (IsBadRow Given file))
 given_bad file rows (Ok x) are first = tt
 given_bad file rows (Err (AtLine bad)) are first = (first.0, inr (lines_of rows, are, first.1))
 given_bad file rows (Err OutOfMemory) are first = tt
-given_bad file rows (Err NoFile) are first = tt
 given_bad file rows (Err Device) are first = tt

@@ -1,6 +1,6 @@
 -- What queries print.
 use Rattle.std.proofs.Common.{◌≡◌, ◌∙◌, ℕ, ◌-◌, ℤ, List, ◌++◌, length, filter, Option, Some, None, refl, sym, ap}
-use Rattle.std.specs.Prelude.{slice_get}
+use Rattle.std.specs.Prelude.{slice_get, Result, Ok, Err, IfOk, IfNone}
 use Rattle.std.specs.Borrow.{Bor}
 use Rattle.std.specs.Fmt.{decimal}
 use Rattle.std.specs.List.{flat_map}
@@ -12,7 +12,10 @@ use Rattle.program_lines.specs.Lines.{line}
 use Rattle.index.specs.declared.query.Query.{Query}
 use Rattle.index.specs.declared.query.Query.TheVariants.{Host, First, Last, Count}
 use Rattle.index.specs.declared.rows.Row.{Row}
-use Rattle.index.specs.Replies.{end_line, is_within, reply, row_line}
+use Rattle.index.specs.declared.reading.Header.{Header}
+use Rattle.index.specs.Keys.{IsTable}
+use Rattle.index.specs.Queries.{SayQuery}
+use Rattle.index.specs.Replies.{HasReply, end_line, is_within, reply, row_line}
 use Rattle.index.proofs.EntryLemmas.{values_of}
 
 module _ {K : Type 0} (entries : List (K × Row)) where
@@ -46,3 +49,10 @@ module _ {K : Type 0} (entries : List (K × Row)) where
 
     pub reply_count : (n : ℕ) → query ≡ Count → n ≡ length entries → longer ≡ output ++ line (decimal n) → longer ≡ output ++ reply (values_of entries) query
     reply_count n is many pushed = pushed ∙ ap (λ m. output ++ line (decimal m)) (many ∙ sym (length-map entries row_of)) ∙ ap (λ q. output ++ reply (values_of entries) q) (sym is)
+
+-- a reply to a line, by the file of the rows
+pub reply_said : {K E F : Type 0} (header : Header) (text : K → List ℕ) (entries : List (K × Row)) (given old new : List ℕ) (result : Result (Option F) E) → IfOk result (λ fault. IfNone fault ((query : Query) × SayQuery given query × (new ≡ old ++ reply (values_of entries) query)))
+    → IfOk result (λ fault. IfNone fault ((file : List ℕ) → IsTable text header file entries → (shown : List ℕ) × HasReply header file given shown × (new ≡ old ++ shown)))
+reply_said header text entries given old new (Err e) so = tt
+reply_said header text entries given old new (Ok (Some fault)) so = tt
+reply_said header text entries given old new (Ok None) (query, said, is) = λ file table. (reply (values_of entries) query, (table.0, values_of entries, query, table.1, table.2, said, refl), is)

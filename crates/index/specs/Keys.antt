@@ -1,5 +1,5 @@
 -- The keys of rows, and times. No public clause cites this.
-use Rattle.std.specs.Prelude.{◌≡◌, ℕ, ℤ, List, ◌++◌, All, FitsSigned}
+use Rattle.std.specs.Prelude.{◌≡◌, ℕ, ℤ, List, ◌++◌, All, FitsSigned, map}
 use Rattle.std.specs.Int.{w64}
 use Rattle.std.specs.Net.Addr.{ipv6_octets}
 use Rattle.std.specs.declared.net.Ipv6Addr.{Ipv6Addr}
@@ -7,9 +7,12 @@ use Rattle.art_mapped.specs.Addresses.{IsIpv6}
 use Rattle.art_mapped.specs.Numbers.{IsSigned, IsUnsigned, digits, signed_text}
 use Rattle.index.specs.declared.query.Query.{Query}
 use Rattle.index.specs.declared.query.Query.TheVariants.{Host, First, Last, Count}
+use Rattle.index.specs.declared.reading.Header.{Header}
 use Rattle.index.specs.declared.reading.Reading.{Reading}
 use Rattle.index.specs.declared.row_key.RowKey.{RowKey}
 use Rattle.index.specs.declared.rows.Row.{Row}
+use Rattle.index.specs.Replies.{AreReadings}
+use Rattle.index.specs.Rows.{IsIndex}
 
 -- the bytes of a key
 abbrev pub row_key_text : RowKey → List ℕ
@@ -40,3 +43,8 @@ HasTimes (Host address from to) = FitsSigned w64 from × FitsSigned w64 to
 HasTimes First = Unit {0}
 HasTimes Last = Unit {0}
 HasTimes Count = Unit {0}
+
+-- the entries are the rows of this table, each under its key
+abbrev pub IsTable : {K : Type 0} → (K → List ℕ) → Header → List ℕ → List (K × Row) → Type 0
+IsTable text header file entries =
+    (table : List Reading) × AreReadings header file table × IsIndex table (map (λ entry. entry.1) entries) × AreKeyed text entries

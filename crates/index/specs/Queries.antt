@@ -1,9 +1,9 @@
 -- What the lines of the input say.
 use Rattle.std.specs.Prelude.{◌≡◌, ◌≢◌, ◌⊎◌, ℕ, ◌-◌, ◌^◌, ℤ, pos, neg_ℤ, List, ◌∷◌, ◌++◌, codes}
 use Rattle.std.specs.declared.net.Ipv6Addr.{Ipv6Addr}
-use Rattle.program_lines.specs.Lines.{EndsInReturn, HasNo, IsCutAt}
+use Rattle.program_lines.specs.Lines.{HasNo, IsCutAt, SayLine}
 use Rattle.index.specs.declared.fault.Fault.{Fault}
-use Rattle.index.specs.declared.fault.Fault.TheVariants.{CarriageReturn, BadAddress, BadTime, UnknownQuery}
+use Rattle.index.specs.declared.fault.Fault.TheVariants.{BadAddress, BadTime, UnknownQuery}
 use Rattle.index.specs.declared.query.Query.{Query}
 use Rattle.index.specs.declared.query.Query.TheVariants.{Host, First, Last, Count}
 use Rattle.index.specs.Fields.{IsAddress, IsTime}
@@ -31,7 +31,7 @@ AskFor line Count = line ≡ codes "count"
 
 -- a line of the input is a query: it asks for something, and has no carriage return at its end
 abbrev pub SayQuery : List ℕ → Query → Type 0
-SayQuery line query = (¬ EndsInReturn line) × AskFor line query
+SayQuery = SayLine AskFor
 
 -- the text is no `from WORD to WORD`, or one of the words is no time
 abbrev pub IsBoundsFault : List ℕ → Fault → Type 0
@@ -59,8 +59,3 @@ HasNoWord line =
 abbrev pub IsAskFault : List ℕ → Fault → Type 0
 IsAskFault line fault =
     ((fault ≡ UnknownQuery) × HasNoWord line) ⊎ ((text : List ℕ) × (line ≡ codes "host " ++ text) × IsHostFault text fault)
-
--- what is wrong with a line that is no query
-abbrev pub IsQueryFault : List ℕ → Fault → Type 0
-IsQueryFault line CarriageReturn = EndsInReturn line
-IsQueryFault line fault = (¬ EndsInReturn line) × IsAskFault line fault

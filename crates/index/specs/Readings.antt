@@ -1,11 +1,14 @@
 -- What the lines of the table say.
 use Rattle.std.specs.Prelude.{◌≡◌, ◌⊎◌, ℕ, ℤ, ◌+◌, List, ◌∷◌, ◌++◌, codes}
 use Rattle.std.specs.declared.net.Ipv6Addr.{Ipv6Addr}
-use Rattle.program_lines.specs.Lines.{EndsInReturn, HasNo, IsCutAt, IsFirstBad, line_at, lines_of}
+use Rattle.program_lines.specs.Lines.{EndsInReturn, HasNo, IsCutAt, IsFirstBad, SayLine, line_at, lines_of}
+use Rattle.program_lines.specs.Faults.{IsLineFault}
 use Rattle.program_lines.specs.declared.failure.BadLine.{BadLine}
 use Rattle.program_lines.specs.declared.failure.Place.TheVariants.{File}
+use Rattle.program_lines.specs.declared.line_fault.LineFault.{LineFault}
+use Rattle.program_lines.specs.declared.line_fault.LineFault.TheVariants.{CarriageReturn, Other}
 use Rattle.index.specs.declared.fault.Fault.{Fault}
-use Rattle.index.specs.declared.fault.Fault.TheVariants.{NoHeader, CarriageReturn, MissingField, BadAddress, BadTime}
+use Rattle.index.specs.declared.fault.Fault.TheVariants.{NoHeader, MissingField, BadAddress, BadTime}
 use Rattle.index.specs.declared.reading.Header.{Header}
 use Rattle.index.specs.declared.reading.Header.TheVariants as headers
 use Rattle.index.specs.declared.reading.Reading.{Reading}
@@ -19,7 +22,7 @@ HasFields line reading =
 
 -- a line of the table is a reading: it has these fields, and no carriage return at its end
 abbrev pub SayReading : List ℕ → Reading → Type 0
-SayReading line reading = (¬ EndsInReturn line) × HasFields line reading
+SayReading = SayLine HasFields
 
 -- the line is no reading: it has fewer than two commas, what comes before the first is no address, or what
 -- comes before the second no time
@@ -29,11 +32,6 @@ IsFieldFault line BadAddress = (first rest : List ℕ) × IsCutAt 44 line first 
 IsFieldFault line BadTime =
     (first rest second value : List ℕ) × IsCutAt 44 line first rest × IsCutAt 44 rest second value × ((time : ℤ) → ¬ IsTime second time)
 IsFieldFault line _ = ⊥
-
--- what is wrong with a line that is no reading
-abbrev pub IsReadingFault : List ℕ → Fault → Type 0
-IsReadingFault line CarriageReturn = EndsInReturn line
-IsReadingFault line fault = (¬ EndsInReturn line) × IsFieldFault line fault
 
 -- the first line of a table
 abbrev pub header_line : List ℕ
@@ -50,18 +48,18 @@ lines_before headers.Given = 1
 lines_before headers.Absent = 0
 
 -- what is wrong with the first line, where it is to be the header
-abbrev pub IsHeaderFault : List ℕ → Fault → Type 0
+abbrev pub IsHeaderFault : List ℕ → LineFault Fault → Type 0
 IsHeaderFault file CarriageReturn = EndsInReturn (line_at (lines_of file) 1)
-IsHeaderFault file NoHeader = (¬ EndsInReturn (line_at (lines_of file) 1)) × ((rows : List (List ℕ)) → ¬ AreRowLines headers.Given file rows)
+IsHeaderFault file (Other NoHeader) = (¬ EndsInReturn (line_at (lines_of file) 1)) × ((rows : List (List ℕ)) → ¬ AreRowLines headers.Given file rows)
 IsHeaderFault file _ = ⊥
 
 -- this is the first of the rows that is no reading, by its number in a file where so many lines come before
-abbrev pub IsFirstBadRow : ℕ → List (List ℕ) → BadLine Fault → Type 0
+abbrev pub IsFirstBadRow : ℕ → List (List ℕ) → BadLine (LineFault Fault) → Type 0
 IsFirstBadRow before rows bad =
-    (number : ℕ) × (bad.number ≡ number + before) × IsFirstBad SayReading rows number × IsReadingFault (line_at rows number) bad.fault
+    (number : ℕ) × (bad.number ≡ number + before) × IsFirstBad SayReading rows number × IsLineFault IsFieldFault (line_at rows number) bad.fault
 
 -- the header is missing, or this is the first row that is no reading
-abbrev pub IsBadRow : Header → List ℕ → BadLine Fault → Type 0
+abbrev pub IsBadRow : Header → List ℕ → BadLine (LineFault Fault) → Type 0
 IsBadRow header file bad =
     (bad.place ≡ File)
     × (((header ≡ headers.Given) × (bad.number ≡ 1) × IsHeaderFault file bad.fault)

@@ -1,20 +1,20 @@
 -- The output for a table and queries, and which lines are bad.
-use Rattle.std.specs.Prelude.{◌≡◌, ◌⊎◌, ℕ, ◌-◌, ℤ, Bool, ◌&&◌, List, Option, None, Some, codes, filter, length, slice_get}
+use Rattle.std.specs.Prelude.{◌≡◌, ℕ, ◌-◌, ℤ, Bool, ◌&&◌, List, Option, None, Some, codes, filter, length, slice_get}
 use Rattle.std.specs.Fmt.{decimal}
 use Rattle.std.specs.List.{flat_map}
 use Rattle.std.specs.Ordering.{int_cmp, is_eq, is_le, is_ge}
 use Rattle.std.specs.declared.net.Ipv6Addr.{Ipv6Addr}
-use Rattle.program_lines.specs.Lines.{line, lines_of, line_at, SayAll, IsFirstBad}
-use Rattle.program_lines.specs.declared.failure.BadLine.{BadLine}
-use Rattle.program_lines.specs.declared.failure.Place.TheVariants.{Input}
+use Rattle.program_lines.specs.Lines.{line, SayAll}
+use Rattle.program_lines.specs.Faults.{IsLineFault}
+use Rattle.program_lines.specs.declared.line_fault.LineFault.{LineFault}
 use Rattle.index.specs.declared.fault.Fault.{Fault}
 use Rattle.index.specs.declared.query.Query.{Query}
 use Rattle.index.specs.declared.query.Query.TheVariants.{Host, First, Last, Count}
 use Rattle.index.specs.declared.reading.Header.{Header}
 use Rattle.index.specs.declared.reading.Reading.{Reading}
 use Rattle.index.specs.declared.rows.Row.{Row}
-use Rattle.index.specs.Readings.{AreRowLines, SayReading, IsBadRow}
-use Rattle.index.specs.Queries.{IsQueryFault, SayQuery}
+use Rattle.index.specs.Readings.{AreRowLines, SayReading}
+use Rattle.index.specs.Queries.{IsAskFault, SayQuery}
 use Rattle.index.specs.Rows.{address_order, IsIndex}
 
 -- whether a row is of this host, from the one time to the other
@@ -38,15 +38,16 @@ reply rows First = end_line (slice_get rows 0)
 reply rows Last = end_line (slice_get rows (length rows - 1))
 reply rows Count = line (decimal (length rows))
 
--- each row of the file is a reading and each line of the input a query, and the output is the
--- replies, one after another
-abbrev pub IsOutput : Header → List ℕ → List ℕ → List ℕ → Type 0
-IsOutput header file input output =
-    (lines : List (List ℕ)) × (table : List Reading) × (queries : List Query) × (rows : List Row) × AreRowLines header file lines
-    × SayAll SayReading lines table × SayAll SayQuery (lines_of input) queries × IsIndex table rows × (output ≡ flat_map (reply rows) queries)
+-- each row of the file is a reading
+abbrev pub AreReadings : Header → List ℕ → List Reading → Type 0
+AreReadings header file table = (lines : List (List ℕ)) × AreRowLines header file lines × SayAll SayReading lines table
 
--- this is the first bad line of the file, or the first line of the input that is no query
-abbrev pub IsBad : Header → List ℕ → List ℕ → BadLine Fault → Type 0
-IsBad header file input bad =
-    IsBadRow header file bad
-    ⊎ ((bad.place ≡ Input) × IsFirstBad SayQuery (lines_of input) bad.number × IsQueryFault (line_at (lines_of input) bad.number) bad.fault)
+-- a line of the input is a query, and this is the reply
+abbrev pub HasReply : Header → List ℕ → List ℕ → List ℕ → Type 0
+HasReply header file line text =
+    (table : List Reading) × (rows : List Row) × (query : Query) × AreReadings header file table × IsIndex table rows
+    × SayQuery line query × (text ≡ reply rows query)
+
+-- a line of the input is no query, and this is its fault
+abbrev pub HasFault : List ℕ → LineFault Fault → Type 0
+HasFault line fault = ((query : Query) → ¬ SayQuery line query) × IsLineFault IsAskFault line fault

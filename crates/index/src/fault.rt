@@ -6,8 +6,6 @@ use std::fmt;
 pub enum Fault {
     /// The first line of the table is not `address,time,value`.
     NoHeader,
-    /// The last byte of the line is a carriage return.
-    CarriageReturn,
     /// The line has fewer than three fields.
     MissingField,
     /// The host is no IPv4 or IPv6 address.
@@ -27,7 +25,6 @@ impl fmt::Display for Fault {
     fn fmt<W: fmt::Write>(&self, f: &mut fmt::Formatter<W>) -> fmt::Result {
         match self {
             Fault::NoHeader => write!(f, "no header"),
-            Fault::CarriageReturn => write!(f, "ends with a carriage return"),
             Fault::MissingField => write!(f, "missing field"),
             Fault::BadAddress => write!(f, "bad address"),
             Fault::BadTime => write!(f, "bad time"),

@@ -1,8 +1,8 @@
 //! The program `index`: reads a table of readings from a file, and answers queries on standard input by
 //! host and time.
 //!
-//! [`ReadingIndex`] is the whole program, as a [`Program`](program_lines::Program) over the bytes of the
-//! table and of the queries, and [`HeaderlessIndex`] that of a table without a header.
+//! `ReadingIndex` answers the lines of the input, as a [`Program`](program_lines::Program), and
+//! `HeaderlessIndex` those for a table without a header.
 #![tactic(auto)]
 
 mod fault;
@@ -14,9 +14,33 @@ mod row_key;
 mod rows;
 
 pub use fault::Fault;
-pub use replies::{HeaderlessIndex, ReadingIndex};
+use program_lines::Description;
+use replies::{HeaderlessIndex, ReadingIndex};
 use std::process::ExitCode;
 
+const DESCRIPTION: Description = Description {
+    program: "index",
+    flag: "--no-header",
+    usage: "usage: index [--no-header] FILE\n\
+        FILE is a table of readings: the header address,time,value, then a line ADDRESS,TIME,VALUE for\n\
+        each; with --no-header the first line is a reading too. Queries are lines of standard input:\n\
+        host ADDRESS                    the rows of this host, by time\n\
+        host ADDRESS from TIME to TIME  those from the one time to the other\n\
+        first                           the first row by address and time, or none\n\
+        last                            the last one, or none\n\
+        count                           how many rows there are\n",
+};
+
 fn main(rt: HostRuntime) -> ExitCode {
-    program_lines::start_with_flag::<ReadingIndex, HeaderlessIndex>(&rt, "--no-header")
+    match program_lines::requested(&rt, DESCRIPTION) {
+        Ok(request) if request.is_flagged => {
+            program_lines::answer::<HeaderlessIndex<'_>>(&rt, DESCRIPTION.program, &request)
+        }
+        Ok(request) => program_lines::answer::<ReadingIndex<'_>>(
+            &rt,
+            DESCRIPTION.program,
+            &request,
+        ),
+        Err(status) => ExitCode::from(status),
+    }
 }

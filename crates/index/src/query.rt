@@ -6,7 +6,7 @@ ghost use Rattle.index.specs.declared.query.Query.{Query};
 
 use crate::fault::Fault;
 use crate::fields::{address_of, time_of};
-use program_lines::{FromLine, ends_in_return, split_once};
+use program_lines::{FromLine, split_once};
 use std::net::Ipv6Addr;
 
 /// A query about the rows of the table.
@@ -24,21 +24,18 @@ pub enum Query {
 }
 
 impl<'a> FromLine<'a, Fault> for Query {
-    ghost use Rattle.index.specs.Queries.{IsQueryFault, SayQuery};
+    ghost use Rattle.index.specs.Queries.{AskFor, IsAskFault};
 
-    ghost says = { SayQuery };
+    ghost says = { AskFor };
 
-    ghost has_fault = { IsQueryFault };
+    ghost has_fault = { IsAskFault };
 
     fn from_line(line: &'a [u8]) -> Result<Query, Fault> {
-        if ends_in_return(line) {
-            return Err(Fault::CarriageReturn);
-        }
         query_of(line)
     }
 }
 
-// What a line asks for that has no carriage return at its end.
+// What a line asks for.
 fn query_of(line: &[u8]) -> Result<Query, Fault>
     ensures said { IfOk result (AskFor line.now) }
     ensures refused { OnErr result ((query : Query) → ¬ AskFor line.now query) }

@@ -10,7 +10,8 @@ ghost use Rattle.index.specs.declared.reading.Reading.{Reading};
 use crate::fault::Fault;
 use crate::fields::{address_of, time_of};
 use program_lines::{
-    BadLine, Failure, FromLine, Place, ends_in_return, first_line, said, split_once,
+    BadLine, Failure, FromLine, LineFault, Place, ends_in_return, first_line, said_whole,
+    split_once,
 };
 use std::alloc::Global;
 use std::net::Ipv6Addr;
@@ -36,21 +37,18 @@ pub struct Reading<'a> {
 }
 
 impl<'a> FromLine<'a, Fault> for Reading<'a> {
-    ghost use Rattle.index.specs.Readings.{IsReadingFault, SayReading};
+    ghost use Rattle.index.specs.Readings.{HasFields, IsFieldFault};
 
-    ghost says = { SayReading };
+    ghost says = { HasFields };
 
-    ghost has_fault = { IsReadingFault };
+    ghost has_fault = { IsFieldFault };
 
     fn from_line(line: &'a [u8]) -> Result<Reading<'a>, Fault> {
-        if ends_in_return(line) {
-            return Err(Fault::CarriageReturn);
-        }
         reading_of(line)
     }
 }
 
-// The reading of a line that has no carriage return at its end.
+// The reading of a line.
 fn reading_of(line: &[u8]) -> Result<Reading<'_>, Fault>
     ensures said { IfOk result (HasFields line.now) }
     ensures refused { OnErr result ((reading : Reading) → ¬ HasFields line.now reading) }
@@ -78,13 +76,13 @@ pub(crate) fn table_of(
     alloc: Global,
     header: Header,
     file: &[u8],
-) -> Result<Vec<Reading<'_>>, Failure<Fault>>
+) -> Result<Vec<Reading<'_>>, Failure<LineFault<Fault>>>
     ensures all { IfOk result (λ table. (rows : List (List ℕ))
         × AreRowLines header file.now rows × SayAll SayReading rows table.items) }
     ensures first_bad { IfErr result (IfBadLine (IsBadRow header file.now)) }
 {
     match header {
-        Header::Absent => said(alloc, Place::File, file),
+        Header::Absent => said_whole(alloc, Place::File, file),
         Header::Given => match rows_of(file) {
             Ok(rows) => rows_after_header(alloc, rows),
             Err(fault) => Err(Failure::BadLine(BadLine {
@@ -97,30 +95,33 @@ pub(crate) fn table_of(
 }
 
 // What comes after the header of a table.
-fn rows_of(file: &[u8]) -> Result<&[u8], Fault>
+fn rows_of(file: &[u8]) -> Result<&[u8], LineFault<Fault>>
     ensures rows { IfOk result (λ rows. AreRowLines Given file.now (lines_of rows.now)) }
     ensures fault { IfErr result (IsHeaderFault file.now) }
 {
     if file.is_empty() {
-        return Err(Fault::NoHeader);
+        return Err(LineFault::Other(Fault::NoHeader));
     }
     let (line, rows) = first_line(file);
     if ends_in_return(line) {
-        return Err(Fault::CarriageReturn);
+        return Err(LineFault::CarriageReturn);
     }
     if line != b"address,time,value".as_slice() {
-        return Err(Fault::NoHeader);
+        return Err(LineFault::Other(Fault::NoHeader));
     }
     Ok(rows)
 }
 
 // The readings of the rows that come after the header. A bad line is numbered in the file.
-fn rows_after_header(alloc: Global, rows: &[u8]) -> Result<Vec<Reading<'_>>, Failure<Fault>>
+fn rows_after_header(
+    alloc: Global,
+    rows: &[u8],
+) -> Result<Vec<Reading<'_>>, Failure<LineFault<Fault>>>
     ensures all { IfOk result (λ table. SayAll SayReading (lines_of rows.now) table.items) }
     ensures first_bad { IfErr result (IfBadLine (λ bad.
         (bad.place ≡ File) × IsFirstBadRow 1 (lines_of rows.now) bad)) }
 {
-    match said(alloc, Place::File, rows) {
+    match said_whole(alloc, Place::File, rows) {
         Ok(table) => Ok(table),
         Err(Failure::BadLine(bad)) => Err(Failure::BadLine(BadLine {
             place: bad.place,

@@ -1,10 +1,13 @@
 //! The replies to queries.
-ghost use Rattle.std.specs.Prelude.{◌≡◌, ◌++◌, All, IfErr, IfOk, OnOk, map};
+ghost use Rattle.std.specs.Prelude.{◌≡◌, ◌++◌, IfErr, IfNone, IfOk, IfSome, OnOk, map};
 ghost use Rattle.std.specs.List.{flat_map};
 ghost use Rattle.std.specs.Option.{option_map};
-ghost use Rattle.index.specs.Keys.{AreKeyed, HasTimes, row_key_text};
+ghost use Rattle.index.specs.Keys.{AreKeyed, HasTimes, IsTable, row_key_text};
 ghost use Rattle.program_lines.specs.Failures.{IfBadLine};
-ghost use Rattle.index.specs.Replies.{IsBad, IsOutput, end_line, reply, row_line};
+ghost use Rattle.index.specs.Queries.{SayQuery};
+ghost use Rattle.index.specs.Readings.{IsBadRow};
+ghost use Rattle.index.specs.Replies.{HasFault, end_line, reply, row_line};
+ghost use Rattle.index.specs.declared.query.Query.{Query};
 
 use crate::fault::Fault;
 use crate::query::Query;
@@ -12,97 +15,131 @@ use crate::reading::{Header, table_of};
 use crate::row_key::RowKey;
 use crate::rows::{Row, RowMap, index_of};
 use art_map::{DEFAULT_PREFIX_LEN, Iter};
-use program_lines::{Failure, Place, Program, push_line, push_number, said};
+use program_lines::{Failure, LineFault, Program, item_of, push_line, push_number};
 use std::alloc::{AllocError, Global};
 use std::ops::Bound;
 
-/// The program, over the bytes of a table with a header and of the queries.
-pub struct ReadingIndex;
+/// The rows of a table with a header, which answer queries.
+#[derive(Drop)]
+pub(crate) struct ReadingIndex<'a> {
+    rows: RowMap<'a>,
+}
 
-impl Program for ReadingIndex {
-    ghost use Rattle.index.specs.Replies.{IsOutput, IsBad};
+impl<'a> Program<'a> for ReadingIndex<'a> {
+    ghost use Rattle.std.specs.Prelude.{◌≡◌, []};
+    ghost use Rattle.index.specs.Keys.{IsTable, row_key_text};
+    ghost use Rattle.index.specs.Readings.{IsBadRow};
+    ghost use Rattle.index.specs.Replies.{HasReply, HasFault};
     ghost use Rattle.index.specs.declared.reading.Header.TheVariants.{Given};
 
     type Fault = Fault;
 
-    ghost is_output = { IsOutput Given };
+    ghost is_table = { λ file index. IsTable row_key_text Given file index.rows };
 
-    ghost is_bad = { IsBad Given };
+    ghost is_heading = { λ file heading. heading ≡ [] };
 
-    fn usage() -> &'static str {
-        USAGE
+    ghost is_reply = { HasReply Given };
+
+    ghost is_bad = { IsBadRow Given };
+
+    ghost has_fault = { HasFault };
+
+    fn load(
+        alloc: Global,
+        file: &'a [u8],
+        _output: &mut Vec<u8>,
+    ) -> Result<ReadingIndex<'a>, Failure<LineFault<Fault>>> {
+        let rows = rows_of_table(alloc, Header::Given, file)?;
+        Ok(ReadingIndex { rows })
     }
 
-    fn answer(alloc: Global, file: &[u8], input: &[u8]) -> Result<Vec<u8>, Failure<Fault>> {
-        answer(alloc, Header::Given, file, input)
+    fn push_reply(
+        &self,
+        alloc: Global,
+        line: &[u8],
+        output: &mut Vec<u8>,
+    ) -> Result<Option<LineFault<Fault>>, AllocError> {
+        answer_line(alloc, &self.rows, line, output)
     }
 }
 
-/// The program, over the bytes of a table without a header and of the queries.
-pub struct HeaderlessIndex;
+/// The rows of a table without a header, which answer queries.
+#[derive(Drop)]
+pub(crate) struct HeaderlessIndex<'a> {
+    rows: RowMap<'a>,
+}
 
-impl Program for HeaderlessIndex {
-    ghost use Rattle.index.specs.Replies.{IsOutput, IsBad};
+impl<'a> Program<'a> for HeaderlessIndex<'a> {
+    ghost use Rattle.std.specs.Prelude.{◌≡◌, []};
+    ghost use Rattle.index.specs.Keys.{IsTable, row_key_text};
+    ghost use Rattle.index.specs.Readings.{IsBadRow};
+    ghost use Rattle.index.specs.Replies.{HasReply, HasFault};
     ghost use Rattle.index.specs.declared.reading.Header.TheVariants.{Absent};
 
     type Fault = Fault;
 
-    ghost is_output = { IsOutput Absent };
+    ghost is_table = { λ file index. IsTable row_key_text Absent file index.rows };
 
-    ghost is_bad = { IsBad Absent };
+    ghost is_heading = { λ file heading. heading ≡ [] };
 
-    fn usage() -> &'static str {
-        USAGE
+    ghost is_reply = { HasReply Absent };
+
+    ghost is_bad = { IsBadRow Absent };
+
+    ghost has_fault = { HasFault };
+
+    fn load(
+        alloc: Global,
+        file: &'a [u8],
+        _output: &mut Vec<u8>,
+    ) -> Result<HeaderlessIndex<'a>, Failure<LineFault<Fault>>> {
+        let rows = rows_of_table(alloc, Header::Absent, file)?;
+        Ok(HeaderlessIndex { rows })
     }
 
-    fn answer(alloc: Global, file: &[u8], input: &[u8]) -> Result<Vec<u8>, Failure<Fault>> {
-        answer(alloc, Header::Absent, file, input)
+    fn push_reply(
+        &self,
+        alloc: Global,
+        line: &[u8],
+        output: &mut Vec<u8>,
+    ) -> Result<Option<LineFault<Fault>>, AllocError> {
+        answer_line(alloc, &self.rows, line, output)
     }
 }
 
-const USAGE: &str = "usage: index [--no-header] FILE\n\
-    FILE is a table of readings: the header address,time,value, then a line ADDRESS,TIME,VALUE for\n\
-    each; with --no-header the first line is a reading too. Queries are lines of standard input:\n\
-    host ADDRESS                    the rows of this host, by time\n\
-    host ADDRESS from TIME to TIME  those from the one time to the other\n\
-    first                           the first row by address and time, or none\n\
-    last                            the last one, or none\n\
-    count                           how many rows there are\n";
-
-// The whole output.
-fn answer(
+// The rows of a table, in order.
+fn rows_of_table(
     alloc: Global,
     header: Header,
     file: &[u8],
-    input: &[u8],
-) -> Result<Vec<u8>, Failure<Fault>>
-    ensures output { IfOk result (λ output. IsOutput header file.now input.now output.items) }
-    ensures refused { IfErr result (IfBadLine (IsBad header file.now input.now)) }
+) -> Result<RowMap<'_>, Failure<LineFault<Fault>>>
+    ensures table { IfOk result (IsTable row_key_text header file.now) }
+    ensures refused { IfErr result (IfBadLine (IsBadRow header file.now)) }
 {
     let table = table_of(alloc, header, file)?;
-    let queries: Vec<Query> = said(alloc, Place::Input, input)?;
-    let index = index_of(alloc, &table)?;
-    let mut output = Vec::new(alloc);
-    push_replies(alloc, &index, &queries, &mut output)?;
-    Ok(output)
+    let rows = index_of(alloc, &table)?;
+    Ok(rows)
 }
 
-// Appends what the queries print, one after another.
-fn push_replies(
+// Appends the reply to a line, or returns what is wrong with it.
+fn answer_line(
     alloc: Global,
-    index: &RowMap<'_>,
-    queries: &[Query],
+    rows: &RowMap<'_>,
+    line: &[u8],
     output: &mut Vec<u8>,
-) -> Result<(), AllocError>
-    requires keyed { AreKeyed row_key_text index.now }
-    requires times { All HasTimes queries.now }
-    ensures { OnOk result (output.new.items ≡ output.old.items
-        ++ flat_map (reply (map (λ entry. entry.1) index.now)) queries.now) }
+) -> Result<Option<LineFault<Fault>>, AllocError>
+    requires keyed { AreKeyed row_key_text rows.now }
+    ensures reply { IfOk result (λ fault. IfNone fault ((query : Query) × SayQuery line.now query
+        × (output.new.items ≡ output.old.items ++ reply (map (λ entry. entry.1) rows.now) query))) }
+    ensures fault { IfOk result (λ fault. IfSome fault (λ this.
+        HasFault line.now this × (output.new.items ≡ output.old.items))) }
 {
-    for query in queries {
-        push_reply(alloc, index, query, output)?;
-    }
-    Ok(())
+    let query: Query = match item_of(line) {
+        Ok(query) => query,
+        Err(fault) => return Ok(Some(fault)),
+    };
+    push_reply(alloc, rows, &query, output)?;
+    Ok(None)
 }
 
 // Appends what a query prints.

@@ -3,5 +3,6 @@ pub mod Replies
 mod Parts
 mod Writes
 pub mod SaidLines
-mod Runs
+mod Throughs
+mod AnswerLemmas
 mod NumberLemmas

@@ -27,7 +27,7 @@ module _ (c : ℕ) (bytes : List ℕ) where
       let within : position_or_len (λ b. b == c) bytes < length bytes = omega arith in
       rw (rest_whole (i + 1) bytes, ← first) (slice_split_first (λ b. b == c) bytes 0 within)
 
-last_kept : (part : List ℕ) (parts : List (List ℕ)) → 0 < length parts → without_empty_last (part ∷ parts) ≡ part ∷ without_empty_last parts
+pub last_kept : (part : List ℕ) (parts : List (List ℕ)) → 0 < length parts → without_empty_last (part ∷ parts) ≡ part ∷ without_empty_last parts
 last_kept part [] some = absurd (omega arith)
 last_kept [] (next ∷ parts) some = refl
 last_kept (b ∷ part) (next ∷ parts) some = refl

@@ -4,7 +4,7 @@ use Rattle.std.proofs.lemmas.List.{length-append}
 use Rattle.program_lines.specs.Lines.{lines_of, line_at, SayAll, IsFirstBad}
 
 -- the element after so many
-get_or-after : {X : Type 0} (before after : List X) (x d : X) → get_or (before ++ x ∷ after) (length before) d ≡ x
+pub get_or-after : {X : Type 0} (before after : List X) (x d : X) → get_or (before ++ x ∷ after) (length before) d ≡ x
 get_or-after [] after x d = refl
 get_or-after (y ∷ before) after x d = get_or-after before after x d
 

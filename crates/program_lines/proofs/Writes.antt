@@ -24,7 +24,7 @@ module _ (old now new : Option (List ℕ)) (text : List ℕ) (done : ℕ) (wrote
       Appends-kept old now new text whole kept
 
 -- the whole is a beginning
-a_beginning : {T E : Type 0} (old new : Option (List ℕ)) (text : List ℕ) (result : Result T E) → OnOk result (Appends old new text) → OnErr result (AppendsBeginning old new text) → AppendsBeginning old new text
+pub a_beginning : {T E : Type 0} (old new : Option (List ℕ)) (text : List ℕ) (result : Result T E) → OnOk result (Appends old new text) → OnErr result (AppendsBeginning old new text) → AppendsBeginning old new text
 a_beginning old new text (Ok value) whole beginning = (length text, rw take-length whole)
 a_beginning old new text (Err error) whole beginning = beginning
 
@@ -34,4 +34,12 @@ line_told contents None empty full bytes old new result none wrote same whole be
 line_told contents (Some text) empty full bytes old new result none wrote same whole beginning =
     let held : contents full ≡ contents empty ++ line text = contents_after_writes (λ b more b'. contents b' ≡ contents b ++ more) contents (λ _ _ _ h. h) empty (line text) full wrote in
     let out : bytes ≡ line text = same ∙ held ∙ ap (λ start. start ++ line text) none in
+    subst (AppendsBeginning old new) out (a_beginning old new bytes result whole beginning)
+
+-- a text that was put into an empty vector is written, or its first part is
+pub told_begun : {T E : Type 0} (shown : Option (List ℕ)) (f : List ℕ → List ℕ) (empty told bytes : List ℕ) (old new : Option (List ℕ)) (result : Result T E) → empty ≡ [] → IfSome shown (λ text. told ≡ empty ++ f text) → bytes ≡ told → OnOk result (Appends old new bytes) → OnErr result (AppendsBeginning old new bytes)
+    → IfSome shown (λ text. AppendsBeginning old new (f text))
+told_begun None f empty told bytes old new result none is same whole beginning = tt
+told_begun (Some text) f empty told bytes old new result none is same whole beginning =
+    let out : bytes ≡ f text = same ∙ is ∙ ap (λ start. start ++ f text) none in
     subst (AppendsBeginning old new) out (a_beginning old new bytes result whole beginning)

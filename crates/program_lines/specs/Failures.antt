@@ -2,15 +2,14 @@
 use Rattle.std.specs.Prelude.{ℕ, List, [], ◌++◌, Option, Some, option_map, codes}
 use Rattle.std.specs.Fmt.{decimal}
 use Rattle.program_lines.specs.declared.failure.Place.{Place}
-use Rattle.program_lines.specs.declared.failure.Place.TheVariants.{File, Input, OnlyInput}
+use Rattle.program_lines.specs.declared.failure.Place.TheVariants.{File, OnlyInput}
 use Rattle.program_lines.specs.declared.failure.BadLine.{BadLine}
 use Rattle.program_lines.specs.declared.failure.Failure.{Failure}
-use Rattle.program_lines.specs.declared.failure.Failure.TheVariants.{BadLine as AtLine, OutOfMemory, NoFile, Device}
+use Rattle.program_lines.specs.declared.failure.Failure.TheVariants.{BadLine as AtLine, OutOfMemory, Device}
 
 -- the name of a place, where a failure's line names it
 abbrev pub place_text : Place → List ℕ
 place_text File = codes "file "
-place_text Input = codes "input "
 place_text OnlyInput = []
 
 module _ {F : Type 0} where
@@ -18,28 +17,24 @@ module _ {F : Type 0} where
   abbrev pub status_of : Failure F → ℕ
   status_of (AtLine bad) = 2
   status_of OutOfMemory = 1
-  status_of NoFile = 1
   status_of Device = 1
 
   -- this holds of the line, where the failure is one of a line
   abbrev pub IfBadLine : (BadLine F → Type 0) → Failure F → Type 0
   IfBadLine P (AtLine bad) = P bad
   IfBadLine P OutOfMemory = Unit {0}
-  IfBadLine P NoFile = Unit {0}
   IfBadLine P Device = Unit {0}
 
   -- the failure is one of a line, of which this holds, or one of memory
   abbrev pub IsLineFailure : (BadLine F → Type 0) → Failure F → Type 0
   IsLineFailure P (AtLine bad) = P bad
   IsLineFailure P OutOfMemory = Unit {0}
-  IsLineFailure P NoFile = ⊥
   IsLineFailure P Device = ⊥
 
   -- why a run ends without its output, by the text of a line's fault
   abbrev pub failure_text : (F → List ℕ) → Failure F → List ℕ
   failure_text fault_text (AtLine bad) = place_text bad.place ++ codes "line " ++ decimal bad.number ++ codes ": " ++ fault_text bad.fault
   failure_text fault_text OutOfMemory = codes "out of memory"
-  failure_text fault_text NoFile = codes "file cannot be read"
   failure_text fault_text Device = codes "device failed"
 
   -- the same, where the fault's text may be unknown

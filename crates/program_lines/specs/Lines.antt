@@ -20,6 +20,10 @@ line_at lines number = slice_index_or lines (number - 1) []
 abbrev pub EndsInReturn : List ℕ → Type 0
 EndsInReturn line = slice_get line (length line - 1) ≡ Some 13
 
+-- the line has no carriage return at its end, and says the item
+abbrev pub SayLine : {C : Type 0} → (List ℕ → C → Type 0) → List ℕ → C → Type 0
+SayLine Say line item = (¬ EndsInReturn line) × Say line item
+
 -- a line of the output is its bytes and byte 10
 abbrev pub line : List ℕ → List ℕ
 line text = text ++ 10 ∷ []

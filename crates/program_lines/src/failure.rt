@@ -12,8 +12,6 @@ use std::{fmt, io};
 pub enum Place {
     /// The file that the program is given.
     File,
-    /// Standard input, beside a file.
-    Input,
     /// Standard input, where the program reads nothing else: a failure's line does not name it.
     OnlyInput,
 }
@@ -27,7 +25,6 @@ impl Display for Place {
     fn fmt<W: fmt::Write>(&self, f: &mut fmt::Formatter<W>) -> fmt::Result {
         match self {
             Place::File => write!(f, "file "),
-            Place::Input => write!(f, "input "),
             Place::OnlyInput => Ok(()),
         }
     }
@@ -51,23 +48,20 @@ pub enum Failure<F> {
     BadLine(BadLine<F>),
     /// An allocation failed.
     OutOfMemory,
-    /// The file cannot be read.
-    NoFile,
-    /// Another read or a write failed.
+    /// A read or a write failed.
     Device,
 }
 
 impl<F> Failure<F> {
     ghost use Rattle.program_lines.specs.Failures.{status_of};
 
-    /// The exit status: 2 for a bad line, 1 for an allocation failure, a file that cannot be read or a
-    /// failed device.
+    /// The exit status: 2 for a bad line, 1 for an allocation failure or a failed device.
     pub fn status(&self) -> u8
         ensures { result ≡ status_of self.now }
     {
         match self {
             Failure::BadLine(_) => 2,
-            Failure::OutOfMemory | Failure::NoFile | Failure::Device => 1,
+            Failure::OutOfMemory | Failure::Device => 1,
         }
     }
 }
@@ -99,7 +93,6 @@ impl<F: Display> Display for Failure<F> {
         match self {
             Failure::BadLine(bad) => write!(f, "{}line {}: {}", bad.place, bad.number, bad.fault),
             Failure::OutOfMemory => write!(f, "out of memory"),
-            Failure::NoFile => write!(f, "file cannot be read"),
             Failure::Device => write!(f, "device failed"),
         }
     }

@@ -4,15 +4,21 @@
 #![tactic(auto)]
 
 mod failure;
+mod line_fault;
 mod lines;
+mod message;
 mod numbers;
 mod process;
 mod program;
+mod session;
+mod stop;
 mod writing;
 
 pub use failure::{BadLine, Failure, Place};
-pub use lines::{FromLine, ends_in_return, first_line, said, split_once};
+pub use line_fault::LineFault;
+pub use lines::{FromLine, ends_in_return, first_line, item_of, said, said_whole, split_once};
+pub use message::Names;
 pub use numbers::number_of;
-pub use process::{start, start_with_flag, words_after_name};
+pub use process::{Description, Request, answer, requested, words_after_name};
 pub use program::{Outcome, Program, run, run_in_memory};
 pub use writing::{push_line, push_number, write_line, write_out};

@@ -1,12 +1,14 @@
 //! Lines of bytes, and what they say.
-ghost use Rattle.std.specs.Prelude.{◌≡◌, ◌==◌, ◌<◌, ◌↔◌, ◌∷◌, length, position, IfOk, IfErr, IfSome, IfNone, IsTrue};
-ghost use Rattle.program_lines.specs.Lines.{lines_of, line_at, SayAll, IsFirstBad, IsCutAt, HasNo, EndsInReturn};
+ghost use Rattle.std.specs.Prelude.{◌≡◌, ◌==◌, ◌<◌, ◌↔◌, ◌∷◌, drop, length, position, IfOk, IfErr, OnErr, IfSome, IfNone, IsTrue};
+ghost use Rattle.program_lines.specs.Lines.{lines_of, line_at, SayAll, SayLine, IsFirstBad, IsCutAt, HasNo, EndsInReturn};
 ghost use Rattle.program_lines.specs.Failures.{IfBadLine, IsLineFailure};
+ghost use Rattle.program_lines.specs.Faults.{IsLineFault};
 
 use crate::failure::{BadLine, Failure, Place};
+use crate::line_fault::LineFault;
 use std::alloc::Global;
 
-/// What one line says. A line that says nothing has a fault.
+/// What one line says that has no carriage return at its end. A line that says nothing has a fault.
 pub trait FromLine<'a, Fault>: Sized {
     ghost use Rattle.std.specs.Prelude.{ℕ, List, IfOk, IfErr, OnErr};
 
@@ -25,6 +27,25 @@ pub trait FromLine<'a, Fault>: Sized {
         ensures fault { IfErr result (has_fault line.now) };
 }
 
+/// What a line says, without the byte that ends it.
+///
+/// Refuses a line that ends with a carriage return, and one that says nothing.
+pub fn item_of<'a, Fault: Copy, T: FromLine<'a, Fault>>(
+    line: &'a [u8],
+) -> Result<T, LineFault<Fault>>
+    ensures said { IfOk result (SayLine T.says line.now) }
+    ensures refused { OnErr result ((item : T) → ¬ SayLine T.says line.now item) }
+    ensures fault { IfErr result (IsLineFault T.has_fault line.now) }
+{
+    if ends_in_return(line) {
+        return Err(LineFault::CarriageReturn);
+    }
+    match T::from_line(line) {
+        Ok(item) => Ok(item),
+        Err(fault) => Err(LineFault::Other(fault)),
+    }
+}
+
 /// What the lines say, one item a line. A line ends at byte 10, and a last line without one counts
 /// where it has a byte.
 ///
@@ -40,12 +61,90 @@ pub fn said<'a, Fault: Copy, T: FromLine<'a, Fault> + Drop>(
     ensures fault { IfErr result (IsLineFailure (λ bad.
         T.has_fault (line_at (lines_of bytes.now) bad.number) bad.fault)) }
 {
+    items_of::<Fault, T, AsItStands>(alloc, place, bytes)
+}
+
+/// What the lines say as [`said`] reads them, where none may end with a carriage return.
+///
+/// Refuses the first line that does, or that says nothing. An allocation may fail.
+pub fn said_whole<'a, Fault: Copy, T: FromLine<'a, Fault> + Drop>(
+    alloc: Global,
+    place: Place,
+    bytes: &'a [u8],
+) -> Result<Vec<T>, Failure<LineFault<Fault>>>
+    ensures all { IfOk result (λ items.
+        SayAll (SayLine T.says) (lines_of bytes.now) items.items) }
+    ensures first_bad { IfErr result (IfBadLine (λ bad.
+        (bad.place ≡ place) × IsFirstBad (SayLine T.says) (lines_of bytes.now) bad.number)) }
+    ensures fault { IfErr result (IsLineFailure (λ bad.
+        IsLineFault T.has_fault (line_at (lines_of bytes.now) bad.number) bad.fault)) }
+{
+    items_of::<LineFault<Fault>, T, WithoutReturn>(alloc, place, bytes)
+}
+
+// A way to read a line.
+trait ReadLine<'a, Fault, T> {
+    ghost use Rattle.std.specs.Prelude.{ℕ, List, IfOk, IfErr, OnErr};
+
+    // The line says this.
+    ghost reads: { List ℕ → T → Type 0 };
+
+    // This is what is wrong with the line.
+    ghost refuses: { List ℕ → Fault → Type 0 };
+
+    fn read_line(line: &'a [u8]) -> Result<T, Fault>
+        ensures said { IfOk result (reads line.now) }
+        ensures refused { OnErr result ((item : T) → ¬ reads line.now item) }
+        ensures fault { IfErr result (refuses line.now) };
+}
+
+// A line says what it says.
+struct AsItStands;
+
+impl<'a, Fault, T: FromLine<'a, Fault>> ReadLine<'a, Fault, T> for AsItStands {
+    ghost reads = { T.says };
+
+    ghost refuses = { T.has_fault };
+
+    fn read_line(line: &'a [u8]) -> Result<T, Fault> {
+        T::from_line(line)
+    }
+}
+
+// A line that ends with a carriage return says nothing.
+struct WithoutReturn;
+
+impl<'a, Fault: Copy, T: FromLine<'a, Fault>> ReadLine<'a, LineFault<Fault>, T> for WithoutReturn {
+    ghost use Rattle.program_lines.specs.Lines.{SayLine};
+    ghost use Rattle.program_lines.specs.Faults.{IsLineFault};
+
+    ghost reads = { SayLine T.says };
+
+    ghost refuses = { IsLineFault T.has_fault };
+
+    fn read_line(line: &'a [u8]) -> Result<T, LineFault<Fault>> {
+        item_of(line)
+    }
+}
+
+// What the lines say, read in this way.
+fn items_of<'a, Fault: Copy, T: Drop, L: ReadLine<'a, Fault, T>>(
+    alloc: Global,
+    place: Place,
+    bytes: &'a [u8],
+) -> Result<Vec<T>, Failure<Fault>>
+    ensures all { IfOk result (λ items. SayAll L.reads (lines_of bytes.now) items.items) }
+    ensures first_bad { IfErr result (IfBadLine (λ bad.
+        (bad.place ≡ place) × IsFirstBad L.reads (lines_of bytes.now) bad.number)) }
+    ensures fault { IfErr result (IsLineFailure (λ bad.
+        L.refuses (line_at (lines_of bytes.now) bad.number) bad.fault)) }
+{
     let lines = bytes.iter().filter(|byte| **byte == b'\n').count() + 1;
     let mut items = Vec::with_capacity(alloc, lines)?;
     let mut rest = bytes;
     while !rest.is_empty() {
         let (line, after) = first_line(rest);
-        match T::from_line(line) {
+        match L::read_line(line) {
             Ok(item) => items.push(item)?,
             Err(fault) => {
                 return Err(Failure::BadLine(BadLine {
@@ -71,6 +170,30 @@ pub fn first_line(bytes: &[u8]) -> (&[u8], &[u8])
         Some(end) => (&bytes[..end], &bytes[end + 1..]),
         None => (bytes, &[]),
     }
+}
+
+/// The line of this number, from 1, without the byte that ends it, or no bytes where there is none.
+pub(crate) fn line_numbered(bytes: &[u8], number: usize) -> &[u8]
+    ensures { result.now ≡ line_at (lines_of bytes.now) number }
+{
+    let mut rest = bytes;
+    for _line in 1..number {
+        rest = after_line(rest);
+    }
+    if rest.is_empty() {
+        return rest;
+    }
+    first_line(rest).0
+}
+
+// What comes after the first line.
+fn after_line(bytes: &[u8]) -> &[u8]
+    ensures { lines_of result.now ≡ drop 1 (lines_of bytes.now) }
+{
+    if bytes.is_empty() {
+        return bytes;
+    }
+    first_line(bytes).1
 }
 
 // The index of the first such byte, or None where there is none.

@@ -1,91 +1,127 @@
 //! A program over a file, a reader and two writers.
-ghost use Rattle.std.specs.Prelude.{◌≡◌, ◌≢◌, ◌≤◌, ◌↔◌, [], IfSome, IfOk, IfErr, IsTrue};
+ghost use Rattle.std.specs.Prelude.{◌≡◌, ◌≤◌, ◌↔◌, ◌⊎◌, IsTrue, true, false};
 ghost use Rattle.std.specs.Io.KnownBytes.{Keeps};
-ghost use Rattle.program_lines.specs.Failures.{IfBadLine};
-ghost use Rattle.program_lines.specs.Programs.{HasBadLine, Prints, PrintsBeginning, TellsBadLine};
+ghost use Rattle.program_lines.specs.Messages.{IsMessage};
+ghost use Rattle.program_lines.specs.Sessions.{TellsBadLine, AnswersAll, AnswersSome};
 
-use crate::failure::{BadLine, Failure};
-use crate::writing::write_out;
-use std::alloc::Global;
+use crate::failure::Failure;
+use crate::line_fault::LineFault;
+use crate::message::{Names, report_bad_line, report_stop};
+use crate::session::answer_lines;
+use crate::stop::Stop;
+use std::alloc::{AllocError, Global};
 use std::fmt::Display;
-use std::io::{ErrorKind, Read, Write};
+use std::io::{BufReader, Read, Write};
 
-/// A program that answers the lines of its input from the lines of a file.
-pub trait Program {
-    ghost use Rattle.std.specs.Prelude.{ℕ, List, IfOk, IfErr};
+/// A program that answers the lines of its input from the lines of a file: the table of that file.
+pub trait Program<'a>: Sized {
+    ghost use Rattle.std.specs.Prelude.{◌≡◌, ◌++◌, ℕ, List, IfNone, IfSome, IfOk, IfErr};
     ghost use Rattle.program_lines.specs.Failures.{IfBadLine};
     ghost use Rattle.program_lines.specs.declared.failure.BadLine.{BadLine};
+    ghost use Rattle.program_lines.specs.declared.line_fault.LineFault.{LineFault};
 
-    /// What may be wrong with a line.
+    /// What may be wrong with a line, beside a carriage return at its end.
     type Fault: Display + Copy;
 
-    /// The bytes of the file and of the input have this output.
-    ghost is_output: { List ℕ → List ℕ → List ℕ → Type 0 };
+    /// This is the table of a file with these bytes.
+    ghost is_table: { List ℕ → Self → Type 0 };
 
-    /// In the file and the input this line is at fault.
-    ghost is_bad: { List ℕ → List ℕ → BadLine Self.Fault → Type 0 };
+    /// The output for a file with these bytes begins with this.
+    ghost is_heading: { List ℕ → List ℕ → Type 0 };
 
-    /// How the program is called, on one or more lines.
-    fn usage() -> &'static str;
+    /// For a file with these bytes, a line of the input has this reply.
+    ghost is_reply: { List ℕ → List ℕ → List ℕ → Type 0 };
 
-    /// The whole output.
-    fn answer(alloc: Global, file: &[u8], input: &[u8]) -> Result<Vec<u8>, Failure<Self::Fault>>
-        ensures output { IfOk result (λ output. is_output file.now input.now output.items) }
-        ensures refused { IfErr result (IfBadLine (is_bad file.now input.now)) };
+    /// In a file with these bytes this line is at fault.
+    ghost is_bad: { List ℕ → BadLine (LineFault Self.Fault) → Type 0 };
+
+    /// This is what is wrong with a line of the input.
+    ghost has_fault: { List ℕ → LineFault Self.Fault → Type 0 };
+
+    /// The table of a file. Appends what the output begins with.
+    fn load(
+        alloc: Global,
+        file: &'a [u8],
+        output: &mut Vec<u8>,
+    ) -> Result<Self, Failure<LineFault<Self::Fault>>>
+        ensures table { IfOk result (is_table file.now) }
+        ensures heading { IfOk result (λ table. (heading : List ℕ)
+            × is_heading file.now heading × (output.new.items ≡ output.old.items ++ heading)) }
+        ensures refused { IfErr result (IfBadLine (is_bad file.now)) };
+
+    /// Appends the reply to a line, or returns what is wrong with it. An allocation may fail.
+    fn push_reply(
+        &self,
+        alloc: Global,
+        line: &[u8],
+        output: &mut Vec<u8>,
+    ) -> Result<Option<LineFault<Self::Fault>>, AllocError>
+        requires table { (file : List ℕ) × is_table file self.now }
+        ensures reply { IfOk result (λ fault. IfNone fault ((file : List ℕ) → is_table file self.now →
+            (reply : List ℕ) × is_reply file line.now reply × (output.new.items ≡ output.old.items ++ reply))) }
+        ensures fault { IfOk result (λ fault. IfSome fault (λ this.
+            has_fault line.now this × (output.new.items ≡ output.old.items))) };
 }
 
-/// Runs a program on the bytes of its file, and returns its exit status.
+/// Answers each line that the input gives, from the table of a file, and returns the exit status.
 ///
-/// `input` is read to its end, and only then anything is written. With status 0 the whole output
-/// was written. With status 2 a line is at fault, and nothing is written to `output`. With status 1
-/// an allocation, a read or a write failed; the first part of the output may have been written.
+/// The reply to a line is written before the next one is waited for. A line at fault is reported on
+/// `errors`, with its number, and the others are answered. The status is 0 where each line has a
+/// reply, 2 where one is at fault. Where a line of the file is at fault, that alone is reported, with
+/// status 2. With status 1 an allocation, a read or a write failed, or the input has 2^64 lines.
 ///
 /// A failure writes its line to `errors`, except where the reader of `output` has closed it: that
 /// ends the run quietly, with status 1.
-pub fn run<P: Program, R: Read, W: Write, E: Write>(
+pub fn run<'a, P: Program<'a> + Drop, R: Read + Drop, W: Write, E: Write>(
     alloc: Global,
-    file: &[u8],
-    input: &mut R,
+    names: Names<'_>,
+    file: &'a [u8],
+    input: R,
     output: &mut W,
     errors: &mut E,
 ) -> u8
     ensures status { result ≤ 2 }
-    ensures answers { result ≡ 0 → IfSome (R.remaining input.old)
-        (λ given. Prints (P.is_output file.now given) (W.contents output.old) (W.contents output.new)) }
-    ensures failed_run_prints_a_beginning { result ≡ 1 → IfSome (R.remaining input.old)
-        (λ given. PrintsBeginning (P.is_output file.now given) (W.contents output.old) (W.contents output.new)) }
-    ensures refused { result ≡ 2 → IfSome (R.remaining input.old) (λ given.
-        TellsBadLine P.Fault.output (P.is_bad file.now given) (E.contents errors.old) (E.contents errors.new)) }
-    ensures bad_input_prints_nothing { result ≡ 2 →
-        Keeps (W.contents output.old) (W.contents output.new) }
-    ensures success_is_quiet { result ≡ 0 →
-        Keeps (E.contents errors.old) (E.contents errors.new) }
+    ensures answers { result ≡ 0 → AnswersAll (P.is_reply file.now)
+        (IsMessage P.Fault.output P.has_fault names.entry.program.now) (P.is_heading file.now) true
+        (R.remaining input) (W.contents output.old) (W.contents output.new)
+        (E.contents errors.old) (E.contents errors.new) }
+    ensures refused { result ≡ 2 → TellsBadLine P.Fault.output (P.is_bad file.now)
+        names.entry.program.now names.entry.file.now file.now (W.contents output.old) (W.contents output.new)
+        (E.contents errors.old) (E.contents errors.new)
+        ⊎ AnswersAll (P.is_reply file.now)
+        (IsMessage P.Fault.output P.has_fault names.entry.program.now) (P.is_heading file.now) false
+        (R.remaining input) (W.contents output.old) (W.contents output.new)
+        (E.contents errors.old) (E.contents errors.new) }
+    ensures failed_run_prints_a_beginning { result ≡ 1 → Keeps (W.contents output.old) (W.contents output.new)
+        ⊎ AnswersSome (P.is_reply file.now)
+        (IsMessage P.Fault.output P.has_fault names.entry.program.now) (P.is_heading file.now)
+        (R.remaining input) (W.contents output.old) (W.contents output.new) }
 {
-    let text = match answer::<P, R>(alloc, file, input) {
-        Ok(text) => text,
-        Err(failure) => return failure.report(errors),
+    let mut waiting = Vec::new(alloc);
+    let table = match P::load(alloc, file, &mut waiting) {
+        Ok(table) => table,
+        Err(Failure::BadLine(bad)) => {
+            return report_bad_line(alloc, names, file, bad, errors);
+        }
+        Err(_) => return report_stop(names, Stop::OutOfMemory, errors),
     };
-    match write_out(output, &text) {
-        Ok(()) => 0,
-        Err(error) if error.kind() == ErrorKind::BrokenPipe => 1,
-        Err(_) => Failure::<P::Fault>::Device.report(errors),
+    let mut lines = match BufReader::new(alloc, input) {
+        Ok(lines) => lines,
+        Err(_) => return report_stop(names, Stop::OutOfMemory, errors),
+    };
+    match answer_lines(
+        alloc,
+        names,
+        &table,
+        &mut waiting,
+        &mut lines,
+        output,
+        errors,
+    ) {
+        Ok(true) => 0,
+        Ok(false) => 2,
+        Err(stop) => report_stop(names, stop, errors),
     }
-}
-
-// The whole output for what a reader has.
-fn answer<P: Program, R: Read>(
-    alloc: Global,
-    file: &[u8],
-    input: &mut R,
-) -> Result<Vec<u8>, Failure<P::Fault>>
-    ensures output { IfOk result (λ output. IfSome (R.remaining input.old)
-        (λ given. P.is_output file.now given output.items)) }
-    ensures refused { IfErr result (λ failure. IfSome (R.remaining input.old)
-        (λ given. IfBadLine (P.is_bad file.now given) failure)) }
-{
-    let mut bytes = Vec::new(alloc);
-    input.read_to_end(&mut bytes)?;
-    P::answer(alloc, file, &bytes)
 }
 
 /// What a run over bytes in memory wrote, and its status.
@@ -117,20 +153,20 @@ impl Outcome {
 ///
 /// (from tests/words/tests.rt.txt)
 /// ```rust
-/// let outcome = run_in_memory::<Words>(rt.alloc(), LIST, b"#ti\n#tin\n#zinc\n#x\n#");
+/// let outcome = run_in_memory::<Words>(rt.alloc(), NAMES, LIST, b"#ti\n#tin\n#zinc\n#x\n#");
 /// assert!(rt; outcome.is(0, b"6 words in 7 lines\n3\n1\n1\n0\n6\n", b""));
 /// ```
-pub fn run_in_memory<P: Program>(alloc: Global, file: &[u8], input: &[u8]) -> Outcome
-    ensures status { result.status ≤ 2 }
-    ensures answers { result.status ≡ 0 → P.is_output file.now input.now result.output.items }
-    ensures refused { result.status ≡ 2 → HasBadLine (P.is_bad file.now input.now) }
-    ensures bad_input_prints_nothing { result.status ≡ 2 → result.output.items ≡ [] }
-    ensures success_is_quiet { result.status ≡ 0 → result.errors.items ≡ [] }
+pub fn run_in_memory<'a, P: Program<'a> + Drop>(
+    alloc: Global,
+    names: Names<'_>,
+    file: &'a [u8],
+    input: &[u8],
+) -> Outcome
+    ensures { result.status ≤ 2 }
 {
-    let mut input = input;
     let mut output = Vec::new(alloc);
     let mut errors = Vec::new(alloc);
-    let status = run::<P, _, _, _>(alloc, file, &mut input, &mut output, &mut errors);
+    let status = run::<P, _, _, _>(alloc, names, file, input, &mut output, &mut errors);
     Outcome {
         status,
         output,

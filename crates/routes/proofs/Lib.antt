@@ -1,3 +1,7 @@
+mod BitLemmas
+mod LastLemmas
 mod LineLemmas
 mod MapLemmas
+mod OrderLemmas
 mod ReplyLemmas
+mod SearchLemmas

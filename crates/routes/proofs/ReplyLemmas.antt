@@ -1,18 +1,14 @@
 -- What a run says and writes, line by line.
-use Rattle.std.proofs.Common.{◌≡◌, ◌∙◌, ℕ, zero, suc, ◌+◌, ◌<◌, List, [], ◌∷◌, ◌++◌, Contains, length, take, drop, get_or, refl, sym, ap, arith, append_assoc, append-nil, add-one}
+use Rattle.std.proofs.Common.{◌≡◌, ◌∙◌, ℕ, zero, suc, ◌+◌, ◌<◌, List, [], ◌∷◌, ◌++◌, Contains, length, take, drop, get_or, refl, sym, ap, arith, append_assoc, add-one}
 use Rattle.std.specs.Prelude.{codes, Result, Ok, Err, OnOk}
-use Rattle.std.specs.List.{AllZip, flat_map}
 use Rattle.std.proofs.Math.Seq.{take-suc}
-use Rattle.std.proofs.lemmas.Grind.{flat_map-append}
-use Rattle.std.proofs.lemmas.List.Concat.{flat_map-cons}
 use Rattle.program_lines.specs.Lines.{line}
 use Rattle.routes.specs.declared.route.Route.{Route}
 use Rattle.routes.specs.declared.route.Query.{Query}
 use Rattle.routes.specs.Addresses.{IsAddress}
 use Rattle.routes.specs.Lines.{SayRoute, SayQuery}
 use Rattle.routes.specs.Tables.{AreDistinct, IsFirstDuplicate}
-use Rattle.routes.specs.Replies.{IsReply}
-use Rattle.routes.specs.Maps.{IsRoute, AppendsReply, AppendsReplies}
+use Rattle.routes.specs.Maps.{IsRoute}
 
 -- what the lines say are routes and addresses
 pub route_said : (line : List ℕ) (route : Route) → SayRoute line route → IsRoute route
@@ -50,24 +46,6 @@ route_line old one two new query route first second third = third ∙ ap (λ tex
 
 pub none_line : (old one new query : List ℕ) → one ≡ old ++ query → new ≡ one ++ line (codes " none") → new ≡ old ++ line (query ++ codes " none")
 none_line old one new query first second = second ∙ ap (λ text. text ++ line (codes " none")) first ∙ simp append_assoc
-
-zip_one_more : {A B : Type 0} (R : A → B → Type 0) (xs : List A) (ys : List B) (x : A) (y : B) → AllZip R xs ys → R x y → AllZip R (xs ++ x ∷ []) (ys ++ y ∷ [])
-zip_one_more R [] [] x y all one = (one, tt)
-zip_one_more R [] (other ∷ ys) x y all one = absurd all
-zip_one_more R (other ∷ xs) [] x y all one = absurd all
-zip_one_more R (first ∷ xs) (second ∷ ys) x y all one = (all.0, zip_one_more R xs ys x y all.1 one)
-
--- one reply more
-pub no_replies : (routes : List Route) (queries : List Query) (old : List ℕ) → AppendsReplies routes (take 0 queries) old old
-no_replies routes queries old = ([], tt, sym (append-nil old))
-
-pub replies_more : (routes : List Route) (queries : List Query) (k : ℕ) (d : Query) (old output longer : List ℕ) → k < length queries → AppendsReplies routes (take k queries) old output → AppendsReply routes (get_or queries k d) output longer → AppendsReplies routes (take (k + 1) queries) old longer
-replies_more routes queries k d old output longer within (replies, all, is) (text, reply, more) =
-    let one : flat_map line (text ∷ []) ≡ line text = flat_map-cons line text [] ∙ append-nil (line text) in
-    let whole : longer ≡ old ++ flat_map line (replies ++ text ∷ []) =
-    more ∙ ap (λ o. o ++ line text) is ∙ append_assoc old (flat_map line replies) (line text)
-    ∙ ap (λ rest. old ++ (flat_map line replies ++ rest)) (sym one) ∙ ap (λ rest. old ++ rest) (sym (flat_map-append line replies (text ∷ []))) in
-    (replies ++ text ∷ [], rw (one_more queries k d within) (zip_one_more (IsReply routes) (take k queries) replies (get_or queries k d) text all reply), whole)
 
 -- what is so of a success
 pub on_ok : {X E : Type 0} {P Q : Type 0} (result : Result X E) → (P → Q) → OnOk result P → OnOk result Q

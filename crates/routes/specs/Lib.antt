@@ -1,6 +1,7 @@
 pub mod Addresses
 pub mod Networks
 pub mod Lines
+pub mod Faults
 pub mod Tables
 pub mod Replies
 pub mod Maps

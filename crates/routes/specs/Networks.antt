@@ -1,5 +1,5 @@
 -- Networks, and which addresses are in them.
-use Rattle.std.specs.Prelude.{◌≡◌, ℕ, ◌-◌, ◌/◌, ◌%◌, ◌^◌, ◌≤◌, List, ◌∷◌}
+use Rattle.std.specs.Prelude.{◌≡◌, ℕ, ◌-◌, ◌*◌, ◌/◌, ◌%◌, ◌^◌, ◌≤◌, List, [], ◌∷◌, ◌++◌}
 use Rattle.std.specs.Int.{w128, to_be_bytes}
 use Rattle.program_lines.specs.Lines.{IsCutAt}
 use Rattle.program_lines.specs.Numbers.{IsNumber}
@@ -27,6 +27,10 @@ SayNetwork text network =
     (prefix digits : List ℕ) × IsCutAt 47 text prefix digits × SayAddress prefix network.address
     × IsLength digits network.address network.length
 
+-- the number of the first address with these first bits. No public clause cites it
+abbrev pub first_address : Address → ℕ → ℕ
+first_address address length = first_bits address length * 2 ^ (address.width - length)
+
 -- the bytes of the key of a network. No public clause cites it
 abbrev pub key_text : Address → ℕ → List ℕ
-key_text address length = address.width ∷ length ∷ to_be_bytes w128 (first_bits address length)
+key_text address length = address.width ∷ to_be_bytes w128 (first_address address length) ++ length ∷ []

@@ -1,7 +1,8 @@
 //! Addresses, and the texts that write them.
-ghost use Rattle.std.specs.Prelude.{IfOk, OnErr};
+ghost use Rattle.std.specs.Prelude.{◌≡◌, IfErr, IfOk, OnErr};
 ghost use Rattle.routes.specs.Addresses.{SayAddress, IsAddress, IsNumberOf};
 ghost use Rattle.routes.specs.declared.address.Address.{Address};
+ghost use Rattle.routes.specs.declared.fault.Fault.TheVariants.{BadAddress};
 
 use crate::fault::Fault;
 use std::net::IpAddr;
@@ -20,6 +21,7 @@ pub(crate) fn address_of(text: &[u8]) -> Result<Address, Fault>
     ensures said { IfOk result (SayAddress text.now) }
     ensures fits { IfOk result IsAddress }
     ensures refused { OnErr result ((address : Address) → ¬ SayAddress text.now address) }
+    ensures fault { IfErr result (λ fault. fault ≡ BadAddress) }
 {
     match IpAddr::parse_ascii(text) {
         Ok(ip) => Ok(number_of(ip)),

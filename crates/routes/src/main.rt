@@ -1,7 +1,7 @@
 //! The program `routes`: reads a table of routes from a file, and prints for each address on standard
 //! input the longest route of the table that matches it.
 //!
-//! [`Routes`] is the whole program, as a [`Program`] over the bytes of the table and of the addresses.
+//! `Table` answers the lines of the input, as a [`Program`](program_lines::Program).
 #![tactic(auto)]
 
 mod address;
@@ -12,9 +12,22 @@ mod route;
 mod table;
 
 pub use fault::Fault;
-pub use replies::Routes;
+use program_lines::Description;
 use std::process::ExitCode;
+use table::Table;
+
+const DESCRIPTION: Description = Description {
+    program: "routes",
+    flag: "",
+    usage: "usage: routes TABLE\n\
+        TABLE is a file of routes, one a line: PREFIX/LEN NEXTHOP, as 10.0.0.0/8 core1 or\n\
+        2001:db8::/32 core2. Each line of standard input is an IPv4 or IPv6 address, and is printed\n\
+        with the longest route that matches it, or with none.\n",
+};
 
 fn main(rt: HostRuntime) -> ExitCode {
-    program_lines::start::<Routes>(&rt)
+    match program_lines::requested(&rt, DESCRIPTION) {
+        Ok(request) => program_lines::answer::<Table<'_>>(&rt, DESCRIPTION.program, &request),
+        Err(status) => ExitCode::from(status),
+    }
 }

@@ -1,7 +1,8 @@
 //! Networks: the addresses that begin with the same bits.
-ghost use Rattle.std.specs.Prelude.{◌≡◌, ◌≢◌, ◌↔◌, ◌-◌, ℕ, ◌≤◌, ◌%◌, ◌^◌, IsTrue, IfOk, OnErr};
+ghost use Rattle.std.specs.Prelude.{◌≡◌, ◌≢◌, ◌↔◌, ◌-◌, ℕ, ◌≤◌, ◌%◌, ◌^◌, IsTrue, IfErr, IfOk, OnErr};
 ghost use Rattle.routes.specs.Addresses.{IsAddress};
-ghost use Rattle.routes.specs.Networks.{SayNetwork, IsLength, first_bits as bits_before, key_text};
+ghost use Rattle.routes.specs.Faults.{IsLengthFault, IsNetworkFault};
+ghost use Rattle.routes.specs.Networks.{SayNetwork, IsLength, first_bits, first_address as first_of, key_text};
 ghost use Rattle.routes.specs.declared.network.Network.{Network};
 
 use crate::address::{Address, address_of};
@@ -25,6 +26,7 @@ pub struct Network {
 pub(crate) fn network_of(text: &[u8]) -> Result<Network, Fault>
     ensures said { IfOk result (SayNetwork text.now) }
     ensures refused { OnErr result ((network : Network) → ¬ SayNetwork text.now network) }
+    ensures fault { IfErr result (IsNetworkFault text.now) }
 {
     let Some((prefix, digits)) = split_once(text, b'/') else {
         return Err(Fault::NoLength);
@@ -39,6 +41,7 @@ fn length_of(digits: &[u8], address: Address) -> Result<u8, Fault>
     requires address { IsAddress address }
     ensures said { IfOk result (IsLength digits.now address) }
     ensures refused { OnErr result ((length : ℕ) → ¬ IsLength digits.now address length) }
+    ensures fault { IfErr result (IsLengthFault digits.now address) }
 {
     let length = match number_of(digits) {
         Some(length) if length <= u64::from(address.width) => length as u8,
@@ -64,7 +67,8 @@ fn has_bits_behind(address: Address, length: u8) -> bool
     }
 }
 
-/// The key of the network of the first bits of an address, so many of them.
+/// The key of the network of the first bits of an address, so many of them. Keys of addresses of as many
+/// bits sort by the first address of their networks, and then by their lengths.
 pub(crate) fn key_of(address: Address, length: u8) -> [u8; KEY_LEN]
     requires address { IsAddress address }
     requires length { length ≤ address.width }
@@ -72,21 +76,32 @@ pub(crate) fn key_of(address: Address, length: u8) -> [u8; KEY_LEN]
 {
     let mut key = [0; KEY_LEN];
     key[0] = address.width;
-    key[1] = length;
-    key[2..].copy_from_slice(&first_bits(address, length).to_be_bytes());
+    key[KEY_LEN - 1] = length;
+    key[1..KEY_LEN - 1].copy_from_slice(&first_address(address, length).to_be_bytes());
     key
 }
 
-// The number that the first bits of an address are, so many of them.
-fn first_bits(address: Address, length: u8) -> u128
+// The number of the first address of the network of the first bits of an address, so many of them.
+fn first_address(address: Address, length: u8) -> u128
     requires address { IsAddress address }
     requires length { length ≤ address.width }
-    ensures { result ≡ bits_before address length }
+    ensures { result ≡ first_of address length }
 {
     let behind = address.width - length;
     if behind == 128 {
         0
     } else {
-        address.bits >> behind
+        address.bits >> behind << behind
     }
+}
+
+/// How many of their first bits two addresses share, where they have as many bits.
+pub(crate) fn shared_bits(left: Address, right: Address) -> u8
+    requires { IsAddress left }
+    ensures within { result ≤ left.width }
+    ensures shared { IsAddress right → left.width ≡ right.width → (count : ℕ) → count ≤ left.width →
+        (count ≤ result) ↔ (first_bits left count ≡ first_bits right count) }
+{
+    let unused = 128 - left.width;
+    ((left.bits ^ right.bits).leading_zeros() as u8).saturating_sub(unused)
 }

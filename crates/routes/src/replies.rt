@@ -1,63 +1,60 @@
 //! The replies to addresses.
-ghost use Rattle.std.specs.Prelude.{All, OnOk};
+ghost use Rattle.std.specs.Prelude.{OnOk};
 ghost use Rattle.routes.specs.Addresses.{IsAddress};
-ghost use Rattle.routes.specs.Maps.{Holds, AppendsReply, AppendsReplies};
+ghost use Rattle.routes.specs.Maps.{Holds, AppendsReply};
 
 use crate::fault::Fault;
 use crate::route::{Query, Route};
 use crate::table::{Table, longest_match, table_of};
-use program_lines::{Failure, Place, Program, push_line, said};
+use program_lines::{Failure, LineFault, Place, Program, item_of, push_line, said_whole};
 use std::alloc::{AllocError, Global};
 
-/// The program, over the bytes of the table and of the addresses.
-pub struct Routes;
-
-impl Program for Routes {
-    ghost use Rattle.routes.specs.Replies.{IsOutput, IsBad};
+impl<'a> Program<'a> for Table<'a> {
+    ghost use Rattle.std.specs.Prelude.{◌≡◌, []};
+    ghost use Rattle.routes.specs.Maps.{IsTable};
+    ghost use Rattle.routes.specs.Replies.{HasReply, IsBad, HasFault};
 
     type Fault = Fault;
 
-    ghost is_output = { IsOutput };
+    ghost is_table = { λ file table. IsTable file table.routes };
+
+    ghost is_heading = { λ file heading. heading ≡ [] };
+
+    ghost is_reply = { HasReply };
 
     ghost is_bad = { IsBad };
 
-    fn usage() -> &'static str {
-        "usage: routes TABLE\n\
-        TABLE is a file of routes, one a line: PREFIX/LEN NEXTHOP, as 10.0.0.0/8 core1 or\n\
-        2001:db8::/32 core2. Each line of standard input is an IPv4 or IPv6 address, and is printed\n\
-        with the longest route that matches it, or with none.\n"
-    }
+    ghost has_fault = { HasFault };
 
-    fn answer(alloc: Global, table: &[u8], input: &[u8]) -> Result<Vec<u8>, Failure<Fault>> {
-        let routes: Vec<Route<'_>> = said(alloc, Place::File, table)?;
+    fn load(
+        alloc: Global,
+        file: &'a [u8],
+        _output: &mut Vec<u8>,
+    ) -> Result<Table<'a>, Failure<LineFault<Fault>>> {
+        let routes: Vec<Route<'_>> = said_whole(alloc, Place::File, file)?;
         let table = table_of(alloc, &routes)?;
-        let queries: Vec<Query<'_>> = said(alloc, Place::Input, input)?;
-        let mut output = Vec::new(alloc);
-        push_replies(&table, &queries, &mut output)?;
-        Ok(output)
+        Ok(table)
     }
-}
 
-// Appends a line for each address.
-fn push_replies(
-    table: &Table<'_>,
-    queries: &[Query<'_>],
-    output: &mut Vec<u8>,
-) -> Result<(), AllocError>
-    requires { All (λ query. IsAddress query.address) queries.now }
-    ensures { OnOk result ((routes : _) → Holds routes table.now.routes table.now.has_length →
-        AppendsReplies routes queries.now output.old.items output.new.items) }
-{
-    for query in queries {
-        push_reply(table, query, output)?;
+    fn push_reply(
+        &self,
+        alloc: Global,
+        line: &[u8],
+        output: &mut Vec<u8>,
+    ) -> Result<Option<LineFault<Fault>>, AllocError> {
+        let query: Query<'_> = match item_of(line) {
+            Ok(query) => query,
+            Err(fault) => return Ok(Some(fault)),
+        };
+        push_reply(self, &query, output)?;
+        Ok(None)
     }
-    Ok(())
 }
 
 // Appends the line for an address.
 fn push_reply(table: &Table<'_>, query: &Query<'_>, output: &mut Vec<u8>) -> Result<(), AllocError>
     requires { IsAddress query.now.address }
-    ensures { OnOk result ((routes : _) → Holds routes table.now.routes table.now.has_length →
+    ensures { OnOk result ((routes : _) → Holds routes table.now.routes →
         AppendsReply routes query.now output.old.items output.new.items) }
 {
     output.extend_from_slice(query.line)?;

@@ -26,9 +26,12 @@ pub struct Query<'a> {
 }
 
 impl<'a> FromLine<'a, Fault> for Route<'a> {
+    ghost use Rattle.routes.specs.Faults.{IsRouteFault};
     ghost use Rattle.routes.specs.Lines.{SayRoute};
 
     ghost says = { SayRoute };
+
+    ghost has_fault = { IsRouteFault };
 
     fn from_line(line: &'a [u8]) -> Result<Route<'a>, Fault> {
         let Some((network, next_hop)) = split_once(line, b' ') else {
@@ -43,9 +46,12 @@ impl<'a> FromLine<'a, Fault> for Route<'a> {
 }
 
 impl<'a> FromLine<'a, Fault> for Query<'a> {
+    ghost use Rattle.routes.specs.Faults.{IsQueryFault};
     ghost use Rattle.routes.specs.Lines.{SayQuery};
 
     ghost says = { SayQuery };
+
+    ghost has_fault = { IsQueryFault };
 
     fn from_line(line: &'a [u8]) -> Result<Query<'a>, Fault> {
         let address = address_of(line)?;

@@ -1,5 +1,5 @@
 mod KeyLemmas
 mod PlaceLemmas
 mod ReplyLemmas
-mod SetLemmas
+mod TextLemmas
 mod QueryLemmas

@@ -1,5 +1,5 @@
 -- The places of the words that begin with a prefix.
-use Rattle.std.proofs.Common.{◌≡◌, ◌∙◌, ℕ, suc, ◌+◌, ◌<◌, Bool, true, false, cond, ◌&&◌, List, [], ◌∷◌, ◌++◌, length, map, filter, All, AllPairs, refl, sym, ap, subst, arith, inl, inr, get_or, add-zero, append_assoc, append-nil, ◌⊎◌}
+use Rattle.std.proofs.Common.{◌≡◌, ◌∙◌, ℕ, suc, ◌+◌, ◌%◌, ◌^◌, ◌<◌, Bool, true, false, cond, ◌&&◌, List, [], ◌∷◌, ◌++◌, length, map, filter, All, AllPairs, refl, sym, ap, subst, arith, inl, inr, get_or, add-zero, ◌⊎◌}
 use Rattle.std.specs.Prelude.{nat_eq}
 use Rattle.std.specs.List.{starts_with}
 use Rattle.std.specs.Ordering.{nat_cmp, ordering_then}
@@ -8,9 +8,13 @@ use Rattle.std.specs.declared.cmp.Ordering.TheVariants.{Less}
 use Rattle.art_bytes.specs.Text.{text_order}
 use Rattle.art_bytes.specs.declared.c_string_key.CStringKey.{CStringKey}
 use Rattle.std.proofs.Math.ListN.{get_or-map}
+use Rattle.std.proofs.Math.Nat.{mod-eq_of_lt}
 use Rattle.std.proofs.lemmas.Bool.{cases_Bool}
-use Rattle.std.proofs.lemmas.List.{length-append, length-map, map-append}
+use Rattle.std.proofs.lemmas.List.{length-append, length-map}
 use Rattle.std.proofs.lemmas.List.Elements.{All-head, All-tail}
+use Rattle.art_map.specs.Calls.{ChangesInTurn, ChangesValue}
+use denote.Param.Members.{Mut}
+use denote.Ref.{Bor, MutBor}
 use Rattle.words.specs.Dictionaries.{word_of}
 use Rattle.words.specs.Places.{CountsFrom, Counts, words_of}
 
@@ -106,10 +110,18 @@ counts_ends entries rest middle first last counts is ends =
     let start : first.1 ≡ counts.0 = counted.0 in
     (omega arith, omega (arith, ap length whole, length-append middle (last ∷ [])))
 
--- one entry more
-pub counts_more : {K : Type 0} (n : ℕ) (entries : List (K × ℕ)) (key : K) (place : ℕ) → place ≡ n + length entries → CountsFrom n entries → CountsFrom n (entries ++ (key, place) ∷ [])
-counts_more n [] key place is counted = (is ∙ add-zero n, tt)
-counts_more n (entry ∷ entries) key place is counted = (counted.0, counts_more (suc n) entries key place (omega (arith, is)) counted.1)
+-- where each call of a closure writes the number that it has, and has the next one afterwards, the places count up
+module _ {F K : Type 0} (g : Mut F (Bor K × (MutBor ℕ × Unit {0})) (Unit {0} × (MutBor ℕ × Unit {0}))) (next : F → ℕ)
+    (counts : (f : F) (key : K) (value now : ℕ) (f' : F) → ChangesValue g f key value now f' → (now ≡ next f) × (next f' ≡ (next f + 1) % 2 ^ 64)) where
+  pub numbered : (f : F) (old new : List (K × ℕ)) → ChangesInTurn g f old new → next f + length old < 2 ^ 64 → CountsFrom (next f) new
+  numbered f [] new none fits = rw none tt
+  numbered f (entry ∷ entries) new (value, f', rest, called, onwards, is) fits =
+      let one = counts f entry.0 entry.1 value f' called in
+      let small : next f + 1 < 2 ^ 64 = omega (arith, fits) in
+      let wrapped = mod-eq_of_lt small in
+      let up : next f' ≡ suc (next f) = omega (arith, one.1, wrapped) in
+      let later = numbered f' entries rest onwards (omega (arith, fits, up)) in
+      rw is (one.0, subst (λ n. CountsFrom n rest) up later)
 
 -- what holds of each two of the values of a function
 pub pairs_under : {A B : Type 0} (f : A → B) (R : B → B → Type 0) (xs : List A) → AllPairs R (map f xs) → AllPairs (λ a b. R (f a) (f b)) xs
@@ -117,19 +129,10 @@ pairs_under f R xs pairs i j d before within =
     let here : j < length (map f xs) = omega (arith, within, length-map xs f) in
     rw (get_or-map f xs i d, get_or-map f xs j d) at (pairs i j (f d) before here)
 
--- the entries so far have their places, and their words and the others are all words
-pub record PlacedSoFar (entries : List (CStringKey × ℕ)) (others all : List (List ℕ)) : Type 0 where
-  pub whole : words_of entries ++ others ≡ all
-  pub placed : CountsFrom 0 entries
+-- the words are those of the keys
+pub words_of_keys : (entries : List (CStringKey × ℕ)) → words_of entries ≡ map word_of (map (λ entry. entry.0) entries)
+words_of_keys [] = refl
+words_of_keys (entry ∷ entries) = ap (λ words. word_of entry.0 ∷ words) (words_of_keys entries)
 
-pub placed_none : (entries : List (CStringKey × ℕ)) (others : List (List ℕ)) → entries ≡ [] → PlacedSoFar entries others others
-placed_none entries others none = rw none record { whole = refl; placed = tt }
-
-pub placed_more : (entries longer : List (CStringKey × ℕ)) (key : CStringKey) (place : ℕ) (keys rest : List CStringKey) (all : List (List ℕ)) → PlacedSoFar entries (map word_of keys) all → keys ≡ key ∷ rest → place ≡ length entries → longer ≡ entries ++ (key, place) ∷ [] → PlacedSoFar longer (map word_of rest) all
-placed_more entries longer key place keys rest all so_far first last pushed = rw pushed record {
-  whole = ap (λ words. words ++ map word_of rest) (map-append (λ entry. word_of entry.0) entries ((key, place) ∷ [])) ∙ append_assoc (words_of entries) (word_of key ∷ []) (map word_of rest) ∙ (rw first at so_far.whole);
-  placed = counts_more 0 entries key place (omega (arith, last)) so_far.placed;
-}
-
-pub placed_all : (entries : List (CStringKey × ℕ)) (keys : List CStringKey) (all : List (List ℕ)) → PlacedSoFar entries (map word_of keys) all → keys ≡ [] → words_of entries ≡ all
-placed_all entries keys all so_far none = sym (append-nil (words_of entries)) ∙ (rw none at so_far.whole)
+pub same_words : (old new : List (CStringKey × ℕ)) → map (λ entry. entry.0) new ≡ map (λ entry. entry.0) old → words_of new ≡ words_of old
+same_words old new same = words_of_keys new ∙ ap (map word_of) same ∙ sym (words_of_keys old)

@@ -1,4 +1,4 @@
--- The keys of a set and the entries of a map beside the words of a dictionary.
+-- The entries of a map beside the words of a dictionary.
 use Rattle.std.proofs.Common.{◌≡◌, ◌∙◌, ℕ, zero, suc, ◌-◌, ◌<◌, ◌≤◌, Bool, true, false, cond, ◌&&◌, List, [], ◌∷◌, ◌++◌, length, take, map, filter, All, AllPairs, Contains, refl, sym, ap, subst, arith, inl, inr, get_or, append_assoc}
 use Rattle.std.specs.Prelude.{nat_eq, Option, None, Some, slice_get}
 use Rattle.std.specs.Borrow.{Bor}
@@ -8,19 +8,20 @@ use Rattle.std.proofs.lemmas.Bool.{cases_Bool}
 use Rattle.std.proofs.lemmas.Option.{slice_get-map}
 use Rattle.std.specs.List.{starts_with, flat_map}
 use Rattle.std.proofs.lemmas.List.Concat.{flat_map-cons}
-use Rattle.program_lines.specs.Lines.{line, SayAll}
+use Rattle.program_lines.specs.Lines.{line, SayAll, SayLine}
 use Rattle.std.specs.Ordering.{is_lt, is_gt}
 use Rattle.std.specs.declared.cmp.Ordering.TheVariants.{Less}
 use Rattle.std.proofs.Math.Logic.{∥∥₁_elim}
 use Rattle.std.proofs.Props.{props}
 use Rattle.std.proofs.Math.ListN.{get_or-map as get_or-map_same}
 use Rattle.std.proofs.lemmas.List.{length-map, get_or-map}
-use Rattle.std.proofs.lemmas.List.Elements.{All-head, All-tail}
+use Rattle.std.proofs.lemmas.List.Elements.{All-head, All-map, All-tail}
 use Rattle.art_bytes.specs.CString.{HasNoZero, IsCString}
 use Rattle.art_bytes.specs.CStringKey.{c_string_key_text}
 use Rattle.art_bytes.specs.Text.{text_order}
 use Rattle.art_bytes.specs.declared.c_string_key.CStringKey.{CStringKey}
 use Rattle.art_map.specs.Ranges.{entries_above, entries_with_prefix}
+use Rattle.art_tree.specs.Refusals.{texts_of}
 use Rattle.words.specs.Dictionaries.{IsDictionary, word_of}
 use Rattle.words.specs.Places.{words_of}
 use Rattle.words.specs.declared.query.Query.{Query}
@@ -29,6 +30,7 @@ use Rattle.words.specs.declared.dictionary.Word.{Word}
 use Rattle.words.specs.Queries.{IsSaid, SayWord}
 use Rattle.words.specs.Replies.{with_prefix, below, above, neighbour, reply}
 use Rattle.words.proofs.KeyLemmas.{same_order, same_prefixes, cut_off}
+use Rattle.words.proofs.PlaceLemmas.{words_of_keys}
 
 abbrev with_zero : List ℕ → List ℕ
 with_zero word = word ++ 0 ∷ []
@@ -108,7 +110,7 @@ texts_are : (keys : List CStringKey) → All IsKey keys → map with_zero (map w
 texts_are [] are i = []
 texts_are (key ∷ keys) are i = sym (text_is key (All-head IsKey key keys are)) i ∷ texts_are keys (All-tail IsKey key keys are) i
 
--- a set whose keys are those of the list has the words of the list
+-- keys whose texts are those of the list have the words of the list
 module _ (keys : List CStringKey) (list : List (List ℕ)) (are : All IsKey keys)
     (ascend : AllPairs (λ a b. text_order a b ≡ Less) (map c_string_key_text keys))
     (in_list : (text : List ℕ) → Contains (map c_string_key_text keys) text → Contains (map with_zero list) text)
@@ -147,8 +149,20 @@ module _ (keys : List CStringKey) (list : List (List ℕ)) (are : All IsKey keys
               let same : text_order (c_string_key_text a) (c_string_key_text b) ≡ text_order (word_of a) (word_of b) = same_place a (are i first there) (word_of b) (c_string_key_text b) (none_zero b (are j first here)) (text_is b (are j first here)) in
               rw (left_word, right_word) (sym same ∙ (rw (left, right) at less))
 
-  pub is_dictionary : IsDictionary list (map word_of keys)
+  is_dictionary : IsDictionary list (map word_of keys)
   is_dictionary = record { ascending = words_ascend; same_words = λ word. (word_there word, word_here word) }
+
+texts_of_keys : (entries : List Entry) → texts_of c_string_key_text entries ≡ map c_string_key_text (map (λ entry. entry.0) entries)
+texts_of_keys [] = refl
+texts_of_keys (entry ∷ entries) = ap (λ texts. c_string_key_text entry.0 ∷ texts) (texts_of_keys entries)
+
+-- so a map has whose texts are those of the list
+pub is_dictionary_of : (entries : List Entry) (list : List (List ℕ)) → All IsEntry entries → AllPairs (λ a b. text_order a b ≡ Less) (texts_of c_string_key_text entries) → ((text : List ℕ) → Contains (texts_of c_string_key_text entries) text → Contains (map with_zero list) text)
+    → ((text : List ℕ) → Contains (map with_zero list) text → Contains (texts_of c_string_key_text entries) text) → IsDictionary list (words_of entries)
+is_dictionary_of entries list are ascend in_list in_map =
+    let same = texts_of_keys entries in
+    subst (IsDictionary list) (sym (words_of_keys entries))
+    (is_dictionary (map (λ entry. entry.0) entries) list (All-map IsKey (λ entry. entry.0) entries are) (subst (AllPairs (λ a b. text_order a b ≡ Less)) same ascend) (λ text inside. in_list text (subst (λ texts. Contains texts text) (sym same) inside)) (λ text inside. subst (λ texts. Contains texts text) same (in_map text inside)))
 
 -- one line more of the first ones
 pub first_line_more : (left : ℕ) (entries rest : List Entry) (entry : Entry) (output longer whole : List ℕ) → (left ≡ 0 → ⊥) → entries ≡ entry ∷ rest → longer ≡ output ++ line (word_of entry.0) → output ++ flat_map line (take left (words_of entries)) ≡ whole → longer ++ flat_map line (take (left - 1) (words_of rest)) ≡ whole
@@ -200,11 +214,11 @@ module _ (entries : List Entry) (are : All IsEntry entries) (output longer : Lis
       ∙ ap (λ q. output ++ reply (words_of entries) q) (sym is)
 
 -- the lines of the list are its words
-pub lines_are : (lines : List (List ℕ)) (words : List Word) → SayAll SayWord lines words → map (λ word. word.bytes.now) words ≡ lines
+pub lines_are : (lines : List (List ℕ)) (words : List Word) → SayAll (SayLine SayWord) lines words → map (λ word. word.bytes.now) words ≡ lines
 lines_are [] [] said = refl
 lines_are [] (word ∷ words) said = absurd said
 lines_are (first ∷ lines) [] said = absurd said
-lines_are (first ∷ lines) (word ∷ words) said = ap (λ bytes. bytes ∷ map (λ word. word.bytes.now) words) said.0.0 ∙ ap (λ rest. first ∷ rest) (lines_are lines words said.1)
+lines_are (first ∷ lines) (word ∷ words) said = ap (λ bytes. bytes ∷ map (λ word. word.bytes.now) words) said.0.1.0 ∙ ap (λ rest. first ∷ rest) (lines_are lines words said.1)
 
 -- a filter gives no more
 pub no_more : {X : Type 0} (p : X → Bool) (xs : List X) → length (filter p xs) ≤ length xs

@@ -1,4 +1,5 @@
 pub mod Queries
+pub mod Faults
 pub mod Dictionaries
-pub mod Places
 pub mod Replies
+pub mod Places

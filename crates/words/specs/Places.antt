@@ -1,7 +1,8 @@
--- The words of entries and their places in order. No public clause cites this.
+-- The words of entries and their places in order.
 use Rattle.std.specs.Prelude.{◌≡◌, ℕ, suc, List, [], ◌∷◌, map}
 use Rattle.art_bytes.specs.declared.c_string_key.CStringKey.{CStringKey}
 use Rattle.words.specs.Dictionaries.{word_of}
+use Rattle.words.specs.Replies.{IsList}
 
 -- the words of these entries, each of a key and a place
 abbrev pub words_of : List (CStringKey × ℕ) → List (List ℕ)
@@ -15,3 +16,7 @@ CountsFrom n (entry ∷ entries) = (entry.1 ≡ n) × CountsFrom (suc n) entries
 -- they count up from some number
 abbrev pub Counts : {K : Type 0} → List (K × ℕ) → Type 0
 Counts entries = (n : ℕ) × CountsFrom n entries
+
+-- the entries are the words of this list, with their places
+abbrev pub IsTable : List ℕ → List (CStringKey × ℕ) → Type 0
+IsTable list entries = IsList list (words_of entries) × CountsFrom 0 entries

@@ -1,16 +1,19 @@
 -- The output for a list and queries, and which lines are bad.
-use Rattle.std.specs.Prelude.{◌≡◌, ◌⊎◌, ℕ, ◌-◌, List, ◌++◌, Option, None, Some, codes, filter, length, nat_eq, slice_get, take}
+use Rattle.std.specs.Prelude.{◌≡◌, ℕ, ◌-◌, List, ◌++◌, Option, None, Some, codes, filter, length, nat_eq, slice_get, take}
 use Rattle.std.specs.Fmt.{decimal}
 use Rattle.std.specs.List.{flat_map, starts_with}
 use Rattle.std.specs.Ordering.{is_lt, is_gt}
 use Rattle.art_bytes.specs.Text.{text_order}
-use Rattle.program_lines.specs.Lines.{line, lines_of, SayAll, IsFirstBad}
+use Rattle.program_lines.specs.Lines.{line, lines_of, line_at, SayAll, SayLine, IsFirstBad}
+use Rattle.program_lines.specs.Faults.{IsLineFault}
 use Rattle.program_lines.specs.declared.failure.BadLine.{BadLine}
-use Rattle.program_lines.specs.declared.failure.Place.TheVariants.{File, Input}
+use Rattle.program_lines.specs.declared.line_fault.LineFault.{LineFault}
+use Rattle.program_lines.specs.declared.failure.Place.TheVariants.{File}
 use Rattle.words.specs.declared.dictionary.Word.{Word}
 use Rattle.words.specs.declared.fault.Fault.{Fault}
 use Rattle.words.specs.declared.query.Query.{Query}
 use Rattle.words.specs.declared.query.Query.TheVariants.{Begin, FirstOf, Count, Before, After}
+use Rattle.words.specs.Faults.{IsWordFault, IsQueryFault}
 use Rattle.words.specs.Queries.{SayWord, SayQuery}
 use Rattle.words.specs.Dictionaries.{IsDictionary}
 
@@ -42,15 +45,24 @@ reply words (After word) = neighbour (slice_get (above word.now words) 0)
 abbrev pub counts : List (List ℕ) → List (List ℕ) → List ℕ
 counts words list = line (decimal (length words) ++ codes " words in " ++ decimal (length list) ++ codes " lines")
 
--- each line of the list is a word and each line of the input a query, and the output is the counts
--- and the replies, one after another
-abbrev pub IsOutput : List ℕ → List ℕ → List ℕ → Type 0
-IsOutput list input output =
-    (given : List Word) × (queries : List Query) × (words : List (List ℕ)) × SayAll SayWord (lines_of list) given
-    × SayAll SayQuery (lines_of input) queries × IsDictionary (lines_of list) words
-    × (output ≡ counts words (lines_of list) ++ flat_map (reply words) queries)
+-- each line of the list is a word, and these are the words in order
+abbrev pub IsList : List ℕ → List (List ℕ) → Type 0
+IsList list words = (given : List Word) × SayAll (SayLine SayWord) (lines_of list) given × IsDictionary (lines_of list) words
 
--- this is the first line of the list that is no word, or of the input that is no query
-abbrev pub IsBad : List ℕ → List ℕ → BadLine Fault → Type 0
-IsBad list input bad =
-    ((bad.place ≡ File) × IsFirstBad SayWord (lines_of list) bad.number) ⊎ ((bad.place ≡ Input) × IsFirstBad SayQuery (lines_of input) bad.number)
+-- the output for a list begins with the counts
+abbrev pub IsHeading : List ℕ → List ℕ → Type 0
+IsHeading list heading = (words : List (List ℕ)) × IsList list words × (heading ≡ counts words (lines_of list))
+
+-- a line of the input is a query, and this is the reply
+abbrev pub HasReply : List ℕ → List ℕ → List ℕ → Type 0
+HasReply list line text = (words : List (List ℕ)) × (query : Query) × IsList list words × SayLine SayQuery line query × (text ≡ reply words query)
+
+-- this is the first line of the list that is no word, and its fault
+abbrev pub IsBad : List ℕ → BadLine (LineFault Fault) → Type 0
+IsBad list bad =
+    (bad.place ≡ File) × IsFirstBad (SayLine SayWord) (lines_of list) bad.number
+    × IsLineFault IsWordFault (line_at (lines_of list) bad.number) bad.fault
+
+-- a line of the input is no query, and this is its fault
+abbrev pub HasFault : List ℕ → LineFault Fault → Type 0
+HasFault line fault = ((query : Query) → ¬ SayLine SayQuery line query) × IsLineFault IsQueryFault line fault

@@ -1,4 +1,4 @@
-//! The list of words, and the set of them.
+//! The list of words, and the dictionary of them.
 ghost use Rattle.std.specs.Prelude.{◌≡◌, ◌≤◌, ◌<◌, ◌^◌, ◌++◌, ◌∷◌, [], length, map, IfOk, OnErr};
 ghost use Rattle.art_bytes.specs.CString.{HasNoZero};
 ghost use Rattle.art_bytes.specs.CStringKey.{c_string_key_text};
@@ -9,7 +9,7 @@ ghost use Rattle.words.specs.Queries.{SayWord};
 use crate::fault::Fault;
 use crate::query::without_zero;
 use art_bytes::{AsBytes, CStringKey};
-use art_map::{ArtMap, ArtSet, DEFAULT_PREFIX_LEN};
+use art_map::{ArtMap, DEFAULT_PREFIX_LEN};
 use program_lines::FromLine;
 use std::alloc::{AllocError, Global};
 
@@ -24,9 +24,12 @@ pub(crate) struct Word<'a> {
 }
 
 impl<'a> FromLine<'a, Fault> for Word<'a> {
+    ghost use Rattle.words.specs.Faults.{IsWordFault};
     ghost use Rattle.words.specs.Queries.{SayWord};
 
     ghost says = { SayWord };
+
+    ghost has_fault = { IsWordFault };
 
     fn from_line(line: &'a [u8]) -> Result<Word<'a>, Fault> {
         if line.len() >= u32::MAX as usize {
@@ -43,44 +46,40 @@ pub(crate) fn dictionary_of(alloc: Global, words: &[Word<'_>]) -> Result<Diction
         IsDictionary (map (λ word. word.bytes.now) words.now) (words_of entries)) }
     ensures places { IfOk result (CountsFrom 0) }
 {
-    let keys = keys_of(alloc, words)?;
-    with_places(alloc, keys)
+    let mut dictionary = unnumbered(alloc, words)?;
+    number(&mut dictionary);
+    Ok(dictionary)
 }
 
-// The keys of these words.
-fn keys_of(
-    alloc: Global,
-    words: &[Word<'_>],
-) -> Result<ArtSet<CStringKey, DEFAULT_PREFIX_LEN>, AllocError>
-    ensures { IfOk result (λ keys.
-        IsDictionary (map (λ word. word.bytes.now) words.now) (map word_of_key keys)) }
+// The dictionary of these words, where each word has place 0.
+fn unnumbered(alloc: Global, words: &[Word<'_>]) -> Result<Dictionary, AllocError>
+    ensures { IfOk result (λ entries.
+        IsDictionary (map (λ word. word.bytes.now) words.now) (words_of entries)) }
 {
-    let mut keys = ArtSet::new(alloc);
+    let mut dictionary = ArtMap::new(alloc);
     for word in words {
         let key = key_of(alloc, word.bytes)?;
-        match keys.insert(key) {
+        match dictionary.insert(key, 0) {
             Ok(_) => {}
             Err(_) => return Err(AllocError),
         }
     }
-    keys.keys_ascend();
-    Ok(keys)
+    dictionary.entries_ascend();
+    Ok(dictionary)
 }
 
-// The dictionary of the words of these keys.
-fn with_places(
-    alloc: Global,
-    keys: ArtSet<CStringKey, DEFAULT_PREFIX_LEN>,
-) -> Result<Dictionary, AllocError>
-    ensures words { IfOk result (λ entries. words_of entries ≡ map word_of_key keys) }
-    ensures places { IfOk result (CountsFrom 0) }
+// Gives each word its place.
+fn number(dictionary: &mut Dictionary)
+    ensures words { words_of dictionary.new ≡ words_of dictionary.old }
+    ensures places { CountsFrom 0 dictionary.new }
 {
-    let mut entries = Vec::with_capacity(alloc, keys.len())?;
-    for key in keys {
-        let place = entries.len();
-        entries.push((key, place))?;
-    }
-    ArtMap::from_ascending(alloc, entries).map_err(|_| AllocError)
+    let _count = dictionary.len();
+    let mut next: usize = 0;
+    dictionary.for_each_value_mut(move |_, place| {
+        *place = next;
+        // There are fewer words than numbers.
+        next = next.wrapping_add(1);
+    });
 }
 
 /// The key of a word. An allocation may fail, and nothing else where no byte is zero.

@@ -1,8 +1,10 @@
 //! Queries, and the lines that say them.
-ghost use Rattle.std.specs.Prelude.{◌≡◌, ℕ, ◌∷◌, IfOk, OnErr};
+ghost use Rattle.std.specs.Prelude.{◌≡◌, ℕ, ◌∷◌, IfErr, IfOk, OnErr};
 ghost use Rattle.art_bytes.specs.CString.{HasNoZero};
 ghost use Rattle.program_lines.specs.Numbers.{IsNumber};
+ghost use Rattle.words.specs.Faults.{IsBeginFault, IsQueryFault};
 ghost use Rattle.words.specs.Queries.{SayQuery, IsFirstOf};
+ghost use Rattle.words.specs.declared.fault.Fault.TheVariants.{ZeroByte, BadNumber};
 ghost use Rattle.words.specs.declared.query.Query.{Query};
 
 use crate::fault::Fault;
@@ -24,18 +26,57 @@ pub enum Query<'a> {
 }
 
 impl<'a> FromLine<'a, Fault> for Query<'a> {
+    ghost use Rattle.words.specs.Faults.{IsQueryFault};
     ghost use Rattle.words.specs.Queries.{SayQuery};
 
     ghost says = { SayQuery };
 
+    ghost has_fault = { IsQueryFault };
+
     fn from_line(line: &'a [u8]) -> Result<Query<'a>, Fault> {
         match line {
             [b'?', rest @ ..] => beginning(rest),
-            [b'#', prefix @ ..] => Ok(Query::Count(without_zero(prefix)?)),
-            [b'<', word @ ..] => Ok(Query::Before(without_zero(word)?)),
-            [b'>', word @ ..] => Ok(Query::After(without_zero(word)?)),
+            [b'#', prefix @ ..] => count(prefix),
+            [b'<', word @ ..] => before(word),
+            [b'>', word @ ..] => after(word),
             _ => Err(Fault::UnknownQuery),
         }
+    }
+}
+
+// The query for what follows `#`.
+fn count(prefix: &[u8]) -> Result<Query<'_>, Fault>
+    ensures said { IfOk result (SayQuery (35 ∷ prefix.now)) }
+    ensures refused { OnErr result ((query : Query) → ¬ SayQuery (35 ∷ prefix.now) query) }
+    ensures fault { IfErr result (IsQueryFault (35 ∷ prefix.now)) }
+{
+    match without_zero(prefix) {
+        Ok(prefix) => Ok(Query::Count(prefix)),
+        Err(fault) => Err(fault),
+    }
+}
+
+// The query for what follows `<`.
+fn before(word: &[u8]) -> Result<Query<'_>, Fault>
+    ensures said { IfOk result (SayQuery (60 ∷ word.now)) }
+    ensures refused { OnErr result ((query : Query) → ¬ SayQuery (60 ∷ word.now) query) }
+    ensures fault { IfErr result (IsQueryFault (60 ∷ word.now)) }
+{
+    match without_zero(word) {
+        Ok(word) => Ok(Query::Before(word)),
+        Err(fault) => Err(fault),
+    }
+}
+
+// The query for what follows `>`.
+fn after(word: &[u8]) -> Result<Query<'_>, Fault>
+    ensures said { IfOk result (SayQuery (62 ∷ word.now)) }
+    ensures refused { OnErr result ((query : Query) → ¬ SayQuery (62 ∷ word.now) query) }
+    ensures fault { IfErr result (IsQueryFault (62 ∷ word.now)) }
+{
+    match without_zero(word) {
+        Ok(word) => Ok(Query::After(word)),
+        Err(fault) => Err(fault),
     }
 }
 
@@ -43,6 +84,7 @@ impl<'a> FromLine<'a, Fault> for Query<'a> {
 fn beginning(rest: &[u8]) -> Result<Query<'_>, Fault>
     ensures said { IfOk result (SayQuery (63 ∷ rest.now)) }
     ensures refused { OnErr result ((query : Query) → ¬ SayQuery (63 ∷ rest.now) query) }
+    ensures fault { IfErr result (IsBeginFault rest.now) }
 {
     match split_once(rest, b' ') {
         None => Ok(Query::Begin(without_zero(rest)?)),
@@ -55,6 +97,7 @@ fn first_of<'a>(prefix: &'a [u8], digits: &[u8]) -> Result<Query<'a>, Fault>
     ensures number { IfOk result (λ query. (most : ℕ)
         × IsFirstOf query prefix.now most × IsNumber digits.now most) }
     ensures refused { OnErr result ((most : ℕ) → ¬ IsNumber digits.now most) }
+    ensures fault { IfErr result (λ fault. fault ≡ BadNumber) }
 {
     match number_of(digits) {
         Some(most) => Ok(Query::FirstOf(prefix, most)),
@@ -67,6 +110,7 @@ pub(crate) fn without_zero(bytes: &[u8]) -> Result<&[u8], Fault>
     ensures same { IfOk result (λ given. given.now ≡ bytes.now) }
     ensures none { IfOk result (λ given. HasNoZero bytes.now) }
     ensures refused { OnErr result (¬ HasNoZero bytes.now) }
+    ensures fault { IfErr result (λ fault. fault ≡ ZeroByte) }
 {
     if bytes.iter().all(|byte| *byte != 0) {
         Ok(bytes)

@@ -1,5 +1,5 @@
 //! The replies to queries.
-ghost use Rattle.std.specs.Prelude.{◌≡◌, ◌-◌, ◌≤◌, ◌++◌, All, OnOk, codes, length, map, slice_get, take};
+ghost use Rattle.std.specs.Prelude.{◌≡◌, ◌-◌, ◌≤◌, ◌++◌, OnOk, codes, length, map, slice_get, take};
 ghost use Rattle.std.specs.Fmt.{decimal};
 ghost use Rattle.std.specs.List.{flat_map};
 ghost use Rattle.std.specs.Option.{option_map};
@@ -14,63 +14,62 @@ use crate::fault::Fault;
 use crate::query::Query;
 use art_bytes::{CStringKey, SliceKey};
 use art_map::{DEFAULT_PREFIX_LEN, Iter};
-use program_lines::{Failure, Place, Program, push_line, push_number, said};
+use program_lines::{
+    Failure, LineFault, Place, Program, item_of, push_line, push_number, said_whole,
+};
 use std::alloc::{AllocError, Global};
 use std::ops::Bound;
 
-/// The program, over the bytes of the list and of the queries.
-pub struct Words;
+/// The words of a list, which answer queries.
+#[derive(Drop)]
+pub(crate) struct Words {
+    dictionary: Dictionary,
+}
 
-impl Program for Words {
-    ghost use Rattle.words.specs.Replies.{IsOutput, IsBad};
+impl<'a> Program<'a> for Words {
+    ghost use Rattle.words.specs.Places.{IsTable};
+    ghost use Rattle.words.specs.Replies.{IsHeading, HasReply, IsBad, HasFault};
 
     type Fault = Fault;
 
-    ghost is_output = { IsOutput };
+    ghost is_table = { λ list words. IsTable list words.dictionary };
+
+    ghost is_heading = { IsHeading };
+
+    ghost is_reply = { HasReply };
 
     ghost is_bad = { IsBad };
 
-    fn usage() -> &'static str {
-        "usage: words FILE\n\
-        FILE is a list of words, one a line. Queries are lines of standard input:\n\
-        ?PREFIX    the words that begin with the prefix, in order\n\
-        ?PREFIX N  the first N of them\n\
-        #PREFIX    how many they are\n\
-        <WORD      the last word below this one, or none\n\
-        >WORD      the first word above this one, or none\n"
+    ghost has_fault = { HasFault };
+
+    fn load(
+        alloc: Global,
+        list: &'a [u8],
+        output: &mut Vec<u8>,
+    ) -> Result<Words, Failure<LineFault<Fault>>> {
+        let words: Vec<Word<'_>> = said_whole(alloc, Place::File, list)?;
+        let dictionary = dictionary_of(alloc, &words)?;
+        push_counts(alloc, dictionary.len(), words.len(), output)?;
+        Ok(Words { dictionary })
     }
 
-    fn answer(alloc: Global, list: &[u8], input: &[u8]) -> Result<Vec<u8>, Failure<Fault>> {
-        let words: Vec<Word<'_>> = said(alloc, Place::File, list)?;
-        let queries: Vec<Query<'_>> = said(alloc, Place::Input, input)?;
-        let dictionary = dictionary_of(alloc, &words)?;
-        let mut output = Vec::new(alloc);
-        push_counts(alloc, dictionary.len(), words.len(), &mut output)?;
-        push_replies(alloc, &dictionary, &queries, &mut output)?;
-        Ok(output)
+    fn push_reply(
+        &self,
+        alloc: Global,
+        line: &[u8],
+        output: &mut Vec<u8>,
+    ) -> Result<Option<LineFault<Fault>>, AllocError> {
+        let query: Query<'_> = match item_of(line) {
+            Ok(query) => query,
+            Err(fault) => return Ok(Some(fault)),
+        };
+        push_reply(alloc, &self.dictionary, &query, output)?;
+        Ok(None)
     }
 }
 
 // Words of a dictionary in order, each with its place.
 type Entries<'a> = Iter<'a, CStringKey, usize, DEFAULT_PREFIX_LEN>;
-
-// Appends what the queries print, one after another.
-fn push_replies(
-    alloc: Global,
-    dictionary: &Dictionary,
-    queries: &[Query<'_>],
-    output: &mut Vec<u8>,
-) -> Result<(), AllocError>
-    requires places { CountsFrom 0 dictionary.now }
-    requires said { All IsSaid queries.now }
-    ensures { OnOk result (output.new.items
-        ≡ output.old.items ++ flat_map (reply (words_of dictionary.now)) queries.now) }
-{
-    for query in queries {
-        push_reply(alloc, dictionary, query, output)?;
-    }
-    Ok(())
-}
 
 // Appends what a query prints.
 fn push_reply(

@@ -3,11 +3,14 @@ ghost use Rattle.std.specs.Prelude.{◌≡◌, ◌≢◌, IfOk, IfErr, IfNone, I
 ghost use Rattle.std.specs.Option.{option_map};
 ghost use Rattle.art_map.specs.Changes.{IsRefused, MayEnter};
 ghost use Rattle.art_tree.specs.Entries.{put_entry, without_text};
+ghost use Rattle.art_tree.specs.Refusals.{texts_of};
+ghost use Rattle.art_nodes.specs.declared.pointers.OpaqueNodePtr.{OpaqueNodePtr as Pointer};
 ghost use Rattle.art_map.specs.Entries.{entry_with};
+ghost use Rattle.art_map.specs.Shrinking.{NeedsNode};
 
 use crate::map::ArtMap;
+use crate::map::laws::removals_need_nodes;
 use art_bytes::AsBytes;
-use art_header::NodeType;
 use art_tree::InsertFault;
 use art_tree::laws::{entries_are_one_list, the_list_of_entries_changes_with_them};
 use std::alloc::AllocError;
@@ -86,40 +89,30 @@ impl<K: AsBytes, V, const PREFIX_LEN: usize> ArtMap<K, V, PREFIX_LEN> {
         self.insert(key, value)
     }
 
-    /// Reserves memory for `additional` more entries, so that so many inserts of new keys need none: for
-    /// as many leaves, and for as many inner nodes of each kind as so many inserts can add. Where that
-    /// memory is there already, it succeeds. The entries are unchanged, also after a failure.
+    /// Reserves memory for `additional` more entries, as [`ArtTree::reserve_entries`] does: as many
+    /// inserts of new keys, and removals, take none. The entries are unchanged, also after a failure.
     ///
-    /// An inner node has two children or more, one of a larger kind at least 5, 17 or 49, so a map of n
-    /// entries has fewer than n inner nodes, and of the larger kinds at most n/4, n/16 and n/48.
+    /// A list of entries shows no memory. The tree that the map is over does, and its clauses say that
+    /// no such call is refused for memory: see [`tree_mut`](Self::tree_mut).
     ///
     /// (from crates/art_map_tests/src/map/refusals.rt)
     /// ```rust
     /// map.reserve(WORDS.len())?;
     /// ```
+    ///
+    /// [`ArtTree::reserve_entries`]: art_tree::ArtTree::reserve_entries
     pub fn reserve(&mut self, additional: usize) -> Result<(), AllocError>
         ensures same_entries { self.new ≡ self.old }
     {
-        let entries = self.len().saturating_add(additional);
-        self.reserve_kind(NodeType::Leaf, additional)?;
-        self.reserve_kind(NodeType::Node4, additional)?;
-        self.reserve_kind(NodeType::Node16, additional.min(entries / 4))?;
-        self.reserve_kind(NodeType::Node48, additional.min(entries / 16))?;
-        self.reserve_kind(NodeType::Node256, additional.min(entries / 48))
-    }
-
-    // Reserves memory for so many more nodes of the kind.
-    fn reserve_kind(&mut self, kind: NodeType, additional: usize) -> Result<(), AllocError>
-        ensures { self.new ≡ self.old }
-    {
         the_list_of_entries_changes_with_them::<K, V, PREFIX_LEN>();
-        self.tree.reserve(kind, additional)
+        self.tree.reserve_entries(additional)
     }
 
     /// Removes the entry with the bytes of this key, if there is one, and returns it.
     ///
-    /// An allocation may fail only where there is such an entry, since a smaller node may take the
-    /// place of a node on the way. After a failure the entries are unchanged.
+    /// An allocation may fail only where there is such an entry, and the parent of its leaf has 5, 17 or
+    /// 49 children, since a node of a smaller kind takes its place. After a failure the entries are
+    /// unchanged.
     ///
     /// Visits at most one node more than the key has bytes, and changes at most three of them.
     pub fn remove_entry<Q: AsBytes>(&mut self, key: &Q) -> Result<Option<(K, V)>, AllocError>
@@ -127,9 +120,12 @@ impl<K: AsBytes, V, const PREFIX_LEN: usize> ArtMap<K, V, PREFIX_LEN> {
             (λ entry. entry ≡ entry_with K.text self.old (Q.text key.now)) }
         ensures entries { OnOk result (self.new ≡ without_text K.text self.old (Q.text key.now)) }
         ensures refused { OnErr result (entry_with K.text self.old (Q.text key.now) ≢ None) }
+        ensures needs_node { OnErr result
+            (NeedsNode (Pointer K V PREFIX_LEN) (texts_of K.text self.old) (Q.text key.now)) }
         ensures same_entries { OnErr result (self.new ≡ self.old) }
     {
         the_list_of_entries_changes_with_them::<K, V, PREFIX_LEN>();
+        removals_need_nodes(&self.tree);
         self.tree.remove(key.as_bytes())
     }
 }
@@ -142,6 +138,8 @@ impl<K: AsBytes + Drop, V, const PREFIX_LEN: usize> ArtMap<K, V, PREFIX_LEN> {
             ≡ option_map (λ entry. entry.1) (entry_with K.text self.old (Q.text key.now))) }
         ensures entries { OnOk result (self.new ≡ without_text K.text self.old (Q.text key.now)) }
         ensures refused { OnErr result (entry_with K.text self.old (Q.text key.now) ≢ None) }
+        ensures needs_node { OnErr result
+            (NeedsNode (Pointer K V PREFIX_LEN) (texts_of K.text self.old) (Q.text key.now)) }
         ensures same_entries { OnErr result (self.new ≡ self.old) }
     {
         let Some((_, value)) = self.remove_entry(key)? else {

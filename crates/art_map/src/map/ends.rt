@@ -1,7 +1,11 @@
 //! Calls that take entries from the two ends of a map, or all of them.
-ghost use Rattle.std.specs.Prelude.{◌≡◌, ◌≢◌, ◌∷◌, ◌++◌, [], IfOk, IfNone, IfSome, OnErr};
+ghost use Rattle.std.specs.Prelude.{◌≡◌, ◌≢◌, ◌-◌, ◌∷◌, ◌++◌, [], length, slice_get, IfOk, IfNone, IfSome, OnErr};
+ghost use Rattle.art_nodes.specs.declared.pointers.OpaqueNodePtr.{OpaqueNodePtr as Pointer};
+ghost use Rattle.art_tree.specs.Refusals.{texts_of};
+ghost use Rattle.art_map.specs.Shrinking.{NeedsNode};
 
 use crate::map::ArtMap;
+use crate::map::laws::removals_need_nodes;
 use art_bytes::AsBytes;
 use art_tree::laws::{entries_are_one_list, the_list_of_entries_changes_with_them};
 use std::alloc::AllocError;
@@ -9,8 +13,9 @@ use std::alloc::AllocError;
 impl<K: AsBytes, V, const PREFIX_LEN: usize> ArtMap<K, V, PREFIX_LEN> {
     /// Removes the entry with the least key and returns it, or None where there is no entry.
     ///
-    /// An allocation may fail only where there is an entry, since a smaller node may take the place
-    /// of a node on the way. After a failure the entries are unchanged.
+    /// An allocation may fail only where there is an entry, and the parent of its leaf has 5, 17 or 49
+    /// children, since a node of a smaller kind takes its place. After a failure the entries are
+    /// unchanged.
     ///
     /// Visits the nodes on the way to the entry twice, each time at most one for each byte of its key
     /// and one more, and changes at most three of them.
@@ -30,10 +35,13 @@ impl<K: AsBytes, V, const PREFIX_LEN: usize> ArtMap<K, V, PREFIX_LEN> {
         ensures none { IfOk result (λ removed.
             IfNone removed ((self.old ≡ []) × (self.new ≡ []))) }
         ensures refused { OnErr result (self.old ≢ []) }
+        ensures needs_node { OnErr result (IfSome (slice_get self.old 0) (λ entry.
+            NeedsNode (Pointer K V PREFIX_LEN) (texts_of K.text self.old) (K.text entry.0))) }
         ensures same_entries { OnErr result (self.new ≡ self.old) }
     {
         entries_are_one_list::<K, V, PREFIX_LEN>();
         the_list_of_entries_changes_with_them::<K, V, PREFIX_LEN>();
+        removals_need_nodes(&self.tree);
         self.tree.pop_first()
     }
 
@@ -55,10 +63,13 @@ impl<K: AsBytes, V, const PREFIX_LEN: usize> ArtMap<K, V, PREFIX_LEN> {
         ensures none { IfOk result (λ removed.
             IfNone removed ((self.old ≡ []) × (self.new ≡ []))) }
         ensures refused { OnErr result (self.old ≢ []) }
+        ensures needs_node { OnErr result (IfSome (slice_get self.old (length self.old - 1)) (λ entry.
+            NeedsNode (Pointer K V PREFIX_LEN) (texts_of K.text self.old) (K.text entry.0))) }
         ensures same_entries { OnErr result (self.new ≡ self.old) }
     {
         entries_are_one_list::<K, V, PREFIX_LEN>();
         the_list_of_entries_changes_with_them::<K, V, PREFIX_LEN>();
+        removals_need_nodes(&self.tree);
         self.tree.pop_last()
     }
 }

@@ -1,13 +1,18 @@
 //! Laws of every map. The calls do no work: the contract of each is a law.
-ghost use Rattle.std.specs.Prelude.{◌≡◌, ◌<◌, ◌^◌, All, AllPairs, length};
+ghost use Rattle.std.specs.Prelude.{◌≡◌, ◌<◌, ◌^◌, ℕ, List, All, AllPairs, length};
 ghost use Rattle.std.specs.declared.cmp.Ordering.TheVariants.{Less};
 ghost use Rattle.art_bytes.specs.Text.{IsPrefixOf, text_order};
+ghost use Rattle.art_nodes.specs.declared.pointers.OpaqueNodePtr.{OpaqueNodePtr as Pointer};
 ghost use Rattle.art_tree.specs.Dictionary.{Clashes};
+ghost use Rattle.art_tree.specs.Entries.{entries_of};
 ghost use Rattle.art_tree.specs.Refusals.{texts_of};
+ghost use Rattle.art_tree.specs.Removal.{NeedsSmallerNode};
+ghost use Rattle.art_map.specs.Shrinking.{NeedsNode};
 
 use crate::map::ArtMap;
 use art_bytes::{AsBytes, NoPrefixesBytes};
 use art_nodes::OpaqueNodePtr;
+use art_tree::ArtTree;
 use art_tree::laws::{
     entries_are_as_many_as_leaves, entries_are_one_list, entries_are_what_leaves_hold,
     keys_without_prefixes_never_clash, no_text_begins_another,
@@ -42,4 +47,16 @@ impl<K: NoPrefixesBytes, V, const PREFIX_LEN: usize> ArtMap<K, V, PREFIX_LEN> {
         keys_without_prefixes_never_clash::<K, V, PREFIX_LEN>();
         let _arena = self.tree.arena();
     }
+}
+
+/// A removal that needs a smaller node in the arena needs one by the list of the entries. Does no work.
+pub(crate) fn removals_need_nodes<K: AsBytes, V, const PREFIX_LEN: usize>(
+    tree: &ArtTree<K, V, PREFIX_LEN>,
+)
+    ensures { (text : List ℕ) → NeedsSmallerNode K.text tree.now.arena text →
+        NeedsNode (Pointer K V PREFIX_LEN)
+        (texts_of K.text (entries_of K.text tree.now.arena)) text }
+{
+    entries_are_as_many_as_leaves::<K, V, PREFIX_LEN>();
+    let _root = tree.root();
 }

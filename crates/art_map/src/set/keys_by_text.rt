@@ -1,8 +1,10 @@
 //! Keys of a set that are read, taken out or replaced by their bytes.
-ghost use Rattle.std.specs.Prelude.{◌≡◌, ◌≢◌, None, IfErr, IfOk, OnErr, OnOk};
+ghost use Rattle.std.specs.Prelude.{◌≡◌, ◌≢◌, None, map, IfErr, IfOk, OnErr, OnOk};
 ghost use Rattle.std.specs.Option.{option_copied, option_map};
 ghost use Rattle.std.specs.Result.{result_map_both};
+ghost use Rattle.art_nodes.specs.declared.pointers.OpaqueNodePtr.{OpaqueNodePtr as Pointer};
 ghost use Rattle.art_map.specs.Sets.{HasKey, key_with, replace_key, without_key, IsKeyRefused, KeyMayEnter};
+ghost use Rattle.art_map.specs.Shrinking.{NeedsNode};
 
 use crate::set::{ArtSet, key_alone};
 use art_bytes::AsBytes;
@@ -52,6 +54,8 @@ impl<K: AsBytes, const PREFIX_LEN: usize> ArtSet<K, PREFIX_LEN> {
         ensures taken { IfOk result (λ taken. taken ≡ key_with K.text self.old (Q.text key.now)) }
         ensures keys { OnOk result (self.new ≡ without_key K.text self.old (Q.text key.now)) }
         ensures refused { OnErr result (key_with K.text self.old (Q.text key.now) ≢ None) }
+        ensures needs_node { OnErr result (NeedsNode (Pointer K (Unit {0}) PREFIX_LEN)
+            (map K.text self.old) (Q.text key.now)) }
         ensures same_keys { OnErr result (self.new ≡ self.old) }
     {
         owned_key(self.entries.remove_entry(key))

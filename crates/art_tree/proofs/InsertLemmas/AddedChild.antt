@@ -253,6 +253,6 @@ module _ {K V : Type 0} {P : ℕ} {text : K → List ℕ} {old : NodeArena K V P
     taken-there = child-taken child_spot linked leaf free stays new top value entry distinct-there more-there last root_now hung-there short spelled-there
 
     -- the tree has the leaf, and its entries that of the leaf
-    pub child-added : ((path : List ℕ) (t : Tree (OpaqueNodePtr K V P)) → IsSound path t → AreApart (texts t)) → IsArt text last (Some root_now) × IsEntered text old last key value
+    pub child-added : ((path : List ℕ) (t : Tree (OpaqueNodePtr K V P)) → IsSound path t → AreApart (texts t)) → IsArt text last (Some root_now) × IsEntered text old last key value × HoldsEntry last leaf key value
     child-added =
         tree-added text old linked new context part root leaf top key value steps-there last root_now hung-there prefix there.before there.after byte taken-there whole-alone

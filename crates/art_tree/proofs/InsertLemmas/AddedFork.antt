@@ -360,6 +360,6 @@ module _ {K V : Type 0} {P : ℕ} {text : K → List ℕ} {old : NodeArena K V P
               }
 
               -- the tree has the leaf, and its entries that of the leaf
-              pub fork-added : ((path : List ℕ) (t : Tree (OpaqueNodePtr K V P)) → IsSound path t → AreApart (texts t)) → IsArt text last (Some root_now) × IsEntered text old last key value
+              pub fork-added : ((path : List ℕ) (t : Tree (OpaqueNodePtr K V P)) → IsSound path t → AreApart (texts t)) → IsArt text last (Some root_now) × IsEntered text old last key value × HoldsEntry last leaf key value
               fork-added =
                   tree-added text old linked new around_it part_there root leaf top key value fork-steps last root_now hung-there shared_there left_there right_there mismatch.byte taken-there alone-there

@@ -241,10 +241,13 @@ module _ {K V : Type 0} {P : ℕ} (text : K → List ℕ) (old linked new : Node
               }
 
           -- the tree has the leaf, and its entries that of the leaf
-          pub tree-added : IsAlone text old root (plug context part) → ((path : List ℕ) (t : Tree (OpaqueNodePtr K V P)) → IsSound path t → AreApart (texts t)) → IsArt text last (Some root_now) × IsEntered text old last key value
+          pub tree-added : IsAlone text old root (plug context part) → ((path : List ℕ) (t : Tree (OpaqueNodePtr K V P)) → IsSound path t → AreApart (texts t)) → IsArt text last (Some root_now) × IsEntered text old last key value × HoldsEntry last leaf key value
           tree-added alone apart =
-              let now = added-alone alone in
-              ((plug context taken, now), added-entered alone (apart [] (plug context part) alone.is_tree.sound) (apart [] (plug context taken) now.is_tree.sound))
+              let now = added-alone alone in (
+                (plug context taken, now),
+                added-entered alone (apart [] (plug context part) alone.is_tree.sound) (apart [] (plug context taken) now.is_tree.sound),
+                record { leaf = steps.entry.leaf; is_held = leaf-last; key = steps.entry.key; value = steps.entry.value },
+              )
 
 -- where the first step only made spare capacity, what is added after it is added by both
 pub entered-from : {K V : Type 0} {P : ℕ} (text : K → List ℕ) (old reserved last : NodeArena K V P) (key : K) (value : V) (root : OpaqueNodePtr K V P) (tree : Tree (OpaqueNodePtr K V P)) → IsAlone text old root tree → AreApart (texts tree) → SameNodes old reserved

@@ -1,25 +1,38 @@
 -- Insertion: a new text and the entries that are there.
-use Rattle.std.proofs.Common.{◌≡◌, ◌≢◌, ◌⊎◌, ◌∙◌, ℕ, suc, ◌<◌, ◌^◌, List, [], ◌∷◌, ◌++◌, map, length, take, Contains, Option, Some, None, Result, Ok, Err, IfOk, IfErr, OnOk, OnErr, refl, sym, ap, subst, inl, inr, arith, append-nil}
+use Rattle.std.proofs.Common.{◌≡◌, ◌≢◌, ◌⊎◌, ◌∙◌, ℕ, suc, ◌<◌, ◌^◌, List, [], ◌∷◌, ◌++◌, map, length, take, Contains, Option, Some, None, Result, Ok, Err, IfOk, IfErr, OnOk, OnErr, refl, sym, ap, subst, inl, inr, arith, append-nil, IfSome}
 use Rattle.std.proofs.lemmas.Bool.{cases_eq, eq-eqb, ne_eqb}
-use Rattle.std.proofs.lemmas.List.Elements.{Contains-append_right, Contains-append_cases}
+use Rattle.std.proofs.lemmas.List.Elements.{All-contains, Contains-append_right, Contains-append_cases}
+use Rattle.std.proofs.lemmas.Option.{same_Some}
+use Rattle.std.specs.Option.{option_map}
 use Rattle.art_bytes.specs.Text.{IsPrefixOf}
+use Rattle.art_header.specs.declared.node_type.NodeType.{NodeType}
 use Rattle.art_nodes.specs.ChildMap.{child_at}
+use Rattle.art_nodes.specs.Leaf.{leaf_key, leaf_value}
+use Rattle.art_nodes.specs.declared.leaf_node.LeafNode.{LeafNode}
+use Rattle.art_nodes.specs.declared.pointers.NodePtr.{NodePtr}
 use Rattle.art_nodes.specs.declared.pointers.OpaqueNodePtr.{OpaqueNodePtr}
-use Rattle.art_arena.specs.Arena.{NodeArena, Nothing, held, SameNodes}
+use Rattle.art_arena.specs.Arena.{NodeArena, Nothing, capacity, held, SameNodes, SameRoom}
 use Rattle.art_arena.specs.Trees.{Tree, Leaf, Branches, NoBranch, Branch, branch_roots, root_of, leaves, branch_leaves, texts, IsSound, AreSound, IsWellFormed}
 use Rattle.art_tree.specs.Art.{IsAlone, IsArt}
 use Rattle.art_tree.specs.Contexts.{Context, plug, path_to, leaves_before, leaves_after}
 use Rattle.art_tree.specs.Dictionary.{entry_at, HasEntry, IsProperPrefixOf, Clashes, SameEntries}
-use Rattle.art_tree.specs.Insertion.{ClashesIn, IsEntered, IsRefused, MayEnter}
-use Rattle.art_tree.specs.Places.{IsSpot, LacksChild, Parts, reach}
+use Rattle.art_tree.specs.Edits.{HoldsEntry}
+use Rattle.art_tree.specs.Insertion.{AddsEntry, ClashesIn, FindsEntry, InsertsNew, IsEntered, IsRefused, MayEnter}
+use Rattle.art_tree.specs.Places.{Belongs, IsSpot, LacksChild, Parts, present_leaf, reach}
+use Rattle.art_tree.specs.Room.{LacksRoomToInsert}
+use Rattle.art_tree.specs.Search.{EachTree, leaf_pointer}
 use Rattle.art_tree.specs.declared.insert.InsertFault.{InsertFault}
+use Rattle.art_tree.specs.declared.insert.InsertRefusal.{InsertRefusal}
 use Rattle.art_tree.specs.declared.insert.InsertRefusal.TheVariants.{OutOfMemory}
 use Rattle.art_tree.specs.declared.place.Mismatch.{Mismatch}
+use Rattle.art_tree.specs.declared.place.Place.{Place}
+use Rattle.art_tree.specs.declared.place.Place.TheVariants as places
 use Rattle.art_tree.specs.declared.place.Spot.{Spot}
-use Rattle.art_tree.proofs.SharedLemmas.DictionaryLemmas.{AreApart, after-first, empty-entry, held-entry, leaf-held-in, leaf-of-entry, leaf-with}
+use Rattle.art_tree.proofs.SharedLemmas.DictionaryLemmas.{AreApart, after-first, empty-entry, entry-of-member, held-entry, in-map, leaf-held-in, leaf-of-entry, leaf-with}
 use Rattle.art_tree.proofs.SharedLemmas.ExchangedSubtree.{the-one, leaves-plug, sound-part, sound-whole}
 use Rattle.art_bytes.proofs.PrefixLaws.{prefix-on}
 use Rattle.art_tree.proofs.PlaceLemmas.TextsBelow.{text-begins, text-reaches}
+use Rattle.art_tree.proofs.PlaceLemmas.WayPlaces.{leaf-inside}
 use Rattle.art_tree.proofs.SharedLemmas.PrefixLemmas.{key-on}
 
 -- neither text is a prefix of the other
@@ -170,33 +183,119 @@ module _ {K V : Type 0} {P : ℕ} (text : K → List ℕ) (arena : NodeArena K V
             let leaf = leaf-of-entry text arena root tree alone key entry is in
             absurd ((apart leaf.pointer key leaf.inside).0 ([], sym (append-nil key)))
 
+-- the place of a key is a leaf with the key itself
+pub present-is : {K V : Type 0} {P : ℕ} (found : Option (OpaqueNodePtr K V P × Place K V P)) (at : OpaqueNodePtr K V P × NodePtr P (LeafNode K V P)) → Some at ≡ present_leaf found → found ≡ Some (at.0, places.Present at.1)
+present-is None at is = absurd (cc)
+present-is (Some (root, places.Present leaf)) at is = ap (λ (now : OpaqueNodePtr _ _ _ × NodePtr _ (LeafNode _ _ _)). Some (now.0, places.Present now.1)) (sym (same_Some at (root, leaf) is))
+present-is (Some (root, places.Extends leaf)) at is = absurd (cc)
+present-is (Some (root, places.Begins spot)) at is = absurd (cc)
+present-is (Some (root, places.Absent spot byte)) at is = absurd (cc)
+present-is (Some (root, places.Differs spot mismatch)) at is = absurd (cc)
+
+-- it is none where there is no such leaf
+pub present-new : {K V : Type 0} {P : ℕ} (found : Option (OpaqueNodePtr K V P × Place K V P)) (root : OpaqueNodePtr K V P) (place : Place K V P) → found ≡ Some (root, place) → present_leaf found ≡ None → (leaf : NodePtr P (LeafNode K V P)) → place ≡ places.Present leaf → ⊥
+present-new found root place is new leaf here =
+    let wrong : Some (root, leaf) ≡ None = sym (ap present_leaf (is ∙ ap (λ (p : Place _ _ _). Some (root, p)) here)) ∙ new in
+    cc
+
+-- such a leaf is in the tree, and holds the key's entry
+module _ {K V : Type 0} {P : ℕ} (text : K → List ℕ) (arena : NodeArena K V P) (root : Option (OpaqueNodePtr K V P)) (art : IsArt text arena root) (found : Option (OpaqueNodePtr K V P × Place K V P)) (rooted : option_map (λ place. place.0) found ≡ root) (key : List ℕ)
+    (belongs : IfSome found (λ place. EachTree text arena place.0 (λ tree. Belongs tree key place.1))) (at : OpaqueNodePtr K V P × NodePtr P (LeafNode K V P)) (is : Some at ≡ present_leaf found) where
+  place-is : found ≡ Some (at.0, places.Present at.1)
+  place-is = present-is found at is
+
+  pub root-is : root ≡ Some at.0
+  root-is = sym rooted ∙ ap (option_map (λ place. place.0)) place-is
+
+  pub tree-there : IsArt text arena (Some at.0)
+  tree-there = subst (IsArt text arena) root-is art
+
+  pub leaf-there : Contains (leaves tree-there.0) (leaf_pointer at.1, key)
+  leaf-there = leaf-inside tree-there.0 key (leaf_pointer at.1) key (subst (λ o. IfSome o (λ place. EachTree text arena place.0 (λ tree. Belongs tree key place.1))) place-is belongs tree-there.0 tree-there.1.is_tree)
+
+  module _ (apart : AreApart (texts tree-there.0)) where
+    pub there-may : MayEnter text arena key
+    there-may = (
+      All-contains (λ x. length x < 2 ^ 32) (texts tree-there.0) key tree-there.1.short (in-map (λ leaf. leaf.1) (leaves tree-there.0) (leaf_pointer at.1, key) leaf-there),
+      no-clash text arena at.0 tree-there.0 tree-there.1 apart (leaf_pointer at.1) key leaf-there,
+    )
+
+    pub there-held : (entry : K × V) × (entry_at text arena key ≡ Some entry) × HoldsEntry arena (leaf_pointer at.1) entry.0 entry.1
+    there-held =
+        let leaf = leaf-held-in text arena tree-there.0 tree-there.1.is_tree.stands (leaf_pointer at.1) key leaf-there in
+        ((leaf_key leaf.0, leaf_value leaf.0), entry-of-member text arena at.0 tree-there.0 tree-there.1 apart (leaf_pointer at.1) key leaf.0 leaf-there leaf.1, record { leaf = leaf.0; is_held = leaf.1; key = refl; value = refl })
+
 -- an arena that stays without nodes has no entry before and after
 module _ {K V : Type 0} {P : ℕ} (text : K → List ℕ) (old new : NodeArena K V P) (same : SameNodes old new) where
   pub empty-stays : ((pointer : OpaqueNodePtr K V P) → held old pointer ≡ Nothing) → SameEntries text old new
   empty-stays nothing x = empty-entry text new (λ p. same p ∙ nothing p) x ∙ sym (empty-entry text old nothing x)
 
 -- the result of an insert of a text without an entry
-module _ {K V : Type 0} {P : ℕ} (text : K → List ℕ) (old new : NodeArena K V P) (key : K) (value : V) (Lacks : Type 0) where
-  pub record IsAnswered (result : Result (OpaqueNodePtr K V P × Option (K × V)) (InsertFault K V)) : Type 0 where
-    pub art : IfOk result (λ pair. IsArt text new (Some pair.0))
-    pub replaced : IfOk result (λ pair. pair.1 ≡ entry_at text old (text key))
-    pub entered : OnOk result (IsEntered text old new key value)
-    pub no_refusal : OnOk result (MayEnter text old (text key))
-    pub refusal_due : IfErr result (λ fault. IsRefused text old (text key) fault.refusal)
-    pub entry_back : IfErr result (λ fault. (fault.key ≡ key) × (fault.value ≡ value))
-    pub same_entries : OnErr result (SameEntries text old new)
-    pub nodes_kept : OnErr result (SameNodes old new)
-    pub untouched : IfErr result (λ fault. fault.refusal ≢ OutOfMemory → new ≡ old)
-    pub no_room : IfErr result (λ fault. fault.refusal ≡ OutOfMemory → Lacks)
-
+module _ {K V : Type 0} {P : ℕ} (text : K → List ℕ) (old new : NodeArena K V P) (root : Option (OpaqueNodePtr K V P)) (key : K) (value : V) where
   -- it follows from what was added, where nothing but an allocation failure refuses the text
-  module _ (added : Result (OpaqueNodePtr K V P) (K × V)) (art : IfOk added (λ root. IsArt text new (Some root))) (entered : OnOk added (IsEntered text old new key value)) (entry_back : IfErr added (λ entry. entry ≡ (key, value))) (nodes_kept : OnErr added (SameNodes old new)) (lacks : OnErr added Lacks) where
-    pub answered : IsRefused text old (text key) OutOfMemory → (SameNodes old new → SameEntries text old new) → (result : Result (OpaqueNodePtr K V P × Option (K × V)) (InsertFault K V)) → ((root : OpaqueNodePtr K V P) → added ≡ Ok root → result ≡ Ok (root, None))
-        → ((k : K) (v : V) → added ≡ Err (k, v) → result ≡ Err (record { refusal = OutOfMemory; key = k; value = v })) → IsAnswered result
-    answered is_new stay result told refused = by_added added refl art entered entry_back nodes_kept lacks
+  module _ (added : Result (OpaqueNodePtr K V P × NodePtr P (LeafNode K V P)) (K × V)) (adds : AddsEntry text old new root key value added) where
+    pub answered : IsRefused text old (text key) OutOfMemory → (SameNodes old new → SameEntries text old new) → (result : Result (OpaqueNodePtr K V P × NodePtr P (LeafNode K V P)) (InsertFault K V))
+        → ((at : OpaqueNodePtr K V P × NodePtr P (LeafNode K V P)) → added ≡ Ok at → result ≡ Ok at)
+        → ((k : K) (v : V) → added ≡ Err (k, v) → result ≡ Err (record { refusal = OutOfMemory; key = k; value = v })) → InsertsNew text old new root key value result
+    answered is_new stay result told refused = by_added added refl adds.art adds.leaf adds.entered adds.entry_back adds.nodes_kept adds.no_room
       where
-        by_added : (a : Result (OpaqueNodePtr K V P) (K × V)) → added ≡ a → IfOk a (λ root. IsArt text new (Some root)) → OnOk a (IsEntered text old new key value) → IfErr a (λ entry. entry ≡ (key, value)) → OnErr a (SameNodes old new) → OnErr a Lacks → IsAnswered result
-        by_added (Ok root) is is_art is_entered back kept none =
-            subst IsAnswered (sym (told root is)) (record { art = is_art; replaced = sym is_new.1; entered = is_entered; no_refusal = is_new.0; refusal_due = tt; entry_back = tt; same_entries = tt; nodes_kept = tt; untouched = tt; no_room = tt })
-        by_added (Err (k, v)) is is_art is_entered back kept none =
-            subst IsAnswered (sym (refused k v is)) (record { art = tt; replaced = tt; entered = tt; no_refusal = tt; refusal_due = is_new; entry_back = (ap (λ entry. entry.0) back, ap (λ entry. entry.1) back); same_entries = stay kept; nodes_kept = kept; untouched = λ differ. absurd (differ refl); no_room = λ _. none })
+        by_added : (a : Result (OpaqueNodePtr K V P × NodePtr P (LeafNode K V P)) (K × V)) → added ≡ a → IfOk a (λ at. IsArt text new (Some at.0)) → IfOk a (λ at. HoldsEntry new (leaf_pointer at.1) key value) → OnOk a (IsEntered text old new key value)
+            → IfErr a (λ entry. entry ≡ (key, value)) → OnErr a (SameNodes old new) → OnErr a ((kind : NodeType) × LacksRoomToInsert text old root (text key) kind) → InsertsNew text old new root key value result
+        by_added (Ok at) is is_art is_held is_entered back kept none = subst (InsertsNew text old new root key value) (sym (told at is)) (record {
+          art = is_art;
+          leaf = is_held;
+          absent = is_new.1;
+          entered = is_entered;
+          no_refusal = is_new.0;
+          refusal_due = tt;
+          entry_back = tt;
+          same_entries = tt;
+          nodes_kept = tt;
+          untouched = tt;
+          no_room = tt;
+          takes_no_memory = λ has. absurd (has is_new.1);
+          memory = adds.memory;
+        })
+        by_added (Err (k, v)) is is_art is_held is_entered back kept none = subst (InsertsNew text old new root key value) (sym (refused k v is)) (record {
+          art = tt;
+          leaf = tt;
+          absent = tt;
+          entered = tt;
+          no_refusal = tt;
+          refusal_due = is_new;
+          entry_back = (ap (λ entry. entry.0) back, ap (λ entry. entry.1) back);
+          same_entries = stay kept;
+          nodes_kept = kept;
+          untouched = λ differ. absurd (differ refl);
+          no_room = λ _. none;
+          takes_no_memory = λ has. absurd (has is_new.1);
+          memory = adds.memory;
+        })
+
+  -- it is refused for the text, and nothing has changed
+  pub untouched-refused : (refusal : InsertRefusal) → IsRefused text old (text key) refusal → refusal ≢ OutOfMemory → new ≡ old → InsertsNew text old new root key value (Err (record { refusal = refusal; key = key; value = value }))
+  untouched-refused refusal due other same = record {
+    art = tt;
+    leaf = tt;
+    absent = tt;
+    entered = tt;
+    no_refusal = tt;
+    refusal_due = due;
+    entry_back = (refl, refl);
+    same_entries = λ x. ap (λ arena. entry_at text arena x) same;
+    nodes_kept = λ pointer. ap (λ arena. held arena pointer) same;
+    untouched = λ _. same;
+    no_room = λ is. absurd (other is);
+    takes_no_memory = λ has. subst (SameRoom old) (sym same) (λ kind. refl);
+    memory = λ kind. inl (ap (λ arena. capacity arena kind) same);
+  }
+
+-- what is found or added, where the key has no entry and the value was made
+module _ {K V : Type 0} {P : ℕ} (text : K → List ℕ) (old new : NodeArena K V P) (root : Option (OpaqueNodePtr K V P)) (key : K) (value : V) (made : V → Type 0) (is_made : made value) where
+  pub new-found : (result : Result (OpaqueNodePtr K V P × NodePtr P (LeafNode K V P)) (InsertFault K V)) → InsertsNew text old new root key value result → IfOk result (λ at. FindsEntry text old new key made (leaf_pointer at.1))
+  new-found (Ok at) done = inr (value, is_made, done.absent, done.entered, done.leaf)
+  new-found (Err fault) done = tt
+
+  pub made-back : (result : Result (OpaqueNodePtr K V P × NodePtr P (LeafNode K V P)) (InsertFault K V)) → InsertsNew text old new root key value result → IfErr result (λ fault. (fault.key ≡ key) × made fault.value)
+  made-back (Ok at) done = tt
+  made-back (Err fault) done = (done.entry_back.0, subst made (sym done.entry_back.1) is_made)

@@ -28,6 +28,10 @@ slice-fits = lit< tt
 pub spot-fits : 56 < 2 ^ 63
 spot-fits = lit< tt
 
+-- that of a place with a root
+pub place-fits : 80 < 2 ^ 63
+place-fits = lit< tt
+
 -- kinds with space for more and more children are apart
 pub kinds-apart : {a b : NodeType} → most_children a < most_children b → a ≢ b
 kinds-apart less same = omega (arith, less, ap most_children same)

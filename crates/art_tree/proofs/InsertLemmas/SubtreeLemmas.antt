@@ -6,14 +6,14 @@ use Rattle.std.proofs.lemmas.List.{drop_at, drop-drop, length-take-le}
 use Rattle.std.proofs.lemmas.List.Elements.{Contains-append_left, Contains-append_right, Contains-append_cases, filter_agree}
 use Rattle.std.proofs.lemmas.Option.{slice_get_within}
 use Rattle.std.specs.declared.cmp.Ordering.TheVariants.{Less}
-use Rattle.std.specs.declared.ops.Bound.TheVariants.{Excluded, Unbounded}
 use Rattle.art_bytes.specs.Text.{IsPrefixOf, text_order}
 use Rattle.art_header.specs.NodeType.{kind_for, most_children, grown_kind}
-use Rattle.art_nodes.specs.ChildMap.{IsAscending, IsAscendingFrom, key_bytes, child_at, with_child, pairs_within}
+use Rattle.art_nodes.specs.ChildMap.{IsAscending, IsAscendingFrom, key_bytes, child_at, with_child}
 use Rattle.art_nodes.specs.Pointers.{node_kind}
 use Rattle.art_nodes.specs.declared.pointers.OpaqueNodePtr.{OpaqueNodePtr}
 use Rattle.art_arena.specs.Trees.{Tree, Leaf, Inner, Branches, NoBranch, Branch, branch_roots, root_of, leaves, branch_leaves, places, branch_places, IsSound, AreSound}
 use Rattle.art_tree.specs.Edits.{IsBeside, LiesBeside, two_children}
+use Rattle.art_tree.specs.Hanging.{branches_on, pairs_on}
 use Rattle.art_arena.specs.declared.ends.End.{End}
 use Rattle.art_arena.specs.declared.ends.End.TheVariants.{First, Last}
 use Rattle.art_tree.specs.Loading.{HasSmallestKinds, HaveSmallestKinds}
@@ -58,14 +58,14 @@ record IsParted {H : Type 0} (low : ℕ) (branches : Branches H) (byte : ℕ) : 
   pub lesser : filter (λ p. nat_lt p.0 byte) (branch_roots branches) ≡ branch_roots before
   pub greater : filter (λ p. nat_lt byte p.0) (branch_roots branches) ≡ branch_roots after
 
--- a place for a byte in a node, what is there with a leaf, and what comes after it
+-- a place for a byte in a node, what is there with a leaf, and what comes before and after it
 pub record HasChildPlace {H : Type 0} (path prefix : List ℕ) (branches : Branches H) (byte : ℕ) : Type 0 where
   pub before : Branches H
   pub after : Branches H
   pub same : join before after ≡ branches
   pub place : HasPlace path prefix before byte after
   pub written : (leaf : H) (text : List ℕ) → with_child (branch_roots branches) byte leaf ≡ branch_roots (join before (Branch byte (Leaf leaf text) after))
-  pub later : pairs_within (branch_roots branches) (Excluded byte) Unbounded ≡ branch_roots after
+  pub sides : (end : End) → pairs_on end (branch_roots branches) byte ≡ branch_roots (branches_on end before after)
 
 module _ {H : Type 0} where
   -- a branch of a lesser byte goes before the place
@@ -101,6 +101,11 @@ module _ {H : Type 0} where
     ]
   ]
 
+  -- the branches of lesser and of greater bytes are those before and after the place
+  parted-sides : (low byte : ℕ) (branches : Branches H) (parts : IsParted low branches byte) (end : End) → pairs_on end (branch_roots branches) byte ≡ branch_roots (branches_on end parts.before parts.after)
+  parted-sides low byte branches parts First = filter_agree (λ p. nat_lt byte p.0 && true) (λ p. nat_lt byte p.0) (λ p. and-true (nat_lt byte p.0)) (branch_roots branches) ∙ parts.greater
+  parted-sides low byte branches parts Last = parts.lesser
+
   -- an inner node has a place for a byte that has no branch
   pub child-place : (path prefix : List ℕ) (node : H) (branches : Branches H) (byte : ℕ) → IsSound path (Inner node prefix branches) → byte < 256 → child_at (branch_roots branches) byte ≡ None → HasChildPlace path prefix branches byte
   child-place path prefix node branches byte sound fits absent =
@@ -115,7 +120,7 @@ module _ {H : Type 0} where
           ascending = parts.ascending;
         };
         written = λ leaf text. rw (parts.lesser, parts.greater) (sym (roots-join parts.before (Branch byte (Leaf leaf text) parts.after)));
-        later = filter_agree (λ p. nat_lt byte p.0 && true) (λ p. nat_lt byte p.0) (λ p. and-true (nat_lt byte p.0)) (branch_roots branches) ∙ parts.greater;
+        sides = parted-sides 0 byte branches parts;
       }
 
   -- the node with a leaf at a place has one branch more

@@ -1,12 +1,11 @@
 -- On which side of a key the leaves of a tree lie, by the key's place.
 use Rattle.std.proofs.Common.{◌≡◌, ◌≢◌, ◌∙◌, ◌⊎◌, ℕ, suc, ◌<◌, ◌≤◌, true, false, nat_lt, if◌then◌else◌, List, [], ◌∷◌, ◌++◌, take, All, refl, sym, ap, subst, inl, inr, arith}
 use Rattle.std.specs.declared.cmp.Ordering.TheVariants.{Greater}
-use Rattle.std.specs.declared.ops.Bound.TheVariants.{Excluded, Unbounded}
 use Rattle.std.proofs.lemmas.Bool.{cases_lt, le-ltb, lt-ltb}
 use Rattle.std.proofs.lemmas.List.Elements.{All-nil, All-cons, All-append, All-weaker}
 use Rattle.art_bytes.specs.Text.{IsPrefixOf}
 use Rattle.art_bytes.proofs.PrefixLaws.{prefix-on, prefix-shorter}
-use Rattle.art_nodes.specs.ChildMap.{ChildMap, IsAscendingFrom, key_bytes, pairs_within}
+use Rattle.art_nodes.specs.ChildMap.{ChildMap, IsAscendingFrom, key_bytes}
 use Rattle.art_nodes.specs.declared.pointers.OpaqueNodePtr.{OpaqueNodePtr}
 use Rattle.art_arena.specs.Arena.{NodeArena, HeldLeaf, Nothing, held}
 use Rattle.art_arena.specs.Ends.{IsAtEnd}
@@ -15,7 +14,7 @@ use Rattle.art_arena.specs.Trees.{Tree, Leaf, Inner, Branches, NoBranch, Branch,
 use Rattle.art_arena.specs.declared.ends.End.{End}
 use Rattle.art_arena.specs.declared.ends.End.TheVariants.{First, Last}
 use Rattle.art_tree.specs.Contexts.{Context, Whole, Under, plug, path_to, leaves_before, leaves_after, join}
-use Rattle.art_tree.specs.Hanging.{HasPlaceAt, StandsBeside}
+use Rattle.art_tree.specs.Hanging.{HasPlaceAt, StandsBeside, branches_on, pairs_on}
 use Rattle.art_tree.specs.Dictionary.{IsProperPrefixOf}
 use Rattle.art_tree.specs.Places.{reach, BeginsAll, IsSpot, IsSpotIn, LacksChild, LeadsToLeaf, Parts}
 use Rattle.art_tree.specs.Sides.{comes_before, is_before, is_last, AreOn, IsNextTo}
@@ -120,7 +119,7 @@ module _ {K V : Type 0} {P : ℕ} (text : K → List ℕ) (arena : NodeArena K V
         after = place.after;
         stands = subst (λ b. StandsIn text arena (Inner pointer prefix b)) (sym place.same) stands;
         sound = subst (λ b. IsSound path (Inner pointer prefix b)) (sym place.same) sound;
-        later = subst (λ b. pairs_within (branch_roots b) (Excluded byte) Unbounded ≡ branch_roots place.after) (sym place.same) place.later;
+        sides = subst (λ b. (end : End) → pairs_on end (branch_roots b) byte ≡ branch_roots (branches_on end place.before place.after)) (sym place.same) place.sides;
       }
 
   module _ (tree : Tree (OpaqueNodePtr K V P)) (key : List ℕ) where

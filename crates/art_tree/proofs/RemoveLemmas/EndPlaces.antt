@@ -1,50 +1,23 @@
 -- Removal: the leaf at an end of a tree.
-use Rattle.std.proofs.Common.{◌≡◌, ◌∙◌, ℕ, List, [], ◌∷◌, AllPairs, Contains, Some, sym, ap, subst, arith}
+use Rattle.std.proofs.Common.{◌≡◌, ◌∙◌, ℕ, List, AllPairs, Contains, sym, ap}
 use Rattle.std.specs.Option.{option_map}
 use Rattle.std.specs.declared.cmp.Ordering.TheVariants.{Less}
-use Rattle.std.proofs.lemmas.Option.{same_Some}
 use Rattle.art_bytes.specs.Text.{text_order}
 use Rattle.art_nodes.specs.Leaf.{leaf_key, leaf_value}
-use Rattle.art_nodes.specs.Pointers.{slab_key}
 use Rattle.art_nodes.specs.declared.pointers.NodePtr.{NodePtr}
 use Rattle.art_nodes.specs.declared.pointers.OpaqueNodePtr.{OpaqueNodePtr}
 use Rattle.art_nodes.specs.declared.leaf_node.LeafNode.{LeafNode}
 use Rattle.art_arena.specs.Arena.{NodeArena, HeldLeaf, held}
 use Rattle.art_arena.specs.Ends.{IsAtEnd}
-use Rattle.art_arena.specs.Links.{leaf_at}
-use Rattle.art_arena.specs.Standing.{IsTreeIn}
 use Rattle.art_arena.specs.Trees.{Tree, leaves, texts}
 use Rattle.art_arena.specs.declared.ends.End.{End}
 use Rattle.art_tree.specs.Art.{IsAlone}
 use Rattle.art_tree.specs.Ends.{IsEndEntry}
-use Rattle.art_tree.specs.Search.{EachTree, IsPathTo, leaf_pointer, scan}
-use Rattle.art_tree.specs.declared.path.TreePath.{TreePath}
-use Rattle.art_tree.proofs.SharedLemmas.DictionaryLemmas.{AreApart, end-entry, end-held, end-in, end-within, in-scan, leaf-held-in}
-use Rattle.art_tree.proofs.SharedLemmas.ExchangedSubtree.{the-one}
+use Rattle.art_tree.specs.Search.{leaf_pointer}
+use Rattle.art_tree.proofs.SharedLemmas.DictionaryLemmas.{AreApart, end-entry, end-held, end-within, leaf-held-in}
 use Rattle.art_tree.proofs.InsertLemmas.NodeLemmas.{one-leaf}
 
--- a search for the text of a leaf finds that leaf
-module _ {K V : Type 0} {P : ℕ} (text : K → List ℕ) (arena seen : NodeArena K V P) (same : seen ≡ arena) (root : OpaqueNodePtr K V P) (tree : Tree (OpaqueNodePtr K V P)) (is : IsTreeIn text arena root tree) (leaf : NodePtr P (LeafNode K V P)) (key : List ℕ) (inside : Contains (leaves tree) (leaf_pointer leaf, key)) where
-  read : IsTreeIn text seen root tree
-  read = subst (λ arena. IsTreeIn text arena root tree) (sym same) is
-
-  pub search-finds : EachTree text seen root (λ tree. scan tree key ≡ []) → ⊥
-  search-finds answer =
-      let (k, within, at) = subst (λ all. Contains all (leaf_pointer leaf, key)) (answer tree read) (in-scan (leaves tree) (leaf_pointer leaf) key inside) in absurd (omega (arith, within))
-
-  pub search-path : (other : NodePtr P (LeafNode K V P)) (path : TreePath K V P) → EachTree text seen root (λ tree. scan tree key ≡ (leaf_pointer other, key) ∷ []) → EachTree text seen root (λ tree. IsPathTo tree (leaf_pointer other) path) → IsPathTo tree (leaf_pointer leaf) path
-  search-path other path answer way =
-      let one = the-one (leaf_pointer other, key) (leaf_pointer leaf, key) (subst (λ all. Contains all (leaf_pointer leaf, key)) (answer tree read) (in-scan (leaves tree) (leaf_pointer leaf) key inside)) in
-      subst (λ p. IsPathTo tree p path) (ap (λ pair. pair.0) one) (way tree read)
-
 module _ {K V : Type 0} {P : ℕ} (text : K → List ℕ) (arena : NodeArena K V P) (end : End) (root : OpaqueNodePtr K V P) (tree : Tree (OpaqueNodePtr K V P)) (alone : IsAlone text arena root tree) (leaf : NodePtr P (LeafNode K V P)) (at_end : IsAtEnd end (leaves tree) (leaf_pointer leaf)) where
-  -- the leaf at an end has the text of this key
-  pub end-text : (key : K) → option_map leaf_key (leaf_at arena (slab_key leaf)) ≡ Some key → Contains (leaves tree) (leaf_pointer leaf, text key)
-  end-text key is_key =
-      let there = end-held text arena end root tree alone leaf at_end in
-      let same = same_Some (leaf_key there.0) key (sym (ap (option_map leaf_key) there.1) ∙ is_key) in
-      subst (λ x. Contains (leaves tree) (leaf_pointer leaf, x)) (sym there.2 ∙ ap text same) (end-in end (leaves tree) (leaf_pointer leaf) at_end)
-
   module _ (apart : AreApart (texts tree)) (ascend : AllPairs (λ a b. text_order a b ≡ Less) (texts tree)) where
     -- it has the entry at that end
     pub end-is : IsEndEntry text arena end (leaf_key (end-held text arena end root tree alone leaf at_end).0, leaf_value (end-held text arena end root tree alone leaf at_end).0)

@@ -1,5 +1,5 @@
 -- Removal: a leaf of a node of more than two children.
-use Rattle.std.proofs.Common.{◌≡◌, ◌≢◌, ◌⊎◌, ◌∙◌, ℕ, ◌+◌, ◌<◌, ◌≤◌, List, [], ◌∷◌, ◌++◌, length, Contains, Option, Some, None, refl, sym, ap, subst, inl, inr, arith}
+use Rattle.std.proofs.Common.{◌≡◌, ◌≢◌, ◌↔◌, ◌⊎◌, ◌∙◌, Bool, IsTrue, ℕ, ◌+◌, ◌<◌, ◌≤◌, List, [], ◌∷◌, ◌++◌, length, Contains, Option, Some, None, refl, sym, ap, subst, inl, inr, arith}
 use Rattle.std.proofs.lemmas.Bool.{cases_lt}
 use Rattle.std.proofs.lemmas.List.Elements.{Contains-append_right}
 use Rattle.art_header.specs.NodeType.{kind_for, least_children, shrunk_kind}
@@ -16,7 +16,7 @@ use Rattle.art_arena.specs.Links.{AreDistinct, Spells}
 use Rattle.art_arena.specs.Standing.{AllStandIn}
 use Rattle.art_arena.specs.Trees.{Tree, Leaf, Inner, Branch, branch_roots, branch_leaves, texts, places, branch_places, IsSound}
 use Rattle.art_tree.specs.Contexts.{plug, path_to, KeepsAt, join}
-use Rattle.art_tree.specs.Cuts.{HasOneLess, HasRoomToShrink}
+use Rattle.art_tree.specs.Cuts.{HasOneLess, HasRoomToShrink, TellsFewest}
 use Rattle.art_tree.specs.Dropping.{HangsUnder}
 use Rattle.art_tree.specs.Edits.{StaysAt}
 use Rattle.art_tree.specs.Hanging.{CanHang, IsHung}
@@ -79,12 +79,16 @@ module _ {K V : Type 0} {P : ℕ} {text : K → List ℕ} {old : NodeArena K V P
         count = least-counts (node_kind parent) place.inner has.0 has.1;
       }
 
+  -- a node that has not two children has more
+  pub more-than-two : length place.node.children ≢ 2 → (node : nodes.Inner (OpaqueNodePtr K V P)) → held old parent ≡ HeldInner node → 2 < length node.children
+  more-than-two many node is =
+      let same = ap (λ n. length n.children) (one-inner (held old parent) place.node node place.is_held is) in
+      omega (arith, same, many, ap length place.shows.children, place.sound.0)
+
   -- where no smaller kind is needed, the node has more than the fewest children of its kind
   pub not-least : length place.node.children ≢ 2 → (¬ NeedsSmallerNode text old hangs.text) → (node : nodes.Inner (OpaqueNodePtr K V P)) → held old parent ≡ HeldInner node → length node.children ≢ least_children (node_kind parent)
   not-least many enough node is least =
-      enough (needs-smaller (λ other there.
-      let same = ap (λ n. length n.children) (one-inner (held old parent) place.node other place.is_held there) in
-      (omega (arith, same, many, ap length place.shows.children, place.sound.0), ap (λ n. length n.children) (one-inner (held old parent) other node there is) ∙ least)))
+      enough (needs-smaller (λ other there. (more-than-two many other there, ap (λ n. length n.children) (one-inner (held old parent) other node there is) ∙ least)))
 
   -- the node is as it was once the leaf is taken
   module _ (cut : NodeArena K V P) (gone : held cut leaf ≡ Nothing) (stays : (p : OpaqueNodePtr K V P) → p ≢ leaf → StaysAt old cut p) where
@@ -99,6 +103,9 @@ module _ {K V : Type 0} {P : ℕ} {text : K → List ℕ} {old : NodeArena K V P
         let same = one-inner (held cut parent) place.node node is-cut is in
         let some = ap (λ n. child_at n.children byte) (sym same) ∙ ap (λ children. child_at children byte) place.shows.children ∙ dropped-child hangs.before byte (Leaf leaf hangs.text) hangs.after place.sound.1 in
         let wrong : Some leaf ≡ None = sym some ∙ none in absurd (cc)
+
+    pub cut-fewest : {fewest : Bool} → TellsFewest old parent fewest → TellsFewest cut parent fewest
+    cut-fewest {fewest = fewest} tells node is = subst (λ n. IsTrue fewest ↔ (length n.children ≡ least_children (node_kind parent))) (one-inner (held cut parent) place.node node is-cut is) (tells place.node place.is_held)
 
     module _ (many : length place.node.children ≢ 2) where
       pub three : 2 < length place.node.children

@@ -26,14 +26,6 @@ less-where-differ least count most differ = elim (cases_lt least count) [
   | inr upto ↦ absurd (differ (omega (arith, most, upto)))
 ]
 
--- a node larger than a Node4 has more than two children
-pub more-than-two : (kind : NodeType) → kind ≢ kinds.Leaf → kind ≢ kinds.Node4 → 2 < least_children kind
-more-than-two kinds.Node4 inner larger = absurd (larger refl)
-more-than-two kinds.Node16 inner larger = omega arith
-more-than-two kinds.Node48 inner larger = omega arith
-more-than-two kinds.Node256 inner larger = omega arith
-more-than-two kinds.Leaf inner larger = absurd (inner refl)
-
 -- a test whether a count is the least one
 pub counted : (count start : ℕ) {all least : ℕ} → count ≡ all → start ≡ least → IsTrue (count == start) ↔ (all ≡ least)
 counted count start is from = (λ same. omega (arith, eqb-true count start same, is, from), λ e. eq-eqb count start (omega (arith, is, from)))

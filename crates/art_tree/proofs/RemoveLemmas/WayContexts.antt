@@ -4,7 +4,7 @@ use Rattle.std.proofs.lemmas.Option.{same_Some}
 use Rattle.art_nodes.specs.declared.pointers.OpaqueNodePtr.{OpaqueNodePtr}
 use Rattle.art_arena.specs.Trees.{Tree, Leaf, Inner, Branches, NoBranch, Branch}
 use Rattle.art_tree.specs.Contexts.{Context, Whole, Under, plug, join}
-use Rattle.art_tree.specs.Dropping.{HangsUnder}
+use Rattle.art_tree.specs.Dropping.{HangsUnder, HasLeafAt, IsAtPath, steps_to}
 use Rattle.art_tree.specs.Paths.{path_of}
 use Rattle.art_tree.specs.Places.{above}
 use Rattle.art_tree.specs.Search.{IsWay, IsWayUnder, IsPathTo}
@@ -13,18 +13,6 @@ use Rattle.art_tree.specs.declared.path.TreePath.TheVariants.{Root, ChildOfRoot,
 use Rattle.art_tree.proofs.SharedLemmas.BranchLemmas.{one_branch}
 use Rattle.art_tree.proofs.LoadLemmas.PlanLemmas.{join_assoc}
 use Rattle.art_tree.proofs.FindLemmas.PathSteps.{path_of-visit, visited}
-
--- the inner nodes above a place from the root down, each with the byte that is taken from it
-abbrev pub steps_to : {H : Type 0} → Context H → List (H × ℕ)
-steps_to Whole = []
-steps_to (Under above pointer prefix before byte after) = steps_to above ++ (pointer, byte) ∷ []
-
--- the place of a leaf in a tree, to which these steps lead
-pub record HasLeafAt {H : Type 0} (tree : Tree H) (steps : List (H × ℕ)) (pointer : H) : Type 0 where
-  pub context : Context H
-  pub text : List ℕ
-  pub whole : plug context (Leaf pointer text) ≡ tree
-  pub same : steps_to context ≡ steps
 
 -- the place is the child under this byte of an inner node, which has this parent
 pub record IsUnder {H : Type 0} (context : Context H) (parent : H) (byte : ℕ) (higher : Option (H × ℕ)) : Type 0 where
@@ -73,7 +61,7 @@ module _ {H : Type 0} where
     ]
 
   -- a way leads to a place
-  pub way-context : (tree : Tree H) (steps : List (H × ℕ)) (pointer : H) → IsWay tree steps pointer → HasLeafAt tree steps pointer
+  way-context : (tree : Tree H) (steps : List (H × ℕ)) (pointer : H) → IsWay tree steps pointer → HasLeafAt tree steps pointer
   way-context tree steps pointer way = way-from Whole tree steps pointer way
 
   -- a leaf is under its parent, where its place is
@@ -142,20 +130,22 @@ module _ {K V : Type 0} {P : ℕ} where
       }
 
   module _ (tree : Tree (OpaqueNodePtr K V P)) (pointer : OpaqueNodePtr K V P) where
+    -- a path of the one way to a leaf has it at its end
+    pub at-path : (path : TreePath K V P) → IsPathTo tree pointer path → IsAtPath tree pointer path
+    at-path path (steps, only, is) = (steps, way-context tree steps pointer only.0, is)
+
     -- a leaf to which the path has no step is the whole tree
-    pub leaf-root : IsPathTo tree pointer Root → (text : List ℕ) × (tree ≡ Leaf pointer text)
-    leaf-root (steps, only, is) =
-        let leaf = way-context tree steps pointer only.0 in
+    pub leaf-root : IsAtPath tree pointer Root → (text : List ℕ) × (tree ≡ Leaf pointer text)
+    leaf-root (steps, leaf, is) =
         (leaf.text, sym leaf.whole ∙ ap (λ context. plug context (Leaf pointer leaf.text)) (path-root leaf.context (ap path_of leaf.same ∙ sym is)))
 
     -- any other leaf is a child of the node of the last step
-    leaf-under : (path : TreePath K V P) (parent : OpaqueNodePtr K V P) (byte : ℕ) → IsPathTo tree pointer path → last_step path ≡ Some (parent, byte) → HangsUnder tree pointer parent byte (step_before path)
-    leaf-under path parent byte (steps, only, is) last =
-        let leaf = way-context tree steps pointer only.0 in
+    leaf-under : (path : TreePath K V P) (parent : OpaqueNodePtr K V P) (byte : ℕ) → IsAtPath tree pointer path → last_step path ≡ Some (parent, byte) → HangsUnder tree pointer parent byte (step_before path)
+    leaf-under path parent byte (steps, leaf, is) last =
         hangs-under tree steps pointer parent byte (step_before path) leaf (path-under leaf.context path parent byte (ap path_of leaf.same ∙ sym is) last)
 
-    pub leaf-child : (parent : OpaqueNodePtr K V P) (byte : ℕ) → IsPathTo tree pointer (ChildOfRoot parent byte) → HangsUnder tree pointer parent byte None
+    pub leaf-child : (parent : OpaqueNodePtr K V P) (byte : ℕ) → IsAtPath tree pointer (ChildOfRoot parent byte) → HangsUnder tree pointer parent byte None
     leaf-child parent byte path = leaf-under (ChildOfRoot parent byte) parent byte path refl
 
-    pub leaf-normal : (grandparent : OpaqueNodePtr K V P) (parent_byte : ℕ) (parent : OpaqueNodePtr K V P) (byte : ℕ) → IsPathTo tree pointer (Normal grandparent parent_byte parent byte) → HangsUnder tree pointer parent byte (Some (grandparent, parent_byte))
+    pub leaf-normal : (grandparent : OpaqueNodePtr K V P) (parent_byte : ℕ) (parent : OpaqueNodePtr K V P) (byte : ℕ) → IsAtPath tree pointer (Normal grandparent parent_byte parent byte) → HangsUnder tree pointer parent byte (Some (grandparent, parent_byte))
     leaf-normal grandparent parent_byte parent byte path = leaf-under (Normal grandparent parent_byte parent byte) parent byte path refl

@@ -27,7 +27,7 @@ use Rattle.art_tree.proofs.SharedLemmas.SameEntries.{same-texts}
 
 module _ {X : Type 0} where
   -- each of these slots has something
-  abbrev HasEach : List (Option X) → List ℕ → Type 0
+  abbrev pub HasEach : List (Option X) → List ℕ → Type 0
   HasEach slots keys = All (λ k. slice_index_or slots k None ≢ None) keys
 
   -- the keys but zero, each of them lower by one
@@ -63,7 +63,7 @@ module _ {X : Type 0} where
       }
 
   -- different keys of slots that have something are no more than there are such slots
-  distinct-fit : (slots : List (Option X)) (keys : List ℕ) → AreDistinct keys → HasEach slots keys → length keys ≤ count_by is_some slots
+  pub distinct-fit : (slots : List (Option X)) (keys : List ℕ) → AreDistinct keys → HasEach slots keys → length keys ≤ count_by is_some slots
   distinct-fit [] [] distinct each = omega arith
   distinct-fit [] (k ∷ keys) distinct each = absurd (All-head (λ k. slice_index_or {A = Option X} [] k None ≢ None) k keys each refl)
   distinct-fit (None ∷ slots) keys distinct each =

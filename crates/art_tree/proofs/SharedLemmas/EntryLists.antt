@@ -42,7 +42,7 @@ equal-text (a ∷ x) (b ∷ y) is = elim (eqb_tells a b) [
 ]
 
 -- a text is another or not
-text-is : (a b : List ℕ) → (a ≡ b) ⊎ (a ≢ b)
+pub text-is : (a b : List ℕ) → (a ≡ b) ⊎ (a ≢ b)
 text-is a b = by_test (pointwise nat_eq a b) refl
   where
     by_test : (t : Bool) → pointwise nat_eq a b ≡ t → (a ≡ b) ⊎ (a ≢ b)

@@ -72,7 +72,7 @@ module _ {K V : Type 0} {P : ℕ} (text : K → List ℕ) (old : NodeArena K V P
       by_slot None is = absurd (is_held (ap (held_leaf {H = OpaqueNodePtr K V P}) is))
       by_slot (Some was) is = (was, is)
 
-  there : held old (opaque_pointer kinds.Leaf key) ≡ HeldLeaf leaf-there.0
+  pub there : held old (opaque_pointer kinds.Leaf key) ≡ HeldLeaf leaf-there.0
   there = ap (held_leaf {H = OpaqueNodePtr K V P}) leaf-there.1
 
   module _ (w : V) (changes : Changes old (with_value_at old key w) (opaque_pointer kinds.Leaf key) (HeldLeaf (with_value leaf-there.0 w))) (stands_on : (tree : Tree (OpaqueNodePtr K V P)) → StandsIn text old tree → StandsIn text (with_value_at old key w) tree)
@@ -91,3 +91,11 @@ module _ {K V : Type 0} {P : ℕ} (text : K → List ℕ) (old : NodeArena K V P
         let inside = leaf-in text old tree alone.is_tree.stands at was (alone.no_others at is_held) there in
         let entered = replaced-entered text old (with_value_at old key w) (leaf_key was) w at was (with_value was w) there changes refl refl refl tree (stands_on tree) spelled_on root alone is_apart inside in
         keys-entered text is_key old (with_value_at old key w) keys (leaf_key was) w entered (keys (leaf_key was, leaf_value was) (held-entry text old root tree alone is_apart at was there))
+
+    -- the leaf's entry has the value, and nothing else has changed
+    pub written : (root : OpaqueNodePtr K V P) (tree : Tree (OpaqueNodePtr K V P)) → IsAlone text old root tree → AreApart (texts tree) → IsEntered text old (with_value_at old key w) (leaf_key leaf-there.0) w
+    written root tree alone apart =
+        let at = opaque_pointer kinds.Leaf key in
+        let was = leaf-there.0 in
+        let inside = leaf-in text old tree alone.is_tree.stands at was (alone.no_others at is_held) there in
+        replaced-entered text old (with_value_at old key w) (leaf_key was) w at was (with_value was w) there changes refl refl refl tree (stands_on tree) spelled_on root alone apart inside

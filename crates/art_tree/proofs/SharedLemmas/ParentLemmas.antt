@@ -1,30 +1,20 @@
--- The parent of a node, and the nodes beside it.
-use Rattle.std.proofs.Common.{◌≡◌, ◌≢◌, ◌∙◌, ℕ, List, [], ◌∷◌, ◌++◌, Option, Some, None, IsNone, Result, Ok, Err, OnOk, OnErr, Bool, true, false, sym, ap, subst, refl, append-nil}
+-- The parent of a node.
+use Rattle.std.proofs.Common.{◌≡◌, ◌≢◌, ◌∙◌, ℕ, Option, Some, None, IsNone, Result, Ok, Err, OnOk, OnErr, Bool, true, false, sym, ap, subst, refl}
 use Rattle.std.proofs.lemmas.Option.{same_Some}
 use Rattle.art_header.specs.NodeType.{most_children}
 use Rattle.art_header.specs.declared.node_type.NodeType.TheVariants as kinds
-use Rattle.std.specs.Option.{option_map}
 use Rattle.std.specs.Result.{is_err}
-use Rattle.std.specs.declared.ops.Bound.TheVariants.{Excluded, Unbounded}
-use Rattle.art_nodes.specs.ChildMap.{IsAscending, child_at, first_pair, key_bytes, pairs_within}
+use Rattle.art_nodes.specs.ChildMap.{IsAscending, child_at, key_bytes}
 use Rattle.art_nodes.specs.Inner as nodes
 use Rattle.art_nodes.specs.Inner.{HasRoomFor}
 use Rattle.art_nodes.specs.Pointers.{node_kind, opaque_key}
 use Rattle.art_nodes.specs.declared.pointers.OpaqueNodePtr.{OpaqueNodePtr}
 use Rattle.art_nodes.specs.declared.leaf_node.LeafNode.{LeafNode}
 use Rattle.art_arena.specs.Arena.{NodeArena, HeldInner, Nothing, held, held_leaf, held_under}
-use Rattle.art_arena.specs.Standing.{TreeAt, AllStandIn}
-use Rattle.art_arena.specs.Trees.{Tree, Inner, Branches, NoBranch, Branch, leaves, branch_leaves, branch_roots, root_of, AreSound}
-use Rattle.art_arena.specs.Ends.{IsAtEnd}
-use Rattle.art_tree.specs.Hanging.{CanHang, HasPlaceAt, IsHung, StandsBeside}
-use Rattle.art_tree.specs.Contexts.{join}
-use Rattle.art_arena.specs.declared.ends.End.TheVariants.{First, Last}
-use Rattle.art_tree.proofs.SharedLemmas.BranchLemmas.{leaves-join}
-use Rattle.art_tree.proofs.SharedLemmas.ExchangedSubtree.{sound-split}
+use Rattle.art_tree.specs.Hanging.{CanHang, IsHung}
 use Rattle.art_nodes.proofs.ChildMapLaws.{written_over}
 use Rattle.art_arena.proofs.StandingLaws.{one-inner}
 use Rattle.art_tree.proofs.InsertLemmas.NodeLemmas.{some-inner}
-use Rattle.art_tree.proofs.LoadLemmas.PlacedTrees.{stand-split}
 
 pub always-ok : {T E : Type 0} (r : Result T E) (Q : Type 0) → Q → OnOk r Q
 always-ok (Ok x) Q holds = holds
@@ -90,56 +80,3 @@ ok-then (Err e) Q is never holds = absurd (cc)
 pub err-then : {T E : Type 0} (r : Result T E) (Q : Type 0) {test : Bool} → test ≡ is_err r → test ≡ true → OnErr r Q → Q
 err-then (Ok x) Q is always holds = absurd (cc)
 err-then (Err e) Q is always holds = holds
-
--- the tree of the first branch, if there is one
-pub record IsFirst {H : Type 0} (branches : Branches H) (child : H) : Type 0 where
-  pub byte : ℕ
-  pub tree : Tree H
-  pub others : Branches H
-  pub is : branches ≡ Branch byte tree others
-  pub at_root : root_of tree ≡ child
-
-first-is : {H : Type 0} (branches : Branches H) (child : H) → option_map (λ (pair : ℕ × H). pair.1) (first_pair (branch_roots branches)) ≡ Some child → IsFirst branches child
-first-is NoBranch child is = absurd (cc)
-first-is (Branch byte tree others) child is = record { byte = byte; tree = tree; others = others; is = refl; at_root = same_Some (root_of tree) child is }
-
-none-is : {H : Type 0} (branches : Branches H) → option_map (λ (pair : ℕ × H). pair.1) (first_pair (branch_roots branches)) ≡ None → branches ≡ NoBranch
-none-is NoBranch is = refl
-none-is (Branch byte tree others) is = absurd (cc)
-
-module _ {K V : Type 0} {P : ℕ} (text : K → List ℕ) (arena : NodeArena K V P) (pointer : OpaqueNodePtr K V P) (byte : ℕ) (place : HasPlaceAt text arena pointer byte) where
-  -- the child that was found past the byte is that of the first branch after it
-  module _ (found : Option (OpaqueNodePtr K V P)) (answer : (node : nodes.Inner (OpaqueNodePtr K V P)) → held arena pointer ≡ HeldInner node → found ≡ option_map (λ (pair : ℕ × OpaqueNodePtr K V P). pair.1) (first_pair (pairs_within node.children (Excluded byte) Unbounded))) where
-    found-is : option_map (λ (pair : ℕ × OpaqueNodePtr K V P). pair.1) (first_pair (branch_roots place.after)) ≡ found
-    found-is =
-        let (node, holds, shows, stand) = place.stands in
-        sym (answer node holds ∙ ap (λ children. option_map (λ (pair : ℕ × OpaqueNodePtr K V P). pair.1) (first_pair (pairs_within children (Excluded byte) Unbounded))) shows.children ∙ ap (λ pairs. option_map (λ (pair : ℕ × OpaqueNodePtr K V P). pair.1) (first_pair pairs)) place.later)
-
-    pub first-after : (child : OpaqueNodePtr K V P) → found ≡ Some child → IsFirst place.after child
-    first-after child is = first-is place.after child (found-is ∙ is)
-
-    pub none-after : found ≡ None → place.after ≡ NoBranch
-    none-after is = none-is place.after (found-is ∙ is)
-
-  abbrev pub at-node : TreeAt text arena pointer
-  at-node = record { tree = Inner pointer place.prefix (join place.before place.after); path = place.path; at_root = refl; stands = place.stands; sound = place.sound }
-
-  abbrev pub at-first : (child : OpaqueNodePtr K V P) → IsFirst place.after child → TreeAt text arena child
-  at-first child first =
-      let (node, holds, shows, stand) = place.stands in
-      let (two, ascend, sound) = place.sound in
-      let stands = (stand-split text arena place.before place.after stand).1 in
-      let sounds = (sound-split (place.path ++ place.prefix) place.before place.after sound).1 in
-      record {
-        tree = first.tree;
-        path = (place.path ++ place.prefix) ++ first.byte ∷ [];
-        at_root = first.at_root;
-        stands = (subst (λ b. AllStandIn text arena b) first.is stands).0;
-        sound = (subst (λ b. AreSound (place.path ++ place.prefix) b) first.is sounds).0;
-      }
-
-  pub beside-first : (child : OpaqueNodePtr K V P) (first : IsFirst place.after child) (leaf : OpaqueNodePtr K V P) → IsAtEnd First (leaves first.tree) leaf → StandsBeside First (branch_leaves place.before) (branch_leaves place.after) leaf
-  beside-first child first leaf (x, others, is) = (x, (others ++ branch_leaves first.others, ap branch_leaves first.is ∙ ap (λ all. all ++ branch_leaves first.others) is))
-
-  pub beside-last : place.after ≡ NoBranch → (leaf : OpaqueNodePtr K V P) → IsAtEnd Last (branch_leaves (join place.before place.after)) leaf → StandsBeside Last (branch_leaves place.before) (branch_leaves place.after) leaf
-  beside-last none leaf (x, others, is) = (x, (others, sym (leaves-join place.before place.after ∙ ap (λ b. branch_leaves place.before ++ branch_leaves b) none ∙ append-nil (branch_leaves place.before)) ∙ is))

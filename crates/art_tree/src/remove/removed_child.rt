@@ -1,5 +1,5 @@
 //! Removal: changes of inner nodes.
-ghost use Rattle.std.specs.Prelude.{◌≡◌, ◌≢◌, ◌<◌, ◌≤◌, ◌+◌, ◌^◌, ◌++◌, ◌∷◌, ◌↔◌, ℕ, List, length, Some, None, OnOk, OnErr, IsTrue};
+ghost use Rattle.std.specs.Prelude.{◌≡◌, ◌≢◌, ◌<◌, ◌≤◌, ◌+◌, ◌^◌, ◌++◌, ◌∷◌, ℕ, List, length, Some, None, OnOk, OnErr};
 ghost use Rattle.art_header.specs.Header.{StandsFor};
 ghost use Rattle.art_header.specs.NodeType.{least_children, shrunk_kind};
 ghost use Rattle.art_header.specs.declared.node_type.NodeType.TheVariants.{Leaf, Node4};
@@ -7,28 +7,15 @@ ghost use Rattle.art_nodes.specs.ChildMap.{child_at, first_pair, without_child};
 ghost use Rattle.art_nodes.specs.Inner.{Inner, header_of, node_without_child};
 ghost use Rattle.art_nodes.specs.Pointers.{node_kind};
 ghost use Rattle.art_arena.specs.Arena.{held, HeldInner, Nothing, room, Changes, SameCapacity, SameNodes, SameRoom};
-ghost use Rattle.art_tree.specs.Cuts.{HasOneLess, HasRoomToShrink};
+ghost use Rattle.art_tree.specs.Cuts.{HasOneLess, HasRoomToShrink, TellsFewest};
 ghost use Rattle.art_tree.specs.Nodes.{IsReplaced, node_with_prefix};
 ghost use Rattle.art_tree.specs.Reserving.{LacksRoomToShrink};
 ghost use Rattle.art_tree.specs.Room.{GrowsOnlyWhere};
 
-use crate::node::{num_children, replace_node};
+use crate::node::replace_node;
 use art_arena::{NodeArena, NodeRef};
-use art_nodes::{InnerNode, InnerNodeRead, NodeType, OpaqueNodePtr};
+use art_nodes::{InnerNode, InnerNodeRead, OpaqueNodePtr};
 use std::alloc::AllocError;
-
-// Whether the inner node at the pointer has the fewest children of its kind.
-fn has_fewest<K, V, const PREFIX_LEN: usize>(
-    arena: &NodeArena<K, V, PREFIX_LEN>,
-    pointer: OpaqueNodePtr<K, V, PREFIX_LEN>,
-) -> bool
-    requires held { held arena.now pointer ≢ Nothing }
-    requires inner { node_kind pointer ≢ Leaf }
-    ensures { (node : Inner _) → held arena.now pointer ≡ HeldInner node →
-        IsTrue result ↔ (length node.children ≡ least_children (node_kind pointer)) }
-{
-    num_children(arena, pointer) == *pointer.node_type().capacity_range().start()
-}
 
 // The least byte of the node that is not this one, with its child.
 fn other_child_in<K, V, const PREFIX_LEN: usize, N: InnerNodeRead<K, V, PREFIX_LEN>>(
@@ -63,14 +50,16 @@ pub(crate) fn other_child<K, V, const PREFIX_LEN: usize>(
     other_child_in(&node, byte)
 }
 
-/// Makes spare capacity for the node that an inner node with the fewest children of its kind
-/// shrinks to.
+/// Makes spare capacity for the node that an inner node of more than two children shrinks to, where
+/// they are the fewest of its kind.
 pub(crate) fn reserve_shrink<K, V, const PREFIX_LEN: usize>(
     arena: &mut NodeArena<K, V, PREFIX_LEN>,
     pointer: OpaqueNodePtr<K, V, PREFIX_LEN>,
+    fewest: bool,
 ) -> Result<(), AllocError>
-    requires held { held arena.old pointer ≢ Nothing }
-    requires inner { node_kind pointer ≢ Leaf }
+    requires more { (node : Inner _) → held arena.old pointer ≡ HeldInner node →
+        2 < length node.children }
+    requires fewest { TellsFewest arena.old pointer fewest }
     ensures room { OnOk result (HasRoomToShrink arena.new pointer) }
     ensures refused { OnErr result ((node : Inner _) → held arena.old pointer ≡ HeldInner node →
         (2 < length node.children) × (length node.children ≡ least_children (node_kind pointer))) }
@@ -81,15 +70,10 @@ pub(crate) fn reserve_shrink<K, V, const PREFIX_LEN: usize>(
     ensures no_room { OnErr result ((kind : _) × LacksRoomToShrink arena.old pointer kind) }
     ensures memory { GrowsOnlyWhere arena.old arena.new (LacksRoomToShrink arena.old pointer) }
 {
-    let kind = pointer.node_type();
-    // The fewest of the smallest kind are two.
-    if kind == NodeType::Node4 {
+    if !fewest {
         return Ok(());
     }
-    if !has_fewest(arena, pointer) {
-        return Ok(());
-    }
-    arena.reserve(kind.shrunk(), 1)
+    arena.reserve(pointer.node_type().shrunk(), 1)
 }
 
 // Replaces the inner node at the pointer, which has too few children for its kind, by one of the
@@ -134,9 +118,11 @@ pub(crate) fn take_child<K, V, const PREFIX_LEN: usize>(
     arena: &mut NodeArena<K, V, PREFIX_LEN>,
     pointer: OpaqueNodePtr<K, V, PREFIX_LEN>,
     byte: u8,
+    fewest: bool,
 ) -> OpaqueNodePtr<K, V, PREFIX_LEN>
     requires held { held arena.old pointer ≢ Nothing }
     requires inner { node_kind pointer ≢ Leaf }
+    requires fewest { TellsFewest arena.old pointer fewest }
     requires there { (node : Inner _) → held arena.old pointer ≡ HeldInner node →
         child_at node.children byte ≢ None }
     requires many { (node : Inner _) → held arena.old pointer ≡ HeldInner node →
@@ -146,7 +132,6 @@ pub(crate) fn take_child<K, V, const PREFIX_LEN: usize>(
         HasOneLess arena.old arena.new pointer node (node_without_child node byte) result }
     ensures capacity { SameCapacity arena.old arena.new }
 {
-    let fewest = has_fewest(arena, pointer);
     arena.remove_child(pointer, byte);
     if fewest {
         return shrink_node(arena, pointer);

@@ -1,15 +1,15 @@
 //! Insertion and removal of entries of an [`ArtTree`].
-ghost use Rattle.std.specs.Prelude.{◌≡◌, ◌≢◌, ◌≤◌, None, IfNone, IfOk, IfErr, OnOk, OnErr, IsOk};
+ghost use Rattle.std.specs.Prelude.{◌≡◌, ◌≢◌, ◌≤◌, ◌+◌, ℕ, None, IfNone, IfOk, IfErr, OnOk, OnErr, IsOk};
 ghost use Rattle.art_arena.specs.Arena.{room, SameNodes, SameOtherCapacity, SameOtherRoom, SameRoom};
 ghost use Rattle.art_tree.specs.Dictionary.{entry_at, HasKeys, IsEntry, SameEntries, SameOtherEntries};
 ghost use Rattle.art_tree.specs.Insertion.{IsRefused, MayEnter};
 ghost use Rattle.art_tree.specs.Leaves.{KeepsOtherLeaves};
 ghost use Rattle.art_tree.specs.Removal.{NeedsSmallerNode};
-ghost use Rattle.art_tree.specs.Room.{FreesOneEach, GrowsOnlyWhere, LacksRoomToInsert, LacksRoomToRemove};
+ghost use Rattle.art_tree.specs.Room.{FreesOneEach, GrowsOnlyWhere, HasRoomFor, LacksRoomToInsert, LacksRoomToRemove};
 ghost use Rattle.art_tree.specs.declared.insert.InsertRefusal.TheVariants.{OutOfMemory};
 
 use crate::insert::{InsertFault, insert_entry};
-use crate::laws::no_text_begins_another;
+use crate::laws::{no_text_begins_another, room_lasts};
 use crate::remove::remove_entry;
 use crate::tree::ArtTree;
 use art_bytes::AsBytes;
@@ -28,7 +28,9 @@ impl<K: AsBytes, V, const PREFIX_LEN: usize> ArtTree<K, V, PREFIX_LEN> {
     /// is unchanged too.
     ///
     /// The capacity of a kind grows only where the tree with the key bytes has more nodes of the
-    /// kind and there is no spare capacity for it. Each other leaf keeps its pointer.
+    /// kind and there is no spare capacity for it. Each other leaf keeps its pointer. With room for
+    /// some changes, as [`reserve_entries`](Self::reserve_entries) makes it, the refusal is not
+    /// [`OutOfMemory`], and there is room for one change fewer afterwards.
     ///
     /// Visits the nodes on the way to the key's place, and then those on the way to a leaf beside
     /// it. Where a prefix on the way to the place is longer than `PREFIX_LEN`, it also visits those
@@ -62,9 +64,14 @@ impl<K: AsBytes, V, const PREFIX_LEN: usize> ArtTree<K, V, PREFIX_LEN> {
             SameRoom self.old.arena self.new.arena }
         ensures memory { GrowsOnlyWhere self.old.arena self.new.arena
             (LacksRoomToInsert K.text self.old.arena self.old.root (K.text key)) }
+        ensures room_suffices { (count : ℕ) → HasRoomFor self.old.arena (count + 1) →
+            IfErr result (λ fault. fault.refusal ≢ OutOfMemory) }
+        ensures room_lasts { (count : ℕ) → HasRoomFor self.old.arena (count + 1) →
+            HasRoomFor self.new.arena count }
         ensures is_key { K.is_key key }
         ensures are_keys { HasKeys K.text K.is_key self.old.arena }
     {
+        room_lasts::<K, V, PREFIX_LEN>();
         let (root, before) = insert_entry(&mut self.arena, self.root, key, value)?;
         self.root = Some(root);
         Ok(before)
@@ -77,7 +84,8 @@ impl<K: AsBytes, V, const PREFIX_LEN: usize> ArtTree<K, V, PREFIX_LEN> {
     /// since a node of a smaller kind takes its place, and only where that kind has no spare
     /// capacity. After a failure every node and the root are unchanged. In all other cases no memory
     /// is taken, and each kind has spare capacity for at most one node more, the one that was freed.
-    /// Each other leaf keeps its pointer.
+    /// Each other leaf keeps its pointer. With room for some changes it succeeds, and there is room for
+    /// one change fewer afterwards.
     ///
     /// Searches for the entry as [`get`](Self::get) does: at most one node visit more than the key
     /// has bytes. Then it changes the leaf's neighbours and at most three inner nodes: the two
@@ -100,7 +108,11 @@ impl<K: AsBytes, V, const PREFIX_LEN: usize> ArtTree<K, V, PREFIX_LEN> {
             FreesOneEach self.old.arena self.new.arena }
         ensures memory { GrowsOnlyWhere self.old.arena self.new.arena
             (LacksRoomToRemove K.text self.old.arena self.old.root key.now) }
+        ensures room_suffices { (count : ℕ) → HasRoomFor self.old.arena (count + 1) → IsOk result }
+        ensures room_lasts { (count : ℕ) → HasRoomFor self.old.arena (count + 1) →
+            HasRoomFor self.new.arena count }
     {
+        room_lasts::<K, V, PREFIX_LEN>();
         let Some(root) = self.root else {
             return Ok(None);
         };

@@ -5,6 +5,7 @@ ghost use Rattle.art_arena.specs.declared.ends.End.TheVariants.{First, Last};
 ghost use Rattle.art_tree.specs.Dictionary.{IsEmpty};
 ghost use Rattle.art_tree.specs.Ends.{PopsEntry};
 
+use crate::laws::room_lasts;
 use crate::remove::end_removal::remove_end;
 use crate::tree::ArtTree;
 use art_arena::End;
@@ -14,10 +15,10 @@ use std::alloc::AllocError;
 impl<K: AsBytes, V, const PREFIX_LEN: usize> ArtTree<K, V, PREFIX_LEN> {
     /// Removes the entry with the least key bytes and returns it, or None where there is no entry.
     ///
-    /// Allocation fails as in [`remove`](Self::remove) of that entry, and no other. After a failure
-    /// every node and the root are unchanged. Each other leaf keeps its pointer.
+    /// Allocation fails as in [`remove`](Self::remove) of that entry, and no other; room lasts as
+    /// there. After a failure every node and the root are unchanged. Each other leaf keeps its pointer.
     ///
-    /// Costs as much as [`first`](Self::first) and then [`remove`](Self::remove).
+    /// Costs as much as [`remove`](Self::remove).
     pub fn pop_first(&mut self) -> Result<Option<(K, V)>, AllocError>
         ensures { PopsEntry K.text self.old self.new First result }
     {
@@ -27,10 +28,10 @@ impl<K: AsBytes, V, const PREFIX_LEN: usize> ArtTree<K, V, PREFIX_LEN> {
     /// Removes the entry with the greatest key bytes and returns it, or None where there is no
     /// entry.
     ///
-    /// Allocation fails as in [`remove`](Self::remove) of that entry, and no other. After a failure
-    /// every node and the root are unchanged. Each other leaf keeps its pointer.
+    /// Allocation fails as in [`remove`](Self::remove) of that entry, and no other; room lasts as
+    /// there. After a failure every node and the root are unchanged. Each other leaf keeps its pointer.
     ///
-    /// Costs as much as [`last`](Self::last) and then [`remove`](Self::remove).
+    /// Costs as much as [`remove`](Self::remove).
     pub fn pop_last(&mut self) -> Result<Option<(K, V)>, AllocError>
         ensures { PopsEntry K.text self.old self.new Last result }
     {
@@ -41,6 +42,7 @@ impl<K: AsBytes, V, const PREFIX_LEN: usize> ArtTree<K, V, PREFIX_LEN> {
     fn pop_end(&mut self, end: End) -> Result<Option<(K, V)>, AllocError>
         ensures { PopsEntry K.text self.old self.new end result }
     {
+        room_lasts::<K, V, PREFIX_LEN>();
         let Some(root) = self.root else {
             return Ok(None);
         };

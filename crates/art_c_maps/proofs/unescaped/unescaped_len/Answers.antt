@@ -1,5 +1,4 @@
-use Rattle.std.proofs.Common.{rules, ◌≡◌, ◌≤◌, ◌++◌, drop, length, ℕ, ◌+◌, ◌<◌, List, [], ◌∷◌, arith, inl}
-use Rattle.art_c_maps.specs.Unescaped.{unescaped}
+use Rattle.std.proofs.Common.{arith, inl}
 use Rattle.art_c_maps.proofs.UnescapedLemmas.{length-unescaped}
 use Rattle.art_c_maps.proofs.unescaped.unescaped_len.Goals as goal
 

@@ -1,4 +1,4 @@
-use Rattle.std.proofs.Common.{◌≡◌, ◌≤◌, ◌+◌, ◌++◌, ◌∙◌, drop, length, take, refl, ap, arith, sym, length-set}
+use Rattle.std.proofs.Common.{◌≡◌, ◌≤◌, ◌+◌, ◌∙◌, length, arith, sym, length-set}
 use Rattle.art_c_maps.specs.Unescaped.{unescaped}
 use Rattle.art_c_maps.proofs.WriteLemmas.{left-behind, one-written}
 use Rattle.art_c_maps.proofs.unescaped.write_unescaped.Goals as goal
@@ -14,5 +14,5 @@ loop-index-preserved c =
       rw next_count left.0,
       omega (arith, so_far.1, length-set c.loop-index.out c.in-Some.index c.in-Some.byte),
       rw next_count left.1,
-      rw (next_count, steps.1, so_far.3) (one-written bytes c.args.out.now count c.in-Some.byte c.next.new.self.iter byte_left fits),
+      rw (next_count, steps.1, so_far.3) (one-written bytes c.args.out.now count c.in-Some.byte c.next.new.self.iter byte_left (omega (arith, left.1, fits))),
     )

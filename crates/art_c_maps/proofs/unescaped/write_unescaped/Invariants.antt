@@ -1,4 +1,4 @@
-use Rattle.std.proofs.Common.{◌≡◌, ◌≤◌, ◌++◌, drop, take, length, ℕ, ◌+◌}
+use Rattle.std.proofs.Common.{◌≡◌, ◌≤◌, ◌++◌, drop, take, length}
 use Rattle.art_c_maps.specs.Unescaped.{unescaped}
 use Rattle.art_c_maps.proofs.unescaped.write_unescaped.Given as goal
 

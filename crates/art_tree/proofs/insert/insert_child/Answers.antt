@@ -95,6 +95,7 @@ returns g c =
     c.hang.new.arena c.hang.result c.hang.ensures.hung c.requires.short c.leaf_beside_child-end.result.1 (slab_key c.leaf_beside_child-end.result.0) (c.leaf_beside_child-end.ensures.beside (place-there place)) link.spelled c.no_text_begins_another.ensures in
     record {
       art = added.0;
+      leaf = added.2;
       entered = entered-from text old reserved c.hang.new.arena c.args.key c.args.value c.args.root tree alone (c.no_text_begins_another.ensures [] tree alone.is_tree.sound) kept added.1;
       entry_back = tt;
       nodes_kept = tt;
@@ -111,6 +112,7 @@ returns-then-is_err g c =
     let (kind, lacks) = err-then c.reserve_for_child.result _ c.is_err.ensures.value c.if-is_err.true c.reserve_for_child.ensures.no_room in
     record {
       art = tt;
+      leaf = tt;
       entered = tt;
       entry_back = refl;
       nodes_kept = c.reserve_for_child.ensures.nodes_kept;

@@ -18,6 +18,7 @@ returns-in-Ok g c =
     let alone = first-alone text old new c.args.key c.args.value c.requires.empty c.in-Ok.leaf leaf.result c.in-Ok.ensures.added leaf.ensures.key leaf.ensures.value c.requires.short leaf.ensures.previous leaf.ensures.next in
     record {
       art = (Leaf (leaf_pointer c.in-Ok.leaf) (text c.args.key), subst (λ root. IsAlone text new root (Leaf (leaf_pointer c.in-Ok.leaf) (text c.args.key))) (sym c.to_opaque.ensures) alone);
+      leaf = record { leaf = leaf.result; is_held = c.in-Ok.ensures.added.changed; key = leaf.ensures.key; value = leaf.ensures.value };
       entered = first-entered text old new c.args.key c.args.value c.requires.empty c.in-Ok.leaf leaf.result c.in-Ok.ensures.added leaf.ensures.key leaf.ensures.value alone (c.no_text_begins_another.ensures [] (Leaf (leaf_pointer c.in-Ok.leaf) (text c.args.key)) alone.is_tree.sound);
       entry_back = tt;
       nodes_kept = tt;
@@ -34,6 +35,7 @@ returns-in-Err g c =
     let entry : c.into_entry.result ≡ (c.args.key, c.args.value) = ap (λ k. (k, c.into_entry.result.1)) key ∙ ap (λ v. (c.args.key, v)) value in
     record {
       art = tt;
+      leaf = tt;
       entered = tt;
       entry_back = entry;
       nodes_kept = c.in-Err.ensures.nodes_kept;

@@ -107,6 +107,7 @@ returns g c =
     c.fork_node-node.new.arena c.fork_node-node.result c.each_pointer_is_at_one_place.ensures c.fork_node-node.ensures c.hang.new.arena c.hang.result c.hang.ensures.hung c.requires.short c.near_end-end.ensures.end link.spelled c.no_text_begins_another.ensures in
     record {
       art = added.0;
+      leaf = added.2;
       entered = entered-from text old reserved c.hang.new.arena c.args.key c.args.value c.args.root tree alone (c.no_text_begins_another.ensures [] tree alone.is_tree.sound) kept added.1;
       entry_back = tt;
       nodes_kept = tt;
@@ -123,6 +124,7 @@ returns-then-is_err g c =
     let (kind, lacks) = err-then c.reserve_for_fork.result _ c.is_err.ensures.value c.if-is_err.true c.reserve_for_fork.ensures.no_room in
     record {
       art = tt;
+      leaf = tt;
       entered = tt;
       entry_back = refl;
       nodes_kept = c.reserve_for_fork.ensures.nodes_kept;

@@ -4,13 +4,15 @@ use Rattle.art_arena.specs.Standing.{IsTreeIn}
 use Rattle.art_arena.specs.Trees.{Tree}
 use Rattle.art_tree.specs.Art.{IsAlone}
 use Rattle.art_tree.specs.Dictionary.{entry_at}
+use Rattle.art_tree.specs.Dropping.{IsAtPath}
 use Rattle.art_tree.specs.Removal.{IsLeft, NeedsSmallerNode}
 use Rattle.art_tree.specs.Room.{GrowsOnlyWhere, LacksRoomToRemove}
-use Rattle.art_tree.specs.Search.{IsPathTo, leaf_pointer}
+use Rattle.art_tree.specs.Search.{leaf_pointer}
 use Rattle.art_tree.proofs.SharedLemmas.DictionaryLemmas.{no-entry}
 use Rattle.art_tree.proofs.SharedLemmas.ExchangedTree.{entries-stay}
 use Rattle.art_tree.proofs.SharedLemmas.ParentLemmas.{always-err}
 use Rattle.art_tree.proofs.RemoveLemmas.RemovalLemmas.{is-found}
+use Rattle.art_tree.proofs.RemoveLemmas.WayContexts.{at-path}
 use Rattle.art_tree.proofs.InsertLemmas.NodeLemmas.{leaf-pointer-fits, spot-fits}
 use Rattle.art_tree.proofs.remove.remove_entry.Goals as goal
 
@@ -28,7 +30,7 @@ remove_leaf-requires g c =
     let arena = c.args.arena.now in
     let (tree, alone) = c.requires.art in
     let found = is-found text arena c.with_budget-reader.result.arena c.with_budget-reader.ensures.arena c.args.root tree alone.is_tree c.in-Some.leaf c.in-Some.path c.args.key.now c.in-Some.ensures.answer c.in-Some.ensures.path in
-    let place : (tree : Tree _) × IsAlone text arena c.args.root tree × IsPathTo tree (leaf_pointer c.in-Some.leaf) c.in-Some.path = (tree, alone, found.way) in
+    let place : (tree : Tree _) × IsAlone text arena c.args.root tree × IsAtPath tree (leaf_pointer c.in-Some.leaf) c.in-Some.path = (tree, alone, at-path tree (leaf_pointer c.in-Some.leaf) c.in-Some.path found.way) in
     assumption (leaf-pointer-fits, spot-fits)
 
 pub returns-in_err-removed-clause-refused : goal.returns-in_err-removed-clause-refused

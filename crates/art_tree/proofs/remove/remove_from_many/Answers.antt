@@ -8,12 +8,12 @@ use Rattle.art_nodes.specs.Inner.{Inner}
 use Rattle.art_nodes.specs.Pointers.{node_kind, slab_key}
 use Rattle.art_arena.specs.Arena.{held, HeldInner, Nothing, SameNodes}
 use Rattle.art_arena.specs.Links.{Spells}
-use Rattle.art_tree.specs.Cuts.{HasRoomToShrink}
+use Rattle.art_tree.specs.Cuts.{HasRoomToShrink, TellsFewest}
 use Rattle.art_tree.specs.Hanging.{CanHang}
 use Rattle.art_tree.specs.Removal.{IsRemoved, NeedsSmallerNode}
 use Rattle.art_tree.specs.Room.{LacksRoomToRemove}
 use Rattle.art_tree.proofs.RemoveLemmas.RemovedLeaf.{removed-from}
-use Rattle.art_tree.proofs.RemoveLemmas.RemovedChild.{cut-held, cut-many, cut-room, cut-there, is-cut, many-hangs, many-removed, needs-smaller, not-least}
+use Rattle.art_tree.proofs.RemoveLemmas.RemovedChild.{cut-fewest, cut-held, cut-many, cut-room, cut-there, is-cut, many-hangs, many-removed, more-than-two, needs-smaller, not-least}
 use Rattle.art_tree.proofs.SharedLemmas.ExchangedTree.{alone-same}
 use Rattle.art_tree.proofs.SharedLemmas.ParentLemmas.{always-err}
 use Rattle.art_tree.proofs.SharedLemmas.RoomLemmas.{grows-on, grows-then, same-capacity}
@@ -27,8 +27,9 @@ reserve_shrink-requires g c =
     let (tree, alone0, hangs) = c.requires.place in
     let parent = c.args.spot.parent in
     let old = c.args.arena.now in
-    let is_held : held old parent ≢ Nothing = (leaf-place alone0 hangs).some_held in
-    let is_inner : node_kind parent ≢ Leaf = (leaf-place alone0 hangs).inner in
+    let place = leaf-place alone0 hangs in
+    let more : (node : Inner _) → held old parent ≡ HeldInner node → 2 < length node.children = more-than-two place (c.requires.many place.node place.is_held) in
+    let tells : TellsFewest old parent c.args.fewest = c.requires.fewest in
     search
 
 pub take_leaf-entry-requires : goal.take_leaf-entry-requires
@@ -56,6 +57,7 @@ take_child-node-requires g c =
     let is_inner : node_kind parent ≢ Leaf = place.inner in
     let there : (node : Inner _) → held cut parent ≡ HeldInner node → child_at node.children byte ≢ None = cut-there place cut c.take_leaf-entry.ensures.gone c.take_leaf-entry.ensures.others in
     let enough : (node : Inner _) → held cut parent ≡ HeldInner node → (2 < length node.children) × (least_children (node_kind parent) ≤ length node.children) = cut-many place cut c.take_leaf-entry.ensures.gone c.take_leaf-entry.ensures.others many in
+    let tells : TellsFewest cut parent c.args.fewest = cut-fewest place cut c.take_leaf-entry.ensures.gone c.take_leaf-entry.ensures.others (λ node is. c.requires.fewest node (sym (c.reserve_shrink.ensures.nodes_kept parent) ∙ is)) in
     let has_room : HasRoomToShrink cut parent = cut-room place cut c.take_leaf-entry.ensures.gone c.take_leaf-entry.ensures.others many c.in_ok-reserve_shrink.ensures.room c.take_leaf-entry.ensures.room in
     assumption
 

@@ -3,10 +3,10 @@ use Rattle.art_header.specs.declared.node_type.NodeType.{NodeType}
 use Rattle.art_arena.specs.Trees.{Tree, Leaf, leaves}
 use Rattle.art_tree.specs.Art.{IsAlone}
 use Rattle.art_tree.specs.Dictionary.{entry_at}
-use Rattle.art_tree.specs.Dropping.{IsLeafSpot}
+use Rattle.art_tree.specs.Dropping.{IsAtPath, IsLeafSpot}
 use Rattle.art_tree.specs.Removal.{IsLeft, NeedsSmallerNode}
 use Rattle.art_tree.specs.Room.{GrowsOnlyWhere, LacksRoomToRemove}
-use Rattle.art_tree.specs.Search.{IsPathTo, leaf_pointer}
+use Rattle.art_tree.specs.Search.{leaf_pointer}
 use Rattle.art_tree.proofs.SharedLemmas.ParentLemmas.{always-err}
 use Rattle.art_tree.proofs.RemoveLemmas.EndPlaces.{held-text}
 use Rattle.art_tree.proofs.RemoveLemmas.RemovalLemmas.{hangs-in}
@@ -19,7 +19,7 @@ remove_root-requires g c =
     let text = g.K.AsBytes.text in
     let at = leaf_pointer c.args.leaf in
     let (tree, alone, way) = c.requires.place in
-    let (x, is) = leaf-root tree at (subst (IsPathTo tree at) c.in_default.ensures.root way) in
+    let (x, is) = leaf-root tree at (subst (IsAtPath tree at) c.in_default.ensures.root way) in
     let only : (root : _) × (x : List ℕ) × IsAlone text c.args.arena.now root (Leaf at x) = (c.args.root, x, subst (IsAlone text c.args.arena.now c.args.root) is alone) in
     assumption leaf-pointer-fits
 
@@ -29,7 +29,7 @@ returns-in_default-clause-removed g c = λ node held.
     let arena = c.args.arena.now in
     let at = leaf_pointer c.args.leaf in
     let (tree, alone, way) = c.requires.place in
-    let (x, is) = leaf-root tree at (subst (IsPathTo tree at) c.in_default.ensures.root way) in
+    let (x, is) = leaf-root tree at (subst (IsAtPath tree at) c.in_default.ensures.root way) in
     let same = held-text text arena c.args.root tree alone at x (subst (λ t. Contains (leaves t) (at, x)) (sym is) (0, omega arith, refl)) node held in
     let done = c.remove_root.ensures.removed c.args.root x (subst (IsAlone text arena c.args.root) is alone) in
     (done.0, subst (IsLeft text arena c.remove_root.new.arena) same done.1, ap (entry_at text arena) (sym same) ∙ done.2)

@@ -1,4 +1,4 @@
--- A null address owns nothing.
+-- There is no map at a null address.
 use Rattle.std.proofs.Common.{List, [], ◌∷◌, ◌++◌, refl, sym, subst, None}
 use base.Logic.{ent, id⊢}
 use base.Fml.{ftrue, fsep}
@@ -7,7 +7,7 @@ use prog.Wp.{WpFn}
 use contract.Running.{tables}
 use types.Kit.{‵, ◌⊛◌, ◌$◌, ◌∵◌, !, qed, move, drop, use1, join, split, fsplit, fjoin, suffices, done, feq_i, fpack}
 use types.Part.{agg}
-use types.Run.{lit, no_more, and_then, of_opd, returns, enter}
+use types.Run.{lit, no_more, and_then, returns, enter}
 use types.ByLocal.{alloc_all, pass_all, free_all, look_at, get, sets}
 use denote.Exit.{yes}
 use denote.Signature.{plain, type_at}
@@ -15,7 +15,7 @@ use denote.Steps.{nothing}
 use denote.Triple.Walked.{says, Stays, stay_dropped, walk_of, ends_at, Goes-dropped}
 use Rattle.std.proofs.raw_atomic.Walks.{proved_at}
 use denote.RattleType.{Valss}
-use denote.RawPtr.{RawPtr, null_ptr, ptr_val}
+use denote.RawPtr.{RawPtr, Ptr, null_ptr, ptr_val}
 use denote.Struct.Struct.{within}
 use denote.Struct.Owning.{shape}
 use lib.Dec.{T, lit<}
@@ -46,8 +46,9 @@ empty_spec 𝓤 𝓛 𝓜 𝓡 wired =
     let typed : T (has_ty (layout handles.the_row) w) × WT w = (and_tt (has_ty (α E.al) handle) fits.0, (record { fits = lit< tt }, (fits.1, tt))) in
     nothing ! $ move ! (1 ∷ 0 ∷ []) $ fjoin ! $ feq_i ! (List Val) (vint w64 0 ∷ []) (ptr_val null_ptr ∷ []) refl $ fjoin ! $
     feq_i ! (List Val) (w ∷ []) (w ∷ []) refl $ fjoin ! $
-    fpack ! (Valss (RawPtr ∷ Heap.the_row ∷ [])) (within (shape handles.the_type) (null_ptr, (((alloc.memory.seal, tt), tt), tt)) (w ∷ [])) (vint w64 0 ∷ [], (handle ∷ [], tt)) $ fjoin ! $
-    use1 𝓛 (‵ (To.own_val made (w ∷ []))) (id⊢ 𝓤 _) $ move ! (1 ∷ []) $ drop ! $
+    fpack ! (Valss (RawPtr ∷ Heap.the_row ∷ [])) (within (shape handles.the_type) (null_ptr, (((alloc.memory.seal, tt), tt), tt)) (w ∷ [])) (vint w64 0 ∷ [], (handle ∷ [], tt)) $
+    feq_i ! Ptr null_ptr null_ptr refl $ move ! (1 ∷ 0 ∷ []) $ fjoin ! $
+    use1 𝓛 (‵ (To.own_val made (w ∷ []))) (id⊢ 𝓤 _) $ move ! (1 ∷ 2 ∷ []) $ drop ! $ drop ! $
     suffices ! (WpFn 𝓤 H 𝓣.C 𝓣.Λ fn (handle ∷ []) Post) (subst (λ (us : List Val). ent 𝓤 (WpFn 𝓤 H 𝓣.C 𝓣.Λ fn (handle ∷ []) Post) (WpFn 𝓤 H 𝓣.C 𝓣.Λ fn (us ++ []) Post)) (sym is_handle) (id⊢ 𝓤 _)) $
     enter ! 𝓣.C 𝓣.Λ fn (handle ∷ []) _ $ alloc_all ! (λ l. pass_all ! refl (fits, tt) $
     sets ! (agg ! (and_then ! (lit ! tt) (and_then ! (get ! refl) (no_more !)))) refl typed $

@@ -10,7 +10,7 @@ use types.Part.{whole, sub, agg}
 use types.Run.{stop, fld, no_more, and_then, of_opd, returns, enter}
 use types.ByLocal.{alloc_all, pass_all, free_all, look_at, get, get_in, sets}
 use denote.Exit.{yes}
-use denote.Signature.{plain, type_at}
+use denote.Signature.{type_at}
 use denote.Steps.{nothing}
 use denote.Triple.Walked.{says, Stays, stay_dropped, walk_of, ends_at, Goes-dropped}
 use Rattle.std.proofs.raw_atomic.Walks.{proved_at}

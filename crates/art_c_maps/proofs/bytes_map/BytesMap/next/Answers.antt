@@ -1,10 +1,9 @@
-use Rattle.std.proofs.Common.{◌≡◌, ◌∙◌, refl, sym, ap}
+use Rattle.std.proofs.Common.{◌∙◌, ap}
 use Rattle.std.specs.Option.{option_map}
 use Rattle.art_bytes.specs.Text.{text_order}
 use Rattle.art_mapped.specs.Escaped.{escaped_text}
 use Rattle.art_mapped.specs.EscapedKey.{escaped_key_text}
 use Rattle.art_mapped.specs.Mapped.{mapped_text}
-use Rattle.art_c_maps.specs.Entries.{entries_read}
 use Rattle.art_c_maps.specs.Unescaped.{unescaped, key_written, len_and_value}
 use Rattle.art_c_maps.proofs.ByteLemmas.{AnyBytes, word-read, word-texts, words-keep}
 use Rattle.art_c_maps.proofs.ReadLemmas.{from-at}

@@ -1,9 +1,7 @@
-use Rattle.std.proofs.Common.{◌≡◌, ◌∙◌, refl, ap}
-use Rattle.std.specs.Option.{option_map}
+use Rattle.std.proofs.Common.{◌∙◌}
 use Rattle.std.specs.Ordering.{nat_cmp}
 use Rattle.art_mapped.specs.Mapped.{mapped_text}
 use Rattle.art_mapped.specs.Numbers.{digits}
-use Rattle.art_c_maps.specs.Entries.{entries_read}
 use Rattle.art_c_maps.proofs.NumberLemmas.{IsNumber, number_read, number-read, number-texts, numbers-keep}
 use Rattle.art_c_maps.proofs.ReadLemmas.{from-at}
 use Rattle.art_c_maps.proofs.FoundLemmas.{found-first}

@@ -1,9 +1,11 @@
-use Rattle.std.proofs.Common.{◌≡◌, ◌∙◌, not, nat_eq, sym, ap, subst}
+use Rattle.std.proofs.Common.{◌≡◌, ◌∙◌, map, not, nat_eq, sym, ap, subst}
 use Rattle.std.specs.Cmp.Lexicographic.{pointwise}
 use Rattle.std.specs.Option.{is_some}
 use Rattle.art_map.specs.Entries.{entry_with}
 use Rattle.art_map.specs.Sets.{HasKey, without_key}
-use Rattle.art_map.proofs.SetLemmas.{entry-of-key, key-of-entry, keys_in, map-of-filter, on-err-so, some-of}
+use Rattle.art_nodes.specs.declared.pointers.OpaqueNodePtr.{OpaqueNodePtr}
+use Rattle.art_map.specs.Shrinking.{NeedsNode}
+use Rattle.art_map.proofs.SetLemmas.{entry-of-key, key-of-entry, keys_in, map-of-filter, on-err-so, some-of, texts-in}
 use Rattle.art_map.proofs.set.ArtSet+K+PREFIX_LEN.remove.Goals as goal
 
 pub returns-in_err-removed-clause-refused : goal.returns-in_err-removed-clause-refused
@@ -31,3 +33,11 @@ returns-clause-keys g c =
     ap (keys_in text) c.in_ok-removed.ensures.entries
     ∙ map-of-filter (λ entry. entry.0) (λ key. not (pointwise nat_eq (text key) x)) c.self.inside.entries
     ∙ ap (λ keys. without_key text keys x) c.self.view_is
+
+pub returns-in_err-removed-clause-needs_node : goal.returns-in_err-removed-clause-needs_node
+returns-in_err-removed-clause-needs_node g c =
+    let text = g.K.AsBytes.text in
+    let entries = c.self.inside.entries in
+    let x = g.Q.AsBytes.text c.args.key.now in
+    on-err-so c.from_residual.result (NeedsNode (OpaqueNodePtr g.row.K.Denot (Unit {0}) g.row.PREFIX_LEN) (map text c.args.self.now) x)
+    (subst (λ keys. NeedsNode (OpaqueNodePtr g.row.K.Denot (Unit {0}) g.row.PREFIX_LEN) (map text keys) x) c.self.view_is (subst (λ all. NeedsNode (OpaqueNodePtr g.row.K.Denot (Unit {0}) g.row.PREFIX_LEN) all x) (sym (texts-in text entries)) c.in_err-removed.ensures.needs_node))

@@ -1,28 +1,44 @@
-use Rattle.std.proofs.Common.{[], Contains, subst, sym}
+use Rattle.std.proofs.Common.{◌≡◌, subst, sym}
+use Rattle.art_nodes.specs.Pointers.{slab_key, opaque_key}
+use Rattle.art_arena.specs.Ends.{IsAtEnd}
+use Rattle.art_arena.specs.Standing.{TreeAt}
 use Rattle.art_arena.specs.Trees.{leaves}
-use Rattle.art_tree.specs.Search.{leaf_pointer}
-use Rattle.art_tree.proofs.RemoveLemmas.EndPlaces.{end-text, search-finds, search-path}
+use Rattle.art_arena.proofs.StandingLaws.{at-some, leaf-pointer-is}
+use Rattle.art_tree.specs.Dropping.{IsAtPath}
+use Rattle.art_tree.proofs.RemoveLemmas.EndWays.{end-found, end-start, end-step, tree-there}
 use Rattle.art_tree.proofs.remove.end_removal.end_place.Goals as goal
 
-pub unreachable-requires : goal.unreachable-requires
-unreachable-requires g c =
+pub way-init : goal.way-init
+way-init g c = λ tree is. end-start g.K.AsBytes.text c.args.arena.now c.args.end c.args.root tree is c.default-visits.result c.default-visits.ensures
+
+pub child_at_end-requires : goal.child_at_end-requires
+child_at_end-requires g c =
     let text = g.K.AsBytes.text in
     let arena = c.args.arena.now in
-    let leaf = c.end_leaf-leaf.result in
-    let (tree, alone) = c.requires.art in
-    let at_end = c.end_leaf-leaf.ensures.at_end (record { tree = tree; path = []; at_root = alone.is_tree.at_root; stands = alone.is_tree.stands; sound = alone.is_tree.sound }) in
-    let inside = subst (λ x. Contains (leaves tree) (leaf_pointer leaf, x)) (sym c.as_bytes-key.ensures.text) (end-text text arena c.args.end c.args.root tree alone leaf at_end c.as_key_ref.result.now c.as_key_ref.ensures) in
-    search-finds text arena c.with_budget-reader.result.arena c.with_budget-reader.ensures.arena c.args.root tree alone.is_tree leaf c.as_bytes-key.result.now inside c.in_default.ensures.answer
+    let (tree, is) = c.requires.tree in
+    let there : TreeAt text arena c.way.at = tree-there text arena c.args.end c.args.root tree is c.way.visits c.way.at (c.way.invariant tree is) in
+    search
 
-pub returns-clause-path : goal.returns-clause-path
-returns-clause-path g c = λ tree alone.
-    let text = g.K.AsBytes.text in
-    let arena = c.args.arena.now in
-    let leaf = c.end_leaf-leaf.result in
-    let at_end = c.end_leaf-leaf.ensures.at_end (record { tree = tree; path = []; at_root = alone.is_tree.at_root; stands = alone.is_tree.stands; sound = alone.is_tree.sound }) in
-    let inside = subst (λ x. Contains (leaves tree) (leaf_pointer leaf, x)) (sym c.as_bytes-key.ensures.text) (end-text text arena c.args.end c.args.root tree alone leaf at_end c.as_key_ref.result.now c.as_key_ref.ensures) in
-    search-path text arena c.with_budget-reader.result.arena c.with_budget-reader.ensures.arena c.args.root tree alone.is_tree leaf c.as_bytes-key.result.now inside c.in-Some.field-0-0 c.in-Some.path c.in-Some.ensures.answer c.in-Some.ensures.path
+pub way-preserved : goal.way-preserved
+way-preserved g c = λ tree is.
+    let (node, holds, pair) = c.in-Some.ensures.child in
+    (end-step g.K.AsBytes.text c.args.arena.now c.args.end c.args.root tree is c.way.visits c.way.at (c.way.invariant tree is) node c.in-Some.byte c.in-Some.child holds pair c.visit_inner_node.new.self c.visit_inner_node.ensures).0
 
-pub returns-clause-at_end : goal.returns-clause-at_end
-returns-clause-at_end g c = λ tree alone.
-    c.end_leaf-leaf.ensures.at_end (record { tree = tree; path = []; at_root = alone.is_tree.at_root; stands = alone.is_tree.stands; sound = alone.is_tree.sound })
+pub way-smaller : goal.way-smaller
+way-smaller g c =
+    let (tree, is) = c.requires.tree in
+    let (node, holds, pair) = c.in-Some.ensures.child in
+    (end-step g.K.AsBytes.text c.args.arena.now c.args.end c.args.root tree is c.way.visits c.way.at (c.way.invariant tree is) node c.in-Some.byte c.in-Some.child holds pair c.visit_inner_node.new.self c.visit_inner_node.ensures).1
+
+pub unwrap-requires : goal.unwrap-requires
+unwrap-requires g c = c.cast.ensures.kind.1 c.in-None.ensures.leaf
+
+pub returns-in-None-clause-path : goal.returns-in-None-clause-path
+returns-in-None-clause-path g c = λ tree is.
+    let at = sym (leaf-pointer-is c.way.at c.unwrap.result c.in-None.ensures.leaf (at-some (λ leaf. slab_key leaf ≡ opaque_key c.way.at) c.cast.result c.unwrap.result c.unwrap.ensures c.cast.ensures.key)) in
+    subst (λ pointer. IsAtPath tree pointer c.finish.result) at (end-found g.K.AsBytes.text c.args.arena.now c.args.end c.args.root tree is c.way.visits c.way.at (c.way.invariant tree is) c.in-None.ensures.leaf c.finish.result (λ steps visited. (c.finish.ensures steps).0 visited)).0
+
+pub returns-in-None-clause-at_end : goal.returns-in-None-clause-at_end
+returns-in-None-clause-at_end g c = λ tree is.
+    let at = sym (leaf-pointer-is c.way.at c.unwrap.result c.in-None.ensures.leaf (at-some (λ leaf. slab_key leaf ≡ opaque_key c.way.at) c.cast.result c.unwrap.result c.unwrap.ensures c.cast.ensures.key)) in
+    subst (IsAtEnd c.args.end (leaves tree)) at (end-found g.K.AsBytes.text c.args.arena.now c.args.end c.args.root tree is c.way.visits c.way.at (c.way.invariant tree is) c.in-None.ensures.leaf c.finish.result (λ steps visited. (c.finish.ensures steps).0 visited)).1

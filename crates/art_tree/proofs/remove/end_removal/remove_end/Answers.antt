@@ -5,20 +5,27 @@ use Rattle.art_arena.specs.Arena.{held_leaf}
 use Rattle.art_nodes.specs.Leaf.{leaf_key, leaf_value}
 use Rattle.art_tree.specs.Art.{IsAlone, IsArt}
 use Rattle.art_tree.specs.Dictionary.{entry_at}
+use Rattle.art_tree.specs.Dropping.{IsAtPath}
 use Rattle.art_tree.specs.Ends.{IsEndEntry}
 use Rattle.art_tree.specs.Removal.{IsLeft}
-use Rattle.art_tree.specs.Search.{IsPathTo, leaf_pointer}
+use Rattle.art_tree.specs.Search.{HasTree, leaf_pointer}
 use Rattle.art_tree.proofs.SharedLemmas.DictionaryLemmas.{end-held}
 use Rattle.art_tree.proofs.SharedLemmas.ExchangedTree.{entries-stay}
 use Rattle.art_tree.proofs.RemoveLemmas.EndPlaces.{end-is}
 use Rattle.art_tree.proofs.InsertLemmas.NodeLemmas.{leaf-pointer-fits, spot-fits}
 use Rattle.art_tree.proofs.remove.end_removal.remove_end.Goals as goal
 
+pub end_place-path-requires : goal.end_place-path-requires
+end_place-path-requires g c =
+    let (tree, alone) = c.requires.art in
+    let there : HasTree g.K.AsBytes.text c.args.arena.now c.args.root = (tree, alone.is_tree) in
+    assumption (leaf-pointer-fits, spot-fits)
+
 pub remove_leaf-requires : goal.remove_leaf-requires
 remove_leaf-requires g c =
     let text = g.K.AsBytes.text in
     let (tree, alone) = c.requires.art in
-    let place : (tree : _) × IsAlone text c.args.arena.now c.args.root tree × IsPathTo tree (leaf_pointer c.end_place-path.result.0) c.end_place-path.result.1 = (tree, alone, c.end_place-path.ensures.path tree alone) in
+    let place : (tree : _) × IsAlone text c.args.arena.now c.args.root tree × IsAtPath tree (leaf_pointer c.end_place-path.result.0) c.end_place-path.result.1 = (tree, alone, c.end_place-path.ensures.path tree alone.is_tree) in
     assumption (leaf-pointer-fits, spot-fits)
 
 pub returns-clause-removed : goal.returns-clause-removed
@@ -30,7 +37,7 @@ returns-clause-removed g c =
     let apart = c.no_text_begins_another.ensures [] tree alone.is_tree.sound in
     let ascend = c.texts_ascend.ensures [] tree alone.is_tree.sound in
     let leaf = c.end_place-path.result.0 in
-    let at_end = c.end_place-path.ensures.at_end tree alone in
+    let at_end = c.end_place-path.ensures.at_end tree alone.is_tree in
     let there = end-held text old c.args.end c.args.root tree alone leaf at_end in
     let node = there.0 in
     let held = ap held_leaf there.1 in
@@ -50,7 +57,7 @@ returns-clause-refused g c =
     let apart = c.no_text_begins_another.ensures [] tree alone.is_tree.sound in
     let ascend = c.texts_ascend.ensures [] tree alone.is_tree.sound in
     let leaf = c.end_place-path.result.0 in
-    let at_end = c.end_place-path.ensures.at_end tree alone in
+    let at_end = c.end_place-path.ensures.at_end tree alone.is_tree in
     let there = end-held text old c.args.end c.args.root tree alone leaf at_end in
     let node = there.0 in
     let held = ap held_leaf there.1 in
@@ -70,7 +77,7 @@ returns-clause-takes_no_memory g c = λ enough.
     let apart = c.no_text_begins_another.ensures [] tree alone.is_tree.sound in
     let ascend = c.texts_ascend.ensures [] tree alone.is_tree.sound in
     let leaf = c.end_place-path.result.0 in
-    let at_end = c.end_place-path.ensures.at_end tree alone in
+    let at_end = c.end_place-path.ensures.at_end tree alone.is_tree in
     let there = end-held text old c.args.end c.args.root tree alone leaf at_end in
     let node = there.0 in
     let held = ap held_leaf there.1 in
@@ -85,7 +92,7 @@ returns-clause-no_room g c =
     let apart = c.no_text_begins_another.ensures [] tree alone.is_tree.sound in
     let ascend = c.texts_ascend.ensures [] tree alone.is_tree.sound in
     let leaf = c.end_place-path.result.0 in
-    let at_end = c.end_place-path.ensures.at_end tree alone in
+    let at_end = c.end_place-path.ensures.at_end tree alone.is_tree in
     let there = end-held text old c.args.end c.args.root tree alone leaf at_end in
     let node = there.0 in
     let held = ap held_leaf there.1 in
@@ -100,7 +107,7 @@ returns-clause-memory g c = λ kind.
     let apart = c.no_text_begins_another.ensures [] tree alone.is_tree.sound in
     let ascend = c.texts_ascend.ensures [] tree alone.is_tree.sound in
     let leaf = c.end_place-path.result.0 in
-    let at_end = c.end_place-path.ensures.at_end tree alone in
+    let at_end = c.end_place-path.ensures.at_end tree alone.is_tree in
     let there = end-held text old c.args.end c.args.root tree alone leaf at_end in
     let node = there.0 in
     let held = ap held_leaf there.1 in

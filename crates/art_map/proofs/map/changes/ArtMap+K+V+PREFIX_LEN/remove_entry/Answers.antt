@@ -1,8 +1,11 @@
-use Rattle.std.proofs.Common.{◌≡◌, ◌≢◌, ◌∙◌, None, sym, ap}
+use Rattle.std.proofs.Common.{◌≡◌, ◌≢◌, ◌∙◌, None, sym, ap, subst}
 use Rattle.art_tree.specs.Dictionary.{entry_at, SameEntries, SameOtherEntries}
-use Rattle.art_tree.specs.Entries.{without_text}
+use Rattle.art_tree.specs.Entries.{entries_of, without_text}
+use Rattle.art_tree.specs.Refusals.{texts_of}
 use Rattle.art_tree.specs.Removal.{NeedsSmallerNode}
 use Rattle.art_map.specs.Entries.{entry_with}
+use Rattle.art_nodes.specs.declared.pointers.OpaqueNodePtr.{OpaqueNodePtr}
+use Rattle.art_map.specs.Shrinking.{NeedsNode}
 use Rattle.art_map.proofs.ListLemmas.{entries-find, if-ok, leaf-found, on-err, on-ok-both}
 use Rattle.art_map.proofs.map.changes.ArtMap+K+V+PREFIX_LEN.remove_entry.Goals as goal
 
@@ -36,3 +39,11 @@ returns-clause-same_entries g c =
     let text = g.K.AsBytes.text in
     let arena = c.self.inside.tree.arena in
     on-err c.remove.result (SameEntries text arena c.remove.new.self.arena) _ (λ same. c.the_list_of_entries_changes_with_them.ensures.same arena c.remove.new.self.arena same ∙ c.self.view_is) c.remove.ensures.same_entries
+
+pub returns-clause-needs_node : goal.returns-clause-needs_node
+returns-clause-needs_node g c =
+    let text = g.K.AsBytes.text in
+    let arena = c.self.inside.tree.arena in
+    let x = g.Q.AsBytes.text c.args.key.now in
+    on-err c.remove.result (NeedsSmallerNode text arena c.as_bytes.result.now) (NeedsNode (OpaqueNodePtr g.row.K.Denot g.row.V.Denot g.row.PREFIX_LEN) (texts_of text c.args.self.now) x)
+    (λ needs. subst (λ entries. NeedsNode (OpaqueNodePtr g.row.K.Denot g.row.V.Denot g.row.PREFIX_LEN) (texts_of text entries) x) c.self.view_is (subst (NeedsNode (OpaqueNodePtr g.row.K.Denot g.row.V.Denot g.row.PREFIX_LEN) (texts_of text (entries_of text arena))) c.as_bytes.ensures.text (c.removals_need_nodes.ensures c.as_bytes.result.now needs))) c.remove.ensures.refused

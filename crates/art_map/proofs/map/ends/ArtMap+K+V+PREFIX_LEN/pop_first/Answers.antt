@@ -1,10 +1,13 @@
-use Rattle.std.proofs.Common.{◌≡◌, ◌≢◌, ◌∙◌, [], ◌∷◌, sym, ap}
+use Rattle.std.proofs.Common.{◌≡◌, ◌≢◌, ◌∙◌, [], ◌∷◌, slice_get, IfSome, sym, ap, subst}
 use Rattle.art_arena.specs.declared.ends.End.TheVariants.{First}
 use Rattle.art_tree.specs.Dictionary.{IsEmpty, SameEntries}
 use Rattle.art_tree.specs.Ends.{IsEndEntry, EndMeets}
 use Rattle.art_tree.specs.Entries.{entries_of}
+use Rattle.art_tree.specs.Refusals.{texts_of}
 use Rattle.art_tree.specs.Removal.{IsLeft, NeedsSmallerNode}
-use Rattle.art_map.proofs.EndLemmas.{first-and-left, end-there, if-none-both, if-some-both}
+use Rattle.art_nodes.specs.declared.pointers.OpaqueNodePtr.{OpaqueNodePtr}
+use Rattle.art_map.specs.Shrinking.{NeedsNode}
+use Rattle.art_map.proofs.EndLemmas.{first-at, first-and-left, end-there, if-none-both, if-some-both}
 use Rattle.art_map.proofs.ListLemmas.{on-err}
 use Rattle.art_map.proofs.map.ends.ArtMap+K+V+PREFIX_LEN.pop_first.Goals as goal
 
@@ -39,3 +42,12 @@ returns-clause-same_entries g c =
     let text = g.K.AsBytes.text in
     let old = c.self.inside.tree.arena in
     on-err c.pop_first.result (SameEntries text old c.pop_first.new.self.arena) _ (λ same. c.the_list_of_entries_changes_with_them.ensures.same old c.pop_first.new.self.arena same ∙ c.self.view_is) c.pop_first.ensures.same_entries
+
+pub returns-clause-needs_node : goal.returns-clause-needs_node
+returns-clause-needs_node g c =
+    let text = g.K.AsBytes.text in
+    let old = c.self.inside.tree.arena in
+    on-err c.pop_first.result (EndMeets text old First (NeedsSmallerNode text old)) _
+    (λ meets. subst (λ entries. IfSome (slice_get entries 0) (λ entry. NeedsNode (OpaqueNodePtr g.row.K.Denot g.row.V.Denot g.row.PREFIX_LEN) (texts_of text entries) (text entry.0))) c.self.view_is
+    (subst (λ found. IfSome found (λ entry. NeedsNode (OpaqueNodePtr g.row.K.Denot g.row.V.Denot g.row.PREFIX_LEN) (texts_of text (entries_of text old)) (text entry.0))) (sym (first-at text old (entries_of text old) (c.entries_are_one_list.ensures.list old) meets.0 ((c.entries_are_one_list.ensures.members old meets.0).1 meets.1.is_entry) meets.1))
+    (c.removals_need_nodes.ensures (text meets.0.0) meets.2))) c.pop_first.ensures.refused

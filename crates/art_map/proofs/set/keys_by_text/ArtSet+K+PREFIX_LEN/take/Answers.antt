@@ -1,10 +1,13 @@
 use Rattle.std.proofs.Common.{◌≡◌, ◌≢◌, ◌∙◌, None, OnErr, OnOk, IfOk, map, not, nat_eq, sym, ap, subst}
 use Rattle.std.specs.Cmp.Lexicographic.{pointwise}
 use Rattle.std.specs.Option.{option_map}
+use Rattle.art_tree.specs.Refusals.{texts_of}
 use Rattle.art_map.specs.Entries.{entry_with}
 use Rattle.art_map.specs.Sets.{key_with, without_key}
+use Rattle.art_nodes.specs.declared.pointers.OpaqueNodePtr.{OpaqueNodePtr}
+use Rattle.art_map.specs.Shrinking.{NeedsNode}
 use Rattle.art_map.proofs.OwnedKeyLemmas.{if-key, none-of-key, on-key, on-key-fault}
-use Rattle.art_map.proofs.SetLemmas.{key_of_found, keys_in, map-of-filter}
+use Rattle.art_map.proofs.SetLemmas.{key_of_found, keys_in, map-of-filter, texts-in}
 use Rattle.art_map.proofs.set.keys_by_text.ArtSet+K+PREFIX_LEN.take.Goals as goal
 
 pub returns-clause-taken : goal.returns-clause-taken
@@ -36,3 +39,12 @@ returns-clause-same_keys g c =
     let text = g.K.AsBytes.text in
     subst (λ r. OnErr r (keys_in text c.remove_entry.new.self ≡ c.args.self.now)) (sym c.owned_key.ensures)
     (on-key-fault c.remove_entry.result _ (keys_in text c.remove_entry.new.self ≡ c.args.self.now) (λ is. ap (keys_in text) is ∙ c.self.view_is) c.remove_entry.ensures.same_entries)
+
+pub returns-clause-needs_node : goal.returns-clause-needs_node
+returns-clause-needs_node g c =
+    let text = g.K.AsBytes.text in
+    let x = g.Q.AsBytes.text c.args.key.now in
+    let entries = c.self.inside.entries in
+    subst (λ r. OnErr r (NeedsNode (OpaqueNodePtr g.row.K.Denot (Unit {0}) g.row.PREFIX_LEN) (map text c.args.self.now) x)) (sym c.owned_key.ensures)
+    (on-key-fault c.remove_entry.result (NeedsNode (OpaqueNodePtr g.row.K.Denot (Unit {0}) g.row.PREFIX_LEN) (texts_of text entries) x) (NeedsNode (OpaqueNodePtr g.row.K.Denot (Unit {0}) g.row.PREFIX_LEN) (map text c.args.self.now) x)
+    (λ needs. subst (λ keys. NeedsNode (OpaqueNodePtr g.row.K.Denot (Unit {0}) g.row.PREFIX_LEN) (map text keys) x) c.self.view_is (subst (λ all. NeedsNode (OpaqueNodePtr g.row.K.Denot (Unit {0}) g.row.PREFIX_LEN) all x) (sym (texts-in text entries)) needs)) c.remove_entry.ensures.needs_node)

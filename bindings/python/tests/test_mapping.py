@@ -1,0 +1,46 @@
+"""The tests that Python has for its own mappings."""
+
+import copy
+import pickle
+import unittest
+
+from verified_art import SortedMap
+
+try:
+    from test import mapping_tests
+except ImportError as error:
+    raise unittest.SkipTest("Python's own tests are absent (Debian: libpython3-testsuite)") from error
+
+
+class SortedMapProtocol(mapping_tests.TestMappingProtocol):
+    """All tests of `BasicTestMappingProtocol` and of `TestMappingProtocol`: none is skipped."""
+
+    type2test = SortedMap
+
+
+class SortedMapIteration(unittest.TestCase):
+    """The one test of `TestHashMappingProtocol` that speaks of any mapping. Skipped are its tests of getitem, pop, setdefault
+    and eq, which have keys with a hash of their own; that of repr, which wants the text of a dict; and that of a deep
+    repr, whose RecursionError may be in ctypes, which makes an ArgumentError of it."""
+
+    type2test = SortedMap
+    _empty_mapping = mapping_tests.BasicTestMappingProtocol._empty_mapping
+    test_mutatingiteration = mapping_tests.TestHashMappingProtocol.test_mutatingiteration
+
+
+class Copies(unittest.TestCase):
+    def test_copies_have_the_entries_and_the_class(self):
+        class Named(SortedMap):
+            pass
+
+        made = Named({b"tin": [50], b"": None})
+        made.name = "metals"
+        for other in (copy.copy(made), copy.deepcopy(made), pickle.loads(pickle.dumps(SortedMap(made)))):
+            self.assertEqual(other, {b"tin": [50], b"": None})
+        self.assertIs(copy.copy(made)[b"tin"], made[b"tin"])
+        self.assertIsNot(copy.deepcopy(made)[b"tin"], made[b"tin"])
+        self.assertEqual((type(copy.copy(made)), copy.copy(made).name), (Named, "metals"))
+
+
+if __name__ == "__main__":
+    unittest.main()

@@ -1,0 +1,254 @@
+//! The two kinds of keys, and the calls for each.
+use crate::raw::{self, RawMap};
+use crate::refusal::{found, Refusal};
+use std::collections::VecDeque;
+use std::fmt;
+
+/// What the keys of a map are: `Vec<u8>` (any bytes, in lexicographic order) or `u64`.
+pub trait Key: Calls + Clone + Ord + Default {}
+
+impl Key for Vec<u8> {}
+impl Key for u64 {}
+
+/// What a key of type `K` may be given as: for `Vec<u8>` whatever has bytes (`&str`, `&[u8]`, `b"tin"`,
+/// `String`), for `u64` itself or a reference.
+pub trait AsKey<K: Key> {
+    #[doc(hidden)]
+    fn as_key(&self) -> &K::Sought;
+}
+
+impl<T: AsRef<[u8]> + ?Sized> AsKey<Vec<u8>> for T {
+    fn as_key(&self) -> &[u8] {
+        self.as_ref()
+    }
+}
+
+impl AsKey<u64> for u64 {
+    fn as_key(&self) -> &u64 {
+        self
+    }
+}
+
+impl AsKey<u64> for &u64 {
+    fn as_key(&self) -> &u64 {
+        self
+    }
+}
+
+/// Which entry to find.
+pub enum Find<'a, Q: ?Sized> {
+    First,
+    Last,
+    PopFirst,
+    PopLast,
+    /// The last one before a key, or at it where that is included.
+    Previous(&'a Q, bool),
+}
+
+/// The calls of the library for one kind of keys. No other crate can name this trait, so none can
+/// implement it.
+///
+/// # Safety
+///
+/// In each call but `make` the handle holds a map, and no other call of this map runs at the same time.
+pub trait Calls: Sized {
+    type Sought: ?Sized + Ord + ToOwned<Owned = Self>;
+
+    fn sought(&self) -> &Self::Sought;
+
+    unsafe fn make(map: *mut RawMap) -> u32;
+    unsafe fn free(map: *mut RawMap);
+    unsafe fn len(map: *mut RawMap) -> usize;
+    unsafe fn clear(map: *mut RawMap);
+    unsafe fn reserve(map: *mut RawMap, additional: usize) -> u32;
+    unsafe fn compact(map: *mut RawMap) -> u32;
+    unsafe fn insert(map: *mut RawMap, key: &Self::Sought, value: u64, before: &mut u64) -> u32;
+    unsafe fn get(map: *mut RawMap, key: &Self::Sought, value: &mut u64) -> u32;
+    unsafe fn remove(map: *mut RawMap, key: &Self::Sought, value: &mut u64) -> u32;
+    unsafe fn find(map: *mut RawMap, which: Find<'_, Self::Sought>) -> Result<Option<(Self, u64)>, Refusal>;
+
+    /// Appends the next entries after a key, from it on where that is included: at least one if there
+    /// are any, and `most` at most.
+    unsafe fn fetch(
+        map: *mut RawMap,
+        from: &Self::Sought,
+        inclusive: bool,
+        most: usize,
+        into: &mut VecDeque<(Self, u64)>,
+    ) -> Result<(), Refusal>;
+
+    /// Shows a key.
+    fn show(&self, out: &mut fmt::Formatter<'_>) -> fmt::Result;
+}
+
+/// Calls with buffers for a key until it fits, and returns the key and the value where one is found.
+fn with_buffer(
+    mut call: impl FnMut(&mut [u8], &mut usize, &mut u64) -> u32,
+) -> Result<Option<(Vec<u8>, u64)>, Refusal> {
+    let mut key = vec![0; 32];
+    loop {
+        let (mut len, mut value) = (0, 0);
+        let status = call(&mut key, &mut len, &mut value);
+        if status == raw::SMALL_BUFFER {
+            key.resize(len, 0);
+        } else {
+            key.truncate(len);
+            return Ok(found(status)?.then_some((key, value)));
+        }
+    }
+}
+
+impl Calls for Vec<u8> {
+    type Sought = [u8];
+
+    fn sought(&self) -> &[u8] {
+        self
+    }
+
+    unsafe fn make(map: *mut RawMap) -> u32 {
+        raw::art_bytes_new(map)
+    }
+
+    unsafe fn free(map: *mut RawMap) {
+        raw::art_bytes_free(map)
+    }
+
+    unsafe fn len(map: *mut RawMap) -> usize {
+        raw::art_bytes_len(map)
+    }
+
+    unsafe fn clear(map: *mut RawMap) {
+        raw::art_bytes_clear(map)
+    }
+
+    unsafe fn reserve(map: *mut RawMap, additional: usize) -> u32 {
+        raw::art_bytes_reserve(map, additional)
+    }
+
+    unsafe fn compact(map: *mut RawMap) -> u32 {
+        raw::art_bytes_compact(map)
+    }
+
+    unsafe fn insert(map: *mut RawMap, key: &[u8], value: u64, before: &mut u64) -> u32 {
+        raw::art_bytes_insert(map, key.as_ptr(), key.len(), value, before)
+    }
+
+    unsafe fn get(map: *mut RawMap, key: &[u8], value: &mut u64) -> u32 {
+        raw::art_bytes_get(map, key.as_ptr(), key.len(), value)
+    }
+
+    unsafe fn remove(map: *mut RawMap, key: &[u8], value: &mut u64) -> u32 {
+        raw::art_bytes_remove(map, key.as_ptr(), key.len(), value)
+    }
+
+    unsafe fn find(map: *mut RawMap, which: Find<'_, [u8]>) -> Result<Option<(Vec<u8>, u64)>, Refusal> {
+        with_buffer(|key, len, value| {
+            let (out, room) = (key.as_mut_ptr(), key.len());
+            match which {
+                Find::First => raw::art_bytes_first(map, out, room, len, value),
+                Find::Last => raw::art_bytes_last(map, out, room, len, value),
+                Find::PopFirst => raw::art_bytes_pop_first(map, out, room, len, value),
+                Find::PopLast => raw::art_bytes_pop_last(map, out, room, len, value),
+                Find::Previous(from, inclusive) => {
+                    raw::art_bytes_previous(map, from.as_ptr(), from.len(), inclusive, out, room, len, value)
+                }
+            }
+        })
+    }
+
+    // One entry: the library has no call for several.
+    unsafe fn fetch(
+        map: *mut RawMap,
+        from: &[u8],
+        inclusive: bool,
+        _most: usize,
+        into: &mut VecDeque<(Vec<u8>, u64)>,
+    ) -> Result<(), Refusal> {
+        let entry = with_buffer(|key, len, value| {
+            raw::art_bytes_next(map, from.as_ptr(), from.len(), inclusive, key.as_mut_ptr(), key.len(), len, value)
+        })?;
+        into.extend(entry);
+        Ok(())
+    }
+
+    fn show(&self, out: &mut fmt::Formatter<'_>) -> fmt::Result {
+        write!(out, "b\"{}\"", self.escape_ascii())
+    }
+}
+
+/// How many entries are fetched at once.
+const MOST_FETCHED: usize = 64;
+
+impl Calls for u64 {
+    type Sought = u64;
+
+    fn sought(&self) -> &u64 {
+        self
+    }
+
+    unsafe fn make(map: *mut RawMap) -> u32 {
+        raw::art_u64_new(map)
+    }
+
+    unsafe fn free(map: *mut RawMap) {
+        raw::art_u64_free(map)
+    }
+
+    unsafe fn len(map: *mut RawMap) -> usize {
+        raw::art_u64_len(map)
+    }
+
+    unsafe fn clear(map: *mut RawMap) {
+        raw::art_u64_clear(map)
+    }
+
+    unsafe fn reserve(map: *mut RawMap, additional: usize) -> u32 {
+        raw::art_u64_reserve(map, additional)
+    }
+
+    unsafe fn compact(map: *mut RawMap) -> u32 {
+        raw::art_u64_compact(map)
+    }
+
+    unsafe fn insert(map: *mut RawMap, key: &u64, value: u64, before: &mut u64) -> u32 {
+        raw::art_u64_insert(map, *key, value, before)
+    }
+
+    unsafe fn get(map: *mut RawMap, key: &u64, value: &mut u64) -> u32 {
+        raw::art_u64_get(map, *key, value)
+    }
+
+    unsafe fn remove(map: *mut RawMap, key: &u64, value: &mut u64) -> u32 {
+        raw::art_u64_remove(map, *key, value)
+    }
+
+    unsafe fn find(map: *mut RawMap, which: Find<'_, u64>) -> Result<Option<(u64, u64)>, Refusal> {
+        let (mut key, mut value) = (0, 0);
+        let status = match which {
+            Find::First => raw::art_u64_first(map, &mut key, &mut value),
+            Find::Last => raw::art_u64_last(map, &mut key, &mut value),
+            Find::PopFirst => raw::art_u64_pop_first(map, &mut key, &mut value),
+            Find::PopLast => raw::art_u64_pop_last(map, &mut key, &mut value),
+            Find::Previous(from, inclusive) => raw::art_u64_previous(map, *from, inclusive, &mut key, &mut value),
+        };
+        Ok(found(status)?.then_some((key, value)))
+    }
+
+    unsafe fn fetch(
+        map: *mut RawMap,
+        from: &u64,
+        inclusive: bool,
+        most: usize,
+        into: &mut VecDeque<(u64, u64)>,
+    ) -> Result<(), Refusal> {
+        let (mut keys, mut values) = ([0; MOST_FETCHED], [0; MOST_FETCHED]);
+        let most = most.min(MOST_FETCHED);
+        let count = raw::art_u64_next_many(map, *from, inclusive, keys.as_mut_ptr(), most, values.as_mut_ptr(), most);
+        into.extend(keys.into_iter().zip(values).take(count));
+        Ok(())
+    }
+
+    fn show(&self, out: &mut fmt::Formatter<'_>) -> fmt::Result {
+        write!(out, "{self}")
+    }
+}

@@ -1,0 +1,31 @@
+//! Ordered maps by bytes and by numbers over `libart.a`, a library whose functions are formally verified.
+//!
+//! [`ByteMap`] and [`NumberMap`] have values of 64 bits, [`Map`] values of any type. What is proved is the
+//! library: that each of its functions does exactly what its contract says of the list of entries. This
+//! crate is plain Rust over it, and tested.
+#![warn(missing_docs)]
+
+mod boxed;
+mod key;
+mod range;
+mod raw;
+mod refusal;
+mod words;
+
+pub use boxed::Map;
+pub use key::{AsKey, Key};
+pub use refusal::Refusal;
+pub use words::{ByteMap, NumberMap, WordMap};
+
+/// The iterators of the maps.
+pub mod iter {
+    pub use crate::boxed::{
+        IntoIter as MapIntoIter, Iter as MapIter, IterMut as MapIterMut, Range as MapRange, RangeMut as MapRangeMut,
+    };
+    pub use crate::range::{IntoIter, Iter, Keys, Range, Values};
+}
+
+/// The example of the README.
+#[cfg(doctest)]
+#[doc = include_str!("../README.md")]
+struct Readme;

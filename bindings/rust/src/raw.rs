@@ -1,0 +1,105 @@
+//! The functions of `bindings/c/art.h`, which says what they do and what their callers owe.
+
+/// A handle, of either kind.
+#[repr(C)]
+pub struct RawMap {
+    opaque: *mut u8,
+}
+
+impl RawMap {
+    /// A handle that holds no map, for `new`.
+    pub(crate) const EMPTY: RawMap = RawMap { opaque: std::ptr::null_mut() };
+}
+
+pub(crate) const NONE: u32 = 0;
+pub(crate) const SOME: u32 = 1;
+pub(crate) const NO_MEMORY: u32 = 2;
+pub(crate) const KEY_TOO_LONG: u32 = 3;
+pub(crate) const SMALL_BUFFER: u32 = 4;
+pub(crate) const NO_COUNT: usize = usize::MAX;
+
+extern "C" {
+    pub(crate) fn art_bytes_new(map: *mut RawMap) -> u32;
+    pub(crate) fn art_bytes_free(map: *mut RawMap);
+    pub(crate) fn art_bytes_len(map: *mut RawMap) -> usize;
+    pub(crate) fn art_bytes_clear(map: *mut RawMap);
+    pub(crate) fn art_bytes_reserve(map: *mut RawMap, additional: usize) -> u32;
+    pub(crate) fn art_bytes_compact(map: *mut RawMap) -> u32;
+    pub(crate) fn art_bytes_insert(map: *mut RawMap, key: *const u8, len: usize, value: u64, before: *mut u64) -> u32;
+    pub(crate) fn art_bytes_get(map: *mut RawMap, key: *const u8, len: usize, value: *mut u64) -> u32;
+    pub(crate) fn art_bytes_remove(map: *mut RawMap, key: *const u8, len: usize, value: *mut u64) -> u32;
+    pub(crate) fn art_bytes_next(
+        map: *mut RawMap,
+        from: *const u8,
+        len: usize,
+        inclusive: bool,
+        key_out: *mut u8,
+        capacity: usize,
+        key_len: *mut usize,
+        value: *mut u64,
+    ) -> u32;
+    pub(crate) fn art_bytes_previous(
+        map: *mut RawMap,
+        from: *const u8,
+        len: usize,
+        inclusive: bool,
+        key_out: *mut u8,
+        capacity: usize,
+        key_len: *mut usize,
+        value: *mut u64,
+    ) -> u32;
+    pub(crate) fn art_bytes_first(
+        map: *mut RawMap,
+        key_out: *mut u8,
+        capacity: usize,
+        key_len: *mut usize,
+        value: *mut u64,
+    ) -> u32;
+    pub(crate) fn art_bytes_last(
+        map: *mut RawMap,
+        key_out: *mut u8,
+        capacity: usize,
+        key_len: *mut usize,
+        value: *mut u64,
+    ) -> u32;
+    pub(crate) fn art_bytes_pop_first(
+        map: *mut RawMap,
+        key_out: *mut u8,
+        capacity: usize,
+        key_len: *mut usize,
+        value: *mut u64,
+    ) -> u32;
+    pub(crate) fn art_bytes_pop_last(
+        map: *mut RawMap,
+        key_out: *mut u8,
+        capacity: usize,
+        key_len: *mut usize,
+        value: *mut u64,
+    ) -> u32;
+    pub(crate) fn art_bytes_count_prefix(map: *mut RawMap, prefix: *const u8, len: usize) -> usize;
+
+    pub(crate) fn art_u64_new(map: *mut RawMap) -> u32;
+    pub(crate) fn art_u64_free(map: *mut RawMap);
+    pub(crate) fn art_u64_len(map: *mut RawMap) -> usize;
+    pub(crate) fn art_u64_clear(map: *mut RawMap);
+    pub(crate) fn art_u64_reserve(map: *mut RawMap, additional: usize) -> u32;
+    pub(crate) fn art_u64_compact(map: *mut RawMap) -> u32;
+    pub(crate) fn art_u64_insert(map: *mut RawMap, key: u64, value: u64, before: *mut u64) -> u32;
+    pub(crate) fn art_u64_get(map: *mut RawMap, key: u64, value: *mut u64) -> u32;
+    pub(crate) fn art_u64_remove(map: *mut RawMap, key: u64, value: *mut u64) -> u32;
+    pub(crate) fn art_u64_previous(map: *mut RawMap, from: u64, inclusive: bool, key: *mut u64, value: *mut u64)
+        -> u32;
+    pub(crate) fn art_u64_first(map: *mut RawMap, key: *mut u64, value: *mut u64) -> u32;
+    pub(crate) fn art_u64_last(map: *mut RawMap, key: *mut u64, value: *mut u64) -> u32;
+    pub(crate) fn art_u64_pop_first(map: *mut RawMap, key: *mut u64, value: *mut u64) -> u32;
+    pub(crate) fn art_u64_pop_last(map: *mut RawMap, key: *mut u64, value: *mut u64) -> u32;
+    pub(crate) fn art_u64_next_many(
+        map: *mut RawMap,
+        from: u64,
+        inclusive: bool,
+        keys: *mut u64,
+        keys_len: usize,
+        values: *mut u64,
+        values_len: usize,
+    ) -> usize;
+}

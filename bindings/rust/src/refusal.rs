@@ -1,0 +1,42 @@
+use crate::raw;
+use std::fmt;
+
+/// Why a call was refused. The map is then as it was before.
+#[derive(Clone, Copy, Debug, PartialEq, Eq)]
+pub enum Refusal {
+    /// No memory was found.
+    OutOfMemory,
+    /// The key has 2^32 bytes or more, with each zero counted twice and two more.
+    KeyTooLong,
+}
+
+impl fmt::Display for Refusal {
+    fn fmt(&self, out: &mut fmt::Formatter<'_>) -> fmt::Result {
+        out.write_str(match self {
+            Refusal::OutOfMemory => "out of memory",
+            Refusal::KeyTooLong => "the key is too long",
+        })
+    }
+}
+
+impl std::error::Error for Refusal {}
+
+/// Whether a call found an entry, by its status.
+pub(crate) fn found(status: u32) -> Result<bool, Refusal> {
+    match status {
+        raw::NONE => Ok(false),
+        raw::SOME => Ok(true),
+        raw::NO_MEMORY => Err(Refusal::OutOfMemory),
+        raw::KEY_TOO_LONG => Err(Refusal::KeyTooLong),
+        _ => unreachable!("status {status}"),
+    }
+}
+
+/// The result of a call that is not refused, else a panic.
+#[track_caller]
+pub(crate) fn granted<T>(result: Result<T, Refusal>) -> T {
+    match result {
+        Ok(granted) => granted,
+        Err(refusal) => panic!("verified-art: {refusal}"),
+    }
+}

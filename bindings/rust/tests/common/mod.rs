@@ -1,0 +1,41 @@
+//! Random numbers, keys and calls.
+#![allow(dead_code)]
+
+/// The generator SplitMix64.
+pub struct Random(pub u64);
+
+impl Random {
+    pub fn next(&mut self) -> u64 {
+        self.0 = self.0.wrapping_add(0x9e37_79b9_7f4a_7c15);
+        let mut word = self.0;
+        word = (word ^ (word >> 30)).wrapping_mul(0xbf58_476d_1ce4_e5b9);
+        word = (word ^ (word >> 27)).wrapping_mul(0x94d0_49bb_1331_11eb);
+        word ^ (word >> 31)
+    }
+
+    pub fn below(&mut self, end: u64) -> u64 {
+        self.next() % end
+    }
+
+    pub fn coin(&mut self) -> bool {
+        self.below(2) == 0
+    }
+
+    /// Numbers of all sizes: many are near each other or equal.
+    pub fn number(&mut self) -> u64 {
+        let bits = self.below(64);
+        self.next() >> bits
+    }
+
+    /// Few letters, with zeros and 255s: many are equal or begin another, and some are longer than a
+    /// node's prefix or than a first buffer.
+    pub fn bytes(&mut self) -> Vec<u8> {
+        const LETTERS: [u8; 5] = [0, 1, b'a', b'b', 255];
+        let mut key: Vec<u8> = (0..self.below(7)).map(|_| LETTERS[self.below(5) as usize]).collect();
+        if self.below(50) == 0 {
+            let (letter, more) = (LETTERS[self.below(5) as usize], self.below(60) as usize);
+            key.resize(key.len() + more, letter);
+        }
+        key
+    }
+}

@@ -1,0 +1,177 @@
+//! A million random calls of each map beside `BTreeMap`: what each returns, and the entries at the end.
+mod common;
+
+use common::Random;
+use std::collections::BTreeMap;
+use std::fmt::Debug;
+use std::ops::Bound;
+use verified_art::{AsKey, ByteMap, Key, Map, WordMap};
+
+const CALLS: u32 = 1_000_000;
+
+fn bound<K>(random: &mut Random, key: K) -> Bound<K> {
+    match random.below(3) {
+        0 => Bound::Included(key),
+        1 => Bound::Excluded(key),
+        _ => Bound::Unbounded,
+    }
+}
+
+/// Whether `BTreeMap::range` takes these bounds, and does not panic.
+fn is_range<K: Ord>(start: &Bound<K>, end: &Bound<K>) -> bool {
+    match (start, end) {
+        (Bound::Unbounded, _) | (_, Bound::Unbounded) => true,
+        (Bound::Excluded(start), Bound::Excluded(end)) => start < end,
+        (Bound::Included(start) | Bound::Excluded(start), Bound::Included(end) | Bound::Excluded(end)) => start <= end,
+    }
+}
+
+/// Takes up to `most` items of two iterators, each time from a random end, and compares them.
+fn walk_both<T: PartialEq + Debug>(
+    random: &mut Random,
+    most: u64,
+    mut ours: impl DoubleEndedIterator<Item = T>,
+    mut theirs: impl DoubleEndedIterator<Item = T>,
+) {
+    let both_ends = random.coin();
+    for _ in 0..most {
+        let back = both_ends && random.coin();
+        let (one, other) = if back { (ours.next_back(), theirs.next_back()) } else { (ours.next(), theirs.next()) };
+        assert_eq!(one, other);
+        if one.is_none() {
+            break;
+        }
+    }
+}
+
+fn same_calls<K: Key + AsKey<K> + Debug>(seed: u64, any_key: impl Fn(&mut Random) -> K)
+where
+    for<'a> &'a K: AsKey<K>,
+{
+    let mut random = Random(seed);
+    let mut map = WordMap::<K>::new();
+    let mut model = BTreeMap::<K, u64>::new();
+    for _ in 0..CALLS {
+        let key = any_key(&mut random);
+        match random.below(16) {
+            0..=4 => {
+                let value = random.next();
+                assert_eq!(map.insert(&key, value), model.insert(key, value));
+            }
+            5..=6 => assert_eq!(map.get(&key), model.get(&key).copied()),
+            7 => assert_eq!(map.contains_key(&key), model.contains_key(&key)),
+            8..=9 => {
+                // Of a key that is there, as a rule.
+                let key = model.range(&key..).next().map_or(key.clone(), |(key, _)| key.clone());
+                assert_eq!(map.remove(&key), model.remove(&key));
+            }
+            10 => assert_eq!(map.first_key_value(), model.first_key_value().map(|(key, value)| (key.clone(), *value))),
+            11 => assert_eq!(map.last_key_value(), model.last_key_value().map(|(key, value)| (key.clone(), *value))),
+            12 => match random.below(8) {
+                0 => assert_eq!(map.pop_first(), model.pop_first()),
+                1 => assert_eq!(map.pop_last(), model.pop_last()),
+                _ => (),
+            },
+            _ => {
+                let other = any_key(&mut random);
+                let (start, end) = (bound(&mut random, key), bound(&mut random, other));
+                let most = random.below(40);
+                if is_range(&start, &end) {
+                    let theirs = model.range((start.clone(), end.clone())).map(|(key, value)| (key.clone(), *value));
+                    walk_both(&mut random, most, map.range((start.clone(), end.clone())), theirs);
+                } else {
+                    assert_eq!(map.range((start.clone(), end.clone())).next(), None);
+                    assert_eq!(map.range((start, end)).next_back(), None);
+                }
+            }
+        }
+        assert_eq!(map.len(), model.len());
+        match random.below(100_000) {
+            0 => {
+                map.clear();
+                model.clear();
+                map.reserve(random.below(1000) as usize);
+            }
+            1 => map.compact(),
+            _ => (),
+        }
+    }
+    walk_both(&mut random, u64::MAX, map.iter(), model.iter().map(|(key, value)| (key.clone(), *value)));
+    let copy = map.clone();
+    assert_eq!(copy, map);
+    walk_both(&mut random, u64::MAX, copy.into_iter(), model.clone().into_iter());
+    assert!(map.keys().eq(model.keys().cloned()));
+    assert!(map.values().eq(model.values().copied()));
+}
+
+#[test]
+fn maps_by_numbers_do_what_a_btree_map_does() {
+    same_calls::<u64>(20261128, Random::number);
+}
+
+#[test]
+fn maps_by_dense_numbers_do_what_a_btree_map_does() {
+    same_calls::<u64>(7, |random| random.below(3000));
+}
+
+#[test]
+fn maps_by_bytes_do_what_a_btree_map_does() {
+    same_calls::<Vec<u8>>(1128, Random::bytes);
+}
+
+#[test]
+fn prefixes_have_the_entries_that_a_scan_finds() {
+    let mut random = Random(5);
+    let map: ByteMap = (0..3000).map(|value| (random.bytes(), value)).collect();
+    for _ in 0..3000 {
+        let mut prefix = random.bytes();
+        prefix.truncate(random.below(4) as usize);
+        let due: Vec<_> = map.iter().filter(|(key, _)| key.starts_with(&prefix)).collect();
+        assert_eq!(map.count_prefix(&prefix), due.len());
+        assert!(map.prefix(&prefix).eq(due.iter().cloned()));
+        assert!(map.prefix(&prefix).rev().eq(due.into_iter().rev()));
+    }
+}
+
+#[test]
+fn maps_of_any_values_do_what_a_btree_map_does() {
+    let mut random = Random(99);
+    let mut map = Map::<String>::new();
+    let mut model = BTreeMap::<Vec<u8>, String>::new();
+    for _ in 0..CALLS {
+        let key = random.bytes();
+        match random.below(10) {
+            0..=3 => {
+                let value = random.next().to_string();
+                assert_eq!(map.insert(&key, value.clone()), model.insert(key, value));
+            }
+            4 => assert_eq!(map.get(&key), model.get(&key)),
+            5 => {
+                let (ours, theirs) = (map.get_mut(&key), model.get_mut(&key));
+                assert_eq!(ours, theirs);
+                if let (Some(ours), Some(theirs)) = (ours, theirs) {
+                    ours.push('!');
+                    theirs.push('!');
+                }
+            }
+            6..=7 => assert_eq!(map.remove(&key), model.remove(&key)),
+            8 => match random.below(20) {
+                0 => assert_eq!(map.pop_first(), model.pop_first()),
+                1 => assert_eq!(map.pop_last(), model.pop_last()),
+                _ => assert_eq!(map.last_key_value(), model.last_key_value().map(|(key, value)| (key.clone(), value))),
+            },
+            _ => {
+                let most = random.below(10);
+                let theirs = model.range(key.clone()..).map(|(key, value)| (key.clone(), value));
+                walk_both(&mut random, most, map.range(key.as_slice()..), theirs);
+            }
+        }
+        assert_eq!(map.len(), model.len());
+    }
+    for (ours, theirs) in map.values_mut().zip(model.values_mut()) {
+        assert_eq!(ours, theirs);
+        ours.clear();
+        theirs.clear();
+    }
+    assert!(map.into_iter().eq(model));
+}

@@ -1,0 +1,310 @@
+// Calls of both maps beside std::map: what each returns and writes, and that it writes nothing else.
+// Which call comes next, and with what, a Source says: a generator of random numbers, or a fuzzer.
+#ifndef BESIDE_MAP_H
+#define BESIDE_MAP_H
+#include "../c/art.h"
+#include <algorithm>
+#include <cstdio>
+#include <cstdlib>
+#include <cstring>
+#include <iterator>
+#include <map>
+#include <string>
+#include <vector>
+
+[[noreturn]] inline void differs(const char *file, int line, const char *what) {
+    std::printf("%s: line %d: not so: %s\n", file, line, what);
+    std::fflush(stdout);
+    std::abort();
+}
+
+#define CHECK(fact) ((fact) ? (void)0 : differs(__FILE__, __LINE__, #fact))
+
+// What stands in the places that a call writes only where it finds an entry.
+const uint64_t NO_VALUE = 0x5EED5EED5EEDull;
+const size_t NO_LEN = 123456789;
+const uint8_t NO_BYTE = 0xEE;
+
+template <class Source> class BytesBeside {
+    using Model = std::map<std::string, uint64_t>;
+    using Entry = Model::const_iterator;
+
+    Source &source;
+    art_bytes_map map = {};
+    Model model;
+    std::vector<uint8_t> out;
+    size_t len = NO_LEN;
+    uint64_t value = NO_VALUE;
+
+    static const uint8_t *bytes(const std::string &key) {
+        return key.empty() ? nullptr : reinterpret_cast<const uint8_t *>(key.data());
+    }
+
+    uint8_t *room() { return out.empty() ? nullptr : out.data(); }
+
+    // Where the value of a key is written.
+    void found_value(Entry at, uint32_t status) {
+        if (at == model.end()) {
+            CHECK(status == ART_NONE && value == NO_VALUE);
+        } else {
+            CHECK(status == ART_SOME && value == at->second);
+        }
+    }
+
+    // Where a key and its value are written, the key if it fits.
+    void found_entry(Entry at, uint32_t status) {
+        size_t written = 0;
+        if (at == model.end()) {
+            CHECK(status == ART_NONE && len == NO_LEN && value == NO_VALUE);
+        } else if (at->first.size() > out.size()) {
+            CHECK(status == ART_SMALL_BUFFER && len == at->first.size() && value == NO_VALUE);
+        } else {
+            written = at->first.size();
+            CHECK(status == ART_SOME && len == written && value == at->second);
+            CHECK(std::equal(out.begin(), out.begin() + written, bytes(at->first)));
+        }
+        CHECK(std::all_of(out.begin() + written, out.end(), [](uint8_t byte) { return byte == NO_BYTE; }));
+    }
+
+    Entry after(const std::string &key, bool inclusive) const {
+        return inclusive ? model.lower_bound(key) : model.upper_bound(key);
+    }
+
+    Entry before(const std::string &key, bool inclusive) const {
+        Entry end = inclusive ? model.upper_bound(key) : model.lower_bound(key);
+        return end == model.begin() ? model.end() : std::prev(end);
+    }
+
+    static bool begins(const std::string &key, const std::string &prefix) { return key.compare(0, prefix.size(), prefix) == 0; }
+
+    Entry end_entry(bool first) const { return model.empty() ? model.end() : first ? model.begin() : std::prev(model.end()); }
+
+  public:
+    explicit BytesBeside(Source &choices) : source(choices) {
+        CHECK(art_bytes_new(&map) == ART_NONE);
+        CHECK(art_bytes_new(&map) == ART_HAS_MAP);
+    }
+
+    ~BytesBeside() {
+        walk();
+        art_bytes_free(&map);
+        CHECK(art_bytes_len(&map) == 0 && art_bytes_compact(&map) == ART_NO_MAP);
+    }
+
+    // All entries, each from the key before it.
+    void walk() {
+        std::string key;
+        bool inclusive = true;
+        for (const auto &entry : model) {
+            out.assign(entry.first.size(), NO_BYTE);
+            CHECK(art_bytes_next(&map, bytes(key), key.size(), inclusive, room(), out.size(), &len, &value) == ART_SOME);
+            CHECK(len == entry.first.size() && value == entry.second && std::equal(out.begin(), out.end(), bytes(entry.first)));
+            key = entry.first;
+            inclusive = false;
+        }
+        CHECK(art_bytes_next(&map, bytes(key), key.size(), inclusive, nullptr, 0, &len, &value) == ART_NONE);
+    }
+
+    void call() {
+        std::string key = source.key();
+        bool choice = source.below(2) == 1;
+        uint64_t put = source.number();
+        out.assign(source.below(64), NO_BYTE);
+        len = NO_LEN;
+        value = NO_VALUE;
+        Entry at = model.find(key);
+        switch (source.below(16)) {
+        case 0: case 1: case 2: case 3: case 4:
+            found_value(at, art_bytes_insert(&map, bytes(key), key.size(), put, &value));
+            model[key] = put;
+            break;
+        case 5:
+            found_value(at, art_bytes_get(&map, bytes(key), key.size(), &value));
+            break;
+        case 6: case 7:
+            found_value(at, art_bytes_remove(&map, bytes(key), key.size(), &value));
+            model.erase(key);
+            break;
+        case 8:
+            found_entry(after(key, choice), art_bytes_next(&map, bytes(key), key.size(), choice, room(), out.size(), &len, &value));
+            break;
+        case 9:
+            found_entry(before(key, choice), art_bytes_previous(&map, bytes(key), key.size(), choice, room(), out.size(), &len, &value));
+            break;
+        case 10: {
+            std::string prefix = source.key();
+            prefix.resize(std::min<size_t>(prefix.size(), source.below(4)));
+            Entry wanted = model.lower_bound(std::max(prefix, key));
+            if (wanted != model.end() && wanted->first == key && !choice) ++wanted;
+            if (wanted != model.end() && !begins(wanted->first, prefix)) wanted = model.end();
+            found_entry(wanted, art_bytes_next_with_prefix(&map, bytes(prefix), prefix.size(), bytes(key), key.size(), choice, room(),
+                                                           out.size(), &len, &value));
+            break;
+        }
+        case 11:
+            found_entry(end_entry(choice), choice ? art_bytes_first(&map, room(), out.size(), &len, &value)
+                                                  : art_bytes_last(&map, room(), out.size(), &len, &value));
+            break;
+        case 12: {
+            Entry end = end_entry(choice);
+            uint32_t status = choice ? art_bytes_pop_first(&map, room(), out.size(), &len, &value)
+                                     : art_bytes_pop_last(&map, room(), out.size(), &len, &value);
+            found_entry(end, status);
+            if (status == ART_SOME) model.erase(end);
+            break;
+        }
+        case 13: {
+            std::string prefix = key.substr(0, source.below(4));
+            size_t count = 0;
+            for (Entry it = model.lower_bound(prefix); it != model.end() && begins(it->first, prefix); ++it) count++;
+            CHECK(art_bytes_count_prefix(&map, bytes(prefix), prefix.size()) == count);
+            break;
+        }
+        case 14:
+            if (source.below(64) == 0) walk();
+            break;
+        default:
+            switch (source.below(64)) {
+            case 0: CHECK(art_bytes_compact(&map) == ART_NONE); break;
+            case 1: CHECK(art_bytes_reserve(&map, source.below(256)) == ART_NONE); break;
+            case 2:
+                if (source.below(64) == 0) {
+                    art_bytes_clear(&map);
+                    model.clear();
+                }
+            }
+        }
+        CHECK(art_bytes_len(&map) == model.size());
+    }
+};
+
+template <class Source> class NumbersBeside {
+    using Model = std::map<uint64_t, uint64_t>;
+    using Entry = Model::const_iterator;
+
+    Source &source;
+    art_u64_map map = {};
+    Model model;
+    uint64_t found = NO_VALUE;
+    uint64_t value = NO_VALUE;
+
+    void found_value(Entry at, uint32_t status) {
+        if (at == model.end()) {
+            CHECK(status == ART_NONE && value == NO_VALUE);
+        } else {
+            CHECK(status == ART_SOME && value == at->second);
+        }
+    }
+
+    void found_entry(Entry at, uint32_t status) {
+        if (at == model.end()) {
+            CHECK(status == ART_NONE && found == NO_VALUE && value == NO_VALUE);
+        } else {
+            CHECK(status == ART_SOME && found == at->first && value == at->second);
+        }
+    }
+
+    Entry after(uint64_t key, bool inclusive) const { return inclusive ? model.lower_bound(key) : model.upper_bound(key); }
+
+    Entry before(uint64_t key, bool inclusive) const {
+        Entry end = inclusive ? model.upper_bound(key) : model.lower_bound(key);
+        return end == model.begin() ? model.end() : std::prev(end);
+    }
+
+    Entry end_entry(bool first) const { return model.empty() ? model.end() : first ? model.begin() : std::prev(model.end()); }
+
+    // A batch, of which the shorter array says how long it may be.
+    void next_many(uint64_t key, bool inclusive) {
+        std::vector<uint64_t> keys(source.below(20), NO_VALUE), values(source.below(20), NO_VALUE);
+        size_t count = art_u64_next_many(&map, key, inclusive, keys.empty() ? nullptr : keys.data(), keys.size(),
+                                         values.empty() ? nullptr : values.data(), values.size());
+        size_t most = std::min(keys.size(), values.size()), written = 0;
+        for (Entry it = after(key, inclusive); it != model.end() && written < most; ++it, written++)
+            CHECK(keys[written] == it->first && values[written] == it->second);
+        CHECK(count == written);
+        auto untouched = [](uint64_t number) { return number == NO_VALUE; };
+        CHECK(std::all_of(keys.begin() + written, keys.end(), untouched));
+        CHECK(std::all_of(values.begin() + written, values.end(), untouched));
+    }
+
+  public:
+    explicit NumbersBeside(Source &choices) : source(choices) {
+        CHECK(art_u64_new(&map) == ART_NONE);
+        CHECK(art_u64_new(&map) == ART_HAS_MAP);
+    }
+
+    ~NumbersBeside() {
+        walk();
+        art_u64_free(&map);
+        CHECK(art_u64_len(&map) == 0 && art_u64_compact(&map) == ART_NO_MAP);
+    }
+
+    // All entries, by batches.
+    void walk() {
+        uint64_t keys[7], values[7], from = 0;
+        bool inclusive = true;
+        Entry it = model.begin();
+        while (size_t count = art_u64_next_many(&map, from, inclusive, keys, 7, values, 7)) {
+            for (size_t i = 0; i < count; i++, ++it) CHECK(it != model.end() && keys[i] == it->first && values[i] == it->second);
+            from = keys[count - 1];
+            inclusive = false;
+        }
+        CHECK(it == model.end());
+    }
+
+    void call() {
+        uint64_t key = source.number(), put = source.number();
+        bool choice = source.below(2) == 1;
+        found = value = NO_VALUE;
+        // Half of the keys are there.
+        if (source.below(2) == 0 && model.lower_bound(key) != model.end()) key = model.lower_bound(key)->first;
+        Entry at = model.find(key);
+        switch (source.below(16)) {
+        case 0: case 1: case 2: case 3: case 4: case 5:
+            found_value(at, art_u64_insert(&map, key, put, &value));
+            model[key] = put;
+            break;
+        case 6:
+            found_value(at, art_u64_get(&map, key, &value));
+            break;
+        case 7: case 8:
+            found_value(at, art_u64_remove(&map, key, &value));
+            model.erase(key);
+            break;
+        case 9:
+            found_entry(after(key, choice), art_u64_next(&map, key, choice, &found, &value));
+            break;
+        case 10:
+            found_entry(before(key, choice), art_u64_previous(&map, key, choice, &found, &value));
+            break;
+        case 11:
+            found_entry(end_entry(choice), choice ? art_u64_first(&map, &found, &value) : art_u64_last(&map, &found, &value));
+            break;
+        case 12: {
+            Entry end = end_entry(choice);
+            found_entry(end, choice ? art_u64_pop_first(&map, &found, &value) : art_u64_pop_last(&map, &found, &value));
+            if (end != model.end()) model.erase(end);
+            break;
+        }
+        case 13:
+            next_many(key, choice);
+            break;
+        case 14:
+            if (source.below(64) == 0) walk();
+            break;
+        default:
+            switch (source.below(64)) {
+            case 0: CHECK(art_u64_compact(&map) == ART_NONE); break;
+            case 1: CHECK(art_u64_reserve(&map, source.below(256)) == ART_NONE); break;
+            case 2:
+                if (source.below(64) == 0) {
+                    art_u64_clear(&map);
+                    model.clear();
+                }
+            }
+        }
+        CHECK(art_u64_len(&map) == model.size());
+    }
+};
+
+#endif

@@ -1,0 +1,153 @@
+// Each allocation of a script of calls is refused in turn: the call says so, and the entries are those of before.
+// Then it is made again. Link with -Wl,--wrap=malloc,--wrap=realloc,--wrap=free: std::map does not use these.
+#include "beside_map.h"
+
+static bool counting = false;
+static long until_refusal = 0;
+static bool refused = false;
+static long blocks = 0;
+
+static bool refuses() {
+    if (!counting || --until_refusal != 0) return false;
+    refused = true;
+    return true;
+}
+
+extern "C" {
+void *__real_malloc(size_t size);
+void *__real_realloc(void *block, size_t size);
+void __real_free(void *block);
+
+void *__wrap_malloc(size_t size) {
+    if (refuses()) return nullptr;
+    blocks++;
+    return __real_malloc(size);
+}
+
+void *__wrap_realloc(void *block, size_t size) {
+    if (refuses()) return nullptr;
+    if (block == nullptr) blocks++;
+    return __real_realloc(block, size);
+}
+
+void __wrap_free(void *block) {
+    if (block != nullptr) blocks--;
+    __real_free(block);
+}
+}
+
+struct Maps {
+    art_bytes_map bytes = {};
+    art_u64_map numbers = {};
+    uint8_t key[400];
+    size_t len = 0;
+    uint64_t number = 0;
+    uint64_t value = 0;
+
+    using Entries = std::pair<std::vector<std::pair<std::string, uint64_t>>, std::vector<std::pair<uint64_t, uint64_t>>>;
+
+    // All entries of both maps. No allocation is refused meanwhile.
+    Entries entries() {
+        Entries all;
+        uint8_t from[400];
+        size_t from_len = 0;
+        uint64_t at = 0, found = 0;
+        bool more = art_bytes_first(&bytes, from, sizeof from, &from_len, &found) == ART_SOME;
+        while (more) {
+            all.first.emplace_back(std::string(from, from + from_len), found);
+            uint8_t next[400];
+            more = art_bytes_next(&bytes, from, from_len, false, next, sizeof next, &from_len, &found) == ART_SOME;
+            std::memcpy(from, next, sizeof next);
+        }
+        for (more = art_u64_first(&numbers, &at, &found) == ART_SOME; more; more = art_u64_next(&numbers, at, false, &at, &found) == ART_SOME)
+            all.second.emplace_back(at, found);
+        return all;
+    }
+};
+
+// A call, which returns a status, and may be made again.
+struct Call {
+    uint32_t (*make)(Maps &maps, uint64_t with);
+    uint64_t with;
+};
+
+static const uint8_t *name(uint64_t with, uint8_t *room, size_t *len) {
+    // Of several lengths, with zeros, some of which begin others.
+    *len = with % 7 == 6 ? 300 : with % 7;
+    for (size_t i = 0; i < *len; i++) room[i] = static_cast<uint8_t>(i == 0 ? with : i == 1 ? with / 256 : 0);
+    return room;
+}
+
+#define CALL(body) [](Maps &maps, uint64_t with) -> uint32_t { (void)with; (void)maps; uint8_t room[400]; size_t len; \
+    const uint8_t *key = name(with, room, &len); (void)key; body }
+
+static std::vector<Call> script() {
+    std::vector<Call> calls;
+    auto add = [&calls](uint32_t (*make)(Maps &, uint64_t), uint64_t with) { calls.push_back({make, with}); };
+    add(CALL(return art_bytes_new(&maps.bytes);), 0);
+    add(CALL(return art_u64_new(&maps.numbers);), 0);
+    for (uint64_t i = 0; i < 90; i++) {
+        add(CALL(return art_bytes_insert(&maps.bytes, key, len, with, &maps.value);), i * 37);
+        add(CALL(return art_u64_insert(&maps.numbers, with, with, &maps.value);), i < 60 ? i : i << 40);
+    }
+    add(CALL(return art_bytes_reserve(&maps.bytes, with);), 100);
+    add(CALL(return art_u64_reserve(&maps.numbers, with);), 100);
+    add(CALL(return art_bytes_compact(&maps.bytes);), 0);
+    add(CALL(return art_u64_compact(&maps.numbers);), 0);
+    for (uint64_t i = 0; i < 90; i += 7) {
+        add(CALL(return art_bytes_get(&maps.bytes, key, len, &maps.value);), i * 37);
+        add(CALL(return art_bytes_next(&maps.bytes, key, len, true, maps.key, sizeof maps.key, &maps.len, &maps.value);), i);
+        add(CALL(return art_bytes_previous(&maps.bytes, key, len, false, maps.key, sizeof maps.key, &maps.len, &maps.value);), i);
+        add(CALL(return art_bytes_next_with_prefix(&maps.bytes, key, len / 2, key, len, true, maps.key, sizeof maps.key, &maps.len, &maps.value);), i);
+        add(CALL(return art_bytes_count_prefix(&maps.bytes, key, len) == ART_NO_COUNT ? ART_NO_MEMORY : ART_NONE;), i);
+        add(CALL(return art_u64_get(&maps.numbers, with, &maps.value);), i);
+    }
+    for (uint64_t i = 0; i < 45; i++) {
+        add(CALL(return art_bytes_remove(&maps.bytes, key, len, &maps.value);), i * 74);
+        add(CALL(return art_u64_remove(&maps.numbers, with, &maps.value);), i < 30 ? 2 * i : i << 40);
+    }
+    for (uint64_t i = 0; i < 70; i++) {
+        add(i % 2 ? CALL(return art_bytes_pop_first(&maps.bytes, maps.key, sizeof maps.key, &maps.len, &maps.value);)
+                  : CALL(return art_bytes_pop_last(&maps.bytes, maps.key, sizeof maps.key, &maps.len, &maps.value);), 0);
+        add(i % 2 ? CALL(return art_u64_pop_first(&maps.numbers, &maps.number, &maps.value);)
+                  : CALL(return art_u64_pop_last(&maps.numbers, &maps.number, &maps.value);), 0);
+    }
+    return calls;
+}
+
+// Runs the script with this allocation refused. Whether there was one.
+static bool run(const std::vector<Call> &calls, long allocation) {
+    Maps maps;
+    until_refusal = allocation;
+    refused = false;
+    for (const Call &call : calls) {
+        bool before = refused;
+        Maps::Entries entries;
+        Maps untouched = maps;
+        if (!before) entries = maps.entries();
+        counting = true;
+        uint32_t status = call.make(maps, call.with);
+        counting = false;
+        if (refused == before) {
+            CHECK(status == ART_NONE || status == ART_SOME);
+            continue;
+        }
+        CHECK(status == ART_NO_MEMORY);
+        CHECK(maps.entries() == entries);
+        CHECK(maps.len == untouched.len && maps.number == untouched.number && maps.value == untouched.value);
+        CHECK(std::memcmp(maps.key, untouched.key, sizeof maps.key) == 0);
+        status = call.make(maps, call.with);
+        CHECK(status == ART_NONE || status == ART_SOME);
+    }
+    art_bytes_free(&maps.bytes);
+    art_u64_free(&maps.numbers);
+    CHECK(blocks == 0);
+    return refused;
+}
+
+int main() {
+    std::vector<Call> calls = script();
+    long allocation = 1;
+    while (run(calls, allocation)) allocation++;
+    std::printf("refused_memory: of %zu calls each of %ld allocations was refused, and changed nothing\n", calls.size(), allocation - 1);
+}

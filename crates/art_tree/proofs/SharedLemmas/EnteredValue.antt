@@ -1,0 +1,58 @@
+-- A value that is written into a leaf that was found or added.
+use Rattle.std.proofs.Common.{◌≡◌, ◌≢◌, ◌⊎◌, ◌∙◌, ℕ, List, Option, Some, None, inl, inr, refl, sym, ap, subst}
+use Rattle.std.specs.Option.{UnwrapsOrElse, option_map, option_map_or}
+use Rattle.art_nodes.specs.Leaf.{leaf_key, leaf_value}
+use Rattle.art_nodes.specs.declared.leaf_node.LeafNode.{LeafNode}
+use Rattle.art_nodes.specs.declared.pointers.OpaqueNodePtr.{OpaqueNodePtr}
+use Rattle.art_arena.specs.Arena.{NodeArena, HeldLeaf, held}
+use Rattle.art_tree.specs.Dictionary.{entry_at, HasKeys, SameOtherEntries}
+use Rattle.art_tree.specs.Edits.{HoldsEntry}
+use Rattle.art_tree.specs.Insertion.{FindsEntry, IsEntered}
+use Rattle.art_tree.specs.Leaves.{KeepsOtherLeaves}
+use Rattle.art_tree.proofs.SharedLemmas.DictionaryLemmas.{text-found}
+use Rattle.art_tree.proofs.SharedLemmas.KeyLemmas.{keys-entered}
+use Rattle.art_tree.proofs.InsertLemmas.NodeLemmas.{one-leaf}
+
+module _ {K V : Type 0} {P : ℕ} (text : K → List ℕ) (old mid : NodeArena K V P) (key : K) (made : V → Type 0) (pointer : OpaqueNodePtr K V P) (finds : FindsEntry text old mid key made pointer) where
+  -- the leaf is held
+  pub found-held : (k : K) × (v : V) × HoldsEntry mid pointer k v
+  found-held = elim finds [ inl (entry, is, same, held) ↦ (entry.0, entry.1, held) | inr (v, is_made, none, entered, held) ↦ (key, v, held) ]
+
+  -- its value is the one that was there, or the one that was made
+  pub value-found : (value : V) → ((leaf : LeafNode K V P) → held mid pointer ≡ HeldLeaf leaf → value ≡ leaf_value leaf) → UnwrapsOrElse (option_map (λ (entry : K × V). entry.1) (entry_at text old (text key))) made value
+  value-found value is = elim finds [
+    | inl (entry, there, same, held) ↦ subst (λ o. UnwrapsOrElse (option_map (λ (e : K × V). e.1) o) made value) (sym there) (is held.leaf held.is_held ∙ held.value)
+    | inr (v, is_made, none, entered, held) ↦ subst (λ o. UnwrapsOrElse (option_map (λ (e : K × V). e.1) o) made value) (sym none) (subst made (sym (is held.leaf held.is_held ∙ held.value)) is_made)
+  ]
+
+  -- the laws of keys still hold for each key
+  pub keys-found : (is_key : K → Type 0) → HasKeys text is_key old → is_key key → HasKeys text is_key mid
+  keys-found is_key keys one = elim finds [
+    | inl (entry, there, same, held) ↦ subst (HasKeys text is_key) (sym same) keys
+    | inr (v, is_made, none, entered, held) ↦ keys-entered text is_key old mid keys key v entered one
+  ]
+
+  module _ (new : NodeArena K V P) (w : V) (was : LeafNode K V P) (there : held mid pointer ≡ HeldLeaf was) (writes : IsEntered text mid new (leaf_key was) w) where
+    entered-as : (k : K) (v : V) → HoldsEntry mid pointer k v → IsEntered text mid new k w
+    entered-as k v holds = subst (λ k. IsEntered text mid new k w) (ap leaf_key (one-leaf (held mid pointer) was holds.leaf there holds.is_held) ∙ holds.key) writes
+
+    -- the entry of the key has the value that is written, and nothing else has changed
+    pub entry-written : (entry_at text new (text key) ≡ Some (option_map_or (λ (entry : K × V). entry.0) (entry_at text old (text key)) key, w)) × SameOtherEntries text old new (text key) × KeepsOtherLeaves text old new (text key)
+    entry-written = elim finds [
+      | inl (entry, is, same, holds) ↦
+          let now = entered-as entry.0 entry.1 holds in
+          let x = text-found text old (text key) entry is in (
+            ap (entry_at text new) (sym x) ∙ now.entry ∙ ap (λ o. Some (option_map_or (λ (e : K × V). e.0) o key, w)) (sym is),
+            λ other differ. now.others other (λ e. differ (e ∙ x)) ∙ ap (λ arena. entry_at text arena other) same,
+            λ p l l_is differ. now.leaves p l (ap (λ arena. held arena p) same ∙ l_is) (λ e. differ (e ∙ x)),
+          )
+      | inr (v, is_made, none, entered, holds) ↦
+          let now = entered-as key v holds in (
+            now.entry ∙ ap (λ o. Some (option_map_or (λ (e : K × V). e.0) o key, w)) (sym none),
+            λ other differ. now.others other differ ∙ entered.others other differ,
+            λ p l l_is differ.
+                let (l1, is1, key1, value1) = entered.leaves p l l_is differ in
+                let (l2, is2, key2, value2) = now.leaves p l1 is1 (λ e. differ (ap text (sym key1) ∙ e)) in
+                (l2, is2, key2 ∙ key1, value2 ∙ value1),
+          )
+    ]

@@ -1,0 +1,14 @@
+use Rattle.std.proofs.Common.{◌^◌}
+use Rattle.art_nodes.specs.declared.pointers.OpaqueNodePtr.{OpaqueNodePtr as PointerTo}
+use Rattle.art_arena.specs.Standing.{IsTreeIn}
+use Rattle.art_arena.specs.Trees.{Tree}
+use Rattle.art_tree.proofs.SharedLemmas.Heights.{height}
+use Rattle.art_tree.proofs.RemoveLemmas.EndWays.{IsEndWay}
+use Rattle.art_tree.proofs.remove.end_removal.end_place.Given as goal
+
+-- on the way to the end of each tree that stands at the root
+abbrev pub invariant-way : goal.invariant-way
+invariant-way g l = (tree : Tree (PointerTo g.row.K.Denot g.row.V.Denot g.row.PREFIX_LEN)) → IsTreeIn g.K.AsBytes.text l.arena l.fn.root tree → IsEndWay l.end tree l.visits l.at
+
+abbrev pub decreases-way : goal.decreases-way
+decreases-way g l = height l.arena (2 ^ 64) l.at

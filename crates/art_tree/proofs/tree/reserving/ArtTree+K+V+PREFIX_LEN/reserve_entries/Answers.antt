@@ -1,0 +1,58 @@
+use Rattle.std.proofs.Common.{◌≢◌, ◌∙◌, ℕ}
+use Rattle.art_header.specs.declared.node_type.NodeType.{NodeType}
+use Rattle.art_header.specs.declared.node_type.NodeType.TheVariants as kinds
+use Rattle.art_arena.specs.Arena.{NodeArena}
+use Rattle.art_tree.specs.Room.{HasRoomFor, HasRoomOf}
+use Rattle.art_tree.proofs.SharedLemmas.RoomLasts.{on-ok-then}
+use Rattle.art_tree.proofs.tree.reserving.ArtTree+K+V+PREFIX_LEN.reserve_entries.Goals as goal
+
+each-kind : {K V : Type 0} {P : ℕ} (arena : NodeArena K V P) (count : ℕ) → HasRoomOf kinds.Leaf arena count → HasRoomOf kinds.Node4 arena count → HasRoomOf kinds.Node16 arena count → HasRoomOf kinds.Node48 arena count → HasRoomOf kinds.Node256 arena count → HasRoomFor arena count
+each-kind arena count leaf four sixteen many all kinds.Leaf = leaf
+each-kind arena count leaf four sixteen many all kinds.Node4 = four
+each-kind arena count leaf four sixteen many all kinds.Node16 = sixteen
+each-kind arena count leaf four sixteen many all kinds.Node48 = many
+each-kind arena count leaf four sixteen many all kinds.Node256 = all
+
+pub returns-clause-room : goal.returns-clause-room
+returns-clause-room g c =
+    let count = c.args.additional in
+    let last = c.reserve_kind-5.new.self.arena in
+    let two = c.reserve_kind-2.ensures.other_room in
+    let three = c.reserve_kind-3.ensures.other_room in
+    let four = c.reserve_kind-4.ensures.other_room in
+    let five = c.reserve_kind-5.ensures.other_room in
+    on-ok-then c.reserve_kind-5.result (HasRoomOf kinds.Node256 last count) (HasRoomFor last count) (each-kind last count
+    (five kinds.Leaf (λ e. cc) (four kinds.Leaf (λ e. cc) (three kinds.Leaf (λ e. cc) (two kinds.Leaf (λ e. cc) c.in_ok-reserve_kind.ensures.room))))
+    (five kinds.Node4 (λ e. cc) (four kinds.Node4 (λ e. cc) (three kinds.Node4 (λ e. cc) c.in_ok-reserve_kind-2.ensures.room)))
+    (five kinds.Node16 (λ e. cc) (four kinds.Node16 (λ e. cc) c.in_ok-reserve_kind-3.ensures.room))
+    (five kinds.Node48 (λ e. cc) c.in_ok-reserve_kind-4.ensures.room)) c.reserve_kind-5.ensures.room
+
+pub returns-in_err-reserve_kind-clause-same_entries : goal.returns-in_err-reserve_kind-clause-same_entries
+returns-in_err-reserve_kind-clause-same_entries g c = λ x. c.reserve_kind.ensures.same_entries x
+
+pub returns-in_err-reserve_kind-2-clause-same_entries : goal.returns-in_err-reserve_kind-2-clause-same_entries
+returns-in_err-reserve_kind-2-clause-same_entries g c = λ x. c.reserve_kind-2.ensures.same_entries x ∙ c.reserve_kind.ensures.same_entries x
+
+pub returns-in_err-reserve_kind-3-clause-same_entries : goal.returns-in_err-reserve_kind-3-clause-same_entries
+returns-in_err-reserve_kind-3-clause-same_entries g c = λ x. c.reserve_kind-3.ensures.same_entries x ∙ c.reserve_kind-2.ensures.same_entries x ∙ c.reserve_kind.ensures.same_entries x
+
+pub returns-in_err-reserve_kind-4-clause-same_entries : goal.returns-in_err-reserve_kind-4-clause-same_entries
+returns-in_err-reserve_kind-4-clause-same_entries g c = λ x. c.reserve_kind-4.ensures.same_entries x ∙ c.reserve_kind-3.ensures.same_entries x ∙ c.reserve_kind-2.ensures.same_entries x ∙ c.reserve_kind.ensures.same_entries x
+
+pub returns-clause-same_entries : goal.returns-clause-same_entries
+returns-clause-same_entries g c = λ x. c.reserve_kind-5.ensures.same_entries x ∙ c.reserve_kind-4.ensures.same_entries x ∙ c.reserve_kind-3.ensures.same_entries x ∙ c.reserve_kind-2.ensures.same_entries x ∙ c.reserve_kind.ensures.same_entries x
+
+pub returns-in_err-reserve_kind-clause-nodes_kept : goal.returns-in_err-reserve_kind-clause-nodes_kept
+returns-in_err-reserve_kind-clause-nodes_kept g c = λ x. c.reserve_kind.ensures.nodes_kept x
+
+pub returns-in_err-reserve_kind-2-clause-nodes_kept : goal.returns-in_err-reserve_kind-2-clause-nodes_kept
+returns-in_err-reserve_kind-2-clause-nodes_kept g c = λ x. c.reserve_kind-2.ensures.nodes_kept x ∙ c.reserve_kind.ensures.nodes_kept x
+
+pub returns-in_err-reserve_kind-3-clause-nodes_kept : goal.returns-in_err-reserve_kind-3-clause-nodes_kept
+returns-in_err-reserve_kind-3-clause-nodes_kept g c = λ x. c.reserve_kind-3.ensures.nodes_kept x ∙ c.reserve_kind-2.ensures.nodes_kept x ∙ c.reserve_kind.ensures.nodes_kept x
+
+pub returns-in_err-reserve_kind-4-clause-nodes_kept : goal.returns-in_err-reserve_kind-4-clause-nodes_kept
+returns-in_err-reserve_kind-4-clause-nodes_kept g c = λ x. c.reserve_kind-4.ensures.nodes_kept x ∙ c.reserve_kind-3.ensures.nodes_kept x ∙ c.reserve_kind-2.ensures.nodes_kept x ∙ c.reserve_kind.ensures.nodes_kept x
+
+pub returns-clause-nodes_kept : goal.returns-clause-nodes_kept
+returns-clause-nodes_kept g c = λ x. c.reserve_kind-5.ensures.nodes_kept x ∙ c.reserve_kind-4.ensures.nodes_kept x ∙ c.reserve_kind-3.ensures.nodes_kept x ∙ c.reserve_kind-2.ensures.nodes_kept x ∙ c.reserve_kind.ensures.nodes_kept x

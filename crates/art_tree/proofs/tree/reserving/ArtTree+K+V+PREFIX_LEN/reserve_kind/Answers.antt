@@ -1,0 +1,25 @@
+use Rattle.std.proofs.Common.{◌≡◌, ◌≢◌, ◌∙◌, ◌+◌, ◌≤◌, min, sym, ap, subst, arith}
+use Rattle.art_arena.specs.Arena.{leaf_count, room}
+use Rattle.art_tree.specs.NodeCounts.{most_nodes}
+use Rattle.art_tree.specs.Room.{HasRoomOf}
+use Rattle.art_tree.proofs.SharedLemmas.RoomLasts.{kept-room, on-ok-then, reserved-room}
+use Rattle.art_tree.proofs.tree.reserving.ArtTree+K+V+PREFIX_LEN.reserve_kind.Goals as goal
+
+pub returns-clause-room : goal.returns-clause-room
+returns-clause-room g c =
+    let old = c.args.self.now.arena in
+    let new = c.reserve.new.self.arena in
+    let kind = c.args.kind in
+    let count = c.args.additional in
+    let same = c.room_lasts.ensures.same_count old new c.args.self.now.root c.root-root.ensures.one_tree c.reserve.ensures.nodes_kept in
+    let long = c.entries_are_as_many_as_leaves.ensures.entries old c.args.self.now.root c.root-root.ensures.one_tree in
+    let entries : c.in-Some.entries ≡ leaf_count new + count = omega (arith, same, long, c.len.ensures, c.in-Some.is) in
+    on-ok-then c.reserve.result _ (HasRoomOf kind new count)
+    (λ reserved. reserved-room new kind count (subst (λ most. most ≤ room new kind) (c.min.ensures ∙ ap (min count) (c.most_of.ensures ∙ ap (most_nodes kind) entries)) reserved)) c.reserve.ensures.room
+
+pub returns-clause-other_room : goal.returns-clause-other_room
+returns-clause-other_room g c = λ other differ has.
+    let old = c.args.self.now.arena in
+    let new = c.reserve.new.self.arena in
+    let same = c.room_lasts.ensures.same_count old new c.args.self.now.root c.root-root.ensures.one_tree c.reserve.ensures.nodes_kept in
+    kept-room old new other c.args.additional (c.reserve.ensures.other_room other differ) (c.reserve.ensures.other_capacity other differ) same has
