@@ -7,7 +7,6 @@ pub mod ExchangedSubtree
 pub mod UniqueTree
 pub mod ParentLemmas
 pub mod EndBranches
-pub mod Heights
 pub mod KeyLemmas
 pub mod LoadedTexts
 pub mod ExchangedTree
