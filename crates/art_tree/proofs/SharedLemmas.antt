@@ -1,6 +1,11 @@
 pub mod SameEntries
 pub mod SameKinds
 pub mod BranchLemmas
+pub mod ChildLemmas
+pub mod HeldNodes
+pub mod NodeKinds
+pub mod PlacedNodes
+pub mod SpelledLists
 pub mod ClashLemmas
 pub mod DictionaryLemmas
 pub mod ExchangedSubtree
