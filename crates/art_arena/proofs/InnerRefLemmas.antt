@@ -1,5 +1,5 @@
 -- A sound node of a smaller kind is sound among nodes of any kind.
-use Rattle.std.proofs.Common.{ℕ, ◌≤◌, min, arith}
+use Rattle.std.proofs.Common.{ℕ, arith}
 use Rattle.art_nodes.specs.Inner.{Inner, IsInner, indirect_room}
 
 module _ {H : Type 0} (prefix_room : ℕ) (node : Inner H) where

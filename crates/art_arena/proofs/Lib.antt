@@ -1,7 +1,9 @@
 mod AnyLeafLemmas
 mod ArenaLemmas
 mod BelowLemmas
+mod DescentLemmas
 mod EndLemmas
+pub mod Heights
 mod InnerRefLemmas
 mod KeptLemmas
 mod KnitLemmas

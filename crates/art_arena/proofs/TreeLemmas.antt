@@ -1,5 +1,5 @@
 -- The texts of sound trees: common prefixes and order.
-use Rattle.std.proofs.Common.{◌≡◌, ◌∙◌, ℕ, suc, ◌-◌, ◌<◌, ◌≤◌, ◌^◌, List, [], ◌∷◌, ◌++◌, length, length-append, get_or, All, AllPairs, refl, sym, ap, subst, inl, inr, arith}
+use Rattle.std.proofs.Common.{◌≡◌, ◌∙◌, ℕ, suc, ◌-◌, ◌<◌, ◌≤◌, List, [], ◌∷◌, ◌++◌, length, length-append, get_or, All, AllPairs, refl, sym, ap, subst, inl, inr, arith}
 use Rattle.std.specs.declared.cmp.Ordering.TheVariants.{Less}
 use Rattle.std.proofs.lemmas.Bool.{cases_lt}
 use Rattle.std.proofs.lemmas.List.{map-append}
@@ -115,16 +115,6 @@ module _ {H : Type 0} where
   -- no text is a prefix of another
   pub texts-apart : (path : List ℕ) (tree : Tree H) → IsSound path tree → AllPairs (λ a b. (IsPrefixOf a b → ⊥) × (IsPrefixOf b a → ⊥)) (texts tree)
   texts-apart path tree sound i j d before inside = PartsBefore-apart (get_or (texts tree) i d) (get_or (texts tree) j d) (texts-part path tree sound i j d before inside)
-
-  mutual
-    -- a path in a sound tree is shorter than every text may be
-    pub path-fits : (path : List ℕ) (tree : Tree H) → IsSound path tree → length path < 2 ^ 64
-    path-fits path (Leaf pointer text) sound = omega (arith, sound.1, ap length sound.0.1, length-append path sound.0.0)
-    path-fits path (Inner pointer prefix branches) sound = omega (arith, path-fits-branches (path ++ prefix) branches (omega (arith, sound.0)) sound.2, length-append path prefix)
-
-    pub path-fits-branches : (path : List ℕ) (branches : Branches H) → 0 < length (branch_roots branches) → AreSound path branches → length path < 2 ^ 64
-    path-fits-branches path NoBranch some sound = absurd (omega (arith, some))
-    path-fits-branches path (Branch byte tree others) some sound = omega (arith, path-fits (path ++ byte ∷ []) tree sound.0, length-append path (byte ∷ []))
 
 module _ {H L : Type 0} where
   mutual

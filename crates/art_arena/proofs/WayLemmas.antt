@@ -49,21 +49,21 @@ module _ {H L : Type 0} (room : ℕ) (text_of : L → List ℕ) (held_at : H →
       subst P (get_or-map (λ leaf. leaf.1) (leaves tree) k (pointer, text) ∙ ap (λ leaf. leaf.1) is) (all k text (omega (arith, inside, length-map (leaves tree) (λ leaf. leaf.1))))
 
   -- what a leaf's text has of the prefix of a node above it
-  pub record IsCut (depth n : ℕ) (text : List ℕ) (tree : Tree H) : Type 0 where
+  pub record HasNodePrefix (depth n : ℕ) (text : List ℕ) (tree : Tree H) : Type 0 where
     pub fits : depth + n ≤ length text
     pub shared : IsSharedFrom depth (texts tree) (take (depth + n - depth) (drop depth text))
 
-  pub IsCut-leaf : (node : nodes.Inner H) (tree : Tree H) (path : List ℕ) (depth n : ℕ) (pointer : H) (text : List ℕ) → StandsUnder room text_of held_at node tree → IsSound path tree → length path ≡ depth → n ≡ node.prefix_len → Contains (leaves tree) (pointer, text) → IsCut depth n text tree
-  IsCut-leaf node (Leaf p x) path depth n pointer text stands sound deep long in_tree = absurd stands
-  IsCut-leaf node (Inner p prefix branches) path depth n pointer text (shows, stand) sound deep long in_tree =
+  pub leaf-node-prefix : (node : nodes.Inner H) (tree : Tree H) (path : List ℕ) (depth n : ℕ) (pointer : H) (text : List ℕ) → StandsUnder room text_of held_at node tree → IsSound path tree → length path ≡ depth → n ≡ node.prefix_len → Contains (leaves tree) (pointer, text) → HasNodePrefix depth n text tree
+  leaf-node-prefix node (Leaf p x) path depth n pointer text stands sound deep long in_tree = absurd stands
+  leaf-node-prefix node (Inner p prefix branches) path depth n pointer text (shows, stand) sound deep long in_tree =
       let front = IsLongestCommonPrefix-node path p prefix branches sound in
       let begins = of_leaf (IsPrefixOf (path ++ prefix)) (Inner p prefix branches) pointer text front.begins_each in_tree in
       let whole : text ≡ path ++ (prefix ++ begins.0) = begins.1 ∙ append_assoc path prefix begins.0 in
       let rest : drop depth text ≡ prefix ++ begins.0 = ap (drop depth) whole ∙ drop_at path (prefix ++ begins.0) depth deep in
-      let cut : take (depth + n - depth) (drop depth text) ≡ prefix = ap (take (depth + n - depth)) rest ∙ take_at prefix begins.0 (depth + n - depth) (omega (arith, long, shows.prefix_len)) in
+      let first : take (depth + n - depth) (drop depth text) ≡ prefix = ap (take (depth + n - depth)) rest ∙ take_at prefix begins.0 (depth + n - depth) (omega (arith, long, shows.prefix_len)) in
       record {
         fits = omega (arith, ap length begins.1, length-append (path ++ prefix) begins.0, length-append path prefix, deep, long, shows.prefix_len);
-        shared = (path ++ prefix, front, cut ∙ sym (drop_at path prefix depth deep));
+        shared = (path ++ prefix, front, first ∙ sym (drop_at path prefix depth deep));
       }
 
   -- a prefix that is wholly stored is what the texts share

@@ -82,14 +82,10 @@ pub fn end_leaf<K: AsBytes, V, const PREFIX_LEN: usize>(
     ensures held { HoldsLeaf arena.now (slab_key result) }
 {
     let mut at = pointer;
-    // A counter that proves that the loop ends: each step makes the path longer, and a leaf's key,
-    // which is longer still, has fewer than 2^64 bytes.
-    let mut passed: usize = 0;
     'way: loop {
         match step_to_end(arena, at, end) {
             Some(child) => {
                 at = child;
-                passed += 1;
             }
             None => {
                 return at.cast().unwrap();
@@ -138,13 +134,10 @@ pub fn any_leaf<K: AsBytes, V, const PREFIX_LEN: usize>(
     ensures held { HoldsLeaf arena.now (slab_key result) }
 {
     let mut at = pointer;
-    // A counter that proves that the loop ends, as in `end_leaf`.
-    let mut passed: usize = 0;
     'way: loop {
         match step_to_leaf(arena, at) {
             Some(child) => {
                 at = child;
-                passed += 1;
             }
             None => {
                 return at.cast().unwrap();

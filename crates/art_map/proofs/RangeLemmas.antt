@@ -12,10 +12,12 @@ use Rattle.art_nodes.specs.declared.leaf_node.LeafNode.{LeafNode}
 use Rattle.art_arena.specs.Arena.{NodeArena, Held, HeldLeaf, Nothing, held}
 use Rattle.art_arena.specs.Links.{AreDistinct, Spells, SpellsAfter, leaf_at}
 use Rattle.art_arena.specs.Trees.{Tree, leaves}
+use Rattle.art_arena.specs.declared.ends.End.{End}
+use Rattle.art_arena.specs.declared.ends.End.TheVariants.{First, Last}
 use Rattle.art_tree.specs.Entries.{entries_of}
 use Rattle.art_tree.specs.Search.{leaf_pointer}
 use Rattle.art_tree.specs.Sides.{is_before, AreOn}
-use Rattle.art_map.specs.Nearest.{is_between, IsFirstAfter, IsLastBefore}
+use Rattle.art_map.specs.Nearest.{is_between, IsFirstAfter, IsLastBefore, IsNearest, entry_nearest}
 use Rattle.art_map.specs.LeafEntries.{keys_of, HoldsEntryOf, AllHold}
 use Rattle.art_map.specs.Runs.{EndsIn, LeadsOver, leaf_entry, entries_under, run_of}
 use Rattle.art_tree.specs.declared.place.Side.{Side}
@@ -339,6 +341,26 @@ module _ {K V : Type 0} {P : ℕ} (text : K → List ℕ) (arena : NodeArena K V
         ∙ held-append text arena left (here ∷ []) ∙ ap (λ es. held_by text arena left ++ es) (entries-cons arena (slab_key at) [] holds.leaf holds.at))
         ∙ last-pushed (held_by text arena left) (leaf_entry holds.leaf)
         ∙ sym (ap (option_map leaf_entry) holds.at)
+
+-- the nearest leaf on either side, and its entry
+module _ {K V : Type 0} {P : ℕ} (text : K → List ℕ) (arena : NodeArena K V P) (tree : Tree (OpaqueNodePtr K V P))
+    (hold : AllHold text arena (leaves tree)) (are : held_by text arena (leaves tree) ≡ entries_of text arena) (side : Side) (key : List ℕ) where
+  pub nearest-held : (end : End) (at : OpaqueNodePtr K V P) → IsNearest side key end (leaves tree) (Some at) → (x : List ℕ) × HoldsEntryOf text arena at x
+  nearest-held First at (x, left, right, is, before, after) = (x, holds-one text arena (leaves tree) left right (at, x) is hold)
+  nearest-held Last at (x, left, right, is, before, after) = (x, holds-one text arena (leaves tree) left right (at, x) is hold)
+
+  pub none-nearest : (end : End) → IsNearest side key end (leaves tree) None → entry_nearest text side key end (entries_of text arena) ≡ None
+  none-nearest First there = none-after text arena tree hold are side key there
+  none-nearest Last there = none-before-it text arena tree hold are side key there
+
+  pub nearest-is : (end : End) (at : NodePtr P (LeafNode K V P)) → IsNearest side key end (leaves tree) (Some (leaf_pointer at)) → entry_nearest text side key end (entries_of text arena) ≡ option_map leaf_entry (leaf_at arena (slab_key at))
+  nearest-is First at there = first-after text arena tree hold are side key at there
+  nearest-is Last at there = last-before-it text arena tree hold are side key at there
+
+-- of no entries none is nearest
+pub nearest-none : {K V : Type 0} (text : K → List ℕ) (side : Side) (key : List ℕ) (end : End) → entry_nearest {V = V} text side key end [] ≡ None
+nearest-none text side key First = refl
+nearest-none text side key Last = refl
 
 -- key and value of a leaf make its entry
 pub entry-of-parts : {K V : Type 0} {P : ℕ} (o : Option (LeafNode K V P)) (key : K) (value : V) → option_map leaf_key o ≡ Some key → option_map leaf_value o ≡ Some value → Some (key, value) ≡ option_map leaf_entry o

@@ -9,7 +9,7 @@ ghost use Rattle.art_tree.specs.Entries.{entries_of};
 ghost use Rattle.art_tree.specs.Search.{leaf_pointer};
 ghost use Rattle.art_tree.specs.Sides.{is_before, IsNextTo};
 ghost use Rattle.art_tree.specs.declared.place.Side.{Side};
-ghost use Rattle.art_map.specs.Nearest.{IsFirstAfter, IsLastBefore};
+ghost use Rattle.art_map.specs.Nearest.{IsFirstAfter, IsLastBefore, IsNearest, entry_nearest};
 
 use crate::leaf_entries::leaves_hold_the_entries;
 use art_bytes::AsBytes;
@@ -57,20 +57,40 @@ pub(crate) fn leaf_before<K: AsBytes, V, const PREFIX_LEN: usize>(
     }
 }
 
-/// The first leaf of a tree after this side of the key, or None where all are before it. Takes no
-/// memory.
-fn first_after<K: AsBytes, V, const PREFIX_LEN: usize>(
+// The first leaf of a tree after this side of the key, or the last before it.
+fn nearest_leaf<K: AsBytes, V, const PREFIX_LEN: usize>(
     tree: &ArtTree<K, V, PREFIX_LEN>,
     side: Side,
     key: &[u8],
+    end: End,
 ) -> Option<NodePtr<PREFIX_LEN, LeafNode<K, V, PREFIX_LEN>>>
     ensures { (root whole : _) → tree.now.root ≡ Some root →
         IsAlone K.text tree.now.arena root whole →
-        IsFirstAfter side key.now (leaves whole) (option_map leaf_pointer result) }
+        IsNearest side key.now end (leaves whole) (option_map leaf_pointer result) }
 {
     let root = tree.root()?;
     let arena = tree.arena();
-    leaf_after(arena, leaf_beside(arena, root, key, side))
+    let beside = leaf_beside(arena, root, key, side);
+    match end {
+        End::First => leaf_after(arena, beside),
+        End::Last => leaf_before(arena, beside),
+    }
+}
+
+// The first entry after this side of the key, or the last before it.
+fn nearest_entry<'a, K: AsBytes, V, const PREFIX_LEN: usize>(
+    tree: &'a ArtTree<K, V, PREFIX_LEN>,
+    side: Side,
+    key: &[u8],
+    end: End,
+) -> Option<(&'a K, &'a V)>
+    ensures { option_map (λ (key, value). (key.now, value.now)) result
+        ≡ entry_nearest K.text side key.now end (entries_of K.text tree.now.arena) }
+{
+    leaves_hold_the_entries::<K, V, PREFIX_LEN>();
+    let _root = tree.root()?;
+    let leaf = nearest_leaf(tree, side, key, end)?;
+    Some(tree.arena().as_key_value_ref(leaf))
 }
 
 /// The first entry after this side of the key, or None where all are before it. Takes no memory.
@@ -82,26 +102,7 @@ pub(crate) fn first_entry_after<'a, K: AsBytes, V, const PREFIX_LEN: usize>(
     ensures { option_map (λ (key, value). (key.now, value.now)) result ≡ slice_get
         (filter (λ entry. not (is_before side key.now (K.text entry.0))) (entries_of K.text tree.now.arena)) 0 }
 {
-    leaves_hold_the_entries::<K, V, PREFIX_LEN>();
-    let _root = tree.root()?;
-    let leaf = first_after(tree, side, key)?;
-    Some(tree.arena().as_key_value_ref(leaf))
-}
-
-/// The last leaf of a tree before this side of the key, or None where all are after it. Takes no
-/// memory.
-fn last_before<K: AsBytes, V, const PREFIX_LEN: usize>(
-    tree: &ArtTree<K, V, PREFIX_LEN>,
-    side: Side,
-    key: &[u8],
-) -> Option<NodePtr<PREFIX_LEN, LeafNode<K, V, PREFIX_LEN>>>
-    ensures { (root whole : _) → tree.now.root ≡ Some root →
-        IsAlone K.text tree.now.arena root whole →
-        IsLastBefore side key.now (leaves whole) (option_map leaf_pointer result) }
-{
-    let root = tree.root()?;
-    let arena = tree.arena();
-    leaf_before(arena, leaf_beside(arena, root, key, side))
+    nearest_entry(tree, side, key, End::First)
 }
 
 /// The last entry before this side of the key, or None where all are after it. Takes no memory.
@@ -115,8 +116,5 @@ pub(crate) fn last_entry_before<'a, K: AsBytes, V, const PREFIX_LEN: usize>(
         option_map (λ (key, value). (key.now, value.now)) result
         ≡ slice_get before (length before - 1) }
 {
-    leaves_hold_the_entries::<K, V, PREFIX_LEN>();
-    let _root = tree.root()?;
-    let leaf = last_before(tree, side, key)?;
-    Some(tree.arena().as_key_value_ref(leaf))
+    nearest_entry(tree, side, key, End::Last)
 }

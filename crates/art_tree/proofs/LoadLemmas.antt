@@ -1,4 +1,3 @@
-pub mod ChildLemmas
 pub mod PlanLemmas
 pub mod LeafLists
 pub mod LoadedTree

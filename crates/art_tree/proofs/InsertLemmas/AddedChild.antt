@@ -24,7 +24,7 @@ use Rattle.art_tree.specs.Places.{above, LacksChild}
 use Rattle.art_arena.specs.declared.ends.End.{End}
 use Rattle.art_tree.specs.declared.place.Spot.{Spot}
 use Rattle.art_tree.proofs.InsertLemmas.AddedLeaf.{AreSteps, HasTaken, below-kept, can-hang, last-others, tree-added}
-use Rattle.art_tree.proofs.SharedLemmas.BranchLemmas.{leaves-join, places-join}
+use Rattle.art_tree.proofs.SharedLemmas.BranchLemmas.{leaves-join, places-join, smallest_kinds-split, stand-split}
 use Rattle.art_tree.proofs.SharedLemmas.DictionaryLemmas.{AreApart}
 use Rattle.art_tree.proofs.SharedLemmas.ExchangedSubtree.{the-one, distinct-part, kept-branches, sound-part, smallest_kinds-part, stands-part}
 use Rattle.art_tree.proofs.InsertLemmas.GapLemmas.{beside-key, gap, keys_of, lies, spelled-parts}
@@ -33,8 +33,8 @@ use Rattle.art_tree.proofs.SharedLemmas.ParentLemmas.{inner-kind}
 use Rattle.art_arena.proofs.StandingLaws.{one-inner}
 use Rattle.art_tree.proofs.InsertLemmas.NodeLemmas.{few-where-absent}
 use Rattle.art_tree.proofs.PlaceLemmas.SidesAround.{byte-place}
-use Rattle.art_tree.proofs.LoadLemmas.PlacedTrees.{smallest_kinds-split, stand-split}
-use Rattle.art_tree.proofs.InsertLemmas.SubtreeLemmas.{HasChildPlace, child-place, in-taken, kind-grows, kind-stays, smallest_kinds-taken}
+use Rattle.art_tree.proofs.SharedLemmas.NodeKinds.{kind-grows, kind-stays}
+use Rattle.art_tree.proofs.InsertLemmas.SubtreeLemmas.{HasChildPlace, child-place, in-taken, smallest_kinds-taken}
 
 -- the next kind of an inner node is no leaf's
 pub grown-inner : (kind : NodeType) → kind ≢ kinds.Leaf → grown_kind kind ≢ kinds.Leaf

@@ -36,10 +36,10 @@ use Rattle.art_tree.proofs.SharedLemmas.DictionaryLemmas.{AreApart, end-in, leaf
 use Rattle.art_tree.proofs.SharedLemmas.ExchangedSubtree.{distinct-part, kept-branches, sound-part, smallest_kinds-part, stands-part}
 use Rattle.art_tree.proofs.InsertLemmas.GapLemmas.{beside-key, gap, keys_of, lies, spelled-parts}
 use Rattle.art_tree.proofs.SharedLemmas.ExchangedTree.{alone-same}
-use Rattle.art_tree.proofs.LoadLemmas.PlacedTrees.{cases_pointer, text-held}
 use Rattle.art_tree.proofs.InsertLemmas.SubtreeLemmas.{HasForkPlace, fork-place, in-taken, leaves-sides, leaves-trimmed, places-sides, places-trimmed, smallest_kinds-sides, smallest_kinds-taken, smallest_kinds-trimmed, both-sides, ltrimmed, branches_left, branches_right}
 use Rattle.art_tree.proofs.PlaceLemmas.TextsBelow.{branch-text-begins}
 use Rattle.art_arena.proofs.StandingLaws.{leaf_kind, one-inner}
+use Rattle.art_tree.proofs.SharedLemmas.HeldNodes.{cases_pointer, text-held}
 
 module _ {H : Type 0} where
   -- the leaf at the end of a tree on whose side a byte lies is beside the gap there
@@ -221,12 +221,12 @@ module _ {K V : Type 0} {P : ℕ} {text : K → List ℕ} {old : NodeArena K V P
           omega (arith, parts.at.deep, inner.shows.prefix_len, length-append (path_to around_it) inner.prefix, ap length begins.1, length-append (path_to around_it ++ inner.prefix) begins.0, ap length sibling-has)
 
       -- the arena once the node is trimmed
-      module _ (cut : NodeArena K V P) (leaf_same : node_kind spot.node ≡ kinds.Leaf → SameNodes linked cut)
-          (trims : (node : nodes.Inner (OpaqueNodePtr K V P)) (path prefix rest : List ℕ) → held linked spot.node ≡ HeldInner node → length path ≡ spot.depth → text_at text linked sibling ≡ path ++ prefix ++ rest → StandsFor P (header_of node) prefix → Changes linked cut spot.node (HeldInner (node_with_prefix P node (drop (mismatch.index + 1 - spot.depth) prefix)))) where
+      module _ (trimmed : NodeArena K V P) (leaf_same : node_kind spot.node ≡ kinds.Leaf → SameNodes linked trimmed)
+          (trims : (node : nodes.Inner (OpaqueNodePtr K V P)) (path prefix rest : List ℕ) → held linked spot.node ≡ HeldInner node → length path ≡ spot.depth → text_at text linked sibling ≡ path ++ prefix ++ rest → StandsFor P (header_of node) prefix → Changes linked trimmed spot.node (HeldInner (node_with_prefix P node (drop (mismatch.index + 1 - spot.depth) prefix)))) where
         pub record IsTrimmed : Type 0 where
-          pub others : (p : OpaqueNodePtr K V P) → (p ≡ spot.node → (l : LeafNode K V P) × (held linked p ≡ HeldLeaf l)) → held cut p ≡ held linked p
-          pub is_held : held cut spot.node ≢ Nothing
-          pub inner : (node : nodes.Inner (OpaqueNodePtr K V P)) → held linked spot.node ≡ HeldInner node → (now : nodes.Inner (OpaqueNodePtr K V P)) × (held cut spot.node ≡ HeldInner now) × ((prefix : List ℕ) (branches : Branches (OpaqueNodePtr K V P)) → part_there ≡ Inner spot.node prefix branches → NodeStands P now (drop len_there prefix) branches)
+          pub others : (p : OpaqueNodePtr K V P) → (p ≡ spot.node → (l : LeafNode K V P) × (held linked p ≡ HeldLeaf l)) → held trimmed p ≡ held linked p
+          pub is_held : held trimmed spot.node ≢ Nothing
+          pub inner : (node : nodes.Inner (OpaqueNodePtr K V P)) → held linked spot.node ≡ HeldInner node → (now : nodes.Inner (OpaqueNodePtr K V P)) × (held trimmed spot.node ≡ HeldInner now) × ((prefix : List ℕ) (branches : Branches (OpaqueNodePtr K V P)) → part_there ≡ Inner spot.node prefix branches → NodeStands P now (drop len_there prefix) branches)
 
         pub is-trimmed : IsTrimmed
         is-trimmed = by_held (held linked spot.node) refl
@@ -265,25 +265,25 @@ module _ {K V : Type 0} {P : ℕ} {text : K → List ℕ} {old : NodeArena K V P
           leaf-apart : leaf ≢ spot.node
           leaf-apart same = there-held (ap (held old) (sym same) ∙ free)
 
-          leaf-cut : held cut leaf ≡ HeldLeaf entry.leaf
-          leaf-cut = is-trimmed.others leaf (λ same. absurd (leaf-apart same)) ∙ entry.is_held
+          leaf-trimmed : held trimmed leaf ≡ HeldLeaf entry.leaf
+          leaf-trimmed = is-trimmed.others leaf (λ same. absurd (leaf-apart same)) ∙ entry.is_held
 
-          pub new-leaf-held : HoldsLeaf cut slot
-          new-leaf-held none = let wrong : HeldLeaf entry.leaf ≡ Nothing = sym leaf-cut ∙ ap (held cut) leaf_is ∙ none in absurd (cc)
+          pub new-leaf-held : HoldsLeaf trimmed slot
+          new-leaf-held none = let wrong : HeldLeaf entry.leaf ≡ Nothing = sym leaf-trimmed ∙ ap (held trimmed) leaf_is ∙ none in absurd (cc)
 
-          pub text-cut : text_at text cut slot ≡ text key
-          text-cut = text-held text cut slot entry.leaf (ap (held cut) (sym leaf_is) ∙ leaf-cut) ∙ ap text entry.key
+          pub text-trimmed : text_at text trimmed slot ≡ text key
+          text-trimmed = text-held text trimmed slot entry.leaf (ap (held trimmed) (sym leaf_is) ∙ leaf-trimmed) ∙ ap text entry.key
 
-          pub index-within : mismatch.index ≤ length (text_at text cut slot)
-          index-within = omega (arith, slice_get_within (text key) mismatch.index mismatch.byte parts.byte, ap length text-cut)
+          pub index-within : mismatch.index ≤ length (text_at text trimmed slot)
+          index-within = omega (arith, slice_get_within (text key) mismatch.index mismatch.byte parts.byte, ap length text-trimmed)
 
           module _ (new : NodeArena K V P) (top : OpaqueNodePtr K V P) (one_place : (arena : NodeArena K V P) (path : List ℕ) (t : Tree (OpaqueNodePtr K V P)) → StandsIn text arena t → IsSound path t → AreDistinct (places t))
-              (placed : IsPlaced cut new kinds.Node4 (node_of P (take (mismatch.index - spot.depth) (drop spot.depth (text_at text cut slot))) (two_children mismatch.byte leaf mismatch.node_byte spot.node)) top) where
+              (placed : IsPlaced trimmed new kinds.Node4 (node_of P (take (mismatch.index - spot.depth) (drop spot.depth (text_at text trimmed slot))) (two_children mismatch.byte leaf mismatch.node_byte spot.node)) top) where
             distinct-there : AreDistinct (places (plug around_it part_there))
             distinct-there = one_place old [] (plug around_it part_there) alone-there.is_tree.stands alone-there.is_tree.sound
 
             top-free : held linked top ≡ Nothing
-            top-free = sym (is-trimmed.others top (λ same. absurd (is-trimmed.is_held (ap (held cut) (sym same) ∙ placed.was_free)))) ∙ placed.was_free
+            top-free = sym (is-trimmed.others top (λ same. absurd (is-trimmed.is_held (ap (held trimmed) (sym same) ∙ placed.was_free)))) ∙ placed.was_free
 
             abbrev fork-steps : AreSteps text old linked new around_it part_there root leaf top key value
             fork-steps = record {
@@ -339,8 +339,8 @@ module _ {K V : Type 0} {P : ℕ} {text : K → List ℕ} {old : NodeArena K V P
                   by_test true is = rw is (tt, (trimmed-stands, tt))
                   by_test false is = rw is ((trimmed-stands, tt), tt)
 
-              shared-is : take (mismatch.index - spot.depth) (drop spot.depth (text_at text cut slot)) ≡ shared_there
-              shared-is = ap (λ t. take (mismatch.index - spot.depth) (drop spot.depth t)) text-cut ∙ ap (λ d. take (mismatch.index - d) (drop d (text key))) (sym parts.at.deep)
+              shared-is : take (mismatch.index - spot.depth) (drop spot.depth (text_at text trimmed slot)) ≡ shared_there
+              shared-is = ap (λ t. take (mismatch.index - spot.depth) (drop spot.depth t)) text-trimmed ∙ ap (λ d. take (mismatch.index - d) (drop d (text key))) (sym parts.at.deep)
 
               taken-there : HasTaken text old linked new around_it part_there root leaf top key value fork-steps last root_now hung-there shared_there left_there right_there mismatch.byte
               taken-there = record {

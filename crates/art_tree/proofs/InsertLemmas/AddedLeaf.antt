@@ -24,11 +24,12 @@ use Rattle.art_tree.proofs.SharedLemmas.ChangedTree.{HangsAt, IsAbove, can-hang-
 use Rattle.art_tree.proofs.SharedLemmas.DictionaryLemmas.{AreApart, held-entry, leaf-held-in}
 use Rattle.art_tree.proofs.SharedLemmas.ExchangedSubtree.{in-part, leaves-plug}
 use Rattle.art_tree.proofs.SharedLemmas.ExchangedTree.{alone-grown, entries-but, entries-stay, leaf-stays, leaf-was, texts-part}
-use Rattle.art_tree.proofs.LoadLemmas.LeafLists.{spells-on}
 use Rattle.art_tree.proofs.InsertLemmas.NodeLemmas.{some-inner, some-leaf}
 use Rattle.art_tree.proofs.FindLemmas.OnlyWayLemmas.{All-left, All-right}
-use Rattle.art_tree.proofs.LoadLemmas.PlacedTrees.{cases_pointer, leaf-of, stand-join}
 use Rattle.art_tree.proofs.InsertLemmas.SubtreeLemmas.{in-taken, leaves-taken, taken-sound, HasPlace, with_leaf}
+use Rattle.art_tree.proofs.SharedLemmas.BranchLemmas.{stand-join}
+use Rattle.art_tree.proofs.SharedLemmas.HeldNodes.{cases_pointer, leaf-of}
+use Rattle.art_tree.proofs.SharedLemmas.SpelledLists.{spells-on}
 
 -- the leaves of the whole, where those of the part are on both sides of a gap, and with a leaf in the gap
 pub leaves-parted : {H : Type 0} (context : Context H) (part : Tree H) (before after : Branches H) → leaves part ≡ branch_leaves before ++ branch_leaves after → leaves (plug context part) ≡ (leaves_before context ++ branch_leaves before) ++ (branch_leaves after ++ leaves_after context)

@@ -19,7 +19,7 @@ use Rattle.art_tree.proofs.SharedLemmas.DictionaryLemmas.{AreApart, empty-entry,
 use Rattle.art_tree.proofs.SharedLemmas.ExchangedSubtree.{the-one}
 use Rattle.art_tree.proofs.SharedLemmas.ExchangedTree.{entries-but}
 use Rattle.art_tree.proofs.InsertLemmas.NodeLemmas.{one-leaf}
-use Rattle.art_tree.proofs.LoadLemmas.PlacedTrees.{cases_pointer, leaf-of}
+use Rattle.art_tree.proofs.SharedLemmas.HeldNodes.{cases_pointer, leaf-of}
 
 module _ {K V : Type 0} {P : ℕ} (text : K → List ℕ) (old new : NodeArena K V P) (key : K) (value : V) where
   -- a leaf alone in an arena is a tree

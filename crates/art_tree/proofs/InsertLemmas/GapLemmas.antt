@@ -20,8 +20,8 @@ use Rattle.art_arena.specs.declared.ends.End.TheVariants.{First, Last}
 use Rattle.art_tree.proofs.InsertLemmas.AddedLeaf.{leaves-parted, leaves-filled}
 use Rattle.art_tree.proofs.SharedLemmas.DictionaryLemmas.{leaf-held-in}
 use Rattle.art_tree.proofs.SharedLemmas.ExchangedSubtree.{sound-whole}
-use Rattle.art_tree.proofs.LoadLemmas.PlacedTrees.{text-held}
 use Rattle.art_tree.proofs.InsertLemmas.SubtreeLemmas.{beside-less, taken-sound, HasPlace, with_leaf}
+use Rattle.art_tree.proofs.SharedLemmas.HeldNodes.{text-held}
 
 module _ {H : Type 0} where
   -- what is beside a gap is beside it in the longer lists of the whole

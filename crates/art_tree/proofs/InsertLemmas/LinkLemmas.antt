@@ -11,9 +11,9 @@ use Rattle.art_arena.specs.Links.{HoldsLeaf, IsKnit, IsUnlinked, SameButLinks, S
 use Rattle.art_tree.specs.Edits.{HasGap, HoldsEntry, IsBeside, StaysAt}
 use Rattle.art_arena.specs.declared.ends.End.{End}
 use Rattle.art_arena.specs.declared.ends.End.TheVariants.{First, Last}
-use Rattle.art_tree.proofs.LoadLemmas.LeafLists.{AreKnit, Spells-kept, kept-at}
-use Rattle.art_tree.proofs.LoadLemmas.PlacedTrees.{leaf-of, text-held, text-kept}
 use Rattle.art_arena.proofs.StandingLaws.{leaf_kind}
+use Rattle.art_tree.proofs.SharedLemmas.HeldNodes.{kept-at, leaf-of, text-held, text-kept}
+use Rattle.art_tree.proofs.SharedLemmas.SpelledLists.{AreKnit, Spells-kept}
 
 module _ {K V : Type 0} {P : ℕ} where
   -- the leaf beside a gap is knit

@@ -16,7 +16,8 @@ use Rattle.art_tree.specs.declared.place.Spot.{Spot}
 use Rattle.art_tree.proofs.InsertLemmas.AddedChild.{ChildSpot, alone-there, around_it, gap-there, is-there, leaves-there, node-is, node_there, shown-there, smallest_kinds-there, sound-there, there-inner}
 use Rattle.art_tree.proofs.InsertLemmas.NeededNodes.{insert-lacks, nodes-taken}
 use Rattle.art_tree.proofs.InsertLemmas.NodeLemmas.{few-where-absent}
-use Rattle.art_tree.proofs.InsertLemmas.SubtreeLemmas.{kind-grows, with_leaf}
+use Rattle.art_tree.proofs.InsertLemmas.SubtreeLemmas.{with_leaf}
+use Rattle.art_tree.proofs.SharedLemmas.NodeKinds.{kind-grows}
 use Rattle.art_tree.proofs.SharedLemmas.DictionaryLemmas.{AreApart}
 use Rattle.art_tree.proofs.SharedLemmas.NodeCounts.{grown-other, no-leaf-kind, one-same}
 

@@ -7,7 +7,7 @@ use Rattle.std.proofs.lemmas.List.Elements.{Contains-append_left, Contains-appen
 use Rattle.std.proofs.lemmas.Option.{slice_get_within}
 use Rattle.std.specs.declared.cmp.Ordering.TheVariants.{Less}
 use Rattle.art_bytes.specs.Text.{IsPrefixOf, text_order}
-use Rattle.art_header.specs.NodeType.{kind_for, most_children, grown_kind}
+use Rattle.art_header.specs.NodeType.{kind_for}
 use Rattle.art_nodes.specs.ChildMap.{IsAscending, IsAscendingFrom, key_bytes, child_at, with_child}
 use Rattle.art_nodes.specs.Pointers.{node_kind}
 use Rattle.art_nodes.specs.declared.pointers.OpaqueNodePtr.{OpaqueNodePtr}
@@ -19,11 +19,10 @@ use Rattle.art_arena.specs.declared.ends.End.TheVariants.{First, Last}
 use Rattle.art_tree.specs.Loading.{HasSmallestKinds, HaveSmallestKinds}
 use Rattle.art_tree.specs.Places.{reach}
 use Rattle.art_tree.specs.Contexts.{join}
-use Rattle.art_tree.proofs.SharedLemmas.BranchLemmas.{roots-join, leaves-join, places-join, sound-join, one_branch}
+use Rattle.art_tree.proofs.SharedLemmas.BranchLemmas.{roots-join, leaves-join, places-join, sound-join, one_branch, sound-split, smallest_kinds-join}
 use Rattle.art_tree.proofs.SharedLemmas.DictionaryLemmas.{after-first}
-use Rattle.art_tree.proofs.SharedLemmas.ExchangedSubtree.{sound-split, none-below, all-above}
+use Rattle.art_tree.proofs.SharedLemmas.ExchangedSubtree.{none-below, all-above}
 use Rattle.art_tree.proofs.SharedLemmas.PrefixLemmas.{key-on}
-use Rattle.art_tree.proofs.LoadLemmas.PlacedTrees.{smallest_kinds-join, kind-4, kind-16, kind-48, kind-256}
 
 module _ {H : Type 0} where
   -- the tree without the first bytes of its prefix; a leaf is as it was
@@ -267,32 +266,6 @@ module _ {K V : Type 0} {P : ℕ} where
   pub smallest_kinds-taken : (pointer : OpaqueNodePtr K V P) (prefix : List ℕ) (before : Branches (OpaqueNodePtr K V P)) (byte : ℕ) (leaf : OpaqueNodePtr K V P) (text : List ℕ) (after : Branches (OpaqueNodePtr K V P)) → node_kind pointer ≡ kind_for (length (branch_roots (join before after)) + 1)
       → HaveSmallestKinds before → HaveSmallestKinds after → HasSmallestKinds (with_leaf pointer prefix before byte leaf text after)
   smallest_kinds-taken pointer prefix before byte leaf text after kind smallest_kinds_before smallest_kinds_after = (kind ∙ ap kind_for (sym (taken-count before byte leaf text after)), smallest_kinds-join before (Branch byte (Leaf leaf text) after) smallest_kinds_before (tt, smallest_kinds_after))
-
--- where a node has space for one child more, its kind is still the smallest for that many
-pub kind-stays : (n : ℕ) → n < most_children (kind_for n) → kind_for (n + 1) ≡ kind_for n
-kind-stays n room = elim (cases_lt 4 n) [
-  | inr four ↦ let is = kind-4 n four in let less : n < 4 = rw is at room in kind-4 (n + 1) (omega (arith, less)) ∙ sym is
-  | inl past ↦ elim (cases_lt 16 n) [
-    | inr sixteen ↦ let is = kind-16 n past sixteen in let less : n < 16 = rw is at room in kind-16 (n + 1) (omega (arith, past)) (omega (arith, less)) ∙ sym is
-    | inl more ↦ elim (cases_lt 48 n) [
-      | inr many ↦ let is = kind-48 n more many in let less : n < 48 = rw is at room in kind-48 (n + 1) (omega (arith, more)) (omega (arith, less)) ∙ sym is
-      | inl most ↦ kind-256 (n + 1) (omega (arith, most)) ∙ sym (kind-256 n most)
-    ]
-  ]
-]
-
--- and where it is full, the next kind is
-pub kind-grows : (n : ℕ) → n ≡ most_children (kind_for n) → n < 256 → kind_for (n + 1) ≡ grown_kind (kind_for n)
-kind-grows n full few = elim (cases_lt 4 n) [
-  | inr four ↦ let is = kind-4 n four in let same : n ≡ 4 = full ∙ ap most_children is in kind-16 (n + 1) (omega (arith, same)) (omega (arith, same)) ∙ sym (ap grown_kind is)
-  | inl past ↦ elim (cases_lt 16 n) [
-    | inr sixteen ↦ let is = kind-16 n past sixteen in let same : n ≡ 16 = full ∙ ap most_children is in kind-48 (n + 1) (omega (arith, same)) (omega (arith, same)) ∙ sym (ap grown_kind is)
-    | inl more ↦ elim (cases_lt 48 n) [
-      | inr many ↦ let is = kind-48 n more many in let same : n ≡ 48 = full ∙ ap most_children is in kind-256 (n + 1) (omega (arith, same)) ∙ sym (ap grown_kind is)
-      | inl most ↦ let same : n ≡ 256 = full ∙ ap most_children (kind-256 n most) in absurd (omega (arith, same, few))
-    ]
-  ]
-]
 
 -- a new text lies beside each neighbour of its gap where all texts ascend
 module _ {H : Type 0} (R : List ℕ → List ℕ → Type 0) where

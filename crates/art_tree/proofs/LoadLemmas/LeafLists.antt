@@ -1,12 +1,10 @@
 -- Loading: leaves that are linked one after another.
-use Rattle.std.proofs.Common.{◌≡◌, ◌≢◌, ◌∙◌, ℕ, zero, suc, ◌+◌, ◌-◌, ◌<◌, List, [], ◌∷◌, ◌++◌, length, length-append, map, take, get_or, slice_get, Option, Some, None, inl, inr, refl, sym, ap, subst, arith, append_assoc}
+use Rattle.std.proofs.Common.{◌≡◌, ◌≢◌, ◌∙◌, ℕ, zero, suc, ◌+◌, ◌-◌, ◌<◌, List, [], ◌∷◌, ◌++◌, length, length-append, map, take, get_or, slice_get, Some, None, inl, inr, refl, sym, ap, subst, arith, append_assoc}
 use Rattle.std.specs.Option.{option_and_then}
 use Rattle.std.specs.List.{Contains}
 use Rattle.std.proofs.lemmas.List.{map-append, length-map, take_all, get_or_at}
 use Rattle.std.proofs.lemmas.List.Elements.{Contains-append_left, Contains-push_cases, Contains-push}
 use Rattle.std.proofs.lemmas.Option.{slice_get_within, slice_get-get_or}
-use Rattle.std.specs.declared.cmp.Ordering.TheVariants.{Less}
-use Rattle.art_bytes.specs.Text.{text_order}
 use Rattle.art_header.specs.declared.node_type.NodeType.TheVariants as kinds
 use Rattle.art_nodes.specs.Leaf.{leaf_key, leaf_value, previous_key, next_key}
 use Rattle.art_nodes.specs.Pointers.{node_kind, opaque_key, slab_key, opaque_pointer}
@@ -14,20 +12,18 @@ use Rattle.art_nodes.specs.declared.pointers.NodePtr.{NodePtr}
 use Rattle.art_nodes.specs.declared.pointers.OpaqueNodePtr.{OpaqueNodePtr}
 use Rattle.art_nodes.specs.declared.leaf_node.LeafNode.{LeafNode}
 use Rattle.art_arena.specs.Arena.{NodeArena, Held, HeldInner, HeldLeaf, Nothing, held, held_leaf, Changes}
-use Rattle.art_arena.specs.Links.{HoldsLeaf, IsKnit, IsUnlinked, SameButLinks, StandsBetween, Spells, SpellsAfter, leaf_at, next_at, text_at}
+use Rattle.art_arena.specs.Links.{HoldsLeaf, IsKnit, IsUnlinked, SameButLinks, StandsBetween, Spells, leaf_at, next_at, text_at}
 use Rattle.art_tree.specs.Refusals.{text_of_entry, texts_of}
 use Rattle.art_tree.specs.Raising.{leaf_texts}
 use Rattle.art_tree.specs.Search.{leaf_pointer}
 use Rattle.art_tree.specs.Loading.{HoldEntries, AreLinked, Adds}
 use Rattle.art_tree.proofs.SharedLemmas.PrefixLemmas.{take-get}
-use Rattle.art_tree.proofs.LoadLemmas.PlacedTrees.{adds-more, leaf-of, text-held}
+use Rattle.art_tree.proofs.LoadLemmas.PlacedTrees.{adds-more}
 use Rattle.art_arena.proofs.StandingLaws.{leaf_place}
+use Rattle.art_tree.proofs.SharedLemmas.HeldNodes.{leaf-of, text-held, kept-at}
+use Rattle.art_tree.proofs.SharedLemmas.SpelledLists.{Spells-kept, AreKnit, NameNext}
 
 module _ {K V : Type 0} {P : ℕ} where
-  -- what stays where a free place is taken
-  pub kept-at : (now new : NodeArena K V P) (at : OpaqueNodePtr K V P) (there : Held (OpaqueNodePtr K V P) (LeafNode K V P)) → held now at ≡ Nothing → Changes now new at there → (pointer : OpaqueNodePtr K V P) → held now pointer ≢ Nothing → held new pointer ≡ held now pointer
-  kept-at now new at there free changes pointer was = changes.others pointer (λ same. was (ap (held now) same ∙ free))
-
   -- leaves hold entries on where what is held stays
   pub hold-kept : (now new : NodeArena K V P) → ((pointer : OpaqueNodePtr K V P) → held now pointer ≢ Nothing → held new pointer ≡ held now pointer) → (pointers : List (OpaqueNodePtr K V P)) (entries : List (K × V)) → HoldEntries now pointers entries → HoldEntries new pointers entries
   hold-kept now new kept [] [] h = tt
@@ -72,19 +68,6 @@ module _ {K V : Type 0} {P : ℕ} where
   hold-held arena (at ∷ of) (entry ∷ entries) h zero d lt = subst (λ there. there ≢ Nothing) (sym h.0.1) (λ e. cc)
   hold-held arena (at ∷ of) (entry ∷ entries) h (suc i) d lt = hold-held arena of entries h.1 i d (omega arith)
 
-  spells-after : (now new : NodeArena K V P) → ((key : ℕ) (leaf : LeafNode K V P) → leaf_at now key ≡ Some leaf → leaf_at new key ≡ Some leaf) → (before : Option ℕ) (keys : List ℕ) → SpellsAfter now before keys → SpellsAfter new before keys
-  spells-after now new kept before [] h = tt
-  spells-after now new kept before (key ∷ keys) ((leaf, at, previous, next), rest) = ((leaf, kept key leaf at, previous, next), spells-after now new kept (Some key) keys rest)
-
-  -- a list is spelled on where its leaves are kept, and so where all nodes are
-  pub spells-on : (now new : NodeArena K V P) → ((key : ℕ) (leaf : LeafNode K V P) → leaf_at now key ≡ Some leaf → leaf_at new key ≡ Some leaf) → (keys : List ℕ) → Spells now keys → Spells new keys
-  spells-on now new kept keys s = record { distinct = s.distinct; spelled = spells-after now new kept None keys s.spelled }
-
-  pub Spells-kept : (now new : NodeArena K V P) → ((pointer : OpaqueNodePtr K V P) → held now pointer ≢ Nothing → held new pointer ≡ held now pointer) → (keys : List ℕ) → Spells now keys → Spells new keys
-  Spells-kept now new kept = spells-on now new (λ key leaf at.
-      let there : held now (opaque_pointer kinds.Leaf key) ≡ HeldLeaf leaf = ap held_leaf at in
-      leaf-of (leaf_at new key) leaf (kept (opaque_pointer kinds.Leaf key) (subst (λ x. x ≢ Nothing) (sym there) (λ e. cc)) ∙ there))
-
   module _ (now new : NodeArena K V P) (same : SameButLinks now new) (this sibling : ℕ) (others : (key : ℕ) → key ≢ this → key ≢ sibling → leaf_at new key ≡ leaf_at now key) where
     stays : (pointer : OpaqueNodePtr K V P) → (opaque_key pointer ≡ this → node_kind pointer ≡ kinds.Leaf → ⊥) → (opaque_key pointer ≡ sibling → node_kind pointer ≡ kinds.Leaf → ⊥) → held new pointer ≡ held now pointer
     stays pointer not_this not_sibling = go (held now pointer) refl
@@ -121,13 +104,6 @@ module _ {K V : Type 0} {P : ℕ} where
           are_held = λ pointer inside. goes-on pointer (a.are_held pointer inside);
           no_others = λ pointer free is_held. a.no_others pointer free (λ none. is_held (same.nothing pointer none));
         }
-
-  -- `each_leaf_of_a_list_is_knit`, of an arena
-  abbrev pub AreKnit : NodeArena K V P → Type 0
-  AreKnit arena = (before after : List ℕ) (key : ℕ) → Spells arena (before ++ key ∷ after) → IsKnit arena key
-
-  abbrev pub NameNext : NodeArena K V P → Type 0
-  NameNext arena = (before after : List ℕ) (key : ℕ) → Spells arena (before ++ key ∷ after) → next_at arena key ≡ slice_get after 0
 
 pub last-split : {A : Type 0} (xs : List A) (x : A) → slice_get xs (length xs - 1) ≡ Some x → xs ≡ take (length xs - 1) xs ++ x ∷ []
 last-split xs x e =
@@ -245,6 +221,3 @@ none-linked old leaves none = subst (AreLinked old old []) (sym none) (record {
 pub none-left : {A : Type 0} (xs : List A) → slice_get xs (length xs - 1) ≡ None → xs ≡ []
 none-left [] e = refl
 none-left (x ∷ xs) e = absurd (let some = slice_get-get_or (x ∷ xs) (length (x ∷ xs) - 1) x (omega arith) in cc)
-
-pub less-same : (a b x y : List ℕ) → a ≡ x → b ≡ y → text_order a b ≡ Less → text_order x y ≡ Less
-less-same a b x y first second less = subst (λ t. text_order t y ≡ Less) first (subst (λ t. text_order a t ≡ Less) second less)

@@ -14,7 +14,8 @@ use Rattle.art_tree.specs.Refusals.{text_of_entry}
 use Rattle.art_tree.specs.Raising.{IsRaised, leaf_pairs}
 use Rattle.art_tree.specs.Search.{leaf_pointer}
 use Rattle.art_tree.specs.Loading.{AreLinked, HoldEntries, IsLoaded, leaf_pointers}
-use Rattle.art_tree.proofs.LoadLemmas.LeafLists.{hold-kept, Spells-kept}
+use Rattle.art_tree.proofs.LoadLemmas.LeafLists.{hold-kept}
+use Rattle.art_tree.proofs.SharedLemmas.SpelledLists.{Spells-kept}
 
 -- no text is too long, at any index
 pub all-short : (texts : List (List ℕ)) → AreLoadable texts → (i : ℕ) → length (text_of_entry texts i) < 2 ^ 32

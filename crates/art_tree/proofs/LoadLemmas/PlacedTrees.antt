@@ -1,26 +1,24 @@
 -- Loading: trees that are placed into an arena.
-use Rattle.std.proofs.Common.{◌≡◌, ◌≢◌, ◌⊎◌, ◌∙◌, ℕ, zero, suc, ◌+◌, ◌-◌, ◌<◌, ◌≤◌, Bool, true, false, nat_le, List, [], ◌∷◌, ◌++◌, length, length-append, map, take, drop, get_or, slice_get, Option, Some, None, Result, Ok, Err, IfOk, OnOk, inl, inr, refl, sym, ap, subst, arith, append_assoc, if◌then◌else◌, ◌&&◌}
-use Rattle.std.specs.Option.{option_map_or}
+use Rattle.std.proofs.Common.{◌≡◌, ◌≢◌, ◌⊎◌, ◌∙◌, ℕ, zero, suc, ◌+◌, ◌-◌, ◌<◌, ◌≤◌, Bool, true, false, nat_le, List, [], ◌∷◌, ◌++◌, length, length-append, map, take, drop, get_or, slice_get, Some, inl, inr, refl, sym, ap, subst, arith, append_assoc, if◌then◌else◌, ◌&&◌}
 use Rattle.std.specs.List.{Contains}
-use Rattle.std.proofs.lemmas.Bool.{cases_lt, cases_eq, and_from, le-leb, lt-leb}
+use Rattle.std.proofs.lemmas.Bool.{cases_lt, and_from, le-leb}
 use Rattle.std.proofs.lemmas.List.{length-map, append-nil, take_at, drop_at, drop_more, take_all, take_rest, drop_all}
-use Rattle.std.proofs.lemmas.Option.{slice_get_within, get_or_from_slice_get}
+use Rattle.std.proofs.lemmas.Option.{slice_get_within, same_Some, get_or_from_slice_get}
 use Rattle.std.proofs.lemmas.List.Elements.{Contains-append_left, Contains-append_right, Contains-append_cases, Contains-push_cases, Contains-push}
 use Rattle.art_header.specs.NodeType.{kind_for, least_children, most_children}
 use Rattle.art_header.specs.declared.node_type.NodeType.{NodeType}
 use Rattle.art_header.specs.declared.node_type.NodeType.TheVariants as kinds
 use Rattle.art_nodes.specs.ChildMap.{IsAscending, IsAscendingFrom, key_bytes}
 use Rattle.art_nodes.specs.Inner as nodes
-use Rattle.art_nodes.specs.Leaf.{leaf_key}
-use Rattle.art_nodes.specs.Pointers.{node_kind, opaque_key, slab_key, opaque_pointer}
+use Rattle.art_nodes.specs.Pointers.{slab_key}
 use Rattle.art_nodes.specs.declared.pointers.NodePtr.{NodePtr}
 use Rattle.art_nodes.specs.declared.pointers.OpaqueNodePtr.{OpaqueNodePtr}
 use Rattle.art_nodes.specs.declared.leaf_node.LeafNode.{LeafNode}
 use Rattle.art_nodes.proofs.KindLaws.{same_or_differ}
-use Rattle.art_arena.specs.Arena.{NodeArena, Held, HeldInner, HeldLeaf, Nothing, held, held_leaf, room, SameCapacity, SameOtherRoom, Changes}
-use Rattle.art_arena.specs.Links.{HoldsLeaf, leaf_at, text_at}
+use Rattle.art_arena.specs.Arena.{NodeArena, Held, HeldInner, HeldLeaf, Nothing, held, room, Changes}
+use Rattle.art_arena.specs.Links.{HoldsLeaf, text_at}
 use Rattle.art_arena.specs.Standing.{NodeStands, StandsIn, AllStandIn, leaf_text}
-use Rattle.art_arena.specs.Trees.{Tree, Leaf, Inner, Branches, NoBranch, Branch, branch_roots, branch_leaves, branch_places, leaves, places, root_of}
+use Rattle.art_arena.specs.Trees.{Tree, Leaf, Inner, Branches, NoBranch, branch_roots, branch_leaves, branch_places, leaves, places, root_of}
 use Rattle.art_tree.specs.Plan.{needed}
 use Rattle.art_tree.specs.Contexts.{join}
 use Rattle.art_tree.specs.Loading.{HaveSmallestKinds, Adds}
@@ -29,24 +27,14 @@ use Rattle.art_tree.specs.Nodes.{node_of, IsPlaced}
 use Rattle.art_tree.specs.Search.{leaf_pointer}
 use Rattle.art_tree.specs.declared.loading.steps.Step.{Step}
 use Rattle.art_tree.specs.declared.loading.steps.Step.TheVariants as step
-use Rattle.art_tree.proofs.SharedLemmas.BranchLemmas.{roots-join, leaves-join, places-join, one_branch}
+use Rattle.art_tree.proofs.SharedLemmas.BranchLemmas.{roots-join, leaves-join, places-join, one_branch, stand-join, stand-split, smallest_kinds-join, smallest_kinds-split}
 use Rattle.art_tree.proofs.SharedLemmas.PrefixLemmas.{take-get}
 use Rattle.art_tree.proofs.LoadLemmas.PlanLemmas.{Leads, Takes}
+use Rattle.art_tree.proofs.SharedLemmas.HeldNodes.{cases_pointer, cases_held, text-kept}
+use Rattle.art_tree.proofs.SharedLemmas.NodeKinds.{kind-4, kind-16, kind-48, kind-256}
 
 abbrev is_needed : NodeType → ℕ → Bool
 is_needed kind n = nat_le (least_children kind) n && nat_le n (most_children kind)
-
-pub kind-4 : (n : ℕ) → n ≤ 4 → kind_for n ≡ kinds.Node4
-kind-4 n h = rw (le-leb n 4 h) refl
-
-pub kind-16 : (n : ℕ) → 4 < n → n ≤ 16 → kind_for n ≡ kinds.Node16
-kind-16 n l h = rw (lt-leb n 4 l, le-leb n 16 h) refl
-
-pub kind-48 : (n : ℕ) → 16 < n → n ≤ 48 → kind_for n ≡ kinds.Node48
-kind-48 n l h = rw (lt-leb n 4 (omega (arith, l)), lt-leb n 16 l, le-leb n 48 h) refl
-
-pub kind-256 : (n : ℕ) → 48 < n → kind_for n ≡ kinds.Node256
-kind-256 n l = rw (lt-leb n 4 (omega (arith, l)), lt-leb n 16 (omega (arith, l)), lt-leb n 48 l) refl
 
 -- a node is counted under its own kind
 needed-own : (n : ℕ) → 2 ≤ n → n ≤ 256 → is_needed (kind_for n) n ≡ true
@@ -79,56 +67,6 @@ no-less true n = omega arith
 no-less false n = omega arith
 
 module _ {K V : Type 0} {P : ℕ} where
-  -- two pointers are one or differ
-  pub cases_pointer : (a b : OpaqueNodePtr K V P) → (a ≡ b) ⊎ (a ≢ b)
-  cases_pointer a b = elim (same_or_differ (node_kind a) (node_kind b)) [
-    | inr differ ↦ inr (λ same. differ (ap node_kind same))
-    | inl kind ↦ elim (cases_eq (opaque_key a) (opaque_key b)) [
-      | inr differ ↦ inr (λ same. differ (ap opaque_key same))
-      | inl key ↦ inl (λ i. record { node_type = kind i; key = key i; leaf = record {} })
-    ]
-  ]
-
-  pub cases_held : (h : Held (OpaqueNodePtr K V P) (LeafNode K V P)) → (h ≡ Nothing) ⊎ (h ≢ Nothing)
-  cases_held Nothing = inl refl
-  cases_held (HeldInner node) = inr (λ e. cc)
-  cases_held (HeldLeaf leaf) = inr (λ e. cc)
-
-  pub leaf-of : (o : Option (LeafNode K V P)) (leaf : LeafNode K V P) → held_leaf {H = OpaqueNodePtr K V P} o ≡ HeldLeaf leaf → o ≡ Some leaf
-  leaf-of None leaf e = absurd (cc)
-  leaf-of (Some other) leaf e = cc
-
-  pub leaf-held : (o : Option (LeafNode K V P)) → held_leaf {H = OpaqueNodePtr K V P} o ≢ Nothing → (leaf : LeafNode K V P) × (o ≡ Some leaf)
-  leaf-held None h = absurd (h refl)
-  leaf-held (Some leaf) h = (leaf, refl)
-
-  pub text-held : (text : K → List ℕ) (arena : NodeArena K V P) (key : ℕ) (leaf : LeafNode K V P) → held arena (opaque_pointer kinds.Leaf key) ≡ HeldLeaf leaf → text_at text arena key ≡ text (leaf_key leaf)
-  text-held text arena key leaf e = ap (λ o. option_map_or (λ (l : LeafNode K V P). text (leaf_key l)) o []) (leaf-of (leaf_at arena key) leaf e)
-
-  -- the result of an allocation
-  pub placed : (old new : NodeArena K V P) (kind : NodeType) (key : ℕ) (node : nodes.Inner (OpaqueNodePtr K V P)) (at : OpaqueNodePtr K V P) → node_kind at ≡ kind → opaque_key at ≡ key → held old (opaque_pointer kind key) ≡ Nothing
-      → Changes old new (opaque_pointer kind key) (HeldInner node) → room old kind ≤ room new kind + 1 → SameOtherRoom old new kind → SameCapacity old new → IsPlaced old new kind node at
-  placed old new kind key node at is_kind is_key free changes rooms others same_capacity =
-      let same : opaque_pointer kind key ≡ at = λ i. record { node_type = (sym is_kind) i; key = (sym is_key) i; leaf = record {} } in
-      record { is_kind = is_kind; was_free = subst (λ p. held old p ≡ Nothing) same free; changes = subst (λ p. Changes old new p (HeldInner node)) same changes; room = rooms; other_room = others; capacity = same_capacity }
-
-  module _ (text : K → List ℕ) (arena : NodeArena K V P) where
-    pub stand-join : (a b : Branches (OpaqueNodePtr K V P)) → AllStandIn text arena a → AllStandIn text arena b → AllStandIn text arena (join a b)
-    stand-join NoBranch b first second = second
-    stand-join (Branch byte tree others) b first second = (first.0, stand-join others b first.1 second)
-
-    pub stand-split : (a b : Branches (OpaqueNodePtr K V P)) → AllStandIn text arena (join a b) → AllStandIn text arena a × AllStandIn text arena b
-    stand-split NoBranch b both = (tt, both)
-    stand-split (Branch byte tree others) b both = let rest = stand-split others b both.1 in ((both.0, rest.0), rest.1)
-
-  pub smallest_kinds-join : (a b : Branches (OpaqueNodePtr K V P)) → HaveSmallestKinds a → HaveSmallestKinds b → HaveSmallestKinds (join a b)
-  smallest_kinds-join NoBranch b first second = second
-  smallest_kinds-join (Branch byte tree others) b first second = (first.0, smallest_kinds-join others b first.1 second)
-
-  pub smallest_kinds-split : (a b : Branches (OpaqueNodePtr K V P)) → HaveSmallestKinds (join a b) → HaveSmallestKinds a × HaveSmallestKinds b
-  smallest_kinds-split NoBranch b both = (tt, both)
-  smallest_kinds-split (Branch byte tree others) b both = let rest = smallest_kinds-split others b both.1 in ((both.0, rest.0), rest.1)
-
   -- a node more at a free place
   pub adds-more : (before old new : NodeArena K V P) (at : OpaqueNodePtr K V P) (now : Held (OpaqueNodePtr K V P) (LeafNode K V P)) (xs ys : List (OpaqueNodePtr K V P)) → Adds before old xs → held old at ≡ Nothing → Changes old new at now → now ≢ Nothing
       → ((pointer : OpaqueNodePtr K V P) → Contains ys pointer → (pointer ≡ at) ⊎ Contains xs pointer) → Contains ys at → ((pointer : OpaqueNodePtr K V P) → Contains xs pointer → Contains ys pointer) → Adds before new ys
@@ -186,9 +124,6 @@ most-bytes low (b ∷ bytes) le asc = let rest = most-bytes (suc b) bytes (omega
 pub last-part : {A : Type 0} (xs pending : List A) (n k : ℕ) → xs ≡ pending → n ≡ length pending - k → take (length xs - n) (drop n xs) ≡ drop (length pending - k) pending
 last-part xs pending n k same is = take_rest xs n ∙ ap (drop n) same ∙ ap (λ m. drop m pending) is
 
-pub some-same : {A : Type 0} (a b : A) → Some a ≡ Some b → a ≡ b
-some-same a b e = cc
-
 drop-get : {A : Type 0} (xs : List A) (i : ℕ) (x : A) → slice_get xs i ≡ Some x → drop i xs ≡ x ∷ drop (i + 1) xs
 drop-get xs i x e = drop_more xs i x (slice_get_within xs i x e) ∙ ap (λ y. y ∷ drop (i + 1) xs) (get_or_from_slice_get xs i x x e)
 
@@ -202,19 +137,6 @@ each-kind need has four sixteen many all kinds.Node16 inner = sixteen
 each-kind need has four sixteen many all kinds.Node48 inner = many
 each-kind need has four sixteen many all kinds.Node256 inner = all
 each-kind need has four sixteen many all kinds.Leaf inner = absurd (inner refl)
-
-pub on-ok-then : {T E : Type 0} (A B : Type 0) (r : Result T E) → (A → B) → OnOk r A → OnOk r B
-on-ok-then A B (Ok x) f h = f h
-on-ok-then A B (Err e) f h = tt
-
--- what holds of a result that is Ok
-pub if-ok : {T E : Type 0} (Q : T → Type 0) (r : Result T E) (x : T) → r ≡ Ok x → IfOk r Q → Q x
-if-ok Q (Ok y) x e h = let same : y ≡ x = cc in subst Q same h
-if-ok Q (Err y) x e h = absurd (cc)
-
-pub on-ok : {T E : Type 0} (Q : Type 0) (r : Result T E) (x : T) → r ≡ Ok x → OnOk r Q → Q
-on-ok Q (Ok y) x e h = h
-on-ok Q (Err y) x e h = absurd (cc)
 
 module _ {K V : Type 0} {P : ℕ} (text : K → List ℕ) (pairs : List (OpaqueNodePtr K V P × List ℕ)) (pointers : List (OpaqueNodePtr K V P)) where
   -- some steps are done: trees of the first leaves stand, and the steps that are left lead to one tree of all
@@ -234,7 +156,7 @@ module _ {K V : Type 0} {P : ℕ} (text : K → List ℕ) (pairs : List (OpaqueN
   pub rise-leaf : (old now : NodeArena K V P) (next byte : ℕ) (pending after : List (ℕ × OpaqueNodePtr K V P)) (steps : List Step) (at : OpaqueNodePtr K V P) (x : List ℕ) (leaf : LeafNode K V P) → slice_get pairs next ≡ Some (at, x) → slice_get pointers next ≡ Some at
       → held old at ≡ HeldLeaf leaf → leaf_text text leaf ≡ x → after ≡ pending ++ (byte, at) ∷ [] → IsRising old now next pending (step.Leaf byte ∷ steps) → IsRising old now (next + 1) after steps
   rise-leaf old now next byte pending after steps at x leaf pair pointer is_held is_text is_after r =
-      let same : r.leads.0 ≡ (at, x) = some-same r.leads.0 (at, x) (sym r.leads.1 ∙ pair) in
+      let same : r.leads.0 ≡ (at, x) = same_Some r.leads.0 (at, x) (sym r.leads.1 ∙ pair) in
       let one = one_branch byte (Leaf at x) in
       record {
         stack = join r.stack one;
@@ -385,19 +307,6 @@ module _ {K V : Type 0} {P : ℕ} (text : K → List ℕ) (old : NodeArena K V P
   pointer-there (leaf ∷ of) zero d lt = refl
   pointer-there (leaf ∷ of) (suc i) d lt = pointer-there of i d (omega arith)
 
-  -- the leaf that is held under a key
-  pub leaf-there : (key : ℕ) → HoldsLeaf old key → (leaf : LeafNode K V P) × (held old (opaque_pointer kinds.Leaf key) ≡ HeldLeaf leaf) × (leaf_text text leaf ≡ text_at text old key)
-  leaf-there key is_held =
-      let found = leaf-held (leaf_at old key) is_held in
-      (found.0, ap held_leaf found.1, ap (λ o. option_map_or (λ (l : LeafNode K V P). text (leaf_key l)) o []) (sym found.1))
-
-  -- and its text stays
-  pub text-kept : (now : NodeArena K V P) (key : ℕ) → HoldsLeaf old key → ((pointer : OpaqueNodePtr K V P) → held old pointer ≢ Nothing → held now pointer ≡ held old pointer) → HoldsLeaf now key × (text_at text now key ≡ text_at text old key)
-  text-kept now key is_held kept =
-      let found = leaf-there key is_held in
-      let same = kept (opaque_pointer kinds.Leaf key) is_held in
-      (subst (λ h. h ≢ Nothing) (sym same) is_held, text-held text now key found.0 (same ∙ found.1) ∙ found.2)
-
   pub texts-there : (of : List (NodePtr P (LeafNode K V P))) (i : ℕ) (d : NodePtr P (LeafNode K V P)) → i < length of → get_or (leaf_texts text old of) i [] ≡ text_at text old (slab_key (get_or of i d))
   texts-there [] i d lt = absurd (omega arith)
   texts-there (leaf ∷ of) zero d lt = refl
@@ -455,7 +364,7 @@ module _ {K V : Type 0} {P : ℕ} (text : K → List ℕ) (old : NodeArena K V P
         ready = rise-ready text _ _ old now next byte start end children pending _ rising;
         last = λ leaf.
             let key = slab_key (get_or of (next - 1) leaf) in
-            let same : text_at text old key ≡ rising.leads.0.1 = ap (λ p. p.1) (some-same _ _ (sym (pair-there text old of (next - 1) leaf inside) ∙ rising.leads.2)) in
+            let same : text_at text old key ≡ rising.leads.0.1 = ap (λ p. p.1) (same_Some _ _ (sym (pair-there text old of (next - 1) leaf inside) ∙ rising.leads.2)) in
             let kept = text-kept text old now key (leaves_held (next - 1) leaf inside) rising.kept in
             record {
               is_held = kept.0;
@@ -488,7 +397,3 @@ module _ {K V : Type 0} {P : ℕ} (text : K → List ℕ) (old : NodeArena K V P
           adds = λ before a. subst (Adds before now) all (done.adds before a);
         },
       )
-
-module _ {K V : Type 0} {P : ℕ} {old new : NodeArena K V P} {node : nodes.Inner (OpaqueNodePtr K V P)} {at : OpaqueNodePtr K V P} where
-  pub placed-kind : (kind other : NodeType) → other ≡ kind → IsPlaced old new kind node at → IsPlaced old new other node at
-  placed-kind kind other same p = subst (λ k. IsPlaced old new k node at) (sym same) p

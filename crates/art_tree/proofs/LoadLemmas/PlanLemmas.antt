@@ -9,7 +9,7 @@ use Rattle.art_tree.specs.Contexts.{join}
 use Rattle.art_tree.specs.Refusals.{text_of_entry}
 use Rattle.art_tree.specs.declared.loading.steps.Step.{Step}
 use Rattle.art_tree.specs.declared.loading.steps.Step.TheVariants as step
-use Rattle.art_tree.proofs.SharedLemmas.BranchLemmas.{one_branch}
+use Rattle.art_tree.proofs.SharedLemmas.BranchLemmas.{one_branch, join_assoc}
 use Rattle.art_bytes.proofs.PrefixLaws.{prefix-shorter}
 
 -- the last trees are the branches of a node with this part of the text as its prefix
@@ -35,10 +35,6 @@ module _ {H : Type 0} (pairs : List (H × List ℕ)) where
 pub join-none : {H : Type 0} (a : Branches H) → join a NoBranch ≡ a
 join-none NoBranch = refl
 join-none (Branch byte tree others) = ap (Branch byte tree) (join-none others)
-
-pub join_assoc : {H : Type 0} (a b c : Branches H) → join (join a b) c ≡ join a (join b c)
-join_assoc NoBranch b c = refl
-join_assoc (Branch byte tree others) b c = ap (Branch byte tree) (join_assoc others b c)
 
 -- the last text of a tree, which begins with its path
 record Last (texts : List (List ℕ)) (path : List ℕ) (low high : ℕ) : Type 0 where

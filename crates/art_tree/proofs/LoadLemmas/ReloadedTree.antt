@@ -26,13 +26,14 @@ use Rattle.art_tree.specs.Raising.{leaf_texts}
 use Rattle.art_tree.specs.Refusals.{texts_of}
 use Rattle.art_tree.specs.Reloading.{AreLeavesOf, IsReloaded}
 use Rattle.art_tree.specs.Search.{leaf_pointer}
-use Rattle.art_tree.proofs.LoadLemmas.LeafLists.{AreKnit, NameNext, hold-last, hold-texts}
-use Rattle.art_tree.proofs.LoadLemmas.PlacedTrees.{text-held}
+use Rattle.art_tree.proofs.LoadLemmas.LeafLists.{hold-last, hold-texts}
 use Rattle.art_tree.proofs.LoadLemmas.RefusalLemmas.{fork-later}
 use Rattle.art_tree.proofs.SharedLemmas.ClashLemmas.{mapped-from}
 use Rattle.art_tree.proofs.SharedLemmas.DictionaryLemmas.{AreApart, alone-loaded, entry-held, held-entry, leaf-held-in, loaded-entry, loaded-text, text-of-entry}
 use Rattle.art_tree.proofs.PlaceLemmas.WayPlaces.{some-text}
 use Rattle.art_arena.proofs.StandingLaws.{leaf_place}
+use Rattle.art_tree.proofs.SharedLemmas.HeldNodes.{text-held}
+use Rattle.art_tree.proofs.SharedLemmas.SpelledLists.{AreKnit, NameNext}
 
 -- a text that is less than another, and no prefix of it, differs from it at some byte
 forks-apart : (a b : List ℕ) → text_order a b ≡ Less → (IsPrefixOf a b → ⊥) → Forks a b

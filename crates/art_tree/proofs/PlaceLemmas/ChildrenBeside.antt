@@ -11,10 +11,8 @@ use Rattle.art_arena.specs.declared.ends.End.{End}
 use Rattle.art_arena.specs.declared.ends.End.TheVariants.{First, Last}
 use Rattle.art_tree.specs.Contexts.{join}
 use Rattle.art_tree.specs.Hanging.{HasPlaceAt, IsChildBeside, StandsBeside, branches_on, pairs_on}
-use Rattle.art_tree.proofs.LoadLemmas.PlacedTrees.{stand-split}
-use Rattle.art_tree.proofs.SharedLemmas.BranchLemmas.{roots-join}
+use Rattle.art_tree.proofs.SharedLemmas.BranchLemmas.{roots-join, stand-split, sound-split}
 use Rattle.art_tree.proofs.SharedLemmas.EndBranches.{IsEndBranch, end-branch, end-leaves, end-sound, end-stands}
-use Rattle.art_tree.proofs.SharedLemmas.ExchangedSubtree.{sound-split}
 
 module _ {H : Type 0} where
   -- the branches on one side of a place are sound where all are

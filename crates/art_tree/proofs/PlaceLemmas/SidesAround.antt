@@ -26,8 +26,8 @@ use Rattle.art_tree.proofs.InsertLemmas.GapLemmas.{beside-wide}
 use Rattle.art_tree.proofs.InsertLemmas.SubtreeLemmas.{HasChildPlace, child-place}
 use Rattle.art_tree.proofs.PlaceLemmas.SideLemmas.{lesser-before, greater-after, begun-side, gap-next, part-next}
 use Rattle.art_tree.proofs.PlaceLemmas.TextsBelow.{leaves-begin, leaves-reach}
-use Rattle.art_tree.proofs.SharedLemmas.BranchLemmas.{leaves-join, roots-join}
-use Rattle.art_tree.proofs.SharedLemmas.ExchangedSubtree.{before-byte, leaves-plug, sound-part, sound-split, stands-part}
+use Rattle.art_tree.proofs.SharedLemmas.BranchLemmas.{leaves-join, roots-join, sound-split}
+use Rattle.art_tree.proofs.SharedLemmas.ExchangedSubtree.{before-byte, leaves-plug, sound-part, stands-part}
 use Rattle.art_tree.proofs.SharedLemmas.PrefixLemmas.{key-on}
 
 module _ {H : Type 0} where

@@ -4,20 +4,16 @@ use Rattle.std.specs.Option.{option_and_then, option_map_or}
 use Rattle.std.proofs.lemmas.Bool.Decides.{eqb_tells}
 use Rattle.std.proofs.lemmas.List.Elements.{Contains-append_left, Contains-append_right}
 use Rattle.std.proofs.lemmas.Option.{slice_get_within}
-use Rattle.art_header.specs.declared.node_type.NodeType.TheVariants as kinds
 use Rattle.art_nodes.specs.ChildMap.{child_at}
 use Rattle.art_nodes.specs.Inner as nodes
-use Rattle.art_nodes.specs.Pointers.{node_kind}
 use Rattle.art_nodes.specs.declared.pointers.OpaqueNodePtr.{OpaqueNodePtr}
 use Rattle.art_arena.specs.Arena.{NodeArena, HeldInner, HeldLeaf, held}
 use Rattle.art_arena.specs.Standing.{NodeStands, StandsIn, AllStandIn, TreeAt}
 use Rattle.art_arena.specs.Trees.{Tree, Leaf, Inner, Branches, NoBranch, Branch, branch_roots, root_of, leaves, branch_leaves, IsSound, AreSound}
 use Rattle.art_tree.specs.Contexts.{join}
 use Rattle.art_tree.specs.Places.{HasLeafText, toward, toward_under}
-use Rattle.art_tree.proofs.SharedLemmas.ExchangedSubtree.{sound-split}
-use Rattle.art_tree.proofs.SharedLemmas.ParentLemmas.{inner-kind}
 use Rattle.art_arena.proofs.StandingLaws.{one-inner}
-use Rattle.art_tree.proofs.LoadLemmas.PlacedTrees.{stand-split}
+use Rattle.art_tree.proofs.SharedLemmas.BranchLemmas.{sound-split, stand-split}
 
 -- a child that a byte leads to: the rest has that byte
 pub record HasByte {H : Type 0} (children : List (ℕ × H)) (rest : List ℕ) (n : ℕ) (child : H) : Type 0 where
@@ -146,10 +142,3 @@ module _ {K V : Type 0} {P : ℕ} (text : K → List ℕ) (arena : NodeArena K V
           let as_long = shown-length node own prefix branches one shows in
           let children = shown-children node own prefix branches one shows in
           toward-none p prefix branches rest (ap (λ c. option_and_then (child_at c) (slice_get rest (length prefix))) (sym children) ∙ ap (λ n. option_and_then (child_at node.children) (slice_get rest n)) as_long ∙ none)
-
-  pub leaf-toward : node_kind pointer ≡ kinds.Leaf → toward rest found.tree ≡ found.tree
-  leaf-toward kind = by_tree found.tree found.at_root found.stands
-    where
-      by_tree : (tree : Tree (OpaqueNodePtr K V P)) → root_of tree ≡ pointer → StandsIn text arena tree → toward rest tree ≡ tree
-      by_tree (Leaf p x) root stands = refl
-      by_tree (Inner p prefix branches) root (own, own_holds, shows, stand) = absurd (inner-kind arena pointer own (ap (held arena) (sym root) ∙ own_holds) kind)

@@ -10,7 +10,7 @@ use Rattle.art_arena.specs.Standing.{IsTreeIn, StandsIn, TreeAt}
 use Rattle.art_arena.specs.Trees.{Tree, Leaf, Inner, Branches, NoBranch, Branch, leaves, root_of, IsSound, IsWellFormed}
 use Rattle.art_arena.specs.declared.ends.End.{End}
 use Rattle.art_arena.specs.declared.ends.End.TheVariants.{First, Last}
-use Rattle.art_tree.proofs.SharedLemmas.Heights.{branches_height, height, lower-child, tree_height}
+use Rattle.art_arena.proofs.Heights.{branches_height, height, lower-child, tree_height}
 use Rattle.art_arena.proofs.StandingLaws.{one-inner}
 use Rattle.art_tree.specs.Contexts.{Context, Whole, Under, join, path_to, plug}
 use Rattle.art_tree.specs.Dropping.{IsAtPath, steps_to}

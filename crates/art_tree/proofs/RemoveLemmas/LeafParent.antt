@@ -23,7 +23,7 @@ use Rattle.art_tree.proofs.SharedLemmas.ExchangedSubtree.{AreDistinct-split, dis
 use Rattle.art_tree.proofs.InsertLemmas.GapLemmas.{keys_of, keys-append}
 use Rattle.art_tree.proofs.SharedLemmas.ParentLemmas.{inner-kind}
 use Rattle.art_tree.proofs.InsertLemmas.NodeLemmas.{some-inner}
-use Rattle.art_tree.proofs.LoadLemmas.PlacedTrees.{stand-join, stand-split}
+use Rattle.art_tree.proofs.SharedLemmas.BranchLemmas.{stand-join, stand-split}
 
 module _ {K V : Type 0} {P : ℕ} {leaf parent : OpaqueNodePtr K V P} {byte : ℕ} {higher : Option (OpaqueNodePtr K V P × ℕ)} {tree : Tree (OpaqueNodePtr K V P)} where
   -- the part of the tree with the node as its root

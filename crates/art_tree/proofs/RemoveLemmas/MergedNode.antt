@@ -25,7 +25,7 @@ use Rattle.art_tree.specs.Loading.{HasSmallestKinds, HaveSmallestKinds}
 use Rattle.art_tree.specs.Places.{above}
 use Rattle.art_tree.specs.Removal.{IsRemoved}
 use Rattle.art_tree.proofs.SharedLemmas.ChangedTree.{held-on, place-held, root-place}
-use Rattle.art_tree.proofs.RemoveLemmas.RemovedLeaf.{AreCuts, HasDropped, can-hang, cut-removed, inside-kept, last-inside, leaves-kept, top-last}
+use Rattle.art_tree.proofs.RemoveLemmas.RemovedLeaf.{AreRemovalSteps, HasDropped, can-hang, leaf-removed, inside-kept, last-inside, leaves-kept, top-last}
 use Rattle.art_tree.proofs.SharedLemmas.DictionaryLemmas.{AreApart}
 use Rattle.art_tree.proofs.RemoveLemmas.RemainingTree.{HasOneLeft, dropped-roots, joined-short, joined-sound, leaves-joined, left-smallest_kinds, left-sound, one-leaves, one-left, one-places, places-joined, root-joined, smallest_kinds-joined, with_upper}
 use Rattle.art_tree.proofs.SharedLemmas.ExchangedSubtree.{kept-branches}
@@ -75,24 +75,24 @@ module _ {K V : Type 0} {P : ℕ} {text : K → List ℕ} {old : NodeArena K V P
       only-distinct = one_place old ((path_to hangs.upper ++ hangs.prefix) ++ one-there.other ∷ []) only_there only-stands (subst (AreSound (path_to hangs.upper ++ hangs.prefix)) one-there.is (left-sound hangs.before byte leaf_there hangs.after (path_to hangs.upper) hangs.prefix parent place.sound)).0
 
       -- the arena once the leaf is gone
-      module _ (cut : NodeArena K V P) (gone : held cut leaf ≡ Nothing) (stays : (p : OpaqueNodePtr K V P) → p ≢ leaf → StaysAt old cut p) where
-        parent-cut : held cut parent ≡ HeldInner place.node
-        parent-cut = (stays parent place.apart).keeps.inner place.node place.is_held
+      module _ (without : NodeArena K V P) (gone : held without leaf ≡ Nothing) (stays : (p : OpaqueNodePtr K V P) → p ≢ leaf → StaysAt old without p) where
+        parent-is : held without parent ≡ HeldInner place.node
+        parent-is = (stays parent place.apart).keeps.inner place.node place.is_held
 
-        pub parent-held : held cut parent ≢ Nothing
-        parent-held = some-inner (held cut parent) place.node parent-cut
+        pub parent-held : held without parent ≢ Nothing
+        parent-held = some-inner (held without parent) place.node parent-is
 
-        pub parent-two : (node : nodes.Inner (OpaqueNodePtr K V P)) → held cut parent ≡ HeldInner node → 2 ≤ length node.children
+        pub parent-two : (node : nodes.Inner (OpaqueNodePtr K V P)) → held without parent ≡ HeldInner node → 2 ≤ length node.children
         parent-two node is =
-            let same = one-inner (held cut parent) place.node node parent-cut is in
+            let same = one-inner (held without parent) place.node node parent-is is in
             omega (arith, two place.node place.is_held, ap (λ n. length n.children) same)
 
         -- the child that is left is the root of the one branch
-        module _ (other : ℕ) (child : OpaqueNodePtr K V P) (answer : (node : nodes.Inner (OpaqueNodePtr K V P)) → held cut parent ≡ HeldInner node → first_pair (without_child node.children byte) ≡ Some (other, child)) where
+        module _ (other : ℕ) (child : OpaqueNodePtr K V P) (answer : (node : nodes.Inner (OpaqueNodePtr K V P)) → held without parent ≡ HeldInner node → first_pair (without_child node.children byte) ≡ Some (other, child)) where
           found-is : ◌≡◌ {A = ℕ × OpaqueNodePtr K V P} (one-there.other, root_of only_there) (other, child)
           found-is =
               same_Some (one-there.other, root_of only_there) (other, child)
-              (sym (ap first_pair (ap (λ all. without_child all byte) place.shows.children ∙ dropped-roots hangs.before byte leaf_there hangs.after place.sound.1 ∙ ap branch_roots one-there.is)) ∙ answer place.node parent-cut)
+              (sym (ap first_pair (ap (λ all. without_child all byte) place.shows.children ∙ dropped-roots hangs.before byte leaf_there hangs.after place.sound.1 ∙ ap branch_roots one-there.is)) ∙ answer place.node parent-is)
 
           other-is : one-there.other ≡ other
           other-is = ap (λ pair. pair.0) found-is
@@ -106,8 +106,8 @@ module _ {K V : Type 0} {P : ℕ} {text : K → List ℕ} {old : NodeArena K V P
           child-was : held old child ≢ Nothing
           child-was = subst (λ p. held old p ≢ Nothing) child-is (place-held text old only_there only-stands (root_of only_there) (root-place only_there))
 
-          pub child-held : held cut child ≢ Nothing
-          child-held = held-on old cut child (stays child child-other.not_leaf) child-was
+          pub child-held : held without child ≢ Nothing
+          child-held = held-on old without child (stays child child-other.not_leaf) child-was
 
           -- what the child is, in the tree and in the arena
           record IsLower (node : nodes.Inner (OpaqueNodePtr K V P)) : Type 0 where
@@ -116,10 +116,10 @@ module _ {K V : Type 0} {P : ℕ} {text : K → List ℕ} {old : NodeArena K V P
             pub part : only_there ≡ Inner child prefix branches
             pub shows : NodeStands P node prefix branches
 
-          lower-there : (node : nodes.Inner (OpaqueNodePtr K V P)) → held cut child ≡ HeldInner node → IsLower node
+          lower-there : (node : nodes.Inner (OpaqueNodePtr K V P)) → held without child ≡ HeldInner node → IsLower node
           lower-there node is = by_part only_there refl only-stands child-is
             where
-              keeps : StaysAt old cut child
+              keeps : StaysAt old without child
               keeps = stays child child-other.not_leaf
 
               by_part : (part : Tree (OpaqueNodePtr K V P)) → only_there ≡ part → StandsIn text old part → root_of part ≡ child → IsLower node
@@ -127,7 +127,7 @@ module _ {K V : Type 0} {P : ℕ} {text : K → List ℕ} {old : NodeArena K V P
                   let now = keeps.keeps.leaf l (ap (held old) (sym root_is) ∙ holds) in
                   let wrong : HeldLeaf now.0 ≡ HeldInner node = sym now.1 ∙ is in absurd (cc)
               by_part (Inner pointer prefix branches) same (own, holds, shows, stand) root_is =
-                  let one = one-inner (held cut child) own node (keeps.keeps.inner own (ap (held old) (sym root_is) ∙ holds)) is in
+                  let one = one-inner (held without child) own node (keeps.keeps.inner own (ap (held old) (sym root_is) ∙ holds)) is in
                   record {
                     prefix = prefix;
                     branches = branches;
@@ -136,34 +136,34 @@ module _ {K V : Type 0} {P : ℕ} {text : K → List ℕ} {old : NodeArena K V P
                   }
 
           -- a prefix of the texts that are left is short
-          pub short-there : (upper lower : nodes.Inner (OpaqueNodePtr K V P)) → held cut parent ≡ HeldInner upper → held cut child ≡ HeldInner lower → upper.prefix_len + (1 + lower.prefix_len) < 2 ^ 32
+          pub short-there : (upper lower : nodes.Inner (OpaqueNodePtr K V P)) → held without parent ≡ HeldInner upper → held without child ≡ HeldInner lower → upper.prefix_len + (1 + lower.prefix_len) < 2 ^ 32
           short-there upper lower above_is below_is =
               let low = lower-there lower below_is in
-              let same = one-inner (held cut parent) place.node upper parent-cut above_is in
+              let same = one-inner (held without parent) place.node upper parent-is above_is in
               let short = texts-part (λ x. length x < 2 ^ 32) hangs.upper (part_there hangs) place.alone.short in
               let each : All (λ x. length x < 2 ^ 32) (texts only_there) = subst (λ all. All (λ x. length x < 2 ^ 32) (map (λ l. l.1) all)) (one-leaves hangs.before hangs.after one-there.other only_there one-there.is) (texts-left (λ x. length x < 2 ^ 32) short) in
               let fits = joined-short hangs.before byte leaf_there hangs.after (path_to hangs.upper) hangs.prefix parent place.sound one-there.other only_there one-there.is (λ x inside. All-contains (λ y. length y < 2 ^ 32) (texts only_there) x each inside) child low.prefix low.branches low.part in
               omega (arith, fits, place.shows.prefix_len, low.shows.prefix_len, ap (λ n. n.prefix_len) same)
 
           -- the arena once the child has the longer prefix
-          module _ (joined : NodeArena K V P) (leaf_same : node_kind child ≡ kinds.Leaf → SameNodes cut joined)
-              (joins : (upper lower : nodes.Inner (OpaqueNodePtr K V P)) (front back : List ℕ) → held cut parent ≡ HeldInner upper → held cut child ≡ HeldInner lower → StandsFor P (header_of upper) front → StandsFor P (header_of lower) back → Changes cut joined child (HeldInner (node_with_prefix P lower (front ++ other ∷ back)))) where
+          module _ (joined : NodeArena K V P) (leaf_same : node_kind child ≡ kinds.Leaf → SameNodes without joined)
+              (joins : (upper lower : nodes.Inner (OpaqueNodePtr K V P)) (front back : List ℕ) → held without parent ≡ HeldInner upper → held without child ≡ HeldInner lower → StandsFor P (header_of upper) front → StandsFor P (header_of lower) back → Changes without joined child (HeldInner (node_with_prefix P lower (front ++ other ∷ back)))) where
             record IsJoined : Type 0 where
-              pub others : (p : OpaqueNodePtr K V P) → p ≢ child → held joined p ≡ held cut p
-              pub same_leaf : (l : LeafNode K V P) → held old child ≡ HeldLeaf l → held joined child ≡ held cut child
+              pub others : (p : OpaqueNodePtr K V P) → p ≢ child → held joined p ≡ held without p
+              pub same_leaf : (l : LeafNode K V P) → held old child ≡ HeldLeaf l → held joined child ≡ held without child
               pub inner : (p : OpaqueNodePtr K V P) (prefix : List ℕ) (branches : Branches (OpaqueNodePtr K V P)) → only_there ≡ Inner p prefix branches → (node : nodes.Inner (OpaqueNodePtr K V P)) × (held joined child ≡ HeldInner node) × NodeStands P node (hangs.prefix ++ one-there.other ∷ prefix) branches
 
             -- a leaf is as it was, and an inner node has the node's prefix and the byte before its own prefix
             is-joined : IsJoined
-            is-joined = by_held (held cut child) refl
+            is-joined = by_held (held without child) refl
               where
-                keeps : StaysAt old cut child
+                keeps : StaysAt old without child
                 keeps = stays child child-other.not_leaf
 
-                by_held : (h : Held (OpaqueNodePtr K V P) (LeafNode K V P)) → held cut child ≡ h → IsJoined
+                by_held : (h : Held (OpaqueNodePtr K V P) (LeafNode K V P)) → held without child ≡ h → IsJoined
                 by_held Nothing is = absurd (child-held is)
                 by_held (HeldLeaf l) is =
-                    let same = leaf_same (leaf_kind cut (node_kind child) (opaque_key child) l is) in
+                    let same = leaf_same (leaf_kind without (node_kind child) (opaque_key child) l is) in
                     record {
                       others = λ p differ. same p;
                       same_leaf = λ was was_is. same child;
@@ -174,7 +174,7 @@ module _ {K V : Type 0} {P : ℕ} {text : K → List ℕ} {old : NodeArena K V P
                     }
                 by_held (HeldInner node) is =
                     let low = lower-there node is in
-                    let changes = joins place.node node hangs.prefix low.prefix parent-cut is (stands-for P place.node hangs.prefix (join hangs.before (Branch byte leaf_there hangs.after)) place.shows) (stands-for P node low.prefix low.branches low.shows) in
+                    let changes = joins place.node node hangs.prefix low.prefix parent-is is (stands-for P place.node hangs.prefix (join hangs.before (Branch byte leaf_there hangs.after)) place.shows) (stands-for P node low.prefix low.branches low.shows) in
                     record {
                       others = changes.others;
                       same_leaf = λ was was_is. let now = keeps.keeps.leaf was was_is in let wrong : HeldLeaf now.0 ≡ HeldInner node = sym now.1 ∙ is in absurd (cc);
@@ -193,7 +193,7 @@ module _ {K V : Type 0} {P : ℕ} {text : K → List ℕ} {old : NodeArena K V P
                           );
                     }
 
-            parent-same : held joined parent ≡ held cut parent
+            parent-same : held joined parent ≡ held without parent
             parent-same = is-joined.others parent (λ same. child-other.not_parent (sym same))
 
             pub parent-joined : held joined parent ≢ Nothing
@@ -201,8 +201,8 @@ module _ {K V : Type 0} {P : ℕ} {text : K → List ℕ} {old : NodeArena K V P
 
             -- the arena after the node is deallocated
             module _ (new : NodeArena K V P) (given : Changes joined new parent Nothing) where
-              two-cuts : AreCuts text old cut new hangs.upper (part_there hangs) root leaf child
-              two-cuts = record {
+              two-steps : AreRemovalSteps text old without new hangs.upper (part_there hangs) root leaf child
+              two-steps = record {
                 stood = place.alone.is_tree.stands;
                 sound = place.alone.is_tree.sound;
                 was_root = place.alone.is_tree.at_root;
@@ -218,9 +218,9 @@ module _ {K V : Type 0} {P : ℕ} {text : K → List ℕ} {old : NodeArena K V P
               }
 
               pub two-hangs : CanHang new higher parent
-              two-hangs = subst (λ above. CanHang new above parent) hangs.hangs (can-hang text old cut new hangs.upper (part_there hangs) root leaf child two-cuts)
+              two-hangs = subst (λ above. CanHang new above parent) hangs.hangs (can-hang text old without new hangs.upper (part_there hangs) root leaf child two-steps)
 
-              module _ (last : NodeArena K V P) (root_now : OpaqueNodePtr K V P) (hung : IsHung new last higher child root root_now) (spells : (left right : List ℕ) → Spells old (left ++ opaque_key leaf ∷ right) → Spells cut (left ++ right)) where
+              module _ (last : NodeArena K V P) (root_now : OpaqueNodePtr K V P) (hung : IsHung new last higher child root root_now) (spells : (left right : List ℕ) → Spells old (left ++ opaque_key leaf ∷ right) → Spells without (left ++ right)) where
                 hung-there : IsHung new last (above hangs.upper) child root root_now
                 hung-there = subst (λ parent. IsHung new last parent child root root_now) (sym hangs.hangs) hung
 
@@ -234,18 +234,18 @@ module _ {K V : Type 0} {P : ℕ} {text : K → List ℕ} {old : NodeArena K V P
                     by_part : (part : Tree (OpaqueNodePtr K V P)) → only_there ≡ part → StandsIn text old part → StandsIn text last (with_upper hangs.prefix one-there.other part)
                     by_part (Leaf pointer x) same (l, holds, has) =
                         let is_other = subst (IsOther hangs) (ap root_of same) (only-other (root_of only_there) (root-place only_there)) in
-                        let now = (leaves-kept text old cut new hangs.upper (part_there hangs) root leaf child two-cuts last root_now hung-there pointer l holds is_other.not_leaf).leaf l holds in
+                        let now = (leaves-kept text old without new hangs.upper (part_there hangs) root leaf child two-steps last root_now hung-there pointer l holds is_other.not_leaf).leaf l holds in
                         (now.0, now.1, ap text now.2 ∙ has)
                     by_part (Inner pointer prefix branches) same (own, holds, shows, stand) =
                         let root_is : pointer ≡ child = sym (ap root_of same) ∙ child-is in
                         let now = is-joined.inner pointer prefix branches same in
                         let apart : All (λ q. q ≢ pointer) (branch_places branches) = (subst (λ t. AreDistinct (places t)) same only-distinct).0 in (
                           now.0,
-                          ap (held last) root_is ∙ top-last text old cut new hangs.upper (part_there hangs) root leaf child two-cuts last root_now hung-there ∙ given.others child child-other.not_parent ∙ now.1,
+                          ap (held last) root_is ∙ top-last text old without new hangs.upper (part_there hangs) root leaf child two-steps last root_now hung-there ∙ given.others child child-other.not_parent ∙ now.1,
                           now.2,
                           kept-branches text old last branches stand (λ q below.
                               let is_other = only-other q (subst (λ t. Contains (places t) q) (sym same) (Contains-append_right (pointer ∷ []) (branch_places branches) q below)) in
-                              inside-kept text old cut new hangs.upper (part_there hangs) root leaf child two-cuts last root_now hung-there q is_other.inside is_other.not_leaf
+                              inside-kept text old without new hangs.upper (part_there hangs) root leaf child two-steps last root_now hung-there q is_other.inside is_other.not_leaf
                               (λ at_top. All-contains (λ p. p ≢ pointer) (branch_places branches) q apart below (at_top ∙ sym root_is))
                               is_other.not_parent),
                         )
@@ -256,16 +256,16 @@ module _ {K V : Type 0} {P : ℕ} {text : K → List ℕ} {old : NodeArena K V P
                 -- what was in the node is there still or is gone
                 now-freed : (p : OpaqueNodePtr K V P) → Contains (places (part_there hangs)) p → Contains (places now_there) p ⊎ (held last p ≡ Nothing)
                 now-freed p inside =
-                    let last_is = last-inside text old cut new hangs.upper (part_there hangs) root leaf child two-cuts last root_now hung-there p inside in
+                    let last_is = last-inside text old without new hangs.upper (part_there hangs) root leaf child two-steps last root_now hung-there p inside in
                     elim (place-cases hangs p inside) [
                       | inl at ↦ inr (last_is ∙ ap (held new) at ∙ given.changed)
                       | inr rest ↦ elim rest [
-                        | inl own ↦ inr (last_is ∙ ap (held new) own ∙ two-cuts.same leaf (λ same. child-other.not_leaf (sym same)) (λ same. place.apart (sym same)) ∙ gone)
+                        | inl own ↦ inr (last_is ∙ ap (held new) own ∙ two-steps.same leaf (λ same. child-other.not_leaf (sym same)) (λ same. place.apart (sym same)) ∙ gone)
                         | inr other ↦ inl (subst (λ all. Contains all p) (one-places hangs.before hangs.after one-there.other only_there one-there.is ∙ sym (places-joined hangs.prefix one-there.other only_there)) other)
                       ]
                     ]
 
-                two-dropped : HasDropped text old cut new hangs.upper (part_there hangs) root leaf child two-cuts last root_now hung-there now_there hangs.text (branch_leaves hangs.before) (branch_leaves hangs.after)
+                two-dropped : HasDropped text old without new hangs.upper (part_there hangs) root leaf child two-steps last root_now hung-there now_there hangs.text (branch_leaves hangs.before) (branch_leaves hangs.after)
                 two-dropped = record {
                   at_root = root-joined hangs.prefix one-there.other only_there ∙ child-is;
                   stands = now-stands;
@@ -280,5 +280,5 @@ module _ {K V : Type 0} {P : ℕ} {text : K → List ℕ} {old : NodeArena K V P
                 -- the tree is left without the leaf, whose entry goes
                 pub two-removed : ((path : List ℕ) (t : Tree (OpaqueNodePtr K V P)) → IsSound path t → AreApart (texts t)) → (entry : K × V) → ((l : LeafNode K V P) → held old leaf ≡ HeldLeaf l → entry ≡ (leaf_key l, leaf_value l)) → IsRemoved text old last hangs.text root_now entry
                 two-removed apart entry entry_is =
-                    cut-removed text old cut new hangs.upper (part_there hangs) root leaf child two-cuts last root_now hung-there now_there hangs.text (branch_leaves hangs.before) (branch_leaves hangs.after) two-dropped
+                    leaf-removed text old without new hangs.upper (part_there hangs) root leaf child two-steps last root_now hung-there now_there hangs.text (branch_leaves hangs.before) (branch_leaves hangs.after) two-dropped
                     place.alone apart entry (λ was_apart. place.entry was_apart ∙ ap Some (sym (entry_is place.own place.own_held)))

@@ -16,7 +16,8 @@ use Rattle.art_tree.specs.Room.{LacksRoomToRemove}
 use Rattle.art_tree.proofs.InsertLemmas.AddedLeaf.{leaves-filled, leaves-parted}
 use Rattle.art_tree.proofs.InsertLemmas.NeededNodes.{nodes-taken}
 use Rattle.art_tree.proofs.RemoveLemmas.LeafParent.{LeafPlace, left_there, part_there, right_there}
-use Rattle.art_tree.proofs.RemoveLemmas.RemainingTree.{dropped-sound, kind-shrinks, text-gone}
+use Rattle.art_tree.proofs.RemoveLemmas.RemainingTree.{dropped-sound, text-gone}
+use Rattle.art_tree.proofs.SharedLemmas.NodeKinds.{kind-shrinks}
 use Rattle.art_tree.proofs.SharedLemmas.BranchLemmas.{leaves-join}
 use Rattle.art_tree.proofs.SharedLemmas.DictionaryLemmas.{AreApart, entry-of-text, leaf-with, text-of-entry}
 use Rattle.art_tree.proofs.SharedLemmas.ExchangedSubtree.{sound-whole}

@@ -1,9 +1,7 @@
 -- Removal: a part of a tree without one of its leaves.
 use Rattle.std.proofs.Common.{◌≡◌, ◌≢◌, ◌∙◌, ℕ, suc, ◌+◌, ◌<◌, ◌≤◌, ◌^◌, List, [], ◌∷◌, ◌++◌, length, length-append, map, Contains, Option, Some, None, refl, sym, ap, subst, inl, inr, arith, append_assoc, append-nil}
-use Rattle.std.proofs.lemmas.Bool.{cases_lt, eq-eqb, ne_eqb}
+use Rattle.std.proofs.lemmas.Bool.{eq-eqb, ne_eqb}
 use Rattle.std.proofs.lemmas.List.Elements.{Contains-append_right, Contains-append_cases}
-use Rattle.art_header.specs.NodeType.{kind_for, least_children, shrunk_kind}
-use Rattle.art_header.specs.declared.node_type.NodeType.{NodeType}
 use Rattle.art_nodes.specs.ChildMap.{ChildMap, IsAscending, IsAscendingFrom, key_bytes, child_at, without_child}
 use Rattle.art_nodes.specs.declared.pointers.OpaqueNodePtr.{OpaqueNodePtr}
 use Rattle.art_nodes.proofs.ChildMapLaws.{ascending_removed, child_at_removed}
@@ -13,12 +11,11 @@ use Rattle.art_tree.specs.Art.{IsAlone}
 use Rattle.art_tree.specs.Dictionary.{entry_at}
 use Rattle.art_tree.specs.Loading.{HasSmallestKinds, HaveSmallestKinds}
 use Rattle.art_tree.specs.Contexts.{join}
-use Rattle.art_tree.proofs.SharedLemmas.BranchLemmas.{roots-join, leaves-join, places-join, sound-join, one_branch}
+use Rattle.art_tree.proofs.SharedLemmas.BranchLemmas.{roots-join, leaves-join, places-join, sound-join, one_branch, sound-split, smallest_kinds-join, smallest_kinds-split}
 use Rattle.art_tree.proofs.SharedLemmas.DictionaryLemmas.{AreApart, leaf-of-entry, not-later}
-use Rattle.art_tree.proofs.SharedLemmas.ExchangedSubtree.{before-byte, sound-split, the-one}
+use Rattle.art_tree.proofs.SharedLemmas.ExchangedSubtree.{before-byte, the-one}
 use Rattle.art_bytes.proofs.PrefixLaws.{prefix-shorter}
 use Rattle.art_tree.proofs.PlaceLemmas.WayPlaces.{branch-text}
-use Rattle.art_tree.proofs.LoadLemmas.PlacedTrees.{kind-4, kind-16, kind-48, kind-256, smallest_kinds-join, smallest_kinds-split}
 
 -- the tree with these bytes and this byte before its own prefix; a leaf is as it was
 abbrev pub with_upper : {H : Type 0} → List ℕ → ℕ → Tree H → Tree H
@@ -182,38 +179,6 @@ module _ {K V : Type 0} {P : ℕ} where
   -- the branches without one of them have the smallest kinds
   pub left-smallest_kinds : (before : Branches (OpaqueNodePtr K V P)) (byte : ℕ) (tree : Tree (OpaqueNodePtr K V P)) (after : Branches (OpaqueNodePtr K V P)) → HaveSmallestKinds (join before (Branch byte tree after)) → HaveSmallestKinds (join before after)
   left-smallest_kinds before byte tree after smallest_kinds = let both = smallest_kinds-split before (Branch byte tree after) smallest_kinds in smallest_kinds-join before after both.0 both.1.1
-
--- where a node had more than the fewest children of its kind, the kind is still the smallest for one less
-pub kind-lasts : (n : ℕ) (kind : NodeType) → kind ≡ kind_for (n + 1) → least_children kind < n + 1 → kind ≡ kind_for n
-kind-lasts n kind is many = elim (cases_lt 4 (n + 1)) [
-  | inr four ↦ is ∙ kind-4 (n + 1) four ∙ sym (kind-4 n (omega (arith, four)))
-  | inl past ↦ elim (cases_lt 16 (n + 1)) [
-    | inr sixteen ↦
-        let same = is ∙ kind-16 (n + 1) past sixteen in
-        let more : 5 < n + 1 = rw same at many in same ∙ sym (kind-16 n (omega (arith, more)) (omega (arith, sixteen)))
-    | inl further ↦ elim (cases_lt 48 (n + 1)) [
-      | inr few ↦
-          let same = is ∙ kind-48 (n + 1) further few in
-          let more : 17 < n + 1 = rw same at many in same ∙ sym (kind-48 n (omega (arith, more)) (omega (arith, few)))
-      | inl most ↦
-          let same = is ∙ kind-256 (n + 1) most in
-          let more : 49 < n + 1 = rw same at many in same ∙ sym (kind-256 n (omega (arith, more)))
-    ]
-  ]
-]
-
--- and where it had the fewest, the next smaller kind is
-pub kind-shrinks : (n : ℕ) (kind : NodeType) → 2 ≤ n → kind ≡ kind_for (n + 1) → n + 1 ≡ least_children kind → shrunk_kind kind ≡ kind_for n
-kind-shrinks n kind two is least = elim (cases_lt 4 (n + 1)) [
-  | inr four ↦ let few = least ∙ ap least_children (is ∙ kind-4 (n + 1) four) in absurd (omega (arith, two, few))
-  | inl past ↦ elim (cases_lt 16 (n + 1)) [
-    | inr sixteen ↦ let same = is ∙ kind-16 (n + 1) past sixteen in let has = least ∙ ap least_children same in ap shrunk_kind same ∙ sym (kind-4 n (omega (arith, has)))
-    | inl further ↦ elim (cases_lt 48 (n + 1)) [
-      | inr few ↦ let same = is ∙ kind-48 (n + 1) further few in let has = least ∙ ap least_children same in ap shrunk_kind same ∙ sym (kind-16 n (omega (arith, has)) (omega (arith, has)))
-      | inl most ↦ let same = is ∙ kind-256 (n + 1) most in let has = least ∙ ap least_children same in ap shrunk_kind same ∙ sym (kind-48 n (omega (arith, has)) (omega (arith, has)))
-    ]
-  ]
-]
 
 -- where no text is a prefix of another, the text of a leaf is not among the others
 pub text-gone : {H : Type 0} (left right : List (H × List ℕ)) (leaf : H) (x : List ℕ) → AreApart (map (λ pair. pair.1) (left ++ (leaf, x) ∷ right)) → (p : H) → Contains (left ++ right) (p, x) → ⊥

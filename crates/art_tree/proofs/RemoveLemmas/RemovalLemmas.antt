@@ -30,8 +30,8 @@ use Rattle.art_tree.proofs.SharedLemmas.DictionaryLemmas.{AreApart, empty-entry,
 use Rattle.art_tree.proofs.SharedLemmas.ExchangedSubtree.{leaves-plug, stands-part, the-one}
 use Rattle.art_tree.proofs.InsertLemmas.NodeLemmas.{one-leaf}
 use Rattle.art_tree.proofs.SharedLemmas.RoomLemmas.{same-capacity, same-room}
-use Rattle.art_tree.proofs.LoadLemmas.PlacedTrees.{cases_held, cases_pointer, leaf-of}
 use Rattle.art_arena.proofs.StandingLaws.{leaf_kind}
+use Rattle.art_tree.proofs.SharedLemmas.HeldNodes.{cases_held, cases_pointer, leaf-of}
 
 -- the others of a list of different members are not the one between them
 apart-from : {A : Type 0} (front : List A) (this : A) (back : List A) → AreDistinct (front ++ this ∷ back) → All (λ other. other ≢ this) (front ++ back)
@@ -109,17 +109,17 @@ module _ {K V : Type 0} {P : ℕ} where
   ]
 
   -- a leaf, and then an inner node
-  pub frees-two : (old cut joined new last : NodeArena K V P) (kind : NodeType) → kind ≢ kinds.Leaf → FreesOne old cut kinds.Leaf → SameRoom cut joined → FreesOne joined new kind → SameRoom new last → FreesOneEach old last
-  frees-two old cut joined new last kind inner leaf stays node ends other = elim (same_or_differ other kinds.Leaf) [
-    | inl same ↦ subst (λ k. room last k ≤ room old k + 1) (sym same) (omega (arith, leaf.one_more, same-room cut joined stays kinds.Leaf, node.others kinds.Leaf (λ e. inner (sym e)), same-room new last ends kinds.Leaf))
-    | inr differ ↦ omega (arith, leaf.others other differ, same-room cut joined stays other, frees-one joined new kind node other, same-room new last ends other)
+  pub frees-two : (old without joined new last : NodeArena K V P) (kind : NodeType) → kind ≢ kinds.Leaf → FreesOne old without kinds.Leaf → SameRoom without joined → FreesOne joined new kind → SameRoom new last → FreesOneEach old last
+  frees-two old without joined new last kind inner leaf stays node ends other = elim (same_or_differ other kinds.Leaf) [
+    | inl same ↦ subst (λ k. room last k ≤ room old k + 1) (sym same) (omega (arith, leaf.one_more, same-room without joined stays kinds.Leaf, node.others kinds.Leaf (λ e. inner (sym e)), same-room new last ends kinds.Leaf))
+    | inr differ ↦ omega (arith, leaf.others other differ, same-room without joined stays other, frees-one joined new kind node other, same-room new last ends other)
   ]
 
   -- a leaf whose parent has more than the fewest children of its kind
-  pub frees-leaf : (old reserved cut new last : NodeArena K V P) (parent top : OpaqueNodePtr K V P) (node now : nodes.Inner (OpaqueNodePtr K V P)) → SameRoom old reserved → FreesOne reserved cut kinds.Leaf
-      → HasOneLess cut new parent node now top → length node.children ≢ least_children (node_kind parent) → SameRoom new last → FreesOneEach old last
-  frees-leaf old reserved cut new last parent top node now stays leaf less more ends other = elim less [
-    | inl cutting ↦ omega (arith, same-room old reserved stays other, frees-one reserved cut kinds.Leaf leaf other, same-room cut new cutting.same_room other, same-room new last ends other)
+  pub frees-leaf : (old reserved without new last : NodeArena K V P) (parent top : OpaqueNodePtr K V P) (node now : nodes.Inner (OpaqueNodePtr K V P)) → SameRoom old reserved → FreesOne reserved without kinds.Leaf
+      → HasOneLess without new parent node now top → length node.children ≢ least_children (node_kind parent) → SameRoom new last → FreesOneEach old last
+  frees-leaf old reserved without new last parent top node now stays leaf less more ends other = elim less [
+    | inl cutting ↦ omega (arith, same-room old reserved stays other, frees-one reserved without kinds.Leaf leaf other, same-room without new cutting.same_room other, same-room new last ends other)
     | inr shrunk ↦ absurd (more shrunk.least)
   ]
 

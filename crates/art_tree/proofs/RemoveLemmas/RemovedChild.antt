@@ -1,6 +1,5 @@
 -- Removal: a leaf of a node of more than two children.
 use Rattle.std.proofs.Common.{◌≡◌, ◌≢◌, ◌↔◌, ◌⊎◌, ◌∙◌, Bool, IsTrue, ℕ, ◌+◌, ◌<◌, ◌≤◌, List, [], ◌∷◌, ◌++◌, length, Contains, Option, Some, None, refl, sym, ap, subst, inl, inr, arith}
-use Rattle.std.proofs.lemmas.Bool.{cases_lt}
 use Rattle.std.proofs.lemmas.List.Elements.{Contains-append_right}
 use Rattle.art_header.specs.NodeType.{kind_for, least_children, shrunk_kind}
 use Rattle.art_header.specs.declared.node_type.NodeType.{NodeType}
@@ -24,28 +23,15 @@ use Rattle.art_tree.specs.Places.{above}
 use Rattle.art_tree.specs.Removal.{IsRemoved, NeedsSmallerNode}
 use Rattle.art_tree.proofs.SharedLemmas.BranchLemmas.{leaves-join, places-join, roots-join}
 use Rattle.art_tree.proofs.SharedLemmas.ChangedTree.{held-on, place-held}
-use Rattle.art_tree.proofs.RemoveLemmas.RemovedLeaf.{AreCuts, HasDropped, can-hang, cut-removed, inside-kept, last-inside, top-last}
+use Rattle.art_tree.proofs.RemoveLemmas.RemovedLeaf.{AreRemovalSteps, HasDropped, can-hang, leaf-removed, inside-kept, last-inside, top-last}
 use Rattle.art_tree.proofs.SharedLemmas.DictionaryLemmas.{AreApart}
-use Rattle.art_tree.proofs.RemoveLemmas.RemainingTree.{dropped-child, dropped-roots, dropped-sound, kind-lasts, kind-shrinks, left-smallest_kinds}
+use Rattle.art_tree.proofs.RemoveLemmas.RemainingTree.{dropped-child, dropped-roots, dropped-sound, left-smallest_kinds}
 use Rattle.art_tree.proofs.SharedLemmas.ExchangedSubtree.{kept-branches}
 use Rattle.art_tree.proofs.RemoveLemmas.LeafParent.{LeafPlace, is-other, part_there, place-cases}
 use Rattle.art_tree.proofs.InsertLemmas.NodeLemmas.{some-inner}
-use Rattle.art_tree.proofs.LoadLemmas.PlacedTrees.{kind-4, kind-16, kind-48, kind-256}
 use Rattle.art_tree.proofs.InsertLemmas.SubtreeLemmas.{leaves-taken}
 use Rattle.art_arena.proofs.StandingLaws.{leaf_kind, one-inner}
-
--- the fewest children of the kind for so many are no more
-least-fits : (n : ℕ) → 2 ≤ n → least_children (kind_for n) ≤ n
-least-fits n two = elim (cases_lt 4 n) [
-  | inr four ↦ subst (λ k. least_children k ≤ n) (sym (kind-4 n four)) two
-  | inl past ↦ elim (cases_lt 16 n) [
-    | inr sixteen ↦ subst (λ k. least_children k ≤ n) (sym (kind-16 n past sixteen)) past
-    | inl more ↦ elim (cases_lt 48 n) [
-      | inr many ↦ subst (λ k. least_children k ≤ n) (sym (kind-48 n more many)) more
-      | inl most ↦ subst (λ k. least_children k ≤ n) (sym (kind-256 n most)) most
-    ]
-  ]
-]
+use Rattle.art_tree.proofs.SharedLemmas.NodeKinds.{kind-lasts, kind-shrinks, least-fits}
 
 shrunk-inner : (kind : NodeType) → kind ≢ kinds.Leaf → shrunk_kind kind ≢ kinds.Leaf
 shrunk-inner kinds.Node4 inner = λ e. cc
@@ -91,21 +77,21 @@ module _ {K V : Type 0} {P : ℕ} {text : K → List ℕ} {old : NodeArena K V P
       enough (needs-smaller (λ other there. (more-than-two many other there, ap (λ n. length n.children) (one-inner (held old parent) other node there is) ∙ least)))
 
   -- the node is as it was once the leaf is taken
-  module _ (cut : NodeArena K V P) (gone : held cut leaf ≡ Nothing) (stays : (p : OpaqueNodePtr K V P) → p ≢ leaf → StaysAt old cut p) where
-    pub is-cut : held cut parent ≡ HeldInner place.node
-    is-cut = (stays parent place.apart).keeps.inner place.node place.is_held
+  module _ (without : NodeArena K V P) (gone : held without leaf ≡ Nothing) (stays : (p : OpaqueNodePtr K V P) → p ≢ leaf → StaysAt old without p) where
+    pub parent-is : held without parent ≡ HeldInner place.node
+    parent-is = (stays parent place.apart).keeps.inner place.node place.is_held
 
-    pub cut-held : held cut parent ≢ Nothing
-    cut-held = some-inner (held cut parent) place.node is-cut
+    pub parent-held : held without parent ≢ Nothing
+    parent-held = some-inner (held without parent) place.node parent-is
 
-    pub cut-there : (node : nodes.Inner (OpaqueNodePtr K V P)) → held cut parent ≡ HeldInner node → child_at node.children byte ≢ None
-    cut-there node is none =
-        let same = one-inner (held cut parent) place.node node is-cut is in
+    pub child-there : (node : nodes.Inner (OpaqueNodePtr K V P)) → held without parent ≡ HeldInner node → child_at node.children byte ≢ None
+    child-there node is none =
+        let same = one-inner (held without parent) place.node node parent-is is in
         let some = ap (λ n. child_at n.children byte) (sym same) ∙ ap (λ children. child_at children byte) place.shows.children ∙ dropped-child hangs.before byte (Leaf leaf hangs.text) hangs.after place.sound.1 in
         let wrong : Some leaf ≡ None = sym some ∙ none in absurd (cc)
 
-    pub cut-fewest : {fewest : Bool} → TellsFewest old parent fewest → TellsFewest cut parent fewest
-    cut-fewest {fewest = fewest} tells node is = subst (λ n. IsTrue fewest ↔ (length n.children ≡ least_children (node_kind parent))) (one-inner (held cut parent) place.node node is-cut is) (tells place.node place.is_held)
+    pub tells-fewest : {fewest : Bool} → TellsFewest old parent fewest → TellsFewest without parent fewest
+    tells-fewest {fewest = fewest} tells node is = subst (λ n. IsTrue fewest ↔ (length n.children ≡ least_children (node_kind parent))) (one-inner (held without parent) place.node node parent-is is) (tells place.node place.is_held)
 
     module _ (many : length place.node.children ≢ 2) where
       pub three : 2 < length place.node.children
@@ -114,21 +100,21 @@ module _ {K V : Type 0} {P : ℕ} {text : K → List ℕ} {old : NodeArena K V P
       kind-there : node_kind parent ≡ kind_for (length place.node.children)
       kind-there = place.smallest_kinds.0 ∙ ap (λ children. kind_for (length children)) (sym place.shows.children)
 
-      pub cut-many : (node : nodes.Inner (OpaqueNodePtr K V P)) → held cut parent ≡ HeldInner node → (2 < length node.children) × (least_children (node_kind parent) ≤ length node.children)
-      cut-many node is =
-          let same = ap (λ n. length n.children) (one-inner (held cut parent) place.node node is-cut is) in (
+      pub parent-many : (node : nodes.Inner (OpaqueNodePtr K V P)) → held without parent ≡ HeldInner node → (2 < length node.children) × (least_children (node_kind parent) ≤ length node.children)
+      parent-many node is =
+          let same = ap (λ n. length n.children) (one-inner (held without parent) place.node node parent-is is) in (
             omega (arith, same, three),
             subst (λ n. least_children (node_kind parent) ≤ n) same (subst (λ k. least_children k ≤ length place.node.children) (sym kind-there) (least-fits (length place.node.children) (omega (arith, three)))),
           )
 
-      pub cut-room : ((node : nodes.Inner (OpaqueNodePtr K V P)) → held old parent ≡ HeldInner node → 2 < length node.children → length node.children ≡ least_children (node_kind parent) → 0 < room old (shrunk_kind (node_kind parent))) → ((kind : NodeType) → room old kind ≤ room cut kind) → HasRoomToShrink cut parent
-      cut-room rooms more node is two least =
-          let same = one-inner (held cut parent) place.node node is-cut is in
+      pub room-to-shrink : ((node : nodes.Inner (OpaqueNodePtr K V P)) → held old parent ≡ HeldInner node → 2 < length node.children → length node.children ≡ least_children (node_kind parent) → 0 < room old (shrunk_kind (node_kind parent))) → ((kind : NodeType) → room old kind ≤ room without kind) → HasRoomToShrink without parent
+      room-to-shrink rooms more node is two least =
+          let same = one-inner (held without parent) place.node node parent-is is in
           let was = rooms place.node place.is_held (subst (λ n. 2 < length n.children) (sym same) two) (ap (λ n. length n.children) same ∙ least) in
           omega (arith, was, more (shrunk_kind (node_kind parent)))
 
       -- the node has a child less, and may be at another place
-      module _ (new : NodeArena K V P) (top : OpaqueNodePtr K V P) (distinct : AreDistinct (places (plug hangs.upper (part_there hangs)))) (less : HasOneLess cut new parent place.node (nodes.node_without_child place.node byte) top) where
+      module _ (new : NodeArena K V P) (top : OpaqueNodePtr K V P) (distinct : AreDistinct (places (plug hangs.upper (part_there hangs)))) (less : HasOneLess without new parent place.node (nodes.node_without_child place.node byte) top) where
         top-held : held new top ≡ HeldInner (nodes.node_without_child place.node byte)
         top-held = elim less [ inl cutting ↦ ap (held new) cutting.same ∙ cutting.changes.changed | inr shrunk ↦ shrunk.replaced.is_held ]
 
@@ -144,8 +130,8 @@ module _ {K V : Type 0} {P : ℕ} {text : K → List ℕ} {old : NodeArena K V P
           | inr shrunk ↦ (let now = (stays top top-apart).keeps.leaf l is in let wrong : HeldLeaf now.0 ≡ Nothing = sym now.1 ∙ shrunk.replaced.was_free in absurd (cc))
         ]
 
-        abbrev many-cuts : AreCuts text old cut new hangs.upper (part_there hangs) root leaf top
-        many-cuts = record {
+        abbrev many-steps : AreRemovalSteps text old without new hangs.upper (part_there hangs) root leaf top
+        many-steps = record {
           stood = place.alone.is_tree.stands;
           sound = place.alone.is_tree.sound;
           was_root = place.alone.is_tree.at_root;
@@ -161,10 +147,10 @@ module _ {K V : Type 0} {P : ℕ} {text : K → List ℕ} {old : NodeArena K V P
         }
 
         pub many-hangs : CanHang new higher parent
-        many-hangs = subst (λ above. CanHang new above parent) hangs.hangs (can-hang text old cut new hangs.upper (part_there hangs) root leaf top many-cuts)
+        many-hangs = subst (λ above. CanHang new above parent) hangs.hangs (can-hang text old without new hangs.upper (part_there hangs) root leaf top many-steps)
 
         module _ (last : NodeArena K V P) (root_now : OpaqueNodePtr K V P) (hung : IsHung new last higher top root root_now)
-            (spells : (left right : List ℕ) → Spells old (left ++ opaque_key leaf ∷ right) → Spells cut (left ++ right)) where
+            (spells : (left right : List ℕ) → Spells old (left ++ opaque_key leaf ∷ right) → Spells without (left ++ right)) where
           hung-there : IsHung new last (above hangs.upper) top root root_now
           hung-there = subst (λ h. IsHung new last h top root root_now) (sym hangs.hangs) hung
 
@@ -172,25 +158,25 @@ module _ {K V : Type 0} {P : ℕ} {text : K → List ℕ} {old : NodeArena K V P
           now_there = Inner top hangs.prefix (join hangs.before hangs.after)
 
           leaf-last : held last leaf ≡ Nothing
-          leaf-last = last-inside text old cut new hangs.upper (part_there hangs) root leaf top many-cuts last root_now hung-there leaf place.inside ∙ many-cuts.same leaf (λ same. top-apart (sym same)) (λ same. place.apart (sym same)) ∙ gone
+          leaf-last = last-inside text old without new hangs.upper (part_there hangs) root leaf top many-steps last root_now hung-there leaf place.inside ∙ many-steps.same leaf (λ same. top-apart (sym same)) (λ same. place.apart (sym same)) ∙ gone
 
           others-stand : AllStandIn text last (join hangs.before hangs.after)
           others-stand =
               let kept : (q : OpaqueNodePtr K V P) → Contains (branch_places hangs.before ++ branch_places hangs.after) q → KeepsAt old last q =
               λ q inside.
               let is = is-other hangs distinct q inside in
-              inside-kept text old cut new hangs.upper (part_there hangs) root leaf top many-cuts last root_now hung-there q is.inside is.not_leaf (λ same. elim less [
+              inside-kept text old without new hangs.upper (part_there hangs) root leaf top many-steps last root_now hung-there q is.inside is.not_leaf (λ same. elim less [
                 | inl cutting ↦ is.not_parent (same ∙ cutting.same)
-                | inr shrunk ↦ held-on old cut q (stays q is.not_leaf) (place-held text old (part_there hangs) place.stands q is.inside) (ap (held cut) same ∙ shrunk.replaced.was_free)
+                | inr shrunk ↦ held-on old without q (stays q is.not_leaf) (place-held text old (part_there hangs) place.stands q is.inside) (ap (held without) same ∙ shrunk.replaced.was_free)
               ]) is.not_parent in
               kept-branches text old last (join hangs.before hangs.after) place.others_stand (λ q inside. kept q (subst (λ all. Contains all q) (places-join hangs.before hangs.after) inside))
 
-          many-dropped : HasDropped text old cut new hangs.upper (part_there hangs) root leaf top many-cuts last root_now hung-there now_there hangs.text (branch_leaves hangs.before) (branch_leaves hangs.after)
+          many-dropped : HasDropped text old without new hangs.upper (part_there hangs) root leaf top many-steps last root_now hung-there now_there hangs.text (branch_leaves hangs.before) (branch_leaves hangs.after)
           many-dropped = record {
             at_root = refl;
             stands = (
               nodes.node_without_child place.node byte,
-              top-last text old cut new hangs.upper (part_there hangs) root leaf top many-cuts last root_now hung-there ∙ top-held,
+              top-last text old without new hangs.upper (part_there hangs) root leaf top many-steps last root_now hung-there ∙ top-held,
               record {
                 prefix_len = place.shows.prefix_len;
                 stored = place.shows.stored;
@@ -206,7 +192,7 @@ module _ {K V : Type 0} {P : ℕ} {text : K → List ℕ} {old : NodeArena K V P
             freed = λ p inside. elim (place-cases hangs p inside) [
               | inl at ↦ elim less [
                 | inl cutting ↦ inl (0, omega arith, cutting.same ∙ sym at)
-                | inr shrunk ↦ inr (last-inside text old cut new hangs.upper (part_there hangs) root leaf top many-cuts last root_now hung-there p inside ∙ ap (held new) at ∙ shrunk.replaced.is_free)
+                | inr shrunk ↦ inr (last-inside text old without new hangs.upper (part_there hangs) root leaf top many-steps last root_now hung-there p inside ∙ ap (held new) at ∙ shrunk.replaced.is_free)
               ]
               | inr rest ↦ elim rest [
                 | inl own ↦ inr (ap (held last) own ∙ leaf-last)
@@ -227,5 +213,5 @@ module _ {K V : Type 0} {P : ℕ} {text : K → List ℕ} {old : NodeArena K V P
           -- the tree has all entries but that of the leaf
           pub many-removed : ((path : List ℕ) (t : Tree (OpaqueNodePtr K V P)) → IsSound path t → AreApart (texts t)) → IsRemoved text old last hangs.text root_now (leaf_key place.own, leaf_value place.own)
           many-removed apart =
-              cut-removed text old cut new hangs.upper (part_there hangs) root leaf top many-cuts last root_now hung-there now_there hangs.text (branch_leaves hangs.before) (branch_leaves hangs.after) many-dropped
+              leaf-removed text old without new hangs.upper (part_there hangs) root leaf top many-steps last root_now hung-there now_there hangs.text (branch_leaves hangs.before) (branch_leaves hangs.after) many-dropped
               place.alone apart (leaf_key place.own, leaf_value place.own) place.entry

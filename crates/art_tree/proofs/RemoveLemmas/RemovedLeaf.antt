@@ -25,29 +25,29 @@ use Rattle.art_tree.proofs.RemoveLemmas.RemainingTree.{gone-entry}
 use Rattle.art_tree.proofs.SharedLemmas.ExchangedSubtree.{in-part, leaves-plug}
 use Rattle.art_tree.proofs.InsertLemmas.GapLemmas.{keys_of, keys-append}
 use Rattle.art_tree.proofs.SharedLemmas.ExchangedTree.{alone-grown, entries-but, entries-stay, leaf-stays, leaf-was, texts-part}
-use Rattle.art_tree.proofs.LoadLemmas.LeafLists.{spells-on}
 use Rattle.art_tree.proofs.InsertLemmas.NodeLemmas.{one-leaf, some-inner}
 use Rattle.art_tree.proofs.FindLemmas.OnlyWayLemmas.{All-left, All-right}
-use Rattle.art_tree.proofs.LoadLemmas.PlacedTrees.{cases_pointer, leaf-of}
+use Rattle.art_tree.proofs.SharedLemmas.HeldNodes.{cases_pointer, leaf-of}
+use Rattle.art_tree.proofs.SharedLemmas.SpelledLists.{spells-on}
 
 -- the steps of a removal: from the first arena to the next a leaf is removed, from there to the
 -- third its parent is changed or replaced, and then the new node is put there
-module _ {K V : Type 0} {P : ℕ} (text : K → List ℕ) (old cut new : NodeArena K V P) (context : Context (OpaqueNodePtr K V P)) (part : Tree (OpaqueNodePtr K V P)) (root leaf top : OpaqueNodePtr K V P) where
-  pub record AreCuts : Type 0 where
+module _ {K V : Type 0} {P : ℕ} (text : K → List ℕ) (old without new : NodeArena K V P) (context : Context (OpaqueNodePtr K V P)) (part : Tree (OpaqueNodePtr K V P)) (root leaf top : OpaqueNodePtr K V P) where
+  pub record AreRemovalSteps : Type 0 where
     pub stood : StandsIn text old (plug context part)
     pub sound : IsWellFormed (plug context part)
     pub was_root : root_of (plug context part) ≡ root
     pub distinct : AreDistinct (places (plug context part))
     pub inside : Contains (places part) leaf
-    pub gone : held cut leaf ≡ Nothing
-    pub stays : (p : OpaqueNodePtr K V P) → p ≢ leaf → StaysAt old cut p
+    pub gone : held without leaf ≡ Nothing
+    pub stays : (p : OpaqueNodePtr K V P) → p ≢ leaf → StaysAt old without p
     pub other : top ≢ leaf
-    pub top_was : Contains (places part) top ⊎ (held cut top ≡ Nothing)
-    pub top_leaf : (l : LeafNode K V P) → held old top ≡ HeldLeaf l → held new top ≡ held cut top
+    pub top_was : Contains (places part) top ⊎ (held without top ≡ Nothing)
+    pub top_leaf : (l : LeafNode K V P) → held old top ≡ HeldLeaf l → held new top ≡ held without top
     pub node_inner : (l : LeafNode K V P) → held old (root_of part) ≡ HeldLeaf l → ⊥
-    pub same : (p : OpaqueNodePtr K V P) → p ≢ top → p ≢ root_of part → held new p ≡ held cut p
+    pub same : (p : OpaqueNodePtr K V P) → p ≢ top → p ≢ root_of part → held new p ≡ held without p
 
-  module _ (steps : AreCuts) where
+  module _ (steps : AreRemovalSteps) where
     part-held : (p : OpaqueNodePtr K V P) → Contains (places part) p → held old p ≢ Nothing
     part-held p inside = place-held text old (plug context part) steps.stood p (in-part context part p inside)
 
@@ -57,7 +57,7 @@ module _ {K V : Type 0} {P : ℕ} (text : K → List ℕ) (old cut new : NodeAre
     outside-top : (p : OpaqueNodePtr K V P) → held old p ≢ Nothing → (Contains (places part) p → ⊥) → p ≢ top
     outside-top p was outside same = elim steps.top_was [
       | inl inside ↦ outside (subst (Contains (places part)) (sym same) inside)
-      | inr free ↦ held-on old cut p (steps.stays p (outside-not p was outside)) was (ap (held cut) same ∙ free)
+      | inr free ↦ held-on old without p (steps.stays p (outside-not p was outside)) was (ap (held without) same ∙ free)
     ]
 
     outside-node : (p : OpaqueNodePtr K V P) → (Contains (places part) p → ⊥) → p ≢ root_of part
@@ -87,11 +87,11 @@ module _ {K V : Type 0} {P : ℕ} (text : K → List ℕ) (old cut new : NodeAre
 
       -- what is outside of the part is kept to the end, but for the parent
       pub outside-kept : (p : OpaqueNodePtr K V P) → held old p ≢ Nothing → (Contains (places part) p → ⊥) → parent context ≢ Some p → KeepsAt old last p
-      outside-kept p was outside away = keeps-on old cut last p (steps.stays p (outside-not p was outside)) (hangs.others p away ∙ steps.same p (outside-top p was outside) (outside-node p outside))
+      outside-kept p was outside away = keeps-on old without last p (steps.stays p (outside-not p was outside)) (hangs.others p away ∙ steps.same p (outside-top p was outside) (outside-node p outside))
 
       -- and what is in it, but for the leaf, its parent, and the node that is put there
       pub inside-kept : (p : OpaqueNodePtr K V P) → Contains (places part) p → p ≢ leaf → p ≢ top → p ≢ root_of part → KeepsAt old last p
-      inside-kept p inside not_leaf not_top not_node = keeps-on old cut last p (steps.stays p not_leaf) (hangs.others p (not-parent p inside) ∙ steps.same p not_top not_node)
+      inside-kept p inside not_leaf not_top not_node = keeps-on old without last p (steps.stays p not_leaf) (hangs.others p (not-parent p inside) ∙ steps.same p not_top not_node)
 
       pub last-inside : (p : OpaqueNodePtr K V P) → Contains (places part) p → held last p ≡ held new p
       last-inside p inside = hangs.others p (not-parent p inside)
@@ -99,20 +99,20 @@ module _ {K V : Type 0} {P : ℕ} (text : K → List ℕ) (old cut new : NodeAre
       pub top-last : held last top ≡ held new top
       top-last = hangs.others top (λ is. elim steps.top_was [
         | inl inside ↦ not-parent top inside is
-        | inr free ↦ held-on old cut top (steps.stays top steps.other) (parent-held top is) free
+        | inr free ↦ held-on old without top (steps.stays top steps.other) (parent-held top is) free
       ])
 
-      leaf-same : (p : OpaqueNodePtr K V P) (l : LeafNode K V P) → held old p ≡ HeldLeaf l → p ≢ leaf → held last p ≡ held cut p
+      leaf-same : (p : OpaqueNodePtr K V P) (l : LeafNode K V P) → held old p ≡ HeldLeaf l → p ≢ leaf → held last p ≡ held without p
       leaf-same p l is other =
           let away = leaf-no-parent text old context part steps.stood steps.distinct p l is in
           elim (cases_pointer p top) [
-            | inl same ↦ hangs.others p away ∙ ap (held new) same ∙ steps.top_leaf l (ap (held old) (sym same) ∙ is) ∙ ap (held cut) (sym same)
+            | inl same ↦ hangs.others p away ∙ ap (held new) same ∙ steps.top_leaf l (ap (held old) (sym same) ∙ is) ∙ ap (held without) (sym same)
             | inr differ ↦ hangs.others p away ∙ steps.same p differ (λ same. steps.node_inner l (ap (held old) (sym same) ∙ is))
           ]
 
       -- every other leaf is kept
       pub leaves-kept : (p : OpaqueNodePtr K V P) (l : LeafNode K V P) → held old p ≡ HeldLeaf l → p ≢ leaf → KeepsAt old last p
-      leaves-kept p l is other = keeps-on old cut last p (steps.stays p other) (leaf-same p l is other)
+      leaves-kept p l is other = keeps-on old without last p (steps.stays p other) (leaf-same p l is other)
 
       fresh-last : (p : OpaqueNodePtr K V P) → held last p ≢ Nothing → held old p ≡ Nothing → p ≡ top
       fresh-last p is free = elim (cases_pointer p top) [
@@ -124,12 +124,12 @@ module _ {K V : Type 0} {P : ℕ} (text : K → List ℕ) (old cut new : NodeAre
       ]
 
       -- lists of leaves are spelled on to the end
-      leaf-at-last : (k : ℕ) (l : LeafNode K V P) → leaf_at cut k ≡ Some l → leaf_at last k ≡ Some l
+      leaf-at-last : (k : ℕ) (l : LeafNode K V P) → leaf_at without k ≡ Some l → leaf_at last k ≡ Some l
       leaf-at-last k l at =
           let p = opaque_pointer kinds.Leaf k in
-          let there : held cut p ≡ HeldLeaf l = ap held_leaf at in
-          let other : p ≢ leaf = λ same. (let wrong : HeldLeaf l ≡ Nothing = sym there ∙ ap (held cut) same ∙ steps.gone in absurd (cc)) in
-          let (was, is) = was-leaf old cut p l (steps.stays p other) there in
+          let there : held without p ≡ HeldLeaf l = ap held_leaf at in
+          let other : p ≢ leaf = λ same. (let wrong : HeldLeaf l ≡ Nothing = sym there ∙ ap (held without) same ∙ steps.gone in absurd (cc)) in
+          let (was, is) = was-leaf old without p l (steps.stays p other) there in
           leaf-of (leaf_at last k) l (leaf-same p was is other ∙ there)
 
       -- the part without the leaf
@@ -141,7 +141,7 @@ module _ {K V : Type 0} {P : ℕ} (text : K → List ℕ) (old cut new : NodeAre
           pub smallest_kinds : HasSmallestKinds now
           pub was : leaves part ≡ lefts ++ (leaf, x) ∷ rights
           pub is : leaves now ≡ lefts ++ rights
-          pub spelled : Spells cut (keys_of (leaves_before context ++ lefts) ++ keys_of (rights ++ leaves_after context))
+          pub spelled : Spells without (keys_of (leaves_before context ++ lefts) ++ keys_of (rights ++ leaves_after context))
           pub freed : (p : OpaqueNodePtr K V P) → Contains (places part) p → Contains (places now) p ⊎ (held last p ≡ Nothing)
 
         module _ (has : HasDropped) where
@@ -179,11 +179,11 @@ module _ {K V : Type 0} {P : ℕ} (text : K → List ℕ) (old cut new : NodeAre
             others = λ p inside outside away. outside-kept p (place-held text old (plug context part) steps.stood p inside) outside away;
           }
 
-          cut-alone : IsAlone text old root (plug context part) → IsAlone text last root_now (plug context now)
-          cut-alone alone =
+          left-alone : IsAlone text old root (plug context part) → IsAlone text last root_now (plug context now)
+          left-alone alone =
               let whole = alone-grown text old last root context part now alone steps.distinct exchanged has.sound has.smallest_kinds
               (fewer-texts (λ y. length y < 2 ^ 32) (texts-part (λ y. length y < 2 ^ 32) context part alone.short))
-              (subst (Spells last) (sym (ap keys_of whole-is ∙ keys-append left right)) (spells-on cut last leaf-at-last _ has.spelled))
+              (subst (Spells last) (sym (ap keys_of whole-is ∙ keys-append left right)) (spells-on without last leaf-at-last _ has.spelled))
               (λ p is free. subst (Contains (places now)) (has.at_root ∙ sym (fresh-last p is free)) (root-place now))
               has.freed in
               subst (λ r. IsAlone text last r (plug context now)) (hangs.at_root now has.at_root) whole
@@ -196,29 +196,29 @@ module _ {K V : Type 0} {P : ℕ} (text : K → List ℕ) (old cut new : NodeAre
               differ (ap (λ one. text (leaf_key one)) (one-leaf (held old leaf) l own.0 (ap (held old) (sym same) ∙ is) own.1) ∙ own.2)
 
           -- every other text has the entry that it had, and this one none
-          cut-others : (alone : IsAlone text old root (plug context part)) → AreApart (texts (plug context part)) → AreApart (texts (plug context now)) → (y : List ℕ) → y ≢ x → entry_at text last y ≡ entry_at text old y
-          cut-others alone apart apart_now =
+          left-others : (alone : IsAlone text old root (plug context part)) → AreApart (texts (plug context part)) → AreApart (texts (plug context now)) → (y : List ℕ) → y ≢ x → entry_at text last y ≡ entry_at text old y
+          left-others alone apart apart_now =
               let there : Contains (leaves (plug context part)) (leaf, x) = subst (λ all. Contains all (leaf, x)) (sym whole-was) (Contains-append_right left ((leaf, x) ∷ right) (leaf, x) (0, omega arith, refl)) in
               let own = leaf-held-in text old (plug context part) alone.is_tree.stands leaf x there in
               let keeps : (p : OpaqueNodePtr K V P) (y : List ℕ) → Contains (leaves (plug context part)) (p, y) → y ≢ x → KeepsAt old last p =
               λ p y inside differ.
               let is = leaf-held-in text old (plug context part) alone.is_tree.stands p y inside in
               leaves-kept p is.0 is.1 (λ same. differ (sym is.2 ∙ ap (λ l. text (leaf_key l)) (one-leaf (held old leaf) is.0 own.0 (ap (held old) (sym same) ∙ is.1) own.1) ∙ own.2)) in
-              entries-but text old last root root_now (plug context part) (plug context now) alone (cut-alone alone) apart apart_now x
+              entries-but text old last root root_now (plug context part) (plug context now) alone (left-alone alone) apart apart_now x
               (λ p y inside differ. let was = leaf-stays left right leaf x (plug context now) (plug context part) whole-is whole-was p y inside in (was, keeps p y was differ))
               (λ p y inside differ. (leaf-was left right leaf x (plug context now) (plug context part) whole-is whole-was p y inside differ, keeps p y inside differ))
 
           -- the tree has all entries but that of the leaf
-          pub cut-removed : IsAlone text old root (plug context part) → ((path : List ℕ) (t : Tree (OpaqueNodePtr K V P)) → IsSound path t → AreApart (texts t)) → (entry : K × V) → (AreApart (texts (plug context part)) → entry_at text old x ≡ Some entry) → IsRemoved text old last x root_now entry
-          cut-removed alone apart entry was =
-              let alone_now = cut-alone alone in
+          pub leaf-removed : IsAlone text old root (plug context part) → ((path : List ℕ) (t : Tree (OpaqueNodePtr K V P)) → IsSound path t → AreApart (texts t)) → (entry : K × V) → (AreApart (texts (plug context part)) → entry_at text old x ≡ Some entry) → IsRemoved text old last x root_now entry
+          leaf-removed alone apart entry was =
+              let alone_now = left-alone alone in
               let apart_old = apart [] (plug context part) alone.is_tree.sound in
               let apart_now = apart [] (plug context now) alone_now.is_tree.sound in
               record {
                 art = (plug context now, alone_now);
                 left = record {
                   gone = gone-entry text last root_now (plug context now) alone_now (plug context part) apart_old left right leaf x whole-was whole-is;
-                  others = cut-others alone apart_old apart_now;
+                  others = left-others alone apart_old apart_now;
                   leaves = λ p l is differ. (leaves-kept p l is (other-leaf alone p l is differ)).leaf l is;
                 };
                 was = was apart_old;

@@ -129,21 +129,21 @@ module _ {K V : Type 0} {P : ℕ} where
 
   -- a node from which a child is taken in its place
   module _ (old mid : NodeArena K V P) (pointer : OpaqueNodePtr K V P) (byte : ℕ) (was : held old pointer ≢ Nothing) (inner : node_kind pointer ≢ kinds.Leaf)
-      (cut : (node : Inner (OpaqueNodePtr K V P)) → held old pointer ≡ HeldInner node → Changes old mid pointer (HeldInner (node_without_child node byte))) where
+      (lost : (node : Inner (OpaqueNodePtr K V P)) → held old pointer ≡ HeldInner node → Changes old mid pointer (HeldInner (node_without_child node byte))) where
     before : (node : Inner (OpaqueNodePtr K V P)) × (held old pointer ≡ HeldInner node)
     before = inner-there old pointer was inner
 
     -- it is held as before
-    pub cut-held : held mid pointer ≢ Nothing
-    cut-held = some-inner (held mid pointer) _ (cut before.0 before.1).changed
+    pub shrunk-held : held mid pointer ≢ Nothing
+    shrunk-held = some-inner (held mid pointer) _ (lost before.0 before.1).changed
 
     module _ (fewest : (node : Inner (OpaqueNodePtr K V P)) → held old pointer ≡ HeldInner node → length node.children ≡ least_children (node_kind pointer)) where
       -- of the fewest children of its kind one is gone
       pub few-left : ((node : Inner (OpaqueNodePtr K V P)) → held old pointer ≡ HeldInner node → child_at node.children byte ≢ None)
           → (there : Inner (OpaqueNodePtr K V P)) → held mid pointer ≡ HeldInner there → length there.children < least_children (node_kind pointer)
       few-left has there here =
-          let is_cut = one-inner (held mid pointer) there (node_without_child before.0 byte) here (cut before.0 before.1).changed in
-          omega (arith, fewer before.0.children byte (has before.0 before.1), ap (λ n. length n.children) is_cut, fewest before.0 before.1)
+          let is_less = one-inner (held mid pointer) there (node_without_child before.0 byte) here (lost before.0 before.1).changed in
+          omega (arith, fewer before.0.children byte (has before.0 before.1), ap (λ n. length n.children) is_less, fewest before.0 before.1)
 
       -- the fewest of the smallest kind are two
       pub not-smallest : ((node : Inner (OpaqueNodePtr K V P)) → held old pointer ≡ HeldInner node → (2 < length node.children) × (least_children (node_kind pointer) ≤ length node.children)) → node_kind pointer ≢ kinds.Node4
@@ -160,16 +160,16 @@ module _ {K V : Type 0} {P : ℕ} where
       pub shrunk-left : {new : NodeArena K V P} {to : OpaqueNodePtr K V P} (node : Inner (OpaqueNodePtr K V P)) → held old pointer ≡ HeldInner node
           → ((there : Inner (OpaqueNodePtr K V P)) → held mid pointer ≡ HeldInner there → IsReplaced mid new pointer (shrunk_kind (node_kind pointer)) there to) → HasOneLess old new pointer node (node_without_child node byte) to
       shrunk-left {to = to} node is replaces =
-          let here = (cut node is).changed in
+          let here = (lost node is).changed in
           let moved = replaces (node_without_child node byte) here in
           let apart : to ≢ pointer = λ one. some-inner (held mid to) (node_without_child node byte) (ap (held mid) one ∙ here) moved.was_free in
           inr (record {
             least = fewest node is;
             replaced = record {
               kind = moved.kind;
-              was_free = sym ((cut node is).others to apart) ∙ moved.was_free;
+              was_free = sym ((lost node is).others to apart) ∙ moved.was_free;
               is_held = moved.is_held;
               is_free = moved.is_free;
-              others = λ other not_new not_old. moved.others other not_new not_old ∙ (cut node is).others other not_old;
+              others = λ other not_new not_old. moved.others other not_new not_old ∙ (lost node is).others other not_old;
             };
           })

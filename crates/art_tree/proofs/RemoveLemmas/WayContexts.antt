@@ -10,8 +10,7 @@ use Rattle.art_tree.specs.Places.{above}
 use Rattle.art_tree.specs.Search.{IsWay, IsWayUnder, IsPathTo}
 use Rattle.art_tree.specs.declared.path.TreePath.{TreePath}
 use Rattle.art_tree.specs.declared.path.TreePath.TheVariants.{Root, ChildOfRoot, Normal}
-use Rattle.art_tree.proofs.SharedLemmas.BranchLemmas.{one_branch}
-use Rattle.art_tree.proofs.LoadLemmas.PlanLemmas.{join_assoc}
+use Rattle.art_tree.proofs.SharedLemmas.BranchLemmas.{one_branch, join_assoc}
 use Rattle.art_tree.proofs.FindLemmas.PathSteps.{path_of-visit, visited}
 
 -- the place is the child under this byte of an inner node, which has this parent

@@ -2,14 +2,22 @@
 use Rattle.std.proofs.Common.{◌≡◌, ◌∙◌, ℕ, suc, ◌+◌, ◌<◌, ◌≤◌, List, [], ◌∷◌, ◌++◌, length, length-append, refl, sym, ap, subst, arith, append_assoc}
 use Rattle.std.proofs.lemmas.List.{map-append}
 use Rattle.art_nodes.specs.ChildMap.{IsAscendingFrom, key_bytes}
+use Rattle.art_nodes.specs.declared.pointers.OpaqueNodePtr.{OpaqueNodePtr}
+use Rattle.art_arena.specs.Arena.{NodeArena}
+use Rattle.art_arena.specs.Standing.{AllStandIn}
 use Rattle.art_arena.specs.Trees.{Tree, Branches, NoBranch, Branch, branch_roots, root_of, branch_leaves, branch_places, leaves, places, AreSound}
 use Rattle.art_tree.specs.Plan.{steps_of, branch_steps, BranchesSpan}
 use Rattle.art_tree.specs.Contexts.{join}
+use Rattle.art_tree.specs.Loading.{HaveSmallestKinds}
 
 module _ {H : Type 0} where
   -- one branch alone
   abbrev pub one_branch : ℕ → Tree H → Branches H
   one_branch byte tree = Branch byte tree NoBranch
+
+  pub join_assoc : (a b c : Branches H) → join (join a b) c ≡ join a (join b c)
+  join_assoc NoBranch b c = refl
+  join_assoc (Branch byte tree others) b c = ap (Branch byte tree) (join_assoc others b c)
 
   pub roots-join : (a b : Branches H) → branch_roots (join a b) ≡ branch_roots a ++ branch_roots b
   roots-join NoBranch b = refl
@@ -31,6 +39,10 @@ module _ {H : Type 0} where
   sound-join path NoBranch b first second = second
   sound-join path (Branch byte tree others) b first second = (first.0, sound-join path others b first.1 second)
 
+  pub sound-split : (path : List ℕ) (a b : Branches H) → AreSound path (join a b) → AreSound path a × AreSound path b
+  sound-split path NoBranch b both = (tt, both)
+  sound-split path (Branch byte tree others) b both = let rest = sound-split path others b both.1 in ((both.0, rest.0), rest.1)
+
   pub span-join : (texts : List (List ℕ)) (low middle high : ℕ) (a b : Branches H) → BranchesSpan texts low a middle → BranchesSpan texts middle b high → BranchesSpan texts low (join a b) high
   span-join texts low middle high NoBranch b first second = let P : ℕ → Type 0 = λ at. BranchesSpan texts at b high in subst P first second
   span-join texts low middle high (Branch byte tree others) b first second = (first.0, first.1, span-join texts first.0 middle high others b first.2 second)
@@ -40,6 +52,24 @@ module _ {H : Type 0} where
 
   pub count-one : (a : Branches H) (byte : ℕ) (tree : Tree H) → length (branch_roots (join a (one_branch byte tree))) ≡ length (branch_roots a) + 1
   count-one a byte tree = ap length (roots-join a (one_branch byte tree)) ∙ length-append (branch_roots a) _
+
+module _ {K V : Type 0} {P : ℕ} where
+  module _ (text : K → List ℕ) (arena : NodeArena K V P) where
+    pub stand-join : (a b : Branches (OpaqueNodePtr K V P)) → AllStandIn text arena a → AllStandIn text arena b → AllStandIn text arena (join a b)
+    stand-join NoBranch b first second = second
+    stand-join (Branch byte tree others) b first second = (first.0, stand-join others b first.1 second)
+
+    pub stand-split : (a b : Branches (OpaqueNodePtr K V P)) → AllStandIn text arena (join a b) → AllStandIn text arena a × AllStandIn text arena b
+    stand-split NoBranch b both = (tt, both)
+    stand-split (Branch byte tree others) b both = let rest = stand-split others b both.1 in ((both.0, rest.0), rest.1)
+
+  pub smallest_kinds-join : (a b : Branches (OpaqueNodePtr K V P)) → HaveSmallestKinds a → HaveSmallestKinds b → HaveSmallestKinds (join a b)
+  smallest_kinds-join NoBranch b first second = second
+  smallest_kinds-join (Branch byte tree others) b first second = (first.0, smallest_kinds-join others b first.1 second)
+
+  pub smallest_kinds-split : (a b : Branches (OpaqueNodePtr K V P)) → HaveSmallestKinds (join a b) → HaveSmallestKinds a × HaveSmallestKinds b
+  smallest_kinds-split NoBranch b both = (tt, both)
+  smallest_kinds-split (Branch byte tree others) b both = let rest = smallest_kinds-split others b both.1 in ((both.0, rest.0), rest.1)
 
 -- each byte is greater than those before it, at least `low`, and below `top`
 abbrev pub AscendBelow : ℕ → List ℕ → ℕ → Type 0

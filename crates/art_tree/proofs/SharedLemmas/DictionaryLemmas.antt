@@ -1,10 +1,10 @@
 -- The dictionary of an arena that holds one tree.
-use Rattle.std.proofs.Common.{Bor, filter, ◌<◌, ◌^◌, length, ◌≢◌, ◌≡◌, ◌∙◌, ℕ, zero, suc, Bool, true, false, not, IsTrue, List, [], ◌∷◌, map, get_or, All, AllPairs, Contains, Option, Some, None, slice_index_or, nat_eq, refl, sym, ap, subst, inl, inr, arith, append-nil, ◌++◌, IfSome}
+use Rattle.std.proofs.Common.{filter, ◌<◌, ◌^◌, length, ◌≢◌, ◌≡◌, ◌∙◌, ℕ, zero, suc, Bool, true, false, not, IsTrue, List, [], ◌∷◌, map, get_or, All, AllPairs, Contains, Option, Some, None, slice_index_or, nat_eq, refl, sym, ap, subst, inl, inr, arith, append-nil, ◌++◌, IfSome}
 use Rattle.std.specs.Cmp.Lexicographic.{pointwise}
 use Rattle.std.specs.Cmp.{nat_cmp_is}
 use Rattle.std.specs.Cmp.Lexicographic.{nat_list_cmp_total}
 use Rattle.std.specs.Ordering.{ordering_reverse}
-use Rattle.std.specs.Option.{is_some, option_copied, option_map}
+use Rattle.std.specs.Option.{is_some, option_map}
 use Rattle.std.specs.declared.cmp.Ordering.TheVariants.{Less, Equal, Greater}
 use Rattle.std.proofs.lemmas.List.{length-map}
 use Rattle.std.proofs.lemmas.Option.{same_Some}
@@ -31,9 +31,9 @@ use Rattle.art_tree.specs.Refusals.{texts_of}
 use Rattle.art_tree.specs.Search.{scan, leaf_pointer}
 use Rattle.art_tree.proofs.SharedLemmas.ExchangedSubtree.{the-one}
 use Rattle.art_tree.proofs.InsertLemmas.NodeLemmas.{one-leaf, some-leaf}
-use Rattle.art_tree.proofs.LoadLemmas.PlacedTrees.{leaf-of}
 use Rattle.art_tree.proofs.FindLemmas.ScanLemmas.{same-text, text-itself}
 use Rattle.art_arena.proofs.StandingLaws.{leaf_kind}
+use Rattle.art_tree.proofs.SharedLemmas.HeldNodes.{leaf-of}
 
 not-none : {X : Type 0} (o : Option X) (x : X) → o ≡ Some x → o ≡ None → ⊥
 not-none None x some none = absurd (cc)
@@ -354,9 +354,6 @@ module _ {K V : Type 0} {P : ℕ} (text : K → List ℕ) (arena : NodeArena K V
             subst (Contains (texts_of text entries)) leaf.has (text-of-held (leaf_pointers tree) entries leaf.pointer leaf.leaf is.hold (in-map (λ pair. pair.0) (leaves tree) (leaf.pointer, x) leaf.inside) leaf.held_there)
 
 -- the result where there is no entry
-pub nothing-got : {K V : Type 0} (result : Option (Bor V)) (entry : Option (K × V)) → result ≡ None → entry ≡ None → option_copied result ≡ option_map (λ (e : K × V). e.1) entry
-nothing-got result entry none no_entry = ap option_copied none ∙ sym (ap (option_map (λ (e : _ × _). e.1)) no_entry)
-
 pub nothing-mapped : {A B : Type 0} (f : A → B) (result : Option A) (entry : Option B) → result ≡ None → entry ≡ None → option_map f result ≡ entry
 nothing-mapped f result entry none no_entry = ap (option_map f) none ∙ sym no_entry
 

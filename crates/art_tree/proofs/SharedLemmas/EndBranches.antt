@@ -10,9 +10,7 @@ use Rattle.art_arena.specs.Trees.{Tree, Branches, NoBranch, Branch, branch_leave
 use Rattle.art_arena.specs.declared.ends.End.{End}
 use Rattle.art_arena.specs.declared.ends.End.TheVariants.{First, Last}
 use Rattle.art_tree.specs.Contexts.{join}
-use Rattle.art_tree.proofs.LoadLemmas.PlacedTrees.{stand-split}
-use Rattle.art_tree.proofs.SharedLemmas.BranchLemmas.{last-same, leaves-join}
-use Rattle.art_tree.proofs.SharedLemmas.ExchangedSubtree.{sound-split}
+use Rattle.art_tree.proofs.SharedLemmas.BranchLemmas.{last-same, leaves-join, stand-split, sound-split}
 
 module _ {H : Type 0} where
   -- of all branches but the one at an end, those before it and those after it

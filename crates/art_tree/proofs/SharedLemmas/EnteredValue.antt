@@ -1,5 +1,5 @@
 -- A value that is written into a leaf that was found or added.
-use Rattle.std.proofs.Common.{◌≡◌, ◌≢◌, ◌⊎◌, ◌∙◌, ℕ, List, Option, Some, None, inl, inr, refl, sym, ap, subst}
+use Rattle.std.proofs.Common.{◌≡◌, ◌∙◌, ℕ, List, Some, inl, inr, sym, ap, subst}
 use Rattle.std.specs.Option.{UnwrapsOrElse, option_map, option_map_or}
 use Rattle.art_nodes.specs.Leaf.{leaf_key, leaf_value}
 use Rattle.art_nodes.specs.declared.leaf_node.LeafNode.{LeafNode}

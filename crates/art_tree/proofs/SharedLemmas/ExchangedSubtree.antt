@@ -10,16 +10,11 @@ use Rattle.art_nodes.specs.declared.pointers.OpaqueNodePtr.{OpaqueNodePtr}
 use Rattle.art_arena.specs.Arena.{NodeArena, HeldInner, held}
 use Rattle.art_arena.specs.Links.{AreDistinct}
 use Rattle.art_arena.specs.Standing.{NodeStands, StandsIn, AllStandIn}
-use Rattle.art_arena.specs.Trees.{Tree, Leaf, Inner, Branches, NoBranch, Branch, leaves, branch_leaves, places, branch_places, branch_roots, root_of, IsSound, AreSound, IsWellFormed}
+use Rattle.art_arena.specs.Trees.{Tree, Leaf, Inner, Branches, NoBranch, Branch, leaves, branch_leaves, places, branch_places, branch_roots, root_of, IsSound, IsWellFormed}
 use Rattle.art_tree.specs.Contexts.{Context, Whole, Under, plug, path_to, leaves_before, leaves_after, KeepsAt, IsExchanged, join}
 use Rattle.art_tree.specs.Loading.{HasSmallestKinds}
-use Rattle.art_tree.proofs.SharedLemmas.BranchLemmas.{roots-join, leaves-join, places-join, bytes-join, sound-join}
+use Rattle.art_tree.proofs.SharedLemmas.BranchLemmas.{roots-join, leaves-join, places-join, bytes-join, sound-join, stand-join, stand-split, smallest_kinds-join, smallest_kinds-split, sound-split}
 use Rattle.art_tree.proofs.FindLemmas.OnlyWayLemmas.{All-left}
-use Rattle.art_tree.proofs.LoadLemmas.PlacedTrees.{stand-join, stand-split, smallest_kinds-join, smallest_kinds-split}
-
-pub sound-split : {H : Type 0} (path : List ℕ) (a b : Branches H) → AreSound path (join a b) → AreSound path a × AreSound path b
-sound-split path NoBranch b both = (tt, both)
-sound-split path (Branch byte tree others) b both = let rest = sound-split path others b both.1 in ((both.0, rest.0), rest.1)
 
 -- a child under a byte that is there already takes the place of the one before it
 pub before-byte : {H : Type 0} (low : ℕ) (front : ChildMap H) (byte : ℕ) (child : H) (back : ChildMap H) → IsAscendingFrom low (key_bytes (front ++ (byte, child) ∷ back)) → low ≤ byte

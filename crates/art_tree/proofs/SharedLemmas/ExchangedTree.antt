@@ -13,9 +13,9 @@ use Rattle.art_tree.specs.Dictionary.{entry_at, SameEntries}
 use Rattle.art_tree.specs.Loading.{HasSmallestKinds, leaf_pointers}
 use Rattle.art_tree.proofs.SharedLemmas.DictionaryLemmas.{AreApart, leaf-held-in, leaf-of-entry, held-entry}
 use Rattle.art_tree.proofs.SharedLemmas.ExchangedSubtree.{the-one, places-node, in-part, kept-tree, leaves-plug, smallest_kinds-whole, sound-whole, stands-whole}
-use Rattle.art_tree.proofs.LoadLemmas.LeafLists.{Spells-kept}
 use Rattle.art_tree.proofs.FindLemmas.OnlyWayLemmas.{All-left, All-right}
-use Rattle.art_tree.proofs.LoadLemmas.PlacedTrees.{cases_held}
+use Rattle.art_tree.proofs.SharedLemmas.HeldNodes.{cases_held}
+use Rattle.art_tree.proofs.SharedLemmas.SpelledLists.{Spells-kept}
 
 module _ {H : Type 0} where
   -- the whole has the root that it had, where its part has

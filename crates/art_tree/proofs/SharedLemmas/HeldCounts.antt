@@ -1,5 +1,5 @@
 -- An arena that holds one tree holds as many nodes of each kind as the tree has.
-use Rattle.std.proofs.Common.{◌≡◌, ◌≢◌, ◌⊎◌, ◌∙◌, ℕ, zero, suc, ◌+◌, ◌-◌, ◌<◌, ◌≤◌, Bool, true, false, cond, List, [], ◌∷◌, ◌++◌, length, length-append, get_or, All, Contains, Option, Some, None, slice_index_or, nat_eq, refl, sym, ap, subst, inl, inr, arith}
+use Rattle.std.proofs.Common.{◌≡◌, ◌≢◌, ◌∙◌, ℕ, zero, suc, ◌+◌, ◌-◌, ◌≤◌, cond, List, [], ◌∷◌, ◌++◌, length, get_or, All, Contains, Option, Some, None, slice_index_or, nat_eq, refl, sym, ap, subst, inl, inr, arith}
 use Rattle.std.specs.List.{count_by}
 use Rattle.std.specs.Option.{is_some}
 use Rattle.std.proofs.lemmas.List.Sums.{sum_by-cons}
@@ -9,14 +9,13 @@ use Rattle.art_header.specs.declared.node_type.NodeType.TheVariants as kinds
 use Rattle.art_nodes.specs.Inner.{Inner as Node}
 use Rattle.art_nodes.specs.Pointers.{node_kind, opaque_key, opaque_pointer}
 use Rattle.art_nodes.specs.declared.pointers.OpaqueNodePtr.{OpaqueNodePtr}
-use Rattle.art_nodes.specs.declared.leaf_node.LeafNode.{LeafNode}
 use Rattle.art_nodes.proofs.KindLaws.{same_or_differ}
-use Rattle.art_arena.specs.Arena.{NodeArena, Held, HeldInner, HeldLeaf, Nothing, held, held_inner, held_leaf, room, capacity}
+use Rattle.art_arena.specs.Arena.{NodeArena, Nothing, held, held_inner, held_leaf, room, capacity}
 use Rattle.art_arena.specs.Links.{AreDistinct}
 use Rattle.art_arena.specs.Standing.{StandsIn, AllStandIn}
 use Rattle.art_arena.specs.Trees.{Tree, Leaf, Inner, Branches, NoBranch, Branch, places, branch_places}
 use Rattle.art_arena.proofs.StandingLaws.{leaf_kind}
-use Rattle.art_tree.specs.Art.{IsAlone, IsArt}
+use Rattle.art_tree.specs.Art.{IsAlone}
 use Rattle.art_tree.specs.Loading.{HasSmallestKinds, HaveSmallestKinds}
 use Rattle.art_tree.specs.NodeCounts.{one_if_same, nodes_of, branch_nodes_of}
 use Rattle.art_tree.proofs.SharedLemmas.ChangedTree.{place-held}

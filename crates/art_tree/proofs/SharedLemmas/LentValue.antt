@@ -19,7 +19,7 @@ use Rattle.art_tree.specs.TreeLending.{HasValueNow}
 use Rattle.art_tree.proofs.SharedLemmas.DictionaryLemmas.{AreApart, entry-of-member, held-entry, leaf-held-in, leaf-in, scan-in}
 use Rattle.art_tree.proofs.SharedLemmas.KeyLemmas.{keys-entered}
 use Rattle.art_tree.proofs.InsertLemmas.FirstEntry.{replaced-alone, replaced-entered}
-use Rattle.art_tree.proofs.LoadLemmas.PlacedTrees.{leaf-of}
+use Rattle.art_tree.proofs.SharedLemmas.HeldNodes.{leaf-of}
 
 pub on-some-none : {X : Type 0} (o : Option X) (Q : Type 0) → o ≡ None → OnSome o Q
 on-some-none None Q none = tt

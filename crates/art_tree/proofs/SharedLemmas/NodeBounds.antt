@@ -1,5 +1,5 @@
 -- How many nodes of a kind a tree of so many leaves has at most.
-use Rattle.std.proofs.Common.{◌≡◌, ◌≢◌, ◌∙◌, ℕ, ◌+◌, ◌*◌, ◌/◌, ◌<◌, ◌≤◌, List, ◌∷◌, [], ◌++◌, length, length-append, refl, sym, ap, subst, inl, inr, arith}
+use Rattle.std.proofs.Common.{◌≡◌, ◌≢◌, ◌∙◌, ℕ, ◌+◌, ◌*◌, ◌/◌, ◌≤◌, List, ◌∷◌, [], ◌++◌, length, length-append, refl, sym, ap, inl, inr, arith}
 use Rattle.std.proofs.lemmas.Bool.{cases_lt}
 use Rattle.std.proofs.lemmas.List.{length-map}
 use Rattle.art_header.specs.NodeType.{kind_for}
@@ -8,8 +8,8 @@ use Rattle.art_header.specs.declared.node_type.NodeType.TheVariants as kinds
 use Rattle.art_nodes.proofs.KindLaws.{same_or_differ}
 use Rattle.art_arena.specs.Trees.{Tree, Leaf, Inner, Branches, NoBranch, Branch, branch_roots, leaves, branch_leaves, texts, IsSound, AreSound, IsWellFormed}
 use Rattle.art_tree.specs.NodeCounts.{one_if_same, nodes_of, branch_nodes_of}
-use Rattle.art_tree.proofs.LoadLemmas.PlacedTrees.{kind-4, kind-16, kind-48}
 use Rattle.art_tree.proofs.SharedLemmas.NodeCounts.{no-leaf-kind, one-same}
+use Rattle.art_tree.proofs.SharedLemmas.NodeKinds.{kind-4, kind-16, kind-48}
 
 pub one-differ : (a b : NodeType) → a ≢ b → one_if_same a b ≡ 0
 one-differ kinds.Node4 kinds.Node4 differ = absurd (differ refl)

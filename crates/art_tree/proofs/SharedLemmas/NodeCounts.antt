@@ -7,8 +7,8 @@ use Rattle.art_header.specs.declared.node_type.NodeType.TheVariants as kinds
 use Rattle.art_arena.specs.Trees.{Tree, Leaf, Inner, Branches, NoBranch, Branch, branch_roots, SameButPointers, SameBranches}
 use Rattle.art_tree.specs.Contexts.{Context, Whole, Under, plug, join}
 use Rattle.art_tree.specs.NodeCounts.{one_if_same, nodes_of, branch_nodes_of}
-use Rattle.art_tree.proofs.LoadLemmas.PlacedTrees.{kind-4, kind-16, kind-48, kind-256}
 use Rattle.art_tree.proofs.SharedLemmas.ExchangedSubtree.{count-same}
+use Rattle.art_tree.proofs.SharedLemmas.NodeKinds.{kind-4, kind-16, kind-48, kind-256}
 
 pub one-same : (kind : NodeType) → one_if_same kind kind ≡ 1
 one-same kinds.Node4 = refl

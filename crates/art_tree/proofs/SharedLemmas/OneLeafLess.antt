@@ -1,5 +1,5 @@
 -- A tree and the tree of its texts but one: they have as many nodes of each kind, but for one.
-use Rattle.std.proofs.Common.{◌≡◌, ◌≢◌, ◌⊎◌, ◌∙◌, ℕ, ◌+◌, ◌<◌, ◌≤◌, List, [], ◌∷◌, ◌++◌, length, map, Contains, refl, sym, ap, subst, inl, inr, arith}
+use Rattle.std.proofs.Common.{◌≡◌, ◌≢◌, ◌⊎◌, ◌∙◌, ℕ, ◌+◌, ◌≤◌, List, [], ◌∷◌, ◌++◌, length, map, Contains, refl, sym, ap, subst, inl, inr, arith}
 use Rattle.std.specs.Prelude.{◌↔◌}
 use Rattle.std.proofs.lemmas.Bool.{cases_lt}
 use Rattle.std.proofs.lemmas.List.{map-append}
@@ -13,10 +13,9 @@ use Rattle.art_tree.specs.NodeCounts.{one_if_same, nodes_of, branch_nodes_of}
 use Rattle.art_tree.proofs.InsertLemmas.AddedLeaf.{leaves-filled, leaves-parted}
 use Rattle.art_tree.proofs.InsertLemmas.NeededNodes.{nodes-taken}
 use Rattle.art_tree.proofs.InsertLemmas.SubtreeLemmas.{with_leaf}
-use Rattle.art_tree.proofs.LoadLemmas.PlanLemmas.{join_assoc}
 use Rattle.art_tree.proofs.PlaceLemmas.WayPlaces.{some-text}
 use Rattle.art_tree.proofs.RemoveLemmas.RemainingTree.{with_upper, dropped-count, dropped-sound, joined-sound, leaves-joined, one-leaves, one-left, text-gone}
-use Rattle.art_tree.proofs.SharedLemmas.BranchLemmas.{leaves-join, one_branch}
+use Rattle.art_tree.proofs.SharedLemmas.BranchLemmas.{leaves-join, one_branch, join_assoc}
 use Rattle.art_tree.proofs.SharedLemmas.DictionaryLemmas.{AreApart, leaf-with}
 use Rattle.art_tree.proofs.SharedLemmas.ExchangedSubtree.{count-same, sound-part, sound-whole, the-one}
 use Rattle.art_tree.proofs.SharedLemmas.NodeBounds.{one-at-most, one-or-leaf}

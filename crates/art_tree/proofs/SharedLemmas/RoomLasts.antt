@@ -1,5 +1,5 @@
 -- Room for so many changes of a tree: it suffices for each of them, and one fewer is left.
-use Rattle.std.proofs.Common.{◌≡◌, ◌≢◌, ◌⊎◌, ◌∙◌, ℕ, ◌+◌, ◌-◌, ◌/◌, ◌<◌, ◌≤◌, List, [], ◌∷◌, length, min, Contains, Option, Some, None, Result, Ok, Err, OnOk, refl, sym, ap, subst, inl, inr, arith}
+use Rattle.std.proofs.Common.{◌≡◌, ◌≢◌, ◌⊎◌, ◌∙◌, ℕ, ◌+◌, ◌<◌, ◌≤◌, List, [], length, min, Contains, Option, Some, None, refl, sym, ap, subst, inl, inr, arith}
 use Rattle.std.specs.Prelude.{◌↔◌}
 use Rattle.std.proofs.lemmas.Bool.{cases_lt}
 use Rattle.art_header.specs.declared.node_type.NodeType.{NodeType}
@@ -12,7 +12,7 @@ use Rattle.art_arena.specs.Trees.{Tree, places, texts, IsSound, IsWellFormed}
 use Rattle.art_tree.specs.Art.{IsAlone, IsArt}
 use Rattle.art_tree.specs.Dictionary.{entry_at, HasEntry, SameOtherEntries}
 use Rattle.art_tree.specs.NodeCounts.{most_nodes, nodes_of}
-use Rattle.art_tree.specs.Room.{FitsEachTree, GrowsOnlyWhere, HasFewer, HasRoomFor, HasRoomOf, LacksRoomFor, LacksRoomToInsert, LacksRoomToRemove}
+use Rattle.art_tree.specs.Room.{GrowsOnlyWhere, HasFewer, HasRoomFor, HasRoomOf, LacksRoomFor, LacksRoomToInsert, LacksRoomToRemove}
 use Rattle.art_tree.proofs.SharedLemmas.DictionaryLemmas.{empty-entry, entry-of-text, text-of-entry}
 use Rattle.art_tree.proofs.SharedLemmas.EntryLists.{text-is}
 use Rattle.art_tree.proofs.SharedLemmas.ExchangedTree.{alone-same}
@@ -213,11 +213,6 @@ module _ {K V : Type 0} {P : ℕ} (text : K → List ℕ) (same_nodes : SameNode
 -- where no kind needs memory, none is taken
 pub no-growth : {K V : Type 0} {P : ℕ} (old new : NodeArena K V P) (IsNeeded : NodeType → Type 0) → ((kind : NodeType) → IsNeeded kind → ⊥) → GrowsOnlyWhere old new IsNeeded → SameCapacity old new
 no-growth old new IsNeeded never grows kind = elim (grows kind) [ inl same ↦ same | inr needed ↦ absurd (never kind needed) ]
-
--- an implication holds on success
-pub on-ok-then : {T E : Type 0} (r : Result T E) (A B : Type 0) → (A → B) → OnOk r A → OnOk r B
-on-ok-then (Ok x) A B follows holds = follows holds
-on-ok-then (Err e) A B follows holds = tt
 
 -- a text has the entry that is found
 pub has-found : {K V : Type 0} {P : ℕ} (text : K → List ℕ) (arena : NodeArena K V P) (x : List ℕ) (entry : K × V) → entry_at text arena x ≡ Some entry → HasEntry text arena x

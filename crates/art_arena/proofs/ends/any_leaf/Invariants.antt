@@ -1,11 +1,12 @@
-use Rattle.std.proofs.Common.{◌-◌, ◌^◌}
+use Rattle.std.proofs.Common.{◌^◌, Contains}
 use Rattle.art_arena.specs.Standing.{TreeAt}
-use Rattle.art_arena.proofs.AnyLeafLemmas.{IsToAny}
+use Rattle.art_arena.proofs.DescentLemmas.{IsOnWay}
+use Rattle.art_arena.proofs.Heights.{height}
 use Rattle.art_arena.proofs.ends.any_leaf.Given as goal
 
--- in each tree that stands at the pointer, as deep as there were steps or deeper
+-- on the way to a leaf of each tree that stands at the pointer
 abbrev pub invariant-way : goal.invariant-way
-invariant-way g l = (found : TreeAt g.K.AsBytes.text l.arena l.fn.pointer) → IsToAny g.K.AsBytes.text l.arena found.tree l.at l.passed
+invariant-way g l = (found : TreeAt g.K.AsBytes.text l.arena l.fn.pointer) → IsOnWay g.K.AsBytes.text l.arena Contains found.tree l.at
 
 abbrev pub decreases-way : goal.decreases-way
-decreases-way g l = 2 ^ 64 - l.passed
+decreases-way g l = height l.arena (2 ^ 64) l.at

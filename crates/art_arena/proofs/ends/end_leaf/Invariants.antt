@@ -1,11 +1,13 @@
-use Rattle.std.proofs.Common.{◌-◌, ◌^◌}
+use Rattle.std.proofs.Common.{◌^◌}
 use Rattle.art_arena.specs.Standing.{TreeAt}
-use Rattle.art_arena.proofs.EndLemmas.{IsToEnd}
+use Rattle.art_arena.proofs.DescentLemmas.{IsOnWay}
+use Rattle.art_arena.proofs.EndLemmas.{EndsIn}
+use Rattle.art_arena.proofs.Heights.{height}
 use Rattle.art_arena.proofs.ends.end_leaf.Given as goal
 
--- on the way to the end of each tree that stands at the pointer, as deep as there were steps or deeper
+-- on the way to the end of each tree that stands at the pointer
 abbrev pub invariant-way : goal.invariant-way
-invariant-way g l = (found : TreeAt g.K.AsBytes.text l.arena l.fn.pointer) → IsToEnd g.K.AsBytes.text l.arena l.end found.tree l.at l.passed
+invariant-way g l = (found : TreeAt g.K.AsBytes.text l.arena l.fn.pointer) → IsOnWay g.K.AsBytes.text l.arena (EndsIn l.end) found.tree l.at
 
 abbrev pub decreases-way : goal.decreases-way
-decreases-way g l = 2 ^ 64 - l.passed
+decreases-way g l = height l.arena (2 ^ 64) l.at

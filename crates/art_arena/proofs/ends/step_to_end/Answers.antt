@@ -1,5 +1,4 @@
-use Rattle.std.proofs.Common.{◌≡◌, ◌∙◌, sym, subst, refl, IsNone}
-use Rattle.art_arena.specs.Arena.{held, HeldInner}
+use Rattle.std.proofs.Common.{◌∙◌}
 use Rattle.art_arena.specs.InnerRef.{inner_shown}
 use Rattle.art_arena.specs.Reader.{shown}
 use Rattle.art_arena.proofs.StandingLaws.{inner-there}

@@ -1,4 +1,4 @@
-use Rattle.std.proofs.Common.{◌∙◌, ◌≤◌, length}
+use Rattle.std.proofs.Common.{◌∙◌}
 use Rattle.art_arena.specs.InnerRef.{inner_shown}
 use Rattle.art_arena.specs.Reader.{shown}
 use Rattle.art_arena.proofs.StandingLaws.{inner-there}

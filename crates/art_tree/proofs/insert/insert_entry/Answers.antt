@@ -1,4 +1,4 @@
-use Rattle.std.proofs.Common.{◌≡◌, None, IfSome, [], refl, sym, subst, inl}
+use Rattle.std.proofs.Common.{◌≡◌, None, IfSome, [], sym, subst, inl}
 use Rattle.std.specs.Option.{option_map}
 use Rattle.art_nodes.specs.Pointers.{slab_key}
 use Rattle.art_arena.specs.Links.{HoldsLeaf}
@@ -7,7 +7,7 @@ use Rattle.art_tree.specs.Insertion.{InsertsNew}
 use Rattle.art_tree.specs.Places.{Belongs, present_leaf}
 use Rattle.art_tree.specs.Room.{GrowsOnlyWhere, LacksRoomToInsert}
 use Rattle.art_tree.specs.Search.{EachTree, leaf_pointer}
-use Rattle.art_tree.proofs.InsertLemmas.EntryLemmas.{leaf-is-held, leaf-there, root-is, there-may, tree-there}
+use Rattle.art_tree.proofs.InsertLemmas.EntryLemmas.{leaf-is-held, leaf-there, there-may, tree-there}
 use Rattle.art_tree.proofs.InsertLemmas.NodeLemmas.{leaf-pointer-fits, place-fits, spot-fits}
 use Rattle.art_tree.proofs.SharedLemmas.RoomLemmas.{same-capacity}
 use Rattle.art_tree.proofs.insert.insert_entry.Goals as goal

@@ -73,14 +73,14 @@ fork_node-node-requires g c =
     let leaf = leaf_pointer c.link_leaf-leaf.result in
     let link = c.link_leaf-leaf.ensures in
     let linked = c.link_leaf-leaf.new.arena in
-    let cut = c.trim.new.arena in
-    let is_held : HoldsLeaf cut slot = new-leaf-held place linked leaf link.was_free link.others end sibling at_end cut c.trim.ensures.leaf c.trim.ensures.trimmed c.args.value link.entry slot refl in
+    let trimmed = c.trim.new.arena in
+    let is_held : HoldsLeaf trimmed slot = new-leaf-held place linked leaf link.was_free link.others end sibling at_end trimmed c.trim.ensures.leaf c.trim.ensures.trimmed c.args.value link.entry slot refl in
     let ordered : spot.depth ≤ mismatch.index = place.parts.later in
-    let within : mismatch.index ≤ length (text_at text cut slot) = index-within place linked leaf link.was_free link.others end sibling at_end cut c.trim.ensures.leaf c.trim.ensures.trimmed c.args.value link.entry slot refl in
+    let within : mismatch.index ≤ length (text_at text trimmed slot) = index-within place linked leaf link.was_free link.others end sibling at_end trimmed c.trim.ensures.leaf c.trim.ensures.trimmed c.args.value link.entry slot refl in
     let short : mismatch.index < 2 ^ 32 = omega (arith, slice_get_within (text c.args.key) mismatch.index mismatch.byte place.parts.byte, c.requires.short) in
     let differ : mismatch.byte ≢ mismatch.node_byte = place.parts.differ in
     let was_room : 0 < room reserved Node4 = ok-then c.reserve_for_fork.result (0 < room reserved Node4) c.is_err.ensures.value c.if-is_err.false c.reserve_for_fork.ensures.node_room in
-    let has_room : 0 < room cut Node4 = subst (λ n. 0 < n) (sym (same-room linked cut c.trim.ensures.room Node4 ∙ link.other_room Node4 (λ e. cc))) was_room in
+    let has_room : 0 < room trimmed Node4 = subst (λ n. 0 < n) (sym (same-room linked trimmed c.trim.ensures.room Node4 ∙ link.other_room Node4 (λ e. cc))) was_room in
     assumption leaf-pointer-fits
 
 pub hang-requires : goal.hang-requires

@@ -1,9 +1,9 @@
-use Rattle.std.proofs.Common.{◌≡◌, ◌≢◌, ◌<◌, ◌^◌, ◌≤◌, length, None, Some, Option, IfSome, [], refl, sym, ap, subst, inl, inr, arith}
+use Rattle.std.proofs.Common.{◌<◌, ◌^◌, ◌≤◌, length, None, IfSome, [], refl, sym, ap, subst, inl, inr, arith}
 use Rattle.std.specs.Option.{option_map}
 use Rattle.art_tree.specs.Art.{IsArt, IsAlone}
 use Rattle.art_tree.specs.Dictionary.{Clashes}
 use Rattle.art_tree.specs.Insertion.{AddsEntry}
-use Rattle.art_tree.specs.Places.{Belongs, LacksChild, Parts, present_leaf}
+use Rattle.art_tree.specs.Places.{Belongs, LacksChild, Parts}
 use Rattle.art_tree.specs.Search.{EachTree, leaf_pointer}
 use Rattle.art_arena.specs.Trees.{Tree, texts}
 use Rattle.art_tree.specs.declared.insert.InsertRefusal.TheVariants.{KeyTooLong, Prefix}

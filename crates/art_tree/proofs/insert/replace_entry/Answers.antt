@@ -6,7 +6,7 @@ use Rattle.art_tree.specs.Search.{leaf_pointer}
 use Rattle.art_tree.proofs.SharedLemmas.DictionaryLemmas.{leaf-held-in}
 use Rattle.art_tree.proofs.InsertLemmas.FirstEntry.{replaced-alone, replaced-entered, replaced-was}
 use Rattle.art_tree.proofs.InsertLemmas.NodeLemmas.{one-leaf}
-use Rattle.art_tree.proofs.LoadLemmas.PlacedTrees.{leaf-of}
+use Rattle.art_tree.proofs.SharedLemmas.HeldNodes.{leaf-of}
 use Rattle.art_tree.proofs.insert.replace_entry.Goals as goal
 
 pub returns-clause-entered : goal.returns-clause-entered

@@ -1,9 +1,10 @@
 use Rattle.std.proofs.Common.{◌∙◌, lit<, arith}
+use Rattle.std.proofs.lemmas.Result.{on_ok_weaker}
 use Rattle.art_header.specs.declared.node_type.NodeType.TheVariants.{Node4, Node16, Node48, Leaf}
 use Rattle.art_arena.specs.Arena.{room}
 use Rattle.art_tree.specs.Plan.{needed}
 use Rattle.art_tree.proofs.InsertLemmas.NodeLemmas.{kinds-apart}
-use Rattle.art_tree.proofs.LoadLemmas.PlacedTrees.{each-kind, on-ok-then}
+use Rattle.art_tree.proofs.LoadLemmas.PlacedTrees.{each-kind}
 use Rattle.art_tree.proofs.loading.reserve_nodes.Goals as goal
 
 pub returns-in_err-reserve-clause-leaf_room : goal.returns-in_err-reserve-clause-leaf_room
@@ -28,7 +29,7 @@ pub returns-clause-nodes_kept : goal.returns-clause-nodes_kept
 returns-clause-nodes_kept g c = λ pointer. c.reserve-4.ensures.nodes_kept pointer ∙ c.reserve-3.ensures.nodes_kept pointer ∙ c.reserve-2.ensures.nodes_kept pointer ∙ c.reserve.ensures.nodes_kept pointer
 
 pub returns-clause-room : goal.returns-clause-room
-returns-clause-room g c = on-ok-then _ _ c.reserve-4.result (λ last. each-kind (λ kind. needed kind c.args.steps.now) (room c.reserve-4.new.self)
+returns-clause-room g c = on_ok_weaker c.reserve-4.result (λ last. each-kind (λ kind. needed kind c.args.steps.now) (room c.reserve-4.new.self)
     (omega (arith, c.in_ok-reserve.ensures.room, c.count_nodes.ensures, c.reserve-2.ensures.other_room Node4 (kinds-apart (lit< tt)), c.reserve-3.ensures.other_room Node4 (kinds-apart (lit< tt)), c.reserve-4.ensures.other_room Node4 (kinds-apart (lit< tt))))
     (omega (arith, c.in_ok-reserve-2.ensures.room, c.count_nodes-2.ensures, c.reserve-3.ensures.other_room Node16 (kinds-apart (lit< tt)), c.reserve-4.ensures.other_room Node16 (kinds-apart (lit< tt))))
     (omega (arith, c.in_ok-reserve-3.ensures.room, c.count_nodes-3.ensures, c.reserve-4.ensures.other_room Node48 (kinds-apart (lit< tt))))

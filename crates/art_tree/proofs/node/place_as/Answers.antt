@@ -4,7 +4,7 @@ use Rattle.art_arena.specs.Arena.{HeldInner, Changes}
 use Rattle.art_arena.specs.Links.{leaf_at}
 use Rattle.art_tree.specs.Nodes.{node_of}
 use Rattle.art_tree.proofs.InsertLemmas.NodeLemmas.{text-of-key}
-use Rattle.art_tree.proofs.LoadLemmas.PlacedTrees.{placed}
+use Rattle.art_tree.proofs.SharedLemmas.PlacedNodes.{placed}
 use Rattle.art_tree.proofs.node.place_as.Goals as goal
 
 pub returns : goal.returns

@@ -1,8 +1,8 @@
 use Rattle.std.proofs.Common.{◌≢◌, ◌∙◌, sym, subst}
 use Rattle.art_nodes.specs.Pointers.{slab_key, opaque_pointer}
 use Rattle.art_arena.specs.Arena.{held, Nothing, Changes}
-use Rattle.art_tree.proofs.LoadLemmas.LeafLists.{kept-at}
 use Rattle.art_tree.proofs.RemoveLemmas.ShrunkNode.{replaced}
+use Rattle.art_tree.proofs.SharedLemmas.HeldNodes.{kept-at}
 use Rattle.art_tree.proofs.node.replace_node.Goals as goal
 
 pub deallocate-requires : goal.deallocate-requires

@@ -22,8 +22,8 @@ overflow_add-result g c =
     let here = at-inner g.K.AsBytes.text c.args.arena.now tree c.args.key.now c.args.spot on.spot_in node holds in
     let bytes = c.text_below_spot-text.result.now in
     let below = toward-text (drop c.args.spot.depth c.args.key.now) on.spot_in.at.part bytes (c.text_below_spot-text.ensures tree on) in
-    let cut = prefix-in-text g.K.AsBytes.text c.args.arena.now tree c.args.key.now c.args.spot on.spot_in node here bytes below in
-    omega (arith, cut.0, here.shows.prefix_len, c.prefix_len-prefix_len.ensures.value)
+    let within = prefix-in-text g.K.AsBytes.text c.args.arena.now tree c.args.key.now c.args.spot on.spot_in node here bytes below in
+    omega (arith, within.0, here.shows.prefix_len, c.prefix_len-prefix_len.ensures.value)
 
 pub slice_bounds-result-end : goal.slice_bounds-result-end
 slice_bounds-result-end g c =
@@ -33,8 +33,8 @@ slice_bounds-result-end g c =
     let here = at-inner g.K.AsBytes.text c.args.arena.now tree c.args.key.now c.args.spot on.spot_in node holds in
     let bytes = c.text_below_spot-text.result.now in
     let below = toward-text (drop c.args.spot.depth c.args.key.now) on.spot_in.at.part bytes (c.text_below_spot-text.ensures tree on) in
-    let cut = prefix-in-text g.K.AsBytes.text c.args.arena.now tree c.args.key.now c.args.spot on.spot_in node here bytes below in
-    omega (arith, cut.0, here.shows.prefix_len, c.prefix_len-prefix_len.ensures.value)
+    let within = prefix-in-text g.K.AsBytes.text c.args.arena.now tree c.args.key.now c.args.spot on.spot_in node here bytes below in
+    omega (arith, within.0, here.shows.prefix_len, c.prefix_len-prefix_len.ensures.value)
 
 pub returns-clause-prefix : goal.returns-clause-prefix
 returns-clause-prefix g c = λ tree on.
@@ -43,6 +43,6 @@ returns-clause-prefix g c = λ tree on.
     let here = at-inner g.K.AsBytes.text c.args.arena.now tree c.args.key.now c.args.spot on.spot_in node holds in
     let bytes = c.text_below_spot-text.result.now in
     let below = toward-text (drop c.args.spot.depth c.args.key.now) on.spot_in.at.part bytes (c.text_below_spot-text.ensures tree on) in
-    let cut = prefix-in-text g.K.AsBytes.text c.args.arena.now tree c.args.key.now c.args.spot on.spot_in node here bytes below in
+    let within = prefix-in-text g.K.AsBytes.text c.args.arena.now tree c.args.key.now c.args.spot on.spot_in node here bytes below in
     let long : c.args.spot.depth + c.prefix_len-prefix_len.result - c.args.spot.depth ≡ length here.prefix = omega (arith, here.shows.prefix_len, c.prefix_len-prefix_len.ensures.value) in
-    ap (λ n. take n (drop c.args.spot.depth bytes)) long ∙ cut.1 ∙ sym (ap prefix_of here.part)
+    ap (λ n. take n (drop c.args.spot.depth bytes)) long ∙ within.1 ∙ sym (ap prefix_of here.part)

@@ -13,7 +13,7 @@ use Rattle.art_tree.specs.Hanging.{CanHang}
 use Rattle.art_tree.specs.Removal.{IsRemoved, NeedsSmallerNode}
 use Rattle.art_tree.specs.Room.{LacksRoomToRemove}
 use Rattle.art_tree.proofs.RemoveLemmas.RemovedLeaf.{removed-from}
-use Rattle.art_tree.proofs.RemoveLemmas.RemovedChild.{cut-fewest, cut-held, cut-many, cut-room, cut-there, is-cut, many-hangs, many-removed, more-than-two, needs-smaller, not-least}
+use Rattle.art_tree.proofs.RemoveLemmas.RemovedChild.{tells-fewest, parent-held, parent-many, room-to-shrink, child-there, parent-is, many-hangs, many-removed, more-than-two, needs-smaller, not-least}
 use Rattle.art_tree.proofs.SharedLemmas.ExchangedTree.{alone-same}
 use Rattle.art_tree.proofs.SharedLemmas.ParentLemmas.{always-err}
 use Rattle.art_tree.proofs.SharedLemmas.RoomLemmas.{grows-on, grows-then, same-capacity}
@@ -51,14 +51,14 @@ take_child-node-requires g c =
     let reserved = c.reserve_shrink.new.arena in
     let alone = alone-same text c.args.arena.now reserved c.reserve_shrink.ensures.nodes_kept c.args.root tree alone0 in
     let place = leaf-place alone hangs in
-    let cut = c.take_leaf-entry.new.arena in
+    let without = c.take_leaf-entry.new.arena in
     let many : length place.node.children ≢ 2 = c.requires.many place.node (sym (c.reserve_shrink.ensures.nodes_kept parent) ∙ place.is_held) in
-    let is_held : held cut parent ≢ Nothing = cut-held place cut c.take_leaf-entry.ensures.gone c.take_leaf-entry.ensures.others in
+    let is_held : held without parent ≢ Nothing = parent-held place without c.take_leaf-entry.ensures.gone c.take_leaf-entry.ensures.others in
     let is_inner : node_kind parent ≢ Leaf = place.inner in
-    let there : (node : Inner _) → held cut parent ≡ HeldInner node → child_at node.children byte ≢ None = cut-there place cut c.take_leaf-entry.ensures.gone c.take_leaf-entry.ensures.others in
-    let enough : (node : Inner _) → held cut parent ≡ HeldInner node → (2 < length node.children) × (least_children (node_kind parent) ≤ length node.children) = cut-many place cut c.take_leaf-entry.ensures.gone c.take_leaf-entry.ensures.others many in
-    let tells : TellsFewest cut parent c.args.fewest = cut-fewest place cut c.take_leaf-entry.ensures.gone c.take_leaf-entry.ensures.others (λ node is. c.requires.fewest node (sym (c.reserve_shrink.ensures.nodes_kept parent) ∙ is)) in
-    let has_room : HasRoomToShrink cut parent = cut-room place cut c.take_leaf-entry.ensures.gone c.take_leaf-entry.ensures.others many c.in_ok-reserve_shrink.ensures.room c.take_leaf-entry.ensures.room in
+    let there : (node : Inner _) → held without parent ≡ HeldInner node → child_at node.children byte ≢ None = child-there place without c.take_leaf-entry.ensures.gone c.take_leaf-entry.ensures.others in
+    let enough : (node : Inner _) → held without parent ≡ HeldInner node → (2 < length node.children) × (least_children (node_kind parent) ≤ length node.children) = parent-many place without c.take_leaf-entry.ensures.gone c.take_leaf-entry.ensures.others many in
+    let tells : TellsFewest without parent c.args.fewest = tells-fewest place without c.take_leaf-entry.ensures.gone c.take_leaf-entry.ensures.others (λ node is. c.requires.fewest node (sym (c.reserve_shrink.ensures.nodes_kept parent) ∙ is)) in
+    let has_room : HasRoomToShrink without parent = room-to-shrink place without c.take_leaf-entry.ensures.gone c.take_leaf-entry.ensures.others many c.in_ok-reserve_shrink.ensures.room c.take_leaf-entry.ensures.room in
     assumption
 
 pub hang-requires : goal.hang-requires
@@ -70,10 +70,10 @@ hang-requires g c =
     let reserved = c.reserve_shrink.new.arena in
     let alone = alone-same text c.args.arena.now reserved c.reserve_shrink.ensures.nodes_kept c.args.root tree alone0 in
     let place = leaf-place alone hangs in
-    let cut = c.take_leaf-entry.new.arena in
+    let without = c.take_leaf-entry.new.arena in
     let many : length place.node.children ≢ 2 = c.requires.many place.node (sym (c.reserve_shrink.ensures.nodes_kept parent) ∙ place.is_held) in
     let new = c.take_child-node.new.arena in
-    let can : CanHang new higher parent = many-hangs place cut c.take_leaf-entry.ensures.gone c.take_leaf-entry.ensures.others many new c.take_child-node.result (c.each_pointer_is_at_one_place.ensures reserved [] _ place.alone.is_tree.stands place.alone.is_tree.sound) (c.take_child-node.ensures.taken _ (is-cut place cut c.take_leaf-entry.ensures.gone c.take_leaf-entry.ensures.others)) in
+    let can : CanHang new higher parent = many-hangs place without c.take_leaf-entry.ensures.gone c.take_leaf-entry.ensures.others many new c.take_child-node.result (c.each_pointer_is_at_one_place.ensures reserved [] _ place.alone.is_tree.stands place.alone.is_tree.sound) (c.take_child-node.ensures.taken _ (parent-is place without c.take_leaf-entry.ensures.gone c.take_leaf-entry.ensures.others)) in
     assumption
 
 pub returns : goal.returns
@@ -85,18 +85,18 @@ returns g c = λ tree alone0 hangs.
     let reserved = c.reserve_shrink.new.arena in
     let place0 = leaf-place alone0 hangs in
     let place = leaf-place (alone-same text old reserved kept c.args.root tree alone0) hangs in
-    let cut = c.take_leaf-entry.new.arena in
+    let without = c.take_leaf-entry.new.arena in
     let many : length place.node.children ≢ 2 = c.requires.many place.node (sym (kept parent) ∙ place.is_held) in
     let new = c.take_child-node.new.arena in
     let apart = c.no_text_begins_another.ensures in
-    let taken = c.take_child-node.ensures.taken _ (is-cut place cut c.take_leaf-entry.ensures.gone c.take_leaf-entry.ensures.others) in
-    let removed = many-removed place cut c.take_leaf-entry.ensures.gone c.take_leaf-entry.ensures.others many new c.take_child-node.result (c.each_pointer_is_at_one_place.ensures reserved [] _ place.alone.is_tree.stands place.alone.is_tree.sound) taken c.hang.new.arena c.hang.result c.hang.ensures.hung c.take_leaf-entry.ensures.spelled apart in
+    let taken = c.take_child-node.ensures.taken _ (parent-is place without c.take_leaf-entry.ensures.gone c.take_leaf-entry.ensures.others) in
+    let removed = many-removed place without c.take_leaf-entry.ensures.gone c.take_leaf-entry.ensures.others many new c.take_child-node.result (c.each_pointer_is_at_one_place.ensures reserved [] _ place.alone.is_tree.stands place.alone.is_tree.sound) taken c.hang.new.arena c.hang.result c.hang.ensures.hung c.take_leaf-entry.ensures.spelled apart in
     record {
       removed = removed-from text old reserved c.hang.new.arena hangs.text c.hang.result c.take_leaf-entry.result c.args.root tree alone0 (apart [] tree alone0.is_tree.sound) kept
           (subst (IsRemoved text reserved c.hang.new.arena hangs.text c.hang.result) (sym (c.take_leaf-entry.ensures.entry place.own place.own_held)) removed);
       refused = tt;
       nodes_kept = tt;
-      takes_no_memory = λ enough. frees-leaf old reserved cut new c.hang.new.arena parent c.take_child-node.result place.node _
+      takes_no_memory = λ enough. frees-leaf old reserved without new c.hang.new.arena parent c.take_child-node.result place.node _
           (c.reserve_shrink.ensures.takes_no_memory place0.node place0.is_held (not-least place0 (c.requires.many place0.node place0.is_held) enough place0.node place0.is_held)) c.take_leaf-entry.ensures.takes_no_memory
           taken (not-least place0 (c.requires.many place0.node place0.is_held) enough place.node (sym (kept parent) ∙ place.is_held)) c.hang.ensures.room;
       no_room = tt;

@@ -23,11 +23,11 @@ other_child-other_byte-requires g c =
     let (tree, alone, hangs) = c.requires.place in
     let place = leaf-place alone hangs in
     let parent = c.args.spot.parent in
-    let cut = c.take_leaf-entry.new.arena in
+    let without = c.take_leaf-entry.new.arena in
     let taken = c.take_leaf-entry.ensures in
-    let is_held : held cut parent ≢ Nothing = parent-held place c.each_pointer_is_at_one_place.ensures c.requires.two cut taken.gone taken.others in
+    let is_held : held without parent ≢ Nothing = parent-held place c.each_pointer_is_at_one_place.ensures c.requires.two without taken.gone taken.others in
     let is_inner : node_kind parent ≢ Leaf = place.inner in
-    let has_two : (node : Inner _) → held cut parent ≡ HeldInner node → 2 ≤ length node.children = parent-two place c.each_pointer_is_at_one_place.ensures c.requires.two cut taken.gone taken.others in
+    let has_two : (node : Inner _) → held without parent ≡ HeldInner node → 2 ≤ length node.children = parent-two place c.each_pointer_is_at_one_place.ensures c.requires.two without taken.gone taken.others in
     -- the size in memory of an opaque pointer
     let fits : 16 < 2 ^ 63 = lit< tt in
     search
@@ -37,13 +37,13 @@ join_prefix-requires g c =
     let (tree, alone, hangs) = c.requires.place in
     let place = leaf-place alone hangs in
     let parent = c.args.spot.parent in
-    let cut = c.take_leaf-entry.new.arena in
+    let without = c.take_leaf-entry.new.arena in
     let taken = c.take_leaf-entry.ensures in
     let (other, child) = c.other_child-other_byte.result in
-    let is_held : held cut parent ≢ Nothing = parent-held place c.each_pointer_is_at_one_place.ensures c.requires.two cut taken.gone taken.others in
+    let is_held : held without parent ≢ Nothing = parent-held place c.each_pointer_is_at_one_place.ensures c.requires.two without taken.gone taken.others in
     let is_inner : node_kind parent ≢ Leaf = place.inner in
-    let has_child : held cut child ≢ Nothing = child-held place c.each_pointer_is_at_one_place.ensures c.requires.two cut taken.gone taken.others other child c.other_child-other_byte.ensures in
-    let short : (upper lower : Inner _) → held cut parent ≡ HeldInner upper → held cut child ≡ HeldInner lower → upper.prefix_len + (1 + lower.prefix_len) < 2 ^ 32 = short-there place c.each_pointer_is_at_one_place.ensures c.requires.two cut taken.gone taken.others other child c.other_child-other_byte.ensures in
+    let has_child : held without child ≢ Nothing = child-held place c.each_pointer_is_at_one_place.ensures c.requires.two without taken.gone taken.others other child c.other_child-other_byte.ensures in
+    let short : (upper lower : Inner _) → held without parent ≡ HeldInner upper → held without child ≡ HeldInner lower → upper.prefix_len + (1 + lower.prefix_len) < 2 ^ 32 = short-there place c.each_pointer_is_at_one_place.ensures c.requires.two without taken.gone taken.others other child c.other_child-other_byte.ensures in
     assumption
 
 pub deallocate-requires : goal.deallocate-requires
@@ -51,11 +51,11 @@ deallocate-requires g c =
     let (tree, alone, hangs) = c.requires.place in
     let place = leaf-place alone hangs in
     let parent = c.args.spot.parent in
-    let cut = c.take_leaf-entry.new.arena in
+    let without = c.take_leaf-entry.new.arena in
     let taken = c.take_leaf-entry.ensures in
     let (other, child) = c.other_child-other_byte.result in
     let joined = c.join_prefix.new.arena in
-    let is_held : held joined parent ≢ Nothing = parent-joined place c.each_pointer_is_at_one_place.ensures c.requires.two cut taken.gone taken.others other child c.other_child-other_byte.ensures joined c.join_prefix.ensures.leaf c.join_prefix.ensures.joined in
+    let is_held : held joined parent ≢ Nothing = parent-joined place c.each_pointer_is_at_one_place.ensures c.requires.two without taken.gone taken.others other child c.other_child-other_byte.ensures joined c.join_prefix.ensures.leaf c.join_prefix.ensures.joined in
     let is_inner : node_kind parent ≢ Leaf = place.inner in
     assumption
 
@@ -63,23 +63,23 @@ pub hang-requires : goal.hang-requires
 hang-requires g c =
     let (tree, alone, hangs) = c.requires.place in
     let place = leaf-place alone hangs in
-    let cut = c.take_leaf-entry.new.arena in
+    let without = c.take_leaf-entry.new.arena in
     let taken = c.take_leaf-entry.ensures in
     let (other, child) = c.other_child-other_byte.result in
     let joined = c.join_prefix.new.arena in
     let new = c.deallocate.new.self in
-    let can : CanHang new c.args.spot.above c.args.spot.parent = two-hangs place c.each_pointer_is_at_one_place.ensures c.requires.two cut taken.gone taken.others other child c.other_child-other_byte.ensures joined c.join_prefix.ensures.leaf c.join_prefix.ensures.joined new c.deallocate.ensures.removed in
+    let can : CanHang new c.args.spot.above c.args.spot.parent = two-hangs place c.each_pointer_is_at_one_place.ensures c.requires.two without taken.gone taken.others other child c.other_child-other_byte.ensures joined c.join_prefix.ensures.leaf c.join_prefix.ensures.joined new c.deallocate.ensures.removed in
     assumption
 
 pub returns-clause-removed : goal.returns-clause-removed
 returns-clause-removed g c = λ tree alone hangs.
     let place = leaf-place alone hangs in
-    let cut = c.take_leaf-entry.new.arena in
+    let without = c.take_leaf-entry.new.arena in
     let taken = c.take_leaf-entry.ensures in
     let (other, child) = c.other_child-other_byte.result in
     let joined = c.join_prefix.new.arena in
     let new = c.deallocate.new.self in
-    two-removed place c.each_pointer_is_at_one_place.ensures c.requires.two cut taken.gone taken.others other child c.other_child-other_byte.ensures joined c.join_prefix.ensures.leaf c.join_prefix.ensures.joined new c.deallocate.ensures.removed
+    two-removed place c.each_pointer_is_at_one_place.ensures c.requires.two without taken.gone taken.others other child c.other_child-other_byte.ensures joined c.join_prefix.ensures.leaf c.join_prefix.ensures.joined new c.deallocate.ensures.removed
     c.hang.new.arena c.hang.result c.hang.ensures.hung taken.spelled c.no_text_begins_another.ensures c.take_leaf-entry.result taken.entry
 
 pub returns-clause-takes_no_memory : goal.returns-clause-takes_no_memory

@@ -26,14 +26,14 @@ any_leaf-leaf-requires g c =
 pub overflow_add-result : goal.overflow_add-result
 overflow_add-result g c =
     let below = c.requires.tree (omega (arith, c.if-prefix_len.false, c.prefix_len-prefix_len.ensures.value)) in
-    let cut = prefix_in_leaf g.K.AsBytes.text c.args.arena.now (g.Self.InnerNodeRead.inner c.args.self.now) c.args.depth c.any_child_prefer_leaf.result c.any_child_prefer_leaf.ensures c.any_leaf-leaf.result c.any_leaf-leaf.ensures.leaf below c.as_ref.result.now c.prefix_len-prefix_len.result c.as_bytes-text.result.now c.as_ref.ensures (c.as_bytes-text.ensures.text ∙ ap g.K.AsBytes.text c.key_ref.ensures) c.prefix_len-prefix_len.ensures.value in
-    omega (arith, cut.fits)
+    let within = prefix_in_leaf g.K.AsBytes.text c.args.arena.now (g.Self.InnerNodeRead.inner c.args.self.now) c.args.depth c.any_child_prefer_leaf.result c.any_child_prefer_leaf.ensures c.any_leaf-leaf.result c.any_leaf-leaf.ensures.leaf below c.as_ref.result.now c.prefix_len-prefix_len.result c.as_bytes-text.result.now c.as_ref.ensures (c.as_bytes-text.ensures.text ∙ ap g.K.AsBytes.text c.key_ref.ensures) c.prefix_len-prefix_len.ensures.value in
+    omega (arith, within.fits)
 
 pub slice_bounds-result-end : goal.slice_bounds-result-end
 slice_bounds-result-end g c =
     let below = c.requires.tree (omega (arith, c.if-prefix_len.false, c.prefix_len-prefix_len.ensures.value)) in
-    let cut = prefix_in_leaf g.K.AsBytes.text c.args.arena.now (g.Self.InnerNodeRead.inner c.args.self.now) c.args.depth c.any_child_prefer_leaf.result c.any_child_prefer_leaf.ensures c.any_leaf-leaf.result c.any_leaf-leaf.ensures.leaf below c.as_ref.result.now c.prefix_len-prefix_len.result c.as_bytes-text.result.now c.as_ref.ensures (c.as_bytes-text.ensures.text ∙ ap g.K.AsBytes.text c.key_ref.ensures) c.prefix_len-prefix_len.ensures.value in
-    omega (arith, cut.fits)
+    let within = prefix_in_leaf g.K.AsBytes.text c.args.arena.now (g.Self.InnerNodeRead.inner c.args.self.now) c.args.depth c.any_child_prefer_leaf.result c.any_child_prefer_leaf.ensures c.any_leaf-leaf.result c.any_leaf-leaf.ensures.leaf below c.as_ref.result.now c.prefix_len-prefix_len.result c.as_bytes-text.result.now c.as_ref.ensures (c.as_bytes-text.ensures.text ∙ ap g.K.AsBytes.text c.key_ref.ensures) c.prefix_len-prefix_len.ensures.value in
+    omega (arith, within.fits)
 
 pub returns-clause-shared : goal.returns-clause-shared
 returns-clause-shared g c = λ below.

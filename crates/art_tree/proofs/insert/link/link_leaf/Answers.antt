@@ -4,7 +4,7 @@ use Rattle.art_arena.specs.Links.{text_at}
 use Rattle.art_arena.specs.declared.ends.End.TheVariants.{First, Last}
 use Rattle.art_tree.specs.Edits.{IsBeside, LiesBeside}
 use Rattle.art_tree.proofs.InsertLemmas.LinkLemmas.{new-held, new-unlinked, new-apart, sibling-knit, still-spelled, new-text, sibling-text, entry-held, others-stay, spelled-before, spelled-after}
-use Rattle.art_tree.proofs.LoadLemmas.LeafLists.{less-same}
+use Rattle.art_tree.proofs.SharedLemmas.PrefixLemmas.{less-same}
 use Rattle.art_tree.proofs.SharedLemmas.RoomLemmas.{same-capacity, same-room}
 use Rattle.art_tree.proofs.insert.link.link_leaf.Goals as goal
 

@@ -4,7 +4,8 @@ use Rattle.std.specs.Vec.Iter.{into_iter_items}
 use Rattle.art_header.specs.declared.node_type.NodeType.TheVariants.{Leaf}
 use Rattle.art_arena.specs.Arena.{room}
 use Rattle.art_tree.specs.Loading.{AreLinked}
-use Rattle.art_tree.proofs.LoadLemmas.LeafLists.{none-linked, allocated, first-linked, next-linked, unlinked, sibling-knit, two-texts, last-split, none-left, less-same}
+use Rattle.art_tree.proofs.LoadLemmas.LeafLists.{none-linked, allocated, first-linked, next-linked, unlinked, sibling-knit, two-texts, last-split, none-left}
+use Rattle.art_tree.proofs.SharedLemmas.PrefixLemmas.{less-same}
 use Rattle.art_tree.proofs.LoadLemmas.RefusalLemmas.{forks-less}
 use Rattle.art_tree.proofs.SharedLemmas.RoomLemmas.{same-room}
 use Rattle.art_tree.proofs.loading.leaves.link_leaves.Goals as goal

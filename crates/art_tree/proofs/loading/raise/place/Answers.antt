@@ -1,5 +1,6 @@
 use Rattle.std.proofs.Common.{length, arith}
-use Rattle.art_tree.proofs.LoadLemmas.PlacedTrees.{placed-kind, kind-4, kind-16, kind-48, kind-256}
+use Rattle.art_tree.proofs.SharedLemmas.NodeKinds.{kind-4, kind-16, kind-48, kind-256}
+use Rattle.art_tree.proofs.SharedLemmas.PlacedNodes.{placed-kind}
 use Rattle.art_tree.proofs.loading.raise.place.Goals as goal
 
 pub returns-in-0-to-4 : goal.returns-in-0-to-4

@@ -10,9 +10,10 @@ use Rattle.art_tree.specs.Raising.{leaf_pairs}
 use Rattle.art_tree.specs.Search.{leaf_pointer}
 use Rattle.art_tree.specs.Plan.{Spans}
 use Rattle.art_tree.proofs.LoadLemmas.PlanLemmas.{plan-leads}
-use Rattle.art_tree.proofs.LoadLemmas.PlacedTrees.{IsRising, at_leaf, at_inner, rising-none, texts-of-pairs, pair-there, pointer-there, leaf-there, rise-leaf, rise-inner-called, one-pending, last-part, risen}
+use Rattle.art_tree.proofs.LoadLemmas.PlacedTrees.{IsRising, at_leaf, at_inner, rising-none, texts-of-pairs, pair-there, pointer-there, rise-leaf, rise-inner-called, one-pending, last-part, risen}
 use Rattle.art_tree.proofs.loading.raise.raise.Goals as goal
 use Rattle.art_tree.proofs.loading.raise.raise.Goals.{in-Leaf, in-Inner}
+use Rattle.art_tree.proofs.SharedLemmas.HeldNodes.{leaf-there}
 
 pub loop-step-init : goal.loop-step-init
 loop-step-init g c =

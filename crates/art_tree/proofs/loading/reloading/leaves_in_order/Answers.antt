@@ -4,8 +4,8 @@ use Rattle.art_nodes.specs.Leaf.{next_key}
 use Rattle.art_nodes.specs.Pointers.{slab_key}
 use Rattle.art_arena.specs.Links.{HoldsLeaf, leaf_at}
 use Rattle.art_arena.specs.Standing.{TreeAt}
-use Rattle.art_tree.proofs.LoadLemmas.PlacedTrees.{leaf-of}
 use Rattle.art_tree.proofs.LoadLemmas.ReloadedTree.{IsGathered, gathered-all, gathered-fits, gathered-held, gathered-next, gathered-start}
+use Rattle.art_tree.proofs.SharedLemmas.HeldNodes.{leaf-of}
 use Rattle.art_tree.proofs.loading.reloading.leaves_in_order.Goals as goal
 
 pub end_leaf-requires : goal.end_leaf-requires

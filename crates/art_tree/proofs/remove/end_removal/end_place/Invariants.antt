@@ -2,7 +2,7 @@ use Rattle.std.proofs.Common.{◌^◌}
 use Rattle.art_nodes.specs.declared.pointers.OpaqueNodePtr.{OpaqueNodePtr as PointerTo}
 use Rattle.art_arena.specs.Standing.{IsTreeIn}
 use Rattle.art_arena.specs.Trees.{Tree}
-use Rattle.art_tree.proofs.SharedLemmas.Heights.{height}
+use Rattle.art_arena.proofs.Heights.{height}
 use Rattle.art_tree.proofs.RemoveLemmas.EndWays.{IsEndWay}
 use Rattle.art_tree.proofs.remove.end_removal.end_place.Given as goal
 

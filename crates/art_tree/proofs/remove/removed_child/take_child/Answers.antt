@@ -1,13 +1,13 @@
 use Rattle.std.proofs.Common.{◌∙◌, length, lit<, refl, inl}
 use Rattle.art_header.specs.NodeType.{least_children}
 use Rattle.art_nodes.specs.Pointers.{node_kind}
-use Rattle.art_tree.proofs.RemoveLemmas.ShrunkNode.{less-where-differ, cut-held, few-left, not-smallest, room-left, shrunk-left}
+use Rattle.art_tree.proofs.RemoveLemmas.ShrunkNode.{less-where-differ, shrunk-held, few-left, not-smallest, room-left, shrunk-left}
 use Rattle.art_tree.proofs.SharedLemmas.RoomLemmas.{same-capacity}
 use Rattle.art_tree.proofs.remove.removed_child.take_child.Goals as goal
 
 pub shrink_node-requires : goal.shrink_node-requires
 shrink_node-requires g c =
-    (search, (search, (search, (search, (search, (lit< tt, (cut-held c.args.arena.now c.remove_child.new.self c.args.pointer c.args.byte c.requires.held c.requires.inner c.remove_child.ensures.removed, (c.requires.inner, (not-smallest c.args.arena.now c.remove_child.new.self c.args.pointer c.args.byte c.requires.held c.requires.inner c.remove_child.ensures.removed (λ node is. (c.requires.fewest node is).0 c.if-fewest.true) c.requires.many, (few-left c.args.arena.now c.remove_child.new.self c.args.pointer c.args.byte c.requires.held c.requires.inner c.remove_child.ensures.removed (λ node is. (c.requires.fewest node is).0 c.if-fewest.true) c.requires.there, room-left c.args.arena.now c.remove_child.new.self c.args.pointer c.args.byte c.requires.held c.requires.inner c.remove_child.ensures.removed (λ node is. (c.requires.fewest node is).0 c.if-fewest.true) c.requires.room c.remove_child.ensures.room c.requires.many))))))))))
+    (search, (search, (search, (search, (search, (lit< tt, (shrunk-held c.args.arena.now c.remove_child.new.self c.args.pointer c.args.byte c.requires.held c.requires.inner c.remove_child.ensures.removed, (c.requires.inner, (not-smallest c.args.arena.now c.remove_child.new.self c.args.pointer c.args.byte c.requires.held c.requires.inner c.remove_child.ensures.removed (λ node is. (c.requires.fewest node is).0 c.if-fewest.true) c.requires.many, (few-left c.args.arena.now c.remove_child.new.self c.args.pointer c.args.byte c.requires.held c.requires.inner c.remove_child.ensures.removed (λ node is. (c.requires.fewest node is).0 c.if-fewest.true) c.requires.there, room-left c.args.arena.now c.remove_child.new.self c.args.pointer c.args.byte c.requires.held c.requires.inner c.remove_child.ensures.removed (λ node is. (c.requires.fewest node is).0 c.if-fewest.true) c.requires.room c.remove_child.ensures.room c.requires.many))))))))))
 
 pub returns-then-fewest-clause-capacity : goal.returns-then-fewest-clause-capacity
 returns-then-fewest-clause-capacity g c = λ kind. c.shrink_node.ensures.capacity kind ∙ same-capacity c.args.arena.now c.remove_child.new.self c.remove_child.ensures.room kind

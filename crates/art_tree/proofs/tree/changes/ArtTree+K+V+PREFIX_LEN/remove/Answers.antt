@@ -1,4 +1,4 @@
-use Rattle.std.proofs.Common.{◌≡◌, ◌∙◌, ℕ, ◌+◌, Some, refl, ap, sym, subst, inl}
+use Rattle.std.proofs.Common.{◌≡◌, ◌∙◌, ◌+◌, Some, refl, ap, sym, subst, inl}
 use Rattle.art_header.specs.declared.node_type.NodeType.{NodeType}
 use Rattle.art_arena.specs.Arena.{held}
 use Rattle.art_tree.specs.Art.{IsArt}

@@ -1,24 +1,23 @@
-use Rattle.std.proofs.Common.{◌≡◌, ◌∙◌, ℕ, List, [], Some, IfErr, refl, ap, sym, subst, arith}
+use Rattle.std.proofs.Common.{◌∙◌, ℕ, List, [], Some, refl, ap, sym, subst}
 use Rattle.std.specs.Option.{UnwrapsOrElse, option_map}
 use Rattle.std.proofs.lemmas.Option.{same_Some}
-use Rattle.art_header.specs.declared.node_type.NodeType.{NodeType}
 use Rattle.art_nodes.specs.Leaf.{leaf_value, with_value}
 use Rattle.art_nodes.specs.Pointers.{slab_key}
 use Rattle.art_arena.specs.Links.{HoldsLeaf, Spells, leaf_at, with_value_at}
 use Rattle.art_arena.specs.Standing.{StandsIn}
 use Rattle.art_arena.specs.Trees.{Tree}
-use Rattle.art_tree.specs.Dictionary.{HasKeys, entry_at}
-use Rattle.art_tree.specs.Insertion.{IsRefused, MayEnter}
-use Rattle.art_tree.specs.Room.{GrowsOnlyWhere, LacksRoomToInsert}
+use Rattle.art_tree.specs.Dictionary.{entry_at}
+use Rattle.art_tree.specs.Insertion.{MayEnter}
+use Rattle.art_tree.specs.Room.{LacksRoomToInsert}
 use Rattle.art_tree.specs.Search.{leaf_pointer}
-use Rattle.art_tree.specs.TreeLending.{HasEntryNow, IsSameTree}
+use Rattle.art_tree.specs.TreeLending.{HasEntryNow}
 use Rattle.art_tree.proofs.SharedLemmas.EnteredValue.{entry-written, found-held, keys-found, value-found}
 use Rattle.art_tree.proofs.SharedLemmas.ExchangedTree.{art-same}
 use Rattle.art_tree.proofs.SharedLemmas.KeyLemmas.{keys-same}
 use Rattle.art_tree.proofs.SharedLemmas.LentValue.{art-kept, keys-kept, leaf-there, there, written}
 use Rattle.art_tree.proofs.SharedLemmas.RoomLemmas.{grows-on, same-capacity}
-use Rattle.art_tree.proofs.InsertLemmas.NodeLemmas.{leaf-pointer-fits, one-leaf, spot-fits}
-use Rattle.art_tree.proofs.LoadLemmas.PlacedTrees.{leaf-of}
+use Rattle.art_tree.proofs.InsertLemmas.NodeLemmas.{leaf-pointer-fits, spot-fits}
+use Rattle.art_tree.proofs.SharedLemmas.HeldNodes.{leaf-of}
 use Rattle.art_tree.proofs.tree.getting.ArtTree+K+V+PREFIX_LEN.get_or_insert_with.Goals as goal
 
 pub invariant_of-self : goal.invariant_of-self

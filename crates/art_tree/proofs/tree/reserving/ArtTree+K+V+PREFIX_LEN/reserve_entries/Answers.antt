@@ -1,9 +1,8 @@
-use Rattle.std.proofs.Common.{◌≢◌, ◌∙◌, ℕ}
-use Rattle.art_header.specs.declared.node_type.NodeType.{NodeType}
+use Rattle.std.proofs.Common.{◌∙◌, ℕ}
+use Rattle.std.proofs.lemmas.Result.{on_ok_weaker}
 use Rattle.art_header.specs.declared.node_type.NodeType.TheVariants as kinds
 use Rattle.art_arena.specs.Arena.{NodeArena}
 use Rattle.art_tree.specs.Room.{HasRoomFor, HasRoomOf}
-use Rattle.art_tree.proofs.SharedLemmas.RoomLasts.{on-ok-then}
 use Rattle.art_tree.proofs.tree.reserving.ArtTree+K+V+PREFIX_LEN.reserve_entries.Goals as goal
 
 each-kind : {K V : Type 0} {P : ℕ} (arena : NodeArena K V P) (count : ℕ) → HasRoomOf kinds.Leaf arena count → HasRoomOf kinds.Node4 arena count → HasRoomOf kinds.Node16 arena count → HasRoomOf kinds.Node48 arena count → HasRoomOf kinds.Node256 arena count → HasRoomFor arena count
@@ -21,7 +20,7 @@ returns-clause-room g c =
     let three = c.reserve_kind-3.ensures.other_room in
     let four = c.reserve_kind-4.ensures.other_room in
     let five = c.reserve_kind-5.ensures.other_room in
-    on-ok-then c.reserve_kind-5.result (HasRoomOf kinds.Node256 last count) (HasRoomFor last count) (each-kind last count
+    on_ok_weaker c.reserve_kind-5.result (each-kind last count
     (five kinds.Leaf (λ e. cc) (four kinds.Leaf (λ e. cc) (three kinds.Leaf (λ e. cc) (two kinds.Leaf (λ e. cc) c.in_ok-reserve_kind.ensures.room))))
     (five kinds.Node4 (λ e. cc) (four kinds.Node4 (λ e. cc) (three kinds.Node4 (λ e. cc) c.in_ok-reserve_kind-2.ensures.room)))
     (five kinds.Node16 (λ e. cc) (four kinds.Node16 (λ e. cc) c.in_ok-reserve_kind-3.ensures.room))

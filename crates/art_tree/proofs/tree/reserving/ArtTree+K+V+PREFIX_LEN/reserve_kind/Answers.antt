@@ -1,8 +1,9 @@
-use Rattle.std.proofs.Common.{◌≡◌, ◌≢◌, ◌∙◌, ◌+◌, ◌≤◌, min, sym, ap, subst, arith}
+use Rattle.std.proofs.Common.{◌≡◌, ◌∙◌, ◌+◌, ◌≤◌, min, ap, subst, arith}
+use Rattle.std.proofs.lemmas.Result.{on_ok_weaker}
 use Rattle.art_arena.specs.Arena.{leaf_count, room}
 use Rattle.art_tree.specs.NodeCounts.{most_nodes}
 use Rattle.art_tree.specs.Room.{HasRoomOf}
-use Rattle.art_tree.proofs.SharedLemmas.RoomLasts.{kept-room, on-ok-then, reserved-room}
+use Rattle.art_tree.proofs.SharedLemmas.RoomLasts.{kept-room, reserved-room}
 use Rattle.art_tree.proofs.tree.reserving.ArtTree+K+V+PREFIX_LEN.reserve_kind.Goals as goal
 
 pub returns-clause-room : goal.returns-clause-room
@@ -14,7 +15,7 @@ returns-clause-room g c =
     let same = c.room_lasts.ensures.same_count old new c.args.self.now.root c.root-root.ensures.one_tree c.reserve.ensures.nodes_kept in
     let long = c.entries_are_as_many_as_leaves.ensures.entries old c.args.self.now.root c.root-root.ensures.one_tree in
     let entries : c.in-Some.entries ≡ leaf_count new + count = omega (arith, same, long, c.len.ensures, c.in-Some.is) in
-    on-ok-then c.reserve.result _ (HasRoomOf kind new count)
+    on_ok_weaker {Q = HasRoomOf kind new count} c.reserve.result
     (λ reserved. reserved-room new kind count (subst (λ most. most ≤ room new kind) (c.min.ensures ∙ ap (min count) (c.most_of.ensures ∙ ap (most_nodes kind) entries)) reserved)) c.reserve.ensures.room
 
 pub returns-clause-other_room : goal.returns-clause-other_room

@@ -1,4 +1,4 @@
--- How high the trees in an arena are: what loops that go down count down.
+-- How high the trees in an arena are, which loops that go down count down. For the proofs of crates above too.
 use Rattle.std.proofs.Common.{◌≡◌, ◌∙◌, ℕ, zero, suc, ◌+◌, ◌<◌, ◌≤◌, ◌^◌, max, List, [], ◌∷◌, ◌++◌, length, length-append, map, refl, ap, arith}
 use Rattle.std.specs.Option.{option_map_or}
 use Rattle.art_nodes.specs.Inner as nodes

@@ -1,4 +1,4 @@
-use Rattle.std.proofs.Common.{◌≢◌, ◌∙◌, filter, sym, ap, subst}
+use Rattle.std.proofs.Common.{◌≢◌, ◌∙◌, sym, ap, subst}
 use Rattle.std.specs.Option.{option_map}
 use Rattle.art_nodes.specs.Pointers.{slab_key}
 use Rattle.art_arena.specs.Arena.{Nothing, held}
@@ -6,18 +6,19 @@ use Rattle.art_arena.specs.Links.{leaf_at}
 use Rattle.art_arena.specs.Trees.{leaves}
 use Rattle.art_tree.specs.Art.{IsArt}
 use Rattle.art_tree.specs.Search.{leaf_pointer}
-use Rattle.art_tree.specs.Sides.{is_before}
-use Rattle.art_map.specs.Nearest.{IsLastBefore}
+use Rattle.art_map.specs.Nearest.{IsNearest, entry_nearest}
 use Rattle.art_map.specs.Runs.{leaf_entry}
 use Rattle.art_map.proofs.LinkLemmas.{leaf-pointer-fits}
-use Rattle.art_map.proofs.RangeLemmas.{entry-of-parts, holds-one, last-before-it, last_one, none-before-it, something-held}
-use Rattle.art_map.proofs.nearest.last_entry_before.Goals as goal
+use Rattle.art_map.proofs.RangeLemmas.{entry-of-parts, nearest-held, nearest-is, nearest-none, none-nearest, something-held}
+use Rattle.art_map.proofs.nearest.nearest_entry.Goals as goal
 
 pub returns-in_err-_root : goal.returns-in_err-_root
 returns-in_err-_root g c =
+    let text = g.K.AsBytes.text in
     let arena = c.args.tree.now.arena in
-    let art = subst (IsArt g.K.AsBytes.text arena) (sym c.root.ensures.root ∙ c.in_err-_root.was) c.root.ensures.one_tree in
-    ap (option_map _) c.from_residual.ensures ∙ sym (ap (λ all. last_one (filter (λ entry. is_before c.args.side c.args.key.now (g.K.AsBytes.text entry.0)) all)) (c.leaves_hold_the_entries.ensures.none arena art))
+    let art = subst (IsArt text arena) (sym c.root.ensures.root ∙ c.in_err-_root.was) c.root.ensures.one_tree in
+    ap (option_map _) c.from_residual.ensures
+    ∙ sym (ap (entry_nearest text c.args.side c.args.key.now c.args.end) (c.leaves_hold_the_entries.ensures.none arena art) ∙ nearest-none text c.args.side c.args.key.now c.args.end)
 
 pub returns-in_err-leaf : goal.returns-in_err-leaf
 returns-in_err-leaf g c =
@@ -27,9 +28,9 @@ returns-in_err-leaf g c =
     let rooted = sym c.root.ensures.root ∙ c.in_ok-_root.was in
     let (tree, alone) = subst (IsArt text arena) rooted c.root.ensures.one_tree in
     let law = c.leaves_hold_the_entries.ensures in
-    let there = subst (λ o. IsLastBefore c.args.side c.args.key.now (leaves tree) (option_map leaf_pointer o)) c.in_err-leaf.was (c.last_before.ensures root tree rooted alone) in
+    let there = subst (λ o. IsNearest c.args.side c.args.key.now c.args.end (leaves tree) (option_map leaf_pointer o)) c.in_err-leaf.was (c.nearest_leaf.ensures root tree rooted alone) in
     ap (option_map _) c.from_residual-in_err-leaf.ensures
-    ∙ sym (none-before-it text arena tree (law.leaves arena root tree alone) (law.entries arena root tree alone) c.args.side c.args.key.now there)
+    ∙ sym (none-nearest text arena tree (law.leaves arena root tree alone) (law.entries arena root tree alone) c.args.side c.args.key.now c.args.end there)
 
 pub as_key_value_ref-requires : goal.as_key_value_ref-requires
 as_key_value_ref-requires g c =
@@ -38,9 +39,10 @@ as_key_value_ref-requires g c =
     let root = c.in_ok-_root._root in
     let rooted = sym c.root.ensures.root ∙ c.in_ok-_root.was in
     let (tree, alone) = subst (IsArt text arena) rooted c.root.ensures.one_tree in
+    let law = c.leaves_hold_the_entries.ensures in
     let leaf = c.in_ok-leaf.leaf in
-    let there = subst (λ o. IsLastBefore c.args.side c.args.key.now (leaves tree) (option_map leaf_pointer o)) c.in_ok-leaf.was (c.last_before.ensures root tree rooted alone) in
-    let holds = holds-one text arena (leaves tree) there.1 there.2 (leaf_pointer leaf, there.0) there.3 (c.leaves_hold_the_entries.ensures.leaves arena root tree alone) in
+    let there = subst (λ o. IsNearest c.args.side c.args.key.now c.args.end (leaves tree) (option_map leaf_pointer o)) c.in_ok-leaf.was (c.nearest_leaf.ensures root tree rooted alone) in
+    let holds = (nearest-held text arena tree (law.leaves arena root tree alone) (law.entries arena root tree alone) c.args.side c.args.key.now c.args.end (leaf_pointer leaf) there).1 in
     let is_held : held c.arena.result.now (leaf_pointer leaf) ≢ Nothing = something-held (held c.arena.result.now (leaf_pointer leaf)) holds.leaf (ap (λ a. held a (leaf_pointer leaf)) c.arena.ensures.arena ∙ holds.there) in
     assumption leaf-pointer-fits
 
@@ -53,7 +55,7 @@ returns g c =
     let (tree, alone) = subst (IsArt text arena) rooted c.root.ensures.one_tree in
     let law = c.leaves_hold_the_entries.ensures in
     let leaf = c.in_ok-leaf.leaf in
-    let there = subst (λ o. IsLastBefore c.args.side c.args.key.now (leaves tree) (option_map leaf_pointer o)) c.in_ok-leaf.was (c.last_before.ensures root tree rooted alone) in
+    let there = subst (λ o. IsNearest c.args.side c.args.key.now c.args.end (leaves tree) (option_map leaf_pointer o)) c.in_ok-leaf.was (c.nearest_leaf.ensures root tree rooted alone) in
     entry-of-parts _ _ _ c.as_key_value_ref.ensures.key c.as_key_value_ref.ensures.value
     ∙ ap (λ a. option_map leaf_entry (leaf_at a (slab_key leaf))) c.arena.ensures.arena
-    ∙ sym (last-before-it text arena tree (law.leaves arena root tree alone) (law.entries arena root tree alone) c.args.side c.args.key.now leaf there)
+    ∙ sym (nearest-is text arena tree (law.leaves arena root tree alone) (law.entries arena root tree alone) c.args.side c.args.key.now c.args.end leaf there)
