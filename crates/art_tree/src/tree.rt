@@ -15,6 +15,7 @@ mod ends;
 mod getting;
 mod lending;
 mod reading;
+mod removing_leaves;
 mod reserving;
 
 use crate::laws::{no_text_begins_another, texts_ascend};
