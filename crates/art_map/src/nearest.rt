@@ -59,7 +59,7 @@ pub(crate) fn leaf_before<K: AsBytes, V, const PREFIX_LEN: usize>(
 
 /// The first leaf of a tree after this side of the key, or None where all are before it. Takes no
 /// memory.
-fn first_after<K: AsBytes, V, const PREFIX_LEN: usize>(
+pub(crate) fn first_after<K: AsBytes, V, const PREFIX_LEN: usize>(
     tree: &ArtTree<K, V, PREFIX_LEN>,
     side: Side,
     key: &[u8],
