@@ -22,7 +22,7 @@ use Rattle.art_map.proofs.CallLaws.{image_inside, order_itself}
 use Rattle.art_map.proofs.RangeLemmas.{last_one}
 
 -- what starts with a text has it as a prefix
-begun : (x a : List ℕ) → starts_with nat_eq x a ≡ true → IsPrefixOf a x
+pub begun : (x a : List ℕ) → starts_with nat_eq x a ≡ true → IsPrefixOf a x
 begun x a is = (drop (length a) x, (starts_is Decides-eqb x a (starts_with nat_eq x a) refl).0 is)
 
 -- a prefix is not above the whole
@@ -40,7 +40,7 @@ prefix-low (y ∷ a) rest = ap (λ o. is_le (ordering_then o (text_order a (a ++
         one Greater is = absurd (cc)
 
 -- a text above a prefix of another, that does not begin with it, is above that other text
-above-longer : (a b rest : List ℕ) → text_order a b ≡ Less → (IsPrefixOf a b → ⊥) → text_order b (a ++ rest) ≡ Greater
+pub above-longer : (a b rest : List ℕ) → text_order a b ≡ Less → (IsPrefixOf a b → ⊥) → text_order b (a ++ rest) ≡ Greater
 above-longer [] b rest less unbegun = absurd (unbegun (b, refl))
 above-longer (y ∷ a) [] rest less unbegun = absurd (cc)
 above-longer (y ∷ a) (z ∷ b) rest less unbegun = by_byte (nat_cmp y z) refl (above-longer a b rest)

@@ -1,5 +1,6 @@
 pub mod CallLaws
 mod CalledLemmas
+mod CursorLemmas
 mod EndLemmas
 mod EnteredLemmas
 mod EntryLemmas
@@ -12,6 +13,8 @@ mod MergeLemmas
 mod OwnedKeyLemmas
 mod RangeLemmas
 mod RefusalLemmas
+mod RetainLemmas
+mod RetainedKeys
 mod RunLemmas
 mod SetLemmas
 mod SetOrders

@@ -90,14 +90,14 @@ distinct-left (x ∷ xs) ys distinct = (all-left (λ y. y ≢ x) xs ys distinct.
 not-both : (b : Bool) → b ≡ true → b ≡ false → ⊥
 not-both b is_true is_false = let wrong : true ≡ false = sym is_true ∙ is_false in absurd (cc)
 
-between-no : (a b : Bool) → a ≡ true → (b && not a) ≡ false
+pub between-no : (a b : Bool) → a ≡ true → (b && not a) ≡ false
 between-no a true before = ap not before
 between-no a false before = refl
 
-between-past : (a b : Bool) → b ≡ false → (b && not a) ≡ false
+pub between-past : (a b : Bool) → b ≡ false → (b && not a) ≡ false
 between-past a b past = ap (λ b. b && not a) past
 
-between-yes : (a b : Bool) → a ≡ false → b ≡ true → (b && not a) ≡ true
+pub between-yes : (a b : Bool) → a ≡ false → b ≡ true → (b && not a) ≡ true
 between-yes a b after before = ap (λ b. b && not a) before ∙ ap not after
 
 module _ {K V : Type 0} {P : ℕ} (text : K → List ℕ) (arena : NodeArena K V P) where
@@ -105,11 +105,11 @@ module _ {K V : Type 0} {P : ℕ} (text : K → List ℕ) (arena : NodeArena K V
   spells-drop before [] ys spelled = (before, spelled)
   spells-drop before (x ∷ xs) ys spelled = spells-drop (Some x) xs ys spelled.1
 
-  hold-left : (a b : List (OpaqueNodePtr K V P × List ℕ)) → AllHold text arena (a ++ b) → AllHold text arena a
+  pub hold-left : (a b : List (OpaqueNodePtr K V P × List ℕ)) → AllHold text arena (a ++ b) → AllHold text arena a
   hold-left [] b hold = tt
   hold-left (x ∷ a) b hold = (hold.0, hold-left a b hold.1)
 
-  hold-right : (a b : List (OpaqueNodePtr K V P × List ℕ)) → AllHold text arena (a ++ b) → AllHold text arena b
+  pub hold-right : (a b : List (OpaqueNodePtr K V P × List ℕ)) → AllHold text arena (a ++ b) → AllHold text arena b
   hold-right [] b hold = hold
   hold-right (x ∷ a) b hold = hold-right a b hold.1
 
@@ -121,7 +121,7 @@ module _ {K V : Type 0} {P : ℕ} (text : K → List ℕ) (arena : NodeArena K V
   abbrev pub held_by : List (OpaqueNodePtr K V P × List ℕ) → List (K × V)
   held_by pairs = entries_under arena (keys_of pairs)
 
-  held-append : (a b : List (OpaqueNodePtr K V P × List ℕ)) → held_by (a ++ b) ≡ held_by a ++ held_by b
+  pub held-append : (a b : List (OpaqueNodePtr K V P × List ℕ)) → held_by (a ++ b) ≡ held_by a ++ held_by b
   held-append a b = ap (entries_under arena) (keys-append a b) ∙ filter_map-append (λ key. option_map leaf_entry (leaf_at arena key)) (keys_of a) (keys_of b)
 
   module _ (test : List ℕ → Bool) where

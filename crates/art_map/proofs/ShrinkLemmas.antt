@@ -22,7 +22,7 @@ module _ {H L : Type 0} where
   one-leaf : (a b : L) (h : Held H L) → h ≡ HeldLeaf a → h ≡ HeldLeaf b → a ≡ b
   one-leaf a b h first second = let same : HeldLeaf a ≡ HeldLeaf b = sym first ∙ second in cc
 
-  not-both : (node : nodes.Inner H) (leaf : L) (h : Held H L) → h ≡ HeldInner node → h ≡ HeldLeaf leaf → ⊥
+  pub not-both : (node : nodes.Inner H) (leaf : L) (h : Held H L) → h ≡ HeldInner node → h ≡ HeldLeaf leaf → ⊥
   not-both node leaf h first second = let wrong : HeldInner node ≡ HeldLeaf leaf = sym first ∙ second in absurd (cc)
 
   some-inner : (node : nodes.Inner H) (h : Held H L) → h ≡ HeldInner node → h ≢ Nothing

@@ -1,5 +1,6 @@
 pub mod Calls
 pub mod Changes
+pub mod Cursors
 pub mod EnteredValues
 pub mod Entries
 pub mod LeafEntries
@@ -7,6 +8,7 @@ pub mod MapLending
 pub mod Merges
 pub mod Nearest
 pub mod Ranges
+pub mod Retaining
 pub mod Runs
 pub mod Sets
 pub mod Shrinking

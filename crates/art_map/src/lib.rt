@@ -6,17 +6,20 @@
 //! uses maps lists this one alone.
 #![tactic(auto)]
 
+mod cursor;
 mod debug;
 mod each_value;
 mod guide;
 mod into_iter;
 mod into_values;
 mod iter;
+mod keeps;
 mod keys;
 mod leaf_entries;
 mod map;
 mod nearest;
 mod range;
+mod retaining;
 mod set;
 
 pub use art_tree::{

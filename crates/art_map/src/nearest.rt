@@ -57,8 +57,8 @@ pub(crate) fn leaf_before<K: AsBytes, V, const PREFIX_LEN: usize>(
     }
 }
 
-// The first leaf of a tree after this side of the key, or the last before it.
-fn nearest_leaf<K: AsBytes, V, const PREFIX_LEN: usize>(
+/// The first leaf of a tree after this side of the key, or the last before it. Takes no memory.
+pub(crate) fn nearest_leaf<K: AsBytes, V, const PREFIX_LEN: usize>(
     tree: &ArtTree<K, V, PREFIX_LEN>,
     side: Side,
     key: &[u8],

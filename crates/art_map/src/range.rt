@@ -11,8 +11,8 @@ use art_bytes::AsBytes;
 use art_nodes::{LeafNode, NodePtr};
 use art_tree::{ArtTree, Side, leaves_beside};
 
-// Whether a text comes before this side of the key.
-fn is_before(side: Side, key: &[u8], text: &[u8]) -> bool
+/// Whether a text comes before this side of the key.
+pub(crate) fn is_before(side: Side, key: &[u8], text: &[u8]) -> bool
     ensures { result ≡ is_before side key.now text.now }
 {
     let order = text.cmp(key);

@@ -15,6 +15,7 @@ mod comparing_sets;
 mod keys_by_text;
 mod merging;
 mod neighbouring_keys;
+mod retaining_keys;
 
 use crate::into_iter::{IntoKeys, keys_taken};
 use crate::keys::{Keys, keys_of};

@@ -9,3 +9,4 @@ pub mod RemovalLemmas
 pub mod NeededNodes
 pub mod EndPlaces
 pub mod EndWays
+pub mod HeldLeaves

@@ -5,6 +5,7 @@ pub mod Dictionary
 pub mod Paths
 pub mod Search
 pub mod Ends
+pub mod LeafRemoval
 pub mod Leaves
 pub mod Loading
 pub mod NodeCounts

@@ -20,6 +20,7 @@ ghost use Rattle.art_tree.specs.Search.{leaf_pointer};
 ghost use Rattle.art_tree.specs.declared.path.TreePath.TheVariants.{Root};
 
 pub(crate) mod end_removal;
+pub(crate) mod leaf_removal;
 mod removed_child;
 
 use crate::find::find_leaf;

@@ -15,6 +15,7 @@ mod ends;
 mod getting;
 mod lending;
 mod reading;
+mod removing_leaves;
 mod reserving;
 
 use crate::laws::{no_text_begins_another, texts_ascend};
@@ -63,8 +64,9 @@ impl<A: HoldsOneTree<R>, R> Model for Rooted<A, R> {
     ghost invariant = { λ a. A.holds_one_tree a.arena a.root };
 }
 
-/// A tree with its arena: a dictionary with at most one entry for each key. No call has a condition
-/// but [`as_key_ref_value_mut`](Rooted::as_key_ref_value_mut): the arena holds the leaf.
+/// A tree with its arena: a dictionary with at most one entry for each key. No call has a condition but
+/// [`as_key_ref_value_mut`](Rooted::as_key_ref_value_mut) and [`remove_leaf`](Rooted::remove_leaf): the
+/// arena holds the leaf.
 ///
 /// A contract sees the arena and the root. The dictionary is what the arena's leaves hold
 /// (`entry_at`). The arena holds one tree and nothing else: well-formed, with the smallest kinds

@@ -1,0 +1,323 @@
+-- A test of the entries between two sides of keys, in turn: what was kept, and what is left to test.
+use Rattle.std.proofs.Common.{◌≡◌, ◌≢◌, ◌∙◌, ◌⊎◌, ℕ, ◌<◌, ◌≤◌, Bool, true, false, not, cond, ◌&&◌, ◌||◌, List, [], ◌∷◌, ◌++◌, length, filter, drop, All, Contains, Option, Some, None, Result, Ok, Err, OnErr, append_assoc, append-nil, get_or, refl, sym, ap, subst, inl, inr, arith, nat_eq}
+use Rattle.std.specs.Cmp.Lexicographic.{nat_list_cmp_total}
+use Rattle.std.specs.List.{FoldsTo, starts_with}
+use Rattle.std.specs.Map.Calls.{CallableOnEachPair, RetainsPairs, SomeCallAtPair}
+use Rattle.std.specs.Option.{option_map_or}
+use Rattle.std.specs.Ordering.{is_ge, is_lt, is_le, ordering_reverse}
+use Rattle.std.specs.declared.cmp.Ordering.{Ordering}
+use Rattle.std.specs.declared.cmp.Ordering.TheVariants.{Less, Equal, Greater}
+use Rattle.std.proofs.lemmas.Bool.Decides.{Decides-eqb}
+use Rattle.std.proofs.lemmas.List.Elements.{All-nil, All-cons, All-head, All-tail, All-append, All-weaker, Contains-append_right, Contains-get_or, filter-append}
+use Rattle.std.proofs.lemmas.Slice.Eq.{starts_is}
+use Rattle.art_bytes.specs.Text.{IsPrefixOf, text_order}
+use Rattle.art_nodes.specs.Leaf.{leaf_key}
+use Rattle.art_nodes.specs.declared.leaf_node.LeafNode.{LeafNode}
+use Rattle.art_arena.specs.Arena.{NodeArena}
+use Rattle.art_arena.specs.Links.{leaf_at}
+use Rattle.art_tree.specs.Entries.{entries_of}
+use Rattle.art_tree.specs.Refusals.{texts_of}
+use Rattle.art_tree.specs.Sides.{comes_before, is_before}
+use Rattle.art_tree.specs.declared.place.Side.{Side}
+use Rattle.art_tree.specs.declared.place.Side.TheVariants.{Before, After, AfterBegun}
+use Rattle.art_map.specs.Cursors.{HoldsFirst, IsCut}
+use Rattle.art_map.specs.Nearest.{is_between}
+use Rattle.art_map.specs.Ranges.{entries_from}
+use Rattle.art_map.specs.Retaining.{StopsRetaining}
+use Rattle.art_map.specs.Runs.{leaf_entry}
+use Rattle.art_map.proofs.CallLaws.{Ascend, ascend_rest, image_inside, none_below, order_itself, same_order}
+use Rattle.art_map.proofs.CursorLemmas.{all-above, behind-ascend}
+use Rattle.art_map.proofs.FrontLemmas.{above-longer, begun, none-kept}
+use Rattle.art_map.proofs.RangeLemmas.{between-no, between-past, between-yes}
+
+-- what is so anyway is so where a call failed
+pub on-err-so : {A E : Type 0} (r : Result A E) (Q : Type 0) → Q → OnErr r Q
+on-err-so (Ok x) Q so = tt
+on-err-so (Err e) Q so = so
+
+-- what is above a text that is past a side of a key is past it too
+less-not : (o : Ordering) → o ≢ Less → is_lt o ≡ false
+less-not Less not_less = absurd (not_less refl)
+less-not Equal not_less = refl
+less-not Greater not_less = refl
+
+order-of : (x y : List ℕ) (Goal : Type 0) → (text_order x y ≡ Less → Goal) → (text_order x y ≡ Equal → Goal) → (text_order x y ≡ Greater → Goal) → Goal
+order-of x y Goal less equal greater = by_order (text_order x y) refl
+  where
+    by_order : (o : Ordering) → text_order x y ≡ o → Goal
+    by_order Less is = less is
+    by_order Equal is = equal is
+    by_order Greater is = greater is
+
+not-less : (o : Ordering) → is_lt o ≡ false → o ≢ Less
+not-less Less is same = absurd (cc)
+not-less Equal is same = absurd (cc)
+not-less Greater is same = absurd (cc)
+
+only-greater : (o : Ordering) → is_le o ≡ false → o ≡ Greater
+only-greater Less is = absurd (cc)
+only-greater Equal is = absurd (cc)
+only-greater Greater is = refl
+
+pub not-true : (b : Bool) → not b ≡ true → b ≡ false
+not-true true is = absurd (cc)
+not-true false is = refl
+
+pub not-false : (b : Bool) → not b ≡ false → b ≡ true
+not-false true is = refl
+not-false false is = absurd (cc)
+
+neither : (a b : Bool) → (a || b) ≡ false → (a ≡ false) × (b ≡ false)
+neither true b is = absurd (cc)
+neither false b is = (refl, is)
+
+module _ (key a b : List ℕ) (below : text_order a b ≡ Less) where
+  -- what is below a text that is not above the key is below the key
+  under : text_order b key ≢ Greater → text_order a key ≡ Less
+  under low = order-of b key (text_order a key ≡ Less) (λ less. nat_list_cmp_total.trans a b key below less) (λ equal. subst (λ x. text_order a x ≡ Less) (same_order b key equal) below) (λ greater. absurd (low greater))
+
+  -- and begins with the key, or is below it, where the text begins with it
+  begun-by : starts_with nat_eq b key ≡ true → text_order a key ≢ Less → starts_with nat_eq a key ≡ false → ⊥
+  begun-by b_begun high is =
+      let (rest, whole) = begun b key b_begun in
+      let apart : IsPrefixOf key a → ⊥ = λ prefix. let wrong : true ≡ false = sym ((starts_is Decides-eqb a key (starts_with nat_eq a key) refl).1 prefix.0 prefix.1) ∙ is in absurd (cc) in
+      order-of a key ⊥ high (λ equal. apart ([], same_order a key equal ∙ sym (append-nil key)))
+      (λ greater.
+      let above = above-longer key a rest (nat_list_cmp_total.antisymm key a ∙ ap ordering_reverse greater) apart in
+      let wrong : Less ≡ Greater = sym (subst (λ x. text_order a x ≡ Less) whole below) ∙ above in absurd (cc))
+
+  past : (side : Side) → is_before side key a ≡ false → is_before side key b ≡ false
+  past Before is = less-not (text_order b key) (λ less. not-less (text_order a key) is (nat_list_cmp_total.trans a b key below less))
+  past After is =
+      let greater = only-greater (text_order a key) is in
+      let never : text_order b key ≢ Greater → ⊥ = λ low. let wrong : Less ≡ Greater = sym (under low) ∙ greater in absurd (cc) in
+      order-of b key (is_le (text_order b key) ≡ false) (λ less. absurd (never (λ g. let wrong : Less ≡ Greater = sym less ∙ g in absurd (cc)))) (λ equal. absurd (never (λ g. let wrong : Equal ≡ Greater = sym equal ∙ g in absurd (cc)))) (λ g. ap is_le g)
+  past AfterBegun is =
+      let (high, not_begun) = neither (is_lt (text_order a key)) (starts_with nat_eq a key) is in
+      let above = not-less (text_order a key) high in
+      let b_high = less-not (text_order b key) (λ less. above (nat_list_cmp_total.trans a b key below less)) in
+      by_begun above not_begun b_high (starts_with nat_eq b key) refl
+    where
+      by_begun : text_order a key ≢ Less → starts_with nat_eq a key ≡ false → is_lt (text_order b key) ≡ false → (t : Bool) → starts_with nat_eq b key ≡ t → (is_lt (text_order b key) || t) ≡ false
+      by_begun above not_begun b_high true begins = absurd (begun-by begins above not_begun)
+      by_begun above not_begun b_high false begins = ap (λ t. t || false) b_high
+
+keep-those : {X : Type 0} (p : X → Bool) (xs : List X) → All (λ x. p x ≡ true) xs → filter p xs ≡ xs
+keep-those p [] all = refl
+keep-those p (x ∷ xs) all = ap (λ t. cond t (x ∷ filter p xs) (filter p xs)) (All-head (λ x. p x ≡ true) x xs all) ∙ ap (λ ys. x ∷ ys) (keep-those p xs (All-tail (λ x. p x ≡ true) x xs all))
+
+-- one more in front, that passes a test or does not
+one-kept : {X : Type 0} (p : X → Bool) (x : X) (xs : List X) (t : Bool) → p x ≡ t → filter p (x ∷ xs) ≡ cond t (x ∷ filter p xs) (filter p xs)
+one-kept p x xs t is = ap (λ t. cond t (x ∷ filter p xs) (filter p xs)) is
+
+module _ {K V : Type 0} (text : K → List ℕ) where
+  all-past : (side : Side) (key : List ℕ) (e : K × V) (after : List (K × V)) → Ascend (texts_of text (e ∷ after)) → is_before side key (text e.0) ≡ false → All (λ x. is_before side key (text x.0) ≡ false) (e ∷ after)
+  all-past side key e after ascend is =
+      All-cons (λ x. is_before side key (text x.0) ≡ false) e after is
+      (All-weaker (λ x. text_order (text e.0) (text x.0) ≡ Less) (λ x. is_before side key (text x.0) ≡ false) (λ x below. past key (text e.0) (text x.0) below side is) after (all-above text e after ascend))
+
+  -- the entries from the text of one of them on
+  from-here : (before : List (K × V)) (e : K × V) (after : List (K × V)) → Ascend (texts_of text (before ++ e ∷ after)) → entries_from text (text e.0) (before ++ e ∷ after) ≡ e ∷ after
+  from-here [] e after ascend =
+      one-kept (λ x. is_ge (text_order (text x.0) (text e.0))) e after true (ap is_ge (order_itself (text e.0)))
+      ∙ ap (λ es. e ∷ es) (keep-those (λ x. is_ge (text_order (text x.0) (text e.0))) after
+      (All-weaker (λ x. text_order (text e.0) (text x.0) ≡ Less) (λ x. is_ge (text_order (text x.0) (text e.0)) ≡ true) (λ x below. ap is_ge (nat_list_cmp_total.antisymm (text x.0) (text e.0) ∙ ap ordering_reverse below)) after (all-above text e after ascend)))
+  from-here (x ∷ before) e after ascend =
+      let below = none_below (text x.0) (text e.0) (texts_of text (before ++ e ∷ after)) ascend (image_inside (λ y. text y.0) (before ++ e ∷ after) e (text e.0) refl (Contains-append_right before (e ∷ after) e (0, omega arith, refl))) in
+      one-kept (λ y. is_ge (text_order (text y.0) (text e.0))) x (before ++ e ∷ after) false (ap is_ge below) ∙ from-here before e after (ascend_rest (text x.0) (texts_of text (before ++ e ∷ after)) ascend)
+
+  module _ {P : ℕ} (arena : NodeArena K V P) where
+    -- how many entries there are from the leaf under this slab key on
+    abbrev pub left-at : Option ℕ → ℕ
+    left-at None = 0
+    left-at (Some key) = option_map_or (λ leaf. length (entries_from text (text (leaf_key leaf)) (entries_of text arena))) (leaf_at arena key) 0
+
+    pub left-is : Ascend (texts_of text (entries_of text arena)) → (before : List (K × V)) (at : Option ℕ) (after : List (K × V)) → IsCut text arena before at after → left-at at ≡ length after
+    left-is ascend before None after (is, none) = sym (ap length none)
+    left-is ascend before (Some key) after (is, (leaf, rest, there, first)) =
+        let whole = is ∙ ap (λ es. before ++ es) first in
+        ap (λ o. option_map_or (λ leaf. length (entries_from text (text (leaf_key leaf)) (entries_of text arena))) o 0) there
+        ∙ ap (λ es. length (entries_from text (text (leaf_key leaf)) es)) whole
+        ∙ ap length (from-here before (leaf_entry leaf) rest (subst (λ es. Ascend (texts_of text es)) whole ascend)) ∙ sym (ap length first)
+
+module _ {K V : Type 0} (text : K → List ℕ) (start_side : Side) (start : List ℕ) (end_side : Side) (end : List ℕ) where
+  abbrev pub passes : K × V → Bool
+  passes entry = is_between start_side start end_side end (text entry.0)
+
+  abbrev pub within : List (K × V) → List (K × V)
+  within entries = filter passes entries
+
+  abbrev pub outside : List (K × V) → List (K × V)
+  outside entries = filter (λ entry. not (passes entry)) entries
+
+  all-out : (entries : List (K × V)) → All (λ entry. passes entry ≡ false) entries → outside entries ≡ entries
+  all-out entries out = keep-those (λ entry. not (passes entry)) entries (All-weaker (λ entry. passes entry ≡ false) (λ entry. not (passes entry) ≡ true) (λ entry is. ap not is) entries out)
+
+  none-out : (entries : List (K × V)) → All (λ entry. passes entry ≡ true) entries → outside entries ≡ []
+  none-out entries in_it = none-kept (λ entry. not (passes entry)) entries (All-weaker (λ entry. passes entry ≡ true) (λ entry. not (passes entry) ≡ false) (λ entry is. ap not is) entries in_it)
+
+module _ {F K V : Type 0} {P : ℕ} (text : K → List ℕ) (T : F → K → V → Bool → V → F → Type 0) (Q : F → K → V → Type 0) (start_side : Side) (start : List ℕ) (end_side : Side) (end : List ℕ) (origin : F) (old : List (K × V)) where
+  -- the entries up to this leaf were tested, those between the sides; once the test is made of the others, in turn, it was
+  -- made of all
+  pub record IsRetaining (now : NodeArena K V P) (at : Option ℕ) (f : F) : Type 0 where
+    pub before : List (K × V)
+    pub kept : List (K × V)
+    pub todo : List (K × V)
+    pub cut : IsCut text now (before ++ kept) at todo
+    pub low : All (λ entry. (passes text start_side start end_side end) entry ≡ false) before
+    pub kept_within : All (λ entry. (passes text start_side start end_side end) entry ≡ true) kept
+    pub high : All (λ entry. is_before start_side start (text entry.0) ≡ false) todo
+    pub callable : CallableOnEachPair T Q f ((within text start_side start end_side end) todo)
+    pub others : (outside text start_side start end_side end) old ≡ before ++ (outside text start_side start end_side end) todo
+    pub whole : (rest : List (K × V)) → RetainsPairs T f ((within text start_side start end_side end) todo) rest → RetainsPairs T origin ((within text start_side start end_side end) old) (kept ++ rest)
+    pub stopped : (rest : List (K × V)) → StopsRetaining T f ((within text start_side start end_side end) todo) rest → StopsRetaining T origin ((within text start_side start end_side end) old) (kept ++ rest)
+
+  -- before the first test
+  pub retaining-start : (now : NodeArena K V P) (at : Option ℕ) (before after : List (K × V)) → IsCut text now before at after → All (λ entry. is_before start_side start (text entry.0) ≡ true) before → All (λ entry. is_before start_side start (text entry.0) ≡ false) after
+      → entries_of text now ≡ old → CallableOnEachPair T Q origin ((within text start_side start end_side end) old) → IsRetaining now at origin
+  retaining-start now at before after (is, first) low high same callable =
+      let out : All (λ entry. (passes text start_side start end_side end) entry ≡ false) before = All-weaker (λ entry. is_before start_side start (text entry.0) ≡ true) (λ entry. (passes text start_side start end_side end) entry ≡ false) (λ entry early. between-no (is_before start_side start (text entry.0)) (is_before end_side end (text entry.0)) early) before low in
+      let whole : old ≡ before ++ after = sym same ∙ is in
+      let tested : (within text start_side start end_side end) old ≡ (within text start_side start end_side end) after = ap (within text start_side start end_side end) whole ∙ filter-append (passes text start_side start end_side end) before after ∙ ap (λ es. es ++ (within text start_side start end_side end) after) (none-kept (passes text start_side start end_side end) before out) in
+      record {
+        before = before;
+        kept = [];
+        todo = after;
+        cut = (is ∙ ap (λ es. es ++ after) (sym (append-nil before)), first);
+        low = out;
+        kept_within = All-nil (λ entry. (passes text start_side start end_side end) entry ≡ true);
+        high = high;
+        callable = subst (CallableOnEachPair T Q origin) tested callable;
+        others = ap (outside text start_side start end_side end) whole ∙ filter-append (λ entry. not ((passes text start_side start end_side end) entry)) before after ∙ ap (λ es. es ++ (outside text start_side start end_side end) after) (all-out text start_side start end_side end before out);
+        whole = λ rest turn. subst (λ es. RetainsPairs T origin es rest) (sym tested) turn;
+        stopped = λ rest turn. subst (λ es. StopsRetaining T origin es rest) (sym tested) turn;
+      }
+
+  module _ (now : NodeArena K V P) (at : Option ℕ) (f : F) (is : IsRetaining now at f) where
+    -- the entries now, in three parts, of which the last is these
+    module _ (left : List (K × V)) (seen : List (K × V)) (seen_is : seen ≡ (is.before ++ is.kept) ++ left) where
+      within-seen : (within text start_side start end_side end) seen ≡ is.kept ++ (within text start_side start end_side end) left
+      within-seen =
+          ap (within text start_side start end_side end) (seen_is ∙ append_assoc is.before is.kept left) ∙ filter-append (passes text start_side start end_side end) is.before (is.kept ++ left)
+          ∙ ap (λ es. es ++ (within text start_side start end_side end) (is.kept ++ left)) (none-kept (passes text start_side start end_side end) is.before is.low)
+          ∙ filter-append (passes text start_side start end_side end) is.kept left ∙ ap (λ es. es ++ (within text start_side start end_side end) left) (keep-those (passes text start_side start end_side end) is.kept is.kept_within)
+
+      outside-seen : (outside text start_side start end_side end) seen ≡ is.before ++ (outside text start_side start end_side end) left
+      outside-seen =
+          ap (outside text start_side start end_side end) (seen_is ∙ append_assoc is.before is.kept left) ∙ filter-append (λ entry. not ((passes text start_side start end_side end) entry)) is.before (is.kept ++ left)
+          ∙ ap (λ es. es ++ (outside text start_side start end_side end) (is.kept ++ left)) (all-out text start_side start end_side end is.before is.low)
+          ∙ ap (λ es. is.before ++ es) (filter-append (λ entry. not ((passes text start_side start end_side end) entry)) is.kept left ∙ ap (λ es. es ++ (outside text start_side start end_side end) left) (none-out text start_side start end_side end is.kept is.kept_within))
+
+    -- after the last test
+    pub retaining-end : (within text start_side start end_side end) is.todo ≡ [] → RetainsPairs T origin ((within text start_side start end_side end) old) ((within text start_side start end_side end) (entries_of text now))
+    retaining-end none =
+        let turn = is.whole [] (subst (λ es. RetainsPairs T f es []) (sym none) refl) in
+        subst (RetainsPairs T origin ((within text start_side start end_side end) old)) (ap (λ es. is.kept ++ es) (sym none) ∙ sym (within-seen is.todo (entries_of text now) is.cut.0)) turn
+
+    pub outside-now : (outside text start_side start end_side end) (entries_of text now) ≡ (outside text start_side start end_side end) old
+    outside-now = outside-seen is.todo (entries_of text now) is.cut.0 ∙ sym is.others
+
+  -- there is no leaf left
+  pub none-left : (now : NodeArena K V P) (f : F) (is : IsRetaining now None f) → (within text start_side start end_side end) is.todo ≡ []
+  none-left now f is = ap (within text start_side start end_side end) is.cut.1
+
+  module _ (now : NodeArena K V P) (key : ℕ) (f : F) (is : IsRetaining now (Some key) f) where
+    abbrev pub leaf-now : LeafNode K V P
+    leaf-now = is.cut.1.0
+
+    abbrev pub entry-now : K × V
+    entry-now = leaf_entry leaf-now
+
+    abbrev pub rest-now : List (K × V)
+    rest-now = is.cut.1.1
+
+    pub leaf-there : leaf_at now key ≡ Some leaf-now
+    leaf-there = is.cut.1.2
+
+    pub cut-now : IsCut text now (is.before ++ is.kept) (Some key) (entry-now ∷ rest-now)
+    cut-now = (is.cut.0 ∙ ap (λ es. (is.before ++ is.kept) ++ es) is.cut.1.3, (leaf-now, rest-now, leaf-there, refl))
+
+    high-now : All (λ entry. is_before start_side start (text entry.0) ≡ false) (entry-now ∷ rest-now)
+    high-now = subst (All (λ entry. is_before start_side start (text entry.0) ≡ false)) is.cut.1.3 is.high
+
+    -- the leaf is past the end
+    pub past-end : Ascend (texts_of text (entries_of text now)) → is_before end_side end (text (leaf_key leaf-now)) ≡ false → (within text start_side start end_side end) is.todo ≡ []
+    past-end ascend late =
+        let ascend_on = behind-ascend text (is.before ++ is.kept) (entry-now ∷ rest-now) (subst (λ es. Ascend (texts_of text es)) cut-now.0 ascend) in
+        ap (within text start_side start end_side end) is.cut.1.3
+        ∙ none-kept (passes text start_side start end_side end) (entry-now ∷ rest-now)
+        (All-weaker (λ entry. is_before end_side end (text entry.0) ≡ false) (λ entry. (passes text start_side start end_side end) entry ≡ false) (λ entry out. between-past (is_before start_side start (text entry.0)) (is_before end_side end (text entry.0)) out) (entry-now ∷ rest-now) (all-past text end_side end entry-now rest-now ascend_on late))
+
+    -- it is not
+    module _ (early : is_before end_side end (text (leaf_key leaf-now)) ≡ true) where
+      passes-now : (passes text start_side start end_side end) entry-now ≡ true
+      passes-now = between-yes (is_before start_side start (text entry-now.0)) (is_before end_side end (text entry-now.0)) (All-head (λ entry. is_before start_side start (text entry.0) ≡ false) entry-now rest-now high-now) early
+
+      within-now : (within text start_side start end_side end) is.todo ≡ entry-now ∷ (within text start_side start end_side end) rest-now
+      within-now = ap (within text start_side start end_side end) is.cut.1.3 ∙ one-kept (passes text start_side start end_side end) entry-now rest-now true passes-now
+
+      outside-rest : (outside text start_side start end_side end) is.todo ≡ (outside text start_side start end_side end) rest-now
+      outside-rest = ap (outside text start_side start end_side end) is.cut.1.3 ∙ one-kept (λ entry. not ((passes text start_side start end_side end) entry)) entry-now rest-now false (ap not passes-now)
+
+      callable-now : CallableOnEachPair T Q f (entry-now ∷ (within text start_side start end_side end) rest-now)
+      callable-now = subst (CallableOnEachPair T Q f) within-now is.callable
+
+      pub accepted : Q f entry-now.0 entry-now.1
+      accepted = callable-now.at [] ((within text start_side start end_side end) rest-now) f entry-now.0 entry-now.1 refl refl
+
+      module _ (new : NodeArena K V P) (keeps : Bool) (value : V) (f' : F) (step : T f entry-now.0 entry-now.1 keeps value f') where
+        abbrev tested : K × V
+        tested = (entry-now.0, value)
+
+        -- the test was made, and the walk goes on
+        pub retaining-next : (next : Option ℕ) → IsCut text new (cond keeps ((is.before ++ is.kept) ++ tested ∷ []) (is.before ++ is.kept)) next rest-now → IsRetaining new next f'
+        retaining-next next cut = record {
+          before = is.before;
+          kept = cond keeps (is.kept ++ tested ∷ []) is.kept;
+          todo = rest-now;
+          cut = subst (λ es. IsCut text new es next rest-now) (assoc keeps) cut;
+          low = is.low;
+          kept_within = kept-on keeps;
+          high = All-tail (λ entry. is_before start_side start (text entry.0) ≡ false) entry-now rest-now high-now;
+          callable = record { at = λ front back state k v parts folds. callable-now.at (entry-now ∷ front) back state k v (ap (λ es. entry-now ∷ es) parts) (f', (keeps, value, step), folds) };
+          others = is.others ∙ ap (λ es. is.before ++ es) outside-rest;
+          whole = λ rest turn.
+              subst (RetainsPairs T origin ((within text start_side start end_side end) old)) (pushed keeps rest) (is.whole (cond keeps (tested ∷ rest) rest)
+              (subst (λ es. RetainsPairs T f es (cond keeps (tested ∷ rest) rest)) (sym within-now) (keeps, value, f', rest, step, turn, refl)));
+          stopped = λ rest turn.
+              subst (StopsRetaining T origin ((within text start_side start end_side end) old)) (pushed keeps rest) (is.stopped (cond keeps (tested ∷ rest) rest)
+              (subst (λ es. StopsRetaining T f es (cond keeps (tested ∷ rest) rest)) (sym within-now) (keeps, value, f', step, inr (rest, turn, refl))));
+        }
+          where
+            assoc : (b : Bool) → cond b ((is.before ++ is.kept) ++ tested ∷ []) (is.before ++ is.kept) ≡ is.before ++ cond b (is.kept ++ tested ∷ []) is.kept
+            assoc true = append_assoc is.before is.kept (tested ∷ [])
+            assoc false = refl
+
+            kept-on : (b : Bool) → All (λ entry. (passes text start_side start end_side end) entry ≡ true) (cond b (is.kept ++ tested ∷ []) is.kept)
+            kept-on true = All-append (λ entry. (passes text start_side start end_side end) entry ≡ true) is.kept (tested ∷ []) is.kept_within (All-cons (λ entry. (passes text start_side start end_side end) entry ≡ true) tested [] passes-now (All-nil (λ entry. (passes text start_side start end_side end) entry ≡ true)))
+            kept-on false = is.kept_within
+
+            pushed : (b : Bool) (rest : List (K × V)) → is.kept ++ cond b (tested ∷ rest) rest ≡ cond b (is.kept ++ tested ∷ []) is.kept ++ rest
+            pushed true rest = sym (append_assoc is.kept (tested ∷ []) rest)
+            pushed false rest = refl
+
+        -- the removal was refused
+        module _ (refused : keeps ≡ false) (left : entries_of text new ≡ (is.before ++ is.kept) ++ tested ∷ rest-now) where
+          within-left : (within text start_side start end_side end) (tested ∷ rest-now) ≡ tested ∷ (within text start_side start end_side end) rest-now
+          within-left = one-kept (passes text start_side start end_side end) tested rest-now true passes-now
+
+          pub retaining-stopped : StopsRetaining T origin ((within text start_side start end_side end) old) ((within text start_side start end_side end) (entries_of text new))
+          retaining-stopped =
+              let turn : StopsRetaining T f (entry-now ∷ (within text start_side start end_side end) rest-now) (tested ∷ (within text start_side start end_side end) rest-now) = (keeps, value, f', step, inl (refused, refl)) in
+              subst (StopsRetaining T origin ((within text start_side start end_side end) old)) (ap (λ es. is.kept ++ es) (sym within-left) ∙ sym (within-seen now (Some key) f is (tested ∷ rest-now) (entries_of text new) left))
+              (is.stopped (tested ∷ (within text start_side start end_side end) rest-now) (subst (λ es. StopsRetaining T f es (tested ∷ (within text start_side start end_side end) rest-now)) (sym within-now) turn))
+
+          pub outside-stopped : (outside text start_side start end_side end) (entries_of text new) ≡ (outside text start_side start end_side end) old
+          outside-stopped =
+              outside-seen now (Some key) f is (tested ∷ rest-now) (entries_of text new) left
+              ∙ ap (λ es. is.before ++ es) (one-kept (λ entry. not ((passes text start_side start end_side end) entry)) tested rest-now false (ap not passes-now) ∙ sym outside-rest) ∙ sym is.others
+
+      -- fewer entries are left
+      pub fewer-left : Ascend (texts_of text (entries_of text now)) → (new : NodeArena K V P) → Ascend (texts_of text (entries_of text new)) → (front : List (K × V)) (next : Option ℕ) → IsCut text new front next rest-now → left-at text new next < left-at text now (Some key)
+      fewer-left ascend new ascend_on front next cut =
+          omega (arith, left-is text now ascend (is.before ++ is.kept) (Some key) (entry-now ∷ rest-now) cut-now, left-is text new ascend_on front next rest-now cut)

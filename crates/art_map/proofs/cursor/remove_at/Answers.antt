@@ -1,0 +1,29 @@
+use Rattle.std.proofs.Common.{◌∙◌, ◌∷◌, ap, sym, subst}
+use Rattle.art_nodes.specs.Pointers.{slab_key}
+use Rattle.art_arena.specs.Links.{leaf_at}
+use Rattle.art_tree.specs.Entries.{without_text}
+use Rattle.art_tree.specs.Refusals.{texts_of}
+use Rattle.art_tree.specs.Removal.{IsLeft}
+use Rattle.art_map.proofs.CallLaws.{Ascend}
+use Rattle.art_map.proofs.CalledLemmas.{held-slot}
+use Rattle.art_map.proofs.CursorLemmas.{behind-ascend, entry-at, holds-on, without-here}
+use Rattle.art_map.proofs.RetainLemmas.{on-err-so}
+use Rattle.art_map.proofs.cursor.remove_at.Goals as goal
+
+pub returns-in_err-remove_leaf-clause-same_entries : goal.returns-in_err-remove_leaf-clause-same_entries
+returns-in_err-remove_leaf-clause-same_entries g c =
+    let old = c.args.tree.now.arena in
+    let (leaf, there) = held-slot (leaf_at old (slab_key c.args.leaf)) c.requires in
+    on-err-so c.from_residual.result _ (c.the_list_of_entries_changes_with_them.ensures.same old c.remove_leaf.new.self.arena (c.in_err-remove_leaf.ensures leaf there).same_entries)
+
+pub returns-clause-removed : goal.returns-clause-removed
+returns-clause-removed g c = λ before entry after next cut first.
+    let text = g.K.AsBytes.text in
+    let old = c.args.tree.now.arena in
+    let new = c.remove_leaf.new.self.arena in
+    let is = entry-at old (slab_key c.args.leaf) entry after cut.1 in
+    let left = subst (λ e. IsLeft text old new (text e.0)) (sym is) (c.in_ok-remove_leaf.ensures cut.1.0 cut.1.2).left in
+    let ascend = subst (λ es. Ascend (texts_of text es)) cut.0 (c.entries_are_one_list.ensures.list old).ascending in (
+      c.the_list_of_entries_changes_with_them.ensures.without old new (text entry.0) left.gone left.others ∙ ap (λ es. without_text text es (text entry.0)) cut.0 ∙ without-here text before entry after ascend,
+      holds-on text old new entry left.leaves next after (behind-ascend text before (entry ∷ after) ascend) first,
+    )

@@ -1,0 +1,26 @@
+use Rattle.std.proofs.Common.{◌∙◌, true, false, refl, subst}
+use Rattle.std.specs.Option.{option_map}
+use Rattle.std.proofs.lemmas.Result.{IfOk-from_err}
+use Rattle.art_nodes.specs.Pointers.{slab_key}
+use Rattle.art_map.proofs.RetainLemmas.{on-err-so}
+use Rattle.art_map.proofs.cursor.retain_at.Goals as goal
+
+pub returns-then-keeps : goal.returns-then-keeps
+returns-then-keeps g c = λ before entry after cut.
+    let made = c.test_at-keeps.ensures before entry after cut in
+    let step = subst (λ keeps. g.F.Keeps.step c.args.test.now entry.0 entry.1 keeps made.0 c.test_at-keeps.new.test) c.if-keeps.true made.1 in
+    (true, made.0, step, c.leaf_behind-next.ensures before (entry.0, made.0) after made.2, tt)
+
+pub returns-in_err-remove_at : goal.returns-in_err-remove_at
+returns-in_err-remove_at g c = λ before entry after cut.
+    let made = c.test_at-keeps.ensures before entry after cut in
+    let step = subst (λ keeps. g.F.Keeps.step c.args.test.now entry.0 entry.1 keeps made.0 c.test_at-keeps.new.test) c.if-keeps.false made.1 in
+    let refusal = c.from_residual.result in
+    (false, made.0, step, IfOk-from_err refusal _ c.from_residual.ensures.0, on-err-so refusal _ (refl, c.in_err-remove_at.ensures.same_entries ∙ made.2.0))
+
+pub returns : goal.returns
+returns g c = λ before entry after cut.
+    let made = c.test_at-keeps.ensures before entry after cut in
+    let step = subst (λ keeps. g.F.Keeps.step c.args.test.now entry.0 entry.1 keeps made.0 c.test_at-keeps.new.test) c.if-keeps.false made.1 in
+    let behind = c.leaf_behind-next.ensures before (entry.0, made.0) after made.2 in
+    (false, made.0, step, c.in_ok-remove_at.ensures.removed before (entry.0, made.0) after (option_map slab_key c.leaf_behind-next.result) made.2 behind.1, tt)

@@ -1,0 +1,22 @@
+use Rattle.std.proofs.Common.{map, subst}
+use Rattle.std.specs.Fn.{CalledAt}
+use Rattle.std.specs.List.Retain.{IsFiltered}
+use Rattle.art_map.specs.Retaining.{StopsFiltering}
+use Rattle.art_map.proofs.ListLemmas.{on-err, on-ok}
+use Rattle.art_map.proofs.RetainedKeys.{always-callable, retains-keys, stops-keys}
+use Rattle.art_map.proofs.set.retaining_keys.ArtSet+K+PREFIX_LEN.retain.Goals as goal
+
+pub retain_by-requires : goal.retain_by-requires
+retain_by-requires g c =
+    let callable = always-callable g.F.FnMut c.args.f c.self.inside.entries c.requires in
+    search
+
+pub returns-clause-retained : goal.returns-clause-retained
+returns-clause-retained g c =
+    on-ok c.retain_by.result _ _
+    (λ turn. subst (λ keys. IsFiltered (CalledAt g.F.FnMut) c.args.f keys (map (λ entry. entry.0) c.retain_by.new.self)) c.self.view_is (retains-keys g.F.FnMut c.args.f c.self.inside.entries c.retain_by.new.self turn)) c.retain_by.ensures.retained
+
+pub returns-clause-stopped : goal.returns-clause-stopped
+returns-clause-stopped g c =
+    on-err c.retain_by.result _ _
+    (λ turn. subst (λ keys. StopsFiltering g.F.FnMut c.args.f keys (map (λ entry. entry.0) c.retain_by.new.self)) c.self.view_is (stops-keys g.F.FnMut c.args.f c.self.inside.entries c.retain_by.new.self turn)) c.retain_by.ensures.stopped

@@ -1,0 +1,142 @@
+//! A walk along the leaves of a tree that changes: the list of the entries is what is behind, and what
+//! begins at a leaf.
+ghost use Rattle.std.specs.Prelude.{◌≡◌, ◌∷◌, ◌++◌, [], Bool, List, Option, ℕ, false, true, All, Some, IfOk, OnErr, OnOk, if◌then◌else◌};
+ghost use Rattle.std.specs.Option.{option_map};
+ghost use Rattle.art_nodes.specs.Leaf.{leaf_key, leaf_value};
+ghost use Rattle.art_nodes.specs.Pointers.{slab_key};
+ghost use Rattle.art_arena.specs.Links.{HoldsLeaf, leaf_at};
+ghost use Rattle.art_tree.specs.Entries.{entries_of};
+ghost use Rattle.art_tree.specs.Sides.{is_before};
+ghost use Rattle.art_map.specs.Cursors.{HoldsFirst, IsCut};
+
+use crate::keeps::Keeps;
+use crate::leaf_entries::leaves_hold_the_entries;
+use crate::nearest::nearest_leaf;
+use crate::range::is_before;
+use art_arena::End;
+use art_bytes::AsBytes;
+use art_nodes::{LeafNode, NodePtr};
+use art_tree::laws::{
+    each_leaf_of_a_list_is_knit, entries_are_one_list, lists_are_spelled_where_links_are_kept,
+    the_list_of_entries_changes_with_them, trees_stand_where_texts_are_kept,
+};
+use art_tree::{ArtTree, Side};
+use std::alloc::AllocError;
+
+/// The first leaf after this side of the key, where the list is cut in two. Takes no memory.
+pub(crate) fn cut_at<K: AsBytes, V, const PREFIX_LEN: usize>(
+    tree: &ArtTree<K, V, PREFIX_LEN>,
+    side: Side,
+    key: &[u8],
+) -> Option<NodePtr<PREFIX_LEN, LeafNode<K, V, PREFIX_LEN>>>
+    ensures { (before : List (K × V)) × (after : List (K × V)) ×
+        IsCut K.text tree.now.arena before (option_map slab_key result) after ×
+        All (λ entry. is_before side key.now (K.text entry.0) ≡ true) before ×
+        All (λ entry. is_before side key.now (K.text entry.0) ≡ false) after }
+{
+    leaves_hold_the_entries::<K, V, PREFIX_LEN>();
+    let _root = tree.root()?;
+    nearest_leaf(tree, side, key, End::First)
+}
+
+/// Whether the key of a leaf comes before this side of the key.
+pub(crate) fn leaf_is_before<K: AsBytes, V, const PREFIX_LEN: usize>(
+    tree: &ArtTree<K, V, PREFIX_LEN>,
+    leaf: NodePtr<PREFIX_LEN, LeafNode<K, V, PREFIX_LEN>>,
+    side: Side,
+    key: &[u8],
+) -> bool
+    requires { HoldsLeaf tree.now.arena (slab_key leaf) }
+    ensures { (node : _) → leaf_at tree.now.arena (slab_key leaf) ≡ Some node →
+        result ≡ is_before side key.now (K.text (leaf_key node)) }
+{
+    is_before(side, key, tree.arena().as_key_ref(leaf).as_bytes())
+}
+
+// The leaf behind this one.
+fn leaf_behind<K: AsBytes, V, const PREFIX_LEN: usize>(
+    tree: &ArtTree<K, V, PREFIX_LEN>,
+    leaf: NodePtr<PREFIX_LEN, LeafNode<K, V, PREFIX_LEN>>,
+) -> Option<NodePtr<PREFIX_LEN, LeafNode<K, V, PREFIX_LEN>>>
+    requires { HoldsLeaf tree.now.arena (slab_key leaf) }
+    ensures { (before : List (K × V)) (entry : K × V) (after : List (K × V)) →
+        IsCut K.text tree.now.arena before (Some (slab_key leaf)) (entry ∷ after) →
+        IsCut K.text tree.now.arena (before ++ entry ∷ []) (option_map slab_key result) after }
+{
+    leaves_hold_the_entries::<K, V, PREFIX_LEN>();
+    entries_are_one_list::<K, V, PREFIX_LEN>();
+    each_leaf_of_a_list_is_knit::<K, V, PREFIX_LEN>();
+    let _root = tree.root();
+    tree.arena().as_ref(leaf).next()
+}
+
+// Tests the entry of a leaf. The test may leave another value in it.
+fn test_at<K: AsBytes, V, const PREFIX_LEN: usize, F: Keeps<K, V>>(
+    tree: &mut ArtTree<K, V, PREFIX_LEN>,
+    leaf: NodePtr<PREFIX_LEN, LeafNode<K, V, PREFIX_LEN>>,
+    test: &mut F,
+) -> bool
+    requires held { HoldsLeaf tree.old.arena (slab_key leaf) }
+    requires accepted { (node : _) → leaf_at tree.old.arena (slab_key leaf) ≡ Some node →
+        F.accepts test.old (leaf_key node) (leaf_value node) }
+    ensures { (before : List (K × V)) (entry : K × V) (after : List (K × V)) →
+        IsCut K.text tree.old.arena before (Some (slab_key leaf)) (entry ∷ after) →
+        (value : V) × F.step test.old entry.0 entry.1 result value test.new ×
+        IsCut K.text tree.new.arena before (Some (slab_key leaf)) ((entry.0, value) ∷ after) }
+{
+    leaves_hold_the_entries::<K, V, PREFIX_LEN>();
+    entries_are_one_list::<K, V, PREFIX_LEN>();
+    trees_stand_where_texts_are_kept::<K, V, PREFIX_LEN>();
+    lists_are_spelled_where_links_are_kept::<K, V, PREFIX_LEN>();
+    let _root = tree.root();
+    let (key, value) = tree.as_key_ref_value_mut(leaf);
+    test.keeps(key, value)
+}
+
+/// Removes the entry of a leaf. After a failure the entries are unchanged.
+pub(crate) fn remove_at<K: AsBytes + Drop, V: Drop, const PREFIX_LEN: usize>(
+    tree: &mut ArtTree<K, V, PREFIX_LEN>,
+    leaf: NodePtr<PREFIX_LEN, LeafNode<K, V, PREFIX_LEN>>,
+) -> Result<(), AllocError>
+    requires { HoldsLeaf tree.old.arena (slab_key leaf) }
+    ensures removed { (before : List (K × V)) (entry : K × V) (after : List (K × V))
+        (next : Option ℕ) →
+        IsCut K.text tree.old.arena before (Some (slab_key leaf)) (entry ∷ after) →
+        HoldsFirst tree.old.arena next after →
+        OnOk result (IsCut K.text tree.new.arena before next after) }
+    ensures same_entries { OnErr result
+        (entries_of K.text tree.new.arena ≡ entries_of K.text tree.old.arena) }
+{
+    entries_are_one_list::<K, V, PREFIX_LEN>();
+    the_list_of_entries_changes_with_them::<K, V, PREFIX_LEN>();
+    tree.remove_leaf(leaf)?;
+    Ok(())
+}
+
+/// Tests the entry of a leaf, removes it where the test says so, and returns the leaf behind it. Where
+/// the removal fails, the entry stays, with the value that the test left.
+pub(crate) fn retain_at<K: AsBytes + Drop, V: Drop, const PREFIX_LEN: usize, F: Keeps<K, V>>(
+    tree: &mut ArtTree<K, V, PREFIX_LEN>,
+    leaf: NodePtr<PREFIX_LEN, LeafNode<K, V, PREFIX_LEN>>,
+    test: &mut F,
+) -> Result<Option<NodePtr<PREFIX_LEN, LeafNode<K, V, PREFIX_LEN>>>, AllocError>
+    requires held { (before : List (K × V)) × (entry : K × V) × (after : List (K × V)) ×
+        IsCut K.text tree.old.arena before (Some (slab_key leaf)) (entry ∷ after) ×
+        F.accepts test.old entry.0 entry.1 }
+    ensures { (before : List (K × V)) (entry : K × V) (after : List (K × V)) →
+        IsCut K.text tree.old.arena before (Some (slab_key leaf)) (entry ∷ after) →
+        (keeps : Bool) × (value : V) × F.step test.old entry.0 entry.1 keeps value test.new ×
+        IfOk result (λ next. IsCut K.text tree.new.arena
+        (if keeps then before ++ (entry.0, value) ∷ [] else before)
+        (option_map slab_key next) after) ×
+        OnErr result ((keeps ≡ false) ×
+        (entries_of K.text tree.new.arena ≡ before ++ (entry.0, value) ∷ after)) }
+{
+    let keeps = test_at(tree, leaf, test);
+    let next = leaf_behind(tree, leaf);
+    if keeps {
+        return Ok(next);
+    }
+    remove_at(tree, leaf)?;
+    Ok(next)
+}

@@ -1,0 +1,62 @@
+//! The test that `retain` makes at each entry, from a closure of a map or of a set.
+ghost use Rattle.std.specs.Prelude.{Bool};
+ghost use Rattle.std.specs.Fn.{CalledAt};
+ghost use Rattle.std.specs.Map.Calls.{CalledAtPair, TakesPair};
+
+use std::marker::Model;
+
+pub(crate) trait Keeps<K, V>: Drop {
+    // The test may be made of this key and value.
+    ghost accepts: { Self → K → V → Type 0 };
+
+    // A test of this key and value may return this, and leave this value and this test.
+    ghost step: { Self → K → V → Bool → V → Self → Type 0 };
+
+    fn keeps(&mut self, key: &K, value: &mut V) -> bool
+        requires { accepts self.old key.now value.old }
+        ensures { step self.old key.now value.old result value.new self.new };
+}
+
+// A closure over a key and its value.
+#[derive(Drop)]
+pub(crate) struct OnEntry<F> {
+    pub(crate) keep: F,
+}
+
+impl<F> Model for OnEntry<F> {
+    ghost Value = { F };
+
+    ghost view = { λ test. test.keep };
+}
+
+impl<K, V, F: FnMut(&K, &mut V) -> bool> Keeps<K, V> for OnEntry<F> {
+    ghost accepts = { TakesPair F.FnMut };
+
+    ghost step = { CalledAtPair F.FnMut };
+
+    fn keeps(&mut self, key: &K, value: &mut V) -> bool {
+        (self.keep)(key, value)
+    }
+}
+
+// A closure over a key.
+#[derive(Drop)]
+pub(crate) struct OnKey<F> {
+    pub(crate) keep: F,
+}
+
+impl<F> Model for OnKey<F> {
+    ghost Value = { F };
+
+    ghost view = { λ test. test.keep };
+}
+
+impl<K, V, F: FnMut(&K) -> bool> Keeps<K, V> for OnKey<F> {
+    ghost accepts = { λ f _ _. F.IsAlwaysCallable f };
+
+    ghost step = { λ f key value keeps now f'. CalledAt F.FnMut f key keeps f' };
+
+    fn keeps(&mut self, key: &K, _value: &mut V) -> bool {
+        (self.keep)(key)
+    }
+}
