@@ -3,6 +3,7 @@ mod CalledLemmas
 mod EndLemmas
 mod EnteredLemmas
 mod EntryLemmas
+mod ExtendLemmas
 mod FrontLemmas
 mod LentLemmas
 mod LinkLemmas

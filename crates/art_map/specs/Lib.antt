@@ -2,6 +2,7 @@ pub mod Calls
 pub mod Changes
 pub mod EnteredValues
 pub mod Entries
+pub mod Extending
 pub mod LeafEntries
 pub mod MapLending
 pub mod Merges
