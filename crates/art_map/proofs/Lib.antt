@@ -4,6 +4,7 @@ mod CursorLemmas
 mod EndLemmas
 mod EnteredLemmas
 mod EntryLemmas
+mod ExtendLemmas
 mod FrontLemmas
 mod LentLemmas
 mod LinkLemmas

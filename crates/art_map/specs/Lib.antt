@@ -3,6 +3,7 @@ pub mod Changes
 pub mod Cursors
 pub mod EnteredValues
 pub mod Entries
+pub mod Extending
 pub mod LeafEntries
 pub mod MapLending
 pub mod Merges

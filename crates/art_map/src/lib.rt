@@ -9,6 +9,7 @@
 mod cursor;
 mod debug;
 mod each_value;
+mod extend_fault;
 mod guide;
 mod into_iter;
 mod into_values;
@@ -27,6 +28,7 @@ pub use art_tree::{
     Identity, InsertFault, InsertRefusal, LoadFault, LoadRefusal, Mapped, NoPrefixesBytes,
     OrderedBytes, SliceKey, StrKey, ToIBE, ToOctets, ToUBE, escaped_prefix,
 };
+pub use extend_fault::{ExtendFault, ExtendKeysFault, StoppedAt};
 pub use into_iter::{IntoIter, IntoKeys, OwnedKeys, OwnedRun};
 pub use into_values::{IntoValues, OwnedValues};
 pub use iter::{HasRuns, Iter, Run};

@@ -10,6 +10,7 @@ mod counting;
 mod end_entries;
 mod ends;
 mod entering;
+mod extending;
 mod iterating;
 mod laws;
 mod lending;
