@@ -4,10 +4,12 @@ mod EndLemmas
 mod EnteredLemmas
 mod EntryLemmas
 mod FrontLemmas
+mod GivenValueLemmas
 mod LentLemmas
 mod LinkLemmas
 mod ListLemmas
 mod LoadedLemmas
+mod MapEntryLemmas
 mod MergeLemmas
 mod OwnedKeyLemmas
 mod RangeLemmas

@@ -3,6 +3,7 @@ pub mod Changes
 pub mod EnteredValues
 pub mod Entries
 pub mod LeafEntries
+pub mod MapEntry
 pub mod MapLending
 pub mod Merges
 pub mod Nearest
