@@ -6,10 +6,12 @@ mod EnteredLemmas
 mod EntryLemmas
 mod ExtendLemmas
 mod FrontLemmas
+mod GivenValueLemmas
 mod LentLemmas
 mod LinkLemmas
 mod ListLemmas
 mod LoadedLemmas
+mod MapEntryLemmas
 mod MergeLemmas
 mod OwnedKeyLemmas
 mod RangeLemmas
