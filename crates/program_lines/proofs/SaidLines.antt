@@ -17,7 +17,7 @@ module _ {C : Type 0} (Say : List ℕ → C → Type 0) where
   as_many (line ∷ lines) (item ∷ items) said = omega (arith, as_many lines items said.1)
 
   -- lines, and others after them
-  said_append : (lines others : List (List ℕ)) (items more : List C) → SayAll Say lines items → SayAll Say others more → SayAll Say (lines ++ others) (items ++ more)
+  pub said_append : (lines others : List (List ℕ)) (items more : List C) → SayAll Say lines items → SayAll Say others more → SayAll Say (lines ++ others) (items ++ more)
   said_append [] others [] more said and = and
   said_append [] others (item ∷ items) more said and = absurd said
   said_append (line ∷ lines) others [] more said and = absurd said

@@ -3,5 +3,6 @@ mod LastLemmas
 mod LineLemmas
 mod MapLemmas
 mod OrderLemmas
+mod ReadLemmas
 mod ReplyLemmas
 mod SearchLemmas

@@ -8,10 +8,9 @@ use Rattle.program_lines.specs.Lines.{HasNo, IsCutAt}
 use Rattle.program_lines.proofs.Cuts.{same_cut, cut_has_one}
 use Rattle.routes.specs.declared.address.Address.{Address}
 use Rattle.routes.specs.declared.network.Network.{Network}
-use Rattle.routes.specs.declared.route.Route.{Route}
 use Rattle.routes.specs.Addresses.{IsNumberOf, SayAddress}
 use Rattle.routes.specs.Networks.{IsLength, SayNetwork}
-use Rattle.routes.specs.Lines.{SayRoute}
+use Rattle.routes.specs.Lines.{SayRouteTo}
 
 -- a text writes one address at most
 same_fields : (a b : Address) → a.width ≡ b.width → a.bits ≡ b.bits → a ≡ b
@@ -42,24 +41,24 @@ module _ (text prefix digits : List ℕ) (is : IsCutAt 47 text prefix digits) wh
       let one : network.address ≡ address = one_address prefix network.address address (subst (λ p. SayAddress p network.address) (sym same.0) said) is_said in
       none network.length (subst (λ d. IsLength d address network.length) (sym same.1) (subst (λ a. IsLength rest a network.length) one long))
 
-empty : (bytes : List ℕ) → length bytes ≡ 0 → bytes ≡ []
+pub empty : (bytes : List ℕ) → length bytes ≡ 0 → bytes ≡ []
 empty [] none = refl
 empty (byte ∷ bytes) none = absurd (omega (arith, none))
 
-pub no_space : (line : List ℕ) → HasNo 32 line → (route : Route) → SayRoute line route → ⊥
-no_space line none route (text, next_hop, is, cut, some, said) =
+pub no_space : (line : List ℕ) → HasNo 32 line → (network : Network) → SayRouteTo line network → ⊥
+no_space line none network (text, next_hop, cut, some, said) =
     cut_has_one 32 text next_hop (subst (HasNo 32) cut.0 none)
 
 module _ (line text next_hop : List ℕ) (is : IsCutAt 32 line text next_hop) where
-  pub no_next_hop : length next_hop ≡ 0 → (route : Route) → SayRoute line route → ⊥
-  no_next_hop none route (other, rest, same_line, cut, some, said) =
+  pub no_next_hop : length next_hop ≡ 0 → (network : Network) → SayRouteTo line network → ⊥
+  no_next_hop none network (other, rest, cut, some, said) =
       let same = same_cut 32 text other next_hop rest is.1 cut.1 (sym is.0 ∙ cut.0) in
       some (sym same.1 ∙ empty next_hop none)
 
-  pub no_network : ((network : Network) → SayNetwork text network → ⊥) → (route : Route) → SayRoute line route → ⊥
-  no_network none route (other, rest, same_line, cut, some, said) =
+  pub no_network : ((network : Network) → SayNetwork text network → ⊥) → (network : Network) → SayRouteTo line network → ⊥
+  no_network none network (other, rest, cut, some, said) =
       let same = same_cut 32 text other next_hop rest is.1 cut.1 (sym is.0 ∙ cut.0) in
-      none route.network (subst (λ t. SayNetwork t route.network) (sym same.0) said)
+      none network (subst (λ t. SayNetwork t network) (sym same.0) said)
 
 -- what is so of an error
 pub anyway : {X E : Type 0} {Q : Type 0} (result : Result X E) → Q → OnErr result Q

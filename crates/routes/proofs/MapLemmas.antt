@@ -1,10 +1,8 @@
 -- The map of a table, beside its routes.
-use Rattle.std.proofs.Common.{◌≡◌, ◌≢◌, ◌∙◌, ℕ, ◌+◌, ◌-◌, ◌*◌, ◌/◌, ◌%◌, ◌^◌, ◌<◌, ◌≤◌, Bool, true, false, cond, List, [], ◌∷◌, ◌++◌, All, Contains, Option, Some, None, length, get_or, take, drop, refl, sym, ap, subst, arith, nat_eq}
+use Rattle.std.proofs.Common.{◌≡◌, ◌≢◌, ◌∙◌, ℕ, ◌-◌, ◌*◌, ◌/◌, ◌%◌, ◌^◌, ◌<◌, ◌≤◌, Bool, true, false, cond, List, [], ◌∷◌, ◌++◌, All, Contains, Option, Some, None, get_or, take, drop, refl, sym, ap, arith, nat_eq}
 use Rattle.std.specs.Cmp.Lexicographic.{pointwise}
 use Rattle.std.specs.Int.{w128, to_be_bytes}
-use Rattle.std.specs.Prelude.{IfSome, IfNone, not}
-use Rattle.std.specs.Option.{is_some}
-use Rattle.std.proofs.Math.Seq.{take_all}
+use Rattle.std.specs.Prelude.{option_map}
 use Rattle.std.proofs.Math.Nat.{pow-le-pow_right, div-mul-le_self}
 use Rattle.std.proofs.lemmas.List.Elements.{All-push, All-nil, All-contains, Contains-push, Contains-append_left}
 use Rattle.std.proofs.lemmas.List.Quantifiers.{all_pairs_push}
@@ -18,9 +16,8 @@ use Rattle.routes.specs.declared.network.Network.{Network}
 use Rattle.routes.specs.declared.route.Route.{Route}
 use Rattle.routes.specs.Addresses.{IsAddress}
 use Rattle.routes.specs.Networks.{first_address, key_text}
-use Rattle.routes.specs.Tables.{AreDistinct, IsFirstDuplicate}
-use Rattle.routes.specs.Maps.{IsRoute, itself, key_of_route, Holds}
-use Rattle.routes.proofs.ReplyLemmas.{one_more, duplicate_at}
+use Rattle.routes.specs.Tables.{AreDistinct}
+use Rattle.routes.specs.Maps.{IsRoute, itself, key_of_route, line_number, Holds}
 
 -- nothing is found and not found
 found_none : (entry : List ℕ × Route) (o : Option (List ℕ × Route)) → o ≡ Some entry → o ≡ None → ⊥
@@ -64,17 +61,10 @@ same_network a b is also same =
 key_of_one : (a b : Route) → a.network ≡ b.network → key_of_route a ≡ key_of_route b
 key_of_one a b same i = key_text (same i).address (same i).length
 
--- what `try_insert` says of an entry that is added, and of one that is there
-module _ (map longer : List (List ℕ × Route)) (key text : List ℕ) (route : Route) (at : key ≡ text) where
-  pub entry_added : (before : Option (List ℕ × Route)) (added : Bool) → is_some before ≡ not added → IfNone before ((entry_with itself map key ≡ None) × (longer ≡ put_entry itself map (key, route))) → added ≡ true → longer ≡ put_entry itself map (text, route)
-  entry_added None added is so was = so.1 ∙ ap (λ k. put_entry itself map (k, route)) at
-  entry_added (Some entry) added is so was = let wrong : true ≡ false = is ∙ ap not was in absurd (cc)
-
-  pub entry_there : (before : Option (List ℕ × Route)) (added : Bool) → is_some before ≡ not added → IfSome before (λ entry. (entry ≡ (key, route)) × (longer ≡ map) × (entry_with itself map key ≢ None)) → added ≡ false → entry_with itself map text ≢ None
-  entry_there None added is so was = let wrong : false ≡ true = is ∙ ap not was in absurd (cc)
-  entry_there (Some entry) added is so was = subst (λ k. entry_with itself map k ≢ None) at so.2
-
 -- a table without routes
+pub none_distinct : AreDistinct []
+none_distinct i j d before within = absurd (omega (arith, within))
+
 pub holds_none : Holds [] []
 holds_none = record {
   are_routes = All-nil IsRoute;
@@ -89,16 +79,28 @@ module _ (routes : List Route) (map : List (List ℕ × Route)) (holds : Holds r
       found_none (key_of_route (get_or routes k d), get_or routes k d) (entry_with itself map (key_of_route (get_or routes k d))) (holds.found k d within) (ap (entry_with itself map) (key_of_one (get_or routes k d) route same) ∙ none)
 
   -- a route has the network of one that is found
-  pub earlier_same : entry_with itself map (key_of_route route) ≢ None → (earlier : Route) × Contains routes earlier × (earlier.network ≡ route.network)
-  earlier_same some = by_entry (entry_with itself map (key_of_route route)) refl
+  pub earlier_same : (number : ℕ) → line_number map route ≡ Some number → (earlier : Route) × Contains routes earlier × (earlier.network ≡ route.network) × (earlier.number ≡ number)
+  earlier_same number some = by_entry (entry_with itself map (key_of_route route)) refl
     where
-      by_entry : (found : Option (List ℕ × Route)) → entry_with itself map (key_of_route route) ≡ found → (earlier : Route) × Contains routes earlier × (earlier.network ≡ route.network)
-      by_entry None at = absurd (some at)
+      by_entry : (found : Option (List ℕ × Route)) → entry_with itself map (key_of_route route) ≡ found → (earlier : Route) × Contains routes earlier × (earlier.network ≡ route.network) × (earlier.number ≡ number)
+      by_entry None at =
+          let wrong : None ≡ Some number = sym (ap (option_map (λ entry. entry.1.number)) at) ∙ some in
+          absurd (cc)
       by_entry (Some entry) at =
           let only = holds.only (key_of_route route) entry at in
-          (entry.1, only.0, same_network entry.1 route (All-contains IsRoute routes entry.1 holds.are_routes only.0) is only.1)
+          let this : Some entry.1.number ≡ Some number = sym (ap (option_map (λ entry. entry.1.number)) at) ∙ some in
+          (entry.1, only.0, same_network entry.1 route (All-contains IsRoute routes entry.1 holds.are_routes only.0) is only.1, cc)
 
-  module _ (none : entry_with itself map (key_of_route route) ≡ None) where
+  module _ (is_none : line_number map route ≡ None) where
+    none : entry_with itself map (key_of_route route) ≡ None
+    none = by_entry (entry_with itself map (key_of_route route)) refl
+      where
+        by_entry : (found : Option (List ℕ × Route)) → entry_with itself map (key_of_route route) ≡ found → entry_with itself map (key_of_route route) ≡ None
+        by_entry None at = at
+        by_entry (Some entry) at =
+            let wrong : Some entry.1.number ≡ None = sym (ap (option_map (λ entry. entry.1.number)) at) ∙ is_none in
+            absurd (cc)
+
     abbrev more : List Route
     more = routes ++ route ∷ []
 
@@ -142,34 +144,3 @@ module _ (routes : List Route) (map : List (List ℕ × Route)) (holds : Holds r
 
     pub distinct_more : AreDistinct routes → AreDistinct more
     distinct_more distinct = all_pairs_push (λ a b. a.network ≢ b.network) routes route distinct (others_differ none)
-
--- so many routes have been put into the map
-pub record AreAdded (routes : List Route) (map : List (List ℕ × Route)) (count : ℕ) : Type 0 where
-  pub holds : Holds (take count routes) map
-  pub distinct : AreDistinct (take count routes)
-
-none_distinct : AreDistinct []
-none_distinct i j d before within = absurd (omega (arith, within))
-
-pub none_added : (routes : List Route) → AreAdded routes [] 0
-none_added routes = record { holds = holds_none; distinct = none_distinct }
-
-pub all_added : (routes : List Route) (map : List (List ℕ × Route)) (count : ℕ) → AreAdded routes map count → length routes ≤ count → Holds routes map × AreDistinct routes
-all_added routes map count added all =
-    let whole = take_all count routes all in
-    (subst (λ these. Holds these map) whole added.holds, subst AreDistinct whole added.distinct)
-
-module _ (routes : List Route) (are : All IsRoute routes) (map : List (List ℕ × Route)) (k : ℕ) (added : AreAdded routes map k) (d : Route) (within : k < length routes) where
-  abbrev next : Route
-  next = get_or routes k d
-
-  pub duplicate : entry_with itself map (key_of_route next) ≢ None → IsFirstDuplicate routes (k + 1)
-  duplicate some = duplicate_at routes k d within added.distinct (earlier_same (take k routes) map added.holds next (are k d within) some)
-
-  pub one_added : (longer : List (List ℕ × Route)) → entry_with itself map (key_of_route next) ≡ None → longer ≡ put_entry itself map (key_of_route next, next) → AreAdded routes longer (k + 1)
-  one_added longer none put =
-      let is = are k d within in
-      record {
-        holds = rw (one_more routes k d within, put) (holds_more (take k routes) map added.holds next is none);
-        distinct = rw (one_more routes k d within) (distinct_more (take k routes) map added.holds next is none added.distinct);
-      }

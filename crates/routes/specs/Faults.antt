@@ -1,10 +1,11 @@
 -- What may be wrong with a line of the table or of the input.
-use Rattle.std.specs.Prelude.{◌≡◌, ◌≢◌, ◌⊎◌, ℕ, ◌≤◌, ◌-◌, ◌%◌, ◌^◌, List, [], codes}
+use Rattle.std.specs.Prelude.{◌≡◌, ◌≢◌, ◌⊎◌, ℕ, ◌≤◌, ◌-◌, ◌%◌, ◌^◌, List, [], ◌++◌, codes}
+use Rattle.std.specs.Fmt.{decimal}
 use Rattle.program_lines.specs.Lines.{HasNo, IsCutAt}
 use Rattle.program_lines.specs.Numbers.{IsNumber}
 use Rattle.routes.specs.declared.address.Address.{Address}
 use Rattle.routes.specs.declared.fault.Fault.{Fault}
-use Rattle.routes.specs.declared.fault.Fault.TheVariants.{BadAddress, NoNextHop, NoLength, BadLength, BitsBehindLength, DuplicateRoute}
+use Rattle.routes.specs.declared.fault.Fault.TheVariants.{BadAddress, NoNextHop, NoLength, BadLength, BitsBehindLength, SameNetwork}
 use Rattle.routes.specs.Addresses.{SayAddress}
 
 -- what a failure's line says of the fault
@@ -14,7 +15,7 @@ fault_text NoNextHop = codes "no next hop"
 fault_text NoLength = codes "no length"
 fault_text BadLength = codes "bad length"
 fault_text BitsBehindLength = codes "bits set behind the length"
-fault_text DuplicateRoute = codes "duplicate route"
+fault_text (SameNetwork number) = codes "same network as line " ++ decimal number
 
 -- the text writes no address
 abbrev pub IsNoAddress : List ℕ → Type 0

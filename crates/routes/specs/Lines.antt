@@ -1,16 +1,29 @@
 -- What the lines of the table and of the input say.
-use Rattle.std.specs.Prelude.{◌≡◌, ℕ, ◌≢◌, List, []}
+use Rattle.std.specs.Prelude.{◌≡◌, ℕ, ◌≢◌, ◌==◌, Bool, true, not, List, [], ◌∷◌, filter}
 use Rattle.program_lines.specs.Lines.{IsCutAt}
+use Rattle.routes.specs.declared.network.Network.{Network}
 use Rattle.routes.specs.declared.route.Route.{Route}
 use Rattle.routes.specs.declared.route.Query.{Query}
 use Rattle.routes.specs.Addresses.{SayAddress}
 use Rattle.routes.specs.Networks.{SayNetwork}
 
--- a line of the table is a route: a network and, after the first space, a next hop
+-- a line of the table is a comment where it is empty or begins with `#`
+abbrev pub is_comment : List ℕ → Bool
+is_comment [] = true
+is_comment (byte ∷ bytes) = byte == 35
+
+-- the lines that are no comments
+abbrev pub without_comments : List (List ℕ) → List (List ℕ)
+without_comments lines = filter (λ line. not (is_comment line)) lines
+
+-- the line is a route to this network: the network and, after the first space, a next hop
+abbrev pub SayRouteTo : List ℕ → Network → Type 0
+SayRouteTo line network =
+    (text next_hop : List ℕ) × IsCutAt 32 line text next_hop × (next_hop ≢ []) × SayNetwork text network
+
+-- the line is this route
 abbrev pub SayRoute : List ℕ → Route → Type 0
-SayRoute line route =
-    (text next_hop : List ℕ) × (route.line.now ≡ line) × IsCutAt 32 line text next_hop × (next_hop ≢ [])
-    × SayNetwork text route.network
+SayRoute line route = (route.line.now ≡ line) × SayRouteTo line route.network
 
 -- a line of the input is an address
 abbrev pub SayQuery : List ℕ → Query → Type 0

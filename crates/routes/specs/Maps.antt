@@ -1,13 +1,22 @@
 -- What the private calls say of a table and of the output. No public clause cites it.
-use Rattle.std.specs.Prelude.{◌≡◌, ℕ, ◌+◌, ◌*◌, ◌≤◌, ◌-◌, ◌%◌, ◌^◌, List, ◌++◌, All, Contains, Some}
+use Rattle.std.specs.Prelude.{◌≡◌, ◌⊎◌, ℕ, ◌+◌, ◌*◌, ◌≤◌, ◌-◌, ◌%◌, ◌^◌, List, ◌++◌, All, Contains, Option, None, Some, option_map}
 use Rattle.art_map.specs.Entries.{entry_with}
-use Rattle.program_lines.specs.Lines.{line}
+use Rattle.art_tree.specs.Entries.{put_entry}
+use Rattle.program_lines.specs.Faults.{IsLineFault}
+use Rattle.program_lines.specs.Lines.{line, lines_of, SayLine}
+use Rattle.program_lines.specs.declared.line_fault.LineFault.{LineFault}
+use Rattle.program_lines.specs.declared.line_fault.LineFault.TheVariants.{Other}
 use Rattle.routes.specs.declared.address.Address.{Address}
+use Rattle.routes.specs.declared.fault.Fault.{Fault}
+use Rattle.routes.specs.declared.fault.Fault.TheVariants.{SameNetwork}
 use Rattle.routes.specs.declared.route.Route.{Route}
 use Rattle.routes.specs.declared.route.Query.{Query}
 use Rattle.routes.specs.Addresses.{IsAddress}
+use Rattle.routes.specs.Faults.{IsRouteFault}
+use Rattle.routes.specs.Lines.{SayRoute}
 use Rattle.routes.specs.Networks.{first_address, key_text}
-use Rattle.routes.specs.Replies.{AreRoutes, IsReply}
+use Rattle.routes.specs.Replies.{IsReply}
+use Rattle.routes.specs.Tables.{AreRoutes}
 
 -- the network of the route is one: no longer than its address, and no bit is set behind the length
 pub record IsRoute (route : Route) : Type 0 where
@@ -55,4 +64,22 @@ AppendsReply routes query old new = (text : List ℕ) × IsReply routes query te
 
 -- the map has the routes of this table
 abbrev pub IsTable : List ℕ → List (List ℕ × Route) → Type 0
-IsTable table map = (routes : List Route) × AreRoutes table routes × Holds routes map
+IsTable table map = (routes : List Route) × AreRoutes (lines_of table) routes × Holds routes map
+
+-- the number of the line of the route with this network, where the map has one
+abbrev pub line_number : List (List ℕ × Route) → Route → Option ℕ
+line_number map route = option_map (λ entry. entry.1.number) (entry_with itself map (key_of_route route))
+
+-- the line of this number is a route, which is put into the map, where no route had its network
+pub record AddsRoute (number : ℕ) (line : List ℕ) (old new : List (List ℕ × Route)) : Type 0 where
+  pub route : Route
+  pub said : SayLine SayRoute line route
+  pub numbered : route.number ≡ number
+  pub none_before : line_number old route ≡ None
+  pub put : new ≡ put_entry itself old (key_of_route route, route)
+
+-- the line is no route, or has the network of one in the map, and this is its fault
+abbrev pub IsNextFault : List ℕ → List (List ℕ × Route) → LineFault Fault → Type 0
+IsNextFault line map fault =
+    IsLineFault IsRouteFault line fault
+    ⊎ ((route : Route) × (earlier : ℕ) × SayLine SayRoute line route × (line_number map route ≡ Some earlier) × (fault ≡ Other (SameNetwork earlier)))

@@ -1,18 +1,25 @@
 -- Tables of routes.
-use Rattle.std.specs.Prelude.{◌≡◌, ◌≢◌, ℕ, ◌+◌, ◌≤◌, List, ◌∷◌, ◌++◌, All, AllPairs, Contains, length}
+use Rattle.std.specs.Prelude.{◌≢◌, ℕ, ◌≤◌, List, All, AllPairs, Contains, length}
+use Rattle.program_lines.specs.Lines.{line_at, SayAll, SayLine}
 use Rattle.routes.specs.declared.address.Address.{Address}
+use Rattle.routes.specs.declared.network.Network.{Network}
 use Rattle.routes.specs.declared.route.Route.{Route}
+use Rattle.routes.specs.Lines.{without_comments, SayRouteTo, SayRoute}
 use Rattle.routes.specs.Networks.{IsIn}
 
 -- no two routes have one network
 abbrev pub AreDistinct : List Route → Type 0
 AreDistinct routes = AllPairs (λ a b. a.network ≢ b.network) routes
 
--- the route of this number, from 1, is the first that has the network of an earlier one
-abbrev pub IsFirstDuplicate : List Route → ℕ → Type 0
-IsFirstDuplicate routes number =
-    (before after : List Route) × (earlier again : Route) × (routes ≡ before ++ again ∷ after) × (number ≡ length before + 1)
-    × AreDistinct before × Contains before earlier × (earlier.network ≡ again.network)
+-- each of the lines but for comments is one of these routes, in their order, no two of one network
+abbrev pub AreRoutes : List (List ℕ) → List Route → Type 0
+AreRoutes lines routes = SayAll (SayLine SayRoute) (without_comments lines) routes × AreDistinct routes
+
+-- the line is a route to a network to which the line of this number, from 1, among those before it, is one too
+abbrev pub IsRouteAgain : List (List ℕ) → List ℕ → ℕ → Type 0
+IsRouteAgain before line number =
+    (1 ≤ number) × (number ≤ length before)
+    × ((network : Network) × SayRouteTo (line_at before number) network × SayLine SayRouteTo line network)
 
 -- no route of these matches the address
 abbrev pub HasNone : List Route → Address → Type 0

@@ -14,8 +14,8 @@ pub enum Fault {
     BadLength,
     /// A bit of the network's address is set behind its length.
     BitsBehindLength,
-    /// An earlier line has the same network.
-    DuplicateRoute,
+    /// The line of this number, an earlier one, has the same network.
+    SameNetwork(usize),
 }
 
 impl fmt::Display for Fault {
@@ -31,7 +31,7 @@ impl fmt::Display for Fault {
             Fault::NoLength => write!(f, "no length"),
             Fault::BadLength => write!(f, "bad length"),
             Fault::BitsBehindLength => write!(f, "bits set behind the length"),
-            Fault::DuplicateRoute => write!(f, "duplicate route"),
+            Fault::SameNetwork(number) => write!(f, "same network as line {}", *number),
         }
     }
 }

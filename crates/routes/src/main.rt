@@ -21,8 +21,9 @@ const DESCRIPTION: Description = Description {
     flag: "",
     usage: "usage: routes TABLE\n\
         TABLE is a file of routes, one a line: PREFIX/LEN NEXTHOP, as 10.0.0.0/8 core1 or\n\
-        2001:db8::/32 core2. Each line of standard input is an IPv4 or IPv6 address, and is printed\n\
-        with the longest route that matches it, or with none.\n",
+        2001:db8::/32 core2. Empty lines and lines that begin with # are skipped. Each line of standard\n\
+        input is an IPv4 or IPv6 address, and is printed with the longest route that matches it, or\n\
+        with none.\n",
 };
 
 fn main(rt: HostRuntime) -> ExitCode {

@@ -4,9 +4,9 @@ ghost use Rattle.routes.specs.Addresses.{IsAddress};
 ghost use Rattle.routes.specs.Maps.{Holds, AppendsReply};
 
 use crate::fault::Fault;
-use crate::route::{Query, Route};
+use crate::route::Query;
 use crate::table::{Table, longest_match, table_of};
-use program_lines::{Failure, LineFault, Place, Program, item_of, push_line, said_whole};
+use program_lines::{Failure, LineFault, Program, item_of, push_line};
 use std::alloc::{AllocError, Global};
 
 impl<'a> Program<'a> for Table<'a> {
@@ -31,9 +31,7 @@ impl<'a> Program<'a> for Table<'a> {
         file: &'a [u8],
         _output: &mut Vec<u8>,
     ) -> Result<Table<'a>, Failure<LineFault<Fault>>> {
-        let routes: Vec<Route<'_>> = said_whole(alloc, Place::File, file)?;
-        let table = table_of(alloc, &routes)?;
-        Ok(table)
+        table_of(alloc, file)
     }
 
     fn push_reply(

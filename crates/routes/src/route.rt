@@ -1,6 +1,6 @@
 //! Lines of the table and of the input.
-ghost use Rattle.std.specs.Prelude.{IfOk, OnErr};
-ghost use Rattle.routes.specs.Lines.{SayRoute, SayQuery};
+ghost use Rattle.std.specs.Prelude.{◌≡◌};
+ghost use Rattle.routes.specs.Lines.{is_comment as is_comment_line};
 
 use crate::address::{Address, address_of};
 use crate::fault::Fault;
@@ -12,6 +12,8 @@ use program_lines::{FromLine, split_once};
 pub struct Route<'a> {
     /// The whole line.
     pub(crate) line: &'a [u8],
+    /// The number of the line in the table, from 1.
+    pub(crate) number: usize,
     /// The network before the first space.
     pub(crate) network: Network,
 }
@@ -25,15 +27,25 @@ pub struct Query<'a> {
     pub(crate) address: Address,
 }
 
-impl<'a> FromLine<'a, Fault> for Route<'a> {
-    ghost use Rattle.routes.specs.Faults.{IsRouteFault};
-    ghost use Rattle.routes.specs.Lines.{SayRoute};
+/// Whether a line of the table is a comment: it is empty, or begins with `#`.
+pub(crate) fn is_comment(line: &[u8]) -> bool
+    ensures { result ≡ is_comment_line line.now }
+{
+    match line.first() {
+        Some(byte) => *byte == b'#',
+        None => true,
+    }
+}
 
-    ghost says = { SayRoute };
+impl<'a> FromLine<'a, Fault> for Network {
+    ghost use Rattle.routes.specs.Faults.{IsRouteFault};
+    ghost use Rattle.routes.specs.Lines.{SayRouteTo};
+
+    ghost says = { SayRouteTo };
 
     ghost has_fault = { IsRouteFault };
 
-    fn from_line(line: &'a [u8]) -> Result<Route<'a>, Fault> {
+    fn from_line(line: &'a [u8]) -> Result<Network, Fault> {
         let Some((network, next_hop)) = split_once(line, b' ') else {
             return Err(Fault::NoNextHop);
         };
@@ -41,7 +53,7 @@ impl<'a> FromLine<'a, Fault> for Route<'a> {
             return Err(Fault::NoNextHop);
         }
         let network = network_of(network)?;
-        Ok(Route { line, network })
+        Ok(network)
     }
 }
 

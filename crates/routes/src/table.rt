@@ -1,21 +1,18 @@
 //! Tables of routes, and the longest of them that matches an address.
-ghost use Rattle.std.specs.Prelude.{◌≡◌, ◌≢◌, ◌-◌, ◌≤◌, false, All, IsTrue, IfOk, IfErr, OnOk, None, MatchOption, length, option_map, slice_get};
+ghost use Rattle.std.specs.Prelude.{◌≡◌, ◌-◌, ◌≤◌, IfOk, IfErr, IfNone, IfSome, MatchOption, length, option_map, slice_get};
 ghost use Rattle.program_lines.specs.Failures.{IfBadLine};
-ghost use Rattle.program_lines.specs.declared.failure.Place.TheVariants.{File};
-ghost use Rattle.program_lines.specs.declared.line_fault.LineFault.TheVariants.{Other};
-ghost use Rattle.routes.specs.declared.fault.Fault.TheVariants.{DuplicateRoute};
-ghost use Rattle.art_map.specs.Entries.{entry_with};
 ghost use Rattle.art_tree.specs.Entries.{put_entry};
 ghost use Rattle.routes.specs.Addresses.{IsAddress};
-ghost use Rattle.routes.specs.Tables.{AreDistinct, IsFirstDuplicate, HasNone, IsLongest};
-ghost use Rattle.routes.specs.Maps.{IsRoute, key_of_route, itself, Holds, HasNoneUpTo, IsLastUpTo};
+ghost use Rattle.routes.specs.Replies.{IsBad};
+ghost use Rattle.routes.specs.Tables.{HasNone, IsLongest};
+ghost use Rattle.routes.specs.Maps.{IsRoute, key_of_route, itself, Holds, HasNoneUpTo, IsLastUpTo, IsTable, line_number, AddsRoute, IsNextFault};
 
 use crate::address::Address;
 use crate::fault::Fault;
-use crate::network::{KEY_LEN, key_of, shared_bits};
-use crate::route::Route;
+use crate::network::{KEY_LEN, Network, key_of, shared_bits};
+use crate::route::{Route, is_comment};
 use art_map::{ArtMap, DEFAULT_PREFIX_LEN, Iter};
-use program_lines::{BadLine, Failure, LineFault, Place};
+use program_lines::{BadLine, Failure, LineFault, Place, first_line, item_of};
 use std::alloc::{AllocError, Global};
 use std::ops::Bound;
 
@@ -26,47 +23,80 @@ pub(crate) struct Table<'a> {
     routes: ArtMap<[u8; KEY_LEN], Route<'a>, DEFAULT_PREFIX_LEN>,
 }
 
-/// The table of these routes.
+/// The table of the routes that the lines of a file are, but for its comments.
 ///
-/// Refuses the first that has the network of an earlier one. An allocation may fail.
+/// Refuses the first line that is no route, or that has the network of an earlier one. An allocation may
+/// fail.
 pub(crate) fn table_of<'a>(
     alloc: Global,
-    routes: &[Route<'a>],
+    file: &'a [u8],
 ) -> Result<Table<'a>, Failure<LineFault<Fault>>>
-    requires { All IsRoute routes.now }
-    ensures holds { IfOk result (λ table. Holds routes.now table.routes) }
-    ensures distinct { OnOk result (AreDistinct routes.now) }
-    ensures duplicate { IfErr result (IfBadLine (λ bad.
-        (bad.place ≡ File) × IsFirstDuplicate routes.now bad.number × (bad.fault ≡ Other DuplicateRoute))) }
+    ensures routes { IfOk result (λ table. IsTable file.now table.routes) }
+    ensures refused { IfErr result (IfBadLine (IsBad file.now)) }
 {
     let mut table = Table {
         routes: ArtMap::new(alloc),
     };
-    for (index, route) in routes.iter().enumerate() {
-        if !add(&mut table, *route)? {
-            return Err(Failure::BadLine(BadLine {
-                place: Place::File,
-                number: index + 1,
-                fault: LineFault::Other(Fault::DuplicateRoute),
-            }));
+    let mut rest = file;
+    let mut number: usize = 0;
+    while !rest.is_empty() {
+        let (line, after) = first_line(rest);
+        number += 1;
+        if !is_comment(line) {
+            match add_line(&mut table, line, number)? {
+                None => {}
+                Some(fault) => {
+                    return Err(Failure::BadLine(BadLine {
+                        place: Place::File,
+                        number,
+                        fault,
+                    }));
+                }
+            }
         }
+        rest = after;
     }
     Ok(table)
 }
 
-// Adds a route where none has its network, and returns whether it did.
-fn add<'a>(table: &mut Table<'a>, route: Route<'a>) -> Result<bool, AllocError>
+// Adds the route that the line of this number is, or returns what is wrong with it.
+fn add_line<'a>(
+    table: &mut Table<'a>,
+    line: &'a [u8],
+    number: usize,
+) -> Result<Option<LineFault<Fault>>, AllocError>
+    ensures added { IfOk result (λ fault. IfNone fault
+        (AddsRoute number line.now table.old.routes table.new.routes)) }
+    ensures fault { IfOk result (λ fault. IfSome fault (IsNextFault line.now table.old.routes)) }
+{
+    let network: Network = match item_of(line) {
+        Ok(network) => network,
+        Err(fault) => return Ok(Some(fault)),
+    };
+    let route = Route {
+        line,
+        number,
+        network,
+    };
+    match add(table, route)? {
+        None => Ok(None),
+        Some(earlier) => Ok(Some(LineFault::Other(Fault::SameNetwork(earlier)))),
+    }
+}
+
+// Adds a route where none has its network. Else returns the number of the line of the one that has.
+fn add<'a>(table: &mut Table<'a>, route: Route<'a>) -> Result<Option<usize>, AllocError>
     requires { IsRoute route }
-    ensures none_before { IfOk result (λ added. IsTrue added →
-        entry_with itself table.old.routes (key_of_route route.entry) ≡ None) }
-    ensures added { IfOk result (λ added. IsTrue added →
-        table.new.routes ≡ put_entry itself table.old.routes (key_of_route route.entry, route.entry)) }
-    ensures one_before { IfOk result (λ added. added ≡ false →
-        entry_with itself table.old.routes (key_of_route route.entry) ≢ None) }
+    ensures earlier { IfOk result (λ earlier. earlier ≡ line_number table.old.routes route.entry) }
+    ensures added { IfOk result (λ earlier. IfNone earlier (
+        table.new.routes ≡ put_entry itself table.old.routes (key_of_route route.entry, route.entry))) }
 {
     let key = key_of(route.network.address, route.network.length);
-    match table.routes.try_insert(key, route) {
-        Ok(before) => Ok(before.is_none()),
+    if let Some(earlier) = table.routes.get(&key) {
+        return Ok(Some(earlier.number));
+    }
+    match table.routes.insert(key, route) {
+        Ok(_) => Ok(None),
         Err(_) => Err(AllocError),
     }
 }

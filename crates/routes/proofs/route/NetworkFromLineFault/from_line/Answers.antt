@@ -1,6 +1,6 @@
 use Rattle.std.proofs.Common.{◌≡◌, length, arith}
 use Rattle.routes.proofs.LineLemmas.{no_space, no_next_hop, no_network, anyway}
-use Rattle.routes.proofs.route.RouteFromLineFault.from_line.Goals as goal
+use Rattle.routes.proofs.route.NetworkFromLineFault.from_line.Goals as goal
 
 pub returns-in_default-clause-refused : goal.returns-in_default-clause-refused
 returns-in_default-clause-refused c = no_space c.args.line.now c.in_default.ensures.none
