@@ -1,8 +1,8 @@
 -- The order of keys is that of rows.
-use Rattle.std.proofs.Common.{◌≡◌, ◌∙◌, ℕ, ℤ, Bool, true, ◌&&◌, false, List, ◌++◌, length, FitsSigned, to_z, of_z, w64, refl, sym, subst, arith, length-append}
+use Rattle.std.proofs.Common.{◌≡◌, ◌∙◌, ℕ, ℤ, Bool, true, ◌&&◌, false, List, ◌++◌, length, FitsSigned, to_z, of_z, w64, refl, sym, ap, subst, arith, length-append}
 use Rattle.std.proofs.lemmas.Int.{to_z-of_z}
 use Rattle.std.specs.Net.Addr.{ipv6_octets}
-use Rattle.std.specs.Ordering.{nat_cmp, int_cmp, ordering_then, is_eq, is_ge, is_le}
+use Rattle.std.specs.Ordering.{nat_cmp, int_cmp, ordering_reverse, ordering_then, is_eq, is_ge, is_gt, is_le, is_lt}
 use Rattle.std.specs.declared.cmp.Ordering.{Ordering}
 use Rattle.std.specs.declared.cmp.Ordering.TheVariants.{Less, Equal, Greater}
 use Rattle.std.specs.declared.net.Ipv6Addr.{Ipv6Addr}
@@ -50,6 +50,27 @@ between_places Less to from last first most least = refl
 between_places Equal to from last first most least = rw (le_then to last most, ge_then from first least) (and_swap (is_le to) (is_ge from))
 between_places Greater to from last first most least = refl
 
+-- what is above the last place of an address has an address above it
+above_last : (o : Ordering) (last : Ordering) → is_le last ≡ true → is_gt (ordering_then o last) ≡ is_gt o
+above_last Less last is = refl
+above_last Equal Less is = refl
+above_last Equal Equal is = refl
+above_last Equal Greater is = absurd (cc)
+above_last Greater last is = refl
+
+pub above_places : (address back time place : Ordering) → address ≡ ordering_reverse back → is_le time ≡ true → is_le place ≡ true → is_gt (ordering_then (ordering_then address time) place) ≡ is_lt back
+above_places address back time place reversed last_time last_place =
+    above_last (ordering_then address time) place last_place ∙ above_last address time last_time ∙ ap is_gt reversed ∙ turned back
+  where
+    turned : (o : Ordering) → is_gt (ordering_reverse o) ≡ is_lt o
+    turned Less = refl
+    turned Equal = refl
+    turned Greater = refl
+
 -- a time that was read is the time
 pub key_of_time : (bytes : List ℕ) (address : Ipv6Addr) (time : ℤ) (place : ℕ) → FitsSigned w64 time → AreKeyBytes bytes address (to_z w64 (of_z w64 time)) place → AreKeyBytes bytes address time place
 key_of_time bytes address time place fits is = subst (λ t. AreKeyBytes bytes address t place) (to_z-of_z w64 time fits) is
+
+-- nor does it matter that both times of a query were read
+pub same_times : {X : Type 0} (f : ℤ → ℤ → X) (from to : ℤ) → FitsSigned w64 from × FitsSigned w64 to → f (to_z w64 (of_z w64 from)) (to_z w64 (of_z w64 to)) ≡ f from to
+same_times f from to fits = ap (λ t. f t (to_z w64 (of_z w64 to))) (to_z-of_z w64 from fits.0) ∙ ap (f from) (to_z-of_z w64 to fits.1)

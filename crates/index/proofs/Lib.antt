@@ -5,4 +5,6 @@ mod EntryLemmas
 mod KeyLemmas
 mod TimeLemmas
 mod RowLemmas
+mod ListLemmas
+mod HostLemmas
 mod ReplyLemmas

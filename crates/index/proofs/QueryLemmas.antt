@@ -1,13 +1,13 @@
 -- What lines of the input say.
-use Rattle.std.proofs.Common.{◌≡◌, ◌≢◌, ◌∙◌, inl, inr, ℕ, ℤ, List, ◌∷◌, ◌++◌, sym, ap, subst, arith}
+use Rattle.std.proofs.Common.{◌≡◌, ◌≢◌, ◌∙◌, inl, inr, ℕ, ℤ, List, ◌∷◌, ◌++◌, sym, ap, subst, arith, get_or}
 use Rattle.std.specs.Prelude.{codes, Result, Ok, Err, OnErr}
 use Rattle.std.specs.declared.net.Ipv6Addr.{Ipv6Addr}
 use Rattle.program_lines.specs.Lines.{HasNo, IsCutAt}
 use Rattle.program_lines.proofs.Cuts.{same_cut, cut_has_one}
 use Rattle.index.specs.declared.query.Query.{Query}
-use Rattle.index.specs.declared.query.Query.TheVariants.{Host, First, Last, Count}
+use Rattle.index.specs.declared.query.Query.TheVariants.{Host, Time, Hosts, First, Last, Count, CountHost}
 use Rattle.index.specs.Fields.{IsAddress, IsTime}
-use Rattle.index.specs.Queries.{AreBounds, AskFor, HasBounds, SayHost}
+use Rattle.index.specs.Queries.{AreBounds, AskFor, HasBounds, HasNoWord, SayHost}
 
 -- what is so anyway, is so of an error
 pub anyway : {X E : Type 0} {Q : Type 0} (result : Result X E) → Q → OnErr result Q
@@ -18,9 +18,6 @@ anyway (Err e) so = so
 pub on_err : {X E : Type 0} {P Q : Type 0} (result : Result X E) → (P → Q) → OnErr result P → OnErr result Q
 on_err (Ok x) more so = tt
 on_err (Err e) more so = more so
-
-heads : {a b : ℕ} {xs ys : List ℕ} → a ∷ xs ≡ b ∷ ys → a ≡ b
-heads same = cc
 
 -- what is no pair of bounds
 module _ (text rest : List ℕ) (begins : text ≡ codes "from " ++ rest) where
@@ -65,9 +62,9 @@ no_host text host bounds cut refused address from to (inr (other, later, is, non
     let same = same_cut 32 host other bounds later cut.1 none (sym cut.0 ∙ is) in
     refused address from to (subst (λ h. IsAddress h address) (sym same.0) is_address) (subst (λ b. AreBounds b from to) (sym same.1) are)
 
--- a line that begins with another byte is none
-apart : {a b : ℕ} {xs ys : List ℕ} → a ∷ xs ≡ b ∷ ys → a ≢ b → ⊥
-apart same differ = differ (heads same)
+-- texts that differ at a place are not the same
+differ_at : (place : ℕ) (xs ys : List ℕ) → get_or xs place 0 ≢ get_or ys place 0 → xs ≡ ys → ⊥
+differ_at place xs ys differ same = differ (ap (λ text. get_or text place 0) same)
 
 -- a line that begins so is no other query
 pub no_host_query : (line rest : List ℕ) → line ≡ codes "host " ++ rest → ((address : Ipv6Addr) (from to : ℤ) → SayHost rest address from to → ⊥) → (query : Query) → AskFor line query → ⊥
@@ -75,6 +72,43 @@ no_host_query line rest begins refused (Host address from to) (text, is, said) =
     let both : codes "host " ++ rest ≡ codes "host " ++ text = sym begins ∙ is in
     let same : rest ≡ text = cc in
     refused address from to (subst (λ t. SayHost t address from to) (sym same) said)
-no_host_query line rest begins refused First is = absurd (apart (sym begins ∙ is) (omega arith))
-no_host_query line rest begins refused Last is = absurd (apart (sym begins ∙ is) (omega arith))
-no_host_query line rest begins refused Count is = absurd (apart (sym begins ∙ is) (omega arith))
+no_host_query line rest begins refused (Time from to) (text, is, said) = differ_at 0 (codes "host " ++ rest) (codes "time " ++ text) (omega arith) (sym begins ∙ is)
+no_host_query line rest begins refused Hosts is = differ_at 4 (codes "host " ++ rest) (codes "hosts") (omega arith) (sym begins ∙ is)
+no_host_query line rest begins refused First is = differ_at 0 (codes "host " ++ rest) (codes "first") (omega arith) (sym begins ∙ is)
+no_host_query line rest begins refused Last is = differ_at 0 (codes "host " ++ rest) (codes "last") (omega arith) (sym begins ∙ is)
+no_host_query line rest begins refused Count is = differ_at 0 (codes "host " ++ rest) (codes "count") (omega arith) (sym begins ∙ is)
+no_host_query line rest begins refused (CountHost address from to) (text, is, said) = differ_at 0 (codes "host " ++ rest) (codes "count " ++ text) (omega arith) (sym begins ∙ is)
+
+pub no_time_query : (line rest : List ℕ) → line ≡ codes "time " ++ rest → ((from to : ℤ) → AreBounds rest from to → ⊥) → (query : Query) → AskFor line query → ⊥
+no_time_query line rest begins refused (Host address from to) (text, is, said) = differ_at 0 (codes "time " ++ rest) (codes "host " ++ text) (omega arith) (sym begins ∙ is)
+no_time_query line rest begins refused (Time from to) (text, is, said) =
+    let both : codes "time " ++ rest ≡ codes "time " ++ text = sym begins ∙ is in
+    let same : rest ≡ text = cc in
+    refused from to (subst (λ t. AreBounds t from to) (sym same) said)
+no_time_query line rest begins refused Hosts is = differ_at 0 (codes "time " ++ rest) (codes "hosts") (omega arith) (sym begins ∙ is)
+no_time_query line rest begins refused First is = differ_at 0 (codes "time " ++ rest) (codes "first") (omega arith) (sym begins ∙ is)
+no_time_query line rest begins refused Last is = differ_at 0 (codes "time " ++ rest) (codes "last") (omega arith) (sym begins ∙ is)
+no_time_query line rest begins refused Count is = differ_at 0 (codes "time " ++ rest) (codes "count") (omega arith) (sym begins ∙ is)
+no_time_query line rest begins refused (CountHost address from to) (text, is, said) = differ_at 0 (codes "time " ++ rest) (codes "count " ++ text) (omega arith) (sym begins ∙ is)
+
+pub no_count_query : (line rest : List ℕ) → line ≡ codes "count " ++ rest → ((address : Ipv6Addr) (from to : ℤ) → SayHost rest address from to → ⊥) → (query : Query) → AskFor line query → ⊥
+no_count_query line rest begins refused (Host address from to) (text, is, said) = differ_at 0 (codes "count " ++ rest) (codes "host " ++ text) (omega arith) (sym begins ∙ is)
+no_count_query line rest begins refused (Time from to) (text, is, said) = differ_at 0 (codes "count " ++ rest) (codes "time " ++ text) (omega arith) (sym begins ∙ is)
+no_count_query line rest begins refused Hosts is = differ_at 0 (codes "count " ++ rest) (codes "hosts") (omega arith) (sym begins ∙ is)
+no_count_query line rest begins refused First is = differ_at 0 (codes "count " ++ rest) (codes "first") (omega arith) (sym begins ∙ is)
+no_count_query line rest begins refused Last is = differ_at 0 (codes "count " ++ rest) (codes "last") (omega arith) (sym begins ∙ is)
+no_count_query line rest begins refused Count is = differ_at 5 (codes "count " ++ rest) (codes "count") (omega arith) (sym begins ∙ is)
+no_count_query line rest begins refused (CountHost address from to) (text, is, said) =
+    let both : codes "count " ++ rest ≡ codes "count " ++ text = sym begins ∙ is in
+    let same : rest ≡ text = cc in
+    refused address from to (subst (λ t. SayHost t address from to) (sym same) said)
+
+-- nor is a line that has none of the words
+pub no_query : (line : List ℕ) → HasNoWord line → (query : Query) → AskFor line query → ⊥
+no_query line none (Host address from to) (text, is, said) = none.0 text is
+no_query line none (Time from to) (text, is, said) = none.1 text is
+no_query line none Hosts is = none.3 is
+no_query line none First is = none.4 is
+no_query line none Last is = none.5 is
+no_query line none Count is = none.6 is
+no_query line none (CountHost address from to) (text, is, said) = none.2 text is

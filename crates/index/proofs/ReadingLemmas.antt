@@ -1,11 +1,10 @@
 -- What lines of the table say.
-use Rattle.std.proofs.Common.{inr, refl, ◌≡◌, ◌∙◌, ℕ, ◌+◌, ◌≤◌, ◌==◌, ℤ, List, [], ◌∷◌, ◌++◌, length, sym, ap, subst, arith, length-append}
+use Rattle.std.proofs.Common.{inr, refl, ◌≡◌, ◌∙◌, ℕ, ◌+◌, ◌≤◌, ◌==◌, ℤ, true, false, List, [], ◌∷◌, ◌++◌, length, sym, ap, subst, arith, length-append}
 use Rattle.std.specs.List.{slice_split, count_by}
 use Rattle.std.specs.declared.net.Ipv6Addr.{Ipv6Addr}
 use Rattle.std.proofs.lemmas.List.Splits.{length-slice_split}
 use Rattle.std.proofs.lemmas.List.Sums.{count_by-le-length}
 use Rattle.std.specs.Prelude.{Result, Ok, Err, IfErr}
-use Rattle.program_lines.specs.declared.failure.BadLine.{BadLine}
 use Rattle.program_lines.specs.declared.failure.Failure.{Failure}
 use Rattle.program_lines.specs.declared.failure.Failure.TheVariants.{BadLine as AtLine, OutOfMemory, Device}
 use Rattle.program_lines.specs.declared.failure.Place.TheVariants.{File}
@@ -13,7 +12,6 @@ use Rattle.program_lines.specs.Failures.{IfBadLine, IsLineFailure}
 use Rattle.program_lines.specs.Faults.{IsLineFault}
 use Rattle.program_lines.specs.declared.line_fault.LineFault.{LineFault}
 use Rattle.index.specs.declared.fault.Fault.{Fault}
-use Rattle.index.specs.declared.reading.Header.TheVariants.{Given, Absent}
 use Rattle.program_lines.specs.Lines.{HasNo, IsCutAt, IsFirstBad, line_at, lines_of, without_empty_last}
 use Rattle.program_lines.proofs.Cuts.{same_cut, cut_has_one}
 use Rattle.index.specs.declared.reading.Reading.{Reading}
@@ -58,13 +56,13 @@ number_below Say bytes number (before, after, bad, items, is, counted, said, non
     omega (arith, size, length-append before (bad ∷ after), counted, many_lines bytes)
 
 -- the first bad row is a bad line of the file
-pub absent_bad : {X : Type 0} (file : List ℕ) (result : Result X (Failure (LineFault Fault))) → IfErr result (IfBadLine (λ bad. (bad.place ≡ File) × IsFirstBad SayReading (lines_of file) bad.number)) → IfErr result (IsLineFailure (λ bad. IsLineFault IsFieldFault (line_at (lines_of file) bad.number) bad.fault)) → IfErr result (IfBadLine (IsBadRow Absent file))
+pub absent_bad : {X : Type 0} (file : List ℕ) (result : Result X (Failure (LineFault Fault))) → IfErr result (IfBadLine (λ bad. (bad.place ≡ File) × IsFirstBad SayReading (lines_of file) bad.number)) → IfErr result (IsLineFailure (λ bad. IsLineFault IsFieldFault (line_at (lines_of file) bad.number) bad.fault)) → IfErr result (IfBadLine (IsBadRow false file))
 absent_bad file (Ok x) first fault = tt
 absent_bad file (Err (AtLine bad)) first fault = let same : bad.number ≡ bad.number + 0 = omega arith in (first.0, inr (lines_of file, refl, (bad.number, same, first.1, fault)))
 absent_bad file (Err OutOfMemory) first fault = tt
 absent_bad file (Err Device) first fault = tt
 
-pub given_bad : {X : Type 0} (file rows : List ℕ) (result : Result X (Failure (LineFault Fault))) → AreRowLines Given file (lines_of rows) → IfErr result (IfBadLine (λ bad. (bad.place ≡ File) × IsFirstBadRow 1 (lines_of rows) bad)) → IfErr result (IfBadLine (IsBadRow Given file))
+pub given_bad : {X : Type 0} (file rows : List ℕ) (result : Result X (Failure (LineFault Fault))) → AreRowLines true file (lines_of rows) → IfErr result (IfBadLine (λ bad. (bad.place ≡ File) × IsFirstBadRow 1 (lines_of rows) bad)) → IfErr result (IfBadLine (IsBadRow true file))
 given_bad file rows (Ok x) are first = tt
 given_bad file rows (Err (AtLine bad)) are first = (first.0, inr (lines_of rows, are, first.1))
 given_bad file rows (Err OutOfMemory) are first = tt

@@ -1,25 +1,26 @@
 -- What queries print.
-use Rattle.std.proofs.Common.{◌≡◌, ◌∙◌, ℕ, ◌-◌, ℤ, List, ◌++◌, length, filter, Option, Some, None, refl, sym, ap}
+use Rattle.std.proofs.Common.{◌≡◌, ◌∙◌, ℕ, ◌-◌, Bool, List, ◌++◌, length, Option, Some, None, refl, sym, ap, subst}
 use Rattle.std.specs.Prelude.{slice_get, Result, Ok, Err, IfOk, IfNone}
 use Rattle.std.specs.Borrow.{Bor}
-use Rattle.std.specs.Fmt.{decimal}
-use Rattle.std.specs.List.{flat_map}
 use Rattle.std.specs.Option.{option_map}
 use Rattle.std.specs.declared.net.Ipv6Addr.{Ipv6Addr}
 use Rattle.std.proofs.lemmas.List.{length-map}
 use Rattle.std.proofs.lemmas.Option.{slice_get-map}
-use Rattle.program_lines.specs.Lines.{line}
 use Rattle.index.specs.declared.query.Query.{Query}
-use Rattle.index.specs.declared.query.Query.TheVariants.{Host, First, Last, Count}
+use Rattle.index.specs.declared.query.Query.TheVariants.{First, Last}
 use Rattle.index.specs.declared.rows.Row.{Row}
-use Rattle.index.specs.declared.reading.Header.{Header}
 use Rattle.index.specs.Keys.{IsTable}
 use Rattle.index.specs.Queries.{SayQuery}
-use Rattle.index.specs.Replies.{HasReply, end_line, is_within, reply, row_line}
+use Rattle.index.specs.Replies.{HasReply, IsReply, end_line}
+use Rattle.index.specs.Searches.{AppendsReply}
 use Rattle.index.proofs.EntryLemmas.{values_of}
 
+-- a reply to a query that is known
+pub appended : (rows : List Row) (query this : Query) (old new text : List ℕ) → query ≡ this → IsReply rows this text → new ≡ old ++ text → AppendsReply rows query old new
+appended rows query this old new text is reply pushed = (text, subst (λ q. IsReply rows q text) (sym is) reply, pushed)
+
 module _ {K : Type 0} (entries : List (K × Row)) where
-  abbrev row_of : K × Row → Row
+  abbrev pub row_of : K × Row → Row
   row_of entry = entry.1
 
   abbrev shown_entry : Bor K × Bor Row → K × Row
@@ -28,31 +29,37 @@ module _ {K : Type 0} (entries : List (K × Row)) where
   abbrev shown_row : Bor K × Bor Row → Row
   shown_row e = e.1.now
 
-  -- the row at an end
-  end_row : (o : Option (Bor K × Bor Row)) (n : ℕ) → option_map shown_entry o ≡ slice_get entries n → option_map shown_row o ≡ slice_get (values_of entries) n
-  end_row o n is = both o ∙ ap (option_map row_of) is ∙ sym (slice_get-map row_of entries n)
+  abbrev address_of : Row → Ipv6Addr
+  address_of row = row.reading.address
+
+  -- the row at a place
+  pub row_at : (o : Option (Bor K × Bor Row)) (n : ℕ) → option_map shown_entry o ≡ slice_get entries n → option_map shown_row o ≡ slice_get (values_of entries) n
+  row_at o n is = both o ∙ ap (option_map row_of) is ∙ sym (slice_get-map row_of entries n)
     where
       both : (o : Option (Bor K × Bor Row)) → option_map shown_row o ≡ option_map row_of (option_map shown_entry o)
       both None = refl
       both (Some e) = refl
 
-  module _ (output longer : List ℕ) (query : Query) where
-    pub reply_host : (address : Ipv6Addr) (from to : ℤ) (shown : List (K × Row)) → query ≡ Host address from to → values_of shown ≡ filter (is_within address from to) (values_of entries) → longer ≡ output ++ flat_map row_line (values_of shown) → longer ≡ output ++ reply (values_of entries) query
-    reply_host address from to shown is rows pushed = pushed ∙ ap (λ r. output ++ flat_map row_line r) rows ∙ ap (λ q. output ++ reply (values_of entries) q) (sym is)
+  -- the host of the first row
+  pub first_host : (rows : List Row) (o : Option (Bor K × Bor Row)) (result : Option Ipv6Addr) → result ≡ option_map (λ e. e.1.now.reading.address) o → option_map shown_entry o ≡ slice_get entries 0 → values_of entries ≡ rows → result ≡ option_map (λ row. row.reading.address) (slice_get rows 0)
+  first_host rows o result is first same = is ∙ both o ∙ ap (option_map address_of) (row_at o 0 first) ∙ ap (λ r. option_map address_of (slice_get r 0)) same
+    where
+      both : (o : Option (Bor K × Bor Row)) → option_map (λ e. e.1.now.reading.address) o ≡ option_map (λ row. row.reading.address) (option_map shown_row o)
+      both None = refl
+      both (Some e) = refl
 
-    pub reply_first : (o : Option (Bor K × Bor Row)) → query ≡ First → option_map shown_entry o ≡ slice_get entries 0 → longer ≡ output ++ end_line (option_map shown_row o) → longer ≡ output ++ reply (values_of entries) query
-    reply_first o is first pushed = pushed ∙ ap (λ e. output ++ end_line e) (end_row o 0 first) ∙ ap (λ q. output ++ reply (values_of entries) q) (sym is)
+  module _ (query : Query) (old new : List ℕ) (o : Option (Bor K × Bor Row)) (pushed : new ≡ old ++ end_line (option_map shown_row o)) where
+    pub reply_first : query ≡ First → option_map shown_entry o ≡ slice_get entries 0 → AppendsReply (values_of entries) query old new
+    reply_first is first = appended (values_of entries) query First old new (end_line (slice_get (values_of entries) 0)) is refl (pushed ∙ ap (λ e. old ++ end_line e) (row_at o 0 first))
 
-    pub reply_last : (o : Option (Bor K × Bor Row)) → query ≡ Last → option_map shown_entry o ≡ slice_get entries (length entries - 1) → longer ≡ output ++ end_line (option_map shown_row o) → longer ≡ output ++ reply (values_of entries) query
-    reply_last o is last pushed =
-        pushed ∙ ap (λ e. output ++ end_line e) (end_row o (length entries - 1) last ∙ ap (λ n. slice_get (values_of entries) (n - 1)) (sym (length-map entries row_of))) ∙ ap (λ q. output ++ reply (values_of entries) q) (sym is)
-
-    pub reply_count : (n : ℕ) → query ≡ Count → n ≡ length entries → longer ≡ output ++ line (decimal n) → longer ≡ output ++ reply (values_of entries) query
-    reply_count n is many pushed = pushed ∙ ap (λ m. output ++ line (decimal m)) (many ∙ sym (length-map entries row_of)) ∙ ap (λ q. output ++ reply (values_of entries) q) (sym is)
+    pub reply_last : query ≡ Last → option_map shown_entry o ≡ slice_get entries (length entries - 1) → AppendsReply (values_of entries) query old new
+    reply_last is last =
+        let place = ap (λ n. slice_get (values_of entries) (n - 1)) (sym (length-map entries row_of)) in
+        appended (values_of entries) query Last old new (end_line (slice_get (values_of entries) (length (values_of entries) - 1))) is refl (pushed ∙ ap (λ e. old ++ end_line e) (row_at o (length entries - 1) last ∙ place))
 
 -- a reply to a line, by the file of the rows
-pub reply_said : {K E F : Type 0} (header : Header) (text : K → List ℕ) (entries : List (K × Row)) (given old new : List ℕ) (result : Result (Option F) E) → IfOk result (λ fault. IfNone fault ((query : Query) × SayQuery given query × (new ≡ old ++ reply (values_of entries) query)))
-    → IfOk result (λ fault. IfNone fault ((file : List ℕ) → IsTable text header file entries → (shown : List ℕ) × HasReply header file given shown × (new ≡ old ++ shown)))
-reply_said header text entries given old new (Err e) so = tt
-reply_said header text entries given old new (Ok (Some fault)) so = tt
-reply_said header text entries given old new (Ok None) (query, said, is) = λ file table. (reply (values_of entries) query, (table.0, values_of entries, query, table.1, table.2, said, refl), is)
+pub reply_said : {K E F : Type 0} (has_header : Bool) (text : K → List ℕ) (entries : List (K × Row)) (given old new : List ℕ) (result : Result (Option F) E) → IfOk result (λ fault. IfNone fault ((query : Query) × SayQuery given query × AppendsReply (values_of entries) query old new))
+    → IfOk result (λ fault. IfNone fault ((file : List ℕ) → IsTable text has_header file entries → (shown : List ℕ) × HasReply has_header file given shown × (new ≡ old ++ shown)))
+reply_said has_header text entries given old new (Err e) so = tt
+reply_said has_header text entries given old new (Ok (Some fault)) so = tt
+reply_said has_header text entries given old new (Ok None) (query, said, (shown, reply, is)) = λ file table. (shown, (table.0, values_of entries, query, table.1, table.2, said, reply), is)

@@ -1,13 +1,12 @@
 -- The keys of rows, and times. No public clause cites this.
-use Rattle.std.specs.Prelude.{◌≡◌, ℕ, ℤ, List, ◌++◌, All, FitsSigned, map}
+use Rattle.std.specs.Prelude.{◌≡◌, ℕ, ℤ, Bool, List, ◌++◌, All, FitsSigned, map}
 use Rattle.std.specs.Int.{w64}
 use Rattle.std.specs.Net.Addr.{ipv6_octets}
 use Rattle.std.specs.declared.net.Ipv6Addr.{Ipv6Addr}
 use Rattle.art_mapped.specs.Addresses.{IsIpv6}
 use Rattle.art_mapped.specs.Numbers.{IsSigned, IsUnsigned, digits, signed_text}
 use Rattle.index.specs.declared.query.Query.{Query}
-use Rattle.index.specs.declared.query.Query.TheVariants.{Host, First, Last, Count}
-use Rattle.index.specs.declared.reading.Header.{Header}
+use Rattle.index.specs.declared.query.Query.TheVariants.{Host, Time, Hosts, First, Last, Count, CountHost}
 use Rattle.index.specs.declared.reading.Reading.{Reading}
 use Rattle.index.specs.declared.row_key.RowKey.{RowKey}
 use Rattle.index.specs.declared.rows.Row.{Row}
@@ -16,7 +15,7 @@ use Rattle.index.specs.Rows.{IsIndex}
 
 -- the bytes of a key
 abbrev pub row_key_text : RowKey → List ℕ
-row_key_text key = key.bytes.items
+row_key_text key = key.bytes
 
 -- these are the key bytes of an address, a time and a place
 pub record AreKeyBytes (bytes : List ℕ) (address : Ipv6Addr) (time : ℤ) (place : ℕ) : Type 0 where
@@ -40,11 +39,14 @@ HasTime reading = FitsSigned w64 reading.time
 -- so have the times of a query
 abbrev pub HasTimes : Query → Type 0
 HasTimes (Host address from to) = FitsSigned w64 from × FitsSigned w64 to
+HasTimes (Time from to) = FitsSigned w64 from × FitsSigned w64 to
+HasTimes Hosts = Unit {0}
 HasTimes First = Unit {0}
 HasTimes Last = Unit {0}
 HasTimes Count = Unit {0}
+HasTimes (CountHost address from to) = FitsSigned w64 from × FitsSigned w64 to
 
 -- the entries are the rows of this table, each under its key
-abbrev pub IsTable : {K : Type 0} → (K → List ℕ) → Header → List ℕ → List (K × Row) → Type 0
-IsTable text header file entries =
-    (table : List Reading) × AreReadings header file table × IsIndex table (map (λ entry. entry.1) entries) × AreKeyed text entries
+abbrev pub IsTable : {K : Type 0} → (K → List ℕ) → Bool → List ℕ → List (K × Row) → Type 0
+IsTable text has_header file entries =
+    (table : List Reading) × AreReadings has_header file table × IsIndex table (map (λ entry. entry.1) entries) × AreKeyed text entries

@@ -5,3 +5,4 @@ pub mod Queries
 pub mod Rows
 pub mod Replies
 pub mod Keys
+pub mod Searches

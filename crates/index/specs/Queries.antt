@@ -5,7 +5,7 @@ use Rattle.program_lines.specs.Lines.{HasNo, IsCutAt, SayLine}
 use Rattle.index.specs.declared.fault.Fault.{Fault}
 use Rattle.index.specs.declared.fault.Fault.TheVariants.{BadAddress, BadTime, UnknownQuery}
 use Rattle.index.specs.declared.query.Query.{Query}
-use Rattle.index.specs.declared.query.Query.TheVariants.{Host, First, Last, Count}
+use Rattle.index.specs.declared.query.Query.TheVariants.{Host, Time, Hosts, First, Last, Count, CountHost}
 use Rattle.index.specs.Fields.{IsAddress, IsTime}
 
 -- the text is `from WORD to WORD`
@@ -22,12 +22,16 @@ SayHost text address from to =
     (HasNo 32 text × IsAddress text address × (from ≡ neg_ℤ (pos (2 ^ 63))) × (to ≡ pos (2 ^ 63 - 1)))
     ⊎ ((host bounds : List ℕ) × (text ≡ host ++ 32 ∷ bounds) × HasNo 32 host × IsAddress host address × AreBounds bounds from to)
 
--- the line asks for this: `host ADDRESS`, `host ADDRESS from TIME to TIME`, `first`, `last` or `count`
+-- the line asks for this: `host` or `count` with an address, and with or without `from TIME to TIME`; `time` with these;
+-- `hosts`, `first`, `last` or `count`
 abbrev pub AskFor : List ℕ → Query → Type 0
 AskFor line (Host address from to) = (text : List ℕ) × (line ≡ codes "host " ++ text) × SayHost text address from to
+AskFor line (Time from to) = (text : List ℕ) × (line ≡ codes "time " ++ text) × AreBounds text from to
+AskFor line Hosts = line ≡ codes "hosts"
 AskFor line First = line ≡ codes "first"
 AskFor line Last = line ≡ codes "last"
 AskFor line Count = line ≡ codes "count"
+AskFor line (CountHost address from to) = (text : List ℕ) × (line ≡ codes "count " ++ text) × SayHost text address from to
 
 -- a line of the input is a query: it asks for something, and has no carriage return at its end
 abbrev pub SayQuery : List ℕ → Query → Type 0
@@ -50,12 +54,14 @@ IsHostFault text fault =
     (HasNo 32 text × IsAddressFault text fault)
     ⊎ ((host bounds : List ℕ) × IsCutAt 32 text host bounds × (IsAddressFault host fault ⊎ IsBoundsFault bounds fault))
 
--- the line is no word of a query, and does not begin with `host `
+-- the line is no query of one word, and does not begin as the others do
 abbrev pub HasNoWord : List ℕ → Type 0
 HasNoWord line =
-    ((text : List ℕ) → line ≢ codes "host " ++ text) × (line ≢ codes "first") × (line ≢ codes "last") × (line ≢ codes "count")
+    ((text : List ℕ) → line ≢ codes "host " ++ text) × ((text : List ℕ) → line ≢ codes "time " ++ text) × ((text : List ℕ) → line ≢ codes "count " ++ text)
+    × (line ≢ codes "hosts") × (line ≢ codes "first") × (line ≢ codes "last") × (line ≢ codes "count")
 
 -- what is wrong with a line that asks for nothing
 abbrev pub IsAskFault : List ℕ → Fault → Type 0
 IsAskFault line fault =
-    ((fault ≡ UnknownQuery) × HasNoWord line) ⊎ ((text : List ℕ) × (line ≡ codes "host " ++ text) × IsHostFault text fault)
+    ((fault ≡ UnknownQuery) × HasNoWord line) ⊎ (((text : List ℕ) × (line ≡ codes "host " ++ text) × IsHostFault text fault)
+    ⊎ (((text : List ℕ) × (line ≡ codes "time " ++ text) × IsBoundsFault text fault) ⊎ ((text : List ℕ) × (line ≡ codes "count " ++ text) × IsHostFault text fault)))

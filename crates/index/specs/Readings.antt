@@ -1,5 +1,5 @@
 -- What the lines of the table say.
-use Rattle.std.specs.Prelude.{◌≡◌, ◌⊎◌, ℕ, ℤ, ◌+◌, List, ◌∷◌, ◌++◌, codes}
+use Rattle.std.specs.Prelude.{◌≡◌, ◌⊎◌, ℕ, ℤ, ◌+◌, Bool, true, false, List, ◌∷◌, ◌++◌, codes}
 use Rattle.std.specs.declared.net.Ipv6Addr.{Ipv6Addr}
 use Rattle.program_lines.specs.Lines.{EndsInReturn, HasNo, IsCutAt, IsFirstBad, SayLine, line_at, lines_of}
 use Rattle.program_lines.specs.Faults.{IsLineFault}
@@ -9,8 +9,6 @@ use Rattle.program_lines.specs.declared.line_fault.LineFault.{LineFault}
 use Rattle.program_lines.specs.declared.line_fault.LineFault.TheVariants.{CarriageReturn, Other}
 use Rattle.index.specs.declared.fault.Fault.{Fault}
 use Rattle.index.specs.declared.fault.Fault.TheVariants.{NoHeader, MissingField, BadAddress, BadTime}
-use Rattle.index.specs.declared.reading.Header.{Header}
-use Rattle.index.specs.declared.reading.Header.TheVariants as headers
 use Rattle.index.specs.declared.reading.Reading.{Reading}
 use Rattle.index.specs.Fields.{IsAddress, IsTime}
 
@@ -38,19 +36,19 @@ abbrev pub header_line : List ℕ
 header_line = codes "address,time,value"
 
 -- these are the lines of the rows: those after the header, or all of them where there is to be none
-abbrev pub AreRowLines : Header → List ℕ → List (List ℕ) → Type 0
-AreRowLines headers.Given file rows = lines_of file ≡ header_line ∷ rows
-AreRowLines headers.Absent file rows = lines_of file ≡ rows
+abbrev pub AreRowLines : Bool → List ℕ → List (List ℕ) → Type 0
+AreRowLines true file rows = lines_of file ≡ header_line ∷ rows
+AreRowLines false file rows = lines_of file ≡ rows
 
 -- how many lines come before the rows
-abbrev pub lines_before : Header → ℕ
-lines_before headers.Given = 1
-lines_before headers.Absent = 0
+abbrev pub lines_before : Bool → ℕ
+lines_before true = 1
+lines_before false = 0
 
 -- what is wrong with the first line, where it is to be the header
 abbrev pub IsHeaderFault : List ℕ → LineFault Fault → Type 0
 IsHeaderFault file CarriageReturn = EndsInReturn (line_at (lines_of file) 1)
-IsHeaderFault file (Other NoHeader) = (¬ EndsInReturn (line_at (lines_of file) 1)) × ((rows : List (List ℕ)) → ¬ AreRowLines headers.Given file rows)
+IsHeaderFault file (Other NoHeader) = (¬ EndsInReturn (line_at (lines_of file) 1)) × ((rows : List (List ℕ)) → ¬ AreRowLines true file rows)
 IsHeaderFault file _ = ⊥
 
 -- this is the first of the rows that is no reading, by its number in a file where so many lines come before
@@ -59,8 +57,8 @@ IsFirstBadRow before rows bad =
     (number : ℕ) × (bad.number ≡ number + before) × IsFirstBad SayReading rows number × IsLineFault IsFieldFault (line_at rows number) bad.fault
 
 -- the header is missing, or this is the first row that is no reading
-abbrev pub IsBadRow : Header → List ℕ → BadLine (LineFault Fault) → Type 0
-IsBadRow header file bad =
+abbrev pub IsBadRow : Bool → List ℕ → BadLine (LineFault Fault) → Type 0
+IsBadRow has_header file bad =
     (bad.place ≡ File)
-    × (((header ≡ headers.Given) × (bad.number ≡ 1) × IsHeaderFault file bad.fault)
-    ⊎ ((rows : List (List ℕ)) × AreRowLines header file rows × IsFirstBadRow (lines_before header) rows bad))
+    × (((has_header ≡ true) × (bad.number ≡ 1) × IsHeaderFault file bad.fault)
+    ⊎ ((rows : List (List ℕ)) × AreRowLines has_header file rows × IsFirstBadRow (lines_before has_header) rows bad))

@@ -1,5 +1,5 @@
--- The rows of a table in order.
-use Rattle.std.specs.Prelude.{◌≡◌, ◌↔◌, List, AllPairs, Contains, Some, slice_get}
+-- The rows of a table in order, and their hosts.
+use Rattle.std.specs.Prelude.{◌≡◌, ◌↔◌, List, AllPairs, Contains, Some, map, slice_get}
 use Rattle.std.specs.Net.Addr.{ipv6_segments}
 use Rattle.std.specs.Ordering.{nat_cmp, int_cmp, ordering_then}
 use Rattle.std.specs.Cmp.Lexicographic.{slice_cmp}
@@ -21,3 +21,12 @@ row_order a b = ordering_then (ordering_then (address_order a.reading.address b.
 pub record IsIndex (table : List Reading) (rows : List Row) : Type 0 where
   pub ascending : AllPairs (λ a b. row_order a b ≡ Less) rows
   pub same_rows : (row : Row) → Contains rows row ↔ (slice_get table row.place ≡ Some row.reading)
+
+-- the address of each row
+abbrev pub addresses_of : List Row → List Ipv6Addr
+addresses_of rows = map (λ row. row.reading.address) rows
+
+-- hosts are the addresses that have a row, each once, in ascending order
+pub record AreHosts (rows : List Row) (hosts : List Ipv6Addr) : Type 0 where
+  pub ascending : AllPairs (λ a b. address_order a b ≡ Less) hosts
+  pub same_hosts : (host : Ipv6Addr) → Contains hosts host ↔ Contains (addresses_of rows) host

@@ -1,5 +1,5 @@
 //! Queries, and the lines that say them.
-ghost use Rattle.std.specs.Prelude.{◌≡◌, ◌≢◌, ◌++◌, ℕ, ℤ, List, IfErr, IfOk, MatchOption, OnErr};
+ghost use Rattle.std.specs.Prelude.{◌≡◌, ◌≢◌, ◌++◌, ℕ, ℤ, List, IfErr, IfOk, MatchOption, OnErr, codes};
 ghost use Rattle.std.specs.declared.net.Ipv6Addr.{Ipv6Addr};
 ghost use Rattle.index.specs.Queries.{AreBounds, AskFor, IsAskFault, IsBoundsFault, IsHostFault, SayHost};
 ghost use Rattle.index.specs.declared.query.Query.{Query};
@@ -15,12 +15,18 @@ pub enum Query {
     /// `host ADDRESS from TIME to TIME`: the rows of the host from the one time to the other, both
     /// included. `host ADDRESS`: all its rows, which are those from the least time to the greatest.
     Host(Ipv6Addr, i64, i64),
+    /// `time from TIME to TIME`: the rows of all hosts from the one time to the other, both included.
+    Time(i64, i64),
+    /// `hosts`: each address that has a row.
+    Hosts,
     /// `first`: the first row.
     First,
     /// `last`: the last row.
     Last,
     /// `count`: how many rows there are.
     Count,
+    /// `count ADDRESS from TIME to TIME`, or `count ADDRESS`: how many rows `host` has with the same words.
+    CountHost(Ipv6Addr, i64, i64),
 }
 
 impl<'a> FromLine<'a, Fault> for Query {
@@ -44,6 +50,29 @@ fn query_of(line: &[u8]) -> Result<Query, Fault>
     if let Some(rest) = after(line, b"host ") {
         let (address, from, to) = host_of(rest)?;
         return Ok(Query::Host(address, from, to));
+    }
+    if let Some(rest) = after(line, b"time ") {
+        let (first, last) = bounds_of(rest)?;
+        return Ok(Query::Time(first, last));
+    }
+    if let Some(rest) = after(line, b"count ") {
+        let (host, start, end) = host_of(rest)?;
+        return Ok(Query::CountHost(host, start, end));
+    }
+    word_of(line)
+}
+
+// The query of a line that is one word.
+fn word_of(line: &[u8]) -> Result<Query, Fault>
+    requires host { (text : List ℕ) → line.now ≢ codes "host " ++ text }
+    requires time { (text : List ℕ) → line.now ≢ codes "time " ++ text }
+    requires count { (text : List ℕ) → line.now ≢ codes "count " ++ text }
+    ensures said { IfOk result (AskFor line.now) }
+    ensures refused { OnErr result ((query : Query) → ¬ AskFor line.now query) }
+    ensures fault { IfErr result (IsAskFault line.now) }
+{
+    if line == b"hosts".as_slice() {
+        return Ok(Query::Hosts);
     }
     if line == b"first".as_slice() {
         return Ok(Query::First);

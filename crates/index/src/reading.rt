@@ -1,10 +1,9 @@
 //! Readings, and the table of them.
-ghost use Rattle.std.specs.Prelude.{◌≡◌, List, ℕ, IfErr, IfOk, OnErr};
+ghost use Rattle.std.specs.Prelude.{◌≡◌, List, ℕ, IfErr, IfOk, OnErr, true};
 ghost use Rattle.program_lines.specs.Failures.{IfBadLine};
 ghost use Rattle.program_lines.specs.Lines.{SayAll, lines_of};
 ghost use Rattle.index.specs.Readings.{AreRowLines, HasFields, IsBadRow, IsFieldFault, IsFirstBadRow, IsHeaderFault, SayReading};
 ghost use Rattle.program_lines.specs.declared.failure.Place.TheVariants.{File};
-ghost use Rattle.index.specs.declared.reading.Header.TheVariants.{Given};
 ghost use Rattle.index.specs.declared.reading.Reading.{Reading};
 
 use crate::fault::Fault;
@@ -15,15 +14,6 @@ use program_lines::{
 };
 use std::alloc::Global;
 use std::net::Ipv6Addr;
-
-/// Whether the first line of a table is a header.
-#[derive(Clone, Copy, Debug, PartialEq, Eq)]
-pub enum Header {
-    /// It is to be `address,time,value`.
-    Given,
-    /// It is a row as the others.
-    Absent,
-}
 
 /// A reading: what a line of the table says.
 #[derive(Clone, Copy)]
@@ -71,32 +61,33 @@ fn reading_of(line: &[u8]) -> Result<Reading<'_>, Fault>
 
 /// The readings of a table. An allocation may fail.
 ///
-/// Refuses a table without its header, and else the first row that is no reading.
+/// Refuses a table without its header, where it is to have one, and else the first row that is no
+/// reading.
 pub(crate) fn table_of(
     alloc: Global,
-    header: Header,
+    has_header: bool,
     file: &[u8],
 ) -> Result<Vec<Reading<'_>>, Failure<LineFault<Fault>>>
     ensures all { IfOk result (λ table. (rows : List (List ℕ))
-        × AreRowLines header file.now rows × SayAll SayReading rows table.items) }
-    ensures first_bad { IfErr result (IfBadLine (IsBadRow header file.now)) }
+        × AreRowLines has_header file.now rows × SayAll SayReading rows table.items) }
+    ensures first_bad { IfErr result (IfBadLine (IsBadRow has_header file.now)) }
 {
-    match header {
-        Header::Absent => said_whole(alloc, Place::File, file),
-        Header::Given => match rows_of(file) {
-            Ok(rows) => rows_after_header(alloc, rows),
-            Err(fault) => Err(Failure::BadLine(BadLine {
-                place: Place::File,
-                number: 1,
-                fault,
-            })),
-        },
+    if !has_header {
+        return said_whole(alloc, Place::File, file);
+    }
+    match rows_of(file) {
+        Ok(rows) => rows_after_header(alloc, rows),
+        Err(fault) => Err(Failure::BadLine(BadLine {
+            place: Place::File,
+            number: 1,
+            fault,
+        })),
     }
 }
 
 // What comes after the header of a table.
 fn rows_of(file: &[u8]) -> Result<&[u8], LineFault<Fault>>
-    ensures rows { IfOk result (λ rows. AreRowLines Given file.now (lines_of rows.now)) }
+    ensures rows { IfOk result (λ rows. AreRowLines true file.now (lines_of rows.now)) }
     ensures fault { IfErr result (IsHeaderFault file.now) }
 {
     if file.is_empty() {

@@ -1,46 +1,49 @@
 //! The replies to queries.
-ghost use Rattle.std.specs.Prelude.{◌≡◌, ◌++◌, IfErr, IfNone, IfOk, IfSome, OnOk, map};
+ghost use Rattle.std.specs.Prelude.{◌≡◌, ◌++◌, List, IfErr, IfNone, IfOk, IfSome, OnOk, filter, map};
 ghost use Rattle.std.specs.List.{flat_map};
 ghost use Rattle.std.specs.Option.{option_map};
+ghost use Rattle.std.specs.declared.net.Ipv6Addr.{Ipv6Addr};
 ghost use Rattle.index.specs.Keys.{AreKeyed, HasTimes, IsTable, row_key_text};
 ghost use Rattle.program_lines.specs.Failures.{IfBadLine};
 ghost use Rattle.index.specs.Queries.{SayQuery};
 ghost use Rattle.index.specs.Readings.{IsBadRow};
-ghost use Rattle.index.specs.Replies.{HasFault, end_line, reply, row_line};
+ghost use Rattle.index.specs.Replies.{HasFault, end_line, host_line, is_timed, row_line};
+ghost use Rattle.index.specs.Rows.{AreHosts};
+ghost use Rattle.index.specs.Searches.{AppendsReply};
 ghost use Rattle.index.specs.declared.query.Query.{Query};
 
 use crate::fault::Fault;
 use crate::query::Query;
-use crate::reading::{Header, table_of};
+use crate::reading::table_of;
 use crate::row_key::RowKey;
 use crate::rows::{Row, RowMap, index_of};
-use art_map::{DEFAULT_PREFIX_LEN, Iter};
+use crate::searches::{Rows, count_of_host, next_host, rows_of_host};
 use program_lines::{Failure, LineFault, Program, item_of, push_line, push_number};
 use std::alloc::{AllocError, Global};
-use std::ops::Bound;
+use std::net::Ipv6Addr;
 
-/// The rows of a table with a header, which answer queries.
+/// The rows of a table, which answer queries. The first line of the table is its header, or a row as
+/// the others.
 #[derive(Drop)]
-pub(crate) struct ReadingIndex<'a> {
+pub(crate) struct ReadingIndex<'a, const HAS_HEADER: bool> {
     rows: RowMap<'a>,
 }
 
-impl<'a> Program<'a> for ReadingIndex<'a> {
+impl<'a, const HAS_HEADER: bool> Program<'a> for ReadingIndex<'a, HAS_HEADER> {
     ghost use Rattle.std.specs.Prelude.{◌≡◌, []};
     ghost use Rattle.index.specs.Keys.{IsTable, row_key_text};
     ghost use Rattle.index.specs.Readings.{IsBadRow};
     ghost use Rattle.index.specs.Replies.{HasReply, HasFault};
-    ghost use Rattle.index.specs.declared.reading.Header.TheVariants.{Given};
 
     type Fault = Fault;
 
-    ghost is_table = { λ file index. IsTable row_key_text Given file index.rows };
+    ghost is_table = { λ file index. IsTable row_key_text HAS_HEADER file index.rows };
 
     ghost is_heading = { λ file heading. heading ≡ [] };
 
-    ghost is_reply = { HasReply Given };
+    ghost is_reply = { HasReply HAS_HEADER };
 
-    ghost is_bad = { IsBadRow Given };
+    ghost is_bad = { IsBadRow HAS_HEADER };
 
     ghost has_fault = { HasFault };
 
@@ -48,53 +51,9 @@ impl<'a> Program<'a> for ReadingIndex<'a> {
         alloc: Global,
         file: &'a [u8],
         _output: &mut Vec<u8>,
-    ) -> Result<ReadingIndex<'a>, Failure<LineFault<Fault>>> {
-        let rows = rows_of_table(alloc, Header::Given, file)?;
+    ) -> Result<ReadingIndex<'a, HAS_HEADER>, Failure<LineFault<Fault>>> {
+        let rows = rows_of_table(alloc, HAS_HEADER, file)?;
         Ok(ReadingIndex { rows })
-    }
-
-    fn push_reply(
-        &self,
-        alloc: Global,
-        line: &[u8],
-        output: &mut Vec<u8>,
-    ) -> Result<Option<LineFault<Fault>>, AllocError> {
-        answer_line(alloc, &self.rows, line, output)
-    }
-}
-
-/// The rows of a table without a header, which answer queries.
-#[derive(Drop)]
-pub(crate) struct HeaderlessIndex<'a> {
-    rows: RowMap<'a>,
-}
-
-impl<'a> Program<'a> for HeaderlessIndex<'a> {
-    ghost use Rattle.std.specs.Prelude.{◌≡◌, []};
-    ghost use Rattle.index.specs.Keys.{IsTable, row_key_text};
-    ghost use Rattle.index.specs.Readings.{IsBadRow};
-    ghost use Rattle.index.specs.Replies.{HasReply, HasFault};
-    ghost use Rattle.index.specs.declared.reading.Header.TheVariants.{Absent};
-
-    type Fault = Fault;
-
-    ghost is_table = { λ file index. IsTable row_key_text Absent file index.rows };
-
-    ghost is_heading = { λ file heading. heading ≡ [] };
-
-    ghost is_reply = { HasReply Absent };
-
-    ghost is_bad = { IsBadRow Absent };
-
-    ghost has_fault = { HasFault };
-
-    fn load(
-        alloc: Global,
-        file: &'a [u8],
-        _output: &mut Vec<u8>,
-    ) -> Result<HeaderlessIndex<'a>, Failure<LineFault<Fault>>> {
-        let rows = rows_of_table(alloc, Header::Absent, file)?;
-        Ok(HeaderlessIndex { rows })
     }
 
     fn push_reply(
@@ -110,13 +69,13 @@ impl<'a> Program<'a> for HeaderlessIndex<'a> {
 // The rows of a table, in order.
 fn rows_of_table(
     alloc: Global,
-    header: Header,
+    has_header: bool,
     file: &[u8],
 ) -> Result<RowMap<'_>, Failure<LineFault<Fault>>>
-    ensures table { IfOk result (IsTable row_key_text header file.now) }
-    ensures refused { IfErr result (IfBadLine (IsBadRow header file.now)) }
+    ensures table { IfOk result (IsTable row_key_text has_header file.now) }
+    ensures refused { IfErr result (IfBadLine (IsBadRow has_header file.now)) }
 {
-    let table = table_of(alloc, header, file)?;
+    let table = table_of(alloc, has_header, file)?;
     let rows = index_of(alloc, &table)?;
     Ok(rows)
 }
@@ -130,7 +89,7 @@ fn answer_line(
 ) -> Result<Option<LineFault<Fault>>, AllocError>
     requires keyed { AreKeyed row_key_text rows.now }
     ensures reply { IfOk result (λ fault. IfNone fault ((query : Query) × SayQuery line.now query
-        × (output.new.items ≡ output.old.items ++ reply (map (λ entry. entry.1) rows.now) query))) }
+        × AppendsReply (map (λ entry. entry.1) rows.now) query output.old.items output.new.items)) }
     ensures fault { IfOk result (λ fault. IfSome fault (λ this.
         HasFault line.now this × (output.new.items ≡ output.old.items))) }
 {
@@ -151,28 +110,28 @@ fn push_reply(
 ) -> Result<(), AllocError>
     requires keyed { AreKeyed row_key_text index.now }
     requires times { HasTimes query.now }
-    ensures { OnOk result (output.new.items ≡ output.old.items
-        ++ reply (map (λ entry. entry.1) index.now) query.now) }
+    ensures { OnOk result
+        (AppendsReply (map (λ entry. entry.1) index.now) query.now output.old.items output.new.items) }
 {
     match *query {
         Query::Host(address, from, to) => {
-            let first = RowKey::new(alloc, address, from, 0)?;
-            let last = RowKey::new(alloc, address, to, usize::MAX)?;
-            let rows = index.range(Bound::Included(&first), Bound::Included(&last));
+            let rows = rows_of_host(index, address, from, to);
             push_rows(rows, output)?;
         }
+        Query::Time(from, to) => push_timed(index, from, to, output)?,
+        Query::Hosts => push_hosts(alloc, index, output)?,
         Query::First => push_end(index.first(), output)?,
         Query::Last => push_end(index.last(), output)?,
         Query::Count => push_number(alloc, index.len(), output)?,
+        Query::CountHost(address, from, to) => {
+            push_number(alloc, count_of_host(index, address, from, to), output)?;
+        }
     }
     Ok(())
 }
 
 // Appends the line of each row.
-fn push_rows(
-    rows: Iter<'_, RowKey, Row<'_>, DEFAULT_PREFIX_LEN>,
-    output: &mut Vec<u8>,
-) -> Result<(), AllocError>
+fn push_rows(rows: Rows<'_, '_>, output: &mut Vec<u8>) -> Result<(), AllocError>
     ensures { OnOk result (output.new.items ≡ output.old.items
         ++ flat_map row_line (map (λ entry. entry.1) rows.entry)) }
 {
@@ -180,6 +139,57 @@ fn push_rows(
         push_line(output, row.reading.line)?;
     }
     Ok(())
+}
+
+// Appends the line of each row from the one time to the other. Goes down the tree for each host, and
+// not over the other rows.
+fn push_timed(
+    index: &RowMap<'_>,
+    from: i64,
+    to: i64,
+    output: &mut Vec<u8>,
+) -> Result<(), AllocError>
+    requires keyed { AreKeyed row_key_text index.now }
+    ensures { OnOk result (output.new.items ≡ output.old.items
+        ++ flat_map row_line (filter (is_timed from to) (map (λ entry. entry.1) index.now))) }
+{
+    index.entries_ascend();
+    let mut last = None;
+    while let Some(address) = next_host(index, last) {
+        push_rows(rows_of_host(index, address, from, to), output)?;
+        last = Some(address);
+    }
+    Ok(())
+}
+
+// Appends a line for each host.
+fn push_hosts(alloc: Global, index: &RowMap<'_>, output: &mut Vec<u8>) -> Result<(), AllocError>
+    requires keyed { AreKeyed row_key_text index.now }
+    ensures { OnOk result ((hosts : List Ipv6Addr) × AreHosts (map (λ entry. entry.1) index.now) hosts
+        × (output.new.items ≡ output.old.items ++ flat_map host_line hosts)) }
+{
+    let mut last = None;
+    while let Some(address) = next_host(index, last) {
+        push_host(alloc, address, output)?;
+        last = Some(address);
+    }
+    Ok(())
+}
+
+// Appends a line with a host: as an IPv4 address, where it is one.
+fn push_host(alloc: Global, address: Ipv6Addr, output: &mut Vec<u8>) -> Result<(), AllocError>
+    ensures { OnOk result (output.new.items ≡ output.old.items ++ host_line address) }
+{
+    match address.to_ipv4_mapped() {
+        Some(ipv4) => {
+            let text = format!(in alloc; "{ipv4}")?;
+            push_line(output, text.as_bytes())
+        }
+        None => {
+            let text = format!(in alloc; "{address}")?;
+            push_line(output, text.as_bytes())
+        }
+    }
 }
 
 // Appends the line of a row, or one with none.

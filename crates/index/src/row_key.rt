@@ -1,44 +1,57 @@
 //! The keys of rows.
-ghost use Rattle.std.specs.Prelude.{IfOk, ⊤};
+ghost use Rattle.std.specs.Prelude.{◌≡◌, ◌++◌, length};
+ghost use Rattle.art_bytes.specs.Laws.{prefix_of_length};
 ghost use Rattle.index.specs.Keys.{AreKeyBytes, row_key_text};
 
-use art_bytes::AsBytes;
-use art_mapped::{BytesMapping, ConcatTuple, ToIBE, ToOctets, ToUBE};
-use std::alloc::{AllocError, Global};
+use art_bytes::{AsBytes, NoPrefixesBytes};
+use art_mapped::{Element, Octets, Signed, Unsigned};
 use std::net::Ipv6Addr;
 
-/// How an address, a time and a place become bytes.
-type KeyMapping = ConcatTuple<(ToOctets, ToIBE, ToUBE)>;
-
-/// The composite key of a row: its address, its time and its place in the table, as the bytes of their
-/// tuple, which sort as these do. It holds the bytes alone, since the row has the parts.
-#[derive(Drop)]
+/// The composite key of a row: the bytes of its address, its time and its place in the table, each of
+/// one width, which sort as these do. It holds the bytes alone, since the row has the parts.
+#[derive(Clone, Copy)]
 pub(crate) struct RowKey {
-    bytes: Vec<u8>,
+    bytes: [u8; 32],
 }
 
 impl RowKey {
     /// The key of an address, a time and a place.
-    pub(crate) fn new(
-        alloc: Global,
-        address: Ipv6Addr,
-        time: i64,
-        place: usize,
-    ) -> Result<RowKey, AllocError>
-        ensures { IfOk result (λ key. AreKeyBytes (row_key_text key) address time place) }
+    pub(crate) fn new(address: Ipv6Addr, time: i64, place: usize) -> RowKey
+        ensures { AreKeyBytes (row_key_text result) address time place }
     {
-        let parts = (address, time, place);
-        let bytes = <KeyMapping as BytesMapping<(Ipv6Addr, i64, usize)>>::to_bytes(alloc, parts)?;
-        Ok(RowKey { bytes })
+        let address_bytes = <Ipv6Addr as Element<Octets>>::encode(address);
+        let time_bytes = <i64 as Element<Signed>>::encode(time);
+        let place_bytes = <usize as Element<Unsigned>>::encode(place);
+        RowKey {
+            bytes: joined(address_bytes, time_bytes, place_bytes),
+        }
     }
+}
+
+// These bytes, one after another.
+fn joined(address: [u8; 16], time: [u8; 8], place: [u8; 8]) -> [u8; 32]
+    ensures { result ≡ (address ++ time) ++ place }
+{
+    let mut bytes = [0; 32];
+    let (first, rest) = bytes.split_at_mut(16);
+    first.copy_from_slice(&address);
+    let (middle, last) = rest.split_at_mut(8);
+    middle.copy_from_slice(&time);
+    last.copy_from_slice(&place);
+    bytes
 }
 
 impl AsBytes for RowKey {
     ghost text = { row_key_text };
 
-    ghost is_key = { λ _. ⊤ };
+    ghost is_key = { λ key. length (row_key_text key) ≡ 32 };
 
     fn as_bytes(&self) -> &[u8] {
         self.bytes.as_bytes()
     }
+}
+
+/// No key is a proper prefix of another, since all have one length.
+impl NoPrefixesBytes for RowKey {
+    ghost no_prefixes = { λ a b. prefix_of_length 32 (row_key_text a) (row_key_text b) };
 }

@@ -28,15 +28,12 @@ pub(crate) fn index_of<'a>(alloc: Global, table: &[Reading<'a>]) -> Result<RowMa
 {
     let mut index = ArtMap::new(alloc);
     for (place, reading) in table.iter().enumerate() {
-        let key = RowKey::new(alloc, reading.address, reading.time, place)?;
+        let key = RowKey::new(reading.address, reading.time, place);
         let row = Row {
             place,
             reading: *reading,
         };
-        match index.insert(key, row) {
-            Ok(_) => {}
-            Err(_) => return Err(AllocError),
-        }
+        index.insert(key, row)?;
     }
     index.entries_ascend();
     Ok(index)

@@ -1,22 +1,64 @@
-use Rattle.std.proofs.Common.{◌∙◌, ap, subst}
-use Rattle.index.specs.Keys.{HasTimes, row_key_text}
-use Rattle.index.specs.declared.query.Query.TheVariants.{Host}
+use Rattle.std.proofs.Common.{◌∙◌, ◌++◌, ap, filter, length, refl, subst, sym}
+use Rattle.std.specs.Fmt.{decimal}
+use Rattle.std.specs.List.{flat_map}
+use Rattle.std.proofs.lemmas.List.{length-map}
+use Rattle.program_lines.specs.Lines.{line}
+use Rattle.index.specs.Keys.{HasTimes}
+use Rattle.index.specs.Replies.{host_line, is_timed, is_within, row_line}
+use Rattle.index.specs.declared.query.Query.TheVariants.{Host, Time, Hosts, Count, CountHost}
 use Rattle.index.proofs.EntryLemmas.{values_of}
-use Rattle.index.proofs.KeyLemmas.{key_of_time}
-use Rattle.index.proofs.ReplyLemmas.{reply_host, reply_first, reply_last}
-use Rattle.index.proofs.RowLemmas.{rows_within}
+use Rattle.index.proofs.KeyLemmas.{same_times}
+use Rattle.index.proofs.ReplyLemmas.{appended, reply_first, reply_last, row_of}
 use Rattle.index.proofs.replies.push_reply.Goals as goal
 
 pub returns-in_ok-push_rows-in-Host : goal.returns-in_ok-push_rows-in-Host
 returns-in_ok-push_rows-in-Host c =
-    let times : HasTimes (Host c.in-Host.address c.in-Host.from c.in-Host.to) = subst HasTimes c.in-Host.is c.requires.times in
-    reply_host c.args.index.now c.args.output.now.items c.push_rows.new.output.items c.args.query.now c.in-Host.address c.in-Host.from c.in-Host.to c.range-rows.result c.in-Host.is
-    (ap values_of c.range-rows.ensures ∙ rows_within row_key_text c.args.index.now (row_key_text c.in_ok-first-in-Host.first) (row_key_text c.in_ok-last-in-Host.last) c.in-Host.address c.in-Host.from c.in-Host.to c.requires.keyed (key_of_time (row_key_text c.in_ok-first-in-Host.first) c.in-Host.address c.in-Host.from 0 times.0 c.in_ok-first-in-Host.ensures) (key_of_time (row_key_text c.in_ok-last-in-Host.last) c.in-Host.address c.in-Host.to _ times.1 c.in_ok-last-in-Host.ensures)) c.in_ok-push_rows-in-Host.ensures
+    let rows = values_of c.args.index.now in
+    let address = c.in-Host.address in
+    let from = c.in-Host.from in
+    let to = c.in-Host.to in
+    let old = c.args.output.now.items in
+    let times : HasTimes (Host address from to) = subst HasTimes c.in-Host.is c.requires.times in
+    appended rows c.args.query.now (Host address from to) old c.push_rows.new.output.items (flat_map row_line (filter (is_within address from to) rows)) c.in-Host.is refl
+    (c.in_ok-push_rows-in-Host.ensures ∙ ap (λ shown. old ++ flat_map row_line shown) (c.rows_of_host-rows.ensures ∙ same_times (λ f t. filter (is_within address f t) rows) from to times))
+
+pub returns-in_ok-push_timed-in-Time : goal.returns-in_ok-push_timed-in-Time
+returns-in_ok-push_timed-in-Time c =
+    let rows = values_of c.args.index.now in
+    let from = c.in-Time.from in
+    let to = c.in-Time.to in
+    let old = c.args.output.now.items in
+    let times : HasTimes (Time from to) = subst HasTimes c.in-Time.is c.requires.times in
+    appended rows c.args.query.now (Time from to) old c.push_timed.new.output.items (flat_map row_line (filter (is_timed from to) rows)) c.in-Time.is refl
+    (c.in_ok-push_timed-in-Time.ensures ∙ same_times (λ f t. old ++ flat_map row_line (filter (is_timed f t) rows)) from to times)
+
+pub returns-in_ok-push_hosts-in-Hosts : goal.returns-in_ok-push_hosts-in-Hosts
+returns-in_ok-push_hosts-in-Hosts c =
+    let (hosts, are, pushed) = c.in_ok-push_hosts-in-Hosts.ensures in
+    appended (values_of c.args.index.now) c.args.query.now Hosts c.args.output.now.items c.push_hosts.new.output.items (flat_map host_line hosts) c.in-Hosts.is (hosts, are, refl) pushed
 
 pub returns-in_ok-push_end-in-First : goal.returns-in_ok-push_end-in-First
 returns-in_ok-push_end-in-First c =
-    reply_first c.args.index.now c.args.output.now.items c.push_end.new.output.items c.args.query.now c.first.result c.in-First.is c.first.ensures c.in_ok-push_end-in-First.ensures
+    reply_first c.args.index.now c.args.query.now c.args.output.now.items c.push_end.new.output.items c.first.result c.in_ok-push_end-in-First.ensures c.in-First.is c.first.ensures
 
 pub returns-in_ok-push_end-in-Last : goal.returns-in_ok-push_end-in-Last
 returns-in_ok-push_end-in-Last c =
-    reply_last c.args.index.now c.args.output.now.items c.push_end-in-Last.new.output.items c.args.query.now c.last.result c.in-Last.is c.last.ensures c.in_ok-push_end-in-Last.ensures
+    reply_last c.args.index.now c.args.query.now c.args.output.now.items c.push_end-in-Last.new.output.items c.last.result c.in_ok-push_end-in-Last.ensures c.in-Last.is c.last.ensures
+
+pub returns-in_ok-push_number-in-Count : goal.returns-in_ok-push_number-in-Count
+returns-in_ok-push_number-in-Count c =
+    let rows = values_of c.args.index.now in
+    let old = c.args.output.now.items in
+    appended rows c.args.query.now Count old c.push_number.new.output.items (line (decimal (length rows))) c.in-Count.is refl
+    (c.in_ok-push_number-in-Count.ensures ∙ ap (λ n. old ++ line (decimal n)) (c.len.ensures ∙ sym (length-map c.args.index.now (row_of c.args.index.now))))
+
+pub returns-in_ok-push_number-in-CountHost : goal.returns-in_ok-push_number-in-CountHost
+returns-in_ok-push_number-in-CountHost c =
+    let rows = values_of c.args.index.now in
+    let address = c.in-CountHost.address in
+    let from = c.in-CountHost.from in
+    let to = c.in-CountHost.to in
+    let old = c.args.output.now.items in
+    let times : HasTimes (CountHost address from to) = subst HasTimes c.in-CountHost.is c.requires.times in
+    appended rows c.args.query.now (CountHost address from to) old c.push_number-in-CountHost.new.output.items (line (decimal (length (filter (is_within address from to) rows)))) c.in-CountHost.is refl
+    (c.in_ok-push_number-in-CountHost.ensures ∙ ap (λ n. old ++ line (decimal n)) (c.count_of_host.ensures ∙ same_times (λ f t. length (filter (is_within address f t) rows)) from to times))

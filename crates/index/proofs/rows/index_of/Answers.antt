@@ -6,7 +6,7 @@ use Rattle.index.proofs.rows.index_of.Goals as goal
 
 pub loop-place-preserved : goal.loop-place-preserved
 loop-place-preserved c =
-    has_one_more row_key_text c.args.table.now c.loop-place.place c.loop-place.index c.insert.new.self c.in_ok-key.key _ _ c.loop-place.invariant c.in-Ok.ensures.entries (key_of_time (row_key_text c.in_ok-key.key) _ _ c.loop-place.place (c.requires c.loop-place.place _ c.loop-place-test.true) c.in_ok-key.ensures) refl (omega (arith, c.loop-place-test.true)) refl
+    has_one_more row_key_text c.args.table.now c.loop-place.place c.loop-place.index c.insert.new.self c.new-key.result _ _ c.loop-place.invariant c.in_ok-insert.ensures.entries (key_of_time (row_key_text c.new-key.result) _ _ c.loop-place.place (c.requires c.loop-place.place _ c.loop-place-test.true) c.new-key.ensures) refl (omega (arith, c.loop-place-test.true)) refl
 
 pub returns-clause-rows : goal.returns-clause-rows
 returns-clause-rows c =
