@@ -11,6 +11,7 @@ mod ListLemmas
 mod LoadedLemmas
 mod MergeLemmas
 mod OwnedKeyLemmas
+mod PrefixRemovals
 mod RangeLemmas
 mod RefusalLemmas
 mod RetainLemmas
