@@ -14,6 +14,7 @@ mod LoadedLemmas
 mod MapEntryLemmas
 mod MergeLemmas
 mod OwnedKeyLemmas
+mod PrefixRemovals
 mod RangeLemmas
 mod RefusalLemmas
 mod RetainLemmas

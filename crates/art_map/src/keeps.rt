@@ -1,5 +1,5 @@
 //! The test that `retain` makes at each entry, from a closure of a map or of a set.
-ghost use Rattle.std.specs.Prelude.{Bool};
+ghost use Rattle.std.specs.Prelude.{◌≡◌, Bool, false};
 ghost use Rattle.std.specs.Fn.{CalledAt};
 ghost use Rattle.std.specs.Map.Calls.{CalledAtPair, TakesPair};
 
@@ -58,5 +58,19 @@ impl<K, V, F: FnMut(&K) -> bool> Keeps<K, V> for OnKey<F> {
 
     fn keeps(&mut self, key: &K, _value: &mut V) -> bool {
         (self.keep)(key)
+    }
+}
+
+// No entry is kept.
+#[derive(Drop)]
+pub(crate) struct KeepsNone;
+
+impl<K, V> Keeps<K, V> for KeepsNone {
+    ghost accepts = { λ test key value. Unit {0} };
+
+    ghost step = { λ test key value keeps now test'. (keeps ≡ false) × (now ≡ value) };
+
+    fn keeps(&mut self, _key: &K, _value: &mut V) -> bool {
+        false
     }
 }

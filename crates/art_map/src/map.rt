@@ -17,6 +17,7 @@ mod laws;
 mod lending;
 mod predecessors;
 mod reading;
+mod removing_prefixes;
 mod retaining_entries;
 mod taking_apart;
 mod underlying;
