@@ -1,9 +1,10 @@
 //! Callers of the calls of a map, each with what its contract gives.
-ghost use Rattle.std.specs.Prelude.{◌≡◌, ◌≢◌, ◌&&◌, ◌-◌, None, length, map, slice_get, IsTrue, OnErr};
+ghost use Rattle.std.specs.Prelude.{◌≡◌, ◌≢◌, ◌&&◌, ◌-◌, None, length, map, slice_get, IsTrue, IfOk, OnErr};
 ghost use Rattle.std.specs.Cmp.Lexicographic.{pointwise, slice_cmp};
 ghost use Rattle.std.specs.Option.{option_copied, option_map};
 ghost use Rattle.std.specs.Ordering.{ordering_then};
-ghost use Rattle.art_map.specs.Entries.{entry_with};
+ghost use Rattle.std.specs.List.{AllZip};
+ghost use Rattle.art_map.specs.Entries.{entry_with, with_value};
 
 use super::*;
 use art_tree::{AsBytes, InsertRefusal};
@@ -16,6 +17,7 @@ fn reprice<K: AsBytes, const PREFIX_LEN: usize>(
     name: &K,
     price: u32,
 ) -> bool
+    ensures set { IsTrue result → prices.new ≡ with_value K.text prices.old (K.text name.now) price }
     ensures absent { ¬ IsTrue result → prices.new ≡ prices.old }
 {
     match prices.get_mut(name) {
@@ -57,7 +59,10 @@ fn ends<K: AsBytes, const PREFIX_LEN: usize>(
 fn copy_of<K: AsBytes + Clone, const PREFIX_LEN: usize>(
     prices: &ArtMap<K, u32, PREFIX_LEN>,
     alloc: Global,
-) -> Result<ArtMap<K, u32, PREFIX_LEN>, AllocError> {
+) -> Result<ArtMap<K, u32, PREFIX_LEN>, AllocError>
+    ensures { IfOk result (λ copy. AllZip
+        (λ p q. K.is_clone p.0 q.0 × ⟦<u32 as Clone>⟧.is_clone p.1 q.1) prices.now copy) }
+{
     prices.try_clone(alloc)
 }
 

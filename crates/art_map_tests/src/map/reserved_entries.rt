@@ -1,20 +1,54 @@
 //! Callers who reserve memory, insert through the tree of a map, and remove from a small map.
-ghost use Rattle.std.specs.Prelude.{◌≡◌, ◌<◌, length, IsOk, OnOk};
+ghost use Rattle.std.specs.Prelude.{◌≡◌, ◌≢◌, ◌<◌, ◌+◌, ℕ, length, IfErr, IfOk, IsOk, OnOk};
 ghost use Rattle.art_tree.specs.Entries.{put_entry};
+ghost use Rattle.art_tree.specs.Room.{HasRoomFor};
+ghost use Rattle.art_tree.specs.declared.insert.InsertRefusal.TheVariants.{OutOfMemory};
 
 use super::*;
 use art_tree::laws::the_list_of_entries_changes_with_them;
-use art_tree::{AsBytes, InsertFault};
+use art_tree::{ArtTree, AsBytes, InsertFault};
 use std::alloc::AllocError;
 
-/// Reserves memory for entries.
-fn reserve<K: AsBytes, const PREFIX_LEN: usize>(
+/// Enters an entry. Room for it and some others suffices, and is room for the others afterwards.
+fn enter<K: AsBytes + Drop, const PREFIX_LEN: usize>(
+    tree: &mut ArtTree<K, u32, PREFIX_LEN>,
+    key: K,
+    value: u32,
+) -> Result<(), InsertFault<K, u32>>
+    ensures enough { (count : ℕ) → HasRoomFor tree.old.arena (count + 1) →
+        IfErr result (λ fault. fault.refusal ≢ OutOfMemory) }
+    ensures lasts { (count : ℕ) → HasRoomFor tree.old.arena (count + 1) →
+        HasRoomFor tree.new.arena count }
+{
+    tree.insert(key, value)?;
+    Ok(())
+}
+
+/// Enters each entry. With room for so many none is refused for memory.
+fn enter_each<K: AsBytes + Drop, const PREFIX_LEN: usize>(
+    tree: &mut ArtTree<K, u32, PREFIX_LEN>,
+    entries: Vec<(K, u32)>,
+) -> Result<(), InsertFault<K, u32>>
+    requires room { HasRoomFor tree.old.arena (length entries.items) }
+    ensures { IfErr result (λ fault. fault.refusal ≢ OutOfMemory) }
+{
+    let mut entries = entries.into_iter();
+    'each: while let Some((key, value)) = entries.next() {
+        enter(tree, key, value)?;
+    }
+    Ok(())
+}
+
+/// Enters entries into a map, with memory reserved first: none is refused for memory.
+fn fill<K: AsBytes + Drop, const PREFIX_LEN: usize>(
     prices: &mut ArtMap<K, u32, PREFIX_LEN>,
-    entries: &[(K, u32)],
-) -> Result<(), AllocError> {
+    entries: Vec<(K, u32)>,
+) -> Result<Result<(), InsertFault<K, u32>>, AllocError>
+    ensures { IfOk result (λ filled. IfErr filled (λ fault. fault.refusal ≢ OutOfMemory)) }
+{
     let tree = prices.tree_mut();
     tree.reserve_entries(entries.len())?;
-    Ok(())
+    Ok(enter_each(tree, entries))
 }
 
 /// An insert into the tree is one into the map.
@@ -41,11 +75,12 @@ fn remove_from_few<K: AsBytes + Drop, const PREFIX_LEN: usize>(
     prices.remove(name)
 }
 
-fn fill_and_remove(rt: &impl Abort, prices: &mut ArtMap<[u8; 3], u32, 2>) -> Result<(), Fail> {
-    reserve(prices, &[(*b"tin", 50), (*b"tan", 7), (*b"tip", 9)])?;
-    put_through(prices, *b"tin", 50).map_err(|fault| fault.refusal)?;
-    put_through(prices, *b"tan", 7).map_err(|fault| fault.refusal)?;
-    put_through(prices, *b"tip", 9).map_err(|fault| fault.refusal)?;
+fn fill_and_remove(
+    rt: &impl Abort,
+    prices: &mut ArtMap<[u8; 3], u32, 2>,
+    entries: Vec<([u8; 3], u32)>,
+) -> Result<(), Fail> {
+    fill(prices, entries)?.map_err(|fault| fault.refusal)?;
     assert!(rt; prices.len() == 3 && prices.get(b"tan") == Some(&7));
     put_through(prices, *b"tan", 8).map_err(|fault| fault.refusal)?;
     assert!(rt; prices.get(b"tan") == Some(&8));
@@ -58,5 +93,6 @@ fn fill_and_remove(rt: &impl Abort, prices: &mut ArtMap<[u8; 3], u32, 2>) -> Res
 
 #[test]
 fn reserved_entries_take_no_memory(rt: HostRuntime) -> Result<(), Fail> {
-    fill_and_remove(&rt, &mut ArtMap::new(rt.alloc()))
+    let entries = vec![in rt.alloc(); (*b"tin", 50), (*b"tan", 7), (*b"tip", 9)]?;
+    fill_and_remove(&rt, &mut ArtMap::new(rt.alloc()), entries)
 }
