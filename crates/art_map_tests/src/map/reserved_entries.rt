@@ -20,35 +20,38 @@ fn enter<K: AsBytes + Drop, const PREFIX_LEN: usize>(
     ensures lasts { (count : ℕ) → HasRoomFor tree.old.arena (count + 1) →
         HasRoomFor tree.new.arena count }
 {
-    tree.insert(key, value)?;
-    Ok(())
+    match tree.insert(key, value) {
+        Ok(_) => Ok(()),
+        Err(fault) => Err(fault),
+    }
 }
 
-/// Enters each entry. With room for so many none is refused for memory.
+/// Enters each entry, with memory reserved first: none is refused for memory.
 fn enter_each<K: AsBytes + Drop, const PREFIX_LEN: usize>(
     tree: &mut ArtTree<K, u32, PREFIX_LEN>,
     entries: Vec<(K, u32)>,
-) -> Result<(), InsertFault<K, u32>>
-    requires room { HasRoomFor tree.old.arena (length entries.items) }
-    ensures { IfErr result (λ fault. fault.refusal ≢ OutOfMemory) }
+) -> Result<Result<(), InsertFault<K, u32>>, AllocError>
+    ensures { IfOk result (λ entered. IfErr entered (λ fault. fault.refusal ≢ OutOfMemory)) }
 {
+    tree.reserve_entries(entries.len())?;
     let mut entries = entries.into_iter();
     'each: while let Some((key, value)) = entries.next() {
-        enter(tree, key, value)?;
+        match enter(tree, key, value) {
+            Ok(()) => {}
+            Err(fault) => return Ok(Err(fault)),
+        }
     }
-    Ok(())
+    Ok(Ok(()))
 }
 
-/// Enters entries into a map, with memory reserved first: none is refused for memory.
-fn fill<K: AsBytes + Drop, const PREFIX_LEN: usize>(
+/// Reserves memory for entries.
+fn reserve<K: AsBytes, const PREFIX_LEN: usize>(
     prices: &mut ArtMap<K, u32, PREFIX_LEN>,
-    entries: Vec<(K, u32)>,
-) -> Result<Result<(), InsertFault<K, u32>>, AllocError>
-    ensures { IfOk result (λ filled. IfErr filled (λ fault. fault.refusal ≢ OutOfMemory)) }
-{
+    entries: &[(K, u32)],
+) -> Result<(), AllocError> {
     let tree = prices.tree_mut();
     tree.reserve_entries(entries.len())?;
-    Ok(enter_each(tree, entries))
+    Ok(())
 }
 
 /// An insert into the tree is one into the map.
@@ -80,7 +83,8 @@ fn fill_and_remove(
     prices: &mut ArtMap<[u8; 3], u32, 2>,
     entries: Vec<([u8; 3], u32)>,
 ) -> Result<(), Fail> {
-    fill(prices, entries)?.map_err(|fault| fault.refusal)?;
+    reserve(prices, &entries)?;
+    enter_each(prices.tree_mut(), entries)?.map_err(|fault| fault.refusal)?;
     assert!(rt; prices.len() == 3 && prices.get(b"tan") == Some(&7));
     put_through(prices, *b"tan", 8).map_err(|fault| fault.refusal)?;
     assert!(rt; prices.get(b"tan") == Some(&8));

@@ -1,13 +1,20 @@
-use Rattle.std.proofs.Common.{◌≡◌, ◌≢◌, IfErr, length, subst, sym}
+use Rattle.std.proofs.Common.{◌≡◌, ◌≢◌, ◌∙◌, IfErr, length, ap, arith, subst, sym}
+use Rattle.std.specs.Vec.Iter.{into_iter_items}
 use Rattle.art_tree.specs.Room.{HasRoomFor}
 use Rattle.art_tree.specs.declared.insert.InsertRefusal.TheVariants.{OutOfMemory}
 use Rattle.art_map_tests.proofs.map.reserved_entries.enter_each.Goals as goal
 
 pub each-init : goal.each-init
-each-init g c = ?
+each-init g c = subst (λ count. HasRoomFor c.reserve_entries.new.self.arena count) (c.len.ensures ∙ ap length (sym c.into_iter-entries.ensures.rest)) c.in_ok-reserve_entries.ensures.room
 
-pub returns-in_err-enter : goal.returns-in_err-enter
-returns-in_err-enter g c = ?
+pub returns-in-Err : goal.returns-in-Err
+returns-in-Err g c =
+    let left = length (into_iter_items c.next.new.self) in
+    let one_more = ap length c.in-Some.ensures.items in
+    subst (λ entered. IfErr entered (λ fault. fault.refusal ≢ OutOfMemory)) c.in-Err.is (c.enter.ensures.enough left (subst (λ count. HasRoomFor c.each.tree.arena count) (omega (arith, one_more)) c.each.invariant))
 
 pub each-preserved : goal.each-preserved
-each-preserved g c = ?
+each-preserved g c =
+    let left = length (into_iter_items c.next.new.self) in
+    let one_more = ap length c.in-Some.ensures.items in
+    c.enter.ensures.lasts left (subst (λ count. HasRoomFor c.each.tree.arena count) (omega (arith, one_more)) c.each.invariant)
