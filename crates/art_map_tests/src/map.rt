@@ -5,6 +5,7 @@ mod map_callers;
 mod map_examples;
 mod refusals;
 mod reserved_entries;
+mod retained_entries;
 mod set_callers;
 mod set_examples;
 mod taken_entries;
