@@ -1,10 +1,12 @@
 //! Tests of a map: each call, and one allocation failure.
 mod ascending_entries;
+mod extended_lists;
 mod key_examples;
 mod map_callers;
 mod map_examples;
 mod refusals;
 mod reserved_entries;
+mod retained_entries;
 mod set_callers;
 mod set_examples;
 mod taken_entries;
