@@ -1,11 +1,15 @@
-use Rattle.std.proofs.Common.{◌≡◌, ◌≢◌, ◌∙◌, IfErr, length, ap, arith, subst, sym}
+use Rattle.std.proofs.Common.{◌≡◌, ◌≢◌, ◌∙◌, IfErr, length, vec_len, ap, arith, subst}
 use Rattle.std.specs.Vec.Iter.{into_iter_items}
 use Rattle.art_tree.specs.Room.{HasRoomFor}
 use Rattle.art_tree.specs.declared.insert.InsertRefusal.TheVariants.{OutOfMemory}
 use Rattle.art_map_tests.proofs.map.reserved_entries.enter_each.Goals as goal
 
 pub each-init : goal.each-init
-each-init g c = subst (λ count. HasRoomFor c.reserve_entries.new.self.arena count) (c.len.ensures ∙ ap length (sym c.into_iter-entries.ensures.rest)) c.in_ok-reserve_entries.ensures.room
+each-init g c =
+    let left = length (into_iter_items c.into_iter-entries.result) in
+    let same = ap length c.into_iter-entries.ensures.rest in
+    let counted : vec_len c.args.entries ≡ left = omega (arith, c.args.entries.ok.0, same) in
+    subst (λ count. HasRoomFor c.reserve_entries.new.self.arena count) (c.len.ensures ∙ counted) c.in_ok-reserve_entries.ensures.room
 
 pub returns-in-Err : goal.returns-in-Err
 returns-in-Err g c =
