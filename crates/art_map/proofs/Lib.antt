@@ -6,12 +6,10 @@ mod EnteredLemmas
 mod EntryLemmas
 mod ExtendLemmas
 mod FrontLemmas
-mod GivenValueLemmas
 mod LentLemmas
 mod LinkLemmas
 mod ListLemmas
 mod LoadedLemmas
-mod MapEntryLemmas
 mod MergeLemmas
 mod OwnedKeyLemmas
 mod PrefixRemovals

@@ -5,7 +5,6 @@ pub mod EnteredValues
 pub mod Entries
 pub mod Extending
 pub mod LeafEntries
-pub mod MapEntry
 pub mod MapLending
 pub mod Merges
 pub mod Nearest

@@ -33,8 +33,5 @@ pub use into_iter::{IntoIter, IntoKeys, OwnedKeys, OwnedRun};
 pub use into_values::{IntoValues, OwnedValues};
 pub use iter::{HasRuns, Iter, Run};
 pub use keys::{Keys, RunKeys, RunValues, Values};
-pub use map::{
-    ArtMap, DEFAULT_PREFIX_LEN, Entry, EntryOver, HasEntries, MapOver, OccupiedEntry, OccupiedOver,
-    VacantEntry, VacantOver,
-};
+pub use map::{ArtMap, DEFAULT_PREFIX_LEN, HasEntries, MapOver};
 pub use set::{ArtSet, Merged, MergedKeys, PeekedKeys, SetOver};

@@ -10,7 +10,6 @@ mod counting;
 mod end_entries;
 mod ends;
 mod entering;
-mod entry;
 mod extending;
 mod iterating;
 mod laws;
@@ -25,7 +24,6 @@ mod underlying;
 use art_bytes::AsBytes;
 use art_tree::laws::entries_are_one_list;
 use art_tree::{ArtTree, LoadFault};
-pub use entry::{Entry, EntryOver, OccupiedEntry, OccupiedOver, VacantEntry, VacantOver};
 use std::alloc::Global;
 use std::marker::{Model, PhantomData};
 
