@@ -13,6 +13,7 @@ mod ListLemmas
 mod LoadedLemmas
 mod MapEntryLemmas
 mod MergeLemmas
+mod MovingLemmas
 mod OwnedKeyLemmas
 mod PrefixRemovals
 mod RangeLemmas
@@ -23,4 +24,5 @@ mod RunLemmas
 mod SetLemmas
 mod SetOrders
 mod ShrinkLemmas
+mod SplitLemmas
 mod TextLemmas

@@ -19,6 +19,7 @@ mod predecessors;
 mod reading;
 mod removing_prefixes;
 mod retaining_entries;
+mod splitting;
 mod taking_apart;
 mod underlying;
 

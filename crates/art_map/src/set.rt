@@ -17,6 +17,7 @@ mod keys_by_text;
 mod merging;
 mod neighbouring_keys;
 mod retaining_keys;
+mod splitting_sets;
 
 use crate::into_iter::{IntoKeys, keys_taken};
 use crate::keys::{Keys, keys_of};

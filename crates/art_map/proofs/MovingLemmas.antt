@@ -1,0 +1,67 @@
+-- Entries that may enter a list, and entries that go from the end of one list into another.
+use Rattle.std.proofs.Common.{◌≡◌, ◌≢◌, ◌⊎◌, ◌∙◌, inl, inr, ℕ, ◌+◌, ◌<◌, ◌≤◌, ◌^◌, List, [], ◌∷◌, ◌++◌, length, append_assoc, All, AllPairs, Contains, get_or, refl, sym, ap, subst, arith}
+use Rattle.std.specs.Ordering.{match_ordering}
+use Rattle.std.specs.declared.cmp.Ordering.TheVariants.{Less}
+use Rattle.std.proofs.lemmas.List.Elements.{All-contains, Contains-append_right, Contains-get_or}
+use Rattle.art_bytes.specs.Text.{IsPrefixOf, text_order}
+use Rattle.art_tree.specs.Dictionary.{Clashes, OneIsProperPrefix}
+use Rattle.art_tree.specs.Entries.{put_entry}
+use Rattle.art_tree.specs.Refusals.{texts_of}
+use Rattle.art_tree.specs.declared.insert.InsertRefusal.{InsertRefusal}
+use Rattle.art_tree.specs.declared.insert.InsertRefusal.TheVariants.{KeyTooLong, Prefix, OutOfMemory}
+use Rattle.art_map.specs.Changes.{IsRefused, MayEnter}
+use Rattle.art_map.proofs.CallLaws.{Ascend, ascend_rest, image_inside, inside_image, none_has, put_only}
+use Rattle.art_map.proofs.FrontLemmas.{Apart, first-to}
+use Rattle.art_map.proofs.RefusalLemmas.{refused_not_there}
+
+module _ {K V : Type 0} (text : K → List ℕ) where
+  abbrev pub AllMayEnter : List (K × V) → List (K × V) → Type 0
+  AllMayEnter entries others = All (λ other. MayEnter text entries (text other.0)) others
+
+  -- a key that may enter is refused for memory alone
+  pub refused-for-memory : (entries : List (K × V)) (x : List ℕ) (refusal : InsertRefusal) → MayEnter text entries x → IsRefused text entries x refusal → refusal ≢ OutOfMemory → ⊥
+  refused-for-memory entries x KeyTooLong may due other = omega (arith, may.0, due)
+  refused-for-memory entries x Prefix may due other = may.1 due.1
+  refused-for-memory entries x OutOfMemory may due other = other refl
+
+  -- an entry below all others comes in front of them
+  pub put-first : (entries : List (K × V)) (entry : K × V) → Ascend (texts_of text (entry ∷ entries)) → put_entry text entries entry ≡ entry ∷ entries
+  put-first [] entry ascend = refl
+  put-first (other ∷ entries) entry ascend =
+      let less : text_order (text entry.0) (text other.0) ≡ Less = ascend 0 1 [] (omega arith) (omega arith) in
+      ap (λ o. match_ordering o (entry ∷ other ∷ entries) (entry ∷ entries) (other ∷ put_entry text entries entry)) less
+
+  pub end-ascends : (left part : List (K × V)) → Ascend (texts_of text (left ++ part)) → Ascend (texts_of text part)
+  end-ascends [] part ascend = ascend
+  end-ascends (entry ∷ left) part ascend = end-ascends left part (ascend_rest (text entry.0) (texts_of text (left ++ part)) ascend)
+
+  -- what may enter a list may enter a part of it
+  pub part-may-enter : (left part : List (K × V)) (x : List ℕ) → MayEnter text (left ++ part) x → MayEnter text part x
+  part-may-enter left part x may = (may.0, λ clash.
+      let from = inside_image (λ (e : K × V). text e.0) part clash.0 clash.1 in
+      may.1 (clash.0, image_inside (λ (e : K × V). text e.0) (left ++ part) from.0 clash.0 from.2 (Contains-append_right left part from.0 from.1), clash.2))
+
+  -- the texts of a map may enter it
+  pub members-may-enter : (entries : List (K × V)) → All (λ x. length x < 2 ^ 32) (texts_of text entries) → AllPairs Apart (texts_of text entries) → AllMayEnter entries entries
+  members-may-enter entries short apart = λ k d within.
+      let x = text (get_or entries k d).0 in
+      let there : Contains (texts_of text entries) x = image_inside (λ (e : K × V). text e.0) entries (get_or entries k d) x refl (Contains-get_or entries k d within) in
+      let fits : length x < 2 ^ 32 = All-contains (λ y. length y < 2 ^ 32) (texts_of text entries) x short there in
+      (fits, λ clash. none_has text entries x (refused_not_there text entries x short apart Prefix (fits, clash)) there)
+
+  module _ (whole lower left upper : List (K × V)) (entry : K × V) (parts : whole ≡ lower ++ upper) (last : lower ≡ left ++ entry ∷ []) where
+    cut : whole ≡ left ++ (entry ∷ upper)
+    cut = parts ∙ ap (λ es. es ++ upper) last ∙ append_assoc left (entry ∷ []) upper
+
+    -- the last entry of the one list goes in front of the other
+    pub moved-one : (more : List (K × V)) → more ≡ put_entry text upper entry → Ascend (texts_of text whole) → (whole ≡ left ++ more) × (length more ≡ length upper + 1)
+    moved-one more put ascend =
+        let front : more ≡ entry ∷ upper = put ∙ put-first upper entry (end-ascends left (entry ∷ upper) (subst (λ es. Ascend (texts_of text es)) cut ascend)) in
+        (cut ∙ ap (λ es. left ++ es) (sym front), omega (arith, ap length front))
+
+    -- it may do so
+    pub moved-may-enter : AllMayEnter whole whole → MayEnter text upper (text entry.0)
+    moved-may-enter may =
+        let inside : Contains whole entry = subst (λ es. Contains es entry) (sym cut) (Contains-append_right left (entry ∷ upper) entry (0, omega arith, refl)) in
+        let here = All-contains (λ other. MayEnter text whole (text other.0)) whole entry may inside in
+        part-may-enter (left ++ entry ∷ []) upper (text entry.0) (subst (λ es. MayEnter text es (text entry.0)) (parts ∙ ap (λ es. es ++ upper) last) here)
