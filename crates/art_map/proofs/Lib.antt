@@ -1,5 +1,6 @@
 pub mod CallLaws
 mod CalledLemmas
+mod ClashLemmas
 mod CursorLemmas
 mod EndLemmas
 mod EnteredLemmas
@@ -7,6 +8,7 @@ mod EntryLemmas
 mod ExtendLemmas
 mod FrontLemmas
 mod GivenValueLemmas
+mod JoinLemmas
 mod LentLemmas
 mod LinkLemmas
 mod ListLemmas

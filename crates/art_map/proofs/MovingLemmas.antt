@@ -1,4 +1,4 @@
--- Entries that may enter a list, and entries that go from the end of one list into another.
+-- Entries that may enter a list one after the other, and entries that go from the end of one list into another.
 use Rattle.std.proofs.Common.{◌≡◌, ◌≢◌, ◌⊎◌, ◌∙◌, inl, inr, ℕ, ◌+◌, ◌<◌, ◌≤◌, ◌^◌, List, [], ◌∷◌, ◌++◌, length, append_assoc, All, AllPairs, Contains, get_or, refl, sym, ap, subst, arith}
 use Rattle.std.specs.Ordering.{match_ordering}
 use Rattle.std.specs.declared.cmp.Ordering.TheVariants.{Less}
@@ -10,9 +10,18 @@ use Rattle.art_tree.specs.Refusals.{texts_of}
 use Rattle.art_tree.specs.declared.insert.InsertRefusal.{InsertRefusal}
 use Rattle.art_tree.specs.declared.insert.InsertRefusal.TheVariants.{KeyTooLong, Prefix, OutOfMemory}
 use Rattle.art_map.specs.Changes.{IsRefused, MayEnter}
+use Rattle.art_map.specs.Extending.{SomeClashes}
 use Rattle.art_map.proofs.CallLaws.{Ascend, ascend_rest, image_inside, inside_image, none_has, put_only}
 use Rattle.art_map.proofs.FrontLemmas.{Apart, first-to}
 use Rattle.art_map.proofs.RefusalLemmas.{refused_not_there}
+
+-- where neither is a prefix of the other, neither is a proper one
+pub apart-unclashed : (a b : List ℕ) → Apart a b → ¬ OneIsProperPrefix a b
+apart-unclashed a b apart (inl part) = apart.0 part.0
+apart-unclashed a b apart (inr part) = apart.1 part.0
+
+pub all-unclashed : (texts : List (List ℕ)) → AllPairs Apart texts → AllPairs (λ a b. ¬ OneIsProperPrefix a b) texts
+all-unclashed texts apart i j d before within = apart-unclashed _ _ (apart i j d before within)
 
 module _ {K V : Type 0} (text : K → List ℕ) where
   abbrev pub AllMayEnter : List (K × V) → List (K × V) → Type 0
@@ -23,6 +32,22 @@ module _ {K V : Type 0} (text : K → List ℕ) where
   refused-for-memory entries x KeyTooLong may due other = omega (arith, may.0, due)
   refused-for-memory entries x Prefix may due other = may.1 due.1
   refused-for-memory entries x OutOfMemory may due other = other refl
+
+  -- a text that may enter may still do so once an entry was put with whose text it does not clash
+  still-enters : (entries : List (K × V)) (entry : K × V) (x : List ℕ) → MayEnter text entries x → ¬ OneIsProperPrefix (text entry.0) x → MayEnter text (put_entry text entries entry) x
+  still-enters entries entry x may apart = (may.0, λ clash.
+      let from = inside_image (λ (e : K × V). text e.0) (put_entry text entries entry) clash.0 clash.1 in
+      by_place clash.0 from.0 from.2 clash.2 (put_only text entries entry from.0 from.1))
+    where
+      by_place : (other : List ℕ) (e : K × V) → text e.0 ≡ other → OneIsProperPrefix other x → (entry ≡ e) ⊎ Contains entries e → ⊥
+      by_place other e is part (inl same) = apart (subst (λ y. OneIsProperPrefix y x) (sym is ∙ ap (λ (e : K × V). text e.0) (sym same)) part)
+      by_place other e is part (inr old) = may.1 (other, image_inside (λ (e : K × V). text e.0) entries e other is old, part)
+
+  pub rest-may-enter : (entries : List (K × V)) (entry : K × V) (others : List (K × V)) → AllMayEnter entries others → AllPairs (λ a b. ¬ OneIsProperPrefix a b) (texts_of text (entry ∷ others)) → AllMayEnter (put_entry text entries entry) others
+  rest-may-enter entries entry others may apart = λ k d within.
+      let other = get_or others k d in
+      still-enters entries entry (text other.0) (may k d within)
+      (first-to (λ a b. ¬ OneIsProperPrefix a b) (text entry.0) (texts_of text others) apart (text other.0) (image_inside (λ (e : K × V). text e.0) others other (text other.0) refl (Contains-get_or others k d within)))
 
   -- an entry below all others comes in front of them
   pub put-first : (entries : List (K × V)) (entry : K × V) → Ascend (texts_of text (entry ∷ entries)) → put_entry text entries entry ≡ entry ∷ entries
@@ -48,6 +73,14 @@ module _ {K V : Type 0} (text : K → List ℕ) where
       let there : Contains (texts_of text entries) x = image_inside (λ (e : K × V). text e.0) entries (get_or entries k d) x refl (Contains-get_or entries k d within) in
       let fits : length x < 2 ^ 32 = All-contains (λ y. length y < 2 ^ 32) (texts_of text entries) x short there in
       (fits, λ clash. none_has text entries x (refused_not_there text entries x short apart Prefix (fits, clash)) there)
+
+  -- those of another map may where none clashes
+  pub others-may-enter : (entries others : List (K × V)) → All (λ x. length x < 2 ^ 32) (texts_of text others) → ¬ SomeClashes text entries others → AllMayEnter entries others
+  others-may-enter entries others short none = λ k d within.
+      let other = get_or others k d in
+      let inside : Contains others other = Contains-get_or others k d within in
+      let there : Contains (texts_of text others) (text other.0) = image_inside (λ (e : K × V). text e.0) others other (text other.0) refl inside in
+      (All-contains (λ y. length y < 2 ^ 32) (texts_of text others) (text other.0) short there, λ clash. none (other, inside, clash))
 
   module _ (whole lower left upper : List (K × V)) (entry : K × V) (parts : whole ≡ lower ++ upper) (last : lower ≡ left ++ entry ∷ []) where
     cut : whole ≡ left ++ (entry ∷ upper)

@@ -2,6 +2,7 @@
 ghost use Rattle.std.specs.Prelude.{◌≡◌, ◌≢◌, [], IfOk, IfErr};
 ghost use Rattle.art_tree.specs.Refusals.{texts_of, IsDue};
 
+mod appending;
 mod changes;
 mod cloning;
 mod compacting;

@@ -1,9 +1,13 @@
 //! Entries that go from one tree into another, where there is room for them.
-ghost use Rattle.std.specs.Prelude.{◌≡◌, ◌≢◌, ◌≤◌, ◌+◌, ◌∷◌, ◌++◌, [], ℕ, All, length};
+ghost use Rattle.std.specs.Prelude.{◌≡◌, ◌≢◌, ◌≤◌, ◌+◌, ◌∷◌, ◌++◌, [], ℕ, All, AllPairs, length};
 ghost use Rattle.art_map.specs.Changes.{MayEnter};
+ghost use Rattle.art_map.specs.Extending.{put_all};
+ghost use Rattle.art_tree.specs.Dictionary.{OneIsProperPrefix};
 ghost use Rattle.art_tree.specs.Entries.{entries_of, put_entry};
+ghost use Rattle.art_tree.specs.Refusals.{texts_of};
 ghost use Rattle.art_tree.specs.Room.{HasRoomFor};
 
+use crate::into_iter::IntoIter;
 use art_bytes::AsBytes;
 use art_tree::ArtTree;
 use art_tree::laws::{entries_are_one_list, the_list_of_entries_changes_with_them};
@@ -45,6 +49,25 @@ pub(crate) fn put<K: AsBytes + Drop, V: Drop, const PREFIX_LEN: usize>(
     match tree.insert(key, value) {
         Ok(_) => {}
         Err(_) => unreachable!(),
+    }
+}
+
+/// Adds the entries of a map that was taken apart, each as an insert does. There is room for all of them,
+/// and none is refused for its key.
+pub(crate) fn put_each<K: AsBytes + Drop, V: Drop, const PREFIX_LEN: usize>(
+    tree: &mut ArtTree<K, V, PREFIX_LEN>,
+    entries: IntoIter<K, V, PREFIX_LEN>,
+)
+    requires room { HasRoomFor tree.old.arena (length entries) }
+    requires may_enter { All
+        (λ entry. MayEnter K.text (entries_of K.text tree.old.arena) (K.text entry.0)) entries }
+    requires apart { AllPairs (λ a b. ¬ OneIsProperPrefix a b) (texts_of K.text entries) }
+    ensures { entries_of K.text tree.new.arena
+        ≡ put_all K.text (entries_of K.text tree.old.arena) entries }
+{
+    let mut rest = entries;
+    'each: while let Some((key, value)) = rest.next() {
+        put(tree, key, value);
     }
 }
 
