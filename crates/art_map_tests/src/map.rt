@@ -1,5 +1,6 @@
 //! Tests of a map: each call, and one allocation failure.
 mod ascending_entries;
+mod entry_callers;
 mod key_examples;
 mod map_callers;
 mod map_examples;
