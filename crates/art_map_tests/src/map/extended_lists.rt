@@ -1,20 +1,20 @@
 //! Callers of the calls that add many entries or keys.
-ghost use Rattle.std.specs.Prelude.{◌≡◌, [], IfOk, IsTrue};
+ghost use Rattle.std.specs.Prelude.{◌≡◌, [], IfOk, OnOk};
 ghost use Rattle.art_map.specs.Extending.{put_all};
 ghost use Rattle.art_map.specs.Merges.{union};
 
 use super::*;
-use art_map::{ArtSet, ExtendFault};
+use art_map::{ArtSet, ExtendFault, ExtendKeysFault};
 use art_tree::AsBytes;
 
-/// Whether all of these prices went in.
+/// Adds these prices.
 fn add_prices<K: AsBytes + Drop, const PREFIX_LEN: usize>(
     prices: &mut ArtMap<K, u32, PREFIX_LEN>,
     entries: Vec<(K, u32)>,
-) -> bool
-    ensures { IsTrue result → prices.new ≡ put_all K.text prices.old entries.items }
+) -> Result<(), ExtendFault<K, u32>>
+    ensures { OnOk result (prices.new ≡ put_all K.text prices.old entries.items) }
 {
-    prices.extend(entries).is_ok()
+    prices.extend(entries)
 }
 
 /// A list of prices, in any order.
@@ -27,26 +27,31 @@ fn prices_of<K: AsBytes + Drop, const PREFIX_LEN: usize>(
     ArtMap::from_entries(alloc, entries)
 }
 
-/// Whether all of these names went in.
+/// Adds these names.
 fn add_names<K: AsBytes + Drop, const PREFIX_LEN: usize>(
     names: &mut ArtSet<K, PREFIX_LEN>,
     keys: Vec<K>,
-) -> bool
-    ensures { IsTrue result → names.new ≡ union K.text names.old keys.items }
+) -> Result<(), ExtendKeysFault<K>>
+    ensures { OnOk result (names.new ≡ union K.text names.old keys.items) }
 {
-    names.extend(keys).is_ok()
+    names.extend(keys)
 }
 
 #[test]
 fn lists_are_extended(rt: HostRuntime) -> Result<(), Fail> {
     let alloc = rt.alloc();
     let entries = vec![in alloc; (*b"tin", 50), (*b"tan", 7)]?;
-    let mut prices: ArtMap<[u8; 3], u32, 2> = prices_of(alloc, entries)?;
+    let mut prices: ArtMap<[u8; 3], u32, 2> = prices_of(alloc, entries).map_err(|fault| fault
+        .refused
+        .refusal)?;
     let more = vec![in alloc; (*b"tin", 52), (*b"tip", 9)]?;
-    assert!(rt; add_prices(&mut prices, more));
+    add_prices(&mut prices, more).map_err(|fault| fault.refused.refusal)?;
     assert!(rt; prices.len() == 3 && prices.get(b"tin") == Some(&52));
-    let mut names = ArtSet::<[u8; 3], 2>::from_keys(alloc, vec![in alloc; *b"tin"]?)?;
-    assert!(rt; add_names(&mut names, vec![in alloc; *b"tan", *b"tin"]?));
+    let mut names = ArtSet::<[u8; 3], 2>::from_keys(alloc, vec![in alloc; *b"tin"]?).map_err(
+        |fault| fault.refused.refusal,
+    )?;
+    let keys = vec![in alloc; *b"tan", *b"tin"]?;
+    add_names(&mut names, keys).map_err(|fault| fault.refused.refusal)?;
     assert!(rt; names.len() == 2 && names.contains(b"tan"));
     Ok(())
 }
