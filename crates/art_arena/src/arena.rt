@@ -64,7 +64,7 @@ impl<A, B, C, D, L> Model for Slabs<A, B, C, D, L> {
 ///
 /// (from crates/art_tree_tests/src/arena/calls.rt)
 /// ```rust
-/// arena.reserve(NodeType::Leaf, 3)?;
+/// arena.reserve(NodeType::Leaf, 2)?;
 /// let first = put(rt, arena, Leaf::with_no_siblings([1], 1));
 /// let second = put(rt, arena, Leaf::with_no_siblings([2], 2));
 /// // ..

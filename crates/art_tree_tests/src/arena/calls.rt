@@ -199,58 +199,21 @@ fn has_room_for_a_leaf_where_it_was_reserved(rt: HostRuntime) -> Result<(), Fail
     Ok(())
 }
 
-// The pointer to a node of one kind knows that kind, and the node.
-fn check_kind<N: ArenaNode<Key, u16, 16> + InnerNodeCommon<Key, u16, 16> + Drop>(
-    rt: &impl Abort,
-    arena: &mut Arena,
-    node: N,
-) {
-    let ptr = put(rt, arena, node);
-    let pointer = ptr.to_opaque();
-    assert!(rt; pointer.is::<N>() && !pointer.is::<Leaf>());
-    assert!(rt; pointer.cast::<N>() == Some(ptr));
-    assert!(rt; arena.holds(ptr));
-    assert!(rt; arena.as_ref(ptr).num_children() == 2);
-}
-
-// A node of each inner kind with a leaf under 0 and 1.
-fn check_kinds(rt: &impl Abort, arena: &mut Arena) {
-    let first = put(rt, arena, Leaf::with_no_siblings([0], 0)).to_opaque();
-    let second = put(rt, arena, Leaf::with_no_siblings([1], 1)).to_opaque();
-    let four = InnerNode4::builder(b"", 0)
-        .write_child(0, first)
-        .write_child(1, second)
-        .build();
-    check_kind(rt, arena, four.grow());
-    check_kind(rt, arena, four.grow().grow());
-    check_kind(rt, arena, four.grow().grow().grow());
-    check_kind(rt, arena, four);
-}
-
-#[test]
-fn a_pointer_knows_the_kind_of_its_node(rt: HostRuntime) {
-    check_kinds(&rt, &mut Arena::new(rt.alloc()));
-}
-
-fn allocate_three_leaves(rt: &impl Abort, arena: &mut Arena) -> Result<(), AllocError> {
-    arena.reserve(NodeType::Leaf, 3)?;
+fn allocate_two_leaves(rt: &impl Abort, arena: &mut Arena) -> Result<(), AllocError> {
+    arena.reserve(NodeType::Leaf, 2)?;
     let first = put(rt, arena, Leaf::with_no_siblings([1], 1));
     let second = put(rt, arena, Leaf::with_no_siblings([2], 2));
-    let third = put(rt, arena, Leaf::with_no_siblings([3], 3));
     assert!(rt; first != second);
-    assert!(rt; first != third);
-    assert!(rt; second != third);
     assert!(rt; arena.holds(second));
     arena.deallocate_node_ptr(second);
     assert!(rt; arena.holds(first));
     assert!(rt; !arena.holds(second));
-    assert!(rt; arena.holds(third));
     Ok(())
 }
 
 #[test]
-fn allocates_three_leaves_where_there_is_room_for_three(rt: HostRuntime) -> Result<(), Fail> {
-    allocate_three_leaves(&rt, &mut Arena::new(rt.alloc()))?;
+fn allocates_two_leaves_where_there_is_room_for_two(rt: HostRuntime) -> Result<(), Fail> {
+    allocate_two_leaves(&rt, &mut Arena::new(rt.alloc()))?;
     Ok(())
 }
 
