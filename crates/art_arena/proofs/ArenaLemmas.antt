@@ -16,7 +16,9 @@ use Rattle.art_nodes.specs.declared.pointers.OpaqueNodePtr.{OpaqueNodePtr}
 use Rattle.art_nodes.specs.declared.leaf_node.LeafNode.{LeafNode}
 use Rattle.art_nodes.proofs.KindLaws.{same_or_differ}
 use Rattle.art_arena.proofs.StandingLaws.{one-inner}
-use Rattle.art_arena.specs.Arena.{NodeArena, Held, HeldInner, Nothing, held, held_inner, held_leaf, held_under, held_option, Changes, SameNodes, room, slab_room, capacity, space, SameRoom, SameOtherRoom, SameCapacity, SameOtherCapacity}
+use Rattle.art_arena.specs.SlabLaws.{held_in_slab, room_of_slab, capacity_of_slab, others_kept, other_room, other_capacity}
+use Rattle.art_arena.specs.SlabOf.{IsSlabOf}
+use Rattle.art_arena.specs.Arena.{NodeArena, Held, HeldInner, Nothing, held, held_inner, held_leaf, held_under, held_option, Changes, SameNodes, room, slab_room, capacity, space, SameRoom, SameCapacity}
 
 -- a slab returns a reference where it has a value
 pub IsSome-lent : {T : Type 0} (lent : Option (Bor T)) {slot : Option T} → option_copied lent ≡ slot → IsSome slot → IsSome lent
@@ -39,17 +41,14 @@ slab_room-with_value slab key value within =
     let same = rw within at counted in
     ap (λ n. slab.capacity - n) (let e : slab_len (with_value slab key value) ≡ slab_len slab = omega arith in e)
 
-module _ {K V : Type 0} {P : ℕ} {N : Type 0} (kind : NodeType) (slab_of : NodeArena K V P → Slab N) (with_slab : NodeArena K V P → Slab N → NodeArena K V P) (held_as : N → Held (OpaqueNodePtr K V P) (LeafNode K V P))
-    (held_in_slab : (arena : NodeArena K V P) (key : ℕ) → held_under arena kind key ≡ held_option held_as (get (slab_of arena) key))
-    (slab_written : (arena : NodeArena K V P) (slots : Slab N) → slab_of (with_slab arena slots) ≡ slots)
-    (others_kept : (arena : NodeArena K V P) (slots : Slab N) (other : NodeType) (key : ℕ) → other ≢ kind → held_under (with_slab arena slots) other key ≡ held_under arena other key) where
+module _ {K V : Type 0} {P : ℕ} {N : Type 0} {kind : NodeType} {held_as : N → Held (OpaqueNodePtr K V P) (LeafNode K V P)} {slab_of : NodeArena K V P → Slab N} {with_slab : NodeArena K V P → Slab N → NodeArena K V P} (slab : IsSlabOf kind held_as slab_of with_slab) where
   pub Changes-written : (arena : NodeArena K V P) (slots : Slab N) (key : ℕ) (slot : Option N) → Updates (slab_of arena) slots key slot → Changes arena (with_slab arena slots) (opaque_pointer kind key) (held_option held_as slot)
   Changes-written arena slots key slot updates = record {
-    changed = held_in_slab (with_slab arena slots) key ∙ ap (λ s. held_option held_as (get s key)) (slab_written arena slots) ∙ ap (held_option held_as) updates.changed;
+    changed = held_in_slab slab (with_slab arena slots) key ∙ ap (λ s. held_option held_as (get s key)) (slab.slab_written arena slots) ∙ ap (held_option held_as) updates.changed;
     others = λ pointer other. elim (same_or_differ (node_kind pointer) kind) [
-      | inr differ ↦ others_kept arena slots _ _ differ
+      | inr differ ↦ others_kept slab arena slots _ _ differ
       | inl same ↦ let key_differs : opaque_key pointer ≢ key = λ same_key. other (λ i. record { node_type = same i; key = same_key i; leaf = record {} }) in
-          ap (λ k. held_under (with_slab arena slots) k (opaque_key pointer)) same ∙ held_in_slab (with_slab arena slots) (opaque_key pointer) ∙ ap (λ s. held_option held_as (get s (opaque_key pointer))) (slab_written arena slots) ∙ ap (held_option held_as) (updates.others _ key_differs) ∙ sym (held_in_slab arena (opaque_key pointer)) ∙ sym (ap (λ k. held_under arena k (opaque_key pointer)) same)
+          ap (λ k. held_under (with_slab arena slots) k (opaque_key pointer)) same ∙ held_in_slab slab (with_slab arena slots) (opaque_key pointer) ∙ ap (λ s. held_option held_as (get s (opaque_key pointer))) (slab.slab_written arena slots) ∙ ap (held_option held_as) (updates.others _ key_differs) ∙ sym (held_in_slab slab arena (opaque_key pointer)) ∙ sym (ap (λ k. held_under arena k (opaque_key pointer)) same)
     ];
   }
 
@@ -61,42 +60,38 @@ module _ {K V : Type 0} {P : ℕ} {N : Type 0} (kind : NodeType) (slab_of : Node
   -- a slab that gives the same value under each key changes no node
   pub SameNodes-written : (arena : NodeArena K V P) (slots : Slab N) → ((key : ℕ) → get slots key ≡ get (slab_of arena) key) → SameNodes arena (with_slab arena slots)
   SameNodes-written arena slots kept = λ pointer. elim (same_or_differ (node_kind pointer) kind) [
-    | inr differ ↦ others_kept arena slots _ _ differ
+    | inr differ ↦ others_kept slab arena slots _ _ differ
     | inl same ↦ let key = opaque_key pointer in
-        ap (λ k. held_under (with_slab arena slots) k key) same ∙ held_in_slab (with_slab arena slots) key ∙ ap (λ s. held_option held_as (get s key)) (slab_written arena slots) ∙ ap (held_option held_as) (kept key) ∙ sym (held_in_slab arena key) ∙ sym (ap (λ k. held_under arena k key) same)
+        ap (λ k. held_under (with_slab arena slots) k key) same ∙ held_in_slab slab (with_slab arena slots) key ∙ ap (λ s. held_option held_as (get s key)) (slab.slab_written arena slots) ∙ ap (held_option held_as) (kept key) ∙ sym (held_in_slab slab arena key) ∙ sym (ap (λ k. held_under arena k key) same)
   ]
 
-  module _ (room_of_slab : (arena : NodeArena K V P) → room arena kind ≡ slab_room (slab_of arena))
-      (other_room : (arena : NodeArena K V P) (slots : Slab N) → SameOtherRoom arena (with_slab arena slots) kind) where
-    pub room-written : (arena : NodeArena K V P) (slots : Slab N) → room (with_slab arena slots) kind ≡ slab_room slots
-    room-written arena slots = room_of_slab (with_slab arena slots) ∙ ap slab_room (slab_written arena slots)
+  pub room-written : (arena : NodeArena K V P) (slots : Slab N) → room (with_slab arena slots) kind ≡ slab_room slots
+  room-written arena slots = room_of_slab slab (with_slab arena slots) ∙ ap slab_room (slab.slab_written arena slots)
 
-    module _ (capacity_of_slab : (arena : NodeArena K V P) → capacity arena kind ≡ (slab_of arena).capacity)
-        (other_capacity : (arena : NodeArena K V P) (slots : Slab N) → SameOtherCapacity arena (with_slab arena slots) kind) where
-      capacity-written : (arena : NodeArena K V P) (slots : Slab N) → slots.capacity ≡ (slab_of arena).capacity → capacity (with_slab arena slots) kind ≡ capacity arena kind
-      capacity-written arena slots kept = capacity_of_slab (with_slab arena slots) ∙ ap (λ s. s.capacity) (slab_written arena slots) ∙ kept ∙ sym (capacity_of_slab arena)
+  capacity-written : (arena : NodeArena K V P) (slots : Slab N) → slots.capacity ≡ (slab_of arena).capacity → capacity (with_slab arena slots) kind ≡ capacity arena kind
+  capacity-written arena slots kept = capacity_of_slab slab (with_slab arena slots) ∙ ap (λ s. s.capacity) (slab.slab_written arena slots) ∙ kept ∙ sym (capacity_of_slab slab arena)
 
-      -- writing a slab of the same capacity changes no capacity of the arena
-      pub SameCapacity-written : (arena : NodeArena K V P) (slots : Slab N) → slots.capacity ≡ (slab_of arena).capacity → SameCapacity arena (with_slab arena slots)
-      SameCapacity-written arena slots kept = λ other. elim (same_or_differ other kind) [
-        | inr differ ↦ other_capacity arena slots other differ
-        | inl same ↦ subst (λ k. capacity (with_slab arena slots) k ≡ capacity arena k) (sym same) (capacity-written arena slots kept)
-      ]
+  -- writing a slab of the same capacity changes no capacity of the arena
+  pub SameCapacity-written : (arena : NodeArena K V P) (slots : Slab N) → slots.capacity ≡ (slab_of arena).capacity → SameCapacity arena (with_slab arena slots)
+  SameCapacity-written arena slots kept = λ other. elim (same_or_differ other kind) [
+    | inr differ ↦ other_capacity slab arena slots other differ
+    | inl same ↦ subst (λ k. capacity (with_slab arena slots) k ≡ capacity arena k) (sym same) (capacity-written arena slots kept)
+  ]
 
-      -- writing a slab of the same spare capacity and capacity changes neither of the arena
-      pub SameRoom-written : (arena : NodeArena K V P) (slots : Slab N) → slab_room slots ≡ slab_room (slab_of arena) → slots.capacity ≡ (slab_of arena).capacity → SameRoom arena (with_slab arena slots)
-      SameRoom-written arena slots kept capacity_kept = λ other. elim (same_or_differ other kind) [
-        | inr differ ↦ λ i. (other_room arena slots other differ i, other_capacity arena slots other differ i)
-        | inl same ↦
-            let own : room (with_slab arena slots) kind ≡ room arena kind = room-written arena slots ∙ kept ∙ sym (room_of_slab arena) in
-            let most = capacity-written arena slots capacity_kept in
-            let both : space (with_slab arena slots) kind ≡ space arena kind = λ i. (own i, most i) in
-            subst (λ k. space (with_slab arena slots) k ≡ space arena k) (sym same) both
-      ]
+  -- writing a slab of the same spare capacity and capacity changes neither of the arena
+  pub SameRoom-written : (arena : NodeArena K V P) (slots : Slab N) → slab_room slots ≡ slab_room (slab_of arena) → slots.capacity ≡ (slab_of arena).capacity → SameRoom arena (with_slab arena slots)
+  SameRoom-written arena slots kept capacity_kept = λ other. elim (same_or_differ other kind) [
+    | inr differ ↦ λ i. (other_room slab arena slots other differ i, other_capacity slab arena slots other differ i)
+    | inl same ↦
+        let own : room (with_slab arena slots) kind ≡ room arena kind = room-written arena slots ∙ kept ∙ sym (room_of_slab slab arena) in
+        let most = capacity-written arena slots capacity_kept in
+        let both : space (with_slab arena slots) kind ≡ space arena kind = λ i. (own i, most i) in
+        subst (λ k. space (with_slab arena slots) k ≡ space arena k) (sym same) both
+  ]
 
-      -- replacing a node changes neither
-      pub SameRoom-with_value : (arena : NodeArena K V P) (key : ℕ) (node : N) → ContainsKey (slab_of arena) key → SameRoom arena (with_slab arena (with_value (slab_of arena) key node))
-      SameRoom-with_value arena key node within = SameRoom-written arena (with_value (slab_of arena) key node) (slab_room-with_value (slab_of arena) key node within) refl
+  -- replacing a node changes neither
+  pub SameRoom-with_value : (arena : NodeArena K V P) (key : ℕ) (node : N) → ContainsKey (slab_of arena) key → SameRoom arena (with_slab arena (with_value (slab_of arena) key node))
+  SameRoom-with_value arena key node within = SameRoom-written arena (with_value (slab_of arena) key node) (slab_room-with_value (slab_of arena) key node within) refl
 
 module _ {K V : Type 0} {P : ℕ} where
   -- the node at a pointer has space for a child, by each name of the pointer

@@ -7,6 +7,8 @@ pub mod Links
 pub mod Reader
 pub mod ReaderValue
 pub mod Relinking
+pub mod SlabLaws
+pub mod SlabOf
 pub mod CommonPrefix
 pub mod Standing
 pub mod Trees

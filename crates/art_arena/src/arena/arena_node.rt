@@ -48,55 +48,19 @@ pub trait InSlab<A>: Sized {
 /// ```
 pub trait ArenaNode<K, V, const PREFIX_LEN: usize>: Node<PREFIX_LEN, Key = K, Value = V>
     + InSlab<NodeArena<K, V, PREFIX_LEN>> {
-    ghost use Rattle.std.specs.Prelude.{◌≡◌, ◌≢◌, ◌↔◌, ℕ};
-    ghost use Rattle.slab.specs.Slab.{Slab as Slots, get, ContainsKey};
-    ghost use Rattle.art_arena.specs.Arena.{NodeArena, Held, Nothing, held_under, held_option, room, slab_room, capacity, SameOtherRoom, SameOtherCapacity};
+    ghost use Rattle.art_arena.specs.Arena.{Held};
+    ghost use Rattle.art_arena.specs.SlabOf.{IsSlabOf};
     ghost use Rattle.art_nodes.specs.declared.pointers.OpaqueNodePtr.{OpaqueNodePtr};
     ghost use Rattle.art_nodes.specs.declared.leaf_node.LeafNode.{LeafNode};
-    ghost use Rattle.art_header.specs.declared.node_type.NodeType.{NodeType};
 
     /// The node as contracts see what an arena holds.
     ghost held_as: { Self → Held (OpaqueNodePtr K V PREFIX_LEN) (LeafNode K V PREFIX_LEN) };
 
-    /// Two nodes that contracts see alike are equal.
-    ghost one_node: { (a b : Self) → held_as a ≡ held_as b → a ≡ b };
-
-    /// A node is seen as something held.
-    ghost is_held: { (node : Self) → held_as node ≢ Nothing };
-
-    /// What the arena holds under a key of this kind is what the node's slab has there.
-    ghost held_in_slab: { (arena : NodeArena K V PREFIX_LEN) (key : ℕ) →
-        held_under arena Self.TYPE key ≡ held_option held_as (get (Self.slab_of arena) key) };
-
-    /// A slab that is written is the one that is read.
-    ghost slab_written: { (arena : NodeArena K V PREFIX_LEN) (slots : Slots Self) →
-        Self.slab_of (Self.with_slab arena slots) ≡ slots };
-
-    /// The slab has a key exactly where the arena holds a node there.
-    ghost held_where_contained: { (arena : NodeArena K V PREFIX_LEN) (key : ℕ) →
-        ContainsKey (Self.slab_of arena) key ↔ (held_under arena Self.TYPE key ≢ Nothing) };
-
-    /// The spare capacity of the kind is that of its slab.
-    ghost room_of_slab: { (arena : NodeArena K V PREFIX_LEN) →
-        room arena Self.TYPE ≡ slab_room (Self.slab_of arena) };
-
-    /// Writing this slab leaves the spare capacity of the other kinds unchanged.
-    ghost other_room: { (arena : NodeArena K V PREFIX_LEN) (slots : Slots Self) →
-        SameOtherRoom arena (Self.with_slab arena slots) Self.TYPE };
-
-    /// The capacity of the kind is that of its slab.
-    ghost capacity_of_slab: { (arena : NodeArena K V PREFIX_LEN) →
-        capacity arena Self.TYPE ≡ (Self.slab_of arena).capacity };
-
-    /// Writing this slab leaves the capacity of the other kinds unchanged.
-    ghost other_capacity: { (arena : NodeArena K V PREFIX_LEN) (slots : Slots Self) →
-        SameOtherCapacity arena (Self.with_slab arena slots) Self.TYPE };
-
-    /// Writing this slab leaves the nodes of the other kinds unchanged.
-    ghost others_kept: { (arena : NodeArena K V PREFIX_LEN) (slots : Slots Self)
-        (kind : NodeType) (key : ℕ) →
-        kind ≢ Self.TYPE →
-        held_under (Self.with_slab arena slots) kind key ≡ held_under arena kind key };
+    /// The node's slab is that of its kind. It has what the arena holds under each key of the kind,
+    /// and the kind's spare capacity and capacity. The slab that is written is the one that is read,
+    /// and leaves the other kinds unchanged. Two nodes that contracts see alike are equal, and a node
+    /// is seen as something held.
+    ghost is_slab: { IsSlabOf Self.TYPE held_as Self.slab_of Self.with_slab };
 }
 
 /// An inner node that an arena keeps, of any of the four kinds. Code that is generic over it works
@@ -138,30 +102,13 @@ impl<K, V, const PREFIX_LEN: usize> InSlab<NodeArena<K, V, PREFIX_LEN>>
 }
 
 impl<K, V, const PREFIX_LEN: usize> ArenaNode<K, V, PREFIX_LEN> for InnerNode4<K, V, PREFIX_LEN> {
-    ghost use Rattle.art_arena.specs.Arena.{HeldInner, IsSomething, inner_or};
-    ghost use Rattle.std.proofs.Common.{ap, subst, rules};
+    ghost use Rattle.art_arena.specs.Arena.{HeldInner};
+    ghost use Rattle.art_arena.specs.SlabLaws.{inner_slab};
+    ghost use Rattle.std.proofs.Common.{refl, rules};
 
     ghost held_as = { HeldInner };
 
-    ghost one_node = { λ a b same. ap (inner_or a) same };
-
-    ghost is_held = { λ node same. subst IsSomething same tt };
-
-    ghost held_where_contained = { Prim.search rules };
-
-    ghost held_in_slab = { Prim.search rules };
-
-    ghost slab_written = { Prim.search rules };
-
-    ghost room_of_slab = { Prim.search rules };
-
-    ghost other_room = { Prim.search rules };
-
-    ghost capacity_of_slab = { Prim.search rules };
-
-    ghost other_capacity = { Prim.search rules };
-
-    ghost others_kept = { Prim.search rules };
+    ghost is_slab = { inner_slab (λ a. refl, λ a s. refl, Prim.search rules) };
 }
 
 impl<K, V, const PREFIX_LEN: usize> ArenaInnerNode<K, V, PREFIX_LEN>
@@ -187,30 +134,13 @@ impl<K, V, const PREFIX_LEN: usize> InSlab<NodeArena<K, V, PREFIX_LEN>>
 }
 
 impl<K, V, const PREFIX_LEN: usize> ArenaNode<K, V, PREFIX_LEN> for InnerNode16<K, V, PREFIX_LEN> {
-    ghost use Rattle.art_arena.specs.Arena.{HeldInner, IsSomething, inner_or};
-    ghost use Rattle.std.proofs.Common.{ap, subst, rules};
+    ghost use Rattle.art_arena.specs.Arena.{HeldInner};
+    ghost use Rattle.art_arena.specs.SlabLaws.{inner_slab};
+    ghost use Rattle.std.proofs.Common.{refl, rules};
 
     ghost held_as = { HeldInner };
 
-    ghost one_node = { λ a b same. ap (inner_or a) same };
-
-    ghost is_held = { λ node same. subst IsSomething same tt };
-
-    ghost held_where_contained = { Prim.search rules };
-
-    ghost held_in_slab = { Prim.search rules };
-
-    ghost slab_written = { Prim.search rules };
-
-    ghost room_of_slab = { Prim.search rules };
-
-    ghost other_room = { Prim.search rules };
-
-    ghost capacity_of_slab = { Prim.search rules };
-
-    ghost other_capacity = { Prim.search rules };
-
-    ghost others_kept = { Prim.search rules };
+    ghost is_slab = { inner_slab (λ a. refl, λ a s. refl, Prim.search rules) };
 }
 
 impl<K, V, const PREFIX_LEN: usize> ArenaInnerNode<K, V, PREFIX_LEN>
@@ -236,30 +166,13 @@ impl<K, V, const PREFIX_LEN: usize> InSlab<NodeArena<K, V, PREFIX_LEN>>
 }
 
 impl<K, V, const PREFIX_LEN: usize> ArenaNode<K, V, PREFIX_LEN> for InnerNode48<K, V, PREFIX_LEN> {
-    ghost use Rattle.art_arena.specs.Arena.{HeldInner, IsSomething, inner_or};
-    ghost use Rattle.std.proofs.Common.{ap, subst, rules};
+    ghost use Rattle.art_arena.specs.Arena.{HeldInner};
+    ghost use Rattle.art_arena.specs.SlabLaws.{inner_slab};
+    ghost use Rattle.std.proofs.Common.{refl, rules};
 
     ghost held_as = { HeldInner };
 
-    ghost one_node = { λ a b same. ap (inner_or a) same };
-
-    ghost is_held = { λ node same. subst IsSomething same tt };
-
-    ghost held_where_contained = { Prim.search rules };
-
-    ghost held_in_slab = { Prim.search rules };
-
-    ghost slab_written = { Prim.search rules };
-
-    ghost room_of_slab = { Prim.search rules };
-
-    ghost other_room = { Prim.search rules };
-
-    ghost capacity_of_slab = { Prim.search rules };
-
-    ghost other_capacity = { Prim.search rules };
-
-    ghost others_kept = { Prim.search rules };
+    ghost is_slab = { inner_slab (λ a. refl, λ a s. refl, Prim.search rules) };
 }
 
 impl<K, V, const PREFIX_LEN: usize> ArenaInnerNode<K, V, PREFIX_LEN>
@@ -285,30 +198,13 @@ impl<K, V, const PREFIX_LEN: usize> InSlab<NodeArena<K, V, PREFIX_LEN>>
 }
 
 impl<K, V, const PREFIX_LEN: usize> ArenaNode<K, V, PREFIX_LEN> for InnerNode256<K, V, PREFIX_LEN> {
-    ghost use Rattle.art_arena.specs.Arena.{HeldInner, IsSomething, inner_or};
-    ghost use Rattle.std.proofs.Common.{ap, subst, rules};
+    ghost use Rattle.art_arena.specs.Arena.{HeldInner};
+    ghost use Rattle.art_arena.specs.SlabLaws.{inner_slab};
+    ghost use Rattle.std.proofs.Common.{refl, rules};
 
     ghost held_as = { HeldInner };
 
-    ghost one_node = { λ a b same. ap (inner_or a) same };
-
-    ghost is_held = { λ node same. subst IsSomething same tt };
-
-    ghost held_where_contained = { Prim.search rules };
-
-    ghost held_in_slab = { Prim.search rules };
-
-    ghost slab_written = { Prim.search rules };
-
-    ghost room_of_slab = { Prim.search rules };
-
-    ghost other_room = { Prim.search rules };
-
-    ghost capacity_of_slab = { Prim.search rules };
-
-    ghost other_capacity = { Prim.search rules };
-
-    ghost others_kept = { Prim.search rules };
+    ghost is_slab = { inner_slab (λ a. refl, λ a s. refl, Prim.search rules) };
 }
 
 impl<K, V, const PREFIX_LEN: usize> ArenaInnerNode<K, V, PREFIX_LEN>
@@ -334,28 +230,11 @@ impl<K, V, const PREFIX_LEN: usize> InSlab<NodeArena<K, V, PREFIX_LEN>>
 }
 
 impl<K, V, const PREFIX_LEN: usize> ArenaNode<K, V, PREFIX_LEN> for LeafNode<K, V, PREFIX_LEN> {
-    ghost use Rattle.art_arena.specs.Arena.{HeldLeaf, IsSomething, leaf_or};
-    ghost use Rattle.std.proofs.Common.{ap, subst, rules};
+    ghost use Rattle.art_arena.specs.Arena.{HeldLeaf};
+    ghost use Rattle.art_arena.specs.SlabLaws.{leaf_slab};
+    ghost use Rattle.std.proofs.Common.{refl, rules};
 
     ghost held_as = { HeldLeaf };
 
-    ghost one_node = { λ a b same. ap (leaf_or a) same };
-
-    ghost is_held = { λ node same. subst IsSomething same tt };
-
-    ghost held_where_contained = { Prim.search rules };
-
-    ghost held_in_slab = { Prim.search rules };
-
-    ghost slab_written = { Prim.search rules };
-
-    ghost room_of_slab = { Prim.search rules };
-
-    ghost other_room = { Prim.search rules };
-
-    ghost capacity_of_slab = { Prim.search rules };
-
-    ghost other_capacity = { Prim.search rules };
-
-    ghost others_kept = { Prim.search rules };
+    ghost is_slab = { leaf_slab (λ a. refl, λ a s. refl, Prim.search rules) };
 }

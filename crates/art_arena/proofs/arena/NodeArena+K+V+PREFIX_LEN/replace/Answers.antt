@@ -12,4 +12,4 @@ pub returns-clause-room : goal.returns-clause-room
 returns-clause-room g c = c.as_mut.ensures.room c.replace.new.dest
 
 pub returns-clause-is_held : goal.returns-clause-is_held
-returns-clause-is_held g c = λ gone. g.N.ArenaNode.is_held c.args.node (sym (returns-clause-replaced g c).changed ∙ gone)
+returns-clause-is_held g c = λ gone. g.met.N.ArenaNode.is_slab.is_held c.args.node (sym (returns-clause-replaced g c).changed ∙ gone)
