@@ -81,6 +81,19 @@ pub type NodeArena<K, V, const PREFIX_LEN: usize> = Slabs<
     LeafNode<K, V, PREFIX_LEN>,
 >;
 
+// Evaluates an expression on the pointer to an inner node.
+macro_rules! with_inner {
+    ($pointer:expr, $node:ident => $run:expr) => {
+        match $pointer.to_node_ptr() {
+            ConcreteNodePtr::Node4($node) => $run,
+            ConcreteNodePtr::Node16($node) => $run,
+            ConcreteNodePtr::Node48($node) => $run,
+            ConcreteNodePtr::Node256($node) => $run,
+            ConcreteNodePtr::LeafNode(_) => unreachable!(),
+        }
+    };
+}
+
 // Whether a slab takes one more value without memory.
 fn has_spare_slot<T>(slots: &Slab<T>) -> bool
     ensures { IsTrue result ↔ (0 < slab_room slots.now) }
@@ -395,13 +408,7 @@ impl<K, V, const PREFIX_LEN: usize> NodeArena<K, V, PREFIX_LEN> {
             Changes self.old self.new pointer (HeldInner (node_with_prefix_of node header.now)) }
         ensures room { SameRoom self.old self.new }
     {
-        match pointer.to_node_ptr() {
-            ConcreteNodePtr::Node4(node) => self.as_mut(node).set_prefix(header),
-            ConcreteNodePtr::Node16(node) => self.as_mut(node).set_prefix(header),
-            ConcreteNodePtr::Node48(node) => self.as_mut(node).set_prefix(header),
-            ConcreteNodePtr::Node256(node) => self.as_mut(node).set_prefix(header),
-            ConcreteNodePtr::LeafNode(_) => unreachable!(),
-        }
+        with_inner!(pointer, node => self.as_mut(node).set_prefix(header))
     }
 
     /// Writes the child under the byte of an inner node, and replaces any that is there. The node's
@@ -422,21 +429,7 @@ impl<K, V, const PREFIX_LEN: usize> NodeArena<K, V, PREFIX_LEN> {
             (HeldInner (node_with_child node key_fragment child_pointer)) }
         ensures room { SameRoom self.old self.new }
     {
-        match pointer.to_node_ptr() {
-            ConcreteNodePtr::Node4(node) => {
-                self.as_mut(node).write_child(key_fragment, child_pointer)
-            }
-            ConcreteNodePtr::Node16(node) => {
-                self.as_mut(node).write_child(key_fragment, child_pointer)
-            }
-            ConcreteNodePtr::Node48(node) => {
-                self.as_mut(node).write_child(key_fragment, child_pointer)
-            }
-            ConcreteNodePtr::Node256(node) => {
-                self.as_mut(node).write_child(key_fragment, child_pointer)
-            }
-            ConcreteNodePtr::LeafNode(_) => unreachable!(),
-        }
+        with_inner!(pointer, node => self.as_mut(node).write_child(key_fragment, child_pointer))
     }
 
     /// Removes the child under the byte of an inner node and returns it. Without a child there it
@@ -457,13 +450,7 @@ impl<K, V, const PREFIX_LEN: usize> NodeArena<K, V, PREFIX_LEN> {
             (HeldInner (node_without_child node key_fragment)) }
         ensures room { SameRoom self.old self.new }
     {
-        match pointer.to_node_ptr() {
-            ConcreteNodePtr::Node4(node) => self.as_mut(node).remove_child(key_fragment),
-            ConcreteNodePtr::Node16(node) => self.as_mut(node).remove_child(key_fragment),
-            ConcreteNodePtr::Node48(node) => self.as_mut(node).remove_child(key_fragment),
-            ConcreteNodePtr::Node256(node) => self.as_mut(node).remove_child(key_fragment),
-            ConcreteNodePtr::LeafNode(_) => unreachable!(),
-        }
+        with_inner!(pointer, node => self.as_mut(node).remove_child(key_fragment))
     }
 
     /// Removes an inner node from the arena. Its children stay where they are. The arena must hold a
@@ -478,21 +465,9 @@ impl<K, V, const PREFIX_LEN: usize> NodeArena<K, V, PREFIX_LEN> {
         ensures capacity { SameCapacity self.old self.new }
         ensures other_room { SameOtherRoom self.old self.new (node_kind pointer) }
     {
-        match pointer.to_node_ptr() {
-            ConcreteNodePtr::Node4(node) => {
-                self.deallocate_node_ptr(node);
-            }
-            ConcreteNodePtr::Node16(node) => {
-                self.deallocate_node_ptr(node);
-            }
-            ConcreteNodePtr::Node48(node) => {
-                self.deallocate_node_ptr(node);
-            }
-            ConcreteNodePtr::Node256(node) => {
-                self.deallocate_node_ptr(node);
-            }
-            ConcreteNodePtr::LeafNode(_) => unreachable!(),
-        }
+        with_inner!(pointer, node => {
+            self.deallocate_node_ptr(node);
+        })
     }
 
     /// Whether the arena holds a node of the pointer's kind there.
