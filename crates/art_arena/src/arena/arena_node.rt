@@ -1,7 +1,10 @@
 //! The slabs of an arena, one for each kind of node.
 ghost use Rattle.std.specs.Prelude.{◌≡◌};
 ghost use Rattle.std.specs.Borrow.{Lends, sem};
+ghost use Rattle.std.proofs.Common.{refl, rules};
+ghost use Rattle.art_arena.specs.Arena.{HeldInner, HeldLeaf};
 ghost use Rattle.art_arena.specs.Lending.{slab_row};
+ghost use Rattle.art_arena.specs.SlabLaws.{inner_slab, leaf_slab};
 
 use crate::arena::NodeArena;
 use art_nodes::{
@@ -79,9 +82,6 @@ pub trait ArenaNode<K, V, const PREFIX_LEN: usize>: Node<PREFIX_LEN, Key = K, Va
 /// ```
 pub trait ArenaInnerNode<K, V, const PREFIX_LEN: usize>: ArenaNode<K, V, PREFIX_LEN>
     + InnerNodeCommon<K, V, PREFIX_LEN> {
-    ghost use Rattle.std.specs.Prelude.{◌≡◌};
-    ghost use Rattle.art_arena.specs.Arena.{HeldInner};
-
     /// What an arena holds is the node as the calls of [`InnerNodeCommon`] see it.
     ghost shown: { (node : Self) → Self.held_as node ≡ HeldInner (Self.inner node) };
 }
@@ -102,10 +102,6 @@ impl<K, V, const PREFIX_LEN: usize> InSlab<NodeArena<K, V, PREFIX_LEN>>
 }
 
 impl<K, V, const PREFIX_LEN: usize> ArenaNode<K, V, PREFIX_LEN> for InnerNode4<K, V, PREFIX_LEN> {
-    ghost use Rattle.art_arena.specs.Arena.{HeldInner};
-    ghost use Rattle.art_arena.specs.SlabLaws.{inner_slab};
-    ghost use Rattle.std.proofs.Common.{refl, rules};
-
     ghost held_as = { HeldInner };
 
     ghost is_slab = { inner_slab (λ a. refl, λ a s. refl, Prim.search rules) };
@@ -113,8 +109,6 @@ impl<K, V, const PREFIX_LEN: usize> ArenaNode<K, V, PREFIX_LEN> for InnerNode4<K
 
 impl<K, V, const PREFIX_LEN: usize> ArenaInnerNode<K, V, PREFIX_LEN>
     for InnerNode4<K, V, PREFIX_LEN> {
-    ghost use Rattle.std.proofs.Common.{refl};
-
     ghost shown = { λ node. refl };
 }
 
@@ -134,10 +128,6 @@ impl<K, V, const PREFIX_LEN: usize> InSlab<NodeArena<K, V, PREFIX_LEN>>
 }
 
 impl<K, V, const PREFIX_LEN: usize> ArenaNode<K, V, PREFIX_LEN> for InnerNode16<K, V, PREFIX_LEN> {
-    ghost use Rattle.art_arena.specs.Arena.{HeldInner};
-    ghost use Rattle.art_arena.specs.SlabLaws.{inner_slab};
-    ghost use Rattle.std.proofs.Common.{refl, rules};
-
     ghost held_as = { HeldInner };
 
     ghost is_slab = { inner_slab (λ a. refl, λ a s. refl, Prim.search rules) };
@@ -145,8 +135,6 @@ impl<K, V, const PREFIX_LEN: usize> ArenaNode<K, V, PREFIX_LEN> for InnerNode16<
 
 impl<K, V, const PREFIX_LEN: usize> ArenaInnerNode<K, V, PREFIX_LEN>
     for InnerNode16<K, V, PREFIX_LEN> {
-    ghost use Rattle.std.proofs.Common.{refl};
-
     ghost shown = { λ node. refl };
 }
 
@@ -166,10 +154,6 @@ impl<K, V, const PREFIX_LEN: usize> InSlab<NodeArena<K, V, PREFIX_LEN>>
 }
 
 impl<K, V, const PREFIX_LEN: usize> ArenaNode<K, V, PREFIX_LEN> for InnerNode48<K, V, PREFIX_LEN> {
-    ghost use Rattle.art_arena.specs.Arena.{HeldInner};
-    ghost use Rattle.art_arena.specs.SlabLaws.{inner_slab};
-    ghost use Rattle.std.proofs.Common.{refl, rules};
-
     ghost held_as = { HeldInner };
 
     ghost is_slab = { inner_slab (λ a. refl, λ a s. refl, Prim.search rules) };
@@ -177,8 +161,6 @@ impl<K, V, const PREFIX_LEN: usize> ArenaNode<K, V, PREFIX_LEN> for InnerNode48<
 
 impl<K, V, const PREFIX_LEN: usize> ArenaInnerNode<K, V, PREFIX_LEN>
     for InnerNode48<K, V, PREFIX_LEN> {
-    ghost use Rattle.std.proofs.Common.{refl};
-
     ghost shown = { λ node. refl };
 }
 
@@ -198,10 +180,6 @@ impl<K, V, const PREFIX_LEN: usize> InSlab<NodeArena<K, V, PREFIX_LEN>>
 }
 
 impl<K, V, const PREFIX_LEN: usize> ArenaNode<K, V, PREFIX_LEN> for InnerNode256<K, V, PREFIX_LEN> {
-    ghost use Rattle.art_arena.specs.Arena.{HeldInner};
-    ghost use Rattle.art_arena.specs.SlabLaws.{inner_slab};
-    ghost use Rattle.std.proofs.Common.{refl, rules};
-
     ghost held_as = { HeldInner };
 
     ghost is_slab = { inner_slab (λ a. refl, λ a s. refl, Prim.search rules) };
@@ -209,8 +187,6 @@ impl<K, V, const PREFIX_LEN: usize> ArenaNode<K, V, PREFIX_LEN> for InnerNode256
 
 impl<K, V, const PREFIX_LEN: usize> ArenaInnerNode<K, V, PREFIX_LEN>
     for InnerNode256<K, V, PREFIX_LEN> {
-    ghost use Rattle.std.proofs.Common.{refl};
-
     ghost shown = { λ node. refl };
 }
 
@@ -230,10 +206,6 @@ impl<K, V, const PREFIX_LEN: usize> InSlab<NodeArena<K, V, PREFIX_LEN>>
 }
 
 impl<K, V, const PREFIX_LEN: usize> ArenaNode<K, V, PREFIX_LEN> for LeafNode<K, V, PREFIX_LEN> {
-    ghost use Rattle.art_arena.specs.Arena.{HeldLeaf};
-    ghost use Rattle.art_arena.specs.SlabLaws.{leaf_slab};
-    ghost use Rattle.std.proofs.Common.{refl, rules};
-
     ghost held_as = { HeldLeaf };
 
     ghost is_slab = { leaf_slab (λ a. refl, λ a s. refl, Prim.search rules) };
