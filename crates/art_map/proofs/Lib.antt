@@ -1,3 +1,4 @@
+mod BoundLemmas
 pub mod CallLaws
 mod CalledLemmas
 mod CursorLemmas

@@ -1,8 +1,9 @@
 -- Which keys are within two bounds, and which begin with a prefix.
-use Rattle.std.specs.Prelude.{ℕ, Bool, true, ◌&&◌, List, filter, nat_eq}
+use Rattle.std.specs.Prelude.{ℕ, Bool, true, ◌&&◌, List, Some, filter, nat_eq}
 use Rattle.std.specs.Borrow.{Bor}
 use Rattle.std.specs.List.{starts_with}
 use Rattle.std.specs.Ordering.{is_lt, is_le, is_gt, is_ge}
+use Rattle.std.specs.Range.Bound.{bounds_contain}
 use Rattle.std.specs.declared.ops.Bound.{Bound}
 use Rattle.std.specs.declared.ops.Bound.TheVariants.{Included, Excluded, Unbounded}
 use Rattle.art_bytes.specs.Text.{text_order}
@@ -24,6 +25,10 @@ module _ {K V : Type 0} (text : K → List ℕ) where
   -- the entries whose keys are within two bounds
   abbrev pub entries_within : {Q : Type 0} → (Q → List ℕ) → Bound (Bor Q) → Bound (Bor Q) → List (K × V) → List (K × V)
   entries_within bound_text start end entries = filter (λ entry. is_up_to bound_text end (text entry.0) && is_from bound_text start (text entry.0)) entries
+
+  -- the entries whose keys have bytes in a range from one of these bounds to the other, as std's ranges have
+  abbrev pub entries_in : Bound (List ℕ) → Bound (List ℕ) → List (K × V) → List (K × V)
+  entries_in start end entries = filter (λ entry. bounds_contain (λ x y. Some (text_order x y)) start end (text entry.0)) entries
 
   -- the entries whose keys are not below these bytes
   abbrev pub entries_from : List ℕ → List (K × V) → List (K × V)

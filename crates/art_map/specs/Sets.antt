@@ -1,9 +1,10 @@
 -- A set as the list of its keys, ascending by text.
-use Rattle.std.specs.Prelude.{ℕ, ◌<◌, ◌≤◌, ◌^◌, ◌&&◌, not, List, [], ◌∷◌, length, map, filter, find, Contains, Option, nat_eq}
+use Rattle.std.specs.Prelude.{ℕ, ◌<◌, ◌≤◌, ◌^◌, ◌&&◌, not, List, [], ◌∷◌, length, map, filter, find, Contains, Option, Some, nat_eq}
 use Rattle.std.specs.Borrow.{Bor}
 use Rattle.std.specs.Cmp.Lexicographic.{pointwise}
 use Rattle.std.specs.List.{starts_with}
 use Rattle.std.specs.Ordering.{is_lt, is_le, is_ge, is_gt, match_ordering}
+use Rattle.std.specs.Range.Bound.{bounds_contain}
 use Rattle.std.specs.declared.ops.Bound.{Bound}
 use Rattle.art_bytes.specs.Text.{text_order}
 use Rattle.art_tree.specs.Dictionary.{Clashes}
@@ -39,6 +40,10 @@ module _ {K : Type 0} (text : K → List ℕ) where
   -- the keys within two bounds
   abbrev pub keys_within : {Q : Type 0} → (Q → List ℕ) → Bound (Bor Q) → Bound (Bor Q) → List K → List K
   keys_within bound_text start end keys = filter (λ key. is_up_to bound_text end (text key) && is_from bound_text start (text key)) keys
+
+  -- the keys with bytes in a range from one of these bounds to the other, as std's ranges have
+  abbrev pub keys_in : Bound (List ℕ) → Bound (List ℕ) → List K → List K
+  keys_in start end keys = filter (λ key. bounds_contain (λ x y. Some (text_order x y)) start end (text key)) keys
 
   -- the keys that are not below these bytes
   abbrev pub keys_from : List ℕ → List K → List K

@@ -18,6 +18,7 @@ mod predecessors;
 mod reading;
 mod removing_prefixes;
 mod retaining_entries;
+mod std_ranges;
 mod taking_apart;
 mod underlying;
 

@@ -13,6 +13,7 @@ ghost use Rattle.art_map.specs.Shrinking.{NeedsNode};
 mod cloning_sets;
 mod comparing_sets;
 mod extending_sets;
+mod key_ranges;
 mod keys_by_text;
 mod merging;
 mod neighbouring_keys;

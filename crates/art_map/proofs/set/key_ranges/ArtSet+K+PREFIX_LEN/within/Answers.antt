@@ -1,0 +1,15 @@
+use Rattle.std.proofs.Common.{◌∙◌, Some, ap}
+use Rattle.std.specs.Range.Bound.{bound_map, bounds_contain}
+use Rattle.art_bytes.specs.Text.{text_order}
+use Rattle.art_map.specs.Sets.{keys_in}
+use Rattle.art_map.proofs.SetLemmas.{keys_in as keys_of_entries, map-of-filter}
+use Rattle.art_map.proofs.set.key_ranges.ArtSet+K+PREFIX_LEN.within.Goals as goal
+
+pub returns : goal.returns
+returns g c = λ has.
+    let text = g.K.AsBytes.text in
+    let start = bound_map g.Q.AsBytes.text (g.R.RangeBounds.start_bound c.args.range) in
+    let end = bound_map g.Q.AsBytes.text (g.R.RangeBounds.end_bound c.args.range) in
+    c.keys_of.ensures ∙ ap (keys_of_entries text) (c.within.ensures has)
+    ∙ map-of-filter (λ entry. entry.0) (λ key. bounds_contain (λ x y. Some (text_order x y)) start end (text key)) c.self.inside.entries
+    ∙ ap (λ keys. keys_in text start end keys) c.self.view_is
