@@ -15,12 +15,6 @@ get-last : {X : Type 0} (front : List X) (x : X) → slice_get (front ++ x ∷ [
 get-last [] x = refl
 get-last (y ∷ front) x = get-last front x
 
-pub last-yielded : {A B : Type 0} (view : A → B) (r : Option A) (all left : List B) (Empty : Type 0) → MatchOption r ((all ≡ []) × Empty) (λ x. all ≡ left ++ view x ∷ []) → option_map view r ≡ last_of all
-last-yielded view None all left Empty yields = rw yields.0 refl
-last-yielded view (Some x) all left Empty yields =
-    let long : length (left ++ view x ∷ []) - 1 ≡ length left = omega (arith, length-append left (view x ∷ [])) in
-    rw (yields, long, get-last left (view x)) refl
-
 module _ {T K V : Type 0} (read : List ℕ → K) (text : T → List ℕ) where
   abbrev pub entry_read : T × V → K × V
   entry_read entry = (read (text entry.0), entry.1)

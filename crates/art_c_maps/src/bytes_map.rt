@@ -9,7 +9,7 @@ ghost use Rattle.art_c_maps.specs.Entries.{entries_from, entries_to, entries_wit
 ghost use Rattle.art_c_maps.specs.Refusals.{IsRefused};
 ghost use Rattle.art_c_maps.specs.Unescaped.{key_fits, key_written, len_and_value, unescaped, with_prefix};
 
-use crate::nearest::{bound_at, first_from, value_alone};
+use crate::nearest::{first_from, last_to, value_alone};
 use crate::refusal::Refusal;
 use crate::unescaped::{unescaped_begins, unescaped_len, write_unescaped};
 use art_bytes::AsBytes;
@@ -18,7 +18,6 @@ use art_tree::{Escaped, EscapedKey, InsertRefusal, Mapped, escaped_prefix};
 use std::alloc::{AllocError, Global};
 use std::cmp::Ordering;
 use std::marker::Model;
-use std::ops::Bound;
 
 type Word = Mapped<Escaped, Vec<u8>>;
 
@@ -238,8 +237,7 @@ impl BytesMap {
     {
         self.entries.entries_ascend();
         self.sought.set(from)?;
-        let end = bound_at(&self.sought, inclusive);
-        let found = self.entries.range(Bound::Unbounded, end).next_back();
+        let found = last_to(&self.entries, &self.sought, inclusive);
         Ok(write_found(found, key_out))
     }
 

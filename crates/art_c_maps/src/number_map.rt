@@ -6,7 +6,7 @@ ghost use Rattle.std.specs.Ordering.{nat_cmp};
 ghost use Rattle.art_mapped.specs.Mapped.{mapped_text};
 ghost use Rattle.art_c_maps.specs.Entries.{begun_with, entries_from, entries_read, entries_to, first_of, keys_of, last_of, next_entries, put, value_of, values_of, without};
 
-use crate::nearest::{bound_at, first_from, value_alone};
+use crate::nearest::{first_from, last_to, start_at, value_alone};
 use art_map::{ArtMap, Iter};
 use art_tree::{Mapped, ToUBE};
 use std::alloc::{AllocError, Global};
@@ -167,9 +167,7 @@ impl NumberMap {
     {
         self.entries.entries_ascend();
         let from = Number::of(from);
-        let end = bound_at(&from, inclusive);
-        let mut entries = self.entries.range(Bound::Unbounded, end);
-        entry_of(entries.next_back())
+        entry_of(last_to(&self.entries, &from, inclusive))
     }
 
     /// The entry with the least key, or None where there is no entry. Takes no memory.
@@ -227,7 +225,7 @@ impl NumberMap {
     {
         self.entries.entries_ascend();
         let from = Number::of(from);
-        let start = bound_at(&from, inclusive);
+        let start = start_at(&from, inclusive);
         let entries = self.entries.range(start, Bound::Unbounded);
         write_entries(entries, keys, values)
     }

@@ -4,24 +4,19 @@ use Rattle.art_bytes.specs.Text.{text_order}
 use Rattle.art_mapped.specs.Escaped.{escaped_text}
 use Rattle.art_mapped.specs.EscapedKey.{escaped_key_text}
 use Rattle.art_mapped.specs.Mapped.{mapped_text}
-use Rattle.art_c_maps.specs.Entries.{entries_read}
 use Rattle.art_c_maps.specs.Unescaped.{unescaped, key_written, len_and_value}
 use Rattle.art_c_maps.proofs.ByteLemmas.{AnyBytes, word-read, word-texts, words-keep}
-use Rattle.art_c_maps.proofs.ReadLemmas.{to-within}
-use Rattle.art_c_maps.proofs.FoundLemmas.{found-last, last-yielded, lengths-of, now_of}
+use Rattle.art_c_maps.proofs.ReadLemmas.{to-at}
+use Rattle.art_c_maps.proofs.FoundLemmas.{found-last, lengths-of}
 use Rattle.art_c_maps.proofs.bytes_map.BytesMap.previous.Goals as goal
 
 pub returns-clause-found : goal.returns-clause-found
 returns-clause-found c =
-    c.write_found.ensures.found ∙ lengths-of mapped_text c.next_back-found.result
-    ∙ ap (option_map len_and_value) (found-last unescaped mapped_text c.next_back-found.result c.range.result _
-    (last-yielded (now_of unescaped mapped_text) c.next_back-found.result c.range.result c.next_back-found.new.self _ c.next_back-found.ensures.steps)
-    (ap (entries_read unescaped mapped_text) c.range.ensures
-    ∙ to-within text_order escaped_text unescaped AnyBytes words-keep word-read mapped_text c.self.inside.entries c.args.self.now c.self.view_is (word-texts mapped_text c.self.inside.entries c.entries_ascend.ensures.keys) (escaped_key_text c.set.new.self) c.args.from.now tt c.in_ok-set.ensures.text escaped_key_text c.bound_at-end.result c.args.inclusive c.bound_at-end.ensures.end))
+    c.write_found.ensures.found ∙ lengths-of mapped_text c.last_to-found.result
+    ∙ ap (option_map len_and_value) (found-last unescaped mapped_text c.last_to-found.result _ _ c.last_to-found.ensures
+    (to-at text_order escaped_text unescaped AnyBytes words-keep word-read mapped_text c.self.inside.entries c.args.self.now c.self.view_is (word-texts mapped_text c.self.inside.entries c.entries_ascend.ensures.keys) (escaped_key_text c.set.new.self) c.args.from.now tt c.in_ok-set.ensures.text c.args.inclusive))
 
 pub returns-clause-written : goal.returns-clause-written
 returns-clause-written c =
-    c.write_found.ensures.written ∙ ap (λ found. key_written found c.args.key_out.now) (found-last unescaped mapped_text c.next_back-found.result c.range.result _
-    (last-yielded (now_of unescaped mapped_text) c.next_back-found.result c.range.result c.next_back-found.new.self _ c.next_back-found.ensures.steps)
-    (ap (entries_read unescaped mapped_text) c.range.ensures
-    ∙ to-within text_order escaped_text unescaped AnyBytes words-keep word-read mapped_text c.self.inside.entries c.args.self.now c.self.view_is (word-texts mapped_text c.self.inside.entries c.entries_ascend.ensures.keys) (escaped_key_text c.set.new.self) c.args.from.now tt c.in_ok-set.ensures.text escaped_key_text c.bound_at-end.result c.args.inclusive c.bound_at-end.ensures.end))
+    c.write_found.ensures.written ∙ ap (λ found. key_written found c.args.key_out.now) (found-last unescaped mapped_text c.last_to-found.result _ _ c.last_to-found.ensures
+    (to-at text_order escaped_text unescaped AnyBytes words-keep word-read mapped_text c.self.inside.entries c.args.self.now c.self.view_is (word-texts mapped_text c.self.inside.entries c.entries_ascend.ensures.keys) (escaped_key_text c.set.new.self) c.args.from.now tt c.in_ok-set.ensures.text c.args.inclusive))
