@@ -1,6 +1,7 @@
 //! Tests of a map: each call, and one allocation failure.
 mod ascending_entries;
 mod extended_lists;
+mod iterator_callers;
 mod key_examples;
 mod map_callers;
 mod map_examples;
