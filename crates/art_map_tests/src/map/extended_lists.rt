@@ -1,7 +1,8 @@
 //! Callers of the calls that add many entries or keys.
-ghost use Rattle.std.specs.Prelude.{◌≡◌, [], IfOk, OnOk};
+ghost use Rattle.std.specs.Prelude.{◌≡◌, [], take, IfErr, IfOk, OnOk};
 ghost use Rattle.art_map.specs.Extending.{put_all};
 ghost use Rattle.art_map.specs.Merges.{union};
+ghost use Rattle.art_map.specs.Sets.{IsKeyRefused};
 
 use super::*;
 use art_map::{ArtSet, ExtendFault, ExtendKeysFault};
@@ -37,6 +38,19 @@ fn add_names<K: AsBytes + Drop, const PREFIX_LEN: usize>(
     names.extend(keys)
 }
 
+/// A set of these names, in any order, or the first that is refused, and why.
+fn names_of<K: AsBytes + Drop, const PREFIX_LEN: usize>(
+    alloc: Global,
+    keys: Vec<K>,
+) -> Result<ArtSet<K, PREFIX_LEN>, ExtendKeysFault<K>>
+    ensures names { IfOk result (λ names. names ≡ union K.text [] keys.items) }
+    ensures refusal { IfErr result (λ fault. IsKeyRefused K.text
+        (union K.text [] (take fault.added keys.items))
+        (K.text fault.refused.key) fault.refused.refusal) }
+{
+    ArtSet::from_keys(alloc, keys)
+}
+
 #[test]
 fn lists_are_extended(rt: HostRuntime) -> Result<(), Fail> {
     let alloc = rt.alloc();
@@ -47,7 +61,7 @@ fn lists_are_extended(rt: HostRuntime) -> Result<(), Fail> {
     let more = vec![in alloc; (*b"tin", 52), (*b"tip", 9)]?;
     add_prices(&mut prices, more).map_err(|fault| fault.refused.refusal)?;
     assert!(rt; prices.len() == 3 && prices.get(b"tin") == Some(&52));
-    let mut names = ArtSet::<[u8; 3], 2>::from_keys(alloc, vec![in alloc; *b"tin"]?).map_err(
+    let mut names: ArtSet<[u8; 3], 2> = names_of(alloc, vec![in alloc; *b"tin"]?).map_err(
         |fault| fault.refused.refusal,
     )?;
     let keys = vec![in alloc; *b"tan", *b"tin"]?;
