@@ -7,6 +7,7 @@ mod EnteredLemmas
 mod EntryLemmas
 mod ExtendLemmas
 mod FrontLemmas
+mod LeafCounts
 mod LentLemmas
 mod LinkLemmas
 mod ListLemmas

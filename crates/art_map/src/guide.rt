@@ -36,7 +36,7 @@ const LEAVES_A_VISIT: usize = 2;
 
 /// A way down a tree, and the leaves that are expected next. Nodes and leaves are numbers here, and
 /// none needs to be there.
-#[derive(Drop)]
+#[derive(Clone, Copy)]
 pub(crate) struct Guide {
     // Whether there are too few leaves.
     is_off: bool,

@@ -1,6 +1,7 @@
 //! The entries of a map that is taken apart, one by one.
-ghost use Rattle.std.specs.Prelude.{◌≡◌, ◌∷◌, ◌++◌, [], Some, map};
+ghost use Rattle.std.specs.Prelude.{◌≡◌, ◌+◌, ◌∷◌, ◌++◌, [], length, Some, map};
 ghost use Rattle.std.specs.Iterator.{YieldsFirst, YieldsLast, item_count};
+ghost use Rattle.art_arena.specs.Arena.{leaf_count};
 ghost use Rattle.art_map.specs.Runs.{run_of, IsRun};
 
 use crate::iter::HasRuns;
@@ -9,7 +10,8 @@ use art_nodes::{LeafNode, NodePtr};
 use std::iter::FusedIterator;
 use std::marker::{Model, PhantomData};
 
-/// The entries of a run of linked leaves that are left, in order, with the arena that holds them.
+/// The entries of a run of linked leaves that are left, in order, with the arena that holds them and no
+/// other leaves.
 /// Callers name it [`IntoIter`].
 #[derive(Drop)]
 pub struct OwnedRun<A: HasRuns<L, K, V>, L, K, V> {
@@ -20,13 +22,14 @@ pub struct OwnedRun<A: HasRuns<L, K, V>, L, K, V> {
 }
 
 impl<A: HasRuns<L, K, V>, L, K, V> Model for OwnedRun<A, L, K, V> {
-    ghost use Rattle.std.specs.Prelude.{List};
+    ghost use Rattle.std.specs.Prelude.{◌≡◌, List, length};
 
     ghost Value = { List (K × V) };
 
     ghost view = { λ r. A.run r.arena r.ends };
 
-    ghost invariant = { λ r. A.is_run r.arena r.ends };
+    ghost invariant = { λ r. A.is_run r.arena r.ends
+        × (length (A.run r.arena r.ends) ≡ A.leaf_count r.arena) };
 }
 
 /// The entries of a map that was taken apart, in ascending order of the bytes of their keys, and from
@@ -56,6 +59,7 @@ fn take_out_first<K, V, const PREFIX_LEN: usize>(
     requires { IsRun arena.old (Some (front, back)) }
     ensures first { run_of arena.old (Some (front, back)) ≡ result.0 ∷ run_of arena.new result.1 }
     ensures rest { IsRun arena.new result.1 }
+    ensures fewer { leaf_count arena.old ≡ leaf_count arena.new + 1 }
 {
     let leaf = arena.deallocate_node_ptr(front);
     let next = leaf.next();
@@ -86,6 +90,7 @@ fn take_out_last<K, V, const PREFIX_LEN: usize>(
     requires { IsRun arena.old (Some (front, back)) }
     ensures last { run_of arena.old (Some (front, back)) ≡ run_of arena.new result.1 ++ result.0 ∷ [] }
     ensures rest { IsRun arena.new result.1 }
+    ensures fewer { leaf_count arena.old ≡ leaf_count arena.new + 1 }
 {
     let leaf = arena.deallocate_node_ptr(back);
     let previous = leaf.previous();
@@ -112,6 +117,11 @@ impl<K: Drop, V: Drop, const PREFIX_LEN: usize> Iterator for IntoIter<K, V, PREF
         self.ends = ends;
         Some(entry)
     }
+
+    fn size_hint(&self) -> (usize, Option<usize>) {
+        let len = self.len();
+        (len, Some(len))
+    }
 }
 
 impl<K: Drop, V: Drop, const PREFIX_LEN: usize> DoubleEndedIterator for IntoIter<K, V, PREFIX_LEN> {
@@ -126,6 +136,13 @@ impl<K: Drop, V: Drop, const PREFIX_LEN: usize> DoubleEndedIterator for IntoIter
 }
 
 impl<K: Drop, V: Drop, const PREFIX_LEN: usize> FusedIterator for IntoIter<K, V, PREFIX_LEN> {}
+
+/// The leaves that are still in the arena are counted there, so no step counts.
+impl<K: Drop, V: Drop, const PREFIX_LEN: usize> ExactSizeIterator for IntoIter<K, V, PREFIX_LEN> {
+    fn len(&self) -> usize {
+        self.arena.leaf_count()
+    }
+}
 
 /// The keys of the entries of a run that are left, with the arena. Callers name it [`IntoKeys`].
 #[derive(Drop)]
@@ -164,9 +181,9 @@ impl<K: Drop, V: Drop, const PREFIX_LEN: usize> Iterator for IntoKeys<K, V, PREF
         }
     }
 
-    // Written out: the trait's own body gets no proof where the item lacks a type of the iterator.
     fn size_hint(&self) -> (usize, Option<usize>) {
-        (0, None)
+        let len = self.len();
+        (len, Some(len))
     }
 }
 
@@ -182,6 +199,12 @@ impl<K: Drop, V: Drop, const PREFIX_LEN: usize> DoubleEndedIterator for IntoKeys
 }
 
 impl<K: Drop, V: Drop, const PREFIX_LEN: usize> FusedIterator for IntoKeys<K, V, PREFIX_LEN> {}
+
+impl<K: Drop, V: Drop, const PREFIX_LEN: usize> ExactSizeIterator for IntoKeys<K, V, PREFIX_LEN> {
+    fn len(&self) -> usize {
+        self.entries.len()
+    }
+}
 
 /// The keys of these entries.
 pub(crate) fn keys_taken<K, V, const PREFIX_LEN: usize>(
@@ -202,7 +225,8 @@ pub(crate) fn run_taken<K, V, const PREFIX_LEN: usize>(
         ),
     >,
 ) -> IntoIter<K, V, PREFIX_LEN>
-    requires { IsRun arena ends }
+    requires run { IsRun arena ends }
+    requires whole { length (run_of arena ends) ≡ leaf_count arena }
     ensures { result ≡ run_of arena ends }
 {
     OwnedRun {

@@ -46,9 +46,9 @@ impl<K: Drop, V: Drop, const PREFIX_LEN: usize> Iterator for IntoValues<K, V, PR
         }
     }
 
-    // Written out: the trait's own body gets no proof where the item lacks a type of the iterator.
     fn size_hint(&self) -> (usize, Option<usize>) {
-        (0, None)
+        let len = self.len();
+        (len, Some(len))
     }
 }
 
@@ -65,6 +65,12 @@ impl<K: Drop, V: Drop, const PREFIX_LEN: usize> DoubleEndedIterator
 }
 
 impl<K: Drop, V: Drop, const PREFIX_LEN: usize> FusedIterator for IntoValues<K, V, PREFIX_LEN> {}
+
+impl<K: Drop, V: Drop, const PREFIX_LEN: usize> ExactSizeIterator for IntoValues<K, V, PREFIX_LEN> {
+    fn len(&self) -> usize {
+        self.entries.len()
+    }
+}
 
 /// The values of these entries.
 pub(crate) fn values_taken<K, V, const PREFIX_LEN: usize>(

@@ -1,11 +1,12 @@
 //! The keys and the values of the entries of a map, in order.
-ghost use Rattle.std.specs.Prelude.{◌≡◌, map};
+ghost use Rattle.std.specs.Prelude.{◌≡◌, map, ⊤};
 ghost use Rattle.std.specs.Iterator.{YieldsFirstBy, YieldsLastBy, item_count};
 
 use crate::iter::{HasRuns, Iter, Run};
 use art_arena::NodeArena;
 use art_bytes::AsBytes;
 use art_nodes::{LeafNode, NodePtr};
+use std::alloc::AllocError;
 use std::iter::FusedIterator;
 use std::marker::Model;
 
@@ -67,6 +68,18 @@ impl<'a, K: AsBytes, V, const PREFIX_LEN: usize> DoubleEndedIterator
 
 impl<'a, K: AsBytes, V, const PREFIX_LEN: usize> FusedIterator for Keys<'a, K, V, PREFIX_LEN> {}
 
+/// Another iterator over the keys that are left. Takes no memory and never fails.
+impl<'a, K, V, const PREFIX_LEN: usize> Clone for Keys<'a, K, V, PREFIX_LEN> {
+    ghost is_clone = { λ keys copy. copy ≡ keys };
+
+    ghost is_infallible = { λ _. ⊤ };
+
+    fn clone(&self) -> Result<Keys<'a, K, V, PREFIX_LEN>, AllocError> {
+        let entries = self.entries.clone()?;
+        Ok(RunKeys { entries })
+    }
+}
+
 /// The values of the entries that are left. Callers name it [`Values`].
 #[derive(Drop)]
 pub struct RunValues<'a, A: HasRuns<L, K, V>, L, K, V> {
@@ -124,6 +137,18 @@ impl<'a, K: AsBytes, V, const PREFIX_LEN: usize> DoubleEndedIterator
 }
 
 impl<'a, K: AsBytes, V, const PREFIX_LEN: usize> FusedIterator for Values<'a, K, V, PREFIX_LEN> {}
+
+/// Another iterator over the values that are left. Takes no memory and never fails.
+impl<'a, K, V, const PREFIX_LEN: usize> Clone for Values<'a, K, V, PREFIX_LEN> {
+    ghost is_clone = { λ values copy. copy ≡ values };
+
+    ghost is_infallible = { λ _. ⊤ };
+
+    fn clone(&self) -> Result<Values<'a, K, V, PREFIX_LEN>, AllocError> {
+        let entries = self.entries.clone()?;
+        Ok(RunValues { entries })
+    }
+}
 
 /// The keys of these entries.
 pub(crate) fn keys_of<'a, K, V, const PREFIX_LEN: usize>(

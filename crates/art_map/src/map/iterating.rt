@@ -7,6 +7,7 @@ use crate::map::{ArtMap, MapOver};
 use crate::range::ends_between;
 use art_bytes::AsBytes;
 use art_tree::Side;
+use art_tree::laws::entries_are_as_many_as_leaves;
 
 impl<K: AsBytes + Drop, V: Drop, const PREFIX_LEN: usize> IntoIterator
     for ArtMap<K, V, PREFIX_LEN> {
@@ -32,6 +33,8 @@ impl<K: AsBytes + Drop, V: Drop, const PREFIX_LEN: usize> IntoIterator
     /// assert!(rt; last.get() == "zinc" && greatest == 30);
     /// ```
     fn into_iter(self) -> IntoIter<K, V, PREFIX_LEN> {
+        entries_are_as_many_as_leaves::<K, V, PREFIX_LEN>();
+        let _root = self.tree.root();
         let ends = ends_between(&self.tree, Side::Before, &[], Side::AfterBegun, &[]);
         let MapOver { tree, entry: _ } = self;
         run_taken(tree.into_arena(), ends)

@@ -1,5 +1,5 @@
 //! Two sets walked side by side: the keys of either, of both, of one alone.
-ghost use Rattle.std.specs.Prelude.{◌≡◌, ◌∷◌, [], drop, MatchOption};
+ghost use Rattle.std.specs.Prelude.{◌≡◌, ◌∷◌, [], drop, MatchOption, ⊤};
 ghost use Rattle.std.specs.Iterator.{YieldsFirstBy, item_count};
 ghost use Rattle.art_map.specs.Merges.{walk, union, intersection, difference, symmetric_difference};
 
@@ -9,6 +9,7 @@ use crate::set::ArtSet;
 use art_arena::NodeArena;
 use art_bytes::AsBytes;
 use art_nodes::{LeafNode, NodePtr};
+use std::alloc::AllocError;
 use std::cmp::Ordering;
 use std::iter::FusedIterator;
 use std::marker::Model;
@@ -70,6 +71,20 @@ impl<'a, K: AsBytes, const PREFIX_LEN: usize> Peeked<'a, K, PREFIX_LEN> {
         let head = self.peek();
         self.advance();
         head
+    }
+}
+
+impl<'a, K, const PREFIX_LEN: usize> Clone for Peeked<'a, K, PREFIX_LEN> {
+    ghost is_clone = { λ keys copy. copy ≡ keys };
+
+    ghost is_infallible = { λ _. ⊤ };
+
+    fn clone(&self) -> Result<Peeked<'a, K, PREFIX_LEN>, AllocError> {
+        let rest = self.rest.clone()?;
+        Ok(PeekedKeys {
+            head: self.head,
+            rest,
+        })
     }
 }
 
@@ -156,6 +171,25 @@ impl<'a, K: AsBytes, const PREFIX_LEN: usize> Iterator for Merged<'a, K, PREFIX_
 }
 
 impl<'a, K: AsBytes, const PREFIX_LEN: usize> FusedIterator for Merged<'a, K, PREFIX_LEN> {}
+
+/// Another iterator over the keys that are left. Takes no memory and never fails.
+impl<'a, K: AsBytes, const PREFIX_LEN: usize> Clone for Merged<'a, K, PREFIX_LEN> {
+    ghost is_clone = { λ keys copy. copy ≡ keys };
+
+    ghost is_infallible = { λ _. ⊤ };
+
+    fn clone(&self) -> Result<Merged<'a, K, PREFIX_LEN>, AllocError> {
+        let left = self.left.clone()?;
+        let right = self.right.clone()?;
+        Ok(MergedKeys {
+            left,
+            right,
+            in_left: self.in_left,
+            in_both: self.in_both,
+            in_right: self.in_right,
+        })
+    }
+}
 
 // The keys of two sets, as far as they are told to be yielded.
 fn merged<'a, K: AsBytes, const PREFIX_LEN: usize>(

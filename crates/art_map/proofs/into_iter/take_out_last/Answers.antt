@@ -6,6 +6,7 @@ use Rattle.art_nodes.specs.Leaf.{previous_key}
 use Rattle.art_arena.specs.Arena.{Nothing, held, held_leaf}
 use Rattle.art_arena.specs.Links.{leaf_at}
 use Rattle.art_tree.specs.Search.{leaf_pointer}
+use Rattle.art_map.proofs.LeafCounts.{one-leaf-fewer}
 use Rattle.art_map.proofs.ListLemmas.{slot-of}
 use Rattle.art_map.proofs.RangeLemmas.{something-held}
 use Rattle.art_map.proofs.RunLemmas.{span, init-last, back-init, back-leaf, last-out, last-out-leads, previous-is, take-back-only}
@@ -65,3 +66,24 @@ returns-in-None-clause-last g c =
     let differ : front ≢ back = λ same. c.if-key.false (c.key.ensures ∙ same ∙ sym c.key-2.ensures) in
     let (init, parted) = back-init arena front back c.requires.0 c.requires.1 in
     absurd (none-some (init-last arena front back c.requires.0 c.requires.1 init parted differ).1 (sym (ap (option_map slab_key) c.in-None.is) ∙ c.previous-previous.ensures ∙ previous-is arena front back c.requires.0 c.requires.1 init parted differ leaf at))
+
+pub returns-then-key-clause-fewer : goal.returns-then-key-clause-fewer
+returns-then-key-clause-fewer g c =
+    let arena = c.args.arena.now in
+    let leaf = c.deallocate_node_ptr-leaf.result in
+    let back = slab_key c.args.back in
+    one-leaf-fewer arena c.deallocate_node_ptr-leaf.new.self back c.deallocate_node_ptr-leaf.ensures.removed leaf (slot-of (leaf_at arena back) leaf c.deallocate_node_ptr-leaf.ensures.node)
+
+pub returns-in-Some-clause-fewer : goal.returns-in-Some-clause-fewer
+returns-in-Some-clause-fewer g c =
+    let arena = c.args.arena.now in
+    let leaf = c.deallocate_node_ptr-leaf.result in
+    let back = slab_key c.args.back in
+    one-leaf-fewer arena c.deallocate_node_ptr-leaf.new.self back c.deallocate_node_ptr-leaf.ensures.removed leaf (slot-of (leaf_at arena back) leaf c.deallocate_node_ptr-leaf.ensures.node)
+
+pub returns-in-None-clause-fewer : goal.returns-in-None-clause-fewer
+returns-in-None-clause-fewer g c =
+    let arena = c.args.arena.now in
+    let leaf = c.deallocate_node_ptr-leaf.result in
+    let back = slab_key c.args.back in
+    one-leaf-fewer arena c.deallocate_node_ptr-leaf.new.self back c.deallocate_node_ptr-leaf.ensures.removed leaf (slot-of (leaf_at arena back) leaf c.deallocate_node_ptr-leaf.ensures.node)

@@ -1,4 +1,5 @@
-use Rattle.std.proofs.Common.{◌∙◌, ap}
+use Rattle.std.proofs.Common.{rules, ◌≡◌, ◌∙◌, length, ap, sym}
+use Rattle.art_arena.specs.Arena.{leaf_count}
 use Rattle.art_tree.specs.Entries.{entries_of}
 use Rattle.art_map.specs.Runs.{run_of}
 use Rattle.art_map.proofs.TextLemmas.{all-between, filter-all}
@@ -16,3 +17,15 @@ returns g c =
           ∙ filter-all _ (λ entry. all-between (text entry.0)) (entries_of text arena)
           ∙ c.self.view_is;
     }
+
+pub run_taken-requires : goal.run_taken-requires
+run_taken-requires g c =
+    let text = g.K.AsBytes.text in
+    let arena = c.self.inside.tree.arena in
+    let ends = c.ends_between-ends.result in
+    let whole : length (run_of c.into_arena.result ends) ≡ leaf_count c.into_arena.result =
+    ap (λ taken. length (run_of taken ends)) c.into_arena.ensures
+    ∙ ap length (c.ends_between-ends.ensures.entries ∙ filter-all _ (λ entry. all-between (text entry.0)) (entries_of text arena))
+    ∙ c.entries_are_as_many_as_leaves.ensures.entries arena c.self.inside.tree.root c.root-root.ensures.one_tree
+    ∙ ap leaf_count (sym c.into_arena.ensures) in
+    search rules
