@@ -4,9 +4,11 @@ ghost use Rattle.std.specs.Iterator.{YieldsFirst, YieldsLast, item_count};
 ghost use Rattle.art_arena.specs.Arena.{leaf_count};
 ghost use Rattle.art_map.specs.Runs.{run_of, IsRun};
 
-use crate::iter::HasRuns;
-use art_arena::NodeArena;
-use art_nodes::{LeafNode, NodePtr};
+use crate::guide::Guide;
+use crate::iter::{HasRuns, with_back, with_front};
+use art_arena::{End, NodeArena};
+use art_bytes::AsBytes;
+use art_nodes::{LeafNode, NodePtr, OpaqueNodePtr};
 use std::iter::FusedIterator;
 use std::marker::{Model, PhantomData};
 
@@ -18,6 +20,8 @@ pub struct OwnedRun<A: HasRuns<L, K, V>, L, K, V> {
     arena: A,
     // The first leaf that is left and the last one, if any is.
     ends: Option<(L, L)>,
+    // A guess at the leaves that come next.
+    guide: Guide,
     entry: PhantomData<(K, V)>,
 }
 
@@ -104,7 +108,7 @@ fn take_out_last<K, V, const PREFIX_LEN: usize>(
     }
 }
 
-impl<K: Drop, V: Drop, const PREFIX_LEN: usize> Iterator for IntoIter<K, V, PREFIX_LEN> {
+impl<K: AsBytes + Drop, V: Drop, const PREFIX_LEN: usize> Iterator for IntoIter<K, V, PREFIX_LEN> {
     type Item = (K, V);
 
     ghost next_gives = { YieldsFirst (λ rest. rest) };
@@ -113,7 +117,9 @@ impl<K: Drop, V: Drop, const PREFIX_LEN: usize> Iterator for IntoIter<K, V, PREF
 
     fn next(&mut self) -> Option<(K, V)> {
         let (front, back) = self.ends?;
+        let expected = self.guide.next(&self.arena, front, End::First);
         let (entry, ends) = take_out_first(&mut self.arena, front, back);
+        let ends = with_front(&mut self.guide, ends, expected);
         self.ends = ends;
         Some(entry)
     }
@@ -124,21 +130,26 @@ impl<K: Drop, V: Drop, const PREFIX_LEN: usize> Iterator for IntoIter<K, V, PREF
     }
 }
 
-impl<K: Drop, V: Drop, const PREFIX_LEN: usize> DoubleEndedIterator for IntoIter<K, V, PREFIX_LEN> {
+impl<K: AsBytes + Drop, V: Drop, const PREFIX_LEN: usize> DoubleEndedIterator
+    for IntoIter<K, V, PREFIX_LEN> {
     ghost next_back_gives = { YieldsLast (λ rest. rest) };
 
     fn next_back(&mut self) -> Option<(K, V)> {
         let (front, back) = self.ends?;
+        let expected = self.guide.next(&self.arena, back, End::Last);
         let (entry, ends) = take_out_last(&mut self.arena, front, back);
+        let ends = with_back(&mut self.guide, ends, expected);
         self.ends = ends;
         Some(entry)
     }
 }
 
-impl<K: Drop, V: Drop, const PREFIX_LEN: usize> FusedIterator for IntoIter<K, V, PREFIX_LEN> {}
+impl<K: AsBytes + Drop, V: Drop, const PREFIX_LEN: usize> FusedIterator
+    for IntoIter<K, V, PREFIX_LEN> {}
 
 /// The leaves that are still in the arena are counted there, so no step counts.
-impl<K: Drop, V: Drop, const PREFIX_LEN: usize> ExactSizeIterator for IntoIter<K, V, PREFIX_LEN> {
+impl<K: AsBytes + Drop, V: Drop, const PREFIX_LEN: usize> ExactSizeIterator
+    for IntoIter<K, V, PREFIX_LEN> {
     fn len(&self) -> usize {
         self.arena.leaf_count()
     }
@@ -167,7 +178,7 @@ pub type IntoKeys<K, V, const PREFIX_LEN: usize> = OwnedKeys<
     V,
 >;
 
-impl<K: Drop, V: Drop, const PREFIX_LEN: usize> Iterator for IntoKeys<K, V, PREFIX_LEN> {
+impl<K: AsBytes + Drop, V: Drop, const PREFIX_LEN: usize> Iterator for IntoKeys<K, V, PREFIX_LEN> {
     type Item = K;
 
     ghost next_gives = { YieldsFirst (λ rest. rest) };
@@ -187,7 +198,8 @@ impl<K: Drop, V: Drop, const PREFIX_LEN: usize> Iterator for IntoKeys<K, V, PREF
     }
 }
 
-impl<K: Drop, V: Drop, const PREFIX_LEN: usize> DoubleEndedIterator for IntoKeys<K, V, PREFIX_LEN> {
+impl<K: AsBytes + Drop, V: Drop, const PREFIX_LEN: usize> DoubleEndedIterator
+    for IntoKeys<K, V, PREFIX_LEN> {
     ghost next_back_gives = { YieldsLast (λ rest. rest) };
 
     fn next_back(&mut self) -> Option<K> {
@@ -198,9 +210,11 @@ impl<K: Drop, V: Drop, const PREFIX_LEN: usize> DoubleEndedIterator for IntoKeys
     }
 }
 
-impl<K: Drop, V: Drop, const PREFIX_LEN: usize> FusedIterator for IntoKeys<K, V, PREFIX_LEN> {}
+impl<K: AsBytes + Drop, V: Drop, const PREFIX_LEN: usize> FusedIterator
+    for IntoKeys<K, V, PREFIX_LEN> {}
 
-impl<K: Drop, V: Drop, const PREFIX_LEN: usize> ExactSizeIterator for IntoKeys<K, V, PREFIX_LEN> {
+impl<K: AsBytes + Drop, V: Drop, const PREFIX_LEN: usize> ExactSizeIterator
+    for IntoKeys<K, V, PREFIX_LEN> {
     fn len(&self) -> usize {
         self.entries.len()
     }
@@ -218,6 +232,7 @@ pub(crate) fn keys_taken<K, V, const PREFIX_LEN: usize>(
 /// The run of this arena between these ends, with the arena.
 pub(crate) fn run_taken<K, V, const PREFIX_LEN: usize>(
     arena: NodeArena<K, V, PREFIX_LEN>,
+    root: Option<OpaqueNodePtr<K, V, PREFIX_LEN>>,
     ends: Option<
         (
             NodePtr<PREFIX_LEN, LeafNode<K, V, PREFIX_LEN>>,
@@ -229,9 +244,11 @@ pub(crate) fn run_taken<K, V, const PREFIX_LEN: usize>(
     requires whole { length (run_of arena ends) ≡ leaf_count arena }
     ensures { result ≡ run_of arena ends }
 {
+    let guide = Guide::new(root, arena.leaf_count());
     OwnedRun {
         arena,
         ends,
+        guide,
         entry: PhantomData,
     }
 }

@@ -5,6 +5,7 @@ ghost use Rattle.std.specs.Iterator.{YieldsFirst, YieldsLast, item_count};
 use crate::into_iter::{IntoIter, OwnedRun};
 use crate::iter::HasRuns;
 use art_arena::NodeArena;
+use art_bytes::AsBytes;
 use art_nodes::{LeafNode, NodePtr};
 use std::iter::FusedIterator;
 use std::marker::Model;
@@ -32,7 +33,8 @@ pub type IntoValues<K, V, const PREFIX_LEN: usize> = OwnedValues<
     V,
 >;
 
-impl<K: Drop, V: Drop, const PREFIX_LEN: usize> Iterator for IntoValues<K, V, PREFIX_LEN> {
+impl<K: AsBytes + Drop, V: Drop, const PREFIX_LEN: usize> Iterator
+    for IntoValues<K, V, PREFIX_LEN> {
     type Item = V;
 
     ghost next_gives = { YieldsFirst (λ rest. rest) };
@@ -52,7 +54,7 @@ impl<K: Drop, V: Drop, const PREFIX_LEN: usize> Iterator for IntoValues<K, V, PR
     }
 }
 
-impl<K: Drop, V: Drop, const PREFIX_LEN: usize> DoubleEndedIterator
+impl<K: AsBytes + Drop, V: Drop, const PREFIX_LEN: usize> DoubleEndedIterator
     for IntoValues<K, V, PREFIX_LEN> {
     ghost next_back_gives = { YieldsLast (λ rest. rest) };
 
@@ -64,9 +66,11 @@ impl<K: Drop, V: Drop, const PREFIX_LEN: usize> DoubleEndedIterator
     }
 }
 
-impl<K: Drop, V: Drop, const PREFIX_LEN: usize> FusedIterator for IntoValues<K, V, PREFIX_LEN> {}
+impl<K: AsBytes + Drop, V: Drop, const PREFIX_LEN: usize> FusedIterator
+    for IntoValues<K, V, PREFIX_LEN> {}
 
-impl<K: Drop, V: Drop, const PREFIX_LEN: usize> ExactSizeIterator for IntoValues<K, V, PREFIX_LEN> {
+impl<K: AsBytes + Drop, V: Drop, const PREFIX_LEN: usize> ExactSizeIterator
+    for IntoValues<K, V, PREFIX_LEN> {
     fn len(&self) -> usize {
         self.entries.len()
     }

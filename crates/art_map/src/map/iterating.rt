@@ -34,10 +34,10 @@ impl<K: AsBytes + Drop, V: Drop, const PREFIX_LEN: usize> IntoIterator
     /// ```
     fn into_iter(self) -> IntoIter<K, V, PREFIX_LEN> {
         entries_are_as_many_as_leaves::<K, V, PREFIX_LEN>();
-        let _root = self.tree.root();
+        let root = self.tree.root();
         let ends = ends_between(&self.tree, Side::Before, &[], Side::AfterBegun, &[]);
         let MapOver { tree, entry: _ } = self;
-        run_taken(tree.into_arena(), ends)
+        run_taken(tree.into_arena(), root, ends)
     }
 }
 
