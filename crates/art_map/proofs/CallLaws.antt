@@ -3,7 +3,9 @@
 use Rattle.std.proofs.Common.{◌≡◌, ◌≢◌, ◌⊎◌, ◌∙◌, inl, inr, ℕ, zero, suc, ◌+◌, ◌<◌, ◌≤◌, Bool, true, false, not, ◌&&◌, cond, List, [], ◌∷◌, ◌++◌, length, length-append, map, filter, All, AllPairs, Contains, Option, Some, None, slice_index_or, refl, sym, ap, subst, arith, nat_eq, get_or}
 use Rattle.std.specs.Borrow.{Bor as Shared}
 use Rattle.std.specs.Cmp.Lexicographic.{pointwise, bytes_decides, nat_list_cmp_total, texts_ties}
-use Rattle.std.specs.List.{starts_with}
+use Rattle.std.specs.Fn.{always_mut}
+use Rattle.std.specs.List.{FoldsTo, starts_with}
+use Rattle.std.specs.Map.Calls.{SomeCallAtPair}
 use Rattle.std.specs.Ordering.{match_ordering, is_eq, is_ge, is_gt, ordering_reverse}
 use Rattle.std.specs.declared.cmp.Ordering.{Ordering}
 use Rattle.std.specs.declared.cmp.Ordering.TheVariants.{Less, Equal, Greater}
@@ -14,11 +16,12 @@ use Rattle.art_bytes.specs.Text.{text_order}
 use Rattle.art_arena.specs.Trees.{Tree, Leaf, Inner, Branches, NoBranch, Branch, branch_roots, leaves, branch_leaves, IsSound, AreSound}
 use Rattle.art_tree.specs.Entries.{put_entry, without_text}
 use Rattle.art_tree.specs.Refusals.{texts_of}
-use Rattle.art_map.specs.Calls.{ChangesValue, ChangesInTurn}
+use Rattle.art_map.specs.Calls.{CallableInTurn, ChangesValue, ChangesInTurn}
 use Rattle.art_map.specs.Entries.{entry_with}
 use Rattle.art_map.specs.Ranges.{entries_above, entries_from, entries_with_prefix, entries_within, is_from, is_up_to}
 use Rattle.art_map.specs.Sets.{HasKey, put_key, without_key}
 use Rattle.art_map.specs.Shrinking.{IsFewest, NeedsNode, ShrinksWithout, SomeShrinksWithout}
+use denote.Param.Always.{mut_next}
 use denote.Param.Members.{Mut}
 use denote.Ref.{Bor, MutBor}
 
@@ -515,6 +518,15 @@ module _ {H : Type 0} where
       omega (arith, leaves_there, long, same)
 
 -- closures
+module _ {F K V : Type 0} (g : Mut F (Bor K × (MutBor V × Unit {0})) (Unit {0} × (MutBor V × Unit {0}))) where
+  still_callable : (entries : List (K × V)) (f f' : F) → FoldsTo (SomeCallAtPair (λ state key value told now left. ChangesValue g state key value now left)) f entries f' → always_mut g f → always_mut g f'
+  still_callable [] f f' same callable = subst (always_mut g) same callable
+  still_callable (entry ∷ entries) f f' (state, (told, now, changes), folds) callable = still_callable entries state f' folds (mut_next g _ _ _ _ _ changes.called refl callable)
+
+  -- one that may always be called may be called at each entry
+  pub callable_in_turn : (f : F) (entries : List (K × V)) → always_mut g f → CallableInTurn g f entries
+  callable_in_turn f entries callable = record { at = λ before after f' key value is folds shown lent shows lends. ((still_callable before f f' folds callable).at ((shown, (lent, tt)) ∷ [])).0 }
+
 module _ {F K V : Type 0} (g : Mut F (Bor K × (MutBor V × Unit {0})) (Unit {0} × (MutBor V × Unit {0}))) (change : K → V → V) (f : F)
     (same : (key : K) (value now : V) (f' : F) → ChangesValue g f key value now f' → (now ≡ change key value) × (f' ≡ f)) where
   -- where each call leaves what a function makes of key and value, it is as if that function had been applied to

@@ -1,5 +1,5 @@
 -- What a test that keeps no entry leaves.
-use Rattle.std.proofs.Common.{◌≡◌, ◌≢◌, ◌∙◌, ◌⊎◌, ℕ, ◌+◌, ◌-◌, ◌≤◌, Bool, true, false, cond, not, List, [], ◌∷◌, ◌++◌, length, filter, refl, sym, ap, subst, inl, inr, arith}
+use Rattle.std.proofs.Common.{◌≡◌, ◌∙◌, ◌-◌, ◌≤◌, Bool, true, false, cond, not, List, [], ◌∷◌, ◌++◌, length, filter, refl, ap, inl, inr, arith}
 use Rattle.std.specs.Map.Calls.{CallableOnEachPair, RetainsPairs}
 use Rattle.std.proofs.lemmas.List.Filters.{length-filter_both}
 use Rattle.art_map.specs.Retaining.{StopsRetaining}
@@ -17,14 +17,14 @@ module _ {F K V : Type 0} where
   retains-none test (entry ∷ entries) new (keeps, now, test', rest, (lost, same), later, is) =
       is ∙ ap (λ b. cond b ((entry.0, now) ∷ rest) rest) lost ∙ retains-none test' entries rest later
 
-  pub stops-none : (test : F) (old new : List (K × V)) → StopsRetaining step-none test old new → (gone : List (K × V)) × (old ≡ gone ++ new) × (new ≢ [])
-  stops-none test [] new stops = absurd stops
-  stops-none test (entry ∷ entries) new (keeps, now, test', (lost, same), inl (refused, is)) =
-      ([], sym (is ∙ ap (λ value. (entry.0, value) ∷ entries) same), λ none. let wrong : (entry.0, now) ∷ entries ≡ [] = sym is ∙ none in absurd (cc))
-  stops-none test (entry ∷ entries) new (keeps, now, test', (lost, same), inr (rest, later, is)) =
-      let (gone, parts, some) = stops-none test' entries rest later in
-      let left : new ≡ rest = is ∙ ap (λ b. cond b ((entry.0, now) ∷ rest) rest) lost in
-      (entry ∷ gone, ap (λ es. entry ∷ es) (parts ∙ ap (λ es. gone ++ es) (sym left)), λ none. some (sym left ∙ none))
+  -- the entries before the one whose removal was refused are gone
+  pub stops-none : (needs : K → Type 0) (test : F) (old new : List (K × V)) → StopsRetaining step-none needs test old new → (gone : List (K × V)) × (entry : K × V) × (rest : List (K × V)) × (old ≡ gone ++ entry ∷ rest) × (new ≡ entry ∷ rest) × needs entry.0
+  stops-none needs test [] new stops = absurd stops
+  stops-none needs test (entry ∷ entries) new (keeps, now, test', (lost, same), inl (refused, needed, is)) =
+      ([], entry, entries, refl, is ∙ ap (λ value. (entry.0, value) ∷ entries) same, needed)
+  stops-none needs test (entry ∷ entries) new (keeps, now, test', (lost, same), inr (others, later, is)) =
+      let (gone, stays, rest, parts, left, needed) = stops-none needs test' entries others later in
+      (entry ∷ gone, stays, rest, ap (λ es. entry ∷ es) parts, is ∙ ap (λ b. cond b ((entry.0, now) ∷ others) others) lost ∙ left, needed)
 
 module _ {X : Type 0} (p : X → Bool) where
   -- where none passes a test, all fail it

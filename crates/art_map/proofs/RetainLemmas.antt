@@ -1,30 +1,32 @@
 -- A test of the entries between two sides of keys, in turn: what was kept, and what is left to test.
-use Rattle.std.proofs.Common.{◌≡◌, ◌≢◌, ◌∙◌, ◌⊎◌, ℕ, ◌<◌, ◌≤◌, Bool, true, false, not, cond, ◌&&◌, ◌||◌, List, [], ◌∷◌, ◌++◌, length, filter, drop, All, Contains, Option, Some, None, Result, Ok, Err, OnErr, append_assoc, append-nil, get_or, refl, sym, ap, subst, inl, inr, arith, nat_eq}
+use Rattle.std.proofs.Common.{◌≡◌, ◌≢◌, ◌∙◌, ℕ, ◌<◌, Bool, true, false, not, cond, ◌||◌, List, [], ◌∷◌, ◌++◌, length, filter, All, Option, Some, None, Result, Ok, Err, OnErr, append_assoc, append-nil, refl, sym, ap, subst, inl, inr, arith, nat_eq}
 use Rattle.std.specs.Cmp.Lexicographic.{nat_list_cmp_total}
-use Rattle.std.specs.List.{FoldsTo, starts_with}
-use Rattle.std.specs.Map.Calls.{CallableOnEachPair, RetainsPairs, SomeCallAtPair}
+use Rattle.std.specs.List.{starts_with}
+use Rattle.std.specs.Map.Calls.{CallableOnEachPair, RetainsPairs}
 use Rattle.std.specs.Option.{option_map_or}
 use Rattle.std.specs.Ordering.{is_ge, is_lt, is_le, ordering_reverse}
 use Rattle.std.specs.declared.cmp.Ordering.{Ordering}
 use Rattle.std.specs.declared.cmp.Ordering.TheVariants.{Less, Equal, Greater}
 use Rattle.std.proofs.lemmas.Bool.Decides.{Decides-eqb}
-use Rattle.std.proofs.lemmas.List.Elements.{All-nil, All-cons, All-head, All-tail, All-append, All-weaker, Contains-append_right, Contains-get_or, filter-append}
+use Rattle.std.proofs.lemmas.List.Elements.{All-nil, All-cons, All-head, All-tail, All-append, All-weaker, Contains-append_right, filter-append}
 use Rattle.std.proofs.lemmas.Slice.Eq.{starts_is}
 use Rattle.art_bytes.specs.Text.{IsPrefixOf, text_order}
 use Rattle.art_nodes.specs.Leaf.{leaf_key}
 use Rattle.art_nodes.specs.declared.leaf_node.LeafNode.{LeafNode}
+use Rattle.art_nodes.specs.declared.pointers.OpaqueNodePtr.{OpaqueNodePtr}
 use Rattle.art_arena.specs.Arena.{NodeArena}
 use Rattle.art_arena.specs.Links.{leaf_at}
 use Rattle.art_tree.specs.Entries.{entries_of}
 use Rattle.art_tree.specs.Refusals.{texts_of}
-use Rattle.art_tree.specs.Sides.{comes_before, is_before}
+use Rattle.art_tree.specs.Sides.{is_before}
 use Rattle.art_tree.specs.declared.place.Side.{Side}
 use Rattle.art_tree.specs.declared.place.Side.TheVariants.{Before, After, AfterBegun}
-use Rattle.art_map.specs.Cursors.{HoldsFirst, IsCut}
+use Rattle.art_map.specs.Cursors.{IsCut}
 use Rattle.art_map.specs.Nearest.{is_between}
 use Rattle.art_map.specs.Ranges.{entries_from}
 use Rattle.art_map.specs.Retaining.{StopsRetaining}
 use Rattle.art_map.specs.Runs.{leaf_entry}
+use Rattle.art_map.specs.Shrinking.{NeedsNode}
 use Rattle.art_map.proofs.CallLaws.{Ascend, ascend_rest, image_inside, none_below, order_itself, same_order}
 use Rattle.art_map.proofs.CursorLemmas.{all-above, behind-ascend}
 use Rattle.art_map.proofs.FrontLemmas.{above-longer, begun, none-kept}
@@ -156,6 +158,10 @@ module _ {K V : Type 0} (text : K → List ℕ) (start_side : Side) (start : Lis
   none-out : (entries : List (K × V)) → All (λ entry. passes entry ≡ true) entries → outside entries ≡ []
   none-out entries in_it = none-kept (λ entry. not (passes entry)) entries (All-weaker (λ entry. passes entry ≡ true) (λ entry. not (passes entry) ≡ false) (λ entry is. ap not is) entries in_it)
 
+-- the removal of this key needs a node
+abbrev pub key-needs : {K V : Type 0} {P : ℕ} → (K → List ℕ) → NodeArena K V P → K → Type 0
+key-needs {K} {V} {P} text arena key = NeedsNode (OpaqueNodePtr K V P) (texts_of text (entries_of text arena)) (text key)
+
 module _ {F K V : Type 0} {P : ℕ} (text : K → List ℕ) (T : F → K → V → Bool → V → F → Type 0) (Q : F → K → V → Type 0) (start_side : Side) (start : List ℕ) (end_side : Side) (end : List ℕ) (origin : F) (old : List (K × V)) where
   -- the entries up to this leaf were tested, those between the sides; once the test is made of the others, in turn, it was
   -- made of all
@@ -170,7 +176,7 @@ module _ {F K V : Type 0} {P : ℕ} (text : K → List ℕ) (T : F → K → V �
     pub callable : CallableOnEachPair T Q f ((within text start_side start end_side end) todo)
     pub others : (outside text start_side start end_side end) old ≡ before ++ (outside text start_side start end_side end) todo
     pub whole : (rest : List (K × V)) → RetainsPairs T f ((within text start_side start end_side end) todo) rest → RetainsPairs T origin ((within text start_side start end_side end) old) (kept ++ rest)
-    pub stopped : (rest : List (K × V)) → StopsRetaining T f ((within text start_side start end_side end) todo) rest → StopsRetaining T origin ((within text start_side start end_side end) old) (kept ++ rest)
+    pub stopped : (last : NodeArena K V P) (rest : List (K × V)) → StopsRetaining T (key-needs text last) f ((within text start_side start end_side end) todo) rest → StopsRetaining T (key-needs text last) origin ((within text start_side start end_side end) old) (kept ++ rest)
 
   -- before the first test
   pub retaining-start : (now : NodeArena K V P) (at : Option ℕ) (before after : List (K × V)) → IsCut text now before at after → All (λ entry. is_before start_side start (text entry.0) ≡ true) before → All (λ entry. is_before start_side start (text entry.0) ≡ false) after
@@ -190,7 +196,7 @@ module _ {F K V : Type 0} {P : ℕ} (text : K → List ℕ) (T : F → K → V �
         callable = subst (CallableOnEachPair T Q origin) tested callable;
         others = ap (outside text start_side start end_side end) whole ∙ filter-append (λ entry. not ((passes text start_side start end_side end) entry)) before after ∙ ap (λ es. es ++ (outside text start_side start end_side end) after) (all-out text start_side start end_side end before out);
         whole = λ rest turn. subst (λ es. RetainsPairs T origin es rest) (sym tested) turn;
-        stopped = λ rest turn. subst (λ es. StopsRetaining T origin es rest) (sym tested) turn;
+        stopped = λ last rest turn. subst (λ es. StopsRetaining T (key-needs text last) origin es rest) (sym tested) turn;
       }
 
   module _ (now : NodeArena K V P) (at : Option ℕ) (f : F) (is : IsRetaining now at f) where
@@ -284,9 +290,9 @@ module _ {F K V : Type 0} {P : ℕ} (text : K → List ℕ) (T : F → K → V �
           whole = λ rest turn.
               subst (RetainsPairs T origin ((within text start_side start end_side end) old)) (pushed keeps rest) (is.whole (cond keeps (tested ∷ rest) rest)
               (subst (λ es. RetainsPairs T f es (cond keeps (tested ∷ rest) rest)) (sym within-now) (keeps, value, f', rest, step, turn, refl)));
-          stopped = λ rest turn.
-              subst (StopsRetaining T origin ((within text start_side start end_side end) old)) (pushed keeps rest) (is.stopped (cond keeps (tested ∷ rest) rest)
-              (subst (λ es. StopsRetaining T f es (cond keeps (tested ∷ rest) rest)) (sym within-now) (keeps, value, f', step, inr (rest, turn, refl))));
+          stopped = λ last rest turn.
+              subst (StopsRetaining T (key-needs text last) origin ((within text start_side start end_side end) old)) (pushed keeps rest) (is.stopped last (cond keeps (tested ∷ rest) rest)
+              (subst (λ es. StopsRetaining T (key-needs text last) f es (cond keeps (tested ∷ rest) rest)) (sym within-now) (keeps, value, f', step, inr (rest, turn, refl))));
         }
           where
             assoc : (b : Bool) → cond b ((is.before ++ is.kept) ++ tested ∷ []) (is.before ++ is.kept) ≡ is.before ++ cond b (is.kept ++ tested ∷ []) is.kept
@@ -302,15 +308,15 @@ module _ {F K V : Type 0} {P : ℕ} (text : K → List ℕ) (T : F → K → V �
             pushed false rest = refl
 
         -- the removal was refused
-        module _ (refused : keeps ≡ false) (left : entries_of text new ≡ (is.before ++ is.kept) ++ tested ∷ rest-now) where
+        module _ (refused : keeps ≡ false) (needs : key-needs text new entry-now.0) (left : entries_of text new ≡ (is.before ++ is.kept) ++ tested ∷ rest-now) where
           within-left : (within text start_side start end_side end) (tested ∷ rest-now) ≡ tested ∷ (within text start_side start end_side end) rest-now
           within-left = one-kept (passes text start_side start end_side end) tested rest-now true passes-now
 
-          pub retaining-stopped : StopsRetaining T origin ((within text start_side start end_side end) old) ((within text start_side start end_side end) (entries_of text new))
+          pub retaining-stopped : StopsRetaining T (key-needs text new) origin ((within text start_side start end_side end) old) ((within text start_side start end_side end) (entries_of text new))
           retaining-stopped =
-              let turn : StopsRetaining T f (entry-now ∷ (within text start_side start end_side end) rest-now) (tested ∷ (within text start_side start end_side end) rest-now) = (keeps, value, f', step, inl (refused, refl)) in
-              subst (StopsRetaining T origin ((within text start_side start end_side end) old)) (ap (λ es. is.kept ++ es) (sym within-left) ∙ sym (within-seen now (Some key) f is (tested ∷ rest-now) (entries_of text new) left))
-              (is.stopped (tested ∷ (within text start_side start end_side end) rest-now) (subst (λ es. StopsRetaining T f es (tested ∷ (within text start_side start end_side end) rest-now)) (sym within-now) turn))
+              let turn : StopsRetaining T (key-needs text new) f (entry-now ∷ (within text start_side start end_side end) rest-now) (tested ∷ (within text start_side start end_side end) rest-now) = (keeps, value, f', step, inl (refused, needs, refl)) in
+              subst (StopsRetaining T (key-needs text new) origin ((within text start_side start end_side end) old)) (ap (λ es. is.kept ++ es) (sym within-left) ∙ sym (within-seen now (Some key) f is (tested ∷ rest-now) (entries_of text new) left))
+              (is.stopped new (tested ∷ (within text start_side start end_side end) rest-now) (subst (λ es. StopsRetaining T (key-needs text new) f es (tested ∷ (within text start_side start end_side end) rest-now)) (sym within-now) turn))
 
           pub outside-stopped : (outside text start_side start end_side end) (entries_of text new) ≡ (outside text start_side start end_side end) old
           outside-stopped =

@@ -1,10 +1,14 @@
--- What a test of entries by their keys alone is to the keys.
-use Rattle.std.proofs.Common.{◌≡◌, ◌∙◌, ◌⊎◌, suc, Bool, true, false, cond, List, [], ◌∷◌, ◌++◌, map, refl, sym, ap, subst, inl, inr}
+-- What a test of entries by their keys alone, or by a prefix, is to the keys.
+use Rattle.std.proofs.Common.{◌≡◌, ◌∙◌, suc, Bool, true, false, cond, not, nat_eq, ℕ, List, [], ◌∷◌, length, map, refl, sym, ap, subst, inl, inr}
 use Rattle.std.specs.Fn.{CalledAt, always_mut}
-use Rattle.std.specs.List.{FoldsTo, items_where_true}
+use Rattle.std.specs.List.{FoldsTo, items_where_true, starts_with}
 use Rattle.std.specs.List.Retain.{IsFiltered}
 use Rattle.std.specs.Map.Calls.{CallableOnEachPair, RetainsPairs, SomeCallAtPair}
-use Rattle.art_map.specs.Retaining.{StopsFiltering, StopsRetaining}
+use Rattle.std.proofs.lemmas.List.{length-map, map-append}
+use Rattle.art_map.specs.Ranges.{entries_with_prefix, entries_without_prefix}
+use Rattle.art_map.specs.Retaining.{LosesFirst, StopsFiltering, StopsRetaining}
+use Rattle.art_map.specs.Sets.{keys_with_prefix, keys_without_prefix}
+use Rattle.art_map.proofs.SetLemmas.{keys_in, map-of-filter}
 use denote.Param.Always.{mut_next}
 use denote.Param.Members.{Mut}
 use denote.Ref.{Bor}
@@ -39,7 +43,28 @@ module _ {F K V : Type 0} (g : Mut F (Bor K × Unit {0}) Bool) where
       let (told, last, long, turn, left) = retains-keys f' entries rest later in
       (keeps ∷ told, last, ap suc long, (f', called, turn), ap keys is ∙ chosen keeps (entry.0, now) rest ∙ picked keeps entry.0 (keys rest) told (keys entries) left)
 
-  pub stops-keys : (f : F) (old new : List (K × V)) → StopsRetaining step f old new → StopsFiltering g f (keys old) (keys new)
-  stops-keys f [] new stops = stops
-  stops-keys f (entry ∷ entries) new (keeps, now, f', called, inl (refused, is)) = (keeps, f', called, inl (refused, ap keys is))
-  stops-keys f (entry ∷ entries) new (keeps, now, f', called, inr (rest, later, is)) = (keeps, f', called, inr (keys rest, stops-keys f' entries rest later, ap keys is ∙ chosen keeps (entry.0, now) rest))
+  pub stops-keys : (needs : K → Type 0) (f : F) (old new : List (K × V)) → StopsRetaining step needs f old new → StopsFiltering g needs f (keys old) (keys new)
+  stops-keys needs f [] new stops = stops
+  stops-keys needs f (entry ∷ entries) new (keeps, now, f', called, inl (refused, needed, is)) = (keeps, f', called, inl (refused, needed, ap keys is))
+  stops-keys needs f (entry ∷ entries) new (keeps, now, f', called, inr (rest, later, is)) = (keeps, f', called, inr (keys rest, stops-keys needs f' entries rest later, ap keys is ∙ chosen keeps (entry.0, now) rest))
+
+module _ {K V : Type 0} (text : K → List ℕ) (x : List ℕ) where
+  pub keys-with : (entries : List (K × V)) → keys_in text (entries_with_prefix text x entries) ≡ keys_with_prefix text x (keys_in text entries)
+  keys-with entries = map-of-filter (λ entry. entry.0) (λ key. starts_with nat_eq (text key) x) entries
+
+  pub keys-without : (entries : List (K × V)) → keys_in text (entries_without_prefix text x entries) ≡ keys_without_prefix text x (keys_in text entries)
+  keys-without entries = map-of-filter (λ entry. entry.0) (λ key. not (starts_with nat_eq (text key) x)) entries
+
+  pub as-many-with : (entries : List (K × V)) → length (entries_with_prefix text x entries) ≡ length (keys_with_prefix text x (keys_in text entries))
+  as-many-with entries = sym (length-map (entries_with_prefix text x entries) (λ entry. entry.0)) ∙ ap length (keys-with entries)
+
+  pub loses-keys : (needs : List ℕ → Type 0) (old new : List (K × V)) → LosesFirst (λ entry. text entry.0) x needs old new → LosesFirst text x needs (keys_in text old) (keys_in text new)
+  loses-keys needs old new loses = record {
+    gone = keys_in text loses.gone;
+    refused = loses.refused.0;
+    rest = keys_in text loses.rest;
+    first = sym (keys-with old) ∙ ap (keys_in text) loses.first ∙ map-append (λ entry. entry.0) loses.gone (loses.refused ∷ loses.rest);
+    left = sym (keys-with new) ∙ ap (keys_in text) loses.left;
+    needs = loses.needs;
+    others = sym (keys-without new) ∙ ap (keys_in text) loses.others ∙ keys-without old;
+  }

@@ -1,5 +1,5 @@
 -- Which keys are within two bounds, and which begin with a prefix.
-use Rattle.std.specs.Prelude.{ℕ, Bool, true, ◌&&◌, List, Some, filter, nat_eq}
+use Rattle.std.specs.Prelude.{ℕ, Bool, true, ◌&&◌, not, List, Some, filter, nat_eq}
 use Rattle.std.specs.Borrow.{Bor}
 use Rattle.std.specs.List.{starts_with}
 use Rattle.std.specs.Ordering.{is_lt, is_le, is_gt, is_ge}
@@ -26,6 +26,10 @@ module _ {K V : Type 0} (text : K → List ℕ) where
   abbrev pub entries_within : {Q : Type 0} → (Q → List ℕ) → Bound (Bor Q) → Bound (Bor Q) → List (K × V) → List (K × V)
   entries_within bound_text start end entries = filter (λ entry. is_up_to bound_text end (text entry.0) && is_from bound_text start (text entry.0)) entries
 
+  -- the entries whose keys are not within two bounds
+  abbrev pub entries_outside : {Q : Type 0} → (Q → List ℕ) → Bound (Bor Q) → Bound (Bor Q) → List (K × V) → List (K × V)
+  entries_outside bound_text start end entries = filter (λ entry. not (is_up_to bound_text end (text entry.0) && is_from bound_text start (text entry.0))) entries
+
   -- the entries whose keys have bytes in a range from one of these bounds to the other, as std's ranges have
   abbrev pub entries_in : Bound (List ℕ) → Bound (List ℕ) → List (K × V) → List (K × V)
   entries_in start end entries = filter (λ entry. bounds_contain (λ x y. Some (text_order x y)) start end (text entry.0)) entries
@@ -49,3 +53,7 @@ module _ {K V : Type 0} (text : K → List ℕ) where
   -- the entries whose keys begin with these bytes
   abbrev pub entries_with_prefix : List ℕ → List (K × V) → List (K × V)
   entries_with_prefix x entries = filter (λ entry. starts_with nat_eq (text entry.0) x) entries
+
+  -- the entries whose keys do not
+  abbrev pub entries_without_prefix : List ℕ → List (K × V) → List (K × V)
+  entries_without_prefix x entries = filter (λ entry. not (starts_with nat_eq (text entry.0) x)) entries

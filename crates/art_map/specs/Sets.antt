@@ -69,6 +69,10 @@ module _ {K : Type 0} (text : K → List ℕ) where
   abbrev pub keys_with_prefix : List ℕ → List K → List K
   keys_with_prefix x keys = filter (λ key. starts_with nat_eq (text key) x) keys
 
+  -- the keys that do not
+  abbrev pub keys_without_prefix : List ℕ → List K → List K
+  keys_without_prefix x keys = filter (λ key. not (starts_with nat_eq (text key) x)) keys
+
   -- nothing but an allocation failure refuses a key with this text
   abbrev pub KeyMayEnter : List K → List ℕ → Type 0
   KeyMayEnter keys x = (length x < 2 ^ 32) × (¬ Clashes (map text keys) x)

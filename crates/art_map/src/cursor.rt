@@ -4,13 +4,17 @@ ghost use Rattle.std.specs.Prelude.{◌≡◌, ◌∷◌, ◌++◌, [], Bool, Li
 ghost use Rattle.std.specs.Option.{option_map};
 ghost use Rattle.art_nodes.specs.Leaf.{leaf_key, leaf_value};
 ghost use Rattle.art_nodes.specs.Pointers.{slab_key};
+ghost use Rattle.art_nodes.specs.declared.pointers.OpaqueNodePtr.{OpaqueNodePtr as Pointer};
 ghost use Rattle.art_arena.specs.Links.{HoldsLeaf, leaf_at};
 ghost use Rattle.art_tree.specs.Entries.{entries_of};
+ghost use Rattle.art_tree.specs.Refusals.{texts_of};
 ghost use Rattle.art_tree.specs.Sides.{is_before};
 ghost use Rattle.art_map.specs.Cursors.{HoldsFirst, IsCut};
+ghost use Rattle.art_map.specs.Shrinking.{NeedsNode};
 
 use crate::keeps::Keeps;
 use crate::leaf_entries::leaves_hold_the_entries;
+use crate::map::laws::removals_need_nodes;
 use crate::nearest::nearest_leaf;
 use crate::range::is_before;
 use art_arena::End;
@@ -93,7 +97,26 @@ fn test_at<K: AsBytes, V, const PREFIX_LEN: usize, F: Keeps<K, V>>(
     test.keeps(key, value)
 }
 
-/// Removes the entry of a leaf. After a failure the entries are unchanged.
+/// Tests the entry of a leaf, which stays whatever the test returns, and returns the leaf behind it.
+pub(crate) fn pass_at<K: AsBytes, V, const PREFIX_LEN: usize, F: Keeps<K, V>>(
+    tree: &mut ArtTree<K, V, PREFIX_LEN>,
+    leaf: NodePtr<PREFIX_LEN, LeafNode<K, V, PREFIX_LEN>>,
+    test: &mut F,
+) -> Option<NodePtr<PREFIX_LEN, LeafNode<K, V, PREFIX_LEN>>>
+    requires held { (before : List (K × V)) × (entry : K × V) × (after : List (K × V)) ×
+        IsCut K.text tree.old.arena before (Some (slab_key leaf)) (entry ∷ after) ×
+        F.accepts test.old entry.0 entry.1 }
+    ensures { (before : List (K × V)) (entry : K × V) (after : List (K × V)) →
+        IsCut K.text tree.old.arena before (Some (slab_key leaf)) (entry ∷ after) →
+        (keeps : Bool) × (value : V) × F.step test.old entry.0 entry.1 keeps value test.new ×
+        IsCut K.text tree.new.arena (before ++ (entry.0, value) ∷ []) (option_map slab_key result)
+        after }
+{
+    let _keeps = test_at(tree, leaf, test);
+    leaf_behind(tree, leaf)
+}
+
+/// Removes the entry of a leaf. Fails only where that needs a node, and then the entries are unchanged.
 pub(crate) fn remove_at<K: AsBytes + Drop, V: Drop, const PREFIX_LEN: usize>(
     tree: &mut ArtTree<K, V, PREFIX_LEN>,
     leaf: NodePtr<PREFIX_LEN, LeafNode<K, V, PREFIX_LEN>>,
@@ -104,17 +127,22 @@ pub(crate) fn remove_at<K: AsBytes + Drop, V: Drop, const PREFIX_LEN: usize>(
         IsCut K.text tree.old.arena before (Some (slab_key leaf)) (entry ∷ after) →
         HoldsFirst tree.old.arena next after →
         OnOk result (IsCut K.text tree.new.arena before next after) }
+    ensures needs_node { (before : List (K × V)) (entry : K × V) (after : List (K × V)) →
+        IsCut K.text tree.old.arena before (Some (slab_key leaf)) (entry ∷ after) →
+        OnErr result (NeedsNode (Pointer K V PREFIX_LEN)
+        (texts_of K.text (entries_of K.text tree.new.arena)) (K.text entry.0)) }
     ensures same_entries { OnErr result
         (entries_of K.text tree.new.arena ≡ entries_of K.text tree.old.arena) }
 {
     entries_are_one_list::<K, V, PREFIX_LEN>();
     the_list_of_entries_changes_with_them::<K, V, PREFIX_LEN>();
+    removals_need_nodes(tree);
     tree.remove_leaf(leaf)?;
     Ok(())
 }
 
-/// Tests the entry of a leaf, removes it where the test says so, and returns the leaf behind it. Where
-/// the removal fails, the entry stays, with the value that the test left.
+/// Tests the entry of a leaf, removes it where the test says so, and returns the leaf behind it. The
+/// removal fails only where it needs a node: the entry stays, with the value that the test left.
 pub(crate) fn retain_at<K: AsBytes + Drop, V: Drop, const PREFIX_LEN: usize, F: Keeps<K, V>>(
     tree: &mut ArtTree<K, V, PREFIX_LEN>,
     leaf: NodePtr<PREFIX_LEN, LeafNode<K, V, PREFIX_LEN>>,
@@ -130,6 +158,8 @@ pub(crate) fn retain_at<K: AsBytes + Drop, V: Drop, const PREFIX_LEN: usize, F: 
         (if keeps then before ++ (entry.0, value) ∷ [] else before)
         (option_map slab_key next) after) ×
         OnErr result ((keeps ≡ false) ×
+        NeedsNode (Pointer K V PREFIX_LEN) (texts_of K.text (entries_of K.text tree.new.arena))
+        (K.text entry.0) ×
         (entries_of K.text tree.new.arena ≡ before ++ (entry.0, value) ∷ after)) }
 {
     let keeps = test_at(tree, leaf, test);

@@ -1,55 +1,48 @@
-//! A closure that is called at each entry of a tree, and may change the value.
-ghost use Rattle.std.specs.Prelude.{◌≡◌};
-ghost use Rattle.art_arena.specs.Links.{HoldsLeaf};
-ghost use Rattle.art_nodes.specs.Pointers.{slab_key};
-ghost use Rattle.art_tree.specs.Art.{IsAlone};
+//! A closure that is called at each entry between two sides of keys, and may change the value.
+ghost use Rattle.std.specs.Prelude.{◌≡◌, filter, map, not};
 ghost use Rattle.art_tree.specs.Entries.{entries_of};
-ghost use Rattle.art_map.specs.Calls.{ChangesInTurn};
-ghost use Rattle.art_map.specs.LeafEntries.{ChangesLeaf};
+ghost use Rattle.art_map.specs.Calls.{CallableInTurn, ChangesInTurn};
+ghost use Rattle.art_map.specs.Nearest.{is_between};
 
-use crate::leaf_entries::leaves_hold_the_entries;
-use art_arena::{End, end_leaf};
+use crate::cursor::{cut_at, leaf_is_before, pass_at};
+use crate::keeps::OnValue;
 use art_bytes::AsBytes;
-use art_nodes::{LeafNode, NodePtr};
-use art_tree::ArtTree;
-use art_tree::laws::{lists_are_spelled_where_links_are_kept, trees_stand_where_texts_are_kept};
+use art_tree::laws::entries_are_one_list;
+use art_tree::{ArtTree, Side};
 
-// Calls the closure at the entry of a leaf. The loop below does not do it itself: the check of a loop
-// that lends a value and calls a closure stops with an error of its own.
-fn call_at<K: AsBytes, V, const PREFIX_LEN: usize, F: FnMut(&K, &mut V)>(
+/// Calls the closure at each entry after the one side and before the other, in ascending order. Takes
+/// no memory.
+pub(crate) fn for_each_between<K: AsBytes, V, const PREFIX_LEN: usize, F: FnMut(&K, &mut V)>(
     tree: &mut ArtTree<K, V, PREFIX_LEN>,
-    leaf: NodePtr<PREFIX_LEN, LeafNode<K, V, PREFIX_LEN>>,
-    f: &mut F,
+    start_side: Side,
+    start: &[u8],
+    end_side: Side,
+    end: &[u8],
+    f: F,
 )
-    requires held { HoldsLeaf tree.old.arena (slab_key leaf) }
-    requires callable { F.IsAlwaysCallable f.old }
-    ensures callable { F.IsAlwaysCallable f.new }
-    ensures called { ChangesLeaf F.FnMut tree.old.arena tree.new.arena (slab_key leaf) f.old f.new }
-    ensures alone { (root : _) (whole : _) → IsAlone K.text tree.old.arena root whole →
-        IsAlone K.text tree.new.arena root whole }
+    requires { CallableInTurn F.FnMut f (filter
+        (λ entry. is_between start_side start.now end_side end.now (K.text entry.0))
+        (entries_of K.text tree.old.arena)) }
+    ensures in_turn { ChangesInTurn F.FnMut f (filter
+        (λ entry. is_between start_side start.now end_side end.now (K.text entry.0))
+        (entries_of K.text tree.old.arena)) (filter
+        (λ entry. is_between start_side start.now end_side end.now (K.text entry.0))
+        (entries_of K.text tree.new.arena)) }
+    ensures others { filter
+        (λ entry. not (is_between start_side start.now end_side end.now (K.text entry.0)))
+        (entries_of K.text tree.new.arena) ≡ filter
+        (λ entry. not (is_between start_side start.now end_side end.now (K.text entry.0)))
+        (entries_of K.text tree.old.arena) }
+    ensures same_keys { map (λ entry. entry.0) (entries_of K.text tree.new.arena)
+        ≡ map (λ entry. entry.0) (entries_of K.text tree.old.arena) }
 {
-    trees_stand_where_texts_are_kept::<K, V, PREFIX_LEN>();
-    lists_are_spelled_where_links_are_kept::<K, V, PREFIX_LEN>();
-    let (key, value) = tree.as_key_ref_value_mut(leaf);
-    f(key, value);
-}
-
-/// Calls the closure at each entry, in the order of the leaves. Takes no memory.
-pub(crate) fn for_each_entry<K: AsBytes, V, const PREFIX_LEN: usize, F: FnMut(&K, &mut V)>(
-    tree: &mut ArtTree<K, V, PREFIX_LEN>,
-    mut f: F,
-)
-    requires { F.IsAlwaysCallable f }
-    ensures { ChangesInTurn F.FnMut f (entries_of K.text tree.old.arena)
-        (entries_of K.text tree.new.arena) }
-{
-    leaves_hold_the_entries::<K, V, PREFIX_LEN>();
-    let Some(root) = tree.root() else {
-        return;
-    };
-    let mut at = Some(end_leaf(tree.arena(), root, End::First));
+    entries_are_one_list::<K, V, PREFIX_LEN>();
+    let mut test = OnValue { change: f };
+    let mut at = cut_at(tree, start_side, start);
     'along: while let Some(leaf) = at {
-        call_at(tree, leaf, &mut f);
-        at = tree.arena().as_ref(leaf).next();
+        if !leaf_is_before(tree, leaf, end_side, end) {
+            return;
+        }
+        at = pass_at(tree, leaf, &mut test);
     }
 }

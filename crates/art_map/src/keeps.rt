@@ -1,7 +1,8 @@
-//! The test that `retain` makes at each entry, from a closure of a map or of a set.
-ghost use Rattle.std.specs.Prelude.{◌≡◌, Bool, false};
+//! The test that is made at each entry, from a closure of a map or of a set.
+ghost use Rattle.std.specs.Prelude.{◌≡◌, Bool, false, true};
 ghost use Rattle.std.specs.Fn.{CalledAt};
 ghost use Rattle.std.specs.Map.Calls.{CalledAtPair, TakesPair};
+ghost use Rattle.art_map.specs.Calls.{ChangesValue, TakesValue};
 
 use std::marker::Model;
 
@@ -72,5 +73,29 @@ impl<K, V> Keeps<K, V> for KeepsNone {
 
     fn keeps(&mut self, _key: &K, _value: &mut V) -> bool {
         false
+    }
+}
+
+// A closure over a key and its value. Each entry is kept.
+#[derive(Drop)]
+pub(crate) struct OnValue<F> {
+    pub(crate) change: F,
+}
+
+impl<F> Model for OnValue<F> {
+    ghost Value = { F };
+
+    ghost view = { λ test. test.change };
+}
+
+impl<K, V, F: FnMut(&K, &mut V)> Keeps<K, V> for OnValue<F> {
+    ghost accepts = { TakesValue F.FnMut };
+
+    ghost step = { λ f key value keeps now f'.
+        (keeps ≡ true) × ChangesValue F.FnMut f key value now f' };
+
+    fn keeps(&mut self, key: &K, value: &mut V) -> bool {
+        (self.change)(key, value);
+        true
     }
 }

@@ -12,7 +12,7 @@ mod ends;
 mod entering;
 mod extending;
 mod iterating;
-mod laws;
+pub(crate) mod laws;
 mod lending;
 mod predecessors;
 mod reading;

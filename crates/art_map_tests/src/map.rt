@@ -1,5 +1,6 @@
 //! Tests of a map: each call, and one allocation failure.
 mod ascending_entries;
+mod changed_prices;
 mod extended_lists;
 mod iterator_callers;
 mod key_examples;

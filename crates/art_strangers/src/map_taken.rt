@@ -1,6 +1,7 @@
 //! Maps and sets that loops go over and take apart, and maps whose values are changed.
 use art_map::{ArtMap, ArtSet};
 use art_tree::{AsBytes, StrKey};
+use std::ops::Bound;
 
 pub fn sum(prices: &ArtMap<StrKey<'_>, u64, 16>) -> u64 {
     let mut sum: u64 = 0;
@@ -56,4 +57,22 @@ pub fn number<K: AsBytes, const P: usize>(places: &mut ArtMap<K, usize, P>) {
         *place = next;
         next = next.wrapping_add(1);
     });
+}
+
+pub fn clear<K: AsBytes, Q: AsBytes, const P: usize>(prices: &mut ArtMap<K, u64, P>, prefix: &Q) {
+    prices.for_each_value_mut_with_prefix(prefix, |_name, price| *price = 0);
+}
+
+pub fn halve_within<K: AsBytes, const P: usize>(
+    prices: &mut ArtMap<K, u64, P>,
+    first: &K,
+    end: &K,
+) {
+    prices.for_each_value_mut_in_range(
+        Bound::Included(first),
+        Bound::Excluded(end),
+        |_name, price| {
+            *price /= 2;
+        },
+    );
 }

@@ -1,15 +1,19 @@
-//! Values of a map, to be changed in place: one of them, or each.
+//! Values of a map, to be changed in place: one of them, each, or each in a range.
 ghost use Rattle.std.specs.Prelude.{◌≡◌, map};
 ghost use Rattle.std.specs.Borrow.{sem};
 ghost use Rattle.std.specs.Option.{option_copied_mut, option_map};
-ghost use Rattle.art_map.specs.Calls.{ChangesInTurn};
+ghost use Rattle.art_map.specs.Calls.{CallableInTurn, ChangesInTurn};
 ghost use Rattle.art_map.specs.Entries.{entry_with};
 ghost use Rattle.art_map.specs.MapLending.{LendsValueIn};
+ghost use Rattle.art_map.specs.Ranges.{entries_outside, entries_with_prefix, entries_within, entries_without_prefix};
 
-use crate::each_value::for_each_entry;
+use crate::each_value::for_each_between;
 use crate::map::ArtMap;
+use crate::map::reading::{end_of, start_of};
 use art_bytes::AsBytes;
+use art_tree::Side;
 use art_tree::laws::entries_are_one_list;
+use std::ops::Bound;
 
 impl<K: AsBytes, V, const PREFIX_LEN: usize> ArtMap<K, V, PREFIX_LEN> {
     /// A mutable reference to the value of the entry with the bytes of this key, or None where there
@@ -47,10 +51,75 @@ impl<K: AsBytes, V, const PREFIX_LEN: usize> ArtMap<K, V, PREFIX_LEN> {
     /// assert!(rt; prices.get(b"tin") == Some(&51));
     /// ```
     pub fn for_each_value_mut<F: FnMut(&K, &mut V)>(&mut self, f: F)
-        requires { F.IsAlwaysCallable f }
+        requires { CallableInTurn F.FnMut f self.old }
         ensures in_turn { ChangesInTurn F.FnMut f self.old self.new }
         ensures same_keys { map (λ entry. entry.0) self.new ≡ map (λ entry. entry.0) self.old }
     {
-        for_each_entry(&mut self.tree, f);
+        for_each_between(&mut self.tree, Side::Before, &[], Side::AfterBegun, &[], f);
+    }
+
+    /// Calls the closure at each entry whose key is within the two bounds, as
+    /// [`for_each_value_mut`](Self::for_each_value_mut) does. All other entries are as they were. The
+    /// bounds are those of [`range`](Self::range).
+    ///
+    /// Goes down to the start as [`lower_bound`](Self::lower_bound) does; then each entry takes
+    /// constant time beside its call. Takes no memory and never fails.
+    ///
+    /// A map with `iron`, `tin`, `titanium` and `zinc`:
+    ///
+    /// (from tests/art_map_tests/map/changed_values.rt.txt)
+    /// ```rust
+    /// prices.for_each_value_mut_in_range(Bound::Excluded(b"tin"), Bound::Unbounded, |_, price| {
+    ///     *price = 0;
+    /// });
+    /// ```
+    pub fn for_each_value_mut_in_range<Q: AsBytes, F: FnMut(&K, &mut V)>(
+        &mut self,
+        start: Bound<&Q>,
+        end: Bound<&Q>,
+        f: F,
+    )
+        requires { CallableInTurn F.FnMut f
+            (entries_within K.text Q.text start end self.old) }
+        ensures in_turn { ChangesInTurn F.FnMut f
+            (entries_within K.text Q.text start.entry end.entry self.old)
+            (entries_within K.text Q.text start.entry end.entry self.new) }
+        ensures others { entries_outside K.text Q.text start.entry end.entry self.new
+            ≡ entries_outside K.text Q.text start.entry end.entry self.old }
+        ensures same_keys { map (λ entry. entry.0) self.new ≡ map (λ entry. entry.0) self.old }
+    {
+        let (start_side, start) = start_of(start);
+        let (end_side, end) = end_of(end);
+        for_each_between(&mut self.tree, start_side, start, end_side, end, f);
+    }
+
+    /// Calls the closure at each entry whose key begins with the bytes of this prefix, as
+    /// [`for_each_value_mut`](Self::for_each_value_mut) does. All other entries are as they were. Costs
+    /// as much as [`for_each_value_mut_in_range`](Self::for_each_value_mut_in_range). Takes no memory
+    /// and never fails.
+    ///
+    /// A map with `iron`, `tin`, `titanium` and `zinc`:
+    ///
+    /// (from tests/art_map_tests/map/changed_values.rt.txt)
+    /// ```rust
+    /// prices.for_each_value_mut_with_prefix(b"ti", |_, price| *price += 1);
+    /// ```
+    pub fn for_each_value_mut_with_prefix<Q: AsBytes, F: FnMut(&K, &mut V)>(
+        &mut self,
+        prefix: &Q,
+        f: F,
+    )
+        requires { CallableInTurn F.FnMut f
+            (entries_with_prefix K.text (Q.text prefix.now) self.old) }
+        ensures in_turn { ChangesInTurn F.FnMut f
+            (entries_with_prefix K.text (Q.text prefix.now) self.old)
+            (entries_with_prefix K.text (Q.text prefix.now) self.new) }
+        ensures others { entries_without_prefix K.text (Q.text prefix.now) self.new
+            ≡ entries_without_prefix K.text (Q.text prefix.now) self.old }
+        ensures same_keys { map (λ entry. entry.0) self.new ≡ map (λ entry. entry.0) self.old }
+    {
+        let (start, end) = (Side::Before, Side::AfterBegun);
+        let bytes = prefix.as_bytes();
+        for_each_between(&mut self.tree, start, bytes, end, bytes, f);
     }
 }

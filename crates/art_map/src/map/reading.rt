@@ -17,7 +17,7 @@ use art_tree::laws::entries_are_one_list;
 use std::ops::Bound;
 
 // The place of a start bound.
-fn start_of<'a, Q: AsBytes>(bound: Bound<&'a Q>) -> (Side, &'a [u8])
+pub(crate) fn start_of<'a, Q: AsBytes>(bound: Bound<&'a Q>) -> (Side, &'a [u8])
     ensures { (text : _) → not (is_before result.0 result.1.now text) ≡ is_from Q.text bound.entry text }
 {
     match bound {
@@ -28,7 +28,7 @@ fn start_of<'a, Q: AsBytes>(bound: Bound<&'a Q>) -> (Side, &'a [u8])
 }
 
 // The place of an end bound.
-fn end_of<'a, Q: AsBytes>(bound: Bound<&'a Q>) -> (Side, &'a [u8])
+pub(crate) fn end_of<'a, Q: AsBytes>(bound: Bound<&'a Q>) -> (Side, &'a [u8])
     ensures { (text : _) → is_before result.0 result.1.now text ≡ is_up_to Q.text bound.entry text }
 {
     match bound {

@@ -1,9 +1,12 @@
 use Rattle.std.proofs.Common.{◌∙◌, ◌∷◌, ap, sym, subst}
+use Rattle.art_nodes.specs.Leaf.{leaf_key}
 use Rattle.art_nodes.specs.Pointers.{slab_key}
+use Rattle.art_nodes.specs.declared.pointers.OpaqueNodePtr.{OpaqueNodePtr}
 use Rattle.art_arena.specs.Links.{leaf_at}
-use Rattle.art_tree.specs.Entries.{without_text}
+use Rattle.art_tree.specs.Entries.{entries_of, without_text}
 use Rattle.art_tree.specs.Refusals.{texts_of}
 use Rattle.art_tree.specs.Removal.{IsLeft}
+use Rattle.art_map.specs.Shrinking.{NeedsNode}
 use Rattle.art_map.proofs.CallLaws.{Ascend}
 use Rattle.art_map.proofs.CalledLemmas.{held-slot}
 use Rattle.art_map.proofs.CursorLemmas.{behind-ascend, entry-at, holds-on, without-here}
@@ -27,3 +30,15 @@ returns-clause-removed g c = λ before entry after next cut first.
       c.the_list_of_entries_changes_with_them.ensures.without old new (text entry.0) left.gone left.others ∙ ap (λ es. without_text text es (text entry.0)) cut.0 ∙ without-here text before entry after ascend,
       holds-on text old new entry left.leaves next after (behind-ascend text before (entry ∷ after) ascend) first,
     )
+
+pub returns-in_err-remove_leaf-clause-needs_node : goal.returns-in_err-remove_leaf-clause-needs_node
+returns-in_err-remove_leaf-clause-needs_node g c = λ before entry after cut.
+    let text = g.K.AsBytes.text in
+    let old = c.args.tree.now.arena in
+    let new = c.remove_leaf.new.self.arena in
+    let took = c.in_err-remove_leaf.ensures cut.1.0 cut.1.2 in
+    let is = entry-at old (slab_key c.args.leaf) entry after cut.1 in
+    let needs = c.removals_need_nodes.ensures (text (leaf_key cut.1.0)) took.refused in
+    on-err-so c.from_residual.result _
+    (subst (λ entries. NeedsNode (OpaqueNodePtr g.row.K.Denot g.row.V.Denot g.row.PREFIX_LEN) (texts_of text entries) (text entry.0)) (sym (c.the_list_of_entries_changes_with_them.ensures.same old new took.same_entries))
+    (subst (λ e. NeedsNode (OpaqueNodePtr g.row.K.Denot g.row.V.Denot g.row.PREFIX_LEN) (texts_of text (entries_of text old)) (text e.0)) (sym is) needs))

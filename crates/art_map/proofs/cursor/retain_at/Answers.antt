@@ -16,7 +16,7 @@ returns-in_err-remove_at g c = λ before entry after cut.
     let made = c.test_at-keeps.ensures before entry after cut in
     let step = subst (λ keeps. g.F.Keeps.step c.args.test.now entry.0 entry.1 keeps made.0 c.test_at-keeps.new.test) c.if-keeps.false made.1 in
     let refusal = c.from_residual.result in
-    (false, made.0, step, IfOk-from_err refusal _ c.from_residual.ensures.0, on-err-so refusal _ (refl, c.in_err-remove_at.ensures.same_entries ∙ made.2.0))
+    (false, made.0, step, IfOk-from_err refusal _ c.from_residual.ensures.0, on-err-so refusal _ (refl, c.in_err-remove_at.ensures.needs_node before (entry.0, made.0) after made.2, c.in_err-remove_at.ensures.same_entries ∙ made.2.0))
 
 pub returns : goal.returns
 returns g c = λ before entry after cut.

@@ -1,8 +1,8 @@
-use Rattle.std.proofs.Common.{◌≡◌, ◌∙◌, List, ◌∷◌, ◌++◌, None, Some, false, true, refl, sym, ap, subst, arith}
+use Rattle.std.proofs.Common.{◌∙◌, List, ◌∷◌, ◌++◌, None, Some, refl, sym, ap, subst, arith}
 use Rattle.std.specs.Option.{option_map}
 use Rattle.art_nodes.specs.Pointers.{slab_key}
 use Rattle.art_arena.specs.Arena.{held}
-use Rattle.art_arena.specs.Links.{HoldsLeaf, leaf_at}
+use Rattle.art_arena.specs.Links.{HoldsLeaf}
 use Rattle.art_tree.specs.Entries.{entries_of}
 use Rattle.art_tree.specs.Search.{leaf_pointer}
 use Rattle.art_map.specs.Cursors.{IsCut}
@@ -137,7 +137,7 @@ returns-in_err-at-clause-stopped g c =
     subst (λ at. IsRetaining text T Q c.args.start_side c.args.start.now c.args.end_side c.args.end.now c.args.test old now (option_map slab_key at) c.along.test) c.in-Some.is c.along.invariant in
     let early = sym (c.leaf_is_before.ensures (leaf-now text T Q c.args.start_side c.args.start.now c.args.end_side c.args.end.now c.args.test old now key c.along.test is) (leaf-there text T Q c.args.start_side c.args.start.now c.args.end_side c.args.end.now c.args.test old now key c.along.test is)) ∙ c.if-not-leaf_is_before.false in
     let made = c.in_err-at.ensures (is.before ++ is.kept) (entry-now text T Q c.args.start_side c.args.start.now c.args.end_side c.args.end.now c.args.test old now key c.along.test is) (rest-now text T Q c.args.start_side c.args.start.now c.args.end_side c.args.end.now c.args.test old now key c.along.test is) (cut-now text T Q c.args.start_side c.args.start.now c.args.end_side c.args.end.now c.args.test old now key c.along.test is) in
-    on-err-so c.from_residual.result _ (retaining-stopped text T Q c.args.start_side c.args.start.now c.args.end_side c.args.end.now c.args.test old now key c.along.test is early c.retain_at.new.tree.arena made.0 made.1 c.retain_at.new.test made.2 made.4.0 made.4.1)
+    on-err-so c.from_residual.result _ (retaining-stopped text T Q c.args.start_side c.args.start.now c.args.end_side c.args.end.now c.args.test old now key c.along.test is early c.retain_at.new.tree.arena made.0 made.1 c.retain_at.new.test made.2 made.4.0 made.4.1 made.4.2)
 
 pub returns-in_err-at-clause-others : goal.returns-in_err-at-clause-others
 returns-in_err-at-clause-others g c =
@@ -151,4 +151,4 @@ returns-in_err-at-clause-others g c =
     subst (λ at. IsRetaining text T Q c.args.start_side c.args.start.now c.args.end_side c.args.end.now c.args.test old now (option_map slab_key at) c.along.test) c.in-Some.is c.along.invariant in
     let early = sym (c.leaf_is_before.ensures (leaf-now text T Q c.args.start_side c.args.start.now c.args.end_side c.args.end.now c.args.test old now key c.along.test is) (leaf-there text T Q c.args.start_side c.args.start.now c.args.end_side c.args.end.now c.args.test old now key c.along.test is)) ∙ c.if-not-leaf_is_before.false in
     let made = c.in_err-at.ensures (is.before ++ is.kept) (entry-now text T Q c.args.start_side c.args.start.now c.args.end_side c.args.end.now c.args.test old now key c.along.test is) (rest-now text T Q c.args.start_side c.args.start.now c.args.end_side c.args.end.now c.args.test old now key c.along.test is) (cut-now text T Q c.args.start_side c.args.start.now c.args.end_side c.args.end.now c.args.test old now key c.along.test is) in
-    outside-stopped text T Q c.args.start_side c.args.start.now c.args.end_side c.args.end.now c.args.test old now key c.along.test is early c.retain_at.new.tree.arena made.0 made.1 c.retain_at.new.test made.2 made.4.0 made.4.1
+    outside-stopped text T Q c.args.start_side c.args.start.now c.args.end_side c.args.end.now c.args.test old now key c.along.test is early c.retain_at.new.tree.arena made.0 made.1 c.retain_at.new.test made.2 made.4.0 made.4.1 made.4.2

@@ -1,11 +1,13 @@
-use Rattle.std.proofs.Common.{◌≡◌, ◌∙◌, ◌++◌, List, [], filter, not, nat_eq, ap, sym, subst}
+use Rattle.std.proofs.Common.{◌≡◌, ◌∙◌, List, [], not, nat_eq, ap, sym, subst}
 use Rattle.std.specs.List.{starts_with}
-use Rattle.std.specs.Map.Calls.{CallableOnEachPair}
+use Rattle.art_nodes.specs.declared.pointers.OpaqueNodePtr.{OpaqueNodePtr}
 use Rattle.art_tree.specs.Entries.{entries_of}
+use Rattle.art_tree.specs.Refusals.{texts_of}
 use Rattle.art_tree.specs.declared.place.Side.TheVariants.{Before, AfterBegun}
 use Rattle.art_map.specs.Nearest.{is_between}
-use Rattle.art_map.specs.Ranges.{entries_with_prefix}
-use Rattle.art_map.specs.Retaining.{entries_without_prefix, LosesFirst}
+use Rattle.art_map.specs.Ranges.{entries_with_prefix, entries_without_prefix}
+use Rattle.art_map.specs.Retaining.{LosesFirst}
+use Rattle.art_map.specs.Shrinking.{NeedsNode}
 use Rattle.art_map.proofs.ListLemmas.{on-err, on-ok}
 use Rattle.art_map.proofs.PrefixRemovals.{none-asked, none-pass, retains-none, stops-none}
 use Rattle.art_map.proofs.TextLemmas.{filter-same, prefix-between}
@@ -37,11 +39,14 @@ returns-clause-stopped g c =
     let without = λ (es : List (g.row.K.Denot × g.row.V.Denot)). filter-same (λ entry. not (is_between Before x AfterBegun x (text entry.0))) (λ entry. not (starts_with nat_eq (text entry.0) x)) (λ entry. ap not (prefix-between x (text entry.0))) es in
     on-err c.retain_between.result _ _
     (λ stops.
-    let (gone, parts, some) = stops-none _ _ _ stops in
-    subst (λ es. LosesFirst text x es new) c.self.view_is
+    let (gone, refused, rest, parts, left, needs) = stops-none _ _ _ _ stops in
+    subst (λ es. LosesFirst (λ entry. text entry.0) x (NeedsNode (OpaqueNodePtr g.row.K.Denot g.row.V.Denot g.row.PREFIX_LEN) (texts_of text new)) es new) c.self.view_is
     (record {
       gone = gone;
-      first = sym (with old) ∙ parts ∙ ap (λ es. gone ++ es) (with new);
-      some_left = λ none. some (with new ∙ none);
+      refused = refused;
+      rest = rest;
+      first = sym (with old) ∙ parts;
+      left = sym (with new) ∙ left;
+      needs = needs;
       others = sym (without new) ∙ c.retain_between.ensures.others ∙ without old;
     })) c.retain_between.ensures.stopped

@@ -1,9 +1,13 @@
-use Rattle.std.proofs.Common.{map, subst}
+use Rattle.std.proofs.Common.{map, sym, subst}
 use Rattle.std.specs.Fn.{CalledAt}
 use Rattle.std.specs.List.Retain.{IsFiltered}
+use Rattle.art_nodes.specs.declared.pointers.OpaqueNodePtr.{OpaqueNodePtr}
+use Rattle.art_tree.specs.Refusals.{texts_of}
 use Rattle.art_map.specs.Retaining.{StopsFiltering}
+use Rattle.art_map.specs.Shrinking.{NeedsNode}
 use Rattle.art_map.proofs.ListLemmas.{on-err, on-ok}
 use Rattle.art_map.proofs.RetainedKeys.{always-callable, retains-keys, stops-keys}
+use Rattle.art_map.proofs.SetLemmas.{keys_in, texts-in}
 use Rattle.art_map.proofs.set.retaining_keys.ArtSet+K+PREFIX_LEN.retain.Goals as goal
 
 pub retain_by-requires : goal.retain_by-requires
@@ -18,5 +22,9 @@ returns-clause-retained g c =
 
 pub returns-clause-stopped : goal.returns-clause-stopped
 returns-clause-stopped g c =
+    let text = g.K.AsBytes.text in
+    let new = c.retain_by.new.self in
     on-err c.retain_by.result _ _
-    (λ turn. subst (λ keys. StopsFiltering g.F.FnMut c.args.f keys (map (λ entry. entry.0) c.retain_by.new.self)) c.self.view_is (stops-keys g.F.FnMut c.args.f c.self.inside.entries c.retain_by.new.self turn)) c.retain_by.ensures.stopped
+    (λ turn. subst (λ texts. StopsFiltering g.F.FnMut (λ key. NeedsNode (OpaqueNodePtr g.row.K.Denot (Unit {0}) g.row.PREFIX_LEN) texts (text key)) c.args.f c.args.self.now (keys_in text new)) (sym (texts-in text new))
+    (subst (λ keys. StopsFiltering g.F.FnMut (λ key. NeedsNode (OpaqueNodePtr g.row.K.Denot (Unit {0}) g.row.PREFIX_LEN) (texts_of text new) (text key)) c.args.f keys (keys_in text new)) c.self.view_is
+    (stops-keys g.F.FnMut (λ key. NeedsNode (OpaqueNodePtr g.row.K.Denot (Unit {0}) g.row.PREFIX_LEN) (texts_of text new) (text key)) c.args.f c.self.inside.entries new turn))) c.retain_by.ensures.stopped
