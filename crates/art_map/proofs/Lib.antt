@@ -1,18 +1,21 @@
 mod BoundLemmas
 pub mod CallLaws
 mod CalledLemmas
+mod ClashLemmas
 mod CursorLemmas
 mod EndLemmas
 mod EnteredLemmas
 mod EntryLemmas
 mod ExtendLemmas
 mod FrontLemmas
+mod JoinLemmas
 mod LeafCounts
 mod LentLemmas
 mod LinkLemmas
 mod ListLemmas
 mod LoadedLemmas
 mod MergeLemmas
+mod MovingLemmas
 mod OwnedKeyLemmas
 mod PrefixRemovals
 mod RangeLemmas
@@ -23,4 +26,5 @@ mod RunLemmas
 mod SetLemmas
 mod SetOrders
 mod ShrinkLemmas
+mod SplitLemmas
 mod TextLemmas

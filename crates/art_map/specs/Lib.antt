@@ -1,3 +1,4 @@
+pub mod Appending
 pub mod Calls
 pub mod Changes
 pub mod Cursors

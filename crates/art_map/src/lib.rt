@@ -18,6 +18,7 @@ mod keeps;
 mod keys;
 mod leaf_entries;
 mod map;
+mod moving;
 mod nearest;
 mod range;
 mod retaining;

@@ -2,6 +2,7 @@
 ghost use Rattle.std.specs.Prelude.{◌≡◌, ◌≢◌, [], IfOk, IfErr};
 ghost use Rattle.art_tree.specs.Refusals.{texts_of, IsDue};
 
+mod appending;
 mod changes;
 mod cloning;
 mod compacting;
@@ -18,6 +19,7 @@ mod predecessors;
 mod reading;
 mod removing_prefixes;
 mod retaining_entries;
+mod splitting;
 mod std_ranges;
 mod taking_apart;
 mod underlying;

@@ -13,11 +13,13 @@ ghost use Rattle.art_map.specs.Shrinking.{NeedsNode};
 mod cloning_sets;
 mod comparing_sets;
 mod extending_sets;
+mod joining;
 mod key_ranges;
 mod keys_by_text;
 mod merging;
 mod neighbouring_keys;
 mod retaining_keys;
+mod splitting_sets;
 
 use crate::into_iter::{IntoKeys, keys_taken};
 use crate::keys::{Keys, keys_of};

@@ -3,6 +3,7 @@ mod ascending_entries;
 mod changed_prices;
 mod extended_lists;
 mod iterator_callers;
+mod joined_maps;
 mod key_examples;
 mod map_callers;
 mod map_examples;

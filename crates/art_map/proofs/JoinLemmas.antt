@@ -1,0 +1,114 @@
+-- Entries that are joined to others, and their keys.
+use Rattle.std.proofs.Common.{◌≡◌, ◌≢◌, ◌⊎◌, ◌∙◌, inl, inr, ℕ, Bool, true, false, cond, List, [], ◌∷◌, ◌++◌, append_assoc, append-nil, length, Contains, Option, Some, None, refl, sym, ap, subst, arith, nat_eq}
+use Rattle.std.specs.Cmp.Lexicographic.{pointwise, nat_list_cmp_total}
+use Rattle.std.specs.Option.{is_some}
+use Rattle.std.specs.Ordering.{match_ordering, ordering_reverse}
+use Rattle.std.specs.declared.cmp.Ordering.TheVariants.{Less, Greater}
+use Rattle.std.proofs.lemmas.List.Elements.{Contains-append_right}
+use Rattle.art_bytes.specs.Text.{text_order}
+use Rattle.art_tree.specs.Dictionary.{Clashes}
+use Rattle.art_tree.specs.Entries.{put_entry}
+use Rattle.art_tree.specs.Refusals.{texts_of}
+use Rattle.art_tree.specs.declared.insert.InsertRefusal.{InsertRefusal}
+use Rattle.art_tree.specs.declared.insert.InsertRefusal.TheVariants.{KeyTooLong, Prefix, OutOfMemory}
+use Rattle.art_map.specs.Appending.{IsAppendRefused, IsKeyAppendRefused, SomeClashes, SomeIsNew, SomeKeyClashes, SomeKeyIsNew, replace_all}
+use Rattle.art_map.specs.Entries.{entry_with}
+use Rattle.art_map.specs.Extending.{put_all}
+use Rattle.art_map.proofs.CallLaws.{Ascend, ascend_rest, first_or_later, found_after_put, image_inside, inside_image, later_there, none_below, none_has}
+use Rattle.art_map.proofs.SetLemmas.{key_in_place, keys-there, keys_in, texts-in}
+
+-- there is room, or no need of it
+pub room-or-none : {A B : Type 0} (needed : Bool) → (needed ≡ true → A) → (B → needed ≡ true) → A ⊎ (B → ⊥)
+room-or-none true room need = inl (room refl)
+room-or-none false room need = inr (λ b. let wrong : false ≡ true = need b in absurd (cc))
+
+pub not-some : {A : Type 0} (o : Option A) → is_some o ≡ false → o ≡ None
+not-some None is = refl
+not-some (Some x) is = absurd (cc)
+
+pub no-entries : {X : Type 0} (xs : List X) → length xs ≡ 0 → xs ≡ []
+no-entries [] is = refl
+no-entries (x ∷ xs) is = absurd (omega (arith, is))
+
+-- something holds of some of a list
+module _ {X : Type 0} (P : X → Type 0) where
+  abbrev pub SomeOf : List X → Type 0
+  SomeOf xs = (x : X) × Contains xs x × P x
+
+  pub some-later : (x : X) (xs : List X) → SomeOf xs → SomeOf (x ∷ xs)
+  some-later x xs (y, inside, is) = (y, later_there x y xs inside, is)
+
+  pub some-first : (x : X) (xs : List X) → P x → SomeOf (x ∷ xs)
+  some-first x xs is = (x, (0, omega arith, refl), is)
+
+  pub some-rest : (x : X) (xs : List X) → (P x → ⊥) → SomeOf (x ∷ xs) → SomeOf xs
+  some-rest x xs never (y, inside, is) = by_place (first_or_later x y xs inside)
+    where
+      by_place : (x ≡ y) ⊎ Contains xs y → SomeOf xs
+      by_place (inl same) = absurd (never (subst P (sym same) is))
+      by_place (inr later) = (y, later, is)
+
+  pub none-of-none : SomeOf [] → ⊥
+  none-of-none (y, inside, is) = omega (arith, inside.1)
+
+module _ {K V : Type 0} (text : K → List ℕ) where
+  -- an entry above all others comes behind them
+  put-last : (entries : List (K × V)) (entry : K × V) (rest : List (K × V)) → Ascend (texts_of text (entries ++ entry ∷ rest)) → put_entry text entries entry ≡ entries ++ entry ∷ []
+  put-last [] entry rest ascend = refl
+  put-last (other ∷ entries) entry rest ascend =
+      let inside : Contains (entries ++ entry ∷ rest) entry = Contains-append_right entries (entry ∷ rest) entry (0, omega arith, refl) in
+      let there : Contains (texts_of text (entries ++ entry ∷ rest)) (text entry.0) = image_inside (λ (e : K × V). text e.0) (entries ++ entry ∷ rest) entry (text entry.0) refl inside in
+      let less : text_order (text other.0) (text entry.0) ≡ Less = none_below (text other.0) (text entry.0) (texts_of text (entries ++ entry ∷ rest)) ascend there in
+      let greater : text_order (text entry.0) (text other.0) ≡ Greater = nat_list_cmp_total.antisymm (text entry.0) (text other.0) ∙ ap ordering_reverse less in
+      ap (λ o. match_ordering o (entry ∷ other ∷ entries) (entry ∷ entries) (other ∷ put_entry text entries entry)) greater
+      ∙ ap (λ es. other ∷ es) (put-last entries entry rest (ascend_rest (text other.0) (texts_of text (entries ++ entry ∷ rest)) ascend))
+
+  -- entries that ascend are put behind those below them
+  put-behind : (entries others : List (K × V)) → Ascend (texts_of text (entries ++ others)) → put_all text entries others ≡ entries ++ others
+  put-behind entries [] ascend = sym (append-nil entries)
+  put-behind entries (entry ∷ others) ascend =
+      let parts : (entries ++ entry ∷ []) ++ others ≡ entries ++ entry ∷ others = append_assoc entries (entry ∷ []) others in
+      ap (λ es. put_all text es others) (put-last entries entry others ascend)
+      ∙ put-behind (entries ++ entry ∷ []) others (subst (λ es. Ascend (texts_of text es)) (sym parts) ascend) ∙ parts
+
+  pub put-in-none : (entries others : List (K × V)) → entries ≡ [] → Ascend (texts_of text others) → others ≡ put_all text entries others
+  put-in-none entries others none ascend = sym (ap (λ es. put_all text es others) none ∙ put-behind [] others ascend)
+
+  -- a text that is new once an entry was put was new before
+  none-before : (entries : List (K × V)) (entry : K × V) (x : List ℕ) → entry_with text (put_entry text entries entry) x ≡ None → entry_with text entries x ≡ None
+  none-before entries entry x none = by_test (pointwise nat_eq (text entry.0) x) (sym (found_after_put text entries entry x) ∙ none)
+    where
+      by_test : (t : Bool) → cond t (Some entry) (entry_with text entries x) ≡ None → entry_with text entries x ≡ None
+      by_test true is = absurd (cc)
+      by_test false is = is
+
+  pub rest-not-new : (entries : List (K × V)) (entry : K × V) (others : List (K × V)) → (SomeIsNew text entries (entry ∷ others) → ⊥) → SomeIsNew text (put_entry text entries entry) others → ⊥
+  rest-not-new entries entry others none (other, inside, new) = none (other, later_there entry other others inside, none-before entries entry (text other.0) new)
+
+  pub first-not-new : (entries : List (K × V)) (entry : K × V) (others : List (K × V)) → (SomeIsNew text entries (entry ∷ others) → ⊥) → entry_with text entries (text entry.0) ≢ None
+  first-not-new entries entry others none new = none (some-first (λ other. entry_with text entries (text other.0) ≡ None) entry others new)
+
+  pub keys-replaced : (entries others : List (K × V)) → keys_in text (put_all text entries others) ≡ replace_all text (keys_in text entries) (keys_in text others)
+  keys-replaced entries [] = refl
+  keys-replaced entries ((key, value) ∷ others) =
+      keys-replaced (put_entry text entries (key, value)) others ∙ ap (λ keys. replace_all text keys (keys_in text others)) (key_in_place text entries key value)
+
+  -- what is said of the entries of two maps is said of their keys
+  module _ (entries others : List (K × V)) where
+    key-clashes : SomeClashes text entries others → SomeKeyClashes text (keys_in text entries) (keys_in text others)
+    key-clashes (other, inside, clash) =
+        (other.0, image_inside (λ (e : K × V). e.0) others other other.0 refl inside, subst (λ texts. Clashes texts (text other.0)) (sym (texts-in text entries)) clash)
+
+    entry-clashes : SomeKeyClashes text (keys_in text entries) (keys_in text others) → SomeClashes text entries others
+    entry-clashes (key, inside, clash) =
+        let from = inside_image (λ (e : K × V). e.0) others key inside in
+        (from.0, from.1, subst (λ key. Clashes (texts_of text entries) (text key)) (sym from.2) (subst (λ texts. Clashes texts (text key)) (texts-in text entries) clash))
+
+    key-new : SomeIsNew text entries others → SomeKeyIsNew text (keys_in text entries) (keys_in text others)
+    key-new (other, inside, none) =
+        (other.0, image_inside (λ (e : K × V). e.0) others other other.0 refl inside, λ has. none_has text entries (text other.0) none (subst (λ texts. Contains texts (text other.0)) (texts-in text entries) has))
+
+    pub append-refused : (refusal : InsertRefusal) → IsAppendRefused text entries others refusal → IsKeyAppendRefused text (keys_in text entries) (keys_in text others) refusal
+    append-refused KeyTooLong due = due
+    append-refused Prefix due = key-clashes due
+    append-refused OutOfMemory due = (λ clashes. due.0 (entry-clashes clashes), keys-there text entries due.1, key-new due.2)

@@ -1,0 +1,12 @@
+use Rattle.std.proofs.Common.{◌≡◌, ◌++◌, ◌-◌, length}
+use Rattle.art_tree.specs.Entries.{entries_of}
+use Rattle.art_tree.specs.Room.{HasRoomFor}
+use Rattle.art_map.proofs.moving.move_last.Given as goal
+
+-- those that went over follow those that are left, and the others find room
+abbrev pub invariant-loop-moved : goal.invariant-loop-moved
+invariant-loop-moved g l =
+    HasRoomFor l.lower.arena (l.count - l._moved)
+    × HasRoomFor l.upper.arena (l.count - l._moved)
+    × (entries_of g.K.AsBytes.text l.initial.lower.arena ≡ entries_of g.K.AsBytes.text l.lower.arena ++ entries_of g.K.AsBytes.text l.upper.arena)
+    × (length (entries_of g.K.AsBytes.text l.upper.arena) ≡ l._moved)
