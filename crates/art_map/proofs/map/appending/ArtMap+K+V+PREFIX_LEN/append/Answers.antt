@@ -23,6 +23,14 @@ returns-in_default-clause-refusal_due g c = (
   c.lacks_some_of-lacks_some.ensures.0 c.in_default.ensures.needed,
 )
 
+pub returns-clause-entries : goal.returns-clause-entries
+returns-clause-entries g c =
+    let text = g.K.AsBytes.text in
+    let arena = c.make_room.new.tree.arena in
+    let same : entries_of text arena ≡ c.args.self.now = c.the_list_of_entries_changes_with_them.ensures.same c.self.inside.tree.arena arena c.make_room.ensures.same_entries ∙ c.self.view_is in
+    let others : c.into_iter.result ≡ c.args.other.now = c.into_iter.ensures.into_iter_gives ∙ c.replace-others.ensures.value in
+    c.put_each.ensures ∙ ap (λ es. put_all text es c.into_iter.result) same ∙ ap (put_all text c.args.self.now) others
+
 pub put_each-requires : goal.put_each-requires
 put_each-requires g c =
     let text = g.K.AsBytes.text in
@@ -37,11 +45,3 @@ put_each-requires g c =
     let may = subst (λ es. AllMayEnter text es c.into_iter.result) (sym same) (subst (AllMayEnter text own) (sym others) (others-may-enter text own c.args.other.now c.entries_ascend-2.ensures.short none)) in
     let apart = subst (λ es. AllPairs (λ a b. ¬ OneIsProperPrefix a b) (texts_of text es)) (sym others) (all-unclashed (texts_of text c.args.other.now) c.entries_ascend-2.ensures.no_prefixes) in
     (assumption, (assumption, (assumption, (assumption, (assumption, (lit< tt, (lit< tt, (room, (may, apart)))))))))
-
-pub returns-clause-entries : goal.returns-clause-entries
-returns-clause-entries g c =
-    let text = g.K.AsBytes.text in
-    let arena = c.make_room.new.tree.arena in
-    let same : entries_of text arena ≡ c.args.self.now = c.the_list_of_entries_changes_with_them.ensures.same c.self.inside.tree.arena arena c.make_room.ensures.same_entries ∙ c.self.view_is in
-    let others : c.into_iter.result ≡ c.args.other.now = c.into_iter.ensures.into_iter_gives ∙ c.replace-others.ensures.value in
-    c.put_each.ensures ∙ ap (λ es. put_all text es c.into_iter.result) same ∙ ap (put_all text c.args.self.now) others

@@ -5,13 +5,6 @@ use Rattle.art_map.proofs.ListLemmas.{on-err}
 use Rattle.art_map.proofs.SplitLemmas.{below-stay, from-fits, others-go, some-below}
 use Rattle.art_map.proofs.map.splitting.ArtMap+K+V+PREFIX_LEN.split_off.Goals as goal
 
-pub split_last-requires : goal.split_last-requires
-split_last-requires g c =
-    let text = g.K.AsBytes.text in
-    let x = g.Q.AsBytes.text c.args.key.now in
-    let many : c.count_range-count.result ≡ length (entries_from text x c.args.self.now) = c.count_range-count.ensures ∙ ap (λ end. length (entries_within text g.Q.AsBytes.text (Included c.args.key) end c.args.self.now)) c.no_end.ensures in
-    (assumption, (assumption, (assumption, (assumption, (assumption, (lit< tt, from-fits text x c.args.self.now c.count_range-count.result many))))))
-
 pub returns-clause-below : goal.returns-clause-below
 returns-clause-below g c =
     let text = g.K.AsBytes.text in
@@ -32,3 +25,10 @@ returns-clause-some_stay g c =
     let x = g.Q.AsBytes.text c.args.key.now in
     let many : c.count_range-count.result ≡ length (entries_from text x c.args.self.now) = c.count_range-count.ensures ∙ ap (λ end. length (entries_within text g.Q.AsBytes.text (Included c.args.key) end c.args.self.now)) c.no_end.ensures in
     on-err c.split_last.result _ _ (some-below text x c.args.self.now c.count_range-count.result many c.entries_ascend.ensures.ascending) c.split_last.ensures.some_stay
+
+pub split_last-requires : goal.split_last-requires
+split_last-requires g c =
+    let text = g.K.AsBytes.text in
+    let x = g.Q.AsBytes.text c.args.key.now in
+    let many : c.count_range-count.result ≡ length (entries_from text x c.args.self.now) = c.count_range-count.ensures ∙ ap (λ end. length (entries_within text g.Q.AsBytes.text (Included c.args.key) end c.args.self.now)) c.no_end.ensures in
+    (assumption, (assumption, (assumption, (assumption, (assumption, (lit< tt, from-fits text x c.args.self.now c.count_range-count.result many))))))
