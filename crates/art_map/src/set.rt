@@ -46,7 +46,7 @@ impl<T: HasEntries<K, ()>, K> Model for SetOver<T, K> {
 }
 
 /// An ordered set: the list of its keys, in ascending order of their bytes. No key is a proper prefix
-/// of another. No call has a condition.
+/// of another. No call has a condition but those that take a closure: it may be called.
 ///
 /// It is an [`ArtMap`] without values, with the same `PREFIX_LEN`, which changes no result of a call. As
 /// there, a key to look for and a bound answer by their bytes, whatever their type.

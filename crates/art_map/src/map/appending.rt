@@ -16,7 +16,8 @@ impl<K: AsBytes, V, const PREFIX_LEN: usize> ArtMap<K, V, PREFIX_LEN> {
     /// Whether this key is a proper prefix of a key of the map, or a key of the map one of it: then
     /// [`insert`](Self::insert) refuses it with `Prefix`, if not for its length.
     ///
-    /// Costs at most as much as two [`lower_bound`](Self::lower_bound). Takes no memory.
+    /// Costs at most as much as a [`prefix_of`](Self::prefix_of) and a [`prefix`](Self::prefix). Takes no
+    /// memory.
     ///
     /// A map with `iron` and `tin`:
     ///
@@ -69,11 +70,11 @@ impl<K: AsBytes + Drop, V: Drop, const PREFIX_LEN: usize> ArtMap<K, V, PREFIX_LE
     ///
     /// Refused with [`Prefix`] where a key of one map is a proper prefix of one of the other map, and else
     /// with [`OutOfMemory`], but only where this map has entries, and the other one a key that is not in
-    /// it. Both maps are then exactly as they were.
+    /// it. The entries of both are then those of before.
     ///
-    /// Where this map is empty, the two change places. Else it looks up each key of the other map, at the
-    /// cost of two [`lower_bound`](Self::lower_bound). Then it makes room for the entries as
-    /// [`reserve`](Self::reserve) does, and inserts each. The memory of the other map is freed.
+    /// Where this map is empty, the two change places. Else each key of the other map is looked up, as by
+    /// [`clashes`](Self::clashes). Then there is made room for the entries as by
+    /// [`reserve`](Self::reserve), if a key is new, and each is inserted. The memory of the other map is freed.
     ///
     /// [`Prefix`]: art_tree::InsertRefusal::Prefix
     /// [`OutOfMemory`]: art_tree::InsertRefusal::OutOfMemory

@@ -62,8 +62,8 @@ impl<K: AsBytes, V, const PREFIX_LEN: usize> ArtMap<K, V, PREFIX_LEN> {
     /// [`for_each_value_mut`](Self::for_each_value_mut) does. All other entries are as they were. The
     /// bounds are those of [`range`](Self::range).
     ///
-    /// Goes down to the start as [`lower_bound`](Self::lower_bound) does; then each entry takes
-    /// constant time beside its call. Takes no memory and never fails.
+    /// Goes down to the start as [`lower_bound`](Self::lower_bound) does; then each entry takes time linear in
+    /// the bytes that its key shares with the end, beside its call. Takes no memory and never fails.
     ///
     /// A map with `iron`, `tin`, `titanium` and `zinc`:
     ///

@@ -24,7 +24,7 @@ impl<K: AsBytes + Drop, V: Drop, const PREFIX_LEN: usize> ArtMap<K, V, PREFIX_LE
     /// Cuts the map in two: the entries whose keys are not below this one come out as a map of their own,
     /// and the others stay. The key need not be one of the map.
     ///
-    /// Memory is refused only where some entries stay and some come out: the map is then exactly as it was.
+    /// Memory is refused only where some entries stay and some come out: the entries are then those of before.
     /// All memory is taken before an entry moves: for the entries that come out, and in both maps for as
     /// many changes, as [`reserve`](Self::reserve) takes it. [`compact`](Self::compact) gives back what is
     /// spare.

@@ -28,8 +28,8 @@ impl<K: AsBytes + Drop, const PREFIX_LEN: usize> ArtSet<K, PREFIX_LEN> {
     /// Moves all keys of the other set into this one, and leaves the other one empty. Where both have a
     /// key with the same bytes, that of the other set stays.
     ///
-    /// Refused as by [`ArtMap::append`](crate::MapOver::append), and both sets are then exactly as they
-    /// were. Costs as much.
+    /// Refused as by [`ArtMap::append`](crate::MapOver::append), and the keys of both are then those of
+    /// before. Costs as much.
     ///
     /// The sets `{iron, tin}` and `{tin, zinc}`:
     ///

@@ -8,8 +8,8 @@ use std::alloc::AllocError;
 
 impl<K: AsBytes + Drop, const PREFIX_LEN: usize> ArtSet<K, PREFIX_LEN> {
     /// Cuts the set in two: the keys that are not below this one come out as a set of their own, and the
-    /// others stay. Memory is refused only where some stay and some come out: the set is then exactly as it
-    /// was. Costs as much as [`ArtMap::split_off`](crate::MapOver::split_off).
+    /// others stay. Memory is refused only where some stay and some come out: the keys are then those of
+    /// before. Costs as much as [`ArtMap::split_off`](crate::MapOver::split_off).
     ///
     /// A set with `iron`, `tin` and `zinc`:
     ///
