@@ -70,6 +70,8 @@ impl<K: AsBytes + Drop, const PREFIX_LEN: usize> ArtSet<K, PREFIX_LEN> {
         ensures refusal_due { IfErr result (λ fault. IsKeyRefused K.text
             (union K.text [] (take fault.added keys.items))
             (K.text fault.refused.key) fault.refused.refusal) }
+        ensures not_there { IfErr result (λ fault. ¬ HasKey K.text
+            (union K.text [] (take fault.added keys.items)) (K.text fault.refused.key)) }
     {
         let mut set = ArtSet::new(alloc);
         match set.extend(keys) {

@@ -1,6 +1,6 @@
 use Rattle.std.proofs.Common.{◌∙◌, ap, subst, take}
 use Rattle.art_map.specs.Merges.{union}
-use Rattle.art_map.specs.Sets.{IsKeyRefused}
+use Rattle.art_map.specs.Sets.{HasKey, IsKeyRefused}
 use Rattle.art_map.proofs.set.extending_sets.ArtSet+K+PREFIX_LEN.from_keys.Goals as goal
 
 pub returns-in-Err-clause-refusal_due : goal.returns-in-Err-clause-refusal_due
@@ -9,3 +9,10 @@ returns-in-Err-clause-refusal_due g c =
     let fault = c.in-Err.fault in
     subst (λ keys. IsKeyRefused text keys (text fault.refused.key) fault.refused.refusal)
     (c.in-Err.ensures.added ∙ ap (λ keys. union text keys (take fault.added c.args.keys.items)) c.new-set.ensures) c.in-Err.ensures.refusal_due
+
+pub returns-in-Err-clause-not_there : goal.returns-in-Err-clause-not_there
+returns-in-Err-clause-not_there g c =
+    let text = g.K.AsBytes.text in
+    let fault = c.in-Err.fault in
+    subst (λ keys. ¬ HasKey text keys (text fault.refused.key))
+    (c.in-Err.ensures.added ∙ ap (λ keys. union text keys (take fault.added c.args.keys.items)) c.new-set.ensures) c.in-Err.ensures.not_there
