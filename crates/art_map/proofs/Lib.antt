@@ -28,3 +28,4 @@ mod SetOrders
 mod ShrinkLemmas
 mod SplitLemmas
 mod TextLemmas
+mod TogetherLemmas

@@ -14,7 +14,7 @@ abbrev Apart : List ℕ → List ℕ → Type 0
 Apart a b = (¬ IsPrefixOf a b) × (¬ IsPrefixOf b a)
 
 -- of two texts that are apart from each other neither is a prefix of the other, if they differ
-members_apart : (texts : List (List ℕ)) (a b : List ℕ) → AllPairs Apart texts → Contains texts a → Contains texts b → (a ≡ b) ⊎ Apart a b
+pub members_apart : (texts : List (List ℕ)) (a b : List ℕ) → AllPairs Apart texts → Contains texts a → Contains texts b → (a ≡ b) ⊎ Apart a b
 members_apart [] a b apart in_a in_b = absurd (none_inside a in_a)
 members_apart (x ∷ xs) a b apart in_a in_b = by_place (first_or_later x a xs in_a) (first_or_later x b xs in_b) (members_apart xs a b (λ i j d before within. apart (suc i) (suc j) d (omega (arith, before)) (omega (arith, within))))
   where

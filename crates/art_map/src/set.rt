@@ -1,5 +1,5 @@
 //! The set.
-ghost use Rattle.std.specs.Prelude.{All, AllPairs, map, ◌≡◌, ◌≢◌, ◌-◌, ◌↔◌, ◌∷◌, ◌++◌, [], false, length, slice_get, IsTrue, IfErr, IfNone, IfOk, IfSome, OnErr, OnOk};
+ghost use Rattle.std.specs.Prelude.{All, AllPairs, map, ◌≡◌, ◌≢◌, ◌<◌, ◌^◌, ◌-◌, ◌↔◌, ◌∷◌, ◌++◌, [], false, length, slice_get, IsTrue, IfErr, IfNone, IfOk, IfSome, OnErr, OnOk};
 ghost use Rattle.std.specs.Option.{is_none, option_copied, option_map};
 ghost use Rattle.std.specs.Result.{result_map_both};
 ghost use Rattle.std.specs.declared.cmp.Ordering.TheVariants.{Less};
@@ -392,11 +392,12 @@ impl<K: AsBytes, const PREFIX_LEN: usize> ArtSet<K, PREFIX_LEN> {
     }
 
     /// The keys ascend strictly by their bytes, so no two have the same bytes. No key is a prefix of
-    /// another, and the laws of keys hold for each. Does no work.
+    /// another, each has fewer than 2^32 bytes, and the laws of keys hold for each. Does no work.
     pub fn keys_ascend(&self)
         ensures ascending { AllPairs (λ a b. text_order a b ≡ Less) (map K.text self.now) }
         ensures no_prefixes { AllPairs (λ a b. (¬ IsPrefixOf a b) × (¬ IsPrefixOf b a))
             (map K.text self.now) }
+        ensures short { All (λ x. length x < 2 ^ 32) (map K.text self.now) }
         ensures keys { All K.is_key self.now }
     {
         self.entries.entries_ascend();

@@ -2,7 +2,8 @@
 ghost use Rattle.std.specs.Prelude.{◌≡◌, ◌∷◌, [], drop, take, IfErr, IfOk, None, OnOk};
 ghost use Rattle.art_map.specs.Changes.{IsRefused};
 ghost use Rattle.art_map.specs.Entries.{entry_with};
-ghost use Rattle.art_map.specs.Extending.{put_all};
+ghost use Rattle.art_map.specs.Extending.{put_all, MayStandTogether};
+ghost use Rattle.art_tree.specs.Refusals.{texts_of};
 
 use crate::extend_fault::{ExtendFault, StoppedAt};
 use crate::map::ArtMap;
@@ -74,11 +75,16 @@ impl<K: AsBytes + Drop, V: Drop, const PREFIX_LEN: usize> ArtMap<K, V, PREFIX_LE
         ensures refusal_due { IfErr result (λ fault. IsRefused K.text
             (put_all K.text [] (take fault.added entries.items))
             (K.text fault.refused.key) fault.refused.refusal) }
+        ensures none_before { IfErr result
+            (λ fault. MayStandTogether (texts_of K.text (take fault.added entries.items))) }
     {
         let mut map = ArtMap::new(alloc);
         match map.extend(entries) {
             Ok(()) => Ok(map),
-            Err(fault) => Err(fault),
+            Err(fault) => {
+                map.entries_ascend();
+                Err(fault)
+            }
         }
     }
 }

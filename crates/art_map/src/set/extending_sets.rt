@@ -1,5 +1,6 @@
 //! Calls that add many keys to a set.
-ghost use Rattle.std.specs.Prelude.{◌≡◌, ◌∷◌, [], drop, take, IfErr, IfOk, OnOk};
+ghost use Rattle.std.specs.Prelude.{◌≡◌, ◌∷◌, [], drop, map, take, IfErr, IfOk, OnOk};
+ghost use Rattle.art_map.specs.Extending.{MayStandTogether};
 ghost use Rattle.art_map.specs.Merges.{union};
 ghost use Rattle.art_map.specs.Sets.{HasKey, IsKeyRefused};
 
@@ -72,11 +73,16 @@ impl<K: AsBytes + Drop, const PREFIX_LEN: usize> ArtSet<K, PREFIX_LEN> {
             (K.text fault.refused.key) fault.refused.refusal) }
         ensures not_there { IfErr result (λ fault. ¬ HasKey K.text
             (union K.text [] (take fault.added keys.items)) (K.text fault.refused.key)) }
+        ensures none_before { IfErr result
+            (λ fault. MayStandTogether (map K.text (take fault.added keys.items))) }
     {
         let mut set = ArtSet::new(alloc);
         match set.extend(keys) {
             Ok(()) => Ok(set),
-            Err(fault) => Err(fault),
+            Err(fault) => {
+                set.keys_ascend();
+                Err(fault)
+            }
         }
     }
 }

@@ -1,6 +1,8 @@
-use Rattle.std.proofs.Common.{◌∙◌, ap, subst, take}
+use Rattle.std.proofs.Common.{◌∙◌, ◌<◌, ◌^◌, [], length, map, All, AllPairs, ap, subst, take}
 use Rattle.art_map.specs.Merges.{union}
 use Rattle.art_map.specs.Sets.{HasKey, IsKeyRefused}
+use Rattle.art_map.proofs.FrontLemmas.{Apart}
+use Rattle.art_map.proofs.TogetherLemmas.{keys-together}
 use Rattle.art_map.proofs.set.extending_sets.ArtSet+K+PREFIX_LEN.from_keys.Goals as goal
 
 pub returns-in-Err-clause-refusal_due : goal.returns-in-Err-clause-refusal_due
@@ -16,3 +18,11 @@ returns-in-Err-clause-not_there g c =
     let fault = c.in-Err.fault in
     subst (λ keys. ¬ HasKey text keys (text fault.refused.key))
     (c.in-Err.ensures.added ∙ ap (λ keys. union text keys (take fault.added c.args.keys.items)) c.new-set.ensures) c.in-Err.ensures.not_there
+
+pub returns-in-Err-clause-none_before : goal.returns-in-Err-clause-none_before
+returns-in-Err-clause-none_before g c =
+    let text = g.K.AsBytes.text in
+    let put = take c.in-Err.fault.added c.args.keys.items in
+    let is = c.in-Err.ensures.added ∙ ap (λ keys. union text keys put) c.new-set.ensures in
+    keys-together text [] put (subst (λ keys. All (λ x. length x < 2 ^ 32) (map text keys)) is c.keys_ascend.ensures.short)
+    (subst (λ keys. AllPairs Apart (map text keys)) is c.keys_ascend.ensures.no_prefixes)
