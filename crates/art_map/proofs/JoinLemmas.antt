@@ -74,6 +74,11 @@ module _ {K V : Type 0} (text : K → List ℕ) where
   pub put-in-none : (entries others : List (K × V)) → entries ≡ [] → Ascend (texts_of text others) → others ≡ put_all text entries others
   put-in-none entries others none ascend = sym (ap (λ es. put_all text es others) none ∙ put-behind [] others ascend)
 
+  pub none-clash-with-none : (entries others : List (K × V)) → entries ≡ [] → ¬ SomeClashes text entries others
+  none-clash-with-none entries others none (other, inside, clash) =
+      let in-none : Clashes [] (text other.0) = subst (λ es. Clashes (texts_of text es) (text other.0)) none clash in
+      omega (arith, in-none.1.1)
+
   -- a text that is new once an entry was put was new before
   none-before : (entries : List (K × V)) (entry : K × V) (x : List ℕ) → entry_with text (put_entry text entries entry) x ≡ None → entry_with text entries x ≡ None
   none-before entries entry x none = by_test (pointwise nat_eq (text entry.0) x) (sym (found_after_put text entries entry x) ∙ none)
@@ -99,7 +104,7 @@ module _ {K V : Type 0} (text : K → List ℕ) where
     key-clashes (other, inside, clash) =
         (other.0, image_inside (λ (e : K × V). e.0) others other other.0 refl inside, subst (λ texts. Clashes texts (text other.0)) (sym (texts-in text entries)) clash)
 
-    entry-clashes : SomeKeyClashes text (keys_in text entries) (keys_in text others) → SomeClashes text entries others
+    pub entry-clashes : SomeKeyClashes text (keys_in text entries) (keys_in text others) → SomeClashes text entries others
     entry-clashes (key, inside, clash) =
         let from = inside_image (λ (e : K × V). e.0) others key inside in
         (from.0, from.1, subst (λ key. Clashes (texts_of text entries) (text key)) (sym from.2) (subst (λ texts. Clashes texts (text key)) (texts-in text entries) clash))

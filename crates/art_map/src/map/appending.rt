@@ -89,6 +89,7 @@ impl<K: AsBytes + Drop, V: Drop, const PREFIX_LEN: usize> ArtMap<K, V, PREFIX_LE
     pub fn append(&mut self, other: &mut Self) -> Result<(), InsertRefusal>
         ensures entries { OnOk result (self.new ≡ put_all K.text self.old other.old) }
         ensures emptied { OnOk result (other.new ≡ []) }
+        ensures no_refusal { OnOk result (¬ SomeClashes K.text self.old other.old) }
         ensures refusal_due { IfErr result (IsAppendRefused K.text self.old other.old) }
         ensures same_entries { OnErr result (self.new ≡ self.old) }
         ensures same_others { OnErr result (other.new ≡ other.old) }

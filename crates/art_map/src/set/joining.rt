@@ -1,6 +1,6 @@
 //! Two sets that become one.
 ghost use Rattle.std.specs.Prelude.{◌≡◌, ◌↔◌, [], map, IfErr, IsTrue, OnErr, OnOk};
-ghost use Rattle.art_map.specs.Appending.{IsKeyAppendRefused, replace_all};
+ghost use Rattle.art_map.specs.Appending.{IsKeyAppendRefused, SomeKeyClashes, replace_all};
 ghost use Rattle.art_tree.specs.Dictionary.{Clashes};
 
 use crate::set::ArtSet;
@@ -41,6 +41,7 @@ impl<K: AsBytes + Drop, const PREFIX_LEN: usize> ArtSet<K, PREFIX_LEN> {
     pub fn append(&mut self, other: &mut Self) -> Result<(), InsertRefusal>
         ensures keys { OnOk result (self.new ≡ replace_all K.text self.old other.old) }
         ensures emptied { OnOk result (other.new ≡ []) }
+        ensures no_refusal { OnOk result (¬ SomeKeyClashes K.text self.old other.old) }
         ensures refusal_due { IfErr result (IsKeyAppendRefused K.text self.old other.old) }
         ensures same_keys { OnErr result (self.new ≡ self.old) }
         ensures same_others { OnErr result (other.new ≡ other.old) }

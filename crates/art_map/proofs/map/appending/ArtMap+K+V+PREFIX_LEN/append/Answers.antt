@@ -5,13 +5,16 @@ use Rattle.art_tree.specs.Refusals.{texts_of}
 use Rattle.art_tree.specs.Room.{HasRoomFor}
 use Rattle.art_map.specs.Appending.{SomeClashes, SomeIsNew}
 use Rattle.art_map.specs.Extending.{put_all}
-use Rattle.art_map.proofs.JoinLemmas.{no-entries, put-in-none, room-or-none}
+use Rattle.art_map.proofs.JoinLemmas.{no-entries, none-clash-with-none, put-in-none, room-or-none}
 use Rattle.art_map.proofs.MovingLemmas.{AllMayEnter, all-unclashed, either, others-may-enter}
 use Rattle.art_map.proofs.map.appending.ArtMap+K+V+PREFIX_LEN.append.Goals as goal
 
 pub returns-then-is_empty-clause-entries : goal.returns-then-is_empty-clause-entries
 returns-then-is_empty-clause-entries g c =
     c.swap.ensures.x_after ∙ put-in-none g.K.AsBytes.text c.args.self.now c.args.other.now (no-entries c.args.self.now (c.is_empty.ensures.0 c.if-is_empty.true)) c.entries_ascend-2.ensures.ascending
+
+pub returns-then-is_empty-clause-no_refusal : goal.returns-then-is_empty-clause-no_refusal
+returns-then-is_empty-clause-no_refusal g c = none-clash-with-none g.K.AsBytes.text c.args.self.now c.args.other.now (no-entries c.args.self.now (c.is_empty.ensures.0 c.if-is_empty.true))
 
 pub returns-then-clashes_with-clause-refusal_due : goal.returns-then-clashes_with-clause-refusal_due
 returns-then-clashes_with-clause-refusal_due g c = c.clashes_with.ensures.0 c.if-clashes_with.true
@@ -30,6 +33,9 @@ returns-clause-entries g c =
     let same : entries_of text arena ≡ c.args.self.now = c.the_list_of_entries_changes_with_them.ensures.same c.self.inside.tree.arena arena c.make_room.ensures.same_entries ∙ c.self.view_is in
     let others : c.into_iter.result ≡ c.args.other.now = c.into_iter.ensures.into_iter_gives ∙ c.replace-others.ensures.value in
     c.put_each.ensures ∙ ap (λ es. put_all text es c.into_iter.result) same ∙ ap (put_all text c.args.self.now) others
+
+pub returns-clause-no_refusal : goal.returns-clause-no_refusal
+returns-clause-no_refusal g c = λ clash. let wrong : true ≡ false = sym (c.clashes_with.ensures.1 clash) ∙ c.if-clashes_with.false in absurd (cc)
 
 pub put_each-requires : goal.put_each-requires
 put_each-requires g c =
