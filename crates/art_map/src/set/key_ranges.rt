@@ -1,6 +1,7 @@
 //! Keys of a set that are within a range of std.
-ghost use Rattle.std.specs.Prelude.{◌≡◌};
+ghost use Rattle.std.specs.Prelude.{◌≡◌, ℕ, List};
 ghost use Rattle.std.specs.Range.Bound.{bound_map};
+ghost use Rattle.std.specs.declared.ops.Bound.{Bound};
 ghost use Rattle.art_map.specs.Sets.{keys_in};
 
 use crate::keys::{Keys, keys_of};
@@ -11,6 +12,7 @@ use std::ops::RangeBounds;
 impl<K: AsBytes, const PREFIX_LEN: usize> ArtSet<K, PREFIX_LEN> {
     /// The keys that are within a range, as `low..high` or `low..=high`, in ascending order, and from the
     /// back in descending order. There are none where the start is above the end. The ends have one type.
+    /// Of a range type whose impl says nothing of its bounds, only that there are two is known.
     /// Costs as much as a [`range`](Self::range). Takes no memory.
     ///
     /// A set with `iron`, `tin`, `titanium` and `zinc`:
@@ -24,8 +26,10 @@ impl<K: AsBytes, const PREFIX_LEN: usize> ArtSet<K, PREFIX_LEN> {
         &self,
         range: R,
     ) -> Keys<'_, K, (), PREFIX_LEN>
-        ensures { R.has_bounds range → result ≡ keys_in K.text
+        ensures known_bounds { R.has_bounds range → result ≡ keys_in K.text
             (bound_map Q.text (R.start_bound range)) (bound_map Q.text (R.end_bound range)) self.now }
+        ensures some_bounds { (start end : Bound (List ℕ))
+            × (result ≡ keys_in K.text start end self.now) }
     {
         keys_of(self.entries.within(range))
     }
