@@ -1,5 +1,5 @@
 //! A map that is copied.
-ghost use Rattle.std.specs.Prelude.{IfOk};
+ghost use Rattle.std.specs.Prelude.{◌≢◌, [], IfOk, OnErr};
 ghost use Rattle.std.specs.List.{AllZip};
 
 use crate::iter::Iter;
@@ -28,7 +28,7 @@ impl<K: AsBytes + Clone, V: Clone, const PREFIX_LEN: usize> ArtMap<K, V, PREFIX_
     ///
     /// Fails where memory is refused, or a key or a value is not cloned, and where the bytes of the keys'
     /// clones do not ascend as those of the keys do: a `Clone` may return another key, but none of this
-    /// library's does.
+    /// library's does. A map without entries is copied without memory, and never fails.
     ///
     /// Clones each entry, and then costs as much as [`from_ascending`](Self::from_ascending).
     ///
@@ -38,9 +38,13 @@ impl<K: AsBytes + Clone, V: Clone, const PREFIX_LEN: usize> ArtMap<K, V, PREFIX_
     /// assert!(rt; copy == prices);
     /// ```
     pub fn try_clone(&self, alloc: Global) -> Result<Self, AllocError>
-        ensures { IfOk result
+        ensures clones { IfOk result
             (λ map. AllZip (λ p q. K.is_clone p.0 q.0 × V.is_clone p.1 q.1) self.now map) }
+        ensures some_entries { OnErr result (self.now ≢ []) }
     {
+        if self.is_empty() {
+            return Ok(ArtMap::new(alloc));
+        }
         let entries = cloned_entries(alloc, self.len(), self.iter())?;
         match ArtMap::from_ascending(alloc, entries) {
             Ok(map) => Ok(map),

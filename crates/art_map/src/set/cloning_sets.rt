@@ -1,5 +1,5 @@
 //! A set that is copied.
-ghost use Rattle.std.specs.Prelude.{IfOk};
+ghost use Rattle.std.specs.Prelude.{◌≢◌, [], IfOk, OnErr};
 ghost use Rattle.std.specs.List.{AllZip};
 
 use crate::set::{ArtSet, SetOver};
@@ -16,7 +16,8 @@ impl<K: AsBytes + Clone, const PREFIX_LEN: usize> ArtSet<K, PREFIX_LEN> {
     /// assert!(rt; copy == few);
     /// ```
     pub fn try_clone(&self, alloc: Global) -> Result<Self, AllocError>
-        ensures { IfOk result (λ set. AllZip K.is_clone self.now set) }
+        ensures clones { IfOk result (λ set. AllZip K.is_clone self.now set) }
+        ensures some_keys { OnErr result (self.now ≢ []) }
     {
         let entries = self.entries.try_clone(alloc)?;
         Ok(SetOver { entries })
