@@ -1,5 +1,5 @@
 //! Calls that add many entries to a map.
-ghost use Rattle.std.specs.Prelude.{◌≡◌, ◌∷◌, [], drop, take, IfErr, IfOk, None, OnOk};
+ghost use Rattle.std.specs.Prelude.{◌≡◌, ◌∷◌, ◌+◌, [], All, drop, take, IfErr, IfOk, None, OnOk};
 ghost use Rattle.art_map.specs.Changes.{IsRefused};
 ghost use Rattle.art_map.specs.Entries.{entry_with};
 ghost use Rattle.art_map.specs.Extending.{put_all, MayStandTogether};
@@ -37,6 +37,9 @@ impl<K: AsBytes + Drop, V: Drop, const PREFIX_LEN: usize> ArtMap<K, V, PREFIX_LE
             (λ fault. IsRefused K.text self.new (K.text fault.refused.key) fault.refused.refusal) }
         ensures no_entry { IfErr result
             (λ fault. entry_with K.text self.new (K.text fault.refused.key) ≡ None) }
+        ensures are_keys { OnOk result (All (λ entry. K.is_key entry.0) entries.items) }
+        ensures are_keys_so_far { IfErr result
+            (λ fault. All (λ entry. K.is_key entry.0) (take (fault.added + 1) entries.items)) }
     {
         let count = entries.len();
         let mut pending = VecDeque::from(entries);
@@ -77,6 +80,9 @@ impl<K: AsBytes + Drop, V: Drop, const PREFIX_LEN: usize> ArtMap<K, V, PREFIX_LE
             (K.text fault.refused.key) fault.refused.refusal) }
         ensures none_before { IfErr result
             (λ fault. MayStandTogether (texts_of K.text (take fault.added entries.items))) }
+        ensures are_keys { OnOk result (All (λ entry. K.is_key entry.0) entries.items) }
+        ensures are_keys_so_far { IfErr result
+            (λ fault. All (λ entry. K.is_key entry.0) (take (fault.added + 1) entries.items)) }
     {
         let mut map = ArtMap::new(alloc);
         match map.extend(entries) {

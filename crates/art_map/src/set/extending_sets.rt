@@ -1,5 +1,5 @@
 //! Calls that add many keys to a set.
-ghost use Rattle.std.specs.Prelude.{◌≡◌, ◌∷◌, [], drop, map, take, IfErr, IfOk, OnOk};
+ghost use Rattle.std.specs.Prelude.{◌≡◌, ◌∷◌, ◌+◌, [], All, drop, map, take, IfErr, IfOk, OnOk};
 ghost use Rattle.art_map.specs.Extending.{MayStandTogether};
 ghost use Rattle.art_map.specs.Merges.{union};
 ghost use Rattle.art_map.specs.Sets.{HasKey, IsKeyRefused};
@@ -35,6 +35,9 @@ impl<K: AsBytes + Drop, const PREFIX_LEN: usize> ArtSet<K, PREFIX_LEN> {
             IsKeyRefused K.text self.new (K.text fault.refused.key) fault.refused.refusal) }
         ensures not_there { IfErr result
             (λ fault. ¬ HasKey K.text self.new (K.text fault.refused.key)) }
+        ensures are_keys { OnOk result (All K.is_key keys.items) }
+        ensures are_keys_so_far { IfErr result
+            (λ fault. All K.is_key (take (fault.added + 1) keys.items)) }
     {
         let count = keys.len();
         let mut pending = VecDeque::from(keys);
@@ -75,6 +78,9 @@ impl<K: AsBytes + Drop, const PREFIX_LEN: usize> ArtSet<K, PREFIX_LEN> {
             (union K.text [] (take fault.added keys.items)) (K.text fault.refused.key)) }
         ensures none_before { IfErr result
             (λ fault. MayStandTogether (map K.text (take fault.added keys.items))) }
+        ensures are_keys { OnOk result (All K.is_key keys.items) }
+        ensures are_keys_so_far { IfErr result
+            (λ fault. All K.is_key (take (fault.added + 1) keys.items)) }
     {
         let mut set = ArtSet::new(alloc);
         match set.extend(keys) {
