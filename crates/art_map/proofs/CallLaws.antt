@@ -16,7 +16,7 @@ use Rattle.art_bytes.specs.Text.{text_order}
 use Rattle.art_arena.specs.Trees.{Tree, Leaf, Inner, Branches, NoBranch, Branch, branch_roots, leaves, branch_leaves, IsSound, AreSound}
 use Rattle.art_tree.specs.Entries.{put_entry, without_text}
 use Rattle.art_tree.specs.Refusals.{texts_of}
-use Rattle.art_map.specs.Calls.{CallableInTurn, ChangesValue, ChangesInTurn}
+use Rattle.art_map.specs.Calls.{CallableAtEachKey, CallableInTurn, ChangesValue, ChangesInTurn, SomeCallAtKey}
 use Rattle.art_map.specs.Entries.{entry_with}
 use Rattle.art_map.specs.Ranges.{entries_above, entries_from, entries_with_prefix, entries_within, is_from, is_up_to}
 use Rattle.art_map.specs.Sets.{HasKey, put_key, without_key}
@@ -526,6 +526,15 @@ module _ {F K V : Type 0} (g : Mut F (Bor K × (MutBor V × Unit {0})) (Unit {0}
   -- one that may always be called may be called at each entry
   pub callable_in_turn : (f : F) (entries : List (K × V)) → always_mut g f → CallableInTurn g f entries
   callable_in_turn f entries callable = record { at = λ before after f' key value is folds shown lent shows lends. ((still_callable before f f' folds callable).at ((shown, (lent, tt)) ∷ [])).0 }
+
+module _ {F K : Type 0} (g : Mut F (Bor K × Unit {0}) Bool) where
+  still_callable_at_keys : (keys : List K) (f f' : F) → FoldsTo (SomeCallAtKey g) f keys f' → always_mut g f → always_mut g f'
+  still_callable_at_keys [] f f' same callable = subst (always_mut g) same callable
+  still_callable_at_keys (key ∷ keys) f f' (state, (keeps, called), folds) callable = still_callable_at_keys keys state f' folds (mut_next g _ _ _ _ _ called.called refl callable)
+
+  -- one that may always be called may be called at each key
+  pub callable_at_each_key : (f : F) (keys : List K) → always_mut g f → CallableAtEachKey g f keys
+  callable_at_each_key f keys callable = record { at = λ before after f' key is folds shown shows. ((still_callable_at_keys before f f' folds callable).at ((shown, tt) ∷ [])).0 }
 
 module _ {F K V : Type 0} (g : Mut F (Bor K × (MutBor V × Unit {0})) (Unit {0} × (MutBor V × Unit {0}))) (change : K → V → V) (f : F)
     (same : (key : K) (value now : V) (f' : F) → ChangesValue g f key value now f' → (now ≡ change key value) × (f' ≡ f)) where

@@ -1,15 +1,15 @@
 -- What a test of entries by their keys alone, or by a prefix, is to the keys.
 use Rattle.std.proofs.Common.{◌≡◌, ◌∙◌, suc, Bool, true, false, cond, not, nat_eq, ℕ, List, [], ◌∷◌, length, map, refl, sym, ap, subst, inl, inr}
-use Rattle.std.specs.Fn.{CalledAt, always_mut}
+use Rattle.std.specs.Fn.{CalledAt, TakesAt}
 use Rattle.std.specs.List.{FoldsTo, items_where_true, starts_with}
 use Rattle.std.specs.List.Retain.{IsFiltered}
 use Rattle.std.specs.Map.Calls.{CallableOnEachPair, RetainsPairs, SomeCallAtPair}
 use Rattle.std.proofs.lemmas.List.{length-map, map-append}
+use Rattle.art_map.specs.Calls.{CallableAtEachKey, SomeCallAtKey}
 use Rattle.art_map.specs.Ranges.{entries_with_prefix, entries_without_prefix}
 use Rattle.art_map.specs.Retaining.{LosesFirst, StopsFiltering, StopsRetaining}
 use Rattle.art_map.specs.Sets.{keys_with_prefix, keys_without_prefix}
 use Rattle.art_map.proofs.SetLemmas.{keys_in, map-of-filter}
-use denote.Param.Always.{mut_next}
 use denote.Param.Members.{Mut}
 use denote.Ref.{Bor}
 
@@ -25,13 +25,15 @@ module _ {F K V : Type 0} (g : Mut F (Bor K × Unit {0}) Bool) where
   abbrev keys : List (K × V) → List K
   keys entries = map (λ entry. entry.0) entries
 
-  still-callable : (entries : List (K × V)) (f f' : F) → FoldsTo (SomeCallAtPair step) f entries f' → always_mut g f → always_mut g f'
-  still-callable [] f f' same callable = subst (always_mut g) same callable
-  still-callable (entry ∷ entries) f f' (state, (keeps, now, called), folds) callable = still-callable entries state f' folds (mut_next g _ _ _ _ _ called.called refl callable)
+  folds-keys : (entries : List (K × V)) (f f' : F) → FoldsTo (SomeCallAtPair step) f entries f' → FoldsTo (SomeCallAtKey g) f (keys entries) f'
+  folds-keys [] f f' same = same
+  folds-keys (entry ∷ entries) f f' (state, (keeps, now, called), folds) = (state, (keeps, called), folds-keys entries state f' folds)
 
-  -- a closure that may always be called may be at each key
-  pub always-callable : (f : F) (entries : List (K × V)) → always_mut g f → CallableOnEachPair step (λ state key value. always_mut g state) f entries
-  always-callable f entries callable = record { at = λ before after f' key value is folds. still-callable before f f' folds callable }
+  -- a closure that may be called at each key may be at each entry
+  pub callable-at-entries : (f : F) (entries : List (K × V)) → CallableAtEachKey g f (keys entries) → CallableOnEachPair step (λ state key value. TakesAt g state key) f entries
+  callable-at-entries f entries callable = record {
+    at = λ before after f' key value is folds. callable.at (keys before) (keys after) f' key (ap keys is ∙ map-append (λ entry. entry.0) before ((key, value) ∷ after)) (folds-keys before f f' folds);
+  }
 
   chosen : (keeps : Bool) (entry : K × V) (rest : List (K × V)) → keys (cond keeps (entry ∷ rest) rest) ≡ cond keeps (entry.0 ∷ keys rest) (keys rest)
   chosen true entry rest = refl

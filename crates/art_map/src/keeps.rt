@@ -1,6 +1,6 @@
 //! The test that is made at each entry, from a closure of a map or of a set.
 ghost use Rattle.std.specs.Prelude.{◌≡◌, Bool, false, true};
-ghost use Rattle.std.specs.Fn.{CalledAt};
+ghost use Rattle.std.specs.Fn.{CalledAt, TakesAt};
 ghost use Rattle.std.specs.Map.Calls.{CalledAtPair, TakesPair};
 ghost use Rattle.art_map.specs.Calls.{ChangesValue, TakesValue};
 
@@ -53,7 +53,7 @@ impl<F> Model for OnKey<F> {
 }
 
 impl<K, V, F: FnMut(&K) -> bool> Keeps<K, V> for OnKey<F> {
-    ghost accepts = { λ f _ _. F.IsAlwaysCallable f };
+    ghost accepts = { λ f key value. TakesAt F.FnMut f key };
 
     ghost step = { λ f key value keeps now f'. CalledAt F.FnMut f key keeps f' };
 

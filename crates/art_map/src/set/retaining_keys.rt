@@ -3,6 +3,7 @@ ghost use Rattle.std.specs.Prelude.{◌≡◌, length, map, IfOk, OnErr, OnOk};
 ghost use Rattle.std.specs.Fn.{CalledAt};
 ghost use Rattle.std.specs.List.Retain.{IsFiltered};
 ghost use Rattle.art_nodes.specs.declared.pointers.OpaqueNodePtr.{OpaqueNodePtr as Pointer};
+ghost use Rattle.art_map.specs.Calls.{CallableAtEachKey};
 ghost use Rattle.art_map.specs.Retaining.{LosesFirst, StopsFiltering};
 ghost use Rattle.art_map.specs.Sets.{keys_with_prefix, keys_without_prefix};
 ghost use Rattle.art_map.specs.Shrinking.{NeedsNode};
@@ -30,7 +31,7 @@ impl<K: AsBytes + Drop, const PREFIX_LEN: usize> ArtSet<K, PREFIX_LEN> {
     ///
     /// [`ArtMap::retain`]: crate::ArtMap::retain
     pub fn retain<F: FnMut(&K) -> bool>(&mut self, f: F) -> Result<(), AllocError>
-        requires { F.IsAlwaysCallable f }
+        requires { CallableAtEachKey F.FnMut f self.old }
         ensures retained { OnOk result
             (IsFiltered (CalledAt F.FnMut) f self.old self.new) }
         ensures stopped { OnErr result (StopsFiltering F.FnMut

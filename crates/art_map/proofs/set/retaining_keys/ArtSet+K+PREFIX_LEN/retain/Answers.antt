@@ -3,16 +3,17 @@ use Rattle.std.specs.Fn.{CalledAt}
 use Rattle.std.specs.List.Retain.{IsFiltered}
 use Rattle.art_nodes.specs.declared.pointers.OpaqueNodePtr.{OpaqueNodePtr}
 use Rattle.art_tree.specs.Refusals.{texts_of}
+use Rattle.art_map.specs.Calls.{CallableAtEachKey}
 use Rattle.art_map.specs.Retaining.{StopsFiltering}
 use Rattle.art_map.specs.Shrinking.{NeedsNode}
 use Rattle.art_map.proofs.ListLemmas.{on-err, on-ok}
-use Rattle.art_map.proofs.RetainedKeys.{always-callable, retains-keys, stops-keys}
+use Rattle.art_map.proofs.RetainedKeys.{callable-at-entries, retains-keys, stops-keys}
 use Rattle.art_map.proofs.SetLemmas.{keys_in, texts-in}
 use Rattle.art_map.proofs.set.retaining_keys.ArtSet+K+PREFIX_LEN.retain.Goals as goal
 
 pub retain_by-requires : goal.retain_by-requires
 retain_by-requires g c =
-    let callable = always-callable g.F.FnMut c.args.f c.self.inside.entries c.requires in
+    let callable = callable-at-entries g.F.FnMut c.args.f c.self.inside.entries (subst (CallableAtEachKey g.F.FnMut c.args.f) (sym c.self.view_is) c.requires) in
     search
 
 pub returns-clause-retained : goal.returns-clause-retained
