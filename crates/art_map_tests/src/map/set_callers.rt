@@ -1,7 +1,9 @@
 //! Callers of the calls of a set, each with what its contract gives.
 ghost use Rattle.std.specs.Prelude.{◌≡◌, ◌&&◌, slice_get, IfOk, IsTrue, OnErr, OnOk};
 ghost use Rattle.std.specs.Cmp.Lexicographic.{pointwise};
+ghost use Rattle.std.specs.Fn.{CalledAt};
 ghost use Rattle.std.specs.List.{AllZip};
+ghost use Rattle.std.specs.List.Retain.{IsFiltered};
 ghost use Rattle.std.specs.Option.{option_copied};
 ghost use Rattle.art_map.specs.Merges.{difference, intersection, symmetric_difference, union};
 ghost use Rattle.art_map.specs.Sets.{HasKey, key_with, replace_key};
@@ -88,6 +90,25 @@ fn least_in_symmetric_difference<'a, K: AsBytes, const PREFIX_LEN: usize>(
     few.symmetric_difference(others).next()
 }
 
+/// Keeps the names of fewer than five bytes.
+fn keep_short<K: AsBytes + Drop, const PREFIX_LEN: usize>(
+    names: &mut ArtSet<K, PREFIX_LEN>,
+) -> Result<(), AllocError> {
+    names.retain(|name| name.as_bytes().len() < 5)
+}
+
+/// Keeps the names at which a closure returns true.
+#[tactic(auto, using(art_map::proofs::CallLaws::callable_at_each_key))]
+fn keep_some<K: AsBytes + Drop, const PREFIX_LEN: usize, F: FnMut(&K) -> bool>(
+    names: &mut ArtSet<K, PREFIX_LEN>,
+    keep: F,
+) -> Result<(), AllocError>
+    requires { F.IsAlwaysCallable keep }
+    ensures { OnOk result (IsFiltered (CalledAt F.FnMut) keep names.old names.new) }
+{
+    names.retain(keep)
+}
+
 /// A copy has a clone of each name.
 fn copy_of<K: AsBytes + Clone, const PREFIX_LEN: usize>(
     names: &ArtSet<K, PREFIX_LEN>,
@@ -130,6 +151,8 @@ fn change(rt: &impl Abort, names: &mut Names, others: &Names) -> Result<(), Fail
         panic!(rt; "no name");
     };
     assert!(rt; name.get() == "tin" && name_like(names, &name).is_none());
+    keep_short(names)?;
+    keep_some(names, |name| name.get() != "tin")?;
     Ok(())
 }
 
