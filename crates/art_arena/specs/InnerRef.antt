@@ -1,5 +1,4 @@
 -- References to inner nodes of any kind.
-use Rattle.std.specs.Prelude.{ℕ}
 use Rattle.art_nodes.specs.Inner.{Inner}
 use Rattle.art_arena.specs.declared.inner_ref.AnyInnerRef.{AnyInnerRef}
 use Rattle.art_arena.specs.declared.inner_ref.AnyInnerRef.TheVariants.{Node4, Node16, Node48, Node256}

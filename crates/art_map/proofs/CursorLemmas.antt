@@ -1,20 +1,17 @@
 -- The entries before and behind a leaf of a tree: where the list is cut, and the leaf behind.
-use Rattle.std.proofs.Common.{◌≡◌, ◌≢◌, ◌∙◌, ◌⊎◌, ℕ, Bool, true, false, not, cond, List, [], ◌∷◌, ◌++◌, map, filter, slice_get, All, AllPairs, Contains, Option, Some, None, append_assoc, append-nil, get_or, refl, sym, ap, subst, inl, inr, arith, nat_eq}
-use Rattle.std.specs.Cmp.Lexicographic.{pointwise, nat_list_cmp_total}
+use Rattle.std.proofs.Common.{◌≡◌, ◌≢◌, ◌∙◌, ℕ, Bool, true, false, List, [], ◌∷◌, ◌++◌, map, slice_get, All, Contains, Option, Some, None, append_assoc, append-nil, get_or, refl, sym, ap, subst, inl, inr, arith}
 use Rattle.std.specs.Option.{option_map}
-use Rattle.std.specs.declared.cmp.Ordering.{Ordering}
-use Rattle.std.specs.declared.cmp.Ordering.TheVariants.{Less, Equal, Greater}
-use Rattle.std.proofs.lemmas.List.{map-append}
+use Rattle.std.specs.declared.cmp.Ordering.TheVariants.{Less}
 use Rattle.std.proofs.lemmas.List.Elements.{All-nil, All-cons, All-head, All-tail, Contains-append_cases, Contains-append_left, Contains-append_right, Contains-get_or, filter_map-append}
 use Rattle.art_bytes.specs.Text.{text_order}
 use Rattle.art_header.specs.declared.node_type.NodeType.TheVariants as kinds
-use Rattle.art_nodes.specs.Leaf.{leaf_key, leaf_value, with_value}
+use Rattle.art_nodes.specs.Leaf.{leaf_key, with_value}
 use Rattle.art_nodes.specs.Pointers.{opaque_key, opaque_pointer, slab_key}
 use Rattle.art_nodes.specs.declared.pointers.NodePtr.{NodePtr}
 use Rattle.art_nodes.specs.declared.leaf_node.LeafNode.{LeafNode}
 use Rattle.art_nodes.specs.declared.pointers.OpaqueNodePtr.{OpaqueNodePtr}
-use Rattle.art_arena.specs.Arena.{NodeArena, Changes, HeldLeaf, Nothing, held, held_leaf}
-use Rattle.art_arena.specs.Links.{HoldsLeaf, IsKnit, Spells, leaf_at, next_at}
+use Rattle.art_arena.specs.Arena.{NodeArena, Changes, HeldLeaf, held, held_leaf}
+use Rattle.art_arena.specs.Links.{IsKnit, Spells, leaf_at}
 use Rattle.art_arena.specs.Standing.{AllStandIn, StandsIn}
 use Rattle.art_arena.specs.Trees.{Tree, Leaf, Inner, Branches, NoBranch, Branch, branch_leaves, branch_places, leaves, places}
 use Rattle.art_tree.specs.Art.{IsAlone, IsArt}
@@ -28,7 +25,7 @@ use Rattle.art_map.specs.Cursors.{HoldsFirst, IsCut}
 use Rattle.art_map.specs.LeafEntries.{keys_of, AllHold}
 use Rattle.art_map.specs.Nearest.{IsFirstAfter}
 use Rattle.art_map.specs.Runs.{entries_under, leaf_entry}
-use Rattle.art_map.proofs.CallLaws.{Ascend, ascend_rest, first_or_later, first_there, image_inside, later_there, less_differs, none_below, none_inside, order_itself, other_text, text_itself}
+use Rattle.art_map.proofs.CallLaws.{Ascend, ascend_rest, first_or_later, first_there, image_inside, less_differs, none_below, none_inside, other_text, text_itself}
 use Rattle.art_map.proofs.CalledLemmas.{held-slot}
 use Rattle.art_map.proofs.ListLemmas.{slot-of}
 use Rattle.art_map.proofs.RangeLemmas.{held-append, held_by, hold-left, hold-right, something-held}

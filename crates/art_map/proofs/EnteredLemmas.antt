@@ -5,7 +5,7 @@ use Rattle.art_arena.specs.Arena.{NodeArena}
 use Rattle.art_tree.specs.Dictionary.{IsEntry, SameOtherEntries, entry_at}
 use Rattle.art_tree.specs.Entries.{AreEntries, entries_of, put_entry}
 use Rattle.art_map.specs.EnteredValues.{set_value}
-use Rattle.art_map.specs.Entries.{entry_with, with_value}
+use Rattle.art_map.specs.Entries.{with_value}
 use Rattle.art_map.proofs.LentLemmas.{entries-with-value}
 use Rattle.art_map.proofs.ListLemmas.{entries-find}
 

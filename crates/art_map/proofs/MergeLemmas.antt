@@ -1,12 +1,12 @@
 -- A walk along two lists of keys that ascend.
-use Rattle.std.proofs.Common.{◌≡◌, ◌∙◌, ℕ, zero, suc, Bool, true, false, not, cond, ◌||◌, List, [], ◌∷◌, length, map, filter, All, refl, sym, ap, subst, nat_eq, get_or}
+use Rattle.std.proofs.Common.{◌≡◌, ◌∙◌, ℕ, Bool, true, false, not, cond, ◌||◌, List, [], ◌∷◌, map, filter, All, refl, sym, ap, subst, nat_eq, get_or}
 use Rattle.std.specs.Cmp.Lexicographic.{pointwise, nat_list_cmp_total}
 use Rattle.std.specs.Ordering.{match_ordering, ordering_reverse}
 use Rattle.std.specs.declared.cmp.Ordering.{Ordering}
 use Rattle.std.specs.declared.cmp.Ordering.TheVariants.{Less, Equal, Greater}
-use Rattle.std.proofs.lemmas.List.Elements.{All-nil, All-cons, All-head, All-tail, All-filter, All-weaker, Contains-get_or, filter_agree}
+use Rattle.std.proofs.lemmas.List.Elements.{All-cons, All-head, All-tail, All-filter, All-weaker, Contains-get_or, filter_agree}
 use Rattle.art_bytes.specs.Text.{text_order}
-use Rattle.art_map.specs.Merges.{has_text, union, intersection, difference, symmetric_difference, walk, walk_from}
+use Rattle.art_map.specs.Merges.{has_text, union, intersection, difference, symmetric_difference, walk}
 use Rattle.art_map.specs.Sets.{put_key}
 use Rattle.art_map.proofs.CallLaws.{Ascend, ascend_rest, image_inside, less_differs, none_below, other_text, same_order, text_itself}
 

@@ -1,5 +1,5 @@
 -- Refusals of entries, and of keys, that are there.
-use Rattle.std.proofs.Common.{◌≡◌, ◌≢◌, ◌⊎◌, ◌∙◌, inl, inr, ℕ, suc, ◌<◌, ◌^◌, List, [], ◌∷◌, length, All, AllPairs, Contains, Option, Some, None, sym, ap, subst, arith, refl}
+use Rattle.std.proofs.Common.{◌≡◌, ◌≢◌, ◌⊎◌, ◌∙◌, inl, inr, ℕ, suc, ◌<◌, ◌^◌, List, [], ◌∷◌, length, All, AllPairs, Contains, Option, Some, None, sym, subst, arith, refl}
 use Rattle.std.proofs.lemmas.List.Elements.{All-contains}
 use Rattle.art_bytes.specs.Text.{IsPrefixOf}
 use Rattle.art_tree.specs.Dictionary.{OneIsProperPrefix}

@@ -1,5 +1,5 @@
 -- What a test of entries by their keys alone, or by a prefix, is to the keys.
-use Rattle.std.proofs.Common.{◌≡◌, ◌∙◌, suc, Bool, true, false, cond, not, nat_eq, ℕ, List, [], ◌∷◌, length, map, refl, sym, ap, subst, inl, inr}
+use Rattle.std.proofs.Common.{◌≡◌, ◌∙◌, suc, Bool, true, false, cond, not, nat_eq, ℕ, List, [], ◌∷◌, length, map, refl, sym, ap, inl, inr}
 use Rattle.std.specs.Fn.{CalledAt, TakesAt}
 use Rattle.std.specs.List.{FoldsTo, items_where_true, starts_with}
 use Rattle.std.specs.List.Retain.{IsFiltered}

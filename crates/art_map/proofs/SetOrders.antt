@@ -1,5 +1,5 @@
 -- The keys of entries whose values tell nothing: they compare, are hashed and are cloned as the entries.
-use Rattle.std.proofs.Common.{◌≡◌, ◌∙◌, Bool, true, false, ◌&&◌, List, [], ◌∷◌, ◌++◌, length, map, Option, Some, None, refl, sym, ap, append-nil}
+use Rattle.std.proofs.Common.{◌≡◌, Bool, true, false, ◌&&◌, List, [], ◌∷◌, ◌++◌, map, Option, Some, None, refl, sym, append-nil}
 use Rattle.std.specs.Cmp.Lexicographic.{pointwise, slice_cmp, slice_partial_cmp}
 use Rattle.std.specs.Hash as fed
 use Rattle.std.specs.List.{flat_map, AllZip}

@@ -1,10 +1,9 @@
 -- A removal that is refused: the parent of the leaf, in the arena and in the tree of the keys.
-use Rattle.std.proofs.Common.{◌≡◌, ◌≢◌, ◌∙◌, ◌⊎◌, ℕ, List, [], ◌∷◌, ◌++◌, length, Contains, Option, Some, None, refl, sym, ap, subst, inl, inr, arith}
+use Rattle.std.proofs.Common.{◌≡◌, ◌≢◌, ◌∙◌, ℕ, List, [], length, Contains, Option, Some, None, sym, ap, subst, inl, inr}
 use Rattle.std.proofs.lemmas.List.Elements.{Contains-append_cases}
 use Rattle.art_nodes.specs.Inner as nodes
 use Rattle.art_nodes.specs.Leaf.{leaf_key}
 use Rattle.art_nodes.specs.declared.pointers.OpaqueNodePtr.{OpaqueNodePtr}
-use Rattle.art_nodes.specs.declared.leaf_node.LeafNode.{LeafNode}
 use Rattle.art_arena.specs.Arena.{NodeArena, Held, HeldInner, HeldLeaf, Nothing, held}
 use Rattle.art_arena.specs.Standing.{StandsIn, AllStandIn}
 use Rattle.art_arena.specs.Trees.{Tree, Leaf, Inner, Branches, NoBranch, Branch, branch_roots, places, branch_places, texts}

@@ -1,4 +1,4 @@
-use Rattle.std.proofs.Common.{◌∙◌, None, sym, subst}
+use Rattle.std.proofs.Common.{◌∙◌, sym, subst}
 use Rattle.std.specs.Option.{option_map}
 use Rattle.art_nodes.specs.Pointers.{slab_key}
 use Rattle.art_tree.specs.Art.{IsArt}

@@ -1,4 +1,4 @@
-use Rattle.std.proofs.Common.{◌≡◌, ◌∙◌, ℕ, List, refl, ap, sym, subst}
+use Rattle.std.proofs.Common.{◌∙◌, ℕ, List, refl, ap, sym, subst}
 use Rattle.std.specs.Option.{option_map}
 use Rattle.std.proofs.lemmas.Option.{same_Some}
 use Rattle.art_nodes.specs.Leaf.{leaf_key, leaf_value, with_value}

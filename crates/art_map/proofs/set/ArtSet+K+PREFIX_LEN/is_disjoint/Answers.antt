@@ -1,4 +1,3 @@
-use Rattle.std.proofs.Common.{◌∙◌}
 use Rattle.art_map.proofs.SetLemmas.{shared_either_way}
 use Rattle.art_map.proofs.set.ArtSet+K+PREFIX_LEN.is_disjoint.Goals as goal
 

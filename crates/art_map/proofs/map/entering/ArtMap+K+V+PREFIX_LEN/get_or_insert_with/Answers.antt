@@ -1,4 +1,4 @@
-use Rattle.std.proofs.Common.{◌≡◌, ◌∙◌, None, refl, sym, ap, subst}
+use Rattle.std.proofs.Common.{◌≡◌, ◌∙◌, refl, sym, ap, subst}
 use Rattle.std.specs.Option.{UnwrapsOrElse, option_map}
 use Rattle.art_tree.specs.Entries.{entries_of}
 use Rattle.art_tree.specs.Insertion as tree
