@@ -2,17 +2,22 @@
    bytes (a key before the longer ones that begin with it), or of their numbers. Any bytes are a key.
 
    What the caller owes, and no call tests:
-   - A handle is zeroed before its first call, is never copied, and is used by one call at a time. Zeroed, or
-     given to `free`, it holds no map: calls then return ART_NO_MAP, or 0, and change nothing.
-   - `key` points to `len` bytes, `key_out` to `capacity` writable ones; where there are none it may be null.
-     The other pointers are not null. What a call writes overlaps none of its other arguments.
+   - A handle is zeroed before its first call, and is never copied. Zeroed, or given to `free`, it holds no map:
+     calls then return ART_NO_MAP, or 0, and change nothing.
+   - While a call that takes a map without `const` runs, no other call uses that map, in any thread. Any number of
+     threads may make calls that take it with `const` at the same time: these write nothing behind it. One thread may
+     make a map, and others use and free it.
+   - `key` points to `len` bytes, `key_out` to `capacity` writable ones, an array to as many items; where there are
+     none it may be null. The other pointers are not null. What a call writes overlaps none of its other arguments;
+     only `key_out` may be the buffer that `from` is in.
    - No call is made from a signal handler, or from the forked child of a process with threads.
    - `malloc`, `realloc` and `free` are from one allocator, and align a block to each power of two up to 16
      that divides its size.
 
    Calls that return uint32_t return one of ART_*. `before`, `value` and the key are written only at ART_SOME,
-   `key_len` at ART_SOME and ART_SMALL_BUFFER. Each call of a map by bytes that takes a key may need memory for
-   it, also one that only looks. */
+   `key_len` at ART_SOME and ART_SMALL_BUFFER. A call that only looks needs memory for a key, or a prefix, of more
+   than 256 bytes, and never for a shorter one. Only art_bytes_insert returns ART_KEY_TOO_LONG: for a key of 2^32 - 2
+   bytes or more without a look at one of them, and in no case after it took memory. */
 #ifndef ART_H
 #define ART_H
 #include <stdbool.h>
@@ -21,6 +26,11 @@
 #ifdef __cplusplus
 extern "C" {
 #endif
+
+#define ART_VERSION_MAJOR 0u
+#define ART_VERSION_MINOR 1u
+#define ART_VERSION_PATCH 0u
+#define ART_VERSION (ART_VERSION_MAJOR * 10000u + ART_VERSION_MINOR * 100u + ART_VERSION_PATCH)
 
 #define ART_NONE 0u         /* done; there was no such entry */
 #define ART_SOME 1u         /* done; there was one, and it is written out */
@@ -34,55 +44,176 @@ extern "C" {
 typedef struct { void *opaque; } art_bytes_map;
 typedef struct { void *opaque; } art_u64_map;
 
+/* ART_VERSION of the header that the library was built with. */
+uint32_t art_version(void);
+
 /* ART_NONE, ART_NO_MEMORY or ART_HAS_MAP. */
 uint32_t art_bytes_new(art_bytes_map *map);
 void art_bytes_free(art_bytes_map *map);
-size_t art_bytes_len(art_bytes_map *map);
+size_t art_bytes_len(const art_bytes_map *map);
 void art_bytes_clear(art_bytes_map *map);
 /* Memory for so many more entries, but for their keys. */
 uint32_t art_bytes_reserve(art_bytes_map *map, size_t additional);
-/* Puts the entries in order of their keys into memory that just holds them. */
+/* Puts the entries in order of their keys into memory that just holds them. While it runs it takes memory for the
+   map twice, and for the entries once more; where that is refused, nothing has changed. */
 uint32_t art_bytes_compact(art_bytes_map *map);
 uint32_t art_bytes_insert(art_bytes_map *map, const uint8_t *key, size_t len, uint64_t value, uint64_t *before);
-uint32_t art_bytes_get(art_bytes_map *map, const uint8_t *key, size_t len, uint64_t *value);
+uint32_t art_bytes_get(const art_bytes_map *map, const uint8_t *key, size_t len, uint64_t *value);
 uint32_t art_bytes_remove(art_bytes_map *map, const uint8_t *key, size_t len, uint64_t *value);
 /* The first entry at (inclusive) or after a key; the last one at or before it. */
-uint32_t art_bytes_next(art_bytes_map *map, const uint8_t *from, size_t len, bool inclusive,
+uint32_t art_bytes_next(const art_bytes_map *map, const uint8_t *from, size_t len, bool inclusive,
                         uint8_t *key_out, size_t capacity, size_t *key_len, uint64_t *value);
-uint32_t art_bytes_previous(art_bytes_map *map, const uint8_t *from, size_t len, bool inclusive,
+uint32_t art_bytes_previous(const art_bytes_map *map, const uint8_t *from, size_t len, bool inclusive,
                             uint8_t *key_out, size_t capacity, size_t *key_len, uint64_t *value);
 /* The first entry at or after a key, of those whose keys begin with a prefix. */
-uint32_t art_bytes_next_with_prefix(art_bytes_map *map, const uint8_t *prefix, size_t prefix_len,
+uint32_t art_bytes_next_with_prefix(const art_bytes_map *map, const uint8_t *prefix, size_t prefix_len,
                                     const uint8_t *from, size_t len, bool inclusive,
                                     uint8_t *key_out, size_t capacity, size_t *key_len, uint64_t *value);
-uint32_t art_bytes_first(art_bytes_map *map, uint8_t *key_out, size_t capacity, size_t *key_len, uint64_t *value);
-uint32_t art_bytes_last(art_bytes_map *map, uint8_t *key_out, size_t capacity, size_t *key_len, uint64_t *value);
+/* The next entries at or after a key, of those whose keys begin with a prefix (of no bytes: of all): as many as `keys` has
+   bytes for, and the shorter of both arrays holds. The key of the entry `i` ends before keys[ends[i]], and begins where
+   that of the one before it ends, the first at keys[0]. Writes `count`: 0, but at ART_SOME. At ART_SMALL_BUFFER not one
+   entry fits, and the key of the next has *key_len bytes. */
+uint32_t art_bytes_next_many(const art_bytes_map *map, const uint8_t *prefix, size_t prefix_len,
+                             const uint8_t *from, size_t len, bool inclusive,
+                             uint8_t *keys, size_t capacity, size_t *ends, size_t ends_len,
+                             uint64_t *values, size_t values_len, size_t *count, size_t *key_len);
+uint32_t art_bytes_first(const art_bytes_map *map, uint8_t *key_out, size_t capacity, size_t *key_len, uint64_t *value);
+uint32_t art_bytes_last(const art_bytes_map *map, uint8_t *key_out, size_t capacity, size_t *key_len, uint64_t *value);
 /* The same, and the entry is removed where its key fits (ART_SOME). */
 uint32_t art_bytes_pop_first(art_bytes_map *map, uint8_t *key_out, size_t capacity, size_t *key_len, uint64_t *value);
 uint32_t art_bytes_pop_last(art_bytes_map *map, uint8_t *key_out, size_t capacity, size_t *key_len, uint64_t *value);
 /* How many keys begin with a prefix, or ART_NO_COUNT where memory for the prefix is refused. */
-size_t art_bytes_count_prefix(art_bytes_map *map, const uint8_t *prefix, size_t len);
+size_t art_bytes_count_prefix(const art_bytes_map *map, const uint8_t *prefix, size_t len);
 
 /* Only new, reserve, compact, insert, remove and pops may return ART_NO_MEMORY. */
 uint32_t art_u64_new(art_u64_map *map);
 void art_u64_free(art_u64_map *map);
-size_t art_u64_len(art_u64_map *map);
+size_t art_u64_len(const art_u64_map *map);
 void art_u64_clear(art_u64_map *map);
 uint32_t art_u64_reserve(art_u64_map *map, size_t additional);
+/* As of bytes. */
 uint32_t art_u64_compact(art_u64_map *map);
 uint32_t art_u64_insert(art_u64_map *map, uint64_t key, uint64_t value, uint64_t *before);
-uint32_t art_u64_get(art_u64_map *map, uint64_t key, uint64_t *value);
+uint32_t art_u64_get(const art_u64_map *map, uint64_t key, uint64_t *value);
 uint32_t art_u64_remove(art_u64_map *map, uint64_t key, uint64_t *value);
-uint32_t art_u64_next(art_u64_map *map, uint64_t from, bool inclusive, uint64_t *key, uint64_t *value);
-uint32_t art_u64_previous(art_u64_map *map, uint64_t from, bool inclusive, uint64_t *key, uint64_t *value);
-uint32_t art_u64_first(art_u64_map *map, uint64_t *key, uint64_t *value);
-uint32_t art_u64_last(art_u64_map *map, uint64_t *key, uint64_t *value);
+uint32_t art_u64_next(const art_u64_map *map, uint64_t from, bool inclusive, uint64_t *key, uint64_t *value);
+uint32_t art_u64_previous(const art_u64_map *map, uint64_t from, bool inclusive, uint64_t *key, uint64_t *value);
+uint32_t art_u64_first(const art_u64_map *map, uint64_t *key, uint64_t *value);
+uint32_t art_u64_last(const art_u64_map *map, uint64_t *key, uint64_t *value);
 /* The same, and the entry is removed. */
 uint32_t art_u64_pop_first(art_u64_map *map, uint64_t *key, uint64_t *value);
 uint32_t art_u64_pop_last(art_u64_map *map, uint64_t *key, uint64_t *value);
 /* The next entries at or after a key, as many as the shorter of both arrays holds: how many were written. */
-size_t art_u64_next_many(art_u64_map *map, uint64_t from, bool inclusive,
+size_t art_u64_next_many(const art_u64_map *map, uint64_t from, bool inclusive,
                          uint64_t *keys, size_t keys_len, uint64_t *values, size_t values_len);
+/* The same of the entries at or before a key, from the last one down. */
+size_t art_u64_previous_many(const art_u64_map *map, uint64_t from, bool inclusive,
+                             uint64_t *keys, size_t keys_len, uint64_t *values, size_t values_len);
+
+/* What the library has under the names of calls that only look wants a handle that no other call uses while it runs. So in
+   programs each of these names is that of a function which gives it a copy of the handle: threads have one each. */
+static inline size_t art_bytes_own_len(const art_bytes_map *map) {
+    art_bytes_map own = *map;
+    return art_bytes_len(&own);
+}
+#define art_bytes_len art_bytes_own_len
+static inline uint32_t art_bytes_own_get(const art_bytes_map *map, const uint8_t *key, size_t len, uint64_t *value) {
+    art_bytes_map own = *map;
+    return art_bytes_get(&own, key, len, value);
+}
+#define art_bytes_get art_bytes_own_get
+static inline uint32_t art_bytes_own_next(const art_bytes_map *map, const uint8_t *from, size_t len, bool inclusive,
+                                          uint8_t *key_out, size_t capacity, size_t *key_len, uint64_t *value) {
+    art_bytes_map own = *map;
+    return art_bytes_next(&own, from, len, inclusive, key_out, capacity, key_len, value);
+}
+#define art_bytes_next art_bytes_own_next
+static inline uint32_t art_bytes_own_previous(const art_bytes_map *map, const uint8_t *from, size_t len,
+                                              bool inclusive, uint8_t *key_out, size_t capacity, size_t *key_len,
+                                              uint64_t *value) {
+    art_bytes_map own = *map;
+    return art_bytes_previous(&own, from, len, inclusive, key_out, capacity, key_len, value);
+}
+#define art_bytes_previous art_bytes_own_previous
+static inline uint32_t art_bytes_own_next_with_prefix(const art_bytes_map *map, const uint8_t *prefix,
+                                                      size_t prefix_len, const uint8_t *from, size_t len,
+                                                      bool inclusive, uint8_t *key_out, size_t capacity,
+                                                      size_t *key_len, uint64_t *value) {
+    art_bytes_map own = *map;
+    return art_bytes_next_with_prefix(&own, prefix, prefix_len, from, len, inclusive, key_out, capacity, key_len,
+                                      value);
+}
+#define art_bytes_next_with_prefix art_bytes_own_next_with_prefix
+static inline uint32_t art_bytes_own_next_many(const art_bytes_map *map, const uint8_t *prefix, size_t prefix_len,
+                                               const uint8_t *from, size_t len, bool inclusive, uint8_t *keys,
+                                               size_t capacity, size_t *ends, size_t ends_len, uint64_t *values,
+                                               size_t values_len, size_t *count, size_t *key_len) {
+    art_bytes_map own = *map;
+    return art_bytes_next_many(&own, prefix, prefix_len, from, len, inclusive, keys, capacity, ends, ends_len, values,
+                               values_len, count, key_len);
+}
+#define art_bytes_next_many art_bytes_own_next_many
+static inline uint32_t art_bytes_own_first(const art_bytes_map *map, uint8_t *key_out, size_t capacity,
+                                           size_t *key_len, uint64_t *value) {
+    art_bytes_map own = *map;
+    return art_bytes_first(&own, key_out, capacity, key_len, value);
+}
+#define art_bytes_first art_bytes_own_first
+static inline uint32_t art_bytes_own_last(const art_bytes_map *map, uint8_t *key_out, size_t capacity,
+                                          size_t *key_len, uint64_t *value) {
+    art_bytes_map own = *map;
+    return art_bytes_last(&own, key_out, capacity, key_len, value);
+}
+#define art_bytes_last art_bytes_own_last
+static inline size_t art_bytes_own_count_prefix(const art_bytes_map *map, const uint8_t *prefix, size_t len) {
+    art_bytes_map own = *map;
+    return art_bytes_count_prefix(&own, prefix, len);
+}
+#define art_bytes_count_prefix art_bytes_own_count_prefix
+static inline size_t art_u64_own_len(const art_u64_map *map) {
+    art_u64_map own = *map;
+    return art_u64_len(&own);
+}
+#define art_u64_len art_u64_own_len
+static inline uint32_t art_u64_own_get(const art_u64_map *map, uint64_t key, uint64_t *value) {
+    art_u64_map own = *map;
+    return art_u64_get(&own, key, value);
+}
+#define art_u64_get art_u64_own_get
+static inline uint32_t art_u64_own_next(const art_u64_map *map, uint64_t from, bool inclusive, uint64_t *key,
+                                        uint64_t *value) {
+    art_u64_map own = *map;
+    return art_u64_next(&own, from, inclusive, key, value);
+}
+#define art_u64_next art_u64_own_next
+static inline uint32_t art_u64_own_previous(const art_u64_map *map, uint64_t from, bool inclusive, uint64_t *key,
+                                            uint64_t *value) {
+    art_u64_map own = *map;
+    return art_u64_previous(&own, from, inclusive, key, value);
+}
+#define art_u64_previous art_u64_own_previous
+static inline uint32_t art_u64_own_first(const art_u64_map *map, uint64_t *key, uint64_t *value) {
+    art_u64_map own = *map;
+    return art_u64_first(&own, key, value);
+}
+#define art_u64_first art_u64_own_first
+static inline uint32_t art_u64_own_last(const art_u64_map *map, uint64_t *key, uint64_t *value) {
+    art_u64_map own = *map;
+    return art_u64_last(&own, key, value);
+}
+#define art_u64_last art_u64_own_last
+static inline size_t art_u64_own_next_many(const art_u64_map *map, uint64_t from, bool inclusive, uint64_t *keys,
+                                           size_t keys_len, uint64_t *values, size_t values_len) {
+    art_u64_map own = *map;
+    return art_u64_next_many(&own, from, inclusive, keys, keys_len, values, values_len);
+}
+#define art_u64_next_many art_u64_own_next_many
+static inline size_t art_u64_own_previous_many(const art_u64_map *map, uint64_t from, bool inclusive, uint64_t *keys,
+                                               size_t keys_len, uint64_t *values, size_t values_len) {
+    art_u64_map own = *map;
+    return art_u64_previous_many(&own, from, inclusive, keys, keys_len, values, values_len);
+}
+#define art_u64_previous_many art_u64_own_previous_many
 
 #ifdef __cplusplus
 }

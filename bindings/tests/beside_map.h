@@ -79,6 +79,35 @@ template <class Source> class BytesBeside {
 
     Entry end_entry(bool first) const { return model.empty() ? model.end() : first ? model.begin() : std::prev(model.end()); }
 
+    // The first entry at or after a key that begins with the prefix.
+    Entry after_with(const std::string &prefix, const std::string &key, bool inclusive) const {
+        Entry at = model.lower_bound(std::max(prefix, key));
+        if (at != model.end() && at->first == key && !inclusive) ++at;
+        return at != model.end() && begins(at->first, prefix) ? at : model.end();
+    }
+
+    // The next entries, as many as fit into buffers of which none has much room.
+    void next_many(const std::string &prefix, const std::string &key, bool inclusive) {
+        size_t count = NO_LEN, written = 0, end = 0;
+        std::vector<size_t> ends(1 + source.below(6), NO_LEN);
+        std::vector<uint64_t> values(1 + source.below(6), NO_VALUE);
+        size_t ends_len = ends.size() - source.below(2), values_len = values.size() - source.below(2);
+        uint32_t status = art_bytes_next_many(&map, bytes(prefix), prefix.size(), bytes(key), key.size(), inclusive, room(), out.size(),
+                                              ends.data(), ends_len, values.data(), values_len, &count, &len);
+        Entry at = after_with(prefix, key, inclusive);
+        auto left = [&] { return at != model.end() && begins(at->first, prefix); };
+        for (; left() && written < std::min(ends_len, values_len) && at->first.size() <= out.size() - end; ++at, ++written) {
+            CHECK(std::equal(out.begin() + end, out.begin() + end + at->first.size(), bytes(at->first)));
+            end += at->first.size();
+            CHECK(ends[written] == end && values[written] == at->second);
+        }
+        CHECK(count == written && status == (written ? ART_SOME : left() ? ART_SMALL_BUFFER : ART_NONE));
+        CHECK(len == (status == ART_SMALL_BUFFER ? at->first.size() : NO_LEN));
+        CHECK(std::all_of(out.begin() + end, out.end(), [](uint8_t byte) { return byte == NO_BYTE; }));
+        CHECK(std::all_of(ends.begin() + written, ends.end(), [](size_t it) { return it == NO_LEN; }));
+        CHECK(std::all_of(values.begin() + written, values.end(), [](uint64_t it) { return it == NO_VALUE; }));
+    }
+
   public:
     explicit BytesBeside(Source &choices) : source(choices) {
         CHECK(art_bytes_new(&map) == ART_NONE);
@@ -103,6 +132,20 @@ template <class Source> class BytesBeside {
             inclusive = false;
         }
         CHECK(art_bytes_next(&map, bytes(key), key.size(), inclusive, nullptr, 0, &len, &value) == ART_NONE);
+        walk_back();
+    }
+
+    // Back again, where the key that is looked from lies in the buffer that the next one is written to.
+    void walk_back() {
+        size_t most = 1, at_len = 0;
+        for (const auto &entry : model) most = std::max(most, entry.first.size());
+        std::vector<uint8_t> at(most);
+        bool more = art_bytes_last(&map, at.data(), at.size(), &at_len, &value) == ART_SOME;
+        for (auto it = model.rbegin(); it != model.rend(); ++it) {
+            CHECK(more && at_len == it->first.size() && value == it->second && std::equal(at.begin(), at.begin() + at_len, bytes(it->first)));
+            more = art_bytes_previous(&map, at.data(), at_len, false, at.data(), at.size(), &at_len, &value) == ART_SOME;
+        }
+        CHECK(!more);
     }
 
     void call() {
@@ -134,11 +177,9 @@ template <class Source> class BytesBeside {
         case 10: {
             std::string prefix = source.key();
             prefix.resize(std::min<size_t>(prefix.size(), source.below(4)));
-            Entry wanted = model.lower_bound(std::max(prefix, key));
-            if (wanted != model.end() && wanted->first == key && !choice) ++wanted;
-            if (wanted != model.end() && !begins(wanted->first, prefix)) wanted = model.end();
-            found_entry(wanted, art_bytes_next_with_prefix(&map, bytes(prefix), prefix.size(), bytes(key), key.size(), choice, room(),
-                                                           out.size(), &len, &value));
+            found_entry(after_with(prefix, key, choice),
+                        art_bytes_next_with_prefix(&map, bytes(prefix), prefix.size(), bytes(key), key.size(), choice, room(),
+                                                   out.size(), &len, &value));
             break;
         }
         case 11:
@@ -161,6 +202,7 @@ template <class Source> class BytesBeside {
             break;
         }
         case 14:
+            next_many(key.substr(0, source.below(3)), key, choice);
             if (source.below(64) == 0) walk();
             break;
         default:
@@ -213,14 +255,20 @@ template <class Source> class NumbersBeside {
 
     Entry end_entry(bool first) const { return model.empty() ? model.end() : first ? model.begin() : std::prev(model.end()); }
 
-    // A batch, of which the shorter array says how long it may be.
-    void next_many(uint64_t key, bool inclusive) {
+    // A batch, of which the shorter array says how long it may be; up, or down.
+    void many(uint64_t key, bool inclusive, bool up) {
         std::vector<uint64_t> keys(source.below(20), NO_VALUE), values(source.below(20), NO_VALUE);
-        size_t count = art_u64_next_many(&map, key, inclusive, keys.empty() ? nullptr : keys.data(), keys.size(),
-                                         values.empty() ? nullptr : values.data(), values.size());
+        uint64_t *to_keys = keys.empty() ? nullptr : keys.data(), *to_values = values.empty() ? nullptr : values.data();
+        size_t count = up ? art_u64_next_many(&map, key, inclusive, to_keys, keys.size(), to_values, values.size())
+                          : art_u64_previous_many(&map, key, inclusive, to_keys, keys.size(), to_values, values.size());
         size_t most = std::min(keys.size(), values.size()), written = 0;
-        for (Entry it = after(key, inclusive); it != model.end() && written < most; ++it, written++)
+        Entry it = up ? after(key, inclusive) : before(key, inclusive);
+        while (it != model.end() && written < most) {
             CHECK(keys[written] == it->first && values[written] == it->second);
+            written++;
+            if (up) ++it;
+            else it = it == model.begin() ? model.end() : std::prev(it);
+        }
         CHECK(count == written);
         auto untouched = [](uint64_t number) { return number == NO_VALUE; };
         CHECK(std::all_of(keys.begin() + written, keys.end(), untouched));
@@ -287,10 +335,11 @@ template <class Source> class NumbersBeside {
             break;
         }
         case 13:
-            next_many(key, choice);
+            many(key, choice, true);
             break;
         case 14:
             if (source.below(64) == 0) walk();
+            many(key, choice, false);
             break;
         default:
             switch (source.below(64)) {

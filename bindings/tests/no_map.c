@@ -1,4 +1,4 @@
-/* Handles that hold no map: each call says so, and writes nothing. */
+/* Handles that hold no map: each call says so, and writes nothing. And lengths of keys that no map takes. */
 #include "../c/art.h"
 #include <stdio.h>
 #include <string.h>
@@ -20,6 +20,9 @@ static int without_bytes(art_bytes_map *map) {
     CHECK(art_bytes_next(map, key, 3, true, out, 4, &len, &value) == ART_NO_MAP);
     CHECK(art_bytes_previous(map, key, 3, true, out, 4, &len, &value) == ART_NO_MAP);
     CHECK(art_bytes_next_with_prefix(map, key, 1, key, 3, true, out, 4, &len, &value) == ART_NO_MAP);
+    size_t ends[2] = {6, 6}, count = 8;
+    CHECK(art_bytes_next_many(map, key, 1, key, 3, true, out, 4, ends, 2, &value, 1, &count, &len) == ART_NO_MAP);
+    CHECK(ends[0] == 6 && count == 8);
     CHECK(art_bytes_first(map, out, 4, &len, &value) == ART_NO_MAP);
     CHECK(art_bytes_last(map, out, 4, &len, &value) == ART_NO_MAP);
     CHECK(art_bytes_pop_first(map, out, 4, &len, &value) == ART_NO_MAP);
@@ -46,6 +49,7 @@ static int without_numbers(art_u64_map *map) {
     CHECK(art_u64_pop_first(map, &key, &value) == ART_NO_MAP);
     CHECK(art_u64_pop_last(map, &key, &value) == ART_NO_MAP);
     CHECK(art_u64_next_many(map, 0, true, keys, 2, values, 2) == 0);
+    CHECK(art_u64_previous_many(map, 9, true, keys, 2, values, 2) == 0);
     CHECK(key == 5 && value == 7 && keys[0] == 1 && values[1] == 2);
     art_u64_free(map);
     return 0;
@@ -64,6 +68,10 @@ int main(void) {
         CHECK(art_bytes_new(&names) == ART_HAS_MAP && art_u64_new(&numbers) == ART_HAS_MAP);
         CHECK(art_bytes_get(&names, (const uint8_t *)"tin", 3, &value) == ART_SOME && value == 50);
         CHECK(art_u64_get(&numbers, 50, &value) == ART_SOME && value == 3);
+        /* Refused by the length alone: no byte of such a key is looked at. */
+        CHECK(art_bytes_insert(&names, (const uint8_t *)"tin", ((size_t)1 << 32) - 2, 1, &value) == ART_KEY_TOO_LONG);
+        CHECK(art_bytes_insert(&names, (const uint8_t *)"tin", SIZE_MAX, 1, &value) == ART_KEY_TOO_LONG);
+        CHECK(art_bytes_len(&names) == 1 && value == 3);
         art_bytes_free(&names);
         art_u64_free(&numbers);
     }

@@ -65,10 +65,12 @@ struct Maps {
     }
 };
 
-// A call, which returns a status, and may be made again.
+// A call, which returns a status, and may be made again. One that only looks takes memory for a key of 300 bytes alone.
 struct Call {
     uint32_t (*make)(Maps &maps, uint64_t with);
     uint64_t with;
+    bool looks;
+    bool takes_memory() const { return !looks || with % 7 == 6; }
 };
 
 static const uint8_t *name(uint64_t with, uint8_t *room, size_t *len) {
@@ -83,7 +85,8 @@ static const uint8_t *name(uint64_t with, uint8_t *room, size_t *len) {
 
 static std::vector<Call> script() {
     std::vector<Call> calls;
-    auto add = [&calls](uint32_t (*make)(Maps &, uint64_t), uint64_t with) { calls.push_back({make, with}); };
+    auto add = [&calls](uint32_t (*make)(Maps &, uint64_t), uint64_t with) { calls.push_back({make, with, false}); };
+    auto look = [&calls](uint32_t (*make)(Maps &, uint64_t), uint64_t with) { calls.push_back({make, with, true}); };
     add(CALL(return art_bytes_new(&maps.bytes);), 0);
     add(CALL(return art_u64_new(&maps.numbers);), 0);
     for (uint64_t i = 0; i < 90; i++) {
@@ -94,13 +97,15 @@ static std::vector<Call> script() {
     add(CALL(return art_u64_reserve(&maps.numbers, with);), 100);
     add(CALL(return art_bytes_compact(&maps.bytes);), 0);
     add(CALL(return art_u64_compact(&maps.numbers);), 0);
-    for (uint64_t i = 0; i < 90; i += 7) {
-        add(CALL(return art_bytes_get(&maps.bytes, key, len, &maps.value);), i * 37);
-        add(CALL(return art_bytes_next(&maps.bytes, key, len, true, maps.key, sizeof maps.key, &maps.len, &maps.value);), i);
-        add(CALL(return art_bytes_previous(&maps.bytes, key, len, false, maps.key, sizeof maps.key, &maps.len, &maps.value);), i);
-        add(CALL(return art_bytes_next_with_prefix(&maps.bytes, key, len / 2, key, len, true, maps.key, sizeof maps.key, &maps.len, &maps.value);), i);
-        add(CALL(return art_bytes_count_prefix(&maps.bytes, key, len) == ART_NO_COUNT ? ART_NO_MEMORY : ART_NONE;), i);
-        add(CALL(return art_u64_get(&maps.numbers, with, &maps.value);), i);
+    for (uint64_t i = 0; i < 90; i += 5) {
+        look(CALL(return art_bytes_get(&maps.bytes, key, len, &maps.value);), i * 37);
+        look(CALL(return art_bytes_next(&maps.bytes, key, len, true, maps.key, sizeof maps.key, &maps.len, &maps.value);), i);
+        look(CALL(return art_bytes_previous(&maps.bytes, key, len, false, maps.key, sizeof maps.key, &maps.len, &maps.value);), i);
+        look(CALL(return art_bytes_next_with_prefix(&maps.bytes, key, len / 2, key, len, true, maps.key, sizeof maps.key, &maps.len, &maps.value);), i);
+        look(CALL(size_t ends[4]; size_t count; uint64_t values[4];
+                  return art_bytes_next_many(&maps.bytes, key, len / 2, key, len, true, maps.key, sizeof maps.key, ends, 4, values, 4, &count, &maps.len);), i);
+        look(CALL(return art_bytes_count_prefix(&maps.bytes, key, len) == ART_NO_COUNT ? ART_NO_MEMORY : ART_NONE;), i);
+        look(CALL(return art_u64_get(&maps.numbers, with, &maps.value);), i);
     }
     for (uint64_t i = 0; i < 45; i++) {
         add(CALL(return art_bytes_remove(&maps.bytes, key, len, &maps.value);), i * 74);
@@ -132,7 +137,7 @@ static bool run(const std::vector<Call> &calls, long allocation) {
             CHECK(status == ART_NONE || status == ART_SOME);
             continue;
         }
-        CHECK(status == ART_NO_MEMORY);
+        CHECK(status == ART_NO_MEMORY && call.takes_memory());
         CHECK(maps.entries() == entries);
         CHECK(maps.len == untouched.len && maps.number == untouched.number && maps.value == untouched.value);
         CHECK(std::memcmp(maps.key, untouched.key, sizeof maps.key) == 0);

@@ -13,9 +13,15 @@ except ImportError as error:
 
 
 class SortedMapProtocol(mapping_tests.TestMappingProtocol):
-    """All tests of `BasicTestMappingProtocol` and of `TestMappingProtocol`: none is skipped."""
+    """All tests of `BasicTestMappingProtocol` and of `TestMappingProtocol`. Of that of popitem one line is left out, by which
+    it takes no argument: here it takes an index."""
 
     type2test = SortedMap
+
+    def test_popitem(self):
+        made = self._full_mapping(self.reference)
+        self.assertEqual(dict(made.popitem() for _ in range(len(made))), self.reference)
+        self.assertRaises(KeyError, made.popitem)
 
 
 class SortedMapIteration(unittest.TestCase):

@@ -70,6 +70,53 @@ class Types(unittest.TestCase):
                 self.assertRaises(TypeError, made.__setitem__, key, 1)
                 self.assertRaises(TypeError, made.pop, key, 1)
 
+    def test_a_key_of_a_subclass_is_what_it_holds(self):
+        class Bytes(bytes):
+            def __len__(self):
+                return 4000
+
+            def __bytes__(self):
+                return b"other"
+
+            def __getitem__(self, index):
+                return b"other"
+
+            def rstrip(self, *_):
+                return "no bytes"
+
+        class Str(str):
+            def __len__(self):
+                return 4000
+
+            def encode(self, *_):
+                return b"other"
+
+        class Int(int):
+            def __sub__(self, other):
+                return 2**70
+
+            def __lt__(self, other):
+                raise AssertionError
+
+        for plain, kind in ((b"tin", Bytes), ("tin", Str), (5, Int)):
+            made = SortedMap()
+            made[kind(plain)] = 1
+            self.assertEqual((list(made), made[kind(plain)], made[plain]), ([plain], 1, 1))
+            self.assertIs(type(made.peekitem()[0]), type(plain))
+            self.assertEqual(list(made.irange(kind(plain), kind(plain))), [plain])
+            self.assertEqual(made.pop(kind(plain)), 1)
+        with_prefix = SortedMap.fromkeys([b"t", b"tin", b"tin\xff", b"tit"])
+        self.assertEqual(list(with_prefix.prefix(Bytes(b"tin"))), [b"tin", b"tin\xff"])
+        self.assertEqual(with_prefix.count_prefix(Bytes(b"tin")), 2)
+        self.assertEqual(list(SortedMap({5: 1}).irange(Int(-(2**80)), Int(2**80))), [5])
+
+    def test_what_only_says_that_it_is_a_key_is_none(self):
+        class Liar:
+            __class__ = bytes
+
+        self.assertRaises(TypeError, SortedMap().__setitem__, Liar(), 1)
+        self.assertRaises(TypeError, SortedMap({b"a": 1}).__getitem__, Liar())
+
     def test_an_int_has_no_prefix(self):
         self.assertRaises(TypeError, SortedMap({1: 2}).prefix, 1)
         self.assertRaises(TypeError, SortedMap({1: 2}).count_prefix, 1)
@@ -108,6 +155,7 @@ class Ranges(unittest.TestCase):
         self.assertEqual((made.peekitem(-6), made.peekitem(5)), (("", 0), ("titanium", 22)))
         self.assertRaises(IndexError, made.peekitem, 6)
         self.assertRaises(IndexError, made.peekitem, -7)
+        self.assertRaises(IndexError, made.peekitem, 2**70)
         self.assertRaises(IndexError, SortedMap().peekitem)
         self.assertEqual((made.popitem(), made.popitem(last=False)), (("titanium", 22), ("", 0)))
         self.assertEqual(len(made), 4)
@@ -128,6 +176,13 @@ class Changes(unittest.TestCase):
                 change(made)
                 self.assertRaises(RuntimeError, next, steps)
 
+    def test_a_change_before_the_first_step_ends_an_iteration(self):
+        for made in (SortedMap({1: 2}), SortedMap()):
+            for walk in (iter, reversed, lambda made: iter(made.items())):
+                steps = walk(made)
+                made[len(made) + 5] = 0
+                self.assertRaises(RuntimeError, next, steps)
+
     def test_values_may_be_set_during_an_iteration(self):
         made = SortedMap.fromkeys(range(1000), 1)
         for key in made:
@@ -146,12 +201,14 @@ class Changes(unittest.TestCase):
 
     def test_places_are_used_again(self):
         made = SortedMap()
+        sizes = []
         for turn in range(50):
             for key in range(20):
                 made[key] = turn
             for key in range(20):
                 del made[key]
-        self.assertEqual((len(made), len(made._values)), (0, 20))
+            sizes.append(sys.getsizeof(made))
+        self.assertEqual((len(made), sizes[1:]), (0, sizes[:-1]))
 
 
 class Drops(unittest.TestCase):
@@ -207,7 +264,7 @@ for call in (lambda: made.__setitem__(long, 1), lambda: made.get(long), lambda: 
     else:
         raise SystemExit("no MemoryError")
 made[b"gold"] = 79
-assert made == {b"tin": 50, b"gold": 79} and len(made._values) == 2, made
+assert made == {b"tin": 50, b"gold": 79} and len(made) == 2, made
 """
 
 

@@ -1,11 +1,15 @@
+use crate::bounds::KeyBounds;
+use crate::boxed_iter::{ExtractIf, IntoIter, IntoKeys, IntoValues, Iter, IterMut, Range, RangeMut, Values, ValuesMut};
+use crate::entry::{Entry, OccupiedEntry, VacantEntry};
 use crate::key::{AsKey, Key};
-use crate::range::{self, Keys};
+use crate::range::{Cursor, Keys};
 use crate::refusal::{granted, Refusal};
 use crate::words::{Shown, WordMap};
-use std::iter;
+use std::cmp::Ordering;
+use std::hash::{Hash, Hasher};
 use std::marker::PhantomData;
 use std::mem;
-use std::ops::{Index, RangeBounds};
+use std::ops::Index;
 use std::{fmt, ptr};
 
 #[cfg(not(target_pointer_width = "64"))]
@@ -39,45 +43,22 @@ compile_error!("a value's address has to fit 64 bits");
 /// ```
 pub struct Map<V, K: Key = Vec<u8>> {
     // INVARIANT: each value is the address of a box that only this map has.
-    words: WordMap<K>,
+    pub(crate) words: WordMap<K>,
     values: PhantomData<V>,
 }
-
-/// The entries of a [`Map`], from either end.
-pub type Iter<'a, V, K> = iter::Map<range::Iter<'a, K>, fn((K, u64)) -> (K, &'a V)>;
-
-/// The same, with values that can be changed.
-pub type IterMut<'a, V, K> = iter::Map<range::Iter<'a, K>, fn((K, u64)) -> (K, &'a mut V)>;
-
-/// The entries of a [`Map`] between two bounds, from either end.
-pub type Range<'a, V, K> = iter::Map<range::Range<'a, K>, fn((K, u64)) -> (K, &'a V)>;
-
-/// The same, with values that can be changed.
-pub type RangeMut<'a, V, K> = iter::Map<range::Range<'a, K>, fn((K, u64)) -> (K, &'a mut V)>;
 
 // The word for a box, which is then this word's alone.
 fn word_of<V>(value: Box<V>) -> u64 {
     Box::into_raw(value).expose_provenance() as u64
 }
 
-fn address<V>(word: u64) -> *mut V {
+pub(crate) fn address<V>(word: u64) -> *mut V {
     ptr::with_exposed_provenance_mut(word as usize)
 }
 
 // The box of a word of `word_of`, which no map holds any more.
-unsafe fn box_of<V>(word: u64) -> Box<V> {
+pub(crate) unsafe fn box_of<V>(word: u64) -> Box<V> {
     Box::from_raw(address(word))
-}
-
-// The value of a word that a map holds. Not marked unsafe, so that it can be mapped over an iterator, but
-// only for words of a map that is borrowed as long.
-fn lent<'a, V, K>((key, word): (K, u64)) -> (K, &'a V) {
-    (key, unsafe { &*address(word) })
-}
-
-// The same of a map that is borrowed mutably. An iterator gives each entry once, and no two have one box.
-fn lent_mut<'a, V, K>((key, word): (K, u64)) -> (K, &'a mut V) {
-    (key, unsafe { &mut *address(word) })
 }
 
 impl<V, K: Key> Map<V, K> {
@@ -119,18 +100,28 @@ impl<V, K: Key> Map<V, K> {
 
     /// Sets the value of a key, and returns the one that it had.
     pub fn insert(&mut self, key: impl AsKey<K>, value: V) -> Option<V> {
-        granted(self.try_insert(key, value).map_err(|(_, refusal)| refusal))
+        granted(self.try_put(key, value).map_err(|(_, refusal)| refusal))
     }
 
     /// The same, where memory is found and the key is not too long. Else the value comes back.
-    pub fn try_insert(&mut self, key: impl AsKey<K>, value: V) -> Result<Option<V>, (V, Refusal)> {
+    pub fn try_put(&mut self, key: impl AsKey<K>, value: V) -> Result<Option<V>, (V, Refusal)> {
+        // The key first: what it is may be asked of code that panics.
+        let sought = key.as_key();
         let word = word_of(Box::new(value));
-        match self.words.put(key.as_key(), word) {
+        match self.words.put(sought, word) {
             // SAFETY: the map has the new word in its place.
             Ok(before) => Ok(before.map(|before| *unsafe { box_of(before) })),
             // SAFETY: the map has not changed.
             Err(refusal) => Err((*unsafe { box_of(word) }, refusal)),
         }
+    }
+
+    /// Adds a key that is not there, and returns the word of its value.
+    pub(crate) fn add(&mut self, key: &K::Sought, value: V) -> u64 {
+        let word = word_of(Box::new(value));
+        // SAFETY: where it is refused, the map does not have the word.
+        granted(self.words.put(key, word).inspect_err(|_| drop(unsafe { box_of::<V>(word) })));
+        word
     }
 
     /// The value of a key.
@@ -145,6 +136,39 @@ impl<V, K: Key> Map<V, K> {
         self.words.get(key).map(|word| unsafe { &mut *address(word) })
     }
 
+    /// The key, as the map has it, and its value.
+    pub fn get_key_value(&self, key: impl AsKey<K>) -> Option<(K, &V)> {
+        // SAFETY: the map is borrowed as long.
+        self.words.get_key_value(key).map(|(key, word)| (key, unsafe { &*address(word) }))
+    }
+
+    /// The place of a key, with its entry or without one.
+    ///
+    /// ```
+    /// let mut lines = verified_art::Map::<Vec<u64>>::new();
+    /// for (number, word) in [(1, "tin"), (2, "gold"), (3, "tin")] {
+    ///     lines.entry(word).or_default().push(number);
+    /// }
+    /// assert_eq!(lines["tin"], [1, 3]);
+    /// ```
+    pub fn entry(&mut self, key: impl AsKey<K>) -> Entry<'_, V, K> {
+        let key = key.as_key().to_owned();
+        match granted(self.words.look(key.sought())) {
+            Some(word) => Entry::Occupied(OccupiedEntry { map: self, key, word }),
+            None => Entry::Vacant(VacantEntry { map: self, key }),
+        }
+    }
+
+    /// The entry with the least key, to be changed or removed.
+    pub fn first_entry(&mut self) -> Option<OccupiedEntry<'_, V, K>> {
+        self.words.first_key_value().map(|(key, word)| OccupiedEntry { map: self, key, word })
+    }
+
+    /// The entry with the greatest key, to be changed or removed.
+    pub fn last_entry(&mut self) -> Option<OccupiedEntry<'_, V, K>> {
+        self.words.last_key_value().map(|(key, word)| OccupiedEntry { map: self, key, word })
+    }
+
     /// Whether there is an entry with this key.
     pub fn contains_key(&self, key: impl AsKey<K>) -> bool {
         self.words.contains_key(key)
@@ -152,18 +176,30 @@ impl<V, K: Key> Map<V, K> {
 
     /// Removes a key, and returns its value.
     pub fn remove(&mut self, key: impl AsKey<K>) -> Option<V> {
+        self.remove_sought(key.as_key())
+    }
+
+    /// Removes a key, and returns it with its value.
+    pub fn remove_entry(&mut self, key: impl AsKey<K>) -> Option<(K, V)> {
+        let sought = key.as_key();
+        self.remove_sought(sought).map(|value| (sought.to_owned(), value))
+    }
+
+    pub(crate) fn remove_sought(&mut self, key: &K::Sought) -> Option<V> {
         // SAFETY: the map does not have it any more.
-        self.words.remove(key).map(|word| *unsafe { box_of(word) })
+        granted(self.words.take(key)).map(|word| *unsafe { box_of(word) })
     }
 
     /// The entry with the least key.
     pub fn first_key_value(&self) -> Option<(K, &V)> {
-        self.words.first_key_value().map(lent)
+        // SAFETY: the map is borrowed as long.
+        self.words.first_key_value().map(|(key, word)| (key, unsafe { &*address(word) }))
     }
 
     /// The entry with the greatest key.
     pub fn last_key_value(&self) -> Option<(K, &V)> {
-        self.words.last_key_value().map(lent)
+        // SAFETY: the map is borrowed as long.
+        self.words.last_key_value().map(|(key, word)| (key, unsafe { &*address(word) }))
     }
 
     /// Removes the entry with the least key.
@@ -178,24 +214,50 @@ impl<V, K: Key> Map<V, K> {
         self.words.pop_last().map(|(key, word)| (key, *unsafe { box_of(word) }))
     }
 
+    /// Moves all entries of another map into this one, where they replace those with the same keys.
+    pub fn append(&mut self, other: &mut Self) {
+        // SAFETY: no map has a word that is replaced, or that is refused.
+        self.words.append_words(&mut other.words, |word| drop(unsafe { box_of::<V>(word) }));
+    }
+
+    /// Moves the entries from a key on into a map of their own.
+    pub fn split_off(&mut self, key: impl AsKey<K>) -> Self {
+        Map { words: self.words.split_off(key), values: PhantomData }
+    }
+
+    /// Removes the entries that a closure does not keep. It may change their values.
+    pub fn retain(&mut self, mut keeps: impl FnMut(&K, &mut V) -> bool) {
+        self.extract_if(.., |key, value| !keeps(key, value)).for_each(drop);
+    }
+
+    /// The entries between two bounds that a closure picks: each is removed as it is given. Those that are not asked for
+    /// stay.
+    pub fn extract_if<F: FnMut(&K, &mut V) -> bool>(
+        &mut self,
+        bounds: impl KeyBounds<K>,
+        picks: F,
+    ) -> ExtractIf<'_, V, K, F> {
+        ExtractIf::new(self, Cursor::new(bounds.ends()), picks)
+    }
+
     /// The entries between two bounds, from either end: none where the start is beyond the end.
-    pub fn range<Q: AsKey<K>>(&self, bounds: impl RangeBounds<Q>) -> Range<'_, V, K> {
-        self.words.range(bounds).map(lent)
+    pub fn range(&self, bounds: impl KeyBounds<K>) -> Range<'_, V, K> {
+        Range(self.words.range(bounds), PhantomData)
     }
 
     /// The same, with values that can be changed.
-    pub fn range_mut<Q: AsKey<K>>(&mut self, bounds: impl RangeBounds<Q>) -> RangeMut<'_, V, K> {
-        self.words.range(bounds).map(lent_mut)
+    pub fn range_mut(&mut self, bounds: impl KeyBounds<K>) -> RangeMut<'_, V, K> {
+        RangeMut(self.words.range(bounds), PhantomData)
     }
 
     /// All entries, in ascending order of their keys.
     pub fn iter(&self) -> Iter<'_, V, K> {
-        self.words.iter().map(lent)
+        Iter(self.words.iter(), PhantomData)
     }
 
     /// The same, with values that can be changed.
     pub fn iter_mut(&mut self) -> IterMut<'_, V, K> {
-        self.words.iter().map(lent_mut)
+        IterMut(self.words.iter(), PhantomData)
     }
 
     /// All keys, in ascending order.
@@ -204,20 +266,30 @@ impl<V, K: Key> Map<V, K> {
     }
 
     /// All values, in ascending order of their keys.
-    pub fn values(&self) -> impl DoubleEndedIterator<Item = &V> + ExactSizeIterator {
-        self.iter().map(|(_, value)| value)
+    pub fn values(&self) -> Values<'_, V, K> {
+        Values(self.iter())
     }
 
     /// The same, with values that can be changed.
-    pub fn values_mut(&mut self) -> impl DoubleEndedIterator<Item = &mut V> + ExactSizeIterator {
-        self.iter_mut().map(|(_, value)| value)
+    pub fn values_mut(&mut self) -> ValuesMut<'_, V, K> {
+        ValuesMut(self.iter_mut())
+    }
+
+    /// All keys, in ascending order, by value.
+    pub fn into_keys(self) -> IntoKeys<V, K> {
+        IntoKeys(self.into_iter())
+    }
+
+    /// All values, in ascending order of their keys, by value.
+    pub fn into_values(self) -> IntoValues<V, K> {
+        IntoValues(self.into_iter())
     }
 }
 
 impl<V> Map<V, Vec<u8>> {
     /// The entries whose keys begin with a prefix.
     pub fn prefix(&self, prefix: impl AsRef<[u8]>) -> Range<'_, V, Vec<u8>> {
-        self.words.prefix(prefix).map(lent)
+        Range(self.words.prefix(prefix), PhantomData)
     }
 
     /// How many keys begin with a prefix. Takes time linear in their number.
@@ -226,16 +298,16 @@ impl<V> Map<V, Vec<u8>> {
     }
 }
 
-// Drops the values of the entries that an iterator gives. Where memory for a step is refused the rest are
-// kept for ever: there is no other way to them.
-struct DropsRest<'a, 'b, V, K: Key>(&'a mut range::Iter<'b, K>, PhantomData<V>);
+// Drops the values of the entries to come. Where memory for a step is refused the rest are kept for ever: there is no
+// other way to them.
+struct DropsRest<'a, V, K: Key>(&'a mut Cursor<K>, &'a WordMap<K>, PhantomData<V>);
 
-impl<V, K: Key> Drop for DropsRest<'_, '_, V, K> {
+impl<V, K: Key> Drop for DropsRest<'_, V, K> {
     fn drop(&mut self) {
-        while let Ok(Some((_, word))) = self.0.try_next() {
+        while let Ok(Some((_, word))) = self.0.try_next(self.1) {
             // Where a value's own drop panics, this one goes on with the others.
-            let rest = DropsRest::<V, K>(self.0, PhantomData);
-            // SAFETY: the map is being dropped, and an iterator gives each entry once.
+            let rest = DropsRest::<V, K>(self.0, self.1, PhantomData);
+            // SAFETY: the map is being dropped, and a cursor gives each entry once.
             drop(unsafe { box_of::<V>(word) });
             mem::forget(rest);
         }
@@ -244,7 +316,7 @@ impl<V, K: Key> Drop for DropsRest<'_, '_, V, K> {
 
 impl<V, K: Key> Drop for Map<V, K> {
     fn drop(&mut self) {
-        drop(DropsRest::<V, K>(&mut self.words.iter(), PhantomData));
+        drop(DropsRest::<V, K>(&mut Cursor::all(), &self.words, PhantomData));
     }
 }
 
@@ -259,9 +331,7 @@ impl<V: Clone, K: Key> Clone for Map<V, K> {
         let mut copy = Self::new();
         copy.reserve(self.len());
         for (key, value) in self {
-            let word = word_of(Box::new(value.clone()));
-            // SAFETY: where it is refused, the copy does not have the word.
-            granted(copy.words.put(key.sought(), word).inspect_err(|_| drop(unsafe { box_of::<V>(word) })));
+            copy.add(key.sought(), value.clone());
         }
         copy
     }
@@ -274,6 +344,25 @@ impl<V: PartialEq, K: Key> PartialEq for Map<V, K> {
 }
 
 impl<V: Eq, K: Key> Eq for Map<V, K> {}
+
+impl<V: PartialOrd, K: Key> PartialOrd for Map<V, K> {
+    fn partial_cmp(&self, other: &Self) -> Option<Ordering> {
+        self.iter().partial_cmp(other)
+    }
+}
+
+impl<V: Ord, K: Key> Ord for Map<V, K> {
+    fn cmp(&self, other: &Self) -> Ordering {
+        self.iter().cmp(other)
+    }
+}
+
+impl<V: Hash, K: Key> Hash for Map<V, K> {
+    fn hash<H: Hasher>(&self, state: &mut H) {
+        self.len().hash(state);
+        self.iter().for_each(|entry| entry.hash(state));
+    }
+}
 
 impl<V: fmt::Debug, K: Key> fmt::Debug for Map<V, K> {
     fn fmt(&self, out: &mut fmt::Formatter<'_>) -> fmt::Result {
@@ -296,6 +385,14 @@ impl<V, K: Key, Q: AsKey<K>> Extend<(Q, V)> for Map<V, K> {
     fn extend<I: IntoIterator<Item = (Q, V)>>(&mut self, entries: I) {
         for (key, value) in entries {
             self.insert(key, value);
+        }
+    }
+}
+
+impl<'a, V: Copy, K: Key, Q: AsKey<K>> Extend<(Q, &'a V)> for Map<V, K> {
+    fn extend<I: IntoIterator<Item = (Q, &'a V)>>(&mut self, entries: I) {
+        for (key, value) in entries {
+            self.insert(key, *value);
         }
     }
 }
@@ -340,26 +437,3 @@ impl<V, K: Key> IntoIterator for Map<V, K> {
         IntoIter(self)
     }
 }
-
-/// The entries of a [`Map`] by value, from either end: each is removed as it is given.
-pub struct IntoIter<V, K: Key>(Map<V, K>);
-
-impl<V, K: Key> Iterator for IntoIter<V, K> {
-    type Item = (K, V);
-
-    fn next(&mut self) -> Option<(K, V)> {
-        self.0.pop_first()
-    }
-
-    fn size_hint(&self) -> (usize, Option<usize>) {
-        (self.0.len(), Some(self.0.len()))
-    }
-}
-
-impl<V, K: Key> DoubleEndedIterator for IntoIter<V, K> {
-    fn next_back(&mut self) -> Option<(K, V)> {
-        self.0.pop_last()
-    }
-}
-
-impl<V, K: Key> ExactSizeIterator for IntoIter<V, K> {}

@@ -3,9 +3,10 @@ use crate::raw::{self, RawMap};
 use crate::refusal::{found, Refusal};
 use std::collections::VecDeque;
 use std::fmt;
+use std::hash::Hash;
 
 /// What the keys of a map are: `Vec<u8>` (any bytes, in lexicographic order) or `u64`.
-pub trait Key: Calls + Clone + Ord + Default {}
+pub trait Key: Calls + Clone + Ord + Hash + Default {}
 
 impl Key for Vec<u8> {}
 impl Key for u64 {}
@@ -35,7 +36,7 @@ impl AsKey<u64> for &u64 {
     }
 }
 
-/// Which entry to find.
+/// Which entry to find, or to remove.
 pub enum Find<'a, Q: ?Sized> {
     First,
     Last,
@@ -50,7 +51,8 @@ pub enum Find<'a, Q: ?Sized> {
 ///
 /// # Safety
 ///
-/// In each call but `make` the handle holds a map, and no other call of this map runs at the same time.
+/// In each call but `make` the handle holds a map, and no other call has this handle. One that changes the map runs alone
+/// of all calls of this map. Those that only look, `len`, `get`, `fetch` and what `find` does but for pops, may be given a copy.
 pub trait Calls: Sized {
     type Sought: ?Sized + Ord + ToOwned<Owned = Self>;
 
@@ -156,19 +158,39 @@ impl Calls for Vec<u8> {
         })
     }
 
-    // One entry: the library has no call for several.
     unsafe fn fetch(
         map: *mut RawMap,
         from: &[u8],
         inclusive: bool,
-        _most: usize,
+        most: usize,
         into: &mut VecDeque<(Vec<u8>, u64)>,
     ) -> Result<(), Refusal> {
-        let entry = with_buffer(|key, len, value| {
-            raw::art_bytes_next(map, from.as_ptr(), from.len(), inclusive, key.as_mut_ptr(), key.len(), len, value)
-        })?;
-        into.extend(entry);
-        Ok(())
+        let (mut ends, mut values) = ([0; MOST_FETCHED], [0; MOST_FETCHED]);
+        let most = most.min(MOST_FETCHED);
+        let (mut few, mut many) = ([0; 1024], Vec::new());
+        let mut keys = &mut few[..];
+        loop {
+            let (mut count, mut key_len) = (0, 0);
+            let (out, room, no_prefix) = (keys.as_mut_ptr(), keys.len(), [].as_ptr());
+            let (ends_out, values_out) = (ends.as_mut_ptr(), values.as_mut_ptr());
+            #[rustfmt::skip]
+            let status = raw::art_bytes_next_many(
+                map, no_prefix, 0, from.as_ptr(), from.len(), inclusive, out, room, ends_out, most, values_out, most,
+                &mut count, &mut key_len,
+            );
+            if status == raw::SMALL_BUFFER {
+                many.resize(key_len, 0);
+                keys = &mut many;
+                continue;
+            }
+            found(status)?;
+            let mut begin = 0;
+            for (&end, &value) in ends.iter().zip(&values).take(count) {
+                into.push_back((keys[begin..end].to_vec(), value));
+                begin = end;
+            }
+            return Ok(());
+        }
     }
 
     fn show(&self, out: &mut fmt::Formatter<'_>) -> fmt::Result {

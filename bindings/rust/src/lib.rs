@@ -5,13 +5,17 @@
 //! crate is plain Rust over it, and tested.
 #![warn(missing_docs)]
 
+mod bounds;
 mod boxed;
+mod boxed_iter;
+pub mod entry;
 mod key;
 mod range;
 mod raw;
 mod refusal;
 mod words;
 
+pub use bounds::KeyBounds;
 pub use boxed::Map;
 pub use key::{AsKey, Key};
 pub use refusal::Refusal;
@@ -19,10 +23,12 @@ pub use words::{ByteMap, NumberMap, WordMap};
 
 /// The iterators of the maps.
 pub mod iter {
-    pub use crate::boxed::{
-        IntoIter as MapIntoIter, Iter as MapIter, IterMut as MapIterMut, Range as MapRange, RangeMut as MapRangeMut,
+    pub use crate::boxed_iter::{
+        ExtractIf as MapExtractIf, IntoIter as MapIntoIter, IntoKeys as MapIntoKeys, IntoValues as MapIntoValues,
+        Iter as MapIter, IterMut as MapIterMut, Range as MapRange, RangeMut as MapRangeMut, Values as MapValues,
+        ValuesMut as MapValuesMut,
     };
-    pub use crate::range::{IntoIter, Iter, Keys, Range, Values};
+    pub use crate::range::{ExtractIf, IntoIter, IntoKeys, IntoValues, Iter, Keys, Range, Values};
 }
 
 /// The example of the README.

@@ -1,15 +1,15 @@
-//! Iterators. The last key is the cursor, and the map cannot change while one is borrowed from it. None is
-//! `Clone`: `IterMut` of `Map` rests on each entry being given once.
+//! Iterators over words. The last key is the cursor, and the map cannot change while one is borrowed from it.
 use crate::key::{Find, Key};
 use crate::refusal::{granted, Refusal};
-use crate::words::WordMap;
+use crate::words::{Shown, WordMap};
 use std::collections::VecDeque;
-use std::iter;
+use std::fmt;
+use std::iter::FusedIterator;
 use std::ops::Bound;
 
-/// The entries between two bounds, from either end.
-pub struct Range<'a, K: Key> {
-    map: &'a WordMap<K>,
+/// Where a walk between two bounds stands, from either end. Entries that it gave may be removed meanwhile.
+#[derive(Clone)]
+pub(crate) struct Cursor<K: Key> {
     /// Entries that were fetched and not yet given.
     ahead: VecDeque<(K, u64)>,
     /// The last key that was fetched, or the start of the range, and whether its entry is to come.
@@ -19,9 +19,14 @@ pub struct Range<'a, K: Key> {
     batch: usize,
 }
 
-impl<'a, K: Key> Range<'a, K> {
-    pub(crate) fn new(map: &'a WordMap<K>, start: K, inclusive: bool, until: Bound<K>) -> Self {
-        Range { map, ahead: VecDeque::new(), from: (start, inclusive), until, batch: 1 }
+impl<K: Key> Cursor<K> {
+    pub(crate) fn new((from, until): ((K, bool), Bound<K>)) -> Self {
+        Cursor { ahead: VecDeque::new(), from, until, batch: 1 }
+    }
+
+    /// The cursor of all entries.
+    pub(crate) fn all() -> Self {
+        Self::new(((K::default(), true), Bound::Unbounded))
     }
 
     fn is_within_end(&self, key: &K) -> bool {
@@ -39,9 +44,9 @@ impl<'a, K: Key> Range<'a, K> {
         }
     }
 
-    pub(crate) fn try_next(&mut self) -> Result<Option<(K, u64)>, Refusal> {
+    pub(crate) fn try_next(&mut self, map: &WordMap<K>) -> Result<Option<(K, u64)>, Refusal> {
         if self.ahead.is_empty() {
-            self.map.fetch(&self.from.0, self.from.1, self.batch, &mut self.ahead)?;
+            map.fetch(&self.from.0, self.from.1, self.batch, &mut self.ahead)?;
             let Some((last, _)) = self.ahead.back() else { return Ok(None) };
             self.from = (last.clone(), false);
             // A short range wants few, a long one many.
@@ -53,47 +58,60 @@ impl<'a, K: Key> Range<'a, K> {
         }
         Ok(next)
     }
+
+    fn try_next_back(&mut self, map: &WordMap<K>) -> Result<Option<(K, u64)>, Refusal> {
+        let which = match &self.until {
+            Bound::Included(end) => Find::Previous(end.sought(), true),
+            Bound::Excluded(end) => Find::Previous(end.sought(), false),
+            Bound::Unbounded => Find::Last,
+        };
+        let entry = map.find(which)?.filter(|(key, _)| self.is_still_ahead(key));
+        if let Some((key, _)) = &entry {
+            self.until = Bound::Excluded(key.clone());
+        }
+        Ok(entry)
+    }
+}
+
+/// The entries between two bounds, from either end.
+#[derive(Clone)]
+pub struct Range<'a, K: Key> {
+    map: &'a WordMap<K>,
+    cursor: Cursor<K>,
+}
+
+impl<'a, K: Key> Range<'a, K> {
+    pub(crate) fn new(map: &'a WordMap<K>, cursor: Cursor<K>) -> Self {
+        Range { map, cursor }
+    }
 }
 
 impl<K: Key> Iterator for Range<'_, K> {
     type Item = (K, u64);
 
     fn next(&mut self) -> Option<(K, u64)> {
-        granted(self.try_next())
+        granted(self.cursor.try_next(self.map))
     }
 }
 
 impl<K: Key> DoubleEndedIterator for Range<'_, K> {
     fn next_back(&mut self) -> Option<(K, u64)> {
-        let which = match &self.until {
-            Bound::Included(end) => Find::Previous(end.sought(), true),
-            Bound::Excluded(end) => Find::Previous(end.sought(), false),
-            Bound::Unbounded => Find::Last,
-        };
-        let entry = granted(self.map.find(which)).filter(|(key, _)| self.is_still_ahead(key))?;
-        self.until = Bound::Excluded(entry.0.clone());
-        Some(entry)
+        granted(self.cursor.try_next_back(self.map))
     }
 }
 
+impl<K: Key> FusedIterator for Range<'_, K> {}
+
 /// All entries of a map, from either end.
+#[derive(Clone)]
 pub struct Iter<'a, K: Key> {
     entries: Range<'a, K>,
     left: usize,
 }
 
 impl<'a, K: Key> Iter<'a, K> {
-    pub(crate) fn new(entries: Range<'a, K>, left: usize) -> Self {
-        Iter { entries, left }
-    }
-
-    pub(crate) fn try_next(&mut self) -> Result<Option<(K, u64)>, Refusal> {
-        if self.left == 0 {
-            return Ok(None);
-        }
-        let next = self.entries.try_next()?;
-        self.left -= 1;
-        Ok(next)
+    pub(crate) fn new(map: &'a WordMap<K>) -> Self {
+        Iter { entries: Range::new(map, Cursor::all()), left: map.len() }
     }
 }
 
@@ -101,7 +119,9 @@ impl<K: Key> Iterator for Iter<'_, K> {
     type Item = (K, u64);
 
     fn next(&mut self) -> Option<(K, u64)> {
-        granted(self.try_next())
+        let next = if self.left == 0 { None } else { self.entries.next() };
+        self.left = self.left.saturating_sub(1);
+        next
     }
 
     fn size_hint(&self) -> (usize, Option<usize>) {
@@ -111,22 +131,14 @@ impl<K: Key> Iterator for Iter<'_, K> {
 
 impl<K: Key> DoubleEndedIterator for Iter<'_, K> {
     fn next_back(&mut self) -> Option<(K, u64)> {
-        if self.left == 0 {
-            return None;
-        }
-        let next = self.entries.next_back();
-        self.left -= 1;
+        let next = if self.left == 0 { None } else { self.entries.next_back() };
+        self.left = self.left.saturating_sub(1);
         next
     }
 }
 
 impl<K: Key> ExactSizeIterator for Iter<'_, K> {}
-
-/// The keys of a map, from either end.
-pub type Keys<'a, K> = iter::Map<Iter<'a, K>, fn((K, u64)) -> K>;
-
-/// The values of a map, from either end.
-pub type Values<'a, K> = iter::Map<Iter<'a, K>, fn((K, u64)) -> u64>;
+impl<K: Key> FusedIterator for Iter<'_, K> {}
 
 /// The entries of a map by value, from either end: each is removed as it is given.
 pub struct IntoIter<K: Key>(pub(crate) WordMap<K>);
@@ -150,3 +162,138 @@ impl<K: Key> DoubleEndedIterator for IntoIter<K> {
 }
 
 impl<K: Key> ExactSizeIterator for IntoIter<K> {}
+impl<K: Key> FusedIterator for IntoIter<K> {}
+
+/// An iterator, which gives a part of each entry that the one inside it gives.
+macro_rules! gives {
+    ([$($generics:tt)*] $name:ty => $item:ty, $part:expr) => {
+        impl<$($generics)*> Iterator for $name {
+            type Item = $item;
+
+            fn next(&mut self) -> Option<$item> {
+                self.0.next().map($part)
+            }
+
+            fn size_hint(&self) -> (usize, Option<usize>) {
+                self.0.size_hint()
+            }
+        }
+
+        impl<$($generics)*> DoubleEndedIterator for $name {
+            fn next_back(&mut self) -> Option<$item> {
+                self.0.next_back().map($part)
+            }
+        }
+
+        impl<$($generics)*> std::iter::FusedIterator for $name {}
+    };
+}
+
+/// The same, where that one knows how many entries are left.
+macro_rules! gives_all {
+    ([$($generics:tt)*] $name:ty => $item:ty, $part:expr) => {
+        crate::range::gives!([$($generics)*] $name => $item, $part);
+        impl<$($generics)*> ExactSizeIterator for $name {}
+    };
+}
+
+pub(crate) use {gives, gives_all};
+
+/// The keys of a map, from either end.
+#[derive(Clone)]
+pub struct Keys<'a, K: Key>(pub(crate) Iter<'a, K>);
+gives_all!(['a, K: Key] Keys<'a, K> => K, |(key, _)| key);
+
+/// The values of a map, from either end.
+#[derive(Clone)]
+pub struct Values<'a, K: Key>(pub(crate) Iter<'a, K>);
+gives_all!(['a, K: Key] Values<'a, K> => u64, |(_, value)| value);
+
+/// The keys of a map by value, from either end: each entry is removed as its key is given.
+pub struct IntoKeys<K: Key>(pub(crate) IntoIter<K>);
+gives_all!([K: Key] IntoKeys<K> => K, |(key, _)| key);
+
+/// The values of a map by value, from either end: each entry is removed as its value is given.
+pub struct IntoValues<K: Key>(pub(crate) IntoIter<K>);
+gives_all!([K: Key] IntoValues<K> => u64, |(_, value)| value);
+
+/// The entries of a map that a closure picks, between two bounds: each is removed as it is given, and the others stay.
+pub struct ExtractIf<'a, K: Key, F> {
+    map: &'a mut WordMap<K>,
+    cursor: Cursor<K>,
+    picks: F,
+}
+
+impl<'a, K: Key, F> ExtractIf<'a, K, F> {
+    pub(crate) fn new(map: &'a mut WordMap<K>, cursor: Cursor<K>, picks: F) -> Self {
+        ExtractIf { map, cursor, picks }
+    }
+}
+
+impl<K: Key, F: FnMut(&K, &mut u64) -> bool> Iterator for ExtractIf<'_, K, F> {
+    type Item = (K, u64);
+
+    fn next(&mut self) -> Option<(K, u64)> {
+        loop {
+            let (key, before) = granted(self.cursor.try_next(self.map))?;
+            let mut value = before;
+            if (self.picks)(&key, &mut value) {
+                granted(self.map.take(key.sought()));
+                return Some((key, value));
+            }
+            if value != before {
+                granted(self.map.put(key.sought(), value));
+            }
+        }
+    }
+}
+
+impl<K: Key, F: FnMut(&K, &mut u64) -> bool> FusedIterator for ExtractIf<'_, K, F> {}
+
+impl<K: Key> fmt::Debug for Range<'_, K> {
+    fn fmt(&self, out: &mut fmt::Formatter<'_>) -> fmt::Result {
+        out.debug_list().entries(self.clone().map(|(key, value)| (Shown(key), value))).finish()
+    }
+}
+
+impl<K: Key> fmt::Debug for Iter<'_, K> {
+    fn fmt(&self, out: &mut fmt::Formatter<'_>) -> fmt::Result {
+        out.debug_list().entries(self.clone().map(|(key, value)| (Shown(key), value))).finish()
+    }
+}
+
+impl<K: Key> fmt::Debug for Keys<'_, K> {
+    fn fmt(&self, out: &mut fmt::Formatter<'_>) -> fmt::Result {
+        out.debug_list().entries(self.clone().map(Shown)).finish()
+    }
+}
+
+impl<K: Key> fmt::Debug for Values<'_, K> {
+    fn fmt(&self, out: &mut fmt::Formatter<'_>) -> fmt::Result {
+        out.debug_list().entries(self.clone()).finish()
+    }
+}
+
+impl<K: Key> fmt::Debug for IntoIter<K> {
+    fn fmt(&self, out: &mut fmt::Formatter<'_>) -> fmt::Result {
+        self.0.iter().fmt(out)
+    }
+}
+
+impl<K: Key> fmt::Debug for IntoKeys<K> {
+    fn fmt(&self, out: &mut fmt::Formatter<'_>) -> fmt::Result {
+        self.0 .0.keys().fmt(out)
+    }
+}
+
+impl<K: Key> fmt::Debug for IntoValues<K> {
+    fn fmt(&self, out: &mut fmt::Formatter<'_>) -> fmt::Result {
+        self.0 .0.values().fmt(out)
+    }
+}
+
+impl<K: Key, F> fmt::Debug for ExtractIf<'_, K, F> {
+    fn fmt(&self, out: &mut fmt::Formatter<'_>) -> fmt::Result {
+        out.debug_struct("ExtractIf").finish_non_exhaustive()
+    }
+}

@@ -1,6 +1,7 @@
 //! The functions of `bindings/c/art.h`, which says what they do and what their callers owe.
 
 /// A handle, of either kind.
+#[derive(Clone)]
 #[repr(C)]
 pub struct RawMap {
     opaque: *mut u8,
@@ -28,15 +29,21 @@ extern "C" {
     pub(crate) fn art_bytes_insert(map: *mut RawMap, key: *const u8, len: usize, value: u64, before: *mut u64) -> u32;
     pub(crate) fn art_bytes_get(map: *mut RawMap, key: *const u8, len: usize, value: *mut u64) -> u32;
     pub(crate) fn art_bytes_remove(map: *mut RawMap, key: *const u8, len: usize, value: *mut u64) -> u32;
-    pub(crate) fn art_bytes_next(
+    pub(crate) fn art_bytes_next_many(
         map: *mut RawMap,
+        prefix: *const u8,
+        prefix_len: usize,
         from: *const u8,
         len: usize,
         inclusive: bool,
-        key_out: *mut u8,
+        keys: *mut u8,
         capacity: usize,
+        ends: *mut usize,
+        ends_len: usize,
+        values: *mut u64,
+        values_len: usize,
+        count: *mut usize,
         key_len: *mut usize,
-        value: *mut u64,
     ) -> u32;
     pub(crate) fn art_bytes_previous(
         map: *mut RawMap,

@@ -1,30 +1,38 @@
+use crate::bounds::KeyBounds;
+use crate::entry::{OccupiedWord, VacantWord, WordEntry};
 use crate::key::{AsKey, Find, Key};
-use crate::range::{IntoIter, Iter, Keys, Range, Values};
+use crate::range::{Cursor, ExtractIf, IntoIter, IntoKeys, IntoValues, Iter, Keys, Range, Values};
 use crate::raw::{self, RawMap};
 use crate::refusal::{found, granted, Refusal};
-use std::cell::UnsafeCell;
+use std::cmp::Ordering;
 use std::collections::VecDeque;
 use std::fmt;
+use std::hash::{Hash, Hasher};
 use std::marker::PhantomData;
-use std::ops::{Bound, RangeBounds};
+use std::ops::Bound;
 
 /// An ordered map from keys of type `K` to values of 64 bits, with the names of `BTreeMap`.
 ///
 /// Keys and values are copied in and out. A call that must write memory which cannot be had, or a key
 /// that is too long, is refused, and the map is then as it was: the calls named `try_` return the
-/// [`Refusal`], all others panic. In a [`ByteMap`] each call that takes a key may need memory for it, also
-/// `get` and each step of an iterator.
+/// [`Refusal`], all others panic. In a [`ByteMap`] also `get` and a step of an iterator may need memory, for a key of more
+/// than 256 bytes.
 ///
-/// It is `Send` and not `Sync`: also a look-up takes the map out of its handle and puts it back, so two
-/// at once would race.
+/// It is `Send` and `Sync`: calls that only look write nothing behind the handle.
 ///
-/// ```compile_fail,E0277
-/// fn shared(_: impl Sync) {}
-/// shared(verified_art::NumberMap::new());
+/// ```
+/// use std::sync::RwLock;
+///
+/// let squares = RwLock::new(verified_art::NumberMap::from([(49u64, 7), (64, 8)]));
+/// std::thread::scope(|scope| {
+///     scope.spawn(|| assert_eq!(squares.read().unwrap().get(49), Some(7)));
+///     scope.spawn(|| assert_eq!(squares.read().unwrap().range(50..).next(), Some((64, 8))));
+/// });
+/// squares.write().unwrap().clear();
 /// ```
 pub struct WordMap<K: Key> {
-    // Moved with this struct, and never copied: what moved is used no more. Changed by look-ups too.
-    raw: UnsafeCell<RawMap>,
+    // Moved with this struct: what moved is used no more. A copy is for one call that only looks.
+    raw: RawMap,
     keys: PhantomData<K>,
 }
 
@@ -59,8 +67,9 @@ pub type ByteMap = WordMap<Vec<u8>>;
 pub type NumberMap = WordMap<u64>;
 
 // SAFETY: the handle is a pointer to memory of `malloc`, which any thread may read, write and free, and the
-// library has no state beside it.
+// library has no state beside it. Calls by a shared reference only look, each by a handle of its own.
 unsafe impl<K: Key> Send for WordMap<K> {}
+unsafe impl<K: Key> Sync for WordMap<K> {}
 
 impl<K: Key> WordMap<K> {
     /// An empty map.
@@ -73,18 +82,18 @@ impl<K: Key> WordMap<K> {
         let mut raw = RawMap::EMPTY;
         // SAFETY: the handle is empty. It holds a map afterwards, unless this is refused.
         found(unsafe { K::make(&mut raw) })?;
-        Ok(WordMap { raw: UnsafeCell::new(raw), keys: PhantomData })
+        Ok(WordMap { raw, keys: PhantomData })
     }
 
-    // The handle. SAFETY of each use: it holds a map until `drop`. No other call of it runs at the same
-    // time, since `self` is not `Sync`, and no call of the library calls back.
-    fn raw(&self) -> *mut RawMap {
-        self.raw.get()
+    // A handle for one call that only looks. SAFETY of each use, and of those of the handle itself: it holds a map until
+    // `drop`. A call that changes the map borrows it mutably, and no call of the library calls back.
+    fn own(&self) -> RawMap {
+        self.raw.clone()
     }
 
     /// The number of entries. Takes constant time.
     pub fn len(&self) -> usize {
-        unsafe { K::len(self.raw()) }
+        unsafe { K::len(&mut self.own()) }
     }
 
     /// Whether there is no entry.
@@ -94,7 +103,7 @@ impl<K: Key> WordMap<K> {
 
     /// Removes all entries. Keeps the memory.
     pub fn clear(&mut self) {
-        unsafe { K::clear(self.raw()) }
+        unsafe { K::clear(&mut self.raw) }
     }
 
     /// Reserves memory for more entries, but for their keys.
@@ -104,7 +113,7 @@ impl<K: Key> WordMap<K> {
 
     /// The same, where memory is found.
     pub fn try_reserve(&mut self, additional: usize) -> Result<(), Refusal> {
-        found(unsafe { K::reserve(self.raw(), additional) }).map(drop)
+        found(unsafe { K::reserve(&mut self.raw, additional) }).map(drop)
     }
 
     /// Moves the entries into memory that just holds them, in the order of their keys: iteration is then
@@ -115,22 +124,22 @@ impl<K: Key> WordMap<K> {
 
     /// The same, where memory is found.
     pub fn try_compact(&mut self) -> Result<(), Refusal> {
-        found(unsafe { K::compact(self.raw()) }).map(drop)
+        found(unsafe { K::compact(&mut self.raw) }).map(drop)
     }
 
     /// Sets the value of a key, and returns the one that it had.
     pub fn insert(&mut self, key: impl AsKey<K>, value: u64) -> Option<u64> {
-        granted(self.try_insert(key, value))
+        granted(self.try_put(key, value))
     }
 
     /// The same, where memory is found and the key is not too long.
-    pub fn try_insert(&mut self, key: impl AsKey<K>, value: u64) -> Result<Option<u64>, Refusal> {
+    pub fn try_put(&mut self, key: impl AsKey<K>, value: u64) -> Result<Option<u64>, Refusal> {
         self.put(key.as_key(), value)
     }
 
     pub(crate) fn put(&mut self, key: &K::Sought, value: u64) -> Result<Option<u64>, Refusal> {
         let mut before = 0;
-        let status = unsafe { K::insert(self.raw(), key, value, &mut before) };
+        let status = unsafe { K::insert(&mut self.raw, key, value, &mut before) };
         Ok(found(status)?.then_some(before))
     }
 
@@ -146,13 +155,46 @@ impl<K: Key> WordMap<K> {
 
     pub(crate) fn look(&self, key: &K::Sought) -> Result<Option<u64>, Refusal> {
         let mut value = 0;
-        let status = unsafe { K::get(self.raw(), key, &mut value) };
+        let status = unsafe { K::get(&mut self.own(), key, &mut value) };
         Ok(found(status)?.then_some(value))
+    }
+
+    /// The key, as the map has it, and its value.
+    pub fn get_key_value(&self, key: impl AsKey<K>) -> Option<(K, u64)> {
+        let sought = key.as_key();
+        granted(self.look(sought)).map(|value| (sought.to_owned(), value))
     }
 
     /// Whether there is an entry with this key.
     pub fn contains_key(&self, key: impl AsKey<K>) -> bool {
         self.get(key).is_some()
+    }
+
+    /// The place of a key, with its entry or without one.
+    ///
+    /// ```
+    /// let mut counts = verified_art::ByteMap::new();
+    /// for word in ["tin", "gold", "tin"] {
+    ///     counts.entry(word).and_modify(|count| *count += 1).or_insert(1);
+    /// }
+    /// assert_eq!(counts.get("tin"), Some(2));
+    /// ```
+    pub fn entry(&mut self, key: impl AsKey<K>) -> WordEntry<'_, K> {
+        let key = key.as_key().to_owned();
+        match granted(self.look(key.sought())) {
+            Some(value) => WordEntry::Occupied(OccupiedWord { map: self, key, value }),
+            None => WordEntry::Vacant(VacantWord { map: self, key }),
+        }
+    }
+
+    /// The entry with the least key, to be changed or removed.
+    pub fn first_entry(&mut self) -> Option<OccupiedWord<'_, K>> {
+        self.first_key_value().map(|(key, value)| OccupiedWord { map: self, key, value })
+    }
+
+    /// The entry with the greatest key, to be changed or removed.
+    pub fn last_entry(&mut self) -> Option<OccupiedWord<'_, K>> {
+        self.last_key_value().map(|(key, value)| OccupiedWord { map: self, key, value })
     }
 
     /// Removes a key, and returns its value.
@@ -162,13 +204,27 @@ impl<K: Key> WordMap<K> {
 
     /// The same, where memory is found.
     pub fn try_remove(&mut self, key: impl AsKey<K>) -> Result<Option<u64>, Refusal> {
+        self.take(key.as_key())
+    }
+
+    /// Removes a key, and returns it with its value.
+    pub fn remove_entry(&mut self, key: impl AsKey<K>) -> Option<(K, u64)> {
+        let sought = key.as_key();
+        granted(self.take(sought)).map(|value| (sought.to_owned(), value))
+    }
+
+    pub(crate) fn take(&mut self, key: &K::Sought) -> Result<Option<u64>, Refusal> {
         let mut value = 0;
-        let status = unsafe { K::remove(self.raw(), key.as_key(), &mut value) };
+        let status = unsafe { K::remove(&mut self.raw, key, &mut value) };
         Ok(found(status)?.then_some(value))
     }
 
     pub(crate) fn find(&self, which: Find<'_, K::Sought>) -> Result<Option<(K, u64)>, Refusal> {
-        unsafe { K::find(self.raw(), which) }
+        unsafe { K::find(&mut self.own(), which) }
+    }
+
+    fn pop(&mut self, which: Find<'_, K::Sought>) -> Option<(K, u64)> {
+        granted(unsafe { K::find(&mut self.raw, which) })
     }
 
     pub(crate) fn fetch(
@@ -178,7 +234,7 @@ impl<K: Key> WordMap<K> {
         most: usize,
         into: &mut VecDeque<(K, u64)>,
     ) -> Result<(), Refusal> {
-        unsafe { K::fetch(self.raw(), from.sought(), inclusive, most, into) }
+        unsafe { K::fetch(&mut self.own(), from.sought(), inclusive, most, into) }
     }
 
     /// The entry with the least key.
@@ -193,38 +249,82 @@ impl<K: Key> WordMap<K> {
 
     /// Removes the entry with the least key.
     pub fn pop_first(&mut self) -> Option<(K, u64)> {
-        granted(self.find(Find::PopFirst))
+        self.pop(Find::PopFirst)
     }
 
     /// Removes the entry with the greatest key.
     pub fn pop_last(&mut self) -> Option<(K, u64)> {
-        granted(self.find(Find::PopLast))
+        self.pop(Find::PopLast)
+    }
+
+    /// Moves all entries of another map into this one, where they replace those with the same keys.
+    pub fn append(&mut self, other: &mut Self) {
+        self.append_words(other, drop);
+    }
+
+    /// The same, and gives away each value that is replaced.
+    pub(crate) fn append_words(&mut self, other: &mut Self, mut replaced: impl FnMut(u64)) {
+        while let Some((key, value)) = other.pop_first() {
+            granted(self.put(key.sought(), value).inspect_err(|_| replaced(value))).map(&mut replaced);
+        }
+    }
+
+    /// Moves the entries from a key on into a map of their own.
+    pub fn split_off(&mut self, key: impl AsKey<K>) -> Self {
+        let mut split = Self::new();
+        let mut cursor = Cursor::new(((key.as_key().to_owned(), true), Bound::Unbounded));
+        while let Some((key, value)) = granted(cursor.try_next(self)) {
+            // In this order, so that no two maps have a value where memory is refused.
+            granted(self.take(key.sought()));
+            granted(split.put(key.sought(), value));
+        }
+        split
+    }
+
+    /// Removes the entries that a closure does not keep. It may change their values.
+    pub fn retain(&mut self, mut keeps: impl FnMut(&K, &mut u64) -> bool) {
+        self.extract_if(.., |key, value| !keeps(key, value)).for_each(drop);
+    }
+
+    /// The entries between two bounds that a closure picks: each is removed as it is given. Those that are not asked for
+    /// stay.
+    pub fn extract_if<F: FnMut(&K, &mut u64) -> bool>(
+        &mut self,
+        bounds: impl KeyBounds<K>,
+        picks: F,
+    ) -> ExtractIf<'_, K, F> {
+        ExtractIf::new(self, Cursor::new(bounds.ends()), picks)
     }
 
     /// The entries between two bounds, from either end. Where the start is beyond the end there are none,
     /// and no panic as that of `BTreeMap`.
-    pub fn range<Q: AsKey<K>>(&self, bounds: impl RangeBounds<Q>) -> Range<'_, K> {
-        let (start, inclusive) = match bounds.start_bound() {
-            Bound::Included(key) => (key.as_key().to_owned(), true),
-            Bound::Excluded(key) => (key.as_key().to_owned(), false),
-            Bound::Unbounded => (K::default(), true),
-        };
-        Range::new(self, start, inclusive, bounds.end_bound().map(|key| key.as_key().to_owned()))
+    pub fn range(&self, bounds: impl KeyBounds<K>) -> Range<'_, K> {
+        Range::new(self, Cursor::new(bounds.ends()))
     }
 
     /// All entries, in ascending order of their keys.
     pub fn iter(&self) -> Iter<'_, K> {
-        Iter::new(Range::new(self, K::default(), true, Bound::Unbounded), self.len())
+        Iter::new(self)
     }
 
     /// All keys, in ascending order.
     pub fn keys(&self) -> Keys<'_, K> {
-        self.iter().map(|(key, _)| key)
+        Keys(self.iter())
     }
 
     /// All values, in ascending order of their keys.
     pub fn values(&self) -> Values<'_, K> {
-        self.iter().map(|(_, value)| value)
+        Values(self.iter())
+    }
+
+    /// All keys, in ascending order, by value.
+    pub fn into_keys(self) -> IntoKeys<K> {
+        IntoKeys(IntoIter(self))
+    }
+
+    /// All values, in ascending order of their keys, by value.
+    pub fn into_values(self) -> IntoValues<K> {
+        IntoValues(IntoIter(self))
     }
 }
 
@@ -232,14 +332,14 @@ impl WordMap<Vec<u8>> {
     /// The entries whose keys begin with a prefix.
     pub fn prefix(&self, prefix: impl AsRef<[u8]>) -> Range<'_, Vec<u8>> {
         let prefix = prefix.as_ref();
-        Range::new(self, prefix.to_vec(), true, end_of_prefix(prefix))
+        Range::new(self, Cursor::new(((prefix.to_vec(), true), end_of_prefix(prefix))))
     }
 
     /// How many keys begin with a prefix. Takes time linear in their number.
     pub fn count_prefix(&self, prefix: impl AsRef<[u8]>) -> usize {
         let prefix = prefix.as_ref();
         // SAFETY: as for the calls of `raw`.
-        let count = unsafe { raw::art_bytes_count_prefix(self.raw(), prefix.as_ptr(), prefix.len()) };
+        let count = unsafe { raw::art_bytes_count_prefix(&mut self.own(), prefix.as_ptr(), prefix.len()) };
         granted(if count == raw::NO_COUNT { Err(Refusal::OutOfMemory) } else { Ok(count) })
     }
 }
@@ -259,7 +359,7 @@ fn end_of_prefix(prefix: &[u8]) -> Bound<Vec<u8>> {
 impl<K: Key> Drop for WordMap<K> {
     fn drop(&mut self) {
         // SAFETY: as for the calls of `raw`. There is none after this one.
-        unsafe { K::free(self.raw()) }
+        unsafe { K::free(&mut self.raw) }
     }
 }
 
@@ -287,6 +387,25 @@ impl<K: Key> PartialEq for WordMap<K> {
 }
 
 impl<K: Key> Eq for WordMap<K> {}
+
+impl<K: Key> PartialOrd for WordMap<K> {
+    fn partial_cmp(&self, other: &Self) -> Option<Ordering> {
+        Some(self.cmp(other))
+    }
+}
+
+impl<K: Key> Ord for WordMap<K> {
+    fn cmp(&self, other: &Self) -> Ordering {
+        self.iter().cmp(other)
+    }
+}
+
+impl<K: Key> Hash for WordMap<K> {
+    fn hash<H: Hasher>(&self, state: &mut H) {
+        self.len().hash(state);
+        self.iter().for_each(|entry| entry.hash(state));
+    }
+}
 
 impl<K: Key> fmt::Debug for WordMap<K> {
     fn fmt(&self, out: &mut fmt::Formatter<'_>) -> fmt::Result {

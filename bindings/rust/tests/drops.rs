@@ -120,3 +120,56 @@ fn values_without_a_size_are_counted_too() {
     assert_eq!(map.insert("a", ()), Some(()));
     assert_eq!((map.len(), map.remove("b"), map.remove("b")), (2, Some(()), None));
 }
+
+#[test]
+fn calls_that_move_many_entries_drop_each_value_once() {
+    let drops = Cell::new(0);
+    let (mut map, mut other) = (filled(&drops, 50), filled(&drops, 30));
+    map.append(&mut other);
+    assert_eq!((drops.get(), map.len(), other.len()), (30, 50, 0));
+    let split = map.split_off(40u64);
+    assert_eq!((drops.get(), map.len(), split.len()), (30, 40, 10));
+    drop(split);
+    assert_eq!(drops.get(), 40);
+    map.retain(|key, _| key % 2 == 0);
+    assert_eq!((drops.get(), map.len()), (60, 20));
+    let taken: Vec<_> = map.extract_if(10.., |_, _| true).take(3).collect();
+    assert_eq!((drops.get(), map.len()), (60, 17));
+    drop(taken);
+    assert_eq!((map.into_keys().count(), drops.get()), (17, 80));
+    let mut values = filled(&drops, 10).into_values();
+    drop(values.next_back());
+    assert_eq!(drops.get(), 81);
+    drop(values);
+    assert_eq!(drops.get(), 90);
+}
+
+#[test]
+fn entries_drop_what_they_replace() {
+    let drops = Cell::new(0);
+    let counted = || Counted { drops: &drops, panics: false };
+    let mut map = filled(&drops, 3);
+    map.entry(1u64).or_insert(counted());
+    assert_eq!((drops.get(), map.len()), (1, 3));
+    map.entry(7u64).or_insert_with(counted);
+    assert_eq!((drops.get(), map.len()), (1, 4));
+    drop(map.first_entry().map(|mut entry| entry.insert(counted())));
+    assert_eq!((drops.get(), map.len()), (2, 4));
+    drop(map.last_entry().map(|entry| entry.remove()));
+    assert_eq!((drops.get(), map.len()), (3, 3));
+    drop(map);
+    assert_eq!(drops.get(), 6);
+}
+
+#[test]
+fn a_closure_that_panics_keeps_all_entries() {
+    let drops = Cell::new(0);
+    let mut map = filled(&drops, 100);
+    let call = AssertUnwindSafe(|| {
+        map.retain(|key, _| if *key == 50 { panic!("a closure that panics") } else { *key % 2 == 0 })
+    });
+    assert!(catch_unwind(call).is_err());
+    assert_eq!((drops.get(), map.len()), (25, 75));
+    drop(map);
+    assert_eq!(drops.get(), 100);
+}

@@ -39,12 +39,12 @@ fn refused_memory_changes_nothing() {
     let mut numbers = NumberMap::from([(1u64, 2)]);
     let long = vec![0; 1 << 28];
     let before = limit_memory(1 << 26);
-    assert_eq!(map.try_insert(&long, 1), Err(Refusal::OutOfMemory));
+    assert_eq!(map.try_put(&long, 1), Err(Refusal::OutOfMemory));
     assert_eq!(map.try_get(&long), Err(Refusal::OutOfMemory));
     assert_eq!(map.try_remove(&long), Err(Refusal::OutOfMemory));
     assert_eq!(map.try_reserve(1 << 32), Err(Refusal::OutOfMemory));
     assert_eq!(numbers.try_reserve(1 << 32), Err(Refusal::OutOfMemory));
-    assert_eq!(values.try_insert(&long, "lost".to_string()), Err(("lost".to_string(), Refusal::OutOfMemory)));
+    assert_eq!(values.try_put(&long, "lost".to_string()), Err(("lost".to_string(), Refusal::OutOfMemory)));
     // SAFETY: as above.
     assert_eq!(unsafe { setrlimit(RLIMIT_AS, &before) }, 0);
     assert_eq!(map, ByteMap::from([("tin", 50), ("gold", 79)]));
@@ -59,9 +59,9 @@ fn a_key_that_is_too_long_changes_nothing() {
     let mut map = Map::<u32>::from([("tin", 50)]);
     // Each zero counts twice, and two more.
     let long = vec![0; (1 << 31) - 1];
-    assert_eq!(map.try_insert(&long, 1), Err((1, Refusal::KeyTooLong)));
+    assert_eq!(map.try_put(&long, 1), Err((1, Refusal::KeyTooLong)));
     assert!(map.iter().eq([(b"tin".to_vec(), &50)]));
     assert!(!map.contains_key(&long[1..]));
-    assert_eq!(map.try_insert(&long[1..], 2), Ok(None));
+    assert_eq!(map.try_put(&long[1..], 2), Ok(None));
     assert_eq!(map.last_key_value(), Some((b"tin".to_vec(), &50)));
 }

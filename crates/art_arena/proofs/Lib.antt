@@ -3,6 +3,7 @@ mod ArenaLemmas
 mod BelowLemmas
 mod DescentLemmas
 mod EndLemmas
+mod ForwardLemmas
 pub mod Heights
 mod InnerRefLemmas
 mod KeptLemmas
@@ -14,5 +15,6 @@ mod PlaceLemmas
 mod ReadLemmas
 pub mod StandingLaws
 mod TextLemmas
+pub mod TreeLaws
 mod TreeLemmas
 mod WayLemmas

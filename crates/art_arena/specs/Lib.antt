@@ -1,5 +1,6 @@
 pub mod Arena
 pub mod Ends
+pub mod Forwarding
 pub mod FullPrefix
 pub mod InnerRef
 pub mod Lending

@@ -1,5 +1,5 @@
 //! The arena: five slabs, one for each kind of node.
-ghost use Rattle.std.specs.Prelude.{◌≡◌, ◌≢◌, ◌↔◌, ◌+◌, ◌<◌, ◌≤◌, IsTrue, Some, IfOk, IfErr, OnOk, OnErr, IsOk};
+ghost use Rattle.std.specs.Prelude.{◌≡◌, ◌≢◌, ◌↔◌, ℕ, ◌+◌, ◌<◌, ◌≤◌, IsTrue, Some, IfOk, IfErr, OnOk, OnErr, IsOk};
 ghost use Rattle.std.specs.Borrow.{sem};
 ghost use Rattle.std.specs.Option.{option_copied, option_map};
 ghost use Rattle.art_header.specs.declared.node_type.NodeType.TheVariants as NodeType;
@@ -59,19 +59,18 @@ impl<A, B, C, D, L> Model for Slabs<A, B, C, D, L> {
 ///
 /// The type names its nodes, so whoever has an arena knows that they fit in memory.
 ///
-/// Two leaves, one of which is deallocated again (`put` is an `allocate_node_ptr` that must
+/// Three leaves, one of which is deallocated again (`put` is an `allocate_node_ptr` that must
 /// succeed):
 ///
-/// (from crates/art_tree_tests/src/arena/calls.rt)
+/// (from tests/art_tree_tests/arena/calls/three_leaves.rt.txt)
 /// ```rust
-/// arena.reserve(NodeType::Leaf, 2)?;
-/// let first = put(rt, arena, Leaf::with_no_siblings([1], 1));
-/// let second = put(rt, arena, Leaf::with_no_siblings([2], 2));
+/// arena.reserve(NodeType::Leaf, 3)?;
+/// let first = put(&rt, arena, Leaf::with_no_siblings([1], 1));
+/// let second = put(&rt, arena, Leaf::with_no_siblings([2], 2));
+/// let third = put(&rt, arena, Leaf::with_no_siblings([3], 3));
 /// // ..
-/// assert!(rt; arena.holds(second));
 /// arena.deallocate_node_ptr(second);
-/// assert!(rt; arena.holds(first));
-/// assert!(rt; !arena.holds(second));
+/// assert!(rt; arena.holds(first) && !arena.holds(second) && arena.holds(third));
 /// ```
 pub type NodeArena<K, V, const PREFIX_LEN: usize> = Slabs<
     InnerNode4<K, V, PREFIX_LEN>,
@@ -121,6 +120,26 @@ impl<K, V, const PREFIX_LEN: usize> NodeArena<K, V, PREFIX_LEN> {
         ensures { result ≡ leaf_count self.now }
     {
         self.leaf.len()
+    }
+
+    /// How many leaves the arena holds at most with no allocation. The slab key of each leaf is below
+    /// it. Takes no memory.
+    pub fn leaf_capacity(&self) -> usize
+        ensures capacity { result ≡ capacity self.now NodeType.Leaf }
+        ensures holds_all { leaf_count self.now ≤ result }
+        ensures keys { (key : ℕ) → HoldsLeaf self.now key → key < result }
+    {
+        self.leaf.capacity()
+    }
+
+    /// Exchanges the leaves of two arenas, with their spare capacity. The inner nodes of both are
+    /// unchanged: [`NodeArena::forward_leaves`] changes their children. Takes constant time and no
+    /// memory.
+    pub fn swap_leaves(&mut self, other: &mut Self)
+        ensures leaves { self.new ≡ record self.old { leaf = other.old.leaf } }
+        ensures other_leaves { other.new ≡ record other.old { leaf = self.old.leaf } }
+    {
+        mem::swap(&mut self.leaf, &mut other.leaf);
     }
 
     /// Whether the arena holds a node of this type at the pointer.

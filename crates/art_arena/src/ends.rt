@@ -64,7 +64,7 @@ fn step_to_end<K, V, const PREFIX_LEN: usize>(
 /// In a tree with the keys `abc1`, `abc2` and `b`, whose values are 0, 1 and 2, `first` is 0 and
 /// `last` is 2:
 ///
-/// (from crates/art_tree_tests/src/tree/searches.rt)
+/// (from tests/art_tree_tests/tree/searches.rt.txt)
 /// ```rust
 /// let leaf = end_leaf(arena, root, End::First);
 /// assert!(rt; arena.holds(leaf) && *arena.as_value_ref(leaf) == first);
@@ -119,7 +119,7 @@ fn step_to_leaf<K, V, const PREFIX_LEN: usize>(
 ///
 /// In any tree:
 ///
-/// (from crates/art_tree_tests/src/tree/searches.rt)
+/// (from tests/art_tree_tests/tree/searches.rt.txt)
 /// ```rust
 /// assert!(rt; arena.holds(any_leaf(arena, root)));
 /// ```

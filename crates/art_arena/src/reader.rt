@@ -56,7 +56,7 @@ impl<'a, A> Model for Reader<'a, A> {
 ///
 /// The root of a loaded tree, by one visit:
 ///
-/// (from crates/art_tree_tests/src/tree/loading.rt)
+/// (from tests/art_tree_tests/tree/loading.rt.txt)
 /// ```rust
 /// let entries = vec![in alloc; (*b"abc1", 0), (*b"abc2", 1)]?;
 /// let root = load(alloc, arena, entries).map_err(|fault| fault.refusal)?;

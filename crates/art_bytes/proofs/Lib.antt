@@ -1,2 +1,5 @@
+pub mod Cases
 mod CommonPrefix
+pub mod Members
 pub mod PrefixLaws
+pub mod TextLaws

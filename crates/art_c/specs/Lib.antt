@@ -1,2 +1,6 @@
 pub mod Handles
+pub mod Lending
 pub mod Statuses
+pub mod Version
+pub mod ViewEnds
+pub mod Views

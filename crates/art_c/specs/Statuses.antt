@@ -1,5 +1,5 @@
 -- The statuses that calls return, as the header names them.
-use Rattle.std.specs.Prelude.{◌≡◌, ◌≢◌, ◌⊎◌, ℕ, List, length, Option, Some, None, nat_le, if◌then◌else◌}
+use Rattle.std.specs.Prelude.{◌≡◌, ◌≢◌, ◌⊎◌, ℕ, zero, suc, List, length, Option, Some, None, nat_le, if◌then◌else◌}
 
 abbrev pub ART_NONE : ℕ
 ART_NONE = 0
@@ -39,6 +39,12 @@ status_of (Some x) = ART_SOME
 abbrev pub status_in : Option (List ℕ × ℕ) → ℕ → ℕ
 status_in None room = ART_NONE
 status_in (Some entry) room = if nat_le (length entry.0) room then ART_SOME else ART_SMALL_BUFFER
+
+-- whether so many entries were written; or else there is one whose key of so many bytes does not fit, or none
+abbrev pub batch_status : ℕ → Option ℕ → ℕ
+batch_status count (Some unfit) = ART_SMALL_BUFFER
+batch_status zero None = ART_NONE
+batch_status (suc count) None = ART_SOME
 
 -- what is found, or what was there before
 abbrev pub found_or : {X : Type 0} → Option X → X → X

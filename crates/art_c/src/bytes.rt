@@ -1,14 +1,16 @@
 //! The exports for maps by bytes.
-ghost use Rattle.std.specs.Prelude.{◌≡◌, ◌≢◌, ◌-◌, ◌^◌, ◌≤◌, ◌⊎◌, ◌↔◌, [], None, Some, IfNone, IfSome, IsSome, drop, length, nat_le, take, if◌then◌else◌};
+ghost use Rattle.std.specs.Prelude.{◌≡◌, ◌≢◌, ◌-◌, ◌^◌, ◌≤◌, ◌⊎◌, ◌↔◌, [], None, Some, IfNone, IfSome, IsSome, drop, length, min, nat_le, take, if◌then◌else◌};
 ghost use Rattle.std.specs.Option.{option_map};
 ghost use Rattle.art_bytes.specs.Text.{text_order};
 ghost use Rattle.art_mapped.specs.Escaped.{escaped_text};
 ghost use Rattle.art_c.specs.Handles.{entries_of};
-ghost use Rattle.art_c.specs.Statuses.{ART_HAS_MAP, ART_KEY_TOO_LONG, ART_NONE, ART_NO_MAP, ART_NO_MEMORY, ART_SMALL_BUFFER, ART_SOME, IsDone, IsRefusal, found_or, key_len_or, status_in, status_of, value_in};
-ghost use Rattle.art_c_maps.specs.Entries.{entries_from, entries_to, entries_with_prefix, first_of, last_of, put, value_of, without};
+ghost use Rattle.art_c.specs.Statuses.{ART_HAS_MAP, ART_KEY_TOO_LONG, ART_NONE, ART_NO_MAP, ART_NO_MEMORY, ART_SMALL_BUFFER, ART_SOME, IsDone, IsRefusal, batch_status, found_or, key_len_or, status_in, status_of, value_in};
+ghost use Rattle.art_c_maps.specs.Batch.{ends_of, joined, next_fitting, unfit_len};
+ghost use Rattle.art_c_maps.specs.Entries.{begun_with, entries_from, entries_to, entries_with_prefix, first_of, keys_of, last_of, put, value_of, values_of, without};
 ghost use Rattle.art_c_maps.specs.Unescaped.{key_written};
 
 use crate::bytes_handle::BytesHandle;
+use crate::bytes_view::BytesView;
 use crate::statuses::{HAS_MAP, KEY_TOO_LONG, NO_MAP, NO_MEMORY, NONE, SMALL_BUFFER, SOME};
 use art_c_maps::{BytesMap, Refusal};
 use std::alloc::Global;
@@ -50,6 +52,21 @@ fn entry_status(
     SOME
 }
 
+// The status of a call for many entries. How many are written out, or how many bytes the first key has that
+// does not fit.
+fn batch_status(written: usize, unfit: Option<usize>, count: &mut usize, key_len: &mut usize) -> u32
+    ensures status { result ≡ batch_status written unfit }
+    ensures count { count.new ≡ written }
+    ensures key_len { key_len.new ≡ found_or unfit key_len.old }
+{
+    *count = written;
+    if let Some(len) = unfit {
+        *key_len = len;
+        return SMALL_BUFFER;
+    }
+    if written > 0 { SOME } else { NONE }
+}
+
 /// Makes an empty map behind a handle that holds none.
 #[unsafe(no_mangle)]
 pub extern "C" fn art_bytes_new(alloc: Global, map: &mut BytesHandle) -> u32
@@ -63,10 +80,7 @@ pub extern "C" fn art_bytes_new(alloc: Global, map: &mut BytesHandle) -> u32
         map.hold(held);
         return HAS_MAP;
     }
-    let Ok(made) = BytesMap::new(alloc) else {
-        return NO_MEMORY;
-    };
-    match Box::new(alloc, made) {
+    match Box::new(alloc, BytesMap::new(alloc)) {
         Ok(made) => {
             map.hold(made);
             NONE
@@ -85,42 +99,39 @@ pub extern "C" fn art_bytes_free(alloc: Global, map: &mut BytesHandle)
 
 /// The number of entries, 0 where there is no map.
 #[unsafe(no_mangle)]
-pub extern "C" fn art_bytes_len(alloc: Global, map: &mut BytesHandle) -> usize
-    ensures len { result ≡ length (entries_of map.old.held) }
-    ensures same_entries { map.new.held ≡ map.old.held }
+pub extern "C" fn art_bytes_len(map: &mut BytesView) -> usize
+    ensures len { result ≡ length (entries_of map.old.seen) }
+    ensures same { map.new ≡ map.old }
 {
-    let Some(held) = map.take(alloc) else {
+    let Some(held) = map.lent() else {
         return 0;
     };
     let len = held.len();
-    map.hold(held);
     len
 }
 
 /// Removes all entries.
 #[unsafe(no_mangle)]
-pub extern "C" fn art_bytes_clear(alloc: Global, map: &mut BytesHandle)
+pub extern "C" fn art_bytes_clear(map: &mut BytesHandle)
     ensures { map.new.held ≡ option_map (λ _. []) map.old.held }
 {
-    let Some(mut held) = map.take(alloc) else {
+    let Some(held) = map.lent_mut() else {
         return;
     };
     held.clear();
-    map.hold(held);
 }
 
 /// Reserves memory for more entries, but for their keys.
 #[unsafe(no_mangle)]
-pub extern "C" fn art_bytes_reserve(alloc: Global, map: &mut BytesHandle, additional: usize) -> u32
+pub extern "C" fn art_bytes_reserve(map: &mut BytesHandle, additional: usize) -> u32
     ensures no_map { (result ≡ ART_NO_MAP) ↔ (map.old.held ≡ None) }
     ensures status { IsDone result → result ≡ ART_NONE }
     ensures same_entries { map.new.held ≡ map.old.held }
 {
-    let Some(mut held) = map.take(alloc) else {
+    let Some(held) = map.lent_mut() else {
         return NO_MAP;
     };
     let reserved = held.reserve(additional);
-    map.hold(held);
     match reserved {
         Ok(_) => NONE,
         Err(_) => NO_MEMORY,
@@ -129,16 +140,15 @@ pub extern "C" fn art_bytes_reserve(alloc: Global, map: &mut BytesHandle, additi
 
 /// Puts the entries into memory in the order of their keys, with room for just them.
 #[unsafe(no_mangle)]
-pub extern "C" fn art_bytes_compact(alloc: Global, map: &mut BytesHandle) -> u32
+pub extern "C" fn art_bytes_compact(map: &mut BytesHandle) -> u32
     ensures no_map { (result ≡ ART_NO_MAP) ↔ (map.old.held ≡ None) }
     ensures status { IsDone result → result ≡ ART_NONE }
     ensures same_entries { map.new.held ≡ map.old.held }
 {
-    let Some(mut held) = map.take(alloc) else {
+    let Some(held) = map.lent_mut() else {
         return NO_MAP;
     };
     let compacted = held.compact();
-    map.hold(held);
     match compacted {
         Ok(_) => NONE,
         Err(_) => NO_MEMORY,
@@ -161,15 +171,15 @@ pub extern "C" fn art_bytes_insert(
         result ≡ status_of (value_of text_order (entries_of map.old.held) key.now) }
     ensures before { IsDone result × (result ≢ ART_KEY_TOO_LONG) → before.new
         ≡ found_or (value_of text_order (entries_of map.old.held) key.now) before.old }
-    ensures too_long { result ≡ ART_KEY_TOO_LONG → 2 ^ 32 ≤ length (escaped_text key.now) }
+    ensures too_long { result ≢ ART_NO_MAP →
+        (result ≡ ART_KEY_TOO_LONG) ↔ (2 ^ 32 ≤ length (escaped_text key.now)) }
     ensures refused { IsRefusal result →
         (map.new.held ≡ map.old.held) × (before.new ≡ before.old) }
 {
-    let Some(mut held) = map.take(alloc) else {
+    let Some(held) = map.lent_mut() else {
         return NO_MAP;
     };
     let inserted = held.insert(alloc, key, value);
-    map.hold(held);
     match inserted {
         Ok(found) => value_status(found, before),
         Err(Refusal::KeyTooLong) => KEY_TOO_LONG,
@@ -181,23 +191,23 @@ pub extern "C" fn art_bytes_insert(
 #[unsafe(no_mangle)]
 pub extern "C" fn art_bytes_get(
     alloc: Global,
-    map: &mut BytesHandle,
+    map: &mut BytesView,
     key: &[u8],
     value: &mut u64,
 ) -> u32
-    ensures no_map { (result ≡ ART_NO_MAP) ↔ (map.old.held ≡ None) }
+    ensures no_map { (result ≡ ART_NO_MAP) ↔ (map.old.seen ≡ None) }
     ensures status { IsDone result →
-        result ≡ status_of (value_of text_order (entries_of map.old.held) key.now) }
+        result ≡ status_of (value_of text_order (entries_of map.old.seen) key.now) }
     ensures value { IsDone result → value.new
-        ≡ found_or (value_of text_order (entries_of map.old.held) key.now) value.old }
+        ≡ found_or (value_of text_order (entries_of map.old.seen) key.now) value.old }
     ensures refused { IsRefusal result → value.new ≡ value.old }
-    ensures same_entries { map.new.held ≡ map.old.held }
+    ensures takes_no_memory { length key.now ≤ 256 → result ≢ ART_NO_MEMORY }
+    ensures same { map.new ≡ map.old }
 {
-    let Some(mut held) = map.take(alloc) else {
+    let Some(held) = map.lent() else {
         return NO_MAP;
     };
-    let found = held.get(key);
-    map.hold(held);
+    let found = held.get(alloc, key);
     match found {
         Ok(found) => value_status(found, value),
         Err(_) => NO_MEMORY,
@@ -222,11 +232,10 @@ pub extern "C" fn art_bytes_remove(
     ensures refused { IsRefusal result →
         (map.new.held ≡ map.old.held) × (value.new ≡ value.old) }
 {
-    let Some(mut held) = map.take(alloc) else {
+    let Some(held) = map.lent_mut() else {
         return NO_MAP;
     };
-    let removed = held.remove(key);
-    map.hold(held);
+    let removed = held.remove(alloc, key);
     match removed {
         Ok(found) => value_status(found, value),
         Err(_) => NO_MEMORY,
@@ -237,36 +246,36 @@ pub extern "C" fn art_bytes_remove(
 #[unsafe(no_mangle)]
 pub extern "C" fn art_bytes_next(
     alloc: Global,
-    map: &mut BytesHandle,
+    map: &mut BytesView,
     from: &[u8],
     inclusive: bool,
     key_out: &mut [u8],
     key_len: &mut usize,
     value: &mut u64,
 ) -> u32
-    ensures no_map { (result ≡ ART_NO_MAP) ↔ (map.old.held ≡ None) }
+    ensures no_map { (result ≡ ART_NO_MAP) ↔ (map.old.seen ≡ None) }
     ensures status { IsDone result → result ≡ status_in
-        (first_of (entries_from text_order inclusive from.now (entries_of map.old.held)))
+        (first_of (entries_from text_order inclusive from.now (entries_of map.old.seen)))
         (length key_out.old) }
     ensures key { IsDone result → key_out.new ≡ key_written
-        (first_of (entries_from text_order inclusive from.now (entries_of map.old.held)))
+        (first_of (entries_from text_order inclusive from.now (entries_of map.old.seen)))
         key_out.old }
     ensures key_len { IsDone result → key_len.new ≡ key_len_or
-        (first_of (entries_from text_order inclusive from.now (entries_of map.old.held)))
+        (first_of (entries_from text_order inclusive from.now (entries_of map.old.seen)))
         key_len.old }
     ensures value { IsDone result → value.new ≡ value_in
-        (first_of (entries_from text_order inclusive from.now (entries_of map.old.held)))
+        (first_of (entries_from text_order inclusive from.now (entries_of map.old.seen)))
         (length key_out.old) value.old }
     ensures refused { IsRefusal result → (key_out.new ≡ key_out.old)
         × (key_len.new ≡ key_len.old) × (value.new ≡ value.old) }
-    ensures same_entries { map.new.held ≡ map.old.held }
+    ensures takes_no_memory { length from.now ≤ 256 → result ≢ ART_NO_MEMORY }
+    ensures same { map.new ≡ map.old }
 {
-    let Some(mut held) = map.take(alloc) else {
+    let Some(held) = map.lent() else {
         return NO_MAP;
     };
     let room = key_out.len();
-    let found = held.next(from, inclusive, key_out);
-    map.hold(held);
+    let found = held.next(alloc, from, inclusive, key_out);
     match found {
         Ok(found) => entry_status(found, room, key_len, value),
         Err(_) => NO_MEMORY,
@@ -277,36 +286,36 @@ pub extern "C" fn art_bytes_next(
 #[unsafe(no_mangle)]
 pub extern "C" fn art_bytes_previous(
     alloc: Global,
-    map: &mut BytesHandle,
+    map: &mut BytesView,
     from: &[u8],
     inclusive: bool,
     key_out: &mut [u8],
     key_len: &mut usize,
     value: &mut u64,
 ) -> u32
-    ensures no_map { (result ≡ ART_NO_MAP) ↔ (map.old.held ≡ None) }
+    ensures no_map { (result ≡ ART_NO_MAP) ↔ (map.old.seen ≡ None) }
     ensures status { IsDone result → result ≡ status_in
-        (last_of (entries_to text_order inclusive from.now (entries_of map.old.held)))
+        (last_of (entries_to text_order inclusive from.now (entries_of map.old.seen)))
         (length key_out.old) }
     ensures key { IsDone result → key_out.new ≡ key_written
-        (last_of (entries_to text_order inclusive from.now (entries_of map.old.held)))
+        (last_of (entries_to text_order inclusive from.now (entries_of map.old.seen)))
         key_out.old }
     ensures key_len { IsDone result → key_len.new ≡ key_len_or
-        (last_of (entries_to text_order inclusive from.now (entries_of map.old.held)))
+        (last_of (entries_to text_order inclusive from.now (entries_of map.old.seen)))
         key_len.old }
     ensures value { IsDone result → value.new ≡ value_in
-        (last_of (entries_to text_order inclusive from.now (entries_of map.old.held)))
+        (last_of (entries_to text_order inclusive from.now (entries_of map.old.seen)))
         (length key_out.old) value.old }
     ensures refused { IsRefusal result → (key_out.new ≡ key_out.old)
         × (key_len.new ≡ key_len.old) × (value.new ≡ value.old) }
-    ensures same_entries { map.new.held ≡ map.old.held }
+    ensures takes_no_memory { length from.now ≤ 256 → result ≢ ART_NO_MEMORY }
+    ensures same { map.new ≡ map.old }
 {
-    let Some(mut held) = map.take(alloc) else {
+    let Some(held) = map.lent() else {
         return NO_MAP;
     };
     let room = key_out.len();
-    let found = held.previous(from, inclusive, key_out);
-    map.hold(held);
+    let found = held.previous(alloc, from, inclusive, key_out);
     match found {
         Ok(found) => entry_status(found, room, key_len, value),
         Err(_) => NO_MEMORY,
@@ -317,7 +326,7 @@ pub extern "C" fn art_bytes_previous(
 #[unsafe(no_mangle)]
 pub extern "C" fn art_bytes_next_with_prefix(
     alloc: Global,
-    map: &mut BytesHandle,
+    map: &mut BytesView,
     prefix: &[u8],
     from: &[u8],
     inclusive: bool,
@@ -325,35 +334,93 @@ pub extern "C" fn art_bytes_next_with_prefix(
     key_len: &mut usize,
     value: &mut u64,
 ) -> u32
-    ensures no_map { (result ≡ ART_NO_MAP) ↔ (map.old.held ≡ None) }
+    ensures no_map { (result ≡ ART_NO_MAP) ↔ (map.old.seen ≡ None) }
     ensures status { IsDone result → result ≡ status_in
         (first_of (entries_from text_order inclusive from.now
-        (entries_with_prefix prefix.now (entries_of map.old.held))))
+        (entries_with_prefix prefix.now (entries_of map.old.seen))))
         (length key_out.old) }
     ensures key { IsDone result → key_out.new ≡ key_written
         (first_of (entries_from text_order inclusive from.now
-        (entries_with_prefix prefix.now (entries_of map.old.held))))
+        (entries_with_prefix prefix.now (entries_of map.old.seen))))
         key_out.old }
     ensures key_len { IsDone result → key_len.new ≡ key_len_or
         (first_of (entries_from text_order inclusive from.now
-        (entries_with_prefix prefix.now (entries_of map.old.held))))
+        (entries_with_prefix prefix.now (entries_of map.old.seen))))
         key_len.old }
     ensures value { IsDone result → value.new ≡ value_in
         (first_of (entries_from text_order inclusive from.now
-        (entries_with_prefix prefix.now (entries_of map.old.held))))
+        (entries_with_prefix prefix.now (entries_of map.old.seen))))
         (length key_out.old) value.old }
     ensures refused { IsRefusal result → (key_out.new ≡ key_out.old)
         × (key_len.new ≡ key_len.old) × (value.new ≡ value.old) }
-    ensures same_entries { map.new.held ≡ map.old.held }
+    ensures takes_no_memory { length prefix.now ≤ 256 → length from.now ≤ 256 → result ≢ ART_NO_MEMORY }
+    ensures same { map.new ≡ map.old }
 {
-    let Some(mut held) = map.take(alloc) else {
+    let Some(held) = map.lent() else {
         return NO_MAP;
     };
     let room = key_out.len();
-    let found = held.next_with_prefix(prefix, from, inclusive, key_out);
-    map.hold(held);
+    let found = held.next_with_prefix(alloc, prefix, from, inclusive, key_out);
     match found {
         Ok(found) => entry_status(found, room, key_len, value),
+        Err(_) => NO_MEMORY,
+    }
+}
+
+/// Writes out the first entries at a key or after it, of those whose keys begin with a prefix: as many as the
+/// buffers hold.
+#[unsafe(no_mangle)]
+pub extern "C" fn art_bytes_next_many(
+    alloc: Global,
+    map: &mut BytesView,
+    prefix: &[u8],
+    from: &[u8],
+    inclusive: bool,
+    keys: &mut [u8],
+    ends: &mut [usize],
+    values: &mut [u64],
+    count: &mut usize,
+    key_len: &mut usize,
+) -> u32
+    ensures no_map { (result ≡ ART_NO_MAP) ↔ (map.old.seen ≡ None) }
+    ensures status { IsDone result → result ≡ batch_status
+        (length (next_fitting
+        (min (length ends.old) (length values.old)) (length keys.old)
+        prefix.now inclusive from.now (entries_of map.old.seen)))
+        (unfit_len (next_fitting
+        (min (length ends.old) (length values.old)) (length keys.old)
+        prefix.now inclusive from.now (entries_of map.old.seen))
+        (first_of (entries_from text_order inclusive from.now
+        (entries_with_prefix prefix.now (entries_of map.old.seen))))) }
+    ensures count { IsDone result → count.new ≡ length (next_fitting
+        (min (length ends.old) (length values.old)) (length keys.old)
+        prefix.now inclusive from.now (entries_of map.old.seen)) }
+    ensures keys { IsDone result → keys.new ≡ begun_with (joined (keys_of (next_fitting
+        (min (length ends.old) (length values.old)) (length keys.old)
+        prefix.now inclusive from.now (entries_of map.old.seen)))) keys.old }
+    ensures ends { IsDone result → ends.new ≡ begun_with (ends_of (next_fitting
+        (min (length ends.old) (length values.old)) (length keys.old)
+        prefix.now inclusive from.now (entries_of map.old.seen))) ends.old }
+    ensures values { IsDone result → values.new ≡ begun_with (values_of (next_fitting
+        (min (length ends.old) (length values.old)) (length keys.old)
+        prefix.now inclusive from.now (entries_of map.old.seen))) values.old }
+    ensures key_len { IsDone result → key_len.new ≡ found_or
+        (unfit_len (next_fitting
+        (min (length ends.old) (length values.old)) (length keys.old)
+        prefix.now inclusive from.now (entries_of map.old.seen))
+        (first_of (entries_from text_order inclusive from.now
+        (entries_with_prefix prefix.now (entries_of map.old.seen))))) key_len.old }
+    ensures refused { IsRefusal result → (keys.new ≡ keys.old) × (ends.new ≡ ends.old)
+        × (values.new ≡ values.old) × (count.new ≡ count.old) × (key_len.new ≡ key_len.old) }
+    ensures takes_no_memory { length prefix.now ≤ 256 → length from.now ≤ 256 →
+        result ≢ ART_NO_MEMORY }
+    ensures same { map.new ≡ map.old }
+{
+    let Some(held) = map.lent() else {
+        return NO_MAP;
+    };
+    match held.next_many(alloc, prefix, from, inclusive, keys, ends, values) {
+        Ok((written, unfit)) => batch_status(written, unfit, count, key_len),
         Err(_) => NO_MEMORY,
     }
 }
@@ -361,63 +428,58 @@ pub extern "C" fn art_bytes_next_with_prefix(
 /// Finds the entry with the least key.
 #[unsafe(no_mangle)]
 pub extern "C" fn art_bytes_first(
-    alloc: Global,
-    map: &mut BytesHandle,
+    map: &mut BytesView,
     key_out: &mut [u8],
     key_len: &mut usize,
     value: &mut u64,
 ) -> u32
-    ensures no_map { (result ≡ ART_NO_MAP) ↔ (map.old.held ≡ None) }
+    ensures no_map { (result ≡ ART_NO_MAP) ↔ (map.old.seen ≡ None) }
     ensures status { result ≢ ART_NO_MAP → result
-        ≡ status_in (first_of (entries_of map.old.held)) (length key_out.old) }
-    ensures key { key_out.new ≡ key_written (first_of (entries_of map.old.held)) key_out.old }
+        ≡ status_in (first_of (entries_of map.old.seen)) (length key_out.old) }
+    ensures key { key_out.new ≡ key_written (first_of (entries_of map.old.seen)) key_out.old }
     ensures key_len { key_len.new
-        ≡ key_len_or (first_of (entries_of map.old.held)) key_len.old }
+        ≡ key_len_or (first_of (entries_of map.old.seen)) key_len.old }
     ensures value { value.new
-        ≡ value_in (first_of (entries_of map.old.held)) (length key_out.old) value.old }
-    ensures same_entries { map.new.held ≡ map.old.held }
+        ≡ value_in (first_of (entries_of map.old.seen)) (length key_out.old) value.old }
+    ensures same { map.new ≡ map.old }
 {
-    let Some(held) = map.take(alloc) else {
+    let Some(held) = map.lent() else {
         return NO_MAP;
     };
     let room = key_out.len();
     let found = held.first(key_out);
-    map.hold(held);
     entry_status(found, room, key_len, value)
 }
 
 /// Finds the entry with the greatest key.
 #[unsafe(no_mangle)]
 pub extern "C" fn art_bytes_last(
-    alloc: Global,
-    map: &mut BytesHandle,
+    map: &mut BytesView,
     key_out: &mut [u8],
     key_len: &mut usize,
     value: &mut u64,
 ) -> u32
-    ensures no_map { (result ≡ ART_NO_MAP) ↔ (map.old.held ≡ None) }
+    ensures no_map { (result ≡ ART_NO_MAP) ↔ (map.old.seen ≡ None) }
     ensures status { result ≢ ART_NO_MAP → result
-        ≡ status_in (last_of (entries_of map.old.held)) (length key_out.old) }
-    ensures key { key_out.new ≡ key_written (last_of (entries_of map.old.held)) key_out.old }
+        ≡ status_in (last_of (entries_of map.old.seen)) (length key_out.old) }
+    ensures key { key_out.new ≡ key_written (last_of (entries_of map.old.seen)) key_out.old }
     ensures key_len { key_len.new
-        ≡ key_len_or (last_of (entries_of map.old.held)) key_len.old }
+        ≡ key_len_or (last_of (entries_of map.old.seen)) key_len.old }
     ensures value { value.new
-        ≡ value_in (last_of (entries_of map.old.held)) (length key_out.old) value.old }
-    ensures same_entries { map.new.held ≡ map.old.held }
+        ≡ value_in (last_of (entries_of map.old.seen)) (length key_out.old) value.old }
+    ensures same { map.new ≡ map.old }
 {
-    let Some(held) = map.take(alloc) else {
+    let Some(held) = map.lent() else {
         return NO_MAP;
     };
     let room = key_out.len();
     let found = held.last(key_out);
-    map.hold(held);
     entry_status(found, room, key_len, value)
 }
 
 /// Finds the entry with the least key, and removes it where its key fits.
 #[unsafe(no_mangle)]
 pub extern "C" fn art_bytes_pop_first(
-    alloc: Global,
     map: &mut BytesHandle,
     key_out: &mut [u8],
     key_len: &mut usize,
@@ -437,12 +499,11 @@ pub extern "C" fn art_bytes_pop_first(
     ensures refused { IsRefusal result → (key_out.new ≡ key_out.old)
         × (key_len.new ≡ key_len.old) × (value.new ≡ value.old) }
 {
-    let Some(mut held) = map.take(alloc) else {
+    let Some(held) = map.lent_mut() else {
         return NO_MAP;
     };
     let room = key_out.len();
     let found = held.pop_first(key_out);
-    map.hold(held);
     match found {
         Ok(found) => entry_status(found, room, key_len, value),
         Err(_) => NO_MEMORY,
@@ -452,7 +513,6 @@ pub extern "C" fn art_bytes_pop_first(
 /// Finds the entry with the greatest key, and removes it where its key fits.
 #[unsafe(no_mangle)]
 pub extern "C" fn art_bytes_pop_last(
-    alloc: Global,
     map: &mut BytesHandle,
     key_out: &mut [u8],
     key_len: &mut usize,
@@ -472,12 +532,11 @@ pub extern "C" fn art_bytes_pop_last(
     ensures refused { IsRefusal result → (key_out.new ≡ key_out.old)
         × (key_len.new ≡ key_len.old) × (value.new ≡ value.old) }
 {
-    let Some(mut held) = map.take(alloc) else {
+    let Some(held) = map.lent_mut() else {
         return NO_MAP;
     };
     let room = key_out.len();
     let found = held.pop_last(key_out);
-    map.hold(held);
     match found {
         Ok(found) => entry_status(found, room, key_len, value),
         Err(_) => NO_MEMORY,
@@ -487,19 +546,16 @@ pub extern "C" fn art_bytes_pop_last(
 /// How many keys begin with these bytes, 0 where there is no map, or the greatest `usize` where memory
 /// for them is refused.
 #[unsafe(no_mangle)]
-pub extern "C" fn art_bytes_count_prefix(
-    alloc: Global,
-    map: &mut BytesHandle,
-    prefix: &[u8],
-) -> usize
-    ensures count { (result ≡ length (entries_with_prefix prefix.now (entries_of map.old.held)))
+pub extern "C" fn art_bytes_count_prefix(alloc: Global, map: &mut BytesView, prefix: &[u8]) -> usize
+    ensures count { (result ≡ length (entries_with_prefix prefix.now (entries_of map.old.seen)))
         ⊎ (result ≡ 2 ^ 64 - 1) }
-    ensures same_entries { map.new.held ≡ map.old.held }
+    ensures takes_no_memory { length prefix.now ≤ 256 →
+        result ≡ length (entries_with_prefix prefix.now (entries_of map.old.seen)) }
+    ensures same { map.new ≡ map.old }
 {
-    let Some(held) = map.take(alloc) else {
+    let Some(held) = map.lent() else {
         return 0;
     };
     let counted = held.count_prefix(alloc, prefix);
-    map.hold(held);
     counted.unwrap_or(usize::MAX)
 }

@@ -6,7 +6,7 @@ ghost use Rattle.art_c.specs.Handles.{coded_behind, owns_behind, bytes_row};
 use crate::parts::Parts;
 use art_c_maps::BytesMap;
 use std::alloc::Global;
-use std::marker::Model;
+use std::marker::{Model, Send};
 use std::mem;
 use std::ptr::null_mut;
 
@@ -24,7 +24,13 @@ impl Model for BytesHandle {
     ghost also_owns = { λ handle. owns_behind bytes_row handle.alloc handle.ptr handle.held };
 }
 
+// Its map may go to another thread with it.
+unsafe impl Send for BytesHandle {}
+
 impl BytesHandle {
+    ghost use Rattle.std.specs.Borrow.{sem};
+    ghost use Rattle.art_c.specs.Lending.{LendsBytes};
+
     /// A handle that holds no map.
     pub(crate) fn empty(alloc: Global) -> BytesHandle
         ensures { result.held ≡ None }
@@ -56,6 +62,19 @@ impl BytesHandle {
                 ptr: ptr as *mut BytesMap,
                 alloc,
             })
+        }
+    }
+
+    /// The map behind the handle, where it holds one. The handle itself is not written.
+    pub(crate) fn lent_mut(&mut self) -> Option<&mut BytesMap>
+        ensures* writes_back { sem 𝓛 (LendsBytes self.entry result) }
+        ensures map { option_map (λ map. map.now) result ≡ self.old.held }
+    {
+        let ptr = self.ptr;
+        if ptr.is_null() {
+            None
+        } else {
+            Some(unsafe { &mut *(ptr as *mut BytesMap) })
         }
     }
 

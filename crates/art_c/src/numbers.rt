@@ -4,9 +4,10 @@ ghost use Rattle.std.specs.Option.{option_map};
 ghost use Rattle.std.specs.Ordering.{nat_cmp};
 ghost use Rattle.art_c.specs.Handles.{entries_of};
 ghost use Rattle.art_c.specs.Statuses.{ART_HAS_MAP, ART_NONE, ART_NO_MAP, ART_NO_MEMORY, IsDone, IsRefusal, found_or, number_or, status_of, value_or};
-ghost use Rattle.art_c_maps.specs.Entries.{begun_with, entries_from, entries_to, first_of, keys_of, last_of, next_entries, put, value_of, values_of, without};
+ghost use Rattle.art_c_maps.specs.Entries.{begun_with, entries_from, entries_to, first_of, keys_of, last_of, next_entries, previous_entries, put, value_of, values_of, without};
 
 use crate::number_handle::NumberHandle;
+use crate::number_view::NumberView;
 use crate::statuses::{HAS_MAP, NO_MAP, NO_MEMORY, NONE, SOME};
 use art_c_maps::NumberMap;
 use std::alloc::{AllocError, Global};
@@ -84,42 +85,39 @@ pub extern "C" fn art_u64_free(alloc: Global, map: &mut NumberHandle)
 
 /// The number of entries, 0 where there is no map.
 #[unsafe(no_mangle)]
-pub extern "C" fn art_u64_len(alloc: Global, map: &mut NumberHandle) -> usize
-    ensures len { result ≡ length (entries_of map.old.held) }
-    ensures same_entries { map.new.held ≡ map.old.held }
+pub extern "C" fn art_u64_len(map: &mut NumberView) -> usize
+    ensures len { result ≡ length (entries_of map.old.seen) }
+    ensures same { map.new ≡ map.old }
 {
-    let Some(held) = map.take(alloc) else {
+    let Some(held) = map.lent() else {
         return 0;
     };
     let len = held.len();
-    map.hold(held);
     len
 }
 
 /// Removes all entries.
 #[unsafe(no_mangle)]
-pub extern "C" fn art_u64_clear(alloc: Global, map: &mut NumberHandle)
+pub extern "C" fn art_u64_clear(map: &mut NumberHandle)
     ensures { map.new.held ≡ option_map (λ _. []) map.old.held }
 {
-    let Some(mut held) = map.take(alloc) else {
+    let Some(held) = map.lent_mut() else {
         return;
     };
     held.clear();
-    map.hold(held);
 }
 
 /// Reserves memory for more entries.
 #[unsafe(no_mangle)]
-pub extern "C" fn art_u64_reserve(alloc: Global, map: &mut NumberHandle, additional: usize) -> u32
+pub extern "C" fn art_u64_reserve(map: &mut NumberHandle, additional: usize) -> u32
     ensures no_map { (result ≡ ART_NO_MAP) ↔ (map.old.held ≡ None) }
     ensures status { IsDone result → result ≡ ART_NONE }
     ensures same_entries { map.new.held ≡ map.old.held }
 {
-    let Some(mut held) = map.take(alloc) else {
+    let Some(held) = map.lent_mut() else {
         return NO_MAP;
     };
     let reserved = held.reserve(additional);
-    map.hold(held);
     match reserved {
         Ok(_) => NONE,
         Err(_) => NO_MEMORY,
@@ -128,16 +126,15 @@ pub extern "C" fn art_u64_reserve(alloc: Global, map: &mut NumberHandle, additio
 
 /// Puts the entries into memory in the order of their keys, with room for just them.
 #[unsafe(no_mangle)]
-pub extern "C" fn art_u64_compact(alloc: Global, map: &mut NumberHandle) -> u32
+pub extern "C" fn art_u64_compact(map: &mut NumberHandle) -> u32
     ensures no_map { (result ≡ ART_NO_MAP) ↔ (map.old.held ≡ None) }
     ensures status { IsDone result → result ≡ ART_NONE }
     ensures same_entries { map.new.held ≡ map.old.held }
 {
-    let Some(mut held) = map.take(alloc) else {
+    let Some(held) = map.lent_mut() else {
         return NO_MAP;
     };
     let compacted = held.compact();
-    map.hold(held);
     match compacted {
         Ok(_) => NONE,
         Err(_) => NO_MEMORY,
@@ -147,7 +144,6 @@ pub extern "C" fn art_u64_compact(alloc: Global, map: &mut NumberHandle) -> u32
 /// Sets the value of a key, and writes out the one that it had.
 #[unsafe(no_mangle)]
 pub extern "C" fn art_u64_insert(
-    alloc: Global,
     map: &mut NumberHandle,
     key: u64,
     value: u64,
@@ -163,45 +159,33 @@ pub extern "C" fn art_u64_insert(
     ensures refused { IsRefusal result →
         (map.new.held ≡ map.old.held) × (before.new ≡ before.old) }
 {
-    let Some(mut held) = map.take(alloc) else {
+    let Some(held) = map.lent_mut() else {
         return NO_MAP;
     };
     let inserted = held.insert(key, value);
-    map.hold(held);
     changed_status(inserted, before)
 }
 
 /// Finds the value of a key.
 #[unsafe(no_mangle)]
-pub extern "C" fn art_u64_get(
-    alloc: Global,
-    map: &mut NumberHandle,
-    key: u64,
-    value: &mut u64,
-) -> u32
-    ensures no_map { (result ≡ ART_NO_MAP) ↔ (map.old.held ≡ None) }
+pub extern "C" fn art_u64_get(map: &mut NumberView, key: u64, value: &mut u64) -> u32
+    ensures no_map { (result ≡ ART_NO_MAP) ↔ (map.old.seen ≡ None) }
     ensures status { result ≢ ART_NO_MAP →
-        result ≡ status_of (value_of nat_cmp (entries_of map.old.held) key) }
+        result ≡ status_of (value_of nat_cmp (entries_of map.old.seen) key) }
     ensures value { value.new
-        ≡ found_or (value_of nat_cmp (entries_of map.old.held) key) value.old }
-    ensures same_entries { map.new.held ≡ map.old.held }
+        ≡ found_or (value_of nat_cmp (entries_of map.old.seen) key) value.old }
+    ensures same { map.new ≡ map.old }
 {
-    let Some(held) = map.take(alloc) else {
+    let Some(held) = map.lent() else {
         return NO_MAP;
     };
     let found = held.get(key);
-    map.hold(held);
     value_status(found, value)
 }
 
 /// Removes a key, and writes out its value.
 #[unsafe(no_mangle)]
-pub extern "C" fn art_u64_remove(
-    alloc: Global,
-    map: &mut NumberHandle,
-    key: u64,
-    value: &mut u64,
-) -> u32
+pub extern "C" fn art_u64_remove(map: &mut NumberHandle, key: u64, value: &mut u64) -> u32
     ensures no_map { (result ≡ ART_NO_MAP) ↔ (map.old.held ≡ None) }
     ensures entries { IsDone result →
         map.new.held ≡ Some (without nat_cmp (entries_of map.old.held) key) }
@@ -212,120 +196,98 @@ pub extern "C" fn art_u64_remove(
     ensures refused { IsRefusal result →
         (map.new.held ≡ map.old.held) × (value.new ≡ value.old) }
 {
-    let Some(mut held) = map.take(alloc) else {
+    let Some(held) = map.lent_mut() else {
         return NO_MAP;
     };
     let removed = held.remove(key);
-    map.hold(held);
     changed_status(removed, value)
 }
 
 /// Finds the first entry at a key or after it.
 #[unsafe(no_mangle)]
 pub extern "C" fn art_u64_next(
-    alloc: Global,
-    map: &mut NumberHandle,
+    map: &mut NumberView,
     from: u64,
     inclusive: bool,
     key: &mut u64,
     value: &mut u64,
 ) -> u32
-    ensures no_map { (result ≡ ART_NO_MAP) ↔ (map.old.held ≡ None) }
+    ensures no_map { (result ≡ ART_NO_MAP) ↔ (map.old.seen ≡ None) }
     ensures status { result ≢ ART_NO_MAP → result
-        ≡ status_of (first_of (entries_from nat_cmp inclusive from (entries_of map.old.held))) }
+        ≡ status_of (first_of (entries_from nat_cmp inclusive from (entries_of map.old.seen))) }
     ensures key { key.new ≡ number_or
-        (first_of (entries_from nat_cmp inclusive from (entries_of map.old.held))) key.old }
+        (first_of (entries_from nat_cmp inclusive from (entries_of map.old.seen))) key.old }
     ensures value { value.new ≡ value_or
-        (first_of (entries_from nat_cmp inclusive from (entries_of map.old.held))) value.old }
-    ensures same_entries { map.new.held ≡ map.old.held }
+        (first_of (entries_from nat_cmp inclusive from (entries_of map.old.seen))) value.old }
+    ensures same { map.new ≡ map.old }
 {
-    let Some(held) = map.take(alloc) else {
+    let Some(held) = map.lent() else {
         return NO_MAP;
     };
     let found = held.next(from, inclusive);
-    map.hold(held);
     entry_status(found, key, value)
 }
 
 /// Finds the last entry at a key or before it.
 #[unsafe(no_mangle)]
 pub extern "C" fn art_u64_previous(
-    alloc: Global,
-    map: &mut NumberHandle,
+    map: &mut NumberView,
     from: u64,
     inclusive: bool,
     key: &mut u64,
     value: &mut u64,
 ) -> u32
-    ensures no_map { (result ≡ ART_NO_MAP) ↔ (map.old.held ≡ None) }
+    ensures no_map { (result ≡ ART_NO_MAP) ↔ (map.old.seen ≡ None) }
     ensures status { result ≢ ART_NO_MAP → result
-        ≡ status_of (last_of (entries_to nat_cmp inclusive from (entries_of map.old.held))) }
+        ≡ status_of (last_of (entries_to nat_cmp inclusive from (entries_of map.old.seen))) }
     ensures key { key.new ≡ number_or
-        (last_of (entries_to nat_cmp inclusive from (entries_of map.old.held))) key.old }
+        (last_of (entries_to nat_cmp inclusive from (entries_of map.old.seen))) key.old }
     ensures value { value.new ≡ value_or
-        (last_of (entries_to nat_cmp inclusive from (entries_of map.old.held))) value.old }
-    ensures same_entries { map.new.held ≡ map.old.held }
+        (last_of (entries_to nat_cmp inclusive from (entries_of map.old.seen))) value.old }
+    ensures same { map.new ≡ map.old }
 {
-    let Some(held) = map.take(alloc) else {
+    let Some(held) = map.lent() else {
         return NO_MAP;
     };
     let found = held.previous(from, inclusive);
-    map.hold(held);
     entry_status(found, key, value)
 }
 
 /// Finds the entry with the least key.
 #[unsafe(no_mangle)]
-pub extern "C" fn art_u64_first(
-    alloc: Global,
-    map: &mut NumberHandle,
-    key: &mut u64,
-    value: &mut u64,
-) -> u32
-    ensures no_map { (result ≡ ART_NO_MAP) ↔ (map.old.held ≡ None) }
-    ensures status { result ≢ ART_NO_MAP → result ≡ status_of (first_of (entries_of map.old.held)) }
-    ensures key { key.new ≡ number_or (first_of (entries_of map.old.held)) key.old }
-    ensures value { value.new ≡ value_or (first_of (entries_of map.old.held)) value.old }
-    ensures same_entries { map.new.held ≡ map.old.held }
+pub extern "C" fn art_u64_first(map: &mut NumberView, key: &mut u64, value: &mut u64) -> u32
+    ensures no_map { (result ≡ ART_NO_MAP) ↔ (map.old.seen ≡ None) }
+    ensures status { result ≢ ART_NO_MAP → result ≡ status_of (first_of (entries_of map.old.seen)) }
+    ensures key { key.new ≡ number_or (first_of (entries_of map.old.seen)) key.old }
+    ensures value { value.new ≡ value_or (first_of (entries_of map.old.seen)) value.old }
+    ensures same { map.new ≡ map.old }
 {
-    let Some(held) = map.take(alloc) else {
+    let Some(held) = map.lent() else {
         return NO_MAP;
     };
     let found = held.first();
-    map.hold(held);
     entry_status(found, key, value)
 }
 
 /// Finds the entry with the greatest key.
 #[unsafe(no_mangle)]
-pub extern "C" fn art_u64_last(
-    alloc: Global,
-    map: &mut NumberHandle,
-    key: &mut u64,
-    value: &mut u64,
-) -> u32
-    ensures no_map { (result ≡ ART_NO_MAP) ↔ (map.old.held ≡ None) }
-    ensures status { result ≢ ART_NO_MAP → result ≡ status_of (last_of (entries_of map.old.held)) }
-    ensures key { key.new ≡ number_or (last_of (entries_of map.old.held)) key.old }
-    ensures value { value.new ≡ value_or (last_of (entries_of map.old.held)) value.old }
-    ensures same_entries { map.new.held ≡ map.old.held }
+pub extern "C" fn art_u64_last(map: &mut NumberView, key: &mut u64, value: &mut u64) -> u32
+    ensures no_map { (result ≡ ART_NO_MAP) ↔ (map.old.seen ≡ None) }
+    ensures status { result ≢ ART_NO_MAP → result ≡ status_of (last_of (entries_of map.old.seen)) }
+    ensures key { key.new ≡ number_or (last_of (entries_of map.old.seen)) key.old }
+    ensures value { value.new ≡ value_or (last_of (entries_of map.old.seen)) value.old }
+    ensures same { map.new ≡ map.old }
 {
-    let Some(held) = map.take(alloc) else {
+    let Some(held) = map.lent() else {
         return NO_MAP;
     };
     let found = held.last();
-    map.hold(held);
     entry_status(found, key, value)
 }
 
 /// Removes the entry with the least key, and writes it out.
 #[unsafe(no_mangle)]
-pub extern "C" fn art_u64_pop_first(
-    alloc: Global,
-    map: &mut NumberHandle,
-    key: &mut u64,
-    value: &mut u64,
-) -> u32
+pub extern "C" fn art_u64_pop_first(map: &mut NumberHandle, key: &mut u64, value: &mut u64) -> u32
     ensures no_map { (result ≡ ART_NO_MAP) ↔ (map.old.held ≡ None) }
     ensures entries { IsDone result → map.new.held ≡ Some (drop 1 (entries_of map.old.held)) }
     ensures status { IsDone result → result ≡ status_of (first_of (entries_of map.old.held)) }
@@ -336,11 +298,10 @@ pub extern "C" fn art_u64_pop_first(
     ensures refused { IsRefusal result →
         (map.new.held ≡ map.old.held) × (key.new ≡ key.old) × (value.new ≡ value.old) }
 {
-    let Some(mut held) = map.take(alloc) else {
+    let Some(held) = map.lent_mut() else {
         return NO_MAP;
     };
     let removed = held.pop_first();
-    map.hold(held);
     match removed {
         Ok(removed) => entry_status(removed, key, value),
         Err(_) => NO_MEMORY,
@@ -349,12 +310,7 @@ pub extern "C" fn art_u64_pop_first(
 
 /// Removes the entry with the greatest key, and writes it out.
 #[unsafe(no_mangle)]
-pub extern "C" fn art_u64_pop_last(
-    alloc: Global,
-    map: &mut NumberHandle,
-    key: &mut u64,
-    value: &mut u64,
-) -> u32
+pub extern "C" fn art_u64_pop_last(map: &mut NumberHandle, key: &mut u64, value: &mut u64) -> u32
     ensures no_map { (result ≡ ART_NO_MAP) ↔ (map.old.held ≡ None) }
     ensures entries { IsDone result → map.new.held ≡ Some (take (length (entries_of map.old.held) - 1) (entries_of map.old.held)) }
     ensures status { IsDone result → result ≡ status_of (last_of (entries_of map.old.held)) }
@@ -365,11 +321,10 @@ pub extern "C" fn art_u64_pop_last(
     ensures refused { IsRefusal result →
         (map.new.held ≡ map.old.held) × (key.new ≡ key.old) × (value.new ≡ value.old) }
 {
-    let Some(mut held) = map.take(alloc) else {
+    let Some(held) = map.lent_mut() else {
         return NO_MAP;
     };
     let removed = held.pop_last();
-    map.hold(held);
     match removed {
         Ok(removed) => entry_status(removed, key, value),
         Err(_) => NO_MEMORY,
@@ -380,25 +335,48 @@ pub extern "C" fn art_u64_pop_last(
 /// how many.
 #[unsafe(no_mangle)]
 pub extern "C" fn art_u64_next_many(
-    alloc: Global,
-    map: &mut NumberHandle,
+    map: &mut NumberView,
     from: u64,
     inclusive: bool,
     keys: &mut [u64],
     values: &mut [u64],
 ) -> usize
     ensures count { result ≡ length (next_entries nat_cmp
-        (min (length keys.old) (length values.old)) inclusive from (entries_of map.old.held)) }
+        (min (length keys.old) (length values.old)) inclusive from (entries_of map.old.seen)) }
     ensures keys { keys.new ≡ begun_with (keys_of (next_entries nat_cmp
-        (min (length keys.old) (length values.old)) inclusive from (entries_of map.old.held))) keys.old }
+        (min (length keys.old) (length values.old)) inclusive from (entries_of map.old.seen))) keys.old }
     ensures values { values.new ≡ begun_with (values_of (next_entries nat_cmp
-        (min (length keys.old) (length values.old)) inclusive from (entries_of map.old.held))) values.old }
-    ensures same_entries { map.new.held ≡ map.old.held }
+        (min (length keys.old) (length values.old)) inclusive from (entries_of map.old.seen))) values.old }
+    ensures same { map.new ≡ map.old }
 {
-    let Some(held) = map.take(alloc) else {
+    let Some(held) = map.lent() else {
         return 0;
     };
     let count = held.next_many(from, inclusive, keys, values);
-    map.hold(held);
+    count
+}
+
+/// Writes out the last entries at a key or before it, from the last one down, as many as the shorter of both
+/// arrays holds. Returns how many.
+#[unsafe(no_mangle)]
+pub extern "C" fn art_u64_previous_many(
+    map: &mut NumberView,
+    from: u64,
+    inclusive: bool,
+    keys: &mut [u64],
+    values: &mut [u64],
+) -> usize
+    ensures count { result ≡ length (previous_entries nat_cmp
+        (min (length keys.old) (length values.old)) inclusive from (entries_of map.old.seen)) }
+    ensures keys { keys.new ≡ begun_with (keys_of (previous_entries nat_cmp
+        (min (length keys.old) (length values.old)) inclusive from (entries_of map.old.seen))) keys.old }
+    ensures values { values.new ≡ begun_with (values_of (previous_entries nat_cmp
+        (min (length keys.old) (length values.old)) inclusive from (entries_of map.old.seen))) values.old }
+    ensures same { map.new ≡ map.old }
+{
+    let Some(held) = map.lent() else {
+        return 0;
+    };
+    let count = held.previous_many(from, inclusive, keys, values);
     count
 }

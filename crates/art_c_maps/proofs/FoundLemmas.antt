@@ -1,9 +1,9 @@
 -- An entry that was found, read as key and value.
-use Rattle.std.proofs.Common.{◌≡◌, ◌≤◌, ◌∙◌, Bool, filter, ◌-◌, ℕ, List, [], ◌∷◌, ◌++◌, length, drop, take, Option, Some, None, IfSome, IfNone, Result, Ok, Err, IfOk, OnOk, refl, sym, ap, subst, arith, length-append}
+use Rattle.std.proofs.Common.{◌≡◌, ◌≤◌, ◌∙◌, Bool, filter, ◌-◌, ℕ, List, [], ◌∷◌, ◌++◌, length, drop, reverse, take, Option, Some, None, IfSome, IfNone, Result, Ok, Err, IfOk, OnOk, refl, sym, ap, subst, arith, length-append}
 use Rattle.std.specs.Option.{MatchOption, option_map}
 use Rattle.std.specs.Prelude.{slice_get}
 use Rattle.std.specs.Borrow.{Bor}
-use Rattle.std.proofs.lemmas.List.{length-map, map-append}
+use Rattle.std.proofs.lemmas.List.{length-map, map-append, reverse-append}
 use Rattle.std.proofs.Math.Seq.{take-append_seam}
 use Rattle.std.proofs.lemmas.List.Sums.{count_by-le-length, length-filter}
 use Rattle.std.proofs.lemmas.Option.{slice_get-map}
@@ -60,11 +60,26 @@ module _ {T K V : Type 0} (read : List ℕ → K) (text : T → List ℕ) where
   first-yielded None all left Empty yields found is = subst (λ f. MatchOption f (entries_read read text all ≡ []) (λ entry. entries_read read text all ≡ entry ∷ entries_read read text left)) (sym is) (ap (entries_read read text) yields.0)
   first-yielded (Some x) all left Empty yields found is = subst (λ f. MatchOption f (entries_read read text all ≡ []) (λ entry. entries_read read text all ≡ entry ∷ entries_read read text left)) (sym is) (ap (entries_read read text) yields)
 
+  pub last-yielded : (item : Option (Bor T × Bor V)) (all left : List (T × V)) (Empty : Type 0) → MatchOption item ((all ≡ []) × Empty) (λ x. all ≡ left ++ now_of x ∷ [])
+      → (found : Option (K × V)) → found ≡ option_map (λ x. (read (text x.0.now), x.1.now)) item
+      → MatchOption found (reverse (entries_read read text all) ≡ []) (λ entry. reverse (entries_read read text all) ≡ entry ∷ reverse (entries_read read text left))
+  last-yielded None all left Empty yields found is = subst (λ f. MatchOption f (reverse (entries_read read text all) ≡ []) (λ entry. reverse (entries_read read text all) ≡ entry ∷ reverse (entries_read read text left))) (sym is) (ap (λ es. reverse (entries_read read text es)) yields.0)
+  last-yielded (Some x) all left Empty yields found is =
+      let last = entry_read (now_of x) in
+      let down : reverse (entries_read read text all) ≡ last ∷ reverse (entries_read read text left) =
+      ap (λ es. reverse (entries_read read text es)) yields ∙ ap reverse (map-append entry_read left (now_of x ∷ [])) ∙ reverse-append (entries_read read text left) (last ∷ []) in
+      subst (λ f. MatchOption f (reverse (entries_read read text all) ≡ []) (λ entry. reverse (entries_read read text all) ≡ entry ∷ reverse (entries_read read text left))) (sym is) down
+
 -- key's length and value of an entry that was found
 pub lengths-of : {T : Type 0} (text : T → List ℕ) (found : Option (Bor T × Bor ℕ)) → option_map (λ item. (length (unescaped (text item.0.now)), item.1.now)) found
     ≡ option_map len_and_value (option_map (λ item. (unescaped (text item.0.now), item.1.now)) found)
 lengths-of text None = refl
 lengths-of text (Some item) = refl
+
+pub key-lengths-of : {T : Type 0} (text : T → List ℕ) (found : Option (Bor T × Bor ℕ)) → option_map (λ (item : Bor T × Bor ℕ). length (unescaped (text item.0.now))) found
+    ≡ option_map (λ (entry : List ℕ × ℕ). length entry.0) (option_map (λ (item : Bor T × Bor ℕ). (unescaped (text item.0.now), item.1.now)) found)
+key-lengths-of text None = refl
+key-lengths-of text (Some item) = refl
 
 pub removed-lengths : {T : Type 0} (text : T → List ℕ) (removed : Option (T × ℕ)) → option_map (λ item. (length (unescaped (text item.0)), item.1)) removed
     ≡ option_map len_and_value (option_map (λ item. (unescaped (text item.0), item.1)) removed)

@@ -1,4 +1,6 @@
+mod BatchLemmas
 mod ByteLemmas
+mod EscapedLemmas
 mod FoundLemmas
 mod NumberLemmas
 mod PrefixLemmas

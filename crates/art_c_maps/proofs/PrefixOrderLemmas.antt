@@ -1,6 +1,6 @@
 -- Where the keys that begin with a prefix are among keys in order.
-use Rattle.std.proofs.Common.{◌≡◌, ◌∙◌, ℕ, Bool, true, false, cond, List, [], ◌∷◌, filter, Option, Some, None, refl, sym, ap, subst, nat_eq, eq-eqb, inl, inr}
-use Rattle.std.specs.List.{starts_with}
+use Rattle.std.proofs.Common.{◌≡◌, ◌∙◌, ℕ, Bool, true, false, List, [], ◌∷◌, filter, Some, None, refl, sym, ap, subst, nat_eq, eq-eqb, inl, inr}
+use Rattle.std.specs.List.{starts_with, take_while}
 use Rattle.std.specs.Cmp.{nat_cmp_is}
 use Rattle.std.specs.Ordering.{nat_cmp, is_ge, is_gt, is_lt, ordering_reverse, ordering_then}
 use Rattle.std.specs.Prelude.{◌&&◌, if◌then◌else◌}
@@ -8,7 +8,9 @@ use Rattle.std.specs.declared.cmp.Ordering.{Ordering}
 use Rattle.std.specs.declared.cmp.Ordering.TheVariants.{Less, Equal, Greater}
 use Rattle.std.proofs.lemmas.Bool.Decides.{eqb_tells}
 use Rattle.std.proofs.lemmas.Cmp.{nat_list_cmp_total, ranked}
+use Rattle.std.proofs.lemmas.List.Sums.{take_while-cons}
 use Rattle.art_bytes.specs.Text.{text_order}
+use Rattle.art_c_maps.specs.Batch.{begun}
 use Rattle.art_c_maps.specs.Entries.{entries_from, entries_with_prefix, first_of}
 use Rattle.art_c_maps.specs.Unescaped.{with_prefix}
 use Rattle.art_c_maps.proofs.ReadLemmas.{Ascend, IsBelow}
@@ -68,13 +70,15 @@ after-after x y z first second = by_order (text_order x y) refl (text_order y z)
     by_order Greater is Equal next = ap is_ge (reversed z x Less (sym (nat_list_cmp_total.congr y z x next) ∙ reversed x y Greater is))
     by_order Greater is Greater next = ap is_ge (reversed z x Less (nat_list_cmp_total.trans z y x (reversed y z Greater next) (reversed x y Greater is)))
 
--- the first of the entries that are from a start on, where it has P, is the first of those with P that are from another
-module _ (P from_start from_other : List ℕ → Bool) (with_p : Option (List ℕ × ℕ) → Option (List ℕ × ℕ))
-    (with_none : with_p None ≡ None) (with_some : (entry : List ℕ × ℕ) → with_p (Some entry) ≡ cond (P entry.0) (Some entry) None)
+-- of the entries that are from a start on the run with P, as far as it goes, is those with P that are from another start on
+module _ (P from_start from_other : List ℕ → Bool)
     (same : (y : List ℕ) → P y ≡ true → from_other y ≡ from_start y)
     (convex : (x y : List ℕ) → from_start x ≡ true → text_order x y ≡ Less → P y ≡ true → P x ≡ true) where
   abbrev Entries : Type 0
   Entries = List (List ℕ × ℕ)
+
+  abbrev run-of : Entries → Entries
+  run-of entries = take_while (λ e. P e.0) entries
 
   none-above : (x : List ℕ) → from_start x ≡ true → P x ≡ false → (entries : Entries) → IsBelow text_order x entries → filter (λ e. P e.0) entries ≡ []
   none-above x from without [] below = refl
@@ -84,17 +88,17 @@ module _ (P from_start from_other : List ℕ → Bool) (with_p : Option (List �
       by_test true has rest = absurd (let clash = sym without ∙ convex x entry.0 from below.0 has in cc)
       by_test false has rest = rw has rest
 
-  pub first-with : (entries : Entries) → Ascend text_order entries
-      → with_p (first_of (filter (λ e. from_start e.0) entries)) ≡ first_of (filter (λ e. from_other e.0) (filter (λ e. P e.0) entries))
-  first-with [] ascend = with_none
-  first-with (entry ∷ entries) ascend = by_tests (P entry.0) refl (from_start entry.0) refl (first-with entries ascend.1)
+  pub run-with : (entries : Entries) → Ascend text_order entries
+      → run-of (filter (λ e. from_start e.0) entries) ≡ filter (λ e. from_other e.0) (filter (λ e. P e.0) entries)
+  run-with [] ascend = refl
+  run-with (entry ∷ entries) ascend = by_tests (P entry.0) refl (from_start entry.0) refl (run-with entries ascend.1)
     where
       by_tests : (p : Bool) → P entry.0 ≡ p → (f : Bool) → from_start entry.0 ≡ f
-          → with_p (first_of (filter (λ e. from_start e.0) entries)) ≡ first_of (filter (λ e. from_other e.0) (filter (λ e. P e.0) entries))
-          → with_p (first_of (filter (λ e. from_start e.0) (entry ∷ entries))) ≡ first_of (filter (λ e. from_other e.0) (filter (λ e. P e.0) (entry ∷ entries)))
-      by_tests true has true is rest = rw (has, is) (rw (same entry.0 has ∙ is) (with_some entry ∙ rw has refl))
+          → run-of (filter (λ e. from_start e.0) entries) ≡ filter (λ e. from_other e.0) (filter (λ e. P e.0) entries)
+          → run-of (filter (λ e. from_start e.0) (entry ∷ entries)) ≡ filter (λ e. from_other e.0) (filter (λ e. P e.0) (entry ∷ entries))
+      by_tests true has true is rest = rw (has, is, same entry.0 has) (take_while-cons (λ e. P e.0) entry (filter (λ e. from_start e.0) entries) ∙ rw (has, is) (ap (λ es. entry ∷ es) rest))
       by_tests true has false is rest = rw (has, is) (rw (same entry.0 has ∙ is) rest)
-      by_tests false has true is rest = rw (has, is) (with_some entry ∙ rw has (rw (none-above entry.0 is has entries ascend.0) refl))
+      by_tests false has true is rest = rw (has, is) (take_while-cons (λ e. P e.0) entry (filter (λ e. from_start e.0) entries) ∙ rw has (rw (none-above entry.0 is has entries ascend.0) refl))
       by_tests false has false is rest = rw (has, is) rest
 
 abbrev from_at : Bool → List ℕ → List ℕ → Bool
@@ -126,22 +130,50 @@ from-above false start y is = ap is_gt is
 abbrev begins : List ℕ → List ℕ → Bool
 begins prefix y = starts_with nat_eq y prefix
 
+-- the entries at or after the later of a key and a prefix, as far as they begin with the prefix, are those at or after the key that do
+pub run-with-prefix : (prefix from start : List ℕ) (inclusive included : Bool)
+    → start ≡ (if is_lt (text_order from prefix) then prefix else from) → included ≡ (if is_lt (text_order from prefix) then true else inclusive)
+    → (entries : List (List ℕ × ℕ)) → Ascend text_order entries
+    → begun prefix (entries_from text_order included start entries) ≡ entries_from text_order inclusive from (entries_with_prefix prefix entries)
+run-with-prefix prefix from start inclusive included start_is included_is entries ascend = by_test (is_lt (text_order from prefix)) refl start_is included_is
+  where
+    by_test : (t : Bool) → is_lt (text_order from prefix) ≡ t → start ≡ (if t then prefix else from) → included ≡ (if t then true else inclusive)
+        → begun prefix (entries_from text_order included start entries) ≡ entries_from text_order inclusive from (entries_with_prefix prefix entries)
+    by_test true lower at within =
+        ap (λ (b : Bool). begun prefix (entries_from text_order b start entries)) within ∙ ap (λ (x : List ℕ). begun prefix (entries_from text_order true x entries)) at ∙
+        (run-with (begins prefix) (from_at true prefix) (from_at inclusive from)
+        (λ y has. from-above inclusive from y (above y prefix from (begun-after prefix y has) (reversed from prefix Less (below (text_order from prefix) lower))) ∙ sym (begun-after prefix y has))
+        (λ x y from_x less has. begun-before prefix x y from_x less has) entries ascend)
+    by_test false higher at within =
+        ap (λ (b : Bool). begun prefix (entries_from text_order b start entries)) within ∙ ap (λ (x : List ℕ). begun prefix (entries_from text_order inclusive x entries)) at ∙
+        (run-with (begins prefix) (from_at inclusive from) (from_at inclusive from)
+        (λ y has. refl)
+        (λ x y from_x less has. begun-before prefix x y (after-after x from prefix (from-after inclusive from x from_x) (not-below (text_order from prefix) higher)) less has) entries ascend)
+
+-- the run goes on with an entry that begins with the prefix, and ends before any other
+pub begun-on : (prefix : List ℕ) (x : List ℕ × ℕ) (rest : List (List ℕ × ℕ)) → starts_with nat_eq x.0 prefix ≡ true → begun prefix (x ∷ rest) ≡ x ∷ begun prefix rest
+begun-on prefix x rest begins = take_while-cons (λ entry. starts_with nat_eq entry.0 prefix) x rest ∙ rw begins refl
+
+pub begun-off : (prefix : List ℕ) (x : List ℕ × ℕ) (rest : List (List ℕ × ℕ)) → starts_with nat_eq x.0 prefix ≡ false → begun prefix (x ∷ rest) ≡ []
+begun-off prefix x rest differs = take_while-cons (λ entry. starts_with nat_eq entry.0 prefix) x rest ∙ rw differs refl
+
+-- the first of these, if it begins with the prefix
+first-begun : (prefix : List ℕ) (entries : List (List ℕ × ℕ)) → with_prefix prefix (first_of entries) ≡ first_of (begun prefix entries)
+first-begun prefix [] = refl
+first-begun prefix (entry ∷ entries) = by_test (begins prefix entry.0) refl
+  where
+    by_test : (t : Bool) → begins prefix entry.0 ≡ t → with_prefix prefix (first_of (entry ∷ entries)) ≡ first_of (begun prefix (entry ∷ entries))
+    by_test true has =
+        let kept : with_prefix prefix (Some entry) ≡ Some entry = rw has refl in
+        kept ∙ sym (ap (λ es. first_of es) (begun-on prefix entry entries has))
+    by_test false has =
+        let lost : with_prefix prefix (Some entry) ≡ None = rw has refl in
+        lost ∙ sym (ap (λ es. first_of es) (begun-off prefix entry entries has))
+
 -- the first entry at or after the later of a key and a prefix, if it begins with the prefix, is the first at or after the key of those that do
 pub first-with-prefix : (prefix from start : List ℕ) (inclusive included : Bool)
     → start ≡ (if is_lt (text_order from prefix) then prefix else from) → included ≡ (if is_lt (text_order from prefix) then true else inclusive)
     → (entries : List (List ℕ × ℕ)) → Ascend text_order entries
     → with_prefix prefix (first_of (entries_from text_order included start entries)) ≡ first_of (entries_from text_order inclusive from (entries_with_prefix prefix entries))
-first-with-prefix prefix from start inclusive included start_is included_is entries ascend = by_test (is_lt (text_order from prefix)) refl start_is included_is
-  where
-    by_test : (t : Bool) → is_lt (text_order from prefix) ≡ t → start ≡ (if t then prefix else from) → included ≡ (if t then true else inclusive)
-        → with_prefix prefix (first_of (entries_from text_order included start entries)) ≡ first_of (entries_from text_order inclusive from (entries_with_prefix prefix entries))
-    by_test true lower at within =
-        ap (λ (b : Bool). with_prefix prefix (first_of (entries_from text_order b start entries))) within ∙ ap (λ (x : List ℕ). with_prefix prefix (first_of (entries_from text_order true x entries))) at ∙
-        (first-with (begins prefix) (from_at true prefix) (from_at inclusive from) (with_prefix prefix) refl (λ entry. refl)
-        (λ y has. from-above inclusive from y (above y prefix from (begun-after prefix y has) (reversed from prefix Less (below (text_order from prefix) lower))) ∙ sym (begun-after prefix y has))
-        (λ x y from_x less has. begun-before prefix x y from_x less has) entries ascend)
-    by_test false higher at within =
-        ap (λ (b : Bool). with_prefix prefix (first_of (entries_from text_order b start entries))) within ∙ ap (λ (x : List ℕ). with_prefix prefix (first_of (entries_from text_order inclusive x entries))) at ∙
-        (first-with (begins prefix) (from_at inclusive from) (from_at inclusive from) (with_prefix prefix) refl (λ entry. refl)
-        (λ y has. refl)
-        (λ x y from_x less has. begun-before prefix x y (after-after x from prefix (from-after inclusive from x from_x) (not-below (text_order from prefix) higher)) less has) entries ascend)
+first-with-prefix prefix from start inclusive included start_is included_is entries ascend =
+    first-begun prefix (entries_from text_order included start entries) ∙ ap first_of (run-with-prefix prefix from start inclusive included start_is included_is entries ascend)

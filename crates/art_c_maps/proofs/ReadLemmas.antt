@@ -3,7 +3,7 @@ use Rattle.std.proofs.Common.{◌≡◌, ◌∙◌, ℕ, suc, Bool, true, false,
 use Rattle.std.specs.Cmp.Lexicographic.{pointwise, texts_ties}
 use Rattle.std.specs.Borrow.{Bor}
 use Rattle.std.specs.Option.{option_map}
-use Rattle.std.specs.Prelude.{⊤}
+use Rattle.std.specs.Prelude.{◌&&◌, ⊤}
 use Rattle.std.specs.Ordering.{is_eq, is_ge, is_gt, is_le, is_lt, match_ordering}
 use Rattle.std.specs.declared.cmp.Ordering.{Ordering}
 use Rattle.std.specs.declared.cmp.Ordering.TheVariants.{Less, Equal, Greater}
@@ -14,8 +14,12 @@ use Rattle.art_bytes.specs.Text.{text_order}
 use Rattle.art_tree.specs.Entries.{put_entry, without_text}
 use Rattle.art_tree.specs.Refusals.{texts_of}
 use Rattle.art_map.specs.Entries.{entry_with}
-use Rattle.art_map.specs.Ranges.{entries_above as text_entries_above, entries_below as text_entries_below, entries_from as text_entries_from, entries_up_to as text_entries_up_to, entries_within, is_from}
+use Rattle.art_map.specs.Ranges.{entries_above as text_entries_above, entries_below as text_entries_below, entries_from as text_entries_from, entries_up_to as text_entries_up_to, entries_within, is_from, is_up_to}
 use Rattle.art_c_maps.specs.Entries.{entries_from, entries_read, entries_to, put, value_of, without}
+
+and-true : (b : Bool) → (b && true) ≡ b
+and-true true = refl
+and-true false = refl
 
 module _ {K V : Type 0} (order : K → K → Ordering) where
   -- the key is below all of these
@@ -150,6 +154,12 @@ module _ {K : Type 0} (order : K → K → Ordering) (write : K → List ℕ) (r
         → entries_read read text (entries_within text bound_text start Unbounded entries) ≡ entries_from order inclusive key seen
     from-within bound_text start true bound = side-at (λ y. is_from bound_text start y) is_ge bound
     from-within bound_text start false bound = side-at (λ y. is_from bound_text start y) is_gt bound
+
+    pub to-within : {Q : Type 0} (bound_text : Q → List ℕ) (end : Bound (Bor Q)) (inclusive : Bool)
+        → ((y : List ℕ) → is_up_to bound_text end y ≡ cond inclusive (is_le (text_order y x)) (is_lt (text_order y x)))
+        → entries_read read text (entries_within text bound_text Unbounded end entries) ≡ entries_to order inclusive key seen
+    to-within bound_text end true bound = side-at (λ y. is_up_to bound_text end y && true) is_le (λ y. and-true (is_up_to bound_text end y) ∙ bound y)
+    to-within bound_text end false bound = side-at (λ y. is_up_to bound_text end y && true) is_lt (λ y. and-true (is_up_to bound_text end y) ∙ bound y)
 
     pub put-at : (k : T) (value : V) → text k ≡ x → entries_read read text (put_entry text entries (k, value)) ≡ put order seen key value
     put-at k value same =

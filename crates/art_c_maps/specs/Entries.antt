@@ -1,5 +1,5 @@
 -- A map as the list of its entries, ascending by key: what calls read of it, and what they leave.
-use Rattle.std.specs.Prelude.{ℕ, ◌-◌, Bool, not, List, [], ◌∷◌, ◌++◌, drop, length, filter, map, take, Option, Some, None, nat_eq, slice_get, if◌then◌else◌}
+use Rattle.std.specs.Prelude.{ℕ, ◌-◌, Bool, not, List, [], ◌∷◌, ◌++◌, drop, length, filter, map, reverse, take, Option, Some, None, nat_eq, slice_get, if◌then◌else◌}
 use Rattle.std.specs.List.{starts_with}
 use Rattle.std.specs.Ordering.{is_eq, is_ge, is_gt, is_le, is_lt, match_ordering}
 use Rattle.std.specs.declared.cmp.Ordering.{Ordering}
@@ -31,6 +31,10 @@ module _ {K V : Type 0} (order : K → K → Ordering) where
   -- the entries at this key or before it; only before it where it is not included
   abbrev pub entries_to : Bool → K → List (K × V) → List (K × V)
   entries_to inclusive key entries = filter (λ entry. if inclusive then is_le (order entry.0 key) else is_lt (order entry.0 key)) entries
+
+  -- the last of these, so many at most, from the last one down
+  abbrev pub previous_entries : ℕ → Bool → K → List (K × V) → List (K × V)
+  previous_entries most inclusive key entries = take most (reverse (entries_to inclusive key entries))
 
 -- the entries whose keys begin with these bytes
 abbrev pub entries_with_prefix : {V : Type 0} → List ℕ → List (List ℕ × V) → List (List ℕ × V)

@@ -1,3 +1,5 @@
+pub mod Batch
 pub mod Entries
 pub mod Refusals
+pub mod Sought
 pub mod Unescaped

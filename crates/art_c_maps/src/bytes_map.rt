@@ -1,35 +1,40 @@
 //! Maps by bytes.
-ghost use Rattle.std.specs.Prelude.{◌≡◌, ◌-◌, ◌<◌, ◌^◌, [], drop, length, take, true, IfErr, IfOk, OnErr, OnOk, if◌then◌else◌};
+ghost use Rattle.std.specs.Prelude.{◌≡◌, ◌-◌, ◌<◌, ◌≤◌, ◌^◌, [], drop, length, min, take, true, IfErr, IfOk, IsOk, OnErr, OnOk, if◌then◌else◌};
 ghost use Rattle.std.specs.Option.{option_map};
 ghost use Rattle.std.specs.Ordering.{is_lt};
 ghost use Rattle.art_bytes.specs.Text.{text_order};
 ghost use Rattle.art_mapped.specs.Escaped.{escaped_text};
 ghost use Rattle.art_mapped.specs.Mapped.{mapped_text};
-ghost use Rattle.art_c_maps.specs.Entries.{entries_from, entries_to, entries_with_prefix, first_of, last_of, put, value_of, without};
+ghost use Rattle.art_c_maps.specs.Batch.{ends_of, joined, next_fitting, unfit_len};
+ghost use Rattle.art_c_maps.specs.Entries.{begun_with, entries_from, entries_to, entries_with_prefix, first_of, keys_of, last_of, put, value_of, values_of, without};
 ghost use Rattle.art_c_maps.specs.Refusals.{IsRefused};
 ghost use Rattle.art_c_maps.specs.Unescaped.{key_fits, key_written, len_and_value, unescaped, with_prefix};
 
-use crate::nearest::{first_from, last_to, value_alone};
+use crate::batch::write_batch;
+use crate::nearest::{first_from, last_to, start_at, value_alone};
 use crate::refusal::Refusal;
+use crate::sought::Sought;
+use crate::too_long::is_too_long;
 use crate::unescaped::{unescaped_begins, unescaped_len, write_unescaped};
 use art_bytes::AsBytes;
 use art_map::ArtMap;
-use art_tree::{Escaped, EscapedKey, InsertRefusal, Mapped, escaped_prefix};
+use art_tree::{Escaped, InsertRefusal, Mapped};
 use std::alloc::{AllocError, Global};
 use std::cmp::Ordering;
 use std::marker::Model;
+use std::ops::Bound;
 
-type Word = Mapped<Escaped, Vec<u8>>;
+/// A key, under the mapping that no caller sees.
+pub(crate) type Word = Mapped<Escaped, Vec<u8>>;
 
 /// An ordered map from byte strings, any at all, to 64-bit values: the list of its entries, in ascending
 /// order of the bytes of their keys. No call has a condition.
 ///
-/// A call that takes a key needs memory for it, twice its bytes, but where an earlier call had one as
-/// long: so it may fail with [`AllocError`]. The map is then unchanged.
+/// A call that only looks takes no memory for a key or a prefix of 256 bytes or fewer. For a longer one
+/// it takes up to twice its bytes, so it may fail with [`AllocError`].
 #[derive(Drop)]
 pub struct BytesMap {
     entries: ArtMap<Word, u64, 16>,
-    sought: EscapedKey,
 }
 
 impl Model for BytesMap {
@@ -108,16 +113,22 @@ fn found_with_prefix<'a>(
     }
 }
 
+// The number of bytes of the key of an entry that was found.
+fn found_len(found: Option<(&Word, &u64)>) -> Option<usize>
+    ensures { result ≡ option_map (λ (key, _). length (unescaped (mapped_text key.now))) found.entry }
+{
+    let (key, _) = found?;
+    Some(unescaped_len(key.as_bytes()))
+}
+
 impl BytesMap {
-    /// A map with no entries.
-    pub fn new(alloc: Global) -> Result<BytesMap, AllocError>
-        ensures { IfOk result (λ map. map ≡ []) }
+    /// A map with no entries. Takes no memory.
+    pub fn new(alloc: Global) -> BytesMap
+        ensures { result ≡ [] }
     {
-        let sought = EscapedKey::new(alloc, &[])?;
-        Ok(BytesMap {
+        BytesMap {
             entries: ArtMap::new(alloc),
-            sought,
-        })
+        }
     }
 
     /// The number of entries. Takes constant time and no memory.
@@ -152,7 +163,8 @@ impl BytesMap {
 
     /// Sets the value of a key, and returns the value that it had.
     ///
-    /// After a refusal the entries are unchanged.
+    /// A key that is too long is refused before any memory is taken. After a refusal the entries are
+    /// unchanged.
     pub fn insert(&mut self, alloc: Global, key: &[u8], value: u64) -> Result<Option<u64>, Refusal>
         ensures replaced { IfOk result
             (λ before. before ≡ value_of text_order self.old key.now) }
@@ -161,6 +173,9 @@ impl BytesMap {
         ensures refusal_due { IfErr result (IsRefused key.now) }
         ensures same_entries { OnErr result (self.new ≡ self.old) }
     {
+        if is_too_long(key) {
+            return Err(Refusal::KeyTooLong);
+        }
         self.entries.entries_ascend();
         let Ok(bytes) = Vec::from_slice(alloc, key) else {
             return Err(Refusal::OutOfMemory);
@@ -178,73 +193,80 @@ impl BytesMap {
     }
 
     /// The value of a key, or None where there is none.
-    pub fn get(&mut self, key: &[u8]) -> Result<Option<u64>, AllocError>
-        ensures found { IfOk result (λ value. value ≡ value_of text_order self.old key.now) }
-        ensures same_entries { self.new ≡ self.old }
+    pub fn get(&self, alloc: Global, key: &[u8]) -> Result<Option<u64>, AllocError>
+        ensures found { IfOk result (λ value. value ≡ value_of text_order self.now key.now) }
+        ensures succeeds { length key.now ≤ 256 → IsOk result }
     {
         self.entries.entries_ascend();
-        self.sought.set(key)?;
-        Ok(self.entries.get(&self.sought).copied())
+        let mut sought = Sought::new();
+        sought.set_key(alloc, key)?;
+        Ok(self.entries.get(&sought).copied())
     }
 
     /// Removes a key, and returns the value that it had. After a failure the entries are unchanged.
-    pub fn remove(&mut self, key: &[u8]) -> Result<Option<u64>, AllocError>
+    pub fn remove(&mut self, alloc: Global, key: &[u8]) -> Result<Option<u64>, AllocError>
         ensures removed { IfOk result
             (λ value. value ≡ value_of text_order self.old key.now) }
         ensures entries { OnOk result (self.new ≡ without text_order self.old key.now) }
         ensures same_entries { OnErr result (self.new ≡ self.old) }
     {
         self.entries.entries_ascend();
-        self.sought.set(key)?;
-        self.entries.remove(&self.sought)
+        let mut sought = Sought::new();
+        sought.set_key(alloc, key)?;
+        self.entries.remove(&sought)
     }
 
     /// Finds the first entry at a key or after it, only after it where it is not included. Writes its key
     /// where it fits, and returns its key's length and its value.
     pub fn next(
-        &mut self,
+        &self,
+        alloc: Global,
         from: &[u8],
         inclusive: bool,
         key_out: &mut [u8],
     ) -> Result<Option<(usize, u64)>, AllocError>
         ensures found { IfOk result (λ found. found ≡ option_map len_and_value
-            (first_of (entries_from text_order inclusive from.now self.old))) }
+            (first_of (entries_from text_order inclusive from.now self.now))) }
         ensures written { OnOk result (key_out.new ≡ key_written
-            (first_of (entries_from text_order inclusive from.now self.old)) key_out.old) }
+            (first_of (entries_from text_order inclusive from.now self.now)) key_out.old) }
         ensures not_written { OnErr result (key_out.new ≡ key_out.old) }
-        ensures same_entries { self.new ≡ self.old }
+        ensures succeeds { length from.now ≤ 256 → IsOk result }
     {
         self.entries.entries_ascend();
-        self.sought.set(from)?;
-        let found = first_from(&self.entries, &self.sought, inclusive);
+        let mut sought = Sought::new();
+        sought.set_key(alloc, from)?;
+        let found = first_from(&self.entries, &sought, inclusive);
         Ok(write_found(found, key_out))
     }
 
     /// Finds the last entry at a key or before it, only before it where it is not included. Writes its key
     /// where it fits, and returns its key's length and its value.
     pub fn previous(
-        &mut self,
+        &self,
+        alloc: Global,
         from: &[u8],
         inclusive: bool,
         key_out: &mut [u8],
     ) -> Result<Option<(usize, u64)>, AllocError>
         ensures found { IfOk result (λ found. found ≡ option_map len_and_value
-            (last_of (entries_to text_order inclusive from.now self.old))) }
+            (last_of (entries_to text_order inclusive from.now self.now))) }
         ensures written { OnOk result (key_out.new ≡ key_written
-            (last_of (entries_to text_order inclusive from.now self.old)) key_out.old) }
+            (last_of (entries_to text_order inclusive from.now self.now)) key_out.old) }
         ensures not_written { OnErr result (key_out.new ≡ key_out.old) }
-        ensures same_entries { self.new ≡ self.old }
+        ensures succeeds { length from.now ≤ 256 → IsOk result }
     {
         self.entries.entries_ascend();
-        self.sought.set(from)?;
-        let found = last_to(&self.entries, &self.sought, inclusive);
+        let mut sought = Sought::new();
+        sought.set_key(alloc, from)?;
+        let found = last_to(&self.entries, &sought, inclusive);
         Ok(write_found(found, key_out))
     }
 
     /// Finds the first entry at a key or after it, only after it where it is not included, of those whose
     /// keys begin with a prefix. Writes its key where it fits, and returns its key's length and its value.
     pub fn next_with_prefix(
-        &mut self,
+        &self,
+        alloc: Global,
         prefix: &[u8],
         from: &[u8],
         inclusive: bool,
@@ -252,19 +274,71 @@ impl BytesMap {
     ) -> Result<Option<(usize, u64)>, AllocError>
         ensures found { IfOk result (λ found. found ≡ option_map len_and_value
             (first_of (entries_from text_order inclusive from.now
-            (entries_with_prefix prefix.now self.old)))) }
+            (entries_with_prefix prefix.now self.now)))) }
         ensures written { OnOk result (key_out.new ≡ key_written
             (first_of (entries_from text_order inclusive from.now
-            (entries_with_prefix prefix.now self.old))) key_out.old) }
+            (entries_with_prefix prefix.now self.now))) key_out.old) }
         ensures not_written { OnErr result (key_out.new ≡ key_out.old) }
-        ensures same_entries { self.new ≡ self.old }
+        ensures succeeds { length prefix.now ≤ 256 → length from.now ≤ 256 → IsOk result }
     {
         self.entries.entries_ascend();
         // No key before the prefix begins with it.
         let (start, inclusive) = later_start(prefix, from, inclusive);
-        self.sought.set(start)?;
-        let next = first_from(&self.entries, &self.sought, inclusive);
+        let mut sought = Sought::new();
+        sought.set_key(alloc, start)?;
+        let next = first_from(&self.entries, &sought, inclusive);
         Ok(write_found(found_with_prefix(next, prefix), key_out))
+    }
+
+    /// Writes the first entries at a key or after it, only after it where it is not included, of those whose
+    /// keys begin with a prefix: the keys one behind another, where each ends among them, and the values. As
+    /// many as the shorter of `ends` and `values` holds, and before the first key that no longer fits.
+    /// Returns how many, and where none is written the number of bytes of the first one's key, if there is
+    /// one. Takes one descent, two where none is written.
+    pub fn next_many(
+        &self,
+        alloc: Global,
+        prefix: &[u8],
+        from: &[u8],
+        inclusive: bool,
+        keys: &mut [u8],
+        ends: &mut [usize],
+        values: &mut [u64],
+    ) -> Result<(usize, Option<usize>), AllocError>
+        ensures count { IfOk result (λ (count, _). count ≡ length (next_fitting
+            (min (length ends.old) (length values.old)) (length keys.old)
+            prefix.now inclusive from.now self.now)) }
+        ensures unfit { IfOk result (λ (_, unfit). unfit ≡ unfit_len
+            (next_fitting (min (length ends.old) (length values.old)) (length keys.old)
+            prefix.now inclusive from.now self.now)
+            (first_of (entries_from text_order inclusive from.now
+            (entries_with_prefix prefix.now self.now)))) }
+        ensures keys { OnOk result (keys.new ≡ begun_with (joined (keys_of (next_fitting
+            (min (length ends.old) (length values.old)) (length keys.old)
+            prefix.now inclusive from.now self.now))) keys.old) }
+        ensures ends { OnOk result (ends.new ≡ begun_with (ends_of (next_fitting
+            (min (length ends.old) (length values.old)) (length keys.old)
+            prefix.now inclusive from.now self.now)) ends.old) }
+        ensures values { OnOk result (values.new ≡ begun_with (values_of (next_fitting
+            (min (length ends.old) (length values.old)) (length keys.old)
+            prefix.now inclusive from.now self.now)) values.old) }
+        ensures not_written { OnErr result ((keys.new ≡ keys.old) × (ends.new ≡ ends.old)
+            × (values.new ≡ values.old)) }
+        ensures succeeds { length prefix.now ≤ 256 → length from.now ≤ 256 → IsOk result }
+    {
+        self.entries.entries_ascend();
+        // No key before the prefix begins with it.
+        let (first, inclusive) = later_start(prefix, from, inclusive);
+        let mut sought = Sought::new();
+        sought.set_key(alloc, first)?;
+        let bound = start_at(&sought, inclusive);
+        let entries = self.entries.range(bound, Bound::Unbounded);
+        let count = write_batch(entries, prefix, keys, ends, values);
+        if count > 0 {
+            return Ok((count, None));
+        }
+        let unfit = first_from(&self.entries, &sought, inclusive);
+        Ok((0, found_len(found_with_prefix(unfit, prefix))))
     }
 
     /// Finds the entry with the least key. Writes its key where it fits, and returns its key's length and
@@ -320,16 +394,17 @@ impl BytesMap {
         Ok(write_removed(removed, key_out))
     }
 
-    /// How many keys begin with these bytes. Takes time linear in their number, and memory for the
-    /// prefix.
+    /// How many keys begin with these bytes. Takes time linear in their number.
     pub fn count_prefix(&self, alloc: Global, prefix: &[u8]) -> Result<usize, AllocError>
-        ensures { IfOk result
+        ensures count { IfOk result
             (λ count. count ≡ length (entries_with_prefix prefix.now self.now)) }
+        ensures succeeds { length prefix.now ≤ 256 → IsOk result }
     {
         self.entries.entries_ascend();
-        let escaped = escaped_prefix(alloc, prefix)?;
+        let mut sought = Sought::new();
+        sought.set_prefix(alloc, prefix)?;
         // The count is no greater, so it fits.
         let _most = self.entries.len();
-        Ok(self.entries.prefix(&escaped).count())
+        Ok(self.entries.prefix(&sought).count())
     }
 }

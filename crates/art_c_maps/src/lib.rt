@@ -3,10 +3,13 @@
 //! entries, ascending by key. `CALLING.md` shows how they are used.
 #![tactic(auto)]
 
+mod batch;
 mod bytes_map;
 mod nearest;
 mod number_map;
 mod refusal;
+mod sought;
+mod too_long;
 mod unescaped;
 
 pub use bytes_map::BytesMap;

@@ -1,9 +1,9 @@
 //! The entry beside a key, of a map by any keys.
 ghost use Rattle.std.specs.Prelude.{◌≡◌, if◌then◌else◌};
 ghost use Rattle.std.specs.Option.{option_map};
-ghost use Rattle.std.specs.Ordering.{is_ge, is_gt};
+ghost use Rattle.std.specs.Ordering.{is_ge, is_gt, is_le, is_lt};
 ghost use Rattle.art_bytes.specs.Text.{text_order};
-ghost use Rattle.art_map.specs.Ranges.{entries_above, entries_below, entries_from, entries_up_to, is_from};
+ghost use Rattle.art_map.specs.Ranges.{entries_above, entries_below, entries_from, entries_up_to, is_from, is_up_to};
 ghost use Rattle.art_c_maps.specs.Entries.{first_of, last_of};
 
 use art_bytes::AsBytes;
@@ -24,6 +24,18 @@ pub(crate) fn value_alone<K: Drop, V>(before: Option<(K, V)>) -> Option<V>
 pub(crate) fn start_at<'a, Q: AsBytes>(key: &'a Q, inclusive: bool) -> Bound<&'a Q>
     ensures { (x : _) → is_from Q.text result x
         ≡ (if inclusive then is_ge (text_order x (Q.text key.now)) else is_gt (text_order x (Q.text key.now))) }
+{
+    if inclusive {
+        Bound::Included(key)
+    } else {
+        Bound::Excluded(key)
+    }
+}
+
+/// An end bound at a key: the key itself is within it where it is included.
+pub(crate) fn end_at<'a, Q: AsBytes>(key: &'a Q, inclusive: bool) -> Bound<&'a Q>
+    ensures { (x : _) → is_up_to Q.text result x
+        ≡ (if inclusive then is_le (text_order x (Q.text key.now)) else is_lt (text_order x (Q.text key.now))) }
 {
     if inclusive {
         Bound::Included(key)

@@ -1,12 +1,12 @@
 //! Maps by 64-bit numbers.
-ghost use Rattle.std.specs.Prelude.{◌≡◌, ◌-◌, [], drop, length, min, take, IfOk, OnErr, OnOk};
+ghost use Rattle.std.specs.Prelude.{◌≡◌, ◌-◌, [], drop, length, min, reverse, take, IfOk, OnErr, OnOk};
 ghost use Rattle.std.specs.Int.{from_be_bytes, w64};
 ghost use Rattle.std.specs.Option.{option_map};
 ghost use Rattle.std.specs.Ordering.{nat_cmp};
 ghost use Rattle.art_mapped.specs.Mapped.{mapped_text};
-ghost use Rattle.art_c_maps.specs.Entries.{begun_with, entries_from, entries_read, entries_to, first_of, keys_of, last_of, next_entries, put, value_of, values_of, without};
+ghost use Rattle.art_c_maps.specs.Entries.{begun_with, entries_from, entries_read, entries_to, first_of, keys_of, last_of, next_entries, previous_entries, put, value_of, values_of, without};
 
-use crate::nearest::{first_from, last_to, start_at, value_alone};
+use crate::nearest::{end_at, first_from, last_to, start_at, value_alone};
 use art_map::{ArtMap, Iter};
 use art_tree::{Mapped, ToUBE};
 use std::alloc::{AllocError, Global};
@@ -67,6 +67,29 @@ fn write_entries(
     let room = keys.len().min(values.len());
     for index in 0..room {
         match entry_of(entries.next()) {
+            Some((key, value)) => {
+                keys[index] = key;
+                values[index] = value;
+            }
+            None => return index,
+        }
+    }
+    room
+}
+
+// Writes the last of these entries, from the last one down, as many as the shorter of both slices holds.
+// Returns how many.
+fn write_down(mut entries: Iter<'_, Number, u64, 16>, keys: &mut [u64], values: &mut [u64]) -> usize
+    ensures count { result ≡ length (take (min (length keys.old) (length values.old))
+        (reverse (entries_read (from_be_bytes w64) mapped_text entries.entry))) }
+    ensures keys { keys.new ≡ begun_with (keys_of (take (min (length keys.old) (length values.old))
+        (reverse (entries_read (from_be_bytes w64) mapped_text entries.entry)))) keys.old }
+    ensures values { values.new ≡ begun_with (values_of (take (min (length keys.old) (length values.old))
+        (reverse (entries_read (from_be_bytes w64) mapped_text entries.entry)))) values.old }
+{
+    let room = keys.len().min(values.len());
+    for index in 0..room {
+        match entry_of(entries.next_back()) {
             Some((key, value)) => {
                 keys[index] = key;
                 values[index] = value;
@@ -228,5 +251,28 @@ impl NumberMap {
         let start = start_at(&from, inclusive);
         let entries = self.entries.range(start, Bound::Unbounded);
         write_entries(entries, keys, values)
+    }
+
+    /// Writes the last entries at a key or before it, only before it where it is not included, from the last
+    /// one down: as many as the shorter of both slices holds. Returns how many. Takes no memory.
+    pub fn previous_many(
+        &self,
+        from: u64,
+        inclusive: bool,
+        keys: &mut [u64],
+        values: &mut [u64],
+    ) -> usize
+        ensures count { result ≡ length (previous_entries nat_cmp
+            (min (length keys.old) (length values.old)) inclusive from self.now) }
+        ensures keys { keys.new ≡ begun_with (keys_of (previous_entries nat_cmp
+            (min (length keys.old) (length values.old)) inclusive from self.now)) keys.old }
+        ensures values { values.new ≡ begun_with (values_of (previous_entries nat_cmp
+            (min (length keys.old) (length values.old)) inclusive from self.now)) values.old }
+    {
+        self.entries.entries_ascend();
+        let from = Number::of(from);
+        let end = end_at(&from, inclusive);
+        let entries = self.entries.range(Bound::Unbounded, end);
+        write_down(entries, keys, values)
     }
 }

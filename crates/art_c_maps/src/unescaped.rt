@@ -1,5 +1,5 @@
 //! The bytes of escaped texts.
-ghost use Rattle.std.specs.Prelude.{◌≡◌, ◌≤◌, ◌++◌, drop, length, nat_eq};
+ghost use Rattle.std.specs.Prelude.{◌≡◌, ◌≤◌, ◌++◌, drop, length, nat_eq, take, IfSome};
 ghost use Rattle.std.specs.Iterator.{YieldsFirst, item_count};
 ghost use Rattle.std.specs.List.{starts_with};
 ghost use Rattle.art_c_maps.specs.Unescaped.{unescaped, written};
@@ -50,11 +50,34 @@ pub(crate) fn unescaped_len(text: &[u8]) -> usize
     Unescaped { text }.count()
 }
 
+// How many bytes there are in an escaped text of bytes of which none is a zero: it begins with them.
+fn plain_len(text: &[u8]) -> Option<usize>
+    ensures fits { IfSome result (λ len. len ≤ length text.now) }
+    ensures plain { IfSome result (λ len. unescaped text.now ≡ take len text.now) }
+{
+    for (index, byte) in text.iter().enumerate() {
+        if *byte == 0 {
+            return if index + 1 < text.len() && text[index + 1] == 0 {
+                Some(index)
+            } else {
+                None
+            };
+        }
+    }
+    None
+}
+
 /// Writes the bytes of an escaped text, where they fit. Returns how many they are.
 pub(crate) fn write_unescaped(text: &[u8], out: &mut [u8]) -> usize
     ensures len { result ≡ length (unescaped text.now) }
     ensures written { out.new ≡ written (unescaped text.now) out.old }
 {
+    if let Some(len) = plain_len(text) {
+        if len <= out.len() {
+            out[..len].copy_from_slice(&text[..len]);
+        }
+        return len;
+    }
     let len = unescaped_len(text);
     if len <= out.len() {
         for (index, byte) in (Unescaped { text }).enumerate() {

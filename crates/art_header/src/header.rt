@@ -12,7 +12,7 @@ use std::marker::Model;
 /// path compression of Leis, Kemper and Neumann, 2013). No call takes memory; each costs
 /// O(`PREFIX_LEN`).
 ///
-/// (from crates/art_node_tests/src/header/prefix.rt)
+/// (from tests/art_node_tests/header/prefix.rt.txt)
 /// ```rust
 /// let header = Header::<2>::new(b"abcd", 4);
 /// // ..

@@ -1,16 +1,6 @@
 -- Entries within two bounds are those that a range of std has.
-use Rattle.std.proofs.Common.{◌≡◌, ◌∙◌, ℕ, Bool, true, false, ◌&&◌, List, Some, refl, ap}
-use Rattle.std.specs.Cmp.Lexicographic.{nat_list_cmp_total}
+use Rattle.art_map.proofs.Names.{◌≡◌, ◌∙◌, ℕ, Bool, true, false, ◌&&◌, List, Some, refl, ap, nat_list_cmp_total, is_ge, is_gt, is_le, is_lt, ordering_reverse, bound_map, bounds_contain, is_from_start, is_up_to_end, Ordering, Less, Equal, Greater, Bound, Included, Excluded, Unbounded, text_order, entries_in, entries_within, is_from, is_up_to, filter_agree}
 use Rattle.std.specs.Borrow.{Bor}
-use Rattle.std.specs.Ordering.{is_ge, is_gt, is_le, is_lt, ordering_reverse}
-use Rattle.std.specs.Range.Bound.{bound_map, bounds_contain, is_from_start, is_up_to_end}
-use Rattle.std.specs.declared.cmp.Ordering.{Ordering}
-use Rattle.std.specs.declared.cmp.Ordering.TheVariants.{Less, Equal, Greater}
-use Rattle.std.specs.declared.ops.Bound.{Bound}
-use Rattle.std.specs.declared.ops.Bound.TheVariants.{Included, Excluded, Unbounded}
-use Rattle.art_bytes.specs.Text.{text_order}
-use Rattle.art_map.specs.Ranges.{entries_in, entries_within, is_from, is_up_to}
-use Rattle.art_map.proofs.TextLemmas.{filter-same}
 
 ge-reversed : (o : Ordering) → is_ge (ordering_reverse o) ≡ is_le o
 ge-reversed Less = refl
@@ -50,4 +40,4 @@ module _ {Q : Type 0} (text : Q → List ℕ) where
 
 pub within-in : {K V Q : Type 0} (text : K → List ℕ) (bound_text : Q → List ℕ) (start end : Bound (Bor Q)) (entries : List (K × V))
     → entries_within text bound_text start end entries ≡ entries_in text (bound_map bound_text (bound_map (λ q. q.now) start)) (bound_map bound_text (bound_map (λ q. q.now) end)) entries
-within-in text bound_text start end entries = filter-same _ _ (λ entry. in-range bound_text start end (text entry.0)) entries
+within-in text bound_text start end entries = filter_agree _ _ (λ entry. in-range bound_text start end (text entry.0)) entries

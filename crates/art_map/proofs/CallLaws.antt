@@ -1,174 +1,20 @@
 -- What a caller shows of the list of a map's entries, of that of a set's keys, of removals, and of a closure that it
 -- passed.
-use Rattle.std.proofs.Common.{◌≡◌, ◌≢◌, ◌⊎◌, ◌∙◌, inl, inr, ℕ, zero, suc, ◌+◌, ◌<◌, ◌≤◌, Bool, true, false, not, ◌&&◌, cond, List, [], ◌∷◌, ◌++◌, length, length-append, map, filter, All, AllPairs, Contains, Option, Some, None, slice_index_or, refl, sym, ap, subst, arith, nat_eq}
-use Rattle.std.specs.Borrow.{Bor as Shared}
-use Rattle.std.specs.Cmp.Lexicographic.{pointwise, bytes_decides, nat_list_cmp_total, texts_ties}
-use Rattle.std.specs.Fn.{always_mut}
-use Rattle.std.specs.List.{FoldsTo, starts_with}
-use Rattle.std.specs.Map.Calls.{SomeCallAtPair}
-use Rattle.std.specs.Ordering.{match_ordering, is_eq, is_ge, is_gt, ordering_reverse}
-use Rattle.std.specs.declared.cmp.Ordering.{Ordering}
-use Rattle.std.specs.declared.cmp.Ordering.TheVariants.{Less, Equal, Greater}
-use Rattle.std.specs.declared.ops.Bound.{Bound}
-use Rattle.std.proofs.lemmas.List.{get_or-map, length-map}
-use Rattle.std.proofs.lemmas.List.Elements.{All-cons, All-head, All-tail}
-use Rattle.art_bytes.specs.Text.{text_order}
-use Rattle.art_arena.specs.Trees.{Tree, Leaf, Inner, Branches, NoBranch, Branch, branch_roots, leaves, branch_leaves, IsSound, AreSound}
-use Rattle.art_tree.specs.Entries.{put_entry, without_text}
-use Rattle.art_tree.specs.Refusals.{texts_of}
-use Rattle.art_map.specs.Calls.{CallableAtEachKey, CallableInTurn, ChangesValue, ChangesInTurn, SomeCallAtKey}
-use Rattle.art_map.specs.Entries.{entry_with}
-use Rattle.art_map.specs.Ranges.{entries_above, entries_from, entries_with_prefix, entries_within, is_from, is_up_to}
-use Rattle.art_map.specs.Sets.{HasKey, put_key, without_key}
-use Rattle.art_map.specs.Shrinking.{IsFewest, NeedsNode, ShrinksWithout, SomeShrinksWithout}
+use Rattle.art_map.proofs.Names.{◌≡◌, ◌≢◌, ◌⊎◌, ◌∙◌, inl, inr, ℕ, ◌+◌, ◌≤◌, Bool, true, false, not, ◌&&◌, cond, List, [], ◌∷◌, ◌++◌, length, length-append, map, All, AllPairs, Contains, Option, Some, None, refl, sym, ap, subst, arith, nat_eq, Shared, pointwise, always_mut, FoldsTo, starts_with, SomeCallAtPair, match_ordering, is_ge, is_gt, Ordering, Less, Equal, Greater, Bound, length-map, All-cons, All-head, All-tail, text_order, Tree, Leaf, Inner, Branches, NoBranch, Branch, branch_roots, leaves, branch_leaves, IsSound, AreSound, put_entry, without_text, texts_of, CallableAtEachKey, CallableInTurn, ChangesValue, ChangesInTurn, SomeCallAtKey, entry_with, entries_above, entries_from, entries_with_prefix, entries_within, is_from, is_up_to, HasKey, put_key, without_key, IsFewest, NeedsNode, ShrinksWithout, SomeShrinksWithout, Mut, MutBor, Bor, by_order, by_text, images_differ, put-long, and_parts}
 use denote.Param.Always.{mut_next}
-use denote.Param.Members.{Mut}
-use denote.Ref.{Bor, MutBor}
-
--- texts: the test of two is true where they are the same
-
-pub text_itself : (a : List ℕ) → pointwise nat_eq a a ≡ true
-text_itself a = (bytes_decides a a).1 refl
-
-pub same_text : (a b : List ℕ) → pointwise nat_eq a b ≡ true → a ≡ b
-same_text a b = (bytes_decides a b).0
-
-pub other_text : (a b : List ℕ) → a ≢ b → pointwise nat_eq a b ≡ false
-other_text a b differ = by_test (pointwise nat_eq a b) refl
-  where
-    by_test : (t : Bool) → pointwise nat_eq a b ≡ t → t ≡ false
-    by_test true same = absurd (differ (same_text a b same))
-    by_test false not_same = refl
-
-pub texts_differ : (a b : List ℕ) → pointwise nat_eq a b ≡ false → a ≢ b
-texts_differ a b not_same same = let wrong : true ≡ false = sym (text_itself b) ∙ ap (λ x. pointwise nat_eq x b) (sym same) ∙ not_same in absurd (cc)
-
-pub same_order : (a b : List ℕ) → text_order a b ≡ Equal → a ≡ b
-same_order a b equal = same_text a b (texts_ties a b ∙ ap is_eq equal)
-
-pub order_itself : (a : List ℕ) → text_order a a ≡ Equal
-order_itself a = by_order (text_order a a) (sym (texts_ties a a) ∙ text_itself a)
-  where
-    by_order : (o : Ordering) → is_eq o ≡ true → o ≡ Equal
-    by_order Less is = absurd (cc)
-    by_order Equal is = refl
-    by_order Greater is = absurd (cc)
-
-pub greater_differs : (a b : List ℕ) → text_order a b ≡ Greater → a ≢ b
-greater_differs a b greater same =
-    let wrong : true ≡ false = sym (text_itself a) ∙ ap (pointwise nat_eq a) same ∙ texts_ties a b ∙ ap is_eq greater in absurd (cc)
-
-pub less_differs : (a b : List ℕ) → text_order a b ≡ Less → a ≢ b
-less_differs a b less same =
-    let wrong : true ≡ false = sym (text_itself a) ∙ ap (pointwise nat_eq a) same ∙ texts_ties a b ∙ ap is_eq less in absurd (cc)
-
--- each of these texts is below those after it, as the law `entries_ascend` of a map and `keys_ascend` of a set have it
-abbrev pub Ascend : List (List ℕ) → Type 0
-Ascend texts = AllPairs (λ a b. text_order a b ≡ Less) texts
-
-pub ascend_rest : (x : List ℕ) (xs : List (List ℕ)) → Ascend (x ∷ xs) → Ascend xs
-ascend_rest x xs ascend i j d before within = ascend (suc i) (suc j) d (omega (arith, before)) (omega (arith, within))
-
--- a text that is not above the first of texts that ascend is none of the others
-pub none_below : (x y : List ℕ) (xs : List (List ℕ)) → Ascend (x ∷ xs) → Contains xs y → text_order x y ≡ Less
-none_below x y xs ascend inside = subst (λ z. text_order x z ≡ Less) inside.2 (ascend 0 (suc inside.0) y (omega arith) (omega (arith, inside.1)))
-
-pub below_first : (x y : List ℕ) (xs : List (List ℕ)) → Ascend (x ∷ xs) → text_order y x ≡ Less → Contains (x ∷ xs) y → ⊥
-below_first x y xs ascend less (zero, within, is) = less_differs y x less (sym is)
-below_first x y xs ascend less (suc k, within, is) =
-    let above = none_below x y xs ascend (k, omega (arith, within), is) in
-    let wrong : Greater ≡ Less = sym (nat_list_cmp_total.antisymm x y ∙ ap ordering_reverse less) ∙ above in absurd (cc)
-
--- no two of them are the same
-pub distinct_texts : (texts : List (List ℕ)) → Ascend texts → AllPairs (λ a b. a ≢ b) texts
-distinct_texts texts ascend i j d before within = less_differs (slice_index_or texts i d) (slice_index_or texts j d) (ascend i j d before within)
+-- an entry that is put, or a text that is taken out, by cases: what art_tree has of them
+pub use Rattle.art_tree.proofs.EntryLaws.{put-cases as put_cases, without-cases as without_cases}
+-- texts, their order, and members of lists: what art_bytes has of them
+pub use Rattle.art_bytes.proofs.TextLaws.{text_itself, same_text, other_text, texts_differ, same_order, order_itself, greater_differs, less_differs, Ascend, ascend_rest, none_below, below_first, distinct_texts}
+pub use Rattle.art_bytes.proofs.Members.{first_there, later_there, first_or_later, none_inside, inside_part, part_inside, image_inside, inside_image}
 
 -- tests
 not_so : (b : Bool) → not b ≡ true → b ≡ false
 not_so true is = absurd (cc)
 not_so false is = refl
 
-both_so : (a b : Bool) → (a && b) ≡ true → (a ≡ true) × (b ≡ true)
-both_so true b is = (refl, is)
-both_so false b is = absurd (cc)
-
--- lists: members of a list with one more in front, of a part, and of images
-
-module _ {X : Type 0} where
-  pub first_there : (x y : X) (xs : List X) → x ≡ y → Contains (x ∷ xs) y
-  first_there x y xs same = (0, omega arith, same)
-
-  pub later_there : (x y : X) (xs : List X) → Contains xs y → Contains (x ∷ xs) y
-  later_there x y xs later = (suc later.0, omega (arith, later.1), later.2)
-
-  pub first_or_later : (x y : X) (xs : List X) → Contains (x ∷ xs) y → (x ≡ y) ⊎ Contains xs y
-  first_or_later x y xs (zero, within, is) = inl is
-  first_or_later x y xs (suc k, within, is) = inr (k, omega (arith, within), is)
-
-  pub none_inside : (y : X) → Contains [] y → ⊥
-  none_inside y inside = absurd (omega (arith, inside.1))
-
-  -- what is in a part is in the whole, and passes the test; as `range`, `prefix`, `lower_bound` and their like test keys
-  pub inside_part : (p : X → Bool) (xs : List X) (x : X) → Contains xs x → p x ≡ true → Contains (filter p xs) x
-  inside_part p [] x inside passes = inside
-  inside_part p (y ∷ ys) x inside passes = by_place (first_or_later y x ys inside) (p y) refl (λ later. inside_part p ys x later passes)
-    where
-      by_place : (y ≡ x) ⊎ Contains ys x → (t : Bool) → p y ≡ t → (Contains ys x → Contains (filter p ys) x) → Contains (cond t (y ∷ filter p ys) (filter p ys)) x
-      by_place (inl same) true is rest = first_there y x (filter p ys) same
-      by_place (inl same) false is rest = let wrong : true ≡ false = sym passes ∙ ap p (sym same) ∙ is in absurd (cc)
-      by_place (inr later) true is rest = later_there y x (filter p ys) (rest later)
-      by_place (inr later) false is rest = rest later
-
-  pub part_inside : (p : X → Bool) (xs : List X) (x : X) → Contains (filter p xs) x → Contains xs x × (p x ≡ true)
-  part_inside p [] x inside = absurd (none_inside x inside)
-  part_inside p (y ∷ ys) x inside = by_test (p y) refl inside (part_inside p ys x)
-    where
-      by_place : (y ≡ x) ⊎ Contains (filter p ys) x → p y ≡ true → (Contains (filter p ys) x → Contains ys x × (p x ≡ true)) → Contains (y ∷ ys) x × (p x ≡ true)
-      by_place (inl same) is rest = (first_there y x ys same, ap p (sym same) ∙ is)
-      by_place (inr later) is rest = let part = rest later in (later_there y x ys part.0, part.1)
-
-      by_test : (t : Bool) → p y ≡ t → Contains (cond t (y ∷ filter p ys) (filter p ys)) x → (Contains (filter p ys) x → Contains ys x × (p x ≡ true)) → Contains (y ∷ ys) x × (p x ≡ true)
-      by_test true is inside rest = by_place (first_or_later y x (filter p ys) inside) is rest
-      by_test false is inside rest = let part = rest inside in (later_there y x ys part.0, part.1)
-
-module _ {X Y : Type 0} (f : X → Y) where
-  pub image_inside : (xs : List X) (x : X) (y : Y) → f x ≡ y → Contains xs x → Contains (map f xs) y
-  image_inside [] x y same inside = absurd (none_inside x inside)
-  image_inside (z ∷ zs) x y same inside = by_place (first_or_later z x zs inside) (image_inside zs x y same)
-    where
-      by_place : (z ≡ x) ⊎ Contains zs x → (Contains zs x → Contains (map f zs) y) → Contains (f z ∷ map f zs) y
-      by_place (inl first) rest = first_there (f z) y (map f zs) (ap f first ∙ same)
-      by_place (inr later) rest = later_there (f z) y (map f zs) (rest later)
-
-  pub inside_image : (xs : List X) (y : Y) → Contains (map f xs) y → (x : X) × Contains xs x × (f x ≡ y)
-  inside_image [] y inside = absurd (none_inside y inside)
-  inside_image (z ∷ zs) y inside = by_place (first_or_later (f z) y (map f zs) inside) (inside_image zs y)
-    where
-      by_place : (f z ≡ y) ⊎ Contains (map f zs) y → (Contains (map f zs) y → (x : X) × Contains zs x × (f x ≡ y)) → (x : X) × Contains (z ∷ zs) x × (f x ≡ y)
-      by_place (inl same) rest = (z, first_there z z zs refl, same)
-      by_place (inr later) rest = let from = rest later in (from.0, later_there z from.0 zs from.1, from.2)
-
-  -- images that differ pair by pair are those of elements that do
-  pairs_of_texts : (xs : List X) → AllPairs (λ a b. a ≢ b) (map f xs) → AllPairs (λ a b. f a ≢ f b) xs
-  pairs_of_texts xs pairs i j d before within =
-      let there : j < length (map f xs) = omega (arith, within, length-map xs f) in
-      let first : i < length xs = omega (arith, before, within) in
-      rw (← get_or-map f xs i d (f d) first, ← get_or-map f xs j d (f d) within) (pairs i j (f d) before there)
-
 -- the entries of a map
 module _ {K V : Type 0} (text : K → List ℕ) where
-  put_cases : (Holds : List (K × V) → Type 0) (other : K × V) (entries : List (K × V)) (entry : K × V) → (text_order (text entry.0) (text other.0) ≡ Less → Holds (entry ∷ other ∷ entries)) → (text_order (text entry.0) (text other.0) ≡ Equal → Holds (entry ∷ entries))
-      → (text_order (text entry.0) (text other.0) ≡ Greater → Holds (other ∷ put_entry text entries entry)) → Holds (put_entry text (other ∷ entries) entry)
-  put_cases Holds other entries entry less equal greater = by_order (text_order (text entry.0) (text other.0)) refl
-    where
-      placed : (o : Ordering) → text_order (text entry.0) (text other.0) ≡ o → Holds (match_ordering o (entry ∷ other ∷ entries) (entry ∷ entries) (other ∷ put_entry text entries entry)) → Holds (put_entry text (other ∷ entries) entry)
-      placed o is = subst (λ o. Holds (match_ordering o (entry ∷ other ∷ entries) (entry ∷ entries) (other ∷ put_entry text entries entry))) (sym is)
-
-      by_order : (o : Ordering) → text_order (text entry.0) (text other.0) ≡ o → Holds (put_entry text (other ∷ entries) entry)
-      by_order Less is = placed Less is (less is)
-      by_order Equal is = placed Equal is (equal is)
-      by_order Greater is = placed Greater is (greater is)
-
   -- one entry is in front, or another
   found_first : (entry : K × V) (entries : List (K × V)) (x : List ℕ) → text entry.0 ≡ x → entry_with text (entry ∷ entries) x ≡ Some entry
   found_first entry entries x same = rw (ap (λ y. pointwise nat_eq y x) same ∙ text_itself x) refl
@@ -177,23 +23,20 @@ module _ {K V : Type 0} (text : K → List ℕ) where
   found_later entry entries x differ = rw (other_text (text entry.0) x differ) refl
 
   by_first : (Holds : Option (K × V) → Type 0) (entry : K × V) (entries : List (K × V)) (x : List ℕ) → (text entry.0 ≡ x → Holds (Some entry)) → (text entry.0 ≢ x → Holds (entry_with text entries x)) → Holds (entry_with text (entry ∷ entries) x)
-  by_first Holds entry entries x same differ = by_test (pointwise nat_eq (text entry.0) x) refl
-    where
-      by_test : (t : Bool) → pointwise nat_eq (text entry.0) x ≡ t → Holds (cond t (Some entry) (entry_with text entries x))
-      by_test true is = same (same_text (text entry.0) x is)
-      by_test false is = differ (texts_differ (text entry.0) x is)
+  by_first Holds entry entries x same differ =
+      by_text (text entry.0) x (Holds (entry_with text (entry ∷ entries) x)) (λ is one. rw is (same one)) (λ is other. rw is (differ other))
 
   -- look-ups: after an entry was put, of its own text and of another
   pub put_found : (entries : List (K × V)) (entry : K × V) → entry_with text (put_entry text entries entry) (text entry.0) ≡ Some entry
   put_found [] entry = found_first entry [] (text entry.0) refl
   put_found (other ∷ entries) entry =
-      put_cases (λ all. entry_with text all (text entry.0) ≡ Some entry) other entries entry (λ _. found_first entry (other ∷ entries) (text entry.0) refl) (λ _. found_first entry entries (text entry.0) refl)
+      put_cases text (λ all. entry_with text all (text entry.0) ≡ Some entry) other entries entry (λ _. found_first entry (other ∷ entries) (text entry.0) refl) (λ _. found_first entry entries (text entry.0) refl)
       (λ greater. found_later other (put_entry text entries entry) (text entry.0) (λ same. greater_differs (text entry.0) (text other.0) greater (sym same)) ∙ put_found entries entry)
 
   pub others_found : (entries : List (K × V)) (entry : K × V) (x : List ℕ) → text entry.0 ≢ x → entry_with text (put_entry text entries entry) x ≡ entry_with text entries x
   others_found [] entry x differ = found_later entry [] x differ
   others_found (other ∷ entries) entry x differ =
-      put_cases (λ all. entry_with text all x ≡ entry_with text (other ∷ entries) x) other entries entry (λ _. found_later entry (other ∷ entries) x differ)
+      put_cases text (λ all. entry_with text all x ≡ entry_with text (other ∷ entries) x) other entries entry (λ _. found_later entry (other ∷ entries) x differ)
       (λ equal. found_later entry entries x differ ∙ sym (found_later other entries x (λ same. differ (same_order (text entry.0) (text other.0) equal ∙ same))))
       (λ _. by_first (λ o. entry_with text (other ∷ put_entry text entries entry) x ≡ o) other entries x (found_first other (put_entry text entries entry) x) (λ apart. found_later other (put_entry text entries entry) x apart ∙ others_found entries entry x differ))
 
@@ -204,23 +47,16 @@ module _ {K V : Type 0} (text : K → List ℕ) where
       by_test true is = ap (entry_with text (put_entry text entries entry)) (sym (same_text (text entry.0) x is)) ∙ put_found entries entry
       by_test false is = others_found entries entry x (texts_differ (text entry.0) x is)
 
-  without_cases : (Holds : List (K × V) → Type 0) (other : K × V) (entries : List (K × V)) (x : List ℕ) → (text other.0 ≡ x → Holds (without_text text entries x)) → (text other.0 ≢ x → Holds (other ∷ without_text text entries x)) → Holds (without_text text (other ∷ entries) x)
-  without_cases Holds other entries x same differ = by_test (pointwise nat_eq (text other.0) x) refl
-    where
-      by_test : (t : Bool) → pointwise nat_eq (text other.0) x ≡ t → Holds (without_text text (other ∷ entries) x)
-      by_test true is = rw is (same (same_text (text other.0) x is))
-      by_test false is = rw is (differ (texts_differ (text other.0) x is))
-
   -- look-ups: after a text was taken out, of it and of another
   pub taken_not_found : (entries : List (K × V)) (x : List ℕ) → entry_with text (without_text text entries x) x ≡ None
   taken_not_found [] x = refl
   taken_not_found (other ∷ entries) x =
-      without_cases (λ all. entry_with text all x ≡ None) other entries x (λ _. taken_not_found entries x) (λ differ. found_later other (without_text text entries x) x differ ∙ taken_not_found entries x)
+      without_cases text (λ all. entry_with text all x ≡ None) other entries x (λ _. taken_not_found entries x) (λ differ. found_later other (without_text text entries x) x differ ∙ taken_not_found entries x)
 
   pub others_kept : (entries : List (K × V)) (x y : List ℕ) → x ≢ y → entry_with text (without_text text entries x) y ≡ entry_with text entries y
   others_kept [] x y differ = refl
   others_kept (other ∷ entries) x y differ =
-      without_cases (λ all. entry_with text all y ≡ entry_with text (other ∷ entries) y) other entries x
+      without_cases text (λ all. entry_with text all y ≡ entry_with text (other ∷ entries) y) other entries x
       (λ same. others_kept entries x y differ ∙ sym (found_later other entries y (λ also. differ (sym same ∙ also))))
       (λ _. by_first (λ o. entry_with text (other ∷ without_text text entries x) y ≡ o) other entries y (found_first other (without_text text entries x) y) (λ apart. found_later other (without_text text entries x) y apart ∙ others_kept entries x y differ))
 
@@ -263,7 +99,7 @@ module _ {K V : Type 0} (text : K → List ℕ) where
   pub others_there : (entries : List (K × V)) (entry other : K × V) → text entry.0 ≢ text other.0 → Contains entries other → Contains (put_entry text entries entry) other
   others_there [] entry other differ inside = absurd (none_inside other inside)
   others_there (first ∷ entries) entry other differ inside =
-      put_cases (λ all. Contains all other) first entries entry (λ _. later_there entry other (first ∷ entries) inside) (λ equal. later_there entry other entries (by_place equal (first_or_later first other entries inside)))
+      put_cases text (λ all. Contains all other) first entries entry (λ _. later_there entry other (first ∷ entries) inside) (λ equal. later_there entry other entries (by_place equal (first_or_later first other entries inside)))
       (λ _. in_rest (first_or_later first other entries inside) (others_there entries entry other differ))
     where
       by_place : text_order (text entry.0) (text first.0) ≡ Equal → (first ≡ other) ⊎ Contains entries other → Contains entries other
@@ -277,7 +113,7 @@ module _ {K V : Type 0} (text : K → List ℕ) where
   pub put_only : (entries : List (K × V)) (entry other : K × V) → Contains (put_entry text entries entry) other → (entry ≡ other) ⊎ Contains entries other
   put_only [] entry other inside = first_or_later entry other [] inside
   put_only (first ∷ entries) entry other inside =
-      put_cases (λ all. Contains all other → (entry ≡ other) ⊎ Contains (first ∷ entries) other) first entries entry (λ _. first_or_later entry other (first ∷ entries)) (λ _ inside. in_place (first_or_later entry other entries inside))
+      put_cases text (λ all. Contains all other → (entry ≡ other) ⊎ Contains (first ∷ entries) other) first entries entry (λ _. first_or_later entry other (first ∷ entries)) (λ _ inside. in_place (first_or_later entry other entries inside))
       (λ _ inside. behind (first_or_later first other (put_entry text entries entry) inside) (put_only entries entry other)) inside
     where
       in_place : (entry ≡ other) ⊎ Contains entries other → (entry ≡ other) ⊎ Contains (first ∷ entries) other
@@ -292,23 +128,17 @@ module _ {K V : Type 0} (text : K → List ℕ) where
   pub all_after_put : (P : K × V → Type 0) (entries : List (K × V)) (entry : K × V) → All P entries → P entry → All P (put_entry text entries entry)
   all_after_put P [] entry all one = All-cons P entry [] one all
   all_after_put P (other ∷ entries) entry all one =
-      put_cases (All P) other entries entry (λ _. All-cons P entry (other ∷ entries) one all) (λ _. All-cons P entry entries one (All-tail P other entries all))
+      put_cases text (All P) other entries entry (λ _. All-cons P entry (other ∷ entries) one all) (λ _. All-cons P entry entries one (All-tail P other entries all))
       (λ _. All-cons P other (put_entry text entries entry) (All-head P other entries all) (all_after_put P entries entry (All-tail P other entries all) one))
 
   -- how many: one more where the text is new, as many where it is not, one fewer where it was there
   pub one_more : (entries : List (K × V)) (entry : K × V) → entry_with text entries (text entry.0) ≡ None → length (put_entry text entries entry) ≡ length entries + 1
-  one_more [] entry none = refl
-  one_more (other ∷ entries) entry none =
-      let never = none_has (other ∷ entries) (text entry.0) none in
-      put_cases (λ all. length all ≡ length (other ∷ entries) + 1) other entries entry (λ _. omega arith) (λ equal. absurd (never (first_there (text other.0) (text entry.0) (texts_of text entries) (sym (same_order (text entry.0) (text other.0) equal)))))
-      (λ greater.
-      let rest : entry_with text entries (text entry.0) ≡ None = sym (found_later other entries (text entry.0) (λ same. greater_differs (text entry.0) (text other.0) greater (sym same))) ∙ none in
-      omega (arith, one_more entries entry rest))
+  one_more entries entry none = let long = put-long text entries entry (none_has entries (text entry.0) none) in omega (arith, long)
 
   pub as_many : (entries : List (K × V)) (entry : K × V) → Ascend (texts_of text entries) → entry_with text entries (text entry.0) ≢ None → length (put_entry text entries entry) ≡ length entries
   as_many [] entry ascend some = absurd (some refl)
   as_many (other ∷ entries) entry ascend some =
-      put_cases (λ all. length all ≡ length (other ∷ entries)) other entries entry
+      put_cases text (λ all. length all ≡ length (other ∷ entries)) other entries entry
       (λ less. absurd (below_first (text other.0) (text entry.0) (texts_of text entries) ascend less (one_has (other ∷ entries) (text entry.0) some))) (λ _. refl)
       (λ greater.
       let rest : entry_with text entries (text entry.0) ≢ None = λ none. some (found_later other entries (text entry.0) (λ same. greater_differs (text entry.0) (text other.0) greater (sym same)) ∙ none) in
@@ -323,7 +153,7 @@ module _ {K V : Type 0} (text : K → List ℕ) where
   pub one_fewer : (entries : List (K × V)) (x : List ℕ) → Ascend (texts_of text entries) → entry_with text entries x ≢ None → length (without_text text entries x) + 1 ≡ length entries
   one_fewer [] x ascend some = absurd (some refl)
   one_fewer (other ∷ entries) x ascend some =
-      without_cases (λ all. length all + 1 ≡ length (other ∷ entries)) other entries x
+      without_cases text (λ all. length all + 1 ≡ length (other ∷ entries)) other entries x
       (λ same. omega (arith, ap length (none_taken entries x (rest_lacks same (entry_with text entries x) refl))))
       (λ differ. omega (arith, one_fewer entries x (ascend_rest (text other.0) (texts_of text entries) ascend) (λ none. some (found_later other entries x differ ∙ none))))
     where
@@ -351,7 +181,7 @@ module _ {K V : Type 0} (text : K → List ℕ) where
   pub range_only : {Q : Type 0} (bound_text : Q → List ℕ) (start end : Bound (Shared Q)) (entries : List (K × V)) (entry : K × V) → Contains (entries_within text bound_text start end entries) entry → Contains entries entry × (is_from bound_text start (text entry.0) ≡ true) × (is_up_to bound_text end (text entry.0) ≡ true)
   range_only bound_text start end entries entry inside =
       let part = part_inside (λ e. is_up_to bound_text end (text e.0) && is_from bound_text start (text e.0)) entries entry inside in
-      let both = both_so (is_up_to bound_text end (text entry.0)) (is_from bound_text start (text entry.0)) part.1 in
+      let both = and_parts (is_up_to bound_text end (text entry.0)) (is_from bound_text start (text entry.0)) part.1 in
       (part.0, both.1, both.0)
 
   -- members with a prefix, not below some bytes, and above them
@@ -370,21 +200,17 @@ module _ {K V : Type 0} (text : K → List ℕ) where
   -- no two entries have the same text
   pub distinct_keys : (entries : List (K × V)) → Ascend (texts_of text entries) → AllPairs (λ a b. text a.0 ≢ text b.0) entries
   distinct_keys [] ascend i j d before within = absurd (omega (arith, within))
-  distinct_keys (entry ∷ entries) ascend i j d before within = pairs_of_texts (λ e. text e.0) (entry ∷ entries) (distinct_texts (texts_of text (entry ∷ entries)) ascend) i j d before within
+  distinct_keys (entry ∷ entries) ascend i j d before within = images_differ (λ e. text e.0) (entry ∷ entries) (distinct_texts (texts_of text (entry ∷ entries)) ascend) i j d before within
 
 -- the keys of a set
 module _ {K : Type 0} (text : K → List ℕ) where
   put_key_cases : (Holds : List K → Type 0) (other : K) (keys : List K) (key : K) → (text_order (text key) (text other) ≡ Less → Holds (key ∷ other ∷ keys)) → (text_order (text key) (text other) ≡ Equal → Holds (other ∷ keys)) → (text_order (text key) (text other) ≡ Greater → Holds (other ∷ put_key text keys key))
       → Holds (put_key text (other ∷ keys) key)
-  put_key_cases Holds other keys key less equal greater = by_order (text_order (text key) (text other)) refl
+  put_key_cases Holds other keys key less equal greater =
+      by_order (text key) (text other) (Holds (put_key text (other ∷ keys) key)) (λ is. placed Less is (less is)) (λ is. placed Equal is (equal is)) (λ is. placed Greater is (greater is))
     where
       placed : (o : Ordering) → text_order (text key) (text other) ≡ o → Holds (match_ordering o (key ∷ other ∷ keys) (other ∷ keys) (other ∷ put_key text keys key)) → Holds (put_key text (other ∷ keys) key)
       placed o is = subst (λ o. Holds (match_ordering o (key ∷ other ∷ keys) (other ∷ keys) (other ∷ put_key text keys key))) (sym is)
-
-      by_order : (o : Ordering) → text_order (text key) (text other) ≡ o → Holds (put_key text (other ∷ keys) key)
-      by_order Less is = placed Less is (less is)
-      by_order Equal is = placed Equal is (equal is)
-      by_order Greater is = placed Greater is (greater is)
 
   -- the texts of a set with one key more: its own, and those of before
   pub key_put : (keys : List K) (key : K) → HasKey text (put_key text keys key) (text key)

@@ -1,20 +1,7 @@
 -- A closure that is called at entries in turn, and a leaf with another value.
-use Rattle.std.proofs.Common.{◌≡◌, ◌≢◌, ◌∙◌, ℕ, Bool, true, cond, List, [], ◌∷◌, ◌++◌, map, Option, Some, None, append_assoc, refl, sym, ap}
-use Rattle.std.specs.List.{FoldsTo}
-use Rattle.std.specs.Map.Calls.{CallableOnEachPair, RetainsPairs, SomeCallAtPair}
-use Rattle.std.proofs.lemmas.List.{map-append}
+use Rattle.art_map.proofs.Names.{◌≡◌, ◌≢◌, ◌∙◌, ℕ, Bool, true, cond, List, [], ◌∷◌, ◌++◌, map, Option, Some, None, append_assoc, refl, sym, ap, FoldsTo, CallableOnEachPair, RetainsPairs, SomeCallAtPair, map-append, opaque_pointer, LeafNode, OpaqueNodePtr, NodeArena, Changes, HeldLeaf, Nothing, held, held_leaf, spells-exchanged, stands-exchanged, leaf_at, Tree, IsAlone, CallableInTurn, ChangesInTurn, ChangesValue, TakesValue, Mut, MutBor, Bor}
 use Rattle.art_header.specs.declared.node_type.NodeType.TheVariants as kinds
-use Rattle.art_nodes.specs.Pointers.{opaque_pointer}
-use Rattle.art_nodes.specs.declared.leaf_node.LeafNode.{LeafNode}
-use Rattle.art_nodes.specs.declared.pointers.OpaqueNodePtr.{OpaqueNodePtr}
-use Rattle.art_arena.specs.Arena.{NodeArena, Changes, Held, HeldLeaf, Nothing, held, held_leaf}
-use Rattle.art_arena.specs.Links.{Spells, leaf_at}
-use Rattle.art_arena.specs.Standing.{StandsIn}
-use Rattle.art_arena.specs.Trees.{Tree}
-use Rattle.art_tree.specs.Art.{IsAlone}
-use Rattle.art_map.specs.Calls.{CallableInTurn, ChangesInTurn, ChangesValue, TakesValue}
-use denote.Param.Members.{Mut}
-use denote.Ref.{Bor, MutBor}
+use Rattle.art_nodes.specs.Leaf.{with_value}
 
 -- a leaf that is held
 pub held-slot : {K V : Type 0} {P : ℕ} (o : Option (LeafNode K V P)) → held_leaf {H = OpaqueNodePtr K V P} o ≢ Nothing → (leaf : LeafNode K V P) × (o ≡ Some leaf)
@@ -22,16 +9,16 @@ held-slot None is_held = absurd (is_held refl)
 held-slot (Some leaf) is_held = (leaf, refl)
 
 -- a tree that is alone in its arena is so once a leaf has another value
-module _ {K V : Type 0} {P : ℕ} (text : K → List ℕ) (old new : NodeArena K V P) (key : ℕ) (leaf : LeafNode K V P) (there : leaf_at old key ≡ Some leaf) {now : Held (OpaqueNodePtr K V P) (LeafNode K V P)} (changes : Changes old new (opaque_pointer kinds.Leaf key) now) where
+module _ {K V : Type 0} {P : ℕ} (text : K → List ℕ) (old new : NodeArena K V P) (key : ℕ) (leaf : LeafNode K V P) (there : leaf_at old key ≡ Some leaf) (value : V) (changes : Changes old new (opaque_pointer kinds.Leaf key) (HeldLeaf (with_value leaf value))) where
   not-this : (pointer : OpaqueNodePtr K V P) → held old pointer ≡ Nothing → pointer ≢ opaque_pointer kinds.Leaf key
   not-this pointer none same = let wrong : HeldLeaf leaf ≡ Nothing = sym (ap (held_leaf {H = OpaqueNodePtr K V P}) there) ∙ ap (held old) (sym same) ∙ none in absurd (cc)
 
-  pub alone-kept : (root : OpaqueNodePtr K V P) (tree : Tree (OpaqueNodePtr K V P)) → (StandsIn text old tree → StandsIn text new tree) → ((keys : List ℕ) → Spells old keys → Spells new keys) → IsAlone text old root tree → IsAlone text new root tree
-  alone-kept root tree stands_on spelled_on alone = record {
-    is_tree = record { at_root = alone.is_tree.at_root; stands = stands_on alone.is_tree.stands; sound = alone.is_tree.sound };
+  pub alone-kept : (root : OpaqueNodePtr K V P) (tree : Tree (OpaqueNodePtr K V P)) → IsAlone text old root tree → IsAlone text new root tree
+  alone-kept root tree alone = record {
+    is_tree = record { at_root = alone.is_tree.at_root; stands = stands-exchanged text old new key leaf (with_value leaf value) there changes tree refl alone.is_tree.stands; sound = alone.is_tree.sound };
     smallest_kinds = alone.smallest_kinds;
     short = alone.short;
-    spelled = spelled_on _ alone.spelled;
+    spelled = spells-exchanged old new key leaf (with_value leaf value) there changes refl refl _ alone.spelled;
     no_others = λ pointer is_held. alone.no_others pointer (λ none. is_held (changes.others pointer (not-this pointer none) ∙ none));
   }
 

@@ -1,19 +1,7 @@
 -- Which keys clash with those of a map.
-use Rattle.std.proofs.Common.{◌≡◌, ◌⊎◌, ◌∙◌, inl, inr, ℕ, ◌<◌, ◌≤◌, ◌^◌, Bool, true, false, cond, List, [], ◌∷◌, ◌++◌, append-nil, length, length-append, All, AllPairs, Contains, Option, Some, None, refl, sym, ap, subst, arith, nat_eq}
-use Rattle.std.specs.Prelude.{find}
-use Rattle.std.specs.List.{starts_with}
-use Rattle.std.specs.Option.{MatchOption, is_some}
+use Rattle.art_map.proofs.Names.{◌≡◌, ◌⊎◌, ◌∙◌, inl, inr, ℕ, ◌<◌, ◌≤◌, ◌^◌, Bool, true, false, cond, List, [], ◌∷◌, ◌++◌, append-nil, length, length-append, All, AllPairs, Contains, Option, Some, None, refl, sym, ap, subst, arith, nat_eq, find, starts_with, MatchOption, is_some, Decides-eqb, All-contains, starts_is, IsPrefixOf, Clashes, OneIsProperPrefix, texts_of, Prefix, prefix_entry, entries_with_prefix}
 use Rattle.std.proofs.Math.Dec.{ltb}
 use Rattle.std.proofs.lemmas.Bool.{ltb-false, ltb-true}
-use Rattle.std.proofs.lemmas.Bool.Decides.{Decides-eqb}
-use Rattle.std.proofs.lemmas.List.Elements.{All-contains}
-use Rattle.std.proofs.lemmas.Slice.Eq.{starts_is}
-use Rattle.art_bytes.specs.Text.{IsPrefixOf}
-use Rattle.art_tree.specs.Dictionary.{Clashes, OneIsProperPrefix}
-use Rattle.art_tree.specs.Refusals.{texts_of}
-use Rattle.art_tree.specs.declared.insert.InsertRefusal.TheVariants.{Prefix}
-use Rattle.art_map.specs.Entries.{prefix_entry}
-use Rattle.art_map.specs.Ranges.{entries_with_prefix}
 use Rattle.art_map.proofs.CallLaws.{first_or_later, first_there, image_inside, inside_image, later_there, none_has, none_inside, part_inside, inside_part}
 use Rattle.art_map.proofs.FrontLemmas.{Apart, begun}
 use Rattle.art_map.proofs.RefusalLemmas.{refused_not_there}

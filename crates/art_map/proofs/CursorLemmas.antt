@@ -1,36 +1,14 @@
 -- The entries before and behind a leaf of a tree: where the list is cut, and the leaf behind.
-use Rattle.std.proofs.Common.{◌≡◌, ◌≢◌, ◌∙◌, ℕ, Bool, true, false, List, [], ◌∷◌, ◌++◌, map, slice_get, All, Contains, Option, Some, None, append_assoc, append-nil, get_or, refl, sym, ap, subst, inl, inr, arith}
-use Rattle.std.specs.Option.{option_map}
-use Rattle.std.specs.declared.cmp.Ordering.TheVariants.{Less}
-use Rattle.std.proofs.lemmas.List.Elements.{All-nil, All-cons, All-head, All-tail, Contains-append_cases, Contains-append_left, Contains-append_right, Contains-get_or, filter_map-append}
-use Rattle.art_bytes.specs.Text.{text_order}
+use Rattle.art_map.proofs.Names.{◌≡◌, ◌≢◌, ◌∙◌, ℕ, Bool, true, false, List, [], ◌∷◌, ◌++◌, map, slice_get, All, Contains, Option, Some, None, append_assoc, append-nil, get_or, refl, sym, ap, subst, inl, inr, arith, option_map, Less, All-nil, All-cons, All-head, All-tail, Contains-append_right, Contains-get_or, filter_map-append, text_order, leaf_key, opaque_key, opaque_pointer, slab_key, NodePtr, LeafNode, OpaqueNodePtr, NodeArena, Changes, HeldLeaf, held, held_leaf, knit-member, next-member, are-entries, leaf-in, Spells, leaf_at, next_at, Tree, leaves, IsAlone, IsArt, entries_of, without_text, texts_of, leaf_pointer, is_before, AreOn, Side, HoldsFirst, IsCut, keys_of, AllHold, IsFirstAfter, entries_under, leaf_entry}
 use Rattle.art_header.specs.declared.node_type.NodeType.TheVariants as kinds
-use Rattle.art_nodes.specs.Leaf.{leaf_key, with_value}
-use Rattle.art_nodes.specs.Pointers.{opaque_key, opaque_pointer, slab_key}
-use Rattle.art_nodes.specs.declared.pointers.NodePtr.{NodePtr}
-use Rattle.art_nodes.specs.declared.leaf_node.LeafNode.{LeafNode}
-use Rattle.art_nodes.specs.declared.pointers.OpaqueNodePtr.{OpaqueNodePtr}
-use Rattle.art_arena.specs.Arena.{NodeArena, Changes, HeldLeaf, held, held_leaf}
-use Rattle.art_arena.specs.Links.{IsKnit, Spells, leaf_at}
-use Rattle.art_arena.specs.Standing.{AllStandIn, StandsIn}
-use Rattle.art_arena.specs.Trees.{Tree, Leaf, Inner, Branches, NoBranch, Branch, branch_leaves, branch_places, leaves, places}
-use Rattle.art_tree.specs.Art.{IsAlone, IsArt}
-use Rattle.art_tree.specs.Entries.{entries_of, without_text}
+use Rattle.art_nodes.specs.Leaf.{with_value}
 use Rattle.art_tree.specs.Leaves.{KeepsOtherLeaves}
-use Rattle.art_tree.specs.Refusals.{texts_of}
-use Rattle.art_tree.specs.Search.{leaf_pointer}
-use Rattle.art_tree.specs.Sides.{is_before, AreOn}
-use Rattle.art_tree.specs.declared.place.Side.{Side}
-use Rattle.art_map.specs.Cursors.{HoldsFirst, IsCut}
-use Rattle.art_map.specs.LeafEntries.{keys_of, AllHold}
-use Rattle.art_map.specs.Nearest.{IsFirstAfter}
-use Rattle.art_map.specs.Runs.{entries_under, leaf_entry}
 use Rattle.art_map.proofs.CallLaws.{Ascend, ascend_rest, first_or_later, first_there, image_inside, less_differs, none_below, none_inside, other_text, text_itself}
-use Rattle.art_map.proofs.CalledLemmas.{held-slot}
+use Rattle.art_map.proofs.CalledLemmas.{alone-kept, held-slot}
+use Rattle.art_map.proofs.EntryLemmas.{entries-of-leaves, leaves-hold}
 use Rattle.art_map.proofs.ListLemmas.{slot-of}
 use Rattle.art_map.proofs.RangeLemmas.{held-append, held_by, hold-left, hold-right, something-held}
 use Rattle.art_map.proofs.RunLemmas.{apart-at, entries-cons, entries-kept, others-stay}
-use Rattle.art_map.proofs.ShrinkLemmas.{not-both}
 
 -- a list around a member
 pub around : {X : Type 0} (xs : List X) (x : X) → Contains xs x → (before : List X) × (after : List X) × (xs ≡ before ++ x ∷ after)
@@ -92,28 +70,10 @@ module _ {K V : Type 0} {P : ℕ} (text : K → List ℕ) (arena : NodeArena K V
   pub is-held : held arena this ≡ HeldLeaf leaf
   is-held = ap (held_leaf {H = OpaqueNodePtr K V P}) there
 
-  mutual
-    among-leaves : (tree : Tree (OpaqueNodePtr K V P)) → StandsIn text arena tree → Contains (places tree) this → (x : List ℕ) × Contains (leaves tree) (this, x)
-    among-leaves (Leaf pointer x) stands inside = elim (first_or_later pointer this [] inside) [
-      | inl here ↦ (x, first_there (pointer, x) (this, x) [] (ap (λ p. (p, x)) here))
-      | inr none ↦ absurd (none_inside this none)
-    ]
-    among-leaves (Inner pointer prefix branches) (node, holds, shows, stand) inside = elim (first_or_later pointer this (branch_places branches) inside) [
-      | inl here ↦ absurd (not-both node leaf (held arena pointer) holds (ap (held arena) here ∙ is-held))
-      | inr below ↦ among-branches branches stand below
-    ]
-
-    among-branches : (branches : Branches (OpaqueNodePtr K V P)) → AllStandIn text arena branches → Contains (branch_places branches) this → (x : List ℕ) × Contains (branch_leaves branches) (this, x)
-    among-branches NoBranch stand inside = absurd (none_inside this inside)
-    among-branches (Branch byte tree others) (stands, stand) inside = elim (Contains-append_cases (places tree) (branch_places others) this inside) [
-      | inl here ↦ let (x, found) = among-leaves tree stands here in (x, Contains-append_left (leaves tree) (branch_leaves others) (this, x) found)
-      | inr later ↦ let (x, found) = among-branches others stand later in (x, Contains-append_right (leaves tree) (branch_leaves others) (this, x) found)
-    ]
-
   pub key-inside : (root : OpaqueNodePtr K V P) (tree : Tree (OpaqueNodePtr K V P)) → IsAlone text arena root tree → Contains (keys_of (leaves tree)) key
   key-inside root tree alone =
-      let (x, inside) = among-leaves tree alone.is_tree.stands (alone.no_others this (something-held (held arena this) leaf is-held)) in
-      image_inside opaque_key (map (λ pair. pair.0) (leaves tree)) this key refl (image_inside (λ pair. pair.0) (leaves tree) (this, x) this refl inside)
+      let inside = leaf-in text arena tree alone.is_tree.stands this leaf (alone.no_others this (something-held (held arena this) leaf is-held)) is-held in
+      image_inside opaque_key (map (λ pair. pair.0) (leaves tree)) this key refl (image_inside (λ pair. pair.0) (leaves tree) (this, text (leaf_key leaf)) this refl inside)
 
 -- the entry at a cut is that of the leaf
 pub entry-at : {K V : Type 0} {P : ℕ} (arena : NodeArena K V P) (key : ℕ) (entry : K × V) (after : List (K × V)) (holds : HoldsFirst arena (Some key) (entry ∷ after)) → entry ≡ leaf_entry holds.0
@@ -121,7 +81,6 @@ entry-at arena key entry after holds = let both : entry ∷ after ≡ leaf_entry
 
 -- the leaves before and behind the leaf at a cut hold the entries before and behind it
 module _ {K V : Type 0} {P : ℕ} (text : K → List ℕ) (arena : NodeArena K V P) (root : OpaqueNodePtr K V P) (tree : Tree (OpaqueNodePtr K V P)) (alone : IsAlone text arena root tree)
-    (are : entries_under arena (keys_of (leaves tree)) ≡ entries_of text arena) (ascend : Ascend (texts_of text (entries_of text arena)))
     (before : List (K × V)) (key : ℕ) (entry : K × V) (after : List (K × V)) (cut : IsCut text arena before (Some key) (entry ∷ after)) where
   abbrev pub leaf-here : LeafNode K V P
   leaf-here = cut.1.0
@@ -151,10 +110,10 @@ module _ {K V : Type 0} {P : ℕ} (text : K → List ℕ) (arena : NodeArena K V
   under-parts =
       ap (λ e. entries_under arena done ++ e ∷ entries_under arena todo) entry-is
       ∙ sym (filter_map-append (λ k. option_map leaf_entry (leaf_at arena k)) done (key ∷ todo) ∙ ap (λ es. entries_under arena done ++ es) (entries-cons arena key todo leaf-here is-there))
-      ∙ sym (ap (entries_under arena) keys-are) ∙ are ∙ cut.0
+      ∙ sym (ap (entries_under arena) keys-are) ∙ entries-of-leaves alone ∙ cut.0
 
   same-parts : (before ≡ entries_under arena done) × (after ≡ entries_under arena todo)
-  same-parts = one-cut text before (entries_under arena done) entry after (entries_under arena todo) (subst (λ es. Ascend (texts_of text es)) cut.0 ascend) (sym under-parts)
+  same-parts = one-cut text before (entries_under arena done) entry after (entries_under arena todo) (subst (λ es. Ascend (texts_of text es)) cut.0 (are-entries text arena).ascending) (sym under-parts)
 
   pub behind-is : after ≡ entries_under arena todo
   behind-is = same-parts.1
@@ -163,26 +122,25 @@ module _ {K V : Type 0} {P : ℕ} (text : K → List ℕ) (arena : NodeArena K V
   before-is = same-parts.0
 
   -- the leaf behind holds the first of the entries behind
-  pub cut-behind : (knit : (before after : List ℕ) (key : ℕ) → Spells arena (before ++ key ∷ after) → IsKnit arena key) → HoldsFirst arena (slice_get todo 0) after
-  cut-behind knit = by_todo todo refl behind-is
+  pub cut-behind : (next : Option ℕ) → next ≡ next_at arena key → IsCut text arena (before ++ entry ∷ []) next after
+  cut-behind next is = (cut.0 ∙ sym (append_assoc before (entry ∷ []) after), subst (λ o. HoldsFirst arena o after) (sym (is ∙ next-member arena done todo key spells-here)) (by_todo todo refl behind-is))
     where
       by_todo : (keys : List ℕ) → todo ≡ keys → after ≡ entries_under arena keys → HoldsFirst arena (slice_get keys 0) after
       by_todo [] is none = none
       by_todo (k ∷ keys) is some =
           let spells = subst (Spells arena) (ap (λ ks. done ++ key ∷ ks) is ∙ sym (append_assoc done (key ∷ []) (k ∷ keys))) spells-here in
-          let (other, found) = held-slot (leaf_at arena k) (knit (done ++ key ∷ []) keys k spells).held in
+          let (other, found) = held-slot (leaf_at arena k) (knit-member arena (done ++ key ∷ []) keys k spells).held in
           (other, entries_under arena keys, found, some ∙ entries-cons arena k keys other found)
 
   -- another value in the leaf is another value in the list
-  module _ (new : NodeArena K V P) (value : V) (changes : Changes arena new (opaque_pointer kinds.Leaf key) (HeldLeaf (with_value leaf-here value)))
-      (alone_on : IsAlone text new root tree) (are_on : entries_under new (keys_of (leaves tree)) ≡ entries_of text new) where
+  module _ (new : NodeArena K V P) (value : V) (changes : Changes arena new (opaque_pointer kinds.Leaf key) (HeldLeaf (with_value leaf-here value))) where
     pub cut-changed : IsCut text new before (Some key) ((entry.0, value) ∷ after)
     cut-changed =
         let others = others-stay arena new key changes in
         let apart = apart-at done key todo spells-here.distinct in
         let here : leaf_at new key ≡ Some (with_value leaf-here value) = slot-of (leaf_at new key) (with_value leaf-here value) changes.changed in
         let now : leaf_entry (with_value leaf-here value) ≡ (entry.0, value) = sym (ap (λ e. (e.0, value)) entry-is) in (
-          sym are_on ∙ ap (entries_under new) keys-are
+          sym (entries-of-leaves (alone-kept text arena new key leaf-here is-there value changes root tree alone)) ∙ ap (entries_under new) keys-are
               ∙ filter_map-append (λ k. option_map leaf_entry (leaf_at new k)) done (key ∷ todo)
               ∙ ap (λ es. es ++ entries_under new (key ∷ todo)) (entries-kept arena new key others done apart.0 ∙ sym before-is)
               ∙ ap (λ es. before ++ es) (entries-cons new key todo (with_value leaf-here value) here)
@@ -224,17 +182,17 @@ module _ {K V : Type 0} {P : ℕ} (text : K → List ℕ) (arena : NodeArena K V
   pub cut-none : entries_of text arena ≡ [] → IsCutAt None
   cut-none none = ([], [], (none, refl), All-nil (λ entry. is_before side key (text entry.0) ≡ true), All-nil (λ entry. is_before side key (text entry.0) ≡ false))
 
-  module _ (tree : Tree (OpaqueNodePtr K V P)) (hold : AllHold text arena (leaves tree)) (are : held_by text arena (leaves tree) ≡ entries_of text arena) where
+  module _ {root : OpaqueNodePtr K V P} {tree : Tree (OpaqueNodePtr K V P)} (alone : IsAlone text arena root tree) where
     pub cut-some : (o : Option (NodePtr P (LeafNode K V P))) → IsFirstAfter side key (leaves tree) (option_map leaf_pointer o) → IsCutAt (option_map slab_key o)
-    cut-some None on = (entries_of text arena, [], (sym (append-nil (entries_of text arena)), refl), subst (All (λ entry. is_before side key (text entry.0) ≡ true)) are (all-held true (leaves tree) hold on), All-nil (λ entry. is_before side key (text entry.0) ≡ false))
+    cut-some None on = (entries_of text arena, [], (sym (append-nil (entries_of text arena)), refl), subst (All (λ entry. is_before side key (text entry.0) ≡ true)) (entries-of-leaves alone) (all-held true (leaves tree) (leaves-hold alone) on), All-nil (λ entry. is_before side key (text entry.0) ≡ false))
     cut-some (Some leaf) (x, left, right, is, before, after) =
         let here : OpaqueNodePtr K V P × List ℕ = (leaf_pointer leaf, x) in
-        let parts = subst (AllHold text arena) is hold in
+        let parts = subst (AllHold text arena) is (leaves-hold alone) in
         let low = hold-left text arena left (here ∷ right) parts in
         let high = hold-right text arena left (here ∷ right) parts in (
           held_by text arena left,
           held_by text arena (here ∷ right),
-          (sym are ∙ ap (held_by text arena) is ∙ held-append text arena left (here ∷ right), (high.0.leaf, held_by text arena right, high.0.at, entries-cons arena (slab_key leaf) (keys_of right) high.0.leaf high.0.at)),
+          (sym (entries-of-leaves alone) ∙ ap (held_by text arena) is ∙ held-append text arena left (here ∷ right), (high.0.leaf, held_by text arena right, high.0.at, entries-cons arena (slab_key leaf) (keys_of right) high.0.leaf high.0.at)),
           all-held true left low before,
           all-held false (here ∷ right) high after,
         )

@@ -1,19 +1,10 @@
 -- The list of the entries once a key has a value, in its entry or in a new one.
-use Rattle.std.proofs.Common.{◌≡◌, ◌∙◌, ℕ, cond, List, Option, Some, None, Result, Ok, Err, IfErr, OnErr, is_some, refl, sym, ap}
-use Rattle.std.specs.Option.{option_map, option_map_or}
-use Rattle.art_arena.specs.Arena.{NodeArena}
-use Rattle.art_tree.specs.Dictionary.{IsEntry, SameOtherEntries, entry_at}
-use Rattle.art_tree.specs.Entries.{AreEntries, entries_of, put_entry}
-use Rattle.art_map.specs.EnteredValues.{set_value}
-use Rattle.art_map.specs.Entries.{with_value}
+use Rattle.art_map.proofs.Names.{◌≡◌, ◌∙◌, ℕ, cond, List, Option, Some, None, Result, Ok, Err, IfErr, OnErr, refl, sym, ap, option_map, option_map_or, is_some, NodeArena, SameOtherEntries, entry_at, are-entries, list-put, one-list, entries_of, put_entry, set_value, with_value}
 use Rattle.art_map.proofs.LentLemmas.{entries-with-value}
 use Rattle.art_map.proofs.ListLemmas.{entries-find}
 
 module _ {K V : Type 0} {P : ℕ} (text : K → List ℕ) (old new : NodeArena K V P) (key : K) (value : V)
-    (entry : entry_at text new (text key) ≡ Some (option_map_or (λ (entry : K × V). entry.0) (entry_at text old (text key)) key, value)) (others : SameOtherEntries text old new (text key))
-    (list : (arena : NodeArena K V P) → AreEntries text arena (entries_of text arena))
-    (only : (arena : NodeArena K V P) (a b : List (K × V)) → AreEntries text arena a → AreEntries text arena b → a ≡ b)
-    (put : (old new : NodeArena K V P) (entry : K × V) → IsEntry text new entry → SameOtherEntries text old new (text entry.0) → entries_of text new ≡ put_entry text (entries_of text old) entry) where
+    (entry : entry_at text new (text key) ≡ Some (option_map_or (λ (entry : K × V). entry.0) (entry_at text old (text key)) key, value)) (others : SameOtherEntries text old new (text key)) where
   -- they are those of before, with this value under the key
   pub entries-set : entries_of text new ≡ set_value text (entries_of text old) key value
   entries-set = by_entry (entry_at text old (text key)) refl
@@ -21,12 +12,12 @@ module _ {K V : Type 0} {P : ℕ} (text : K → List ℕ) (old new : NodeArena K
       by_entry : (o : Option (K × V)) → entry_at text old (text key) ≡ o → entries_of text new ≡ set_value text (entries_of text old) key value
       by_entry None is =
           let none = entries-find text old (text key) ∙ is in
-          put old new (key, value) (entry ∙ ap (λ o. Some (option_map_or (λ (e : K × V). e.0) o key, value)) is) others
+          list-put text old new (key, value) (entry ∙ ap (λ o. Some (option_map_or (λ (e : K × V). e.0) o key, value)) is) others
           ∙ sym (ap (λ o. cond (is_some o) (with_value text (entries_of text old) (text key) value) (put_entry text (entries_of text old) (key, value))) none)
       by_entry (Some e) is =
           let some = entries-find text old (text key) ∙ is in
           let here = entry ∙ ap (λ o. Some (option_map_or (λ (e : K × V). e.0) o key, value)) is ∙ sym (ap (option_map (λ (e : K × V). (e.0, value))) is) in
-          only new (entries_of text new) (with_value text (entries_of text old) (text key) value) (list new) (entries-with-value text (text key) value old new (entries_of text old) (list old) here others)
+          one-list text new (entries_of text new) (with_value text (entries_of text old) (text key) value) (are-entries text new) (entries-with-value text (text key) value old new (entries_of text old) (are-entries text old) here others)
           ∙ sym (ap (λ o. cond (is_some o) (with_value text (entries_of text old) (text key) value) (put_entry text (entries_of text old) (key, value))) some)
 
 module _ {A E : Type 0} where

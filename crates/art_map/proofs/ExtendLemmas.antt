@@ -1,7 +1,5 @@
 -- Elements of a list that are put in one after the other.
-use Rattle.std.proofs.Common.{◌≡◌, ◌∙◌, ℕ, ◌+◌, List, [], ◌∷◌, ◌++◌, length, take, All, append_assoc, length-append, fold, ap, arith, subst, sym}
-use Rattle.std.proofs.lemmas.List.Elements.{All-push}
-use Rattle.std.proofs.lemmas.List.Sums.{fold_push}
+use Rattle.art_map.proofs.Names.{◌≡◌, ◌∙◌, ℕ, ◌+◌, List, [], ◌∷◌, ◌++◌, length, take, All, append_assoc, length-append, ap, arith, subst, sym, All-push, fold_push, fold}
 use lib.Seq.{take-append-add}
 
 -- one more was taken and put in, and the same is said of it

@@ -1,24 +1,9 @@
 -- The key that is a prefix of a text, among keys of which none is a prefix of another.
-use Rattle.std.proofs.Common.{◌≡◌, ◌∙◌, ◌-◌, ◌≤◌, ℕ, suc, Bool, true, false, cond, List, [], ◌∷◌, ◌++◌, length, map, filter, drop, All, AllPairs, Contains, Option, Some, None, slice_get, refl, sym, ap, subst, arith, nat_eq, get_or}
-use Rattle.std.specs.Prelude.{find}
-use Rattle.std.specs.List.{starts_with}
-use Rattle.std.specs.Option.{option_map}
-use Rattle.std.specs.Ordering.{nat_cmp, ordering_then, ordering_reverse, is_le}
-use Rattle.std.specs.declared.cmp.Ordering.{Ordering}
-use Rattle.std.specs.declared.cmp.Ordering.TheVariants.{Less, Equal, Greater}
-use Rattle.std.proofs.lemmas.Bool.Decides.{Decides-eqb}
+use Rattle.art_map.proofs.Names.{◌≡◌, ◌∙◌, ◌-◌, ◌≤◌, ℕ, suc, Bool, true, false, cond, List, [], ◌∷◌, ◌++◌, length, map, filter, drop, All, AllPairs, Contains, Option, Some, None, slice_get, refl, sym, ap, subst, arith, nat_eq, get_or, find, starts_with, option_map, nat_cmp, ordering_then, ordering_reverse, is_le, Ordering, Less, Equal, Greater, Decides-eqb, length-map, count_by-le-length, length-filter, All-head, All-tail, Contains-get_or, slice_get-map, starts_is, IsPrefixOf, text_order, texts_of, if_prefix, entries_up_to}
 use Rattle.std.proofs.lemmas.Cmp.{nat_cmp_total}
-use Rattle.std.proofs.lemmas.List.{length-map}
-use Rattle.std.proofs.lemmas.List.Sums.{count_by-le-length, length-filter}
-use Rattle.std.proofs.lemmas.List.Elements.{All-head, All-tail, Contains-get_or}
 use Rattle.std.proofs.lemmas.Map.Lookups.{exact_unsigned}
-use Rattle.std.proofs.lemmas.Option.{slice_get-map}
-use Rattle.std.proofs.lemmas.Slice.Eq.{starts_is}
-use Rattle.art_bytes.specs.Text.{IsPrefixOf, text_order}
-use Rattle.art_tree.specs.Refusals.{texts_of}
-use Rattle.art_map.specs.Entries.{if_prefix}
-use Rattle.art_map.specs.Ranges.{entries_up_to}
 use Rattle.art_map.proofs.CallLaws.{image_inside, order_itself}
+use Rattle.art_map.proofs.TextLemmas.{same-nat}
 use Rattle.art_map.proofs.RangeLemmas.{last_one}
 
 -- what starts with a text has it as a prefix
@@ -29,15 +14,7 @@ begun x a is = (drop (length a) x, (starts_is Decides-eqb x a (starts_with nat_e
 prefix-low : (a rest : List ℕ) → is_le (text_order a (a ++ rest)) ≡ true
 prefix-low [] [] = refl
 prefix-low [] (x ∷ rest) = refl
-prefix-low (y ∷ a) rest = ap (λ o. is_le (ordering_then o (text_order a (a ++ rest)))) (nat-itself y) ∙ prefix-low a rest
-  where
-    nat-itself : (n : ℕ) → nat_cmp n n ≡ Equal
-    nat-itself n = one (nat_cmp n n) (order_itself (n ∷ []))
-      where
-        one : (o : Ordering) → ordering_then o Equal ≡ Equal → o ≡ Equal
-        one Less is = absurd (cc)
-        one Equal is = refl
-        one Greater is = absurd (cc)
+prefix-low (y ∷ a) rest = ap (λ o. is_le (ordering_then o (text_order a (a ++ rest)))) (same-nat y) ∙ prefix-low a rest
 
 -- a text above a prefix of another, that does not begin with it, is above that other text
 pub above-longer : (a b rest : List ℕ) → text_order a b ≡ Less → (IsPrefixOf a b → ⊥) → text_order b (a ++ rest) ≡ Greater

@@ -1,19 +1,5 @@
 -- Entries that are joined to others, and their keys.
-use Rattle.std.proofs.Common.{◌≡◌, ◌≢◌, ◌⊎◌, ◌∙◌, inl, inr, ℕ, Bool, true, false, cond, List, [], ◌∷◌, ◌++◌, append_assoc, append-nil, length, Contains, Option, Some, None, refl, sym, ap, subst, arith, nat_eq}
-use Rattle.std.specs.Cmp.Lexicographic.{pointwise, nat_list_cmp_total}
-use Rattle.std.specs.Option.{is_some}
-use Rattle.std.specs.Ordering.{match_ordering, ordering_reverse}
-use Rattle.std.specs.declared.cmp.Ordering.TheVariants.{Less, Greater}
-use Rattle.std.proofs.lemmas.List.Elements.{Contains-append_right}
-use Rattle.art_bytes.specs.Text.{text_order}
-use Rattle.art_tree.specs.Dictionary.{Clashes}
-use Rattle.art_tree.specs.Entries.{put_entry}
-use Rattle.art_tree.specs.Refusals.{texts_of}
-use Rattle.art_tree.specs.declared.insert.InsertRefusal.{InsertRefusal}
-use Rattle.art_tree.specs.declared.insert.InsertRefusal.TheVariants.{KeyTooLong, Prefix, OutOfMemory}
-use Rattle.art_map.specs.Appending.{IsAppendRefused, IsKeyAppendRefused, SomeClashes, SomeIsNew, SomeKeyClashes, SomeKeyIsNew, replace_all}
-use Rattle.art_map.specs.Entries.{entry_with}
-use Rattle.art_map.specs.Extending.{put_all}
+use Rattle.art_map.proofs.Names.{◌≡◌, ◌≢◌, ◌⊎◌, ◌∙◌, inl, inr, ℕ, Bool, true, false, cond, List, [], ◌∷◌, ◌++◌, append_assoc, append-nil, length, Contains, Option, Some, None, refl, sym, ap, subst, arith, nat_eq, pointwise, nat_list_cmp_total, is_some, match_ordering, ordering_reverse, Less, Greater, Contains-append_right, text_order, Clashes, put_entry, texts_of, InsertRefusal, KeyTooLong, Prefix, OutOfMemory, IsAppendRefused, IsKeyAppendRefused, SomeClashes, SomeIsNew, SomeKeyClashes, SomeKeyIsNew, replace_all, entry_with, put_all}
 use Rattle.art_map.proofs.CallLaws.{Ascend, ascend_rest, first_or_later, found_after_put, image_inside, inside_image, later_there, none_below, none_has}
 use Rattle.art_map.proofs.SetLemmas.{key_in_place, keys-there, keys_in, texts-in}
 
@@ -53,7 +39,7 @@ module _ {X : Type 0} (P : X → Type 0) where
 
 module _ {K V : Type 0} (text : K → List ℕ) where
   -- an entry above all others comes behind them
-  put-last : (entries : List (K × V)) (entry : K × V) (rest : List (K × V)) → Ascend (texts_of text (entries ++ entry ∷ rest)) → put_entry text entries entry ≡ entries ++ entry ∷ []
+  pub put-last : (entries : List (K × V)) (entry : K × V) (rest : List (K × V)) → Ascend (texts_of text (entries ++ entry ∷ rest)) → put_entry text entries entry ≡ entries ++ entry ∷ []
   put-last [] entry rest ascend = refl
   put-last (other ∷ entries) entry rest ascend =
       let inside : Contains (entries ++ entry ∷ rest) entry = Contains-append_right entries (entry ∷ rest) entry (0, omega arith, refl) in

@@ -1,31 +1,36 @@
 -- How many leaves an arena has, before and after one of them is taken out.
-use Rattle.std.proofs.Common.{◌≡◌, ◌≢◌, ℕ, zero, suc, ◌+◌, List, [], ◌∷◌, Option, Some, None, cond, slice_index_or, refl, arith}
-use Rattle.std.specs.List.{count_by}
-use Rattle.std.specs.Option.{is_some}
-use Rattle.std.proofs.lemmas.List.Sums.{sum_by-cons}
+use Rattle.art_map.proofs.Names.{◌≡◌, ◌≢◌, ◌∙◌, Bool, ℕ, zero, suc, ◌+◌, List, [], ◌∷◌, Option, Some, None, cond, slice_index_or, refl, sym, ap, inl, inr, arith, count_by, is_some, sum_by-cons, eqb_tells, opaque_pointer, LeafNode, NodeArena, Changes, HeldLeaf, Nothing, leaf_count, leaf_at}
 use Rattle.art_header.specs.declared.node_type.NodeType.TheVariants as kinds
-use Rattle.art_nodes.specs.Pointers.{opaque_pointer}
-use Rattle.art_nodes.specs.declared.leaf_node.LeafNode.{LeafNode}
-use Rattle.art_arena.specs.Arena.{NodeArena, Changes, Nothing, leaf_count}
-use Rattle.art_arena.specs.Links.{leaf_at}
-use Rattle.art_map.proofs.ListLemmas.{slots-same}
+use Rattle.art_map.proofs.ListLemmas.{slot-of, slots-same}
 use Rattle.art_map.proofs.RunLemmas.{others-stay}
+
+-- 1 for a slot that is filled, and 0 for an empty one
+abbrev filled : Bool → ℕ
+filled is = cond is 1 0
 
 module _ {X : Type 0} where
   count-cons : (o : Option X) (slots : List (Option X)) → count_by is_some (o ∷ slots) ≡ cond (is_some o) 1 0 + count_by is_some slots
   count-cons o slots = sum_by-cons (λ (o : Option X). cond (is_some o) 1 0) o slots
 
+  -- the same slots are filled
+  count-alike : (old new : List (Option X)) → ((k : ℕ) → is_some (slice_index_or new k None) ≡ is_some (slice_index_or old k None)) → count_by is_some new ≡ count_by is_some old
+  count-alike [] [] same = refl
+  count-alike [] (p ∷ new) same =
+      let rest = count-alike [] new (λ k. same (suc k)) in
+      let here : filled (is_some p) ≡ 0 = ap filled (same 0) in
+      omega (arith, rest, count-cons p new, here)
+  count-alike (o ∷ old) [] same =
+      let rest = count-alike old [] (λ k. same (suc k)) in
+      let here : filled (is_some o) ≡ 0 = sym (ap filled (same 0)) in
+      omega (arith, rest, count-cons o old, here)
+  count-alike (o ∷ old) (p ∷ new) same =
+      let rest = count-alike old new (λ k. same (suc k)) in
+      let here : filled (is_some p) ≡ filled (is_some o) = ap filled (same 0) in
+      omega (arith, rest, count-cons o old, count-cons p new, here)
+
   -- each slot has what it had
   count-same : (old new : List (Option X)) → ((k : ℕ) → slice_index_or new k None ≡ slice_index_or old k None) → count_by is_some new ≡ count_by is_some old
-  count-same [] [] same = refl
-  count-same [] (None ∷ new) same = let rest = count-same [] new (λ k. same (suc k)) in omega (arith, rest, count-cons None new)
-  count-same [] (Some x ∷ new) same = let wrong : Some x ≡ None = same 0 in absurd (cc)
-  count-same (None ∷ old) [] same = let rest = count-same old [] (λ k. same (suc k)) in omega (arith, rest, count-cons None old)
-  count-same (Some x ∷ old) [] same = let wrong : None ≡ Some x = same 0 in absurd (cc)
-  count-same (None ∷ old) (None ∷ new) same = let rest = count-same old new (λ k. same (suc k)) in omega (arith, rest, count-cons None old, count-cons None new)
-  count-same (None ∷ old) (Some x ∷ new) same = let wrong : Some x ≡ None = same 0 in absurd (cc)
-  count-same (Some x ∷ old) (None ∷ new) same = let wrong : None ≡ Some x = same 0 in absurd (cc)
-  count-same (Some x ∷ old) (Some y ∷ new) same = let rest = count-same old new (λ k. same (suc k)) in omega (arith, rest, count-cons (Some x) old, count-cons (Some y) new)
+  count-same old new same = count-alike old new (λ k. ap is_some (same k))
 
   -- one slot is emptied, and each other has what it had
   count-emptied : (old new : List (Option X)) (at : ℕ) (x : X) → slice_index_or old at None ≡ Some x → slice_index_or new at None ≡ None → ((k : ℕ) → k ≢ at → slice_index_or new k None ≡ slice_index_or old k None) → count_by is_some old ≡ count_by is_some new + 1
@@ -55,3 +60,13 @@ module _ {X : Type 0} where
 pub one-leaf-fewer : {K V : Type 0} {P : ℕ} (old new : NodeArena K V P) (at : ℕ) (changes : Changes old new (opaque_pointer kinds.Leaf at) Nothing) (leaf : LeafNode K V P) → leaf_at old at ≡ Some leaf → leaf_count old ≡ leaf_count new + 1
 one-leaf-fewer old new at changes leaf here =
     count-emptied old.leaf.slots new.leaf.slots at leaf here (slots-same (leaf_at new at) None changes.changed) (others-stay old new at changes)
+
+-- there is another leaf at this slab key, and no other node changes
+pub as-many-leaves : {K V : Type 0} {P : ℕ} (old new : NodeArena K V P) (at : ℕ) (leaf other : LeafNode K V P) → Changes old new (opaque_pointer kinds.Leaf at) (HeldLeaf other) → leaf_at old at ≡ Some leaf → leaf_count new ≡ leaf_count old
+as-many-leaves old new at leaf other changes here = count-alike old.leaf.slots new.leaf.slots same-slots
+  where
+    same-slots : (k : ℕ) → is_some (leaf_at new k) ≡ is_some (leaf_at old k)
+    same-slots k = elim (eqb_tells k at) [
+      | inl same ↦ ap (λ j. is_some (leaf_at new j)) same.1 ∙ ap is_some (slot-of (leaf_at new at) other changes.changed) ∙ sym (ap is_some here) ∙ ap (λ j. is_some (leaf_at old j)) (sym same.1)
+      | inr differ ↦ ap is_some (others-stay old new at changes k differ.1)
+    ]

@@ -1,3 +1,4 @@
+mod Names
 mod BoundLemmas
 pub mod CallLaws
 mod CalledLemmas
@@ -14,18 +15,22 @@ mod LentLemmas
 mod LinkLemmas
 mod ListLemmas
 mod LoadedLemmas
+mod MemoryLemmas
 mod MergeLemmas
 mod MovingLemmas
 mod OwnedKeyLemmas
 mod PrefixRemovals
 mod RangeLemmas
 mod RefusalLemmas
-mod RetainLemmas
 mod RetainedKeys
 mod RunLemmas
 mod SetLemmas
 mod SetOrders
 mod ShrinkLemmas
+mod SlotLemmas
+mod SortLemmas
 mod SplitLemmas
 mod TextLemmas
 mod TogetherLemmas
+mod ViewLemmas
+mod WalkLemmas

@@ -1,24 +1,6 @@
 -- The leaf before or after a side of a key, by the links.
-use Rattle.std.proofs.Common.{◌≡◌, ◌∙◌, ℕ, ◌<◌, ◌^◌, lit<, true, false, List, [], ◌∷◌, ◌++◌, Contains, Option, Some, None, refl, sym, ap, subst, inl, inr, arith, slice_get, append_assoc}
-use Rattle.std.specs.Option.{option_map}
-use Rattle.std.proofs.lemmas.List.Elements.{All-nil, All-cons, All-append, Contains-append_right}
+use Rattle.art_map.proofs.Names.{◌≡◌, ◌∙◌, ℕ, ◌<◌, ◌^◌, lit<, true, false, List, [], ◌∷◌, ◌++◌, Contains, Option, Some, None, refl, sym, ap, subst, inl, inr, arith, slice_get, append_assoc, option_map, All-nil, All-cons, All-append, Contains-append_right, opaque_key, opaque_pointer, slab_key, NodePtr, OpaqueNodePtr, LeafNode, NodeArena, first-member, next-member, previous-member, leaf-held-in, Spells, next_at, previous_at, Tree, leaves, First, Last, leaf_place, IsAlone, leaf_pointer, is_before, AreOn, IsNextTo, IsFirstAfter, IsLastBefore, Side, keys_of}
 use Rattle.art_header.specs.declared.node_type.NodeType.TheVariants as kinds
-use Rattle.art_nodes.specs.Leaf.{leaf_key}
-use Rattle.art_nodes.specs.Pointers.{opaque_key, opaque_pointer, slab_key}
-use Rattle.art_nodes.specs.declared.pointers.NodePtr.{NodePtr}
-use Rattle.art_nodes.specs.declared.pointers.OpaqueNodePtr.{OpaqueNodePtr}
-use Rattle.art_nodes.specs.declared.leaf_node.LeafNode.{LeafNode}
-use Rattle.art_arena.specs.Arena.{NodeArena, HeldLeaf, held}
-use Rattle.art_arena.specs.Links.{Spells, next_at, previous_at}
-use Rattle.art_arena.specs.Trees.{Tree, leaves}
-use Rattle.art_arena.specs.declared.ends.End.TheVariants.{First, Last}
-use Rattle.art_arena.proofs.StandingLaws.{leaf_place}
-use Rattle.art_tree.specs.Art.{IsAlone}
-use Rattle.art_tree.specs.Search.{leaf_pointer}
-use Rattle.art_tree.specs.Sides.{is_before, AreOn, IsNextTo}
-use Rattle.art_map.specs.Nearest.{IsFirstAfter, IsLastBefore}
-use Rattle.art_tree.specs.declared.place.Side.{Side}
-use Rattle.art_map.specs.LeafEntries.{keys_of}
 use Rattle.art_map.proofs.RangeLemmas.{keys-append, snoc}
 
 -- the size in memory of a pointer to a leaf
@@ -29,8 +11,7 @@ pub as-pointers : {K V : Type 0} {P : ℕ} (o : Option (NodePtr P (LeafNode K V 
 as-pointers None = refl
 as-pointers (Some leaf) = refl
 
-module _ {K V : Type 0} {P : ℕ} (text : K → List ℕ) (arena : NodeArena K V P) (root : OpaqueNodePtr K V P) (tree : Tree (OpaqueNodePtr K V P)) (alone : IsAlone text arena root tree) (side : Side) (key : List ℕ)
-    (held_law : (pointer : OpaqueNodePtr K V P) (x : List ℕ) → Contains (leaves tree) (pointer, x) → (leaf : LeafNode K V P) × (held arena pointer ≡ HeldLeaf leaf) × (text (leaf_key leaf) ≡ x)) where
+module _ {K V : Type 0} {P : ℕ} {text : K → List ℕ} {arena : NodeArena K V P} {root : OpaqueNodePtr K V P} {tree : Tree (OpaqueNodePtr K V P)} (alone : IsAlone text arena root tree) (side : Side) (key : List ℕ) where
   abbrev FirstAfter : Option ℕ → Type 0
   FirstAfter o = IsFirstAfter side key (leaves tree) (option_map (opaque_pointer {K = K} {V = V} {P = P} kinds.Leaf) o)
 
@@ -56,22 +37,19 @@ module _ {K V : Type 0} {P : ℕ} (text : K → List ℕ) (arena : NodeArena K V
     last-itself beside = (beside.text, beside.left, beside.right, beside.is, through beside, beside.right_after)
 
     -- the leaf before the first one after the place is the last before it
-    pub before-first : (beside : IsNextTo side key (leaves tree) First this)
-        → ((before after : List ℕ) (other k : ℕ) → Spells arena (before ++ other ∷ k ∷ after) → previous_at arena k ≡ Some other)
-        → ((after : List ℕ) (k : ℕ) → Spells arena (k ∷ after) → previous_at arena k ≡ None)
-        → (previous : Option ℕ) → previous ≡ previous_at arena at → LastBefore previous
-    before-first beside previous_law first_law previous previous_is = elim (snoc beside.left) [
+    pub before-first : (beside : IsNextTo side key (leaves tree) First this) (previous : Option ℕ) → previous ≡ previous_at arena at → LastBefore previous
+    before-first beside previous previous_is = elim (snoc beside.left) [
       | inl none ↦
           let is : leaves tree ≡ (this, beside.text) ∷ beside.right = beside.is ∙ ap (λ l. l ++ (this, beside.text) ∷ beside.right) none in
-          let no = previous_is ∙ first_law (keys_of beside.right) at (subst (Spells arena) (ap keys_of is) alone.spelled) in
+          let no = previous_is ∙ first-member arena (keys_of beside.right) at (subst (Spells arena) (ap keys_of is) alone.spelled) in
           let after = All-cons (λ leaf. is_before side key leaf.1 ≡ false) (this, beside.text) beside.right beside.here beside.right_after in
           subst LastBefore (sym no) (subst (AreOn side key false) (sym is) after)
       | inr (ys, (q, x), left_is) ↦
           let later = (this, beside.text) ∷ beside.right in
           let is : leaves tree ≡ ys ++ (q, x) ∷ later = beside.is ∙ ap (λ l. l ++ later) left_is ∙ append_assoc ys ((q, x) ∷ []) later in
-          let some = previous_is ∙ previous_law (keys_of ys) (keys_of beside.right) (opaque_key q) at (subst (Spells arena) (ap keys_of is ∙ keys-append ys ((q, x) ∷ later)) alone.spelled) in
+          let some = previous_is ∙ previous-member arena (keys_of ys) (keys_of beside.right) (opaque_key q) at (subst (Spells arena) (ap keys_of is ∙ keys-append ys ((q, x) ∷ later)) alone.spelled) in
           let inside = subst (λ all. Contains all (q, x)) (sym is) (Contains-append_right ys ((q, x) ∷ later) (q, x) (0, omega arith, refl)) in
-          let there = held_law q x inside in
+          let there = leaf-held-in text arena tree alone.is_tree.stands q x inside in
           let same = leaf_place arena q there.0 there.1 in
           subst LastBefore (sym some) (
             x,
@@ -84,19 +62,17 @@ module _ {K V : Type 0} {P : ℕ} (text : K → List ℕ) (arena : NodeArena K V
     ]
 
     -- the leaf after the last one before the place is the first after it
-    pub after-last : (beside : IsNextTo side key (leaves tree) Last this)
-        → ((before after : List ℕ) (k : ℕ) → Spells arena (before ++ k ∷ after) → next_at arena k ≡ slice_get after 0)
-        → (next : Option ℕ) → next ≡ next_at arena at → FirstAfter next
-    after-last beside next_law next next_is = by_right beside.right beside.is beside.right_after
+    pub after-last : (beside : IsNextTo side key (leaves tree) Last this) (next : Option ℕ) → next ≡ next_at arena at → FirstAfter next
+    after-last beside next next_is = by_right beside.right beside.is beside.right_after
       where
         by_right : (right : List (OpaqueNodePtr K V P × List ℕ)) → leaves tree ≡ beside.left ++ (this, beside.text) ∷ right → AreOn side key false right → FirstAfter next
-        by_right right is after = by_after right is after (next_is ∙ next_law (keys_of beside.left) (keys_of right) at (subst (Spells arena) (ap keys_of is ∙ keys-append beside.left ((this, beside.text) ∷ right)) alone.spelled))
+        by_right right is after = by_after right is after (next_is ∙ next-member arena (keys_of beside.left) (keys_of right) at (subst (Spells arena) (ap keys_of is ∙ keys-append beside.left ((this, beside.text) ∷ right)) alone.spelled))
           where
             by_after : (right : List (OpaqueNodePtr K V P × List ℕ)) → leaves tree ≡ beside.left ++ (this, beside.text) ∷ right → AreOn side key false right → next ≡ slice_get (keys_of right) 0 → FirstAfter next
             by_after [] is after none = subst FirstAfter (sym none) (subst (AreOn side key true) (sym is) (through beside))
             by_after ((q, x) ∷ right) is after some =
                 let inside = subst (λ all. Contains all (q, x)) (sym is) (Contains-append_right beside.left ((this, beside.text) ∷ (q, x) ∷ right) (q, x) (1, omega arith, refl)) in
-                let there = held_law q x inside in
+                let there = leaf-held-in text arena tree alone.is_tree.stands q x inside in
                 let same = leaf_place arena q there.0 there.1 in
                 subst FirstAfter (sym some) (
                   x,

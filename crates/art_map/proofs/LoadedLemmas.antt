@@ -1,13 +1,5 @@
 -- Entries without a fault are the list of the map that is made of them.
-use Rattle.std.proofs.Common.{◌≡◌, ℕ, zero, suc, ◌+◌, ◌-◌, ◌<◌, ◌^◌, Bool, List, [], length, AllPairs, Some, None, refl, subst, inl, inr, arith, nat_eq, slice_index_or}
-use Rattle.std.specs.Cmp.Lexicographic.{nat_list_cmp_total}
-use Rattle.std.specs.List.{starts_with}
-use Rattle.std.specs.declared.cmp.Ordering.{Ordering}
-use Rattle.std.specs.declared.cmp.Ordering.TheVariants.{Less, Equal, Greater}
-use Rattle.std.proofs.lemmas.Bool.Decides.{leb_tells}
-use Rattle.std.proofs.lemmas.List.{get_or_default}
-use Rattle.art_bytes.specs.Text.{text_order}
-use Rattle.art_tree.specs.Refusals.{fault_at, fault_between, text_of_entry, HaveNoFault}
+use Rattle.art_map.proofs.Names.{◌≡◌, ℕ, zero, suc, ◌+◌, ◌-◌, ◌<◌, ◌^◌, Bool, List, [], length, AllPairs, Some, None, refl, subst, inl, inr, arith, nat_eq, slice_index_or, nat_list_cmp_total, starts_with, Ordering, Less, Equal, Greater, leb_tells, get_or_default, text_order, fault_at, fault_between, text_of_entry, HaveNoFault}
 
 between : (i : ℕ) (text next : List ℕ) (o : Ordering) (begun : Bool) → text_order text next ≡ o → starts_with nat_eq next text ≡ begun → fault_between i text next ≡ None → text_order text next ≡ Less
 between i text next Less begun is starts none = is

@@ -1,29 +1,12 @@
 -- A walk along two lists of keys that ascend.
-use Rattle.std.proofs.Common.{◌≡◌, ◌∙◌, ℕ, Bool, true, false, not, cond, ◌||◌, List, [], ◌∷◌, map, filter, All, refl, sym, ap, subst, nat_eq, get_or}
-use Rattle.std.specs.Cmp.Lexicographic.{pointwise, nat_list_cmp_total}
-use Rattle.std.specs.Ordering.{match_ordering, ordering_reverse}
-use Rattle.std.specs.declared.cmp.Ordering.{Ordering}
-use Rattle.std.specs.declared.cmp.Ordering.TheVariants.{Less, Equal, Greater}
-use Rattle.std.proofs.lemmas.List.Elements.{All-cons, All-head, All-tail, All-filter, All-weaker, Contains-get_or, filter_agree}
-use Rattle.art_bytes.specs.Text.{text_order}
-use Rattle.art_map.specs.Merges.{has_text, union, intersection, difference, symmetric_difference, walk}
-use Rattle.art_map.specs.Sets.{put_key}
+use Rattle.art_map.proofs.Names.{greater_turned, less_turned, ◌≡◌, ◌∙◌, ℕ, Bool, true, false, not, cond, ◌||◌, List, [], ◌∷◌, map, filter, All, refl, sym, ap, subst, nat_eq, get_or, pointwise, nat_list_cmp_total, match_ordering, ordering_reverse, Ordering, Less, Equal, Greater, All-cons, All-head, All-tail, All-filter, All-weaker, Contains-get_or, filter_agree, text_order, has_text, union, intersection, difference, symmetric_difference, walk, put_key}
+use Rattle.art_map.proofs.TextLemmas.{filter-all}
 use Rattle.art_map.proofs.CallLaws.{Ascend, ascend_rest, image_inside, less_differs, none_below, other_text, same_order, text_itself}
-
-turned : (a b : List ℕ) → text_order a b ≡ Less → text_order b a ≡ Greater
-turned a b less = nat_list_cmp_total.antisymm b a ∙ ap ordering_reverse less
-
-turned_back : (a b : List ℕ) → text_order a b ≡ Greater → text_order b a ≡ Less
-turned_back a b greater = nat_list_cmp_total.antisymm b a ∙ ap ordering_reverse greater
 
 filter_same : {X : Type 0} (p q : X → Bool) (xs : List X) → All (λ x. p x ≡ q x) xs → filter p xs ≡ filter q xs
 filter_same p q [] same = refl
 filter_same p q (x ∷ xs) same =
     ap (λ t. cond t (x ∷ filter p xs) (filter p xs)) (All-head (λ x. p x ≡ q x) x xs same) ∙ ap (λ rest. cond (q x) (x ∷ rest) rest) (filter_same p q xs (All-tail (λ x. p x ≡ q x) x xs same))
-
-filter_all : {X : Type 0} (xs : List X) → filter (λ x. true) xs ≡ xs
-filter_all [] = refl
-filter_all (x ∷ xs) = ap (λ rest. x ∷ rest) (filter_all xs)
 
 module _ {K : Type 0} (text : K → List ℕ) where
   abbrev Ascending : List K → Type 0
@@ -61,7 +44,7 @@ module _ {K : Type 0} (text : K → List ℕ) where
 
   -- keys above another are put behind it
   put_behind : (key other : K) (keys : List K) → text_order (text key) (text other) ≡ Less → put_key text (key ∷ keys) other ≡ key ∷ put_key text keys other
-  put_behind key other keys less = rw (turned (text key) (text other) less) refl
+  put_behind key other keys less = rw (less_turned (text key) (text other) less) refl
 
   put_before : (key : K) (keys : List K) → Above (text key) keys → put_key text keys key ≡ key ∷ keys
   put_before key [] above = refl
@@ -117,7 +100,7 @@ module _ {K : Type 0} (text : K → List ℕ) where
       let above = subst (λ x. Above x others) (sym (same_order (text key) (text other) equal)) (rest_above other others others_ascend) in
       ap (λ all. key ∷ all) (rest others later) ∙ sym (union_behind key keys others above) ∙ ap (λ all. union text all others) (sym (put_there key other keys equal)))
       (λ greater.
-      let before = put_before other (key ∷ keys) (all_above (text other) key keys (turned_back (text key) (text other) greater) ascending) in
+      let before = put_before other (key ∷ keys) (all_above (text other) key keys (greater_turned (text key) (text other) greater) ascending) in
       ap (λ all. other ∷ all) (union_from key keys rest others ascending later) ∙ sym (union_behind other (key ∷ keys) others (rest_above other others others_ascend)) ∙ ap (λ all. union text all others) (sym before))
 
   pub walk_is_union : (keys others : List K) → Ascending keys → Ascending others → walk text true true true keys others ≡ union text keys others
@@ -143,7 +126,7 @@ module _ {K : Type 0} (text : K → List ℕ) where
         let agree : All (λ one. chosen others one ≡ chosen (other ∷ others) one) keys = λ k d within. ap (λ t. cond t both first) (sym (has_same (text key) other others keys (sym same) (rest_above key keys ascending) k d within)) in
         ap (λ all. cond both (key ∷ all) all) (rest others later ∙ filter_same (chosen others) (chosen (other ∷ others)) keys agree) ∙ ap (λ t. cond (cond t both first) (key ∷ filter (chosen (other ∷ others)) keys) (filter (chosen (other ∷ others)) keys)) (sym there))
         (λ greater.
-        let above = all_above (text other) key keys (turned_back (text key) (text other) greater) ascending in
+        let above = all_above (text other) key keys (greater_turned (text key) (text other) greater) ascending in
         let agree : All (λ one. chosen others one ≡ chosen (other ∷ others) one) (key ∷ keys) = λ k d within. ap (λ t. cond t both first) (sym (has_same (text other) other others (key ∷ keys) refl above k d within)) in
         choice_from key keys rest others ascending later ∙ filter_same (chosen others) (chosen (other ∷ others)) (key ∷ keys) agree)
 
@@ -197,7 +180,7 @@ module _ {K : Type 0} (text : K → List ℕ) where
       rest others later ∙ ap (λ all. union text all (difference text others keys)) (sym (goes key keys (other ∷ others) (has_first other others (text key) (sym same)) ∙ difference_same (text key) other others keys (sym same) above))
       ∙ ap (union text (difference text (key ∷ keys) (other ∷ others))) (sym (goes other others (key ∷ keys) (has_first key keys (text other) same) ∙ difference_same (text key) key keys others refl others_above)))
       (λ greater.
-      let above = all_above (text other) key keys (turned_back (text key) (text other) greater) ascending in
+      let above = all_above (text other) key keys (greater_turned (text key) (text other) greater) ascending in
       let left = difference text (key ∷ keys) others in
       let right = difference text others (key ∷ keys) in
       ap (λ all. other ∷ all) (either_from key keys rest others ascending later) ∙ sym (union_behind other left right (part_above (text other) others (key ∷ keys) (rest_above other others others_ascend)))
@@ -207,5 +190,5 @@ module _ {K : Type 0} (text : K → List ℕ) where
 
   pub walk_is_symmetric_difference : (keys others : List K) → Ascending keys → Ascending others → walk text true false true keys others ≡ symmetric_difference text keys others
   walk_is_symmetric_difference [] others ascending others_ascend =
-      sym (union_of_none (difference text others []) (subst Ascending (sym (filter_all others)) others_ascend) ∙ filter_all others)
+      sym (union_of_none (difference text others []) (subst Ascending (sym (filter-all (λ x. true) (λ x. refl) others)) others_ascend) ∙ filter-all (λ x. true) (λ x. refl) others)
   walk_is_symmetric_difference (key ∷ keys) others ascending others_ascend = either_from key keys (λ others also. walk_is_symmetric_difference keys others (rest_ascends key keys ascending) also) others ascending others_ascend

@@ -1,17 +1,5 @@
 -- Entries that may enter a list one after the other, and entries that go from the end of one list into another.
-use Rattle.std.proofs.Common.{◌≡◌, ◌≢◌, ◌⊎◌, ◌∙◌, inl, inr, ℕ, ◌+◌, ◌<◌, ◌^◌, List, [], ◌∷◌, ◌++◌, length, append_assoc, All, AllPairs, Contains, None, get_or, refl, sym, ap, subst, arith}
-use Rattle.std.specs.Ordering.{match_ordering}
-use Rattle.std.specs.declared.cmp.Ordering.TheVariants.{Less}
-use Rattle.std.proofs.lemmas.List.Elements.{All-contains, Contains-append_right, Contains-get_or}
-use Rattle.art_bytes.specs.Text.{text_order}
-use Rattle.art_tree.specs.Dictionary.{OneIsProperPrefix}
-use Rattle.art_tree.specs.Entries.{put_entry}
-use Rattle.art_tree.specs.Refusals.{texts_of}
-use Rattle.art_tree.specs.declared.insert.InsertRefusal.{InsertRefusal}
-use Rattle.art_tree.specs.declared.insert.InsertRefusal.TheVariants.{KeyTooLong, Prefix, OutOfMemory}
-use Rattle.art_map.specs.Appending.{SomeClashes}
-use Rattle.art_map.specs.Changes.{IsRefused, MayEnter}
-use Rattle.art_map.specs.Entries.{entry_with}
+use Rattle.art_map.proofs.Names.{◌≡◌, ◌≢◌, ◌⊎◌, ◌∙◌, inl, inr, ℕ, ◌+◌, ◌<◌, ◌^◌, List, [], ◌∷◌, ◌++◌, length, append_assoc, All, AllPairs, Contains, None, get_or, refl, sym, ap, subst, arith, match_ordering, Less, All-contains, Contains-append_right, Contains-get_or, text_order, OneIsProperPrefix, put_entry, texts_of, InsertRefusal, KeyTooLong, Prefix, OutOfMemory, SomeClashes, IsRefused, MayEnter, entry_with}
 use Rattle.art_map.proofs.CallLaws.{Ascend, ascend_rest, image_inside, inside_image, none_has, put_only}
 use Rattle.art_map.proofs.FrontLemmas.{Apart, first-to}
 use Rattle.art_map.proofs.RefusalLemmas.{refused_not_there}

@@ -1,7 +1,5 @@
 -- Facts of a result with the key of an entry that has no value.
-use Rattle.std.proofs.Common.{◌≡◌, Option, Some, None, Result, Ok, Err, IfErr, IfOk, OnErr, OnOk, refl}
-use Rattle.std.specs.Option.{option_map}
-use Rattle.std.specs.Result.{result_map_both}
+use Rattle.art_map.proofs.Names.{◌≡◌, Option, Some, None, Result, Ok, Err, IfErr, IfOk, OnErr, OnOk, refl, option_map, result_map_both}
 
 module _ {K V E : Type 0} where
   abbrev pub key_result : Result (Option (K × V)) E → Result (Option K) E

@@ -1,8 +1,5 @@
 -- What a test that keeps no entry leaves.
-use Rattle.std.proofs.Common.{◌≡◌, ◌∙◌, ◌-◌, ◌≤◌, Bool, true, false, cond, not, List, [], ◌∷◌, ◌++◌, length, filter, refl, ap, inl, inr, arith}
-use Rattle.std.specs.Map.Calls.{CallableOnEachPair, RetainsPairs}
-use Rattle.std.proofs.lemmas.List.Filters.{length-filter_both}
-use Rattle.art_map.specs.Retaining.{StopsRetaining}
+use Rattle.art_map.proofs.Names.{◌≡◌, ◌∙◌, ◌-◌, ◌≤◌, Bool, true, false, cond, not, List, [], ◌∷◌, ◌++◌, length, filter, refl, ap, inl, inr, arith, CallableOnEachPair, RetainsPairs, length-filter_both, StopsRetaining}
 
 module _ {F K V : Type 0} where
   abbrev pub step-none : F → K → V → Bool → V → F → Type 0

@@ -1,27 +1,7 @@
 -- The leaves between two places in the order of texts, and what they hold.
-use Rattle.std.proofs.Common.{◌≡◌, ◌≢◌, ◌∙◌, ◌-◌, ℕ, suc, ◌⊎◌, cond, Bool, true, false, not, ◌&&◌, List, [], ◌∷◌, ◌++◌, length, map, filter, slice_get, All, Option, Some, None, refl, sym, ap, subst, inl, inr, get_or, append_assoc, append-nil, length-append, arith}
-use Rattle.std.specs.Option.{option_map}
-use Rattle.std.proofs.lemmas.List.{map-append}
-use Rattle.std.proofs.lemmas.Option.{same_Some}
-use Rattle.std.proofs.lemmas.List.Elements.{All-nil, All-cons, All-head, All-tail, All-append, All-weaker, filter-append, filter_map-append}
-use Rattle.art_nodes.specs.Leaf.{leaf_key, leaf_value}
-use Rattle.art_nodes.specs.Pointers.{opaque_key, slab_key}
-use Rattle.art_nodes.specs.declared.pointers.NodePtr.{NodePtr}
-use Rattle.art_nodes.specs.declared.pointers.OpaqueNodePtr.{OpaqueNodePtr}
-use Rattle.art_nodes.specs.declared.leaf_node.LeafNode.{LeafNode}
-use Rattle.art_arena.specs.Arena.{NodeArena, Held, HeldLeaf, Nothing, held}
-use Rattle.art_arena.specs.Links.{AreDistinct, Spells, SpellsAfter, leaf_at}
-use Rattle.art_arena.specs.Trees.{Tree, leaves}
-use Rattle.art_arena.specs.declared.ends.End.{End}
-use Rattle.art_arena.specs.declared.ends.End.TheVariants.{First, Last}
-use Rattle.art_tree.specs.Entries.{entries_of}
-use Rattle.art_tree.specs.Search.{leaf_pointer}
-use Rattle.art_tree.specs.Sides.{is_before, AreOn}
-use Rattle.art_map.specs.Nearest.{is_between, IsFirstAfter, IsLastBefore, IsNearest, entry_nearest}
-use Rattle.art_map.specs.LeafEntries.{keys_of, HoldsEntryOf, AllHold}
-use Rattle.art_map.specs.Runs.{EndsIn, LeadsOver, leaf_entry, entries_under, run_of}
-use Rattle.art_tree.specs.declared.place.Side.{Side}
-use Rattle.art_map.proofs.RunLemmas.{ends-push, entries-cons, run-is, spelled-links}
+use Rattle.art_map.proofs.Names.{all_left, all_right, ◌≡◌, ◌≢◌, ◌∙◌, ◌-◌, ℕ, suc, ◌⊎◌, cond, Bool, true, false, not, ◌&&◌, List, [], ◌∷◌, ◌++◌, length, map, filter, slice_get, All, Option, Some, None, refl, sym, ap, subst, inl, inr, get_or, append_assoc, append-nil, length-append, arith, option_map, map-append, same_Some, All-head, All-tail, All-append, All-weaker, filter-append, filter_map-append, leaf_key, leaf_value, opaque_key, slab_key, NodePtr, OpaqueNodePtr, LeafNode, NodeArena, Held, HeldLeaf, Nothing, held, AreDistinct, Spells, SpellsAfter, leaf_at, Tree, leaves, End, First, Last, IsAlone, entries_of, leaf_pointer, is_before, AreOn, is_between, IsFirstAfter, IsLastBefore, IsNearest, entry_nearest, keys_of, HoldsEntryOf, AllHold, EndsIn, LeadsOver, leaf_entry, entries_under, run_of, Side}
+use Rattle.art_map.proofs.EntryLemmas.{entries-of-leaves, leaves-hold}
+use Rattle.art_map.proofs.RunLemmas.{distinct-front, ends-push, entries-cons, run-is, spelled-links}
 
 pub keys-append : {K V : Type 0} {P : ℕ} (a b : List (OpaqueNodePtr K V P × List ℕ)) → keys_of (a ++ b) ≡ keys_of a ++ keys_of b
 keys-append a b = ap (map opaque_key) (map-append (λ leaf. leaf.0) a b) ∙ map-append opaque_key (map (λ leaf. leaf.0) a) (map (λ leaf. leaf.0) b)
@@ -44,17 +24,9 @@ last-pushed (y ∷ xs) x =
     let longer : length (y ∷ xs ++ x ∷ []) - 1 ≡ suc (length (xs ++ x ∷ []) - 1) = omega (arith, length-append xs (x ∷ [])) in
     ap (slice_get (y ∷ xs ++ x ∷ [])) longer ∙ last-pushed xs x
 
-all-left : {X : Type 0} (Q : X → Type 0) (xs ys : List X) → All Q (xs ++ ys) → All Q xs
-all-left Q [] ys all = All-nil Q
-all-left Q (x ∷ xs) ys all = All-cons Q x xs (All-head Q x (xs ++ ys) all) (all-left Q xs ys (All-tail Q x (xs ++ ys) all))
-
-all-right : {X : Type 0} (Q : X → Type 0) (xs ys : List X) → All Q (xs ++ ys) → All Q ys
-all-right Q [] ys all = all
-all-right Q (x ∷ xs) ys all = all-right Q xs ys (All-tail Q x (xs ++ ys) all)
-
 -- of two cuts of one list, what is after the one and not before the other
 align : {X : Type 0} (Q : X → Type 0) (A B L : List X) (f : X) (R : List X) → A ++ B ≡ L ++ f ∷ R → All (λ x. Q x → ⊥) B → Q f → (rest : List X) × (A ≡ L ++ f ∷ rest) × (R ≡ rest ++ B)
-align Q [] B L f R is out inside = absurd (All-head (λ x. Q x → ⊥) f R (all-right (λ x. Q x → ⊥) L (f ∷ R) (subst (All (λ x. Q x → ⊥)) is out)) inside)
+align Q [] B L f R is out inside = absurd (All-head (λ x. Q x → ⊥) f R (all_right (λ x. Q x → ⊥) L (f ∷ R) (subst (All (λ x. Q x → ⊥)) is out)) inside)
 align Q (a ∷ A) B [] f R is out inside =
     let same : a ≡ f = cc in
     let tails : A ++ B ≡ R = cc in
@@ -81,10 +53,6 @@ ends-part (x ∷ y ∷ xs) j js back ends = ends-part (y ∷ xs) j js back ends
 distinct-right : (xs ys : List ℕ) → AreDistinct (xs ++ ys) → AreDistinct ys
 distinct-right [] ys distinct = distinct
 distinct-right (x ∷ xs) ys distinct = distinct-right xs ys distinct.1
-
-distinct-left : (xs ys : List ℕ) → AreDistinct (xs ++ ys) → AreDistinct xs
-distinct-left [] ys distinct = tt
-distinct-left (x ∷ xs) ys distinct = (all-left (λ y. y ≢ x) xs ys distinct.0, distinct-left xs ys distinct.1)
 
 -- two tests that come to something
 not-both : (b : Bool) → b ≡ true → b ≡ false → ⊥
@@ -206,7 +174,7 @@ module _ {K V : Type 0} {P : ℕ} (text : K → List ℕ) (arena : NodeArena K V
         none-within past =
             let outside = All-weaker (λ leaf. is_before end_side end leaf.1 ≡ true) (λ leaf. is_before end_side end leaf.1 ≡ false → ⊥) (λ leaf early late. not-both (is_before end_side end leaf.1) early late) (left ++ b ∷ []) before_A in
             let parts = align-past (λ leaf. is_before end_side end leaf.1 ≡ false) (left ++ b ∷ []) B L f R both outside past in
-            none-between L (f ∷ R) is_low before_L (all-right (λ leaf. is_before end_side end leaf.1 ≡ false) parts.0 (f ∷ R) (subst (AreOn end_side end false) parts.1 after_B))
+            none-between L (f ∷ R) is_low before_L (all_right (λ leaf. is_before end_side end leaf.1 ≡ false) parts.0 (f ∷ R) (subst (AreOn end_side end false) parts.1 after_B))
 
         module _ (spelled : Spells arena (keys_of (leaves tree))) (inside : is_before end_side end f.1 ≡ true) where
           pub aligned : (rest : List (OpaqueNodePtr K V P × List ℕ)) × (left ++ b ∷ [] ≡ L ++ f ∷ rest) × (R ≡ rest ++ B)
@@ -231,7 +199,7 @@ module _ {K V : Type 0} {P : ℕ} (text : K → List ℕ) (arena : NodeArena K V
                 before = there.0;
                 after = slice_get (keys_of B) 0;
                 linked = spelled-links arena there.0 (keys_of mid) (keys_of B) there.1;
-                distinct = distinct-left (keys_of mid) (keys_of B) (distinct-right (keys_of L) (keys_of mid ++ keys_of B) (subst AreDistinct keys-whole spelled.distinct));
+                distinct = distinct-front (keys_of mid) (keys_of B) (distinct-right (keys_of L) (keys_of mid ++ keys_of B) (subst AreDistinct keys-whole spelled.distinct));
                 rest = keys_of aligned.0;
                 begins = refl;
                 ends = ends-part (keys_of L) (opaque_key f.0) (keys_of aligned.0) (opaque_key b.0) (subst (λ ks. EndsIn ks (opaque_key b.0)) (sym (keys-append left (b ∷ [])) ∙ ap keys_of aligned.1 ∙ keys-append L mid) (ends-push (keys_of left) (opaque_key b.0)));
@@ -242,8 +210,8 @@ module _ {K V : Type 0} {P : ℕ} (text : K → List ℕ) (arena : NodeArena K V
               let parts = subst (AllHold text arena) whole hold in
               let tail = hold-right L (mid ++ B) parts in
               let in_left = leave L (hold-left L (mid ++ B) parts) (before-start L before_L) in
-              let after = all-left (λ leaf. is_before start_side start leaf.1 ≡ false) mid B (subst (AreOn start_side start false) (ap (λ r. f ∷ r) aligned.2) after_low) in
-              let before = all-right (λ leaf. is_before end_side end leaf.1 ≡ true) L mid (subst (AreOn end_side end true) aligned.1 before_A) in
+              let after = all_left (λ leaf. is_before start_side start leaf.1 ≡ false) mid B (subst (AreOn start_side start false) (ap (λ r. f ∷ r) aligned.2) after_low) in
+              let before = all_right (λ leaf. is_before end_side end leaf.1 ≡ true) L mid (subst (AreOn end_side end true) aligned.1 before_A) in
               let in_mid = keep mid (hold-left mid B tail) (between mid after before) in
               let in_right = leave B (hold-right mid B tail) (past-end B after_B) in
               ap (λ pairs. filter passes (held_by pairs)) whole
@@ -254,23 +222,22 @@ module _ {K V : Type 0} {P : ℕ} (text : K → List ℕ) (arena : NodeArena K V
               ∙ ap (λ es. es ++ filter passes (held_by B)) in_mid
               ∙ ap (λ es. held_by mid ++ es) in_right ∙ append-nil (held_by mid)
 
-module _ {K V : Type 0} {P : ℕ} (text : K → List ℕ) (arena : NodeArena K V P) (tree : Tree (OpaqueNodePtr K V P))
-    (hold : AllHold text arena (leaves tree)) (are : held_by text arena (leaves tree) ≡ entries_of text arena) (start_side : Side) (start : List ℕ) (end_side : Side) (end : List ℕ) where
+module _ {K V : Type 0} {P : ℕ} {text : K → List ℕ} {arena : NodeArena K V P} {root : OpaqueNodePtr K V P} {tree : Tree (OpaqueNodePtr K V P)} (alone : IsAlone text arena root tree) (start_side : Side) (start : List ℕ) (end_side : Side) (end : List ℕ) where
   abbrev within : List (K × V) → List (K × V)
   within entries = filter (λ entry. is_between start_side start end_side end (text entry.0)) entries
 
   of-leaves : (part : List (K × V)) → within (held_by text arena (leaves tree)) ≡ part → part ≡ within (entries_of text arena)
-  of-leaves part is = sym is ∙ ap within are
+  of-leaves part is = sym is ∙ ap within (entries-of-leaves alone)
 
   pub range-low : IsFirstAfter start_side start (leaves tree) None → [] ≡ within (entries_of text arena)
-  range-low before = of-leaves [] (none-low text arena start_side start end_side end tree hold before)
+  range-low before = of-leaves [] (none-low text arena start_side start end_side end tree (leaves-hold alone) before)
 
   pub range-high : IsLastBefore end_side end (leaves tree) None → [] ≡ within (entries_of text arena)
-  range-high past = of-leaves [] (none-high text arena start_side start end_side end tree hold past)
+  range-high past = of-leaves [] (none-high text arena start_side start end_side end tree (leaves-hold alone) past)
 
   module _ (front : NodePtr P (LeafNode K V P)) (low : IsFirstAfter start_side start (leaves tree) (Some (leaf_pointer front))) where
     pub front-held : HoldsEntryOf text arena (leaf_pointer front) low.0
-    front-held = holds-one text arena (leaves tree) low.1 low.2 (leaf_pointer front, low.0) low.3 hold
+    front-held = holds-one text arena (leaves tree) low.1 low.2 (leaf_pointer front, low.0) low.3 (leaves-hold alone)
 
     pub front-text : (leaf : LeafNode K V P) → held arena (leaf_pointer front) ≡ HeldLeaf leaf → text (leaf_key leaf) ≡ low.0
     front-text leaf is =
@@ -285,23 +252,22 @@ module _ {K V : Type 0} {P : ℕ} (text : K → List ℕ) (arena : NodeArena K V
       b = (leaf_pointer back, high.0)
 
       pub range-apart : is_before end_side end low.0 ≡ false → [] ≡ within (entries_of text arena)
-      range-apart past = of-leaves [] (none-within text arena start_side start end_side end tree hold low.1 low.2 high.1 high.2 f b low.3 low.4 low.5 high.3 high.4 high.5 past)
+      range-apart past = of-leaves [] (none-within text arena start_side start end_side end tree (leaves-hold alone) low.1 low.2 high.1 high.2 f b low.3 low.4 low.5 high.3 high.4 high.5 past)
 
-      module _ (spelled : Spells arena (keys_of (leaves tree))) (inside : is_before end_side end low.0 ≡ true) where
+      module _ (inside : is_before end_side end low.0 ≡ true) where
         abbrev pub mid-keys : List ℕ
-        mid-keys = keys_of (mid text arena start_side start end_side end tree hold low.1 low.2 high.1 high.2 f b low.3 low.4 low.5 high.3 high.4 high.5 spelled inside)
+        mid-keys = keys_of (mid text arena start_side start end_side end tree (leaves-hold alone) low.1 low.2 high.1 high.2 f b low.3 low.4 low.5 high.3 high.4 high.5 alone.spelled inside)
 
         abbrev pub range-run : (keys : List ℕ) × LeadsOver arena (slab_key front) (slab_key back) keys
-        range-run = (mid-keys, range-leads text arena start_side start end_side end tree hold low.1 low.2 high.1 high.2 f b low.3 low.4 low.5 high.3 high.4 high.5 spelled inside)
+        range-run = (mid-keys, range-leads text arena start_side start end_side end tree (leaves-hold alone) low.1 low.2 high.1 high.2 f b low.3 low.4 low.5 high.3 high.4 high.5 alone.spelled inside)
 
         pub range-some : run_of arena (Some (front, back)) ≡ within (entries_of text arena)
         range-some =
             of-leaves (run_of arena (Some (front, back)))
-            (range-is text arena start_side start end_side end tree hold low.1 low.2 high.1 high.2 f b low.3 low.4 low.5 high.3 high.4 high.5 spelled inside
+            (range-is text arena start_side start end_side end tree (leaves-hold alone) low.1 low.2 high.1 high.2 f b low.3 low.4 low.5 high.3 high.4 high.5 alone.spelled inside
             ∙ ap (entries_under arena) (sym (run-is arena (slab_key front) (slab_key back) range-run.0 range-run.1)))
 
-module _ {K V : Type 0} {P : ℕ} (text : K → List ℕ) (arena : NodeArena K V P) (tree : Tree (OpaqueNodePtr K V P))
-    (hold : AllHold text arena (leaves tree)) (are : held_by text arena (leaves tree) ≡ entries_of text arena) (side : Side) (key : List ℕ) where
+module _ {K V : Type 0} {P : ℕ} {text : K → List ℕ} {arena : NodeArena K V P} {root : OpaqueNodePtr K V P} {tree : Tree (OpaqueNodePtr K V P)} (alone : IsAlone text arena root tree) (side : Side) (key : List ℕ) where
   abbrev from-place : List (K × V) → List (K × V)
   from-place entries = kept text arena (λ x. not (is_before side key x)) entries
 
@@ -310,16 +276,16 @@ module _ {K V : Type 0} {P : ℕ} (text : K → List ℕ) (arena : NodeArena K V
 
   pub none-after : IsFirstAfter side key (leaves tree) None → slice_get (from-place (entries_of text arena)) 0 ≡ None
   none-after before =
-      ap (λ es. slice_get (from-place es) 0) (sym are)
-      ∙ ap (λ es. slice_get es 0) (leave-all text arena (λ x. not (is_before side key x)) (leaves tree) hold (turned true (leaves tree) before))
+      ap (λ es. slice_get (from-place es) 0) (sym (entries-of-leaves alone))
+      ∙ ap (λ es. slice_get es 0) (leave-all text arena (λ x. not (is_before side key x)) (leaves tree) (leaves-hold alone) (turned true (leaves tree) before))
 
   module _ (at : NodePtr P (LeafNode K V P)) where
     pub first-after : (low : IsFirstAfter side key (leaves tree) (Some (leaf_pointer at))) → slice_get (from-place (entries_of text arena)) 0 ≡ option_map leaf_entry (leaf_at arena (slab_key at))
     first-after (x, left, right, is, before, after) =
         let here : OpaqueNodePtr K V P × List ℕ = (leaf_pointer at, x) in
-        let holds = holds-one text arena (leaves tree) left right here is hold in
-        ap (λ es. slice_get (from-place es) 0) (sym are)
-        ∙ ap (λ es. slice_get es 0) (kept-right text arena (λ x. not (is_before side key x)) (leaves tree) left (here ∷ right) is hold (turned true left before) (turned false (here ∷ right) after)
+        let holds = holds-one text arena (leaves tree) left right here is (leaves-hold alone) in
+        ap (λ es. slice_get (from-place es) 0) (sym (entries-of-leaves alone))
+        ∙ ap (λ es. slice_get es 0) (kept-right text arena (λ x. not (is_before side key x)) (leaves tree) left (here ∷ right) is (leaves-hold alone) (turned true left before) (turned false (here ∷ right) after)
         ∙ entries-cons arena (slab_key at) (keys_of right) holds.leaf holds.at)
         ∙ sym (ap (option_map leaf_entry) holds.at)
 
@@ -328,34 +294,33 @@ module _ {K V : Type 0} {P : ℕ} (text : K → List ℕ) (arena : NodeArena K V
   to-place entries = kept text arena (is_before side key) entries
 
   pub none-before-it : IsLastBefore side key (leaves tree) None → last_one (to-place (entries_of text arena)) ≡ None
-  none-before-it after = ap (λ es. last_one (to-place es)) (sym are) ∙ ap last_one (leave-all text arena (is_before side key) (leaves tree) hold after)
+  none-before-it after = ap (λ es. last_one (to-place es)) (sym (entries-of-leaves alone)) ∙ ap last_one (leave-all text arena (is_before side key) (leaves tree) (leaves-hold alone) after)
 
   module _ (at : NodePtr P (LeafNode K V P)) where
     pub last-before-it : (high : IsLastBefore side key (leaves tree) (Some (leaf_pointer at))) → last_one (to-place (entries_of text arena)) ≡ option_map leaf_entry (leaf_at arena (slab_key at))
     last-before-it (x, left, right, is, before, after) =
         let here : OpaqueNodePtr K V P × List ℕ = (leaf_pointer at, x) in
-        let holds = holds-one text arena (leaves tree) left right here is hold in
+        let holds = holds-one text arena (leaves tree) left right here is (leaves-hold alone) in
         let parts : leaves tree ≡ (left ++ here ∷ []) ++ right = is ∙ sym (append_assoc left (here ∷ []) right) in
-        ap (λ es. last_one (to-place es)) (sym are)
-        ∙ ap last_one (kept-left text arena (is_before side key) (leaves tree) (left ++ here ∷ []) right parts hold before after
+        ap (λ es. last_one (to-place es)) (sym (entries-of-leaves alone))
+        ∙ ap last_one (kept-left text arena (is_before side key) (leaves tree) (left ++ here ∷ []) right parts (leaves-hold alone) before after
         ∙ held-append text arena left (here ∷ []) ∙ ap (λ es. held_by text arena left ++ es) (entries-cons arena (slab_key at) [] holds.leaf holds.at))
         ∙ last-pushed (held_by text arena left) (leaf_entry holds.leaf)
         ∙ sym (ap (option_map leaf_entry) holds.at)
 
 -- the nearest leaf on either side, and its entry
-module _ {K V : Type 0} {P : ℕ} (text : K → List ℕ) (arena : NodeArena K V P) (tree : Tree (OpaqueNodePtr K V P))
-    (hold : AllHold text arena (leaves tree)) (are : held_by text arena (leaves tree) ≡ entries_of text arena) (side : Side) (key : List ℕ) where
+module _ {K V : Type 0} {P : ℕ} {text : K → List ℕ} {arena : NodeArena K V P} {root : OpaqueNodePtr K V P} {tree : Tree (OpaqueNodePtr K V P)} (alone : IsAlone text arena root tree) (side : Side) (key : List ℕ) where
   pub nearest-held : (end : End) (at : OpaqueNodePtr K V P) → IsNearest side key end (leaves tree) (Some at) → (x : List ℕ) × HoldsEntryOf text arena at x
-  nearest-held First at (x, left, right, is, before, after) = (x, holds-one text arena (leaves tree) left right (at, x) is hold)
-  nearest-held Last at (x, left, right, is, before, after) = (x, holds-one text arena (leaves tree) left right (at, x) is hold)
+  nearest-held First at (x, left, right, is, before, after) = (x, holds-one text arena (leaves tree) left right (at, x) is (leaves-hold alone))
+  nearest-held Last at (x, left, right, is, before, after) = (x, holds-one text arena (leaves tree) left right (at, x) is (leaves-hold alone))
 
   pub none-nearest : (end : End) → IsNearest side key end (leaves tree) None → entry_nearest text side key end (entries_of text arena) ≡ None
-  none-nearest First there = none-after text arena tree hold are side key there
-  none-nearest Last there = none-before-it text arena tree hold are side key there
+  none-nearest First there = none-after alone side key there
+  none-nearest Last there = none-before-it alone side key there
 
   pub nearest-is : (end : End) (at : NodePtr P (LeafNode K V P)) → IsNearest side key end (leaves tree) (Some (leaf_pointer at)) → entry_nearest text side key end (entries_of text arena) ≡ option_map leaf_entry (leaf_at arena (slab_key at))
-  nearest-is First at there = first-after text arena tree hold are side key at there
-  nearest-is Last at there = last-before-it text arena tree hold are side key at there
+  nearest-is First at there = first-after alone side key at there
+  nearest-is Last at there = last-before-it alone side key at there
 
 -- of no entries none is nearest
 pub nearest-none : {K V : Type 0} (text : K → List ℕ) (side : Side) (key : List ℕ) (end : End) → entry_nearest {V = V} text side key end [] ≡ None

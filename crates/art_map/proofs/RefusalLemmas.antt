@@ -1,13 +1,5 @@
 -- Refusals of entries, and of keys, that are there.
-use Rattle.std.proofs.Common.{◌≡◌, ◌≢◌, ◌⊎◌, ◌∙◌, inl, inr, ℕ, suc, ◌<◌, ◌^◌, List, [], ◌∷◌, length, All, AllPairs, Contains, Option, Some, None, sym, subst, arith, refl}
-use Rattle.std.proofs.lemmas.List.Elements.{All-contains}
-use Rattle.art_bytes.specs.Text.{IsPrefixOf}
-use Rattle.art_tree.specs.Dictionary.{OneIsProperPrefix}
-use Rattle.art_tree.specs.Refusals.{texts_of}
-use Rattle.art_tree.specs.declared.insert.InsertRefusal.{InsertRefusal}
-use Rattle.art_tree.specs.declared.insert.InsertRefusal.TheVariants.{KeyTooLong, Prefix, OutOfMemory}
-use Rattle.art_map.specs.Changes.{IsRefused}
-use Rattle.art_map.specs.Entries.{entry_with}
+use Rattle.art_map.proofs.Names.{◌≡◌, ◌≢◌, ◌⊎◌, ◌∙◌, inl, inr, ℕ, suc, ◌<◌, ◌^◌, List, [], ◌∷◌, length, All, AllPairs, Contains, Option, Some, None, sym, subst, arith, refl, All-contains, IsPrefixOf, OneIsProperPrefix, texts_of, InsertRefusal, KeyTooLong, Prefix, OutOfMemory, IsRefused, entry_with}
 use Rattle.art_map.proofs.CallLaws.{first_or_later, none_inside, one_has}
 
 abbrev Apart : List ℕ → List ℕ → Type 0

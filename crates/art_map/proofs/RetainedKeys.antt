@@ -1,17 +1,6 @@
 -- What a test of entries by their keys alone, or by a prefix, is to the keys.
-use Rattle.std.proofs.Common.{◌≡◌, ◌∙◌, suc, Bool, true, false, cond, not, nat_eq, ℕ, List, [], ◌∷◌, length, map, refl, sym, ap, inl, inr}
-use Rattle.std.specs.Fn.{CalledAt, TakesAt}
-use Rattle.std.specs.List.{FoldsTo, items_where_true, starts_with}
-use Rattle.std.specs.List.Retain.{IsFiltered}
-use Rattle.std.specs.Map.Calls.{CallableOnEachPair, RetainsPairs, SomeCallAtPair}
-use Rattle.std.proofs.lemmas.List.{length-map, map-append}
-use Rattle.art_map.specs.Calls.{CallableAtEachKey, SomeCallAtKey}
-use Rattle.art_map.specs.Ranges.{entries_with_prefix, entries_without_prefix}
-use Rattle.art_map.specs.Retaining.{LosesFirst, StopsFiltering, StopsRetaining}
-use Rattle.art_map.specs.Sets.{keys_with_prefix, keys_without_prefix}
+use Rattle.art_map.proofs.Names.{◌≡◌, ◌∙◌, suc, Bool, true, false, cond, not, nat_eq, ℕ, List, [], ◌∷◌, length, map, refl, sym, ap, inl, inr, CalledAt, TakesAt, FoldsTo, items_where_true, starts_with, IsFiltered, CallableOnEachPair, RetainsPairs, SomeCallAtPair, length-map, map-append, CallableAtEachKey, SomeCallAtKey, entries_with_prefix, entries_without_prefix, keys_with_prefix, keys_without_prefix, LosesFirst, StopsFiltering, StopsRetaining, Mut, Bor}
 use Rattle.art_map.proofs.SetLemmas.{keys_in, map-of-filter}
-use denote.Param.Members.{Mut}
-use denote.Ref.{Bor}
 
 module _ {K : Type 0} where
   picked : (keeps : Bool) (key : K) (rest : List K) (told : List Bool) (others : List K) → rest ≡ items_where_true told others → cond keeps (key ∷ rest) rest ≡ items_where_true (keeps ∷ told) (key ∷ others)

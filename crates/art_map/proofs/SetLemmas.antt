@@ -1,24 +1,6 @@
 -- The keys of a map's entries, as a set has them.
-use Rattle.std.proofs.Common.{◌≡◌, ◌⊎◌, ◌∙◌, inl, inr, ℕ, zero, suc, ◌-◌, ◌<◌, ◌≤◌, ◌^◌, not, get_or, All, Contains, Bool, true, false, cond, List, [], ◌∷◌, length, map, filter, Option, Some, None, Result, Ok, Err, IfOk, IfErr, IfSome, IfNone, OnOk, OnErr, slice_get, refl, sym, ap, subst, arith, nat_eq}
-use Rattle.std.specs.Cmp.Lexicographic.{pointwise}
-use Rattle.std.specs.Option.{is_none, is_some, option_map}
-use Rattle.std.specs.Ordering.{match_ordering}
-use Rattle.std.specs.Result.{result_map_both}
-use Rattle.std.specs.declared.cmp.Ordering.{Ordering}
-use Rattle.std.specs.declared.cmp.Ordering.TheVariants.{Less, Equal, Greater}
-use Rattle.std.proofs.lemmas.List.{length-map}
-use Rattle.std.proofs.lemmas.List.Elements.{All-contains, Contains-append_right, Contains-get_or}
-use Rattle.std.proofs.lemmas.List.Filters.{length-filter_both}
+use Rattle.art_map.proofs.Names.{◌≡◌, ◌⊎◌, ◌∙◌, inl, inr, ℕ, zero, suc, ◌-◌, ◌<◌, ◌≤◌, ◌^◌, not, get_or, All, Contains, Bool, true, false, cond, List, [], ◌∷◌, length, map, filter, Option, Some, None, Result, Ok, Err, IfOk, IfErr, IfSome, IfNone, OnOk, OnErr, slice_get, refl, sym, ap, subst, arith, nat_eq, pointwise, is_none, is_some, option_map, match_ordering, result_map_both, Ordering, Less, Equal, Greater, length-map, All-contains, Contains-append_right, Contains-get_or, length-filter_both, text_order, Clashes, put_entry, texts_of, InsertRefusal, KeyTooLong, Prefix, OutOfMemory, IsRefused, MayEnter, entry_with, HasKey, key_with, put_key, replace_key, IsKeyRefused, KeyMayEnter}
 use Rattle.std.proofs.lemmas.Map.Made.{Contains-tail}
-use Rattle.art_bytes.specs.Text.{text_order}
-use Rattle.art_tree.specs.Dictionary.{Clashes}
-use Rattle.art_tree.specs.Entries.{put_entry}
-use Rattle.art_tree.specs.Refusals.{texts_of}
-use Rattle.art_tree.specs.declared.insert.InsertRefusal.{InsertRefusal}
-use Rattle.art_tree.specs.declared.insert.InsertRefusal.TheVariants.{KeyTooLong, Prefix, OutOfMemory}
-use Rattle.art_map.specs.Changes.{IsRefused, MayEnter}
-use Rattle.art_map.specs.Entries.{entry_with}
-use Rattle.art_map.specs.Sets.{HasKey, key_with, put_key, replace_key, IsKeyRefused, KeyMayEnter}
 use Rattle.art_map.proofs.CallLaws.{Ascend, ascend_rest, first_or_later, first_there, image_inside, inside_image, inside_part, later_there, less_differs, none_below, none_inside, other_text, same_order, same_text, text_itself, texts_differ}
 
 -- a test of what a function gives, before it and behind it
@@ -34,6 +16,10 @@ map-of-filter {A} {B} f p (x ∷ xs) = by_test (p (f x)) (map-of-filter f p xs)
 module _ {K V : Type 0} (text : K → List ℕ) where
   abbrev pub keys_in : List (K × V) → List K
   keys_in entries = map (λ entry. entry.0) entries
+
+  -- the keys of the entries whose texts pass a test are the keys that do
+  pub keys-pass : (test : List ℕ → Bool) (entries : List (K × V)) (keys : List K) → keys_in entries ≡ keys → keys_in (filter (λ entry. test (text entry.0)) entries) ≡ filter (λ key. test (text key)) keys
+  keys-pass test entries keys are = map-of-filter (λ entry. entry.0) (λ key. test (text key)) entries ∙ ap (filter (λ key. test (text key))) are
 
   pub texts-in : (entries : List (K × V)) → map text (keys_in entries) ≡ texts_of text entries
   texts-in [] = refl
@@ -141,10 +127,6 @@ module _ {A E : Type 0} where
   pub on-fault : (r : Result (Option A) E) (P Q : Type 0) → (P → Q) → OnErr r P → OnErr (added_of r) Q
   on-fault (Ok o) P Q f p = tt
   on-fault (Err e) P Q f p = f p
-
-pub on-err-so : {A E : Type 0} (r : Result A E) (P : Type 0) → P → OnErr r P
-on-err-so (Ok x) P p = tt
-on-err-so (Err e) P p = p
 
 -- texts that ascend and are all among others are no more than those
 fewer : (x : List ℕ) (ys : List (List ℕ)) → Contains ys x → length (filter (λ y. not (pointwise nat_eq y x)) ys) < length ys

@@ -1,12 +1,6 @@
 -- The keys of entries whose values tell nothing: they compare, are hashed and are cloned as the entries.
-use Rattle.std.proofs.Common.{◌≡◌, Bool, true, false, ◌&&◌, List, [], ◌∷◌, ◌++◌, map, Option, Some, None, refl, sym, append-nil}
-use Rattle.std.specs.Cmp.Lexicographic.{pointwise, slice_cmp, slice_partial_cmp}
+use Rattle.art_map.proofs.Names.{◌≡◌, Bool, true, false, ◌&&◌, List, [], ◌∷◌, ◌++◌, map, Option, Some, None, refl, sym, append-nil, pointwise, slice_cmp, slice_partial_cmp, flat_map, AllZip, ordering_then, partial_ordering_then, Ordering, Less, Equal, Greater, length-map}
 use Rattle.std.specs.Hash as fed
-use Rattle.std.specs.List.{flat_map, AllZip}
-use Rattle.std.specs.Ordering.{ordering_then, partial_ordering_then}
-use Rattle.std.specs.declared.cmp.Ordering.{Ordering}
-use Rattle.std.specs.declared.cmp.Ordering.TheVariants.{Less, Equal, Greater}
-use Rattle.std.proofs.lemmas.List.{length-map}
 
 and_true : (b : Bool) → (b && true) ≡ b
 and_true true = refl

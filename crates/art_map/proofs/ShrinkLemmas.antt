@@ -1,27 +1,13 @@
 -- A removal that is refused: the parent of the leaf, in the arena and in the tree of the keys.
-use Rattle.std.proofs.Common.{◌≡◌, ◌≢◌, ◌∙◌, ℕ, List, [], length, Contains, Option, Some, None, sym, ap, subst, inl, inr}
-use Rattle.std.proofs.lemmas.List.Elements.{Contains-append_cases}
+use Rattle.art_map.proofs.Names.{◌≡◌, ◌≢◌, ◌∙◌, ℕ, List, [], length, Contains, Option, Some, None, sym, ap, subst, inl, inr, Contains-append_cases, leaf_key, OpaqueNodePtr, NodeArena, Held, HeldInner, HeldLeaf, Nothing, held, StandsIn, AllStandIn, Tree, Leaf, Inner, Branches, NoBranch, Branch, branch_roots, places, branch_places, one-inner, entry-texts, IsArt, entries_of, texts_of, NeedsSmallerNode, HasLeafOf, IsFewest, NeedsNode, ShrinksWithout, SomeShrinksWithout}
 use Rattle.art_nodes.specs.Inner as nodes
-use Rattle.art_nodes.specs.Leaf.{leaf_key}
-use Rattle.art_nodes.specs.declared.pointers.OpaqueNodePtr.{OpaqueNodePtr}
-use Rattle.art_arena.specs.Arena.{NodeArena, Held, HeldInner, HeldLeaf, Nothing, held}
-use Rattle.art_arena.specs.Standing.{StandsIn, AllStandIn}
-use Rattle.art_arena.specs.Trees.{Tree, Leaf, Inner, Branches, NoBranch, Branch, branch_roots, places, branch_places, texts}
-use Rattle.art_tree.specs.Art.{IsAlone, IsArt}
-use Rattle.art_tree.specs.Entries.{entries_of}
-use Rattle.art_tree.specs.Refusals.{texts_of}
-use Rattle.art_tree.specs.Removal.{NeedsSmallerNode}
-use Rattle.art_map.specs.Shrinking.{HasLeafOf, IsFewest, NeedsNode, ShrinksWithout, SomeShrinksWithout}
 use Rattle.art_map.proofs.CallLaws.{first_or_later, none_inside}
 
 module _ {H L : Type 0} where
-  one-inner : (a b : nodes.Inner H) (h : Held H L) → h ≡ HeldInner a → h ≡ HeldInner b → a ≡ b
-  one-inner a b h first second = let same : HeldInner a ≡ HeldInner b = sym first ∙ second in cc
-
   one-leaf : (a b : L) (h : Held H L) → h ≡ HeldLeaf a → h ≡ HeldLeaf b → a ≡ b
   one-leaf a b h first second = let same : HeldLeaf a ≡ HeldLeaf b = sym first ∙ second in cc
 
-  pub not-both : (node : nodes.Inner H) (leaf : L) (h : Held H L) → h ≡ HeldInner node → h ≡ HeldLeaf leaf → ⊥
+  not-both : (node : nodes.Inner H) (leaf : L) (h : Held H L) → h ≡ HeldInner node → h ≡ HeldLeaf leaf → ⊥
   not-both node leaf h first second = let wrong : HeldInner node ≡ HeldLeaf leaf = sym first ∙ second in absurd (cc)
 
   some-inner : (node : nodes.Inner H) (h : Held H L) → h ≡ HeldInner node → h ≢ Nothing
@@ -59,7 +45,7 @@ module _ {K V : Type 0} {P : ℕ} (text : K → List ℕ) (arena : NodeArena K V
     ]
     shrinks-there (Inner pointer prefix branches) (node, holds, shows, stand) inside = elim (first_or_later pointer parent (branch_places branches) inside) [
       | inl here ↦
-          let same = one-inner node needs.1.node (held arena parent) (sym (ap (held arena) here) ∙ holds) needs.1.parent_held in
+          let same = one-inner (held arena parent) node needs.1.node (sym (ap (held arena) here) ∙ holds) needs.1.parent_held in
           let children : needs.1.node.children ≡ branch_roots branches = ap (λ n. n.children) (sym same) ∙ shows.children in
           inl (
             subst (λ all. IsFewest (length all)) children needs.1.count,
@@ -76,12 +62,11 @@ module _ {K V : Type 0} {P : ℕ} (text : K → List ℕ) (arena : NodeArena K V
     ]
 
 -- a removal that needs a smaller node in the arena needs a node by its texts
-pub needs-node : {K V : Type 0} {P : ℕ} (text : K → List ℕ) (arena : NodeArena K V P) (root : Option (OpaqueNodePtr K V P)) (x : List ℕ) → IsArt text arena root → ((root : OpaqueNodePtr K V P) (tree : Tree (OpaqueNodePtr K V P)) → IsAlone text arena root tree → texts_of text (entries_of text arena) ≡ texts tree) → NeedsSmallerNode text arena x
-    → NeedsNode (OpaqueNodePtr K V P) (texts_of text (entries_of text arena)) x
-needs-node text arena None x nothing same needs = absurd (some-inner needs.node (held arena needs.parent) needs.parent_held (nothing needs.parent))
-needs-node text arena (Some root) x (tree, alone) same needs = record {
+pub needs-node : {K V : Type 0} {P : ℕ} (text : K → List ℕ) (arena : NodeArena K V P) (root : Option (OpaqueNodePtr K V P)) (x : List ℕ) → IsArt text arena root → NeedsSmallerNode text arena x → NeedsNode (OpaqueNodePtr K V P) (texts_of text (entries_of text arena)) x
+needs-node text arena None x nothing needs = absurd (some-inner needs.node (held arena needs.parent) needs.parent_held (nothing needs.parent))
+needs-node text arena (Some root) x (tree, alone) needs = record {
   tree = tree;
   sound = alone.is_tree.sound;
-  same_texts = sym (same root tree alone);
+  same_texts = sym (entry-texts text arena root tree alone);
   shrinks = shrinks-there text arena (x, needs) tree alone.is_tree.stands (alone.no_others needs.parent (some-inner needs.node (held arena needs.parent) needs.parent_held));
 }

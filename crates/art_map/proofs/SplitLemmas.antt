@@ -1,14 +1,6 @@
 -- An ascending list of entries is those below a text, and then those that are not.
-use Rattle.std.proofs.Common.{◌≡◌, ◌≢◌, ◌<◌, ◌≤◌, ◌∙◌, ℕ, false, cond, List, [], ◌∷◌, ◌++◌, take, drop, length, length-append, Contains, Result, Ok, Err, IfOk, OnErr, OnOk, get_or, refl, sym, ap, subst, arith}
-use Rattle.std.specs.Cmp.Lexicographic.{nat_list_cmp_total}
-use Rattle.std.specs.Ordering.{is_ge, is_lt, ordering_reverse}
-use Rattle.std.specs.declared.cmp.Ordering.{Ordering}
-use Rattle.std.specs.declared.cmp.Ordering.TheVariants.{Less, Equal, Greater}
+use Rattle.art_map.proofs.Names.{◌≡◌, ◌≢◌, ◌<◌, ◌≤◌, ◌∙◌, ℕ, false, cond, List, [], ◌∷◌, ◌++◌, take, drop, length, length-append, Contains, Result, Ok, Err, IfOk, OnErr, OnOk, get_or, refl, sym, ap, subst, arith, nat_list_cmp_total, is_ge, is_lt, ordering_reverse, Ordering, Less, Equal, Greater, Contains-get_or, text_order, texts_of, entries_below, entries_from}
 use Rattle.std.proofs.Math.Seq.{drop-append_seam, take-append_seam}
-use Rattle.std.proofs.lemmas.List.Elements.{Contains-get_or}
-use Rattle.art_bytes.specs.Text.{text_order}
-use Rattle.art_tree.specs.Refusals.{texts_of}
-use Rattle.art_map.specs.Ranges.{entries_below, entries_from}
 use Rattle.art_map.proofs.CallLaws.{Ascend, ascend_rest, image_inside, none_below, same_order}
 use Rattle.art_map.proofs.FrontLemmas.{none-kept, part-fits}
 
@@ -80,8 +72,3 @@ module _ {K V : Type 0} (text : K → List ℕ) (x : List ℕ) where
 
     pub some-from : 0 < count → entries_from text x entries ≢ []
     some-from some nil = omega (arith, some, many, ap length nil)
-
--- what holds anyway holds after a refusal
-pub anyway : {A E : Type 0} (r : Result A E) (P : Type 0) → P → OnErr r P
-anyway (Ok x) P p = tt
-anyway (Err e) P p = p

@@ -1,17 +1,8 @@
 -- On which sides of keys texts lie, and lists of those that do.
-use Rattle.std.proofs.Common.{◌≡◌, ◌∙◌, ℕ, Bool, true, false, not, ◌&&◌, List, [], ◌∷◌, filter, refl, sym, ap, inl, inr, nat_eq}
+use Rattle.art_map.proofs.Names.{filter_agree, ◌≡◌, ◌∙◌, ℕ, Bool, true, false, not, ◌&&◌, List, [], ◌∷◌, filter, refl, sym, ap, inl, inr, nat_eq, starts_with, nat_cmp, ordering_then, is_lt, is_le, is_gt, is_ge, Ordering, Less, Equal, Greater, eqb_tells, text_order, comes_before, is_before, is_between, Before, AfterBegun}
 use Rattle.std.specs.Cmp.{nat_cmp_is}
-use Rattle.std.specs.List.{starts_with}
-use Rattle.std.specs.Ordering.{nat_cmp, ordering_then, is_lt, is_le, is_gt, is_ge}
-use Rattle.std.specs.declared.cmp.Ordering.{Ordering}
-use Rattle.std.specs.declared.cmp.Ordering.TheVariants.{Less, Equal, Greater}
-use Rattle.std.proofs.lemmas.Bool.Decides.{eqb_tells}
-use Rattle.art_bytes.specs.Text.{text_order}
-use Rattle.art_tree.specs.Sides.{comes_before, is_before}
-use Rattle.art_map.specs.Nearest.{is_between}
-use Rattle.art_tree.specs.declared.place.Side.TheVariants.{Before, AfterBegun}
 
-same-nat : (n : ℕ) → nat_cmp n n ≡ Equal
+pub same-nat : (n : ℕ) → nat_cmp n n ≡ Equal
 same-nat n = sym (nat_cmp_is n n Equal refl)
 
 -- nothing comes before the empty key, and everything before the end of all that begins with it
@@ -62,12 +53,8 @@ not-le Less = refl
 not-le Equal = refl
 not-le Greater = refl
 
--- tests that agree keep the same
-pub filter-same : {A : Type 0} (p q : A → Bool) → ((x : A) → p x ≡ q x) → (xs : List A) → filter p xs ≡ filter q xs
-filter-same p q same xs = λ i. filter (λ x. same x i) xs
-
 pub filter-all : {A : Type 0} (p : A → Bool) → ((x : A) → p x ≡ true) → (xs : List A) → filter p xs ≡ xs
-filter-all {A} p all xs = filter-same p (λ _. true) all xs ∙ keep xs
+filter-all {A} p all xs = filter_agree p (λ _. true) all xs ∙ keep xs
   where
     keep : (xs : List A) → filter (λ _. true) xs ≡ xs
     keep [] = refl

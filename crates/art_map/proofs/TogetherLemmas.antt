@@ -1,13 +1,5 @@
 -- Texts that were put into a map, or a set, one after the other: they may stand together.
-use Rattle.std.proofs.Common.{◌≡◌, ◌⊎◌, ◌∙◌, inl, inr, ℕ, ◌<◌, ◌^◌, Bool, true, false, List, [], ◌∷◌, length, map, All, AllPairs, Contains, get_or, refl, sym, subst, arith, nat_eq}
-use Rattle.std.specs.Cmp.Lexicographic.{pointwise}
-use Rattle.std.proofs.lemmas.List.Elements.{All-contains, Contains-get_or}
-use Rattle.art_tree.specs.Dictionary.{OneIsProperPrefix}
-use Rattle.art_tree.specs.Entries.{put_entry}
-use Rattle.art_tree.specs.Refusals.{texts_of}
-use Rattle.art_map.specs.Extending.{put_all, MayStandTogether}
-use Rattle.art_map.specs.Merges.{union}
-use Rattle.art_map.specs.Sets.{HasKey, put_key}
+use Rattle.art_map.proofs.Names.{◌≡◌, ◌⊎◌, ◌∙◌, inl, inr, ℕ, ◌<◌, ◌^◌, Bool, true, false, List, [], ◌∷◌, length, map, All, AllPairs, Contains, get_or, refl, sym, subst, arith, nat_eq, pointwise, All-contains, Contains-get_or, OneIsProperPrefix, put_entry, texts_of, put_all, MayStandTogether, union, HasKey, put_key}
 use Rattle.art_map.proofs.CallLaws.{first_or_later, image_inside, inside_image, key_put, keys_kept, none_inside, others_there, put_there, same_text, texts_differ}
 use Rattle.art_map.proofs.FrontLemmas.{Apart}
 use Rattle.art_map.proofs.RefusalLemmas.{members_apart}

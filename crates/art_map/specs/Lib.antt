@@ -7,6 +7,7 @@ pub mod Entries
 pub mod Extending
 pub mod LeafEntries
 pub mod MapLending
+pub mod Memory
 pub mod Merges
 pub mod Nearest
 pub mod Ranges
@@ -14,3 +15,4 @@ pub mod Retaining
 pub mod Runs
 pub mod Sets
 pub mod Shrinking
+pub mod Sorting

@@ -1,16 +1,12 @@
 -- A set as the list of its keys, ascending by text.
-use Rattle.std.specs.Prelude.{ℕ, ◌<◌, ◌≤◌, ◌^◌, ◌&&◌, not, List, [], ◌∷◌, length, map, filter, find, Contains, Option, Some, nat_eq}
-use Rattle.std.specs.Borrow.{Bor}
+use Rattle.std.specs.Prelude.{ℕ, ◌<◌, ◌≤◌, ◌^◌, not, List, [], ◌∷◌, length, map, filter, find, Contains, Option, Some, nat_eq}
 use Rattle.std.specs.Cmp.Lexicographic.{pointwise}
 use Rattle.std.specs.List.{starts_with}
-use Rattle.std.specs.Ordering.{is_lt, is_le, is_ge, is_gt, match_ordering}
-use Rattle.std.specs.Range.Bound.{bounds_contain}
-use Rattle.std.specs.declared.ops.Bound.{Bound}
+use Rattle.std.specs.Ordering.{match_ordering}
 use Rattle.art_bytes.specs.Text.{text_order}
 use Rattle.art_tree.specs.Dictionary.{Clashes}
 use Rattle.art_tree.specs.declared.insert.InsertRefusal.{InsertRefusal}
 use Rattle.art_tree.specs.declared.insert.InsertRefusal.TheVariants.{KeyTooLong, Prefix, OutOfMemory}
-use Rattle.art_map.specs.Ranges.{is_from, is_up_to}
 
 module _ {K : Type 0} (text : K → List ℕ) where
   -- one of these keys has this text
@@ -37,41 +33,9 @@ module _ {K : Type 0} (text : K → List ℕ) where
   abbrev pub without_key : List K → List ℕ → List K
   without_key keys x = filter (λ key. not (pointwise nat_eq (text key) x)) keys
 
-  -- the keys within two bounds
-  abbrev pub keys_within : {Q : Type 0} → (Q → List ℕ) → Bound (Bor Q) → Bound (Bor Q) → List K → List K
-  keys_within bound_text start end keys = filter (λ key. is_up_to bound_text end (text key) && is_from bound_text start (text key)) keys
-
-  -- the keys with bytes in a range from one of these bounds to the other, as std's ranges have
-  abbrev pub keys_in : Bound (List ℕ) → Bound (List ℕ) → List K → List K
-  keys_in start end keys = filter (λ key. bounds_contain (λ x y. Some (text_order x y)) start end (text key)) keys
-
-  -- the keys that are not below these bytes
-  abbrev pub keys_from : List ℕ → List K → List K
-  keys_from x keys = filter (λ key. is_ge (text_order (text key) x)) keys
-
-  -- the keys that are above these bytes
-  abbrev pub keys_above : List ℕ → List K → List K
-  keys_above x keys = filter (λ key. is_gt (text_order (text key) x)) keys
-
-  -- the keys that are below these bytes
-  abbrev pub keys_below : List ℕ → List K → List K
-  keys_below x keys = filter (λ key. is_lt (text_order (text key) x)) keys
-
-  -- the keys that are not above these bytes
-  abbrev pub keys_up_to : List ℕ → List K → List K
-  keys_up_to x keys = filter (λ key. is_le (text_order (text key) x)) keys
-
   -- the first of these keys that is a prefix of these bytes
   abbrev pub prefix_key : List K → List ℕ → Option K
   prefix_key keys x = find (λ key. starts_with nat_eq x (text key)) keys
-
-  -- the keys that begin with these bytes
-  abbrev pub keys_with_prefix : List ℕ → List K → List K
-  keys_with_prefix x keys = filter (λ key. starts_with nat_eq (text key) x) keys
-
-  -- the keys that do not
-  abbrev pub keys_without_prefix : List ℕ → List K → List K
-  keys_without_prefix x keys = filter (λ key. not (starts_with nat_eq (text key) x)) keys
 
   -- nothing but an allocation failure refuses a key with this text
   abbrev pub KeyMayEnter : List K → List ℕ → Type 0

@@ -1,6 +1,6 @@
 //! A walk along the leaves of a tree that changes: the list of the entries is what is behind, and what
 //! begins at a leaf.
-ghost use Rattle.std.specs.Prelude.{◌≡◌, ◌∷◌, ◌++◌, [], Bool, List, Option, ℕ, false, true, All, Some, IfOk, OnErr, OnOk, if◌then◌else◌};
+ghost use Rattle.std.specs.Prelude.{◌≡◌, ◌+◌, ◌∷◌, ◌++◌, [], List, Option, ℕ, false, true, All, Some, OnErr, OnOk, is_ok, length};
 ghost use Rattle.std.specs.Option.{option_map};
 ghost use Rattle.art_nodes.specs.Leaf.{leaf_key, leaf_value};
 ghost use Rattle.art_nodes.specs.Pointers.{slab_key};
@@ -9,21 +9,18 @@ ghost use Rattle.art_arena.specs.Links.{HoldsLeaf, leaf_at};
 ghost use Rattle.art_tree.specs.Entries.{entries_of};
 ghost use Rattle.art_tree.specs.Refusals.{texts_of};
 ghost use Rattle.art_tree.specs.Sides.{is_before};
-ghost use Rattle.art_map.specs.Cursors.{HoldsFirst, IsCut};
+ghost use Rattle.art_map.specs.Cursors.{HoldsFirst, IsCut, IsPassed, IsVisit, MayVisit};
+ghost use Rattle.art_map.specs.Memory.{KeepsRoom, RemovesEachInRoom};
 ghost use Rattle.art_map.specs.Shrinking.{NeedsNode};
 
 use crate::keeps::Keeps;
-use crate::leaf_entries::leaves_hold_the_entries;
 use crate::map::laws::removals_need_nodes;
 use crate::nearest::nearest_leaf;
 use crate::range::is_before;
+use crate::run_ends::LeafPtr;
 use art_arena::End;
 use art_bytes::AsBytes;
-use art_nodes::{LeafNode, NodePtr};
-use art_tree::laws::{
-    each_leaf_of_a_list_is_knit, entries_are_one_list, lists_are_spelled_where_links_are_kept,
-    the_list_of_entries_changes_with_them, trees_stand_where_texts_are_kept,
-};
+use art_tree::laws::room_lasts;
 use art_tree::{ArtTree, Side};
 use std::alloc::AllocError;
 
@@ -32,13 +29,12 @@ pub(crate) fn cut_at<K: AsBytes, V, const PREFIX_LEN: usize>(
     tree: &ArtTree<K, V, PREFIX_LEN>,
     side: Side,
     key: &[u8],
-) -> Option<NodePtr<PREFIX_LEN, LeafNode<K, V, PREFIX_LEN>>>
+) -> Option<LeafPtr<K, V, PREFIX_LEN>>
     ensures { (before : List (K × V)) × (after : List (K × V)) ×
         IsCut K.text tree.now.arena before (option_map slab_key result) after ×
         All (λ entry. is_before side key.now (K.text entry.0) ≡ true) before ×
         All (λ entry. is_before side key.now (K.text entry.0) ≡ false) after }
 {
-    leaves_hold_the_entries::<K, V, PREFIX_LEN>();
     let _root = tree.root()?;
     nearest_leaf(tree, side, key, End::First)
 }
@@ -46,7 +42,7 @@ pub(crate) fn cut_at<K: AsBytes, V, const PREFIX_LEN: usize>(
 /// Whether the key of a leaf comes before this side of the key.
 pub(crate) fn leaf_is_before<K: AsBytes, V, const PREFIX_LEN: usize>(
     tree: &ArtTree<K, V, PREFIX_LEN>,
-    leaf: NodePtr<PREFIX_LEN, LeafNode<K, V, PREFIX_LEN>>,
+    leaf: LeafPtr<K, V, PREFIX_LEN>,
     side: Side,
     key: &[u8],
 ) -> bool
@@ -60,16 +56,13 @@ pub(crate) fn leaf_is_before<K: AsBytes, V, const PREFIX_LEN: usize>(
 // The leaf behind this one.
 fn leaf_behind<K: AsBytes, V, const PREFIX_LEN: usize>(
     tree: &ArtTree<K, V, PREFIX_LEN>,
-    leaf: NodePtr<PREFIX_LEN, LeafNode<K, V, PREFIX_LEN>>,
-) -> Option<NodePtr<PREFIX_LEN, LeafNode<K, V, PREFIX_LEN>>>
+    leaf: LeafPtr<K, V, PREFIX_LEN>,
+) -> Option<LeafPtr<K, V, PREFIX_LEN>>
     requires { HoldsLeaf tree.now.arena (slab_key leaf) }
     ensures { (before : List (K × V)) (entry : K × V) (after : List (K × V)) →
         IsCut K.text tree.now.arena before (Some (slab_key leaf)) (entry ∷ after) →
         IsCut K.text tree.now.arena (before ++ entry ∷ []) (option_map slab_key result) after }
 {
-    leaves_hold_the_entries::<K, V, PREFIX_LEN>();
-    entries_are_one_list::<K, V, PREFIX_LEN>();
-    each_leaf_of_a_list_is_knit::<K, V, PREFIX_LEN>();
     let _root = tree.root();
     tree.arena().as_ref(leaf).next()
 }
@@ -77,49 +70,27 @@ fn leaf_behind<K: AsBytes, V, const PREFIX_LEN: usize>(
 // Tests the entry of a leaf. The test may leave another value in it.
 fn test_at<K: AsBytes, V, const PREFIX_LEN: usize, F: Keeps<K, V>>(
     tree: &mut ArtTree<K, V, PREFIX_LEN>,
-    leaf: NodePtr<PREFIX_LEN, LeafNode<K, V, PREFIX_LEN>>,
+    leaf: LeafPtr<K, V, PREFIX_LEN>,
     test: &mut F,
 ) -> bool
     requires held { HoldsLeaf tree.old.arena (slab_key leaf) }
     requires accepted { (node : _) → leaf_at tree.old.arena (slab_key leaf) ≡ Some node →
         F.accepts test.old (leaf_key node) (leaf_value node) }
-    ensures { (before : List (K × V)) (entry : K × V) (after : List (K × V)) →
+    ensures tested { (before : List (K × V)) (entry : K × V) (after : List (K × V)) →
         IsCut K.text tree.old.arena before (Some (slab_key leaf)) (entry ∷ after) →
         (value : V) × F.step test.old entry.0 entry.1 result value test.new ×
         IsCut K.text tree.new.arena before (Some (slab_key leaf)) ((entry.0, value) ∷ after) }
+    ensures room { KeepsRoom tree.old.arena tree.new.arena }
 {
-    leaves_hold_the_entries::<K, V, PREFIX_LEN>();
-    entries_are_one_list::<K, V, PREFIX_LEN>();
-    trees_stand_where_texts_are_kept::<K, V, PREFIX_LEN>();
-    lists_are_spelled_where_links_are_kept::<K, V, PREFIX_LEN>();
     let _root = tree.root();
     let (key, value) = tree.as_key_ref_value_mut(leaf);
     test.keeps(key, value)
 }
 
-/// Tests the entry of a leaf, which stays whatever the test returns, and returns the leaf behind it.
-pub(crate) fn pass_at<K: AsBytes, V, const PREFIX_LEN: usize, F: Keeps<K, V>>(
+// Removes the entry of a leaf. Fails only where that needs a node, and then the entries are unchanged.
+fn remove_at<K: AsBytes + Drop, V: Drop, const PREFIX_LEN: usize>(
     tree: &mut ArtTree<K, V, PREFIX_LEN>,
-    leaf: NodePtr<PREFIX_LEN, LeafNode<K, V, PREFIX_LEN>>,
-    test: &mut F,
-) -> Option<NodePtr<PREFIX_LEN, LeafNode<K, V, PREFIX_LEN>>>
-    requires held { (before : List (K × V)) × (entry : K × V) × (after : List (K × V)) ×
-        IsCut K.text tree.old.arena before (Some (slab_key leaf)) (entry ∷ after) ×
-        F.accepts test.old entry.0 entry.1 }
-    ensures { (before : List (K × V)) (entry : K × V) (after : List (K × V)) →
-        IsCut K.text tree.old.arena before (Some (slab_key leaf)) (entry ∷ after) →
-        (keeps : Bool) × (value : V) × F.step test.old entry.0 entry.1 keeps value test.new ×
-        IsCut K.text tree.new.arena (before ++ (entry.0, value) ∷ []) (option_map slab_key result)
-        after }
-{
-    let _keeps = test_at(tree, leaf, test);
-    leaf_behind(tree, leaf)
-}
-
-/// Removes the entry of a leaf. Fails only where that needs a node, and then the entries are unchanged.
-pub(crate) fn remove_at<K: AsBytes + Drop, V: Drop, const PREFIX_LEN: usize>(
-    tree: &mut ArtTree<K, V, PREFIX_LEN>,
-    leaf: NodePtr<PREFIX_LEN, LeafNode<K, V, PREFIX_LEN>>,
+    leaf: LeafPtr<K, V, PREFIX_LEN>,
 ) -> Result<(), AllocError>
     requires { HoldsLeaf tree.old.arena (slab_key leaf) }
     ensures removed { (before : List (K × V)) (entry : K × V) (after : List (K × V))
@@ -133,34 +104,44 @@ pub(crate) fn remove_at<K: AsBytes + Drop, V: Drop, const PREFIX_LEN: usize>(
         (texts_of K.text (entries_of K.text tree.new.arena)) (K.text entry.0)) }
     ensures same_entries { OnErr result
         (entries_of K.text tree.new.arena ≡ entries_of K.text tree.old.arena) }
+    ensures room { OnOk result (RemovesEachInRoom tree.old.arena tree.new.arena 1 true) }
+    ensures no_room { OnErr result (RemovesEachInRoom tree.old.arena tree.new.arena 0 false) }
 {
-    entries_are_one_list::<K, V, PREFIX_LEN>();
-    the_list_of_entries_changes_with_them::<K, V, PREFIX_LEN>();
+    room_lasts::<K, V, PREFIX_LEN>();
     removals_need_nodes(tree);
+    let _root = tree.root();
     tree.remove_leaf(leaf)?;
     Ok(())
+}
+
+/// Tests the entry of a leaf, which stays whatever the test returns, and returns the leaf behind it.
+pub(crate) fn pass_at<K: AsBytes, V, const PREFIX_LEN: usize, F: Keeps<K, V>>(
+    tree: &mut ArtTree<K, V, PREFIX_LEN>,
+    leaf: LeafPtr<K, V, PREFIX_LEN>,
+    test: &mut F,
+) -> Option<LeafPtr<K, V, PREFIX_LEN>>
+    requires { MayVisit K.text F.accepts test.old tree.old.arena (slab_key leaf) }
+    ensures passed { IsPassed K.text F.step test.old test.new tree.old.arena tree.new.arena
+        (slab_key leaf) result }
+    ensures room { KeepsRoom tree.old.arena tree.new.arena }
+{
+    let _keeps = test_at(tree, leaf, test);
+    leaf_behind(tree, leaf)
 }
 
 /// Tests the entry of a leaf, removes it where the test says so, and returns the leaf behind it. The
 /// removal fails only where it needs a node: the entry stays, with the value that the test left.
 pub(crate) fn retain_at<K: AsBytes + Drop, V: Drop, const PREFIX_LEN: usize, F: Keeps<K, V>>(
     tree: &mut ArtTree<K, V, PREFIX_LEN>,
-    leaf: NodePtr<PREFIX_LEN, LeafNode<K, V, PREFIX_LEN>>,
+    leaf: LeafPtr<K, V, PREFIX_LEN>,
     test: &mut F,
-) -> Result<Option<NodePtr<PREFIX_LEN, LeafNode<K, V, PREFIX_LEN>>>, AllocError>
-    requires held { (before : List (K × V)) × (entry : K × V) × (after : List (K × V)) ×
-        IsCut K.text tree.old.arena before (Some (slab_key leaf)) (entry ∷ after) ×
-        F.accepts test.old entry.0 entry.1 }
-    ensures { (before : List (K × V)) (entry : K × V) (after : List (K × V)) →
-        IsCut K.text tree.old.arena before (Some (slab_key leaf)) (entry ∷ after) →
-        (keeps : Bool) × (value : V) × F.step test.old entry.0 entry.1 keeps value test.new ×
-        IfOk result (λ next. IsCut K.text tree.new.arena
-        (if keeps then before ++ (entry.0, value) ∷ [] else before)
-        (option_map slab_key next) after) ×
-        OnErr result ((keeps ≡ false) ×
-        NeedsNode (Pointer K V PREFIX_LEN) (texts_of K.text (entries_of K.text tree.new.arena))
-        (K.text entry.0) ×
-        (entries_of K.text tree.new.arena ≡ before ++ (entry.0, value) ∷ after)) }
+) -> Result<Option<LeafPtr<K, V, PREFIX_LEN>>, AllocError>
+    requires { MayVisit K.text F.accepts test.old tree.old.arena (slab_key leaf) }
+    ensures visit { IsVisit K.text F.step test.old test.new tree.old.arena tree.new.arena
+        (slab_key leaf) result }
+    ensures room { (gone : ℕ) × (length (entries_of K.text tree.old.arena)
+        ≡ length (entries_of K.text tree.new.arena) + gone)
+        × RemovesEachInRoom tree.old.arena tree.new.arena gone (is_ok result) }
 {
     let keeps = test_at(tree, leaf, test);
     let next = leaf_behind(tree, leaf);

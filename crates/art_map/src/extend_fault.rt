@@ -17,7 +17,7 @@ pub struct StoppedAt<K, V, T> {
     pub rest: Vec<T>,
 }
 
-/// A refused [`extend`](crate::MapOver::extend) or [`from_entries`](crate::MapOver::from_entries): the
+/// A refused [`extend`](crate::ArtMap::extend) or [`from_entries`](crate::ArtMap::from_entries): the
 /// entry that was refused, and those behind it.
 ///
 /// (from tests/art_map_tests/map/extended_maps.rt.txt)

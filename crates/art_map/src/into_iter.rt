@@ -1,14 +1,15 @@
 //! The entries of a map that is taken apart, one by one.
-ghost use Rattle.std.specs.Prelude.{◌≡◌, ◌+◌, ◌∷◌, ◌++◌, [], length, Some, map};
+ghost use Rattle.std.specs.Prelude.{◌≡◌, ◌+◌, length, Some, map};
 ghost use Rattle.std.specs.Iterator.{YieldsFirst, YieldsLast, item_count};
 ghost use Rattle.art_arena.specs.Arena.{leaf_count};
-ghost use Rattle.art_map.specs.Runs.{run_of, IsRun};
+ghost use Rattle.art_map.specs.Runs.{run_of, IsRun, IsTaken};
 
 use crate::guide::Guide;
-use crate::iter::{HasRuns, with_back, with_front};
+use crate::iter::HasRuns;
+use crate::run_ends::{Ends, LeafPtr, ends_without, leaf_at_end, with_expected};
 use art_arena::{End, NodeArena};
 use art_bytes::AsBytes;
-use art_nodes::{LeafNode, NodePtr, OpaqueNodePtr};
+use art_nodes::OpaqueNodePtr;
 use std::iter::FusedIterator;
 use std::marker::{Model, PhantomData};
 
@@ -41,71 +42,26 @@ impl<A: HasRuns<L, K, V>, L, K, V> Model for OwnedRun<A, L, K, V> {
 /// time, and no memory. What is left is freed when the iterator is dropped.
 pub type IntoIter<K, V, const PREFIX_LEN: usize> = OwnedRun<
     NodeArena<K, V, PREFIX_LEN>,
-    NodePtr<PREFIX_LEN, LeafNode<K, V, PREFIX_LEN>>,
+    LeafPtr<K, V, PREFIX_LEN>,
     K,
     V,
 >;
 
-// Takes the entry at the front of a run out of the arena, and returns the ends of what is left.
-fn take_out_first<K, V, const PREFIX_LEN: usize>(
+// Takes the entry at this end of a run out of the arena, and returns the ends of what is left.
+#[inline(always)]
+fn take_out<K, V, const PREFIX_LEN: usize>(
     arena: &mut NodeArena<K, V, PREFIX_LEN>,
-    front: NodePtr<PREFIX_LEN, LeafNode<K, V, PREFIX_LEN>>,
-    back: NodePtr<PREFIX_LEN, LeafNode<K, V, PREFIX_LEN>>,
-) -> (
-    (K, V),
-    Option<
-        (
-            NodePtr<PREFIX_LEN, LeafNode<K, V, PREFIX_LEN>>,
-            NodePtr<PREFIX_LEN, LeafNode<K, V, PREFIX_LEN>>,
-        ),
-    >,
-)
-    requires { IsRun arena.old (Some (front, back)) }
-    ensures first { run_of arena.old (Some (front, back)) ≡ result.0 ∷ run_of arena.new result.1 }
+    ends: Ends<K, V, PREFIX_LEN>,
+    end: End,
+) -> ((K, V), Option<Ends<K, V, PREFIX_LEN>>)
+    requires { IsRun arena.old (Some ends) }
+    ensures taken { IsTaken end (run_of arena.old (Some ends)) result.0 (run_of arena.new result.1) }
     ensures rest { IsRun arena.new result.1 }
     ensures fewer { leaf_count arena.old ≡ leaf_count arena.new + 1 }
 {
-    let leaf = arena.deallocate_node_ptr(front);
-    let next = leaf.next();
-    let entry = leaf.into_entry();
-    if front.key() == back.key() {
-        return (entry, None);
-    }
-    match next {
-        Some(next) => (entry, Some((next, back))),
-        None => (entry, None),
-    }
-}
-
-// Takes the entry at the back of a run out of the arena, and returns the ends of what is left.
-fn take_out_last<K, V, const PREFIX_LEN: usize>(
-    arena: &mut NodeArena<K, V, PREFIX_LEN>,
-    front: NodePtr<PREFIX_LEN, LeafNode<K, V, PREFIX_LEN>>,
-    back: NodePtr<PREFIX_LEN, LeafNode<K, V, PREFIX_LEN>>,
-) -> (
-    (K, V),
-    Option<
-        (
-            NodePtr<PREFIX_LEN, LeafNode<K, V, PREFIX_LEN>>,
-            NodePtr<PREFIX_LEN, LeafNode<K, V, PREFIX_LEN>>,
-        ),
-    >,
-)
-    requires { IsRun arena.old (Some (front, back)) }
-    ensures last { run_of arena.old (Some (front, back)) ≡ run_of arena.new result.1 ++ result.0 ∷ [] }
-    ensures rest { IsRun arena.new result.1 }
-    ensures fewer { leaf_count arena.old ≡ leaf_count arena.new + 1 }
-{
-    let leaf = arena.deallocate_node_ptr(back);
-    let previous = leaf.previous();
-    let entry = leaf.into_entry();
-    if front.key() == back.key() {
-        return (entry, None);
-    }
-    match previous {
-        Some(previous) => (entry, Some((front, previous))),
-        None => (entry, None),
-    }
+    let leaf = arena.deallocate_node_ptr(leaf_at_end(ends, end));
+    let rest = ends_without(&leaf, ends, end);
+    (leaf.into_entry(), rest)
 }
 
 impl<K: AsBytes + Drop, V: Drop, const PREFIX_LEN: usize> Iterator for IntoIter<K, V, PREFIX_LEN> {
@@ -116,11 +72,11 @@ impl<K: AsBytes + Drop, V: Drop, const PREFIX_LEN: usize> Iterator for IntoIter<
     ghost remaining = { item_count (λ rest. rest) };
 
     fn next(&mut self) -> Option<(K, V)> {
-        let (front, back) = self.ends?;
-        let expected = self.guide.next(&self.arena, front, End::First);
-        let (entry, ends) = take_out_first(&mut self.arena, front, back);
-        let ends = with_front(&mut self.guide, ends, expected);
-        self.ends = ends;
+        let ends = self.ends?;
+        let expected = self.guide.next(&self.arena, ends.0, End::First);
+        let (entry, rest) = take_out(&mut self.arena, ends, End::First);
+        let rest = with_expected(&mut self.guide, rest, expected, End::First);
+        self.ends = rest;
         Some(entry)
     }
 
@@ -135,11 +91,11 @@ impl<K: AsBytes + Drop, V: Drop, const PREFIX_LEN: usize> DoubleEndedIterator
     ghost next_back_gives = { YieldsLast (λ rest. rest) };
 
     fn next_back(&mut self) -> Option<(K, V)> {
-        let (front, back) = self.ends?;
-        let expected = self.guide.next(&self.arena, back, End::Last);
-        let (entry, ends) = take_out_last(&mut self.arena, front, back);
-        let ends = with_back(&mut self.guide, ends, expected);
-        self.ends = ends;
+        let ends = self.ends?;
+        let expected = self.guide.next(&self.arena, ends.1, End::Last);
+        let (entry, rest) = take_out(&mut self.arena, ends, End::Last);
+        let rest = with_expected(&mut self.guide, rest, expected, End::Last);
+        self.ends = rest;
         Some(entry)
     }
 }
@@ -173,7 +129,7 @@ impl<A: HasRuns<L, K, V>, L, K, V> Model for OwnedKeys<A, L, K, V> {
 /// those that are left.
 pub type IntoKeys<K, V, const PREFIX_LEN: usize> = OwnedKeys<
     NodeArena<K, V, PREFIX_LEN>,
-    NodePtr<PREFIX_LEN, LeafNode<K, V, PREFIX_LEN>>,
+    LeafPtr<K, V, PREFIX_LEN>,
     K,
     V,
 >;
@@ -233,12 +189,7 @@ pub(crate) fn keys_taken<K, V, const PREFIX_LEN: usize>(
 pub(crate) fn run_taken<K, V, const PREFIX_LEN: usize>(
     arena: NodeArena<K, V, PREFIX_LEN>,
     root: Option<OpaqueNodePtr<K, V, PREFIX_LEN>>,
-    ends: Option<
-        (
-            NodePtr<PREFIX_LEN, LeafNode<K, V, PREFIX_LEN>>,
-            NodePtr<PREFIX_LEN, LeafNode<K, V, PREFIX_LEN>>,
-        ),
-    >,
+    ends: Option<Ends<K, V, PREFIX_LEN>>,
 ) -> IntoIter<K, V, PREFIX_LEN>
     requires run { IsRun arena ends }
     requires whole { length (run_of arena ends) ≡ leaf_count arena }

@@ -4,9 +4,9 @@ ghost use Rattle.std.specs.Iterator.{YieldsFirst, YieldsLast, item_count};
 
 use crate::into_iter::{IntoIter, OwnedRun};
 use crate::iter::HasRuns;
+use crate::run_ends::LeafPtr;
 use art_arena::NodeArena;
 use art_bytes::AsBytes;
-use art_nodes::{LeafNode, NodePtr};
 use std::iter::FusedIterator;
 use std::marker::Model;
 
@@ -28,7 +28,7 @@ impl<A: HasRuns<L, K, V>, L, K, V> Model for OwnedValues<A, L, K, V> {
 /// those that are left.
 pub type IntoValues<K, V, const PREFIX_LEN: usize> = OwnedValues<
     NodeArena<K, V, PREFIX_LEN>,
-    NodePtr<PREFIX_LEN, LeafNode<K, V, PREFIX_LEN>>,
+    LeafPtr<K, V, PREFIX_LEN>,
     K,
     V,
 >;

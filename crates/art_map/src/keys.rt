@@ -3,9 +3,9 @@ ghost use Rattle.std.specs.Prelude.{◌≡◌, map, ⊤};
 ghost use Rattle.std.specs.Iterator.{YieldsFirstBy, YieldsLastBy, item_count};
 
 use crate::iter::{HasRuns, Iter, Run};
+use crate::run_ends::LeafPtr;
 use art_arena::NodeArena;
 use art_bytes::AsBytes;
-use art_nodes::{LeafNode, NodePtr};
 use std::alloc::AllocError;
 use std::iter::FusedIterator;
 use std::marker::Model;
@@ -29,7 +29,7 @@ impl<'a, A: HasRuns<L, K, V>, L, K, V> Model for RunKeys<'a, A, L, K, V> {
 pub type Keys<'a, K, V, const PREFIX_LEN: usize> = RunKeys<
     'a,
     NodeArena<K, V, PREFIX_LEN>,
-    NodePtr<PREFIX_LEN, LeafNode<K, V, PREFIX_LEN>>,
+    LeafPtr<K, V, PREFIX_LEN>,
     K,
     V,
 >;
@@ -99,7 +99,7 @@ impl<'a, A: HasRuns<L, K, V>, L, K, V> Model for RunValues<'a, A, L, K, V> {
 pub type Values<'a, K, V, const PREFIX_LEN: usize> = RunValues<
     'a,
     NodeArena<K, V, PREFIX_LEN>,
-    NodePtr<PREFIX_LEN, LeafNode<K, V, PREFIX_LEN>>,
+    LeafPtr<K, V, PREFIX_LEN>,
     K,
     V,
 >;

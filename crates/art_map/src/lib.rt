@@ -8,7 +8,6 @@
 
 mod cursor;
 mod debug;
-mod each_value;
 mod extend_fault;
 mod guide;
 mod into_iter;
@@ -16,13 +15,15 @@ mod into_values;
 mod iter;
 mod keeps;
 mod keys;
-mod leaf_entries;
 mod map;
 mod moving;
 mod nearest;
 mod range;
-mod retaining;
+mod run_ends;
 mod set;
+mod sorted;
+mod view;
+mod walk;
 
 pub use art_tree::{
     ArtTree, AsBytes, BytesMapping, CStringKey, CStringKeyError, ConcatTuple, Escaped, EscapedKey,
@@ -30,9 +31,21 @@ pub use art_tree::{
     OrderedBytes, SliceKey, StrKey, ToIBE, ToOctets, ToUBE, escaped_prefix,
 };
 pub use extend_fault::{ExtendFault, ExtendKeysFault, StoppedAt};
-pub use into_iter::{IntoIter, IntoKeys, OwnedKeys, OwnedRun};
-pub use into_values::{IntoValues, OwnedValues};
-pub use iter::{HasRuns, Iter, Run};
-pub use keys::{Keys, RunKeys, RunValues, Values};
-pub use map::{ArtMap, DEFAULT_PREFIX_LEN, HasEntries, MapOver};
-pub use set::{ArtSet, Merged, MergedKeys, PeekedKeys, SetOver};
+pub use into_iter::{IntoIter, IntoKeys};
+pub use into_values::IntoValues;
+pub use iter::Iter;
+pub use keys::{Keys, Values};
+pub use map::{ArtMap, ArtTreeMap, DEFAULT_PREFIX_LEN, MapSeenAs};
+pub use set::{ArtSet, Merged};
+pub use view::{EntryList, MapView, ShowsMap, ViewOf};
+
+/// What the aliases above stand for. The compiler needs these names; no caller writes them.
+#[doc(hidden)]
+pub mod parts {
+    pub use crate::into_iter::{OwnedKeys, OwnedRun};
+    pub use crate::into_values::OwnedValues;
+    pub use crate::iter::{HasRuns, Run};
+    pub use crate::keys::{RunKeys, RunValues};
+    pub use crate::map::MapOver;
+    pub use crate::set::{MergedKeys, PeekedKeys, SetOver};
+}

@@ -1,62 +1,33 @@
 //! The map.
-ghost use Rattle.std.specs.Prelude.{◌≡◌, ◌≢◌, [], IfOk, IfErr};
-ghost use Rattle.art_tree.specs.Refusals.{texts_of, IsDue};
+ghost use Rattle.std.specs.Prelude.{◌≡◌, []};
+ghost use Rattle.art_map.specs.Memory.{WithoutRoom};
 
-mod appending;
 mod changes;
-mod cloning;
-mod compacting;
 mod comparing;
-mod counting;
-mod end_entries;
 mod ends;
-mod entering;
-mod extending;
-mod iterating;
 pub(crate) mod laws;
-mod lending;
-mod predecessors;
+mod many_entries;
+mod ranges;
 mod reading;
-mod removing_prefixes;
-mod retaining_entries;
-mod splitting;
-mod std_ranges;
-mod taking_apart;
-mod underlying;
 
+use crate::view::{EntryList, MapView, ViewOf};
 use art_bytes::AsBytes;
-use art_tree::laws::entries_are_one_list;
-use art_tree::{ArtTree, LoadFault};
+use art_tree::ArtTree;
 use std::alloc::Global;
 use std::marker::{Model, PhantomData};
 
-/// What a map keeps its entries in. [`ArtTree`] implements it. See [`ArtMap`] for an example.
-pub trait HasEntries<K, V>: Sized {
-    ghost use Rattle.std.specs.Prelude.{List};
-
-    /// The entries, in ascending order of the bytes of their keys.
-    ghost entries: { Self → List (K × V) };
-}
-
-impl<K: AsBytes, V, const PREFIX_LEN: usize> HasEntries<K, V> for ArtTree<K, V, PREFIX_LEN> {
-    ghost use Rattle.art_tree.specs.Entries.{entries_of};
-
-    ghost entries = { λ tree. entries_of K.text tree.arena };
-}
-
-/// A map over a tree. Callers name it [`ArtMap`], which has an example.
+/// A map over a tree `T`, of which contracts see `S`. Callers name it [`ArtMap`], which has an example,
+/// or [`ArtTreeMap`].
 #[derive(Drop)]
-pub struct MapOver<T: HasEntries<K, V>, K, V> {
+pub struct MapOver<T, S: ViewOf<T>> {
     tree: T,
-    entry: PhantomData<(K, V)>,
+    view: PhantomData<S>,
 }
 
-impl<T: HasEntries<K, V>, K, V> Model for MapOver<T, K, V> {
-    ghost use Rattle.std.specs.Prelude.{List};
+impl<T, S: ViewOf<T>> Model for MapOver<T, S> {
+    ghost Value = { S };
 
-    ghost Value = { List (K × V) };
-
-    ghost view = { λ map. T.entries map.tree };
+    ghost view = { λ map. S.seen map.tree };
 }
 
 /// How many bytes of its compressed prefix a node stores, where no other number is wanted.
@@ -86,48 +57,34 @@ pub const DEFAULT_PREFIX_LEN: usize = 16;
 /// };
 /// assert!(rt; key.get() == "tin" && *value == 50);
 /// ```
-pub type ArtMap<K, V, const PREFIX_LEN: usize> = MapOver<ArtTree<K, V, PREFIX_LEN>, K, V>;
+pub type ArtMap<K, V, const PREFIX_LEN: usize> = MapSeenAs<K, V, PREFIX_LEN, EntryList<K, V>>;
 
-impl<K: AsBytes, V, const PREFIX_LEN: usize> ArtMap<K, V, PREFIX_LEN> {
+/// The map, seen by contracts as the tree that it is over: its entries, and the memory that it has. Calls
+/// that change it are those of [`ArtMap`], but for the ones that make, take or return another map or many
+/// entries; it is read through [`tree`](MapOver::tree).
+pub type ArtTreeMap<K, V, const PREFIX_LEN: usize> = MapSeenAs<
+    K,
+    V,
+    PREFIX_LEN,
+    ArtTree<K, V, PREFIX_LEN>,
+>;
+
+/// A map of which contracts see `S`: an [`ArtMap`] or an [`ArtTreeMap`].
+pub type MapSeenAs<K, V, const PREFIX_LEN: usize, S> = MapOver<ArtTree<K, V, PREFIX_LEN>, S>;
+
+impl<K: AsBytes, V, const PREFIX_LEN: usize, S> MapSeenAs<K, V, PREFIX_LEN, S>
+where
+    S: MapView<K, V, PREFIX_LEN>,
+{
     /// A map with no entries. Takes no memory.
     pub fn new(alloc: Global) -> Self
-        ensures { result ≡ [] }
+        ensures entries { S.entries result ≡ [] }
+        ensures memory { S.memory result result WithoutRoom }
     {
-        entries_are_one_list::<K, V, PREFIX_LEN>();
         let tree = ArtTree::new(alloc);
         MapOver {
             tree,
-            entry: PhantomData,
-        }
-    }
-}
-
-impl<K: AsBytes + Drop, V: Drop, const PREFIX_LEN: usize> ArtMap<K, V, PREFIX_LEN> {
-    /// Makes a map of these entries, whose keys must ascend and of which none may be a prefix of
-    /// another. Without entries it is the empty map.
-    ///
-    /// The refusals are those of [`ArtTree::load`] but for that of no entries: a key of 2^32 bytes or
-    /// more, keys that do not ascend, a key that is a proper prefix of the next one, and out of
-    /// memory. A refusal returns the entries in their order.
-    ///
-    /// Takes time linear in the key bytes of all entries together.
-    pub fn from_ascending(alloc: Global, entries: Vec<(K, V)>) -> Result<Self, LoadFault<K, V>>
-        ensures entries { IfOk result (λ map. map ≡ entries.items) }
-        ensures refusal_due { IfErr result
-            (λ fault. IsDue (texts_of K.text entries.items) fault.refusal) }
-        ensures entries_back { IfErr result (λ fault. fault.entries ≡ entries) }
-        ensures empty_is_fine { IfErr result (λ fault. entries.items ≢ []) }
-    {
-        entries_are_one_list::<K, V, PREFIX_LEN>();
-        if entries.is_empty() {
-            return Ok(ArtMap::new(alloc));
-        }
-        match ArtTree::load(alloc, entries) {
-            Ok(tree) => Ok(MapOver {
-                tree,
-                entry: PhantomData,
-            }),
-            Err(fault) => Err(fault),
+            view: PhantomData,
         }
     }
 }

@@ -12,7 +12,7 @@ ghost use Rattle.art_tree.specs.Room.{HasRoomFor};
 use crate::into_iter::IntoIter;
 use art_bytes::AsBytes;
 use art_tree::ArtTree;
-use art_tree::laws::{entries_are_one_list, the_list_of_entries_changes_with_them};
+use art_tree::laws::entries_are_one_list;
 use std::alloc::AllocError;
 
 /// Removes the last entry of a tree that has one, and room for a removal.
@@ -66,8 +66,6 @@ pub(crate) fn put<K: AsBytes + Drop, V: Drop, const PREFIX_LEN: usize>(
     ensures room_lasts { (count : ℕ) → HasRoomFor tree.old.arena (count + 1) →
         HasRoomFor tree.new.arena count }
 {
-    entries_are_one_list::<K, V, PREFIX_LEN>();
-    the_list_of_entries_changes_with_them::<K, V, PREFIX_LEN>();
     match tree.insert(key, value) {
         Ok(_) => {}
         Err(_) => unreachable!(),
@@ -110,7 +108,6 @@ pub(crate) fn move_last<K: AsBytes + Drop, V: Drop, const PREFIX_LEN: usize>(
         ≡ entries_of K.text lower.new.arena ++ entries_of K.text upper.new.arena }
     ensures moved { length (entries_of K.text upper.new.arena) ≡ count }
 {
-    entries_are_one_list::<K, V, PREFIX_LEN>();
     for _moved in 0..count {
         let (key, value) = take_last(lower);
         put(upper, key, value);

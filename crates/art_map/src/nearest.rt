@@ -9,51 +9,35 @@ ghost use Rattle.art_tree.specs.Entries.{entries_of};
 ghost use Rattle.art_tree.specs.Search.{leaf_pointer};
 ghost use Rattle.art_tree.specs.Sides.{is_before, IsNextTo};
 ghost use Rattle.art_tree.specs.declared.place.Side.{Side};
-ghost use Rattle.art_map.specs.Nearest.{IsFirstAfter, IsLastBefore, IsNearest, entry_nearest};
+ghost use Rattle.art_map.specs.Nearest.{IsNearest, entry_nearest};
 
-use crate::leaf_entries::leaves_hold_the_entries;
+use crate::run_ends::LeafPtr;
 use art_bytes::AsBytes;
-use art_nodes::{LeafNode, NodePtr};
-use art_tree::laws::{each_leaf_of_a_list_is_knit, entries_are_what_leaves_hold};
 use art_tree::{ArtTree, End, NodeArena, Side, leaf_beside};
 
-/// The first leaf after a side of a key, by the leaf beside that side, or None where all are before
-/// it.
-pub(crate) fn leaf_after<K: AsBytes, V, const PREFIX_LEN: usize>(
+/// The first leaf after a side of a key, or the last before it, by the leaf beside that side, if there
+/// is one.
+pub(crate) fn leaf_toward<K: AsBytes, V, const PREFIX_LEN: usize>(
     arena: &NodeArena<K, V, PREFIX_LEN>,
-    beside: (NodePtr<PREFIX_LEN, LeafNode<K, V, PREFIX_LEN>>, End),
-) -> Option<NodePtr<PREFIX_LEN, LeafNode<K, V, PREFIX_LEN>>>
+    beside: (LeafPtr<K, V, PREFIX_LEN>, End),
+    end: End,
+) -> Option<LeafPtr<K, V, PREFIX_LEN>>
     requires { HoldsLeaf arena.now (slab_key beside.0) }
     ensures { (root whole : _) (side : Side) (key : List ℕ) →
         IsAlone K.text arena.now root whole →
         IsNextTo side key (leaves whole) beside.1 (leaf_pointer beside.0) →
-        IsFirstAfter side key (leaves whole) (option_map leaf_pointer result) }
+        IsNearest side key end (leaves whole) (option_map leaf_pointer result) }
 {
-    each_leaf_of_a_list_is_knit::<K, V, PREFIX_LEN>();
-    entries_are_what_leaves_hold::<K, V, PREFIX_LEN>();
-    match beside.1 {
-        End::First => Some(beside.0),
-        End::Last => arena.as_ref(beside.0).next(),
-    }
-}
-
-/// The last leaf before a side of a key, by the leaf beside that side, or None where all are after
-/// it.
-pub(crate) fn leaf_before<K: AsBytes, V, const PREFIX_LEN: usize>(
-    arena: &NodeArena<K, V, PREFIX_LEN>,
-    beside: (NodePtr<PREFIX_LEN, LeafNode<K, V, PREFIX_LEN>>, End),
-) -> Option<NodePtr<PREFIX_LEN, LeafNode<K, V, PREFIX_LEN>>>
-    requires { HoldsLeaf arena.now (slab_key beside.0) }
-    ensures { (root whole : _) (side : Side) (key : List ℕ) →
-        IsAlone K.text arena.now root whole →
-        IsNextTo side key (leaves whole) beside.1 (leaf_pointer beside.0) →
-        IsLastBefore side key (leaves whole) (option_map leaf_pointer result) }
-{
-    each_leaf_of_a_list_is_knit::<K, V, PREFIX_LEN>();
-    entries_are_what_leaves_hold::<K, V, PREFIX_LEN>();
-    match beside.1 {
-        End::First => arena.as_ref(beside.0).previous(),
-        End::Last => Some(beside.0),
+    let (leaf, side_of_leaf) = beside;
+    match end {
+        End::First => match side_of_leaf {
+            End::First => Some(leaf),
+            End::Last => arena.as_ref(leaf).next(),
+        },
+        End::Last => match side_of_leaf {
+            End::First => arena.as_ref(leaf).previous(),
+            End::Last => Some(leaf),
+        },
     }
 }
 
@@ -63,7 +47,7 @@ pub(crate) fn nearest_leaf<K: AsBytes, V, const PREFIX_LEN: usize>(
     side: Side,
     key: &[u8],
     end: End,
-) -> Option<NodePtr<PREFIX_LEN, LeafNode<K, V, PREFIX_LEN>>>
+) -> Option<LeafPtr<K, V, PREFIX_LEN>>
     ensures { (root whole : _) → tree.now.root ≡ Some root →
         IsAlone K.text tree.now.arena root whole →
         IsNearest side key.now end (leaves whole) (option_map leaf_pointer result) }
@@ -71,10 +55,7 @@ pub(crate) fn nearest_leaf<K: AsBytes, V, const PREFIX_LEN: usize>(
     let root = tree.root()?;
     let arena = tree.arena();
     let beside = leaf_beside(arena, root, key, side);
-    match end {
-        End::First => leaf_after(arena, beside),
-        End::Last => leaf_before(arena, beside),
-    }
+    leaf_toward(arena, beside, end)
 }
 
 // The first entry after this side of the key, or the last before it.
@@ -87,7 +68,6 @@ fn nearest_entry<'a, K: AsBytes, V, const PREFIX_LEN: usize>(
     ensures { option_map (λ (key, value). (key.now, value.now)) result
         ≡ entry_nearest K.text side key.now end (entries_of K.text tree.now.arena) }
 {
-    leaves_hold_the_entries::<K, V, PREFIX_LEN>();
     let _root = tree.root()?;
     let leaf = nearest_leaf(tree, side, key, end)?;
     Some(tree.arena().as_key_value_ref(leaf))

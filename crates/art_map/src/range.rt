@@ -5,11 +5,10 @@ ghost use Rattle.art_tree.specs.Sides.{is_before};
 ghost use Rattle.art_map.specs.Nearest.{is_between};
 ghost use Rattle.art_map.specs.Runs.{run_of, IsRun};
 
-use crate::leaf_entries::leaves_hold_the_entries;
-use crate::nearest::{leaf_after, leaf_before};
+use crate::nearest::leaf_toward;
+use crate::run_ends::Ends;
 use art_bytes::AsBytes;
-use art_nodes::{LeafNode, NodePtr};
-use art_tree::{ArtTree, Side, leaves_beside};
+use art_tree::{ArtTree, End, Side, leaves_beside};
 
 /// Whether a text comes before this side of the key.
 pub(crate) fn is_before(side: Side, key: &[u8], text: &[u8]) -> bool
@@ -31,23 +30,17 @@ pub(crate) fn ends_between<K: AsBytes, V, const PREFIX_LEN: usize>(
     start: &[u8],
     end_side: Side,
     end: &[u8],
-) -> Option<
-    (
-        NodePtr<PREFIX_LEN, LeafNode<K, V, PREFIX_LEN>>,
-        NodePtr<PREFIX_LEN, LeafNode<K, V, PREFIX_LEN>>,
-    ),
->
+) -> Option<Ends<K, V, PREFIX_LEN>>
     ensures run { IsRun tree.now.arena result }
     ensures entries { run_of tree.now.arena result ≡ filter
         (λ entry. is_between start_side start.now end_side end.now (K.text entry.0))
         (entries_of K.text tree.now.arena) }
 {
-    leaves_hold_the_entries::<K, V, PREFIX_LEN>();
     let root = tree.root()?;
     let arena = tree.arena();
     let (from, to) = leaves_beside(arena, root, start, start_side, end, end_side);
-    let first = leaf_after(arena, from)?;
-    let last = leaf_before(arena, to)?;
+    let first = leaf_toward(arena, from, End::First)?;
+    let last = leaf_toward(arena, to, End::Last)?;
     let text = arena.as_ref(first).key_ref().as_bytes();
     if is_before(end_side, end, text) {
         Some((first, last))

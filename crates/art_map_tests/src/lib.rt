@@ -1,9 +1,7 @@
-//! Tests of maps, which use public names alone, as another crate does.
+//! Proved callers of maps and sets, which use public names alone, as another crate does.
 //!
-//! The rules for tests that `art_node_tests` states hold here too. `map_examples` shows how a crate
-//! uses `art_map`. `scripts/map_tables` makes the tables of ranges and prefixes and the random calls, by
-//! Python's `bisect` over a sorted list.
+//! What `art_node_tests` says of its callers and tests holds here too. `map_examples` shows how a
+//! crate uses `art_map`.
 #![tactic(auto)]
 
-#[cfg(test)]
 mod map;

@@ -19,7 +19,7 @@ use std::cmp::Ordering;
 /// A leaf: a key, a value, and links to the leaves before and after it in a list. A link is a slab
 /// key.
 ///
-/// (from crates/art_node_tests/src/nodes/leaf_node.rt)
+/// (from tests/art_node_tests/nodes/leaf_node.rt.txt)
 /// ```rust
 /// type Texts = LeafNode<String, String, 16>;
 /// // ..

@@ -12,7 +12,7 @@ pub(crate) mod packed;
 
 /// A pointer to a node of the type `N`: the slab key of the node.
 ///
-/// (from crates/art_node_tests/src/nodes/pointers.rt)
+/// (from tests/art_node_tests/nodes/pointers.rt.txt)
 /// ```rust
 /// let four = NodePtr::<16, InnerNode4<u8, u8, 16>>::from_key(5);
 /// assert!(rt; four.to_opaque() != leaf(5));
@@ -28,7 +28,7 @@ pub struct NodePtr<const PREFIX_LEN: usize, N> {
 
 /// A pointer to a node of any kind: its kind and its slab key.
 ///
-/// (from crates/art_node_tests/src/nodes/pointers.rt)
+/// (from tests/art_node_tests/nodes/pointers.rt.txt)
 /// ```rust
 /// assert!(rt; leaf::<16>(6).node_type() == NodeType::Leaf);
 /// assert!(rt; leaf::<16>(6).cast::<InnerNode4<u8, u8, 16>>().is_none());

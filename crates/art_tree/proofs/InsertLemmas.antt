@@ -10,3 +10,4 @@ pub mod EntryLemmas
 pub mod NeededNodes
 pub mod NeededChild
 pub mod NeededFork
+pub mod PlacedEntries

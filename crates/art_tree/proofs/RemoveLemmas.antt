@@ -7,6 +7,6 @@ pub mod ShrunkNode
 pub mod MergedNode
 pub mod RemovalLemmas
 pub mod NeededNodes
-pub mod EndPlaces
 pub mod EndWays
-pub mod HeldLeaves
+pub mod FoundLeaves
+pub mod TakenEntries

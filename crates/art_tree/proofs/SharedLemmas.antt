@@ -1,8 +1,8 @@
-pub mod SameEntries
 pub mod SameKinds
 pub mod BranchLemmas
 pub mod ChildLemmas
 pub mod HeldNodes
+pub mod HeldParts
 pub mod NodeKinds
 pub mod PlacedNodes
 pub mod SpelledLists
@@ -29,3 +29,4 @@ pub mod NodeBounds
 pub mod OneLeafLess
 pub mod HeldCounts
 pub mod RoomLasts
+pub mod TreeLaws

@@ -1,8 +1,17 @@
 -- Removal: the place of the leaf in its tree. No public clause cites it.
-use Rattle.std.specs.Prelude.{◌≡◌, ℕ, List, [], ◌∷◌, ◌++◌, Option}
+use Rattle.std.specs.Prelude.{◌≡◌, ◌≢◌, ◌≤◌, ℕ, List, [], ◌∷◌, ◌++◌, Option}
+use Rattle.art_header.specs.declared.node_type.NodeType.{NodeType}
+use Rattle.art_header.specs.declared.node_type.NodeType.TheVariants as kinds
+use Rattle.art_nodes.specs.Leaf.{leaf_key, leaf_value}
+use Rattle.art_nodes.specs.Pointers.{opaque_key}
+use Rattle.art_nodes.specs.declared.leaf_node.LeafNode.{LeafNode}
 use Rattle.art_nodes.specs.declared.pointers.OpaqueNodePtr.{OpaqueNodePtr}
+use Rattle.art_arena.specs.Arena.{NodeArena, HeldLeaf, Nothing, held, room}
+use Rattle.art_arena.specs.Links.{Spells}
 use Rattle.art_arena.specs.Trees.{Tree, Leaf, Inner, Branches, Branch}
 use Rattle.art_tree.specs.Contexts.{Context, Whole, Under, plug, join}
+use Rattle.art_tree.specs.Edits.{StaysAt}
+use Rattle.art_tree.specs.Nodes.{FreesOne}
 use Rattle.art_tree.specs.Paths.{Steps, path_of}
 use Rattle.art_tree.specs.Places.{above}
 use Rattle.art_tree.specs.declared.path.TreePath.{TreePath}
@@ -20,9 +29,10 @@ pub record HasLeafAt {H : Type 0} (tree : Tree H) (steps : List (H × ℕ)) (poi
   pub whole : plug context (Leaf pointer text) ≡ tree
   pub same : steps_to context ≡ steps
 
--- the leaf is at the end of this path in the tree
-abbrev pub IsAtPath : {K V : Type 0} {P : ℕ} → Tree (OpaqueNodePtr K V P) → OpaqueNodePtr K V P → TreePath K V P → Type 0
-IsAtPath {K = K} {V = V} {P = P} tree pointer path = (steps : Steps K V P) × HasLeafAt tree steps pointer × (path ≡ path_of steps)
+-- the leaf with this text is at the end of this path in the tree
+abbrev pub IsAtPath : {K V : Type 0} {P : ℕ} → Tree (OpaqueNodePtr K V P) → OpaqueNodePtr K V P → TreePath K V P → List ℕ → Type 0
+IsAtPath {K = K} {V = V} {P = P} tree pointer path x =
+    (steps : Steps K V P) × (leaf : HasLeafAt tree steps pointer) × (leaf.text ≡ x) × (path ≡ path_of steps)
 
 -- the leaf is the child of its parent under this byte, and the parent that of its parent under this
 -- one, if it is not the root
@@ -38,3 +48,14 @@ pub record HangsUnder {H : Type 0} (tree : Tree H) (pointer parent : H) (byte : 
 -- the leaf is at this spot of the tree
 abbrev pub IsLeafSpot : {K V : Type 0} {P : ℕ} → Tree (OpaqueNodePtr K V P) → OpaqueNodePtr K V P → LeafSpot K V P → Type 0
 IsLeafSpot tree pointer spot = HangsUnder tree pointer spot.parent spot.byte spot.above
+
+module _ {K V : Type 0} {P : ℕ} where
+  -- a leaf that held this entry is gone, from the arena and from each list of leaves; all else stays, and
+  -- only the kind of leaves has more room
+  pub record IsTaken (old new : NodeArena K V P) (leaf : OpaqueNodePtr K V P) (was : K × V) : Type 0 where
+    pub entry : (node : LeafNode K V P) → held old leaf ≡ HeldLeaf node → was ≡ (leaf_key node, leaf_value node)
+    pub gone : held new leaf ≡ Nothing
+    pub spelled : (left right : List ℕ) → Spells old (left ++ opaque_key leaf ∷ right) → Spells new (left ++ right)
+    pub others : (pointer : OpaqueNodePtr K V P) → pointer ≢ leaf → StaysAt old new pointer
+    pub room : (kind : NodeType) → room old kind ≤ room new kind
+    pub frees : FreesOne old new kinds.Leaf

@@ -5,7 +5,10 @@ pub mod Dictionary
 pub mod Paths
 pub mod Search
 pub mod Ends
+pub mod Entering
+pub mod Finding
 pub mod LeafRemoval
+pub mod LeafOrder
 pub mod Leaves
 pub mod Loading
 pub mod NodeCounts

@@ -1,11 +1,11 @@
 -- Removal: its refusals and its results.
-use Rattle.std.specs.Prelude.{◌≡◌, ◌⊎◌, ℕ, List, Contains, Some, None, length, Result, IfOk, OnErr}
+use Rattle.std.specs.Prelude.{◌≡◌, ◌⊎◌, ℕ, List, Contains, Option, Some, None, length, Result, IfOk, OnErr}
 use Rattle.art_header.specs.declared.node_type.NodeType.{NodeType}
 use Rattle.art_nodes.specs.Inner.{Inner}
 use Rattle.art_nodes.specs.Leaf.{leaf_key}
 use Rattle.art_nodes.specs.declared.pointers.OpaqueNodePtr.{OpaqueNodePtr}
 use Rattle.art_nodes.specs.declared.leaf_node.LeafNode.{LeafNode}
-use Rattle.art_arena.specs.Arena.{NodeArena, HeldInner, HeldLeaf, held, SameNodes}
+use Rattle.art_arena.specs.Arena.{NodeArena, HeldInner, HeldLeaf, held, SameCapacity, SameNodes}
 use Rattle.art_tree.specs.Art.{IsArt}
 use Rattle.art_tree.specs.Dictionary.{entry_at, SameOtherEntries}
 use Rattle.art_tree.specs.Leaves.{KeepsOtherLeaves}
@@ -32,15 +32,21 @@ module _ {K V : Type 0} {P : ℕ} (text : K → List ℕ) where
     pub others : SameOtherEntries text old new x
     pub leaves : KeepsOtherLeaves text old new x
 
-  -- a tree stands at this root that has all entries but that of the text, which is this one
-  pub record IsRemoved (old new : NodeArena K V P) (x : List ℕ) (root : OpaqueNodePtr K V P) (entry : K × V) : Type 0 where
-    pub art : IsArt text new (Some root)
+  -- the tree at this root, if there is one, has all entries but that of the text, which was this one
+  pub record IsRemoved (old new : NodeArena K V P) (x : List ℕ) (root : Option (OpaqueNodePtr K V P)) (entry : K × V) : Type 0 where
+    pub art : IsArt text new root
     pub left : IsLeft old new x
     pub was : entry_at text old x ≡ Some entry
 
-  -- the entry of a text is removed below this root, and returned with the root; or nothing changes,
-  -- where a parent needs a smaller node and its kind has no room
-  pub record RemovesEntry {E : Type 0} (old new : NodeArena K V P) (root : OpaqueNodePtr K V P) (x : List ℕ) (result : Result (OpaqueNodePtr K V P × (K × V)) E) : Type 0 where
+  -- the same, and no memory is taken
+  pub record RemovesFreely (old new : NodeArena K V P) (x : List ℕ) (removed : Option (OpaqueNodePtr K V P) × (K × V)) : Type 0 where
+    pub is_removed : IsRemoved old new x removed.0 removed.1
+    pub frees : FreesOneEach old new
+    pub capacity : SameCapacity old new
+
+  -- the entry of a text is removed below this root, and returned with the root that is left; or nothing
+  -- changes, where a parent needs a smaller node and its kind has no room
+  pub record RemovesEntry {E : Type 0} (old new : NodeArena K V P) (root : OpaqueNodePtr K V P) (x : List ℕ) (result : Result (Option (OpaqueNodePtr K V P) × (K × V)) E) : Type 0 where
     pub removed : IfOk result (λ (root, entry). IsRemoved old new x root entry)
     pub refused : OnErr result (NeedsSmallerNode old x)
     pub nodes_kept : OnErr result (SameNodes old new)

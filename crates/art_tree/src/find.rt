@@ -6,7 +6,6 @@ ghost use Rattle.art_tree.specs.Descent.{LeadsOn, LeadsNowhere, LeadsOnFrom, Lea
 ghost use Rattle.art_tree.specs.Paths.{Steps};
 ghost use Rattle.art_tree.specs.Search.{HasTree, EachTree, scan, found, met, IsWay, IsPathTo, LeadsTo, leaf_pointer};
 
-use crate::laws::each_pointer_is_at_one_place;
 use crate::path::{TreePath, TreePathSearch};
 use art_arena::{ArenaReader, NodeRef};
 use art_bytes::AsBytes;
@@ -108,8 +107,6 @@ pub fn find_leaf<K: AsBytes, V, const PREFIX_LEN: usize>(
     ensures held { IfSome result (λ (leaf, path).
         held reader.new.arena (leaf_pointer leaf) ≢ Nothing) }
 {
-    // By this law there is no other path to the leaf.
-    each_pointer_is_at_one_place::<K, V, PREFIX_LEN>();
     let mut search = TreePathSearch::default();
     let mut at = root;
     let mut depth = 0;

@@ -1,5 +1,5 @@
-//! Laws of every tree: those of `art_arena`, and those of a tree that changes. The functions do no
-//! work: the contract of each is a law.
+//! Laws of every tree: those of `art_arena`, and those of a tree that changes; and of keys made of
+//! values: those of `art_mapped`. The functions do no work: the contract of each is a law.
 //!
 //! A context is a tree with one subtree left out. With a subtree in that place it is a tree.
 ghost use Rattle.std.specs.Prelude.{◌≡◌, ◌↔◌, ◌≤◌, ℕ, ◌+◌, ◌++◌, [], List, All, Contains, Some, None, length, map};
@@ -32,6 +32,11 @@ pub use art_arena::laws::{
     trees_stand_where_texts_are_kept, trees_stand_where_their_nodes_are_kept,
 };
 use art_bytes::{AsBytes, NoPrefixesBytes};
+pub use art_mapped::laws::{
+    any_bytes_are_a_value, bytes_of_arrays_and_vectors, bytes_of_escaped_strings,
+    bytes_of_non_zero_signed_integers, bytes_of_non_zero_unsigned_integers, bytes_of_tuples,
+    parts_have_their_widths,
+};
 use art_nodes::OpaqueNodePtr;
 
 /// Two trees that are sound under one path and have the same keys are the same but for their
@@ -40,10 +45,7 @@ use art_nodes::OpaqueNodePtr;
 pub fn the_same_texts_make_the_same_tree<H, L>()
     ensures { (path : List ℕ) (tree : Tree H) (other : Tree L) → IsSound path tree →
         IsSound path other → texts tree ≡ texts other → SameButPointers tree other }
-{
-    path_and_prefix_are_shared::<H>();
-    path_and_prefix_are_shared::<L>();
-}
+{}
 
 /// Well-formed trees with the same texts have as many nodes of each kind. So the nodes that a change
 /// of a tree needs follow from the texts before and after it.
@@ -52,11 +54,7 @@ pub fn the_same_texts_have_the_same_nodes<H, L>()
         IsWellFormed other →
         ((text : List ℕ) → Contains (texts tree) text ↔ Contains (texts other) text) →
         nodes_of kind tree ≡ nodes_of kind other }
-{
-    texts_ascend::<H>();
-    texts_ascend::<L>();
-    the_same_texts_make_the_same_tree::<H, L>();
-}
+{}
 
 /// The tree that `load` makes has the key bytes of its entries, in their order.
 pub fn a_loaded_tree_has_the_texts_of_its_entries<K: AsBytes, V, const PREFIX_LEN: usize>()
@@ -70,9 +68,7 @@ pub fn the_nodes_that_a_key_meets_are_distinct<K: AsBytes, V, const PREFIX_LEN: 
     ensures { (arena : NodeArena K V PREFIX_LEN) (path : List ℕ) (tree : _) (room : ℕ)
         (key : List ℕ) → StandsIn K.text arena tree → IsSound path tree →
         AreDistinct (met room tree key) }
-{
-    each_pointer_is_at_one_place::<K, V, PREFIX_LEN>();
-}
+{}
 
 /// Two trees that are the same but for their pointers, each with the smallest kinds in its arena,
 /// are of the same kinds node for node. So a tree made by inserts and removals is, but for its
@@ -104,9 +100,7 @@ pub fn a_subtree_may_be_exchanged<K: AsBytes, V, const PREFIX_LEN: usize>()
     ensures stands { (old new : NodeArena K V PREFIX_LEN) (path : List ℕ) (context : _) (part now : _) →
         IsSound path (plug context part) → IsExchanged old new K.text context part now →
         StandsIn K.text new (plug context now) }
-{
-    each_pointer_is_at_one_place::<K, V, PREFIX_LEN>();
-}
+{}
 
 /// Keys of a type of which none is a proper prefix of another never clash, so one tree holds them
 /// all: no insert refuses one of them with `Prefix`.
@@ -139,9 +133,7 @@ pub fn entries_are_what_leaves_hold<K: AsBytes, V, const PREFIX_LEN: usize>()
         IsAlone K.text arena root tree → (pointer : _) (text : _) (leaf : _) →
         Contains (leaves tree) (pointer, text) → held arena pointer ≡ HeldLeaf leaf →
         entry_at K.text arena text ≡ Some (leaf_key leaf, leaf_value leaf) }
-{
-    no_text_begins_another::<OpaqueNodePtr<K, V, PREFIX_LEN>>();
-}
+{}
 
 /// Two trees with their arenas that have entries for the same key bytes are the same but for their
 /// pointers, kinds included, whichever calls made them. So each is the tree that `load` makes of
@@ -151,15 +143,7 @@ pub fn the_same_entries_make_the_same_tree<K: AsBytes, V, const PREFIX_LEN: usiz
         IsAlone K.text arena root tree → IsAlone K.text other_arena other_root other →
         ((text : List ℕ) → HasEntry K.text arena text ↔ HasEntry K.text other_arena text) →
         SameButPointers tree other × (map node_kind (places tree) ≡ map node_kind (places other)) }
-{
-    texts_ascend::<OpaqueNodePtr<K, V, PREFIX_LEN>>();
-    the_same_texts_make_the_same_tree::<
-        OpaqueNodePtr<K, V, PREFIX_LEN>,
-        OpaqueNodePtr<K, V, PREFIX_LEN>,
-    >();
-    the_same_tree_has_the_same_kinds::<K, V, PREFIX_LEN>();
-    entries_are_what_leaves_hold::<K, V, PREFIX_LEN>();
-}
+{}
 
 /// The entries of an arena are one list, ascending by key bytes. An entry is one of them exactly
 /// where its key bytes have it. No other list has all entries in that order.
@@ -201,10 +185,7 @@ pub fn entries_are_as_many_as_leaves<K: AsBytes, V, const PREFIX_LEN: usize>()
         length (entries_of K.text arena) ≡ leaf_count arena }
     ensures spelled { (arena : NodeArena K V PREFIX_LEN) (keys : List ℕ) → Spells arena keys →
         length keys ≤ leaf_count arena }
-{
-    no_text_begins_another::<OpaqueNodePtr<K, V, PREFIX_LEN>>();
-    texts_ascend::<OpaqueNodePtr<K, V, PREFIX_LEN>>();
-}
+{}
 
 /// Room for so many inserts and removals suffices for the next one of them, and after it there is room
 /// for one fewer: where none takes memory, whatever their keys.
@@ -230,11 +211,4 @@ pub fn room_lasts<K: AsBytes, V, const PREFIX_LEN: usize>()
         HasRoomFor arena count }
     ensures same_count { (old new : NodeArena K V PREFIX_LEN) (root : _) → IsArt K.text old root →
         SameNodes old new → leaf_count new ≡ leaf_count old }
-{
-    no_text_begins_another::<OpaqueNodePtr<K, V, PREFIX_LEN>>();
-    each_pointer_is_at_one_place::<K, V, PREFIX_LEN>();
-    the_same_texts_have_the_same_nodes::<
-        OpaqueNodePtr<K, V, PREFIX_LEN>,
-        OpaqueNodePtr<K, V, PREFIX_LEN>,
-    >();
-}
+{}

@@ -1,8 +1,8 @@
 //! Adaptive radix trees over an arena of nodes: load, search, and [`ArtTree`], a tree with its
 //! arena as one value, with inserts and removals.
 //!
-//! The crate re-exports every public name of the crates below it but the laws of `art_mapped`, so a
-//! crate that uses trees lists this one alone.
+//! The crate re-exports every public name of the crates below it, so a crate that uses trees lists
+//! this one alone.
 #![tactic(auto)]
 
 mod faults;
@@ -29,6 +29,7 @@ pub use art_mapped::{
     FixedBytes, Holds, Identity, InPlaceMapping, InjectiveMapping, IntegerForm, Mapped, MappedOver,
     NoPrefixesMapping, Octets, OrderedMapping, OrderedTuple, Several, Signed, Single, ToBigEndian,
     ToIBE, ToOctets, ToUBE, TupleMappings, TupleValues, Unsigned, ValueTexts, escaped_prefix,
+    orders,
 };
 pub use art_nodes::{
     AttemptOptimisticPrefixMatch, BuilderState, ChildCommand, ChildIter, ChildNode, ChildPairs,

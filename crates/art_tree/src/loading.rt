@@ -12,6 +12,7 @@ ghost use Rattle.art_tree.specs.Loading.{IsLoaded};
 mod check;
 mod keys;
 mod leaves;
+mod ordering;
 mod raise;
 mod reloading;
 mod steps;
@@ -25,12 +26,13 @@ use art_arena::NodeArena;
 use art_bytes::AsBytes;
 use art_nodes::{LeafNode, NodePtr, NodeType, OpaqueNodePtr};
 pub use check::LoadRefusal;
+pub(crate) use ordering::order;
 pub(crate) use reloading::reload;
 use std::alloc::{AllocError, Global};
 
 /// A refused load: why, and the entries, unchanged. They can be loaded again:
 ///
-/// (from crates/art_tree_tests/src/tree/refusals.rt)
+/// (from tests/art_tree_tests/tree/refusals.rt.txt)
 /// ```rust
 /// let fault = match ArtTree::load(alloc, entries) {
 ///     Ok(tree) => return Ok(tree),

@@ -3,6 +3,7 @@ ghost use Rattle.std.specs.Prelude.{◌≡◌, ◌↔◌, [], ◌∷◌, ◌++�
 ghost use Rattle.art_tree.specs.Paths.{Steps, path_of, HasVisited};
 
 use art_nodes::OpaqueNodePtr;
+use std::marker::Model;
 
 /// Where a leaf is in its tree: its parent and its grandparent, if it has them, each with the byte
 /// that was taken from it.
@@ -54,7 +55,7 @@ enum Visited {
 
 /// Remembers the last two inner nodes that a search visits, each with the byte taken from it.
 ///
-/// (from crates/art_tree_tests/src/tree/path.rt)
+/// (from tests/art_tree_tests/tree/path.rt.txt)
 /// ```rust
 /// let mut visits = TreePathSearch::default();
 /// visits.visit_inner_node(node(1), 97);
@@ -74,6 +75,17 @@ pub struct TreePathSearch<K, V, const PREFIX_LEN: usize> {
     parent_key_byte: u8,
     parent: OpaqueNodePtr<K, V, PREFIX_LEN>,
     child_key_byte: u8,
+}
+
+/// Contracts see the path that a search would return if it finished.
+impl<K, V, const PREFIX_LEN: usize> Model for TreePathSearch<K, V, PREFIX_LEN> {
+    ghost use Rattle.art_tree.specs.Paths.{finished_with};
+    ghost use Rattle.art_tree.specs.declared.path.TreePath.{TreePath};
+
+    ghost Value = { TreePath K V PREFIX_LEN };
+
+    ghost view = { λ a.
+        finished_with a.visited a.grandparent a.parent_key_byte a.parent a.child_key_byte };
 }
 
 /// A search that has visited no node.

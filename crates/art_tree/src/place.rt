@@ -577,7 +577,7 @@ fn leaf_beside_place<K: AsBytes, V, const PREFIX_LEN: usize>(
 /// In a tree with the keys `abc1`, `abc2` and `b`, whose values are 0, 1 and 2, `(0, End::First)` is
 /// `expected` right before `ab`, and `(1, End::Last)` right after all that begins with it:
 ///
-/// (from crates/art_tree_tests/src/tree/searches.rt)
+/// (from tests/art_tree_tests/tree/searches.rt.txt)
 /// ```rust
 /// let (leaf, end) = leaf_beside(arena, root, key, side);
 /// assert!(rt; (*arena.as_value_ref(leaf), end) == expected);
@@ -603,7 +603,7 @@ pub fn leaf_beside<K: AsBytes, V, const PREFIX_LEN: usize>(
 /// In a tree with the keys `abc1`, `abc2` and `b`, whose values are 0, 1 and 2, `(0, End::First)` is
 /// `from` right before `ab`, and `(1, End::Last)` is `to` right after all that begins with it:
 ///
-/// (from crates/art_tree_tests/src/tree/searches.rt)
+/// (from tests/art_tree_tests/tree/searches.rt.txt)
 /// ```rust
 /// let ((leaf, end), last) = leaves_beside(arena, root, key, Side::Before, key, Side::AfterBegun);
 /// assert!(rt; (*arena.as_value_ref(leaf), end) == from);

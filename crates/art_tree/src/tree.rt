@@ -1,28 +1,21 @@
 //! A tree with its arena, as one value.
-ghost use Rattle.std.specs.Prelude.{◌≡◌, ◌≢◌, ℕ, List, All, Contains, Some, None, IfSome, IfNone, IfOk, IfErr, OnOk};
-ghost use Rattle.std.specs.declared.cmp.Ordering.TheVariants.{Less, Greater};
-ghost use Rattle.std.specs.Option.{option_copied, option_map};
-ghost use Rattle.art_bytes.specs.Text.{text_order};
+ghost use Rattle.std.specs.Prelude.{◌≡◌, None};
+ghost use Rattle.std.specs.declared.alloc.Global.{Global};
 ghost use Rattle.art_arena.specs.Arena.{room};
 ghost use Rattle.art_tree.specs.Art.{IsArt};
-ghost use Rattle.art_tree.specs.Dictionary.{entry_at, IsEntry, HasEntry, HasKeys, IsEmpty};
-ghost use Rattle.art_tree.specs.Ends.{IsWithin};
-ghost use Rattle.art_tree.specs.Refusals.{texts_of, HaveNoFault, IsDue};
+ghost use Rattle.art_tree.specs.Dictionary.{HasKeys, IsEmpty};
 
+mod all_entries;
 mod changes;
-mod compacting;
 mod ends;
-mod getting;
-mod lending;
+mod leaf_order;
 mod reading;
-mod removing_leaves;
-mod reserving;
+mod room;
 
-use crate::laws::{no_text_begins_another, texts_ascend};
-use crate::loading::{LoadFault, load};
-use art_arena::{End, NodeArena, end_leaf};
+use crate::path::TreePath;
+use art_arena::NodeArena;
 use art_bytes::AsBytes;
-use art_nodes::OpaqueNodePtr;
+use art_nodes::{LeafNode, NodePtr, OpaqueNodePtr};
 use std::alloc::Global;
 use std::marker::Model;
 
@@ -93,6 +86,12 @@ pub type ArtTree<K, V, const PREFIX_LEN: usize> = Rooted<
     OpaqueNodePtr<K, V, PREFIX_LEN>,
 >;
 
+// A leaf of a tree, and the path to it.
+type FoundLeaf<K, V, const PREFIX_LEN: usize> = (
+    NodePtr<PREFIX_LEN, LeafNode<K, V, PREFIX_LEN>>,
+    TreePath<K, V, PREFIX_LEN>,
+);
+
 impl<K: AsBytes, V, const PREFIX_LEN: usize> ArtTree<K, V, PREFIX_LEN> {
     /// A tree with no entries. Takes no memory.
     pub fn new(alloc: Global) -> Self
@@ -105,56 +104,6 @@ impl<K: AsBytes, V, const PREFIX_LEN: usize> ArtTree<K, V, PREFIX_LEN> {
             root: None,
             alloc,
         }
-    }
-
-    /// The value of the entry with these key bytes, or None where there is none. Costs one
-    /// [`find_leaf`](crate::find_leaf): at most one node visit more than the key has bytes. Takes no
-    /// memory.
-    pub fn get(&self, key: &[u8]) -> Option<&V>
-        ensures { option_copied result
-            ≡ option_map (λ entry. entry.1) (entry_at K.text self.now.arena key.now) }
-    {
-        let (_, value) = self.get_key_value(key)?;
-        Some(value)
-    }
-
-    /// Key and value of the entry with the least key bytes, or None where there is no entry. Visits
-    /// at most one inner node for each byte of that key. Takes no memory.
-    pub fn first(&self) -> Option<(&K, &V)>
-        ensures entry { IfSome result
-            (λ (key, value). IsEntry K.text self.now.arena (key.now, value.now)) }
-        ensures least { IfSome result (λ (key, value). (other : List ℕ) →
-            HasEntry K.text self.now.arena other → text_order (K.text key.now) other ≢ Greater) }
-        ensures none { IfNone result (IsEmpty K.text self.now.arena) }
-    {
-        self.end_entry(End::First)
-    }
-
-    /// Key and value of the entry with the greatest key bytes, or None where there is no entry.
-    /// Visits at most one inner node for each byte of that key. Takes no memory.
-    pub fn last(&self) -> Option<(&K, &V)>
-        ensures entry { IfSome result
-            (λ (key, value). IsEntry K.text self.now.arena (key.now, value.now)) }
-        ensures greatest { IfSome result (λ (key, value). (other : List ℕ) →
-            HasEntry K.text self.now.arena other → text_order (K.text key.now) other ≢ Less) }
-        ensures none { IfNone result (IsEmpty K.text self.now.arena) }
-    {
-        self.end_entry(End::Last)
-    }
-
-    // The entry at one end.
-    fn end_entry(&self, end: End) -> Option<(&K, &V)>
-        ensures entry { IfSome result
-            (λ (key, value). IsEntry K.text self.now.arena (key.now, value.now)) }
-        ensures at_end { IfSome result (λ (key, value). (other : List ℕ) →
-            HasEntry K.text self.now.arena other → IsWithin end (K.text key.now) other) }
-        ensures none { IfNone result (IsEmpty K.text self.now.arena) }
-    {
-        no_text_begins_another::<OpaqueNodePtr<K, V, PREFIX_LEN>>();
-        texts_ascend::<OpaqueNodePtr<K, V, PREFIX_LEN>>();
-        let root = self.root?;
-        let leaf = end_leaf(&self.arena, root, end);
-        Some(self.arena.as_key_value_ref(leaf))
     }
 
     /// The arena of the nodes.
@@ -174,8 +123,10 @@ impl<K: AsBytes, V, const PREFIX_LEN: usize> ArtTree<K, V, PREFIX_LEN> {
         self.root
     }
 
-    /// The allocator of the nodes.
-    pub fn alloc(&self) -> Global {
+    /// The allocator of the nodes: the one value of its type.
+    pub fn alloc(&self) -> Global
+        ensures { (other : Global) → result ≡ other }
+    {
         self.alloc
     }
 
@@ -189,36 +140,5 @@ impl<K: AsBytes, V, const PREFIX_LEN: usize> ArtTree<K, V, PREFIX_LEN> {
             alloc: _,
         } = self;
         arena
-    }
-}
-
-impl<K: AsBytes + Drop, V: Drop, const PREFIX_LEN: usize> ArtTree<K, V, PREFIX_LEN> {
-    /// Makes a tree of these entries, whose keys must ascend and of which none may be a prefix of
-    /// another.
-    ///
-    /// The refusals are those of [`load`]: no entries, a key of 2^32 bytes or more, keys that do
-    /// not ascend, a key that is a proper prefix of the next one, and out of memory. A refusal
-    /// returns the entries in their order.
-    ///
-    /// Takes time linear in the key bytes of all entries together.
-    pub fn load(alloc: Global, entries: Vec<(K, V)>) -> Result<Self, LoadFault<K, V>>
-        ensures entries { IfOk result (λ tree. All (IsEntry K.text tree.arena) entries.items) }
-        ensures no_others { IfOk result (λ tree. (key : List ℕ) →
-            HasEntry K.text tree.arena key → Contains (texts_of K.text entries.items) key) }
-        ensures no_fault { OnOk result (HaveNoFault (texts_of K.text entries.items)) }
-        ensures refusal_due { IfErr result
-            (λ fault. IsDue (texts_of K.text entries.items) fault.refusal) }
-        ensures entries_back { IfErr result (λ fault. fault.entries ≡ entries) }
-    {
-        no_text_begins_another::<OpaqueNodePtr<K, V, PREFIX_LEN>>();
-        let mut arena = NodeArena::new(alloc);
-        match load(alloc, &mut arena, entries) {
-            Ok(root) => Ok(Rooted {
-                arena,
-                root: Some(root),
-                alloc,
-            }),
-            Err(fault) => Err(fault),
-        }
     }
 }

@@ -1,23 +1,16 @@
-//! Tests of trees that are made by `load` and by inserts and removals.
+//! Callers of trees that are made by `load` and by inserts and removals.
 mod branches;
 mod changes;
-mod loading;
-mod matches;
-mod path;
 mod reading;
-mod readme_examples;
-mod refusals;
 mod reserving;
-mod searches;
 mod tree_examples;
 
 ghost use Rattle.std.specs.Prelude.{IfOk};
 ghost use Rattle.art_tree.specs.Search.{HasTree};
 
 use art_tree::{
-    ArenaReader, ArtTree, AsBytes, CStringKey, ConcatTuple, InnerNodeCommon, InnerNodeRead,
-    LoadRefusal, Mapped, NodeArena, NodeRef, NodeType, OpaqueNodePtr, SliceKey, ToIBE, ToOctets,
-    TreePath, find_leaf, laws, load,
+    ArenaReader, ArtTree, AsBytes, InnerNodeCommon, InnerNodeRead, NodeArena, NodeType,
+    OpaqueNodePtr, SliceKey, find_leaf, laws, load,
 };
 use std::alloc::{AllocError, Global};
 use std::process::Abort;
@@ -39,20 +32,6 @@ fn slice_keys<'a>(alloc: Global, texts: &[&'a [u8]]) -> Result<Vec<SliceKey<'a>>
         keys.push(SliceKey::new(text))?;
     }
     Ok(keys)
-}
-
-// The kind of a node, and how many children it has.
-fn shape<K, V, const PREFIX_LEN: usize>(
-    rt: &impl Abort,
-    arena: &NodeArena<K, V, PREFIX_LEN>,
-    pointer: OpaqueNodePtr<K, V, PREFIX_LEN>,
-) -> (NodeType, usize) {
-    assert!(rt; arena.holds_opaque(pointer));
-    let header = arena.header(pointer);
-    (
-        pointer.node_type(),
-        header.map_or(0, |header| header.num_children()),
-    )
 }
 
 // Loads the keys with their numbers as values. Each tree that stands still stands.

@@ -12,7 +12,7 @@ pub(crate) enum Mode {
     Check,
     /// The same, and prints how long they took.
     Time,
-    /// Compacts the tree, and times the calls that visit entries in order.
+    /// Compacts the tree, and times the other calls.
     TimeCompacted,
     /// Holds the entries in a tree.
     HoldTree,
@@ -58,7 +58,7 @@ pub(crate) fn run_calls<K: Key>(
     match mode {
         Mode::Check => compare_all(rt, false, shape, (tree, map), entries, misses),
         Mode::Time => compare_all(rt, true, shape, (tree, map), entries, misses),
-        Mode::TimeCompacted => compare_compacted(rt, shape, (tree, map), entries),
+        Mode::TimeCompacted => compare_compacted(rt, shape, (tree, map), entries, misses),
         Mode::HoldTree => hold(rt, insert_all(tree, entries)),
         Mode::HoldCompacted => hold(rt, insert_and_compact(tree, entries)),
         Mode::HoldMap => hold(rt, insert_all(map, entries)),
@@ -76,6 +76,32 @@ fn compare_all<K: Key>(
     misses: &[K],
 ) -> io::Result<()> {
     compare(rt, is_timed, shape, Call::Insert, (tree, map), entries)?;
+    compare_full(rt, is_timed, shape, (tree, map), entries, misses)
+}
+
+// Runs the calls but inserts, each on a compacted tree and on the map.
+fn compare_compacted<K: Key>(
+    rt: &HostRuntime,
+    shape: &str,
+    (tree, map): (&mut Tree<K>, &mut Map<K>),
+    entries: &mut [K],
+    misses: &[K],
+) -> io::Result<()> {
+    if insert_and_compact(tree, entries) != insert_all(map, entries) {
+        return Err(io::Error::from(io::ErrorKind::InvalidData));
+    }
+    compare_full(rt, true, shape, (tree, map), entries, misses)
+}
+
+// Runs the calls on the tree and the map that have the entries, and removes these.
+fn compare_full<K: Key>(
+    rt: &HostRuntime,
+    is_timed: bool,
+    shape: &str,
+    (tree, map): (&mut Tree<K>, &mut Map<K>),
+    entries: &mut [K],
+    misses: &[K],
+) -> io::Result<()> {
     shuffle(entries, 3);
     compare(rt, is_timed, shape, Call::Get, (tree, map), entries)?;
     compare(rt, is_timed, shape, Call::Miss, (tree, map), misses)?;
@@ -86,23 +112,6 @@ fn compare_all<K: Key>(
     compare(rt, is_timed, shape, prefix, (tree, map), some)?;
     shuffle(entries, 4);
     compare(rt, is_timed, shape, Call::Remove, (tree, map), entries)
-}
-
-// Runs the calls that visit entries in order, each on a compacted tree and on the map.
-fn compare_compacted<K: Key>(
-    rt: &HostRuntime,
-    shape: &str,
-    (tree, map): (&mut Tree<K>, &mut Map<K>),
-    entries: &[K],
-) -> io::Result<()> {
-    if insert_and_compact(tree, entries) != insert_all(map, entries) {
-        return Err(io::Error::from(io::ErrorKind::InvalidData));
-    }
-    compare(rt, true, shape, Call::Iterate, (tree, map), entries)?;
-    let (some, _) = entries.split_at(entries.len() / RANGE);
-    compare(rt, true, shape, Call::Range, (tree, map), some)?;
-    let prefix = Call::Prefix(prefix_length(shape));
-    compare(rt, true, shape, prefix, (tree, map), some)
 }
 
 // Runs the calls on the tree and then on the map, and prints a line. Fails where they differ.

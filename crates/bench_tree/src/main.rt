@@ -1,11 +1,11 @@
-//! The program `bench_tree`: `ArtMap` beside `BTreeMap` of std on the same calls. `bench/tree` runs
-//! it.
+//! The program `bench_tree`: `ArtMap` beside `BTreeMap` of std on the same calls. `bench/run tree`
+//! runs it.
 //!
 //! - `check N`: the calls for each shape of keys, with N entries; prints how many keys each call
 //!   found.
 //! - `time SHAPE N`: the same for one shape, with the nanoseconds of the processor that the calls on
 //!   the tree took, and those on the map.
-//! - `compacted SHAPE N`: the same of the calls that visit entries in order, on a compacted tree.
+//! - `compacted SHAPE N`: the same of all calls but inserts, on a compacted tree.
 //! - `hold SHAPE N tree`, `compacted`, `map` or `nothing`: inserts the entries into the tree alone,
 //!   which may be compacted, the map alone or neither, prints a line, and waits for the end of the
 //!   input, so that its memory can be read.
@@ -85,15 +85,16 @@ fn run_addresses(
     run_calls(rt, mode, shape, both, keys)
 }
 
-fn run_words(
+fn run_words<'a>(
     rt: &HostRuntime,
     mode: Mode,
     shape: &str,
-    keys: &mut [SliceKey<'_>],
+    keys: &mut [SliceKey<'a>],
 ) -> io::Result<()> {
     let alloc = rt.alloc();
-    let both = (&mut Tree::new(alloc), &mut Map::new(alloc));
-    run_calls(rt, mode, shape, both, keys)
+    let mut tree: Box<Tree<SliceKey<'a>>> = Box::new(alloc, Tree::new(alloc))?;
+    let mut map = Map::new(alloc);
+    run_calls(rt, mode, shape, (&mut *tree, &mut map), keys)
 }
 
 fn word_at(words: &[String], index: usize) -> &str {

@@ -1,9 +1,11 @@
 //! Messages on standard error.
-ghost use Rattle.std.specs.Prelude.{◌≡◌, ◌≢◌, [], ◌++◌, ◌⊎◌, OnOk, IfSome, take};
+ghost use Rattle.std.specs.Prelude.{◌≡◌, ◌≢◌, ◌<◌, [], ◌++◌, ◌⊎◌, OnOk, IfSome, take};
+ghost use Rattle.std.specs.Char.{digit_char};
 ghost use Rattle.std.specs.Fmt.{decimal};
+ghost use Rattle.std.specs.List.{flat_map};
 ghost use Rattle.program_lines.specs.Faults.{shown_fault};
 ghost use Rattle.program_lines.specs.Lines.{lines_of, line_at};
-ghost use Rattle.program_lines.specs.Messages.{message};
+ghost use Rattle.program_lines.specs.Messages.{message, shown_byte};
 ghost use Rattle.program_lines.specs.Programs.{AppendsBeginning};
 
 use crate::failure::BadLine;
@@ -29,7 +31,7 @@ pub struct Names<'a> {
 const SHOWN: usize = 80;
 
 /// Appends the message on a line at fault: the program, where the line is read, its number, its fault,
-/// and its first 80 bytes.
+/// and its first 80 bytes, of which control bytes are escaped.
 pub(crate) fn push_message<F: Display + Copy>(
     alloc: Global,
     program: &str,
@@ -51,7 +53,7 @@ pub(crate) fn push_message<F: Display + Copy>(
     output.extend_from_slice(b": ")?;
     push_shown(alloc, fault, output)?;
     output.extend_from_slice(b": ")?;
-    output.extend_from_slice(first_bytes(line))?;
+    push_escaped(first_bytes(line), output)?;
     output.push(b'\n')?;
     Ok(())
 }
@@ -84,6 +86,40 @@ fn first_bytes(line: &[u8]) -> &[u8]
     ensures { result.now ≡ take 80 line.now }
 {
     &line[..SHOWN.min(line.len())]
+}
+
+// Appends the bytes, control bytes escaped: a terminal would obey them.
+fn push_escaped(bytes: &[u8], output: &mut Vec<u8>) -> Result<(), AllocError>
+    ensures { OnOk result (output.new.items ≡ output.old.items ++ flat_map shown_byte bytes.now) }
+{
+    for byte in bytes {
+        push_shown_byte(*byte, output)?;
+    }
+    Ok(())
+}
+
+// Appends a byte, escaped where it is a control byte.
+fn push_shown_byte(byte: u8, output: &mut Vec<u8>) -> Result<(), AllocError>
+    ensures { OnOk result (output.new.items ≡ output.old.items ++ shown_byte byte) }
+{
+    if byte.is_ascii_control() {
+        let escaped = [b'\\', b'x', hex_digit(byte / 16), hex_digit(byte % 16)];
+        output.extend_from_slice(&escaped)?;
+    } else {
+        output.push(byte)?;
+    }
+    Ok(())
+}
+
+fn hex_digit(value: u8) -> u8
+    requires { value < 16 }
+    ensures { result ≡ digit_char value }
+{
+    if value < 10 {
+        b'0' + value
+    } else {
+        b'a' + (value - 10)
+    }
 }
 
 /// Tells that this line of the file is at fault, as far as the writer takes it, and returns status 2, or

@@ -1,16 +1,66 @@
-//! Calls that take entries from the two ends of a map, or all of them.
-ghost use Rattle.std.specs.Prelude.{◌≡◌, ◌≢◌, ◌-◌, ◌∷◌, ◌++◌, [], length, slice_get, IfOk, IfNone, IfSome, OnErr};
+//! The entries at the two ends of a map: read, or removed.
+ghost use Rattle.std.specs.Prelude.{◌≡◌, ◌-◌, length, slice_get, ◌≢◌, ◌∷◌, ◌++◌, [], IfOk, IfNone, IfSome, OnErr};
+ghost use Rattle.std.specs.Option.{option_map};
 ghost use Rattle.art_nodes.specs.declared.pointers.OpaqueNodePtr.{OpaqueNodePtr as Pointer};
 ghost use Rattle.art_tree.specs.Refusals.{texts_of};
 ghost use Rattle.art_map.specs.Shrinking.{NeedsNode};
+ghost use Rattle.art_arena.specs.declared.ends.End.TheVariants.{First, Last};
+ghost use Rattle.art_map.specs.Memory.{Popped};
 
-use crate::map::ArtMap;
 use crate::map::laws::removals_need_nodes;
+use crate::map::{ArtMap, MapSeenAs};
+use crate::nearest::first_entry_after;
+use crate::view::MapView;
 use art_bytes::AsBytes;
-use art_tree::laws::{entries_are_one_list, the_list_of_entries_changes_with_them};
+use art_tree::Side;
 use std::alloc::AllocError;
 
 impl<K: AsBytes, V, const PREFIX_LEN: usize> ArtMap<K, V, PREFIX_LEN> {
+    /// The entry with the least key, or None where there is no entry. Visits the nodes on the way to
+    /// it, at most one for each byte of its key and one more. Takes no memory.
+    pub fn first(&self) -> Option<(&K, &V)>
+        ensures { option_map (λ (key, value). (key.now, value.now)) result
+            ≡ slice_get self.now 0 }
+    {
+        first_entry_after(&self.tree, Side::Before, &[])
+    }
+
+    /// As [`first`](Self::first), by the name that `BTreeMap` has for it.
+    ///
+    /// (from tests/art_map_tests/map/taken_columns.rt.txt)
+    /// ```rust
+    /// assert!(rt; prices.first_key_value().is_some() && prices.last_key_value().is_some());
+    /// ```
+    pub fn first_key_value(&self) -> Option<(&K, &V)>
+        ensures { option_map (λ (key, value). (key.now, value.now)) result
+            ≡ slice_get self.now 0 }
+    {
+        self.first()
+    }
+
+    /// The entry with the greatest key, or None where there is no entry. Visits the nodes on the way to
+    /// it, at most one for each byte of its key and one more. Takes no memory.
+    pub fn last(&self) -> Option<(&K, &V)>
+        ensures { option_map (λ (key, value). (key.now, value.now)) result
+            ≡ slice_get self.now (length self.now - 1) }
+    {
+        self.tree.last()
+    }
+
+    /// As [`last`](Self::last), by the name that `BTreeMap` has for it. See
+    /// [`first_key_value`](Self::first_key_value) for an example.
+    pub fn last_key_value(&self) -> Option<(&K, &V)>
+        ensures { option_map (λ (key, value). (key.now, value.now)) result
+            ≡ slice_get self.now (length self.now - 1) }
+    {
+        self.last()
+    }
+}
+
+impl<K: AsBytes, V, const PREFIX_LEN: usize, S> MapSeenAs<K, V, PREFIX_LEN, S>
+where
+    S: MapView<K, V, PREFIX_LEN>,
+{
     /// Removes the entry with the least key and returns it, or None where there is no entry.
     ///
     /// An allocation may fail only where there is an entry, and the parent of its leaf has 5, 17 or 49
@@ -22,7 +72,7 @@ impl<K: AsBytes, V, const PREFIX_LEN: usize> ArtMap<K, V, PREFIX_LEN> {
     ///
     /// A map with `tin`, `titanium`, `iron` and `zinc`:
     ///
-    /// (from crates/art_map_tests/src/map/taken_entries.rt)
+    /// (from tests/art_map_tests/map/taken_entries.rt.txt)
     /// ```rust
     /// let Some((name, price)) = prices.pop_first()? else {
     ///     panic!(rt; "no first entry");
@@ -31,16 +81,15 @@ impl<K: AsBytes, V, const PREFIX_LEN: usize> ArtMap<K, V, PREFIX_LEN> {
     /// ```
     pub fn pop_first(&mut self) -> Result<Option<(K, V)>, AllocError>
         ensures first { IfOk result (λ removed.
-            IfSome removed (λ entry. self.old ≡ entry ∷ self.new)) }
+            IfSome removed (λ entry. S.entries self.old ≡ entry ∷ S.entries self.new)) }
         ensures none { IfOk result (λ removed.
-            IfNone removed ((self.old ≡ []) × (self.new ≡ []))) }
-        ensures refused { OnErr result (self.old ≢ []) }
-        ensures needs_node { OnErr result (IfSome (slice_get self.old 0) (λ entry.
-            NeedsNode (Pointer K V PREFIX_LEN) (texts_of K.text self.old) (K.text entry.0))) }
-        ensures same_entries { OnErr result (self.new ≡ self.old) }
+            IfNone removed ((S.entries self.old ≡ []) × (S.entries self.new ≡ []))) }
+        ensures refused { OnErr result ((S.entries self.old) ≢ []) }
+        ensures needs_node { OnErr result (IfSome (slice_get (S.entries self.old) 0) (λ entry.
+            NeedsNode (Pointer K V PREFIX_LEN) (texts_of K.text (S.entries self.old)) (K.text entry.0))) }
+        ensures same_entries { OnErr result (S.entries self.new ≡ S.entries self.old) }
+        ensures memory { S.memory self.old self.new (Popped First result) }
     {
-        entries_are_one_list::<K, V, PREFIX_LEN>();
-        the_list_of_entries_changes_with_them::<K, V, PREFIX_LEN>();
         removals_need_nodes(&self.tree);
         self.tree.pop_first()
     }
@@ -50,7 +99,7 @@ impl<K: AsBytes, V, const PREFIX_LEN: usize> ArtMap<K, V, PREFIX_LEN> {
     ///
     /// A map with `tin`, `titanium` and `zinc`:
     ///
-    /// (from crates/art_map_tests/src/map/taken_entries.rt)
+    /// (from tests/art_map_tests/map/taken_entries.rt.txt)
     /// ```rust
     /// let Some((name, price)) = prices.pop_last()? else {
     ///     panic!(rt; "no last entry");
@@ -59,34 +108,16 @@ impl<K: AsBytes, V, const PREFIX_LEN: usize> ArtMap<K, V, PREFIX_LEN> {
     /// ```
     pub fn pop_last(&mut self) -> Result<Option<(K, V)>, AllocError>
         ensures last { IfOk result (λ removed.
-            IfSome removed (λ entry. self.old ≡ self.new ++ entry ∷ [])) }
+            IfSome removed (λ entry. S.entries self.old ≡ S.entries self.new ++ entry ∷ [])) }
         ensures none { IfOk result (λ removed.
-            IfNone removed ((self.old ≡ []) × (self.new ≡ []))) }
-        ensures refused { OnErr result (self.old ≢ []) }
-        ensures needs_node { OnErr result (IfSome (slice_get self.old (length self.old - 1)) (λ entry.
-            NeedsNode (Pointer K V PREFIX_LEN) (texts_of K.text self.old) (K.text entry.0))) }
-        ensures same_entries { OnErr result (self.new ≡ self.old) }
+            IfNone removed ((S.entries self.old ≡ []) × (S.entries self.new ≡ []))) }
+        ensures refused { OnErr result ((S.entries self.old) ≢ []) }
+        ensures needs_node { OnErr result (IfSome (slice_get (S.entries self.old) (length (S.entries self.old) - 1)) (λ entry.
+            NeedsNode (Pointer K V PREFIX_LEN) (texts_of K.text (S.entries self.old)) (K.text entry.0))) }
+        ensures same_entries { OnErr result (S.entries self.new ≡ S.entries self.old) }
+        ensures memory { S.memory self.old self.new (Popped Last result) }
     {
-        entries_are_one_list::<K, V, PREFIX_LEN>();
-        the_list_of_entries_changes_with_them::<K, V, PREFIX_LEN>();
         removals_need_nodes(&self.tree);
         self.tree.pop_last()
-    }
-}
-
-impl<K: AsBytes + Drop, V: Drop, const PREFIX_LEN: usize> ArtMap<K, V, PREFIX_LEN> {
-    /// Removes every entry. Takes time linear in the most entries that there were since the map was
-    /// made or last cleared, and no memory: the nodes' memory is kept for later entries.
-    ///
-    /// (from crates/art_map_tests/src/map/taken_entries.rt)
-    /// ```rust
-    /// prices.clear();
-    /// assert!(rt; prices.is_empty());
-    /// ```
-    pub fn clear(&mut self)
-        ensures { self.new ≡ [] }
-    {
-        entries_are_one_list::<K, V, PREFIX_LEN>();
-        self.tree.clear();
     }
 }

@@ -9,30 +9,25 @@ ghost use Rattle.art_tree.specs.Refusals.{texts_of};
 ghost use Rattle.art_tree.specs.Removal.{NeedsSmallerNode};
 ghost use Rattle.art_map.specs.Shrinking.{NeedsNode};
 
-use crate::map::ArtMap;
+use crate::map::{ArtMap, MapSeenAs};
+use crate::view::MapView;
 use art_bytes::{AsBytes, NoPrefixesBytes};
-use art_nodes::OpaqueNodePtr;
 use art_tree::ArtTree;
-use art_tree::laws::{
-    entries_are_as_many_as_leaves, entries_are_one_list, entries_are_what_leaves_hold,
-    keys_without_prefixes_never_clash, no_text_begins_another,
-};
 
-impl<K: AsBytes, V, const PREFIX_LEN: usize> ArtMap<K, V, PREFIX_LEN> {
+impl<K: AsBytes, V, const PREFIX_LEN: usize, S> MapSeenAs<K, V, PREFIX_LEN, S>
+where
+    S: MapView<K, V, PREFIX_LEN>,
+{
     /// The entries ascend strictly by the bytes of their keys, so no two have the same bytes. No key
     /// is a prefix of another, each has fewer than 2^32 bytes, and the laws of keys hold for each. Does
     /// no work.
     pub fn entries_ascend(&self)
-        ensures ascending { AllPairs (λ a b. text_order a b ≡ Less) (texts_of K.text self.now) }
+        ensures ascending { AllPairs (λ a b. text_order a b ≡ Less) (texts_of K.text (S.entries self.now)) }
         ensures no_prefixes { AllPairs (λ a b. (¬ IsPrefixOf a b) × (¬ IsPrefixOf b a))
-            (texts_of K.text self.now) }
-        ensures short { All (λ x. length x < 2 ^ 32) (texts_of K.text self.now) }
-        ensures keys { All (λ entry. K.is_key entry.0) self.now }
+            (texts_of K.text (S.entries self.now)) }
+        ensures short { All (λ x. length x < 2 ^ 32) (texts_of K.text (S.entries self.now)) }
+        ensures keys { All (λ entry. K.is_key entry.0) (S.entries self.now) }
     {
-        entries_are_one_list::<K, V, PREFIX_LEN>();
-        entries_are_as_many_as_leaves::<K, V, PREFIX_LEN>();
-        entries_are_what_leaves_hold::<K, V, PREFIX_LEN>();
-        no_text_begins_another::<OpaqueNodePtr<K, V, PREFIX_LEN>>();
         let _arena = self.tree.arena();
     }
 }
@@ -43,8 +38,6 @@ impl<K: NoPrefixesBytes, V, const PREFIX_LEN: usize> ArtMap<K, V, PREFIX_LEN> {
     pub fn keys_never_clash(&self)
         ensures { (key : K) → K.is_key key → ¬ Clashes (texts_of K.text self.now) (K.text key) }
     {
-        entries_are_one_list::<K, V, PREFIX_LEN>();
-        keys_without_prefixes_never_clash::<K, V, PREFIX_LEN>();
         let _arena = self.tree.arena();
     }
 }
@@ -57,6 +50,5 @@ pub(crate) fn removals_need_nodes<K: AsBytes, V, const PREFIX_LEN: usize>(
         NeedsNode (Pointer K V PREFIX_LEN)
         (texts_of K.text (entries_of K.text tree.now.arena)) text }
 {
-    entries_are_as_many_as_leaves::<K, V, PREFIX_LEN>();
     let _root = tree.root();
 }

@@ -5,10 +5,10 @@ ghost use Rattle.art_map.specs.Merges.{walk, union, intersection, difference, sy
 
 use crate::iter::HasRuns;
 use crate::keys::{Keys, RunKeys};
+use crate::run_ends::LeafPtr;
 use crate::set::ArtSet;
 use art_arena::NodeArena;
 use art_bytes::AsBytes;
-use art_nodes::{LeafNode, NodePtr};
 use std::alloc::AllocError;
 use std::cmp::Ordering;
 use std::iter::FusedIterator;
@@ -36,7 +36,7 @@ impl<'a, A: HasRuns<L, K, ()>, L, K> Model for PeekedKeys<'a, A, L, K> {
 type Peeked<'a, K, const PREFIX_LEN: usize> = PeekedKeys<
     'a,
     NodeArena<K, (), PREFIX_LEN>,
-    NodePtr<PREFIX_LEN, LeafNode<K, (), PREFIX_LEN>>,
+    LeafPtr<K, (), PREFIX_LEN>,
     K,
 >;
 
@@ -115,7 +115,7 @@ impl<'a, A: HasRuns<L, K, ()>, L, K: AsBytes> Model for MergedKeys<'a, A, L, K> 
 pub type Merged<'a, K, const PREFIX_LEN: usize> = MergedKeys<
     'a,
     NodeArena<K, (), PREFIX_LEN>,
-    NodePtr<PREFIX_LEN, LeafNode<K, (), PREFIX_LEN>>,
+    LeafPtr<K, (), PREFIX_LEN>,
     K,
 >;
 

@@ -39,33 +39,3 @@ fn clear_prices<K: AsBytes, Q: AsBytes, const PREFIX_LEN: usize>(
 {
     prices.for_each_value_mut_with_prefix(prefix, |_, price| *price = 0);
 }
-
-/// Halves the prices from one name up to another one.
-fn halve_prices<K: AsBytes, const PREFIX_LEN: usize>(
-    prices: &mut ArtMap<K, u32, PREFIX_LEN>,
-    first: &K,
-    end: &K,
-) {
-    prices.for_each_value_mut_in_range(Bound::Included(first), Bound::Excluded(end), |_, price| {
-        *price /= 2;
-    });
-}
-
-fn change_three(rt: &impl Abort, prices: &mut ArtMap<[u8; 2], u32, 2>) -> Result<(), Fail> {
-    for name in [*b"aa", *b"ab", *b"ba"] {
-        prices.insert(name, 10).map_err(|fault| fault.refusal)?;
-    }
-    change_prices(prices, |_, price| *price = 8);
-    halve_prices(prices, b"ab", b"bb");
-    clear_prices(prices, b"a");
-    assert!(rt; prices.get(b"aa") == Some(&0) && prices.get(b"ab") == Some(&0));
-    assert!(rt; prices.get(b"ba") == Some(&4));
-    Ok(())
-}
-
-#[test]
-fn prices_are_changed(rt: HostRuntime) -> Result<(), Fail> {
-    let mut prices = ArtMap::new(rt.alloc());
-    lower_prices(&mut prices);
-    change_three(&rt, &mut prices)
-}

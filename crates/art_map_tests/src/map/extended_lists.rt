@@ -50,22 +50,3 @@ fn names_of<K: AsBytes + Drop, const PREFIX_LEN: usize>(
 {
     ArtSet::from_keys(alloc, keys)
 }
-
-#[test]
-fn lists_are_extended(rt: HostRuntime) -> Result<(), Fail> {
-    let alloc = rt.alloc();
-    let entries = vec![in alloc; (*b"tin", 50), (*b"tan", 7)]?;
-    let mut prices: ArtMap<[u8; 3], u32, 2> = prices_of(alloc, entries).map_err(|fault| fault
-        .refused
-        .refusal)?;
-    let more = vec![in alloc; (*b"tin", 52), (*b"tip", 9)]?;
-    add_prices(&mut prices, more).map_err(|fault| fault.refused.refusal)?;
-    assert!(rt; prices.len() == 3 && prices.get(b"tin") == Some(&52));
-    let mut names: ArtSet<[u8; 3], 2> = names_of(alloc, vec![in alloc; *b"tin"]?).map_err(
-        |fault| fault.refused.refusal,
-    )?;
-    let keys = vec![in alloc; *b"tan", *b"tin"]?;
-    add_names(&mut names, keys).map_err(|fault| fault.refused.refusal)?;
-    assert!(rt; names.len() == 2 && names.contains(b"tan"));
-    Ok(())
-}

@@ -49,20 +49,3 @@ fn between<'a, K: AsBytes, P: AsBytes, Q: AsBytes, const PREFIX_LEN: usize>(
 {
     prices.within(SliceKey::new(low.as_bytes())..SliceKey::new(high.as_bytes()))
 }
-
-#[test]
-fn callers_of_iterators(rt: HostRuntime) -> Result<(), Fail> {
-    let alloc = rt.alloc();
-    let entries = vec![in alloc; (*b"tan", 7), (*b"tin", 50), (*b"tip", 9)]?;
-    let prices: ArtMap<[u8; 3], u32, 2> = ArtMap::from_ascending(alloc, entries).map_err(
-        |fault| fault.refusal,
-    )?;
-    let mut some = within(&prices, *b"tin", *b"top");
-    assert!(rt; peek(&some)?.is_some() && some.next().is_some() && some.next().is_some());
-    assert!(rt; peek(&some)?.is_none() && some.next().is_none());
-    let mut few = between(&prices, b"ta", &StrKey::new("tin"));
-    assert!(rt; few.next().is_some() && few.next().is_none());
-    let mut entries = prices.into_iter();
-    assert!(rt; entries.next().is_some() && left(&entries) == 2);
-    Ok(())
-}

@@ -49,37 +49,3 @@ fn names_from<K: AsBytes + Drop, const PREFIX_LEN: usize>(
 {
     names.split_off(name)
 }
-
-fn list(alloc: Global, entries: [([u8; 3], u32); 2]) -> Result<ArtMap<[u8; 3], u32, 2>, Fail> {
-    let mut prices = ArtMap::new(alloc);
-    for (name, price) in entries {
-        prices.insert(name, price).map_err(|fault| fault.refusal)?;
-    }
-    Ok(prices)
-}
-
-#[test]
-fn maps_are_joined_and_cut(rt: HostRuntime) -> Result<(), Fail> {
-    let alloc = rt.alloc();
-    let mut prices = list(alloc, [(*b"tin", 50), (*b"tan", 7)])?;
-    let mut others = list(alloc, [(*b"tin", 52), (*b"tip", 9)])?;
-    join_prices(&mut prices, &mut others)?;
-    assert!(rt; prices.len() == 3 && prices.get(b"tin") == Some(&52) && others.is_empty());
-    let upper = prices_from(&mut prices, b"tin")?;
-    assert!(rt; prices.len() == 1 && upper.len() == 2);
-    Ok(())
-}
-
-#[test]
-fn sets_are_joined_and_cut(rt: HostRuntime) -> Result<(), Fail> {
-    let alloc = rt.alloc();
-    let mut names: ArtSet<[u8; 3], 2> = ArtSet::new(alloc);
-    let mut others = ArtSet::new(alloc);
-    names.insert(*b"tin").map_err(|fault| fault.refusal)?;
-    others.insert(*b"tan").map_err(|fault| fault.refusal)?;
-    join_names(&mut names, &mut others)?;
-    assert!(rt; names.len() == 2 && others.is_empty());
-    let upper = names_from(&mut names, b"tin")?;
-    assert!(rt; names.len() == 1 && upper.len() == 1);
-    Ok(())
-}

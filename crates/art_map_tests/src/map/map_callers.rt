@@ -1,7 +1,7 @@
 //! Callers of the calls of a map, each with what its contract gives.
-ghost use Rattle.std.specs.Prelude.{◌≡◌, ◌≢◌, ◌&&◌, ◌-◌, None, length, map, slice_get, IsTrue, IfOk, OnErr};
+ghost use Rattle.std.specs.Prelude.{◌≡◌, ◌&&◌, ◌-◌, None, length, map, slice_get, IsTrue, IfOk, OnErr};
 ghost use Rattle.std.specs.Cmp.Lexicographic.{pointwise, slice_cmp};
-ghost use Rattle.std.specs.Option.{option_copied, option_map};
+ghost use Rattle.std.specs.Option.{option_map};
 ghost use Rattle.std.specs.Ordering.{ordering_then};
 ghost use Rattle.std.specs.List.{AllZip};
 ghost use Rattle.art_map.specs.Entries.{entry_with, with_value};
@@ -94,25 +94,4 @@ fn least_price<K: AsBytes + Drop, const PREFIX_LEN: usize>(
     ensures { result ≡ slice_get (map (λ entry. entry.1) prices) 0 }
 {
     prices.into_values().next()
-}
-
-fn change(rt: &impl Abort, prices: &mut ArtMap<[u8; 3], u32, 2>) -> Result<(), Fail> {
-    price_again(prices, *b"tin", 50)?;
-    price_again(prices, *b"tan", 7)?;
-    assert!(rt; reprice(prices, b"tin", 51) && !reprice(prices, b"tap", 1));
-    let (Some((first, _)), Some((last, price))) = ends(prices) else {
-        panic!(rt; "no entry");
-    };
-    assert!(rt; first == b"tan" && last == b"tin" && *price == 51);
-    Ok(())
-}
-
-#[test]
-fn callers_of_a_map(rt: HostRuntime) -> Result<(), Fail> {
-    let mut prices = ArtMap::new(rt.alloc());
-    change(&rt, &mut prices)?;
-    let copy = copy_of(&prices, rt.alloc())?;
-    assert!(rt; compare(&prices, &copy) == (true, Ordering::Equal));
-    assert!(rt; least_name(prices) == Some(*b"tan") && least_price(copy) == Some(7));
-    Ok(())
 }

@@ -1,57 +1,49 @@
-//! Callers who reserve memory, insert through the tree of a map, and remove from a small map.
+//! Callers who reserve memory and then insert, one call at a time, insert through the tree of a map,
+//! remove from a small map, and remove or change entries and then insert.
 ghost use Rattle.std.specs.Prelude.{◌≡◌, ◌≢◌, ◌<◌, ◌+◌, ℕ, length, IfErr, IfOk, IsOk, OnOk};
-ghost use Rattle.art_tree.specs.Entries.{put_entry};
+ghost use Rattle.art_tree.specs.Entries.{entries_of, put_entry};
 ghost use Rattle.art_tree.specs.Room.{HasRoomFor};
 ghost use Rattle.art_tree.specs.declared.insert.InsertRefusal.TheVariants.{OutOfMemory};
 
 use super::*;
+use art_map::ArtTreeMap;
 use art_tree::laws::the_list_of_entries_changes_with_them;
-use art_tree::{ArtTree, AsBytes, InsertFault};
+use art_tree::{AsBytes, InsertFault};
 use std::alloc::AllocError;
 
 /// Enters an entry. Room for it and some others suffices, and is room for the others afterwards.
 fn enter<K: AsBytes + Drop, const PREFIX_LEN: usize>(
-    tree: &mut ArtTree<K, u32, PREFIX_LEN>,
+    prices: &mut ArtTreeMap<K, u32, PREFIX_LEN>,
     key: K,
     value: u32,
 ) -> Result<(), InsertFault<K, u32>>
-    ensures enough { (count : ℕ) → HasRoomFor tree.old.arena (count + 1) →
+    ensures enough { (count : ℕ) → HasRoomFor prices.old.arena (count + 1) →
         IfErr result (λ fault. fault.refusal ≢ OutOfMemory) }
-    ensures lasts { (count : ℕ) → HasRoomFor tree.old.arena (count + 1) →
-        HasRoomFor tree.new.arena count }
+    ensures lasts { (count : ℕ) → HasRoomFor prices.old.arena (count + 1) →
+        HasRoomFor prices.new.arena count }
 {
-    match tree.insert(key, value) {
+    match prices.insert(key, value) {
         Ok(_) => Ok(()),
         Err(fault) => Err(fault),
     }
 }
 
-/// Enters each entry, with memory reserved first: none is refused for memory.
+/// Enters each entry by a call of its own, with memory reserved first: none is refused for memory.
 fn enter_each<K: AsBytes + Drop, const PREFIX_LEN: usize>(
-    tree: &mut ArtTree<K, u32, PREFIX_LEN>,
+    prices: &mut ArtTreeMap<K, u32, PREFIX_LEN>,
     entries: Vec<(K, u32)>,
 ) -> Result<Result<(), InsertFault<K, u32>>, AllocError>
     ensures { IfOk result (λ entered. IfErr entered (λ fault. fault.refusal ≢ OutOfMemory)) }
 {
-    tree.reserve_entries(entries.len())?;
+    prices.reserve(entries.len())?;
     let mut entries = entries.into_iter();
     'each: while let Some((key, value)) = entries.next() {
-        match enter(tree, key, value) {
+        match enter(prices, key, value) {
             Ok(()) => {}
             Err(fault) => return Ok(Err(fault)),
         }
     }
     Ok(Ok(()))
-}
-
-/// Reserves memory for entries.
-fn reserve<K: AsBytes, const PREFIX_LEN: usize>(
-    prices: &mut ArtMap<K, u32, PREFIX_LEN>,
-    entries: &[(K, u32)],
-) -> Result<(), AllocError> {
-    let tree = prices.tree_mut();
-    tree.reserve_entries(entries.len())?;
-    Ok(())
 }
 
 /// An insert into the tree is one into the map.
@@ -78,25 +70,41 @@ fn remove_from_few<K: AsBytes + Drop, const PREFIX_LEN: usize>(
     prices.remove(name)
 }
 
-fn fill_and_remove(
-    rt: &impl Abort,
-    prices: &mut ArtMap<[u8; 3], u32, 2>,
-    entries: Vec<([u8; 3], u32)>,
-) -> Result<(), Fail> {
-    reserve(prices, &entries)?;
-    enter_each(prices.tree_mut(), entries)?.map_err(|fault| fault.refusal)?;
-    assert!(rt; prices.len() == 3 && prices.get(b"tan") == Some(&7));
-    put_through(prices, *b"tan", 8).map_err(|fault| fault.refusal)?;
-    assert!(rt; prices.get(b"tan") == Some(&8));
-    if prices.len() < 5 {
-        assert!(rt; remove_from_few(prices, b"tan")? == Some(8));
-    }
-    assert!(rt; prices.len() == 2);
-    Ok(())
+/// Removes the prices below a least one. Room for one change more than there are prices suffices, and
+/// there is room for one afterwards.
+fn keep_dear<K: AsBytes + Drop, const PREFIX_LEN: usize>(
+    prices: &mut ArtTreeMap<K, u32, PREFIX_LEN>,
+    least: u32,
+) -> Result<(), AllocError>
+    ensures enough { HasRoomFor prices.old.arena (length (entries_of K.text prices.old.arena) + 1) →
+        IsOk result }
+    ensures lasts { HasRoomFor prices.old.arena (length (entries_of K.text prices.old.arena) + 1) →
+        (count : ℕ) × HasRoomFor prices.new.arena (count + 1) }
+{
+    prices.retain(|_, price| least <= *price)
 }
 
-#[test]
-fn reserved_entries_take_no_memory(rt: HostRuntime) -> Result<(), Fail> {
-    let entries = vec![in rt.alloc(); (*b"tin", 50), (*b"tan", 7), (*b"tip", 9)]?;
-    fill_and_remove(&rt, &mut ArtMap::new(rt.alloc()), entries)
+/// Removes the prices below a least one, and enters another. There is room for one change more than
+/// there are prices, so neither is refused for memory.
+fn keep_dear_and<K: AsBytes + Drop, const PREFIX_LEN: usize>(
+    prices: &mut ArtTreeMap<K, u32, PREFIX_LEN>,
+    least: u32,
+    name: K,
+    price: u32,
+) -> Result<(), InsertFault<K, u32>>
+    requires { HasRoomFor prices.old.arena (length (entries_of K.text prices.old.arena) + 1) }
+    ensures { IfErr result (λ fault. fault.refusal ≢ OutOfMemory) }
+{
+    match keep_dear(prices, least) {
+        Ok(()) => {}
+        Err(_) => unreachable!(),
+    }
+    enter(prices, name, price)
+}
+
+/// Clears all prices: there is room for as many changes as before.
+fn clear_prices<K: AsBytes, const PREFIX_LEN: usize>(prices: &mut ArtTreeMap<K, u32, PREFIX_LEN>)
+    ensures { (count : ℕ) → HasRoomFor prices.old.arena count → HasRoomFor prices.new.arena count }
+{
+    prices.for_each_value_mut(|_, price| *price = 0);
 }

@@ -1,5 +1,5 @@
 //! Callers of the calls of a set, each with what its contract gives.
-ghost use Rattle.std.specs.Prelude.{◌≡◌, ◌&&◌, slice_get, IfOk, IsTrue, OnErr, OnOk};
+ghost use Rattle.std.specs.Prelude.{◌≡◌, slice_get, IfOk, OnErr, OnOk};
 ghost use Rattle.std.specs.Cmp.Lexicographic.{pointwise};
 ghost use Rattle.std.specs.Fn.{CalledAt};
 ghost use Rattle.std.specs.List.{AllZip};
@@ -12,8 +12,6 @@ use super::*;
 use art_map::ArtSet;
 use art_tree::{AsBytes, InsertRefusal};
 use std::alloc::AllocError;
-
-type Names = ArtSet<StrKey<'static>, 2>;
 
 /// The name in the set with the bytes of this one.
 fn name_like<'a, K: AsBytes, const PREFIX_LEN: usize>(
@@ -90,13 +88,6 @@ fn least_in_symmetric_difference<'a, K: AsBytes, const PREFIX_LEN: usize>(
     few.symmetric_difference(others).next()
 }
 
-/// Keeps the names of fewer than five bytes.
-fn keep_short<K: AsBytes + Drop, const PREFIX_LEN: usize>(
-    names: &mut ArtSet<K, PREFIX_LEN>,
-) -> Result<(), AllocError> {
-    names.retain(|name| name.as_bytes().len() < 5)
-}
-
 /// Keeps the names at which a closure returns true.
 #[tactic(auto, using(art_map::proofs::CallLaws::callable_at_each_key))]
 fn keep_some<K: AsBytes + Drop, const PREFIX_LEN: usize, F: FnMut(&K) -> bool>(
@@ -127,42 +118,4 @@ fn are_same<K: AsBytes + PartialEq, const PREFIX_LEN: usize>(
     ensures { result ≡ pointwise K.eq names.now others.now }
 {
     names == others
-}
-
-fn change(rt: &impl Abort, names: &mut Names, others: &Names) -> Result<(), Fail> {
-    assert!(rt; name_like(names, &StrKey::new("tin")).is_some());
-    assert!(rt; put_again(names, StrKey::new("tin")).is_ok());
-    let Some(least) = least_in_union(names, others) else {
-        panic!(rt; "no name");
-    };
-    assert!(rt; least.get() == "gold");
-    let Some(shared) = least_in_intersection(names, others) else {
-        panic!(rt; "no name");
-    };
-    assert!(rt; shared.get() == "tin");
-    let (Some(own), Some(apart)) = (
-        least_in_difference(names, others),
-        least_in_symmetric_difference(names, others),
-    ) else {
-        panic!(rt; "no name");
-    };
-    assert!(rt; own.get() == "iron" && apart.get() == "gold");
-    let Some(name) = take_out(names, &StrKey::new("tin"))? else {
-        panic!(rt; "no name");
-    };
-    assert!(rt; name.get() == "tin" && name_like(names, &name).is_none());
-    keep_short(names)?;
-    keep_some(names, |name| name.get() != "tin")?;
-    Ok(())
-}
-
-#[test]
-fn callers_of_a_set(rt: HostRuntime) -> Result<(), Fail> {
-    let alloc = rt.alloc();
-    let few = vec![in alloc; (StrKey::new("iron"), ()), (StrKey::new("tin"), ())]?;
-    let mut names = Names::from_ascending(alloc, few).map_err(|fault| fault.refusal)?;
-    let others = vec![in alloc; (StrKey::new("gold"), ()), (StrKey::new("tin"), ())]?;
-    let others = Names::from_ascending(alloc, others).map_err(|fault| fault.refusal)?;
-    assert!(rt; !are_same(&names, &others) && are_same(&copy_of(&others, alloc)?, &others));
-    change(&rt, &mut names, &others)
 }

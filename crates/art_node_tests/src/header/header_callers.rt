@@ -55,18 +55,3 @@ fn first_index() -> NonMaxIndex
 {
     NonMaxIndex::default()
 }
-
-#[test]
-fn headers_and_indices_as_a_caller_has_them(rt: HostRuntime) {
-    let mut header = Header::<4>::new(b"abcd", 9);
-    let copy = copied(&header).unwrap();
-    assert!(rt; are_equal(&header, &copy));
-    header.set_prefix(&Header::new(b"abce", 9));
-    assert!(rt; !are_equal(&header, &copy));
-    let index = index_of_byte(254).unwrap();
-    assert!(rt; byte_of(index) == 254 && place_of(index) == 254);
-    assert!(rt; index_of_byte(255).is_err());
-    assert!(rt; index_of_place(254) == Ok(index));
-    assert!(rt; index_of_place(255).is_err() && index_of_place(510).is_err());
-    assert!(rt; byte_of(first_index()) == 0);
-}

@@ -78,9 +78,3 @@ fn non_zero_isize_bytes(number: NonZeroIsize) -> [u8; 8]
 {
     number.encode()
 }
-
-#[test]
-fn wide_integers_have_their_bytes(rt: HostRuntime) {
-    assert!(rt; u64_bytes(258) == [0, 0, 0, 0, 0, 0, 1, 2]);
-    assert!(rt; non_zero_i32_bytes(NonZeroI32::MAX) == [255; 4]);
-}

@@ -6,7 +6,6 @@ ghost use Rattle.art_mapped.specs.EscapedKey.{escaped_key_text, escaped_key_room
 ghost use Rattle.art_mapped.specs.Mapped.{mapped_text};
 
 use super::*;
-use crate::bytes::has_prefix;
 
 /// The key of a name: its bytes, with zeros escaped, and an end.
 fn key_of(alloc: Global, name: &[u8]) -> Result<Mapped<Escaped, Vec<u8>>, AllocError>
@@ -30,19 +29,4 @@ fn names_with(alloc: Global, front: &[u8]) -> Result<Vec<u8>, AllocError>
         IsPrefixOf prefix.items (escaped_text name) ↔ IsPrefixOf front.now name) }
 {
     escaped_prefix(alloc, front)
-}
-
-#[test]
-fn names_of_any_bytes_are_keys(rt: HostRuntime) -> Result<(), Fail> {
-    let alloc = rt.alloc();
-    let (tin, tins) = (key_of(alloc, b"tin")?, key_of(alloc, b"tins")?);
-    assert!(rt; tin.as_bytes() == b"tin\0\0".as_slice());
-    assert!(rt; tin < tins && !has_prefix(&tins, &tin));
-    let mut looked_up = EscapedKey::new(alloc, b"a\0b")?;
-    assert!(rt; looked_up.as_bytes() == b"a\0\xffb\0\0".as_slice());
-    looked_up.set(b"tin")?;
-    become_key(&mut looked_up, b"tin")?;
-    assert!(rt; looked_up.as_bytes() == tin.as_bytes());
-    assert!(rt; names_with(alloc, b"a\0")?.as_slice() == b"a\0\xff".as_slice());
-    Ok(())
 }

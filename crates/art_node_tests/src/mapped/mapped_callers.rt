@@ -9,8 +9,7 @@ ghost use Rattle.art_mapped.specs.Numbers.{signed_text};
 ghost use Rattle.art_mapped.specs.Sequences.{joined};
 
 use super::*;
-use crate::fixtures::hash_of;
-use std::hash::{DefaultHasher, Hash, Hasher};
+use std::hash::{Hash, Hasher};
 
 // The key of an address is its octets. The call never fails.
 fn host(alloc: Global, address: Ipv4Addr) -> Result<Mapped<ToOctets, Ipv4Addr>, AllocError>
@@ -140,66 +139,4 @@ fn feed<B: BytesMapping<D>, D, H: Hasher>(key: &Mapped<B, D>, hasher: &mut H)
     ensures { hasher.new ≡ fold H.write hasher.old (fed.slice fed.u8 (mapped_text key.now)) }
 {
     key.hash(hasher);
-}
-
-#[test]
-fn callers_make_keys(rt: HostRuntime) -> Result<(), Fail> {
-    let alloc = rt.alloc();
-    assert!(rt; host(alloc, Ipv4Addr::LOCALHOST)?.as_bytes() == [127, 0, 0, 1].as_slice());
-    let steps = path(alloc, vec![in alloc; -1, 1]?)?;
-    assert!(rt; steps.as_bytes() == [127, 255, 128, 1].as_slice());
-    assert!(rt; path_again(&steps)? == steps);
-    Ok(())
-}
-
-#[test]
-fn callers_compare_keys(rt: HostRuntime) -> Result<(), Fail> {
-    let alloc = rt.alloc();
-    let (less, more) = (Mapped::new(alloc, -3)?, Mapped::new(alloc, 2)?);
-    assert!(rt; by_size(&less, &more) == Ordering::Less);
-    assert!(rt; compared::<ToUBE, u8>(alloc, 7, 6)? == Ordering::Greater);
-    Ok(())
-}
-
-#[test]
-fn callers_get_values_back(rt: HostRuntime) -> Result<(), Fail> {
-    let alloc = rt.alloc();
-    assert!(rt; element_back::<Unsigned, u64>(alloc, 1 << 40)? == 1 << 40);
-    assert!(rt; unsigned_back(alloc, u64::MAX)? == u64::MAX);
-    assert!(rt; element_asked::<Signed, i8>(alloc, [129])? == Some(1));
-    assert!(rt; ipv6_back(alloc, Ipv6Addr::LOCALHOST)? == Ipv6Addr::LOCALHOST);
-    assert!(rt; ipv6_asked(alloc, [0; 16])? == Some(Ipv6Addr::UNSPECIFIED));
-    Ok(())
-}
-
-#[test]
-fn callers_get_arrays_back(rt: HostRuntime) -> Result<(), Fail> {
-    let alloc = rt.alloc();
-    assert!(rt; array_back::<Signed, i8, 2>(alloc, [3, -3])? == [3, -3]);
-    assert!(rt; array_back::<Signed, i8, 0>(alloc, [])? == []);
-    let key = Mapped::new(alloc, [5u32, 6])?;
-    assert!(rt; array_of_key::<Unsigned, u32, 2>(alloc, key)? == [5, 6]);
-    let bytes = vec![in alloc; 9, 8]?;
-    assert!(rt; array_asked::<Unsigned, u8, 2>(alloc, bytes)? == Some([9, 8]));
-    Ok(())
-}
-
-#[test]
-fn callers_get_vectors_back(rt: HostRuntime) -> Result<(), Fail> {
-    let alloc = rt.alloc();
-    let back = vector_back::<Unsigned, u16>(alloc, vec![in alloc; 258]?)?;
-    assert!(rt; back.as_slice() == [258].as_slice());
-    assert!(rt; vector_back::<Unsigned, u16>(alloc, Vec::new(alloc))?.is_empty());
-    Ok(())
-}
-
-#[test]
-fn callers_clone_and_hash_a_key(rt: HostRuntime) -> Result<(), Fail> {
-    let alloc = rt.alloc();
-    let port = Mapped::new(alloc, 443)?;
-    assert!(rt; port_again(&port)? == port);
-    let mut hasher = DefaultHasher::new();
-    feed(&port, &mut hasher);
-    assert!(rt; hasher.finish() == hash_of(&[1u8, 187].as_slice()));
-    Ok(())
 }

@@ -28,13 +28,3 @@ fn compare(a: &Mapped<ToUBE, u16>, b: &Mapped<ToUBE, u16>) -> Ordering
 {
     a.cmp(b)
 }
-
-#[test]
-fn ports_are_keys(rt: HostRuntime) -> Result<(), Fail> {
-    let alloc = rt.alloc();
-    let (http, https) = (key_of(alloc, 80)?, key_of(alloc, 443)?);
-    assert!(rt; https.as_bytes() == [1, 187].as_slice());
-    assert!(rt; compare(&http, &https) == Ordering::Less);
-    assert!(rt; port_of(alloc, https)? == 443);
-    Ok(())
-}

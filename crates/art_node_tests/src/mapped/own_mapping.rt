@@ -73,12 +73,3 @@ fn seat_of(key: &SeatKey) -> Seat
 {
     key.value()
 }
-
-#[test]
-fn seats_are_keys(rt: HostRuntime) {
-    let (first, last) = (Seat { row: 1, place: 300 }, Seat { row: 2, place: 3 });
-    let key = key_of_seat(first);
-    assert!(rt; key.as_bytes() == [0, 1, 1, 44].as_slice());
-    assert!(rt; key < key_of_seat(last));
-    assert!(rt; seat_of(&key) == first);
-}

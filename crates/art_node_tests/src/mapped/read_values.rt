@@ -30,16 +30,3 @@ fn name_read(alloc: Global, key: &Mapped<Escaped, Vec<u8>>) -> Result<Vec<u8>, A
 {
     key.read(alloc)
 }
-
-#[test]
-fn values_come_back_from_borrowed_keys(rt: HostRuntime) -> Result<(), Fail> {
-    let alloc = rt.alloc();
-    let key = Port::of(443);
-    assert!(rt; key.value() == 443);
-    assert!(rt; port_key(443) == key && port_read(&key) == 443);
-    let name = Mapped::<Escaped, Vec<u8>>::new(alloc, vec![in alloc; 0, 7]?)?;
-    assert!(rt; name_read(alloc, &name)?.as_slice() == [0, 7].as_slice());
-    let key = Mapped::<ToIBE, [i16; 2]>::new(alloc, [-1, 0])?;
-    assert!(rt; key.read(alloc)? == [-1, 0]);
-    Ok(())
-}

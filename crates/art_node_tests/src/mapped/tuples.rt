@@ -4,9 +4,7 @@ ghost use Rattle.std.specs.Net.Addr.{ipv4_octets};
 ghost use Rattle.art_mapped.specs.Mapped.{mapped_text, HoldsValue};
 ghost use Rattle.art_mapped.specs.Numbers.{digits, signed_text};
 
-use super::ordered::compared;
 use super::*;
-use crate::bytes::has_prefix;
 use art_mapped::InjectiveMapping;
 
 type Route = ConcatTuple<(ToOctets, ToIBE)>;
@@ -131,74 +129,4 @@ fn are_one_named(a: &Mapped<Named, ([u8; 3], u16)>, b: &Mapped<Named, ([u8; 3], 
         IsTrue result ↔ ((x.0 ≡ y.0) × (x.1 ≡ y.1)) }
 {
     are_one(a, b)
-}
-
-// Two keys compare as the tuples, and none is a prefix of the other.
-fn ascend<B, D>(rt: &impl Abort, alloc: Global, less: D, more: D) -> Result<(), AllocError>
-where
-    B: OrderedMapping<D> + NoPrefixesMapping<D>,
-    D: Ord + Copy,
-{
-    assert!(rt; less.cmp(&more) == Ordering::Less);
-    compared::<B, D>(rt, alloc, less, more)?;
-    compared::<B, D>(rt, alloc, more, less)?;
-    let less_key = Mapped::<B, D>::new(alloc, less)?;
-    let more_key = Mapped::<B, D>::new(alloc, more)?;
-    assert!(rt; !has_prefix(&more_key, &less_key));
-    Ok(())
-}
-
-#[test]
-fn three_parts_stand_in_their_own_places(rt: HostRuntime) -> Result<(), Fail> {
-    let key = priced(rt.alloc(), Ipv4Addr::LOCALHOST, 258, -1)?;
-    assert!(rt; key.as_bytes() == [127, 0, 0, 1, 1, 2, 127, 255, 255, 255].as_slice());
-    Ok(())
-}
-
-#[test]
-fn four_parts_stand_in_their_own_places(rt: HostRuntime) -> Result<(), Fail> {
-    let text = [127, 0, 0, 1, 1, 2, 127, 255, 255, 255, 119, 101, 98];
-    let key = labelled(rt.alloc(), Ipv4Addr::LOCALHOST, 258, -1, *b"web")?;
-    assert!(rt; key.as_bytes() == text.as_slice());
-    Ok(())
-}
-
-#[test]
-fn five_parts_stand_in_their_own_places(rt: HostRuntime) -> Result<(), Fail> {
-    let text = [127, 0, 0, 1, 1, 2, 127, 255, 255, 255, 0, 7, 128, 0, 0, 212];
-    let key = counted(rt.alloc(), Ipv4Addr::LOCALHOST, 258, -1, 7, 212)?;
-    assert!(rt; key.as_bytes() == text.as_slice());
-    Ok(())
-}
-
-#[test]
-fn six_parts_stand_in_their_own_places(rt: HostRuntime) -> Result<(), Fail> {
-    let text = [
-        127, 0, 0, 1, 1, 2, 127, 255, 255, 255, 119, 101, 98, 0, 0, 0, 0, 0, 0, 0, 1, 0,
-    ];
-    let key = ranked(rt.alloc(), Ipv4Addr::LOCALHOST, 258, -1, *b"web", 1, -128)?;
-    assert!(rt; key.as_bytes() == text.as_slice());
-    Ok(())
-}
-
-#[test]
-fn parts_come_back(rt: HostRuntime) -> Result<(), Fail> {
-    let alloc = rt.alloc();
-    let key = route(alloc, Ipv4Addr::UNSPECIFIED, -212)?;
-    assert!(rt; key.as_bytes() == [0, 0, 0, 0, 127, 255, 255, 44].as_slice());
-    assert!(rt; route_of(alloc, key)? == (Ipv4Addr::UNSPECIFIED, -212));
-    assert!(rt; host_back(alloc, Ipv4Addr::LOCALHOST, 7)? == (Ipv4Addr::LOCALHOST, 7));
-    let text: Vec<u8> = vec![in alloc; 7; 1000]?;
-    assert!(rt; key_back(alloc, text)?.len() == 1000);
-    Ok(())
-}
-
-#[test]
-fn keys_of_two_parts_are_one_where_both_are(rt: HostRuntime) -> Result<(), Fail> {
-    let alloc = rt.alloc();
-    let http = Mapped::<Named, ([u8; 3], u16)>::new(alloc, (*b"web", 80))?;
-    let https = Mapped::<Named, ([u8; 3], u16)>::new(alloc, (*b"web", 443))?;
-    assert!(rt; are_one_named(&http, &http.clone()?));
-    assert!(rt; !are_one_named(&http, &https));
-    Ok(())
 }

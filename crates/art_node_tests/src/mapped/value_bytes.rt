@@ -1,5 +1,5 @@
 //! Which bytes are a value's: facts that a caller gets from the laws of `art_mapped`.
-ghost use Rattle.std.specs.Prelude.{◌≡◌, ◌≢◌, ◌↔◌, ◌%◌, ◌<◌, ◌∷◌, [], ℕ, IsTrue, IsOk, IfOk, length, replicate, take, drop};
+ghost use Rattle.std.specs.Prelude.{◌≡◌, ◌≢◌, ◌↔◌, ◌%◌, ◌<◌, ◌∷◌, [], ℕ, IsTrue, IsOk, IfOk, length, replicate, drop};
 ghost use Rattle.std.specs.Net.Addr.{ipv4_octets};
 ghost use Rattle.art_bytes.specs.Text.{IsText};
 ghost use Rattle.art_mapped.specs.Sequences.{part};
@@ -98,93 +98,66 @@ fn is_host(bytes: &Vec<u8>) -> bool
     <ConcatTuple<(ToOctets, ToUBE)> as BytesMapping<(Ipv4Addr, NonZeroU16)>>::is_value(bytes)
 }
 
-// Any bytes that are one for each part are those of a tuple of three to six such numbers.
+// Bytes that are one for each part of a tuple of three to six are a value's exactly where the one of
+// the part other than zero is not zero.
 fn are_three_bytes(bytes: &Vec<u8>) -> bool
     ensures length { IsTrue result → length bytes.now.items ≡ 3 }
-    ensures all { (a b c : ℕ) → IsText (a ∷ b ∷ c ∷ []) →
-        bytes.now.items ≡ a ∷ b ∷ c ∷ [] → IsTrue result }
+    ensures value { (a b c : ℕ) → IsText (a ∷ b ∷ c ∷ []) →
+        bytes.now.items ≡ a ∷ b ∷ c ∷ [] → IsTrue result ↔ (b ≢ 0) }
 {
     laws::any_bytes_are_a_value();
-    laws::bytes_of_tuples::<_, (u8, u8, u8), _, _, (ToUBE, ToUBE, ToUBE)>();
-    <ConcatTuple<(ToUBE, ToUBE, ToUBE)> as BytesMapping<(u8, u8, u8)>>::is_value(bytes)
+    laws::bytes_of_non_zero_unsigned_integers();
+    laws::bytes_of_tuples::<_, (u8, NonZeroU8, u8), _, _, (ToUBE, ToUBE, ToUBE)>();
+    <ConcatTuple<(ToUBE, ToUBE, ToUBE)> as BytesMapping<(u8, NonZeroU8, u8)>>::is_value(bytes)
 }
 
 fn are_four_bytes(bytes: &Vec<u8>) -> bool
     ensures length { IsTrue result → length bytes.now.items ≡ 4 }
-    ensures all { (a b c d : ℕ) → IsText (a ∷ b ∷ c ∷ d ∷ []) →
-        bytes.now.items ≡ a ∷ b ∷ c ∷ d ∷ [] → IsTrue result }
+    ensures value { (a b c d : ℕ) → IsText (a ∷ b ∷ c ∷ d ∷ []) →
+        bytes.now.items ≡ a ∷ b ∷ c ∷ d ∷ [] → IsTrue result ↔ (c ≢ 0) }
 {
     laws::any_bytes_are_a_value();
-    laws::bytes_of_tuples::<_, (u8, u8, u8, u8), _, _, (ToUBE, ToUBE, ToUBE, ToUBE)>();
-    <ConcatTuple<(ToUBE, ToUBE, ToUBE, ToUBE)> as BytesMapping<(u8, u8, u8, u8)>>::is_value(bytes)
+    laws::bytes_of_non_zero_unsigned_integers();
+    laws::bytes_of_tuples::<_, (u8, u8, NonZeroU8, u8), _, _, (ToUBE, ToUBE, ToUBE, ToUBE)>();
+    <ConcatTuple<(ToUBE, ToUBE, ToUBE, ToUBE)> as BytesMapping<(u8, u8, NonZeroU8, u8)>>::is_value(
+        bytes,
+    )
 }
 
 fn are_five_bytes(bytes: &Vec<u8>) -> bool
     ensures length { IsTrue result → length bytes.now.items ≡ 5 }
-    ensures all { (a b c d e : ℕ) → IsText (a ∷ b ∷ c ∷ d ∷ e ∷ []) →
-        bytes.now.items ≡ a ∷ b ∷ c ∷ d ∷ e ∷ [] → IsTrue result }
+    ensures value { (a b c d e : ℕ) → IsText (a ∷ b ∷ c ∷ d ∷ e ∷ []) →
+        bytes.now.items ≡ a ∷ b ∷ c ∷ d ∷ e ∷ [] → IsTrue result ↔ (a ≢ 0) }
 {
     laws::any_bytes_are_a_value();
-    laws::bytes_of_tuples::<_, (u8, u8, u8, u8, u8), _, _, (ToUBE, ToUBE, ToUBE, ToUBE, ToUBE)>();
+    laws::bytes_of_non_zero_unsigned_integers();
+    laws::bytes_of_tuples::<
+        _,
+        (NonZeroU8, u8, u8, u8, u8),
+        _,
+        _,
+        (ToUBE, ToUBE, ToUBE, ToUBE, ToUBE),
+    >();
     <ConcatTuple<(ToUBE, ToUBE, ToUBE, ToUBE, ToUBE)> as BytesMapping<
-        (u8, u8, u8, u8, u8),
+        (NonZeroU8, u8, u8, u8, u8),
     >>::is_value(bytes)
 }
 
 fn are_six_bytes(bytes: &Vec<u8>) -> bool
     ensures length { IsTrue result → length bytes.now.items ≡ 6 }
-    ensures all { (a b c d e f : ℕ) → IsText (a ∷ b ∷ c ∷ d ∷ e ∷ f ∷ []) →
-        bytes.now.items ≡ a ∷ b ∷ c ∷ d ∷ e ∷ f ∷ [] → IsTrue result }
+    ensures value { (a b c d e f : ℕ) → IsText (a ∷ b ∷ c ∷ d ∷ e ∷ f ∷ []) →
+        bytes.now.items ≡ a ∷ b ∷ c ∷ d ∷ e ∷ f ∷ [] → IsTrue result ↔ (f ≢ 0) }
 {
     laws::any_bytes_are_a_value();
+    laws::bytes_of_non_zero_unsigned_integers();
     laws::bytes_of_tuples::<
         _,
-        (u8, u8, u8, u8, u8, u8),
+        (u8, u8, u8, u8, u8, NonZeroU8),
         _,
         _,
         (ToUBE, ToUBE, ToUBE, ToUBE, ToUBE, ToUBE),
     >();
     <ConcatTuple<(ToUBE, ToUBE, ToUBE, ToUBE, ToUBE, ToUBE)> as BytesMapping<
-        (u8, u8, u8, u8, u8, u8),
+        (u8, u8, u8, u8, u8, NonZeroU8),
     >>::is_value(bytes)
-}
-
-#[test]
-fn any_bytes_of_their_width_are_values(rt: HostRuntime) -> Result<(), Fail> {
-    assert!(rt; address_of(rt.alloc(), [127, 0, 0, 1])? == Ipv4Addr::LOCALHOST);
-    assert!(rt; is_ipv6(&[255; 16]));
-    assert!(rt; is_u16(&[0, 0]));
-    assert!(rt; is_i64(&[128, 0, 0, 0, 0, 0, 0, 0]));
-    Ok(())
-}
-
-#[test]
-fn only_zero_is_no_non_zero_integer(rt: HostRuntime) {
-    assert!(rt; is_non_zero_u32(&[0, 1, 0, 0]));
-    assert!(rt; !is_non_zero_u32(&[0; 4]));
-    assert!(rt; is_non_zero_i16(&[0, 0]));
-    assert!(rt; !is_non_zero_i16(&[128, 0]));
-}
-
-#[test]
-fn sequences_and_tuples_are_values_by_their_parts(rt: HostRuntime) -> Result<(), Fail> {
-    let alloc = rt.alloc();
-    let (six, five) = (vec![in alloc; 0; 6]?, vec![in alloc; 7; 5]?);
-    assert!(rt; are_three_ports(&six) && !are_three_ports(&five));
-    assert!(rt; are_ports(&six) && !are_ports(&five));
-    assert!(rt; !are_two_counts(&six) && are_two_counts(&vec![in alloc; 7; 4]?));
-    assert!(rt; !is_host(&six) && is_host(&vec![in alloc; 7; 6]?));
-    Ok(())
-}
-
-#[test]
-fn bytes_are_tuples_by_their_number(rt: HostRuntime) -> Result<(), Fail> {
-    let alloc = rt.alloc();
-    let (three, four) = (vec![in alloc; 7; 3]?, vec![in alloc; 0; 4]?);
-    let (five, six) = (vec![in alloc; 255; 5]?, vec![in alloc; 1; 6]?);
-    assert!(rt; are_three_bytes(&three) && !are_three_bytes(&four));
-    assert!(rt; are_four_bytes(&four) && !are_four_bytes(&five));
-    assert!(rt; are_five_bytes(&five) && !are_five_bytes(&six));
-    assert!(rt; are_six_bytes(&six) && !are_six_bytes(&three));
-    Ok(())
 }

@@ -18,7 +18,7 @@ use std::ops::Bound;
 
 /// An inner node that is always of the smallest kind that holds its children.
 ///
-/// (from crates/art_node_tests/src/nodes/replay.rt)
+/// (from tests/art_node_tests/nodes/replay.rt.txt)
 /// ```rust
 /// let mut node = ChildNode::from_header(Header::<2>::new(b"", 0));
 /// for byte in 0..20u8 {

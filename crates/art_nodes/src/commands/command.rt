@@ -5,7 +5,7 @@ use std::ops::Bound;
 
 /// A command on the children of a node.
 ///
-/// (from crates/art_node_tests/src/nodes/replay.rt)
+/// (from tests/art_node_tests/nodes/replay.rt.txt)
 /// ```rust
 ///     (Command::Lookup(7), Reply::Child(Some(leaf(7)))),
 ///     (Command::Lookup(201), Reply::Child(None)),

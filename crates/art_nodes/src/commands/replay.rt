@@ -9,7 +9,7 @@ use std::alloc::{AllocError, Global};
 
 /// The result of [`replay`]: the reply to each command, and the node after the last command.
 ///
-/// (from crates/art_node_tests/src/nodes/replay.rt)
+/// (from tests/art_node_tests/nodes/replay.rt.txt)
 /// ```rust
 /// let mut header = Header::<2>::new(b"abc", 3);
 /// header.inc_num_children();

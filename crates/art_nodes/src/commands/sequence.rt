@@ -5,7 +5,7 @@ use std::marker::Model;
 
 /// The items of a vector, in order.
 ///
-/// (from crates/art_node_tests/src/nodes/replay.rt)
+/// (from tests/art_node_tests/nodes/replay.rt.txt)
 /// ```rust
 /// let numbers = Sequence::from_vec(vec![in rt.alloc(); 3, 1, 2]?);
 /// assert!(rt; numbers.as_slice() == [3, 1, 2].as_slice());

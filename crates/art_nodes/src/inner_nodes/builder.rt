@@ -67,7 +67,7 @@ impl BuilderState for HasChild {
 /// Builds an inner node of the type `N`, child by child. Only a node of two children or more can be
 /// built. No call takes memory. [`InnerNodeCommon::builder`] begins one.
 ///
-/// (from crates/art_node_tests/src/nodes/builder.rt)
+/// (from tests/art_node_tests/nodes/builder.rt.txt)
 /// ```rust
 /// let small = InnerNode4::<u8, u8, 16>::builder(b"prefix", 6)
 ///     .write_child(1, leaf(8))

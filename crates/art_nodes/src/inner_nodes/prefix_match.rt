@@ -7,7 +7,7 @@ use std::cmp::Ordering;
 /// A prefix was matched. The result of
 /// [`InnerNodeRead::optimistic_match_prefix`](crate::InnerNodeRead::optimistic_match_prefix).
 ///
-/// (from crates/art_node_tests/src/nodes/prefix_match.rt)
+/// (from tests/art_node_tests/nodes/prefix_match.rt.txt)
 /// ```rust
 /// let node: InnerNode4<u8, u8, 16> = pair(&rt, b"abc", leaf(1));
 /// let found = node
@@ -24,7 +24,7 @@ pub struct PrefixMatch {
 /// A prefix was matched, or skipped where the node does not store all of it. The result of
 /// [`InnerNodeRead::attempt_pessimistic_match_prefix`](crate::InnerNodeRead::attempt_pessimistic_match_prefix).
 ///
-/// (from crates/art_tree_tests/src/tree/matches.rt)
+/// (from tests/art_tree_tests/tree/matches.rt.txt)
 /// ```rust
 /// match node.attempt_pessimistic_match_prefix(key) {
 ///     Ok(found) => Ok((found.matched_bytes, found.any_implicit_bytes)),
@@ -41,7 +41,7 @@ pub struct AttemptOptimisticPrefixMatch {
 
 /// The key is too short for the prefix.
 ///
-/// (from crates/art_node_tests/src/nodes/prefix_match.rt)
+/// (from tests/art_node_tests/nodes/prefix_match.rt.txt)
 /// ```rust
 /// let short = node
 ///     .optimistic_match_prefix(b"ab")
@@ -56,7 +56,7 @@ pub struct OptimisticMismatch {
 
 /// The key differs from the prefix, or is too short for it.
 ///
-/// (from crates/art_node_tests/src/nodes/prefix_match.rt)
+/// (from tests/art_node_tests/nodes/prefix_match.rt.txt)
 /// ```rust
 /// let short = PessimisticMismatch::from(short);
 /// assert!(rt; short.matched_bytes == 2);

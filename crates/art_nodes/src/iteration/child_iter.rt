@@ -29,7 +29,7 @@ pub type ChildIter<'a, K, V, const PREFIX_LEN: usize> = PairIter<
 /// It borrows the node and takes no memory. Each pair is returned once, from the start or from the
 /// end. After the last pair every call returns `None`.
 ///
-/// (from crates/art_node_tests/src/nodes/iteration.rt)
+/// (from tests/art_node_tests/nodes/iteration.rt.txt)
 /// ```rust
 /// let mut pairs = node.iter();
 /// assert!(rt; pairs.next() == Some(first));

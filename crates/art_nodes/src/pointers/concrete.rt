@@ -12,7 +12,7 @@ use std::marker::PhantomData;
 
 /// A pointer to a node of any kind, with a variant for each kind.
 ///
-/// (from crates/art_node_tests/src/nodes/pointers.rt)
+/// (from tests/art_node_tests/nodes/pointers.rt.txt)
 /// ```rust
 /// let four = NodePtr::<16, InnerNode4<u8, u8, 16>>::from_key(4);
 /// assert!(rt; four.to_opaque().to_node_ptr().to_opaque() == four.to_opaque());
@@ -37,7 +37,7 @@ pub enum ConcreteNodePtr<K, V, const PREFIX_LEN: usize> {
 
 /// A pointer to an inner node of any kind, with a variant for each kind.
 ///
-/// (from crates/art_node_tests/src/nodes/pointers.rt)
+/// (from tests/art_node_tests/nodes/pointers.rt.txt)
 /// ```rust
 /// let inner = ConcreteInnerNodePtr::from(all);
 /// assert!(rt; inner.to_opaque() == all.to_opaque());

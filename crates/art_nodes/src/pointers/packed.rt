@@ -12,7 +12,7 @@ use std::marker::{Model, PhantomData};
 /// `==` compares two of them; [`PackedNodePtr::equals`] and [`OpaqueNodePtr::equals`] compare one
 /// with a pointer.
 ///
-/// (from crates/art_node_tests/src/nodes/indirect.rt)
+/// (from tests/art_node_tests/nodes/indirect.rt.txt)
 /// ```rust
 /// let children = node.initialized_child_pointers();
 /// assert!(rt; children.len() == 2);

@@ -1,21 +1,9 @@
 -- Search: a step is right for every prefix that the node may have.
-use Rattle.std.proofs.Common.{◌≡◌, ◌∙◌, inl, inr, ℕ, zero, suc, ◌+◌, ◌-◌, ◌≤◌, Bool, true, false, ◌||◌, nat_eq, nat_lt, List, [], ◌∷◌, ◌++◌, length, length-append, take, drop, Option, Some, None, IfSome, IfNone, Result, Ok, Err, IfOk, slice_get, refl, sym, ap, subst, arith, append_assoc}
-use Rattle.std.specs.Result.{result_ok}
-use Rattle.std.specs.List.{starts_with, common_prefix_len}
-use Rattle.std.proofs.lemmas.Bool.{cases_lt, and_from, and_parts, or_left, or_right, le-leb, le-ltb, lt-ltb}
-use Rattle.std.proofs.lemmas.Bool.Decides.{eqb_tells}
-use Rattle.std.proofs.lemmas.List.{append-nil, nil_from_length, take_rest}
-use Rattle.std.proofs.lemmas.Option.{same_Some, slice_get_within}
-use Rattle.std.proofs.Math.Seq.{drop-append_seam}
-use Rattle.art_bytes.specs.Text.{IsPrefixOf}
-use Rattle.art_nodes.specs.ChildMap.{child_at}
+use Rattle.art_tree.proofs.Names.{◌≡◌, ◌∙◌, inl, inr, ℕ, zero, suc, ◌+◌, ◌-◌, ◌≤◌, Bool, true, false, ◌||◌, nat_eq, nat_lt, List, [], ◌∷◌, ◌++◌, length, length-append, take, drop, Option, Some, None, IfSome, IfNone, Result, Ok, Err, IfOk, slice_get, refl, sym, ap, subst, arith, append_assoc, append-nil, result_ok, starts_with, common_prefix_len, cases_lt, and_from, and_parts, or_left, or_right, le-leb, le-ltb, lt-ltb, eqb_tells, nil_from_length, take_rest, same_Some, slice_get_within, drop-append_seam, IsPrefixOf, child_at, Held, HeldInner, LeadsOn, LeadsNowhere, LeadsOnFrom, LeadsNowhereFrom, goes_to}
 use Rattle.art_nodes.specs.Inner.{Inner}
 use Rattle.art_nodes.specs.PrefixMatch.{HasPrefix, cheap_match}
 use Rattle.art_nodes.specs.declared.inner_nodes.prefix_match.AttemptOptimisticPrefixMatch.{AttemptOptimisticPrefixMatch}
 use Rattle.art_nodes.specs.declared.inner_nodes.prefix_match.PessimisticMismatch.{PessimisticMismatch}
-use Rattle.art_arena.specs.Arena.{Held, HeldInner}
-use Rattle.art_tree.specs.Descent.{LeadsOn, LeadsNowhere, LeadsOnFrom, LeadsNowhereFrom}
-use Rattle.art_tree.specs.Search.{goes_to}
 
 abbrev Is : Result AttemptOptimisticPrefixMatch PessimisticMismatch → Result AttemptOptimisticPrefixMatch PessimisticMismatch → Type 0
 Is a b = a ≡ b

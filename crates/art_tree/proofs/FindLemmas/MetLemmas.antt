@@ -1,9 +1,5 @@
 -- The nodes that a key meets are distinct.
-use Rattle.std.proofs.Common.{◌≢◌, ℕ, ◌+◌, Bool, true, false, cond, List, [], ◌∷◌, ◌++◌, length, drop, All}
-use Rattle.std.proofs.lemmas.List.Elements.{All-cons, All-head, All-tail}
-use Rattle.art_arena.specs.Links.{AreDistinct}
-use Rattle.art_arena.specs.Trees.{Tree, Leaf, Inner, Branches, NoBranch, Branch, places, branch_places}
-use Rattle.art_tree.specs.Search.{goes_to, met, met_below}
+use Rattle.art_tree.proofs.Names.{◌≢◌, ℕ, ◌+◌, Bool, true, false, cond, List, [], ◌∷◌, ◌++◌, length, drop, All, All-cons, All-head, All-tail, AreDistinct, Tree, Leaf, Inner, Branches, NoBranch, Branch, places, branch_places, goes_to, met, met_below}
 
 -- one list is the other with some members left out
 data Sublist {A : Type 0} : List A → List A → Type 0 where

@@ -1,53 +1,20 @@
 -- Search: there is one way to each leaf of a sound tree that stands.
-use Rattle.std.proofs.Common.{◌≡◌, ◌≢◌, ◌∙◌, inl, inr, ℕ, ◌+◌, List, [], ◌∷◌, ◌++◌, length, length-append, All, refl, sym, ap, subst, arith}
-use Rattle.std.proofs.lemmas.List.{get_or-append-add}
-use Rattle.std.proofs.lemmas.List.Elements.{All-nil, All-cons, All-head, All-tail}
-use Rattle.std.proofs.Math.ListN.{get_or-append}
-use Rattle.art_arena.specs.Links.{AreDistinct}
-use Rattle.art_arena.specs.Trees.{Tree, Leaf, Inner, Branches, NoBranch, Branch, places, branch_places}
-use Rattle.art_tree.specs.Search.{IsWay, IsWayUnder}
-
-pub All-left : {A : Type 0} (P : A → Type 0) (xs ys : List A) → All P (xs ++ ys) → All P xs
-All-left P xs ys all k d inside = subst P (get_or-append xs ys d k inside) (all k d (omega (arith, length-append xs ys)))
-
-pub All-right : {A : Type 0} (P : A → Type 0) (xs ys : List A) → All P (xs ++ ys) → All P ys
-All-right P xs ys all k d inside = subst P (get_or-append-add xs ys k d) (all (length xs + k) d (omega (arith, length-append xs ys)))
-
--- the parts of a list of different members
-record Parted {A : Type 0} (xs ys : List A) : Type 0 where
-  left : AreDistinct xs
-  right : AreDistinct ys
-  apart : All (λ x. All (λ y. y ≢ x) ys) xs
-
-parted : {A : Type 0} (xs ys : List A) → AreDistinct (xs ++ ys) → Parted xs ys
-parted [] ys distinct = record { left = tt; right = distinct; apart = All-nil (λ x. All (λ y. y ≢ x) ys) }
-parted (x ∷ xs) ys distinct =
-    let rest = parted xs ys distinct.1 in
-    record {
-      left = (All-left (λ other. other ≢ x) xs ys distinct.0, rest.left);
-      right = rest.right;
-      apart = All-cons (λ z. All (λ y. y ≢ z) ys) x xs (All-right (λ other. other ≢ x) xs ys distinct.0) rest.apart;
-    }
+use Rattle.art_tree.proofs.Names.{Contains, ◌≡◌, ◌∙◌, inl, inr, ℕ, List, [], ◌∷◌, sym, ap, arith, Contains-append_left, Contains-append_right, AreDistinct, Tree, Leaf, Inner, Branches, NoBranch, Branch, places, branch_places, IsWay, IsWayUnder}
+use Rattle.art_tree.proofs.SharedLemmas.ExchangedSubtree.{AreDistinct-split}
 
 module _ {H : Type 0} where
   mutual
     -- a leaf to which a way leads is at a place of the tree
-    way-place : (P : H → Type 0) (tree : Tree H) (steps : List (H × ℕ)) (pointer : H) → IsWay tree steps pointer → All P (places tree) → P pointer
-    way-place P (Leaf at text) steps pointer (none, same) all = subst P (sym same) (All-head P at [] all)
-    way-place P (Inner at prefix branches) steps pointer (byte, rest, is, under) all = under-place P branches byte rest pointer under (All-tail P at (branch_places branches) all)
+    way-place : (tree : Tree H) (steps : List (H × ℕ)) (pointer : H) → IsWay tree steps pointer → Contains (places tree) pointer
+    way-place (Leaf at text) steps pointer (none, same) = (0, omega arith, sym same)
+    way-place (Inner at prefix branches) steps pointer (byte, rest, is, under) = Contains-append_right (at ∷ []) (branch_places branches) pointer (under-place branches byte rest pointer under)
 
-    under-place : (P : H → Type 0) (branches : Branches H) (byte : ℕ) (steps : List (H × ℕ)) (pointer : H) → IsWayUnder branches byte steps pointer → All P (branch_places branches) → P pointer
-    under-place P NoBranch byte steps pointer under all = absurd under
-    under-place P (Branch b tree others) byte steps pointer under all = elim under [
-      | inl (same, way) ↦ way-place P tree steps pointer way (All-left P (places tree) (branch_places others) all)
-      | inr later ↦ under-place P others byte steps pointer later (All-right P (places tree) (branch_places others) all)
+    under-place : (branches : Branches H) (byte : ℕ) (steps : List (H × ℕ)) (pointer : H) → IsWayUnder branches byte steps pointer → Contains (branch_places branches) pointer
+    under-place NoBranch byte steps pointer under = absurd under
+    under-place (Branch b tree others) byte steps pointer under = elim under [
+      | inl (same, way) ↦ Contains-append_left (places tree) (branch_places others) pointer (way-place tree steps pointer way)
+      | inr later ↦ Contains-append_right (places tree) (branch_places others) pointer (under-place others byte steps pointer later)
     ]
-
-  -- no leaf is in a branch and in a later one
-  not-twice : (tree : Tree H) (others : Branches H) (byte : ℕ) (steps more : List (H × ℕ)) (pointer : H) → All (λ x. All (λ y. y ≢ x) (branch_places others)) (places tree) → IsWay tree steps pointer → IsWayUnder others byte more pointer → ⊥
-  not-twice tree others byte steps more pointer apart way under =
-      let never : All (λ y. y ≢ pointer) (branch_places others) = way-place (λ x. All (λ y. y ≢ x) (branch_places others)) tree steps pointer way apart in
-      under-place (λ y. y ≢ pointer) others byte more pointer under never refl
 
   mutual
     pub one-way : (tree : Tree H) → AreDistinct (places tree) → (steps more : List (H × ℕ)) (pointer : H) → IsWay tree steps pointer → IsWay tree more pointer → more ≡ steps
@@ -59,14 +26,14 @@ module _ {H : Type 0} where
     one-under : (branches : Branches H) → AreDistinct (branch_places branches) → (byte byte_too : ℕ) (steps more : List (H × ℕ)) (pointer : H) → IsWayUnder branches byte steps pointer → IsWayUnder branches byte_too more pointer → (byte_too ≡ byte) × (more ≡ steps)
     one-under NoBranch distinct byte byte_too steps more pointer under under_too = absurd under
     one-under (Branch b tree others) distinct byte byte_too steps more pointer under under_too =
-        let parts = parted (places tree) (branch_places others) distinct in
+        let parts = AreDistinct-split (places tree) (branch_places others) distinct in
         elim under [
           | inl (same, way) ↦ elim under_too [
-            | inl (same_too, way_too) ↦ (sym same_too ∙ same, one-way tree parts.left steps more pointer way way_too)
-            | inr later ↦ absurd (not-twice tree others byte_too steps more pointer parts.apart way later)
+            | inl (same_too, way_too) ↦ (sym same_too ∙ same, one-way tree parts.0 steps more pointer way way_too)
+            | inr later ↦ absurd (parts.2 pointer (way-place tree steps pointer way) (under-place others byte_too more pointer later))
           ]
           | inr later ↦ elim under_too [
-            | inl (same_too, way_too) ↦ absurd (not-twice tree others byte more steps pointer parts.apart way_too later)
-            | inr later_too ↦ one-under others parts.right byte byte_too steps more pointer later later_too
+            | inl (same_too, way_too) ↦ absurd (parts.2 pointer (way-place tree more pointer way_too) (under-place others byte steps pointer later))
+            | inr later_too ↦ one-under others parts.1 byte byte_too steps more pointer later later_too
           ]
         ]

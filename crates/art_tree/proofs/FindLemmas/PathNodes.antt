@@ -1,13 +1,5 @@
 -- Search: the path of a way to a leaf, by the nodes that an arena holds.
-use Rattle.std.proofs.Common.{◌≡◌, ◌∙◌, ℕ, suc, ◌≤◌, List, [], ◌∷◌, ◌++◌, Some, inl, inr, refl, sym, ap, subst, arith}
-use Rattle.std.proofs.lemmas.Bool.{eq-eqb, ne_eqb}
-use Rattle.art_nodes.specs.ChildMap.{IsAscendingFrom, key_bytes, child_at}
-use Rattle.art_nodes.specs.declared.pointers.OpaqueNodePtr.{OpaqueNodePtr}
-use Rattle.art_arena.specs.Arena.{NodeArena}
-use Rattle.art_arena.specs.Standing.{StandsIn, AllStandIn}
-use Rattle.art_arena.specs.Trees.{Tree, Leaf, Inner, Branches, NoBranch, Branch, branch_roots, root_of, IsSound, AreSound}
-use Rattle.art_tree.specs.Paths.{Steps, path_of}
-use Rattle.art_tree.specs.Search.{IsWay, IsWayUnder, HasChildAt, LeadsTo}
+use Rattle.art_tree.proofs.Names.{◌≡◌, ◌∙◌, ℕ, suc, ◌≤◌, List, [], ◌∷◌, ◌++◌, Some, inl, inr, refl, sym, ap, subst, arith, eq-eqb, ne_eqb, IsAscendingFrom, key_bytes, child_at, OpaqueNodePtr, NodeArena, StandsIn, AllStandIn, Tree, Leaf, Inner, Branches, NoBranch, Branch, branch_roots, root_of, IsSound, AreSound, Steps, path_of, IsWay, IsWayUnder, HasChildAt, LeadsTo}
 
 module _ {K V : Type 0} {P : ℕ} (text : K → List ℕ) (arena : NodeArena K V P) where
   -- a path of two steps or more leads on from any root

@@ -1,11 +1,7 @@
 -- Search: a path after one visit more.
-use Rattle.std.proofs.Common.{◌≡◌, ◌∙◌, ◌⊎◌, inl, inr, ℕ, [], ◌∷◌, ◌++◌, refl, sym, ap}
-use Rattle.art_nodes.specs.declared.pointers.OpaqueNodePtr.{OpaqueNodePtr}
-use Rattle.art_tree.specs.declared.path.TreePath.{TreePath}
-use Rattle.art_tree.specs.declared.path.TreePath.TheVariants.{Root, ChildOfRoot, Normal}
-use Rattle.art_tree.specs.declared.path.TreePathSearch.{TreePathSearch}
+use Rattle.art_tree.proofs.Names.{◌≡◌, ◌∙◌, ◌⊎◌, inl, inr, ℕ, [], ◌∷◌, ◌++◌, refl, sym, ap, OpaqueNodePtr, TreePath, Root, ChildOfRoot, Normal, Steps, path_of, finished_with}
+use Rattle.art_tree.specs.declared.path.Visited.{Visited}
 use Rattle.art_tree.specs.declared.path.Visited.TheVariants.{NoNode, OneNode, TwoNodes}
-use Rattle.art_tree.specs.Paths.{Steps, path_of, finished, finished_with}
 
 module _ {K V : Type 0} {P : ℕ} where
   -- the path with one step more
@@ -24,15 +20,15 @@ module _ {K V : Type 0} {P : ℕ} where
   visit-kept steps path after node byte is same = is ∙ ap (λ p. visited p node byte) same ∙ sym (path_of-visit steps node byte)
 
   -- a search that remembers a node more
-  module _ (before after : TreePathSearch K V P) (parents : after.grandparent ≡ before.parent) (bytes : after.parent_key_byte ≡ before.child_key_byte) where
-    pub first-remembered : before.visited ≡ NoNode → after.visited ≡ OneNode → finished after ≡ visited (finished before) after.parent after.child_key_byte
-    first-remembered was is = ap (λ v. finished_with v after) is ∙ sym (ap (λ v. visited (finished_with v before) after.parent after.child_key_byte) was)
+  module _ (grandparent : OpaqueNodePtr K V P) (higher : ℕ) (parent : OpaqueNodePtr K V P) (above : ℕ) (node : OpaqueNodePtr K V P) (byte : ℕ) where
+    abbrev before : Visited → TreePath K V P
+    before count = finished_with count grandparent higher parent above
 
-    pub more-remembered : (before.visited ≡ OneNode) ⊎ (before.visited ≡ TwoNodes) → after.visited ≡ TwoNodes → finished after ≡ visited (finished before) after.parent after.child_key_byte
-    more-remembered was is =
-        let now : finished after ≡ Normal before.parent before.child_key_byte after.parent after.child_key_byte =
-        ap (λ v. finished_with v after) is ∙ (λ i. Normal (parents i) (bytes i) after.parent after.child_key_byte) in
-        now ∙ sym (elim was [
-          | inl one ↦ ap (λ v. visited (finished_with v before) after.parent after.child_key_byte) one
-          | inr two ↦ ap (λ v. visited (finished_with v before) after.parent after.child_key_byte) two
-        ])
+    pub first-remembered : (was is : Visited) → was ≡ NoNode → is ≡ OneNode → finished_with is parent above node byte ≡ visited (before was) node byte
+    first-remembered was is none one = ap (λ v. finished_with v parent above node byte) one ∙ sym (ap (λ v. visited (before v) node byte) none)
+
+    pub more-remembered : (was is : Visited) → (was ≡ OneNode) ⊎ (was ≡ TwoNodes) → is ≡ TwoNodes → finished_with is parent above node byte ≡ visited (before was) node byte
+    more-remembered was is some two = ap (λ v. finished_with v parent above node byte) two ∙ sym (elim some [
+      | inl one ↦ ap (λ v. visited (before v) node byte) one
+      | inr both ↦ ap (λ v. visited (before v) node byte) both
+    ])

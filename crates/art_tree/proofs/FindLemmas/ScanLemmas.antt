@@ -1,40 +1,6 @@
 -- Search: the key can be in one branch only.
-use Rattle.std.proofs.Common.{◌≡◌, ◌∙◌, ℕ, suc, ◌+◌, ◌<◌, Bool, true, false, List, [], ◌∷◌, ◌++◌, length, filter, drop, Some, None, slice_get, refl, sym, ap, subst, inl, inr, arith, nat_eq}
-use Rattle.std.specs.Cmp.Lexicographic.{pointwise}
-use Rattle.std.proofs.lemmas.Bool.Decides.{eqb_tells}
-use Rattle.std.proofs.lemmas.Bool.{eq-eqb}
-use Rattle.std.proofs.lemmas.List.{append-nil}
-use Rattle.std.proofs.lemmas.List.Elements.{filter-append}
-use Rattle.art_bytes.specs.Text.{IsPrefixOf}
-use Rattle.art_nodes.specs.ChildMap.{IsAscendingFrom, key_bytes, child_at}
-use Rattle.art_arena.specs.Trees.{Tree, Leaf, Inner, Branches, NoBranch, Branch, branch_leaves, branch_roots, root_of, IsSound, AreSound}
-use Rattle.art_tree.specs.Search.{scan, met, met_below, goes_to, IsWay, IsWayUnder}
+use Rattle.art_tree.proofs.Names.{other_text, ◌≡◌, ◌∙◌, ℕ, suc, ◌+◌, ◌<◌, Bool, true, false, List, [], ◌∷◌, ◌++◌, length, filter, drop, Some, None, slice_get, refl, sym, subst, inl, inr, arith, nat_eq, append-nil, pointwise, eqb_tells, eq-eqb, filter-append, IsPrefixOf, IsAscendingFrom, key_bytes, child_at, Tree, Leaf, Inner, Branches, NoBranch, Branch, branch_leaves, branch_roots, root_of, IsSound, AreSound, scan, met, met_below, goes_to, IsWay, IsWayUnder, prefix-shorter}
 use Rattle.art_tree.proofs.FindLemmas.DescentLemmas.{goes-byte}
-use Rattle.art_bytes.proofs.PrefixLaws.{prefix-shorter}
-
--- a text is another or not, as the test returns
-pub same-text : (a b : List ℕ) → pointwise nat_eq a b ≡ true → a ≡ b
-same-text [] [] h = refl
-same-text [] (y ∷ b) h = absurd (cc)
-same-text (x ∷ a) [] h = absurd (cc)
-same-text (x ∷ a) (y ∷ b) h = elim (eqb_tells x y) [
-  | inl same ↦ let rest : pointwise nat_eq a b ≡ true = rw same.0 at h in ap (λ z. z ∷ a) same.1 ∙ ap (λ z. y ∷ z) (same-text a b rest)
-  | inr never ↦ let wrong : false ≡ true = rw never.0 at h in absurd (cc)
-]
-
-pub text-itself : (a : List ℕ) → pointwise nat_eq a a ≡ true
-text-itself [] = refl
-text-itself (x ∷ a) = elim (eqb_tells x x) [
-  | inl same ↦ rw same.0 (text-itself a)
-  | inr never ↦ absurd (never.1 refl)
-]
-
-pub other-text : (a b : List ℕ) → (a ≡ b → ⊥) → pointwise nat_eq a b ≡ false
-other-text a b never = by_test (pointwise nat_eq a b) refl
-  where
-    by_test : (t : Bool) → pointwise nat_eq a b ≡ t → pointwise nat_eq a b ≡ false
-    by_test true is = absurd (never (same-text a b is))
-    by_test false is = is
 
 -- the byte after a prefix, in a longer prefix
 pub prefix-byte : (q key : List ℕ) (c b : ℕ) → IsPrefixOf (q ++ c ∷ []) key → slice_get key (length q) ≡ Some b → c ≡ b
@@ -45,7 +11,7 @@ module _ {H : Type 0} (key : List ℕ) where
   mutual
     -- no leaf has the key where the key does not begin with the path
     pub scan-apart : (path : List ℕ) (tree : Tree H) → IsSound path tree → (IsPrefixOf path key → ⊥) → scan tree key ≡ []
-    scan-apart path (Leaf pointer text) sound never = rw (other-text text key (λ same. never (subst (IsPrefixOf path) same sound.0)))
+    scan-apart path (Leaf pointer text) sound never = rw (other_text text key (λ same. never (subst (IsPrefixOf path) same sound.0)))
     scan-apart path (Inner pointer prefix branches) sound never = scan-none (path ++ prefix) branches sound.2 (λ byte front. never (prefix-shorter path prefix key (prefix-shorter (path ++ prefix) (byte ∷ []) key front)))
 
     pub scan-none : (path : List ℕ) (branches : Branches H) → AreSound path branches → ((byte : ℕ) → IsPrefixOf (path ++ byte ∷ []) key → ⊥) → filter (λ leaf. pointwise nat_eq leaf.1 key) (branch_leaves branches) ≡ []

@@ -1,27 +1,10 @@
 -- Search: the state of the descent, and one node visit more.
-use Rattle.std.proofs.Common.{Bool, IsTrue, Bor, IfSome, IfNone, ◌≡◌, ◌≢◌, ◌∙◌, ℕ, ◌+◌, ◌≤◌, true, false, List, [], ◌∷◌, ◌++◌, length, length-append, Option, Some, None, slice_get, drop, refl, sym, ap, subst, arith, nat_eq, append_assoc, if◌then◌else◌}
-use Rattle.std.specs.Cmp.Lexicographic.{pointwise}
-use Rattle.std.proofs.Math.Seq.{drop-append_seam}
-use Rattle.std.proofs.lemmas.List.{drop-drop, append-nil}
-use Rattle.art_bytes.specs.Text.{IsPrefixOf}
-use Rattle.art_nodes.specs.ChildMap.{child_at}
-use Rattle.art_nodes.specs.Inner as nodes
-use Rattle.art_nodes.specs.declared.pointers.NodePtr.{NodePtr}
-use Rattle.art_nodes.specs.declared.pointers.OpaqueNodePtr.{OpaqueNodePtr}
-use Rattle.art_nodes.specs.declared.leaf_node.LeafNode.{LeafNode}
-use Rattle.art_arena.specs.Arena.{NodeArena, Held, Nothing, HeldInner, HeldLeaf, held}
-use Rattle.art_arena.specs.Reader.{shown}
+use Rattle.art_tree.proofs.Names.{Bool, IsTrue, Bor, IfSome, IfNone, ◌≡◌, ◌≢◌, ◌∙◌, ℕ, ◌+◌, ◌≤◌, true, false, List, [], ◌∷◌, ◌++◌, length, length-append, Option, Some, None, slice_get, drop, refl, sym, ap, subst, arith, nat_eq, append_assoc, if◌then◌else◌, append-nil, pointwise, drop-append_seam, drop-drop, IsPrefixOf, child_at, NodePtr, OpaqueNodePtr, LeafNode, NodeArena, Held, Nothing, HeldInner, HeldLeaf, held, shown, StandsIn, AllStandIn, NodeStands, IsTreeIn, leaf_text, Tree, Inner, Branches, IsSound, root_of, branch_roots, at-some, shown-prefix, TreePath, LeadsOn, LeadsNowhere, LeadsOnFrom, LeadsNowhereFrom, Steps, HasVisited, scan, met, IsWay, leaf_pointer, other_text, text_itself, InnerNode}
 use Rattle.art_arena.specs.declared.reader.AnyNodeRef.{AnyNodeRef}
 use Rattle.art_arena.specs.declared.reader.AnyNodeRef.TheVariants as references
-use Rattle.art_arena.specs.Standing.{StandsIn, AllStandIn, NodeStands, IsTreeIn, leaf_text}
-use Rattle.art_arena.specs.Trees.{Tree, Leaf, Inner, Branches, IsSound, root_of, branch_roots}
-use Rattle.art_arena.proofs.StandingLaws.{at-some, shown-prefix}
-use Rattle.art_tree.specs.declared.path.TreePathSearch.{TreePathSearch}
-use Rattle.art_tree.specs.Descent.{LeadsOn, LeadsNowhere, LeadsOnFrom, LeadsNowhereFrom}
-use Rattle.art_tree.specs.Paths.{Steps, HasVisited}
-use Rattle.art_tree.specs.Search.{scan, met, IsWay, leaf_pointer}
+use Rattle.art_tree.proofs.SharedLemmas.HeldParts.{inner-part, leaf-part, part-held}
 use Rattle.art_tree.proofs.FindLemmas.DescentLemmas.{prefix-goes}
-use Rattle.art_tree.proofs.FindLemmas.ScanLemmas.{scan-nowhere, met-nowhere, branching, other-text, text-itself}
+use Rattle.art_tree.proofs.FindLemmas.ScanLemmas.{scan-nowhere, met-nowhere, branching}
 
 -- a leaf that was looked at is held on
 pub still-held : {K V : Type 0} {P : ℕ} (now arena : NodeArena K V P) (at : OpaqueNodePtr K V P) (leaf : NodePtr P (LeafNode K V P)) (node : LeafNode K V P) → now ≡ arena → leaf_pointer leaf ≡ at → held arena at ≡ HeldLeaf node → held now (leaf_pointer leaf) ≢ Nothing
@@ -30,7 +13,7 @@ still-held now arena at leaf node same pointer holds nothing =
 
 -- a search is at this pointer, after so many bytes and node visits: what the whole tree has of the
 -- key is what this part has
-pub record IsHere {K V : Type 0} {P : ℕ} (text : K → List ℕ) (arena : NodeArena K V P) (whole : Tree (OpaqueNodePtr K V P)) (key : List ℕ) (at : OpaqueNodePtr K V P) (depth : ℕ) (search : TreePathSearch K V P) (budget left : ℕ) : Type 0 where
+pub record IsHere {K V : Type 0} {P : ℕ} (text : K → List ℕ) (arena : NodeArena K V P) (whole : Tree (OpaqueNodePtr K V P)) (key : List ℕ) (at : OpaqueNodePtr K V P) (depth : ℕ) (search : TreePath K V P) (budget left : ℕ) : Type 0 where
   pub part : Tree (OpaqueNodePtr K V P)
   pub path : List ℕ
   pub steps : Steps K V P
@@ -49,17 +32,13 @@ drop-front : (path front key : List ℕ) (depth : ℕ) → length path ≡ depth
 drop-front path front key depth deep (rest, is) = (rest, subst (λ m. drop m key ≡ front ++ rest) deep (ap (drop (length path)) (is ∙ append_assoc path front rest) ∙ drop-append_seam path (front ++ rest)))
 
 module _ {K V : Type 0} {P : ℕ} (text : K → List ℕ) (arena : NodeArena K V P) (whole : Tree (OpaqueNodePtr K V P)) (key : List ℕ) where
-  pub here-start : (root : OpaqueNodePtr K V P) (search : TreePathSearch K V P) (budget : ℕ) → IsTreeIn text arena root whole → HasVisited search [] → IsHere text arena whole key root 0 search budget budget
+  pub here-start : (root : OpaqueNodePtr K V P) (search : TreePath K V P) (budget : ℕ) → IsTreeIn text arena root whole → HasVisited search [] → IsHere text arena whole key root 0 search budget budget
   here-start root search budget is empty = record { part = whole; path = []; steps = []; at_root = is.at_root; stands = is.stands; sound = is.sound; deep = refl; same_scan = refl; same_met = omega arith; way_on = λ more pointer way. way; remembered = empty; counted = omega arith; few = omega arith }
 
-  module _ (at : OpaqueNodePtr K V P) (depth : ℕ) (search : TreePathSearch K V P) (budget left : ℕ) (here : IsHere text arena whole key at depth search budget left) where
+  module _ (at : OpaqueNodePtr K V P) (depth : ℕ) (search : TreePath K V P) (budget left : ℕ) (here : IsHere text arena whole key at depth search budget left) where
     -- something is held where the search is
     pub here-held : held arena at ≢ Nothing
-    here-held = by_part here.part here.at_root here.stands
-      where
-        by_part : (part : Tree (OpaqueNodePtr K V P)) → root_of part ≡ at → StandsIn text arena part → held arena at ≢ Nothing
-        by_part (Leaf pointer x) root (leaf, holds, has) none = let wrong : HeldLeaf leaf ≡ Nothing = sym holds ∙ ap (held arena) root ∙ none in absurd (cc)
-        by_part (Inner pointer prefix branches) root (node, holds, shows, stand) none = let wrong : HeldInner node ≡ Nothing = sym holds ∙ ap (held arena) root ∙ none in absurd (cc)
+    here-held = part-held text arena at here.part here.at_root here.stands
 
     -- the search is at a leaf
     pub record AtLeaf (leaf : LeafNode K V P) : Type 0 where
@@ -68,23 +47,15 @@ module _ {K V : Type 0} {P : ℕ} (text : K → List ℕ) (arena : NodeArena K V
       pub visits : length (met P whole key) ≡ length here.steps + 1
 
     pub here-leaf : (leaf : LeafNode K V P) → held arena at ≡ HeldLeaf leaf → AtLeaf leaf
-    here-leaf leaf is = by_part here.part here.at_root here.stands here.same_scan here.same_met here.way_on
-      where
-        by_part : (part : Tree (OpaqueNodePtr K V P)) → root_of part ≡ at → StandsIn text arena part → scan whole key ≡ scan part key → length (met P whole key) ≡ length here.steps + length (met P part (drop depth key))
-            → ((more : Steps K V P) (pointer : OpaqueNodePtr K V P) → IsWay part more pointer → IsWay whole (here.steps ++ more) pointer) → AtLeaf leaf
-        by_part (Leaf pointer x) root (stored, holds, has) same_scan same_met way_on =
-            let one : HeldLeaf stored ≡ HeldLeaf leaf = sym holds ∙ ap (held arena) root ∙ is in
-            let same : stored ≡ leaf = cc in
-            let text_is : x ≡ leaf_text text leaf = sym has ∙ ap (leaf_text text) same in
-            record {
-              same_scan = same_scan ∙ rw (text_is, root) refl;
-              way = subst (λ steps. IsWay whole steps at) (append-nil here.steps) (way_on [] at (refl, sym root));
-              visits = same_met;
-            }
-        by_part (Inner pointer prefix branches) root (node, holds, shows, stand) same_scan same_met way_on =
-            let one : HeldInner node ≡ HeldLeaf leaf = sym holds ∙ ap (held arena) root ∙ is in absurd (cc)
+    here-leaf leaf is =
+        let part_is = leaf-part text arena at leaf here.part here.at_root here.stands is in
+        record {
+          same_scan = here.same_scan ∙ ap (λ part. scan part key) part_is;
+          way = subst (λ steps. IsWay whole steps at) (append-nil here.steps) (here.way_on [] at (subst (λ part. IsWay part [] at) (sym part_is) (refl, refl)));
+          visits = here.same_met ∙ ap (λ part. length here.steps + length (met P part (drop depth key))) part_is;
+        }
 
-    module _ (node : nodes.Inner (OpaqueNodePtr K V P)) (is : held arena at ≡ HeldInner node) where
+    module _ (node : InnerNode (OpaqueNodePtr K V P)) (is : held arena at ≡ HeldInner node) where
       -- the node where the search is, as a part of the tree
       record AtNode : Type 0 where
         prefix : List ℕ
@@ -97,24 +68,18 @@ module _ {K V : Type 0} {P : ℕ} (text : K → List ℕ) (arena : NodeArena K V
         way_on : (more : Steps K V P) (pointer : OpaqueNodePtr K V P) → IsWay (Inner at prefix branches) more pointer → IsWay whole (here.steps ++ more) pointer
 
       at_node : AtNode
-      at_node = by_part here.part here.at_root here.stands here.sound here.same_scan here.same_met here.way_on
-        where
-          by_part : (part : Tree (OpaqueNodePtr K V P)) → root_of part ≡ at → StandsIn text arena part → IsSound here.path part → scan whole key ≡ scan part key → length (met P whole key) ≡ length here.steps + length (met P part (drop depth key))
-              → ((more : Steps K V P) (pointer : OpaqueNodePtr K V P) → IsWay part more pointer → IsWay whole (here.steps ++ more) pointer) → AtNode
-          by_part (Leaf pointer x) root (leaf, holds, has) sound same_scan same_met way_on = let one : HeldInner node ≡ HeldLeaf leaf = sym is ∙ sym (ap (held arena) root) ∙ holds in absurd (cc)
-          by_part (Inner pointer prefix branches) root (stored, holds, shows, stand) sound same_scan same_met way_on =
-              let one : HeldInner stored ≡ HeldInner node = sym holds ∙ ap (held arena) root ∙ is in
-              let node_is : stored ≡ node = cc in
-              record {
-                prefix = prefix;
-                branches = branches;
-                sound = sound;
-                stand = stand;
-                shows = subst (λ n. NodeStands P n prefix branches) node_is shows;
-                same_scan = same_scan;
-                same_met = same_met;
-                way_on = subst (λ h. (more : Steps K V P) (to : OpaqueNodePtr K V P) → IsWay (Inner h prefix branches) more to → IsWay whole (here.steps ++ more) to) root way_on;
-              }
+      at_node =
+          let part = inner-part text arena at node here.part here.at_root here.stands is in
+          record {
+            prefix = part.prefix;
+            branches = part.branches;
+            sound = subst (IsSound here.path) part.is here.sound;
+            shows = part.shows;
+            stand = part.stand;
+            same_scan = here.same_scan ∙ ap (λ part. scan part key) part.is;
+            same_met = here.same_met ∙ ap (λ part. length here.steps + length (met P part (drop depth key))) part.is;
+            way_on = λ more pointer way. here.way_on more pointer (subst (λ part. IsWay part more pointer) (sym part.is) way);
+          }
 
       module _ (n : AtNode) where
         nowhere-scan : LeadsNowhere P node key depth → scan whole key ≡ []
@@ -128,7 +93,7 @@ module _ {K V : Type 0} {P : ℕ} (text : K → List ℕ) (arena : NodeArena K V
             let none = met-nowhere P n.prefix (drop depth key) n.branches (λ byte goes. subst (λ c. child_at c byte ≡ None) n.shows.children (nowhere n.prefix byte (shown-prefix P node n.prefix n.branches n.shows) goes)) in
             n.same_met ∙ ap (λ below. length here.steps + length (at ∷ below)) none
 
-        on-at : (next : ℕ × OpaqueNodePtr K V P) → LeadsOn P node key depth next → (visited : TreePathSearch K V P) → ((steps : Steps K V P) (byte : ℕ) → slice_get key next.0 ≡ Some byte → HasVisited search steps → HasVisited visited (steps ++ (at, byte) ∷ []))
+        on-at : (next : ℕ × OpaqueNodePtr K V P) → LeadsOn P node key depth next → (visited : TreePath K V P) → ((steps : Steps K V P) (byte : ℕ) → slice_get key next.0 ≡ Some byte → HasVisited search steps → HasVisited visited (steps ++ (at, byte) ∷ []))
             → (after : ℕ) → after + 1 ≡ left → IsHere text arena whole key next.1 (next.0 + 1) visited budget after
         on-at next on visited visits after looked =
             let far : length (here.path ++ n.prefix) ≡ depth + length n.prefix = omega (arith, length-append here.path n.prefix, here.deep) in
@@ -159,25 +124,25 @@ module _ {K V : Type 0} {P : ℕ} (text : K → List ℕ) (arena : NodeArena K V
       pub here-nowhere-met : LeadsNowhere P node key depth → length (met P whole key) ≡ length here.steps + 1
       here-nowhere-met nowhere = nowhere-met at_node nowhere
 
-      pub here-on : (next : ℕ × OpaqueNodePtr K V P) → LeadsOn P node key depth next → (visited : TreePathSearch K V P) → ((steps : Steps K V P) (byte : ℕ) → slice_get key next.0 ≡ Some byte → HasVisited search steps → HasVisited visited (steps ++ (at, byte) ∷ []))
+      pub here-on : (next : ℕ × OpaqueNodePtr K V P) → LeadsOn P node key depth next → (visited : TreePath K V P) → ((steps : Steps K V P) (byte : ℕ) → slice_get key next.0 ≡ Some byte → HasVisited search steps → HasVisited visited (steps ++ (at, byte) ∷ []))
           → (after : ℕ) → after + 1 ≡ left → IsHere text arena whole key next.1 (next.0 + 1) visited budget after
       here-on next on visited visits after looked = on-at at_node next on visited visits after looked
 
 -- the result of a step from the inner node that was visited
 pub record Told {K V : Type 0} {P : ℕ} (arena : NodeArena K V P) (key : List ℕ) (at : OpaqueNodePtr K V P) (depth : ℕ) (next : Option (ℕ × OpaqueNodePtr K V P)) : Type 0 where
-  pub node : nodes.Inner (OpaqueNodePtr K V P)
+  pub node : InnerNode (OpaqueNodePtr K V P)
   pub is : held arena at ≡ HeldInner node
   pub on : IfSome next (LeadsOn P node key depth)
   pub nowhere : IfNone next (LeadsNowhere P node key depth)
 
 module _ {K V : Type 0} {P : ℕ} (arena now : NodeArena K V P) (key : List ℕ) (at : OpaqueNodePtr K V P) (depth : ℕ) (next : Option (ℕ × OpaqueNodePtr K V P)) (same : now ≡ arena) where
   abbrev Ref : Type 0
-  Ref = AnyNodeRef (nodes.Inner (OpaqueNodePtr K V P)) (nodes.Inner (OpaqueNodePtr K V P)) (nodes.Inner (OpaqueNodePtr K V P)) (nodes.Inner (OpaqueNodePtr K V P)) (LeafNode K V P)
+  Ref = AnyNodeRef (InnerNode (OpaqueNodePtr K V P)) (InnerNode (OpaqueNodePtr K V P)) (InnerNode (OpaqueNodePtr K V P)) (InnerNode (OpaqueNodePtr K V P)) (LeafNode K V P)
 
-  abbrev inner-held : nodes.Inner (OpaqueNodePtr K V P) → Held (OpaqueNodePtr K V P) (LeafNode K V P)
+  abbrev inner-held : InnerNode (OpaqueNodePtr K V P) → Held (OpaqueNodePtr K V P) (LeafNode K V P)
   inner-held node = HeldInner node
 
-  told-at : (node : nodes.Inner (OpaqueNodePtr K V P)) → held now at ≡ HeldInner node → IfSome next (LeadsOnFrom P (inner-held node) key depth) → IfNone next (LeadsNowhereFrom P (inner-held node) key depth) → Told arena key at depth next
+  told-at : (node : InnerNode (OpaqueNodePtr K V P)) → held now at ≡ HeldInner node → IfSome next (LeadsOnFrom P (inner-held node) key depth) → IfNone next (LeadsNowhereFrom P (inner-held node) key depth) → Told arena key at depth next
   told-at node holds on nowhere = record {
     node = node;
     is = ap (λ a. held a at) (sym same) ∙ holds;
@@ -218,10 +183,10 @@ module _ {K V : Type 0} {P : ℕ} (arena : NodeArena K V P) (key : List ℕ) (at
 
 -- the result at a leaf, by its text
 pub leaf-hit : {H : Type 0} (answer : List (H × List ℕ)) (at : H) (text key : List ℕ) → answer ≡ (if pointwise nat_eq text key then (at, text) ∷ [] else []) → text ≡ key → answer ≡ (at, key) ∷ []
-leaf-hit answer at text key is same = is ∙ rw (subst (λ k. pointwise nat_eq text k ≡ true) same (text-itself text)) (ap (λ z. (at, z) ∷ []) same)
+leaf-hit answer at text key is same = is ∙ rw (subst (λ k. pointwise nat_eq text k ≡ true) same (text_itself text)) (ap (λ z. (at, z) ∷ []) same)
 
 pub leaf-miss : {H : Type 0} (answer : List (H × List ℕ)) (at : H) (text key : List ℕ) → answer ≡ (if pointwise nat_eq text key then (at, text) ∷ [] else []) → (text ≡ key → ⊥) → answer ≡ []
-leaf-miss answer at text key is never = is ∙ rw (other-text text key never) refl
+leaf-miss answer at text key is never = is ∙ rw (other_text text key never) refl
 
 pub not-true : (test : Bool) → test ≡ false → IsTrue test → ⊥
 not-true test is holds = let wrong : false ≡ true = sym is ∙ holds in absurd (cc)

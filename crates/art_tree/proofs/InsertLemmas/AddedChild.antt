@@ -1,48 +1,24 @@
 -- Insertion: a new leaf under a node that has no child under its byte.
-use Rattle.std.proofs.Common.{◌≡◌, ◌≢◌, ◌∙◌, ◌↔◌, Bool, IsTrue, ℕ, ◌+◌, ◌<◌, ◌≤◌, ◌^◌, List, [], ◌∷◌, ◌++◌, length, AllPairs, Contains, Some, None, refl, sym, ap, subst, inl, inr, arith}
-use Rattle.std.proofs.lemmas.List.Elements.{All-contains, Contains-append_left, Contains-append_right, Contains-append_cases}
-use Rattle.art_header.specs.NodeType.{kind_for, most_children, grown_kind}
-use Rattle.art_header.specs.declared.node_type.NodeType.{NodeType}
-use Rattle.art_header.specs.declared.node_type.NodeType.TheVariants as kinds
-use Rattle.std.specs.declared.cmp.Ordering.TheVariants.{Less}
-use Rattle.art_bytes.specs.Text.{text_order}
-use Rattle.art_nodes.specs.ChildMap.{IsAscending, key_bytes, child_at, with_child}
-use Rattle.art_nodes.specs.Inner as nodes
-use Rattle.art_nodes.specs.Pointers.{node_kind, opaque_key, opaque_pointer}
-use Rattle.art_nodes.specs.declared.pointers.OpaqueNodePtr.{OpaqueNodePtr}
-use Rattle.art_arena.specs.Arena.{NodeArena, HeldInner, HeldLeaf, Nothing, held, SameNodes, SameOtherRoom}
-use Rattle.art_arena.specs.Links.{AreDistinct, Spells, text_at}
-use Rattle.art_arena.specs.Standing.{NodeStands, StandsIn, AllStandIn}
-use Rattle.art_arena.specs.Trees.{Tree, Inner, branch_roots, leaves, branch_leaves, texts, places, branch_places, IsSound}
-use Rattle.art_tree.specs.Art.{IsAlone, IsArt}
-use Rattle.art_tree.specs.Contexts.{Context, plug, path_to, leaves_before, leaves_after, KeepsAt, join}
-use Rattle.art_tree.specs.Edits.{HasGap, IsBeside, HoldsEntry, HasOneMore, HasRoomToGrow, LiesBeside, StaysAt, TellsFull}
-use Rattle.art_tree.specs.Hanging.{CanHang, HasPlaceAt, IsHung, StandsBeside}
-use Rattle.art_tree.specs.Insertion.{IsEntered}
-use Rattle.art_tree.specs.Loading.{HasSmallestKinds, HaveSmallestKinds}
-use Rattle.art_tree.specs.Places.{above, LacksChild}
-use Rattle.art_arena.specs.declared.ends.End.{End}
-use Rattle.art_tree.specs.declared.place.Spot.{Spot}
+use Rattle.art_tree.proofs.Names.{◌≡◌, ◌≢◌, ◌∙◌, ◌↔◌, Bool, IsTrue, ℕ, ◌+◌, ◌<◌, ◌≤◌, ◌^◌, List, [], ◌∷◌, ◌++◌, length, AllPairs, Contains, Some, None, refl, sym, ap, subst, inl, inr, arith, All-contains, Contains-append_left, Contains-append_right, Contains-append_cases, kind_for, most_children, grown_kind, NodeType, Less, text_order, IsAscending, key_bytes, child_at, with_child, node_kind, opaque_key, opaque_pointer, OpaqueNodePtr, NodeArena, HeldInner, HeldLeaf, Nothing, held, SameNodes, SameOtherRoom, AreDistinct, Spells, text_at, NodeStands, StandsIn, AllStandIn, Tree, Inner, branch_roots, leaves, branch_leaves, texts, places, branch_places, IsSound, IsAlone, IsArt, Context, plug, path_to, leaves_before, leaves_after, KeepsAt, join, HasGap, IsBeside, HoldsEntry, HasOneMore, HasRoomToGrow, LiesBeside, StaysAt, TellsFull, CanHang, HasPlaceAt, IsHung, StandsBeside, IsEntered, HasSmallestKinds, HaveSmallestKinds, above, LacksChild, End, Spot, one-inner, the_one, LeafKind, Node16, Node256, Node4, Node48, InnerNode, node_with_child}
 use Rattle.art_tree.proofs.InsertLemmas.AddedLeaf.{AreSteps, HasTaken, below-kept, can-hang, last-others, tree-added}
 use Rattle.art_tree.proofs.SharedLemmas.BranchLemmas.{leaves-join, places-join, smallest_kinds-split, stand-split}
 use Rattle.art_tree.proofs.SharedLemmas.DictionaryLemmas.{AreApart}
-use Rattle.art_tree.proofs.SharedLemmas.ExchangedSubtree.{the-one, distinct-part, kept-branches, sound-part, smallest_kinds-part, stands-part}
+use Rattle.art_tree.proofs.SharedLemmas.ExchangedSubtree.{distinct-part, kept-branches, sound-part, smallest_kinds-part, stands-part}
 use Rattle.art_tree.proofs.InsertLemmas.GapLemmas.{beside-key, gap, keys_of, lies, spelled-parts}
 use Rattle.art_tree.proofs.SharedLemmas.ExchangedTree.{alone-same}
 use Rattle.art_tree.proofs.SharedLemmas.ParentLemmas.{inner-kind}
-use Rattle.art_arena.proofs.StandingLaws.{one-inner}
 use Rattle.art_tree.proofs.InsertLemmas.NodeLemmas.{few-where-absent}
 use Rattle.art_tree.proofs.PlaceLemmas.SidesAround.{byte-place}
 use Rattle.art_tree.proofs.SharedLemmas.NodeKinds.{kind-grows, kind-stays}
 use Rattle.art_tree.proofs.InsertLemmas.SubtreeLemmas.{HasChildPlace, child-place, in-taken, smallest_kinds-taken}
 
 -- the next kind of an inner node is no leaf's
-pub grown-inner : (kind : NodeType) → kind ≢ kinds.Leaf → grown_kind kind ≢ kinds.Leaf
-grown-inner kinds.Node4 inner = λ e. cc
-grown-inner kinds.Node16 inner = λ e. cc
-grown-inner kinds.Node48 inner = λ e. cc
-grown-inner kinds.Node256 inner = λ e. cc
-grown-inner kinds.Leaf inner = absurd (inner refl)
+pub grown-inner : (kind : NodeType) → kind ≢ LeafKind → grown_kind kind ≢ LeafKind
+grown-inner Node4 inner = λ e. cc
+grown-inner Node16 inner = λ e. cc
+grown-inner Node48 inner = λ e. cc
+grown-inner Node256 inner = λ e. cc
+grown-inner LeafKind inner = absurd (inner refl)
 
 -- an inner node of a tree that is alone in an arena has no child under a key's next byte
 pub record ChildSpot {K V : Type 0} {P : ℕ} (text : K → List ℕ) (arena : NodeArena K V P) (root : OpaqueNodePtr K V P) (spot : Spot K V P) (byte : ℕ) (key : K) : Type 0 where
@@ -91,14 +67,14 @@ module _ {K V : Type 0} {P : ℕ} {text : K → List ℕ} {old : NodeArena K V P
   leaves-there = ap branch_leaves (sym gap-there.same) ∙ leaves-join gap-there.before gap-there.after
 
   -- the leaf beside the gap
-  module _ (end : End) (sibling : ℕ) (beside : StandsBeside end (branch_leaves gap-there.before) (branch_leaves gap-there.after) (opaque_pointer kinds.Leaf sibling)) where
+  module _ (end : End) (sibling : ℕ) (beside : StandsBeside end (branch_leaves gap-there.before) (branch_leaves gap-there.after) (opaque_pointer LeafKind sibling)) where
     pub child-gap : HasGap old end sibling
     child-gap = gap text old root around_it node_there gap-there.before gap-there.after alone-there leaves-there end sibling beside
 
     pub child-lies : length (text key) < 2 ^ 32 → ((path : List ℕ) (t : Tree (OpaqueNodePtr K V P)) → IsSound path t → AllPairs (λ a b. text_order a b ≡ Less) (texts t)) → LiesBeside end (text key) (text_at text old sibling)
     child-lies short ascend = lies text old root around_it node_there gap-there.before gap-there.after alone-there leaves-there end sibling beside lacks.prefix byte (text key) gap-there.place lacks.leads (omega (arith, short)) ascend
 
-  abbrev pub node-is : nodes.Inner (OpaqueNodePtr K V P)
+  abbrev pub node-is : InnerNode (OpaqueNodePtr K V P)
   node-is = stands-there.0
 
   pub is-there : held old spot.node ≡ HeldInner node-is
@@ -110,7 +86,7 @@ module _ {K V : Type 0} {P : ℕ} {text : K → List ℕ} {old : NodeArena K V P
   pub there-held : held old spot.node ≢ Nothing
   there-held none = let wrong : HeldInner node-is ≡ Nothing = sym is-there ∙ none in absurd (cc)
 
-  pub there-inner : node_kind spot.node ≢ kinds.Leaf
+  pub there-inner : node_kind spot.node ≢ LeafKind
   there-inner = inner-kind old spot.node node-is is-there
 
   -- the node is as it was once the leaf is linked
@@ -121,7 +97,7 @@ module _ {K V : Type 0} {P : ℕ} {text : K → List ℕ} {old : NodeArena K V P
     pub linked-held : held linked spot.node ≢ Nothing
     linked-held none = let wrong : HeldInner node-is ≡ Nothing = sym is-linked ∙ none in absurd (cc)
 
-    pub linked-absent : (node : nodes.Inner (OpaqueNodePtr K V P)) → held linked spot.node ≡ HeldInner node → child_at node.children byte ≡ None
+    pub linked-absent : (node : InnerNode (OpaqueNodePtr K V P)) → held linked spot.node ≡ HeldInner node → child_at node.children byte ≡ None
     linked-absent node is =
         let same = one-inner (held linked spot.node) node-is node is-linked is in
         ap (λ n. child_at n.children byte) (sym same) ∙ ap (λ children. child_at children byte) shown-there.children ∙ lacks.absent
@@ -129,14 +105,14 @@ module _ {K V : Type 0} {P : ℕ} {text : K → List ℕ} {old : NodeArena K V P
     pub linked-full : {full : Bool} → TellsFull old spot.node full → TellsFull linked spot.node full
     linked-full {full = full} tells node is = subst (λ n. (IsTrue full ↔ (length n.children ≡ most_children (node_kind spot.node))) × (length n.children ≤ most_children (node_kind spot.node))) (one-inner (held linked spot.node) node-is node is-linked is) (tells node-is is-there)
 
-    pub linked-room : HasRoomToGrow old spot.node → SameOtherRoom old linked kinds.Leaf → HasRoomToGrow linked spot.node
+    pub linked-room : HasRoomToGrow old spot.node → SameOtherRoom old linked LeafKind → HasRoomToGrow linked spot.node
     linked-room rooms others node is full =
         let same = one-inner (held linked spot.node) node-is node is-linked is in
         let was = rooms node-is is-there (ap (λ n. length n.children) same ∙ full) in
         subst (λ n. 0 < n) (sym (others (grown_kind (node_kind spot.node)) (grown-inner (node_kind spot.node) there-inner))) was
 
     -- the leaf is a child of the node, which may be at another place
-    module _ (new : NodeArena K V P) (top : OpaqueNodePtr K V P) (value : V) (entry : HoldsEntry linked leaf key value) (distinct : AreDistinct (places (plug around_it node_there))) (more : HasOneMore linked new spot.node node-is (nodes.node_with_child node-is byte leaf) top) where
+    module _ (new : NodeArena K V P) (top : OpaqueNodePtr K V P) (value : V) (entry : HoldsEntry linked leaf key value) (distinct : AreDistinct (places (plug around_it node_there))) (more : HasOneMore linked new spot.node node-is (node_with_child node-is byte leaf) top) where
       pub child-steps : AreSteps text old linked new around_it node_there root leaf top key value
       child-steps = record {
         stood = alone-there.is_tree.stands;
@@ -153,7 +129,7 @@ module _ {K V : Type 0} {P : ℕ} {text : K → List ℕ} {old : NodeArena K V P
         ];
       }
 
-      top-held : held new top ≡ HeldInner (nodes.node_with_child node-is byte leaf)
+      top-held : held new top ≡ HeldInner (node_with_child node-is byte leaf)
       top-held = elim more [ inl written ↦ ap (held new) written.same ∙ written.changes.changed | inr moved ↦ moved.replaced.is_held ]
 
       count : length node-is.children ≡ length (branch_roots (join gap-there.before gap-there.after))
@@ -175,7 +151,7 @@ module _ {K V : Type 0} {P : ℕ} {text : K → List ℕ} {old : NodeArena K V P
         place = gap-there.place;
         leads = lacks.leads;
         short = short;
-        node = nodes.node_with_child node-is byte leaf;
+        node = node_with_child node-is byte leaf;
         is_held = top-held;
         shows = record {
           prefix_len = shown-there.prefix_len;
@@ -188,8 +164,8 @@ module _ {K V : Type 0} {P : ℕ} {text : K → List ℕ} {old : NodeArena K V P
         spelled = spelled;
         gone = λ p inside. elim (Contains-append_cases (spot.node ∷ []) (branch_places lacks.branches) p inside) [
           | inl here ↦ elim more [
-            | inl written ↦ inl (in-taken lacks.prefix top gap-there.before byte leaf (text key) gap-there.after p (inl (sym (the-one spot.node p here) ∙ sym written.same)))
-            | inr moved ↦ inr (last-others text old linked new around_it node_there root leaf top key value child-steps last root_now hung p inside ∙ ap (held new) (sym (the-one spot.node p here)) ∙ moved.replaced.is_free)
+            | inl written ↦ inl (in-taken lacks.prefix top gap-there.before byte leaf (text key) gap-there.after p (inl (sym (the_one spot.node p here) ∙ sym written.same)))
+            | inr moved ↦ inr (last-others text old linked new around_it node_there root leaf top key value child-steps last root_now hung p inside ∙ ap (held new) (sym (the_one spot.node p here)) ∙ moved.replaced.is_free)
           ]
           | inr below ↦ inl (in-taken lacks.prefix top gap-there.before byte leaf (text key) gap-there.after p (inr (inr (subst (λ b. Contains (branch_places b) p) (sym gap-there.same) below))))
         ];
@@ -207,7 +183,7 @@ module _ {K V : Type 0} {P : ℕ} {text : K → List ℕ} {old : NodeArena K V P
 
 -- an inner node has a child more, whatever node it is
 abbrev pub ChildAdded : {K V : Type 0} {P : ℕ} → NodeArena K V P → NodeArena K V P → OpaqueNodePtr K V P → ℕ → OpaqueNodePtr K V P → OpaqueNodePtr K V P → Type 0
-ChildAdded linked new pointer byte child top = (node : nodes.Inner (OpaqueNodePtr _ _ _)) → held linked pointer ≡ HeldInner node → HasOneMore linked new pointer node (nodes.node_with_child node byte child) top
+ChildAdded linked new pointer byte child top = (node : InnerNode (OpaqueNodePtr _ _ _)) → held linked pointer ≡ HeldInner node → HasOneMore linked new pointer node (node_with_child node byte child) top
 
 module _ {K V : Type 0} {P : ℕ} {text : K → List ℕ} {old : NodeArena K V P} {root : OpaqueNodePtr K V P} {spot : Spot K V P} {byte : ℕ} {key : K} (child_spot : ChildSpot text old root spot byte key)
     (linked : NodeArena K V P) (leaf : OpaqueNodePtr K V P) (free : held old leaf ≡ Nothing) (stays : (p : OpaqueNodePtr K V P) → p ≢ leaf → StaysAt old linked p) (new : NodeArena K V P) (top : OpaqueNodePtr K V P) (value : V) (entry : HoldsEntry linked leaf key value)
@@ -230,7 +206,7 @@ module _ {K V : Type 0} {P : ℕ} {text : K → List ℕ} {old : NodeArena K V P
   distinct-there : AreDistinct (places (plug context part))
   distinct-there = one_place old [] (plug context part) whole-alone.is_tree.stands whole-alone.is_tree.sound
 
-  more-there : HasOneMore linked new spot.node (node-is child_spot) (nodes.node_with_child (node-is child_spot) byte leaf) top
+  more-there : HasOneMore linked new spot.node (node-is child_spot) (node_with_child (node-is child_spot) byte leaf) top
   more-there = added (node-is child_spot) (is-linked child_spot linked leaf free stays)
 
   abbrev steps-there : AreSteps text old linked new context part root leaf top key value
@@ -239,7 +215,7 @@ module _ {K V : Type 0} {P : ℕ} {text : K → List ℕ} {old : NodeArena K V P
   pub child-hangs : CanHang new spot.parent spot.node
   child-hangs = subst (λ above. CanHang new above spot.node) child_spot.lacks.at.hangs (can-hang text old linked new context part root leaf top key value steps-there)
 
-  module _ (last : NodeArena K V P) (root_now : OpaqueNodePtr K V P) (hung : IsHung new last spot.parent top root root_now) (short : length (text key) < 2 ^ 32) (end : End) (sibling : ℕ) (beside : StandsBeside end (branch_leaves there.before) (branch_leaves there.after) (opaque_pointer kinds.Leaf sibling))
+  module _ (last : NodeArena K V P) (root_now : OpaqueNodePtr K V P) (hung : IsHung new last spot.parent top root root_now) (short : length (text key) < 2 ^ 32) (end : End) (sibling : ℕ) (beside : StandsBeside end (branch_leaves there.before) (branch_leaves there.after) (opaque_pointer LeafKind sibling))
       (spells : (left right : List ℕ) → Spells old (left ++ right) → IsBeside end left right sibling → Spells linked (left ++ opaque_key leaf ∷ right)) where
     hung-there : IsHung new last (above context) top root root_now
     hung-there = subst (λ parent. IsHung new last parent top root root_now) (sym child_spot.lacks.at.hangs) hung

@@ -1,34 +1,5 @@
 -- Insertion: a new inner node over a new leaf and the node from which its key differs.
-use Rattle.std.proofs.Common.{◌≡◌, ◌≢◌, ◌∙◌, ℕ, ◌+◌, ◌-◌, ◌<◌, ◌≤◌, ◌^◌, Bool, true, false, nat_lt, if◌then◌else◌, List, [], ◌∷◌, ◌++◌, length, length-append, take, drop, All, AllPairs, Contains, Some, refl, sym, ap, subst, inl, inr, arith, append-nil}
-use Rattle.std.proofs.lemmas.Option.{slice_get_within}
-use Rattle.std.proofs.lemmas.List.Elements.{All-contains, Contains-append_right}
-use Rattle.std.specs.declared.cmp.Ordering.TheVariants.{Less}
-use Rattle.art_bytes.specs.Text.{IsPrefixOf, text_order}
-use Rattle.art_header.specs.Header.{StandsFor, capped}
-use Rattle.art_header.specs.NodeType.{kind_for}
-use Rattle.art_header.specs.declared.node_type.NodeType.TheVariants as kinds
-use Rattle.art_nodes.specs.Inner as nodes
-use Rattle.art_nodes.specs.Inner.{header_of}
-use Rattle.art_nodes.specs.Leaf.{leaf_key}
-use Rattle.art_nodes.specs.Pointers.{node_kind, opaque_key, opaque_pointer}
-use Rattle.art_nodes.specs.declared.pointers.OpaqueNodePtr.{OpaqueNodePtr}
-use Rattle.art_nodes.specs.declared.leaf_node.LeafNode.{LeafNode}
-use Rattle.art_arena.specs.Arena.{NodeArena, Held, HeldInner, HeldLeaf, Nothing, held, Changes, SameNodes}
-use Rattle.art_arena.specs.Links.{AreDistinct, HoldsLeaf, Spells, text_at}
-use Rattle.art_arena.specs.Standing.{NodeStands, StandsIn, AllStandIn, TreeAt}
-use Rattle.art_arena.specs.Trees.{Tree, Leaf, Inner, Branches, branch_roots, root_of, leaves, branch_leaves, texts, places, branch_places, IsSound}
-use Rattle.art_tree.specs.Art.{IsAlone, IsArt}
-use Rattle.art_tree.specs.Contexts.{Context, plug, path_to, leaves_before, leaves_after}
-use Rattle.art_tree.specs.Edits.{HasGap, HoldsEntry, IsBeside, LiesBeside, StaysAt, two_children}
-use Rattle.art_arena.specs.Ends.{IsAtEnd}
-use Rattle.art_tree.specs.Hanging.{CanHang, IsHung, StandsBeside}
-use Rattle.art_tree.specs.Insertion.{IsEntered}
-use Rattle.art_tree.specs.Places.{above, Parts}
-use Rattle.art_tree.specs.Nodes.{IsPlaced, node_of, node_with_prefix}
-use Rattle.art_arena.specs.declared.ends.End.{End}
-use Rattle.art_arena.specs.declared.ends.End.TheVariants.{First, Last}
-use Rattle.art_tree.specs.declared.place.Mismatch.{Mismatch}
-use Rattle.art_tree.specs.declared.place.Spot.{Spot}
+use Rattle.art_tree.proofs.Names.{◌≡◌, ◌≢◌, ◌∙◌, ℕ, ◌+◌, ◌-◌, ◌<◌, ◌≤◌, ◌^◌, Bool, true, false, nat_lt, if◌then◌else◌, List, [], ◌∷◌, ◌++◌, length, length-append, take, drop, All, AllPairs, Contains, Some, refl, sym, ap, subst, inl, inr, arith, append-nil, slice_get_within, All-contains, Contains-append_right, Less, IsPrefixOf, text_order, StandsFor, capped, kind_for, header_of, InnerNode, leaf_key, node_kind, opaque_key, opaque_pointer, OpaqueNodePtr, LeafNode, NodeArena, Held, HeldInner, HeldLeaf, Nothing, held, Changes, SameNodes, AreDistinct, HoldsLeaf, Spells, text_at, NodeStands, StandsIn, AllStandIn, TreeAt, Tree, Leaf, Inner, Branches, branch_roots, root_of, leaves, branch_leaves, texts, places, branch_places, IsSound, IsAlone, IsArt, Context, plug, path_to, leaves_before, leaves_after, HasGap, HoldsEntry, IsBeside, LiesBeside, StaysAt, two_children, IsAtEnd, CanHang, IsHung, StandsBeside, IsEntered, above, Parts, IsPlaced, node_of, node_with_prefix, End, First, Last, Mismatch, Spot, leaf_kind, one-inner, LeafKind, Node4}
 use Rattle.art_tree.proofs.InsertLemmas.AddedLeaf.{AreSteps, HasTaken, below-kept, can-hang, last-others, leaves-kept, tree-added}
 use Rattle.art_tree.proofs.SharedLemmas.BranchLemmas.{leaves-join, one_branch}
 use Rattle.art_tree.proofs.SharedLemmas.ChangedTree.{place-held, root-place}
@@ -38,7 +9,6 @@ use Rattle.art_tree.proofs.InsertLemmas.GapLemmas.{beside-key, gap, keys_of, lie
 use Rattle.art_tree.proofs.SharedLemmas.ExchangedTree.{alone-same}
 use Rattle.art_tree.proofs.InsertLemmas.SubtreeLemmas.{HasForkPlace, fork-place, in-taken, leaves-sides, leaves-trimmed, places-sides, places-trimmed, smallest_kinds-sides, smallest_kinds-taken, smallest_kinds-trimmed, both-sides, ltrimmed, branches_left, branches_right}
 use Rattle.art_tree.proofs.PlaceLemmas.TextsBelow.{branch-text-begins}
-use Rattle.art_arena.proofs.StandingLaws.{leaf_kind, one-inner}
 use Rattle.art_tree.proofs.SharedLemmas.HeldNodes.{cases_pointer, text-held}
 
 module _ {H : Type 0} where
@@ -121,11 +91,11 @@ module _ {K V : Type 0} {P : ℕ} {text : K → List ℕ} {old : NodeArena K V P
   leaves-there = sym (leaves-trimmed len_there part_there) ∙ sym (leaves-sides mismatch.byte mismatch.node_byte trimmed_there) ∙ leaves-join left_there right_there
 
   -- the leaf on the key's side of the part is beside the gap for the key
-  module _ (end : End) (sibling : ℕ) (at_end : IsAtEnd end (leaves part_there) (opaque_pointer kinds.Leaf sibling)) (end_is : end ≡ (if nat_lt mismatch.byte mismatch.node_byte then First else Last)) where
-    pub beside-there : StandsBeside end (branch_leaves left_there) (branch_leaves right_there) (opaque_pointer kinds.Leaf sibling)
-    beside-there = beside-tree mismatch.byte mismatch.node_byte len_there part_there end (opaque_pointer kinds.Leaf sibling) end_is at_end
+  module _ (end : End) (sibling : ℕ) (at_end : IsAtEnd end (leaves part_there) (opaque_pointer LeafKind sibling)) (end_is : end ≡ (if nat_lt mismatch.byte mismatch.node_byte then First else Last)) where
+    pub beside-there : StandsBeside end (branch_leaves left_there) (branch_leaves right_there) (opaque_pointer LeafKind sibling)
+    beside-there = beside-tree mismatch.byte mismatch.node_byte len_there part_there end (opaque_pointer LeafKind sibling) end_is at_end
 
-  module _ (end : End) (sibling : ℕ) (beside : StandsBeside end (branch_leaves left_there) (branch_leaves right_there) (opaque_pointer kinds.Leaf sibling)) where
+  module _ (end : End) (sibling : ℕ) (beside : StandsBeside end (branch_leaves left_there) (branch_leaves right_there) (opaque_pointer LeafKind sibling)) where
     pub gap-there : HasGap old end sibling
     gap-there = gap text old root around_it part_there left_there right_there alone-there leaves-there end sibling beside
 
@@ -140,11 +110,11 @@ module _ {K V : Type 0} {P : ℕ} {text : K → List ℕ} {old : NodeArena K V P
     not-new : (p : OpaqueNodePtr K V P) → held old p ≢ Nothing → p ≢ leaf
     not-new p was same = was (ap (held old) same ∙ free)
 
-    pub linked-inner : (node : nodes.Inner (OpaqueNodePtr K V P)) → held old spot.node ≡ HeldInner node → held linked spot.node ≡ HeldInner node
+    pub linked-inner : (node : InnerNode (OpaqueNodePtr K V P)) → held old spot.node ≡ HeldInner node → held linked spot.node ≡ HeldInner node
     linked-inner node is = (stays spot.node (not-new spot.node there-held)).keeps.inner node is
 
     -- what the node is, in the tree and in the linked arena
-    record IsLinkedInner (node : nodes.Inner (OpaqueNodePtr K V P)) : Type 0 where
+    record IsLinkedInner (node : InnerNode (OpaqueNodePtr K V P)) : Type 0 where
       pub prefix : List ℕ
       pub branches : Branches (OpaqueNodePtr K V P)
       pub part : part_there ≡ Inner spot.node prefix branches
@@ -152,7 +122,7 @@ module _ {K V : Type 0} {P : ℕ} {text : K → List ℕ} {old : NodeArena K V P
       pub shows : NodeStands P node prefix branches
       pub stand : AllStandIn text old branches
 
-    linked-there : (node : nodes.Inner (OpaqueNodePtr K V P)) → held linked spot.node ≡ HeldInner node → IsLinkedInner node
+    linked-there : (node : InnerNode (OpaqueNodePtr K V P)) → held linked spot.node ≡ HeldInner node → IsLinkedInner node
     linked-there node is = by_part part_there refl stands-there parts.at.at_root
       where
         by_part : (part : Tree (OpaqueNodePtr K V P)) → part_there ≡ part → StandsIn text old part → root_of part ≡ spot.node → IsLinkedInner node
@@ -178,28 +148,28 @@ module _ {K V : Type 0} {P : ℕ} {text : K → List ℕ} {old : NodeArena K V P
         by_held (HeldInner node) is = let wrong : HeldInner node ≡ Nothing = sym (linked-inner node is) ∙ none in absurd (cc)
         by_held (HeldLeaf l) is = let now = (stays spot.node (not-new spot.node there-held)).keeps.leaf l is in let wrong : HeldLeaf now.0 ≡ Nothing = sym now.1 ∙ none in absurd (cc)
 
-    pub within-there : (node : nodes.Inner (OpaqueNodePtr K V P)) → held linked spot.node ≡ HeldInner node → mismatch.index + 1 - spot.depth ≤ node.prefix_len
+    pub within-there : (node : InnerNode (OpaqueNodePtr K V P)) → held linked spot.node ≡ HeldInner node → mismatch.index + 1 - spot.depth ≤ node.prefix_len
     within-there node is =
         let inner = linked-there node is in
         let enough = fork-there.fits spot.node inner.prefix inner.branches inner.part in
         omega (arith, enough, inner.shows.prefix_len, parts.at.deep)
 
     -- a leaf of the part is held on, with its text, which begins with the path and the prefix
-    module _ (end : End) (sibling : ℕ) (at_end : IsAtEnd end (leaves part_there) (opaque_pointer kinds.Leaf sibling)) where
+    module _ (end : End) (sibling : ℕ) (at_end : IsAtEnd end (leaves part_there) (opaque_pointer LeafKind sibling)) where
       abbrev x : List ℕ
       x = at_end.0
 
-      inside : Contains (leaves part_there) (opaque_pointer kinds.Leaf sibling, x)
-      inside = end-in end (leaves part_there) (opaque_pointer kinds.Leaf sibling) at_end
+      inside : Contains (leaves part_there) (opaque_pointer LeafKind sibling, x)
+      inside = end-in end (leaves part_there) (opaque_pointer LeafKind sibling) at_end
 
-      sibling-was : (l : LeafNode K V P) × (held old (opaque_pointer kinds.Leaf sibling) ≡ HeldLeaf l) × (text (leaf_key l) ≡ x)
-      sibling-was = leaf-held-in text old part_there stands-there (opaque_pointer kinds.Leaf sibling) x inside
+      sibling-was : (l : LeafNode K V P) × (held old (opaque_pointer LeafKind sibling) ≡ HeldLeaf l) × (text (leaf_key l) ≡ x)
+      sibling-was = leaf-held-in text old part_there stands-there (opaque_pointer LeafKind sibling) x inside
 
-      sibling-is : (l : LeafNode K V P) × (held linked (opaque_pointer kinds.Leaf sibling) ≡ HeldLeaf l) × (text (leaf_key l) ≡ x)
+      sibling-is : (l : LeafNode K V P) × (held linked (opaque_pointer LeafKind sibling) ≡ HeldLeaf l) × (text (leaf_key l) ≡ x)
       sibling-is =
           let was = sibling-was in
-          let other : opaque_pointer kinds.Leaf sibling ≢ leaf = not-new (opaque_pointer kinds.Leaf sibling) (λ none. let wrong : HeldLeaf was.0 ≡ Nothing = sym was.1 ∙ none in absurd (cc)) in
-          let now = (stays (opaque_pointer kinds.Leaf sibling) other).keeps.leaf was.0 was.1 in
+          let other : opaque_pointer LeafKind sibling ≢ leaf = not-new (opaque_pointer LeafKind sibling) (λ none. let wrong : HeldLeaf was.0 ≡ Nothing = sym was.1 ∙ none in absurd (cc)) in
+          let now = (stays (opaque_pointer LeafKind sibling) other).keeps.leaf was.0 was.1 in
           (now.0, now.1, ap text now.2 ∙ was.2)
 
       pub sibling-held : HoldsLeaf linked sibling
@@ -208,25 +178,25 @@ module _ {K V : Type 0} {P : ℕ} {text : K → List ℕ} {old : NodeArena K V P
       pub sibling-has : text_at text linked sibling ≡ x
       sibling-has = text-held text linked sibling sibling-is.0 sibling-is.1 ∙ sibling-is.2
 
-      sibling-begins : (node : nodes.Inner (OpaqueNodePtr K V P)) → (is : held linked spot.node ≡ HeldInner node) → IsPrefixOf (path_to around_it ++ (linked-there node is).prefix) x
+      sibling-begins : (node : InnerNode (OpaqueNodePtr K V P)) → (is : held linked spot.node ≡ HeldInner node) → IsPrefixOf (path_to around_it ++ (linked-there node is).prefix) x
       sibling-begins node is =
           let inner = linked-there node is in
           let sound : IsSound (path_to around_it) (Inner spot.node inner.prefix inner.branches) = subst (IsSound (path_to around_it)) inner.part sound-there in
-          branch-text-begins (path_to around_it ++ inner.prefix) inner.branches (opaque_pointer kinds.Leaf sibling) x sound.2 (subst (λ t. Contains (leaves t) (opaque_pointer kinds.Leaf sibling, x)) inner.part inside)
+          branch-text-begins (path_to around_it ++ inner.prefix) inner.branches (opaque_pointer LeafKind sibling) x sound.2 (subst (λ t. Contains (leaves t) (opaque_pointer LeafKind sibling, x)) inner.part inside)
 
-      pub text-there : (node : nodes.Inner (OpaqueNodePtr K V P)) → held linked spot.node ≡ HeldInner node → spot.depth + node.prefix_len ≤ length (text_at text linked sibling)
+      pub text-there : (node : InnerNode (OpaqueNodePtr K V P)) → held linked spot.node ≡ HeldInner node → spot.depth + node.prefix_len ≤ length (text_at text linked sibling)
       text-there node is =
           let inner = linked-there node is in
           let begins = sibling-begins node is in
           omega (arith, parts.at.deep, inner.shows.prefix_len, length-append (path_to around_it) inner.prefix, ap length begins.1, length-append (path_to around_it ++ inner.prefix) begins.0, ap length sibling-has)
 
       -- the arena once the node is trimmed
-      module _ (trimmed : NodeArena K V P) (leaf_same : node_kind spot.node ≡ kinds.Leaf → SameNodes linked trimmed)
-          (trims : (node : nodes.Inner (OpaqueNodePtr K V P)) (path prefix rest : List ℕ) → held linked spot.node ≡ HeldInner node → length path ≡ spot.depth → text_at text linked sibling ≡ path ++ prefix ++ rest → StandsFor P (header_of node) prefix → Changes linked trimmed spot.node (HeldInner (node_with_prefix P node (drop (mismatch.index + 1 - spot.depth) prefix)))) where
+      module _ (trimmed : NodeArena K V P) (leaf_same : node_kind spot.node ≡ LeafKind → SameNodes linked trimmed)
+          (trims : (node : InnerNode (OpaqueNodePtr K V P)) (path prefix rest : List ℕ) → held linked spot.node ≡ HeldInner node → length path ≡ spot.depth → text_at text linked sibling ≡ path ++ prefix ++ rest → StandsFor P (header_of node) prefix → Changes linked trimmed spot.node (HeldInner (node_with_prefix P node (drop (mismatch.index + 1 - spot.depth) prefix)))) where
         pub record IsTrimmed : Type 0 where
           pub others : (p : OpaqueNodePtr K V P) → (p ≡ spot.node → (l : LeafNode K V P) × (held linked p ≡ HeldLeaf l)) → held trimmed p ≡ held linked p
           pub is_held : held trimmed spot.node ≢ Nothing
-          pub inner : (node : nodes.Inner (OpaqueNodePtr K V P)) → held linked spot.node ≡ HeldInner node → (now : nodes.Inner (OpaqueNodePtr K V P)) × (held trimmed spot.node ≡ HeldInner now) × ((prefix : List ℕ) (branches : Branches (OpaqueNodePtr K V P)) → part_there ≡ Inner spot.node prefix branches → NodeStands P now (drop len_there prefix) branches)
+          pub inner : (node : InnerNode (OpaqueNodePtr K V P)) → held linked spot.node ≡ HeldInner node → (now : InnerNode (OpaqueNodePtr K V P)) × (held trimmed spot.node ≡ HeldInner now) × ((prefix : List ℕ) (branches : Branches (OpaqueNodePtr K V P)) → part_there ≡ Inner spot.node prefix branches → NodeStands P now (drop len_there prefix) branches)
 
         pub is-trimmed : IsTrimmed
         is-trimmed = by_held (held linked spot.node) refl
@@ -261,7 +231,7 @@ module _ {K V : Type 0} {P : ℕ} {text : K → List ℕ} {old : NodeArena K V P
                 }
 
         -- the new node stands over both
-        module _ (value : V) (entry : HoldsEntry linked leaf key value) (slot : ℕ) (leaf_is : leaf ≡ opaque_pointer kinds.Leaf slot) where
+        module _ (value : V) (entry : HoldsEntry linked leaf key value) (slot : ℕ) (leaf_is : leaf ≡ opaque_pointer LeafKind slot) where
           leaf-apart : leaf ≢ spot.node
           leaf-apart same = there-held (ap (held old) (sym same) ∙ free)
 
@@ -278,7 +248,7 @@ module _ {K V : Type 0} {P : ℕ} {text : K → List ℕ} {old : NodeArena K V P
           index-within = omega (arith, slice_get_within (text key) mismatch.index mismatch.byte parts.byte, ap length text-trimmed)
 
           module _ (new : NodeArena K V P) (top : OpaqueNodePtr K V P) (one_place : (arena : NodeArena K V P) (path : List ℕ) (t : Tree (OpaqueNodePtr K V P)) → StandsIn text arena t → IsSound path t → AreDistinct (places t))
-              (placed : IsPlaced trimmed new kinds.Node4 (node_of P (take (mismatch.index - spot.depth) (drop spot.depth (text_at text trimmed slot))) (two_children mismatch.byte leaf mismatch.node_byte spot.node)) top) where
+              (placed : IsPlaced trimmed new Node4 (node_of P (take (mismatch.index - spot.depth) (drop spot.depth (text_at text trimmed slot))) (two_children mismatch.byte leaf mismatch.node_byte spot.node)) top) where
             distinct-there : AreDistinct (places (plug around_it part_there))
             distinct-there = one_place old [] (plug around_it part_there) alone-there.is_tree.stands alone-there.is_tree.sound
 

@@ -1,31 +1,10 @@
 -- Insertion: a tree with one leaf more, after the steps of an insert.
-use Rattle.std.proofs.Common.{◌≡◌, ◌≢◌, ◌⊎◌, ◌∙◌, ℕ, ◌<◌, ◌^◌, List, [], ◌∷◌, ◌++◌, length, map, All, Contains, Some, refl, sym, ap, subst, inl, inr, arith, append_assoc}
-use Rattle.std.proofs.lemmas.List.{map-append}
-use Rattle.std.proofs.lemmas.List.Elements.{All-append, All-cons}
-use Rattle.art_bytes.specs.Text.{IsPrefixOf}
-use Rattle.art_header.specs.declared.node_type.NodeType.TheVariants as kinds
-use Rattle.art_nodes.specs.Inner as nodes
-use Rattle.art_nodes.specs.Pointers.{opaque_key, opaque_pointer}
-use Rattle.art_nodes.specs.declared.pointers.OpaqueNodePtr.{OpaqueNodePtr}
-use Rattle.art_nodes.specs.declared.leaf_node.LeafNode.{LeafNode}
-use Rattle.art_arena.specs.Arena.{NodeArena, HeldInner, HeldLeaf, Nothing, held, held_leaf, SameNodes}
-use Rattle.art_arena.specs.Links.{AreDistinct, Spells, leaf_at}
-use Rattle.art_arena.specs.Standing.{NodeStands, StandsIn, AllStandIn}
-use Rattle.art_arena.specs.Trees.{Tree, Leaf, Branches, Branch, leaves, branch_leaves, texts, branch_texts, places, root_of, IsSound, IsWellFormed}
-use Rattle.art_tree.specs.Art.{IsAlone, IsArt}
-use Rattle.art_tree.specs.Contexts.{Context, plug, path_to, leaves_before, leaves_after, parent, KeepsAt, IsExchanged, join}
-use Rattle.art_tree.specs.Dictionary.{entry_at}
-use Rattle.art_tree.specs.Edits.{HoldsEntry, StaysAt}
-use Rattle.art_tree.specs.Hanging.{CanHang, IsHung}
-use Rattle.art_tree.specs.Insertion.{IsEntered}
-use Rattle.art_tree.specs.Loading.{HasSmallestKinds, leaf_pointers}
-use Rattle.art_tree.specs.Places.{above}
+use Rattle.art_tree.proofs.Names.{◌≡◌, ◌≢◌, ◌⊎◌, ◌∙◌, ℕ, ◌<◌, ◌^◌, List, [], ◌∷◌, ◌++◌, length, map, All, Contains, Some, refl, sym, ap, subst, inl, inr, arith, append_assoc, map-append, All-append, All-cons, IsPrefixOf, opaque_key, opaque_pointer, OpaqueNodePtr, LeafNode, NodeArena, HeldInner, HeldLeaf, Nothing, held, held_leaf, SameNodes, AreDistinct, Spells, leaf_at, NodeStands, StandsIn, AllStandIn, Tree, Leaf, Branches, Branch, leaves, branch_leaves, texts, branch_texts, places, root_of, IsSound, IsWellFormed, IsAlone, IsArt, Context, plug, path_to, leaves_before, leaves_after, parent, KeepsAt, IsExchanged, join, entry_at, HoldsEntry, StaysAt, CanHang, IsHung, IsEntered, HasSmallestKinds, leaf_pointers, above, all_left, all_right, LeafKind, InnerNode}
 use Rattle.art_tree.proofs.SharedLemmas.ChangedTree.{HangsAt, IsAbove, can-hang-at, hangs-at, held-on, keeps-on, leaf-no-parent, parent-above, place-held, root-place, was-leaf}
 use Rattle.art_tree.proofs.SharedLemmas.DictionaryLemmas.{AreApart, held-entry, leaf-held-in}
 use Rattle.art_tree.proofs.SharedLemmas.ExchangedSubtree.{in-part, leaves-plug}
 use Rattle.art_tree.proofs.SharedLemmas.ExchangedTree.{alone-grown, entries-but, entries-stay, leaf-stays, leaf-was, texts-part}
 use Rattle.art_tree.proofs.InsertLemmas.NodeLemmas.{some-inner, some-leaf}
-use Rattle.art_tree.proofs.FindLemmas.OnlyWayLemmas.{All-left, All-right}
 use Rattle.art_tree.proofs.InsertLemmas.SubtreeLemmas.{in-taken, leaves-taken, taken-sound, HasPlace, with_leaf}
 use Rattle.art_tree.proofs.SharedLemmas.BranchLemmas.{stand-join}
 use Rattle.art_tree.proofs.SharedLemmas.HeldNodes.{cases_pointer, leaf-of}
@@ -53,7 +32,7 @@ texts-filled P part prefix top before byte leaf x after same each new =
     let right = branch_texts after in
     let parted = subst (All P) (ap (map (λ l. l.1)) same ∙ map-append (λ l. l.1) (branch_leaves before) (branch_leaves after)) each in
     let filled = ap (map (λ l. l.1)) (leaves-taken prefix top before byte leaf x after) ∙ map-append (λ l. l.1) (branch_leaves before) ((leaf, x) ∷ branch_leaves after) in
-    subst (All P) (sym filled) (All-append P left (x ∷ right) (All-left P left right parted) (All-cons P x right new (All-right P left right parted)))
+    subst (All P) (sym filled) (All-append P left (x ∷ right) (all_left P left right parted) (All-cons P x right new (all_right P left right parted)))
 
 -- the steps of an insert: from the first arena to the next a leaf is linked, from there to the
 -- third the node at the place is changed, and then a node is put there
@@ -66,7 +45,7 @@ module _ {K V : Type 0} {P : ℕ} (text : K → List ℕ) (old linked new : Node
     pub free : held old leaf ≡ Nothing
     pub entry : HoldsEntry linked leaf key value
     pub stays : (p : OpaqueNodePtr K V P) → p ≢ leaf → StaysAt old linked p
-    pub top_was : ((top ≡ root_of part) × ((node : nodes.Inner (OpaqueNodePtr K V P)) × (held old top ≡ HeldInner node))) ⊎ (held linked top ≡ Nothing)
+    pub top_was : ((top ≡ root_of part) × ((node : InnerNode (OpaqueNodePtr K V P)) × (held old top ≡ HeldInner node))) ⊎ (held linked top ≡ Nothing)
     pub same : (p : OpaqueNodePtr K V P) → p ≢ top → (p ≡ root_of part → (l : LeafNode K V P) × (held linked p ≡ HeldLeaf l)) → held new p ≡ held linked p
 
   module _ (steps : AreSteps) where
@@ -156,14 +135,14 @@ module _ {K V : Type 0} {P : ℕ} (text : K → List ℕ) (old linked new : Node
 
       -- lists of leaves are spelled on to the end
       leaf-at-last : (k : ℕ) (l : LeafNode K V P) → leaf_at linked k ≡ Some l → leaf_at last k ≡ Some l
-      leaf-at-last k l at = leaf-of (leaf_at last k) l (elim (cases_pointer (opaque_pointer kinds.Leaf k) leaf) [
+      leaf-at-last k l at = leaf-of (leaf_at last k) l (elim (cases_pointer (opaque_pointer LeafKind k) leaf) [
         | inl same ↦
             let one : HeldLeaf steps.entry.leaf ≡ HeldLeaf l = sym steps.entry.is_held ∙ ap (held linked) (sym same) ∙ ap held_leaf at in
             ap (held last) same ∙ leaf-last ∙ one
         | inr differ ↦
-            let there : held linked (opaque_pointer kinds.Leaf k) ≡ HeldLeaf l = ap held_leaf at in
-            let (was, is) = was-leaf old linked (opaque_pointer kinds.Leaf k) l (steps.stays (opaque_pointer kinds.Leaf k) differ) there in
-            leaf-last-same (opaque_pointer kinds.Leaf k) was is ∙ there
+            let there : held linked (opaque_pointer LeafKind k) ≡ HeldLeaf l = ap held_leaf at in
+            let (was, is) = was-leaf old linked (opaque_pointer LeafKind k) l (steps.stays (opaque_pointer LeafKind k) differ) there in
+            leaf-last-same (opaque_pointer LeafKind k) was is ∙ there
       ])
 
       -- the leaf has its place in the tree
@@ -175,7 +154,7 @@ module _ {K V : Type 0} {P : ℕ} (text : K → List ℕ) (old linked new : Node
           pub place : HasPlace (path_to context) prefix before byte after
           pub leads : IsPrefixOf ((path_to context ++ prefix) ++ byte ∷ []) (text key)
           pub short : length (text key) < 2 ^ 32
-          pub node : nodes.Inner (OpaqueNodePtr K V P)
+          pub node : InnerNode (OpaqueNodePtr K V P)
           pub is_held : held new top ≡ HeldInner node
           pub shows : NodeStands P node prefix (join before (Branch byte (Leaf leaf (text key)) after))
           pub stand_before : AllStandIn text last before

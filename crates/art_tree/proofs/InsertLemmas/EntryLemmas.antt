@@ -1,38 +1,10 @@
 -- Insertion: a new text and the entries that are there.
-use Rattle.std.proofs.Common.{◌≡◌, ◌≢◌, ◌⊎◌, ◌∙◌, ℕ, suc, ◌<◌, ◌^◌, List, [], ◌∷◌, ◌++◌, map, length, take, Contains, Option, Some, None, Result, Ok, Err, IfOk, IfErr, OnOk, OnErr, refl, sym, ap, subst, inl, inr, arith, append-nil, IfSome}
-use Rattle.std.proofs.lemmas.Bool.{cases_eq, eq-eqb, ne_eqb}
-use Rattle.std.proofs.lemmas.List.Elements.{All-contains, Contains-append_right, Contains-append_cases}
-use Rattle.std.proofs.lemmas.Option.{same_Some}
-use Rattle.std.specs.Option.{option_map}
-use Rattle.art_bytes.specs.Text.{IsPrefixOf}
-use Rattle.art_header.specs.declared.node_type.NodeType.{NodeType}
-use Rattle.art_nodes.specs.ChildMap.{child_at}
-use Rattle.art_nodes.specs.Leaf.{leaf_key, leaf_value}
-use Rattle.art_nodes.specs.declared.leaf_node.LeafNode.{LeafNode}
-use Rattle.art_nodes.specs.declared.pointers.NodePtr.{NodePtr}
-use Rattle.art_nodes.specs.declared.pointers.OpaqueNodePtr.{OpaqueNodePtr}
-use Rattle.art_arena.specs.Arena.{NodeArena, Nothing, capacity, held, SameNodes, SameRoom}
-use Rattle.art_arena.specs.Trees.{Tree, Leaf, Branches, NoBranch, Branch, branch_roots, root_of, leaves, branch_leaves, texts, IsSound, AreSound, IsWellFormed}
-use Rattle.art_tree.specs.Art.{IsAlone, IsArt}
-use Rattle.art_tree.specs.Contexts.{Context, plug, path_to, leaves_before, leaves_after}
-use Rattle.art_tree.specs.Dictionary.{entry_at, HasEntry, IsProperPrefixOf, Clashes, SameEntries}
-use Rattle.art_tree.specs.Edits.{HoldsEntry}
-use Rattle.art_tree.specs.Insertion.{AddsEntry, ClashesIn, FindsEntry, InsertsNew, IsEntered, IsRefused, MayEnter}
-use Rattle.art_tree.specs.Places.{Belongs, IsSpot, LacksChild, Parts, present_leaf, reach}
-use Rattle.art_tree.specs.Room.{LacksRoomToInsert}
-use Rattle.art_tree.specs.Search.{EachTree, leaf_pointer}
-use Rattle.art_tree.specs.declared.insert.InsertFault.{InsertFault}
+use Rattle.art_tree.proofs.Names.{◌≡◌, ◌≢◌, ◌⊎◌, ◌∙◌, ℕ, suc, ◌<◌, ◌^◌, List, [], ◌∷◌, ◌++◌, map, length, take, Contains, Option, Some, None, Result, Ok, Err, IfOk, IfErr, OnOk, OnErr, refl, sym, ap, subst, inl, inr, arith, append-nil, cases_eq, eq-eqb, ne_eqb, Contains-append_right, Contains-append_cases, IsPrefixOf, NodeType, child_at, LeafNode, NodePtr, OpaqueNodePtr, NodeArena, Nothing, capacity, held, SameNodes, SameRoom, Tree, Leaf, Branches, NoBranch, Branch, branch_roots, root_of, leaves, branch_leaves, texts, IsSound, AreSound, IsWellFormed, IsAlone, IsArt, Context, plug, path_to, leaves_before, leaves_after, entry_at, HasEntry, IsProperPrefixOf, Clashes, SameEntries, HoldsEntry, AddsEntry, ClashesIn, InsertsNew, IsEntered, IsRefused, IsSpot, LacksChild, Parts, present_leaf, reach, LacksRoomToInsert, leaf_pointer, OutOfMemory, Mismatch, Spot, prefix-on, by_option, the_one, InsertFault, Place}
 use Rattle.art_tree.specs.declared.insert.InsertRefusal.{InsertRefusal}
-use Rattle.art_tree.specs.declared.insert.InsertRefusal.TheVariants.{OutOfMemory}
-use Rattle.art_tree.specs.declared.place.Mismatch.{Mismatch}
-use Rattle.art_tree.specs.declared.place.Place.{Place}
 use Rattle.art_tree.specs.declared.place.Place.TheVariants as places
-use Rattle.art_tree.specs.declared.place.Spot.{Spot}
-use Rattle.art_tree.proofs.SharedLemmas.DictionaryLemmas.{AreApart, after-first, empty-entry, entry-of-member, held-entry, in-map, leaf-held-in, leaf-of-entry, leaf-with}
-use Rattle.art_tree.proofs.SharedLemmas.ExchangedSubtree.{the-one, leaves-plug, sound-part, sound-whole}
-use Rattle.art_bytes.proofs.PrefixLaws.{prefix-on}
+use Rattle.art_tree.proofs.SharedLemmas.DictionaryLemmas.{AreApart, after-first, empty-entry, held-entry, leaf-held-in, leaf-of-entry, leaf-with}
+use Rattle.art_tree.proofs.SharedLemmas.ExchangedSubtree.{leaves-plug, sound-part, sound-whole}
 use Rattle.art_tree.proofs.PlaceLemmas.TextsBelow.{text-begins, text-reaches}
-use Rattle.art_tree.proofs.PlaceLemmas.WayPlaces.{leaf-inside}
 use Rattle.art_tree.proofs.SharedLemmas.PrefixLemmas.{key-on}
 
 -- neither text is a prefix of the other
@@ -56,11 +28,11 @@ module _ {H : Type 0} where
   same-prefix [] p q x y apart (k, inside, is) second begins = absurd (omega (arith, inside))
   same-prefix (z ∷ zs) p q x y apart first second begins = elim (Contains-append_cases (z ∷ []) zs (p, x) first) [
     | inl here ↦ elim (Contains-append_cases (z ∷ []) zs (q, y) second) [
-      | inl too ↦ ap (λ leaf. leaf.1) (sym (the-one z (p, x) here) ∙ the-one z (q, y) too)
-      | inr later ↦ absurd ((after-first IsApart z zs q y apart later).0 (subst (λ text. IsPrefixOf text y) (sym (ap (λ leaf. leaf.1) (the-one z (p, x) here))) begins))
+      | inl too ↦ ap (λ leaf. leaf.1) (sym (the_one z (p, x) here) ∙ the_one z (q, y) too)
+      | inr later ↦ absurd ((after-first IsApart z zs q y apart later).0 (subst (λ text. IsPrefixOf text y) (sym (ap (λ leaf. leaf.1) (the_one z (p, x) here))) begins))
     ]
     | inr later ↦ elim (Contains-append_cases (z ∷ []) zs (q, y) second) [
-      | inl here ↦ absurd ((after-first IsApart z zs p x apart later).1 (subst (λ text. IsPrefixOf x text) (sym (ap (λ leaf. leaf.1) (the-one z (q, y) here))) begins))
+      | inl here ↦ absurd ((after-first IsApart z zs p x apart later).1 (subst (λ text. IsPrefixOf x text) (sym (ap (λ leaf. leaf.1) (the_one z (q, y) here))) begins))
       | inr too ↦ same-prefix zs p q x y (λ i j d before inside. apart (suc i) (suc j) d (omega (arith, before)) (omega (arith, inside))) later too begins
     ]
   ]
@@ -71,7 +43,7 @@ module _ {H : Type 0} where
   beside-apart [] right p key q x apart (inr inside) = let both = after-first IsApart (p, key) right q x apart inside in (both.1, both.0)
   beside-apart (y ∷ left) right p key q x apart (inr inside) = beside-apart left right p key q x (λ i j d before within. apart (suc i) (suc j) d (omega (arith, before)) (omega (arith, within))) (inr inside)
   beside-apart (y ∷ left) right p key q x apart (inl inside) = elim (Contains-append_cases (y ∷ []) left (q, x) inside) [
-    | inl here ↦ subst (λ text. IsApart text key) (ap (λ leaf. leaf.1) (the-one y (q, x) here)) (after-first IsApart y (left ++ (p, key) ∷ right) p key apart (Contains-append_right left ((p, key) ∷ right) (p, key) (0, omega arith, refl)))
+    | inl here ↦ subst (λ text. IsApart text key) (ap (λ leaf. leaf.1) (the_one y (q, x) here)) (after-first IsApart y (left ++ (p, key) ∷ right) p key apart (Contains-append_right left ((p, key) ∷ right) (p, key) (0, omega arith, refl)))
     | inr later ↦ beside-apart left right p key q x (λ i j d before within. apart (suc i) (suc j) d (omega (arith, before)) (omega (arith, within))) (inl later)
   ]
 
@@ -136,11 +108,8 @@ module _ {K V : Type 0} {P : ℕ} (text : K → List ℕ) (arena : NodeArena K V
   module _ (root : OpaqueNodePtr K V P) (tree : Tree (OpaqueNodePtr K V P)) (alone : IsAlone text arena root tree) where
     -- a text that has an entry is that of a leaf
     entry-leaf : (x : List ℕ) → HasEntry text arena x → (q : OpaqueNodePtr K V P) × Contains (leaves tree) (q, x)
-    entry-leaf x has = by_entry (entry_at text arena x) refl
-      where
-        by_entry : (o : Option (K × V)) → entry_at text arena x ≡ o → (q : OpaqueNodePtr K V P) × Contains (leaves tree) (q, x)
-        by_entry None none = absurd (has none)
-        by_entry (Some entry) is = let leaf = leaf-of-entry text arena root tree alone x entry is in (leaf.pointer, leaf.inside)
+    entry-leaf x has =
+        by_option (entry_at text arena x) ((q : OpaqueNodePtr K V P) × Contains (leaves tree) (q, x)) (λ none. absurd (has none)) (λ entry is. let leaf = leaf-of-entry text arena root tree alone x entry is in (leaf.pointer, leaf.inside))
 
     -- and the text of a leaf has an entry
     leaf-entry : AreApart (texts tree) → (q : OpaqueNodePtr K V P) (x : List ℕ) → Contains (leaves tree) (q, x) → HasEntry text arena x
@@ -148,10 +117,6 @@ module _ {K V : Type 0} {P : ℕ} (text : K → List ℕ) (arena : NodeArena K V
         let leaf = leaf-held-in text arena tree alone.is_tree.stands q x inside in
         let wrong = sym (held-entry text arena root tree alone apart q leaf.0 leaf.1) ∙ ap (entry_at text arena) leaf.2 ∙ none in
         absurd (cc)
-
-    -- a leaf of the tree is held
-    pub leaf-is-held : (q : OpaqueNodePtr K V P) (x : List ℕ) → Contains (leaves tree) (q, x) → held arena q ≢ Nothing
-    leaf-is-held q x inside none = let leaf = leaf-held-in text arena tree alone.is_tree.stands q x inside in let wrong = sym leaf.1 ∙ none in absurd (cc)
 
     -- a text that clashes with one of the tree clashes with an entry
     pub clash-entry : AreApart (texts tree) → (key : List ℕ) → Clashes (texts tree) key → ClashesIn text arena key
@@ -169,7 +134,12 @@ module _ {K V : Type 0} {P : ℕ} (text : K → List ℕ) (arena : NodeArena K V
     -- a short text that is apart from all of the tree's is refused by nothing but an allocation
     -- failure
     pub apart-new : (key : List ℕ) → length key < 2 ^ 32 → ((q : OpaqueNodePtr K V P) (x : List ℕ) → Contains (leaves tree) (q, x) → IsApart x key) → IsRefused text arena key OutOfMemory
-    apart-new key short apart = ((short, λ (other, has, clash). never other has clash), by_entry (entry_at text arena key) refl)
+    apart-new key short apart = (
+      (short, λ (other, has, clash). never other has clash),
+      by_option (entry_at text arena key) (entry_at text arena key ≡ None) (λ is. is) (λ entry is.
+          let leaf = leaf-of-entry text arena root tree alone key entry is in
+          absurd ((apart leaf.pointer key leaf.inside).0 ([], sym (append-nil key)))),
+    )
       where
         never : (other : List ℕ) → HasEntry text arena other → IsProperPrefixOf other key ⊎ IsProperPrefixOf key other → ⊥
         never other has clash =
@@ -177,53 +147,11 @@ module _ {K V : Type 0} {P : ℕ} (text : K → List ℕ) (arena : NodeArena K V
             let both = apart leaf.0 other leaf.1 in
             elim clash [ inl front ↦ both.0 front.0 | inr front ↦ both.1 front.0 ]
 
-        by_entry : (o : Option (K × V)) → entry_at text arena key ≡ o → entry_at text arena key ≡ None
-        by_entry None is = is
-        by_entry (Some entry) is =
-            let leaf = leaf-of-entry text arena root tree alone key entry is in
-            absurd ((apart leaf.pointer key leaf.inside).0 ([], sym (append-nil key)))
-
--- the place of a key is a leaf with the key itself
-pub present-is : {K V : Type 0} {P : ℕ} (found : Option (OpaqueNodePtr K V P × Place K V P)) (at : OpaqueNodePtr K V P × NodePtr P (LeafNode K V P)) → Some at ≡ present_leaf found → found ≡ Some (at.0, places.Present at.1)
-present-is None at is = absurd (cc)
-present-is (Some (root, places.Present leaf)) at is = ap (λ (now : OpaqueNodePtr _ _ _ × NodePtr _ (LeafNode _ _ _)). Some (now.0, places.Present now.1)) (sym (same_Some at (root, leaf) is))
-present-is (Some (root, places.Extends leaf)) at is = absurd (cc)
-present-is (Some (root, places.Begins spot)) at is = absurd (cc)
-present-is (Some (root, places.Absent spot byte)) at is = absurd (cc)
-present-is (Some (root, places.Differs spot mismatch)) at is = absurd (cc)
-
--- it is none where there is no such leaf
+-- the place of a key is no leaf with the key where there is none
 pub present-new : {K V : Type 0} {P : ℕ} (found : Option (OpaqueNodePtr K V P × Place K V P)) (root : OpaqueNodePtr K V P) (place : Place K V P) → found ≡ Some (root, place) → present_leaf found ≡ None → (leaf : NodePtr P (LeafNode K V P)) → place ≡ places.Present leaf → ⊥
 present-new found root place is new leaf here =
     let wrong : Some (root, leaf) ≡ None = sym (ap present_leaf (is ∙ ap (λ (p : Place _ _ _). Some (root, p)) here)) ∙ new in
     cc
-
--- such a leaf is in the tree, and holds the key's entry
-module _ {K V : Type 0} {P : ℕ} (text : K → List ℕ) (arena : NodeArena K V P) (root : Option (OpaqueNodePtr K V P)) (art : IsArt text arena root) (found : Option (OpaqueNodePtr K V P × Place K V P)) (rooted : option_map (λ place. place.0) found ≡ root) (key : List ℕ)
-    (belongs : IfSome found (λ place. EachTree text arena place.0 (λ tree. Belongs tree key place.1))) (at : OpaqueNodePtr K V P × NodePtr P (LeafNode K V P)) (is : Some at ≡ present_leaf found) where
-  place-is : found ≡ Some (at.0, places.Present at.1)
-  place-is = present-is found at is
-
-  pub root-is : root ≡ Some at.0
-  root-is = sym rooted ∙ ap (option_map (λ place. place.0)) place-is
-
-  pub tree-there : IsArt text arena (Some at.0)
-  tree-there = subst (IsArt text arena) root-is art
-
-  pub leaf-there : Contains (leaves tree-there.0) (leaf_pointer at.1, key)
-  leaf-there = leaf-inside tree-there.0 key (leaf_pointer at.1) key (subst (λ o. IfSome o (λ place. EachTree text arena place.0 (λ tree. Belongs tree key place.1))) place-is belongs tree-there.0 tree-there.1.is_tree)
-
-  module _ (apart : AreApart (texts tree-there.0)) where
-    pub there-may : MayEnter text arena key
-    there-may = (
-      All-contains (λ x. length x < 2 ^ 32) (texts tree-there.0) key tree-there.1.short (in-map (λ leaf. leaf.1) (leaves tree-there.0) (leaf_pointer at.1, key) leaf-there),
-      no-clash text arena at.0 tree-there.0 tree-there.1 apart (leaf_pointer at.1) key leaf-there,
-    )
-
-    pub there-held : (entry : K × V) × (entry_at text arena key ≡ Some entry) × HoldsEntry arena (leaf_pointer at.1) entry.0 entry.1
-    there-held =
-        let leaf = leaf-held-in text arena tree-there.0 tree-there.1.is_tree.stands (leaf_pointer at.1) key leaf-there in
-        ((leaf_key leaf.0, leaf_value leaf.0), entry-of-member text arena at.0 tree-there.0 tree-there.1 apart (leaf_pointer at.1) key leaf.0 leaf-there leaf.1, record { leaf = leaf.0; is_held = leaf.1; key = refl; value = refl })
 
 -- an arena that stays without nodes has no entry before and after
 module _ {K V : Type 0} {P : ℕ} (text : K → List ℕ) (old new : NodeArena K V P) (same : SameNodes old new) where
@@ -289,13 +217,3 @@ module _ {K V : Type 0} {P : ℕ} (text : K → List ℕ) (old new : NodeArena K
     takes_no_memory = λ has. subst (SameRoom old) (sym same) (λ kind. refl);
     memory = λ kind. inl (ap (λ arena. capacity arena kind) same);
   }
-
--- what is found or added, where the key has no entry and the value was made
-module _ {K V : Type 0} {P : ℕ} (text : K → List ℕ) (old new : NodeArena K V P) (root : Option (OpaqueNodePtr K V P)) (key : K) (value : V) (made : V → Type 0) (is_made : made value) where
-  pub new-found : (result : Result (OpaqueNodePtr K V P × NodePtr P (LeafNode K V P)) (InsertFault K V)) → InsertsNew text old new root key value result → IfOk result (λ at. FindsEntry text old new key made (leaf_pointer at.1))
-  new-found (Ok at) done = inr (value, is_made, done.absent, done.entered, done.leaf)
-  new-found (Err fault) done = tt
-
-  pub made-back : (result : Result (OpaqueNodePtr K V P × NodePtr P (LeafNode K V P)) (InsertFault K V)) → InsertsNew text old new root key value result → IfErr result (λ fault. (fault.key ≡ key) × made fault.value)
-  made-back (Ok at) done = tt
-  made-back (Err fault) done = (done.entry_back.0, subst made (sym done.entry_back.1) is_made)

@@ -1,22 +1,5 @@
 -- Insertion: the gap among the leaves for the new one.
-use Rattle.std.proofs.Common.{◌≡◌, ◌∙◌, ℕ, ◌<◌, ◌^◌, List, [], ◌∷◌, ◌++◌, length, map, AllPairs, Contains, refl, sym, ap, subst, arith, append_assoc}
-use Rattle.std.specs.declared.cmp.Ordering.TheVariants.{Less}
-use Rattle.std.proofs.lemmas.List.{map-append}
-use Rattle.std.proofs.lemmas.List.Elements.{Contains-append_left, Contains-append_right}
-use Rattle.art_bytes.specs.Text.{IsPrefixOf, text_order}
-use Rattle.art_header.specs.declared.node_type.NodeType.TheVariants as kinds
-use Rattle.art_nodes.specs.Leaf.{leaf_key}
-use Rattle.art_nodes.specs.Pointers.{opaque_key, opaque_pointer}
-use Rattle.art_nodes.specs.declared.pointers.OpaqueNodePtr.{OpaqueNodePtr}
-use Rattle.art_arena.specs.Arena.{NodeArena, HeldLeaf, held}
-use Rattle.art_arena.specs.Links.{Spells, text_at}
-use Rattle.art_arena.specs.Trees.{Tree, Branches, leaves, branch_leaves, texts, IsSound, IsWellFormed}
-use Rattle.art_tree.specs.Art.{IsAlone}
-use Rattle.art_tree.specs.Contexts.{Context, plug, path_to, leaves_before, leaves_after}
-use Rattle.art_tree.specs.Edits.{HasGap, IsBeside, LiesBeside}
-use Rattle.art_tree.specs.Hanging.{StandsBeside}
-use Rattle.art_arena.specs.declared.ends.End.{End}
-use Rattle.art_arena.specs.declared.ends.End.TheVariants.{First, Last}
+use Rattle.art_tree.proofs.Names.{◌≡◌, ◌∙◌, ℕ, ◌<◌, ◌^◌, List, [], ◌∷◌, ◌++◌, length, map, AllPairs, Contains, refl, sym, ap, subst, arith, append_assoc, Less, map-append, Contains-append_left, Contains-append_right, IsPrefixOf, text_order, leaf_key, opaque_key, opaque_pointer, OpaqueNodePtr, NodeArena, HeldLeaf, held, Spells, text_at, Tree, Branches, leaves, branch_leaves, texts, IsSound, IsWellFormed, IsAlone, Context, plug, path_to, leaves_before, leaves_after, HasGap, IsBeside, LiesBeside, StandsBeside, End, First, Last, LeafKind}
 use Rattle.art_tree.proofs.InsertLemmas.AddedLeaf.{leaves-parted, leaves-filled}
 use Rattle.art_tree.proofs.SharedLemmas.DictionaryLemmas.{leaf-held-in}
 use Rattle.art_tree.proofs.SharedLemmas.ExchangedSubtree.{sound-whole}
@@ -55,19 +38,19 @@ module _ {K V : Type 0} {P : ℕ} (text : K → List ℕ) (arena : NodeArena K V
   pub spelled-parts : Spells arena (keys_of left ++ keys_of right)
   spelled-parts = subst (Spells arena) (ap keys_of (leaves-parted context part before after same_leaves) ∙ keys-append left right) alone.spelled
 
-  module _ (end : End) (key : ℕ) (beside : StandsBeside end (branch_leaves before) (branch_leaves after) (opaque_pointer kinds.Leaf key)) where
-    wide : IsBeside end left right (opaque_pointer kinds.Leaf key, beside.0)
-    wide = beside-wide end (leaves_before context) (branch_leaves before) (branch_leaves after) (leaves_after context) (opaque_pointer kinds.Leaf key, beside.0) beside.1
+  module _ (end : End) (key : ℕ) (beside : StandsBeside end (branch_leaves before) (branch_leaves after) (opaque_pointer LeafKind key)) where
+    wide : IsBeside end left right (opaque_pointer LeafKind key, beside.0)
+    wide = beside-wide end (leaves_before context) (branch_leaves before) (branch_leaves after) (leaves_after context) (opaque_pointer LeafKind key, beside.0) beside.1
 
     pub beside-key : IsBeside end (keys_of left) (keys_of right) key
-    beside-key = keys-beside end left right (opaque_pointer kinds.Leaf key) beside.0 wide
+    beside-key = keys-beside end left right (opaque_pointer LeafKind key) beside.0 wide
 
     pub gap : HasGap arena end key
     gap = record { left = keys_of left; right = keys_of right; spelled = spelled-parts; beside = beside-key }
 
     -- the leaf there is held, and a new text lies on its side
-    pub sibling : (leaf : _) × (held arena (opaque_pointer kinds.Leaf key) ≡ HeldLeaf leaf) × (text (leaf_key leaf) ≡ beside.0)
-    sibling = leaf-held-in text arena (plug context part) alone.is_tree.stands (opaque_pointer kinds.Leaf key) beside.0 (subst (λ all. Contains all (opaque_pointer kinds.Leaf key, beside.0)) (sym (leaves-parted context part before after same_leaves)) (beside-in end left right (opaque_pointer kinds.Leaf key, beside.0) wide))
+    pub sibling : (leaf : _) × (held arena (opaque_pointer LeafKind key) ≡ HeldLeaf leaf) × (text (leaf_key leaf) ≡ beside.0)
+    sibling = leaf-held-in text arena (plug context part) alone.is_tree.stands (opaque_pointer LeafKind key) beside.0 (subst (λ all. Contains all (opaque_pointer LeafKind key, beside.0)) (sym (leaves-parted context part before after same_leaves)) (beside-in end left right (opaque_pointer LeafKind key, beside.0) wide))
 
     pub sibling-text : text_at text arena key ≡ beside.0
     sibling-text = text-held text arena key sibling.0 sibling.1 ∙ sibling.2
@@ -78,4 +61,4 @@ module _ {K V : Type 0} {P : ℕ} (text : K → List ℕ) (arena : NodeArena K V
         let now = with_leaf root prefix before byte root x after in
         let sound : IsWellFormed (plug context now) = sound-whole context part now alone.is_tree.sound (taken-sound (path_to context) prefix root before byte root x after place leads short) in
         let pairs = subst (λ all. AllPairs (λ a b. text_order a b ≡ Less) (map (λ leaf. leaf.1) all)) (leaves-filled context prefix root before byte root x after) (ascend [] (plug context now) sound) in
-        subst (LiesBeside end x) (sym sibling-text) (beside-less left right root x pairs end (opaque_pointer kinds.Leaf key) beside.0 wide)
+        subst (LiesBeside end x) (sym sibling-text) (beside-less left right root x pairs end (opaque_pointer LeafKind key) beside.0 wide)

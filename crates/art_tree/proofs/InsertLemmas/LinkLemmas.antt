@@ -1,19 +1,8 @@
 -- Insertion: a leaf that is linked beside another one of a list.
-use Rattle.std.proofs.Common.{◌≡◌, ◌≢◌, ◌∙◌, ℕ, List, [], ◌∷◌, ◌++◌, Some, None, sym, ap, subst, append_assoc}
-use Rattle.std.specs.Option.{option_and_then}
-use Rattle.art_header.specs.declared.node_type.NodeType.TheVariants as kinds
-use Rattle.art_nodes.specs.Leaf.{leaf_key, leaf_value, previous_key, next_key}
-use Rattle.art_nodes.specs.Pointers.{node_kind, opaque_key, opaque_pointer}
-use Rattle.art_nodes.specs.declared.pointers.OpaqueNodePtr.{OpaqueNodePtr}
-use Rattle.art_nodes.specs.declared.leaf_node.LeafNode.{LeafNode}
-use Rattle.art_arena.specs.Arena.{NodeArena, HeldLeaf, Nothing, held, held_leaf, Changes}
-use Rattle.art_arena.specs.Links.{HoldsLeaf, IsKnit, IsUnlinked, SameButLinks, Spells, leaf_at, text_at}
-use Rattle.art_tree.specs.Edits.{HasGap, HoldsEntry, IsBeside, StaysAt}
-use Rattle.art_arena.specs.declared.ends.End.{End}
-use Rattle.art_arena.specs.declared.ends.End.TheVariants.{First, Last}
-use Rattle.art_arena.proofs.StandingLaws.{leaf_kind}
+use Rattle.art_tree.proofs.Names.{◌≡◌, ◌≢◌, ◌∙◌, ℕ, List, [], ◌∷◌, ◌++◌, Some, None, sym, ap, subst, append_assoc, option_and_then, leaf_key, leaf_value, previous_key, next_key, node_kind, opaque_key, opaque_pointer, OpaqueNodePtr, LeafNode, NodeArena, HeldLeaf, Nothing, held, held_leaf, Changes, HoldsLeaf, IsKnit, IsUnlinked, SameButLinks, Spells, leaf_at, text_at, HasGap, HoldsEntry, IsBeside, StaysAt, LiesBeside, End, First, Last, leaf_kind, LeafKind, knit-member}
 use Rattle.art_tree.proofs.SharedLemmas.HeldNodes.{kept-at, leaf-of, text-held, text-kept}
 use Rattle.art_tree.proofs.SharedLemmas.SpelledLists.{AreKnit, Spells-kept}
+use Rattle.art_tree.proofs.InsertLemmas.NodeLemmas.{some-leaf}
 
 module _ {K V : Type 0} {P : ℕ} where
   -- the leaf beside a gap is knit
@@ -37,44 +26,46 @@ module _ {K V : Type 0} {P : ℕ} where
       subst (Spells new) (sym (joined (this ∷ right))) (links beside.0 right (subst (Spells now) (joined right) s))
 
 -- a new leaf is allocated, and then linked
-module _ {K V : Type 0} {P : ℕ} (old now : NodeArena K V P) (this : ℕ) (leaf : LeafNode K V P) (free : held old (opaque_pointer kinds.Leaf this) ≡ Nothing) (changes : Changes old now (opaque_pointer kinds.Leaf this) (HeldLeaf leaf)) where
+module _ {K V : Type 0} {P : ℕ} (old now : NodeArena K V P) (this : ℕ) (leaf : LeafNode K V P) (free : held old (opaque_pointer LeafKind this) ≡ Nothing) (changes : Changes old now (opaque_pointer LeafKind this) (HeldLeaf leaf)) where
   kept : (pointer : OpaqueNodePtr K V P) → held old pointer ≢ Nothing → held now pointer ≡ held old pointer
-  kept = kept-at old now (opaque_pointer kinds.Leaf this) (HeldLeaf leaf) free changes
+  kept = kept-at old now (opaque_pointer LeafKind this) (HeldLeaf leaf) free changes
 
   new-at : leaf_at now this ≡ Some leaf
   new-at = leaf-of (leaf_at now this) leaf changes.changed
 
-  -- what linking it asks
-  pub new-held : HoldsLeaf now this
-  new-held = subst (λ x. x ≢ Nothing) (sym changes.changed) (λ e. cc)
+  -- what linking it beside a leaf asks
+  pub record IsReady (text : K → List ℕ) (end : End) (sibling : ℕ) : Type 0 where
+    pub held : HoldsLeaf now this
+    pub unlinked : IsUnlinked now this
+    pub apart : this ≢ sibling
+    pub knit : IsKnit now sibling
+    pub order : LiesBeside end (text_at text now this) (text_at text now sibling)
 
-  pub new-unlinked : previous_key leaf ≡ None → next_key leaf ≡ None → IsUnlinked now this
-  new-unlinked no_previous no_next = (ap (option_and_then previous_key) new-at ∙ no_previous, ap (option_and_then next_key) new-at ∙ no_next)
-
-  pub new-apart : (end : End) (sibling : ℕ) → AreKnit old → HasGap old end sibling → this ≢ sibling
-  new-apart end sibling knit gap = λ same. (knit-beside old end sibling knit gap).held (ap (λ k. held old (opaque_pointer kinds.Leaf k)) (sym same) ∙ free)
-
-  pub sibling-knit : (end : End) (sibling : ℕ) → AreKnit now → HasGap old end sibling → IsKnit now sibling
-  sibling-knit end sibling knit gap = knit-beside now end sibling knit (record { left = gap.left; right = gap.right; spelled = Spells-kept old now kept _ gap.spelled; beside = gap.beside })
+  pub ready : (text : K → List ℕ) (key : K) → leaf_key leaf ≡ key → previous_key leaf ≡ None → next_key leaf ≡ None → (end : End) (sibling : ℕ) → HasGap old end sibling → LiesBeside end (text key) (text_at text old sibling) → IsReady text end sibling
+  ready text key is no_previous no_next end sibling gap order =
+      let was = knit-beside old end sibling (knit-member old) gap in
+      let own : text key ≡ text_at text now this = sym (text-held text now this leaf changes.changed ∙ ap text is) in
+      let other : text_at text old sibling ≡ text_at text now sibling = sym (text-kept text old now sibling was.held kept).1 in
+      record {
+        held = some-leaf (held now (opaque_pointer LeafKind this)) leaf changes.changed;
+        unlinked = (ap (option_and_then previous_key) new-at ∙ no_previous, ap (option_and_then next_key) new-at ∙ no_next);
+        apart = λ same. was.held (ap (λ k. held old (opaque_pointer LeafKind k)) (sym same) ∙ free);
+        knit = knit-beside now end sibling (knit-member now) (record { left = gap.left; right = gap.right; spelled = Spells-kept old now kept _ gap.spelled; beside = gap.beside });
+        order = subst (λ x. LiesBeside end x (text_at text now sibling)) own (subst (LiesBeside end (text key)) other order);
+      }
 
   pub still-spelled : (keys : List ℕ) → Spells old keys → Spells now keys
   still-spelled keys s = Spells-kept old now kept keys s
 
-  pub new-text : (text : K → List ℕ) (key : K) → leaf_key leaf ≡ key → text key ≡ text_at text now this
-  new-text text key is = sym (text-held text now this leaf changes.changed ∙ ap text is)
-
-  pub sibling-text : (text : K → List ℕ) (end : End) (sibling : ℕ) → AreKnit old → HasGap old end sibling → text_at text old sibling ≡ text_at text now sibling
-  sibling-text text end sibling knit gap = sym (text-kept text old now sibling (knit-beside old end sibling knit gap).held kept).1
-
   module _ (new : NodeArena K V P) (same : SameButLinks now new) where
     -- the new leaf has its entry
-    pub entry-held : (key : K) (value : V) → leaf_key leaf ≡ key → leaf_value leaf ≡ value → HoldsEntry new (opaque_pointer kinds.Leaf this) key value
+    pub entry-held : (key : K) (value : V) → leaf_key leaf ≡ key → leaf_value leaf ≡ value → HoldsEntry new (opaque_pointer LeafKind this) key value
     entry-held key value is_key is_value =
         let after = same.leaf this leaf new-at in
         record { leaf = after.0; is_held = ap held_leaf after.1; key = after.2 ∙ is_key; value = after.3 ∙ is_value }
 
     -- and all else stays
-    pub others-stay : (pointer : OpaqueNodePtr K V P) → pointer ≢ opaque_pointer kinds.Leaf this → StaysAt old new pointer
+    pub others-stay : (pointer : OpaqueNodePtr K V P) → pointer ≢ opaque_pointer LeafKind this → StaysAt old new pointer
     others-stay pointer differ =
         let stays = changes.others pointer differ in
         record {
@@ -83,7 +74,7 @@ module _ {K V : Type 0} {P : ℕ} (old now : NodeArena K V P) (this : ℕ) (leaf
             inner = λ node is. same.inner pointer node (stays ∙ is);
             leaf = λ other is.
                 let kind = leaf_kind old (node_kind pointer) (opaque_key pointer) other is in
-                let place : opaque_pointer kinds.Leaf (opaque_key pointer) ≡ pointer = λ i. record { node_type = (sym kind) i; key = opaque_key pointer; leaf = record {} } in
+                let place : opaque_pointer LeafKind (opaque_key pointer) ≡ pointer = λ i. record { node_type = (sym kind) i; key = opaque_key pointer; leaf = record {} } in
                 let after = same.leaf (opaque_key pointer) other (leaf-of (leaf_at now (opaque_key pointer)) other (ap (held now) place ∙ stays ∙ is)) in
                 (after.0, ap (held new) (sym place) ∙ ap held_leaf after.1, after.2, after.3);
           };

@@ -1,18 +1,5 @@
 -- The nodes that a tree needs for a child more.
-use Rattle.std.proofs.Common.{◌≡◌, ◌≢◌, ◌∙◌, ℕ, ◌+◌, ◌<◌, ◌^◌, List, length, Some, sym, ap, subst, inl, inr, arith}
-use Rattle.art_header.specs.NodeType.{kind_for, most_children, grown_kind}
-use Rattle.art_header.specs.declared.node_type.NodeType.{NodeType}
-use Rattle.art_header.specs.declared.node_type.NodeType.TheVariants as kinds
-use Rattle.art_nodes.specs.ChildMap.{IsAscending, key_bytes, child_at}
-use Rattle.art_nodes.specs.Pointers.{node_kind}
-use Rattle.art_nodes.specs.declared.pointers.OpaqueNodePtr.{OpaqueNodePtr}
-use Rattle.art_arena.specs.Arena.{NodeArena, room}
-use Rattle.art_arena.specs.Trees.{branch_roots, texts}
-use Rattle.art_tree.specs.Contexts.{plug, join}
-use Rattle.art_tree.specs.NodeCounts.{one_if_same, nodes_of, branch_nodes_of}
-use Rattle.art_tree.specs.Reserving.{LacksRoomForChild}
-use Rattle.art_tree.specs.Room.{LacksRoomToInsert}
-use Rattle.art_tree.specs.declared.place.Spot.{Spot}
+use Rattle.art_tree.proofs.Names.{◌≡◌, ◌≢◌, ◌∙◌, ℕ, ◌+◌, ◌<◌, ◌^◌, List, length, Some, sym, ap, subst, inl, inr, arith, kind_for, most_children, grown_kind, NodeType, IsAscending, key_bytes, child_at, node_kind, OpaqueNodePtr, NodeArena, room, branch_roots, texts, plug, join, one_if_same, nodes_of, branch_nodes_of, LacksRoomForChild, LacksRoomToInsert, Spot, LeafKind, Node256}
 use Rattle.art_tree.proofs.InsertLemmas.AddedChild.{ChildSpot, alone-there, around_it, gap-there, is-there, leaves-there, node-is, node_there, shown-there, smallest_kinds-there, sound-there, there-inner}
 use Rattle.art_tree.proofs.InsertLemmas.NeededNodes.{insert-lacks, nodes-taken}
 use Rattle.art_tree.proofs.InsertLemmas.NodeLemmas.{few-where-absent}
@@ -31,7 +18,7 @@ module _ {K V : Type 0} {P : ℕ} {text : K → List ℕ} {old : NodeArena K V P
   nodes-there kind = ap (λ b. one_if_same kind (kind_for (length (branch_roots b))) + branch_nodes_of kind b) (sym (gap-there child_spot).same)
 
   nodes-more : (kind : NodeType)
-      → nodes_of kind (with_leaf root child_spot.lacks.prefix (gap-there child_spot).before byte root (text key) (gap-there child_spot).after) ≡ one_if_same kind (kind_for (count + 1)) + (branch_nodes_of kind (join (gap-there child_spot).before (gap-there child_spot).after) + one_if_same kind kinds.Leaf)
+      → nodes_of kind (with_leaf root child_spot.lacks.prefix (gap-there child_spot).before byte root (text key) (gap-there child_spot).after) ≡ one_if_same kind (kind_for (count + 1)) + (branch_nodes_of kind (join (gap-there child_spot).before (gap-there child_spot).after) + one_if_same kind LeafKind)
   nodes-more kind = nodes-taken kind root child_spot.lacks.prefix (gap-there child_spot).before byte root (text key) (gap-there child_spot).after
 
   lacks-one : (kind : NodeType) → nodes_of kind (node_there child_spot) < nodes_of kind (with_leaf root child_spot.lacks.prefix (gap-there child_spot).before byte root (text key) (gap-there child_spot).after) → room old kind ≡ 0 → LacksRoomToInsert text old (Some root) (text key) kind
@@ -40,7 +27,7 @@ module _ {K V : Type 0} {P : ℕ} {text : K → List ℕ} {old : NodeArena K V P
   -- it needs a leaf, and a node of the next kind where the parent is full
   pub child-lacks : (kind : NodeType) → LacksRoomForChild old spot.node kind → LacksRoomToInsert text old (Some root) (text key) kind
   child-lacks kind (inl (is, none)) =
-      subst (LacksRoomToInsert text old (Some root) (text key)) (sym is) (lacks-one kinds.Leaf (omega (arith, nodes-there kinds.Leaf, no-leaf-kind count, nodes-more kinds.Leaf)) (subst (λ k. room old k ≡ 0) is none))
+      subst (LacksRoomToInsert text old (Some root) (text key)) (sym is) (lacks-one LeafKind (omega (arith, nodes-there LeafKind, no-leaf-kind count, nodes-more LeafKind)) (subst (λ k. room old k ≡ 0) is none))
   child-lacks kind (inr grows) =
       let node = node-is child_spot in
       let shows = shown-there child_spot in
@@ -51,7 +38,7 @@ module _ {K V : Type 0} {P : ℕ} {text : K → List ℕ} {old : NodeArena K V P
       let few : length node.children < 256 =
       few-where-absent node byte child_spot.fits (subst (λ children. IsAscending (key_bytes children)) (sym shows.children) (sound-there child_spot).1) (ap (λ children. child_at children byte) shows.children ∙ child_spot.lacks.absent) in
       let next : kind_for (count + 1) ≡ grown_kind (kind_for count) = kind-grows count (sym same ∙ full ∙ ap most_children own) (omega (arith, same, few)) in
-      let small : node_kind spot.node ≢ kinds.Node256 = λ largest. omega (arith, full, ap most_children largest, few) in
+      let small : node_kind spot.node ≢ Node256 = λ largest. omega (arith, full, ap most_children largest, few) in
       let none_before : one_if_same grown (kind_for count) ≡ 0 = ap (one_if_same grown) (sym own) ∙ grown-other (node_kind spot.node) small (there-inner child_spot) in
       let one_after : one_if_same grown (kind_for (count + 1)) ≡ 1 = ap (one_if_same grown) (next ∙ sym (ap grown_kind own)) ∙ one-same grown in
       subst (LacksRoomToInsert text old (Some root) (text key)) (sym is) (lacks-one grown (omega (arith, nodes-there grown, none_before, nodes-more grown, one_after)) (subst (λ k. room old k ≡ 0) is none))

@@ -1,17 +1,5 @@
 -- The nodes that a tree needs for a leaf that forks from a subtree.
-use Rattle.std.proofs.Common.{◌≡◌, ℕ, ◌+◌, ◌<◌, ◌^◌, List, length, Some, refl, sym, ap, subst, inl, inr, arith}
-use Rattle.art_header.specs.NodeType.{kind_for}
-use Rattle.art_header.specs.declared.node_type.NodeType.{NodeType}
-use Rattle.art_header.specs.declared.node_type.NodeType.TheVariants as kinds
-use Rattle.art_nodes.specs.declared.pointers.OpaqueNodePtr.{OpaqueNodePtr}
-use Rattle.art_arena.specs.Arena.{NodeArena, room}
-use Rattle.art_arena.specs.Trees.{Tree, Leaf, Inner, branch_roots, texts}
-use Rattle.art_tree.specs.Contexts.{plug, join}
-use Rattle.art_tree.specs.NodeCounts.{one_if_same, nodes_of, branch_nodes_of}
-use Rattle.art_tree.specs.Reserving.{LacksRoomForFork}
-use Rattle.art_tree.specs.Room.{LacksRoomToInsert}
-use Rattle.art_tree.specs.declared.place.Mismatch.{Mismatch}
-use Rattle.art_tree.specs.declared.place.Spot.{Spot}
+use Rattle.art_tree.proofs.Names.{◌≡◌, ℕ, ◌+◌, ◌<◌, ◌^◌, List, length, Some, refl, sym, ap, subst, inl, inr, arith, kind_for, NodeType, OpaqueNodePtr, NodeArena, room, Tree, Leaf, Inner, branch_roots, texts, plug, join, one_if_same, nodes_of, branch_nodes_of, LacksRoomForFork, LacksRoomToInsert, Mismatch, Spot, LeafKind, Node4}
 use Rattle.art_tree.proofs.InsertLemmas.AddedFork.{ForkPoint, alone-there, around_it, fork-there, leaves-there, left_there, len_there, part_there, right_there, shared_there, trimmed_there}
 use Rattle.art_tree.proofs.InsertLemmas.NeededNodes.{insert-lacks, nodes-taken}
 use Rattle.art_tree.proofs.InsertLemmas.SubtreeLemmas.{both-sides, ltrimmed, with_leaf}
@@ -35,7 +23,7 @@ module _ {K V : Type 0} {P : ℕ} {text : K → List ℕ} {old : NodeArena K V P
   one-there = ap (λ b. length (branch_roots b)) (both-sides mismatch.byte mismatch.node_byte (trimmed_there fork_place))
 
   nodes-more : (kind : NodeType)
-      → nodes_of kind (with_leaf root (shared_there fork_place) (left_there fork_place) mismatch.byte root (text key) (right_there fork_place)) ≡ one_if_same kind (kind_for (length (branch_roots (join (left_there fork_place) (right_there fork_place))) + 1)) + (branch_nodes_of kind (join (left_there fork_place) (right_there fork_place)) + one_if_same kind kinds.Leaf)
+      → nodes_of kind (with_leaf root (shared_there fork_place) (left_there fork_place) mismatch.byte root (text key) (right_there fork_place)) ≡ one_if_same kind (kind_for (length (branch_roots (join (left_there fork_place) (right_there fork_place))) + 1)) + (branch_nodes_of kind (join (left_there fork_place) (right_there fork_place)) + one_if_same kind LeafKind)
   nodes-more kind = nodes-taken kind root (shared_there fork_place) (left_there fork_place) mismatch.byte root (text key) (right_there fork_place)
 
   lacks-one : (kind : NodeType) → nodes_of kind (part_there fork_place) < nodes_of kind (with_leaf root (shared_there fork_place) (left_there fork_place) mismatch.byte root (text key) (right_there fork_place)) → room old kind ≡ 0 → LacksRoomToInsert text old (Some root) (text key) kind
@@ -44,7 +32,7 @@ module _ {K V : Type 0} {P : ℕ} {text : K → List ℕ} {old : NodeArena K V P
 
   -- it needs a leaf, and a Node4
   pub fork-lacks : (kind : NodeType) → LacksRoomForFork old kind → LacksRoomToInsert text old (Some root) (text key) kind
-  fork-lacks kind (inl is, none) = subst (LacksRoomToInsert text old (Some root) (text key)) (sym is) (lacks-one kinds.Leaf (omega (arith, nodes-there kinds.Leaf, nodes-more kinds.Leaf)) (subst (λ k. room old k ≡ 0) is none))
+  fork-lacks kind (inl is, none) = subst (LacksRoomToInsert text old (Some root) (text key)) (sym is) (lacks-one LeafKind (omega (arith, nodes-there LeafKind, nodes-more LeafKind)) (subst (λ k. room old k ≡ 0) is none))
   fork-lacks kind (inr is, none) =
-      let own : one_if_same kinds.Node4 (kind_for (length (branch_roots (join (left_there fork_place) (right_there fork_place))) + 1)) ≡ 1 = ap (λ n. one_if_same kinds.Node4 (kind_for (n + 1))) one-there in
-      subst (LacksRoomToInsert text old (Some root) (text key)) (sym is) (lacks-one kinds.Node4 (omega (arith, nodes-there kinds.Node4, nodes-more kinds.Node4, own)) (subst (λ k. room old k ≡ 0) is none))
+      let own : one_if_same Node4 (kind_for (length (branch_roots (join (left_there fork_place) (right_there fork_place))) + 1)) ≡ 1 = ap (λ n. one_if_same Node4 (kind_for (n + 1))) one-there in
+      subst (LacksRoomToInsert text old (Some root) (text key)) (sym is) (lacks-one Node4 (omega (arith, nodes-there Node4, nodes-more Node4, own)) (subst (λ k. room old k ≡ 0) is none))

@@ -1,22 +1,9 @@
 -- The nodes that a tree needs for a leaf more.
-use Rattle.std.proofs.Common.{◌≡◌, ◌⊎◌, ℕ, ◌+◌, ◌<◌, ◌≤◌, ◌^◌, List, [], ◌∷◌, ◌++◌, length, map, Contains, None, Some, refl, sym, ap, subst, inl, inr, arith}
-use Rattle.art_bytes.specs.Text.{IsPrefixOf}
-use Rattle.art_header.specs.NodeType.{kind_for}
-use Rattle.art_header.specs.declared.node_type.NodeType.{NodeType}
-use Rattle.art_header.specs.declared.node_type.NodeType.TheVariants as kinds
-use Rattle.art_nodes.specs.Pointers.{opaque_pointer}
-use Rattle.art_nodes.specs.declared.pointers.OpaqueNodePtr.{OpaqueNodePtr}
-use Rattle.art_arena.specs.Arena.{NodeArena, Nothing, SameCapacity, SameOtherCapacity, held, room}
-use Rattle.art_arena.specs.Trees.{Tree, Leaf, Branches, Branch, branch_roots, leaves, branch_leaves, texts}
-use Rattle.art_tree.specs.Art.{IsAlone}
-use Rattle.art_tree.specs.Contexts.{Context, plug, path_to, leaves_before, leaves_after, join}
-use Rattle.art_tree.specs.Dictionary.{HasEntry}
-use Rattle.art_tree.specs.NodeCounts.{one_if_same, nodes_of, branch_nodes_of}
-use Rattle.art_tree.specs.Room.{GrowsOnlyWhere, LacksRoomToInsert}
+use Rattle.art_tree.proofs.Names.{◌≡◌, ◌⊎◌, ℕ, ◌+◌, ◌<◌, ◌≤◌, ◌^◌, List, [], ◌∷◌, ◌++◌, length, map, Contains, None, Some, refl, sym, ap, subst, inl, inr, arith, IsPrefixOf, kind_for, NodeType, opaque_pointer, OpaqueNodePtr, NodeArena, Nothing, SameCapacity, SameOtherCapacity, held, room, Tree, Leaf, Branches, Branch, branch_roots, leaves, branch_leaves, texts, IsAlone, Context, plug, path_to, leaves_before, leaves_after, join, HasEntry, one_if_same, nodes_of, branch_nodes_of, GrowsOnlyWhere, LacksRoomToInsert, the_one, LeafKind}
 use Rattle.art_tree.proofs.InsertLemmas.AddedLeaf.{leaves-filled, leaves-parted}
 use Rattle.art_tree.proofs.InsertLemmas.SubtreeLemmas.{HasPlace, taken-count, taken-sound, with_leaf}
 use Rattle.art_tree.proofs.SharedLemmas.DictionaryLemmas.{AreApart, empty-entry, entry-of-text, text-of-entry}
-use Rattle.art_tree.proofs.SharedLemmas.ExchangedSubtree.{sound-whole, the-one}
+use Rattle.art_tree.proofs.SharedLemmas.ExchangedSubtree.{sound-whole}
 use Rattle.art_tree.proofs.SharedLemmas.NodeCounts.{more-around, nodes-join}
 use Rattle.art_tree.proofs.SharedLemmas.RoomLemmas.{IsAsked, asked-grows, grows-then}
 use Rattle.art_tree.proofs.SharedLemmas.TextLists.{text-new, text-or-new, text-stays}
@@ -26,7 +13,7 @@ texts_of all = map (λ leaf. leaf.1) all
 
 -- the nodes of a subtree with a new leaf are its top node, the leaf and those of the other branches
 pub nodes-taken : {H : Type 0} (kind : NodeType) (pointer : H) (prefix : List ℕ) (before : Branches H) (byte : ℕ) (leaf : H) (x : List ℕ) (after : Branches H)
-    → nodes_of kind (with_leaf pointer prefix before byte leaf x after) ≡ one_if_same kind (kind_for (length (branch_roots (join before after)) + 1)) + (branch_nodes_of kind (join before after) + one_if_same kind kinds.Leaf)
+    → nodes_of kind (with_leaf pointer prefix before byte leaf x after) ≡ one_if_same kind (kind_for (length (branch_roots (join before after)) + 1)) + (branch_nodes_of kind (join before after) + one_if_same kind LeafKind)
 nodes-taken kind pointer prefix before byte leaf x after =
     let own = ap (λ n. one_if_same kind (kind_for n)) (taken-count before byte leaf x after) in
     let with_it = nodes-join kind before (Branch byte (Leaf leaf x) after) in
@@ -35,12 +22,12 @@ nodes-taken kind pointer prefix before byte leaf x after =
 
 module _ {K V : Type 0} {P : ℕ} (text : K → List ℕ) (old : NodeArena K V P) where
   -- the first text needs a leaf
-  pub first-lacks : ((pointer : OpaqueNodePtr K V P) → held old pointer ≡ Nothing) → (x : List ℕ) → length x < 2 ^ 32 → room old kinds.Leaf ≡ 0 → LacksRoomToInsert text old None x kinds.Leaf
+  pub first-lacks : ((pointer : OpaqueNodePtr K V P) → held old pointer ≡ Nothing) → (x : List ℕ) → length x < 2 ^ 32 → room old LeafKind ≡ 0 → LacksRoomToInsert text old None x LeafKind
   first-lacks nothing x short none = record {
-    tree = Leaf (opaque_pointer kinds.Leaf 0) x;
+    tree = Leaf (opaque_pointer LeafKind 0) x;
     sound = ((x, refl), omega (arith, short));
     texts_are = λ other. (
-      λ inside. inr (sym (the-one x other inside)),
+      λ inside. inr (sym (the_one x other inside)),
       λ either. elim either [
         | inl has ↦ absurd (has (empty-entry text old nothing other))
         | inr same ↦ (0, omega arith, sym same)
@@ -51,11 +38,11 @@ module _ {K V : Type 0} {P : ℕ} (text : K → List ℕ) (old : NodeArena K V P
   }
 
   -- an allocation of a leaf changes the capacity only where the first text needs it
-  pub first-memory : (new : NodeArena K V P) (key : K) → ((pointer : OpaqueNodePtr K V P) → held old pointer ≡ Nothing) → length (text key) < 2 ^ 32 → (1 ≤ room old kinds.Leaf → SameCapacity old new) → SameOtherCapacity old new kinds.Leaf → GrowsOnlyWhere old new (LacksRoomToInsert text old None (text key))
+  pub first-memory : (new : NodeArena K V P) (key : K) → ((pointer : OpaqueNodePtr K V P) → held old pointer ≡ Nothing) → length (text key) < 2 ^ 32 → (1 ≤ room old LeafKind → SameCapacity old new) → SameOtherCapacity old new LeafKind → GrowsOnlyWhere old new (LacksRoomToInsert text old None (text key))
   first-memory new key nothing short had others =
       let lacks = LacksRoomToInsert text old None (text key) in
-      grows-then old new (IsAsked old kinds.Leaf) lacks (λ kind (same, none). subst lacks (sym same) (first-lacks nothing (text key) short (subst (λ k. room old k ≡ 0) same none)))
-      (asked-grows old new kinds.Leaf had others)
+      grows-then old new (IsAsked old LeafKind) lacks (λ kind (same, none). subst lacks (sym same) (first-lacks nothing (text key) short (subst (λ k. room old k ≡ 0) same none)))
+      (asked-grows old new LeafKind had others)
 
   -- where a subtree with the leaf has more nodes of a kind, so has the tree with the text
   module _ (root : OpaqueNodePtr K V P) (context : Context (OpaqueNodePtr K V P)) (part : Tree (OpaqueNodePtr K V P)) (prefix : List ℕ) (before : Branches (OpaqueNodePtr K V P)) (byte : ℕ) (after : Branches (OpaqueNodePtr K V P)) (x : List ℕ)

@@ -1,36 +1,6 @@
 -- Insertion: inner nodes with one child more, or with another prefix.
-use Rattle.std.proofs.Common.{◌≡◌, ◌≢◌, ◌∙◌, ℕ, Bool, false, ◌<◌, ◌≤◌, ◌^◌, List, [], ◌∷◌, length, Option, Some, None, IsNone, IfSome, IfNone, lit<, refl, sym, ap, subst, arith}
-use Rattle.std.proofs.lemmas.Bool.{false≢true, le-ltb, lt-ltb}
-use Rattle.std.proofs.lemmas.Option.{same_Some}
-use Rattle.std.specs.Option.{option_map, option_map_or}
-use Rattle.art_header.specs.Header.{Header}
-use Rattle.art_header.specs.NodeType.{most_children, grown_kind}
-use Rattle.art_header.specs.declared.node_type.NodeType.{NodeType}
-use Rattle.art_nodes.specs.ChildMap.{child_at, IsAscending, key_bytes}
-use Rattle.art_nodes.specs.Inner.{Inner, header_of, node_with_child}
-use Rattle.art_nodes.specs.Leaf.{leaf_key}
-use Rattle.art_nodes.specs.Pointers.{node_kind}
-use Rattle.art_nodes.specs.declared.pointers.OpaqueNodePtr.{OpaqueNodePtr}
-use Rattle.art_nodes.specs.declared.leaf_node.LeafNode.{LeafNode}
-use Rattle.art_nodes.proofs.ChildMapLaws.{length_absent}
-use Rattle.art_arena.proofs.StandingLaws.{one-inner}
-use Rattle.art_arena.specs.Arena.{NodeArena, Held, HeldInner, HeldLeaf, Nothing, held, held_header, room}
-use Rattle.art_tree.specs.Edits.{HasRoomToGrow, IsMoved, TellsFull, two_children}
-use Rattle.art_tree.specs.Nodes.{IsReplaced}
-
--- the sizes in memory of a pointer to a leaf, of a slice and of a spot
-pub leaf-pointer-fits : 8 < 2 ^ 63
-leaf-pointer-fits = lit< tt
-
-pub slice-fits : 16 < 2 ^ 63
-slice-fits = lit< tt
-
-pub spot-fits : 56 < 2 ^ 63
-spot-fits = lit< tt
-
--- that of a place with a root
-pub place-fits : 80 < 2 ^ 63
-place-fits = lit< tt
+use Rattle.art_tree.proofs.Names.{◌≡◌, ◌≢◌, ◌∙◌, ℕ, Bool, false, ◌<◌, ◌≤◌, List, [], ◌∷◌, length, Option, Some, None, IsNone, refl, sym, ap, subst, arith, false≢true, le-ltb, lt-ltb, option_map, option_map_or, Header, most_children, grown_kind, NodeType, child_at, IsAscending, key_bytes, header_of, node_with_child, leaf_key, node_kind, OpaqueNodePtr, LeafNode, length_absent, one-inner, NodeArena, Held, HeldInner, HeldLeaf, Nothing, held, held_header, room, HasRoomToGrow, IsMoved, TellsFull, two_children, IsReplaced}
+use Rattle.art_nodes.specs.Inner.{Inner}
 
 -- kinds with space for more and more children are apart
 pub kinds-apart : {a b : NodeType} → most_children a < most_children b → a ≢ b
@@ -47,16 +17,6 @@ module _ {H : Type 0} (byte : ℕ) (child : H) (other : ℕ) (node : H) where
 -- a node with no child under a byte has less than 256
 pub few-where-absent : {H : Type 0} (node : Inner H) (byte : ℕ) → byte < 256 → IsAscending (key_bytes node.children) → child_at node.children byte ≡ None → length node.children < 256
 few-where-absent node byte below ascending absent = length_absent node.children byte below ascending (subst IsNone (sym absent) refl)
-
--- what follows from an option where there is a value
-pub if-some : {X : Type 0} (o : Option X) (Q : X → Type 0) (x : X) → o ≡ Some x → IfSome o Q → Q x
-if-some None Q x is holds = absurd (cc)
-if-some (Some y) Q x is holds = subst Q (same_Some y x is) holds
-
--- what always holds, holds where there is none
-pub if-none : {X : Type 0} (o : Option X) (Q : Type 0) → Q → IfNone o Q
-if-none None Q holds = holds
-if-none (Some x) Q holds = tt
 
 module _ {K V : Type 0} {P : ℕ} where
   -- a pointer holds one leaf

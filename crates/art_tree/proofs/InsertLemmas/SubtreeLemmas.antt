@@ -1,24 +1,6 @@
 -- Insertion: a part of a tree with one leaf more.
-use Rattle.std.proofs.Common.{◌≡◌, ◌≢◌, ◌⊎◌, ◌∙◌, ℕ, zero, suc, ◌+◌, ◌-◌, ◌<◌, ◌≤◌, ◌^◌, true, ◌&&◌, nat_lt, if◌then◌else◌, List, [], ◌∷◌, ◌++◌, length, length-append, map, filter, take, drop, slice_get, AllPairs, Contains, Some, None, refl, sym, ap, subst, inl, inr, arith, append_assoc, append-nil}
-use Rattle.std.proofs.lemmas.Bool.{cases_lt, cases_eq, eq-eqb, le-ltb, lt-ltb, ne_eqb}
+use Rattle.art_tree.proofs.Names.{◌≡◌, ◌≢◌, ◌⊎◌, ◌∙◌, ℕ, zero, suc, ◌+◌, ◌-◌, ◌<◌, ◌≤◌, ◌^◌, true, ◌&&◌, nat_lt, if◌then◌else◌, List, [], ◌∷◌, ◌++◌, length, length-append, map, filter, take, drop, slice_get, AllPairs, Contains, Some, None, refl, sym, ap, subst, inl, inr, arith, append_assoc, append-nil, cases_lt, cases_eq, eq-eqb, le-ltb, lt-ltb, ne_eqb, drop_at, drop-drop, length-take-le, Contains-append_left, Contains-append_right, Contains-append_cases, filter_agree, slice_get_within, Less, IsPrefixOf, text_order, kind_for, IsAscending, IsAscendingFrom, key_bytes, child_at, with_child, node_kind, OpaqueNodePtr, Tree, Leaf, Inner, Branches, NoBranch, Branch, branch_roots, root_of, leaves, branch_leaves, places, branch_places, IsSound, AreSound, IsBeside, LiesBeside, two_children, branches_on, pairs_on, End, First, Last, HasSmallestKinds, HaveSmallestKinds, reach, join}
 use Rattle.std.proofs.Math.Bool.{and-true}
-use Rattle.std.proofs.lemmas.List.{drop_at, drop-drop, length-take-le}
-use Rattle.std.proofs.lemmas.List.Elements.{Contains-append_left, Contains-append_right, Contains-append_cases, filter_agree}
-use Rattle.std.proofs.lemmas.Option.{slice_get_within}
-use Rattle.std.specs.declared.cmp.Ordering.TheVariants.{Less}
-use Rattle.art_bytes.specs.Text.{IsPrefixOf, text_order}
-use Rattle.art_header.specs.NodeType.{kind_for}
-use Rattle.art_nodes.specs.ChildMap.{IsAscending, IsAscendingFrom, key_bytes, child_at, with_child}
-use Rattle.art_nodes.specs.Pointers.{node_kind}
-use Rattle.art_nodes.specs.declared.pointers.OpaqueNodePtr.{OpaqueNodePtr}
-use Rattle.art_arena.specs.Trees.{Tree, Leaf, Inner, Branches, NoBranch, Branch, branch_roots, root_of, leaves, branch_leaves, places, branch_places, IsSound, AreSound}
-use Rattle.art_tree.specs.Edits.{IsBeside, LiesBeside, two_children}
-use Rattle.art_tree.specs.Hanging.{branches_on, pairs_on}
-use Rattle.art_arena.specs.declared.ends.End.{End}
-use Rattle.art_arena.specs.declared.ends.End.TheVariants.{First, Last}
-use Rattle.art_tree.specs.Loading.{HasSmallestKinds, HaveSmallestKinds}
-use Rattle.art_tree.specs.Places.{reach}
-use Rattle.art_tree.specs.Contexts.{join}
 use Rattle.art_tree.proofs.SharedLemmas.BranchLemmas.{roots-join, leaves-join, places-join, sound-join, one_branch, sound-split, smallest_kinds-join}
 use Rattle.art_tree.proofs.SharedLemmas.DictionaryLemmas.{after-first}
 use Rattle.art_tree.proofs.SharedLemmas.ExchangedSubtree.{none-below, all-above}

@@ -1,27 +1,14 @@
 -- Loading: leaves that are linked one after another.
-use Rattle.std.proofs.Common.{◌≡◌, ◌≢◌, ◌∙◌, ℕ, zero, suc, ◌+◌, ◌-◌, ◌<◌, List, [], ◌∷◌, ◌++◌, length, length-append, map, take, get_or, slice_get, Some, None, inl, inr, refl, sym, ap, subst, arith, append_assoc}
-use Rattle.std.specs.Option.{option_and_then}
-use Rattle.std.specs.List.{Contains}
-use Rattle.std.proofs.lemmas.List.{map-append, length-map, take_all, get_or_at}
-use Rattle.std.proofs.lemmas.List.Elements.{Contains-append_left, Contains-push_cases, Contains-push}
-use Rattle.std.proofs.lemmas.Option.{slice_get_within, slice_get-get_or}
-use Rattle.art_header.specs.declared.node_type.NodeType.TheVariants as kinds
-use Rattle.art_nodes.specs.Leaf.{leaf_key, leaf_value, previous_key, next_key}
-use Rattle.art_nodes.specs.Pointers.{node_kind, opaque_key, slab_key, opaque_pointer}
-use Rattle.art_nodes.specs.declared.pointers.NodePtr.{NodePtr}
-use Rattle.art_nodes.specs.declared.pointers.OpaqueNodePtr.{OpaqueNodePtr}
-use Rattle.art_nodes.specs.declared.leaf_node.LeafNode.{LeafNode}
-use Rattle.art_arena.specs.Arena.{NodeArena, Held, HeldInner, HeldLeaf, Nothing, held, held_leaf, Changes}
-use Rattle.art_arena.specs.Links.{HoldsLeaf, IsKnit, IsUnlinked, SameButLinks, StandsBetween, Spells, leaf_at, next_at, text_at}
-use Rattle.art_tree.specs.Refusals.{text_of_entry, texts_of}
-use Rattle.art_tree.specs.Raising.{leaf_texts}
-use Rattle.art_tree.specs.Search.{leaf_pointer}
-use Rattle.art_tree.specs.Loading.{HoldEntries, AreLinked, Adds}
+use Rattle.art_tree.proofs.Names.{◌≡◌, ◌≢◌, ◌∙◌, ℕ, zero, suc, ◌+◌, ◌-◌, ◌<◌, List, [], ◌∷◌, ◌++◌, length, length-append, map, take, get_or, slice_get, Some, None, inl, inr, refl, sym, ap, subst, arith, append_assoc, Contains, option_and_then, map-append, length-map, take_all, get_or_at, Contains-append_left, Contains-push_cases, Contains-push, slice_get_within, slice_get-get_or, leaf_key, leaf_value, previous_key, next_key, node_kind, opaque_key, slab_key, opaque_pointer, NodePtr, OpaqueNodePtr, LeafNode, NodeArena, Held, HeldInner, HeldLeaf, Nothing, held, held_leaf, Changes, HoldsLeaf, IsKnit, IsUnlinked, SameButLinks, StandsBetween, Spells, leaf_at, next_at, text_at, text_of_entry, texts_of, leaf_texts, leaf_pointer, HoldEntries, AreLinked, Adds, leaf_place, LeafKind}
 use Rattle.art_tree.proofs.SharedLemmas.PrefixLemmas.{take-get}
 use Rattle.art_tree.proofs.LoadLemmas.PlacedTrees.{adds-more}
-use Rattle.art_arena.proofs.StandingLaws.{leaf_place}
 use Rattle.art_tree.proofs.SharedLemmas.HeldNodes.{leaf-of, text-held, kept-at}
 use Rattle.art_tree.proofs.SharedLemmas.SpelledLists.{Spells-kept, AreKnit, NameNext}
+
+-- the keys of leaves
+pub keys-of : {K V : Type 0} {P : ℕ} (of : List (NodePtr P (LeafNode K V P))) → map opaque_key (map (leaf_pointer {K = K} {V = V} {P = P}) of) ≡ map slab_key of
+keys-of [] = refl
+keys-of (leaf ∷ of) = ap (λ rest. slab_key leaf ∷ rest) (keys-of of)
 
 module _ {K V : Type 0} {P : ℕ} where
   -- leaves hold entries on where what is held stays
@@ -69,7 +56,7 @@ module _ {K V : Type 0} {P : ℕ} where
   hold-held arena (at ∷ of) (entry ∷ entries) h (suc i) d lt = hold-held arena of entries h.1 i d (omega arith)
 
   module _ (now new : NodeArena K V P) (same : SameButLinks now new) (this sibling : ℕ) (others : (key : ℕ) → key ≢ this → key ≢ sibling → leaf_at new key ≡ leaf_at now key) where
-    stays : (pointer : OpaqueNodePtr K V P) → (opaque_key pointer ≡ this → node_kind pointer ≡ kinds.Leaf → ⊥) → (opaque_key pointer ≡ sibling → node_kind pointer ≡ kinds.Leaf → ⊥) → held new pointer ≡ held now pointer
+    stays : (pointer : OpaqueNodePtr K V P) → (opaque_key pointer ≡ this → node_kind pointer ≡ LeafKind → ⊥) → (opaque_key pointer ≡ sibling → node_kind pointer ≡ LeafKind → ⊥) → held new pointer ≡ held now pointer
     stays pointer not_this not_sibling = go (held now pointer) refl
       where
         go : (there : Held (OpaqueNodePtr K V P) (LeafNode K V P)) → held now pointer ≡ there → held new pointer ≡ held now pointer
@@ -92,12 +79,12 @@ module _ {K V : Type 0} {P : ℕ} where
             subst (λ x. x ≢ Nothing) (sym (ap (held new) (sym place) ∙ ap held_leaf after.1)) (λ none. cc)
 
     -- links change only in new leaves
-    adds-links : (old : NodeArena K V P) (xs : List (OpaqueNodePtr K V P)) → Contains xs (opaque_pointer kinds.Leaf this) → Contains xs (opaque_pointer kinds.Leaf sibling) → Adds old now xs → Adds old new xs
+    adds-links : (old : NodeArena K V P) (xs : List (OpaqueNodePtr K V P)) → Contains xs (opaque_pointer LeafKind this) → Contains xs (opaque_pointer LeafKind sibling) → Adds old now xs → Adds old new xs
     adds-links old xs has_this has_sibling a =
-        let apart : (pointer : OpaqueNodePtr K V P) → held old pointer ≢ Nothing → (key : ℕ) → Contains xs (opaque_pointer kinds.Leaf key) → opaque_key pointer ≡ key → node_kind pointer ≡ kinds.Leaf → ⊥ =
+        let apart : (pointer : OpaqueNodePtr K V P) → held old pointer ≢ Nothing → (key : ℕ) → Contains xs (opaque_pointer LeafKind key) → opaque_key pointer ≡ key → node_kind pointer ≡ LeafKind → ⊥ =
         λ pointer was key has is_key is_kind.
-        let at : opaque_pointer kinds.Leaf key ≡ pointer = λ i. record { node_type = (sym is_kind) i; key = (sym is_key) i; leaf = record {} } in
-        was (ap (held old) (sym at) ∙ a.were_free (opaque_pointer kinds.Leaf key) has) in
+        let at : opaque_pointer LeafKind key ≡ pointer = λ i. record { node_type = (sym is_kind) i; key = (sym is_key) i; leaf = record {} } in
+        was (ap (held old) (sym at) ∙ a.were_free (opaque_pointer LeafKind key) has) in
         record {
           kept = λ pointer was. stays pointer (apart pointer was this has_this) (apart pointer was sibling has_sibling) ∙ a.kept pointer was;
           were_free = a.were_free;
@@ -142,7 +129,7 @@ module _ {K V : Type 0} {P : ℕ} where
         no_next = no_next;
         apart = λ front sibling split same.
             let inside : Contains xs (leaf_pointer sibling) = subst (λ z. Contains z (leaf_pointer sibling)) (sym (ap (map leaf_pointer) split ∙ map-append leaf_pointer front (sibling ∷ []))) (Contains-push (map leaf_pointer front) (leaf_pointer sibling)) in
-            l.adds.are_held (leaf_pointer sibling) inside (ap (λ k. held now (opaque_pointer kinds.Leaf k)) (sym same) ∙ free);
+            l.adds.are_held (leaf_pointer sibling) inside (ap (λ k. held now (opaque_pointer LeafKind k)) (sym same) ∙ free);
       }
 
   -- the first leaf is a list of its own

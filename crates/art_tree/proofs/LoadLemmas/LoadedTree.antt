@@ -1,20 +1,6 @@
 -- Loading: the loaded tree, from linked leaves and a tree over them.
-use Rattle.std.proofs.Common.{◌≡◌, ◌≢◌, ◌∙◌, ℕ, ◌<◌, ◌^◌, List, [], ◌∷◌, length, map, inl, inr, refl, sym, ap, subst, arith}
-use Rattle.std.proofs.lemmas.Bool.{cases_lt}
-use Rattle.std.proofs.lemmas.List.{get_or_past}
-use Rattle.art_nodes.specs.Pointers.{opaque_key, slab_key}
-use Rattle.art_nodes.specs.declared.pointers.NodePtr.{NodePtr}
-use Rattle.art_nodes.specs.declared.pointers.OpaqueNodePtr.{OpaqueNodePtr}
-use Rattle.art_nodes.specs.declared.leaf_node.LeafNode.{LeafNode}
-use Rattle.art_arena.specs.Arena.{NodeArena, Nothing, SameNodes}
-use Rattle.art_arena.specs.Links.{Spells}
-use Rattle.art_arena.specs.Trees.{Tree}
-use Rattle.art_tree.specs.Plan.{AreLoadable}
-use Rattle.art_tree.specs.Refusals.{text_of_entry}
-use Rattle.art_tree.specs.Raising.{IsRaised, leaf_pairs}
-use Rattle.art_tree.specs.Search.{leaf_pointer}
-use Rattle.art_tree.specs.Loading.{AreLinked, HoldEntries, IsLoaded, leaf_pointers}
-use Rattle.art_tree.proofs.LoadLemmas.LeafLists.{hold-kept}
+use Rattle.art_tree.proofs.Names.{◌≡◌, ◌≢◌, ◌∙◌, ℕ, ◌<◌, ◌^◌, List, [], ◌∷◌, length, map, inl, inr, refl, sym, ap, subst, arith, cases_lt, get_or_past, opaque_key, slab_key, NodePtr, OpaqueNodePtr, LeafNode, NodeArena, Nothing, SameNodes, Spells, Tree, AreLoadable, text_of_entry, IsRaised, leaf_pairs, leaf_pointer, AreLinked, HoldEntries, IsLoaded, leaf_pointers}
+use Rattle.art_tree.proofs.LoadLemmas.LeafLists.{hold-kept, keys-of}
 use Rattle.art_tree.proofs.SharedLemmas.SpelledLists.{Spells-kept}
 
 -- no text is too long, at any index
@@ -28,10 +14,6 @@ module _ {K V : Type 0} {P : ℕ} (text : K → List ℕ) (old middle new : Node
   pointers-of : (of : List (NodePtr P (LeafNode K V P))) → map (λ (pair : OpaqueNodePtr K V P × List ℕ). pair.0) (leaf_pairs text middle of) ≡ map leaf_pointer of
   pointers-of [] = refl
   pointers-of (leaf ∷ of) = ap (λ rest. leaf_pointer leaf ∷ rest) (pointers-of of)
-
-  keys-of : (of : List (NodePtr P (LeafNode K V P))) → map opaque_key (map (leaf_pointer {K = K} {V = V} {P = P}) of) ≡ map slab_key of
-  keys-of [] = refl
-  keys-of (leaf ∷ of) = ap (λ rest. slab_key leaf ∷ rest) (keys-of of)
 
   pub loaded : (entries : List (K × V)) (of : List (NodePtr P (LeafNode K V P))) (root : OpaqueNodePtr K V P) (tree : Tree (OpaqueNodePtr K V P)) → AreLinked old middle entries of → IsRaised text middle new of root tree → IsLoaded text old new entries root tree
   loaded entries of root tree l r =

@@ -1,16 +1,5 @@
 -- Loading: a plan that is being made, with its open nodes and the tree that was finished last.
-use Rattle.std.proofs.Common.{◌≡◌, ◌∙◌, ℕ, zero, suc, ◌+◌, ◌-◌, ◌<◌, ◌≤◌, ◌^◌, max, List, [], ◌∷◌, ◌++◌, length, length-append, take, drop, get_or, map, refl, inl, inr, sym, ap, subst, arith, append_assoc, length-drop}
-use Rattle.std.proofs.lemmas.List.{append-nil, take-take, take-append-drop, take_more, length-take-le, get_or-take, get_or_past, length-map}
-use Rattle.std.proofs.lemmas.Bool.{cases_lt}
-use Rattle.std.proofs.lemmas.Bool.Decides.{nat_tests}
-use Rattle.art_bytes.specs.Text.{IsText}
-use Rattle.art_nodes.specs.ChildMap.{IsAscending, key_bytes}
-use Rattle.art_arena.specs.Trees.{Tree, Leaf, Inner, Branches, branch_roots, IsSound, AreSound}
-use Rattle.art_tree.specs.Plan.{steps_of, branch_steps, Spans, BranchesSpan, IsFork, byte_before, IsPlanOf}
-use Rattle.art_tree.specs.Contexts.{join}
-use Rattle.art_tree.specs.Refusals.{text_of_entry}
-use Rattle.art_tree.specs.declared.loading.steps.Open.{Open}
-use Rattle.art_tree.specs.declared.loading.steps.Step.{Step}
+use Rattle.art_tree.proofs.Names.{◌≡◌, ◌∙◌, ℕ, zero, suc, ◌+◌, ◌-◌, ◌<◌, ◌≤◌, ◌^◌, max, List, [], ◌∷◌, ◌++◌, length, length-append, take, drop, get_or, map, refl, inl, inr, sym, ap, subst, arith, append_assoc, length-drop, append-nil, take-take, take-append-drop, take_more, length-take-le, get_or-take, get_or_past, length-map, cases_lt, nat_tests, IsText, IsAscending, key_bytes, Tree, Leaf, Inner, Branches, branch_roots, IsSound, AreSound, steps_of, branch_steps, Spans, BranchesSpan, IsFork, byte_before, IsPlanOf, join, text_of_entry, Open, Step}
 use Rattle.art_tree.specs.declared.loading.steps.Step.TheVariants as step
 use Rattle.art_tree.proofs.SharedLemmas.BranchLemmas.{steps-join, sound-join, span-join, bytes-join, count-one, AscendBelow, low-below, ascending-last, below-last, last-same, one_branch}
 

@@ -1,62 +1,27 @@
 -- Loading: trees that are placed into an arena.
-use Rattle.std.proofs.Common.{◌≡◌, ◌≢◌, ◌⊎◌, ◌∙◌, ℕ, zero, suc, ◌+◌, ◌-◌, ◌<◌, ◌≤◌, Bool, true, false, nat_le, List, [], ◌∷◌, ◌++◌, length, length-append, map, take, drop, get_or, slice_get, Some, inl, inr, refl, sym, ap, subst, arith, append_assoc, if◌then◌else◌, ◌&&◌}
-use Rattle.std.specs.List.{Contains}
-use Rattle.std.proofs.lemmas.Bool.{cases_lt, and_from, le-leb}
-use Rattle.std.proofs.lemmas.List.{length-map, append-nil, take_at, drop_at, drop_more, take_all, take_rest, drop_all}
-use Rattle.std.proofs.lemmas.Option.{slice_get_within, same_Some, get_or_from_slice_get}
-use Rattle.std.proofs.lemmas.List.Elements.{Contains-append_left, Contains-append_right, Contains-append_cases, Contains-push_cases, Contains-push}
-use Rattle.art_header.specs.NodeType.{kind_for, least_children, most_children}
-use Rattle.art_header.specs.declared.node_type.NodeType.{NodeType}
-use Rattle.art_header.specs.declared.node_type.NodeType.TheVariants as kinds
-use Rattle.art_nodes.specs.ChildMap.{IsAscending, IsAscendingFrom, key_bytes}
-use Rattle.art_nodes.specs.Inner as nodes
-use Rattle.art_nodes.specs.Pointers.{slab_key}
-use Rattle.art_nodes.specs.declared.pointers.NodePtr.{NodePtr}
-use Rattle.art_nodes.specs.declared.pointers.OpaqueNodePtr.{OpaqueNodePtr}
-use Rattle.art_nodes.specs.declared.leaf_node.LeafNode.{LeafNode}
-use Rattle.art_nodes.proofs.KindLaws.{same_or_differ}
-use Rattle.art_arena.specs.Arena.{NodeArena, Held, HeldInner, HeldLeaf, Nothing, held, room, Changes}
-use Rattle.art_arena.specs.Links.{HoldsLeaf, text_at}
-use Rattle.art_arena.specs.Standing.{NodeStands, StandsIn, AllStandIn, leaf_text}
-use Rattle.art_arena.specs.Trees.{Tree, Leaf, Inner, Branches, NoBranch, branch_roots, branch_leaves, branch_places, leaves, places, root_of}
-use Rattle.art_tree.specs.Plan.{needed}
-use Rattle.art_tree.specs.Contexts.{join}
-use Rattle.art_tree.specs.Loading.{HaveSmallestKinds, Adds}
-use Rattle.art_tree.specs.Raising.{IsRaised, HoldLeaves, leaf_pairs, leaf_texts}
-use Rattle.art_tree.specs.Nodes.{node_of, IsPlaced}
-use Rattle.art_tree.specs.Search.{leaf_pointer}
-use Rattle.art_tree.specs.declared.loading.steps.Step.{Step}
+use Rattle.art_tree.proofs.Names.{◌≡◌, ◌≢◌, ◌⊎◌, ◌∙◌, ℕ, zero, suc, ◌+◌, ◌-◌, ◌<◌, ◌≤◌, Bool, true, false, nat_le, List, [], ◌∷◌, ◌++◌, length, length-append, map, take, drop, get_or, slice_get, Some, inl, inr, refl, sym, ap, subst, arith, append_assoc, if◌then◌else◌, ◌&&◌, Contains, append-nil, and_from, le-leb, length-map, take_at, drop_at, drop_more, take_all, take_rest, drop_all, slice_get_within, same_Some, get_or_from_slice_get, kind_for, least_children, most_children, NodeType, IsAscending, IsAscendingFrom, key_bytes, slab_key, NodePtr, OpaqueNodePtr, LeafNode, same_or_differ, NodeArena, Held, HeldInner, HeldLeaf, Nothing, held, room, Changes, HoldsLeaf, text_at, AllStandIn, leaf_text, Tree, Leaf, Inner, Branches, NoBranch, branch_roots, branch_leaves, branch_places, leaves, places, root_of, needed, join, HaveSmallestKinds, Adds, IsRaised, HoldLeaves, leaf_pairs, leaf_texts, node_of, IsPlaced, leaf_pointer, Step, all-allocated, LeafKind, Node16, Node256, Node4, Node48}
 use Rattle.art_tree.specs.declared.loading.steps.Step.TheVariants as step
 use Rattle.art_tree.proofs.SharedLemmas.BranchLemmas.{roots-join, leaves-join, places-join, one_branch, stand-join, stand-split, smallest_kinds-join, smallest_kinds-split}
+use Rattle.art_tree.proofs.SharedLemmas.TextLists.{one-or-other, one-there, other-stays}
 use Rattle.art_tree.proofs.SharedLemmas.PrefixLemmas.{take-get}
 use Rattle.art_tree.proofs.LoadLemmas.PlanLemmas.{Leads, Takes}
 use Rattle.art_tree.proofs.SharedLemmas.HeldNodes.{cases_pointer, cases_held, text-kept}
-use Rattle.art_tree.proofs.SharedLemmas.NodeKinds.{kind-4, kind-16, kind-48, kind-256}
+use Rattle.art_tree.proofs.SharedLemmas.NodeKinds.{by_kind}
 
 abbrev is_needed : NodeType → ℕ → Bool
 is_needed kind n = nat_le (least_children kind) n && nat_le n (most_children kind)
 
 -- a node is counted under its own kind
 needed-own : (n : ℕ) → 2 ≤ n → n ≤ 256 → is_needed (kind_for n) n ≡ true
-needed-own n two few = elim (cases_lt 4 n) [
-  | inr four ↦ ap (λ k. is_needed k n) (kind-4 n four) ∙ and_from (nat_le 2 n) (nat_le n 4) (le-leb 2 n two) (le-leb n 4 four)
-  | inl past ↦ elim (cases_lt 16 n) [
-    | inr sixteen ↦ ap (λ k. is_needed k n) (kind-16 n past sixteen) ∙ and_from (nat_le 5 n) (nat_le n 16) (le-leb 5 n past) (le-leb n 16 sixteen)
-    | inl more ↦ elim (cases_lt 48 n) [
-      | inr many ↦ ap (λ k. is_needed k n) (kind-48 n more many) ∙ and_from (nat_le 17 n) (nat_le n 48) (le-leb 17 n more) (le-leb n 48 many)
-      | inl most ↦ ap (λ k. is_needed k n) (kind-256 n most) ∙ and_from (nat_le 49 n) (nat_le n 256) (le-leb 49 n most) (le-leb n 256 few)
-    ]
-  ]
-]
+needed-own n two few =
+    by_kind n (is_needed (kind_for n) n ≡ true)
+    (λ four is. ap (λ k. is_needed k n) is ∙ and_from (nat_le 2 n) (nat_le n 4) (le-leb 2 n two) (le-leb n 4 four))
+    (λ past sixteen is. ap (λ k. is_needed k n) is ∙ and_from (nat_le 5 n) (nat_le n 16) (le-leb 5 n past) (le-leb n 16 sixteen))
+    (λ more many is. ap (λ k. is_needed k n) is ∙ and_from (nat_le 17 n) (nat_le n 48) (le-leb 17 n more) (le-leb n 48 many))
+    (λ most is. ap (λ k. is_needed k n) is ∙ and_from (nat_le 49 n) (nat_le n 256) (le-leb 49 n most) (le-leb n 256 few))
 
-not-leaf : (n : ℕ) → kind_for n ≢ kinds.Leaf
-not-leaf n = elim (cases_lt 4 n) [
-  | inr four ↦ let k = kind-4 n four in λ e. cc
-  | inl past ↦ elim (cases_lt 16 n) [
-    | inr sixteen ↦ let k = kind-16 n past sixteen in λ e. cc
-    | inl more ↦ elim (cases_lt 48 n) [ inr many ↦ let k = kind-48 n more many in λ e. cc | inl most ↦ let k = kind-256 n most in λ e. cc ]
-  ]
-]
+not-leaf : (n : ℕ) → kind_for n ≢ LeafKind
+not-leaf n = by_kind n (kind_for n ≢ LeafKind) (λ few is e. cc) (λ past few is e. cc) (λ more few is e. cc) (λ all is e. cc)
 
 one-more : (test : Bool) (n : ℕ) → test ≡ true → (if test then 1 else 0) + n ≡ n + 1
 one-more true n e = omega arith
@@ -86,37 +51,6 @@ module _ {K V : Type 0} {P : ℕ} where
         ];
       }
 
--- one member more in the middle of a list
-module _ {A : Type 0} (a b c : List A) (x : A) where
-  more-cases : (y : A) (xs ys : List A) → xs ≡ (a ++ b) ++ c → ys ≡ (a ++ (x ∷ b)) ++ c → Contains ys y → (y ≡ x) ⊎ Contains xs y
-  more-cases y xs ys before after inside =
-      let Here : Type 0 = (y ≡ x) ⊎ Contains xs y in
-      let was : Contains ((a ++ b) ++ c) y → Here = λ h. inr (subst (λ l. Contains l y) (sym before) h) in
-      elim (Contains-append_cases (a ++ (x ∷ b)) c y (subst (λ l. Contains l y) after inside)) [
-        | inr last ↦ was (Contains-append_right (a ++ b) c y last)
-        | inl front ↦ elim (Contains-append_cases a (x ∷ b) y front) [
-          | inl first ↦ was (Contains-append_left (a ++ b) c y (Contains-append_left a b y first))
-          | inr middle ↦ elim (Contains-append_cases (x ∷ []) b y middle) [
-            | inr later ↦ was (Contains-append_left (a ++ b) c y (Contains-append_right a b y later))
-            | inl here ↦ elim (Contains-push_cases [] x y here) [ inl never ↦ absurd (omega (arith, never.1)) | inr same ↦ inl (sym same) ]
-          ]
-        ]
-      ]
-
-  more-new : (ys : List A) → ys ≡ (a ++ (x ∷ b)) ++ c → Contains ys x
-  more-new ys after = subst (λ l. Contains l x) (sym after) (Contains-append_left (a ++ (x ∷ b)) c x (Contains-append_right a (x ∷ b) x (Contains-append_left (x ∷ []) b x (Contains-push [] x))))
-
-  more-old : (y : A) (xs ys : List A) → xs ≡ (a ++ b) ++ c → ys ≡ (a ++ (x ∷ b)) ++ c → Contains xs y → Contains ys y
-  more-old y xs ys before after inside =
-      let now : Contains ((a ++ (x ∷ b)) ++ c) y → Contains ys y = λ h. subst (λ l. Contains l y) (sym after) h in
-      elim (Contains-append_cases (a ++ b) c y (subst (λ l. Contains l y) before inside)) [
-        | inr last ↦ now (Contains-append_right (a ++ (x ∷ b)) c y last)
-        | inl front ↦ elim (Contains-append_cases a b y front) [
-          | inl first ↦ now (Contains-append_left (a ++ (x ∷ b)) c y (Contains-append_left a (x ∷ b) y first))
-          | inr later ↦ now (Contains-append_left (a ++ (x ∷ b)) c y (Contains-append_right a (x ∷ b) y (Contains-append_right (x ∷ []) b y later)))
-        ]
-      ]
-
 most-bytes : (low : ℕ) (bytes : List ℕ) → low ≤ 256 → IsAscendingFrom low bytes → low + length bytes ≤ 256
 most-bytes low [] le asc = omega (arith, le)
 most-bytes low (b ∷ bytes) le asc = let rest = most-bytes (suc b) bytes (omega (arith, asc.1)) asc.2 in omega (arith, rest, asc.0)
@@ -131,12 +65,12 @@ moved : {A : Type 0} (a b : List A) (x : A) (from to : List A) → b ≡ a ++ x 
 moved a b x from to end start = ap (λ rest. a ++ rest) start ∙ sym (append_assoc a (x ∷ []) to) ∙ ap (λ front. front ++ to) (sym end)
 
 -- spare capacity for each kind of inner node
-pub each-kind : (need has : NodeType → ℕ) → need kinds.Node4 ≤ has kinds.Node4 → need kinds.Node16 ≤ has kinds.Node16 → need kinds.Node48 ≤ has kinds.Node48 → need kinds.Node256 ≤ has kinds.Node256 → (kind : NodeType) → kind ≢ kinds.Leaf → need kind ≤ has kind
-each-kind need has four sixteen many all kinds.Node4 inner = four
-each-kind need has four sixteen many all kinds.Node16 inner = sixteen
-each-kind need has four sixteen many all kinds.Node48 inner = many
-each-kind need has four sixteen many all kinds.Node256 inner = all
-each-kind need has four sixteen many all kinds.Leaf inner = absurd (inner refl)
+pub each-kind : (need has : NodeType → ℕ) → need Node4 ≤ has Node4 → need Node16 ≤ has Node16 → need Node48 ≤ has Node48 → need Node256 ≤ has Node256 → (kind : NodeType) → kind ≢ LeafKind → need kind ≤ has kind
+each-kind need has four sixteen many all Node4 inner = four
+each-kind need has four sixteen many all Node16 inner = sixteen
+each-kind need has four sixteen many all Node48 inner = many
+each-kind need has four sixteen many all Node256 inner = all
+each-kind need has four sixteen many all LeafKind inner = absurd (inner refl)
 
 module _ {K V : Type 0} {P : ℕ} (text : K → List ℕ) (pairs : List (OpaqueNodePtr K V P × List ℕ)) (pointers : List (OpaqueNodePtr K V P)) where
   -- some steps are done: trees of the first leaves stand, and the steps that are left lead to one tree of all
@@ -150,7 +84,7 @@ module _ {K V : Type 0} {P : ℕ} (text : K → List ℕ) (pairs : List (OpaqueN
     pub kept : (pointer : OpaqueNodePtr K V P) → held old pointer ≢ Nothing → held now pointer ≡ held old pointer
     pub adds : (before : NodeArena K V P) → Adds before old pointers → Adds before now (branch_places stack ++ drop next pointers)
     pub few : length (branch_roots stack) ≤ next
-    pub rooms : (kind : NodeType) → kind ≢ kinds.Leaf → needed kind steps ≤ room now kind
+    pub rooms : (kind : NodeType) → kind ≢ LeafKind → needed kind steps ≤ room now kind
 
   -- a leaf is taken
   pub rise-leaf : (old now : NodeArena K V P) (next byte : ℕ) (pending after : List (ℕ × OpaqueNodePtr K V P)) (steps : List Step) (at : OpaqueNodePtr K V P) (x : List ℕ) (leaf : LeafNode K V P) → slice_get pairs next ≡ Some (at, x) → slice_get pointers next ≡ Some at
@@ -183,7 +117,7 @@ module _ {K V : Type 0} {P : ℕ} (text : K → List ℕ) (pairs : List (OpaqueN
     pub rooms : 0 < room now (kind_for children)
 
   ready : (now : NodeArena K V P) (last : List ℕ) (stack : Branches (OpaqueNodePtr K V P)) (pending : List (ℕ × OpaqueNodePtr K V P)) (byte start end children : ℕ) (steps : List Step) → branch_roots stack ≡ pending → Takes last stack start end children
-      → ((kind : NodeType) → kind ≢ kinds.Leaf → needed kind (step.Inner byte start end children ∷ steps) ≤ room now kind) → IsReady now last pending start end children
+      → ((kind : NodeType) → kind ≢ LeafKind → needed kind (step.Inner byte start end children ∷ steps) ≤ room now kind) → IsReady now last pending start end children
   ready now last stack pending byte start end children steps roots t rooms =
       let split : pending ≡ branch_roots t.front ++ branch_roots t.branches = sym roots ∙ ap branch_roots t.splits ∙ roots-join t.front t.branches in
       let total = ap length split ∙ length-append (branch_roots t.front) (branch_roots t.branches) in
@@ -207,20 +141,11 @@ module _ {K V : Type 0} {P : ℕ} (text : K → List ℕ) (pairs : List (OpaqueN
   pub rise-ready : (old now : NodeArena K V P) (next byte start end children : ℕ) (pending : List (ℕ × OpaqueNodePtr K V P)) (steps : List Step) (r : IsRising old now next pending (step.Inner byte start end children ∷ steps)) → IsReady now r.leads.0.1 pending start end children
   rise-ready old now next byte start end children pending steps r = ready now r.leads.0.1 r.stack pending byte start end children steps r.roots r.leads.3 r.rooms
 
-  -- the laws of the arena, of an allocation
-  abbrev pub LeavesStanding : Type 0
-  LeavesStanding = (old new : NodeArena K V P) (pointer : OpaqueNodePtr K V P) (now : Held (OpaqueNodePtr K V P) (LeafNode K V P)) (branches : Branches (OpaqueNodePtr K V P)) → held old pointer ≡ Nothing → Changes old new pointer now
-      → AllStandIn text old branches → AllStandIn text new branches
-
-  abbrev pub MakesTree : Type 0
-  MakesTree = (old new : NodeArena K V P) (pointer : OpaqueNodePtr K V P) (node : nodes.Inner (OpaqueNodePtr K V P)) (prefix : List ℕ) (branches : Branches (OpaqueNodePtr K V P)) → held old pointer ≡ Nothing → Changes old new pointer (HeldInner node)
-      → NodeStands P node prefix branches → AllStandIn text old branches → StandsIn text new (Inner pointer prefix branches)
-
   -- a node is made
   pub rise-inner : (old now new : NodeArena K V P) (next byte start end children : ℕ) (pending after : List (ℕ × OpaqueNodePtr K V P)) (steps : List Step) (at : OpaqueNodePtr K V P) (r : IsRising old now next pending (step.Inner byte start end children ∷ steps))
       → IsPlaced now new (kind_for (length (drop (length pending - children) pending))) (node_of P (take (end - start) (drop start r.leads.0.1)) (drop (length pending - children) pending)) at
-      → after ≡ take (length pending - children) pending ++ (byte, at) ∷ [] → LeavesStanding → MakesTree → IsRising old new next after steps
-  rise-inner old now new next byte start end children pending after steps at r p is_after leaves_standing makes_tree =
+      → after ≡ take (length pending - children) pending ++ (byte, at) ∷ [] → IsRising old new next after steps
+  rise-inner old now new next byte start end children pending after steps at r p is_after =
       let t = r.leads.3 in
       let prefix = take (end - start) (drop start r.leads.0.1) in
       let split : pending ≡ branch_roots t.front ++ branch_roots t.branches = sym r.roots ∙ ap branch_roots t.splits ∙ roots-join t.front t.branches in
@@ -238,22 +163,23 @@ module _ {K V : Type 0} {P : ℕ} (text : K → List ℕ) (pairs : List (OpaqueN
       let rest = drop next pointers in
       let xs = branch_places r.stack ++ rest in
       let ys = branch_places (join t.front one) ++ rest in
-      let shape : ys ≡ (branch_places t.front ++ (at ∷ branch_places t.branches)) ++ rest = ap (λ z. z ++ rest) (places-join t.front one ∙ ap (λ z. branch_places t.front ++ (at ∷ z)) (append-nil (branch_places t.branches))) in
-      let shape_before : xs ≡ (branch_places t.front ++ branch_places t.branches) ++ rest = ap (λ z. z ++ rest) places_before in
+      let later = branch_places t.branches ++ rest in
+      let shape : ys ≡ branch_places t.front ++ at ∷ later = ap (λ z. z ++ rest) (places-join t.front one ∙ ap (λ z. branch_places t.front ++ (at ∷ z)) (append-nil (branch_places t.branches))) ∙ append_assoc (branch_places t.front) (at ∷ branch_places t.branches) rest in
+      let shape_before : xs ≡ branch_places t.front ++ later = ap (λ z. z ++ rest) places_before ∙ append_assoc (branch_places t.front) (branch_places t.branches) rest in
       let same_leaves : branch_leaves (join t.front one) ≡ branch_leaves r.stack = leaves-join t.front one ∙ ap (λ z. branch_leaves t.front ++ z) (append-nil (branch_leaves t.branches)) ∙ sym (leaves-join t.front t.branches) ∙ ap branch_leaves (sym t.splits) in
       record {
         stack = join t.front one;
         roots = roots-join t.front one ∙ ap (λ z. z ++ (byte, at) ∷ []) (sym others) ∙ sym is_after;
         leads = r.leads.4 at;
-        stands = stand-join text new t.front one (leaves_standing now new at _ t.front q.was_free q.changes stood.0)
-            (makes_tree now new at (node_of P prefix (branch_roots t.branches)) prefix t.branches q.was_free q.changes (record { prefix_len = refl; stored = refl; children = refl }) stood.1, tt);
+        stands = stand-join text new t.front one (all-allocated text now new at _ t.front q.was_free q.changes stood.0)
+            ((node_of P prefix (branch_roots t.branches), q.changes.changed, record { prefix_len = refl; stored = refl; children = refl }, all-allocated text now new at _ t.branches q.was_free q.changes stood.1), tt);
         smallest_kinds = smallest_kinds-join t.front one each_smallest.0 ((q.is_kind, each_smallest.1), tt);
         in_order = same_leaves ∙ r.in_order;
         kept = λ pointer was. let first = r.kept pointer was in keeps pointer (subst (λ h. h ≢ Nothing) (sym first) was) ∙ first;
         adds = λ before a. adds-more before now new at (HeldInner (node_of P prefix (branch_roots t.branches))) xs ys (r.adds before a) q.was_free q.changes (λ e. cc)
-            (λ pointer inside. more-cases (branch_places t.front) (branch_places t.branches) rest at pointer xs ys shape_before shape inside)
-            (more-new (branch_places t.front) (branch_places t.branches) rest at ys shape)
-            (λ pointer inside. more-old (branch_places t.front) (branch_places t.branches) rest at pointer xs ys shape_before shape inside);
+            (λ pointer inside. elim (one-or-other (branch_places t.front) later at pointer (subst (λ l. Contains l pointer) shape inside)) [ inl same ↦ inl same | inr other ↦ inr (subst (λ l. Contains l pointer) (sym shape_before) other) ])
+            (subst (λ l. Contains l at) (sym shape) (one-there (branch_places t.front) later at at refl))
+            (λ pointer inside. subst (λ l. Contains l pointer) (sym shape) (other-stays (branch_places t.front) later at pointer (subst (λ l. Contains l pointer) shape_before inside)));
         few = omega (arith, r.few, ap length r.roots, total, t.counted, t.two, ap length (roots-join t.front one), length-append (branch_roots t.front) ((byte, at) ∷ []));
         rooms = λ kind inner. elim (same_or_differ kind (kind_for (length (branch_roots t.branches)))) [
           | inr differ ↦ omega (arith, q.other_room kind differ, r.rooms kind inner, no-less (is_needed kind children) (needed kind steps))
@@ -266,11 +192,11 @@ module _ {K V : Type 0} {P : ℕ} (text : K → List ℕ) (pairs : List (OpaqueN
   -- the same as the code calls it
   pub rise-inner-called : (old now new : NodeArena K V P) (next byte start end children : ℕ) (pending after kids : List (ℕ × OpaqueNodePtr K V P)) (last : List ℕ) (steps : List Step) (at : OpaqueNodePtr K V P) (r : IsRising old now next pending (step.Inner byte start end children ∷ steps))
       → kids ≡ drop (length pending - children) pending → last ≡ r.leads.0.1 → IsPlaced now new (kind_for (length kids)) (node_of P (take (end - start) (drop start last)) kids) at
-      → after ≡ take (length pending - children) pending ++ (byte, at) ∷ [] → LeavesStanding → MakesTree → IsRising old new next after steps
-  rise-inner-called old now new next byte start end children pending after kids last steps at r is_kids is_last p is_after leaves_standing makes_tree =
+      → after ≡ take (length pending - children) pending ++ (byte, at) ∷ [] → IsRising old new next after steps
+  rise-inner-called old now new next byte start end children pending after kids last steps at r is_kids is_last p is_after =
       rise-inner old now new next byte start end children pending after steps at r
       (subst (λ t. IsPlaced now new (kind_for (length (drop (length pending - children) pending))) (node_of P (take (end - start) (drop start t)) (drop (length pending - children) pending)) at) is_last
-      (subst (λ k. IsPlaced now new (kind_for (length k)) (node_of P (take (end - start) (drop start last)) k) at) is_kids p)) is_after leaves_standing makes_tree
+      (subst (λ k. IsPlaced now new (kind_for (length k)) (node_of P (take (end - start) (drop start last)) k) at) is_kids p)) is_after
 
   -- the next leaf is there, and so is the last one
   pub leaf-within : (old now : NodeArena K V P) (next byte : ℕ) (pending : List (ℕ × OpaqueNodePtr K V P)) (steps : List Step) → IsRising old now next pending (step.Leaf byte ∷ steps) → next < length pairs
@@ -289,7 +215,7 @@ module _ {K V : Type 0} {P : ℕ} (text : K → List ℕ) (pairs : List (OpaqueN
       ap length (sym done.roots) ∙ ap (λ stack. length (branch_roots stack)) done.leads.3
 
   -- before the first step
-  pub rising-none : (old : NodeArena K V P) (steps : List Step) (pending : List (ℕ × OpaqueNodePtr K V P)) → pending ≡ [] → Leads pairs 0 NoBranch steps → ((kind : NodeType) → kind ≢ kinds.Leaf → needed kind steps ≤ room old kind) → IsRising old old 0 pending steps
+  pub rising-none : (old : NodeArena K V P) (steps : List Step) (pending : List (ℕ × OpaqueNodePtr K V P)) → pending ≡ [] → Leads pairs 0 NoBranch steps → ((kind : NodeType) → kind ≢ LeafKind → needed kind steps ≤ room old kind) → IsRising old old 0 pending steps
   rising-none old steps pending none leads rooms = record { stack = NoBranch; roots = sym none; leads = leads; stands = tt; smallest_kinds = tt; in_order = refl; kept = λ pointer was. refl; adds = λ before a. a; few = omega arith; rooms = rooms }
 
 module _ {K V : Type 0} {P : ℕ} (text : K → List ℕ) (old : NodeArena K V P) where

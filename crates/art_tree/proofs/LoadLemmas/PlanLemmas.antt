@@ -1,16 +1,7 @@
 -- Loading: a plan leads from the trees that are made to a whole one.
-use Rattle.std.proofs.Common.{◌≡◌, ◌∙◌, ℕ, zero, suc, ◌+◌, ◌-◌, ◌<◌, ◌≤◌, ◌^◌, List, [], ◌∷◌, ◌++◌, length, length-append, map, take, drop, slice_get, Some, refl, sym, ap, subst, arith, append_assoc}
-use Rattle.std.proofs.lemmas.List.{length-map, append-nil, take_at, drop_at}
-use Rattle.art_bytes.specs.Text.{IsPrefixOf}
-use Rattle.art_nodes.specs.ChildMap.{IsAscending, key_bytes}
-use Rattle.art_arena.specs.Trees.{Tree, Leaf, Inner, Branches, NoBranch, Branch, branch_roots, IsSound, AreSound, IsWellFormed}
-use Rattle.art_tree.specs.Plan.{steps_of, branch_steps, Spans, BranchesSpan}
-use Rattle.art_tree.specs.Contexts.{join}
-use Rattle.art_tree.specs.Refusals.{text_of_entry}
-use Rattle.art_tree.specs.declared.loading.steps.Step.{Step}
+use Rattle.art_tree.proofs.Names.{◌≡◌, ◌∙◌, ℕ, zero, suc, ◌+◌, ◌-◌, ◌<◌, ◌≤◌, ◌^◌, List, [], ◌∷◌, ◌++◌, length, length-append, map, take, drop, slice_get, Some, refl, sym, ap, subst, arith, append_assoc, append-nil, length-map, take_at, drop_at, IsPrefixOf, IsAscending, key_bytes, Tree, Leaf, Inner, Branches, NoBranch, Branch, branch_roots, IsSound, AreSound, IsWellFormed, steps_of, branch_steps, Spans, BranchesSpan, join, text_of_entry, Step, prefix-shorter}
 use Rattle.art_tree.specs.declared.loading.steps.Step.TheVariants as step
 use Rattle.art_tree.proofs.SharedLemmas.BranchLemmas.{one_branch, join_assoc}
-use Rattle.art_bytes.proofs.PrefixLaws.{prefix-shorter}
 
 -- the last trees are the branches of a node with this part of the text as its prefix
 pub record Takes {H : Type 0} (text : List ℕ) (stack : Branches H) (start end children : ℕ) : Type 0 where

@@ -1,15 +1,5 @@
 -- Loading: entries of which none has a fault.
-use Rattle.std.proofs.Common.{◌≡◌, ◌∙◌, ℕ, zero, suc, ◌+◌, ◌<◌, ◌≤◌, ◌^◌, Bool, true, false, List, [], ◌∷◌, length, take, get_or, All, Option, Some, None, IfSome, refl, sym, ap, subst, inl, inr, arith, nat_lt, nat_eq, ◌==◌}
-use Rattle.std.specs.declared.cmp.Ordering.{Ordering}
-use Rattle.std.specs.declared.cmp.Ordering.TheVariants.{Less, Equal, Greater}
-use Rattle.std.specs.List.{common_prefix_len, starts_with}
-use Rattle.std.proofs.lemmas.List.{get_or-map, length-map}
-use Rattle.std.proofs.lemmas.Bool.{cases_lt, eq-eqb, le-leb, le-ltb, lt-leb, lt-ltb}
-use Rattle.std.proofs.lemmas.Bool.Decides.{eqb_tells}
-use Rattle.std.proofs.lemmas.List.Elements.{All-from_get_or}
-use Rattle.art_bytes.specs.Text.{text_order}
-use Rattle.art_tree.specs.Plan.{IsFork, Forks, AreLoadable}
-use Rattle.art_tree.specs.Refusals.{text_of_entry, texts_of, HaveNoFault, IsRefusal, fault_at, fault_between}
+use Rattle.art_tree.proofs.Names.{◌≡◌, ◌∙◌, ℕ, zero, suc, ◌+◌, ◌<◌, ◌≤◌, ◌^◌, Bool, true, false, List, [], ◌∷◌, length, take, get_or, All, Option, Some, None, IfSome, refl, sym, ap, subst, inl, inr, arith, nat_lt, nat_eq, ◌==◌, Ordering, Less, Equal, Greater, common_prefix_len, starts_with, get_or-map, length-map, cases_lt, eq-eqb, le-leb, le-ltb, lt-leb, lt-ltb, eqb_tells, All-from_get_or, text_order, IsFork, Forks, AreLoadable, text_of_entry, texts_of, HaveNoFault, IsRefusal, fault_at, fault_between}
 use Rattle.art_tree.specs.declared.loading.check.LoadRefusal.{LoadRefusal}
 use Rattle.art_tree.specs.declared.loading.check.LoadRefusal.TheVariants.{KeyTooLong}
 

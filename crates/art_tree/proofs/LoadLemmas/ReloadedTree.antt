@@ -1,39 +1,11 @@
 -- Compaction: the leaves of a tree one after another, and the tree of the same entries.
-use Rattle.std.proofs.Common.{◌≡◌, ◌≢◌, ◌∙◌, ℕ, zero, suc, ◌+◌, ◌<◌, ◌≤◌, ◌^◌, List, [], ◌∷◌, ◌++◌, length, map, take, get_or, slice_get, All, AllPairs, Contains, Option, Some, None, refl, sym, ap, subst, inl, inr, arith, length-append, append_assoc}
-use Rattle.std.specs.declared.cmp.Ordering.TheVariants.{Less, Greater}
-use Rattle.std.proofs.lemmas.Bool.{cases_lt, le-ltb}
-use Rattle.std.proofs.lemmas.Bool.Decides.{eqb_tells}
-use Rattle.std.proofs.lemmas.List.{append-nil, get_or-map, length-map, map-append, take_all, take_more}
-use Rattle.std.proofs.lemmas.List.Elements.{All-nil, All-cons, All-contains, Contains-append_right}
-use Rattle.std.proofs.lemmas.Option.{same_Some}
-use Rattle.art_bytes.specs.Text.{IsPrefixOf, text_order}
-use Rattle.art_header.specs.declared.node_type.NodeType.TheVariants as kinds
-use Rattle.art_nodes.specs.Leaf.{leaf_key, leaf_value}
-use Rattle.art_nodes.specs.Pointers.{opaque_key, opaque_pointer, slab_key}
-use Rattle.art_nodes.specs.declared.leaf_node.LeafNode.{LeafNode}
-use Rattle.art_nodes.specs.declared.pointers.NodePtr.{NodePtr}
-use Rattle.art_nodes.specs.declared.pointers.OpaqueNodePtr.{OpaqueNodePtr}
-use Rattle.art_arena.specs.Arena.{NodeArena, Changes, HeldLeaf, Nothing, held, leaf_count}
-use Rattle.art_arena.specs.Ends.{IsAtEnd}
-use Rattle.art_arena.specs.Links.{AreDistinct, HoldsLeaf, Spells, next_at, text_at}
-use Rattle.art_arena.specs.Trees.{Tree, leaves, texts}
-use Rattle.art_arena.specs.declared.ends.End.TheVariants.{First}
-use Rattle.art_tree.specs.Art.{IsAlone}
-use Rattle.art_tree.specs.Dictionary.{HasEntry, IsEntry, SameEntries, entry_at}
-use Rattle.art_tree.specs.Loading.{HoldEntries, IsLoaded, leaf_pointers}
-use Rattle.art_tree.specs.Plan.{AreLoadable, Forks}
-use Rattle.art_tree.specs.Raising.{leaf_texts}
-use Rattle.art_tree.specs.Refusals.{texts_of}
-use Rattle.art_tree.specs.Reloading.{AreLeavesOf, IsReloaded}
-use Rattle.art_tree.specs.Search.{leaf_pointer}
-use Rattle.art_tree.proofs.LoadLemmas.LeafLists.{hold-last, hold-texts}
+use Rattle.art_tree.proofs.Names.{next-member, knit-member, texts-apart, texts-ascend, ◌≡◌, ◌≢◌, ◌∙◌, ℕ, zero, suc, ◌+◌, ◌<◌, ◌≤◌, ◌^◌, List, [], ◌∷◌, ◌++◌, length, map, take, get_or, slice_get, All, AllPairs, Contains, Option, Some, None, refl, sym, ap, subst, inl, inr, arith, length-append, append_assoc, append-nil, Less, Greater, cases_lt, le-ltb, eqb_tells, get_or-map, length-map, map-append, take_all, take_more, All-nil, All-cons, All-contains, Contains-append_right, same_Some, IsPrefixOf, text_order, leaf_key, leaf_value, opaque_key, opaque_pointer, slab_key, LeafNode, NodePtr, OpaqueNodePtr, NodeArena, Changes, HeldLeaf, Nothing, held, leaf_count, IsAtEnd, AreDistinct, HoldsLeaf, Spells, next_at, text_at, Tree, leaves, texts, First, IsAlone, HasEntry, IsEntry, SameEntries, entry_at, HoldEntries, IsLoaded, leaf_pointers, AreLoadable, Forks, leaf_texts, texts_of, AreLeavesOf, IsReloaded, leaf_pointer, leaf_place, inside_image, LeafKind}
+use Rattle.art_tree.proofs.SharedLemmas.EntryCounts.{spelled-fit}
+use Rattle.art_tree.proofs.LoadLemmas.LeafLists.{hold-last, hold-texts, keys-of}
 use Rattle.art_tree.proofs.LoadLemmas.RefusalLemmas.{fork-later}
-use Rattle.art_tree.proofs.SharedLemmas.ClashLemmas.{mapped-from}
 use Rattle.art_tree.proofs.SharedLemmas.DictionaryLemmas.{AreApart, alone-loaded, entry-held, held-entry, leaf-held-in, loaded-entry, loaded-text, text-of-entry}
 use Rattle.art_tree.proofs.PlaceLemmas.WayPlaces.{some-text}
-use Rattle.art_arena.proofs.StandingLaws.{leaf_place}
 use Rattle.art_tree.proofs.SharedLemmas.HeldNodes.{text-held}
-use Rattle.art_tree.proofs.SharedLemmas.SpelledLists.{AreKnit, NameNext}
 
 -- a text that is less than another, and no prefix of it, differs from it at some byte
 forks-apart : (a b : List ℕ) → text_order a b ≡ Less → (IsPrefixOf a b → ⊥) → Forks a b
@@ -72,20 +44,15 @@ none-first (k ∷ others) is = absurd (cc)
 
 module _ {K V : Type 0} {P : ℕ} where
   -- pointers to leaves follow from their keys
-  from-keys : (pointers : List (OpaqueNodePtr K V P)) (of : List (NodePtr P (LeafNode K V P))) → ((p : OpaqueNodePtr K V P) → Contains pointers p → opaque_pointer kinds.Leaf (opaque_key p) ≡ p) → map opaque_key pointers ≡ map slab_key of → pointers ≡ map leaf_pointer of
+  from-keys : (pointers : List (OpaqueNodePtr K V P)) (of : List (NodePtr P (LeafNode K V P))) → ((p : OpaqueNodePtr K V P) → Contains pointers p → opaque_pointer LeafKind (opaque_key p) ≡ p) → map opaque_key pointers ≡ map slab_key of → pointers ≡ map leaf_pointer of
   from-keys [] [] each same = refl
   from-keys [] (o ∷ of) each same = absurd (cc)
   from-keys (p ∷ pointers) [] each same = absurd (cc)
   from-keys (p ∷ pointers) (o ∷ of) each same =
       let first : opaque_key p ≡ slab_key o = cc in
       let later : map opaque_key pointers ≡ map slab_key of = cc in
-      let head : p ≡ leaf_pointer o = sym (each p (0, omega arith, refl)) ∙ ap (opaque_pointer kinds.Leaf) first in
+      let head : p ≡ leaf_pointer o = sym (each p (0, omega arith, refl)) ∙ ap (opaque_pointer LeafKind) first in
       ap (λ q. q ∷ pointers) head ∙ ap (λ rest. leaf_pointer o ∷ rest) (from-keys pointers of (λ q inside. each q (Contains-append_right (p ∷ []) pointers q inside)) later)
-
-  -- the keys of leaves
-  keys-of : (of : List (NodePtr P (LeafNode K V P))) → map opaque_key (map (leaf_pointer {K = K} {V = V} {P = P}) of) ≡ map slab_key of
-  keys-of [] = refl
-  keys-of (o ∷ of) = ap (λ rest. slab_key o ∷ rest) (keys-of of)
 
 module _ {K V : Type 0} {P : ℕ} (text : K → List ℕ) (arena : NodeArena K V P) (root : OpaqueNodePtr K V P) where
   -- these are the first leaves of a tree, and the next one is under this key, if there is one
@@ -105,20 +72,8 @@ module _ {K V : Type 0} {P : ℕ} (text : K → List ℕ) (arena : NodeArena K V
     here = sym (ap (λ (all : List (OpaqueNodePtr K V P × List ℕ)). slice_get (map opaque_key (map (λ pair. pair.0) all)) 0) is);
   }
 
-  module _ (of : List (NodePtr P (LeafNode K V P))) (key : ℕ) (g : IsGathered of (Some key)) where
-    next-keys : (others : List ℕ) × (Spells arena (map slab_key of ++ key ∷ others))
-    next-keys =
-        let first = at-first key g.rest g.here in
-        (first.0, subst (Spells arena) (g.split ∙ ap (λ rest. map slab_key of ++ rest) first.1) g.alone.spelled)
-
-    pub gathered-held : AreKnit arena → HoldsLeaf arena key
-    gathered-held knit = (knit (map slab_key of) next-keys.0 key next-keys.1).held
-
-    pub gathered-fits : ((keys : List ℕ) → Spells arena keys → length keys ≤ leaf_count arena) → length of < leaf_count arena
-    gathered-fits fits = omega (arith, fits _ next-keys.1, length-append (map slab_key of) (key ∷ next-keys.0), length-map of (λ (leaf : NodePtr P (LeafNode K V P)). slab_key leaf))
-
-  pub gathered-next : NameNext arena → (of : List (NodePtr P (LeafNode K V P))) (leaf : NodePtr P (LeafNode K V P)) (next : Option ℕ) → IsGathered of (Some (slab_key leaf)) → next ≡ next_at arena (slab_key leaf) → IsGathered (of ++ leaf ∷ []) next
-  gathered-next names of leaf next g is =
+  pub gathered-next : (of : List (NodePtr P (LeafNode K V P))) (leaf : NodePtr P (LeafNode K V P)) (next : Option ℕ) → IsGathered of (Some (slab_key leaf)) → next ≡ next_at arena (slab_key leaf) → IsGathered (of ++ leaf ∷ []) next
+  gathered-next of leaf next g is =
       let first = at-first (slab_key leaf) g.rest g.here in
       let whole : map opaque_key (leaf_pointers g.tree) ≡ map slab_key of ++ slab_key leaf ∷ first.0 = g.split ∙ ap (λ rest. map slab_key of ++ rest) first.1 in
       record {
@@ -126,7 +81,7 @@ module _ {K V : Type 0} {P : ℕ} (text : K → List ℕ) (arena : NodeArena K V
         alone = g.alone;
         rest = first.0;
         split = whole ∙ sym (append_assoc (map slab_key of) (slab_key leaf ∷ []) first.0) ∙ ap (λ keys. keys ++ first.0) (sym (map-append slab_key of (leaf ∷ [])));
-        here = is ∙ names (map slab_key of) first.0 (slab_key leaf) (subst (Spells arena) whole g.alone.spelled);
+        here = is ∙ next-member arena (map slab_key of) first.0 (slab_key leaf) (subst (Spells arena) whole g.alone.spelled);
       }
 
   pub gathered-all : (of : List (NodePtr P (LeafNode K V P))) → IsGathered of None → AreLeavesOf text arena root of
@@ -136,7 +91,7 @@ module _ {K V : Type 0} {P : ℕ} (text : K → List ℕ) (arena : NodeArena K V
         tree = g.tree;
         alone = g.alone;
         in_order = from-keys (leaf_pointers g.tree) of (λ p inside.
-            let pair = mapped-from (λ (leaf : OpaqueNodePtr K V P × List ℕ). leaf.0) (leaves g.tree) p inside in
+            let pair = inside_image (λ (leaf : OpaqueNodePtr K V P × List ℕ). leaf.0) (leaves g.tree) p inside in
             let there = leaf-held-in text arena g.tree g.alone.is_tree.stands pair.0.0 pair.0.1 pair.1 in
             leaf_place arena p there.0 (ap (held arena) (sym pair.2) ∙ there.1)) keys;
       }
@@ -156,27 +111,38 @@ module _ {K V : Type 0} {P : ℕ} (text : K → List ℕ) (arena : NodeArena K V
         All-cons (λ leaf. HoldsLeaf arena (slab_key leaf)) o of (subst (λ h. h ≢ Nothing) (sym at) (λ e. cc)) rest.1,
       )
 
-  module _ (of : List (NodePtr P (LeafNode K V P))) (is : AreLeavesOf text arena root of) where
-    both : (leaf_texts text arena of ≡ texts is.tree) × All (λ leaf. HoldsLeaf arena (slab_key leaf)) of
-    both = along (leaves is.tree) of (leaf-held-in text arena is.tree is.alone.is_tree.stands) is.in_order
+-- the next leaf is held, and there are more leaves than those so far
+module _ {K V : Type 0} {P : ℕ} {text : K → List ℕ} {arena : NodeArena K V P} {root : OpaqueNodePtr K V P} {of : List (NodePtr P (LeafNode K V P))} {key : ℕ} (g : IsGathered text arena root of (Some key)) where
+  next-keys : (others : List ℕ) × (Spells arena (map slab_key of ++ key ∷ others))
+  next-keys =
+      let first = at-first key g.rest g.here in
+      (first.0, subst (Spells arena) (g.split ∙ ap (λ rest. map slab_key of ++ rest) first.1) g.alone.spelled)
 
-    pub leaves-texts : leaf_texts text arena of ≡ texts is.tree
-    leaves-texts = both.0
+  pub gathered-held : HoldsLeaf arena key
+  gathered-held = (knit-member arena (map slab_key of) next-keys.0 key next-keys.1).held
 
-    pub leaves-held : All (λ leaf. HoldsLeaf arena (slab_key leaf)) of
-    leaves-held = both.1
+  pub gathered-fits : length of < leaf_count arena
+  gathered-fits = omega (arith, spelled-fit arena _ next-keys.1, length-append (map slab_key of) (key ∷ next-keys.0), length-map of (λ (leaf : NodePtr P (LeafNode K V P)). slab_key leaf))
 
-    pub leaves-distinct : AreDistinct (map slab_key of)
-    leaves-distinct = subst AreDistinct (ap (map opaque_key) is.in_order ∙ keys-of of) is.alone.spelled.distinct
+-- the leaves of a tree
+module _ {K V : Type 0} {P : ℕ} {text : K → List ℕ} {arena : NodeArena K V P} {root : OpaqueNodePtr K V P} {of : List (NodePtr P (LeafNode K V P))} (is : AreLeavesOf text arena root of) where
+  both : (leaf_texts text arena of ≡ texts is.tree) × All (λ leaf. HoldsLeaf arena (slab_key leaf)) of
+  both = along text arena root (leaves is.tree) of (leaf-held-in text arena is.tree is.alone.is_tree.stands) is.in_order
 
-    pub leaves-some : 0 < length of
-    leaves-some =
-        let one = some-text [] is.tree is.alone.is_tree.sound in
-        omega (arith, one.inside.1, ap length leaves-texts, length-map of (λ leaf. text_at text arena (slab_key leaf)))
+  pub leaves-held : All (λ leaf. HoldsLeaf arena (slab_key leaf)) of
+  leaves-held = both.1
 
-    -- their texts can be loaded
-    pub leaves-loadable : AllPairs (λ a b. text_order a b ≡ Less) (texts is.tree) → AreApart (texts is.tree) → AreLoadable (leaf_texts text arena of)
-    leaves-loadable ascend apart = subst AreLoadable (sym leaves-texts) (loadable-texts (texts is.tree) is.alone.short ascend apart)
+  pub leaves-distinct : AreDistinct (map slab_key of)
+  leaves-distinct = subst AreDistinct (ap (map opaque_key) is.in_order ∙ keys-of of) is.alone.spelled.distinct
+
+  pub leaves-some : 0 < length of
+  leaves-some =
+      let one = some-text [] is.tree is.alone.is_tree.sound in
+      omega (arith, one.inside.1, ap length both.0, length-map of (λ leaf. text_at text arena (slab_key leaf)))
+
+  -- their texts can be loaded
+  pub leaves-loadable : AreLoadable (leaf_texts text arena of)
+  leaves-loadable = subst AreLoadable (sym both.0) (loadable-texts (texts is.tree) is.alone.short (texts-ascend [] is.tree is.alone.is_tree.sound) (texts-apart [] is.tree is.alone.is_tree.sound))
 
 module _ {K V : Type 0} {P : ℕ} (old : NodeArena K V P) (of : List (NodePtr P (LeafNode K V P))) where
   -- the entries of the first leaves were taken out of an arena, and the other leaves are still there
@@ -218,7 +184,7 @@ same-lists {K} {V} text a b entries in_a all_a in_b all_b x = by_new (entry_at t
   where
     shared : Contains (texts_of text entries) x → entry_at text b x ≡ entry_at text a x
     shared inside =
-        let from = mapped-from (λ (e : K × V). text e.0) entries x inside in
+        let from = inside_image (λ (e : K × V). text e.0) entries x inside in
         let first = All-contains (IsEntry text a) entries from.0 in_a from.1 in
         let second = All-contains (IsEntry text b) entries from.0 in_b from.1 in
         ap (entry_at text b) (sym from.2) ∙ second ∙ sym first ∙ ap (entry_at text a) from.2
@@ -231,22 +197,22 @@ same-lists {K} {V} text a b entries in_a all_a in_b all_b x = by_new (entry_at t
     by_new None new = by_old (entry_at text a x) refl new
     by_new (Some e) new = shared (all_b x (λ none. let wrong : Some e ≡ None = sym new ∙ none in absurd (cc)))
 
-module _ {K V : Type 0} {P : ℕ} (text : K → List ℕ) (old empty new : NodeArena K V P) (root : OpaqueNodePtr K V P) (of : List (NodePtr P (LeafNode K V P))) (is : AreLeavesOf text old root of) (entries : List (K × V)) (hold : HoldEntries old (map leaf_pointer of) entries) where
+module _ {K V : Type 0} {P : ℕ} {text : K → List ℕ} {old : NodeArena K V P} {root : OpaqueNodePtr K V P} {of : List (NodePtr P (LeafNode K V P))} (is : AreLeavesOf text old root of) (entries : List (K × V)) (hold : HoldEntries old (map leaf_pointer of) entries) where
   entry-texts : texts_of text entries ≡ texts is.tree
-  entry-texts = sym (hold-texts text old of entries hold) ∙ leaves-texts text old root of is
+  entry-texts = sym (hold-texts text old of entries hold) ∙ (both is).0
 
   -- the entries of the leaves are those of the arena
-  entries-in : AreApart (texts is.tree) → All (IsEntry text old) entries
-  entries-in apart = λ k d inside.
+  entries-in : All (IsEntry text old) entries
+  entries-in = λ k d inside.
       let one = entry-held text old (map leaf_pointer of) entries hold k d inside in
-      ap (λ key. entry_at text old (text key)) (sym one.key) ∙ held-entry text old root is.tree is.alone apart one.pointer one.leaf one.is_held ∙ ap Some (λ i. (one.key i, one.value i))
+      ap (λ key. entry_at text old (text key)) (sym one.key) ∙ held-entry text old root is.tree is.alone (texts-apart [] is.tree is.alone.is_tree.sound) one.pointer one.leaf one.is_held ∙ ap Some (λ i. (one.key i, one.value i))
 
   -- the tree that is loaded of the entries has the same ones
-  pub reloaded : AreApart (texts is.tree) → ((pointer : OpaqueNodePtr K V P) → held empty pointer ≡ Nothing) → (now : OpaqueNodePtr K V P) (tree : Tree (OpaqueNodePtr K V P)) → AreApart (texts tree) → IsLoaded text empty new entries now tree → IsReloaded text old new now
-  reloaded apart free now tree apart_now loaded =
+  pub reloaded : (empty new : NodeArena K V P) → ((pointer : OpaqueNodePtr K V P) → held empty pointer ≡ Nothing) → (now : OpaqueNodePtr K V P) (tree : Tree (OpaqueNodePtr K V P)) → IsLoaded text empty new entries now tree → IsReloaded text old new now
+  reloaded empty new free now tree loaded =
       let short : All (λ x. length x < 2 ^ 32) (texts_of text entries) = subst (All (λ x. length x < 2 ^ 32)) (sym entry-texts) is.alone.short in
       record {
         art = (tree, alone-loaded text new empty free entries now tree loaded short);
-        same = same-lists text old new entries (entries-in apart) (λ x some. subst (λ xs. Contains xs x) (sym entry-texts) (text-of-entry text old root is.tree is.alone x some))
-            (loaded-entry text new empty free entries now tree loaded short apart_now) (loaded-text text new empty free entries now tree loaded short);
+        same = same-lists text old new entries entries-in (λ x some. subst (λ xs. Contains xs x) (sym entry-texts) (text-of-entry text old root is.tree is.alone x some))
+            (loaded-entry text new empty free entries now tree loaded short (texts-apart [] tree loaded.is_tree.sound)) (loaded-text text new empty free entries now tree loaded short);
       }

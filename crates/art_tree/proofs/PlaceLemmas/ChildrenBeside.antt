@@ -1,16 +1,6 @@
 -- The child of a node that is next to a byte which has none, and the leaf beside the byte's place.
-use Rattle.std.proofs.Common.{◌≡◌, ◌∙◌, ℕ, List, [], ◌∷◌, ◌++◌, length, length-append, sym, ap, arith}
-use Rattle.art_nodes.specs.ChildMap.{ChildMap}
+use Rattle.art_tree.proofs.Names.{◌≡◌, ◌∙◌, ℕ, List, [], ◌∷◌, ◌++◌, length, length-append, sym, ap, arith, ChildMap, OpaqueNodePtr, NodeArena, HeldInner, held, IsAtEnd, put_at, AllStandIn, TreeAt, Branches, branch_leaves, branch_roots, leaves, AreSound, End, First, Last, join, HasPlaceAt, IsChildBeside, StandsBeside, branches_on, pairs_on}
 use Rattle.art_nodes.specs.Inner.{Inner}
-use Rattle.art_nodes.specs.declared.pointers.OpaqueNodePtr.{OpaqueNodePtr}
-use Rattle.art_arena.specs.Arena.{NodeArena, HeldInner, held}
-use Rattle.art_arena.specs.Ends.{IsAtEnd, put_at}
-use Rattle.art_arena.specs.Standing.{AllStandIn, TreeAt}
-use Rattle.art_arena.specs.Trees.{Branches, branch_leaves, branch_roots, leaves, AreSound}
-use Rattle.art_arena.specs.declared.ends.End.{End}
-use Rattle.art_arena.specs.declared.ends.End.TheVariants.{First, Last}
-use Rattle.art_tree.specs.Contexts.{join}
-use Rattle.art_tree.specs.Hanging.{HasPlaceAt, IsChildBeside, StandsBeside, branches_on, pairs_on}
 use Rattle.art_tree.proofs.SharedLemmas.BranchLemmas.{roots-join, stand-split, sound-split}
 use Rattle.art_tree.proofs.SharedLemmas.EndBranches.{IsEndBranch, end-branch, end-leaves, end-sound, end-stands}
 

@@ -1,15 +1,5 @@
 -- Spots to which two keys lead.
-use Rattle.std.proofs.Common.{◌≡◌, ℕ, ◌+◌, ◌≤◌, nat_eq, List, [], ◌∷◌, ◌++◌, length, None, refl, inl, inr, arith}
-use Rattle.std.specs.List.{common_prefix_len}
-use Rattle.std.proofs.lemmas.Bool.Decides.{eqb_tells}
-use Rattle.art_bytes.specs.Text.{IsPrefixOf}
-use Rattle.art_nodes.specs.declared.pointers.OpaqueNodePtr.{OpaqueNodePtr}
-use Rattle.art_arena.specs.Arena.{NodeArena}
-use Rattle.art_arena.specs.Standing.{IsTreeIn}
-use Rattle.art_arena.specs.Trees.{Tree}
-use Rattle.art_tree.specs.Contexts.{Whole, path_to}
-use Rattle.art_tree.specs.Places.{IsSpotIn}
-use Rattle.art_tree.specs.declared.place.Spot.{Spot}
+use Rattle.art_tree.proofs.Names.{◌≡◌, ℕ, ◌+◌, ◌≤◌, nat_eq, List, [], ◌∷◌, ◌++◌, length, None, refl, inl, inr, arith, common_prefix_len, eqb_tells, IsPrefixOf, OpaqueNodePtr, NodeArena, IsTreeIn, Tree, Whole, path_to, IsSpotIn, Spot}
 
 -- a prefix of a text that is no longer than what the text has in common with another is a prefix of the other
 shared-prefix : (path a b : List ℕ) → IsPrefixOf path a → length path ≤ common_prefix_len nat_eq a b → IsPrefixOf path b

@@ -1,21 +1,6 @@
 -- On which side of a key texts lie.
-use Rattle.std.proofs.Common.{◌≡◌, ◌≢◌, ◌∙◌, ℕ, ◌<◌, Bool, true, false, List, [], ◌∷◌, ◌++◌, refl, sym, ap, subst, inl, inr, arith, nat_eq, append_assoc, append-nil}
+use Rattle.art_tree.proofs.Names.{◌≡◌, ◌≢◌, ◌∙◌, ℕ, ◌<◌, Bool, true, false, List, [], ◌∷◌, ◌++◌, refl, sym, ap, subst, inl, inr, arith, nat_eq, append_assoc, append-nil, slice_cmp, starts_with, nat_cmp, ordering_then, Ordering, Less, Equal, Greater, eqb_tells, All-nil, All-cons, All-head, All-tail, All-append, IsPrefixOf, text_order, IsAtEnd, End, First, Last, IsProperPrefixOf, StandsBeside, comes_before, is_before, is_last, AreOn, IsNextTo, Side}
 use Rattle.std.specs.Cmp.{nat_cmp_is}
-use Rattle.std.specs.Cmp.Lexicographic.{slice_cmp}
-use Rattle.std.specs.List.{starts_with}
-use Rattle.std.specs.Ordering.{nat_cmp, ordering_then}
-use Rattle.std.specs.declared.cmp.Ordering.{Ordering}
-use Rattle.std.specs.declared.cmp.Ordering.TheVariants.{Less, Equal, Greater}
-use Rattle.std.proofs.lemmas.Bool.Decides.{eqb_tells}
-use Rattle.std.proofs.lemmas.List.Elements.{All-nil, All-cons, All-head, All-tail, All-append}
-use Rattle.art_bytes.specs.Text.{IsPrefixOf, text_order}
-use Rattle.art_arena.specs.Ends.{IsAtEnd}
-use Rattle.art_arena.specs.declared.ends.End.{End}
-use Rattle.art_arena.specs.declared.ends.End.TheVariants.{First, Last}
-use Rattle.art_tree.specs.Dictionary.{IsProperPrefixOf}
-use Rattle.art_tree.specs.Hanging.{StandsBeside}
-use Rattle.art_tree.specs.Sides.{comes_before, is_before, is_last, AreOn, IsNextTo}
-use Rattle.art_tree.specs.declared.place.Side.{Side}
 use Rattle.art_tree.specs.declared.place.Side.TheVariants.{Before, After, AfterBegun}
 
 -- the order of two texts, and whether the second begins the first

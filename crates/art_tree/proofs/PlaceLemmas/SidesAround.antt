@@ -1,26 +1,5 @@
 -- On which side of a key the leaves of a tree lie, by the key's place.
-use Rattle.std.proofs.Common.{◌≡◌, ◌≢◌, ◌∙◌, ◌⊎◌, ℕ, suc, ◌<◌, ◌≤◌, true, false, nat_lt, if◌then◌else◌, List, [], ◌∷◌, ◌++◌, take, All, refl, sym, ap, subst, inl, inr, arith}
-use Rattle.std.specs.declared.cmp.Ordering.TheVariants.{Greater}
-use Rattle.std.proofs.lemmas.Bool.{cases_lt, le-ltb, lt-ltb}
-use Rattle.std.proofs.lemmas.List.Elements.{All-nil, All-cons, All-append, All-weaker}
-use Rattle.art_bytes.specs.Text.{IsPrefixOf}
-use Rattle.art_bytes.proofs.PrefixLaws.{prefix-on, prefix-shorter}
-use Rattle.art_nodes.specs.ChildMap.{ChildMap, IsAscendingFrom, key_bytes}
-use Rattle.art_nodes.specs.declared.pointers.OpaqueNodePtr.{OpaqueNodePtr}
-use Rattle.art_arena.specs.Arena.{NodeArena, HeldLeaf, Nothing, held}
-use Rattle.art_arena.specs.Ends.{IsAtEnd}
-use Rattle.art_arena.specs.Standing.{StandsIn}
-use Rattle.art_arena.specs.Trees.{Tree, Leaf, Inner, Branches, NoBranch, Branch, branch_roots, root_of, leaves, branch_leaves, IsSound, AreSound, IsWellFormed}
-use Rattle.art_arena.specs.declared.ends.End.{End}
-use Rattle.art_arena.specs.declared.ends.End.TheVariants.{First, Last}
-use Rattle.art_tree.specs.Contexts.{Context, Whole, Under, plug, path_to, leaves_before, leaves_after, join}
-use Rattle.art_tree.specs.Hanging.{HasPlaceAt, StandsBeside, branches_on, pairs_on}
-use Rattle.art_tree.specs.Dictionary.{IsProperPrefixOf}
-use Rattle.art_tree.specs.Places.{reach, BeginsAll, IsSpot, IsSpotIn, LacksChild, LeadsToLeaf, Parts}
-use Rattle.art_tree.specs.Sides.{comes_before, is_before, is_last, AreOn, IsNextTo}
-use Rattle.art_tree.specs.declared.place.Mismatch.{Mismatch}
-use Rattle.art_tree.specs.declared.place.Side.{Side}
-use Rattle.art_tree.specs.declared.place.Spot.{Spot}
+use Rattle.art_tree.proofs.Names.{◌≡◌, ◌≢◌, ◌∙◌, ◌⊎◌, ℕ, suc, ◌<◌, ◌≤◌, true, false, nat_lt, if◌then◌else◌, List, [], ◌∷◌, ◌++◌, take, All, refl, sym, ap, subst, inl, inr, arith, Greater, cases_lt, le-ltb, lt-ltb, All-nil, All-cons, All-append, All-weaker, IsPrefixOf, prefix-on, prefix-shorter, ChildMap, IsAscendingFrom, key_bytes, OpaqueNodePtr, NodeArena, HeldLeaf, Nothing, held, IsAtEnd, StandsIn, Tree, Leaf, Inner, Branches, NoBranch, Branch, branch_roots, root_of, leaves, branch_leaves, IsSound, AreSound, IsWellFormed, End, First, Last, Context, Whole, Under, plug, path_to, leaves_before, leaves_after, join, HasPlaceAt, StandsBeside, branches_on, pairs_on, IsProperPrefixOf, reach, BeginsAll, IsSpot, IsSpotIn, LacksChild, LeadsToLeaf, Parts, comes_before, is_before, is_last, AreOn, IsNextTo, Mismatch, Side, Spot}
 use Rattle.art_tree.proofs.InsertLemmas.AddedLeaf.{leaves-parted}
 use Rattle.art_tree.proofs.InsertLemmas.GapLemmas.{beside-wide}
 use Rattle.art_tree.proofs.InsertLemmas.SubtreeLemmas.{HasChildPlace, child-place}

@@ -1,10 +1,5 @@
 -- The texts of the leaves below a node begin with the path to it.
-use Rattle.std.proofs.Common.{ℕ, ◌<◌, List, [], ◌∷◌, ◌++◌, length, length-append, All, Contains, sym, ap, arith, append-nil}
-use Rattle.std.proofs.lemmas.List.Elements.{All-nil, All-cons, All-contains, All-append, All-weaker}
-use Rattle.art_bytes.specs.Text.{IsPrefixOf}
-use Rattle.art_bytes.proofs.PrefixLaws.{prefix-shorter}
-use Rattle.art_arena.specs.Trees.{Tree, Leaf, Inner, Branches, NoBranch, Branch, leaves, branch_leaves, IsSound, AreSound}
-use Rattle.art_tree.specs.Places.{reach}
+use Rattle.art_tree.proofs.Names.{ℕ, ◌<◌, List, [], ◌∷◌, ◌++◌, length, length-append, All, Contains, sym, ap, arith, append-nil, All-nil, All-cons, All-contains, All-append, All-weaker, IsPrefixOf, prefix-shorter, Tree, Leaf, Inner, Branches, NoBranch, Branch, leaves, branch_leaves, IsSound, AreSound, reach}
 
 -- a text goes on past a path by some byte
 pub record GoesOn (path text : List ℕ) : Type 0 where

@@ -1,18 +1,6 @@
 -- Insertion: the subtree toward which the rest of a key leads.
-use Rattle.std.proofs.Common.{◌≡◌, ◌∙◌, ◌⊎◌, ℕ, ◌+◌, ◌<◌, List, ◌∷◌, ◌++◌, length, drop, [], Contains, Option, Some, None, slice_get, refl, sym, ap, subst, inl, inr}
-use Rattle.std.specs.Option.{option_and_then, option_map_or}
-use Rattle.std.proofs.lemmas.Bool.Decides.{eqb_tells}
-use Rattle.std.proofs.lemmas.List.Elements.{Contains-append_left, Contains-append_right}
-use Rattle.std.proofs.lemmas.Option.{slice_get_within}
-use Rattle.art_nodes.specs.ChildMap.{child_at}
-use Rattle.art_nodes.specs.Inner as nodes
-use Rattle.art_nodes.specs.declared.pointers.OpaqueNodePtr.{OpaqueNodePtr}
-use Rattle.art_arena.specs.Arena.{NodeArena, HeldInner, HeldLeaf, held}
-use Rattle.art_arena.specs.Standing.{NodeStands, StandsIn, AllStandIn, TreeAt}
-use Rattle.art_arena.specs.Trees.{Tree, Leaf, Inner, Branches, NoBranch, Branch, branch_roots, root_of, leaves, branch_leaves, IsSound, AreSound}
-use Rattle.art_tree.specs.Contexts.{join}
-use Rattle.art_tree.specs.Places.{HasLeafText, toward, toward_under}
-use Rattle.art_arena.proofs.StandingLaws.{one-inner}
+use Rattle.art_tree.proofs.Names.{◌≡◌, ◌∙◌, ◌⊎◌, ℕ, ◌+◌, ◌<◌, List, ◌∷◌, ◌++◌, length, drop, [], Contains, Option, Some, None, slice_get, refl, sym, ap, subst, inl, inr, option_and_then, option_map_or, eqb_tells, Contains-append_left, Contains-append_right, slice_get_within, child_at, OpaqueNodePtr, NodeArena, HeldInner, held, AllStandIn, TreeAt, Tree, Leaf, Inner, Branches, NoBranch, Branch, branch_roots, root_of, leaves, branch_leaves, IsSound, AreSound, join, HasLeafText, toward, toward_under, InnerNode}
+use Rattle.art_tree.proofs.SharedLemmas.HeldParts.{inner-part}
 use Rattle.art_tree.proofs.SharedLemmas.BranchLemmas.{sound-split, stand-split}
 
 -- a child that a byte leads to: the rest has that byte
@@ -28,13 +16,6 @@ child-byte {H} children rest n child is = by_byte (slice_get rest n) refl is
     by_byte : (found : Option ℕ) → slice_get rest n ≡ found → option_and_then (child_at children) found ≡ Some child → HasByte children rest n child
     by_byte None at some = absurd (cc)
     by_byte (Some byte) at some = record { byte = byte; at = at; child_is = some; within = slice_get_within rest n byte at }
-
--- what is held shows the length of the prefix and the children
-shown-length : {H : Type 0} {room : ℕ} (node own : nodes.Inner H) (prefix : List ℕ) (branches : Branches H) → own ≡ node → NodeStands room own prefix branches → length prefix ≡ node.prefix_len
-shown-length node own prefix branches one shows = sym shows.prefix_len ∙ ap (λ n. n.prefix_len) one
-
-shown-children : {H : Type 0} {room : ℕ} (node own : nodes.Inner H) (prefix : List ℕ) (branches : Branches H) → own ≡ node → NodeStands room own prefix branches → node.children ≡ branch_roots branches
-shown-children node own prefix branches one shows = ap (λ n. n.children) (sym one) ∙ shows.children
 
 module _ {H : Type 0} where
   -- the branches around the one under a byte
@@ -114,31 +95,23 @@ module _ {K V : Type 0} {P : ℕ} (text : K → List ℕ) (arena : NodeArena K V
     pub below : TreeAt text arena child
     pub same : toward rest found.tree ≡ toward left below.tree
 
-  pub child-toward : (node : nodes.Inner (OpaqueNodePtr K V P)) (child : OpaqueNodePtr K V P) → held arena pointer ≡ HeldInner node → option_and_then (child_at node.children) (slice_get rest node.prefix_len) ≡ Some child → IsToward child (drop (node.prefix_len + 1) rest)
-  child-toward node child holds some = by_tree found.tree refl found.at_root found.stands found.sound
-    where
-      by_tree : (tree : Tree (OpaqueNodePtr K V P)) → found.tree ≡ tree → root_of tree ≡ pointer → StandsIn text arena tree → IsSound found.path tree → IsToward child (drop (node.prefix_len + 1) rest)
-      by_tree (Leaf p x) same root (leaf, leaf_holds, has) sound = let wrong : HeldLeaf leaf ≡ HeldInner node = sym leaf_holds ∙ ap (held arena) root ∙ holds in absurd (cc)
-      by_tree (Inner p prefix branches) same root (own, own_holds, shows, stand) sound =
-          let one : own ≡ node = one-inner (held arena pointer) own node (ap (held arena) (sym root) ∙ own_holds) holds in
-          let as_long = shown-length node own prefix branches one shows in
-          let children = shown-children node own prefix branches one shows in
-          let next = child-byte node.children rest node.prefix_len child some in
-          let split = split-at branches next.byte child (ap (λ c. child_at c next.byte) (sym children) ∙ next.child_is) in
-          let stands = stand-split text arena split.before (Branch next.byte split.tree split.after) (subst (AllStandIn text arena) (sym split.whole) stand) in
-          let sounds = sound-split (found.path ++ prefix) split.before (Branch next.byte split.tree split.after) (subst (AreSound (found.path ++ prefix)) (sym split.whole) sound.2) in
-          record {
-            below = record { tree = split.tree; path = (found.path ++ prefix) ++ next.byte ∷ []; at_root = split.at_root; stands = stands.1.0; sound = sounds.1.0 };
-            same = ap (toward rest) same ∙ toward-child p prefix branches next.byte child split rest (ap (slice_get rest) as_long ∙ next.at) ∙ ap (λ n. toward (drop (n + 1) rest) split.tree) as_long;
-          }
+  pub child-toward : (node : InnerNode (OpaqueNodePtr K V P)) (child : OpaqueNodePtr K V P) → held arena pointer ≡ HeldInner node → option_and_then (child_at node.children) (slice_get rest node.prefix_len) ≡ Some child → IsToward child (drop (node.prefix_len + 1) rest)
+  child-toward node child holds some =
+      let part = inner-part text arena pointer node found.tree found.at_root found.stands holds in
+      let sound = subst (IsSound found.path) part.is found.sound in
+      let as_long = part.shows.prefix_len in
+      let next = child-byte node.children rest node.prefix_len child some in
+      let split = split-at part.branches next.byte child (ap (λ c. child_at c next.byte) (sym part.shows.children) ∙ next.child_is) in
+      let stands = stand-split text arena split.before (Branch next.byte split.tree split.after) (subst (AllStandIn text arena) (sym split.whole) part.stand) in
+      let sounds = sound-split (found.path ++ part.prefix) split.before (Branch next.byte split.tree split.after) (subst (AreSound (found.path ++ part.prefix)) (sym split.whole) sound.2) in
+      record {
+        below = record { tree = split.tree; path = (found.path ++ part.prefix) ++ next.byte ∷ []; at_root = split.at_root; stands = stands.1.0; sound = sounds.1.0 };
+        same = ap (toward rest) part.is ∙ toward-child pointer part.prefix part.branches next.byte child split rest (ap (slice_get rest) (sym as_long) ∙ next.at) ∙ ap (λ n. toward (drop (n + 1) rest) split.tree) (sym as_long);
+      }
 
-  pub none-toward : (node : nodes.Inner (OpaqueNodePtr K V P)) → held arena pointer ≡ HeldInner node → option_and_then (child_at node.children) (slice_get rest node.prefix_len) ≡ None → toward rest found.tree ≡ found.tree
-  none-toward node holds none = by_tree found.tree found.at_root found.stands
-    where
-      by_tree : (tree : Tree (OpaqueNodePtr K V P)) → root_of tree ≡ pointer → StandsIn text arena tree → toward rest tree ≡ tree
-      by_tree (Leaf p x) root stands = refl
-      by_tree (Inner p prefix branches) root (own, own_holds, shows, stand) =
-          let one : own ≡ node = one-inner (held arena pointer) own node (ap (held arena) (sym root) ∙ own_holds) holds in
-          let as_long = shown-length node own prefix branches one shows in
-          let children = shown-children node own prefix branches one shows in
-          toward-none p prefix branches rest (ap (λ c. option_and_then (child_at c) (slice_get rest (length prefix))) (sym children) ∙ ap (λ n. option_and_then (child_at node.children) (slice_get rest n)) as_long ∙ none)
+  pub none-toward : (node : InnerNode (OpaqueNodePtr K V P)) → held arena pointer ≡ HeldInner node → option_and_then (child_at node.children) (slice_get rest node.prefix_len) ≡ None → toward rest found.tree ≡ found.tree
+  none-toward node holds none =
+      let part = inner-part text arena pointer node found.tree found.at_root found.stands holds in
+      ap (toward rest) part.is
+      ∙ toward-none pointer part.prefix part.branches rest (ap (λ c. option_and_then (child_at c) (slice_get rest (length part.prefix))) (sym part.shows.children) ∙ ap (λ n. option_and_then (child_at node.children) (slice_get rest n)) (sym part.shows.prefix_len) ∙ none)
+      ∙ sym part.is

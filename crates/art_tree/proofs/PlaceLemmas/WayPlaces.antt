@@ -1,30 +1,10 @@
 -- The place of a key, by the nodes that it meets on its way down.
-use Rattle.std.proofs.Common.{◌≡◌, ◌≢◌, ◌∙◌, ℕ, zero, suc, ◌+◌, ◌-◌, ◌<◌, ◌≤◌, nat_eq, List, [], ◌∷◌, ◌++◌, length, length-append, map, take, drop, All, Contains, Option, Some, None, IfSome, slice_get, get_or, refl, sym, ap, subst, inl, inr, arith, append_assoc, append-nil}
-use Rattle.std.specs.List.{common_prefix_len}
-use Rattle.std.proofs.lemmas.Bool.Decides.{eqb_tells}
-use Rattle.std.proofs.lemmas.List.{nil_from_length, drop-drop, drop_at, map-append, take_all, take_at, take_rest}
-use Rattle.std.proofs.lemmas.List.Elements.{All-nil, All-cons, All-contains, All-map, All-weaker, Contains-append_left, Contains-append_right}
-use Rattle.std.proofs.lemmas.List.Sums.{common_prefix_len-le}
-use Rattle.std.proofs.lemmas.Option.{slice_get-get_or}
-use Rattle.art_bytes.specs.Text.{IsPrefixOf}
-use Rattle.art_header.specs.Header.{capped}
-use Rattle.art_nodes.specs.ChildMap.{child_at}
-use Rattle.art_nodes.specs.Inner as nodes
-use Rattle.art_nodes.specs.declared.pointers.OpaqueNodePtr.{OpaqueNodePtr}
-use Rattle.art_nodes.specs.declared.leaf_node.LeafNode.{LeafNode}
-use Rattle.art_arena.specs.Arena.{NodeArena, HeldInner, HeldLeaf, Nothing, held}
-use Rattle.art_arena.specs.Standing.{StandsIn, AllStandIn, NodeStands, TreeAt, leaf_text}
-use Rattle.art_arena.specs.Trees.{Tree, Leaf, Inner, Branches, NoBranch, Branch, branch_roots, root_of, leaves, texts, branch_texts, branch_leaves, IsSound, AreSound, IsWellFormed}
-use Rattle.art_tree.specs.Contexts.{Context, Under, plug, path_to, leaves_before, leaves_after}
-use Rattle.art_tree.specs.Dictionary.{Clashes, IsProperPrefixOf}
-use Rattle.art_tree.specs.Places.{reach, toward, BeginsAll, HasLeafText, IsDescentIn, IsSpotIn, LacksChild, LeadsToLeaf, Parts}
-use Rattle.art_tree.specs.declared.place.Spot.{Spot}
+use Rattle.art_tree.proofs.Names.{leaf_key, Contains-get_or, All-nil, All-cons, All-contains, All-map, All-weaker, Contains-append_left, Contains-append_right, ◌≡◌, ◌≢◌, ◌∙◌, ℕ, zero, suc, ◌+◌, ◌-◌, ◌<◌, ◌≤◌, nat_eq, List, [], ◌∷◌, ◌++◌, length, length-append, map, take, drop, All, Contains, Option, Some, None, IfSome, slice_get, get_or, refl, sym, ap, subst, inl, inr, arith, append_assoc, append-nil, common_prefix_len, eqb_tells, nil_from_length, drop-drop, drop_at, map-append, take_all, take_at, take_rest, common_prefix_len-le, slice_get-get_or, IsPrefixOf, capped, child_at, OpaqueNodePtr, LeafNode, NodeArena, HeldInner, HeldLeaf, Nothing, held, StandsIn, TreeAt, leaf_text, Tree, Leaf, Inner, Branches, NoBranch, Branch, branch_roots, leaves, texts, branch_texts, branch_leaves, IsSound, AreSound, IsWellFormed, Context, Under, plug, path_to, leaves_before, leaves_after, Clashes, IsProperPrefixOf, reach, toward, BeginsAll, HasLeafText, prefix_of, IsDescentIn, IsSpotIn, LacksChild, LeadsToLeaf, Parts, Spot, prefix-on, image_inside, texts-begin, texts-some, InnerNode}
 use Rattle.art_tree.proofs.FindLemmas.DescentLemmas.{slice_get-drop}
 use Rattle.art_tree.proofs.PlaceLemmas.TextsBelow.{GoesOn, branch-text-begins, branches-go-on, goes-begins, goes-longer}
-use Rattle.art_tree.proofs.PlaceLemmas.TowardLemmas.{IsSplit, split-at, toward-child}
-use Rattle.art_tree.proofs.SharedLemmas.DictionaryLemmas.{in-map}
+use Rattle.art_tree.proofs.PlaceLemmas.TowardLemmas.{IsSplit, split-at, toward-child, toward-text}
 use Rattle.art_tree.proofs.SharedLemmas.ExchangedSubtree.{leaves-plug, sound-part, stands-part}
-use Rattle.art_bytes.proofs.PrefixLaws.{prefix-on}
+use Rattle.art_tree.proofs.SharedLemmas.HeldParts.{IsInnerPart, inner-part, leaf-part, part-held}
 
 -- two texts are alike in so many bytes, and part there unless one ends
 record AreAlike (a b : List ℕ) (n : ℕ) : Type 0 where
@@ -79,11 +59,6 @@ alike-below path a key depth n deep (rest, key_is) counted =
       long = omega (arith, length-append path both.front, deep, both.long, counted, ap (common_prefix_len nat_eq a) rest_is);
       part = both.part;
     }
-
--- the rests of two texts
-pub rests-counted : (a b text : List ℕ) (depth n : ℕ) → text ≡ a → n ≡ common_prefix_len nat_eq (take (length text - depth) (drop depth text)) (take (length b - depth) (drop depth b)) → n ≡ common_prefix_len nat_eq (drop depth a) (drop depth b)
-rests-counted a b text depth n same counted =
-    counted ∙ ap (λ z. common_prefix_len nat_eq z (take (length b - depth) (drop depth b))) (take_rest text depth ∙ ap (drop depth) same) ∙ ap (common_prefix_len nat_eq (drop depth a)) (take_rest b depth)
 
 at-seam : (front rest : List ℕ) (n : ℕ) → length front ≡ n → slice_get (front ++ rest) n ≡ slice_get rest 0
 at-seam [] rest n long = ap (slice_get rest) (sym long)
@@ -149,260 +124,231 @@ module _ {H : Type 0} where
       ∙ ap (λ z. of (leaves_before context) ++ z) (map-append (λ leaf. leaf.1) (leaves part) (leaves_after context)) in
       subst (λ all. Contains all text) (sym same) (Contains-append_right (of (leaves_before context)) (texts part ++ of (leaves_after context)) text (Contains-append_left (texts part) (of (leaves_after context)) text inside))
 
-  mutual
-    -- a sound tree has a text, which begins with the path
-    pub some-text : (path : List ℕ) (tree : Tree H) → IsSound path tree → HasText path (texts tree)
-    some-text path (Leaf pointer text) sound = record { text = text; inside = (0, omega arith, refl); begins = sound.0 }
-    some-text path (Inner pointer prefix branches) sound =
-        let some = branch-text (path ++ prefix) branches (omega (arith, sound.0)) sound.2 in
-        record {
-          text = some.1.text;
-          inside = some.1.inside;
-          begins = prefix-on path (path ++ prefix) some.1.text (prefix, refl) (prefix-on (path ++ prefix) ((path ++ prefix) ++ some.0 ∷ []) some.1.text (some.0 ∷ [], refl) some.1.begins);
-        }
+  -- a sound tree has a text, which begins with the path
+  pub some-text : (path : List ℕ) (tree : Tree H) → IsSound path tree → HasText path (texts tree)
+  some-text path tree sound = let some = texts-some path tree sound in record { text = get_or (texts tree) 0 []; inside = Contains-get_or (texts tree) 0 [] some; begins = texts-begin path tree sound 0 [] some }
 
-    -- and so have branches, where it goes on by a byte
-    pub branch-text : (path : List ℕ) (branches : Branches H) → 0 < length (branch_roots branches) → AreSound path branches → (byte : ℕ) × HasText (path ++ byte ∷ []) (branch_texts branches)
-    branch-text path NoBranch some sound = absurd (omega (arith, some))
-    branch-text path (Branch byte tree others) some sound =
-        let first = some-text (path ++ byte ∷ []) tree sound.0 in (
-          byte,
-          record {
-            text = first.text;
-            inside = subst (λ all. Contains all first.text) (sym (map-append (λ leaf. leaf.1) (leaves tree) (branch_leaves others))) (Contains-append_left (texts tree) (branch_texts others) first.text first.inside);
-            begins = first.begins;
-          },
-        )
+  -- and so have branches, where it goes on by a byte
+  pub branch-text : (path : List ℕ) (branches : Branches H) → 0 < length (branch_roots branches) → AreSound path branches → (byte : ℕ) × HasText (path ++ byte ∷ []) (branch_texts branches)
+  branch-text path NoBranch some sound = absurd (omega (arith, some))
+  branch-text path (Branch byte tree others) some sound =
+      let first = some-text (path ++ byte ∷ []) tree sound.0 in
+      let inside = subst (λ all. Contains all first.text) (sym (map-append (λ leaf. leaf.1) (leaves tree) (branch_leaves others))) (Contains-append_left (texts tree) (branch_texts others) first.text first.inside) in
+      (byte, record { text = first.text; inside = inside; begins = first.begins })
 
-module _ {K V : Type 0} {P : ℕ} (text : K → List ℕ) (arena : NodeArena K V P) (tree : Tree (OpaqueNodePtr K V P)) (key : List ℕ) where
-  module _ (spot : Spot K V P) (is : IsSpotIn text arena tree key spot) where
-    pub depth-within : spot.depth ≤ length key
-    depth-within = omega (arith, is.at.deep, ap length is.at.leads.1, length-append (path_to is.at.context) is.at.leads.0)
+-- the further down a search is, the less is left
+pub smaller : (all now next : ℕ) → now < next → next ≤ all → all - next < all - now
+smaller all now next more within = omega (arith, more, within)
 
-    pub part-stands : StandsIn text arena is.at.part
-    part-stands = stands-part text arena arena is.at.context is.at.part (subst (StandsIn text arena) (sym is.at.whole) is.stands)
+-- a key leads to a spot of a tree
+module _ {K V : Type 0} {P : ℕ} {text : K → List ℕ} {arena : NodeArena K V P} {tree : Tree (OpaqueNodePtr K V P)} {key : List ℕ} {spot : Spot K V P} (is : IsSpotIn text arena tree key spot) where
+  pub depth-within : spot.depth ≤ length key
+  depth-within = omega (arith, is.at.deep, ap length is.at.leads.1, length-append (path_to is.at.context) is.at.leads.0)
 
-    pub part-sound : IsSound (path_to is.at.context) is.at.part
-    part-sound = sound-part is.at.context is.at.part (subst IsWellFormed (sym is.at.whole) is.sound)
+  pub part-stands : StandsIn text arena is.at.part
+  part-stands = stands-part text arena arena is.at.context is.at.part (subst (StandsIn text arena) (sym is.at.whole) is.stands)
 
-    -- the tree at the spot
-    abbrev pub spot-tree : TreeAt text arena spot.node
-    spot-tree = record { tree = is.at.part; path = path_to is.at.context; at_root = is.at.at_root; stands = part-stands; sound = part-sound }
+  pub part-sound : IsSound (path_to is.at.context) is.at.part
+  part-sound = sound-part is.at.context is.at.part (subst IsWellFormed (sym is.at.whole) is.sound)
 
-    -- an inner node stands at the spot
-    pub record IsAtInner (node : nodes.Inner (OpaqueNodePtr K V P)) : Type 0 where
-      pub prefix : List ℕ
-      pub branches : Branches (OpaqueNodePtr K V P)
-      pub part : is.at.part ≡ Inner spot.node prefix branches
-      pub shows : NodeStands P node prefix branches
-      pub stand : AllStandIn text arena branches
-      pub sound : IsSound (path_to is.at.context) (Inner spot.node prefix branches)
+  -- the tree at the spot
+  abbrev pub spot-tree : TreeAt text arena spot.node
+  spot-tree = record { tree = is.at.part; path = path_to is.at.context; at_root = is.at.at_root; stands = part-stands; sound = part-sound }
 
-    pub at-inner : (node : nodes.Inner (OpaqueNodePtr K V P)) → held arena spot.node ≡ HeldInner node → IsAtInner node
-    at-inner node holds = by_part is.at.part refl is.at.at_root part-stands part-sound
-      where
-        by_part : (part : Tree (OpaqueNodePtr K V P)) → is.at.part ≡ part → root_of part ≡ spot.node → StandsIn text arena part → IsSound (path_to is.at.context) part → IsAtInner node
-        by_part (Leaf pointer x) same root (leaf, leaf_holds, has) sound = let one : HeldLeaf leaf ≡ HeldInner node = sym leaf_holds ∙ ap (held arena) root ∙ holds in absurd (cc)
-        by_part (Inner pointer prefix branches) same root (stored, stored_holds, shows, stand) sound =
-            let one : HeldInner stored ≡ HeldInner node = sym stored_holds ∙ ap (held arena) root ∙ holds in
-            let node_is : stored ≡ node = cc in
-            record {
-              prefix = prefix;
-              branches = branches;
-              part = same ∙ ap (λ p. Inner p prefix branches) root;
-              shows = subst (λ n. NodeStands P n prefix branches) node_is shows;
-              stand = stand;
-              sound = sound;
-            }
+  -- something is held there
+  pub spot-held : held arena spot.node ≢ Nothing
+  spot-held = part-held text arena spot.node is.at.part is.at.at_root part-stands
 
-    -- a leaf stands at the spot
-    pub record IsAtLeaf (leaf : LeafNode K V P) : Type 0 where
-      pub part : is.at.part ≡ Leaf spot.node (leaf_text text leaf)
-      pub begins : IsPrefixOf (path_to is.at.context) (leaf_text text leaf)
+  -- where the key differs from all texts of the part
+  parts-at : (told : List ℕ) (index : ℕ) (byte other : ℕ) → reach (path_to is.at.context) is.at.part ≡ told → AreAlike told key index → spot.depth ≤ index → slice_get told index ≡ Some other → slice_get key index ≡ Some byte → Parts tree key spot (record { index = index; byte = byte; node_byte = other })
+  parts-at told index byte other told_is both later in_told in_key =
+      let parted = alike-parts told key index both other byte in_told in_key in
+      record { at = is.at; later = later; byte = in_key; node = subst (IsPrefixOf (take index key ++ other ∷ [])) (sym told_is) parted.1; differ = parted.0 }
 
-    pub at-leaf : (leaf : LeafNode K V P) → held arena spot.node ≡ HeldLeaf leaf → IsAtLeaf leaf
-    at-leaf leaf holds = by_part is.at.part refl is.at.at_root part-stands part-sound
-      where
-        by_part : (part : Tree (OpaqueNodePtr K V P)) → is.at.part ≡ part → root_of part ≡ spot.node → StandsIn text arena part → IsSound (path_to is.at.context) part → IsAtLeaf leaf
-        by_part (Inner pointer prefix branches) same root (node, node_holds, shows, stand) sound = let one : HeldInner node ≡ HeldLeaf leaf = sym node_holds ∙ ap (held arena) root ∙ holds in absurd (cc)
-        by_part (Leaf pointer x) same root (stored, stored_holds, has) sound =
-            let one : HeldLeaf stored ≡ HeldLeaf leaf = sym stored_holds ∙ ap (held arena) root ∙ holds in
-            let stored_is : stored ≡ leaf = cc in
-            let text_is : x ≡ leaf_text text leaf = sym has ∙ ap (leaf_text text) stored_is in
-            record {
-              part = same ∙ ap (λ p. Leaf p x) root ∙ ap (Leaf spot.node) text_is;
-              begins = subst (IsPrefixOf (path_to is.at.context)) text_is sound.0;
-            }
+-- and an inner node is held there
+module _ {K V : Type 0} {P : ℕ} {text : K → List ℕ} {arena : NodeArena K V P} {tree : Tree (OpaqueNodePtr K V P)} {key : List ℕ} {spot : Spot K V P} {node : InnerNode (OpaqueNodePtr K V P)} (is : IsSpotIn text arena tree key spot) (holds : held arena spot.node ≡ HeldInner node) where
+  here : IsInnerPart text arena spot.node node is.at.part
+  here = inner-part text arena spot.node node is.at.part is.at.at_root (part-stands is) holds
 
-    -- something is held there
-    pub spot-held : held arena spot.node ≢ Nothing
-    spot-held free = by_part is.at.part is.at.at_root part-stands
-      where
-        by_part : (part : Tree (OpaqueNodePtr K V P)) → root_of part ≡ spot.node → StandsIn text arena part → ⊥
-        by_part (Leaf pointer x) root (leaf, holds, has) = let one : HeldLeaf leaf ≡ Nothing = sym holds ∙ ap (held arena) root ∙ free in absurd (cc)
-        by_part (Inner pointer prefix branches) root (node, holds, shows, stand) = let one : HeldInner node ≡ Nothing = sym holds ∙ ap (held arena) root ∙ free in absurd (cc)
+  here-sound : IsSound (path_to is.at.context) (Inner spot.node here.prefix here.branches)
+  here-sound = subst (IsSound (path_to is.at.context)) here.is (part-sound is)
 
-    -- where the key differs from all texts of the part
-    parts-at : (told : List ℕ) (index : ℕ) (byte other : ℕ) → reach (path_to is.at.context) is.at.part ≡ told → AreAlike told key index → spot.depth ≤ index → slice_get told index ≡ Some other → slice_get key index ≡ Some byte → Parts tree key spot (record { index = index; byte = byte; node_byte = other })
-    parts-at told index byte other told_is both later in_told in_key =
-        let parted = alike-parts told key index both other byte in_told in_key in
-        record { at = is.at; later = later; byte = in_key; node = subst (IsPrefixOf (take index key ++ other ∷ [])) (sym told_is) parted.1; differ = parted.0 }
+  -- the path to the node and its prefix, which all its texts begin with
+  abbrev way : List ℕ
+  way = path_to is.at.context ++ here.prefix
 
-    module _ (node : nodes.Inner (OpaqueNodePtr K V P)) (here : IsAtInner node) where
-      -- the path to the node and its prefix, which all its texts begin with
-      abbrev way : List ℕ
-      way = path_to is.at.context ++ here.prefix
+  told-way : reach (path_to is.at.context) is.at.part ≡ way
+  told-way = ap (reach (path_to is.at.context)) here.is
 
-      told-way : reach (path_to is.at.context) is.at.part ≡ way
-      told-way = ap (reach (path_to is.at.context)) here.part
+  way-long : length way ≡ spot.depth + length here.prefix
+  way-long = omega (arith, length-append (path_to is.at.context) here.prefix, is.at.deep)
 
-      way-long : length way ≡ spot.depth + length here.prefix
-      way-long = omega (arith, length-append (path_to is.at.context) here.prefix, is.at.deep)
+  -- a text of a leaf below has the prefix
+  pub prefix-in-text : (x : List ℕ) → HasLeafText (toward (drop spot.depth key) is.at.part) x → (spot.depth + node.prefix_len ≤ length x) × (take node.prefix_len (drop spot.depth x) ≡ prefix_of is.at.part)
+  prefix-in-text x below =
+      let (pointer, inside) = toward-text (drop spot.depth key) is.at.part x below in
+      let begins = branch-text-begins way here.branches pointer x here-sound.2 (subst (λ part. Contains (leaves part) (pointer, x)) here.is inside) in
+      let rest : drop spot.depth x ≡ here.prefix ++ begins.0 = ap (drop spot.depth) (begins.1 ∙ append_assoc (path_to is.at.context) here.prefix begins.0) ∙ drop_at (path_to is.at.context) (here.prefix ++ begins.0) spot.depth is.at.deep in
+      (omega (arith, way-long, ap length begins.1, length-append way begins.0, here.shows.prefix_len), ap (take node.prefix_len) rest ∙ take_at here.prefix begins.0 node.prefix_len (sym here.shows.prefix_len) ∙ sym (ap prefix_of here.is))
 
-      -- a text of a leaf below has the prefix
-      pub prefix-in-text : (x : List ℕ) → HasLeafText is.at.part x → (spot.depth + length here.prefix ≤ length x) × (take (length here.prefix) (drop spot.depth x) ≡ here.prefix)
-      prefix-in-text x (pointer, inside) =
-          let begins = branch-text-begins way here.branches pointer x here.sound.2 (subst (λ part. Contains (leaves part) (pointer, x)) here.part inside) in
-          let rest : drop spot.depth x ≡ here.prefix ++ begins.0 = ap (drop spot.depth) (begins.1 ∙ append_assoc (path_to is.at.context) here.prefix begins.0) ∙ drop_at (path_to is.at.context) (here.prefix ++ begins.0) spot.depth is.at.deep in
-          (omega (arith, way-long, ap length begins.1, length-append way begins.0), ap (take (length here.prefix)) rest ∙ take_at here.prefix begins.0 (length here.prefix) refl)
+  -- a prefix that is stored whole
+  pub prefix-stored : node.prefix_len ≤ P → node.stored ≡ prefix_of is.at.part
+  prefix-stored few = here.shows.stored ∙ take_all (capped P (length here.prefix)) here.prefix (omega (arith, few, here.shows.prefix_len)) ∙ sym (ap prefix_of here.is)
 
-      -- a prefix that is stored whole
-      pub prefix-stored : node.prefix_len ≤ P → node.stored ≡ here.prefix
-      prefix-stored few = here.shows.stored ∙ take_all (capped P (length here.prefix)) here.prefix (omega (arith, few, here.shows.prefix_len))
+-- its prefix was read, and so many bytes of it match what is left of the key
+module _ {K V : Type 0} {P : ℕ} {text : K → List ℕ} {arena : NodeArena K V P} {tree : Tree (OpaqueNodePtr K V P)} {key : List ℕ} {spot : Spot K V P} {node : InnerNode (OpaqueNodePtr K V P)} {prefix : List ℕ} {n : ℕ} (is : IsSpotIn text arena tree key spot) (holds : held arena spot.node ≡ HeldInner node) (read : prefix ≡ prefix_of is.at.part)
+    (told : n ≡ common_prefix_len nat_eq prefix (take (length key - spot.depth) (drop spot.depth key))) where
+  abbrev there : IsInnerPart text arena spot.node node is.at.part
+  there = here is holds
 
-      -- how far a prefix that was read matches what is left of the key
-      pub read-counted : (prefix : List ℕ) (n : ℕ) → prefix ≡ here.prefix → n ≡ common_prefix_len nat_eq prefix (take (length key - spot.depth) (drop spot.depth key)) → n ≡ common_prefix_len nat_eq here.prefix (drop spot.depth key)
-      read-counted prefix n same counted = counted ∙ ap (λ p. common_prefix_len nat_eq p (take (length key - spot.depth) (drop spot.depth key))) same ∙ ap (common_prefix_len nat_eq here.prefix) (take_rest key spot.depth)
+  abbrev front : List ℕ
+  front = way is holds
 
-      module _ (n : ℕ) (counted : n ≡ common_prefix_len nat_eq here.prefix (drop spot.depth key)) where
-        -- the whole prefix is matched, or the key differs from it
-        pub matched-whole : length here.prefix ≤ n → n ≡ length here.prefix
-        matched-whole all = omega (arith, (common_prefix_len-le nat_eq here.prefix (drop spot.depth key)).0, counted)
+  prefix_is : prefix ≡ there.prefix
+  prefix_is = read ∙ ap prefix_of there.is
 
-        node-alike : AreAlike way key (spot.depth + n)
-        node-alike = alike-below (path_to is.at.context) here.prefix key spot.depth n is.at.deep is.at.leads counted
+  counted : n ≡ common_prefix_len nat_eq there.prefix (drop spot.depth key)
+  counted = told ∙ ap (λ p. common_prefix_len nat_eq p (take (length key - spot.depth) (drop spot.depth key))) prefix_is ∙ ap (common_prefix_len nat_eq there.prefix) (take_rest key spot.depth)
 
-        pub matched-within : spot.depth + n ≤ length key
-        matched-within = omega (arith, ap length node-alike.b_is, length-append node-alike.front node-alike.right, node-alike.long)
+  node-alike : AreAlike front key (spot.depth + n)
+  node-alike = alike-below (path_to is.at.context) there.prefix key spot.depth n is.at.deep is.at.leads counted
 
-        -- the key ends there
-        pub node-begins : spot.depth + n ≡ length key → BeginsAll tree key spot
-        node-begins ends =
-            let front = alike-second way key (spot.depth + n) node-alike (omega (arith, ends)) in
-            record {
-              at = is.at;
-              begins = subst (λ part. All (λ leaf. IsProperPrefixOf key leaf.1) (leaves part)) (sym here.part) (All-weaker (λ leaf. GoesOn way leaf.1) (λ leaf. IsProperPrefixOf key leaf.1)
-                  (λ leaf goes. (
-                    prefix-on key way leaf.1 front (goes-begins way leaf.1 goes),
-                    λ same. omega (arith, goes-longer way leaf.1 goes, ap length front.1, length-append key front.0, ap length same),
-                  )) (branch_leaves here.branches) (branches-go-on way here.branches here.sound.2));
-            }
+  pub matched-within : spot.depth + n ≤ length key
+  matched-within = omega (arith, ap length node-alike.b_is, length-append node-alike.front node-alike.right, node-alike.long)
 
-        -- it differs from the prefix
-        pub node-parts : n < length here.prefix → spot.depth + n < length key → (other : ℕ) → other ≡ get_or here.prefix n 0 → Parts tree key spot (record { index = spot.depth + n; byte = get_or key (spot.depth + n) 0; node_byte = other })
-        node-parts short inside other other_is =
-            parts-at way (spot.depth + n) (get_or key (spot.depth + n) 0) other told-way node-alike (omega arith)
-            (sym (slice_get-drop way spot.depth n) ∙ ap (λ rest. slice_get rest n) (drop_at (path_to is.at.context) here.prefix spot.depth is.at.deep) ∙ slice_get-get_or here.prefix n 0 short ∙ ap Some (sym other_is))
-            (slice_get-get_or key (spot.depth + n) 0 inside)
-
-        -- it goes on past all of the prefix by its next byte
-        module _ (whole : n ≡ length here.prefix) (inside : spot.depth + n < length key) where
-          leads-on : IsPrefixOf (way ++ get_or key (spot.depth + n) 0 ∷ []) key
-          leads-on = prefix-byte way key (spot.depth + n) (get_or key (spot.depth + n) 0) (omega (arith, way-long, whole))
-              (alike-first way key (spot.depth + n) node-alike (omega (arith, way-long, whole))) (slice_get-get_or key (spot.depth + n) 0 inside)
-
-          next-at : slice_get (drop spot.depth key) n ≡ Some (get_or key (spot.depth + n) 0)
-          next-at = slice_get-drop key spot.depth n ∙ slice_get-get_or key (spot.depth + n) 0 inside
-
-          -- under which there is no child
-          pub node-lacks : child_at node.children (get_or key (spot.depth + n) 0) ≡ None → LacksChild tree key spot (get_or key (spot.depth + n) 0)
-          node-lacks none = record {
-            at = is.at;
-            prefix = here.prefix;
-            branches = here.branches;
-            part = here.part;
-            leads = leads-on;
-            absent = ap (λ children. child_at children (get_or key (spot.depth + n) 0)) (sym here.shows.children) ∙ none;
-          }
-
-          -- or one, where its way goes on
-          module _ (child : OpaqueNodePtr K V P) (some : child_at node.children (get_or key (spot.depth + n) 0) ≡ Some child) where
-            split : IsSplit here.branches (get_or key (spot.depth + n) 0) child
-            split = split-at here.branches (get_or key (spot.depth + n) 0) child (ap (λ children. child_at children (get_or key (spot.depth + n) 0)) (sym here.shows.children) ∙ some)
-
-            abbrev node-leads : IsSpotIn text arena tree key (record { node = child; depth = spot.depth + n + 1; parent = Some (spot.node, get_or key (spot.depth + n) 0) })
-            node-leads = record {
-              stands = is.stands;
-              sound = is.sound;
-              at = record {
-                context = Under is.at.context spot.node here.prefix split.before (get_or key (spot.depth + n) 0) split.after;
-                part = split.tree;
-                whole = ap (plug is.at.context) (ap (Inner spot.node here.prefix) split.whole ∙ sym here.part) ∙ is.at.whole;
-                at_root = split.at_root;
-                leads = leads-on;
-                deep = omega (arith, length-append way (get_or key (spot.depth + n) 0 ∷ []), way-long, whole);
-                hangs = refl;
-              };
-            }
-
-            toward-next : toward (drop spot.depth key) is.at.part ≡ toward (drop (spot.depth + n + 1) key) split.tree
-            toward-next =
-                let past : spot.depth + (n + 1) ≡ spot.depth + n + 1 = omega arith in
-                ap (toward (drop spot.depth key)) here.part
-                ∙ toward-child spot.node here.prefix here.branches (get_or key (spot.depth + n) 0) child split (drop spot.depth key) (ap (slice_get (drop spot.depth key)) (sym whole) ∙ next-at)
-                ∙ ap (λ rest. toward rest split.tree) (ap (λ m. drop (m + 1) (drop spot.depth key)) (sym whole) ∙ drop-drop (n + 1) spot.depth key ∙ ap (λ m. drop m key) past)
-
-            pub node-descends : (known : Option (List ℕ)) → IfSome known (HasLeafText (toward (drop spot.depth key) is.at.part)) → IsDescentIn text arena tree key (record { node = child; depth = spot.depth + n + 1; parent = Some (spot.node, get_or key (spot.depth + n) 0) }) known
-            node-descends known below = record { spot_in = node-leads; below = subst (λ part. IfSome known (HasLeafText part)) toward-next below }
-
-    module _ (leaf : LeafNode K V P) (here : IsAtLeaf leaf) where
-      pub leaf-deep : spot.depth ≤ length (leaf_text text leaf)
-      leaf-deep = omega (arith, is.at.deep, ap length here.begins.1, length-append (path_to is.at.context) here.begins.0)
-
-      -- the key leads to the leaf
-      pub leads-to-leaf : (x : List ℕ) → leaf_text text leaf ≡ x → LeadsToLeaf tree key spot.node x
-      leads-to-leaf x same = record {
-        context = is.at.context;
-        whole = ap (plug is.at.context) (sym (here.part ∙ ap (Leaf spot.node) same)) ∙ is.at.whole;
-        leads = is.at.leads;
+  -- the key ends there
+  pub node-begins : spot.depth + n ≡ length key → BeginsAll tree key spot
+  node-begins ends =
+      let shared = alike-second front key (spot.depth + n) node-alike (omega (arith, ends)) in
+      record {
+        at = is.at;
+        begins = subst (λ part. All (λ leaf. IsProperPrefixOf key leaf.1) (leaves part)) (sym there.is) (All-weaker (λ leaf. GoesOn front leaf.1) (λ leaf. IsProperPrefixOf key leaf.1)
+            (λ leaf goes. (
+              prefix-on key front leaf.1 shared (goes-begins front leaf.1 goes),
+              λ same. omega (arith, goes-longer front leaf.1 goes, ap length shared.1, length-append key shared.0, ap length same),
+            )) (branch_leaves there.branches) (branches-go-on front there.branches (here-sound is holds).2));
       }
 
-      module _ (n : ℕ) (counted : n ≡ common_prefix_len nat_eq (drop spot.depth (leaf_text text leaf)) (drop spot.depth key)) where
-        leaf-alike : AreAlike (leaf_text text leaf) key (spot.depth + n)
-        leaf-alike =
-            let rest : drop spot.depth (leaf_text text leaf) ≡ here.begins.0 = ap (drop spot.depth) here.begins.1 ∙ drop_at (path_to is.at.context) here.begins.0 spot.depth is.at.deep in
-            subst (λ t. AreAlike t key (spot.depth + n)) (ap (λ z. path_to is.at.context ++ z) rest ∙ sym here.begins.1)
-            (alike-below (path_to is.at.context) (drop spot.depth (leaf_text text leaf)) key spot.depth n is.at.deep is.at.leads counted)
+  -- it goes on
+  module _ (goes_on : (spot.depth + n ≡ length key) → ⊥) where
+    pub inside : spot.depth + n < length key
+    inside = omega (arith, matched-within, goes_on)
 
-        pub leaf-within : (spot.depth + n ≤ length (leaf_text text leaf)) × (spot.depth + n ≤ length key)
-        leaf-within = (
-          omega (arith, ap length leaf-alike.a_is, length-append leaf-alike.front leaf-alike.left, leaf-alike.long),
-          omega (arith, ap length leaf-alike.b_is, length-append leaf-alike.front leaf-alike.right, leaf-alike.long),
-        )
+    abbrev next : ℕ
+    next = get_or key (spot.depth + n) 0
 
-        -- they end together
-        pub leaf-same : spot.depth + n ≡ length (leaf_text text leaf) → spot.depth + n ≡ length key → leaf_text text leaf ≡ key
-        leaf-same first second =
-            let left : leaf-alike.left ≡ [] = nil_from_length leaf-alike.left (omega (arith, first, ap length leaf-alike.a_is, length-append leaf-alike.front leaf-alike.left, leaf-alike.long)) in
-            let right : leaf-alike.right ≡ [] = nil_from_length leaf-alike.right (omega (arith, second, ap length leaf-alike.b_is, length-append leaf-alike.front leaf-alike.right, leaf-alike.long)) in
-            leaf-alike.a_is ∙ ap (λ z. leaf-alike.front ++ z) (left ∙ sym right) ∙ sym leaf-alike.b_is
+    -- and differs from the prefix
+    pub node-parts : n < length prefix → Parts tree key spot (record { index = spot.depth + n; byte = next; node_byte = get_or prefix n 0 })
+    node-parts short =
+        parts-at is front (spot.depth + n) next (get_or prefix n 0) (told-way is holds) node-alike (omega arith)
+        (sym (slice_get-drop front spot.depth n) ∙ ap (λ rest. slice_get rest n) (drop_at (path_to is.at.context) there.prefix spot.depth is.at.deep) ∙ slice_get-get_or there.prefix n 0 (omega (arith, short, ap length prefix_is)) ∙ ap (λ p. Some (get_or p n 0)) (sym prefix_is))
+        (slice_get-get_or key (spot.depth + n) 0 inside)
 
-        -- the leaf's text ends before the key, or the key before the leaf's text
-        pub leaf-extends : leaf_text text leaf ≢ key → spot.depth + n ≡ length (leaf_text text leaf) → IsProperPrefixOf (leaf_text text leaf) key
-        leaf-extends differ ends = (alike-first (leaf_text text leaf) key (spot.depth + n) leaf-alike (omega (arith, ends)), differ)
+    -- or leads past all of it
+    module _ (all : length prefix ≤ n) where
+      whole : n ≡ length there.prefix
+      whole = omega (arith, all, ap length prefix_is, (common_prefix_len-le nat_eq there.prefix (drop spot.depth key)).0, counted)
 
-        pub leaf-begins : leaf_text text leaf ≢ key → spot.depth + n ≡ length key → BeginsAll tree key spot
-        leaf-begins differ ends = record {
-          at = is.at;
-          begins = subst (λ part. All (λ leaf. IsProperPrefixOf key leaf.1) (leaves part)) (sym here.part)
-              (All-cons (λ leaf. IsProperPrefixOf key leaf.1) (spot.node, leaf_text text leaf) [] (alike-second (leaf_text text leaf) key (spot.depth + n) leaf-alike (omega (arith, ends)), λ same. differ (sym same)) (All-nil (λ leaf. IsProperPrefixOf key leaf.1)));
+      leads-on : IsPrefixOf (front ++ next ∷ []) key
+      leads-on = prefix-byte front key (spot.depth + n) next (omega (arith, way-long is holds, whole)) (alike-first front key (spot.depth + n) node-alike (omega (arith, way-long is holds, whole))) (slice_get-get_or key (spot.depth + n) 0 inside)
+
+      -- where there is no child under the next byte
+      pub node-lacks : child_at node.children next ≡ None → LacksChild tree key spot next
+      node-lacks none = record {
+        at = is.at;
+        prefix = there.prefix;
+        branches = there.branches;
+        part = there.is;
+        leads = leads-on;
+        absent = ap (λ children. child_at children next) (sym there.shows.children) ∙ none;
+      }
+
+      -- or one, where its way goes on
+      module _ {child : OpaqueNodePtr K V P} (some : child_at node.children next ≡ Some child) where
+        split : IsSplit there.branches next child
+        split = split-at there.branches next child (ap (λ children. child_at children next) (sym there.shows.children) ∙ some)
+
+        abbrev node-leads : IsSpotIn text arena tree key (record { node = child; depth = spot.depth + n + 1; parent = Some (spot.node, next) })
+        node-leads = record {
+          stands = is.stands;
+          sound = is.sound;
+          at = record {
+            context = Under is.at.context spot.node there.prefix split.before next split.after;
+            part = split.tree;
+            whole = ap (plug is.at.context) (ap (Inner spot.node there.prefix) split.whole ∙ sym there.is) ∙ is.at.whole;
+            at_root = split.at_root;
+            leads = leads-on;
+            deep = omega (arith, length-append front (next ∷ []), way-long is holds, whole);
+            hangs = refl;
+          };
         }
 
-        -- they part
-        pub leaf-parts : spot.depth + n < length (leaf_text text leaf) → spot.depth + n < length key → Parts tree key spot (record { index = spot.depth + n; byte = get_or key (spot.depth + n) 0; node_byte = get_or (leaf_text text leaf) (spot.depth + n) 0 })
-        leaf-parts in_text in_key =
-            parts-at (leaf_text text leaf) (spot.depth + n) (get_or key (spot.depth + n) 0) (get_or (leaf_text text leaf) (spot.depth + n) 0) (ap (reach (path_to is.at.context)) here.part) leaf-alike (omega arith)
-            (slice_get-get_or (leaf_text text leaf) (spot.depth + n) 0 in_text) (slice_get-get_or key (spot.depth + n) 0 in_key)
+        toward-next : toward (drop spot.depth key) is.at.part ≡ toward (drop (spot.depth + n + 1) key) split.tree
+        toward-next =
+            let past : spot.depth + (n + 1) ≡ spot.depth + n + 1 = omega arith in
+            let next-at : slice_get (drop spot.depth key) n ≡ Some next = slice_get-drop key spot.depth n ∙ slice_get-get_or key (spot.depth + n) 0 inside in
+            ap (toward (drop spot.depth key)) there.is
+            ∙ toward-child spot.node there.prefix there.branches next child split (drop spot.depth key) (ap (slice_get (drop spot.depth key)) (sym whole) ∙ next-at)
+            ∙ ap (λ rest. toward rest split.tree) (ap (λ m. drop (m + 1) (drop spot.depth key)) (sym whole) ∙ drop-drop (n + 1) spot.depth key ∙ ap (λ m. drop m key) past)
+
+        pub node-descends : (known : Option (List ℕ)) → IfSome known (HasLeafText (toward (drop spot.depth key) is.at.part)) → IsDescentIn text arena tree key (record { node = child; depth = spot.depth + n + 1; parent = Some (spot.node, next) }) known
+        node-descends known below = record { spot_in = node-leads; below = subst (λ part. IfSome known (HasLeafText part)) toward-next below }
+
+-- or a leaf is held there, whose text was read
+module _ {K V : Type 0} {P : ℕ} {text : K → List ℕ} {arena : NodeArena K V P} {tree : Tree (OpaqueNodePtr K V P)} {key : List ℕ} {spot : Spot K V P} {pointer : OpaqueNodePtr K V P} {leaf : LeafNode K V P} {own : K} {x : List ℕ} (is : IsSpotIn text arena tree key spot) (at : spot.node ≡ pointer) (holds : held arena pointer ≡ HeldLeaf leaf) (read : x ≡ text own) (of : own ≡ leaf_key leaf) where
+  text_is : leaf_text text leaf ≡ x
+  text_is = sym (read ∙ ap text of)
+
+  part_is : is.at.part ≡ Leaf spot.node x
+  part_is = leaf-part text arena spot.node leaf is.at.part is.at.at_root (part-stands is) (ap (held arena) at ∙ holds) ∙ ap (Leaf spot.node) text_is
+
+  x-begins : IsPrefixOf (path_to is.at.context) x
+  x-begins = (subst (IsSound (path_to is.at.context)) part_is (part-sound is)).0
+
+  pub leaf-deep : spot.depth ≤ length x
+  leaf-deep = omega (arith, is.at.deep, ap length x-begins.1, length-append (path_to is.at.context) x-begins.0)
+
+  -- the key leads to the leaf
+  leads-to-leaf : LeadsToLeaf tree key pointer x
+  leads-to-leaf = subst (λ pointer. LeadsToLeaf tree key pointer x) at (record { context = is.at.context; whole = ap (plug is.at.context) (sym part_is) ∙ is.at.whole; leads = is.at.leads })
+
+  module _ {n : ℕ} (told : n ≡ common_prefix_len nat_eq (take (length x - spot.depth) (drop spot.depth x)) (take (length key - spot.depth) (drop spot.depth key))) where
+    leaf-alike : AreAlike x key (spot.depth + n)
+    leaf-alike =
+        let counted = told ∙ ap (λ z. common_prefix_len nat_eq z (take (length key - spot.depth) (drop spot.depth key))) (take_rest x spot.depth) ∙ ap (common_prefix_len nat_eq (drop spot.depth x)) (take_rest key spot.depth) in
+        let rest : drop spot.depth x ≡ x-begins.0 = ap (drop spot.depth) x-begins.1 ∙ drop_at (path_to is.at.context) x-begins.0 spot.depth is.at.deep in
+        subst (λ t. AreAlike t key (spot.depth + n)) (ap (λ z. path_to is.at.context ++ z) rest ∙ sym x-begins.1) (alike-below (path_to is.at.context) (drop spot.depth x) key spot.depth n is.at.deep is.at.leads counted)
+
+    pub leaf-within : (spot.depth + n ≤ length x) × (spot.depth + n ≤ length key)
+    leaf-within = (
+      omega (arith, ap length leaf-alike.a_is, length-append leaf-alike.front leaf-alike.left, leaf-alike.long),
+      omega (arith, ap length leaf-alike.b_is, length-append leaf-alike.front leaf-alike.right, leaf-alike.long),
+    )
+
+    -- they end together
+    pub leaf-same : spot.depth + n ≡ length x → spot.depth + n ≡ length key → LeadsToLeaf tree key pointer key
+    leaf-same first second =
+        let left : leaf-alike.left ≡ [] = nil_from_length leaf-alike.left (omega (arith, first, ap length leaf-alike.a_is, length-append leaf-alike.front leaf-alike.left, leaf-alike.long)) in
+        let right : leaf-alike.right ≡ [] = nil_from_length leaf-alike.right (omega (arith, second, ap length leaf-alike.b_is, length-append leaf-alike.front leaf-alike.right, leaf-alike.long)) in
+        let same : x ≡ key = leaf-alike.a_is ∙ ap (λ z. leaf-alike.front ++ z) (left ∙ sym right) ∙ sym leaf-alike.b_is in
+        subst (LeadsToLeaf tree key pointer) same leads-to-leaf
+
+    -- the leaf's text ends before the key, or the key before the leaf's text
+    pub leaf-extends : spot.depth + n ≡ length x → spot.depth + n ≢ length key → (z : List ℕ) × LeadsToLeaf tree key pointer z × IsProperPrefixOf z key
+    leaf-extends ends longer = (x, leads-to-leaf, (alike-first x key (spot.depth + n) leaf-alike (omega (arith, ends)), λ same. longer (ends ∙ ap length same)))
+
+    pub leaf-begins : spot.depth + n ≢ length x → spot.depth + n ≡ length key → BeginsAll tree key spot
+    leaf-begins longer ends = record {
+      at = is.at;
+      begins = subst (λ part. All (λ leaf. IsProperPrefixOf key leaf.1) (leaves part)) (sym part_is)
+          (All-cons (λ leaf. IsProperPrefixOf key leaf.1) (spot.node, x) [] (alike-second x key (spot.depth + n) leaf-alike (omega (arith, ends)), λ same. longer (ends ∙ ap length same)) (All-nil (λ leaf. IsProperPrefixOf key leaf.1)));
+    }
+
+    -- they part
+    pub leaf-parts : spot.depth + n ≢ length x → spot.depth + n ≢ length key → Parts tree key spot (record { index = spot.depth + n; byte = get_or key (spot.depth + n) 0; node_byte = get_or x (spot.depth + n) 0 })
+    leaf-parts in_text in_key =
+        parts-at is x (spot.depth + n) (get_or key (spot.depth + n) 0) (get_or x (spot.depth + n) 0) (ap (reach (path_to is.at.context)) part_is) leaf-alike (omega arith)
+        (slice_get-get_or x (spot.depth + n) 0 (omega (arith, leaf-within.0, in_text))) (slice_get-get_or key (spot.depth + n) 0 (omega (arith, leaf-within.1, in_key)))
 
 module _ {H : Type 0} (tree : Tree H) (key : List ℕ) where
   -- a leaf to which a key leads is in the tree
@@ -411,7 +357,7 @@ module _ {H : Type 0} (tree : Tree H) (key : List ℕ) where
 
   -- so a key that extends its text clashes
   pub extends-clash : (pointer : H) (x : List ℕ) → LeadsToLeaf tree key pointer x → IsProperPrefixOf x key → Clashes (texts tree) key
-  extends-clash pointer x at longer = (x, in-map (λ leaf. leaf.1) (leaves tree) (pointer, x) (leaf-inside pointer x at), inl longer)
+  extends-clash pointer x at longer = (x, image_inside (λ leaf. leaf.1) (leaves tree) (pointer, x) x refl (leaf-inside pointer x at), inl longer)
 
 -- and so does one that begins all texts at a spot
 pub begins-clash : {K V : Type 0} {P : ℕ} (tree : Tree (OpaqueNodePtr K V P)) (key : List ℕ) (spot : Spot K V P) → IsWellFormed tree → BeginsAll tree key spot → Clashes (texts tree) key

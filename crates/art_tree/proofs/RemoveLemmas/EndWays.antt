@@ -1,22 +1,5 @@
 -- Removal: the way to the leaf at an end of a tree.
-use Rattle.std.proofs.Common.{◌≡◌, ◌∙◌, ℕ, ◌<◌, ◌≤◌, ◌^◌, List, [], ◌∷◌, ◌++◌, length, Some, refl, sym, ap, subst, arith}
-use Rattle.art_header.specs.declared.node_type.NodeType.TheVariants as kinds
-use Rattle.art_nodes.specs.Inner as nodes
-use Rattle.art_nodes.specs.Pointers.{node_kind}
-use Rattle.art_nodes.specs.declared.pointers.OpaqueNodePtr.{OpaqueNodePtr}
-use Rattle.art_arena.specs.Arena.{NodeArena, HeldInner, HeldLeaf, held}
-use Rattle.art_arena.specs.Ends.{IsAtEnd, end_pair}
-use Rattle.art_arena.specs.Standing.{IsTreeIn, StandsIn, TreeAt}
-use Rattle.art_arena.specs.Trees.{Tree, Leaf, Inner, Branches, NoBranch, Branch, leaves, root_of, IsSound, IsWellFormed}
-use Rattle.art_arena.specs.declared.ends.End.{End}
-use Rattle.art_arena.specs.declared.ends.End.TheVariants.{First, Last}
-use Rattle.art_arena.proofs.Heights.{branches_height, height, lower-child, tree_height}
-use Rattle.art_arena.proofs.StandingLaws.{one-inner}
-use Rattle.art_tree.specs.Contexts.{Context, Whole, Under, join, path_to, plug}
-use Rattle.art_tree.specs.Dropping.{IsAtPath, steps_to}
-use Rattle.art_tree.specs.Paths.{HasVisited, Steps, path_of}
-use Rattle.art_tree.specs.declared.path.TreePath.{TreePath}
-use Rattle.art_tree.specs.declared.path.TreePathSearch.{TreePathSearch}
+use Rattle.art_tree.proofs.Names.{LeafKind, ◌≡◌, ◌∙◌, ℕ, ◌<◌, ◌≤◌, ◌^◌, List, [], ◌∷◌, ◌++◌, length, Some, refl, sym, ap, subst, arith, node_kind, OpaqueNodePtr, NodeArena, HeldInner, HeldLeaf, held, IsAtEnd, end_pair, IsTreeIn, StandsIn, TreeAt, Tree, Leaf, Inner, Branches, NoBranch, Branch, leaves, root_of, IsSound, IsWellFormed, End, First, Last, branches_height, height, lower-child, tree_height, one-inner, Context, Whole, Under, join, path_to, plug, IsAtPath, steps_to, HasVisited, Steps, path_of, TreePath, InnerNode}
 use Rattle.art_tree.proofs.SharedLemmas.EndBranches.{after_end, before_end, end-branch, end-leaves, end-pair, end-sound, end-stands}
 use Rattle.art_tree.proofs.SharedLemmas.ExchangedSubtree.{sound-part, stands-part}
 use Rattle.art_tree.proofs.SharedLemmas.ParentLemmas.{inner-kind}
@@ -28,7 +11,7 @@ module _ {H : Type 0} where
   among-high (Branch b other more) byte tree after = omega (arith, among-high more byte tree after)
 
 -- an inner node at which a tree stands has children
-pub some-child : {K V : Type 0} {P : ℕ} (text : K → List ℕ) (arena : NodeArena K V P) (at : OpaqueNodePtr K V P) → TreeAt text arena at → (node : nodes.Inner (OpaqueNodePtr K V P)) → held arena at ≡ HeldInner node → 0 < length node.children
+pub some-child : {K V : Type 0} {P : ℕ} (text : K → List ℕ) (arena : NodeArena K V P) (at : OpaqueNodePtr K V P) → TreeAt text arena at → (node : InnerNode (OpaqueNodePtr K V P)) → held arena at ≡ HeldInner node → 0 < length node.children
 some-child {K = K} {V = V} {P = P} text arena at found node holds = by_tree found.tree found.at_root found.stands found.sound
   where
     by_tree : (tree : Tree (OpaqueNodePtr K V P)) → root_of tree ≡ at → StandsIn text arena tree → IsSound found.path tree → 0 < length node.children
@@ -38,7 +21,7 @@ some-child {K = K} {V = V} {P = P} text arena at found node holds = by_tree foun
         omega (arith, sound.0, ap length (sym (ap (λ n. n.children) (sym one) ∙ shows.children)))
 
 -- the visits lead to a part of the tree, whose leaf at the end is the tree's
-pub record IsEndWay {K V : Type 0} {P : ℕ} (end : End) (tree : Tree (OpaqueNodePtr K V P)) (visits : TreePathSearch K V P) (at : OpaqueNodePtr K V P) : Type 0 where
+pub record IsEndWay {K V : Type 0} {P : ℕ} (end : End) (tree : Tree (OpaqueNodePtr K V P)) (visits : TreePath K V P) (at : OpaqueNodePtr K V P) : Type 0 where
   pub context : Context (OpaqueNodePtr K V P)
   pub part : Tree (OpaqueNodePtr K V P)
   pub whole : plug context part ≡ tree
@@ -48,10 +31,10 @@ pub record IsEndWay {K V : Type 0} {P : ℕ} (end : End) (tree : Tree (OpaqueNod
 
 module _ {K V : Type 0} {P : ℕ} (text : K → List ℕ) (arena : NodeArena K V P) (end : End) (root : OpaqueNodePtr K V P) (tree : Tree (OpaqueNodePtr K V P)) (is : IsTreeIn text arena root tree) where
   -- it begins at the root
-  pub end-start : (visits : TreePathSearch K V P) → HasVisited visits [] → IsEndWay end tree visits root
+  pub end-start : (visits : TreePath K V P) → HasVisited visits [] → IsEndWay end tree visits root
   end-start visits none = record { context = Whole; part = tree; whole = refl; at_root = is.at_root; visited = none; ends = λ leaf at_end. at_end }
 
-  module _ (visits : TreePathSearch K V P) (at : OpaqueNodePtr K V P) (on : IsEndWay end tree visits at) where
+  module _ (visits : TreePath K V P) (at : OpaqueNodePtr K V P) (on : IsEndWay end tree visits at) where
     pub stands-there : StandsIn text arena on.part
     stands-there = stands-part text arena arena on.context on.part (subst (StandsIn text arena) (sym on.whole) is.stands)
 
@@ -62,8 +45,8 @@ module _ {K V : Type 0} {P : ℕ} (text : K → List ℕ) (arena : NodeArena K V
     tree-there = record { tree = on.part; path = path_to on.context; at_root = on.at_root; stands = stands-there; sound = sound-there }
 
     -- it goes on at the child at the end, which is lower
-    pub end-step : (node : nodes.Inner (OpaqueNodePtr K V P)) (byte : ℕ) (child : OpaqueNodePtr K V P) → held arena at ≡ HeldInner node → end_pair end node.children ≡ Some (byte, child)
-        → (next : TreePathSearch K V P) → ((steps : Steps K V P) → HasVisited visits steps → HasVisited next (steps ++ (at, byte) ∷ [])) → IsEndWay end tree next child × (height arena (2 ^ 64) child < height arena (2 ^ 64) at)
+    pub end-step : (node : InnerNode (OpaqueNodePtr K V P)) (byte : ℕ) (child : OpaqueNodePtr K V P) → held arena at ≡ HeldInner node → end_pair end node.children ≡ Some (byte, child)
+        → (next : TreePath K V P) → ((steps : Steps K V P) → HasVisited visits steps → HasVisited next (steps ++ (at, byte) ∷ [])) → IsEndWay end tree next child × (height arena (2 ^ 64) child < height arena (2 ^ 64) at)
     end-step node byte child holds pair next visit = by_part on.part on.whole on.at_root stands-there sound-there on.ends
       where
         by_part : (part : Tree (OpaqueNodePtr K V P)) → plug on.context part ≡ tree → root_of part ≡ at → StandsIn text arena part → IsSound (path_to on.context) part → ((leaf : OpaqueNodePtr K V P) → IsAtEnd end (leaves part) leaf → IsAtEnd end (leaves tree) leaf)
@@ -89,16 +72,16 @@ module _ {K V : Type 0} {P : ℕ} (text : K → List ℕ) (arena : NodeArena K V
             )
 
     -- and ends at a leaf
-    pub end-found : node_kind at ≡ kinds.Leaf → (path : TreePath K V P) → ((steps : Steps K V P) → HasVisited visits steps → path ≡ path_of steps) → IsAtPath tree at path × IsAtEnd end (leaves tree) at
+    pub end-found : node_kind at ≡ LeafKind → (path : TreePath K V P) → ((steps : Steps K V P) → HasVisited visits steps → path ≡ path_of steps) → ((x : List ℕ) × IsAtPath tree at path x) × IsAtEnd end (leaves tree) at
     end-found kind path finish = by_part on.part on.whole on.at_root stands-there on.ends
       where
         itself : (side : End) (p : OpaqueNodePtr K V P) (x : List ℕ) → p ≡ at → IsAtEnd side ((p, x) ∷ []) at
         itself First p x same = (x, [], ap (λ q. (q, x) ∷ []) same)
         itself Last p x same = (x, [], ap (λ q. (q, x) ∷ []) same)
 
-        by_part : (part : Tree (OpaqueNodePtr K V P)) → plug on.context part ≡ tree → root_of part ≡ at → StandsIn text arena part → ((leaf : OpaqueNodePtr K V P) → IsAtEnd end (leaves part) leaf → IsAtEnd end (leaves tree) leaf) → IsAtPath tree at path × IsAtEnd end (leaves tree) at
+        by_part : (part : Tree (OpaqueNodePtr K V P)) → plug on.context part ≡ tree → root_of part ≡ at → StandsIn text arena part → ((leaf : OpaqueNodePtr K V P) → IsAtEnd end (leaves part) leaf → IsAtEnd end (leaves tree) leaf) → ((x : List ℕ) × IsAtPath tree at path x) × IsAtEnd end (leaves tree) at
         by_part (Leaf p x) whole top stands ends = (
-          (steps_to on.context, record { context = on.context; text = x; whole = ap (λ q. plug on.context (Leaf q x)) (sym top) ∙ whole; same = refl }, finish (steps_to on.context) on.visited),
+          (x, (steps_to on.context, record { context = on.context; text = x; whole = ap (λ q. plug on.context (Leaf q x)) (sym top) ∙ whole; same = refl }, refl, finish (steps_to on.context) on.visited)),
           ends at (itself end p x top),
         )
         by_part (Inner p prefix branches) whole top (own, own_holds, shows, stand) ends = absurd (inner-kind arena at own (ap (held arena) (sym top) ∙ own_holds) kind)

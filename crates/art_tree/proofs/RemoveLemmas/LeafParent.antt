@@ -1,28 +1,13 @@
 -- Removal: a leaf of a tree and its parent.
-use Rattle.std.proofs.Common.{◌≡◌, ◌≢◌, ◌⊎◌, ◌∙◌, ℕ, ◌+◌, List, [], ◌∷◌, ◌++◌, length, Contains, Option, Some, refl, sym, ap, subst, inl, inr, arith}
-use Rattle.std.proofs.lemmas.List.Elements.{All-contains, Contains-append_left, Contains-append_right, Contains-append_cases}
-use Rattle.art_header.specs.declared.node_type.NodeType.TheVariants as kinds
-use Rattle.art_nodes.specs.Inner as nodes
-use Rattle.art_nodes.specs.Leaf.{leaf_key, leaf_value}
-use Rattle.art_nodes.specs.Pointers.{node_kind, opaque_key}
-use Rattle.art_nodes.specs.declared.pointers.OpaqueNodePtr.{OpaqueNodePtr}
-use Rattle.art_nodes.specs.declared.leaf_node.LeafNode.{LeafNode}
-use Rattle.art_arena.specs.Arena.{NodeArena, HeldInner, HeldLeaf, Nothing, held}
-use Rattle.art_arena.specs.Links.{AreDistinct, Spells}
-use Rattle.art_arena.specs.Standing.{NodeStands, StandsIn, AllStandIn}
-use Rattle.art_arena.specs.Trees.{Tree, Leaf, Inner, Branch, branch_roots, branch_leaves, texts, places, branch_places, IsSound}
-use Rattle.art_tree.specs.Art.{IsAlone}
-use Rattle.art_tree.specs.Contexts.{plug, path_to, leaves_before, leaves_after, join}
-use Rattle.art_tree.specs.Dictionary.{entry_at}
-use Rattle.art_tree.specs.Dropping.{HangsUnder}
-use Rattle.art_tree.specs.Loading.{HasSmallestKinds}
+use Rattle.art_tree.proofs.Names.{◌≡◌, ◌≢◌, ◌⊎◌, ◌∙◌, ℕ, ◌+◌, List, [], ◌∷◌, ◌++◌, length, Contains, Option, Some, refl, sym, ap, subst, inl, inr, arith, All-contains, Contains-append_left, Contains-append_right, Contains-append_cases, leaf_key, leaf_value, node_kind, opaque_key, OpaqueNodePtr, LeafNode, NodeArena, HeldInner, HeldLeaf, Nothing, held, AreDistinct, Spells, NodeStands, StandsIn, AllStandIn, Tree, Leaf, Inner, Branch, branch_roots, branch_leaves, places, branch_places, IsSound, IsAlone, plug, path_to, leaves_before, leaves_after, join, entry_at, HangsUnder, HasSmallestKinds, the_one, LeafKind, InnerNode}
 use Rattle.art_tree.proofs.InsertLemmas.AddedLeaf.{leaves-filled}
-use Rattle.art_tree.proofs.SharedLemmas.DictionaryLemmas.{AreApart, held-entry}
+use Rattle.art_tree.proofs.SharedLemmas.DictionaryLemmas.{held-entry}
 use Rattle.art_tree.proofs.RemoveLemmas.RemainingTree.{dropped-count}
-use Rattle.art_tree.proofs.SharedLemmas.ExchangedSubtree.{AreDistinct-split, distinct-part, places-node, smallest_kinds-part, sound-part, stands-part, the-one}
+use Rattle.art_tree.proofs.SharedLemmas.ExchangedSubtree.{AreDistinct-split, distinct-part, places-node, smallest_kinds-part, sound-part, stands-part}
 use Rattle.art_tree.proofs.InsertLemmas.GapLemmas.{keys_of, keys-append}
 use Rattle.art_tree.proofs.SharedLemmas.ParentLemmas.{inner-kind}
 use Rattle.art_tree.proofs.InsertLemmas.NodeLemmas.{some-inner}
+use Rattle.art_tree.proofs.SharedLemmas.TreeLaws.{apart-there, distinct-places}
 use Rattle.art_tree.proofs.SharedLemmas.BranchLemmas.{stand-join, stand-split}
 
 module _ {K V : Type 0} {P : ℕ} {leaf parent : OpaqueNodePtr K V P} {byte : ℕ} {higher : Option (OpaqueNodePtr K V P × ℕ)} {tree : Tree (OpaqueNodePtr K V P)} where
@@ -43,19 +28,20 @@ module _ {K V : Type 0} {P : ℕ} {leaf parent : OpaqueNodePtr K V P} {byte : �
     pub stands : StandsIn text old (part_there hangs)
     pub sound : IsSound (path_to hangs.upper) (part_there hangs)
     pub smallest_kinds : HasSmallestKinds (part_there hangs)
-    pub node : nodes.Inner (OpaqueNodePtr K V P)
+    pub node : InnerNode (OpaqueNodePtr K V P)
     pub is_held : held old parent ≡ HeldInner node
     pub shows : NodeStands P node hangs.prefix (join hangs.before (Branch byte (Leaf leaf hangs.text) hangs.after))
     pub others_stand : AllStandIn text old (join hangs.before hangs.after)
     pub count : length node.children ≡ length (branch_roots (join hangs.before hangs.after)) + 1
     pub some_held : held old parent ≢ Nothing
-    pub inner : node_kind parent ≢ kinds.Leaf
+    pub inner : node_kind parent ≢ LeafKind
     pub no_leaf : (l : LeafNode K V P) → held old parent ≡ HeldLeaf l → ⊥
     pub apart : parent ≢ leaf
     pub own : LeafNode K V P
     pub own_held : held old leaf ≡ HeldLeaf own
     pub own_text : text (leaf_key own) ≡ hangs.text
-    pub entry : AreApart (texts (plug hangs.upper (part_there hangs))) → entry_at text old hangs.text ≡ Some (leaf_key own, leaf_value own)
+    pub entry : entry_at text old hangs.text ≡ Some (leaf_key own, leaf_value own)
+    pub distinct : AreDistinct (places (plug hangs.upper (part_there hangs)))
     pub inside : Contains (places (part_there hangs)) leaf
     pub spelled : Spells old (keys_of (left_there hangs) ++ opaque_key leaf ∷ keys_of (right_there hangs))
 
@@ -86,7 +72,8 @@ module _ {K V : Type 0} {P : ℕ} {leaf parent : OpaqueNodePtr K V P} {byte : �
         own = own;
         own_held = own_held;
         own_text = own_text;
-        entry = λ apart. ap (entry_at text old) (sym own_text) ∙ held-entry text old root (plug hangs.upper part) alone apart leaf own own_held;
+        entry = ap (entry_at text old) (sym own_text) ∙ held-entry text old root (plug hangs.upper part) alone (apart-there alone) leaf own own_held;
+        distinct = distinct-places alone;
         inside = subst (λ all. Contains all leaf) (sym (places-node parent hangs.prefix before byte (Leaf leaf hangs.text) after)) (Contains-append_right (parent ∷ branch_places before) (leaf ∷ branch_places after) leaf (0, omega arith, refl));
         spelled = subst (Spells old) (ap keys_of (leaves-filled hangs.upper hangs.prefix parent before byte leaf hangs.text after) ∙ keys-append (left_there hangs) ((leaf, hangs.text) ∷ right_there hangs)) alone.spelled;
       }
@@ -121,11 +108,11 @@ module _ {K V : Type 0} {P : ℕ} {leaf parent : OpaqueNodePtr K V P} {byte : �
         let lefts = branch_places hangs.before in
         let rights = branch_places hangs.after in
         elim (Contains-append_cases (parent ∷ []) (lefts ++ leaf ∷ rights) q (subst (λ all. Contains all q) (places-node parent hangs.prefix hangs.before byte (Leaf leaf hangs.text) hangs.after) inside)) [
-          | inl here ↦ inl (sym (the-one parent q here))
+          | inl here ↦ inl (sym (the_one parent q here))
           | inr below ↦ elim (Contains-append_cases lefts (leaf ∷ rights) q below) [
             | inl left ↦ inr (inr (Contains-append_left lefts rights q left))
             | inr from ↦ elim (Contains-append_cases (leaf ∷ []) rights q from) [
-              | inl own ↦ inr (inl (sym (the-one leaf q own)))
+              | inl own ↦ inr (inl (sym (the_one leaf q own)))
               | inr right ↦ inr (inr (Contains-append_right lefts rights q right))
             ]
           ]

@@ -1,18 +1,5 @@
 -- The nodes that a tree needs for a leaf less.
-use Rattle.std.proofs.Common.{◌≡◌, ◌≢◌, ◌∙◌, ℕ, ◌+◌, ◌≤◌, List, ◌∷◌, ◌++◌, length, map, Contains, Option, Some, sym, ap, subst, inl, inr, arith}
-use Rattle.art_header.specs.NodeType.{kind_for, least_children, shrunk_kind}
-use Rattle.art_header.specs.declared.node_type.NodeType.{NodeType}
-use Rattle.art_header.specs.declared.node_type.NodeType.TheVariants as kinds
-use Rattle.art_nodes.specs.Pointers.{node_kind}
-use Rattle.art_nodes.specs.declared.pointers.OpaqueNodePtr.{OpaqueNodePtr}
-use Rattle.art_arena.specs.Arena.{NodeArena, room}
-use Rattle.art_arena.specs.Trees.{Tree, Leaf, Inner, branch_roots, leaves, texts}
-use Rattle.art_tree.specs.Contexts.{plug, path_to, join}
-use Rattle.art_tree.specs.Dictionary.{HasEntry}
-use Rattle.art_tree.specs.Dropping.{HangsUnder}
-use Rattle.art_tree.specs.NodeCounts.{one_if_same}
-use Rattle.art_tree.specs.Reserving.{LacksRoomToShrink}
-use Rattle.art_tree.specs.Room.{LacksRoomToRemove}
+use Rattle.art_tree.proofs.Names.{◌≡◌, ◌≢◌, ◌∙◌, ℕ, ◌+◌, ◌≤◌, List, ◌∷◌, ◌++◌, length, map, Contains, Option, Some, sym, ap, subst, inl, inr, arith, kind_for, least_children, shrunk_kind, NodeType, node_kind, OpaqueNodePtr, NodeArena, room, Tree, Leaf, Inner, branch_roots, leaves, texts, plug, path_to, join, HasEntry, HangsUnder, one_if_same, LacksRoomToShrink, LacksRoomToRemove, Node4}
 use Rattle.art_tree.proofs.InsertLemmas.AddedLeaf.{leaves-filled, leaves-parted}
 use Rattle.art_tree.proofs.InsertLemmas.NeededNodes.{nodes-taken}
 use Rattle.art_tree.proofs.RemoveLemmas.LeafParent.{LeafPlace, left_there, part_there, right_there}
@@ -23,12 +10,12 @@ use Rattle.art_tree.proofs.SharedLemmas.DictionaryLemmas.{AreApart, entry-of-tex
 use Rattle.art_tree.proofs.SharedLemmas.ExchangedSubtree.{sound-whole}
 use Rattle.art_tree.proofs.SharedLemmas.NodeCounts.{more-around, one-same, shrunk-no-leaf, shrunk-other}
 use Rattle.art_tree.proofs.SharedLemmas.TextLists.{text-or-new, text-stays}
+use Rattle.art_tree.proofs.SharedLemmas.TreeLaws.{apart-there}
 
 abbrev texts_of : {H : Type 0} → List (H × List ℕ) → List (List ℕ)
 texts_of all = map (λ leaf. leaf.1) all
 
-module _ {K V : Type 0} {P : ℕ} {text : K → List ℕ} {old : NodeArena K V P} {root leaf parent : OpaqueNodePtr K V P} {byte : ℕ} {higher : Option (OpaqueNodePtr K V P × ℕ)} {tree : Tree (OpaqueNodePtr K V P)} {hangs : HangsUnder tree leaf parent byte higher} (place : LeafPlace text old root hangs)
-    (apart : AreApart (texts (plug hangs.upper (part_there hangs)))) where
+module _ {K V : Type 0} {P : ℕ} {text : K → List ℕ} {old : NodeArena K V P} {root leaf parent : OpaqueNodePtr K V P} {byte : ℕ} {higher : Option (OpaqueNodePtr K V P × ℕ)} {tree : Tree (OpaqueNodePtr K V P)} {hangs : HangsUnder tree leaf parent byte higher} (place : LeafPlace text old root hangs) where
   abbrev now : Tree (OpaqueNodePtr K V P)
   now = Inner parent hangs.prefix (join hangs.before hangs.after)
 
@@ -50,10 +37,10 @@ module _ {K V : Type 0} {P : ℕ} {text : K → List ℕ} {old : NodeArena K V P
   is-text : (other : List ℕ) → Contains (texts (plug hangs.upper now)) other → HasEntry text old other × (other ≢ hangs.text)
   is-text other inside =
       let there = subst (λ all. Contains all other) new-texts inside in (
-        entry-of-text text old root (plug hangs.upper (part_there hangs)) place.alone apart other (subst (λ all. Contains all other) (sym old-texts) (text-stays left right leaf hangs.text other there)),
+        entry-of-text text old root (plug hangs.upper (part_there hangs)) place.alone (apart-there place.alone) other (subst (λ all. Contains all other) (sym old-texts) (text-stays left right leaf hangs.text other there)),
         λ same.
             let found = leaf-with (left ++ right) hangs.text (subst (Contains (texts_of (left ++ right))) same there) in
-            text-gone left right leaf hangs.text (subst AreApart old-texts apart) found.0 found.1,
+            text-gone left right leaf hangs.text (subst AreApart old-texts (apart-there place.alone)) found.0 found.1,
       )
 
   has-text : (other : List ℕ) → HasEntry text old other × (other ≢ hangs.text) → Contains (texts (plug hangs.upper now)) other
@@ -71,7 +58,7 @@ module _ {K V : Type 0} {P : ℕ} {text : K → List ℕ} {old : NodeArena K V P
       let own : node_kind parent ≡ kind_for (count + 1) = place.smallest_kinds.0 ∙ ap (λ children. kind_for (length children)) (sym place.shows.children) ∙ ap kind_for place.count in
       let shrunk = shrunk_kind (node_kind parent) in
       let is : shrunk ≡ kind_for count = kind-shrinks count (node_kind parent) two own (sym place.count ∙ least) in
-      let large : node_kind parent ≢ kinds.Node4 = λ small. omega (arith, many, least, ap least_children small) in
+      let large : node_kind parent ≢ Node4 = λ small. omega (arith, many, least, ap least_children small) in
       let none_before : one_if_same shrunk (kind_for (count + 1)) ≡ 0 = ap (one_if_same shrunk) (sym own) ∙ shrunk-other (node_kind parent) large place.inner in
       let one_after : one_if_same shrunk (kind_for count) ≡ 1 = ap (one_if_same shrunk) (sym is) ∙ one-same shrunk in
       let before = nodes-taken shrunk parent hangs.prefix hangs.before byte leaf hangs.text hangs.after in

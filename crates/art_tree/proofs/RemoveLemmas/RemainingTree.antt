@@ -1,20 +1,8 @@
 -- Removal: a part of a tree without one of its leaves.
-use Rattle.std.proofs.Common.{◌≡◌, ◌≢◌, ◌∙◌, ℕ, suc, ◌+◌, ◌<◌, ◌≤◌, ◌^◌, List, [], ◌∷◌, ◌++◌, length, length-append, map, Contains, Option, Some, None, refl, sym, ap, subst, inl, inr, arith, append_assoc, append-nil}
-use Rattle.std.proofs.lemmas.Bool.{eq-eqb, ne_eqb}
-use Rattle.std.proofs.lemmas.List.Elements.{Contains-append_right, Contains-append_cases}
-use Rattle.art_nodes.specs.ChildMap.{ChildMap, IsAscending, IsAscendingFrom, key_bytes, child_at, without_child}
-use Rattle.art_nodes.specs.declared.pointers.OpaqueNodePtr.{OpaqueNodePtr}
-use Rattle.art_nodes.proofs.ChildMapLaws.{ascending_removed, child_at_removed}
-use Rattle.art_arena.specs.Arena.{NodeArena}
-use Rattle.art_arena.specs.Trees.{Tree, Leaf, Inner, Branches, NoBranch, Branch, branch_roots, root_of, leaves, branch_leaves, texts, branch_texts, places, branch_places, IsSound, AreSound}
-use Rattle.art_tree.specs.Art.{IsAlone}
-use Rattle.art_tree.specs.Dictionary.{entry_at}
-use Rattle.art_tree.specs.Loading.{HasSmallestKinds, HaveSmallestKinds}
-use Rattle.art_tree.specs.Contexts.{join}
+use Rattle.art_tree.proofs.Names.{◌≡◌, ◌≢◌, ◌∙◌, ℕ, suc, ◌+◌, ◌<◌, ◌≤◌, ◌^◌, List, [], ◌∷◌, ◌++◌, length, length-append, map, Contains, Some, None, refl, sym, ap, subst, inl, inr, arith, append_assoc, append-nil, eq-eqb, ne_eqb, Contains-append_right, Contains-append_cases, ChildMap, IsAscending, IsAscendingFrom, key_bytes, child_at, without_child, OpaqueNodePtr, ascending_removed, child_at_removed, NodeArena, Tree, Leaf, Inner, Branches, NoBranch, Branch, branch_roots, root_of, leaves, branch_leaves, texts, branch_texts, places, branch_places, IsSound, AreSound, IsAlone, entry_at, HasSmallestKinds, HaveSmallestKinds, join, prefix-shorter, by_option, the_one}
 use Rattle.art_tree.proofs.SharedLemmas.BranchLemmas.{roots-join, leaves-join, places-join, sound-join, one_branch, sound-split, smallest_kinds-join, smallest_kinds-split}
 use Rattle.art_tree.proofs.SharedLemmas.DictionaryLemmas.{AreApart, leaf-of-entry, not-later}
-use Rattle.art_tree.proofs.SharedLemmas.ExchangedSubtree.{before-byte, the-one}
-use Rattle.art_bytes.proofs.PrefixLaws.{prefix-shorter}
+use Rattle.art_tree.proofs.SharedLemmas.ExchangedSubtree.{before-byte}
 use Rattle.art_tree.proofs.PlaceLemmas.WayPlaces.{branch-text}
 
 -- the tree with these bytes and this byte before its own prefix; a leaf is as it was
@@ -184,7 +172,7 @@ module _ {K V : Type 0} {P : ℕ} where
 pub text-gone : {H : Type 0} (left right : List (H × List ℕ)) (leaf : H) (x : List ℕ) → AreApart (map (λ pair. pair.1) (left ++ (leaf, x) ∷ right)) → (p : H) → Contains (left ++ right) (p, x) → ⊥
 text-gone [] right leaf x apart p inside = not-later (leaf, x) right leaf p x apart refl inside
 text-gone (y ∷ left) right leaf x apart p inside = elim (Contains-append_cases (y ∷ []) (left ++ right) (p, x) inside) [
-  | inl here ↦ not-later y (left ++ (leaf, x) ∷ right) p leaf x apart (the-one y (p, x) here) (Contains-append_right left ((leaf, x) ∷ right) (leaf, x) (0, omega arith, refl))
+  | inl here ↦ not-later y (left ++ (leaf, x) ∷ right) p leaf x apart (the_one y (p, x) here) (Contains-append_right left ((leaf, x) ∷ right) (leaf, x) (0, omega arith, refl))
   | inr later ↦ text-gone left right leaf x (λ i j d earlier within. apart (suc i) (suc j) d (omega (arith, earlier)) (omega (arith, within))) p later
 ]
 
@@ -192,10 +180,7 @@ module _ {K V : Type 0} {P : ℕ} (text : K → List ℕ) (new : NodeArena K V P
   -- so the text of a leaf that a tree is without has no entry
   pub gone-entry : (root_now : OpaqueNodePtr K V P) (now : Tree (OpaqueNodePtr K V P)) → IsAlone text new root_now now → (tree : Tree (OpaqueNodePtr K V P)) → AreApart (texts tree) → (left right : List (OpaqueNodePtr K V P × List ℕ)) (leaf : OpaqueNodePtr K V P) (x : List ℕ)
       → leaves tree ≡ left ++ (leaf, x) ∷ right → leaves now ≡ left ++ right → entry_at text new x ≡ None
-  gone-entry root_now now alone tree apart left right leaf x were are = by_entry (entry_at text new x) refl
-    where
-      by_entry : (o : Option (K × V)) → entry_at text new x ≡ o → entry_at text new x ≡ None
-      by_entry None is = is
-      by_entry (Some entry) is =
-          let found = leaf-of-entry text new root_now now alone x entry is in
-          absurd (text-gone left right leaf x (subst (λ all. AreApart (map (λ pair. pair.1) all)) were apart) found.pointer (subst (λ all. Contains all (found.pointer, x)) are found.inside))
+  gone-entry root_now now alone tree apart left right leaf x were are =
+      by_option (entry_at text new x) (entry_at text new x ≡ None) (λ is. is) (λ entry is.
+      let found = leaf-of-entry text new root_now now alone x entry is in
+      absurd (text-gone left right leaf x (subst (λ all. AreApart (map (λ pair. pair.1) all)) were apart) found.pointer (subst (λ all. Contains all (found.pointer, x)) are found.inside)))

@@ -1,55 +1,32 @@
 -- Removal: a leaf of a node of more than two children.
-use Rattle.std.proofs.Common.{◌≡◌, ◌≢◌, ◌↔◌, ◌⊎◌, ◌∙◌, Bool, IsTrue, ℕ, ◌+◌, ◌<◌, ◌≤◌, List, [], ◌∷◌, ◌++◌, length, Contains, Option, Some, None, refl, sym, ap, subst, inl, inr, arith}
-use Rattle.std.proofs.lemmas.List.Elements.{Contains-append_right}
-use Rattle.art_header.specs.NodeType.{kind_for, least_children, shrunk_kind}
-use Rattle.art_header.specs.declared.node_type.NodeType.{NodeType}
-use Rattle.art_header.specs.declared.node_type.NodeType.TheVariants as kinds
-use Rattle.art_nodes.specs.ChildMap.{child_at, without_child}
-use Rattle.art_nodes.specs.Inner as nodes
-use Rattle.art_nodes.specs.Leaf.{leaf_key, leaf_value}
-use Rattle.art_nodes.specs.Pointers.{node_kind, opaque_key}
-use Rattle.art_nodes.specs.declared.pointers.OpaqueNodePtr.{OpaqueNodePtr}
-use Rattle.art_nodes.specs.declared.leaf_node.LeafNode.{LeafNode}
-use Rattle.art_arena.specs.Arena.{NodeArena, HeldInner, HeldLeaf, Nothing, held, room}
-use Rattle.art_arena.specs.Links.{AreDistinct, Spells}
-use Rattle.art_arena.specs.Standing.{AllStandIn}
-use Rattle.art_arena.specs.Trees.{Tree, Leaf, Inner, Branch, branch_roots, branch_leaves, texts, places, branch_places, IsSound}
-use Rattle.art_tree.specs.Contexts.{plug, path_to, KeepsAt, join}
-use Rattle.art_tree.specs.Cuts.{HasOneLess, HasRoomToShrink, TellsFewest}
-use Rattle.art_tree.specs.Dropping.{HangsUnder}
-use Rattle.art_tree.specs.Edits.{StaysAt}
-use Rattle.art_tree.specs.Hanging.{CanHang, IsHung}
-use Rattle.art_tree.specs.Places.{above}
-use Rattle.art_tree.specs.Removal.{IsRemoved, NeedsSmallerNode}
+use Rattle.art_tree.proofs.Names.{◌≡◌, ◌≢◌, ◌↔◌, ◌⊎◌, ◌∙◌, Bool, IsTrue, ℕ, ◌+◌, ◌<◌, ◌≤◌, List, [], ◌∷◌, ◌++◌, length, Contains, Option, Some, None, refl, sym, ap, subst, inl, inr, arith, Contains-append_right, kind_for, least_children, shrunk_kind, NodeType, child_at, without_child, node_kind, opaque_key, OpaqueNodePtr, LeafNode, NodeArena, HeldInner, HeldLeaf, Nothing, held, room, AllStandIn, Tree, Leaf, Inner, Branch, branch_roots, branch_leaves, branch_places, path_to, KeepsAt, join, HasOneLess, HasRoomToShrink, TellsFewest, HangsUnder, IsTaken, CanHang, IsHung, above, IsRemoved, NeedsSmallerNode, leaf_kind, one-inner, LeafKind, Node16, Node256, Node4, Node48, InnerNode, node_without_child}
 use Rattle.art_tree.proofs.SharedLemmas.BranchLemmas.{leaves-join, places-join, roots-join}
 use Rattle.art_tree.proofs.SharedLemmas.ChangedTree.{held-on, place-held}
 use Rattle.art_tree.proofs.RemoveLemmas.RemovedLeaf.{AreRemovalSteps, HasDropped, can-hang, leaf-removed, inside-kept, last-inside, top-last}
-use Rattle.art_tree.proofs.SharedLemmas.DictionaryLemmas.{AreApart}
 use Rattle.art_tree.proofs.RemoveLemmas.RemainingTree.{dropped-child, dropped-roots, dropped-sound, left-smallest_kinds}
 use Rattle.art_tree.proofs.SharedLemmas.ExchangedSubtree.{kept-branches}
 use Rattle.art_tree.proofs.RemoveLemmas.LeafParent.{LeafPlace, is-other, part_there, place-cases}
 use Rattle.art_tree.proofs.InsertLemmas.NodeLemmas.{some-inner}
 use Rattle.art_tree.proofs.InsertLemmas.SubtreeLemmas.{leaves-taken}
-use Rattle.art_arena.proofs.StandingLaws.{leaf_kind, one-inner}
 use Rattle.art_tree.proofs.SharedLemmas.NodeKinds.{kind-lasts, kind-shrinks, least-fits}
 
-shrunk-inner : (kind : NodeType) → kind ≢ kinds.Leaf → shrunk_kind kind ≢ kinds.Leaf
-shrunk-inner kinds.Node4 inner = λ e. cc
-shrunk-inner kinds.Node16 inner = λ e. cc
-shrunk-inner kinds.Node48 inner = λ e. cc
-shrunk-inner kinds.Node256 inner = λ e. cc
-shrunk-inner kinds.Leaf inner = absurd (inner refl)
+shrunk-inner : (kind : NodeType) → kind ≢ LeafKind → shrunk_kind kind ≢ LeafKind
+shrunk-inner Node4 inner = λ e. cc
+shrunk-inner Node16 inner = λ e. cc
+shrunk-inner Node48 inner = λ e. cc
+shrunk-inner Node256 inner = λ e. cc
+shrunk-inner LeafKind inner = absurd (inner refl)
 
 module _ {K V : Type 0} {P : ℕ} {text : K → List ℕ} {old : NodeArena K V P} {root leaf parent : OpaqueNodePtr K V P} {byte : ℕ} {higher : Option (OpaqueNodePtr K V P × ℕ)} {tree : Tree (OpaqueNodePtr K V P)} {hangs : HangsUnder tree leaf parent byte higher} (place : LeafPlace text old root hangs) where
   -- a node that would be of a smaller kind without the leaf has 5, 17 or 49 children
-  least-counts : (kind : NodeType) → kind ≢ kinds.Leaf → 2 < length place.node.children → length place.node.children ≡ least_children kind → (length place.node.children ≡ 5) ⊎ ((length place.node.children ≡ 17) ⊎ (length place.node.children ≡ 49))
-  least-counts kinds.Node4 inner two least = absurd (omega (arith, two, least))
-  least-counts kinds.Node16 inner two least = inl least
-  least-counts kinds.Node48 inner two least = inr (inl least)
-  least-counts kinds.Node256 inner two least = inr (inr least)
-  least-counts kinds.Leaf inner two least = absurd (inner refl)
+  least-counts : (kind : NodeType) → kind ≢ LeafKind → 2 < length place.node.children → length place.node.children ≡ least_children kind → (length place.node.children ≡ 5) ⊎ ((length place.node.children ≡ 17) ⊎ (length place.node.children ≡ 49))
+  least-counts Node4 inner two least = absurd (omega (arith, two, least))
+  least-counts Node16 inner two least = inl least
+  least-counts Node48 inner two least = inr (inl least)
+  least-counts Node256 inner two least = inr (inr least)
+  least-counts LeafKind inner two least = absurd (inner refl)
 
-  pub needs-smaller : ((node : nodes.Inner (OpaqueNodePtr K V P)) → held old parent ≡ HeldInner node → (2 < length node.children) × (length node.children ≡ least_children (node_kind parent))) → NeedsSmallerNode text old hangs.text
+  pub needs-smaller : ((node : InnerNode (OpaqueNodePtr K V P)) → held old parent ≡ HeldInner node → (2 < length node.children) × (length node.children ≡ least_children (node_kind parent))) → NeedsSmallerNode text old hangs.text
   needs-smaller few =
       let has = few place.node place.is_held in
       record {
@@ -66,25 +43,25 @@ module _ {K V : Type 0} {P : ℕ} {text : K → List ℕ} {old : NodeArena K V P
       }
 
   -- a node that has not two children has more
-  pub more-than-two : length place.node.children ≢ 2 → (node : nodes.Inner (OpaqueNodePtr K V P)) → held old parent ≡ HeldInner node → 2 < length node.children
+  pub more-than-two : length place.node.children ≢ 2 → (node : InnerNode (OpaqueNodePtr K V P)) → held old parent ≡ HeldInner node → 2 < length node.children
   more-than-two many node is =
       let same = ap (λ n. length n.children) (one-inner (held old parent) place.node node place.is_held is) in
       omega (arith, same, many, ap length place.shows.children, place.sound.0)
 
   -- where no smaller kind is needed, the node has more than the fewest children of its kind
-  pub not-least : length place.node.children ≢ 2 → (¬ NeedsSmallerNode text old hangs.text) → (node : nodes.Inner (OpaqueNodePtr K V P)) → held old parent ≡ HeldInner node → length node.children ≢ least_children (node_kind parent)
+  pub not-least : length place.node.children ≢ 2 → (¬ NeedsSmallerNode text old hangs.text) → (node : InnerNode (OpaqueNodePtr K V P)) → held old parent ≡ HeldInner node → length node.children ≢ least_children (node_kind parent)
   not-least many enough node is least =
       enough (needs-smaller (λ other there. (more-than-two many other there, ap (λ n. length n.children) (one-inner (held old parent) other node there is) ∙ least)))
 
   -- the node is as it was once the leaf is taken
-  module _ (without : NodeArena K V P) (gone : held without leaf ≡ Nothing) (stays : (p : OpaqueNodePtr K V P) → p ≢ leaf → StaysAt old without p) where
+  module _ {without : NodeArena K V P} {entry : K × V} (taken : IsTaken old without leaf entry) where
     pub parent-is : held without parent ≡ HeldInner place.node
-    parent-is = (stays parent place.apart).keeps.inner place.node place.is_held
+    parent-is = (taken.others parent place.apart).keeps.inner place.node place.is_held
 
     pub parent-held : held without parent ≢ Nothing
     parent-held = some-inner (held without parent) place.node parent-is
 
-    pub child-there : (node : nodes.Inner (OpaqueNodePtr K V P)) → held without parent ≡ HeldInner node → child_at node.children byte ≢ None
+    pub child-there : (node : InnerNode (OpaqueNodePtr K V P)) → held without parent ≡ HeldInner node → child_at node.children byte ≢ None
     child-there node is none =
         let same = one-inner (held without parent) place.node node parent-is is in
         let some = ap (λ n. child_at n.children byte) (sym same) ∙ ap (λ children. child_at children byte) place.shows.children ∙ dropped-child hangs.before byte (Leaf leaf hangs.text) hangs.after place.sound.1 in
@@ -100,22 +77,22 @@ module _ {K V : Type 0} {P : ℕ} {text : K → List ℕ} {old : NodeArena K V P
       kind-there : node_kind parent ≡ kind_for (length place.node.children)
       kind-there = place.smallest_kinds.0 ∙ ap (λ children. kind_for (length children)) (sym place.shows.children)
 
-      pub parent-many : (node : nodes.Inner (OpaqueNodePtr K V P)) → held without parent ≡ HeldInner node → (2 < length node.children) × (least_children (node_kind parent) ≤ length node.children)
+      pub parent-many : (node : InnerNode (OpaqueNodePtr K V P)) → held without parent ≡ HeldInner node → (2 < length node.children) × (least_children (node_kind parent) ≤ length node.children)
       parent-many node is =
           let same = ap (λ n. length n.children) (one-inner (held without parent) place.node node parent-is is) in (
             omega (arith, same, three),
             subst (λ n. least_children (node_kind parent) ≤ n) same (subst (λ k. least_children k ≤ length place.node.children) (sym kind-there) (least-fits (length place.node.children) (omega (arith, three)))),
           )
 
-      pub room-to-shrink : ((node : nodes.Inner (OpaqueNodePtr K V P)) → held old parent ≡ HeldInner node → 2 < length node.children → length node.children ≡ least_children (node_kind parent) → 0 < room old (shrunk_kind (node_kind parent))) → ((kind : NodeType) → room old kind ≤ room without kind) → HasRoomToShrink without parent
-      room-to-shrink rooms more node is two least =
+      pub room-to-shrink : ((node : InnerNode (OpaqueNodePtr K V P)) → held old parent ≡ HeldInner node → 2 < length node.children → length node.children ≡ least_children (node_kind parent) → 0 < room old (shrunk_kind (node_kind parent))) → HasRoomToShrink without parent
+      room-to-shrink rooms node is two least =
           let same = one-inner (held without parent) place.node node parent-is is in
           let was = rooms place.node place.is_held (subst (λ n. 2 < length n.children) (sym same) two) (ap (λ n. length n.children) same ∙ least) in
-          omega (arith, was, more (shrunk_kind (node_kind parent)))
+          omega (arith, was, taken.room (shrunk_kind (node_kind parent)))
 
       -- the node has a child less, and may be at another place
-      module _ (new : NodeArena K V P) (top : OpaqueNodePtr K V P) (distinct : AreDistinct (places (plug hangs.upper (part_there hangs)))) (less : HasOneLess without new parent place.node (nodes.node_without_child place.node byte) top) where
-        top-held : held new top ≡ HeldInner (nodes.node_without_child place.node byte)
+      module _ (new : NodeArena K V P) (top : OpaqueNodePtr K V P) (less : HasOneLess without new parent place.node (node_without_child place.node byte) top) where
+        top-held : held new top ≡ HeldInner (node_without_child place.node byte)
         top-held = elim less [ inl cutting ↦ ap (held new) cutting.same ∙ cutting.changes.changed | inr shrunk ↦ shrunk.replaced.is_held ]
 
         top-apart : top ≢ leaf
@@ -127,7 +104,7 @@ module _ {K V : Type 0} {P : ℕ} {text : K → List ℕ} {old : NodeArena K V P
         top-no-leaf : (l : LeafNode K V P) → held old top ≡ HeldLeaf l → ⊥
         top-no-leaf l is = elim less [
           | inl cutting ↦ (let wrong : HeldInner place.node ≡ HeldLeaf l = sym place.is_held ∙ ap (held old) (sym cutting.same) ∙ is in absurd (cc))
-          | inr shrunk ↦ (let now = (stays top top-apart).keeps.leaf l is in let wrong : HeldLeaf now.0 ≡ Nothing = sym now.1 ∙ shrunk.replaced.was_free in absurd (cc))
+          | inr shrunk ↦ (let now = (taken.others top top-apart).keeps.leaf l is in let wrong : HeldLeaf now.0 ≡ Nothing = sym now.1 ∙ shrunk.replaced.was_free in absurd (cc))
         ]
 
         abbrev many-steps : AreRemovalSteps text old without new hangs.upper (part_there hangs) root leaf top
@@ -135,10 +112,10 @@ module _ {K V : Type 0} {P : ℕ} {text : K → List ℕ} {old : NodeArena K V P
           stood = place.alone.is_tree.stands;
           sound = place.alone.is_tree.sound;
           was_root = place.alone.is_tree.at_root;
-          distinct = distinct;
+          distinct = place.distinct;
           inside = place.inside;
-          gone = gone;
-          stays = stays;
+          gone = taken.gone;
+          stays = taken.others;
           other = top-apart;
           top_was = elim less [ inl cutting ↦ inl (0, omega arith, sym cutting.same) | inr shrunk ↦ inr shrunk.replaced.was_free ];
           top_leaf = λ l is. absurd (top-no-leaf l is);
@@ -149,8 +126,7 @@ module _ {K V : Type 0} {P : ℕ} {text : K → List ℕ} {old : NodeArena K V P
         pub many-hangs : CanHang new higher parent
         many-hangs = subst (λ above. CanHang new above parent) hangs.hangs (can-hang text old without new hangs.upper (part_there hangs) root leaf top many-steps)
 
-        module _ (last : NodeArena K V P) (root_now : OpaqueNodePtr K V P) (hung : IsHung new last higher top root root_now)
-            (spells : (left right : List ℕ) → Spells old (left ++ opaque_key leaf ∷ right) → Spells without (left ++ right)) where
+        module _ (last : NodeArena K V P) (root_now : OpaqueNodePtr K V P) (hung : IsHung new last higher top root root_now) where
           hung-there : IsHung new last (above hangs.upper) top root root_now
           hung-there = subst (λ h. IsHung new last h top root root_now) (sym hangs.hangs) hung
 
@@ -158,16 +134,16 @@ module _ {K V : Type 0} {P : ℕ} {text : K → List ℕ} {old : NodeArena K V P
           now_there = Inner top hangs.prefix (join hangs.before hangs.after)
 
           leaf-last : held last leaf ≡ Nothing
-          leaf-last = last-inside text old without new hangs.upper (part_there hangs) root leaf top many-steps last root_now hung-there leaf place.inside ∙ many-steps.same leaf (λ same. top-apart (sym same)) (λ same. place.apart (sym same)) ∙ gone
+          leaf-last = last-inside text old without new hangs.upper (part_there hangs) root leaf top many-steps last root_now hung-there leaf place.inside ∙ many-steps.same leaf (λ same. top-apart (sym same)) (λ same. place.apart (sym same)) ∙ taken.gone
 
           others-stand : AllStandIn text last (join hangs.before hangs.after)
           others-stand =
               let kept : (q : OpaqueNodePtr K V P) → Contains (branch_places hangs.before ++ branch_places hangs.after) q → KeepsAt old last q =
               λ q inside.
-              let is = is-other hangs distinct q inside in
+              let is = is-other hangs place.distinct q inside in
               inside-kept text old without new hangs.upper (part_there hangs) root leaf top many-steps last root_now hung-there q is.inside is.not_leaf (λ same. elim less [
                 | inl cutting ↦ is.not_parent (same ∙ cutting.same)
-                | inr shrunk ↦ held-on old without q (stays q is.not_leaf) (place-held text old (part_there hangs) place.stands q is.inside) (ap (held without) same ∙ shrunk.replaced.was_free)
+                | inr shrunk ↦ held-on old without q (taken.others q is.not_leaf) (place-held text old (part_there hangs) place.stands q is.inside) (ap (held without) same ∙ shrunk.replaced.was_free)
               ]) is.not_parent in
               kept-branches text old last (join hangs.before hangs.after) place.others_stand (λ q inside. kept q (subst (λ all. Contains all q) (places-join hangs.before hangs.after) inside))
 
@@ -175,7 +151,7 @@ module _ {K V : Type 0} {P : ℕ} {text : K → List ℕ} {old : NodeArena K V P
           many-dropped = record {
             at_root = refl;
             stands = (
-              nodes.node_without_child place.node byte,
+              node_without_child place.node byte,
               top-last text old without new hangs.upper (part_there hangs) root leaf top many-steps last root_now hung-there ∙ top-held,
               record {
                 prefix_len = place.shows.prefix_len;
@@ -188,7 +164,7 @@ module _ {K V : Type 0} {P : ℕ} {text : K → List ℕ} {old : NodeArena K V P
             smallest_kinds = (top-kind, left-smallest_kinds hangs.before byte (Leaf leaf hangs.text) hangs.after place.smallest_kinds.1);
             was = leaves-taken hangs.prefix parent hangs.before byte leaf hangs.text hangs.after;
             is = leaves-join hangs.before hangs.after;
-            spelled = spells _ _ place.spelled;
+            spelled = taken.spelled _ _ place.spelled;
             freed = λ p inside. elim (place-cases hangs p inside) [
               | inl at ↦ elim less [
                 | inl cutting ↦ inl (0, omega arith, cutting.same ∙ sym at)
@@ -211,7 +187,7 @@ module _ {K V : Type 0} {P : ℕ} {text : K → List ℕ} {old : NodeArena K V P
                   ]
 
           -- the tree has all entries but that of the leaf
-          pub many-removed : ((path : List ℕ) (t : Tree (OpaqueNodePtr K V P)) → IsSound path t → AreApart (texts t)) → IsRemoved text old last hangs.text root_now (leaf_key place.own, leaf_value place.own)
-          many-removed apart =
+          pub many-removed : IsRemoved text old last hangs.text (Some root_now) entry
+          many-removed =
               leaf-removed text old without new hangs.upper (part_there hangs) root leaf top many-steps last root_now hung-there now_there hangs.text (branch_leaves hangs.before) (branch_leaves hangs.after) many-dropped
-              place.alone apart (leaf_key place.own, leaf_value place.own) place.entry
+              place.alone entry (place.entry ∙ ap Some (sym (taken.entry place.own place.own_held)))

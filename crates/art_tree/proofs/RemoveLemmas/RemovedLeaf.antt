@@ -1,24 +1,5 @@
 -- Removal: a tree with one leaf less, after the steps of a removal.
-use Rattle.std.proofs.Common.{◌≡◌, ◌≢◌, ◌⊎◌, ◌∙◌, ℕ, ◌<◌, ◌^◌, List, [], ◌∷◌, ◌++◌, length, map, All, Contains, Some, refl, sym, ap, subst, inl, inr, arith, append_assoc}
-use Rattle.std.proofs.lemmas.List.{map-append}
-use Rattle.std.proofs.lemmas.List.Elements.{All-append, All-tail, Contains-append_right}
-use Rattle.art_header.specs.declared.node_type.NodeType.TheVariants as kinds
-use Rattle.art_nodes.specs.Pointers.{opaque_pointer}
-use Rattle.art_nodes.specs.Leaf.{leaf_key}
-use Rattle.art_nodes.specs.declared.pointers.OpaqueNodePtr.{OpaqueNodePtr}
-use Rattle.art_nodes.specs.declared.leaf_node.LeafNode.{LeafNode}
-use Rattle.art_arena.specs.Arena.{NodeArena, HeldLeaf, Nothing, held, held_leaf, SameNodes}
-use Rattle.art_arena.specs.Links.{AreDistinct, Spells, leaf_at}
-use Rattle.art_arena.specs.Standing.{StandsIn}
-use Rattle.art_arena.specs.Trees.{Tree, leaves, places, root_of, texts, IsSound, IsWellFormed}
-use Rattle.art_tree.specs.Art.{IsAlone}
-use Rattle.art_tree.specs.Contexts.{Context, plug, path_to, leaves_before, leaves_after, parent, Adopts, KeepsAt, IsExchanged}
-use Rattle.art_tree.specs.Dictionary.{entry_at}
-use Rattle.art_tree.specs.Edits.{StaysAt}
-use Rattle.art_tree.specs.Hanging.{CanHang, IsHung}
-use Rattle.art_tree.specs.Loading.{HasSmallestKinds}
-use Rattle.art_tree.specs.Places.{above}
-use Rattle.art_tree.specs.Removal.{IsRemoved}
+use Rattle.art_tree.proofs.Names.{◌≡◌, ◌≢◌, ◌⊎◌, ◌∙◌, ℕ, ◌<◌, ◌^◌, List, ◌∷◌, ◌++◌, length, map, All, Contains, Some, refl, sym, ap, subst, inl, inr, arith, append_assoc, Option, map-append, All-append, All-tail, Contains-append_right, opaque_pointer, leaf_key, OpaqueNodePtr, LeafNode, NodeArena, HeldLeaf, Nothing, held, held_leaf, SameNodes, AreDistinct, Spells, leaf_at, StandsIn, Tree, leaves, places, root_of, texts, IsSound, IsWellFormed, IsAlone, Context, plug, path_to, leaves_before, leaves_after, parent, Adopts, KeepsAt, IsExchanged, entry_at, StaysAt, CanHang, IsHung, HasSmallestKinds, above, IsRemoved, all_left, all_right, LeafKind}
 use Rattle.art_tree.proofs.SharedLemmas.ChangedTree.{HangsAt, IsAbove, can-hang-at, hangs-at, held-on, keeps-on, leaf-no-parent, parent-above, place-held, root-place, was-leaf}
 use Rattle.art_tree.proofs.SharedLemmas.DictionaryLemmas.{AreApart, leaf-held-in}
 use Rattle.art_tree.proofs.RemoveLemmas.RemainingTree.{gone-entry}
@@ -26,9 +7,9 @@ use Rattle.art_tree.proofs.SharedLemmas.ExchangedSubtree.{in-part, leaves-plug}
 use Rattle.art_tree.proofs.InsertLemmas.GapLemmas.{keys_of, keys-append}
 use Rattle.art_tree.proofs.SharedLemmas.ExchangedTree.{alone-grown, entries-but, entries-stay, leaf-stays, leaf-was, texts-part}
 use Rattle.art_tree.proofs.InsertLemmas.NodeLemmas.{one-leaf, some-inner}
-use Rattle.art_tree.proofs.FindLemmas.OnlyWayLemmas.{All-left, All-right}
 use Rattle.art_tree.proofs.SharedLemmas.HeldNodes.{cases_pointer, leaf-of}
 use Rattle.art_tree.proofs.SharedLemmas.SpelledLists.{spells-on}
+use Rattle.art_tree.proofs.SharedLemmas.TreeLaws.{apart-there}
 
 -- the steps of a removal: from the first arena to the next a leaf is removed, from there to the
 -- third its parent is changed or replaced, and then the new node is put there
@@ -126,7 +107,7 @@ module _ {K V : Type 0} {P : ℕ} (text : K → List ℕ) (old without new : Nod
       -- lists of leaves are spelled on to the end
       leaf-at-last : (k : ℕ) (l : LeafNode K V P) → leaf_at without k ≡ Some l → leaf_at last k ≡ Some l
       leaf-at-last k l at =
-          let p = opaque_pointer kinds.Leaf k in
+          let p = opaque_pointer LeafKind k in
           let there : held without p ≡ HeldLeaf l = ap held_leaf at in
           let other : p ≢ leaf = λ same. (let wrong : HeldLeaf l ≡ Nothing = sym there ∙ ap (held without) same ∙ steps.gone in absurd (cc)) in
           let (was, is) = was-leaf old without p l (steps.stays p other) there in
@@ -169,7 +150,7 @@ module _ {K V : Type 0} {P : ℕ} (text : K → List ℕ) (old without new : Nod
           fewer-texts Q each =
               let of : List (OpaqueNodePtr K V P × List ℕ) → List (List ℕ) = map (λ l. l.1) in
               let all = subst (All Q) (ap of has.was ∙ map-append (λ l. l.1) lefts ((leaf, x) ∷ rights)) each in
-              subst (All Q) (sym (ap of has.is ∙ map-append (λ l. l.1) lefts rights)) (All-append Q (of lefts) (of rights) (All-left Q (of lefts) (x ∷ of rights) all) (All-tail Q x (of rights) (All-right Q (of lefts) (x ∷ of rights) all)))
+              subst (All Q) (sym (ap of has.is ∙ map-append (λ l. l.1) lefts rights)) (All-append Q (of lefts) (of rights) (all_left Q (of lefts) (x ∷ of rights) all) (All-tail Q x (of rights) (all_right Q (of lefts) (x ∷ of rights) all)))
 
           exchanged : IsExchanged old last text context part now
           exchanged = record {
@@ -209,24 +190,27 @@ module _ {K V : Type 0} {P : ℕ} (text : K → List ℕ) (old without new : Nod
               (λ p y inside differ. (leaf-was left right leaf x (plug context now) (plug context part) whole-is whole-was p y inside differ, keeps p y inside differ))
 
           -- the tree has all entries but that of the leaf
-          pub leaf-removed : IsAlone text old root (plug context part) → ((path : List ℕ) (t : Tree (OpaqueNodePtr K V P)) → IsSound path t → AreApart (texts t)) → (entry : K × V) → (AreApart (texts (plug context part)) → entry_at text old x ≡ Some entry) → IsRemoved text old last x root_now entry
-          leaf-removed alone apart entry was =
+          pub leaf-removed : IsAlone text old root (plug context part) → (entry : K × V) → entry_at text old x ≡ Some entry → IsRemoved text old last x (Some root_now) entry
+          leaf-removed alone entry was =
               let alone_now = left-alone alone in
-              let apart_old = apart [] (plug context part) alone.is_tree.sound in
-              let apart_now = apart [] (plug context now) alone_now.is_tree.sound in
+              let apart_old = apart-there alone in
               record {
                 art = (plug context now, alone_now);
                 left = record {
                   gone = gone-entry text last root_now (plug context now) alone_now (plug context part) apart_old left right leaf x whole-was whole-is;
-                  others = left-others alone apart_old apart_now;
+                  others = left-others alone apart_old (apart-there alone_now);
                   leaves = λ p l is differ. (leaves-kept p l is (other-leaf alone p l is differ)).leaf l is;
                 };
-                was = was apart_old;
+                was = was;
               }
 
 -- where the first step only made spare capacity, what is removed after it is removed by both
-pub removed-from : {K V : Type 0} {P : ℕ} (text : K → List ℕ) (old reserved last : NodeArena K V P) (x : List ℕ) (root_now : OpaqueNodePtr K V P) (entry : K × V) (root : OpaqueNodePtr K V P) (tree : Tree (OpaqueNodePtr K V P)) → IsAlone text old root tree → AreApart (texts tree) → SameNodes old reserved
-    → IsRemoved text reserved last x root_now entry → IsRemoved text old last x root_now entry
-removed-from text old reserved last x root_now entry root tree alone apart same removed =
-    let entries = entries-stay text old reserved same root tree alone apart in
-    record { art = removed.art; left = record { gone = removed.left.gone; others = λ y differ. removed.left.others y differ ∙ entries y; leaves = λ p l is differ. removed.left.leaves p l (same p ∙ is) differ }; was = sym (entries x) ∙ removed.was }
+pub removed-from : {K V : Type 0} {P : ℕ} {text : K → List ℕ} {old reserved last : NodeArena K V P} {x : List ℕ} {root_now : Option (OpaqueNodePtr K V P)} {entry : K × V} {root : OpaqueNodePtr K V P} {tree : Tree (OpaqueNodePtr K V P)} → IsAlone text old root tree → SameNodes old reserved → IsRemoved text reserved last x root_now entry
+    → IsRemoved text old last x root_now entry
+removed-from {text = text} {old = old} {reserved = reserved} {x = x} {root = root} {tree = tree} alone same removed =
+    let entries = entries-stay text old reserved same root tree alone (apart-there alone) in
+    record {
+      art = removed.art;
+      left = record { gone = removed.left.gone; others = λ y differ. removed.left.others y differ ∙ entries y; leaves = λ p l is differ. removed.left.leaves p l (same p ∙ is) differ };
+      was = sym (entries x) ∙ removed.was;
+    }

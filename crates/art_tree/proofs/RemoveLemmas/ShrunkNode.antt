@@ -1,23 +1,8 @@
 -- Removal: inner nodes with one child less, or with the prefix of the node above.
-use Rattle.std.proofs.Common.{◌≡◌, ◌≢◌, ◌∙◌, ℕ, ◌+◌, ◌-◌, ◌<◌, ◌≤◌, min, List, [], ◌∷◌, ◌++◌, length, length-append, take, None, refl, sym, ap, subst, inl, inr, arith, append_assoc, ◌==◌, ◌↔◌, IsTrue}
-use Rattle.std.proofs.lemmas.Bool.{cases_eq, cases_lt, eq-eqb, eqb-true, ne_eqb}
-use Rattle.std.proofs.Math.Seq.{take-append-add}
-use Rattle.std.proofs.lemmas.List.{take_all, take-take, take-append-le, length-take-le}
-use Rattle.art_header.specs.Header.{Header, capped, with_more, StandsFor}
-use Rattle.art_header.specs.NodeType.{least_children, shrunk_kind}
-use Rattle.art_header.specs.declared.node_type.NodeType.{NodeType}
-use Rattle.art_header.specs.declared.node_type.NodeType.TheVariants as kinds
-use Rattle.art_nodes.specs.ChildMap.{ChildMap, child_at, without_child}
-use Rattle.art_nodes.specs.Inner.{Inner, node_without_child}
-use Rattle.art_nodes.specs.Pointers.{node_kind, opaque_key}
-use Rattle.art_nodes.specs.declared.leaf_node.LeafNode.{LeafNode}
-use Rattle.art_nodes.specs.declared.pointers.OpaqueNodePtr.{OpaqueNodePtr}
-use Rattle.art_arena.specs.Arena.{NodeArena, Held, HeldInner, HeldLeaf, Nothing, held, room, Changes, SameRoom}
-use Rattle.art_tree.specs.Cuts.{HasOneLess, HasRoomToShrink}
-use Rattle.art_tree.specs.Nodes.{IsReplaced}
+use Rattle.art_tree.proofs.Names.{◌≡◌, ◌≢◌, ◌∙◌, ℕ, ◌+◌, ◌-◌, ◌<◌, ◌≤◌, min, List, [], ◌∷◌, ◌++◌, length, length-append, take, None, refl, sym, ap, subst, inl, inr, arith, append_assoc, ◌==◌, ◌↔◌, IsTrue, cases_eq, cases_lt, eq-eqb, eqb-true, ne_eqb, take-append-add, take_all, take-take, take-append-le, length-take-le, Header, capped, with_more, StandsFor, least_children, shrunk_kind, NodeType, ChildMap, child_at, without_child, node_without_child, node_kind, opaque_key, LeafNode, OpaqueNodePtr, NodeArena, Held, HeldInner, HeldLeaf, Nothing, held, room, Changes, SameRoom, HasOneLess, HasRoomToShrink, IsReplaced, leaf_kind, one-inner, LeafKind, Node4}
+use Rattle.art_nodes.specs.Inner.{Inner}
 use Rattle.art_tree.proofs.SharedLemmas.RoomLemmas.{same-room}
 use Rattle.art_tree.proofs.InsertLemmas.NodeLemmas.{some-inner}
-use Rattle.art_arena.proofs.StandingLaws.{leaf_kind, one-inner}
 
 -- what is at most a number and is not it is less
 pub less-where-differ : (least count : ℕ) → least ≤ count → count ≢ least → least < count
@@ -92,7 +77,7 @@ joined-stands size above below front back byte stands_above stands_below =
 
 module _ {K V : Type 0} {P : ℕ} where
   -- what stands at a pointer that is no leaf's is an inner node
-  pub inner-there : (arena : NodeArena K V P) (pointer : OpaqueNodePtr K V P) → held arena pointer ≢ Nothing → node_kind pointer ≢ kinds.Leaf → (node : Inner (OpaqueNodePtr K V P)) × (held arena pointer ≡ HeldInner node)
+  pub inner-there : (arena : NodeArena K V P) (pointer : OpaqueNodePtr K V P) → held arena pointer ≢ Nothing → node_kind pointer ≢ LeafKind → (node : Inner (OpaqueNodePtr K V P)) × (held arena pointer ≡ HeldInner node)
   inner-there arena pointer was inner = go (held arena pointer) refl
     where
       go : (there : Held (OpaqueNodePtr K V P) (LeafNode K V P)) → held arena pointer ≡ there → (node : Inner (OpaqueNodePtr K V P)) × (held arena pointer ≡ HeldInner node)
@@ -128,7 +113,7 @@ module _ {K V : Type 0} {P : ℕ} where
           subst (λ kind. IsReplaced old new pointer (shrunk_kind kind) node to) (sym is_kind) (subst (λ n. IsReplaced old new pointer (shrunk_kind kind) n to) one is_replaced)
 
   -- a node from which a child is taken in its place
-  module _ (old mid : NodeArena K V P) (pointer : OpaqueNodePtr K V P) (byte : ℕ) (was : held old pointer ≢ Nothing) (inner : node_kind pointer ≢ kinds.Leaf)
+  module _ (old mid : NodeArena K V P) (pointer : OpaqueNodePtr K V P) (byte : ℕ) (was : held old pointer ≢ Nothing) (inner : node_kind pointer ≢ LeafKind)
       (lost : (node : Inner (OpaqueNodePtr K V P)) → held old pointer ≡ HeldInner node → Changes old mid pointer (HeldInner (node_without_child node byte))) where
     before : (node : Inner (OpaqueNodePtr K V P)) × (held old pointer ≡ HeldInner node)
     before = inner-there old pointer was inner
@@ -146,7 +131,7 @@ module _ {K V : Type 0} {P : ℕ} where
           omega (arith, fewer before.0.children byte (has before.0 before.1), ap (λ n. length n.children) is_less, fewest before.0 before.1)
 
       -- the fewest of the smallest kind are two
-      pub not-smallest : ((node : Inner (OpaqueNodePtr K V P)) → held old pointer ≡ HeldInner node → (2 < length node.children) × (least_children (node_kind pointer) ≤ length node.children)) → node_kind pointer ≢ kinds.Node4
+      pub not-smallest : ((node : Inner (OpaqueNodePtr K V P)) → held old pointer ≡ HeldInner node → (2 < length node.children) × (least_children (node_kind pointer) ≤ length node.children)) → node_kind pointer ≢ Node4
       not-smallest many kind = omega (arith, (many before.0 before.1).0, fewest before.0 before.1, ap least_children kind)
 
       -- the spare capacity is unchanged

@@ -1,15 +1,5 @@
 -- Removal: the way to a leaf as the place of that leaf in the tree.
-use Rattle.std.proofs.Common.{◌≡◌, ◌∙◌, ℕ, List, [], ◌∷◌, ◌++◌, Option, Some, None, refl, sym, ap, inl, inr, append_assoc, append-nil}
-use Rattle.std.proofs.lemmas.Option.{same_Some}
-use Rattle.art_nodes.specs.declared.pointers.OpaqueNodePtr.{OpaqueNodePtr}
-use Rattle.art_arena.specs.Trees.{Tree, Leaf, Inner, Branches, NoBranch, Branch}
-use Rattle.art_tree.specs.Contexts.{Context, Whole, Under, plug, join}
-use Rattle.art_tree.specs.Dropping.{HangsUnder, HasLeafAt, IsAtPath, steps_to}
-use Rattle.art_tree.specs.Paths.{path_of}
-use Rattle.art_tree.specs.Places.{above}
-use Rattle.art_tree.specs.Search.{IsWay, IsWayUnder, IsPathTo}
-use Rattle.art_tree.specs.declared.path.TreePath.{TreePath}
-use Rattle.art_tree.specs.declared.path.TreePath.TheVariants.{Root, ChildOfRoot, Normal}
+use Rattle.art_tree.proofs.Names.{◌≡◌, ◌∙◌, ℕ, List, [], ◌∷◌, ◌++◌, Option, Some, None, refl, sym, ap, inl, inr, append_assoc, append-nil, same_Some, OpaqueNodePtr, Tree, Leaf, Inner, Branches, NoBranch, Branch, Context, Whole, Under, plug, join, HangsUnder, HasLeafAt, IsAtPath, steps_to, path_of, above, IsWay, IsWayUnder, TreePath, Root, ChildOfRoot, Normal}
 use Rattle.art_tree.proofs.SharedLemmas.BranchLemmas.{one_branch, join_assoc}
 use Rattle.art_tree.proofs.FindLemmas.PathSteps.{path_of-visit, visited}
 
@@ -60,11 +50,11 @@ module _ {H : Type 0} where
     ]
 
   -- a way leads to a place
-  way-context : (tree : Tree H) (steps : List (H × ℕ)) (pointer : H) → IsWay tree steps pointer → HasLeafAt tree steps pointer
+  pub way-context : (tree : Tree H) (steps : List (H × ℕ)) (pointer : H) → IsWay tree steps pointer → HasLeafAt tree steps pointer
   way-context tree steps pointer way = way-from Whole tree steps pointer way
 
   -- a leaf is under its parent, where its place is
-  hangs-under : (tree : Tree H) (steps : List (H × ℕ)) (pointer parent : H) (byte : ℕ) (higher : Option (H × ℕ)) (leaf : HasLeafAt tree steps pointer) → IsUnder leaf.context parent byte higher → HangsUnder tree pointer parent byte higher
+  abbrev hangs-under : (tree : Tree H) (steps : List (H × ℕ)) (pointer parent : H) (byte : ℕ) (higher : Option (H × ℕ)) (leaf : HasLeafAt tree steps pointer) → IsUnder leaf.context parent byte higher → HangsUnder tree pointer parent byte higher
   hangs-under tree steps pointer parent byte higher leaf under = record {
     upper = under.upper;
     prefix = under.prefix;
@@ -128,23 +118,18 @@ module _ {K V : Type 0} {P : ℕ} where
         hangs = above-before upper pointer b ∙ ap step_before is;
       }
 
-  module _ (tree : Tree (OpaqueNodePtr K V P)) (pointer : OpaqueNodePtr K V P) where
-    -- a path of the one way to a leaf has it at its end
-    pub at-path : (path : TreePath K V P) → IsPathTo tree pointer path → IsAtPath tree pointer path
-    at-path path (steps, only, is) = (steps, way-context tree steps pointer only.0, is)
-
+  module _ (tree : Tree (OpaqueNodePtr K V P)) (pointer : OpaqueNodePtr K V P) (x : List ℕ) where
     -- a leaf to which the path has no step is the whole tree
-    pub leaf-root : IsAtPath tree pointer Root → (text : List ℕ) × (tree ≡ Leaf pointer text)
-    leaf-root (steps, leaf, is) =
-        (leaf.text, sym leaf.whole ∙ ap (λ context. plug context (Leaf pointer leaf.text)) (path-root leaf.context (ap path_of leaf.same ∙ sym is)))
+    pub leaf-root : IsAtPath tree pointer Root x → tree ≡ Leaf pointer x
+    leaf-root (steps, leaf, has, is) = sym leaf.whole ∙ ap (λ context. plug context (Leaf pointer leaf.text)) (path-root leaf.context (ap path_of leaf.same ∙ sym is)) ∙ ap (Leaf pointer) has
 
     -- any other leaf is a child of the node of the last step
-    leaf-under : (path : TreePath K V P) (parent : OpaqueNodePtr K V P) (byte : ℕ) → IsAtPath tree pointer path → last_step path ≡ Some (parent, byte) → HangsUnder tree pointer parent byte (step_before path)
-    leaf-under path parent byte (steps, leaf, is) last =
-        hangs-under tree steps pointer parent byte (step_before path) leaf (path-under leaf.context path parent byte (ap path_of leaf.same ∙ sym is) last)
+    leaf-under : (path : TreePath K V P) (parent : OpaqueNodePtr K V P) (byte : ℕ) → IsAtPath tree pointer path x → last_step path ≡ Some (parent, byte) → (hangs : HangsUnder tree pointer parent byte (step_before path)) × (hangs.text ≡ x)
+    leaf-under path parent byte (steps, leaf, has, is) last =
+        (hangs-under tree steps pointer parent byte (step_before path) leaf (path-under leaf.context path parent byte (ap path_of leaf.same ∙ sym is) last), has)
 
-    pub leaf-child : (parent : OpaqueNodePtr K V P) (byte : ℕ) → IsAtPath tree pointer (ChildOfRoot parent byte) → HangsUnder tree pointer parent byte None
+    pub leaf-child : (parent : OpaqueNodePtr K V P) (byte : ℕ) → IsAtPath tree pointer (ChildOfRoot parent byte) x → (hangs : HangsUnder tree pointer parent byte None) × (hangs.text ≡ x)
     leaf-child parent byte path = leaf-under (ChildOfRoot parent byte) parent byte path refl
 
-    pub leaf-normal : (grandparent : OpaqueNodePtr K V P) (parent_byte : ℕ) (parent : OpaqueNodePtr K V P) (byte : ℕ) → IsAtPath tree pointer (Normal grandparent parent_byte parent byte) → HangsUnder tree pointer parent byte (Some (grandparent, parent_byte))
+    pub leaf-normal : (grandparent : OpaqueNodePtr K V P) (parent_byte : ℕ) (parent : OpaqueNodePtr K V P) (byte : ℕ) → IsAtPath tree pointer (Normal grandparent parent_byte parent byte) x → (hangs : HangsUnder tree pointer parent byte (Some (grandparent, parent_byte))) × (hangs.text ≡ x)
     leaf-normal grandparent parent_byte parent byte path = leaf-under (Normal grandparent parent_byte parent byte) parent byte path refl

@@ -1,14 +1,5 @@
 -- Branches, one list after the other.
-use Rattle.std.proofs.Common.{◌≡◌, ◌∙◌, ℕ, suc, ◌+◌, ◌<◌, ◌≤◌, List, [], ◌∷◌, ◌++◌, length, length-append, refl, sym, ap, subst, arith, append_assoc}
-use Rattle.std.proofs.lemmas.List.{map-append}
-use Rattle.art_nodes.specs.ChildMap.{IsAscendingFrom, key_bytes}
-use Rattle.art_nodes.specs.declared.pointers.OpaqueNodePtr.{OpaqueNodePtr}
-use Rattle.art_arena.specs.Arena.{NodeArena}
-use Rattle.art_arena.specs.Standing.{AllStandIn}
-use Rattle.art_arena.specs.Trees.{Tree, Branches, NoBranch, Branch, branch_roots, root_of, branch_leaves, branch_places, leaves, places, AreSound}
-use Rattle.art_tree.specs.Plan.{steps_of, branch_steps, BranchesSpan}
-use Rattle.art_tree.specs.Contexts.{join}
-use Rattle.art_tree.specs.Loading.{HaveSmallestKinds}
+use Rattle.art_tree.proofs.Names.{◌≡◌, ◌∙◌, ℕ, suc, ◌+◌, ◌<◌, ◌≤◌, List, [], ◌∷◌, ◌++◌, length, length-append, refl, sym, ap, subst, arith, append_assoc, map-append, IsAscendingFrom, key_bytes, OpaqueNodePtr, NodeArena, AllStandIn, Tree, Branches, NoBranch, Branch, branch_roots, root_of, branch_leaves, branch_places, leaves, places, AreSound, steps_of, branch_steps, BranchesSpan, join, HaveSmallestKinds}
 
 module _ {H : Type 0} where
   -- one branch alone

@@ -1,30 +1,16 @@
 -- Insertion and removal: the tree and its arena after a change.
-use Rattle.std.proofs.Common.{◌≡◌, ◌≢◌, ◌⊎◌, ◌∙◌, ℕ, suc, ◌≤◌, true, false, nat_eq, List, [], ◌∷◌, ◌++◌, Contains, Some, refl, sym, ap, subst, inl, inr, arith}
-use Rattle.std.proofs.lemmas.Bool.Decides.{nat_tests}
-use Rattle.std.proofs.lemmas.List.Elements.{Contains-append_cases}
-use Rattle.art_nodes.specs.ChildMap.{ChildMap, IsAscending, IsAscendingFrom, child_at, key_bytes}
-use Rattle.art_nodes.specs.Inner as nodes
-use Rattle.art_nodes.specs.declared.pointers.OpaqueNodePtr.{OpaqueNodePtr}
-use Rattle.art_nodes.specs.declared.leaf_node.LeafNode.{LeafNode}
-use Rattle.art_arena.specs.Arena.{NodeArena, Held, HeldInner, HeldLeaf, Nothing, held}
-use Rattle.art_arena.specs.Links.{AreDistinct}
-use Rattle.art_arena.specs.Standing.{StandsIn, AllStandIn}
-use Rattle.art_arena.specs.Trees.{Tree, Leaf, Inner, Branches, NoBranch, Branch, places, branch_places, branch_roots, root_of, IsWellFormed}
-use Rattle.art_tree.specs.Contexts.{Context, Whole, Under, plug, parent, Adopts, KeepsAt, join}
-use Rattle.art_tree.specs.Edits.{StaysAt}
-use Rattle.art_tree.specs.Hanging.{CanHang, IsHung}
-use Rattle.art_tree.specs.Places.{above}
+use Rattle.art_tree.proofs.Names.{eq-eqb, ne_eqb, ◌≡◌, ◌≢◌, ◌⊎◌, ◌∙◌, ℕ, suc, List, [], ◌∷◌, ◌++◌, Contains, Some, refl, sym, ap, subst, inl, inr, arith, Contains-append_cases, ChildMap, IsAscending, IsAscendingFrom, child_at, key_bytes, OpaqueNodePtr, LeafNode, NodeArena, Held, HeldInner, HeldLeaf, Nothing, held, AreDistinct, StandsIn, AllStandIn, Tree, Leaf, Inner, Branches, NoBranch, Branch, places, branch_places, branch_roots, root_of, IsWellFormed, Context, Whole, Under, plug, parent, Adopts, KeepsAt, join, StaysAt, CanHang, IsHung, above, the_one, InnerNode}
 use Rattle.art_tree.proofs.SharedLemmas.BranchLemmas.{roots-join}
-use Rattle.art_tree.proofs.SharedLemmas.ExchangedSubtree.{the-one, around, sound-part, stands-part}
+use Rattle.art_tree.proofs.SharedLemmas.ExchangedSubtree.{around, before-byte, sound-part, stands-part}
 use Rattle.art_tree.proofs.SharedLemmas.ExchangedTree.{root-under}
 
 module _ {K V : Type 0} {P : ℕ} (text : K → List ℕ) (arena : NodeArena K V P) where
   mutual
     -- the places of a tree that stands hold nodes
     pub place-held : (tree : Tree (OpaqueNodePtr K V P)) → StandsIn text arena tree → (q : OpaqueNodePtr K V P) → Contains (places tree) q → held arena q ≢ Nothing
-    place-held (Leaf pointer x) (leaf, holds, has) q inside = λ none. let wrong : HeldLeaf leaf ≡ Nothing = sym holds ∙ ap (held arena) (the-one pointer q inside) ∙ none in absurd (cc)
+    place-held (Leaf pointer x) (leaf, holds, has) q inside = λ none. let wrong : HeldLeaf leaf ≡ Nothing = sym holds ∙ ap (held arena) (the_one pointer q inside) ∙ none in absurd (cc)
     place-held (Inner pointer prefix branches) (node, holds, shows, stand) q inside = elim (Contains-append_cases (pointer ∷ []) (branch_places branches) q inside) [
-      | inl here ↦ λ none. let wrong : HeldInner node ≡ Nothing = sym holds ∙ ap (held arena) (the-one pointer q here) ∙ none in absurd (cc)
+      | inl here ↦ λ none. let wrong : HeldInner node ≡ Nothing = sym holds ∙ ap (held arena) (the_one pointer q here) ∙ none in absurd (cc)
       | inr below ↦ branch-place-held branches stand q below
     ]
 
@@ -43,7 +29,7 @@ root-place (Inner pointer prefix branches) = (0, omega arith, refl)
 module _ {K V : Type 0} {P : ℕ} where
   -- the parent of a place is an inner node outside of the subtree there
   pub record IsAbove (text : K → List ℕ) (arena : NodeArena K V P) (part : Tree (OpaqueNodePtr K V P)) (pointer : OpaqueNodePtr K V P) : Type 0 where
-    pub node : nodes.Inner (OpaqueNodePtr K V P)
+    pub node : InnerNode (OpaqueNodePtr K V P)
     pub is : held arena pointer ≡ HeldInner node
     pub outside : Contains (places part) pointer → ⊥
 
@@ -81,23 +67,12 @@ module _ {K V : Type 0} {P : ℕ} where
         at_root = λ now top_is. root-under higher p prefix before byte after part now ∙ at_root ∙ sym is;
       }
 
--- a byte is at least the least of the list that it stands in
-byte-above : {H : Type 0} (low : ℕ) (xs : ChildMap H) (byte : ℕ) (child : H) (ys : ChildMap H) → IsAscendingFrom low (key_bytes (xs ++ (byte, child) ∷ ys)) → low ≤ byte
-byte-above low [] byte child ys above = above.0
-byte-above low (x ∷ xs) byte child ys above = omega (arith, above.0, byte-above (suc x.0) xs byte child ys above.2)
-
-eq-false : (a b : ℕ) → a ≢ b → nat_eq a b ≡ false
-eq-false a b h = grind (arith, nat_tests)
-
-eq-true : (a : ℕ) → nat_eq a a ≡ true
-eq-true a = grind (arith, nat_tests)
-
--- and the list has its child under the byte
+-- a list that ascends has its child under the byte
 there-at : {H : Type 0} (low : ℕ) (xs : ChildMap H) (byte : ℕ) (child : H) (ys : ChildMap H) → IsAscendingFrom low (key_bytes (xs ++ (byte, child) ∷ ys)) → child_at (xs ++ (byte, child) ∷ ys) byte ≡ Some child
-there-at low [] byte child ys above = rw (eq-true byte) refl
+there-at low [] byte child ys above = rw (eq-eqb byte byte refl) refl
 there-at low (x ∷ xs) byte child ys above =
-    let later = byte-above (suc x.0) xs byte child ys above.2 in
-    rw (eq-false x.0 byte (λ same. omega (arith, later, same))) (there-at (suc x.0) xs byte child ys above.2)
+    let later = before-byte (suc x.0) xs byte child ys above.2 in
+    rw (ne_eqb x.0 byte (λ same. omega (arith, later, same))) (there-at (suc x.0) xs byte child ys above.2)
 
 -- a node is where it was in an arena that keeps the parent
 pub can-hang-at : {K V : Type 0} {P : ℕ} (text : K → List ℕ) (old new : NodeArena K V P) (context : Context (OpaqueNodePtr K V P)) (part : Tree (OpaqueNodePtr K V P)) → StandsIn text old (plug context part) → IsWellFormed (plug context part)
@@ -112,7 +87,7 @@ can-hang-at text old new (Under higher p prefix before byte after) part stands s
 
 module _ {K V : Type 0} {P : ℕ} where
   -- a place is free, or it holds an inner node or a leaf
-  held-case : (h : Held (OpaqueNodePtr K V P) (LeafNode K V P)) → (h ≡ Nothing) ⊎ (((node : nodes.Inner (OpaqueNodePtr K V P)) × (h ≡ HeldInner node)) ⊎ ((l : LeafNode K V P) × (h ≡ HeldLeaf l)))
+  held-case : (h : Held (OpaqueNodePtr K V P) (LeafNode K V P)) → (h ≡ Nothing) ⊎ (((node : InnerNode (OpaqueNodePtr K V P)) × (h ≡ HeldInner node)) ⊎ ((l : LeafNode K V P) × (h ≡ HeldLeaf l)))
   held-case Nothing = inl refl
   held-case (HeldInner node) = inr (inl (node, refl))
   held-case (HeldLeaf l) = inr (inr (l, refl))

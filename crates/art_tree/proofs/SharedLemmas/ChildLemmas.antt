@@ -1,10 +1,6 @@
 -- Children that are written in their order.
-use Rattle.std.proofs.Common.{◌≡◌, ◌∙◌, ℕ, zero, suc, ◌+◌, ◌<◌, ◌≤◌, List, [], ◌∷◌, length, take, get_or, Option, Some, None, IsNone, refl, ap, arith}
-use Rattle.std.proofs.lemmas.Bool.{le-ltb, lt-ltb, ne_eqb}
-use Rattle.std.proofs.lemmas.List.{length-take-le}
-use Rattle.art_nodes.specs.ChildMap.{ChildMap, IsAscendingFrom, IsAscending, key_bytes, child_at, with_child}
-use Rattle.art_nodes.specs.Inner.{Inner, HasRoomFor, with_children}
-use Rattle.art_tree.specs.Nodes.{node_of}
+use Rattle.art_tree.proofs.Names.{◌≡◌, ◌∙◌, ℕ, zero, suc, ◌+◌, ◌<◌, ◌≤◌, List, [], ◌∷◌, length, take, get_or, Option, Some, None, IsNone, refl, ap, arith, le-ltb, lt-ltb, ne_eqb, length-take-le, ChildMap, IsAscendingFrom, IsAscending, key_bytes, child_at, with_child, with_children, HasRoomFor, node_of}
+use Rattle.art_nodes.specs.Inner.{Inner}
 
 module _ {H : Type 0} where
   at-least : (low : ℕ) (xs : ChildMap H) (i : ℕ) (d : ℕ × H) → IsAscendingFrom low (key_bytes xs) → i < length xs → low ≤ (get_or xs i d).0

@@ -1,38 +1,6 @@
 -- The dictionary of an arena that holds one tree.
-use Rattle.std.proofs.Common.{filter, ◌<◌, ◌^◌, length, ◌≢◌, ◌≡◌, ◌∙◌, ℕ, zero, suc, Bool, true, false, not, IsTrue, List, [], ◌∷◌, map, get_or, All, AllPairs, Contains, Option, Some, None, slice_index_or, nat_eq, refl, sym, ap, subst, inl, inr, arith, append-nil, ◌++◌, IfSome}
-use Rattle.std.specs.Cmp.Lexicographic.{pointwise}
-use Rattle.std.specs.Cmp.{nat_cmp_is}
-use Rattle.std.specs.Cmp.Lexicographic.{nat_list_cmp_total}
-use Rattle.std.specs.Ordering.{ordering_reverse}
-use Rattle.std.specs.Option.{is_some, option_map}
-use Rattle.std.specs.declared.cmp.Ordering.TheVariants.{Less, Equal, Greater}
-use Rattle.std.proofs.lemmas.List.{length-map}
-use Rattle.std.proofs.lemmas.Option.{same_Some}
-use Rattle.std.proofs.lemmas.List.Elements.{All-contains, All-map, Contains-get_or, Contains-append_left, Contains-append_right, Contains-append_cases}
-use Rattle.art_header.specs.declared.node_type.NodeType.TheVariants as kinds
-use Rattle.art_bytes.specs.Text.{IsPrefixOf, text_order}
-use Rattle.art_nodes.specs.Leaf.{leaf_key, leaf_value}
-use Rattle.art_nodes.specs.Pointers.{node_kind, opaque_key, slab_key, opaque_pointer}
-use Rattle.art_nodes.specs.declared.pointers.NodePtr.{NodePtr}
-use Rattle.art_nodes.specs.declared.pointers.OpaqueNodePtr.{OpaqueNodePtr}
-use Rattle.art_nodes.specs.declared.leaf_node.LeafNode.{LeafNode}
-use Rattle.art_arena.specs.Arena.{NodeArena, Nothing, HeldInner, HeldLeaf, held, held_leaf, held_under}
-use Rattle.art_arena.specs.Links.{leaf_at}
-use Rattle.art_arena.specs.Standing.{StandsIn, AllStandIn}
-use Rattle.art_arena.specs.Trees.{Tree, Leaf, Inner, Branches, NoBranch, Branch, leaves, branch_leaves, texts, places, branch_places}
-use Rattle.art_tree.specs.Art.{IsAlone, IsArt}
-use Rattle.art_tree.specs.Dictionary.{entry_among, entry_at, HasEntry, IsEmpty}
-use Rattle.art_arena.specs.Ends.{IsAtEnd}
-use Rattle.art_tree.specs.Ends.{IsWithin}
-use Rattle.art_arena.specs.declared.ends.End.{End}
-use Rattle.art_arena.specs.declared.ends.End.TheVariants.{First, Last}
-use Rattle.art_tree.specs.Loading.{HoldEntries, IsLoaded, leaf_pointers}
-use Rattle.art_tree.specs.Refusals.{texts_of}
-use Rattle.art_tree.specs.Search.{scan, leaf_pointer}
-use Rattle.art_tree.proofs.SharedLemmas.ExchangedSubtree.{the-one}
+use Rattle.art_tree.proofs.Names.{filter, ◌<◌, ◌^◌, length, ◌≢◌, ◌≡◌, ◌∙◌, ℕ, zero, suc, Bool, true, false, not, IsTrue, List, [], ◌∷◌, map, get_or, All, AllPairs, Contains, Option, Some, None, slice_index_or, nat_eq, refl, sym, ap, subst, inl, inr, arith, append-nil, ◌++◌, pointwise, nat_list_cmp_total, ordering_reverse, is_some, option_map, Less, Greater, same_Some, All-contains, All-map, Contains-get_or, Contains-append_left, Contains-append_right, Contains-append_cases, IsPrefixOf, text_order, leaf_key, leaf_value, node_kind, opaque_key, slab_key, opaque_pointer, NodePtr, OpaqueNodePtr, LeafNode, NodeArena, Nothing, HeldInner, HeldLeaf, held, held_leaf, held_under, leaf_at, StandsIn, AllStandIn, Tree, Leaf, Inner, Branches, NoBranch, Branch, leaves, branch_leaves, texts, places, branch_places, IsAlone, IsArt, entry_among, entry_at, HasEntry, IsEmpty, IsAtEnd, IsWithin, End, First, Last, HoldEntries, IsLoaded, leaf_pointers, texts_of, scan, leaf_pointer, leaf_kind, the_one, image_inside, inside_image, inside_part, part_inside, text_itself, order_itself, by_text, by_option, LeafKind}
 use Rattle.art_tree.proofs.InsertLemmas.NodeLemmas.{one-leaf, some-leaf}
-use Rattle.art_tree.proofs.FindLemmas.ScanLemmas.{same-text, text-itself}
-use Rattle.art_arena.proofs.StandingLaws.{leaf_kind}
 use Rattle.art_tree.proofs.SharedLemmas.HeldNodes.{leaf-of}
 
 not-none : {X : Type 0} (o : Option X) (x : X) → o ≡ Some x → o ≡ None → ⊥
@@ -51,14 +19,13 @@ module _ {K V : Type 0} {P : ℕ} (text : K → List ℕ) where
   pub entry-from : (slots : List (Option (LeafNode K V P))) (x : List ℕ) (entry : K × V) → entry_among text slots x ≡ Some entry → IsInSlot slots x entry
   entry-from [] x entry is = absurd (cc)
   entry-from (None ∷ slots) x entry is = let rest = entry-from slots x entry is in record { key = suc rest.key; leaf = rest.leaf; at = rest.at; has = rest.has; is = rest.is }
-  entry-from (Some leaf ∷ slots) x entry is = by_test (λ later. entry-from slots x entry later) (pointwise nat_eq (text (leaf_key leaf)) x) refl
-    where
-      by_test : (entry_among text slots x ≡ Some entry → IsInSlot slots x entry) → (t : Bool) → pointwise nat_eq (text (leaf_key leaf)) x ≡ t → IsInSlot (Some leaf ∷ slots) x entry
-      by_test onwards true same = let one : Some (leaf_key leaf, leaf_value leaf) ≡ Some entry = rw same at is in record { key = 0; leaf = leaf; at = refl; has = same-text (text (leaf_key leaf)) x same; is = cc }
-      by_test onwards false differ =
-          let later : entry_among text slots x ≡ Some entry = rw differ at is in
-          let rest = onwards later in
-          record { key = suc rest.key; leaf = rest.leaf; at = rest.at; has = rest.has; is = rest.is }
+  entry-from (Some leaf ∷ slots) x entry is =
+      by_text (text (leaf_key leaf)) x (IsInSlot (Some leaf ∷ slots) x entry)
+      (λ same has. let one : Some (leaf_key leaf, leaf_value leaf) ≡ Some entry = rw same at is in record { key = 0; leaf = leaf; at = refl; has = has; is = cc })
+      (λ differ never.
+      let later : entry_among text slots x ≡ Some entry = rw differ at is in
+      let rest = entry-from slots x entry later in
+      record { key = suc rest.key; leaf = rest.leaf; at = rest.at; has = rest.has; is = rest.is })
 
   -- and so it has the text
   pub text-found : (arena : NodeArena K V P) (x : List ℕ) (entry : K × V) → entry_at text arena x ≡ Some entry → text entry.0 ≡ x
@@ -71,34 +38,29 @@ module _ {K V : Type 0} {P : ℕ} (text : K → List ℕ) where
   entry-some (None ∷ slots) (suc key) leaf at = entry-some slots key leaf at
   entry-some (Some other ∷ slots) zero leaf at =
       let same : other ≡ leaf = cc in
-      let is : pointwise nat_eq (text (leaf_key other)) (text (leaf_key leaf)) ≡ true = ap (λ l. pointwise nat_eq (text (leaf_key l)) (text (leaf_key leaf))) same ∙ text-itself (text (leaf_key leaf)) in
+      let is : pointwise nat_eq (text (leaf_key other)) (text (leaf_key leaf)) ≡ true = ap (λ l. pointwise nat_eq (text (leaf_key l)) (text (leaf_key leaf))) same ∙ text_itself (text (leaf_key leaf)) in
       ((leaf_key other, leaf_value other), rw is refl)
-  entry-some (Some other ∷ slots) (suc key) leaf at = by_test (entry-some slots key leaf at) (pointwise nat_eq (text (leaf_key other)) (text (leaf_key leaf))) refl
-    where
-      by_test : (rest : (entry : K × V) × (entry_among text slots (text (leaf_key leaf)) ≡ Some entry)) → (t : Bool) → pointwise nat_eq (text (leaf_key other)) (text (leaf_key leaf)) ≡ t → (entry : K × V) × (entry_among text (Some other ∷ slots) (text (leaf_key leaf)) ≡ Some entry)
-      by_test rest true same = ((leaf_key other, leaf_value other), rw same refl)
-      by_test rest false differ = (rest.0, rw differ rest.1)
+  entry-some (Some other ∷ slots) (suc key) leaf at =
+      let rest = entry-some slots key leaf at in
+      by_text (text (leaf_key other)) (text (leaf_key leaf)) ((entry : K × V) × (entry_among text (Some other ∷ slots) (text (leaf_key leaf)) ≡ Some entry))
+      (λ same is. ((leaf_key other, leaf_value other), rw same refl)) (λ differ never. (rest.0, rw differ rest.1))
 
   -- an arena that holds nothing has no entry
   pub empty-entry : (arena : NodeArena K V P) → ((pointer : OpaqueNodePtr K V P) → held arena pointer ≡ Nothing) → (x : List ℕ) → entry_at text arena x ≡ None
-  empty-entry arena nothing x = by_entry (entry_at text arena x) refl
-    where
-      by_entry : (o : Option (K × V)) → entry_at text arena x ≡ o → entry_at text arena x ≡ None
-      by_entry None is = is
-      by_entry (Some entry) is =
-          let slot = entry-from arena.leaf.slots x entry is in
-          let wrong : HeldLeaf slot.leaf ≡ Nothing = sym (ap (held_leaf {H = OpaqueNodePtr K V P}) slot.at) ∙ nothing (opaque_pointer kinds.Leaf slot.key) in absurd (cc)
+  empty-entry arena nothing x = by_option (entry_at text arena x) (entry_at text arena x ≡ None) (λ is. is) (λ entry is.
+      let slot = entry-from arena.leaf.slots x entry is in
+      let wrong : HeldLeaf slot.leaf ≡ Nothing = sym (ap (held_leaf {H = OpaqueNodePtr K V P}) slot.at) ∙ nothing (opaque_pointer LeafKind slot.key) in absurd (cc))
 
   module _ (arena : NodeArena K V P) where
     mutual
       -- a place of a tree that holds a leaf is one of its leaves
       pub leaf-in : (tree : Tree (OpaqueNodePtr K V P)) → StandsIn text arena tree → (q : OpaqueNodePtr K V P) (leaf : LeafNode K V P) → Contains (places tree) q → held arena q ≡ HeldLeaf leaf → Contains (leaves tree) (q, text (leaf_key leaf))
       leaf-in (Leaf pointer x) (own, holds, has) q leaf inside is =
-          let same : pointer ≡ q = the-one pointer q inside in
+          let same : pointer ≡ q = the_one pointer q inside in
           let texts_same : x ≡ text (leaf_key leaf) = sym has ∙ ap (λ l. text (leaf_key l)) (one-leaf (held arena pointer) own leaf holds (ap (held arena) same ∙ is)) in
           (0, omega arith, λ i. (same i, texts_same i))
       leaf-in (Inner pointer prefix branches) (node, holds, shows, stand) q leaf inside is = elim (Contains-append_cases (pointer ∷ []) (branch_places branches) q inside) [
-        | inl here ↦ let wrong : HeldInner node ≡ HeldLeaf leaf = sym holds ∙ ap (held arena) (the-one pointer q here) ∙ is in absurd (cc)
+        | inl here ↦ let wrong : HeldInner node ≡ HeldLeaf leaf = sym holds ∙ ap (held arena) (the_one pointer q here) ∙ is in absurd (cc)
         | inr below ↦ branch-leaf-in branches stand q leaf below is
       ]
 
@@ -113,7 +75,7 @@ module _ {K V : Type 0} {P : ℕ} (text : K → List ℕ) where
       -- a leaf of a tree is held, with its text
       pub leaf-held-in : (tree : Tree (OpaqueNodePtr K V P)) → StandsIn text arena tree → (q : OpaqueNodePtr K V P) (x : List ℕ) → Contains (leaves tree) (q, x) → (leaf : LeafNode K V P) × (held arena q ≡ HeldLeaf leaf) × (text (leaf_key leaf) ≡ x)
       leaf-held-in (Leaf pointer y) (own, holds, has) q x inside =
-          let same : (pointer, y) ≡ (q, x) = the-one (pointer, y) (q, x) inside in (own, ap (held arena) (sym (ap (λ p. p.0) same)) ∙ holds, has ∙ ap (λ p. p.1) same)
+          let same : (pointer, y) ≡ (q, x) = the_one (pointer, y) (q, x) inside in (own, ap (held arena) (sym (ap (λ p. p.0) same)) ∙ holds, has ∙ ap (λ p. p.1) same)
       leaf-held-in (Inner pointer prefix branches) (node, holds, shows, stand) q x inside = branch-leaf-held-in branches stand q x inside
 
       branch-leaf-held-in : (branches : Branches (OpaqueNodePtr K V P)) → AllStandIn text arena branches → (q : OpaqueNodePtr K V P) (x : List ℕ) → Contains (branch_leaves branches) (q, x) → (leaf : LeafNode K V P) × (held arena q ≡ HeldLeaf leaf) × (text (leaf_key leaf) ≡ x)
@@ -141,41 +103,27 @@ empty-if-none text arena some (Some root) (tree, alone) t is = (λ holds. absurd
     never true same holds = absurd (cc)
     never false same holds = absurd (cc)
 
--- what a function makes of a list it makes of each member
-at-map : {A B : Type 0} (f : A → B) (xs : List A) (k : ℕ) (d : A) → get_or (map f xs) k (f d) ≡ f (get_or xs k d)
-at-map f [] k d = refl
-at-map f (x ∷ xs) zero d = refl
-at-map f (x ∷ xs) (suc k) d = at-map f xs k d
-
-pub in-map : {A B : Type 0} (f : A → B) (xs : List A) (x : A) → Contains xs x → Contains (map f xs) (f x)
-in-map f xs x (k, inside, is) = (k, omega (arith, inside, length-map xs f), at-map f xs k x ∙ ap f is)
-
 module _ {H : Type 0} where
   -- a leaf with each of the texts
   pub leaf-with : (all : List (H × List ℕ)) (x : List ℕ) → Contains (map (λ leaf. leaf.1) all) x → (p : H) × Contains all (p, x)
-  leaf-with [] x (k, inside, is) = absurd (omega (arith, inside))
-  leaf-with (y ∷ ys) x inside = elim (Contains-append_cases (y.1 ∷ []) (map (λ leaf. leaf.1) ys) x inside) [
-    | inl here ↦ (y.0, (0, omega arith, ap (λ text. (y.0, text)) (the-one y.1 x here)))
-    | inr later ↦ let rest = leaf-with ys x later in (rest.0, Contains-append_right (y ∷ []) ys (rest.0, x) rest.1)
-  ]
+  leaf-with all x inside = let from = inside_image (λ leaf. leaf.1) all x inside in (from.0.0, subst (λ text. Contains all (from.0.0, text)) from.2 from.1)
 
   pub not-later : (y : H × List ℕ) (ys : List (H × List ℕ)) (p q : H) (x : List ℕ) → AreApart (map (λ pair. pair.1) (y ∷ ys)) → y ≡ (p, x) → Contains ys (q, x) → ⊥
-  not-later y ys p q x apart here (k, inside, is) =
+  not-later y ys p q x apart here inside =
       let first : y.1 ≡ x = ap (λ pair. pair.1) here in
-      let later : get_or (map (λ pair. pair.1) ys) k x ≡ x = at-map (λ pair. pair.1) ys k (q, x) ∙ ap (λ pair. pair.1) is in
-      let no = apart 0 (suc k) x (omega arith) (omega (arith, inside, length-map ys (λ pair. pair.1))) in
-      no.0 ([], later ∙ sym first ∙ sym (append-nil y.1))
+      let later = image_inside (λ pair. pair.1) ys (q, x) x refl inside in
+      (apart 0 (suc later.0) x (omega arith) (omega (arith, later.1))).0 ([], later.2 ∙ sym first ∙ sym (append-nil y.1))
 
   -- so a text stands at one place of a list of them
   pub one-member : (all : List (H × List ℕ)) (p q : H) (x : List ℕ) → AreApart (map (λ pair. pair.1) all) → Contains all (p, x) → Contains all (q, x) → p ≡ q
   one-member [] p q x apart (k, inside, is) other = absurd (omega (arith, inside))
   one-member (y ∷ ys) p q x apart first second = elim (Contains-append_cases (y ∷ []) ys (p, x) first) [
     | inl here ↦ elim (Contains-append_cases (y ∷ []) ys (q, x) second) [
-      | inl too ↦ ap (λ pair. pair.0) (sym (the-one y (p, x) here) ∙ the-one y (q, x) too)
-      | inr later ↦ absurd (not-later y ys p q x apart (the-one y (p, x) here) later)
+      | inl too ↦ ap (λ pair. pair.0) (sym (the_one y (p, x) here) ∙ the_one y (q, x) too)
+      | inr later ↦ absurd (not-later y ys p q x apart (the_one y (p, x) here) later)
     ]
     | inr later ↦ elim (Contains-append_cases (y ∷ []) ys (q, x) second) [
-      | inl here ↦ absurd (not-later y ys q p x apart (the-one y (q, x) here) later)
+      | inl here ↦ absurd (not-later y ys q p x apart (the_one y (q, x) here) later)
       | inr too ↦ one-member ys p q x (λ i j d before inside. apart (suc i) (suc j) d (omega (arith, before)) (omega (arith, inside))) later too
     ]
   ]
@@ -183,32 +131,10 @@ module _ {H : Type 0} where
 -- a scan has exactly the members with the text
 module _ {H : Type 0} where
   pub in-scan : (all : List (H × List ℕ)) (p : H) (x : List ℕ) → Contains all (p, x) → Contains (filter (λ leaf. pointwise nat_eq leaf.1 x) all) (p, x)
-  in-scan [] p x (k, inside, is) = absurd (omega (arith, inside))
-  in-scan (y ∷ ys) p x inside = elim (Contains-append_cases (y ∷ []) ys (p, x) inside) [
-    | inl here ↦
-        let has : pointwise nat_eq y.1 x ≡ true = ap (λ pair. pointwise nat_eq pair.1 x) (the-one y (p, x) here) ∙ text-itself x in
-        rw has (0, omega arith, the-one y (p, x) here)
-    | inr later ↦ by_test (in-scan ys p x later) (pointwise nat_eq y.1 x) refl
-  ]
-    where
-      by_test : Contains (filter (λ leaf. pointwise nat_eq leaf.1 x) ys) (p, x) → (t : Bool) → pointwise nat_eq y.1 x ≡ t → Contains (filter (λ leaf. pointwise nat_eq leaf.1 x) (y ∷ ys)) (p, x)
-      by_test rest true is = rw is (Contains-append_right (y ∷ []) (filter (λ leaf. pointwise nat_eq leaf.1 x) ys) (p, x) rest)
-      by_test rest false is = rw is rest
+  in-scan all p x inside = inside_part (λ leaf. pointwise nat_eq leaf.1 x) all (p, x) inside (text_itself x)
 
   pub scan-in : (all : List (H × List ℕ)) (p : H) (x : List ℕ) → Contains (filter (λ leaf. pointwise nat_eq leaf.1 x) all) (p, x) → Contains all (p, x)
-  scan-in [] p x inside = inside
-  scan-in (y ∷ ys) p x inside = by_test (λ later. scan-in ys p x later) (pointwise nat_eq y.1 x) refl
-    where
-      by_test : (Contains (filter (λ leaf. pointwise nat_eq leaf.1 x) ys) (p, x) → Contains ys (p, x)) → (t : Bool) → pointwise nat_eq y.1 x ≡ t → Contains (y ∷ ys) (p, x)
-      by_test onwards true is =
-          let kept : Contains (y ∷ filter (λ leaf. pointwise nat_eq leaf.1 x) ys) (p, x) = rw is at inside in
-          elim (Contains-append_cases (y ∷ []) (filter (λ leaf. pointwise nat_eq leaf.1 x) ys) (p, x) kept) [
-            | inl here ↦ Contains-append_left (y ∷ []) ys (p, x) here
-            | inr later ↦ Contains-append_right (y ∷ []) ys (p, x) (onwards later)
-          ]
-      by_test onwards false is =
-          let rest : Contains (filter (λ leaf. pointwise nat_eq leaf.1 x) ys) (p, x) = rw is at inside in
-          Contains-append_right (y ∷ []) ys (p, x) (onwards rest)
+  scan-in all p x inside = (part_inside (λ leaf. pointwise nat_eq leaf.1 x) all (p, x) inside).0
 
 module _ {K V : Type 0} {P : ℕ} (text : K → List ℕ) (arena : NodeArena K V P) (root : OpaqueNodePtr K V P) (tree : Tree (OpaqueNodePtr K V P)) (alone : IsAlone text arena root tree) where
   -- the entry of the dictionary is held at a leaf of the tree
@@ -223,7 +149,7 @@ module _ {K V : Type 0} {P : ℕ} (text : K → List ℕ) (arena : NodeArena K V
   pub leaf-of-entry : (x : List ℕ) (entry : K × V) → entry_at text arena x ≡ Some entry → IsLeafWith x entry
   leaf-of-entry x entry is =
       let slot = entry-from text arena.leaf.slots x entry is in
-      let pointer = opaque_pointer {K = K} {V = V} {P = P} kinds.Leaf slot.key in
+      let pointer = opaque_pointer {K = K} {V = V} {P = P} LeafKind slot.key in
       let there : held arena pointer ≡ HeldLeaf slot.leaf = ap held_leaf slot.at in
       let inside = leaf-in text arena tree alone.is_tree.stands pointer slot.leaf (alone.no_others pointer (some-leaf (held arena pointer) slot.leaf there)) there in
       record { pointer = pointer; leaf = slot.leaf; held_there = there; has = slot.has; inside = subst (λ t. Contains (leaves tree) (pointer, t)) slot.has inside; is = slot.is }
@@ -233,7 +159,7 @@ module _ {K V : Type 0} {P : ℕ} (text : K → List ℕ) (arena : NodeArena K V
   entry-of-leaf apart key leaf at =
       let some = entry-some text arena.leaf.slots key leaf at in
       let found = leaf-of-entry (text (leaf_key leaf)) some.0 some.1 in
-      let pointer = opaque_pointer {K = K} {V = V} {P = P} kinds.Leaf key in
+      let pointer = opaque_pointer {K = K} {V = V} {P = P} LeafKind key in
       let there : held arena pointer ≡ HeldLeaf leaf = ap held_leaf at in
       let inside = leaf-in text arena tree alone.is_tree.stands pointer leaf (alone.no_others pointer (some-leaf (held arena pointer) leaf there)) there in
       let one : found.pointer ≡ pointer = one-member (leaves tree) found.pointer pointer (text (leaf_key leaf)) apart found.inside inside in
@@ -242,32 +168,10 @@ module _ {K V : Type 0} {P : ℕ} (text : K → List ℕ) (arena : NodeArena K V
 
   -- a key of which the tree has no leaf has no entry
   pub no-entry : (x : List ℕ) → scan tree x ≡ [] → entry_at text arena x ≡ None
-  no-entry x none = by_entry (entry_at text arena x) refl
-    where
-      by_entry : (o : Option (K × V)) → entry_at text arena x ≡ o → entry_at text arena x ≡ None
-      by_entry None is = is
-      by_entry (Some entry) is =
-          let found = leaf-of-entry x entry is in
-          let (k, inside, at) = in-scan (leaves tree) found.pointer x found.inside in
-          absurd (omega (arith, inside, ap length none))
-
-  -- the leaf that a scan finds has the entry
-  pub scanned-entry : AreApart (texts tree) → (x : List ℕ) (leaf : NodePtr P (LeafNode K V P)) → scan tree x ≡ (leaf_pointer leaf, x) ∷ [] → (value : V) → option_map leaf_value (leaf_at arena (slab_key leaf)) ≡ Some value → option_map (λ (entry : K × V). entry.1) (entry_at text arena x) ≡ Some value
-  scanned-entry apart x leaf one value is =
-      let inside = scan-in (leaves tree) (leaf_pointer leaf) x (subst (λ all. Contains all (leaf_pointer leaf, x)) (sym one) (0, omega arith, refl)) in
-      let there = leaf-held-in text arena tree alone.is_tree.stands (leaf_pointer leaf) x inside in
-      let slot = leaf-of (leaf_at arena (slab_key leaf)) there.0 there.1 in
-      ap (option_map (λ (entry : K × V). entry.1)) (ap (entry_at text arena) (sym there.2) ∙ entry-of-leaf apart (slab_key leaf) there.0 slot) ∙ sym (ap (option_map leaf_value) slot) ∙ is
-
-  -- key and value of that leaf are the entry
-  pub scanned-pair : AreApart (texts tree) → (x : List ℕ) (leaf : NodePtr P (LeafNode K V P)) → scan tree x ≡ (leaf_pointer leaf, x) ∷ [] → (key : K) (value : V) → option_map leaf_key (leaf_at arena (slab_key leaf)) ≡ Some key → option_map leaf_value (leaf_at arena (slab_key leaf)) ≡ Some value → entry_at text arena x ≡ Some (key, value)
-  scanned-pair apart x leaf one key value is_key is_value =
-      let inside = scan-in (leaves tree) (leaf_pointer leaf) x (subst (λ all. Contains all (leaf_pointer leaf, x)) (sym one) (0, omega arith, refl)) in
-      let there = leaf-held-in text arena tree alone.is_tree.stands (leaf_pointer leaf) x inside in
-      let slot = leaf-of (leaf_at arena (slab_key leaf)) there.0 there.1 in
-      let same_key = same_Some (leaf_key there.0) key (sym (ap (option_map leaf_key) slot) ∙ is_key) in
-      let same_value = same_Some (leaf_value there.0) value (sym (ap (option_map leaf_value) slot) ∙ is_value) in
-      ap (entry_at text arena) (sym there.2) ∙ entry-of-leaf apart (slab_key leaf) there.0 slot ∙ ap Some (λ i. (same_key i, same_value i))
+  no-entry x none = by_option (entry_at text arena x) (entry_at text arena x ≡ None) (λ is. is) (λ entry is.
+      let found = leaf-of-entry x entry is in
+      let (k, inside, at) = in-scan (leaves tree) found.pointer x found.inside in
+      absurd (omega (arith, inside, ap length none)))
 
   -- an entry that a leaf of the tree holds is that of its text
   pub held-entry : AreApart (texts tree) → (pointer : OpaqueNodePtr K V P) (leaf : LeafNode K V P) → held arena pointer ≡ HeldLeaf leaf → entry_at text arena (text (leaf_key leaf)) ≡ Some (leaf_key leaf, leaf_value leaf)
@@ -278,11 +182,9 @@ module _ {K V : Type 0} {P : ℕ} (text : K → List ℕ) (arena : NodeArena K V
 
   -- so a text has an entry where it is one of the tree's
   pub text-of-entry : (x : List ℕ) → entry_at text arena x ≢ None → Contains (texts tree) x
-  text-of-entry x some = by_entry (entry_at text arena x) refl
-    where
-      by_entry : (o : Option (K × V)) → entry_at text arena x ≡ o → Contains (texts tree) x
-      by_entry None none = absurd (some none)
-      by_entry (Some entry) is = let found = leaf-of-entry x entry is in in-map (λ pair. pair.1) (leaves tree) (found.pointer, x) found.inside
+  text-of-entry x some =
+      by_option (entry_at text arena x) (Contains (texts tree) x) (λ none. absurd (some none)) (λ entry is.
+      let found = leaf-of-entry x entry is in image_inside (λ pair. pair.1) (leaves tree) (found.pointer, x) x refl found.inside)
 
   pub entry-of-text : AreApart (texts tree) → (x : List ℕ) → Contains (texts tree) x → entry_at text arena x ≢ None
   entry-of-text apart x inside none =
@@ -304,7 +206,7 @@ module _ {K V : Type 0} {P : ℕ} (text : K → List ℕ) (arena : NodeArena K V
   text-of-held (p ∷ pointers) [] q leaf hold inside there = absurd hold
   text-of-held (p ∷ pointers) (entry ∷ entries) q leaf hold inside there = elim (Contains-append_cases (p ∷ []) pointers q inside) [
     | inl here ↦
-        let same = one-leaf (held arena p) hold.0.0 leaf hold.0.1 (ap (held arena) (the-one p q here) ∙ there) in
+        let same = one-leaf (held arena p) hold.0.0 leaf hold.0.1 (ap (held arena) (the_one p q here) ∙ there) in
         (0, omega arith, ap text (sym hold.0.2 ∙ ap leaf_key same))
     | inr later ↦ Contains-append_right (text entry.0 ∷ []) (texts_of text entries) (text (leaf_key leaf)) (text-of-held pointers entries q leaf hold.1 later there)
   ]
@@ -331,7 +233,7 @@ module _ {K V : Type 0} {P : ℕ} (text : K → List ℕ) (arena : NodeArena K V
         let pair = get_or (leaves tree) k d in
         let there = Contains-get_or (leaves tree) k d inside in
         let leaf = leaf-held-in text arena tree is.is_tree.stands pair.0 pair.1 there in
-        let entry = text-of-held (leaf_pointers tree) entries pair.0 leaf.0 is.hold (in-map (λ pair. pair.0) (leaves tree) pair there) leaf.1 in
+        let entry = text-of-held (leaf_pointers tree) entries pair.0 leaf.0 is.hold (image_inside (λ pair. pair.0) (leaves tree) pair pair.0 refl there) leaf.1 in
         subst (λ x. length x < 2 ^ 32) leaf.2 (All-contains (λ x. length x < 2 ^ 32) (texts_of text entries) (text (leaf_key leaf.0)) short entry))
 
     -- what is loaded into an empty arena is alone there
@@ -345,13 +247,10 @@ module _ {K V : Type 0} {P : ℕ} (text : K → List ℕ) (arena : NodeArena K V
         ap (λ key. entry_at text arena (text key)) (sym one.key) ∙ held-entry text arena root tree alone-loaded apart one.pointer one.leaf one.is_held ∙ ap Some (λ i. (one.key i, one.value i))
 
     pub loaded-text : (x : List ℕ) → entry_at text arena x ≢ None → Contains (texts_of text entries) x
-    loaded-text x some = by_entry (entry_at text arena x) refl
-      where
-        by_entry : (o : Option (K × V)) → entry_at text arena x ≡ o → Contains (texts_of text entries) x
-        by_entry None none = absurd (some none)
-        by_entry (Some entry) found =
-            let leaf = leaf-of-entry text arena root tree alone-loaded x entry found in
-            subst (Contains (texts_of text entries)) leaf.has (text-of-held (leaf_pointers tree) entries leaf.pointer leaf.leaf is.hold (in-map (λ pair. pair.0) (leaves tree) (leaf.pointer, x) leaf.inside) leaf.held_there)
+    loaded-text x some =
+        by_option (entry_at text arena x) (Contains (texts_of text entries) x) (λ none. absurd (some none)) (λ entry found.
+        let leaf = leaf-of-entry text arena root tree alone-loaded x entry found in
+        subst (Contains (texts_of text entries)) leaf.has (text-of-held (leaf_pointers tree) entries leaf.pointer leaf.leaf is.hold (image_inside (λ pair. pair.0) (leaves tree) (leaf.pointer, x) leaf.pointer refl leaf.inside) leaf.held_there))
 
 -- the result where there is no entry
 pub nothing-mapped : {A B : Type 0} (f : A → B) (result : Option A) (entry : Option B) → result ≡ None → entry ≡ None → option_map f result ≡ entry
@@ -360,28 +259,23 @@ nothing-mapped f result entry none no_entry = ap (option_map f) none ∙ sym no_
 -- the entry at an end
 module _ {H : Type 0} (R : List ℕ → List ℕ → Type 0) where
   pub after-first : (y : H × List ℕ) (ys : List (H × List ℕ)) (q : H) (z : List ℕ) → AllPairs R (map (λ pair. pair.1) (y ∷ ys)) → Contains ys (q, z) → R y.1 z
-  after-first y ys q z pairs (k, inside, is) =
-      subst (R y.1) (at-map (λ pair. pair.1) ys k (q, z) ∙ ap (λ pair. pair.1) is) (pairs 0 (suc k) z (omega arith) (omega (arith, inside, length-map ys (λ pair. pair.1))))
+  after-first y ys q z pairs inside = let later = image_inside (λ pair. pair.1) ys (q, z) z refl inside in subst (R y.1) later.2 (pairs 0 (suc later.0) z (omega arith) (omega (arith, later.1)))
 
   before-last : (others : List (H × List ℕ)) (p : H) (x : List ℕ) (q : H) (z : List ℕ) → AllPairs R (map (λ pair. pair.1) (others ++ (p, x) ∷ [])) → Contains others (q, z) → R z x
   before-last [] p x q z pairs (k, inside, is) = absurd (omega (arith, inside))
   before-last (y ∷ ys) p x q z pairs inside = elim (Contains-append_cases (y ∷ []) ys (q, z) inside) [
-    | inl here ↦ subst (λ t. R t x) (ap (λ pair. pair.1) (the-one y (q, z) here)) (after-first y (ys ++ (p, x) ∷ []) p x pairs (Contains-append_right ys ((p, x) ∷ []) (p, x) (0, omega arith, refl)))
+    | inl here ↦ subst (λ t. R t x) (ap (λ pair. pair.1) (the_one y (q, z) here)) (after-first y (ys ++ (p, x) ∷ []) p x pairs (Contains-append_right ys ((p, x) ∷ []) (p, x) (0, omega arith, refl)))
     | inr later ↦ before-last ys p x q z (λ i j d before within. pairs (suc i) (suc j) d (omega (arith, before)) (omega (arith, within))) later
   ]
 
-pub itself : (x : List ℕ) → text_order x x ≡ Equal
-itself [] = refl
-itself (n ∷ x) = rw (sym (nat_cmp_is n n Equal refl)) (itself x)
-
 pub within-end : {H : Type 0} (end : End) (all : List (H × List ℕ)) (p : H) (at_end : IsAtEnd end all p) → AllPairs (λ a b. text_order a b ≡ Less) (map (λ pair. pair.1) all) → (q : H) (z : List ℕ) → Contains all (q, z) → IsWithin end at_end.0 z
 within-end First all p (x, others, is) ascend q z inside = elim (Contains-append_cases ((p, x) ∷ []) others (q, z) (subst (λ l. Contains l (q, z)) is inside)) [
-  | inl here ↦ λ greater. let one = sym (itself x) ∙ ap (text_order x) (ap (λ pair. pair.1) (the-one (p, x) (q, z) here)) ∙ greater in absurd (cc)
+  | inl here ↦ λ greater. let one = sym (order_itself x) ∙ ap (text_order x) (ap (λ pair. pair.1) (the_one (p, x) (q, z) here)) ∙ greater in absurd (cc)
   | inr later ↦ λ greater. let less = after-first (λ a b. text_order a b ≡ Less) (p, x) others q z (subst (λ l. AllPairs (λ a b. text_order a b ≡ Less) (map (λ pair. pair.1) l)) is ascend) later in absurd (cc)
 ]
 within-end Last all p (x, others, is) ascend q z inside = elim (Contains-append_cases others ((p, x) ∷ []) (q, z) (subst (λ l. Contains l (q, z)) is inside)) [
   | inl earlier ↦ λ less. let before = before-last (λ a b. text_order a b ≡ Less) others p x q z (subst (λ l. AllPairs (λ a b. text_order a b ≡ Less) (map (λ pair. pair.1) l)) is ascend) earlier in let greater : text_order x z ≡ Greater = nat_list_cmp_total.antisymm x z ∙ ap ordering_reverse before in absurd (cc)
-  | inr here ↦ λ less. let one = sym (itself x) ∙ ap (text_order x) (ap (λ pair. pair.1) (the-one (p, x) (q, z) here)) ∙ less in absurd (cc)
+  | inr here ↦ λ less. let one = sym (order_itself x) ∙ ap (text_order x) (ap (λ pair. pair.1) (the_one (p, x) (q, z) here)) ∙ less in absurd (cc)
 ]
 
 pub end-in : {H : Type 0} (end : End) (all : List (H × List ℕ)) (p : H) (at_end : IsAtEnd end all p) → Contains all (p, at_end.0)
@@ -404,18 +298,10 @@ module _ {K V : Type 0} {P : ℕ} (text : K → List ℕ) (arena : NodeArena K V
     end-entry apart = ap (λ k. entry_at text arena (text k)) (sym key-is) ∙ entry-of-leaf text arena root tree alone apart (slab_key leaf) end-held.0 end-held.1 ∙ ap Some (λ i. (key-is i, value-is i))
 
     pub end-within : AllPairs (λ a b. text_order a b ≡ Less) (texts tree) → (other : List ℕ) → entry_at text arena other ≢ None → IsWithin end (text key) other
-    end-within ascend other some = by_entry (entry_at text arena other) refl
-      where
-        by_entry : (o : Option (K × V)) → entry_at text arena other ≡ o → IsWithin end (text key) other
-        by_entry None none = absurd (some none)
-        by_entry (Some entry) found =
-            let has = leaf-of-entry text arena root tree alone other entry found in
-            subst (λ t. IsWithin end t other) (sym end-held.2 ∙ ap text key-is) (within-end end (leaves tree) (leaf_pointer leaf) at_end ascend has.pointer other has.inside)
+    end-within ascend other some =
+        by_option (entry_at text arena other) (IsWithin end (text key) other) (λ none. absurd (some none)) (λ entry found.
+        let has = leaf-of-entry text arena root tree alone other entry found in
+        subst (λ t. IsWithin end t other) (sym end-held.2 ∙ ap text key-is) (within-end end (leaves tree) (leaf_pointer leaf) at_end ascend has.pointer other has.inside))
 
--- where there is no value nothing follows from one
-pub if-some-none : {X : Type 0} (o : Option X) (Q : X → Type 0) → o ≡ None → IfSome o Q
-if-some-none None Q none = tt
-if-some-none (Some x) Q none = absurd (cc)
-
-pub slot-held : {K V : Type 0} {P : ℕ} (arena : NodeArena K V P) (key : ℕ) (leaf : LeafNode K V P) → leaf_at arena key ≡ Some leaf → held arena (opaque_pointer kinds.Leaf key) ≢ Nothing
+pub slot-held : {K V : Type 0} {P : ℕ} (arena : NodeArena K V P) (key : ℕ) (leaf : LeafNode K V P) → leaf_at arena key ≡ Some leaf → held arena (opaque_pointer LeafKind key) ≢ Nothing
 slot-held arena key leaf is none = let wrong : HeldLeaf leaf ≡ Nothing = sym (ap held_leaf is) ∙ none in absurd (cc)

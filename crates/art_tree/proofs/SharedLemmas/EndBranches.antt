@@ -1,15 +1,5 @@
 -- The branch at one end of branches.
-use Rattle.std.proofs.Common.{◌≡◌, ◌∙◌, ℕ, suc, ◌-◌, List, [], ◌∷◌, ◌++◌, length, slice_get, Some, sym, ap, subst, arith, append_assoc, append-nil}
-use Rattle.std.proofs.lemmas.Option.{same_Some}
-use Rattle.art_nodes.specs.ChildMap.{ChildMap}
-use Rattle.art_nodes.specs.declared.pointers.OpaqueNodePtr.{OpaqueNodePtr}
-use Rattle.art_arena.specs.Arena.{NodeArena}
-use Rattle.art_arena.specs.Ends.{IsAtEnd, end_pair, put_at}
-use Rattle.art_arena.specs.Standing.{AllStandIn, StandsIn}
-use Rattle.art_arena.specs.Trees.{Tree, Branches, NoBranch, Branch, branch_leaves, branch_roots, leaves, root_of, AreSound, IsSound}
-use Rattle.art_arena.specs.declared.ends.End.{End}
-use Rattle.art_arena.specs.declared.ends.End.TheVariants.{First, Last}
-use Rattle.art_tree.specs.Contexts.{join}
+use Rattle.art_tree.proofs.Names.{◌≡◌, ◌∙◌, ℕ, suc, ◌-◌, List, [], ◌∷◌, ◌++◌, length, slice_get, Some, sym, ap, subst, arith, append_assoc, append-nil, same_Some, ChildMap, OpaqueNodePtr, NodeArena, IsAtEnd, end_pair, put_at, AllStandIn, StandsIn, Tree, Branches, NoBranch, Branch, branch_leaves, branch_roots, leaves, root_of, AreSound, IsSound, End, First, Last, join}
 use Rattle.art_tree.proofs.SharedLemmas.BranchLemmas.{last-same, leaves-join, stand-split, sound-split}
 
 module _ {H : Type 0} where

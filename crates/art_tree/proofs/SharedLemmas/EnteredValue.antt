@@ -1,35 +1,22 @@
 -- A value that is written into a leaf that was found or added.
-use Rattle.std.proofs.Common.{◌≡◌, ◌∙◌, ℕ, List, Some, inl, inr, sym, ap, subst}
-use Rattle.std.specs.Option.{UnwrapsOrElse, option_map, option_map_or}
-use Rattle.art_nodes.specs.Leaf.{leaf_key, leaf_value}
-use Rattle.art_nodes.specs.declared.leaf_node.LeafNode.{LeafNode}
-use Rattle.art_nodes.specs.declared.pointers.OpaqueNodePtr.{OpaqueNodePtr}
-use Rattle.art_arena.specs.Arena.{NodeArena, HeldLeaf, held}
-use Rattle.art_tree.specs.Dictionary.{entry_at, HasKeys, SameOtherEntries}
-use Rattle.art_tree.specs.Edits.{HoldsEntry}
-use Rattle.art_tree.specs.Insertion.{FindsEntry, IsEntered}
+use Rattle.art_tree.proofs.Names.{◌≡◌, ◌∙◌, ℕ, List, Some, inl, inr, sym, ap, subst, ◌≢◌, UnwrapsOrElse, option_map, option_map_or, leaf_key, leaf_value, LeafNode, OpaqueNodePtr, NodeArena, HeldLeaf, held, Nothing, entry_at, SameOtherEntries, HoldsEntry, FindsEntry, IsEntered}
 use Rattle.art_tree.specs.Leaves.{KeepsOtherLeaves}
 use Rattle.art_tree.proofs.SharedLemmas.DictionaryLemmas.{text-found}
-use Rattle.art_tree.proofs.SharedLemmas.KeyLemmas.{keys-entered}
-use Rattle.art_tree.proofs.InsertLemmas.NodeLemmas.{one-leaf}
+use Rattle.art_tree.proofs.InsertLemmas.NodeLemmas.{one-leaf, some-leaf}
 
 module _ {K V : Type 0} {P : ℕ} (text : K → List ℕ) (old mid : NodeArena K V P) (key : K) (made : V → Type 0) (pointer : OpaqueNodePtr K V P) (finds : FindsEntry text old mid key made pointer) where
   -- the leaf is held
-  pub found-held : (k : K) × (v : V) × HoldsEntry mid pointer k v
-  found-held = elim finds [ inl (entry, is, same, held) ↦ (entry.0, entry.1, held) | inr (v, is_made, none, entered, held) ↦ (key, v, held) ]
+  pub entry-held : held mid pointer ≢ Nothing
+  entry-held = elim finds [
+    | inl (entry, is, same, holds) ↦ some-leaf (held mid pointer) holds.leaf holds.is_held
+    | inr (v, is_made, none, entered, holds) ↦ some-leaf (held mid pointer) holds.leaf holds.is_held
+  ]
 
   -- its value is the one that was there, or the one that was made
   pub value-found : (value : V) → ((leaf : LeafNode K V P) → held mid pointer ≡ HeldLeaf leaf → value ≡ leaf_value leaf) → UnwrapsOrElse (option_map (λ (entry : K × V). entry.1) (entry_at text old (text key))) made value
   value-found value is = elim finds [
-    | inl (entry, there, same, held) ↦ subst (λ o. UnwrapsOrElse (option_map (λ (e : K × V). e.1) o) made value) (sym there) (is held.leaf held.is_held ∙ held.value)
-    | inr (v, is_made, none, entered, held) ↦ subst (λ o. UnwrapsOrElse (option_map (λ (e : K × V). e.1) o) made value) (sym none) (subst made (sym (is held.leaf held.is_held ∙ held.value)) is_made)
-  ]
-
-  -- the laws of keys still hold for each key
-  pub keys-found : (is_key : K → Type 0) → HasKeys text is_key old → is_key key → HasKeys text is_key mid
-  keys-found is_key keys one = elim finds [
-    | inl (entry, there, same, held) ↦ subst (HasKeys text is_key) (sym same) keys
-    | inr (v, is_made, none, entered, held) ↦ keys-entered text is_key old mid keys key v entered one
+    | inl (entry, there, same, holds) ↦ subst (λ o. UnwrapsOrElse (option_map (λ (e : K × V). e.1) o) made value) (sym there) (is holds.leaf holds.is_held ∙ holds.value)
+    | inr (v, is_made, none, entered, holds) ↦ subst (λ o. UnwrapsOrElse (option_map (λ (e : K × V). e.1) o) made value) (sym none) (subst made (sym (is holds.leaf holds.is_held ∙ holds.value)) is_made)
   ]
 
   module _ (new : NodeArena K V P) (w : V) (was : LeafNode K V P) (there : held mid pointer ≡ HeldLeaf was) (writes : IsEntered text mid new (leaf_key was) w) where

@@ -1,29 +1,8 @@
 -- The entries of an arena are as many as its leaves.
-use Rattle.std.proofs.Common.{◌≡◌, ◌≢◌, ◌∙◌, ℕ, zero, suc, ◌+◌, ◌≤◌, List, [], ◌∷◌, length, All, AllPairs, Contains, Option, Some, None, cond, slice_index_or, refl, sym, ap, subst, arith}
-use Rattle.std.specs.List.{count_by}
-use Rattle.std.specs.Option.{is_some}
-use Rattle.std.specs.declared.cmp.Ordering.TheVariants.{Less}
-use Rattle.std.proofs.lemmas.List.{length-map}
-use Rattle.std.proofs.lemmas.List.Sums.{sum_by-cons}
-use Rattle.std.proofs.lemmas.List.Elements.{All-nil, All-cons, All-head, All-tail, All-weaker, All-contains}
-use Rattle.art_header.specs.declared.node_type.NodeType.TheVariants as kinds
-use Rattle.art_bytes.specs.Text.{text_order}
-use Rattle.art_nodes.specs.Leaf.{leaf_key, leaf_value}
-use Rattle.art_nodes.specs.Pointers.{opaque_key, opaque_pointer}
-use Rattle.art_nodes.specs.declared.pointers.OpaqueNodePtr.{OpaqueNodePtr}
-use Rattle.art_nodes.specs.declared.leaf_node.LeafNode.{LeafNode}
-use Rattle.art_arena.specs.Arena.{NodeArena, HeldLeaf, Nothing, held, held_leaf, leaf_count}
-use Rattle.art_arena.specs.Links.{AreDistinct, Spells, SpellsAfter}
-use Rattle.art_arena.specs.Trees.{Tree, leaves, texts}
-use Rattle.art_tree.specs.Art.{IsAlone, IsArt}
-use Rattle.art_tree.specs.Dictionary.{entry_among}
-use Rattle.art_tree.specs.Entries.{entries_among, entries_of}
-use Rattle.art_tree.specs.Refusals.{texts_of}
+use Rattle.art_tree.proofs.Names.{◌≡◌, ◌≢◌, ◌∙◌, ℕ, zero, suc, ◌+◌, ◌≤◌, List, [], ◌∷◌, length, All, Contains, Option, Some, None, cond, slice_index_or, refl, sym, ap, subst, arith, count_by, is_some, length-map, sum_by-cons, All-nil, All-cons, All-head, All-tail, All-weaker, All-contains, leaf_key, leaf_value, opaque_key, opaque_pointer, OpaqueNodePtr, LeafNode, NodeArena, HeldLeaf, Nothing, held, held_leaf, leaf_count, AreDistinct, Spells, SpellsAfter, Tree, leaves, texts, IsAlone, IsArt, entry_among, entries_among, entries_of, texts_of, inside_image, same_texts, texts-apart, texts-ascend, LeafKind}
 use Rattle.art_tree.proofs.InsertLemmas.NodeLemmas.{some-leaf}
-use Rattle.art_tree.proofs.SharedLemmas.ClashLemmas.{mapped-from}
-use Rattle.art_tree.proofs.SharedLemmas.DictionaryLemmas.{AreApart, entry-from, entry-of-text, leaf-in, one-member, text-of-entry}
+use Rattle.art_tree.proofs.SharedLemmas.DictionaryLemmas.{entry-from, entry-of-text, leaf-in, one-member, text-of-entry}
 use Rattle.art_tree.proofs.SharedLemmas.EntryLists.{among-each, are-entries, has-entry, put-long}
-use Rattle.art_tree.proofs.SharedLemmas.SameEntries.{same-texts}
 
 module _ {X : Type 0} where
   -- each of these slots has something
@@ -99,7 +78,7 @@ module _ {K V : Type 0} {P : ℕ} (text : K → List ℕ) where
   counted (Some leaf ∷ slots) one =
       let rest = counted slots (λ i j a b at_i at_j same. let next = one (suc i) (suc j) a b at_i at_j same in omega (arith, next)) in
       let long = put-long text (entries_among text slots) (leaf_key leaf, leaf_value leaf) (λ inside.
-      let from = mapped-from (λ e. text e.0) (entries_among text slots) (text (leaf_key leaf)) inside in
+      let from = inside_image (λ e. text e.0) (entries_among text slots) (text (leaf_key leaf)) inside in
       let slot = entry-from text slots (text from.0.0) from.0 (All-contains (λ e. entry_among text slots (text e.0) ≡ Some e) (entries_among text slots) from.0 (among-each text slots) from.1) in
       let wrong = one 0 (suc slot.key) leaf slot.leaf refl slot.at (sym (slot.has ∙ from.2)) in
       omega (arith, wrong)) in
@@ -107,24 +86,24 @@ module _ {K V : Type 0} {P : ℕ} (text : K → List ℕ) where
       omega (arith, long, rest, more)
 
   module _ (arena : NodeArena K V P) where
-    pub art-counted : ((root : OpaqueNodePtr K V P) (tree : Tree (OpaqueNodePtr K V P)) → IsAlone text arena root tree → AreApart (texts tree)) → (root : Option (OpaqueNodePtr K V P)) → IsArt text arena root → length (entries_of text arena) ≡ leaf_count arena
-    art-counted apart None nothing = counted arena.leaf.slots (λ i j a b at_i at_j same. let wrong : HeldLeaf a ≡ Nothing = sym (ap (held_leaf {H = OpaqueNodePtr K V P}) at_i) ∙ nothing (opaque_pointer kinds.Leaf i) in absurd (cc))
-    art-counted apart (Some root) (tree, alone) = counted arena.leaf.slots (λ i j a b at_i at_j same.
-        let p = opaque_pointer {K = K} {V = V} {P = P} kinds.Leaf i in
-        let q = opaque_pointer {K = K} {V = V} {P = P} kinds.Leaf j in
+    pub art-counted : (root : Option (OpaqueNodePtr K V P)) → IsArt text arena root → length (entries_of text arena) ≡ leaf_count arena
+    art-counted None nothing = counted arena.leaf.slots (λ i j a b at_i at_j same. let wrong : HeldLeaf a ≡ Nothing = sym (ap (held_leaf {H = OpaqueNodePtr K V P}) at_i) ∙ nothing (opaque_pointer LeafKind i) in absurd (cc))
+    art-counted (Some root) (tree, alone) = counted arena.leaf.slots (λ i j a b at_i at_j same.
+        let p = opaque_pointer {K = K} {V = V} {P = P} LeafKind i in
+        let q = opaque_pointer {K = K} {V = V} {P = P} LeafKind j in
         let there : held arena p ≡ HeldLeaf a = ap held_leaf at_i in
         let here : held arena q ≡ HeldLeaf b = ap held_leaf at_j in
         let in_p = leaf-in text arena tree alone.is_tree.stands p a (alone.no_others p (some-leaf (held arena p) a there)) there in
         let in_q = leaf-in text arena tree alone.is_tree.stands q b (alone.no_others q (some-leaf (held arena q) b here)) here in
-        ap opaque_key (one-member (leaves tree) p q (text (leaf_key a)) (apart root tree alone) in_p (subst (λ t. Contains (leaves tree) (q, t)) (sym same) in_q)))
+        ap opaque_key (one-member (leaves tree) p q (text (leaf_key a)) (texts-apart [] tree alone.is_tree.sound) in_p (subst (λ t. Contains (leaves tree) (q, t)) (sym same) in_q)))
 
-    module _ (root : OpaqueNodePtr K V P) (tree : Tree (OpaqueNodePtr K V P)) (alone : IsAlone text arena root tree) (apart : AreApart (texts tree)) (ascend : AllPairs (λ a b. text_order a b ≡ Less) (texts tree)) where
+    module _ (root : OpaqueNodePtr K V P) (tree : Tree (OpaqueNodePtr K V P)) (alone : IsAlone text arena root tree) where
       -- the texts of the entries are those of the tree's leaves
       pub entry-texts : texts_of text (entries_of text arena) ≡ texts tree
       entry-texts =
           let list = are-entries text arena in
-          same-texts (texts_of text (entries_of text arena)) (texts tree) list.ascending ascend (λ x inside. text-of-entry text arena root tree alone x (has-entry text arena (entries_of text arena) x list.each inside))
-          (λ x inside. list.all x (entry-of-text text arena root tree alone apart x inside))
+          same_texts (texts_of text (entries_of text arena)) (texts tree) list.ascending (texts-ascend [] tree alone.is_tree.sound) (λ x inside. text-of-entry text arena root tree alone x (has-entry text arena (entries_of text arena) x list.each inside))
+          (λ x inside. list.all x (entry-of-text text arena root tree alone (texts-apart [] tree alone.is_tree.sound) x inside))
 
-      pub leaves-counted : length (entries_of text arena) ≡ leaf_count arena → length (leaves tree) ≡ leaf_count arena
-      leaves-counted is = sym (length-map (leaves tree) (λ leaf. leaf.1)) ∙ ap length (sym entry-texts) ∙ length-map (entries_of text arena) (λ e. text e.0) ∙ is
+      pub leaves-counted : length (leaves tree) ≡ leaf_count arena
+      leaves-counted = sym (length-map (leaves tree) (λ leaf. leaf.1)) ∙ ap length (sym entry-texts) ∙ length-map (entries_of text arena) (λ e. text e.0) ∙ art-counted (Some root) (tree, alone)

@@ -1,68 +1,6 @@
 -- The list of an arena's entries.
-use Rattle.std.proofs.Common.{◌≡◌, ◌≢◌, ◌⊎◌, ◌∙◌, ℕ, zero, suc, Bool, true, false, List, [], ◌∷◌, length, All, Contains, Option, Some, None, nat_eq, refl, sym, ap, subst, inl, inr, arith}
-use Rattle.std.specs.Cmp.{nat_cmp_is}
-use Rattle.std.specs.Cmp.Lexicographic.{pointwise, nat_list_cmp_total}
-use Rattle.std.specs.Ordering.{match_ordering, nat_cmp, ordering_reverse, ordering_then}
-use Rattle.std.specs.declared.cmp.Ordering.{Ordering}
-use Rattle.std.specs.declared.cmp.Ordering.TheVariants.{Less, Equal, Greater}
-use Rattle.std.proofs.lemmas.Bool.Decides.{eqb_tells, leb_tells}
-use Rattle.std.proofs.lemmas.List.Elements.{All-nil, All-cons, All-head, All-tail, All-weaker, All-contains, Contains-append_left, Contains-append_right, Contains-append_cases}
+use Rattle.art_tree.proofs.Names.{◌≡◌, ◌≢◌, ◌∙◌, ℕ, zero, suc, List, [], ◌∷◌, length, All, Contains, Option, Some, None, refl, sym, ap, subst, inl, inr, arith, match_ordering, Ordering, Less, Equal, Greater, All-nil, All-cons, All-head, All-tail, All-weaker, All-contains, Contains-append_left, Contains-append_right, Contains-append_cases, same_Some, text_order, leaf_key, leaf_value, LeafNode, NodeArena, entry_among, entry_at, HasEntry, IsEmpty, IsEntry, SameEntries, SameOtherEntries, AreEntries, entries_among, entries_of, put_entry, without_text, texts_of, Ascend, all_below, ascend_rest, by_order, by_text, first_below, greater_turned, less_differs, other_text, same_order, same_texts, text_is, text_itself, inside_image}
 use Rattle.std.proofs.lemmas.List.Kept.{AllPairs-cons}
-use Rattle.std.proofs.lemmas.Option.{same_Some}
-use Rattle.art_bytes.specs.Text.{text_order}
-use Rattle.art_nodes.specs.Leaf.{leaf_key, leaf_value}
-use Rattle.art_nodes.specs.declared.leaf_node.LeafNode.{LeafNode}
-use Rattle.art_arena.specs.Arena.{NodeArena}
-use Rattle.art_tree.specs.Dictionary.{entry_among, entry_at, HasEntry, IsEmpty, IsEntry, SameEntries, SameOtherEntries}
-use Rattle.art_tree.specs.Entries.{AreEntries, entries_among, entries_of, put_entry, without_text}
-use Rattle.art_tree.specs.Refusals.{texts_of}
-use Rattle.art_tree.proofs.FindLemmas.ScanLemmas.{other-text, same-text, text-itself}
-use Rattle.art_tree.proofs.SharedLemmas.ClashLemmas.{mapped-from}
-use Rattle.art_tree.proofs.SharedLemmas.DictionaryLemmas.{itself}
-use Rattle.art_tree.proofs.SharedLemmas.SameEntries.{Ascend, others-ascend, same-texts}
-
--- numbers that differ decide the order of texts
-parted : (a b : ℕ) (o : Ordering) → a ≢ b → ordering_then (nat_cmp a b) o ≡ Equal → ⊥
-parted a b o differ tied = elim (leb_tells (suc a) b) [
-  | inl less ↦ let is : Less ≡ nat_cmp a b = nat_cmp_is a b Less less.1 in let wrong : Less ≡ Equal = rw (sym is) at tied in absurd (cc)
-  | inr more ↦ let is : Greater ≡ nat_cmp a b = nat_cmp_is a b Greater (omega (arith, more.1, differ)) in let wrong : Greater ≡ Equal = rw (sym is) at tied in absurd (cc)
-]
-
--- texts of which neither is less are one
-equal-text : (x y : List ℕ) → text_order x y ≡ Equal → x ≡ y
-equal-text [] [] is = refl
-equal-text [] (b ∷ y) is = absurd (cc)
-equal-text (a ∷ x) [] is = absurd (cc)
-equal-text (a ∷ x) (b ∷ y) is = elim (eqb_tells a b) [
-  | inl same ↦
-      let tie : nat_cmp a b ≡ Equal = sym (nat_cmp_is a b Equal same.1) in
-      let rest : text_order x y ≡ Equal = rw tie at is in
-      ap (λ n. n ∷ x) same.1 ∙ ap (λ z. b ∷ z) (equal-text x y rest)
-  | inr differ ↦ absurd (parted a b (text_order x y) differ.1 is)
-]
-
--- a text is another or not
-pub text-is : (a b : List ℕ) → (a ≡ b) ⊎ (a ≢ b)
-text-is a b = by_test (pointwise nat_eq a b) refl
-  where
-    by_test : (t : Bool) → pointwise nat_eq a b ≡ t → (a ≡ b) ⊎ (a ≢ b)
-    by_test true is = inl (same-text a b is)
-    by_test false is = inr (λ same. let wrong = subst (λ y. pointwise nat_eq a y ≡ true) same (text-itself a) in absurd (cc))
-
-less-differs : (a z : List ℕ) → text_order a z ≡ Less → z ≢ a
-less-differs a z less same = let wrong : Equal ≡ Less = sym (itself a) ∙ ap (text_order a) (sym same) ∙ less in absurd (cc)
-
-turned : (a b : List ℕ) → text_order a b ≡ Greater → text_order b a ≡ Less
-turned a b more = nat_list_cmp_total.antisymm b a ∙ ap ordering_reverse more
-
--- the first of texts that ascend is less than the others
-least : (x : List ℕ) (xs : List (List ℕ)) → Ascend (x ∷ xs) → All (λ z. text_order x z ≡ Less) xs
-least x xs ascend = λ k d inside. ascend 0 (suc k) d (omega arith) (omega (arith, inside))
-
--- and so is what is less than the first
-below-all : (e x : List ℕ) (xs : List (List ℕ)) → text_order e x ≡ Less → Ascend (x ∷ xs) → All (λ z. text_order e z ≡ Less) (x ∷ xs)
-below-all e x xs less ascend =
-    All-cons (λ z. text_order e z ≡ Less) x xs less (All-weaker (λ z. text_order x z ≡ Less) (λ z. text_order e z ≡ Less) (λ z further. nat_list_cmp_total.trans e x z less further) xs (least x xs ascend))
 
 module _ {K V : Type 0} (text : K → List ℕ) where
   abbrev texts : List (K × V) → List (List ℕ)
@@ -73,13 +11,11 @@ module _ {K V : Type 0} (text : K → List ℕ) where
   of-entries Q [] all = All-nil (λ e. Q (text e.0))
   of-entries Q (e ∷ es) all = All-cons (λ e. Q (text e.0)) e es (All-head Q (text e.0) (texts es) all) (of-entries Q es (All-tail Q (text e.0) (texts es) all))
 
-  put-cases : (Holds : List (K × V) → Type 0) (o : K × V) (es : List (K × V)) (e : K × V) → (text_order (text e.0) (text o.0) ≡ Less → Holds (e ∷ o ∷ es)) → (text_order (text e.0) (text o.0) ≡ Equal → Holds (e ∷ es)) → (text_order (text e.0) (text o.0) ≡ Greater → Holds (o ∷ put_entry text es e)) → Holds (put_entry text (o ∷ es) e)
-  put-cases Holds o es e less same more = by_order (text_order (text e.0) (text o.0)) refl
-    where
-      by_order : (c : Ordering) → text_order (text e.0) (text o.0) ≡ c → Holds (put_entry text (o ∷ es) e)
-      by_order Less is = subst (λ c. Holds (match_ordering c (e ∷ o ∷ es) (e ∷ es) (o ∷ put_entry text es e))) (sym is) (less is)
-      by_order Equal is = subst (λ c. Holds (match_ordering c (e ∷ o ∷ es) (e ∷ es) (o ∷ put_entry text es e))) (sym is) (same is)
-      by_order Greater is = subst (λ c. Holds (match_ordering c (e ∷ o ∷ es) (e ∷ es) (o ∷ put_entry text es e))) (sym is) (more is)
+  pub put-cases : (Holds : List (K × V) → Type 0) (o : K × V) (es : List (K × V)) (e : K × V) → (text_order (text e.0) (text o.0) ≡ Less → Holds (e ∷ o ∷ es)) → (text_order (text e.0) (text o.0) ≡ Equal → Holds (e ∷ es)) → (text_order (text e.0) (text o.0) ≡ Greater → Holds (o ∷ put_entry text es e)) → Holds (put_entry text (o ∷ es) e)
+  put-cases Holds o es e less same more =
+      let placed : (c : Ordering) → text_order (text e.0) (text o.0) ≡ c → Holds (match_ordering c (e ∷ o ∷ es) (e ∷ es) (o ∷ put_entry text es e)) → Holds (put_entry text (o ∷ es) e) =
+      λ c is. subst (λ c. Holds (match_ordering c (e ∷ o ∷ es) (e ∷ es) (o ∷ put_entry text es e))) (sym is) in
+      by_order (text e.0) (text o.0) (Holds (put_entry text (o ∷ es) e)) (λ is. placed Less is (less is)) (λ is. placed Equal is (same is)) (λ is. placed Greater is (more is))
 
   -- what holds of the texts and of that of an entry holds when the entry is put among them
   put-all : (Q : List ℕ → Type 0) (es : List (K × V)) (e : K × V) → All Q (texts es) → Q (text e.0) → All Q (texts (put_entry text es e))
@@ -93,12 +29,12 @@ module _ {K V : Type 0} (text : K → List ℕ) where
   put-ascends [] e ascend = AllPairs-cons (λ a b. text_order a b ≡ Less) (text e.0) [] (All-nil (λ z. text_order (text e.0) z ≡ Less)) ascend
   put-ascends (o ∷ es) e ascend =
       put-cases (λ l. Ascend (texts l)) o es e
-      (λ less. AllPairs-cons (λ a b. text_order a b ≡ Less) (text e.0) (texts (o ∷ es)) (below-all (text e.0) (text o.0) (texts es) less ascend) ascend)
-      (λ same. subst (λ x. Ascend (x ∷ texts es)) (sym (equal-text (text e.0) (text o.0) same)) ascend)
+      (λ less. AllPairs-cons (λ a b. text_order a b ≡ Less) (text e.0) (texts (o ∷ es)) (all_below (text e.0) (text o.0) (texts es) less ascend) ascend)
+      (λ same. subst (λ x. Ascend (x ∷ texts es)) (sym (same_order (text e.0) (text o.0) same)) ascend)
       (λ more.
       AllPairs-cons (λ a b. text_order a b ≡ Less) (text o.0) (texts (put_entry text es e))
-      (put-all (λ z. text_order (text o.0) z ≡ Less) es e (least (text o.0) (texts es) ascend) (turned (text e.0) (text o.0) more))
-      (put-ascends es e (others-ascend (text o.0) (texts es) ascend)))
+      (put-all (λ z. text_order (text o.0) z ≡ Less) es e (first_below (text o.0) (texts es) ascend) (greater_turned (text e.0) (text o.0) more))
+      (put-ascends es e (ascend_rest (text o.0) (texts es) ascend)))
 
   -- what holds of an entry, and of the others that have another text, holds of all
   put-each : (Q : K × V → Type 0) (es : List (K × V)) (e : K × V) → Ascend (texts es) → All (λ o. text o.0 ≢ text e.0 → Q o) es → Q e → All Q (put_entry text es e)
@@ -107,15 +43,15 @@ module _ {K V : Type 0} (text : K → List ℕ) where
       let others = All-tail (λ o. text o.0 ≢ text e.0 → Q o) o es all in
       put-cases (All Q) o es e
       (λ less.
-      let apart = of-entries (λ z. text_order (text e.0) z ≡ Less) (o ∷ es) (below-all (text e.0) (text o.0) (texts es) less ascend) in
-      All-cons Q e (o ∷ es) one (λ k d inside. all k d inside (less-differs (text e.0) _ (apart k d inside))))
+      let apart = of-entries (λ z. text_order (text e.0) z ≡ Less) (o ∷ es) (all_below (text e.0) (text o.0) (texts es) less ascend) in
+      All-cons Q e (o ∷ es) one (λ k d inside. all k d inside (λ same. less_differs (text e.0) _ (apart k d inside) (sym same))))
       (λ same.
-      let above = subst (λ x. All (λ z. text_order x z ≡ Less) (texts es)) (sym (equal-text (text e.0) (text o.0) same)) (least (text o.0) (texts es) ascend) in
+      let above = subst (λ x. All (λ z. text_order x z ≡ Less) (texts es)) (sym (same_order (text e.0) (text o.0) same)) (first_below (text o.0) (texts es) ascend) in
       let apart = of-entries (λ z. text_order (text e.0) z ≡ Less) es above in
-      All-cons Q e es one (λ k d inside. others k d inside (less-differs (text e.0) _ (apart k d inside))))
+      All-cons Q e es one (λ k d inside. others k d inside (λ same. less_differs (text e.0) _ (apart k d inside) (sym same))))
       (λ more.
-      let differ : text o.0 ≢ text e.0 = λ same. less-differs (text o.0) (text e.0) (turned (text e.0) (text o.0) more) (sym same) in
-      All-cons Q o (put_entry text es e) (All-head (λ o. text o.0 ≢ text e.0 → Q o) o es all differ) (put-each Q es e (others-ascend (text o.0) (texts es) ascend) others one))
+      let differ : text o.0 ≢ text e.0 = less_differs (text o.0) (text e.0) (greater_turned (text e.0) (text o.0) more) in
+      All-cons Q o (put_entry text es e) (All-head (λ o. text o.0 ≢ text e.0 → Q o) o es all differ) (put-each Q es e (ascend_rest (text o.0) (texts es) ascend) others one))
 
   put-has : (es : List (K × V)) (e : K × V) → Contains (texts (put_entry text es e)) (text e.0)
   put-has [] e = (0, omega arith, refl)
@@ -126,7 +62,7 @@ module _ {K V : Type 0} (text : K → List ℕ) where
   put-keeps [] e x (k, inside, is) = absurd (omega (arith, inside))
   put-keeps (o ∷ es) e x inside =
       put-cases (λ l. Contains (texts l) x) o es e (λ _. Contains-append_right (text e.0 ∷ []) (texts (o ∷ es)) x inside)
-      (λ same. subst (λ y. Contains (y ∷ texts es) x) (sym (equal-text (text e.0) (text o.0) same)) inside)
+      (λ same. subst (λ y. Contains (y ∷ texts es) x) (sym (same_order (text e.0) (text o.0) same)) inside)
       (λ _. elim (Contains-append_cases (text o.0 ∷ []) (texts es) x inside) [
         | inl here ↦ Contains-append_left (text o.0 ∷ []) (texts (put_entry text es e)) x here
         | inr later ↦ Contains-append_right (text o.0 ∷ []) (texts (put_entry text es e)) x (put-keeps es e x later)
@@ -136,15 +72,11 @@ module _ {K V : Type 0} (text : K → List ℕ) where
   pub put-long : (es : List (K × V)) (e : K × V) → (Contains (texts es) (text e.0) → ⊥) → length (put_entry text es e) ≡ suc (length es)
   put-long [] e never = refl
   put-long (o ∷ es) e never =
-      put-cases (λ l. length l ≡ suc (length (o ∷ es))) o es e (λ _. refl) (λ same. absurd (never (0, omega arith, sym (equal-text (text e.0) (text o.0) same))))
+      put-cases (λ l. length l ≡ suc (length (o ∷ es))) o es e (λ _. refl) (λ same. absurd (never (0, omega arith, sym (same_order (text e.0) (text o.0) same))))
       (λ _. ap suc (put-long es e (λ inside. never (Contains-append_right (text o.0 ∷ []) (texts es) (text e.0) inside))))
 
-  without-cases : (Holds : List (K × V) → Type 0) (o : K × V) (es : List (K × V)) (x : List ℕ) → (text o.0 ≡ x → Holds (without_text text es x)) → (text o.0 ≢ x → Holds (o ∷ without_text text es x)) → Holds (without_text text (o ∷ es) x)
-  without-cases Holds o es x same differ = by_test (pointwise nat_eq (text o.0) x) refl
-    where
-      by_test : (t : Bool) → pointwise nat_eq (text o.0) x ≡ t → Holds (without_text text (o ∷ es) x)
-      by_test true is = rw is (same (same-text (text o.0) x is))
-      by_test false is = rw is (differ (λ one. let wrong = subst (λ y. pointwise nat_eq (text o.0) y ≡ true) one (text-itself (text o.0)) in absurd (cc)))
+  pub without-cases : (Holds : List (K × V) → Type 0) (o : K × V) (es : List (K × V)) (x : List ℕ) → (text o.0 ≡ x → Holds (without_text text es x)) → (text o.0 ≢ x → Holds (o ∷ without_text text es x)) → Holds (without_text text (o ∷ es) x)
+  without-cases Holds o es x same differ = by_text (text o.0) x (Holds (without_text text (o ∷ es) x)) (λ is one. rw is (same one)) (λ is never. rw is (differ never))
 
   without-all : (Q : List ℕ → Type 0) (es : List (K × V)) (x : List ℕ) → All Q (texts es) → All Q (texts (without_text text es x))
   without-all Q [] x all = all
@@ -155,9 +87,9 @@ module _ {K V : Type 0} (text : K → List ℕ) where
   without-ascends : (es : List (K × V)) (x : List ℕ) → Ascend (texts es) → Ascend (texts (without_text text es x))
   without-ascends [] x ascend = ascend
   without-ascends (o ∷ es) x ascend =
-      let others = without-ascends es x (others-ascend (text o.0) (texts es) ascend) in
+      let others = without-ascends es x (ascend_rest (text o.0) (texts es) ascend) in
       without-cases (λ l. Ascend (texts l)) o es x (λ _. others)
-      (λ _. AllPairs-cons (λ a b. text_order a b ≡ Less) (text o.0) (texts (without_text text es x)) (without-all (λ z. text_order (text o.0) z ≡ Less) es x (least (text o.0) (texts es) ascend)) others)
+      (λ _. AllPairs-cons (λ a b. text_order a b ≡ Less) (text o.0) (texts (without_text text es x)) (without-all (λ z. text_order (text o.0) z ≡ Less) es x (first_below (text o.0) (texts es) ascend)) others)
 
   without-each : (Q : K × V → Type 0) (es : List (K × V)) (x : List ℕ) → All (λ o. text o.0 ≢ x → Q o) es → All Q (without_text text es x)
   without-each Q [] x all = All-nil Q
@@ -190,17 +122,16 @@ module _ {K V : Type 0} {P : ℕ} (text : K → List ℕ) where
   among-each (Some leaf ∷ slots) =
       put-each text (λ e. entry_among text (Some leaf ∷ slots) (text e.0) ≡ Some e) (entries_among text slots) (leaf_key leaf, leaf_value leaf) (among-ascends slots)
       (All-weaker (λ e. entry_among text slots (text e.0) ≡ Some e) (λ e. text e.0 ≢ text (leaf_key leaf) → entry_among text (Some leaf ∷ slots) (text e.0) ≡ Some e)
-      (λ e rest differ. rw (other-text (text (leaf_key leaf)) (text e.0) (λ same. differ (sym same))) rest) (entries_among text slots) (among-each slots))
-      (rw (text-itself (text (leaf_key leaf))) refl)
+      (λ e rest differ. rw (other_text (text (leaf_key leaf)) (text e.0) (λ same. differ (sym same))) rest) (entries_among text slots) (among-each slots))
+      (rw (text_itself (text (leaf_key leaf))) refl)
 
   among-all : (slots : List (Option (LeafNode K V P))) (x : List ℕ) → entry_among text slots x ≢ None → Contains (texts_of text (entries_among text slots)) x
   among-all [] x some = absurd (some refl)
   among-all (None ∷ slots) x some = among-all slots x some
-  among-all (Some leaf ∷ slots) x some = by_test (λ later. among-all slots x later) (pointwise nat_eq (text (leaf_key leaf)) x) refl
-    where
-      by_test : (entry_among text slots x ≢ None → Contains (texts_of text (entries_among text slots)) x) → (t : Bool) → pointwise nat_eq (text (leaf_key leaf)) x ≡ t → Contains (texts_of text (entries_among text (Some leaf ∷ slots))) x
-      by_test onwards true is = subst (Contains (texts_of text (entries_among text (Some leaf ∷ slots)))) (same-text (text (leaf_key leaf)) x is) (put-has text (entries_among text slots) (leaf_key leaf, leaf_value leaf))
-      by_test onwards false is = put-keeps text (entries_among text slots) (leaf_key leaf, leaf_value leaf) x (onwards (λ none. some (rw is none)))
+  among-all (Some leaf ∷ slots) x some =
+      by_text (text (leaf_key leaf)) x (Contains (texts_of text (entries_among text (Some leaf ∷ slots))) x)
+      (λ is same. subst (Contains (texts_of text (entries_among text (Some leaf ∷ slots)))) same (put-has text (entries_among text slots) (leaf_key leaf, leaf_value leaf)))
+      (λ is never. put-keeps text (entries_among text slots) (leaf_key leaf, leaf_value leaf) x (among-all slots x (λ none. some (rw is none))))
 
   -- the list of the entries is one
   pub are-entries : (arena : NodeArena K V P) → AreEntries text arena (entries_of text arena)
@@ -218,21 +149,21 @@ module _ {K V : Type 0} {P : ℕ} (text : K → List ℕ) where
 
   pub has-entry : (arena : NodeArena K V P) (a : List (K × V)) (x : List ℕ) → All (IsEntry text arena) a → Contains (texts_of text a) x → HasEntry text arena x
   has-entry arena a x each inside none =
-      let from = mapped-from (λ e. text e.0) a x inside in
+      let from = inside_image (λ e. text e.0) a x inside in
       let wrong : None ≡ Some from.0 = sym none ∙ ap (entry_at text arena) (sym from.2) ∙ All-contains (IsEntry text arena) a from.0 each from.1 in
       absurd (cc)
 
   pub one-list : (arena : NodeArena K V P) (a b : List (K × V)) → AreEntries text arena a → AreEntries text arena b → a ≡ b
   one-list arena a b is_a is_b =
       same-list arena a b
-      (same-texts (texts_of text a) (texts_of text b) is_a.ascending is_b.ascending (λ x inside. is_b.all x (has-entry arena a x is_a.each inside)) (λ x inside. is_a.all x (has-entry arena b x is_b.each inside)))
+      (same_texts (texts_of text a) (texts_of text b) is_a.ascending is_b.ascending (λ x inside. is_b.all x (has-entry arena a x is_a.each inside)) (λ x inside. is_a.all x (has-entry arena b x is_b.each inside)))
       is_a.each is_b.each
 
   -- an entry is a member of the list
   pub entry-listed : (arena : NodeArena K V P) (e : K × V) → IsEntry text arena e → Contains (entries_of text arena) e
   entry-listed arena e is =
       let list = are-entries arena in
-      let from = mapped-from (λ e. text e.0) (entries_of text arena) (text e.0) (list.all (text e.0) (λ none. let wrong : None ≡ Some e = sym none ∙ is in absurd (cc))) in
+      let from = inside_image (λ e. text e.0) (entries_of text arena) (text e.0) (list.all (text e.0) (λ none. let wrong : None ≡ Some e = sym none ∙ is in absurd (cc))) in
       let one = same_Some from.0 e (sym (All-contains (IsEntry text arena) (entries_of text arena) from.0 list.each from.1) ∙ ap (entry_at text arena) from.2 ∙ is) in
       subst (Contains (entries_of text arena)) one from.1
 
@@ -258,7 +189,7 @@ module _ {K V : Type 0} {P : ℕ} (text : K → List ℕ) where
         one-list new (entries_of text new) (put_entry text (entries_of text old) e) (are-entries new) (record {
           ascending = put-ascends text (entries_of text old) e was.ascending;
           each = put-each text (IsEntry text new) (entries_of text old) e was.ascending (All-weaker (IsEntry text old) (λ o. text o.0 ≢ text e.0 → IsEntry text new o) (λ o had differ. others (text o.0) differ ∙ had) (entries_of text old) was.each) is;
-          all = λ x has. elim (text-is x (text e.0)) [
+          all = λ x has. elim (text_is x (text e.0)) [
             | inl same ↦ subst (Contains (texts_of text (put_entry text (entries_of text old) e))) (sym same) (put-has text (entries_of text old) e)
             | inr differ ↦ put-keeps text (entries_of text old) e x (was.all x (λ none. has (others x differ ∙ none)))
           ];

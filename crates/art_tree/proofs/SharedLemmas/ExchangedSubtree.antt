@@ -1,20 +1,6 @@
 -- One subtree of a tree is exchanged for another.
-use Rattle.std.proofs.Common.{◌≡◌, ◌≢◌, ◌∙◌, ℕ, zero, suc, ◌<◌, ◌≤◌, nat_lt, List, [], ◌∷◌, ◌++◌, length, filter, Contains, refl, sym, ap, subst, inl, inr, arith, append_assoc, append-nil}
-use Rattle.std.proofs.lemmas.Bool.{le-ltb, lt-ltb}
-use Rattle.std.proofs.lemmas.List.{length-map}
-use Rattle.std.proofs.lemmas.List.Elements.{All-contains, Contains-append_left, Contains-append_right, Contains-append_cases}
-use Rattle.art_header.specs.NodeType.{kind_for}
-use Rattle.art_nodes.specs.ChildMap.{ChildMap, IsAscendingFrom, key_bytes, with_child}
-use Rattle.art_nodes.specs.Inner as nodes
-use Rattle.art_nodes.specs.declared.pointers.OpaqueNodePtr.{OpaqueNodePtr}
-use Rattle.art_arena.specs.Arena.{NodeArena, HeldInner, held}
-use Rattle.art_arena.specs.Links.{AreDistinct}
-use Rattle.art_arena.specs.Standing.{NodeStands, StandsIn, AllStandIn}
-use Rattle.art_arena.specs.Trees.{Tree, Leaf, Inner, Branches, NoBranch, Branch, leaves, branch_leaves, places, branch_places, branch_roots, root_of, IsSound, IsWellFormed}
-use Rattle.art_tree.specs.Contexts.{Context, Whole, Under, plug, path_to, leaves_before, leaves_after, KeepsAt, IsExchanged, join}
-use Rattle.art_tree.specs.Loading.{HasSmallestKinds}
+use Rattle.art_tree.proofs.Names.{the_one, all_left, ◌≡◌, ◌≢◌, ◌∙◌, ℕ, suc, ◌<◌, ◌≤◌, nat_lt, List, [], ◌∷◌, ◌++◌, length, filter, Contains, refl, sym, ap, subst, inl, inr, arith, append_assoc, append-nil, le-ltb, lt-ltb, length-map, All-contains, Contains-append_left, Contains-append_right, Contains-append_cases, kind_for, ChildMap, IsAscendingFrom, key_bytes, with_child, OpaqueNodePtr, NodeArena, HeldInner, held, AreDistinct, NodeStands, StandsIn, AllStandIn, Tree, Leaf, Inner, Branches, NoBranch, Branch, leaves, branch_leaves, places, branch_places, branch_roots, root_of, IsSound, IsWellFormed, Context, Whole, Under, plug, path_to, leaves_before, leaves_after, KeepsAt, IsExchanged, join, HasSmallestKinds, InnerNode, node_with_child}
 use Rattle.art_tree.proofs.SharedLemmas.BranchLemmas.{roots-join, leaves-join, places-join, bytes-join, sound-join, stand-join, stand-split, smallest_kinds-join, smallest_kinds-split, sound-split}
-use Rattle.art_tree.proofs.FindLemmas.OnlyWayLemmas.{All-left}
 
 -- a child under a byte that is there already takes the place of the one before it
 pub before-byte : {H : Type 0} (low : ℕ) (front : ChildMap H) (byte : ℕ) (child : H) (back : ChildMap H) → IsAscendingFrom low (key_bytes (front ++ (byte, child) ∷ back)) → low ≤ byte
@@ -84,19 +70,15 @@ module _ {H : Type 0} where
   pub sound-whole : (context : Context H) (old new : Tree H) → IsWellFormed (plug context old) → IsSound (path_to context) new → IsWellFormed (plug context new)
   sound-whole = sound-exchanged []
 
-pub the-one : {A : Type 0} (x q : A) → Contains (x ∷ []) q → x ≡ q
-the-one x q (zero, inside, is) = is
-the-one x q (suc k, inside, is) = absurd (omega (arith, inside))
-
 -- the parts of a list of different members are such lists, and have no member in common
 pub AreDistinct-split : {A : Type 0} (xs ys : List A) → AreDistinct (xs ++ ys) → AreDistinct xs × AreDistinct ys × ((q : A) → Contains xs q → Contains ys q → ⊥)
 AreDistinct-split [] ys distinct = (tt, distinct, λ q (k, inside, is) other. omega (arith, inside))
 AreDistinct-split (x ∷ xs) ys distinct =
     let rest = AreDistinct-split xs ys distinct.1 in (
-      (All-left (λ other. other ≢ x) xs ys distinct.0, rest.0),
+      (all_left (λ other. other ≢ x) xs ys distinct.0, rest.0),
       rest.1,
       λ q first second. elim (Contains-append_cases (x ∷ []) xs q first) [
-        | inl here ↦ All-contains (λ other. other ≢ x) (xs ++ ys) q distinct.0 (Contains-append_right xs ys q second) (sym (the-one x q here))
+        | inl here ↦ All-contains (λ other. other ≢ x) (xs ++ ys) q distinct.0 (Contains-append_right xs ys q second) (sym (the_one x q here))
         | inr later ↦ rest.2 q later second
       ],
     )
@@ -139,7 +121,7 @@ module _ {H : Type 0} where
         | inl here ↦ record {
           inside = in-part above whole q (subst (λ all. Contains all q) (sym same) (Contains-append_left (pointer ∷ []) (branch_places before ++ (places tree ++ branch_places after)) q here));
           outside = λ part. All-contains (λ other. other ≢ pointer) (branch_places before ++ (places tree ++ branch_places after)) q apart.0
-              (Contains-append_right (branch_places before) (places tree ++ branch_places after) q (Contains-append_left (places tree) (branch_places after) q part)) (sym (the-one pointer q here));
+              (Contains-append_right (branch_places before) (places tree ++ branch_places after) q (Contains-append_left (places tree) (branch_places after) q part)) (sym (the_one pointer q here));
         }
         | inr past ↦ elim (Contains-append_cases (branch_places before) (branch_places after ++ places_around above) q past) [
           | inl left ↦ record {
@@ -197,7 +179,7 @@ module _ {K V : Type 0} {P : ℕ} (text : K → List ℕ) (old new : NodeArena K
 
   -- the node above the place with the new part below it
   node-stands : (pointer : OpaqueNodePtr K V P) (prefix : List ℕ) (before : Branches (OpaqueNodePtr K V P)) (byte : ℕ) (part now : Tree (OpaqueNodePtr K V P)) (after : Branches (OpaqueNodePtr K V P)) → StandsIn text old (Inner pointer prefix (join before (Branch byte part after))) → StandsIn text new now
-      → ((node : nodes.Inner (OpaqueNodePtr K V P)) → held old pointer ≡ HeldInner node → NodeStands P node prefix (join before (Branch byte part after)) → (renewed : nodes.Inner (OpaqueNodePtr K V P)) × (held new pointer ≡ HeldInner renewed) × NodeStands P renewed prefix (join before (Branch byte now after)))
+      → ((node : InnerNode (OpaqueNodePtr K V P)) → held old pointer ≡ HeldInner node → NodeStands P node prefix (join before (Branch byte part after)) → (renewed : InnerNode (OpaqueNodePtr K V P)) × (held new pointer ≡ HeldInner renewed) × NodeStands P renewed prefix (join before (Branch byte now after)))
       → ((q : OpaqueNodePtr K V P) → Contains (branch_places before) q → KeepsAt old new q) → ((q : OpaqueNodePtr K V P) → Contains (branch_places after) q → KeepsAt old new q) → StandsIn text new (Inner pointer prefix (join before (Branch byte now after)))
   node-stands pointer prefix before byte part now after (node, holds, shows, stand) stands renew left right =
       let fresh = renew node holds shows in
@@ -238,7 +220,7 @@ module _ {K V : Type 0} {P : ℕ} (text : K → List ℕ) (old new : NodeArena K
       stands-same-root above whole (Inner pointer prefix (join before (Branch byte now after))) refl exchanged.stood
       (node-stands pointer prefix before byte part now after (stands-part above whole exchanged.stood) exchanged.stands
       (λ node holds shows. (
-        nodes.node_with_child node byte (root_of now),
+        node_with_child node byte (root_of now),
         exchanged.adopted node holds,
         record {
           prefix_len = shows.prefix_len;

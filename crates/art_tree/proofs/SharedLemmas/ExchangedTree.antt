@@ -1,19 +1,7 @@
 -- A tree that is alone in its arena, after a part of it was exchanged, and its dictionary.
-use Rattle.std.proofs.Common.{◌≡◌, ◌≢◌, ◌⊎◌, ◌∙◌, ℕ, ◌<◌, ◌^◌, List, [], ◌∷◌, ◌++◌, length, map, All, Contains, Option, Some, None, refl, sym, ap, subst, inl, inr}
-use Rattle.std.proofs.lemmas.List.{map-append}
-use Rattle.std.proofs.lemmas.List.Elements.{All-append, Contains-append_left, Contains-append_right, Contains-append_cases}
-use Rattle.art_nodes.specs.Pointers.{opaque_key}
-use Rattle.art_nodes.specs.declared.pointers.OpaqueNodePtr.{OpaqueNodePtr}
-use Rattle.art_arena.specs.Arena.{NodeArena, Nothing, held, SameNodes}
-use Rattle.art_arena.specs.Links.{AreDistinct, Spells}
-use Rattle.art_arena.specs.Trees.{Tree, Inner, Branches, Branch, leaves, texts, places, branch_places, root_of, IsSound}
-use Rattle.art_tree.specs.Art.{IsAlone, IsArt}
-use Rattle.art_tree.specs.Contexts.{Context, Whole, Under, plug, path_to, leaves_before, leaves_after, KeepsAt, IsExchanged, join}
-use Rattle.art_tree.specs.Dictionary.{entry_at, SameEntries}
-use Rattle.art_tree.specs.Loading.{HasSmallestKinds, leaf_pointers}
+use Rattle.art_tree.proofs.Names.{◌≡◌, ◌≢◌, ◌⊎◌, ◌∙◌, ℕ, ◌<◌, ◌^◌, List, [], ◌∷◌, ◌++◌, length, map, All, Contains, Option, Some, None, refl, sym, ap, subst, inl, inr, map-append, All-append, Contains-append_left, Contains-append_right, Contains-append_cases, opaque_key, OpaqueNodePtr, NodeArena, Nothing, held, SameNodes, AreDistinct, Spells, Tree, Inner, Branches, Branch, leaves, texts, places, branch_places, root_of, IsSound, IsAlone, IsArt, Context, Whole, Under, plug, path_to, leaves_before, leaves_after, KeepsAt, IsExchanged, join, entry_at, SameEntries, HasSmallestKinds, leaf_pointers, by_option, the_one, all_left, all_right}
 use Rattle.art_tree.proofs.SharedLemmas.DictionaryLemmas.{AreApart, leaf-held-in, leaf-of-entry, held-entry}
-use Rattle.art_tree.proofs.SharedLemmas.ExchangedSubtree.{the-one, places-node, in-part, kept-tree, leaves-plug, smallest_kinds-whole, sound-whole, stands-whole}
-use Rattle.art_tree.proofs.FindLemmas.OnlyWayLemmas.{All-left, All-right}
+use Rattle.art_tree.proofs.SharedLemmas.ExchangedSubtree.{places-node, in-part, kept-tree, leaves-plug, smallest_kinds-whole, sound-whole, stands-whole}
 use Rattle.art_tree.proofs.SharedLemmas.HeldNodes.{cases_held}
 use Rattle.art_tree.proofs.SharedLemmas.SpelledLists.{Spells-kept}
 
@@ -59,7 +47,7 @@ module _ {H : Type 0} where
   pub texts-part : (P : List ℕ → Type 0) (context : Context H) (part : Tree H) → All P (texts (plug context part)) → All P (texts part)
   texts-part P context part each =
       let after = map (λ (l : H × List ℕ). l.1) (leaves_after context) in
-      All-left P (texts part) after (All-right P (map (λ l. l.1) (leaves_before context)) (texts part ++ after) (subst (All P) (texts-plug context part) each))
+      all_left P (texts part) after (all_right P (map (λ l. l.1) (leaves_before context)) (texts part ++ after) (subst (All P) (texts-plug context part) each))
 
   -- and stays so where it is true of each of the new part
   pub texts-grown : (P : List ℕ → Type 0) (context : Context H) (part now : Tree H) → All P (texts (plug context part)) → All P (texts now) → All P (texts (plug context now))
@@ -68,7 +56,7 @@ module _ {H : Type 0} where
       let after = map (λ (l : H × List ℕ). l.1) (leaves_after context) in
       let all = subst (All P) (texts-plug context part) each in
       subst (All P) (sym (texts-plug context now))
-      (All-append P before (texts now ++ after) (All-left P before (texts part ++ after) all) (All-append P (texts now) after new (All-right P (texts part) after (All-right P before (texts part ++ after) all))))
+      (All-append P before (texts now ++ after) (all_left P before (texts part ++ after) all) (All-append P (texts now) after new (all_right P (texts part) after (all_right P before (texts part ++ after) all))))
 
   -- where the leaves are those that were and one more, the others are the same
   module _ (left right : List (H × List ℕ)) (added : H) (text : List ℕ) (tree now : Tree H) (old_leaves : leaves tree ≡ left ++ right) (new_leaves : leaves now ≡ left ++ (added, text) ∷ right) where
@@ -82,7 +70,7 @@ module _ {H : Type 0} where
     leaf-was p x inside differs = elim (Contains-append_cases left ((added, text) ∷ right) (p, x) (subst (λ all. Contains all (p, x)) new_leaves inside)) [
       | inl earlier ↦ subst (λ all. Contains all (p, x)) (sym old_leaves) (Contains-append_left left right (p, x) earlier)
       | inr from ↦ elim (Contains-append_cases ((added, text) ∷ []) right (p, x) from) [
-        | inl here ↦ absurd (differs (sym (ap (λ leaf. leaf.1) (the-one (added, text) (p, x) here))))
+        | inl here ↦ absurd (differs (sym (ap (λ leaf. leaf.1) (the_one (added, text) (p, x) here))))
         | inr later ↦ subst (λ all. Contains all (p, x)) (sym old_leaves) (Contains-append_right left right (p, x) later)
       ]
     ]
@@ -143,18 +131,16 @@ module _ {K V : Type 0} {P : ℕ} (text : K → List ℕ) (old new : NodeArena K
     -- so a text has the entry that it had, where its leaves are the same and are kept
     same-entry : (x : List ℕ) → ((p : OpaqueNodePtr K V P) → Contains (leaves now) (p, x) → Contains (leaves tree) (p, x) × KeepsAt old new p) → ((p : OpaqueNodePtr K V P) → Contains (leaves tree) (p, x) → Contains (leaves now) (p, x) × KeepsAt old new p)
         → entry_at text new x ≡ entry_at text old x
-    same-entry x back forth = by_entry (entry_at text new x) (entry_at text old x) refl refl
-      where
-        by_entry : (now_is was : Option (K × V)) → entry_at text new x ≡ now_is → entry_at text old x ≡ was → entry_at text new x ≡ entry_at text old x
-        by_entry None None is was = is ∙ sym was
-        by_entry (Some entry) was is was_is =
-            let found = leaf-of-entry text new new_root now new_alone x entry is in
-            let kept = back found.pointer found.inside in
-            kept-entry found.pointer x kept.0 kept.1
-        by_entry None (Some entry) is was =
-            let found = leaf-of-entry text old root tree alone x entry was in
-            let kept = forth found.pointer found.inside in
-            kept-entry found.pointer x found.inside kept.1
+    same-entry x back forth =
+        by_option (entry_at text new x) (entry_at text new x ≡ entry_at text old x)
+        (λ none. none ∙ by_option (entry_at text old x) (None ≡ entry_at text old x) (λ was. sym was) (λ entry was.
+        let found = leaf-of-entry text old root tree alone x entry was in
+        let kept = forth found.pointer found.inside in
+        sym none ∙ kept-entry found.pointer x found.inside kept.1))
+        (λ entry is.
+        let found = leaf-of-entry text new new_root now new_alone x entry is in
+        let kept = back found.pointer found.inside in
+        kept-entry found.pointer x kept.0 kept.1)
 
     pub entries-same : ((p : OpaqueNodePtr K V P) (x : List ℕ) → Contains (leaves now) (p, x) → Contains (leaves tree) (p, x) × KeepsAt old new p) → ((p : OpaqueNodePtr K V P) (x : List ℕ) → Contains (leaves tree) (p, x) → Contains (leaves now) (p, x) × KeepsAt old new p)
         → (x : List ℕ) → entry_at text new x ≡ entry_at text old x

@@ -1,26 +1,7 @@
 -- An arena that holds one tree holds as many nodes of each kind as the tree has.
-use Rattle.std.proofs.Common.{◌≡◌, ◌≢◌, ◌∙◌, ℕ, zero, suc, ◌+◌, ◌-◌, ◌≤◌, cond, List, [], ◌∷◌, ◌++◌, length, get_or, All, Contains, Option, Some, None, slice_index_or, nat_eq, refl, sym, ap, subst, inl, inr, arith}
-use Rattle.std.specs.List.{count_by}
-use Rattle.std.specs.Option.{is_some}
-use Rattle.std.proofs.lemmas.List.Sums.{sum_by-cons}
-use Rattle.std.proofs.lemmas.List.Elements.{All-contains, Contains-get_or, Contains-append_right, Contains-append_cases}
-use Rattle.art_header.specs.declared.node_type.NodeType.{NodeType}
-use Rattle.art_header.specs.declared.node_type.NodeType.TheVariants as kinds
-use Rattle.art_nodes.specs.Inner.{Inner as Node}
-use Rattle.art_nodes.specs.Pointers.{node_kind, opaque_key, opaque_pointer}
-use Rattle.art_nodes.specs.declared.pointers.OpaqueNodePtr.{OpaqueNodePtr}
-use Rattle.art_nodes.proofs.KindLaws.{same_or_differ}
-use Rattle.art_arena.specs.Arena.{NodeArena, Nothing, held, held_inner, held_leaf, room, capacity}
-use Rattle.art_arena.specs.Links.{AreDistinct}
-use Rattle.art_arena.specs.Standing.{StandsIn, AllStandIn}
-use Rattle.art_arena.specs.Trees.{Tree, Leaf, Inner, Branches, NoBranch, Branch, places, branch_places}
-use Rattle.art_arena.proofs.StandingLaws.{leaf_kind}
-use Rattle.art_tree.specs.Art.{IsAlone}
-use Rattle.art_tree.specs.Loading.{HasSmallestKinds, HaveSmallestKinds}
-use Rattle.art_tree.specs.NodeCounts.{one_if_same, nodes_of, branch_nodes_of}
+use Rattle.art_tree.proofs.Names.{◌≡◌, ◌≢◌, ◌∙◌, ℕ, zero, suc, ◌+◌, ◌-◌, ◌≤◌, cond, List, [], ◌∷◌, ◌++◌, length, get_or, All, Contains, Option, Some, None, slice_index_or, nat_eq, refl, sym, ap, subst, inl, inr, arith, count_by, is_some, sum_by-cons, All-contains, Contains-get_or, Contains-append_right, Contains-append_cases, NodeType, node_kind, opaque_key, opaque_pointer, OpaqueNodePtr, same_or_differ, NodeArena, Nothing, held, held_inner, held_leaf, room, capacity, AreDistinct, StandsIn, AllStandIn, Tree, Leaf, Inner, Branches, NoBranch, Branch, places, branch_places, leaf_kind, IsAlone, HasSmallestKinds, HaveSmallestKinds, one_if_same, nodes_of, branch_nodes_of, the_one, Node, LeafKind, Node16, Node256, Node4, Node48}
 use Rattle.art_tree.proofs.SharedLemmas.ChangedTree.{place-held}
 use Rattle.art_tree.proofs.SharedLemmas.EntryCounts.{HasEach, distinct-fit}
-use Rattle.art_tree.proofs.SharedLemmas.ExchangedSubtree.{the-one}
 use Rattle.art_tree.proofs.SharedLemmas.NodeBounds.{one-differ}
 use Rattle.art_tree.proofs.SharedLemmas.NodeCounts.{one-same}
 
@@ -39,18 +20,18 @@ lower-less : (keys : List ℕ) → Contains keys 0 → length (lower keys) + 1 �
 lower-less [] inside = absurd (omega (arith, inside.1))
 lower-less (zero ∷ keys) inside = let rest = lower-short keys in omega (arith, rest)
 lower-less (suc k ∷ keys) inside = elim (Contains-append_cases (suc k ∷ []) keys 0 inside) [
-  | inl here ↦ let same = the-one (suc k) 0 here in absurd (omega (arith, same))
+  | inl here ↦ let same = the_one (suc k) 0 here in absurd (omega (arith, same))
   | inr later ↦ let rest = lower-less keys later in omega (arith, rest)
 ]
 
 lower-inside : (keys : List ℕ) (i : ℕ) → Contains keys (suc i) → Contains (lower keys) i
 lower-inside [] i inside = absurd (omega (arith, inside.1))
 lower-inside (zero ∷ keys) i inside = elim (Contains-append_cases (zero ∷ []) keys (suc i) inside) [
-  | inl here ↦ let same = the-one zero (suc i) here in absurd (omega (arith, same))
+  | inl here ↦ let same = the_one zero (suc i) here in absurd (omega (arith, same))
   | inr later ↦ lower-inside keys i later
 ]
 lower-inside (suc k ∷ keys) i inside = elim (Contains-append_cases (suc k ∷ []) keys (suc i) inside) [
-  | inl here ↦ let same = the-one (suc k) (suc i) here in (0, omega arith, omega (arith, same))
+  | inl here ↦ let same = the_one (suc k) (suc i) here in (0, omega arith, omega (arith, same))
   | inr later ↦ Contains-append_right (k ∷ []) (lower keys) i (lower-inside keys i later)
 ]
 
@@ -68,18 +49,18 @@ covered-fit {X} (Some x ∷ slots) keys covers =
 
 -- how many nodes of a kind an arena holds
 abbrev pub held_count : {K V : Type 0} {P : ℕ} → NodeArena K V P → NodeType → ℕ
-held_count arena kinds.Node4 = count_by is_some arena.node4.slots
-held_count arena kinds.Node16 = count_by is_some arena.node16.slots
-held_count arena kinds.Node48 = count_by is_some arena.node48.slots
-held_count arena kinds.Node256 = count_by is_some arena.node256.slots
-held_count arena kinds.Leaf = count_by is_some arena.leaf.slots
+held_count arena Node4 = count_by is_some arena.node4.slots
+held_count arena Node16 = count_by is_some arena.node16.slots
+held_count arena Node48 = count_by is_some arena.node48.slots
+held_count arena Node256 = count_by is_some arena.node256.slots
+held_count arena LeafKind = count_by is_some arena.leaf.slots
 
 pub room-left : {K V : Type 0} {P : ℕ} (arena : NodeArena K V P) (kind : NodeType) → room arena kind ≡ capacity arena kind - held_count arena kind
-room-left arena kinds.Node4 = refl
-room-left arena kinds.Node16 = refl
-room-left arena kinds.Node48 = refl
-room-left arena kinds.Node256 = refl
-room-left arena kinds.Leaf = refl
+room-left arena Node4 = refl
+room-left arena Node16 = refl
+room-left arena Node48 = refl
+room-left arena Node256 = refl
+room-left arena LeafKind = refl
 
 inner-none : {H L : Type 0} (o : Option (Node H)) → held_inner {H = H} {L = L} o ≡ Nothing → o ≡ None
 inner-none None is = refl
@@ -128,7 +109,7 @@ module _ {K V : Type 0} {P : ℕ} (kind : NodeType) where
   key-place (pointer ∷ pointers) key inside = elim (same_or_differ kind (node_kind pointer)) [
     | inl same ↦ elim (Contains-append_cases (opaque_key pointer ∷ []) (keys_under pointers) key (subst (λ all. Contains all key) (keys-of-kind pointer pointers same) inside)) [
       | inl here ↦
-          let is : pointer ≡ opaque_pointer kind key = ap (λ k. opaque_pointer k (opaque_key pointer)) (sym same) ∙ ap (opaque_pointer kind) (the-one (opaque_key pointer) key here) in
+          let is : pointer ≡ opaque_pointer kind key = ap (λ k. opaque_pointer k (opaque_key pointer)) (sym same) ∙ ap (opaque_pointer kind) (the_one (opaque_key pointer) key here) in
           (0, omega arith, is)
       | inr later ↦ Contains-append_right (pointer ∷ []) pointers (opaque_pointer kind key) (key-place pointers key later)
     ]
@@ -139,7 +120,7 @@ module _ {K V : Type 0} {P : ℕ} (kind : NodeType) where
   place-key [] key inside = absurd (omega (arith, inside.1))
   place-key (pointer ∷ pointers) key inside = elim (Contains-append_cases (pointer ∷ []) pointers (opaque_pointer kind key) inside) [
     | inl here ↦
-        let is = the-one pointer (opaque_pointer kind key) here in
+        let is = the_one pointer (opaque_pointer kind key) here in
         subst (λ all. Contains all key) (sym (keys-of-kind pointer pointers (sym (ap node_kind is)))) (0, omega arith, ap opaque_key is)
     | inr later ↦
         let rest = place-key pointers key later in
@@ -200,15 +181,15 @@ module _ {K V : Type 0} {P : ℕ} (kind : NodeType) where
 module _ {K V : Type 0} {P : ℕ} (text : K → List ℕ) (arena : NodeArena K V P) where
   module _ (root : OpaqueNodePtr K V P) (tree : Tree (OpaqueNodePtr K V P)) (alone : IsAlone text arena root tree) (distinct : AreDistinct (places tree)) where
     pub held-nodes : (kind : NodeType) → held_count arena kind ≡ nodes_of kind tree
-    held-nodes kinds.Node4 = tree-slots kinds.Node4 text arena arena.node4.slots (λ i some none. some (inner-none (slice_index_or arena.node4.slots i None) none)) (λ i some none. some (ap held_inner none)) root tree alone distinct
-    held-nodes kinds.Node16 = tree-slots kinds.Node16 text arena arena.node16.slots (λ i some none. some (inner-none (slice_index_or arena.node16.slots i None) none)) (λ i some none. some (ap held_inner none)) root tree alone distinct
-    held-nodes kinds.Node48 = tree-slots kinds.Node48 text arena arena.node48.slots (λ i some none. some (inner-none (slice_index_or arena.node48.slots i None) none)) (λ i some none. some (ap held_inner none)) root tree alone distinct
-    held-nodes kinds.Node256 = tree-slots kinds.Node256 text arena arena.node256.slots (λ i some none. some (inner-none (slice_index_or arena.node256.slots i None) none)) (λ i some none. some (ap held_inner none)) root tree alone distinct
-    held-nodes kinds.Leaf = tree-slots kinds.Leaf text arena arena.leaf.slots (λ i some none. some (leaf-none (slice_index_or arena.leaf.slots i None) none)) (λ i some none. some (ap held_leaf none)) root tree alone distinct
+    held-nodes Node4 = tree-slots Node4 text arena arena.node4.slots (λ i some none. some (inner-none (slice_index_or arena.node4.slots i None) none)) (λ i some none. some (ap held_inner none)) root tree alone distinct
+    held-nodes Node16 = tree-slots Node16 text arena arena.node16.slots (λ i some none. some (inner-none (slice_index_or arena.node16.slots i None) none)) (λ i some none. some (ap held_inner none)) root tree alone distinct
+    held-nodes Node48 = tree-slots Node48 text arena arena.node48.slots (λ i some none. some (inner-none (slice_index_or arena.node48.slots i None) none)) (λ i some none. some (ap held_inner none)) root tree alone distinct
+    held-nodes Node256 = tree-slots Node256 text arena arena.node256.slots (λ i some none. some (inner-none (slice_index_or arena.node256.slots i None) none)) (λ i some none. some (ap held_inner none)) root tree alone distinct
+    held-nodes LeafKind = tree-slots LeafKind text arena arena.leaf.slots (λ i some none. some (leaf-none (slice_index_or arena.leaf.slots i None) none)) (λ i some none. some (ap held_leaf none)) root tree alone distinct
 
   pub held-none : ((pointer : OpaqueNodePtr K V P) → held arena pointer ≡ Nothing) → (kind : NodeType) → held_count arena kind ≡ 0
-  held-none nothing kinds.Node4 = no-slots kinds.Node4 text arena arena.node4.slots (λ i some none. some (inner-none (slice_index_or arena.node4.slots i None) none)) (λ i some none. some (ap held_inner none)) nothing
-  held-none nothing kinds.Node16 = no-slots kinds.Node16 text arena arena.node16.slots (λ i some none. some (inner-none (slice_index_or arena.node16.slots i None) none)) (λ i some none. some (ap held_inner none)) nothing
-  held-none nothing kinds.Node48 = no-slots kinds.Node48 text arena arena.node48.slots (λ i some none. some (inner-none (slice_index_or arena.node48.slots i None) none)) (λ i some none. some (ap held_inner none)) nothing
-  held-none nothing kinds.Node256 = no-slots kinds.Node256 text arena arena.node256.slots (λ i some none. some (inner-none (slice_index_or arena.node256.slots i None) none)) (λ i some none. some (ap held_inner none)) nothing
-  held-none nothing kinds.Leaf = no-slots kinds.Leaf text arena arena.leaf.slots (λ i some none. some (leaf-none (slice_index_or arena.leaf.slots i None) none)) (λ i some none. some (ap held_leaf none)) nothing
+  held-none nothing Node4 = no-slots Node4 text arena arena.node4.slots (λ i some none. some (inner-none (slice_index_or arena.node4.slots i None) none)) (λ i some none. some (ap held_inner none)) nothing
+  held-none nothing Node16 = no-slots Node16 text arena arena.node16.slots (λ i some none. some (inner-none (slice_index_or arena.node16.slots i None) none)) (λ i some none. some (ap held_inner none)) nothing
+  held-none nothing Node48 = no-slots Node48 text arena arena.node48.slots (λ i some none. some (inner-none (slice_index_or arena.node48.slots i None) none)) (λ i some none. some (ap held_inner none)) nothing
+  held-none nothing Node256 = no-slots Node256 text arena arena.node256.slots (λ i some none. some (inner-none (slice_index_or arena.node256.slots i None) none)) (λ i some none. some (ap held_inner none)) nothing
+  held-none nothing LeafKind = no-slots LeafKind text arena arena.leaf.slots (λ i some none. some (leaf-none (slice_index_or arena.leaf.slots i None) none)) (λ i some none. some (ap held_leaf none)) nothing

@@ -1,16 +1,5 @@
 -- What an arena holds at a pointer, and what stays there.
-use Rattle.std.proofs.Common.{◌≡◌, ◌≢◌, ◌⊎◌, ◌∙◌, ℕ, List, [], Option, Some, None, inl, inr, refl, sym, ap, subst}
-use Rattle.std.specs.Option.{option_map_or}
-use Rattle.std.proofs.lemmas.Bool.{cases_eq}
-use Rattle.art_header.specs.declared.node_type.NodeType.TheVariants as kinds
-use Rattle.art_nodes.specs.Leaf.{leaf_key}
-use Rattle.art_nodes.specs.Pointers.{node_kind, opaque_key, opaque_pointer}
-use Rattle.art_nodes.specs.declared.pointers.OpaqueNodePtr.{OpaqueNodePtr}
-use Rattle.art_nodes.specs.declared.leaf_node.LeafNode.{LeafNode}
-use Rattle.art_nodes.proofs.KindLaws.{same_or_differ}
-use Rattle.art_arena.specs.Arena.{NodeArena, Held, HeldInner, HeldLeaf, Nothing, held, held_leaf, Changes}
-use Rattle.art_arena.specs.Links.{HoldsLeaf, leaf_at, text_at}
-use Rattle.art_arena.specs.Standing.{leaf_text}
+use Rattle.art_tree.proofs.Names.{◌≡◌, ◌≢◌, ◌⊎◌, ◌∙◌, ℕ, List, [], Option, Some, None, inl, inr, refl, sym, ap, subst, option_map_or, cases_eq, leaf_key, node_kind, opaque_key, opaque_pointer, OpaqueNodePtr, LeafNode, same_or_differ, NodeArena, Held, HeldInner, HeldLeaf, Nothing, held, held_leaf, Changes, HoldsLeaf, leaf_at, text_at, leaf_text, LeafKind}
 
 module _ {K V : Type 0} {P : ℕ} where
   -- two pointers are one or differ
@@ -36,7 +25,7 @@ module _ {K V : Type 0} {P : ℕ} where
   leaf-held None h = absurd (h refl)
   leaf-held (Some leaf) h = (leaf, refl)
 
-  pub text-held : (text : K → List ℕ) (arena : NodeArena K V P) (key : ℕ) (leaf : LeafNode K V P) → held arena (opaque_pointer kinds.Leaf key) ≡ HeldLeaf leaf → text_at text arena key ≡ text (leaf_key leaf)
+  pub text-held : (text : K → List ℕ) (arena : NodeArena K V P) (key : ℕ) (leaf : LeafNode K V P) → held arena (opaque_pointer LeafKind key) ≡ HeldLeaf leaf → text_at text arena key ≡ text (leaf_key leaf)
   text-held text arena key leaf e = ap (λ o. option_map_or (λ (l : LeafNode K V P). text (leaf_key l)) o []) (leaf-of (leaf_at arena key) leaf e)
 
   -- what stays where a free place is taken
@@ -45,7 +34,7 @@ module _ {K V : Type 0} {P : ℕ} where
 
 module _ {K V : Type 0} {P : ℕ} (text : K → List ℕ) (old : NodeArena K V P) where
   -- the leaf that is held under a key
-  pub leaf-there : (key : ℕ) → HoldsLeaf old key → (leaf : LeafNode K V P) × (held old (opaque_pointer kinds.Leaf key) ≡ HeldLeaf leaf) × (leaf_text text leaf ≡ text_at text old key)
+  pub leaf-there : (key : ℕ) → HoldsLeaf old key → (leaf : LeafNode K V P) × (held old (opaque_pointer LeafKind key) ≡ HeldLeaf leaf) × (leaf_text text leaf ≡ text_at text old key)
   leaf-there key is_held =
       let found = leaf-held (leaf_at old key) is_held in
       (found.0, ap held_leaf found.1, ap (λ o. option_map_or (λ (l : LeafNode K V P). text (leaf_key l)) o []) (sym found.1))
@@ -54,5 +43,5 @@ module _ {K V : Type 0} {P : ℕ} (text : K → List ℕ) (old : NodeArena K V P
   pub text-kept : (now : NodeArena K V P) (key : ℕ) → HoldsLeaf old key → ((pointer : OpaqueNodePtr K V P) → held old pointer ≢ Nothing → held now pointer ≡ held old pointer) → HoldsLeaf now key × (text_at text now key ≡ text_at text old key)
   text-kept now key is_held kept =
       let found = leaf-there key is_held in
-      let same = kept (opaque_pointer kinds.Leaf key) is_held in
+      let same = kept (opaque_pointer LeafKind key) is_held in
       (subst (λ h. h ≢ Nothing) (sym same) is_held, text-held text now key found.0 (same ∙ found.1) ∙ found.2)

@@ -1,13 +1,5 @@
 -- The texts of a loaded tree are those of its entries.
-use Rattle.std.proofs.Common.{◌≡◌, ◌∙◌, ℕ, List, [], ◌∷◌, map, Contains, refl, sym, ap, arith}
-use Rattle.std.proofs.lemmas.List.Elements.{Contains-append_right}
-use Rattle.art_nodes.specs.Leaf.{leaf_key}
-use Rattle.art_nodes.specs.declared.pointers.OpaqueNodePtr.{OpaqueNodePtr}
-use Rattle.art_nodes.specs.declared.leaf_node.LeafNode.{LeafNode}
-use Rattle.art_arena.specs.Arena.{NodeArena, HeldLeaf, held}
-use Rattle.art_arena.specs.Trees.{Tree, leaves, texts}
-use Rattle.art_tree.specs.Loading.{HoldEntries, IsLoaded}
-use Rattle.art_tree.specs.Refusals.{texts_of}
+use Rattle.art_tree.proofs.Names.{◌≡◌, ◌∙◌, ℕ, List, [], ◌∷◌, map, Contains, refl, sym, ap, arith, Contains-append_right, leaf_key, OpaqueNodePtr, LeafNode, NodeArena, HeldLeaf, held, Tree, leaves, texts, HoldEntries, IsLoaded, texts_of}
 use Rattle.art_tree.proofs.SharedLemmas.DictionaryLemmas.{leaf-held-in}
 
 module _ {K V : Type 0} {P : ℕ} (text : K → List ℕ) (arena : NodeArena K V P) where

@@ -1,42 +1,15 @@
 -- How many nodes of a kind a tree of so many leaves has at most.
-use Rattle.std.proofs.Common.{◌≡◌, ◌≢◌, ◌∙◌, ℕ, ◌+◌, ◌*◌, ◌/◌, ◌≤◌, List, ◌∷◌, [], ◌++◌, length, length-append, refl, sym, ap, inl, inr, arith}
-use Rattle.std.proofs.lemmas.Bool.{cases_lt}
-use Rattle.std.proofs.lemmas.List.{length-map}
-use Rattle.art_header.specs.NodeType.{kind_for}
-use Rattle.art_header.specs.declared.node_type.NodeType.{NodeType}
-use Rattle.art_header.specs.declared.node_type.NodeType.TheVariants as kinds
-use Rattle.art_nodes.proofs.KindLaws.{same_or_differ}
-use Rattle.art_arena.specs.Trees.{Tree, Leaf, Inner, Branches, NoBranch, Branch, branch_roots, leaves, branch_leaves, texts, IsSound, AreSound, IsWellFormed}
-use Rattle.art_tree.specs.NodeCounts.{one_if_same, nodes_of, branch_nodes_of}
+use Rattle.art_tree.proofs.Names.{◌≡◌, ◌≢◌, ◌∙◌, ℕ, ◌+◌, ◌*◌, ◌/◌, ◌≤◌, List, ◌∷◌, [], ◌++◌, length, length-append, refl, sym, ap, inl, inr, arith, cases_lt, length-map, kind_for, NodeType, same_or_differ, Tree, Leaf, Inner, Branches, NoBranch, Branch, branch_roots, leaves, branch_leaves, texts, IsSound, AreSound, IsWellFormed, one_if_same, nodes_of, branch_nodes_of, LeafKind, Node16, Node256, Node4, Node48}
 use Rattle.art_tree.proofs.SharedLemmas.NodeCounts.{no-leaf-kind, one-same}
-use Rattle.art_tree.proofs.SharedLemmas.NodeKinds.{kind-4, kind-16, kind-48}
+use Rattle.art_tree.proofs.SharedLemmas.NodeKinds.{by_kind, kind-4}
 
 pub one-differ : (a b : NodeType) → a ≢ b → one_if_same a b ≡ 0
-one-differ kinds.Node4 kinds.Node4 differ = absurd (differ refl)
-one-differ kinds.Node4 kinds.Node16 differ = refl
-one-differ kinds.Node4 kinds.Node48 differ = refl
-one-differ kinds.Node4 kinds.Node256 differ = refl
-one-differ kinds.Node4 kinds.Leaf differ = refl
-one-differ kinds.Node16 kinds.Node4 differ = refl
-one-differ kinds.Node16 kinds.Node16 differ = absurd (differ refl)
-one-differ kinds.Node16 kinds.Node48 differ = refl
-one-differ kinds.Node16 kinds.Node256 differ = refl
-one-differ kinds.Node16 kinds.Leaf differ = refl
-one-differ kinds.Node48 kinds.Node4 differ = refl
-one-differ kinds.Node48 kinds.Node16 differ = refl
-one-differ kinds.Node48 kinds.Node48 differ = absurd (differ refl)
-one-differ kinds.Node48 kinds.Node256 differ = refl
-one-differ kinds.Node48 kinds.Leaf differ = refl
-one-differ kinds.Node256 kinds.Node4 differ = refl
-one-differ kinds.Node256 kinds.Node16 differ = refl
-one-differ kinds.Node256 kinds.Node48 differ = refl
-one-differ kinds.Node256 kinds.Node256 differ = absurd (differ refl)
-one-differ kinds.Node256 kinds.Leaf differ = refl
-one-differ kinds.Leaf kinds.Node4 differ = refl
-one-differ kinds.Leaf kinds.Node16 differ = refl
-one-differ kinds.Leaf kinds.Node48 differ = refl
-one-differ kinds.Leaf kinds.Node256 differ = refl
-one-differ kinds.Leaf kinds.Leaf differ = absurd (differ refl)
+one-differ Node4 Node4 differ = absurd (differ refl)
+one-differ Node16 Node16 differ = absurd (differ refl)
+one-differ Node48 Node48 differ = absurd (differ refl)
+one-differ Node256 Node256 differ = absurd (differ refl)
+one-differ LeafKind LeafKind differ = absurd (differ refl)
+one-differ a b differ = refl
 
 pub one-at-most : (a b : NodeType) → one_if_same a b ≤ 1
 one-at-most a b = elim (same_or_differ a b) [
@@ -45,51 +18,42 @@ one-at-most a b = elim (same_or_differ a b) [
 ]
 
 -- an inner node or a leaf is one node
-pub one-or-leaf : (kind : NodeType) (n : ℕ) → one_if_same kind (kind_for n) + one_if_same kind kinds.Leaf ≤ 1
-one-or-leaf kind n = elim (same_or_differ kind kinds.Leaf) [
+pub one-or-leaf : (kind : NodeType) (n : ℕ) → one_if_same kind (kind_for n) + one_if_same kind LeafKind ≤ 1
+one-or-leaf kind n = elim (same_or_differ kind LeafKind) [
   | inl same ↦
       let inner : one_if_same kind (kind_for n) ≡ 0 = ap (λ k. one_if_same k (kind_for n)) same ∙ no-leaf-kind n in
-      let most = one-at-most kind kinds.Leaf in
+      let most = one-at-most kind LeafKind in
       omega (arith, inner, most)
   | inr differ ↦
-      let leaf = one-differ kind kinds.Leaf differ in
+      let leaf = one-differ kind LeafKind differ in
       let most = one-at-most kind (kind_for n) in
       omega (arith, leaf, most)
 ]
 
 -- a node of one of the larger kinds has as many branches as so many nodes of two
-own-4 : (n : ℕ) → 2 ≤ n → one_if_same kinds.Node4 (kind_for n) + 1 ≤ n
-own-4 n two = let most = one-at-most kinds.Node4 (kind_for n) in omega (arith, most, two)
+own-4 : (n : ℕ) → 2 ≤ n → one_if_same Node4 (kind_for n) + 1 ≤ n
+own-4 n two = let most = one-at-most Node4 (kind_for n) in omega (arith, most, two)
 
-own-16 : (n : ℕ) → 2 ≤ n → one_if_same kinds.Node16 (kind_for n) * 4 + 1 ≤ n
+own-16 : (n : ℕ) → 2 ≤ n → one_if_same Node16 (kind_for n) * 4 + 1 ≤ n
 own-16 n two = elim (cases_lt 4 n) [
-  | inr four ↦ let none : one_if_same kinds.Node16 (kind_for n) ≡ 0 = ap (one_if_same kinds.Node16) (kind-4 n four) in omega (arith, none, two)
-  | inl past ↦ let most = one-at-most kinds.Node16 (kind_for n) in omega (arith, most, past)
+  | inr four ↦ let none : one_if_same Node16 (kind_for n) ≡ 0 = ap (one_if_same Node16) (kind-4 n four) in omega (arith, none, two)
+  | inl past ↦ let most = one-at-most Node16 (kind_for n) in omega (arith, most, past)
 ]
 
-own-48 : (n : ℕ) → 2 ≤ n → one_if_same kinds.Node48 (kind_for n) * 16 + 1 ≤ n
-own-48 n two = elim (cases_lt 4 n) [
-  | inr four ↦ let none : one_if_same kinds.Node48 (kind_for n) ≡ 0 = ap (one_if_same kinds.Node48) (kind-4 n four) in omega (arith, none, two)
-  | inl past ↦ elim (cases_lt 16 n) [
-    | inr sixteen ↦ let none : one_if_same kinds.Node48 (kind_for n) ≡ 0 = ap (one_if_same kinds.Node48) (kind-16 n past sixteen) in omega (arith, none, two)
-    | inl further ↦ let most = one-at-most kinds.Node48 (kind_for n) in omega (arith, most, further)
-  ]
-]
+own-48 : (n : ℕ) → 2 ≤ n → one_if_same Node48 (kind_for n) * 16 + 1 ≤ n
+own-48 n two =
+    let other = λ (k : NodeType) (is : kind_for n ≡ k) (none : one_if_same Node48 k ≡ 0). ap (one_if_same Node48) is ∙ none in
+    let most = one-at-most Node48 (kind_for n) in
+    by_kind n (one_if_same Node48 (kind_for n) * 16 + 1 ≤ n) (λ few is. omega (arith, other Node4 is refl, two)) (λ past few is. omega (arith, other Node16 is refl, two)) (λ more few is. omega (arith, most, more)) (λ all is. omega (arith, most, all))
 
-own-256 : (n : ℕ) → 2 ≤ n → one_if_same kinds.Node256 (kind_for n) * 48 + 1 ≤ n
-own-256 n two = elim (cases_lt 4 n) [
-  | inr four ↦ let none : one_if_same kinds.Node256 (kind_for n) ≡ 0 = ap (one_if_same kinds.Node256) (kind-4 n four) in omega (arith, none, two)
-  | inl past ↦ elim (cases_lt 16 n) [
-    | inr sixteen ↦ let none : one_if_same kinds.Node256 (kind_for n) ≡ 0 = ap (one_if_same kinds.Node256) (kind-16 n past sixteen) in omega (arith, none, two)
-    | inl further ↦ elim (cases_lt 48 n) [
-      | inr few ↦ let none : one_if_same kinds.Node256 (kind_for n) ≡ 0 = ap (one_if_same kinds.Node256) (kind-48 n further few) in omega (arith, none, two)
-      | inl most ↦ let one = one-at-most kinds.Node256 (kind_for n) in omega (arith, one, most)
-    ]
-  ]
-]
+own-256 : (n : ℕ) → 2 ≤ n → one_if_same Node256 (kind_for n) * 48 + 1 ≤ n
+own-256 n two =
+    let other = λ (k : NodeType) (is : kind_for n ≡ k) (none : one_if_same Node256 k ≡ 0). ap (one_if_same Node256) is ∙ none in
+    let most = one-at-most Node256 (kind_for n) in
+    by_kind n (one_if_same Node256 (kind_for n) * 48 + 1 ≤ n) (λ few is. omega (arith, other Node4 is refl, two)) (λ past few is. omega (arith, other Node16 is refl, two)) (λ more few is. omega (arith, other Node48 is refl, two)) (λ all is. omega (arith, most, all))
 
 -- so the nodes of a kind, each by this weight, are fewer than the leaves
-module _ {H : Type 0} (kind : NodeType) (weight : ℕ → ℕ) (none : weight 0 ≡ 0) (sum : (a b : ℕ) → weight (a + b) ≡ weight a + weight b) (inner : one_if_same kind kinds.Leaf ≡ 0) (own : (n : ℕ) → 2 ≤ n → weight (one_if_same kind (kind_for n)) + 1 ≤ n) where
+module _ {H : Type 0} (kind : NodeType) (weight : ℕ → ℕ) (none : weight 0 ≡ 0) (sum : (a b : ℕ) → weight (a + b) ≡ weight a + weight b) (inner : one_if_same kind LeafKind ≡ 0) (own : (n : ℕ) → 2 ≤ n → weight (one_if_same kind (kind_for n)) + 1 ≤ n) where
   mutual
     weighed : (path : List ℕ) (tree : Tree H) → IsSound path tree → weight (nodes_of kind tree) + 1 ≤ length (leaves tree)
     weighed path (Leaf pointer text) sound = omega (arith, ap weight inner, none)
@@ -111,18 +75,18 @@ module _ {H : Type 0} (kind : NodeType) (weight : ℕ → ℕ) (none : weight 0 
 module _ {H : Type 0} where
   mutual
     -- the nodes of the kind of leaves are the leaves
-    pub leaf-nodes : (tree : Tree H) → nodes_of kinds.Leaf tree ≡ length (leaves tree)
+    pub leaf-nodes : (tree : Tree H) → nodes_of LeafKind tree ≡ length (leaves tree)
     leaf-nodes (Leaf pointer text) = refl
     leaf-nodes (Inner pointer prefix branches) = let rest = branch-leaf-nodes branches in let none = no-leaf-kind (length (branch_roots branches)) in omega (arith, rest, none)
 
-    branch-leaf-nodes : (branches : Branches H) → branch_nodes_of kinds.Leaf branches ≡ length (branch_leaves branches)
+    branch-leaf-nodes : (branches : Branches H) → branch_nodes_of LeafKind branches ≡ length (branch_leaves branches)
     branch-leaf-nodes NoBranch = refl
     branch-leaf-nodes (Branch byte tree others) =
         let first = leaf-nodes tree in
         let rest = branch-leaf-nodes others in
         omega (arith, first, rest, length-append (leaves tree) (branch_leaves others))
 
-  pub text-nodes : (tree : Tree H) → nodes_of kinds.Leaf tree ≡ length (texts tree)
+  pub text-nodes : (tree : Tree H) → nodes_of LeafKind tree ≡ length (texts tree)
   text-nodes tree = let nodes = leaf-nodes tree in let long = length-map (leaves tree) (λ leaf. leaf.1) in omega (arith, nodes, long)
 
   -- the most nodes of a kind that a tree of so many texts has
@@ -130,17 +94,17 @@ module _ {H : Type 0} where
     few-leaves : length (leaves tree) ≤ most
     few-leaves = let long = length-map (leaves tree) (λ leaf. leaf.1) in omega (arith, few, long)
 
-    pub most-leaves : nodes_of kinds.Leaf tree ≤ most
+    pub most-leaves : nodes_of LeafKind tree ≤ most
     most-leaves = let nodes = leaf-nodes tree in omega (arith, nodes, few-leaves)
 
-    pub most-4 : nodes_of kinds.Node4 tree ≤ most
-    most-4 = let fewer = weighed kinds.Node4 (λ n. n) refl (λ a b. refl) refl own-4 [] tree sound in omega (arith, fewer, few-leaves)
+    pub most-4 : nodes_of Node4 tree ≤ most
+    most-4 = let fewer = weighed Node4 (λ n. n) refl (λ a b. refl) refl own-4 [] tree sound in omega (arith, fewer, few-leaves)
 
-    pub most-16 : nodes_of kinds.Node16 tree ≤ most / 4
-    most-16 = let fewer = weighed kinds.Node16 (λ n. n * 4) refl (λ a b. omega arith) refl own-16 [] tree sound in omega (arith, fewer, few-leaves)
+    pub most-16 : nodes_of Node16 tree ≤ most / 4
+    most-16 = let fewer = weighed Node16 (λ n. n * 4) refl (λ a b. omega arith) refl own-16 [] tree sound in omega (arith, fewer, few-leaves)
 
-    pub most-48 : nodes_of kinds.Node48 tree ≤ most / 16
-    most-48 = let fewer = weighed kinds.Node48 (λ n. n * 16) refl (λ a b. omega arith) refl own-48 [] tree sound in omega (arith, fewer, few-leaves)
+    pub most-48 : nodes_of Node48 tree ≤ most / 16
+    most-48 = let fewer = weighed Node48 (λ n. n * 16) refl (λ a b. omega arith) refl own-48 [] tree sound in omega (arith, fewer, few-leaves)
 
-    pub most-256 : nodes_of kinds.Node256 tree ≤ most / 48
-    most-256 = let fewer = weighed kinds.Node256 (λ n. n * 48) refl (λ a b. omega arith) refl own-256 [] tree sound in omega (arith, fewer, few-leaves)
+    pub most-256 : nodes_of Node256 tree ≤ most / 48
+    most-256 = let fewer = weighed Node256 (λ n. n * 48) refl (λ a b. omega arith) refl own-256 [] tree sound in omega (arith, fewer, few-leaves)

@@ -1,57 +1,41 @@
 -- How many nodes of a kind trees have.
-use Rattle.std.proofs.Common.{◌≡◌, ◌≢◌, ℕ, ◌+◌, ◌<◌, length, refl, ap, inl, inr, arith}
-use Rattle.std.proofs.lemmas.Bool.{cases_lt}
-use Rattle.art_header.specs.NodeType.{kind_for, grown_kind, shrunk_kind}
-use Rattle.art_header.specs.declared.node_type.NodeType.{NodeType}
-use Rattle.art_header.specs.declared.node_type.NodeType.TheVariants as kinds
-use Rattle.art_arena.specs.Trees.{Tree, Leaf, Inner, Branches, NoBranch, Branch, branch_roots, SameButPointers, SameBranches}
-use Rattle.art_tree.specs.Contexts.{Context, Whole, Under, plug, join}
-use Rattle.art_tree.specs.NodeCounts.{one_if_same, nodes_of, branch_nodes_of}
+use Rattle.art_tree.proofs.Names.{◌≡◌, ◌≢◌, ℕ, ◌+◌, ◌<◌, length, refl, ap, arith, kind_for, grown_kind, shrunk_kind, NodeType, Tree, Leaf, Inner, Branches, NoBranch, Branch, branch_roots, SameButPointers, SameBranches, Context, Whole, Under, plug, join, one_if_same, nodes_of, branch_nodes_of, LeafKind, Node16, Node256, Node4, Node48}
 use Rattle.art_tree.proofs.SharedLemmas.ExchangedSubtree.{count-same}
-use Rattle.art_tree.proofs.SharedLemmas.NodeKinds.{kind-4, kind-16, kind-48, kind-256}
+use Rattle.art_tree.proofs.SharedLemmas.NodeKinds.{by_kind}
 
 pub one-same : (kind : NodeType) → one_if_same kind kind ≡ 1
-one-same kinds.Node4 = refl
-one-same kinds.Node16 = refl
-one-same kinds.Node48 = refl
-one-same kinds.Node256 = refl
-one-same kinds.Leaf = refl
+one-same Node4 = refl
+one-same Node16 = refl
+one-same Node48 = refl
+one-same Node256 = refl
+one-same LeafKind = refl
 
 -- the kind that an inner node grows to is a different one
-pub grown-other : (kind : NodeType) → kind ≢ kinds.Node256 → kind ≢ kinds.Leaf → one_if_same (grown_kind kind) kind ≡ 0
-grown-other kinds.Node4 small inner = refl
-grown-other kinds.Node16 small inner = refl
-grown-other kinds.Node48 small inner = refl
-grown-other kinds.Node256 small inner = absurd (small refl)
-grown-other kinds.Leaf small inner = absurd (inner refl)
+pub grown-other : (kind : NodeType) → kind ≢ Node256 → kind ≢ LeafKind → one_if_same (grown_kind kind) kind ≡ 0
+grown-other Node4 small inner = refl
+grown-other Node16 small inner = refl
+grown-other Node48 small inner = refl
+grown-other Node256 small inner = absurd (small refl)
+grown-other LeafKind small inner = absurd (inner refl)
 
 -- and so is the one that it shrinks to
-pub shrunk-other : (kind : NodeType) → kind ≢ kinds.Node4 → kind ≢ kinds.Leaf → one_if_same (shrunk_kind kind) kind ≡ 0
-shrunk-other kinds.Node4 large inner = absurd (large refl)
-shrunk-other kinds.Node16 large inner = refl
-shrunk-other kinds.Node48 large inner = refl
-shrunk-other kinds.Node256 large inner = refl
-shrunk-other kinds.Leaf large inner = absurd (inner refl)
+pub shrunk-other : (kind : NodeType) → kind ≢ Node4 → kind ≢ LeafKind → one_if_same (shrunk_kind kind) kind ≡ 0
+shrunk-other Node4 large inner = absurd (large refl)
+shrunk-other Node16 large inner = refl
+shrunk-other Node48 large inner = refl
+shrunk-other Node256 large inner = refl
+shrunk-other LeafKind large inner = absurd (inner refl)
 
-pub shrunk-no-leaf : (kind : NodeType) → kind ≢ kinds.Leaf → one_if_same (shrunk_kind kind) kinds.Leaf ≡ 0
-shrunk-no-leaf kinds.Node4 inner = refl
-shrunk-no-leaf kinds.Node16 inner = refl
-shrunk-no-leaf kinds.Node48 inner = refl
-shrunk-no-leaf kinds.Node256 inner = refl
-shrunk-no-leaf kinds.Leaf inner = absurd (inner refl)
+pub shrunk-no-leaf : (kind : NodeType) → kind ≢ LeafKind → one_if_same (shrunk_kind kind) LeafKind ≡ 0
+shrunk-no-leaf Node4 inner = refl
+shrunk-no-leaf Node16 inner = refl
+shrunk-no-leaf Node48 inner = refl
+shrunk-no-leaf Node256 inner = refl
+shrunk-no-leaf LeafKind inner = absurd (inner refl)
 
 -- no inner node is of the kind of leaves
-pub no-leaf-kind : (n : ℕ) → one_if_same kinds.Leaf (kind_for n) ≡ 0
-no-leaf-kind n = elim (cases_lt 4 n) [
-  | inr four ↦ ap (one_if_same kinds.Leaf) (kind-4 n four)
-  | inl past ↦ elim (cases_lt 16 n) [
-    | inr sixteen ↦ ap (one_if_same kinds.Leaf) (kind-16 n past sixteen)
-    | inl more ↦ elim (cases_lt 48 n) [
-      | inr many ↦ ap (one_if_same kinds.Leaf) (kind-48 n more many)
-      | inl most ↦ ap (one_if_same kinds.Leaf) (kind-256 n most)
-    ]
-  ]
-]
+pub no-leaf-kind : (n : ℕ) → one_if_same LeafKind (kind_for n) ≡ 0
+no-leaf-kind n = by_kind n (one_if_same LeafKind (kind_for n) ≡ 0) (λ few is. ap (one_if_same LeafKind) is) (λ past few is. ap (one_if_same LeafKind) is) (λ more few is. ap (one_if_same LeafKind) is) (λ all is. ap (one_if_same LeafKind) is)
 
 module _ {H : Type 0} (kind : NodeType) where
   pub nodes-join : (a b : Branches H) → branch_nodes_of kind (join a b) ≡ branch_nodes_of kind a + branch_nodes_of kind b

@@ -1,15 +1,5 @@
 -- A tree and the tree of its texts but one: they have as many nodes of each kind, but for one.
-use Rattle.std.proofs.Common.{◌≡◌, ◌≢◌, ◌⊎◌, ◌∙◌, ℕ, ◌+◌, ◌≤◌, List, [], ◌∷◌, ◌++◌, length, map, Contains, refl, sym, ap, subst, inl, inr, arith}
-use Rattle.std.specs.Prelude.{◌↔◌}
-use Rattle.std.proofs.lemmas.Bool.{cases_lt}
-use Rattle.std.proofs.lemmas.List.{map-append}
-use Rattle.std.proofs.lemmas.List.Elements.{Contains-append_cases}
-use Rattle.art_header.specs.NodeType.{kind_for}
-use Rattle.art_header.specs.declared.node_type.NodeType.{NodeType}
-use Rattle.art_header.specs.declared.node_type.NodeType.TheVariants as kinds
-use Rattle.art_arena.specs.Trees.{Tree, Leaf, Inner, Branches, NoBranch, Branch, branch_roots, leaves, branch_leaves, texts, branch_texts, IsSound, IsWellFormed}
-use Rattle.art_tree.specs.Contexts.{Context, Whole, Under, plug, path_to, leaves_before, leaves_after, join}
-use Rattle.art_tree.specs.NodeCounts.{one_if_same, nodes_of, branch_nodes_of}
+use Rattle.art_tree.proofs.Names.{◌≡◌, ◌≢◌, ◌⊎◌, ◌∙◌, ℕ, ◌+◌, ◌≤◌, List, [], ◌∷◌, ◌++◌, length, map, Contains, refl, sym, ap, subst, inl, inr, arith, ◌↔◌, cases_lt, map-append, Contains-append_cases, kind_for, NodeType, Tree, Leaf, Inner, Branches, NoBranch, Branch, branch_roots, leaves, branch_leaves, texts, branch_texts, IsSound, IsWellFormed, Context, Whole, Under, plug, path_to, leaves_before, leaves_after, join, one_if_same, nodes_of, branch_nodes_of, the_one, LeafKind}
 use Rattle.art_tree.proofs.InsertLemmas.AddedLeaf.{leaves-filled, leaves-parted}
 use Rattle.art_tree.proofs.InsertLemmas.NeededNodes.{nodes-taken}
 use Rattle.art_tree.proofs.InsertLemmas.SubtreeLemmas.{with_leaf}
@@ -17,7 +7,7 @@ use Rattle.art_tree.proofs.PlaceLemmas.WayPlaces.{some-text}
 use Rattle.art_tree.proofs.RemoveLemmas.RemainingTree.{with_upper, dropped-count, dropped-sound, joined-sound, leaves-joined, one-leaves, one-left, text-gone}
 use Rattle.art_tree.proofs.SharedLemmas.BranchLemmas.{leaves-join, one_branch, join_assoc}
 use Rattle.art_tree.proofs.SharedLemmas.DictionaryLemmas.{AreApart, leaf-with}
-use Rattle.art_tree.proofs.SharedLemmas.ExchangedSubtree.{count-same, sound-part, sound-whole, the-one}
+use Rattle.art_tree.proofs.SharedLemmas.ExchangedSubtree.{count-same, sound-part, sound-whole}
 use Rattle.art_tree.proofs.SharedLemmas.NodeBounds.{one-at-most, one-or-leaf}
 use Rattle.art_tree.proofs.SharedLemmas.NodeCounts.{nodes-join}
 use Rattle.art_tree.proofs.SharedLemmas.TextLists.{text-or-new, text-stays}
@@ -34,7 +24,7 @@ record HasLeaf {H : Type 0} (tree : Tree H) (x : List ℕ) : Type 0 where
 module _ {H : Type 0} (x : List ℕ) where
   mutual
     leaf-below : (context : Context H) (part : Tree H) → Contains (texts part) x → HasLeaf (plug context part) x
-    leaf-below context (Leaf pointer text) inside = record { context = context; pointer = pointer; whole = ap (λ t. plug context (Leaf pointer t)) (sym (the-one text x inside)) }
+    leaf-below context (Leaf pointer text) inside = record { context = context; pointer = pointer; whole = ap (λ t. plug context (Leaf pointer t)) (sym (the_one text x inside)) }
     leaf-below context (Inner pointer prefix branches) inside = leaf-among context pointer prefix NoBranch branches inside
 
     leaf-among : (context : Context H) (pointer : H) (prefix : List ℕ) (before branches : Branches H) → Contains (branch_texts branches) x → HasLeaf (plug context (Inner pointer prefix (join before branches))) x
@@ -166,7 +156,7 @@ module _ {H : Type 0} (same_nodes : SameNodesLaw H) (apart : ApartLaw H) where
     | inl (pointer, is) ↦
         let some = some-text [] rest rest_sound in
         let there = others some.text some.inside in
-        absurd (there.1 (sym (the-one x some.text (subst (λ t. Contains (texts t) some.text) is there.0))))
+        absurd (there.1 (sym (the_one x some.text (subst (λ t. Contains (texts t) some.text) is there.0))))
     | inr less ↦
         let equal = same_nodes less.rest rest kind less.sound rest_sound (λ y. (
           λ inside. let there = less.others y inside in elim (same y there.0) [ inl here ↦ here | inr is ↦ absurd (there.1 is) ],
@@ -182,7 +172,7 @@ module _ {H : Type 0} (same_nodes : SameNodesLaw H) (apart : ApartLaw H) where
   one-text tree x sound all kind =
       let some = some-text [] tree sound in
       elim (one-less tree x sound (apart [] tree sound) (subst (Contains (texts tree)) (all some.text some.inside) some.inside)) [
-        | inl (pointer, is) ↦ subst (λ t. nodes_of kind t ≤ 1) (sym is) (one-at-most kind kinds.Leaf)
+        | inl (pointer, is) ↦ subst (λ t. nodes_of kind t ≤ 1) (sym is) (one-at-most kind LeafKind)
         | inr less ↦
             let other = some-text [] less.rest less.sound in
             let there = less.others other.text other.inside in

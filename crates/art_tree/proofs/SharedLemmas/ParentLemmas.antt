@@ -1,19 +1,5 @@
 -- The parent of a node.
-use Rattle.std.proofs.Common.{◌≡◌, ◌≢◌, ◌∙◌, ℕ, Option, Some, None, IsNone, Result, Ok, Err, OnOk, OnErr, Bool, true, false, sym, ap, subst, refl}
-use Rattle.std.proofs.lemmas.Option.{same_Some}
-use Rattle.art_header.specs.NodeType.{most_children}
-use Rattle.art_header.specs.declared.node_type.NodeType.TheVariants as kinds
-use Rattle.std.specs.Result.{is_err}
-use Rattle.art_nodes.specs.ChildMap.{IsAscending, child_at, key_bytes}
-use Rattle.art_nodes.specs.Inner as nodes
-use Rattle.art_nodes.specs.Inner.{HasRoomFor}
-use Rattle.art_nodes.specs.Pointers.{node_kind, opaque_key}
-use Rattle.art_nodes.specs.declared.pointers.OpaqueNodePtr.{OpaqueNodePtr}
-use Rattle.art_nodes.specs.declared.leaf_node.LeafNode.{LeafNode}
-use Rattle.art_arena.specs.Arena.{NodeArena, HeldInner, Nothing, held, held_leaf, held_under}
-use Rattle.art_tree.specs.Hanging.{CanHang, IsHung}
-use Rattle.art_nodes.proofs.ChildMapLaws.{written_over}
-use Rattle.art_arena.proofs.StandingLaws.{one-inner}
+use Rattle.art_tree.proofs.Names.{◌≡◌, ◌≢◌, ◌∙◌, ℕ, Option, Some, None, IsNone, Result, Ok, Err, OnOk, OnErr, Bool, true, false, sym, ap, subst, refl, same_Some, most_children, is_err, IsAscending, child_at, key_bytes, node_kind, opaque_key, OpaqueNodePtr, LeafNode, NodeArena, HeldInner, Nothing, held, held_leaf, held_under, CanHang, IsHung, written_over, one-inner, LeafKind, InnerNode, with_children, HasRoomFor}
 use Rattle.art_tree.proofs.InsertLemmas.NodeLemmas.{some-inner}
 
 pub always-ok : {T E : Type 0} (r : Result T E) (Q : Type 0) → Q → OnOk r Q
@@ -21,19 +7,19 @@ always-ok (Ok x) Q holds = holds
 always-ok (Err e) Q holds = tt
 
 module _ {K V : Type 0} {P : ℕ} where
-  no-inner : (leaf : Option (LeafNode K V P)) (node : nodes.Inner (OpaqueNodePtr K V P)) → held_leaf leaf ≡ HeldInner node → ⊥
+  no-inner : (leaf : Option (LeafNode K V P)) (node : InnerNode (OpaqueNodePtr K V P)) → held_leaf leaf ≡ HeldInner node → ⊥
   no-inner None node is = cc
   no-inner (Some leaf) node is = cc
 
   -- no inner node is held at a pointer of the kind of leaves
-  pub inner-kind : (arena : NodeArena K V P) (pointer : OpaqueNodePtr K V P) (node : nodes.Inner (OpaqueNodePtr K V P)) → held arena pointer ≡ HeldInner node → node_kind pointer ≢ kinds.Leaf
+  pub inner-kind : (arena : NodeArena K V P) (pointer : OpaqueNodePtr K V P) (node : InnerNode (OpaqueNodePtr K V P)) → held arena pointer ≡ HeldInner node → node_kind pointer ≢ LeafKind
   inner-kind arena pointer node is leaf = no-inner _ node (sym (ap (λ kind. held_under arena kind (opaque_key pointer)) leaf) ∙ is)
 
   -- a parent that has a child under the byte
   pub record IsParent (arena : NodeArena K V P) (parent : OpaqueNodePtr K V P) (byte : ℕ) : Type 0 where
     pub is_held : held arena parent ≢ Nothing
-    pub is_inner : node_kind parent ≢ kinds.Leaf
-    pub has_room : (node : nodes.Inner (OpaqueNodePtr K V P)) → held arena parent ≡ HeldInner node → HasRoomFor (most_children (node_kind parent)) node byte
+    pub is_inner : node_kind parent ≢ LeafKind
+    pub has_room : (node : InnerNode (OpaqueNodePtr K V P)) → held arena parent ≡ HeldInner node → HasRoomFor (most_children (node_kind parent)) node byte
 
   there-already : (o : Option (OpaqueNodePtr K V P)) (A : Type 0) → o ≢ None → IsNone o → A
   there-already None A some none = absurd (some refl)
@@ -61,15 +47,10 @@ hung-there arena (Some (p, b)) parent byte child root (node, holds, some, ascend
       let same : node ≡ own = one-inner (held arena p) node own holds is_own in
       let over = written_over own.children b child (subst (λ n. IsAscending (key_bytes n.children)) same ascend) (ap (λ n. child_at n.children b) (sym same) ∙ some) in
       record {
-        changed = is_own ∙ ap (λ children. HeldInner (nodes.with_children own children)) (sym over);
+        changed = is_own ∙ ap (λ children. HeldInner (with_children own children)) (sym over);
         others = λ pointer differs. refl;
       },
 )
-
--- what always holds, holds on an error
-pub always-err : {T E : Type 0} (r : Result T E) (Q : Type 0) → Q → OnErr r Q
-always-err (Ok x) Q holds = tt
-always-err (Err e) Q holds = holds
 
 -- what holds where a result is Ok holds where it is no error
 pub ok-then : {T E : Type 0} (r : Result T E) (Q : Type 0) {test : Bool} → test ≡ is_err r → test ≡ false → OnOk r Q → Q

@@ -1,20 +1,14 @@
 -- Nodes that are placed into an arena.
-use Rattle.std.proofs.Common.{◌≡◌, ℕ, ◌+◌, ◌≤◌, sym, subst}
-use Rattle.art_header.specs.declared.node_type.NodeType.{NodeType}
-use Rattle.art_nodes.specs.Inner as nodes
-use Rattle.art_nodes.specs.Pointers.{node_kind, opaque_key, opaque_pointer}
-use Rattle.art_nodes.specs.declared.pointers.OpaqueNodePtr.{OpaqueNodePtr}
-use Rattle.art_arena.specs.Arena.{NodeArena, HeldInner, Nothing, held, room, SameCapacity, SameOtherRoom, Changes}
-use Rattle.art_tree.specs.Nodes.{IsPlaced}
+use Rattle.art_tree.proofs.Names.{◌≡◌, ℕ, ◌+◌, ◌≤◌, sym, subst, NodeType, node_kind, opaque_key, opaque_pointer, OpaqueNodePtr, NodeArena, HeldInner, Nothing, held, room, SameCapacity, SameOtherRoom, Changes, IsPlaced, InnerNode}
 
 module _ {K V : Type 0} {P : ℕ} where
   -- the result of an allocation
-  pub placed : (old new : NodeArena K V P) (kind : NodeType) (key : ℕ) (node : nodes.Inner (OpaqueNodePtr K V P)) (at : OpaqueNodePtr K V P) → node_kind at ≡ kind → opaque_key at ≡ key → held old (opaque_pointer kind key) ≡ Nothing
+  pub placed : (old new : NodeArena K V P) (kind : NodeType) (key : ℕ) (node : InnerNode (OpaqueNodePtr K V P)) (at : OpaqueNodePtr K V P) → node_kind at ≡ kind → opaque_key at ≡ key → held old (opaque_pointer kind key) ≡ Nothing
       → Changes old new (opaque_pointer kind key) (HeldInner node) → room old kind ≤ room new kind + 1 → SameOtherRoom old new kind → SameCapacity old new → IsPlaced old new kind node at
   placed old new kind key node at is_kind is_key free changes rooms others same_capacity =
       let same : opaque_pointer kind key ≡ at = λ i. record { node_type = (sym is_kind) i; key = (sym is_key) i; leaf = record {} } in
       record { is_kind = is_kind; was_free = subst (λ p. held old p ≡ Nothing) same free; changes = subst (λ p. Changes old new p (HeldInner node)) same changes; room = rooms; other_room = others; capacity = same_capacity }
 
-module _ {K V : Type 0} {P : ℕ} {old new : NodeArena K V P} {node : nodes.Inner (OpaqueNodePtr K V P)} {at : OpaqueNodePtr K V P} where
+module _ {K V : Type 0} {P : ℕ} {old new : NodeArena K V P} {node : InnerNode (OpaqueNodePtr K V P)} {at : OpaqueNodePtr K V P} where
   pub placed-kind : (kind other : NodeType) → other ≡ kind → IsPlaced old new kind node at → IsPlaced old new other node at
   placed-kind kind other same p = subst (λ k. IsPlaced old new k node at) (sym same) p

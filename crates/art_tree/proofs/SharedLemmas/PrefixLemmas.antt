@@ -1,9 +1,5 @@
 -- Texts that begin with a path, and the order of texts that are the same.
-use Rattle.std.proofs.Common.{◌≡◌, ◌∙◌, ℕ, ◌+◌, List, [], ◌∷◌, ◌++◌, take, drop, slice_get, Some, sym, ap, subst}
-use Rattle.std.proofs.lemmas.List.{take-append-drop, take_more}
-use Rattle.std.proofs.lemmas.Option.{slice_get_within, get_or_from_slice_get}
-use Rattle.std.specs.declared.cmp.Ordering.TheVariants.{Less}
-use Rattle.art_bytes.specs.Text.{IsPrefixOf, text_order}
+use Rattle.art_tree.proofs.Names.{◌≡◌, ◌∙◌, ℕ, ◌+◌, List, [], ◌∷◌, ◌++◌, take, drop, slice_get, Some, sym, ap, subst, take-append-drop, take_more, slice_get_within, get_or_from_slice_get, Less, IsPrefixOf, text_order}
 
 pub take-get : {A : Type 0} (xs : List A) (i : ℕ) (x : A) → slice_get xs i ≡ Some x → take (i + 1) xs ≡ take i xs ++ x ∷ []
 take-get xs i x e = take_more xs i x (slice_get_within xs i x e) ∙ ap (λ y. take i xs ++ y ∷ []) (get_or_from_slice_get xs i x x e)

@@ -1,33 +1,22 @@
 -- Room for so many changes of a tree: it suffices for each of them, and one fewer is left.
-use Rattle.std.proofs.Common.{◌≡◌, ◌≢◌, ◌⊎◌, ◌∙◌, ℕ, ◌+◌, ◌<◌, ◌≤◌, List, [], length, min, Contains, Option, Some, None, refl, sym, ap, subst, inl, inr, arith}
-use Rattle.std.specs.Prelude.{◌↔◌}
-use Rattle.std.proofs.lemmas.Bool.{cases_lt}
-use Rattle.art_header.specs.declared.node_type.NodeType.{NodeType}
-use Rattle.art_header.specs.declared.node_type.NodeType.TheVariants as kinds
-use Rattle.art_nodes.specs.declared.pointers.OpaqueNodePtr.{OpaqueNodePtr}
-use Rattle.art_arena.specs.Arena.{NodeArena, capacity, leaf_count, room, SameCapacity, SameNodes}
-use Rattle.art_arena.specs.Links.{AreDistinct}
-use Rattle.art_arena.specs.Standing.{StandsIn}
-use Rattle.art_arena.specs.Trees.{Tree, places, texts, IsSound, IsWellFormed}
-use Rattle.art_tree.specs.Art.{IsAlone, IsArt}
-use Rattle.art_tree.specs.Dictionary.{entry_at, HasEntry, SameOtherEntries}
-use Rattle.art_tree.specs.NodeCounts.{most_nodes, nodes_of}
-use Rattle.art_tree.specs.Room.{GrowsOnlyWhere, HasFewer, HasRoomFor, HasRoomOf, LacksRoomFor, LacksRoomToInsert, LacksRoomToRemove}
+use Rattle.art_tree.proofs.Names.{◌≡◌, ◌≢◌, ◌⊎◌, ◌∙◌, ℕ, ◌+◌, ◌<◌, ◌≤◌, List, [], length, min, Contains, Option, Some, None, refl, sym, ap, subst, inl, inr, arith, ◌↔◌, cases_lt, NodeType, OpaqueNodePtr, NodeArena, capacity, leaf_count, room, SameCapacity, SameNodes, Tree, texts, IsWellFormed, IsAlone, IsArt, entry_at, HasEntry, SameOtherEntries, most_nodes, nodes_of, GrowsOnlyWhere, HasFewer, HasRoomOf, LacksRoomFor, LacksRoomToInsert, LacksRoomToRemove, text_is, LeafKind, Node16, Node256, Node4, Node48, texts-apart}
+use Rattle.art_tree.specs.Room.{HasRoomFor}
 use Rattle.art_tree.proofs.SharedLemmas.DictionaryLemmas.{empty-entry, entry-of-text, text-of-entry}
-use Rattle.art_tree.proofs.SharedLemmas.EntryLists.{text-is}
 use Rattle.art_tree.proofs.SharedLemmas.ExchangedTree.{alone-same}
 use Rattle.art_tree.proofs.SharedLemmas.HeldCounts.{held_count, held-nodes, held-none, room-left}
 use Rattle.art_tree.proofs.SharedLemmas.NodeBounds.{most-4, most-16, most-48, most-256, most-leaves, text-nodes}
-use Rattle.art_tree.proofs.SharedLemmas.OneLeafLess.{ApartLaw, SameNodesLaw, by-one, one-text}
+use Rattle.art_tree.proofs.SharedLemmas.OneLeafLess.{by-one, one-text}
+use Rattle.art_tree.proofs.SharedLemmas.TreeLaws.{apart-there, distinct-places}
+use Rattle.art_tree.proofs.SharedLemmas.UniqueTree.{same-nodes}
 use Rattle.art_tree.proofs.PlaceLemmas.WayPlaces.{some-text}
 
 -- a tree of so many texts has no more nodes of a kind
 pub most-nodes : {H : Type 0} (kind : NodeType) (tree : Tree H) (most : ℕ) → IsWellFormed tree → length (texts tree) ≤ most → nodes_of kind tree ≤ most_nodes kind most
-most-nodes kinds.Node4 tree most sound few = most-4 tree sound most few
-most-nodes kinds.Node16 tree most sound few = most-16 tree sound most few
-most-nodes kinds.Node48 tree most sound few = most-48 tree sound most few
-most-nodes kinds.Node256 tree most sound few = most-256 tree sound most few
-most-nodes kinds.Leaf tree most sound few = most-leaves tree sound most few
+most-nodes Node4 tree most sound few = most-4 tree sound most few
+most-nodes Node16 tree most sound few = most-16 tree sound most few
+most-nodes Node48 tree most sound few = most-48 tree sound most few
+most-nodes Node256 tree most sound few = most-256 tree sound most few
+most-nodes LeafKind tree most sound few = most-leaves tree sound most few
 
 module _ {K V : Type 0} {P : ℕ} where
   -- spare capacity for so many nodes, or for as many as any tree has, is room
@@ -52,10 +41,9 @@ module _ {K V : Type 0} {P : ℕ} where
   kept-room old new kind count left wide same (inl some) = inl (omega (arith, some, left))
   kept-room old new kind count left wide same (inr fits) = inr (λ tree sound few. let most = fits tree sound (omega (arith, few, same)) in omega (arith, most, wide))
 
-module _ {K V : Type 0} {P : ℕ} (text : K → List ℕ) (same_nodes : SameNodesLaw (OpaqueNodePtr K V P)) (apart : ApartLaw (OpaqueNodePtr K V P))
-    (distinct : (arena : NodeArena K V P) (path : List ℕ) (tree : Tree (OpaqueNodePtr K V P)) → StandsIn text arena tree → IsSound path tree → AreDistinct (places tree)) where
+module _ {K V : Type 0} {P : ℕ} (text : K → List ℕ) where
   held-alone : (arena : NodeArena K V P) (root : OpaqueNodePtr K V P) (tree : Tree (OpaqueNodePtr K V P)) → IsAlone text arena root tree → (kind : NodeType) → held_count arena kind ≡ nodes_of kind tree
-  held-alone arena root tree alone = held-nodes text arena root tree alone (distinct arena [] tree alone.is_tree.stands alone.is_tree.sound)
+  held-alone arena root tree alone = held-nodes text arena root tree alone (distinct-places alone)
 
   module _ (arena : NodeArena K V P) (x : List ℕ) where
     module _ (root : OpaqueNodePtr K V P) (tree : Tree (OpaqueNodePtr K V P)) (alone : IsAlone text arena root tree) (now : Tree (OpaqueNodePtr K V P)) (sound : IsWellFormed now) where
@@ -63,7 +51,7 @@ module _ {K V : Type 0} {P : ℕ} (text : K → List ℕ) (same_nodes : SameNode
       has-text y has = text-of-entry text arena root tree alone y has
 
       is-entry : (y : List ℕ) → Contains (texts tree) y → HasEntry text arena y
-      is-entry y inside = entry-of-text text arena root tree alone (apart [] tree alone.is_tree.sound) y inside
+      is-entry y inside = entry-of-text text arena root tree alone (apart-there alone) y inside
 
       -- the tree with a text more has at most one node more of each kind
       with-text : ((y : List ℕ) → Contains (texts now) y ↔ (HasEntry text arena y ⊎ (y ≡ x))) → (kind : NodeType) → nodes_of kind now ≤ nodes_of kind tree + 1
@@ -71,12 +59,12 @@ module _ {K V : Type 0} {P : ℕ} (text : K → List ℕ) (same_nodes : SameNode
         where
           by_entry : (found : Option (K × V)) → entry_at text arena x ≡ found → nodes_of kind now ≤ nodes_of kind tree + 1
           by_entry None none =
-              (by-one same_nodes apart now tree x sound alone.is_tree.sound ((are x).1 (inr refl))
+              (by-one same-nodes texts-apart now tree x sound alone.is_tree.sound ((are x).1 (inr refl))
               (λ y inside. elim ((are y).0 inside) [ inl has ↦ inl (has-text y has) | inr is ↦ inr is ])
               (λ y inside. let has = is-entry y inside in ((are y).1 (inl has), λ is. has (ap (entry_at text arena) is ∙ none))) kind).0
           by_entry (Some entry) some =
               let has : HasEntry text arena x = λ none. (let wrong : Some entry ≡ None = sym some ∙ none in absurd (cc)) in
-              let equal = same_nodes now tree kind sound alone.is_tree.sound (λ y. (
+              let equal = same-nodes now tree kind sound alone.is_tree.sound (λ y. (
                 λ inside. elim ((are y).0 inside) [ inl there ↦ has-text y there | inr is ↦ subst (Contains (texts tree)) (sym is) (has-text x has) ],
                 λ inside. (are y).1 (inl (is-entry y inside)),
               )) in
@@ -88,28 +76,21 @@ module _ {K V : Type 0} {P : ℕ} (text : K → List ℕ) (same_nodes : SameNode
         where
           by_entry : (found : Option (K × V)) → entry_at text arena x ≡ found → nodes_of kind now ≤ nodes_of kind tree + 1
           by_entry None none =
-              let equal = same_nodes now tree kind sound alone.is_tree.sound (λ y. (
+              let equal = same-nodes now tree kind sound alone.is_tree.sound (λ y. (
                 λ inside. has-text y ((are y).0 inside).0,
                 λ inside. let has = is-entry y inside in (are y).1 (has, λ is. has (ap (entry_at text arena) is ∙ none)),
               )) in
               omega (arith, equal)
           by_entry (Some entry) some =
               let has : HasEntry text arena x = λ none. (let wrong : Some entry ≡ None = sym some ∙ none in absurd (cc)) in
-              (by-one same_nodes apart tree now x alone.is_tree.sound sound (has-text x has)
-              (λ y inside. by_text y inside (entry_apart y))
+              (by-one same-nodes texts-apart tree now x alone.is_tree.sound sound (has-text x has)
+              (λ y inside. elim (text_is y x) [ inl is ↦ inr is | inr differ ↦ inl ((are y).1 (is-entry y inside, differ)) ])
               (λ y inside. let both = (are y).0 inside in (has-text y both.0, both.1)) kind).1
-            where
-              entry_apart : (y : List ℕ) → (y ≡ x) ⊎ (y ≢ x)
-              entry_apart y = text-is y x
-
-              by_text : (y : List ℕ) → Contains (texts tree) y → (y ≡ x) ⊎ (y ≢ x) → Contains (texts now) y ⊎ (y ≡ x)
-              by_text y inside (inl is) = inr is
-              by_text y inside (inr differ) = inl ((are y).1 (is-entry y inside, differ))
 
     -- the tree after an insert has at most one node more of each kind than the arena holds
     insert-near : (root : Option (OpaqueNodePtr K V P)) → IsArt text arena root → (now : Tree (OpaqueNodePtr K V P)) → IsWellFormed now → ((y : List ℕ) → Contains (texts now) y ↔ (HasEntry text arena y ⊎ (y ≡ x))) → (kind : NodeType) → nodes_of kind now ≤ held_count arena kind + 1
     insert-near None nothing now sound are kind =
-        let one = one-text same_nodes apart now x sound (λ y inside. elim ((are y).0 inside) [ inl has ↦ absurd (has (empty-entry text arena nothing y)) | inr is ↦ is ]) kind in
+        let one = one-text same-nodes texts-apart now x sound (λ y inside. elim ((are y).0 inside) [ inl has ↦ absurd (has (empty-entry text arena nothing y)) | inr is ↦ is ]) kind in
         omega (arith, one)
     insert-near (Some root) (tree, alone) now sound are kind =
         let more = with-text root tree alone now sound are kind in
@@ -137,7 +118,7 @@ module _ {K V : Type 0} {P : ℕ} (text : K → List ℕ) (same_nodes : SameNode
       by_room : HasRoomOf kind arena (count + 1) → held_count arena kind < nodes_of kind lacks.tree → ⊥
       by_room (inl some) more = omega (arith, some, lacks.none)
       by_room (inr fits) more =
-          let leaves = near kinds.Leaf in
+          let leaves = near LeafKind in
           let long = text-nodes lacks.tree in
           let most = fits lacks.tree lacks.sound (omega (arith, leaves, long)) in
           let left = room-left arena kind in
@@ -153,7 +134,7 @@ module _ {K V : Type 0} {P : ℕ} (text : K → List ℕ) (same_nodes : SameNode
   lasts : (old new : NodeArena K V P) (count : ℕ) → ((kind : NodeType) → held_count new kind ≤ held_count old kind + 1) → SameCapacity old new → HasRoomFor old (count + 1) → HasRoomFor new count
   lasts old new count near same has kind = elim (has kind) [
     | inl some ↦ (let before = room-left old kind in let after = room-left new kind in inl (omega (arith, some, before, after, near kind, same kind)))
-    | inr fits ↦ inr (λ tree sound few. let leaves = near kinds.Leaf in let most = fits tree sound (omega (arith, few, leaves)) in omega (arith, most, same kind))
+    | inr fits ↦ inr (λ tree sound few. let leaves = near LeafKind in let most = fits tree sound (omega (arith, few, leaves)) in omega (arith, most, same kind))
   ]
 
   module _ (old new : NodeArena K V P) (root new_root : Option (OpaqueNodePtr K V P)) (x : List ℕ) (count : ℕ) (art : IsArt text old root) (new_art : IsArt text new new_root) (others : SameOtherEntries text old new x) (same : SameCapacity old new) (has : HasRoomFor old (count + 1)) where
@@ -163,12 +144,12 @@ module _ {K V : Type 0} {P : ℕ} (text : K → List ℕ) (same_nodes : SameNode
         by_root : (new_root : Option (OpaqueNodePtr K V P)) → IsArt text new new_root → (kind : NodeType) → held_count new kind ≤ held_count old kind + 1
         by_root None nothing kind = let none = held-none text new nothing kind in omega (arith, none)
         by_root (Some top) (tree, alone) kind =
-            let apart_there = apart [] tree alone.is_tree.sound in
+            let apart_there = apart-there alone in
             let held = held-alone new top tree alone kind in
             let near = insert-near old x root art tree alone.is_tree.sound (λ y. (
-              λ inside. by_text y (entry-of-text text new top tree alone apart_there y inside) (text-is y x),
+              λ inside. by_text y (entry-of-text text new top tree alone apart_there y inside) (text_is y x),
               λ either. elim either [
-                | inl was ↦ elim (text-is y x) [
+                | inl was ↦ elim (text_is y x) [
                   | inl is ↦ text-of-entry text new top tree alone y (subst (HasEntry text new) (sym is) there)
                   | inr differ ↦ text-of-entry text new top tree alone y (λ none. was (sym (others y differ) ∙ none))
                 ]
@@ -187,7 +168,7 @@ module _ {K V : Type 0} {P : ℕ} (text : K → List ℕ) (same_nodes : SameNode
         by_root : (new_root : Option (OpaqueNodePtr K V P)) → IsArt text new new_root → (kind : NodeType) → held_count new kind ≤ held_count old kind + 1
         by_root None nothing kind = let none = held-none text new nothing kind in omega (arith, none)
         by_root (Some top) (tree, alone) kind =
-            let apart_there = apart [] tree alone.is_tree.sound in
+            let apart_there = apart-there alone in
             let held = held-alone new top tree alone kind in
             let near = remove-near old x root art tree alone.is_tree.sound (λ y. (
               λ inside.

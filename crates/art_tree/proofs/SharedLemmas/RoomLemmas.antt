@@ -1,10 +1,5 @@
 -- Allocation failure: some kind has no spare capacity.
-use Rattle.std.proofs.Common.{◌≡◌, ◌∙◌, ℕ, zero, suc, ◌≤◌, Result, Ok, Err, OnErr, IsOk, true, false, refl, sym, ap, subst, inl, inr, arith}
-use Rattle.std.proofs.lemmas.Bool.{cases_lt}
-use Rattle.art_header.specs.declared.node_type.NodeType.{NodeType}
-use Rattle.art_arena.specs.Arena.{NodeArena, room, SameCapacity, SameOtherCapacity, SameRoom}
-use Rattle.art_nodes.proofs.KindLaws.{same_or_differ}
-use Rattle.art_tree.specs.Room.{GrowsOnlyWhere}
+use Rattle.art_tree.proofs.Names.{◌≡◌, ◌∙◌, ℕ, zero, suc, ◌≤◌, Result, Ok, Err, OnErr, IsOk, true, false, refl, sym, ap, subst, inl, inr, arith, cases_lt, NodeType, NodeArena, room, SameCapacity, SameOtherCapacity, SameRoom, same_or_differ, GrowsOnlyWhere}
 
 -- what is refused, and is not where there is one, is refused where there is none
 pub none-left : {T E : Type 0} (r : Result T E) (n : ℕ) → (1 ≤ n → IsOk r) → (e : E) → r ≡ Err e → n ≡ 0

@@ -1,15 +1,5 @@
 -- Trees with the smallest kinds that are the same but for their pointers are of the same kinds.
-use Rattle.std.proofs.Common.{◌≡◌, ◌∙◌, ℕ, List, ◌∷◌, ◌++◌, length, map, refl, sym, ap, arith}
-use Rattle.std.proofs.lemmas.List.{map-append}
-use Rattle.art_header.specs.NodeType.{kind_for}
-use Rattle.art_header.specs.declared.node_type.NodeType.{NodeType}
-use Rattle.art_nodes.specs.Pointers.{node_kind, opaque_key}
-use Rattle.art_nodes.specs.declared.pointers.OpaqueNodePtr.{OpaqueNodePtr}
-use Rattle.art_arena.specs.Arena.{NodeArena}
-use Rattle.art_arena.specs.Standing.{StandsIn, AllStandIn}
-use Rattle.art_arena.specs.Trees.{Tree, Leaf, Inner, Branches, NoBranch, Branch, branch_roots, places, branch_places, SameButPointers, SameBranches}
-use Rattle.art_tree.specs.Loading.{HasSmallestKinds, HaveSmallestKinds}
-use Rattle.art_arena.proofs.StandingLaws.{leaf_kind}
+use Rattle.art_tree.proofs.Names.{◌≡◌, ◌∙◌, ℕ, List, ◌∷◌, ◌++◌, length, map, refl, sym, ap, arith, map-append, kind_for, NodeType, node_kind, opaque_key, OpaqueNodePtr, NodeArena, StandsIn, AllStandIn, Tree, Leaf, Inner, Branches, NoBranch, Branch, branch_roots, places, branch_places, SameButPointers, SameBranches, HasSmallestKinds, HaveSmallestKinds, leaf_kind}
 
 module _ {K V : Type 0} {P : ℕ} (text : K → List ℕ) (a b : NodeArena K V P) where
   same-count : (branches more : Branches (OpaqueNodePtr K V P)) → SameBranches branches more → length (branch_roots branches) ≡ length (branch_roots more)

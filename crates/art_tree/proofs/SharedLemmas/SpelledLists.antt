@@ -1,11 +1,5 @@
 -- Lists of leaves that an arena spells.
-use Rattle.std.proofs.Common.{◌≡◌, ◌≢◌, ◌∙◌, ℕ, List, [], ◌∷◌, ◌++◌, slice_get, Option, Some, None, sym, ap, subst}
-use Rattle.art_header.specs.declared.node_type.NodeType.TheVariants as kinds
-use Rattle.art_nodes.specs.Pointers.{opaque_pointer}
-use Rattle.art_nodes.specs.declared.pointers.OpaqueNodePtr.{OpaqueNodePtr}
-use Rattle.art_nodes.specs.declared.leaf_node.LeafNode.{LeafNode}
-use Rattle.art_arena.specs.Arena.{NodeArena, HeldLeaf, Nothing, held, held_leaf}
-use Rattle.art_arena.specs.Links.{IsKnit, Spells, SpellsAfter, leaf_at, next_at}
+use Rattle.art_tree.proofs.Names.{◌≡◌, ◌≢◌, ◌∙◌, ℕ, List, [], ◌∷◌, ◌++◌, slice_get, Option, Some, None, sym, ap, subst, opaque_pointer, OpaqueNodePtr, LeafNode, NodeArena, HeldLeaf, Nothing, held, held_leaf, IsKnit, Spells, SpellsAfter, leaf_at, next_at, LeafKind}
 use Rattle.art_tree.proofs.SharedLemmas.HeldNodes.{leaf-of}
 
 module _ {K V : Type 0} {P : ℕ} where
@@ -19,8 +13,8 @@ module _ {K V : Type 0} {P : ℕ} where
 
   pub Spells-kept : (now new : NodeArena K V P) → ((pointer : OpaqueNodePtr K V P) → held now pointer ≢ Nothing → held new pointer ≡ held now pointer) → (keys : List ℕ) → Spells now keys → Spells new keys
   Spells-kept now new kept = spells-on now new (λ key leaf at.
-      let there : held now (opaque_pointer kinds.Leaf key) ≡ HeldLeaf leaf = ap held_leaf at in
-      leaf-of (leaf_at new key) leaf (kept (opaque_pointer kinds.Leaf key) (subst (λ x. x ≢ Nothing) (sym there) (λ e. cc)) ∙ there))
+      let there : held now (opaque_pointer LeafKind key) ≡ HeldLeaf leaf = ap held_leaf at in
+      leaf-of (leaf_at new key) leaf (kept (opaque_pointer LeafKind key) (subst (λ x. x ≢ Nothing) (sym there) (λ e. cc)) ∙ there))
 
   -- `each_leaf_of_a_list_is_knit`, of an arena
   abbrev pub AreKnit : NodeArena K V P → Type 0

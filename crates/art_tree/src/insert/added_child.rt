@@ -1,5 +1,5 @@
 //! Insertion: changes of inner nodes.
-ghost use Rattle.std.specs.Prelude.{◌≡◌, ◌≢◌, ◌↔◌, ◌<◌, ◌≤◌, ◌+◌, ◌-◌, ◌^◌, ◌++◌, ℕ, List, length, take, drop, None, OnOk, OnErr, IsTrue};
+ghost use Rattle.std.specs.Prelude.{◌≡◌, ◌≢◌, ◌<◌, ◌≤◌, ◌+◌, ◌-◌, ◌^◌, ◌++◌, ℕ, List, length, take, drop, None};
 ghost use Rattle.art_header.specs.Header.{StandsFor};
 ghost use Rattle.art_header.specs.NodeType.{most_children};
 ghost use Rattle.art_header.specs.declared.node_type.NodeType.TheVariants.{Leaf, Node4};
@@ -10,8 +10,6 @@ ghost use Rattle.art_arena.specs.Arena.{held, HeldInner, Nothing, room, Changes,
 ghost use Rattle.art_arena.specs.Links.{HoldsLeaf, text_at};
 ghost use Rattle.art_tree.specs.Edits.{HasOneMore, HasRoomToGrow, IsMoved, TellsFull, two_children};
 ghost use Rattle.art_tree.specs.Nodes.{node_of, IsPlaced, node_with_prefix};
-ghost use Rattle.art_tree.specs.Reserving.{LacksRoomToGrow};
-ghost use Rattle.art_tree.specs.Room.{GrowsOnlyWhere};
 ghost use Rattle.art_tree.specs.Search.{leaf_pointer};
 
 use crate::node::{num_children, place_as, replace_node};
@@ -33,26 +31,6 @@ pub(crate) fn is_full<K, V, const PREFIX_LEN: usize>(
     ensures { TellsFull arena.now pointer result }
 {
     num_children(arena, pointer) == *pointer.node_type().capacity_range().end()
-}
-
-/// Makes spare capacity for the node that the inner node at the pointer grows to where it is full.
-pub(crate) fn reserve_growth<K, V, const PREFIX_LEN: usize>(
-    arena: &mut NodeArena<K, V, PREFIX_LEN>,
-    pointer: OpaqueNodePtr<K, V, PREFIX_LEN>,
-    full: bool,
-) -> Result<(), AllocError>
-    requires inner { node_kind pointer ≢ Leaf }
-    requires full { TellsFull arena.old pointer full }
-    ensures room { OnOk result (HasRoomToGrow arena.new pointer) }
-    ensures nodes_kept { SameNodes arena.old arena.new }
-    ensures leaf_room { room arena.old Leaf ≤ room arena.new Leaf }
-    ensures no_room { OnErr result ((kind : _) × LacksRoomToGrow arena.old pointer kind) }
-    ensures memory { GrowsOnlyWhere arena.old arena.new (LacksRoomToGrow arena.old pointer) }
-{
-    if !full {
-        return Ok(());
-    }
-    arena.reserve(pointer.node_type().grown(), 1)
 }
 
 // The same node of the next kind with one child more. Kept out of its caller, whose stack would

@@ -7,7 +7,6 @@ ghost use Rattle.art_arena.specs.Links.{Spells, text_at};
 ghost use Rattle.art_tree.specs.Edits.{HasGap, HoldsEntry, IsBeside, LiesBeside, StaysAt};
 ghost use Rattle.art_tree.specs.Search.{leaf_pointer};
 
-use crate::laws::each_leaf_of_a_list_is_knit;
 use art_arena::{End, LeafLinks, NodeArena};
 use art_bytes::AsBytes;
 use art_nodes::{LeafNode, NodePtr};
@@ -34,7 +33,6 @@ pub(crate) fn link_leaf<K: AsBytes, V, const PREFIX_LEN: usize>(
     ensures other_room { SameOtherRoom arena.old arena.new Leaf }
     ensures capacity { SameCapacity arena.old arena.new }
 {
-    each_leaf_of_a_list_is_knit::<K, V, PREFIX_LEN>();
     let leaf = arena.allocate_reserved(LeafNode::with_no_siblings(key, value));
     match end {
         End::First => LeafNode::insert_before(arena, leaf, sibling),

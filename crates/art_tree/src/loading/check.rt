@@ -11,7 +11,7 @@ use std::fmt;
 ///
 /// Keys and their refusal:
 ///
-/// (from crates/art_tree_tests/src/tree/loading.rt)
+/// (from tests/art_tree_tests/tree/loading.rt.txt)
 /// ```rust
 /// (&[], LoadRefusal::Empty),
 /// (&["a", "a"], LoadRefusal::NotAscending(0)),

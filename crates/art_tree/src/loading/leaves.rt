@@ -1,12 +1,11 @@
 //! Loading: entries to linked leaves.
-ghost use Rattle.std.specs.Prelude.{◌≡◌, ◌≤◌, [], vec_len, vec_capacity};
+ghost use Rattle.std.specs.Prelude.{◌≡◌, ◌+◌, ◌≤◌, [], vec_len, vec_capacity};
 ghost use Rattle.art_header.specs.declared.node_type.NodeType.TheVariants.{Leaf};
 ghost use Rattle.art_arena.specs.Arena.{room, SameOtherRoom};
 ghost use Rattle.art_tree.specs.Plan.{AreLoadable};
 ghost use Rattle.art_tree.specs.Refusals.{texts_of};
 ghost use Rattle.art_tree.specs.Loading.{AreLinked};
 
-use crate::laws::each_leaf_of_a_list_is_knit;
 use art_arena::{LeafLinks, NodeArena};
 use art_bytes::AsBytes;
 use art_nodes::{LeafNode, NodePtr};
@@ -23,9 +22,9 @@ pub(crate) fn link_leaves<K: AsBytes, V, const PREFIX_LEN: usize>(
     requires memory { vec_len entries ≤ vec_capacity leaves.old }
     requires room { vec_len entries ≤ room arena.old Leaf }
     ensures linked { AreLinked arena.old arena.new entries.items leaves.new.items }
+    ensures leaf_room { room arena.old Leaf ≡ room arena.new Leaf + vec_len entries }
     ensures other_room { SameOtherRoom arena.old arena.new Leaf }
 {
-    each_leaf_of_a_list_is_knit::<K, V, PREFIX_LEN>();
     let mut rest = entries.into_iter();
     'moving: while let Some((key, value)) = rest.next() {
         let leaf = arena.allocate_reserved(LeafNode::with_no_siblings(key, value));

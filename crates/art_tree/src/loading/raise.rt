@@ -13,7 +13,6 @@ ghost use Rattle.art_tree.specs.Refusals.{text_of_entry};
 ghost use Rattle.art_tree.specs.Raising.{IsRaised, HoldLeaves, leaf_texts};
 ghost use Rattle.art_tree.specs.Nodes.{node_of, IsPlaced};
 
-use crate::laws::{allocating_leaves_trees_standing, an_allocated_node_makes_a_tree};
 use crate::loading::steps::Step;
 use crate::node::place_as;
 use art_arena::NodeArena;
@@ -82,8 +81,6 @@ pub(crate) fn raise<K: AsBytes, V, const PREFIX_LEN: usize>(
     ensures { (tree : Tree (Pointer K V PREFIX_LEN))
         × IsRaised K.text arena.old arena.new leaves.now result tree }
 {
-    allocating_leaves_trees_standing::<K, V, PREFIX_LEN>();
-    an_allocated_node_makes_a_tree::<K, V, PREFIX_LEN>();
     let mut next = 0;
     for step in steps {
         match *step {

@@ -1,17 +1,14 @@
 //! Compaction: the entries of a tree, loaded into another arena in their order.
-ghost use Rattle.std.specs.Prelude.{◌≡◌, ◌≤◌, [], All, Some, length, map, vec_capacity, IfOk, OnErr};
-ghost use Rattle.art_nodes.specs.Pointers.{slab_key};
-ghost use Rattle.art_arena.specs.Arena.{held, Nothing};
+ghost use Rattle.std.specs.Prelude.{◌≡◌, ◌≢◌, ◌≤◌, [], All, Some, length, map, vec_capacity, IfOk, OnErr};
+ghost use Rattle.art_header.specs.declared.node_type.NodeType.TheVariants.{Leaf};
+ghost use Rattle.art_nodes.specs.Pointers.{node_kind, slab_key};
+ghost use Rattle.art_arena.specs.Arena.{held, Nothing, SameCapacity, SameOtherRoom};
 ghost use Rattle.art_arena.specs.Links.{AreDistinct, HoldsLeaf};
 ghost use Rattle.art_tree.specs.Art.{IsArt};
 ghost use Rattle.art_tree.specs.Loading.{HoldEntries};
 ghost use Rattle.art_tree.specs.Reloading.{AreLeavesOf, IsReloaded};
 ghost use Rattle.art_tree.specs.Search.{leaf_pointer};
 
-use crate::laws::{
-    each_leaf_of_a_list_is_knit, entries_are_as_many_as_leaves, no_text_begins_another,
-    texts_ascend,
-};
 use crate::loading::{make, prepare};
 use art_arena::{End, NodeArena, end_leaf};
 use art_bytes::AsBytes;
@@ -19,7 +16,7 @@ use art_nodes::{LeafNode, NodePtr, OpaqueNodePtr};
 use std::alloc::{AllocError, Global};
 
 // The leaves of the tree at the root, in order.
-fn leaves_in_order<K: AsBytes, V, const PREFIX_LEN: usize>(
+pub(super) fn leaves_in_order<K: AsBytes, V, const PREFIX_LEN: usize>(
     alloc: Global,
     arena: &NodeArena<K, V, PREFIX_LEN>,
     root: OpaqueNodePtr<K, V, PREFIX_LEN>,
@@ -27,8 +24,6 @@ fn leaves_in_order<K: AsBytes, V, const PREFIX_LEN: usize>(
     requires { IsArt K.text arena.now (Some root) }
     ensures { IfOk result (λ leaves. AreLeavesOf K.text arena.now root leaves.items) }
 {
-    each_leaf_of_a_list_is_knit::<K, V, PREFIX_LEN>();
-    entries_are_as_many_as_leaves::<K, V, PREFIX_LEN>();
     let mut leaves = Vec::with_capacity(alloc, arena.leaf_count())?;
     let mut at = Some(end_leaf(arena, root, End::First));
     'along: while let Some(leaf) = at {
@@ -39,7 +34,7 @@ fn leaves_in_order<K: AsBytes, V, const PREFIX_LEN: usize>(
 }
 
 // Takes the entries of these leaves out of the arena, in order. There must be memory for them.
-fn take_entries<K, V, const PREFIX_LEN: usize>(
+pub(super) fn take_entries<K, V, const PREFIX_LEN: usize>(
     arena: &mut NodeArena<K, V, PREFIX_LEN>,
     leaves: &[NodePtr<PREFIX_LEN, LeafNode<K, V, PREFIX_LEN>>],
     entries: &mut Vec<(K, V)>,
@@ -48,7 +43,11 @@ fn take_entries<K, V, const PREFIX_LEN: usize>(
     requires distinct { AreDistinct (map slab_key leaves.now) }
     requires none { entries.old.items ≡ [] }
     requires memory { length leaves.now ≤ vec_capacity entries.old }
-    ensures { HoldEntries arena.old (map leaf_pointer leaves.now) entries.new.items }
+    ensures hold { HoldEntries arena.old (map leaf_pointer leaves.now) entries.new.items }
+    ensures inner_kept { (pointer : _) → node_kind pointer ≢ Leaf →
+        held arena.new pointer ≡ held arena.old pointer }
+    ensures other_room { SameOtherRoom arena.old arena.new Leaf }
+    ensures capacity { SameCapacity arena.old arena.new }
 {
     for leaf in leaves {
         let entry = arena.deallocate_node_ptr(*leaf).into_entry();
@@ -57,7 +56,8 @@ fn take_entries<K, V, const PREFIX_LEN: usize>(
 }
 
 /// Moves the entries of the tree at the root into an empty arena, and makes their tree there. All
-/// memory is taken before an entry is moved. Returns the new root.
+/// memory is taken before an entry is moved, and the memory of the old arena is given back before
+/// the new one is written. Returns the new root.
 pub(crate) fn reload<K: AsBytes + Drop, V: Drop, const PREFIX_LEN: usize>(
     alloc: Global,
     old: &mut NodeArena<K, V, PREFIX_LEN>,
@@ -69,11 +69,10 @@ pub(crate) fn reload<K: AsBytes + Drop, V: Drop, const PREFIX_LEN: usize>(
     ensures reloaded { IfOk result (IsReloaded K.text old.old arena.new) }
     ensures kept { OnErr result (old.new ≡ old.old) }
 {
-    no_text_begins_another::<OpaqueNodePtr<K, V, PREFIX_LEN>>();
-    texts_ascend::<OpaqueNodePtr<K, V, PREFIX_LEN>>();
     let leaves = leaves_in_order(alloc, old, root)?;
     let mut entries = Vec::with_capacity(alloc, leaves.len())?;
     let prepared = prepare(alloc, arena, &*old, &leaves)?;
     take_entries(old, &leaves, &mut entries);
+    *old = NodeArena::new(alloc);
     Ok(make(arena, entries, prepared))
 }

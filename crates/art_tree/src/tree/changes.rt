@@ -1,19 +1,30 @@
-//! Insertion and removal of entries of an [`ArtTree`].
-ghost use Rattle.std.specs.Prelude.{◌≡◌, ◌≢◌, ◌≤◌, ◌+◌, ℕ, None, IfNone, IfOk, IfErr, OnOk, OnErr, IsOk};
-ghost use Rattle.art_arena.specs.Arena.{room, SameNodes, SameOtherCapacity, SameOtherRoom, SameRoom};
+//! Entries of an [`ArtTree`] added and removed.
+ghost use Rattle.std.specs.Prelude.{◌≡◌, ◌≢◌, ◌+◌, ℕ, List, Some, None, IfNone, IfOk, IfErr, OnOk, OnErr, IsOk};
+ghost use Rattle.std.specs.Borrow.{sem};
+ghost use Rattle.std.specs.Option.{UnwrapsOrElse, option_map};
+ghost use Rattle.art_nodes.specs.Leaf.{leaf_key};
+ghost use Rattle.art_nodes.specs.Pointers.{slab_key};
+ghost use Rattle.art_arena.specs.Arena.{SameNodes, SameRoom};
+ghost use Rattle.art_arena.specs.Links.{HoldsLeaf, leaf_at};
 ghost use Rattle.art_tree.specs.Dictionary.{entry_at, HasKeys, IsEntry, SameEntries, SameOtherEntries};
+ghost use Rattle.art_tree.specs.Entering.{FindsOrInserts, InsertsAt, IsPlaceOf, IsPresent, ReplacesEntry};
+ghost use Rattle.art_tree.specs.Finding.{IsLeafOf};
 ghost use Rattle.art_tree.specs.Insertion.{IsRefused, MayEnter};
+ghost use Rattle.art_tree.specs.LeafRemoval.{TakesEntry};
 ghost use Rattle.art_tree.specs.Leaves.{KeepsOtherLeaves};
+ghost use Rattle.art_tree.specs.Places.{present_leaf};
 ghost use Rattle.art_tree.specs.Removal.{NeedsSmallerNode};
 ghost use Rattle.art_tree.specs.Room.{FreesOneEach, GrowsOnlyWhere, HasRoomFor, LacksRoomToInsert, LacksRoomToRemove};
+ghost use Rattle.art_tree.specs.TreeLending.{LendsEntryValue};
 ghost use Rattle.art_tree.specs.declared.insert.InsertRefusal.TheVariants.{OutOfMemory};
 
-use crate::insert::{InsertFault, insert_entry};
-use crate::laws::{no_text_begins_another, room_lasts};
-use crate::remove::remove_entry;
+use crate::insert::{InsertFault, RootAndPlace, insert_new, present};
+use crate::path::TreePath;
+use crate::place::find_place;
+use crate::remove::remove_leaf;
 use crate::tree::ArtTree;
 use art_bytes::AsBytes;
-use art_nodes::{NodeType, OpaqueNodePtr};
+use art_nodes::{LeafNode, NodePtr};
 use std::alloc::AllocError;
 
 impl<K: AsBytes, V, const PREFIX_LEN: usize> ArtTree<K, V, PREFIX_LEN> {
@@ -71,10 +82,66 @@ impl<K: AsBytes, V, const PREFIX_LEN: usize> ArtTree<K, V, PREFIX_LEN> {
         ensures is_key { K.is_key key }
         ensures are_keys { HasKeys K.text K.is_key self.old.arena }
     {
-        room_lasts::<K, V, PREFIX_LEN>();
-        let (root, before) = insert_entry(&mut self.arena, self.root, key, value)?;
-        self.root = Some(root);
-        Ok(before)
+        let place = self.place_of(&key);
+        match present(place) {
+            Some((_, leaf)) => Ok(Some(self.replace(leaf, key, value))),
+            None => {
+                self.insert_at(place, key, value)?;
+                Ok(None)
+            }
+        }
+    }
+
+    // Where a key belongs, with the root, or None where there is no entry.
+    #[inline(always)]
+    fn place_of(&self, key: &K) -> Option<RootAndPlace<K, V, PREFIX_LEN>>
+        ensures place { IsPlaceOf K.text self.now (K.text key.now) result }
+        ensures is_key { K.is_key key.now }
+        ensures are_keys { HasKeys K.text K.is_key self.now.arena }
+    {
+        let text = key.as_bytes();
+        let root = self.root?;
+        Some((root, find_place(&self.arena, root, text)))
+    }
+
+    // Replaces the entry of a leaf by this one, which has the same key bytes, and returns the old one.
+    fn replace(
+        &mut self,
+        leaf: NodePtr<PREFIX_LEN, LeafNode<K, V, PREFIX_LEN>>,
+        key: K,
+        value: V,
+    ) -> (K, V)
+        requires present { IsPresent K.text self.old leaf (K.text key) }
+        requires is_key { K.is_key key }
+        ensures { ReplacesEntry K.text self.old self.new key value result }
+    {
+        let old = self.arena.as_ref(leaf);
+        let (previous, next) = (old.previous(), old.next());
+        let mut new = LeafNode::with_no_siblings(key, value);
+        new.set_links(previous, next);
+        self.arena.replace(leaf, new).into_entry()
+    }
+
+    // Adds an entry with new key bytes at their place, and returns its leaf. A refused entry is returned.
+    #[inline(always)]
+    fn insert_at(
+        &mut self,
+        place: Option<RootAndPlace<K, V, PREFIX_LEN>>,
+        key: K,
+        value: V,
+    ) -> Result<NodePtr<PREFIX_LEN, LeafNode<K, V, PREFIX_LEN>>, InsertFault<K, V>>
+        requires place { IsPlaceOf K.text self.old (K.text key) place }
+        requires new { present_leaf place ≡ None }
+        requires is_key { K.is_key key }
+        ensures { InsertsAt K.text self.old self.new key value result }
+    {
+        match insert_new(&mut self.arena, place, key, value) {
+            Ok((root, leaf)) => {
+                self.root = Some(root);
+                Ok(leaf)
+            }
+            Err(fault) => Err(fault),
+        }
     }
 
     /// Removes the entry with these key bytes, if there is one, and returns it. Where there is
@@ -112,37 +179,96 @@ impl<K: AsBytes, V, const PREFIX_LEN: usize> ArtTree<K, V, PREFIX_LEN> {
         ensures room_lasts { (count : ℕ) → HasRoomFor self.old.arena (count + 1) →
             HasRoomFor self.new.arena count }
     {
-        room_lasts::<K, V, PREFIX_LEN>();
-        let Some(root) = self.root else {
+        let Some((leaf, path)) = self.find(key) else {
             return Ok(None);
         };
-        let Some((root, entry)) = remove_entry(&mut self.arena, root, key)? else {
-            return Ok(None);
-        };
-        self.root = root;
+        let entry = self.remove_found(leaf, path)?;
         Ok(Some(entry))
     }
 
-    /// Reserves memory for `additional` more nodes of the kind, as [`NodeArena::reserve`] does. Every
-    /// entry, every node and the root are unchanged.
+    /// Removes the entry of a leaf and returns it. The arena must hold the leaf, as it holds those that
+    /// the links lead to.
     ///
-    /// With spare capacity for one node of each kind, no allocation fails in
-    /// [`insert`](Self::insert) and [`remove`](Self::remove).
+    /// Allocation fails as in [`remove`](Self::remove) of the leaf's key, and no other; room lasts as
+    /// there. After a failure every node and the root are unchanged. Each other leaf keeps its pointer.
     ///
-    /// [`NodeArena::reserve`]: art_arena::NodeArena::reserve
-    pub fn reserve(&mut self, kind: NodeType, additional: usize) -> Result<(), AllocError>
-        ensures room { OnOk result (additional ≤ room self.new.arena kind) }
-        ensures succeeds { additional ≤ room self.old.arena kind → IsOk result }
-        ensures had_room { additional ≤ room self.old.arena kind →
-            SameRoom self.old.arena self.new.arena }
-        ensures no_less_room { room self.old.arena kind ≤ room self.new.arena kind }
-        ensures other_room { SameOtherRoom self.old.arena self.new.arena kind }
-        ensures other_capacity { SameOtherCapacity self.old.arena self.new.arena kind }
-        ensures same_entries { SameEntries K.text self.old.arena self.new.arena }
-        ensures nodes_kept { SameNodes self.old.arena self.new.arena }
-        ensures root_kept { self.new.root ≡ self.old.root }
+    /// Costs as much as [`remove`](Self::remove): it goes down to the leaf by its key.
+    pub fn remove_leaf(
+        &mut self,
+        ptr: NodePtr<PREFIX_LEN, LeafNode<K, V, PREFIX_LEN>>,
+    ) -> Result<(K, V), AllocError>
+        requires { HoldsLeaf self.old.arena (slab_key ptr) }
+        ensures { (leaf : _) → leaf_at self.old.arena (slab_key ptr) ≡ Some leaf →
+            TakesEntry K.text self.old self.new (K.text (leaf_key leaf)) result }
     {
-        no_text_begins_another::<OpaqueNodePtr<K, V, PREFIX_LEN>>();
-        self.arena.reserve(kind, additional)
+        let key = self.arena.as_key_ref(ptr).as_bytes();
+        let (leaf, path) = self.find(key).unwrap();
+        self.remove_found(leaf, path)
+    }
+
+    // Removes the entry of a leaf, to which this path leads, and returns it.
+    pub(super) fn remove_found(
+        &mut self,
+        leaf: NodePtr<PREFIX_LEN, LeafNode<K, V, PREFIX_LEN>>,
+        path: TreePath<K, V, PREFIX_LEN>,
+    ) -> Result<(K, V), AllocError>
+        requires { (text : List ℕ) × IsLeafOf K.text self.old leaf path text }
+        ensures { (text : List ℕ) → IsLeafOf K.text self.old leaf path text →
+            TakesEntry K.text self.old self.new text result }
+    {
+        let (root, entry) = remove_leaf(&mut self.arena, self.root.unwrap(), leaf, path)?;
+        self.root = root;
+        Ok(entry)
+    }
+}
+
+impl<K: AsBytes + Drop, V, const PREFIX_LEN: usize> ArtTree<K, V, PREFIX_LEN> {
+    /// A mutable reference to the value of the entry with these key bytes. Where there is none, an
+    /// entry with the key and the value that the closure makes is added first. The entry ends with the
+    /// value that the caller leaves there. Where it was there, its key stays, and every other node and
+    /// the root are unchanged.
+    ///
+    /// Only a key without an entry is refused, as [`insert`](Self::insert) refuses it, with the key and
+    /// the value that was made. After a refusal every node and the root are unchanged. Costs one
+    /// [`insert`](Self::insert).
+    pub fn get_or_insert_with<F: FnOnce() -> V>(
+        &mut self,
+        key: K,
+        make: F,
+    ) -> Result<&mut V, InsertFault<K, V>>
+        requires { F.pre make }
+        ensures* writes_back { sem 𝓛 (LendsEntryValue K.row V.row PREFIX_LEN.row K.text K.is_key
+            self.entry key result) }
+        ensures value { IfOk result (λ value. UnwrapsOrElse
+            (option_map (λ entry. entry.1) (entry_at K.text self.old.arena (K.text key)))
+            (F.post make) value.now) }
+        ensures no_refusal { OnOk result (MayEnter K.text self.old.arena (K.text key)) }
+        ensures refusal_due { IfErr result
+            (λ fault. IsRefused K.text self.old.arena (K.text key) fault.refusal) }
+        ensures entry_back { IfErr result (λ fault. (fault.key ≡ key) × F.post make fault.value) }
+        ensures no_room { IfErr result
+            (λ fault. fault.refusal ≡ OutOfMemory → (kind : _) ×
+            LacksRoomToInsert K.text self.old.arena self.old.root (K.text key) kind) }
+        ensures is_key { K.is_key key }
+    {
+        let leaf = self.find_or_insert(key, make)?;
+        Ok(self.arena.as_value_mut(leaf))
+    }
+
+    // The leaf with a key, which is added with the value that the closure makes where there is none.
+    fn find_or_insert<F: FnOnce() -> V>(
+        &mut self,
+        key: K,
+        make: F,
+    ) -> Result<NodePtr<PREFIX_LEN, LeafNode<K, V, PREFIX_LEN>>, InsertFault<K, V>>
+        requires { F.pre make }
+        ensures found { FindsOrInserts K.text self.old self.new key (F.post make) result }
+        ensures is_key { K.is_key key }
+    {
+        let place = self.place_of(&key);
+        match present(place) {
+            Some((_, leaf)) => Ok(leaf),
+            None => self.insert_at(place, key, make()),
+        }
     }
 }

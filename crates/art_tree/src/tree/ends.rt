@@ -1,18 +1,56 @@
-//! Removal of the first and the last entry of an [`ArtTree`], and of all entries.
-ghost use Rattle.std.specs.Prelude.{◌≡◌, None};
-ghost use Rattle.art_arena.specs.Arena.{capacity, room, SameCapacity};
+//! The first and the last entry of an [`ArtTree`].
+ghost use Rattle.std.specs.Prelude.{◌≢◌, ℕ, List, IfSome, IfNone};
+ghost use Rattle.std.specs.declared.cmp.Ordering.TheVariants.{Less, Greater};
+ghost use Rattle.art_bytes.specs.Text.{text_order};
 ghost use Rattle.art_arena.specs.declared.ends.End.TheVariants.{First, Last};
-ghost use Rattle.art_tree.specs.Dictionary.{IsEmpty};
-ghost use Rattle.art_tree.specs.Ends.{PopsEntry};
+ghost use Rattle.art_tree.specs.Dictionary.{IsEntry, HasEntry, IsEmpty};
+ghost use Rattle.art_tree.specs.Ends.{IsWithin, PopsEntry};
+ghost use Rattle.art_tree.specs.Finding.{IsEndFound};
 
-use crate::laws::room_lasts;
-use crate::remove::end_removal::remove_end;
-use crate::tree::ArtTree;
-use art_arena::End;
+use crate::remove::end_place::end_place;
+use crate::tree::{ArtTree, FoundLeaf};
+use art_arena::{End, end_leaf};
 use art_bytes::AsBytes;
 use std::alloc::AllocError;
 
 impl<K: AsBytes, V, const PREFIX_LEN: usize> ArtTree<K, V, PREFIX_LEN> {
+    /// Key and value of the entry with the least key bytes, or None where there is no entry. Visits
+    /// at most one inner node for each byte of that key. Takes no memory.
+    pub fn first(&self) -> Option<(&K, &V)>
+        ensures entry { IfSome result
+            (λ (key, value). IsEntry K.text self.now.arena (key.now, value.now)) }
+        ensures least { IfSome result (λ (key, value). (other : List ℕ) →
+            HasEntry K.text self.now.arena other → text_order (K.text key.now) other ≢ Greater) }
+        ensures none { IfNone result (IsEmpty K.text self.now.arena) }
+    {
+        self.end_entry(End::First)
+    }
+
+    /// Key and value of the entry with the greatest key bytes, or None where there is no entry.
+    /// Visits at most one inner node for each byte of that key. Takes no memory.
+    pub fn last(&self) -> Option<(&K, &V)>
+        ensures entry { IfSome result
+            (λ (key, value). IsEntry K.text self.now.arena (key.now, value.now)) }
+        ensures greatest { IfSome result (λ (key, value). (other : List ℕ) →
+            HasEntry K.text self.now.arena other → text_order (K.text key.now) other ≢ Less) }
+        ensures none { IfNone result (IsEmpty K.text self.now.arena) }
+    {
+        self.end_entry(End::Last)
+    }
+
+    // The entry at one end.
+    fn end_entry(&self, end: End) -> Option<(&K, &V)>
+        ensures entry { IfSome result
+            (λ (key, value). IsEntry K.text self.now.arena (key.now, value.now)) }
+        ensures at_end { IfSome result (λ (key, value). (other : List ℕ) →
+            HasEntry K.text self.now.arena other → IsWithin end (K.text key.now) other) }
+        ensures none { IfNone result (IsEmpty K.text self.now.arena) }
+    {
+        let root = self.root?;
+        let leaf = end_leaf(&self.arena, root, end);
+        Some(self.arena.as_key_value_ref(leaf))
+    }
+
     /// Removes the entry with the least key bytes and returns it, or None where there is no entry.
     ///
     /// Allocation fails as in [`remove`](Self::remove) of that entry, and no other; room lasts as
@@ -42,26 +80,18 @@ impl<K: AsBytes, V, const PREFIX_LEN: usize> ArtTree<K, V, PREFIX_LEN> {
     fn pop_end(&mut self, end: End) -> Result<Option<(K, V)>, AllocError>
         ensures { PopsEntry K.text self.old self.new end result }
     {
-        room_lasts::<K, V, PREFIX_LEN>();
-        let Some(root) = self.root else {
+        let Some((leaf, path)) = self.find_end(end) else {
             return Ok(None);
         };
-        let (root, entry) = remove_end(&mut self.arena, root, end)?;
-        self.root = root;
+        let entry = self.remove_found(leaf, path)?;
         Ok(Some(entry))
     }
-}
 
-impl<K: AsBytes + Drop, V: Drop, const PREFIX_LEN: usize> ArtTree<K, V, PREFIX_LEN> {
-    /// Removes every entry. The capacity of each kind of node is unchanged. Takes no memory, and time
-    /// linear in the most entries that there were since the tree was made or last cleared.
-    pub fn clear(&mut self)
-        ensures no_entry { IsEmpty K.text self.new.arena }
-        ensures no_root { self.new.root ≡ None }
-        ensures capacity { SameCapacity self.old.arena self.new.arena }
-        ensures room { (kind : _) → room self.new.arena kind ≡ capacity self.old.arena kind }
+    // The leaf of the entry at one end and the path to it, if there is one.
+    fn find_end(&self, end: End) -> Option<FoundLeaf<K, V, PREFIX_LEN>>
+        ensures { IsEndFound K.text self.now end result }
     {
-        self.arena.clear();
-        self.root = None;
+        let root = self.root?;
+        Some(end_place(&self.arena, root, end))
     }
 }

@@ -1,11 +1,10 @@
-//! Tests of whole prefixes, of nodes that are built by hand, however much they store.
+//! Nodes that are built by hand, and their whole prefixes.
 ghost use Rattle.std.specs.Prelude.{◌≡◌, ◌≤◌, ◌++◌, ◌∷◌, [], ℕ, length, IfOk};
 ghost use Rattle.art_nodes.specs.Pointers.{opaque_pointer, slab_key};
 ghost use Rattle.art_arena.specs.FullPrefix.{match_of};
 ghost use Rattle.art_arena.specs.Standing.{TreeAt, TreeUnder};
 ghost use Rattle.art_arena.specs.Trees.{SameButPointers};
 
-use super::{Full, full_match};
 use art_arena::laws::{
     allocating_leaves_trees_standing, an_allocated_node_makes_a_tree, same_trees_match_alike,
 };
@@ -16,9 +15,7 @@ use art_nodes::{
     PrefixMatch,
 };
 use std::alloc::{AllocError, Global};
-use std::cmp::Ordering::{Greater, Less};
 use std::process::Abort;
-use std::test::Fail;
 
 // Nodes of two trees that are the same but for their pointers match a key alike. The leaves of the
 // two mismatches may differ.
@@ -146,77 +143,4 @@ fn fork_of_leaves<const PREFIX_LEN: usize>(
     let first = plant_leaf(alloc, arena, path, prefix, low)?;
     let second = plant_leaf(alloc, arena, path, prefix, high)?;
     Ok(fork(rt, arena, path, prefix, (low, first), (high, second)))
-}
-
-// A key, and the result of the full match with it.
-type Row = (&'static [u8], Full);
-
-// Of a node under a path `x` with the prefix `abc`.
-const UNDER_A_PATH: [Row; 4] = [
-    (b"xabd", Err((2, b'c', Less))),
-    (b"x", Err((0, b'a', Greater))),
-    (b"xabc1", Ok(3)),
-    (b"yabb1", Err((2, b'c', Greater))),
-];
-
-// Of a root with that prefix.
-const AT_THE_ROOT: [Row; 4] = [
-    (b"xyz", Err((0, b'a', Less))),
-    (b"ab", Err((2, b'c', Greater))),
-    (b"b", Err((0, b'a', Less))),
-    (b"abd2", Err((2, b'c', Less))),
-];
-
-// The whole prefix is this, read from a leaf only where the node does not store all of it, and the
-// full matches have these results.
-fn check_prefix<K: AsBytes, const PREFIX_LEN: usize>(
-    rt: &impl Abort,
-    arena: &NodeArena<K, u8, PREFIX_LEN>,
-    node: &InnerNode4<K, u8, PREFIX_LEN>,
-    depth: usize,
-    expected: &[u8],
-    rows: &[Row],
-)
-    requires { TreeUnder K.text arena.now node.now depth }
-{
-    let (prefix, leaf) = node.read_full_prefix(arena, depth);
-    assert!(rt; prefix == expected);
-    assert!(rt; leaf.is_some() == (PREFIX_LEN < expected.len()));
-    for (row, (key, answer)) in rows.iter().enumerate() {
-        assert!(rt;
-            full_match(rt, arena, node, key, depth) == *answer,
-            "row {row}"
-        );
-    }
-}
-
-// A node under this path, with the prefix `abc` over two leaves.
-fn check_fork<const PREFIX_LEN: usize>(
-    rt: &impl Abort,
-    alloc: Global,
-    arena: &mut NodeArena<Vec<u8>, u8, PREFIX_LEN>,
-    path: &[u8],
-    rows: &[Row],
-) -> Result<(), AllocError> {
-    let node = fork_of_leaves(rt, alloc, arena, path, b"abc", b'1', b'2')?;
-    check_prefix(rt, arena, &node, path.len(), b"abc", rows);
-    Ok(())
-}
-
-fn whole_prefixes<const PREFIX_LEN: usize>(
-    rt: &impl Abort,
-    alloc: Global,
-    mut arena: NodeArena<Vec<u8>, u8, PREFIX_LEN>,
-) -> Result<(), AllocError> {
-    check_fork(rt, alloc, &mut arena, b"x", &UNDER_A_PATH)?;
-    check_fork(rt, alloc, &mut arena, b"", &AT_THE_ROOT)
-}
-
-#[test]
-fn whole_prefixes_whatever_is_stored(rt: HostRuntime) -> Result<(), Fail> {
-    let alloc = rt.alloc();
-    whole_prefixes::<0>(&rt, alloc, NodeArena::new(alloc))?;
-    whole_prefixes::<2>(&rt, alloc, NodeArena::new(alloc))?;
-    whole_prefixes::<16>(&rt, alloc, NodeArena::new(alloc))?;
-    Ok(())
 }

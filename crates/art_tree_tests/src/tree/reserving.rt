@@ -54,19 +54,3 @@ fn insert_first_reserved<K: AsBytes, V, const PREFIX_LEN: usize>(
     tree.root();
     tree.insert(key, value)
 }
-
-fn insert_two(rt: &impl Abort, tree: &mut ArtTree<[u8; 2], u8, 2>) -> Result<(), AllocError> {
-    for key in [[1, 2], [1, 3]] {
-        let answer = insert_reserved(tree, key, key[1])?;
-        assert!(rt; matches!(&answer, Ok(None)));
-    }
-    assert!(rt; tree.get(&[1, 2]) == Some(&2));
-    assert!(rt; tree.get(&[1, 3]) == Some(&3));
-    Ok(())
-}
-
-#[test]
-fn entries_enter_reserved_memory(rt: HostRuntime) -> Result<(), Fail> {
-    insert_two(&rt, &mut ArtTree::new(rt.alloc()))?;
-    Ok(())
-}

@@ -16,8 +16,7 @@ ghost use Rattle.art_tree.specs.declared.insert.InsertRefusal.TheVariants.{Prefi
 
 use super::*;
 use art_tree::{
-    ArenaInnerNode, End, FullPrefix, InsertFault, InsertRefusal, LeafNode, NoPrefixesBytes,
-    NodePtr, StrKey, end_leaf,
+    ArenaInnerNode, End, FullPrefix, InsertFault, LeafNode, NoPrefixesBytes, NodePtr, end_leaf,
 };
 
 /// The root of a tree with the key bytes of these entries, if they are in order and no allocation
@@ -165,99 +164,6 @@ fn loaded<K: AsBytes + Drop, V: Drop, const PREFIX_LEN: usize>(
     ArtTree::load(alloc, entries).ok()
 }
 
-type Metals = ArtTree<String, u8, 16>;
-
-fn read_metals(
-    rt: &impl Abort,
-    alloc: Global,
-    arena: &mut NodeArena<String, u8, 16>,
-) -> Result<(), Fail> {
-    let mut entries = Vec::new(alloc);
-    for (name, number) in [("gold", 79), ("iridium", 77), ("iron", 26)] {
-        entries.push((String::from_str(alloc, name)?, number))?;
-    }
-    let root = table(alloc, arena, entries).ok_or("not loaded")?;
-    assert!(rt; value_of(arena, root, b"iron") == Some(&26));
-    assert!(rt; set_value(arena, root, b"gold", 197));
-    assert!(rt; value_of(arena, root, b"gold") == Some(&197));
-    assert!(rt; value_of(arena, root, b"iro").is_none());
-    Ok(())
-}
-
-// The tree of iron alone, loaded while this one is there.
-fn iron_loaded(alloc: Global, tree: &Metals) -> Result<Metals, Fail> {
-    let entries = vec![in alloc; (String::from_str(alloc, "iron")?, 26)]?;
-    Ok(loaded(alloc, tree, entries).ok_or("not loaded")?)
-}
-
-fn put_and_forget_iron(rt: &impl Abort, alloc: Global, tree: &mut Metals) -> Result<(), Fail> {
-    if !put(tree, String::from_str(alloc, "iron")?, 26) {
-        return Err(AllocError.into());
-    }
-    assert!(rt; tree.get(b"iron") == Some(&26));
-    assert!(rt; iron_loaded(alloc, tree)?.get(b"iron") == Some(&26));
-    assert!(rt; forget(tree, b"iron"));
-    assert!(rt; tree.get(b"iron").is_none());
-    Ok(())
-}
-
-#[test]
-fn metals_are_read_by_name_and_one_comes_and_goes(rt: HostRuntime) -> Result<(), Fail> {
-    read_metals(&rt, rt.alloc(), &mut NodeArena::new(rt.alloc()))?;
-    put_and_forget_iron(&rt, rt.alloc(), &mut Metals::new(rt.alloc()))
-}
-
-// A load and a search, an example of the documents.
-fn find_one_of_two(
-    rt: &impl Abort,
-    alloc: Global,
-    arena: &mut NodeArena<StrKey<'_>, u32, 2>,
-) -> Result<(), Fail> {
-    let entries = vec![in alloc; (StrKey::new("abc1"), 10), (StrKey::new("abc2"), 20)]?;
-    let root = load(alloc, arena, entries).map_err(|fault| fault.refusal)?;
-    let mut reader = ArenaReader::with_budget(arena, 5);
-    let Some((leaf, path)) = find_leaf(&mut reader, root, b"abc2") else {
-        panic!(rt; "not found");
-    };
-    assert!(rt; reader.remaining() == 3);
-    assert!(rt; *arena.as_value_ref(leaf) == 20);
-    let TreePath::ChildOfRoot {
-        parent,
-        child_key_byte,
-    } = path
-    else {
-        panic!(rt; "another path");
-    };
-    assert!(rt; child_key_byte == b'2');
-    Ok(())
-}
-
-// A tree as one value, an example of the documents.
-fn change_a_tree(rt: &impl Abort, tree: &mut ArtTree<StrKey<'_>, u32, 2>) -> Result<(), Fail> {
-    let before = tree
-        .insert(StrKey::new("abc1"), 10)
-        .map_err(|fault| fault.refusal)?;
-    assert!(rt; before.is_none());
-    tree.insert(StrKey::new("abc2"), 20)
-        .map_err(|fault| fault.refusal)?;
-    assert!(rt; tree.get(b"abc2") == Some(&20));
-    let Some((key, value)) = tree.first() else {
-        panic!(rt; "no entry");
-    };
-    assert!(rt; key.get() == "abc1" && *value == 10);
-    let Some((key, value)) = tree.remove(b"abc1")? else {
-        panic!(rt; "absent");
-    };
-    assert!(rt; key.get() == "abc1" && value == 10);
-    Ok(())
-}
-
-#[test]
-fn the_examples_of_the_documents_hold(rt: HostRuntime) -> Result<(), Fail> {
-    find_one_of_two(&rt, rt.alloc(), &mut NodeArena::new(rt.alloc()))?;
-    change_a_tree(&rt, &mut ArtTree::new(rt.alloc()))
-}
-
 /// Inserts a value under a key of a type without prefixes. No such key clashes with another.
 fn put_apart<K: NoPrefixesBytes + Drop, V: Drop, const PREFIX_LEN: usize>(
     tree: &mut ArtTree<K, V, PREFIX_LEN>,
@@ -268,26 +174,4 @@ fn put_apart<K: NoPrefixesBytes + Drop, V: Drop, const PREFIX_LEN: usize>(
 {
     laws::keys_without_prefixes_never_clash::<K, V, PREFIX_LEN>();
     tree.insert(key, value)
-}
-
-fn put_addresses(rt: &impl Abort, tree: &mut ArtTree<[u8; 4], u16, 2>) -> Result<(), AllocError> {
-    for (address, port) in [
-        ([127, 0, 0, 1], 22),
-        ([127, 0, 0, 2], 80),
-        ([127, 0, 0, 1], 443),
-    ] {
-        if let Err(fault) = put_apart(tree, address, port) {
-            assert!(rt; fault.refusal == InsertRefusal::OutOfMemory);
-            return Err(AllocError);
-        }
-    }
-    assert!(rt; tree.get(&[127, 0, 0, 1]) == Some(&443));
-    assert!(rt; tree.get(&[127, 0, 0, 2]) == Some(&80));
-    Ok(())
-}
-
-#[test]
-fn addresses_stand_beside_each_other(rt: HostRuntime) -> Result<(), Fail> {
-    put_addresses(&rt, &mut ArtTree::new(rt.alloc()))?;
-    Ok(())
 }

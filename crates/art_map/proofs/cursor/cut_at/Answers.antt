@@ -1,8 +1,6 @@
-use Rattle.std.proofs.Common.{◌∙◌, sym, subst}
-use Rattle.std.specs.Option.{option_map}
-use Rattle.art_nodes.specs.Pointers.{slab_key}
-use Rattle.art_tree.specs.Art.{IsArt}
+use Rattle.art_map.proofs.Names.{◌∙◌, sym, subst, option_map, slab_key, IsArt}
 use Rattle.art_map.proofs.CursorLemmas.{IsCutAt, cut-none, cut-some}
+use Rattle.art_map.proofs.EntryLemmas.{no-entries}
 use Rattle.art_map.proofs.cursor.cut_at.Goals as goal
 
 pub returns-in_err-_root : goal.returns-in_err-_root
@@ -10,7 +8,7 @@ returns-in_err-_root g c =
     let text = g.K.AsBytes.text in
     let arena = c.args.tree.now.arena in
     let art = subst (IsArt text arena) (sym c.root.ensures.root ∙ c.in_err-_root.was) c.root.ensures.one_tree in
-    subst (λ o. IsCutAt text arena c.args.side c.args.key.now (option_map slab_key o)) (sym c.from_residual.ensures) (cut-none text arena c.args.side c.args.key.now (c.leaves_hold_the_entries.ensures.none arena art))
+    subst (λ o. IsCutAt text arena c.args.side c.args.key.now (option_map slab_key o)) (sym c.from_residual.ensures) (cut-none text arena c.args.side c.args.key.now (no-entries text arena art))
 
 pub returns : goal.returns
 returns g c =
@@ -19,5 +17,4 @@ returns g c =
     let root = c.in_ok-_root._root in
     let rooted = sym c.root.ensures.root ∙ c.in_ok-_root.was in
     let (tree, alone) = subst (IsArt text arena) rooted c.root.ensures.one_tree in
-    let law = c.leaves_hold_the_entries.ensures in
-    cut-some text arena c.args.side c.args.key.now tree (law.leaves arena root tree alone) (law.entries arena root tree alone) c.nearest_leaf.result (c.nearest_leaf.ensures root tree rooted alone)
+    cut-some text arena c.args.side c.args.key.now alone c.nearest_leaf.result (c.nearest_leaf.ensures root tree rooted alone)

@@ -1,23 +1,15 @@
-use Rattle.std.proofs.Common.{◌∙◌, ◌∷◌, ap, sym, subst}
-use Rattle.art_nodes.specs.Leaf.{leaf_key}
-use Rattle.art_nodes.specs.Pointers.{slab_key}
-use Rattle.art_nodes.specs.declared.pointers.OpaqueNodePtr.{OpaqueNodePtr}
-use Rattle.art_arena.specs.Links.{leaf_at}
-use Rattle.art_tree.specs.Entries.{entries_of, without_text}
-use Rattle.art_tree.specs.Refusals.{texts_of}
-use Rattle.art_tree.specs.Removal.{IsLeft}
-use Rattle.art_map.specs.Shrinking.{NeedsNode}
+use Rattle.art_map.proofs.Names.{◌∙◌, ◌∷◌, ap, sym, subst, leaf_key, slab_key, OpaqueNodePtr, leaf_at, are-entries, list-same, list-without, entries_of, without_text, texts_of, IsLeft, NeedsNode, on_err_always}
 use Rattle.art_map.proofs.CallLaws.{Ascend}
 use Rattle.art_map.proofs.CalledLemmas.{held-slot}
 use Rattle.art_map.proofs.CursorLemmas.{behind-ascend, entry-at, holds-on, without-here}
-use Rattle.art_map.proofs.RetainLemmas.{on-err-so}
+use Rattle.art_map.proofs.MemoryLemmas.{took-none, took-one}
 use Rattle.art_map.proofs.cursor.remove_at.Goals as goal
 
 pub returns-in_err-remove_leaf-clause-same_entries : goal.returns-in_err-remove_leaf-clause-same_entries
 returns-in_err-remove_leaf-clause-same_entries g c =
     let old = c.args.tree.now.arena in
     let (leaf, there) = held-slot (leaf_at old (slab_key c.args.leaf)) c.requires in
-    on-err-so c.from_residual.result _ (c.the_list_of_entries_changes_with_them.ensures.same old c.remove_leaf.new.self.arena (c.in_err-remove_leaf.ensures leaf there).same_entries)
+    on_err_always c.from_residual.result _ (list-same g.K.AsBytes.text old c.remove_leaf.new.self.arena (c.in_err-remove_leaf.ensures leaf there).same_entries)
 
 pub returns-clause-removed : goal.returns-clause-removed
 returns-clause-removed g c = λ before entry after next cut first.
@@ -26,8 +18,8 @@ returns-clause-removed g c = λ before entry after next cut first.
     let new = c.remove_leaf.new.self.arena in
     let is = entry-at old (slab_key c.args.leaf) entry after cut.1 in
     let left = subst (λ e. IsLeft text old new (text e.0)) (sym is) (c.in_ok-remove_leaf.ensures cut.1.0 cut.1.2).left in
-    let ascend = subst (λ es. Ascend (texts_of text es)) cut.0 (c.entries_are_one_list.ensures.list old).ascending in (
-      c.the_list_of_entries_changes_with_them.ensures.without old new (text entry.0) left.gone left.others ∙ ap (λ es. without_text text es (text entry.0)) cut.0 ∙ without-here text before entry after ascend,
+    let ascend = subst (λ es. Ascend (texts_of text es)) cut.0 (are-entries text old).ascending in (
+      list-without text old new (text entry.0) left.gone left.others ∙ ap (λ es. without_text text es (text entry.0)) cut.0 ∙ without-here text before entry after ascend,
       holds-on text old new entry left.leaves next after (behind-ascend text before (entry ∷ after) ascend) first,
     )
 
@@ -39,6 +31,21 @@ returns-in_err-remove_leaf-clause-needs_node g c = λ before entry after cut.
     let took = c.in_err-remove_leaf.ensures cut.1.0 cut.1.2 in
     let is = entry-at old (slab_key c.args.leaf) entry after cut.1 in
     let needs = c.removals_need_nodes.ensures (text (leaf_key cut.1.0)) took.refused in
-    on-err-so c.from_residual.result _
-    (subst (λ entries. NeedsNode (OpaqueNodePtr g.row.K.Denot g.row.V.Denot g.row.PREFIX_LEN) (texts_of text entries) (text entry.0)) (sym (c.the_list_of_entries_changes_with_them.ensures.same old new took.same_entries))
+    on_err_always c.from_residual.result _
+    (subst (λ entries. NeedsNode (OpaqueNodePtr g.row.K.Denot g.row.V.Denot g.row.PREFIX_LEN) (texts_of text entries) (text entry.0)) (sym (list-same text old new took.same_entries))
     (subst (λ e. NeedsNode (OpaqueNodePtr g.row.K.Denot g.row.V.Denot g.row.PREFIX_LEN) (texts_of text (entries_of text old)) (text e.0)) (sym is) needs))
+
+pub returns-clause-room : goal.returns-clause-room
+returns-clause-room g c =
+    let text = g.K.AsBytes.text in
+    let old = c.args.tree.now in
+    let (leaf, there) = held-slot (leaf_at old.arena (slab_key c.args.leaf)) c.requires in
+    let x = text (leaf_key leaf) in
+    took-one text old c.remove_leaf.new.self x _ (c.in_ok-remove_leaf.ensures leaf there) (λ kind count enough lacks. c.room_lasts.ensures.enough_to_remove old.arena old.root x kind count c.root-root.ensures.one_tree enough lacks)
+
+pub returns-in_err-remove_leaf-clause-no_room : goal.returns-in_err-remove_leaf-clause-no_room
+returns-in_err-remove_leaf-clause-no_room g c =
+    let text = g.K.AsBytes.text in
+    let old = c.args.tree.now in
+    let (leaf, there) = held-slot (leaf_at old.arena (slab_key c.args.leaf)) c.requires in
+    on_err_always c.from_residual.result _ (took-none text old c.remove_leaf.new.self (text (leaf_key leaf)) _ (c.in_err-remove_leaf.ensures leaf there))

@@ -1,6 +1,4 @@
-use Rattle.std.proofs.Common.{◌≡◌, ◌≢◌, ◌∙◌, ◌+◌, ◌-◌, ◌++◌, [], append-nil, arith, ap, inl, length, lit<, subst, sym}
-use Rattle.art_tree.specs.Entries.{entries_of}
-use Rattle.art_tree.specs.Room.{HasRoomFor}
+use Rattle.art_map.proofs.Names.{◌≡◌, ◌≢◌, ◌∙◌, ◌+◌, ◌-◌, ◌++◌, [], append-nil, arith, ap, inl, length, lit<, subst, sym, are-entries, entries_of, HasRoomFor}
 use Rattle.art_map.proofs.MovingLemmas.{moved-may-enter, moved-one}
 use Rattle.art_map.proofs.moving.move_last.Goals as goal
 
@@ -39,7 +37,7 @@ loop-moved-preserved g c =
     let left = c.args.count - (c.loop-moved._moved + 1) in
     let one_more : c.args.count - c.loop-moved._moved ≡ left + 1 = omega (arith, c.loop-moved-test.true) in
     let moved = moved-one text (entries_of text c.args.lower.now.arena) (entries_of text c.loop-moved.lower.arena) (entries_of text c.take_last-key.new.tree.arena) (entries_of text c.loop-moved.upper.arena) c.take_last-key.result parts c.take_last-key.ensures.last
-    (entries_of text c.put.new.tree.arena) c.put.ensures.entries (c.entries_are_one_list.ensures.list c.args.lower.now.arena).ascending in (
+    (entries_of text c.put.new.tree.arena) c.put.ensures.entries (are-entries text c.args.lower.now.arena).ascending in (
       c.take_last-key.ensures.room_lasts left (subst (HasRoomFor c.loop-moved.lower.arena) one_more room),
       c.put.ensures.room_lasts left (subst (HasRoomFor c.loop-moved.upper.arena) one_more upper_room),
       moved.0,

@@ -1,6 +1,4 @@
-use Rattle.std.proofs.Common.{◌≡◌, ◌++◌, ◌-◌, length}
-use Rattle.art_tree.specs.Entries.{entries_of}
-use Rattle.art_tree.specs.Room.{HasRoomFor}
+use Rattle.art_map.proofs.Names.{◌≡◌, ◌++◌, ◌-◌, length, entries_of, HasRoomFor}
 use Rattle.art_map.proofs.moving.move_last.Given as goal
 
 -- those that went over follow those that are left, and the others find room

@@ -1,4 +1,4 @@
-use Rattle.art_tree.specs.Entries.{entries_of}
+use Rattle.art_map.proofs.Names.{are-entries, list-put, entries_of}
 use Rattle.art_map.proofs.ListLemmas.{entries-find, is-refused}
 use Rattle.art_map.proofs.MovingLemmas.{either, never-refused}
 use Rattle.art_map.proofs.moving.put.Goals as goal
@@ -10,8 +10,8 @@ unreachable-requires g c =
     let entries = entries_of text arena in
     let x = text c.args.key in
     never-refused text entries x c.in-Err.field-0.refusal c.requires.may_enter
-    (is-refused text arena entries (c.entries_are_one_list.ensures.list arena) x c.in-Err.field-0.refusal (entries-find text arena x) c.in-Err.ensures.refusal_due)
+    (is-refused text arena entries (are-entries text arena) x c.in-Err.field-0.refusal (entries-find text arena x) c.in-Err.ensures.refusal_due)
     (either (λ room. c.in-Err.ensures.room_suffices room.0 room.1) (λ there. there) c.requires.room)
 
 pub returns-clause-entries : goal.returns-clause-entries
-returns-clause-entries g c = c.the_list_of_entries_changes_with_them.ensures.put c.args.tree.now.arena c.insert.new.self.arena (c.args.key, c.args.value) c.in-Ok.ensures.entry c.in-Ok.ensures.others
+returns-clause-entries g c = list-put g.K.AsBytes.text c.args.tree.now.arena c.insert.new.self.arena (c.args.key, c.args.value) c.in-Ok.ensures.entry c.in-Ok.ensures.others

@@ -1,12 +1,4 @@
-use Rattle.std.proofs.Common.{◌≡◌, ◌∙◌, ◌+◌, AllPairs, length, lit<, ap, subst, sym, arith}
-use Rattle.std.proofs.lemmas.List.Elements.{All-head, All-tail}
-use Rattle.art_tree.specs.Dictionary.{OneIsProperPrefix}
-use Rattle.art_tree.specs.Entries.{entries_of}
-use Rattle.art_tree.specs.Refusals.{texts_of}
-use Rattle.art_tree.specs.Room.{HasRoomFor}
-use Rattle.art_map.specs.Appending.{SomeIsNew}
-use Rattle.art_map.specs.Changes.{MayEnter}
-use Rattle.art_map.specs.Extending.{put_all}
+use Rattle.art_map.proofs.Names.{◌≡◌, ◌∙◌, ◌+◌, AllPairs, length, lit<, ap, subst, sym, arith, All-head, All-tail, OneIsProperPrefix, entries_of, texts_of, HasRoomFor, SomeIsNew, MayEnter, put_all}
 use Rattle.art_map.proofs.FrontLemmas.{later-pairs}
 use Rattle.art_map.proofs.JoinLemmas.{first-not-new, rest-not-new}
 use Rattle.art_map.proofs.MovingLemmas.{AllMayEnter, either, rest-may-enter}

@@ -1,10 +1,4 @@
-use Rattle.std.proofs.Common.{◌≡◌, ◌⊎◌, AllPairs, length}
-use Rattle.art_tree.specs.Dictionary.{OneIsProperPrefix}
-use Rattle.art_tree.specs.Entries.{entries_of}
-use Rattle.art_tree.specs.Refusals.{texts_of}
-use Rattle.art_tree.specs.Room.{HasRoomFor}
-use Rattle.art_map.specs.Appending.{SomeIsNew}
-use Rattle.art_map.specs.Extending.{put_all}
+use Rattle.art_map.proofs.Names.{◌≡◌, ◌⊎◌, AllPairs, length, OneIsProperPrefix, entries_of, texts_of, HasRoomFor, SomeIsNew, put_all}
 use Rattle.art_map.proofs.MovingLemmas.{AllMayEnter}
 use Rattle.art_map.proofs.moving.put_each.Given as goal
 

@@ -1,8 +1,4 @@
-use Rattle.std.proofs.Common.{◌≡◌, ◌∷◌, ◌++◌, [], true, false, IfSome, subst}
-use Rattle.art_arena.specs.declared.ends.End.TheVariants.{Last}
-use Rattle.art_tree.specs.Ends.{IsEndEntry}
-use Rattle.art_tree.specs.Entries.{entries_of}
-use Rattle.art_tree.specs.Removal.{IsLeft}
+use Rattle.art_map.proofs.Names.{◌≡◌, true, false, IfSome, subst, Last, IsEndEntry, IsLeft}
 use Rattle.art_map.proofs.EndLemmas.{left-and-last}
 use Rattle.art_map.proofs.moving.take_last.Goals as goal
 
@@ -11,12 +7,10 @@ returns-clause-last g c =
     let text = g.K.AsBytes.text in
     let old = c.args.tree.now.arena in
     let new = c.pop_last.new.self.arena in
-    let rest = entries_of text new in
     let entry : g.row.K.Denot × g.row.V.Denot = (c.in-Ok-Some.key, c.in-Ok-Some.value) in
     let end = subst (λ o. IfSome o (IsEndEntry text old Last)) c.in-Ok-Some.field-0-is c.in-Ok-Some.ensures.removed in
     let left = subst (λ o. IfSome o (λ removed. IsLeft text old new (text removed.0))) c.in-Ok-Some.field-0-is c.in-Ok-Some.ensures.left in
-    c.entries_are_one_list.ensures.only old (entries_of text old) (rest ++ entry ∷ []) (c.entries_are_one_list.ensures.list old)
-    (left-and-last text old new entry left end.is_entry rest (c.entries_are_one_list.ensures.list new) end)
+    left-and-last text old new entry left end
 
 pub unreachable-requires-in-Err : goal.unreachable-requires-in-Err
 unreachable-requires-in-Err g c =

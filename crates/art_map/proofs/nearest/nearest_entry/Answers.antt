@@ -1,13 +1,5 @@
-use Rattle.std.proofs.Common.{◌≢◌, ◌∙◌, sym, ap, subst}
-use Rattle.std.specs.Option.{option_map}
-use Rattle.art_nodes.specs.Pointers.{slab_key}
-use Rattle.art_arena.specs.Arena.{Nothing, held}
-use Rattle.art_arena.specs.Links.{leaf_at}
-use Rattle.art_arena.specs.Trees.{leaves}
-use Rattle.art_tree.specs.Art.{IsArt}
-use Rattle.art_tree.specs.Search.{leaf_pointer}
-use Rattle.art_map.specs.Nearest.{IsNearest, entry_nearest}
-use Rattle.art_map.specs.Runs.{leaf_entry}
+use Rattle.art_map.proofs.Names.{◌≢◌, ◌∙◌, sym, ap, subst, option_map, slab_key, Nothing, held, leaf_at, leaves, IsArt, leaf_pointer, IsNearest, entry_nearest, leaf_entry}
+use Rattle.art_map.proofs.EntryLemmas.{no-entries}
 use Rattle.art_map.proofs.LinkLemmas.{leaf-pointer-fits}
 use Rattle.art_map.proofs.RangeLemmas.{entry-of-parts, nearest-held, nearest-is, nearest-none, none-nearest, something-held}
 use Rattle.art_map.proofs.nearest.nearest_entry.Goals as goal
@@ -18,7 +10,7 @@ returns-in_err-_root g c =
     let arena = c.args.tree.now.arena in
     let art = subst (IsArt text arena) (sym c.root.ensures.root ∙ c.in_err-_root.was) c.root.ensures.one_tree in
     ap (option_map _) c.from_residual.ensures
-    ∙ sym (ap (entry_nearest text c.args.side c.args.key.now c.args.end) (c.leaves_hold_the_entries.ensures.none arena art) ∙ nearest-none text c.args.side c.args.key.now c.args.end)
+    ∙ sym (ap (entry_nearest text c.args.side c.args.key.now c.args.end) (no-entries text arena art) ∙ nearest-none text c.args.side c.args.key.now c.args.end)
 
 pub returns-in_err-leaf : goal.returns-in_err-leaf
 returns-in_err-leaf g c =
@@ -27,10 +19,9 @@ returns-in_err-leaf g c =
     let root = c.in_ok-_root._root in
     let rooted = sym c.root.ensures.root ∙ c.in_ok-_root.was in
     let (tree, alone) = subst (IsArt text arena) rooted c.root.ensures.one_tree in
-    let law = c.leaves_hold_the_entries.ensures in
     let there = subst (λ o. IsNearest c.args.side c.args.key.now c.args.end (leaves tree) (option_map leaf_pointer o)) c.in_err-leaf.was (c.nearest_leaf.ensures root tree rooted alone) in
     ap (option_map _) c.from_residual-in_err-leaf.ensures
-    ∙ sym (none-nearest text arena tree (law.leaves arena root tree alone) (law.entries arena root tree alone) c.args.side c.args.key.now c.args.end there)
+    ∙ sym (none-nearest alone c.args.side c.args.key.now c.args.end there)
 
 pub as_key_value_ref-requires : goal.as_key_value_ref-requires
 as_key_value_ref-requires g c =
@@ -39,10 +30,9 @@ as_key_value_ref-requires g c =
     let root = c.in_ok-_root._root in
     let rooted = sym c.root.ensures.root ∙ c.in_ok-_root.was in
     let (tree, alone) = subst (IsArt text arena) rooted c.root.ensures.one_tree in
-    let law = c.leaves_hold_the_entries.ensures in
     let leaf = c.in_ok-leaf.leaf in
     let there = subst (λ o. IsNearest c.args.side c.args.key.now c.args.end (leaves tree) (option_map leaf_pointer o)) c.in_ok-leaf.was (c.nearest_leaf.ensures root tree rooted alone) in
-    let holds = (nearest-held text arena tree (law.leaves arena root tree alone) (law.entries arena root tree alone) c.args.side c.args.key.now c.args.end (leaf_pointer leaf) there).1 in
+    let holds = (nearest-held alone c.args.side c.args.key.now c.args.end (leaf_pointer leaf) there).1 in
     let is_held : held c.arena.result.now (leaf_pointer leaf) ≢ Nothing = something-held (held c.arena.result.now (leaf_pointer leaf)) holds.leaf (ap (λ a. held a (leaf_pointer leaf)) c.arena.ensures.arena ∙ holds.there) in
     assumption leaf-pointer-fits
 
@@ -53,9 +43,8 @@ returns g c =
     let root = c.in_ok-_root._root in
     let rooted = sym c.root.ensures.root ∙ c.in_ok-_root.was in
     let (tree, alone) = subst (IsArt text arena) rooted c.root.ensures.one_tree in
-    let law = c.leaves_hold_the_entries.ensures in
     let leaf = c.in_ok-leaf.leaf in
     let there = subst (λ o. IsNearest c.args.side c.args.key.now c.args.end (leaves tree) (option_map leaf_pointer o)) c.in_ok-leaf.was (c.nearest_leaf.ensures root tree rooted alone) in
     entry-of-parts _ _ _ c.as_key_value_ref.ensures.key c.as_key_value_ref.ensures.value
     ∙ ap (λ a. option_map leaf_entry (leaf_at a (slab_key leaf))) c.arena.ensures.arena
-    ∙ sym (nearest-is text arena tree (law.leaves arena root tree alone) (law.entries arena root tree alone) c.args.side c.args.key.now c.args.end leaf there)
+    ∙ sym (nearest-is alone c.args.side c.args.key.now c.args.end leaf there)

@@ -14,7 +14,7 @@ use std::ops::Bound;
 /// An inner node of at most 256 children, with a table that has a place for each byte. Look-ups,
 /// writes and removals cost O(1).
 ///
-/// (from crates/art_node_tests/src/nodes/direct.rt)
+/// (from tests/art_node_tests/nodes/direct.rt.txt)
 /// ```rust
 /// type Node = InnerNodeDirect<u8, u8, 16>;
 /// // ..

@@ -18,7 +18,7 @@ use std::ops::Bound;
 ///
 /// It holds at most `SIZE` children, and at most 255, since 255 is no [`NonMaxIndex`].
 ///
-/// (from crates/art_node_tests/src/nodes/indirect.rt)
+/// (from tests/art_node_tests/nodes/indirect.rt.txt)
 /// ```rust
 /// let mut node: InnerNode48<u8, u8, 16> = node_of(&rt, &[], &[(1, 1), (2, 2), (3, 3)]);
 /// assert!(rt; node.remove_child(1) == Some(leaf(1)));

@@ -17,7 +17,7 @@ use std::ops::Bound;
 /// An inner node of at most `SIZE` children that keeps its bytes in ascending order and its
 /// children in the same order. Look-ups, writes and removals cost O(`SIZE`).
 ///
-/// (from crates/art_node_tests/src/nodes/builder.rt)
+/// (from tests/art_node_tests/nodes/builder.rt.txt)
 /// ```rust
 /// let unsearched = InnerNode4::<u8, u8, 16>::builder(b"prefix", 6)
 ///     .write_child_unchecked(0, leaf(7))
@@ -45,7 +45,7 @@ pub type InnerNode4<K, V, const PREFIX_LEN: usize> = InnerNodeSorted<K, V, PREFI
 
 /// A sorted node for at most 16 children.
 ///
-/// (from crates/art_node_tests/src/nodes/conversions.rt)
+/// (from tests/art_node_tests/nodes/conversions.rt.txt)
 /// ```rust
 /// let node: InnerNode16<u8, u8, 16> = with_bytes(rt, first);
 /// assert!(rt; node.num_children() <= 4);

@@ -1,14 +1,6 @@
-use Rattle.std.proofs.Common.{length, ◌+◌, ◌≡◌, ◌≢◌, ◌∙◌, lit<, ◌∷◌, ◌++◌, [], ℕ, sym, ap, subst, refl, arith}
-use Rattle.std.proofs.lemmas.Option.{get_or_from_slice_get}
-use Rattle.art_nodes.specs.Pointers.{slab_key, opaque_key}
-use Rattle.art_nodes.specs.declared.pointers.OpaqueNodePtr.{OpaqueNodePtr as PointerTo}
-use Rattle.art_arena.specs.Arena.{Nothing, held}
-use Rattle.art_arena.specs.Standing.{leaf_text}
-use Rattle.art_tree.specs.Search.{IsWay, LeadsTo, leaf_pointer}
-use Rattle.art_tree.specs.Paths.{HasVisited, path_of}
+use Rattle.art_tree.proofs.Names.{length, ◌+◌, ◌≡◌, ◌≢◌, ◌∙◌, lit<, ◌∷◌, ◌++◌, [], ℕ, sym, ap, subst, refl, arith, get_or_from_slice_get, slab_key, opaque_key, PointerTo, Nothing, held, leaf_text, IsTreeIn, IsWay, LeadsTo, leaf_pointer, HasVisited, path_of, at-some, leaf-pointer-is, leaf_kind, Tree, places-apart}
 use Rattle.art_tree.proofs.FindLemmas.OnlyWayLemmas.{one-way}
 use Rattle.art_tree.proofs.FindLemmas.PathNodes.{way-leads}
-use Rattle.art_arena.proofs.StandingLaws.{at-some, leaf-pointer-is, leaf_kind}
 use Rattle.art_tree.proofs.FindLemmas.WayLemmas.{here-start, here-held, here-leaf, here-nowhere-scan, here-nowhere-met, here-on, still-held, told, told-on, told-nowhere, told-later, leaf-hit, leaf-miss, not-true}
 use Rattle.art_tree.proofs.find.find_leaf.Goals as goal
 
@@ -30,38 +22,28 @@ pub returns-then-matches_full_key : goal.returns-then-matches_full_key
 returns-then-matches_full_key g c =
     let text = g.K.AsBytes.text in
     let arena = c.args.reader.now.arena in
+    let here = c.way.invariant.here in
     let holds = ap (λ a. held a c.way.at) (sym c.way.invariant.same_arena) ∙ c.in-LeafNode.ensures.node in
+    let at = λ (tree : Tree (PointerTo g.row.K.Denot g.row.V.Denot g.row.PREFIX_LEN)) (is : IsTreeIn text arena c.args.root tree). here-leaf text arena tree c.args.key.now c.way.at c.way.depth c.way.search _ _ (here tree is) c.in-LeafNode.leaf.now holds in
     let key_is = at-some (λ leaf. slab_key leaf ≡ opaque_key c.way.at) c.cast.result c.unwrap.result c.unwrap.ensures c.cast.ensures.key in
     let pointer = leaf-pointer-is c.way.at c.unwrap.result (leaf_kind arena _ _ c.in-LeafNode.leaf.now holds) key_is in
-    let hit = c.matches_full_key.ensures.0 c.if-matches_full_key.true in
+    let distinct = λ (tree : Tree (PointerTo g.row.K.Denot g.row.V.Denot g.row.PREFIX_LEN)) (is : IsTreeIn text arena c.args.root tree). places-apart text arena [] tree is.stands is.sound in
     record {
-      answer = λ tree is.
-          let at = here-leaf text arena tree c.args.key.now c.way.at c.way.depth c.way.search _ _ (c.way.invariant.here tree is) c.in-LeafNode.leaf.now holds in
-          leaf-hit _ _ (leaf_text text c.in-LeafNode.leaf.now) _ at.same_scan hit ∙ ap (λ h. (h, c.args.key.now) ∷ []) (sym pointer);
-      path = λ tree is.
-          let here = c.way.invariant.here tree is in
-          let at = here-leaf text arena tree c.args.key.now c.way.at c.way.depth c.way.search _ _ here c.in-LeafNode.leaf.now holds in
-          (here.steps, (subst (IsWay tree here.steps) (sym pointer) at.way, λ others way. one-way tree (c.each_pointer_is_at_one_place.ensures arena [] tree is.stands is.sound) here.steps others c.way.at at.way (subst (IsWay tree others) pointer way)), (c.finish.ensures here.steps).0 here.remembered);
+      answer = λ tree is. leaf-hit _ _ (leaf_text text c.in-LeafNode.leaf.now) _ (at tree is).same_scan (c.matches_full_key.ensures.0 c.if-matches_full_key.true) ∙ ap (λ h. (h, c.args.key.now) ∷ []) (sym pointer);
+      path = λ tree is. (
+        (here tree is).steps,
+        (subst (IsWay tree (here tree is).steps) (sym pointer) (at tree is).way, λ others way. one-way tree (distinct tree is) (here tree is).steps others c.way.at (at tree is).way (subst (IsWay tree others) pointer way)),
+        (c.finish.ensures (here tree is).steps).0 (here tree is).remembered,
+      );
       leads =
           let (tree, is) = c.requires.tree in
-          let here = c.way.invariant.here tree is in
-          let at = here-leaf text arena tree c.args.key.now c.way.at c.way.depth c.way.search _ _ here c.in-LeafNode.leaf.now holds in
-          let path_is = (c.finish.ensures here.steps).0 here.remembered in
-          let from_root = subst (λ root. LeadsTo arena root (path_of here.steps) (leaf_pointer c.unwrap.result)) is.at_root (way-leads text arena [] tree here.steps (leaf_pointer c.unwrap.result) is.stands is.sound (subst (IsWay tree here.steps) (sym pointer) at.way)) in
+          let steps = (here tree is).steps in
+          let from_root = subst (λ root. LeadsTo arena root (path_of steps) (leaf_pointer c.unwrap.result)) is.at_root (way-leads text arena [] tree steps (leaf_pointer c.unwrap.result) is.stands is.sound (subst (IsWay tree steps) (sym pointer) (at tree is).way)) in
           subst (λ a. LeadsTo a c.args.root c.finish.result (leaf_pointer c.unwrap.result)) (sym (c.look-node.ensures.same_arena ∙ c.way.invariant.same_arena))
-          (subst (λ path. LeadsTo arena c.args.root path (leaf_pointer c.unwrap.result)) (sym path_is) from_root);
-      visits = λ tree is.
-          let here = c.way.invariant.here tree is in
-          let at = here-leaf text arena tree c.args.key.now c.way.at c.way.depth c.way.search _ _ here c.in-LeafNode.leaf.now holds in
-          omega (arith, here.counted, at.visits, c.look-node.ensures.counted);
-      visits_bounded = λ tree is.
-          let here = c.way.invariant.here tree is in
-          let at = here-leaf text arena tree c.args.key.now c.way.at c.way.depth c.way.search _ _ here c.in-LeafNode.leaf.now holds in
-          omega (arith, here.few, at.visits, c.way.invariant.within);
-      visits_of_found = λ tree is steps way.
-          let here = c.way.invariant.here tree is in
-          let at = here-leaf text arena tree c.args.key.now c.way.at c.way.depth c.way.search _ _ here c.in-LeafNode.leaf.now holds in
-          at.visits ∙ ap (λ all. length all + 1) (sym (one-way tree (c.each_pointer_is_at_one_place.ensures arena [] tree is.stands is.sound) here.steps steps c.way.at at.way (subst (IsWay tree steps) pointer way)));
+          (subst (λ path. LeadsTo arena c.args.root path (leaf_pointer c.unwrap.result)) (sym ((c.finish.ensures steps).0 (here tree is).remembered)) from_root);
+      visits = λ tree is. omega (arith, (here tree is).counted, (at tree is).visits, c.look-node.ensures.counted);
+      visits_bounded = λ tree is. omega (arith, (here tree is).few, (at tree is).visits, c.way.invariant.within);
+      visits_of_found = λ tree is steps way. (at tree is).visits ∙ ap (λ all. length all + 1) (sym (one-way tree (distinct tree is) (here tree is).steps steps c.way.at (at tree is).way (subst (IsWay tree steps) pointer way)));
       same_arena = c.look-node.ensures.same_arena ∙ c.way.invariant.same_arena;
       held = still-held _ arena c.way.at c.unwrap.result c.in-LeafNode.leaf.now (c.look-node.ensures.same_arena ∙ c.way.invariant.same_arena) pointer holds;
     }
@@ -70,21 +52,15 @@ pub returns-else-matches_full_key : goal.returns-else-matches_full_key
 returns-else-matches_full_key g c =
     let text = g.K.AsBytes.text in
     let arena = c.args.reader.now.arena in
+    let here = c.way.invariant.here in
     let holds = ap (λ a. held a c.way.at) (sym c.way.invariant.same_arena) ∙ c.in-LeafNode.ensures.node in
+    let at = λ (tree : Tree (PointerTo g.row.K.Denot g.row.V.Denot g.row.PREFIX_LEN)) (is : IsTreeIn text arena c.args.root tree). here-leaf text arena tree c.args.key.now c.way.at c.way.depth c.way.search _ _ (here tree is) c.in-LeafNode.leaf.now holds in
     record {
-      answer = λ tree is.
-          let at = here-leaf text arena tree c.args.key.now c.way.at c.way.depth c.way.search _ _ (c.way.invariant.here tree is) c.in-LeafNode.leaf.now holds in
-          leaf-miss _ _ (leaf_text text c.in-LeafNode.leaf.now) _ at.same_scan (λ same. not-true c.matches_full_key.result c.if-matches_full_key.false (c.matches_full_key.ensures.1 same));
+      answer = λ tree is. leaf-miss _ _ (leaf_text text c.in-LeafNode.leaf.now) _ (at tree is).same_scan (λ same. not-true c.matches_full_key.result c.if-matches_full_key.false (c.matches_full_key.ensures.1 same));
       path = λ tree is. tt;
       leads = tt;
-      visits = λ tree is.
-          let here = c.way.invariant.here tree is in
-          let at = here-leaf text arena tree c.args.key.now c.way.at c.way.depth c.way.search _ _ here c.in-LeafNode.leaf.now holds in
-          omega (arith, here.counted, at.visits, c.look-node.ensures.counted);
-      visits_bounded = λ tree is.
-          let here = c.way.invariant.here tree is in
-          let at = here-leaf text arena tree c.args.key.now c.way.at c.way.depth c.way.search _ _ here c.in-LeafNode.leaf.now holds in
-          omega (arith, here.few, at.visits, c.way.invariant.within);
+      visits = λ tree is. omega (arith, (here tree is).counted, (at tree is).visits, c.look-node.ensures.counted);
+      visits_bounded = λ tree is. omega (arith, (here tree is).few, (at tree is).visits, c.way.invariant.within);
       visits_of_found = λ tree is. tt;
       same_arena = c.look-node.ensures.same_arena ∙ c.way.invariant.same_arena;
       held = tt;
@@ -94,20 +70,16 @@ pub returns-in_err-index : goal.returns-in_err-index
 returns-in_err-index g c =
     let text = g.K.AsBytes.text in
     let arena = c.args.reader.now.arena in
+    let here = c.way.invariant.here in
     let t = told arena c.way.reader.arena c.args.key.now c.way.at c.way.depth c.next_child.result c.way.invariant.same_arena c.look-node.result c.look-node.ensures.node c.in_default.not-LeafNode c.next_child.ensures.on c.next_child.ensures.nowhere in
     let nowhere = told-nowhere _ _ _ _ _ t c.in_err-index.was in
+    let met = λ (tree : Tree (PointerTo g.row.K.Denot g.row.V.Denot g.row.PREFIX_LEN)) (is : IsTreeIn text arena c.args.root tree). here-nowhere-met text arena tree c.args.key.now c.way.at c.way.depth c.way.search _ _ (here tree is) t.node t.is nowhere in
     rw c.from_residual.ensures (record {
-      answer = λ tree is. here-nowhere-scan text arena tree c.args.key.now c.way.at c.way.depth c.way.search _ _ (c.way.invariant.here tree is) t.node t.is nowhere;
+      answer = λ tree is. here-nowhere-scan text arena tree c.args.key.now c.way.at c.way.depth c.way.search _ _ (here tree is) t.node t.is nowhere;
       path = λ tree is. tt;
       leads = tt;
-      visits = λ tree is.
-          let here = c.way.invariant.here tree is in
-          let met = here-nowhere-met text arena tree c.args.key.now c.way.at c.way.depth c.way.search _ _ here t.node t.is nowhere in
-          omega (arith, here.counted, met, c.look-node.ensures.counted);
-      visits_bounded = λ tree is.
-          let here = c.way.invariant.here tree is in
-          let met = here-nowhere-met text arena tree c.args.key.now c.way.at c.way.depth c.way.search _ _ here t.node t.is nowhere in
-          omega (arith, here.few, met, c.way.invariant.within);
+      visits = λ tree is. omega (arith, (here tree is).counted, met tree is, c.look-node.ensures.counted);
+      visits_bounded = λ tree is. omega (arith, (here tree is).few, met tree is, c.way.invariant.within);
       visits_of_found = λ tree is. tt;
       same_arena = c.look-node.ensures.same_arena ∙ c.way.invariant.same_arena;
       held = tt;

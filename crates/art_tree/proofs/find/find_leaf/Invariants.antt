@@ -1,7 +1,4 @@
-use Rattle.std.proofs.Common.{◌≡◌, ◌<◌, ◌≤◌, ◌+◌, length}
-use Rattle.art_nodes.specs.declared.pointers.OpaqueNodePtr.{OpaqueNodePtr as PointerTo}
-use Rattle.art_arena.specs.Standing.{IsTreeIn}
-use Rattle.art_arena.specs.Trees.{Tree}
+use Rattle.art_tree.proofs.Names.{◌≡◌, ◌<◌, ◌≤◌, ◌+◌, length, PointerTo, IsTreeIn, Tree}
 use Rattle.art_tree.proofs.FindLemmas.WayLemmas.{IsHere}
 use Rattle.art_tree.proofs.find.find_leaf.Given as goal
 

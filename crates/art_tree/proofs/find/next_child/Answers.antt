@@ -1,5 +1,4 @@
-use Rattle.std.proofs.Common.{ap}
-use Rattle.art_arena.specs.Reader.{shown}
+use Rattle.art_tree.proofs.Names.{ap, shown}
 use Rattle.art_tree.proofs.FindLemmas.DescentLemmas.{leads-on-from, leads-nowhere-from}
 use Rattle.art_tree.proofs.find.next_child.Goals as goal
 

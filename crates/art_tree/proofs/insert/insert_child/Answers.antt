@@ -1,19 +1,11 @@
-use Rattle.std.proofs.Common.{◌≡◌, ◌≢◌, ◌∙◌, ◌<◌, [], None, refl, sym, subst}
-use Rattle.art_header.specs.declared.node_type.NodeType.TheVariants.{Leaf}
-use Rattle.art_nodes.specs.ChildMap.{child_at}
+use Rattle.art_tree.proofs.Names.{◌≡◌, ◌≢◌, ◌∙◌, ◌<◌, None, refl, sym, subst, child_at, node_kind, slab_key, held, HeldInner, Nothing, room, text_at, HasGap, HasRoomToGrow, LiesBeside, TellsFull, CanHang, HasPlaceAt, leaf_pointer, LeafKind, leaf-pointer-fits, places-apart, texts-apart, texts-ascend}
 use Rattle.art_nodes.specs.Inner.{Inner}
-use Rattle.art_nodes.specs.Pointers.{node_kind, slab_key}
-use Rattle.art_arena.specs.Arena.{held, HeldInner, Nothing, room}
-use Rattle.art_arena.specs.Links.{text_at}
-use Rattle.art_tree.specs.Edits.{HasGap, HasRoomToGrow, LiesBeside, TellsFull}
-use Rattle.art_tree.specs.Hanging.{CanHang, HasPlaceAt}
-use Rattle.art_tree.specs.Search.{leaf_pointer}
 use Rattle.art_tree.proofs.InsertLemmas.AddedChild.{ChildAdded, alone-there, child-added, child-gap, child-hangs, child-lies, child-reserved, linked-absent, linked-full, linked-held, linked-room, place-there, there-held, there-inner}
 use Rattle.art_tree.proofs.InsertLemmas.AddedLeaf.{entered-from}
 use Rattle.art_tree.proofs.InsertLemmas.NeededChild.{child-lacks}
 use Rattle.art_tree.proofs.SharedLemmas.RoomLemmas.{grows-on, grows-then, same-capacity}
 use Rattle.art_tree.proofs.SharedLemmas.ParentLemmas.{err-then, ok-then}
-use Rattle.art_tree.proofs.InsertLemmas.NodeLemmas.{leaf-pointer-fits}
+use Rattle.art_tree.proofs.SharedLemmas.TreeLaws.{apart-there}
 use Rattle.art_tree.proofs.insert.insert_child.Goals as goal
 
 pub is_full-full-requires : goal.is_full-full-requires
@@ -21,14 +13,14 @@ is_full-full-requires g c =
     let old = c.args.arena.now in
     let place = child-reserved old old c.requires.place (λ pointer. refl) c.ranges.byte.fits in
     let is_held : held old c.args.spot.node ≢ Nothing = there-held place in
-    let is_inner : node_kind c.args.spot.node ≢ Leaf = there-inner place in
+    let is_inner : node_kind c.args.spot.node ≢ LeafKind = there-inner place in
     search
 
 pub reserve_for_child-requires : goal.reserve_for_child-requires
 reserve_for_child-requires g c =
     let old = c.args.arena.now in
     let place = child-reserved old old c.requires.place (λ pointer. refl) c.ranges.byte.fits in
-    let is_inner : node_kind c.args.spot.node ≢ Leaf = there-inner place in
+    let is_inner : node_kind c.args.spot.node ≢ LeafKind = there-inner place in
     search
 
 pub leaf_beside_child-end-requires : goal.leaf_beside_child-end-requires
@@ -46,9 +38,9 @@ link_leaf-leaf-requires g c =
     let beside = c.leaf_beside_child-end.ensures.beside (place-there place) in
     let sibling = slab_key c.leaf_beside_child-end.result.0 in
     let end = c.leaf_beside_child-end.result.1 in
-    let has_room : 0 < room reserved Leaf = ok-then c.reserve_for_child.result (0 < room reserved Leaf) c.is_err.ensures.value c.if-is_err.false c.reserve_for_child.ensures.leaf_room in
+    let has_room : 0 < room reserved LeafKind = ok-then c.reserve_for_child.result (0 < room reserved LeafKind) c.is_err.ensures.value c.if-is_err.false c.reserve_for_child.ensures.leaf_room in
     let has_gap : HasGap reserved end sibling = child-gap place end sibling beside in
-    let order : LiesBeside end (text c.args.key) (text_at text reserved sibling) = child-lies place end sibling beside c.requires.short c.texts_ascend.ensures in
+    let order : LiesBeside end (text c.args.key) (text_at text reserved sibling) = child-lies place end sibling beside c.requires.short texts-ascend in
     assumption leaf-pointer-fits
 
 pub add_child-node-requires : goal.add_child-node-requires
@@ -61,7 +53,7 @@ add_child-node-requires g c =
     let link = c.link_leaf-leaf.ensures in
     let rooms = ok-then c.reserve_for_child.result (HasRoomToGrow reserved node) c.is_err.ensures.value c.if-is_err.false c.reserve_for_child.ensures.room in
     let is_held : held linked node ≢ Nothing = linked-held place linked leaf link.was_free link.others in
-    let is_inner : node_kind node ≢ Leaf = there-inner place in
+    let is_inner : node_kind node ≢ LeafKind = there-inner place in
     let absent : (own : Inner _) → held linked node ≡ HeldInner own → child_at own.children c.args.byte ≡ None = linked-absent place linked leaf link.was_free link.others in
     let full : TellsFull linked node c.is_full-full.result = linked-full place linked leaf link.was_free link.others (λ own is. c.is_full-full.ensures own (sym (c.reserve_for_child.ensures.nodes_kept node) ∙ is)) in
     let has_room : HasRoomToGrow linked node = linked-room place linked leaf link.was_free link.others rooms link.other_room in
@@ -75,7 +67,7 @@ hang-requires g c =
     let new = c.add_child-node.new.arena in
     let top = c.add_child-node.result in
     let added = subst (λ child. ChildAdded linked new c.args.spot.node c.args.byte child top) c.to_opaque.ensures c.add_child-node.ensures.added in
-    let can : CanHang new c.args.spot.parent c.args.spot.node = child-hangs place linked (leaf_pointer c.link_leaf-leaf.result) link.was_free link.others new top c.args.value link.entry c.each_pointer_is_at_one_place.ensures added in
+    let can : CanHang new c.args.spot.parent c.args.spot.node = child-hangs place linked (leaf_pointer c.link_leaf-leaf.result) link.was_free link.others new top c.args.value link.entry (places-apart g.K.AsBytes.text) added in
     assumption leaf-pointer-fits
 
 pub returns : goal.returns
@@ -91,17 +83,17 @@ returns g c =
     let new = c.add_child-node.new.arena in
     let top = c.add_child-node.result in
     let more = subst (λ child. ChildAdded linked new c.args.spot.node c.args.byte child top) c.to_opaque.ensures c.add_child-node.ensures.added in
-    let added = child-added place linked (leaf_pointer c.link_leaf-leaf.result) link.was_free link.others new top c.args.value link.entry c.each_pointer_is_at_one_place.ensures more
-    c.hang.new.arena c.hang.result c.hang.ensures.hung c.requires.short c.leaf_beside_child-end.result.1 (slab_key c.leaf_beside_child-end.result.0) (c.leaf_beside_child-end.ensures.beside (place-there place)) link.spelled c.no_text_begins_another.ensures in
+    let added = child-added place linked (leaf_pointer c.link_leaf-leaf.result) link.was_free link.others new top c.args.value link.entry (places-apart g.K.AsBytes.text) more
+    c.hang.new.arena c.hang.result c.hang.ensures.hung c.requires.short c.leaf_beside_child-end.result.1 (slab_key c.leaf_beside_child-end.result.0) (c.leaf_beside_child-end.ensures.beside (place-there place)) link.spelled texts-apart in
     record {
       art = added.0;
       leaf = added.2;
-      entered = entered-from text old reserved c.hang.new.arena c.args.key c.args.value c.args.root tree alone (c.no_text_begins_another.ensures [] tree alone.is_tree.sound) kept added.1;
+      entered = entered-from text old reserved c.hang.new.arena c.args.key c.args.value c.args.root tree alone (apart-there alone) kept added.1;
       entry_back = tt;
       nodes_kept = tt;
       no_room = tt;
       memory = grows-on old reserved c.hang.new.arena _
-          (grows-then old reserved _ _ (child-lacks (child-reserved old old c.requires.place (λ pointer. refl) c.ranges.byte.fits) c.requires.short (c.no_text_begins_another.ensures [] _ (alone-there (child-reserved old old c.requires.place (λ pointer. refl) c.ranges.byte.fits)).is_tree.sound)) c.reserve_for_child.ensures.memory)
+          (grows-then old reserved _ _ (child-lacks (child-reserved old old c.requires.place (λ pointer. refl) c.ranges.byte.fits) c.requires.short (apart-there (alone-there (child-reserved old old c.requires.place (λ pointer. refl) c.ranges.byte.fits)))) c.reserve_for_child.ensures.memory)
           (λ kind. same-capacity new c.hang.new.arena c.hang.ensures.room kind ∙ c.add_child-node.ensures.capacity kind ∙ link.capacity kind);
     }
 
@@ -116,6 +108,6 @@ returns-then-is_err g c =
       entered = tt;
       entry_back = refl;
       nodes_kept = c.reserve_for_child.ensures.nodes_kept;
-      no_room = (kind, child-lacks place c.requires.short (c.no_text_begins_another.ensures [] _ (alone-there place).is_tree.sound) kind lacks);
-      memory = grows-then old c.reserve_for_child.new.arena _ _ (child-lacks place c.requires.short (c.no_text_begins_another.ensures [] _ (alone-there place).is_tree.sound)) c.reserve_for_child.ensures.memory;
+      no_room = (kind, child-lacks place c.requires.short (apart-there (alone-there place)) kind lacks);
+      memory = grows-then old c.reserve_for_child.new.arena _ _ (child-lacks place c.requires.short (apart-there (alone-there place))) c.reserve_for_child.ensures.memory;
     }

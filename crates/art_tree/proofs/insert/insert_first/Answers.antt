@@ -1,12 +1,8 @@
-use Rattle.std.proofs.Common.{◌≡◌, ◌∙◌, [], ap, sym, subst, arith}
-use Rattle.art_header.specs.declared.node_type.NodeType.TheVariants as kinds
-use Rattle.art_nodes.specs.Leaf.{leaf_key, leaf_value}
-use Rattle.art_arena.specs.Trees.{Leaf}
-use Rattle.art_tree.specs.Art.{IsAlone}
-use Rattle.art_tree.specs.Search.{leaf_pointer}
+use Rattle.art_tree.proofs.Names.{◌≡◌, ◌∙◌, ap, sym, subst, arith, leaf_key, leaf_value, Leaf, IsAlone, leaf_pointer, LeafKind}
 use Rattle.art_tree.proofs.InsertLemmas.FirstEntry.{first-alone, first-entered}
 use Rattle.art_tree.proofs.InsertLemmas.NeededNodes.{first-lacks, first-memory}
 use Rattle.art_tree.proofs.SharedLemmas.RoomLemmas.{none-left}
+use Rattle.art_tree.proofs.SharedLemmas.TreeLaws.{apart-there}
 use Rattle.art_tree.proofs.insert.insert_first.Goals as goal
 
 pub returns-in-Ok : goal.returns-in-Ok
@@ -19,7 +15,7 @@ returns-in-Ok g c =
     record {
       art = (Leaf (leaf_pointer c.in-Ok.leaf) (text c.args.key), subst (λ root. IsAlone text new root (Leaf (leaf_pointer c.in-Ok.leaf) (text c.args.key))) (sym c.to_opaque.ensures) alone);
       leaf = record { leaf = leaf.result; is_held = c.in-Ok.ensures.added.changed; key = leaf.ensures.key; value = leaf.ensures.value };
-      entered = first-entered text old new c.args.key c.args.value c.requires.empty c.in-Ok.leaf leaf.result c.in-Ok.ensures.added leaf.ensures.key leaf.ensures.value alone (c.no_text_begins_another.ensures [] (Leaf (leaf_pointer c.in-Ok.leaf) (text c.args.key)) alone.is_tree.sound);
+      entered = first-entered text old new c.args.key c.args.value c.requires.empty c.in-Ok.leaf leaf.result c.in-Ok.ensures.added leaf.ensures.key leaf.ensures.value alone (apart-there alone);
       entry_back = tt;
       nodes_kept = tt;
       no_room = tt;
@@ -39,6 +35,6 @@ returns-in-Err g c =
       entered = tt;
       entry_back = entry;
       nodes_kept = c.in-Err.ensures.nodes_kept;
-      no_room = (kinds.Leaf, first-lacks text old c.requires.empty (text c.args.key) c.requires.short (none-left c.allocate_node_ptr.result _ (λ some. c.allocate_node_ptr.ensures.succeeds (omega (arith, some))) _ c.in-Err.is));
+      no_room = (LeafKind, first-lacks text old c.requires.empty (text c.args.key) c.requires.short (none-left c.allocate_node_ptr.result _ (λ some. c.allocate_node_ptr.ensures.succeeds (omega (arith, some))) _ c.in-Err.is));
       memory = first-memory text old c.allocate_node_ptr.new.self c.args.key c.requires.empty c.requires.short (λ some. c.allocate_node_ptr.ensures.no_growth (omega (arith, some))) c.allocate_node_ptr.ensures.other_capacity;
     }

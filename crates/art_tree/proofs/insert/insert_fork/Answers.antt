@@ -1,20 +1,11 @@
-use Rattle.std.proofs.Common.{◌≡◌, ◌≢◌, ◌<◌, ◌≤◌, ◌∙◌, ◌+◌, ◌-◌, ◌^◌, [], length, sym, subst, arith, refl}
-use Rattle.std.proofs.lemmas.Option.{slice_get_within}
-use Rattle.art_header.specs.declared.node_type.NodeType.TheVariants.{Leaf, Node4}
+use Rattle.art_tree.proofs.Names.{◌≡◌, ◌≢◌, ◌<◌, ◌≤◌, ◌∙◌, ◌+◌, ◌-◌, ◌^◌, length, sym, subst, arith, refl, slice_get_within, Node4, LeafKind, slab_key, held, HeldInner, Nothing, room, HoldsLeaf, text_at, TreeAt, HasGap, LiesBeside, CanHang, leaf_pointer, leaf-pointer-fits, places-apart, texts-apart, texts-ascend}
 use Rattle.art_nodes.specs.Inner.{Inner}
-use Rattle.art_nodes.specs.Pointers.{slab_key}
-use Rattle.art_arena.specs.Arena.{held, HeldInner, Nothing, room}
-use Rattle.art_arena.specs.Links.{HoldsLeaf, text_at}
-use Rattle.art_arena.specs.Standing.{TreeAt}
-use Rattle.art_tree.specs.Edits.{HasGap, LiesBeside}
-use Rattle.art_tree.specs.Hanging.{CanHang}
-use Rattle.art_tree.specs.Search.{leaf_pointer}
 use Rattle.art_tree.proofs.InsertLemmas.AddedLeaf.{entered-from}
 use Rattle.art_tree.proofs.InsertLemmas.NeededFork.{fork-lacks}
 use Rattle.art_tree.proofs.InsertLemmas.AddedFork.{alone-there, beside-there, fork-added, fork-hangs, fork-reserved, gap-there, index-within, lies-there, linked-held, new-leaf-held, sibling-held, text-there, tree-there, within-there}
 use Rattle.art_tree.proofs.SharedLemmas.RoomLemmas.{grows-on, grows-then, same-capacity, same-room}
 use Rattle.art_tree.proofs.SharedLemmas.ParentLemmas.{err-then, ok-then}
-use Rattle.art_tree.proofs.InsertLemmas.NodeLemmas.{leaf-pointer-fits}
+use Rattle.art_tree.proofs.SharedLemmas.TreeLaws.{apart-there}
 use Rattle.art_tree.proofs.insert.insert_fork.Goals as goal
 
 pub end_leaf-sibling-requires : goal.end_leaf-sibling-requires
@@ -32,9 +23,9 @@ link_leaf-leaf-requires g c =
     let end = c.near_end-end.result in
     let sibling = slab_key c.end_leaf-sibling.result in
     let beside = beside-there place end sibling (c.end_leaf-sibling.ensures.at_end (tree-there place)) c.near_end-end.ensures.end in
-    let has_room : 0 < room reserved Leaf = ok-then c.reserve_for_fork.result (0 < room reserved Leaf) c.is_err.ensures.value c.if-is_err.false c.reserve_for_fork.ensures.leaf_room in
+    let has_room : 0 < room reserved LeafKind = ok-then c.reserve_for_fork.result (0 < room reserved LeafKind) c.is_err.ensures.value c.if-is_err.false c.reserve_for_fork.ensures.leaf_room in
     let has_gap : HasGap reserved end sibling = gap-there place end sibling beside in
-    let order : LiesBeside end (text c.args.key) (text_at text reserved sibling) = lies-there place end sibling beside c.requires.short c.texts_ascend.ensures in
+    let order : LiesBeside end (text c.args.key) (text_at text reserved sibling) = lies-there place end sibling beside c.requires.short texts-ascend in
     assumption leaf-pointer-fits
 
 pub overflow_add-mismatch : goal.overflow_add-mismatch
@@ -90,7 +81,7 @@ hang-requires g c =
     let link = c.link_leaf-leaf.ensures in
     let new = c.fork_node-node.new.arena in
     let can : CanHang new c.args.spot.parent c.args.spot.node = fork-hangs place c.link_leaf-leaf.new.arena (leaf_pointer c.link_leaf-leaf.result) link.was_free link.others c.near_end-end.result (slab_key c.end_leaf-sibling.result) at_end c.trim.new.arena c.trim.ensures.leaf c.trim.ensures.trimmed c.args.value link.entry (slab_key c.link_leaf-leaf.result) refl
-    new c.fork_node-node.result c.each_pointer_is_at_one_place.ensures c.fork_node-node.ensures in
+    new c.fork_node-node.result (places-apart g.K.AsBytes.text) c.fork_node-node.ensures in
     assumption leaf-pointer-fits
 
 pub returns : goal.returns
@@ -104,16 +95,16 @@ returns g c =
     let at_end = c.end_leaf-sibling.ensures.at_end (tree-there place) in
     let link = c.link_leaf-leaf.ensures in
     let added = fork-added place c.link_leaf-leaf.new.arena (leaf_pointer c.link_leaf-leaf.result) link.was_free link.others c.near_end-end.result (slab_key c.end_leaf-sibling.result) at_end c.trim.new.arena c.trim.ensures.leaf c.trim.ensures.trimmed c.args.value link.entry (slab_key c.link_leaf-leaf.result) refl
-    c.fork_node-node.new.arena c.fork_node-node.result c.each_pointer_is_at_one_place.ensures c.fork_node-node.ensures c.hang.new.arena c.hang.result c.hang.ensures.hung c.requires.short c.near_end-end.ensures.end link.spelled c.no_text_begins_another.ensures in
+    c.fork_node-node.new.arena c.fork_node-node.result (places-apart g.K.AsBytes.text) c.fork_node-node.ensures c.hang.new.arena c.hang.result c.hang.ensures.hung c.requires.short c.near_end-end.ensures.end link.spelled texts-apart in
     record {
       art = added.0;
       leaf = added.2;
-      entered = entered-from text old reserved c.hang.new.arena c.args.key c.args.value c.args.root tree alone (c.no_text_begins_another.ensures [] tree alone.is_tree.sound) kept added.1;
+      entered = entered-from text old reserved c.hang.new.arena c.args.key c.args.value c.args.root tree alone (apart-there alone) kept added.1;
       entry_back = tt;
       nodes_kept = tt;
       no_room = tt;
       memory = grows-on old reserved c.hang.new.arena _
-          (grows-then old reserved _ _ (fork-lacks (fork-reserved old old c.requires.place (λ pointer. refl) c.near_end-end.ensures.bytes) c.requires.short (c.no_text_begins_another.ensures [] _ (alone-there (fork-reserved old old c.requires.place (λ pointer. refl) c.near_end-end.ensures.bytes)).is_tree.sound)) c.reserve_for_fork.ensures.memory)
+          (grows-then old reserved _ _ (fork-lacks (fork-reserved old old c.requires.place (λ pointer. refl) c.near_end-end.ensures.bytes) c.requires.short (apart-there (alone-there (fork-reserved old old c.requires.place (λ pointer. refl) c.near_end-end.ensures.bytes)))) c.reserve_for_fork.ensures.memory)
           (λ kind. same-capacity c.fork_node-node.new.arena c.hang.new.arena c.hang.ensures.room kind ∙ c.fork_node-node.ensures.capacity kind ∙ same-capacity c.link_leaf-leaf.new.arena c.trim.new.arena c.trim.ensures.room kind ∙ link.capacity kind);
     }
 
@@ -128,6 +119,6 @@ returns-then-is_err g c =
       entered = tt;
       entry_back = refl;
       nodes_kept = c.reserve_for_fork.ensures.nodes_kept;
-      no_room = (kind, fork-lacks place c.requires.short (c.no_text_begins_another.ensures [] _ (alone-there place).is_tree.sound) kind lacks);
-      memory = grows-then old c.reserve_for_fork.new.arena _ _ (fork-lacks place c.requires.short (c.no_text_begins_another.ensures [] _ (alone-there place).is_tree.sound)) c.reserve_for_fork.ensures.memory;
+      no_room = (kind, fork-lacks place c.requires.short (apart-there (alone-there place)) kind lacks);
+      memory = grows-then old c.reserve_for_fork.new.arena _ _ (fork-lacks place c.requires.short (apart-there (alone-there place))) c.reserve_for_fork.ensures.memory;
     }

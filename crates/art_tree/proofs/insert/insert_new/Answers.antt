@@ -1,16 +1,8 @@
-use Rattle.std.proofs.Common.{◌<◌, ◌^◌, ◌≤◌, length, None, IfSome, [], refl, sym, ap, subst, inl, inr, arith}
-use Rattle.std.specs.Option.{option_map}
-use Rattle.art_tree.specs.Art.{IsArt, IsAlone}
-use Rattle.art_tree.specs.Dictionary.{Clashes}
-use Rattle.art_tree.specs.Insertion.{AddsEntry}
-use Rattle.art_tree.specs.Places.{Belongs, LacksChild, Parts}
-use Rattle.art_tree.specs.Search.{EachTree, leaf_pointer}
-use Rattle.art_arena.specs.Trees.{Tree, texts}
-use Rattle.art_tree.specs.declared.insert.InsertRefusal.TheVariants.{KeyTooLong, Prefix}
+use Rattle.art_tree.proofs.Names.{◌<◌, ◌^◌, ◌≤◌, length, None, IfSome, [], refl, sym, ap, subst, inl, inr, arith, option_map, IsArt, IsAlone, Clashes, AddsEntry, Belongs, LacksChild, Parts, EachTree, leaf_pointer, Tree, texts, KeyTooLong, Prefix, leaf-pointer-fits, spot-fits, texts-apart}
 use Rattle.art_tree.proofs.InsertLemmas.EntryLemmas.{answered, apart-new, child-apart, clash-entry, empty-new, empty-stays, fork-apart, present-new, untouched-refused}
 use Rattle.art_tree.proofs.SharedLemmas.ExchangedTree.{entries-stay}
-use Rattle.art_tree.proofs.InsertLemmas.NodeLemmas.{leaf-pointer-fits, spot-fits}
 use Rattle.art_tree.proofs.PlaceLemmas.WayPlaces.{begins-clash, extends-clash}
+use Rattle.art_tree.proofs.SharedLemmas.TreeLaws.{apart-there}
 use Rattle.art_tree.proofs.insert.insert_new.Goals as goal
 
 pub returns-then-as_bytes : goal.returns-then-as_bytes
@@ -47,7 +39,7 @@ returns-in-Extends g c =
     let root_is = ap (option_map (λ place. place.0)) c.in-Some.is in
     let art = subst (IsArt text arena) root_is c.requires.art in
     let belongs = subst (λ found. IfSome found (λ place. EachTree text arena place.0 (λ tree. Belongs tree key place.1))) c.in-Some.is c.requires.place art.0 art.1.is_tree in
-    let apart = c.no_text_begins_another.ensures [] art.0 art.1.is_tree.sound in
+    let apart = apart-there art.1 in
     let clash : Clashes (texts art.0) key = elim c.in-Extends.is [
       | inl at ↦
           let is = subst (Belongs art.0 key) at.1 belongs in
@@ -73,15 +65,14 @@ returns-in-Absent g c =
     let key = text c.args.key in
     let old = c.args.arena.now in
     let new = c.insert_child.new.arena in
-    let law = c.no_text_begins_another.ensures [] in
     let root_is = ap (option_map (λ place. place.0)) c.in-Some.is in
     let art = subst (IsArt text old) root_is c.requires.art in
     let belongs = subst (λ found. IfSome found (λ place. EachTree text old place.0 (λ tree. Belongs tree key place.1))) c.in-Some.is c.requires.place art.0 art.1.is_tree in
     let short : length key < 2 ^ 32 = omega (arith, c.if-as_bytes.false, ap length c.as_bytes.ensures.text) in
     let lacks = subst (Belongs art.0 key) c.in-Absent.is belongs in
-    let is_new = apart-new text old c.in-Some.root art.0 art.1 key short (child-apart law art.0 art.1.is_tree.sound key short c.in-Absent.spot c.in-Absent.byte lacks) in
+    let is_new = apart-new text old c.in-Some.root art.0 art.1 key short (child-apart (texts-apart []) art.0 art.1.is_tree.sound key short c.in-Absent.spot c.in-Absent.byte lacks) in
     let child = subst (λ root. AddsEntry text old new root c.args.key c.args.value c.insert_child.result) (sym root_is) c.insert_child.ensures in
-    answered text old new (option_map (λ place. place.0) c.args.found) c.args.key c.args.value c.insert_child.result child is_new (λ same. entries-stay text old new same c.in-Some.root art.0 art.1 (law art.0 art.1.is_tree.sound)) c.newly_added-in-Absent.result c.newly_added-in-Absent.ensures.added c.newly_added-in-Absent.ensures.refused
+    answered text old new (option_map (λ place. place.0) c.args.found) c.args.key c.args.value c.insert_child.result child is_new (λ same. entries-stay text old new same c.in-Some.root art.0 art.1 (apart-there art.1)) c.newly_added-in-Absent.result c.newly_added-in-Absent.ensures.added c.newly_added-in-Absent.ensures.refused
 
 pub insert_fork-requires : goal.insert_fork-requires
 insert_fork-requires g c =
@@ -100,12 +91,11 @@ returns-in-Differs g c =
     let key = text c.args.key in
     let old = c.args.arena.now in
     let new = c.insert_fork.new.arena in
-    let law = c.no_text_begins_another.ensures [] in
     let root_is = ap (option_map (λ place. place.0)) c.in-Some.is in
     let art = subst (IsArt text old) root_is c.requires.art in
     let belongs = subst (λ found. IfSome found (λ place. EachTree text old place.0 (λ tree. Belongs tree key place.1))) c.in-Some.is c.requires.place art.0 art.1.is_tree in
     let short : length key < 2 ^ 32 = omega (arith, c.if-as_bytes.false, ap length c.as_bytes.ensures.text) in
     let parts = subst (Belongs art.0 key) c.in-Differs.is belongs in
-    let is_new = apart-new text old c.in-Some.root art.0 art.1 key short (fork-apart law art.0 art.1.is_tree.sound key short c.in-Differs.spot c.in-Differs.mismatch parts) in
+    let is_new = apart-new text old c.in-Some.root art.0 art.1 key short (fork-apart (texts-apart []) art.0 art.1.is_tree.sound key short c.in-Differs.spot c.in-Differs.mismatch parts) in
     let fork = subst (λ root. AddsEntry text old new root c.args.key c.args.value c.insert_fork.result) (sym root_is) c.insert_fork.ensures in
-    answered text old new (option_map (λ place. place.0) c.args.found) c.args.key c.args.value c.insert_fork.result fork is_new (λ same. entries-stay text old new same c.in-Some.root art.0 art.1 (law art.0 art.1.is_tree.sound)) c.newly_added-in-Differs.result c.newly_added-in-Differs.ensures.added c.newly_added-in-Differs.ensures.refused
+    answered text old new (option_map (λ place. place.0) c.args.found) c.args.key c.args.value c.insert_fork.result fork is_new (λ same. entries-stay text old new same c.in-Some.root art.0 art.1 (apart-there art.1)) c.newly_added-in-Differs.result c.newly_added-in-Differs.ensures.added c.newly_added-in-Differs.ensures.refused

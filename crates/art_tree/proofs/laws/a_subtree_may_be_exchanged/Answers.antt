@@ -1,5 +1,5 @@
 use Rattle.art_tree.proofs.SharedLemmas.ExchangedSubtree.{sound-under, sound-exchanged, leaves-plug, smallest_kinds-whole, stands-part, stands-whole}
-use Rattle.art_tree.specs.Contexts.{plug}
+use Rattle.art_tree.proofs.Names.{places-apart, plug}
 use Rattle.art_tree.proofs.laws.a_subtree_may_be_exchanged.Goals as goal
 
 pub returns-clause-part : goal.returns-clause-part
@@ -19,4 +19,4 @@ returns-clause-smallest_kinds g c = λ context part now smallest_kinds now_small
 
 pub returns-clause-stands : goal.returns-clause-stands
 returns-clause-stands g c = λ old new path context part now sound exchanged.
-    stands-whole g.K.AsBytes.text old new path context part now sound (c.each_pointer_is_at_one_place.ensures old path (plug context part) exchanged.stood sound) exchanged
+    stands-whole g.K.AsBytes.text old new path context part now sound (places-apart g.K.AsBytes.text old path (plug context part) exchanged.stood sound) exchanged

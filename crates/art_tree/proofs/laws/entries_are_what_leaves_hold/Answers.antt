@@ -1,4 +1,4 @@
-use Rattle.std.proofs.Common.{[]}
+use Rattle.art_tree.proofs.Names.{[], texts-apart}
 use Rattle.art_tree.proofs.SharedLemmas.DictionaryLemmas.{empty-entry, entry-of-member, entry-of-text, leaf-held-in, text-found, text-of-entry}
 use Rattle.art_tree.proofs.PlaceLemmas.WayPlaces.{some-text}
 use Rattle.art_tree.proofs.laws.entries_are_what_leaves_hold.Goals as goal
@@ -9,7 +9,7 @@ returns-clause-none g c = λ arena nothing text. empty-entry g.K.AsBytes.text ar
 pub returns-clause-some : goal.returns-clause-some
 returns-clause-some g c = λ arena root tree alone.
     let one = some-text [] tree alone.is_tree.sound in
-    (one.text, entry-of-text g.K.AsBytes.text arena root tree alone (c.no_text_begins_another.ensures [] tree alone.is_tree.sound) one.text one.inside)
+    (one.text, entry-of-text g.K.AsBytes.text arena root tree alone (texts-apart [] tree alone.is_tree.sound) one.text one.inside)
 
 pub returns-clause-text : goal.returns-clause-text
 returns-clause-text g c = λ arena text entry found. text-found g.K.AsBytes.text arena text entry found
@@ -20,9 +20,9 @@ returns-clause-held g c = λ arena root tree alone pointer text inside.
 
 pub returns-clause-texts : goal.returns-clause-texts
 returns-clause-texts g c = λ arena root tree alone text.
-    let apart = c.no_text_begins_another.ensures [] tree alone.is_tree.sound in
+    let apart = texts-apart [] tree alone.is_tree.sound in
     (text-of-entry g.K.AsBytes.text arena root tree alone text, entry-of-text g.K.AsBytes.text arena root tree alone apart text)
 
 pub returns-clause-leaves : goal.returns-clause-leaves
 returns-clause-leaves g c = λ arena root tree alone pointer text leaf inside is.
-    entry-of-member g.K.AsBytes.text arena root tree alone (c.no_text_begins_another.ensures [] tree alone.is_tree.sound) pointer text leaf inside is
+    entry-of-member g.K.AsBytes.text arena root tree alone (texts-apart [] tree alone.is_tree.sound) pointer text leaf inside is

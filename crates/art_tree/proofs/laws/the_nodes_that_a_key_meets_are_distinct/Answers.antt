@@ -1,5 +1,6 @@
+use Rattle.art_arena.proofs.TreeLaws.{places-apart}
 use Rattle.art_tree.proofs.FindLemmas.MetLemmas.{met-distinct}
 use Rattle.art_tree.proofs.laws.the_nodes_that_a_key_meets_are_distinct.Goals as goal
 
 pub returns : goal.returns
-returns g c = λ arena path tree room key stands sound. met-distinct room tree key (c.each_pointer_is_at_one_place.ensures arena path tree stands sound)
+returns g c = λ arena path tree room key stands sound. met-distinct room tree key (places-apart g.K.AsBytes.text arena path tree stands sound)

@@ -2,4 +2,4 @@ use Rattle.art_tree.proofs.SharedLemmas.UniqueTree.{same-tree}
 use Rattle.art_tree.proofs.laws.the_same_texts_make_the_same_tree.Goals as goal
 
 pub returns : goal.returns
-returns g c = same-tree c.path_and_prefix_are_shared.ensures c.path_and_prefix_are_shared-2.ensures
+returns g c = same-tree

@@ -1,12 +1,8 @@
-use Rattle.std.proofs.Common.{◌≢◌, ◌∙◌, ◌≤◌, subst}
-use Rattle.art_header.specs.declared.node_type.NodeType.{NodeType}
-use Rattle.art_header.specs.declared.node_type.NodeType.TheVariants.{Leaf}
-use Rattle.art_arena.specs.Arena.{room}
-use Rattle.art_tree.specs.Plan.{needed}
+use Rattle.art_tree.proofs.Names.{◌≢◌, ◌∙◌, ◌≤◌, subst, NodeType, room, needed, LeafKind}
 use Rattle.art_tree.proofs.loading.prepare.Goals as goal
 
 pub returns-clause-room : goal.returns-clause-room
-returns-clause-room g c = subst (λ steps. (kind : NodeType) → kind ≢ Leaf → needed kind steps ≤ room c.reserve_nodes.new.arena kind) c.deref.ensures.value c.in_ok-reserve_nodes.ensures.room
+returns-clause-room g c = subst (λ steps. (kind : NodeType) → kind ≢ LeafKind → needed kind steps ≤ room c.reserve_nodes.new.arena kind) c.deref.ensures.value c.in_ok-reserve_nodes.ensures.room
 
 pub returns-clause-nodes_kept : goal.returns-clause-nodes_kept
 returns-clause-nodes_kept g c = λ pointer. c.reserve_nodes.ensures.nodes_kept pointer ∙ c.reserve.ensures.nodes_kept pointer

@@ -1,23 +1,19 @@
-use Rattle.std.proofs.Common.{◌∙◌, lit<, arith}
-use Rattle.std.proofs.lemmas.Result.{on_ok_weaker}
-use Rattle.art_header.specs.declared.node_type.NodeType.TheVariants.{Node4, Node16, Node48, Leaf}
-use Rattle.art_arena.specs.Arena.{room}
-use Rattle.art_tree.specs.Plan.{needed}
+use Rattle.art_tree.proofs.Names.{◌∙◌, lit<, arith, on_ok_weaker, Node4, Node16, Node48, LeafKind, room, needed}
 use Rattle.art_tree.proofs.InsertLemmas.NodeLemmas.{kinds-apart}
 use Rattle.art_tree.proofs.LoadLemmas.PlacedTrees.{each-kind}
 use Rattle.art_tree.proofs.loading.reserve_nodes.Goals as goal
 
 pub returns-in_err-reserve-clause-leaf_room : goal.returns-in_err-reserve-clause-leaf_room
-returns-in_err-reserve-clause-leaf_room g c = c.reserve.ensures.other_room Leaf (kinds-apart (lit< tt))
+returns-in_err-reserve-clause-leaf_room g c = c.reserve.ensures.other_room LeafKind (kinds-apart (lit< tt))
 
 pub returns-in_err-reserve-2-clause-leaf_room : goal.returns-in_err-reserve-2-clause-leaf_room
-returns-in_err-reserve-2-clause-leaf_room g c = c.reserve-2.ensures.other_room Leaf (kinds-apart (lit< tt)) ∙ c.reserve.ensures.other_room Leaf (kinds-apart (lit< tt))
+returns-in_err-reserve-2-clause-leaf_room g c = c.reserve-2.ensures.other_room LeafKind (kinds-apart (lit< tt)) ∙ c.reserve.ensures.other_room LeafKind (kinds-apart (lit< tt))
 
 pub returns-in_err-reserve-3-clause-leaf_room : goal.returns-in_err-reserve-3-clause-leaf_room
-returns-in_err-reserve-3-clause-leaf_room g c = c.reserve-3.ensures.other_room Leaf (kinds-apart (lit< tt)) ∙ c.reserve-2.ensures.other_room Leaf (kinds-apart (lit< tt)) ∙ c.reserve.ensures.other_room Leaf (kinds-apart (lit< tt))
+returns-in_err-reserve-3-clause-leaf_room g c = c.reserve-3.ensures.other_room LeafKind (kinds-apart (lit< tt)) ∙ c.reserve-2.ensures.other_room LeafKind (kinds-apart (lit< tt)) ∙ c.reserve.ensures.other_room LeafKind (kinds-apart (lit< tt))
 
 pub returns-clause-leaf_room : goal.returns-clause-leaf_room
-returns-clause-leaf_room g c = c.reserve-4.ensures.other_room Leaf (kinds-apart (lit< tt)) ∙ c.reserve-3.ensures.other_room Leaf (kinds-apart (lit< tt)) ∙ c.reserve-2.ensures.other_room Leaf (kinds-apart (lit< tt)) ∙ c.reserve.ensures.other_room Leaf (kinds-apart (lit< tt))
+returns-clause-leaf_room g c = c.reserve-4.ensures.other_room LeafKind (kinds-apart (lit< tt)) ∙ c.reserve-3.ensures.other_room LeafKind (kinds-apart (lit< tt)) ∙ c.reserve-2.ensures.other_room LeafKind (kinds-apart (lit< tt)) ∙ c.reserve.ensures.other_room LeafKind (kinds-apart (lit< tt))
 
 pub returns-in_err-reserve-2-clause-nodes_kept : goal.returns-in_err-reserve-2-clause-nodes_kept
 returns-in_err-reserve-2-clause-nodes_kept g c = λ pointer. c.reserve-2.ensures.nodes_kept pointer ∙ c.reserve.ensures.nodes_kept pointer

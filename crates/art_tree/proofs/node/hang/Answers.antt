@@ -1,13 +1,7 @@
-use Rattle.std.proofs.Common.{◌≡◌, ◌≢◌, ◌∙◌, ◌&&◌, Bool, true, false, refl, sym, subst, arith, rules}
+use Rattle.art_tree.proofs.Names.{◌≡◌, ◌≢◌, ◌∙◌, ◌&&◌, Bool, true, false, refl, sym, subst, arith, rules, nat_tests, most_children, node_kind, opaque_key, held, HeldInner, Nothing, IsHung, LeafKind, HasRoomFor}
 use denote.Enum.Bare.{same_true}
-use Rattle.std.proofs.lemmas.Bool.Decides.{nat_tests}
 use Rattle.art_header.specs.contracts.node_type.NodeType.{the_type}
-use Rattle.art_header.specs.NodeType.{most_children}
-use Rattle.art_header.specs.declared.node_type.NodeType.TheVariants.{Leaf}
-use Rattle.art_nodes.specs.Inner.{Inner, HasRoomFor}
-use Rattle.art_nodes.specs.Pointers.{node_kind, opaque_key}
-use Rattle.art_arena.specs.Arena.{held, HeldInner, Nothing}
-use Rattle.art_tree.specs.Hanging.{IsHung}
+use Rattle.art_nodes.specs.Inner.{Inner}
 use Rattle.art_tree.proofs.SharedLemmas.ParentLemmas.{hung-there, is-parent}
 use Rattle.art_tree.proofs.node.hang.Goals as goal
 
@@ -16,7 +10,7 @@ write_child-requires g c =
     let arena = c.args.arena.now in
     let parent = is-parent arena c.args.parent c.in-Some.parent c.in-Some.byte c.args.before c.requires c.in-Some.is in
     let is_held : held arena c.in-Some.parent ≢ Nothing = parent.is_held in
-    let is_inner : node_kind c.in-Some.parent ≢ Leaf = parent.is_inner in
+    let is_inner : node_kind c.in-Some.parent ≢ LeafKind = parent.is_inner in
     let has_room : (node : Inner _) → held arena c.in-Some.parent ≡ HeldInner node → HasRoomFor (most_children (node_kind c.in-Some.parent)) node c.in-Some.byte = parent.has_room in
     search
 

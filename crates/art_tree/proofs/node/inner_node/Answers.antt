@@ -1,6 +1,4 @@
-use Rattle.std.proofs.Common.{◌∙◌, ◌+◌, arith, lit<, refl, ap}
-use Rattle.std.proofs.lemmas.List.{take_all}
-use Rattle.art_tree.specs.Nodes.{node_of}
+use Rattle.art_tree.proofs.Names.{◌∙◌, ◌+◌, arith, lit<, refl, ap, take_all, node_of}
 use Rattle.art_nodes.proofs.BuilderLaws.{builder_fits}
 use Rattle.art_tree.proofs.SharedLemmas.ChildLemmas.{has-room, is-new, written-node}
 use Rattle.art_tree.proofs.node.inner_node.Goals as goal

@@ -1,5 +1,4 @@
-use Rattle.std.proofs.Common.{◌≡◌, take}
-use Rattle.art_tree.specs.Nodes.{node_of}
+use Rattle.art_tree.proofs.Names.{◌≡◌, take, node_of}
 use Rattle.art_tree.proofs.node.inner_node.Given as goal
 
 abbrev pub invariant-loop-i : goal.invariant-loop-i

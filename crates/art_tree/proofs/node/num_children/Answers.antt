@@ -1,8 +1,4 @@
-use Rattle.std.proofs.Common.{◌≡◌, ◌∙◌, ◌≤◌, length, ap, sym, subst}
-use Rattle.std.specs.Option.{option_copied}
-use Rattle.art_header.specs.NodeType.{most_children}
-use Rattle.art_nodes.specs.Pointers.{node_kind}
-use Rattle.art_arena.specs.Arena.{held}
+use Rattle.art_tree.proofs.Names.{◌≡◌, ◌∙◌, ◌≤◌, length, ap, sym, subst, option_copied, most_children, node_kind, held}
 use Rattle.art_tree.proofs.InsertLemmas.NodeLemmas.{header-of-held}
 use Rattle.art_tree.proofs.node.num_children.Goals as goal
 

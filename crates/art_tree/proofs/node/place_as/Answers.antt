@@ -1,8 +1,4 @@
-use Rattle.std.proofs.Common.{◌∙◌, ◌-◌, take, drop, ap, sym, subst, length, arith}
-use Rattle.art_nodes.specs.Pointers.{slab_key, node_kind, opaque_key, opaque_pointer}
-use Rattle.art_arena.specs.Arena.{HeldInner, Changes}
-use Rattle.art_arena.specs.Links.{leaf_at}
-use Rattle.art_tree.specs.Nodes.{node_of}
+use Rattle.art_tree.proofs.Names.{◌∙◌, ◌-◌, take, drop, ap, sym, subst, length, arith, slab_key, node_kind, opaque_key, opaque_pointer, HeldInner, Changes, leaf_at, node_of}
 use Rattle.art_tree.proofs.InsertLemmas.NodeLemmas.{text-of-key}
 use Rattle.art_tree.proofs.SharedLemmas.PlacedNodes.{placed}
 use Rattle.art_tree.proofs.node.place_as.Goals as goal

@@ -1,6 +1,4 @@
-use Rattle.std.proofs.Common.{◌≢◌, ◌∙◌, sym, subst}
-use Rattle.art_nodes.specs.Pointers.{slab_key, opaque_pointer}
-use Rattle.art_arena.specs.Arena.{held, Nothing, Changes}
+use Rattle.art_tree.proofs.Names.{◌≢◌, ◌∙◌, sym, subst, slab_key, opaque_pointer, held, Nothing, Changes}
 use Rattle.art_tree.proofs.RemoveLemmas.ShrunkNode.{replaced}
 use Rattle.art_tree.proofs.SharedLemmas.HeldNodes.{kept-at}
 use Rattle.art_tree.proofs.node.replace_node.Goals as goal

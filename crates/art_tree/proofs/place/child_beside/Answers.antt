@@ -1,10 +1,4 @@
-use Rattle.std.proofs.Common.{◌≡◌, ◌∙◌, [], sym, subst, IfNone, IfSome}
-use Rattle.art_arena.specs.Arena.{held}
-use Rattle.art_arena.specs.InnerRef.{inner_shown}
-use Rattle.art_arena.specs.Reader.{shown}
-use Rattle.art_arena.specs.declared.ends.End.{End}
-use Rattle.art_arena.proofs.StandingLaws.{inner-there, no-inner-there, one-inner}
-use Rattle.art_tree.specs.Hanging.{IsChildBeside, pairs_on}
+use Rattle.art_tree.proofs.Names.{◌≡◌, ◌∙◌, [], sym, subst, IfNone, IfSome, held, inner_shown, shown, End, inner-there, no-inner-there, one-inner, IsChildBeside, pairs_on}
 use Rattle.art_tree.proofs.place.child_beside.Goals as goal
 
 pub returns-in_err-node-clause-child : goal.returns-in_err-node-clause-child

@@ -1,10 +1,4 @@
-use Rattle.std.proofs.Common.{◌≡◌, ◌∙◌, ◌+◌, drop, sym, ap, arith}
-use Rattle.std.proofs.lemmas.List.{take_rest}
-use Rattle.art_arena.specs.InnerRef.{inner_shown}
-use Rattle.art_arena.specs.Reader.{shown}
-use Rattle.art_arena.proofs.StandingLaws.{inner-there}
-use Rattle.art_tree.specs.Places.{toward}
-use Rattle.art_tree.proofs.InsertLemmas.NodeLemmas.{if-none}
+use Rattle.art_tree.proofs.Names.{◌≡◌, ◌∙◌, ◌+◌, drop, sym, ap, arith, take_rest, inner_shown, shown, inner-there, toward, if_none_always}
 use Rattle.art_tree.proofs.PlaceLemmas.TowardLemmas.{child-byte, child-toward, none-toward}
 use Rattle.art_tree.proofs.place.child_toward.Goals as goal
 
@@ -12,7 +6,7 @@ pub returns-in_err-child-clause-none : goal.returns-in_err-child-clause-none
 returns-in_err-child-clause-none g c = λ found.
     let node = inner_shown c.in_ok-node.node in
     let holds = c.node_ref.ensures.node ∙ inner-there (shown c.node_ref.result) c.inner.result c.inner.ensures.node c.in_ok-node.node c.in_ok-node.was in
-    if-none c.from_residual-in_err-child.result _ (none-toward g.K.AsBytes.text c.args.arena.now c.args.pointer c.args.rest.now found node holds (sym c.child_after_prefix.ensures ∙ c.in_err-child.was))
+    if_none_always c.from_residual-in_err-child.result _ (none-toward g.K.AsBytes.text c.args.arena.now c.args.pointer c.args.rest.now found node holds (sym c.child_after_prefix.ensures ∙ c.in_err-child.was))
 
 pub overflow_add-result : goal.overflow_add-result
 overflow_add-result g c =

@@ -1,7 +1,4 @@
-use Rattle.std.proofs.Common.{None}
-use Rattle.art_arena.specs.Trees.{Tree}
-use Rattle.art_tree.specs.Places.{IsSpotIn}
-use Rattle.art_tree.proofs.InsertLemmas.NodeLemmas.{leaf-pointer-fits, slice-fits, spot-fits}
+use Rattle.art_tree.proofs.Names.{None, Tree, IsSpotIn, leaf-pointer-fits, slice-fits, spot-fits}
 use Rattle.art_tree.proofs.PlaceLemmas.SharedSpots.{root-spot}
 use Rattle.art_tree.proofs.place.find_place.Goals as goal
 

@@ -1,11 +1,6 @@
-use Rattle.std.proofs.Common.{ℕ, ◌-◌, ◌<◌, ◌≤◌, arith, option_copied, rules}
-use Rattle.art_arena.specs.Trees.{Tree}
-use Rattle.art_tree.specs.Places.{IsDescentIn}
-use Rattle.art_tree.proofs.PlaceLemmas.WayPlaces.{depth-within}
+use Rattle.art_tree.proofs.Names.{option_copied, rules, Tree, IsDescentIn}
+use Rattle.art_tree.proofs.PlaceLemmas.WayPlaces.{depth-within, smaller}
 use Rattle.art_tree.proofs.place.find_place_from.Goals as goal
-
-smaller : (all now next : ℕ) → now < next → next ≤ all → all - next < all - now
-smaller all now next more within = omega (arith, more, within)
 
 pub way-init : goal.way-init
 way-init g c = λ tree is. record { spot_in = is; below = tt }
@@ -25,4 +20,4 @@ returns-in-Err g c = λ tree is. c.in-Err.ensures.place tree (c.way.invariant tr
 pub way-smaller : goal.way-smaller
 way-smaller g c =
     let (tree, is) = c.requires in
-    smaller _ _ _ c.in-Ok.ensures.deeper (depth-within g.K.AsBytes.text c.args.arena.now tree c.args.key.now c.in-Ok.next (c.in-Ok.ensures.on tree (c.way.invariant tree is)).spot_in)
+    smaller _ _ _ c.in-Ok.ensures.deeper (depth-within (c.in-Ok.ensures.on tree (c.way.invariant tree is)).spot_in)

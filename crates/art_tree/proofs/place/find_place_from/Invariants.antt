@@ -1,7 +1,4 @@
-use Rattle.std.proofs.Common.{◌-◌, length, option_copied}
-use Rattle.art_nodes.specs.declared.pointers.OpaqueNodePtr.{OpaqueNodePtr as PointerTo}
-use Rattle.art_arena.specs.Trees.{Tree}
-use Rattle.art_tree.specs.Places.{IsDescentIn, IsSpotIn}
+use Rattle.art_tree.proofs.Names.{◌-◌, length, option_copied, PointerTo, Tree, IsDescentIn, IsSpotIn}
 use Rattle.art_tree.proofs.place.find_place_from.Given as goal
 
 -- the key leads to the spot in each tree in which it leads to the first one

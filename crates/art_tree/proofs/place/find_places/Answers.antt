@@ -1,13 +1,7 @@
-use Rattle.std.proofs.Common.{ℕ, ◌-◌, ◌<◌, ◌≤◌, arith, inl, inr, option_copied, rules, sym, subst}
-use Rattle.art_arena.specs.Trees.{Tree}
-use Rattle.art_tree.specs.Places.{IsDescentIn, IsSpotIn}
-use Rattle.art_tree.proofs.InsertLemmas.NodeLemmas.{leaf-pointer-fits, slice-fits, spot-fits}
+use Rattle.art_tree.proofs.Names.{arith, inl, inr, option_copied, rules, sym, subst, Tree, IsDescentIn, IsSpotIn, leaf-pointer-fits, slice-fits, spot-fits}
 use Rattle.art_tree.proofs.PlaceLemmas.SharedSpots.{root-spot, spot-shared}
-use Rattle.art_tree.proofs.PlaceLemmas.WayPlaces.{depth-within}
+use Rattle.art_tree.proofs.PlaceLemmas.WayPlaces.{depth-within, smaller}
 use Rattle.art_tree.proofs.place.find_places.Goals as goal
-
-smaller : (all now next : ℕ) → now < next → next ≤ all → all - next < all - now
-smaller all now next more within = omega (arith, more, within)
 
 pub way-init : goal.way-init
 way-init g c = λ tree is. (
@@ -51,4 +45,4 @@ returns-in-Err-clause-second g c = λ tree is. c.find_place_from.ensures tree (c
 pub way-smaller : goal.way-smaller
 way-smaller g c =
     let (tree, is) = c.requires.tree in
-    smaller _ _ _ c.in-Ok.ensures.deeper (depth-within g.K.AsBytes.text c.args.arena.now tree c.args.first.now c.in-Ok.next (c.in-Ok.ensures.on tree (c.way.invariant tree is).0).spot_in)
+    smaller _ _ _ c.in-Ok.ensures.deeper (depth-within (c.in-Ok.ensures.on tree (c.way.invariant tree is).0).spot_in)

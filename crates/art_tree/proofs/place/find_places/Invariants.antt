@@ -1,8 +1,4 @@
-use Rattle.std.proofs.Common.{◌-◌, length, option_copied}
-use Rattle.art_nodes.specs.declared.pointers.OpaqueNodePtr.{OpaqueNodePtr as PointerTo}
-use Rattle.art_arena.specs.Standing.{IsTreeIn}
-use Rattle.art_arena.specs.Trees.{Tree}
-use Rattle.art_tree.specs.Places.{IsDescentIn, IsSpotIn}
+use Rattle.art_tree.proofs.Names.{◌-◌, length, option_copied, PointerTo, IsTreeIn, Tree, IsDescentIn, IsSpotIn}
 use Rattle.art_tree.proofs.place.find_places.Given as goal
 
 -- in each tree that stands at the root the first key leads to the spot, and the second to the fork

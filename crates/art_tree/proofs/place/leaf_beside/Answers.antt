@@ -1,6 +1,4 @@
-use Rattle.std.proofs.Common.{◌<◌, ◌^◌, List, lit<}
-use Rattle.art_tree.specs.Places.{IsPlaceIn}
-use Rattle.art_tree.proofs.InsertLemmas.NodeLemmas.{leaf-pointer-fits}
+use Rattle.art_tree.proofs.Names.{◌<◌, ◌^◌, List, lit<, IsPlaceIn, leaf-pointer-fits}
 use Rattle.art_tree.proofs.place.leaf_beside.Goals as goal
 
 -- the size in memory of a place

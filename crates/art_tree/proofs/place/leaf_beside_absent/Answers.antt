@@ -1,6 +1,4 @@
-use Rattle.art_tree.specs.Hanging.{HasPlaceAt}
-use Rattle.art_tree.specs.Search.{leaf_pointer}
-use Rattle.art_tree.proofs.InsertLemmas.NodeLemmas.{leaf-pointer-fits, slice-fits, spot-fits}
+use Rattle.art_tree.proofs.Names.{HasPlaceAt, leaf_pointer, leaf-pointer-fits, slice-fits, spot-fits}
 use Rattle.art_tree.proofs.PlaceLemmas.SidesAround.{absent-next, absent-place}
 use Rattle.art_tree.proofs.place.leaf_beside_absent.Goals as goal
 

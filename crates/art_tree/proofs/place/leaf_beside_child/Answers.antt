@@ -1,5 +1,4 @@
-use Rattle.art_arena.specs.Standing.{TreeAt}
-use Rattle.art_tree.specs.Search.{leaf_pointer}
+use Rattle.art_tree.proofs.Names.{TreeAt, leaf_pointer}
 use Rattle.art_tree.proofs.PlaceLemmas.ChildrenBeside.{leaf-beside, some-beside, tree-beside}
 use Rattle.art_tree.proofs.place.leaf_beside_child.Goals as goal
 

@@ -1,14 +1,8 @@
-use Rattle.std.proofs.Common.{◌∙◌, ℕ, List, sym, subst}
-use Rattle.art_arena.specs.Standing.{TreeAt}
-use Rattle.art_arena.specs.Trees.{Tree}
-use Rattle.art_arena.specs.declared.ends.End.TheVariants.{Last}
-use Rattle.art_tree.specs.Places.{Belongs, IsPlaceIn}
-use Rattle.art_tree.specs.Search.{leaf_pointer}
+use Rattle.art_tree.proofs.Names.{◌∙◌, ℕ, List, sym, subst, TreeAt, Tree, Last, Belongs, IsPlaceIn, leaf_pointer, leaf-pointer-fits, slice-fits, spot-fits}
 use Rattle.art_tree.specs.declared.place.Place.TheVariants.{Absent, Differs}
 use Rattle.art_tree.proofs.PlaceLemmas.SideLemmas.{key-itself, prefix-before}
 use Rattle.art_tree.proofs.PlaceLemmas.SidesAround.{begins-next, leads-held, leaf-next, spot-in}
 use Rattle.art_tree.proofs.PlaceLemmas.WayPlaces.{spot-tree}
-use Rattle.art_tree.proofs.InsertLemmas.NodeLemmas.{leaf-pointer-fits, slice-fits, spot-fits}
 use Rattle.art_tree.proofs.place.leaf_beside_place.Goals as goal
 
 pub returns-in-Present-clause-beside : goal.returns-in-Present-clause-beside
@@ -38,7 +32,7 @@ end_leaf-requires g c =
     let arena = c.args.arena.now in
     let (tree, key, is) = c.requires in
     let begins = subst (Belongs tree key) c.in-Begins.is is.belongs in
-    let found : TreeAt text arena c.in-Begins.spot.node = spot-tree text arena tree key c.in-Begins.spot (spot-in text arena tree key c.in-Begins.spot is.stands is.sound begins.at) in
+    let found : TreeAt text arena c.in-Begins.spot.node = spot-tree (spot-in text arena tree key c.in-Begins.spot is.stands is.sound begins.at) in
     assumption (leaf-pointer-fits, slice-fits, spot-fits)
 
 pub returns-in-Begins-clause-beside : goal.returns-in-Begins-clause-beside
@@ -48,7 +42,7 @@ returns-in-Begins-clause-beside g c = λ tree key is.
     let spot = c.in-Begins.spot in
     let begins = subst (Belongs tree key) c.in-Begins.is is.belongs in
     begins-next text arena tree key spot c.args.side begins c.end_of_begun-end.result (leaf_pointer c.end_leaf.result) is.sound c.end_of_begun-end.ensures
-    (c.end_leaf.ensures.at_end (spot-tree text arena tree key spot (spot-in text arena tree key spot is.stands is.sound begins.at)))
+    (c.end_leaf.ensures.at_end (spot-tree (spot-in text arena tree key spot is.stands is.sound begins.at)))
 
 pub leaf_beside_absent-requires : goal.leaf_beside_absent-requires
 leaf_beside_absent-requires g c =

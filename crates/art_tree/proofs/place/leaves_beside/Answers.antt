@@ -1,7 +1,4 @@
-use Rattle.std.proofs.Common.{◌<◌, ◌^◌, ℕ, List, lit<}
-use Rattle.art_arena.specs.Trees.{Tree}
-use Rattle.art_tree.specs.Places.{IsPlaceIn}
-use Rattle.art_tree.proofs.InsertLemmas.NodeLemmas.{leaf-pointer-fits, slice-fits, spot-fits}
+use Rattle.art_tree.proofs.Names.{◌<◌, ◌^◌, ℕ, List, lit<, Tree, IsPlaceIn, leaf-pointer-fits, slice-fits, spot-fits}
 use Rattle.art_tree.proofs.place.leaves_beside.Goals as goal
 
 -- the size in memory of a place

@@ -1,28 +1,18 @@
-use Rattle.std.proofs.Common.{◌≡◌, ◌≢◌, ◌∙◌, IsNone, refl, sym, subst}
-use Rattle.art_header.specs.declared.node_type.NodeType.TheVariants.{Leaf}
-use Rattle.art_nodes.specs.Pointers.{node_kind, opaque_key, slab_key}
-use Rattle.art_arena.specs.Arena.{Nothing, held}
-use Rattle.art_arena.specs.InnerRef.{inner_shown}
-use Rattle.art_arena.specs.Reader.{shown}
-use Rattle.art_arena.specs.Trees.{Tree}
-use Rattle.art_arena.proofs.StandingLaws.{at-some, inner-there}
-use Rattle.art_tree.specs.Places.{IsSpotIn}
-use Rattle.art_tree.specs.Search.{leaf_pointer}
-use Rattle.art_tree.proofs.InsertLemmas.NodeLemmas.{leaf-pointer-fits, slice-fits, spot-fits}
+use Rattle.art_tree.proofs.Names.{◌≡◌, ◌≢◌, ◌∙◌, IsNone, refl, sym, subst, node_kind, opaque_key, slab_key, Nothing, held, inner_shown, shown, Tree, at-some, inner-there, IsSpotIn, leaf_pointer, LeafKind, leaf-pointer-fits, slice-fits, spot-fits}
 use Rattle.art_tree.proofs.PlaceLemmas.WayPlaces.{spot-held}
 use Rattle.art_tree.proofs.place.next_spot.Goals as goal
 
 pub node_ref-requires : goal.node_ref-requires
 node_ref-requires g c =
     let (tree, on) = c.requires in
-    let there : held c.args.arena.now c.args.spot.node ≢ Nothing = spot-held g.K.AsBytes.text c.args.arena.now tree c.args.key.now c.args.spot on.spot_in in
+    let there : held c.args.arena.now c.args.spot.node ≢ Nothing = spot-held on.spot_in in
     assumption slice-fits
 
 pub place_at_leaf-requires : goal.place_at_leaf-requires
 place_at_leaf-requires g c =
     let (tree, on) = c.requires in
     let spot = c.args.spot in
-    let kind : node_kind spot.node ≡ Leaf = sym c.node_ref.ensures.kind ∙ c.inner.ensures.leaf.0 (subst IsNone (sym c.in_default.is) refl) in
+    let kind : node_kind spot.node ≡ LeafKind = sym c.node_ref.ensures.kind ∙ c.inner.ensures.leaf.0 (subst IsNone (sym c.in_default.is) refl) in
     let at = at-some (λ leaf. slab_key leaf ≡ opaque_key spot.node) c.cast.result c.unwrap.result c.unwrap.ensures c.cast.ensures.key in
     let same : spot.node ≡ leaf_pointer c.unwrap.result = λ i. record { node_type = kind i; key = (sym at) i; leaf = record {} } in
     let is_spot : (tree : Tree _) × IsSpotIn g.K.AsBytes.text c.args.arena.now tree c.args.key.now spot = (tree, on.spot_in) in

@@ -1,13 +1,7 @@
-use Rattle.std.proofs.Common.{◌≡◌, ◌∙◌, refl, sym, ap, subst}
-use Rattle.art_nodes.specs.Leaf.{leaf_key}
-use Rattle.art_arena.specs.Arena.{held}
-use Rattle.art_arena.specs.Standing.{TreeAt}
-use Rattle.art_arena.specs.Trees.{leaves}
-use Rattle.art_tree.specs.Places.{HasLeafText}
-use Rattle.art_tree.specs.Search.{leaf_pointer}
-use Rattle.art_tree.proofs.InsertLemmas.NodeLemmas.{leaf-pointer-fits, one-leaf}
+use Rattle.art_tree.proofs.Names.{◌≡◌, ◌∙◌, refl, sym, ap, subst, leaf_key, held, TreeAt, leaves, HasLeafText, leaf_pointer, image_inside, leaf-pointer-fits}
+use Rattle.art_tree.proofs.InsertLemmas.NodeLemmas.{one-leaf}
 use Rattle.art_tree.proofs.PlaceLemmas.TowardLemmas.{toward-text}
-use Rattle.art_tree.proofs.SharedLemmas.DictionaryLemmas.{in-map, leaf-held-in}
+use Rattle.art_tree.proofs.SharedLemmas.DictionaryLemmas.{leaf-held-in}
 use Rattle.art_tree.proofs.place.text_toward.Goals as goal
 
 pub way-init : goal.way-init
@@ -47,4 +41,4 @@ returns-in-None-clause-leaf g c = λ found.
     let bytes = c.as_bytes.result.now in
     let toward = returns-in-None-clause-direction g c found in
     let inside = toward-text c.args.rest.now found.tree bytes toward in
-    in-map (λ leaf. leaf.1) (leaves found.tree) (inside.0, bytes) inside.1
+    image_inside (λ leaf. leaf.1) (leaves found.tree) (inside.0, bytes) bytes refl inside.1

@@ -1,5 +1,4 @@
-use Rattle.std.proofs.Common.{length}
-use Rattle.art_arena.specs.Standing.{TreeAt}
+use Rattle.art_tree.proofs.Names.{length, TreeAt}
 use Rattle.art_tree.proofs.PlaceLemmas.TowardLemmas.{IsToward}
 use Rattle.art_tree.proofs.place.text_toward.Given as goal
 

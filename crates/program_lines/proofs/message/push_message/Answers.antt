@@ -1,7 +1,9 @@
 use Rattle.std.proofs.Common.{◌≡◌, ◌∙◌, List, ℕ, [], ◌∷◌, ◌++◌, ap, take, append_assoc}
 use Rattle.std.specs.Fmt.{decimal}
 use Rattle.std.specs.Prelude.{Option, None, Some, IfSome, codes}
+use Rattle.std.specs.List.{flat_map}
 use Rattle.program_lines.specs.Lines.{line}
+use Rattle.program_lines.specs.Messages.{shown_byte}
 use Rattle.program_lines.proofs.message.push_message.Goals as goal
 
 -- the pieces of a message, one after another
@@ -22,4 +24,4 @@ pieces (Some text) old o1 o2 o3 o4 o5 o6 o7 o8 o9 new program place number cut p
 
 pub returns-clause-text : goal.returns-clause-text
 returns-clause-text g c =
-    pieces (g.F.Display.output c.args.fault) c.args.output.now.items _ _ _ _ _ _ _ _ _ c.push.new.self.items c.args.program.now c.args.place.now (decimal c.args.number) (take 80 c.args.line.now) c.as_bytes.result.now c.as_bytes-2.result.now c.first_bytes.result.now c.as_bytes.ensures.value c.as_bytes-2.ensures.value c.first_bytes.ensures c.in_ok-extend_from_slice.ensures.items c.in_ok-extend_from_slice-2.ensures.items c.in_ok-extend_from_slice-3.ensures.items c.in_ok-extend_from_slice-4.ensures.items c.in_ok-push_decimal.ensures c.in_ok-extend_from_slice-5.ensures.items c.in_ok-push_shown.ensures c.in_ok-extend_from_slice-6.ensures.items c.in_ok-extend_from_slice-7.ensures.items c.in_ok-push.ensures.items
+    pieces (g.F.Display.output c.args.fault) c.args.output.now.items _ _ _ _ _ _ _ _ _ c.push.new.self.items c.args.program.now c.args.place.now (decimal c.args.number) (flat_map shown_byte (take 80 c.args.line.now)) c.as_bytes.result.now c.as_bytes-2.result.now (flat_map shown_byte c.first_bytes.result.now) c.as_bytes.ensures.value c.as_bytes-2.ensures.value (ap (flat_map shown_byte) c.first_bytes.ensures) c.in_ok-extend_from_slice.ensures.items c.in_ok-extend_from_slice-2.ensures.items c.in_ok-extend_from_slice-3.ensures.items c.in_ok-extend_from_slice-4.ensures.items c.in_ok-push_decimal.ensures c.in_ok-extend_from_slice-5.ensures.items c.in_ok-push_shown.ensures c.in_ok-extend_from_slice-6.ensures.items c.in_ok-push_escaped.ensures c.in_ok-push.ensures.items

@@ -1,9 +1,8 @@
-use Rattle.std.proofs.Common.{rules, ◌≡◌, ◌∙◌, ◌∷◌, ◌++◌, [], sym, ap}
-use Rattle.art_map.specs.Runs.{run_of}
+use Rattle.art_map.proofs.Names.{rules, ◌≡◌, ◌∙◌, ◌∷◌, ◌++◌, [], sym, ap, run_of}
 use Rattle.art_map.proofs.iter.IterDoubleEndedIterator.next_back.Goals as goal
 
 pub returns-clause-steps : goal.returns-clause-steps
 returns-clause-steps g c =
     let arena = c.self.inside.arena.now in
-    let taken : c.args.self.now ≡ run_of arena c.take_last-ends.result.2 ++ (c.take_last-ends.result.0.now, c.take_last-ends.result.1.now) ∷ [] = search rules in
-    taken ∙ ap (λ ends. run_of arena ends ++ (c.take_last-ends.result.0.now, c.take_last-ends.result.1.now) ∷ []) (sym c.with_back-ends.ensures)
+    let taken : c.args.self.now ≡ run_of arena c.take-rest.result.2 ++ (c.take-rest.result.0.now, c.take-rest.result.1.now) ∷ [] = search rules in
+    taken ∙ ap (λ ends. run_of arena ends ++ (c.take-rest.result.0.now, c.take-rest.result.1.now) ∷ []) (sym c.with_expected-rest.ensures)

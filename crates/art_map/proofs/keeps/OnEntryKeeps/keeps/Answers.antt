@@ -1,5 +1,4 @@
-use Rattle.std.proofs.Common.{refl, subst}
-use Rattle.std.specs.Map.Calls.{CalledAtPair}
+use Rattle.art_map.proofs.Names.{refl, subst, CalledAtPair}
 use Rattle.art_map.proofs.keeps.OnEntryKeeps.keeps.Goals as goal
 
 pub returns : goal.returns

@@ -1,5 +1,4 @@
-use Rattle.std.proofs.Common.{refl, subst}
-use Rattle.std.specs.Fn.{CalledAt}
+use Rattle.art_map.proofs.Names.{refl, subst, CalledAt}
 use Rattle.std.proofs.lemmas.Fn.{called_at}
 use Rattle.art_map.proofs.keeps.OnKeyKeeps.keeps.Goals as goal
 

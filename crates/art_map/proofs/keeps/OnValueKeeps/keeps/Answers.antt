@@ -1,5 +1,4 @@
-use Rattle.std.proofs.Common.{refl, subst}
-use Rattle.art_map.specs.Calls.{ChangesValue}
+use Rattle.art_map.proofs.Names.{refl, subst, ChangesValue}
 use Rattle.art_map.proofs.keeps.OnValueKeeps.keeps.Goals as goal
 
 pub returns : goal.returns

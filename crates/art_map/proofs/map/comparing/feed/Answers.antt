@@ -1,6 +1,4 @@
-use Rattle.std.proofs.Common.{◌∙◌, ◌++◌, sym, ap}
-use Rattle.std.specs.Hash.{HashWrites, fed_then}
-use Rattle.std.specs.List.{flat_map, fold}
+use Rattle.art_map.proofs.Names.{◌∙◌, ◌++◌, sym, ap, HashWrites, fed_then, flat_map, fold}
 use Rattle.std.proofs.lemmas.Grind.{fold-append}
 use Rattle.art_map.proofs.map.comparing.feed.Goals as goal
 

@@ -1,10 +1,4 @@
-use Rattle.std.proofs.Common.{◌≡◌, ◌∙◌, ◌-◌, ◌∷◌, [], take, drop, ap, subst}
-use Rattle.art_header.specs.declared.node_type.NodeType.TheVariants.{Node4}
-use Rattle.art_nodes.specs.Pointers.{slab_key}
-use Rattle.art_arena.specs.Links.{text_at}
-use Rattle.art_tree.specs.Edits.{two_children}
-use Rattle.art_tree.specs.Nodes.{node_of, IsPlaced}
-use Rattle.art_tree.specs.Search.{leaf_pointer}
+use Rattle.art_tree.proofs.Names.{◌≡◌, ◌∙◌, ◌-◌, ◌∷◌, [], take, drop, ap, subst, Node4, slab_key, text_at, two_children, node_of, IsPlaced, leaf_pointer}
 use Rattle.art_tree.proofs.InsertLemmas.NodeLemmas.{child-first, child-last}
 use Rattle.art_tree.proofs.insert.added_child.fork_node.Goals as goal
 use Rattle.art_tree.proofs.insert.added_child.fork_node.Goals.{then-mismatch, else-mismatch}

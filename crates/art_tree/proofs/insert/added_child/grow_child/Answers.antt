@@ -1,6 +1,4 @@
-use Rattle.std.proofs.Common.{◌∙◌, sym, ap, arith}
-use Rattle.art_header.specs.NodeType.{most_children}
-use Rattle.art_arena.specs.Reader.{shown, shown_kind}
+use Rattle.art_tree.proofs.Names.{◌∙◌, sym, ap, arith, most_children, shown, shown_kind}
 use Rattle.art_tree.proofs.InsertLemmas.NodeLemmas.{few-where-absent, room-of-kind, moved-there}
 use Rattle.art_tree.proofs.insert.added_child.grow_child.Goals as goal
 

@@ -1,5 +1,4 @@
-use Rattle.std.proofs.Common.{◌∙◌, ap, arith}
-use Rattle.art_header.specs.NodeType.{most_children}
+use Rattle.art_tree.proofs.Names.{◌∙◌, ap, arith, most_children}
 use Rattle.art_tree.proofs.RemoveLemmas.ShrunkNode.{counted}
 use Rattle.art_tree.proofs.insert.added_child.is_full.Goals as goal
 

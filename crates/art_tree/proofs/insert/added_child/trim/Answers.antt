@@ -1,12 +1,5 @@
-use Rattle.std.proofs.Common.{◌∙◌, length, lit<, rules, arith, sym, ap, subst}
-use Rattle.std.specs.Option.{option_copied}
-use Rattle.art_header.specs.Header.{StandsFor}
-use Rattle.art_nodes.specs.Inner.{header_of, node_with_prefix_of}
-use Rattle.art_nodes.specs.Pointers.{slab_key}
-use Rattle.art_arena.specs.Arena.{held, HeldInner, Changes}
-use Rattle.art_arena.specs.Links.{leaf_at}
+use Rattle.art_tree.proofs.Names.{◌∙◌, length, lit<, rules, arith, sym, ap, subst, option_copied, StandsFor, header_of, node_with_prefix_of, slab_key, held, HeldInner, Changes, leaf_at, one-inner}
 use Rattle.art_tree.proofs.SharedLemmas.ParentLemmas.{inner-kind}
-use Rattle.art_arena.proofs.StandingLaws.{one-inner}
 use Rattle.art_tree.proofs.InsertLemmas.NodeLemmas.{header-held, text-of-key}
 use Rattle.art_tree.proofs.insert.added_child.trim.Goals as goal
 

@@ -1,5 +1,4 @@
-use Rattle.std.proofs.Common.{◌∙◌, lit<, ap, sym, subst}
-use Rattle.art_nodes.specs.Inner.{HasRoomFor, node_with_child}
+use Rattle.art_tree.proofs.Names.{◌∙◌, lit<, ap, sym, subst, node_with_child, HasRoomFor}
 use Rattle.art_tree.proofs.insert.added_child.with_child_more.Goals as goal
 
 pub write_child-requires : goal.write_child-requires

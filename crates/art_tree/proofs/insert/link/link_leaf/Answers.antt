@@ -1,53 +1,25 @@
-use Rattle.std.proofs.Common.{◌∙◌, ◌++◌, subst, lit<}
-use Rattle.art_nodes.specs.Pointers.{slab_key}
-use Rattle.art_arena.specs.Links.{text_at}
-use Rattle.art_arena.specs.declared.ends.End.TheVariants.{First, Last}
-use Rattle.art_tree.specs.Edits.{IsBeside, LiesBeside}
-use Rattle.art_tree.proofs.InsertLemmas.LinkLemmas.{new-held, new-unlinked, new-apart, sibling-knit, still-spelled, new-text, sibling-text, entry-held, others-stay, spelled-before, spelled-after}
-use Rattle.art_tree.proofs.SharedLemmas.PrefixLemmas.{less-same}
+use Rattle.art_tree.proofs.Names.{◌∙◌, ◌++◌, subst, ◌≡◌, ◌≢◌, slab_key, text_at, HoldsLeaf, IsKnit, IsUnlinked, First, Last, IsBeside, LiesBeside, HasGap, Less, text_order, leaf-pointer-fits, slice-fits}
+use Rattle.art_tree.proofs.InsertLemmas.LinkLemmas.{ready, still-spelled, entry-held, others-stay, spelled-before, spelled-after}
 use Rattle.art_tree.proofs.SharedLemmas.RoomLemmas.{same-capacity, same-room}
 use Rattle.art_tree.proofs.insert.link.link_leaf.Goals as goal
 
 pub insert_before-requires : goal.insert_before-requires
 insert_before-requires g c =
+    let text = g.K.AsBytes.text in
     let old = c.args.arena.now in
     let now = c.allocate_reserved-leaf.new.self in
-    let leaf = c.with_no_siblings.result in
     let this = slab_key c.allocate_reserved-leaf.result in
-    let free = c.allocate_reserved-leaf.ensures.was_free in
-    let changes = c.allocate_reserved-leaf.ensures.added in
     let sibling = slab_key c.args.sibling in
-    let order : LiesBeside First (g.K.AsBytes.text c.args.key) (text_at g.K.AsBytes.text old sibling) = subst (λ end. LiesBeside end (g.K.AsBytes.text c.args.key) (text_at g.K.AsBytes.text old sibling)) c.in-First.is c.requires.order in (
-      search,
-      (
-        search,
-        (
-          search,
-          (
-            search,
-            (
-              search,
-              (
-                lit< tt,
-                (
-                  new-held old now this leaf free changes,
-                  (
-                    new-unlinked old now this leaf free changes c.with_no_siblings.ensures.previous c.with_no_siblings.ensures.next,
-                    (
-                      new-apart old now this leaf free changes c.args.end sibling (c.each_leaf_of_a_list_is_knit.ensures.knit old) c.requires.gap,
-                      (
-                        sibling-knit old now this leaf free changes c.args.end sibling (c.each_leaf_of_a_list_is_knit.ensures.knit now) c.requires.gap,
-                        less-same _ _ _ _ (new-text old now this leaf free changes g.K.AsBytes.text c.args.key c.with_no_siblings.ensures.key) (sibling-text old now this leaf free changes g.K.AsBytes.text c.args.end sibling (c.each_leaf_of_a_list_is_knit.ensures.knit old) c.requires.gap) order,
-                      ),
-                    ),
-                  ),
-                ),
-              ),
-            ),
-          ),
-        ),
-      ),
-    )
+    let leaf = c.with_no_siblings in
+    let gap = subst (λ end. HasGap old end sibling) c.in-First.is c.requires.gap in
+    let order = subst (λ end. LiesBeside end (text c.args.key) (text_at text old sibling)) c.in-First.is c.requires.order in
+    let is_ready = ready old now this leaf.result c.allocate_reserved-leaf.ensures.was_free c.allocate_reserved-leaf.ensures.added text c.args.key leaf.ensures.key leaf.ensures.previous leaf.ensures.next First sibling gap order in
+    let is_held : HoldsLeaf now this = is_ready.held in
+    let unlinked : IsUnlinked now this = is_ready.unlinked in
+    let apart : this ≢ sibling = is_ready.apart in
+    let knit : IsKnit now sibling = is_ready.knit in
+    let below : text_order (text_at text now this) (text_at text now sibling) ≡ Less = is_ready.order in
+    assumption (leaf-pointer-fits, slice-fits)
 
 pub returns-in-First : goal.returns-in-First
 returns-in-First g c =
@@ -70,44 +42,21 @@ returns-in-First g c =
 
 pub insert_after-requires : goal.insert_after-requires
 insert_after-requires g c =
+    let text = g.K.AsBytes.text in
     let old = c.args.arena.now in
     let now = c.allocate_reserved-leaf.new.self in
-    let leaf = c.with_no_siblings.result in
     let this = slab_key c.allocate_reserved-leaf.result in
-    let free = c.allocate_reserved-leaf.ensures.was_free in
-    let changes = c.allocate_reserved-leaf.ensures.added in
     let sibling = slab_key c.args.sibling in
-    let order : LiesBeside Last (g.K.AsBytes.text c.args.key) (text_at g.K.AsBytes.text old sibling) = subst (λ end. LiesBeside end (g.K.AsBytes.text c.args.key) (text_at g.K.AsBytes.text old sibling)) c.in-Last.is c.requires.order in (
-      search,
-      (
-        search,
-        (
-          search,
-          (
-            search,
-            (
-              search,
-              (
-                lit< tt,
-                (
-                  new-held old now this leaf free changes,
-                  (
-                    new-unlinked old now this leaf free changes c.with_no_siblings.ensures.previous c.with_no_siblings.ensures.next,
-                    (
-                      new-apart old now this leaf free changes c.args.end sibling (c.each_leaf_of_a_list_is_knit.ensures.knit old) c.requires.gap,
-                      (
-                        sibling-knit old now this leaf free changes c.args.end sibling (c.each_leaf_of_a_list_is_knit.ensures.knit now) c.requires.gap,
-                        less-same _ _ _ _ (sibling-text old now this leaf free changes g.K.AsBytes.text c.args.end sibling (c.each_leaf_of_a_list_is_knit.ensures.knit old) c.requires.gap) (new-text old now this leaf free changes g.K.AsBytes.text c.args.key c.with_no_siblings.ensures.key) order,
-                      ),
-                    ),
-                  ),
-                ),
-              ),
-            ),
-          ),
-        ),
-      ),
-    )
+    let leaf = c.with_no_siblings in
+    let gap = subst (λ end. HasGap old end sibling) c.in-Last.is c.requires.gap in
+    let order = subst (λ end. LiesBeside end (text c.args.key) (text_at text old sibling)) c.in-Last.is c.requires.order in
+    let is_ready = ready old now this leaf.result c.allocate_reserved-leaf.ensures.was_free c.allocate_reserved-leaf.ensures.added text c.args.key leaf.ensures.key leaf.ensures.previous leaf.ensures.next Last sibling gap order in
+    let is_held : HoldsLeaf now this = is_ready.held in
+    let unlinked : IsUnlinked now this = is_ready.unlinked in
+    let apart : this ≢ sibling = is_ready.apart in
+    let knit : IsKnit now sibling = is_ready.knit in
+    let below : text_order (text_at text now sibling) (text_at text now this) ≡ Less = is_ready.order in
+    assumption (leaf-pointer-fits, slice-fits)
 
 pub returns-in-Last : goal.returns-in-Last
 returns-in-Last g c =

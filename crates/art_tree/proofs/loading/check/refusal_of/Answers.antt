@@ -1,5 +1,4 @@
-use Rattle.std.proofs.Common.{◌∙◌, Some, arith, sym}
-use Rattle.std.proofs.lemmas.List.{length-map}
+use Rattle.art_tree.proofs.Names.{◌∙◌, Some, arith, sym, length-map}
 use Rattle.art_tree.proofs.LoadLemmas.RefusalLemmas.{not-none, first-fault}
 use Rattle.art_tree.proofs.loading.check.refusal_of.Goals as goal
 

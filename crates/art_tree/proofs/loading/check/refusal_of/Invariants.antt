@@ -1,5 +1,4 @@
-use Rattle.std.proofs.Common.{◌≡◌, ℕ, ◌<◌, None, get_or}
-use Rattle.art_tree.specs.Refusals.{texts_of, fault_at}
+use Rattle.art_tree.proofs.Names.{◌≡◌, ℕ, ◌<◌, None, get_or, texts_of, fault_at}
 use Rattle.art_tree.proofs.loading.check.refusal_of.Given as goal
 
 -- the entries so far have no fault, and their keys were read

@@ -1,7 +1,4 @@
-use Rattle.std.proofs.Common.{◌≤◌, ◌+◌, length, vec_capacity}
-use Rattle.std.specs.Vec.Iter.{into_iter_items, into_iter_len}
-use Rattle.art_header.specs.declared.node_type.NodeType.TheVariants.{Leaf}
-use Rattle.art_arena.specs.Arena.{room, SameOtherRoom}
+use Rattle.art_tree.proofs.Names.{◌≡◌, ◌≤◌, ◌+◌, length, vec_len, vec_capacity, into_iter_items, into_iter_len, room, SameOtherRoom, LeafKind}
 use Rattle.art_tree.proofs.LoadLemmas.LeafLists.{IsLinking}
 use Rattle.art_tree.proofs.loading.leaves.link_leaves.Given as goal
 
@@ -9,9 +6,10 @@ use Rattle.art_tree.proofs.loading.leaves.link_leaves.Given as goal
 abbrev pub invariant-moving : goal.invariant-moving
 invariant-moving g l = record {
   linking : IsLinking l.initial.arena l.arena l.fn.entries.items (into_iter_items l.rest) l.leaves.items;
-  room : into_iter_len l.rest ≤ room l.arena Leaf;
+  leaf_room : room l.initial.arena LeafKind + into_iter_len l.rest ≡ room l.arena LeafKind + vec_len l.fn.entries;
+  room : into_iter_len l.rest ≤ room l.arena LeafKind;
   memory : into_iter_len l.rest + length l.leaves.items ≤ vec_capacity l.leaves;
-  other_room : SameOtherRoom l.initial.arena l.arena Leaf;
+  other_room : SameOtherRoom l.initial.arena l.arena LeafKind;
 }
 
 abbrev pub decreases-moving : goal.decreases-moving

@@ -1,14 +1,4 @@
-use Rattle.std.proofs.Common.{◌≡◌, ◌∙◌, ◌+◌, ◌-◌, ◌<◌, [], ◌∷◌, ◌++◌, length, map, take, drop, get_or, ap, sym, subst, arith, lit<, vec_capacity, ◌^◌}
-use Rattle.art_header.specs.NodeType.{kind_for}
-use Rattle.art_nodes.specs.ChildMap.{IsAscending, key_bytes}
-use Rattle.art_nodes.specs.Pointers.{slab_key}
-use Rattle.art_nodes.specs.declared.pointers.NodePtr.{NodePtr}
-use Rattle.art_nodes.specs.declared.leaf_node.LeafNode.{LeafNode}
-use Rattle.art_arena.specs.Arena.{room}
-use Rattle.art_arena.specs.Links.{text_at}
-use Rattle.art_tree.specs.Raising.{leaf_pairs}
-use Rattle.art_tree.specs.Search.{leaf_pointer}
-use Rattle.art_tree.specs.Plan.{Spans}
+use Rattle.art_tree.proofs.Names.{◌≡◌, ◌∙◌, ◌+◌, ◌-◌, ◌<◌, [], ◌∷◌, ◌++◌, length, map, take, drop, get_or, ap, sym, subst, arith, lit<, vec_capacity, ◌^◌, kind_for, IsAscending, key_bytes, slab_key, NodePtr, LeafNode, room, text_at, leaf_pairs, leaf_pointer, Spans}
 use Rattle.art_tree.proofs.LoadLemmas.PlanLemmas.{plan-leads}
 use Rattle.art_tree.proofs.LoadLemmas.PlacedTrees.{IsRising, at_leaf, at_inner, rising-none, texts-of-pairs, pair-there, pointer-there, rise-leaf, rise-inner-called, one-pending, last-part, risen}
 use Rattle.art_tree.proofs.loading.raise.raise.Goals as goal
@@ -29,14 +19,10 @@ loop-step-init g c =
     }
 
 pub offset_bounds-leaves-next : goal.offset_bounds-leaves-next
-offset_bounds-leaves-next g c =
-    let here = at_leaf g.K.AsBytes.text c.args.arena.now c.args.leaves.now _ _ _ _ _ _ _ c.loop-step-test.true c.in-Leaf.is c.loop-step.invariant.rising in
-    omega (arith, here.inside)
+offset_bounds-leaves-next g c = omega (arith, (at_leaf g.K.AsBytes.text c.args.arena.now c.args.leaves.now _ _ _ _ _ _ _ c.loop-step-test.true c.in-Leaf.is c.loop-step.invariant.rising).inside)
 
 pub bounds-leaves-next : goal.bounds-leaves-next
-bounds-leaves-next g c =
-    let here = at_leaf g.K.AsBytes.text c.args.arena.now c.args.leaves.now _ _ _ _ _ _ _ c.loop-step-test.true c.in-Leaf.is c.loop-step.invariant.rising in
-    omega (arith, here.inside)
+bounds-leaves-next g c = omega (arith, (at_leaf g.K.AsBytes.text c.args.arena.now c.args.leaves.now _ _ _ _ _ _ _ c.loop-step-test.true c.in-Leaf.is c.loop-step.invariant.rising).inside)
 
 pub push_reserved-requires : goal.push_reserved-requires
 push_reserved-requires g c =
@@ -44,14 +30,10 @@ push_reserved-requires g c =
     omega (arith, here.inside, here.few, c.loop-step.pending.ok.0, c.loop-step.invariant.memory)
 
 pub overflow_add-next : goal.overflow_add-next
-overflow_add-next g c =
-    let here = at_leaf g.K.AsBytes.text c.args.arena.now c.args.leaves.now _ _ _ _ _ _ _ c.loop-step-test.true c.in-Leaf.is c.loop-step.invariant.rising in
-    omega (arith, here.inside)
+overflow_add-next g c = omega (arith, (at_leaf g.K.AsBytes.text c.args.arena.now c.args.leaves.now _ _ _ _ _ _ _ c.loop-step-test.true c.in-Leaf.is c.loop-step.invariant.rising).inside)
 
 pub overflow_sub-below : goal.overflow_sub-below
-overflow_sub-below g c =
-    let here = at_inner g.K.AsBytes.text c.args.arena.now c.args.leaves.now _ _ _ _ _ _ _ _ _ _ c.loop-step-test.true c.in-Inner.is c.loop-step.invariant.rising c.requires.held in
-    omega (arith, here.ready.enough, c.len.ensures, c.loop-step.pending.ok.0)
+overflow_sub-below g c = omega (arith, (at_inner g.K.AsBytes.text c.args.arena.now c.args.leaves.now _ _ _ _ _ _ _ _ _ _ c.loop-step-test.true c.in-Inner.is c.loop-step.invariant.rising c.requires.held).ready.enough, c.len.ensures, c.loop-step.pending.ok.0)
 
 pub offset_bounds-leaves-next-in-Inner : goal.offset_bounds-leaves-next-in-Inner
 offset_bounds-leaves-next-in-Inner g c =
@@ -64,35 +46,18 @@ bounds-leaves-next-in-Inner g c =
     omega (arith, here.inside, here.some)
 
 pub place-node-requires : goal.place-node-requires
-place-node-requires g c = (
-  search,
-  (
-    search,
-    (
-      search,
-      (
-        search,
-        (
-          assumption,
-          (
-            lit< tt,
-            (
-              lit< tt,
-              let d : NodePtr g.row.PREFIX_LEN (LeafNode g.row.K.Denot g.row.V.Denot g.row.PREFIX_LEN) = record { key = 0; node = record {} } in
-                  let here = at_inner g.K.AsBytes.text c.args.arena.now c.args.leaves.now _ _ _ _ _ _ _ _ _ _ c.loop-step-test.true c.in-Inner.is c.loop-step.invariant.rising c.requires.held in
-                  let last = here.last d in
-                  let below : c.len.result - c.in-Inner.children ≡ length c.loop-step.pending.items - c.in-Inner.children = omega (arith, c.len.ensures, c.loop-step.pending.ok.0) in
-                  let kids = last-part c.deref.result.now c.loop-step.pending.items (c.len.result - c.in-Inner.children) c.in-Inner.children c.deref.ensures.value below in
-                  let short : length here.rising.leads.0.1 < 2 ^ 32 = omega (arith, c.requires.short (c.loop-step.next - 1), ap length last.before) in
-                  let long = ap length kids in
-                  (last.is_held, (here.ready.ordered, (omega (arith, here.ready.within, ap length last.now), (omega (arith, here.ready.within, short), (omega (arith, here.ready.two, here.ready.count, long), (omega (arith, here.ready.few, here.ready.count, long), (subst (λ k. IsAscending (key_bytes k)) (sym kids) here.ready.ascending, subst (λ n. 0 < room c.loop-step.arena (kind_for n)) (sym (long ∙ here.ready.count)) here.ready.rooms))))))),
-            ),
-          ),
-        ),
-      ),
-    ),
-  ),
-)
+place-node-requires g c =
+    let d : NodePtr g.row.PREFIX_LEN (LeafNode g.row.K.Denot g.row.V.Denot g.row.PREFIX_LEN) = record { key = 0; node = record {} } in
+    let here = at_inner g.K.AsBytes.text c.args.arena.now c.args.leaves.now _ _ _ _ _ _ _ _ _ _ c.loop-step-test.true c.in-Inner.is c.loop-step.invariant.rising c.requires.held in
+    let ready = here.ready in
+    let last = here.last d in
+    let below : c.len.result - c.in-Inner.children ≡ length c.loop-step.pending.items - c.in-Inner.children = omega (arith, c.len.ensures, c.loop-step.pending.ok.0) in
+    let kids = last-part c.deref.result.now c.loop-step.pending.items (c.len.result - c.in-Inner.children) c.in-Inner.children c.deref.ensures.value below in
+    let short : length here.rising.leads.0.1 < 2 ^ 32 = omega (arith, c.requires.short (c.loop-step.next - 1), ap length last.before) in
+    let long = ap length kids in
+    let ascending = subst (λ k. IsAscending (key_bytes k)) (sym kids) ready.ascending in
+    let rooms = subst (λ n. 0 < room c.loop-step.arena (kind_for n)) (sym (long ∙ ready.count)) ready.rooms in
+    (search, (search, (search, (search, (assumption, (lit< tt, (lit< tt, (last.is_held, (ready.ordered, (omega (arith, ready.within, ap length last.now), (omega (arith, ready.within, short), (omega (arith, ready.two, ready.count, long), (omega (arith, ready.few, ready.count, long), (ascending, rooms))))))))))))))
 
 pub push_reserved-requires-in-Inner : goal.push_reserved-requires-in-Inner
 push_reserved-requires-in-Inner g c =
@@ -128,7 +93,7 @@ loop-step-preserved g c =
           let below : w.len.result - w.in-Inner.children ≡ length pending - w.in-Inner.children = omega (arith, w.len.ensures, c.loop-step.pending.ok.0) in
           let kids = last-part w.deref.result.now pending (w.len.result - w.in-Inner.children) w.in-Inner.children w.deref.ensures.value below in
           let after = w.push_reserved-in-Inner.ensures.items ∙ ap (λ front. front ++ (w.in-Inner.byte, w.place-node.result) ∷ []) (w.truncate.ensures.items ∙ ap (λ n. take n pending) below) in
-          let rising = rise-inner-called text pairs pointers old now w.place-node.new.arena next w.in-Inner.byte w.in-Inner.start w.in-Inner.end w.in-Inner.children pending w.push_reserved-in-Inner.new.self.items _ (text_at text now (slab_key (get_or of (next - 1) d))) steps w.place-node.result here.rising kids last.now w.place-node.ensures after c.allocating_leaves_trees_standing.ensures.branches c.an_allocated_node_makes_a_tree.ensures.stands in
+          let rising = rise-inner-called text pairs pointers old now w.place-node.new.arena next w.in-Inner.byte w.in-Inner.start w.in-Inner.end w.in-Inner.children pending w.push_reserved-in-Inner.new.self.items _ (text_at text now (slab_key (get_or of (next - 1) d))) steps w.place-node.result here.rising kids last.now w.place-node.ensures after in
           record {
             rising = subst (λ a. IsRising text pairs pointers old a c.match-step.next c.match-step.pending.items steps) (sym w.arena-is) (subst (λ n. IsRising text pairs pointers old w.place-node.new.arena n c.match-step.pending.items steps) (sym w.next-is) (subst (λ items. IsRising text pairs pointers old w.place-node.new.arena next items steps) (sym (ap (λ v. v.items) w.pending-is)) rising));
             memory = omega (arith, ap vec_capacity w.pending-is, w.push_reserved-in-Inner.ensures.capacity, w.truncate.ensures.capacity, c.loop-step.invariant.memory);
@@ -136,9 +101,7 @@ loop-step-preserved g c =
     ]
 
 pub overflow_sub-next : goal.overflow_sub-next
-overflow_sub-next g c =
-    let here = at_inner g.K.AsBytes.text c.args.arena.now c.args.leaves.now _ _ _ _ _ _ _ _ _ _ c.loop-step-test.true c.in-Inner.is c.loop-step.invariant.rising c.requires.held in
-    here.some
+overflow_sub-next g c = (at_inner g.K.AsBytes.text c.args.arena.now c.args.leaves.now _ _ _ _ _ _ _ _ _ _ c.loop-step-test.true c.in-Inner.is c.loop-step.invariant.rising c.requires.held).some
 
 pub index-requires : goal.index-requires
 index-requires g c =

@@ -1,6 +1,4 @@
-use Rattle.std.proofs.Common.{◌≤◌, length, map, drop, vec_capacity}
-use Rattle.art_tree.specs.Raising.{leaf_pairs}
-use Rattle.art_tree.specs.Search.{leaf_pointer}
+use Rattle.art_tree.proofs.Names.{◌≤◌, length, map, drop, vec_capacity, leaf_pairs, leaf_pointer}
 use Rattle.art_tree.proofs.LoadLemmas.PlacedTrees.{IsRising}
 use Rattle.art_tree.proofs.loading.raise.raise.Given as goal
 

@@ -1,9 +1,4 @@
-use Rattle.std.proofs.Common.{◌∙◌, [], ◌∷◌, Some, length, length-append, sym, ap, subst, arith, lit<}
-use Rattle.std.specs.Option.{option_and_then, option_map}
-use Rattle.art_nodes.specs.Leaf.{next_key}
-use Rattle.art_nodes.specs.Pointers.{slab_key}
-use Rattle.art_arena.specs.Links.{HoldsLeaf, leaf_at}
-use Rattle.art_arena.specs.Standing.{TreeAt}
+use Rattle.art_tree.proofs.Names.{◌∙◌, [], ◌∷◌, Some, length, length-append, sym, ap, subst, arith, lit<, option_and_then, option_map, next_key, slab_key, leaf_at, TreeAt, leaf-pointer-fits, slice-fits}
 use Rattle.art_tree.proofs.LoadLemmas.ReloadedTree.{IsGathered, gathered-all, gathered-fits, gathered-held, gathered-next, gathered-start}
 use Rattle.art_tree.proofs.SharedLemmas.HeldNodes.{leaf-of}
 use Rattle.art_tree.proofs.loading.reloading.leaves_in_order.Goals as goal
@@ -28,28 +23,20 @@ along-init g c =
 
 pub push_reserved-requires : goal.push_reserved-requires
 push_reserved-requires g c =
-    let text = g.K.AsBytes.text in
-    let arena = c.args.arena.now in
-    let here = subst (λ at. IsGathered text arena c.args.root c.along.leaves.items (option_map slab_key at)) c.in-Some.is c.along.invariant.gathered in
-    let fits = gathered-fits text arena c.args.root c.along.leaves.items (slab_key c.in-Some.leaf) here (c.entries_are_as_many_as_leaves.ensures.spelled arena) in
-    omega (arith, fits, c.along.invariant.memory, c.along.leaves.ok.0)
+    let here = subst (λ at. IsGathered g.K.AsBytes.text c.args.arena.now c.args.root c.along.leaves.items (option_map slab_key at)) c.in-Some.is c.along.invariant.gathered in
+    omega (arith, gathered-fits here, c.along.invariant.memory, c.along.leaves.ok.0)
 
 pub as_ref-requires : goal.as_ref-requires
 as_ref-requires g c =
-    let text = g.K.AsBytes.text in
-    let arena = c.args.arena.now in
-    let here = subst (λ at. IsGathered text arena c.args.root c.along.leaves.items (option_map slab_key at)) c.in-Some.is c.along.invariant.gathered in
-    let is_held : HoldsLeaf arena (slab_key c.in-Some.leaf) = gathered-held text arena c.args.root c.along.leaves.items (slab_key c.in-Some.leaf) here (c.each_leaf_of_a_list_is_knit.ensures.knit arena) in
-    (assumption, (assumption, (assumption, (assumption, (assumption, (lit< tt, is_held))))))
+    let here = subst (λ at. IsGathered g.K.AsBytes.text c.args.arena.now c.args.root c.along.leaves.items (option_map slab_key at)) c.in-Some.is c.along.invariant.gathered in
+    let is_held = gathered-held here in
+    assumption (leaf-pointer-fits, slice-fits)
 
 pub along-smaller : goal.along-smaller
 along-smaller g c =
-    let text = g.K.AsBytes.text in
-    let arena = c.args.arena.now in
-    let here = subst (λ at. IsGathered text arena c.args.root c.along.leaves.items (option_map slab_key at)) c.in-Some.is c.along.invariant.gathered in
-    let fits = gathered-fits text arena c.args.root c.along.leaves.items (slab_key c.in-Some.leaf) here (c.entries_are_as_many_as_leaves.ensures.spelled arena) in
+    let here = subst (λ at. IsGathered g.K.AsBytes.text c.args.arena.now c.args.root c.along.leaves.items (option_map slab_key at)) c.in-Some.is c.along.invariant.gathered in
     let more = ap length c.push_reserved.ensures.items ∙ length-append c.along.leaves.items (c.in-Some.leaf ∷ []) in
-    omega (arith, fits, more)
+    omega (arith, gathered-fits here, more)
 
 pub along-preserved : goal.along-preserved
 along-preserved g c =
@@ -61,7 +48,7 @@ along-preserved g c =
     let here = subst (λ at. IsGathered text arena root before (option_map slab_key at)) c.in-Some.is c.along.invariant.gathered in
     let next = c.next-at.ensures ∙ sym (ap (option_and_then next_key) (leaf-of (leaf_at arena (slab_key leaf)) c.as_ref.result.now c.as_ref.ensures)) in
     record {
-      gathered = subst (λ of. IsGathered text arena root of (option_map slab_key c.next-at.result)) (sym c.push_reserved.ensures.items) (gathered-next text arena root (c.each_leaf_of_a_list_is_knit.ensures.next arena) before leaf (option_map slab_key c.next-at.result) here next);
+      gathered = subst (λ of. IsGathered text arena root of (option_map slab_key c.next-at.result)) (sym c.push_reserved.ensures.items) (gathered-next text arena root before leaf (option_map slab_key c.next-at.result) here next);
       memory = omega (arith, c.push_reserved.ensures.capacity, c.along.invariant.memory);
     }
 

@@ -1,7 +1,4 @@
-use Rattle.std.proofs.Common.{◌≤◌, ◌-◌, length, vec_capacity}
-use Rattle.std.specs.Option.{option_map}
-use Rattle.art_nodes.specs.Pointers.{slab_key}
-use Rattle.art_arena.specs.Arena.{leaf_count}
+use Rattle.art_tree.proofs.Names.{◌≤◌, ◌-◌, length, vec_capacity, option_map, slab_key, leaf_count}
 use Rattle.art_tree.proofs.LoadLemmas.ReloadedTree.{IsGathered}
 use Rattle.art_tree.proofs.loading.reloading.leaves_in_order.Given as goal
 

@@ -1,5 +1,4 @@
-use Rattle.std.proofs.Common.{◌≡◌, ◌≤◌, ◌+◌, drop}
-use Rattle.art_tree.specs.Plan.{needed}
+use Rattle.art_tree.proofs.Names.{◌≡◌, ◌≤◌, ◌+◌, drop, needed}
 use Rattle.art_tree.proofs.loading.steps.count_nodes.Given as goal
 
 -- the nodes so far and those of the steps that are left are all

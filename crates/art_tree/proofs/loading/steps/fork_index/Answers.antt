@@ -1,5 +1,4 @@
-use Rattle.std.proofs.Common.{◌∙◌, sym, subst}
-use Rattle.art_tree.specs.Plan.{IsFork}
+use Rattle.art_tree.proofs.Names.{◌∙◌, sym, subst, IsFork}
 use Rattle.art_tree.proofs.LoadLemmas.RefusalLemmas.{fork-shared}
 use Rattle.art_tree.proofs.loading.steps.fork_index.Goals as goal
 

@@ -1,9 +1,4 @@
-use Rattle.std.proofs.Common.{◌≡◌, ◌∙◌, ◌<◌, ℕ, ◌+◌, ◌^◌, length, map, List, [], ◌∷◌, ◌++◌, get_or, sym, ap, subst, arith, refl}
-use Rattle.std.specs.Option.{option_to_list}
-use Rattle.std.proofs.lemmas.List.{length-map}
-use Rattle.art_tree.specs.Plan.{Forks, byte_before}
-use Rattle.art_tree.specs.Refusals.{text_of_entry}
-use Rattle.art_tree.specs.declared.loading.steps.Open.{Open}
+use Rattle.art_tree.proofs.Names.{◌≡◌, ◌∙◌, ◌<◌, ℕ, ◌+◌, ◌^◌, length, map, List, [], ◌∷◌, ◌++◌, get_or, sym, ap, subst, arith, refl, option_to_list, length-map, Forks, byte_before, text_of_entry, Open}
 use Rattle.art_tree.specs.declared.loading.steps.Step.TheVariants as step
 use Rattle.art_tree.proofs.LoadLemmas.OpenNodes.{IsPlanned, IsClosing, Parts, entry-text, bytes-at, planned-path, parts-between, parts-last, closing-leaf, closing-some, closing-below, closing-node-called, closing-count, hang-new, hang-last, closed}
 use Rattle.art_tree.proofs.loading.steps.plan.Goals as goal

@@ -1,6 +1,4 @@
-use Rattle.std.proofs.Common.{◌≡◌, ◌<◌, length, map}
-use Rattle.art_tree.specs.Plan.{IsPlanOf}
-use Rattle.art_tree.specs.Refusals.{text_of_entry}
+use Rattle.art_tree.proofs.Names.{◌≡◌, ◌<◌, length, map, IsPlanOf, text_of_entry}
 use Rattle.art_tree.proofs.LoadLemmas.OpenNodes.{IsPlanned, IsClosing, Parts}
 use Rattle.art_tree.proofs.loading.steps.plan.Given as goal
 

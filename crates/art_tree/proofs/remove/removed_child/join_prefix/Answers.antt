@@ -1,11 +1,6 @@
-use Rattle.std.proofs.Common.{◌∙◌, ◌∷◌, [], lit<, rules, arith, sym, ap, subst}
-use Rattle.std.specs.Option.{option_copied}
-use Rattle.art_header.specs.Header.{with_more}
-use Rattle.art_nodes.specs.Inner.{header_of, node_with_prefix_of}
-use Rattle.art_arena.specs.Arena.{held, HeldInner, Changes}
+use Rattle.art_tree.proofs.Names.{◌∙◌, ◌∷◌, [], lit<, rules, arith, sym, ap, subst, option_copied, with_more, header_of, node_with_prefix_of, held, HeldInner, Changes, one-inner}
 use Rattle.art_tree.proofs.RemoveLemmas.ShrunkNode.{joined-stands}
 use Rattle.art_tree.proofs.SharedLemmas.ParentLemmas.{inner-kind}
-use Rattle.art_arena.proofs.StandingLaws.{one-inner}
 use Rattle.art_tree.proofs.InsertLemmas.NodeLemmas.{header-held}
 use Rattle.art_tree.proofs.remove.removed_child.join_prefix.Goals as goal
 

@@ -1,6 +1,4 @@
-use Rattle.std.proofs.Common.{◌∙◌, lit<, sym}
-use Rattle.art_arena.specs.Reader.{shown}
-use Rattle.art_arena.proofs.StandingLaws.{inner-there, is-some}
+use Rattle.art_tree.proofs.Names.{◌∙◌, lit<, sym, shown, inner-there, is-some}
 use Rattle.art_tree.proofs.remove.removed_child.other_child.Goals as goal
 
 pub unwrap-node-requires : goal.unwrap-node-requires

@@ -1,10 +1,4 @@
-use Rattle.std.proofs.Common.{◌≡◌, ◌∙◌, sym, ap, inl, refl}
-use Rattle.std.proofs.lemmas.Bool.{false≢true}
-use Rattle.art_header.specs.NodeType.{shrunk_kind}
-use Rattle.art_nodes.specs.Pointers.{node_kind}
-use Rattle.art_arena.specs.Arena.{room}
-use Rattle.art_tree.specs.Reserving.{LacksRoomToShrink}
-use Rattle.art_tree.proofs.SharedLemmas.ParentLemmas.{always-err}
+use Rattle.art_tree.proofs.Names.{◌≡◌, ◌∙◌, sym, ap, inl, refl, false≢true, shrunk_kind, node_kind, room, LacksRoomToShrink, on_err_always}
 use Rattle.art_tree.proofs.SharedLemmas.RoomLemmas.{IsAsked, asked-grows, grows-then, none-on-err, on-err-then, same-capacity}
 use Rattle.art_tree.proofs.remove.removed_child.reserve_shrink.Goals as goal
 
@@ -15,7 +9,7 @@ pub returns-then-not-fewest-clause-memory : goal.returns-then-not-fewest-clause-
 returns-then-not-fewest-clause-memory g c = λ kind. inl refl
 
 pub returns-clause-refused : goal.returns-clause-refused
-returns-clause-refused g c = always-err c.reserve.result _ (λ node is. (c.requires.more node is, (c.requires.fewest node is).0 c.if-not-fewest.false))
+returns-clause-refused g c = on_err_always c.reserve.result _ (λ node is. (c.requires.more node is, (c.requires.fewest node is).0 c.if-not-fewest.false))
 
 pub returns-clause-takes_no_memory : goal.returns-clause-takes_no_memory
 returns-clause-takes_no_memory g c = λ node is differ. absurd (differ ((c.requires.fewest node is).0 c.if-not-fewest.false))

@@ -1,5 +1,4 @@
-use Rattle.std.proofs.Common.{◌∙◌, sym, ap, inl, inr, arith}
-use Rattle.art_arena.specs.Reader.{shown, shown_kind}
+use Rattle.art_tree.proofs.Names.{◌∙◌, sym, ap, inl, inr, arith, shown, shown_kind}
 use Rattle.art_tree.proofs.RemoveLemmas.ShrunkNode.{smaller-room, few-there, replaced-there}
 use Rattle.art_tree.proofs.remove.removed_child.shrink_node.Goals as goal
 

@@ -1,6 +1,4 @@
-use Rattle.std.proofs.Common.{◌∙◌, length, lit<, refl, inl}
-use Rattle.art_header.specs.NodeType.{least_children}
-use Rattle.art_nodes.specs.Pointers.{node_kind}
+use Rattle.art_tree.proofs.Names.{◌∙◌, length, lit<, refl, inl, least_children, node_kind}
 use Rattle.art_tree.proofs.RemoveLemmas.ShrunkNode.{less-where-differ, shrunk-held, few-left, not-smallest, room-left, shrunk-left}
 use Rattle.art_tree.proofs.SharedLemmas.RoomLemmas.{same-capacity}
 use Rattle.art_tree.proofs.remove.removed_child.take_child.Goals as goal

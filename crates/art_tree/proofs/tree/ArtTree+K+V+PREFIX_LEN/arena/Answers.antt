@@ -1,6 +1,4 @@
-use Rattle.std.proofs.Common.{subst}
-use Rattle.art_tree.specs.Art.{IsArt}
-use Rattle.art_tree.specs.Dictionary.{HasKeys}
+use Rattle.art_tree.proofs.Names.{subst, IsArt, HasKeys}
 use Rattle.art_tree.proofs.tree.ArtTree+K+V+PREFIX_LEN.arena.Goals as goal
 
 pub returns-clause-keys : goal.returns-clause-keys

@@ -1,6 +1,4 @@
-use Rattle.std.proofs.Common.{◌∙◌, ◌++◌, length, ap}
-use Rattle.std.specs.Hash.{HashWrites, fed_then, usize}
-use Rattle.std.specs.List.{flat_map, fold}
+use Rattle.art_map.proofs.Names.{◌∙◌, ◌++◌, length, ap, HashWrites, fed_then, usize, flat_map, fold}
 use Rattle.art_map.proofs.map.comparing.ArtMapHash.hash.Goals as goal
 
 pub returns : goal.returns

@@ -1,6 +1,4 @@
-use Rattle.std.proofs.Common.{◌∙◌}
-use Rattle.std.specs.Cmp.Lexicographic.{slice_cmp}
-use Rattle.std.specs.Ordering.{ordering_then}
+use Rattle.art_map.proofs.Names.{◌∙◌, slice_cmp, ordering_then}
 use Rattle.art_map.proofs.map.comparing.ArtMapOrd.cmp.Goals as goal
 
 pub returns : goal.returns

@@ -1,5 +1,4 @@
-use Rattle.std.proofs.Common.{◌∙◌, ◌&&◌}
-use Rattle.std.specs.Cmp.Lexicographic.{pointwise}
+use Rattle.art_map.proofs.Names.{◌∙◌, ◌&&◌, pointwise}
 use Rattle.art_map.proofs.map.comparing.ArtMapPartialEq.eq.Goals as goal
 
 pub returns-then-len : goal.returns-then-len

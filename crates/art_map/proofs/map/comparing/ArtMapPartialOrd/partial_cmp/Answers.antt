@@ -1,6 +1,4 @@
-use Rattle.std.proofs.Common.{◌∙◌}
-use Rattle.std.specs.Cmp.Lexicographic.{slice_partial_cmp}
-use Rattle.std.specs.Ordering.{partial_ordering_then}
+use Rattle.art_map.proofs.Names.{◌∙◌, slice_partial_cmp, partial_ordering_then}
 use Rattle.art_map.proofs.map.comparing.ArtMapPartialOrd.partial_cmp.Goals as goal
 
 pub returns : goal.returns

@@ -1,6 +1,4 @@
-use Rattle.std.proofs.Common.{◌∙◌, sym, ap}
-use Rattle.art_tree.specs.Dictionary.{entry_at}
-use Rattle.art_map.specs.Entries.{entry_with}
+use Rattle.art_map.proofs.Names.{◌∙◌, sym, ap, entry_at, entry_with}
 use Rattle.art_map.proofs.ListLemmas.{entries-find}
 use Rattle.art_map.proofs.map.reading.ArtMap+K+V+PREFIX_LEN.get_key_value.Goals as goal
 

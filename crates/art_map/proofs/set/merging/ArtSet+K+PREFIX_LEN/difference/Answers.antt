@@ -1,5 +1,4 @@
-use Rattle.std.proofs.Common.{◌∙◌, true, false}
-use Rattle.art_map.specs.Merges.{walk}
+use Rattle.art_map.proofs.Names.{◌∙◌, true, false, walk}
 use Rattle.art_map.proofs.MergeLemmas.{walk_is_difference}
 use Rattle.art_map.proofs.set.merging.ArtSet+K+PREFIX_LEN.difference.Goals as goal
 

@@ -1,5 +1,4 @@
-use Rattle.std.proofs.Common.{◌∙◌, true}
-use Rattle.art_map.specs.Merges.{walk}
+use Rattle.art_map.proofs.Names.{◌∙◌, true, walk}
 use Rattle.art_map.proofs.MergeLemmas.{walk_is_union}
 use Rattle.art_map.proofs.set.merging.ArtSet+K+PREFIX_LEN.union.Goals as goal
 

@@ -1,5 +1,4 @@
-use Rattle.std.proofs.Common.{◌≡◌, ◌∙◌, [], sym}
-use Rattle.art_map.specs.Merges.{walk}
+use Rattle.art_map.proofs.Names.{◌≡◌, ◌∙◌, [], sym, walk}
 use Rattle.art_map.proofs.MergeLemmas.{first_untaken}
 use Rattle.art_map.proofs.set.merging.MergedIterator.next.Goals as goal
 

@@ -1,5 +1,4 @@
-use Rattle.std.proofs.Common.{◌≡◌, ◌+◌, length}
-use Rattle.art_map.specs.Merges.{walk}
+use Rattle.art_map.proofs.Names.{◌≡◌, ◌+◌, length, walk}
 use Rattle.art_map.proofs.set.merging.MergedIterator.next.Given as goal
 
 -- what is left is taken as all that was there

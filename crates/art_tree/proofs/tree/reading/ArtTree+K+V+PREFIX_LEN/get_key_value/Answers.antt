@@ -1,30 +1,23 @@
-use Rattle.std.proofs.Common.{◌∙◌, ap, sym, subst, []}
-use Rattle.art_arena.specs.Standing.{IsTreeIn}
-use Rattle.art_tree.specs.Art.{IsArt}
-use Rattle.art_tree.specs.Dictionary.{entry_at}
-use Rattle.art_tree.proofs.SharedLemmas.DictionaryLemmas.{empty-entry, no-entry, scanned-pair, nothing-mapped}
+use Rattle.art_tree.proofs.Names.{◌∙◌, ap, sym, subst, slab_key, HoldsLeaf, entry_at, IsFound, leaf-pointer-fits, spot-fits}
+use Rattle.art_tree.proofs.SharedLemmas.DictionaryLemmas.{nothing-mapped}
+use Rattle.art_tree.proofs.RemoveLemmas.FoundLeaves.{entry-read, found-held, held-there}
 use Rattle.art_tree.proofs.tree.reading.ArtTree+K+V+PREFIX_LEN.get_key_value.Goals as goal
 
-pub returns-in_err-root : goal.returns-in_err-root
-returns-in_err-root g c =
-    let text = g.K.AsBytes.text in
-    let nothing = subst (IsArt text c.self.inside.arena) c.in_err-root.was c.self.invariant.0 in
-    nothing-mapped _ c.from_residual.result _ c.from_residual.ensures
-    (ap (λ seen. entry_at text seen.arena c.args.key.now) (sym c.self.view_is) ∙ empty-entry text c.self.inside.arena nothing c.args.key.now)
-
 pub returns-in_err-leaf : goal.returns-in_err-leaf
-returns-in_err-leaf g c =
+returns-in_err-leaf g c = nothing-mapped _ c.from_residual.result _ c.from_residual.ensures (subst (IsFound g.K.AsBytes.text c.args.self.now c.args.key.now) c.in_err-leaf.was c.find.ensures)
+
+pub as_key_value_ref-requires : goal.as_key_value_ref-requires
+as_key_value_ref-requires g c =
     let text = g.K.AsBytes.text in
-    let alone = subst (IsArt text c.self.inside.arena) c.in_ok-root.was c.self.invariant.0 in
-    let read = subst (λ arena. IsTreeIn text arena c.in_ok-root.root alone.0) (sym c.with_budget-reader.ensures.arena) alone.1.is_tree in
-    nothing-mapped _ c.from_residual-in_err-leaf.result _ c.from_residual-in_err-leaf.ensures
-    (ap (λ seen. entry_at text seen.arena c.args.key.now) (sym c.self.view_is) ∙ no-entry text c.self.inside.arena c.in_ok-root.root alone.0 alone.1 c.args.key.now (c.in_err-leaf.ensures.answer alone.0 read))
+    let found = subst (λ seen. IsFound text seen c.args.key.now c.find.result) (sym c.self.view_is) c.find.ensures in
+    let at = subst (IsFound text (record { arena = c.self.inside.arena; root = c.self.inside.root }) c.args.key.now) c.in_ok-leaf.was found in
+    let is_held : HoldsLeaf c.self.inside.arena (slab_key c.in_ok-leaf.leaf) = held-there (found-held at.reaches) in
+    assumption (leaf-pointer-fits, spot-fits)
 
 pub returns : goal.returns
 returns g c =
     let text = g.K.AsBytes.text in
-    let alone = subst (IsArt text c.self.inside.arena) c.in_ok-root.was c.self.invariant.0 in
-    let read = subst (λ arena. IsTreeIn text arena c.in_ok-root.root alone.0) (sym c.with_budget-reader.ensures.arena) alone.1.is_tree in
-    let got =
-    scanned-pair text c.self.inside.arena c.in_ok-root.root alone.0 alone.1 (c.no_text_begins_another.ensures [] alone.0 alone.1.is_tree.sound) c.args.key.now c.in_ok-leaf.leaf (c.in_ok-leaf.ensures.answer alone.0 read) c.as_key_value_ref.result.0.now c.as_key_value_ref.result.1.now c.as_key_value_ref.ensures.key c.as_key_value_ref.ensures.value in
-    sym got ∙ ap (λ seen. entry_at text seen.arena c.args.key.now) c.self.view_is
+    let found = subst (λ seen. IsFound text seen c.args.key.now c.find.result) (sym c.self.view_is) c.find.ensures in
+    let at = subst (IsFound text (record { arena = c.self.inside.arena; root = c.self.inside.root }) c.args.key.now) c.in_ok-leaf.was found in
+    let read = c.as_key_value_ref.ensures in
+    sym (entry-read (found-held at.reaches) c.as_key_value_ref.result.0.now c.as_key_value_ref.result.1.now read.key read.value) ∙ ap (λ seen. entry_at text seen.arena c.args.key.now) c.self.view_is

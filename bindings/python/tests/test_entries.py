@@ -1,0 +1,272 @@
+"""What holds the entries: references, cycles, code that runs in the middle of a call, threads, refused memory."""
+
+import gc
+import random
+import sys
+import threading
+import unittest
+import weakref
+
+from verified_art import SortedMap
+
+try:
+    from _testcapi import remove_mem_hooks, set_nomemory
+except ImportError:
+    set_nomemory = None
+
+
+# By ctypes a call is several steps, which threads, the collector and refused objects may part.
+IS_COMPILED = SortedMap.__base__.__module__ == "verified_art._in_c"
+
+
+class Value:
+    """What a weak reference can be made of."""
+
+
+class OnEnd:
+    """Runs a call where it is dropped."""
+
+    def __init__(self, call):
+        self.call = call
+
+    def __del__(self):
+        self.call()
+
+
+class Whole(unittest.TestCase):
+    def assert_whole(self, made, due):
+        """The map has exactly these entries, by each of its calls."""
+        keys = sorted(due)
+        self.assertEqual((len(made), list(made), list(reversed(made))), (len(due), keys, keys[::-1]))
+        self.assertEqual(list(made.items()), [(key, due[key]) for key in keys])
+        for at in range(0, len(keys), 1 + len(keys) // 10):
+            self.assertEqual((made[keys[at]], made.bisect_left(keys[at]), made.keys()[at]), (due[keys[at]], at, keys[at]))
+
+
+class Many(Whole):
+    def test_many_entries_come_and_go(self):
+        choose = random.Random(9)
+        shuffled = choose.sample(range(1500), 1500)
+        orders = (range(1500), range(1499, -1, -1), shuffled)
+        for added in orders:
+            for removed in orders:
+                made = SortedMap((key, -key) for key in added)
+                self.assert_whole(made, {key: -key for key in range(1500)})
+                for at, key in enumerate(removed):
+                    del made[key]
+                    if at in (500, 1300, 1490):
+                        self.assert_whole(made, {left: -left for left in removed[at + 1 :]})
+                self.assert_whole(made, {})
+
+    def test_entries_come_where_others_went(self):
+        choose = random.Random(10)
+        made, due = SortedMap(), {}
+        for turn in range(20):
+            for _ in range(400):
+                key = choose.randrange(10_000)
+                made[key] = due[key] = turn
+            for key in choose.sample(sorted(due), len(due) * (turn % 4) // 4):
+                self.assertEqual(made.pop(key), due.pop(key))
+            self.assert_whole(made, due)
+            start, stop = sorted(choose.sample(range(10_000), 2))
+            self.assertEqual(list(made.irange(start, stop)), [key for key in sorted(due) if start <= key <= stop])
+
+
+class References(Whole):
+    def test_no_reference_is_kept_or_lost(self):
+        key, value, default = "".join(["a", "key"]), Value(), Value()
+        held = [sys.getrefcount(it) for it in (key, value, default)]
+        made = SortedMap()
+        for _ in range(50):
+            made[key] = value
+            made[key] = value
+            made.get(key), made.get("other", default), made.get(key, default=default)
+            list(made), list(made.values()), list(made.items()), list(made.irange(key, key)), list(made.prefix("a"))
+            next(iter(made.items())), next(reversed(made)), made.peekitem(), made.keys()[0], key in made
+            made.index(key), made.bisect(key), made.count_prefix("a"), list(made.islice(0, 1)), repr(made.keys())
+            made.copy().popitem()
+            self.assertRaises(TypeError, made.__setitem__, b"key", value)
+            self.assertRaises(TypeError, made.pop, 5, default)
+            made.pop(key), made.pop(key, default)
+            made[key] = value
+            del made[key]
+            made[key] = value
+            made.clear()
+        self.assertEqual([sys.getrefcount(it) for it in (key, value, default)], held)
+
+    def test_errors_keep_no_reference(self):
+        made, value = SortedMap(), Value()
+        held = sys.getrefcount(value)
+        for _ in range(50):
+            self.assertRaises(OverflowError, made.__setitem__, 2**70, value)
+            self.assertRaises(TypeError, made.__setitem__, 1.5, value)
+            self.assertRaises(TypeError, made.get)
+            self.assertRaises(TypeError, made.get, 1, value, value)
+            self.assertRaises(TypeError, made.pop)
+            self.assertRaises(TypeError, made.pop, 1, value, value)
+            self.assertRaises(TypeError, made.prefix, 1)
+        self.assertEqual((sys.getrefcount(value), made), (held, {}))
+        made[b"a"] = 1
+        self.assertEqual(made, {b"a": 1})
+
+    def test_a_cycle_is_collected(self):
+        made, value = SortedMap(), Value()
+        made["self"], made["value"] = made, value
+        made["walk"] = iter(made.items())
+        seen = weakref.ref(made), weakref.ref(value)
+        del made, value
+        gc.collect()
+        self.assertEqual([it() for it in seen], [None, None])
+
+    def test_a_long_chain_of_maps_is_dropped(self):
+        made = SortedMap()
+        for _ in range(100_000):
+            made = SortedMap(inner=made)
+        del made
+
+    def test_a_walk_keeps_its_map(self):
+        walk = iter(SortedMap.fromkeys(range(100), 1).items())
+        gc.collect()
+        self.assertEqual(list(walk), [(key, 1) for key in range(100)])
+        self.assertEqual(list(walk), [])
+
+
+class CodeInTheMiddle(Whole):
+    def test_a_value_that_changes_the_map_when_it_is_dropped(self):
+        ends = (
+            lambda made: made.__setitem__("k", 1),
+            lambda made: made.__delitem__("k"),
+            lambda made: made.pop("k") and None,
+            lambda made: made.clear(),
+            lambda made: made.popitem() and None,
+            lambda made: made.update({"k": 2, "l": 3}),
+        )
+        changes = (
+            lambda made: made.__setitem__("new", 1),
+            lambda made: made.clear(),
+            lambda made: made.update((str(number), number) for number in range(100)),
+            lambda made: (made.clear(), made.__setitem__(5, 6)),
+            lambda made: [made.pop(key) for key in list(made)],
+        )
+        for end in ends:
+            for change in changes:
+                made = SortedMap(a=0)
+                made["k"] = OnEnd(lambda made=made, change=change: change(made))
+                try:
+                    end(made)
+                except TypeError:
+                    self.assertIs(type(next(iter(made))), int)
+                self.assert_whole(made, dict(made.items()))
+
+    @unittest.skipUnless(IS_COMPILED, "the module is not compiled")
+    def test_a_collector_that_changes_the_map(self):
+        self.addCleanup(gc.set_threshold, *gc.get_threshold())
+        choose = random.Random(6)
+        made = SortedMap()
+
+        def change():
+            made.pop(choose.randrange(50), None)
+            made[choose.randrange(50)] = 1
+
+        def leave_garbage():
+            cycle = [OnEnd(change)]
+            cycle.append(cycle)
+
+        for number in range(3000):
+            gc.set_threshold(1 + number % 5)
+            leave_garbage()
+            made[number % 50] = 2
+            try:
+                for call in (made.items(), made.irange(10, 40), reversed(made)):
+                    for _ in call:
+                        pass
+                made.popitem(), made.pop(number % 50, None), made.copy(), made.bisect(3)
+            except (RuntimeError, KeyError, StopIteration):
+                pass
+        gc.set_threshold(0)
+        self.assert_whole(made, dict(made.items()))
+
+    def test_an_update_that_stops_keeps_what_it_did(self):
+        def pairs():
+            yield "b", 1
+            yield "a", 2
+            raise ZeroDivisionError
+
+        made = SortedMap(c=3)
+        self.assertRaises(ZeroDivisionError, made.update, pairs())
+        self.assert_whole(made, {"a": 2, "b": 1, "c": 3})
+        self.assertRaises(TypeError, made.update, {"d": 4, 5: 5})
+        self.assert_whole(made, {"a": 2, "b": 1, "c": 3, "d": 4})
+
+
+@unittest.skipUnless(IS_COMPILED, "the module is not compiled")
+class Threads(Whole):
+    def test_threads_leave_the_map_whole(self):
+        self.addCleanup(sys.setswitchinterval, sys.getswitchinterval())
+        sys.setswitchinterval(1e-6)
+        made, dues, faults = SortedMap(), [{} for _ in range(4)], []
+
+        def change(mine, due):
+            choose = random.Random(mine)
+            try:
+                for number in range(3000):
+                    key = 4 * choose.randrange(200) + mine
+                    if choose.random() < 0.6:
+                        made[key] = due[key] = number
+                    elif made.pop(key, None) != due.pop(key, None):
+                        raise AssertionError(key)
+                    made.get(choose.randrange(800))
+                    try:
+                        for _ in made.irange(key):
+                            break
+                    except RuntimeError:
+                        pass
+            except BaseException as fault:
+                faults.append(fault)
+
+        threads = [threading.Thread(target=change, args=(mine, due)) for mine, due in enumerate(dues)]
+        for thread in threads:
+            thread.start()
+        for thread in threads:
+            thread.join()
+        self.assertEqual(faults, [])
+        self.assert_whole(made, {key: value for due in dues for key, value in due.items()})
+
+
+@unittest.skipUnless(IS_COMPILED and set_nomemory, "the module is not compiled, or Python's module for tests of its interface is absent")
+class RefusedMemory(Whole):
+    def refused_in_turn(self, call):
+        """Runs a call with its first allocation refused, with its second, and so on, up to a run that meets no refusal."""
+        for at in range(200):
+            set_nomemory(at, at + 1)
+            try:
+                call()
+                done = True
+            except MemoryError:
+                done = False
+            finally:
+                remove_mem_hooks()
+            yield
+            if done and at > 50:
+                return
+
+    def test_refused_objects_change_nothing(self):
+        class Bytes(bytes):
+            pass
+
+        for keys in (["tin", "gold", "ä", "\ud800"], [Bytes(b"tin"), b"gold"], [-1, 2**40, True]):
+            for key in keys:
+                due = {it: 1 for it in keys if it != key}
+                made = SortedMap(due)
+                for _ in self.refused_in_turn(lambda made=made, key=key: made.__setitem__(key, 1)):
+                    self.assertIn(len(made), (len(due), len(due) + 1))
+                    if key in made:
+                        del made[key]
+                    self.assert_whole(made, due)
+                for call in (made.items, made.copy, lambda made=made: list(made.items()), lambda made=made: list(made.irange())):
+                    for _ in self.refused_in_turn(call):
+                        self.assert_whole(made, due)
+
+
+if __name__ == "__main__":
+    unittest.main()

@@ -1,0 +1,248 @@
+"""A sorted mapping of bytes, str or int to any objects, over a library whose functions are formally verified.
+
+The entries are held in C where that was compiled, as it is in the wheel, else by ctypes: the one does what the other
+does, faster. Where VERIFIED_ART_DIR names the folder of a library, that one is called, by ctypes."""
+
+import os
+from collections.abc import ItemsView, KeysView, Mapping, MutableMapping, Sequence, ValuesView
+from operator import index as index_of
+from reprlib import recursive_repr
+
+__all__ = ["SortedMap"]
+
+
+def _core():
+    """The type that has the entries."""
+    if "VERIFIED_ART_DIR" not in os.environ:
+        try:
+            from ._in_c import Core
+
+            return Core
+        except ImportError:
+            pass
+    from ._by_ctypes import Core
+
+    return Core
+
+
+# What a walk gives of each entry.
+_KEYS, _VALUES, _ITEMS = range(3)
+
+
+# ---- views
+
+
+class _Ordered(Sequence):
+    """A view as a sequence, in the order of the keys. An index takes time linear in its distance from the nearer end."""
+
+    __slots__ = ()
+
+    def __getitem__(self, index):
+        """What stands at an index, or a list of what a slice has."""
+        if not isinstance(index, slice):
+            return self._mapping._at(self._given, index)
+        wanted = range(len(self))[index]
+        if not wanted:
+            return []
+        low, high = sorted((wanted[0], wanted[-1]))
+        return list(self._mapping._slice(self._given, low, high + 1, wanted.step < 0))[:: abs(wanted.step)]
+
+    def __delitem__(self, index):
+        """Removes the entry at an index, or those of a slice."""
+        keys = self._mapping.keys()[index]
+        for key in keys if isinstance(index, slice) else [keys]:
+            del self._mapping[key]
+
+    def __iter__(self):
+        return self._mapping._slice(self._given, 0, len(self), False)
+
+    def __reversed__(self):
+        return self._mapping._slice(self._given, 0, len(self), True)
+
+    def index(self, value, start=None, stop=None):
+        """The first index of a value between two, else ValueError. Takes time linear in the number of entries."""
+        low, high, _ = slice(start, stop).indices(len(self))
+        for at, other in enumerate(self._mapping._slice(self._given, low, high, False), low):
+            if other is value or other == value:
+                return at
+        raise ValueError(f"{value!r} is not in the view")
+
+
+class _Keys(_Ordered, KeysView):
+    __slots__ = ()
+    _given = _KEYS
+
+    def __contains__(self, key):
+        return key in self._mapping
+
+    def __iter__(self):
+        return iter(self._mapping)
+
+    def __reversed__(self):
+        return reversed(self._mapping)
+
+    def index(self, value, start=None, stop=None):
+        """The index of a key, as of the map."""
+        return self._mapping.index(value, start, stop)
+
+    def count(self, value):
+        """1 for a key of the map, else 0."""
+        return int(value in self._mapping)
+
+
+class _Items(_Ordered, ItemsView):
+    __slots__ = ()
+    _given = _ITEMS
+
+    __contains__ = ItemsView.__contains__
+
+    def count(self, value):
+        """1 for a key and value of the map, else 0."""
+        return int(value in self)
+
+
+class _Values(_Ordered, ValuesView):
+    __slots__ = ()
+    _given = _VALUES
+
+    __contains__ = ValuesView.__contains__
+
+
+# ---- the mapping
+
+
+def _pairs_in_order(entries):
+    """The pairs of a dict, in the order of its keys where these are of one type: so they are added faster."""
+    kinds = set(map(type, entries))
+    if len(kinds) == 1 and kinds <= {bytes, str, int}:
+        return [(key, entries[key]) for key in sorted(entries)]
+    return entries.items()
+
+
+class SortedMap(_core(), MutableMapping):
+    """SortedMap(), SortedMap(mapping), SortedMap(pairs), SortedMap(name=value, ..): a dict in the order of its keys.
+
+    All keys are bytes, all str, or all int of 64 bits with a sign: the first key decides, until the map is cleared.
+    Another type is a TypeError, also in a look-up; to set an int beyond 64 bits is an OverflowError, and to look for one
+    finds nothing. Where an entry is added or removed during an iteration, its next step is a RuntimeError, as of dict.
+    A look-up takes time linear in the bytes of the key, whatever the number of entries.
+
+    Calls that take or return an index count entries: they take time linear in the distance from the nearer end."""
+
+    __slots__ = ("__weakref__",)
+
+    def __init__(self, other=(), /, **named):
+        self.update(other, **named)
+
+    def update(self, other=(), /, **named):
+        """Sets the entries of a mapping or of pairs, then the named ones. Those of a dict are set in the order of its keys."""
+        if isinstance(other, SortedMap):
+            other = other.items()
+        elif type(other) is dict:
+            other = _pairs_in_order(other)
+        super().update(other, **named)
+
+    def irange(self, minimum=None, maximum=None, inclusive=(True, True), reverse=False):
+        """The keys between two keys, in their order or the reverse; None is no bound."""
+        return self._range(_KEYS, minimum, maximum, inclusive[0], inclusive[1], reverse)
+
+    def prefix(self, prefix, reverse=False):
+        """The keys that begin with a prefix, of bytes or str."""
+        return self._prefixed(_KEYS, prefix, reverse)
+
+    def islice(self, start=None, stop=None, reverse=False):
+        """The keys from one index up to before another, in their order or the reverse; None is no bound. Takes time
+        linear in the distance of the first one from the nearer end."""
+        low, high, _ = slice(start, stop).indices(len(self))
+        return self._slice(_KEYS, low, high, reverse)
+
+    def bisect_left(self, key):
+        """The index of the first key at or after this one. Takes time linear in its distance from the nearer end."""
+        return self._rank(key, False)
+
+    def bisect_right(self, key):
+        """The index of the first key after this one. Takes time linear in its distance from the nearer end."""
+        return self._rank(key, True)
+
+    bisect = bisect_right
+
+    def index(self, key, start=None, stop=None):
+        """The index of a key, which is between two where they are given, else ValueError. Takes time linear in its
+        distance from the nearer end."""
+        if key in self:
+            at, (low, high, _) = self._rank(key, False), slice(start, stop).indices(len(self))
+            if low <= at < high:
+                return at
+        raise ValueError(f"{key!r} is not in the map")
+
+    def _at(self, given, index):
+        """What a walk gives of the entry at an index."""
+        count = len(self)
+        at = index_of(index)
+        at = at + count if at < 0 else at
+        if not 0 <= at < count:
+            raise IndexError("SortedMap index out of range")
+        return next(self._slice(given, at, at + 1, at >= count // 2))
+
+    def peekitem(self, index=-1):
+        """The key and value at an index. Takes time linear in its distance from the nearer end."""
+        return self._at(_ITEMS, index)
+
+    def popitem(self, index=-1, *, last=True):
+        """Removes the entry at an index, or with `last=False` the first one, and returns its key and value. Takes time
+        linear in its distance from the nearer end."""
+        if not self:
+            raise KeyError("popitem(): the map is empty")
+        key = self._at(_KEYS, index if last else 0)
+        return key, self.pop(key)
+
+    def keys(self):
+        """The keys: a set, and a sequence in their order."""
+        return _Keys(self)
+
+    def items(self):
+        """The pairs of keys and values: a set, and a sequence in the order of the keys."""
+        return _Items(self)
+
+    def values(self):
+        """The values: a sequence in the order of the keys."""
+        return _Values(self)
+
+    def copy(self):
+        made = type(self)()
+        made.update(self)
+        return made
+
+    @classmethod
+    def fromkeys(cls, keys, value=None):
+        """A map from each of these keys to one value."""
+        made = cls()
+        for key in keys:
+            made[key] = value
+        return made
+
+    def __or__(self, other):
+        if not isinstance(other, Mapping):
+            return NotImplemented
+        made = self.copy()
+        made.update(other)
+        return made
+
+    def __ror__(self, other):
+        if not isinstance(other, Mapping):
+            return NotImplemented
+        made = type(self)(other)
+        made.update(self)
+        return made
+
+    def __ior__(self, other):
+        self.update(other)
+        return self
+
+    def __reduce__(self):
+        return type(self), (), getattr(self, "__dict__", None) or None, None, iter(self.items())
+
+    @recursive_repr("SortedMap({...})")
+    def __repr__(self):
+        entries = ", ".join(f"{key!r}: {value!r}" for key, value in self.items())
+        return f"{type(self).__name__}({{{entries}}})"

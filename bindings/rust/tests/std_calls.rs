@@ -1,0 +1,493 @@
+//! The calls that `BTreeMap` has too, each beside it.
+mod common;
+
+use common::Random;
+use std::collections::hash_map::DefaultHasher;
+use std::collections::BTreeMap;
+use std::fmt::Debug;
+use std::hash::{Hash, Hasher};
+use std::iter::FusedIterator;
+use verified_art::entry::{Entry, WordEntry};
+use verified_art::iter::{
+    IntoIter, IntoKeys, IntoValues, Iter, Keys, MapIntoIter, MapIntoKeys, MapIntoValues, MapIter, MapIterMut, MapRange,
+    MapRangeMut, MapValues, MapValuesMut, Range, Values,
+};
+use verified_art::{AsKey, ByteMap, Key, Map, NumberMap, WordMap};
+
+/// How many maps each test makes.
+const TURNS: u64 = 200;
+
+/// What a test is run on: both kinds of keys.
+trait AnyKey: Key + AsKey<Self> + Debug {
+    fn any(random: &mut Random) -> Self;
+}
+
+impl AnyKey for Vec<u8> {
+    fn any(random: &mut Random) -> Self {
+        random.bytes()
+    }
+}
+
+impl AnyKey for u64 {
+    fn any(random: &mut Random) -> Self {
+        random.number() % 1000
+    }
+}
+
+/// A map of up to 100 entries, and the same one of std.
+fn words<K: AnyKey>(random: &mut Random) -> (WordMap<K>, BTreeMap<K, u64>) {
+    let entries: Vec<_> = (0..random.below(100)).map(|_| (K::any(random), random.below(20))).collect();
+    (entries.iter().cloned().collect(), entries.into_iter().collect())
+}
+
+fn boxed<K: AnyKey>(random: &mut Random) -> (Map<String, K>, BTreeMap<K, String>) {
+    let entries: Vec<_> = (0..random.below(100)).map(|_| (K::any(random), random.below(20).to_string())).collect();
+    (entries.iter().cloned().collect(), entries.into_iter().collect())
+}
+
+fn same_words<K: AnyKey>(ours: &WordMap<K>, theirs: &BTreeMap<K, u64>) {
+    assert_eq!(ours.len(), theirs.len());
+    assert!(ours.iter().eq(theirs.iter().map(|(key, value)| (key.clone(), *value))));
+    assert!(ours.iter().rev().eq(theirs.iter().rev().map(|(key, value)| (key.clone(), *value))));
+}
+
+fn same_boxed<K: AnyKey>(ours: &Map<String, K>, theirs: &BTreeMap<K, String>) {
+    assert_eq!(ours.len(), theirs.len());
+    assert!(ours.iter().eq(theirs.iter().map(|(key, value)| (key.clone(), value))));
+    assert!(ours.iter().rev().eq(theirs.iter().rev().map(|(key, value)| (key.clone(), value))));
+}
+
+fn entries_of_words<K: AnyKey>() {
+    let mut random = Random(1);
+    for _ in 0..TURNS {
+        let (mut ours, mut theirs) = words::<K>(&mut random);
+        for _ in 0..50 {
+            let (key, value) = (K::any(&mut random), random.below(20));
+            match random.below(5) {
+                0 => assert_eq!(ours.entry(key.clone()).or_insert(value), *theirs.entry(key).or_insert(value)),
+                1 => {
+                    let found = ours.entry(key.clone()).and_modify(|it| *it += 1).or_insert_with(|| value);
+                    assert_eq!(found, *theirs.entry(key).and_modify(|it| *it += 1).or_insert(value));
+                }
+                2 => {
+                    let before = theirs.insert(key.clone(), value);
+                    match ours.entry(key.clone()) {
+                        WordEntry::Occupied(mut entry) => {
+                            assert_eq!((entry.key(), Some(entry.get())), (&key, before));
+                            assert_eq!((Some(entry.insert(value)), entry.get()), (before, value));
+                        }
+                        WordEntry::Vacant(entry) => {
+                            assert_eq!((entry.key(), before), (&key, None));
+                            assert_eq!(entry.insert(value), value);
+                        }
+                    }
+                }
+                3 => match ours.entry(key.clone()) {
+                    WordEntry::Occupied(entry) => assert_eq!(Some(entry.remove_entry()), theirs.remove_entry(&key)),
+                    WordEntry::Vacant(entry) => {
+                        assert_eq!((entry.into_key(), theirs.remove(&key)), (key, None));
+                    }
+                },
+                _ if random.coin() => {
+                    let found = ours.first_entry().map(|entry| entry.remove_entry());
+                    assert_eq!(found, theirs.first_entry().map(|entry| entry.remove_entry()));
+                }
+                _ => {
+                    let found = ours.last_entry().map(|entry| (entry.key().clone(), entry.remove()));
+                    assert_eq!(found, theirs.last_entry().map(|entry| (entry.key().clone(), entry.remove())));
+                }
+            }
+        }
+        same_words(&ours, &theirs);
+    }
+}
+
+fn entries_of_boxed<K: AnyKey>() {
+    let mut random = Random(2);
+    for _ in 0..TURNS {
+        let (mut ours, mut theirs) = boxed::<K>(&mut random);
+        for _ in 0..50 {
+            let (key, value) = (K::any(&mut random), random.below(20).to_string());
+            match random.below(6) {
+                0 => assert_eq!(ours.entry(key.clone()).or_insert(value.clone()), theirs.entry(key).or_insert(value)),
+                1 => {
+                    let found = ours.entry(key.clone()).and_modify(|it| it.push('!')).or_default();
+                    assert_eq!(found, theirs.entry(key).and_modify(|it| it.push('!')).or_default());
+                }
+                2 => {
+                    let found = ours.entry(key.clone()).or_insert_with_key(|key| format!("{key:?}"));
+                    found.push('?');
+                    let due = theirs.entry(key).or_insert_with_key(|key| format!("{key:?}"));
+                    due.push('?');
+                    assert_eq!(found, due);
+                }
+                3 => {
+                    let before = theirs.insert(key.clone(), value.clone());
+                    match ours.entry(key.clone()) {
+                        Entry::Occupied(mut entry) => {
+                            assert_eq!((entry.key(), Some(entry.get())), (&key, before.as_ref()));
+                            assert_eq!(Some(entry.insert(value.clone())), before);
+                            assert_eq!(*entry.into_mut(), value);
+                        }
+                        Entry::Vacant(entry) => {
+                            assert_eq!((entry.key(), before), (&key, None));
+                            assert_eq!(*entry.insert(value.clone()), value);
+                        }
+                    }
+                }
+                4 => match ours.entry(key.clone()) {
+                    Entry::Occupied(entry) => assert_eq!(Some(entry.remove_entry()), theirs.remove_entry(&key)),
+                    Entry::Vacant(entry) => assert_eq!((entry.into_key(), theirs.remove(&key)), (key, None)),
+                },
+                _ if random.coin() => {
+                    let found = ours.first_entry().map(|entry| entry.remove());
+                    assert_eq!(found, theirs.first_entry().map(|entry| entry.remove()));
+                }
+                _ => {
+                    let found = ours.last_entry().map(|mut entry| entry.insert(value.clone()));
+                    assert_eq!(found, theirs.last_entry().map(|mut entry| entry.insert(value)));
+                }
+            }
+        }
+        same_boxed(&ours, &theirs);
+    }
+}
+
+#[test]
+fn entries() {
+    entries_of_words::<u64>();
+    entries_of_words::<Vec<u8>>();
+    entries_of_boxed::<u64>();
+    entries_of_boxed::<Vec<u8>>();
+}
+
+fn keys_with_their_values<K: AnyKey>() {
+    let mut random = Random(3);
+    let (mut ours, mut theirs) = words::<K>(&mut random);
+    let (mut our_texts, mut their_texts) = boxed::<K>(&mut random);
+    for _ in 0..300 {
+        let key = K::any(&mut random);
+        assert_eq!(
+            ours.get_key_value(key.clone()),
+            theirs.get_key_value(&key).map(|(key, value)| (key.clone(), *value))
+        );
+        let found = our_texts.get_key_value(key.clone());
+        assert_eq!(found, their_texts.get_key_value(&key).map(|(key, value)| (key.clone(), value)));
+        assert_eq!(ours.remove_entry(key.clone()), theirs.remove_entry(&key));
+        assert_eq!(our_texts.remove_entry(key.clone()), their_texts.remove_entry(&key));
+    }
+    same_words(&ours, &theirs);
+    same_boxed(&our_texts, &their_texts);
+}
+
+#[test]
+fn get_key_value_and_remove_entry() {
+    keys_with_their_values::<u64>();
+    keys_with_their_values::<Vec<u8>>();
+}
+
+fn appended_and_split<K: AnyKey>() {
+    let mut random = Random(4);
+    for _ in 0..TURNS {
+        let ((mut ours, mut theirs), (mut our_other, mut their_other)) = (words::<K>(&mut random), words(&mut random));
+        ours.append(&mut our_other);
+        theirs.append(&mut their_other);
+        same_words(&ours, &theirs);
+        assert!(our_other.is_empty());
+        let key = K::any(&mut random);
+        same_words(&ours.split_off(key.clone()), &theirs.split_off(&key));
+        same_words(&ours, &theirs);
+
+        let ((mut ours, mut theirs), (mut our_other, mut their_other)) = (boxed::<K>(&mut random), boxed(&mut random));
+        ours.append(&mut our_other);
+        theirs.append(&mut their_other);
+        same_boxed(&ours, &theirs);
+        assert!(our_other.is_empty());
+        let key = K::any(&mut random);
+        same_boxed(&ours.split_off(key.clone()), &theirs.split_off(&key));
+        same_boxed(&ours, &theirs);
+    }
+}
+
+#[test]
+fn append_and_split_off() {
+    appended_and_split::<u64>();
+    appended_and_split::<Vec<u8>>();
+}
+
+fn kept<K: AnyKey>() {
+    let mut random = Random(5);
+    for _ in 0..TURNS {
+        let (mut ours, mut theirs) = words::<K>(&mut random);
+        let odd = |_: &K, value: &mut u64| {
+            *value += 1;
+            *value % 3 != 0
+        };
+        ours.retain(odd);
+        theirs.retain(odd);
+        same_words(&ours, &theirs);
+        let (mut ours, mut theirs) = boxed::<K>(&mut random);
+        let short = |_: &K, value: &mut String| {
+            value.push('0');
+            value.len() < 3
+        };
+        ours.retain(short);
+        theirs.retain(short);
+        same_boxed(&ours, &theirs);
+    }
+}
+
+#[test]
+fn retain() {
+    kept::<u64>();
+    kept::<Vec<u8>>();
+}
+
+/// `extract_if` of std is younger than the Rust that this crate needs: what it takes out is told by hand.
+fn extracted<K: AnyKey>() {
+    let mut random = Random(6);
+    for _ in 0..TURNS {
+        let (start, most) = (K::any(&mut random), random.below(10) as usize);
+        let (mut ours, mut theirs) = words::<K>(&mut random);
+        let found: Vec<_> = ours.extract_if(start.clone().., |_, value| *value % 2 == 0).take(most).collect();
+        let due: Vec<_> = theirs.range(&start..).filter(|(_, value)| *value % 2 == 0).take(most).collect();
+        let due: Vec<_> = due.into_iter().map(|(key, value)| (key.clone(), *value)).collect();
+        due.iter().for_each(|(key, _)| assert!(theirs.remove(key).is_some()));
+        assert_eq!(found, due);
+        same_words(&ours, &theirs);
+        let (mut ours, mut theirs) = boxed::<K>(&mut random);
+        let found: Vec<_> = ours.extract_if(.., |_, value| value.len() == 1).take(most).collect();
+        let due: Vec<_> = theirs.iter().filter(|(_, value)| value.len() == 1).take(most).collect();
+        let due: Vec<_> = due.into_iter().map(|(key, value)| (key.clone(), value.clone())).collect();
+        due.iter().for_each(|(key, _)| assert!(theirs.remove(key).is_some()));
+        assert_eq!(found, due);
+        same_boxed(&ours, &theirs);
+    }
+}
+
+#[test]
+fn extract_if() {
+    extracted::<u64>();
+    extracted::<Vec<u8>>();
+    let mut map: NumberMap = (0..200u64).map(|key| (key, key)).collect();
+    assert_eq!(map.extract_if(10..20, |_, _| true).count(), 10);
+    map.extract_if(.., |_, value| {
+        *value *= 2;
+        false
+    })
+    .for_each(drop);
+    assert_eq!((map.len(), map.get(5), map.get(15), map.get(199)), (190, Some(10), None, Some(398)));
+}
+
+fn hash_of(value: impl Hash) -> u64 {
+    let mut hasher = DefaultHasher::new();
+    value.hash(&mut hasher);
+    hasher.finish()
+}
+
+#[test]
+fn order_and_hash() {
+    let mut random = Random(7);
+    for _ in 0..2000 {
+        let small = |random: &mut Random| -> Vec<(u64, u64)> {
+            (0..random.below(4)).map(|_| (random.below(3), random.below(3))).collect()
+        };
+        let (one, other) = (small(&mut random), small(&mut random));
+        let theirs: [BTreeMap<u64, u64>; 2] = [one.iter().copied().collect(), other.iter().copied().collect()];
+        let ours: [NumberMap; 2] = [one.iter().copied().collect(), other.iter().copied().collect()];
+        assert_eq!(ours[0].cmp(&ours[1]), theirs[0].cmp(&theirs[1]));
+        assert_eq!((ours[0] == ours[1], ours[0] < ours[1]), (theirs[0] == theirs[1], theirs[0] < theirs[1]));
+        assert_eq!(hash_of(&ours[0]), hash_of(&theirs[0]));
+        let ours: [Map<u64, u64>; 2] = [one.into_iter().collect(), other.into_iter().collect()];
+        assert_eq!(ours[0].cmp(&ours[1]), theirs[0].cmp(&theirs[1]));
+        assert_eq!(ours[0].partial_cmp(&ours[1]), theirs[0].partial_cmp(&theirs[1]));
+        assert_eq!(hash_of(&ours[0]), hash_of(&theirs[0]));
+    }
+    let floats = [Map::<f64>::from([("a", f64::NAN)]), Map::<f64>::from([("a", 1.0)])];
+    assert_eq!((floats[0].partial_cmp(&floats[1]), floats[0] == floats[0]), (None, false));
+}
+
+#[test]
+fn extend_by_another_map() {
+    let mut random = Random(8);
+    let ((mut ours, mut theirs), (our_other, their_other)) = (words::<Vec<u8>>(&mut random), words(&mut random));
+    ours.extend(&our_other);
+    theirs.extend(their_other);
+    same_words(&ours, &theirs);
+    let mut numbers = Map::<u64>::from([("tin", 50)]);
+    let others = Map::<u64>::from([("tin", 51), ("gold", 79)]);
+    numbers.extend(&others);
+    assert_eq!(numbers, others);
+}
+
+fn parts_of_words<K: AnyKey>() {
+    let mut random = Random(9);
+    for _ in 0..TURNS {
+        let (ours, theirs) = words::<K>(&mut random);
+        assert!(ours.keys().eq(theirs.keys().cloned()) && ours.values().eq(theirs.values().copied()));
+        assert!(ours.keys().rev().eq(theirs.keys().rev().cloned()));
+        assert!(ours.clone().into_keys().eq(theirs.clone().into_keys()));
+        assert!(ours.clone().into_keys().rev().eq(theirs.clone().into_keys().rev()));
+        assert!(ours.clone().into_values().rev().eq(theirs.clone().into_values().rev()));
+        assert_eq!(ours.range(..).count(), theirs.len());
+        let (ours, theirs) = boxed::<K>(&mut random);
+        assert!(ours.keys().eq(theirs.keys().cloned()) && ours.values().eq(theirs.values()));
+        assert!(ours.clone().into_keys().rev().eq(theirs.clone().into_keys().rev()));
+        assert!(ours.clone().into_values().eq(theirs.clone().into_values()));
+        assert!(ours.into_values().rev().eq(theirs.into_values().rev()));
+    }
+}
+
+#[test]
+fn keys_and_values() {
+    parts_of_words::<u64>();
+    parts_of_words::<Vec<u8>>();
+}
+
+/// A copy of an iterator goes on where the iterator stands, from both ends, and leaves it there.
+fn copied<I: Iterator + DoubleEndedIterator + Clone>(mut entries: I)
+where
+    I::Item: PartialEq + Debug,
+{
+    for steps in 0.. {
+        let mut copy = entries.clone();
+        assert!(copy.clone().eq(entries.clone()));
+        assert!(copy.clone().rev().eq(entries.clone().rev()));
+        let (one, other) =
+            if steps % 3 == 0 { (copy.next_back(), entries.next_back()) } else { (copy.next(), entries.next()) };
+        assert_eq!(one, other);
+        if one.is_none() {
+            break;
+        }
+    }
+}
+
+#[test]
+fn iterators_are_copied() {
+    let metals = [("gold", 79), ("iron", 26), ("tin", 50), ("titanium", 22), ("zinc", 30)];
+    let words = ByteMap::from(metals);
+    copied(words.iter());
+    copied(words.keys());
+    copied(words.values());
+    copied(words.range("h"..));
+    copied(words.prefix("ti"));
+    let boxed = Map::<u64>::from(metals);
+    copied(boxed.iter());
+    copied(boxed.keys());
+    copied(boxed.values());
+    copied(boxed.range(.."tin"));
+    copied(boxed.prefix("t"));
+}
+
+#[test]
+fn iterators_show_what_is_left() {
+    let mut words = NumberMap::from([(1u64, 10), (2, 20), (3, 30)]);
+    let theirs = BTreeMap::from([(1u64, 10), (2, 20), (3, 30)]);
+    let (mut ours, mut due) = (words.iter(), theirs.iter());
+    assert_eq!((ours.next().is_some(), due.next().is_some()), (true, true));
+    assert_eq!(format!("{ours:?}"), format!("{due:?}"));
+    assert_eq!(format!("{:?}", words.range(2..)), "[(2, 20), (3, 30)]");
+    assert_eq!(
+        format!("{:?} {:?}", words.keys(), words.values()),
+        format!("{:?} {:?}", theirs.keys(), theirs.values())
+    );
+    assert_eq!(format!("{:?}", words.clone().into_iter()), format!("{:?}", theirs.clone().into_iter()));
+    assert_eq!(format!("{:?}", words.clone().into_keys()), "[1, 2, 3]");
+    assert_eq!(format!("{:?}", words.clone().into_values()), "[10, 20, 30]");
+    assert_eq!(format!("{:?}", words.entry(1)), "Occupied(OccupiedWord { key: 1, value: 10 })");
+    assert_eq!(format!("{:?}", words.extract_if(.., |_, _| true)), "ExtractIf { .. }");
+    let mut boxed = Map::<u64>::from([("tin", 50), ("gold", 79)]);
+    assert_eq!(format!("{:?}", boxed.iter()), r#"[(b"gold", 79), (b"tin", 50)]"#);
+    assert_eq!(format!("{:?} {:?}", boxed.keys(), boxed.values()), r#"[b"gold", b"tin"] [79, 50]"#);
+    let mut entries = boxed.iter_mut();
+    entries.next();
+    assert_eq!(format!("{entries:?}"), r#"[(b"tin", 50)]"#);
+    assert_eq!(format!("{:?}", boxed.range_mut("h"..)), r#"[(b"tin", 50)]"#);
+    assert_eq!(format!("{:?}", boxed.entry("tin")), r#"Occupied(OccupiedEntry { key: b"tin", value: 50 })"#);
+    assert_eq!(format!("{:?}", boxed.entry("iron")), r#"Vacant(VacantEntry(b"iron"))"#);
+    assert_eq!(format!("{:?}", boxed.values_mut()), "[79, 50]");
+    assert_eq!(format!("{:?}", boxed.clone().into_iter()), r#"[(b"gold", 79), (b"tin", 50)]"#);
+    assert_eq!(format!("{:?} {:?}", boxed.clone().into_keys(), boxed.into_values()), r#"[b"gold", b"tin"] [79, 50]"#);
+}
+
+fn fused<T: FusedIterator + DoubleEndedIterator>() {}
+
+fn sent<T: Send>() {}
+
+fn shared<T: Sync>() {}
+
+#[test]
+fn types_of_iterators() {
+    fused::<Iter<u64>>();
+    fused::<Range<u64>>();
+    fused::<Keys<u64>>();
+    fused::<Values<u64>>();
+    fused::<MapIter<u8, u64>>();
+    fused::<MapRange<u8, u64>>();
+    fused::<MapValues<u8, u64>>();
+    fused::<MapRangeMut<u8, u64>>();
+    shared::<ByteMap>();
+    shared::<NumberMap>();
+    shared::<Map<String>>();
+    sent::<Iter<u64>>();
+    sent::<Range<Vec<u8>>>();
+    sent::<Keys<u64>>();
+    sent::<MapIter<String, u64>>();
+    sent::<MapValues<String, u64>>();
+    sent::<IntoIter<Vec<u8>>>();
+    sent::<IntoKeys<u64>>();
+    sent::<IntoValues<u64>>();
+    sent::<MapIntoIter<String, u64>>();
+    sent::<MapIntoKeys<String, Vec<u8>>>();
+    sent::<MapIntoValues<String, u64>>();
+    sent::<MapIterMut<String, u64>>();
+    sent::<MapRangeMut<String, Vec<u8>>>();
+    sent::<MapValuesMut<String, u64>>();
+}
+
+#[test]
+fn values_are_changed_on_another_thread() {
+    let mut map: Map<Vec<u64>, u64> = (0..1000u64).map(|key| (key, vec![key])).collect();
+    let entries = map.iter_mut();
+    std::thread::scope(|scope| {
+        scope.spawn(move || entries.for_each(|(key, value)| value.push(key * key)));
+    });
+    assert!(map.iter().all(|(key, value)| *value == [key, key * key]));
+}
+
+/// A key that cannot be read leaves nothing behind.
+#[test]
+fn a_key_that_panics_drops_the_value() {
+    struct Panics;
+
+    impl AsRef<[u8]> for Panics {
+        fn as_ref(&self) -> &[u8] {
+            panic!("no key")
+        }
+    }
+
+    let value = std::rc::Rc::new(());
+    let mut map = Map::<std::rc::Rc<()>>::new();
+    let copy = value.clone();
+    let call = std::panic::AssertUnwindSafe(|| map.insert(Panics, copy));
+    assert!(std::panic::catch_unwind(call).is_err());
+    assert_eq!((std::rc::Rc::strong_count(&value), map.len()), (1, 0));
+}
+
+#[test]
+fn threads_read_one_map() {
+    let metals = ByteMap::from([("tin", 50), ("gold", 79), ("titanium", 22)]);
+    let texts = Map::<String, u64>::from([(1u64, "one".to_string()), (2, "two".to_string())]);
+    std::thread::scope(|scope| {
+        for _ in 0..4 {
+            scope.spawn(|| {
+                for _ in 0..2000 {
+                    assert_eq!((metals.get("tin"), metals.len()), (Some(50), 3));
+                    assert_eq!(metals.prefix("ti").map(|(_, value)| value).collect::<Vec<_>>(), [50, 22]);
+                    assert_eq!(metals.last_key_value().map(|(_, value)| value), Some(22));
+                    assert_eq!((texts.get(2).unwrap().as_str(), texts.values().rev().count()), ("two", 2));
+                }
+            });
+        }
+    });
+}

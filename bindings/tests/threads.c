@@ -1,0 +1,107 @@
+/* Four threads look at one map of each kind at the same time, and change both in turn under a lock. Every answer is known.
+   The argument is how many times each thread does so. To be run by itself, and under a checker of races (helgrind). */
+#define _POSIX_C_SOURCE 200809L
+#include "../c/art.h"
+#include <pthread.h>
+#include <stdio.h>
+#include <stdlib.h>
+#include <string.h>
+
+enum { THREADS = 4, ENTRIES = 1000, LONG = 600 };
+
+#define CHECK(what) \
+    do { \
+        if (!(what)) { \
+            fprintf(stderr, "threads.c:%d: %s\n", __LINE__, #what); \
+            exit(1); \
+        } \
+    } while (0)
+
+static art_bytes_map words;
+static art_u64_map numbers;
+static pthread_rwlock_t lock = PTHREAD_RWLOCK_INITIALIZER;
+static unsigned long rounds = 100;
+
+/* The key of an entry: every tenth is too long for the buffer that a look has without memory. */
+static size_t key_of(unsigned n, uint8_t key[LONG]) {
+    size_t len = (size_t)sprintf((char *)key, "word %04u", n);
+    if (n % 10 == 0) {
+        memset(key + len, 'x', LONG - len);
+        len = LONG;
+    }
+    return len;
+}
+
+/* Only of entries that no thread changes. */
+static void looks(const art_bytes_map *bytes, const art_u64_map *u64, unsigned n) {
+    uint8_t key[LONG], found[LONG];
+    size_t len = key_of(n, key), found_len = 0;
+    uint64_t value = 0, number = 0, keys[8], values[8];
+    CHECK(art_bytes_get(bytes, key, len, &value) == ART_SOME && value == n);
+    CHECK(art_bytes_next(bytes, key, len, true, found, LONG, &found_len, &value) == ART_SOME);
+    CHECK(found_len == len && memcmp(found, key, len) == 0 && value == n);
+    CHECK(art_bytes_previous(bytes, key, len, true, found, LONG, &found_len, &value) == ART_SOME && value == n);
+    CHECK(art_bytes_next_with_prefix(bytes, key, 9, key, 5, true, found, LONG, &found_len, &value) == ART_SOME && value == n);
+    size_t ends[4], count = 0;
+    CHECK(art_bytes_next_many(bytes, key, 5, key, len, true, found, LONG, ends, 4, values, 4, &count, &found_len) == ART_SOME);
+    CHECK(count >= 1 && ends[0] == len && memcmp(found, key, len) == 0 && values[0] == n);
+    CHECK(art_bytes_count_prefix(bytes, key, 9) == 1);
+    CHECK(art_bytes_first(bytes, found, LONG, &found_len, &value) == ART_SOME && value == 0 && found_len == LONG);
+    CHECK(art_bytes_len(bytes) >= ENTRIES);
+    CHECK(art_u64_get(u64, n, &value) == ART_SOME && value == n);
+    CHECK(art_u64_next(u64, n, true, &number, &value) == ART_SOME && number == n);
+    CHECK(art_u64_previous(u64, n, true, &number, &value) == ART_SOME && number == n);
+    CHECK(art_u64_first(u64, &number, &value) == ART_SOME && number == 0);
+    CHECK(art_u64_next_many(u64, n, true, keys, 8, values, 8) >= 1 && keys[0] == n && values[0] == n);
+    CHECK(art_u64_previous_many(u64, n, true, keys, 8, values, 8) >= 1 && keys[0] == n && values[0] == n);
+    CHECK(art_u64_len(u64) >= ENTRIES);
+}
+
+/* Of an entry that is this thread's alone. */
+static void changes(unsigned thread) {
+    uint64_t value = 0;
+    uint8_t key[] = {'~', (uint8_t)thread};
+    CHECK(art_bytes_insert(&words, key, sizeof key, thread, &value) == ART_NONE);
+    CHECK(art_u64_insert(&numbers, ENTRIES + thread, thread, &value) == ART_NONE);
+    CHECK(art_bytes_remove(&words, key, sizeof key, &value) == ART_SOME && value == thread);
+    CHECK(art_u64_remove(&numbers, ENTRIES + thread, &value) == ART_SOME && value == thread);
+}
+
+static void *run(void *given) {
+    unsigned thread = *(unsigned *)given;
+    for (unsigned long round = 0; round < rounds; round++) {
+        CHECK(pthread_rwlock_rdlock(&lock) == 0);
+        looks(&words, &numbers, (unsigned)((round * 7 + thread * 250) % ENTRIES));
+        CHECK(pthread_rwlock_unlock(&lock) == 0);
+        if (round % 4 == thread) {
+            CHECK(pthread_rwlock_wrlock(&lock) == 0);
+            changes(thread);
+            CHECK(pthread_rwlock_unlock(&lock) == 0);
+        }
+    }
+    return NULL;
+}
+
+int main(int count, char **words_of) {
+    if (count > 1) rounds = strtoul(words_of[1], NULL, 10);
+    uint64_t value;
+    CHECK(art_bytes_new(&words) == ART_NONE && art_u64_new(&numbers) == ART_NONE);
+    for (unsigned n = 0; n < ENTRIES; n++) {
+        uint8_t key[LONG];
+        size_t len = key_of(n, key);
+        CHECK(art_bytes_insert(&words, key, len, n, &value) == ART_NONE);
+        CHECK(art_u64_insert(&numbers, n, n, &value) == ART_NONE);
+    }
+    pthread_t threads[THREADS];
+    unsigned names[THREADS];
+    for (unsigned n = 0; n < THREADS; n++) {
+        names[n] = n;
+        CHECK(pthread_create(&threads[n], NULL, run, &names[n]) == 0);
+    }
+    for (unsigned n = 0; n < THREADS; n++) CHECK(pthread_join(threads[n], NULL) == 0);
+    CHECK(art_bytes_len(&words) == ENTRIES && art_u64_len(&numbers) == ENTRIES);
+    art_bytes_free(&words);
+    art_u64_free(&numbers);
+    printf("%d threads, %lu times each\n", THREADS, rounds);
+    return 0;
+}

@@ -1,0 +1,9 @@
+pub mod BitLemmas
+pub mod ByteLemmas
+pub mod CoveredLemmas
+pub mod KeyLemmas
+pub mod LastLemmas
+pub mod LongestLemmas
+pub mod OrderLemmas
+pub mod RouteLemmas
+pub mod ResultLemmas

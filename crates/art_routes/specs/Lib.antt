@@ -1,0 +1,3 @@
+pub mod Networks
+pub mod Tables
+pub mod Keys

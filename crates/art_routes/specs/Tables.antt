@@ -1,0 +1,55 @@
+-- A table as the list of its routes, each a network and its value, in the order of the networks.
+use Rattle.std.specs.Prelude.{◌≡◌, ◌≤◌, true, false, not, List, [], ◌∷◌, All, AllPairs, Contains, Option, Some, None, filter, if◌then◌else◌}
+use Rattle.std.specs.Borrow.{Bor}
+use Rattle.std.specs.Ordering.{is_eq, match_ordering}
+use Rattle.std.specs.declared.cmp.Ordering.TheVariants.{Less}
+use Rattle.art_routes.specs.declared.address.Address.{Address}
+use Rattle.art_routes.specs.Networks.{Block, contains, covers, network_order}
+
+module _ {V : Type 0} where
+  -- a route behind a reference to its value
+  abbrev pub route_now : Block × Bor V → Block × V
+  route_now (network, value) = (network, value.now)
+
+  -- each network comes before those behind it, so no two are one
+  abbrev pub AreInOrder : List (Block × V) → Type 0
+  AreInOrder routes = AllPairs (λ a b. network_order a.0 b.0 ≡ Less) routes
+
+  -- the value of the route to this network
+  abbrev pub value_of : List (Block × V) → Block → Option V
+  value_of [] network = None
+  value_of (route ∷ routes) network = if is_eq (network_order route.0 network) then Some route.1 else value_of routes network
+
+  -- the routes with this one before the first to a later network, or in place of the one to its network
+  abbrev pub put_route : List (Block × V) → Block → V → List (Block × V)
+  put_route [] network value = (network, value) ∷ []
+  put_route (other ∷ routes) network value =
+      match_ordering (network_order network other.0) ((network, value) ∷ other ∷ routes) ((network, value) ∷ routes) (other ∷ put_route routes network value)
+
+  -- the routes without the one to this network
+  abbrev pub without_route : List (Block × V) → Block → List (Block × V)
+  without_route routes network = filter (λ route. not (is_eq (network_order route.0 network))) routes
+
+  -- no route contains the address
+  abbrev pub NoneContains : List (Block × V) → Address → Type 0
+  NoneContains routes address = All (λ route. contains route.0 address ≡ false) routes
+
+  -- this one of the routes contains the address, and no longer one does
+  pub record IsLongest (routes : List (Block × V)) (address : Address) (route : Block × V) : Type 0 where
+    pub listed : Contains routes route
+    pub matches : contains route.0 address ≡ true
+    pub longest : All (λ other. contains other.0 address ≡ true → other.0.length ≤ route.0.length) routes
+
+  -- no route covers the network
+  abbrev pub NoneCovers : List (Block × V) → Block → Type 0
+  NoneCovers routes network = All (λ route. covers route.0 network ≡ false) routes
+
+  -- this one of the routes covers the network, and no longer one does
+  pub record IsLongestOver (routes : List (Block × V)) (network : Block) (route : Block × V) : Type 0 where
+    pub listed : Contains routes route
+    pub matches : covers route.0 network ≡ true
+    pub longest : All (λ other. covers other.0 network ≡ true → other.0.length ≤ route.0.length) routes
+
+  -- the routes to this network and to parts of it, in order
+  abbrev pub covered : Block → List (Block × V) → List (Block × V)
+  covered network routes = filter (λ route. covers network route.0) routes

@@ -1,0 +1,24 @@
+//! Route tables: values by IPv4 and IPv6 networks, of which the longest that contains an address is
+//! found. A contract sees a network as numbers, and a table as the list of its routes in order.
+//! `CALLING.md` shows how they are used.
+#![tactic(auto)]
+
+mod address;
+mod fault;
+mod holds_routes;
+mod network;
+mod routes;
+mod table;
+
+pub use fault::NetworkFault;
+pub use network::Network;
+pub use routes::Routes;
+pub use table::{RefusedRoute, RouteTable};
+
+/// What the aliases above stand for. The compiler needs these names; no caller writes them.
+#[doc(hidden)]
+pub mod parts {
+    pub use crate::holds_routes::HoldsRoutes;
+    pub use crate::routes::RoutesOver;
+    pub use crate::table::TableOver;
+}

@@ -1,0 +1,259 @@
+//! Tables of routes.
+ghost use Rattle.std.specs.Prelude.{◌≡◌, ◌≢◌, ◌↔◌, ◌⊎◌, ◌<◌, ◌≤◌, ◌^◌, [], All, IfErr, IfOk, IfSome, IsTrue, MatchOption, None, OnErr, OnOk, length};
+ghost use Rattle.std.specs.Option.{option_copied, option_map};
+ghost use Rattle.art_routes.specs.Keys.{IsKey, last_up_to as last_route_up_to, route_read};
+ghost use Rattle.art_routes.specs.Networks.{IsNetwork, address_of};
+ghost use Rattle.art_routes.specs.Tables.{AreInOrder, covered as covered_routes, IsLongest, IsLongestOver, NoneContains, NoneCovers, put_route, route_now, value_of, without_route};
+
+use crate::address::{Address, number_of, shared_bits};
+use crate::holds_routes::HoldsRoutes;
+use crate::network::{
+    KEY_LEN, Network, key_of, key_parts, last_of, network_at, network_from, parts,
+};
+use crate::routes::{Routes, RoutesOver};
+use art_map::{ArtMap, DEFAULT_PREFIX_LEN};
+use std::alloc::{AllocError, Global};
+use std::marker::{Model, PhantomData};
+use std::net::IpAddr;
+use std::ops::Bound;
+
+/// The routes that a map `M` holds. Callers name it [`RouteTable`].
+#[derive(Drop)]
+pub struct TableOver<M: HoldsRoutes<V>, V> {
+    routes: M,
+    value: PhantomData<V>,
+}
+
+impl<M: HoldsRoutes<V>, V> Model for TableOver<M, V> {
+    ghost use Rattle.std.specs.Prelude.{List, All};
+    ghost use Rattle.art_routes.specs.Keys.{IsKey, routes_of};
+    ghost use Rattle.art_routes.specs.Networks.{Block};
+
+    ghost Value = { List (Block × V) };
+
+    ghost view = { λ table. routes_of (M.entries table.routes) };
+
+    ghost invariant = { λ table. All (λ entry. IsKey entry.0) (M.entries table.routes) };
+}
+
+/// The routes: values by networks, in the order of the networks, one for each. No call has a condition.
+pub type RouteTable<V> = TableOver<ArtMap<[u8; KEY_LEN], V, DEFAULT_PREFIX_LEN>, V>;
+
+/// A route that was not inserted, for an allocation failure.
+#[derive(Drop)]
+pub struct RefusedRoute<V> {
+    /// The network of the route.
+    pub network: Network,
+    /// Its value.
+    pub value: V,
+}
+
+// The value of an entry that was replaced.
+fn value_alone<V>(entry: Option<([u8; KEY_LEN], V)>) -> Option<V>
+    ensures { result ≡ option_map (λ entry. entry.1) entry }
+{
+    let (_, value) = entry?;
+    Some(value)
+}
+
+impl<V> RouteTable<V> {
+    /// A table with no routes. Takes no memory.
+    pub fn new(alloc: Global) -> RouteTable<V>
+        ensures { result ≡ [] }
+    {
+        TableOver {
+            routes: ArtMap::new(alloc),
+            value: PhantomData,
+        }
+    }
+
+    /// The number of routes. Takes constant time and no memory.
+    pub fn len(&self) -> usize
+        ensures { result ≡ length self.now }
+    {
+        self.routes.len()
+    }
+
+    /// Whether there is no route. Takes constant time and no memory.
+    pub fn is_empty(&self) -> bool
+        ensures { IsTrue result ↔ (length self.now ≡ 0) }
+    {
+        self.len() == 0
+    }
+
+    /// The routes are in order, one for each network. Does no work.
+    pub fn routes_ascend(&self)
+        ensures order { AreInOrder self.now }
+        ensures networks { All (λ route. IsNetwork route.0) self.now }
+    {
+        self.routes.entries_ascend();
+    }
+
+    /// Adds a route. Where there is one to the same network, its value is replaced and returned.
+    ///
+    /// Only an allocation failure refuses a route, and only one to a network that has none: it is
+    /// returned, and the routes are unchanged. Costs as much as [`ArtMap::insert`] of a key of 18 bytes.
+    pub fn insert(&mut self, network: Network, value: V) -> Result<Option<V>, RefusedRoute<V>>
+        ensures replaced { IfOk result (λ before. before ≡ value_of self.old network) }
+        ensures routes { OnOk result (self.new ≡ put_route self.old network value) }
+        ensures route_back { IfErr result
+            (λ refused. (refused.network ≡ network) × (refused.value ≡ value)) }
+        ensures no_route { OnErr result (value_of self.old network ≡ None) }
+        ensures same_routes { OnErr result (self.new ≡ self.old) }
+    {
+        let before = match self.routes.insert(key_of(&network), value) {
+            Ok(before) => before,
+            Err(fault) => {
+                return Err(RefusedRoute {
+                    network,
+                    value: fault.value,
+                });
+            }
+        };
+        Ok(value_alone(before))
+    }
+
+    /// The value of the route to this very network, or None where there is none. Costs as much as
+    /// [`ArtMap::get`] of a key of 18 bytes. Takes no memory.
+    pub fn get(&self, network: &Network) -> Option<&V>
+        ensures { option_copied result ≡ value_of self.now network.now }
+    {
+        self.routes.get(&key_of(network))
+    }
+
+    /// Removes the route to this very network, if there is one, and returns its value.
+    ///
+    /// An allocation may fail only where there is such a route. The routes are then unchanged.
+    pub fn remove(&mut self, network: &Network) -> Result<Option<V>, AllocError>
+        ensures removed { IfOk result (λ value. value ≡ value_of self.old network.now) }
+        ensures routes { OnOk result (self.new ≡ without_route self.old network.now) }
+        ensures refused { OnErr result (value_of self.old network.now ≢ None) }
+        ensures same_routes { OnErr result (self.new ≡ self.old) }
+    {
+        self.routes.remove(&key_of(network))
+    }
+
+    /// All routes, in order, and from the back in the opposite order. Costs as much as [`ArtMap::iter`].
+    /// Takes no memory.
+    pub fn iter(&self) -> Routes<'_, V>
+        ensures { result ≡ self.now }
+    {
+        RoutesOver {
+            entries: self.routes.iter(),
+            value: PhantomData,
+        }
+    }
+
+    /// The routes to this network and to parts of it, in order, and from the back in the opposite order.
+    /// Costs as much as [`ArtMap::range`]: a descent to each end, and constant time for each route. Takes
+    /// no memory.
+    pub fn covered(&self, network: &Network) -> Routes<'_, V>
+        ensures { result ≡ covered_routes network.now self.now }
+    {
+        let first = key_of(network);
+        let last = key_of(&last_of(network));
+        RoutesOver {
+            entries: self
+                .routes
+                .range(Bound::Included(&first), Bound::Included(&last)),
+            value: PhantomData,
+        }
+    }
+
+    /// Reserves memory for `additional` more routes: as many inserts to new networks, and removals, take
+    /// none. The routes are unchanged, also after a failure.
+    pub fn reserve(&mut self, additional: usize) -> Result<(), AllocError>
+        ensures same_routes { self.new ≡ self.old }
+    {
+        self.routes.reserve(additional)
+    }
+
+    // Key and value of the last route whose network does not come after this one.
+    fn last_up_to(&self, network: &Network) -> Option<(&[u8; KEY_LEN], &V)>
+        ensures route { option_map route_read result ≡ last_route_up_to network.now self.now }
+        ensures key { IfSome result (λ (key, value). IsKey key.now) }
+    {
+        self.routes.last_up_to(&key_of(network))
+    }
+
+    // The longest route that covers the first bits of an address, so many of them.
+    //
+    // The last route that does not come after the network of those bits contains the address, and no
+    // longer one does, or no route that does is longer than what it shares with the address. Then as
+    // many bits take the place of those. Each step is one descent.
+    fn longest_over(&self, address: Address, length: u8) -> Option<(Network, &V)>
+        requires family { (address.width ≡ 32) ⊎ (address.width ≡ 128) }
+        requires fits { address.bits < 2 ^ address.width }
+        requires length { length ≤ address.width }
+        ensures { MatchOption result (NoneCovers self.now (record { address = address; length = length }))
+            (λ route. IsLongestOver self.now (record { address = address; length = length }) (route_now route)) }
+    {
+        self.routes_ascend();
+        let mut most = length;
+        'descent: while let Some((key, value)) = self.last_up_to(&network_at(address, most)) {
+            let (first, count) = key_parts(key);
+            if first.width != address.width {
+                return None;
+            }
+            let shared = shared_bits(address, first);
+            if count <= shared {
+                return Some((network_from(key), value));
+            }
+            // Never so: a route that does not contain the address shares fewer bits.
+            if most <= shared {
+                return None;
+            }
+            most = shared;
+        }
+        None
+    }
+
+    /// The longest route whose network contains the address, with its value, or None where none does.
+    /// IPv4 and IPv6 never match each other.
+    ///
+    /// Each step is one descent. Another follows only where the route before the address does not contain
+    /// it, with fewer bits of the address: two steps on average in a table of random routes, 33 for IPv4
+    /// and 129 for IPv6 at most. Takes no memory.
+    ///
+    /// (from tests/art_routes/tests.rt.txt)
+    /// ```rust
+    /// assert!(rt; is_value(table.longest_match(ip4(10, 127, 0, 1)), 10));
+    /// assert!(rt; is_value(table.longest_match(ip4(10, 128, 0, 1)), 8));
+    /// ```
+    pub fn longest_match(&self, address: IpAddr) -> Option<(Network, &V)>
+        ensures { MatchOption result (NoneContains self.now (address_of address))
+            (λ route. IsLongest self.now (address_of address) (route_now route)) }
+    {
+        self.routes_ascend();
+        let address = number_of(address);
+        self.longest_over(address, address.width)
+    }
+
+    /// The longest route whose network covers this one, with its value, or None where none does. Costs as
+    /// much as [`longest_match`](Self::longest_match).
+    pub fn longest_match_of(&self, network: &Network) -> Option<(Network, &V)>
+        ensures { MatchOption result (NoneCovers self.now network.now)
+            (λ route. IsLongestOver self.now network.now (route_now route)) }
+    {
+        let (first, length) = parts(network);
+        self.longest_over(first, length)
+    }
+}
+
+impl<V: Drop> RouteTable<V> {
+    /// Removes all routes. Takes time linear in the most routes that there were, and no memory: the
+    /// nodes' memory is kept for later routes.
+    pub fn clear(&mut self)
+        ensures { self.new ≡ [] }
+    {
+        self.routes.clear();
+    }
+
+    /// Puts the routes into memory in their order, with room for just them. All memory is taken before a
+    /// route moves: the routes are unchanged, also after a failure.
+    pub fn compact(&mut self) -> Result<(), AllocError>
+        ensures same_routes { self.new ≡ self.old }
+    {
+        self.routes.compact()
+    }
+}
