@@ -14,14 +14,15 @@ use crate::view::{EntryList, MapView, ViewOf};
 use art_bytes::AsBytes;
 use art_tree::ArtTree;
 use std::alloc::Global;
-use std::marker::{Model, PhantomData};
+use std::marker::Model;
 
 /// A map over a tree `T`, of which contracts see `S`. Callers name it [`ArtMap`], which has an example,
 /// or [`ArtTreeMap`].
 #[derive(Drop)]
 pub struct MapOver<T, S: ViewOf<T>> {
     tree: T,
-    view: PhantomData<S>,
+    // `PhantomData<S>` would hide a lifetime in `S` from the prover.
+    view: [S; 0],
 }
 
 impl<T, S: ViewOf<T>> Model for MapOver<T, S> {
@@ -84,7 +85,7 @@ where
         let tree = ArtTree::new(alloc);
         MapOver {
             tree,
-            view: PhantomData,
+            view: [],
         }
     }
 }

@@ -31,7 +31,6 @@ use art_tree::laws::{entries_are_one_list, the_list_of_entries_changes_with_them
 use art_tree::{ArtTree, InsertRefusal, LoadFault, Side};
 use std::alloc::{AllocError, Global};
 use std::collections::VecDeque;
-use std::marker::PhantomData;
 use std::mem;
 use std::ops::Bound;
 
@@ -108,7 +107,7 @@ impl<K: AsBytes + Drop, V: Drop, const PREFIX_LEN: usize> ArtMap<K, V, PREFIX_LE
         match ArtTree::load(alloc, entries) {
             Ok(tree) => Ok(MapOver {
                 tree,
-                view: PhantomData,
+                view: [],
             }),
             Err(fault) => Err(fault),
         }
@@ -333,7 +332,7 @@ impl<K: AsBytes + Drop, V: Drop, const PREFIX_LEN: usize> ArtMap<K, V, PREFIX_LE
         move_last(&mut self.tree, &mut upper, count);
         Ok(MapOver {
             tree: upper,
-            view: PhantomData,
+            view: [],
         })
     }
 }
