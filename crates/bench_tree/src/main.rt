@@ -85,16 +85,15 @@ fn run_addresses(
     run_calls(rt, mode, shape, both, keys)
 }
 
-fn run_words<'a>(
+fn run_words(
     rt: &HostRuntime,
     mode: Mode,
     shape: &str,
-    keys: &mut [SliceKey<'a>],
+    keys: &mut [SliceKey<'_>],
 ) -> io::Result<()> {
     let alloc = rt.alloc();
-    let mut tree: Box<Tree<SliceKey<'a>>> = Box::new(alloc, Tree::new(alloc))?;
-    let mut map = Map::new(alloc);
-    run_calls(rt, mode, shape, (&mut *tree, &mut map), keys)
+    let both = (&mut Tree::new(alloc), &mut Map::new(alloc));
+    run_calls(rt, mode, shape, both, keys)
 }
 
 fn word_at(words: &[String], index: usize) -> &str {

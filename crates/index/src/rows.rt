@@ -26,7 +26,7 @@ pub(crate) fn index_of<'a>(alloc: Global, table: &[Reading<'a>]) -> Result<RowMa
     ensures rows { IfOk result (λ index. IsIndex table.now (map (λ entry. entry.1) index)) }
     ensures keyed { IfOk result (λ index. AreKeyed row_key_text index) }
 {
-    let mut index = Box::new(alloc, ArtMap::new(alloc))?;
+    let mut index = ArtMap::new(alloc);
     for (place, reading) in table.iter().enumerate() {
         let key = RowKey::new(reading.address, reading.time, place);
         let row = Row {
@@ -36,5 +36,5 @@ pub(crate) fn index_of<'a>(alloc: Global, table: &[Reading<'a>]) -> Result<RowMa
         index.insert(key, row)?;
     }
     index.entries_ascend();
-    Ok(Box::into_inner(index))
+    Ok(index)
 }

@@ -6,8 +6,8 @@ use Rattle.index.proofs.rows.index_of.Goals as goal
 
 pub loop-place-preserved : goal.loop-place-preserved
 loop-place-preserved c =
-    has_one_more row_key_text c.args.table.now c.loop-place.place c.loop-place.index.value c.insert.new.self c.new-key.result _ _ c.loop-place.invariant (rw c.deref_mut.ensures.value at c.in_ok-insert.ensures.entries) (key_of_time (row_key_text c.new-key.result) _ _ c.loop-place.place (c.requires c.loop-place.place _ c.loop-place-test.true) c.new-key.ensures) refl (omega (arith, c.loop-place-test.true)) refl
+    has_one_more row_key_text c.args.table.now c.loop-place.place c.loop-place.index c.insert.new.self c.new-key.result _ _ c.loop-place.invariant c.in_ok-insert.ensures.entries (key_of_time (row_key_text c.new-key.result) _ _ c.loop-place.place (c.requires c.loop-place.place _ c.loop-place-test.true) c.new-key.ensures) refl (omega (arith, c.loop-place-test.true)) refl
 
 pub returns-clause-rows : goal.returns-clause-rows
 returns-clause-rows c =
-    rw c.into_inner.ensures (is_index row_key_text c.args.table.now c.loop-place.place c.loop-place.index.value c.loop-place.invariant (omega (arith, c.loop-place-test.false, c.loop-place.auto.place-end)) (rw c.deref.ensures at c.entries_ascend.ensures.ascending))
+    is_index row_key_text c.args.table.now c.loop-place.place c.loop-place.index c.loop-place.invariant (omega (arith, c.loop-place-test.false, c.loop-place.auto.place-end)) c.entries_ascend.ensures.ascending

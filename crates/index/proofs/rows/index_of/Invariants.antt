@@ -4,4 +4,4 @@ use Rattle.index.proofs.rows.index_of.Given as goal
 
 -- the entries are those of the rows so far
 abbrev pub invariant-loop-place : goal.invariant-loop-place
-invariant-loop-place l = HasRows row_key_text l.table l.place l.index.value
+invariant-loop-place l = HasRows row_key_text l.table l.place l.index
