@@ -1,7 +1,9 @@
 """`ArtMap` beside `BTreeMap` of Rattle's std, by the program bench_tree, which compares what their calls return.
 
 Inserts in random order, look-ups in another, of absent keys too, a visit of all entries, of ranges of 100 and of those
-with a prefix (a hundredth as many of each as there are entries), removals; all but inserts once more on a compacted map.
+with a prefix (a hundredth as many of each as there are entries), removals. All but inserts once more on a map that was
+compacted, on one whose entries were put into order, and on one that got its entries at once, which is its `insert`;
+`order` is what putting them into order took, for an entry.
 Memory is the anonymous pages of a process with the entries beyond those of one that has the keys alone.
 """
 
@@ -12,8 +14,11 @@ import subprocess
 from shared import built, fail, table_of
 
 SHAPES = {"dense": "dense numbers", "random": "random numbers", "words": "words", "addresses": "addresses"}
-OURS, COMPACTED, THEIRS = MAPS = ["`ArtMap`", "`ArtMap`, compacted", "`BTreeMap` of Rattle"]
-CALLS = ["insert", "get", "miss", "remove", "iterate", "range", "prefix", "bytes"]
+OURS, COMPACTED, ORDERED, COLLECTED, THEIRS = MAPS = [
+    "`ArtMap`", "`ArtMap`, compacted", "`ArtMap`, ordered", "`ArtMap`, from entries", "`BTreeMap` of Rattle"
+]
+MODES = {OURS: "time", COMPACTED: "compacted", ORDERED: "ordered", COLLECTED: "collected"}  # of bench_tree
+CALLS = ["insert", "order", "get", "miss", "remove", "iterate", "range", "prefix", "bytes"]
 ENTRIES_FOR_ONE = {"range": 100, "prefix": 100}  # of these calls one is made for so many entries
 # How many times what `BTreeMap` takes a call may take, of some keys: the target at each size.
 TARGETS = [
@@ -21,6 +26,7 @@ TARGETS = [
     ("remove", OURS, ["random numbers"], "1.1, 1.1"),
     ("iterate", OURS, SHAPES.values(), "4, 4"),
     ("range", OURS, SHAPES.values(), "3, 3"),
+    ("insert", COLLECTED, ["random numbers"], "1.0, 1.0"),
     ("iterate", COMPACTED, SHAPES.values(), "1, 1"),
     ("range", COMPACTED, SHAPES.values(), "1.2, 1.2"),
     ("bytes", COMPACTED, SHAPES.values(), "2, 2"),
@@ -64,14 +70,15 @@ def held_bytes(program, shape, size, what):
 
 def once(program, shape, size, turn):
     """Each map and call with what it took in one run. Memory does not vary, and is read in the first."""
-    for call, ours, theirs in times_of(program, "time", shape, size):
-        yield OURS, call, ours
-        yield THEIRS, call, theirs
-    for call, ours, _ in times_of(program, "compacted", shape, size):
-        yield COMPACTED, call, ours
+    for which, mode in MODES.items():
+        for call, ours, theirs in times_of(program, mode, shape, size):
+            if call != "insert" or which in (OURS, COLLECTED):
+                yield which, call, ours
+            if which == OURS:
+                yield THEIRS, call, theirs
     if turn == 0:
         keys_alone = held_bytes(program, shape, size, "nothing")
-        for which, what in (OURS, "tree"), (COMPACTED, "compacted"), (THEIRS, "map"):
+        for which, what in {**MODES, THEIRS: "map"}.items():
             yield which, "bytes", (held_bytes(program, shape, size, what) - keys_alone) / size
 
 

@@ -1,9 +1,23 @@
 //! The calls that are timed, and the comparison of what they return.
 use crate::dictionary::{Answers, Dictionary, Map, RANGE, Tree};
 use crate::keys::{Key, shuffle};
+use std::alloc::{AllocError, Global};
 use std::io;
 use std::io::Read;
-use std::time::CpuClock;
+use std::time::{CpuClock, Duration};
+
+/// How the tree gets its entries.
+#[derive(Clone, Copy)]
+pub(crate) enum Filling {
+    /// One by one.
+    Inserted,
+    /// One by one, and then the tree is compacted.
+    Compacted,
+    /// One by one, and then the entries are put into order.
+    Ordered,
+    /// All at once.
+    Collected,
+}
 
 /// What a run does with the keys.
 #[derive(Clone, Copy)]
@@ -11,13 +25,9 @@ pub(crate) enum Mode {
     /// Runs the calls, and prints what they found.
     Check,
     /// The same, and prints how long they took.
-    Time,
-    /// Compacts the tree, and times the other calls.
-    TimeCompacted,
+    Time(Filling),
     /// Holds the entries in a tree.
-    HoldTree,
-    /// Holds the entries in a compacted tree.
-    HoldCompacted,
+    HoldTree(Filling),
     /// Holds the entries in a map.
     HoldMap,
     /// Holds the keys alone.
@@ -56,41 +66,44 @@ pub(crate) fn run_calls<K: Key>(
     shuffle(entries, 1);
     shuffle(misses, 2);
     match mode {
-        Mode::Check => compare_all(rt, false, shape, (tree, map), entries, misses),
-        Mode::Time => compare_all(rt, true, shape, (tree, map), entries, misses),
-        Mode::TimeCompacted => compare_compacted(rt, shape, (tree, map), entries, misses),
-        Mode::HoldTree => hold(rt, insert_all(tree, entries)),
-        Mode::HoldCompacted => hold(rt, insert_and_compact(tree, entries)),
+        Mode::Check => compare_all(
+            rt,
+            false,
+            Filling::Inserted,
+            shape,
+            (tree, map),
+            entries,
+            misses,
+        ),
+        Mode::Time(filling) => compare_all(rt, true, filling, shape, (tree, map), entries, misses),
+        Mode::HoldTree(filling) => {
+            let filled = fill(rt, filling, tree, entries)?;
+            put_in_order(filling, tree)?;
+            hold(rt, filled.answers)
+        }
         Mode::HoldMap => hold(rt, insert_all(map, entries)),
         Mode::HoldNothing => hold(rt, Answers::new()),
     }
 }
 
-// Runs all calls, each on the tree and on the map.
+// Runs all calls, each on the tree, filled like this, and on the map.
 fn compare_all<K: Key>(
     rt: &HostRuntime,
     is_timed: bool,
+    filling: Filling,
     shape: &str,
     (tree, map): (&mut Tree<K>, &mut Map<K>),
     entries: &mut [K],
     misses: &[K],
 ) -> io::Result<()> {
-    compare(rt, is_timed, shape, Call::Insert, (tree, map), entries)?;
-    compare_full(rt, is_timed, shape, (tree, map), entries, misses)
-}
-
-// Runs the calls but inserts, each on a compacted tree and on the map.
-fn compare_compacted<K: Key>(
-    rt: &HostRuntime,
-    shape: &str,
-    (tree, map): (&mut Tree<K>, &mut Map<K>),
-    entries: &mut [K],
-    misses: &[K],
-) -> io::Result<()> {
-    if insert_and_compact(tree, entries) != insert_all(map, entries) {
-        return Err(io::Error::from(io::ErrorKind::InvalidData));
+    let ours = fill(rt, filling, tree, entries)?;
+    let theirs = time_calls(rt, Call::Insert, map, entries)?;
+    report(rt, is_timed, shape, "insert", &ours, &theirs)?;
+    if let Filling::Compacted | Filling::Ordered = filling {
+        let ordered = time_order(rt, filling, tree)?;
+        println!(rt; "{shape} order {} {ordered} 0", tree.len())?;
     }
-    compare_full(rt, true, shape, (tree, map), entries, misses)
+    compare_full(rt, is_timed, shape, (tree, map), entries, misses)
 }
 
 // Runs the calls on the tree and the map that have the entries, and removes these.
@@ -125,11 +138,22 @@ fn compare<K: Key>(
 ) -> io::Result<()> {
     let ours = time_calls(rt, call, tree, keys)?;
     let theirs = time_calls(rt, call, map, keys)?;
+    report(rt, is_timed, shape, name_of(call), &ours, &theirs)
+}
+
+// Prints what a call found on both. Fails where they differ.
+fn report(
+    rt: &HostRuntime,
+    is_timed: bool,
+    shape: &str,
+    name: &str,
+    ours: &Timed,
+    theirs: &Timed,
+) -> io::Result<()> {
     let found = ours.answers.found;
     if ours.answers != theirs.answers || ours.answers.refused != 0 {
         return Err(io::Error::from(io::ErrorKind::InvalidData));
     }
-    let name = name_of(call);
     if is_timed {
         let (ours, theirs) = (ours.nanoseconds, theirs.nanoseconds);
         println!(rt; "{shape} {name} {found} {ours} {theirs}")
@@ -181,8 +205,69 @@ fn time_calls<K: Key, D: Dictionary<K>>(
     let end = clock.thread_cpu_time()?;
     Ok(Timed {
         answers,
-        nanoseconds: end.as_nanos().wrapping_sub(start.as_nanos()),
+        nanoseconds: nanoseconds_between(start, end),
     })
+}
+
+fn nanoseconds_between(start: Duration, end: Duration) -> u128 {
+    end.as_nanos().wrapping_sub(start.as_nanos())
+}
+
+// The tree gets these entries, one by one or all at once.
+fn fill<K: Key>(
+    rt: &HostRuntime,
+    filling: Filling,
+    tree: &mut Tree<K>,
+    keys: &[K],
+) -> io::Result<Timed> {
+    let Filling::Collected = filling else {
+        return time_calls(rt, Call::Insert, tree, keys);
+    };
+    let entries = numbered(rt.alloc(), keys)?;
+    let start = rt.thread_cpu_time()?;
+    let answers = extend(tree, entries);
+    let end = rt.thread_cpu_time()?;
+    Ok(Timed {
+        answers,
+        nanoseconds: nanoseconds_between(start, end),
+    })
+}
+
+fn numbered<K: Key>(alloc: Global, keys: &[K]) -> Result<Vec<(K, u64)>, AllocError> {
+    let mut entries = Vec::with_capacity(alloc, keys.len())?;
+    for (number, key) in keys.iter().enumerate() {
+        entries.push((*key, number as u64))?;
+    }
+    Ok(entries)
+}
+
+#[inline(never)]
+fn extend<K: Key>(tree: &mut Tree<K>, entries: Vec<(K, u64)>) -> Answers {
+    let mut answers = Answers::new();
+    if tree.extend(entries).is_err() {
+        answers.refused = 1;
+    }
+    answers
+}
+
+// What it takes to put the entries into order.
+fn time_order<K: Key>(
+    clock: &impl CpuClock,
+    filling: Filling,
+    tree: &mut Tree<K>,
+) -> io::Result<u128> {
+    let start = clock.thread_cpu_time()?;
+    put_in_order(filling, tree)?;
+    let end = clock.thread_cpu_time()?;
+    Ok(nanoseconds_between(start, end))
+}
+
+fn put_in_order<K: Key>(filling: Filling, tree: &mut Tree<K>) -> Result<(), AllocError> {
+    match filling {
+        Filling::Compacted => tree.compact(),
+        Filling::Ordered => tree.order_entries(),
+        Filling::Inserted | Filling::Collected => Ok(()),
+    }
 }
 
 fn answers_of<K: Key, D: Dictionary<K>>(call: Call, dictionary: &mut D, keys: &[K]) -> Answers {
@@ -201,14 +286,6 @@ fn insert_all<K: Key, D: Dictionary<K>>(dictionary: &mut D, keys: &[K]) -> Answe
     let mut answers = Answers::new();
     for (number, key) in keys.iter().enumerate() {
         answers.add_result(dictionary.insert(*key, number as u64));
-    }
-    answers
-}
-
-fn insert_and_compact<K: Key>(tree: &mut Tree<K>, keys: &[K]) -> Answers {
-    let mut answers = insert_all(tree, keys);
-    if tree.compact().is_err() {
-        answers.refused = answers.refused.wrapping_add(1);
     }
     answers
 }

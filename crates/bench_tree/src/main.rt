@@ -5,10 +5,12 @@
 //!   found.
 //! - `time SHAPE N`: the same for one shape, with the nanoseconds of the processor that the calls on
 //!   the tree took, and those on the map.
-//! - `compacted SHAPE N`: the same of all calls but inserts, on a compacted tree.
-//! - `hold SHAPE N tree`, `compacted`, `map` or `nothing`: inserts the entries into the tree alone,
-//!   which may be compacted, the map alone or neither, prints a line, and waits for the end of the
-//!   input, so that its memory can be read.
+//! - `compacted SHAPE N`, `ordered SHAPE N`: the same, and how long the tree took to be compacted, or to
+//!   put its entries into order, before the calls behind the inserts.
+//! - `collected SHAPE N`: the same on a tree that gets its entries at once.
+//! - `hold SHAPE N HOW`: holds the entries in a tree that is filled like this (`time`, `compacted`,
+//!   `ordered` or `collected`), in the `map`, or in neither, prints a line, and waits for the end of
+//!   the input, so that its memory can be read.
 //!
 //! It fails where the tree and the map differ.
 #![tactic(auto)]
@@ -18,7 +20,7 @@ mod dictionary;
 mod keys;
 mod words;
 
-use crate::calls::{Mode, run_calls};
+use crate::calls::{Filling, Mode, run_calls};
 use crate::dictionary::{Map, Tree};
 use crate::keys::{addresses, dense_numbers, random_numbers};
 use crate::words::{word_keys, word_texts};
@@ -31,15 +33,17 @@ fn main(rt: HostRuntime) -> io::Result<()> {
     let words: Vec<String> = env::args(&rt)?.skip(1).collect(rt.alloc())?;
     let mode = match word_at(&words, 0) {
         "check" => return check(&rt, count_of(word_at(&words, 1))?),
-        "time" => Mode::Time,
-        "compacted" => Mode::TimeCompacted,
         "hold" => match word_at(&words, 3) {
-            "tree" => Mode::HoldTree,
-            "compacted" => Mode::HoldCompacted,
             "map" => Mode::HoldMap,
-            _ => Mode::HoldNothing,
+            how => match filling_of(how) {
+                Some(filling) => Mode::HoldTree(filling),
+                None => Mode::HoldNothing,
+            },
         },
-        _ => return Err(bad_words()),
+        how => match filling_of(how) {
+            Some(filling) => Mode::Time(filling),
+            None => return Err(bad_words()),
+        },
     };
     run(&rt, mode, word_at(&words, 1), count_of(word_at(&words, 2))?)
 }
@@ -94,6 +98,16 @@ fn run_words(
     let alloc = rt.alloc();
     let both = (&mut Tree::new(alloc), &mut Map::new(alloc));
     run_calls(rt, mode, shape, both, keys)
+}
+
+fn filling_of(word: &str) -> Option<Filling> {
+    match word {
+        "time" => Some(Filling::Inserted),
+        "compacted" => Some(Filling::Compacted),
+        "ordered" => Some(Filling::Ordered),
+        "collected" => Some(Filling::Collected),
+        _ => None,
+    }
 }
 
 fn word_at(words: &[String], index: usize) -> &str {
