@@ -5,4 +5,3 @@ mod leaf_links;
 use art_arena::{ArenaNode, FullPrefix, NodeArena};
 use art_bytes::AsBytes;
 use art_nodes::{InnerNode4, InnerNodeCommon, InnerNodeRead, NodePtr};
-use std::process::Abort;

@@ -1,6 +1,5 @@
 //! Callers of trees that are made by `load` and by inserts and removals.
 mod branches;
-mod changes;
 mod reading;
 mod reserving;
 mod tree_examples;
@@ -13,7 +12,6 @@ use art_tree::{
     OpaqueNodePtr, SliceKey, find_leaf, laws, load,
 };
 use std::alloc::{AllocError, Global};
-use std::process::Abort;
 use std::test::Fail;
 
 // Each key with its number.

@@ -1,5 +1,5 @@
 //! Nodes that are built by hand, and their whole prefixes.
-ghost use Rattle.std.specs.Prelude.{◌≡◌, ◌≤◌, ◌++◌, ◌∷◌, [], ℕ, length, IfOk};
+ghost use Rattle.std.specs.Prelude.{◌≡◌, ◌≤◌, ◌<◌, ◌++◌, ◌∷◌, [], ℕ, length, IfOk};
 ghost use Rattle.art_nodes.specs.Pointers.{opaque_pointer, slab_key};
 ghost use Rattle.art_arena.specs.FullPrefix.{match_of};
 ghost use Rattle.art_arena.specs.Standing.{TreeAt, TreeUnder};
@@ -15,7 +15,6 @@ use art_nodes::{
     PrefixMatch,
 };
 use std::alloc::{AllocError, Global};
-use std::process::Abort;
 
 // Nodes of two trees that are the same but for their pointers match a key alike. The leaves of the
 // two mismatches may differ.
@@ -104,13 +103,14 @@ fn plant_leaf<const PREFIX_LEN: usize>(
 
 // A node under this path with this prefix, over two trees under what follows.
 fn fork<K: AsBytes, const PREFIX_LEN: usize>(
-    rt: &impl Abort,
     arena: &NodeArena<K, u8, PREFIX_LEN>,
     path: &[u8],
     prefix: &[u8],
     low: (u8, OpaqueNodePtr<K, u8, PREFIX_LEN>),
     high: (u8, OpaqueNodePtr<K, u8, PREFIX_LEN>),
 ) -> InnerNode4<K, u8, PREFIX_LEN>
+    requires ascending { low.0 < high.0 }
+    requires short { length prefix.now < 256 }
     ensures { (depth : ℕ) → depth ≡ length path.now →
         (a : TreeAt K.text arena.now low.1) → a.path ≡ (path.now ++ prefix.now) ++ low.0 ∷ [] →
         (b : TreeAt K.text arena.now high.1) → b.path ≡ (path.now ++ prefix.now) ++ high.0 ∷ [] →
@@ -118,8 +118,6 @@ fn fork<K: AsBytes, const PREFIX_LEN: usize>(
 {
     let (low_byte, low_child) = low;
     let (high_byte, high_child) = high;
-    assert!(rt; low_byte < high_byte);
-    assert!(rt; prefix.len() < 256);
     InnerNode4::builder(prefix, prefix.len())
         .write_child(low_byte, low_child)
         .write_child(high_byte, high_child)
@@ -128,7 +126,6 @@ fn fork<K: AsBytes, const PREFIX_LEN: usize>(
 
 // A node under this path with this prefix, over two leaves.
 fn fork_of_leaves<const PREFIX_LEN: usize>(
-    rt: &impl Abort,
     alloc: Global,
     arena: &mut NodeArena<Vec<u8>, u8, PREFIX_LEN>,
     path: &[u8],
@@ -136,11 +133,13 @@ fn fork_of_leaves<const PREFIX_LEN: usize>(
     low: u8,
     high: u8,
 ) -> Result<InnerNode4<Vec<u8>, u8, PREFIX_LEN>, AllocError>
+    requires ascending { low < high }
+    requires short { length prefix.now < 256 }
     ensures { IfOk result (λ node.
         (under : TreeUnder ⟦<Vec<u8> as AsBytes>⟧.text arena.new node (length path.now)) ×
         (under.path ≡ path.now)) }
 {
     let first = plant_leaf(alloc, arena, path, prefix, low)?;
     let second = plant_leaf(alloc, arena, path, prefix, high)?;
-    Ok(fork(rt, arena, path, prefix, (low, first), (high, second)))
+    Ok(fork(arena, path, prefix, (low, first), (high, second)))
 }

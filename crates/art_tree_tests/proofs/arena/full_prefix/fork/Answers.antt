@@ -7,7 +7,7 @@ pub returns : goal.returns
 returns g c = λ depth deep a a_path b b_path.
     let low = c.args.low in
     let high = c.args.high in
-    let ascend : low.0 < high.0 = omega arith in
+    let ascend : low.0 < high.0 = c.requires.ascending in
     let byte : high.0 < 256 = omega arith in
     let built = built_pair g.row.PREFIX_LEN c.args.prefix.now low high c.builder.result c.write_child.result c.write_child-2.result c.build.result ascend c.builder.ensures c.write_child.ensures c.write_child-2.ensures c.build.ensures.node in
     subst (λ node. (under : TreeUnder g.K.AsBytes.text c.args.arena.now node depth) × (under.path ≡ c.args.path.now)) (sym built)
