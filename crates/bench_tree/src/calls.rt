@@ -6,6 +6,9 @@ use std::io;
 use std::io::Read;
 use std::time::{CpuClock, Duration};
 
+// So few entries are in a cache, in whatever order they lie.
+const FEW: usize = 4096;
+
 /// How the tree gets its entries.
 #[derive(Clone, Copy)]
 pub(crate) enum Filling {
@@ -15,6 +18,8 @@ pub(crate) enum Filling {
     Compacted,
     /// One by one, and then the entries are put into order.
     Ordered,
+    /// One by one, and the entries are put into order each time that their number has doubled.
+    Kept,
     /// All at once.
     Collected,
 }
@@ -202,11 +207,7 @@ fn time_calls<K: Key, D: Dictionary<K>>(
 ) -> io::Result<Timed> {
     let start = clock.thread_cpu_time()?;
     let answers = answers_of(call, dictionary, keys);
-    let end = clock.thread_cpu_time()?;
-    Ok(Timed {
-        answers,
-        nanoseconds: nanoseconds_between(start, end),
-    })
+    timed_since(clock, start, answers)
 }
 
 fn nanoseconds_between(start: Duration, end: Duration) -> u128 {
@@ -220,17 +221,43 @@ fn fill<K: Key>(
     tree: &mut Tree<K>,
     keys: &[K],
 ) -> io::Result<Timed> {
-    let Filling::Collected = filling else {
-        return time_calls(rt, Call::Insert, tree, keys);
-    };
-    let entries = numbered(rt.alloc(), keys)?;
-    let start = rt.thread_cpu_time()?;
-    let answers = extend(tree, entries);
-    let end = rt.thread_cpu_time()?;
+    match filling {
+        Filling::Inserted | Filling::Compacted | Filling::Ordered => {
+            time_calls(rt, Call::Insert, tree, keys)
+        }
+        Filling::Kept => {
+            let start = rt.thread_cpu_time()?;
+            let answers = insert_keeping_order(tree, keys);
+            timed_since(rt, start, answers)
+        }
+        Filling::Collected => {
+            let entries = numbered(rt.alloc(), keys)?;
+            let start = rt.thread_cpu_time()?;
+            let answers = extend(tree, entries);
+            timed_since(rt, start, answers)
+        }
+    }
+}
+
+// The answers of calls that began at this time.
+fn timed_since(clock: &impl CpuClock, start: Duration, answers: Answers) -> io::Result<Timed> {
+    let end = clock.thread_cpu_time()?;
     Ok(Timed {
         answers,
         nanoseconds: nanoseconds_between(start, end),
     })
+}
+
+#[inline(never)]
+fn insert_keeping_order<K: Key>(tree: &mut Tree<K>, keys: &[K]) -> Answers {
+    let mut answers = Answers::new();
+    for (number, key) in keys.iter().enumerate() {
+        if FEW <= number && number.is_power_of_two() && tree.order_entries().is_err() {
+            answers.refused = answers.refused.wrapping_add(1);
+        }
+        answers.add_result(Dictionary::insert(tree, *key, number as u64));
+    }
+    answers
 }
 
 fn numbered<K: Key>(alloc: Global, keys: &[K]) -> Result<Vec<(K, u64)>, AllocError> {
@@ -266,7 +293,7 @@ fn put_in_order<K: Key>(filling: Filling, tree: &mut Tree<K>) -> Result<(), Allo
     match filling {
         Filling::Compacted => tree.compact(),
         Filling::Ordered => tree.order_entries(),
-        Filling::Inserted | Filling::Collected => Ok(()),
+        Filling::Inserted | Filling::Kept | Filling::Collected => Ok(()),
     }
 }
 

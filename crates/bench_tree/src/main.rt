@@ -7,9 +7,10 @@
 //!   the tree took, and those on the map.
 //! - `compacted SHAPE N`, `ordered SHAPE N`: the same, and how long the tree took to be compacted, or to
 //!   put its entries into order, before the calls behind the inserts.
+//! - `kept SHAPE N`: the same on a tree that is put into order each time that its entries have doubled.
 //! - `collected SHAPE N`: the same on a tree that gets its entries at once.
 //! - `hold SHAPE N HOW`: holds the entries in a tree that is filled like this (`time`, `compacted`,
-//!   `ordered` or `collected`), in the `map`, or in neither, prints a line, and waits for the end of
+//!   `ordered`, `kept` or `collected`), in the `map`, or in neither, prints a line, and waits for the end of
 //!   the input, so that its memory can be read.
 //!
 //! It fails where the tree and the map differ.
@@ -105,6 +106,7 @@ fn filling_of(word: &str) -> Option<Filling> {
         "time" => Some(Filling::Inserted),
         "compacted" => Some(Filling::Compacted),
         "ordered" => Some(Filling::Ordered),
+        "kept" => Some(Filling::Kept),
         "collected" => Some(Filling::Collected),
         _ => None,
     }
