@@ -1,5 +1,6 @@
 //! Callers of trees that are made by `load` and by inserts and removals.
 mod branches;
+mod changes;
 mod reading;
 mod reserving;
 mod tree_examples;
