@@ -1,4 +1,4 @@
-use Rattle.std.proofs.Common.{Result, Ok, Err, IfOk, subst}
+use Rattle.std.proofs.Common.{subst}
 use Rattle.art_nodes.specs.Pointers.{opaque_pointer, slab_key}
 use Rattle.art_arena.specs.Arena.{Changes}
 use Rattle.art_tree_tests.proofs.PlantLemmas.{each-value}

@@ -1,4 +1,4 @@
-use Rattle.std.proofs.Common.{ℕ, List, Option, Some, None, IfSome, subst, sym}
+use Rattle.std.proofs.Common.{◌≡◌, ℕ, List, Option, Some, None, IfSome, subst, sym}
 use Rattle.art_nodes.specs.declared.pointers.OpaqueNodePtr.{OpaqueNodePtr}
 use Rattle.art_arena.specs.Arena.{NodeArena}
 use Rattle.art_tree.specs.Art.{IsArt}
@@ -10,6 +10,10 @@ pub stands_at_root : {K V : Type 0} {P : ℕ} (text : K → List ℕ) (arena : N
 stands_at_root text arena (Some root) one = (one.0, one.1.is_tree)
 stands_at_root text arena None one = tt
 
+-- and so it does at what is that root
+pub stands_at : {K V : Type 0} {P : ℕ} (text : K → List ℕ) (arena : NodeArena K V P) (root found : Option (OpaqueNodePtr K V P)) → found ≡ root → IsArt text arena root → IfSome found (HasTree text arena)
+stands_at text arena root found same one = subst (λ root. IfSome root (HasTree text arena)) (sym same) (stands_at_root text arena root one)
+
 pub returns : goal.returns
 returns g c =
-    subst (λ root. IfSome root (HasTree _ c.args.tree.now.arena)) (sym c.root.ensures.root) (stands_at_root _ c.args.tree.now.arena _ c.root.ensures.one_tree)
+    stands_at _ c.args.tree.now.arena c.args.tree.now.root c.root.result c.root.ensures.root c.root.ensures.one_tree

@@ -1,4 +1,4 @@
-use Rattle.std.proofs.Common.{◌≡◌, ◌≢◌, ◌∙◌, ℕ, ◌≤◌, Result, Ok, Err, OnOk, arith}
+use Rattle.std.proofs.Common.{◌∙◌, ℕ, ◌≤◌, Result, Ok, Err, OnOk, arith}
 use Rattle.art_header.specs.declared.node_type.NodeType.{NodeType}
 use Rattle.art_header.specs.declared.node_type.NodeType.TheVariants as kinds
 use Rattle.art_arena.specs.Arena.{NodeArena, room}

@@ -1,4 +1,4 @@
-use Rattle.std.proofs.Common.{◌≡◌, ◌≢◌, ℕ, Option, Some, None, All, refl, ap}
+use Rattle.std.proofs.Common.{◌≡◌, ◌≢◌, Option, Some, None, refl, ap}
 use Rattle.std.proofs.lemmas.List.Elements.{All-weaker}
 use Rattle.art_header.specs.declared.node_type.NodeType.TheVariants as NodeType
 use Rattle.art_nodes.specs.Pointers.{opaque_key, opaque_pointer, slab_key}
