@@ -4,7 +4,7 @@ use art_arena::NodeArena;
 use art_bytes::AsBytes;
 use art_nodes::OpaqueNodePtr;
 use art_tree::ArtTree;
-use std::marker::{Model, PhantomData};
+use std::marker::Model;
 
 /// What contracts see of a map over a tree `T`.
 pub trait ViewOf<T>: Sized {
@@ -51,17 +51,17 @@ pub trait ShowsMap<K: AsBytes, V, const PREFIX_LEN: usize>: ViewOf<ArtTree<K, V,
 }
 
 /// The list of a map's entries, in ascending order of the bytes of their keys: what contracts see of an
-/// [`ArtMap`](crate::ArtMap). No value is made of it.
+/// [`ArtMap`](crate::ArtMap). No map makes a value of it.
 pub struct EntryList<K, V> {
-    entry: PhantomData<(K, V)>,
+    entries: Vec<(K, V)>,
 }
 
 impl<K, V> Model for EntryList<K, V> {
-    ghost use Rattle.std.specs.Prelude.{List, []};
+    ghost use Rattle.std.specs.Prelude.{List};
 
     ghost Value = { List (K × V) };
 
-    ghost view = { λ _. [] };
+    ghost view = { λ list. list.entries.items };
 }
 
 impl<K: AsBytes, V, const PREFIX_LEN: usize> ViewOf<ArtTree<K, V, PREFIX_LEN>> for EntryList<K, V> {

@@ -22,4 +22,4 @@ split_last-requires g c =
     let text = g.K.AsBytes.text in
     let x = g.Q.AsBytes.text c.args.key.now in
     let many : c.count_range-count.result ≡ length (entries_from text x c.args.self.now) = c.count_range-count.ensures ∙ ap (λ end. length (entries_within text g.Q.AsBytes.text (Included c.args.key) end c.args.self.now)) c.no_end.ensures in
-    (assumption, (assumption, (assumption, (assumption, (assumption, (lit< tt, from-fits text x c.args.self.now c.count_range-count.result many))))))
+    (assumption, (assumption, (assumption, (assumption, (assumption, (assumption, (lit< tt, from-fits text x c.args.self.now c.count_range-count.result many)))))))
