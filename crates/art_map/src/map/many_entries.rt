@@ -1,11 +1,12 @@
 //! Calls that make a map of many entries, add or remove many of them, or take a map apart.
-ghost use Rattle.std.specs.Prelude.{◌≡◌, ◌≢◌, ◌<◌, ◌≤◌, ◌++◌, ◌-◌, [], length, is_ok, IfOk, OnErr, OnOk, ◌↔◌, IfErr, IsTrue, ◌∷◌, ◌+◌, All, drop, take, None, map};
+ghost use Rattle.std.specs.Prelude.{◌≡◌, ◌≢◌, ◌<◌, ◌≤◌, ◌++◌, ◌-◌, [], length, is_ok, IfOk, OnErr, OnOk, ◌↔◌, IfErr, IsTrue, ◌∷◌, ◌+◌, All, List, drop, take, None, map};
 ghost use Rattle.std.specs.declared.ops.Bound.TheVariants.{Unbounded};
 ghost use Rattle.art_map.specs.Ranges.{entries_below, entries_from, entries_with_prefix, entries_without_prefix};
 ghost use Rattle.std.specs.List.{AllZip};
 ghost use Rattle.art_map.specs.Appending.{IsAppendRefused, SomeClashes, SomeIsNew};
 ghost use Rattle.art_map.specs.Extending.{put_all, MayStandTogether};
 ghost use Rattle.art_tree.specs.Refusals.{texts_of, IsDue};
+ghost use Rattle.art_tree.specs.declared.loading.check.LoadRefusal.TheVariants.{OutOfMemory};
 ghost use Rattle.art_map.specs.Changes.{IsRefused};
 ghost use Rattle.art_map.specs.Entries.{entry_with};
 ghost use Rattle.std.specs.Map.Calls.{CallableOnEachPair, CalledAtPair, RetainsPairs, TakesPair};
@@ -28,7 +29,7 @@ use crate::walk::retain_between;
 use art_bytes::AsBytes;
 use art_nodes::NodeType;
 use art_tree::laws::{entries_are_one_list, the_list_of_entries_changes_with_them};
-use art_tree::{ArtTree, InsertRefusal, LoadFault, Side};
+use art_tree::{ArtTree, InsertRefusal, LoadFault, LoadRefusal, Side};
 use std::alloc::{AllocError, Global};
 use std::collections::VecDeque;
 use std::mem;
@@ -105,10 +106,7 @@ impl<K: AsBytes + Drop, V: Drop, const PREFIX_LEN: usize> ArtMap<K, V, PREFIX_LE
             return Ok(ArtMap::new(alloc));
         }
         match ArtTree::load(alloc, entries) {
-            Ok(tree) => Ok(MapOver {
-                tree,
-                view: [],
-            }),
+            Ok(tree) => Ok(MapOver { tree, view: [] }),
             Err(fault) => Err(fault),
         }
     }
@@ -507,9 +505,12 @@ impl<K: AsBytes + Drop, V: Drop, const PREFIX_LEN: usize> IntoIterator
 impl<K: AsBytes + Clone, V: Clone, const PREFIX_LEN: usize> ArtMap<K, V, PREFIX_LEN> {
     /// A map of clones of the entries, in their order.
     ///
-    /// Fails where memory is refused, or a key or a value is not cloned, and where the bytes of the keys'
-    /// clones do not ascend as those of the keys do: a `Clone` may return another key, but none of this
-    /// library's does. A map without entries is copied without memory, and never fails.
+    /// Refused with [`OutOfMemory`] where memory is refused, or a key or a value is not cloned; with another
+    /// reason only where [`from_ascending`](Self::from_ascending) refuses the clones for it: a `Clone` may
+    /// return another key, but none of this library's does. A map without entries is copied without
+    /// memory, and never refused.
+    ///
+    /// [`OutOfMemory`]: art_tree::LoadRefusal::OutOfMemory
     ///
     /// Clones each entry, and then costs as much as [`from_ascending`](Self::from_ascending).
     ///
@@ -518,18 +519,23 @@ impl<K: AsBytes + Clone, V: Clone, const PREFIX_LEN: usize> ArtMap<K, V, PREFIX_
     /// let copy = prices.try_clone(rt.alloc())?;
     /// assert!(rt; copy == prices);
     /// ```
-    pub fn try_clone(&self, alloc: Global) -> Result<Self, AllocError>
+    pub fn try_clone(&self, alloc: Global) -> Result<Self, LoadRefusal>
         ensures clones { IfOk result
             (λ map. AllZip (λ p q. K.is_clone p.0 q.0 × V.is_clone p.1 q.1) self.now map) }
+        ensures refusal_due { IfErr result (λ refusal. refusal ≢ OutOfMemory → (clones : List (K × V))
+            × AllZip (λ p q. K.is_clone p.0 q.0 × V.is_clone p.1 q.1) self.now clones
+            × IsDue (texts_of K.text clones) refusal) }
         ensures some_entries { OnErr result (self.now ≢ []) }
     {
         if self.is_empty() {
             return Ok(Self::new(alloc));
         }
-        let entries = cloned_entries(alloc, self.len(), self.iter())?;
+        let Ok(entries) = cloned_entries(alloc, self.len(), self.iter()) else {
+            return Err(LoadRefusal::OutOfMemory);
+        };
         match ArtMap::from_ascending(alloc, entries) {
             Ok(map) => Ok(map),
-            Err(_) => Err(AllocError),
+            Err(fault) => Err(fault.refusal),
         }
     }
 }

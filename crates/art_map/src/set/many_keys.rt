@@ -1,7 +1,8 @@
 //! Calls that make a set of many keys, add or remove many of them, or take a set apart.
-ghost use Rattle.std.specs.Prelude.{All, map, ◌≡◌, ◌≢◌, ◌∷◌, ◌++◌, [], length, IfErr, IfOk, OnErr, OnOk, ◌+◌, drop, take};
+ghost use Rattle.std.specs.Prelude.{All, List, map, ◌≡◌, ◌≢◌, ◌∷◌, ◌++◌, [], length, IfErr, IfOk, OnErr, OnOk, ◌+◌, drop, take};
 ghost use Rattle.art_nodes.specs.declared.pointers.OpaqueNodePtr.{OpaqueNodePtr as Pointer};
 ghost use Rattle.art_tree.specs.Refusals.{texts_of, IsDue};
+ghost use Rattle.art_tree.specs.declared.loading.check.LoadRefusal.TheVariants.{OutOfMemory};
 ghost use Rattle.art_map.specs.Ranges.{keys_from, keys_with_prefix, keys_below, keys_without_prefix};
 ghost use Rattle.art_map.specs.Sets.{HasKey, IsKeyRefused};
 ghost use Rattle.art_map.specs.Shrinking.{NeedsNode};
@@ -20,7 +21,7 @@ use crate::keeps::OnKey;
 use crate::map::ArtMap;
 use crate::set::{ArtSet, SetOver};
 use art_bytes::AsBytes;
-use art_tree::{InsertRefusal, LoadFault};
+use art_tree::{InsertRefusal, LoadFault, LoadRefusal};
 use std::alloc::{AllocError, Global};
 use std::collections::VecDeque;
 
@@ -257,19 +258,23 @@ impl<K: AsBytes + Drop, const PREFIX_LEN: usize> IntoIterator for ArtSet<K, PREF
 }
 
 impl<K: AsBytes + Clone, const PREFIX_LEN: usize> ArtSet<K, PREFIX_LEN> {
-    /// A set of clones of the keys, in their order. Fails and costs as
-    /// [`ArtMap::try_clone`](crate::ArtMap::try_clone).
+    /// A set of clones of the keys, in their order. Refused as
+    /// [`ArtMap::try_clone`](crate::ArtMap::try_clone), and costs as much.
     ///
     /// (from tests/art_map_tests/map/merged_sets.rt.txt)
     /// ```rust
     /// let copy = few.try_clone(rt.alloc())?;
     /// assert!(rt; copy == few);
     /// ```
-    pub fn try_clone(&self, alloc: Global) -> Result<Self, AllocError>
+    pub fn try_clone(&self, alloc: Global) -> Result<Self, LoadRefusal>
         ensures clones { IfOk result (λ set. AllZip K.is_clone self.now set) }
+        ensures refusal_due { IfErr result (λ refusal. refusal ≢ OutOfMemory → (clones : List K)
+            × AllZip K.is_clone self.now clones × IsDue (map K.text clones) refusal) }
         ensures some_keys { OnErr result (self.now ≢ []) }
     {
-        let entries = self.entries.try_clone(alloc)?;
-        Ok(SetOver { entries })
+        match self.entries.try_clone(alloc) {
+            Ok(entries) => Ok(SetOver { entries }),
+            Err(refusal) => Err(refusal),
+        }
     }
 }

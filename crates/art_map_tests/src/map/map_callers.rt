@@ -7,8 +7,7 @@ ghost use Rattle.std.specs.List.{AllZip};
 ghost use Rattle.art_map.specs.Entries.{entry_with, with_value};
 
 use super::*;
-use art_tree::{AsBytes, InsertRefusal};
-use std::alloc::AllocError;
+use art_tree::{AsBytes, InsertRefusal, LoadRefusal};
 use std::cmp::Ordering;
 
 /// Sets the price of a name that is there.
@@ -59,7 +58,7 @@ fn ends<K: AsBytes, const PREFIX_LEN: usize>(
 fn copy_of<K: AsBytes + Clone, const PREFIX_LEN: usize>(
     prices: &ArtMap<K, u32, PREFIX_LEN>,
     alloc: Global,
-) -> Result<ArtMap<K, u32, PREFIX_LEN>, AllocError>
+) -> Result<ArtMap<K, u32, PREFIX_LEN>, LoadRefusal>
     ensures { IfOk result (λ copy. AllZip
         (λ p q. K.is_clone p.0 q.0 × ⟦<u32 as Clone>⟧.is_clone p.1 q.1) prices.now copy) }
 {

@@ -10,7 +10,7 @@ ghost use Rattle.art_map.specs.Sets.{HasKey, key_with, replace_key};
 
 use super::*;
 use art_map::ArtSet;
-use art_tree::{AsBytes, InsertRefusal};
+use art_tree::{AsBytes, InsertRefusal, LoadRefusal};
 use std::alloc::AllocError;
 
 /// The name in the set with the bytes of this one.
@@ -104,7 +104,7 @@ fn keep_some<K: AsBytes + Drop, const PREFIX_LEN: usize, F: FnMut(&K) -> bool>(
 fn copy_of<K: AsBytes + Clone, const PREFIX_LEN: usize>(
     names: &ArtSet<K, PREFIX_LEN>,
     alloc: Global,
-) -> Result<ArtSet<K, PREFIX_LEN>, AllocError>
+) -> Result<ArtSet<K, PREFIX_LEN>, LoadRefusal>
     ensures { IfOk result (λ copy. AllZip K.is_clone names.now copy) }
 {
     names.try_clone(alloc)
