@@ -2,7 +2,7 @@
 use Rattle.art_map.proofs.Names.{◌≡◌, ◌∙◌, ◌-◌, ◌≤◌, ℕ, suc, Bool, true, false, cond, List, [], ◌∷◌, ◌++◌, length, map, filter, drop, All, AllPairs, Contains, Option, Some, None, slice_get, refl, sym, ap, subst, arith, nat_eq, get_or, find, starts_with, option_map, nat_cmp, ordering_then, ordering_reverse, is_le, Ordering, Less, Equal, Greater, Decides-eqb, length-map, count_by-le-length, length-filter, All-head, All-tail, Contains-get_or, slice_get-map, starts_is, IsPrefixOf, text_order, texts_of, if_prefix, entries_up_to}
 use Rattle.std.proofs.lemmas.Cmp.{nat_cmp_total}
 use Rattle.std.proofs.lemmas.Map.Lookups.{exact_unsigned}
-use Rattle.art_map.proofs.CallLaws.{image_inside, order_itself}
+use Rattle.art_map.proofs.CallLaws.{image_inside}
 use Rattle.art_map.proofs.TextLemmas.{same-nat}
 use Rattle.art_map.proofs.RangeLemmas.{last_one}
 

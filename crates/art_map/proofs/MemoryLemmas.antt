@@ -1,5 +1,5 @@
 -- What inserts and removals do to memory, and what lasts where nothing changes or a removal has another result.
-use Rattle.art_map.proofs.Names.{◌≡◌, ◌≢◌, ◌∙◌, ℕ, zero, suc, ◌+◌, ◌-◌, ◌≤◌, List, length, Option, Some, Result, Ok, Err, OnErr, OnOk, IsOk, Bool, is_ok, true, false, inl, inr, refl, sym, ap, subst, arith, opaque_key, opaque_pointer, LeafNode, OpaqueNodePtr, NodeArena, Changes, HeldLeaf, held, leaf_at, leaf_count, leaf_place, entries_of, room, texts, with_value_at, Art, FitsEachTree, HasRoomFor, HasRoomOf, HasValueNow, InsertsInRoom, KeepsRoom, RemovesEachInRoom}
+use Rattle.art_map.proofs.Names.{◌≡◌, ◌∙◌, ℕ, zero, suc, ◌+◌, ◌-◌, ◌≤◌, List, length, Option, Some, Result, Ok, Err, OnErr, OnOk, Bool, is_ok, true, false, inl, inr, refl, sym, ap, subst, arith, opaque_key, opaque_pointer, LeafNode, OpaqueNodePtr, NodeArena, Changes, HeldLeaf, held, leaf_at, leaf_count, leaf_place, entries_of, room, texts, with_value_at, Art, HasRoomFor, HasRoomOf, HasValueNow, InsertsInRoom, KeepsRoom, RemovesEachInRoom}
 use Rattle.art_header.specs.declared.node_type.NodeType.{NodeType}
 use Rattle.art_header.specs.declared.node_type.NodeType.TheVariants as kinds
 use Rattle.art_nodes.specs.Leaf.{with_value}

@@ -1,5 +1,5 @@
 -- Entries that go into slots, out of them and back.
-use Rattle.art_map.proofs.Names.{◌≡◌, ◌≢◌, ◌⊎◌, ◌∙◌, inl, inr, ℕ, zero, suc, ◌+◌, ◌-◌, ◌<◌, ◌≤◌, ◌==◌, Bool, true, false, List, [], ◌∷◌, ◌++◌, length, length-append, length-map, map, map-append, take, All, AllPairs, Contains, Contains-append_cases, Contains-append_left, Option, Some, None, eqb_tells, get_or, get_or_append_left, get_or_default, refl, sym, ap, subst, arith, same_Some, AreRanks, AreTakenFrom, head_of, is_lt, put_all, put_slots, rank_order, slots_at, slot_text, text_in}
+use Rattle.art_map.proofs.Names.{◌≡◌, ◌≢◌, ◌⊎◌, ◌∙◌, inl, inr, ℕ, zero, suc, ◌+◌, ◌-◌, ◌<◌, ◌≤◌, ◌==◌, true, false, List, [], ◌∷◌, ◌++◌, length, length-append, length-map, map, map-append, take, All, AllPairs, Contains, Contains-append_cases, Option, Some, None, eqb_tells, get_or, get_or_append_left, get_or_default, refl, sym, ap, subst, arith, same_Some, AreRanks, AreTakenFrom, head_of, is_lt, put_all, put_slots, rank_order, slots_at, slot_text, text_in}
 use Rattle.std.proofs.Math.ListN.{get_or-eq_default, set}
 use Rattle.std.proofs.Math.Seq.{get_or-append_seam}
 use Rattle.std.proofs.lemmas.Bool.{cases_lt}

@@ -1,5 +1,5 @@
 -- Entries in slots that are put in the order of sorted ranks.
-use Rattle.art_map.proofs.Names.{◌≡◌, ◌≢◌, ◌⊎◌, ◌∙◌, inl, inr, ℕ, zero, suc, ◌+◌, ◌<◌, ◌≤◌, Bool, true, false, not, ◌&&◌, cond, List, [], ◌∷◌, ◌++◌, append_assoc, length, length-append, map, filter, fold, take, drop, All, AllPairs, Contains, Contains-append_cases, Contains-append_left, Contains-append_right, Decides-eqb, eqb_tells, get_or_append_left, get_or_default, images_differ, map-append, ◌==◌, Option, Some, None, slice_index_or, get_or, refl, sym, ap, subst, arith, nat_eq, pointwise, All-nil, All-cons, All-head, All-tail, All-contains, All-weaker, Contains-get_or, length-map, get_or-map, fold_push, is_eq, is_lt, match_ordering, nat_cmp, ordering_then, ordering_reverse, nat_list_cmp_total, Ordering, Less, Equal, Greater, same_Some, text_order, put_entry, texts_of, entry_with, put_all, AreRanks, AreTakenFrom, head_of, put_slot, put_slots, rank_order, slot_text, slots_at, text_in}
+use Rattle.art_map.proofs.Names.{◌≡◌, ◌≢◌, ◌⊎◌, ◌∙◌, inl, inr, ℕ, suc, ◌+◌, ◌<◌, ◌≤◌, Bool, true, false, not, ◌&&◌, cond, List, [], ◌∷◌, ◌++◌, length, length-append, map, filter, drop, All, AllPairs, Contains, Contains-append_cases, Contains-append_left, Contains-append_right, Decides-eqb, eqb_tells, get_or_append_left, get_or_default, images_differ, map-append, ◌==◌, Option, Some, None, slice_index_or, get_or, refl, sym, ap, subst, arith, nat_eq, pointwise, All-nil, All-cons, All-head, All-tail, All-contains, Contains-get_or, length-map, get_or-map, is_eq, is_lt, match_ordering, nat_cmp, ordering_then, ordering_reverse, nat_list_cmp_total, Ordering, Less, Equal, Greater, same_Some, text_order, put_entry, texts_of, entry_with, put_all, AreRanks, AreTakenFrom, head_of, put_slots, rank_order, slot_text, slots_at, text_in}
 use Rattle.std.proofs.lemmas.List.Kept.{AllPairs-cons}
 use Rattle.std.specs.List.Sorted.{IsPermutation, IsStableBy, ties}
 use Rattle.std.proofs.Math.ListN.{drop_of_length-le}
@@ -10,7 +10,7 @@ use Rattle.std.proofs.lemmas.Map.Made.{AllPairs-from_IsDistinct, IsDistinct-from
 use Rattle.std.specs.Cmp.{IsTotalOrder}
 use Rattle.std.proofs.lemmas.Cmp.{nat_cmp_total, on_total, then_total, tied_itself}
 use Rattle.art_bytes.proofs.TextLaws.{all_below, ascend_rest, by_order, by_text, first_below, greater_turned, order_itself, same_texts}
-use Rattle.art_map.proofs.CallLaws.{Ascend, each_found, first_or_later, first_there, found_after_put, found_is, image_inside, inside_image, later_there, none_has, one_has, put_cases, same_order, same_text, none_inside, put_only, text_itself, texts_differ}
+use Rattle.art_map.proofs.CallLaws.{Ascend, each_found, first_there, found_after_put, found_is, image_inside, inside_image, later_there, put_cases, same_order, none_inside, put_only}
 use Rattle.art_map.proofs.JoinLemmas.{put-last}
 use Rattle.art_map.proofs.SetLemmas.{map-of-filter}
 use Rattle.art_bytes.proofs.Members.{the_one}

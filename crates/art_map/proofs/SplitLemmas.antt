@@ -1,5 +1,5 @@
 -- An ascending list of entries is those below a text, and then those that are not.
-use Rattle.art_map.proofs.Names.{◌≡◌, ◌≢◌, ◌<◌, ◌≤◌, ◌∙◌, ℕ, false, cond, List, [], ◌∷◌, ◌++◌, take, drop, length, length-append, Contains, Result, Ok, Err, IfOk, OnErr, OnOk, get_or, refl, sym, ap, subst, arith, nat_list_cmp_total, is_ge, is_lt, ordering_reverse, Ordering, Less, Equal, Greater, Contains-get_or, text_order, texts_of, entries_below, entries_from}
+use Rattle.art_map.proofs.Names.{◌≡◌, ◌≢◌, ◌<◌, ◌≤◌, ◌∙◌, ℕ, false, cond, List, [], ◌∷◌, ◌++◌, take, drop, length, length-append, Contains, Result, Ok, Err, IfOk, OnOk, get_or, refl, sym, ap, subst, arith, nat_list_cmp_total, is_ge, is_lt, ordering_reverse, Ordering, Less, Equal, Greater, Contains-get_or, text_order, texts_of, entries_below, entries_from}
 use Rattle.std.proofs.Math.Seq.{drop-append_seam, take-append_seam}
 use Rattle.art_map.proofs.CallLaws.{Ascend, ascend_rest, image_inside, none_below, same_order}
 use Rattle.art_map.proofs.FrontLemmas.{none-kept, part-fits}

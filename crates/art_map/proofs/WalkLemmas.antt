@@ -1,5 +1,5 @@
 -- A walk along the entries between two sides of keys: what was kept, and what is left to visit.
-use Rattle.art_map.proofs.Names.{by_order, ◌≡◌, ◌≢◌, ◌∙◌, ℕ, ◌<◌, Bool, true, false, not, cond, ◌||◌, List, [], ◌∷◌, ◌++◌, length, filter, map, All, Option, Some, None, Result, Ok, Err, IsErr, OnErr, OnOk, append_assoc, append-nil, refl, sym, ap, subst, inl, inr, arith, nat_eq, nat_list_cmp_total, starts_with, CallableOnEachPair, RetainsPairs, option_map_or, is_ge, is_lt, is_le, ordering_reverse, Ordering, Less, Equal, Greater, Decides-eqb, All-nil, All-cons, All-head, All-tail, All-append, All-weaker, Contains-append_right, filter-append, starts_is, IsPrefixOf, text_order, leaf_key, LeafNode, OpaqueNodePtr, NodeArena, leaf_at, are-entries, or_parts, entries_of, texts_of, is_before, Side, Before, After, AfterBegun, HoldsFirst, IsCut, is_between, entries_from, StopsRetaining, leaf_entry, NeedsNode}
+use Rattle.art_map.proofs.Names.{by_order, ◌≡◌, ◌≢◌, ◌∙◌, ℕ, ◌<◌, Bool, true, false, not, cond, ◌||◌, List, [], ◌∷◌, ◌++◌, length, filter, All, Option, Some, None, append_assoc, append-nil, refl, sym, ap, subst, inl, inr, arith, nat_eq, nat_list_cmp_total, starts_with, CallableOnEachPair, RetainsPairs, option_map_or, is_ge, is_lt, is_le, ordering_reverse, Ordering, Less, Equal, Greater, Decides-eqb, All-nil, All-cons, All-head, All-tail, All-append, All-weaker, Contains-append_right, filter-append, starts_is, IsPrefixOf, text_order, leaf_key, LeafNode, OpaqueNodePtr, NodeArena, leaf_at, are-entries, or_parts, entries_of, texts_of, is_before, Side, Before, After, AfterBegun, HoldsFirst, IsCut, is_between, entries_from, StopsRetaining, leaf_entry, NeedsNode}
 use Rattle.art_map.proofs.CallLaws.{Ascend, ascend_rest, image_inside, none_below, order_itself, same_order}
 use Rattle.art_map.proofs.CursorLemmas.{all-above, behind-ascend}
 use Rattle.art_map.proofs.FrontLemmas.{above-longer, begun, none-kept}

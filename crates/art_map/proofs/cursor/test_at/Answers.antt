@@ -1,6 +1,5 @@
-use Rattle.art_map.proofs.Names.{◌∙◌, ℕ, List, refl, ap, sym, subst, option_map, same_Some, leaf_at, leaf_key, leaf_value, slab_key, Spells, with_value_at}
-use Rattle.art_nodes.specs.Leaf.{with_value}
-use Rattle.art_map.proofs.CalledLemmas.{alone-kept, held-slot}
+use Rattle.art_map.proofs.Names.{◌∙◌, ap, sym, subst, option_map, same_Some, leaf_at, leaf_key, leaf_value, slab_key, with_value_at}
+use Rattle.art_map.proofs.CalledLemmas.{held-slot}
 use Rattle.art_map.proofs.CursorLemmas.{alone-there, cut-changed, entry-is}
 use Rattle.art_map.proofs.MemoryLemmas.{value-room}
 use Rattle.art_map.proofs.cursor.test_at.Goals as goal

@@ -1,4 +1,4 @@
-use Rattle.art_map.proofs.Names.{◌≡◌, ◌≢◌, ◌∙◌, Some, ap, sym, subst, slab_key, Nothing, held, held_leaf, leaf_at, leaf_pointer, IsTaken, at_end, run_of}
+use Rattle.art_map.proofs.Names.{◌≡◌, ◌≢◌, ◌∙◌, Some, ap, sym, subst, slab_key, Nothing, held, leaf_at, leaf_pointer, IsTaken, at_end, run_of}
 use Rattle.art_map.proofs.LeafCounts.{one-leaf-fewer}
 use Rattle.art_map.proofs.LinkLemmas.{leaf-pointer-fits}
 use Rattle.art_map.proofs.ListLemmas.{slot-of}

@@ -1,4 +1,4 @@
-use Rattle.art_map.proofs.Names.{◌≡◌, ◌∙◌, [], All, OnOk, refl, sym, ap, subst, texts_of}
+use Rattle.art_map.proofs.Names.{◌∙◌, [], All, OnOk, refl, ap, subst, texts_of}
 use Rattle.art_map.proofs.CallLaws.{Ascend}
 use Rattle.art_map.proofs.JoinLemmas.{put-in-none}
 use Rattle.art_map.proofs.sorted.load_sorted.Goals as goal

@@ -1,4 +1,4 @@
-use Rattle.art_map.proofs.Names.{◌≡◌, ◌∙◌, ◌≤◌, [], List, Option, length, is_lt, ap, sym, subst, arith, texts_of, rank_order, AreTakenFrom}
+use Rattle.art_map.proofs.Names.{◌∙◌, length, is_lt, ap, sym, subst, arith, texts_of, rank_order, AreTakenFrom}
 use Rattle.std.specs.List.Sorted.{IsStableBy}
 use Rattle.std.specs.Prelude.{vec_capacity}
 use Rattle.art_map.proofs.CallLaws.{Ascend}

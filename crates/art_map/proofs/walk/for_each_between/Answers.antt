@@ -1,4 +1,4 @@
-use Rattle.art_map.proofs.Names.{◌≡◌, ◌∙◌, [], ◌∷◌, ◌++◌, map, Some, true, refl, sym, ap, arith, option_map, slab_key, held, HoldsLeaf, entries_of, leaf_pointer, MayVisit, TakesValue}
+use Rattle.art_map.proofs.Names.{◌∙◌, [], ◌∷◌, ◌++◌, map, true, refl, sym, ap, option_map, slab_key, held, HoldsLeaf, entries_of, leaf_pointer, MayVisit, TakesValue}
 use Rattle.art_map.proofs.CalledLemmas.{changes-in-turn, changing, keys-kept, testable}
 use Rattle.art_map.proofs.CursorLemmas.{is-held}
 use Rattle.art_map.proofs.LinkLemmas.{leaf-pointer-fits}

@@ -1,4 +1,4 @@
-use Rattle.art_map.proofs.Names.{◌≡◌, ◌∙◌, ◌+◌, ◌++◌, length, true, Some, refl, sym, ap, arith, option_map, slab_key, held, HoldsLeaf, entries_of, leaf_pointer, MayVisit, on_err_always, err_from_is_err_and}
+use Rattle.art_map.proofs.Names.{◌≡◌, ◌∙◌, ◌+◌, ◌++◌, length, true, refl, sym, ap, arith, option_map, slab_key, held, HoldsLeaf, entries_of, leaf_pointer, MayVisit, on_err_always, err_from_is_err_and}
 use Rattle.art_map.proofs.CursorLemmas.{is-held}
 use Rattle.art_map.proofs.LinkLemmas.{leaf-pointer-fits}
 use Rattle.art_map.proofs.MemoryLemmas.{removed-next, removed-now, removed-stopped, removes-none, still-room}

@@ -1,4 +1,4 @@
-use Rattle.art_map.proofs.Names.{◌≡◌, ◌∙◌, refl, sym, ap, subst, UnwrapsOrElse, option_map, entries_of, IsSameTree, IsRefused, MayEnter, set_value, entry_with, GrownFor, IsTrueOfTrees, LackedRoomFor, are-entries, list-same}
+use Rattle.art_map.proofs.Names.{◌∙◌, refl, sym, ap, subst, UnwrapsOrElse, option_map, entries_of, IsSameTree, IsRefused, MayEnter, set_value, entry_with, GrownFor, IsTrueOfTrees, LackedRoomFor, are-entries, list-same}
 use Rattle.art_tree.specs.Insertion as tree
 use Rattle.art_map.proofs.EnteredLemmas.{entries-set, err-only}
 use Rattle.art_map.proofs.ListLemmas.{entries-find, if-err, if-ok, is-refused, may-enter, on-err, on-ok}

@@ -1,4 +1,4 @@
-use Rattle.art_map.proofs.Names.{◌≡◌, is_ok, sym, subst, err_from_is_err_and, Removed}
+use Rattle.art_map.proofs.Names.{is_ok, subst, err_from_is_err_and, Removed}
 use Rattle.art_map.proofs.map.changes.MapSeenAs+K+V+PREFIX_LEN+S.remove.Goals as goal
 
 pub returns-clause-memory : goal.returns-clause-memory
