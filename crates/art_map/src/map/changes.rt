@@ -282,10 +282,10 @@ where
     /// an entry with the key and the value that the closure makes is added first. The entry ends with
     /// the value that the caller leaves there.
     ///
-    /// Where the entry is there, its key and its value stay, and the closure is not called: a test sees
-    /// that, and no clause says it. Else it may be refused as by [`insert`](Self::insert), with the key
-    /// and the value that was made, and the entries are then unchanged. Costs as much as
-    /// [`insert`](Self::insert): it goes down once.
+    /// Where the entry is there, its key and its value stay, and nothing that the closure makes is used: a
+    /// test sees that it is not called, and no clause says so. Else it may be refused as by
+    /// [`insert`](Self::insert), with the key and the value that was made, and the entries are then
+    /// unchanged. Costs as much as [`insert`](Self::insert): it goes down once.
     ///
     /// A map without `tin`:
     ///
