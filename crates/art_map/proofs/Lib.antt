@@ -8,6 +8,7 @@ mod EndLemmas
 mod EnteredLemmas
 mod EntryLemmas
 mod ExtendLemmas
+mod FirstLemmas
 mod FrontLemmas
 mod JoinLemmas
 mod LeafCounts
