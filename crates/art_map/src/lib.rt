@@ -1,6 +1,9 @@
-//! An ordered map over an adaptive radix tree: `ArtMap`, whose contracts see it as the list of its
-//! entries. `ArtSet` is an ordered set, seen as the list of its keys. `CALLING.md` shows how they are
-//! used.
+//! An ordered map over an adaptive radix tree: `Map<K, V>`, whose contracts see it as the list of its
+//! entries. `Set<K>` is an ordered set, seen as the list of its keys. They are `ArtMap` and `ArtSet` with
+//! the usual number in the third parameter. `CALLING.md` shows how they are used.
+//!
+//! A key type has bytes (`AsBytes`) by which it sorts. `u64` is none: `Mapped<ToUBE, u64>` is, and there
+//! are others for addresses, strings and tuples.
 //!
 //! The crate re-exports the key types, the refusals, and the tree that a map is over, so a crate that
 //! uses maps lists this one alone.
@@ -21,6 +24,7 @@ mod nearest;
 mod range;
 mod run_ends;
 mod set;
+mod short;
 mod sorted;
 mod view;
 mod walk;
@@ -37,6 +41,7 @@ pub use iter::Iter;
 pub use keys::{Keys, Values};
 pub use map::{ArtMap, ArtTreeMap, DEFAULT_PREFIX_LEN, MapSeenAs};
 pub use set::{ArtSet, Merged};
+pub use short::{Map, Set};
 pub use view::{EntryList, MapView, ShowsMap, ViewOf};
 
 /// What the aliases above stand for. The compiler needs these names; no caller writes them.

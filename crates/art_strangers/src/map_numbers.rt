@@ -1,11 +1,11 @@
 //! Keys that are numbers.
-use art_map::ArtMap;
+use art_map::Map;
 use art_tree::{Mapped, ToUBE};
 use std::ops::Bound;
 
 type Key = Mapped<ToUBE, u32>;
 
-type Index = ArtMap<Key, u32, 16>;
+type Index = Map<Key, u32>;
 
 fn put(index: &mut Index, key: Key, value: u32) -> bool {
     index.insert(key, value).is_ok()

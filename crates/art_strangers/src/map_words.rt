@@ -1,16 +1,16 @@
 //! A map kept in a struct, by bytes.
-use art_map::{ArtMap, DEFAULT_PREFIX_LEN};
+use art_map::Map;
 use std::alloc::Global;
 
 #[derive(Drop)]
 pub struct Book {
-    words: ArtMap<[u8; 4], u64, DEFAULT_PREFIX_LEN>,
+    words: Map<[u8; 4], u64>,
 }
 
 impl Book {
     pub fn new(alloc: Global) -> Book {
         Book {
-            words: ArtMap::new(alloc),
+            words: Map::new(alloc),
         }
     }
 

@@ -1,18 +1,18 @@
 //! A set of words, kept in a struct.
-use art_map::ArtSet;
+use art_map::Set;
 use art_tree::StrKey;
 use std::alloc::{AllocError, Global};
 use std::ops::Bound;
 
 #[derive(Drop)]
 pub struct Words {
-    words: ArtSet<String, 16>,
+    words: Set<String>,
 }
 
 impl Words {
     pub fn new(alloc: Global) -> Words {
         Words {
-            words: ArtSet::new(alloc),
+            words: Set::new(alloc),
         }
     }
 

@@ -88,7 +88,8 @@ impl<K: AsBytes, V, const PREFIX_LEN: usize> ArtMap<K, V, PREFIX_LEN> {
     /// The entries whose keys are within the two bounds, in ascending order, and from the back in
     /// descending order. There are none where the start is above the end. A bound need not be a key
     /// of the map, and may be a prefix of keys. It counts by its bytes: see [`ArtMap`] for bounds of
-    /// another mapping than the keys'.
+    /// another mapping than the keys'. Of a range of std, as `low..high`, [`within`](Self::within) has the
+    /// entries.
     ///
     /// Goes down to the place of each bound as [`lower_bound`](Self::lower_bound) does; then each
     /// entry takes constant time. Takes no memory.
