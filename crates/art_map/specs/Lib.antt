@@ -4,6 +4,7 @@ pub mod Changes
 pub mod Cursors
 pub mod EnteredValues
 pub mod Entries
+pub mod EntryCalls
 pub mod Extending
 pub mod LeafEntries
 pub mod MapLending

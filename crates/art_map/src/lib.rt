@@ -11,6 +11,7 @@
 
 mod cursor;
 mod debug;
+mod entry;
 mod extend_fault;
 mod guide;
 mod into_iter;
@@ -34,6 +35,7 @@ pub use art_tree::{
     Identity, InsertFault, InsertRefusal, LoadFault, LoadRefusal, Mapped, NoPrefixesBytes,
     OrderedBytes, SliceKey, StrKey, ToIBE, ToOctets, ToUBE, escaped_prefix,
 };
+pub use entry::{Entry, OccupiedEntry, VacantEntry};
 pub use extend_fault::{ExtendFault, ExtendKeysFault, StoppedAt};
 pub use into_iter::{IntoIter, IntoKeys};
 pub use into_values::IntoValues;
@@ -47,6 +49,7 @@ pub use view::{EntryList, MapView, ShowsMap, ViewOf};
 /// What the aliases above stand for. The compiler needs these names; no caller writes them.
 #[doc(hidden)]
 pub mod parts {
+    pub use crate::entry::{EntryOver, OccupiedOver, VacantOver};
     pub use crate::into_iter::{OwnedKeys, OwnedRun};
     pub use crate::into_values::OwnedValues;
     pub use crate::iter::{HasRuns, Run};
