@@ -16,7 +16,8 @@
 
    Calls that return uint32_t return one of ART_*. `before`, `value` and the key are written only at ART_SOME,
    `key_len` at ART_SOME and ART_SMALL_BUFFER. A call that only looks needs memory for a key, or a prefix, of more
-   than 256 bytes, and never for a shorter one. Only art_bytes_insert returns ART_KEY_TOO_LONG: for a key of 2^32 - 2
+   than 256 bytes, and never for a shorter one. Only art_bytes_insert and
+   art_bytes_insert_many return ART_KEY_TOO_LONG: for a key of 2^32 - 2
    bytes or more without a look at one of them, and in no case after it took memory. */
 #ifndef ART_H
 #define ART_H
@@ -77,6 +78,22 @@ uint32_t art_bytes_next_many(const art_bytes_map *map, const uint8_t *prefix, si
                              const uint8_t *from, size_t len, bool inclusive,
                              uint8_t *keys, size_t capacity, size_t *ends, size_t ends_len,
                              uint64_t *values, size_t values_len, size_t *count, size_t *key_len);
+/* The same of the entries at or before a key, from the last one down. */
+uint32_t art_bytes_previous_many(const art_bytes_map *map, const uint8_t *prefix, size_t prefix_len,
+                                 const uint8_t *from, size_t len, bool inclusive,
+                                 uint8_t *keys, size_t capacity, size_t *ends, size_t ends_len,
+                                 uint64_t *values, size_t values_len, size_t *count, size_t *key_len);
+/* Looks up many keys, which lie as next_many writes them: the key `i` ends before keys[ends[i]], and begins where the one
+   before it ends. As many as the shortest of `ends`, `found` and `values` holds, how many `count` says. found[i] is 1, and
+   values[i] the value, where there is an entry; else found[i] is 0, and values[i] as it was. ART_NONE, or ART_NO_MEMORY at
+   the first that is refused. */
+uint32_t art_bytes_get_many(const art_bytes_map *map, const uint8_t *keys, size_t keys_len, const size_t *ends,
+                            size_t ends_len, uint8_t *found, size_t found_len, uint64_t *values, size_t values_len,
+                            size_t *count);
+/* Inserts many entries one after another, whose keys lie so, as many as the shorter of both arrays holds, in any order:
+   ART_NONE, or ART_KEY_TOO_LONG or ART_NO_MEMORY at the first that is refused. The first *done are in. */
+uint32_t art_bytes_insert_many(art_bytes_map *map, const uint8_t *keys, size_t keys_len, const size_t *ends,
+                               size_t ends_len, const uint64_t *values, size_t values_len, size_t *done);
 uint32_t art_bytes_first(const art_bytes_map *map, uint8_t *key_out, size_t capacity, size_t *key_len, uint64_t *value);
 uint32_t art_bytes_last(const art_bytes_map *map, uint8_t *key_out, size_t capacity, size_t *key_len, uint64_t *value);
 /* The same, and the entry is removed where its key fits (ART_SOME). */
@@ -85,7 +102,7 @@ uint32_t art_bytes_pop_last(art_bytes_map *map, uint8_t *key_out, size_t capacit
 /* How many keys begin with a prefix, or ART_NO_COUNT where memory for the prefix is refused. */
 size_t art_bytes_count_prefix(const art_bytes_map *map, const uint8_t *prefix, size_t len);
 
-/* Only new, reserve, compact, insert, remove and pops may return ART_NO_MEMORY. */
+/* Only new, reserve, compact, insert, insert_many, remove and pops may return ART_NO_MEMORY. */
 uint32_t art_u64_new(art_u64_map *map);
 void art_u64_free(art_u64_map *map);
 size_t art_u64_len(const art_u64_map *map);
@@ -109,6 +126,14 @@ size_t art_u64_next_many(const art_u64_map *map, uint64_t from, bool inclusive,
 /* The same of the entries at or before a key, from the last one down. */
 size_t art_u64_previous_many(const art_u64_map *map, uint64_t from, bool inclusive,
                              uint64_t *keys, size_t keys_len, uint64_t *values, size_t values_len);
+/* Looks up many keys, as many as the shortest of the arrays holds: how many. found[i] is 1, and values[i] the value, where
+   keys[i] has an entry; else found[i] is 0, and values[i] as it was. */
+size_t art_u64_get_many(const art_u64_map *map, const uint64_t *keys, size_t keys_len,
+                        uint8_t *found, size_t found_len, uint64_t *values, size_t values_len);
+/* Inserts many entries one after another, as many as the shorter of both arrays holds, in any order: ART_NONE, or
+   ART_NO_MEMORY at the first that is refused. The first *done are in. */
+uint32_t art_u64_insert_many(art_u64_map *map, const uint64_t *keys, size_t keys_len,
+                             const uint64_t *values, size_t values_len, size_t *done);
 
 /* What the library has under the names of calls that only look wants a handle that no other call uses while it runs. So in
    programs each of these names is that of a function which gives it a copy of the handle: threads have one each. */
@@ -153,6 +178,22 @@ static inline uint32_t art_bytes_own_next_many(const art_bytes_map *map, const u
                                values_len, count, key_len);
 }
 #define art_bytes_next_many art_bytes_own_next_many
+static inline uint32_t art_bytes_own_previous_many(const art_bytes_map *map, const uint8_t *prefix, size_t prefix_len,
+                                                   const uint8_t *from, size_t len, bool inclusive, uint8_t *keys,
+                                                   size_t capacity, size_t *ends, size_t ends_len, uint64_t *values,
+                                                   size_t values_len, size_t *count, size_t *key_len) {
+    art_bytes_map own = *map;
+    return art_bytes_previous_many(&own, prefix, prefix_len, from, len, inclusive, keys, capacity, ends, ends_len,
+                                   values, values_len, count, key_len);
+}
+#define art_bytes_previous_many art_bytes_own_previous_many
+static inline uint32_t art_bytes_own_get_many(const art_bytes_map *map, const uint8_t *keys, size_t keys_len,
+                                              const size_t *ends, size_t ends_len, uint8_t *found, size_t found_len,
+                                              uint64_t *values, size_t values_len, size_t *count) {
+    art_bytes_map own = *map;
+    return art_bytes_get_many(&own, keys, keys_len, ends, ends_len, found, found_len, values, values_len, count);
+}
+#define art_bytes_get_many art_bytes_own_get_many
 static inline uint32_t art_bytes_own_first(const art_bytes_map *map, uint8_t *key_out, size_t capacity,
                                            size_t *key_len, uint64_t *value) {
     art_bytes_map own = *map;
@@ -214,6 +255,12 @@ static inline size_t art_u64_own_previous_many(const art_u64_map *map, uint64_t 
     return art_u64_previous_many(&own, from, inclusive, keys, keys_len, values, values_len);
 }
 #define art_u64_previous_many art_u64_own_previous_many
+static inline size_t art_u64_own_get_many(const art_u64_map *map, const uint64_t *keys, size_t keys_len,
+                                          uint8_t *found, size_t found_len, uint64_t *values, size_t values_len) {
+    art_u64_map own = *map;
+    return art_u64_get_many(&own, keys, keys_len, found, found_len, values, values_len);
+}
+#define art_u64_get_many art_u64_own_get_many
 
 #ifdef __cplusplus
 }

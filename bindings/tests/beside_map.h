@@ -86,26 +86,82 @@ template <class Source> class BytesBeside {
         return at != model.end() && begins(at->first, prefix) ? at : model.end();
     }
 
-    // The next entries, as many as fit into buffers of which none has much room.
-    void next_many(const std::string &prefix, const std::string &key, bool inclusive) {
+    // The last entry at or before a key that begins with the prefix.
+    Entry before_with(const std::string &prefix, const std::string &key, bool inclusive) const {
+        Entry last = model.end();
+        for (Entry at = model.lower_bound(prefix); at != model.end() && begins(at->first, prefix); ++at)
+            if (at->first < key || (inclusive && at->first == key)) last = at;
+        return last;
+    }
+
+    // The next entries, up or down, as many as fit into buffers of which none has much room.
+    void many(const std::string &prefix, const std::string &key, bool inclusive, bool up) {
         size_t count = NO_LEN, written = 0, end = 0;
         std::vector<size_t> ends(1 + source.below(6), NO_LEN);
         std::vector<uint64_t> values(1 + source.below(6), NO_VALUE);
         size_t ends_len = ends.size() - source.below(2), values_len = values.size() - source.below(2);
-        uint32_t status = art_bytes_next_many(&map, bytes(prefix), prefix.size(), bytes(key), key.size(), inclusive, room(), out.size(),
-                                              ends.data(), ends_len, values.data(), values_len, &count, &len);
-        Entry at = after_with(prefix, key, inclusive);
+        auto call = [&](auto next) {
+            return next(&map, bytes(prefix), prefix.size(), bytes(key), key.size(), inclusive, room(), out.size(), ends.data(), ends_len,
+                        values.data(), values_len, &count, &len);
+        };
+        uint32_t status = up ? call(art_bytes_next_many) : call(art_bytes_previous_many);
+        Entry at = up ? after_with(prefix, key, inclusive) : before_with(prefix, key, inclusive);
         auto left = [&] { return at != model.end() && begins(at->first, prefix); };
-        for (; left() && written < std::min(ends_len, values_len) && at->first.size() <= out.size() - end; ++at, ++written) {
+        while (left() && written < std::min(ends_len, values_len) && at->first.size() <= out.size() - end) {
             CHECK(std::equal(out.begin() + end, out.begin() + end + at->first.size(), bytes(at->first)));
             end += at->first.size();
             CHECK(ends[written] == end && values[written] == at->second);
+            written++;
+            if (up) ++at;
+            else at = at == model.begin() ? model.end() : std::prev(at);
         }
         CHECK(count == written && status == (written ? ART_SOME : left() ? ART_SMALL_BUFFER : ART_NONE));
         CHECK(len == (status == ART_SMALL_BUFFER ? at->first.size() : NO_LEN));
         CHECK(std::all_of(out.begin() + end, out.end(), [](uint8_t byte) { return byte == NO_BYTE; }));
         CHECK(std::all_of(ends.begin() + written, ends.end(), [](size_t it) { return it == NO_LEN; }));
         CHECK(std::all_of(values.begin() + written, values.end(), [](uint64_t it) { return it == NO_VALUE; }));
+    }
+
+    // Some keys, one behind another; a few ends are anywhere.
+    std::vector<std::string> some_keys(std::string &all, std::vector<size_t> &ends) {
+        for (uint64_t more = source.below(9); more > 0; more--) {
+            all += source.key();
+            ends.push_back(source.below(30) == 0 ? source.below(99) : all.size());
+        }
+        std::vector<std::string> keys;
+        size_t start = 0;
+        for (size_t end : ends) {
+            size_t from = std::min(start, all.size());
+            keys.push_back(all.substr(from, std::max(std::min(end, all.size()), from) - from));
+            start = end;
+        }
+        return keys;
+    }
+
+    void get_many() {
+        std::string all;
+        std::vector<size_t> ends;
+        std::vector<std::string> keys = some_keys(all, ends);
+        std::vector<uint64_t> values(source.below(9), NO_VALUE);
+        std::vector<uint8_t> are_found(source.below(9), NO_BYTE);
+        size_t count = NO_LEN;
+        CHECK(art_bytes_get_many(&map, bytes(all), all.size(), ends.data(), ends.size(), are_found.data(), are_found.size(), values.data(),
+                                 values.size(), &count) == ART_NONE);
+        CHECK(count == std::min({keys.size(), are_found.size(), values.size()}));
+        for (size_t i = 0; i < are_found.size(); i++) CHECK(are_found[i] == (i < count ? model.count(keys[i]) : NO_BYTE));
+        for (size_t i = 0; i < values.size(); i++) CHECK(values[i] == (i < count && model.count(keys[i]) ? model.at(keys[i]) : NO_VALUE));
+    }
+
+    void insert_many() {
+        std::string all;
+        std::vector<size_t> ends;
+        std::vector<std::string> keys = some_keys(all, ends);
+        std::vector<uint64_t> values(source.below(9));
+        for (uint64_t &it : values) it = source.number();
+        size_t done = NO_LEN, wanted = std::min(keys.size(), values.size());
+        CHECK(art_bytes_insert_many(&map, bytes(all), all.size(), ends.data(), ends.size(), values.data(), values.size(), &done) == ART_NONE);
+        CHECK(done == wanted);
+        for (size_t i = 0; i < wanted; i++) model[keys[i]] = values[i];
     }
 
   public:
@@ -156,7 +212,13 @@ template <class Source> class BytesBeside {
         len = NO_LEN;
         value = NO_VALUE;
         Entry at = model.find(key);
-        switch (source.below(16)) {
+        switch (source.below(18)) {
+        case 16:
+            get_many();
+            break;
+        case 17:
+            insert_many();
+            break;
         case 0: case 1: case 2: case 3: case 4:
             found_value(at, art_bytes_insert(&map, bytes(key), key.size(), put, &value));
             model[key] = put;
@@ -202,7 +264,7 @@ template <class Source> class BytesBeside {
             break;
         }
         case 14:
-            next_many(key.substr(0, source.below(3)), key, choice);
+            many(key.substr(0, source.below(3)), source.below(2) == 0 ? key : source.key(), choice, source.below(2) == 0);
             if (source.below(64) == 0) walk();
             break;
         default:
@@ -275,6 +337,33 @@ template <class Source> class NumbersBeside {
         CHECK(std::all_of(values.begin() + written, values.end(), untouched));
     }
 
+    // Some keys, of which about half are there.
+    std::vector<uint64_t> some_keys() {
+        std::vector<uint64_t> keys(source.below(9));
+        for (uint64_t &key : keys) {
+            key = source.number();
+            if (source.below(2) == 0 && model.lower_bound(key) != model.end()) key = model.lower_bound(key)->first;
+        }
+        return keys;
+    }
+
+    void get_many() {
+        std::vector<uint64_t> keys = some_keys(), values(source.below(9), NO_VALUE);
+        std::vector<uint8_t> are_found(source.below(9), NO_BYTE);
+        size_t count = art_u64_get_many(&map, keys.data(), keys.size(), are_found.data(), are_found.size(), values.data(), values.size());
+        CHECK(count == std::min({keys.size(), are_found.size(), values.size()}));
+        for (size_t i = 0; i < are_found.size(); i++) CHECK(are_found[i] == (i < count ? model.count(keys[i]) : NO_BYTE));
+        for (size_t i = 0; i < values.size(); i++) CHECK(values[i] == (i < count && model.count(keys[i]) ? model.at(keys[i]) : NO_VALUE));
+    }
+
+    void insert_many() {
+        std::vector<uint64_t> keys = some_keys(), values(source.below(9));
+        for (uint64_t &it : values) it = source.number();
+        size_t done = NO_LEN, wanted = std::min(keys.size(), values.size());
+        CHECK(art_u64_insert_many(&map, keys.data(), keys.size(), values.data(), values.size(), &done) == ART_NONE && done == wanted);
+        for (size_t i = 0; i < wanted; i++) model[keys[i]] = values[i];
+    }
+
   public:
     explicit NumbersBeside(Source &choices) : source(choices) {
         CHECK(art_u64_new(&map) == ART_NONE);
@@ -307,7 +396,13 @@ template <class Source> class NumbersBeside {
         // Half of the keys are there.
         if (source.below(2) == 0 && model.lower_bound(key) != model.end()) key = model.lower_bound(key)->first;
         Entry at = model.find(key);
-        switch (source.below(16)) {
+        switch (source.below(18)) {
+        case 16:
+            get_many();
+            break;
+        case 17:
+            insert_many();
+            break;
         case 0: case 1: case 2: case 3: case 4: case 5:
             found_value(at, art_u64_insert(&map, key, put, &value));
             model[key] = put;

@@ -22,6 +22,9 @@ static int without_bytes(art_bytes_map *map) {
     CHECK(art_bytes_next_with_prefix(map, key, 1, key, 3, true, out, 4, &len, &value) == ART_NO_MAP);
     size_t ends[2] = {6, 6}, count = 8;
     CHECK(art_bytes_next_many(map, key, 1, key, 3, true, out, 4, ends, 2, &value, 1, &count, &len) == ART_NO_MAP);
+    CHECK(art_bytes_previous_many(map, key, 1, key, 3, true, out, 4, ends, 2, &value, 1, &count, &len) == ART_NO_MAP);
+    CHECK(art_bytes_get_many(map, key, 3, ends, 1, out, 1, &value, 1, &count) == ART_NO_MAP);
+    CHECK(art_bytes_insert_many(map, key, 3, ends, 1, &value, 1, &count) == ART_NO_MAP);
     CHECK(ends[0] == 6 && count == 8);
     CHECK(art_bytes_first(map, out, 4, &len, &value) == ART_NO_MAP);
     CHECK(art_bytes_last(map, out, 4, &len, &value) == ART_NO_MAP);
@@ -50,7 +53,11 @@ static int without_numbers(art_u64_map *map) {
     CHECK(art_u64_pop_last(map, &key, &value) == ART_NO_MAP);
     CHECK(art_u64_next_many(map, 0, true, keys, 2, values, 2) == 0);
     CHECK(art_u64_previous_many(map, 9, true, keys, 2, values, 2) == 0);
-    CHECK(key == 5 && value == 7 && keys[0] == 1 && values[1] == 2);
+    uint8_t found[2] = {3, 3};
+    size_t done = 6;
+    CHECK(art_u64_get_many(map, keys, 2, found, 2, values, 2) == 0);
+    CHECK(art_u64_insert_many(map, keys, 2, values, 2, &done) == ART_NO_MAP);
+    CHECK(key == 5 && value == 7 && keys[0] == 1 && values[1] == 2 && found[0] == 3 && done == 6);
     art_u64_free(map);
     return 0;
 }

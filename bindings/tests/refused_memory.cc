@@ -104,6 +104,8 @@ static std::vector<Call> script() {
         look(CALL(return art_bytes_next_with_prefix(&maps.bytes, key, len / 2, key, len, true, maps.key, sizeof maps.key, &maps.len, &maps.value);), i);
         look(CALL(size_t ends[4]; size_t count; uint64_t values[4];
                   return art_bytes_next_many(&maps.bytes, key, len / 2, key, len, true, maps.key, sizeof maps.key, ends, 4, values, 4, &count, &maps.len);), i);
+        look(CALL(size_t ends[4]; size_t count; uint64_t values[4];
+                  return art_bytes_previous_many(&maps.bytes, key, len / 2, key, len, true, maps.key, sizeof maps.key, ends, 4, values, 4, &count, &maps.len);), i);
         look(CALL(return art_bytes_count_prefix(&maps.bytes, key, len) == ART_NO_COUNT ? ART_NO_MEMORY : ART_NONE;), i);
         look(CALL(return art_u64_get(&maps.numbers, with, &maps.value);), i);
     }
@@ -150,7 +152,33 @@ static bool run(const std::vector<Call> &calls, long allocation) {
     return refused;
 }
 
+// Many entries at once, with this allocation refused: those before it are in, and no others. Whether there was one.
+static bool stops(long allocation) {
+    Maps maps;
+    std::vector<uint64_t> keys, values;
+    for (uint64_t i = 0; i < 300; i++) {
+        keys.push_back(i * 0x9E3779B97F4A7C15u >> 40);
+        values.push_back(i);
+    }
+    CHECK(art_u64_new(&maps.numbers) == ART_NONE);
+    until_refusal = allocation;
+    refused = false;
+    size_t done = 0;
+    counting = true;
+    uint32_t status = art_u64_insert_many(&maps.numbers, keys.data(), keys.size(), values.data(), values.size(), &done);
+    counting = false;
+    CHECK(status == (refused ? ART_NO_MEMORY : ART_NONE) && (done < keys.size()) == refused);
+    std::map<uint64_t, uint64_t> model;
+    for (size_t i = 0; i < done; i++) model[keys[i]] = values[i];
+    CHECK((maps.entries().second == std::vector<std::pair<uint64_t, uint64_t>>(model.begin(), model.end())));
+    art_u64_free(&maps.numbers);
+    CHECK(blocks == 0);
+    return refused;
+}
+
 int main() {
+    long many = 1;
+    while (stops(many)) many++;
     std::vector<Call> calls = script();
     long allocation = 1;
     while (run(calls, allocation)) allocation++;

@@ -1,12 +1,14 @@
 //! The exports for maps by bytes.
-ghost use Rattle.std.specs.Prelude.{◌≡◌, ◌≢◌, ◌-◌, ◌^◌, ◌≤◌, ◌⊎◌, ◌↔◌, [], None, Some, IfNone, IfSome, IsSome, drop, length, min, nat_le, take, if◌then◌else◌};
+ghost use Rattle.std.specs.Prelude.{All, ◌≡◌, ◌≢◌, ◌-◌, ◌^◌, ◌<◌, ◌≤◌, ◌⊎◌, ◌↔◌, [], None, Some, IfNone, IfSome, IsSome, drop, get_or, length, min, nat_le, reverse, take, if◌then◌else◌};
+ghost use Rattle.std.specs.List.{zip};
 ghost use Rattle.std.specs.Option.{option_map};
 ghost use Rattle.art_bytes.specs.Text.{text_order};
 ghost use Rattle.art_mapped.specs.Escaped.{escaped_text};
 ghost use Rattle.art_c.specs.Handles.{entries_of};
 ghost use Rattle.art_c.specs.Statuses.{ART_HAS_MAP, ART_KEY_TOO_LONG, ART_NONE, ART_NO_MAP, ART_NO_MEMORY, ART_SMALL_BUFFER, ART_SOME, IsDone, IsRefusal, batch_status, found_or, key_len_or, status_in, status_of, value_in};
-ghost use Rattle.art_c_maps.specs.Batch.{ends_of, joined, next_fitting, unfit_len};
-ghost use Rattle.art_c_maps.specs.Entries.{begun_with, entries_from, entries_to, entries_with_prefix, first_of, keys_of, last_of, put, value_of, values_of, without};
+ghost use Rattle.art_c_maps.specs.Batch.{ends_of, joined, next_fitting, previous_fitting, unfit_len};
+ghost use Rattle.art_c_maps.specs.Entries.{begun_with, entries_from, entries_to, entries_with_prefix, first_of, keys_of, last_of, put, put_each, value_of, values_of, without};
+ghost use Rattle.art_c_maps.specs.Many.{are_found, cut, found_values};
 ghost use Rattle.art_c_maps.specs.Unescaped.{key_written};
 
 use crate::bytes_handle::BytesHandle;
@@ -425,6 +427,64 @@ pub extern "C" fn art_bytes_next_many(
     }
 }
 
+/// Writes out the last entries at a key or before it, of those whose keys begin with a prefix, from the last one
+/// down: as many as the buffers hold.
+#[unsafe(no_mangle)]
+pub extern "C" fn art_bytes_previous_many(
+    alloc: Global,
+    map: &mut BytesView,
+    prefix: &[u8],
+    from: &[u8],
+    inclusive: bool,
+    keys: &mut [u8],
+    ends: &mut [usize],
+    values: &mut [u64],
+    count: &mut usize,
+    key_len: &mut usize,
+) -> u32
+    ensures no_map { (result ≡ ART_NO_MAP) ↔ (map.old.seen ≡ None) }
+    ensures status { IsDone result → result ≡ batch_status
+        (length (previous_fitting
+        (min (length ends.old) (length values.old)) (length keys.old)
+        prefix.now inclusive from.now (entries_of map.old.seen)))
+        (unfit_len (previous_fitting
+        (min (length ends.old) (length values.old)) (length keys.old)
+        prefix.now inclusive from.now (entries_of map.old.seen))
+        (first_of (reverse (entries_to text_order inclusive from.now
+        (entries_with_prefix prefix.now (entries_of map.old.seen)))))) }
+    ensures count { IsDone result → count.new ≡ length (previous_fitting
+        (min (length ends.old) (length values.old)) (length keys.old)
+        prefix.now inclusive from.now (entries_of map.old.seen)) }
+    ensures keys { IsDone result → keys.new ≡ begun_with (joined (keys_of (previous_fitting
+        (min (length ends.old) (length values.old)) (length keys.old)
+        prefix.now inclusive from.now (entries_of map.old.seen)))) keys.old }
+    ensures ends { IsDone result → ends.new ≡ begun_with (ends_of (previous_fitting
+        (min (length ends.old) (length values.old)) (length keys.old)
+        prefix.now inclusive from.now (entries_of map.old.seen))) ends.old }
+    ensures values { IsDone result → values.new ≡ begun_with (values_of (previous_fitting
+        (min (length ends.old) (length values.old)) (length keys.old)
+        prefix.now inclusive from.now (entries_of map.old.seen))) values.old }
+    ensures key_len { IsDone result → key_len.new ≡ found_or
+        (unfit_len (previous_fitting
+        (min (length ends.old) (length values.old)) (length keys.old)
+        prefix.now inclusive from.now (entries_of map.old.seen))
+        (first_of (reverse (entries_to text_order inclusive from.now
+        (entries_with_prefix prefix.now (entries_of map.old.seen)))))) key_len.old }
+    ensures refused { IsRefusal result → (keys.new ≡ keys.old) × (ends.new ≡ ends.old)
+        × (values.new ≡ values.old) × (count.new ≡ count.old) × (key_len.new ≡ key_len.old) }
+    ensures takes_no_memory { length prefix.now ≤ 256 → length from.now ≤ 256 →
+        result ≢ ART_NO_MEMORY }
+    ensures same { map.new ≡ map.old }
+{
+    let Some(held) = map.lent() else {
+        return NO_MAP;
+    };
+    match held.previous_many(alloc, prefix, from, inclusive, keys, ends, values) {
+        Ok((written, unfit)) => batch_status(written, unfit, count, key_len),
+        Err(_) => NO_MEMORY,
+    }
+}
+
 /// Finds the entry with the least key.
 #[unsafe(no_mangle)]
 pub extern "C" fn art_bytes_first(
@@ -558,4 +618,80 @@ pub extern "C" fn art_bytes_count_prefix(alloc: Global, map: &mut BytesView, pre
     };
     let counted = held.count_prefix(alloc, prefix);
     counted.unwrap_or(usize::MAX)
+}
+
+/// Looks up many keys, as many as the shortest of `ends`, `found` and `values` holds: which of them are found, with a
+/// 1 or a 0 each, and the values of those. Writes out how many were looked up.
+#[unsafe(no_mangle)]
+pub extern "C" fn art_bytes_get_many(
+    alloc: Global,
+    map: &mut BytesView,
+    keys: &[u8],
+    ends: &[usize],
+    found: &mut [u8],
+    values: &mut [u64],
+    count: &mut usize,
+) -> u32
+    ensures no_map { (result ≡ ART_NO_MAP) ↔ (map.old.seen ≡ None) }
+    ensures status { IsDone result → result ≡ ART_NONE }
+    ensures all { IsDone result →
+        count.new ≡ min (length ends.now) (min (length found.old) (length values.old)) }
+    ensures stopped { result ≡ ART_NO_MEMORY →
+        count.new < min (length ends.now) (min (length found.old) (length values.old)) }
+    ensures found { result ≢ ART_NO_MAP → found.new ≡ begun_with
+        (are_found (value_of text_order (entries_of map.old.seen)) (take count.new (cut keys.now ends.now))) found.old }
+    ensures values { result ≢ ART_NO_MAP → values.new ≡ begun_with
+        (found_values (value_of text_order (entries_of map.old.seen))
+        (take count.new (zip (cut keys.now ends.now) values.old))) values.old }
+    ensures takes_no_memory { All (λ key. length key ≤ 256) (cut keys.now ends.now) → result ≢ ART_NO_MEMORY }
+    ensures unchanged { result ≡ ART_NO_MAP →
+        (found.new ≡ found.old) × (values.new ≡ values.old) × (count.new ≡ count.old) }
+    ensures same { map.new ≡ map.old }
+{
+    let Some(held) = map.lent() else {
+        return NO_MAP;
+    };
+    let (done, looked_up) = held.get_many(alloc, keys, ends, found, values);
+    *count = done;
+    match looked_up {
+        Ok(_) => NONE,
+        Err(_) => NO_MEMORY,
+    }
+}
+
+/// Sets the values of many keys one after another, as many as the shorter of `ends` and `values` holds, and writes
+/// out how many were set.
+#[unsafe(no_mangle)]
+pub extern "C" fn art_bytes_insert_many(
+    alloc: Global,
+    map: &mut BytesHandle,
+    keys: &[u8],
+    ends: &[usize],
+    values: &[u64],
+    done: &mut usize,
+) -> u32
+    ensures no_map { (result ≡ ART_NO_MAP) ↔ (map.old.held ≡ None) }
+    ensures entries { result ≢ ART_NO_MAP → map.new.held ≡ Some (put_each text_order
+        (entries_of map.old.held) (take done.new (zip (cut keys.now ends.now) values.now))) }
+    ensures status { IsDone result × (result ≢ ART_KEY_TOO_LONG) → result ≡ ART_NONE }
+    ensures all { result ≡ ART_NONE → done.new ≡ length (zip (cut keys.now ends.now) values.now) }
+    ensures stopped { (result ≡ ART_NO_MEMORY) ⊎ (result ≡ ART_KEY_TOO_LONG) →
+        done.new < length (zip (cut keys.now ends.now) values.now) }
+    ensures too_long { result ≡ ART_KEY_TOO_LONG →
+        2 ^ 32 ≤ length (escaped_text (get_or (cut keys.now ends.now) done.new [])) }
+    ensures not_too_long { result ≡ ART_NO_MEMORY →
+        length (escaped_text (get_or (cut keys.now ends.now) done.new [])) < 2 ^ 32 }
+    ensures unchanged { result ≡ ART_NO_MAP →
+        (map.new.held ≡ map.old.held) × (done.new ≡ done.old) }
+{
+    let Some(held) = map.lent_mut() else {
+        return NO_MAP;
+    };
+    let (count, inserted) = held.insert_many(alloc, keys, ends, values);
+    *done = count;
+    match inserted {
+        Ok(_) => NONE,
+        Err(Refusal::KeyTooLong) => KEY_TOO_LONG,
+        Err(Refusal::OutOfMemory) => NO_MEMORY,
+    }
 }

@@ -1,10 +1,12 @@
 //! The exports for maps by numbers.
-ghost use Rattle.std.specs.Prelude.{◌≡◌, ◌≢◌, ◌-◌, ◌⊎◌, ◌↔◌, [], None, Some, IfOk, IsSome, OnErr, drop, length, min, take};
+ghost use Rattle.std.specs.Prelude.{◌≡◌, ◌≢◌, ◌-◌, ◌<◌, ◌⊎◌, ◌↔◌, [], None, Some, IfOk, IsSome, OnErr, drop, length, min, take};
+ghost use Rattle.std.specs.List.{zip};
 ghost use Rattle.std.specs.Option.{option_map};
 ghost use Rattle.std.specs.Ordering.{nat_cmp};
 ghost use Rattle.art_c.specs.Handles.{entries_of};
 ghost use Rattle.art_c.specs.Statuses.{ART_HAS_MAP, ART_NONE, ART_NO_MAP, ART_NO_MEMORY, IsDone, IsRefusal, found_or, number_or, status_of, value_or};
-ghost use Rattle.art_c_maps.specs.Entries.{begun_with, entries_from, entries_to, first_of, keys_of, last_of, next_entries, previous_entries, put, value_of, values_of, without};
+ghost use Rattle.art_c_maps.specs.Entries.{begun_with, entries_from, entries_to, first_of, keys_of, last_of, next_entries, previous_entries, put, put_each, value_of, values_of, without};
+ghost use Rattle.art_c_maps.specs.Many.{are_found, found_values};
 
 use crate::number_handle::NumberHandle;
 use crate::number_view::NumberView;
@@ -379,4 +381,58 @@ pub extern "C" fn art_u64_previous_many(
     };
     let count = held.previous_many(from, inclusive, keys, values);
     count
+}
+
+/// Looks up many keys, as many as the shortest of the arrays holds: which of them are found, with a 1 or a 0 each,
+/// and the values of those. Returns how many were looked up.
+#[unsafe(no_mangle)]
+pub extern "C" fn art_u64_get_many(
+    map: &mut NumberView,
+    keys: &[u64],
+    found: &mut [u8],
+    values: &mut [u64],
+) -> usize
+    ensures no_map { map.old.seen ≡ None → result ≡ 0 }
+    ensures count { IsSome map.old.seen →
+        result ≡ min (length keys.now) (min (length found.old) (length values.old)) }
+    ensures found { found.new ≡ begun_with (are_found (value_of nat_cmp (entries_of map.old.seen))
+        (take result keys.now)) found.old }
+    ensures values { values.new ≡ begun_with (found_values (value_of nat_cmp (entries_of map.old.seen))
+        (take result (zip keys.now values.old))) values.old }
+    ensures same { map.new ≡ map.old }
+{
+    let Some(held) = map.lent() else {
+        return 0;
+    };
+    let count = held.get_many(keys, found, values);
+    count
+}
+
+/// Sets the values of many keys one after another, as many as the shorter of both arrays holds, and writes out
+/// how many were set.
+#[unsafe(no_mangle)]
+pub extern "C" fn art_u64_insert_many(
+    map: &mut NumberHandle,
+    keys: &[u64],
+    values: &[u64],
+    done: &mut usize,
+) -> u32
+    ensures no_map { (result ≡ ART_NO_MAP) ↔ (map.old.held ≡ None) }
+    ensures entries { result ≢ ART_NO_MAP → map.new.held ≡ Some (put_each nat_cmp
+        (entries_of map.old.held) (take done.new (zip keys.now values.now))) }
+    ensures status { IsDone result → result ≡ ART_NONE }
+    ensures all { IsDone result → done.new ≡ length (zip keys.now values.now) }
+    ensures stopped { result ≡ ART_NO_MEMORY → done.new < length (zip keys.now values.now) }
+    ensures unchanged { result ≡ ART_NO_MAP →
+        (map.new.held ≡ map.old.held) × (done.new ≡ done.old) }
+{
+    let Some(held) = map.lent_mut() else {
+        return NO_MAP;
+    };
+    let (count, inserted) = held.insert_many(keys, values);
+    *done = count;
+    match inserted {
+        Ok(_) => NONE,
+        Err(_) => NO_MEMORY,
+    }
 }

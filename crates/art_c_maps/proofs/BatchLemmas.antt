@@ -1,10 +1,11 @@
 -- A batch, entry by entry.
-use Rattle.std.proofs.Common.{◌≡◌, ◌<◌, ◌≤◌, ◌+◌, ◌-◌, ◌∙◌, ℕ, zero, suc, List, [], ◌∷◌, ◌++◌, length, take, drop, Option, None, refl, sym, ap, arith, add-one, append_assoc, length-append}
+use Rattle.std.proofs.Common.{◌≡◌, ◌<◌, ◌≤◌, ◌+◌, ◌-◌, ◌∙◌, ℕ, zero, suc, List, [], ◌∷◌, ◌++◌, length, take, drop, Option, Some, None, refl, sym, ap, subst, arith, add-one, append_assoc, length-append}
 use Rattle.std.specs.Option.{option_map}
+use Rattle.std.specs.Prelude.{◌≢◌}
 use Rattle.std.proofs.lemmas.Bool.{le-leb, lt-leb}
 use Rattle.std.proofs.lemmas.List.{append-nil, drop_all, drop-append-le, drop-drop, length-drop, length-map, length-take, take_all, take-append-le, take-map}
 use Rattle.art_c_maps.specs.Batch.{ends_after, ends_of, fit_count, joined, unfit_len}
-use Rattle.art_c_maps.specs.Entries.{begun_with, keys_of, values_of}
+use Rattle.art_c_maps.specs.Entries.{begun_with, first_of, keys_of, values_of}
 use Rattle.art_c_maps.specs.Unescaped.{written}
 
 abbrev Entry : Type 0
@@ -135,11 +136,29 @@ module _ (all : List Entry) (n k : ℕ) (is : n ≡ k) (enough : k ≤ length al
       let items : take k (values_of all) ≡ values_of (take n all) = take-map (λ e. e.1) k all ∙ ap (λ m. values_of (take m all)) (sym is) in
       ap (λ xs. xs ++ drop k buffer) items ∙ ap (λ m. values_of (take n all) ++ drop m buffer) (sym (length-map (take n all) (λ e. e.1) ∙ many))
 
--- there is a key that does not fit only where none is written
-pub none-unfit : (written : List Entry) (first : Option Entry) → 0 < length written → None ≡ unfit_len written first
-none-unfit [] first some = absurd (omega (arith, some))
-none-unfit (x ∷ written) first some = refl
+-- whether the first key does not fit, when no more entries fit than are written
+unfit-of : (written : List Entry) (first : Option Entry) → (length written ≡ 0 → first ≡ None) → None ≡ unfit_len written first
+unfit-of [] first none = sym (ap (option_map (λ entry. length entry.0)) (none refl))
+unfit-of (x ∷ written) first none = refl
 
-pub first-unfit : (written : List Entry) (first : Option Entry) → length written ≡ 0 → option_map (λ entry. length entry.0) first ≡ unfit_len written first
-first-unfit [] first none = refl
-first-unfit (x ∷ written) first none = absurd (omega (arith, none))
+module _ (all : List Entry) (n k : ℕ) (is : n ≡ k) (enough : k ≤ length all) where
+  -- no entry is left
+  pub none-unfit : drop k all ≡ [] → None ≡ unfit_len (take n all) (first_of all)
+  none-unfit none = unfit-of (take n all) (first_of all) (λ zero_long.
+      let zero_k : 0 ≡ k = omega (arith, zero_long, count-done all n k is enough) in
+      ap first_of (subst (λ m. drop m all ≡ []) (sym zero_k) none))
+
+  -- some are written
+  pub some-unfit : 0 < k → None ≡ unfit_len (take n all) (first_of all)
+  some-unfit some = unfit-of (take n all) (first_of all) (λ zero_long. absurd (omega (arith, some, zero_long, count-done all n k is enough)))
+
+-- a key does not fit
+pub big-unfit : (all : List Entry) (n k : ℕ) → n ≡ k → (len : ℕ) (found : Option ℕ) (x : Entry) (rest : List Entry) → drop k all ≡ x ∷ rest → len ≡ length x.0
+    → (k ≡ 0 → found ≡ Some len) → (k ≢ 0 → found ≡ None) → found ≡ unfit_len (take n all) (first_of all)
+big-unfit [] n zero is len found x rest here long first others = absurd (cc)
+big-unfit [] n (suc k) is len found x rest here long first others = absurd (cc)
+big-unfit (y ∷ all) n zero is len found x rest here long first others =
+    let same : x ≡ y = cc in
+    first refl ∙ ap Some (long ∙ ap (λ (e : Entry). length e.0) same) ∙ ap (λ m. unfit_len (take m (y ∷ all)) (Some y)) (sym is)
+big-unfit (y ∷ all) n (suc k) is len found x rest here long first others =
+    others (λ zero_k. absurd (omega (arith, zero_k))) ∙ ap (λ m. unfit_len (take m (y ∷ all)) (Some y)) (sym is)

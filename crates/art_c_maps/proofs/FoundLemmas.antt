@@ -76,11 +76,6 @@ pub lengths-of : {T : Type 0} (text : T → List ℕ) (found : Option (Bor T × 
 lengths-of text None = refl
 lengths-of text (Some item) = refl
 
-pub key-lengths-of : {T : Type 0} (text : T → List ℕ) (found : Option (Bor T × Bor ℕ)) → option_map (λ (item : Bor T × Bor ℕ). length (unescaped (text item.0.now))) found
-    ≡ option_map (λ (entry : List ℕ × ℕ). length entry.0) (option_map (λ (item : Bor T × Bor ℕ). (unescaped (text item.0.now), item.1.now)) found)
-key-lengths-of text None = refl
-key-lengths-of text (Some item) = refl
-
 pub removed-lengths : {T : Type 0} (text : T → List ℕ) (removed : Option (T × ℕ)) → option_map (λ item. (length (unescaped (text item.0)), item.1)) removed
     ≡ option_map len_and_value (option_map (λ item. (unescaped (text item.0), item.1)) removed)
 removed-lengths text None = refl

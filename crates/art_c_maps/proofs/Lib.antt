@@ -1,7 +1,9 @@
 mod BatchLemmas
 mod ByteLemmas
+mod DownLemmas
 mod EscapedLemmas
 mod FoundLemmas
+mod ManyLemmas
 mod NumberLemmas
 mod PrefixLemmas
 mod PrefixOrderLemmas

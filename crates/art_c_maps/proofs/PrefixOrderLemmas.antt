@@ -34,7 +34,7 @@ begun-before (p ∷ prefix) (a ∷ x) (b ∷ y) after before begun = elim (eqb_t
     by_order tails Greater is later less = absurd (let clash = sym (ap (λ o. ordering_then o (text_order x y)) is) ∙ less in cc)
 
 -- what begins with a prefix is not before it
-begun-after : (prefix y : List ℕ) → starts_with nat_eq y prefix ≡ true → is_ge (text_order y prefix) ≡ true
+pub begun-after : (prefix y : List ℕ) → starts_with nat_eq y prefix ≡ true → is_ge (text_order y prefix) ≡ true
 begun-after [] [] begun = refl
 begun-after [] (b ∷ y) begun = refl
 begun-after (p ∷ prefix) [] begun = absurd (cc)
@@ -48,11 +48,11 @@ begun-after (p ∷ prefix) (b ∷ y) begun = elim (eqb_tells p b) [
     same-nat : (n : ℕ) → nat_cmp n n ≡ Equal
     same-nat n = sym (nat_cmp_is n n Equal refl)
 
-reversed : (x y : List ℕ) (o : Ordering) → text_order x y ≡ o → text_order y x ≡ ordering_reverse o
+pub reversed : (x y : List ℕ) (o : Ordering) → text_order x y ≡ o → text_order y x ≡ ordering_reverse o
 reversed x y o is = nat_list_cmp_total.antisymm y x ∙ ap ordering_reverse is
 
 -- above a text that is below another, where not below the other
-above : (x y z : List ℕ) → is_ge (text_order x y) ≡ true → text_order y z ≡ Greater → text_order x z ≡ Greater
+pub above : (x y z : List ℕ) → is_ge (text_order x y) ≡ true → text_order y z ≡ Greater → text_order x z ≡ Greater
 above x y z after greater = by_order (text_order x y) refl
   where
     by_order : (o : Ordering) → text_order x y ≡ o → text_order x z ≡ Greater
@@ -127,7 +127,7 @@ from-above : (inclusive : Bool) (start y : List ℕ) → text_order y start ≡ 
 from-above true start y is = ap is_ge is
 from-above false start y is = ap is_gt is
 
-abbrev begins : List ℕ → List ℕ → Bool
+abbrev pub begins : List ℕ → List ℕ → Bool
 begins prefix y = starts_with nat_eq y prefix
 
 -- the entries at or after the later of a key and a prefix, as far as they begin with the prefix, are those at or after the key that do

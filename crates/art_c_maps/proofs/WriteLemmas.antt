@@ -25,7 +25,7 @@ module _ {X : Type 0} where
   pub none-behind : (xs : List X) (k : ℕ) → drop k xs ≡ [] → length xs ≤ k
   none-behind xs k none = omega (arith, ap length none, length-drop k xs)
 
-  take-min : (most : ℕ) (xs : List X) → take (min most (length xs)) xs ≡ take most xs
+  pub take-min : (most : ℕ) (xs : List X) → take (min most (length xs)) xs ≡ take most xs
   take-min zero xs = let none : min 0 (length xs) ≡ 0 = omega arith in rw none refl
   take-min (suc most) [] = let none : min (suc most) 0 ≡ 0 = omega arith in rw none refl
   take-min (suc most) (x ∷ xs) = let one : min (suc most) (suc (length xs)) ≡ suc (min most (length xs)) = omega arith in rw one (ap (λ all. x ∷ all) (take-min most xs))

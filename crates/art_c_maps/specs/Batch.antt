@@ -1,9 +1,9 @@
 -- Which entries a batch holds, and how its buffers begin.
-use Rattle.std.specs.Prelude.{ℕ, zero, suc, ◌+◌, ◌-◌, Bool, List, [], ◌∷◌, length, take, Option, None, nat_eq, nat_le, if◌then◌else◌}
+use Rattle.std.specs.Prelude.{ℕ, zero, suc, ◌+◌, ◌-◌, Bool, List, [], ◌∷◌, length, reverse, take, Option, None, nat_eq, nat_le, if◌then◌else◌}
 use Rattle.std.specs.Option.{option_map}
 use Rattle.std.specs.List.{flat_map, starts_with, take_while}
 use Rattle.art_bytes.specs.Text.{text_order}
-use Rattle.art_c_maps.specs.Entries.{entries_from, entries_with_prefix}
+use Rattle.art_c_maps.specs.Entries.{entries_from, entries_to, entries_with_prefix}
 
 -- how many of the first entries, so many at most, have keys that fit one behind another into so many bytes
 abbrev pub fit_count : ℕ → ℕ → List (List ℕ × ℕ) → ℕ
@@ -18,6 +18,10 @@ fitting most room entries = take (fit_count most room entries) entries
 -- those of the entries at or after a key, and with a prefix
 abbrev pub next_fitting : ℕ → ℕ → List ℕ → Bool → List ℕ → List (List ℕ × ℕ) → List (List ℕ × ℕ)
 next_fitting most room prefix inclusive key entries = fitting most room (entries_from text_order inclusive key (entries_with_prefix prefix entries))
+
+-- those of the entries at or before a key, and with a prefix, from the last one down
+abbrev pub previous_fitting : ℕ → ℕ → List ℕ → Bool → List ℕ → List (List ℕ × ℕ) → List (List ℕ × ℕ)
+previous_fitting most room prefix inclusive key entries = fitting most room (reverse (entries_to text_order inclusive key (entries_with_prefix prefix entries)))
 
 -- the number of bytes of the first key, if there is one, where none of the entries is written
 abbrev pub unfit_len : List (List ℕ × ℕ) → Option (List ℕ × ℕ) → Option ℕ
@@ -39,3 +43,7 @@ ends_of entries = ends_after 0 entries
 -- the first entries, as far as their keys begin with these bytes
 abbrev pub begun : List ℕ → List (List ℕ × ℕ) → List (List ℕ × ℕ)
 begun prefix entries = take_while (λ entry. starts_with nat_eq entry.0 prefix) entries
+
+-- the entries in the order in which they are written
+abbrev pub toward : {X : Type 0} → Bool → List X → List X
+toward backward entries = if backward then reverse entries else entries

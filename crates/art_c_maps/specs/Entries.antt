@@ -1,6 +1,6 @@
 -- A map as the list of its entries, ascending by key: what calls read of it, and what they leave.
 use Rattle.std.specs.Prelude.{ℕ, ◌-◌, Bool, not, List, [], ◌∷◌, ◌++◌, drop, length, filter, map, reverse, take, Option, Some, None, nat_eq, slice_get, if◌then◌else◌}
-use Rattle.std.specs.List.{starts_with}
+use Rattle.std.specs.List.{fold, starts_with}
 use Rattle.std.specs.Ordering.{is_eq, is_ge, is_gt, is_le, is_lt, match_ordering}
 use Rattle.std.specs.declared.cmp.Ordering.{Ordering}
 
@@ -10,6 +10,10 @@ module _ {K V : Type 0} (order : K → K → Ordering) where
   put [] key value = (key, value) ∷ []
   put (other ∷ entries) key value =
       match_ordering (order key other.0) ((key, value) ∷ other ∷ entries) ((key, value) ∷ entries) (other ∷ put entries key value)
+
+  -- the entries with each of the others put in turn
+  abbrev pub put_each : List (K × V) → List (K × V) → List (K × V)
+  put_each entries others = fold (λ so_far other. put so_far other.0 other.1) entries others
 
   -- the value of the entry with this key
   abbrev pub value_of : List (K × V) → K → Option V

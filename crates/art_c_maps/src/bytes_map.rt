@@ -1,23 +1,26 @@
 //! Maps by bytes.
-ghost use Rattle.std.specs.Prelude.{◌≡◌, ◌-◌, ◌<◌, ◌≤◌, ◌^◌, [], drop, length, min, take, true, IfErr, IfOk, IsOk, OnErr, OnOk, if◌then◌else◌};
+ghost use Rattle.std.specs.Prelude.{All, ◌≡◌, ◌&&◌, ◌-◌, ◌<◌, ◌≤◌, ◌^◌, [], drop, get_or, length, min, nat_eq, not, reverse, take, true, IfErr, IfOk, IsOk, OnErr, OnOk, if◌then◌else◌};
+ghost use Rattle.std.specs.List.{starts_with, zip};
 ghost use Rattle.std.specs.Option.{option_map};
-ghost use Rattle.std.specs.Ordering.{is_lt};
+ghost use Rattle.std.specs.Ordering.{is_gt, is_lt};
 ghost use Rattle.art_bytes.specs.Text.{text_order};
 ghost use Rattle.art_mapped.specs.Escaped.{escaped_text};
 ghost use Rattle.art_mapped.specs.Mapped.{mapped_text};
-ghost use Rattle.art_c_maps.specs.Batch.{ends_of, joined, next_fitting, unfit_len};
-ghost use Rattle.art_c_maps.specs.Entries.{begun_with, entries_from, entries_to, entries_with_prefix, first_of, keys_of, last_of, put, value_of, values_of, without};
+ghost use Rattle.art_c_maps.specs.Batch.{begun, ends_of, joined, next_fitting, previous_fitting, unfit_len};
+ghost use Rattle.art_c_maps.specs.Entries.{begun_with, entries_from, entries_read, entries_to, entries_with_prefix, first_of, keys_of, last_of, put, put_each, value_of, values_of, without};
+ghost use Rattle.art_c_maps.specs.Many.{are_found, cut, found_values};
 ghost use Rattle.art_c_maps.specs.Refusals.{IsRefused};
 ghost use Rattle.art_c_maps.specs.Unescaped.{key_fits, key_written, len_and_value, unescaped, with_prefix};
 
 use crate::batch::write_batch;
-use crate::nearest::{first_from, last_to, start_at, value_alone};
+use crate::many::{bytes_between, found_beside};
+use crate::nearest::{end_at, first_from, last_to, start_at, value_alone};
 use crate::refusal::Refusal;
 use crate::sought::Sought;
 use crate::too_long::is_too_long;
 use crate::unescaped::{unescaped_begins, unescaped_len, write_unescaped};
 use art_bytes::AsBytes;
-use art_map::ArtMap;
+use art_map::{ArtMap, Iter};
 use art_tree::{Escaped, InsertRefusal, Mapped};
 use std::alloc::{AllocError, Global};
 use std::cmp::Ordering;
@@ -113,12 +116,40 @@ fn found_with_prefix<'a>(
     }
 }
 
-// The number of bytes of the key of an entry that was found.
-fn found_len(found: Option<(&Word, &u64)>) -> Option<usize>
-    ensures { result ≡ option_map (λ (key, _). length (unescaped (mapped_text key.now))) found.entry }
+// Whether a key is behind all keys that begin with a prefix.
+fn is_behind(prefix: &[u8], key: &[u8]) -> bool
+    ensures { result ≡ (is_gt (text_order key.now prefix.now) && not (starts_with nat_eq key.now prefix.now)) }
 {
-    let (key, _) = found?;
-    Some(unescaped_len(key.as_bytes()))
+    match key.cmp(prefix) {
+        Ordering::Greater => !key.starts_with(prefix),
+        Ordering::Less | Ordering::Equal => false,
+    }
+}
+
+impl BytesMap {
+    // The entries at a key or before it, or where the key is behind all that begin with a prefix, these: from
+    // the last one down, as far as they begin with the prefix, they are those that are looked for.
+    fn run_down(
+        &self,
+        alloc: Global,
+        prefix: &[u8],
+        from: &[u8],
+        inclusive: bool,
+    ) -> Result<Iter<'_, Word, u64, 16>, AllocError>
+        ensures run { IfOk result (λ entries. begun prefix.now (reverse (entries_read unescaped mapped_text entries))
+            ≡ reverse (entries_to text_order inclusive from.now (entries_with_prefix prefix.now self.now))) }
+        ensures succeeds { length prefix.now ≤ 256 → length from.now ≤ 256 → IsOk result }
+    {
+        self.entries.entries_ascend();
+        let mut sought = Sought::new();
+        if is_behind(prefix, from) {
+            sought.set_prefix(alloc, prefix)?;
+            return Ok(self.entries.prefix(&sought));
+        }
+        sought.set_key(alloc, from)?;
+        let end = end_at(&sought, inclusive);
+        Ok(self.entries.range(Bound::Unbounded, end))
+    }
 }
 
 impl BytesMap {
@@ -294,7 +325,7 @@ impl BytesMap {
     /// keys begin with a prefix: the keys one behind another, where each ends among them, and the values. As
     /// many as the shorter of `ends` and `values` holds, and before the first key that no longer fits.
     /// Returns how many, and where none is written the number of bytes of the first one's key, if there is
-    /// one. Takes one descent, two where none is written.
+    /// one. Takes one descent.
     pub fn next_many(
         &self,
         alloc: Global,
@@ -333,12 +364,44 @@ impl BytesMap {
         sought.set_key(alloc, first)?;
         let bound = start_at(&sought, inclusive);
         let entries = self.entries.range(bound, Bound::Unbounded);
-        let count = write_batch(entries, prefix, keys, ends, values);
-        if count > 0 {
-            return Ok((count, None));
-        }
-        let unfit = first_from(&self.entries, &sought, inclusive);
-        Ok((0, found_len(found_with_prefix(unfit, prefix))))
+        Ok(write_batch(entries, false, prefix, keys, ends, values))
+    }
+
+    /// Writes the last entries at a key or before it, only before it where it is not included, of those
+    /// whose keys begin with a prefix, from the last one down. Else as [`next_many`](Self::next_many).
+    pub fn previous_many(
+        &self,
+        alloc: Global,
+        prefix: &[u8],
+        from: &[u8],
+        inclusive: bool,
+        keys: &mut [u8],
+        ends: &mut [usize],
+        values: &mut [u64],
+    ) -> Result<(usize, Option<usize>), AllocError>
+        ensures count { IfOk result (λ (count, _). count ≡ length (previous_fitting
+            (min (length ends.old) (length values.old)) (length keys.old)
+            prefix.now inclusive from.now self.now)) }
+        ensures unfit { IfOk result (λ (_, unfit). unfit ≡ unfit_len
+            (previous_fitting (min (length ends.old) (length values.old)) (length keys.old)
+            prefix.now inclusive from.now self.now)
+            (first_of (reverse (entries_to text_order inclusive from.now
+            (entries_with_prefix prefix.now self.now))))) }
+        ensures keys { OnOk result (keys.new ≡ begun_with (joined (keys_of (previous_fitting
+            (min (length ends.old) (length values.old)) (length keys.old)
+            prefix.now inclusive from.now self.now))) keys.old) }
+        ensures ends { OnOk result (ends.new ≡ begun_with (ends_of (previous_fitting
+            (min (length ends.old) (length values.old)) (length keys.old)
+            prefix.now inclusive from.now self.now)) ends.old) }
+        ensures values { OnOk result (values.new ≡ begun_with (values_of (previous_fitting
+            (min (length ends.old) (length values.old)) (length keys.old)
+            prefix.now inclusive from.now self.now)) values.old) }
+        ensures not_written { OnErr result ((keys.new ≡ keys.old) × (ends.new ≡ ends.old)
+            × (values.new ≡ values.old)) }
+        ensures succeeds { length prefix.now ≤ 256 → length from.now ≤ 256 → IsOk result }
+    {
+        let entries = self.run_down(alloc, prefix, from, inclusive)?;
+        Ok(write_batch(entries, true, prefix, keys, ends, values))
     }
 
     /// Finds the entry with the least key. Writes its key where it fits, and returns its key's length and
@@ -406,5 +469,70 @@ impl BytesMap {
         // The count is no greater, so it fits.
         let _most = self.entries.len();
         Ok(self.entries.prefix(&sought).count())
+    }
+
+    /// Looks up many keys, as [`get`](Self::get) does: bytes, cut where each key ends. `found` has a 1 for each
+    /// that has an entry, and a 0 for each other, and `values` the value of each that has one. As many as the
+    /// shortest of `ends`, `found` and `values` holds. Stops at the first whose memory is refused. Returns how
+    /// many were looked up, and whether all were.
+    pub fn get_many(
+        &self,
+        alloc: Global,
+        keys: &[u8],
+        ends: &[usize],
+        found: &mut [u8],
+        values: &mut [u64],
+    ) -> (usize, Result<(), AllocError>)
+        ensures all { OnOk result.1 (result.0
+            ≡ min (length ends.now) (min (length found.old) (length values.old))) }
+        ensures stopped { OnErr result.1 (result.0
+            < min (length ends.now) (min (length found.old) (length values.old))) }
+        ensures found { found.new ≡ begun_with (are_found (value_of text_order self.now)
+            (take result.0 (cut keys.now ends.now))) found.old }
+        ensures values { values.new ≡ begun_with (found_values (value_of text_order self.now)
+            (take result.0 (zip (cut keys.now ends.now) values.old))) values.old }
+        ensures succeeds { All (λ key. length key ≤ 256) (cut keys.now ends.now) → IsOk result.1 }
+    {
+        let count = ends.len().min(found.len().min(values.len()));
+        let mut start = 0;
+        for index in 0..count {
+            let end = ends[index];
+            let Ok(value) = self.get(alloc, bytes_between(keys, start, end)) else {
+                return (index, Err(AllocError));
+            };
+            let (is_found, value) = found_beside(value, values[index]);
+            found[index] = is_found;
+            values[index] = value;
+            start = end;
+        }
+        (count, Ok(()))
+    }
+
+    /// Sets the values of many keys one after another, as [`insert`](Self::insert) does: bytes, cut where each
+    /// key ends. As many as the shorter of `ends` and `values` holds. Stops at the first that is refused.
+    /// Returns how many were set, and why the next one is refused, if it is.
+    pub fn insert_many(
+        &mut self,
+        alloc: Global,
+        keys: &[u8],
+        ends: &[usize],
+        values: &[u64],
+    ) -> (usize, Result<(), Refusal>)
+        ensures entries { self.new ≡ put_each text_order self.old
+            (take result.0 (zip (cut keys.now ends.now) values.now)) }
+        ensures all { OnOk result.1 (result.0 ≡ length (zip (cut keys.now ends.now) values.now)) }
+        ensures stopped { OnErr result.1 (result.0 < length (zip (cut keys.now ends.now) values.now)) }
+        ensures refusal_due { IfErr result.1 (IsRefused (get_or (cut keys.now ends.now) result.0 [])) }
+    {
+        let count = ends.len().min(values.len());
+        let mut start = 0;
+        for index in 0..count {
+            let end = ends[index];
+            match self.insert(alloc, bytes_between(keys, start, end), values[index]) {
+                Ok(_) => start = end,
+                Err(refusal) => return (index, Err(refusal)),
+            }
+        }
+        (count, Ok(()))
     }
 }

@@ -5,6 +5,7 @@
 
 mod batch;
 mod bytes_map;
+mod many;
 mod nearest;
 mod number_map;
 mod refusal;

@@ -1,11 +1,14 @@
 //! Maps by 64-bit numbers.
-ghost use Rattle.std.specs.Prelude.{◌≡◌, ◌-◌, [], drop, length, min, reverse, take, IfOk, OnErr, OnOk};
+ghost use Rattle.std.specs.Prelude.{◌≡◌, ◌-◌, ◌<◌, [], drop, length, min, reverse, take, IfOk, OnErr, OnOk};
 ghost use Rattle.std.specs.Int.{from_be_bytes, w64};
+ghost use Rattle.std.specs.List.{zip};
 ghost use Rattle.std.specs.Option.{option_map};
 ghost use Rattle.std.specs.Ordering.{nat_cmp};
 ghost use Rattle.art_mapped.specs.Mapped.{mapped_text};
-ghost use Rattle.art_c_maps.specs.Entries.{begun_with, entries_from, entries_read, entries_to, first_of, keys_of, last_of, next_entries, previous_entries, put, value_of, values_of, without};
+ghost use Rattle.art_c_maps.specs.Entries.{begun_with, entries_from, entries_read, entries_to, first_of, keys_of, last_of, next_entries, previous_entries, put, put_each, value_of, values_of, without};
+ghost use Rattle.art_c_maps.specs.Many.{are_found, found_values};
 
+use crate::many::found_beside;
 use crate::nearest::{end_at, first_from, last_to, start_at, value_alone};
 use art_map::{ArtMap, Iter};
 use art_tree::{Mapped, ToUBE};
@@ -274,5 +277,41 @@ impl NumberMap {
         let end = end_at(&from, inclusive);
         let entries = self.entries.range(Bound::Unbounded, end);
         write_down(entries, keys, values)
+    }
+
+    /// Looks up each of these keys, as [`get`](Self::get) does: `found` has a 1 for each that has an entry, and
+    /// a 0 for each other, and `values` the value of each that has one. As many as the shortest of the slices
+    /// holds: returns how many. Takes no memory.
+    pub fn get_many(&self, keys: &[u64], found: &mut [u8], values: &mut [u64]) -> usize
+        ensures count { result ≡ min (length keys.now) (min (length found.old) (length values.old)) }
+        ensures found { found.new ≡ begun_with (are_found (value_of nat_cmp self.now)
+            (take result keys.now)) found.old }
+        ensures values { values.new ≡ begun_with (found_values (value_of nat_cmp self.now)
+            (take result (zip keys.now values.old))) values.old }
+    {
+        let count = keys.len().min(found.len().min(values.len()));
+        for index in 0..count {
+            let (is_found, value) = found_beside(self.get(keys[index]), values[index]);
+            found[index] = is_found;
+            values[index] = value;
+        }
+        count
+    }
+
+    /// Sets the values of these keys one after another, as [`insert`](Self::insert) does: as many as the
+    /// shorter of both slices holds. Stops at the first whose memory is refused. Returns how many were set,
+    /// and whether all were.
+    pub fn insert_many(&mut self, keys: &[u64], values: &[u64]) -> (usize, Result<(), AllocError>)
+        ensures entries { self.new ≡ put_each nat_cmp self.old (take result.0 (zip keys.now values.now)) }
+        ensures all { OnOk result.1 (result.0 ≡ length (zip keys.now values.now)) }
+        ensures stopped { OnErr result.1 (result.0 < length (zip keys.now values.now)) }
+    {
+        let count = keys.len().min(values.len());
+        for index in 0..count {
+            let Ok(_) = self.insert(keys[index], values[index]) else {
+                return (index, Err(AllocError));
+            };
+        }
+        (count, Ok(()))
     }
 }
