@@ -15,17 +15,15 @@ from sys import getsizeof
 # Addresses are passed as such: ctypes takes a third longer for typed pointers.
 _MAP = _WORD = _SIZE = c_void_p
 _BYTES = [c_char_p, c_size_t]
+_MANY = [_MAP, *_BYTES, *_BYTES, c_bool, *_BYTES, _SIZE, c_size_t, _WORD, c_size_t, _SIZE, _SIZE]
 _CALLS = {
     "art_bytes_new": (c_uint32, [_MAP]),
     "art_bytes_free": (None, [_MAP]),
     "art_bytes_insert": (c_uint32, [_MAP, *_BYTES, c_uint64, _WORD]),
     "art_bytes_get": (c_uint32, [_MAP, *_BYTES, _WORD]),
     "art_bytes_remove": (c_uint32, [_MAP, *_BYTES, _WORD]),
-    "art_bytes_next_many": (
-        c_uint32,
-        [_MAP, *_BYTES, *_BYTES, c_bool, *_BYTES, _SIZE, c_size_t, _WORD, c_size_t, _SIZE, _SIZE],
-    ),
-    "art_bytes_previous": (c_uint32, [_MAP, *_BYTES, c_bool, *_BYTES, _SIZE, _WORD]),
+    "art_bytes_next_many": (c_uint32, _MANY),
+    "art_bytes_previous_many": (c_uint32, _MANY),
     "art_bytes_last": (c_uint32, [_MAP, *_BYTES, _SIZE, _WORD]),
     "art_bytes_count_prefix": (c_size_t, [_MAP, *_BYTES]),
     "art_u64_new": (c_uint32, [_MAP]),
@@ -132,24 +130,24 @@ class _Bytes(_Table):
         found = _is_found(_library.art_bytes_remove(self.map, stored, len(stored), byref(place)))
         return place.value if found else None
 
-    def entry(self, call, *arguments):
-        """The key and the place that a call finds, in a list, or an empty one."""
+    def last(self):
+        """The stored key and the place of the last entry, or None."""
         room = 64
         while True:
             key, length, place = create_string_buffer(room), c_size_t(), c_uint64()
-            status = call(self.map, *arguments, key, room, byref(length), byref(place))
+            status = _library.art_bytes_last(self.map, key, room, byref(length), byref(place))
             if status != _SMALL_BUFFER:
-                return [(key[: length.value], place.value)] if _is_found(status) else []
+                return (key[: length.value], place.value) if _is_found(status) else None
             room = length.value
 
-    def ascend(self, start, inclusive):
-        """The entries from a stored key on, fetched many at once."""
+    def many(self, call, start, inclusive):
+        """The entries of a walk from a stored key, fetched many at once."""
         size, room = 4, 256
         while True:
             keys, ends, places = create_string_buffer(room), (c_size_t * size)(), (c_uint64 * size)()
             count, length = c_size_t(), c_size_t()
             arrays = keys, room, ends, size, places, size, byref(count), byref(length)
-            status = _library.art_bytes_next_many(self.map, b"", 0, start, len(start), inclusive, *arrays)
+            status = call(self.map, b"", 0, start, len(start), inclusive, *arrays)
             if status == _SMALL_BUFFER:
                 room = length.value
                 continue
@@ -163,16 +161,19 @@ class _Bytes(_Table):
             inclusive, size = False, min(4 * size, 256)
             room = max(room, 16 * size)
 
+    def ascend(self, start, inclusive):
+        """The entries from a stored key on."""
+        return self.many(_library.art_bytes_next_many, start, inclusive)
+
     def descend(self, start, inclusive):
         """The entries from a stored key down, or from the last one where the key is None."""
         if start is None:
-            found = self.entry(_library.art_bytes_last)
-        else:
-            found = self.entry(_library.art_bytes_previous, start, len(start), inclusive)
-        while found:
-            yield from found
-            last = found[0][0]
-            found = self.entry(_library.art_bytes_previous, last, len(last), False)
+            last = self.last()
+            if last is None:
+                return
+            yield last
+            start, inclusive = last[0], False
+        yield from self.many(_library.art_bytes_previous_many, start, inclusive)
 
     def low(self, key, inclusive):
         """The lower bound: a stored key, and whether it is within."""

@@ -37,13 +37,18 @@ impl AsKey<u64> for &u64 {
 }
 
 /// Which entry to find, or to remove.
-pub enum Find<'a, Q: ?Sized> {
+pub enum Find {
     First,
     Last,
     PopFirst,
     PopLast,
-    /// The last one before a key, or at it where that is included.
-    Previous(&'a Q, bool),
+}
+
+/// In which order entries are fetched.
+#[derive(Clone, Copy)]
+pub enum Toward {
+    End,
+    Start,
 }
 
 /// The calls of the library for one kind of keys. No other crate can name this trait, so none can
@@ -67,12 +72,13 @@ pub trait Calls: Sized {
     unsafe fn insert(map: *mut RawMap, key: &Self::Sought, value: u64, before: &mut u64) -> u32;
     unsafe fn get(map: *mut RawMap, key: &Self::Sought, value: &mut u64) -> u32;
     unsafe fn remove(map: *mut RawMap, key: &Self::Sought, value: &mut u64) -> u32;
-    unsafe fn find(map: *mut RawMap, which: Find<'_, Self::Sought>) -> Result<Option<(Self, u64)>, Refusal>;
+    unsafe fn find(map: *mut RawMap, which: Find) -> Result<Option<(Self, u64)>, Refusal>;
 
     /// Appends the next entries after a key, from it on where that is included: at least one if there
-    /// are any, and `most` at most.
+    /// are any, and `most` at most. Or the last ones before it, from the last one down.
     unsafe fn fetch(
         map: *mut RawMap,
+        toward: Toward,
         from: &Self::Sought,
         inclusive: bool,
         most: usize,
@@ -143,7 +149,7 @@ impl Calls for Vec<u8> {
         raw::art_bytes_remove(map, key.as_ptr(), key.len(), value)
     }
 
-    unsafe fn find(map: *mut RawMap, which: Find<'_, [u8]>) -> Result<Option<(Vec<u8>, u64)>, Refusal> {
+    unsafe fn find(map: *mut RawMap, which: Find) -> Result<Option<(Vec<u8>, u64)>, Refusal> {
         with_buffer(|key, len, value| {
             let (out, room) = (key.as_mut_ptr(), key.len());
             match which {
@@ -151,15 +157,13 @@ impl Calls for Vec<u8> {
                 Find::Last => raw::art_bytes_last(map, out, room, len, value),
                 Find::PopFirst => raw::art_bytes_pop_first(map, out, room, len, value),
                 Find::PopLast => raw::art_bytes_pop_last(map, out, room, len, value),
-                Find::Previous(from, inclusive) => {
-                    raw::art_bytes_previous(map, from.as_ptr(), from.len(), inclusive, out, room, len, value)
-                }
             }
         })
     }
 
     unsafe fn fetch(
         map: *mut RawMap,
+        toward: Toward,
         from: &[u8],
         inclusive: bool,
         most: usize,
@@ -167,6 +171,10 @@ impl Calls for Vec<u8> {
     ) -> Result<(), Refusal> {
         let (mut ends, mut values) = ([0; MOST_FETCHED], [0; MOST_FETCHED]);
         let most = most.min(MOST_FETCHED);
+        let call = match toward {
+            Toward::End => raw::art_bytes_next_many,
+            Toward::Start => raw::art_bytes_previous_many,
+        };
         let (mut few, mut many) = ([0; 1024], Vec::new());
         let mut keys = &mut few[..];
         loop {
@@ -174,7 +182,7 @@ impl Calls for Vec<u8> {
             let (out, room, no_prefix) = (keys.as_mut_ptr(), keys.len(), [].as_ptr());
             let (ends_out, values_out) = (ends.as_mut_ptr(), values.as_mut_ptr());
             #[rustfmt::skip]
-            let status = raw::art_bytes_next_many(
+            let status = call(
                 map, no_prefix, 0, from.as_ptr(), from.len(), inclusive, out, room, ends_out, most, values_out, most,
                 &mut count, &mut key_len,
             );
@@ -244,20 +252,20 @@ impl Calls for u64 {
         raw::art_u64_remove(map, *key, value)
     }
 
-    unsafe fn find(map: *mut RawMap, which: Find<'_, u64>) -> Result<Option<(u64, u64)>, Refusal> {
+    unsafe fn find(map: *mut RawMap, which: Find) -> Result<Option<(u64, u64)>, Refusal> {
         let (mut key, mut value) = (0, 0);
         let status = match which {
             Find::First => raw::art_u64_first(map, &mut key, &mut value),
             Find::Last => raw::art_u64_last(map, &mut key, &mut value),
             Find::PopFirst => raw::art_u64_pop_first(map, &mut key, &mut value),
             Find::PopLast => raw::art_u64_pop_last(map, &mut key, &mut value),
-            Find::Previous(from, inclusive) => raw::art_u64_previous(map, *from, inclusive, &mut key, &mut value),
         };
         Ok(found(status)?.then_some((key, value)))
     }
 
     unsafe fn fetch(
         map: *mut RawMap,
+        toward: Toward,
         from: &u64,
         inclusive: bool,
         most: usize,
@@ -265,7 +273,11 @@ impl Calls for u64 {
     ) -> Result<(), Refusal> {
         let (mut keys, mut values) = ([0; MOST_FETCHED], [0; MOST_FETCHED]);
         let most = most.min(MOST_FETCHED);
-        let count = raw::art_u64_next_many(map, *from, inclusive, keys.as_mut_ptr(), most, values.as_mut_ptr(), most);
+        let call = match toward {
+            Toward::End => raw::art_u64_next_many,
+            Toward::Start => raw::art_u64_previous_many,
+        };
+        let count = call(map, *from, inclusive, keys.as_mut_ptr(), most, values.as_mut_ptr(), most);
         into.extend(keys.into_iter().zip(values).take(count));
         Ok(())
     }

@@ -1,5 +1,5 @@
 //! Iterators over words. The last key is the cursor, and the map cannot change while one is borrowed from it.
-use crate::key::{Find, Key};
+use crate::key::{Find, Key, Toward};
 use crate::refusal::{granted, Refusal};
 use crate::words::{Shown, WordMap};
 use std::collections::VecDeque;
@@ -10,10 +10,13 @@ use std::ops::Bound;
 /// Where a walk between two bounds stands, from either end. Entries that it gave may be removed meanwhile.
 #[derive(Clone)]
 pub(crate) struct Cursor<K: Key> {
-    /// Entries that were fetched and not yet given.
+    /// Entries that were fetched and not yet given, the first one first.
     ahead: VecDeque<(K, u64)>,
-    /// The last key that was fetched, or the start of the range, and whether its entry is to come.
+    /// The last key that was fetched ahead, or the start of the range, and whether its entry is to come.
     from: (K, bool),
+    /// Entries that were fetched from the end and not yet given, the last one first.
+    behind: VecDeque<(K, u64)>,
+    /// The last key that was fetched from the end, or the end of the range.
     until: Bound<K>,
     /// How many entries to fetch at once.
     batch: usize,
@@ -21,7 +24,7 @@ pub(crate) struct Cursor<K: Key> {
 
 impl<K: Key> Cursor<K> {
     pub(crate) fn new((from, until): ((K, bool), Bound<K>)) -> Self {
-        Cursor { ahead: VecDeque::new(), from, until, batch: 1 }
+        Cursor { ahead: VecDeque::new(), from, behind: VecDeque::new(), until, batch: 1 }
     }
 
     /// The cursor of all entries.
@@ -45,31 +48,39 @@ impl<K: Key> Cursor<K> {
     }
 
     pub(crate) fn try_next(&mut self, map: &WordMap<K>) -> Result<Option<(K, u64)>, Refusal> {
-        if self.ahead.is_empty() {
-            map.fetch(&self.from.0, self.from.1, self.batch, &mut self.ahead)?;
-            let Some((last, _)) = self.ahead.back() else { return Ok(None) };
-            self.from = (last.clone(), false);
+        if self.ahead.is_empty() && self.is_within_end(&self.from.0) {
+            map.fetch(Toward::End, &self.from.0, self.from.1, self.batch, &mut self.ahead)?;
+            if let Some((last, _)) = self.ahead.back() {
+                self.from = (last.clone(), false);
+            }
             // A short range wants few, a long one many.
             self.batch = self.batch.saturating_mul(2);
         }
         let next = self.ahead.pop_front().filter(|(key, _)| self.is_within_end(key));
         if next.is_none() {
             self.ahead.clear();
+            // What is left was fetched from the end.
+            return Ok(self.behind.pop_back());
         }
         Ok(next)
     }
 
     fn try_next_back(&mut self, map: &WordMap<K>) -> Result<Option<(K, u64)>, Refusal> {
-        let which = match &self.until {
-            Bound::Included(end) => Find::Previous(end.sought(), true),
-            Bound::Excluded(end) => Find::Previous(end.sought(), false),
-            Bound::Unbounded => Find::Last,
-        };
-        let entry = map.find(which)?.filter(|(key, _)| self.is_still_ahead(key));
-        if let Some((key, _)) = &entry {
-            self.until = Bound::Excluded(key.clone());
+        if self.behind.is_empty() {
+            let mut fetched = VecDeque::new();
+            match &self.until {
+                Bound::Included(end) => map.fetch(Toward::Start, end, true, self.batch, &mut fetched)?,
+                Bound::Excluded(end) => map.fetch(Toward::Start, end, false, self.batch, &mut fetched)?,
+                Bound::Unbounded => fetched.extend(map.find(Find::Last)?),
+            }
+            if let Some((key, _)) = fetched.back() {
+                self.until = Bound::Excluded(key.clone());
+            }
+            fetched.retain(|(key, _)| self.is_still_ahead(key));
+            self.behind = fetched;
+            self.batch = self.batch.saturating_mul(2);
         }
-        Ok(entry)
+        Ok(self.behind.pop_front())
     }
 }
 

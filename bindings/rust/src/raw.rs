@@ -45,15 +45,21 @@ extern "C" {
         count: *mut usize,
         key_len: *mut usize,
     ) -> u32;
-    pub(crate) fn art_bytes_previous(
+    pub(crate) fn art_bytes_previous_many(
         map: *mut RawMap,
+        prefix: *const u8,
+        prefix_len: usize,
         from: *const u8,
         len: usize,
         inclusive: bool,
-        key_out: *mut u8,
+        keys: *mut u8,
         capacity: usize,
+        ends: *mut usize,
+        ends_len: usize,
+        values: *mut u64,
+        values_len: usize,
+        count: *mut usize,
         key_len: *mut usize,
-        value: *mut u64,
     ) -> u32;
     pub(crate) fn art_bytes_first(
         map: *mut RawMap,
@@ -94,13 +100,20 @@ extern "C" {
     pub(crate) fn art_u64_insert(map: *mut RawMap, key: u64, value: u64, before: *mut u64) -> u32;
     pub(crate) fn art_u64_get(map: *mut RawMap, key: u64, value: *mut u64) -> u32;
     pub(crate) fn art_u64_remove(map: *mut RawMap, key: u64, value: *mut u64) -> u32;
-    pub(crate) fn art_u64_previous(map: *mut RawMap, from: u64, inclusive: bool, key: *mut u64, value: *mut u64)
-        -> u32;
     pub(crate) fn art_u64_first(map: *mut RawMap, key: *mut u64, value: *mut u64) -> u32;
     pub(crate) fn art_u64_last(map: *mut RawMap, key: *mut u64, value: *mut u64) -> u32;
     pub(crate) fn art_u64_pop_first(map: *mut RawMap, key: *mut u64, value: *mut u64) -> u32;
     pub(crate) fn art_u64_pop_last(map: *mut RawMap, key: *mut u64, value: *mut u64) -> u32;
     pub(crate) fn art_u64_next_many(
+        map: *mut RawMap,
+        from: u64,
+        inclusive: bool,
+        keys: *mut u64,
+        keys_len: usize,
+        values: *mut u64,
+        values_len: usize,
+    ) -> usize;
+    pub(crate) fn art_u64_previous_many(
         map: *mut RawMap,
         from: u64,
         inclusive: bool,

@@ -1,6 +1,6 @@
 use crate::bounds::KeyBounds;
 use crate::entry::{OccupiedWord, VacantWord, WordEntry};
-use crate::key::{AsKey, Find, Key};
+use crate::key::{AsKey, Find, Key, Toward};
 use crate::range::{Cursor, ExtractIf, IntoIter, IntoKeys, IntoValues, Iter, Keys, Range, Values};
 use crate::raw::{self, RawMap};
 use crate::refusal::{found, granted, Refusal};
@@ -219,22 +219,23 @@ impl<K: Key> WordMap<K> {
         Ok(found(status)?.then_some(value))
     }
 
-    pub(crate) fn find(&self, which: Find<'_, K::Sought>) -> Result<Option<(K, u64)>, Refusal> {
+    pub(crate) fn find(&self, which: Find) -> Result<Option<(K, u64)>, Refusal> {
         unsafe { K::find(&mut self.own(), which) }
     }
 
-    fn pop(&mut self, which: Find<'_, K::Sought>) -> Option<(K, u64)> {
+    fn pop(&mut self, which: Find) -> Option<(K, u64)> {
         granted(unsafe { K::find(&mut self.raw, which) })
     }
 
     pub(crate) fn fetch(
         &self,
+        toward: Toward,
         from: &K,
         inclusive: bool,
         most: usize,
         into: &mut VecDeque<(K, u64)>,
     ) -> Result<(), Refusal> {
-        unsafe { K::fetch(&mut self.own(), from.sought(), inclusive, most, into) }
+        unsafe { K::fetch(&mut self.own(), toward, from.sought(), inclusive, most, into) }
     }
 
     /// The entry with the least key.
