@@ -11,14 +11,10 @@ use Rattle.art_routes.specs.Keys.{key_text, last_network, network_of, routes_of}
 use Rattle.art_routes.specs.Networks.{Block, IsNetwork, contains, covers, network_order}
 use Rattle.art_routes.specs.Tables.{covered}
 use Rattle.art_routes.proofs.BitLemmas.{none_behind}
+use Rattle.art_routes.proofs.CoveringLemmas.{same_tests}
 use Rattle.art_routes.proofs.LongestLemmas.{in-is, is-in}
 use Rattle.art_routes.proofs.OrderLemmas.{length_small, width_small, place, place_down, down_place, place_up, up_place}
 use Rattle.art_routes.proofs.RouteLemmas.{AreKeys, key-at, picked-read}
-
-same_tests : (a b : Bool) → (a ≡ true → b ≡ true) → (b ≡ true → a ≡ true) → a ≡ b
-same_tests true b to from = sym (to refl)
-same_tests false true to from = from refl
-same_tests false false to from = refl
 
 -- numbers from q * 2 ^ k on, fewer than 2 ^ k of them, are q without their last k bits
 whole_part : (n x k : ℕ) → n % 2 ^ k ≡ 0 → n ≤ x → x ≤ n + (2 ^ k - 1) → x / 2 ^ k ≡ n / 2 ^ k

@@ -1,9 +1,11 @@
 pub mod BitLemmas
 pub mod ByteLemmas
 pub mod CoveredLemmas
+pub mod CoveringLemmas
 pub mod KeyLemmas
 pub mod LastLemmas
 pub mod LongestLemmas
 pub mod OrderLemmas
+pub mod PutLemmas
 pub mod RouteLemmas
 pub mod ResultLemmas

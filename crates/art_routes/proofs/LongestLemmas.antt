@@ -51,7 +51,7 @@ starts : (network : Block) → IsNetwork network → first_bits network.address 
 starts network is = none_behind network.address.bits (network.address.width - network.length) is.none_behind
 
 -- and so at the first bits of each address in it
-starts_in : (network : Block) (address : Address) → IsNetwork network → IsIn network address → network.address.bits ≡ first_bits address network.length * 2 ^ (address.width - network.length)
+pub starts_in : (network : Block) (address : Address) → IsNetwork network → IsIn network address → network.address.bits ≡ first_bits address network.length * 2 ^ (address.width - network.length)
 starts_in network address is in_it = sym (starts network is) ∙ (λ i. sym in_it.same i * 2 ^ (sym in_it.widths i - network.length))
 
 -- no route over the first bits of an address, so many of them, is longer than this

@@ -1,9 +1,11 @@
 -- The bytes by which networks are kept. No public clause cites them.
-use Rattle.std.specs.Prelude.{◌≡◌, ℕ, ◌+◌, ◌-◌, ◌^◌, List, [], ◌∷◌, ◌++◌, Option, drop, filter, get_or, length, map, slice_get, take}
+use Rattle.std.specs.Prelude.{◌≡◌, ◌⊎◌, ◌<◌, ◌≤◌, ℕ, ◌+◌, ◌-◌, ◌^◌, List, [], ◌∷◌, ◌++◌, Option, None, Some, drop, filter, get_or, length, map, slice_get, take}
 use Rattle.std.specs.Int.{w128, from_be_bytes, to_be_bytes}
 use Rattle.std.specs.Borrow.{Bor}
 use Rattle.std.specs.Ordering.{is_le}
+use Rattle.art_routes.specs.declared.address.Address.{Address}
 use Rattle.art_routes.specs.Networks.{Block, IsNetwork, network_order}
+use Rattle.art_routes.specs.Tables.{covering}
 
 -- the bytes of a network: the bits of its addresses, the first address, the length
 abbrev pub key_text : Block → List ℕ
@@ -40,3 +42,14 @@ route_read (key, value) = (network_of key.now, value.now)
 abbrev pub last_up_to : {V : Type 0} → Block → List (Block × V) → Option (Block × V)
 last_up_to network routes =
     let up_to = filter (λ route. is_le (network_order route.0 network)) routes in slice_get up_to (length up_to - 1)
+
+-- a search for the routes that cover the first bits of an address, at most so many of them
+abbrev pub IsSearch : Address → Option ℕ → Type 0
+IsSearch address None = Unit {0}
+IsSearch address (Some most) =
+    ((address.width ≡ 32) ⊎ (address.width ≡ 128)) × (address.bits < 2 ^ address.width) × (most ≤ address.width)
+
+-- the routes that it finds, the longest first
+abbrev pub covering_left : {V : Type 0} → Address → Option ℕ → List (Block × V) → List (Block × V)
+covering_left address None routes = []
+covering_left address (Some most) routes = covering (record { address = address; length = most }) routes

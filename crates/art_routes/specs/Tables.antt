@@ -1,5 +1,5 @@
 -- A table as the list of its routes, each a network and its value, in the order of the networks.
-use Rattle.std.specs.Prelude.{◌≡◌, ◌≤◌, true, false, not, List, [], ◌∷◌, All, AllPairs, Contains, Option, Some, None, filter, if◌then◌else◌}
+use Rattle.std.specs.Prelude.{◌≡◌, ◌≤◌, true, false, not, List, [], ◌∷◌, All, AllPairs, Contains, Option, Some, None, filter, reverse, if◌then◌else◌}
 use Rattle.std.specs.Borrow.{Bor}
 use Rattle.std.specs.Ordering.{is_eq, match_ordering}
 use Rattle.std.specs.declared.cmp.Ordering.TheVariants.{Less}
@@ -40,6 +40,12 @@ module _ {V : Type 0} where
     pub matches : contains route.0 address ≡ true
     pub longest : All (λ other. contains other.0 address ≡ true → other.0.length ≤ route.0.length) routes
 
+  -- this one of the routes contains the address, and no shorter one does
+  pub record IsShortest (routes : List (Block × V)) (address : Address) (route : Block × V) : Type 0 where
+    pub listed : Contains routes route
+    pub matches : contains route.0 address ≡ true
+    pub shortest : All (λ other. contains other.0 address ≡ true → route.0.length ≤ other.0.length) routes
+
   -- no route covers the network
   abbrev pub NoneCovers : List (Block × V) → Block → Type 0
   NoneCovers routes network = All (λ route. covers route.0 network ≡ false) routes
@@ -53,3 +59,12 @@ module _ {V : Type 0} where
   -- the routes to this network and to parts of it, in order
   abbrev pub covered : Block → List (Block × V) → List (Block × V)
   covered network routes = filter (λ route. covers network route.0) routes
+
+  -- the routes to this network and to those around it, the longest first
+  abbrev pub covering : Block → List (Block × V) → List (Block × V)
+  covering network routes = reverse (filter (λ route. covers route.0 network) routes)
+
+  -- the routes with each of these put among them in turn, so that of two to one network the later stays
+  abbrev pub put_routes : List (Block × V) → List (Block × V) → List (Block × V)
+  put_routes routes [] = routes
+  put_routes routes (more ∷ others) = put_routes (put_route routes more.0 more.1) others

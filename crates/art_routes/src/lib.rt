@@ -4,12 +4,14 @@
 #![tactic(auto)]
 
 mod address;
+mod covering;
 mod fault;
 mod holds_routes;
 mod network;
 mod routes;
 mod table;
 
+pub use covering::Covering;
 pub use fault::NetworkFault;
 pub use network::Network;
 pub use routes::Routes;
@@ -18,6 +20,7 @@ pub use table::{RefusedRoute, RouteTable};
 /// What the aliases above stand for. The compiler needs these names; no caller writes them.
 #[doc(hidden)]
 pub mod parts {
+    pub use crate::covering::{CoveringOver, ShowsRoutes};
     pub use crate::holds_routes::HoldsRoutes;
     pub use crate::routes::RoutesOver;
     pub use crate::table::TableOver;

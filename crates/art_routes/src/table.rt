@@ -1,11 +1,12 @@
 //! Tables of routes.
-ghost use Rattle.std.specs.Prelude.{◌≡◌, ◌≢◌, ◌↔◌, ◌⊎◌, ◌<◌, ◌≤◌, ◌^◌, [], All, IfErr, IfOk, IfSome, IsTrue, MatchOption, None, OnErr, OnOk, length};
+ghost use Rattle.std.specs.Prelude.{◌≡◌, ◌≢◌, ◌↔◌, ◌⊎◌, ◌<◌, ◌≤◌, ◌^◌, [], All, Contains, IfErr, IfOk, IfSome, IsTrue, MatchOption, None, OnErr, OnOk, length};
 ghost use Rattle.std.specs.Option.{option_copied, option_map};
 ghost use Rattle.art_routes.specs.Keys.{IsKey, last_up_to as last_route_up_to, route_read};
 ghost use Rattle.art_routes.specs.Networks.{IsNetwork, address_of};
-ghost use Rattle.art_routes.specs.Tables.{AreInOrder, covered as covered_routes, IsLongest, IsLongestOver, NoneContains, NoneCovers, put_route, route_now, value_of, without_route};
+ghost use Rattle.art_routes.specs.Tables.{AreInOrder, covered as covered_routes, covering as covering_routes, IsLongest, IsLongestOver, IsShortest, NoneContains, NoneCovers, put_route, put_routes, route_now, value_of, without_route};
 
 use crate::address::{Address, number_of, shared_bits};
+use crate::covering::{Covering, CoveringOver};
 use crate::holds_routes::HoldsRoutes;
 use crate::network::{
     KEY_LEN, Network, key_of, key_parts, last_of, network_at, network_from, parts,
@@ -181,7 +182,7 @@ impl<V> RouteTable<V> {
     // The last route that does not come after the network of those bits contains the address, and no
     // longer one does, or no route that does is longer than what it shares with the address. Then as
     // many bits take the place of those. Each step is one descent.
-    fn longest_over(&self, address: Address, length: u8) -> Option<(Network, &V)>
+    pub(crate) fn longest_over(&self, address: Address, length: u8) -> Option<(Network, &V)>
         requires family { (address.width ≡ 32) ⊎ (address.width ≡ 128) }
         requires fits { address.bits < 2 ^ address.width }
         requires length { length ≤ address.width }
@@ -238,9 +239,93 @@ impl<V> RouteTable<V> {
         let (first, length) = parts(network);
         self.longest_over(first, length)
     }
+
+    /// The shortest route whose network contains the address, with its value, or None where none does.
+    ///
+    /// Goes from the longest to the shortest: costs as much as [`longest_match`](Self::longest_match) for
+    /// each route that contains the address, and no more than 33 steps for IPv4 and 129 for IPv6. Takes no
+    /// memory.
+    ///
+    /// (from tests/art_routes/tests.rt.txt)
+    /// ```rust
+    /// assert!(rt; is_value(table.shortest_match(ip4(10, 127, 0, 1)), 8));
+    /// ```
+    pub fn shortest_match(&self, address: IpAddr) -> Option<(Network, &V)>
+        ensures { MatchOption result (NoneContains self.now (address_of address))
+            (λ route. IsShortest self.now (address_of address) (route_now route)) }
+    {
+        self.routes_ascend();
+        let number = number_of(address);
+        let mut most = number.width;
+        let mut found = None;
+        'descent: while let Some(route) = self.longest_over(number, most) {
+            let bits = route.0.length();
+            found = Some(route);
+            if bits == 0 {
+                return found;
+            }
+            most = bits - 1;
+        }
+        found
+    }
+
+    /// The routes to this network and to those around it, the longest first.
+    ///
+    /// Each costs as much as [`longest_match`](Self::longest_match), and all of them together at most 33
+    /// steps for IPv4 and 129 for IPv6. Takes no memory.
+    ///
+    /// (from tests/art_routes/tests.rt.txt)
+    /// ```rust
+    /// let mut around = table.covering(&v4(&rt, 10, 1, 0, 0, 16));
+    /// assert!(rt; is_value(around.next(), 10) && is_value(around.next(), 8));
+    /// assert!(rt; around.next().is_none());
+    /// ```
+    pub fn covering(&self, network: &Network) -> Covering<'_, V>
+        ensures { result ≡ covering_routes network.now self.now }
+    {
+        let (address, length) = parts(network);
+        CoveringOver {
+            table: self,
+            address,
+            most: Some(length),
+            value: PhantomData,
+        }
+    }
 }
 
 impl<V: Drop> RouteTable<V> {
+    /// A table of these routes, which may stand in any order. Of two to one network the later stays, and the
+    /// other is dropped.
+    ///
+    /// Only an allocation failure refuses a route: it is returned, and the others are dropped. Costs as much
+    /// as an [`insert`](Self::insert) of each.
+    ///
+    /// (from tests/art_routes/tests.rt.txt)
+    /// ```rust
+    /// let Ok(table) = RouteTable::from_entries(rt.alloc(), rows) else {
+    ///     return Err(Fail::from(AllocError));
+    /// };
+    /// assert!(rt; table.len() == 2 && table.get(&ten) == Some(&9));
+    /// ```
+    pub fn from_entries(
+        alloc: Global,
+        entries: Vec<(Network, V)>,
+    ) -> Result<RouteTable<V>, RefusedRoute<V>>
+        ensures routes { IfOk result (λ table. table ≡ put_routes [] entries.items) }
+        ensures route_back { IfErr result
+            (λ refused. Contains entries.items (refused.network, refused.value)) }
+    {
+        let mut table = RouteTable::new(alloc);
+        let mut rest = entries.into_iter();
+        'each: while let Some(route) = rest.next() {
+            match table.insert(route.0, route.1) {
+                Ok(_) => {}
+                Err(refused) => return Err(refused),
+            }
+        }
+        Ok(table)
+    }
+
     /// Removes all routes. Takes time linear in the most routes that there were, and no memory: the
     /// nodes' memory is kept for later routes.
     pub fn clear(&mut self)

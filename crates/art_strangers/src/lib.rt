@@ -36,6 +36,7 @@ pub mod nodes;
 pub mod numbers;
 pub mod pairs;
 pub mod ports;
+pub mod route_table;
 pub mod set_numbers;
 pub mod stock;
 pub mod string_loads;
