@@ -83,9 +83,6 @@ where
         ensures memory { S.memory result result WithoutRoom }
     {
         let tree = ArtTree::new(alloc);
-        MapOver {
-            tree,
-            view: [],
-        }
+        MapOver { tree, view: [] }
     }
 }
