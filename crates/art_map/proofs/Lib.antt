@@ -8,7 +8,6 @@ mod EndLemmas
 mod EnteredLemmas
 mod EntryLemmas
 mod ExtendLemmas
-mod FirstLemmas
 mod FrontLemmas
 mod JoinLemmas
 mod LeafCounts
