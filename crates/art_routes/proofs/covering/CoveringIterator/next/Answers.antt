@@ -1,4 +1,4 @@
-use Rattle.std.proofs.Common.{◌≡◌, ◌∙◌, ◌-◌, ◌≤◌, ap, arith, length, refl, subst, sym}
+use Rattle.std.proofs.Common.{◌∙◌, ◌-◌, ◌≤◌, ap, arith, length, refl, subst, sym}
 use Rattle.std.specs.Option.{SomeIff}
 use Rattle.art_routes.specs.Keys.{covering_left}
 use Rattle.art_routes.specs.Tables.{route_now}

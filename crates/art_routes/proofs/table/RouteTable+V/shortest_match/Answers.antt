@@ -1,4 +1,4 @@
-use Rattle.std.proofs.Common.{◌≡◌, ◌∙◌, ◌-◌, ◌<◌, ◌≤◌, Some, ap, arith, subst, sym}
+use Rattle.std.proofs.Common.{◌∙◌, ◌-◌, Some, arith, subst, sym}
 use Rattle.std.specs.Option.{MatchOption}
 use Rattle.art_routes.specs.Tables.{IsShortest, NoneContains, route_now}
 use Rattle.art_routes.proofs.CoveringLemmas.{IsShortestSoFar, at_width, no_longer, none_shorter, one_longer, shortest_of_all}
