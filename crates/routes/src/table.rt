@@ -34,10 +34,9 @@ pub(crate) fn table_of<'a>(
     ensures routes { IfOk result (λ table. IsTable file.now table.routes) }
     ensures refused { IfErr result (IfBadLine (IsBad file.now)) }
 {
-    let empty = Table {
+    let mut table = Table {
         routes: ArtMap::new(alloc),
     };
-    let mut table = Box::new(alloc, empty)?;
     let mut rest = file;
     let mut number: usize = 0;
     while !rest.is_empty() {
@@ -57,7 +56,7 @@ pub(crate) fn table_of<'a>(
         }
         rest = after;
     }
-    Ok(Box::into_inner(table))
+    Ok(table)
 }
 
 // Adds the route that the line of this number is, or returns what is wrong with it.
