@@ -161,19 +161,22 @@ static Calls<uint64_t> art_numbers() {
     return calls;
 }
 
-// The next entries, from a key on, in order: how many there were. The last key is in one of two buffers, since none of a
-// call's arguments may overlap.
+// The next entries, from a key on, in order: how many there were. The batches take turns in two buffers, since none of a
+// call's arguments may overlap, and a batch begins behind the last key of the one before.
 static size_t walk(art_bytes_map *map, const uint8_t *from, size_t len, size_t most, uint64_t &sum) {
-    uint8_t keys[2][64];
-    uint64_t value = 0;
-    size_t found = 0, next_len = 0;
-    while (found < most) {
-        uint8_t *next = keys[found % 2];
-        if (art_bytes_next(map, from, len, found == 0, next, 64, &next_len, &value) != ART_SOME) break;
-        mix(sum, value);
-        from = next;
-        len = next_len;
-        found++;
+    uint8_t keys[2][16 * 256];
+    size_t ends[256], found = 0, count = 0, next_len = 0;
+    uint64_t values[256];
+    for (int turn = 0; found < most; turn = 1 - turn) {
+        size_t batch = std::min<size_t>(most - found, 256);
+        uint32_t status = art_bytes_next_many(map, nullptr, 0, from, len, found == 0, keys[turn], sizeof keys[turn], ends,
+                                              batch, values, batch, &count, &next_len);
+        if (status != ART_SOME) break;
+        for (size_t i = 0; i < count; i++) mix(sum, values[i]);
+        size_t start = count > 1 ? ends[count - 2] : 0;
+        from = keys[turn] + start;
+        len = ends[count - 1] - start;
+        found += count;
     }
     return found;
 }
