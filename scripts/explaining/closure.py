@@ -9,7 +9,7 @@ from explaining.terms import SYNTAX, Reader, parsed
 
 OF_AN_IMPL = re.compile(r"⟦<(.+?) as ([^⟧]+?)>⟧")
 # What every value behind a reference, and every type, has for contracts.
-OF_BORROWS = {"now", "old", "new", "entry", "row", "Denot", "coded"}
+OF_BORROWS = {"now", "old", "new", "entry", "exit", "ghost_name", "row", "Denot", "coded"}
 
 
 @dataclass
