@@ -26,7 +26,7 @@ def runs_of(bench, sizes):
 
 def measure_maps(bench, sizes):
     """The table of a bench: of each map and call the median of the runs."""
-    taken = runs_of(bench, sizes or SIZES)
+    taken = runs_of(bench, sizes or getattr(bench, "SIZES", SIZES))
     rows = [["Keys", "Entries", "Map", *bench.CALLS]]
     for (shape, size), runs in taken.items():
         for which in bench.MAPS:

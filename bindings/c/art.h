@@ -1,5 +1,6 @@
 /* Ordered maps from bytes, and from 64-bit numbers, to 64-bit values. Keys are in ascending order of their
-   bytes (a key before the longer ones that begin with it), or of their numbers. Any bytes are a key.
+   bytes (a key before the longer ones that begin with it), or of their numbers. Any bytes are a key. And route tables, to
+   64-bit values: what is said of maps holds of them too.
 
    What the caller owes, and no call tests:
    - A handle is zeroed before its first call, and is never copied. Zeroed, or given to `free`, it holds no map:
@@ -16,9 +17,9 @@
 
    Calls that return uint32_t return one of ART_*. `before`, `value` and the key are written only at ART_SOME,
    `key_len` at ART_SOME and ART_SMALL_BUFFER. A call that only looks needs memory for a key, or a prefix, of more
-   than 256 bytes, and never for a shorter one. Only art_bytes_insert and
-   art_bytes_insert_many return ART_KEY_TOO_LONG: for a key of 2^32 - 2
-   bytes or more without a look at one of them, and in no case after it took memory. */
+   than 256 bytes, and never for a shorter one. Only art_bytes_insert,
+   art_bytes_insert_many and art_bytes_load return ART_KEY_TOO_LONG: for a key of 2^32 - 2
+   bytes or more the inserts without a look at one of them, and none after it took memory. */
 #ifndef ART_H
 #define ART_H
 #include <stdbool.h>
@@ -40,10 +41,15 @@ extern "C" {
 #define ART_SMALL_BUFFER 4u /* nothing has changed; there is an entry; its key has *key_len bytes, and none was written */
 #define ART_NO_MAP 5u       /* nothing has changed; the handle holds no map */
 #define ART_HAS_MAP 6u      /* nothing has changed; the handle given to `new` holds a map */
+#define ART_NOT_EMPTY 7u    /* nothing has changed; the map given to `load` has entries */
+#define ART_NOT_ASCENDING 8u /* nothing has changed; some key given to `load` is not below the next one */
+#define ART_BAD_NETWORK 9u  /* nothing has changed; these bytes and this length are no network */
 #define ART_NO_COUNT SIZE_MAX
+#define ART_NO_ROUTE UINT8_MAX /* in place of a length: no route contains the address */
 
 typedef struct { void *opaque; } art_bytes_map;
 typedef struct { void *opaque; } art_u64_map;
+typedef struct { void *opaque; } art_routes_map;
 
 /* ART_VERSION of the header that the library was built with. */
 uint32_t art_version(void);
@@ -94,6 +100,12 @@ uint32_t art_bytes_get_many(const art_bytes_map *map, const uint8_t *keys, size_
    ART_NONE, or ART_KEY_TOO_LONG or ART_NO_MEMORY at the first that is refused. The first *done are in. */
 uint32_t art_bytes_insert_many(art_bytes_map *map, const uint8_t *keys, size_t keys_len, const size_t *ends,
                                size_t ends_len, const uint64_t *values, size_t values_len, size_t *done);
+/* Puts many entries, whose keys lie so and ascend, into a map without entries, as many as the shorter of both arrays
+   holds: all of them, or none. They lie in memory in the order of their keys, as after compact; what memory the map has
+   kept is freed. ART_NONE, or the first of ART_NOT_EMPTY, ART_NOT_ASCENDING, ART_KEY_TOO_LONG and ART_NO_MEMORY. It takes
+   memory for the entries once more while it runs. */
+uint32_t art_bytes_load(art_bytes_map *map, const uint8_t *keys, size_t keys_len, const size_t *ends, size_t ends_len,
+                        const uint64_t *values, size_t values_len);
 uint32_t art_bytes_first(const art_bytes_map *map, uint8_t *key_out, size_t capacity, size_t *key_len, uint64_t *value);
 uint32_t art_bytes_last(const art_bytes_map *map, uint8_t *key_out, size_t capacity, size_t *key_len, uint64_t *value);
 /* The same, and the entry is removed where its key fits (ART_SOME). */
@@ -102,7 +114,7 @@ uint32_t art_bytes_pop_last(art_bytes_map *map, uint8_t *key_out, size_t capacit
 /* How many keys begin with a prefix, or ART_NO_COUNT where memory for the prefix is refused. */
 size_t art_bytes_count_prefix(const art_bytes_map *map, const uint8_t *prefix, size_t len);
 
-/* Only new, reserve, compact, insert, insert_many, remove and pops may return ART_NO_MEMORY. */
+/* Only new, reserve, compact, insert, insert_many, load, remove and pops may return ART_NO_MEMORY. */
 uint32_t art_u64_new(art_u64_map *map);
 void art_u64_free(art_u64_map *map);
 size_t art_u64_len(const art_u64_map *map);
@@ -134,6 +146,44 @@ size_t art_u64_get_many(const art_u64_map *map, const uint64_t *keys, size_t key
    ART_NO_MEMORY at the first that is refused. The first *done are in. */
 uint32_t art_u64_insert_many(art_u64_map *map, const uint64_t *keys, size_t keys_len,
                              const uint64_t *values, size_t values_len, size_t *done);
+/* Puts many entries, whose keys ascend, into a map without entries, as many as the shorter of both arrays holds, as
+   art_bytes_load does. Never ART_KEY_TOO_LONG. */
+uint32_t art_u64_load(art_u64_map *map, const uint64_t *keys, size_t keys_len, const uint64_t *values, size_t values_len);
+
+/* Routes: a value for each network. An address has `width` bytes, the highest first: 4 of IPv4, or 16 of IPv6; a network is
+   an address and how many of its first bits are given, with no bit set behind these. Else the status is ART_BAD_NETWORK. IPv4
+   and IPv6 never match each other. Networks of IPv4 come before those of IPv6; then they go by their addresses, and of two
+   with one address the shorter comes first. Only new, reserve, compact, insert and remove may return ART_NO_MEMORY. */
+uint32_t art_routes_new(art_routes_map *map);
+void art_routes_free(art_routes_map *map);
+size_t art_routes_len(const art_routes_map *map);
+void art_routes_clear(art_routes_map *map);
+uint32_t art_routes_reserve(art_routes_map *map, size_t additional);
+/* As of bytes. */
+uint32_t art_routes_compact(art_routes_map *map);
+uint32_t art_routes_insert(art_routes_map *map, const uint8_t *address, size_t width, uint8_t length, uint64_t value,
+                           uint64_t *before);
+/* The value of the route to this very network. */
+uint32_t art_routes_get(const art_routes_map *map, const uint8_t *address, size_t width, uint8_t length, uint64_t *value);
+uint32_t art_routes_remove(art_routes_map *map, const uint8_t *address, size_t width, uint8_t length, uint64_t *value);
+/* The longest route whose network contains an address: its network is the first `length` bits of that address. */
+uint32_t art_routes_longest_match(const art_routes_map *map, const uint8_t *address, size_t width, uint8_t *length,
+                                  uint64_t *value);
+/* The same of many addresses of `width` bytes each, which lie one behind another in so many bytes: as many as the shortest of
+   the arrays holds, how many `count` says. Where no route contains an address, lengths[i] is ART_NO_ROUTE, and values[i] as it
+   was. ART_NONE, but for ART_BAD_NETWORK (of a width) and ART_NO_MAP. */
+uint32_t art_routes_longest_match_many(const art_routes_map *map, const uint8_t *addresses, size_t bytes, size_t width,
+                                       uint8_t *lengths, size_t lengths_len, uint64_t *values, size_t values_len,
+                                       size_t *count);
+/* The first route at (inclusive) or after a network; the first of all from 0.0.0.0/0. Writes its address where that fits, else
+   `width` alone, and the status is ART_SMALL_BUFFER: 16 bytes are enough, and `from` may be where the address is written. */
+uint32_t art_routes_next(const art_routes_map *map, const uint8_t *from, size_t from_width, uint8_t from_length,
+                         bool inclusive, uint8_t *address, size_t capacity, size_t *width, uint8_t *length,
+                         uint64_t *value);
+/* The routes to a network and to those around it, the longest first: as many as the shorter of both arrays holds, how many
+   `count` says, of at most 129. ART_NONE, but for ART_BAD_NETWORK and ART_NO_MAP. */
+uint32_t art_routes_covering(const art_routes_map *map, const uint8_t *address, size_t width, uint8_t length,
+                             uint8_t *lengths, size_t lengths_len, uint64_t *values, size_t values_len, size_t *count);
 
 /* What the library has under the names of calls that only look wants a handle that no other call uses while it runs. So in
    programs each of these names is that of a function which gives it a copy of the handle: threads have one each. */
@@ -261,6 +311,46 @@ static inline size_t art_u64_own_get_many(const art_u64_map *map, const uint64_t
     return art_u64_get_many(&own, keys, keys_len, found, found_len, values, values_len);
 }
 #define art_u64_get_many art_u64_own_get_many
+static inline size_t art_routes_own_len(const art_routes_map *map) {
+    art_routes_map own = *map;
+    return art_routes_len(&own);
+}
+#define art_routes_len art_routes_own_len
+static inline uint32_t art_routes_own_get(const art_routes_map *map, const uint8_t *address, size_t width,
+                                          uint8_t length, uint64_t *value) {
+    art_routes_map own = *map;
+    return art_routes_get(&own, address, width, length, value);
+}
+#define art_routes_get art_routes_own_get
+static inline uint32_t art_routes_own_longest_match(const art_routes_map *map, const uint8_t *address, size_t width,
+                                                    uint8_t *length, uint64_t *value) {
+    art_routes_map own = *map;
+    return art_routes_longest_match(&own, address, width, length, value);
+}
+#define art_routes_longest_match art_routes_own_longest_match
+static inline uint32_t art_routes_own_longest_match_many(const art_routes_map *map, const uint8_t *addresses,
+                                                         size_t bytes, size_t width, uint8_t *lengths,
+                                                         size_t lengths_len, uint64_t *values, size_t values_len,
+                                                         size_t *count) {
+    art_routes_map own = *map;
+    return art_routes_longest_match_many(&own, addresses, bytes, width, lengths, lengths_len, values, values_len,
+                                         count);
+}
+#define art_routes_longest_match_many art_routes_own_longest_match_many
+static inline uint32_t art_routes_own_next(const art_routes_map *map, const uint8_t *from, size_t from_width,
+                                           uint8_t from_length, bool inclusive, uint8_t *address, size_t capacity,
+                                           size_t *width, uint8_t *length, uint64_t *value) {
+    art_routes_map own = *map;
+    return art_routes_next(&own, from, from_width, from_length, inclusive, address, capacity, width, length, value);
+}
+#define art_routes_next art_routes_own_next
+static inline uint32_t art_routes_own_covering(const art_routes_map *map, const uint8_t *address, size_t width,
+                                               uint8_t length, uint8_t *lengths, size_t lengths_len, uint64_t *values,
+                                               size_t values_len, size_t *count) {
+    art_routes_map own = *map;
+    return art_routes_covering(&own, address, width, length, lengths, lengths_len, values, values_len, count);
+}
+#define art_routes_covering art_routes_own_covering
 
 #ifdef __cplusplus
 }

@@ -123,8 +123,8 @@ template <class Source> class BytesBeside {
     }
 
     // Some keys, one behind another; a few ends are anywhere.
-    std::vector<std::string> some_keys(std::string &all, std::vector<size_t> &ends) {
-        for (uint64_t more = source.below(9); more > 0; more--) {
+    std::vector<std::string> some_keys(std::string &all, std::vector<size_t> &ends, uint64_t most = 9) {
+        for (uint64_t more = source.below(most); more > 0; more--) {
             all += source.key();
             ends.push_back(source.below(30) == 0 ? source.below(99) : all.size());
         }
@@ -162,6 +162,47 @@ template <class Source> class BytesBeside {
         CHECK(art_bytes_insert_many(&map, bytes(all), all.size(), ends.data(), ends.size(), values.data(), values.size(), &done) == ART_NONE);
         CHECK(done == wanted);
         for (size_t i = 0; i < wanted; i++) model[keys[i]] = values[i];
+    }
+
+    // Some keys as they come, or in order, into a map without entries, and in vain into one with some.
+    void load() {
+        std::string all;
+        std::vector<size_t> ends;
+        std::vector<std::string> keys = some_keys(all, ends, 40);
+        if (source.below(4) > 0) {
+            std::sort(keys.begin(), keys.end());
+            if (source.below(8) > 0) keys.erase(std::unique(keys.begin(), keys.end()), keys.end());
+            all.clear();
+            ends.clear();
+            for (const std::string &key : keys) ends.push_back((all += key).size());
+        }
+        std::vector<uint64_t> values(source.below(40));
+        for (uint64_t &it : values) it = source.number();
+        size_t wanted = std::min(keys.size(), values.size());
+        auto call = [&] {
+            return art_bytes_load(&map, bytes(all), all.size(), ends.data(), ends.size(), values.data(), values.size());
+        };
+        art_bytes_map before = {};
+        Model entries;
+        bool clears = model.empty() || source.below(500) == 0;
+        if (!model.empty()) CHECK(call() == ART_NOT_EMPTY);
+        if (clears) {
+            art_bytes_clear(&map);
+        } else {
+            std::swap(map, before);
+            CHECK(art_bytes_new(&map) == ART_NONE);
+        }
+        std::swap(model, entries);
+        bool ascends = true;
+        for (size_t i = 1; i < wanted; i++) ascends = ascends && keys[i - 1] < keys[i];
+        CHECK(call() == (ascends ? ART_NONE : ART_NOT_ASCENDING));
+        for (size_t i = 0; i < wanted && ascends; i++) model[keys[i]] = values[i];
+        CHECK(art_bytes_len(&map) == model.size());
+        if (clears) return;
+        walk();
+        art_bytes_free(&map);
+        std::swap(map, before);
+        std::swap(model, entries);
     }
 
   public:
@@ -212,12 +253,15 @@ template <class Source> class BytesBeside {
         len = NO_LEN;
         value = NO_VALUE;
         Entry at = model.find(key);
-        switch (source.below(18)) {
+        switch (source.below(19)) {
         case 16:
             get_many();
             break;
         case 17:
             insert_many();
+            break;
+        case 18:
+            load();
             break;
         case 0: case 1: case 2: case 3: case 4:
             found_value(at, art_bytes_insert(&map, bytes(key), key.size(), put, &value));
@@ -364,6 +408,40 @@ template <class Source> class NumbersBeside {
         for (size_t i = 0; i < wanted; i++) model[keys[i]] = values[i];
     }
 
+    // Some keys as they come, or in order, into a map without entries, and in vain into one with some.
+    void load() {
+        std::vector<uint64_t> keys(source.below(80)), values(source.below(80));
+        for (uint64_t &it : keys) it = source.number();
+        for (uint64_t &it : values) it = source.number();
+        if (source.below(4) > 0) {
+            std::sort(keys.begin(), keys.end());
+            if (source.below(8) > 0) keys.erase(std::unique(keys.begin(), keys.end()), keys.end());
+        }
+        size_t wanted = std::min(keys.size(), values.size());
+        auto call = [&] { return art_u64_load(&map, keys.data(), keys.size(), values.data(), values.size()); };
+        art_u64_map before = {};
+        Model entries;
+        bool clears = model.empty() || source.below(500) == 0;
+        if (!model.empty()) CHECK(call() == ART_NOT_EMPTY);
+        if (clears) {
+            art_u64_clear(&map);
+        } else {
+            std::swap(map, before);
+            CHECK(art_u64_new(&map) == ART_NONE);
+        }
+        std::swap(model, entries);
+        bool ascends = true;
+        for (size_t i = 1; i < wanted; i++) ascends = ascends && keys[i - 1] < keys[i];
+        CHECK(call() == (ascends ? ART_NONE : ART_NOT_ASCENDING));
+        for (size_t i = 0; i < wanted && ascends; i++) model[keys[i]] = values[i];
+        CHECK(art_u64_len(&map) == model.size());
+        if (clears) return;
+        walk();
+        art_u64_free(&map);
+        std::swap(map, before);
+        std::swap(model, entries);
+    }
+
   public:
     explicit NumbersBeside(Source &choices) : source(choices) {
         CHECK(art_u64_new(&map) == ART_NONE);
@@ -396,12 +474,15 @@ template <class Source> class NumbersBeside {
         // Half of the keys are there.
         if (source.below(2) == 0 && model.lower_bound(key) != model.end()) key = model.lower_bound(key)->first;
         Entry at = model.find(key);
-        switch (source.below(18)) {
+        switch (source.below(19)) {
         case 16:
             get_many();
             break;
         case 17:
             insert_many();
+            break;
+        case 18:
+            load();
             break;
         case 0: case 1: case 2: case 3: case 4: case 5:
             found_value(at, art_u64_insert(&map, key, put, &value));

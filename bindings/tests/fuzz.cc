@@ -1,5 +1,6 @@
-// A fuzzer's bytes say which calls are made beside std::map. At its end it prints how many there were.
+// A fuzzer's bytes say which calls are made beside std::map, and of a route table beside a scan. At its end it prints how many there were.
 #include "beside_map.h"
+#include "beside_routes.h"
 
 struct Input {
     const uint8_t *next;
@@ -28,7 +29,7 @@ struct Input {
 static unsigned long long calls = 0;
 
 extern "C" int LLVMFuzzerInitialize(int *, char ***) {
-    std::atexit([] { std::fprintf(stderr, "fuzz: %llu calls, none differs from std::map\n", calls); });
+    std::atexit([] { std::fprintf(stderr, "fuzz: %llu calls, none differs from std::map and a scan\n", calls); });
     return 0;
 }
 
@@ -36,11 +37,17 @@ extern "C" int LLVMFuzzerTestOneInput(const uint8_t *data, size_t size) {
     Input input{data, data + size};
     BytesBeside<Input> bytes(input);
     NumbersBeside<Input> numbers(input);
+    RoutesBeside<Input> routes(input);
     while (input.next < input.end) {
-        if (input.below(2) == 0) {
+        switch (input.below(4)) {
+        case 0:
             bytes.call();
-        } else {
+            break;
+        case 1:
             numbers.call();
+            break;
+        default:
+            routes.call();
         }
         calls++;
     }

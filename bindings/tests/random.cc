@@ -1,5 +1,6 @@
-// Random calls beside std::map: `random [CALLS [SEED]]`.
+// Random calls beside std::map, and of route tables beside a scan: `random [CALLS [SEED]]`.
 #include "beside_map.h"
+#include "beside_routes.h"
 #include <random>
 
 struct Random {
@@ -32,5 +33,9 @@ int main(int count, char **words) {
         NumbersBeside<Random> numbers(random);
         for (long call = 0; call < calls; call++) numbers.call();
     }
-    std::printf("random: %ld calls of each map, none differs from std::map\n", calls);
+    {
+        RoutesBeside<Random> routes(random);
+        for (long call = 0; call < calls; call++) routes.call();
+    }
+    std::printf("random: %ld calls of each map and of a route table, none differs from std::map and a scan\n", calls);
 }

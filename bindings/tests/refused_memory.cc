@@ -1,6 +1,7 @@
 // Each allocation of a script of calls is refused in turn: the call says so, and the entries are those of before.
 // Then it is made again. Link with -Wl,--wrap=malloc,--wrap=realloc,--wrap=free: std::map does not use these.
 #include "beside_map.h"
+#include <tuple>
 
 static bool counting = false;
 static long until_refusal = 0;
@@ -39,14 +40,21 @@ void __wrap_free(void *block) {
 struct Maps {
     art_bytes_map bytes = {};
     art_u64_map numbers = {};
+    art_routes_map routes = {};
     uint8_t key[400];
     size_t len = 0;
     uint64_t number = 0;
     uint64_t value = 0;
 
-    using Entries = std::pair<std::vector<std::pair<std::string, uint64_t>>, std::vector<std::pair<uint64_t, uint64_t>>>;
+    struct Entries {
+        std::vector<std::pair<std::string, uint64_t>> first;
+        std::vector<std::pair<uint64_t, uint64_t>> second;
+        std::vector<std::tuple<std::string, uint8_t, uint64_t>> routes;
 
-    // All entries of both maps. No allocation is refused meanwhile.
+        bool operator==(const Entries &other) const { return first == other.first && second == other.second && routes == other.routes; }
+    };
+
+    // All entries of the maps, and all routes. No allocation is refused meanwhile.
     Entries entries() {
         Entries all;
         uint8_t from[400];
@@ -61,6 +69,10 @@ struct Maps {
         }
         for (more = art_u64_first(&numbers, &at, &found) == ART_SOME; more; more = art_u64_next(&numbers, at, false, &at, &found) == ART_SOME)
             all.second.emplace_back(at, found);
+        uint8_t address[16] = {}, length = 0;
+        size_t width = 4;
+        for (bool first = true; art_routes_next(&routes, address, width, length, first, address, 16, &width, &length, &found) == ART_SOME; first = false)
+            all.routes.emplace_back(std::string(address, address + width), length, found);
         return all;
     }
 };
@@ -83,6 +95,18 @@ static const uint8_t *name(uint64_t with, uint8_t *room, size_t *len) {
 #define CALL(body) [](Maps &maps, uint64_t with) -> uint32_t { (void)with; (void)maps; uint8_t room[400]; size_t len; \
     const uint8_t *key = name(with, room, &len); (void)key; body }
 
+// A network of IPv4 or IPv6: some lie in others.
+static const uint8_t *network(uint64_t with, uint8_t *room, size_t *width, uint8_t *length) {
+    *width = with % 3 == 0 ? 16 : 4;
+    *length = static_cast<uint8_t>(with % (8 * *width + 1));
+    std::memset(room, 0, 16);
+    for (size_t at = 0; at < *length; at++) room[at / 8] |= static_cast<uint8_t>((with * 0x9E3779B9 >> at % 24 & 1) << (7 - at % 8));
+    return room;
+}
+
+#define ROUTE_CALL(body) [](Maps &maps, uint64_t with) -> uint32_t { uint8_t room[16], length; size_t width; \
+    const uint8_t *address = network(with, room, &width, &length); body }
+
 static std::vector<Call> script() {
     std::vector<Call> calls;
     auto add = [&calls](uint32_t (*make)(Maps &, uint64_t), uint64_t with) { calls.push_back({make, with, false}); };
@@ -93,6 +117,10 @@ static std::vector<Call> script() {
         add(CALL(return art_bytes_insert(&maps.bytes, key, len, with, &maps.value);), i * 37);
         add(CALL(return art_u64_insert(&maps.numbers, with, with, &maps.value);), i < 60 ? i : i << 40);
     }
+    add(CALL(return art_routes_new(&maps.routes);), 0);
+    for (uint64_t i = 0; i < 90; i++) add(ROUTE_CALL(return art_routes_insert(&maps.routes, address, width, length, with, &maps.value);), i);
+    add(CALL(return art_routes_reserve(&maps.routes, with);), 100);
+    add(CALL(return art_routes_compact(&maps.routes);), 0);
     add(CALL(return art_bytes_reserve(&maps.bytes, with);), 100);
     add(CALL(return art_u64_reserve(&maps.numbers, with);), 100);
     add(CALL(return art_bytes_compact(&maps.bytes);), 0);
@@ -109,6 +137,17 @@ static std::vector<Call> script() {
         look(CALL(return art_bytes_count_prefix(&maps.bytes, key, len) == ART_NO_COUNT ? ART_NO_MEMORY : ART_NONE;), i);
         look(CALL(return art_u64_get(&maps.numbers, with, &maps.value);), i);
     }
+    for (uint64_t i = 0; i < 90; i += 5) {
+        // `with % 7 == 6` takes memory for a key: these take none.
+        uint64_t at = i % 7 == 6 ? i + 1 : i;
+        look(ROUTE_CALL(return art_routes_get(&maps.routes, address, width, length, &maps.value);), at);
+        look(ROUTE_CALL(return art_routes_longest_match(&maps.routes, address, width, &length, &maps.value);), at);
+        look(ROUTE_CALL(size_t count; return art_routes_longest_match_many(&maps.routes, address, width, width, &length, 1, &maps.value, 1, &count);), at);
+        look(ROUTE_CALL(uint8_t lengths[200]; uint64_t values[200]; size_t count;
+                        return art_routes_covering(&maps.routes, address, width, length, lengths, 200, values, 200, &count);), at);
+        look(ROUTE_CALL(return art_routes_next(&maps.routes, address, width, length, true, maps.key, 16, &maps.len, &length, &maps.value);), at);
+    }
+    for (uint64_t i = 0; i < 90; i += 2) add(ROUTE_CALL(return art_routes_remove(&maps.routes, address, width, length, &maps.value);), i);
     for (uint64_t i = 0; i < 45; i++) {
         add(CALL(return art_bytes_remove(&maps.bytes, key, len, &maps.value);), i * 74);
         add(CALL(return art_u64_remove(&maps.numbers, with, &maps.value);), i < 30 ? 2 * i : i << 40);
@@ -148,6 +187,7 @@ static bool run(const std::vector<Call> &calls, long allocation) {
     }
     art_bytes_free(&maps.bytes);
     art_u64_free(&maps.numbers);
+    art_routes_free(&maps.routes);
     CHECK(blocks == 0);
     return refused;
 }
@@ -176,9 +216,50 @@ static bool stops(long allocation) {
     return refused;
 }
 
+// A load with this allocation refused: no entry is in, and it may be made again. Whether there was one.
+static bool loads(long allocation) {
+    Maps maps;
+    std::string keys;
+    std::vector<size_t> ends;
+    std::vector<uint64_t> numbers;
+    std::vector<std::pair<std::string, uint64_t>> names;
+    for (uint64_t i = 0; i < 300; i++) {
+        std::string key = {static_cast<char>(i >> 4), static_cast<char>(i << 4), '\0'};
+        names.emplace_back(i % 7 ? key : key + std::string(40, 'a'), i * i);
+        ends.push_back((keys += names.back().first).size());
+        numbers.push_back(i * i);
+    }
+    CHECK(art_bytes_new(&maps.bytes) == ART_NONE && art_u64_new(&maps.numbers) == ART_NONE);
+    auto load_names = [&] {
+        return art_bytes_load(&maps.bytes, reinterpret_cast<const uint8_t *>(keys.data()), keys.size(), ends.data(), ends.size(), numbers.data(),
+                              numbers.size());
+    };
+    auto load_numbers = [&] { return art_u64_load(&maps.numbers, numbers.data(), numbers.size(), numbers.data(), numbers.size()); };
+    until_refusal = allocation;
+    refused = false;
+    counting = true;
+    uint32_t of_names = load_names();
+    bool before = refused;
+    uint32_t of_numbers = load_numbers();
+    counting = false;
+    CHECK(of_names == (before ? ART_NO_MEMORY : ART_NONE) && of_numbers == (refused == before ? ART_NONE : ART_NO_MEMORY));
+    Maps::Entries entries = maps.entries();
+    CHECK(entries.first.size() == (before ? 0 : 300) && entries.second.size() == (refused == before ? 300 : 0));
+    if (before) CHECK(load_names() == ART_NONE);
+    if (refused != before) CHECK(load_numbers() == ART_NONE);
+    entries = maps.entries();
+    CHECK(entries.first == names && entries.second.size() == 300 && entries.second.back() == std::make_pair(numbers.back(), numbers.back()));
+    art_bytes_free(&maps.bytes);
+    art_u64_free(&maps.numbers);
+    CHECK(blocks == 0);
+    return refused;
+}
+
 int main() {
     long many = 1;
     while (stops(many)) many++;
+    long load = 1;
+    while (loads(load)) load++;
     std::vector<Call> calls = script();
     long allocation = 1;
     while (run(calls, allocation)) allocation++;

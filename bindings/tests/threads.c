@@ -1,4 +1,4 @@
-/* Four threads look at one map of each kind at the same time, and change both in turn under a lock. Every answer is known.
+/* Four threads look at one map of each kind at the same time, and change them in turn under a lock. Every answer is known.
    The argument is how many times each thread does so. To be run by itself, and under a checker of races (helgrind). */
 #define _POSIX_C_SOURCE 200809L
 #include "../c/art.h"
@@ -19,6 +19,7 @@ enum { THREADS = 4, ENTRIES = 1000, LONG = 600 };
 
 static art_bytes_map words;
 static art_u64_map numbers;
+static art_routes_map routes;
 static pthread_rwlock_t lock = PTHREAD_RWLOCK_INITIALIZER;
 static unsigned long rounds = 100;
 
@@ -57,6 +58,22 @@ static void looks(const art_bytes_map *bytes, const art_u64_map *u64, unsigned n
     CHECK(art_u64_len(u64) >= ENTRIES);
 }
 
+static void looks_at_routes(const art_routes_map *table, unsigned n) {
+    const uint8_t address[4] = {10, (uint8_t)(n >> 8), (uint8_t)n, 7}, network[4] = {10, (uint8_t)(n >> 8), (uint8_t)n, 0};
+    uint8_t length = 0, lengths[2], found[16];
+    uint64_t value = 0, values[2];
+    size_t width = 0, count = 0;
+    CHECK(art_routes_longest_match(table, address, 4, &length, &value) == ART_SOME && length == 24 && value == n);
+    CHECK(art_routes_longest_match_many(table, address, 4, 4, lengths, 2, values, 2, &count) == ART_NONE);
+    CHECK(count == 1 && lengths[0] == 24 && values[0] == n);
+    CHECK(art_routes_get(table, network, 4, 24, &value) == ART_SOME && value == n);
+    CHECK(art_routes_next(table, network, 4, 24, true, found, 16, &width, &length, &value) == ART_SOME);
+    CHECK(width == 4 && length == 24 && value == n && memcmp(found, network, 4) == 0);
+    CHECK(art_routes_covering(table, address, 4, 32, lengths, 2, values, 2, &count) == ART_NONE);
+    CHECK(count == 2 && lengths[0] == 24 && lengths[1] == 8 && values[1] == ENTRIES);
+    CHECK(art_routes_len(table) >= ENTRIES + 1);
+}
+
 /* Of an entry that is this thread's alone. */
 static void changes(unsigned thread) {
     uint64_t value = 0;
@@ -65,6 +82,9 @@ static void changes(unsigned thread) {
     CHECK(art_u64_insert(&numbers, ENTRIES + thread, thread, &value) == ART_NONE);
     CHECK(art_bytes_remove(&words, key, sizeof key, &value) == ART_SOME && value == thread);
     CHECK(art_u64_remove(&numbers, ENTRIES + thread, &value) == ART_SOME && value == thread);
+    const uint8_t network[4] = {192, 168, (uint8_t)thread, 0};
+    CHECK(art_routes_insert(&routes, network, 4, 24, thread, &value) == ART_NONE);
+    CHECK(art_routes_remove(&routes, network, 4, 24, &value) == ART_SOME && value == thread);
 }
 
 static void *run(void *given) {
@@ -72,6 +92,7 @@ static void *run(void *given) {
     for (unsigned long round = 0; round < rounds; round++) {
         CHECK(pthread_rwlock_rdlock(&lock) == 0);
         looks(&words, &numbers, (unsigned)((round * 7 + thread * 250) % ENTRIES));
+        looks_at_routes(&routes, (unsigned)((round * 7 + thread * 250) % ENTRIES));
         CHECK(pthread_rwlock_unlock(&lock) == 0);
         if (round % 4 == thread) {
             CHECK(pthread_rwlock_wrlock(&lock) == 0);
@@ -85,12 +106,16 @@ static void *run(void *given) {
 int main(int count, char **words_of) {
     if (count > 1) rounds = strtoul(words_of[1], NULL, 10);
     uint64_t value;
-    CHECK(art_bytes_new(&words) == ART_NONE && art_u64_new(&numbers) == ART_NONE);
+    CHECK(art_bytes_new(&words) == ART_NONE && art_u64_new(&numbers) == ART_NONE && art_routes_new(&routes) == ART_NONE);
+    const uint8_t ten[4] = {10, 0, 0, 0};
+    CHECK(art_routes_insert(&routes, ten, 4, 8, ENTRIES, &value) == ART_NONE);
     for (unsigned n = 0; n < ENTRIES; n++) {
         uint8_t key[LONG];
         size_t len = key_of(n, key);
         CHECK(art_bytes_insert(&words, key, len, n, &value) == ART_NONE);
         CHECK(art_u64_insert(&numbers, n, n, &value) == ART_NONE);
+        const uint8_t network[4] = {10, (uint8_t)(n >> 8), (uint8_t)n, 0};
+        CHECK(art_routes_insert(&routes, network, 4, 24, n, &value) == ART_NONE);
     }
     pthread_t threads[THREADS];
     unsigned names[THREADS];
@@ -99,9 +124,10 @@ int main(int count, char **words_of) {
         CHECK(pthread_create(&threads[n], NULL, run, &names[n]) == 0);
     }
     for (unsigned n = 0; n < THREADS; n++) CHECK(pthread_join(threads[n], NULL) == 0);
-    CHECK(art_bytes_len(&words) == ENTRIES && art_u64_len(&numbers) == ENTRIES);
+    CHECK(art_bytes_len(&words) == ENTRIES && art_u64_len(&numbers) == ENTRIES && art_routes_len(&routes) == ENTRIES + 1);
     art_bytes_free(&words);
     art_u64_free(&numbers);
+    art_routes_free(&routes);
     printf("%d threads, %lu times each\n", THREADS, rounds);
     return 0;
 }

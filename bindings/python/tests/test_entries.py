@@ -72,6 +72,127 @@ class Many(Whole):
             self.assertEqual(list(made.irange(start, stop)), [key for key in sorted(due) if start <= key <= stop])
 
 
+class ManyAtOnce(Whole):
+    """Entries that are set by one call: those of a list, a tuple, a dict or a map, which go to the library together."""
+
+    KEYS = (
+        ["", "a", "a\0", "b", "ä", "\ud800", "\uffff", "\U0001f600", *map(str, range(300))],
+        [b"", b"\0", b"\0\xff", b"a" * 400, *(bytes([number, 255 - number]) for number in range(1, 256))],
+        [-(2**63), -1, 0, 1, 2**63 - 1, *range(1000, 1400, 3)],
+    )
+
+    def orders(self, keys):
+        choose = random.Random(11)
+        return sorted(keys), sorted(keys, reverse=True), choose.sample(keys, len(keys)), choose.choices(keys, k=3 * len(keys)), keys[:1], []
+
+    def test_they_are_those_of_a_dict(self):
+        kinds = (list, tuple, dict, SortedMap, iter, lambda pairs: (pair for pair in pairs), lambda pairs: map(list, pairs))
+        for keys in self.KEYS:
+            for before in ({}, {keys[3]: "before", keys[0]: "before"}):
+                for order in self.orders(keys):
+                    pairs = [(key, at) for at, key in enumerate(order)]
+                    for kind in kinds:
+                        made = SortedMap(before)
+                        made.update(kind(pairs))
+                        due = before | dict(pairs)
+                        self.assertEqual((len(made), list(made.items())), (len(due), sorted(due.items(), key=lambda item: item[0])))
+                        made[keys[1]] = due[keys[1]] = "after"
+                        self.assertEqual((made.pop(keys[0], None), made.pop(keys[1])), (due.pop(keys[0], None), due.pop(keys[1])))
+                        self.assertEqual((len(made), list(reversed(made))), (len(due), sorted(due, reverse=True)))
+                    self.assert_whole(made, due)
+
+    def test_a_map_whose_entries_went_keeps_its_type(self):
+        for keys, other in zip(self.KEYS, ([1], ["a"], [b"a"])):
+            made = SortedMap.fromkeys(keys)
+            for key in keys:
+                del made[key]
+            self.assertRaises(TypeError, made.update, [(key, 1) for key in other])
+            self.assert_whole(made, {})
+            made.update([(key, str(key)) for key in sorted(keys)])
+            self.assert_whole(made, {key: str(key) for key in keys})
+
+    def test_those_before_a_refused_one_are_set(self):
+        class Unread:
+            def __iter__(self):
+                raise ZeroDivisionError
+
+        for first, second, third, wrong in (("a", "b", "c", 5), (b"a", b"b", b"c", "b"), (1, 2, 3, b"1"), (1, 2, 3, 2**63)):
+            for bad, refusal in (((wrong, 1), (TypeError, OverflowError)), ((third, 1, 1), ValueError), (7, TypeError), (Unread(), ZeroDivisionError)):
+                for before in ({}, {second: "before"}, {third: "before"}):
+                    for kind in (list, tuple, iter):
+                        made = SortedMap(before)
+                        pairs = [(first, "first"), (second, "second"), bad, (third, "third")]
+                        self.assertRaises(refusal, made.update, kind(pairs))
+                        self.assert_whole(made, before | {first: "first", second: "second"})
+                        self.assertRaises(refusal, made.update, kind(pairs[2:]))
+                        self.assert_whole(made, before | {first: "first", second: "second"})
+
+    def test_a_first_key_that_is_refused_leaves_no_type(self):
+        for bad in ((None, 1), (2**63, 1), ("a", 1, 2)):
+            made = SortedMap()
+            self.assertRaises((TypeError, OverflowError, ValueError), made.update, [bad, (5, 6)])
+            made.update([(b"any", 1)])
+            self.assert_whole(made, {b"any": 1})
+
+    def test_a_subclass_sets_each_itself(self):
+        class Doubled(SortedMap):
+            def __setitem__(self, key, value):
+                super().__setitem__(key, 2 * value)
+
+        self.assert_whole(Doubled([(1, 1), (2, 2)], ), {1: 2, 2: 4})
+        self.assert_whole(Doubled({"a": 3}, b=4), {"a": 6, "b": 8})
+
+    def test_values_that_change_the_map_when_they_are_dropped(self):
+        changes = (
+            lambda made: made.clear(),
+            lambda made: made.__setitem__("new", 1),
+            lambda made: (made.clear(), made.__setitem__(5, 6)),
+            lambda made: made.update([("a", 7), ("z", 8)]),
+            lambda made: [made.pop(key) for key in list(made)],
+        )
+        for change in changes:
+            for pairs in ([("a", 1), ("b", 2), ("c", 3)], [("c", 1), ("a", 2), ("c", 3)]):
+                made = SortedMap(b=0)
+                made["a"], made["c"] = (OnEnd(lambda made=made, change=change: change(made)) for _ in "ac")
+                try:
+                    made.update(pairs)
+                except TypeError:
+                    self.assertIs(type(next(iter(made))), int)
+                self.assert_whole(made, dict(made.items()))
+
+    def test_pairs_that_change_the_map_when_they_are_read(self):
+        class Pair:
+            def __init__(self, change):
+                self.change = change
+
+            def __iter__(self):
+                self.change()
+                return iter(("b", "pair"))
+
+        for before in ({}, {"a": 1, "b": 2, "z": 3}):
+            for change in (lambda made: made.clear(), lambda made: made.update({"y": 1}), lambda made: (made.clear(), made.update({5: 6}))):
+                made = SortedMap(before)
+                try:
+                    made.update([("a", "first"), Pair(lambda made=made, change=change: change(made)), ("c", "last")])
+                except TypeError:
+                    self.assertEqual(list(made), [5])
+                self.assert_whole(made, dict(made.items()))
+
+    def test_no_reference_is_kept_or_lost(self):
+        value = Value()
+        pairs = [(key, value) for key in "abc"]
+        for many in (pairs, pairs[::-1], pairs + pairs, [*pairs, (1, value)]):
+            made, held = SortedMap(), sys.getrefcount(value)
+            for _ in range(3):
+                try:
+                    made.update(many)
+                except TypeError:
+                    pass
+            self.assertEqual(sys.getrefcount(value), held + 3)
+            del made
+            self.assertEqual(sys.getrefcount(value), held)
+
+
 class References(Whole):
     def test_no_reference_is_kept_or_lost(self):
         key, value, default = "".join(["a", "key"]), Value(), Value()
@@ -266,6 +387,14 @@ class RefusedMemory(Whole):
                 for call in (made.items, made.copy, lambda made=made: list(made.items()), lambda made=made: list(made.irange())):
                     for _ in self.refused_in_turn(call):
                         self.assert_whole(made, due)
+
+    def test_a_refused_load_sets_the_first_ones_or_none(self):
+        for keys in ([f"key {number:03}" for number in range(300)], [b"%03d" % number for number in range(300)], list(range(300))):
+            pairs = [(key, key) for key in keys]
+            made = SortedMap()
+            for _ in self.refused_in_turn(lambda made=made, pairs=pairs: made.update(pairs)):
+                self.assert_whole(made, dict(pairs[: len(made)]))
+                made.clear()
 
 
 if __name__ == "__main__":

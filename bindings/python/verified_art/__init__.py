@@ -1,4 +1,4 @@
-"""A sorted mapping of bytes, str or int to any objects, over a library whose functions are formally verified.
+"""A sorted mapping of bytes, str or int to any objects, and route tables, over a library whose functions are formally verified.
 
 The entries are held in C where that was compiled, as it is in the wheel, else by ctypes: the one does what the other
 does, faster. Where VERIFIED_ART_DIR names the folder of a library, that one is called, by ctypes."""
@@ -8,21 +8,24 @@ from collections.abc import ItemsView, KeysView, Mapping, MutableMapping, Sequen
 from operator import index as index_of
 from reprlib import recursive_repr
 
-__all__ = ["SortedMap"]
+__all__ = ["RouteTable", "SortedMap"]
 
 
-def _core():
-    """The type that has the entries."""
+def _held():
+    """The module that holds the entries and the routes."""
     if "VERIFIED_ART_DIR" not in os.environ:
         try:
-            from ._in_c import Core
+            from . import _in_c
 
-            return Core
+            return _in_c
         except ImportError:
             pass
-    from ._by_ctypes import Core
+    from . import _by_ctypes
 
-    return Core
+    return _by_ctypes
+
+
+_core = _held()
 
 
 # What a walk gives of each entry.
@@ -111,15 +114,22 @@ class _Values(_Ordered, ValuesView):
 # ---- the mapping
 
 
-def _pairs_in_order(entries):
-    """The pairs of a dict, in the order of its keys where these are of one type: so they are added faster."""
-    kinds = set(map(type, entries))
-    if len(kinds) == 1 and kinds <= {bytes, str, int}:
-        return [(key, entries[key]) for key in sorted(entries)]
-    return entries.items()
+def _pairs_of(other):
+    """The pairs of a mapping, those of a dict in the order of its keys where these are of one type; or of pairs, these. They
+    are a list where no other code runs meanwhile: so they are set faster."""
+    if isinstance(other, SortedMap):
+        return list(other.items())
+    if type(other) is dict:
+        kinds = set(map(type, other))
+        if len(kinds) == 1 and kinds <= {bytes, str, int}:
+            return [(key, other[key]) for key in sorted(other)]
+        return list(other.items())
+    if isinstance(other, Mapping) or hasattr(other, "keys"):
+        return ((key, other[key]) for key in other.keys())
+    return list(other) if type(other) is tuple else other
 
 
-class SortedMap(_core(), MutableMapping):
+class SortedMap(_core.Core, MutableMapping):
     """SortedMap(), SortedMap(mapping), SortedMap(pairs), SortedMap(name=value, ..): a dict in the order of its keys.
 
     All keys are bytes, all str, or all int of 64 bits with a sign: the first key decides, until the map is cleared.
@@ -135,12 +145,15 @@ class SortedMap(_core(), MutableMapping):
         self.update(other, **named)
 
     def update(self, other=(), /, **named):
-        """Sets the entries of a mapping or of pairs, then the named ones. Those of a dict are set in the order of its keys."""
-        if isinstance(other, SortedMap):
-            other = other.items()
-        elif type(other) is dict:
-            other = _pairs_in_order(other)
-        super().update(other, **named)
+        """Sets the entries of a mapping or of pairs, then the named ones. Those of a dict are set in the order of its keys.
+
+        Where an exception ends it, the entries before the one that is refused are set, and no others."""
+        if type(self).__setitem__ is not SortedMap.__setitem__:
+            super().update(other, **named)
+            return
+        self._set_each(_pairs_of(other))
+        if named:
+            self._set_each(_pairs_of(named))
 
     def irange(self, minimum=None, maximum=None, inclusive=(True, True), reverse=False):
         """The keys between two keys, in their order or the reverse; None is no bound."""
@@ -217,8 +230,7 @@ class SortedMap(_core(), MutableMapping):
     def fromkeys(cls, keys, value=None):
         """A map from each of these keys to one value."""
         made = cls()
-        for key in keys:
-            made[key] = value
+        made.update([(key, value) for key in keys])
         return made
 
     def __or__(self, other):
@@ -246,3 +258,66 @@ class SortedMap(_core(), MutableMapping):
     def __repr__(self):
         entries = ", ".join(f"{key!r}: {value!r}" for key, value in self.items())
         return f"{type(self).__name__}({{{entries}}})"
+
+
+# ---- route tables
+
+
+class RouteTable(_core.Routes):
+    """RouteTable(), RouteTable(mapping), RouteTable(pairs): values by IPv4 and IPv6 networks, of which the longest match of an
+    address is found; with the calls of `pytricia`, for both families in one table.
+
+    A network is a str as "10.0.0.0/8", or an `ipaddress.IPv4Network` or `IPv6Network`. An address is a str, what `ipaddress`
+    makes, or 4 or 16 bytes, and a network of all its bits. `table[..]`, `get`, `get_many`, `get_key` and `in` find the longest
+    route that contains an address, or covers a network; `has_key`, `pop`, `del` and setting are of this very network. Networks
+    come out as str, those of IPv4 first, then by their first addresses, then the shorter ones first. IPv4 and IPv6 never
+    match each other. What is no network, or has a bit set behind its length, is a ValueError.
+
+    Routes may be set and removed during an iteration, which goes on behind the last network that it gave."""
+
+    __slots__ = ("__weakref__",)
+
+    def __init__(self, other=(), /):
+        self.update(other)
+
+    def update(self, other):
+        """Sets the routes of a mapping or of pairs."""
+        for network, value in other.items() if hasattr(other, "items") else other:
+            self[network] = value
+
+    def __iter__(self):
+        """The networks, in order."""
+        return self._walk(_KEYS, None)
+
+    def keys(self):
+        """The networks in order, in a list."""
+        return list(self)
+
+    def values(self):
+        """The values in the order of their networks, in a list."""
+        return list(self._walk(_VALUES, None))
+
+    def items(self):
+        """The pairs of networks and values in order, in a list."""
+        return list(self._walk(_ITEMS, None))
+
+    def children(self, network):
+        """The networks of the routes inside a network, but for the one to it, in order, in a list."""
+        inside = self._walk(_KEYS, network)
+        return list(inside)[1 if self.has_key(network) else 0 :]
+
+    def copy(self):
+        return type(self)(self)
+
+    def __eq__(self, other):
+        return self.items() == other.items() if isinstance(other, RouteTable) else NotImplemented
+
+    __hash__ = None
+
+    def __reduce__(self):
+        return type(self), (), None, None, iter(self.items())
+
+    @recursive_repr("RouteTable({...})")
+    def __repr__(self):
+        routes = ", ".join(f"{network!r}: {value!r}" for network, value in self.items())
+        return f"{type(self).__name__}({{{routes}}})"

@@ -1,4 +1,4 @@
-/* The entries of a SortedMap, in C: what `_by_ctypes.py` does where this is not built. Made for the limited interface
+/* The entries of a SortedMap, and the routes of a RouteTable (`_routes.h`), in C: what `_by_ctypes.py` does where this is not built. Made for the limited interface
    of CPython 3.10, so that one build serves each later one.
 
    A key is in the library's map, which has the place of its entry: an entry has the key and the value as objects, and
@@ -228,6 +228,143 @@ static int set_item(Core *self, PyObject *key, PyObject *value) {
     }
     let_go(&sought);
     return done;
+}
+
+/* ---- many entries at once */
+
+/* The keys of entries that are to be loaded, as the library takes them. */
+typedef struct {
+    uint8_t *bytes;
+    size_t *ends;
+    uint64_t *numbers, *places;
+} Loaded;
+
+static void let_go_loaded(Loaded *loaded) {
+    PyMem_Free(loaded->bytes);
+    PyMem_Free(loaded->ends);
+    PyMem_Free(loaded->numbers);
+    PyMem_Free(loaded->places);
+}
+
+/* Reads the key of the pair at an index, where it is one of exactly this type that the library takes, and no memory of its
+   own is needed for it. */
+static bool read_pair(Kind kind, PyObject *pairs, Py_ssize_t at, PyObject **pair, Sought *sought) {
+    *pair = PyList_GetItem(pairs, at);
+    if (!*pair || !PyTuple_CheckExact(*pair) || PyTuple_Size(*pair) != 2) return false;
+    PyObject *key = PyTuple_GetItem(*pair, 0);
+    if (!(kind == STR_KEYS ? PyUnicode_CheckExact(key) : kind == INT_KEYS ? PyLong_CheckExact(key) : PyBytes_CheckExact(key))) return false;
+    if (read_key(kind, key, sought) < 0) return false;
+    bool own = sought->owner;
+    let_go(sought);
+    return !own && !sought->outside;
+}
+
+/* Gathers the keys of pairs. */
+static bool gather(Kind kind, PyObject *pairs, Py_ssize_t count, Loaded *loaded) {
+    PyObject *pair;
+    Sought sought;
+    size_t len = 0, at = 0;
+    for (Py_ssize_t i = 0; i < count; i++) {
+        if (!read_pair(kind, pairs, i, &pair, &sought)) return false;
+        len += sought.len;
+    }
+    loaded->places = PyMem_Calloc((size_t)count, sizeof *loaded->places);
+    if (kind == INT_KEYS) {
+        loaded->numbers = PyMem_Calloc((size_t)count, sizeof *loaded->numbers);
+    } else {
+        loaded->bytes = PyMem_Malloc(len + 1);
+        loaded->ends = PyMem_Calloc((size_t)count, sizeof *loaded->ends);
+    }
+    bool has_memory = loaded->places && (kind == INT_KEYS ? loaded->numbers != NULL : loaded->bytes && loaded->ends);
+    if (!has_memory) return false;
+    for (Py_ssize_t i = 0; i < count; i++) {
+        if (!read_pair(kind, pairs, i, &pair, &sought) || sought.len > len - at) return false;
+        loaded->places[i] = (uint64_t)i;
+        if (kind == INT_KEYS) {
+            loaded->numbers[i] = sought.number;
+        } else {
+            memcpy(&loaded->bytes[at], sought.bytes, sought.len);
+            loaded->ends[i] = at += sought.len;
+        }
+    }
+    return true;
+}
+
+/* Puts gathered keys into the library's map, and the pairs into the order: neither has an entry. Whether it did; else both
+   are left without one. No other code runs, since the pairs have all that is let go of. */
+static bool fill(Core *self, PyObject *pairs, size_t count, const Loaded *loaded) {
+    bool of_ints = self->kind == INT_KEYS;
+    uint32_t status = of_ints ? art_u64_load(&self->by_number, loaded->numbers, count, loaded->places, count)
+                              : art_bytes_load(&self->by_bytes, loaded->bytes, loaded->ends[count - 1], loaded->ends, count, loaded->places, count);
+    if (status != ART_NONE) return false;
+    for (size_t i = 0; i < count; i++) {
+        if (reserve(&self->order) < 0) {
+            empty_order(&self->order);
+            if (of_ints) {
+                art_u64_clear(&self->by_number);
+            } else {
+                art_bytes_clear(&self->by_bytes);
+            }
+            return false;
+        }
+        PyObject *pair = PyList_GetItem(pairs, (Py_ssize_t)i), *key = PyTuple_GetItem(pair, 0), *value = PyTuple_GetItem(pair, 1);
+        Py_INCREF(key);
+        Py_INCREF(value);
+        add_entry(&self->order, last_position(&self->order), key, value);
+    }
+    return true;
+}
+
+/* Puts pairs whose keys ascend into a map without entries: whether it did, and else nothing has changed. From the second
+   look at the keys on no other code runs. */
+static bool load(Core *self, PyObject *pairs) {
+    Py_ssize_t count = PyList_Size(pairs);
+    PyObject *first = count > 0 ? PyList_GetItem(pairs, 0) : NULL;
+    if (!first || self->order.count > 0 || !PyTuple_CheckExact(first) || PyTuple_Size(first) != 2) return false;
+    PyObject *key = PyTuple_GetItem(first, 0);
+    Kind kind = PyUnicode_CheckExact(key) ? STR_KEYS : PyLong_CheckExact(key) ? INT_KEYS : PyBytes_CheckExact(key) ? BYTES_KEYS : NO_KEYS;
+    Loaded loaded = {0};
+    bool done = false;
+    if (kind != NO_KEYS && gather(kind, pairs, count, &loaded) && self->order.count == 0) {
+        bool is_first = self->kind == NO_KEYS;
+        if (is_first ? make_map(self, kind) == 0 : self->kind == kind) {
+            empty_order(&self->order);
+            done = fill(self, pairs, (size_t)count, &loaded);
+            if (!done && is_first) free_map(self);
+        }
+    }
+    let_go_loaded(&loaded);
+    PyErr_Clear();
+    return done;
+}
+
+static int set_pair(Core *self, PyObject *pair) {
+    PyObject *both = PySequence_Tuple(pair);
+    if (!both) return -1;
+    int done = -1;
+    if (PyTuple_Size(both) == 2) {
+        done = set_item(self, PyTuple_GetItem(both, 0), PyTuple_GetItem(both, 1));
+    } else {
+        PyErr_Format(PyExc_ValueError, "a pair of a key and a value is needed, and not %zd objects", PyTuple_Size(both));
+    }
+    Py_DECREF(both);
+    return done;
+}
+
+/* _set_each(pairs): sets the entries of pairs one after another, those of a list whose keys ascend at once where the map has
+   none. */
+static PyObject *core_set_each(Core *self, PyObject *pairs) {
+    if (PyList_CheckExact(pairs) && load(self, pairs)) Py_RETURN_NONE;
+    PyObject *steps = PyObject_GetIter(pairs), *pair;
+    if (!steps) return NULL;
+    while ((pair = PyIter_Next(steps))) {
+        int done = set_pair(self, pair);
+        Py_DECREF(pair);
+        if (done < 0) break;
+    }
+    Py_DECREF(steps);
+    if (PyErr_Occurred()) return NULL;
+    Py_RETURN_NONE;
 }
 
 /* Removes a key: 1, and its entry, or 0 where there is none, or -1 with an error set. */
@@ -580,6 +717,7 @@ static PyMethodDef core_methods[] = {
      "How many keys begin with a prefix. Takes time linear in their number."},
     {"__reversed__", (PyCFunction)core_reversed, METH_NOARGS, NULL},
     {"__sizeof__", (PyCFunction)core_size, METH_NOARGS, "The memory of the map, without the library's and the keys and values."},
+    {"_set_each", (PyCFunction)core_set_each, METH_O, NULL},
     {"_range", (PyCFunction)core_range, METH_VARARGS, NULL},
     {"_prefixed", (PyCFunction)core_prefixed, METH_VARARGS, NULL},
     {"_slice", (PyCFunction)core_slice, METH_VARARGS, NULL},
@@ -605,15 +743,20 @@ static PyType_Spec core_spec = {
     "verified_art._in_c.Core", sizeof(Core), 0, Py_TPFLAGS_DEFAULT | Py_TPFLAGS_HAVE_GC | Py_TPFLAGS_BASETYPE, core_slots,
 };
 
-static struct PyModuleDef module = {PyModuleDef_HEAD_INIT, "_in_c", "The entries of a SortedMap.", -1, NULL, NULL, NULL, NULL, NULL};
+#include "_routes.h"
+
+static struct PyModuleDef module = {PyModuleDef_HEAD_INIT, "_in_c", "The entries of a SortedMap, and the routes of a RouteTable.", -1, NULL, NULL, NULL, NULL, NULL};
 
 PyMODINIT_FUNC PyInit__in_c(void) {
-    PyObject *made = PyModule_Create(&module), *core = PyType_FromSpec(&core_spec);
+    PyObject *made = PyModule_Create(&module), *core = PyType_FromSpec(&core_spec), *routes = PyType_FromSpec(&routes_spec);
     walk_type = (PyTypeObject *)PyType_FromSpec(&walk_spec);
-    if (!made || !core || !walk_type || PyModule_AddObjectRef(made, "Core", core) < 0) {
+    route_walk_type = (PyTypeObject *)PyType_FromSpec(&route_walk_spec);
+    if (!made || !core || !routes || !walk_type || !route_walk_type || PyModule_AddObjectRef(made, "Core", core) < 0 ||
+        PyModule_AddObjectRef(made, "Routes", routes) < 0) {
         Py_XDECREF(made);
         made = NULL;
     }
     Py_XDECREF(core);
+    Py_XDECREF(routes);
     return made;
 }

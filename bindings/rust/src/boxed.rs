@@ -48,7 +48,7 @@ pub struct Map<V, K: Key = Vec<u8>> {
 }
 
 // The word for a box, which is then this word's alone.
-fn word_of<V>(value: Box<V>) -> u64 {
+pub(crate) fn word_of<V>(value: Box<V>) -> u64 {
     Box::into_raw(value).expose_provenance() as u64
 }
 

@@ -3,6 +3,7 @@ use crate::boxed::{address, Map};
 use crate::key::Key;
 use crate::refusal::granted;
 use crate::words::{Shown, WordMap};
+use std::ops::{Deref, DerefMut};
 use std::{fmt, mem};
 
 /// The place of a key in a [`Map`].
@@ -245,6 +246,41 @@ impl<K: Key> OccupiedWord<'_, K> {
     pub fn remove_entry(self) -> (K, u64) {
         granted(self.map.take(self.key.sought()));
         (self.key, self.value)
+    }
+}
+
+/// A value of a [`WordMap`], to be changed: where it was, it is written to the map when this is dropped. That panics where
+/// memory for the key is refused; the map then has the value of before.
+pub struct ValueMut<'a, K: Key> {
+    pub(crate) entry: OccupiedWord<'a, K>,
+    pub(crate) value: u64,
+}
+
+impl<K: Key> Deref for ValueMut<'_, K> {
+    type Target = u64;
+
+    fn deref(&self) -> &u64 {
+        &self.value
+    }
+}
+
+impl<K: Key> DerefMut for ValueMut<'_, K> {
+    fn deref_mut(&mut self) -> &mut u64 {
+        &mut self.value
+    }
+}
+
+impl<K: Key> Drop for ValueMut<'_, K> {
+    fn drop(&mut self) {
+        if self.value != self.entry.value {
+            self.entry.insert(self.value);
+        }
+    }
+}
+
+impl<K: Key> fmt::Debug for ValueMut<'_, K> {
+    fn fmt(&self, out: &mut fmt::Formatter<'_>) -> fmt::Result {
+        self.value.fmt(out)
     }
 }
 

@@ -51,6 +51,19 @@ pub enum Toward {
     Start,
 }
 
+/// Entries for one call: the keys, of bytes one behind another and where each ends, and the values.
+pub struct Many<W> {
+    keys: Vec<W>,
+    ends: Vec<usize>,
+    values: Vec<u64>,
+}
+
+impl<W> Many<W> {
+    pub(crate) fn new() -> Self {
+        Many { keys: Vec::new(), ends: Vec::new(), values: Vec::new() }
+    }
+}
+
 /// The calls of the library for one kind of keys. No other crate can name this trait, so none can
 /// implement it.
 ///
@@ -60,8 +73,13 @@ pub enum Toward {
 /// of all calls of this map. Those that only look, `len`, `get`, `fetch` and what `find` does but for pops, may be given a copy.
 pub trait Calls: Sized {
     type Sought: ?Sized + Ord + ToOwned<Owned = Self>;
+    /// What keys lie in that are given to one call.
+    type Word;
 
     fn sought(&self) -> &Self::Sought;
+
+    /// Appends an entry to those for one call.
+    fn push(many: &mut Many<Self::Word>, key: &Self::Sought, value: u64);
 
     unsafe fn make(map: *mut RawMap) -> u32;
     unsafe fn free(map: *mut RawMap);
@@ -72,6 +90,10 @@ pub trait Calls: Sized {
     unsafe fn insert(map: *mut RawMap, key: &Self::Sought, value: u64, before: &mut u64) -> u32;
     unsafe fn get(map: *mut RawMap, key: &Self::Sought, value: &mut u64) -> u32;
     unsafe fn remove(map: *mut RawMap, key: &Self::Sought, value: &mut u64) -> u32;
+    /// Inserts entries one after another.
+    unsafe fn insert_many(map: *mut RawMap, many: &Many<Self::Word>) -> u32;
+    /// Puts entries whose keys ascend into a map without entries.
+    unsafe fn load(map: *mut RawMap, many: &Many<Self::Word>) -> u32;
     unsafe fn find(map: *mut RawMap, which: Find) -> Result<Option<(Self, u64)>, Refusal>;
 
     /// Appends the next entries after a key, from it on where that is included: at least one if there
@@ -108,9 +130,16 @@ fn with_buffer(
 
 impl Calls for Vec<u8> {
     type Sought = [u8];
+    type Word = u8;
 
     fn sought(&self) -> &[u8] {
         self
+    }
+
+    fn push(many: &mut Many<u8>, key: &[u8], value: u64) {
+        many.keys.extend_from_slice(key);
+        many.ends.push(many.keys.len());
+        many.values.push(value);
     }
 
     unsafe fn make(map: *mut RawMap) -> u32 {
@@ -147,6 +176,20 @@ impl Calls for Vec<u8> {
 
     unsafe fn remove(map: *mut RawMap, key: &[u8], value: &mut u64) -> u32 {
         raw::art_bytes_remove(map, key.as_ptr(), key.len(), value)
+    }
+
+    unsafe fn insert_many(map: *mut RawMap, many: &Many<u8>) -> u32 {
+        let (keys, ends, values, mut done) = (&many.keys, &many.ends, &many.values, 0);
+        #[rustfmt::skip]
+        let status = raw::art_bytes_insert_many(
+            map, keys.as_ptr(), keys.len(), ends.as_ptr(), ends.len(), values.as_ptr(), values.len(), &mut done,
+        );
+        status
+    }
+
+    unsafe fn load(map: *mut RawMap, many: &Many<u8>) -> u32 {
+        let (keys, ends, values) = (&many.keys, &many.ends, &many.values);
+        raw::art_bytes_load(map, keys.as_ptr(), keys.len(), ends.as_ptr(), ends.len(), values.as_ptr(), values.len())
     }
 
     unsafe fn find(map: *mut RawMap, which: Find) -> Result<Option<(Vec<u8>, u64)>, Refusal> {
@@ -211,9 +254,15 @@ const MOST_FETCHED: usize = 64;
 
 impl Calls for u64 {
     type Sought = u64;
+    type Word = u64;
 
     fn sought(&self) -> &u64 {
         self
+    }
+
+    fn push(many: &mut Many<u64>, key: &u64, value: u64) {
+        many.keys.push(*key);
+        many.values.push(value);
     }
 
     unsafe fn make(map: *mut RawMap) -> u32 {
@@ -250,6 +299,15 @@ impl Calls for u64 {
 
     unsafe fn remove(map: *mut RawMap, key: &u64, value: &mut u64) -> u32 {
         raw::art_u64_remove(map, *key, value)
+    }
+
+    unsafe fn insert_many(map: *mut RawMap, many: &Many<u64>) -> u32 {
+        let (keys, values, mut done) = (&many.keys, &many.values, 0);
+        raw::art_u64_insert_many(map, keys.as_ptr(), keys.len(), values.as_ptr(), values.len(), &mut done)
+    }
+
+    unsafe fn load(map: *mut RawMap, many: &Many<u64>) -> u32 {
+        raw::art_u64_load(map, many.keys.as_ptr(), many.keys.len(), many.values.as_ptr(), many.values.len())
     }
 
     unsafe fn find(map: *mut RawMap, which: Find) -> Result<Option<(u64, u64)>, Refusal> {

@@ -17,6 +17,7 @@ pub(crate) const SOME: u32 = 1;
 pub(crate) const NO_MEMORY: u32 = 2;
 pub(crate) const KEY_TOO_LONG: u32 = 3;
 pub(crate) const SMALL_BUFFER: u32 = 4;
+pub(crate) const NOT_ASCENDING: u32 = 8;
 pub(crate) const NO_COUNT: usize = usize::MAX;
 
 extern "C" {
@@ -60,6 +61,25 @@ extern "C" {
         values_len: usize,
         count: *mut usize,
         key_len: *mut usize,
+    ) -> u32;
+    pub(crate) fn art_bytes_insert_many(
+        map: *mut RawMap,
+        keys: *const u8,
+        keys_len: usize,
+        ends: *const usize,
+        ends_len: usize,
+        values: *const u64,
+        values_len: usize,
+        done: *mut usize,
+    ) -> u32;
+    pub(crate) fn art_bytes_load(
+        map: *mut RawMap,
+        keys: *const u8,
+        keys_len: usize,
+        ends: *const usize,
+        ends_len: usize,
+        values: *const u64,
+        values_len: usize,
     ) -> u32;
     pub(crate) fn art_bytes_first(
         map: *mut RawMap,
@@ -122,4 +142,70 @@ extern "C" {
         values: *mut u64,
         values_len: usize,
     ) -> usize;
+    pub(crate) fn art_u64_insert_many(
+        map: *mut RawMap,
+        keys: *const u64,
+        keys_len: usize,
+        values: *const u64,
+        values_len: usize,
+        done: *mut usize,
+    ) -> u32;
+    pub(crate) fn art_u64_load(
+        map: *mut RawMap,
+        keys: *const u64,
+        keys_len: usize,
+        values: *const u64,
+        values_len: usize,
+    ) -> u32;
+
+    pub(crate) fn art_routes_new(map: *mut RawMap) -> u32;
+    pub(crate) fn art_routes_free(map: *mut RawMap);
+    pub(crate) fn art_routes_len(map: *mut RawMap) -> usize;
+    pub(crate) fn art_routes_reserve(map: *mut RawMap, additional: usize) -> u32;
+    pub(crate) fn art_routes_compact(map: *mut RawMap) -> u32;
+    pub(crate) fn art_routes_insert(
+        map: *mut RawMap,
+        address: *const u8,
+        width: usize,
+        length: u8,
+        value: u64,
+        before: *mut u64,
+    ) -> u32;
+    pub(crate) fn art_routes_get(
+        map: *mut RawMap,
+        address: *const u8,
+        width: usize,
+        length: u8,
+        value: *mut u64,
+    ) -> u32;
+    pub(crate) fn art_routes_remove(
+        map: *mut RawMap,
+        address: *const u8,
+        width: usize,
+        length: u8,
+        value: *mut u64,
+    ) -> u32;
+    pub(crate) fn art_routes_next(
+        map: *mut RawMap,
+        from: *const u8,
+        from_width: usize,
+        from_length: u8,
+        inclusive: bool,
+        address: *mut u8,
+        capacity: usize,
+        width: *mut usize,
+        length: *mut u8,
+        value: *mut u64,
+    ) -> u32;
+    pub(crate) fn art_routes_covering(
+        map: *mut RawMap,
+        address: *const u8,
+        width: usize,
+        length: u8,
+        lengths: *mut u8,
+        lengths_len: usize,
+        values: *mut u64,
+        values_len: usize,
+        count: *mut usize,
+    ) -> u32;
 }

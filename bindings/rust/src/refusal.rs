@@ -8,6 +8,8 @@ pub enum Refusal {
     OutOfMemory,
     /// The key has 2^32 bytes or more, with each zero counted twice and two more.
     KeyTooLong,
+    /// Some key is not below the next one: of `from_ascending` alone.
+    NotAscending,
 }
 
 impl fmt::Display for Refusal {
@@ -15,6 +17,7 @@ impl fmt::Display for Refusal {
         out.write_str(match self {
             Refusal::OutOfMemory => "out of memory",
             Refusal::KeyTooLong => "the key is too long",
+            Refusal::NotAscending => "the keys do not ascend",
         })
     }
 }
@@ -28,6 +31,7 @@ pub(crate) fn found(status: u32) -> Result<bool, Refusal> {
         raw::SOME => Ok(true),
         raw::NO_MEMORY => Err(Refusal::OutOfMemory),
         raw::KEY_TOO_LONG => Err(Refusal::KeyTooLong),
+        raw::NOT_ASCENDING => Err(Refusal::NotAscending),
         _ => unreachable!("status {status}"),
     }
 }

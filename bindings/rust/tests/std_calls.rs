@@ -12,7 +12,7 @@ use verified_art::iter::{
     IntoIter, IntoKeys, IntoValues, Iter, Keys, MapIntoIter, MapIntoKeys, MapIntoValues, MapIter, MapIterMut, MapRange,
     MapRangeMut, MapValues, MapValuesMut, Range, Values,
 };
-use verified_art::{AsKey, ByteMap, Key, Map, NumberMap, WordMap};
+use verified_art::{AsKey, ByteMap, Key, Map, NumberMap, Refusal, WordMap};
 
 /// How many maps each test makes.
 const TURNS: u64 = 200;
@@ -63,8 +63,15 @@ fn entries_of_words<K: AnyKey>() {
         let (mut ours, mut theirs) = words::<K>(&mut random);
         for _ in 0..50 {
             let (key, value) = (K::any(&mut random), random.below(20));
-            match random.below(5) {
+            match random.below(6) {
                 0 => assert_eq!(ours.entry(key.clone()).or_insert(value), *theirs.entry(key).or_insert(value)),
+                5 => {
+                    let (one, other) = (ours.get_mut(key.clone()), theirs.get_mut(&key));
+                    assert_eq!(one.as_deref(), other.as_deref());
+                    if let (Some(mut one), Some(other)) = (one, other) {
+                        (*one, *other) = (value, value);
+                    }
+                }
                 1 => {
                     let found = ours.entry(key.clone()).and_modify(|it| *it += 1).or_insert_with(|| value);
                     assert_eq!(found, *theirs.entry(key).and_modify(|it| *it += 1).or_insert(value));
@@ -213,6 +220,35 @@ fn appended_and_split<K: AnyKey>() {
 fn append_and_split_off() {
     appended_and_split::<u64>();
     appended_and_split::<Vec<u8>>();
+}
+
+fn collected<K: AnyKey>() {
+    let mut random = Random(17);
+    for turn in 0..200 {
+        let size = if turn < 10 { turn } else { random.below(400) };
+        let entries: Vec<(K, u64)> = (0..size).map(|_| (K::any(&mut random), random.next())).collect();
+        let given = |entries: &[(K, u64)]| -> WordMap<K> { entries.iter().cloned().collect() };
+        let (ours, theirs) = (given(&entries), BTreeMap::from_iter(entries));
+        same_words(&ours, &theirs);
+        same_words(&ours.clone(), &theirs);
+        let mut sorted: Vec<_> = theirs.iter().map(|(key, value)| (key.clone(), *value)).collect();
+        same_words(&given(&sorted), &theirs);
+        let ascending = |entries: &[(K, u64)]| WordMap::<K>::from_ascending(entries.iter().cloned());
+        same_words(&ascending(&sorted).unwrap(), &theirs);
+        if let Some(last) = sorted.last().cloned() {
+            sorted.push(last);
+            assert_eq!(ascending(&sorted).err(), Some(Refusal::NotAscending));
+            sorted.pop();
+            sorted.reverse();
+            assert_eq!(ascending(&sorted).is_err(), sorted.len() > 1);
+        }
+    }
+}
+
+#[test]
+fn collect_and_from_ascending() {
+    collected::<Vec<u8>>();
+    collected::<u64>();
 }
 
 fn kept<K: AnyKey>() {

@@ -13,9 +13,8 @@ use Rattle.art_nodes.specs.ChildMap.{ChildMap, IsAscending, IsAscendingFrom, chi
 use Rattle.art_nodes.specs.Inner.{Inner, with_children}
 use Rattle.art_nodes.specs.Pointers.{node_kind, opaque_key, opaque_pointer}
 use Rattle.art_nodes.specs.declared.leaf_node.LeafNode.{LeafNode}
-use Rattle.art_nodes.specs.declared.pointers.NodePtr.{NodePtr}
 use Rattle.art_nodes.specs.declared.pointers.OpaqueNodePtr.{OpaqueNodePtr}
-use Rattle.art_arena.specs.Arena.{NodeArena, Changes, Held, HeldInner, HeldLeaf, Nothing, held_leaf, held_option, held_under}
+use Rattle.art_arena.specs.Arena.{LeafPtr, NodeArena, Changes, Held, HeldInner, HeldLeaf, Nothing, held_leaf, held_option, held_under}
 use Rattle.art_arena.specs.Forwarding.{forwarded_children, forwarded_node}
 use Rattle.art_arena.specs.SlabLaws.{held_in_slab}
 use Rattle.art_arena.specs.SlabOf.{IsSlabOf}
@@ -161,7 +160,7 @@ module _ {H : Type 0} (to : H → H) where
               let more = above-after 0 f.front later byte child pair up in
               omega (arith, e, e2, fits, more)
 
-module _ {K V : Type 0} {P : ℕ} (table : List (NodePtr P (LeafNode K V P))) where
+module _ {K V : Type 0} {P : ℕ} (table : List (LeafPtr K V P)) where
   leaf-kept : (o : Option (LeafNode K V P)) → held_leaf o ≡ forwarded_node table (held_leaf o)
   leaf-kept None = refl
   leaf-kept (Some leaf) = refl

@@ -8,11 +8,10 @@ use Rattle.std.proofs.lemmas.Bool.{cases_eq}
 use Rattle.std.proofs.lemmas.Option.{same_Some}
 use Rattle.art_header.specs.declared.node_type.NodeType.TheVariants as kinds
 use Rattle.art_nodes.specs.Pointers.{opaque_key, slab_key, opaque_pointer}
-use Rattle.art_nodes.specs.declared.pointers.NodePtr.{NodePtr}
 use Rattle.art_nodes.specs.Leaf.{leaf_key, leaf_value, previous_key, next_key, with_value}
 use Rattle.art_nodes.specs.declared.pointers.OpaqueNodePtr.{OpaqueNodePtr}
 use Rattle.art_nodes.specs.declared.leaf_node.LeafNode.{LeafNode}
-use Rattle.art_arena.specs.Arena.{NodeArena, Held, Nothing, HeldInner, HeldLeaf, held_leaf, held, Changes}
+use Rattle.art_arena.specs.Arena.{LeafPtr, NodeArena, Held, Nothing, HeldInner, HeldLeaf, held_leaf, held, Changes}
 use Rattle.art_arena.specs.Links.{leaf_at, previous_at, next_at, Spells, SpellsAfter, HoldsLeaf, IsUnlinked, IsKnit, SameButLinks, Joins, StandsBetween, TakesPlace, with_value_at}
 use Rattle.art_arena.specs.Relinking.{SetsBoth, SetsNext, SetsPrevious}
 use Rattle.art_arena.proofs.LinkedLists.{first_or, last_or, last_or-push, last_or-each, first_or-each, first_or-slice_get, Linked, Linked-split, Linked-exchanged, unlinked_is_apart, Each-append, Each-split, Each-weaker, Distinct-from, AreDistinct-from, Distinct-insert, Distinct-remove}
@@ -155,10 +154,10 @@ module _ {K V : Type 0} {P : ℕ} where
       }
 
   -- a leaf that is held, as a leaf that may be there
-  pub ForSome-held : (arena : NodeArena K V P) (leaf : NodePtr P (LeafNode K V P)) → HoldsLeaf arena (slab_key leaf) → ForSome (Some leaf) (λ l. HoldsLeaf arena (slab_key l))
+  pub ForSome-held : (arena : NodeArena K V P) (leaf : LeafPtr K V P) → HoldsLeaf arena (slab_key leaf) → ForSome (Some leaf) (λ l. HoldsLeaf arena (slab_key l))
   ForSome-held arena leaf held = λ l named. subst (λ p. HoldsLeaf arena (slab_key p)) (same_Some _ _ named) held
 
-  pub ForSome-none : (arena : NodeArena K V P) → ForSome {T = NodePtr P (LeafNode K V P)} None (λ l. HoldsLeaf arena (slab_key l))
+  pub ForSome-none : (arena : NodeArena K V P) → ForSome {T = LeafPtr K V P} None (λ l. HoldsLeaf arena (slab_key l))
   ForSome-none arena = λ l named. cc
 
   pub HoldsLeaf-kept : (old new : NodeArena K V P) (key : ℕ) → SameButLinks old new → HoldsLeaf old key → HoldsLeaf new key

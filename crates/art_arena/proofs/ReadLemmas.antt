@@ -3,10 +3,9 @@ use Rattle.std.proofs.Common.{◌≡◌, ◌∙◌, ℕ, List, map, Contains, sy
 use Rattle.art_header.specs.declared.node_type.NodeType.TheVariants.{Leaf}
 use Rattle.art_nodes.specs.Inner as nodes
 use Rattle.art_nodes.specs.Pointers.{slab_key, opaque_pointer}
-use Rattle.art_nodes.specs.declared.pointers.NodePtr.{NodePtr}
 use Rattle.art_nodes.specs.declared.pointers.OpaqueNodePtr.{OpaqueNodePtr}
 use Rattle.art_nodes.specs.declared.leaf_node.LeafNode.{LeafNode}
-use Rattle.art_arena.specs.Arena.{NodeArena, held, HeldLeaf}
+use Rattle.art_arena.specs.Arena.{LeafPtr, NodeArena, held, HeldLeaf}
 use Rattle.art_arena.specs.Standing.{TreeAt, TreeUnder, leaf_text, IsLeafOf}
 use Rattle.art_arena.specs.Trees.{leaves}
 use Rattle.art_arena.proofs.AnyLeafLemmas.{any-branch}
@@ -21,7 +20,7 @@ module _ {K V : Type 0} {P : ℕ} (text : K → List ℕ) (arena : NodeArena K V
   pub child_tree : TreeUnder text arena node depth → TreeAt text arena child
   child_tree below = (way_to_child below).below
 
-  module _ (pointer : NodePtr P (LeafNode K V P)) (leaf : (found : TreeAt text arena child) → IsLeafOf found.tree pointer) where
+  module _ (pointer : LeafPtr K V P) (leaf : (found : TreeAt text arena child) → IsLeafOf found.tree pointer) where
     leaf_of_part : (below : TreeUnder text arena node depth) → IsLeafOf (way_to_child below).below.tree pointer
     unfolding child_tree
     leaf_of_part below = leaf (child_tree below)

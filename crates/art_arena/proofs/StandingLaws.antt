@@ -10,10 +10,9 @@ use Rattle.art_header.specs.declared.node_type.NodeType.TheVariants as kinds
 use Rattle.art_nodes.specs.Inner as nodes
 use Rattle.art_nodes.specs.Pointers.{node_kind, opaque_key, opaque_pointer, slab_key}
 use Rattle.art_nodes.specs.PrefixMatch.{HasPrefix}
-use Rattle.art_nodes.specs.declared.pointers.NodePtr.{NodePtr}
 use Rattle.art_nodes.specs.declared.pointers.OpaqueNodePtr.{OpaqueNodePtr}
 use Rattle.art_nodes.specs.declared.leaf_node.LeafNode.{LeafNode}
-use Rattle.art_arena.specs.Arena.{NodeArena, Held, Nothing, HeldInner, HeldLeaf, as_inner, held, held_inner, held_under}
+use Rattle.art_arena.specs.Arena.{LeafPtr, NodeArena, Held, Nothing, HeldInner, HeldLeaf, as_inner, held, held_inner, held_under}
 use Rattle.art_arena.specs.InnerRef.{inner_shown}
 use Rattle.art_arena.specs.declared.inner_ref.AnyInnerRef.{AnyInnerRef}
 use Rattle.art_arena.specs.Standing.{NodeStands}
@@ -41,7 +40,7 @@ at-some Holds (Some y) x is holds = subst Holds (same_Some y x is) holds
 
 module _ {K V : Type 0} {P : ℕ} where
   -- the pointer to a leaf is the pointer that it was cast from
-  pub leaf-pointer-is : (at : OpaqueNodePtr K V P) (leaf : NodePtr P (LeafNode K V P)) → node_kind at ≡ kinds.Leaf → slab_key leaf ≡ opaque_key at → opaque_pointer kinds.Leaf (slab_key leaf) ≡ at
+  pub leaf-pointer-is : (at : OpaqueNodePtr K V P) (leaf : LeafPtr K V P) → node_kind at ≡ kinds.Leaf → slab_key leaf ≡ opaque_key at → opaque_pointer kinds.Leaf (slab_key leaf) ≡ at
   leaf-pointer-is at leaf kind key = λ i. record { node_type = sym kind i; key = key i; leaf = record {} }
 
   -- a pointer holds one inner node

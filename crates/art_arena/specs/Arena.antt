@@ -6,6 +6,7 @@ use Rattle.art_header.specs.declared.node_type.NodeType.TheVariants.{Node4, Node
 use Rattle.art_header.specs.Header.{Header}
 use Rattle.art_nodes.specs.Inner.{Inner, header_of}
 use Rattle.art_nodes.specs.Pointers.{node_kind, opaque_key}
+use Rattle.art_nodes.specs.declared.pointers.NodePtr.{NodePtr}
 use Rattle.art_nodes.specs.declared.pointers.OpaqueNodePtr.{OpaqueNodePtr}
 use Rattle.art_nodes.specs.declared.leaf_node.LeafNode.{LeafNode}
 
@@ -124,6 +125,10 @@ module _ {H L : Type 0} where
   held_header Nothing = None
   held_header (HeldInner node) = Some (header_of node)
   held_header (HeldLeaf leaf) = None
+
+-- the pointer to a leaf
+abbrev pub LeafPtr : Type 0 → Type 0 → ℕ → Type 0
+LeafPtr K V P = NodePtr P (LeafNode K V P)
 
 -- what a `NodeArena` shows
 abbrev pub NodeArena : Type 0 → Type 0 → ℕ → Type 0

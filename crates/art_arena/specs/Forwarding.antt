@@ -6,12 +6,11 @@ use Rattle.art_header.specs.declared.node_type.NodeType.TheVariants.{Node4, Node
 use Rattle.art_nodes.specs.ChildMap.{ChildMap}
 use Rattle.art_nodes.specs.Inner.{with_children}
 use Rattle.art_nodes.specs.Pointers.{node_kind, opaque_key, opaque_pointer, pointer_to, slab_key}
-use Rattle.art_nodes.specs.declared.pointers.NodePtr.{NodePtr}
 use Rattle.art_nodes.specs.declared.pointers.OpaqueNodePtr.{OpaqueNodePtr}
 use Rattle.art_nodes.specs.declared.leaf_node.LeafNode.{LeafNode}
-use Rattle.art_arena.specs.Arena.{Held, Nothing, HeldInner, HeldLeaf}
+use Rattle.art_arena.specs.Arena.{LeafPtr, Held, Nothing, HeldInner, HeldLeaf}
 
-module _ {K V : Type 0} {P : ℕ} (table : List (NodePtr P (LeafNode K V P))) where
+module _ {K V : Type 0} {P : ℕ} (table : List (LeafPtr K V P)) where
   -- the slab key that a leaf has now, where the table has one under the key that it had
   abbrev pub forwarded_key : ℕ → ℕ
   forwarded_key key = slab_key (slice_index_or table key (pointer_to key))

@@ -5,10 +5,9 @@ use Rattle.art_header.specs.declared.node_type.NodeType.TheVariants as NodeType
 use Rattle.art_nodes.specs.Inner as nodes
 use Rattle.art_nodes.specs.Leaf.{leaf_key}
 use Rattle.art_nodes.specs.Pointers.{slab_key, opaque_pointer}
-use Rattle.art_nodes.specs.declared.pointers.NodePtr.{NodePtr}
 use Rattle.art_nodes.specs.declared.pointers.OpaqueNodePtr.{OpaqueNodePtr}
 use Rattle.art_nodes.specs.declared.leaf_node.LeafNode.{LeafNode}
-use Rattle.art_arena.specs.Arena.{NodeArena, Held, HeldInner, HeldLeaf, held}
+use Rattle.art_arena.specs.Arena.{LeafPtr, NodeArena, Held, HeldInner, HeldLeaf, held}
 use Rattle.art_arena.specs.Trees.{Tree, Leaf, Inner, Branches, NoBranch, Branch, root_of, branch_roots, leaves, IsSound, IsWellFormed}
 
 -- the node has this prefix, as far as it stores it, and these branches as its children
@@ -35,7 +34,7 @@ module _ {H L : Type 0} (room : ℕ) (text_of : L → List ℕ) (held_at : H →
   StandsUnder node (Inner pointer prefix branches) = NodeStands room node prefix branches × AllStand branches
 
 -- this points to a leaf of the tree
-abbrev pub IsLeafOf : {K V : Type 0} {P : ℕ} → Tree (OpaqueNodePtr K V P) → NodePtr P (LeafNode K V P) → Type 0
+abbrev pub IsLeafOf : {K V : Type 0} {P : ℕ} → Tree (OpaqueNodePtr K V P) → LeafPtr K V P → Type 0
 IsLeafOf tree pointer = (text : List ℕ) × Contains (leaves tree) (opaque_pointer NodeType.Leaf (slab_key pointer), text)
 
 module _ {K V : Type 0} {P : ℕ} (text : K → List ℕ) where

@@ -80,6 +80,9 @@ pub type NodeArena<K, V, const PREFIX_LEN: usize> = Slabs<
     LeafNode<K, V, PREFIX_LEN>,
 >;
 
+/// The pointer to a leaf.
+pub type LeafPtr<K, V, const PREFIX_LEN: usize> = NodePtr<PREFIX_LEN, LeafNode<K, V, PREFIX_LEN>>;
+
 // Evaluates an expression on the pointer to an inner node.
 macro_rules! with_inner {
     ($pointer:expr, $node:ident => $run:expr) => {
@@ -330,7 +333,7 @@ impl<K, V, const PREFIX_LEN: usize> NodeArena<K, V, PREFIX_LEN> {
     }
 
     /// The key and the value of a leaf. The arena must hold the leaf.
-    pub fn as_key_value_ref(&self, ptr: NodePtr<PREFIX_LEN, LeafNode<K, V, PREFIX_LEN>>) -> (&K, &V)
+    pub fn as_key_value_ref(&self, ptr: LeafPtr<K, V, PREFIX_LEN>) -> (&K, &V)
         requires { HoldsLeaf self.now (slab_key ptr) }
         ensures key { option_map leaf_key (leaf_at self.now (slab_key ptr)) ≡ Some result.0.now }
         ensures value { option_map leaf_value (leaf_at self.now (slab_key ptr))
@@ -342,10 +345,7 @@ impl<K, V, const PREFIX_LEN: usize> NodeArena<K, V, PREFIX_LEN> {
     /// The key of a leaf, and a mutable reference to its value. The arena must hold the leaf, and
     /// ends with the value that the caller leaves there. The leaf's links and every other node are
     /// unchanged.
-    pub fn as_key_ref_value_mut(
-        &mut self,
-        ptr: NodePtr<PREFIX_LEN, LeafNode<K, V, PREFIX_LEN>>,
-    ) -> (&K, &mut V)
+    pub fn as_key_ref_value_mut(&mut self, ptr: LeafPtr<K, V, PREFIX_LEN>) -> (&K, &mut V)
         requires { HoldsLeaf self.old (slab_key ptr) }
         ensures* writes_back { sem 𝓛
             (LendsValue K.row V.row PREFIX_LEN.row self.entry (slab_key ptr) result.1) }
@@ -363,7 +363,7 @@ impl<K, V, const PREFIX_LEN: usize> NodeArena<K, V, PREFIX_LEN> {
     }
 
     /// The key of a leaf. The arena must hold the leaf.
-    pub fn as_key_ref(&self, ptr: NodePtr<PREFIX_LEN, LeafNode<K, V, PREFIX_LEN>>) -> &K
+    pub fn as_key_ref(&self, ptr: LeafPtr<K, V, PREFIX_LEN>) -> &K
         requires { HoldsLeaf self.now (slab_key ptr) }
         ensures { option_map leaf_key (leaf_at self.now (slab_key ptr)) ≡ Some result.now }
     {
@@ -371,7 +371,7 @@ impl<K, V, const PREFIX_LEN: usize> NodeArena<K, V, PREFIX_LEN> {
     }
 
     /// The value of a leaf. The arena must hold the leaf.
-    pub fn as_value_ref(&self, ptr: NodePtr<PREFIX_LEN, LeafNode<K, V, PREFIX_LEN>>) -> &V
+    pub fn as_value_ref(&self, ptr: LeafPtr<K, V, PREFIX_LEN>) -> &V
         requires { HoldsLeaf self.now (slab_key ptr) }
         ensures { option_map leaf_value (leaf_at self.now (slab_key ptr)) ≡ Some result.now }
     {
@@ -381,7 +381,7 @@ impl<K, V, const PREFIX_LEN: usize> NodeArena<K, V, PREFIX_LEN> {
     /// A mutable reference to the value of a leaf. The arena must hold the leaf, and ends with the
     /// value that the caller leaves there. The leaf's key and links and every other node are
     /// unchanged.
-    pub fn as_value_mut(&mut self, ptr: NodePtr<PREFIX_LEN, LeafNode<K, V, PREFIX_LEN>>) -> &mut V
+    pub fn as_value_mut(&mut self, ptr: LeafPtr<K, V, PREFIX_LEN>) -> &mut V
         requires { HoldsLeaf self.old (slab_key ptr) }
         ensures* writes_back { sem 𝓛
             (LendsValue K.row V.row PREFIX_LEN.row self.entry (slab_key ptr) result) }

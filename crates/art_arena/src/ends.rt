@@ -9,9 +9,9 @@ ghost use Rattle.art_arena.specs.Links.{HoldsLeaf};
 ghost use Rattle.art_arena.specs.Standing.{IsLeafOf, TreeAt};
 ghost use Rattle.art_arena.specs.Trees.{leaves};
 
-use crate::arena::NodeArena;
+use crate::arena::{LeafPtr, NodeArena};
 use art_bytes::AsBytes;
-use art_nodes::{InnerNodeRead, LeafNode, NodePtr, OpaqueNodePtr};
+use art_nodes::{InnerNodeRead, OpaqueNodePtr};
 
 /// One end of the leaves of a tree, for [`end_leaf`], which has an example.
 #[derive(Clone, Copy, Debug, PartialEq, Eq)]
@@ -75,7 +75,7 @@ pub fn end_leaf<K: AsBytes, V, const PREFIX_LEN: usize>(
     arena: &NodeArena<K, V, PREFIX_LEN>,
     pointer: OpaqueNodePtr<K, V, PREFIX_LEN>,
     end: End,
-) -> NodePtr<PREFIX_LEN, LeafNode<K, V, PREFIX_LEN>>
+) -> LeafPtr<K, V, PREFIX_LEN>
     requires tree { TreeAt K.text arena.now pointer }
     ensures at_end { (found : TreeAt K.text arena.now pointer) →
         IsAtEnd end (leaves found.tree) (opaque_pointer Leaf (slab_key result)) }
@@ -128,7 +128,7 @@ fn step_to_leaf<K, V, const PREFIX_LEN: usize>(
 pub fn any_leaf<K: AsBytes, V, const PREFIX_LEN: usize>(
     arena: &NodeArena<K, V, PREFIX_LEN>,
     pointer: OpaqueNodePtr<K, V, PREFIX_LEN>,
-) -> NodePtr<PREFIX_LEN, LeafNode<K, V, PREFIX_LEN>>
+) -> LeafPtr<K, V, PREFIX_LEN>
     requires tree { TreeAt K.text arena.now pointer }
     ensures leaf { (found : TreeAt K.text arena.now pointer) → IsLeafOf found.tree result }
     ensures held { HoldsLeaf arena.now (slab_key result) }

@@ -4,7 +4,7 @@ ghost use Rattle.art_nodes.specs.Inner.{with_children};
 ghost use Rattle.art_arena.specs.Arena.{held, held_under, SameRoom};
 ghost use Rattle.art_arena.specs.Forwarding.{forwarded, forwarded_children, forwarded_node};
 
-use crate::arena::{ArenaInnerNode, NodeArena};
+use crate::arena::{ArenaInnerNode, LeafPtr, NodeArena};
 use art_nodes::{
     InnerNode4, InnerNode16, InnerNode48, InnerNode256, InnerNodeCommon, LeafNode, NodePtr,
     OpaqueNodePtr,
@@ -14,7 +14,7 @@ use art_nodes::{
 /// an inner node, or to a leaf past the table, is returned as it is.
 pub fn forward<K, V, const PREFIX_LEN: usize>(
     pointer: OpaqueNodePtr<K, V, PREFIX_LEN>,
-    table: &[NodePtr<PREFIX_LEN, LeafNode<K, V, PREFIX_LEN>>],
+    table: &[LeafPtr<K, V, PREFIX_LEN>],
 ) -> OpaqueNodePtr<K, V, PREFIX_LEN>
     ensures { result ≡ forwarded table.now pointer }
 {
@@ -30,7 +30,7 @@ pub fn forward<K, V, const PREFIX_LEN: usize>(
 // Forwards the children of an inner node.
 fn forward_children<K, V, const PREFIX_LEN: usize, N: InnerNodeCommon<K, V, PREFIX_LEN>>(
     node: &mut N,
-    table: &[NodePtr<PREFIX_LEN, LeafNode<K, V, PREFIX_LEN>>],
+    table: &[LeafPtr<K, V, PREFIX_LEN>],
 )
     ensures { N.inner node.new ≡ with_children (N.inner node.old)
         (forwarded_children table.now (N.inner node.old).children) }
@@ -50,7 +50,7 @@ impl<K, V, const PREFIX_LEN: usize> NodeArena<K, V, PREFIX_LEN> {
     /// under its slab key, where it has one. Bytes, prefixes and leaves are unchanged. Takes no
     /// memory, and time linear in the capacities of the four kinds of inner nodes and in the children
     /// of all nodes.
-    pub fn forward_leaves(&mut self, table: &[NodePtr<PREFIX_LEN, LeafNode<K, V, PREFIX_LEN>>])
+    pub fn forward_leaves(&mut self, table: &[LeafPtr<K, V, PREFIX_LEN>])
         ensures forwarded { (pointer : _) →
             held self.new pointer ≡ forwarded_node table.now (held self.old pointer) }
         ensures room { SameRoom self.old self.new }
@@ -64,7 +64,7 @@ impl<K, V, const PREFIX_LEN: usize> NodeArena<K, V, PREFIX_LEN> {
     // Forwards the children of each inner node of one type.
     fn forward_kind<N: ArenaInnerNode<K, V, PREFIX_LEN>>(
         &mut self,
-        table: &[NodePtr<PREFIX_LEN, LeafNode<K, V, PREFIX_LEN>>],
+        table: &[LeafPtr<K, V, PREFIX_LEN>],
     )
         ensures forwarded { (key : ℕ) → held_under self.new N.TYPE key
             ≡ forwarded_node table.now (held_under self.old N.TYPE key) }

@@ -8,7 +8,7 @@ ghost use Rattle.art_arena.specs.Arena.{SameRoom};
 ghost use Rattle.art_arena.specs.Links.{Spells, HoldsLeaf, IsUnlinked, IsKnit, SameButLinks, Joins, StandsBetween, TakesPlace, previous_at, next_at, text_at};
 ghost use Rattle.art_arena.specs.Relinking.{SetsBoth, SetsNext, SetsPrevious};
 
-use crate::arena::NodeArena;
+use crate::arena::{LeafPtr, NodeArena};
 use art_bytes::AsBytes;
 use art_nodes::{LeafNode, NodePtr};
 
@@ -150,7 +150,7 @@ impl<K: AsBytes, V, const PREFIX_LEN: usize> LeafLinks<K, V, PREFIX_LEN>
         ensures room { SameRoom arena.old arena.new }
     {
         let after = next_of(arena, sibling);
-        place(arena, Some(sibling), this, after);
+        link_between(arena, Some(sibling), this, after);
     }
 
     fn insert_before(
@@ -173,7 +173,7 @@ impl<K: AsBytes, V, const PREFIX_LEN: usize> LeafLinks<K, V, PREFIX_LEN>
         ensures room { SameRoom arena.old arena.new }
     {
         let before = previous_of(arena, sibling);
-        place(arena, before, this, Some(sibling));
+        link_between(arena, before, this, Some(sibling));
     }
 
     fn replace(
@@ -196,7 +196,7 @@ impl<K: AsBytes, V, const PREFIX_LEN: usize> LeafLinks<K, V, PREFIX_LEN>
         ensures room { SameRoom arena.old arena.new }
     {
         let (before, after) = neighbours_of(arena, old);
-        place(arena, before, this, after);
+        link_between(arena, before, this, after);
         set_both(arena, old, None, None);
     }
 
@@ -235,8 +235,8 @@ impl<K: AsBytes, V, const PREFIX_LEN: usize> LeafLinks<K, V, PREFIX_LEN>
 // The leaf that this one names as the previous one, if the arena holds it and it names one.
 fn previous_of<K, V, const PREFIX_LEN: usize>(
     arena: &NodeArena<K, V, PREFIX_LEN>,
-    leaf: NodePtr<PREFIX_LEN, LeafNode<K, V, PREFIX_LEN>>,
-) -> Option<NodePtr<PREFIX_LEN, LeafNode<K, V, PREFIX_LEN>>>
+    leaf: LeafPtr<K, V, PREFIX_LEN>,
+) -> Option<LeafPtr<K, V, PREFIX_LEN>>
     ensures { option_map slab_key result ≡ previous_at arena.now (slab_key leaf) }
 {
     arena.get(leaf)?.previous()
@@ -245,8 +245,8 @@ fn previous_of<K, V, const PREFIX_LEN: usize>(
 // The leaf that this one names as the next one, if the arena holds it and it names one.
 fn next_of<K, V, const PREFIX_LEN: usize>(
     arena: &NodeArena<K, V, PREFIX_LEN>,
-    leaf: NodePtr<PREFIX_LEN, LeafNode<K, V, PREFIX_LEN>>,
-) -> Option<NodePtr<PREFIX_LEN, LeafNode<K, V, PREFIX_LEN>>>
+    leaf: LeafPtr<K, V, PREFIX_LEN>,
+) -> Option<LeafPtr<K, V, PREFIX_LEN>>
     ensures { option_map slab_key result ≡ next_at arena.now (slab_key leaf) }
 {
     arena.get(leaf)?.next()
@@ -256,10 +256,10 @@ fn next_of<K, V, const PREFIX_LEN: usize>(
 #[inline]
 fn neighbours_of<K, V, const PREFIX_LEN: usize>(
     arena: &NodeArena<K, V, PREFIX_LEN>,
-    leaf: NodePtr<PREFIX_LEN, LeafNode<K, V, PREFIX_LEN>>,
+    leaf: LeafPtr<K, V, PREFIX_LEN>,
 ) -> (
-    Option<NodePtr<PREFIX_LEN, LeafNode<K, V, PREFIX_LEN>>>,
-    Option<NodePtr<PREFIX_LEN, LeafNode<K, V, PREFIX_LEN>>>,
+    Option<LeafPtr<K, V, PREFIX_LEN>>,
+    Option<LeafPtr<K, V, PREFIX_LEN>>,
 )
     requires { HoldsLeaf arena.now (slab_key leaf) }
     ensures previous { option_map slab_key result.0 ≡ previous_at arena.now (slab_key leaf) }
@@ -272,7 +272,7 @@ fn neighbours_of<K, V, const PREFIX_LEN: usize>(
 // Whether the leaf that this one names as the previous one names it back, if it names one.
 fn previous_is_knit<K, V, const PREFIX_LEN: usize>(
     arena: &NodeArena<K, V, PREFIX_LEN>,
-    this: NodePtr<PREFIX_LEN, LeafNode<K, V, PREFIX_LEN>>,
+    this: LeafPtr<K, V, PREFIX_LEN>,
 ) -> bool
     ensures { IsTrue result ↔
         ((other : _) → previous_at arena.now (slab_key this) ≡ Some other →
@@ -287,7 +287,7 @@ fn previous_is_knit<K, V, const PREFIX_LEN: usize>(
 // Whether the leaf that this one names as the next one names it back, if it names one.
 fn next_is_knit<K, V, const PREFIX_LEN: usize>(
     arena: &NodeArena<K, V, PREFIX_LEN>,
-    this: NodePtr<PREFIX_LEN, LeafNode<K, V, PREFIX_LEN>>,
+    this: LeafPtr<K, V, PREFIX_LEN>,
 ) -> bool
     ensures { IsTrue result ↔
         ((other : _) → next_at arena.now (slab_key this) ≡ Some other →
@@ -301,8 +301,8 @@ fn next_is_knit<K, V, const PREFIX_LEN: usize>(
 
 // Whether the link is to this leaf.
 fn is_named<K, V, const PREFIX_LEN: usize>(
-    link: Option<NodePtr<PREFIX_LEN, LeafNode<K, V, PREFIX_LEN>>>,
-    leaf: NodePtr<PREFIX_LEN, LeafNode<K, V, PREFIX_LEN>>,
+    link: Option<LeafPtr<K, V, PREFIX_LEN>>,
+    leaf: LeafPtr<K, V, PREFIX_LEN>,
 ) -> bool
     ensures { IsTrue result ↔ (option_map slab_key link ≡ Some (slab_key leaf)) }
 {
@@ -313,11 +313,11 @@ fn is_named<K, V, const PREFIX_LEN: usize>(
 }
 
 // Inserts a leaf between these two, each of which may be none.
-fn place<K, V, const PREFIX_LEN: usize>(
+fn link_between<K, V, const PREFIX_LEN: usize>(
     arena: &mut NodeArena<K, V, PREFIX_LEN>,
-    before: Option<NodePtr<PREFIX_LEN, LeafNode<K, V, PREFIX_LEN>>>,
-    this: NodePtr<PREFIX_LEN, LeafNode<K, V, PREFIX_LEN>>,
-    after: Option<NodePtr<PREFIX_LEN, LeafNode<K, V, PREFIX_LEN>>>,
+    before: Option<LeafPtr<K, V, PREFIX_LEN>>,
+    this: LeafPtr<K, V, PREFIX_LEN>,
+    after: Option<LeafPtr<K, V, PREFIX_LEN>>,
 )
     requires before_held { ForSome before (λ leaf. HoldsLeaf arena.old (slab_key leaf)) }
     requires held { HoldsLeaf arena.old (slab_key this) }
@@ -337,8 +337,8 @@ fn place<K, V, const PREFIX_LEN: usize>(
 // Makes these two neighbours, each of which may be none.
 fn join<K, V, const PREFIX_LEN: usize>(
     arena: &mut NodeArena<K, V, PREFIX_LEN>,
-    before: Option<NodePtr<PREFIX_LEN, LeafNode<K, V, PREFIX_LEN>>>,
-    after: Option<NodePtr<PREFIX_LEN, LeafNode<K, V, PREFIX_LEN>>>,
+    before: Option<LeafPtr<K, V, PREFIX_LEN>>,
+    after: Option<LeafPtr<K, V, PREFIX_LEN>>,
 )
     requires before_held { ForSome before (λ leaf. HoldsLeaf arena.old (slab_key leaf)) }
     requires after_held { ForSome after (λ leaf. HoldsLeaf arena.old (slab_key leaf)) }
@@ -355,9 +355,9 @@ fn join<K, V, const PREFIX_LEN: usize>(
 #[inline]
 fn set_both<K, V, const PREFIX_LEN: usize>(
     arena: &mut NodeArena<K, V, PREFIX_LEN>,
-    leaf: NodePtr<PREFIX_LEN, LeafNode<K, V, PREFIX_LEN>>,
-    previous: Option<NodePtr<PREFIX_LEN, LeafNode<K, V, PREFIX_LEN>>>,
-    next: Option<NodePtr<PREFIX_LEN, LeafNode<K, V, PREFIX_LEN>>>,
+    leaf: LeafPtr<K, V, PREFIX_LEN>,
+    previous: Option<LeafPtr<K, V, PREFIX_LEN>>,
+    next: Option<LeafPtr<K, V, PREFIX_LEN>>,
 )
     requires held { HoldsLeaf arena.old (slab_key leaf) }
     ensures set { SetsBoth arena.old arena.new (slab_key leaf) (option_map slab_key previous)
@@ -371,8 +371,8 @@ fn set_both<K, V, const PREFIX_LEN: usize>(
 #[inline]
 fn set_next<K, V, const PREFIX_LEN: usize>(
     arena: &mut NodeArena<K, V, PREFIX_LEN>,
-    leaf: Option<NodePtr<PREFIX_LEN, LeafNode<K, V, PREFIX_LEN>>>,
-    next: Option<NodePtr<PREFIX_LEN, LeafNode<K, V, PREFIX_LEN>>>,
+    leaf: Option<LeafPtr<K, V, PREFIX_LEN>>,
+    next: Option<LeafPtr<K, V, PREFIX_LEN>>,
 )
     requires held { ForSome leaf (λ leaf. HoldsLeaf arena.old (slab_key leaf)) }
     ensures set { SetsNext arena.old arena.new (option_map slab_key leaf)
@@ -390,8 +390,8 @@ fn set_next<K, V, const PREFIX_LEN: usize>(
 #[inline]
 fn set_previous<K, V, const PREFIX_LEN: usize>(
     arena: &mut NodeArena<K, V, PREFIX_LEN>,
-    leaf: Option<NodePtr<PREFIX_LEN, LeafNode<K, V, PREFIX_LEN>>>,
-    previous: Option<NodePtr<PREFIX_LEN, LeafNode<K, V, PREFIX_LEN>>>,
+    leaf: Option<LeafPtr<K, V, PREFIX_LEN>>,
+    previous: Option<LeafPtr<K, V, PREFIX_LEN>>,
 )
     requires held { ForSome leaf (λ leaf. HoldsLeaf arena.old (slab_key leaf)) }
     ensures set { SetsPrevious arena.old arena.new (option_map slab_key leaf)

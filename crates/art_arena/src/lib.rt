@@ -15,7 +15,7 @@ pub mod laws;
 mod leaf_links;
 mod reader;
 
-pub use arena::{ArenaInnerNode, ArenaNode, NodeArena};
+pub use arena::{ArenaInnerNode, ArenaNode, LeafPtr, NodeArena};
 pub use art_nodes::{ExplicitMismatch, NodePrefix};
 pub use ends::{End, any_leaf, end_leaf};
 pub use forwarding::forward;

@@ -6,6 +6,8 @@ ghost use Rattle.art_bytes.specs.Text.{IsPrefixOf, IsText, text_order};
 
 /// A type whose values are the keys of an adaptive radix tree: each shows its bytes.
 ///
+/// Numbers, addresses, tuples and any strings are keys under a mapping: see `Mapped` of `art_mapped`.
+///
 /// (from crates/art_node_tests/src/bytes/key_examples.rt)
 /// ```rust
 /// pub fn text_of<K: AsBytes>(key: &K) -> &[u8]

@@ -1,3 +1,4 @@
 mod Behind
 mod BytesBox
 mod NumberBox
+mod RoutesBox

@@ -10,6 +10,7 @@ use Rattle.std.specs.Global.{Global}
 use Rattle.std_heap.specs.contracts.GlobalAllocator.TheImpl.{ghosts}
 use Rattle.art_c_maps.specs.contracts.bytes_map.BytesMap as bytes
 use Rattle.art_c_maps.specs.contracts.number_map.NumberMap as numbers
+use Rattle.art_c_routes.specs.contracts.number_routes.NumberRoutes as routes
 
 -- what a box of this value owns; where there is none the address is null
 abbrev pub owns_behind : (R : RattleType) → Global → Ptr → Option R.Denot → Fml
@@ -22,6 +23,9 @@ bytes_row = bytes.the_row
 
 abbrev pub numbers_row : RattleType
 numbers_row = numbers.the_row
+
+abbrev pub routes_row : RattleType
+routes_row = routes.the_row
 
 -- how a handle's map is recorded
 abbrev pub coded_behind : (R : RattleType) → Coded (Option R.Denot)

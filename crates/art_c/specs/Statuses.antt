@@ -22,6 +22,15 @@ ART_NO_MAP = 5
 abbrev pub ART_HAS_MAP : ℕ
 ART_HAS_MAP = 6
 
+abbrev pub ART_NOT_EMPTY : ℕ
+ART_NOT_EMPTY = 7
+
+abbrev pub ART_NOT_ASCENDING : ℕ
+ART_NOT_ASCENDING = 8
+
+abbrev pub ART_BAD_NETWORK : ℕ
+ART_BAD_NETWORK = 9
+
 -- no refusal of a call that takes a map
 abbrev pub IsDone : ℕ → Type 0
 IsDone status = (status ≢ ART_NO_MEMORY) × (status ≢ ART_NO_MAP)
@@ -29,6 +38,10 @@ IsDone status = (status ≢ ART_NO_MEMORY) × (status ≢ ART_NO_MAP)
 -- such a refusal, or that of a key
 abbrev pub IsRefusal : ℕ → Type 0
 IsRefusal status = (status ≡ ART_NO_MEMORY) ⊎ (status ≡ ART_NO_MAP) ⊎ (status ≡ ART_KEY_TOO_LONG)
+
+-- one of the refusals of a load
+abbrev pub IsLoadRefusal : ℕ → Type 0
+IsLoadRefusal status = (status ≡ ART_NO_MAP) ⊎ (status ≡ ART_NOT_EMPTY) ⊎ (status ≡ ART_NOT_ASCENDING) ⊎ (status ≡ ART_KEY_TOO_LONG) ⊎ (status ≡ ART_NO_MEMORY)
 
 -- whether there is such an entry
 abbrev pub status_of : {X : Type 0} → Option X → ℕ

@@ -15,7 +15,7 @@ use art_c_maps::NumberMap;
 use std::alloc::{AllocError, Global};
 
 // The status of a call that finds a value, which is written out.
-fn value_status(found: Option<u64>, value: &mut u64) -> u32
+pub(crate) fn value_status(found: Option<u64>, value: &mut u64) -> u32
     ensures status { result ≡ status_of found }
     ensures value { value.new ≡ found_or found value.old }
 {

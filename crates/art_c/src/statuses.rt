@@ -13,3 +13,9 @@ pub(crate) const SMALL_BUFFER: u32 = 4;
 pub(crate) const NO_MAP: u32 = 5;
 
 pub(crate) const HAS_MAP: u32 = 6;
+
+pub(crate) const NOT_EMPTY: u32 = 7;
+
+pub(crate) const NOT_ASCENDING: u32 = 8;
+
+pub(crate) const BAD_NETWORK: u32 = 9;

@@ -3,10 +3,11 @@ mod ByteLemmas
 mod DownLemmas
 mod EscapedLemmas
 mod FoundLemmas
+mod LoadLemmas
 mod ManyLemmas
 mod NumberLemmas
 mod PrefixLemmas
 mod PrefixOrderLemmas
 mod ReadLemmas
 mod UnescapedLemmas
-mod WriteLemmas
+pub mod WriteLemmas

@@ -6,6 +6,6 @@ use Rattle.art_c_maps.specs.declared.refusal.Refusal.TheVariants.{KeyTooLong, Ou
 
 -- the refusal is due to a key of these bytes: one of 2^32 bytes or more, each zero twice and the end
 -- included, is too long, and for any other memory is refused
-abbrev pub IsRefused : List ℕ → Refusal → Type 0
-IsRefused key KeyTooLong = 2 ^ 32 ≤ length (escaped_text key)
-IsRefused key OutOfMemory = length (escaped_text key) < 2 ^ 32
+abbrev pub IsBytesRefused : List ℕ → Refusal → Type 0
+IsBytesRefused key KeyTooLong = 2 ^ 32 ≤ length (escaped_text key)
+IsBytesRefused key OutOfMemory = length (escaped_text key) < 2 ^ 32

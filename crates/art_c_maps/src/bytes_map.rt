@@ -8,14 +8,16 @@ ghost use Rattle.art_mapped.specs.Escaped.{escaped_text};
 ghost use Rattle.art_mapped.specs.Mapped.{mapped_text};
 ghost use Rattle.art_c_maps.specs.Batch.{begun, ends_of, joined, next_fitting, previous_fitting, unfit_len};
 ghost use Rattle.art_c_maps.specs.Entries.{begun_with, entries_from, entries_read, entries_to, entries_with_prefix, first_of, keys_of, last_of, put, put_each, value_of, values_of, without};
+ghost use Rattle.art_c_maps.specs.Loads.{IsBytesLoadRefused, TakesBytes};
 ghost use Rattle.art_c_maps.specs.Many.{are_found, cut, found_values};
-ghost use Rattle.art_c_maps.specs.Refusals.{IsRefused};
+ghost use Rattle.art_c_maps.specs.Refusals.{IsBytesRefused};
 ghost use Rattle.art_c_maps.specs.Unescaped.{key_fits, key_written, len_and_value, unescaped, with_prefix};
 
 use crate::batch::write_batch;
+use crate::loads::{keys_ascend, some_too_long, word_entries};
 use crate::many::{bytes_between, found_beside};
 use crate::nearest::{end_at, first_from, last_to, start_at, value_alone};
-use crate::refusal::Refusal;
+use crate::refusal::{LoadRefusal, Refusal};
 use crate::sought::Sought;
 use crate::too_long::is_too_long;
 use crate::unescaped::{unescaped_begins, unescaped_len, write_unescaped};
@@ -201,7 +203,7 @@ impl BytesMap {
             (λ before. before ≡ value_of text_order self.old key.now) }
         ensures entries { OnOk result (self.new ≡ put text_order self.old key.now value) }
         ensures not_too_long { OnOk result (length (escaped_text key.now) < 2 ^ 32) }
-        ensures refusal_due { IfErr result (IsRefused key.now) }
+        ensures refusal_due { IfErr result (IsBytesRefused key.now) }
         ensures same_entries { OnErr result (self.new ≡ self.old) }
     {
         if is_too_long(key) {
@@ -522,7 +524,7 @@ impl BytesMap {
             (take result.0 (zip (cut keys.now ends.now) values.now)) }
         ensures all { OnOk result.1 (result.0 ≡ length (zip (cut keys.now ends.now) values.now)) }
         ensures stopped { OnErr result.1 (result.0 < length (zip (cut keys.now ends.now) values.now)) }
-        ensures refusal_due { IfErr result.1 (IsRefused (get_or (cut keys.now ends.now) result.0 [])) }
+        ensures refusal_due { IfErr result.1 (IsBytesRefused (get_or (cut keys.now ends.now) result.0 [])) }
     {
         let count = ends.len().min(values.len());
         let mut start = 0;
@@ -534,5 +536,50 @@ impl BytesMap {
             }
         }
         (count, Ok(()))
+    }
+
+    /// Puts many entries, whose keys must ascend, into a map that has none: bytes, cut where each key ends.
+    /// All of them, as many as the shorter of `ends` and `values` holds, or none. They then lie in memory in
+    /// the order of their keys, as after [`compact`](Self::compact), and what memory the map has kept is freed.
+    /// Takes time linear in the bytes of the keys.
+    ///
+    /// The keys are looked at before memory is taken. After a refusal the entries are unchanged.
+    pub fn load(
+        &mut self,
+        alloc: Global,
+        keys: &[u8],
+        ends: &[usize],
+        values: &[u64],
+    ) -> Result<(), LoadRefusal>
+        ensures entries { OnOk result (self.new ≡ zip (cut keys.now ends.now) values.now) }
+        ensures taken { OnOk result
+            (TakesBytes self.old (keys_of (zip (cut keys.now ends.now) values.now))) }
+        ensures refusal_due { IfErr result
+            (IsBytesLoadRefused self.old (keys_of (zip (cut keys.now ends.now) values.now))) }
+        ensures same_entries { OnErr result (self.new ≡ self.old) }
+    {
+        let is_empty = self.entries.len() == 0;
+        if !is_empty {
+            return Err(LoadRefusal::NotEmpty);
+        }
+        let count = ends.len().min(values.len());
+        let wanted = &ends[..count];
+        if !keys_ascend(keys, wanted) {
+            return Err(LoadRefusal::NotAscending);
+        }
+        if some_too_long(keys, wanted) {
+            return Err(LoadRefusal::KeyTooLong);
+        }
+        let Ok(entries) = word_entries(alloc, keys, ends, values) else {
+            return Err(LoadRefusal::OutOfMemory);
+        };
+        // The keys are those of a load, so only memory is refused.
+        match ArtMap::from_ascending(alloc, entries) {
+            Ok(loaded) => {
+                self.entries = loaded;
+                Ok(())
+            }
+            Err(_) => Err(LoadRefusal::OutOfMemory),
+        }
     }
 }

@@ -5,6 +5,7 @@
 
 mod batch;
 mod bytes_map;
+mod loads;
 mod many;
 mod nearest;
 mod number_map;
@@ -15,4 +16,4 @@ mod unescaped;
 
 pub use bytes_map::BytesMap;
 pub use number_map::NumberMap;
-pub use refusal::Refusal;
+pub use refusal::{LoadRefusal, Refusal};

@@ -1,22 +1,26 @@
 //! Maps by 64-bit numbers.
-ghost use Rattle.std.specs.Prelude.{◌≡◌, ◌-◌, ◌<◌, [], drop, length, min, reverse, take, IfOk, OnErr, OnOk};
+ghost use Rattle.std.specs.Prelude.{◌≡◌, ◌-◌, ◌<◌, [], drop, length, min, reverse, take, IfErr, IfOk, OnErr, OnOk};
 ghost use Rattle.std.specs.Int.{from_be_bytes, w64};
 ghost use Rattle.std.specs.List.{zip};
 ghost use Rattle.std.specs.Option.{option_map};
 ghost use Rattle.std.specs.Ordering.{nat_cmp};
 ghost use Rattle.art_mapped.specs.Mapped.{mapped_text};
 ghost use Rattle.art_c_maps.specs.Entries.{begun_with, entries_from, entries_read, entries_to, first_of, keys_of, last_of, next_entries, previous_entries, put, put_each, value_of, values_of, without};
+ghost use Rattle.art_c_maps.specs.Loads.{IsNumberLoadRefused, TakesNumbers};
 ghost use Rattle.art_c_maps.specs.Many.{are_found, found_values};
 
+use crate::loads::{number_entries, numbers_ascend};
 use crate::many::found_beside;
 use crate::nearest::{end_at, first_from, last_to, start_at, value_alone};
+use crate::refusal::LoadRefusal;
 use art_map::{ArtMap, Iter};
 use art_tree::{Mapped, ToUBE};
 use std::alloc::{AllocError, Global};
 use std::marker::Model;
 use std::ops::Bound;
 
-type Number = Mapped<ToUBE, u64>;
+/// A key, under the mapping that no caller sees.
+pub(crate) type Number = Mapped<ToUBE, u64>;
 
 /// An ordered map from 64-bit numbers to 64-bit values: the list of its entries, in ascending order of
 /// their keys. No call has a condition.
@@ -313,5 +317,39 @@ impl NumberMap {
             };
         }
         (count, Ok(()))
+    }
+
+    /// Puts these entries, whose keys must ascend, into a map that has none: all of them, as many as the
+    /// shorter of both slices holds, or none. They then lie in memory in the order of their keys, as after
+    /// [`compact`](Self::compact), and what memory the map has kept is freed. Takes time linear in their number.
+    ///
+    /// The keys are looked at before memory is taken. After a refusal the entries are unchanged.
+    pub fn load(&mut self, alloc: Global, keys: &[u64], values: &[u64]) -> Result<(), LoadRefusal>
+        ensures entries { OnOk result (self.new ≡ zip keys.now values.now) }
+        ensures taken { OnOk result (TakesNumbers self.old (keys_of (zip keys.now values.now))) }
+        ensures refusal_due { IfErr result
+            (IsNumberLoadRefused self.old (keys_of (zip keys.now values.now))) }
+        ensures same_entries { OnErr result (self.new ≡ self.old) }
+    {
+        let is_empty = self.entries.len() == 0;
+        if !is_empty {
+            return Err(LoadRefusal::NotEmpty);
+        }
+        let count = keys.len().min(values.len());
+        let wanted = &keys[..count];
+        if !numbers_ascend(wanted) {
+            return Err(LoadRefusal::NotAscending);
+        }
+        let Ok(entries) = number_entries(alloc, keys, values) else {
+            return Err(LoadRefusal::OutOfMemory);
+        };
+        // The keys are those of a load, so only memory is refused.
+        match ArtMap::from_ascending(alloc, entries) {
+            Ok(loaded) => {
+                self.entries = loaded;
+                Ok(())
+            }
+            Err(_) => Err(LoadRefusal::OutOfMemory),
+        }
     }
 }

@@ -5,7 +5,7 @@ use Rattle.std.specs.Io.KnownBytes.{Keeps}
 use Rattle.program_lines.specs.declared.failure.Failure.{Failure}
 use Rattle.program_lines.specs.declared.failure.Failure.TheVariants.{BadLine, OutOfMemory, Device}
 use Rattle.program_lines.specs.Failures.{status_of, IfBadLine, IsLineFailure, failure_text, shown_failure}
-use Rattle.program_lines.specs.declared.failure.Place.TheVariants.{OnlyInput}
+use Rattle.program_lines.specs.declared.failure.Source.TheVariants.{OnlyInput}
 use Rattle.program_lines.specs.Lines.{lines_of, line_at, line, IsFirstBad}
 use Rattle.program_lines.specs.Programs.{AppendsBeginning, PrintsBeginning}
 use Rattle.art_cli.specs.declared.failure.LineFault.{LineFault}
@@ -34,7 +34,7 @@ text_told OutOfMemory old new wrote = wrote
 text_told Device old new wrote = wrote
 
 -- the first bad line of `replay`, and its fault
-pub first_bad_line : (input : List ℕ) (failure : Failure LineFault) → IfBadLine (λ bad. (bad.place ≡ OnlyInput) × IsFirstBad SayReplayLine (lines_of input) bad.number) failure → IsLineFailure (λ bad. IsFaultOf (words_of (line_at (lines_of input) bad.number)) bad.fault) failure → IsReplayFailure input failure
+pub first_bad_line : (input : List ℕ) (failure : Failure LineFault) → IfBadLine (λ bad. (bad.source ≡ OnlyInput) × IsFirstBad SayReplayLine (lines_of input) bad.number) failure → IsLineFailure (λ bad. IsFaultOf (words_of (line_at (lines_of input) bad.number)) bad.fault) failure → IsReplayFailure input failure
 first_bad_line input (BadLine bad) first fault = (first.0, first.1, fault)
 first_bad_line input OutOfMemory first fault = tt
 first_bad_line input Device first fault = absurd fault

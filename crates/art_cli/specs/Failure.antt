@@ -2,7 +2,7 @@
 use Rattle.std.specs.Prelude.{ℕ, List, codes}
 use Rattle.program_lines.specs.declared.failure.Failure.{Failure}
 use Rattle.program_lines.specs.declared.failure.Failure.TheVariants.{BadLine}
-use Rattle.program_lines.specs.declared.failure.Place.TheVariants.{OnlyInput}
+use Rattle.program_lines.specs.declared.failure.Source.TheVariants.{OnlyInput}
 use Rattle.art_cli.specs.declared.failure.LineFault.{LineFault}
 use Rattle.art_cli.specs.declared.failure.LineFault.TheVariants.{UnknownCommand, WrongNumberOfWords, BadNumber, KeyTooLong, PrefixOfOther}
 
@@ -20,4 +20,4 @@ fault_text PrefixOfOther = codes "one key is a front of the other"
 
 -- the line of this number, from 1, has this fault
 abbrev pub failure_at : ℕ → LineFault → Failure LineFault
-failure_at number fault = BadLine (record { place = OnlyInput; number = number; fault = fault })
+failure_at number fault = BadLine (record { source = OnlyInput; number = number; fault = fault })

@@ -5,7 +5,7 @@ use Rattle.art_nodes.specs.Commands.{run_of}
 use Rattle.art_nodes.specs.declared.ChildCommand.{ChildCommand}
 use Rattle.program_lines.specs.declared.failure.Failure.{Failure}
 use Rattle.program_lines.specs.declared.failure.Failure.TheVariants.{BadLine, OutOfMemory, Device}
-use Rattle.program_lines.specs.declared.failure.Place.TheVariants.{OnlyInput}
+use Rattle.program_lines.specs.declared.failure.Source.TheVariants.{OnlyInput}
 use Rattle.program_lines.specs.Failures.{status_of, failure_text}
 use Rattle.program_lines.specs.Lines.{lines_of, line_at, line, SayAll, IsFirstBad}
 use Rattle.program_lines.specs.Programs.{AppendsBeginning}
@@ -50,7 +50,7 @@ IsOutput Find16 = IsFindOutput 16
 -- and it has this fault
 abbrev pub IsReplayFailure : List ℕ → Failure LineFault → Type 0
 IsReplayFailure input (BadLine bad) =
-    (bad.place ≡ OnlyInput) × IsFirstBad SayReplayLine (lines_of input) bad.number
+    (bad.source ≡ OnlyInput) × IsFirstBad SayReplayLine (lines_of input) bad.number
     × IsFaultOf (words_of (line_at (lines_of input) bad.number)) bad.fault
 IsReplayFailure input OutOfMemory = Unit {0}
 IsReplayFailure input Device = Unit {0}
@@ -65,7 +65,7 @@ failure_for line refusals.OutOfMemory = OutOfMemory
 -- clause cites it
 abbrev pub IsCommandFailure : Entries → ℕ → TreeCommand (List ℕ) → Failure LineFault → Type 0
 IsCommandFailure entries line (Insert key) (BadLine bad) =
-    (bad.place ≡ OnlyInput) × (bad.number ≡ line) × IsRefusedLine entries key bad.fault
+    (bad.source ≡ OnlyInput) × (bad.number ≡ line) × IsRefusedLine entries key bad.fault
 IsCommandFailure entries line command OutOfMemory = Unit {0}
 IsCommandFailure entries line command _ = ⊥
 
@@ -79,7 +79,7 @@ IsFindFault input number fault =
 
 -- the failures of an input of `find`
 abbrev pub IsFindFailure : List ℕ → Failure LineFault → Type 0
-IsFindFailure input (BadLine bad) = (bad.place ≡ OnlyInput) × IsFindFault input bad.number bad.fault
+IsFindFailure input (BadLine bad) = (bad.source ≡ OnlyInput) × IsFindFault input bad.number bad.fault
 IsFindFailure input OutOfMemory = Unit {0}
 IsFindFailure input Device = Unit {0}
 

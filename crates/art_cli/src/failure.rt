@@ -2,7 +2,7 @@
 ghost use Rattle.std.specs.Prelude.{◌≡◌};
 ghost use Rattle.art_cli.specs.Failure.{failure_at};
 
-use program_lines::{BadLine, Place};
+use program_lines::{BadLine, Source};
 use std::fmt;
 
 /// Why a run with good words ends without its output. Its text is the line for standard error.
@@ -45,7 +45,7 @@ pub(crate) fn failure_at(number: usize, fault: LineFault) -> Failure
     ensures { result ≡ failure_at number fault }
 {
     Failure::BadLine(BadLine {
-        place: Place::OnlyInput,
+        source: Source::OnlyInput,
         number,
         fault,
     })

@@ -12,7 +12,7 @@ use crate::failure::Failure;
 use crate::replay::nodes::Command;
 use crate::replay::print_reply_lines::text_of;
 use art_tree::{Header, replay};
-use program_lines::{Place, said};
+use program_lines::{Source, said};
 use std::alloc::{AllocError, Global};
 
 /// The output for the commands of this input. The input is freed before the replies are made.
@@ -20,7 +20,7 @@ pub(crate) fn replay_text(alloc: Global, input: Vec<u8>) -> Result<String, Failu
     ensures text { IfOk result (λ text. IsReplayOutput input.items (string_bytes text)) }
     ensures refused { IfErr result (IsReplayFailure input.items) }
 {
-    let commands: Vec<Command> = said(alloc, Place::OnlyInput, &input)?;
+    let commands: Vec<Command> = said(alloc, Source::OnlyInput, &input)?;
     drop(input);
     Ok(replies_text(alloc, commands)?)
 }

@@ -1,6 +1,6 @@
 -- What a caller shows of the list of a map's entries, of that of a set's keys, of removals, and of a closure that it
 -- passed.
-use Rattle.art_map.proofs.Names.{◌≡◌, ◌≢◌, ◌⊎◌, ◌∙◌, inl, inr, ℕ, ◌+◌, ◌≤◌, Bool, true, false, not, ◌&&◌, cond, List, [], ◌∷◌, ◌++◌, length, length-append, map, All, AllPairs, Contains, Option, Some, None, refl, sym, ap, subst, arith, nat_eq, Shared, pointwise, always_mut, FoldsTo, starts_with, SomeCallAtPair, match_ordering, is_ge, is_gt, Ordering, Less, Equal, Greater, Bound, length-map, All-cons, All-head, All-tail, text_order, Tree, Leaf, Inner, Branches, NoBranch, Branch, branch_roots, leaves, branch_leaves, IsSound, AreSound, put_entry, without_text, texts_of, CallableAtEachKey, CallableInTurn, ChangesValue, ChangesInTurn, SomeCallAtKey, entry_with, entries_above, entries_from, entries_with_prefix, entries_within, is_from, is_up_to, HasKey, put_key, without_key, IsFewest, NeedsNode, ShrinksWithout, SomeShrinksWithout, Mut, MutBor, Bor, by_order, by_text, images_differ, put-long, and_parts}
+use Rattle.art_map.proofs.Names.{◌≡◌, ◌≢◌, ◌⊎◌, ◌∙◌, inl, inr, ℕ, ◌+◌, ◌≤◌, Bool, true, false, not, ◌&&◌, cond, List, [], ◌∷◌, ◌++◌, length, length-append, map, All, AllPairs, Contains, Option, Some, None, option_map, refl, sym, ap, subst, arith, nat_eq, Shared, pointwise, always_mut, FoldsTo, starts_with, SomeCallAtPair, match_ordering, is_ge, is_gt, Ordering, Less, Equal, Greater, Bound, length-map, All-cons, All-head, All-tail, text_order, Tree, Leaf, Inner, Branches, NoBranch, Branch, branch_roots, leaves, branch_leaves, IsSound, AreSound, put_entry, without_text, texts_of, CallableAtEachKey, CallableInTurn, ChangesValue, ChangesInTurn, SomeCallAtKey, entry_with, entries_with_value, entries_above, entries_from, entries_with_prefix, entries_within, is_from, is_up_to, HasKey, put_key, without_key, IsFewest, NeedsNode, ShrinksWithout, SomeShrinksWithout, Mut, MutBor, Bor, by_order, by_text, images_differ, put-long, and_parts}
 use denote.Param.Always.{mut_next}
 -- an entry that is put, or a text that is taken out, by cases: what art_tree has of them
 pub use Rattle.art_tree.proofs.EntryLaws.{put-cases as put_cases, without-cases as without_cases}
@@ -59,6 +59,24 @@ module _ {K V : Type 0} (text : K → List ℕ) where
       without_cases text (λ all. entry_with text all y ≡ entry_with text (other ∷ entries) y) other entries x
       (λ same. others_kept entries x y differ ∙ sym (found_later other entries y (λ also. differ (sym same ∙ also))))
       (λ _. by_first (λ o. entry_with text (other ∷ without_text text entries x) y ≡ o) other entries y (found_first other (without_text text entries x) y) (λ apart. found_later other (without_text text entries x) y apart ∙ others_kept entries x y differ))
+
+  -- a value that was changed in place is found, and a later one takes its place
+  pub value_found : (entries : List (K × V)) (x : List ℕ) (value : V) → entry_with text (entries_with_value text entries x value) x ≡ option_map (λ (entry : K × V). (entry.0, value)) (entry_with text entries x)
+  value_found [] x value = refl
+  value_found (entry ∷ entries) x value = by_test (pointwise nat_eq (text entry.0) x) (entry_with text (entries_with_value text entries x value) x) (entry_with text entries x) (value_found entries x value)
+    where
+      by_test : (t : Bool) (now old : Option (K × V)) → now ≡ option_map (λ (e : K × V). (e.0, value)) old → cond t (Some (entry.0, cond t value entry.1)) now ≡ option_map (λ (e : K × V). (e.0, value)) (cond t (Some entry) old)
+      by_test true now old rest = refl
+      by_test false now old rest = rest
+
+  pub value_again : (entries : List (K × V)) (x : List ℕ) (value later : V) → entries_with_value text (entries_with_value text entries x value) x later ≡ entries_with_value text entries x later
+  value_again [] x value later = refl
+  value_again (entry ∷ entries) x value later = by_test (pointwise nat_eq (text entry.0) x) (value_again entries x value later)
+    where
+      by_test : (t : Bool) → entries_with_value text (entries_with_value text entries x value) x later ≡ entries_with_value text entries x later →
+          (entry.0, cond t later (cond t value entry.1)) ∷ entries_with_value text (entries_with_value text entries x value) x later ≡ (entry.0, cond t later entry.1) ∷ entries_with_value text entries x later
+      by_test true rest = ap (λ all. (entry.0, later) ∷ all) rest
+      by_test false rest = ap (λ all. entry ∷ all) rest
 
   -- the entry that is found is one of the entries, with that text; where keys ascend, each is found
   pub found_is : (entries : List (K × V)) (x : List ℕ) (entry : K × V) → entry_with text entries x ≡ Some entry → Contains entries entry × (text entry.0 ≡ x)

@@ -1,7 +1,8 @@
 -- The entries before and behind a leaf of a tree: where the list is cut, and the leaf behind.
-use Rattle.art_map.proofs.Names.{◌≡◌, ◌≢◌, ◌∙◌, ℕ, Bool, true, false, List, [], ◌∷◌, ◌++◌, map, slice_get, All, Contains, Option, Some, None, append_assoc, append-nil, get_or, refl, sym, ap, subst, inl, inr, arith, option_map, Less, All-nil, All-cons, All-head, All-tail, Contains-append_right, Contains-get_or, filter_map-append, text_order, leaf_key, opaque_key, opaque_pointer, slab_key, NodePtr, LeafNode, OpaqueNodePtr, NodeArena, Changes, HeldLeaf, held, held_leaf, knit-member, next-member, are-entries, leaf-in, Spells, leaf_at, next_at, Tree, leaves, IsAlone, IsArt, entries_of, without_text, texts_of, leaf_pointer, is_before, AreOn, Side, HoldsFirst, IsCut, keys_of, AllHold, IsFirstAfter, entries_under, leaf_entry}
+use Rattle.art_map.proofs.Names.{LeafPtr, ◌≡◌, ◌≢◌, ◌∙◌, ℕ, Bool, true, false, List, [], ◌∷◌, ◌++◌, map, slice_get, All, Contains, Option, Some, None, append_assoc, append-nil, get_or, refl, sym, ap, subst, inl, inr, arith, option_map, Less, All-nil, All-cons, All-head, All-tail, Contains-append_right, Contains-get_or, filter_map-append, text_order, leaf_key, opaque_key, opaque_pointer, slab_key, LeafNode, OpaqueNodePtr, NodeArena, Changes, HeldLeaf, held, held_leaf, knit-member, next-member, are-entries, leaf-in, Spells, leaf_at, next_at, Tree, leaves, IsAlone, IsArt, entries_of, without_text, texts_of, leaf_pointer, is_before, AreOn, Side, HoldsFirst, IsSplit, keys_of, AllHold, IsFirstAfter, entries_under, leaf_entry}
 use Rattle.art_header.specs.declared.node_type.NodeType.TheVariants as kinds
 use Rattle.art_nodes.specs.Leaf.{with_value}
+use Rattle.art_arena.specs.Arena.{SameNodes}
 use Rattle.art_tree.specs.Leaves.{KeepsOtherLeaves}
 use Rattle.art_map.proofs.CallLaws.{Ascend, ascend_rest, first_or_later, first_there, image_inside, less_differs, none_below, none_inside, other_text, text_itself}
 use Rattle.art_map.proofs.CalledLemmas.{alone-kept, held-slot}
@@ -81,7 +82,7 @@ entry-at arena key entry after holds = let both : entry ∷ after ≡ leaf_entry
 
 -- the leaves before and behind the leaf at a cut hold the entries before and behind it
 module _ {K V : Type 0} {P : ℕ} (text : K → List ℕ) (arena : NodeArena K V P) (root : OpaqueNodePtr K V P) (tree : Tree (OpaqueNodePtr K V P)) (alone : IsAlone text arena root tree)
-    (before : List (K × V)) (key : ℕ) (entry : K × V) (after : List (K × V)) (cut : IsCut text arena before (Some key) (entry ∷ after)) where
+    (before : List (K × V)) (key : ℕ) (entry : K × V) (after : List (K × V)) (cut : IsSplit text arena before (Some key) (entry ∷ after)) where
   abbrev pub leaf-here : LeafNode K V P
   leaf-here = cut.1.0
 
@@ -122,7 +123,7 @@ module _ {K V : Type 0} {P : ℕ} (text : K → List ℕ) (arena : NodeArena K V
   before-is = same-parts.0
 
   -- the leaf behind holds the first of the entries behind
-  pub cut-behind : (next : Option ℕ) → next ≡ next_at arena key → IsCut text arena (before ++ entry ∷ []) next after
+  pub cut-behind : (next : Option ℕ) → next ≡ next_at arena key → IsSplit text arena (before ++ entry ∷ []) next after
   cut-behind next is = (cut.0 ∙ sym (append_assoc before (entry ∷ []) after), subst (λ o. HoldsFirst arena o after) (sym (is ∙ next-member arena done todo key spells-here)) (by_todo todo refl behind-is))
     where
       by_todo : (keys : List ℕ) → todo ≡ keys → after ≡ entries_under arena keys → HoldsFirst arena (slice_get keys 0) after
@@ -134,7 +135,7 @@ module _ {K V : Type 0} {P : ℕ} (text : K → List ℕ) (arena : NodeArena K V
 
   -- another value in the leaf is another value in the list
   module _ (new : NodeArena K V P) (value : V) (changes : Changes arena new (opaque_pointer kinds.Leaf key) (HeldLeaf (with_value leaf-here value))) where
-    pub cut-changed : IsCut text new before (Some key) ((entry.0, value) ∷ after)
+    pub cut-changed : IsSplit text new before (Some key) ((entry.0, value) ∷ after)
     cut-changed =
         let others = others-stay arena new key changes in
         let apart = apart-at done key todo spells-here.distinct in
@@ -159,6 +160,12 @@ module _ {K V : Type 0} {P : ℕ} (text : K → List ℕ) (old new : NodeArena K
       let (now, found, same_key, same_value) = keeps (opaque_pointer kinds.Leaf key) leaf (ap (held_leaf {H = OpaqueNodePtr K V P}) there) differ in
       (now, rest, slot-of (leaf_at new key) now found, is ∙ ap (λ entry. entry ∷ rest) (λ i. (sym same_key i, sym same_value i)))
 
+-- where no node is changed, a leaf holds the same entries
+pub holds-still : {K V : Type 0} {P : ℕ} (old new : NodeArena K V P) → SameNodes old new → (at : Option ℕ) (after : List (K × V)) → HoldsFirst old at after → HoldsFirst new at after
+holds-still old new same None after holds = holds
+holds-still old new same (Some key) after (leaf, rest, there, is) =
+    (leaf, rest, slot-of (leaf_at new key) leaf (same (opaque_pointer kinds.Leaf key) ∙ ap (held_leaf {H = OpaqueNodePtr _ _ _}) there), is)
+
 -- an arena that holds a leaf has a tree
 pub alone-there : {K V : Type 0} {P : ℕ} (text : K → List ℕ) (arena : NodeArena K V P) (key : ℕ) (leaf : LeafNode K V P) → leaf_at arena key ≡ Some leaf → (root : Option (OpaqueNodePtr K V P)) → IsArt text arena root → (top : OpaqueNodePtr K V P) × (tree : Tree (OpaqueNodePtr K V P)) × IsAlone text arena top tree
 alone-there text arena key leaf there None nothing = absurd (something-held (held arena (opaque_pointer kinds.Leaf key)) leaf (is-held text arena key leaf there) (nothing (opaque_pointer kinds.Leaf key)))
@@ -168,7 +175,7 @@ alone-there text arena key leaf there (Some root) (tree, alone) = (root, tree, a
 module _ {K V : Type 0} {P : ℕ} (text : K → List ℕ) (arena : NodeArena K V P) (side : Side) (key : List ℕ) where
   abbrev pub IsCutAt : Option ℕ → Type 0
   IsCutAt at =
-      (before : List (K × V)) × (after : List (K × V)) × IsCut text arena before at after
+      (before : List (K × V)) × (after : List (K × V)) × IsSplit text arena before at after
       × All (λ entry. is_before side key (text entry.0) ≡ true) before × All (λ entry. is_before side key (text entry.0) ≡ false) after
 
   all-held : (t : Bool) (pairs : List (OpaqueNodePtr K V P × List ℕ)) → AllHold text arena pairs → AreOn side key t pairs → All (λ entry. is_before side key (text entry.0) ≡ t) (held_by text arena pairs)
@@ -183,7 +190,7 @@ module _ {K V : Type 0} {P : ℕ} (text : K → List ℕ) (arena : NodeArena K V
   cut-none none = ([], [], (none, refl), All-nil (λ entry. is_before side key (text entry.0) ≡ true), All-nil (λ entry. is_before side key (text entry.0) ≡ false))
 
   module _ {root : OpaqueNodePtr K V P} {tree : Tree (OpaqueNodePtr K V P)} (alone : IsAlone text arena root tree) where
-    pub cut-some : (o : Option (NodePtr P (LeafNode K V P))) → IsFirstAfter side key (leaves tree) (option_map leaf_pointer o) → IsCutAt (option_map slab_key o)
+    pub cut-some : (o : Option (LeafPtr K V P)) → IsFirstAfter side key (leaves tree) (option_map leaf_pointer o) → IsCutAt (option_map slab_key o)
     cut-some None on = (entries_of text arena, [], (sym (append-nil (entries_of text arena)), refl), subst (All (λ entry. is_before side key (text entry.0) ≡ true)) (entries-of-leaves alone) (all-held true (leaves tree) (leaves-hold alone) on), All-nil (λ entry. is_before side key (text entry.0) ≡ false))
     cut-some (Some leaf) (x, left, right, is, before, after) =
         let here : OpaqueNodePtr K V P × List ℕ = (leaf_pointer leaf, x) in

@@ -4,10 +4,12 @@ pub mod CallLaws
 mod CalledLemmas
 mod ClashLemmas
 mod CursorLemmas
+mod CursorStarts
 mod EndLemmas
 mod EnteredLemmas
 mod EntryLemmas
 mod ExtendLemmas
+mod FirstLemmas
 mod FrontLemmas
 mod JoinLemmas
 mod LeafCounts

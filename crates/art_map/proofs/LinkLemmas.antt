@@ -1,5 +1,5 @@
 -- The leaf before or after a side of a key, by the links.
-use Rattle.art_map.proofs.Names.{◌≡◌, ◌∙◌, ℕ, ◌<◌, ◌^◌, lit<, true, false, List, [], ◌∷◌, ◌++◌, Contains, Option, Some, None, refl, sym, ap, subst, inl, inr, arith, slice_get, append_assoc, option_map, All-nil, All-cons, All-append, Contains-append_right, opaque_key, opaque_pointer, slab_key, NodePtr, OpaqueNodePtr, LeafNode, NodeArena, first-member, next-member, previous-member, leaf-held-in, Spells, next_at, previous_at, Tree, leaves, First, Last, leaf_place, IsAlone, leaf_pointer, is_before, AreOn, IsNextTo, IsFirstAfter, IsLastBefore, Side, keys_of}
+use Rattle.art_map.proofs.Names.{LeafPtr, ◌≡◌, ◌∙◌, ℕ, ◌<◌, ◌^◌, lit<, true, false, List, [], ◌∷◌, ◌++◌, Contains, Option, Some, None, refl, sym, ap, subst, inl, inr, arith, slice_get, append_assoc, option_map, All-nil, All-cons, All-append, Contains-append_right, opaque_key, opaque_pointer, slab_key, OpaqueNodePtr, NodeArena, first-member, next-member, previous-member, leaf-held-in, Spells, next_at, previous_at, Tree, leaves, First, Last, leaf_place, IsAlone, leaf_pointer, is_before, AreOn, IsNextTo, IsFirstAfter, IsLastBefore, Side, keys_of}
 use Rattle.art_header.specs.declared.node_type.NodeType.TheVariants as kinds
 use Rattle.art_map.proofs.RangeLemmas.{keys-append, snoc}
 
@@ -7,7 +7,7 @@ use Rattle.art_map.proofs.RangeLemmas.{keys-append, snoc}
 pub leaf-pointer-fits : 8 < 2 ^ 63
 leaf-pointer-fits = lit< tt
 
-pub as-pointers : {K V : Type 0} {P : ℕ} (o : Option (NodePtr P (LeafNode K V P))) → option_map (leaf_pointer {K = K} {V = V} {P = P}) o ≡ option_map (opaque_pointer {K = K} {V = V} {P = P} kinds.Leaf) (option_map slab_key o)
+pub as-pointers : {K V : Type 0} {P : ℕ} (o : Option (LeafPtr K V P)) → option_map (leaf_pointer {K = K} {V = V} {P = P}) o ≡ option_map (opaque_pointer {K = K} {V = V} {P = P} kinds.Leaf) (option_map slab_key o)
 as-pointers None = refl
 as-pointers (Some leaf) = refl
 

@@ -1,5 +1,5 @@
 -- What inserts and removals do to memory, and what lasts where nothing changes or a removal has another result.
-use Rattle.art_map.proofs.Names.{◌≡◌, ◌∙◌, ℕ, zero, suc, ◌+◌, ◌-◌, ◌≤◌, List, length, Option, Some, Result, Ok, Err, OnErr, OnOk, Bool, is_ok, true, false, inl, inr, refl, sym, ap, subst, arith, opaque_key, opaque_pointer, LeafNode, OpaqueNodePtr, NodeArena, Changes, HeldLeaf, held, leaf_at, leaf_count, leaf_place, entries_of, room, texts, with_value_at, Art, HasRoomFor, HasRoomOf, HasValueNow, InsertsInRoom, KeepsRoom, RemovesEachInRoom}
+use Rattle.art_map.proofs.Names.{◌≡◌, ◌∙◌, ℕ, zero, suc, ◌+◌, ◌-◌, ◌≤◌, List, length, Option, Some, Result, Ok, Err, OnErr, OnOk, Bool, is_ok, true, false, inl, inr, refl, sym, ap, subst, arith, opaque_key, opaque_pointer, LeafNode, OpaqueNodePtr, NodeArena, Changes, HeldLeaf, held, leaf_at, leaf_count, leaf_place, entries_of, texts, with_value_at, Art, HasEntryRoom, HasRoomOf, HasValueNow, InsertsInRoom, KeepsRoom, RemovesEachInRoom}
 use Rattle.art_header.specs.declared.node_type.NodeType.{NodeType}
 use Rattle.art_header.specs.declared.node_type.NodeType.TheVariants as kinds
 use Rattle.art_nodes.specs.Leaf.{with_value}
@@ -16,7 +16,7 @@ module _ {K V : Type 0} {P : ℕ} (arena : NodeArena K V P) (fewer more : ℕ) (
   fewer-of-kind kind (inr fits) = inr (λ tree sound few. fits tree sound (omega (arith, few, within)))
 
   -- room for some changes is room for fewer
-  pub fewer-room : HasRoomFor arena more → HasRoomFor arena fewer
+  pub fewer-room : HasEntryRoom arena more → HasEntryRoom arena fewer
   fewer-room enough kind = fewer-of-kind kind (enough kind)
 
 -- an insert that changes nothing takes no memory
@@ -82,7 +82,7 @@ module _ {K V : Type 0} {P : ℕ} where
   removes-none old new keeps = record {
     takes_no_memory = λ count enough is kind. ap (λ (space : ℕ × ℕ). space.1) (keeps.same_room kind);
     room_suffices = λ count enough. refl;
-    room_lasts = λ count enough. let same : count + 0 ≡ count = omega arith in keeps.room_lasts count (subst (HasRoomFor old) same enough);
+    room_lasts = λ count enough. let same : count + 0 ≡ count = omega arith in keeps.room_lasts count (subst (HasEntryRoom old) same enough);
   }
 
   -- some removals, and then others
@@ -91,16 +91,16 @@ module _ {K V : Type 0} {P : ℕ} where
     takes_no_memory = λ count enough is kind.
         let room = both count enough in
         second.takes_no_memory count (first.room_lasts (count + more) room) is kind ∙ first.takes_no_memory (count + more) room refl kind;
-    room_suffices = λ count enough. let same : count + (more + gone) + 1 ≡ (count + more + 1) + gone = omega arith in second.room_suffices count (first.room_lasts (count + more + 1) (subst (HasRoomFor a) same enough));
+    room_suffices = λ count enough. let same : count + (more + gone) + 1 ≡ (count + more + 1) + gone = omega arith in second.room_suffices count (first.room_lasts (count + more + 1) (subst (HasEntryRoom a) same enough));
     room_lasts = λ count enough. second.room_lasts count (first.room_lasts (count + more) (both count enough));
   }
     where
-      both : (count : ℕ) → HasRoomFor a (count + (more + gone)) → HasRoomFor a ((count + more) + gone)
-      both count enough = let same : count + (more + gone) ≡ (count + more) + gone = omega arith in subst (HasRoomFor a) same enough
+      both : (count : ℕ) → HasEntryRoom a (count + (more + gone)) → HasEntryRoom a ((count + more) + gone)
+      both count enough = let same : count + (more + gone) ≡ (count + more) + gone = omega arith in subst (HasEntryRoom a) same enough
 
 -- the removal of an entry
 module _ {K V E : Type 0} {P : ℕ} (text : K → List ℕ) (old new : Art (NodeArena K V P) (OpaqueNodePtr K V P)) (x : List ℕ) where
-  pub took-one : (result : Result (K × V) E) → TakesEntry text old new x result → ((kind : NodeType) (count : ℕ) → HasRoomFor old.arena (count + 1) → LacksRoomToRemove text old.arena old.root x kind → ⊥) → OnOk result (RemovesEachInRoom old.arena new.arena 1 true)
+  pub took-one : (result : Result (K × V) E) → TakesEntry text old new x result → ((kind : NodeType) (count : ℕ) → HasEntryRoom old.arena (count + 1) → LacksRoomToRemove text old.arena old.root x kind → ⊥) → OnOk result (RemovesEachInRoom old.arena new.arena 1 true)
   took-one (Err e) took never = tt
   took-one (Ok entry) took never = record {
     takes_no_memory = λ count enough is kind. elim (took.memory kind) [
@@ -116,15 +116,15 @@ module _ {K V E : Type 0} {P : ℕ} (text : K → List ℕ) (old new : Art (Node
   took-none (Ok entry) took = tt
   took-none (Err e) took = record {
     takes_no_memory = λ count enough is. absurd (cc);
-    room_suffices = λ count enough. let same : count + 0 + 1 ≡ count + 1 = omega arith in took.room_suffices count (subst (HasRoomFor old.arena) same enough);
+    room_suffices = λ count enough. let same : count + 0 + 1 ≡ count + 1 = omega arith in took.room_suffices count (subst (HasEntryRoom old.arena) same enough);
     room_lasts = lasts;
   }
     where
-      lasts : (count : ℕ) → HasRoomFor old.arena (count + 0) → HasRoomFor new.arena count
+      lasts : (count : ℕ) → HasEntryRoom old.arena (count + 0) → HasEntryRoom new.arena count
       lasts zero enough = λ kind. inl (omega arith)
       lasts (suc count) enough =
           let same : suc count + 0 ≡ count + 1 = omega arith in
-          let wrong : false ≡ true = took.room_suffices count (subst (HasRoomFor old.arena) same enough) in absurd (cc)
+          let wrong : false ≡ true = took.room_suffices count (subst (HasEntryRoom old.arena) same enough) in absurd (cc)
 
 -- removals one after the other, by how many entries are gone
 module _ {K V : Type 0} {P : ℕ} (text : K → List ℕ) where

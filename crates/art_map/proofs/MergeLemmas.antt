@@ -1,5 +1,5 @@
 -- A walk along two lists of keys that ascend.
-use Rattle.art_map.proofs.Names.{greater_turned, less_turned, ◌≡◌, ◌∙◌, ℕ, Bool, true, false, not, cond, ◌||◌, List, [], ◌∷◌, map, filter, All, refl, sym, ap, subst, nat_eq, get_or, pointwise, nat_list_cmp_total, match_ordering, ordering_reverse, Ordering, Less, Equal, Greater, All-cons, All-head, All-tail, All-filter, All-weaker, Contains-get_or, filter_agree, text_order, has_text, union, intersection, difference, symmetric_difference, walk, put_key}
+use Rattle.art_map.proofs.Names.{greater_turned, less_turned, ◌≡◌, ◌∙◌, ℕ, Bool, true, false, not, cond, ◌||◌, List, [], ◌∷◌, map, filter, All, refl, sym, ap, subst, nat_eq, get_or, pointwise, nat_list_cmp_total, match_ordering, Ordering, Less, Equal, Greater, All-cons, All-head, All-tail, All-filter, All-weaker, Contains-get_or, filter_agree, text_order, has_text, union, intersection, difference, symmetric_difference, walk, put_key}
 use Rattle.art_map.proofs.TextLemmas.{filter-all}
 use Rattle.art_map.proofs.CallLaws.{Ascend, ascend_rest, image_inside, less_differs, none_below, other_text, same_order, text_itself}
 
@@ -62,7 +62,7 @@ module _ {K : Type 0} (text : K → List ℕ) where
       ap (λ all. union text all others) (put_behind key other keys (All-head (λ one. text_order (text key) (text one) ≡ Less) other others above))
       ∙ union_behind key (put_key text keys other) others (All-tail (λ one. text_order (text key) (text one) ≡ Less) other others above)
 
-  union_of_none : (others : List K) → Ascending others → union text [] others ≡ others
+  pub union_of_none : (others : List K) → Ascending others → union text [] others ≡ others
   union_of_none [] ascending = refl
   union_of_none (other ∷ others) ascending = union_behind other [] others (rest_above other others ascending) ∙ ap (λ all. other ∷ all) (union_of_none others (rest_ascends other others ascending))
 

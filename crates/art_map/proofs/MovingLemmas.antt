@@ -1,5 +1,5 @@
 -- Entries that may enter a list one after the other, and entries that go from the end of one list into another.
-use Rattle.art_map.proofs.Names.{◌≡◌, ◌≢◌, ◌⊎◌, ◌∙◌, inl, inr, ℕ, ◌+◌, ◌<◌, ◌^◌, List, [], ◌∷◌, ◌++◌, length, append_assoc, All, AllPairs, Contains, None, get_or, refl, sym, ap, subst, arith, match_ordering, Less, All-contains, Contains-append_right, Contains-get_or, text_order, OneIsProperPrefix, put_entry, texts_of, InsertRefusal, KeyTooLong, Prefix, OutOfMemory, SomeClashes, IsRefused, MayEnter, entry_with}
+use Rattle.art_map.proofs.Names.{◌≡◌, ◌≢◌, ◌⊎◌, ◌∙◌, inl, inr, ℕ, ◌+◌, ◌<◌, ◌^◌, List, [], ◌∷◌, ◌++◌, length, append_assoc, All, AllPairs, Contains, None, get_or, refl, sym, ap, subst, arith, match_ordering, Less, All-contains, Contains-append_right, Contains-get_or, text_order, OneIsProperPrefix, put_entry, texts_of, InsertRefusal, KeyTooLong, Prefix, OutOfMemory, SomeClashes, IsEntryRefused, EntryMayEnter, entry_with}
 use Rattle.art_map.proofs.CallLaws.{Ascend, ascend_rest, image_inside, inside_image, none_has, put_only}
 use Rattle.art_map.proofs.FrontLemmas.{Apart, first-to}
 use Rattle.art_map.proofs.RefusalLemmas.{refused_not_there}
@@ -19,21 +19,21 @@ all-unclashed texts apart i j d before within = apart-unclashed _ _ (apart i j d
 
 module _ {K V : Type 0} (text : K → List ℕ) where
   abbrev pub AllMayEnter : List (K × V) → List (K × V) → Type 0
-  AllMayEnter entries others = All (λ other. MayEnter text entries (text other.0)) others
+  AllMayEnter entries others = All (λ other. EntryMayEnter text entries (text other.0)) others
 
   -- a key that may enter is refused for memory alone
-  refused-for-memory : (entries : List (K × V)) (x : List ℕ) (refusal : InsertRefusal) → MayEnter text entries x → IsRefused text entries x refusal → refusal ≢ OutOfMemory → ⊥
+  refused-for-memory : (entries : List (K × V)) (x : List ℕ) (refusal : InsertRefusal) → EntryMayEnter text entries x → IsEntryRefused text entries x refusal → refusal ≢ OutOfMemory → ⊥
   refused-for-memory entries x KeyTooLong may due other = omega (arith, may.0, due)
   refused-for-memory entries x Prefix may due other = may.1 due.1
   refused-for-memory entries x OutOfMemory may due other = other refl
 
   -- nor for memory where its text has an entry
-  pub never-refused : (entries : List (K × V)) (x : List ℕ) (refusal : InsertRefusal) → MayEnter text entries x → IsRefused text entries x refusal → (refusal ≢ OutOfMemory) ⊎ (entry_with text entries x ≢ None) → ⊥
+  pub never-refused : (entries : List (K × V)) (x : List ℕ) (refusal : InsertRefusal) → EntryMayEnter text entries x → IsEntryRefused text entries x refusal → (refusal ≢ OutOfMemory) ⊎ (entry_with text entries x ≢ None) → ⊥
   never-refused entries x refusal may due (inl enough) = refused-for-memory entries x refusal may due enough
-  never-refused entries x refusal may due (inr there) = refused-for-memory entries x refusal may due (λ is. there (subst (IsRefused text entries x) is due).1)
+  never-refused entries x refusal may due (inr there) = refused-for-memory entries x refusal may due (λ is. there (subst (IsEntryRefused text entries x) is due).1)
 
   -- a text that may enter may still do so once an entry was put with whose text it does not clash
-  still-enters : (entries : List (K × V)) (entry : K × V) (x : List ℕ) → MayEnter text entries x → ¬ OneIsProperPrefix (text entry.0) x → MayEnter text (put_entry text entries entry) x
+  still-enters : (entries : List (K × V)) (entry : K × V) (x : List ℕ) → EntryMayEnter text entries x → ¬ OneIsProperPrefix (text entry.0) x → EntryMayEnter text (put_entry text entries entry) x
   still-enters entries entry x may apart = (
     may.0,
     λ clash.
@@ -63,7 +63,7 @@ module _ {K V : Type 0} (text : K → List ℕ) where
   end-ascends (entry ∷ left) part ascend = end-ascends left part (ascend_rest (text entry.0) (texts_of text (left ++ part)) ascend)
 
   -- what may enter a list may enter a part of it
-  pub part-may-enter : (left part : List (K × V)) (x : List ℕ) → MayEnter text (left ++ part) x → MayEnter text part x
+  pub part-may-enter : (left part : List (K × V)) (x : List ℕ) → EntryMayEnter text (left ++ part) x → EntryMayEnter text part x
   part-may-enter left part x may = (
     may.0,
     λ clash.
@@ -98,8 +98,8 @@ module _ {K V : Type 0} (text : K → List ℕ) where
         (cut ∙ ap (λ es. left ++ es) (sym front), omega (arith, ap length front))
 
     -- it may do so
-    pub moved-may-enter : AllMayEnter whole whole → MayEnter text upper (text entry.0)
+    pub moved-may-enter : AllMayEnter whole whole → EntryMayEnter text upper (text entry.0)
     moved-may-enter may =
         let inside : Contains whole entry = subst (λ es. Contains es entry) (sym cut) (Contains-append_right left (entry ∷ upper) entry (0, omega arith, refl)) in
-        let here = All-contains (λ other. MayEnter text whole (text other.0)) whole entry may inside in
-        part-may-enter (left ++ entry ∷ []) upper (text entry.0) (subst (λ es. MayEnter text es (text entry.0)) (parts ∙ ap (λ es. es ++ upper) last) here)
+        let here = All-contains (λ other. EntryMayEnter text whole (text other.0)) whole entry may inside in
+        part-may-enter (left ++ entry ∷ []) upper (text entry.0) (subst (λ es. EntryMayEnter text es (text entry.0)) (parts ∙ ap (λ es. es ++ upper) last) here)

@@ -34,11 +34,10 @@ pub use Rattle.art_bytes.specs.Text.{text_order, IsPrefixOf}
 pub use Rattle.art_nodes.specs.Leaf.{leaf_key, leaf_value, next_key, previous_key}
 pub use Rattle.art_nodes.specs.Pointers.{slab_key, opaque_key, opaque_pointer}
 pub use Rattle.art_nodes.specs.declared.leaf_node.LeafNode.{LeafNode}
-pub use Rattle.art_nodes.specs.declared.pointers.NodePtr.{NodePtr}
 pub use Rattle.art_nodes.specs.declared.pointers.OpaqueNodePtr.{OpaqueNodePtr}
 pub use Rattle.art_arena.proofs.StandingLaws.{leaf_place, one-inner}
 pub use Rattle.art_arena.proofs.TreeLaws.{first-member, knit-member, next-member, previous-member, spells-exchanged, stands-exchanged}
-pub use Rattle.art_arena.specs.Arena.{NodeArena, held, Nothing, HeldLeaf, held_leaf, Changes, Held, leaf_count, HeldInner, room}
+pub use Rattle.art_arena.specs.Arena.{LeafPtr, NodeArena, held, Nothing, HeldLeaf, held_leaf, Changes, Held, leaf_count, HeldInner, room}
 pub use Rattle.art_arena.specs.Links.{leaf_at, Spells, next_at, AreDistinct, HoldsLeaf, SpellsAfter, previous_at, IsKnit, with_value_at}
 pub use Rattle.art_arena.specs.Standing.{StandsIn, AllStandIn, IsTreeIn}
 pub use Rattle.art_arena.specs.Trees.{Tree, leaves, Branch, Branches, Inner, Leaf, NoBranch, texts, IsSound, branch_leaves, branch_places, branch_roots, places, AreSound}
@@ -51,7 +50,7 @@ pub use Rattle.art_tree.specs.Ends.{IsEndEntry, EndMeets, PopsEntry}
 pub use Rattle.art_tree.specs.Entries.{entries_of, put_entry, AreEntries, without_text, entries_among}
 pub use Rattle.art_tree.specs.Refusals.{texts_of, HaveNoFault, fault_at, fault_between, text_of_entry}
 pub use Rattle.art_tree.specs.Removal.{IsLeft, NeedsSmallerNode}
-pub use Rattle.art_tree.specs.Room.{HasRoomFor, FitsEachTree, HasRoomOf}
+pub use Rattle.art_tree.specs.Room.{HasEntryRoom, FitsEachTree, HasRoomOf}
 pub use Rattle.art_tree.specs.Search.{leaf_pointer}
 pub use Rattle.art_tree.specs.Sides.{is_before, AreOn, IsNextTo, comes_before}
 pub use Rattle.art_tree.specs.TreeLending.{HasValueNow, IsSameTree}
@@ -61,10 +60,10 @@ pub use Rattle.art_tree.specs.declared.place.Side.{Side}
 pub use Rattle.art_tree.specs.declared.place.Side.TheVariants.{Before, AfterBegun, After}
 pub use Rattle.art_map.specs.Appending.{SomeIsNew, SomeClashes, IsKeyAppendRefused, SomeKeyClashes, replace_all, IsAppendRefused, SomeKeyIsNew}
 pub use Rattle.art_map.specs.Calls.{CallableInTurn, ChangesInTurn, CallableAtEachKey, ChangesValue, TakesValue, SomeCallAtKey}
-pub use Rattle.art_map.specs.Changes.{IsRefused, MayEnter}
-pub use Rattle.art_map.specs.Cursors.{HoldsFirst, IsCut, MayVisit}
+pub use Rattle.art_map.specs.Changes.{IsEntryRefused, EntryMayEnter}
+pub use Rattle.art_map.specs.Cursors.{HoldsFirst, IsSplit, MayVisit}
 pub use Rattle.art_map.specs.EnteredValues.{set_value}
-pub use Rattle.art_map.specs.Entries.{entry_with, with_value, if_prefix, prefix_entry}
+pub use Rattle.art_map.specs.Entries.{entry_with, entries_with_value, if_prefix, prefix_entry}
 pub use Rattle.art_map.specs.Extending.{put_all, MayStandTogether}
 pub use Rattle.art_map.specs.LeafEntries.{AllHold, keys_of, HoldsEntryOf}
 pub use Rattle.art_map.specs.Memory.{IsTrueOfTrees, Popped, Removed, RemovedEach, Emptied, GrownFor, Inserted, InsertsInRoom, KeepsRoom, KeptRoom, LackedRoomFor, RemovesEachInRoom, RemovesInRoom, WithoutRoom}
@@ -72,7 +71,7 @@ pub use Rattle.art_map.specs.Merges.{walk, union, difference, has_text, intersec
 pub use Rattle.art_map.specs.Nearest.{is_between, IsFirstAfter, IsLastBefore, IsNearest, entry_nearest}
 pub use Rattle.art_map.specs.Ranges.{entries_with_prefix, entries_from, is_from, is_up_to, entries_within, entries_below, entries_up_to, entries_above, entries_without_prefix, entries_in, keys_with_prefix, keys_without_prefix, entries_outside, keys_below, keys_from, keys_in}
 pub use Rattle.art_map.specs.Retaining.{LosesFirst, StopsRetaining, StopsFiltering}
-pub use Rattle.art_map.specs.Runs.{run_of, leaf_entry, at_end, entries_under, IsTaken, StepsOver, EndsIn, LeadsOver, IsRun, LinksOver, first_or, keys_between}
+pub use Rattle.art_map.specs.Runs.{run_entries, leaf_entry, at_end, entries_under, IsTaken, StepsOver, EndsIn, LeadsOver, IsRun, LinksOver, first_or, keys_between}
 pub use Rattle.art_map.specs.Sets.{HasKey, put_key, IsKeyRefused, key_with, KeyMayEnter, without_key, replace_key, prefix_key}
 pub use Rattle.art_map.specs.Sorting.{AreRanks, AreTakenFrom, head_of, put_slot, put_slots, rank_order, slot_text, slots_at, text_in}
 pub use Rattle.art_map.specs.Shrinking.{NeedsNode, IsFewest, ShrinksWithout, SomeShrinksWithout, HasLeafOf}

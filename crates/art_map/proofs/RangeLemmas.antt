@@ -1,5 +1,5 @@
 -- The leaves between two places in the order of texts, and what they hold.
-use Rattle.art_map.proofs.Names.{all_left, all_right, ◌≡◌, ◌≢◌, ◌∙◌, ◌-◌, ℕ, suc, ◌⊎◌, cond, Bool, true, false, not, ◌&&◌, List, [], ◌∷◌, ◌++◌, length, map, filter, slice_get, All, Option, Some, None, refl, sym, ap, subst, inl, inr, get_or, append_assoc, append-nil, length-append, arith, option_map, map-append, same_Some, All-head, All-tail, All-append, All-weaker, filter-append, filter_map-append, leaf_key, leaf_value, opaque_key, slab_key, NodePtr, OpaqueNodePtr, LeafNode, NodeArena, Held, HeldLeaf, Nothing, held, AreDistinct, Spells, SpellsAfter, leaf_at, Tree, leaves, End, First, Last, IsAlone, entries_of, leaf_pointer, is_before, AreOn, is_between, IsFirstAfter, IsLastBefore, IsNearest, entry_nearest, keys_of, HoldsEntryOf, AllHold, EndsIn, LeadsOver, leaf_entry, entries_under, run_of, Side}
+use Rattle.art_map.proofs.Names.{LeafPtr, all_left, all_right, ◌≡◌, ◌≢◌, ◌∙◌, ◌-◌, ℕ, suc, ◌⊎◌, cond, Bool, true, false, not, ◌&&◌, List, [], ◌∷◌, ◌++◌, length, map, filter, slice_get, All, Option, Some, None, refl, sym, ap, subst, inl, inr, get_or, append_assoc, append-nil, length-append, arith, option_map, map-append, same_Some, All-head, All-tail, All-append, All-weaker, filter-append, filter_map-append, leaf_key, leaf_value, opaque_key, slab_key, OpaqueNodePtr, LeafNode, NodeArena, Held, HeldLeaf, Nothing, held, AreDistinct, Spells, SpellsAfter, leaf_at, Tree, leaves, End, First, Last, IsAlone, entries_of, leaf_pointer, is_before, AreOn, is_between, IsFirstAfter, IsLastBefore, IsNearest, entry_nearest, keys_of, HoldsEntryOf, AllHold, EndsIn, LeadsOver, leaf_entry, entries_under, run_entries, Side}
 use Rattle.art_map.proofs.EntryLemmas.{entries-of-leaves, leaves-hold}
 use Rattle.art_map.proofs.RunLemmas.{distinct-front, ends-push, entries-cons, run-is, spelled-links}
 
@@ -235,7 +235,7 @@ module _ {K V : Type 0} {P : ℕ} {text : K → List ℕ} {arena : NodeArena K V
   pub range-high : IsLastBefore end_side end (leaves tree) None → [] ≡ within (entries_of text arena)
   range-high past = of-leaves [] (none-high text arena start_side start end_side end tree (leaves-hold alone) past)
 
-  module _ (front : NodePtr P (LeafNode K V P)) (low : IsFirstAfter start_side start (leaves tree) (Some (leaf_pointer front))) where
+  module _ (front : LeafPtr K V P) (low : IsFirstAfter start_side start (leaves tree) (Some (leaf_pointer front))) where
     pub front-held : HoldsEntryOf text arena (leaf_pointer front) low.0
     front-held = holds-one text arena (leaves tree) low.1 low.2 (leaf_pointer front, low.0) low.3 (leaves-hold alone)
 
@@ -244,7 +244,7 @@ module _ {K V : Type 0} {P : ℕ} {text : K → List ℕ} {arena : NodeArena K V
         let one : HeldLeaf leaf ≡ HeldLeaf front-held.leaf = sym is ∙ front-held.there in
         let same : leaf ≡ front-held.leaf = cc in ap (λ l. text (leaf_key l)) same ∙ front-held.has
 
-    module _ (back : NodePtr P (LeafNode K V P)) (high : IsLastBefore end_side end (leaves tree) (Some (leaf_pointer back))) where
+    module _ (back : LeafPtr K V P) (high : IsLastBefore end_side end (leaves tree) (Some (leaf_pointer back))) where
       abbrev f : OpaqueNodePtr K V P × List ℕ
       f = (leaf_pointer front, low.0)
 
@@ -261,9 +261,9 @@ module _ {K V : Type 0} {P : ℕ} {text : K → List ℕ} {arena : NodeArena K V
         abbrev pub range-run : (keys : List ℕ) × LeadsOver arena (slab_key front) (slab_key back) keys
         range-run = (mid-keys, range-leads text arena start_side start end_side end tree (leaves-hold alone) low.1 low.2 high.1 high.2 f b low.3 low.4 low.5 high.3 high.4 high.5 alone.spelled inside)
 
-        pub range-some : run_of arena (Some (front, back)) ≡ within (entries_of text arena)
+        pub range-some : run_entries arena (Some (front, back)) ≡ within (entries_of text arena)
         range-some =
-            of-leaves (run_of arena (Some (front, back)))
+            of-leaves (run_entries arena (Some (front, back)))
             (range-is text arena start_side start end_side end tree (leaves-hold alone) low.1 low.2 high.1 high.2 f b low.3 low.4 low.5 high.3 high.4 high.5 alone.spelled inside
             ∙ ap (entries_under arena) (sym (run-is arena (slab_key front) (slab_key back) range-run.0 range-run.1)))
 
@@ -279,7 +279,7 @@ module _ {K V : Type 0} {P : ℕ} {text : K → List ℕ} {arena : NodeArena K V
       ap (λ es. slice_get (from-place es) 0) (sym (entries-of-leaves alone))
       ∙ ap (λ es. slice_get es 0) (leave-all text arena (λ x. not (is_before side key x)) (leaves tree) (leaves-hold alone) (turned true (leaves tree) before))
 
-  module _ (at : NodePtr P (LeafNode K V P)) where
+  module _ (at : LeafPtr K V P) where
     pub first-after : (low : IsFirstAfter side key (leaves tree) (Some (leaf_pointer at))) → slice_get (from-place (entries_of text arena)) 0 ≡ option_map leaf_entry (leaf_at arena (slab_key at))
     first-after (x, left, right, is, before, after) =
         let here : OpaqueNodePtr K V P × List ℕ = (leaf_pointer at, x) in
@@ -296,7 +296,7 @@ module _ {K V : Type 0} {P : ℕ} {text : K → List ℕ} {arena : NodeArena K V
   pub none-before-it : IsLastBefore side key (leaves tree) None → last_one (to-place (entries_of text arena)) ≡ None
   none-before-it after = ap (λ es. last_one (to-place es)) (sym (entries-of-leaves alone)) ∙ ap last_one (leave-all text arena (is_before side key) (leaves tree) (leaves-hold alone) after)
 
-  module _ (at : NodePtr P (LeafNode K V P)) where
+  module _ (at : LeafPtr K V P) where
     pub last-before-it : (high : IsLastBefore side key (leaves tree) (Some (leaf_pointer at))) → last_one (to-place (entries_of text arena)) ≡ option_map leaf_entry (leaf_at arena (slab_key at))
     last-before-it (x, left, right, is, before, after) =
         let here : OpaqueNodePtr K V P × List ℕ = (leaf_pointer at, x) in
@@ -318,7 +318,7 @@ module _ {K V : Type 0} {P : ℕ} {text : K → List ℕ} {arena : NodeArena K V
   none-nearest First there = none-after alone side key there
   none-nearest Last there = none-before-it alone side key there
 
-  pub nearest-is : (end : End) (at : NodePtr P (LeafNode K V P)) → IsNearest side key end (leaves tree) (Some (leaf_pointer at)) → entry_nearest text side key end (entries_of text arena) ≡ option_map leaf_entry (leaf_at arena (slab_key at))
+  pub nearest-is : (end : End) (at : LeafPtr K V P) → IsNearest side key end (leaves tree) (Some (leaf_pointer at)) → entry_nearest text side key end (entries_of text arena) ≡ option_map leaf_entry (leaf_at arena (slab_key at))
   nearest-is First at there = first-after alone side key at there
   nearest-is Last at there = last-before-it alone side key at there
 

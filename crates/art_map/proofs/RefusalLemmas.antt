@@ -1,5 +1,5 @@
 -- Refusals of entries, and of keys, that are there.
-use Rattle.art_map.proofs.Names.{◌≡◌, ◌≢◌, ◌⊎◌, ◌∙◌, inl, inr, ℕ, suc, ◌<◌, ◌^◌, List, [], ◌∷◌, length, All, AllPairs, Contains, Option, Some, None, sym, subst, arith, refl, All-contains, IsPrefixOf, OneIsProperPrefix, texts_of, InsertRefusal, KeyTooLong, Prefix, OutOfMemory, IsRefused, entry_with}
+use Rattle.art_map.proofs.Names.{◌≡◌, ◌≢◌, ◌⊎◌, ◌∙◌, inl, inr, ℕ, suc, ◌<◌, ◌^◌, List, [], ◌∷◌, length, All, AllPairs, Contains, Option, Some, None, sym, subst, arith, refl, All-contains, IsPrefixOf, OneIsProperPrefix, texts_of, InsertRefusal, KeyTooLong, Prefix, OutOfMemory, IsEntryRefused, entry_with}
 use Rattle.art_map.proofs.CallLaws.{first_or_later, none_inside, one_has}
 
 abbrev Apart : List ℕ → List ℕ → Type 0
@@ -22,7 +22,7 @@ members_apart (x ∷ xs) a b apart in_a in_b = by_place (first_or_later x a xs i
 
 -- a key that is there is not refused
 module _ {K V : Type 0} (text : K → List ℕ) (entries : List (K × V)) (x : List ℕ) (short : All (λ y. length y < 2 ^ 32) (texts_of text entries)) (apart : AllPairs Apart (texts_of text entries)) where
-  there_not_refused : (refusal : InsertRefusal) → IsRefused text entries x refusal → entry_with text entries x ≢ None → ⊥
+  there_not_refused : (refusal : InsertRefusal) → IsEntryRefused text entries x refusal → entry_with text entries x ≢ None → ⊥
   there_not_refused KeyTooLong due some = let fits = All-contains (λ y. length y < 2 ^ 32) (texts_of text entries) x short (one_has text entries x some) in omega (arith, fits, due)
   there_not_refused Prefix due some = by_side due.1.2 (members_apart (texts_of text entries) due.1.0 x apart due.1.1 (one_has text entries x some))
     where
@@ -39,7 +39,7 @@ module _ {K V : Type 0} (text : K → List ℕ) (entries : List (K × V)) (x : L
       by_side part (inr two) = by_apart part two
   there_not_refused OutOfMemory due some = some due.1
 
-  pub refused_not_there : (refusal : InsertRefusal) → IsRefused text entries x refusal → entry_with text entries x ≡ None
+  pub refused_not_there : (refusal : InsertRefusal) → IsEntryRefused text entries x refusal → entry_with text entries x ≡ None
   refused_not_there refusal due = by_entry (entry_with text entries x) (there_not_refused refusal due)
     where
       by_entry : (o : Option (K × V)) → (o ≢ None → ⊥) → o ≡ None

@@ -1,5 +1,5 @@
 -- The keys of a map's entries, as a set has them.
-use Rattle.art_map.proofs.Names.{◌≡◌, ◌⊎◌, ◌∙◌, inl, inr, ℕ, zero, suc, ◌-◌, ◌<◌, ◌≤◌, ◌^◌, not, get_or, All, Contains, Bool, true, false, cond, List, [], ◌∷◌, length, map, filter, Option, Some, None, Result, Ok, Err, IfOk, IfErr, IfSome, IfNone, OnOk, OnErr, slice_get, refl, sym, ap, subst, arith, nat_eq, pointwise, is_none, is_some, option_map, match_ordering, result_map_both, Ordering, Less, Equal, Greater, length-map, All-contains, Contains-append_right, Contains-get_or, length-filter_both, text_order, Clashes, put_entry, texts_of, InsertRefusal, KeyTooLong, Prefix, OutOfMemory, IsRefused, MayEnter, entry_with, HasKey, key_with, put_key, replace_key, IsKeyRefused, KeyMayEnter}
+use Rattle.art_map.proofs.Names.{◌≡◌, ◌⊎◌, ◌∙◌, inl, inr, ℕ, zero, suc, ◌-◌, ◌<◌, ◌≤◌, ◌^◌, not, get_or, All, Contains, Bool, true, false, cond, List, [], ◌∷◌, length, map, filter, Option, Some, None, Result, Ok, Err, IfOk, IfErr, IfSome, IfNone, OnOk, OnErr, slice_get, refl, sym, ap, subst, arith, nat_eq, pointwise, is_none, is_some, option_map, match_ordering, result_map_both, Ordering, Less, Equal, Greater, length-map, All-contains, Contains-append_right, Contains-get_or, length-filter_both, text_order, Clashes, put_entry, texts_of, InsertRefusal, KeyTooLong, Prefix, OutOfMemory, IsEntryRefused, EntryMayEnter, entry_with, HasKey, key_with, put_key, replace_key, IsKeyRefused, KeyMayEnter}
 use Rattle.std.proofs.lemmas.Map.Made.{Contains-tail}
 use Rattle.art_map.proofs.CallLaws.{Ascend, ascend_rest, first_or_later, first_there, image_inside, inside_image, inside_part, later_there, less_differs, none_below, none_inside, other_text, same_order, same_text, text_itself, texts_differ}
 
@@ -89,10 +89,10 @@ module _ {K V : Type 0} (text : K → List ℕ) where
           rw is (ap (λ all. other.0 ∷ all) (rest later))
 
   -- the refusals of the entries are those of the keys
-  pub key-may-enter : (entries : List (K × V)) (x : List ℕ) → MayEnter text entries x → KeyMayEnter text (keys_in entries) x
+  pub key-may-enter : (entries : List (K × V)) (x : List ℕ) → EntryMayEnter text entries x → KeyMayEnter text (keys_in entries) x
   key-may-enter entries x may = subst (λ texts. (length x < 2 ^ 32) × (Clashes texts x → ⊥)) (sym (texts-in entries)) may
 
-  pub key-refused : (entries : List (K × V)) (x : List ℕ) (refusal : InsertRefusal) → IsRefused text entries x refusal → IsKeyRefused text (keys_in entries) x refusal
+  pub key-refused : (entries : List (K × V)) (x : List ℕ) (refusal : InsertRefusal) → IsEntryRefused text entries x refusal → IsKeyRefused text (keys_in entries) x refusal
   key-refused entries x KeyTooLong due = due
   key-refused entries x Prefix due = (due.0, subst (λ texts. Clashes texts x) (sym (texts-in entries)) due.1)
   key-refused entries x OutOfMemory due = key-may-enter entries x due.0

@@ -1,5 +1,5 @@
 -- Entries that go into slots, out of them and back.
-use Rattle.art_map.proofs.Names.{◌≡◌, ◌≢◌, ◌⊎◌, ◌∙◌, inl, inr, ℕ, zero, suc, ◌+◌, ◌-◌, ◌<◌, ◌≤◌, ◌==◌, true, false, List, [], ◌∷◌, ◌++◌, length, length-append, length-map, map, map-append, take, All, AllPairs, Contains, Contains-append_cases, Option, Some, None, eqb_tells, get_or, get_or_append_left, get_or_default, refl, sym, ap, subst, arith, same_Some, AreRanks, AreTakenFrom, head_of, is_lt, put_all, put_slots, rank_order, slots_at, slot_text, text_in}
+use Rattle.art_map.proofs.Names.{◌≡◌, ◌≢◌, ◌⊎◌, ◌∙◌, inl, inr, ℕ, zero, suc, ◌+◌, ◌<◌, ◌≤◌, ◌==◌, true, false, List, [], ◌∷◌, ◌++◌, length, length-append, length-map, map, map-append, take, All, AllPairs, Contains, Contains-append_cases, Option, Some, None, eqb_tells, get_or, get_or_append_left, get_or_default, refl, sym, ap, subst, arith, same_Some, AreRanks, AreTakenFrom, head_of, is_lt, put_all, put_slots, rank_order, slots_at, slot_text, text_in}
 use Rattle.std.proofs.Math.ListN.{get_or-eq_default, set}
 use Rattle.std.proofs.Math.Seq.{get_or-append_seam}
 use Rattle.std.proofs.lemmas.Bool.{cases_lt}
@@ -86,7 +86,7 @@ module _ {K V : Type 0} (old : List (Option (K × V))) (places : List ℕ) where
         by_test (inl within) = omega (arith, within, from.as_many)
         by_test (inr past) = let wrong : None ≡ Some entry = sym (get_or-eq_default old None past) ∙ had.1 in absurd (cc)
 
-    pub put-in-place : AreTakenFrom old (set slots last-place (Some entry)) (take (length taken) places) taken
+    put-in-place : AreTakenFrom old (set slots last-place (Some entry)) (take (length taken) places) taken
     put-in-place = record {
       as_many = length-set slots last-place (Some entry) ∙ from.as_many;
       each = had.0;
@@ -103,6 +103,13 @@ module _ {K V : Type 0} (old : List (Option (K × V))) (places : List ℕ) where
             inr (ap (λ i. get_or (set slots last-place (Some entry)) i None) same.1 ∙ get_or-set_same slots last-place (Some entry) None place-within ∙ sym had.1 ∙ ap (λ i. get_or old i None) (sym same.1))
         by_index i (inr apart) (inl inside) = by_cases i apart.1 (Contains-append_cases (take (length taken) places) (last-place ∷ []) i inside)
         by_index i (inr apart) (inr same) = inr (get_or-set_other slots last-place i (Some entry) None apart.1 ∙ same)
+
+  -- the last of the entries that were taken is put back into its slot
+  pub one-less-taken : (slots : List (Option (K × V))) (all taken : List (K × V)) (entry : K × V) (n : ℕ) → all ≡ taken ++ entry ∷ [] → n ≡ length taken → AreTakenFrom old slots (take (length all) places) all → AreTakenFrom old (set slots (get_or places n 0) (Some entry)) (take (length taken) places) taken
+  one-less-taken slots all taken entry n is at from =
+      let before = subst (λ t. AreTakenFrom old slots (take (length t) places) t) is from in
+      let here = subst (λ n. AreTakenFrom old slots (take n places) (taken ++ entry ∷ [])) (length-append taken (entry ∷ [])) before in
+      subst (λ n. AreTakenFrom old (set slots (get_or places n 0) (Some entry)) (take (length taken) places) taken) (sym at) (put-in-place slots taken entry here)
 
 -- entries in slots, ranked, and the ranks sorted
 module _ {K V : Type 0} (text : K → List ℕ) (entries : List (K × V)) (slots : List (Option (K × V))) (ranks sorted : List (ℕ × ℕ)) (are : slots ≡ map (λ entry. Some entry) entries) (ranked : AreRanks text slots ranks) (moved : IsPermutation ranks sorted) where

@@ -1,5 +1,5 @@
 -- A walk along the entries between two sides of keys: what was kept, and what is left to visit.
-use Rattle.art_map.proofs.Names.{by_order, ◌≡◌, ◌≢◌, ◌∙◌, ℕ, ◌<◌, Bool, true, false, not, cond, ◌||◌, List, [], ◌∷◌, ◌++◌, length, filter, All, Option, Some, None, append_assoc, append-nil, refl, sym, ap, subst, inl, inr, arith, nat_eq, nat_list_cmp_total, starts_with, CallableOnEachPair, RetainsPairs, option_map_or, is_ge, is_lt, is_le, ordering_reverse, Ordering, Less, Equal, Greater, Decides-eqb, All-nil, All-cons, All-head, All-tail, All-append, All-weaker, Contains-append_right, filter-append, starts_is, IsPrefixOf, text_order, leaf_key, LeafNode, OpaqueNodePtr, NodeArena, leaf_at, are-entries, or_parts, entries_of, texts_of, is_before, Side, Before, After, AfterBegun, HoldsFirst, IsCut, is_between, entries_from, StopsRetaining, leaf_entry, NeedsNode}
+use Rattle.art_map.proofs.Names.{by_order, ◌≡◌, ◌≢◌, ◌∙◌, ℕ, ◌<◌, Bool, true, false, not, cond, ◌||◌, List, [], ◌∷◌, ◌++◌, length, filter, All, Option, Some, None, append_assoc, append-nil, refl, sym, ap, subst, inl, inr, arith, nat_eq, nat_list_cmp_total, starts_with, CallableOnEachPair, RetainsPairs, option_map_or, is_ge, is_lt, is_le, ordering_reverse, Ordering, Less, Equal, Greater, Decides-eqb, All-nil, All-cons, All-head, All-tail, All-append, All-weaker, Contains-append_right, filter-append, starts_is, IsPrefixOf, text_order, leaf_key, LeafNode, OpaqueNodePtr, NodeArena, leaf_at, are-entries, or_parts, entries_of, texts_of, is_before, Side, Before, After, AfterBegun, HoldsFirst, IsSplit, is_between, entries_from, StopsRetaining, leaf_entry, NeedsNode}
 use Rattle.art_map.proofs.CallLaws.{Ascend, ascend_rest, image_inside, none_below, order_itself, same_order}
 use Rattle.art_map.proofs.CursorLemmas.{all-above, behind-ascend}
 use Rattle.art_map.proofs.FrontLemmas.{above-longer, begun, none-kept}
@@ -56,7 +56,7 @@ module _ (key a b : List ℕ) (below : text_order a b ≡ Less) where
       by_begun above not_begun b_high true begins = absurd (begun-by begins above not_begun)
       by_begun above not_begun b_high false begins = ap (λ t. t || false) b_high
 
-keep-those : {X : Type 0} (p : X → Bool) (xs : List X) → All (λ x. p x ≡ true) xs → filter p xs ≡ xs
+pub keep-those : {X : Type 0} (p : X → Bool) (xs : List X) → All (λ x. p x ≡ true) xs → filter p xs ≡ xs
 keep-those p [] all = refl
 keep-those p (x ∷ xs) all = ap (λ t. cond t (x ∷ filter p xs) (filter p xs)) (All-head (λ x. p x ≡ true) x xs all) ∙ ap (λ ys. x ∷ ys) (keep-those p xs (All-tail (λ x. p x ≡ true) x xs all))
 
@@ -86,7 +86,7 @@ module _ {K V : Type 0} (text : K → List ℕ) where
     left-at None = 0
     left-at (Some key) = option_map_or (λ leaf. length (entries_from text (text (leaf_key leaf)) (entries_of text arena))) (leaf_at arena key) 0
 
-    pub left-is : (before : List (K × V)) (at : Option ℕ) (after : List (K × V)) → IsCut text arena before at after → left-at at ≡ length after
+    pub left-is : (before : List (K × V)) (at : Option ℕ) (after : List (K × V)) → IsSplit text arena before at after → left-at at ≡ length after
     left-is before None after (is, none) = sym (ap length none)
     left-is before (Some key) after (is, (leaf, rest, there, first)) =
         let whole = is ∙ ap (λ es. before ++ es) first in
@@ -120,7 +120,7 @@ module _ {F K V : Type 0} {P : ℕ} (text : K → List ℕ) (T : F → K → V �
     pub before : List (K × V)
     pub kept : List (K × V)
     pub todo : List (K × V)
-    pub cut : IsCut text now (before ++ kept) at todo
+    pub cut : IsSplit text now (before ++ kept) at todo
     pub low : All (λ entry. (passes text start_side start end_side end) entry ≡ false) before
     pub kept_within : All (λ entry. (passes text start_side start end_side end) entry ≡ true) kept
     pub high : All (λ entry. is_before start_side start (text entry.0) ≡ false) todo
@@ -130,7 +130,7 @@ module _ {F K V : Type 0} {P : ℕ} (text : K → List ℕ) (T : F → K → V �
     pub stopped : (last : NodeArena K V P) (rest : List (K × V)) → StopsRetaining T (key-needs text last) f ((within text start_side start end_side end) todo) rest → StopsRetaining T (key-needs text last) origin ((within text start_side start end_side end) old) (kept ++ rest)
 
   -- before the first visit
-  pub walking-start : (now : NodeArena K V P) (at : Option ℕ) (before after : List (K × V)) → IsCut text now before at after → All (λ entry. is_before start_side start (text entry.0) ≡ true) before → All (λ entry. is_before start_side start (text entry.0) ≡ false) after
+  pub walking-start : (now : NodeArena K V P) (at : Option ℕ) (before after : List (K × V)) → IsSplit text now before at after → All (λ entry. is_before start_side start (text entry.0) ≡ true) before → All (λ entry. is_before start_side start (text entry.0) ≡ false) after
       → entries_of text now ≡ old → CallableOnEachPair T Q origin ((within text start_side start end_side end) old) → IsWalking now at origin
   walking-start now at before after (is, first) low high same callable =
       let out : All (λ entry. (passes text start_side start end_side end) entry ≡ false) before = All-weaker (λ entry. is_before start_side start (text entry.0) ≡ true) (λ entry. (passes text start_side start end_side end) entry ≡ false) (λ entry early. between-no (is_before start_side start (text entry.0)) (is_before end_side end (text entry.0)) early) before low in
@@ -205,7 +205,7 @@ module _ {F K V : Type 0} {P : ℕ} {text : K → List ℕ} {T : F → K → V �
     pub leaf-there : leaf_at now key ≡ Some leaf-now
     leaf-there = first-now.2
 
-    pub cut-now : IsCut text now (is.before ++ is.kept) (Some key) (entry-now ∷ rest-now)
+    pub cut-now : IsSplit text now (is.before ++ is.kept) (Some key) (entry-now ∷ rest-now)
     cut-now = (is.cut.0 ∙ ap (λ es. (is.before ++ is.kept) ++ es) first-now.3, (leaf-now, rest-now, leaf-there, refl))
 
     high-now : All (λ entry. is_before start_side start (text entry.0) ≡ false) (entry-now ∷ rest-now)
@@ -241,12 +241,12 @@ module _ {F K V : Type 0} {P : ℕ} {text : K → List ℕ} {T : F → K → V �
         tested = (entry-now.0, value)
 
         -- the entry was visited, and the walk goes on
-        pub walking-next : (next : Option ℕ) → IsCut text new (cond keeps ((is.before ++ is.kept) ++ tested ∷ []) (is.before ++ is.kept)) next rest-now → IsWalking text T Q start_side start end_side end origin old new next f'
+        pub walking-next : (next : Option ℕ) → IsSplit text new (cond keeps ((is.before ++ is.kept) ++ tested ∷ []) (is.before ++ is.kept)) next rest-now → IsWalking text T Q start_side start end_side end origin old new next f'
         walking-next next cut = record {
           before = is.before;
           kept = cond keeps (is.kept ++ tested ∷ []) is.kept;
           todo = rest-now;
-          cut = subst (λ es. IsCut text new es next rest-now) (assoc keeps) cut;
+          cut = subst (λ es. IsSplit text new es next rest-now) (assoc keeps) cut;
           low = is.low;
           kept_within = kept-on keeps;
           high = All-tail (λ entry. is_before start_side start (text entry.0) ≡ false) entry-now rest-now high-now;
@@ -289,6 +289,6 @@ module _ {F K V : Type 0} {P : ℕ} {text : K → List ℕ} {T : F → K → V �
               ∙ ap (λ es. is.before ++ es) (one-kept (λ entry. not (p entry)) tested rest-now false (ap not passes-now) ∙ sym outside-rest) ∙ sym is.others
 
       -- fewer entries are left
-      pub fewer-left : (new : NodeArena K V P) (front : List (K × V)) (next : Option ℕ) → IsCut text new front next rest-now → left-at text new next < left-at text now at
+      pub fewer-left : (new : NodeArena K V P) (front : List (K × V)) (next : Option ℕ) → IsSplit text new front next rest-now → left-at text new next < left-at text now at
       fewer-left new front next cut =
           omega (arith, left-is text now (is.before ++ is.kept) (Some key) (entry-now ∷ rest-now) cut-now, left-is text new front next rest-now cut, ap (left-at text now) at_is)

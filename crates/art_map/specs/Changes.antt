@@ -8,12 +8,12 @@ use Rattle.art_map.specs.Entries.{entry_with}
 
 module _ {K V : Type 0} (text : K → List ℕ) where
   -- nothing but an allocation failure refuses an entry with this text
-  abbrev pub MayEnter : List (K × V) → List ℕ → Type 0
-  MayEnter entries x = (length x < 2 ^ 32) × (¬ Clashes (texts_of text entries) x)
+  abbrev pub EntryMayEnter : List (K × V) → List ℕ → Type 0
+  EntryMayEnter entries x = (length x < 2 ^ 32) × (¬ Clashes (texts_of text entries) x)
 
   -- the first refusal that is due to an entry with this text; memory is needed only for a text
   -- without an entry
-  abbrev pub IsRefused : List (K × V) → List ℕ → InsertRefusal → Type 0
-  IsRefused entries x KeyTooLong = 2 ^ 32 ≤ length x
-  IsRefused entries x Prefix = (length x < 2 ^ 32) × Clashes (texts_of text entries) x
-  IsRefused entries x OutOfMemory = MayEnter entries x × (entry_with text entries x ≡ None)
+  abbrev pub IsEntryRefused : List (K × V) → List ℕ → InsertRefusal → Type 0
+  IsEntryRefused entries x KeyTooLong = 2 ^ 32 ≤ length x
+  IsEntryRefused entries x Prefix = (length x < 2 ^ 32) × Clashes (texts_of text entries) x
+  IsEntryRefused entries x OutOfMemory = EntryMayEnter entries x × (entry_with text entries x ≡ None)

@@ -3,14 +3,14 @@ use Rattle.std.specs.Prelude.{◌≡◌, ℕ, List, Result, is_some, if◌then�
 use Rattle.std.specs.Borrow.{RattleType, Fml, MutBor, LendsSoOk}
 use Rattle.art_tree.specs.Entries.{put_entry}
 use Rattle.art_tree.specs.TreeLending.{tree_row}
-use Rattle.art_map.specs.Entries.{entry_with, with_value}
+use Rattle.art_map.specs.Entries.{entry_with, entries_with_value}
 use Rattle.art_map.specs.MapLending.{seen_row}
 use Rattle.art_map.specs.Memory.{TreeFact, GrownFor}
 
 -- these entries with this value under the key: in the entry that has its text, or else in a new one at its place
 abbrev pub set_value : {K V : Type 0} → (K → List ℕ) → List (K × V) → K → V → List (K × V)
 set_value text entries key value =
-    if is_some (entry_with text entries (text key)) then with_value text entries (text key) value else put_entry text entries (key, value)
+    if is_some (entry_with text entries (text key)) then entries_with_value text entries (text key) value else put_entry text entries (key, value)
 
 -- a map ends with the value that was left behind the reference under the key, or with the entries that it had; memory is
 -- taken only for nodes that an entry with the key's text needs

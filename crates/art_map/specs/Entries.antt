@@ -18,5 +18,5 @@ if_prefix text x None = None
 if_prefix text x (Some entry) = if starts_with nat_eq x (text entry.0) then Some entry else None
 
 -- these entries, of which the one whose key has this text has this value
-abbrev pub with_value : {K V : Type 0} → (K → List ℕ) → List (K × V) → List ℕ → V → List (K × V)
-with_value text entries x value = map (λ entry. (entry.0, if pointwise nat_eq (text entry.0) x then value else entry.1)) entries
+abbrev pub entries_with_value : {K V : Type 0} → (K → List ℕ) → List (K × V) → List ℕ → V → List (K × V)
+entries_with_value text entries x value = map (λ entry. (entry.0, if pointwise nat_eq (text entry.0) x then value else entry.1)) entries

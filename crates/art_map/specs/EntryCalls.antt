@@ -1,5 +1,5 @@
 -- The entry of a key in a map: the map that it borrows, its key, and what the map ends as.
-use Rattle.std.specs.Prelude.{◌≡◌, ℕ, List, Bool, true, false, Option, Result, ⊤}
+use Rattle.std.specs.Prelude.{◌≡◌, ℕ, List, Bool, true, false, Option, None, Result, ⊤}
 use Rattle.std.specs.Borrow.{RattleType, Fml, MutBor}
 use Rattle.std.specs.Option.{option_map}
 use Rattle.art_tree.specs.Entries.{entries_of}
@@ -29,6 +29,12 @@ module _ {M K : Type 0} where
 -- the value under this key
 abbrev pub value_with : {K V : Type 0} → (K → List ℕ) → List (K × V) → K → Option V
 value_with text entries key = option_map (λ entry. entry.1) (entry_with text entries (text key))
+
+module _ {K V : Type 0} (text : K → List ℕ) where
+  -- the value of an entry that is there
+  abbrev pub entry_value : EntryOver (List (K × V)) K → Option V
+  entry_value (Occupied entry) = value_with text entry.map.now entry.key
+  entry_value (Vacant entry) = None
 
 module _ (K V P : RattleType) (text : K.Denot → List ℕ) (is_key : K.Denot → Type 0) (map : MutBor (List (K.Denot × V.Denot))) (key : K.Denot) where
   -- a map ends with the value that was left behind the reference under the key, or with the entries that it had

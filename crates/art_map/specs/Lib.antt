@@ -7,6 +7,7 @@ pub mod Entries
 pub mod EntryCalls
 pub mod Extending
 pub mod LeafEntries
+pub mod MapCursors
 pub mod MapLending
 pub mod Memory
 pub mod Merges

@@ -2,7 +2,7 @@
 use Rattle.std.specs.Prelude.{◌≡◌, ℕ, List, Option, OnSome}
 use Rattle.std.specs.Borrow.{RattleType, Fml, MutBor, Lends, LendsSo}
 use Rattle.art_tree.specs.TreeLending.{tree_row}
-use Rattle.art_map.specs.Entries.{with_value}
+use Rattle.art_map.specs.Entries.{entries_with_value}
 use Rattle.art_map.specs.Memory.{TreeFact, KeptRoom}
 use Rattle.art_map.specs.contracts.map.MapOver.{the_row}
 
@@ -16,7 +16,7 @@ abbrev pub LendsValueIn : (K V P S : RattleType) (text : K.Denot → List ℕ) (
     (S.Denot → List (K.Denot × V.Denot)) → (S.Denot → S.Denot → List (K.Denot × V.Denot) → TreeFact K.Denot V.Denot → Type 0) →
     MutBor S.Denot → List ℕ → Option (MutBor V.Denot) → Fml
 LendsValueIn K V P S text is_key seen entries ends_with map x result =
-    LendsSo (seen_row K V P S text is_key seen) V map result (λ now value. OnSome result (ends_with map.now now (with_value text (entries map.now) x value) KeptRoom)) (λ now. now ≡ map.now)
+    LendsSo (seen_row K V P S text is_key seen) V map result (λ now value. OnSome result (ends_with map.now now (entries_with_value text (entries map.now) x value) KeptRoom)) (λ now. now ≡ map.now)
 
 -- a map ends with the tree that was left behind the reference
 abbrev pub LendsTree : (K V P S : RattleType) (text : K.Denot → List ℕ) (is_key : K.Denot → Type 0) → ((tree_row K V P text is_key).Denot → S.Denot) →

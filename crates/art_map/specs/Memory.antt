@@ -9,7 +9,7 @@ use Rattle.art_tree.specs.Art.{Art}
 use Rattle.art_tree.specs.Dictionary.{HasEntry}
 use Rattle.art_tree.specs.Ends.{PopsEntry}
 use Rattle.art_tree.specs.Removal.{NeedsSmallerNode}
-use Rattle.art_tree.specs.Room.{FreesOneEach, GrowsOnlyWhere, HasRoomFor, LacksRoomToInsert, LacksRoomToRemove}
+use Rattle.art_tree.specs.Room.{FreesOneEach, GrowsOnlyWhere, HasEntryRoom, LacksRoomToInsert, LacksRoomToRemove}
 use Rattle.art_tree.specs.declared.insert.InsertFault.{InsertFault}
 use Rattle.art_tree.specs.declared.insert.InsertRefusal.TheVariants.{OutOfMemory}
 
@@ -43,15 +43,15 @@ module _ {K V : Type 0} {P : ℕ} (old new : NodeArena K V P) where
   -- no memory is taken or given back, and there is room for as many changes as before
   pub record KeepsRoom : Type 0 where
     pub same_room : SameRoom old new
-    pub room_lasts : (count : ℕ) → HasRoomFor old count → HasRoomFor new count
+    pub room_lasts : (count : ℕ) → HasEntryRoom old count → HasEntryRoom new count
 
   -- so many removals, one after the other, take no memory where there is room for them
   pub record RemovesEachInRoom (gone : ℕ) (succeeded : Bool) : Type 0 where
-    pub takes_no_memory : (count : ℕ) → HasRoomFor old (count + gone) → succeeded ≡ true → SameCapacity old new
+    pub takes_no_memory : (count : ℕ) → HasEntryRoom old (count + gone) → succeeded ≡ true → SameCapacity old new
     -- with room for one change more none is refused
-    pub room_suffices : (count : ℕ) → HasRoomFor old (count + gone + 1) → succeeded ≡ true
+    pub room_suffices : (count : ℕ) → HasEntryRoom old (count + gone + 1) → succeeded ≡ true
     -- and there is room for so many changes fewer afterwards
-    pub room_lasts : (count : ℕ) → HasRoomFor old (count + gone) → HasRoomFor new count
+    pub room_lasts : (count : ℕ) → HasEntryRoom old (count + gone) → HasEntryRoom new count
 
 module _ {K V : Type 0} {P : ℕ} (text : K → List ℕ) (old new : Art (NodeArena K V P) (OpaqueNodePtr K V P)) where
   -- an insert takes memory only where the text has no entry, and only of a kind that the tree with it has more nodes of
@@ -62,8 +62,8 @@ module _ {K V : Type 0} {P : ℕ} (text : K → List ℕ) (old new : Art (NodeAr
     -- it is refused for memory only where there is such a kind
     pub no_room : IfErr result (λ fault. fault.refusal ≡ OutOfMemory → (kind : NodeType) × LacksRoomToInsert text old.arena old.root x kind)
     -- room for some changes suffices, and there is room for one change fewer afterwards
-    pub room_suffices : (count : ℕ) → HasRoomFor old.arena (count + 1) → IfErr result (λ fault. fault.refusal ≢ OutOfMemory)
-    pub room_lasts : (count : ℕ) → HasRoomFor old.arena (count + 1) → HasRoomFor new.arena count
+    pub room_suffices : (count : ℕ) → HasEntryRoom old.arena (count + 1) → IfErr result (λ fault. fault.refusal ≢ OutOfMemory)
+    pub room_lasts : (count : ℕ) → HasEntryRoom old.arena (count + 1) → HasEntryRoom new.arena count
 
   -- a removal takes memory only where the parent of the text's leaf needs a smaller node, and only of a kind that has no
   -- spare capacity
@@ -73,15 +73,15 @@ module _ {K V : Type 0} {P : ℕ} (text : K → List ℕ) (old new : Art (NodeAr
     -- it is refused only where there is such a kind
     pub no_room : succeeded ≡ false → (kind : NodeType) × LacksRoomToRemove text old.arena old.root x kind
     -- room for some changes suffices, and there is room for one change fewer afterwards
-    pub room_suffices : (count : ℕ) → HasRoomFor old.arena (count + 1) → succeeded ≡ true
-    pub room_lasts : (count : ℕ) → HasRoomFor old.arena (count + 1) → HasRoomFor new.arena count
+    pub room_suffices : (count : ℕ) → HasEntryRoom old.arena (count + 1) → succeeded ≡ true
+    pub room_lasts : (count : ℕ) → HasEntryRoom old.arena (count + 1) → HasEntryRoom new.arena count
 
   -- a fact is true of the tree before and after a call
   abbrev pub IsTrueOfTrees : TreeFact K V → Type 0
   IsTrueOfTrees Unchanged = new ≡ old
   IsTrueOfTrees KeptNodes = SameNodes old.arena new.arena × (new.root ≡ old.root)
   IsTrueOfTrees WithoutRoom = (kind : NodeType) → room new.arena kind ≡ 0
-  IsTrueOfTrees (WithRoomFor count) = HasRoomFor new.arena count
+  IsTrueOfTrees (WithRoomFor count) = HasEntryRoom new.arena count
   IsTrueOfTrees Emptied = SameCapacity old.arena new.arena × ((kind : NodeType) → room new.arena kind ≡ capacity old.arena kind)
   IsTrueOfTrees (Inserted x result) = InsertsInRoom x result
   IsTrueOfTrees (GrownFor x) = GrowsOnlyWhere old.arena new.arena (LacksRoomToInsert text old.arena old.root x)

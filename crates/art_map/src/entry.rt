@@ -1,16 +1,18 @@
 //! The entry of a key in a map, whether it is there or not.
-ghost use Rattle.std.specs.Prelude.{◌≡◌, IfErr, IfOk, OnErr, OnOk, None, Some, is_some};
+ghost use Rattle.std.specs.Prelude.{◌≡◌, IfErr, IfNone, IfOk, IfSome, OnErr, OnOk, None, Some, is_some};
 ghost use Rattle.std.specs.Borrow.{MutBor, sem};
+ghost use Rattle.std.specs.Fn.{FnOnceReturnsAtMut};
 ghost use Rattle.std.specs.Option.{UnwrapsOrElse, option_copied, option_copied_mut, unwrap_or};
 ghost use Rattle.art_tree.specs.Entries.{without_text};
-ghost use Rattle.art_map.specs.Changes.{IsRefused};
-ghost use Rattle.art_map.specs.Entries.{entry_with};
-ghost use Rattle.art_map.specs.EntryCalls.{LendsEntered, LendsOccupied, entry_key, entry_map, is_occupied, value_with};
+ghost use Rattle.art_map.specs.Changes.{IsEntryRefused};
+ghost use Rattle.art_map.specs.Entries.{entries_with_value, entry_with};
+ghost use Rattle.art_map.specs.EntryCalls.{LendsEntered, LendsOccupied, entry_key, entry_map, entry_value, is_occupied, value_with};
 
 use crate::map::ArtMap;
 use art_bytes::AsBytes;
 use art_tree::InsertFault;
 use std::alloc::AllocError;
+use std::mem;
 
 /// An entry that is there, in a map `M`. Callers name it [`OccupiedEntry`].
 #[derive(Drop)]
@@ -87,6 +89,7 @@ impl<K: AsBytes, V, const PREFIX_LEN: usize> ArtMap<K, V, PREFIX_LEN> {
         ensures same_entries { (entry_map result).now ≡ self.old }
         ensures key { entry_key result ≡ key }
         ensures occupied { is_occupied result ≡ is_some (entry_with K.text self.old (K.text key)) }
+        ensures value { entry_value K.text result ≡ value_with K.text self.old key }
     {
         if self.contains_key(&key) {
             return Entry::Occupied(OccupiedOver { map: self, key });
@@ -117,7 +120,7 @@ impl<'a, K: AsBytes + Drop, V: Drop, const PREFIX_LEN: usize> Entry<'a, K, V, PR
             (entry_map self.entry) (entry_key self.entry) result) }
         ensures value { IfOk result (λ lent. lent.now
             ≡ unwrap_or (value_with K.text (entry_map self.entry).now (entry_key self.entry)) value) }
-        ensures refusal_due { IfErr result (λ fault. IsRefused K.text (entry_map self.entry).now
+        ensures refusal_due { IfErr result (λ fault. IsEntryRefused K.text (entry_map self.entry).now
             (K.text (entry_key self.entry)) fault.refusal) }
         ensures no_entry { OnErr result (entry_with K.text (entry_map self.entry).now
             (K.text (entry_key self.entry)) ≡ None) }
@@ -135,7 +138,7 @@ impl<'a, K: AsBytes + Drop, V: Drop, const PREFIX_LEN: usize> Entry<'a, K, V, PR
             (entry_map self.entry) (entry_key self.entry) result) }
         ensures value { IfOk result (λ lent. UnwrapsOrElse
             (value_with K.text (entry_map self.entry).now (entry_key self.entry)) (F.post make) lent.now) }
-        ensures refusal_due { IfErr result (λ fault. IsRefused K.text (entry_map self.entry).now
+        ensures refusal_due { IfErr result (λ fault. IsEntryRefused K.text (entry_map self.entry).now
             (K.text (entry_key self.entry)) fault.refusal) }
         ensures no_entry { OnErr result (entry_with K.text (entry_map self.entry).now
             (K.text (entry_key self.entry)) ≡ None) }
@@ -154,8 +157,9 @@ impl<'a, K: AsBytes + Drop, V: Drop, const PREFIX_LEN: usize> Entry<'a, K, V, PR
         }
     }
 
-    /// Calls the closure at the value, which it may change, where the entry is there. Returns the entry.
-    /// Costs as much as [`get`](ArtMap::get). Takes no memory.
+    /// Calls the closure at the value, which it may change, where the entry is there, and returns the
+    /// entry. Other entries are as they were, and all are where there is none. Costs as much as
+    /// [`get`](ArtMap::get). Takes no memory.
     ///
     /// A map with `tin`:
     ///
@@ -171,6 +175,11 @@ impl<'a, K: AsBytes + Drop, V: Drop, const PREFIX_LEN: usize> Entry<'a, K, V, PR
         ensures same_map { (entry_map result).ghost_name ≡ (entry_map self.entry).ghost_name }
         ensures same_key { entry_key result ≡ entry_key self.entry }
         ensures same_kind { is_occupied result ≡ is_occupied self.entry }
+        ensures changed { IfSome (entry_value K.text self.entry) (λ value. (now : V)
+            × FnOnceReturnsAtMut F.FnOnce change value tt now × ((entry_map result).now
+            ≡ entries_with_value K.text (entry_map self.entry).now (K.text (entry_key self.entry)) now)) }
+        ensures same_entries { IfNone (entry_value K.text self.entry)
+            ((entry_map result).now ≡ (entry_map self.entry).now) }
     {
         match self {
             Entry::Occupied(entry) => {
@@ -198,6 +207,41 @@ impl<'a, K: AsBytes + Drop, V: Drop, const PREFIX_LEN: usize> OccupiedEntry<'a, 
         ensures { option_copied result ≡ value_with K.text self.now.map.now self.now.key }
     {
         self.map.get(&self.key)
+    }
+
+    /// A mutable reference to the value, which the caller may change. Costs as much as
+    /// [`get`](ArtMap::get). Takes no memory.
+    ///
+    /// No clause says what the map is afterwards: where a proof needs it, take [`insert`](Self::insert),
+    /// [`into_mut`](Self::into_mut) or [`and_modify`](EntryOver::and_modify).
+    ///
+    /// A map with `tin`:
+    ///
+    /// (from tests/art_map_tests/map/entry_calls.rt.txt)
+    /// ```rust
+    /// if let Some(price) = entry.get_mut() {
+    ///     *price += 1;
+    /// }
+    /// assert!(rt; entry.insert(60) == Some(51));
+    /// ```
+    pub fn get_mut(&mut self) -> Option<&mut V>
+        ensures { option_copied_mut result ≡ value_with K.text self.old.map.now self.old.key }
+    {
+        let OccupiedOver { map, key } = self;
+        map.get_mut(key)
+    }
+
+    /// Replaces the value, and returns the one that was there. Costs as much as [`get`](ArtMap::get).
+    /// Takes no memory. See [`get_mut`](Self::get_mut) for an example.
+    pub fn insert(&mut self, value: V) -> Option<V>
+        ensures same_map { self.new.map.ghost_name ≡ self.old.map.ghost_name }
+        ensures same_key { self.new.key ≡ self.old.key }
+        ensures replaced { result ≡ value_with K.text self.old.map.now self.old.key }
+        ensures entries { self.new.map.now
+            ≡ entries_with_value K.text self.old.map.now (K.text self.old.key) value }
+    {
+        let held = self.map.get_mut(&self.key)?;
+        Some(mem::replace(held, value))
     }
 
     /// A mutable reference to the value, for as long as the map is borrowed. The map ends with the value
@@ -251,10 +295,18 @@ impl<'a, K: AsBytes + Drop, V: Drop, const PREFIX_LEN: usize> VacantEntry<'a, K,
     }
 
     /// Adds the entry with this value, and returns a mutable reference to it. Refused and costs as
-    /// [`insert`](ArtMap::insert) of the map; the entries are then unchanged.
+    /// [`insert`](ArtMap::insert) of the map, with key and value; the entries are then unchanged.
     pub fn insert(self, value: V) -> Result<&'a mut V, InsertFault<K, V>>
         ensures* writes_back { sem 𝓛 (LendsEntered K.row V.row PREFIX_LEN.row K.text K.is_key
             self.entry.map self.entry.key result) }
+        ensures value { IfOk result (λ lent. lent.now
+            ≡ unwrap_or (value_with K.text self.entry.map.now self.entry.key) value) }
+        ensures refusal_due { IfErr result (λ fault. IsEntryRefused K.text self.entry.map.now
+            (K.text self.entry.key) fault.refusal) }
+        ensures no_entry { OnErr result (entry_with K.text self.entry.map.now
+            (K.text self.entry.key) ≡ None) }
+        ensures entry_back { IfErr result
+            (λ fault. (fault.key ≡ self.entry.key) × (fault.value ≡ value)) }
     {
         let VacantOver { map, key } = self;
         map.get_or_insert_with(key, move || value)

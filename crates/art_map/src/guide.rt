@@ -3,7 +3,7 @@
 //! A leaf names the next one, so a walk along the links waits for each leaf before it asks for the
 //! next. A node names all its children, and their leaves come from memory at the same time. A guide is
 //! a guess alone: whoever follows it compares each leaf with the one that the link names.
-use art_arena::{ArenaInnerNode, End, NodeArena};
+use art_arena::{ArenaInnerNode, End, LeafPtr, NodeArena};
 use art_bytes::AsBytes;
 use art_nodes::{
     ConcreteNodePtr, InnerNode4, InnerNode16, InnerNode48, InnerNode256, InnerNodeRead, LeafNode,
@@ -130,7 +130,7 @@ fn step<K, V, const PREFIX_LEN: usize, N: ArenaInnerNode<K, V, PREFIX_LEN>>(
 // Whether the leaf that the link names lies near this one in memory.
 fn is_next_near<K, V, const PREFIX_LEN: usize>(
     arena: &NodeArena<K, V, PREFIX_LEN>,
-    leaf: NodePtr<PREFIX_LEN, LeafNode<K, V, PREFIX_LEN>>,
+    leaf: LeafPtr<K, V, PREFIX_LEN>,
     end: End,
 ) -> bool {
     if !arena.holds(leaf) {
@@ -180,7 +180,7 @@ impl Guide {
     pub(crate) fn next<K: AsBytes, V, const PREFIX_LEN: usize>(
         &mut self,
         arena: &NodeArena<K, V, PREFIX_LEN>,
-        leaf: NodePtr<PREFIX_LEN, LeafNode<K, V, PREFIX_LEN>>,
+        leaf: LeafPtr<K, V, PREFIX_LEN>,
         end: End,
     ) -> Option<usize> {
         if self.is_off {
@@ -232,7 +232,7 @@ impl Guide {
     fn look_ahead<K: AsBytes, V, const PREFIX_LEN: usize>(
         &mut self,
         arena: &NodeArena<K, V, PREFIX_LEN>,
-        leaf: NodePtr<PREFIX_LEN, LeafNode<K, V, PREFIX_LEN>>,
+        leaf: LeafPtr<K, V, PREFIX_LEN>,
     ) -> Option<usize> {
         self.count = 0;
         if self.depth == 0 {
@@ -293,7 +293,7 @@ impl Guide {
     fn seek<K: AsBytes, V, const PREFIX_LEN: usize>(
         &mut self,
         arena: &NodeArena<K, V, PREFIX_LEN>,
-        leaf: NodePtr<PREFIX_LEN, LeafNode<K, V, PREFIX_LEN>>,
+        leaf: LeafPtr<K, V, PREFIX_LEN>,
     ) {
         if !arena.holds(leaf) {
             return;

@@ -2,12 +2,12 @@
 ghost use Rattle.std.specs.Prelude.{◌≡◌, ◌+◌, length, Some, map};
 ghost use Rattle.std.specs.Iterator.{YieldsFirst, YieldsLast, item_count};
 ghost use Rattle.art_arena.specs.Arena.{leaf_count};
-ghost use Rattle.art_map.specs.Runs.{run_of, IsRun, IsTaken};
+ghost use Rattle.art_map.specs.Runs.{run_entries, IsRun, IsTaken};
 
 use crate::guide::Guide;
 use crate::iter::HasRuns;
-use crate::run_ends::{Ends, LeafPtr, ends_without, leaf_at_end, with_expected};
-use art_arena::{End, NodeArena};
+use crate::run_ends::{Ends, ends_without, leaf_at_end, with_expected};
+use art_arena::{End, LeafPtr, NodeArena};
 use art_bytes::AsBytes;
 use art_nodes::OpaqueNodePtr;
 use std::iter::FusedIterator;
@@ -55,7 +55,7 @@ fn take_out<K, V, const PREFIX_LEN: usize>(
     end: End,
 ) -> ((K, V), Option<Ends<K, V, PREFIX_LEN>>)
     requires { IsRun arena.old (Some ends) }
-    ensures taken { IsTaken end (run_of arena.old (Some ends)) result.0 (run_of arena.new result.1) }
+    ensures taken { IsTaken end (run_entries arena.old (Some ends)) result.0 (run_entries arena.new result.1) }
     ensures rest { IsRun arena.new result.1 }
     ensures fewer { leaf_count arena.old ≡ leaf_count arena.new + 1 }
 {
@@ -192,8 +192,8 @@ pub(crate) fn run_taken<K, V, const PREFIX_LEN: usize>(
     ends: Option<Ends<K, V, PREFIX_LEN>>,
 ) -> IntoIter<K, V, PREFIX_LEN>
     requires run { IsRun arena ends }
-    requires whole { length (run_of arena ends) ≡ leaf_count arena }
-    ensures { result ≡ run_of arena ends }
+    requires whole { length (run_entries arena ends) ≡ leaf_count arena }
+    ensures { result ≡ run_entries arena ends }
 {
     let guide = Guide::new(root, arena.leaf_count());
     OwnedRun {

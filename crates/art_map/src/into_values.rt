@@ -4,8 +4,7 @@ ghost use Rattle.std.specs.Iterator.{YieldsFirst, YieldsLast, item_count};
 
 use crate::into_iter::{IntoIter, OwnedRun};
 use crate::iter::HasRuns;
-use crate::run_ends::LeafPtr;
-use art_arena::NodeArena;
+use art_arena::{LeafPtr, NodeArena};
 use art_bytes::AsBytes;
 use std::iter::FusedIterator;
 use std::marker::Model;

@@ -3,8 +3,7 @@ ghost use Rattle.std.specs.Prelude.{◌≡◌, map, ⊤};
 ghost use Rattle.std.specs.Iterator.{YieldsFirstBy, YieldsLastBy, item_count};
 
 use crate::iter::{HasRuns, Iter, Run};
-use crate::run_ends::LeafPtr;
-use art_arena::NodeArena;
+use art_arena::{LeafPtr, NodeArena};
 use art_bytes::AsBytes;
 use std::alloc::AllocError;
 use std::iter::FusedIterator;

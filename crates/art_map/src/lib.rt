@@ -10,6 +10,7 @@
 #![tactic(auto)]
 
 mod cursor;
+mod cursor_mut;
 mod debug;
 mod entry;
 mod extend_fault;
@@ -35,6 +36,7 @@ pub use art_tree::{
     Identity, InsertFault, InsertRefusal, LoadFault, LoadRefusal, Mapped, NoPrefixesBytes,
     OrderedBytes, SliceKey, StrKey, ToIBE, ToOctets, ToUBE, escaped_prefix,
 };
+pub use cursor_mut::CursorMut;
 pub use entry::{Entry, OccupiedEntry, VacantEntry};
 pub use extend_fault::{ExtendFault, ExtendKeysFault, StoppedAt};
 pub use into_iter::{IntoIter, IntoKeys};
@@ -49,6 +51,7 @@ pub use view::{EntryList, MapView, ShowsMap, ViewOf};
 /// What the aliases above stand for. The compiler needs these names; no caller writes them.
 #[doc(hidden)]
 pub mod parts {
+    pub use crate::cursor_mut::CursorOver;
     pub use crate::entry::{EntryOver, OccupiedOver, VacantOver};
     pub use crate::into_iter::{OwnedKeys, OwnedRun};
     pub use crate::into_values::OwnedValues;

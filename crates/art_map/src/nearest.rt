@@ -11,7 +11,7 @@ ghost use Rattle.art_tree.specs.Sides.{is_before, IsNextTo};
 ghost use Rattle.art_tree.specs.declared.place.Side.{Side};
 ghost use Rattle.art_map.specs.Nearest.{IsNearest, entry_nearest};
 
-use crate::run_ends::LeafPtr;
+use art_arena::LeafPtr;
 use art_bytes::AsBytes;
 use art_tree::{ArtTree, End, NodeArena, Side, leaf_beside};
 

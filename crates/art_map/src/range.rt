@@ -3,7 +3,7 @@ ghost use Rattle.std.specs.Prelude.{◌≡◌, filter};
 ghost use Rattle.art_tree.specs.Entries.{entries_of};
 ghost use Rattle.art_tree.specs.Sides.{is_before};
 ghost use Rattle.art_map.specs.Nearest.{is_between};
-ghost use Rattle.art_map.specs.Runs.{run_of, IsRun};
+ghost use Rattle.art_map.specs.Runs.{run_entries, IsRun};
 
 use crate::nearest::leaf_toward;
 use crate::run_ends::Ends;
@@ -32,7 +32,7 @@ pub(crate) fn ends_between<K: AsBytes, V, const PREFIX_LEN: usize>(
     end: &[u8],
 ) -> Option<Ends<K, V, PREFIX_LEN>>
     ensures run { IsRun tree.now.arena result }
-    ensures entries { run_of tree.now.arena result ≡ filter
+    ensures entries { run_entries tree.now.arena result ≡ filter
         (λ entry. is_between start_side start.now end_side end.now (K.text entry.0))
         (entries_of K.text tree.now.arena) }
 {

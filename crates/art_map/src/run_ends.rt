@@ -5,14 +5,8 @@ ghost use Rattle.art_arena.specs.Links.{leaf_at};
 ghost use Rattle.art_map.specs.Runs.{at_end, IsRun, StepsOver};
 
 use crate::guide::Guide;
-use art_arena::End;
+use art_arena::{End, LeafPtr};
 use art_nodes::{LeafNode, NodePtr};
-
-/// A pointer to a leaf.
-pub(crate) type LeafPtr<K, V, const PREFIX_LEN: usize> = NodePtr<
-    PREFIX_LEN,
-    LeafNode<K, V, PREFIX_LEN>,
->;
 
 /// The first leaf of a run, and the last one.
 pub(crate) type Ends<K, V, const PREFIX_LEN: usize> = (

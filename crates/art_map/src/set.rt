@@ -2,14 +2,14 @@
 ghost use Rattle.std.specs.Prelude.{◌≡◌, []};
 ghost use Rattle.std.specs.Option.{option_copied, option_map};
 
-mod changes;
-mod comparing;
-mod ends;
-mod laws;
+mod end_keys;
+mod key_changes;
+mod key_laws;
+mod key_ranges;
 mod many_keys;
 mod merging;
-mod ranges;
-mod reading;
+mod reading_keys;
+mod relations;
 
 use crate::map::{ArtMap, MapOver};
 use crate::view::{EntryList, ViewOf};

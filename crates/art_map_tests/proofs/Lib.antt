@@ -1,1 +1,2 @@
+mod EntryChanges
 mod FirstItems

@@ -1,5 +1,6 @@
 pub mod BitLemmas
 pub mod ByteLemmas
+pub mod CallLaws
 pub mod CoveredLemmas
 pub mod CoveringLemmas
 pub mod KeyLemmas
@@ -8,4 +9,5 @@ pub mod LongestLemmas
 pub mod OrderLemmas
 pub mod PutLemmas
 pub mod RouteLemmas
+pub mod TextLemmas
 pub mod ResultLemmas

@@ -3,12 +3,9 @@ use Rattle.std.proofs.Common.{◌≡◌, ◌∙◌, List, [], ◌∷◌, ◌++�
 use Rattle.std.proofs.lemmas.List.Elements.{Contains-append_right}
 use Rattle.art_routes.specs.Networks.{Block}
 use Rattle.art_routes.specs.Tables.{put_route, put_routes}
+use Rattle.art_routes.proofs.CallLaws.{put_last}
 
 module _ {V : Type 0} where
-  put_last : (routes done : List (Block × V)) (route : Block × V) → put_routes routes (done ++ route ∷ []) ≡ put_route (put_routes routes done) route.0 route.1
-  put_last routes [] route = refl
-  put_last routes (first ∷ done) route = put_last (put_route routes first.0 first.1) done route
-
   -- some of the routes are put, and the others are left
   pub record ArePut (all left table : List (Block × V)) : Type 0 where
     pub done : List (Block × V)

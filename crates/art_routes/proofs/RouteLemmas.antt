@@ -12,10 +12,10 @@ use Rattle.std.proofs.lemmas.Option.{slice_get-map}
 use Rattle.art_bytes.specs.Text.{text_order}
 use Rattle.art_tree.specs.Entries.{put_entry, without_text}
 use Rattle.art_tree.specs.Refusals.{texts_of}
-use Rattle.art_map.specs.Entries.{entry_with}
+use Rattle.art_map.specs.Entries.{entry_with, entries_with_value}
 use Rattle.art_routes.specs.Keys.{IsKey, key_text, network_of, routes_of, last_up_to}
 use Rattle.art_routes.specs.Networks.{Block, IsNetwork, network_order}
-use Rattle.art_routes.specs.Tables.{AreInOrder, put_route, value_of, without_route}
+use Rattle.art_routes.specs.Tables.{AreInOrder, put_route, value_of, with_value, without_route}
 use Rattle.art_routes.proofs.KeyLemmas.{back, key_is, key_order}
 
 -- pairs in a list that begins with one more
@@ -91,6 +91,19 @@ module _ {V : Type 0} where
       by_test true same rest = rw (← same) refl
       by_test false same rest = rw (← same) rest
 
+  -- another value under a key
+  pub with-keys : (entries : List (List ℕ × V)) (x : List ℕ) (value : V) → AreKeys entries → AreKeys (entries_with_value itself entries x value)
+  with-keys [] x value all = all
+  with-keys (entry ∷ entries) x value all =
+      All-cons (λ e. IsKey e.0) (entry.0, cond (pointwise nat_eq entry.0 x) value entry.1) (entries_with_value itself entries x value) (here entry entries all) (with-keys entries x value (later entry entries all))
+
+  with-read : (entries : List (List ℕ × V)) (x : List ℕ) (value : V) → AreKeys entries → IsKey x → routes_of (entries_with_value itself entries x value) ≡ with_value (routes_of entries) (network_of x) value
+  with-read [] x value all is = refl
+  with-read (entry ∷ entries) x value all is =
+      let same = same-read entry.0 x (here entry entries all) is in
+      let rest = with-read entries x value (later entry entries all) is in
+      λ i. (network_of entry.0, cond (same i) value entry.1) ∷ rest i
+
   -- entries are picked by their keys as routes are by their networks
   pub picked-read : (p : List ℕ → Bool) (q : Block → Bool) → ((x : List ℕ) → IsKey x → p x ≡ q (network_of x)) → (entries : List (List ℕ × V)) → AreKeys entries
       → routes_of (filter (λ entry. p entry.0) entries) ≡ filter (λ route. q route.0) (routes_of entries)
@@ -138,17 +151,21 @@ module _ {V : Type 0} where
     pub put-at : (value : V) → routes_of (put_entry itself entries (x, value)) ≡ put_route routes network value
     put-at value = put-read entries x value all x-is ∙ ap (λ n. put_route (routes_of entries) n value) key-read ∙ ap (λ rs. put_route rs network value) view_is
 
+    pub with-at : (value : V) → routes_of (entries_with_value itself entries x value) ≡ with_value routes network value
+    with-at value = with-read entries x value all x-is ∙ ap (λ n. with_value (routes_of entries) n value) key-read ∙ ap (λ rs. with_value rs network value) view_is
+
     pub without-at : routes_of (without_text itself entries x) ≡ without_route routes network
     without-at =
         picked-read (λ y. not (pointwise nat_eq y x)) (λ n. not (is_eq (network_order n network)))
         (λ y y_is. ap not (same-read y x y_is x-is ∙ ap (λ n. is_eq (network_order (network_of y) n)) key-read)) entries all
         ∙ ap (λ rs. without_route rs network) view_is
 
-    up-to-at : routes_of (filter (λ entry. is_le (text_order entry.0 x)) entries) ≡ filter (λ route. is_le (network_order route.0 network)) routes
-    up-to-at =
-        picked-read (λ y. is_le (text_order y x)) (λ n. is_le (network_order n network))
-        (λ y y_is. ap is_le (order-read y x y_is x-is ∙ ap (network_order (network_of y)) key-read)) entries all
-        ∙ ap (filter (λ route. is_le (network_order route.0 network))) view_is
+    -- the entries on a side of the key are the routes on this side of the network
+    pub side-at : (side : Ordering → Bool) → routes_of (filter (λ entry. side (text_order entry.0 x)) entries) ≡ filter (λ route. side (network_order route.0 network)) routes
+    side-at side =
+        picked-read (λ y. side (text_order y x)) (λ n. side (network_order n network))
+        (λ y y_is. ap side (order-read y x y_is x-is ∙ ap (network_order (network_of y)) key-read)) entries all
+        ∙ ap (filter (λ route. side (network_order route.0 network))) view_is
 
     -- the last entry up to the key is the last route up to the network
     pub last-at : option_map (λ entry. (network_of entry.0, entry.1)) (slice_get (filter (λ entry. is_le (text_order entry.0 x)) entries) (length (filter (λ entry. is_le (text_order entry.0 x)) entries) - 1)) ≡ last_up_to network routes
@@ -156,4 +173,4 @@ module _ {V : Type 0} where
         let up = filter (λ entry. is_le (text_order entry.0 x)) entries in
         sym (slice_get-map (λ entry. (network_of entry.0, entry.1)) up (length up - 1))
         ∙ ap (λ n. slice_get (routes_of up) (n - 1)) (sym (length-map up (λ entry. (network_of entry.0, entry.1))))
-        ∙ ap (λ rs. slice_get rs (length rs - 1)) up-to-at
+        ∙ ap (λ rs. slice_get rs (length rs - 1)) (side-at is_le)

@@ -1,3 +1,5 @@
 pub mod Networks
 pub mod Tables
 pub mod Keys
+pub mod Lending
+pub mod Texts

@@ -1,7 +1,7 @@
 -- A table as the list of its routes, each a network and its value, in the order of the networks.
-use Rattle.std.specs.Prelude.{◌≡◌, ◌≤◌, true, false, not, List, [], ◌∷◌, All, AllPairs, Contains, Option, Some, None, filter, reverse, if◌then◌else◌}
+use Rattle.std.specs.Prelude.{◌≡◌, ◌≤◌, true, false, not, List, [], ◌∷◌, All, AllPairs, Contains, Option, Some, None, filter, map, reverse, if◌then◌else◌}
 use Rattle.std.specs.Borrow.{Bor}
-use Rattle.std.specs.Ordering.{is_eq, match_ordering}
+use Rattle.std.specs.Ordering.{is_eq, is_ge, is_gt, match_ordering}
 use Rattle.std.specs.declared.cmp.Ordering.TheVariants.{Less}
 use Rattle.art_routes.specs.declared.address.Address.{Address}
 use Rattle.art_routes.specs.Networks.{Block, contains, covers, network_order}
@@ -25,6 +25,10 @@ module _ {V : Type 0} where
   put_route [] network value = (network, value) ∷ []
   put_route (other ∷ routes) network value =
       match_ordering (network_order network other.0) ((network, value) ∷ other ∷ routes) ((network, value) ∷ routes) (other ∷ put_route routes network value)
+
+  -- the routes, of which the one to this network has this value
+  abbrev pub with_value : List (Block × V) → Block → V → List (Block × V)
+  with_value routes network value = map (λ route. (route.0, if is_eq (network_order route.0 network) then value else route.1)) routes
 
   -- the routes without the one to this network
   abbrev pub without_route : List (Block × V) → Block → List (Block × V)
@@ -63,6 +67,14 @@ module _ {V : Type 0} where
   -- the routes to this network and to those around it, the longest first
   abbrev pub covering : Block → List (Block × V) → List (Block × V)
   covering network routes = reverse (filter (λ route. covers route.0 network) routes)
+
+  -- the routes to this network and to those after it, in order
+  abbrev pub at_or_after : Block → List (Block × V) → List (Block × V)
+  at_or_after network routes = filter (λ route. is_ge (network_order route.0 network)) routes
+
+  -- those to the networks after it
+  abbrev pub behind : Block → List (Block × V) → List (Block × V)
+  behind network routes = filter (λ route. is_gt (network_order route.0 network)) routes
 
   -- the routes with each of these put among them in turn, so that of two to one network the later stays
   abbrev pub put_routes : List (Block × V) → List (Block × V) → List (Block × V)

@@ -1,6 +1,9 @@
 //! Addresses as numbers.
 ghost use Rattle.std.specs.Prelude.{◌≡◌, ◌⊎◌, ◌≢◌, ◌↔◌, ◌-◌, ◌*◌, ◌^◌, ℕ, ◌<◌, ◌≤◌, IsTrue};
+ghost use Rattle.std.specs.Net.Grammar.{IsIpText};
+ghost use Rattle.std.specs.Net.Text.{ip_text};
 ghost use Rattle.art_routes.specs.Networks.{HasBitsBehind, address_of, first_bits};
+ghost use Rattle.art_routes.specs.Texts.{address_text};
 
 use std::net::{IpAddr, Ipv4Addr, Ipv6Addr};
 
@@ -35,7 +38,9 @@ pub(crate) fn number_of(ip: IpAddr) -> Address
 pub(crate) fn ip_of(address: Address) -> IpAddr
     requires family { (address.width ≡ 32) ⊎ (address.width ≡ 128) }
     requires fits { address.bits < 2 ^ address.width }
-    ensures { address_of result ≡ address }
+    ensures number { address_of result ≡ address }
+    ensures text { ip_text result ≡ address_text address }
+    ensures spelled { IsIpText (address_text address) result }
 {
     if address.width == 32 {
         IpAddr::V4(Ipv4Addr::from_bits(address.bits as u32))

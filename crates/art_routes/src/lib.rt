@@ -8,14 +8,17 @@ mod covering;
 mod fault;
 mod holds_routes;
 mod network;
+mod refused_route;
 mod routes;
 mod table;
+mod text;
 
 pub use covering::Covering;
-pub use fault::NetworkFault;
+pub use fault::{NetworkFault, NetworkTextFault};
 pub use network::Network;
+pub use refused_route::RefusedRoute;
 pub use routes::Routes;
-pub use table::{RefusedRoute, RouteTable};
+pub use table::RouteTable;
 
 /// What the aliases above stand for. The compiler needs these names; no caller writes them.
 #[doc(hidden)]

@@ -16,7 +16,7 @@ pub(crate) const KEY_LEN: usize = 18;
 ///
 /// IPv4 networks come before those of IPv6; then they go by their first addresses, and of two with one
 /// first address the shorter comes first.
-#[derive(Clone, Copy, PartialEq, Eq)]
+#[derive(Clone, Copy, PartialEq, Eq, PartialOrd, Ord)]
 pub struct Network {
     /// The first address.
     address: Address,
@@ -47,6 +47,7 @@ impl Network {
     pub fn new(address: IpAddr, length: u8) -> Result<Network, NetworkFault>
         ensures network { IfOk result
             (λ network. network ≡ record { address = address_of address; length = length }) }
+        ensures none_behind { IfOk result IsNetwork }
         ensures fault { IfErr result (IsFault (address_of address) length) }
     {
         let address = number_of(address);
@@ -123,6 +124,7 @@ pub(crate) fn parts(network: &Network) -> (Address, u8)
     ensures family { (result.0.width ≡ 32) ⊎ (result.0.width ≡ 128) }
     ensures fits { result.0.bits < 2 ^ result.0.width }
     ensures within { result.1 ≤ result.0.width }
+    ensures network { IsNetwork network.now }
 {
     (network.address, network.count)
 }

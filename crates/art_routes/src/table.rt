@@ -1,9 +1,11 @@
 //! Tables of routes.
 ghost use Rattle.std.specs.Prelude.{◌≡◌, ◌≢◌, ◌↔◌, ◌⊎◌, ◌<◌, ◌≤◌, ◌^◌, [], All, Contains, IfErr, IfOk, IfSome, IsTrue, MatchOption, None, OnErr, OnOk, length};
-ghost use Rattle.std.specs.Option.{option_copied, option_map};
+ghost use Rattle.std.specs.Borrow.{sem};
+ghost use Rattle.std.specs.Option.{option_copied, option_copied_mut, option_map};
 ghost use Rattle.art_routes.specs.Keys.{IsKey, last_up_to as last_route_up_to, route_read};
+ghost use Rattle.art_routes.specs.Lending.{LendsRoute};
 ghost use Rattle.art_routes.specs.Networks.{IsNetwork, address_of};
-ghost use Rattle.art_routes.specs.Tables.{AreInOrder, covered as covered_routes, covering as covering_routes, IsLongest, IsLongestOver, IsShortest, NoneContains, NoneCovers, put_route, put_routes, route_now, value_of, without_route};
+ghost use Rattle.art_routes.specs.Tables.{AreInOrder, at_or_after, behind, covered as covered_routes, covering as covering_routes, IsLongest, IsLongestOver, IsShortest, NoneContains, NoneCovers, put_route, put_routes, route_now, value_of, without_route};
 
 use crate::address::{Address, number_of, shared_bits};
 use crate::covering::{Covering, CoveringOver};
@@ -11,6 +13,7 @@ use crate::holds_routes::HoldsRoutes;
 use crate::network::{
     KEY_LEN, Network, key_of, key_parts, last_of, network_at, network_from, parts,
 };
+use crate::refused_route::RefusedRoute;
 use crate::routes::{Routes, RoutesOver};
 use art_map::{ArtMap, DEFAULT_PREFIX_LEN};
 use std::alloc::{AllocError, Global};
@@ -39,15 +42,6 @@ impl<M: HoldsRoutes<V>, V> Model for TableOver<M, V> {
 
 /// The routes: values by networks, in the order of the networks, one for each. No call has a condition.
 pub type RouteTable<V> = TableOver<ArtMap<[u8; KEY_LEN], V, DEFAULT_PREFIX_LEN>, V>;
-
-/// A route that was not inserted, for an allocation failure.
-#[derive(Drop)]
-pub struct RefusedRoute<V> {
-    /// The network of the route.
-    pub network: Network,
-    /// Its value.
-    pub value: V,
-}
 
 // The value of an entry that was replaced.
 fn value_alone<V>(entry: Option<([u8; KEY_LEN], V)>) -> Option<V>
@@ -122,6 +116,28 @@ impl<V> RouteTable<V> {
         self.routes.get(&key_of(network))
     }
 
+    /// A mutable reference to the value of the route to this very network, or None where there is none.
+    /// The table ends with the same networks, and this route with the value that the caller leaves there.
+    /// Costs as much as [`get`](Self::get). Takes no memory.
+    ///
+    /// (from tests/art_routes/tests.rt.txt)
+    /// ```rust
+    /// if let Some(value) = table.get_mut(&nine) {
+    ///     *value = 11;
+    /// }
+    /// assert!(rt; table.get(&nine) == Some(&11));
+    /// ```
+    pub fn get_mut(&mut self, network: &Network) -> Option<&mut V>
+        ensures* writes_back { sem 𝓛 (LendsRoute V.row self.entry network.now result) }
+        ensures value { option_copied_mut result ≡ value_of self.old network.now }
+    {
+        let key = key_of(network);
+        match self.routes.get_mut(&key) {
+            Some(value) => Some(value),
+            None => None,
+        }
+    }
+
     /// Removes the route to this very network, if there is one, and returns its value.
     ///
     /// An allocation may fail only where there is such a route. The routes are then unchanged.
@@ -157,6 +173,35 @@ impl<V> RouteTable<V> {
             entries: self
                 .routes
                 .range(Bound::Included(&first), Bound::Included(&last)),
+            value: PhantomData,
+        }
+    }
+
+    /// The routes to this network and to those after it, in order, and from the back in the opposite order.
+    /// Costs as much as [`covered`](Self::covered). Takes no memory.
+    ///
+    /// (from tests/art_routes/tests.rt.txt)
+    /// ```rust
+    /// assert!(rt; is_value(table.iter_from(&ten).next(), 2));
+    /// assert!(rt; is_value(table.iter_after(&ten).next(), 3));
+    /// ```
+    pub fn iter_from(&self, network: &Network) -> Routes<'_, V>
+        ensures { result ≡ at_or_after network.now self.now }
+    {
+        let first = key_of(network);
+        RoutesOver {
+            entries: self.routes.range(Bound::Included(&first), Bound::Unbounded),
+            value: PhantomData,
+        }
+    }
+
+    /// The routes to the networks after this one, as [`iter_from`](Self::iter_from).
+    pub fn iter_after(&self, network: &Network) -> Routes<'_, V>
+        ensures { result ≡ behind network.now self.now }
+    {
+        let first = key_of(network);
+        RoutesOver {
+            entries: self.routes.range(Bound::Excluded(&first), Bound::Unbounded),
             value: PhantomData,
         }
     }

@@ -25,6 +25,7 @@ pub mod loads;
 pub mod loads_generic;
 pub mod map_addresses;
 pub mod map_c_strings;
+pub mod map_cursor;
 pub mod map_drained;
 pub mod map_entry;
 pub mod map_generic;

@@ -46,6 +46,30 @@ pub fn get_or_put(counts: &mut Counts, word: Word) -> Result<u32, InsertFault<Wo
     }
 }
 
+pub fn replace(counts: &mut Counts, word: Word, count: u32) -> Option<u32> {
+    match counts.entry(word) {
+        Entry::Occupied(mut entry) => entry.insert(count),
+        Entry::Vacant(_) => None,
+    }
+}
+
+pub fn raise(counts: &mut Counts, word: Word) -> Option<u32> {
+    let Entry::Occupied(mut entry) = counts.entry(word) else {
+        return None;
+    };
+    if let Some(count) = entry.get_mut() {
+        *count = count.wrapping_add(1);
+    }
+    entry.get().copied()
+}
+
+pub fn add_new(counts: &mut Counts, word: Word, count: u32) -> bool {
+    match counts.entry(word) {
+        Entry::Occupied(_) => false,
+        Entry::Vacant(entry) => entry.insert(count).is_ok(),
+    }
+}
+
 pub fn count_number(
     counts: &mut Map<Number, u32>,
     number: Number,
@@ -67,5 +91,12 @@ pub fn take_name(counts: &mut Map<Name, u32>, name: Name) -> Result<Option<u32>,
     match counts.entry(name) {
         Entry::Occupied(entry) => entry.remove(),
         Entry::Vacant(_) => Ok(None),
+    }
+}
+
+pub fn replace_name(counts: &mut Map<Name, u32>, name: Name, count: u32) -> Option<u32> {
+    match counts.entry(name) {
+        Entry::Occupied(mut entry) => entry.insert(count),
+        Entry::Vacant(_) => None,
     }
 }

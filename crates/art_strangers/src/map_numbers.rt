@@ -20,3 +20,9 @@ pub fn first_within(index: &Index, start: &Key, end: &Key) -> Option<u32> {
     let (_, value) = within.next()?;
     Some(*value)
 }
+
+pub fn first_after(index: &Index, start: &Key) -> Option<u32> {
+    let mut after = index.within::<Key, _>((Bound::Excluded(start), Bound::Unbounded));
+    let (_, value) = after.next()?;
+    Some(*value)
+}

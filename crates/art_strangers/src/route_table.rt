@@ -1,5 +1,9 @@
 //! A table of routes: the next hop of an address, and the routes around and inside a network.
+ghost use Rattle.std.specs.Prelude.{◌≡◌};
+ghost use Rattle.art_routes.specs.Networks.{network_order};
+
 use art_routes::{Network, RouteTable};
+use std::cmp::Ordering;
 use std::net::IpAddr;
 
 type Hops = RouteTable<u32>;
@@ -30,6 +34,23 @@ pub fn announce_host(hops: &mut Hops, address: IpAddr, hop: u32) -> bool {
     }
 }
 
+pub fn announce_text(hops: &mut Hops, text: &str, hop: u32) -> bool {
+    match text.parse() {
+        Ok(network) => announce(hops, network, hop),
+        Err(_) => false,
+    }
+}
+
+pub fn reroute(hops: &mut Hops, network: &Network, hop: u32) -> bool {
+    match hops.get_mut(network) {
+        Some(old) => {
+            *old = hop;
+            true
+        }
+        None => false,
+    }
+}
+
 pub fn has_parts(hops: &Hops, network: &Network) -> bool {
     hops.covered(network).next().is_some()
 }
@@ -44,4 +65,11 @@ pub fn widest_around(hops: &Hops, network: &Network) -> Option<u8> {
 
 pub fn withdraw(hops: &mut Hops, network: &Network) -> bool {
     hops.remove(network).is_ok()
+}
+
+/// How two networks sort.
+pub fn sorts(network: Network, other: Network) -> Ordering
+    ensures { result ≡ network_order network other }
+{
+    network.cmp(&other)
 }

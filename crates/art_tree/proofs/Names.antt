@@ -37,7 +37,7 @@ pub use Rattle.art_nodes.specs.declared.pointers.OpaqueNodePtr.{OpaqueNodePtr, O
 pub use Rattle.art_arena.proofs.Heights.{height, branches_height, lower-child, tree_height}
 pub use Rattle.art_arena.proofs.StandingLaws.{one-inner, leaf_kind, inner-there, at-some, leaf-pointer-is, leaf_place, is-some, no-inner-there, shown-prefix}
 pub use Rattle.art_arena.proofs.TreeLaws.{texts-apart, places-apart, texts-ascend, knit-member, next-member, texts-begin, texts-some, GoesOn, IsLongestCommonPrefix-node, all-allocated, spells-exchanged, stands-exchanged, texts-go-on}
-pub use Rattle.art_arena.specs.Arena.{NodeArena, held, Nothing, HeldLeaf, HeldInner, room, Changes, held_leaf, Held, SameNodes, SameCapacity, SameRoom, leaf_count, SameOtherRoom, capacity, SameOtherCapacity, held_under, held_header, held_inner}
+pub use Rattle.art_arena.specs.Arena.{LeafPtr, NodeArena, held, Nothing, HeldLeaf, HeldInner, room, Changes, held_leaf, Held, SameNodes, SameCapacity, SameRoom, leaf_count, SameOtherRoom, capacity, SameOtherCapacity, held_under, held_header, held_inner}
 pub use Rattle.art_arena.specs.Ends.{IsAtEnd, end_pair, put_at}
 pub use Rattle.art_arena.specs.InnerRef.{inner_shown}
 pub use Rattle.art_arena.specs.Links.{HoldsLeaf, leaf_at, Spells, AreDistinct, text_at, IsKnit, with_value_at, IsUnlinked, SameButLinks, SpellsAfter, next_at, StandsBetween}

@@ -10,7 +10,7 @@ use Rattle.art_arena.specs.declared.ends.End.TheVariants.{First, Last}
 use Rattle.art_tree.specs.Art.{Art}
 use Rattle.art_tree.specs.Dictionary.{IsEntry, HasEntry, IsEmpty, SameEntries}
 use Rattle.art_tree.specs.Removal.{IsLeft, NeedsSmallerNode}
-use Rattle.art_tree.specs.Room.{FreesOneEach, GrowsOnlyWhere, HasRoomFor, LacksRoomToRemove}
+use Rattle.art_tree.specs.Room.{FreesOneEach, GrowsOnlyWhere, HasEntryRoom, LacksRoomToRemove}
 
 -- no text of the others is less than this one, or none is greater
 abbrev pub IsWithin : End → List ℕ → List ℕ → Type 0
@@ -49,5 +49,5 @@ module _ {K V : Type 0} {P : ℕ} (text : K → List ℕ) where
     pub takes_no_memory : (¬ EndMeets text old.arena end (NeedsSmallerNode text old.arena)) → FreesOneEach old.arena new.arena
     pub memory : GrowsOnlyWhere old.arena new.arena (λ kind. EndMeets text old.arena end (λ x. LacksRoomToRemove text old.arena old.root x kind))
     -- room for some changes suffices, and there is room for one change fewer afterwards
-    pub room_suffices : (count : ℕ) → HasRoomFor old.arena (count + 1) → IsOk result
-    pub room_lasts : (count : ℕ) → HasRoomFor old.arena (count + 1) → HasRoomFor new.arena count
+    pub room_suffices : (count : ℕ) → HasEntryRoom old.arena (count + 1) → IsOk result
+    pub room_lasts : (count : ℕ) → HasEntryRoom old.arena (count + 1) → HasEntryRoom new.arena count

@@ -2,17 +2,15 @@
 use Rattle.std.specs.Prelude.{◌≡◌, ◌≢◌, ℕ, ◌+◌, List, Contains, Option, Some, None, Result, IfSome, IfOk, IfErr, OnOk, OnErr}
 use Rattle.std.specs.Option.{option_map}
 use Rattle.art_header.specs.declared.node_type.NodeType.{NodeType}
-use Rattle.art_nodes.specs.declared.leaf_node.LeafNode.{LeafNode}
-use Rattle.art_nodes.specs.declared.pointers.NodePtr.{NodePtr}
 use Rattle.art_nodes.specs.declared.pointers.OpaqueNodePtr.{OpaqueNodePtr}
-use Rattle.art_arena.specs.Arena.{NodeArena, SameNodes, SameRoom}
+use Rattle.art_arena.specs.Arena.{LeafPtr, NodeArena, SameNodes, SameRoom}
 use Rattle.art_arena.specs.Trees.{Tree, leaves}
 use Rattle.art_tree.specs.Art.{Art, IsAlone}
 use Rattle.art_tree.specs.Dictionary.{SameEntries, entry_at}
 use Rattle.art_tree.specs.Edits.{HoldsEntry}
 use Rattle.art_tree.specs.Insertion.{FindsEntry, IsEntered, IsRefused, MayEnter}
 use Rattle.art_tree.specs.Places.{Belongs, present_leaf}
-use Rattle.art_tree.specs.Room.{GrowsOnlyWhere, HasRoomFor, LacksRoomToInsert}
+use Rattle.art_tree.specs.Room.{GrowsOnlyWhere, HasEntryRoom, LacksRoomToInsert}
 use Rattle.art_tree.specs.Search.{EachTree, leaf_pointer}
 use Rattle.art_tree.specs.declared.insert.InsertFault.{InsertFault}
 use Rattle.art_tree.specs.declared.insert.InsertRefusal.TheVariants.{OutOfMemory}
@@ -20,7 +18,7 @@ use Rattle.art_tree.specs.declared.place.Place.{Place}
 
 module _ {K V : Type 0} {P : ℕ} (text : K → List ℕ) where
   -- the leaf has this text in the one tree of the arena
-  pub record IsPresent (art : Art (NodeArena K V P) (OpaqueNodePtr K V P)) (leaf : NodePtr P (LeafNode K V P)) (x : List ℕ) : Type 0 where
+  pub record IsPresent (art : Art (NodeArena K V P) (OpaqueNodePtr K V P)) (leaf : LeafPtr K V P) (x : List ℕ) : Type 0 where
     pub root : OpaqueNodePtr K V P
     pub is_root : art.root ≡ Some root
     pub tree : Tree (OpaqueNodePtr K V P)
@@ -35,7 +33,7 @@ module _ {K V : Type 0} {P : ℕ} (text : K → List ℕ) where
 
 module _ {K V : Type 0} {P : ℕ} (text : K → List ℕ) (old new : Art (NodeArena K V P) (OpaqueNodePtr K V P)) (key : K) where
   -- an entry with a new text is added to a tree, and its leaf returned; or it is refused
-  pub record InsertsAt (value : V) (result : Result (NodePtr P (LeafNode K V P)) (InsertFault K V)) : Type 0 where
+  pub record InsertsAt (value : V) (result : Result (LeafPtr K V P) (InsertFault K V)) : Type 0 where
     pub leaf : IfOk result (λ leaf. HoldsEntry new.arena (leaf_pointer leaf) key value)
     pub absent : OnOk result (entry_at text old.arena (text key) ≡ None)
     pub entered : OnOk result (IsEntered text old.arena new.arena key value)
@@ -49,8 +47,8 @@ module _ {K V : Type 0} {P : ℕ} (text : K → List ℕ) (old new : Art (NodeAr
     pub no_room : IfErr result (λ fault. fault.refusal ≡ OutOfMemory → (kind : NodeType) × LacksRoomToInsert text old.arena old.root (text key) kind)
     pub takes_no_memory : entry_at text old.arena (text key) ≢ None → SameRoom old.arena new.arena
     pub memory : GrowsOnlyWhere old.arena new.arena (LacksRoomToInsert text old.arena old.root (text key))
-    pub room_suffices : (count : ℕ) → HasRoomFor old.arena (count + 1) → IfErr result (λ fault. fault.refusal ≢ OutOfMemory)
-    pub room_lasts : (count : ℕ) → HasRoomFor old.arena (count + 1) → HasRoomFor new.arena count
+    pub room_suffices : (count : ℕ) → HasEntryRoom old.arena (count + 1) → IfErr result (λ fault. fault.refusal ≢ OutOfMemory)
+    pub room_lasts : (count : ℕ) → HasEntryRoom old.arena (count + 1) → HasEntryRoom new.arena count
 
   -- an entry is put in the place of one with the same text, which is returned
   pub record ReplacesEntry (value : V) (before : K × V) : Type 0 where
@@ -59,10 +57,10 @@ module _ {K V : Type 0} {P : ℕ} (text : K → List ℕ) (old new : Art (NodeAr
     pub no_refusal : MayEnter text old.arena (text key)
     pub takes_no_memory : SameRoom old.arena new.arena
     pub memory : GrowsOnlyWhere old.arena new.arena (LacksRoomToInsert text old.arena old.root (text key))
-    pub room_lasts : (count : ℕ) → HasRoomFor old.arena (count + 1) → HasRoomFor new.arena count
+    pub room_lasts : (count : ℕ) → HasEntryRoom old.arena (count + 1) → HasEntryRoom new.arena count
 
   -- the leaf with a text is found, or added with a value that was made; or the entry is refused
-  pub record FindsOrInserts (made : V → Type 0) (result : Result (NodePtr P (LeafNode K V P)) (InsertFault K V)) : Type 0 where
+  pub record FindsOrInserts (made : V → Type 0) (result : Result (LeafPtr K V P) (InsertFault K V)) : Type 0 where
     pub found : IfOk result (λ leaf. FindsEntry text old.arena new.arena key made (leaf_pointer leaf))
     pub no_refusal : OnOk result (MayEnter text old.arena (text key))
     pub refusal_due : IfErr result (λ fault. IsRefused text old.arena (text key) fault.refusal)

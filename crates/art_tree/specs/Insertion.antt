@@ -1,10 +1,8 @@
 -- Insertion: its refusals and its results.
 use Rattle.std.specs.Prelude.{◌≡◌, ◌≢◌, ◌⊎◌, ℕ, ◌<◌, ◌≤◌, ◌^◌, List, length, Option, Some, None, Result, IfOk, IfErr, OnOk, OnErr}
 use Rattle.art_header.specs.declared.node_type.NodeType.{NodeType}
-use Rattle.art_nodes.specs.declared.leaf_node.LeafNode.{LeafNode}
-use Rattle.art_nodes.specs.declared.pointers.NodePtr.{NodePtr}
 use Rattle.art_nodes.specs.declared.pointers.OpaqueNodePtr.{OpaqueNodePtr}
-use Rattle.art_arena.specs.Arena.{NodeArena, SameNodes, SameRoom}
+use Rattle.art_arena.specs.Arena.{LeafPtr, NodeArena, SameNodes, SameRoom}
 use Rattle.art_tree.specs.Art.{IsArt}
 use Rattle.art_tree.specs.Dictionary.{entry_at, HasEntry, SameEntries, SameOtherEntries, OneIsProperPrefix}
 use Rattle.art_tree.specs.Edits.{HoldsEntry}
@@ -39,7 +37,7 @@ module _ {K V : Type 0} {P : ℕ} (text : K → List ℕ) where
 
   -- an entry with a new text is added below this root, if there is one, and the root returned, with the
   -- entry's leaf; or the entry comes back, where a kind that the tree needs has no room
-  pub record AddsEntry (old new : NodeArena K V P) (root : Option (OpaqueNodePtr K V P)) (key : K) (value : V) (result : Result (OpaqueNodePtr K V P × NodePtr P (LeafNode K V P)) (K × V)) : Type 0 where
+  pub record AddsEntry (old new : NodeArena K V P) (root : Option (OpaqueNodePtr K V P)) (key : K) (value : V) (result : Result (OpaqueNodePtr K V P × LeafPtr K V P) (K × V)) : Type 0 where
     pub art : IfOk result (λ at. IsArt text new (Some at.0))
     pub leaf : IfOk result (λ at. HoldsEntry new (leaf_pointer at.1) key value)
     pub entered : OnOk result (IsEntered old new key value)
@@ -49,7 +47,7 @@ module _ {K V : Type 0} {P : ℕ} (text : K → List ℕ) where
     pub memory : GrowsOnlyWhere old new (LacksRoomToInsert text old root (text key))
 
   -- the same, or the entry is refused
-  pub record InsertsNew (old new : NodeArena K V P) (root : Option (OpaqueNodePtr K V P)) (key : K) (value : V) (result : Result (OpaqueNodePtr K V P × NodePtr P (LeafNode K V P)) (InsertFault K V)) : Type 0 where
+  pub record InsertsNew (old new : NodeArena K V P) (root : Option (OpaqueNodePtr K V P)) (key : K) (value : V) (result : Result (OpaqueNodePtr K V P × LeafPtr K V P) (InsertFault K V)) : Type 0 where
     pub art : IfOk result (λ at. IsArt text new (Some at.0))
     pub leaf : IfOk result (λ at. HoldsEntry new (leaf_pointer at.1) key value)
     pub absent : OnOk result (entry_at text old (text key) ≡ None)

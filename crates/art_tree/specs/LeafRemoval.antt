@@ -6,7 +6,7 @@ use Rattle.art_arena.specs.Arena.{NodeArena, SameNodes}
 use Rattle.art_tree.specs.Art.{Art}
 use Rattle.art_tree.specs.Dictionary.{entry_at, SameEntries}
 use Rattle.art_tree.specs.Removal.{IsLeft, NeedsSmallerNode}
-use Rattle.art_tree.specs.Room.{FreesOneEach, GrowsOnlyWhere, HasRoomFor, LacksRoomToRemove}
+use Rattle.art_tree.specs.Room.{FreesOneEach, GrowsOnlyWhere, HasEntryRoom, LacksRoomToRemove}
 
 module _ {K V : Type 0} {P : ℕ} (text : K → List ℕ) where
   -- the entry of this text is removed from a tree and returned; or the removal is refused where the
@@ -26,5 +26,5 @@ module _ {K V : Type 0} {P : ℕ} (text : K → List ℕ) where
     pub takes_no_memory : (¬ NeedsSmallerNode text old.arena x) → FreesOneEach old.arena new.arena
     pub memory : GrowsOnlyWhere old.arena new.arena (LacksRoomToRemove text old.arena old.root x)
     -- room for some changes suffices, and there is room for one change fewer afterwards
-    pub room_suffices : (count : ℕ) → HasRoomFor old.arena (count + 1) → IsOk result
-    pub room_lasts : (count : ℕ) → HasRoomFor old.arena (count + 1) → HasRoomFor new.arena count
+    pub room_suffices : (count : ℕ) → HasEntryRoom old.arena (count + 1) → IsOk result
+    pub room_lasts : (count : ℕ) → HasEntryRoom old.arena (count + 1) → HasEntryRoom new.arena count

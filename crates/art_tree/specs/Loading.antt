@@ -4,10 +4,9 @@ use Rattle.std.specs.List.{Contains}
 use Rattle.art_header.specs.NodeType.{kind_for}
 use Rattle.art_nodes.specs.Leaf.{leaf_key, leaf_value}
 use Rattle.art_nodes.specs.Pointers.{node_kind, opaque_key, slab_key}
-use Rattle.art_nodes.specs.declared.pointers.NodePtr.{NodePtr}
 use Rattle.art_nodes.specs.declared.pointers.OpaqueNodePtr.{OpaqueNodePtr}
 use Rattle.art_nodes.specs.declared.leaf_node.LeafNode.{LeafNode}
-use Rattle.art_arena.specs.Arena.{NodeArena, HeldLeaf, Nothing, held}
+use Rattle.art_arena.specs.Arena.{LeafPtr, NodeArena, HeldLeaf, Nothing, held}
 use Rattle.art_arena.specs.Links.{Spells}
 use Rattle.art_arena.specs.Standing.{IsTreeIn}
 use Rattle.art_arena.specs.Trees.{Tree, Leaf, Inner, Branches, NoBranch, Branch, branch_roots, leaves, places}
@@ -42,7 +41,7 @@ module _ {K V : Type 0} {P : ℕ} where
       × HoldEntries arena pointers entries
 
   -- these new leaves hold the entries, are linked in their order, and are all that is new
-  pub record AreLinked (old new : NodeArena K V P) (entries : List (K × V)) (leaves : List (NodePtr P (LeafNode K V P))) : Type 0 where
+  pub record AreLinked (old new : NodeArena K V P) (entries : List (K × V)) (leaves : List (LeafPtr K V P)) : Type 0 where
     pub hold : HoldEntries new (map leaf_pointer leaves) entries
     pub spelled : Spells new (map slab_key leaves)
     pub adds : Adds old new (map leaf_pointer leaves)

@@ -4,10 +4,8 @@ use Rattle.std.specs.Option.{option_and_then, option_map_or}
 use Rattle.art_bytes.specs.Text.{IsPrefixOf}
 use Rattle.art_nodes.specs.ChildMap.{child_at}
 use Rattle.art_nodes.specs.Inner as nodes
-use Rattle.art_nodes.specs.declared.leaf_node.LeafNode.{LeafNode}
-use Rattle.art_nodes.specs.declared.pointers.NodePtr.{NodePtr}
 use Rattle.art_nodes.specs.declared.pointers.OpaqueNodePtr.{OpaqueNodePtr}
-use Rattle.art_arena.specs.Arena.{NodeArena}
+use Rattle.art_arena.specs.Arena.{LeafPtr, NodeArena}
 use Rattle.art_arena.specs.Standing.{StandsIn}
 use Rattle.art_arena.specs.Trees.{Tree, Leaf, Inner, Branches, NoBranch, Branch, branch_roots, root_of, leaves, IsWellFormed}
 use Rattle.art_tree.specs.Contexts.{Context, Whole, Under, plug, path_to}
@@ -117,7 +115,7 @@ module _ {K V : Type 0} {P : ℕ} (tree : Tree (OpaqueNodePtr K V P)) (key : Lis
   Belongs (places.Differs spot mismatch) = Parts tree key spot mismatch
 
 -- the root and the leaf with the key itself, where that is its place
-abbrev pub present_leaf : {K V : Type 0} {P : ℕ} → Option (OpaqueNodePtr K V P × Place K V P) → Option (OpaqueNodePtr K V P × NodePtr P (LeafNode K V P))
+abbrev pub present_leaf : {K V : Type 0} {P : ℕ} → Option (OpaqueNodePtr K V P × Place K V P) → Option (OpaqueNodePtr K V P × LeafPtr K V P)
 present_leaf None = None
 present_leaf (Some (root, places.Present leaf)) = Some (root, leaf)
 present_leaf (Some (root, places.Extends leaf)) = None

@@ -50,5 +50,5 @@ module _ {K V : Type 0} {P : ℕ} where
   HasRoomOf kind arena count = (count ≤ room arena kind) ⊎ FitsEachTree arena kind (leaf_count arena + count)
 
   -- so many inserts and removals find room for each node that they need
-  abbrev pub HasRoomFor : NodeArena K V P → ℕ → Type 0
-  HasRoomFor arena count = (kind : NodeType) → HasRoomOf kind arena count
+  abbrev pub HasEntryRoom : NodeArena K V P → ℕ → Type 0
+  HasEntryRoom arena count = (kind : NodeType) → HasRoomOf kind arena count

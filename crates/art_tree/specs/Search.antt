@@ -6,10 +6,8 @@ use Rattle.art_header.specs.declared.node_type.NodeType.TheVariants as kinds
 use Rattle.art_nodes.specs.ChildMap.{child_at}
 use Rattle.art_nodes.specs.Inner as nodes
 use Rattle.art_nodes.specs.Pointers.{slab_key, opaque_pointer}
-use Rattle.art_nodes.specs.declared.pointers.NodePtr.{NodePtr}
 use Rattle.art_nodes.specs.declared.pointers.OpaqueNodePtr.{OpaqueNodePtr}
-use Rattle.art_nodes.specs.declared.leaf_node.LeafNode.{LeafNode}
-use Rattle.art_arena.specs.Arena.{NodeArena, HeldInner, held}
+use Rattle.art_arena.specs.Arena.{LeafPtr, NodeArena, HeldInner, held}
 use Rattle.art_arena.specs.Standing.{IsTreeIn}
 use Rattle.art_arena.specs.Trees.{Tree, Leaf, Inner, Branches, NoBranch, Branch, leaves}
 use Rattle.art_tree.specs.declared.path.TreePath.{TreePath}
@@ -57,11 +55,11 @@ module _ {H : Type 0} where
 
 module _ {K V : Type 0} {P : ℕ} where
   -- the pointer to a leaf, as trees have it
-  abbrev pub leaf_pointer : NodePtr P (LeafNode K V P) → OpaqueNodePtr K V P
+  abbrev pub leaf_pointer : LeafPtr K V P → OpaqueNodePtr K V P
   leaf_pointer leaf = opaque_pointer kinds.Leaf (slab_key leaf)
 
   -- the leaf of a result, or none
-  abbrev pub found : Option (NodePtr P (LeafNode K V P) × TreePath K V P) → List ℕ → List (OpaqueNodePtr K V P × List ℕ)
+  abbrev pub found : Option (LeafPtr K V P × TreePath K V P) → List ℕ → List (OpaqueNodePtr K V P × List ℕ)
   found None key = []
   found (Some (leaf, path)) key = (leaf_pointer leaf, key) ∷ []
 

@@ -7,9 +7,9 @@ ghost use Rattle.art_tree.specs.Paths.{Steps};
 ghost use Rattle.art_tree.specs.Search.{HasTree, EachTree, scan, found, met, IsWay, IsPathTo, LeadsTo, leaf_pointer};
 
 use crate::path::{TreePath, TreePathSearch};
-use art_arena::{ArenaReader, NodeRef};
+use art_arena::{ArenaReader, LeafPtr, NodeRef};
 use art_bytes::AsBytes;
-use art_nodes::{InnerNodeRead, LeafNode, NodePtr, OpaqueNodePtr};
+use art_nodes::{InnerNodeRead, LeafNode, OpaqueNodePtr};
 
 // The index in the key of the byte that leads from the node to its child, and the child under that
 // byte.
@@ -81,12 +81,7 @@ pub fn find_leaf<K: AsBytes, V, const PREFIX_LEN: usize>(
     reader: &mut ArenaReader<'_, K, V, PREFIX_LEN>,
     root: OpaqueNodePtr<K, V, PREFIX_LEN>,
     key: &[u8],
-) -> Option<
-    (
-        NodePtr<PREFIX_LEN, LeafNode<K, V, PREFIX_LEN>>,
-        TreePath<K, V, PREFIX_LEN>,
-    ),
->
+) -> Option<(LeafPtr<K, V, PREFIX_LEN>, TreePath<K, V, PREFIX_LEN>)>
     requires tree { HasTree K.text reader.old.arena root }
     requires budget { length key.now + 1 ≤ reader.old.budget }
     ensures answer { EachTree K.text reader.old.arena root (λ tree.

@@ -16,9 +16,9 @@ use crate::insert::link::link_leaf;
 use crate::insert::reserving::{reserve_for_child, reserve_for_fork};
 use crate::node::hang;
 use crate::place::{Mismatch, Place, Spot, leaf_beside_child, near_end};
-use art_arena::{NodeArena, end_leaf};
+use art_arena::{LeafPtr, NodeArena, end_leaf};
 use art_bytes::AsBytes;
-use art_nodes::{LeafNode, NodePtr, OpaqueNodePtr};
+use art_nodes::{LeafNode, OpaqueNodePtr};
 use std::error::Error;
 use std::fmt;
 
@@ -83,7 +83,7 @@ pub(crate) type RootAndPlace<K, V, const PREFIX_LEN: usize> = (
 /// The root of a tree, and a leaf of it.
 pub(crate) type RootAndLeaf<K, V, const PREFIX_LEN: usize> = (
     OpaqueNodePtr<K, V, PREFIX_LEN>,
-    NodePtr<PREFIX_LEN, LeafNode<K, V, PREFIX_LEN>>,
+    LeafPtr<K, V, PREFIX_LEN>,
 );
 
 // Makes a tree of one leaf in an arena that holds nothing, and returns the root and the leaf. On

@@ -19,7 +19,7 @@ ghost use Rattle.art_tree.specs.Insertion.{ClashesIn};
 ghost use Rattle.art_tree.specs.Loading.{HasSmallestKinds, IsLoaded};
 ghost use Rattle.art_tree.specs.NodeCounts.{nodes_of};
 ghost use Rattle.art_tree.specs.Refusals.{texts_of};
-ghost use Rattle.art_tree.specs.Room.{HasRoomFor, LacksRoomToInsert, LacksRoomToRemove};
+ghost use Rattle.art_tree.specs.Room.{HasEntryRoom, LacksRoomToInsert, LacksRoomToRemove};
 ghost use Rattle.art_tree.specs.Search.{met};
 
 pub use art_arena::laws::{
@@ -191,24 +191,24 @@ pub fn entries_are_as_many_as_leaves<K: AsBytes, V, const PREFIX_LEN: usize>()
 /// for one fewer: where none takes memory, whatever their keys.
 pub fn room_lasts<K: AsBytes, V, const PREFIX_LEN: usize>()
     ensures enough_to_insert { (arena : NodeArena K V PREFIX_LEN) (root : _) (text : List ℕ)
-        (kind : NodeType) (count : ℕ) → IsArt K.text arena root → HasRoomFor arena (count + 1) →
+        (kind : NodeType) (count : ℕ) → IsArt K.text arena root → HasEntryRoom arena (count + 1) →
         ¬ LacksRoomToInsert K.text arena root text kind }
     ensures enough_to_remove { (arena : NodeArena K V PREFIX_LEN) (root : _) (text : List ℕ)
-        (kind : NodeType) (count : ℕ) → IsArt K.text arena root → HasRoomFor arena (count + 1) →
+        (kind : NodeType) (count : ℕ) → IsArt K.text arena root → HasEntryRoom arena (count + 1) →
         ¬ LacksRoomToRemove K.text arena root text kind }
     ensures inserted { (old new : NodeArena K V PREFIX_LEN) (root new_root : _) (text : List ℕ)
         (count : ℕ) → IsArt K.text old root → IsArt K.text new new_root →
         SameOtherEntries K.text old new text → SameCapacity old new → HasEntry K.text new text →
-        HasRoomFor old (count + 1) → HasRoomFor new count }
+        HasEntryRoom old (count + 1) → HasEntryRoom new count }
     ensures removed { (old new : NodeArena K V PREFIX_LEN) (root new_root : _) (text : List ℕ)
         (count : ℕ) → IsArt K.text old root → IsArt K.text new new_root →
         SameOtherEntries K.text old new text → SameCapacity old new →
-        entry_at K.text new text ≡ None → HasRoomFor old (count + 1) → HasRoomFor new count }
+        entry_at K.text new text ≡ None → HasEntryRoom old (count + 1) → HasEntryRoom new count }
     ensures kept { (old new : NodeArena K V PREFIX_LEN) (root : _) (count : ℕ) →
         IsArt K.text old root → SameNodes old new → SameCapacity old new →
-        HasRoomFor old (count + 1) → HasRoomFor new count }
-    ensures fewer { (arena : NodeArena K V PREFIX_LEN) (count : ℕ) → HasRoomFor arena (count + 1) →
-        HasRoomFor arena count }
+        HasEntryRoom old (count + 1) → HasEntryRoom new count }
+    ensures fewer { (arena : NodeArena K V PREFIX_LEN) (count : ℕ) → HasEntryRoom arena (count + 1) →
+        HasEntryRoom arena count }
     ensures same_count { (old new : NodeArena K V PREFIX_LEN) (root : _) → IsArt K.text old root →
         SameNodes old new → leaf_count new ≡ leaf_count old }
 {}

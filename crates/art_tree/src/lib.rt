@@ -18,7 +18,7 @@ mod tree;
 
 pub use art_arena::{
     AnyInnerRef, AnyNodeRef, ArenaInnerNode, ArenaNode, ArenaReader, End, ExplicitMismatch,
-    FullPrefix, InnerRef, LeafLinks, NodeArena, NodePrefix, NodeRef, any_leaf, end_leaf,
+    FullPrefix, InnerRef, LeafLinks, LeafPtr, NodeArena, NodePrefix, NodeRef, any_leaf, end_leaf,
 };
 pub use art_bytes::{
     AsBytes, CStringKey, CStringKeyError, NoPrefixesBytes, OrderedBytes, SliceKey, StrKey,

@@ -22,9 +22,9 @@ use crate::loading::keys::KeyIn;
 use crate::loading::leaves::link_leaves;
 use crate::loading::raise::raise;
 use crate::loading::steps::{Step, count_nodes, plan};
-use art_arena::NodeArena;
+use art_arena::{LeafPtr, NodeArena};
 use art_bytes::AsBytes;
-use art_nodes::{LeafNode, NodePtr, NodeType, OpaqueNodePtr};
+use art_nodes::{NodeType, OpaqueNodePtr};
 pub use check::LoadRefusal;
 pub(crate) use ordering::order;
 pub(crate) use reloading::reload;
@@ -55,7 +55,7 @@ pub struct LoadFault<K, V> {
 // What a load needs besides the arena: the steps, and memory for the leaves and the pending trees.
 struct Prepared<K, V, const PREFIX_LEN: usize> {
     steps: Vec<Step>,
-    leaves: Vec<NodePtr<PREFIX_LEN, LeafNode<K, V, PREFIX_LEN>>>,
+    leaves: Vec<LeafPtr<K, V, PREFIX_LEN>>,
     pending: Vec<(u8, OpaqueNodePtr<K, V, PREFIX_LEN>)>,
 }
 

@@ -11,9 +11,9 @@ ghost use Rattle.art_arena.specs.Links.{HoldsLeaf, text_at};
 ghost use Rattle.art_tree.specs.Hanging.{CanHang, IsHung};
 ghost use Rattle.art_tree.specs.Nodes.{node_of, IsPlaced, IsReplaced};
 
-use art_arena::{ArenaInnerNode, NodeArena};
+use art_arena::{ArenaInnerNode, LeafPtr, NodeArena};
 use art_bytes::AsBytes;
-use art_nodes::{InnerNodeCommon, LeafNode, Node, NodePtr, OpaqueNodePtr};
+use art_nodes::{InnerNodeCommon, Node, OpaqueNodePtr};
 
 /// How many children the inner node at the pointer has.
 pub(crate) fn num_children<K, V, const PREFIX_LEN: usize>(
@@ -78,14 +78,14 @@ fn inner_node<K, V, const PREFIX_LEN: usize, N: InnerNodeCommon<K, V, PREFIX_LEN
 
 /// Allocates an inner node of one type, with these children and the prefix that the leaf's key has
 /// from `start` to `end`. There must be spare capacity for it.
-pub(crate) fn place_as<
+pub(crate) fn allocate_node_as<
     K: AsBytes,
     V,
     const PREFIX_LEN: usize,
     N: ArenaInnerNode<K, V, PREFIX_LEN> + Node<PREFIX_LEN, Key = K, Value = V>,
 >(
     arena: &mut NodeArena<K, V, PREFIX_LEN>,
-    leaf: NodePtr<PREFIX_LEN, LeafNode<K, V, PREFIX_LEN>>,
+    leaf: LeafPtr<K, V, PREFIX_LEN>,
     start: usize,
     end: usize,
     children: &[(u8, OpaqueNodePtr<K, V, PREFIX_LEN>)],

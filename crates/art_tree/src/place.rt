@@ -16,9 +16,9 @@ ghost use Rattle.art_tree.specs.Sides.{IsNextTo, comes_before, is_last};
 ghost use Rattle.art_tree.specs.declared.place.Place.TheVariants.{Absent, Differs};
 ghost use Rattle.art_tree.specs.declared.place.Side.{Side};
 
-use art_arena::{End, NodeArena, any_leaf, end_leaf};
+use art_arena::{End, LeafPtr, NodeArena, any_leaf, end_leaf};
 use art_bytes::AsBytes;
-use art_nodes::{InnerNodeRead, LeafNode, NodePtr, NodeType, OpaqueNodePtr, common_prefix_len};
+use art_nodes::{InnerNodeRead, NodeType, OpaqueNodePtr, common_prefix_len};
 use std::ops::Bound;
 
 /// A node of a tree: how many bytes lead to it, and its parent, with the byte.
@@ -41,9 +41,9 @@ pub(crate) struct Mismatch {
 #[derive_where(Clone, Copy)]
 pub(crate) enum Place<K, V, const PREFIX_LEN: usize> {
     /// A leaf has the key.
-    Present(NodePtr<PREFIX_LEN, LeafNode<K, V, PREFIX_LEN>>),
+    Present(LeafPtr<K, V, PREFIX_LEN>),
     /// The key of a leaf is a proper prefix of the key.
-    Extends(NodePtr<PREFIX_LEN, LeafNode<K, V, PREFIX_LEN>>),
+    Extends(LeafPtr<K, V, PREFIX_LEN>),
     /// The key is a proper prefix of all keys below a node.
     Begins {
         spot: Spot<K, V, PREFIX_LEN>,
@@ -270,7 +270,7 @@ fn next_spot<'a, K: AsBytes, V, const PREFIX_LEN: usize>(
 #[inline(always)]
 fn place_at_leaf<K: AsBytes, V, const PREFIX_LEN: usize>(
     arena: &NodeArena<K, V, PREFIX_LEN>,
-    leaf: NodePtr<PREFIX_LEN, LeafNode<K, V, PREFIX_LEN>>,
+    leaf: LeafPtr<K, V, PREFIX_LEN>,
     spot: Spot<K, V, PREFIX_LEN>,
     key: &[u8],
 ) -> Place<K, V, PREFIX_LEN>
@@ -466,7 +466,7 @@ pub(crate) fn leaf_beside_child<K: AsBytes, V, const PREFIX_LEN: usize>(
     arena: &NodeArena<K, V, PREFIX_LEN>,
     pointer: OpaqueNodePtr<K, V, PREFIX_LEN>,
     byte: u8,
-) -> (NodePtr<PREFIX_LEN, LeafNode<K, V, PREFIX_LEN>>, End)
+) -> (LeafPtr<K, V, PREFIX_LEN>, End)
     requires { HasPlaceAt K.text arena.now pointer byte }
     ensures beside { (place : HasPlaceAt K.text arena.now pointer byte) → StandsBeside result.1
         (branch_leaves place.before) (branch_leaves place.after) (leaf_pointer result.0) }
@@ -515,7 +515,7 @@ fn leaf_beside_absent<K: AsBytes, V, const PREFIX_LEN: usize>(
     arena: &NodeArena<K, V, PREFIX_LEN>,
     spot: Spot<K, V, PREFIX_LEN>,
     byte: u8,
-) -> (NodePtr<PREFIX_LEN, LeafNode<K, V, PREFIX_LEN>>, End)
+) -> (LeafPtr<K, V, PREFIX_LEN>, End)
     requires { (tree : _) × (key : List ℕ) ×
         IsPlaceIn K.text arena.now tree key (Absent spot byte) }
     ensures beside { (tree : _) (key : List ℕ) (side : Side) →
@@ -531,7 +531,7 @@ fn leaf_beside_mismatch<K: AsBytes, V, const PREFIX_LEN: usize>(
     arena: &NodeArena<K, V, PREFIX_LEN>,
     spot: Spot<K, V, PREFIX_LEN>,
     mismatch: Mismatch,
-) -> (NodePtr<PREFIX_LEN, LeafNode<K, V, PREFIX_LEN>>, End)
+) -> (LeafPtr<K, V, PREFIX_LEN>, End)
     requires { (tree : _) × (key : List ℕ) ×
         IsPlaceIn K.text arena.now tree key (Differs spot mismatch) }
     ensures beside { (tree : _) (key : List ℕ) (side : Side) →
@@ -548,7 +548,7 @@ fn leaf_beside_place<K: AsBytes, V, const PREFIX_LEN: usize>(
     arena: &NodeArena<K, V, PREFIX_LEN>,
     place: Place<K, V, PREFIX_LEN>,
     side: Side,
-) -> (NodePtr<PREFIX_LEN, LeafNode<K, V, PREFIX_LEN>>, End)
+) -> (LeafPtr<K, V, PREFIX_LEN>, End)
     requires { (tree : _) × (key : List ℕ) × IsPlaceIn K.text arena.now tree key place }
     ensures beside { (tree : _) (key : List ℕ) → IsPlaceIn K.text arena.now tree key place →
         IsNextTo side key (leaves tree) result.1 (leaf_pointer result.0) }
@@ -587,7 +587,7 @@ pub fn leaf_beside<K: AsBytes, V, const PREFIX_LEN: usize>(
     root: OpaqueNodePtr<K, V, PREFIX_LEN>,
     key: &[u8],
     side: Side,
-) -> (NodePtr<PREFIX_LEN, LeafNode<K, V, PREFIX_LEN>>, End)
+) -> (LeafPtr<K, V, PREFIX_LEN>, End)
     requires tree { HasTree K.text arena.now root }
     ensures beside { EachTree K.text arena.now root (λ tree.
         IsNextTo side key.now (leaves tree) result.1 (leaf_pointer result.0)) }
@@ -617,8 +617,8 @@ pub fn leaves_beside<K: AsBytes, V, const PREFIX_LEN: usize>(
     end: &[u8],
     end_side: Side,
 ) -> (
-    (NodePtr<PREFIX_LEN, LeafNode<K, V, PREFIX_LEN>>, End),
-    (NodePtr<PREFIX_LEN, LeafNode<K, V, PREFIX_LEN>>, End),
+    (LeafPtr<K, V, PREFIX_LEN>, End),
+    (LeafPtr<K, V, PREFIX_LEN>, End),
 )
     requires tree { HasTree K.text arena.now root }
     ensures start { EachTree K.text arena.now root (λ tree.

@@ -19,9 +19,9 @@ mod removed_child;
 use crate::node::{hang, num_children};
 use crate::path::TreePath;
 use crate::remove::removed_child::{join_prefix, other_child, reserve_shrink, take_child};
-use art_arena::{LeafLinks, NodeArena};
+use art_arena::{LeafLinks, LeafPtr, NodeArena};
 use art_bytes::AsBytes;
-use art_nodes::{LeafNode, NodePtr, NodeType, OpaqueNodePtr};
+use art_nodes::{LeafNode, NodeType, OpaqueNodePtr};
 use std::alloc::AllocError;
 
 /// The root that is left of a tree, if there is one, and the entry that was removed.
@@ -74,7 +74,7 @@ fn leaf_spot<K, V, const PREFIX_LEN: usize>(
 // Removes a leaf from its list and from the arena, and returns its entry.
 fn take_leaf<K: AsBytes, V, const PREFIX_LEN: usize>(
     arena: &mut NodeArena<K, V, PREFIX_LEN>,
-    leaf: NodePtr<PREFIX_LEN, LeafNode<K, V, PREFIX_LEN>>,
+    leaf: LeafPtr<K, V, PREFIX_LEN>,
 ) -> (K, V)
     requires { (left right : List ℕ) × Spells arena.old (left ++ slab_key leaf ∷ right) }
     ensures { IsTaken arena.old arena.new (leaf_pointer leaf) result }
@@ -88,7 +88,7 @@ fn remove_from_many<K: AsBytes, V, const PREFIX_LEN: usize>(
     arena: &mut NodeArena<K, V, PREFIX_LEN>,
     root: OpaqueNodePtr<K, V, PREFIX_LEN>,
     spot: LeafSpot<K, V, PREFIX_LEN>,
-    leaf: NodePtr<PREFIX_LEN, LeafNode<K, V, PREFIX_LEN>>,
+    leaf: LeafPtr<K, V, PREFIX_LEN>,
     fewest: bool,
 ) -> Result<Removed<K, V, PREFIX_LEN>, AllocError>
     requires place { (tree : _) × IsAlone K.text arena.old root tree ×
@@ -112,7 +112,7 @@ fn remove_from_two<K: AsBytes, V, const PREFIX_LEN: usize>(
     arena: &mut NodeArena<K, V, PREFIX_LEN>,
     root: OpaqueNodePtr<K, V, PREFIX_LEN>,
     spot: LeafSpot<K, V, PREFIX_LEN>,
-    leaf: NodePtr<PREFIX_LEN, LeafNode<K, V, PREFIX_LEN>>,
+    leaf: LeafPtr<K, V, PREFIX_LEN>,
 ) -> Removed<K, V, PREFIX_LEN>
     requires place { (tree : _) × IsAlone K.text arena.old root tree ×
         IsLeafSpot tree (leaf_pointer leaf) spot }
@@ -141,7 +141,7 @@ fn are_fewest(kind: NodeType, count: usize) -> bool
 pub(crate) fn remove_leaf<K: AsBytes, V, const PREFIX_LEN: usize>(
     arena: &mut NodeArena<K, V, PREFIX_LEN>,
     root: OpaqueNodePtr<K, V, PREFIX_LEN>,
-    leaf: NodePtr<PREFIX_LEN, LeafNode<K, V, PREFIX_LEN>>,
+    leaf: LeafPtr<K, V, PREFIX_LEN>,
     path: TreePath<K, V, PREFIX_LEN>,
 ) -> Result<Removed<K, V, PREFIX_LEN>, AllocError>
     requires { (text : List ℕ) × ReachesLeaf K.text arena.old root leaf path text }

@@ -13,9 +13,9 @@ mod reading;
 mod room;
 
 use crate::path::TreePath;
-use art_arena::NodeArena;
+use art_arena::{LeafPtr, NodeArena};
 use art_bytes::AsBytes;
-use art_nodes::{LeafNode, NodePtr, OpaqueNodePtr};
+use art_nodes::OpaqueNodePtr;
 use std::alloc::Global;
 use std::marker::Model;
 
@@ -88,7 +88,7 @@ pub type ArtTree<K, V, const PREFIX_LEN: usize> = Rooted<
 
 // A leaf of a tree, and the path to it.
 type FoundLeaf<K, V, const PREFIX_LEN: usize> = (
-    NodePtr<PREFIX_LEN, LeafNode<K, V, PREFIX_LEN>>,
+    LeafPtr<K, V, PREFIX_LEN>,
     TreePath<K, V, PREFIX_LEN>,
 );
 

@@ -7,7 +7,7 @@ use Rattle.std.proofs.lemmas.List.Sums.{count_by-le-length}
 use Rattle.std.specs.Prelude.{Result, Ok, Err, IfErr}
 use Rattle.program_lines.specs.declared.failure.Failure.{Failure}
 use Rattle.program_lines.specs.declared.failure.Failure.TheVariants.{BadLine as AtLine, OutOfMemory, Device}
-use Rattle.program_lines.specs.declared.failure.Place.TheVariants.{File}
+use Rattle.program_lines.specs.declared.failure.Source.TheVariants.{File}
 use Rattle.program_lines.specs.Failures.{IfBadLine, IsLineFailure}
 use Rattle.program_lines.specs.Faults.{IsLineFault}
 use Rattle.program_lines.specs.declared.line_fault.LineFault.{LineFault}
@@ -56,13 +56,13 @@ number_below Say bytes number (before, after, bad, items, is, counted, said, non
     omega (arith, size, length-append before (bad ∷ after), counted, many_lines bytes)
 
 -- the first bad row is a bad line of the file
-pub absent_bad : {X : Type 0} (file : List ℕ) (result : Result X (Failure (LineFault Fault))) → IfErr result (IfBadLine (λ bad. (bad.place ≡ File) × IsFirstBad SayReading (lines_of file) bad.number)) → IfErr result (IsLineFailure (λ bad. IsLineFault IsFieldFault (line_at (lines_of file) bad.number) bad.fault)) → IfErr result (IfBadLine (IsBadRow false file))
+pub absent_bad : {X : Type 0} (file : List ℕ) (result : Result X (Failure (LineFault Fault))) → IfErr result (IfBadLine (λ bad. (bad.source ≡ File) × IsFirstBad SayReading (lines_of file) bad.number)) → IfErr result (IsLineFailure (λ bad. IsLineFault IsFieldFault (line_at (lines_of file) bad.number) bad.fault)) → IfErr result (IfBadLine (IsBadRow false file))
 absent_bad file (Ok x) first fault = tt
 absent_bad file (Err (AtLine bad)) first fault = let same : bad.number ≡ bad.number + 0 = omega arith in (first.0, inr (lines_of file, refl, (bad.number, same, first.1, fault)))
 absent_bad file (Err OutOfMemory) first fault = tt
 absent_bad file (Err Device) first fault = tt
 
-pub given_bad : {X : Type 0} (file rows : List ℕ) (result : Result X (Failure (LineFault Fault))) → AreRowLines true file (lines_of rows) → IfErr result (IfBadLine (λ bad. (bad.place ≡ File) × IsFirstBadRow 1 (lines_of rows) bad)) → IfErr result (IfBadLine (IsBadRow true file))
+pub given_bad : {X : Type 0} (file rows : List ℕ) (result : Result X (Failure (LineFault Fault))) → AreRowLines true file (lines_of rows) → IfErr result (IfBadLine (λ bad. (bad.source ≡ File) × IsFirstBadRow 1 (lines_of rows) bad)) → IfErr result (IfBadLine (IsBadRow true file))
 given_bad file rows (Ok x) are first = tt
 given_bad file rows (Err (AtLine bad)) are first = (first.0, inr (lines_of rows, are, first.1))
 given_bad file rows (Err OutOfMemory) are first = tt

@@ -4,7 +4,7 @@ use Rattle.std.specs.declared.net.Ipv6Addr.{Ipv6Addr}
 use Rattle.program_lines.specs.Lines.{EndsInReturn, HasNo, IsCutAt, IsFirstBad, SayLine, line_at, lines_of}
 use Rattle.program_lines.specs.Faults.{IsLineFault}
 use Rattle.program_lines.specs.declared.failure.BadLine.{BadLine}
-use Rattle.program_lines.specs.declared.failure.Place.TheVariants.{File}
+use Rattle.program_lines.specs.declared.failure.Source.TheVariants.{File}
 use Rattle.program_lines.specs.declared.line_fault.LineFault.{LineFault}
 use Rattle.program_lines.specs.declared.line_fault.LineFault.TheVariants.{CarriageReturn, Other}
 use Rattle.index.specs.declared.fault.Fault.{Fault}
@@ -59,6 +59,6 @@ IsFirstBadRow before rows bad =
 -- the header is missing, or this is the first row that is no reading
 abbrev pub IsBadRow : Bool → List ℕ → BadLine (LineFault Fault) → Type 0
 IsBadRow has_header file bad =
-    (bad.place ≡ File)
+    (bad.source ≡ File)
     × (((has_header ≡ true) × (bad.number ≡ 1) × IsHeaderFault file bad.fault)
     ⊎ ((rows : List (List ℕ)) × AreRowLines has_header file rows × IsFirstBadRow (lines_before has_header) rows bad))

@@ -3,13 +3,13 @@ ghost use Rattle.std.specs.Prelude.{◌≡◌, List, ℕ, IfErr, IfOk, OnErr, tr
 ghost use Rattle.program_lines.specs.Failures.{IfBadLine};
 ghost use Rattle.program_lines.specs.Lines.{SayAll, lines_of};
 ghost use Rattle.index.specs.Readings.{AreRowLines, HasFields, IsBadRow, IsFieldFault, IsFirstBadRow, IsHeaderFault, SayReading};
-ghost use Rattle.program_lines.specs.declared.failure.Place.TheVariants.{File};
+ghost use Rattle.program_lines.specs.declared.failure.Source.TheVariants.{File};
 ghost use Rattle.index.specs.declared.reading.Reading.{Reading};
 
 use crate::fault::Fault;
 use crate::fields::{address_of, time_of};
 use program_lines::{
-    BadLine, Failure, FromLine, LineFault, Place, ends_in_return, first_line, said_whole,
+    BadLine, Failure, FromLine, LineFault, Source, ends_in_return, first_line, said_whole,
     split_once,
 };
 use std::alloc::Global;
@@ -73,12 +73,12 @@ pub(crate) fn table_of(
     ensures first_bad { IfErr result (IfBadLine (IsBadRow has_header file.now)) }
 {
     if !has_header {
-        return said_whole(alloc, Place::File, file);
+        return said_whole(alloc, Source::File, file);
     }
     match rows_of(file) {
         Ok(rows) => rows_after_header(alloc, rows),
         Err(fault) => Err(Failure::BadLine(BadLine {
-            place: Place::File,
+            source: Source::File,
             number: 1,
             fault,
         })),
@@ -110,12 +110,12 @@ fn rows_after_header(
 ) -> Result<Vec<Reading<'_>>, Failure<LineFault<Fault>>>
     ensures all { IfOk result (λ table. SayAll SayReading (lines_of rows.now) table.items) }
     ensures first_bad { IfErr result (IfBadLine (λ bad.
-        (bad.place ≡ File) × IsFirstBadRow 1 (lines_of rows.now) bad)) }
+        (bad.source ≡ File) × IsFirstBadRow 1 (lines_of rows.now) bad)) }
 {
-    match said_whole(alloc, Place::File, rows) {
+    match said_whole(alloc, Source::File, rows) {
         Ok(table) => Ok(table),
         Err(Failure::BadLine(bad)) => Err(Failure::BadLine(BadLine {
-            place: bad.place,
+            source: bad.source,
             number: bad.number + 1,
             fault: bad.fault,
         })),

@@ -1,16 +1,16 @@
 -- Failures: the exit status and the text of each.
 use Rattle.std.specs.Prelude.{ℕ, List, [], ◌++◌, Option, Some, option_map, codes}
 use Rattle.std.specs.Fmt.{decimal}
-use Rattle.program_lines.specs.declared.failure.Place.{Place}
-use Rattle.program_lines.specs.declared.failure.Place.TheVariants.{File, OnlyInput}
+use Rattle.program_lines.specs.declared.failure.Source.{Source}
+use Rattle.program_lines.specs.declared.failure.Source.TheVariants.{File, OnlyInput}
 use Rattle.program_lines.specs.declared.failure.BadLine.{BadLine}
 use Rattle.program_lines.specs.declared.failure.Failure.{Failure}
 use Rattle.program_lines.specs.declared.failure.Failure.TheVariants.{BadLine as AtLine, OutOfMemory, Device}
 
--- the name of a place, where a failure's line names it
-abbrev pub place_text : Place → List ℕ
-place_text File = codes "file "
-place_text OnlyInput = []
+-- the name of the source, where a failure's line names it
+abbrev pub source_text : Source → List ℕ
+source_text File = codes "file "
+source_text OnlyInput = []
 
 module _ {F : Type 0} where
   -- 2 where a line is at fault, 1 where memory or a device is
@@ -33,7 +33,7 @@ module _ {F : Type 0} where
 
   -- why a run ends without its output, by the text of a line's fault
   abbrev pub failure_text : (F → List ℕ) → Failure F → List ℕ
-  failure_text fault_text (AtLine bad) = place_text bad.place ++ codes "line " ++ decimal bad.number ++ codes ": " ++ fault_text bad.fault
+  failure_text fault_text (AtLine bad) = source_text bad.source ++ codes "line " ++ decimal bad.number ++ codes ": " ++ fault_text bad.fault
   failure_text fault_text OutOfMemory = codes "out of memory"
   failure_text fault_text Device = codes "device failed"
 

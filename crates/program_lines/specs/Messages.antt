@@ -13,8 +13,8 @@ shown_byte byte = cond (is_ascii_control byte) (codes "\\x" ++ digit_char (byte 
 
 -- the message on a line at fault: the program, where the line is read, its number, its fault, and its first 80 bytes, as shown
 abbrev pub message : List ℕ → List ℕ → ℕ → List ℕ → List ℕ → List ℕ
-message program place number fault text =
-    line (program ++ codes ": " ++ place ++ codes ": line " ++ decimal number ++ codes ": " ++ fault ++ codes ": " ++ flat_map shown_byte (take 80 text))
+message program source number fault text =
+    line (program ++ codes ": " ++ source ++ codes ": line " ++ decimal number ++ codes ": " ++ fault ++ codes ": " ++ flat_map shown_byte (take 80 text))
 
 -- the line of the input with this number is at fault, and this is the message, by the text of the fault, where that is known
 abbrev pub IsMessage : {F : Type 0} → (F → Option (List ℕ)) → (List ℕ → LineFault F → Type 0) → List ℕ → ℕ → List ℕ → List ℕ → Type 0

@@ -9,23 +9,23 @@ use std::{fmt, io};
 
 /// Where a program reads a line.
 #[derive(Clone, Copy, Debug, PartialEq, Eq)]
-pub enum Place {
+pub enum Source {
     /// The file that the program is given.
     File,
     /// Standard input, where the program reads nothing else: a failure's line does not name it.
     OnlyInput,
 }
 
-impl Display for Place {
+impl Display for Source {
     ghost use Rattle.std.specs.Prelude.{Some};
-    ghost use Rattle.program_lines.specs.Failures.{place_text};
+    ghost use Rattle.program_lines.specs.Failures.{source_text};
 
-    ghost output = { λ place. Some (place_text place) };
+    ghost output = { λ source. Some (source_text source) };
 
     fn fmt<W: fmt::Write>(&self, f: &mut fmt::Formatter<W>) -> fmt::Result {
         match self {
-            Place::File => write!(f, "file "),
-            Place::OnlyInput => Ok(()),
+            Source::File => write!(f, "file "),
+            Source::OnlyInput => Ok(()),
         }
     }
 }
@@ -34,7 +34,7 @@ impl Display for Place {
 #[derive(Clone, Copy, Debug, PartialEq, Eq)]
 pub struct BadLine<F> {
     /// Where the line is read.
-    pub place: Place,
+    pub source: Source,
     /// The number of the line there, from 1.
     pub number: usize,
     /// What is wrong with it.
@@ -91,7 +91,7 @@ impl<F: Display> Display for Failure<F> {
 
     fn fmt<W: fmt::Write>(&self, f: &mut fmt::Formatter<W>) -> fmt::Result {
         match self {
-            Failure::BadLine(bad) => write!(f, "{}line {}: {}", bad.place, bad.number, bad.fault),
+            Failure::BadLine(bad) => write!(f, "{}line {}: {}", bad.source, bad.number, bad.fault),
             Failure::OutOfMemory => write!(f, "out of memory"),
             Failure::Device => write!(f, "device failed"),
         }

@@ -14,7 +14,7 @@ mod session;
 mod stop;
 mod writing;
 
-pub use failure::{BadLine, Failure, Place};
+pub use failure::{BadLine, Failure, Source};
 pub use line_fault::LineFault;
 pub use lines::{FromLine, ends_in_return, first_line, item_of, said, said_whole, split_once};
 pub use message::Names;

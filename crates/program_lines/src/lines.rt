@@ -4,7 +4,7 @@ ghost use Rattle.program_lines.specs.Lines.{lines_of, line_at, SayAll, SayLine, 
 ghost use Rattle.program_lines.specs.Failures.{IfBadLine, IsLineFailure};
 ghost use Rattle.program_lines.specs.Faults.{IsLineFault};
 
-use crate::failure::{BadLine, Failure, Place};
+use crate::failure::{BadLine, Failure, Source};
 use crate::line_fault::LineFault;
 use std::alloc::Global;
 
@@ -52,16 +52,16 @@ pub fn item_of<'a, Fault: Copy, T: FromLine<'a, Fault>>(
 /// Refuses the first line that says nothing. An allocation may fail.
 pub fn said<'a, Fault: Copy, T: FromLine<'a, Fault> + Drop>(
     alloc: Global,
-    place: Place,
+    source: Source,
     bytes: &'a [u8],
 ) -> Result<Vec<T>, Failure<Fault>>
     ensures all { IfOk result (λ items. SayAll T.says (lines_of bytes.now) items.items) }
     ensures first_bad { IfErr result (IfBadLine (λ bad.
-        (bad.place ≡ place) × IsFirstBad T.says (lines_of bytes.now) bad.number)) }
+        (bad.source ≡ source) × IsFirstBad T.says (lines_of bytes.now) bad.number)) }
     ensures fault { IfErr result (IsLineFailure (λ bad.
         T.has_fault (line_at (lines_of bytes.now) bad.number) bad.fault)) }
 {
-    items_of::<Fault, T, AsItStands>(alloc, place, bytes)
+    items_of::<Fault, T, AsItStands>(alloc, source, bytes)
 }
 
 /// What the lines say as [`said`] reads them, where none may end with a carriage return.
@@ -69,17 +69,17 @@ pub fn said<'a, Fault: Copy, T: FromLine<'a, Fault> + Drop>(
 /// Refuses the first line that does, or that says nothing. An allocation may fail.
 pub fn said_whole<'a, Fault: Copy, T: FromLine<'a, Fault> + Drop>(
     alloc: Global,
-    place: Place,
+    source: Source,
     bytes: &'a [u8],
 ) -> Result<Vec<T>, Failure<LineFault<Fault>>>
     ensures all { IfOk result (λ items.
         SayAll (SayLine T.says) (lines_of bytes.now) items.items) }
     ensures first_bad { IfErr result (IfBadLine (λ bad.
-        (bad.place ≡ place) × IsFirstBad (SayLine T.says) (lines_of bytes.now) bad.number)) }
+        (bad.source ≡ source) × IsFirstBad (SayLine T.says) (lines_of bytes.now) bad.number)) }
     ensures fault { IfErr result (IsLineFailure (λ bad.
         IsLineFault T.has_fault (line_at (lines_of bytes.now) bad.number) bad.fault)) }
 {
-    items_of::<LineFault<Fault>, T, WithoutReturn>(alloc, place, bytes)
+    items_of::<LineFault<Fault>, T, WithoutReturn>(alloc, source, bytes)
 }
 
 // A way to read a line.
@@ -130,12 +130,12 @@ impl<'a, Fault: Copy, T: FromLine<'a, Fault>> ReadLine<'a, LineFault<Fault>, T> 
 // What the lines say, read in this way.
 fn items_of<'a, Fault: Copy, T: Drop, L: ReadLine<'a, Fault, T>>(
     alloc: Global,
-    place: Place,
+    source: Source,
     bytes: &'a [u8],
 ) -> Result<Vec<T>, Failure<Fault>>
     ensures all { IfOk result (λ items. SayAll L.reads (lines_of bytes.now) items.items) }
     ensures first_bad { IfErr result (IfBadLine (λ bad.
-        (bad.place ≡ place) × IsFirstBad L.reads (lines_of bytes.now) bad.number)) }
+        (bad.source ≡ source) × IsFirstBad L.reads (lines_of bytes.now) bad.number)) }
     ensures fault { IfErr result (IsLineFailure (λ bad.
         L.refuses (line_at (lines_of bytes.now) bad.number) bad.fault)) }
 {
@@ -148,7 +148,7 @@ fn items_of<'a, Fault: Copy, T: Drop, L: ReadLine<'a, Fault, T>>(
             Ok(item) => items.push(item)?,
             Err(fault) => {
                 return Err(Failure::BadLine(BadLine {
-                    place,
+                    source,
                     number: items.len() + 1,
                     fault,
                 }));
@@ -198,8 +198,8 @@ fn after_line(bytes: &[u8]) -> &[u8]
 
 // The index of the first such byte, or None where there is none.
 fn position_of(bytes: &[u8], at: u8) -> Option<usize>
-    ensures place { result ≡ position (λ b. b == at) bytes.now }
-    ensures within { IfSome result (λ place. place < length bytes.now) }
+    ensures index { result ≡ position (λ b. b == at) bytes.now }
+    ensures within { IfSome result (λ index. index < length bytes.now) }
 {
     bytes.iter().position(|byte| *byte == at)
 }
@@ -210,7 +210,7 @@ pub fn split_once(bytes: &[u8], at: u8) -> Option<(&[u8], &[u8])>
     ensures none { IfNone result (HasNo at bytes.now) }
 {
     match position_of(bytes, at) {
-        Some(place) => Some((&bytes[..place], &bytes[place + 1..])),
+        Some(index) => Some((&bytes[..index], &bytes[index + 1..])),
         None => None,
     }
 }

@@ -35,19 +35,19 @@ const SHOWN: usize = 80;
 pub(crate) fn push_message<F: Display + Copy>(
     alloc: Global,
     program: &str,
-    place: &str,
+    source: &str,
     number: u64,
     fault: F,
     line: &[u8],
     output: &mut Vec<u8>,
 ) -> Result<(), AllocError>
     ensures text { OnOk result (IfSome (F.output fault) (λ text. output.new.items
-        ≡ output.old.items ++ message program.now place.now number text line.now)) }
+        ≡ output.old.items ++ message program.now source.now number text line.now)) }
     ensures some { OnOk result (output.new.items ≢ []) }
 {
     output.extend_from_slice(program.as_bytes())?;
     output.extend_from_slice(b": ")?;
-    output.extend_from_slice(place.as_bytes())?;
+    output.extend_from_slice(source.as_bytes())?;
     output.extend_from_slice(b": line ")?;
     push_decimal(alloc, number, output)?;
     output.extend_from_slice(b": ")?;

@@ -1,23 +1,7 @@
--- What a run says and writes, line by line.
+-- What a run writes, line by line.
 use Rattle.std.proofs.Common.{◌≡◌, ◌∙◌, ℕ, List, [], ◌∷◌, ◌++◌, ap, append_assoc}
 use Rattle.std.specs.Prelude.{codes, Result, Ok, Err, OnOk}
 use Rattle.program_lines.specs.Lines.{line}
-use Rattle.routes.specs.declared.route.Route.{Route}
-use Rattle.routes.specs.declared.route.Query.{Query}
-use Rattle.routes.specs.Addresses.{IsAddress}
-use Rattle.routes.specs.Lines.{SayRoute, SayQuery}
-use Rattle.routes.specs.Maps.{IsRoute}
-
--- what the lines say are routes and addresses
-pub route_said : (line : List ℕ) (route : Route) → SayRoute line route → IsRoute route
-route_said line route (same, (text, next_hop, cut, some, (prefix, digits, at, (ip, spelled, is, fits), (number, most, none)))) =
-    record { address = fits; fits = most; none_behind = none }
-
-abbrev pub OfAddress : Query → Type 0
-OfAddress query = IsAddress query.address
-
-pub address_said : (line : List ℕ) (query : Query) → SayQuery line query → OfAddress query
-address_said line query (same, (ip, spelled, is, fits)) = fits
 
 -- the line of a reply, written in parts
 pub route_line : (old one two new query route : List ℕ) → one ≡ old ++ query → two ≡ one ++ 32 ∷ [] → new ≡ two ++ line route → new ≡ old ++ line (query ++ codes " " ++ route)

@@ -1,7 +1,5 @@
-pub mod Addresses
-pub mod Networks
 pub mod Lines
 pub mod Faults
 pub mod Tables
 pub mod Replies
-pub mod Maps
+pub mod Reading

@@ -1,30 +1,32 @@
 -- The output for a table and addresses, and which lines are bad.
-use Rattle.std.specs.Prelude.{◌≡◌, ◌⊎◌, ℕ, ◌+◌, false, List, ◌∷◌, ◌++◌, codes, length}
+use Rattle.std.specs.Prelude.{◌≡◌, ◌⊎◌, ℕ, ◌+◌, false, List, [], ◌∷◌, ◌++◌, codes, length}
 use Rattle.program_lines.specs.Lines.{line, lines_of, SayLine}
 use Rattle.program_lines.specs.Faults.{IsLineFault}
 use Rattle.program_lines.specs.declared.failure.BadLine.{BadLine}
 use Rattle.program_lines.specs.declared.line_fault.LineFault.{LineFault}
 use Rattle.program_lines.specs.declared.line_fault.LineFault.TheVariants.{Other}
-use Rattle.program_lines.specs.declared.failure.Place.TheVariants.{File}
+use Rattle.program_lines.specs.declared.failure.Source.TheVariants.{File}
+use Rattle.art_routes.specs.Networks.{Block, address_of}
+use Rattle.art_routes.specs.Tables.{IsLongest, NoneContains, put_routes}
 use Rattle.routes.specs.declared.fault.Fault.{Fault}
 use Rattle.routes.specs.declared.fault.Fault.TheVariants.{SameNetwork}
 use Rattle.routes.specs.declared.route.Route.{Route}
 use Rattle.routes.specs.declared.route.Query.{Query}
 use Rattle.routes.specs.Faults.{IsRouteFault, IsQueryFault}
 use Rattle.routes.specs.Lines.{is_comment, SayQuery}
-use Rattle.routes.specs.Tables.{AreRoutes, IsRouteAgain, HasNone, IsLongest}
+use Rattle.routes.specs.Tables.{AreRoutes, IsRouteAgain}
 
--- the reply to an address: it and the line of the longest route that matches, or it and none
-abbrev pub IsReply : List Route → Query → List ℕ → Type 0
-IsReply routes query text =
-    ((route : Route) × IsLongest routes query.address route × (text ≡ query.line.now ++ codes " " ++ route.line.now))
-    ⊎ (HasNone routes query.address × (text ≡ query.line.now ++ codes " none"))
+-- the reply to an address: it and the line of the longest route that contains it, or it and none
+abbrev pub IsReply : List (Block × Route) → Query → List ℕ → Type 0
+IsReply table query text =
+    ((route : Block × Route) × IsLongest table (address_of query.address) route × (text ≡ query.line.now ++ codes " " ++ route.1.line.now))
+    ⊎ (NoneContains table (address_of query.address) × (text ≡ query.line.now ++ codes " none"))
 
 -- a line of the input is an address, and this is the line with the reply to it
 abbrev pub HasReply : List ℕ → List ℕ → List ℕ → Type 0
-HasReply table text reply =
-    (routes : List Route) × (query : Query) × (answer : List ℕ) × AreRoutes (lines_of table) routes × SayLine SayQuery text query
-    × IsReply routes query answer × (reply ≡ line answer)
+HasReply file text reply =
+    (routes : List (Block × Route)) × (query : Query) × (answer : List ℕ) × AreRoutes (lines_of file) routes × SayLine SayQuery text query
+    × IsReply (put_routes [] routes) query answer × (reply ≡ line answer)
 
 -- what is wrong with a line after these: it is no route, or it is one to a network of an earlier one
 abbrev pub IsFaultAfter : List (List ℕ) → List ℕ → LineFault Fault → Type 0
@@ -33,9 +35,9 @@ IsFaultAfter before line fault =
 
 -- the first line of the table at fault: those before it are a table, and it is no comment, and has this fault
 abbrev pub IsBad : List ℕ → BadLine (LineFault Fault) → Type 0
-IsBad table bad =
-    (bad.place ≡ File)
-    × ((before after : List (List ℕ)) × (line : List ℕ) × (routes : List Route) × (lines_of table ≡ before ++ line ∷ after)
+IsBad file bad =
+    (bad.source ≡ File)
+    × ((before after : List (List ℕ)) × (line : List ℕ) × (routes : List (Block × Route)) × (lines_of file ≡ before ++ line ∷ after)
     × (bad.number ≡ length before + 1) × AreRoutes before routes × (is_comment line ≡ false) × IsFaultAfter before line bad.fault)
 
 -- a line of the input is no address, and this is its fault

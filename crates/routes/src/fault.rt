@@ -1,4 +1,5 @@
 //! What may be wrong with a line.
+use art_routes::NetworkTextFault;
 use std::fmt;
 
 /// The fault of a line of the table, or of an address.
@@ -8,12 +9,8 @@ pub enum Fault {
     BadAddress,
     /// No space, with a next hop behind it, comes after the network.
     NoNextHop,
-    /// No `/` comes after the address of a network.
-    NoLength,
-    /// What follows the `/` is no number, or one above the bits of the address.
-    BadLength,
-    /// A bit of the network's address is set behind its length.
-    BitsBehindLength,
+    /// What comes before the space writes no network.
+    BadNetwork(NetworkTextFault),
     /// The line of this number, an earlier one, has the same network.
     SameNetwork(usize),
 }
@@ -28,9 +25,7 @@ impl fmt::Display for Fault {
         match self {
             Fault::BadAddress => write!(f, "bad address"),
             Fault::NoNextHop => write!(f, "no next hop"),
-            Fault::NoLength => write!(f, "no length"),
-            Fault::BadLength => write!(f, "bad length"),
-            Fault::BitsBehindLength => write!(f, "bits set behind the length"),
+            Fault::BadNetwork(fault) => write!(f, "{}", *fault),
             Fault::SameNetwork(number) => write!(f, "same network as line {}", *number),
         }
     }

@@ -4,9 +4,7 @@
 //! `Table` answers the lines of the input, as a [`Program`](program_lines::Program).
 #![tactic(auto)]
 
-mod address;
 mod fault;
-mod network;
 mod replies;
 mod route;
 mod table;

@@ -1,17 +1,16 @@
 //! The replies to addresses.
 ghost use Rattle.std.specs.Prelude.{OnOk};
-ghost use Rattle.routes.specs.Addresses.{IsAddress};
-ghost use Rattle.routes.specs.Maps.{Holds, AppendsReply};
+ghost use Rattle.routes.specs.Reading.{AppendsReply};
 
 use crate::fault::Fault;
 use crate::route::Query;
-use crate::table::{Table, longest_match, table_of};
+use crate::table::{Table, table_of};
 use program_lines::{Failure, LineFault, Program, item_of, push_line};
 use std::alloc::{AllocError, Global};
 
 impl<'a> Program<'a> for Table<'a> {
     ghost use Rattle.std.specs.Prelude.{◌≡◌, []};
-    ghost use Rattle.routes.specs.Maps.{IsTable};
+    ghost use Rattle.routes.specs.Reading.{IsTable};
     ghost use Rattle.routes.specs.Replies.{HasReply, IsBad, HasFault};
 
     type Fault = Fault;
@@ -51,13 +50,11 @@ impl<'a> Program<'a> for Table<'a> {
 
 // Appends the line for an address.
 fn push_reply(table: &Table<'_>, query: &Query<'_>, output: &mut Vec<u8>) -> Result<(), AllocError>
-    requires { IsAddress query.now.address }
-    ensures { OnOk result ((routes : _) → Holds routes table.now.routes →
-        AppendsReply routes query.now output.old.items output.new.items) }
+    ensures { OnOk result (AppendsReply table.now.routes query.now output.old.items output.new.items) }
 {
     output.extend_from_slice(query.line)?;
-    match longest_match(table, query.address) {
-        Some(route) => {
+    match table.routes.longest_match(query.address) {
+        Some((_, route)) => {
             output.push(b' ')?;
             push_line(output, route.line)
         }

@@ -2,20 +2,18 @@
 ghost use Rattle.std.specs.Prelude.{◌≡◌};
 ghost use Rattle.routes.specs.Lines.{is_comment as is_comment_line};
 
-use crate::address::{Address, address_of};
 use crate::fault::Fault;
-use crate::network::{Network, network_of};
+use art_routes::Network;
 use program_lines::{FromLine, split_once};
+use std::net::IpAddr;
 
-/// A line of the table: `PREFIX/LEN NEXTHOP`.
+/// What the table keeps by the network of a line `PREFIX/LEN NEXTHOP`.
 #[derive(Clone, Copy)]
 pub struct Route<'a> {
     /// The whole line.
     pub(crate) line: &'a [u8],
     /// The number of the line in the table, from 1.
     pub(crate) number: usize,
-    /// The network before the first space.
-    pub(crate) network: Network,
 }
 
 /// A line of the input: an address.
@@ -24,7 +22,7 @@ pub struct Query<'a> {
     /// The whole line.
     pub(crate) line: &'a [u8],
     /// What it writes.
-    pub(crate) address: Address,
+    pub(crate) address: IpAddr,
 }
 
 /// Whether a line of the table is a comment: it is empty, or begins with `#`.
@@ -46,14 +44,16 @@ impl<'a> FromLine<'a, Fault> for Network {
     ghost has_fault = { IsRouteFault };
 
     fn from_line(line: &'a [u8]) -> Result<Network, Fault> {
-        let Some((network, next_hop)) = split_once(line, b' ') else {
+        let Some((text, next_hop)) = split_once(line, b' ') else {
             return Err(Fault::NoNextHop);
         };
         if next_hop.is_empty() {
             return Err(Fault::NoNextHop);
         }
-        let network = network_of(network)?;
-        Ok(network)
+        match Network::parse_ascii(text) {
+            Ok(network) => Ok(network),
+            Err(fault) => Err(Fault::BadNetwork(fault)),
+        }
     }
 }
 
@@ -66,7 +66,9 @@ impl<'a> FromLine<'a, Fault> for Query<'a> {
     ghost has_fault = { IsQueryFault };
 
     fn from_line(line: &'a [u8]) -> Result<Query<'a>, Fault> {
-        let address = address_of(line)?;
-        Ok(Query { line, address })
+        match IpAddr::parse_ascii(line) {
+            Ok(address) => Ok(Query { line, address }),
+            Err(_) => Err(Fault::BadAddress),
+        }
     }
 }

@@ -8,7 +8,7 @@ use Rattle.program_lines.specs.Lines.{line, lines_of, line_at, SayAll, SayLine, 
 use Rattle.program_lines.specs.Faults.{IsLineFault}
 use Rattle.program_lines.specs.declared.failure.BadLine.{BadLine}
 use Rattle.program_lines.specs.declared.line_fault.LineFault.{LineFault}
-use Rattle.program_lines.specs.declared.failure.Place.TheVariants.{File}
+use Rattle.program_lines.specs.declared.failure.Source.TheVariants.{File}
 use Rattle.words.specs.declared.dictionary.Word.{Word}
 use Rattle.words.specs.declared.fault.Fault.{Fault}
 use Rattle.words.specs.declared.query.Query.{Query}
@@ -60,7 +60,7 @@ HasReply list line text = (words : List (List ℕ)) × (query : Query) × IsList
 -- this is the first line of the list that is no word, and its fault
 abbrev pub IsBad : List ℕ → BadLine (LineFault Fault) → Type 0
 IsBad list bad =
-    (bad.place ≡ File) × IsFirstBad (SayLine SayWord) (lines_of list) bad.number
+    (bad.source ≡ File) × IsFirstBad (SayLine SayWord) (lines_of list) bad.number
     × IsLineFault IsWordFault (line_at (lines_of list) bad.number) bad.fault
 
 -- a line of the input is no query, and this is its fault

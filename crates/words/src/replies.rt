@@ -15,7 +15,7 @@ use crate::query::Query;
 use art_bytes::{CStringKey, SliceKey};
 use art_map::{DEFAULT_PREFIX_LEN, Iter};
 use program_lines::{
-    Failure, LineFault, Place, Program, item_of, push_line, push_number, said_whole,
+    Failure, LineFault, Program, Source, item_of, push_line, push_number, said_whole,
 };
 use std::alloc::{AllocError, Global};
 use std::ops::Bound;
@@ -47,7 +47,7 @@ impl<'a> Program<'a> for Words {
         list: &'a [u8],
         output: &mut Vec<u8>,
     ) -> Result<Words, Failure<LineFault<Fault>>> {
-        let words: Vec<Word<'_>> = said_whole(alloc, Place::File, list)?;
+        let words: Vec<Word<'_>> = said_whole(alloc, Source::File, list)?;
         let dictionary = dictionary_of(alloc, &words)?;
         push_counts(alloc, dictionary.len(), words.len(), output)?;
         Ok(Words { dictionary })

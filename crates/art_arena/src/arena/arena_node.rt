@@ -75,7 +75,7 @@ pub trait ArenaNode<K, V, const PREFIX_LEN: usize>: Node<PREFIX_LEN, Key = K, Va
 ///     arena: &NodeArena<K, V, PREFIX_LEN>,
 ///     node: NodePtr<PREFIX_LEN, N>,
 ///     byte: u8,
-/// ) -> Option<NodePtr<PREFIX_LEN, LeafNode<K, V, PREFIX_LEN>>>
+/// ) -> Option<LeafPtr<K, V, PREFIX_LEN>>
 /// // ..
 /// let child = arena.as_ref(node).lookup_child(byte)?;
 /// Some(end_leaf(arena, child, End::First))

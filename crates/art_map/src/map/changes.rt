@@ -1,8 +1,8 @@
 //! Calls that change a map: entries that are added and removed, values that are changed in place,
 //! and the memory that there is for them.
-ghost use Rattle.std.specs.Prelude.{◌≡◌, ◌≢◌, IfOk, IfErr, IfNone, IfSome, OnOk, OnErr, None, is_ok, map, []};
+ghost use Rattle.std.specs.Prelude.{◌≡◌, ◌≢◌, IfOk, IfErr, IfNone, IfSome, OnOk, OnErr, None, filter, is_ok, map, not, []};
 ghost use Rattle.std.specs.Option.{option_map, option_copied_mut, UnwrapsOrElse};
-ghost use Rattle.art_map.specs.Changes.{IsRefused, MayEnter};
+ghost use Rattle.art_map.specs.Changes.{IsEntryRefused, EntryMayEnter};
 ghost use Rattle.art_tree.specs.Entries.{put_entry, without_text, entries_of};
 ghost use Rattle.art_tree.specs.Refusals.{texts_of};
 ghost use Rattle.art_nodes.specs.declared.pointers.OpaqueNodePtr.{OpaqueNodePtr as Pointer};
@@ -10,12 +10,15 @@ ghost use Rattle.art_map.specs.Entries.{entry_with};
 ghost use Rattle.art_map.specs.Shrinking.{NeedsNode};
 ghost use Rattle.std.specs.Borrow.{sem};
 ghost use Rattle.art_map.specs.Calls.{CallableInTurn, ChangesInTurn};
+ghost use Rattle.art_map.specs.MapCursors.{IsAt, cursor_tree};
 ghost use Rattle.art_map.specs.MapLending.{LendsValueIn, LendsTree};
-ghost use Rattle.art_map.specs.Ranges.{entries_outside, entries_with_prefix, entries_within, entries_without_prefix};
+ghost use Rattle.art_map.specs.Ranges.{entries_outside, entries_with_prefix, entries_within, entries_without_prefix, is_from};
 ghost use Rattle.art_map.specs.EnteredValues.{LendsValueOf};
 ghost use Rattle.art_tree.specs.declared.insert.InsertRefusal.TheVariants.{OutOfMemory};
 ghost use Rattle.art_map.specs.Memory.{Emptied, Inserted, KeptNodes, KeptRoom, LackedRoomFor, Removed, Unchanged, WithRoomFor};
 
+use crate::cursor::cut_at;
+use crate::cursor_mut::{CursorMut, CursorOver};
 use crate::map::MapSeenAs;
 use crate::map::laws::removals_need_nodes;
 use crate::map::ranges::{end_of, start_of};
@@ -51,9 +54,9 @@ where
             (λ before. before ≡ entry_with K.text (S.entries self.old) (K.text key)) }
         ensures entries { OnOk result
             (S.entries self.new ≡ put_entry K.text (S.entries self.old) (key, value)) }
-        ensures no_refusal { OnOk result (MayEnter K.text (S.entries self.old) (K.text key)) }
+        ensures no_refusal { OnOk result (EntryMayEnter K.text (S.entries self.old) (K.text key)) }
         ensures refusal_due { IfErr result
-            (λ fault. IsRefused K.text (S.entries self.old) (K.text key) fault.refusal) }
+            (λ fault. IsEntryRefused K.text (S.entries self.old) (K.text key) fault.refusal) }
         ensures no_entry { OnErr result (entry_with K.text (S.entries self.old) (K.text key) ≡ None) }
         ensures entry_back { IfErr result (λ fault. (fault.key ≡ key) × (fault.value ≡ value)) }
         ensures same_entries { OnErr result (S.entries self.new ≡ S.entries self.old) }
@@ -88,9 +91,9 @@ where
         ensures added { IfOk result (λ back. IfNone back (
             (entry_with K.text (S.entries self.old) (K.text key) ≡ None)
             × (S.entries self.new ≡ put_entry K.text (S.entries self.old) (key, value)))) }
-        ensures no_refusal { IfOk result (λ back. IfNone back (MayEnter K.text (S.entries self.old) (K.text key))) }
+        ensures no_refusal { IfOk result (λ back. IfNone back (EntryMayEnter K.text (S.entries self.old) (K.text key))) }
         ensures refusal_due { IfErr result
-            (λ fault. IsRefused K.text (S.entries self.old) (K.text key) fault.refusal) }
+            (λ fault. IsEntryRefused K.text (S.entries self.old) (K.text key) fault.refusal) }
         ensures no_entry { OnErr result (entry_with K.text (S.entries self.old) (K.text key) ≡ None) }
         ensures entry_back { IfErr result (λ fault. (fault.key ≡ key) × (fault.value ≡ value)) }
         ensures same_entries { OnErr result (S.entries self.new ≡ S.entries self.old) }
@@ -130,7 +133,7 @@ where
     ///
     /// A list of entries shows no memory. An [`ArtTreeMap`](crate::ArtTreeMap) shows the tree, and its
     /// clauses say that none of the next calls is refused for memory, each of which leaves room for one
-    /// fewer (`HasRoomFor`).
+    /// fewer (`HasEntryRoom`).
     ///
     /// (from tests/art_map_tests/map/refusals.rt.txt)
     /// ```rust
@@ -162,6 +165,27 @@ where
         ensures tree { S.memory self.old (S.seen result.now) Unchanged }
     {
         &mut self.tree
+    }
+
+    /// A cursor at the first entry at or behind the start, or behind the last entry where there is none.
+    /// The start need not be a key of the map. The map ends with the entries that are left in its tree.
+    /// Costs as much as [`lower_bound`](Self::lower_bound). Takes no memory.
+    ///
+    /// See [`CursorMut`] for an example.
+    pub fn cursor_mut<Q: AsBytes>(&mut self, start: Bound<&Q>) -> CursorMut<'_, K, V, PREFIX_LEN>
+        ensures* writes_back { sem 𝓛 (LendsTree K.row V.row PREFIX_LEN.row S.row K.text K.is_key
+            S.seen self.entry (cursor_tree result)) }
+        ensures at_start { IsAt K.text result
+            (filter (λ entry. not (is_from Q.text start.entry (K.text entry.0))) (S.entries self.old))
+            (filter (λ entry. is_from Q.text start.entry (K.text entry.0)) (S.entries self.old)) }
+        ensures tree { S.memory self.old (S.seen (cursor_tree result).now) Unchanged }
+    {
+        let (side, key) = start_of(start);
+        let leaf = cut_at(&self.tree, side, key);
+        CursorOver {
+            tree: &mut self.tree,
+            leaf,
+        }
     }
 
     /// A mutable reference to the value of the entry with the bytes of this key, or None where there
@@ -305,9 +329,9 @@ where
         ensures value { IfOk result (λ value. UnwrapsOrElse
             (option_map (λ entry. entry.1) (entry_with K.text (S.entries self.old) (K.text key)))
             (F.post make) value.now) }
-        ensures no_refusal { OnOk result (MayEnter K.text (S.entries self.old) (K.text key)) }
+        ensures no_refusal { OnOk result (EntryMayEnter K.text (S.entries self.old) (K.text key)) }
         ensures refusal_due { IfErr result
-            (λ fault. IsRefused K.text (S.entries self.old) (K.text key) fault.refusal) }
+            (λ fault. IsEntryRefused K.text (S.entries self.old) (K.text key) fault.refusal) }
         ensures no_entry { OnErr result (entry_with K.text (S.entries self.old) (K.text key) ≡ None) }
         ensures entry_back { IfErr result (λ fault. (fault.key ≡ key) × F.post make fault.value) }
         ensures no_room { IfErr result (λ fault. fault.refusal ≡ OutOfMemory →

@@ -7,7 +7,7 @@ ghost use Rattle.art_map.specs.Appending.{IsAppendRefused, SomeClashes, SomeIsNe
 ghost use Rattle.art_map.specs.Extending.{put_all, MayStandTogether};
 ghost use Rattle.art_tree.specs.Refusals.{texts_of, IsDue};
 ghost use Rattle.art_tree.specs.declared.loading.check.LoadRefusal.TheVariants.{OutOfMemory};
-ghost use Rattle.art_map.specs.Changes.{IsRefused};
+ghost use Rattle.art_map.specs.Changes.{IsEntryRefused};
 ghost use Rattle.art_map.specs.Entries.{entry_with};
 ghost use Rattle.std.specs.Map.Calls.{CallableOnEachPair, CalledAtPair, RetainsPairs, TakesPair};
 ghost use Rattle.art_nodes.specs.declared.pointers.OpaqueNodePtr.{OpaqueNodePtr as Pointer};
@@ -133,7 +133,7 @@ impl<K: AsBytes + Drop, V: Drop, const PREFIX_LEN: usize> ArtMap<K, V, PREFIX_LE
         ensures entries { IfOk result (λ map. map ≡ put_all K.text [] entries.items) }
         ensures entries_back { IfErr result (λ fault. drop fault.added entries.items
             ≡ (fault.refused.key, fault.refused.value) ∷ fault.rest.items) }
-        ensures refusal_due { IfErr result (λ fault. IsRefused K.text
+        ensures refusal_due { IfErr result (λ fault. IsEntryRefused K.text
             (put_all K.text [] (take fault.added entries.items))
             (K.text fault.refused.key) fault.refused.refusal) }
         ensures none_before { IfErr result
@@ -175,7 +175,7 @@ impl<K: AsBytes + Drop, V: Drop, const PREFIX_LEN: usize> ArtMap<K, V, PREFIX_LE
         ensures entries_back { IfErr result (λ fault. drop fault.added entries.items
             ≡ (fault.refused.key, fault.refused.value) ∷ fault.rest.items) }
         ensures refusal_due { IfErr result
-            (λ fault. IsRefused K.text self.new (K.text fault.refused.key) fault.refused.refusal) }
+            (λ fault. IsEntryRefused K.text self.new (K.text fault.refused.key) fault.refused.refusal) }
         ensures no_entry { IfErr result
             (λ fault. entry_with K.text self.new (K.text fault.refused.key) ≡ None) }
         ensures are_keys { OnOk result (All (λ entry. K.is_key entry.0) entries.items) }

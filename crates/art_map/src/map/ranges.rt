@@ -85,11 +85,10 @@ impl<K: AsBytes, V, const PREFIX_LEN: usize> ArtMap<K, V, PREFIX_LEN> {
         run_between(self.tree.arena(), self.tree.root(), ends)
     }
 
-    /// The entries whose keys are within the two bounds, in ascending order, and from the back in
-    /// descending order. There are none where the start is above the end. A bound need not be a key
-    /// of the map, and may be a prefix of keys. It counts by its bytes: see [`ArtMap`] for bounds of
-    /// another mapping than the keys'. Of a range of std, as `low..high`, [`within`](Self::within) has the
-    /// entries.
+    /// The entries whose keys are within two bounds; [`within`](Self::within) has those of a range, as
+    /// `low..high`. In ascending order, and from the back in descending order. There are none where the
+    /// start is above the end. A bound need not be a key of the map, and may be a prefix of keys. It
+    /// counts by its bytes: see [`ArtMap`] for bounds of another mapping than the keys'.
     ///
     /// Goes down to the place of each bound as [`lower_bound`](Self::lower_bound) does; then each
     /// entry takes constant time. Takes no memory.
@@ -101,10 +100,10 @@ impl<K: AsBytes, V, const PREFIX_LEN: usize> ArtMap<K, V, PREFIX_LEN> {
         self.between(start_side, start, end_side, end)
     }
 
-    /// The entries whose keys are within a range, as `low..high` or `low..=high`, in ascending order, and
-    /// from the back in descending order. There are none where the start is above the end. The ends have
-    /// one type, and count by their bytes as the bounds of a [`range`](Self::range), which it costs as
-    /// much as. Of a range type whose impl says nothing of its bounds, only that there are two is known.
+    /// The entries whose keys are within a range, as `low..high` or `low..=high`, or a pair of [`Bound`]s,
+    /// in ascending order, and from the back in descending order. There are none where the start is above
+    /// the end. The ends have one type, and count by their bytes as those of a [`range`](Self::range),
+    /// which it costs as much as. Of a range type whose impl says nothing of its bounds, only that there are two is known.
     /// Takes no memory.
     ///
     /// A map with `iron`, `tin`, `titanium` and `zinc`:

@@ -106,8 +106,10 @@ where
         self.tree.len()
     }
 
-    /// The value of the entry with the bytes of this key, or None where there is none. Visits at most
-    /// one node more than the key has bytes. Takes no memory.
+    /// The value of the entry with the bytes of this key, or None where there is none. A map by
+    /// `Mapped<Escaped, String>` is asked by an [`EscapedKey`](crate::EscapedKey), whose bytes are escaped
+    /// too: by `b"tin"` it finds nothing. Visits at most one node more than the key has bytes. Takes no
+    /// memory.
     pub fn get<Q: AsBytes>(&self, key: &Q) -> Option<&V>
         ensures { option_copied result
             ≡ option_map (λ entry. entry.1) (entry_with K.text (S.entries self.now) (Q.text key.now)) }

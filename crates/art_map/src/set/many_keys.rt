@@ -20,10 +20,13 @@ use crate::into_iter::{IntoKeys, keys_taken};
 use crate::keeps::OnKey;
 use crate::map::ArtMap;
 use crate::set::{ArtSet, SetOver};
+use crate::sorted::load_keys;
 use art_bytes::AsBytes;
+use art_nodes::NodeType;
 use art_tree::{InsertRefusal, LoadFault, LoadRefusal};
 use std::alloc::{AllocError, Global};
 use std::collections::VecDeque;
+use std::mem;
 
 impl<K: AsBytes + Drop, const PREFIX_LEN: usize> ArtSet<K, PREFIX_LEN> {
     /// Makes a set of these keys, each with `()`, which must ascend and of which none may be a prefix of
@@ -52,7 +55,8 @@ impl<K: AsBytes + Drop, const PREFIX_LEN: usize> ArtSet<K, PREFIX_LEN> {
     /// the others are dropped.
     ///
     /// Stops at the first key that [`insert`](Self::insert) refuses, as
-    /// [`ArtMap::from_entries`](crate::ArtMap::from_entries) does. Costs as much as an insert of each.
+    /// [`ArtMap::from_entries`](crate::ArtMap::from_entries) does. Keys that ascend are loaded, and others
+    /// are sorted first, at its cost: so they lie in memory in their order.
     ///
     /// (from tests/art_map_tests/map/extended_maps.rt.txt)
     /// ```rust
@@ -89,7 +93,8 @@ impl<K: AsBytes + Drop, const PREFIX_LEN: usize> ArtSet<K, PREFIX_LEN> {
     ///
     /// Stops at the first key that is refused, and returns it with the reason, the number of those before
     /// it, which are in, and those behind it. Takes no memory but that of the inserts, and costs as much
-    /// as they do.
+    /// as they do: but a set without keys and without spare capacity gets them, sorted, as
+    /// [`from_keys`](Self::from_keys) does.
     ///
     /// A set with `tin`:
     ///
@@ -112,6 +117,10 @@ impl<K: AsBytes + Drop, const PREFIX_LEN: usize> ArtSet<K, PREFIX_LEN> {
         ensures are_keys_so_far { IfErr result
             (λ fault. All K.is_key (take (fault.added + 1) keys.items)) }
     {
+        let keys = match self.load_all(keys) {
+            Ok(()) => return Ok(()),
+            Err(keys) => keys,
+        };
         let count = keys.len();
         let mut pending = VecDeque::from(keys);
         'each: while let Some(key) = pending.pop_front() {
@@ -127,6 +136,26 @@ impl<K: AsBytes + Drop, const PREFIX_LEN: usize> ArtSet<K, PREFIX_LEN> {
             }
         }
         Ok(())
+    }
+
+    // Loads keys into a set that has none, and no memory for one, where none of them is refused. Else the
+    // keys come back.
+    fn load_all(&mut self, keys: Vec<K>) -> Result<(), Vec<K>>
+        ensures keys { OnOk result (self.new ≡ union K.text self.old keys.items) }
+        ensures are_keys { OnOk result (All K.is_key keys.items) }
+        ensures same_keys { OnErr result (self.new ≡ self.old) }
+        ensures keys_back { IfErr result (λ back. back.items ≡ keys.items) }
+    {
+        if !self.is_empty() || self.entries.tree().arena().has_room(NodeType::Leaf) {
+            return Err(keys);
+        }
+        match load_keys(self.entries.tree().alloc(), keys) {
+            Ok(mut entries) => {
+                mem::swap(&mut self.entries, &mut entries);
+                Ok(())
+            }
+            Err(keys) => Err(keys),
+        }
     }
 
     /// Moves all keys of the other set into this one, and leaves the other one empty. Where both have a

@@ -5,9 +5,8 @@ ghost use Rattle.art_map.specs.Merges.{walk, union, intersection, difference, sy
 
 use crate::iter::HasRuns;
 use crate::keys::{Keys, RunKeys};
-use crate::run_ends::LeafPtr;
 use crate::set::ArtSet;
-use art_arena::NodeArena;
+use art_arena::{LeafPtr, NodeArena};
 use art_bytes::AsBytes;
 use std::alloc::AllocError;
 use std::cmp::Ordering;

@@ -4,7 +4,7 @@ ghost use Rattle.std.specs.Cmp.Lexicographic.{pointwise, slice_cmp};
 ghost use Rattle.std.specs.Option.{option_map};
 ghost use Rattle.std.specs.Ordering.{ordering_then};
 ghost use Rattle.std.specs.List.{AllZip};
-ghost use Rattle.art_map.specs.Entries.{entry_with, with_value};
+ghost use Rattle.art_map.specs.Entries.{entry_with, entries_with_value};
 
 use super::*;
 use art_tree::{AsBytes, InsertRefusal, LoadRefusal};
@@ -16,7 +16,7 @@ fn reprice<K: AsBytes, const PREFIX_LEN: usize>(
     name: &K,
     price: u32,
 ) -> bool
-    ensures set { IsTrue result → prices.new ≡ with_value K.text prices.old (K.text name.now) price }
+    ensures set { IsTrue result → prices.new ≡ entries_with_value K.text prices.old (K.text name.now) price }
     ensures absent { ¬ IsTrue result → prices.new ≡ prices.old }
 {
     match prices.get_mut(name) {

@@ -2,7 +2,7 @@
 //! remove from a small map, and remove or change entries and then insert.
 ghost use Rattle.std.specs.Prelude.{◌≡◌, ◌≢◌, ◌<◌, ◌+◌, ℕ, length, IfErr, IfOk, IsOk, OnOk};
 ghost use Rattle.art_tree.specs.Entries.{entries_of, put_entry};
-ghost use Rattle.art_tree.specs.Room.{HasRoomFor};
+ghost use Rattle.art_tree.specs.Room.{HasEntryRoom};
 ghost use Rattle.art_tree.specs.declared.insert.InsertRefusal.TheVariants.{OutOfMemory};
 
 use super::*;
@@ -17,10 +17,10 @@ fn enter<K: AsBytes + Drop, const PREFIX_LEN: usize>(
     key: K,
     value: u32,
 ) -> Result<(), InsertFault<K, u32>>
-    ensures enough { (count : ℕ) → HasRoomFor prices.old.arena (count + 1) →
+    ensures enough { (count : ℕ) → HasEntryRoom prices.old.arena (count + 1) →
         IfErr result (λ fault. fault.refusal ≢ OutOfMemory) }
-    ensures lasts { (count : ℕ) → HasRoomFor prices.old.arena (count + 1) →
-        HasRoomFor prices.new.arena count }
+    ensures lasts { (count : ℕ) → HasEntryRoom prices.old.arena (count + 1) →
+        HasEntryRoom prices.new.arena count }
 {
     match prices.insert(key, value) {
         Ok(_) => Ok(()),
@@ -76,10 +76,10 @@ fn keep_dear<K: AsBytes + Drop, const PREFIX_LEN: usize>(
     prices: &mut ArtTreeMap<K, u32, PREFIX_LEN>,
     least: u32,
 ) -> Result<(), AllocError>
-    ensures enough { HasRoomFor prices.old.arena (length (entries_of K.text prices.old.arena) + 1) →
+    ensures enough { HasEntryRoom prices.old.arena (length (entries_of K.text prices.old.arena) + 1) →
         IsOk result }
-    ensures lasts { HasRoomFor prices.old.arena (length (entries_of K.text prices.old.arena) + 1) →
-        (count : ℕ) × HasRoomFor prices.new.arena (count + 1) }
+    ensures lasts { HasEntryRoom prices.old.arena (length (entries_of K.text prices.old.arena) + 1) →
+        (count : ℕ) × HasEntryRoom prices.new.arena (count + 1) }
 {
     prices.retain(|_, price| least <= *price)
 }
@@ -92,7 +92,7 @@ fn keep_dear_and<K: AsBytes + Drop, const PREFIX_LEN: usize>(
     name: K,
     price: u32,
 ) -> Result<(), InsertFault<K, u32>>
-    requires { HasRoomFor prices.old.arena (length (entries_of K.text prices.old.arena) + 1) }
+    requires { HasEntryRoom prices.old.arena (length (entries_of K.text prices.old.arena) + 1) }
     ensures { IfErr result (λ fault. fault.refusal ≢ OutOfMemory) }
 {
     match keep_dear(prices, least) {
@@ -104,7 +104,7 @@ fn keep_dear_and<K: AsBytes + Drop, const PREFIX_LEN: usize>(
 
 /// Clears all prices: there is room for as many changes as before.
 fn clear_prices<K: AsBytes, const PREFIX_LEN: usize>(prices: &mut ArtTreeMap<K, u32, PREFIX_LEN>)
-    ensures { (count : ℕ) → HasRoomFor prices.old.arena count → HasRoomFor prices.new.arena count }
+    ensures { (count : ℕ) → HasEntryRoom prices.old.arena count → HasEntryRoom prices.new.arena count }
 {
     prices.for_each_value_mut(|_, price| *price = 0);
 }

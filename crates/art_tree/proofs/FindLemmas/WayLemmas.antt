@@ -1,5 +1,5 @@
 -- Search: the state of the descent, and one node visit more.
-use Rattle.art_tree.proofs.Names.{Bool, IsTrue, Bor, IfSome, IfNone, ◌≡◌, ◌≢◌, ◌∙◌, ℕ, ◌+◌, ◌≤◌, true, false, List, [], ◌∷◌, ◌++◌, length, length-append, Option, Some, None, slice_get, drop, refl, sym, ap, subst, arith, nat_eq, append_assoc, if◌then◌else◌, append-nil, pointwise, drop-append_seam, drop-drop, IsPrefixOf, child_at, NodePtr, OpaqueNodePtr, LeafNode, NodeArena, Held, Nothing, HeldInner, HeldLeaf, held, shown, StandsIn, AllStandIn, NodeStands, IsTreeIn, leaf_text, Tree, Inner, Branches, IsSound, root_of, branch_roots, at-some, shown-prefix, TreePath, LeadsOn, LeadsNowhere, LeadsOnFrom, LeadsNowhereFrom, Steps, HasVisited, scan, met, IsWay, leaf_pointer, other_text, text_itself, InnerNode}
+use Rattle.art_tree.proofs.Names.{LeafPtr, Bool, IsTrue, Bor, IfSome, IfNone, ◌≡◌, ◌≢◌, ◌∙◌, ℕ, ◌+◌, ◌≤◌, true, false, List, [], ◌∷◌, ◌++◌, length, length-append, Option, Some, None, slice_get, drop, refl, sym, ap, subst, arith, nat_eq, append_assoc, if◌then◌else◌, append-nil, pointwise, drop-append_seam, drop-drop, IsPrefixOf, child_at, OpaqueNodePtr, LeafNode, NodeArena, Held, Nothing, HeldInner, HeldLeaf, held, shown, StandsIn, AllStandIn, NodeStands, IsTreeIn, leaf_text, Tree, Inner, Branches, IsSound, root_of, branch_roots, at-some, shown-prefix, TreePath, LeadsOn, LeadsNowhere, LeadsOnFrom, LeadsNowhereFrom, Steps, HasVisited, scan, met, IsWay, leaf_pointer, other_text, text_itself, InnerNode}
 use Rattle.art_arena.specs.declared.reader.AnyNodeRef.{AnyNodeRef}
 use Rattle.art_arena.specs.declared.reader.AnyNodeRef.TheVariants as references
 use Rattle.art_tree.proofs.SharedLemmas.HeldParts.{inner-part, leaf-part, part-held}
@@ -7,7 +7,7 @@ use Rattle.art_tree.proofs.FindLemmas.DescentLemmas.{prefix-goes}
 use Rattle.art_tree.proofs.FindLemmas.ScanLemmas.{scan-nowhere, met-nowhere, branching}
 
 -- a leaf that was looked at is held on
-pub still-held : {K V : Type 0} {P : ℕ} (now arena : NodeArena K V P) (at : OpaqueNodePtr K V P) (leaf : NodePtr P (LeafNode K V P)) (node : LeafNode K V P) → now ≡ arena → leaf_pointer leaf ≡ at → held arena at ≡ HeldLeaf node → held now (leaf_pointer leaf) ≢ Nothing
+pub still-held : {K V : Type 0} {P : ℕ} (now arena : NodeArena K V P) (at : OpaqueNodePtr K V P) (leaf : LeafPtr K V P) (node : LeafNode K V P) → now ≡ arena → leaf_pointer leaf ≡ at → held arena at ≡ HeldLeaf node → held now (leaf_pointer leaf) ≢ Nothing
 still-held now arena at leaf node same pointer holds nothing =
     let one : HeldLeaf node ≡ Nothing = sym holds ∙ ap (held arena) (sym pointer) ∙ ap (λ a. held a (leaf_pointer leaf)) (sym same) ∙ nothing in absurd (cc)
 

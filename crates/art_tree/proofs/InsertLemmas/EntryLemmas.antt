@@ -1,5 +1,5 @@
 -- Insertion: a new text and the entries that are there.
-use Rattle.art_tree.proofs.Names.{◌≡◌, ◌≢◌, ◌⊎◌, ◌∙◌, ℕ, suc, ◌<◌, ◌^◌, List, [], ◌∷◌, ◌++◌, map, length, take, Contains, Option, Some, None, Result, Ok, Err, IfOk, IfErr, OnOk, OnErr, refl, sym, ap, subst, inl, inr, arith, append-nil, cases_eq, eq-eqb, ne_eqb, Contains-append_right, Contains-append_cases, IsPrefixOf, NodeType, child_at, LeafNode, NodePtr, OpaqueNodePtr, NodeArena, Nothing, capacity, held, SameNodes, SameRoom, Tree, Leaf, Branches, NoBranch, Branch, branch_roots, root_of, leaves, branch_leaves, texts, IsSound, AreSound, IsWellFormed, IsAlone, IsArt, Context, plug, path_to, leaves_before, leaves_after, entry_at, HasEntry, IsProperPrefixOf, Clashes, SameEntries, HoldsEntry, AddsEntry, ClashesIn, InsertsNew, IsEntered, IsRefused, IsSpot, LacksChild, Parts, present_leaf, reach, LacksRoomToInsert, leaf_pointer, OutOfMemory, Mismatch, Spot, prefix-on, by_option, the_one, InsertFault, Place}
+use Rattle.art_tree.proofs.Names.{LeafPtr, ◌≡◌, ◌≢◌, ◌⊎◌, ◌∙◌, ℕ, suc, ◌<◌, ◌^◌, List, [], ◌∷◌, ◌++◌, map, length, take, Contains, Option, Some, None, Result, Ok, Err, IfOk, IfErr, OnOk, OnErr, refl, sym, ap, subst, inl, inr, arith, append-nil, cases_eq, eq-eqb, ne_eqb, Contains-append_right, Contains-append_cases, IsPrefixOf, NodeType, child_at, OpaqueNodePtr, NodeArena, Nothing, capacity, held, SameNodes, SameRoom, Tree, Leaf, Branches, NoBranch, Branch, branch_roots, root_of, leaves, branch_leaves, texts, IsSound, AreSound, IsWellFormed, IsAlone, IsArt, Context, plug, path_to, leaves_before, leaves_after, entry_at, HasEntry, IsProperPrefixOf, Clashes, SameEntries, HoldsEntry, AddsEntry, ClashesIn, InsertsNew, IsEntered, IsRefused, IsSpot, LacksChild, Parts, present_leaf, reach, LacksRoomToInsert, leaf_pointer, OutOfMemory, Mismatch, Spot, prefix-on, by_option, the_one, InsertFault, Place}
 use Rattle.art_tree.specs.declared.insert.InsertRefusal.{InsertRefusal}
 use Rattle.art_tree.specs.declared.place.Place.TheVariants as places
 use Rattle.art_tree.proofs.SharedLemmas.DictionaryLemmas.{AreApart, after-first, empty-entry, held-entry, leaf-held-in, leaf-of-entry, leaf-with}
@@ -148,7 +148,7 @@ module _ {K V : Type 0} {P : ℕ} (text : K → List ℕ) (arena : NodeArena K V
             elim clash [ inl front ↦ both.0 front.0 | inr front ↦ both.1 front.0 ]
 
 -- the place of a key is no leaf with the key where there is none
-pub present-new : {K V : Type 0} {P : ℕ} (found : Option (OpaqueNodePtr K V P × Place K V P)) (root : OpaqueNodePtr K V P) (place : Place K V P) → found ≡ Some (root, place) → present_leaf found ≡ None → (leaf : NodePtr P (LeafNode K V P)) → place ≡ places.Present leaf → ⊥
+pub present-new : {K V : Type 0} {P : ℕ} (found : Option (OpaqueNodePtr K V P × Place K V P)) (root : OpaqueNodePtr K V P) (place : Place K V P) → found ≡ Some (root, place) → present_leaf found ≡ None → (leaf : LeafPtr K V P) → place ≡ places.Present leaf → ⊥
 present-new found root place is new leaf here =
     let wrong : Some (root, leaf) ≡ None = sym (ap present_leaf (is ∙ ap (λ (p : Place _ _ _). Some (root, p)) here)) ∙ new in
     cc
@@ -161,13 +161,13 @@ module _ {K V : Type 0} {P : ℕ} (text : K → List ℕ) (old new : NodeArena K
 -- the result of an insert of a text without an entry
 module _ {K V : Type 0} {P : ℕ} (text : K → List ℕ) (old new : NodeArena K V P) (root : Option (OpaqueNodePtr K V P)) (key : K) (value : V) where
   -- it follows from what was added, where nothing but an allocation failure refuses the text
-  module _ (added : Result (OpaqueNodePtr K V P × NodePtr P (LeafNode K V P)) (K × V)) (adds : AddsEntry text old new root key value added) where
-    pub answered : IsRefused text old (text key) OutOfMemory → (SameNodes old new → SameEntries text old new) → (result : Result (OpaqueNodePtr K V P × NodePtr P (LeafNode K V P)) (InsertFault K V))
-        → ((at : OpaqueNodePtr K V P × NodePtr P (LeafNode K V P)) → added ≡ Ok at → result ≡ Ok at)
+  module _ (added : Result (OpaqueNodePtr K V P × LeafPtr K V P) (K × V)) (adds : AddsEntry text old new root key value added) where
+    pub answered : IsRefused text old (text key) OutOfMemory → (SameNodes old new → SameEntries text old new) → (result : Result (OpaqueNodePtr K V P × LeafPtr K V P) (InsertFault K V))
+        → ((at : OpaqueNodePtr K V P × LeafPtr K V P) → added ≡ Ok at → result ≡ Ok at)
         → ((k : K) (v : V) → added ≡ Err (k, v) → result ≡ Err (record { refusal = OutOfMemory; key = k; value = v })) → InsertsNew text old new root key value result
     answered is_new stay result told refused = by_added added refl adds.art adds.leaf adds.entered adds.entry_back adds.nodes_kept adds.no_room
       where
-        by_added : (a : Result (OpaqueNodePtr K V P × NodePtr P (LeafNode K V P)) (K × V)) → added ≡ a → IfOk a (λ at. IsArt text new (Some at.0)) → IfOk a (λ at. HoldsEntry new (leaf_pointer at.1) key value) → OnOk a (IsEntered text old new key value)
+        by_added : (a : Result (OpaqueNodePtr K V P × LeafPtr K V P) (K × V)) → added ≡ a → IfOk a (λ at. IsArt text new (Some at.0)) → IfOk a (λ at. HoldsEntry new (leaf_pointer at.1) key value) → OnOk a (IsEntered text old new key value)
             → IfErr a (λ entry. entry ≡ (key, value)) → OnErr a (SameNodes old new) → OnErr a ((kind : NodeType) × LacksRoomToInsert text old root (text key) kind) → InsertsNew text old new root key value result
         by_added (Ok at) is is_art is_held is_entered back kept none = subst (InsertsNew text old new root key value) (sym (told at is)) (record {
           art = is_art;

@@ -1,5 +1,5 @@
 -- Insertion: the first entry of a tree, and an entry that replaces another.
-use Rattle.art_tree.proofs.Names.{LeafKind, ◌≡◌, ◌≢◌, ◌∙◌, ℕ, length, ◌<◌, ◌^◌, List, [], ◌∷◌, Contains, Some, None, inl, inr, refl, sym, ap, arith, Option, All-cons, All-nil, leaf_key, leaf_value, previous_key, next_key, slab_key, opaque_pointer, NodePtr, OpaqueNodePtr, LeafNode, NodeArena, HeldLeaf, Nothing, held, Changes, held_leaf, leaf_at, Tree, Leaf, leaves, IsAlone, IsArt, KeepsAt, entry_at, IsEntered, leaf_pointer, by_option, the_one, spells-exchanged, stands-exchanged}
+use Rattle.art_tree.proofs.Names.{LeafPtr, LeafKind, ◌≡◌, ◌≢◌, ◌∙◌, ℕ, length, ◌<◌, ◌^◌, List, [], ◌∷◌, Contains, Some, None, inl, inr, refl, sym, ap, arith, Option, All-cons, All-nil, leaf_key, leaf_value, previous_key, next_key, slab_key, opaque_pointer, OpaqueNodePtr, LeafNode, NodeArena, HeldLeaf, Nothing, held, Changes, held_leaf, leaf_at, Tree, Leaf, leaves, IsAlone, IsArt, KeepsAt, entry_at, IsEntered, leaf_pointer, by_option, the_one, spells-exchanged, stands-exchanged}
 use Rattle.art_tree.proofs.SharedLemmas.DictionaryLemmas.{AreApart, empty-entry, held-entry, leaf-held-in, leaf-of-entry}
 use Rattle.art_tree.proofs.SharedLemmas.ExchangedTree.{entries-but}
 use Rattle.art_tree.proofs.InsertLemmas.NodeLemmas.{one-leaf, some-leaf}
@@ -8,7 +8,7 @@ use Rattle.art_tree.proofs.SharedLemmas.TreeLaws.{apart-there}
 
 module _ {K V : Type 0} {P : ℕ} (text : K → List ℕ) (old new : NodeArena K V P) (key : K) (value : V) where
   -- a leaf alone in an arena is a tree
-  module _ (empty : (pointer : OpaqueNodePtr K V P) → held old pointer ≡ Nothing) (at : NodePtr P (LeafNode K V P)) (leaf : LeafNode K V P) (changes : Changes old new (leaf_pointer at) (HeldLeaf leaf)) (is_key : leaf_key leaf ≡ key) (is_value : leaf_value leaf ≡ value) where
+  module _ (empty : (pointer : OpaqueNodePtr K V P) → held old pointer ≡ Nothing) (at : LeafPtr K V P) (leaf : LeafNode K V P) (changes : Changes old new (leaf_pointer at) (HeldLeaf leaf)) (is_key : leaf_key leaf ≡ key) (is_value : leaf_value leaf ≡ value) where
     alone-there : Tree (OpaqueNodePtr K V P)
     alone-there = Leaf (leaf_pointer at) (text key)
 

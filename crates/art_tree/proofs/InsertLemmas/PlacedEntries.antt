@@ -1,6 +1,6 @@
 -- An entry that is entered at its place in a tree with its arena.
-use Rattle.art_tree.proofs.Names.{All-contains, ◌≡◌, ◌+◌, ◌<◌, ◌^◌, ℕ, IfSome, List, None, Result, Some, inl, inr, length, refl, subst, sym, ◌∙◌, ap, Err, Ok, Belongs, present_leaf, EachTree, leaf_pointer, GrowsOnlyWhere, LacksRoomToInsert, HasKeys, entry_at, HeldLeaf, NodeArena, SameCapacity, SameRoom, held, Changes, HoldsLeaf, leaf_at, InsertsNew, IsEntered, MayEnter, IsAlone, IsArt, Art, LeafNode, NodePtr, OpaqueNodePtr, Tree, leaves, texts, image_inside, leaf_key, leaf_value, next_key, previous_key, slab_key, InsertFault, Place, FindsOrInserts, InsertsAt, IsPlaceOf, IsPresent, ReplacesEntry}
-use Rattle.art_tree.specs.Room.{HasRoomFor}
+use Rattle.art_tree.proofs.Names.{LeafPtr, All-contains, ◌≡◌, ◌+◌, ◌<◌, ◌^◌, ℕ, IfSome, List, None, Result, Some, inl, inr, length, refl, subst, sym, ◌∙◌, ap, Err, Ok, Belongs, present_leaf, EachTree, leaf_pointer, GrowsOnlyWhere, LacksRoomToInsert, HasKeys, entry_at, HeldLeaf, NodeArena, SameCapacity, SameRoom, held, Changes, HoldsLeaf, leaf_at, InsertsNew, IsEntered, MayEnter, IsAlone, IsArt, Art, LeafNode, OpaqueNodePtr, Tree, leaves, texts, image_inside, leaf_key, leaf_value, next_key, previous_key, slab_key, InsertFault, Place, FindsOrInserts, InsertsAt, IsPlaceOf, IsPresent, ReplacesEntry}
+use Rattle.art_tree.specs.Room.{HasEntryRoom}
 use Rattle.art_tree.specs.declared.place.Place.TheVariants as places
 use Rattle.art_tree.proofs.PlaceLemmas.WayPlaces.{leaf-inside}
 use Rattle.art_tree.proofs.SharedLemmas.TreeLaws.{apart-there}
@@ -31,7 +31,7 @@ module _ {K V : Type 0} {P : ℕ} {text : K → List ℕ} {art : Art (NodeArena 
       by_place (places.Differs spot mismatch) at = tt
 
 -- a leaf that has the text
-module _ {K V : Type 0} {P : ℕ} {text : K → List ℕ} {art : Art (NodeArena K V P) (OpaqueNodePtr K V P)} {leaf : NodePtr P (LeafNode K V P)} {x : List ℕ} (present : IsPresent text art leaf x) where
+module _ {K V : Type 0} {P : ℕ} {text : K → List ℕ} {art : Art (NodeArena K V P) (OpaqueNodePtr K V P)} {leaf : LeafPtr K V P} {x : List ℕ} (present : IsPresent text art leaf x) where
   -- it is held, and has the entry of the text
   pub present-leaf : (node : LeafNode K V P) × (held art.arena (leaf_pointer leaf) ≡ HeldLeaf node) × (text (leaf_key node) ≡ x)
   present-leaf = leaf-held-in text art.arena present.tree present.alone.is_tree.stands (leaf_pointer leaf) x present.inside
@@ -56,7 +56,7 @@ pub record IsExchangedFor {K V : Type 0} {P : ℕ} (text : K → List ℕ) (old 
   pub was : entry_at text old.arena (text key) ≡ Some before
   pub may : MayEnter text old.arena (text key)
 
-pub exchanged : {K V : Type 0} {P : ℕ} {text : K → List ℕ} {old : Art (NodeArena K V P) (OpaqueNodePtr K V P)} {leaf : NodePtr P (LeafNode K V P)} {key : K} {value : V} → IsArt text old.arena old.root → IsPresent text old leaf (text key) → (new : NodeArena K V P) (was now : LeafNode K V P) → held old.arena (leaf_pointer leaf) ≡ HeldLeaf was
+pub exchanged : {K V : Type 0} {P : ℕ} {text : K → List ℕ} {old : Art (NodeArena K V P) (OpaqueNodePtr K V P)} {leaf : LeafPtr K V P} {key : K} {value : V} → IsArt text old.arena old.root → IsPresent text old leaf (text key) → (new : NodeArena K V P) (was now : LeafNode K V P) → held old.arena (leaf_pointer leaf) ≡ HeldLeaf was
     → Changes old.arena new (leaf_pointer leaf) (HeldLeaf now) → leaf_key now ≡ key → leaf_value now ≡ value → previous_key now ≡ previous_key was → next_key now ≡ next_key was → (before : K × V) → before.0 ≡ leaf_key was → before.1 ≡ leaf_value was
     → IsExchangedFor text old (record { arena = new; root = old.root }) key value before
 exchanged {text = text} {old = old} {leaf = leaf} {key = key} {value = value} art present new was now is changes is_key is_value same_previous same_next before before_key before_value =
@@ -74,15 +74,15 @@ exchanged {text = text} {old = old} {leaf = leaf} {key = key} {value = value} ar
 
 -- a tree before and after an insert
 module _ {K V : Type 0} {P : ℕ} (text : K → List ℕ) (is_key : K → Type 0) (old new : Art (NodeArena K V P) (OpaqueNodePtr K V P)) (art : IsArt text old.arena old.root) (keys : HasKeys text is_key old.arena) (key : K) (value : V) where
-  grows-never : GrowsOnlyWhere old.arena new.arena (LacksRoomToInsert text old.arena old.root (text key)) → (count : ℕ) → HasRoomFor old.arena (count + 1) → SameCapacity old.arena new.arena
+  grows-never : GrowsOnlyWhere old.arena new.arena (LacksRoomToInsert text old.arena old.root (text key)) → (count : ℕ) → HasEntryRoom old.arena (count + 1) → SameCapacity old.arena new.arena
   grows-never grows count has = no-growth old.arena new.arena (LacksRoomToInsert text old.arena old.root (text key)) (λ kind. enough-to-insert text old.arena old.root (text key) kind count art has) grows
 
   -- room that lasts where the text has an entry afterwards
-  entered-lasts : IsArt text new.arena new.root → IsEntered text old.arena new.arena key value → GrowsOnlyWhere old.arena new.arena (LacksRoomToInsert text old.arena old.root (text key)) → (count : ℕ) → HasRoomFor old.arena (count + 1) → HasRoomFor new.arena count
+  entered-lasts : IsArt text new.arena new.root → IsEntered text old.arena new.arena key value → GrowsOnlyWhere old.arena new.arena (LacksRoomToInsert text old.arena old.root (text key)) → (count : ℕ) → HasEntryRoom old.arena (count + 1) → HasEntryRoom new.arena count
   entered-lasts now entered grows count has = lasts-after-insert text old.arena new.arena old.root new.root (text key) count art now entered.others (grows-never grows count has) has (has-found text new.arena (text key) (key, value) entered.entry)
 
   -- the new entry is in its leaf
-  module _ (root : OpaqueNodePtr K V P) (leaf : NodePtr P (LeafNode K V P)) (same : new.root ≡ Some root) (inserts : InsertsNew text old.arena new.arena old.root key value (Ok (root, leaf))) where
+  module _ (root : OpaqueNodePtr K V P) (leaf : LeafPtr K V P) (same : new.root ≡ Some root) (inserts : InsertsNew text old.arena new.arena old.root key value (Ok (root, leaf))) where
     pub added-invariant : is_key key → IsArt text new.arena new.root × HasKeys text is_key new.arena
     added-invariant is = (subst (IsArt text new.arena) (sym same) inserts.art, keys-entered text is_key old.arena new.arena keys key value inserts.entered is)
 
@@ -141,7 +141,7 @@ module _ {K V : Type 0} {P : ℕ} (text : K → List ℕ) (is_key : K → Type 0
 
 -- what is found or added
 module _ {K V : Type 0} {P : ℕ} {text : K → List ℕ} {old : Art (NodeArena K V P) (OpaqueNodePtr K V P)} {key : K} {made : V → Type 0} where
-  pub finds-present : (leaf : NodePtr P (LeafNode K V P)) → IsPresent text old leaf (text key) → FindsOrInserts text old old key made (Ok leaf)
+  pub finds-present : (leaf : LeafPtr K V P) → IsPresent text old leaf (text key) → FindsOrInserts text old old key made (Ok leaf)
   finds-present leaf present =
       let (node, is, has) = present-leaf present in
       record {
@@ -156,7 +156,7 @@ module _ {K V : Type 0} {P : ℕ} {text : K → List ℕ} {old : Art (NodeArena 
         memory = λ kind. inl refl;
       }
 
-  pub finds-added : {new : Art (NodeArena K V P) (OpaqueNodePtr K V P)} (value : V) → made value → (result : Result (NodePtr P (LeafNode K V P)) (InsertFault K V)) → InsertsAt text old new key value result → FindsOrInserts text old new key made result
+  pub finds-added : {new : Art (NodeArena K V P) (OpaqueNodePtr K V P)} (value : V) → made value → (result : Result (LeafPtr K V P) (InsertFault K V)) → InsertsAt text old new key value result → FindsOrInserts text old new key made result
   finds-added value is_made (Ok leaf) inserts = record {
     found = inr (value, is_made, inserts.absent, inserts.entered, inserts.leaf);
     no_refusal = inserts.no_refusal;

@@ -1,12 +1,12 @@
 -- Loading: leaves that are linked one after another.
-use Rattle.art_tree.proofs.Names.{◌≡◌, ◌≢◌, ◌∙◌, ℕ, zero, suc, ◌+◌, ◌-◌, ◌<◌, List, [], ◌∷◌, ◌++◌, length, length-append, map, take, get_or, slice_get, Some, None, inl, inr, refl, sym, ap, subst, arith, append_assoc, Contains, option_and_then, map-append, length-map, take_all, get_or_at, Contains-append_left, Contains-push_cases, Contains-push, slice_get_within, slice_get-get_or, leaf_key, leaf_value, previous_key, next_key, node_kind, opaque_key, slab_key, opaque_pointer, NodePtr, OpaqueNodePtr, LeafNode, NodeArena, Held, HeldInner, HeldLeaf, Nothing, held, held_leaf, Changes, HoldsLeaf, IsKnit, IsUnlinked, SameButLinks, StandsBetween, Spells, leaf_at, next_at, text_at, text_of_entry, texts_of, leaf_texts, leaf_pointer, HoldEntries, AreLinked, Adds, leaf_place, LeafKind}
+use Rattle.art_tree.proofs.Names.{LeafPtr, ◌≡◌, ◌≢◌, ◌∙◌, ℕ, zero, suc, ◌+◌, ◌-◌, ◌<◌, List, [], ◌∷◌, ◌++◌, length, length-append, map, take, get_or, slice_get, Some, None, inl, inr, refl, sym, ap, subst, arith, append_assoc, Contains, option_and_then, map-append, length-map, take_all, get_or_at, Contains-append_left, Contains-push_cases, Contains-push, slice_get_within, slice_get-get_or, leaf_key, leaf_value, previous_key, next_key, node_kind, opaque_key, slab_key, opaque_pointer, OpaqueNodePtr, LeafNode, NodeArena, Held, HeldInner, HeldLeaf, Nothing, held, held_leaf, Changes, HoldsLeaf, IsKnit, IsUnlinked, SameButLinks, StandsBetween, Spells, leaf_at, next_at, text_at, text_of_entry, texts_of, leaf_texts, leaf_pointer, HoldEntries, AreLinked, Adds, leaf_place, LeafKind}
 use Rattle.art_tree.proofs.SharedLemmas.PrefixLemmas.{take-get}
 use Rattle.art_tree.proofs.LoadLemmas.PlacedTrees.{adds-more}
 use Rattle.art_tree.proofs.SharedLemmas.HeldNodes.{leaf-of, text-held, kept-at}
 use Rattle.art_tree.proofs.SharedLemmas.SpelledLists.{Spells-kept, AreKnit, NameNext}
 
 -- the keys of leaves
-pub keys-of : {K V : Type 0} {P : ℕ} (of : List (NodePtr P (LeafNode K V P))) → map opaque_key (map (leaf_pointer {K = K} {V = V} {P = P}) of) ≡ map slab_key of
+pub keys-of : {K V : Type 0} {P : ℕ} (of : List (LeafPtr K V P)) → map opaque_key (map (leaf_pointer {K = K} {V = V} {P = P}) of) ≡ map slab_key of
 keys-of [] = refl
 keys-of (leaf ∷ of) = ap (λ rest. slab_key leaf ∷ rest) (keys-of of)
 
@@ -26,7 +26,7 @@ module _ {K V : Type 0} {P : ℕ} where
   hold-last arena at leaf entry is key value (pointer ∷ pointers) [] h = absurd h
   hold-last arena at leaf entry is key value (pointer ∷ pointers) (e ∷ entries) h = (h.0, hold-last arena at leaf entry is key value pointers entries h.1)
 
-  hold-links : (now new : NodeArena K V P) → SameButLinks now new → (of : List (NodePtr P (LeafNode K V P))) (entries : List (K × V)) → HoldEntries now (map leaf_pointer of) entries → HoldEntries new (map leaf_pointer of) entries
+  hold-links : (now new : NodeArena K V P) → SameButLinks now new → (of : List (LeafPtr K V P)) (entries : List (K × V)) → HoldEntries now (map leaf_pointer of) entries → HoldEntries new (map leaf_pointer of) entries
   hold-links now new same [] [] h = tt
   hold-links now new same [] (entry ∷ entries) h = absurd h
   hold-links now new same (at ∷ of) [] h = absurd h
@@ -34,14 +34,14 @@ module _ {K V : Type 0} {P : ℕ} where
       let after = same.leaf (slab_key at) h.0.0 (leaf-of (leaf_at now (slab_key at)) h.0.0 h.0.1) in
       ((after.0, ap held_leaf after.1, after.2 ∙ h.0.2, after.3 ∙ h.0.3), hold-links now new same of entries h.1)
 
-  pub hold-count : (arena : NodeArena K V P) (of : List (NodePtr P (LeafNode K V P))) (entries : List (K × V)) → HoldEntries arena (map leaf_pointer of) entries → length of ≡ length entries
+  pub hold-count : (arena : NodeArena K V P) (of : List (LeafPtr K V P)) (entries : List (K × V)) → HoldEntries arena (map leaf_pointer of) entries → length of ≡ length entries
   hold-count arena [] [] h = refl
   hold-count arena [] (entry ∷ entries) h = absurd h
   hold-count arena (at ∷ of) [] h = absurd h
   hold-count arena (at ∷ of) (entry ∷ entries) h = ap suc (hold-count arena of entries h.1)
 
   -- the texts of leaves are those of the entries that they hold
-  pub hold-texts : (text : K → List ℕ) (arena : NodeArena K V P) (of : List (NodePtr P (LeafNode K V P))) (entries : List (K × V)) → HoldEntries arena (map leaf_pointer of) entries → leaf_texts text arena of ≡ texts_of text entries
+  pub hold-texts : (text : K → List ℕ) (arena : NodeArena K V P) (of : List (LeafPtr K V P)) (entries : List (K × V)) → HoldEntries arena (map leaf_pointer of) entries → leaf_texts text arena of ≡ texts_of text entries
   hold-texts text arena [] [] h = refl
   hold-texts text arena [] (entry ∷ entries) h = absurd h
   hold-texts text arena (at ∷ of) [] h = absurd h
@@ -49,7 +49,7 @@ module _ {K V : Type 0} {P : ℕ} where
       ap (λ x. x ∷ leaf_texts text arena of) (text-held text arena (slab_key at) h.0.0 h.0.1 ∙ ap text h.0.2) ∙ ap (λ rest. text entry.0 ∷ rest) (hold-texts text arena of entries h.1)
 
   -- and each of them is held
-  pub hold-held : (arena : NodeArena K V P) (of : List (NodePtr P (LeafNode K V P))) (entries : List (K × V)) → HoldEntries arena (map leaf_pointer of) entries → (i : ℕ) (d : NodePtr P (LeafNode K V P)) → i < length of → HoldsLeaf arena (slab_key (get_or of i d))
+  pub hold-held : (arena : NodeArena K V P) (of : List (LeafPtr K V P)) (entries : List (K × V)) → HoldEntries arena (map leaf_pointer of) entries → (i : ℕ) (d : LeafPtr K V P) → i < length of → HoldsLeaf arena (slab_key (get_or of i d))
   hold-held arena [] entries h i d lt = absurd (omega arith)
   hold-held arena (at ∷ of) [] h i d lt = absurd h
   hold-held arena (at ∷ of) (entry ∷ entries) h zero d lt = subst (λ there. there ≢ Nothing) (sym h.0.1) (λ e. cc)
@@ -99,7 +99,7 @@ last-split xs x e =
 
 module _ {K V : Type 0} {P : ℕ} where
   -- a new leaf holds the next entry, and is not linked yet
-  pub record IsAllocated (old new : NodeArena K V P) (done : List (K × V)) (before : List (NodePtr P (LeafNode K V P))) (entry : K × V) (this : NodePtr P (LeafNode K V P)) : Type 0 where
+  pub record IsAllocated (old new : NodeArena K V P) (done : List (K × V)) (before : List (LeafPtr K V P)) (entry : K × V) (this : LeafPtr K V P) : Type 0 where
     pub entries : HoldEntries new (map leaf_pointer (before ++ this ∷ [])) (done ++ entry ∷ [])
     pub spelled : Spells new (map slab_key before)
     pub adds : Adds old new (map leaf_pointer (before ++ this ∷ []))
@@ -107,9 +107,9 @@ module _ {K V : Type 0} {P : ℕ} where
     pub at_key : leaf_at new (slab_key this) ≡ Some leaf
     pub no_previous : previous_key leaf ≡ None
     pub no_next : next_key leaf ≡ None
-    pub apart : (front : List (NodePtr P (LeafNode K V P))) (sibling : NodePtr P (LeafNode K V P)) → before ≡ front ++ sibling ∷ [] → slab_key this ≢ slab_key sibling
+    pub apart : (front : List (LeafPtr K V P)) (sibling : LeafPtr K V P) → before ≡ front ++ sibling ∷ [] → slab_key this ≢ slab_key sibling
 
-  pub allocated : (old now new : NodeArena K V P) (done : List (K × V)) (before : List (NodePtr P (LeafNode K V P))) (entry : K × V) (this : NodePtr P (LeafNode K V P)) (leaf : LeafNode K V P) → AreLinked old now done before
+  pub allocated : (old now new : NodeArena K V P) (done : List (K × V)) (before : List (LeafPtr K V P)) (entry : K × V) (this : LeafPtr K V P) (leaf : LeafNode K V P) → AreLinked old now done before
       → held now (leaf_pointer this) ≡ Nothing → Changes now new (leaf_pointer this) (HeldLeaf leaf) → leaf_key leaf ≡ entry.0 → leaf_value leaf ≡ entry.1 → previous_key leaf ≡ None → next_key leaf ≡ None → IsAllocated old new done before entry this
   allocated old now new done before entry this leaf l free changes key value no_previous no_next =
       let kept = kept-at now new (leaf_pointer this) (HeldLeaf leaf) free changes in
@@ -133,7 +133,7 @@ module _ {K V : Type 0} {P : ℕ} where
       }
 
   -- the first leaf is a list of its own
-  pub first-linked : (old new : NodeArena K V P) (done : List (K × V)) (before : List (NodePtr P (LeafNode K V P))) (entry : K × V) (this : NodePtr P (LeafNode K V P)) → before ≡ [] → IsAllocated old new done before entry this → AreLinked old new (done ++ entry ∷ []) (before ++ this ∷ [])
+  pub first-linked : (old new : NodeArena K V P) (done : List (K × V)) (before : List (LeafPtr K V P)) (entry : K × V) (this : LeafPtr K V P) → before ≡ [] → IsAllocated old new done before entry this → AreLinked old new (done ++ entry ∷ []) (before ++ this ∷ [])
   first-linked old new done before entry this none a = record {
     hold = a.entries;
     spelled = subst (λ z. Spells new (map slab_key (z ++ this ∷ []))) (sym none) (record { distinct = ((λ k d lt. absurd (omega (arith, lt))), tt); spelled = ((a.leaf, a.at_key, a.no_previous, a.no_next), tt) });
@@ -141,7 +141,7 @@ module _ {K V : Type 0} {P : ℕ} where
   }
 
   -- a leaf that is linked after the last one
-  pub next-linked : (old now new : NodeArena K V P) (done : List (K × V)) (before front : List (NodePtr P (LeafNode K V P))) (entry : K × V) (this sibling : NodePtr P (LeafNode K V P)) → before ≡ front ++ sibling ∷ [] → NameNext now → IsAllocated old now done before entry this
+  pub next-linked : (old now new : NodeArena K V P) (done : List (K × V)) (before front : List (LeafPtr K V P)) (entry : K × V) (this sibling : LeafPtr K V P) → before ≡ front ++ sibling ∷ [] → NameNext now → IsAllocated old now done before entry this
       → SameButLinks now new → StandsBetween now new (Some (slab_key sibling)) (slab_key this) (next_at now (slab_key sibling))
       → ((first last : List ℕ) → Spells now (first ++ slab_key sibling ∷ last) → Spells new (first ++ slab_key sibling ∷ slab_key this ∷ last)) → AreLinked old new (done ++ entry ∷ []) (before ++ this ∷ [])
   next-linked old now new done before front entry this sibling split name_next a same placed spells =
@@ -162,18 +162,18 @@ module _ {K V : Type 0} {P : ℕ} where
       }
 
   -- what linking it asks
-  pub unlinked : (old now : NodeArena K V P) (done : List (K × V)) (before : List (NodePtr P (LeafNode K V P))) (entry : K × V) (this : NodePtr P (LeafNode K V P)) → IsAllocated old now done before entry this → HoldsLeaf now (slab_key this) × IsUnlinked now (slab_key this)
+  pub unlinked : (old now : NodeArena K V P) (done : List (K × V)) (before : List (LeafPtr K V P)) (entry : K × V) (this : LeafPtr K V P) → IsAllocated old now done before entry this → HoldsLeaf now (slab_key this) × IsUnlinked now (slab_key this)
   unlinked old now done before entry this a =
       (subst (λ x. x ≢ Nothing) (sym (ap held_leaf a.at_key)) (λ e. cc), (ap (option_and_then previous_key) a.at_key ∙ a.no_previous, ap (option_and_then next_key) a.at_key ∙ a.no_next))
 
-  pub sibling-knit : (old now : NodeArena K V P) (done : List (K × V)) (before front : List (NodePtr P (LeafNode K V P))) (entry : K × V) (this sibling : NodePtr P (LeafNode K V P)) → before ≡ front ++ sibling ∷ [] → AreKnit now → IsAllocated old now done before entry this → IsKnit now (slab_key sibling)
+  pub sibling-knit : (old now : NodeArena K V P) (done : List (K × V)) (before front : List (LeafPtr K V P)) (entry : K × V) (this sibling : LeafPtr K V P) → before ≡ front ++ sibling ∷ [] → AreKnit now → IsAllocated old now done before entry this → IsKnit now (slab_key sibling)
   sibling-knit old now done before front entry this sibling split knit a = knit (map slab_key front) [] (slab_key sibling) (subst (Spells now) (ap (map slab_key) split ∙ map-append slab_key front (sibling ∷ [])) a.spelled)
 
   -- the texts of the last two leaves are neighbours among those of the entries
-  pub two-texts : (text : K → List ℕ) (old now : NodeArena K V P) (all done left : List (K × V)) (before front : List (NodePtr P (LeafNode K V P))) (entry : K × V) (this sibling : NodePtr P (LeafNode K V P)) → before ≡ front ++ sibling ∷ [] → all ≡ (done ++ entry ∷ []) ++ left → IsAllocated old now done before entry this
+  pub two-texts : (text : K → List ℕ) (old now : NodeArena K V P) (all done left : List (K × V)) (before front : List (LeafPtr K V P)) (entry : K × V) (this sibling : LeafPtr K V P) → before ≡ front ++ sibling ∷ [] → all ≡ (done ++ entry ∷ []) ++ left → IsAllocated old now done before entry this
       → (length front + 1 < length (texts_of text all)) × (text_of_entry (texts_of text all) (length front) ≡ text_at text now (slab_key sibling)) × (text_of_entry (texts_of text all) (length front + 1) ≡ text_at text now (slab_key this))
   two-texts text old now all done left before front entry this sibling split whole a =
-      let f : NodePtr P (LeafNode K V P) → List ℕ = λ leaf. text_at text now (slab_key leaf) in
+      let f : LeafPtr K V P → List ℕ = λ leaf. text_at text now (slab_key leaf) in
       let two : before ++ this ∷ [] ≡ front ++ sibling ∷ this ∷ [] = ap (λ z. z ++ this ∷ []) split ∙ append_assoc front (sibling ∷ []) (this ∷ []) in
       let texts : texts_of text all ≡ (map f front ++ f sibling ∷ f this ∷ []) ++ texts_of text left =
       ap (texts_of text) whole ∙ map-append (λ (e : K × V). text e.0) (done ++ entry ∷ []) left ∙ ap (λ z. z ++ texts_of text left) (sym (hold-texts text now (before ++ this ∷ []) (done ++ entry ∷ []) a.entries) ∙ ap (map f) two ∙ map-append f front (sibling ∷ this ∷ [])) in
@@ -187,13 +187,13 @@ module _ {K V : Type 0} {P : ℕ} where
       )
 
 -- the leaves so far hold the entries so far
-pub record IsLinking {K V : Type 0} {P : ℕ} (old now : NodeArena K V P) (all left : List (K × V)) (leaves : List (NodePtr P (LeafNode K V P))) : Type 0 where
+pub record IsLinking {K V : Type 0} {P : ℕ} (old now : NodeArena K V P) (all left : List (K × V)) (leaves : List (LeafPtr K V P)) : Type 0 where
   pub done : List (K × V)
   pub split : all ≡ done ++ left
   pub linked : AreLinked old now done leaves
 
 -- before the first entry
-pub none-linked : {K V : Type 0} {P : ℕ} (old : NodeArena K V P) (leaves : List (NodePtr P (LeafNode K V P))) → leaves ≡ [] → AreLinked old old [] leaves
+pub none-linked : {K V : Type 0} {P : ℕ} (old : NodeArena K V P) (leaves : List (LeafPtr K V P)) → leaves ≡ [] → AreLinked old old [] leaves
 none-linked old leaves none = subst (AreLinked old old []) (sym none) (record {
   hold = tt;
   spelled = record { distinct = tt; spelled = tt };

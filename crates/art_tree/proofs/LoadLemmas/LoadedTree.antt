@@ -1,5 +1,5 @@
 -- Loading: the loaded tree, from linked leaves and a tree over them.
-use Rattle.art_tree.proofs.Names.{◌≡◌, ◌≢◌, ◌∙◌, ℕ, ◌<◌, ◌^◌, List, [], ◌∷◌, length, map, inl, inr, refl, sym, ap, subst, arith, cases_lt, get_or_past, opaque_key, slab_key, NodePtr, OpaqueNodePtr, LeafNode, NodeArena, Nothing, SameNodes, Spells, Tree, AreLoadable, text_of_entry, IsRaised, leaf_pairs, leaf_pointer, AreLinked, HoldEntries, IsLoaded, leaf_pointers}
+use Rattle.art_tree.proofs.Names.{LeafPtr, ◌≡◌, ◌≢◌, ◌∙◌, ℕ, ◌<◌, ◌^◌, List, [], ◌∷◌, length, map, inl, inr, refl, sym, ap, subst, arith, cases_lt, get_or_past, opaque_key, slab_key, OpaqueNodePtr, NodeArena, Nothing, SameNodes, Spells, Tree, AreLoadable, text_of_entry, IsRaised, leaf_pairs, leaf_pointer, AreLinked, HoldEntries, IsLoaded, leaf_pointers}
 use Rattle.art_tree.proofs.LoadLemmas.LeafLists.{hold-kept, keys-of}
 use Rattle.art_tree.proofs.SharedLemmas.SpelledLists.{Spells-kept}
 
@@ -11,11 +11,11 @@ all-short texts l i = elim (cases_lt i (length texts)) [
 ]
 
 module _ {K V : Type 0} {P : ℕ} (text : K → List ℕ) (old middle new : NodeArena K V P) where
-  pointers-of : (of : List (NodePtr P (LeafNode K V P))) → map (λ (pair : OpaqueNodePtr K V P × List ℕ). pair.0) (leaf_pairs text middle of) ≡ map leaf_pointer of
+  pointers-of : (of : List (LeafPtr K V P)) → map (λ (pair : OpaqueNodePtr K V P × List ℕ). pair.0) (leaf_pairs text middle of) ≡ map leaf_pointer of
   pointers-of [] = refl
   pointers-of (leaf ∷ of) = ap (λ rest. leaf_pointer leaf ∷ rest) (pointers-of of)
 
-  pub loaded : (entries : List (K × V)) (of : List (NodePtr P (LeafNode K V P))) (root : OpaqueNodePtr K V P) (tree : Tree (OpaqueNodePtr K V P)) → AreLinked old middle entries of → IsRaised text middle new of root tree → IsLoaded text old new entries root tree
+  pub loaded : (entries : List (K × V)) (of : List (LeafPtr K V P)) (root : OpaqueNodePtr K V P) (tree : Tree (OpaqueNodePtr K V P)) → AreLinked old middle entries of → IsRaised text middle new of root tree → IsLoaded text old new entries root tree
   loaded entries of root tree l r =
       let pointers : leaf_pointers tree ≡ map leaf_pointer of = ap (map (λ (pair : OpaqueNodePtr K V P × List ℕ). pair.0)) r.in_order ∙ pointers-of of in
       record {

@@ -5,7 +5,7 @@ use Rattle.std.proofs.lemmas.List.{get_or-set_other, get_or-set_same}
 use Rattle.art_nodes.specs.Pointers.{pointer_to}
 use Rattle.art_arena.specs.Forwarding.{forwarded, forwarded_as, forwarded_children, forwarded_key, forwarded_node}
 use Rattle.art_tree.specs.LeafOrder.{InnerNodesStay}
-use Rattle.art_tree.proofs.Names.{cases_lt, suc, AreDistinct, ◌≡◌, ◌≢◌, ◌∙◌, ℕ, ◌+◌, ◌-◌, ◌<◌, ◌≤◌, List, [], ◌∷◌, ◌++◌, length, map, get_or, Contains, Option, Some, None, refl, sym, ap, subst, arith, inl, inr, append_assoc, length-map, get_or-map, map-append, Contains-append_cases, Contains-append_left, Contains-append_right, the_one, image_inside, leaf_key, leaf_value, node_kind, opaque_key, opaque_pointer, slab_key, LeafNode, NodePtr, OpaqueNodePtr, InnerNode, with_children, NodeArena, Held, HeldInner, HeldLeaf, Nothing, held, held_header, held_inner, held_leaf, held_under, leaf_at, capacity, room, leaf_count, StandsIn, AllStandIn, Spells, Tree, Leaf, Inner, Branches, NoBranch, Branch, leaves, places, branch_leaves, branch_places, NodeType, LeafKind, Node4, Node16, Node48, Node256, same_or_differ, leaf_kind, leaf_place, IsAlone, SameEntries, HoldEntries, AreLinked, leaf_pointers, AreLeavesOf, IsReloaded, leaf_pointer, texts-apart}
+use Rattle.art_tree.proofs.Names.{LeafPtr, cases_lt, suc, AreDistinct, ◌≡◌, ◌≢◌, ◌∙◌, ℕ, ◌+◌, ◌-◌, ◌<◌, ◌≤◌, List, [], ◌∷◌, ◌++◌, length, map, get_or, Contains, Option, Some, None, refl, sym, ap, subst, arith, inl, inr, append_assoc, length-map, get_or-map, map-append, Contains-append_cases, Contains-append_left, Contains-append_right, the_one, image_inside, leaf_key, leaf_value, node_kind, opaque_key, opaque_pointer, slab_key, LeafNode, OpaqueNodePtr, InnerNode, with_children, NodeArena, Held, HeldInner, HeldLeaf, Nothing, held, held_header, held_inner, held_leaf, held_under, leaf_at, capacity, room, leaf_count, StandsIn, AllStandIn, Spells, Tree, Leaf, Inner, Branches, NoBranch, Branch, leaves, places, branch_leaves, branch_places, NodeType, LeafKind, Node4, Node16, Node48, Node256, same_or_differ, leaf_kind, leaf_place, IsAlone, SameEntries, HoldEntries, AreLinked, leaf_pointers, AreLeavesOf, IsReloaded, leaf_pointer, texts-apart}
 use Rattle.art_tree.proofs.InsertLemmas.NodeLemmas.{one-leaf}
 use Rattle.art_tree.proofs.SharedLemmas.DictionaryLemmas.{leaf-in}
 use Rattle.art_tree.proofs.SharedLemmas.EntryCounts.{spelled-fit}
@@ -48,7 +48,7 @@ module _ {K V : Type 0} {P : ℕ} where
   inner-kind : (arena : NodeArena K V P) (kind : NodeType) (key : ℕ) (node : InnerNode (OpaqueNodePtr K V P)) → held_under arena kind key ≡ HeldInner node → kind ≢ LeafKind
   inner-kind arena kind key node is same = no-inner-leaf (leaf_at arena key) node (subst (λ k. held_under arena k key ≡ HeldInner node) same is)
 
-module _ {K V : Type 0} {P : ℕ} (table : List (NodePtr P (LeafNode K V P))) where
+module _ {K V : Type 0} {P : ℕ} (table : List (LeafPtr K V P)) where
   forwarded-inner : (kind : NodeType) (pointer : OpaqueNodePtr K V P) → kind ≢ LeafKind → forwarded_as table kind pointer ≡ pointer
   forwarded-inner Node4 pointer differ = refl
   forwarded-inner Node16 pointer differ = refl
@@ -68,7 +68,7 @@ module _ {K V : Type 0} {P : ℕ} (table : List (NodePtr P (LeafNode K V P))) wh
   same-header (HeldLeaf leaf) = refl
 
   -- the pointers to the leaves of two lists
-  pointers-lead : (of new : List (NodePtr P (LeafNode K V P))) → map (forwarded_key table) (map slab_key of) ≡ map slab_key new → map (forwarded table) (map (leaf_pointer {K = K} {V = V} {P = P}) of) ≡ map leaf_pointer new
+  pointers-lead : (of new : List (LeafPtr K V P)) → map (forwarded_key table) (map slab_key of) ≡ map slab_key new → map (forwarded table) (map (leaf_pointer {K = K} {V = V} {P = P}) of) ≡ map leaf_pointer new
   pointers-lead [] [] same = refl
   pointers-lead [] (n ∷ new) same = absurd (cc)
   pointers-lead (o ∷ of) [] same = absurd (cc)
@@ -78,7 +78,7 @@ module _ {K V : Type 0} {P : ℕ} (table : List (NodePtr P (LeafNode K V P))) wh
       ap (λ key. opaque_pointer LeafKind key ∷ map (forwarded table) (map leaf_pointer of)) first ∙ ap (λ rest. leaf_pointer n ∷ rest) (pointers-lead of new later)
 
   -- a leaf of the first list has the entry of the one that its pointer leads to
-  paired : (old fresh : NodeArena K V P) (of new : List (NodePtr P (LeafNode K V P))) (entries : List (K × V)) → HoldEntries old (map leaf_pointer of) entries → HoldEntries fresh (map leaf_pointer new) entries → map (forwarded_key table) (map slab_key of) ≡ map slab_key new → (q : OpaqueNodePtr K V P) (leaf : LeafNode K V P) → Contains (map leaf_pointer of) q → held old q ≡ HeldLeaf leaf
+  paired : (old fresh : NodeArena K V P) (of new : List (LeafPtr K V P)) (entries : List (K × V)) → HoldEntries old (map leaf_pointer of) entries → HoldEntries fresh (map leaf_pointer new) entries → map (forwarded_key table) (map slab_key of) ≡ map slab_key new → (q : OpaqueNodePtr K V P) (leaf : LeafNode K V P) → Contains (map leaf_pointer of) q → held old q ≡ HeldLeaf leaf
       → (now : LeafNode K V P) × (held fresh (forwarded table q) ≡ HeldLeaf now) × (leaf_key now ≡ leaf_key leaf) × (leaf_value now ≡ leaf_value leaf)
   paired old fresh [] new entries hold held_now same q leaf (k, inside, is) there = absurd (omega (arith, inside))
   paired old fresh (o ∷ of) new [] hold held_now same q leaf inside there = absurd hold
@@ -129,11 +129,11 @@ module _ {H : Type 0} where
         ]
 
 -- the leaves of the tree were taken out, moved into a fresh arena, and put in the place of the old ones; the children are forwarded
-module _ {K V : Type 0} {P : ℕ} {text : K → List ℕ} {old : NodeArena K V P} {root : OpaqueNodePtr K V P} {of : List (NodePtr P (LeafNode K V P))} (is : AreLeavesOf text old root of)
+module _ {K V : Type 0} {P : ℕ} {text : K → List ℕ} {old : NodeArena K V P} {root : OpaqueNodePtr K V P} {of : List (LeafPtr K V P)} (is : AreLeavesOf text old root of)
     (entries : List (K × V)) (hold : HoldEntries old (map leaf_pointer of) entries)
     (taken : NodeArena K V P) (inner_kept : (pointer : OpaqueNodePtr K V P) → node_kind pointer ≢ LeafKind → held taken pointer ≡ held old pointer)
-    (empty fresh : NodeArena K V P) (free : (pointer : OpaqueNodePtr K V P) → held empty pointer ≡ Nothing) (new : List (NodePtr P (LeafNode K V P))) (linked : AreLinked empty fresh entries new)
-    (table : List (NodePtr P (LeafNode K V P))) (leads : map (forwarded_key table) (map slab_key of) ≡ map slab_key new)
+    (empty fresh : NodeArena K V P) (free : (pointer : OpaqueNodePtr K V P) → held empty pointer ≡ Nothing) (new : List (LeafPtr K V P)) (linked : AreLinked empty fresh entries new)
+    (table : List (LeafPtr K V P)) (leads : map (forwarded_key table) (map slab_key of) ≡ map slab_key new)
     (sent : NodeArena K V P) (forwards : (pointer : OpaqueNodePtr K V P) → held sent pointer ≡ forwarded_node table (held taken pointer))
     (now : NodeArena K V P) (swapped : now ≡ record sent { leaf = fresh.leaf }) where
   to : OpaqueNodePtr K V P → OpaqueNodePtr K V P
@@ -199,21 +199,21 @@ module _ {K V : Type 0} {P : ℕ} {text : K → List ℕ} {old : NodeArena K V P
       no-header None = refl
       no-header (Some leaf) = refl
 
-module _ {K V : Type 0} {P : ℕ} {text : K → List ℕ} {old : NodeArena K V P} {root : OpaqueNodePtr K V P} {of : List (NodePtr P (LeafNode K V P))} (is : AreLeavesOf text old root of) (entries : List (K × V)) (hold : HoldEntries old (map leaf_pointer of) entries) where
+module _ {K V : Type 0} {P : ℕ} {text : K → List ℕ} {old : NodeArena K V P} {root : OpaqueNodePtr K V P} {of : List (LeafPtr K V P)} (is : AreLeavesOf text old root of) (entries : List (K × V)) (hold : HoldEntries old (map leaf_pointer of) entries) where
   -- there are no more leaves in order than there were
   pub no-more : length entries ≤ leaf_count old
-  no-more = omega (arith, spelled-fit old (map opaque_key (leaf_pointers is.tree)) is.alone.spelled, ap length (ap (map opaque_key) is.in_order ∙ keys-of of), length-map of (λ (leaf : NodePtr P (LeafNode K V P)). slab_key leaf), hold-count old of entries hold)
+  no-more = omega (arith, spelled-fit old (map opaque_key (leaf_pointers is.tree)) is.alone.spelled, ap length (ap (map opaque_key) is.in_order ∙ keys-of of), length-map of (λ (leaf : LeafPtr K V P). slab_key leaf), hold-count old of entries hold)
 
 -- the table so far leads from each leaf of the first list to that of the second
-module _ {K V : Type 0} {P : ℕ} (before after : List (NodePtr P (LeafNode K V P))) where
-  abbrev pub LeadsTo : List (NodePtr P (LeafNode K V P)) → ℕ → Type 0
+module _ {K V : Type 0} {P : ℕ} (before after : List (LeafPtr K V P)) where
+  abbrev pub LeadsTo : List (LeafPtr K V P) → ℕ → Type 0
   LeadsTo table count = (j : ℕ) → j < count → forwarded_key table (get_or (map slab_key before) j 0) ≡ get_or (map slab_key after) j 0
 
   -- one more leaf of each is entered
-  pub one-entered : (table : List (NodePtr P (LeafNode K V P))) (count key : ℕ) (now : NodePtr P (LeafNode K V P)) → AreDistinct (map slab_key before) → count < length before → key ≡ get_or (map slab_key before) count 0 → slab_key now ≡ get_or (map slab_key after) count 0 → key < length table → LeadsTo table count → LeadsTo (set table key now) (count + 1)
+  pub one-entered : (table : List (LeafPtr K V P)) (count key : ℕ) (now : LeafPtr K V P) → AreDistinct (map slab_key before) → count < length before → key ≡ get_or (map slab_key before) count 0 → slab_key now ≡ get_or (map slab_key after) count 0 → key < length table → LeadsTo table count → LeadsTo (set table key now) (count + 1)
   one-entered table count key now distinct within is leads fits so_far j below = elim (cases_lt j count) [
     | inl less ↦
-        let other : get_or (map slab_key before) j 0 ≢ key = λ same. distinct-at (map slab_key before) j count 0 distinct less (omega (arith, within, length-map before (λ (leaf : NodePtr P (LeafNode K V P)). slab_key leaf))) (sym is ∙ sym same) in
+        let other : get_or (map slab_key before) j 0 ≢ key = λ same. distinct-at (map slab_key before) j count 0 distinct less (omega (arith, within, length-map before (λ (leaf : LeafPtr K V P). slab_key leaf))) (sym is ∙ sym same) in
         ap slab_key (get_or-set_other table key (get_or (map slab_key before) j 0) now (pointer_to (get_or (map slab_key before) j 0)) other) ∙ so_far j less
     | inr from ↦
         let here : j ≡ count = omega (arith, below, from) in
@@ -222,10 +222,10 @@ module _ {K V : Type 0} {P : ℕ} (before after : List (NodePtr P (LeafNode K V 
   ]
 
   -- and in the end all are
-  pub all-entered : (table : List (NodePtr P (LeafNode K V P))) (count : ℕ) → length before ≡ length after → length before ≤ count → LeadsTo table count → map (forwarded_key table) (map slab_key before) ≡ map slab_key after
+  pub all-entered : (table : List (LeafPtr K V P)) (count : ℕ) → length before ≡ length after → length before ≤ count → LeadsTo table count → map (forwarded_key table) (map slab_key before) ≡ map slab_key after
   all-entered table count long all leads =
-      let first = length-map before (λ (leaf : NodePtr P (LeafNode K V P)). slab_key leaf) in
-      let second = length-map after (λ (leaf : NodePtr P (LeafNode K V P)). slab_key leaf) in
+      let first = length-map before (λ (leaf : LeafPtr K V P). slab_key leaf) in
+      let second = length-map after (λ (leaf : LeafPtr K V P). slab_key leaf) in
       same_number_lists (map (forwarded_key table) (map slab_key before)) (map slab_key after)
       (omega (arith, length-map (map slab_key before) (forwarded_key table), first, second, long))
       (λ j below.

@@ -1,5 +1,5 @@
 -- Loading: trees that are placed into an arena.
-use Rattle.art_tree.proofs.Names.{◌≡◌, ◌≢◌, ◌⊎◌, ◌∙◌, ℕ, zero, suc, ◌+◌, ◌-◌, ◌<◌, ◌≤◌, Bool, true, false, nat_le, List, [], ◌∷◌, ◌++◌, length, length-append, map, take, drop, get_or, slice_get, Some, inl, inr, refl, sym, ap, subst, arith, append_assoc, if◌then◌else◌, ◌&&◌, Contains, append-nil, and_from, le-leb, length-map, take_at, drop_at, drop_more, take_all, take_rest, drop_all, slice_get_within, same_Some, get_or_from_slice_get, kind_for, least_children, most_children, NodeType, IsAscending, IsAscendingFrom, key_bytes, slab_key, NodePtr, OpaqueNodePtr, LeafNode, same_or_differ, NodeArena, Held, HeldInner, HeldLeaf, Nothing, held, room, Changes, HoldsLeaf, text_at, AllStandIn, leaf_text, Tree, Leaf, Inner, Branches, NoBranch, branch_roots, branch_leaves, branch_places, leaves, places, root_of, needed, join, HaveSmallestKinds, Adds, IsRaised, HoldLeaves, leaf_pairs, leaf_texts, node_of, IsPlaced, leaf_pointer, Step, all-allocated, LeafKind, Node16, Node256, Node4, Node48}
+use Rattle.art_tree.proofs.Names.{LeafPtr, ◌≡◌, ◌≢◌, ◌⊎◌, ◌∙◌, ℕ, zero, suc, ◌+◌, ◌-◌, ◌<◌, ◌≤◌, Bool, true, false, nat_le, List, [], ◌∷◌, ◌++◌, length, length-append, map, take, drop, get_or, slice_get, Some, inl, inr, refl, sym, ap, subst, arith, append_assoc, if◌then◌else◌, ◌&&◌, Contains, append-nil, and_from, le-leb, length-map, take_at, drop_at, drop_more, take_all, take_rest, drop_all, slice_get_within, same_Some, get_or_from_slice_get, kind_for, least_children, most_children, NodeType, IsAscending, IsAscendingFrom, key_bytes, slab_key, OpaqueNodePtr, LeafNode, same_or_differ, NodeArena, Held, HeldInner, HeldLeaf, Nothing, held, room, Changes, HoldsLeaf, text_at, AllStandIn, leaf_text, Tree, Leaf, Inner, Branches, NoBranch, branch_roots, branch_leaves, branch_places, leaves, places, root_of, needed, join, HaveSmallestKinds, Adds, IsRaised, HoldLeaves, leaf_pairs, leaf_texts, node_of, IsPlaced, leaf_pointer, Step, all-allocated, LeafKind, Node16, Node256, Node4, Node48}
 use Rattle.art_tree.specs.declared.loading.steps.Step.TheVariants as step
 use Rattle.art_tree.proofs.SharedLemmas.BranchLemmas.{roots-join, leaves-join, places-join, one_branch, stand-join, stand-split, smallest_kinds-join, smallest_kinds-split}
 use Rattle.art_tree.proofs.SharedLemmas.TextLists.{one-or-other, one-there, other-stays}
@@ -219,31 +219,31 @@ module _ {K V : Type 0} {P : ℕ} (text : K → List ℕ) (pairs : List (OpaqueN
   rising-none old steps pending none leads rooms = record { stack = NoBranch; roots = sym none; leads = leads; stands = tt; smallest_kinds = tt; in_order = refl; kept = λ pointer was. refl; adds = λ before a. a; few = omega arith; rooms = rooms }
 
 module _ {K V : Type 0} {P : ℕ} (text : K → List ℕ) (old : NodeArena K V P) where
-  pub texts-of-pairs : (of : List (NodePtr P (LeafNode K V P))) → map (λ (pair : OpaqueNodePtr K V P × List ℕ). pair.1) (leaf_pairs text old of) ≡ leaf_texts text old of
+  pub texts-of-pairs : (of : List (LeafPtr K V P)) → map (λ (pair : OpaqueNodePtr K V P × List ℕ). pair.1) (leaf_pairs text old of) ≡ leaf_texts text old of
   texts-of-pairs [] = refl
   texts-of-pairs (leaf ∷ of) = ap (λ rest. text_at text old (slab_key leaf) ∷ rest) (texts-of-pairs of)
 
-  pub pair-there : (of : List (NodePtr P (LeafNode K V P))) (i : ℕ) (d : NodePtr P (LeafNode K V P)) → i < length of → slice_get (leaf_pairs text old of) i ≡ Some (leaf_pointer (get_or of i d), text_at text old (slab_key (get_or of i d)))
+  pub pair-there : (of : List (LeafPtr K V P)) (i : ℕ) (d : LeafPtr K V P) → i < length of → slice_get (leaf_pairs text old of) i ≡ Some (leaf_pointer (get_or of i d), text_at text old (slab_key (get_or of i d)))
   pair-there [] i d lt = absurd (omega arith)
   pair-there (leaf ∷ of) zero d lt = refl
   pair-there (leaf ∷ of) (suc i) d lt = pair-there of i d (omega arith)
 
-  pub pointer-there : (of : List (NodePtr P (LeafNode K V P))) (i : ℕ) (d : NodePtr P (LeafNode K V P)) → i < length of → slice_get (map (leaf_pointer {K = K} {V = V} {P = P}) of) i ≡ Some (leaf_pointer (get_or of i d))
+  pub pointer-there : (of : List (LeafPtr K V P)) (i : ℕ) (d : LeafPtr K V P) → i < length of → slice_get (map (leaf_pointer {K = K} {V = V} {P = P}) of) i ≡ Some (leaf_pointer (get_or of i d))
   pointer-there [] i d lt = absurd (omega arith)
   pointer-there (leaf ∷ of) zero d lt = refl
   pointer-there (leaf ∷ of) (suc i) d lt = pointer-there of i d (omega arith)
 
-  pub texts-there : (of : List (NodePtr P (LeafNode K V P))) (i : ℕ) (d : NodePtr P (LeafNode K V P)) → i < length of → get_or (leaf_texts text old of) i [] ≡ text_at text old (slab_key (get_or of i d))
+  pub texts-there : (of : List (LeafPtr K V P)) (i : ℕ) (d : LeafPtr K V P) → i < length of → get_or (leaf_texts text old of) i [] ≡ text_at text old (slab_key (get_or of i d))
   texts-there [] i d lt = absurd (omega arith)
   texts-there (leaf ∷ of) zero d lt = refl
   texts-there (leaf ∷ of) (suc i) d lt = texts-there of i d (omega arith)
 
-  pub pairs-count : (of : List (NodePtr P (LeafNode K V P))) → length (leaf_pairs text old of) ≡ length of
+  pub pairs-count : (of : List (LeafPtr K V P)) → length (leaf_pairs text old of) ≡ length of
   pairs-count [] = refl
   pairs-count (leaf ∷ of) = ap suc (pairs-count of)
 
 -- what the next step finds, over the leaves themselves
-module _ {K V : Type 0} {P : ℕ} (text : K → List ℕ) (old : NodeArena K V P) (of : List (NodePtr P (LeafNode K V P))) where
+module _ {K V : Type 0} {P : ℕ} (text : K → List ℕ) (old : NodeArena K V P) (of : List (LeafPtr K V P)) where
   abbrev Rising : NodeArena K V P → ℕ → List (ℕ × OpaqueNodePtr K V P) → List Step → Type 0
   Rising now next pending steps = IsRising text (leaf_pairs text old of) (map leaf_pointer of) old now next pending steps
 
@@ -272,7 +272,7 @@ module _ {K V : Type 0} {P : ℕ} (text : K → List ℕ) (old : NodeArena K V P
         inside : next - 1 < length of;
         few : length pending ≤ next;
         ready : IsReady text (leaf_pairs text old of) (map leaf_pointer of) now rising.leads.0.1 pending start end children;
-        last : (leaf : NodePtr P (LeafNode K V P)) → record {
+        last : (leaf : LeafPtr K V P) → record {
           is_held : HoldsLeaf now (slab_key (get_or of (next - 1) leaf));
           before : get_or (leaf_texts text old of) (next - 1) [] ≡ rising.leads.0.1;
           now : text_at text now (slab_key (get_or of (next - 1) leaf)) ≡ rising.leads.0.1;

@@ -1,5 +1,5 @@
 -- Compaction: the leaves of a tree one after another, and the tree of the same entries.
-use Rattle.art_tree.proofs.Names.{next-member, knit-member, texts-apart, texts-ascend, ◌≡◌, ◌≢◌, ◌∙◌, ℕ, zero, suc, ◌+◌, ◌<◌, ◌≤◌, ◌^◌, List, [], ◌∷◌, ◌++◌, length, map, take, get_or, slice_get, All, AllPairs, Contains, Option, Some, None, refl, sym, ap, subst, inl, inr, arith, length-append, append_assoc, append-nil, Less, Greater, cases_lt, le-ltb, eqb_tells, get_or-map, length-map, map-append, take_all, take_more, All-nil, All-cons, All-contains, Contains-append_right, same_Some, IsPrefixOf, text_order, leaf_key, leaf_value, opaque_key, opaque_pointer, slab_key, LeafNode, NodePtr, OpaqueNodePtr, NodeArena, Changes, HeldLeaf, Nothing, held, leaf_count, IsAtEnd, AreDistinct, HoldsLeaf, Spells, next_at, text_at, Tree, leaves, texts, First, IsAlone, HasEntry, IsEntry, SameEntries, entry_at, HoldEntries, IsLoaded, leaf_pointers, AreLoadable, Forks, leaf_texts, texts_of, AreLeavesOf, IsReloaded, leaf_pointer, leaf_place, inside_image, LeafKind}
+use Rattle.art_tree.proofs.Names.{LeafPtr, next-member, knit-member, texts-apart, texts-ascend, ◌≡◌, ◌≢◌, ◌∙◌, ℕ, zero, suc, ◌+◌, ◌<◌, ◌≤◌, ◌^◌, List, [], ◌∷◌, ◌++◌, length, map, take, get_or, slice_get, All, AllPairs, Contains, Option, Some, None, refl, sym, ap, subst, inl, inr, arith, length-append, append_assoc, append-nil, Less, Greater, cases_lt, le-ltb, eqb_tells, get_or-map, length-map, map-append, take_all, take_more, All-nil, All-cons, All-contains, Contains-append_right, same_Some, IsPrefixOf, text_order, leaf_key, leaf_value, opaque_key, opaque_pointer, slab_key, LeafNode, OpaqueNodePtr, NodeArena, Changes, HeldLeaf, Nothing, held, leaf_count, IsAtEnd, AreDistinct, HoldsLeaf, Spells, next_at, text_at, Tree, leaves, texts, First, IsAlone, HasEntry, IsEntry, SameEntries, entry_at, HoldEntries, IsLoaded, leaf_pointers, AreLoadable, Forks, leaf_texts, texts_of, AreLeavesOf, IsReloaded, leaf_pointer, leaf_place, inside_image, LeafKind}
 use Rattle.art_tree.proofs.SharedLemmas.EntryCounts.{spelled-fit}
 use Rattle.art_tree.proofs.LoadLemmas.LeafLists.{hold-last, hold-texts, keys-of}
 use Rattle.art_tree.proofs.LoadLemmas.RefusalLemmas.{fork-later}
@@ -44,7 +44,7 @@ none-first (k ∷ others) is = absurd (cc)
 
 module _ {K V : Type 0} {P : ℕ} where
   -- pointers to leaves follow from their keys
-  from-keys : (pointers : List (OpaqueNodePtr K V P)) (of : List (NodePtr P (LeafNode K V P))) → ((p : OpaqueNodePtr K V P) → Contains pointers p → opaque_pointer LeafKind (opaque_key p) ≡ p) → map opaque_key pointers ≡ map slab_key of → pointers ≡ map leaf_pointer of
+  from-keys : (pointers : List (OpaqueNodePtr K V P)) (of : List (LeafPtr K V P)) → ((p : OpaqueNodePtr K V P) → Contains pointers p → opaque_pointer LeafKind (opaque_key p) ≡ p) → map opaque_key pointers ≡ map slab_key of → pointers ≡ map leaf_pointer of
   from-keys [] [] each same = refl
   from-keys [] (o ∷ of) each same = absurd (cc)
   from-keys (p ∷ pointers) [] each same = absurd (cc)
@@ -56,14 +56,14 @@ module _ {K V : Type 0} {P : ℕ} where
 
 module _ {K V : Type 0} {P : ℕ} (text : K → List ℕ) (arena : NodeArena K V P) (root : OpaqueNodePtr K V P) where
   -- these are the first leaves of a tree, and the next one is under this key, if there is one
-  pub record IsGathered (of : List (NodePtr P (LeafNode K V P))) (at : Option ℕ) : Type 0 where
+  pub record IsGathered (of : List (LeafPtr K V P)) (at : Option ℕ) : Type 0 where
     pub tree : Tree (OpaqueNodePtr K V P)
     pub alone : IsAlone text arena root tree
     pub rest : List ℕ
     pub split : map opaque_key (leaf_pointers tree) ≡ map slab_key of ++ rest
     pub here : at ≡ slice_get rest 0
 
-  pub gathered-start : (tree : Tree (OpaqueNodePtr K V P)) → IsAlone text arena root tree → (leaf : NodePtr P (LeafNode K V P)) → IsAtEnd First (leaves tree) (leaf_pointer leaf) → IsGathered [] (Some (slab_key leaf))
+  pub gathered-start : (tree : Tree (OpaqueNodePtr K V P)) → IsAlone text arena root tree → (leaf : LeafPtr K V P) → IsAtEnd First (leaves tree) (leaf_pointer leaf) → IsGathered [] (Some (slab_key leaf))
   gathered-start tree alone leaf (x, others, is) = record {
     tree = tree;
     alone = alone;
@@ -72,7 +72,7 @@ module _ {K V : Type 0} {P : ℕ} (text : K → List ℕ) (arena : NodeArena K V
     here = sym (ap (λ (all : List (OpaqueNodePtr K V P × List ℕ)). slice_get (map opaque_key (map (λ pair. pair.0) all)) 0) is);
   }
 
-  pub gathered-next : (of : List (NodePtr P (LeafNode K V P))) (leaf : NodePtr P (LeafNode K V P)) (next : Option ℕ) → IsGathered of (Some (slab_key leaf)) → next ≡ next_at arena (slab_key leaf) → IsGathered (of ++ leaf ∷ []) next
+  pub gathered-next : (of : List (LeafPtr K V P)) (leaf : LeafPtr K V P) (next : Option ℕ) → IsGathered of (Some (slab_key leaf)) → next ≡ next_at arena (slab_key leaf) → IsGathered (of ++ leaf ∷ []) next
   gathered-next of leaf next g is =
       let first = at-first (slab_key leaf) g.rest g.here in
       let whole : map opaque_key (leaf_pointers g.tree) ≡ map slab_key of ++ slab_key leaf ∷ first.0 = g.split ∙ ap (λ rest. map slab_key of ++ rest) first.1 in
@@ -84,7 +84,7 @@ module _ {K V : Type 0} {P : ℕ} (text : K → List ℕ) (arena : NodeArena K V
         here = is ∙ next-member arena (map slab_key of) first.0 (slab_key leaf) (subst (Spells arena) whole g.alone.spelled);
       }
 
-  pub gathered-all : (of : List (NodePtr P (LeafNode K V P))) → IsGathered of None → AreLeavesOf text arena root of
+  pub gathered-all : (of : List (LeafPtr K V P)) → IsGathered of None → AreLeavesOf text arena root of
   gathered-all of g =
       let keys : map opaque_key (leaf_pointers g.tree) ≡ map slab_key of = g.split ∙ ap (λ rest. map slab_key of ++ rest) (none-first g.rest g.here) ∙ append-nil (map slab_key of) in
       record {
@@ -96,7 +96,7 @@ module _ {K V : Type 0} {P : ℕ} (text : K → List ℕ) (arena : NodeArena K V
             leaf_place arena p there.0 (ap (held arena) (sym pair.2) ∙ there.1)) keys;
       }
 
-  along : (pairs : List (OpaqueNodePtr K V P × List ℕ)) (of : List (NodePtr P (LeafNode K V P))) → ((p : OpaqueNodePtr K V P) (x : List ℕ) → Contains pairs (p, x) → (leaf : LeafNode K V P) × (held arena p ≡ HeldLeaf leaf) × (text (leaf_key leaf) ≡ x)) → map (λ pair. pair.0) pairs ≡ map leaf_pointer of
+  along : (pairs : List (OpaqueNodePtr K V P × List ℕ)) (of : List (LeafPtr K V P)) → ((p : OpaqueNodePtr K V P) (x : List ℕ) → Contains pairs (p, x) → (leaf : LeafNode K V P) × (held arena p ≡ HeldLeaf leaf) × (text (leaf_key leaf) ≡ x)) → map (λ pair. pair.0) pairs ≡ map leaf_pointer of
       → (leaf_texts text arena of ≡ map (λ pair. pair.1) pairs) × All (λ leaf. HoldsLeaf arena (slab_key leaf)) of
   along [] [] each same = (refl, All-nil (λ leaf. HoldsLeaf arena (slab_key leaf)))
   along [] (o ∷ of) each same = absurd (cc)
@@ -112,7 +112,7 @@ module _ {K V : Type 0} {P : ℕ} (text : K → List ℕ) (arena : NodeArena K V
       )
 
 -- the next leaf is held, and there are more leaves than those so far
-module _ {K V : Type 0} {P : ℕ} {text : K → List ℕ} {arena : NodeArena K V P} {root : OpaqueNodePtr K V P} {of : List (NodePtr P (LeafNode K V P))} {key : ℕ} (g : IsGathered text arena root of (Some key)) where
+module _ {K V : Type 0} {P : ℕ} {text : K → List ℕ} {arena : NodeArena K V P} {root : OpaqueNodePtr K V P} {of : List (LeafPtr K V P)} {key : ℕ} (g : IsGathered text arena root of (Some key)) where
   next-keys : (others : List ℕ) × (Spells arena (map slab_key of ++ key ∷ others))
   next-keys =
       let first = at-first key g.rest g.here in
@@ -122,10 +122,10 @@ module _ {K V : Type 0} {P : ℕ} {text : K → List ℕ} {arena : NodeArena K V
   gathered-held = (knit-member arena (map slab_key of) next-keys.0 key next-keys.1).held
 
   pub gathered-fits : length of < leaf_count arena
-  gathered-fits = omega (arith, spelled-fit arena _ next-keys.1, length-append (map slab_key of) (key ∷ next-keys.0), length-map of (λ (leaf : NodePtr P (LeafNode K V P)). slab_key leaf))
+  gathered-fits = omega (arith, spelled-fit arena _ next-keys.1, length-append (map slab_key of) (key ∷ next-keys.0), length-map of (λ (leaf : LeafPtr K V P). slab_key leaf))
 
 -- the leaves of a tree
-module _ {K V : Type 0} {P : ℕ} {text : K → List ℕ} {arena : NodeArena K V P} {root : OpaqueNodePtr K V P} {of : List (NodePtr P (LeafNode K V P))} (is : AreLeavesOf text arena root of) where
+module _ {K V : Type 0} {P : ℕ} {text : K → List ℕ} {arena : NodeArena K V P} {root : OpaqueNodePtr K V P} {of : List (LeafPtr K V P)} (is : AreLeavesOf text arena root of) where
   both : (leaf_texts text arena of ≡ texts is.tree) × All (λ leaf. HoldsLeaf arena (slab_key leaf)) of
   both = along text arena root (leaves is.tree) of (leaf-held-in text arena is.tree is.alone.is_tree.stands) is.in_order
 
@@ -144,12 +144,12 @@ module _ {K V : Type 0} {P : ℕ} {text : K → List ℕ} {arena : NodeArena K V
   pub leaves-loadable : AreLoadable (leaf_texts text arena of)
   leaves-loadable = subst AreLoadable (sym both.0) (loadable-texts (texts is.tree) is.alone.short (texts-ascend [] is.tree is.alone.is_tree.sound) (texts-apart [] is.tree is.alone.is_tree.sound))
 
-module _ {K V : Type 0} {P : ℕ} (old : NodeArena K V P) (of : List (NodePtr P (LeafNode K V P))) where
+module _ {K V : Type 0} {P : ℕ} (old : NodeArena K V P) (of : List (LeafPtr K V P)) where
   -- the entries of the first leaves were taken out of an arena, and the other leaves are still there
   pub record IsTaking (now : NodeArena K V P) (count : ℕ) (entries : List (K × V)) : Type 0 where
     pub hold : HoldEntries old (map leaf_pointer (take count of)) entries
     pub long : length entries ≡ count
-    pub kept : (k : ℕ) (d : NodePtr P (LeafNode K V P)) → count ≤ k → k < length of → held now (leaf_pointer (get_or of k d)) ≡ held old (leaf_pointer (get_or of k d))
+    pub kept : (k : ℕ) (d : LeafPtr K V P) → count ≤ k → k < length of → held now (leaf_pointer (get_or of k d)) ≡ held old (leaf_pointer (get_or of k d))
 
   pub none-taken : (entries : List (K × V)) → entries ≡ [] → IsTaking old 0 entries
   none-taken entries none = record {
@@ -159,17 +159,17 @@ module _ {K V : Type 0} {P : ℕ} (old : NodeArena K V P) (of : List (NodePtr P 
   }
 
   -- one more entry is taken
-  pub next-taken : (now new : NodeArena K V P) (count : ℕ) (entries : List (K × V)) (at : NodePtr P (LeafNode K V P)) (leaf : LeafNode K V P) (entry : K × V) → AreDistinct (map slab_key of) → IsTaking now count entries → count < length of → get_or of count at ≡ at
+  pub next-taken : (now new : NodeArena K V P) (count : ℕ) (entries : List (K × V)) (at : LeafPtr K V P) (leaf : LeafNode K V P) (entry : K × V) → AreDistinct (map slab_key of) → IsTaking now count entries → count < length of → get_or of count at ≡ at
       → held now (leaf_pointer at) ≡ HeldLeaf leaf → Changes now new (leaf_pointer at) Nothing → entry.0 ≡ leaf_key leaf → entry.1 ≡ leaf_value leaf → IsTaking new (count + 1) (entries ++ entry ∷ [])
   next-taken now new count entries at leaf entry distinct t within is there changes key value =
-      let was : held old (leaf_pointer at) ≡ HeldLeaf leaf = ap (λ (p : NodePtr P (LeafNode K V P)). held old (leaf_pointer p)) (sym is) ∙ sym (t.kept count at (omega arith) within) ∙ ap (λ (p : NodePtr P (LeafNode K V P)). held now (leaf_pointer p)) is ∙ there in
+      let was : held old (leaf_pointer at) ≡ HeldLeaf leaf = ap (λ (p : LeafPtr K V P). held old (leaf_pointer p)) (sym is) ∙ sym (t.kept count at (omega arith) within) ∙ ap (λ (p : LeafPtr K V P). held now (leaf_pointer p)) is ∙ there in
       let front : take (count + 1) of ≡ take count of ++ at ∷ [] = take_more of count at within ∙ ap (λ p. take count of ++ p ∷ []) is in
       record {
         hold = subst (λ p. HoldEntries old p (entries ++ entry ∷ [])) (sym (ap (map leaf_pointer) front ∙ map-append leaf_pointer (take count of) (at ∷ []))) (hold-last old (leaf_pointer at) leaf entry was (sym key) (sym value) (map leaf_pointer (take count of)) entries t.hold);
         long = omega (arith, length-append entries (entry ∷ []), t.long);
         kept = λ k d past inside.
             let other : slab_key (get_or of k d) ≢ slab_key at = λ same.
-            distinct-at (map slab_key of) count k 0 distinct (omega (arith, past)) (omega (arith, inside, length-map of (λ (leaf : NodePtr P (LeafNode K V P)). slab_key leaf)))
+            distinct-at (map slab_key of) count k 0 distinct (omega (arith, past)) (omega (arith, inside, length-map of (λ (leaf : LeafPtr K V P). slab_key leaf)))
             (get_or-map slab_key of k d 0 inside ∙ same ∙ ap slab_key (sym is) ∙ sym (get_or-map slab_key of count at 0 within)) in
             changes.others (leaf_pointer (get_or of k d)) (λ same. other (ap opaque_key same)) ∙ t.kept k d (omega (arith, past)) inside;
       }
@@ -197,7 +197,7 @@ same-lists {K} {V} text a b entries in_a all_a in_b all_b x = by_new (entry_at t
     by_new None new = by_old (entry_at text a x) refl new
     by_new (Some e) new = shared (all_b x (λ none. let wrong : Some e ≡ None = sym new ∙ none in absurd (cc)))
 
-module _ {K V : Type 0} {P : ℕ} {text : K → List ℕ} {old : NodeArena K V P} {root : OpaqueNodePtr K V P} {of : List (NodePtr P (LeafNode K V P))} (is : AreLeavesOf text old root of) (entries : List (K × V)) (hold : HoldEntries old (map leaf_pointer of) entries) where
+module _ {K V : Type 0} {P : ℕ} {text : K → List ℕ} {old : NodeArena K V P} {root : OpaqueNodePtr K V P} {of : List (LeafPtr K V P)} (is : AreLeavesOf text old root of) (entries : List (K × V)) (hold : HoldEntries old (map leaf_pointer of) entries) where
   entry-texts : texts_of text entries ≡ texts is.tree
   entry-texts = sym (hold-texts text old of entries hold) ∙ (both is).0
 

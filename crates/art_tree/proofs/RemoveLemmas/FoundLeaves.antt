@@ -1,5 +1,5 @@
 -- The leaf that is found in a tree, with the path to it.
-use Rattle.art_tree.proofs.Names.{◌≡◌, ◌∙◌, ℕ, List, ◌∷◌, Option, Some, None, Contains, IfSome, refl, sym, ap, subst, arith, [], Contains-append_right, same_Some, option_map, leaf_key, leaf_value, slab_key, OpaqueNodePtr, NodePtr, LeafNode, NodeArena, HeldLeaf, Nothing, held, held_leaf, HoldsLeaf, leaf_at, IsAtEnd, Tree, Leaf, leaves, End, IsAlone, Art, leaves_before, leaves_after, entry_at, HasEntry, HasLeafAt, IsAtPath, EndMeets, leaf_pointer, scan, found, IsPathTo, TreePath, IsFound, IsLeafOf, ReachesLeaf}
+use Rattle.art_tree.proofs.Names.{LeafPtr, ◌≡◌, ◌∙◌, ℕ, List, ◌∷◌, Option, Some, None, Contains, IfSome, refl, sym, ap, subst, arith, [], Contains-append_right, same_Some, option_map, leaf_key, leaf_value, slab_key, OpaqueNodePtr, LeafNode, NodeArena, HeldLeaf, Nothing, held, held_leaf, HoldsLeaf, leaf_at, IsAtEnd, Tree, Leaf, leaves, End, IsAlone, Art, leaves_before, leaves_after, entry_at, HasEntry, HasLeafAt, IsAtPath, EndMeets, leaf_pointer, scan, found, IsPathTo, TreePath, IsFound, IsLeafOf, ReachesLeaf}
 use Rattle.art_tree.proofs.SharedLemmas.DictionaryLemmas.{end-entry, end-held, end-within, entry-of-member, leaf-held-in, no-entry, scan-in, entry-of-text}
 use Rattle.art_tree.proofs.SharedLemmas.ExchangedSubtree.{leaves-plug}
 use Rattle.art_tree.proofs.SharedLemmas.HeldNodes.{leaf-of}
@@ -31,7 +31,7 @@ module _ {K V : Type 0} {P : ℕ} {text : K → List ℕ} {arena : NodeArena K V
 
 module _ {K V : Type 0} {P : ℕ} {text : K → List ℕ} {art : Art (NodeArena K V P) (OpaqueNodePtr K V P)} {root : OpaqueNodePtr K V P} (is_root : art.root ≡ Some root) {tree : Tree (OpaqueNodePtr K V P)} (alone : IsAlone text art.arena root tree) where
   -- what a search for a text finds
-  pub search-found : (result : Option (NodePtr P (LeafNode K V P) × TreePath K V P)) (x : List ℕ) → scan tree x ≡ found result x → IfSome result (λ (leaf, path). IsPathTo tree (leaf_pointer leaf) path) → IsFound text art x result
+  pub search-found : (result : Option (LeafPtr K V P × TreePath K V P)) (x : List ℕ) → scan tree x ≡ found result x → IfSome result (λ (leaf, path). IsPathTo tree (leaf_pointer leaf) path) → IsFound text art x result
   search-found None x answer way = no-entry text art.arena root tree alone x answer
   search-found (Some (leaf, path)) x answer way =
       let at = leaf_pointer leaf in
@@ -39,7 +39,7 @@ module _ {K V : Type 0} {P : ℕ} {text : K → List ℕ} {art : Art (NodeArena 
       record { root = root; is_root = is_root; reaches = record { tree = tree; alone = alone; at_path = path-found alone at path x way inside } }
 
   -- and what the way to an end finds
-  pub end-found-there : (end : End) (leaf : NodePtr P (LeafNode K V P)) (path : TreePath K V P) → IsAtEnd end (leaves tree) (leaf_pointer leaf) → (x : List ℕ) → IsAtPath tree (leaf_pointer leaf) path x → EndMeets text art.arena end (IsLeafOf text art leaf path)
+  pub end-found-there : (end : End) (leaf : LeafPtr K V P) (path : TreePath K V P) → IsAtEnd end (leaves tree) (leaf_pointer leaf) → (x : List ℕ) → IsAtPath tree (leaf_pointer leaf) path x → EndMeets text art.arena end (IsLeafOf text art leaf path)
   end-found-there end leaf path at_end x (steps, place, has, is) =
       let there = end-held text art.arena end root tree alone leaf at_end in
       let is_key = ap (option_map leaf_key) there.1 in
@@ -61,7 +61,7 @@ pub record IsHeldWith {K V : Type 0} {P : ℕ} (text : K → List ℕ) (arena : 
   pub has : text (leaf_key leaf) ≡ x
   pub entry : entry_at text arena x ≡ Some (leaf_key leaf, leaf_value leaf)
 
-pub found-held : {K V : Type 0} {P : ℕ} {text : K → List ℕ} {arena : NodeArena K V P} {root : OpaqueNodePtr K V P} {leaf : NodePtr P (LeafNode K V P)} {path : TreePath K V P} {x : List ℕ} → ReachesLeaf text arena root leaf path x → IsHeldWith text arena (slab_key leaf) x
+pub found-held : {K V : Type 0} {P : ℕ} {text : K → List ℕ} {arena : NodeArena K V P} {root : OpaqueNodePtr K V P} {leaf : LeafPtr K V P} {path : TreePath K V P} {x : List ℕ} → ReachesLeaf text arena root leaf path x → IsHeldWith text arena (slab_key leaf) x
 found-held {text = text} {arena = arena} {root = root} {leaf = leaf} {x = x} at =
     let (steps, place, same, is) = at.at_path in
     let inside = subst (λ y. Contains (leaves at.tree) (leaf_pointer leaf, y)) same (place-inside place) in
@@ -93,7 +93,7 @@ pub value-read : {K V : Type 0} {P : ℕ} {text : K → List ℕ} {arena : NodeA
 value-read here value is_value = ap (option_map (λ (entry : _ × _). entry.1)) here.entry ∙ sym (ap (option_map leaf_value) here.there) ∙ is_value
 
 -- a leaf that was found is there in the arena and at the root that are read
-pub reaches-in : {K V : Type 0} {P : ℕ} {text : K → List ℕ} {art : Art (NodeArena K V P) (OpaqueNodePtr K V P)} {leaf : NodePtr P (LeafNode K V P)} {path : TreePath K V P} {x : List ℕ} → IsLeafOf text art leaf path x → (root : OpaqueNodePtr K V P) → art.root ≡ Some root → ReachesLeaf text art.arena root leaf path x
+pub reaches-in : {K V : Type 0} {P : ℕ} {text : K → List ℕ} {art : Art (NodeArena K V P) (OpaqueNodePtr K V P)} {leaf : LeafPtr K V P} {path : TreePath K V P} {x : List ℕ} → IsLeafOf text art leaf path x → (root : OpaqueNodePtr K V P) → art.root ≡ Some root → ReachesLeaf text art.arena root leaf path x
 reaches-in {text = text} {art = art} {leaf = leaf} {path = path} {x = x} at root is = subst (λ r. ReachesLeaf text art.arena r leaf path x) (same_Some at.root root (sym at.is_root ∙ is)) at.reaches
 
 -- a tree has an entry

@@ -1,5 +1,5 @@
 -- Removal: a leaf that a search finds, and that is removed from its list and from its arena.
-use Rattle.art_tree.proofs.Names.{◌≡◌, ◌≢◌, ◌∙◌, ℕ, ◌≤◌, ◌+◌, length, List, [], ◌∷◌, ◌++◌, All, Option, Some, None, refl, sym, ap, subst, inl, inr, arith, Ok, Err, Result, All-cons, All-contains, All-head, All-tail, Contains-append_right, NodeType, least_children, same_or_differ, leaf_key, leaf_value, node_kind, opaque_key, opaque_pointer, NodePtr, OpaqueNodePtr, LeafNode, NodeArena, HeldLeaf, Nothing, held, held_leaf, room, Changes, SameRoom, SameOtherRoom, AreDistinct, HoldsLeaf, IsKnit, SameButLinks, Spells, SpellsAfter, leaf_at, Leaf, IsAlone, IsArt, entry_at, HasOneLess, FreesOne, IsAtPath, IsTaken, StaysAt, IsLeft, RemovesEntry, RemovesFreely, FreesOneEach, leaf_pointer, TreePath, leaf_kind, by_option, the_one, LeafKind, Node16, Node256, Node4, Node48, InnerNode, Root, ReachesLeaf}
+use Rattle.art_tree.proofs.Names.{LeafPtr, ◌≡◌, ◌≢◌, ◌∙◌, ℕ, ◌≤◌, ◌+◌, length, List, [], ◌∷◌, ◌++◌, All, Option, Some, None, refl, sym, ap, subst, inl, inr, arith, Ok, Err, Result, All-cons, All-contains, All-head, All-tail, Contains-append_right, NodeType, least_children, same_or_differ, leaf_key, leaf_value, node_kind, opaque_key, opaque_pointer, OpaqueNodePtr, LeafNode, NodeArena, HeldLeaf, Nothing, held, held_leaf, room, Changes, SameRoom, SameOtherRoom, AreDistinct, HoldsLeaf, IsKnit, SameButLinks, Spells, SpellsAfter, leaf_at, Leaf, IsAlone, IsArt, entry_at, HasOneLess, FreesOne, IsAtPath, IsTaken, StaysAt, IsLeft, RemovesEntry, RemovesFreely, FreesOneEach, leaf_pointer, TreePath, leaf_kind, by_option, the_one, LeafKind, Node16, Node256, Node4, Node48, InnerNode, Root, ReachesLeaf}
 use Rattle.art_tree.proofs.SharedLemmas.DictionaryLemmas.{empty-entry, held-entry, leaf-of-entry}
 use Rattle.art_tree.proofs.InsertLemmas.NodeLemmas.{one-leaf}
 use Rattle.art_tree.proofs.SharedLemmas.RoomLemmas.{same-capacity, same-room}
@@ -109,7 +109,7 @@ pub frees-entry-at : {K V E : Type 0} {P : ℕ} {text : K → List ℕ} {old new
 frees-entry-at {E = E} {text = text} {old = old} {new = new} {root = root} {removed = removed} same is = subst (λ z. RemovesEntry text old new root z (okay E removed)) same (frees-entry is)
 
 -- a leaf to which the path has no step is alone
-pub root-reached : {K V : Type 0} {P : ℕ} {text : K → List ℕ} {arena : NodeArena K V P} {root : OpaqueNodePtr K V P} {leaf : NodePtr P (LeafNode K V P)} {path : TreePath K V P} {x : List ℕ} → ReachesLeaf text arena root leaf path x → path ≡ Root → IsAlone text arena root (Leaf (leaf_pointer leaf) x)
+pub root-reached : {K V : Type 0} {P : ℕ} {text : K → List ℕ} {arena : NodeArena K V P} {root : OpaqueNodePtr K V P} {leaf : LeafPtr K V P} {path : TreePath K V P} {x : List ℕ} → ReachesLeaf text arena root leaf path x → path ≡ Root → IsAlone text arena root (Leaf (leaf_pointer leaf) x)
 root-reached {text = text} {arena = arena} {root = root} {leaf = leaf} {x = x} at none =
     subst (IsAlone text arena root) (leaf-root at.tree (leaf_pointer leaf) x (subst (λ path. IsAtPath at.tree (leaf_pointer leaf) path x) none at.at_path)) at.alone
 

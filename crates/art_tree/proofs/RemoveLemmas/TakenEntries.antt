@@ -1,6 +1,6 @@
 -- What is removed of an arena is removed of the tree in it, of the entry at its end, or by its leaf.
-use Rattle.art_tree.proofs.Names.{◌≡◌, ◌∙◌, ◌+◌, ℕ, List, Option, Some, None, Result, Ok, Err, IsSome, refl, sym, ap, subst, inl, arith, inr, leaf_key, leaf_value, OpaqueNodePtr, NodePtr, LeafNode, NodeArena, held_leaf, HeldLeaf, SameCapacity, leaf_at, End, IsArt, Art, entry_at, IsEmpty, HasKeys, same_Some, IsEndEntry, PopsEntry, GrowsOnlyWhere, LacksRoomToRemove, TreePath, opaque_pointer, LeafKind, IsErr, IsFound, TakesEntry, RemovesEntry}
-use Rattle.art_tree.specs.Room.{HasRoomFor}
+use Rattle.art_tree.proofs.Names.{LeafPtr, ◌≡◌, ◌∙◌, ◌+◌, ℕ, List, Option, Some, None, Result, Ok, Err, IsSome, refl, sym, ap, subst, inl, arith, inr, leaf_key, leaf_value, OpaqueNodePtr, LeafNode, NodeArena, held_leaf, HeldLeaf, SameCapacity, leaf_at, End, IsArt, Art, entry_at, IsEmpty, HasKeys, same_Some, IsEndEntry, PopsEntry, GrowsOnlyWhere, LacksRoomToRemove, TreePath, opaque_pointer, LeafKind, IsErr, IsFound, TakesEntry, RemovesEntry}
+use Rattle.art_tree.specs.Room.{HasEntryRoom}
 use Rattle.art_tree.proofs.SharedLemmas.DictionaryLemmas.{entry-of-leaf}
 use Rattle.art_tree.proofs.SharedLemmas.ExchangedTree.{art-same, entries-stay}
 use Rattle.art_tree.proofs.SharedLemmas.KeyLemmas.{keys-left, keys-same}
@@ -19,10 +19,10 @@ module _ {K V E : Type 0} {P : ℕ} (text : K → List ℕ) (old new : Art (Node
     grows : GrowsOnlyWhere old.arena new.arena (LacksRoomToRemove text old.arena old.root x)
     grows = subst (λ r. GrowsOnlyWhere old.arena new.arena (LacksRoomToRemove text old.arena r x)) (sym is_root) removes.memory
 
-    never : (count : ℕ) → HasRoomFor old.arena (count + 1) → (kind : _) → LacksRoomToRemove text old.arena old.root x kind → ⊥
+    never : (count : ℕ) → HasEntryRoom old.arena (count + 1) → (kind : _) → LacksRoomToRemove text old.arena old.root x kind → ⊥
     never count has kind = enough-to-remove text old.arena old.root x kind count art has
 
-    kept : (count : ℕ) → HasRoomFor old.arena (count + 1) → SameCapacity old.arena new.arena
+    kept : (count : ℕ) → HasEntryRoom old.arena (count + 1) → SameCapacity old.arena new.arena
     kept count has = no-growth old.arena new.arena (LacksRoomToRemove text old.arena old.root x) (never count has) grows
 
   -- the entry is taken
@@ -78,13 +78,13 @@ leaf-entry {K = K} {V = V} {P = P} text arena None nothing key leaf is = let wro
 leaf-entry text arena (Some root) (tree, alone) key leaf is = entry-of-leaf text arena root tree alone (apart-there alone) key leaf is
 
 -- a search for a text that has an entry finds its leaf
-pub finds : {K V : Type 0} {P : ℕ} (text : K → List ℕ) (art : Art (NodeArena K V P) (OpaqueNodePtr K V P)) (x : List ℕ) (entry : K × V) (result : Option (NodePtr P (LeafNode K V P) × TreePath K V P)) → entry_at text art.arena x ≡ Some entry → IsFound text art x result → IsSome result
+pub finds : {K V : Type 0} {P : ℕ} (text : K → List ℕ) (art : Art (NodeArena K V P) (OpaqueNodePtr K V P)) (x : List ℕ) (entry : K × V) (result : Option (LeafPtr K V P × TreePath K V P)) → entry_at text art.arena x ≡ Some entry → IsFound text art x result → IsSome result
 finds text art x entry None some none = let wrong : Some entry ≡ None = sym some ∙ none in absurd (cc)
 finds text art x entry (Some pair) some is = refl
 
 -- the entry at an end is taken, if there is one
 module _ {K V E : Type 0} {P : ℕ} (text : K → List ℕ) (old new : Art (NodeArena K V P) (OpaqueNodePtr K V P)) (end : End) where
-  pub pops-none : IsEmpty text old.arena → ((count : ℕ) → HasRoomFor old.arena (count + 1) → HasRoomFor old.arena count) → PopsEntry text old old end (okay E None)
+  pub pops-none : IsEmpty text old.arena → ((count : ℕ) → HasEntryRoom old.arena (count + 1) → HasEntryRoom old.arena count) → PopsEntry text old old end (okay E None)
   pops-none empty fewer = record {
     removed = tt;
     none = empty;

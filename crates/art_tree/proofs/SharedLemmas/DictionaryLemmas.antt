@@ -1,5 +1,5 @@
 -- The dictionary of an arena that holds one tree.
-use Rattle.art_tree.proofs.Names.{filter, ◌<◌, ◌^◌, length, ◌≢◌, ◌≡◌, ◌∙◌, ℕ, zero, suc, Bool, true, false, not, IsTrue, List, [], ◌∷◌, map, get_or, All, AllPairs, Contains, Option, Some, None, slice_index_or, nat_eq, refl, sym, ap, subst, inl, inr, arith, append-nil, ◌++◌, pointwise, nat_list_cmp_total, ordering_reverse, is_some, option_map, Less, Greater, same_Some, All-contains, All-map, Contains-get_or, Contains-append_left, Contains-append_right, Contains-append_cases, IsPrefixOf, text_order, leaf_key, leaf_value, node_kind, opaque_key, slab_key, opaque_pointer, NodePtr, OpaqueNodePtr, LeafNode, NodeArena, Nothing, HeldInner, HeldLeaf, held, held_leaf, held_under, leaf_at, StandsIn, AllStandIn, Tree, Leaf, Inner, Branches, NoBranch, Branch, leaves, branch_leaves, texts, places, branch_places, IsAlone, IsArt, entry_among, entry_at, HasEntry, IsEmpty, IsAtEnd, IsWithin, End, First, Last, HoldEntries, IsLoaded, leaf_pointers, texts_of, scan, leaf_pointer, leaf_kind, the_one, image_inside, inside_image, inside_part, part_inside, text_itself, order_itself, by_text, by_option, LeafKind}
+use Rattle.art_tree.proofs.Names.{LeafPtr, filter, ◌<◌, ◌^◌, length, ◌≢◌, ◌≡◌, ◌∙◌, ℕ, zero, suc, Bool, true, false, not, IsTrue, List, [], ◌∷◌, map, get_or, All, AllPairs, Contains, Option, Some, None, slice_index_or, nat_eq, refl, sym, ap, subst, inl, inr, arith, append-nil, ◌++◌, pointwise, nat_list_cmp_total, ordering_reverse, is_some, option_map, Less, Greater, same_Some, All-contains, All-map, Contains-get_or, Contains-append_left, Contains-append_right, Contains-append_cases, IsPrefixOf, text_order, leaf_key, leaf_value, node_kind, opaque_key, slab_key, opaque_pointer, OpaqueNodePtr, LeafNode, NodeArena, Nothing, HeldInner, HeldLeaf, held, held_leaf, held_under, leaf_at, StandsIn, AllStandIn, Tree, Leaf, Inner, Branches, NoBranch, Branch, leaves, branch_leaves, texts, places, branch_places, IsAlone, IsArt, entry_among, entry_at, HasEntry, IsEmpty, IsAtEnd, IsWithin, End, First, Last, HoldEntries, IsLoaded, leaf_pointers, texts_of, scan, leaf_pointer, leaf_kind, the_one, image_inside, inside_image, inside_part, part_inside, text_itself, order_itself, by_text, by_option, LeafKind}
 use Rattle.art_tree.proofs.InsertLemmas.NodeLemmas.{one-leaf, some-leaf}
 use Rattle.art_tree.proofs.SharedLemmas.HeldNodes.{leaf-of}
 
@@ -282,7 +282,7 @@ pub end-in : {H : Type 0} (end : End) (all : List (H × List ℕ)) (p : H) (at_e
 end-in First all p (x, others, is) = subst (λ l. Contains l (p, x)) (sym is) (0, omega arith, refl)
 end-in Last all p (x, others, is) = subst (λ l. Contains l (p, x)) (sym is) (Contains-append_right others ((p, x) ∷ []) (p, x) (0, omega arith, refl))
 
-module _ {K V : Type 0} {P : ℕ} (text : K → List ℕ) (arena : NodeArena K V P) (end : End) (root : OpaqueNodePtr K V P) (tree : Tree (OpaqueNodePtr K V P)) (alone : IsAlone text arena root tree) (leaf : NodePtr P (LeafNode K V P)) (at_end : IsAtEnd end (leaves tree) (leaf_pointer leaf)) where
+module _ {K V : Type 0} {P : ℕ} (text : K → List ℕ) (arena : NodeArena K V P) (end : End) (root : OpaqueNodePtr K V P) (tree : Tree (OpaqueNodePtr K V P)) (alone : IsAlone text arena root tree) (leaf : LeafPtr K V P) (at_end : IsAtEnd end (leaves tree) (leaf_pointer leaf)) where
   -- the leaf at an end is held, with its text
   pub end-held : (node : LeafNode K V P) × (leaf_at arena (slab_key leaf) ≡ Some node) × (text (leaf_key node) ≡ at_end.0)
   end-held = let there = leaf-held-in text arena tree alone.is_tree.stands (leaf_pointer leaf) at_end.0 (end-in end (leaves tree) (leaf_pointer leaf) at_end) in (there.0, leaf-of (leaf_at arena (slab_key leaf)) there.0 there.1, there.2)

@@ -1,6 +1,6 @@
 -- Room for so many changes of a tree: it suffices for each of them, and one fewer is left.
 use Rattle.art_tree.proofs.Names.{◌≡◌, ◌≢◌, ◌⊎◌, ◌∙◌, ℕ, ◌+◌, ◌<◌, ◌≤◌, List, [], length, min, Contains, Option, Some, None, refl, sym, ap, subst, inl, inr, arith, ◌↔◌, cases_lt, NodeType, OpaqueNodePtr, NodeArena, capacity, leaf_count, room, SameCapacity, SameNodes, Tree, texts, IsWellFormed, IsAlone, IsArt, entry_at, HasEntry, SameOtherEntries, most_nodes, nodes_of, GrowsOnlyWhere, HasFewer, HasRoomOf, LacksRoomFor, LacksRoomToInsert, LacksRoomToRemove, text_is, LeafKind, Node16, Node256, Node4, Node48, texts-apart}
-use Rattle.art_tree.specs.Room.{HasRoomFor}
+use Rattle.art_tree.specs.Room.{HasEntryRoom}
 use Rattle.art_tree.proofs.SharedLemmas.DictionaryLemmas.{empty-entry, entry-of-text, text-of-entry}
 use Rattle.art_tree.proofs.SharedLemmas.ExchangedTree.{alone-same}
 use Rattle.art_tree.proofs.SharedLemmas.HeldCounts.{held_count, held-nodes, held-none, room-left}
@@ -30,7 +30,7 @@ module _ {K V : Type 0} {P : ℕ} where
   ]
 
   -- room for more changes is room for fewer
-  pub fewer-room : (arena : NodeArena K V P) (count : ℕ) → HasRoomFor arena (count + 1) → HasRoomFor arena count
+  pub fewer-room : (arena : NodeArena K V P) (count : ℕ) → HasEntryRoom arena (count + 1) → HasEntryRoom arena count
   fewer-room arena count has kind = elim (has kind) [
     | inl some ↦ inl (omega (arith, some))
     | inr fits ↦ inr (λ tree sound few. fits tree sound (omega (arith, few)))
@@ -108,7 +108,7 @@ module _ {K V : Type 0} {P : ℕ} (text : K → List ℕ) where
         omega (arith, more, held)
 
   -- room for a change is room for the nodes that a tree needs which has no more nodes than that
-  enough : (arena : NodeArena K V P) (root : Option (OpaqueNodePtr K V P)) (IsText : List ℕ → Type 0) (kind : NodeType) (count : ℕ) → IsArt text arena root → HasRoomFor arena (count + 1) → (lacks : LacksRoomFor text arena root IsText kind) → ((kind : NodeType) → nodes_of kind lacks.tree ≤ held_count arena kind + 1) → ⊥
+  enough : (arena : NodeArena K V P) (root : Option (OpaqueNodePtr K V P)) (IsText : List ℕ → Type 0) (kind : NodeType) (count : ℕ) → IsArt text arena root → HasEntryRoom arena (count + 1) → (lacks : LacksRoomFor text arena root IsText kind) → ((kind : NodeType) → nodes_of kind lacks.tree ≤ held_count arena kind + 1) → ⊥
   enough arena root IsText kind count art has lacks near = by_room (has kind) (fewer-held root art lacks.needed)
     where
       fewer-held : (root : Option (OpaqueNodePtr K V P)) → IsArt text arena root → HasFewer text arena root kind (nodes_of kind lacks.tree) → held_count arena kind < nodes_of kind lacks.tree
@@ -124,21 +124,21 @@ module _ {K V : Type 0} {P : ℕ} (text : K → List ℕ) where
           let left = room-left arena kind in
           omega (arith, most, left, lacks.none, more)
 
-  pub enough-to-insert : (arena : NodeArena K V P) (root : Option (OpaqueNodePtr K V P)) (x : List ℕ) (kind : NodeType) (count : ℕ) → IsArt text arena root → HasRoomFor arena (count + 1) → LacksRoomToInsert text arena root x kind → ⊥
+  pub enough-to-insert : (arena : NodeArena K V P) (root : Option (OpaqueNodePtr K V P)) (x : List ℕ) (kind : NodeType) (count : ℕ) → IsArt text arena root → HasEntryRoom arena (count + 1) → LacksRoomToInsert text arena root x kind → ⊥
   enough-to-insert arena root x kind count art has lacks = enough arena root _ kind count art has lacks (insert-near arena x root art lacks.tree lacks.sound lacks.texts_are)
 
-  pub enough-to-remove : (arena : NodeArena K V P) (root : Option (OpaqueNodePtr K V P)) (x : List ℕ) (kind : NodeType) (count : ℕ) → IsArt text arena root → HasRoomFor arena (count + 1) → LacksRoomToRemove text arena root x kind → ⊥
+  pub enough-to-remove : (arena : NodeArena K V P) (root : Option (OpaqueNodePtr K V P)) (x : List ℕ) (kind : NodeType) (count : ℕ) → IsArt text arena root → HasEntryRoom arena (count + 1) → LacksRoomToRemove text arena root x kind → ⊥
   enough-to-remove arena root x kind count art has lacks = enough arena root _ kind count art has lacks (remove-near arena x root art lacks.tree lacks.sound lacks.texts_are)
 
   -- a change takes at most one node of each kind, and no memory
-  lasts : (old new : NodeArena K V P) (count : ℕ) → ((kind : NodeType) → held_count new kind ≤ held_count old kind + 1) → SameCapacity old new → HasRoomFor old (count + 1) → HasRoomFor new count
+  lasts : (old new : NodeArena K V P) (count : ℕ) → ((kind : NodeType) → held_count new kind ≤ held_count old kind + 1) → SameCapacity old new → HasEntryRoom old (count + 1) → HasEntryRoom new count
   lasts old new count near same has kind = elim (has kind) [
     | inl some ↦ (let before = room-left old kind in let after = room-left new kind in inl (omega (arith, some, before, after, near kind, same kind)))
     | inr fits ↦ inr (λ tree sound few. let leaves = near LeafKind in let most = fits tree sound (omega (arith, few, leaves)) in omega (arith, most, same kind))
   ]
 
-  module _ (old new : NodeArena K V P) (root new_root : Option (OpaqueNodePtr K V P)) (x : List ℕ) (count : ℕ) (art : IsArt text old root) (new_art : IsArt text new new_root) (others : SameOtherEntries text old new x) (same : SameCapacity old new) (has : HasRoomFor old (count + 1)) where
-    pub lasts-after-insert : HasEntry text new x → HasRoomFor new count
+  module _ (old new : NodeArena K V P) (root new_root : Option (OpaqueNodePtr K V P)) (x : List ℕ) (count : ℕ) (art : IsArt text old root) (new_art : IsArt text new new_root) (others : SameOtherEntries text old new x) (same : SameCapacity old new) (has : HasEntryRoom old (count + 1)) where
+    pub lasts-after-insert : HasEntry text new x → HasEntryRoom new count
     lasts-after-insert there = lasts old new count (by_root new_root new_art) same has
       where
         by_root : (new_root : Option (OpaqueNodePtr K V P)) → IsArt text new new_root → (kind : NodeType) → held_count new kind ≤ held_count old kind + 1
@@ -162,7 +162,7 @@ module _ {K V : Type 0} {P : ℕ} (text : K → List ℕ) where
             by_text y is_there (inl is) = inr is
             by_text y is_there (inr differ) = inl (λ none. is_there (others y differ ∙ none))
 
-    pub lasts-after-removal : entry_at text new x ≡ None → HasRoomFor new count
+    pub lasts-after-removal : entry_at text new x ≡ None → HasEntryRoom new count
     lasts-after-removal gone = lasts old new count (by_root new_root new_art) same has
       where
         by_root : (new_root : Option (OpaqueNodePtr K V P)) → IsArt text new new_root → (kind : NodeType) → held_count new kind ≤ held_count old kind + 1
@@ -188,7 +188,7 @@ module _ {K V : Type 0} {P : ℕ} (text : K → List ℕ) where
       by_root (Some top) (tree, alone) = held-alone new top tree (alone-same text old new kept top tree alone) kind ∙ sym (held-alone old top tree alone kind)
 
   -- so its room stays
-  pub lasts-where-kept : (old new : NodeArena K V P) (root : Option (OpaqueNodePtr K V P)) (count : ℕ) → IsArt text old root → SameNodes old new → SameCapacity old new → HasRoomFor old (count + 1) → HasRoomFor new count
+  pub lasts-where-kept : (old new : NodeArena K V P) (root : Option (OpaqueNodePtr K V P)) (count : ℕ) → IsArt text old root → SameNodes old new → SameCapacity old new → HasEntryRoom old (count + 1) → HasEntryRoom new count
   lasts-where-kept old new root count art kept same has = lasts old new count (λ kind. let equal = kept-count old new root art kept kind in omega (arith, equal)) same has
 
 -- where no kind needs memory, none is taken

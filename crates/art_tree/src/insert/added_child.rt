@@ -12,13 +12,11 @@ ghost use Rattle.art_tree.specs.Edits.{HasOneMore, HasRoomToGrow, IsMoved, Tells
 ghost use Rattle.art_tree.specs.Nodes.{node_of, IsPlaced, node_with_prefix};
 ghost use Rattle.art_tree.specs.Search.{leaf_pointer};
 
-use crate::node::{num_children, place_as, replace_node};
+use crate::node::{allocate_node_as, num_children, replace_node};
 use crate::place::Mismatch;
-use art_arena::{NodeArena, NodeRef};
+use art_arena::{LeafPtr, NodeArena, NodeRef};
 use art_bytes::AsBytes;
-use art_nodes::{
-    InnerNode, InnerNode4, InnerNodeCommon, InnerNodeRead, LeafNode, NodePtr, OpaqueNodePtr,
-};
+use art_nodes::{InnerNode, InnerNode4, InnerNodeCommon, InnerNodeRead, LeafNode, OpaqueNodePtr};
 use std::alloc::AllocError;
 
 /// Whether the inner node at the pointer is full.
@@ -125,7 +123,7 @@ pub(crate) fn trim<K: AsBytes, V, const PREFIX_LEN: usize>(
     pointer: OpaqueNodePtr<K, V, PREFIX_LEN>,
     depth: usize,
     len: usize,
-    leaf: NodePtr<PREFIX_LEN, LeafNode<K, V, PREFIX_LEN>>,
+    leaf: LeafPtr<K, V, PREFIX_LEN>,
 )
     requires held { held arena.old pointer ≢ Nothing }
     requires leaf_held { HoldsLeaf arena.old (slab_key leaf) }
@@ -154,7 +152,7 @@ pub(crate) fn trim<K: AsBytes, V, const PREFIX_LEN: usize>(
 /// `depth` bytes lead to that node. There must be spare capacity for it.
 pub(crate) fn fork_node<K: AsBytes, V, const PREFIX_LEN: usize>(
     arena: &mut NodeArena<K, V, PREFIX_LEN>,
-    leaf: NodePtr<PREFIX_LEN, LeafNode<K, V, PREFIX_LEN>>,
+    leaf: LeafPtr<K, V, PREFIX_LEN>,
     node: OpaqueNodePtr<K, V, PREFIX_LEN>,
     depth: usize,
     mismatch: Mismatch,
@@ -177,7 +175,7 @@ pub(crate) fn fork_node<K: AsBytes, V, const PREFIX_LEN: usize>(
     } else {
         [other, child]
     };
-    place_as::<K, V, PREFIX_LEN, InnerNode4<K, V, PREFIX_LEN>>(
+    allocate_node_as::<K, V, PREFIX_LEN, InnerNode4<K, V, PREFIX_LEN>>(
         arena,
         leaf,
         depth,

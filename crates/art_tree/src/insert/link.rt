@@ -7,9 +7,9 @@ ghost use Rattle.art_arena.specs.Links.{Spells, text_at};
 ghost use Rattle.art_tree.specs.Edits.{HasGap, HoldsEntry, IsBeside, LiesBeside, StaysAt};
 ghost use Rattle.art_tree.specs.Search.{leaf_pointer};
 
-use art_arena::{End, LeafLinks, NodeArena};
+use art_arena::{End, LeafLinks, LeafPtr, NodeArena};
 use art_bytes::AsBytes;
-use art_nodes::{LeafNode, NodePtr};
+use art_nodes::LeafNode;
 
 /// Adds a leaf with the entry, linked before the sibling where that is the first leaf after its
 /// place, and else after the sibling. There must be spare capacity for a leaf.
@@ -17,9 +17,9 @@ pub(crate) fn link_leaf<K: AsBytes, V, const PREFIX_LEN: usize>(
     arena: &mut NodeArena<K, V, PREFIX_LEN>,
     key: K,
     value: V,
-    sibling: NodePtr<PREFIX_LEN, LeafNode<K, V, PREFIX_LEN>>,
+    sibling: LeafPtr<K, V, PREFIX_LEN>,
     end: End,
-) -> NodePtr<PREFIX_LEN, LeafNode<K, V, PREFIX_LEN>>
+) -> LeafPtr<K, V, PREFIX_LEN>
     requires room { 0 < room arena.old Leaf }
     requires gap { HasGap arena.old end (slab_key sibling) }
     requires order { LiesBeside end (K.text key) (text_at K.text arena.old (slab_key sibling)) }

@@ -1,9 +1,8 @@
 //! Loading: what has a key, as a plan reads it.
 ghost use Rattle.std.specs.Prelude.{◌≡◌};
 
-use art_arena::NodeArena;
+use art_arena::{LeafPtr, NodeArena};
 use art_bytes::AsBytes;
-use art_nodes::{LeafNode, NodePtr};
 
 /// What has a key in a context: an entry in any, a leaf in its arena.
 pub(crate) trait KeyIn<C>: Sized {
@@ -38,7 +37,7 @@ impl<K: AsBytes, V> KeyIn<()> for (K, V) {
 
 /// The key of a leaf is in the arena that holds it.
 impl<K: AsBytes, V, const PREFIX_LEN: usize> KeyIn<NodeArena<K, V, PREFIX_LEN>>
-    for NodePtr<PREFIX_LEN, LeafNode<K, V, PREFIX_LEN>> {
+    for LeafPtr<K, V, PREFIX_LEN> {
     ghost use Rattle.art_nodes.specs.Pointers.{slab_key};
     ghost use Rattle.art_arena.specs.Links.{HoldsLeaf, text_at};
 

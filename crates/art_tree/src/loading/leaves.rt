@@ -6,16 +6,16 @@ ghost use Rattle.art_tree.specs.Plan.{AreLoadable};
 ghost use Rattle.art_tree.specs.Refusals.{texts_of};
 ghost use Rattle.art_tree.specs.Loading.{AreLinked};
 
-use art_arena::{LeafLinks, NodeArena};
+use art_arena::{LeafLinks, LeafPtr, NodeArena};
 use art_bytes::AsBytes;
-use art_nodes::{LeafNode, NodePtr};
+use art_nodes::LeafNode;
 
 /// Moves the entries into leaves, each linked after the one before. There must be spare capacity
 /// for all.
 pub(crate) fn link_leaves<K: AsBytes, V, const PREFIX_LEN: usize>(
     arena: &mut NodeArena<K, V, PREFIX_LEN>,
     entries: Vec<(K, V)>,
-    leaves: &mut Vec<NodePtr<PREFIX_LEN, LeafNode<K, V, PREFIX_LEN>>>,
+    leaves: &mut Vec<LeafPtr<K, V, PREFIX_LEN>>,
 )
     requires loadable { AreLoadable (texts_of K.text entries.items) }
     requires no_leaves { leaves.old.items ≡ [] }

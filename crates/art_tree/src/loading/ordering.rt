@@ -11,17 +11,17 @@ ghost use Rattle.art_tree.specs.Reloading.{IsReloaded};
 
 use crate::loading::leaves::link_leaves;
 use crate::loading::reloading::{leaves_in_order, take_entries};
-use art_arena::{NodeArena, forward};
+use art_arena::{LeafPtr, NodeArena, forward};
 use art_bytes::AsBytes;
-use art_nodes::{LeafNode, NodePtr, NodeType, OpaqueNodePtr};
+use art_nodes::{NodePtr, NodeType, OpaqueNodePtr};
 use std::alloc::{AllocError, Global};
 
 // Enters each leaf of the second list into the table, under the slab key of the leaf with the same
 // number in the first list.
 fn fill<K, V, const PREFIX_LEN: usize>(
-    table: &mut [NodePtr<PREFIX_LEN, LeafNode<K, V, PREFIX_LEN>>],
-    before: &[NodePtr<PREFIX_LEN, LeafNode<K, V, PREFIX_LEN>>],
-    after: &[NodePtr<PREFIX_LEN, LeafNode<K, V, PREFIX_LEN>>],
+    table: &mut [LeafPtr<K, V, PREFIX_LEN>],
+    before: &[LeafPtr<K, V, PREFIX_LEN>],
+    after: &[LeafPtr<K, V, PREFIX_LEN>],
 )
     requires count { length before.now ≡ length after.now }
     requires within { (i : ℕ) (d : _) → i < length before.now →

@@ -14,20 +14,18 @@ ghost use Rattle.art_tree.specs.Raising.{IsRaised, HoldLeaves, leaf_texts};
 ghost use Rattle.art_tree.specs.Nodes.{node_of, IsPlaced};
 
 use crate::loading::steps::Step;
-use crate::node::place_as;
-use art_arena::NodeArena;
+use crate::node::allocate_node_as;
+use art_arena::{LeafPtr, NodeArena};
 use art_bytes::AsBytes;
-use art_nodes::{
-    InnerNode4, InnerNode16, InnerNode48, InnerNodeDirect, LeafNode, NodePtr, OpaqueNodePtr,
-};
+use art_nodes::{InnerNode4, InnerNode16, InnerNode48, InnerNodeDirect, OpaqueNodePtr};
 
 // Allocates an inner node of the smallest kind for these children, with the prefix that the leaf's
 // key has from `start` to `end`. There must be spare capacity for it. Never inlined, so that nodes
 // are no locals of `raise`.
 #[inline(never)]
-fn place<K: AsBytes, V, const PREFIX_LEN: usize>(
+fn allocate_node<K: AsBytes, V, const PREFIX_LEN: usize>(
     arena: &mut NodeArena<K, V, PREFIX_LEN>,
-    leaf: NodePtr<PREFIX_LEN, LeafNode<K, V, PREFIX_LEN>>,
+    leaf: LeafPtr<K, V, PREFIX_LEN>,
     start: usize,
     end: usize,
     children: &[(u8, OpaqueNodePtr<K, V, PREFIX_LEN>)],
@@ -46,16 +44,16 @@ fn place<K: AsBytes, V, const PREFIX_LEN: usize>(
         result }
 {
     match children.len() {
-        0..=4 => place_as::<K, V, PREFIX_LEN, InnerNode4<K, V, PREFIX_LEN>>(
+        0..=4 => allocate_node_as::<K, V, PREFIX_LEN, InnerNode4<K, V, PREFIX_LEN>>(
             arena, leaf, start, end, children,
         ),
-        5..=16 => place_as::<K, V, PREFIX_LEN, InnerNode16<K, V, PREFIX_LEN>>(
+        5..=16 => allocate_node_as::<K, V, PREFIX_LEN, InnerNode16<K, V, PREFIX_LEN>>(
             arena, leaf, start, end, children,
         ),
-        17..=48 => place_as::<K, V, PREFIX_LEN, InnerNode48<K, V, PREFIX_LEN>>(
+        17..=48 => allocate_node_as::<K, V, PREFIX_LEN, InnerNode48<K, V, PREFIX_LEN>>(
             arena, leaf, start, end, children,
         ),
-        _ => place_as::<K, V, PREFIX_LEN, InnerNodeDirect<K, V, PREFIX_LEN>>(
+        _ => allocate_node_as::<K, V, PREFIX_LEN, InnerNodeDirect<K, V, PREFIX_LEN>>(
             arena, leaf, start, end, children,
         ),
     }
@@ -66,7 +64,7 @@ fn place<K: AsBytes, V, const PREFIX_LEN: usize>(
 /// leaves.
 pub(crate) fn raise<K: AsBytes, V, const PREFIX_LEN: usize>(
     arena: &mut NodeArena<K, V, PREFIX_LEN>,
-    leaves: &[NodePtr<PREFIX_LEN, LeafNode<K, V, PREFIX_LEN>>],
+    leaves: &[LeafPtr<K, V, PREFIX_LEN>],
     steps: &[Step],
     mut pending: Vec<(u8, OpaqueNodePtr<K, V, PREFIX_LEN>)>,
 ) -> OpaqueNodePtr<K, V, PREFIX_LEN>
@@ -95,7 +93,7 @@ pub(crate) fn raise<K: AsBytes, V, const PREFIX_LEN: usize>(
                 children,
             } => {
                 let below = pending.len() - children;
-                let node = place(arena, leaves[next - 1], start, end, &pending[below..]);
+                let node = allocate_node(arena, leaves[next - 1], start, end, &pending[below..]);
                 pending.truncate(below);
                 pending.push_reserved((byte, node));
             }

@@ -10,9 +10,9 @@ ghost use Rattle.art_tree.specs.Reloading.{AreLeavesOf, IsReloaded};
 ghost use Rattle.art_tree.specs.Search.{leaf_pointer};
 
 use crate::loading::{make, prepare};
-use art_arena::{End, NodeArena, end_leaf};
+use art_arena::{End, LeafPtr, NodeArena, end_leaf};
 use art_bytes::AsBytes;
-use art_nodes::{LeafNode, NodePtr, OpaqueNodePtr};
+use art_nodes::OpaqueNodePtr;
 use std::alloc::{AllocError, Global};
 
 // The leaves of the tree at the root, in order.
@@ -20,7 +20,7 @@ pub(super) fn leaves_in_order<K: AsBytes, V, const PREFIX_LEN: usize>(
     alloc: Global,
     arena: &NodeArena<K, V, PREFIX_LEN>,
     root: OpaqueNodePtr<K, V, PREFIX_LEN>,
-) -> Result<Vec<NodePtr<PREFIX_LEN, LeafNode<K, V, PREFIX_LEN>>>, AllocError>
+) -> Result<Vec<LeafPtr<K, V, PREFIX_LEN>>, AllocError>
     requires { IsArt K.text arena.now (Some root) }
     ensures { IfOk result (λ leaves. AreLeavesOf K.text arena.now root leaves.items) }
 {
@@ -36,7 +36,7 @@ pub(super) fn leaves_in_order<K: AsBytes, V, const PREFIX_LEN: usize>(
 // Takes the entries of these leaves out of the arena, in order. There must be memory for them.
 pub(super) fn take_entries<K, V, const PREFIX_LEN: usize>(
     arena: &mut NodeArena<K, V, PREFIX_LEN>,
-    leaves: &[NodePtr<PREFIX_LEN, LeafNode<K, V, PREFIX_LEN>>],
+    leaves: &[LeafPtr<K, V, PREFIX_LEN>],
     entries: &mut Vec<(K, V)>,
 )
     requires held { All (λ leaf. HoldsLeaf arena.old (slab_key leaf)) leaves.now }

@@ -39,12 +39,12 @@ fn fork_index(text: &[u8], next: &[u8]) -> usize
     common_prefix_len(text, next)
 }
 
-// The byte that leads to what begins at `place`, 0 for the root.
-fn byte_to(text: &[u8], place: usize) -> u8
-    requires { place ≤ length text.now }
-    ensures { result ≡ byte_before text.now place }
+// The byte that leads to what begins at `index`, 0 for the root.
+fn byte_to(text: &[u8], index: usize) -> u8
+    requires { index ≤ length text.now }
+    ensures { result ≡ byte_before text.now index }
 {
-    if place == 0 { 0 } else { text[place - 1] }
+    if index == 0 { 0 } else { text[index - 1] }
 }
 
 /// The steps that make the tree of what has these keys. The keys must ascend, none a prefix of the

@@ -11,9 +11,9 @@ ghost use Rattle.art_tree.specs.Dropping.{IsAtPath};
 ghost use Rattle.art_tree.specs.Search.{EachTree, HasTree, leaf_pointer};
 
 use crate::path::{TreePath, TreePathSearch};
-use art_arena::{End, NodeArena};
+use art_arena::{End, LeafPtr, NodeArena};
 use art_bytes::AsBytes;
-use art_nodes::{InnerNodeRead, LeafNode, NodePtr, OpaqueNodePtr};
+use art_nodes::{InnerNodeRead, OpaqueNodePtr};
 
 // The child at one end of a node, with its byte.
 fn pair_at_end<K, V, const PREFIX_LEN: usize, N: InnerNodeRead<K, V, PREFIX_LEN>>(
@@ -49,10 +49,7 @@ pub(crate) fn end_place<K: AsBytes, V, const PREFIX_LEN: usize>(
     arena: &NodeArena<K, V, PREFIX_LEN>,
     root: OpaqueNodePtr<K, V, PREFIX_LEN>,
     end: End,
-) -> (
-    NodePtr<PREFIX_LEN, LeafNode<K, V, PREFIX_LEN>>,
-    TreePath<K, V, PREFIX_LEN>,
-)
+) -> (LeafPtr<K, V, PREFIX_LEN>, TreePath<K, V, PREFIX_LEN>)
     requires tree { HasTree K.text arena.now root }
     ensures path { EachTree K.text arena.now root (λ tree.
         (text : List ℕ) × IsAtPath tree (leaf_pointer result.0) result.1 text) }

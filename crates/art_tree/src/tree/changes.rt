@@ -14,7 +14,7 @@ ghost use Rattle.art_tree.specs.LeafRemoval.{TakesEntry};
 ghost use Rattle.art_tree.specs.Leaves.{KeepsOtherLeaves};
 ghost use Rattle.art_tree.specs.Places.{present_leaf};
 ghost use Rattle.art_tree.specs.Removal.{NeedsSmallerNode};
-ghost use Rattle.art_tree.specs.Room.{FreesOneEach, GrowsOnlyWhere, HasRoomFor, LacksRoomToInsert, LacksRoomToRemove};
+ghost use Rattle.art_tree.specs.Room.{FreesOneEach, GrowsOnlyWhere, HasEntryRoom, LacksRoomToInsert, LacksRoomToRemove};
 ghost use Rattle.art_tree.specs.TreeLending.{LendsEntryValue};
 ghost use Rattle.art_tree.specs.declared.insert.InsertRefusal.TheVariants.{OutOfMemory};
 
@@ -23,8 +23,9 @@ use crate::path::TreePath;
 use crate::place::find_place;
 use crate::remove::remove_leaf;
 use crate::tree::ArtTree;
+use art_arena::LeafPtr;
 use art_bytes::AsBytes;
-use art_nodes::{LeafNode, NodePtr};
+use art_nodes::LeafNode;
 use std::alloc::AllocError;
 
 impl<K: AsBytes, V, const PREFIX_LEN: usize> ArtTree<K, V, PREFIX_LEN> {
@@ -75,10 +76,10 @@ impl<K: AsBytes, V, const PREFIX_LEN: usize> ArtTree<K, V, PREFIX_LEN> {
             SameRoom self.old.arena self.new.arena }
         ensures memory { GrowsOnlyWhere self.old.arena self.new.arena
             (LacksRoomToInsert K.text self.old.arena self.old.root (K.text key)) }
-        ensures room_suffices { (count : ℕ) → HasRoomFor self.old.arena (count + 1) →
+        ensures room_suffices { (count : ℕ) → HasEntryRoom self.old.arena (count + 1) →
             IfErr result (λ fault. fault.refusal ≢ OutOfMemory) }
-        ensures room_lasts { (count : ℕ) → HasRoomFor self.old.arena (count + 1) →
-            HasRoomFor self.new.arena count }
+        ensures room_lasts { (count : ℕ) → HasEntryRoom self.old.arena (count + 1) →
+            HasEntryRoom self.new.arena count }
         ensures is_key { K.is_key key }
         ensures are_keys { HasKeys K.text K.is_key self.old.arena }
     {
@@ -105,12 +106,7 @@ impl<K: AsBytes, V, const PREFIX_LEN: usize> ArtTree<K, V, PREFIX_LEN> {
     }
 
     // Replaces the entry of a leaf by this one, which has the same key bytes, and returns the old one.
-    fn replace(
-        &mut self,
-        leaf: NodePtr<PREFIX_LEN, LeafNode<K, V, PREFIX_LEN>>,
-        key: K,
-        value: V,
-    ) -> (K, V)
+    fn replace(&mut self, leaf: LeafPtr<K, V, PREFIX_LEN>, key: K, value: V) -> (K, V)
         requires present { IsPresent K.text self.old leaf (K.text key) }
         requires is_key { K.is_key key }
         ensures { ReplacesEntry K.text self.old self.new key value result }
@@ -129,7 +125,7 @@ impl<K: AsBytes, V, const PREFIX_LEN: usize> ArtTree<K, V, PREFIX_LEN> {
         place: Option<RootAndPlace<K, V, PREFIX_LEN>>,
         key: K,
         value: V,
-    ) -> Result<NodePtr<PREFIX_LEN, LeafNode<K, V, PREFIX_LEN>>, InsertFault<K, V>>
+    ) -> Result<LeafPtr<K, V, PREFIX_LEN>, InsertFault<K, V>>
         requires place { IsPlaceOf K.text self.old (K.text key) place }
         requires new { present_leaf place ≡ None }
         requires is_key { K.is_key key }
@@ -175,9 +171,9 @@ impl<K: AsBytes, V, const PREFIX_LEN: usize> ArtTree<K, V, PREFIX_LEN> {
             FreesOneEach self.old.arena self.new.arena }
         ensures memory { GrowsOnlyWhere self.old.arena self.new.arena
             (LacksRoomToRemove K.text self.old.arena self.old.root key.now) }
-        ensures room_suffices { (count : ℕ) → HasRoomFor self.old.arena (count + 1) → IsOk result }
-        ensures room_lasts { (count : ℕ) → HasRoomFor self.old.arena (count + 1) →
-            HasRoomFor self.new.arena count }
+        ensures room_suffices { (count : ℕ) → HasEntryRoom self.old.arena (count + 1) → IsOk result }
+        ensures room_lasts { (count : ℕ) → HasEntryRoom self.old.arena (count + 1) →
+            HasEntryRoom self.new.arena count }
     {
         let Some((leaf, path)) = self.find(key) else {
             return Ok(None);
@@ -193,10 +189,7 @@ impl<K: AsBytes, V, const PREFIX_LEN: usize> ArtTree<K, V, PREFIX_LEN> {
     /// there. After a failure every node and the root are unchanged. Each other leaf keeps its pointer.
     ///
     /// Costs as much as [`remove`](Self::remove): it goes down to the leaf by its key.
-    pub fn remove_leaf(
-        &mut self,
-        ptr: NodePtr<PREFIX_LEN, LeafNode<K, V, PREFIX_LEN>>,
-    ) -> Result<(K, V), AllocError>
+    pub fn remove_leaf(&mut self, ptr: LeafPtr<K, V, PREFIX_LEN>) -> Result<(K, V), AllocError>
         requires { HoldsLeaf self.old.arena (slab_key ptr) }
         ensures { (leaf : _) → leaf_at self.old.arena (slab_key ptr) ≡ Some leaf →
             TakesEntry K.text self.old self.new (K.text (leaf_key leaf)) result }
@@ -209,7 +202,7 @@ impl<K: AsBytes, V, const PREFIX_LEN: usize> ArtTree<K, V, PREFIX_LEN> {
     // Removes the entry of a leaf, to which this path leads, and returns it.
     pub(super) fn remove_found(
         &mut self,
-        leaf: NodePtr<PREFIX_LEN, LeafNode<K, V, PREFIX_LEN>>,
+        leaf: LeafPtr<K, V, PREFIX_LEN>,
         path: TreePath<K, V, PREFIX_LEN>,
     ) -> Result<(K, V), AllocError>
         requires { (text : List ℕ) × IsLeafOf K.text self.old leaf path text }
@@ -260,7 +253,7 @@ impl<K: AsBytes + Drop, V, const PREFIX_LEN: usize> ArtTree<K, V, PREFIX_LEN> {
         &mut self,
         key: K,
         make: F,
-    ) -> Result<NodePtr<PREFIX_LEN, LeafNode<K, V, PREFIX_LEN>>, InsertFault<K, V>>
+    ) -> Result<LeafPtr<K, V, PREFIX_LEN>, InsertFault<K, V>>
         requires { F.pre make }
         ensures found { FindsOrInserts K.text self.old self.new key (F.post make) result }
         ensures is_key { K.is_key key }

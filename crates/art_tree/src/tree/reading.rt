@@ -14,9 +14,8 @@ ghost use Rattle.art_tree.specs.TreeLending.{LendsLeafValue, LendsValueAt};
 
 use crate::find::find_leaf;
 use crate::tree::{ArtTree, FoundLeaf};
-use art_arena::ArenaReader;
+use art_arena::{ArenaReader, LeafPtr};
 use art_bytes::AsBytes;
-use art_nodes::{LeafNode, NodePtr};
 
 impl<K: AsBytes, V, const PREFIX_LEN: usize> ArtTree<K, V, PREFIX_LEN> {
     // The leaf with these key bytes and the path to it, if there is one. Inlined, as `find_leaf` is.
@@ -89,10 +88,7 @@ impl<K: AsBytes, V, const PREFIX_LEN: usize> ArtTree<K, V, PREFIX_LEN> {
     /// holds those that `first`, `last` and the links lead to. The leaf ends with the value that the
     /// caller leaves there. Its key and links, every other node and the root are unchanged. Takes
     /// constant time and no memory.
-    pub fn as_key_ref_value_mut(
-        &mut self,
-        ptr: NodePtr<PREFIX_LEN, LeafNode<K, V, PREFIX_LEN>>,
-    ) -> (&K, &mut V)
+    pub fn as_key_ref_value_mut(&mut self, ptr: LeafPtr<K, V, PREFIX_LEN>) -> (&K, &mut V)
         requires { HoldsLeaf self.old.arena (slab_key ptr) }
         ensures* writes_back { sem 𝓛 (LendsLeafValue K.row V.row PREFIX_LEN.row K.text K.is_key
             self.entry (slab_key ptr) result.1) }

@@ -3,7 +3,7 @@ ghost use Rattle.std.specs.Prelude.{◌≡◌, ◌≢◌, ◌≤◌, OnOk, IsOk}
 ghost use Rattle.art_arena.specs.Arena.{room, SameNodes, SameOtherCapacity, SameOtherRoom, SameRoom};
 ghost use Rattle.art_tree.specs.Dictionary.{SameEntries};
 ghost use Rattle.art_tree.specs.NodeCounts.{most_nodes};
-ghost use Rattle.art_tree.specs.Room.{HasRoomFor, HasRoomOf};
+ghost use Rattle.art_tree.specs.Room.{HasEntryRoom, HasRoomOf};
 
 use crate::tree::ArtTree;
 use art_bytes::AsBytes;
@@ -74,7 +74,7 @@ impl<K: AsBytes, V, const PREFIX_LEN: usize> ArtTree<K, V, PREFIX_LEN> {
     /// tree.reserve_entries(entries.len())?;
     /// ```
     pub fn reserve_entries(&mut self, additional: usize) -> Result<(), AllocError>
-        ensures room { OnOk result (HasRoomFor self.new.arena additional) }
+        ensures room { OnOk result (HasEntryRoom self.new.arena additional) }
         ensures same_entries { SameEntries K.text self.old.arena self.new.arena }
         ensures nodes_kept { SameNodes self.old.arena self.new.arena }
         ensures root_kept { self.new.root ≡ self.old.root }

@@ -1,5 +1,5 @@
 //! Leaves that are linked by hand.
-use art_arena::{LeafLinks, NodeArena};
+use art_arena::{LeafLinks, LeafPtr, NodeArena};
 use art_bytes::AsBytes;
 use art_nodes::{LeafNode, NodePtr};
 

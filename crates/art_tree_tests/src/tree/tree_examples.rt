@@ -16,7 +16,7 @@ ghost use Rattle.art_tree.specs.declared.insert.InsertRefusal.TheVariants.{Prefi
 
 use super::*;
 use art_tree::{
-    ArenaInnerNode, End, FullPrefix, InsertFault, LeafNode, NoPrefixesBytes, NodePtr, end_leaf,
+    ArenaInnerNode, End, FullPrefix, InsertFault, LeafPtr, NoPrefixesBytes, NodePtr, end_leaf,
 };
 
 /// The root of a tree with the key bytes of these entries, if they are in order and no allocation
@@ -53,7 +53,7 @@ fn least_below<K: AsBytes, V, const PREFIX_LEN: usize, N: ArenaInnerNode<K, V, P
     arena: &NodeArena<K, V, PREFIX_LEN>,
     node: NodePtr<PREFIX_LEN, N>,
     byte: u8,
-) -> Option<NodePtr<PREFIX_LEN, LeafNode<K, V, PREFIX_LEN>>>
+) -> Option<LeafPtr<K, V, PREFIX_LEN>>
     requires { TreeAt K.text arena.now (opaque_pointer N.TYPE (slab_key node)) }
     ensures { IfSome result (λ leaf. HoldsLeaf arena.now (slab_key leaf)) }
 {

@@ -1,4 +1,4 @@
-use Rattle.art_map.proofs.Names.{◌≡◌, ◌≢◌, ◌∙◌, Some, ap, sym, subst, slab_key, Nothing, held, leaf_at, leaf_pointer, IsTaken, at_end, run_of}
+use Rattle.art_map.proofs.Names.{◌≡◌, ◌≢◌, ◌∙◌, Some, ap, sym, subst, slab_key, Nothing, held, leaf_at, leaf_pointer, IsTaken, at_end, run_entries}
 use Rattle.art_map.proofs.LeafCounts.{one-leaf-fewer}
 use Rattle.art_map.proofs.LinkLemmas.{leaf-pointer-fits}
 use Rattle.art_map.proofs.ListLemmas.{slot-of}
@@ -22,7 +22,7 @@ returns g c =
     let (rest, taken) = c.ends_without-rest.ensures old c.requires here new (λ key differ. others-stay old new at c.deallocate_node_ptr-leaf.ensures.removed key (λ is. differ (is ∙ same))) in
     record {
       taken =
-          subst (λ entry. IsTaken c.args.end (run_of old (Some c.args.ends)) entry (run_of new c.ends_without-rest.result)) (λ i. (sym c.into_entry.ensures.key i, sym c.into_entry.ensures.value i)) taken;
+          subst (λ entry. IsTaken c.args.end (run_entries old (Some c.args.ends)) entry (run_entries new c.ends_without-rest.result)) (λ i. (sym c.into_entry.ensures.key i, sym c.into_entry.ensures.value i)) taken;
       rest = rest;
       fewer = one-leaf-fewer old new at c.deallocate_node_ptr-leaf.ensures.removed leaf there;
     }

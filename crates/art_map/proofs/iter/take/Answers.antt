@@ -1,4 +1,4 @@
-use Rattle.art_map.proofs.Names.{◌≡◌, ◌≢◌, ◌∙◌, Some, ap, refl, sym, subst, slab_key, Nothing, held, leaf_at, leaf_pointer, IsTaken, at_end, run_of}
+use Rattle.art_map.proofs.Names.{◌≡◌, ◌≢◌, ◌∙◌, Some, ap, refl, sym, subst, slab_key, Nothing, held, leaf_at, leaf_pointer, IsTaken, at_end, run_entries}
 use Rattle.art_map.proofs.LinkLemmas.{leaf-pointer-fits}
 use Rattle.art_map.proofs.ListLemmas.{slot-of}
 use Rattle.art_map.proofs.RunLemmas.{end-held}
@@ -17,6 +17,6 @@ returns g c =
     let (rest, taken) = c.ends_without.ensures arena c.requires here arena (λ key differ. refl) in
     record {
       taken =
-          subst (λ entry. IsTaken c.args.end (run_of arena (Some c.args.ends)) entry (run_of arena c.ends_without.result)) (λ i. (sym c.entry_ref.ensures.key i, sym c.entry_ref.ensures.value i)) taken;
+          subst (λ entry. IsTaken c.args.end (run_entries arena (Some c.args.ends)) entry (run_entries arena c.ends_without.result)) (λ i. (sym c.entry_ref.ensures.key i, sym c.entry_ref.ensures.value i)) taken;
       rest = rest;
     }

@@ -1,4 +1,4 @@
-use Rattle.art_map.proofs.Names.{◌≢◌, ◌∙◌, filter, sym, ap, subst, option_map, OpaqueNodePtr, Nothing, held, Tree, leaves, IsAlone, IsArt, leaf_pointer, is_before, is_between, IsFirstAfter, IsLastBefore, run_of}
+use Rattle.art_map.proofs.Names.{◌≢◌, ◌∙◌, filter, sym, ap, subst, option_map, OpaqueNodePtr, Nothing, held, Tree, leaves, IsAlone, IsArt, leaf_pointer, is_before, is_between, IsFirstAfter, IsLastBefore, run_entries}
 use Rattle.art_map.proofs.EntryLemmas.{no-entries}
 use Rattle.art_map.proofs.LinkLemmas.{leaf-pointer-fits}
 use Rattle.art_map.proofs.RangeLemmas.{front-held, front-text, range-apart, range-high, range-low, range-run, range-some, something-held}
@@ -19,14 +19,14 @@ returns-in_err-root-clause-entries g c =
     let text = g.K.AsBytes.text in
     let arena = c.args.tree.now.arena in
     let art = subst (IsArt text arena) (sym c.root.ensures.root ∙ c.in_err-root.was) c.root.ensures.one_tree in
-    ap (run_of arena) c.from_residual.ensures ∙ sym (ap (filter (λ entry. is_between c.args.start_side c.args.start.now c.args.end_side c.args.end.now (text entry.0))) (no-entries text arena art))
+    ap (run_entries arena) c.from_residual.ensures ∙ sym (ap (filter (λ entry. is_between c.args.start_side c.args.start.now c.args.end_side c.args.end.now (text entry.0))) (no-entries text arena art))
 
 pub returns-in_err-first-clause-entries : goal.returns-in_err-first-clause-entries
 returns-in_err-first-clause-entries g c =
     let at = (goal.at.returns-in_err-first-clause-entries g c).After-leaves_beside in
     let tree = (found g at).0 in
     let low = subst (λ o. IsFirstAfter c.args.start_side c.args.start.now (leaves tree) (option_map leaf_pointer o)) c.in_err-first.was (c.leaf_toward.ensures c.in_ok-root.root tree c.args.start_side c.args.start.now (there g at) (c.leaves_beside.ensures.start tree (there g at).is_tree)) in
-    ap (run_of c.args.tree.now.arena) c.from_residual-in_err-first.ensures
+    ap (run_entries c.args.tree.now.arena) c.from_residual-in_err-first.ensures
     ∙ range-low (found g at).1 c.args.start_side c.args.start.now c.args.end_side c.args.end.now low
 
 pub returns-in_err-last-clause-entries : goal.returns-in_err-last-clause-entries
@@ -34,7 +34,7 @@ returns-in_err-last-clause-entries g c =
     let at = (goal.at.returns-in_err-last-clause-entries g c).After-leaves_beside in
     let tree = (found g at).0 in
     let high = subst (λ o. IsLastBefore c.args.end_side c.args.end.now (leaves tree) (option_map leaf_pointer o)) c.in_err-last.was (c.leaf_toward-2.ensures c.in_ok-root.root tree c.args.end_side c.args.end.now (there g at) (c.leaves_beside.ensures.end tree (there g at).is_tree)) in
-    ap (run_of c.args.tree.now.arena) c.from_residual-in_err-last.ensures
+    ap (run_entries c.args.tree.now.arena) c.from_residual-in_err-last.ensures
     ∙ range-high (found g at).1 c.args.start_side c.args.start.now c.args.end_side c.args.end.now high
 
 pub as_ref-requires : goal.as_ref-requires

@@ -1,10 +1,7 @@
-use Rattle.art_map.proofs.Names.{◌≡◌, ◌<◌, ◌∙◌, ◌+◌, Bool, true, false, not, length, refl, sym, ap, arith, get_or_default, text_in}
+use Rattle.art_map.proofs.Names.{◌<◌, ◌∙◌, ◌+◌, length, sym, ap, arith, get_or_default, text_in}
 use Rattle.art_map.proofs.CallLaws.{same_text}
+use Rattle.art_map.proofs.WalkLemmas.{not-false}
 use Rattle.art_map.proofs.sorted.is_last.Goals as goal
-
-not-false : (b : Bool) → not b ≡ false → b ≡ true
-not-false true is = refl
-not-false false is = absurd (cc)
 
 pub returns : goal.returns
 returns g c = λ d same.

@@ -1,7 +1,6 @@
-use Rattle.art_map.proofs.Names.{◌≡◌, ◌∙◌, Some, [], ◌∷◌, ◌++◌, length, length-append, get_or, nil_from_length, take, refl, sym, subst, arith, AreTakenFrom}
-use Rattle.std.specs.Prelude.{slice_set}
+use Rattle.art_map.proofs.Names.{◌∙◌, length, nil_from_length, take, refl, sym, subst, arith, AreTakenFrom}
 use Rattle.std.proofs.lemmas.List.{take_all}
-use Rattle.art_map.proofs.SlotLemmas.{as-many-places, nothing-taken, put-in-place}
+use Rattle.art_map.proofs.SlotLemmas.{as-many-places, nothing-taken, one-less-taken}
 use Rattle.art_map.proofs.sorted.put_back.Goals as goal
 
 pub each-init : goal.each-init
@@ -14,29 +13,13 @@ each-init g c = (
 
 pub each-preserved-in-Some : goal.each-preserved-in-Some
 each-preserved-in-Some g c = (
-  λ old from.
-      let places = c.args.places.now in
-      let slots = c.each.slots.items in
-      let left = c.pop.new.self.items in
-      let entry = c.in-Some.entry in
-      let at : c.len.result ≡ length left = omega (arith, c.len.ensures, c.pop.new.self.ok.0) in
-      let before = subst (λ t. AreTakenFrom old slots (take (length t) places) t) c.in-Some.ensures.items (c.each.invariant.0 old from) in
-      let here = subst (λ n. AreTakenFrom old slots (take n places) (left ++ entry ∷ [])) (length-append left (entry ∷ [])) before in
-      subst (λ n. AreTakenFrom old (slice_set slots (get_or places n 0) (Some entry)) (take (length left) places) left) (sym at) (put-in-place old places slots left entry here),
+  λ old from. one-less-taken old c.args.places.now c.each.slots.items c.each.taken.items c.pop.new.self.items c.in-Some.entry c.len.result c.in-Some.ensures.items (omega (arith, c.len.ensures, c.pop.new.self.ok.0)) (c.each.invariant.0 old from),
   c.pop.ensures.capacity ∙ c.each.invariant.1,
 )
 
 pub each-preserved : goal.each-preserved
 each-preserved g c = (
-  λ old from.
-      let places = c.args.places.now in
-      let slots = c.each.slots.items in
-      let left = c.pop.new.self.items in
-      let entry = c.in-Some.entry in
-      let at : c.len.result ≡ length left = omega (arith, c.len.ensures, c.pop.new.self.ok.0) in
-      let before = subst (λ t. AreTakenFrom old slots (take (length t) places) t) c.in-Some.ensures.items (c.each.invariant.0 old from) in
-      let here = subst (λ n. AreTakenFrom old slots (take n places) (left ++ entry ∷ [])) (length-append left (entry ∷ [])) before in
-      subst (λ n. AreTakenFrom old (slice_set slots (get_or places n 0) (Some entry)) (take (length left) places) left) (sym at) (put-in-place old places slots left entry here),
+  λ old from. one-less-taken old c.args.places.now c.each.slots.items c.each.taken.items c.pop.new.self.items c.in-Some.entry c.len.result c.in-Some.ensures.items (omega (arith, c.len.ensures, c.pop.new.self.ok.0)) (c.each.invariant.0 old from),
   c.pop.ensures.capacity ∙ c.each.invariant.1,
 )
 

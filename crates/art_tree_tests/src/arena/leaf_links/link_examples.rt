@@ -18,8 +18,8 @@ use std::alloc::AllocError;
 /// Adds a leaf at the end of a list. Its key is greater than that of the last leaf.
 fn push_back<K: AsBytes, V, const PREFIX_LEN: usize>(
     arena: &mut NodeArena<K, V, PREFIX_LEN>,
-    this: NodePtr<PREFIX_LEN, LeafNode<K, V, PREFIX_LEN>>,
-    last: NodePtr<PREFIX_LEN, LeafNode<K, V, PREFIX_LEN>>,
+    this: LeafPtr<K, V, PREFIX_LEN>,
+    last: LeafPtr<K, V, PREFIX_LEN>,
 )
     requires held { HoldsLeaf arena.old (slab_key this) }
     requires unlinked { IsUnlinked arena.old (slab_key this) }
@@ -38,10 +38,7 @@ fn allocate_leaf<K, V, const PREFIX_LEN: usize>(
     arena: &mut NodeArena<K, V, PREFIX_LEN>,
     key: K,
     value: V,
-) -> Result<
-    NodePtr<PREFIX_LEN, LeafNode<K, V, PREFIX_LEN>>,
-    (AllocError, LeafNode<K, V, PREFIX_LEN>),
->
+) -> Result<LeafPtr<K, V, PREFIX_LEN>, (AllocError, LeafNode<K, V, PREFIX_LEN>)>
     ensures { IfOk result (λ _. (leaves : List _) →
         Spells arena.old leaves → Spells arena.new leaves) }
 {
@@ -52,7 +49,7 @@ fn allocate_leaf<K, V, const PREFIX_LEN: usize>(
 /// Deallocates a leaf. Each list that it is not in, and each tree, is unchanged.
 fn deallocate_leaf<K: AsBytes, V, const PREFIX_LEN: usize>(
     arena: &mut NodeArena<K, V, PREFIX_LEN>,
-    leaf: NodePtr<PREFIX_LEN, LeafNode<K, V, PREFIX_LEN>>,
+    leaf: LeafPtr<K, V, PREFIX_LEN>,
 ) -> LeafNode<K, V, PREFIX_LEN>
     requires { HoldsLeaf arena.old (slab_key leaf) }
     ensures list { (leaves : List _) → All (λ key. key ≢ slab_key leaf) leaves →

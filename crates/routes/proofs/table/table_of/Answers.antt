@@ -1,11 +1,11 @@
 use Rattle.std.proofs.Common.{◌+◌, ◌∙◌, sym, subst}
 use Rattle.std.specs.Prelude.{IfNone, IfSome}
-use Rattle.routes.specs.Maps.{AddsRoute, IsNextFault}
+use Rattle.routes.specs.Reading.{AddsRoute, IsNextFault}
 use Rattle.routes.proofs.ReadLemmas.{start_read, next_comment, next_route, next_bad}
 use Rattle.routes.proofs.table.table_of.Goals as goal
 
 pub loop-rest-init : goal.loop-rest-init
-loop-rest-init c = start_read c.args.file.now c.new.result c.new.ensures.entries
+loop-rest-init c = start_read c.args.file.now c.new.result c.new.ensures
 
 pub loop-rest-preserved : goal.loop-rest-preserved
 loop-rest-preserved c =

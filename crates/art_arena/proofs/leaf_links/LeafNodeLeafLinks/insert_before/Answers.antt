@@ -6,8 +6,8 @@ use Rattle.art_arena.specs.Links.{HoldsLeaf}
 use Rattle.art_arena.proofs.LeafLemmas.{ForSome-held, apart-from_previous, HoldsLeaf-next, Spells-placed_before, StandsBetween-at}
 use Rattle.art_arena.proofs.leaf_links.LeafNodeLeafLinks.insert_before.Goals as goal
 
-pub place-requires : goal.place-requires
-place-requires g c =
+pub link_between-requires : goal.link_between-requires
+link_between-requires g c =
     let arena = c.args.arena.now in
     let sibling = slab_key c.args.sibling in
     let this = slab_key c.args.this in
@@ -19,13 +19,13 @@ place-requires g c =
     search
 
 pub returns-clause-placed : goal.returns-clause-placed
-returns-clause-placed g c = StandsBetween-at _ _ _ _ _ _ _ c.previous_of-before.ensures refl c.place.ensures.placed
+returns-clause-placed g c = StandsBetween-at _ _ _ _ _ _ _ c.previous_of-before.ensures refl c.link_between.ensures.placed
 
 pub returns-clause-contents : goal.returns-clause-contents
-returns-clause-contents g c = c.place.ensures.contents
+returns-clause-contents g c = c.link_between.ensures.contents
 
 pub returns-clause-spelled : goal.returns-clause-spelled
-returns-clause-spelled g c = λ before after spells. Spells-placed_before c.args.arena.now c.place.new.arena before after _ _ (StandsBetween-at _ _ _ _ _ _ _ c.previous_of-before.ensures refl c.place.ensures.placed) c.place.ensures.contents c.requires.held c.requires.unlinked c.requires.apart spells
+returns-clause-spelled g c = λ before after spells. Spells-placed_before c.args.arena.now c.link_between.new.arena before after _ _ (StandsBetween-at _ _ _ _ _ _ _ c.previous_of-before.ensures refl c.link_between.ensures.placed) c.link_between.ensures.contents c.requires.held c.requires.unlinked c.requires.apart spells
 
 pub returns-clause-room : goal.returns-clause-room
 returns-clause-room g c = search

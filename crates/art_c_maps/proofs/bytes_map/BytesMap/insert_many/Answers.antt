@@ -4,7 +4,7 @@ use Rattle.std.proofs.lemmas.Slice.Zip.{length-zip}
 use Rattle.art_bytes.specs.Text.{text_order}
 use Rattle.art_c_maps.specs.Entries.{put, put_each}
 use Rattle.art_c_maps.specs.Many.{cut}
-use Rattle.art_c_maps.specs.Refusals.{IsRefused}
+use Rattle.art_c_maps.specs.Refusals.{IsBytesRefused}
 use Rattle.art_c_maps.proofs.ManyLemmas.{cut-left, length-cut, put-more}
 use Rattle.art_c_maps.proofs.bytes_map.BytesMap.insert_many.Goals as goal
 
@@ -29,7 +29,7 @@ returns-in-Err c =
       entries = c.in-Err.ensures.same_entries ∙ c.loop-index.invariant.entries;
       all = tt;
       stopped = omega (arith, in_ends, length-cut 0 c.args.keys.now c.args.ends.now, length-zip keys c.args.values.now, c.loop-index-test.true, c.min-count.ensures);
-      refusal_due = subst (λ key. IsRefused key c.in-Err.refusal) (c.bytes_between.ensures ∙ step.0) c.in-Err.ensures.refusal_due;
+      refusal_due = subst (λ key. IsBytesRefused key c.in-Err.refusal) (c.bytes_between.ensures ∙ step.0) c.in-Err.ensures.refusal_due;
     }
 
 pub returns-clause-entries : goal.returns-clause-entries

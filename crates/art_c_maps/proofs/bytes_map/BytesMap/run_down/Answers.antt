@@ -1,4 +1,4 @@
-use Rattle.std.proofs.Common.{◌≡◌, ◌∙◌, false, true, nat_eq, reverse, sym, subst, ap}
+use Rattle.std.proofs.Common.{◌≡◌, ◌∙◌, nat_eq, reverse, sym, subst, ap}
 use Rattle.std.specs.List.{starts_with}
 use Rattle.art_bytes.specs.Text.{text_order}
 use Rattle.art_mapped.specs.Escaped.{escaped_text}

@@ -1,5 +1,5 @@
 use Rattle.std.proofs.Common.{Result, Ok, Err, IfErr, subst}
-use Rattle.art_map.specs.Changes.{IsRefused}
+use Rattle.art_map.specs.Changes.{IsEntryRefused}
 use Rattle.art_map_tests.proofs.map.ascending_entries.put_pair.Goals as goal
 
 each-error : {A E : Type 0} (P Q : E → Type 0) → ((e : E) → P e → Q e) → (r : Result A E) → IfErr r P → IfErr r Q
@@ -11,4 +11,4 @@ returns g c =
     let text = g.K.AsBytes.text in
     let entries = c.args.pairs.now in
     let free = c.keys_never_clash.ensures c.args.key c.insert.ensures.is_key in
-    each-error (λ fault. IsRefused text entries (text c.args.key) fault.refusal) _ (λ fault due is. free (subst (IsRefused text entries (text c.args.key)) is due).1) c.insert.result c.insert.ensures.refusal_due
+    each-error (λ fault. IsEntryRefused text entries (text c.args.key) fault.refusal) _ (λ fault due is. free (subst (IsEntryRefused text entries (text c.args.key)) is due).1) c.insert.result c.insert.ensures.refusal_due

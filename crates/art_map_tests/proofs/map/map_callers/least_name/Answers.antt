@@ -1,4 +1,4 @@
-use Rattle.std.proofs.Common.{◌≡◌, ◌∙◌, ap, slice_get}
+use Rattle.std.proofs.Common.{◌∙◌, ap, slice_get}
 use Rattle.art_map_tests.proofs.FirstItems.{first-of}
 use Rattle.art_map_tests.proofs.map.map_callers.least_name.Goals as goal
 

@@ -1,6 +1,6 @@
 use Rattle.std.proofs.Common.{◌≡◌, ◌+◌, ◌-◌, length, arith, subst}
 use Rattle.art_tree.specs.Entries.{entries_of}
-use Rattle.art_tree.specs.Room.{HasRoomFor}
+use Rattle.art_tree.specs.Room.{HasEntryRoom}
 use Rattle.art_map_tests.proofs.map.reserved_entries.keep_dear.Goals as goal
 
 pub returns : goal.returns
@@ -12,6 +12,6 @@ returns g c =
     let one_more : prices + 1 ≡ left + gone + 1 = omega arith in
     let all : prices + 1 ≡ left + 1 + gone = omega arith in
     record {
-      enough = λ room. c.retain.ensures.memory.room_suffices left (subst (HasRoomFor c.args.prices.now.arena) one_more room);
-      lasts = λ room. (left, c.retain.ensures.memory.room_lasts (left + 1) (subst (HasRoomFor c.args.prices.now.arena) all room));
+      enough = λ room. c.retain.ensures.memory.room_suffices left (subst (HasEntryRoom c.args.prices.now.arena) one_more room);
+      lasts = λ room. (left, c.retain.ensures.memory.room_lasts (left + 1) (subst (HasEntryRoom c.args.prices.now.arena) all room));
     }

@@ -1,4 +1,4 @@
-use Rattle.std.proofs.Common.{ℕ, ◌<◌, ◌≤◌, length, refl, Result, Ok, Err, IsOk, OnErr, arith}
+use Rattle.std.proofs.Common.{ℕ, refl, Result, Ok, Err, IsOk, OnErr, arith}
 use Rattle.std.proofs.lemmas.List.{length-map}
 use Rattle.art_nodes.specs.declared.pointers.OpaqueNodePtr.{OpaqueNodePtr}
 use Rattle.art_tree.specs.Refusals.{texts_of}

@@ -1,4 +1,4 @@
-use Rattle.std.proofs.Common.{Contains, arith, length, subst, sym}
+use Rattle.std.proofs.Common.{Contains, arith, subst, sym}
 use Rattle.std.specs.Vec.Iter.{into_iter_items}
 use Rattle.std.proofs.lemmas.List.{nil_from_length}
 use Rattle.art_routes.proofs.PutLemmas.{all_put, next_inside, none_put, one_put}

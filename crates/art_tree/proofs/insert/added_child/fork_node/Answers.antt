@@ -10,4 +10,4 @@ returns g c =
       | then-mismatch w ↦ w.children-is ∙ ap (λ p. (c.args.mismatch.byte, p) ∷ (c.args.mismatch.node_byte, c.args.node) ∷ []) c.to_opaque.ensures ∙ child-first c.args.mismatch.byte (leaf_pointer c.args.leaf) c.args.mismatch.node_byte c.args.node w.if-mismatch.true
       | else-mismatch w ↦ w.children-is ∙ ap (λ p. (c.args.mismatch.node_byte, c.args.node) ∷ (c.args.mismatch.byte, p) ∷ []) c.to_opaque.ensures ∙ child-last c.args.mismatch.byte (leaf_pointer c.args.leaf) c.args.mismatch.node_byte c.args.node w.if-mismatch.false
     ] in
-    subst (λ kids. IsPlaced c.args.arena.now c.place_as.new.arena Node4 (node_of g.row.PREFIX_LEN prefix kids) c.place_as.result) children c.place_as.ensures
+    subst (λ kids. IsPlaced c.args.arena.now c.allocate_node_as.new.arena Node4 (node_of g.row.PREFIX_LEN prefix kids) c.allocate_node_as.result) children c.allocate_node_as.ensures

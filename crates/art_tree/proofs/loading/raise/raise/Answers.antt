@@ -45,8 +45,8 @@ bounds-leaves-next-in-Inner g c =
     let here = at_inner g.K.AsBytes.text c.args.arena.now c.args.leaves.now _ _ _ _ _ _ _ _ _ _ c.loop-step-test.true c.in-Inner.is c.loop-step.invariant.rising c.requires.held in
     omega (arith, here.inside, here.some)
 
-pub place-node-requires : goal.place-node-requires
-place-node-requires g c =
+pub allocate_node-node-requires : goal.allocate_node-node-requires
+allocate_node-node-requires g c =
     let d : NodePtr g.row.PREFIX_LEN (LeafNode g.row.K.Denot g.row.V.Denot g.row.PREFIX_LEN) = record { key = 0; node = record {} } in
     let here = at_inner g.K.AsBytes.text c.args.arena.now c.args.leaves.now _ _ _ _ _ _ _ _ _ _ c.loop-step-test.true c.in-Inner.is c.loop-step.invariant.rising c.requires.held in
     let ready = here.ready in
@@ -92,10 +92,10 @@ loop-step-preserved g c =
           let last = here.last d in
           let below : w.len.result - w.in-Inner.children ≡ length pending - w.in-Inner.children = omega (arith, w.len.ensures, c.loop-step.pending.ok.0) in
           let kids = last-part w.deref.result.now pending (w.len.result - w.in-Inner.children) w.in-Inner.children w.deref.ensures.value below in
-          let after = w.push_reserved-in-Inner.ensures.items ∙ ap (λ front. front ++ (w.in-Inner.byte, w.place-node.result) ∷ []) (w.truncate.ensures.items ∙ ap (λ n. take n pending) below) in
-          let rising = rise-inner-called text pairs pointers old now w.place-node.new.arena next w.in-Inner.byte w.in-Inner.start w.in-Inner.end w.in-Inner.children pending w.push_reserved-in-Inner.new.self.items _ (text_at text now (slab_key (get_or of (next - 1) d))) steps w.place-node.result here.rising kids last.now w.place-node.ensures after in
+          let after = w.push_reserved-in-Inner.ensures.items ∙ ap (λ front. front ++ (w.in-Inner.byte, w.allocate_node-node.result) ∷ []) (w.truncate.ensures.items ∙ ap (λ n. take n pending) below) in
+          let rising = rise-inner-called text pairs pointers old now w.allocate_node-node.new.arena next w.in-Inner.byte w.in-Inner.start w.in-Inner.end w.in-Inner.children pending w.push_reserved-in-Inner.new.self.items _ (text_at text now (slab_key (get_or of (next - 1) d))) steps w.allocate_node-node.result here.rising kids last.now w.allocate_node-node.ensures after in
           record {
-            rising = subst (λ a. IsRising text pairs pointers old a c.match-step.next c.match-step.pending.items steps) (sym w.arena-is) (subst (λ n. IsRising text pairs pointers old w.place-node.new.arena n c.match-step.pending.items steps) (sym w.next-is) (subst (λ items. IsRising text pairs pointers old w.place-node.new.arena next items steps) (sym (ap (λ v. v.items) w.pending-is)) rising));
+            rising = subst (λ a. IsRising text pairs pointers old a c.match-step.next c.match-step.pending.items steps) (sym w.arena-is) (subst (λ n. IsRising text pairs pointers old w.allocate_node-node.new.arena n c.match-step.pending.items steps) (sym w.next-is) (subst (λ items. IsRising text pairs pointers old w.allocate_node-node.new.arena next items steps) (sym (ap (λ v. v.items) w.pending-is)) rising));
             memory = omega (arith, ap vec_capacity w.pending-is, w.push_reserved-in-Inner.ensures.capacity, w.truncate.ensures.capacity, c.loop-step.invariant.memory);
           }
     ]

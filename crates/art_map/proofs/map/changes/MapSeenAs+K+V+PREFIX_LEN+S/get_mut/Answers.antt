@@ -1,4 +1,4 @@
-use Rattle.art_map.proofs.Names.{◌≡◌, ◌∙◌, refl, sym, ap, subst, option_map, entry_at, entries_of, HasValueNow, KeptRoom, entry_with, with_value, are-entries, one-list}
+use Rattle.art_map.proofs.Names.{◌≡◌, ◌∙◌, refl, sym, ap, subst, option_map, entry_at, entries_of, HasValueNow, KeptRoom, entry_with, entries_with_value, are-entries, one-list}
 use Rattle.art_map.proofs.LentLemmas.{entries-with-value, on-some}
 use Rattle.art_map.proofs.ListLemmas.{entries-find}
 use Rattle.art_map.proofs.MemoryLemmas.{lent-room}
@@ -17,13 +17,13 @@ returns g c =
         refl,
         λ w.
             let now = c.get_mut.follows.lender w in
-            let listed = with_value text (shown c.args.self.now) x w in
+            let listed = entries_with_value text (shown c.args.self.now) x w in
             on-some c.get_mut.result (HasValueNow text tree now c.as_bytes.result.now w) (g.S.ShowsMap.ends_with c.args.self.now (g.S.ViewOf.seen now) listed KeptRoom)
             (λ has.
             let is : entries_of text now.arena ≡ listed =
-            one-list text now.arena (entries_of text now.arena) (with_value text (entries_of text tree.arena) c.as_bytes.result.now w) (are-entries text now.arena)
+            one-list text now.arena (entries_of text now.arena) (entries_with_value text (entries_of text tree.arena) c.as_bytes.result.now w) (are-entries text now.arena)
             (entries-with-value text c.as_bytes.result.now w tree.arena now.arena (entries_of text tree.arena) (are-entries text tree.arena) has.entry has.others)
-            ∙ ap (λ y. with_value text (entries_of text tree.arena) y w) same ∙ ap (λ entries. with_value text entries x w) seen in
+            ∙ ap (λ y. entries_with_value text (entries_of text tree.arena) y w) same ∙ ap (λ entries. entries_with_value text entries x w) seen in
             subst (λ before. g.S.ShowsMap.ends_with before (g.S.ViewOf.seen now) listed KeptRoom) c.self.view_is (g.met.S.ShowsMap.end_seen tree now listed KeptRoom is (lent-room text tree now c.as_bytes.result.now w has))) (c.get_mut.follows.holds w),
         ap g.S.ViewOf.seen c.get_mut.follows.holds-at-none ∙ c.self.view_is,
       ),

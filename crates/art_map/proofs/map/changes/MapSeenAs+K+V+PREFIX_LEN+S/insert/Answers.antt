@@ -1,4 +1,4 @@
-use Rattle.art_map.proofs.Names.{◌≡◌, ◌∙◌, Err, None, Ok, Result, IfErr, OnErr, sym, ap, subst, IsEntry, SameEntries, SameOtherEntries, entries_of, put_entry, IsRefused, MayEnter, entry_with, Inserted, IsTrueOfTrees, are-entries, list-put, list-same}
+use Rattle.art_map.proofs.Names.{◌≡◌, ◌∙◌, Err, None, Ok, Result, IfErr, OnErr, sym, ap, subst, IsEntry, SameEntries, SameOtherEntries, entries_of, put_entry, IsEntryRefused, EntryMayEnter, entry_with, Inserted, IsTrueOfTrees, are-entries, list-put, list-same}
 use Rattle.art_tree.specs.Insertion as tree
 use Rattle.art_map.proofs.ListLemmas.{entries-find, if-err, if-ok, is-refused, may-enter, on-err, on-ok, on-ok-both}
 use Rattle.art_map.proofs.RefusalLemmas.{refused_not_there}
@@ -31,16 +31,16 @@ returns-clause-no_refusal g c =
     let text = g.K.AsBytes.text in
     let arena = c.self.inside.tree.arena in
     let x = text c.args.key in
-    on-ok c.insert.result (tree.MayEnter text arena x) (MayEnter text (g.S.ShowsMap.entries c.args.self.now) x)
-    (λ may. subst (λ entries. MayEnter text entries x) (seen-before g c) (may-enter text arena (entries_of text arena) (are-entries text arena) x may)) c.insert.ensures.no_refusal
+    on-ok c.insert.result (tree.MayEnter text arena x) (EntryMayEnter text (g.S.ShowsMap.entries c.args.self.now) x)
+    (λ may. subst (λ entries. EntryMayEnter text entries x) (seen-before g c) (may-enter text arena (entries_of text arena) (are-entries text arena) x may)) c.insert.ensures.no_refusal
 
 pub returns-clause-refusal_due : goal.returns-clause-refusal_due
 returns-clause-refusal_due g c =
     let text = g.K.AsBytes.text in
     let arena = c.self.inside.tree.arena in
     let x = text c.args.key in
-    if-err c.insert.result (λ fault. tree.IsRefused text arena x fault.refusal) (λ fault. IsRefused text (g.S.ShowsMap.entries c.args.self.now) x fault.refusal)
-    (λ fault due. subst (λ entries. IsRefused text entries x fault.refusal) (seen-before g c) (is-refused text arena (entries_of text arena) (are-entries text arena) x fault.refusal (entries-find text arena x) due)) c.insert.ensures.refusal_due
+    if-err c.insert.result (λ fault. tree.IsRefused text arena x fault.refusal) (λ fault. IsEntryRefused text (g.S.ShowsMap.entries c.args.self.now) x fault.refusal)
+    (λ fault due. subst (λ entries. IsEntryRefused text entries x fault.refusal) (seen-before g c) (is-refused text arena (entries_of text arena) (are-entries text arena) x fault.refusal (entries-find text arena x) due)) c.insert.ensures.refusal_due
 
 pub returns-clause-same_entries : goal.returns-clause-same_entries
 returns-clause-same_entries g c =
@@ -61,7 +61,7 @@ returns-clause-no_entry g c =
     err_only c.insert.result (λ fault. tree.IsRefused text arena x fault.refusal) (entry_with text entries x ≡ None)
     (λ fault due.
     refused_not_there text entries x c.entries_ascend.ensures.short c.entries_ascend.ensures.no_prefixes fault.refusal
-    (subst (λ entries. IsRefused text entries x fault.refusal) (seen-before g c) (is-refused text arena (entries_of text arena) (are-entries text arena) x fault.refusal (entries-find text arena x) due)))
+    (subst (λ entries. IsEntryRefused text entries x fault.refusal) (seen-before g c) (is-refused text arena (entries_of text arena) (are-entries text arena) x fault.refusal (entries-find text arena x) due)))
     c.insert.ensures.refusal_due
 
 pub returns-clause-memory : goal.returns-clause-memory

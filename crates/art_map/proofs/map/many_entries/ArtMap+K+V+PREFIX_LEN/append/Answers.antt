@@ -1,4 +1,4 @@
-use Rattle.art_map.proofs.Names.{◌≡◌, ◌∙◌, true, false, AllPairs, length, lit<, ap, subst, sym, OneIsProperPrefix, entries_of, texts_of, HasRoomFor, SomeClashes, SomeIsNew, put_all}
+use Rattle.art_map.proofs.Names.{◌≡◌, ◌∙◌, true, false, AllPairs, length, lit<, ap, subst, sym, OneIsProperPrefix, entries_of, texts_of, HasEntryRoom, SomeClashes, SomeIsNew, put_all}
 use Rattle.art_map.proofs.JoinLemmas.{no-entries, none-clash-with-none, put-in-none, room-or-none}
 use Rattle.art_map.proofs.MovingLemmas.{AllMayEnter, all-unclashed, either, others-may-enter}
 use Rattle.art_map.proofs.map.many_entries.ArtMap+K+V+PREFIX_LEN.append.Goals as goal
@@ -38,7 +38,7 @@ put_each-requires g c =
     let arena = c.make_room.new.tree.arena in
     let same : entries_of text arena ≡ own = c.the_list_of_entries_changes_with_them.ensures.same c.self.inside.tree.arena arena c.make_room.ensures.same_entries ∙ c.self.view_is in
     let others : c.into_iter.result ≡ c.args.other.now = c.into_iter.ensures.into_iter_gives ∙ c.replace-others.ensures.value in
-    let room = either (λ room. subst (HasRoomFor arena) (c.len.ensures ∙ ap length (sym others)) room)
+    let room = either (λ room. subst (HasEntryRoom arena) (c.len.ensures ∙ ap length (sym others)) room)
     (λ none new. none (subst (λ es. SomeIsNew text es c.args.other.now) same (subst (SomeIsNew text (entries_of text arena)) others new)))
     (room-or-none c.lacks_some_of-lacks_some.result c.in-Ok.ensures.room c.lacks_some_of-lacks_some.ensures.1) in
     let none : SomeClashes text own c.args.other.now → ⊥ = λ clash. let wrong : true ≡ false = sym (c.clashes_with.ensures.1 clash) ∙ c.if-clashes_with.false in absurd (cc) in

@@ -1,4 +1,4 @@
-use Rattle.art_map.proofs.Names.{◌≡◌, ◌∙◌, ◌+◌, ◌-◌, ◌++◌, [], All, All-nil, append-nil, nil_from_length, rules, length, length-append, ap, arith, subst, sym, put_entry, IsRefused}
+use Rattle.art_map.proofs.Names.{◌≡◌, ◌∙◌, ◌+◌, ◌-◌, ◌++◌, [], All, All-nil, append-nil, nil_from_length, rules, length, length-append, ap, arith, subst, sym, put_entry, IsEntryRefused}
 use Rattle.art_map.proofs.ExtendLemmas.{one-more-put, one-more-so}
 use Rattle.art_map.proofs.map.many_entries.ArtMap+K+V+PREFIX_LEN.extend.Goals as goal
 
@@ -17,8 +17,8 @@ pub returns-in-Err-insert-clause-refusal_due : goal.returns-in-Err-insert-clause
 returns-in-Err-insert-clause-refusal_due g c =
     let text = g.K.AsBytes.text in
     let same : g.K.AsBytes.text c.in-Some.key ≡ g.K.AsBytes.text c.in-Err-insert.refused.key = ap text (sym c.in-Err-insert.ensures.entry_back.0) in
-    subst (λ x. IsRefused text c.insert.new.self x c.in-Err-insert.refused.refusal) same
-    (subst (λ entries. IsRefused text entries (text c.in-Some.key) c.in-Err-insert.refused.refusal) (sym c.in-Err-insert.ensures.same_entries) c.in-Err-insert.ensures.refusal_due)
+    subst (λ x. IsEntryRefused text c.insert.new.self x c.in-Err-insert.refused.refusal) same
+    (subst (λ entries. IsEntryRefused text entries (text c.in-Some.key) c.in-Err-insert.refused.refusal) (sym c.in-Err-insert.ensures.same_entries) c.in-Err-insert.ensures.refusal_due)
 
 pub each-preserved-in-Ok-insert : goal.each-preserved-in-Ok-insert
 each-preserved-in-Ok-insert g c =

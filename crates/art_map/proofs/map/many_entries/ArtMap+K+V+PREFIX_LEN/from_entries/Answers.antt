@@ -1,4 +1,4 @@
-use Rattle.art_map.proofs.Names.{◌∙◌, ◌<◌, ◌^◌, [], length, All, AllPairs, ap, subst, take, texts_of, IsRefused, put_all}
+use Rattle.art_map.proofs.Names.{◌∙◌, ◌<◌, ◌^◌, [], length, All, AllPairs, ap, subst, take, texts_of, IsEntryRefused, put_all}
 use Rattle.art_map.proofs.FrontLemmas.{Apart}
 use Rattle.art_map.proofs.TogetherLemmas.{entries-together}
 use Rattle.art_map.proofs.map.many_entries.ArtMap+K+V+PREFIX_LEN.from_entries.Goals as goal
@@ -7,7 +7,7 @@ pub returns-in-Err-clause-refusal_due : goal.returns-in-Err-clause-refusal_due
 returns-in-Err-clause-refusal_due g c =
     let text = g.K.AsBytes.text in
     let fault = c.in-Err.fault in
-    subst (λ entries. IsRefused text entries (text fault.refused.key) fault.refused.refusal)
+    subst (λ entries. IsEntryRefused text entries (text fault.refused.key) fault.refused.refusal)
     (c.in-Err.ensures.added ∙ ap (λ entries. put_all text entries (take fault.added c.args.entries.items)) c.new-map.ensures.entries) c.in-Err.ensures.refusal_due
 
 pub returns-in-Err-clause-none_before : goal.returns-in-Err-clause-none_before

@@ -1,0 +1,545 @@
+/* The routes of a RouteTable: the library's table has the place of each value. */
+#ifndef ROUTES_H
+#define ROUTES_H
+#include <arpa/inet.h>
+#include <stdio.h>
+
+#define NO_PLACE SIZE_MAX
+
+typedef struct {
+    PyObject_HEAD
+    art_routes_map table; /* from the object's making to its end */
+    PyObject **values;    /* at a free place stands the next free one, twice and one more, as an address never does */
+    size_t room, used, free_place;
+    Py_ssize_t count;
+} Routes;
+
+typedef struct {
+    uint8_t address[16];
+    size_t width;
+    unsigned length;
+} Net;
+
+typedef struct {
+    PyObject_HEAD
+    Routes *routes; /* NULL: at its end */
+    Net at, within;
+    bool begun, all;
+    Given given;
+} RouteWalk;
+
+static PyTypeObject *route_walk_type;
+
+/* ---- networks */
+
+static int no_network(PyObject *key) {
+    PyErr_Format(PyExc_ValueError, "%R is no network: an address and how many of its first bits are given, with none set behind these", key);
+    return -1;
+}
+
+static unsigned bits_of(const Net *net) { return 8 * (unsigned)net->width; }
+
+/* An address, alone or with a `/` and a length. */
+static int read_text(PyObject *key, Net *net) {
+    Py_ssize_t size;
+    const char *text = PyUnicode_AsUTF8AndSize(key, &size);
+    if (!text) {
+        PyErr_Clear();
+        return no_network(key);
+    }
+    const char *slash = memchr(text, '/', (size_t)size);
+    size_t len = slash ? (size_t)(slash - text) : (size_t)size;
+    char address[64];
+    if (len >= sizeof address || memchr(text, 0, (size_t)size)) return no_network(key);
+    memcpy(address, text, len);
+    address[len] = 0;
+    bool is_six = memchr(address, ':', len);
+    if (inet_pton(is_six ? AF_INET6 : AF_INET, address, net->address) != 1) return no_network(key);
+    net->width = is_six ? 16 : 4;
+    net->length = bits_of(net);
+    if (slash) {
+        const char *digit = slash + 1;
+        net->length = 0;
+        if (!*digit || strlen(digit) > 3) return no_network(key);
+        for (; *digit; digit++) {
+            if (*digit < '0' || *digit > '9') return no_network(key);
+            net->length = 10 * net->length + (unsigned)(*digit - '0');
+        }
+        if (net->length > bits_of(net)) return no_network(key);
+    }
+    return 0;
+}
+
+/* The bytes of an address. */
+static int read_bytes(PyObject *key, PyObject *bytes, Net *net) {
+    char *start;
+    Py_ssize_t size;
+    if (!PyBytes_Check(bytes) || PyBytes_AsStringAndSize(bytes, &start, &size) < 0 || (size != 4 && size != 16)) {
+        PyErr_Clear();
+        return no_network(key);
+    }
+    memcpy(net->address, start, (size_t)size);
+    net->width = (size_t)size;
+    net->length = bits_of(net);
+    return 0;
+}
+
+/* Reads a network or an address: a str, bytes, or what `ipaddress` makes, whose attributes may run any code. */
+static int read_net(PyObject *key, Net *net) {
+    if (PyUnicode_Check(key)) return read_text(key, net);
+    if (PyBytes_Check(key)) return read_bytes(key, key, net);
+    PyObject *network = PyObject_GetAttrString(key, "network_address"), *packed;
+    if (!network) PyErr_Clear();
+    packed = PyObject_GetAttrString(network ? network : key, "packed");
+    if (!packed) {
+        Py_XDECREF(network);
+        PyErr_Format(PyExc_TypeError, "a network is a str, or of `ipaddress`, and not %R", (PyObject *)Py_TYPE(key));
+        return -1;
+    }
+    int done = read_bytes(key, packed, net);
+    Py_DECREF(packed);
+    if (done == 0 && network) {
+        PyObject *prefixlen = PyObject_GetAttrString(key, "prefixlen");
+        long length = prefixlen ? PyLong_AsLong(prefixlen) : -1;
+        Py_XDECREF(prefixlen);
+        if (length < 0 || length > (long)bits_of(net)) {
+            PyErr_Clear();
+            done = no_network(key);
+        }
+        net->length = (unsigned)length;
+    }
+    Py_XDECREF(network);
+    return done;
+}
+
+/* Leaves the first bits, so many of them. */
+static void cut(Net *net, unsigned length) {
+    for (unsigned at = 0; at < net->width; at++) {
+        unsigned kept = length > 8 * at ? length - 8 * at : 0;
+        if (kept < 8) net->address[at] &= (uint8_t)~(0xFFu >> kept);
+    }
+    net->length = length;
+}
+
+static bool covers(const Net *net, Net other) {
+    if (net->width != other.width || net->length > other.length) return false;
+    cut(&other, net->length);
+    return memcmp(net->address, other.address, net->width) == 0;
+}
+
+/* The text of a network, as `ipaddress` has it. */
+static PyObject *text_of(const Net *net) {
+    char text[64];
+    const uint8_t *a = net->address;
+    if (net->width == 4) {
+        snprintf(text, sizeof text, "%u.%u.%u.%u/%u", a[0], a[1], a[2], a[3], net->length);
+        return PyUnicode_FromString(text);
+    }
+    /* The longest run of two groups or more that are zero, the first of the longest. */
+    unsigned groups[8], begin = 8, longest = 1, run = 0;
+    for (unsigned at = 0; at < 8; at++) {
+        groups[at] = a[2 * at] * 256u + a[2 * at + 1];
+        run = groups[at] ? 0 : run + 1;
+        if (run > longest) {
+            longest = run;
+            begin = at + 1 - run;
+        }
+    }
+    size_t end = 0;
+    for (unsigned at = 0; at < 8; at++) {
+        if (at == begin) {
+            end += (size_t)snprintf(text + end, sizeof text - end, "::");
+            at += longest - 1;
+        } else {
+            bool apart = at > 0 && at != begin + longest;
+            end += (size_t)snprintf(text + end, sizeof text - end, apart ? ":%x" : "%x", groups[at]);
+        }
+    }
+    snprintf(text + end, sizeof text - end, "/%u", net->length);
+    return PyUnicode_FromString(text);
+}
+
+/* ---- the values, by their places */
+
+/* A place for one more value. */
+static int take_place(Routes *self, size_t *place) {
+    if (self->free_place != NO_PLACE) {
+        *place = self->free_place;
+        self->free_place = (size_t)self->values[*place] >> 1;
+        if (self->free_place == NO_PLACE >> 1) self->free_place = NO_PLACE;
+        return 0;
+    }
+    if (self->used == self->room) {
+        size_t room = self->room ? 2 * self->room : 8;
+        PyObject **values = PyMem_Realloc(self->values, room * sizeof *values);
+        if (!values) return refused(ART_NO_MEMORY);
+        self->values = values;
+        self->room = room;
+    }
+    *place = self->used++;
+    return 0;
+}
+
+static void free_at(Routes *self, size_t place) {
+    self->values[place] = (PyObject *)(self->free_place << 1 | 1);
+    self->free_place = place;
+}
+
+static bool is_free(const PyObject *value) { return (size_t)value & 1; }
+
+/* ---- the calls of a mapping */
+
+/* The status of a call of the library: 1 where it found a route, 0 where there is none, or -1 with an error set. */
+static int route_found(uint32_t status, PyObject *key) {
+    if (status <= ART_SOME) return (int)status;
+    return status == ART_BAD_NETWORK ? no_network(key) : refused(status);
+}
+
+/* The longest route that covers a network. */
+static int longest(Routes *self, PyObject *key, const Net *net, uint8_t *length, uint64_t *place) {
+    if (net->length == bits_of(net)) return route_found(art_routes_longest_match(&self->table, net->address, net->width, length, place), key);
+    size_t count = 0;
+    uint32_t status = art_routes_covering(&self->table, net->address, net->width, (uint8_t)net->length, length, 1, place, 1, &count);
+    return status == ART_NONE ? (int)count : route_found(status, key);
+}
+
+/* Finds the value of the longest route: 1, or 0 where there is none, or -1 with an error set. */
+static int look_up(Routes *self, PyObject *key, PyObject **value) {
+    Net net;
+    uint8_t length;
+    uint64_t place;
+    if (read_net(key, &net) < 0) return -1;
+    int found = longest(self, key, &net, &length, &place);
+    if (found == 1) *value = self->values[place];
+    return found;
+}
+
+static PyObject *routes_get_item(Routes *self, PyObject *key) {
+    PyObject *value;
+    int found = look_up(self, key, &value);
+    if (found == 0) PyErr_SetObject(PyExc_KeyError, key);
+    if (found <= 0) return NULL;
+    Py_INCREF(value);
+    return value;
+}
+
+static int routes_contains(Routes *self, PyObject *key) {
+    PyObject *value;
+    return look_up(self, key, &value);
+}
+
+static PyObject *routes_get(Routes *self, PyObject *const *arguments, Py_ssize_t positional, PyObject *names) {
+    Py_ssize_t named = names ? PyTuple_Size(names) : 0;
+    if (positional < 1 || positional + named > 2 ||
+        (named && PyUnicode_CompareWithASCIIString(PyTuple_GetItem(names, 0), "default") != 0)) {
+        PyErr_SetString(PyExc_TypeError, "get takes a network and a default");
+        return NULL;
+    }
+    PyObject *value = positional + named == 2 ? arguments[1] : Py_None;
+    if (look_up(self, arguments[0], &value) < 0) return NULL;
+    Py_INCREF(value);
+    return value;
+}
+
+static int take_route(Routes *self, PyObject *key, PyObject **value) {
+    Net net;
+    uint64_t place;
+    if (read_net(key, &net) < 0) return -1;
+    int found = route_found(art_routes_remove(&self->table, net.address, net.width, (uint8_t)net.length, &place), key);
+    if (found == 1) {
+        *value = self->values[place];
+        free_at(self, place);
+        self->count--;
+    }
+    return found;
+}
+
+static int routes_set_item(Routes *self, PyObject *key, PyObject *value) {
+    Net net;
+    PyObject *before = NULL;
+    if (!value) {
+        int found = take_route(self, key, &before);
+        if (found == 0) PyErr_SetObject(PyExc_KeyError, key);
+        Py_XDECREF(before);
+        return found == 1 ? 0 : -1;
+    }
+    size_t place;
+    uint64_t place_before;
+    if (read_net(key, &net) < 0 || take_place(self, &place) < 0) return -1;
+    Py_INCREF(value);
+    self->values[place] = value;
+    int found = route_found(art_routes_insert(&self->table, net.address, net.width, (uint8_t)net.length, place, &place_before), key);
+    if (found < 0) {
+        free_at(self, place);
+        Py_DECREF(value);
+        return -1;
+    }
+    if (found == 1) {
+        before = self->values[place_before];
+        free_at(self, place_before);
+    } else {
+        self->count++;
+    }
+    Py_XDECREF(before);
+    return 0;
+}
+
+static Py_ssize_t routes_length(Routes *self) { return self->count; }
+
+static PyObject *routes_get_key(Routes *self, PyObject *key) {
+    Net net;
+    uint8_t length;
+    uint64_t place;
+    if (read_net(key, &net) < 0) return NULL;
+    int found = longest(self, key, &net, &length, &place);
+    if (found < 0) return NULL;
+    if (found == 0) Py_RETURN_NONE;
+    cut(&net, length);
+    return text_of(&net);
+}
+
+static PyObject *routes_has_key(Routes *self, PyObject *key) {
+    Net net;
+    uint64_t place;
+    if (read_net(key, &net) < 0) return NULL;
+    int found = route_found(art_routes_get(&self->table, net.address, net.width, (uint8_t)net.length, &place), key);
+    return found < 0 ? NULL : PyBool_FromLong(found);
+}
+
+static PyObject *routes_parent(Routes *self, PyObject *key) {
+    Net net;
+    uint8_t lengths[2];
+    uint64_t places[2];
+    size_t count = 0;
+    if (read_net(key, &net) < 0) return NULL;
+    uint32_t status = art_routes_covering(&self->table, net.address, net.width, (uint8_t)net.length, lengths, 2, places, 2, &count);
+    if (route_found(status, key) < 0) return NULL;
+    size_t at = count > 0 && lengths[0] == net.length;
+    if (at >= count) Py_RETURN_NONE;
+    cut(&net, lengths[at]);
+    return text_of(&net);
+}
+
+static PyObject *routes_pop(Routes *self, PyObject *const *arguments, Py_ssize_t positional) {
+    if (positional < 1 || positional > 2) {
+        PyErr_SetString(PyExc_TypeError, "pop takes a network and at most a default");
+        return NULL;
+    }
+    PyObject *value;
+    int found = take_route(self, arguments[0], &value);
+    if (found < 0) return NULL;
+    if (found) return value;
+    if (positional == 2) {
+        Py_INCREF(arguments[1]);
+        return arguments[1];
+    }
+    PyErr_SetObject(PyExc_KeyError, arguments[0]);
+    return NULL;
+}
+
+/* The most addresses that are looked up in one call of the library. */
+#define MANY 256
+
+static PyObject *routes_get_many(Routes *self, PyObject *const *arguments, Py_ssize_t positional, PyObject *names) {
+    Py_ssize_t named = names ? PyTuple_Size(names) : 0;
+    if (positional < 1 || positional + named > 2 ||
+        (named && PyUnicode_CompareWithASCIIString(PyTuple_GetItem(names, 0), "default") != 0)) {
+        PyErr_SetString(PyExc_TypeError, "get_many takes addresses and a default");
+        return NULL;
+    }
+    PyObject *other = positional + named == 2 ? arguments[1] : Py_None, *list = PySequence_List(arguments[0]);
+    Py_ssize_t size = list ? PyList_Size(list) : 0;
+    PyObject *values = list ? PyList_New(size) : NULL;
+    for (Py_ssize_t done = 0; values && done < size;) {
+        uint8_t addresses[16 * MANY], lengths[MANY];
+        uint64_t places[MANY];
+        size_t many = 0, width = 0, count;
+        Net net;
+        /* As many as are of one family. */
+        for (; many < MANY && done + (Py_ssize_t)many < size; many++) {
+            PyObject *key = PyList_GetItem(list, done + (Py_ssize_t)many);
+            if (read_net(key, &net) < 0 || (net.length != bits_of(&net) && no_network(key) < 0)) {
+                Py_DECREF(values);
+                values = NULL;
+                break;
+            }
+            if (many == 0) width = net.width;
+            if (net.width != width) break;
+            memcpy(addresses + many * width, net.address, width);
+        }
+        if (!values) break;
+        art_routes_longest_match_many(&self->table, addresses, many * width, width, lengths, many, places, many, &count);
+        for (size_t at = 0; at < many; at++, done++) {
+            PyObject *value = lengths[at] == ART_NO_ROUTE ? other : self->values[places[at]];
+            Py_INCREF(value);
+            PyList_SetItem(values, done, value);
+        }
+    }
+    Py_XDECREF(list);
+    return values;
+}
+
+static void drop_routes(Routes *self) {
+    PyObject **values = self->values;
+    size_t used = self->used;
+    art_routes_clear(&self->table);
+    self->values = NULL;
+    self->room = self->used = 0;
+    self->free_place = NO_PLACE;
+    self->count = 0;
+    for (size_t place = 0; place < used; place++)
+        if (!is_free(values[place])) Py_DECREF(values[place]);
+    PyMem_Free(values);
+}
+
+static PyObject *routes_clear(Routes *self, PyObject *Py_UNUSED(none)) {
+    drop_routes(self);
+    Py_RETURN_NONE;
+}
+
+static PyObject *routes_size(Routes *self, PyObject *Py_UNUSED(none)) {
+    return PyLong_FromSize_t(sizeof *self + self->room * sizeof *self->values);
+}
+
+/* ---- walks */
+
+/* _walk(given, network): of the routes inside a network, or of all where it is None. */
+static PyObject *routes_walk(Routes *self, PyObject *arguments) {
+    int given;
+    PyObject *key;
+    Net within = {{0}, 4, 0};
+    uint64_t place;
+    if (!PyArg_ParseTuple(arguments, "iO", &given, &key)) return NULL;
+    if (key != Py_None && (read_net(key, &within) < 0 ||
+                           route_found(art_routes_get(&self->table, within.address, within.width, (uint8_t)within.length, &place), key) < 0))
+        return NULL;
+    RouteWalk *walk = (RouteWalk *)((allocfunc)PyType_GetSlot(route_walk_type, Py_tp_alloc))(route_walk_type, 0);
+    if (!walk) return NULL;
+    Py_INCREF(self);
+    walk->routes = self;
+    walk->at = walk->within = within;
+    walk->begun = false;
+    walk->all = key == Py_None;
+    walk->given = given;
+    return (PyObject *)walk;
+}
+
+static PyObject *route_walk_next(RouteWalk *self) {
+    Routes *routes = self->routes;
+    Net *at = &self->at;
+    uint8_t length;
+    uint64_t place;
+    if (!routes) return NULL;
+    uint32_t status = art_routes_next(&routes->table, at->address, at->width, (uint8_t)at->length, !self->begun, at->address, 16, &at->width,
+                                      &length, &place);
+    at->length = length;
+    self->begun = true;
+    if (status != ART_SOME || (!self->all && !covers(&self->within, *at))) {
+        self->routes = NULL;
+        Py_DECREF(routes);
+        return NULL;
+    }
+    if (self->given == KEYS) return text_of(at);
+    PyObject *value = routes->values[place];
+    Py_INCREF(value);
+    if (self->given == VALUES) return value;
+    PyObject *text = text_of(at), *item = text ? PyTuple_Pack(2, text, value) : NULL;
+    Py_XDECREF(text);
+    Py_DECREF(value);
+    return item;
+}
+
+static int route_walk_traverse(RouteWalk *self, visitproc visit, void *arg) {
+    Py_VISIT(Py_TYPE(self));
+    Py_VISIT(self->routes);
+    return 0;
+}
+
+static int route_walk_clear(RouteWalk *self) {
+    Py_CLEAR(self->routes);
+    return 0;
+}
+
+static void route_walk_dealloc(RouteWalk *self) {
+    PyTypeObject *type = Py_TYPE(self);
+    PyObject_GC_UnTrack(self);
+    route_walk_clear(self);
+    ((freefunc)PyType_GetSlot(type, Py_tp_free))(self);
+    Py_DECREF(type);
+}
+
+static PyType_Slot route_walk_slots[] = {
+    {Py_tp_iter, PyObject_SelfIter},       {Py_tp_iternext, route_walk_next},   {Py_tp_traverse, route_walk_traverse},
+    {Py_tp_clear, route_walk_clear},       {Py_tp_dealloc, route_walk_dealloc}, {0, NULL},
+};
+
+static PyType_Spec route_walk_spec = {
+    "verified_art._in_c.RouteWalk", sizeof(RouteWalk), 0,
+    Py_TPFLAGS_DEFAULT | Py_TPFLAGS_HAVE_GC | Py_TPFLAGS_DISALLOW_INSTANTIATION, route_walk_slots,
+};
+
+/* ---- the type */
+
+static PyObject *routes_new(PyTypeObject *type, PyObject *Py_UNUSED(arguments), PyObject *Py_UNUSED(named)) {
+    Routes *self = (Routes *)((allocfunc)PyType_GetSlot(type, Py_tp_alloc))(type, 0);
+    if (!self) return NULL;
+    self->free_place = NO_PLACE;
+    uint32_t status = art_routes_new(&self->table);
+    if (status == ART_NONE) return (PyObject *)self;
+    Py_DECREF(self);
+    refused(status);
+    return NULL;
+}
+
+static int routes_traverse(Routes *self, visitproc visit, void *arg) {
+    Py_VISIT(Py_TYPE(self));
+    for (size_t place = 0; place < self->used; place++)
+        if (!is_free(self->values[place])) Py_VISIT(self->values[place]);
+    return 0;
+}
+
+static int routes_let_go(Routes *self) {
+    drop_routes(self);
+    return 0;
+}
+
+static void routes_dealloc(Routes *self) {
+    PyTypeObject *type = Py_TYPE(self);
+    PyObject_GC_UnTrack(self);
+    drop_routes(self);
+    art_routes_free(&self->table);
+    ((freefunc)PyType_GetSlot(type, Py_tp_free))(self);
+    Py_DECREF(type);
+}
+
+static PyMethodDef routes_methods[] = {
+    {"get", (PyCFunction)(void (*)(void))routes_get, METH_FASTCALL | METH_KEYWORDS, "The value of the longest route around an address or a network, or the default."},
+    {"get_many", (PyCFunction)(void (*)(void))routes_get_many, METH_FASTCALL | METH_KEYWORDS, "The values of many addresses, as `get` finds each, in a list."},
+    {"get_key", (PyCFunction)routes_get_key, METH_O, "The network of the longest route around an address or a network, or None."},
+    {"has_key", (PyCFunction)routes_has_key, METH_O, "Whether there is a route to this very network."},
+    {"parent", (PyCFunction)routes_parent, METH_O, "The network of the longest route around a network, but for the one to it, or None."},
+    {"pop", (PyCFunction)(void (*)(void))routes_pop, METH_FASTCALL, "Removes the route to this very network and returns its value, else the default, else raises KeyError."},
+    {"clear", (PyCFunction)routes_clear, METH_NOARGS, "Removes all routes."},
+    {"__sizeof__", (PyCFunction)routes_size, METH_NOARGS, "The memory of the table, without the library's and the values."},
+    {"_walk", (PyCFunction)routes_walk, METH_VARARGS, NULL},
+    {NULL, NULL, 0, NULL},
+};
+
+static PyType_Slot routes_slots[] = {
+    {Py_tp_new, routes_new},
+    {Py_tp_traverse, routes_traverse},
+    {Py_tp_clear, routes_let_go},
+    {Py_tp_dealloc, routes_dealloc},
+    {Py_tp_methods, routes_methods},
+    {Py_mp_subscript, routes_get_item},
+    {Py_mp_ass_subscript, routes_set_item},
+    {Py_mp_length, routes_length},
+    {Py_sq_contains, routes_contains},
+    {0, NULL},
+};
+
+static PyType_Spec routes_spec = {
+    "verified_art._in_c.Routes", sizeof(Routes), 0, Py_TPFLAGS_DEFAULT | Py_TPFLAGS_HAVE_GC | Py_TPFLAGS_BASETYPE, routes_slots,
+};
+
+#endif

@@ -1,0 +1,165 @@
+//! Random calls of a route table beside a list of its routes, each of which is looked at; and what networks are.
+mod common;
+
+use common::Random;
+use std::cell::Cell;
+use std::collections::BTreeMap;
+use std::net::{IpAddr, Ipv4Addr, Ipv6Addr};
+use verified_art::{BadNetwork, Network, RouteTable};
+
+fn network(text: &str) -> Network {
+    text.parse().unwrap()
+}
+
+/// An address of few bytes that often are the same.
+fn some_address(random: &mut Random) -> IpAddr {
+    const BYTES: [u8; 5] = [0, 1, 10, 128, 255];
+    let mut octets = [BYTES[random.below(2) as usize * 4]; 16];
+    let four = random.coin();
+    for _ in 0..random.below(6) {
+        octets[random.below(if four { 4 } else { 16 }) as usize] = BYTES[random.below(5) as usize];
+    }
+    if four {
+        IpAddr::from([octets[0], octets[1], octets[2], octets[3]])
+    } else {
+        IpAddr::from(octets)
+    }
+}
+
+fn some_network(random: &mut Random, model: &BTreeMap<Network, String>) -> Network {
+    if !model.is_empty() && random.below(4) == 0 {
+        return *model.keys().nth(random.below(model.len() as u64) as usize).unwrap();
+    }
+    let address = some_address(random);
+    Network::truncated(address, random.below(if address.is_ipv4() { 33 } else { 129 }) as u8).unwrap()
+}
+
+/// Whether one network is in another, by the text of its bits.
+fn is_in(inner: &Network, outer: &Network) -> bool {
+    let bits = |network: &Network| match network.address() {
+        IpAddr::V4(ip) => format!("4{:032b}", ip.to_bits()),
+        IpAddr::V6(ip) => format!("6{:0128b}", ip.to_bits()),
+    };
+    let count = 1 + usize::from(outer.length());
+    outer.length() <= inner.length() && bits(inner)[..count] == bits(outer)[..count]
+}
+
+#[test]
+fn a_table_does_what_a_scan_does() {
+    let mut random = Random(20261130);
+    let mut table = RouteTable::<String>::new();
+    let mut model = BTreeMap::<Network, String>::new();
+    for _ in 0..100_000 {
+        let at = some_network(&mut random, &model);
+        match random.below(14) {
+            0..=3 => {
+                let value = random.next().to_string();
+                assert_eq!(table.insert(at, value.clone()), model.insert(at, value));
+            }
+            4 => {
+                assert_eq!(table.get(at), model.get(&at));
+                assert_eq!(table.contains_key(at), model.contains_key(&at));
+            }
+            5 => {
+                if let Some(value) = table.get_mut(at) {
+                    value.push('!');
+                    model.get_mut(&at).unwrap().push('!');
+                }
+            }
+            6..=8 => assert_eq!(table.remove(at), model.remove(&at)),
+            9..=10 => {
+                let address = some_address(&mut random);
+                let mut around: Vec<_> =
+                    model.iter().filter(|(it, _)| it.contains(address)).map(|(it, value)| (*it, value)).collect();
+                around.sort_by_key(|(it, _)| it.length());
+                assert_eq!(table.get_lpm(address), around.last().copied());
+                assert_eq!(table.get_lpm_prefix(address), around.last().map(|(it, _)| *it));
+                assert_eq!(table.get_spm(address), around.first().copied());
+                assert!(table.cover(address).eq(around));
+            }
+            11 => {
+                let mut around: Vec<_> =
+                    model.iter().filter(|(it, _)| is_in(&at, it)).map(|(it, value)| (*it, value)).collect();
+                around.sort_by_key(|(it, _)| it.length());
+                assert_eq!(table.get_lpm(at), around.last().copied());
+                assert!(table.cover(at).eq(around));
+            }
+            12 => {
+                let inside = model.iter().filter(|(it, _)| is_in(it, &at)).map(|(it, value)| (*it, value));
+                assert!(table.children(at).eq(inside));
+            }
+            _ => match random.below(200) {
+                0 => {
+                    table.clear();
+                    model.clear();
+                }
+                1 => table.compact(),
+                2 => table.reserve(random.below(100) as usize),
+                3 => table.iter_mut().zip(model.iter_mut()).for_each(|((one, ours), (other, theirs))| {
+                    assert_eq!((one, &ours), (*other, &theirs));
+                    ours.push('?');
+                    theirs.push('?');
+                }),
+                _ => (),
+            },
+        }
+        assert_eq!(table.len(), model.len());
+    }
+    assert!(table.iter().eq(model.iter().map(|(it, value)| (*it, value))));
+    assert!(table.keys().eq(model.keys().copied()) && table.values().eq(model.values()));
+    assert_eq!(table.clone(), table);
+}
+
+#[test]
+fn networks_are_read_and_shown() {
+    for text in ["0.0.0.0/0", "10.0.0.0/8", "255.255.255.255/32", "::/0", "2001:db8::/32", "::1/128"] {
+        assert_eq!(network(text).to_string(), text);
+    }
+    assert_eq!(network("10.1.2.3"), Network::new([10, 1, 2, 3], 32).unwrap());
+    assert_eq!(network("::1"), Ipv6Addr::LOCALHOST.into());
+    for text in
+        ["", "10.0.0.0/", "10.0.0/8", "10.0.0.0/+8", "10.0.0.0/8/8", "10.0.0.0/ 8", "10.0.0.0/0008", "x", "::/-1"]
+    {
+        assert_eq!(text.parse::<Network>(), Err(BadNetwork::NotANetwork), "{text}");
+    }
+    assert_eq!("10.0.0.0/33".parse::<Network>(), Err(BadNetwork::LengthTooGreat));
+    assert_eq!("::/256".parse::<Network>(), Err(BadNetwork::LengthTooGreat));
+    assert_eq!("10.0.0.1/8".parse::<Network>(), Err(BadNetwork::BitsBehindLength));
+    assert_eq!(Network::truncated(Ipv4Addr::BROADCAST, 0), Ok(network("0.0.0.0/0")));
+    assert_eq!(Network::new(Ipv6Addr::LOCALHOST, 129), Err(BadNetwork::LengthTooGreat));
+}
+
+#[test]
+fn the_families_never_match_each_other() {
+    let mut table: RouteTable<u32> = [(network("0.0.0.0/0"), 4), (network("10.0.0.0/8"), 8)].into_iter().collect();
+    let mapped = Ipv4Addr::new(10, 0, 0, 1).to_ipv6_mapped();
+    assert_eq!(table.get_lpm(mapped), None);
+    table.insert(network("::/0"), 6);
+    assert_eq!(table.get_lpm(mapped), Some((network("::/0"), &6)));
+    assert_eq!(table.get_lpm([10, 0, 0, 1]), Some((network("10.0.0.0/8"), &8)));
+    assert_eq!(table.children(network("0.0.0.0/0")).count(), 2);
+    *table.get_lpm_mut([11, 0, 0, 1]).unwrap().1 = 5;
+    assert_eq!(format!("{table:?}"), "{0.0.0.0/0: 5, 10.0.0.0/8: 8, ::/0: 6}");
+}
+
+#[test]
+fn each_value_is_dropped_once() {
+    struct Counted<'a>(&'a Cell<u32>);
+
+    impl Drop for Counted<'_> {
+        fn drop(&mut self) {
+            self.0.set(self.0.get() + 1);
+        }
+    }
+
+    let drops = Cell::new(0);
+    let mut table: RouteTable<Counted<'_>> = (0..100u8).map(|at| ([at, 0, 0, 0], Counted(&drops))).collect();
+    drop(table.insert([3, 0, 0, 0], Counted(&drops)));
+    drop(table.remove([4, 0, 0, 0]));
+    assert_eq!((drops.get(), table.len()), (2, 99));
+    table.clear();
+    assert_eq!((drops.get(), table.len()), (101, 0));
+    table.insert([5, 0, 0, 0], Counted(&drops));
+    drop(table);
+    assert_eq!(drops.get(), 102);
+}

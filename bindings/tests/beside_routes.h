@@ -1,0 +1,261 @@
+// Calls of a route table beside a scan of all routes: what each returns and writes, and that it writes nothing else.
+#ifndef BESIDE_ROUTES_H
+#define BESIDE_ROUTES_H
+#include "beside_map.h"
+#include <array>
+#include <tuple>
+
+const uint8_t NO_LENGTH = 0xDD;
+
+// Some bytes and a length, which may be no network.
+struct Network {
+    std::vector<uint8_t> address;
+    uint8_t length;
+
+    bool bit(size_t at) const { return address[at / 8] >> (7 - at % 8) & 1; }
+
+    bool is_address() const { return address.size() == 4 || address.size() == 16; }
+
+    bool is_network() const {
+        if (!is_address() || length > 8 * address.size()) return false;
+        for (size_t at = length; at < 8 * address.size(); at++)
+            if (bit(at)) return false;
+        return true;
+    }
+
+    bool covers(const Network &other) const {
+        if (address.size() != other.address.size() || length > other.length) return false;
+        for (size_t at = 0; at < length; at++)
+            if (bit(at) != other.bit(at)) return false;
+        return true;
+    }
+
+    bool operator<(const Network &other) const {
+        return std::make_tuple(address.size(), address, length) < std::make_tuple(other.address.size(), other.address, other.length);
+    }
+};
+
+template <class Source> class RoutesBeside {
+    using Model = std::map<Network, uint64_t>;
+    using Route = Model::const_iterator;
+
+    Source &source;
+    art_routes_map map = {};
+    Model model;
+    uint8_t length = NO_LENGTH;
+    uint64_t value = NO_VALUE;
+
+    // An address of few bytes that often are the same.
+    std::vector<uint8_t> some_address(size_t width) {
+        static const uint8_t bytes[] = {0, 1, 10, 128, 192, 255};
+        std::vector<uint8_t> address(width, bytes[source.below(2) * 5]);
+        for (uint64_t left = source.below(6); left > 0; left--)
+            if (width > 0) address[source.below(width)] = bytes[source.below(6)];
+        return address;
+    }
+
+    size_t some_width() {
+        static const size_t bad[] = {0, 1, 3, 5, 15, 17};
+        return source.below(30) == 0 ? bad[source.below(6)] : source.below(2) ? 4 : 16;
+    }
+
+    // A network, as a rule: without the bits behind its length; often one that is there.
+    Network some_network() {
+        if (!model.empty() && source.below(4) == 0) {
+            Route at = model.begin();
+            std::advance(at, source.below(std::min<size_t>(model.size(), 200)));
+            return at->first;
+        }
+        size_t width = some_width();
+        Network network{some_address(width), (uint8_t)source.below(source.below(20) == 0 ? 256 : 8 * width + 1)};
+        if (source.below(30) == 0) return network;
+        for (size_t at = network.length; at < 8 * width; at++) network.address[at / 8] &= ~(0x80 >> at % 8);
+        return network;
+    }
+
+    // Where the value of a network is written.
+    void found_value(const Network &network, uint32_t status) {
+        Route at = model.find(network);
+        if (!network.is_network()) {
+            CHECK(status == ART_BAD_NETWORK && value == NO_VALUE);
+        } else if (at == model.end()) {
+            CHECK(status == ART_NONE && value == NO_VALUE);
+        } else {
+            CHECK(status == ART_SOME && value == at->second);
+        }
+    }
+
+    // The routes that cover a network, the longest first.
+    std::vector<Route> around(const Network &network) const {
+        std::vector<Route> found;
+        for (Route at = model.begin(); at != model.end(); ++at)
+            if (at->first.covers(network)) found.push_back(at);
+        std::sort(found.begin(), found.end(), [](Route one, Route other) { return one->first.length > other->first.length; });
+        return found;
+    }
+
+    void longest_match() {
+        size_t width = some_width();
+        Network address{some_address(width), (uint8_t)(8 * width)};
+        uint32_t status = art_routes_longest_match(&map, address.address.data(), width, &length, &value);
+        std::vector<Route> routes = address.is_address() ? around(address) : std::vector<Route>();
+        if (routes.empty()) {
+            CHECK(status == (address.is_address() ? ART_NONE : ART_BAD_NETWORK) && length == NO_LENGTH && value == NO_VALUE);
+        } else {
+            CHECK(status == ART_SOME && length == routes[0]->first.length && value == routes[0]->second);
+        }
+    }
+
+    void longest_match_many() {
+        size_t width = some_width(), count = NO_LEN;
+        std::vector<uint8_t> addresses;
+        std::vector<Network> each;
+        for (uint64_t left = source.below(8); left > 0; left--) {
+            each.push_back({some_address(width), (uint8_t)(8 * width)});
+            addresses.insert(addresses.end(), each.back().address.begin(), each.back().address.end());
+        }
+        size_t over = source.below(4);
+        addresses.insert(addresses.end(), over, 7);
+        std::vector<uint8_t> lengths(source.below(9), NO_LENGTH);
+        std::vector<uint64_t> values(source.below(9), NO_VALUE);
+        uint32_t status = art_routes_longest_match_many(&map, addresses.data(), addresses.size(), width, lengths.data(), lengths.size(),
+                                                        values.data(), values.size(), &count);
+        size_t wanted = 0;
+        if (width == 4 || width == 16) {
+            wanted = std::min({addresses.size() / width, lengths.size(), values.size()});
+            CHECK(status == ART_NONE && count == wanted);
+        } else {
+            CHECK(status == ART_BAD_NETWORK && count == NO_LEN);
+        }
+        for (size_t i = 0; i < wanted; i++) {
+            std::vector<Route> routes = i < each.size() ? around(each[i]) : std::vector<Route>();
+            CHECK(lengths[i] == (routes.empty() ? ART_NO_ROUTE : routes[0]->first.length));
+            CHECK(values[i] == (routes.empty() ? NO_VALUE : routes[0]->second));
+        }
+        CHECK(std::all_of(lengths.begin() + std::min(wanted, lengths.size()), lengths.end(), [](uint8_t it) { return it == NO_LENGTH; }));
+        CHECK(std::all_of(values.begin() + std::min(wanted, values.size()), values.end(), [](uint64_t it) { return it == NO_VALUE; }));
+    }
+
+    void next() {
+        Network from = some_network();
+        bool inclusive = source.below(2) == 1;
+        std::vector<uint8_t> out(source.below(3) == 0 ? source.below(20) : 16, NO_BYTE);
+        size_t width = NO_LEN, written = 0;
+        uint32_t status = art_routes_next(&map, from.address.data(), from.address.size(), from.length, inclusive, out.data(), out.size(),
+                                          &width, &length, &value);
+        Route at = from.is_network() ? inclusive ? model.lower_bound(from) : model.upper_bound(from) : model.end();
+        if (at == model.end()) {
+            CHECK(status == (from.is_network() ? ART_NONE : ART_BAD_NETWORK) && width == NO_LEN);
+        } else if (at->first.address.size() > out.size()) {
+            CHECK(status == ART_SMALL_BUFFER && width == at->first.address.size());
+        } else {
+            written = at->first.address.size();
+            CHECK(status == ART_SOME && width == written);
+            CHECK(std::equal(at->first.address.begin(), at->first.address.end(), out.begin()));
+            CHECK(length == at->first.length && value == at->second);
+        }
+        if (written == 0) CHECK(length == NO_LENGTH && value == NO_VALUE);
+        CHECK(std::all_of(out.begin() + written, out.end(), [](uint8_t byte) { return byte == NO_BYTE; }));
+    }
+
+    void covering() {
+        Network network = some_network();
+        std::vector<uint8_t> lengths(source.below(10), NO_LENGTH);
+        std::vector<uint64_t> values(source.below(10), NO_VALUE);
+        size_t count = NO_LEN, wanted = 0;
+        uint32_t status = art_routes_covering(&map, network.address.data(), network.address.size(), network.length, lengths.data(),
+                                              lengths.size(), values.data(), values.size(), &count);
+        if (network.is_network()) {
+            std::vector<Route> routes = around(network);
+            wanted = std::min({routes.size(), lengths.size(), values.size()});
+            CHECK(status == ART_NONE && count == wanted);
+            for (size_t i = 0; i < wanted; i++) CHECK(lengths[i] == routes[i]->first.length && values[i] == routes[i]->second);
+        } else {
+            CHECK(status == ART_BAD_NETWORK && count == NO_LEN);
+        }
+        CHECK(std::all_of(lengths.begin() + wanted, lengths.end(), [](uint8_t it) { return it == NO_LENGTH; }));
+        CHECK(std::all_of(values.begin() + wanted, values.end(), [](uint64_t it) { return it == NO_VALUE; }));
+    }
+
+  public:
+    explicit RoutesBeside(Source &choices) : source(choices) {
+        CHECK(art_routes_new(&map) == ART_NONE);
+        CHECK(art_routes_new(&map) == ART_HAS_MAP);
+    }
+
+    ~RoutesBeside() {
+        walk();
+        art_routes_free(&map);
+        CHECK(art_routes_len(&map) == 0 && art_routes_compact(&map) == ART_NO_MAP);
+    }
+
+    // All routes, each from the one before it, whose address lies where the next one is written.
+    void walk() {
+        uint8_t address[16] = {};
+        size_t width = 4;
+        uint8_t at = 0;
+        bool inclusive = true;
+        for (const auto &route : model) {
+            CHECK(art_routes_next(&map, address, width, at, inclusive, address, sizeof address, &width, &at, &value) == ART_SOME);
+            CHECK(width == route.first.address.size() && std::equal(address, address + width, route.first.address.begin()));
+            CHECK(at == route.first.length && value == route.second);
+            inclusive = false;
+        }
+        CHECK(art_routes_next(&map, address, width, at, inclusive, address, sizeof address, &width, &at, &value) == ART_NONE);
+    }
+
+    void call() {
+        length = NO_LENGTH;
+        value = NO_VALUE;
+        switch (source.below(16)) {
+        case 0: case 1: case 2: case 3: {
+            Network network = some_network();
+            uint64_t put = source.number();
+            found_value(network, art_routes_insert(&map, network.address.data(), network.address.size(), network.length, put, &value));
+            if (network.is_network()) model[network] = put;
+            break;
+        }
+        case 4: {
+            Network network = some_network();
+            found_value(network, art_routes_get(&map, network.address.data(), network.address.size(), network.length, &value));
+            break;
+        }
+        case 5: case 6: case 7: {
+            Network network = some_network();
+            found_value(network, art_routes_remove(&map, network.address.data(), network.address.size(), network.length, &value));
+            model.erase(network);
+            break;
+        }
+        case 8: case 9:
+            longest_match();
+            break;
+        case 10:
+            longest_match_many();
+            break;
+        case 11: case 12:
+            next();
+            break;
+        case 13: case 14:
+            covering();
+            break;
+        default:
+            switch (source.below(100)) {
+            case 0:
+                art_routes_clear(&map);
+                model.clear();
+                break;
+            case 1:
+                CHECK(art_routes_compact(&map) == ART_NONE);
+                break;
+            case 2:
+                CHECK(art_routes_reserve(&map, source.below(100)) == ART_NONE);
+                break;
+            default:
+                break;
+            }
+        }
+        CHECK(art_routes_len(&map) == model.size());
+    }
+};
+
+#endif

@@ -1,0 +1,380 @@
+//! The exports for route tables.
+ghost use Rattle.std.specs.Prelude.{◌≡◌, ◌≢◌, ◌*◌, ◌/◌, ◌<◌, ◌⊎◌, ◌↔◌, ℕ, true, false, [], None, Some, IfNone, IfSome, IsSome, drop, get_or, length, min, nat_le, take, if◌then◌else◌};
+ghost use Rattle.std.specs.Option.{option_map};
+ghost use Rattle.art_routes.specs.Networks.{network_around};
+ghost use Rattle.art_routes.specs.Tables.{IsLongest, NoneContains, covering, put_route, value_of, without_route};
+ghost use Rattle.art_c.specs.Handles.{entries_of};
+ghost use Rattle.art_c.specs.RouteStatuses.{IsRouted, IsUnrouted, length_in, route_status, route_value_in, width_or};
+ghost use Rattle.art_c.specs.Statuses.{ART_BAD_NETWORK, ART_HAS_MAP, ART_NONE, ART_NO_MAP, ART_NO_MEMORY, ART_SMALL_BUFFER, ART_SOME, IsDone, found_or, status_of};
+ghost use Rattle.art_c_maps.specs.Entries.{begun_with, first_of, values_of};
+ghost use Rattle.art_c_routes.specs.Addresses.{address_in, is_address, is_network, is_width, network_in};
+ghost use Rattle.art_c_routes.specs.Found.{IsMatched, address_written, lengths_of, routes_from};
+
+use crate::numbers::value_status;
+use crate::routes_handle::RoutesHandle;
+use crate::routes_view::RoutesView;
+use crate::statuses::{BAD_NETWORK, HAS_MAP, NO_MAP, NO_MEMORY, NONE, SMALL_BUFFER, SOME};
+use art_c_routes::{NumberRoutes, Refusal};
+use std::alloc::Global;
+
+// The status of a call that finds a route, of which the address has to fit into so many bytes. How many it
+// has, its length and its value are written out.
+fn found_status(
+    found: Option<(usize, u8, u64)>,
+    room: usize,
+    width: &mut usize,
+    length: &mut u8,
+    value: &mut u64,
+) -> u32
+    ensures none { IfNone found ((result ≡ ART_NONE) × (width.new ≡ width.old) × (length.new ≡ length.old) × (value.new ≡ value.old)) }
+    ensures some { IfSome found (λ parts. (width.new ≡ parts.0)
+        × (result ≡ (if nat_le parts.0 room then ART_SOME else ART_SMALL_BUFFER))
+        × (length.new ≡ (if nat_le parts.0 room then parts.1 else length.old))
+        × (value.new ≡ (if nat_le parts.0 room then parts.2 else value.old))) }
+{
+    let Some((found_width, found_length, found_value)) = found else {
+        return NONE;
+    };
+    *width = found_width;
+    if found_width > room {
+        return SMALL_BUFFER;
+    }
+    *length = found_length;
+    *value = found_value;
+    SOME
+}
+
+/// Makes an empty table behind a handle that holds none.
+#[unsafe(no_mangle)]
+pub extern "C" fn art_routes_new(alloc: Global, table: &mut RoutesHandle) -> u32
+    ensures has_map { (result ≡ ART_HAS_MAP) ↔ IsSome table.old.held }
+    ensures made { (result ≢ ART_HAS_MAP) × (result ≢ ART_NO_MEMORY) →
+        (result ≡ ART_NONE) × (table.new.held ≡ Some []) }
+    ensures refused { (result ≡ ART_HAS_MAP) ⊎ (result ≡ ART_NO_MEMORY) →
+        table.new.held ≡ table.old.held }
+{
+    if let Some(held) = table.take(alloc) {
+        table.hold(held);
+        return HAS_MAP;
+    }
+    match Box::new(alloc, NumberRoutes::new(alloc)) {
+        Ok(made) => {
+            table.hold(made);
+            NONE
+        }
+        Err(_) => NO_MEMORY,
+    }
+}
+
+/// Frees the table, if there is one. The handle then holds none.
+#[unsafe(no_mangle)]
+pub extern "C" fn art_routes_free(alloc: Global, table: &mut RoutesHandle)
+    ensures { table.new.held ≡ None }
+{
+    drop(table.take(alloc));
+}
+
+/// The number of routes, 0 where there is no table.
+#[unsafe(no_mangle)]
+pub extern "C" fn art_routes_len(table: &mut RoutesView) -> usize
+    ensures len { result ≡ length (entries_of table.old.seen) }
+    ensures same { table.new ≡ table.old }
+{
+    let Some(held) = table.lent() else {
+        return 0;
+    };
+    let len = held.len();
+    len
+}
+
+/// Removes all routes.
+#[unsafe(no_mangle)]
+pub extern "C" fn art_routes_clear(table: &mut RoutesHandle)
+    ensures { table.new.held ≡ option_map (λ _. []) table.old.held }
+{
+    let Some(held) = table.lent_mut() else {
+        return;
+    };
+    held.clear();
+}
+
+/// Reserves memory for more routes.
+#[unsafe(no_mangle)]
+pub extern "C" fn art_routes_reserve(table: &mut RoutesHandle, additional: usize) -> u32
+    ensures no_map { (result ≡ ART_NO_MAP) ↔ (table.old.held ≡ None) }
+    ensures status { IsDone result → result ≡ ART_NONE }
+    ensures same_routes { table.new.held ≡ table.old.held }
+{
+    let Some(held) = table.lent_mut() else {
+        return NO_MAP;
+    };
+    let reserved = held.reserve(additional);
+    match reserved {
+        Ok(_) => NONE,
+        Err(_) => NO_MEMORY,
+    }
+}
+
+/// Puts the routes into memory in their order, with room for just them.
+#[unsafe(no_mangle)]
+pub extern "C" fn art_routes_compact(table: &mut RoutesHandle) -> u32
+    ensures no_map { (result ≡ ART_NO_MAP) ↔ (table.old.held ≡ None) }
+    ensures status { IsDone result → result ≡ ART_NONE }
+    ensures same_routes { table.new.held ≡ table.old.held }
+{
+    let Some(held) = table.lent_mut() else {
+        return NO_MAP;
+    };
+    let compacted = held.compact();
+    match compacted {
+        Ok(_) => NONE,
+        Err(_) => NO_MEMORY,
+    }
+}
+
+/// Sets the value of the route to a network, and writes out the one that it had.
+#[unsafe(no_mangle)]
+pub extern "C" fn art_routes_insert(
+    table: &mut RoutesHandle,
+    address: &[u8],
+    length: u8,
+    value: u64,
+    before: &mut u64,
+) -> u32
+    ensures no_map { (result ≡ ART_NO_MAP) ↔ (table.old.held ≡ None) }
+    ensures bad_network { result ≢ ART_NO_MAP →
+        (result ≡ ART_BAD_NETWORK) ↔ (is_network address.now length ≡ false) }
+    ensures routes { IsRouted result →
+        table.new.held ≡ Some (put_route (entries_of table.old.held) (network_in address.now length) value) }
+    ensures status { IsRouted result →
+        result ≡ status_of (value_of (entries_of table.old.held) (network_in address.now length)) }
+    ensures before { IsRouted result → before.new
+        ≡ found_or (value_of (entries_of table.old.held) (network_in address.now length)) before.old }
+    ensures refused { IsUnrouted result →
+        (table.new.held ≡ table.old.held) × (before.new ≡ before.old) }
+{
+    let Some(held) = table.lent_mut() else {
+        return NO_MAP;
+    };
+    let inserted = held.insert(address, length, value);
+    match inserted {
+        Ok(found) => value_status(found, before),
+        Err(Refusal::BadNetwork) => BAD_NETWORK,
+        Err(Refusal::OutOfMemory) => NO_MEMORY,
+    }
+}
+
+/// Finds the value of the route to a network.
+#[unsafe(no_mangle)]
+pub extern "C" fn art_routes_get(
+    table: &mut RoutesView,
+    address: &[u8],
+    length: u8,
+    value: &mut u64,
+) -> u32
+    ensures no_map { (result ≡ ART_NO_MAP) ↔ (table.old.seen ≡ None) }
+    ensures bad_network { result ≢ ART_NO_MAP →
+        (result ≡ ART_BAD_NETWORK) ↔ (is_network address.now length ≡ false) }
+    ensures status { (result ≢ ART_NO_MAP) × (result ≢ ART_BAD_NETWORK) →
+        result ≡ status_of (value_of (entries_of table.old.seen) (network_in address.now length)) }
+    ensures value { (result ≢ ART_NO_MAP) × (result ≢ ART_BAD_NETWORK) → value.new
+        ≡ found_or (value_of (entries_of table.old.seen) (network_in address.now length)) value.old }
+    ensures refused { (result ≡ ART_NO_MAP) ⊎ (result ≡ ART_BAD_NETWORK) → value.new ≡ value.old }
+    ensures same { table.new ≡ table.old }
+{
+    let Some(held) = table.lent() else {
+        return NO_MAP;
+    };
+    let found = held.get(address, length);
+    match found {
+        Ok(found) => value_status(found, value),
+        Err(_) => BAD_NETWORK,
+    }
+}
+
+/// Removes the route to a network, and writes out its value.
+#[unsafe(no_mangle)]
+pub extern "C" fn art_routes_remove(
+    table: &mut RoutesHandle,
+    address: &[u8],
+    length: u8,
+    value: &mut u64,
+) -> u32
+    ensures no_map { (result ≡ ART_NO_MAP) ↔ (table.old.held ≡ None) }
+    ensures bad_network { result ≢ ART_NO_MAP →
+        (result ≡ ART_BAD_NETWORK) ↔ (is_network address.now length ≡ false) }
+    ensures routes { IsRouted result →
+        table.new.held ≡ Some (without_route (entries_of table.old.held) (network_in address.now length)) }
+    ensures status { IsRouted result →
+        result ≡ status_of (value_of (entries_of table.old.held) (network_in address.now length)) }
+    ensures value { IsRouted result → value.new
+        ≡ found_or (value_of (entries_of table.old.held) (network_in address.now length)) value.old }
+    ensures refused { IsUnrouted result →
+        (table.new.held ≡ table.old.held) × (value.new ≡ value.old) }
+{
+    let Some(held) = table.lent_mut() else {
+        return NO_MAP;
+    };
+    let removed = held.remove(address, length);
+    match removed {
+        Ok(found) => value_status(found, value),
+        Err(Refusal::BadNetwork) => BAD_NETWORK,
+        Err(Refusal::OutOfMemory) => NO_MEMORY,
+    }
+}
+
+/// Finds the longest route whose network contains an address, and writes out its length and its value.
+#[unsafe(no_mangle)]
+pub extern "C" fn art_routes_longest_match(
+    table: &mut RoutesView,
+    address: &[u8],
+    length: &mut u8,
+    value: &mut u64,
+) -> u32
+    ensures no_map { (result ≡ ART_NO_MAP) ↔ (table.old.seen ≡ None) }
+    ensures bad_address { result ≢ ART_NO_MAP →
+        (result ≡ ART_BAD_NETWORK) ↔ (is_address address.now ≡ false) }
+    ensures status { (result ≢ ART_NO_MAP) × (result ≢ ART_BAD_NETWORK) →
+        (result ≡ ART_SOME) ⊎ (result ≡ ART_NONE) }
+    ensures longest { result ≡ ART_SOME → IsLongest (entries_of table.old.seen) (address_in address.now)
+        (network_around (address_in address.now) length.new, value.new) }
+    ensures none { result ≡ ART_NONE → NoneContains (entries_of table.old.seen) (address_in address.now) }
+    ensures unchanged { result ≢ ART_SOME → (length.new ≡ length.old) × (value.new ≡ value.old) }
+    ensures same { table.new ≡ table.old }
+{
+    let Some(held) = table.lent() else {
+        return NO_MAP;
+    };
+    let found = held.longest_match(address);
+    match found {
+        Ok(Some((found_length, found_value))) => {
+            *length = found_length;
+            *value = found_value;
+            SOME
+        }
+        Ok(None) => NONE,
+        Err(_) => BAD_NETWORK,
+    }
+}
+
+/// Looks up many addresses of `width` bytes each, as many as the shortest of the arrays holds: the length and the
+/// value of the longest route that contains each of them, or 255 and the value that was there where none does.
+/// Writes out how many were looked up.
+#[unsafe(no_mangle)]
+pub extern "C" fn art_routes_longest_match_many(
+    table: &mut RoutesView,
+    addresses: &[u8],
+    width: usize,
+    lengths: &mut [u8],
+    values: &mut [u64],
+    count: &mut usize,
+) -> u32
+    ensures no_map { (result ≡ ART_NO_MAP) ↔ (table.old.seen ≡ None) }
+    ensures bad_width { result ≢ ART_NO_MAP → (result ≡ ART_BAD_NETWORK) ↔ (is_width width ≡ false) }
+    ensures status { (result ≢ ART_NO_MAP) × (result ≢ ART_BAD_NETWORK) → result ≡ ART_NONE }
+    ensures count { result ≡ ART_NONE →
+        count.new ≡ min (length addresses.now / width) (min (length lengths.old) (length values.old)) }
+    ensures matches { result ≡ ART_NONE → (i : ℕ) → i < count.new → IsMatched (entries_of table.old.seen)
+        (address_in (take width (drop (i * width) addresses.now))) (get_or values.old i 0)
+        (get_or lengths.new i 0, get_or values.new i 0) }
+    ensures others { result ≡ ART_NONE → (drop count.new lengths.new ≡ drop count.new lengths.old)
+        × (drop count.new values.new ≡ drop count.new values.old) }
+    ensures refused { (result ≡ ART_NO_MAP) ⊎ (result ≡ ART_BAD_NETWORK) →
+        (lengths.new ≡ lengths.old) × (values.new ≡ values.old) × (count.new ≡ count.old) }
+    ensures same { table.new ≡ table.old }
+{
+    let Some(held) = table.lent() else {
+        return NO_MAP;
+    };
+    let looked_up = held.longest_match_many(addresses, width, lengths, values);
+    match looked_up {
+        Some(done) => {
+            *count = done;
+            NONE
+        }
+        None => BAD_NETWORK,
+    }
+}
+
+/// Finds the first route at a network or after it, in the order of networks.
+#[unsafe(no_mangle)]
+pub extern "C" fn art_routes_next(
+    table: &mut RoutesView,
+    from: &[u8],
+    from_bits: u8,
+    inclusive: bool,
+    address_out: &mut [u8],
+    width: &mut usize,
+    bits: &mut u8,
+    value: &mut u64,
+) -> u32
+    ensures no_map { (result ≡ ART_NO_MAP) ↔ (table.old.seen ≡ None) }
+    ensures bad_network { result ≢ ART_NO_MAP →
+        (result ≡ ART_BAD_NETWORK) ↔ (is_network from.now from_bits ≡ false) }
+    ensures status { (result ≢ ART_NO_MAP) × (result ≢ ART_BAD_NETWORK) → result ≡ route_status
+        (first_of (routes_from inclusive (network_in from.now from_bits) (entries_of table.old.seen)))
+        (length address_out.old) }
+    ensures address { (result ≢ ART_NO_MAP) × (result ≢ ART_BAD_NETWORK) → address_out.new ≡ address_written
+        (first_of (routes_from inclusive (network_in from.now from_bits) (entries_of table.old.seen)))
+        address_out.old }
+    ensures width { (result ≢ ART_NO_MAP) × (result ≢ ART_BAD_NETWORK) → width.new ≡ width_or
+        (first_of (routes_from inclusive (network_in from.now from_bits) (entries_of table.old.seen)))
+        width.old }
+    ensures bits { (result ≢ ART_NO_MAP) × (result ≢ ART_BAD_NETWORK) → bits.new ≡ length_in
+        (first_of (routes_from inclusive (network_in from.now from_bits) (entries_of table.old.seen)))
+        (length address_out.old) bits.old }
+    ensures value { (result ≢ ART_NO_MAP) × (result ≢ ART_BAD_NETWORK) → value.new ≡ route_value_in
+        (first_of (routes_from inclusive (network_in from.now from_bits) (entries_of table.old.seen)))
+        (length address_out.old) value.old }
+    ensures refused { (result ≡ ART_NO_MAP) ⊎ (result ≡ ART_BAD_NETWORK) → (address_out.new ≡ address_out.old)
+        × (width.new ≡ width.old) × (bits.new ≡ bits.old) × (value.new ≡ value.old) }
+    ensures same { table.new ≡ table.old }
+{
+    let Some(held) = table.lent() else {
+        return NO_MAP;
+    };
+    let room = address_out.len();
+    let found = held.next(from, from_bits, inclusive, address_out);
+    match found {
+        Ok(found) => found_status(found, room, width, bits, value),
+        Err(_) => BAD_NETWORK,
+    }
+}
+
+/// Writes out the lengths and the values of the routes to a network and to those around it, the longest first, as
+/// many as the shorter of both arrays holds, and how many.
+#[unsafe(no_mangle)]
+pub extern "C" fn art_routes_covering(
+    table: &mut RoutesView,
+    address: &[u8],
+    bits: u8,
+    lengths: &mut [u8],
+    values: &mut [u64],
+    count: &mut usize,
+) -> u32
+    ensures no_map { (result ≡ ART_NO_MAP) ↔ (table.old.seen ≡ None) }
+    ensures bad_network { result ≢ ART_NO_MAP →
+        (result ≡ ART_BAD_NETWORK) ↔ (is_network address.now bits ≡ false) }
+    ensures status { (result ≢ ART_NO_MAP) × (result ≢ ART_BAD_NETWORK) → result ≡ ART_NONE }
+    ensures count { result ≡ ART_NONE → count.new ≡ length (take (min (length lengths.old) (length values.old))
+        (covering (network_in address.now bits) (entries_of table.old.seen))) }
+    ensures lengths { result ≡ ART_NONE → lengths.new ≡ begun_with (lengths_of
+        (take (min (length lengths.old) (length values.old)) (covering (network_in address.now bits) (entries_of table.old.seen)))) lengths.old }
+    ensures values { result ≡ ART_NONE → values.new ≡ begun_with (values_of
+        (take (min (length lengths.old) (length values.old)) (covering (network_in address.now bits) (entries_of table.old.seen)))) values.old }
+    ensures refused { (result ≡ ART_NO_MAP) ⊎ (result ≡ ART_BAD_NETWORK) →
+        (lengths.new ≡ lengths.old) × (values.new ≡ values.old) × (count.new ≡ count.old) }
+    ensures same { table.new ≡ table.old }
+{
+    let Some(held) = table.lent() else {
+        return NO_MAP;
+    };
+    let written = held.covering(address, bits, lengths, values);
+    match written {
+        Some(done) => {
+            *count = done;
+            NONE
+        }
+        None => BAD_NETWORK,
+    }
+}
