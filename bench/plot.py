@@ -134,7 +134,7 @@ def drawing(title, below, blocks):
 
 
 def draw_tree(speed):
-    columns = columns_of([call for call in tree.CALLS if call != "order"], ["get", "iterate", "range", "bytes"])
+    columns = columns_of([call for call in tree.CALLS if call not in ("order", "peak")], ["get", "iterate", "range", "bytes"])
     values = values_of(speed, "tree")
     ratios = {keys: ratios_of(sizes, tree.OURS, tree.THEIRS, columns) for keys, sizes in values.items()}
     title = "ArtMap beside BTreeMap of Rattle's std"

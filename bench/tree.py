@@ -4,7 +4,8 @@ Inserts in random order, look-ups in another, of absent keys too, a visit of all
 with a prefix (a hundredth as many of each as there are entries), removals. All but inserts once more on a map that was
 compacted, on one whose entries were put into order, and on one that got its entries at once, which is its `insert`;
 `order` is what putting them into order took, for an entry.
-Memory is the anonymous pages of a process with the entries beyond those of one that has the keys alone.
+Memory is the anonymous pages of a process with the entries beyond those of one that has the keys alone, and `peak` the
+most that it had resident until then, beyond the same.
 """
 
 import pathlib
@@ -18,7 +19,7 @@ OURS, COMPACTED, ORDERED, COLLECTED, THEIRS = MAPS = [
     "`ArtMap`", "`ArtMap`, compacted", "`ArtMap`, ordered", "`ArtMap`, from entries", "`BTreeMap` of Rattle"
 ]
 MODES = {OURS: "time", COMPACTED: "compacted", ORDERED: "ordered", COLLECTED: "collected"}  # of bench_tree
-CALLS = ["insert", "order", "get", "miss", "remove", "iterate", "range", "prefix", "bytes"]
+CALLS = ["insert", "order", "get", "miss", "remove", "iterate", "range", "prefix", "bytes", "peak"]
 ENTRIES_FOR_ONE = {"range": 100, "prefix": 100}  # of these calls one is made for so many entries
 # How many times what `BTreeMap` takes a call may take, of some keys: the target at each size.
 TARGETS = [
@@ -57,15 +58,16 @@ def times_of(program, mode, shape, size):
         yield call, int(ours) / calls, int(theirs) / calls
 
 
-def held_bytes(program, shape, size, what):
-    """The memory of a process that holds these entries, without what it maps from files."""
+def memory_of(program, shape, size, what):
+    """The memory of a process that holds these entries, without what it maps from files, and the most that it had."""
     words = [program, "hold", shape, str(size), what]
     with subprocess.Popen(words, stdin=subprocess.PIPE, stdout=subprocess.PIPE) as child:
         if child.stdout.readline() != b"refused 0\n":
             fail(f"tree: {shape}, {size} entries: no {what} could be held")
-        pages = pathlib.Path(f"/proc/{child.pid}/smaps_rollup").read_text()
+        process = pathlib.Path("/proc", str(child.pid))
+        taken = (process / "smaps_rollup").read_text() + (process / "status").read_text()
         child.stdin.close()
-    return int(re.search(r"^Anonymous:\s+(\d+)", pages, re.MULTILINE)[1]) * 1024
+    return [int(re.search(rf"^{it}:\s+(\d+)", taken, re.MULTILINE)[1]) * 1024 for it in ("Anonymous", "VmHWM")]
 
 
 def once(program, shape, size, turn):
@@ -77,9 +79,10 @@ def once(program, shape, size, turn):
             if which == OURS:
                 yield THEIRS, call, theirs
     if turn == 0:
-        keys_alone = held_bytes(program, shape, size, "nothing")
+        keys_alone = memory_of(program, shape, size, "nothing")
         for which, what in {**MODES, THEIRS: "map"}.items():
-            yield which, "bytes", (held_bytes(program, shape, size, what) - keys_alone) / size
+            for call, held, alone in zip(["bytes", "peak"], memory_of(program, shape, size, what), keys_alone):
+                yield which, call, (held - alone) / size
 
 
 def targets(values):
