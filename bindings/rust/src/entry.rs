@@ -1,10 +1,12 @@
 //! The place of a key in a map, with its entry or without one.
 use crate::boxed::{address, Map};
 use crate::key::Key;
-use crate::refusal::granted;
+use crate::refusal::{granted, Refusal};
 use crate::words::{Shown, WordMap};
+use std::marker::PhantomData;
 use std::ops::{Deref, DerefMut};
-use std::{fmt, mem};
+use std::ptr::NonNull;
+use std::{fmt, mem, thread};
 
 /// The place of a key in a [`Map`].
 #[derive(Debug)]
@@ -249,11 +251,66 @@ impl<K: Key> OccupiedWord<'_, K> {
     }
 }
 
+/// A [`WordMap`] that is borrowed mutably, by an iterator and all guards that it gave. Neither `Send` nor `Sync`: two threads
+/// would write the map at once.
+pub(crate) struct Lent<'a, K: Key> {
+    // No reference: each of several writes by this one.
+    map: NonNull<WordMap<K>>,
+    borrowed: PhantomData<&'a mut WordMap<K>>,
+}
+
+impl<'a, K: Key> Lent<'a, K> {
+    pub(crate) fn new(map: &'a mut WordMap<K>) -> Self {
+        Lent { map: NonNull::from(map), borrowed: PhantomData }
+    }
+
+    /// Looks at the map, by a closure that calls no code of users, which could drop a guard.
+    pub(crate) fn look<T>(self, look: impl FnOnce(&WordMap<K>) -> T) -> T {
+        // SAFETY: the map is borrowed as long, by copies of this alone and in one thread, and none of them is used while this
+        // reference lives.
+        look(unsafe { self.map.as_ref() })
+    }
+
+    fn put(mut self, key: &K::Sought, value: u64) -> Result<Option<u64>, Refusal> {
+        // SAFETY: as for `look`.
+        unsafe { self.map.as_mut() }.put(key, value)
+    }
+}
+
+impl<K: Key> Clone for Lent<'_, K> {
+    fn clone(&self) -> Self {
+        *self
+    }
+}
+
+impl<K: Key> Copy for Lent<'_, K> {}
+
 /// A value of a [`WordMap`], to be changed: where it was, it is written to the map when this is dropped. That panics where
-/// memory for the key is refused; the map then has the value of before.
+/// memory for the key is refused, unless the thread is panicking already; the map then has the value of before. So it has where
+/// this is given to [`mem::forget`]: the change is lost.
+///
+/// Those that an iterator gave may be alive at once, and be dropped in any order. As all of them write to one map, neither
+/// they nor their iterators go to another thread:
+///
+/// ```compile_fail,E0277
+/// fn sent(_: impl Send) {}
+/// sent(verified_art::NumberMap::new().values_mut().next());
+/// ```
 pub struct ValueMut<'a, K: Key> {
-    pub(crate) entry: OccupiedWord<'a, K>,
-    pub(crate) value: u64,
+    map: Lent<'a, K>,
+    key: K,
+    before: u64,
+    value: u64,
+}
+
+impl<'a, K: Key> ValueMut<'a, K> {
+    pub(crate) fn new(map: Lent<'a, K>, key: K, value: u64) -> Self {
+        ValueMut { map, key, before: value, value }
+    }
+
+    pub(crate) fn with_key(self) -> (K, Self) {
+        (self.key.clone(), self)
+    }
 }
 
 impl<K: Key> Deref for ValueMut<'_, K> {
@@ -272,8 +329,13 @@ impl<K: Key> DerefMut for ValueMut<'_, K> {
 
 impl<K: Key> Drop for ValueMut<'_, K> {
     fn drop(&mut self) {
-        if self.value != self.entry.value {
-            self.entry.insert(self.value);
+        if self.value == self.before {
+            return;
+        }
+        let written = self.map.put(self.key.sought(), self.value);
+        // Where one of several guards has panicked, the next one would end the process.
+        if !thread::panicking() {
+            granted(written);
         }
     }
 }

@@ -32,7 +32,9 @@ pub mod iter {
         Iter as MapIter, IterMut as MapIterMut, Range as MapRange, RangeMut as MapRangeMut, Values as MapValues,
         ValuesMut as MapValuesMut,
     };
-    pub use crate::range::{ExtractIf, IntoIter, IntoKeys, IntoValues, Iter, Keys, Range, Values};
+    pub use crate::range::{
+        ExtractIf, IntoIter, IntoKeys, IntoValues, Iter, IterMut, Keys, Range, RangeMut, Values, ValuesMut,
+    };
     pub use crate::routes::{Cover as RouteCover, Iter as RouteIter, IterMut as RouteIterMut};
 }
 

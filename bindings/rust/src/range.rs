@@ -1,4 +1,5 @@
-//! Iterators over words. The last key is the cursor, and the map cannot change while one is borrowed from it.
+//! Iterators over words. The last key is the cursor, and no key comes or goes while one is borrowed from the map.
+use crate::entry::{Lent, ValueMut};
 use crate::key::{Find, Key, Toward};
 use crate::refusal::{granted, Refusal};
 use crate::words::{Shown, WordMap};
@@ -113,25 +114,49 @@ impl<K: Key> DoubleEndedIterator for Range<'_, K> {
 
 impl<K: Key> FusedIterator for Range<'_, K> {}
 
-/// All entries of a map, from either end.
+/// The values between two bounds, from either end, each in a guard. A copy, which gives each once more, is only to be shown.
 #[derive(Clone)]
-pub struct Iter<'a, K: Key> {
-    entries: Range<'a, K>,
-    left: usize,
+struct Guards<'a, K: Key> {
+    map: Lent<'a, K>,
+    cursor: Cursor<K>,
 }
 
-impl<'a, K: Key> Iter<'a, K> {
-    pub(crate) fn new(map: &'a WordMap<K>) -> Self {
-        Iter { entries: Range::new(map, Cursor::all()), left: map.len() }
+impl<'a, K: Key> Guards<'a, K> {
+    fn guard(&self, (key, value): (K, u64)) -> ValueMut<'a, K> {
+        ValueMut::new(self.map, key, value)
     }
 }
 
-impl<K: Key> Iterator for Iter<'_, K> {
-    type Item = (K, u64);
+impl<'a, K: Key> Iterator for Guards<'a, K> {
+    type Item = ValueMut<'a, K>;
 
-    fn next(&mut self) -> Option<(K, u64)> {
-        let next = if self.left == 0 { None } else { self.entries.next() };
-        self.left = self.left.saturating_sub(1);
+    fn next(&mut self) -> Option<ValueMut<'a, K>> {
+        granted(self.map.look(|map| self.cursor.try_next(map))).map(|entry| self.guard(entry))
+    }
+}
+
+impl<K: Key> DoubleEndedIterator for Guards<'_, K> {
+    fn next_back(&mut self) -> Option<Self::Item> {
+        granted(self.map.look(|map| self.cursor.try_next_back(map))).map(|entry| self.guard(entry))
+    }
+}
+
+/// An iterator over all entries of a map, with how many are left.
+#[derive(Clone)]
+struct Counted<I> {
+    entries: I,
+    left: usize,
+}
+
+impl<I: Iterator> Iterator for Counted<I> {
+    type Item = I::Item;
+
+    fn next(&mut self) -> Option<I::Item> {
+        if self.left == 0 {
+            return None;
+        }
+        let next = self.entries.next();
+        self.left -= 1;
         next
     }
 
@@ -140,16 +165,16 @@ impl<K: Key> Iterator for Iter<'_, K> {
     }
 }
 
-impl<K: Key> DoubleEndedIterator for Iter<'_, K> {
-    fn next_back(&mut self) -> Option<(K, u64)> {
-        let next = if self.left == 0 { None } else { self.entries.next_back() };
-        self.left = self.left.saturating_sub(1);
+impl<I: DoubleEndedIterator> DoubleEndedIterator for Counted<I> {
+    fn next_back(&mut self) -> Option<I::Item> {
+        if self.left == 0 {
+            return None;
+        }
+        let next = self.entries.next_back();
+        self.left -= 1;
         next
     }
 }
-
-impl<K: Key> ExactSizeIterator for Iter<'_, K> {}
-impl<K: Key> FusedIterator for Iter<'_, K> {}
 
 /// The entries of a map by value, from either end: each is removed as it is given.
 pub struct IntoIter<K: Key>(pub(crate) WordMap<K>);
@@ -188,11 +213,19 @@ macro_rules! gives {
             fn size_hint(&self) -> (usize, Option<usize>) {
                 self.0.size_hint()
             }
+
+            fn nth(&mut self, skipped: usize) -> Option<$item> {
+                self.0.nth(skipped).map($part)
+            }
         }
 
         impl<$($generics)*> DoubleEndedIterator for $name {
             fn next_back(&mut self) -> Option<$item> {
                 self.0.next_back().map($part)
+            }
+
+            fn nth_back(&mut self, skipped: usize) -> Option<$item> {
+                self.0.nth_back(skipped).map($part)
             }
         }
 
@@ -209,6 +242,42 @@ macro_rules! gives_all {
 }
 
 pub(crate) use {gives, gives_all};
+
+/// All entries of a map, from either end.
+#[derive(Clone)]
+pub struct Iter<'a, K: Key>(Counted<Range<'a, K>>);
+gives_all!(['a, K: Key] Iter<'a, K> => (K, u64), |entry| entry);
+
+impl<'a, K: Key> Iter<'a, K> {
+    pub(crate) fn new(map: &'a WordMap<K>) -> Self {
+        Iter(Counted { entries: Range::new(map, Cursor::all()), left: map.len() })
+    }
+}
+
+/// The entries between two bounds, from either end, with values that can be changed.
+pub struct RangeMut<'a, K: Key>(Guards<'a, K>);
+gives!(['a, K: Key] RangeMut<'a, K> => (K, ValueMut<'a, K>), ValueMut::with_key);
+
+impl<'a, K: Key> RangeMut<'a, K> {
+    pub(crate) fn new(map: &'a mut WordMap<K>, cursor: Cursor<K>) -> Self {
+        RangeMut(Guards { map: Lent::new(map), cursor })
+    }
+}
+
+/// The values of a map, from either end, to be changed.
+pub struct ValuesMut<'a, K: Key>(Counted<Guards<'a, K>>);
+gives_all!(['a, K: Key] ValuesMut<'a, K> => ValueMut<'a, K>, |value| value);
+
+impl<'a, K: Key> ValuesMut<'a, K> {
+    pub(crate) fn new(map: &'a mut WordMap<K>) -> Self {
+        let left = map.len();
+        ValuesMut(Counted { entries: Guards { map: Lent::new(map), cursor: Cursor::all() }, left })
+    }
+}
+
+/// All entries of a map, from either end, with values that can be changed.
+pub struct IterMut<'a, K: Key>(pub(crate) ValuesMut<'a, K>);
+gives_all!(['a, K: Key] IterMut<'a, K> => (K, ValueMut<'a, K>), ValueMut::with_key);
 
 /// The keys of a map, from either end.
 #[derive(Clone)]
@@ -282,6 +351,27 @@ impl<K: Key> fmt::Debug for Keys<'_, K> {
 impl<K: Key> fmt::Debug for Values<'_, K> {
     fn fmt(&self, out: &mut fmt::Formatter<'_>) -> fmt::Result {
         out.debug_list().entries(self.clone()).finish()
+    }
+}
+
+// By copies, and by no reference to the map: what the text is written to may drop guards.
+impl<K: Key> fmt::Debug for RangeMut<'_, K> {
+    fn fmt(&self, out: &mut fmt::Formatter<'_>) -> fmt::Result {
+        let copy = RangeMut(self.0.clone());
+        out.debug_list().entries(copy.map(|(key, value)| (Shown(key), value))).finish()
+    }
+}
+
+impl<K: Key> fmt::Debug for IterMut<'_, K> {
+    fn fmt(&self, out: &mut fmt::Formatter<'_>) -> fmt::Result {
+        let copy = IterMut(ValuesMut(self.0 .0.clone()));
+        out.debug_list().entries(copy.map(|(key, value)| (Shown(key), value))).finish()
+    }
+}
+
+impl<K: Key> fmt::Debug for ValuesMut<'_, K> {
+    fn fmt(&self, out: &mut fmt::Formatter<'_>) -> fmt::Result {
+        out.debug_list().entries(self.0.clone()).finish()
     }
 }
 

@@ -1,7 +1,9 @@
 use crate::bounds::KeyBounds;
-use crate::entry::{OccupiedWord, VacantWord, ValueMut, WordEntry};
+use crate::entry::{Lent, OccupiedWord, VacantWord, ValueMut, WordEntry};
 use crate::key::{AsKey, Find, Key, Many, Toward};
-use crate::range::{Cursor, ExtractIf, IntoIter, IntoKeys, IntoValues, Iter, Keys, Range, Values};
+use crate::range::{
+    Cursor, ExtractIf, IntoIter, IntoKeys, IntoValues, Iter, IterMut, Keys, Range, RangeMut, Values, ValuesMut,
+};
 use crate::raw::{self, RawMap};
 use crate::refusal::{found, granted, Refusal};
 use std::cmp::Ordering;
@@ -193,7 +195,7 @@ impl<K: Key> WordMap<K> {
     pub fn get_mut(&mut self, key: impl AsKey<K>) -> Option<ValueMut<'_, K>> {
         let key = key.as_key();
         let value = granted(self.look(key))?;
-        Some(ValueMut { entry: OccupiedWord { map: self, key: key.to_owned(), value }, value })
+        Some(ValueMut::new(Lent::new(self), key.to_owned(), value))
     }
 
     /// The key, as the map has it, and its value.
@@ -340,9 +342,27 @@ impl<K: Key> WordMap<K> {
         Range::new(self, Cursor::new(bounds.ends()))
     }
 
+    /// The same, with values that can be changed: each is written to the map when its guard is dropped.
+    ///
+    /// ```
+    /// let mut squares = verified_art::NumberMap::from([(1u64, 1), (2, 4), (3, 9)]);
+    /// for (_, mut square) in squares.range_mut(2..) {
+    ///     *square += 1;
+    /// }
+    /// assert!(squares.values().eq([1, 5, 10]));
+    /// ```
+    pub fn range_mut(&mut self, bounds: impl KeyBounds<K>) -> RangeMut<'_, K> {
+        RangeMut::new(self, Cursor::new(bounds.ends()))
+    }
+
     /// All entries, in ascending order of their keys.
     pub fn iter(&self) -> Iter<'_, K> {
         Iter::new(self)
+    }
+
+    /// The same, with values that can be changed: each is written to the map when its guard is dropped.
+    pub fn iter_mut(&mut self) -> IterMut<'_, K> {
+        IterMut(self.values_mut())
     }
 
     /// All keys, in ascending order.
@@ -353,6 +373,11 @@ impl<K: Key> WordMap<K> {
     /// All values, in ascending order of their keys.
     pub fn values(&self) -> Values<'_, K> {
         Values(self.iter())
+    }
+
+    /// The same, to be changed: each is written to the map when its guard is dropped.
+    pub fn values_mut(&mut self) -> ValuesMut<'_, K> {
+        ValuesMut::new(self)
     }
 
     /// All keys, in ascending order, by value.
@@ -499,6 +524,15 @@ impl<'a, K: Key> IntoIterator for &'a WordMap<K> {
 
     fn into_iter(self) -> Iter<'a, K> {
         self.iter()
+    }
+}
+
+impl<'a, K: Key> IntoIterator for &'a mut WordMap<K> {
+    type Item = (K, ValueMut<'a, K>);
+    type IntoIter = IterMut<'a, K>;
+
+    fn into_iter(self) -> IterMut<'a, K> {
+        self.iter_mut()
     }
 }
 

@@ -1,7 +1,7 @@
 //! A million random calls of each map beside `BTreeMap`: what each returns, and the entries at the end.
 mod common;
 
-use common::Random;
+use common::{change_both, Random};
 use std::collections::BTreeMap;
 use std::fmt::Debug;
 use std::ops::Bound;
@@ -76,12 +76,16 @@ where
                 let other = any_key(&mut random);
                 let (start, end) = (bound(&mut random, key), bound(&mut random, other));
                 let most = random.below(40);
-                if is_range(&start, &end) {
+                if is_range(&start, &end) && random.coin() {
+                    let theirs = model.range_mut((start.clone(), end.clone()));
+                    change_both(&mut random, most, map.range_mut((start, end)), theirs);
+                } else if is_range(&start, &end) {
                     let theirs = model.range((start.clone(), end.clone())).map(|(key, value)| (key.clone(), *value));
                     walk_both(&mut random, most, map.range((start.clone(), end.clone())), theirs);
                 } else {
                     assert_eq!(map.range((start.clone(), end.clone())).next(), None);
-                    assert_eq!(map.range((start, end)).next_back(), None);
+                    assert_eq!(map.range((start.clone(), end.clone())).next_back(), None);
+                    assert!(map.range_mut((start, end)).next().is_none());
                 }
             }
         }
@@ -97,6 +101,7 @@ where
         }
     }
     walk_both(&mut random, u64::MAX, map.iter(), model.iter().map(|(key, value)| (key.clone(), *value)));
+    change_both(&mut random, u64::MAX, map.iter_mut(), model.iter_mut());
     let copy = map.clone();
     assert_eq!(copy, map);
     walk_both(&mut random, u64::MAX, copy.into_iter(), model.clone().into_iter());

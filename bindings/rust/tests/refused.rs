@@ -1,6 +1,7 @@
 //! Refused memory, and keys that are too long: the map is as it was, and can be used on.
 //!
 //! One test, since the limit holds for the whole process.
+use std::panic::{catch_unwind, AssertUnwindSafe};
 use verified_art::{ByteMap, Map, NumberMap, Refusal};
 
 #[repr(C)]
@@ -38,6 +39,8 @@ fn refused_memory_changes_nothing() {
     let mut values = Map::<String>::from([("tin", "Sn".to_string())]);
     let mut numbers = NumberMap::from([(1u64, 2)]);
     let long = vec![0; 1 << 28];
+    let mut longs = ByteMap::from([1, 2, 3].map(|byte| (vec![byte; 33 << 20], 0)));
+    let mut guards: Vec<_> = longs.values_mut().collect();
     let before = limit_memory(1 << 26);
     assert_eq!(map.try_put(&long, 1), Err(Refusal::OutOfMemory));
     assert_eq!(map.try_get(&long), Err(Refusal::OutOfMemory));
@@ -45,12 +48,20 @@ fn refused_memory_changes_nothing() {
     assert_eq!(map.try_reserve(1 << 32), Err(Refusal::OutOfMemory));
     assert_eq!(numbers.try_reserve(1 << 32), Err(Refusal::OutOfMemory));
     assert_eq!(values.try_put(&long, "lost".to_string()), Err(("lost".to_string(), Refusal::OutOfMemory)));
+    // A guard takes memory for its key, where it is to write. The first one frees its own, so the limit is set again.
+    limit_memory(1 << 24);
+    let read = guards.pop();
+    guards.iter_mut().for_each(|value| **value += 1);
+    assert!(catch_unwind(AssertUnwindSafe(|| drop(guards))).is_err());
+    limit_memory(1 << 24);
+    drop(read);
     // SAFETY: as above.
     assert_eq!(unsafe { setrlimit(RLIMIT_AS, &before) }, 0);
     assert_eq!(map, ByteMap::from([("tin", 50), ("gold", 79)]));
     assert_eq!(map.insert("tin", 51), Some(50));
     assert_eq!(values["tin"], "Sn");
     assert_eq!(numbers.insert(1, 3), Some(2));
+    assert!(longs.values().eq([0, 0, 0]));
 }
 
 #[test]

@@ -1,16 +1,17 @@
 //! The calls that `BTreeMap` has too, each beside it.
 mod common;
 
-use common::Random;
+use common::{change_both, Random};
 use std::collections::hash_map::DefaultHasher;
 use std::collections::BTreeMap;
 use std::fmt::Debug;
 use std::hash::{Hash, Hasher};
 use std::iter::FusedIterator;
-use verified_art::entry::{Entry, WordEntry};
+use std::marker::PhantomData;
+use verified_art::entry::{Entry, ValueMut, WordEntry};
 use verified_art::iter::{
-    IntoIter, IntoKeys, IntoValues, Iter, Keys, MapIntoIter, MapIntoKeys, MapIntoValues, MapIter, MapIterMut, MapRange,
-    MapRangeMut, MapValues, MapValuesMut, Range, Values,
+    IntoIter, IntoKeys, IntoValues, Iter, IterMut, Keys, MapIntoIter, MapIntoKeys, MapIntoValues, MapIter, MapIterMut,
+    MapRange, MapRangeMut, MapValues, MapValuesMut, Range, RangeMut, Values, ValuesMut,
 };
 use verified_art::{AsKey, ByteMap, Key, Map, NumberMap, Refusal, WordMap};
 
@@ -380,6 +381,73 @@ fn keys_and_values() {
     parts_of_words::<Vec<u8>>();
 }
 
+fn changed_by_guards<K: AnyKey>() {
+    let mut random = Random(18);
+    for _ in 0..TURNS {
+        let (mut ours, mut theirs) = words::<K>(&mut random);
+        let most = random.below(150);
+        change_both(&mut random, most, ours.iter_mut(), theirs.iter_mut());
+        same_words(&ours, &theirs);
+        let (start, end) = (K::any(&mut random), K::any(&mut random));
+        if start <= end {
+            let due = theirs.range_mut(start.clone()..end.clone());
+            change_both(&mut random, most, ours.range_mut(start.clone()..end.clone()), due);
+            same_words(&ours, &theirs);
+            change_both(&mut random, most, ours.range_mut(start.clone()..=end.clone()), theirs.range_mut(start..=end));
+            same_words(&ours, &theirs);
+        }
+        for ((key, mut value), (due_key, due)) in (&mut ours).into_iter().zip(&mut theirs) {
+            assert_eq!((&key, *value), (due_key, *due));
+            *value = value.wrapping_mul(3);
+            *due = due.wrapping_mul(3);
+        }
+        same_words(&ours, &theirs);
+        let (mut values, mut due) = (ours.values_mut(), theirs.values_mut());
+        while due.len() > 0 {
+            assert_eq!(values.len(), due.len());
+            let (one, other) =
+                if random.coin() { (values.next(), due.next()) } else { (values.nth_back(1), due.nth_back(1)) };
+            assert_eq!(one.as_deref(), other.as_deref());
+            if let (Some(mut one), Some(other)) = (one, other) {
+                (*one, *other) = (due.len() as u64, due.len() as u64);
+            }
+        }
+        assert!(values.next().is_none() && values.next_back().is_none());
+        same_words(&ours, &theirs);
+        // All at once, and more than are fetched at once.
+        let (mut held, due): (Vec<_>, Vec<_>) = (ours.iter_mut().collect(), theirs.iter_mut().collect());
+        for ((_, value), (_, due)) in held.iter_mut().zip(due).step_by(2) {
+            *due = random.next();
+            **value = *due;
+        }
+        held.reverse();
+        drop(held);
+        same_words(&ours, &theirs);
+    }
+}
+
+#[test]
+fn iter_mut_range_mut_and_values_mut() {
+    changed_by_guards::<u64>();
+    changed_by_guards::<Vec<u8>>();
+}
+
+#[test]
+fn a_guard_writes_when_it_is_dropped() {
+    let mut map = ByteMap::from([("gold", 79), ("iron", 26), ("tin", 50), ("zinc", 30)]);
+    let mut entries = map.iter_mut();
+    let [mut gold, mut iron, tin] = [(); 3].map(|_| entries.next().unwrap().1);
+    *gold += 1;
+    *iron += 1;
+    drop(gold);
+    let (name, mut zinc) = entries.next_back().unwrap();
+    *zinc = *tin;
+    assert_eq!((name.as_slice(), *iron, *tin, *zinc), (&b"zinc"[..], 27, 50, 50));
+    drop((zinc, tin));
+    std::mem::forget(iron);
+    assert!(map.values().eq([80, 26, 50, 50]));
+}
+
 /// A copy of an iterator goes on where the iterator stands, from both ends, and leaves it there.
 fn copied<I: Iterator + DoubleEndedIterator + Clone>(mut entries: I)
 where
@@ -432,6 +500,12 @@ fn iterators_show_what_is_left() {
     assert_eq!(format!("{:?}", words.clone().into_values()), "[10, 20, 30]");
     assert_eq!(format!("{:?}", words.entry(1)), "Occupied(OccupiedWord { key: 1, value: 10 })");
     assert_eq!(format!("{:?}", words.extract_if(.., |_, _| true)), "ExtractIf { .. }");
+    let mut ours = words.iter_mut();
+    let guard = ours.next();
+    assert_eq!(format!("{ours:?} {guard:?}"), format!("{due:?} Some((1, 10))"));
+    drop(guard);
+    assert_eq!(format!("{:?}", words.range_mut(..=2)), "[(1, 10), (2, 20)]");
+    assert_eq!(format!("{:?}", words.values_mut()), "[10, 20, 30]");
     let mut boxed = Map::<u64>::from([("tin", 50), ("gold", 79)]);
     assert_eq!(format!("{:?}", boxed.iter()), r#"[(b"gold", 79), (b"tin", 50)]"#);
     assert_eq!(format!("{:?} {:?}", boxed.keys(), boxed.values()), r#"[b"gold", b"tin"] [79, 50]"#);
@@ -458,6 +532,9 @@ fn types_of_iterators() {
     fused::<Range<u64>>();
     fused::<Keys<u64>>();
     fused::<Values<u64>>();
+    fused::<IterMut<u64>>();
+    fused::<RangeMut<u64>>();
+    fused::<ValuesMut<u64>>();
     fused::<MapIter<u8, u64>>();
     fused::<MapRange<u8, u64>>();
     fused::<MapValues<u8, u64>>();
@@ -479,6 +556,34 @@ fn types_of_iterators() {
     sent::<MapIterMut<String, u64>>();
     sent::<MapRangeMut<String, Vec<u8>>>();
     sent::<MapValuesMut<String, u64>>();
+}
+
+/// Whether a type is `Send`, and `Sync`: what a type has of its own goes before what a trait gives it.
+struct Is<T>(PhantomData<T>);
+
+trait Otherwise {
+    const SENT: bool = false;
+    const SHARED: bool = false;
+}
+
+impl<T> Otherwise for Is<T> {}
+
+impl<T: Send> Is<T> {
+    const SENT: bool = true;
+}
+
+impl<T: Sync> Is<T> {
+    const SHARED: bool = true;
+}
+
+/// Two of them in two threads would write one map at once.
+#[test]
+fn guards_stay_in_their_thread() {
+    assert_eq!((Is::<Iter<u64>>::SENT, Is::<Iter<u64>>::SHARED), (true, true));
+    assert_eq!((Is::<ValueMut<u64>>::SENT, Is::<ValueMut<u64>>::SHARED), (false, false));
+    assert_eq!((Is::<IterMut<u64>>::SENT, Is::<IterMut<u64>>::SHARED), (false, false));
+    assert_eq!((Is::<RangeMut<u64>>::SENT, Is::<RangeMut<u64>>::SHARED), (false, false));
+    assert_eq!((Is::<ValuesMut<u64>>::SENT, Is::<ValuesMut<u64>>::SHARED), (false, false));
 }
 
 #[test]

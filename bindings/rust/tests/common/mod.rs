@@ -1,6 +1,10 @@
 //! Random numbers, keys and calls.
 #![allow(dead_code)]
 
+use std::fmt::Debug;
+use verified_art::entry::ValueMut;
+use verified_art::Key;
+
 /// The generator SplitMix64.
 pub struct Random(pub u64);
 
@@ -37,5 +41,39 @@ impl Random {
             key.resize(key.len() + more, letter);
         }
         key
+    }
+}
+
+/// Takes up to `most` entries of two iterators, each time from a random end and behind a few that are skipped, compares them
+/// and changes some. Guards are held meanwhile, and dropped in any order.
+pub fn change_both<'a, K: Key + Debug + 'a>(
+    random: &mut Random,
+    most: u64,
+    mut ours: impl DoubleEndedIterator<Item = (K, ValueMut<'a, K>)>,
+    mut theirs: impl DoubleEndedIterator<Item = (&'a K, &'a mut u64)>,
+) {
+    let mut held = Vec::new();
+    for _ in 0..most {
+        let skipped = random.below(12).saturating_sub(9) as usize;
+        let found = if random.coin() {
+            (ours.nth(skipped), theirs.nth(skipped))
+        } else {
+            (ours.nth_back(skipped), theirs.nth_back(skipped))
+        };
+        match found {
+            (None, None) => break,
+            (Some((key, mut value)), Some((due_key, due))) => {
+                assert_eq!((&key, *value), (due_key, *due));
+                if random.coin() {
+                    *due = random.next();
+                    *value = *due;
+                }
+                held.push(value);
+            }
+            (one, other) => panic!("{one:?} beside {other:?}"),
+        }
+        while random.coin() && !held.is_empty() {
+            held.swap_remove(random.below(held.len() as u64) as usize);
+        }
     }
 }
