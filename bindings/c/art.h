@@ -59,7 +59,7 @@ uint32_t art_bytes_new(art_bytes_map *map);
 void art_bytes_free(art_bytes_map *map);
 size_t art_bytes_len(const art_bytes_map *map);
 void art_bytes_clear(art_bytes_map *map);
-/* Memory for so many more entries, but for their keys. */
+/* Takes memory for so many inserts of new keys, or removals: these then take none, but for their keys. */
 uint32_t art_bytes_reserve(art_bytes_map *map, size_t additional);
 /* Puts the entries in order of their keys into memory that just holds them. While it runs it takes memory for the
    map twice, and for the entries once more; where that is refused, nothing has changed. */
@@ -119,8 +119,8 @@ uint32_t art_u64_new(art_u64_map *map);
 void art_u64_free(art_u64_map *map);
 size_t art_u64_len(const art_u64_map *map);
 void art_u64_clear(art_u64_map *map);
+/* Both as of bytes; a number takes no memory as a key. */
 uint32_t art_u64_reserve(art_u64_map *map, size_t additional);
-/* As of bytes. */
 uint32_t art_u64_compact(art_u64_map *map);
 uint32_t art_u64_insert(art_u64_map *map, uint64_t key, uint64_t value, uint64_t *before);
 uint32_t art_u64_get(const art_u64_map *map, uint64_t key, uint64_t *value);
@@ -158,8 +158,8 @@ uint32_t art_routes_new(art_routes_map *map);
 void art_routes_free(art_routes_map *map);
 size_t art_routes_len(const art_routes_map *map);
 void art_routes_clear(art_routes_map *map);
+/* Both as of bytes; a route takes no memory for its network. */
 uint32_t art_routes_reserve(art_routes_map *map, size_t additional);
-/* As of bytes. */
 uint32_t art_routes_compact(art_routes_map *map);
 uint32_t art_routes_insert(art_routes_map *map, const uint8_t *address, size_t width, uint8_t length, uint64_t value,
                            uint64_t *before);

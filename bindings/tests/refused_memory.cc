@@ -1,15 +1,19 @@
 // Each allocation of a script of calls is refused in turn: the call says so, and the entries are those of before.
-// Then it is made again. Link with -Wl,--wrap=malloc,--wrap=realloc,--wrap=free: std::map does not use these.
+// Then it is made again. And after `reserve` all that is not for a key is refused, and no call needs it.
+// Link with -Wl,--wrap=malloc,--wrap=realloc,--wrap=free: std::map does not use these.
 #include "beside_map.h"
+#include <malloc.h>
 #include <tuple>
 
 static bool counting = false;
 static long until_refusal = 0;
+static size_t largest = SIZE_MAX; // a block of more bytes is refused too
 static bool refused = false;
 static long blocks = 0;
+static size_t held = 0; // the bytes of all blocks
 
-static bool refuses() {
-    if (!counting || --until_refusal != 0) return false;
+static bool refuses(size_t size) {
+    if (!counting || (--until_refusal != 0 && size <= largest)) return false;
     refused = true;
     return true;
 }
@@ -20,19 +24,25 @@ void *__real_realloc(void *block, size_t size);
 void __real_free(void *block);
 
 void *__wrap_malloc(size_t size) {
-    if (refuses()) return nullptr;
+    if (refuses(size)) return nullptr;
     blocks++;
-    return __real_malloc(size);
+    void *block = __real_malloc(size);
+    held += malloc_usable_size(block);
+    return block;
 }
 
 void *__wrap_realloc(void *block, size_t size) {
-    if (refuses()) return nullptr;
+    if (refuses(size)) return nullptr;
     if (block == nullptr) blocks++;
-    return __real_realloc(block, size);
+    held -= malloc_usable_size(block);
+    void *moved = __real_realloc(block, size);
+    held += malloc_usable_size(moved);
+    return moved;
 }
 
 void __wrap_free(void *block) {
     if (block != nullptr) blocks--;
+    held -= malloc_usable_size(block);
     __real_free(block);
 }
 }
@@ -255,7 +265,73 @@ static bool loads(long allocation) {
     return refused;
 }
 
+// Calls of a map of one kind, of which an insert or removal of the key `i` takes blocks of so many bytes at most for that key.
+struct Kind {
+    size_t key_bytes;
+    uint32_t (*make)(Maps &maps);
+    uint32_t (*reserve)(Maps &maps, size_t additional);
+    uint32_t (*insert)(Maps &maps, uint64_t i);
+    uint32_t (*remove)(Maps &maps, uint64_t i);
+    uint32_t (*compact)(Maps &maps);
+};
+
+// A key of 8 bytes, none of which is zero, so that it has 10 in a map; a network of 32 bits or more, in either family.
+#define TEXT_CALL(body) [](Maps &maps, uint64_t i) -> uint32_t { uint8_t key[8]; uint64_t left = i * 0x9E3779B97F4A7C15u; \
+    for (uint8_t &byte : key) byte = static_cast<uint8_t>(left % 255 + 1), left /= 255; \
+    body }
+#define BLOCK_CALL(body) [](Maps &maps, uint64_t i) -> uint32_t { uint8_t address[16] = {}; size_t width = i % 2 ? 4 : 16; \
+    uint8_t length = static_cast<uint8_t>(i % 2 ? 32 : 32 + i % 97); \
+    for (size_t at = 0; at < 4; at++) address[at] = static_cast<uint8_t>(i * 0x9E3779B1u >> 8 * at); \
+    body }
+
+static const Kind kinds[] = {
+    {10, [](Maps &maps) { return art_bytes_new(&maps.bytes); },
+     [](Maps &maps, size_t additional) { return art_bytes_reserve(&maps.bytes, additional); },
+     TEXT_CALL(return art_bytes_insert(&maps.bytes, key, sizeof key, i, &maps.value);),
+     TEXT_CALL(return art_bytes_remove(&maps.bytes, key, sizeof key, &maps.value);),
+     [](Maps &maps) { return art_bytes_compact(&maps.bytes); }},
+    {0, [](Maps &maps) { return art_u64_new(&maps.numbers); },
+     [](Maps &maps, size_t additional) { return art_u64_reserve(&maps.numbers, additional); },
+     [](Maps &maps, uint64_t i) { return art_u64_insert(&maps.numbers, i * 0x9E3779B97F4A7C15u, i, &maps.value); },
+     [](Maps &maps, uint64_t i) { return art_u64_remove(&maps.numbers, i * 0x9E3779B97F4A7C15u, &maps.value); },
+     [](Maps &maps) { return art_u64_compact(&maps.numbers); }},
+    {0, [](Maps &maps) { return art_routes_new(&maps.routes); },
+     [](Maps &maps, size_t additional) { return art_routes_reserve(&maps.routes, additional); },
+     BLOCK_CALL(return art_routes_insert(&maps.routes, address, width, length, i, &maps.value);),
+     BLOCK_CALL(return art_routes_remove(&maps.routes, address, width, length, &maps.value);),
+     [](Maps &maps) { return art_routes_compact(&maps.routes); }},
+};
+
+// After `reserve` so many inserts of new keys take no memory but for keys, and so do removals from a compact map, which needs
+// smaller nodes. Then `compact` gives most memory back.
+static void reserves(const Kind &kind) {
+    const uint64_t count = 3000;
+    Maps maps;
+    auto changes = [&](uint32_t (*change)(Maps &, uint64_t), uint64_t from, uint32_t due) {
+        CHECK(kind.reserve(maps, count - from) == ART_NONE);
+        until_refusal = 0;
+        largest = kind.key_bytes;
+        refused = false;
+        counting = true;
+        for (uint64_t i = from; i < count; i++) CHECK(change(maps, i) == due);
+        counting = false;
+        largest = SIZE_MAX;
+        CHECK(!refused);
+    };
+    CHECK(kind.make(maps) == ART_NONE);
+    changes(kind.insert, 0, ART_NONE);
+    CHECK(kind.compact(maps) == ART_NONE);
+    changes(kind.remove, count / 10, ART_SOME);
+    size_t before = held;
+    CHECK(kind.compact(maps) == ART_NONE && held < before / 4);
+    art_bytes_free(&maps.bytes);
+    art_u64_free(&maps.numbers);
+    art_routes_free(&maps.routes);
+    CHECK(blocks == 0 && held == 0);
+}
+
 int main() {
+    for (const Kind &kind : kinds) reserves(kind);
     long many = 1;
     while (stops(many)) many++;
     long load = 1;
