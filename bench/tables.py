@@ -3,7 +3,7 @@ for Python (Debian's python3-radix), each in a process of its own.
 
 Routes of the lengths that routers have, half of them near others, inserted in random order; addresses inside routes (`match`,
 and `many` in batches) and in none (`miss`); removals in another order. Memory is what malloc has given out, and in Python the
-anonymous pages of the process beyond those of one that has the routes' texts alone.
+anonymous pages of the process beyond those of one that has the routes' texts alone: too coarse for fewer than 10,000 routes.
 """
 
 import shutil

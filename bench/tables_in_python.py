@@ -1,5 +1,5 @@
 """Times a route table in Python: `tables_in_python.py RouteTable|Radix ipv4|ipv6 ROUTES`. It writes a line for each call: the
-nanoseconds of processor time for one route or address, and the bytes for a route."""
+nanoseconds of processor time for one route or address, and of many routes the bytes for one."""
 
 import gc
 import random
@@ -11,6 +11,8 @@ from pathlib import Path
 
 BITS = {"ipv4": 32, "ipv6": 128}
 FAMILIES = {32: socket.AF_INET, 128: socket.AF_INET6}
+# How many routes take so many pages that these say what one takes.
+LEAST_IN_PAGES = 10_000
 # How many of a hundred routes have each length, about as in the tables of routers.
 SHARES = {
     32: {24: 60, 23: 10, 22: 12, 21: 5, 20: 5, 19: 3, 18: 2, 17: 1, 16: 2},
@@ -116,7 +118,7 @@ def main(which, shape, size):
         start = time.process_time_ns()
         sums[call] = body(given[call])
         print(call, (time.process_time_ns() - start) / size, sep="\t")
-        if call == "insert":
+        if call == "insert" and size >= LEAST_IN_PAGES:
             print("bytes", (held() - before) / size, sep="\t")
     if sums["miss"] != 0 or sums.get("many", sums["match"]) != sums["match"]:
         sys.exit("bench: a table finds other routes")
