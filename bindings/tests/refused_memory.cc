@@ -339,5 +339,6 @@ int main() {
     std::vector<Call> calls = script();
     long allocation = 1;
     while (run(calls, allocation)) allocation++;
-    std::printf("refused_memory: of %zu calls each of %ld allocations was refused, and changed nothing\n", calls.size(), allocation - 1);
+    std::printf("refused_memory: of %zu calls each of %ld allocations was refused, and changed nothing; after reserve none was needed\n",
+                calls.size(), allocation - 1);
 }
