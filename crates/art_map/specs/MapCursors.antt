@@ -8,6 +8,7 @@ use Rattle.art_nodes.specs.declared.pointers.OpaqueNodePtr.{OpaqueNodePtr}
 use Rattle.art_arena.specs.Arena.{LeafPtr, NodeArena}
 use Rattle.art_tree.specs.Art.{Art}
 use Rattle.art_map.specs.Cursors.{IsSplit}
+use Rattle.art_map.specs.Memory.{KeepsRoom}
 use Rattle.art_map.specs.declared.cursor_mut.CursorOver.{CursorOver}
 use Rattle.art_nodes.specs.contracts.pointers.NodePtr as pointer
 use Rattle.art_nodes.specs.contracts.leaf_node.LeafNode as leaf
@@ -27,11 +28,14 @@ module _ (K V P : RattleType) (text : K.Denot → List ℕ) (is_key : K.Denot �
   abbrev cursor_row : RattleType
   cursor_row = the_row (record { mir = named 1; lft = [] }) (tree_row K V P text is_key) (pointer.the_row P (leaf.the_row K V P))
 
-  -- a cursor stays in its map and at its entry, which ends with the value that was left behind the reference, or as it was
+  -- a cursor stays in its map and at its entry, which ends with the value that was left behind the reference, or as it
+  -- was; the room is as it was
   abbrev pub LendsCursorValue : MutBor cursor_row.Denot → Option (MutBor V.Denot) → Fml
   LendsCursorValue cursor result =
       LendsSo cursor_row V cursor result
       (λ now value. OnSome result ((now.tree.ghost_name ≡ cursor.now.tree.ghost_name)
+      × KeepsRoom cursor.now.tree.now.arena now.tree.now.arena
       × ((before : List (K.Denot × V.Denot)) (entry : K.Denot × V.Denot) (after : List (K.Denot × V.Denot)) → IsAt text cursor.now before (entry ∷ after) → IsAt text now before ((entry.0, value) ∷ after))))
       (λ now. (now.tree.ghost_name ≡ cursor.now.tree.ghost_name)
+      × KeepsRoom cursor.now.tree.now.arena now.tree.now.arena
       × ((before : List (K.Denot × V.Denot)) (after : List (K.Denot × V.Denot)) → IsAt text cursor.now before after → IsAt text now before after))

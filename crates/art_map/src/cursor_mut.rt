@@ -1,10 +1,11 @@
 //! A cursor that changes a map.
-ghost use Rattle.std.specs.Prelude.{◌≡◌, ◌++◌, ◌∷◌, [], List, None, Ok, OnErr, OnOk, IfOk, Some, slice_get};
+ghost use Rattle.std.specs.Prelude.{◌≡◌, ◌++◌, ◌∷◌, [], List, None, Ok, OnErr, OnOk, IfOk, IfSome, Some, false, slice_get, true};
 ghost use Rattle.std.specs.Borrow.{sem};
 ghost use Rattle.std.specs.Option.{option_copied_mut, option_map};
 ghost use Rattle.art_nodes.specs.declared.pointers.OpaqueNodePtr.{OpaqueNodePtr as Pointer};
 ghost use Rattle.art_tree.specs.Refusals.{texts_of};
 ghost use Rattle.art_map.specs.MapCursors.{IsAt, LendsCursorValue, cursor_tree};
+ghost use Rattle.art_map.specs.Memory.{RemovesEachInRoom};
 ghost use Rattle.art_map.specs.Shrinking.{NeedsNode};
 
 use crate::cursor::{leaf_behind, remove_at};
@@ -85,6 +86,7 @@ impl<'a, K: AsBytes, V, const PREFIX_LEN: usize> CursorMut<'a, K, V, PREFIX_LEN>
     /// Takes constant time and no memory.
     pub fn advance(&mut self)
         ensures same_map { (cursor_tree self.new).ghost_name ≡ (cursor_tree self.old).ghost_name }
+        ensures unchanged { (cursor_tree self.new).now ≡ (cursor_tree self.old).now }
         ensures next { (before : List (K × V)) (entry : K × V) (after : List (K × V)) →
             IsAt K.text self.old before (entry ∷ after) →
             IsAt K.text self.new (before ++ entry ∷ []) after }
@@ -119,6 +121,11 @@ impl<'a, K: AsBytes, V, const PREFIX_LEN: usize> CursorMut<'a, K, V, PREFIX_LEN>
             (texts_of K.text (before ++ entry ∷ after)) (K.text entry.0)) }
         ensures same_entries { (before after : List (K × V)) → IsAt K.text self.old before after →
             OnErr result (IsAt K.text self.new before after) }
+        ensures unchanged { result ≡ Ok None → (cursor_tree self.new).now ≡ (cursor_tree self.old).now }
+        ensures room { IfOk result (λ taken. IfSome taken (λ _. RemovesEachInRoom
+            (cursor_tree self.old).now.arena (cursor_tree self.new).now.arena 1 true)) }
+        ensures no_room { OnErr result (RemovesEachInRoom
+            (cursor_tree self.old).now.arena (cursor_tree self.new).now.arena 0 false) }
     {
         let Some(leaf) = self.leaf else {
             return Ok(None);

@@ -1,12 +1,15 @@
 //! The entry of a key in a map, whether it is there or not.
-ghost use Rattle.std.specs.Prelude.{◌≡◌, IfErr, IfNone, IfOk, IfSome, OnErr, OnOk, None, Some, is_some};
+ghost use Rattle.std.specs.Prelude.{◌≡◌, ◌≢◌, IfErr, IfNone, IfOk, IfSome, OnErr, OnOk, None, Some, is_some};
 ghost use Rattle.std.specs.Borrow.{MutBor, sem};
 ghost use Rattle.std.specs.Fn.{FnOnceReturnsAtMut};
 ghost use Rattle.std.specs.Option.{UnwrapsOrElse, option_copied, option_copied_mut, unwrap_or};
+ghost use Rattle.art_nodes.specs.declared.pointers.OpaqueNodePtr.{OpaqueNodePtr as Pointer};
 ghost use Rattle.art_tree.specs.Entries.{without_text};
+ghost use Rattle.art_tree.specs.Refusals.{texts_of};
 ghost use Rattle.art_map.specs.Changes.{IsEntryRefused};
 ghost use Rattle.art_map.specs.Entries.{entries_with_value, entry_with};
 ghost use Rattle.art_map.specs.EntryCalls.{LendsEntered, LendsOccupied, entry_key, entry_map, entry_value, is_occupied, value_with};
+ghost use Rattle.art_map.specs.Shrinking.{NeedsNode};
 
 use crate::map::ArtMap;
 use art_bytes::AsBytes;
@@ -261,6 +264,9 @@ impl<'a, K: AsBytes + Drop, V: Drop, const PREFIX_LEN: usize> OccupiedEntry<'a, 
     pub fn remove_entry(self) -> Result<Option<(K, V)>, AllocError>
         ensures removed { IfOk result (λ entry. entry ≡ entry_with K.text self.entry.map.now (K.text self.entry.key)) }
         ensures entries { OnOk result (self.exit.0.now ≡ without_text K.text self.entry.map.now (K.text self.entry.key)) }
+        ensures refused { OnErr result (entry_with K.text self.entry.map.now (K.text self.entry.key) ≢ None) }
+        ensures needs_node { OnErr result (NeedsNode (Pointer K V PREFIX_LEN)
+            (texts_of K.text self.entry.map.now) (K.text self.entry.key)) }
         ensures same_entries { OnErr result (self.exit.0.now ≡ self.entry.map.now) }
     {
         let OccupiedOver { map, key } = self;
@@ -272,6 +278,9 @@ impl<'a, K: AsBytes + Drop, V: Drop, const PREFIX_LEN: usize> OccupiedEntry<'a, 
     pub fn remove(self) -> Result<Option<V>, AllocError>
         ensures removed { IfOk result (λ value. value ≡ value_with K.text self.entry.map.now self.entry.key) }
         ensures entries { OnOk result (self.exit.0.now ≡ without_text K.text self.entry.map.now (K.text self.entry.key)) }
+        ensures refused { OnErr result (entry_with K.text self.entry.map.now (K.text self.entry.key) ≢ None) }
+        ensures needs_node { OnErr result (NeedsNode (Pointer K V PREFIX_LEN)
+            (texts_of K.text self.entry.map.now) (K.text self.entry.key)) }
         ensures same_entries { OnErr result (self.exit.0.now ≡ self.entry.map.now) }
     {
         let OccupiedOver { map, key } = self;
